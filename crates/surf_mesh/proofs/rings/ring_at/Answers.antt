@@ -1,0 +1,98 @@
+use Rattle.std.proofs.Common.{◌≡◌, ◌<◌, ℕ, List, Bool, Option, Some, None, true, false, length, get_or, sym, ap, subst, ◌∙◌, arith}
+use Rattle.std.specs.Option.{MatchOption}
+use Rattle.std.proofs.lemmas.List.{get_or_read}
+use Rattle.surf_complex.specs.Side.{before}
+use Rattle.surf_complex.specs.Surface.{HasOneFan}
+use Rattle.surf_mesh.specs.Reach.{marked}
+use Rattle.surf_mesh.specs.Sides.{side_count, owners}
+use Rattle.surf_mesh.specs.Vertices.{all_corners, sides_at}
+use Rattle.surf_mesh.specs.Ring.{AreDarts, IsRound, IsRing, IsPinch}
+use Rattle.surf_mesh.proofs.RingLaws.{turned_size, at_begins, are_darts, begin_in, begin_fresh, whole_ring, ring_pinch, ring_others}
+use Rattle.surf_mesh.proofs.rings.ring_at.Goals as goal
+
+-- the first side of a row
+first_read : (row at : List ℕ) (x y : ℕ) → y ≡ x → x ≡ get_or row 0 x → 0 < length row → row ≡ at → y ≡ get_or at 0 0
+first_read row at x y e r lt is = e ∙ get_or_read row 0 x lt r 0 ∙ ap (λ (xs : List ℕ). get_or xs 0 0) is
+
+each_case : (o : Option ℕ) (P Q : Type 0) (R S : ℕ → Type 0) → (P → Q) → ((x : ℕ) → R x → S x) → MatchOption o P R → MatchOption o Q S
+each_case None P Q R S f g h = f h
+each_case (Some x) P Q R S f g h = g x h
+
+pub offset_bounds-prev-index : goal.offset_bounds-prev-index
+offset_bounds-prev-index c =
+    let mesh = c.args.soup.now in
+    let some : 0 < length (sides_at mesh c.args.v) = omega (arith, c.requires.some, ap length c.requires.row) in
+    let b = at_begins mesh c.args.v 0 some in
+    let e = first_read c.args.row.now (sides_at mesh c.args.v) c.index-row-0.result c.index.result c.index.ensures c.index-row-0.is c.requires.some c.requires.row in
+    let few = c.side_count-few.ensures.few in
+    let count = c.side_count-few.ensures.count in
+    omega (arith, b.0, e, few, count)
+
+pub bounds-prev-index : goal.bounds-prev-index
+bounds-prev-index c =
+    let mesh = c.args.soup.now in
+    let some : 0 < length (sides_at mesh c.args.v) = omega (arith, c.requires.some, ap length c.requires.row) in
+    let b = at_begins mesh c.args.v 0 some in
+    let e = first_read c.args.row.now (sides_at mesh c.args.v) c.index-row-0.result c.index.result c.index.ensures c.index-row-0.is c.requires.some c.requires.row in
+    omega (arith, b.0, e, turned_size before mesh c.args.prev.now c.requires.prev)
+
+pub go_round-requires-clause-darts : goal.go_round-requires-clause-darts
+go_round-requires-clause-darts c =
+    let D : List ℕ → Type 0 = AreDarts c.args.next.now c.args.prev.now c.args.mate.now in
+    subst D (sym c.corners.ensures) (are_darts c.args.soup.now c.vertices-mesh.ensures.mesh c.requires.two c.args.mate.now c.requires.mates c.args.next.now c.args.prev.now c.requires.next c.requires.prev)
+
+pub go_round-requires-clause-start : goal.go_round-requires-clause-start
+go_round-requires-clause-start c =
+    let mesh = c.args.soup.now in
+    let some : 0 < length (sides_at mesh c.args.v) = omega (arith, c.requires.some, ap length c.requires.row) in
+    let e = first_read c.args.row.now (sides_at mesh c.args.v) c.index-row-0.result c.index.result c.index.ensures c.index-row-0.is c.requires.some c.requires.row in
+    begin_in mesh c.vertices-mesh.ensures.mesh c.requires.two c.args.mate.now c.requires.mates c.args.next.now c.args.prev.now c.requires.next c.requires.prev c.args.v some (get_or c.args.prev.now c.index.result 0) (ap (λ t. get_or c.args.prev.now t 0) e)
+
+pub go_round-requires-clause-fresh : goal.go_round-requires-clause-fresh
+go_round-requires-clause-fresh c =
+    let mesh = c.args.soup.now in
+    let some : 0 < length (sides_at mesh c.args.v) = omega (arith, c.requires.some, ap length c.requires.row) in
+    let e = first_read c.args.row.now (sides_at mesh c.args.v) c.index-row-0.result c.index.result c.index.ensures c.index-row-0.is c.requires.some c.requires.row in
+    let from = get_or c.args.prev.now c.index.result 0 in
+    let T : List ℕ → Type 0 = λ tails. (s : ℕ) → s < length c.args.next.now → get_or tails s 0 ≡ get_or tails (get_or c.args.next.now from 0) 0 → marked c.args.seen.now s ≡ false in
+    subst T (sym c.corners.ensures) (begin_fresh mesh c.vertices-mesh.ensures.mesh c.requires.two c.args.mate.now c.requires.mates c.args.next.now c.args.prev.now c.requires.next c.requires.prev c.args.v some from (ap (λ t. get_or c.args.prev.now t 0) e) c.args.seen.now c.requires.fresh)
+
+pub first_left-left-requires : goal.first_left-left-requires
+first_left-left-requires c = λ k lt.
+    let mesh = c.args.soup.now in
+    let e = ap length c.requires.row in
+    let b = at_begins mesh c.args.v k (omega arith) in
+    omega (arith, b.0, ap (λ (xs : List ℕ). get_or xs k 0) c.requires.row, c.go_round.auto.seen, c.requires.size)
+
+pub returns-clause-others : goal.returns-clause-others
+returns-clause-others c =
+    let mesh = c.args.soup.now in
+    let some : 0 < length (sides_at mesh c.args.v) = omega (arith, c.requires.some, ap length c.requires.row) in
+    let e = first_read c.args.row.now (sides_at mesh c.args.v) c.index-row-0.result c.index.result c.index.ensures c.index-row-0.is c.requires.some c.requires.row in
+    let from = get_or c.args.prev.now c.index.result 0 in
+    let R : List ℕ → Type 0 = λ tails. IsRound c.args.next.now c.args.prev.now c.args.mate.now tails (from, true) c.args.seen.now c.go_round.new.seen c.go_round.new.ring.items in
+    ring_others mesh c.vertices-mesh.ensures.mesh c.requires.two c.args.mate.now c.requires.mates c.args.next.now c.args.prev.now c.requires.next c.requires.prev c.args.v some from (ap (λ t. get_or c.args.prev.now t 0) e) c.args.seen.now c.go_round.new.seen c.go_round.new.ring.items c.requires.fresh (subst R c.corners.ensures c.in_ok-go_round.ensures)
+
+pub returns-clause-found : goal.returns-clause-found
+returns-clause-found c =
+    let mesh = c.args.soup.now in
+    let v = c.args.v in
+    let at = sides_at mesh v in
+    let some : 0 < length at = omega (arith, c.requires.some, ap length c.requires.row) in
+    let e = first_read c.args.row.now at c.index-row-0.result c.index.result c.index.ensures c.index-row-0.is c.requires.some c.requires.row in
+    let from = get_or c.args.prev.now c.index.result 0 in
+    let seen = c.go_round.new.seen in
+    let ring = c.go_round.new.ring.items in
+    let o = c.first_left-left.result in
+    let R : List ℕ → Type 0 = λ tails. IsRound c.args.next.now c.args.prev.now c.args.mate.now tails (from, true) c.args.seen.now seen ring in
+    let round = subst R c.corners.ensures c.in_ok-go_round.ensures in
+    let All : List ℕ → Type 0 = λ row. (k : ℕ) → k < length row → marked seen (get_or row k 0) ≡ true in
+    let Left : List ℕ → ℕ → Type 0 = λ row f. (f < length row) × (marked seen (get_or row f 0) ≡ false) × ((j : ℕ) → j < f → marked seen (get_or row j 0) ≡ true) in
+    let Pinch : List ℕ → ℕ → Type 0 = λ row k. (k < length row) × IsPinch mesh v (get_or (owners 0 mesh.faces) (get_or row 0 0) 0) (get_or (owners 0 mesh.faces) (get_or row k 0) 0) in
+    let Whole : Type 0 = IsRing mesh v ring × HasOneFan mesh v in
+    let T : List ℕ → Type 0 = λ row. MatchOption o (All row) (Left row) in
+    let G : List ℕ → Type 0 = λ row. MatchOption o Whole (Pinch row) in
+    subst G (sym c.requires.row) (each_case o (All at) Whole (Left at) (Pinch at)
+    (whole_ring mesh c.vertices-mesh.ensures.mesh c.requires.two c.args.mate.now c.requires.mates c.args.next.now c.args.prev.now c.requires.next c.requires.prev v some from (ap (λ t. get_or c.args.prev.now t 0) e) c.args.seen.now seen ring c.requires.fresh round)
+    (λ k h. (h.0, ring_pinch mesh c.vertices-mesh.ensures.mesh c.requires.two c.args.mate.now c.requires.mates c.args.next.now c.args.prev.now c.requires.next c.requires.prev v some from (ap (λ t. get_or c.args.prev.now t 0) e) c.args.seen.now seen ring c.requires.fresh round k h.0 h.1 h.2))
+    (subst T c.requires.row c.first_left-left.ensures))

@@ -1,0 +1,21 @@
+-- Faces that aren't joined with the first.
+use Rattle.std.specs.Prelude.{◌≡◌, ℕ, ◌+◌, ◌<◌, List, [], length, get_or}
+use Rattle.std.specs.List.{sum_by}
+use Rattle.surf_mesh.specs.Sides.{owners}
+use Rattle.surf_mesh.specs.Half.{first_side}
+use Rattle.surf_complex.specs.Joined.{Joined}
+use Rattle.surf_complex.specs.Mesh.{Mesh}
+use Rattle.surf_complex.specs.Surface.{face_count, face_at, Share}
+
+-- the least face that isn't joined with face 0
+pub record IsLeastApart (mesh : Mesh) (f : ℕ) : Type 0 where
+  pub is_face : f < face_count mesh
+  pub apart : Joined (Share mesh) 0 f → ⊥
+  pub joined_before : (g : ℕ) → g < f → Joined (Share mesh) 0 g
+
+-- for each face a row with the face across each of its sides
+pub record AreAcross (mesh : Mesh) (mate : List ℕ) (count : ℕ) (rows : List (List ℕ)) : Type 0 where
+  pub size : length rows ≡ count
+  pub row_len : (f : ℕ) → f < count → length (get_or rows f []) ≡ length (face_at mesh f)
+  pub row_at : (f m : ℕ) → f < count → m < length (face_at mesh f) → get_or (get_or rows f []) m 0 ≡ get_or (owners 0 mesh.faces) (get_or mate (first_side mesh f + m) 0) 0
+  pub total : sum_by length rows ≡ first_side mesh count

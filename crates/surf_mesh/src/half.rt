@@ -1,0 +1,269 @@
+//! Surfaces with their half-edges.
+ghost use Rattle.std.specs.Prelude.{◌≡◌, ◌≢◌, ◌<◌, ◌≤◌, ◌+◌, ◌^◌, ℕ, length, All, AllPairs, IfOk, MatchOption, slice_index, slice_index_or, [], false, true};
+ghost use Rattle.std.specs.List.{range_with_len};
+ghost use Rattle.surf_complex.specs.Mesh.{IsFace, pair, pair_lt, among, edges};
+ghost use Rattle.surf_complex.specs.Surface.{face_count, face_at, edge_count, ends, faces_of, IsSurface};
+ghost use Rattle.surf_mesh.specs.Sides.{side_count};
+ghost use Rattle.surf_mesh.specs.EdgeTable.{IsEdgeTable};
+ghost use Rattle.surf_mesh.specs.Pairs.{HasTwoFaces};
+ghost use Rattle.surf_mesh.specs.Ring.{IsRing, AreAllRings};
+ghost use Rattle.surf_mesh.specs.Half.{first_side, IsFaceOf, IsEdgeOf, IsMate, AreAllMates};
+
+use crate::Soup;
+use crate::pairs::face_in;
+use crate::rings::{Rings, find_rings};
+use crate::tables::{EdgeTable, edge_table};
+use crate::vertices::vertex_sides;
+use std::alloc::Global;
+use std::marker::Model;
+use surf_base::{EdgeId, FaceId, NoMemory, SideId, VertexId};
+use surf_rows::{Rows, part};
+
+/// A surface, with the two sides of each edge joined.
+#[derive(Drop)]
+pub struct HalfMesh {
+    vertices: u32,
+    faces: Rows<VertexId>,
+    table: EdgeTable,
+    mate: Vec<SideId>,
+    rings: Rows<SideId>,
+}
+
+impl Model for HalfMesh {
+    ghost use Rattle.surf_complex.specs.Mesh.{Mesh};
+    ghost use Rattle.surf_mesh.specs.Kept.{IsHalfMesh};
+
+    ghost Value = { Mesh };
+
+    ghost view = { λ h. record { vertices = h.vertices; faces = h.faces } };
+
+    ghost invariant = { λ h. IsHalfMesh (record { vertices = h.vertices; faces = h.faces }) h.table.edges.items h.table.sides h.table.edge_of.items h.table.face_of.items h.table.numbers.items h.mate.items h.rings };
+}
+
+// Joins the two sides of each row. The second table says in which row each side is.
+fn join_rows(rows: &Rows<SideId>, row_of: &[u32], mate: &mut [SideId])
+    requires two { All (λ row. length row ≡ 2) rows.now }
+    requires inside { (e k : ℕ) → e < length rows.now → k < 2 → slice_index (slice_index_or rows.now e []) k < length mate.old }
+    requires differ { (e : ℕ) → e < length rows.now → slice_index (slice_index_or rows.now e []) 0 ≢ slice_index (slice_index_or rows.now e []) 1 }
+    requires keyed { (e k : ℕ) → e < length rows.now → k < 2 → slice_index row_of.now (slice_index (slice_index_or rows.now e []) k) ≡ e }
+    ensures first { (e : ℕ) → e < length rows.now → slice_index mate.new (slice_index (slice_index_or rows.now e []) 0) ≡ slice_index (slice_index_or rows.now e []) 1 }
+    ensures second { (e : ℕ) → e < length rows.now → slice_index mate.new (slice_index (slice_index_or rows.now e []) 1) ≡ slice_index (slice_index_or rows.now e []) 0 }
+{
+    for e in 0..rows.len() {
+        let row = rows.row(e);
+        let a = row[0];
+        let b = row[1];
+        mate[a.index()] = b;
+        mate[b.index()] = a;
+    }
+}
+
+// The mate of each side.
+pub(crate) fn all_mates(
+    alloc: Global,
+    soup: &Soup,
+    table: &EdgeTable,
+) -> Result<Vec<SideId>, NoMemory>
+    requires table { IsEdgeTable soup.now table.now.edges.items table.now.sides table.now.edge_of.items table.now.face_of.items table.now.numbers.items }
+    requires two { HasTwoFaces soup.now }
+    ensures { IfOk result (λ v. AreAllMates soup.now v.items) }
+{
+    let _mesh = soup.faces();
+    let mut mate = table.numbers.to_vec(alloc)?;
+    join_rows(&table.sides, &table.edge_of, &mut mate);
+    Ok(mate)
+}
+
+// The lesser vertex first.
+fn ordered(u: VertexId, v: VertexId) -> (VertexId, VertexId)
+    ensures { result ≡ pair u v }
+{
+    if u < v { (u, v) } else { (v, u) }
+}
+
+// Whether the first pair is before the second.
+fn is_before(u: VertexId, v: VertexId, low: VertexId, high: VertexId) -> bool
+    ensures { result ≡ pair_lt (u, v) (low, high) }
+{
+    u < low || (u == low && v < high)
+}
+
+// The place of a pair in a list of pairs in order.
+fn find_pair(edges: &[(VertexId, VertexId)], low: VertexId, high: VertexId) -> Option<usize>
+    requires { AllPairs (λ p q. pair_lt p q ≡ true) edges.now }
+    ensures { MatchOption result (among (low, high) edges.now ≡ false) (λ e. (e < length edges.now) × (slice_index_or edges.now e (0, 0) ≡ (low, high))) }
+{
+    let mut from = 0;
+    let mut to = edges.len();
+    while from < to {
+        let middle = from + (to - from) / 2;
+        let (u, v) = edges[middle];
+        if is_before(u, v, low, high) {
+            from = middle + 1;
+        } else if is_before(low, high, u, v) {
+            to = middle;
+        } else {
+            return Some(middle);
+        }
+    }
+    None
+}
+
+impl HalfMesh {
+    /// The mesh with the faces of a soup that is a surface.
+    pub fn build(alloc: Global, soup: Soup) -> Result<HalfMesh, NoMemory>
+        requires { IsSurface soup }
+        ensures { IfOk result (λ h. h ≡ soup) }
+    {
+        let table = edge_table(alloc, &soup)?;
+        HalfMesh::from_table(alloc, soup, table)
+    }
+
+    /// The same, by the table of its edges.
+    pub(crate) fn from_table(
+        alloc: Global,
+        soup: Soup,
+        table: EdgeTable,
+    ) -> Result<HalfMesh, NoMemory>
+        requires surface { IsSurface soup }
+        requires table { IsEdgeTable soup table.edges.items table.sides table.edge_of.items table.face_of.items table.numbers.items }
+        ensures { IfOk result (λ h. h ≡ soup) }
+    {
+        let mate = all_mates(alloc, &soup, &table)?;
+        let at_vertex = vertex_sides(alloc, &soup, &table.numbers)?;
+        match find_rings(alloc, &soup, &mate, &table.face_of, &at_vertex)? {
+            Rings::All(rings) => Ok(HalfMesh::from_parts(soup, table, mate, rings)),
+            Rings::Pinched { .. } => unreachable!(),
+        }
+    }
+
+    /// The same, by all its tables.
+    pub(crate) fn from_parts(
+        soup: Soup,
+        table: EdgeTable,
+        mate: Vec<SideId>,
+        rings: Rows<SideId>,
+    ) -> HalfMesh
+        requires surface { IsSurface soup }
+        requires table { IsEdgeTable soup table.edges.items table.sides table.edge_of.items table.face_of.items table.numbers.items }
+        requires mates { AreAllMates soup mate.items }
+        requires rings { AreAllRings soup soup.vertices rings }
+        ensures { result ≡ soup }
+    {
+        let _few = soup.side_count();
+        let (vertices, faces) = soup.into_parts();
+        HalfMesh {
+            vertices,
+            faces,
+            table,
+            mate,
+            rings,
+        }
+    }
+
+    pub fn vertices(&self) -> u32
+        ensures { result ≡ self.now.vertices }
+    {
+        self.vertices
+    }
+
+    pub fn faces(&self) -> u32
+        ensures count { result ≡ face_count self.now }
+        ensures surface { IsSurface self.now }
+        ensures few { side_count self.now < 2 ^ 30 }
+    {
+        self.faces.len() as u32
+    }
+
+    pub fn edges(&self) -> u32
+        ensures { result ≡ edge_count self.now }
+    {
+        self.table.edges.len() as u32
+    }
+
+    pub fn side_count(&self) -> u32
+        ensures { result ≡ side_count self.now }
+    {
+        self.mate.len() as u32
+    }
+
+    /// The corners of a face.
+    pub fn face(&self, f: FaceId) -> &[VertexId]
+        requires { f < face_count self.now }
+        ensures corners { result.now ≡ face_at self.now f }
+        ensures face { IsFace self.now.vertices result.now }
+    {
+        self.faces.row(f.index())
+    }
+
+    /// The other side of its edge.
+    pub fn mate(&self, s: SideId) -> SideId
+        requires { s < side_count self.now }
+        ensures { IsMate self.now s result }
+    {
+        self.mate[s.index()]
+    }
+
+    pub fn face_of(&self, s: SideId) -> FaceId
+        requires { s < side_count self.now }
+        ensures { IsFaceOf self.now s result }
+    {
+        self.table.face_of[s.index()]
+    }
+
+    pub fn edge_of(&self, s: SideId) -> EdgeId
+        requires { s < side_count self.now }
+        ensures { IsEdgeOf self.now s result }
+    {
+        EdgeId::new(self.table.edge_of[s.index()])
+    }
+
+    /// The ends of an edge, the lesser first.
+    pub fn ends(&self, e: EdgeId) -> (VertexId, VertexId)
+        requires { e < edge_count self.now }
+        ensures { result ≡ ends self.now e }
+    {
+        self.table.edges[e.index()]
+    }
+
+    /// The faces of an edge, the lesser first.
+    pub fn faces_of(&self, e: EdgeId) -> (FaceId, FaceId)
+        requires { e < edge_count self.now }
+        ensures { result ≡ faces_of self.now e }
+    {
+        let row = self.table.sides.row(e.index());
+        (
+            face_in(row, 0, &self.table.face_of),
+            face_in(row, 1, &self.table.face_of),
+        )
+    }
+
+    /// The edge between two vertices.
+    pub fn find_edge(&self, u: VertexId, v: VertexId) -> Option<EdgeId>
+        ensures { MatchOption result (among (pair u v) (edges self.now) ≡ false) (λ e. (e < edge_count self.now) × (ends self.now e ≡ pair u v)) }
+    {
+        let (low, high) = ordered(u, v);
+        let found = find_pair(&self.table.edges, low, high);
+        match found {
+            None => None,
+            Some(e) => Some(EdgeId::new(e as u32)),
+        }
+    }
+
+    /// The sides of a face, in the order of its corners.
+    pub fn sides(&self, f: FaceId) -> &[SideId]
+        requires { f < face_count self.now }
+        ensures { result.now ≡ range_with_len (first_side self.now f) (length (face_at self.now f)) }
+    {
+        let (start, end) = self.faces.span(f.index());
+        part(&self.table.numbers, start, end)
+    }
+
+    /// The sides that begin at a vertex, one a face there, in the order round it from the least face on.
+    pub fn ring(&self, v: VertexId) -> &[SideId]
+        requires { v < self.now.vertices }
+        ensures { IsRing self.now v result.now }
+    {
+        self.rings.row(v.index())
+    }
+}
