@@ -6,7 +6,7 @@ use Rattle.std.proofs.lemmas.List.{get_or_default, length-map, get_or_past, get_
 use Rattle.std.proofs.lemmas.List.Sums.{sum_by_push}
 use Rattle.surf_mesh.specs.Apart.{AreAcross, IsLeastApart}
 use Rattle.surf_complex.specs.Joined.{Joined, here, over}
-use Rattle.surf_complex.proofs.ChainLaws.{joined_trans, joined_sym, joined_lift}
+use Rattle.surf_complex.proofs.JoinedLaws.{joined_trans, joined_sym, joined_lift}
 use Rattle.surf_complex.specs.Mesh.{Mesh, IsMesh, edges}
 use Rattle.surf_complex.specs.Surface.{face_count, face_at, faces_with, Share, IsConnected}
 use Rattle.surf_mesh.specs.Sides.{side_count, pair_at, owners, sides_with}

@@ -10,7 +10,7 @@ use Rattle.surf_complex.specs.Joined.{Joined, here, over}
 use Rattle.surf_complex.specs.Mesh.{Mesh, IsMesh, pair}
 use Rattle.surf_complex.specs.Side.{after, before, corner, side_pair}
 use Rattle.surf_complex.specs.Surface.{face_count, face_at, has_side, HasCorner, HasEdge, ShareAt, HasOneFan}
-use Rattle.surf_complex.proofs.ChainLaws.{joined_trans, joined_sym, joined_closed}
+use Rattle.surf_complex.proofs.JoinedLaws.{joined_trans, joined_sym, joined_closed}
 use Rattle.surf_complex.proofs.EdgeLaws.{list_any_at}
 use Rattle.surf_complex.proofs.PairLaws.{pair_eq-true}
 use Rattle.surf_complex.proofs.FaceLaws.{pair_comm}
