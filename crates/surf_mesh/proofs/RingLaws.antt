@@ -60,13 +60,13 @@ face_placed mesh s f h = record { is_face = h.is_face; is_place = omega (arith, 
 pub placed_face : (mesh : Mesh) (s f k : ℕ) → IsPlaced mesh s f k → IsFaceOf mesh s f
 placed_face mesh s f k p = record { is_face = p.is_face; from = omega (arith, p.number); upto = omega (arith, p.number, p.is_place) }
 
-placed_side : (mesh : Mesh) (s f k : ℕ) → IsPlaced mesh s f k → s < side_count mesh
+pub placed_side : (mesh : Mesh) (s f k : ℕ) → IsPlaced mesh s f k → s < side_count mesh
 placed_side mesh s f k p = let sp = spans mesh.faces f p.is_face in omega (arith, sp.0, sp.1, p.number, p.is_place)
 
-tail_at : (mesh : Mesh) (s f k : ℕ) → IsPlaced mesh s f k → get_or (all_corners mesh) s 0 ≡ corner (face_at mesh f) k
+pub tail_at : (mesh : Mesh) (s f k : ℕ) → IsPlaced mesh s f k → get_or (all_corners mesh) s 0 ≡ corner (face_at mesh f) k
 tail_at mesh s f k p = ap (λ t. get_or (all_corners mesh) t 0) p.number ∙ corner_at_place mesh f k 0 p.is_face p.is_place
 
-same_place : (mesh : Mesh) (s t f k j : ℕ) → IsPlaced mesh s f k → IsPlaced mesh t f j → k ≡ j → s ≡ t
+pub same_place : (mesh : Mesh) (s t f k j : ℕ) → IsPlaced mesh s f k → IsPlaced mesh t f j → k ≡ j → s ≡ t
 same_place mesh s t f k j p q e = omega (arith, p.number, q.number)
 
 -- a face has one side that begins at a vertex
