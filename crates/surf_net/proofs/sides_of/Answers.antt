@@ -1,0 +1,13 @@
+use Rattle.std.proofs.Common.{All, ◌<◌, map, subst, sym, List, ℕ}
+use Rattle.surf_homology.specs.Cells.{dual}
+use Rattle.surf_complex.specs.Cells.{cells_of}
+use Rattle.surf_mesh.specs.Sides.{side_count}
+use Rattle.surf_net.specs.Rows.{IsRow, side_link}
+use Rattle.surf_net.proofs.RowLaws.{sides_inside, side_row}
+use Rattle.surf_net.proofs.sides_of.Goals as goal
+
+pub returns-clause-inside : goal.returns-clause-inside
+returns-clause-inside c = subst (λ (xs : List ℕ). All (λ s. s < side_count c.args.mesh.now) xs) (sym c.sides.ensures) (sides_inside c.args.mesh.now c.faces-surface.ensures.surface c.args.f c.requires)
+
+pub returns-clause-row : goal.returns-clause-row
+returns-clause-row c = subst (λ (xs : List ℕ). IsRow (dual (cells_of c.args.mesh.now)) c.args.f (map (side_link c.args.mesh.now) xs)) (sym c.sides.ensures) (side_row c.args.mesh.now c.faces-surface.ensures.surface c.args.f c.requires)
