@@ -27,8 +27,8 @@ impl Model for Lengths {
 
 // Numbers of 32 bits that aren't 0 are lengths.
 fn prove_lengths(values: &[u32])
-    requires { All (λ n. n ≢ 0) values.now }
-    ensures { AreLengths values.now }
+    requires positive { All (λ n. n ≢ 0) values.now }
+    ensures lengths { AreLengths values.now }
 {}
 
 impl Lengths {
@@ -36,7 +36,7 @@ impl Lengths {
     pub fn from_values(values: Vec<u32>) -> Lengths
         requires few { length values.items < 2 ^ 32 }
         requires positive { All (λ n. n ≢ 0) values.items }
-        ensures { result ≡ values.items }
+        ensures values { result ≡ values.items }
     {
         prove_lengths(&values);
         Lengths { values }
@@ -52,7 +52,7 @@ impl Lengths {
 
     /// The length of an edge: from 1 to 4,294,967,295.
     pub fn of(&self, e: EdgeId) -> u32
-        requires { e < length self.now }
+        requires edge { e < length self.now }
         ensures value { result ≡ slice_index self.now e }
         ensures range { IsLength result }
     {
@@ -62,7 +62,7 @@ impl Lengths {
 
 /// Length 1 for each edge of a mesh.
 pub fn unit_lengths(alloc: Global, mesh: &HalfMesh) -> Result<Lengths, NoMemory>
-    ensures { IfOk result (λ lengths. lengths ≡ replicate (edge_count mesh.now) 1) }
+    ensures ones { IfOk result (λ lengths. lengths ≡ replicate (edge_count mesh.now) 1) }
 {
     let values = vec![in alloc; 1u32; mesh.edges() as usize]?;
     Ok(Lengths::from_values(values))

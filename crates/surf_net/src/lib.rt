@@ -20,8 +20,8 @@ use surf_mesh::HalfMesh;
 
 /// The other end of an edge at a vertex.
 pub fn other_end(mesh: &HalfMesh, v: VertexId, e: EdgeId) -> VertexId
-    requires { e < edge_count mesh.now }
-    ensures { result ≡ other_of (ends mesh.now e) v }
+    requires edge { e < edge_count mesh.now }
+    ensures end { result ≡ other_of (ends mesh.now e) v }
 {
     let (low, high) = mesh.ends(e);
     if low == v { high } else { low }
@@ -29,7 +29,7 @@ pub fn other_end(mesh: &HalfMesh, v: VertexId, e: EdgeId) -> VertexId
 
 /// The sides of a face, as its links to the faces across.
 pub fn sides_of(mesh: &HalfMesh, f: FaceId) -> &[SideId]
-    requires { f < face_count mesh.now }
+    requires face { f < face_count mesh.now }
     ensures inside { All (λ s. s < side_count mesh.now) result.now }
     ensures row { IsRow (dual (cells_of mesh.now)) f (map (side_link mesh.now) result.now) }
 {
@@ -39,8 +39,8 @@ pub fn sides_of(mesh: &HalfMesh, f: FaceId) -> &[SideId]
 
 /// The face on the other side of an edge, and the edge.
 pub fn across(mesh: &HalfMesh, s: SideId) -> (FaceId, EdgeId)
-    requires { s < side_count mesh.now }
-    ensures { result ≡ side_link mesh.now s }
+    requires side { s < side_count mesh.now }
+    ensures link { result ≡ side_link mesh.now s }
 {
     let _surface = mesh.faces();
     let e = mesh.edge_of(s);

@@ -7,7 +7,7 @@ use Rattle.surf_net.proofs.RowLaws.{sides_inside, side_row}
 use Rattle.surf_net.proofs.sides_of.Goals as goal
 
 pub returns-clause-inside : goal.returns-clause-inside
-returns-clause-inside c = subst (λ (xs : List ℕ). All (λ s. s < side_count c.args.mesh.now) xs) (sym c.sides.ensures) (sides_inside c.args.mesh.now c.faces-surface.ensures.surface c.args.f c.requires)
+returns-clause-inside c = subst (λ (xs : List ℕ). All (λ s. s < side_count c.args.mesh.now) xs) (sym c.sides.ensures) (sides_inside c.args.mesh.now c.faces-surface.ensures.surface c.args.f c.requires.face)
 
 pub returns-clause-row : goal.returns-clause-row
-returns-clause-row c = subst (λ (xs : List ℕ). IsRow (dual (cells_of c.args.mesh.now)) c.args.f (map (side_link c.args.mesh.now) xs)) (sym c.sides.ensures) (side_row c.args.mesh.now c.faces-surface.ensures.surface c.args.f c.requires)
+returns-clause-row c = subst (λ (xs : List ℕ). IsRow (dual (cells_of c.args.mesh.now)) c.args.f (map (side_link c.args.mesh.now) xs)) (sym c.sides.ensures) (side_row c.args.mesh.now c.faces-surface.ensures.surface c.args.f c.requires.face)
