@@ -1,34 +1,36 @@
 -- Rings of a mesh.
-use Rattle.std.proofs.Common.{◌≡◌, ◌≢◌, ℕ, zero, suc, ◌+◌, ◌-◌, ◌<◌, ◌≤◌, ◌⊎◌, Bool, true, false, eqb, List, [], ◌∷◌, ◌++◌, length, get_or, take, refl, sym, ap, subst, ◌∙◌, arith, inl, inr}
-use Rattle.std.specs.List.{AllByRecursion, list_any, range_with_len, sum_by}
-use Rattle.std.proofs.lemmas.Bool.{true≢false, cases_eq, cases_lt, eq-eqb, eqb-true}
+use Rattle.std.proofs.Common.{◌≡◌, ◌≢◌, ℕ, zero, suc, ◌+◌, ◌-◌, ◌<◌, ◌≤◌, ◌⊎◌, Bool, true, false, eqb, List, [], ◌∷◌, ◌++◌, length, get_or, refl, sym, ap, subst, ◌∙◌, arith, inl, inr}
+use Rattle.std.specs.List.{range_with_len, sum_by}
+use Rattle.std.proofs.lemmas.Bool.{true≢false, cases_eq, cases_lt, eq-eqb, eqb-true, ne_eqb}
 use Rattle.std.proofs.lemmas.List.{get_or_default, get_or_push, get_or_append_left, length_push}
 use Rattle.std.proofs.lemmas.List.Elements.{All-from_recursion}
 use Rattle.std.proofs.lemmas.List.FromFn.{length-range_with_len, get_or-range_with_len}
 use Rattle.std.proofs.Math.Seq.{take-length}
 use Rattle.surf_complex.specs.Joined.{Joined, here, over}
-use Rattle.surf_complex.specs.Mesh.{Mesh, IsMesh, pair}
-use Rattle.surf_complex.specs.Side.{after, before, corner, side_pair}
-use Rattle.surf_complex.specs.Surface.{face_count, face_at, has_side, HasCorner, HasEdge, ShareAt, HasOneFan}
+use Rattle.surf_complex.specs.Mesh.{Mesh, IsMesh, pair, edges}
+use Rattle.surf_complex.specs.Side.{after, before, corner}
+use Rattle.surf_complex.specs.Surface.{face_count, face_at, edge_count, ends, touches, has_side, HasCorner, HasEdge, ShareAt, HasOneFan}
+use Rattle.surf_complex.specs.Walk.{place_of}
 use Rattle.surf_complex.proofs.JoinedLaws.{joined_trans, joined_sym, joined_closed}
-use Rattle.surf_complex.proofs.EdgeLaws.{list_any_at}
-use Rattle.surf_complex.proofs.PairLaws.{pair_eq-true}
-use Rattle.surf_complex.proofs.FaceLaws.{pair_comm}
+use Rattle.surf_complex.proofs.EdgeLaws.{list_any_at, place_of-ends}
+use Rattle.surf_complex.proofs.FaceLaws.{pair_comm, touches-pair_of, touches_first}
 use Rattle.surf_complex.proofs.SideLaws.{pair_ends, after-below, before-below, after-before, before-after, corner_place}
 use Rattle.surf_rows.specs.Groups.{has_key}
 use Rattle.surf_mesh.specs.Sides.{side_count, pair_at, owners, sides_with}
-use Rattle.surf_mesh.specs.Half.{first_side, IsFaceOf, IsMate, AreAllMates}
+use Rattle.surf_mesh.specs.Half.{first_side, IsFaceOf, AreAllMates}
+use Rattle.surf_mesh.specs.EdgeTable.{AreEdgeNumbers}
 use Rattle.surf_mesh.specs.Pairs.{HasTwoFaces}
 use Rattle.surf_mesh.specs.Vertices.{all_corners, sides_at}
-use Rattle.surf_mesh.specs.Reach.{marked, unmarked}
-use Rattle.surf_mesh.specs.Ring.{corner_of, flip_of, cross_of, turn_of, turns, AreDarts, IsRound, AreTurned, BeginsAt, IsRing, IsPinch, AreAllRings}
+use Rattle.surf_mesh.specs.Reach.{marked}
+use Rattle.surf_mesh.specs.Ring.{corner_of, cross_of, turn_of, turns, AreDarts, IsRound, IsTrail, AreTurned, BeginsAt, IsEdgeAt, side_before, GoBetween, IsWholeRing, IsPinch, AreAllRings}
 use Rattle.surf_mesh.proofs.Order.{Ordered, all_filter, passing, range_below}
 use Rattle.surf_mesh.proofs.HalfLaws.{face_of_side, spans}
-use Rattle.surf_mesh.proofs.Mates.{member_filter, with_all, ordered_filter, range_ordered}
+use Rattle.surf_mesh.proofs.Mates.{member_filter, with_pair, with_all, ordered_filter, range_ordered}
+use Rattle.surf_mesh.proofs.Paired.{side_below}
 use Rattle.surf_mesh.proofs.SideNumbers.{pair_at_place, side_of_face, face_has_side, one_face, first_mono}
 use Rattle.surf_mesh.proofs.VertexLaws.{corners_len, corner_at_place, IsPlaced, placed}
 use Rattle.surf_mesh.proofs.ApartLaws.{two_sides}
-use Rattle.surf_mesh.proofs.RoundSteps.{flip_in, cross_in, corner_in, flip_corner, cross_vertex, walk_in, walk_vertex, round_closed}
+use Rattle.surf_mesh.proofs.RoundSteps.{cross_in, corner_in, flip_corner, cross_vertex, walk_in, walk_vertex, round_closed, round_differ, round_sides}
 
 -- one face more
 pub turned_more : (turn : ℕ → ℕ → ℕ) (mesh : Mesh) (f count : ℕ) (old now : List ℕ) → AreTurned turn mesh f old → f < face_count mesh → count ≡ length (face_at mesh f) → length now ≡ length old + count →
@@ -132,6 +134,19 @@ at_faces mesh v i j f g a b p q lt =
         | inr ne ↦ let up = at_rises mesh v j i (omega arith) a in absurd (omega (arith, mono, sp.0, p.upto, q.from, up))
       ]
     ]
+
+touched : (v a b : ℕ) → touches v (pair a b) ≡ true → (a ≡ v) ⊎ (b ≡ v)
+touched v a b t = elim (cases_eq a v) [
+  | inl e ↦ inl e
+  | inr na ↦ elim (cases_eq b v) [
+    | inl e ↦ inr e
+    | inr nb ↦ let none : touches v (a, b) ≡ false = rw (ne_eqb a v na, ne_eqb b v nb) refl in absurd (true≢false (sym t ∙ touches-pair_of v (a, b) ∙ none))
+  ]
+]
+
+-- an edge is known by its ends
+one_edge : (mesh : Mesh) (d e : ℕ) → d < edge_count mesh → e < edge_count mesh → ends mesh d ≡ ends mesh e → d ≡ e
+one_edge mesh d e a b q = sym (place_of-ends mesh d a) ∙ ap (λ p. place_of p (edges mesh)) q ∙ place_of-ends mesh e b
 
 third : (s t m x y : ℕ) → s ≢ t → m ≢ s → (s ≡ x) ⊎ (s ≡ y) → (t ≡ x) ⊎ (t ≡ y) → (m ≡ x) ⊎ (m ≡ y) → m ≡ t
 third s t m x y a b p q r = elim p [
@@ -399,25 +414,105 @@ module _ (mesh : Mesh) (is_mesh : IsMesh mesh) (two : HasTwoFaces mesh) (mate : 
       pub home_face : IsFaceOf mesh home (get_or (owners 0 mesh.faces) home 0)
       home_face = face_of_side mesh (owners 0 mesh.faces) home 0 refl (at_begins mesh v 0 some).0
 
-      pub whole_ring : ((k : ℕ) → k < length (sides_at mesh v) → marked seen (get_or (sides_at mesh v) k 0) ≡ true) → IsRing mesh v ring × HasOneFan mesh v
-      whole_ring all = (
-        record {
-          some = round.some;
-          first = ring_first;
-          begin = entry_begins;
-          differ = round.differ;
-          all = λ s b. marked_met s b (mark s b);
-          share = ring_shares;
-        },
-        λ f g a b.
-            let s = corner_begins mesh f v a in
-            let t = corner_begins mesh g v b in
-            let h = get_or (owners 0 mesh.faces) home 0 in
-            joined_trans (joined_sym (λ x y q. (q.0, q.2, q.1)) (marked_joined s.0 h f s.1.0 (mark s.0 s.1.0) home_face s.1.1)) (marked_joined t.0 h g t.1.0 (mark t.0 t.1.0) home_face t.1.1),
-      )
-        where
-          mark : (s : ℕ) → BeginsAt mesh v s → marked seen s ≡ true
-          mark s b = let r = begins_at mesh v s b in ap (marked seen) (sym r.2) ∙ all r.0 r.1
+      dart_side : (k : ℕ) → (dart k).0 < side_count mesh
+      dart_side k = let i = dart_in k in let z = sizes in omega arith
+
+      module _ (edge_of edges : List ℕ) (numbers : AreEdgeNumbers mesh edge_of) (trail : IsTrail next prev mate (all_corners mesh) edge_of start (length ring) edges) where
+        between_is : (k : ℕ) → k < length ring → ends mesh (get_or edges k 0) ≡ pair_at mesh (dart k).0
+        between_is k lt = ap (ends mesh) (trail.at k lt) ∙ numbers.same (dart k).0 (dart_side k)
+
+        between_below : (k : ℕ) → k < length ring → get_or edges k 0 < edge_count mesh
+        between_below k lt = let b = numbers.below (dart k).0 (dart_side k) in omega (arith, b, trail.at k lt)
+
+        between_at : (k : ℕ) → k < length edges → IsEdgeAt mesh v (get_or edges k 0)
+        between_at k lt =
+            let n = trail.size in
+            let below : k < length ring = omega arith in
+            let w = dart_edge (dart k) v (dart_side k) (dart_vertex k) in
+            (between_below k below, ap (touches v) (between_is k below ∙ w.1) ∙ touches_first v w.0)
+
+        between_differ : (i k : ℕ) → i < k → k < length edges → get_or edges i 0 ≢ get_or edges k 0
+        between_differ i k lt below e =
+            let n = trail.size in
+            let b : k < length ring = omega arith in
+            let a : i < length ring = omega arith in
+            let s = (dart i).0 in
+            let t = (dart k).0 in
+            let is = mates.mates s (dart_side i) in
+            let p : pair_at mesh t ≡ pair_at mesh s = sym (between_is k b) ∙ ap (ends mesh) (sym e) ∙ between_is i a in
+            round_differ next prev mate (all_corners mesh) are_darts start seen_before seen ring start_in round i k lt b (elim (cases_eq t s) [
+              | inl q ↦ inl q
+              | inr ne ↦ inr (sym (of_edge s t (get_or mate s 0) (dart_side i) (dart_side k) is.is_side p is.same_edge (λ q. ne (sym q)) is.other))
+            ])
+
+        -- an edge with a dart at the vertex is listed
+        dart_listed : ((s : ℕ) → BeginsAt mesh v s → Met s) → (e : ℕ) (d : ℕ × Bool) → e < edge_count mesh → d.0 < side_count mesh → vertex d ≡ v → pair_at mesh d.0 ≡ ends mesh e → (j : ℕ) × (j < length edges) × (get_or edges j 0 ≡ e)
+        dart_listed met e d lt side at p =
+            let z = sizes in
+            let in' : d.0 < length next = omega arith in
+            let c = corner_of next d in
+            let c_in : c < side_count mesh = let i = corner_in next prev mate (all_corners mesh) are_darts d in' in omega arith in
+            let k = met c (c_in, at) in
+            let j = round_sides next prev mate (all_corners mesh) are_darts start seen_before seen ring start_in round k.0 k.1 d in' (sym k.2) in
+            let n = trail.size in
+            let own : pair_at mesh d.0 ≡ pair_at mesh (dart j.0).0 = elim j.2 [ inl q ↦ ap (pair_at mesh) q | inr q ↦ ap (pair_at mesh) q ∙ (mates.mates (dart j.0).0 (dart_side j.0)).same_edge ] in
+            (j.0, omega (arith, j.1), one_edge mesh (get_or edges j.0 0) e (between_below j.0 j.1) lt (between_is j.0 j.1 ∙ sym own ∙ p))
+
+        between_all : ((s : ℕ) → BeginsAt mesh v s → Met s) → (e : ℕ) → IsEdgeAt mesh v e → (j : ℕ) × (j < length edges) × (get_or edges j 0 ≡ e)
+        between_all met e at =
+            let row = Rattle.surf_mesh.proofs.Paired.row_some mesh e at.0 in
+            let s = get_or (sides_with mesh (ends mesh e)) 0 0 in
+            let lt = side_below mesh (ends mesh e) 0 0 row in
+            let p : pair_at mesh s ≡ ends mesh e = with_pair mesh (ends mesh e) 0 row in
+            elim (touched v (tail s) (tail (get_or next s 0)) (ap (touches v) (sym (pair_tails s lt) ∙ p) ∙ at.1)) [
+              | inl q ↦ dart_listed met e (s, false) at.0 lt q p
+              | inr q ↦ dart_listed met e (s, true) at.0 lt q p
+            ]
+
+        between : GoBetween mesh ring edges
+        between = record {
+          size = trail.size;
+          first = λ f p.
+              let P : ℕ → Type 0 = λ x. IsFaceOf mesh x f in
+              let q = prev_place home f (home - first_side mesh f) (face_placed mesh home f (subst P ring_first p)) in
+              between_is 0 round.some ∙ ap (pair_at mesh) (from_is ∙ q.number ∙ ap (side_before mesh f) (sym ring_first));
+          behind = λ k f lt p.
+              let P : ℕ → Type 0 = λ x. IsFaceOf mesh x f in
+              let F : ℕ × ℕ → Type 0 = HasEdge mesh f in
+              subst F (sym (between_is k lt)) (has_edge (dart k) f (dart_side k) (subst P (round.entries k lt) p));
+          ahead = λ k g lt p.
+              let P : ℕ → Type 0 = λ x. IsFaceOf mesh x g in
+              let G : ℕ × ℕ → Type 0 = HasEdge mesh g in
+              let is = mates.mates (dart k).0 (dart_side k) in
+              let c = flip_corner next prev mate (all_corners mesh) are_darts (across (dart k)) (cross_in next prev mate (all_corners mesh) are_darts (dart k) (dart_in k)) in
+              subst G (is.same_edge ∙ sym (between_is k lt)) (has_edge (across (dart k)) g is.is_side (subst P (sym (next_entry k lt) ∙ c) p));
+        }
+
+        pub whole_ring : ((k : ℕ) → k < length (sides_at mesh v) → marked seen (get_or (sides_at mesh v) k 0) ≡ true) → IsWholeRing mesh v ring edges
+        whole_ring all =
+            record {
+              is_ring = record {
+                some = round.some;
+                first = ring_first;
+                begin = entry_begins;
+                differ = round.differ;
+                all = met;
+                share = ring_shares;
+              };
+              are_edges = record { at = between_at; differ = between_differ; all = between_all met };
+              between = between;
+              fan = λ f g a b.
+                  let s = corner_begins mesh f v a in
+                  let t = corner_begins mesh g v b in
+                  let h = get_or (owners 0 mesh.faces) home 0 in
+                  joined_trans (joined_sym (λ x y q. (q.0, q.2, q.1)) (marked_joined s.0 h f s.1.0 (mark s.0 s.1.0) home_face s.1.1)) (marked_joined t.0 h g t.1.0 (mark t.0 t.1.0) home_face t.1.1);
+            }
+          where
+            mark : (s : ℕ) → BeginsAt mesh v s → marked seen s ≡ true
+            mark s b = let r = begins_at mesh v s b in ap (marked seen) (sym r.2) ∙ all r.0 r.1
+
+            met : (s : ℕ) → BeginsAt mesh v s → Met s
+            met s b = marked_met s b (mark s b)
 
       pub ring_pinch : (k : ℕ) → k < length (sides_at mesh v) → marked seen (get_or (sides_at mesh v) k 0) ≡ false → ((j : ℕ) → j < k → marked seen (get_or (sides_at mesh v) j 0) ≡ true) →
           IsPinch mesh v (get_or (owners 0 mesh.faces) home 0) (get_or (owners 0 mesh.faces) (get_or (sides_at mesh v) k 0) 0)
@@ -451,16 +546,23 @@ pub row_some : (mesh : Mesh) (v f : ℕ) → HasCorner mesh f v → 0 < length (
 row_some mesh v f h = let s = corner_begins mesh f v h in let r = begins_at mesh v s.0 s.1.0 in let lt = r.1 in omega arith
 
 -- one ring more
-pub rings_more : (mesh : Mesh) (v : ℕ) (rows : List (List ℕ)) (ring : List ℕ) → AreAllRings mesh v rows → IsRing mesh v ring × HasOneFan mesh v → AreAllRings mesh (v + 1) (rows ++ ring ∷ [])
-rings_more mesh v rows ring a r =
+pub rings_more : (mesh : Mesh) (v : ℕ) (rows lists : List (List ℕ)) (ring edges : List ℕ) → AreAllRings mesh v rows lists → IsWholeRing mesh v ring edges → AreAllRings mesh (v + 1) (rows ++ ring ∷ []) (lists ++ edges ∷ [])
+rings_more mesh v rows lists ring edges a r =
     let n = a.size in
-    let last : get_or (rows ++ ring ∷ []) v [] ≡ ring = get_or_push rows ring [] v n in
-    let F : ℕ → Type 0 = λ u. HasOneFan mesh u in
+    let m = a.edges_size in
+    let new_rows = rows ++ ring ∷ [] in
+    let new_lists = lists ++ edges ∷ [] in
+    let W : ℕ → List ℕ → List ℕ → Type 0 = IsWholeRing mesh in
+    let both : (u : ℕ) (xs ys xs' ys' : List ℕ) → xs' ≡ xs → ys' ≡ ys → W u xs ys → W u xs' ys' = λ u xs ys xs' ys' e f w. let P : List ℕ → Type 0 = λ zs. W u zs ys in let Q : List ℕ → Type 0 = λ zs. W u xs' zs in subst Q (sym f) (subst P (sym e) w) in
     record {
       size = omega (arith, length_push rows ring, n);
-      rings = λ u below. elim (cases_eq u v) [
-        | inl e ↦ let P : ℕ → Type 0 = λ w. IsRing mesh w (get_or (rows ++ ring ∷ []) w []) in let Q : List ℕ → Type 0 = λ xs. IsRing mesh v xs in subst P (sym e) (subst Q (sym last) r.0)
-        | inr ne ↦ let Q : List ℕ → Type 0 = λ xs. IsRing mesh u xs in subst Q (sym (get_or_append_left rows (ring ∷ []) [] u (omega arith))) (a.rings u (omega arith))
+      edges_size = omega (arith, length_push lists edges, m);
+      whole = λ u below. elim (cases_eq u v) [
+        | inl e ↦ let P : ℕ → Type 0 = λ w. W w (get_or new_rows w []) (get_or new_lists w []) in
+            subst P (sym e) (both v ring edges (get_or new_rows v []) (get_or new_lists v []) (get_or_push rows ring [] v n) (get_or_push lists edges [] v m) r)
+        | inr ne ↦
+            let lt : u < v = omega arith in
+            both u (get_or rows u []) (get_or lists u []) (get_or new_rows u []) (get_or new_lists u []) (get_or_append_left rows (ring ∷ []) [] u (omega arith)) (get_or_append_left lists (edges ∷ []) [] u (omega arith)) (a.whole u lt)
       ];
-      fans = λ u below. elim (cases_eq u v) [ inl e ↦ subst F (sym e) r.1 | inr ne ↦ a.fans u (omega arith) ];
+      fans = λ u below. let F : ℕ → Type 0 = HasOneFan mesh in elim (cases_eq u v) [ inl e ↦ subst F (sym e) r.fan | inr ne ↦ a.fans u (omega arith) ];
     }

@@ -1,10 +1,10 @@
 -- Steps round a vertex.
-use Rattle.std.proofs.Common.{◌≡◌, ◌≢◌, ℕ, zero, suc, ◌+◌, ◌-◌, ◌<◌, ◌≤◌, ◌⊎◌, Bool, true, false, not, cond, eqb, List, [], ◌∷◌, ◌++◌, length, get_or, set, refl, sym, ap, subst, ◌∙◌, arith, inl, inr}
-use Rattle.std.proofs.lemmas.Bool.{true≢false, cases_eq, cases_lt, cases_Bool, eq-eqb, eqb-true, ne_eqb}
+use Rattle.std.proofs.Common.{◌≡◌, ◌≢◌, ℕ, zero, suc, ◌+◌, ◌-◌, ◌<◌, ◌⊎◌, Bool, true, false, not, cond, eqb, List, [], ◌∷◌, ◌++◌, length, get_or, set, refl, sym, ap, ◌∙◌, arith, inl, inr}
+use Rattle.std.proofs.lemmas.Bool.{true≢false, cases_eq, eq-eqb, ne_eqb}
 use Rattle.std.proofs.lemmas.List.{length-set, get_or-set_same, get_or-set_other, length_push, get_or_push, get_or_append_left}
 use Rattle.std.proofs.lemmas.List.Sums.{sum_by-set}
 use Rattle.surf_mesh.specs.Reach.{marked, unmarked}
-use Rattle.surf_mesh.specs.Ring.{corner_of, flip_of, cross_of, turn_of, turns, AreDarts, Rounds, IsRound}
+use Rattle.surf_mesh.specs.Ring.{corner_of, flip_of, cross_of, turn_of, turns, AreDarts, Rounds, IsRound, IsTrail}
 
 pub marks_one : (seen : List Bool) (at : ℕ) → at < length seen → marked seen at ≡ false → unmarked (set seen at true) + 1 ≡ unmarked seen
 marks_one seen at lt new =
@@ -176,6 +176,66 @@ module _ (next prev mate tails : List ℕ) (are : AreDarts next prev mate tails)
           let n : length ring ≡ suc m = omega arith in
           behind m e (omega arith) (is ∙ ap flip (sym r.closes) ∙ ap (λ n. flip (walk n d)) n)
       back (suc k) lt e is = behind k e (omega arith) is
+
+  -- a dart is known by its side and its vertex
+  same_end : (x y : ℕ × Bool) → In x → In y → x.0 ≡ y.0 → vertex x ≡ vertex y → x ≡ y
+  same_end (s, true) (t, true) h i q v = ap (λ n. (n, true)) q
+  same_end (s, false) (t, false) h i q v = ap (λ n. (n, false)) q
+  same_end (s, true) (t, false) h i q v = absurd (are.ends_differ s h (v ∙ ap (λ n. get_or tails n 0) (sym q)))
+  same_end (s, false) (t, true) h i q v = absurd (are.ends_differ s h (ap (λ n. get_or tails (get_or next n 0) 0) q ∙ sym v))
+
+  -- no two darts of a whole round are of one edge
+  pub round_differ : (d : ℕ × Bool) (before seen : List Bool) (ring : List ℕ) → In d → IsRound next prev mate tails d before seen ring →
+      (i k : ℕ) → i < k → k < length ring → ((walk k d).0 ≡ (walk i d).0) ⊎ ((walk k d).0 ≡ get_or mate (walk i d).0 0) → ⊥
+  round_differ d before seen ring h r i k lt below e =
+      let x = walk i d in
+      let hx = walk_in i d h in
+      let y = walk k d in
+      let hy = walk_in k d h in
+      let at : vertex y ≡ vertex x = walk_vertex k d h ∙ sym (walk_vertex i d h) in
+      elim e [
+        | inl q ↦ r.differ i k lt below (r.entries i (omega arith) ∙ ap (corner_of next) (sym (same_end y x hy hx q at)) ∙ sym (r.entries k below))
+        | inr q ↦
+            let c : y ≡ cross x = same_end y (cross x) hy (cross_in x hx) q (at ∙ sym (cross_vertex x hx)) in
+            let back : y ≡ flip (walk (suc i) d) = c ∙ sym (flip_twice (cross x) (cross_in x hx)) in
+            let sum : (k - suc i) + suc i ≡ k = omega arith in
+            never_flipped (k - suc i) (walk (suc i) d) (walk_in (suc i) d h) (walk_add (k - suc i) (suc i) d ∙ ap (λ n. walk n d) sum ∙ back)
+      ]
+
+  -- each side of a corner of a whole round is the side of one of its darts, or the mate of one
+  pub round_sides : (d : ℕ × Bool) (before seen : List Bool) (ring : List ℕ) → In d → IsRound next prev mate tails d before seen ring →
+      (k : ℕ) → k < length ring → (e : ℕ × Bool) → In e → corner_of next e ≡ get_or ring k 0 → (j : ℕ) × (j < length ring) × ((e.0 ≡ (walk j d).0) ⊎ (e.0 ≡ get_or mate (walk j d).0 0))
+  round_sides d before seen ring h r k lt e he q = elim (same_corner e (walk k d) he (walk_in k d h) (q ∙ r.entries k lt)) [
+    | inl is ↦ (k, lt, inl (ap (λ (x : ℕ × Bool). x.0) is))
+    | inr is ↦ back k lt e is
+  ]
+    where
+      behind : (m : ℕ) (e : ℕ × Bool) → m < length ring → e ≡ flip (walk (suc m) d) → (j : ℕ) × (j < length ring) × ((e.0 ≡ (walk j d).0) ⊎ (e.0 ≡ get_or mate (walk j d).0 0))
+      behind m e lt is = let y = walk m d in (m, lt, inr (ap (λ (x : ℕ × Bool). x.0) (is ∙ flip_twice (cross y) (cross_in y (walk_in m d h)))))
+
+      back : (k : ℕ) → k < length ring → (e : ℕ × Bool) → e ≡ flip (walk k d) → (j : ℕ) × (j < length ring) × ((e.0 ≡ (walk j d).0) ⊎ (e.0 ≡ get_or mate (walk j d).0 0))
+      back zero lt e is =
+          let some = r.some in
+          let m = length ring - 1 in
+          let n : length ring ≡ suc m = omega arith in
+          behind m e (omega arith) (is ∙ ap flip (sym r.closes) ∙ ap (λ n. flip (walk n d)) n)
+      back (suc k) lt e is = behind k e (omega arith) is
+
+  pub trail_start : (edge_of : List ℕ) (d : ℕ × Bool) → IsTrail next prev mate tails edge_of d 0 []
+  trail_start edge_of d = record { size = refl; at = λ k lt. absurd (omega arith) }
+
+  pub trail_more : (edge_of : List ℕ) (d : ℕ × Bool) (before seen : List Bool) (side at e count : ℕ) (head : Bool) (ring edges : List ℕ) → Rounds next prev mate tails d before side head at seen ring →
+      IsTrail next prev mate tails edge_of d (length ring) edges → e ≡ get_or edge_of side 0 → count ≡ length ring + 1 → IsTrail next prev mate tails edge_of d count (edges ++ e ∷ [])
+  trail_more edge_of d before seen side at e count head ring edges r t is more =
+      let n = length_push edges e in
+      let size = t.size in
+      record {
+        size = omega arith;
+        at = λ k lt. elim (cases_eq k (length ring)) [
+          | inl q ↦ get_or_push edges e 0 k (size ∙ sym q) ∙ is ∙ ap (λ (x : ℕ × Bool). get_or edge_of x.0 0) r.here ∙ ap (λ m. get_or edge_of (walk m d).0 0) (sym q)
+          | inr ne ↦ get_or_append_left edges (e ∷ []) 0 k (omega arith) ∙ t.at k (omega arith)
+        ];
+      }
 
   pub round_start : (d : ℕ × Bool) (seen : List Bool) → length seen ≡ length next → Rounds next prev mate tails d seen d.0 d.1 (corner_of next d) seen []
   round_start d seen size = record {

@@ -1,9 +1,9 @@
 -- Rings: the sides that begin at a vertex, in the order round it.
-use Rattle.std.specs.Prelude.{◌≡◌, ◌≢◌, ℕ, zero, suc, ◌+◌, ◌<◌, ◌==◌, ◌⊎◌, Bool, true, false, not, cond, List, [], length, get_or, if◌then◌else◌}
+use Rattle.std.specs.Prelude.{◌≡◌, ◌≢◌, ℕ, zero, suc, ◌+◌, ◌-◌, ◌<◌, ◌==◌, ◌⊎◌, Bool, true, false, not, cond, List, [], length, get_or}
 use Rattle.surf_complex.specs.Joined.{Joined}
-use Rattle.surf_complex.specs.Mesh.{Mesh, pair}
-use Rattle.surf_complex.specs.Side.{after}
-use Rattle.surf_complex.specs.Surface.{face_count, face_at, HasCorner, ShareAt, HasOneFan}
+use Rattle.surf_complex.specs.Mesh.{Mesh}
+use Rattle.surf_complex.specs.Side.{after, before}
+use Rattle.surf_complex.specs.Surface.{face_at, edge_count, ends, touches, HasCorner, HasEdge, ShareAt, HasOneFan}
 use Rattle.surf_mesh.specs.Sides.{side_count, pair_at}
 use Rattle.surf_mesh.specs.Half.{first_side, IsFaceOf}
 use Rattle.surf_mesh.specs.Vertices.{all_corners, sides_at}
@@ -68,6 +68,11 @@ pub record IsRound (next prev mate tails : List ℕ) (d : ℕ × Bool) (seen_bef
   pub differ : (i k : ℕ) → i < k → k < length ring → get_or ring i 0 ≢ get_or ring k 0
   pub counted : length ring + unmarked seen ≡ unmarked seen_before
 
+-- the edges of the darts of a walk, one after the other
+pub record IsTrail (next prev mate tails edge_of : List ℕ) (d : ℕ × Bool) (count : ℕ) (edges : List ℕ) : Type 0 where
+  pub size : length edges ≡ count
+  pub at : (k : ℕ) → k < count → get_or edges k 0 ≡ get_or edge_of (turns next prev mate tails k d).0 0
+
 -- for each side the side at another place of its face, for the first sides
 pub record AreTurned (turn : ℕ → ℕ → ℕ) (mesh : Mesh) (count : ℕ) (table : List ℕ) : Type 0 where
   pub size : length table ≡ first_side mesh count
@@ -86,6 +91,34 @@ pub record IsRing (mesh : Mesh) (v : ℕ) (ring : List ℕ) : Type 0 where
   pub all : (s : ℕ) → BeginsAt mesh v s → (k : ℕ) × (k < length ring) × (get_or ring k 0 ≡ s)
   pub share : (k f g : ℕ) → k < length ring → IsFaceOf mesh (get_or ring k 0) f → IsFaceOf mesh (get_or ring (after (length ring) k) 0) g → ShareAt mesh v f g
 
+-- an edge with an end at the vertex
+abbrev pub IsEdgeAt : Mesh → ℕ → ℕ → Type 0
+IsEdgeAt mesh v e = (e < edge_count mesh) × (touches v (ends mesh e) ≡ true)
+
+-- a list of exactly the edges at a vertex, each once
+pub record AreEdgesAt (mesh : Mesh) (v : ℕ) (list : List ℕ) : Type 0 where
+  pub at : (k : ℕ) → k < length list → IsEdgeAt mesh v (get_or list k 0)
+  pub differ : (i k : ℕ) → i < k → k < length list → get_or list i 0 ≢ get_or list k 0
+  pub all : (e : ℕ) → IsEdgeAt mesh v e → (k : ℕ) × (k < length list) × (get_or list k 0 ≡ e)
+
+-- the side that stands before a side in its face
+abbrev pub side_before : Mesh → ℕ → ℕ → ℕ
+side_before mesh f s = first_side mesh f + before (length (face_at mesh f)) (s - first_side mesh f)
+
+-- The edges between the faces of a ring. The first one stands before the first corner of the ring in its face; the faces of each entry and of the next one, the first after the last, have the edge at its place.
+pub record GoBetween (mesh : Mesh) (ring edges : List ℕ) : Type 0 where
+  pub size : length edges ≡ length ring
+  pub first : (f : ℕ) → IsFaceOf mesh (get_or ring 0 0) f → ends mesh (get_or edges 0 0) ≡ pair_at mesh (side_before mesh f (get_or ring 0 0))
+  pub behind : (k f : ℕ) → k < length ring → IsFaceOf mesh (get_or ring k 0) f → HasEdge mesh f (ends mesh (get_or edges k 0))
+  pub ahead : (k g : ℕ) → k < length ring → IsFaceOf mesh (get_or ring (after (length ring) k) 0) g → HasEdge mesh g (ends mesh (get_or edges k 0))
+
+-- a ring of all faces at a vertex, with the edges between them
+pub record IsWholeRing (mesh : Mesh) (v : ℕ) (ring edges : List ℕ) : Type 0 where
+  pub is_ring : IsRing mesh v ring
+  pub are_edges : AreEdgesAt mesh v edges
+  pub between : GoBetween mesh ring edges
+  pub fan : HasOneFan mesh v
+
 -- the least face at a vertex, and the least face there outside that face's cycle
 pub record IsPinch (mesh : Mesh) (v f g : ℕ) : Type 0 where
   pub first : HasCorner mesh f v
@@ -100,11 +133,13 @@ pub record IsLeastPinch (mesh : Mesh) (v f g : ℕ) : Type 0 where
   pub pinch : IsPinch mesh v f g
   pub none_before : (u : ℕ) → u < v → HasOneFan mesh u
 
-pub record AreAllRings (mesh : Mesh) (count : ℕ) (rows : List (List ℕ)) : Type 0 where
-  pub size : length rows ≡ count
-  pub rings : (v : ℕ) → v < count → IsRing mesh v (get_or rows v [])
+-- rings of the first vertices
+pub record AreAllRings (mesh : Mesh) (count : ℕ) (rings edges : List (List ℕ)) : Type 0 where
+  pub size : length rings ≡ count
+  pub edges_size : length edges ≡ count
+  pub whole : (v : ℕ) → v < count → IsWholeRing mesh v (get_or rings v []) (get_or edges v [])
   pub fans : (v : ℕ) → v < count → HasOneFan mesh v
 
 abbrev pub AreRings : Mesh → Rings → Type 0
-AreRings mesh (All rows) = AreAllRings mesh mesh.vertices rows
+AreRings mesh (All rings edges) = AreAllRings mesh mesh.vertices rings edges
 AreRings mesh (Pinched v f g) = IsLeastPinch mesh v f g

@@ -1,12 +1,12 @@
 //! Surfaces with their half-edges.
-ghost use Rattle.std.specs.Prelude.{◌≡◌, ◌≢◌, ◌<◌, ◌≤◌, ◌+◌, ◌^◌, ℕ, length, All, AllPairs, IfOk, MatchOption, slice_index, slice_index_or, [], false, true};
+ghost use Rattle.std.specs.Prelude.{◌≡◌, ◌≢◌, ◌<◌, ◌≤◌, ◌+◌, ◌^◌, ℕ, List, length, All, AllPairs, IfOk, MatchOption, slice_index, slice_index_or, [], false, true};
 ghost use Rattle.std.specs.List.{range_with_len};
 ghost use Rattle.surf_complex.specs.Mesh.{IsFace, pair, pair_lt, among, edges};
 ghost use Rattle.surf_complex.specs.Surface.{face_count, face_at, edge_count, ends, faces_of, IsSurface};
 ghost use Rattle.surf_mesh.specs.Sides.{side_count};
 ghost use Rattle.surf_mesh.specs.EdgeTable.{IsEdgeTable};
 ghost use Rattle.surf_mesh.specs.Pairs.{HasTwoFaces};
-ghost use Rattle.surf_mesh.specs.Ring.{IsRing, AreAllRings};
+ghost use Rattle.surf_mesh.specs.Ring.{IsRing, AreEdgesAt, GoBetween, AreAllRings};
 ghost use Rattle.surf_mesh.specs.Half.{first_side, IsFaceOf, IsEdgeOf, IsMate, AreAllMates};
 
 use crate::Soup;
@@ -27,6 +27,7 @@ pub struct HalfMesh {
     table: EdgeTable,
     mate: Vec<SideId>,
     rings: Rows<SideId>,
+    ring_edges: Rows<EdgeId>,
 }
 
 impl Model for HalfMesh {
@@ -37,7 +38,7 @@ impl Model for HalfMesh {
 
     ghost view = { λ h. record { vertices = h.vertices; faces = h.faces } };
 
-    ghost invariant = { λ h. IsHalfMesh (record { vertices = h.vertices; faces = h.faces }) h.table.edges.items h.table.sides h.table.edge_of.items h.table.face_of.items h.table.numbers.items h.mate.items h.rings };
+    ghost invariant = { λ h. IsHalfMesh (record { vertices = h.vertices; faces = h.faces }) h.table.edges.items h.table.sides h.table.edge_of.items h.table.face_of.items h.table.numbers.items h.mate.items h.rings h.ring_edges };
 }
 
 // Joins the two sides of each row. The second table says in which row each side is.
@@ -131,8 +132,10 @@ impl HalfMesh {
     {
         let mate = all_mates(alloc, &soup, &table)?;
         let at_vertex = vertex_sides(alloc, &soup, &table.numbers)?;
-        match find_rings(alloc, &soup, &mate, &table.face_of, &at_vertex)? {
-            Rings::All(rings) => Ok(HalfMesh::from_parts(soup, table, mate, rings)),
+        match find_rings(alloc, &soup, &mate, &table, &at_vertex)? {
+            Rings::All { sides, edges } => {
+                Ok(HalfMesh::from_parts(soup, table, mate, sides, edges))
+            }
             Rings::Pinched { .. } => unreachable!(),
         }
     }
@@ -143,11 +146,12 @@ impl HalfMesh {
         table: EdgeTable,
         mate: Vec<SideId>,
         rings: Rows<SideId>,
+        ring_edges: Rows<EdgeId>,
     ) -> HalfMesh
         requires surface { IsSurface soup }
         requires table { IsEdgeTable soup table.edges.items table.sides table.edge_of.items table.face_of.items table.numbers.items }
         requires mates { AreAllMates soup mate.items }
-        requires rings { AreAllRings soup soup.vertices rings }
+        requires rings { AreAllRings soup soup.vertices rings ring_edges }
         ensures { result ≡ soup }
     {
         let _few = soup.side_count();
@@ -158,15 +162,20 @@ impl HalfMesh {
             table,
             mate,
             rings,
+            ring_edges,
         }
     }
 
+    /// How many vertices there are.
     pub fn vertices(&self) -> u32
-        ensures { result ≡ self.now.vertices }
+        ensures count { result ≡ self.now.vertices }
+        ensures surface { IsSurface self.now }
+        ensures few { side_count self.now < 2 ^ 30 }
     {
         self.vertices
     }
 
+    /// How many faces there are.
     pub fn faces(&self) -> u32
         ensures count { result ≡ face_count self.now }
         ensures surface { IsSurface self.now }
@@ -175,14 +184,20 @@ impl HalfMesh {
         self.faces.len() as u32
     }
 
+    /// How many edges there are.
     pub fn edges(&self) -> u32
-        ensures { result ≡ edge_count self.now }
+        ensures count { result ≡ edge_count self.now }
+        ensures surface { IsSurface self.now }
+        ensures few { side_count self.now < 2 ^ 30 }
     {
         self.table.edges.len() as u32
     }
 
+    /// How many sides all faces have, two for each edge.
     pub fn side_count(&self) -> u32
-        ensures { result ≡ side_count self.now }
+        ensures count { result ≡ side_count self.now }
+        ensures surface { IsSurface self.now }
+        ensures few { side_count self.now < 2 ^ 30 }
     {
         self.mate.len() as u32
     }
@@ -265,5 +280,26 @@ impl HalfMesh {
         ensures { IsRing self.now v result.now }
     {
         self.rings.row(v.index())
+    }
+
+    /// The edges at a vertex, each once, in the order round it: at each place of the ring the edge
+    /// that its face shares with the next one. The first stands before the corner in the ring's
+    /// first face.
+    pub fn ring_edges(&self, v: VertexId) -> &[EdgeId]
+        requires { v < self.now.vertices }
+        ensures edges { AreEdgesAt self.now v result.now }
+        ensures goes_round { (ring : List ℕ) × IsRing self.now v ring × GoBetween self.now ring result.now }
+    {
+        self.ring_edges.row(v.index())
+    }
+
+    /// The ring of a vertex and the edges that go with it.
+    pub fn round(&self, v: VertexId) -> (&[SideId], &[EdgeId])
+        requires { v < self.now.vertices }
+        ensures ring { IsRing self.now v result.0.now }
+        ensures edges { AreEdgesAt self.now v result.1.now }
+        ensures between { GoBetween self.now result.0.now result.1.now }
+    {
+        (self.rings.row(v.index()), self.ring_edges.row(v.index()))
     }
 }

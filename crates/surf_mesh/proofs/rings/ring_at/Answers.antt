@@ -1,12 +1,11 @@
-use Rattle.std.proofs.Common.{◌≡◌, ◌<◌, ℕ, List, Bool, Option, Some, None, true, false, length, get_or, sym, ap, subst, ◌∙◌, arith}
+use Rattle.std.proofs.Common.{◌≡◌, ◌<◌, ℕ, List, Option, Some, None, true, false, length, get_or, sym, ap, subst, ◌∙◌, arith}
 use Rattle.std.specs.Option.{MatchOption}
 use Rattle.std.proofs.lemmas.List.{get_or_read}
 use Rattle.surf_complex.specs.Side.{before}
-use Rattle.surf_complex.specs.Surface.{HasOneFan}
 use Rattle.surf_mesh.specs.Reach.{marked}
-use Rattle.surf_mesh.specs.Sides.{side_count, owners}
-use Rattle.surf_mesh.specs.Vertices.{all_corners, sides_at}
-use Rattle.surf_mesh.specs.Ring.{AreDarts, IsRound, IsRing, IsPinch}
+use Rattle.surf_mesh.specs.Sides.{owners}
+use Rattle.surf_mesh.specs.Vertices.{sides_at}
+use Rattle.surf_mesh.specs.Ring.{AreDarts, IsRound, IsTrail, IsWholeRing, IsPinch}
 use Rattle.surf_mesh.proofs.RingLaws.{turned_size, at_begins, are_darts, begin_in, begin_fresh, whole_ring, ring_pinch, ring_others}
 use Rattle.surf_mesh.proofs.rings.ring_at.Goals as goal
 
@@ -71,7 +70,7 @@ returns-clause-others c =
     let e = first_read c.args.row.now (sides_at mesh c.args.v) c.index-row-0.result c.index.result c.index.ensures c.index-row-0.is c.requires.some c.requires.row in
     let from = get_or c.args.prev.now c.index.result 0 in
     let R : List ℕ → Type 0 = λ tails. IsRound c.args.next.now c.args.prev.now c.args.mate.now tails (from, true) c.args.seen.now c.go_round.new.seen c.go_round.new.ring.items in
-    ring_others mesh c.vertices-mesh.ensures.mesh c.requires.two c.args.mate.now c.requires.mates c.args.next.now c.args.prev.now c.requires.next c.requires.prev c.args.v some from (ap (λ t. get_or c.args.prev.now t 0) e) c.args.seen.now c.go_round.new.seen c.go_round.new.ring.items c.requires.fresh (subst R c.corners.ensures c.in_ok-go_round.ensures)
+    ring_others mesh c.vertices-mesh.ensures.mesh c.requires.two c.args.mate.now c.requires.mates c.args.next.now c.args.prev.now c.requires.next c.requires.prev c.args.v some from (ap (λ t. get_or c.args.prev.now t 0) e) c.args.seen.now c.go_round.new.seen c.go_round.new.ring.items c.requires.fresh (subst R c.corners.ensures c.in_ok-go_round.ensures.round)
 
 pub returns-clause-found : goal.returns-clause-found
 returns-clause-found c =
@@ -85,14 +84,17 @@ returns-clause-found c =
     let ring = c.go_round.new.ring.items in
     let o = c.first_left-left.result in
     let R : List ℕ → Type 0 = λ tails. IsRound c.args.next.now c.args.prev.now c.args.mate.now tails (from, true) c.args.seen.now seen ring in
-    let round = subst R c.corners.ensures c.in_ok-go_round.ensures in
+    let round = subst R c.corners.ensures c.in_ok-go_round.ensures.round in
+    let edges = c.go_round.new.edges.items in
+    let Tr : List ℕ → Type 0 = λ tails. IsTrail c.args.next.now c.args.prev.now c.args.mate.now tails c.args.edge_of.now (from, true) (length ring) edges in
+    let trail = subst Tr c.corners.ensures c.in_ok-go_round.ensures.trail in
     let All : List ℕ → Type 0 = λ row. (k : ℕ) → k < length row → marked seen (get_or row k 0) ≡ true in
     let Left : List ℕ → ℕ → Type 0 = λ row f. (f < length row) × (marked seen (get_or row f 0) ≡ false) × ((j : ℕ) → j < f → marked seen (get_or row j 0) ≡ true) in
     let Pinch : List ℕ → ℕ → Type 0 = λ row k. (k < length row) × IsPinch mesh v (get_or (owners 0 mesh.faces) (get_or row 0 0) 0) (get_or (owners 0 mesh.faces) (get_or row k 0) 0) in
-    let Whole : Type 0 = IsRing mesh v ring × HasOneFan mesh v in
+    let Whole : Type 0 = IsWholeRing mesh v ring edges in
     let T : List ℕ → Type 0 = λ row. MatchOption o (All row) (Left row) in
     let G : List ℕ → Type 0 = λ row. MatchOption o Whole (Pinch row) in
     subst G (sym c.requires.row) (each_case o (All at) Whole (Left at) (Pinch at)
-    (whole_ring mesh c.vertices-mesh.ensures.mesh c.requires.two c.args.mate.now c.requires.mates c.args.next.now c.args.prev.now c.requires.next c.requires.prev v some from (ap (λ t. get_or c.args.prev.now t 0) e) c.args.seen.now seen ring c.requires.fresh round)
+    (whole_ring mesh c.vertices-mesh.ensures.mesh c.requires.two c.args.mate.now c.requires.mates c.args.next.now c.args.prev.now c.requires.next c.requires.prev v some from (ap (λ t. get_or c.args.prev.now t 0) e) c.args.seen.now seen ring c.requires.fresh round c.args.edge_of.now edges c.requires.edges trail)
     (λ k h. (h.0, ring_pinch mesh c.vertices-mesh.ensures.mesh c.requires.two c.args.mate.now c.requires.mates c.args.next.now c.args.prev.now c.requires.next c.requires.prev v some from (ap (λ t. get_or c.args.prev.now t 0) e) c.args.seen.now seen ring c.requires.fresh round k h.0 h.1 h.2))
     (subst T c.requires.row c.first_left-left.ensures))
