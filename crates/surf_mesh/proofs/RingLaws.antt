@@ -123,7 +123,7 @@ at_rises : (mesh : Mesh) (v i j : ℕ) → i < j → j < length (sides_at mesh v
 at_rises mesh v i j a b = ordered_at (sides_at mesh v) i j (ordered_filter (λ s t. s < t) (has_key (all_corners mesh) v) (range_with_len 0 (side_count mesh)) (range_ordered 0 (side_count mesh))) a b
 
 -- of two places in the row, the one with the lesser face is before
-at_faces : (mesh : Mesh) (v i j f g : ℕ) → i < length (sides_at mesh v) → j < length (sides_at mesh v) → IsFaceOf mesh (get_or (sides_at mesh v) i 0) f → IsFaceOf mesh (get_or (sides_at mesh v) j 0) g → f < g → i < j
+pub at_faces : (mesh : Mesh) (v i j f g : ℕ) → i < length (sides_at mesh v) → j < length (sides_at mesh v) → IsFaceOf mesh (get_or (sides_at mesh v) i 0) f → IsFaceOf mesh (get_or (sides_at mesh v) j 0) g → f < g → i < j
 at_faces mesh v i j f g a b p q lt =
     let mono = first_mono mesh (f + 1) g (omega arith) in
     let sp = spans mesh.faces f p.is_face in
