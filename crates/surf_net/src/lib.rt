@@ -18,6 +18,16 @@ ghost use Rattle.surf_net.specs.Rows.{IsRow, other_of, edge_link, side_link};
 use surf_base::{EdgeId, FaceId, SideId, VertexId};
 use surf_mesh::HalfMesh;
 
+/// The edges at a vertex, each once, as its links to their other ends.
+pub fn edges_at(mesh: &HalfMesh, v: VertexId) -> &[EdgeId]
+    requires vertex { v < mesh.now.vertices }
+    ensures inside { All (λ e. e < edge_count mesh.now) result.now }
+    ensures row { IsRow (primal (cells_of mesh.now)) v (map (edge_link mesh.now v) result.now) }
+{
+    let _surface = mesh.faces();
+    mesh.ring_edges(v)
+}
+
 /// The other end of an edge at a vertex.
 pub fn other_end(mesh: &HalfMesh, v: VertexId, e: EdgeId) -> VertexId
     requires edge { e < edge_count mesh.now }
