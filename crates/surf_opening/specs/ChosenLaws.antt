@@ -1,0 +1,79 @@
+-- What holds of the chosen cut and of the opening along it.
+use Rattle.std.specs.Prelude.{◌≡◌, ◌≢◌, ℕ, ◌+◌, ◌<◌, ◌≤◌, ◌⊎◌, Bool, true, false, List, length}
+use Rattle.surf_z2.specs.Space.{Chain}
+use Rattle.surf_homology.specs.Trees.{Tree}
+use Rattle.surf_complex.specs.Disc.{IsOpening}
+use Rattle.surf_complex.specs.Mesh.{Mesh}
+use Rattle.surf_complex.specs.Surface.{face_count, edge_count, IsSurface}
+use Rattle.surf_opening.specs.Laws.{TellsCut, cut_count, cut_degree, AreInOrder}
+use Rattle.surf_opening.specs.Named.{IsTrimmedByGreatest}
+use Rattle.surf_opening.specs.Opening.{IsOpenedBy}
+use Rattle.surf_opening.specs.Side.{Side}
+use Rattle.surf_opening.specs.Uncut.{Uncut}
+use Rattle.surf_opening.specs.ChosenCut.{AreDivided, ListsCotree, SameEdges, IsChosenCut, IsChosenOpening}
+
+-- at first, the edges outside the tree of faces are the full cut
+abbrev pub FullCutsAreChosen : Type 0
+FullCutsAreChosen =
+    (mesh : Mesh) (tree cotree : Tree) (list : List (ℕ × ℕ)) (cut : Chain) → IsSurface mesh →
+    AreDivided mesh tree cotree → ListsCotree mesh cotree list → TellsCut mesh list cut →
+    IsChosenCut mesh tree cotree false cut
+
+-- and where trimming by the greatest has ended, what is cut is the trimmed cut
+abbrev pub TrimmedCutsAreChosen : Type 0
+TrimmedCutsAreChosen =
+    (mesh : Mesh) (tree cotree : Tree) (list uncut : List (ℕ × ℕ)) (cut : Chain) → IsSurface mesh →
+    AreDivided mesh tree cotree → ListsCotree mesh cotree list → IsTrimmedByGreatest (Side mesh) list uncut →
+    TellsCut mesh uncut cut →
+    (cut_count mesh cut ≤ 2) ⊎ ((v : ℕ) → v < mesh.vertices → cut_degree mesh cut v ≢ 1) →
+    IsChosenCut mesh tree cotree true cut
+
+-- faces over copies that are opened along the uncut edges of a list, in order, are the chosen opening where
+-- the list
+-- tells the chosen cut
+abbrev pub OpenedAreChosen : Type 0
+OpenedAreChosen =
+    (mesh : Mesh) (tree cotree : Tree) (trim : Bool) (list uncut : List (ℕ × ℕ)) (cut : Chain)
+    (origins : List ℕ)
+    (faces : List (List ℕ)) → IsSurface mesh → ListsCotree mesh cotree list →
+    IsTrimmedByGreatest (Side mesh) list uncut → TellsCut mesh uncut cut →
+    IsChosenCut mesh tree cotree trim cut →
+    IsOpenedBy mesh (Uncut uncut) origins faces → AreInOrder mesh origins faces →
+    IsChosenOpening mesh tree cotree trim origins faces
+
+-- there is one chosen cut
+abbrev pub ChosenCutsAreOne : Type 0
+ChosenCutsAreOne =
+    (mesh : Mesh) (tree cotree : Tree) (trim : Bool) (cut other : Chain) → IsSurface mesh →
+    AreDivided mesh tree cotree → IsChosenCut mesh tree cotree trim cut →
+    IsChosenCut mesh tree cotree trim other →
+    SameEdges mesh cut other
+
+-- the chosen opening is an opening: a disc with every face once
+abbrev pub ChosenAreOpenings : Type 0
+ChosenAreOpenings =
+    (mesh : Mesh) (tree cotree : Tree) (trim : Bool) (origins : List ℕ) (faces : List (List ℕ)) →
+    IsSurface mesh →
+    AreDivided mesh tree cotree → IsChosenOpening mesh tree cotree trim origins faces →
+    IsOpening mesh origins faces
+
+-- there is one chosen opening
+abbrev pub ChosenAreOne : Type 0
+ChosenAreOne =
+    (mesh : Mesh) (tree cotree : Tree) (trim : Bool) (origins others : List ℕ)
+    (faces other_faces : List (List ℕ)) →
+    IsSurface mesh → AreDivided mesh tree cotree → IsChosenOpening mesh tree cotree trim origins faces →
+    IsChosenOpening mesh tree cotree trim others other_faces → (origins ≡ others) × (faces ≡ other_faces)
+
+-- the full one has 2 (E − F + 1) copies
+abbrev pub FullOpeningsAreCounted : Type 0
+FullOpeningsAreCounted =
+    (mesh : Mesh) (tree cotree : Tree) (origins : List ℕ) (faces : List (List ℕ)) → IsSurface mesh →
+    AreDivided mesh tree cotree → IsChosenOpening mesh tree cotree false origins faces →
+    length origins + (face_count mesh + face_count mesh) ≡ edge_count mesh + edge_count mesh + 2
+
+-- each surface has its chosen opening
+abbrev pub ChosenExist : Type 0
+ChosenExist =
+    (mesh : Mesh) (tree cotree : Tree) (trim : Bool) → IsSurface mesh → AreDivided mesh tree cotree →
+    (origins : List ℕ) × (faces : List (List ℕ)) × IsChosenOpening mesh tree cotree trim origins faces
