@@ -6,7 +6,7 @@ ghost use Rattle.surf_complex.specs.Surface.{face_count, face_at, edge_count, en
 ghost use Rattle.surf_mesh.specs.Sides.{side_count};
 ghost use Rattle.surf_mesh.specs.EdgeTable.{IsEdgeTable};
 ghost use Rattle.surf_mesh.specs.Pairs.{HasTwoFaces};
-ghost use Rattle.surf_mesh.specs.Ring.{IsRing, AreEdgesAt, GoBetween, AreAllRings};
+ghost use Rattle.surf_mesh.specs.Ring.{BeginsAt, IsRing, AreEdgesAt, GoBetween, AreAllRings};
 ghost use Rattle.surf_mesh.specs.Half.{first_side, IsFaceOf, IsEdgeOf, IsMate, AreAllMates};
 
 use crate::Soup;
@@ -219,6 +219,15 @@ impl HalfMesh {
         self.mate[s.index()]
     }
 
+    /// The vertex at which a side begins.
+    pub fn tail(&self, s: SideId) -> VertexId
+        requires { s < side_count self.now }
+        ensures { BeginsAt self.now result s }
+    {
+        self.faces.items()[s.index()]
+    }
+
+    /// The face of a side.
     pub fn face_of(&self, s: SideId) -> FaceId
         requires { s < side_count self.now }
         ensures { IsFaceOf self.now s result }
@@ -226,6 +235,7 @@ impl HalfMesh {
         self.table.face_of[s.index()]
     }
 
+    /// The edge of a side.
     pub fn edge_of(&self, s: SideId) -> EdgeId
         requires { s < side_count self.now }
         ensures { IsEdgeOf self.now s result }
@@ -253,7 +263,7 @@ impl HalfMesh {
         )
     }
 
-    /// The edge between two vertices.
+    /// The edge between two vertices; none exactly where the pair is no edge.
     pub fn find_edge(&self, u: VertexId, v: VertexId) -> Option<EdgeId>
         ensures { MatchOption result (among (pair u v) (edges self.now) ≡ false) (λ e. (e < edge_count self.now) × (ends self.now e ≡ pair u v)) }
     {
