@@ -1,0 +1,5 @@
+mod First
+pub mod Cuts
+mod Digits
+pub mod Words
+pub mod Writing

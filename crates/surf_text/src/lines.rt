@@ -1,0 +1,67 @@
+//! A walk over the lines of a text.
+ghost use Rattle.std.specs.Prelude.{◌≡◌, ◌<◌, [], ◌∷◌, length, MatchOption};
+ghost use Rattle.surf_text.specs.Text.{lines_of};
+ghost use Rattle.surf_text.specs.Walks.{text_line};
+
+use crate::places::{before_comment, split_line, trim};
+use std::marker::Model;
+
+/// A line that has a token: its number in the text, counted from 1, and the slice of the text from its first
+/// token's first byte to its last token's last byte.
+#[derive(Clone, Copy, Debug)]
+pub struct Line<'a> {
+    pub number: u32,
+    pub bytes: &'a [u8],
+}
+
+/// A walk over the lines that have a token, seen as the list of those to come.
+#[derive(Drop)]
+pub struct Lines<'a> {
+    rest: Option<&'a [u8]>,
+    number: u32,
+}
+
+impl<'a> Model for Lines<'a> {
+    ghost use Rattle.std.specs.Prelude.{List, ◌+◌, ◌≤◌, length};
+    ghost use Rattle.surf_text.specs.Text.{TextLine, numbered_from, is_line_end};
+    ghost use Rattle.surf_text.specs.Walks.{parts_of};
+
+    ghost Value = { List TextLine };
+
+    ghost view = { λ s. numbered_from (s.number + 1) (parts_of is_line_end s.rest) };
+
+    ghost invariant = { λ s. s.number + length (parts_of is_line_end s.rest) ≤ 4294967295 };
+}
+
+impl<'a> Lines<'a> {
+    /// A walk over all lines of a text that have a token. The text is shorter than 2^32 − 1 bytes, so that
+    /// line numbers fit.
+    pub fn over(text: &'a [u8]) -> Lines<'a>
+        requires short { length text.now < 4294967295 }
+        ensures lines { result ≡ lines_of text.now }
+    {
+        Lines {
+            rest: Some(text),
+            number: 0,
+        }
+    }
+
+    /// The next line that has a token. None where no later line has one.
+    pub fn next_line(&mut self) -> Option<Line<'a>>
+        ensures next { MatchOption result ((self.old ≡ []) × (self.new ≡ [])) (λ line. self.old ≡ text_line line ∷ self.new) }
+    {
+        while let Some(rest) = self.rest {
+            let (line, behind) = split_line(rest);
+            self.rest = behind;
+            self.number += 1;
+            let bytes = trim(before_comment(line));
+            if !bytes.is_empty() {
+                return Some(Line {
+                    number: self.number,
+                    bytes,
+                });
+            }
+        }
+        None
+    }
+}

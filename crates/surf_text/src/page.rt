@@ -1,0 +1,91 @@
+//! A page on which a text is made.
+ghost use Rattle.std.specs.Prelude.{◌≡◌, ◌<◌, ◌+◌, [], length, decimal, IsErrOf, OnErr};
+ghost use Rattle.surf_text.specs.Pages.{grown, Puts};
+
+use itoa::Buffer;
+use std::alloc::{AllocError, Global};
+use std::marker::Model;
+use thiserror::Error;
+
+/// Why a text was not put on a page.
+#[derive(Clone, Copy, Debug, PartialEq, Eq, Error)]
+pub enum PageFault {
+    /// The page would hold more than it may.
+    #[error("the page is full")]
+    Full,
+    /// There was no memory.
+    #[error("no memory")]
+    Memory,
+}
+
+impl From<AllocError> for PageFault {
+    ghost use Rattle.std.specs.Prelude.{◌≡◌};
+    ghost use Rattle.surf_text.specs.declared.page.PageFault.TheVariants.{Memory};
+
+    ghost from_gives = { λ _ e. e ≡ Memory };
+
+    fn from(_: AllocError) -> PageFault {
+        PageFault::Memory
+    }
+}
+
+/// A text that grows up to `most` bytes, seen as its bytes and `most`.
+#[derive(Drop)]
+pub struct Page {
+    bytes: Vec<u8>,
+    most: u64,
+}
+
+impl Model for Page {
+    ghost use Rattle.std.specs.Prelude.{◌≤◌, length};
+    ghost use Rattle.surf_text.specs.Pages.{PageState};
+
+    ghost Value = { PageState };
+
+    ghost view = { λ s. record { bytes = s.bytes.items; most = s.most } };
+
+    ghost invariant = { λ s. length s.bytes.items ≤ s.most };
+}
+
+impl Page {
+    /// An empty page. It takes no memory yet.
+    pub fn make(alloc: Global, most: u64) -> Page
+        ensures empty { result ≡ record { bytes = []; most = most } }
+    {
+        Page {
+            bytes: Vec::new(alloc),
+            most,
+        }
+    }
+
+    /// Puts bytes at the end. Refuses with `Full` where the page would hold more than `most`, which is tested
+    /// first; then with `Memory` where there is none. After a refusal the page is unchanged.
+    pub fn push_bytes(&mut self, bytes: &[u8]) -> Result<(), PageFault>
+        ensures puts { Puts self.old self.new bytes.now result }
+        ensures full { self.old.most < length self.old.bytes + length bytes.now → IsErrOf result PageFault.Full }
+        ensures unchanged { OnErr result (self.new ≡ self.old) }
+    {
+        if bytes.len() as u64 > self.most - self.bytes.len() as u64 {
+            return Err(PageFault::Full);
+        }
+        self.bytes.extend_from_slice(bytes)?;
+        Ok(())
+    }
+
+    /// Puts the decimal text of a number at the end, and refuses as `push_bytes` does.
+    pub fn push_whole(&mut self, n: u128) -> Result<(), PageFault>
+        ensures puts { Puts self.old self.new (decimal n) result }
+        ensures full { self.old.most < length self.old.bytes + length (decimal n) → IsErrOf result PageFault.Full }
+        ensures unchanged { OnErr result (self.new ≡ self.old) }
+    {
+        let mut buffer = Buffer::new();
+        self.push_bytes(buffer.format(n).as_bytes())
+    }
+
+    /// What it holds.
+    pub fn bytes(&self) -> &[u8]
+        ensures bytes { result.now ≡ self.now.bytes }
+    {
+        &self.bytes
+    }
+}
