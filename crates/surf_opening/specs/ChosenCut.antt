@@ -1,14 +1,12 @@
 -- The cut that is chosen along a tree of the vertices and a tree of the faces, and the opening along it.
 --
--- How a program meets them. It keeps for each edge whether it is cut, at first by `full_cut`, and a list of
--- the edges
--- that are not (`TellsCut`). `CotreesAreDualTrees` gives the first list and `FullCutsAreTold` starts the
--- loop. Each step
--- of trimming, at the greatest vertex with exactly one cut edge while more than two edges are cut, is
--- `TrimmingByGreatestGoesOn`, and where the loop ends `TrimmedCutsAreChosen` says that the cut is the chosen
--- one (for the
--- full cut `FullCutsAreChosen`). With copies that are opened along the list (`LabelsAreCopies`) and in order
--- (`AreInOrder`), `OpenedAreChosen` makes the whole an `IsChosenOpening`.
+-- How a program meets them. It keeps for each edge whether it is cut, at first by `full_cut`, and a list
+-- of the edges that are not (`TellsCut`). `CotreesAreDualTrees` gives the first list and
+-- `FullCutsAreTold` starts the loop. Each step of trimming, at the greatest vertex with exactly one cut
+-- edge while more than two edges are cut, is `TrimmingByGreatestGoesOn`, and where the loop ends
+-- `TrimmedCutsAreChosen` says that the cut is the chosen one (for the full cut `FullCutsAreChosen`).
+-- With copies that are opened along the list (`LabelsAreCopies`) and in order (`AreInOrder`),
+-- `OpenedAreChosen` makes the whole an `IsChosenOpening`.
 use Rattle.std.specs.Prelude.{◌≡◌, ◌≢◌, ℕ, ◌+◌, ◌<◌, Bool, IsTrue, IsFalse, MatchBool, ◌||◌, ◌↔◌, ◌⊎◌, List, ◌∷◌, All, AllPairs}
 use Rattle.surf_z2.specs.Space.{Chain}
 use Rattle.surf_homology.specs.Cells.{IsSplit}
@@ -48,8 +46,8 @@ HasNoEnd mesh cut = (v : ℕ) → v < mesh.vertices → cut_degree mesh cut v �
 abbrev pub IsWithin : Mesh → Chain → Chain → Type 0
 IsWithin mesh cut full = (e : ℕ) → e < edge_count mesh → IsTrue (cut e) → IsTrue (full e)
 
--- the largest of the sets of edges of the full cut in which no vertex has exactly one edge: it has all edges
--- of each
+-- the largest of the sets of edges of the full cut in which no vertex has exactly one edge: it has all
+-- edges of each
 pub record IsLargestEndless (mesh : Mesh) (full cut : Chain) : Type 0 where
   pub within : IsWithin mesh cut full
   pub no_end : HasNoEnd mesh cut
@@ -65,8 +63,8 @@ pub record IsTreePath (mesh : Mesh) (tree : Tree) (path : List ℕ) : Type 0 whe
   pub along : All (IsTreeEdge mesh tree) (steps path)
   pub distinct : AllPairs (λ u v. u ≢ v) path
 
--- The path whose first two edges are named. Where 0 1 is an edge of the tree, the path begins with it, in the
--- direction that leads on to vertex 2. Else it leads from 0 to 1.
+-- The path whose first two edges are named. Where 0 1 is an edge of the tree, the path begins with it,
+-- in the direction that leads on to vertex 2. Else it leads from 0 to 1.
 pub record IsNamedPath (mesh : Mesh) (tree : Tree) (x y : ℕ) (rest : List ℕ) : Type 0 where
   pub path : IsTreePath mesh tree (x ∷ y ∷ rest)
   pub named : (IsTreeEdge mesh tree (0, 1) × (pair x y ≡ (0, 1)) × (last (y ∷ rest) ≡ 2))
@@ -82,8 +80,8 @@ pub record AreTheTwo (mesh : Mesh) (tree : Tree) (cut : Chain) : Type 0 where
   pub exactly : (e : ℕ) → e < edge_count mesh →
       IsTrue (cut e) ↔ ((ends mesh e ≡ pair x y) ⊎ (ends mesh e ≡ pair y z))
 
--- the trimmed cut: where χ is below 2 the largest set without a vertex that has exactly one edge, where it is
--- 2 two edges
+-- the trimmed cut: where χ is below 2 the largest set without a vertex that has exactly one edge, where
+-- it is 2 two edges
 pub record IsTrimmedCut (mesh : Mesh) (tree cotree : Tree) (cut : Chain) : Type 0 where
   pub below_two : mesh.vertices + face_count mesh < edge_count mesh + 2 →
       IsLargestEndless mesh (full_cut mesh tree cotree) cut

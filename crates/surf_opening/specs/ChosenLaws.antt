@@ -28,9 +28,8 @@ TrimmedCutsAreChosen =
     (cut_count mesh cut ≤ 2) ⊎ ((v : ℕ) → v < mesh.vertices → cut_degree mesh cut v ≢ 1) →
     IsChosenCut mesh tree cotree true cut
 
--- faces over copies that are opened along the uncut edges of a list, in order, are the chosen opening where
--- the list
--- tells the chosen cut
+-- faces over copies that are opened along the uncut edges of a list, in order, are the chosen opening
+-- where the list tells the chosen cut
 abbrev pub OpenedAreChosen : Type 0
 OpenedAreChosen =
     (mesh : Mesh) (tree cotree : Tree) (trim : Bool) (list uncut : List (ℕ × ℕ)) (cut : Chain)
