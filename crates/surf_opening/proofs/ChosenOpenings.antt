@@ -6,17 +6,18 @@ use Rattle.surf_homology.specs.Trees.{Tree}
 use Rattle.surf_complex.specs.Joined.{Joined, here, over}
 use Rattle.surf_complex.specs.Mesh.{Mesh}
 use Rattle.surf_complex.specs.Surface.{IsSurface}
-use Rattle.surf_opening.specs.Laws.{TellsCut}
+use Rattle.surf_opening.specs.Laws.{TellsCut, OpeningsInOrderExist}
 use Rattle.surf_opening.specs.Named.{IsTrimmedByGreatest, whole}
 use Rattle.surf_opening.specs.Opening.{corner_of, ShareUncutAt, IsOpenedBy, IsOpenedAlong}
 use Rattle.surf_opening.specs.Side.{Side}
 use Rattle.surf_opening.specs.Uncut.{AreEdges}
 use Rattle.surf_opening.specs.ChosenCut.{AreDivided, ListsCotree, full_cut, SameEdges, IsChosenCut, IsChosenOpening}
-use Rattle.surf_opening.specs.ChosenLaws.{FullCutsAreChosen, TrimmedCutsAreChosen, OpenedAreChosen, ChosenCutsAreOne, ChosenAreOpenings, ChosenAreOne, FullOpeningsAreCounted}
+use Rattle.surf_opening.specs.ChosenLaws.{FullCutsAreChosen, TrimmedCutsAreChosen, OpenedAreChosen, ChosenCutsAreOne, ChosenAreOpenings, ChosenAreOne, FullOpeningsAreCounted, ChosenExist}
 use Rattle.surf_opening.proofs.Chosen.{list_told, same_where, trimmed_is_chosen, chosen_is_trimmed}
 use Rattle.surf_opening.proofs.Cotrees.{dual_tree}
 use Rattle.surf_opening.proofs.CutLists.{uncut_told, same_told}
 use Rattle.surf_opening.proofs.FullCut.{full_copies}
+use Rattle.surf_opening.proofs.InOrder.{opening_in_order}
 use Rattle.surf_opening.proofs.Joins.{joined_map}
 use Rattle.surf_opening.proofs.LawProofs.{by_list}
 use Rattle.surf_opening.proofs.NamedEdges.{forget}
@@ -143,3 +144,18 @@ pub full_openings_are_counted : FullOpeningsAreCounted
 unfolding leaves
 full_openings_are_counted mesh tree cotree origins faces surface split o =
     full_copies surface (leaves surface split false).lists.grows (chosen_along surface split o)
+
+pub openings_in_order_exist : OpeningsInOrderExist
+openings_in_order_exist mesh tree uncut surface dual trimmed =
+    let o = opening_in_order surface dual trimmed in
+    (o.0, o.1, by_list o.2, o.3)
+
+pub chosen_exist : ChosenExist
+chosen_exist mesh tree cotree trim surface split =
+    let l = leaves surface split trim in
+    let o = opening_in_order surface l.lists.grows (forget l.trimmed) in (
+      o.0,
+      o.1,
+      opened_are_chosen mesh tree cotree trim l.list l.uncut l.some_cut o.0 o.1 surface l.lists l.trimmed
+          l.some_told l.some_chosen (by_list o.2) o.3,
+    )

@@ -1,4 +1,4 @@
-use Rattle.surf_opening.proofs.ChosenOpenings.{full_cuts_are_chosen, trimmed_cuts_are_chosen, opened_are_chosen, chosen_cuts_are_one, chosen_are_openings, chosen_are_one, full_openings_are_counted}
+use Rattle.surf_opening.proofs.ChosenOpenings.{full_cuts_are_chosen, trimmed_cuts_are_chosen, opened_are_chosen, chosen_cuts_are_one, chosen_are_openings, chosen_are_one, full_openings_are_counted, chosen_exist}
 use Rattle.surf_opening.proofs.law_of_chosen_cuts.Goals as goal
 
 pub returns : goal.returns
@@ -10,4 +10,5 @@ returns c = record {
   discs = chosen_are_openings;
   one = chosen_are_one;
   copies = full_openings_are_counted;
+  exist = chosen_exist;
 }
