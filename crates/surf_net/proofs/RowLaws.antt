@@ -87,6 +87,13 @@ module _ (mesh : Mesh) (is_mesh : IsMesh mesh) (v : ℕ) (list : List ℕ) (at :
       below_both : (a b n u : ℕ) → a < n → b < n → other_of (a, b) u < n
       below_both a b n u la lb = elim (cases_eq a u) [ inl same ↦ rw (eq-eqb a u same) lb | inr ne ↦ rw (ne_eqb a u ne) la ]
 
+-- the link of an entry of a row
+pub link_of_edge : (mesh : Mesh) (v k e : ℕ) (list : List ℕ) → k < length list → e ≡ get_or list k e → link_at (map (edge_link mesh v) list) k ≡ (other_of (ends mesh e) v, e)
+link_of_edge mesh v k e list l is = get_or-map (edge_link mesh v) list k e (0, 0) l ∙ ap (edge_link mesh v) (sym is)
+
+pub link_of_side : (mesh : Mesh) (k s : ℕ) (list : List ℕ) → k < length list → s ≡ get_or list k s → link_at (map (side_link mesh) list) k ≡ side_link mesh s
+link_of_side mesh k s list l is = get_or-map (side_link mesh) list k s (0, 0) l ∙ ap (side_link mesh) (sym is)
+
 -- the edge of a side
 pub side_edge_is : (mesh : Mesh) (s e : ℕ) → IsEdgeOf mesh s e → e ≡ side_edge mesh s
 side_edge_is mesh s e h = sym (place_of-ends mesh e h.is_edge) ∙ ap (λ p. place_of p (edges mesh)) h.its_ends

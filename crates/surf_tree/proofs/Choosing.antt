@@ -1,0 +1,23 @@
+-- The least tight neighbour, link by link.
+use Rattle.std.proofs.Common.{ℕ, ◌<◌, ◌≤◌, ◌≡◌, ◌+◌, ap, ◌∙◌, subst, sym, arith, inl, inr, List, length, true}
+use Rattle.std.proofs.lemmas.Bool.{cases_eq}
+use Rattle.surf_homology.specs.Graphs.{Graph, joins}
+use Rattle.surf_net.specs.Rows.{link_at, IsRow}
+use Rattle.surf_tree.specs.Searches.{IsTight}
+
+module _ (g : Graph) (len dist : ℕ → ℕ) (v : ℕ) (links : List (ℕ × ℕ)) (row : IsRow g v links) (n w e : ℕ) (in_row : n < length links) (is : link_at links n ≡ (w, e)) where
+  pub chosen_in : (w < g.nodes) × (e < g.edges) × (joins g v w e ≡ true)
+  chosen_in = subst (λ (x : ℕ × ℕ). (x.0 < g.nodes) × (x.1 < g.edges) × (joins g v x.0 x.1 ≡ true)) is (row.neighbour_in n in_row, row.edge_in n in_row, row.joined n in_row)
+
+  pub chosen_tight : dist w + len e ≡ dist v → (w < g.nodes) × IsTight g len dist v w e
+  chosen_tight h = (chosen_in.0, record { edge_in = chosen_in.1; joined = chosen_in.2; is = h })
+
+  pub chosen_least : (old new : ℕ) → ((i : ℕ) → i < n → dist (link_at links i).0 + len (link_at links i).1 ≡ dist v → old ≤ (link_at links i).0) → new ≤ old →
+      (dist w + len e ≡ dist v → new ≤ w) → (i : ℕ) → i < n + 1 → dist (link_at links i).0 + len (link_at links i).1 ≡ dist v → new ≤ (link_at links i).0
+  chosen_least old new before le here i l tight = elim (cases_eq i n) [
+    | inl same ↦
+        let at : link_at links i ≡ (w, e) = ap (link_at links) same ∙ is in
+        let now : new ≤ w = here (subst (λ (x : ℕ × ℕ). dist x.0 + len x.1 ≡ dist v) at tight) in
+        subst (λ (x : ℕ × ℕ). new ≤ x.0) (sym at) now
+    | inr ne ↦ let was : old ≤ (link_at links i).0 = before i (omega arith) tight in omega (arith, was, le)
+  ]

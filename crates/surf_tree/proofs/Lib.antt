@@ -1,0 +1,6 @@
+pub mod Settling
+pub mod Offering
+pub mod Growing
+pub mod LengthLaws
+pub mod Choosing
+pub mod MeshTrees

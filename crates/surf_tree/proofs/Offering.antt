@@ -1,0 +1,216 @@
+use Rattle.std.proofs.Common.{ℕ, suc, ◌<◌, ◌≤◌, ◌≡◌, ◌≢◌, ◌+◌, ◌⊎◌, refl, sym, ap, ◌∙◌, subst, replicate, ◌*◌, arith, inl, inr, List, length, set, Option, Some, None, Bool, true, false, cond, not, ◌&&◌, eqb, ltb, eq-eqb, ne_eqb, get_or-set_same, get_or-set_other}
+use Rattle.std.proofs.Math.ListN.{length-set}
+use Rattle.std.proofs.lemmas.Bool.{cases_eq, cases_lt, cases_Bool, lt-ltb, le-ltb}
+use Rattle.std.proofs.lemmas.Bool.Decides.{nat_tests}
+use Rattle.surf_homology.specs.Graphs.{Graph, joins}
+use Rattle.std.proofs.lemmas.List.{get_or-replicate, get_or_past}
+use Rattle.std.proofs.Math.ListN.{length-replicate}
+use Rattle.surf_z2.specs.Parity.{count_below}
+use Rattle.surf_z2.proofs.Sums.{count_below-without, count_below-same, count_below-all}
+use Rattle.surf_homology.proofs.Loops.{joins_turned}
+use Rattle.surf_heap.specs.Entries.{Entries, entry_of, lesser, precedes, IsLeastEntry}
+use Rattle.surf_net.specs.Rows.{link_at, IsRow}
+use Rattle.surf_tree.specs.Searches.{at}
+use Rattle.surf_lengths.specs.Lengths.{longest}
+use Rattle.surf_tree.specs.Searches.{far, HasKey, IsSearch, IsOffered, IsOfferedSome}
+use Rattle.surf_tree.proofs.Settling.{settle_one}
+
+first_of : Option (ℕ × ℕ) → ℕ
+first_of None = 0
+first_of (Some x) = x.0
+
+-- the lesser pair is the old one or has the new key
+lesser_from : (o : Option (ℕ × ℕ)) (key k t : ℕ) → ◌≡◌ {A = Option (ℕ × ℕ)} (Some (lesser o key 0)) (Some (k, t)) → (◌≡◌ {A = Option (ℕ × ℕ)} o (Some (k, t))) ⊎ (k ≡ key)
+unfolding first_of
+lesser_from None key k t e = inr (sym (ap first_of e))
+lesser_from (Some old) key k t e = split (precedes key 0 old) e
+  where
+    split : (b : Bool) → ◌≡◌ {A = Option (ℕ × ℕ)} (Some (cond b (key, 0) old)) (Some (k, t)) → (◌≡◌ {A = Option (ℕ × ℕ)} (Some old) (Some (k, t))) ⊎ (k ≡ key)
+    split true h = inr (sym (ap first_of h))
+    split false h = inl h
+
+lesser_pair : (key k t : ℕ) → ((lesser (Some (k, t)) key 0).0 ≤ key) × ((lesser (Some (k, t)) key 0).0 ≤ k)
+lesser_pair key k t = elim (cases_lt key k) [
+  | inl l ↦ rw (lt-ltb key k l) (omega arith, omega arith)
+  | inr le ↦ elim (cases_Bool (eqb key k && ltb 0 t)) [
+    | inl yes_t ↦ let same : key ≡ k = grind (arith, nat_tests) in rw (le-ltb key k le, yes_t) (omega arith, omega arith)
+    | inr no_t ↦ rw (le-ltb key k le, no_t) (omega arith, omega arith)
+  ]
+]
+
+lesser_key : (o : Option (ℕ × ℕ)) (key : ℕ) → (lesser o key 0).0 ≤ key
+lesser_key None key = omega arith
+lesser_key (Some (k, t)) key = (lesser_pair key k t).0
+
+module _ (old : Entries) (w key : ℕ) (lw : w < length old) where
+  offer_came : (q k t : ℕ) → entry_of (set old w (Some (lesser (entry_of old w) key 0))) q ≡ Some (k, t) → (entry_of old q ≡ Some (k, t)) ⊎ ((q ≡ w) × (k ≡ key))
+  offer_came q k t h = elim (cases_eq q w) [
+    | inl same ↦
+        let here : ◌≡◌ {A = Option (ℕ × ℕ)} (Some (lesser (entry_of old w) key 0)) (Some (k, t)) = sym (get_or-set_same old w (Some (lesser (entry_of old w) key 0)) None lw) ∙ (ap (entry_of (set old w (Some (lesser (entry_of old w) key 0)))) (sym same) ∙ h) in
+        elim (lesser_from (entry_of old w) key k t here) [
+          | inl was ↦ inl (ap (entry_of old) same ∙ was)
+          | inr is ↦ inr (same, is)
+        ]
+    | inr ne ↦ inl (sym (get_or-set_other old w q (Some (lesser (entry_of old w) key 0)) None ne) ∙ h)
+  ]
+
+  offer_here : HasKey (set old w (Some (lesser (entry_of old w) key 0))) w key
+  offer_here = record {
+    key = (lesser (entry_of old w) key 0).0;
+    tie = (lesser (entry_of old w) key 0).1;
+    entry = get_or-set_same old w (Some (lesser (entry_of old w) key 0)) None lw;
+    bound = lesser_key (entry_of old w) key;
+  }
+
+  offer_kept : (q x : ℕ) → HasKey old q x → HasKey (set old w (Some (lesser (entry_of old w) key 0))) q x
+  offer_kept q x h = elim (cases_eq q w) [
+    | inl same ↦
+        let was : entry_of old w ≡ Some (h.key, h.tie) = ap (entry_of old) (sym same) ∙ h.entry in
+        let b : h.key ≤ x = h.bound in
+        let less : (lesser (entry_of old w) key 0).0 ≤ h.key = rw was (lesser_pair key h.key h.tie).1 in
+        record {
+          key = (lesser (entry_of old w) key 0).0;
+          tie = (lesser (entry_of old w) key 0).1;
+          entry = ap (entry_of (set old w (Some (lesser (entry_of old w) key 0)))) same ∙ get_or-set_same old w (Some (lesser (entry_of old w) key 0)) None lw;
+          bound = omega arith;
+        }
+    | inr ne ↦ record { key = h.key; tie = h.tie; entry = get_or-set_other old w q (Some (lesser (entry_of old w) key 0)) None ne ∙ h.entry; bound = h.bound }
+  ]
+
+module _ (g : Graph) (len dist : ℕ → ℕ) (v d : ℕ) (links : List (ℕ × ℕ)) (row : IsRow g v links) where
+  abbrev pub neighbour : ℕ → ℕ
+  neighbour k = (link_at links k).0
+
+  abbrev pub number : ℕ → ℕ
+  number k = (link_at links k).1
+
+  pub offered_none : (heap : Entries) → IsOfferedSome g len dist v d heap heap neighbour number 0
+  offered_none heap = record {
+    same_length = refl;
+    came = λ w k t h. inl h;
+    kept = λ w k t h. record { key = k; tie = t; entry = h; bound = omega arith };
+    offered = λ i l f. absurd (omega arith);
+  }
+
+  module _ (old mid : Entries) (n : ℕ) (some : IsOfferedSome g len dist v d old mid neighbour number n) (ln : n < length links) where
+    pub offered_skip : dist (neighbour n) ≢ far → IsOfferedSome g len dist v d old mid neighbour number (n + 1)
+    offered_skip settled = record {
+      same_length = some.same_length;
+      came = some.came;
+      kept = some.kept;
+      offered = λ i l f. elim (cases_eq i n) [
+        | inl same ↦ absurd (settled (ap (λ j. dist (neighbour j)) (sym same) ∙ f))
+        | inr ne ↦ some.offered i (omega arith) f
+      ];
+    }
+
+    pub offered_more : (new : Entries) → dist (neighbour n) ≡ far → neighbour n < length mid → new ≡ set mid (neighbour n) (Some (lesser (entry_of mid (neighbour n)) (d + len (number n)) 0)) →
+        IsOfferedSome g len dist v d old new neighbour number (n + 1)
+    offered_more new free lw is =
+        let w = neighbour n in
+        let key = d + len (number n) in
+        rw is (record {
+          same_length = length-set mid w (Some (lesser (entry_of mid w) key 0)) ∙ some.same_length;
+          came = λ q k t h. elim (offer_came mid w key lw q k t h) [
+            | inl was ↦ some.came q k t was
+            | inr (same, k_is) ↦ inr (number n, row.edge_in n ln, rw same (row.neighbour_in n ln), rw same (joins_turned g v w (number n) (row.joined n ln)), rw same free, k_is)
+          ];
+          kept = λ q k t h. offer_kept mid w key lw q k (some.kept q k t h);
+          offered = λ i l f. elim (cases_eq i n) [
+            | inl same ↦ rw same (offer_here mid w key lw)
+            | inr ne ↦ offer_kept mid w key lw (neighbour i) (d + len (number i)) (some.offered i (omega arith) f)
+          ];
+        })
+
+    -- the same for a link with its two parts
+    module _ (w e : ℕ) (is : link_at links n ≡ (w, e)) where
+      pub link_in : (w < g.nodes) × (e < g.edges) × (joins g v w e ≡ true)
+      link_in = subst (λ (x : ℕ × ℕ). (x.0 < g.nodes) × (x.1 < g.edges) × (joins g v x.0 x.1 ≡ true)) is (row.neighbour_in n ln, row.edge_in n ln, row.joined n ln)
+
+      pub link_skip : dist w ≢ far → IsOfferedSome g len dist v d old mid neighbour number (n + 1)
+      link_skip settled = offered_skip (λ f. settled (ap (λ (x : ℕ × ℕ). dist x.0) (sym is) ∙ f))
+
+      pub link_more : (new : Entries) → dist w ≡ far → w < length mid → new ≡ set mid w (Some (lesser (entry_of mid w) (d + len e) 0)) → IsOfferedSome g len dist v d old new neighbour number (n + 1)
+      link_more new free lw made =
+          offered_more new (ap (λ (x : ℕ × ℕ). dist x.0) is ∙ free) (subst (λ (x : ℕ × ℕ). x.0 < length mid) (sym is) lw)
+          (subst (λ (x : ℕ × ℕ). new ≡ set mid x.0 (Some (lesser (entry_of mid x.0) (d + len x.1) 0))) (sym is) made)
+
+  pub offered_all : (old new : Entries) (n : ℕ) → length links ≤ n → IsOfferedSome g len dist v d old new neighbour number n → IsOffered g len dist v d old new
+  offered_all old new n all some = record {
+    same_length = some.same_length;
+    came = some.came;
+    kept = some.kept;
+    offered = λ w e le join f.
+        let (i, li, is) = row.whole e w le join in
+        let key : HasKey new (neighbour i) (d + len (number i)) = some.offered i (omega arith) (ap (λ (x : ℕ × ℕ). dist x.0) is ∙ f) in
+        subst (λ (x : ℕ × ℕ). HasKey new x.0 (d + len x.1)) is key;
+  }
+
+-- a node less is unsettled
+pub one_less : (n v d : ℕ) (dist : List ℕ) → v < n → n ≡ length dist → at dist v ≡ far → d ≢ far → count_below n (λ u. eqb (at dist u) far) ≡ suc (count_below n (λ u. eqb (at (set dist v d) u) far))
+one_less n v d dist lv all free near_end =
+    let lv2 : v < length dist = omega arith in
+    count_below-without n v (λ u. eqb (at dist u) far) lv (eq-eqb (at dist v) far free)
+    ∙ ap suc (count_below-same n (λ u. eqb (at dist u) far && not (eqb v u)) (λ u. eqb (at (set dist v d) u) far) (λ u lu. elim (cases_eq u v) [
+      | inl same ↦ rw (same, get_or-set_same dist v d 0 lv2, ne_eqb d far near_end, eq-eqb v v refl) (gone (eqb (at dist v) far))
+      | inr ne ↦ rw (get_or-set_other dist v u d 0 ne, ne_eqb v u (λ e. ne (sym e))) (stay (eqb (at dist u) far))
+    ]))
+  where
+    gone : (b : Bool) → (b && false) ≡ false
+    gone true = refl
+    gone false = refl
+
+    stay : (b : Bool) → (b && true) ≡ b
+    stay true = refl
+    stay false = refl
+
+pub all_free : (n : ℕ) (dist : List ℕ) → ((u : ℕ) → u < n → at dist u ≡ far) → count_below n (λ u. eqb (at dist u) far) ≡ n
+all_free n dist free = count_below-same n (λ u. eqb (at dist u) far) (λ u. true) (λ u l. eq-eqb (at dist u) far (free u l)) ∙ count_below-all n
+
+none_there : (n w : ℕ) → entry_of (replicate n None) w ≡ None
+none_there n w = elim (cases_lt w n) [
+  | inl l ↦ get_or-replicate n w None None l
+  | inr past ↦ get_or_past (replicate n None) w None (let e = length-replicate {A = Option (ℕ × ℕ)} n None in omega arith)
+]
+
+-- a cleared heap is offered its first node
+pub first_offer : (n base : ℕ) (cleared new : Entries) → base < n → cleared ≡ replicate n None → new ≡ set cleared base (Some (lesser (entry_of cleared base) 0 0)) →
+    (entry_of new base ≡ Some (0, 0)) × ((w : ℕ) → w ≢ base → entry_of new w ≡ None) × (length new ≡ n)
+first_offer n base cleared new l clear is =
+    let none = none_there n base in
+    let first : lesser (entry_of cleared base) 0 0 ≡ (0, 0) = ap (λ o. lesser o 0 0) (ap (λ h. entry_of h base) clear ∙ none) in
+    let there : new ≡ set (replicate n None) base (Some (0, 0)) = is ∙ (ap (λ x. set cleared base (Some x)) first ∙ ap (λ h. set h base (Some (0, 0))) clear) in
+    let long : length (replicate {A = Option (ℕ × ℕ)} n None) ≡ n = length-replicate {A = Option (ℕ × ℕ)} n None in (
+      ap (λ h. entry_of h base) there ∙ get_or-set_same (replicate n None) base (Some (0, 0)) None (rw long l),
+      (λ w ne. ap (λ h. entry_of h w) there ∙ (get_or-set_other (replicate n None) base w (Some (0, 0)) None ne ∙ none_there n w)),
+      ap length there ∙ (length-set (replicate n None) base (Some (0, 0)) ∙ long),
+    )
+
+-- one turn of a search
+module _ (g : Graph) (len : ℕ → ℕ) (base : ℕ) (small : g.nodes ≤ longest) (short : (e : ℕ) → len e ≤ longest) (dist : List ℕ) (heap : Entries) (last v k t : ℕ)
+    (long : length dist ≡ g.nodes) (s : IsSearch g len base (at dist) heap last (count_below g.nodes (λ u. eqb (at dist u) far))) (least : IsLeastEntry heap v k t) where
+  -- the node that is settled, and its distance, are in range
+  pub turn_inside : (v < g.nodes) × (k + longest ≤ g.nodes * longest)
+  turn_inside =
+      let o = s.outside v k t least.holds in
+      let some : count_below g.nodes (λ u. eqb (at dist u) far) ≡ suc (count_below g.nodes (λ u. eqb (at dist u) far && not (eqb v u))) = count_below-without g.nodes v (λ u. eqb (at dist u) far) o.within (eq-eqb (at dist v) far o.unsettled) in
+      let f : k + suc (count_below g.nodes (λ u. eqb (at dist u) far && not (eqb v u))) * longest ≤ g.nodes * longest = subst (λ n. k + n * longest ≤ g.nodes * longest) some o.fits in
+      (o.within, omega arith)
+
+  turn_less : (k ≢ far) × (count_below g.nodes (λ u. eqb (at dist u) far) ≡ suc (count_below g.nodes (λ u. eqb (at (set dist v k) u) far)))
+  turn_less =
+      let o = s.outside v k t least.holds in
+      let some : count_below g.nodes (λ u. eqb (at dist u) far) ≡ suc (count_below g.nodes (λ u. eqb (at dist u) far && not (eqb v u))) = count_below-without g.nodes v (λ u. eqb (at dist u) far) o.within (eq-eqb (at dist v) far o.unsettled) in
+      let f : k + suc (count_below g.nodes (λ u. eqb (at dist u) far && not (eqb v u))) * longest ≤ g.nodes * longest = subst (λ n. k + n * longest ≤ g.nodes * longest) some o.fits in
+      let ne : k ≢ far = omega arith in
+      (ne, one_less g.nodes v k dist o.within (sym long) o.unsettled ne)
+
+  pub turn_smaller : count_below g.nodes (λ u. eqb (at (set dist v k) u) far) < count_below g.nodes (λ u. eqb (at dist u) far)
+  turn_smaller = let e = turn_less.1 in omega arith
+
+  pub turn_keeps : (mid new : Entries) → mid ≡ set heap v None → IsOffered g len (at (set dist v k)) v k mid new → IsSearch g len base (at (set dist v k)) new k (count_below g.nodes (λ u. eqb (at (set dist v k) u) far))
+  turn_keeps mid new took done =
+      let o = s.outside v k t least.holds in
+      let lv : v < length dist = let l : v < g.nodes = o.within in omega arith in
+      settle_one g len base small short (at dist) (at (set dist v k)) heap mid new last (count_below g.nodes (λ u. eqb (at (set dist v k) u) far)) v k t
+      (subst (λ n. IsSearch g len base (at dist) heap last n) turn_less.1 s) least took (get_or-set_same dist v k 0 lv) (λ q ne. get_or-set_other dist v q k 0 ne) done

@@ -1,0 +1,9 @@
+use Rattle.std.proofs.Common.{ℕ, ◌<◌}
+use Rattle.surf_homology.specs.Cells.{primal}
+use Rattle.surf_complex.specs.Cells.{cells_of}
+use Rattle.surf_complex.specs.Walk.{edge_length}
+use Rattle.surf_tree.specs.Searches.{at, IsLeastTight}
+use Rattle.surf_tree.proofs.parents.set_parents.Given as goal
+
+abbrev pub invariant-loop-v : goal.invariant-loop-v
+invariant-loop-v l = (v : ℕ) → v < l.v → IsLeastTight (primal (cells_of l.mesh)) (edge_length l.lengths) (at l.distance) v (at l.parent v) (at l.up v)

@@ -1,0 +1,18 @@
+//! Trees of shortest walks.
+//!
+//! A desk holds the tables of one tree and takes all its memory when it is made, so that trees
+//! at many bases are grown on it one after the other. `grow` settles the vertices from the base
+//! on, the nearest first (E. W. Dijkstra, "A note on two problems in connexion with graphs",
+//! 1959), with a heap in place of his search for the nearest. The parent of a vertex is its least
+//! neighbour from which an edge leads to its distance, whatever the order in which the vertices
+//! were settled. So there is one tree for each base.
+//!
+//! Distances are below 2^62, since there are fewer than 2^30 vertices and no length has more
+//! than 32 bits.
+#![tactic(auto)]
+
+mod desk;
+mod parents;
+mod search;
+
+pub use desk::TreeDesk;
