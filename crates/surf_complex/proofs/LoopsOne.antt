@@ -46,13 +46,13 @@ any_same (suc n) p q same =
 
 module _ (mesh : Mesh) (lengths : List ℕ) (base : ℕ) (a b : Trees) (surface : IsSurface mesh)
     (positive : ArePositive mesh lengths) (x : AreChosenAt mesh lengths base a) (y : AreChosenAt mesh lengths base b) where
-  trees_same : SameTree mesh base a.tree b.tree
+  pub trees_same : SameTree mesh base a.tree b.tree
   trees_same = shortest_trees_are_one mesh lengths base a.tree b.tree surface positive x.shortest y.shortest
 
   roots_same : a.tree.root ≡ b.tree.root
   roots_same = x.shortest.root ∙ sym y.shortest.root
 
-  tree_is : IsTree (primal (cells_of mesh)) a.tree
+  pub tree_is : IsTree (primal (cells_of mesh)) a.tree
   tree_is = shortest_is_tree mesh lengths base a.tree surface positive x.shortest
 
   sizes_same : (e : ℕ) → e < edge_count mesh → loop_length mesh lengths a.tree e ≡ loop_length mesh lengths b.tree e
@@ -70,7 +70,7 @@ module _ (mesh : Mesh) (lengths : List ℕ) (base : ℕ) (a b : Trees) (surface 
     | inr ne ↦ rw (roots_same, trees_same.ups n l ne) refl
   ]
 
-  edges_same : (e : ℕ) → tree_edges mesh a.tree e ≡ tree_edges mesh b.tree e
+  pub edges_same : (e : ℕ) → tree_edges mesh a.tree e ≡ tree_edges mesh b.tree e
   edges_same e = any_same mesh.vertices (λ n. not (eqb n a.tree.root) && eqb (a.tree.up n) e)
       (λ n. not (eqb n b.tree.root) && eqb (b.tree.up n) e) (λ n l. ups_below e n l)
 
@@ -100,7 +100,7 @@ module _ (mesh : Mesh) (lengths : List ℕ) (base : ℕ) (a b : Trees) (surface 
           let known : precedes (loop_length mesh lengths b.tree) l c ≡ true = y.heaviest.heaviest l c l_in left_too on_way in
           rw (sizes_same l l_in, sizes_same c (faces_in l c l_in on_way)) known
 
-  cotrees_same : SameCotree mesh a.cotree b.cotree
+  pub cotrees_same : SameCotree mesh a.cotree b.cotree
   cotrees_same = cotrees_are_one mesh lengths a.tree a.cotree b.cotree surface tree_is x.heaviest over_first
 
   up_same : (steps n : ℕ) → n < mesh.vertices → way_up a.tree steps n ≡ way_up b.tree steps n

@@ -2,15 +2,23 @@
 use Rattle.std.specs.Prelude.{◌≡◌, ◌≢◌, ℕ, ◌+◌, ◌<◌, ◌≤◌, ◌⊎◌, Bool, true, false, List, length}
 use Rattle.surf_z2.specs.Space.{Chain}
 use Rattle.surf_homology.specs.Trees.{Tree}
+use Rattle.surf_complex.specs.Choice.{Trees, AreChosenAt}
 use Rattle.surf_complex.specs.Disc.{IsOpening}
 use Rattle.surf_complex.specs.Mesh.{Mesh}
 use Rattle.surf_complex.specs.Surface.{face_count, edge_count, IsSurface}
+use Rattle.surf_complex.specs.Walk.{ArePositive}
 use Rattle.surf_opening.specs.Laws.{TellsCut, cut_count, cut_degree, AreInOrder}
 use Rattle.surf_opening.specs.Named.{IsTrimmedByGreatest}
 use Rattle.surf_opening.specs.Opening.{IsOpenedBy}
 use Rattle.surf_opening.specs.Side.{Side}
 use Rattle.surf_opening.specs.Uncut.{Uncut}
 use Rattle.surf_opening.specs.ChosenCut.{AreDivided, ListsCotree, SameEdges, IsChosenCut, IsChosenOpening}
+
+-- the trees that are chosen at a base divide the edges, with the left edges
+abbrev pub ChosenTreesDivide : Type 0
+ChosenTreesDivide =
+    (mesh : Mesh) (lengths : List ℕ) (base : ℕ) (trees : Trees) → IsSurface mesh → ArePositive mesh lengths →
+    AreChosenAt mesh lengths base trees → AreDivided mesh trees.tree trees.cotree
 
 -- at first, the edges outside the tree of faces are the full cut
 abbrev pub FullCutsAreChosen : Type 0
@@ -76,3 +84,12 @@ abbrev pub ChosenExist : Type 0
 ChosenExist =
     (mesh : Mesh) (tree cotree : Tree) (trim : Bool) → IsSurface mesh → AreDivided mesh tree cotree →
     (origins : List ℕ) × (faces : List (List ℕ)) × IsChosenOpening mesh tree cotree trim origins faces
+
+-- the chosen opening at a base is one, whichever trees show it
+abbrev pub OpeningsAtAreOne : Type 0
+OpeningsAtAreOne =
+    (mesh : Mesh) (lengths : List ℕ) (base : ℕ) (a b : Trees) (trim : Bool) (origins others : List ℕ)
+    (faces other_faces : List (List ℕ)) → IsSurface mesh → ArePositive mesh lengths →
+    AreChosenAt mesh lengths base a → AreChosenAt mesh lengths base b →
+    IsChosenOpening mesh a.tree a.cotree trim origins faces →
+    IsChosenOpening mesh b.tree b.cotree trim others other_faces → (origins ≡ others) × (faces ≡ other_faces)
