@@ -1,5 +1,5 @@
 //! A page on which a text is made.
-ghost use Rattle.std.specs.Prelude.{◌≡◌, ◌<◌, ◌+◌, [], length, decimal, IsErrOf, OnErr};
+ghost use Rattle.std.specs.Prelude.{◌≡◌, ◌<◌, ◌≤◌, ◌+◌, [], length, decimal, IsErrOf, OnErr};
 ghost use Rattle.surf_text.specs.Pages.{grown, Puts};
 
 use itoa::Buffer;
@@ -87,5 +87,14 @@ impl Page {
         ensures bytes { result.now ≡ self.now.bytes }
     {
         &self.bytes
+    }
+
+    /// What it holds, taken out of it.
+    pub fn into_bytes(self) -> Vec<u8>
+        ensures bytes { result.items ≡ self.bytes }
+        ensures within { length result.items ≤ self.most }
+    {
+        let Page { bytes, most: _ } = self;
+        bytes
     }
 }
