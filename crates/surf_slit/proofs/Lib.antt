@@ -1,0 +1,5 @@
+pub mod Runs
+pub mod Fans
+pub mod Turned
+pub mod Steps
+pub mod VertexLabels

@@ -1,0 +1,10 @@
+use Rattle.std.proofs.Common.{◌≡◌, ℕ, ◌<◌, length, get_or}
+use Rattle.surf_mesh.specs.Sides.{side_count}
+use Rattle.surf_slit.specs.Labels.{corner_at}
+use Rattle.surf_slit.proofs.slit.Slit.start.Given as goal
+
+abbrev pub invariant-loop-v : goal.invariant-loop-v
+invariant-loop-v l = record {
+  size : length l.labels.items ≡ side_count l.mesh;
+  by_vertex : (s : ℕ) → s < side_count l.mesh → corner_at l.mesh s < l.v → get_or l.labels.items s 0 ≡ corner_at l.mesh s;
+}

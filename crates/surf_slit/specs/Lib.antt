@@ -1,0 +1,4 @@
+pub mod Link
+pub mod Labels
+pub mod Place
+pub mod Slit
