@@ -57,6 +57,10 @@ abbrev pub behind_words : ℕ → List ℕ → List ℕ
 behind_words zero bytes = bytes
 behind_words (suc n) bytes = behind_words n (behind_word bytes)
 
+-- What stands on a line behind so many tokens, from the first byte of the next token to the last of the last.
+abbrev pub rest_after : ℕ → List ℕ → List ℕ
+rest_after n line = behind_words n (trimmed (uncommented line))
+
 -- a line that has a token: its number, and its bytes from the first token's first to the last token's last
 pub record TextLine : Type 0 where
   pub number : ℕ

@@ -1,0 +1,7 @@
+pub mod Corners
+pub mod Repeats
+pub mod Marks
+pub mod VertexLines
+pub mod FaceLines
+pub mod CleanLines
+pub mod CleanParts

@@ -1,0 +1,5 @@
+pub mod Keywords
+pub mod Off
+pub mod Gives
+pub mod Clean
+pub mod Seen

@@ -1,0 +1,159 @@
+//! The face lines.
+ghost use Rattle.std.specs.Prelude.{◌≡◌, ◌≢◌, ◌<◌, ◌≤◌, ◌+◌, ◌^◌, ℕ, true, [], length, slice_index, take, drop, IfOk, IfNone, OnOk};
+ghost use Rattle.std.specs.List.{All, AllPairs};
+ghost use Rattle.surf_complex.specs.Mesh.{IsFace};
+ghost use Rattle.surf_mesh.specs.Sides.{side_count};
+ghost use Rattle.surf_text.specs.Text.{whole, behind_word, behind_words};
+ghost use Rattle.surf_text.specs.Walks.{text_line};
+ghost use Rattle.surf_off.specs.Off.{size_of, corner_of, corners_at, first_repeat, face_of, faces_at};
+ghost use Rattle.surf_off.specs.Gives.{Gives};
+ghost use Rattle.surf_off.specs.Seen.{lent};
+
+use crate::fault::OffFault;
+use std::alloc::Global;
+use surf_base::{LimitKind, MAX_SIDES, VertexId};
+use surf_mesh::Soup;
+use surf_text::{Line, Lines, Tokens, read_whole};
+
+// How many corners a face has.
+#[tactic(auto, unfolding(crate::specs::Off::size_of))]
+fn read_size(line: u32, tokens: &mut Tokens) -> Result<u64, OffFault>
+    ensures size { Gives (λ k. k) result (size_of line tokens.old.tokens) }
+    ensures tokens { OnOk result (tokens.new.tokens ≡ drop 1 tokens.old.tokens) }
+    ensures rest { tokens.new.rest ≡ behind_word tokens.old.rest }
+    ensures bounds { IfOk result (λ k. (3 ≤ k) × (k ≤ length tokens.new.tokens)) }
+{
+    let Some(word) = tokens.next_token() else {
+        return Err(OffFault::FaceSize { line });
+    };
+    match read_whole(word) {
+        Some(size) if size >= 3 && tokens.has(size) => Ok(size),
+        _ => Err(OffFault::FaceSize { line }),
+    }
+}
+
+fn read_corner(line: u32, vertices: u32, place: u32, token: &[u8]) -> Result<VertexId, OffFault>
+    ensures corner { Gives (λ u. u) result (corner_of line vertices place (whole token.now)) }
+    ensures within { IfOk result (λ u. u < vertices) }
+{
+    match read_whole(token) {
+        Some(u) if u < vertices as u64 => Ok(VertexId::new(u as u32)),
+        _ => Err(OffFault::FaceIndex { line, place }),
+    }
+}
+
+// So many corners, in place of those that were kept.
+fn read_corners(
+    line: u32,
+    vertices: u32,
+    size: u32,
+    tokens: &mut Tokens,
+    corners: &mut Vec<VertexId>,
+) -> Result<(), OffFault>
+    requires enough { size ≤ length tokens.old.tokens }
+    ensures corners { Gives (λ _. corners.new.items) result (corners_at line vertices 0 (take size tokens.old.tokens)) }
+    ensures rest { OnOk result (tokens.new.rest ≡ behind_words size tokens.old.rest) }
+    ensures size { OnOk result (length corners.new.items ≡ size) }
+    ensures within { OnOk result (All (λ u. u < vertices) corners.new.items) }
+{
+    corners.clear();
+    for place in 0..size {
+        let token = tokens.next_token().unwrap();
+        let corner = read_corner(line, vertices, place, token)?;
+        corners.push(corner)?;
+    }
+    Ok(())
+}
+
+// The first corner whose vertex stands before. Each vertex has the stamp of the last face that it was seen on,
+// so that a face of many corners takes one turn for each.
+fn repeated(marks: &mut [u32], stamp: u32, corners: &[VertexId]) -> Option<VertexId>
+    requires within { All (λ u. u < length marks.old) corners.now }
+    requires earlier { (k : ℕ) → k < length marks.old → slice_index marks.old k < stamp }
+    ensures first { result ≡ first_repeat [] corners.now }
+    ensures distinct { IfNone result (AllPairs (λ a b. a ≢ b) corners.now) }
+    ensures marks { (k : ℕ) → k < length marks.new → slice_index marks.new k ≤ stamp }
+{
+    for u in corners {
+        if marks[u.index()] == stamp {
+            return Some(*u);
+        }
+        marks[u.index()] = stamp;
+    }
+    None
+}
+
+// The colour of a face line, behind faces of so many sides. Its corners are those that are kept then.
+#[tactic(auto, unfolding(crate::specs::Off::face_of))]
+fn read_face<'a>(
+    line: &Line<'a>,
+    vertices: u32,
+    sides: u32,
+    marks: &mut [u32],
+    stamp: u32,
+    corners: &mut Vec<VertexId>,
+) -> Result<&'a [u8], OffFault>
+    requires few { sides ≤ 6000000 }
+    requires room { length marks.old ≡ vertices }
+    requires earlier { (k : ℕ) → k < length marks.old → slice_index marks.old k < stamp }
+    ensures face { Gives (λ colour. record { corners = corners.new.items; colour = colour.now }) result (face_of true vertices sides (text_line line.now)) }
+    ensures corners { OnOk result (IsFace vertices corners.new.items) }
+    ensures few { OnOk result (sides + length corners.new.items ≤ 6000000) }
+    ensures marks { (k : ℕ) → k < length marks.new → slice_index marks.new k ≤ stamp }
+{
+    let mut tokens = Tokens::over(line.bytes);
+    let size = read_size(line.number, &mut tokens)?;
+    if size > MAX_SIDES as u64 - sides as u64 {
+        return Err(OffFault::Limit {
+            line: line.number,
+            kind: LimitKind::Sides,
+        });
+    }
+    read_corners(line.number, vertices, size as u32, &mut tokens, corners)?;
+    match repeated(marks, stamp, corners) {
+        Some(vertex) => Err(OffFault::FaceRepeat {
+            line: line.number,
+            vertex,
+        }),
+        None => Ok(tokens.rest()),
+    }
+}
+
+/// So many face lines over so many vertices. Their colours are put to those that are kept.
+pub(crate) fn read_faces<'a>(
+    alloc: Global,
+    lines: &mut Lines<'a>,
+    vertices: u32,
+    faces: u32,
+    colours: &mut Vec<&'a [u8]>,
+) -> Result<Soup, OffFault>
+    requires few { faces ≤ 2000000 }
+    requires none { colours.old.items ≡ [] }
+    ensures faces { Gives (λ soup. record { faces = soup.faces; colours = lent colours.new.items; lines = lines.new }) result (faces_at true vertices faces 0 lines.old) }
+    ensures vertices { IfOk result (λ soup. soup.vertices ≡ vertices) }
+    ensures count { IfOk result (λ soup. length soup.faces ≡ faces) }
+    ensures colours { OnOk result (length colours.new.items ≡ faces) }
+    ensures sides { IfOk result (λ soup. side_count soup ≤ 6000000) }
+{
+    let mut soup = Soup::start(alloc, vertices);
+    let mut corners = Vec::new(alloc);
+    let mut marks = vec![in alloc; 0u32; vertices as usize]?;
+    for done in 0..faces {
+        let Some(line) = lines.next_line() else {
+            return Err(OffFault::Early {
+                missing: faces - done,
+            });
+        };
+        let colour = read_face(
+            &line,
+            vertices,
+            soup.side_count(),
+            &mut marks,
+            done + 1,
+            &mut corners,
+        )?;
+        soup.push_face(&corners)?;
+        colours.push(colour)?;
+    }
+    Ok(soup)
+}

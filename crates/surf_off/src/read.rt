@@ -1,0 +1,41 @@
+//! Reads an OFF text.
+ghost use Rattle.std.specs.Prelude.{◌≡◌, ◌<◌, ◌≤◌, length, IfOk};
+ghost use Rattle.surf_mesh.specs.Sides.{side_count};
+ghost use Rattle.surf_off.specs.Off.{off_of};
+ghost use Rattle.surf_off.specs.Gives.{Gives};
+
+use crate::faces::read_faces;
+use crate::fault::OffFault;
+use crate::head::{read_counts, read_head};
+use crate::text::OffText;
+use crate::vertices::read_vertices;
+use std::alloc::Global;
+use surf_mesh::Soup;
+use surf_text::Lines;
+
+/// Reads an OFF text: its keyword, vertex lines and colours as slices of the text, and its mesh. Refuses with
+/// the first fault of the text, or with `Memory` where there is none. The text is shorter than 2^32 − 1 bytes.
+///
+/// The format is that of the Geomview manual, "OFF Files", read by lines, with one vertex or one face a line;
+/// coordinates and colours aren't read as numbers.
+#[tactic(auto, unfolding(crate::specs::Off::off_in))]
+pub fn read_off<'a>(alloc: Global, text: &'a [u8]) -> Result<(OffText<'a>, Soup), OffFault>
+    requires short { length text.now < 4294967295 }
+    ensures off { Gives (λ x. x) result (off_of text.now) }
+    ensures lines { IfOk result (λ x. length x.0.vertex_lines ≡ x.1.vertices) }
+    ensures colours { IfOk result (λ x. length x.0.colours ≡ length x.1.faces) }
+    ensures vertices { IfOk result (λ x. x.1.vertices ≤ 1000000) }
+    ensures faces { IfOk result (λ x. length x.1.faces ≤ 2000000) }
+    ensures sides { IfOk result (λ x. side_count x.1 ≤ 6000000) }
+{
+    let mut lines = Lines::over(text);
+    let mut head = read_head(&mut lines)?;
+    let (vertices, faces) = read_counts(head.number, &mut head.counts)?;
+    let vertex_lines = read_vertices(alloc, &mut lines, vertices, faces)?;
+    let mut colours = Vec::new(alloc);
+    let soup = read_faces(alloc, &mut lines, vertices, faces, &mut colours)?;
+    match lines.next_line() {
+        Some(line) => Err(OffFault::Trailing { line: line.number }),
+        None => Ok((OffText::make(head.header, vertex_lines, colours), soup)),
+    }
+}
