@@ -1,0 +1,35 @@
+-- A grown tree's tables have the text of its tree.
+use Rattle.std.proofs.Common.{◌≡◌, ℕ, zero, suc, ◌+◌, ◌<◌, List, ◌++◌, eqb, get_or, refl, sym, ap, ◌∙◌, arith, inl, inr, eq-eqb, true, false}
+use Rattle.std.specs.List.{flat_map, range_with_len}
+use Rattle.std.proofs.lemmas.Bool.{cases_eq, ne_eqb}
+use Rattle.surf_complex.specs.Mesh.{Mesh}
+use Rattle.surf_tree.specs.Tables.{TreeTables, parent_of, tree_of}
+use Rattle.surf_tree.specs.Grown.{IsGrown}
+use Rattle.surf_print.specs.DistanceTexts.{vertex_line, parent_in, distances_text}
+use Rattle.surf_print.specs.TreeTexts.{tables_text}
+
+flat_map_same : (f g : ℕ → List ℕ) (a n : ℕ) → ((k : ℕ) → k < a + n → f k ≡ g k) →
+    flat_map f (range_with_len a n) ≡ flat_map g (range_with_len a n)
+flat_map_same f g a zero same = refl
+flat_map_same f g a (suc n) same =
+    let rest : flat_map f (range_with_len (a + 1) n) ≡ flat_map g (range_with_len (a + 1) n) =
+    flat_map_same f g (a + 1) n (λ k l. same k (omega (arith, l))) in
+    ap (λ xs. xs ++ flat_map f (range_with_len (a + 1) n)) (same a (omega arith)) ∙ ap (λ xs. g a ++ xs) rest
+
+parents_same : (mesh : Mesh) (lengths : List ℕ) (base : ℕ) (t : TreeTables) → IsGrown mesh lengths base t → (v : ℕ) → v < mesh.vertices →
+    parent_of t v ≡ parent_in (tree_of t) v
+parents_same mesh lengths base t grown v l = elim (cases_eq v base) [
+  | inl is ↦
+      let at_base : eqb v t.base ≡ true = eq-eqb v t.base (is ∙ sym grown.base_is) in
+      ap (λ u. parent_of t u) is ∙ grown.base_alone ∙ sym (rw at_base refl)
+  | inr ne ↦
+      let elsewhere : eqb v t.base ≡ false = ne_eqb v t.base (λ is. ne (is ∙ grown.base_is)) in
+      grown.parents v l ne ∙ sym (rw elsewhere refl)
+]
+
+-- the text of the tables is that of distances and parents
+pub tables_are_texts : (mesh : Mesh) (lengths : List ℕ) (base : ℕ) (t : TreeTables) → IsGrown mesh lengths base t →
+    tables_text t mesh.vertices ≡ distances_text mesh.vertices (tree_of t)
+tables_are_texts mesh lengths base t grown =
+    flat_map_same (λ v. vertex_line v (get_or t.distances v 0) (parent_of t v)) (λ v. vertex_line v (get_or t.distances v 0) (parent_in (tree_of t) v)) 0 mesh.vertices
+    (λ v l. ap (λ p. vertex_line v (get_or t.distances v 0) p) (parents_same mesh lengths base t grown v (omega (arith, l))))

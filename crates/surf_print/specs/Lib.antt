@@ -1,0 +1,5 @@
+pub mod Fills
+pub mod Lines
+pub mod DistanceTexts
+pub mod TreeTexts
+pub mod LoopTexts
