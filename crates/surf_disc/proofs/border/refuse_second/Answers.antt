@@ -1,0 +1,37 @@
+use Rattle.std.proofs.Common.{◌≡◌, ◌<◌, ℕ, List, get_or, length, sym, ap, subst, ◌∙◌, arith}
+use Rattle.std.proofs.lemmas.List.{get_or_read}
+use Rattle.surf_complex.specs.Surface.{edge_count, ends}
+use Rattle.surf_complex.proofs.CellLaws.{ends_below}
+use Rattle.surf_disc.specs.Border.{AllInside, IsFirstOutside}
+use Rattle.surf_disc.proofs.TableLaws.{least_outside, one_border}
+use Rattle.surf_disc.proofs.border.refuse_second.Goals as goal
+
+pub first_outside-requires-clause-ends : goal.first_outside-requires-clause-ends
+first_outside-requires-clause-ends c = λ e in'.
+    let mesh = c.args.soup.now in
+    let same = c.deref.ensures.value ∙ c.requires.table.edge_list_is in
+    let lt : e < edge_count mesh = omega (arith, in', ap length same) in
+    let low = ends_below mesh c.vertices-mesh.ensures.mesh e lt in
+    omega (arith, low.0, low.1, ap (λ (xs : List (ℕ × ℕ)). (get_or xs e (0, 0)).0) same, c.requires.marks.size)
+
+pub returns-in-Some-clause-fault : goal.returns-in-Some-clause-fault
+returns-in-Some-clause-fault c =
+    let mesh = c.args.soup.now in
+    let is_mesh = c.vertices-mesh.ensures.mesh in
+    let t = c.requires.table in
+    let list = c.args.table.now.edges.items in
+    let e = c.args.e in
+    let h = c.in-Some.h in
+    let F : List (ℕ × ℕ) → Type 0 = λ ps. IsFirstOutside c.args.table.now.sides ps c.args.seen.now h in
+    let first = subst F c.deref.ensures.value c.in-Some.ensures.first in
+    let outside = least_outside mesh is_mesh _ _ _ _ _ t e c.args.seen.now c.requires.marks h first in
+    let at = c.requires.least.on_border.0 in
+    let there = outside.on_border.0 in
+    let own : c.index.result.now ≡ ends mesh e = get_or_read list e c.index.result.now (omega (arith, ap length t.edge_list_is)) c.index.ensures (0, 0) ∙ ap (λ (xs : List (ℕ × ℕ)). get_or xs e (0, 0)) t.edge_list_is in
+    let other : c.index-in-Some.result.now ≡ ends mesh h = get_or_read list h c.index-in-Some.result.now (omega (arith, ap length t.edge_list_is)) c.index-in-Some.ensures (0, 0) ∙ ap (λ (xs : List (ℕ × ℕ)). get_or xs h (0, 0)) t.edge_list_is in
+    (c.requires.patch, (e, h, c.requires.least, outside, sym own, sym other))
+
+pub returns-clause-one : goal.returns-clause-one
+returns-clause-one c =
+    let F : List (ℕ × ℕ) → Type 0 = λ ps. AllInside c.args.table.now.sides ps c.args.seen.now (length c.args.table.now.sides) in
+    one_border c.args.soup.now c.vertices-mesh.ensures.mesh _ _ _ _ _ c.requires.table c.args.e c.args.seen.now c.requires.marks (subst F c.deref.ensures.value c.in_default.ensures.first)

@@ -1,0 +1,6 @@
+use Rattle.surf_mesh.specs.Vertices.{all_corners}
+use Rattle.surf_disc.specs.Links.{AreLinked}
+use Rattle.surf_disc.proofs.fans.link_corners.Given as goal
+
+abbrev pub invariant-loop-s : goal.invariant-loop-s
+invariant-loop-s l = AreLinked l.next l.prev l.across (all_corners l.soup) l.s l.rows

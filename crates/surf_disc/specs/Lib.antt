@@ -1,0 +1,4 @@
+pub mod Across
+pub mod Links
+pub mod Border
+pub mod Fault

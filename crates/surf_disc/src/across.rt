@@ -1,0 +1,42 @@
+//! What lies across each side.
+ghost use Rattle.std.specs.Prelude.{◌≡◌, ◌<◌, length, IfOk};
+ghost use Rattle.surf_mesh.specs.EdgeTable.{IsEdgeTable};
+ghost use Rattle.surf_mesh.specs.Sides.{side_count};
+ghost use Rattle.surf_disc.specs.Across.{NoneCrowded, AreAcrossUpTo, other_of};
+
+use std::alloc::Global;
+use surf_base::{NoMemory, SideId};
+use surf_mesh::{EdgeTable, Soup};
+
+// The other one of a row of two sides, or the only one of a row of one.
+fn other_side(row: &[SideId], side: SideId) -> SideId
+    requires some { 0 < length row.now }
+    ensures other { result ≡ other_of row.now side }
+{
+    if row[0] == side {
+        row[row.len() - 1]
+    } else {
+        row[0]
+    }
+}
+
+/// For each side the other side of its edge, or the side itself where it is on the border.
+pub(crate) fn all_across(
+    alloc: Global,
+    soup: &Soup,
+    table: &EdgeTable,
+) -> Result<Vec<SideId>, NoMemory>
+    requires table { IsEdgeTable soup.now table.now.edges.items table.now.sides table.now.edge_of.items table.now.face_of.items table.now.numbers.items }
+    requires few { NoneCrowded soup.now }
+    ensures across { IfOk result (λ v. AreAcrossUpTo soup.now (side_count soup.now) v.items) }
+{
+    let _mesh = soup.vertices();
+    let count = soup.side_count();
+    let mut across = Vec::with_capacity(alloc, count as usize)?;
+    for s in 0..count {
+        let edge = table.edge_of[s as usize];
+        let row = table.sides.row(edge as usize);
+        across.push(other_side(row, SideId::new(s)))?;
+    }
+    Ok(across)
+}

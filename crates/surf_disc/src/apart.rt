@@ -1,0 +1,87 @@
+//! Whether the faces are connected across their sides.
+ghost use Rattle.std.specs.Prelude.{◌≡◌, ◌<◌, ◌≤◌, ◌+◌, ℕ, length, All, OnOk, IfOk, IfErr, slice_index};
+ghost use Rattle.surf_complex.specs.Surface.{face_count, IsConnected};
+ghost use Rattle.surf_mesh.specs.Apart.{AreAcross};
+ghost use Rattle.surf_mesh.specs.Sides.{side_count, owners};
+ghost use Rattle.surf_mesh.specs.Vertices.{AllMet};
+ghost use Rattle.surf_disc.specs.Across.{NoneCrowded, AreAcrossUpTo};
+ghost use Rattle.surf_disc.specs.Fault.{AllFans, IsDiscFault};
+
+use crate::DiscFault;
+use std::alloc::Global;
+use surf_base::{FaceId, NoMemory, SideId};
+use surf_mesh::{Soup, first_unmarked, reach};
+use surf_rows::Rows;
+
+// Lists the faces across some sides that follow one another.
+fn list_over(
+    row: &mut Vec<u32>,
+    first: usize,
+    count: usize,
+    across: &[SideId],
+    face_of: &[FaceId],
+) -> Result<(), NoMemory>
+    requires inside { first + count ≤ length across.now }
+    requires across { All (λ t. t < length face_of.now) across.now }
+    ensures size { OnOk result (length row.new.items ≡ count) }
+    ensures faces { OnOk result ((m : ℕ) → m < count → slice_index row.new.items m ≡ slice_index face_of.now (slice_index across.now (first + m))) }
+{
+    row.clear();
+    for k in 0..count {
+        let over = across[first + k].index();
+        row.push(face_of[over].number())?;
+    }
+    Ok(())
+}
+
+// The faces across the sides of each face, in order.
+fn faces_over(
+    alloc: Global,
+    soup: &Soup,
+    across: &[SideId],
+    face_of: &[FaceId],
+) -> Result<Rows<u32>, NoMemory>
+    requires acrosses { AreAcrossUpTo soup.now (side_count soup.now) across.now }
+    requires faces { face_of.now ≡ owners 0 soup.now.faces }
+    ensures rows { IfOk result (λ rows. AreAcross soup.now across.now (face_count soup.now) rows) }
+{
+    let _few = soup.side_count();
+    let mut rows = Rows::new(alloc);
+    let mut row = Vec::new(alloc);
+    let mut first = 0;
+    for f in 0..soup.faces() {
+        let count = soup.face(FaceId::new(f)).len();
+        list_over(&mut row, first, count, across, face_of)?;
+        rows.push(&row)?;
+        first += count;
+    }
+    Ok(rows)
+}
+
+/// Refuses a soup where some face isn't connected with face 0.
+pub(crate) fn refuse_apart(
+    alloc: Global,
+    soup: &Soup,
+    across: &[SideId],
+    face_of: &[FaceId],
+) -> Result<(), DiscFault>
+    requires none_crowded { NoneCrowded soup.now }
+    requires met { AllMet soup.now }
+    requires fans { AllFans soup.now }
+    requires acrosses { AreAcrossUpTo soup.now (side_count soup.now) across.now }
+    requires faces { face_of.now ≡ owners 0 soup.now.faces }
+    ensures ok { OnOk result (IsConnected soup.now) }
+    ensures fault { IfErr result (λ e. IsDiscFault soup.now e) }
+{
+    if soup.faces() == 0 {
+        return Ok(());
+    }
+    let rows = faces_over(alloc, soup, across, face_of)?;
+    let seen = reach(alloc, &rows, 0)?;
+    match first_unmarked(&seen) {
+        None => Ok(()),
+        Some(f) => Err(DiscFault::Apart {
+            face: FaceId::new(f as u32),
+        }),
+    }
+}

@@ -1,0 +1,180 @@
+//! The border: the edges with one face, and whether they are one cycle.
+ghost use Rattle.std.specs.Prelude.{◌≡◌, ◌<◌, ◌==◌, ◌^◌, ℕ, length, map, All, OnOk, IfOk, IfErr, MatchOption, slice_index, slice_index_or, [], true, false, count_by};
+ghost use Rattle.std.specs.List.{range_with_len, flat_map};
+ghost use Rattle.surf_complex.specs.Disc.{IsBorderEdge};
+ghost use Rattle.surf_mesh.specs.EdgeTable.{IsEdgeTable};
+ghost use Rattle.surf_mesh.specs.Reach.{marked};
+ghost use Rattle.surf_mesh.specs.Vertices.{all_corners, sides_at};
+ghost use Rattle.surf_disc.specs.Border.{with_end, border_ends, AreNeighbours, IsLeastOnBorder, IsBorderMarked, HasOneBorder, AllInside, IsFirstOutside};
+ghost use Rattle.surf_disc.specs.Fault.{IsPatch, IsDiscFault};
+ghost use Rattle.surf_disc.specs.Links.{AreCornerTables};
+
+use crate::{BorderKind, DiscFault};
+use std::alloc::Global;
+use surf_base::{NoMemory, SideId, VertexId};
+use surf_mesh::{EdgeTable, Soup, first_row, reach};
+use surf_rows::Rows;
+
+// Adds the other end of a side that has nothing across it.
+fn push_end(row: &mut Vec<u32>, across: &[SideId], side: u32, end: VertexId) -> Result<(), NoMemory>
+    requires side { side < length across.now }
+    ensures ends { OnOk result (row.new.items ≡ with_end across.now side end row.old.items) }
+{
+    if across[side as usize].number() == side {
+        row.push(end.number())?;
+    }
+    Ok(())
+}
+
+// Lists the other ends of the border edges at some corners.
+fn list_ends(
+    row: &mut Vec<u32>,
+    corners: &[SideId],
+    next: &[u32],
+    prev: &[u32],
+    across: &[SideId],
+    tails: &[VertexId],
+) -> Result<(), NoMemory>
+    requires corners { All (λ s. s < length next.now) corners.now }
+    requires nexts { All (λ s. s < length next.now) next.now }
+    requires prevs { All (λ s. s < length next.now) prev.now }
+    requires prev_size { length prev.now ≡ length next.now }
+    requires across_size { length across.now ≡ length next.now }
+    requires tails_size { length tails.now ≡ length next.now }
+    ensures ends { OnOk result (row.new.items ≡ flat_map (border_ends next.now prev.now across.now tails.now) corners.now) }
+{
+    row.clear();
+    for corner in corners {
+        let side = corner.number();
+        let after = next[side as usize];
+        let before = prev[side as usize];
+        push_end(row, across, side, tails[after as usize])?;
+        push_end(row, across, before, tails[before as usize])?;
+    }
+    Ok(())
+}
+
+// The other ends of the border edges at each vertex.
+fn border_rows(
+    alloc: Global,
+    soup: &Soup,
+    next: &[u32],
+    prev: &[u32],
+    across: &[SideId],
+    at_vertex: &Rows<SideId>,
+) -> Result<Rows<u32>, NoMemory>
+    requires tables { AreCornerTables soup.now next.now prev.now across.now }
+    requires rows { at_vertex.now ≡ map (sides_at soup.now) (range_with_len 0 soup.now.vertices) }
+    ensures rows { IfOk result (λ rows. AreNeighbours soup.now next.now prev.now across.now (all_corners soup.now) soup.now.vertices rows) }
+{
+    let _mesh = soup.faces();
+    let _few = soup.side_count();
+    let tails = soup.corners();
+    let mut rows = Rows::new(alloc);
+    let mut row = Vec::new(alloc);
+    for v in 0..soup.vertices() {
+        list_ends(
+            &mut row,
+            at_vertex.row(v as usize),
+            next,
+            prev,
+            across,
+            tails,
+        )?;
+        rows.push(&row)?;
+    }
+    Ok(rows)
+}
+
+/// The least border edge.
+pub(crate) fn least_border(soup: &Soup, table: &EdgeTable) -> Option<usize>
+    requires table { IsEdgeTable soup.now table.now.edges.items table.now.sides table.now.edge_of.items table.now.face_of.items table.now.numbers.items }
+    ensures least { MatchOption result ((e : ℕ) → IsBorderEdge soup.now e → ⊥) (λ e. IsLeastOnBorder soup.now e) }
+{
+    let _mesh = soup.faces();
+    first_row(&table.sides, 1, 1)
+}
+
+/// Marks the vertices of the cycle of border edges through the least one.
+pub(crate) fn mark_border(
+    alloc: Global,
+    soup: &Soup,
+    table: &EdgeTable,
+    next: &[u32],
+    prev: &[u32],
+    across: &[SideId],
+    at_vertex: &Rows<SideId>,
+    least: usize,
+) -> Result<Vec<bool>, NoMemory>
+    requires table { IsEdgeTable soup.now table.now.edges.items table.now.sides table.now.edge_of.items table.now.face_of.items table.now.numbers.items }
+    requires tables { AreCornerTables soup.now next.now prev.now across.now }
+    requires rows { at_vertex.now ≡ map (sides_at soup.now) (range_with_len 0 soup.now.vertices) }
+    requires least { IsLeastOnBorder soup.now least }
+    ensures marks { IfOk result (λ seen. IsBorderMarked soup.now least seen.items) }
+{
+    let _mesh = soup.vertices();
+    let (low, _) = table.edges[least];
+    let rows = border_rows(alloc, soup, next, prev, across, at_vertex)?;
+    let seen = reach(alloc, &rows, low.number())?;
+    Ok(seen)
+}
+
+// The first row of one side whose edge has a lesser end that isn't marked.
+fn first_outside(
+    sides: &Rows<SideId>,
+    edges: &[(VertexId, VertexId)],
+    seen: &[bool],
+) -> Option<usize>
+    requires size { length edges.now ≡ length sides.now }
+    requires ends { (e : ℕ) → e < length edges.now → (slice_index_or edges.now e (0, 0)).0 < length seen.now }
+    ensures first { MatchOption result (AllInside sides.now edges.now seen.now (length sides.now)) (λ h. IsFirstOutside sides.now edges.now seen.now h) }
+{
+    for e in 0..sides.len() {
+        if sides.row(e).len() == 1 {
+            let (low, _) = edges[e];
+            if !seen[low.index()] {
+                return Some(e);
+            }
+        }
+    }
+    None
+}
+
+/// Refuses a soup where some border edge is outside the cycle of the least one.
+pub(crate) fn refuse_second(
+    soup: &Soup,
+    table: &EdgeTable,
+    e: usize,
+    seen: &[bool],
+) -> Result<(), DiscFault>
+    requires table { IsEdgeTable soup.now table.now.edges.items table.now.sides table.now.edge_of.items table.now.face_of.items table.now.numbers.items }
+    requires patch { IsPatch soup.now }
+    requires least { IsLeastOnBorder soup.now e }
+    requires marks { IsBorderMarked soup.now e seen.now }
+    ensures one { OnOk result (HasOneBorder soup.now) }
+    ensures fault { IfErr result (λ e. IsDiscFault soup.now e) }
+{
+    let _mesh = soup.vertices();
+    if let Some(h) = first_outside(&table.sides, &table.edges, seen) {
+        let (u, v) = table.edges[e];
+        let (s, t) = table.edges[h];
+        return Err(DiscFault::Border {
+            kind: BorderKind::Two { u, v, s, t },
+        });
+    }
+    Ok(())
+}
+
+/// How many rows have one side.
+pub(crate) fn count_single(sides: &Rows<SideId>) -> u32
+    requires few { length sides.now < 2 ^ 32 }
+    ensures count { result ≡ count_by (λ row. length row == 1) sides.now }
+{
+    let mut count = 0;
+    for e in 0..sides.len() {
+        if sides.row(e).len() == 1 {
+            count += 1;
+        }
+    }
+    count
+}

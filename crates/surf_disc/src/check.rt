@@ -1,0 +1,151 @@
+//! The check of a disc, by its faults in their order.
+ghost use Rattle.std.specs.Prelude.{◌≡◌, ◌+◌, ◌<◌, ℕ, map, OnOk, IfOk, IfErr};
+ghost use Rattle.std.specs.List.{range_with_len};
+ghost use Rattle.surf_complex.specs.Disc.{IsDisc, IsBorderEdge};
+ghost use Rattle.surf_complex.specs.Surface.{face_count, edge_count};
+ghost use Rattle.surf_mesh.specs.EdgeTable.{IsEdgeTable};
+ghost use Rattle.surf_mesh.specs.Pairs.{IsFirstWithin};
+ghost use Rattle.surf_mesh.specs.Vertices.{sides_at, AllMet};
+ghost use Rattle.surf_disc.specs.Across.{NoneCrowded};
+ghost use Rattle.surf_disc.specs.Border.{border_count, HasOneBorder};
+ghost use Rattle.surf_disc.specs.Fault.{IsPatch, IsDiscFault};
+ghost use Rattle.surf_disc.specs.declared.faults.DiscFault.TheVariants.{Memory};
+
+use crate::across::all_across;
+use crate::apart::refuse_apart;
+use crate::border::{count_single, least_border, mark_border, refuse_second};
+use crate::fans::refuse_pinched;
+use crate::{BorderKind, DiscFault};
+use std::alloc::Global;
+use surf_base::{SideId, VertexId};
+use surf_mesh::{
+    EdgeTable, Soup, edge_table, face_in, find_isolated, first_row, next_sides, sides_before,
+    vertex_sides,
+};
+use surf_rows::Rows;
+
+// The fault at an edge with many sides.
+fn crowd_at(soup: &Soup, table: &EdgeTable, e: usize) -> DiscFault
+    requires table { IsEdgeTable soup.now table.now.edges.items table.now.sides table.now.edge_of.items table.now.face_of.items table.now.numbers.items }
+    requires first { IsFirstWithin 3 usize.MAX table.now.sides e }
+    ensures fault { IsDiscFault soup.now result }
+{
+    let _mesh = soup.faces();
+    let _few = soup.side_count();
+    let (u, v) = table.edges[e];
+    let row = table.sides.row(e);
+    let first = face_in(row, 0, &table.face_of);
+    let second = face_in(row, 1, &table.face_of);
+    let third = face_in(row, 2, &table.face_of);
+    DiscFault::Crowded {
+        u,
+        v,
+        faces: [first, second, third],
+    }
+}
+
+// Refuses a soup where some edge is a side of three or more faces.
+fn refuse_crowded(soup: &Soup, table: &EdgeTable) -> Result<(), DiscFault>
+    requires table { IsEdgeTable soup.now table.now.edges.items table.now.sides table.now.edge_of.items table.now.face_of.items table.now.numbers.items }
+    ensures ok { OnOk result (NoneCrowded soup.now) }
+    ensures fault { IfErr result (λ e. IsDiscFault soup.now e) }
+{
+    let _mesh = soup.faces();
+    let _few = soup.side_count();
+    if let Some(e) = first_row(&table.sides, 3, usize::MAX) {
+        return Err(crowd_at(soup, table, e));
+    }
+    Ok(())
+}
+
+// Refuses a soup where some vertex is in no face.
+fn refuse_isolated(soup: &Soup, at_vertex: &Rows<SideId>) -> Result<(), DiscFault>
+    requires none_crowded { NoneCrowded soup.now }
+    requires rows { at_vertex.now ≡ map (sides_at soup.now) (range_with_len 0 soup.now.vertices) }
+    ensures ok { OnOk result (AllMet soup.now) }
+    ensures fault { IfErr result (λ e. IsDiscFault soup.now e) }
+{
+    let _mesh = soup.vertices();
+    match find_isolated(soup, at_vertex) {
+        None => Ok(()),
+        Some(v) => Err(DiscFault::Isolated {
+            v: VertexId::new(v as u32),
+        }),
+    }
+}
+
+// Refuses a soup whose vertices minus edges plus faces aren't 1.
+fn refuse_count(soup: &Soup, table: &EdgeTable) -> Result<(), DiscFault>
+    requires table { IsEdgeTable soup.now table.now.edges.items table.now.sides table.now.edge_of.items table.now.face_of.items table.now.numbers.items }
+    requires patch { IsPatch soup.now }
+    requires border { (e : ℕ) × IsBorderEdge soup.now e }
+    requires one { HasOneBorder soup.now }
+    ensures ok { OnOk result (soup.now.vertices + face_count soup.now ≡ edge_count soup.now + 1) }
+    ensures fault { IfErr result (λ e. IsDiscFault soup.now e) }
+{
+    let _few = soup.side_count();
+    let vertices = soup.vertices();
+    let edges = table.edges.len() as u32;
+    let faces = soup.faces();
+    if u64::from(vertices) + u64::from(faces) == u64::from(edges) + 1 {
+        return Ok(());
+    }
+    Err(DiscFault::Count {
+        vertices,
+        edges,
+        faces,
+    })
+}
+
+// The number of border edges of a disc, or the first fault.
+fn find_fault(alloc: Global, soup: &Soup) -> Result<u32, DiscFault>
+    ensures disc { IfOk result (λ _. IsDisc soup.now) }
+    ensures border { IfOk result (λ n. n ≡ border_count soup.now) }
+    ensures fault { IfErr result (λ e. IsDiscFault soup.now e) }
+{
+    let _mesh = soup.vertices();
+    let _few = soup.side_count();
+    let table = edge_table(alloc, soup)?;
+    refuse_crowded(soup, &table)?;
+    let at_vertex = vertex_sides(alloc, soup, &table.numbers)?;
+    refuse_isolated(soup, &at_vertex)?;
+    let next = next_sides(alloc, soup)?;
+    let prev = sides_before(alloc, soup)?;
+    let across = all_across(alloc, soup, &table)?;
+    refuse_pinched(
+        alloc,
+        soup,
+        &next,
+        &prev,
+        &across,
+        &at_vertex,
+        &table.face_of,
+    )?;
+    refuse_apart(alloc, soup, &across, &table.face_of)?;
+    let Some(least) = least_border(soup, &table) else {
+        return Err(DiscFault::Border {
+            kind: BorderKind::Nothing,
+        });
+    };
+    let seen = mark_border(
+        alloc, soup, &table, &next, &prev, &across, &at_vertex, least,
+    )?;
+    refuse_second(soup, &table, least, &seen)?;
+    refuse_count(soup, &table)?;
+    Ok(count_single(&table.sides))
+}
+
+/// The number of border edges of a soup that is a disc: each edge has one or two faces, no vertex
+/// is in no face, the faces at each vertex and the faces of all are connected through sides, the
+/// edges with one face are one cycle, and vertices minus edges plus faces is 1. Else the first
+/// fault in the order of `DiscFault`, with its least witness.
+///
+/// It takes time and memory that grow with the number of sides.
+pub fn check_disc(alloc: Global, soup: &Soup) -> Result<u32, DiscFault>
+    ensures disc { IfOk result (λ _. IsDisc soup.now) }
+    ensures border { IfOk result (λ n. n ≡ border_count soup.now) }
+    ensures fault { IfErr result (λ e. IsDiscFault soup.now e) }
+    ensures only { IfErr result (λ e. IsDisc soup.now → e ≡ Memory) }
+{
+    find_fault(alloc, soup)
+}

@@ -1,0 +1,142 @@
+//! Whether the faces at each vertex are connected through the sides that end there.
+ghost use Rattle.std.specs.Prelude.{◌≡◌, ◌<◌, ◌^◌, ℕ, length, map, All, IfOk, OnOk, IfErr, slice_index, slice_index_or, []};
+ghost use Rattle.std.specs.List.{range_with_len};
+ghost use Rattle.surf_mesh.specs.Sides.{side_count, owners};
+ghost use Rattle.surf_mesh.specs.Vertices.{all_corners, sides_at, AllMet};
+ghost use Rattle.surf_disc.specs.Across.{NoneCrowded};
+ghost use Rattle.surf_disc.specs.Links.{AreCornerTables, AreLinked, AreFirsts, AreFansMarked, over_corner};
+ghost use Rattle.surf_disc.specs.Fault.{AllFans, IsDiscFault};
+
+use crate::DiscFault;
+use std::alloc::Global;
+use surf_base::{FaceId, NoMemory, SideId, VertexId};
+use surf_mesh::{Soup, face_in, first_left, reach};
+use surf_rows::Rows;
+
+// The corner at a vertex across a side that ends there.
+fn corner_across(next: &[u32], across: &[SideId], tails: &[VertexId], side: u32, v: VertexId) -> u32
+    requires side { side < length across.now }
+    requires across { All (λ t. t < length next.now) across.now }
+    requires tails { length tails.now ≡ length next.now }
+    ensures corner { result ≡ over_corner next.now across.now tails.now side v }
+{
+    let over = across[side as usize];
+    if tails[over.index()] == v {
+        over.number()
+    } else {
+        next[over.index()]
+    }
+}
+
+// For each corner the corners of its vertex across its two sides.
+fn link_corners(
+    alloc: Global,
+    soup: &Soup,
+    next: &[u32],
+    prev: &[u32],
+    across: &[SideId],
+) -> Result<Rows<u32>, NoMemory>
+    requires tables { AreCornerTables soup.now next.now prev.now across.now }
+    ensures rows { IfOk result (λ rows. AreLinked next.now prev.now across.now (all_corners soup.now) (side_count soup.now) rows) }
+{
+    let _mesh = soup.vertices();
+    let tails = soup.corners();
+    let mut rows = Rows::new(alloc);
+    for s in 0..soup.side_count() {
+        let v = tails[s as usize];
+        let before = prev[s as usize];
+        let over_this = corner_across(next, across, tails, s, v);
+        let over_that = corner_across(next, across, tails, before, v);
+        rows.push(&[over_this, over_that])?;
+    }
+    Ok(rows)
+}
+
+// The first corner of each vertex.
+fn first_corners(alloc: Global, at_vertex: &Rows<SideId>) -> Result<Vec<u32>, NoMemory>
+    requires some { (v : ℕ) → v < length at_vertex.now → 0 < length (slice_index_or at_vertex.now v []) }
+    ensures firsts { IfOk result (λ firsts. AreFirsts at_vertex.now (length at_vertex.now) firsts.items) }
+{
+    let mut firsts = Vec::new(alloc);
+    for v in 0..at_vertex.len() {
+        firsts.push(at_vertex.row(v)[0].number())?;
+    }
+    Ok(firsts)
+}
+
+// Marks the corners whose faces are connected with the first face of their vertex: one walk from
+// a further row that leads to the first corner of each vertex.
+fn mark_fans(
+    alloc: Global,
+    soup: &Soup,
+    next: &[u32],
+    prev: &[u32],
+    across: &[SideId],
+    at_vertex: &Rows<SideId>,
+) -> Result<Vec<bool>, NoMemory>
+    requires tables { AreCornerTables soup.now next.now prev.now across.now }
+    requires rows { at_vertex.now ≡ map (sides_at soup.now) (range_with_len 0 soup.now.vertices) }
+    requires met { AllMet soup.now }
+    ensures fans { IfOk result (λ seen. AreFansMarked soup.now seen.items) }
+{
+    let _mesh = soup.vertices();
+    let start = soup.side_count();
+    let mut rows = link_corners(alloc, soup, next, prev, across)?;
+    let firsts = first_corners(alloc, at_vertex)?;
+    rows.push(&firsts)?;
+    let seen = reach(alloc, &rows, start)?;
+    Ok(seen)
+}
+
+// Looks for the first vertex with a corner that isn't marked.
+fn refuse_unmarked(
+    soup: &Soup,
+    at_vertex: &Rows<SideId>,
+    face_of: &[FaceId],
+    seen: &[bool],
+) -> Result<(), DiscFault>
+    requires none_crowded { NoneCrowded soup.now }
+    requires met { AllMet soup.now }
+    requires rows { at_vertex.now ≡ map (sides_at soup.now) (range_with_len 0 soup.now.vertices) }
+    requires faces { face_of.now ≡ owners 0 soup.now.faces }
+    requires fans { AreFansMarked soup.now seen.now }
+    ensures ok { OnOk result (AllFans soup.now) }
+    ensures fault { IfErr result (λ e. IsDiscFault soup.now e) }
+{
+    let _few = soup.side_count();
+    for v in 0..soup.vertices() {
+        let row = at_vertex.row(v as usize);
+        if let Some(k) = first_left(row, seen) {
+            let first = face_in(row, 0, face_of);
+            let second = face_in(row, k, face_of);
+            return Err(DiscFault::Pinched {
+                v: VertexId::new(v),
+                first,
+                second,
+            });
+        }
+    }
+    Ok(())
+}
+
+/// Refuses a soup where the faces at some vertex aren't connected through the sides that end there.
+pub(crate) fn refuse_pinched(
+    alloc: Global,
+    soup: &Soup,
+    next: &[u32],
+    prev: &[u32],
+    across: &[SideId],
+    at_vertex: &Rows<SideId>,
+    face_of: &[FaceId],
+) -> Result<(), DiscFault>
+    requires none_crowded { NoneCrowded soup.now }
+    requires met { AllMet soup.now }
+    requires tables { AreCornerTables soup.now next.now prev.now across.now }
+    requires rows { at_vertex.now ≡ map (sides_at soup.now) (range_with_len 0 soup.now.vertices) }
+    requires faces { face_of.now ≡ owners 0 soup.now.faces }
+    ensures ok { OnOk result (AllFans soup.now) }
+    ensures fault { IfErr result (λ e. IsDiscFault soup.now e) }
+{
+    let seen = mark_fans(alloc, soup, next, prev, across, at_vertex)?;
+    refuse_unmarked(soup, at_vertex, face_of, &seen)
+}
