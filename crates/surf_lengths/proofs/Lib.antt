@@ -1,0 +1,2 @@
+pub mod EdgeNames
+pub mod Naming

@@ -1,1 +1,4 @@
 pub mod Lengths
+pub mod Lines
+pub mod Files
+pub mod Walks

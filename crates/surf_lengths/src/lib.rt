@@ -1,6 +1,17 @@
 //! Lengths of edges: whole numbers from 1 to 4,294,967,295, one for each edge of a mesh.
+//!
+//! They are read from a length file, whose lines `u v n` give the edge between the vertices `u`
+//! and `v` the length `n`. A file of version 2 begins with the line `SURFLEN 2`, and its next
+//! line may be `default n`, which gives `n` to the edges without a line. Every other file is of
+//! version 1, in which each edge has a line. The tables of a reading are two numbers of 32 bits
+//! for each edge: its length, and the number of the line that names it.
 #![tactic(auto)]
 
+mod fault;
+mod file;
 mod lengths;
+mod line;
 
+pub use fault::LengthFault;
+pub use file::read_lengths;
 pub use lengths::{Lengths, unit_lengths};
