@@ -114,7 +114,7 @@ pub unmarked-fresh : (n : ℕ) → unmarked (replicate n false) ≡ n
 unmarked-fresh zero = refl
 unmarked-fresh (suc n) = sum_by-cons (λ b. cond (not b) 1 0) false (replicate n false) ∙ omega (arith, unmarked-fresh n)
 
-none_marked : (n j : ℕ) → marked (replicate n false) j ≡ true → ⊥
+pub none_marked : (n j : ℕ) → marked (replicate n false) j ≡ true → ⊥
 none_marked zero j h = true≢false (sym h)
 none_marked (suc n) zero h = true≢false (sym h)
 none_marked (suc n) (suc j) h = none_marked n j h

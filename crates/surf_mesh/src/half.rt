@@ -59,12 +59,8 @@ fn join_rows(rows: &Rows<SideId>, row_of: &[u32], mate: &mut [SideId])
     }
 }
 
-// The mate of each side.
-pub(crate) fn all_mates(
-    alloc: Global,
-    soup: &Soup,
-    table: &EdgeTable,
-) -> Result<Vec<SideId>, NoMemory>
+/// The mate of each side, where each edge is a side of exactly two faces.
+pub fn all_mates(alloc: Global, soup: &Soup, table: &EdgeTable) -> Result<Vec<SideId>, NoMemory>
     requires table { IsEdgeTable soup.now table.now.edges.items table.now.sides table.now.edge_of.items table.now.face_of.items table.now.numbers.items }
     requires two { HasTwoFaces soup.now }
     ensures { IfOk result (λ v. AreAllMates soup.now v.items) }
@@ -140,8 +136,9 @@ impl HalfMesh {
         }
     }
 
-    /// The same, by all its tables.
-    pub(crate) fn from_parts(
+    /// The same, by all its tables: those of the edges, the mate of each side, and for each vertex
+    /// its ring and the edges that go with it. It takes no memory.
+    pub fn from_parts(
         soup: Soup,
         table: EdgeTable,
         mate: Vec<SideId>,

@@ -1,0 +1,4 @@
+pub mod FaultLaws
+pub mod SideWays
+pub mod GrowthLaws
+pub mod Misfits

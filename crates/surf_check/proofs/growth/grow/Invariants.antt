@@ -1,0 +1,14 @@
+use Rattle.std.proofs.Common.{ℕ, ◌<◌, ◌-◌, get_or}
+use Rattle.surf_complex.specs.Surface.{face_count}
+use Rattle.surf_mesh.specs.Half.{IsFaceOf}
+use Rattle.surf_check.specs.Growth.{TreeGrows, IsCrossed}
+use Rattle.surf_check.proofs.growth.grow.Given as goal
+
+abbrev pub invariant-loop-k : goal.invariant-loop-k
+invariant-loop-k l = record {
+  grows : TreeGrows l.mesh l.tree;
+  done : (i : ℕ) → i < l.k → (s : ℕ) → IsFaceOf l.mesh s (get_or l.tree.listed.items i 0) → IsCrossed l.mesh l.tree.seen.items s;
+}
+
+abbrev pub decreases-loop-k : goal.decreases-loop-k
+decreases-loop-k l = face_count l.mesh - l.k

@@ -1,0 +1,8 @@
+use Rattle.std.proofs.Common.{ℕ, ◌≡◌, ◌<◌, false}
+use Rattle.surf_mesh.specs.Half.{IsEdgeOf}
+use Rattle.surf_parity.specs.Chains.{misfit}
+use Rattle.surf_check.specs.Growth.{flag_of}
+use Rattle.surf_check.proofs.orienting.first_misfit.Given as goal
+
+abbrev pub invariant-loop-s : goal.invariant-loop-s
+invariant-loop-s l = (s e : ℕ) → s < l.s → IsEdgeOf l.mesh s e → misfit l.mesh (flag_of l.flags) e ≡ false

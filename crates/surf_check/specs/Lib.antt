@@ -1,0 +1,4 @@
+pub mod Fault
+pub mod Growth
+pub mod Links
+pub mod Oriented

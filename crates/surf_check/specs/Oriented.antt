@@ -1,0 +1,19 @@
+-- Whether a surface has two sides or one.
+use Rattle.std.specs.Prelude.{◌≡◌, length}
+use Rattle.surf_homology.specs.Trees.{Tree}
+use Rattle.surf_complex.specs.Mesh.{Mesh}
+use Rattle.surf_complex.specs.Surface.{face_count, IsTurning, IsTwoSided}
+use Rattle.surf_complex.specs.Turning.{IsOneSided}
+use Rattle.surf_check.specs.Growth.{flag_of, tree_of}
+use Rattle.surf_check.specs.declared.growth.FaceTree.{FaceTree}
+use Rattle.surf_check.specs.declared.answers.Sides.{Sides}
+use Rattle.surf_check.specs.declared.answers.Sides.TheVariants.{Two, One}
+
+-- the tree of its tables
+abbrev pub tree_in : FaceTree → Tree
+tree_in t = tree_of t.parent.items t.up.items t.rank.items
+
+-- the flags are a turning, or else the chain is one-sided and there is no turning
+abbrev pub AreSides : Mesh → Sides → Type 0
+AreSides mesh (Two flags) = (length flags ≡ face_count mesh) × IsTurning mesh (flag_of flags)
+AreSides mesh (One links) = IsOneSided mesh links × (IsTwoSided mesh → ⊥)

@@ -1,0 +1,126 @@
+//! A turning of a surface, or a chain that shows that there is none.
+ghost use Rattle.std.specs.Prelude.{◌≡◌, ◌<◌, ◌++◌, [], ℕ, length, map, get_or, not, OnOk, IfOk, MatchOption};
+ghost use Rattle.surf_complex.specs.Surface.{face_count, edge_count, ends, IsTurning};
+ghost use Rattle.surf_mesh.specs.Sides.{side_count};
+ghost use Rattle.surf_mesh.specs.Half.{IsEdgeOf};
+ghost use Rattle.surf_parity.specs.Chains.{Fits, misfit, links_up, links_down, tree_chain};
+ghost use Rattle.surf_check.specs.Links.{link_of};
+ghost use Rattle.surf_check.specs.Growth.{flag_of, IsFlagTree};
+ghost use Rattle.surf_check.specs.Oriented.{tree_in, AreSides};
+
+use crate::answers::{Chain, ChainLink, Sides, Turning};
+use crate::growth::{FaceTree, differ, grow};
+use std::alloc::Global;
+use surf_base::{EdgeId, FaceId, NoMemory, SideId};
+use surf_mesh::HalfMesh;
+
+// Whether the flags fit the edge of a side.
+fn fits(mesh: &HalfMesh, flags: &[bool], side: SideId) -> bool
+    requires side { side < side_count mesh.now }
+    requires flags { length flags.now ≡ face_count mesh.now }
+    ensures { (e : ℕ) → IsEdgeOf mesh.now side e → result ≡ not (misfit mesh.now (flag_of flags.now) e) }
+{
+    let _count = mesh.faces();
+    let across = mesh.mate(side);
+    let first = mesh.face_of(side);
+    let second = mesh.face_of(across);
+    let apart = differ(flags[first.index()], flags[second.index()]);
+    let same = mesh.tail(side) == mesh.tail(across);
+    !differ(apart, same)
+}
+
+// The edge of the first side whose edge the flags don't fit.
+fn first_misfit(mesh: &HalfMesh, flags: &[bool]) -> Option<EdgeId>
+    requires { length flags.now ≡ face_count mesh.now }
+    ensures { MatchOption result (IsTurning mesh.now (flag_of flags.now)) (λ e. (e < edge_count mesh.now) × (Fits mesh.now (flag_of flags.now) e → ⊥)) }
+{
+    let _count = mesh.faces();
+    for s in 0..mesh.side_count() {
+        let side = SideId::new(s);
+        if !fits(mesh, flags, side) {
+            return Some(mesh.edge_of(side));
+        }
+    }
+    None
+}
+
+// The link from a face over an edge.
+fn link(mesh: &HalfMesh, face: FaceId, edge: EdgeId) -> ChainLink
+    requires { edge < edge_count mesh.now }
+    ensures { link_of result ≡ record { face = face; ends = ends mesh.now edge } }
+{
+    let (u, v) = mesh.ends(edge);
+    ChainLink { face, u, v }
+}
+
+// Goes from a face up the tree to face 0, and adds the links to a chain.
+fn climb(
+    mesh: &HalfMesh,
+    tree: &FaceTree,
+    from: FaceId,
+    chain: &mut Vec<ChainLink>,
+) -> Result<(), NoMemory>
+    requires tree { IsFlagTree mesh.now tree.now }
+    requires from { from < face_count mesh.now }
+    ensures { OnOk result (map link_of chain.new.items ≡ map link_of chain.old.items ++ links_up mesh.now (tree_in tree.now) (get_or tree.now.rank.items from 0) from) }
+{
+    let mut at = from.number();
+    while at != 0 {
+        let place = at as usize;
+        let step = link(mesh, FaceId::new(at), tree.up[place]);
+        chain.push(step)?;
+        at = tree.parent[place].number();
+    }
+    Ok(())
+}
+
+// The links from face 0 down the tree to a face.
+fn descend(
+    alloc: Global,
+    mesh: &HalfMesh,
+    tree: &FaceTree,
+    to: FaceId,
+) -> Result<Vec<ChainLink>, NoMemory>
+    requires tree { IsFlagTree mesh.now tree.now }
+    requires to { to < face_count mesh.now }
+    ensures { IfOk result (λ v. map link_of v.items ≡ links_down mesh.now (tree_in tree.now) (get_or tree.now.rank.items to 0) to []) }
+{
+    let mut chain = Vec::new(alloc);
+    let mut at = to.number();
+    while at != 0 {
+        let place = at as usize;
+        let parent = tree.parent[place];
+        let step = link(mesh, parent, tree.up[place]);
+        chain.push(step)?;
+        at = parent.number();
+    }
+    chain.reverse();
+    Ok(chain)
+}
+
+// From face 0 to the one face of an edge, over it, and from the other back to face 0.
+fn close(alloc: Global, mesh: &HalfMesh, tree: &FaceTree, edge: EdgeId) -> Result<Chain, NoMemory>
+    requires tree { IsFlagTree mesh.now tree.now }
+    requires edge { edge < edge_count mesh.now }
+    ensures { IfOk result (λ c. c ≡ tree_chain mesh.now (tree_in tree.now) edge) }
+{
+    let _count = mesh.faces();
+    let (first, second) = mesh.faces_of(edge);
+    let mut links = descend(alloc, mesh, tree, first)?;
+    links.push(link(mesh, first, edge))?;
+    climb(mesh, tree, second, &mut links)?;
+    Ok(Chain::from_links(links))
+}
+
+/// A turning exactly where the surface has one, and else a one-sided chain, which excludes every
+/// turning. The time is linear in the number of sides.
+pub fn orient(alloc: Global, mesh: &HalfMesh) -> Result<Sides, NoMemory>
+    ensures { IfOk result (λ s. AreSides mesh.now s) }
+{
+    let _count = mesh.faces();
+    let tree = grow(alloc, mesh)?;
+    match first_misfit(mesh, &tree.flags) {
+        None => Ok(Sides::Two(Turning::from_flags(tree.flags))),
+        Some(edge) => Ok(Sides::One(close(alloc, mesh, &tree, edge)?)),
+    }
+}
