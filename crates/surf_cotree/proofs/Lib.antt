@@ -1,0 +1,5 @@
+pub mod Pairs
+pub mod Growing
+pub mod Passing
+pub mod Toggling
+pub mod Tabled

@@ -1,0 +1,10 @@
+use Rattle.std.proofs.Common.{◌≡◌, ◌≤◌, vec_capacity, filter}
+use Rattle.std.specs.List.{range_with_len}
+use Rattle.surf_cotree.specs.Searches.{is_unmarked}
+use Rattle.surf_cotree.proofs.listing.list_left.Given as goal
+
+abbrev pub invariant-loop-edge : goal.invariant-loop-edge
+invariant-loop-edge l = record {
+  listed : l.left.items ≡ filter (is_unmarked l.first l.second) (range_with_len 0 l.edge);
+  room : vec_capacity l.fn.left ≤ vec_capacity l.left;
+}

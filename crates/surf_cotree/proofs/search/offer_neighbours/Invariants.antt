@@ -1,0 +1,10 @@
+use Rattle.std.proofs.Common.{map}
+use Rattle.surf_homology.specs.Cells.{dual}
+use Rattle.surf_complex.specs.Cells.{cells_of}
+use Rattle.surf_net.specs.Rows.{link_at, side_link}
+use Rattle.surf_cotree.specs.Searches.{at, outside, reached, IsOfferedSome}
+use Rattle.surf_cotree.proofs.search.offer_neighbours.Given as goal
+
+abbrev pub invariant-loop-s : goal.invariant-loop-s
+invariant-loop-s l = IsOfferedSome (dual (cells_of l.mesh)) (outside l.in_tree) (at l.weight) (reached l.depth) l.fn.face l.initial.heap l.heap
+    (λ k. (link_at (map (side_link l.mesh) l.s-items) k).0) (λ k. (link_at (map (side_link l.mesh) l.s-items) k).1) l.s-index

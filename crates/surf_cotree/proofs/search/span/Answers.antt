@@ -1,0 +1,119 @@
+use Rattle.std.proofs.Common.{◌≡◌, ◌≢◌, ◌<◌, ◌≤◌, ◌+◌, ◌-◌, ◌∙◌, ℕ, true, eqb, length, arith, ap, sym, subst, set, refl, suc, Option, None, get_or-set_same, get_or-set_other}
+use Rattle.std.proofs.Math.ListN.{length-set, length-replicate}
+use Rattle.std.proofs.lemmas.Bool.{false≢true}
+use Rattle.surf_homology.specs.Graphs.{IsGraph, joins}
+use Rattle.surf_homology.specs.Cells.{dual}
+use Rattle.surf_z2.specs.Parity.{count_below}
+use Rattle.surf_complex.specs.Surface.{IsSurface, face_count}
+use Rattle.surf_complex.specs.Cells.{cells_of}
+use Rattle.surf_complex.specs.Mesh.{Mesh}
+use Rattle.surf_complex.proofs.CellLaws.{surfaces_are_cells}
+use Rattle.surf_cotree.specs.Tables.{nobody}
+use Rattle.surf_cotree.specs.Searches.{at, reached, outside, tree_of, IsWaiting}
+use Rattle.surf_cotree.proofs.Pairs.{none_there}
+use Rattle.surf_cotree.proofs.Growing.{first_count, first_only, prim_begins, prim_ends, depth_fits, turn_count, turn_keeps}
+use Rattle.surf_cotree.proofs.search.span.Goals as goal
+use Rattle.surf_cotree.proofs.search.span.Goals.{In-Some}
+
+graph_is : (mesh : Mesh) → IsSurface mesh → IsGraph (dual (cells_of mesh))
+graph_is mesh surface = (surfaces_are_cells mesh surface).complex.dual_ends
+
+pub loop-face-init : goal.loop-face-init
+loop-face-init c =
+    let g = dual (cells_of c.args.mesh.now) in
+    let fresh = c.fill.new.self in
+    let some : 0 < face_count c.args.mesh.now = c.faces-surface.ensures.surface.some_face in
+    let few : g.edges ≤ nobody = omega (arith, c.edges-edges.type_inv, c.edges-edges.ensures.count) in
+    let free : (u : ℕ) → u < g.nodes → at fresh u ≡ nobody = λ u l. c.fill.ensures.clones u 0 (omega arith) refl in
+    let long : g.nodes ≡ length fresh = omega arith in
+    let lf : 0 < length fresh = omega arith in
+    let lu : 0 < length c.args.up.now = omega arith in
+    let zero_depth : at (set fresh 0 0) 0 ≡ 0 = get_or-set_same fresh 0 0 0 lf in
+    let root_reached : reached (set fresh 0 0) 0 ≡ true = rw zero_depth in
+    let shallow : at (set fresh 0 0) 0 + count_below g.nodes (λ v. eqb (at (set fresh 0 0) v) nobody) < g.nodes = rw zero_depth (let l = first_count g.nodes fresh some long free in omega arith) in
+    record {
+      places = c.offer_neighbours.ensures.offered.same_length ∙ (ap length c.clear.ensures.empty ∙ (length-replicate {A = Option (ℕ × ℕ)} (length c.args.heap.now) None ∙ c.requires.places));
+      root = get_or-set_same c.args.up.now 0 nobody 0 lu;
+      prim = prim_begins g (outside c.args.in_tree.now) (at c.args.weight.now) (graph_is c.args.mesh.now c.faces-surface.ensures.surface) few c.weights_fit.ensures.fit (reached (set fresh 0 0)) (tree_of 0 c.args.parent.now (set c.args.up.now 0 nobody) (set fresh 0 0))
+          c.clear.new.self c.offer_neighbours.new.heap _ some root_reached (first_only g.nodes fresh free) zero_depth shallow (none_there (length c.args.heap.now) c.clear.new.self c.clear.ensures.empty)
+          c.offer_neighbours.ensures.offered;
+    }
+
+below_suc : (a b : ℕ) → b ≡ suc a → a < b
+below_suc a b e = omega arith
+
+abbrev waiting : (c : In-Some) → IsWaiting (dual (cells_of c.args.mesh.now)) (outside c.args.in_tree.now) (at c.args.weight.now) (reached c.loop-face.depth) c.in-Some.face c.in-Some.field-0-1 c.in-Some.tie
+waiting c = c.loop-face.invariant.prim.waiting c.in-Some.face c.in-Some.field-0-1 c.in-Some.tie c.in-Some.ensures.taken.0.holds
+
+edge_is : (c : In-Some) → nobody - c.in-Some.tie ≡ (waiting c).edge
+edge_is c = let e = (waiting c).bridge.tie_is in omega arith
+
+pub face_across-from-requires : goal.face_across-from-requires
+face_across-from-requires c =
+    let w = waiting (goal.at.face_across-from-requires c).In-Some in
+    let e = edge_is (goal.at.face_across-from-requires c).In-Some in
+    let l = w.bridge.edge_in in
+    record { edge = omega arith }
+
+from_is : (c : In-Some) (a : ℕ) → ((x : ℕ) → joins (dual (cells_of c.args.mesh.now)) c.in-Some.face x (nobody - c.in-Some.tie) ≡ true → a ≡ x) → a ≡ (waiting c).before
+from_is c a h = h (waiting c).before (subst (λ e. joins (dual (cells_of c.args.mesh.now)) c.in-Some.face (waiting c).before e ≡ true) (sym (edge_is c)) (waiting c).bridge.joined)
+
+pub bounds-depth-from : goal.bounds-depth-from
+bounds-depth-from c =
+    let i = (goal.at.bounds-depth-from c).In-Some in
+    let e = from_is i c.face_across-from.result c.face_across-from.ensures.across in
+    let l = (waiting i).before_in in
+    omega (arith, length-set {A = ℕ})
+
+fits : (c : In-Some) → at c.loop-face.depth (waiting c).before + 1 < face_count c.args.mesh.now
+fits c =
+    let g = dual (cells_of c.args.mesh.now) in
+    let few : g.edges ≤ nobody = omega (arith, c.edges-edges.type_inv, c.edges-edges.ensures.count) in
+    let small : g.nodes ≤ nobody = omega (arith, c.faces-surface.type_inv, c.faces-surface.ensures.count) in
+    depth_fits g (outside c.args.in_tree.now) (at c.args.weight.now) (graph_is c.args.mesh.now c.faces-surface.ensures.surface) few c.weights_fit.ensures.fit small 0 c.loop-face.parent c.loop-face.up c.loop-face.depth c.loop-face.heap c.in-Some.face c.in-Some.field-0-1 c.in-Some.tie
+    (omega (arith, length-set {A = ℕ})) (omega (arith, length-set {A = ℕ})) (omega (arith, length-set {A = ℕ})) c.loop-face.invariant.prim c.in-Some.ensures.taken.0
+
+pub overflow_add-depth : goal.overflow_add-depth
+overflow_add-depth c =
+    let i = (goal.at.overflow_add-depth c).In-Some in
+    let e = from_is i c.face_across-from.result c.face_across-from.ensures.across in
+    let small : face_count c.args.mesh.now ≤ nobody = omega (arith, c.faces-surface.type_inv, c.faces-surface.ensures.count) in
+    let f : at c.loop-face.depth c.face_across-from.result + 1 < face_count c.args.mesh.now = rw e (fits i) in
+    omega arith
+
+pub loop-face-smaller : goal.loop-face-smaller
+loop-face-smaller c =
+    let g = dual (cells_of c.args.mesh.now) in
+    let i = (goal.at.loop-face-smaller c).In-Some in
+    let few : g.edges ≤ nobody = omega (arith, c.edges-edges.type_inv, c.edges-edges.ensures.count) in
+    let small : g.nodes ≤ nobody = omega (arith, c.faces-surface.type_inv, c.faces-surface.ensures.count) in
+    let from : c.face_across-from.result ≡ (waiting i).before = from_is i c.face_across-from.result c.face_across-from.ensures.across in
+    let d = at c.loop-face.depth c.face_across-from.result + 1 in
+    let less : count_below g.nodes (λ v. eqb (at c.loop-face.depth v) nobody) ≡ suc (count_below g.nodes (λ v. eqb (at (set c.loop-face.depth c.in-Some.face d) v) nobody)) =
+    turn_count g (outside c.args.in_tree.now) (at c.args.weight.now) (graph_is c.args.mesh.now c.faces-surface.ensures.surface) few c.weights_fit.ensures.fit small 0 c.loop-face.parent c.loop-face.up c.loop-face.depth c.loop-face.heap c.in-Some.face c.in-Some.field-0-1 c.in-Some.tie
+    (omega (arith, length-set {A = ℕ})) (omega (arith, length-set {A = ℕ})) (omega (arith, length-set {A = ℕ})) c.loop-face.invariant.prim c.in-Some.ensures.taken.0 d (ap (λ x. at c.loop-face.depth x + 1) from)
+    in
+    below_suc _ _ less
+
+pub loop-face-preserved : goal.loop-face-preserved
+loop-face-preserved c =
+    let g = dual (cells_of c.args.mesh.now) in
+    let i = (goal.at.loop-face-preserved c).In-Some in
+    let few : g.edges ≤ nobody = omega (arith, c.edges-edges.type_inv, c.edges-edges.ensures.count) in
+    let small : g.nodes ≤ nobody = omega (arith, c.faces-surface.type_inv, c.faces-surface.ensures.count) in
+    let from : c.face_across-from.result ≡ (waiting i).before = from_is i c.face_across-from.result c.face_across-from.ensures.across in
+    let prim = c.loop-face.invariant.prim in
+    let apart : 0 ≢ c.in-Some.face = λ same. false≢true (sym (waiting i).free ∙ (ap (reached c.loop-face.depth) (sym same) ∙ prim.grown.root_reached)) in
+    record {
+      places = c.offer_neighbours-in-Some.ensures.offered.same_length ∙ (ap length c.in-Some.ensures.taken.1 ∙ (length-set c.loop-face.heap c.in-Some.face None ∙ c.loop-face.invariant.places));
+      root = get_or-set_other c.loop-face.up c.in-Some.face 0 (nobody - c.in-Some.tie) 0 apart ∙ c.loop-face.invariant.root;
+      prim = turn_keeps g (outside c.args.in_tree.now) (at c.args.weight.now) (graph_is c.args.mesh.now c.faces-surface.ensures.surface) few c.weights_fit.ensures.fit small 0 c.loop-face.parent c.loop-face.up c.loop-face.depth c.loop-face.heap c.in-Some.face c.in-Some.field-0-1 c.in-Some.tie
+          (omega (arith, length-set {A = ℕ})) (omega (arith, length-set {A = ℕ})) (omega (arith, length-set {A = ℕ})) prim c.in-Some.ensures.taken.0 c.face_across-from.result (nobody - c.in-Some.tie) (at c.loop-face.depth c.face_across-from.result + 1) c.take_least.new.self c.offer_neighbours-in-Some.new.heap
+          from (edge_is i) refl c.in-Some.ensures.taken.1 c.offer_neighbours-in-Some.ensures.offered;
+    }
+
+pub returns-clause-heaviest : goal.returns-clause-heaviest
+returns-clause-heaviest c =
+    let g = dual (cells_of c.args.mesh.now) in
+    let few : g.edges ≤ nobody = omega (arith, c.edges-edges.type_inv, c.edges-edges.ensures.count) in
+    prim_ends g (outside c.args.in_tree.now) (at c.args.weight.now) (graph_is c.args.mesh.now c.faces-surface.ensures.surface) few c.weights_fit.ensures.fit (reached c.loop-face.depth) (tree_of 0 c.loop-face.parent c.loop-face.up c.loop-face.depth) c.loop-face.heap _ c.loop-face.invariant.prim c.requires.connects c.in_default.ensures.taken.0

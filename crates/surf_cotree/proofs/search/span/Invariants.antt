@@ -1,0 +1,18 @@
+use Rattle.std.proofs.Common.{◌≡◌, length, eqb}
+use Rattle.surf_z2.specs.Parity.{count_below}
+use Rattle.surf_homology.specs.Cells.{dual}
+use Rattle.surf_complex.specs.Surface.{face_count}
+use Rattle.surf_complex.specs.Cells.{cells_of}
+use Rattle.surf_cotree.specs.Tables.{nobody}
+use Rattle.surf_cotree.specs.Searches.{at, reached, outside, tree_of, IsPrim}
+use Rattle.surf_cotree.proofs.search.span.Given as goal
+
+abbrev pub invariant-loop-face : goal.invariant-loop-face
+invariant-loop-face l = record {
+  places : length l.heap ≡ face_count l.mesh;
+  root : at l.up 0 ≡ nobody;
+  prim : IsPrim (dual (cells_of l.mesh)) (outside l.in_tree) (at l.weight) (reached l.depth) (tree_of 0 l.parent l.up l.depth) l.heap (count_below (face_count l.mesh) (λ v. eqb (at l.depth v) nobody));
+}
+
+abbrev pub decreases-loop-face : goal.decreases-loop-face
+decreases-loop-face l = count_below (face_count l.mesh) (λ v. eqb (at l.depth v) nobody)

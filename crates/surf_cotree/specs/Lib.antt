@@ -1,0 +1,4 @@
+pub mod Tables
+pub mod Searches
+pub mod Grown
+pub mod Signs

@@ -1,0 +1,209 @@
+//! The tables of one tree of faces.
+ghost use Rattle.std.specs.Prelude.{◌≡◌, ◌<◌, ◌≤◌, ◌+◌, ◌/◌, length, slice_index, slice_index_or, map, take, drop, false, IfOk, Bool, ℕ, List};
+ghost use Rattle.std.specs.List.{range_with_len};
+ghost use Rattle.surf_homology.specs.Cells.{Split, IsSplit};
+ghost use Rattle.surf_homology.specs.Trees.{Tree};
+ghost use Rattle.surf_complex.specs.Cells.{cells_of};
+ghost use Rattle.surf_complex.specs.Surface.{edge_count};
+ghost use Rattle.surf_complex.specs.Signature.{edge_signature};
+ghost use Rattle.surf_cotree.specs.Tables.{CotreeTables, IsMadeFor, parent_edge_of, loop_count, width_for, split_with};
+ghost use Rattle.surf_cotree.specs.Searches.{at};
+ghost use Rattle.surf_cotree.specs.Grown.{MarkTree, IsGrown, IsGrownOn};
+
+use crate::listing::{list_left, mark_edges};
+use crate::search::{NOBODY, span};
+use crate::signing::write_signs;
+use std::alloc::Global;
+use std::marker::Model;
+use surf_base::{EdgeId, FaceId, NoMemory};
+use surf_bits::Bits;
+use surf_heap::Heap;
+use surf_mesh::HalfMesh;
+
+/// The heaviest tree of the faces outside a tree of the vertices: for each face the edge to its parent and the number of
+/// edges to face 0, for each edge whether the tree has it, the edges that are left, and the signatures of all edges.
+#[derive(Drop)]
+pub struct CotreeDesk {
+    heap: Heap,
+    depth: Vec<u32>,
+    parent: Vec<u32>,
+    up: Vec<u32>,
+    held: Vec<bool>,
+    left: Vec<EdgeId>,
+    width: u32,
+    signs: Vec<u64>,
+}
+
+impl Model for CotreeDesk {
+    ghost use Rattle.std.specs.Prelude.{◌≡◌, ◌≤◌, ◌*◌, length, vec_capacity};
+    ghost use Rattle.surf_cotree.specs.Tables.{CotreeTables, words_for, rows_of};
+
+    ghost Value = { CotreeTables };
+
+    ghost view = { λ d. record {
+      held = d.held.items;
+      left = d.left.items;
+      parents = d.parent.items;
+      ups = d.up.items;
+      depths = d.depth.items;
+      width = d.width;
+      signatures = rows_of (words_for d.width) (length d.held.items) d.signs.items;
+    } };
+
+    ghost invariant = { λ d. (length d.heap ≡ length d.depth.items)
+        × (length d.held.items ≤ vec_capacity d.left)
+        × (d.width ≤ 1024)
+        × (length d.signs.items ≡ length d.held.items * words_for d.width) };
+}
+
+// How many edges are in neither tree.
+fn count_loops(mesh: &HalfMesh) -> usize
+    ensures count { result ≡ loop_count mesh.now }
+{
+    let edges = mesh.edges() as usize;
+    let nodes = mesh.vertices() as usize + mesh.faces() as usize;
+    (edges + 2).saturating_sub(nodes)
+}
+
+// For how many left edges there is to be room.
+fn width_of(loops: usize) -> u32
+    ensures width { result ≡ width_for loops }
+    ensures most { result ≤ 1024 }
+{
+    if loops <= 1024 { loops as u32 } else { 0 }
+}
+
+// How many words a signature has.
+fn words_of(width: u32) -> usize
+    requires width { width ≤ 1024 }
+    ensures words { result ≡ (width + 63) / 64 }
+{
+    (width as usize + 63) / 64
+}
+
+// So many words of a table from a place on.
+fn words_at(signs: &[u64], start: usize, words: usize) -> &[u64]
+    requires room { start + words ≤ length signs.now }
+    ensures words { result.now ≡ take words (drop start signs.now) }
+{
+    &signs[start..start + words]
+}
+
+impl CotreeDesk {
+    /// A desk for the trees of a mesh, and of every mesh with as many vertices, edges and faces. No later call takes
+    /// memory. Signatures have as many words as two less the characteristic needs; where that is more than 1,024, which
+    /// `sign` doesn't take, there is no room for them.
+    pub fn make(alloc: Global, mesh: &HalfMesh) -> Result<CotreeDesk, NoMemory>
+        ensures made { IfOk result (λ desk. IsMadeFor mesh.now desk) }
+    {
+        let faces = mesh.faces() as usize;
+        let edges = mesh.edges() as usize;
+        let width = width_of(count_loops(mesh));
+        let heap = Heap::make(alloc, mesh.faces())?;
+        let depth = vec![in alloc; 0u32; faces]?;
+        let parent = vec![in alloc; 0u32; faces]?;
+        let up = vec![in alloc; 0u32; faces]?;
+        let held = vec![in alloc; false; edges]?;
+        let left = Vec::with_capacity(alloc, edges)?;
+        let signs = vec![in alloc; 0u64; edges * words_of(width)]?;
+        Ok(CotreeDesk {
+            heap,
+            depth,
+            parent,
+            up,
+            held,
+            left,
+            width,
+            signs,
+        })
+    }
+
+    /// Grows the heaviest tree of the faces outside a tree of the vertices, of which `in_tree` has a flag for each edge.
+    /// It takes no memory and can't be refused.
+    pub fn grow(&mut self, mesh: &HalfMesh, in_tree: &[bool], weight: &[u64])
+        requires made { IsMadeFor mesh.now self.old }
+        requires marks { length in_tree.now ≡ edge_count mesh.now }
+        requires weights { length weight.now ≡ edge_count mesh.now }
+        requires tree { MarkTree mesh.now in_tree.now }
+        ensures grown { IsGrown mesh.now in_tree.now (at weight.now) self.new }
+    {
+        let _surface = mesh.faces();
+        let _edges = mesh.edges();
+        span(
+            mesh,
+            in_tree,
+            weight,
+            &mut self.heap,
+            &mut self.depth,
+            &mut self.parent,
+            &mut self.up,
+        );
+        mark_edges(&self.up, &mut self.held);
+        list_left(in_tree, &self.held, &mut self.left);
+    }
+
+    /// Whether the tree has an edge.
+    pub fn holds(&self, e: EdgeId) -> bool
+        requires edge { e < length self.now.held }
+        ensures held { result ≡ slice_index_or self.now.held e false }
+    {
+        self.held[e.index()]
+    }
+
+    /// The edges in neither tree, increasing.
+    pub fn left(&self) -> &[EdgeId]
+        ensures left { result.now ≡ self.now.left }
+    {
+        &self.left
+    }
+
+    /// The edge from a face towards face 0. None exactly for face 0.
+    pub fn parent_edge(&self, f: FaceId) -> Option<EdgeId>
+        requires face { f < length self.now.ups }
+        ensures edge { result ≡ parent_edge_of self.now f }
+    {
+        let up = self.up[f.index()];
+        if up == NOBODY {
+            None
+        } else {
+            Some(EdgeId::new(up))
+        }
+    }
+
+    /// How many edges there are from a face to face 0.
+    pub fn depth(&self, f: FaceId) -> u32
+        requires face { f < length self.now.depths }
+        ensures depth { result ≡ slice_index self.now.depths f }
+    {
+        self.depth[f.index()]
+    }
+
+    /// Gives each edge its signature, until the next `grow`. It takes no memory and can't be refused.
+    pub fn sign(&mut self, mesh: &HalfMesh)
+        requires grown { IsGrownOn mesh.now self.old }
+        requires few { length self.old.left ≤ 1024 }
+        ensures signed { (tree : Tree) → IsSplit (cells_of mesh.now) (split_with tree self.new) → self.new.signatures ≡ map (edge_signature mesh.now (split_with tree self.new)) (range_with_len 0 (edge_count mesh.now)) }
+        ensures rest { self.new ≡ record self.old { signatures = self.new.signatures } }
+    {
+        let _surface = mesh.faces();
+        let words = words_of(self.width);
+        write_signs(
+            mesh,
+            &self.parent,
+            &self.up,
+            &self.depth,
+            &self.left,
+            &mut self.signs,
+            words,
+        );
+    }
+
+    /// The signature of an edge, lent: the places in `left` whose loops make up that of the edge.
+    pub fn signature(&self, e: EdgeId) -> Bits<'_>
+        requires edge { e < length self.now.signatures }
+        ensures signature { result ≡ slice_index self.now.signatures e }
+    {
+        let words = words_of(self.width);
+        Bits::over(words_at(&self.signs, e.index() * words, words))
+    }
+}
