@@ -17,7 +17,8 @@ use Rattle.surf_mesh.proofs.SideNumbers.{side_of_face, face_has_side, one_face}
 use Rattle.surf_disc.specs.Across.{AreAcrossUpTo}
 use Rattle.surf_disc.proofs.CornerLaws.{face_of, own_face}
 
-module _ (mesh : Mesh) (across : List ℕ) (acrosses : AreAcrossUpTo mesh (side_count mesh) across) (rows : List (List ℕ)) (are : AreAcross mesh across (face_count mesh) rows) where
+module _ (mesh : Mesh) (across : List ℕ) (acrosses : AreAcrossUpTo mesh (side_count mesh) across)
+    (rows : List (List ℕ)) (are : AreAcross mesh across (face_count mesh) rows) where
   leads_share : (f g : ℕ) → f < face_count mesh → Leads rows f g → Share mesh f g
   leads_share f g lt h =
       let m = h.0 in
@@ -31,8 +32,11 @@ module _ (mesh : Mesh) (across : List ℕ) (acrosses : AreAcrossUpTo mesh (side_
       let there = own_face mesh t is.is_side in
       let far = face_of mesh t in
       let P : ℕ → Type 0 = λ x. Share mesh f x in
-      subst P (sym (are.row_at f m lt in') ∙ h.2)
-      (pair_at mesh s, (lt, side_of_face mesh s f own), (there.is_face, ap (λ p. has_side p (face_at mesh far)) (sym is.same_edge) ∙ side_of_face mesh t far there))
+      subst P (sym (are.row_at f m lt in') ∙ h.2) (
+        pair_at mesh s,
+        (lt, side_of_face mesh s f own),
+        (there.is_face, ap (λ p. has_side p (face_at mesh far)) (sym is.same_edge) ∙ side_of_face mesh t far there),
+      )
 
   share_leads : (f g : ℕ) → f ≢ g → Share mesh f g → Leads rows f g
   share_leads f g differ h =
@@ -53,7 +57,8 @@ module _ (mesh : Mesh) (across : List ℕ) (acrosses : AreAcrossUpTo mesh (side_
       ] in (
         m,
         omega (arith, are.row_len f lt),
-        are.row_at f m lt in' ∙ ap (λ z. face_of mesh (get_or across z 0)) number ∙ one_face mesh t (face_of mesh t) g (own_face mesh t is.is_side) (subst P other y.1.its_face),
+        are.row_at f m lt in' ∙ ap (λ z. face_of mesh (get_or across z 0)) number
+            ∙ one_face mesh t (face_of mesh t) g (own_face mesh t is.is_side) (subst P other y.1.its_face),
       )
 
   -- rows lead from faces alone
@@ -82,7 +87,9 @@ module _ (mesh : Mesh) (across : List ℕ) (acrosses : AreAcrossUpTo mesh (side_
       let sp = spans mesh.faces f in_f in
       let is = acrosses.all (first_side mesh f + m) (omega (arith, sp.0, sp.1)) in
       let there = own_face mesh (get_or across (first_side mesh f + m) 0) is.is_side in
-      let value : get_or (get_or rows f e) m d ≡ face_of mesh (get_or across (first_side mesh f + m) 0) = get_or_default (get_or rows f e) m d 0 in' ∙ ap (λ (xs : List ℕ). get_or xs m 0) same ∙ are.row_at f m in_f place in
+      let value : get_or (get_or rows f e) m d ≡ face_of mesh
+      (get_or across (first_side mesh f + m) 0) = get_or_default (get_or rows f e) m d 0 in'
+      ∙ ap (λ (xs : List ℕ). get_or xs m 0) same ∙ are.row_at f m in_f place in
       omega (arith, value, there.is_face)
 
   module _ (seen : List Bool) (r : IsReach rows 0 seen) where
@@ -92,7 +99,8 @@ module _ (mesh : Mesh) (across : List ℕ) (acrosses : AreAcrossUpTo mesh (side_
     pub none_apart : ((k : ℕ) → k < length seen → marked seen k ≡ true) → IsConnected mesh
     none_apart all = all_joined mesh (λ g lt. seen_joined g (all g (let n = are.size in let m = r.size in omega arith)))
 
-    pub least_apart : (f : ℕ) → f < length seen → marked seen f ≡ false → ((j : ℕ) → j < f → marked seen j ≡ true) → IsLeastApart mesh f
+    pub least_apart : (f : ℕ) → f < length seen → marked seen f ≡ false → ((j : ℕ) → j < f → marked seen j ≡ true) →
+        IsLeastApart mesh f
     least_apart f lt unseen before = record {
       is_face = let n = are.size in let m = r.size in omega arith;
       apart = λ h. true≢false (sym (r.complete f (shares_reach f h)) ∙ unseen);

@@ -14,7 +14,8 @@ use Rattle.surf_mesh.proofs.RingLaws.{at_begins, begins_at, at_faces, corner_beg
 use Rattle.surf_disc.specs.Links.{AreFansMarked}
 use Rattle.surf_disc.proofs.CornerLaws.{face_of, own_face}
 
-module _ (mesh : Mesh) (met : AllMet mesh) (seen : List Bool) (fans : AreFansMarked mesh seen) (v : ℕ) (lt : v < mesh.vertices) where
+module _ (mesh : Mesh) (met : AllMet mesh) (seen : List Bool) (fans : AreFansMarked mesh seen) (v : ℕ)
+    (lt : v < mesh.vertices) where
   abbrev at : List ℕ
   at = sides_at mesh v
 
@@ -35,23 +36,27 @@ module _ (mesh : Mesh) (met : AllMet mesh) (seen : List Bool) (fans : AreFansMar
       let P : ℕ → Type 0 = λ x. IsFaceOf mesh x h in
       (r.0, (r.1, subst P (sym r.2) t.1.1))
 
-  joined_at : (k h : ℕ) → k < length at → marked seen (get_or at k 0) ≡ true → IsFaceOf mesh (get_or at k 0) h → Joined (ShareAt mesh v) first h
+  joined_at : (k h : ℕ) → k < length at → marked seen (get_or at k 0) ≡ true → IsFaceOf mesh (get_or at k 0) h →
+      Joined (ShareAt mesh v) first h
   joined_at k h in' m f = fans.sound v (get_or at k 0) first h lt (at_begins mesh v k in') m first_face f
 
   pub one_fan : ((k : ℕ) → k < length at → marked seen (get_or at k 0) ≡ true) → HasOneFan mesh v
   one_fan all f g a b =
       let i = placed_at f a in
       let j = placed_at g b in
-      joined_trans (joined_sym (λ x y h. (h.0, h.2, h.1)) (joined_at i.0 f i.1.0 (all i.0 i.1.0) i.1.1)) (joined_at j.0 g j.1.0 (all j.0 j.1.0) j.1.1)
+      joined_trans (joined_sym (λ x y h. (h.0, h.2, h.1)) (joined_at i.0 f i.1.0 (all i.0 i.1.0) i.1.1))
+      (joined_at j.0 g j.1.0 (all j.0 j.1.0) j.1.1)
 
-  pub pinch : (k : ℕ) → k < length at → marked seen (get_or at k 0) ≡ false → ((j : ℕ) → j < k → marked seen (get_or at j 0) ≡ true) → IsPinch mesh v first (face_of mesh (get_or at k 0))
+  pub pinch : (k : ℕ) → k < length at → marked seen (get_or at k 0) ≡ false →
+      ((j : ℕ) → j < k → marked seen (get_or at j 0) ≡ true) → IsPinch mesh v first (face_of mesh (get_or at k 0))
   pinch k in' new old =
       let s = get_or at k 0 in
       let b = at_begins mesh v k in' in
       let own = own_face mesh s b.0 in
       record {
         first = begins_corner mesh first v (get_or at 0 0) (at_begins mesh v 0 some) first_face;
-        none_less = λ h below c. let j = placed_at h c in let less = at_faces mesh v j.0 0 h first j.1.0 some j.1.1 first_face below in omega arith;
+        none_less = λ h below c. let j = placed_at h c in let less = at_faces mesh v j.0 0 h first j.1.0 some j.1.1
+            first_face below in omega arith;
         second = begins_corner mesh (face_of mesh s) v s b own;
         apart = λ chain. true≢false (sym (fans.complete v s first (face_of mesh s) lt first_face chain b own) ∙ new);
         joined_before = λ h below c.
@@ -61,28 +66,37 @@ module _ (mesh : Mesh) (met : AllMet mesh) (seen : List Bool) (fans : AreFansMar
       }
 
 -- the least vertex with a corner that isn't marked
-pub least_pinch : (mesh : Mesh) → AllMet mesh → (seen : List Bool) → AreFansMarked mesh seen → (v : ℕ) → v < mesh.vertices → ((u : ℕ) → u < v → HasOneFan mesh u) → (k : ℕ) (row : List ℕ) → row ≡ sides_at mesh v → k < length row → marked seen (get_or row k 0) ≡ false →
-    ((j : ℕ) → j < k → marked seen (get_or row j 0) ≡ true) → IsLeastPinch mesh v (face_of mesh (get_or row 0 0)) (face_of mesh (get_or row k 0))
+pub least_pinch : (mesh : Mesh) → AllMet mesh → (seen : List Bool) → AreFansMarked mesh seen → (v : ℕ) →
+    v < mesh.vertices → ((u : ℕ) → u < v → HasOneFan mesh u) → (k : ℕ) (row : List ℕ) → row ≡ sides_at mesh v →
+    k < length row → marked seen (get_or row k 0) ≡ false →
+    ((j : ℕ) → j < k → marked seen (get_or row j 0) ≡ true) →
+    IsLeastPinch mesh v (face_of mesh (get_or row 0 0)) (face_of mesh (get_or row k 0))
 least_pinch mesh met seen fans v lt before k row is in' new old =
     let Q : List ℕ → Type 0 = λ xs. IsPinch mesh v (face_of mesh (get_or xs 0 0)) (face_of mesh (get_or xs k 0)) in
     record {
       is_vertex = lt;
       pinch = subst Q (sym is)
-          (pinch mesh met seen fans v lt k (omega (arith, in', ap length is)) (sym (ap (λ (xs : List ℕ). marked seen (get_or xs k 0)) is) ∙ new) (λ j less. sym (ap (λ (xs : List ℕ). marked seen (get_or xs j 0)) is) ∙ old j less));
+          (pinch mesh met seen fans v lt k (omega (arith, in', ap length is))
+          (sym (ap (λ (xs : List ℕ). marked seen (get_or xs k 0)) is) ∙ new)
+          (λ j less. sym (ap (λ (xs : List ℕ). marked seen (get_or xs j 0)) is) ∙ old j less));
       none_before = before;
     }
 
-pub fans_more : (mesh : Mesh) → AllMet mesh → (seen : List Bool) → AreFansMarked mesh seen → (v : ℕ) → v < mesh.vertices → ((u : ℕ) → u < v → HasOneFan mesh u) → (row : List ℕ) → row ≡ sides_at mesh v →
+pub fans_more : (mesh : Mesh) → AllMet mesh → (seen : List Bool) → AreFansMarked mesh seen → (v : ℕ) →
+    v < mesh.vertices → ((u : ℕ) → u < v → HasOneFan mesh u) → (row : List ℕ) → row ≡ sides_at mesh v →
     ((k : ℕ) → k < length row → marked seen (get_or row k 0) ≡ true) → (u : ℕ) → u < v + 1 → HasOneFan mesh u
 fans_more mesh met seen fans v lt before row is all u below = elim (cases_eq u v) [
   | inl e ↦
       let P : ℕ → Type 0 = λ w. HasOneFan mesh w in
-      subst P (sym e) (one_fan mesh met seen fans v lt (λ k in'. sym (ap (λ (xs : List ℕ). marked seen (get_or xs k 0)) is) ∙ all k (omega (arith, in', ap length is))))
+      subst P (sym e) (one_fan mesh met seen fans v lt
+      (λ k in'. sym (ap (λ (xs : List ℕ). marked seen (get_or xs k 0)) is)
+      ∙ all k (omega (arith, in', ap length is))))
   | inr ne ↦ before u (omega arith)
 ]
 
 -- the sides of a row are marked or not, and have faces
-pub row_inside : (mesh : Mesh) (v k n : ℕ) (row : List ℕ) → row ≡ sides_at mesh v → k < length row → side_count mesh ≤ n → get_or row k 0 < n
+pub row_inside : (mesh : Mesh) (v k n : ℕ) (row : List ℕ) → row ≡ sides_at mesh v → k < length row →
+    side_count mesh ≤ n → get_or row k 0 < n
 row_inside mesh v k n row is in' room =
     let b = at_begins mesh v k (omega (arith, in', ap length is)) in
     omega (arith, b.0, ap (λ (xs : List ℕ). get_or xs k 0) is)

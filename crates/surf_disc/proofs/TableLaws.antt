@@ -38,16 +38,22 @@ length-sorted (p ∷ rest) = omega (arith, length-insert p (sorted_pairs rest), 
 pub edges_within : (mesh : Mesh) → edge_count mesh ≤ side_count mesh
 edges_within mesh = omega (arith, length-sorted (side_pairs mesh.faces), length-side_pairs mesh)
 
-count_map : (mesh : Mesh) → IsMesh mesh → (ps : List (ℕ × ℕ)) → count_by (λ p. eqb (length (faces_with mesh p)) 1) ps ≡ count_by (λ row. eqb (length row) 1) (map (sides_with mesh) ps)
+count_map : (mesh : Mesh) → IsMesh mesh → (ps : List (ℕ × ℕ)) →
+    count_by (λ p. eqb (length (faces_with mesh p)) 1) ps ≡ count_by (λ row. eqb (length row) 1)
+    (map (sides_with mesh) ps)
 count_map mesh is_mesh [] = refl
 count_map mesh is_mesh (p ∷ ps) =
-    let same : length (faces_with mesh p) ≡ length (sides_with mesh p) = ap length (faces_with-sides mesh is_mesh p) ∙ length-map (sides_with mesh p) (λ s. get_or (owners 0 mesh.faces) s 0) in
+    let same : length (faces_with mesh p) ≡ length (sides_with mesh p) = ap length (faces_with-sides mesh is_mesh p)
+    ∙ length-map (sides_with mesh p) (λ s. get_or (owners 0 mesh.faces) s 0) in
     let later = count_map mesh is_mesh ps in
     let a = sum_by-cons {X = ℕ × ℕ} (λ q. cond (eqb (length (faces_with mesh q)) 1) 1 0) p ps in
-    let b = sum_by-cons {X = List ℕ} (λ row. cond (eqb (length row) 1) 1 0) (sides_with mesh p) (map (sides_with mesh) ps) in
-    a ∙ ap (λ n. cond (eqb n 1) 1 0 + count_by (λ q. eqb (length (faces_with mesh q)) 1) ps) same ∙ ap (λ n. cond (eqb (length (sides_with mesh p)) 1) 1 0 + n) later ∙ sym b
+    let b = sum_by-cons {X = List ℕ} (λ row. cond (eqb (length row) 1) 1 0) (sides_with mesh p)
+    (map (sides_with mesh) ps) in
+    a ∙ ap (λ n. cond (eqb n 1) 1 0 + count_by (λ q. eqb (length (faces_with mesh q)) 1) ps) same
+    ∙ ap (λ n. cond (eqb (length (sides_with mesh p)) 1) 1 0 + n) later ∙ sym b
 
-module _ (mesh : Mesh) (is_mesh : IsMesh mesh) (edge_list : List (ℕ × ℕ)) (rows : List (List ℕ)) (edge_of face_of numbers : List ℕ) (t : IsEdgeTable mesh edge_list rows edge_of face_of numbers) where
+module _ (mesh : Mesh) (is_mesh : IsMesh mesh) (edge_list : List (ℕ × ℕ)) (rows : List (List ℕ))
+    (edge_of face_of numbers : List ℕ) (t : IsEdgeTable mesh edge_list rows edge_of face_of numbers) where
   pub table_len : length rows ≡ edge_count mesh
   table_len = rows_len mesh is_mesh rows face_of t.sides_are t.face_of_is
 
@@ -55,7 +61,8 @@ module _ (mesh : Mesh) (is_mesh : IsMesh mesh) (edge_list : List (ℕ × ℕ)) (
   list_len = ap length t.edge_list_is
 
   pub rows_counted : border_count mesh ≡ count_by (λ row. eqb (length row) 1) rows
-  rows_counted = count_map mesh is_mesh (edges mesh) ∙ ap (count_by (λ (row : List ℕ). eqb (length row) 1)) (sym t.sides_are)
+  rows_counted = count_map mesh is_mesh (edges mesh)
+      ∙ ap (count_by (λ (row : List ℕ). eqb (length row) 1)) (sym t.sides_are)
 
   degree_is : (e : ℕ) → e < edge_count mesh → degree mesh e ≡ length (get_or rows e [])
   degree_is e lt = row_degree mesh is_mesh rows face_of t.sides_are t.face_of_is e lt
@@ -75,7 +82,8 @@ module _ (mesh : Mesh) (is_mesh : IsMesh mesh) (edge_list : List (ℕ × ℕ)) (
       }
 
   pub no_border : NoneWithin 1 1 rows → (e : ℕ) → IsBorderEdge mesh e → ⊥
-  no_border none e is = let n = table_len in let s = single_row e is in let lt = is.0 in none e (omega arith) (omega arith) (omega arith)
+  no_border none e is = let n = table_len in let s = single_row e is in let lt = is.0 in none e (omega arith)
+      (omega arith) (omega arith)
 
   pub none_crowded : (most : ℕ) → side_count mesh ≤ most → NoneWithin 3 most rows → NoneCrowded mesh
   none_crowded most room none e lt =
@@ -90,7 +98,9 @@ module _ (mesh : Mesh) (is_mesh : IsMesh mesh) (edge_list : List (ℕ × ℕ)) (
   three_listed (x ∷ y ∷ z ∷ xs) h = refl
 
   pub first_crowded : (most e : ℕ) → side_count mesh ≤ most → IsFirstWithin 3 most rows e →
-      IsLeastCrowded mesh (ends mesh e) (get_or face_of (get_or (get_or rows e []) 0 0) 0 ∷ get_or face_of (get_or (get_or rows e []) 1 0) 0 ∷ get_or face_of (get_or (get_or rows e []) 2 0) 0 ∷ []) e
+      IsLeastCrowded mesh (ends mesh e)
+      (get_or face_of (get_or (get_or rows e []) 0 0) 0 ∷ get_or face_of
+      (get_or (get_or rows e []) 1 0) 0 ∷ get_or face_of (get_or (get_or rows e []) 2 0) 0 ∷ []) e
   first_crowded most e room first =
       let n = table_len in
       let row = first.is_row in
@@ -106,7 +116,8 @@ module _ (mesh : Mesh) (is_mesh : IsMesh mesh) (edge_list : List (ℕ × ℕ)) (
         many = many;
         its_faces = three_listed (faces_with mesh (ends mesh e)) many ∙ rw (a, b, c) refl;
         none_before = λ d below.
-            let few = no_crowds mesh is_mesh rows face_of t.sides_are t.face_of_is most room d (omega arith) (first.none_before d below) in
+            let few = no_crowds mesh is_mesh rows face_of t.sides_are t.face_of_is most room d (omega arith)
+            (first.none_before d below) in
             omega arith;
       }
 
@@ -122,11 +133,15 @@ module _ (mesh : Mesh) (is_mesh : IsMesh mesh) (edge_list : List (ℕ × ℕ)) (
         record {
           on_border = (lt, degree_is h lt ∙ first.single);
           outside = λ chain. true≢false (sym (marks.complete h chain) ∙ sym (listed_end h) ∙ first.outside);
-          inside_before = λ d below is. marks.sound d is (sym (listed_end d) ∙ first.inside_before d below (single_row d is));
+          inside_before = λ d below is. marks.sound d is
+              (sym (listed_end d) ∙ first.inside_before d below (single_row d is));
         }
 
-    joined_if : AllInside rows edge_list seen (length rows) → (h : ℕ) → IsBorderEdge mesh h → Rattle.surf_complex.specs.Joined.Joined (ShareOnBorder mesh) e h
-    joined_if all h is = let n = table_len in let lt = is.0 in marks.sound h is (sym (listed_end h) ∙ all h (omega arith) (single_row h is))
+    joined_if : AllInside rows edge_list seen (length rows) → (h : ℕ) → IsBorderEdge mesh h →
+        Rattle.surf_complex.specs.Joined.Joined (ShareOnBorder mesh) e h
+    joined_if all h is = let n = table_len in let lt = is.0 in marks.sound h is
+        (sym (listed_end h) ∙ all h (omega arith) (single_row h is))
 
     pub one_border : AllInside rows edge_list seen (length rows) → HasOneBorder mesh
-    one_border all a b on_a on_b = joined_trans (joined_sym (share_sym mesh) (joined_if all a on_a)) (joined_if all b on_b)
+    one_border all a b on_a on_b = joined_trans (joined_sym (share_sym mesh) (joined_if all a on_a))
+        (joined_if all b on_b)

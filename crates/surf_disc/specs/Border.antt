@@ -23,10 +23,12 @@ with_end across side end xs = if get_or across side 0 == side then xs ++ end ∷
 -- the other ends of a corner's two sides, where they are on the border
 abbrev pub border_ends : List ℕ → List ℕ → List ℕ → List ℕ → ℕ → List ℕ
 border_ends next prev across tails s =
-    with_end across (get_or prev s 0) (get_or tails (get_or prev s 0) 0) (with_end across s (get_or tails (get_or next s 0) 0) [])
+    with_end across (get_or prev s 0) (get_or tails (get_or prev s 0) 0)
+    (with_end across s (get_or tails (get_or next s 0) 0) [])
 
 -- for each of the first vertices the other ends of the border edges there
-pub record AreNeighbours (mesh : Mesh) (next prev across tails : List ℕ) (count : ℕ) (rows : List (List ℕ)) : Type 0 where
+pub record AreNeighbours (mesh : Mesh) (next prev across tails : List ℕ) (count : ℕ)
+    (rows : List (List ℕ)) : Type 0 where
   pub size : length rows ≡ count
   pub row : (v : ℕ) → v < count → get_or rows v [] ≡ flat_map (border_ends next prev across tails) (sides_at mesh v)
 

@@ -37,7 +37,8 @@ pub record IsPatch (mesh : Mesh) : Type 0 where
 abbrev pub IsBorderFault : Mesh → BorderKind → Type 0
 IsBorderFault mesh Nothing = (e : ℕ) → IsBorderEdge mesh e → ⊥
 IsBorderFault mesh (Two u v s t) =
-    (e : ℕ) × (h : ℕ) × IsLeastOnBorder mesh e × IsLeastOutside mesh e h × (ends mesh e ≡ (u, v)) × (ends mesh h ≡ (s, t))
+    (e : ℕ) × (h : ℕ) × IsLeastOnBorder mesh e × IsLeastOutside mesh e h × (ends mesh e ≡ (u, v)) ×
+    (ends mesh h ≡ (s, t))
 
 -- What each fault says: its condition with the least witness, and that none of the faults before it holds.
 abbrev pub IsDiscFault : Mesh → DiscFault → Type 0

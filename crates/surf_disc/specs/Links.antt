@@ -27,7 +27,9 @@ over_corner next across tails side v =
 pub record AreLinked (next prev across tails : List ℕ) (count : ℕ) (rows : List (List ℕ)) : Type 0 where
   pub size : length rows ≡ count
   pub total : sum_by length rows ≡ 2 * count
-  pub row : (s : ℕ) → s < count → get_or rows s [] ≡ over_corner next across tails s (get_or tails s 0) ∷ over_corner next across tails (get_or prev s 0) (get_or tails s 0) ∷ []
+  pub row : (s : ℕ) → s < count → get_or rows s []
+      ≡ over_corner next across tails s (get_or tails s 0)
+      ∷ over_corner next across tails (get_or prev s 0) (get_or tails s 0) ∷ []
 
 -- the first of each of the first rows
 pub record AreFirsts (rows : List (List ℕ)) (count : ℕ) (firsts : List ℕ) : Type 0 where
@@ -37,5 +39,7 @@ pub record AreFirsts (rows : List (List ℕ)) (count : ℕ) (firsts : List ℕ) 
 -- A corner is marked exactly where its face is joined, by faces at its vertex that share edges there, with the vertex's first face.
 pub record AreFansMarked (mesh : Mesh) (seen : List Bool) : Type 0 where
   pub size : side_count mesh < length seen
-  pub sound : (v s f g : ℕ) → v < mesh.vertices → BeginsAt mesh v s → marked seen s ≡ true → IsFaceOf mesh (get_or (sides_at mesh v) 0 0) f → IsFaceOf mesh s g → Joined (ShareAt mesh v) f g
-  pub complete : (v s f g : ℕ) → v < mesh.vertices → IsFaceOf mesh (get_or (sides_at mesh v) 0 0) f → Joined (ShareAt mesh v) f g → BeginsAt mesh v s → IsFaceOf mesh s g → marked seen s ≡ true
+  pub sound : (v s f g : ℕ) → v < mesh.vertices → BeginsAt mesh v s → marked seen s ≡ true →
+      IsFaceOf mesh (get_or (sides_at mesh v) 0 0) f → IsFaceOf mesh s g → Joined (ShareAt mesh v) f g
+  pub complete : (v s f g : ℕ) → v < mesh.vertices → IsFaceOf mesh (get_or (sides_at mesh v) 0 0) f →
+      Joined (ShareAt mesh v) f g → BeginsAt mesh v s → IsFaceOf mesh s g → marked seen s ≡ true

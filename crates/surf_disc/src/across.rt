@@ -26,7 +26,8 @@ pub(crate) fn all_across(
     soup: &Soup,
     table: &EdgeTable,
 ) -> Result<Vec<SideId>, NoMemory>
-    requires table { IsEdgeTable soup.now table.now.edges.items table.now.sides table.now.edge_of.items table.now.face_of.items table.now.numbers.items }
+    requires table { IsEdgeTable soup.now table.now.edges.items table.now.sides
+        table.now.edge_of.items table.now.face_of.items table.now.numbers.items }
     requires few { NoneCrowded soup.now }
     ensures across { IfOk result (λ v. AreAcrossUpTo soup.now (side_count soup.now) v.items) }
 {

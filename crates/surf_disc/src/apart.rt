@@ -24,7 +24,9 @@ fn list_over(
     requires inside { first + count ≤ length across.now }
     requires across { All (λ t. t < length face_of.now) across.now }
     ensures size { OnOk result (length row.new.items ≡ count) }
-    ensures faces { OnOk result ((m : ℕ) → m < count → slice_index row.new.items m ≡ slice_index face_of.now (slice_index across.now (first + m))) }
+    ensures faces { OnOk result ((m : ℕ) → m < count →
+        slice_index row.new.items m
+        ≡ slice_index face_of.now (slice_index across.now (first + m))) }
 {
     row.clear();
     for k in 0..count {

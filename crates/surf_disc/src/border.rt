@@ -41,7 +41,8 @@ fn list_ends(
     requires prev_size { length prev.now ≡ length next.now }
     requires across_size { length across.now ≡ length next.now }
     requires tails_size { length tails.now ≡ length next.now }
-    ensures ends { OnOk result (row.new.items ≡ flat_map (border_ends next.now prev.now across.now tails.now) corners.now) }
+    ensures ends { OnOk result (row.new.items
+        ≡ flat_map (border_ends next.now prev.now across.now tails.now) corners.now) }
 {
     row.clear();
     for corner in corners {
@@ -65,7 +66,8 @@ fn border_rows(
 ) -> Result<Rows<u32>, NoMemory>
     requires tables { AreCornerTables soup.now next.now prev.now across.now }
     requires rows { at_vertex.now ≡ map (sides_at soup.now) (range_with_len 0 soup.now.vertices) }
-    ensures rows { IfOk result (λ rows. AreNeighbours soup.now next.now prev.now across.now (all_corners soup.now) soup.now.vertices rows) }
+    ensures rows { IfOk result (λ rows. AreNeighbours soup.now
+        next.now prev.now across.now (all_corners soup.now) soup.now.vertices rows) }
 {
     let _mesh = soup.faces();
     let _few = soup.side_count();
@@ -88,8 +90,10 @@ fn border_rows(
 
 /// The least border edge.
 pub(crate) fn least_border(soup: &Soup, table: &EdgeTable) -> Option<usize>
-    requires table { IsEdgeTable soup.now table.now.edges.items table.now.sides table.now.edge_of.items table.now.face_of.items table.now.numbers.items }
-    ensures least { MatchOption result ((e : ℕ) → IsBorderEdge soup.now e → ⊥) (λ e. IsLeastOnBorder soup.now e) }
+    requires table { IsEdgeTable soup.now table.now.edges.items table.now.sides
+        table.now.edge_of.items table.now.face_of.items table.now.numbers.items }
+    ensures least { MatchOption result ((e : ℕ) → IsBorderEdge soup.now e → ⊥)
+        (λ e. IsLeastOnBorder soup.now e) }
 {
     let _mesh = soup.faces();
     first_row(&table.sides, 1, 1)
@@ -106,7 +110,8 @@ pub(crate) fn mark_border(
     at_vertex: &Rows<SideId>,
     least: usize,
 ) -> Result<Vec<bool>, NoMemory>
-    requires table { IsEdgeTable soup.now table.now.edges.items table.now.sides table.now.edge_of.items table.now.face_of.items table.now.numbers.items }
+    requires table { IsEdgeTable soup.now table.now.edges.items table.now.sides
+        table.now.edge_of.items table.now.face_of.items table.now.numbers.items }
     requires tables { AreCornerTables soup.now next.now prev.now across.now }
     requires rows { at_vertex.now ≡ map (sides_at soup.now) (range_with_len 0 soup.now.vertices) }
     requires least { IsLeastOnBorder soup.now least }
@@ -126,8 +131,10 @@ fn first_outside(
     seen: &[bool],
 ) -> Option<usize>
     requires size { length edges.now ≡ length sides.now }
-    requires ends { (e : ℕ) → e < length edges.now → (slice_index_or edges.now e (0, 0)).0 < length seen.now }
-    ensures first { MatchOption result (AllInside sides.now edges.now seen.now (length sides.now)) (λ h. IsFirstOutside sides.now edges.now seen.now h) }
+    requires ends { (e : ℕ) → e < length edges.now
+        → (slice_index_or edges.now e (0, 0)).0 < length seen.now }
+    ensures first { MatchOption result (AllInside sides.now edges.now seen.now (length sides.now))
+        (λ h. IsFirstOutside sides.now edges.now seen.now h) }
 {
     for e in 0..sides.len() {
         if sides.row(e).len() == 1 {
@@ -147,7 +154,8 @@ pub(crate) fn refuse_second(
     e: usize,
     seen: &[bool],
 ) -> Result<(), DiscFault>
-    requires table { IsEdgeTable soup.now table.now.edges.items table.now.sides table.now.edge_of.items table.now.face_of.items table.now.numbers.items }
+    requires table { IsEdgeTable soup.now table.now.edges.items table.now.sides
+        table.now.edge_of.items table.now.face_of.items table.now.numbers.items }
     requires patch { IsPatch soup.now }
     requires least { IsLeastOnBorder soup.now e }
     requires marks { IsBorderMarked soup.now e seen.now }

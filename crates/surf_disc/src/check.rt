@@ -26,7 +26,8 @@ use surf_rows::Rows;
 
 // The fault at an edge with many sides.
 fn crowd_at(soup: &Soup, table: &EdgeTable, e: usize) -> DiscFault
-    requires table { IsEdgeTable soup.now table.now.edges.items table.now.sides table.now.edge_of.items table.now.face_of.items table.now.numbers.items }
+    requires table { IsEdgeTable soup.now table.now.edges.items table.now.sides
+        table.now.edge_of.items table.now.face_of.items table.now.numbers.items }
     requires first { IsFirstWithin 3 usize.MAX table.now.sides e }
     ensures fault { IsDiscFault soup.now result }
 {
@@ -46,7 +47,8 @@ fn crowd_at(soup: &Soup, table: &EdgeTable, e: usize) -> DiscFault
 
 // Refuses a soup where some edge is a side of three or more faces.
 fn refuse_crowded(soup: &Soup, table: &EdgeTable) -> Result<(), DiscFault>
-    requires table { IsEdgeTable soup.now table.now.edges.items table.now.sides table.now.edge_of.items table.now.face_of.items table.now.numbers.items }
+    requires table { IsEdgeTable soup.now table.now.edges.items table.now.sides
+        table.now.edge_of.items table.now.face_of.items table.now.numbers.items }
     ensures ok { OnOk result (NoneCrowded soup.now) }
     ensures fault { IfErr result (λ e. IsDiscFault soup.now e) }
 {
@@ -76,7 +78,8 @@ fn refuse_isolated(soup: &Soup, at_vertex: &Rows<SideId>) -> Result<(), DiscFaul
 
 // Refuses a soup whose vertices minus edges plus faces aren't 1.
 fn refuse_count(soup: &Soup, table: &EdgeTable) -> Result<(), DiscFault>
-    requires table { IsEdgeTable soup.now table.now.edges.items table.now.sides table.now.edge_of.items table.now.face_of.items table.now.numbers.items }
+    requires table { IsEdgeTable soup.now table.now.edges.items table.now.sides
+        table.now.edge_of.items table.now.face_of.items table.now.numbers.items }
     requires patch { IsPatch soup.now }
     requires border { (e : ℕ) × IsBorderEdge soup.now e }
     requires one { HasOneBorder soup.now }

@@ -37,7 +37,8 @@ fn link_corners(
     across: &[SideId],
 ) -> Result<Rows<u32>, NoMemory>
     requires tables { AreCornerTables soup.now next.now prev.now across.now }
-    ensures rows { IfOk result (λ rows. AreLinked next.now prev.now across.now (all_corners soup.now) (side_count soup.now) rows) }
+    ensures rows { IfOk result (λ rows. AreLinked
+        next.now prev.now across.now (all_corners soup.now) (side_count soup.now) rows) }
 {
     let _mesh = soup.vertices();
     let tails = soup.corners();
@@ -54,8 +55,10 @@ fn link_corners(
 
 // The first corner of each vertex.
 fn first_corners(alloc: Global, at_vertex: &Rows<SideId>) -> Result<Vec<u32>, NoMemory>
-    requires some { (v : ℕ) → v < length at_vertex.now → 0 < length (slice_index_or at_vertex.now v []) }
-    ensures firsts { IfOk result (λ firsts. AreFirsts at_vertex.now (length at_vertex.now) firsts.items) }
+    requires some { (v : ℕ) → v < length at_vertex.now
+        → 0 < length (slice_index_or at_vertex.now v []) }
+    ensures firsts { IfOk result (λ firsts.
+        AreFirsts at_vertex.now (length at_vertex.now) firsts.items) }
 {
     let mut firsts = Vec::new(alloc);
     for v in 0..at_vertex.len() {

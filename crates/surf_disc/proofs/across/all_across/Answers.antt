@@ -9,7 +9,11 @@ other_side-requires c =
     let mesh = c.args.soup.now in
     let s = c.loop-s.s in
     let lt : s < side_count mesh = omega (arith, c.loop-s-test.true, c.side_count-count.ensures.count) in
-    record { some = row_has mesh s c.row-row.result.now (row_read mesh c.vertices-mesh.ensures.mesh _ _ _ _ _ c.requires.table c.requires.few s lt c.index-edge.result.now c.row-row.result.now c.index-edge.ensures c.row-row.ensures) lt }
+    record {
+      some = row_has mesh s c.row-row.result.now
+          (row_read mesh c.vertices-mesh.ensures.mesh _ _ _ _ _ c.requires.table c.requires.few s lt
+          c.index-edge.result.now c.row-row.result.now c.index-edge.ensures c.row-row.ensures) lt;
+    }
 
 pub loop-s-preserved : goal.loop-s-preserved
 loop-s-preserved c =
@@ -17,10 +21,12 @@ loop-s-preserved c =
     let s = c.loop-s.s in
     let row = c.row-row.result.now in
     let lt : s < side_count mesh = omega (arith, c.loop-s-test.true, c.side_count-count.ensures.count) in
-    let own = row_read mesh c.vertices-mesh.ensures.mesh _ _ _ _ _ c.requires.table c.requires.few s lt c.index-edge.result.now row c.index-edge.ensures c.row-row.ensures in
+    let own = row_read mesh c.vertices-mesh.ensures.mesh _ _ _ _ _ c.requires.table c.requires.few s lt
+    c.index-edge.result.now row c.index-edge.ensures c.row-row.ensures in
     let is = row_across mesh s row own lt in
     let items : c.push.new.self.items ≡ c.loop-s.across.items ++ c.other_side.result ∷ [] = search rules in
     let same : c.other_side.result ≡ other_of row s = c.other_side.ensures.other ∙ ap (other_of row) c.new.ensures in
     let P : ℕ → Type 0 = λ t. IsAcross mesh s t in
     let Q : List ℕ → Type 0 = λ xs. AreAcrossUpTo mesh (s + 1) xs in
-    subst Q (sym items) (across_more mesh s c.other_side.result c.loop-s.across.items c.loop-s.invariant (subst P (sym same) is))
+    subst Q (sym items) (across_more mesh s c.other_side.result c.loop-s.across.items c.loop-s.invariant
+    (subst P (sym same) is))

@@ -15,7 +15,12 @@ use Rattle.surf_disc.proofs.BorderLaws.{near_more, near_total}
 use Rattle.surf_disc.proofs.border.border_rows.Goals as goal
 
 pub row-requires : goal.row-requires
-row-requires c = omega (arith, at_len c.args.soup.now c.args.at_vertex.now c.requires.rows, c.loop-v-test.true, c.vertices-v-end.ensures.count)
+row-requires c = omega (
+  arith,
+  at_len c.args.soup.now c.args.at_vertex.now c.requires.rows,
+  c.loop-v-test.true,
+  c.vertices-v-end.ensures.count,
+)
 
 pub list_ends-requires-clause-corners : goal.list_ends-requires-clause-corners
 list_ends-requires-clause-corners c = λ k d in'.
@@ -32,7 +37,11 @@ list_ends-requires-clause-nexts c = λ k d in'.
     let mesh = c.args.soup.now in
     let n = turned_size after mesh c.args.next.now c.requires.tables.nexts in
     let lt : k < side_count mesh = omega arith in
-    omega (arith, get_or_default c.args.next.now k d 0 in', next_in mesh c.faces-mesh.ensures.mesh c.args.next.now c.args.prev.now c.args.across.now c.requires.tables k lt)
+    omega (
+      arith,
+      get_or_default c.args.next.now k d 0 in',
+      next_in mesh c.faces-mesh.ensures.mesh c.args.next.now c.args.prev.now c.args.across.now c.requires.tables k lt,
+    )
 
 pub list_ends-requires-clause-prevs : goal.list_ends-requires-clause-prevs
 list_ends-requires-clause-prevs c = λ k d in'.
@@ -40,18 +49,33 @@ list_ends-requires-clause-prevs c = λ k d in'.
     let n = turned_size after mesh c.args.next.now c.requires.tables.nexts in
     let p = turned_size before mesh c.args.prev.now c.requires.tables.prevs in
     let lt : k < side_count mesh = omega arith in
-    omega (arith, get_or_default c.args.prev.now k d 0 in', prev_in mesh c.faces-mesh.ensures.mesh c.args.next.now c.args.prev.now c.args.across.now c.requires.tables k lt)
+    omega (
+      arith,
+      get_or_default c.args.prev.now k d 0 in',
+      prev_in mesh c.faces-mesh.ensures.mesh c.args.next.now c.args.prev.now c.args.across.now c.requires.tables k lt,
+    )
 
 pub list_ends-requires-clause-tails_size : goal.list_ends-requires-clause-tails_size
-list_ends-requires-clause-tails_size c = ap length c.corners-tails.ensures ∙ corners_len c.args.soup.now ∙ sym (turned_size after c.args.soup.now c.args.next.now c.requires.tables.nexts)
+list_ends-requires-clause-tails_size c = ap length c.corners-tails.ensures ∙ corners_len c.args.soup.now
+    ∙ sym (turned_size after c.args.soup.now c.args.next.now c.requires.tables.nexts)
 
 pub push-requires : goal.push-requires
 push-requires c =
     let mesh = c.args.soup.now in
     let v = c.loop-v.v in
-    let in' : v < length c.args.at_vertex.now = omega (arith, at_len mesh c.args.at_vertex.now c.requires.rows, c.loop-v-test.true, c.vertices-v-end.ensures.count) in
-    let t = near_total c.args.next.now c.args.prev.now c.args.across.now c.corners-tails.result.now v c.loop-v.rows c.args.at_vertex.now c.deref.result.now c.row.result.now c.loop-v.invariant.total in' c.row.ensures (c.deref.ensures.value ∙ c.in_ok-list_ends.ensures.ends) in
-    omega (arith, t.0, t.1, at_vertex_total mesh c.args.at_vertex.now c.requires.rows, c.side_count-few.ensures.count, c.side_count-few.ensures.few)
+    let in' : v < length c.args.at_vertex.now = omega
+    (arith, at_len mesh c.args.at_vertex.now c.requires.rows, c.loop-v-test.true, c.vertices-v-end.ensures.count) in
+    let t = near_total c.args.next.now c.args.prev.now c.args.across.now c.corners-tails.result.now v c.loop-v.rows
+    c.args.at_vertex.now c.deref.result.now c.row.result.now c.loop-v.invariant.total in' c.row.ensures
+    (c.deref.ensures.value ∙ c.in_ok-list_ends.ensures.ends) in
+    omega (
+      arith,
+      t.0,
+      t.1,
+      at_vertex_total mesh c.args.at_vertex.now c.requires.rows,
+      c.side_count-few.ensures.count,
+      c.side_count-few.ensures.few,
+    )
 
 pub loop-v-preserved : goal.loop-v-preserved
 loop-v-preserved c =
@@ -65,13 +89,17 @@ loop-v-preserved c =
     let corners = c.row.result.now in
     let lt : v < mesh.vertices = omega (arith, c.loop-v-test.true, c.vertices-v-end.ensures.count) in
     let in' : v < length c.args.at_vertex.now = omega (arith, at_len mesh c.args.at_vertex.now c.requires.rows, lt) in
-    let is : row ≡ flat_map (border_ends next prev across tails) corners = c.deref.ensures.value ∙ c.in_ok-list_ends.ensures.ends in
-    let own : row ≡ flat_map (border_ends next prev across (all_corners mesh)) corners = is ∙ ap (λ (xs : List ℕ). flat_map (border_ends next prev across xs) corners) c.corners-tails.ensures in
+    let is : row ≡ flat_map (border_ends next prev across tails) corners = c.deref.ensures.value
+    ∙ c.in_ok-list_ends.ensures.ends in
+    let own : row ≡ flat_map (border_ends next prev across (all_corners mesh)) corners = is
+    ∙ ap (λ (xs : List ℕ). flat_map (border_ends next prev across xs) corners) c.corners-tails.ensures in
     let at : corners ≡ sides_at mesh v = c.row.ensures ∙ at_is mesh c.args.at_vertex.now c.requires.rows v lt in
     let pushed : c.push.new.self ≡ c.loop-v.rows ++ row ∷ [] = c.in_ok-push.ensures.ok in
-    let t = near_total next prev across tails v c.loop-v.rows c.args.at_vertex.now row corners c.loop-v.invariant.total in' c.row.ensures is in
+    let t = near_total next prev across tails v c.loop-v.rows c.args.at_vertex.now row corners
+    c.loop-v.invariant.total in' c.row.ensures is in
     let N : List (List ℕ) → Type 0 = λ rows. AreNeighbours mesh next prev across (all_corners mesh) (v + 1) rows in
     record {
-      rows = subst N (sym pushed) (near_more mesh next prev across (all_corners mesh) v c.loop-v.rows row corners c.loop-v.invariant.rows at own);
+      rows = subst N (sym pushed) (near_more mesh next prev across
+          (all_corners mesh) v c.loop-v.rows row corners c.loop-v.invariant.rows at own);
       total = omega (arith, t.0, ap (sum_by length) pushed, sum_by_push {X = List ℕ} length c.loop-v.rows row);
     }

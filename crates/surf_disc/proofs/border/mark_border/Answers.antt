@@ -11,12 +11,16 @@ reach-requires-clause-start c =
     let is = c.requires.least.on_border in
     let lt = is.0 in
     let t = c.requires.table in
-    let pair : c.index.result.now ≡ ends mesh e = get_or_read c.args.table.now.edges.items e c.index.result.now (omega (arith, ap length t.edge_list_is)) c.index.ensures (0, 0) ∙ ap (λ (xs : List (ℕ × ℕ)). get_or xs e (0, 0)) t.edge_list_is in
-    let low = border_start mesh c.vertices-mesh.ensures.mesh c.args.next.now c.args.prev.now c.args.across.now c.requires.tables c.in_ok-rows.rows c.in_ok-rows.ensures.rows e is in
+    let pair : c.index.result.now ≡ ends mesh e = get_or_read c.args.table.now.edges.items e c.index.result.now
+    (omega (arith, ap length t.edge_list_is)) c.index.ensures (0, 0)
+    ∙ ap (λ (xs : List (ℕ × ℕ)). get_or xs e (0, 0)) t.edge_list_is in
+    let low = border_start mesh c.vertices-mesh.ensures.mesh c.args.next.now c.args.prev.now c.args.across.now
+    c.requires.tables c.in_ok-rows.rows c.in_ok-rows.ensures.rows e is in
     omega (arith, low, ap (λ (p : ℕ × ℕ). p.0) pair, c.number.ensures)
 
 pub reach-requires-clause-inside : goal.reach-requires-clause-inside
-reach-requires-clause-inside c = near_inside c.args.soup.now c.vertices-mesh.ensures.mesh c.args.next.now c.args.prev.now c.args.across.now c.requires.tables c.in_ok-rows.rows c.in_ok-rows.ensures.rows
+reach-requires-clause-inside c = near_inside c.args.soup.now c.vertices-mesh.ensures.mesh c.args.next.now
+    c.args.prev.now c.args.across.now c.requires.tables c.in_ok-rows.rows c.in_ok-rows.ensures.rows
 
 pub returns : goal.returns
 returns c =
@@ -25,9 +29,13 @@ returns c =
     let is = c.requires.least.on_border in
     let lt = is.0 in
     let t = c.requires.table in
-    let pair : c.index.result.now ≡ ends mesh e = get_or_read c.args.table.now.edges.items e c.index.result.now (omega (arith, ap length t.edge_list_is)) c.index.ensures (0, 0) ∙ ap (λ (xs : List (ℕ × ℕ)). get_or xs e (0, 0)) t.edge_list_is in
+    let pair : c.index.result.now ≡ ends mesh e = get_or_read c.args.table.now.edges.items e c.index.result.now
+    (omega (arith, ap length t.edge_list_is)) c.index.ensures (0, 0)
+    ∙ ap (λ (xs : List (ℕ × ℕ)). get_or xs e (0, 0)) t.edge_list_is in
     record {
       marks =
-          border_marked mesh c.vertices-mesh.ensures.mesh c.args.next.now c.args.prev.now c.args.across.now c.requires.tables c.in_ok-rows.rows c.in_ok-rows.ensures.rows
-          c.number.result c.in_ok-seen.seen.items c.in_ok-seen.ensures e is (c.number.ensures ∙ ap (λ (p : ℕ × ℕ). p.0) pair);
+          border_marked mesh c.vertices-mesh.ensures.mesh c.args.next.now c.args.prev.now c.args.across.now
+          c.requires.tables c.in_ok-rows.rows c.in_ok-rows.ensures.rows
+          c.number.result c.in_ok-seen.seen.items c.in_ok-seen.ensures e is
+          (c.number.ensures ∙ ap (λ (p : ℕ × ℕ). p.0) pair);
     }

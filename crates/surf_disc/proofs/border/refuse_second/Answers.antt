@@ -27,11 +27,17 @@ returns-in-Some-clause-fault c =
     let outside = least_outside mesh is_mesh _ _ _ _ _ t e c.args.seen.now c.requires.marks h first in
     let at = c.requires.least.on_border.0 in
     let there = outside.on_border.0 in
-    let own : c.index.result.now ≡ ends mesh e = get_or_read list e c.index.result.now (omega (arith, ap length t.edge_list_is)) c.index.ensures (0, 0) ∙ ap (λ (xs : List (ℕ × ℕ)). get_or xs e (0, 0)) t.edge_list_is in
-    let other : c.index-in-Some.result.now ≡ ends mesh h = get_or_read list h c.index-in-Some.result.now (omega (arith, ap length t.edge_list_is)) c.index-in-Some.ensures (0, 0) ∙ ap (λ (xs : List (ℕ × ℕ)). get_or xs h (0, 0)) t.edge_list_is in
+    let own : c.index.result.now ≡ ends mesh e = get_or_read list e c.index.result.now
+    (omega (arith, ap length t.edge_list_is)) c.index.ensures (0, 0)
+    ∙ ap (λ (xs : List (ℕ × ℕ)). get_or xs e (0, 0)) t.edge_list_is in
+    let other : c.index-in-Some.result.now ≡ ends mesh h = get_or_read list h c.index-in-Some.result.now
+    (omega (arith, ap length t.edge_list_is)) c.index-in-Some.ensures (0, 0)
+    ∙ ap (λ (xs : List (ℕ × ℕ)). get_or xs h (0, 0)) t.edge_list_is in
     (c.requires.patch, (e, h, c.requires.least, outside, sym own, sym other))
 
 pub returns-clause-one : goal.returns-clause-one
 returns-clause-one c =
-    let F : List (ℕ × ℕ) → Type 0 = λ ps. AllInside c.args.table.now.sides ps c.args.seen.now (length c.args.table.now.sides) in
-    one_border c.args.soup.now c.vertices-mesh.ensures.mesh _ _ _ _ _ c.requires.table c.args.e c.args.seen.now c.requires.marks (subst F c.deref.ensures.value c.in_default.ensures.first)
+    let F : List (ℕ × ℕ) → Type 0 = λ ps. AllInside c.args.table.now.sides ps c.args.seen.now
+    (length c.args.table.now.sides) in
+    one_border c.args.soup.now c.vertices-mesh.ensures.mesh _ _ _ _ _ c.requires.table c.args.e c.args.seen.now
+    c.requires.marks (subst F c.deref.ensures.value c.in_default.ensures.first)

@@ -9,4 +9,5 @@ use Rattle.surf_disc.proofs.check.check_disc.Goals as goal
 pub returns-clause-only : goal.returns-clause-only
 returns-clause-only c =
     let mesh = c.args.soup.now in
-    IfErr-weaker c.find_fault.result (λ e. IsDiscFault mesh e) (λ e. IsDisc mesh → e ≡ Memory) (fault_only mesh) c.find_fault.ensures.fault
+    IfErr-weaker c.find_fault.result (λ e. IsDiscFault mesh e) (λ e. IsDisc mesh → e ≡ Memory)
+    (fault_only mesh) c.find_fault.ensures.fault

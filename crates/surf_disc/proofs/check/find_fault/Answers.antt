@@ -5,7 +5,16 @@ use Rattle.surf_disc.proofs.check.find_fault.Goals as goal
 pub count_single-requires : goal.count_single-requires
 count_single-requires c =
     let mesh = c.args.soup.now in
-    record { few = omega (arith, table_len mesh c.vertices-mesh.ensures.mesh _ _ _ _ _ c.in_ok-table.ensures, edges_within mesh, c.side_count-few.ensures.count, c.side_count-few.ensures.few) }
+    record {
+      few = omega (
+        arith,
+        table_len mesh c.vertices-mesh.ensures.mesh _ _ _ _ _ c.in_ok-table.ensures,
+        edges_within mesh,
+        c.side_count-few.ensures.count,
+        c.side_count-few.ensures.few,
+      );
+    }
 
 pub returns-clause-border : goal.returns-clause-border
-returns-clause-border c = c.count_single.ensures.count ∙ sym (rows_counted c.args.soup.now c.vertices-mesh.ensures.mesh _ _ _ _ _ c.in_ok-table.ensures)
+returns-clause-border c = c.count_single.ensures.count
+    ∙ sym (rows_counted c.args.soup.now c.vertices-mesh.ensures.mesh _ _ _ _ _ c.in_ok-table.ensures)

@@ -4,5 +4,11 @@ use Rattle.surf_disc.proofs.check.refuse_count.Goals as goal
 
 pub overflow_cast-edges : goal.overflow_cast-edges
 overflow_cast-edges c =
-    let few : length c.args.table.now.edges.items < 2 ^ 30 = omega (arith, edges_within c.args.soup.now, ap length c.requires.table.edge_list_is, c.side_count-few.ensures.count, c.side_count-few.ensures.few) in
+    let few : length c.args.table.now.edges.items < 2 ^ 30 = omega (
+      arith,
+      edges_within c.args.soup.now,
+      ap length c.requires.table.edge_list_is,
+      c.side_count-few.ensures.count,
+      c.side_count-few.ensures.few,
+    ) in
     omega (arith, few, c.len-edges.ensures)

@@ -11,24 +11,40 @@ use Rattle.surf_disc.proofs.LinkLaws.{linked_more}
 use Rattle.surf_disc.proofs.fans.link_corners.Goals as goal
 
 pub bounds-tails-s : goal.bounds-tails-s
-bounds-tails-s c = omega (arith, c.loop-s-test.true, c.side_count-s-end.ensures.count, ap length c.corners-tails.ensures, corners_len c.args.soup.now)
+bounds-tails-s c = omega (
+  arith,
+  c.loop-s-test.true,
+  c.side_count-s-end.ensures.count,
+  ap length c.corners-tails.ensures,
+  corners_len c.args.soup.now,
+)
 
 pub corner_across-over_this-requires-clause-across : goal.corner_across-over_this-requires-clause-across
-corner_across-over_this-requires-clause-across c = across_inside c.args.soup.now c.vertices-mesh.ensures.mesh c.args.next.now c.args.prev.now c.args.across.now c.requires.tables
+corner_across-over_this-requires-clause-across c = across_inside c.args.soup.now c.vertices-mesh.ensures.mesh
+    c.args.next.now c.args.prev.now c.args.across.now c.requires.tables
 
 pub corner_across-over_this-requires-clause-tails : goal.corner_across-over_this-requires-clause-tails
-corner_across-over_this-requires-clause-tails c = ap length c.corners-tails.ensures ∙ corners_len c.args.soup.now ∙ sym (turned_size after c.args.soup.now c.args.next.now c.requires.tables.nexts)
+corner_across-over_this-requires-clause-tails c = ap length c.corners-tails.ensures ∙ corners_len c.args.soup.now
+    ∙ sym (turned_size after c.args.soup.now c.args.next.now c.requires.tables.nexts)
 
 pub corner_across-over_that-requires-clause-side : goal.corner_across-over_that-requires-clause-side
 corner_across-over_that-requires-clause-side c =
-    let lt : c.loop-s.s < side_count c.args.soup.now = omega (arith, c.loop-s-test.true, c.side_count-s-end.ensures.count) in
-    omega (arith, prev_in c.args.soup.now c.vertices-mesh.ensures.mesh c.args.next.now c.args.prev.now c.args.across.now c.requires.tables c.loop-s.s lt, c.requires.tables.acrosses.size)
+    let lt : c.loop-s.s < side_count c.args.soup.now = omega
+    (arith, c.loop-s-test.true, c.side_count-s-end.ensures.count) in
+    omega (
+      arith,
+      prev_in c.args.soup.now c.vertices-mesh.ensures.mesh c.args.next.now c.args.prev.now
+          c.args.across.now c.requires.tables c.loop-s.s lt,
+      c.requires.tables.acrosses.size,
+    )
 
 pub corner_across-over_that-requires-clause-across : goal.corner_across-over_that-requires-clause-across
-corner_across-over_that-requires-clause-across c = across_inside c.args.soup.now c.vertices-mesh.ensures.mesh c.args.next.now c.args.prev.now c.args.across.now c.requires.tables
+corner_across-over_that-requires-clause-across c = across_inside c.args.soup.now c.vertices-mesh.ensures.mesh
+    c.args.next.now c.args.prev.now c.args.across.now c.requires.tables
 
 pub corner_across-over_that-requires-clause-tails : goal.corner_across-over_that-requires-clause-tails
-corner_across-over_that-requires-clause-tails c = ap length c.corners-tails.ensures ∙ corners_len c.args.soup.now ∙ sym (turned_size after c.args.soup.now c.args.next.now c.requires.tables.nexts)
+corner_across-over_that-requires-clause-tails c = ap length c.corners-tails.ensures ∙ corners_len c.args.soup.now
+    ∙ sym (turned_size after c.args.soup.now c.args.next.now c.requires.tables.nexts)
 
 pub loop-s-preserved : goal.loop-s-preserved
 loop-s-preserved c =
@@ -41,8 +57,21 @@ loop-s-preserved c =
     let same : read ≡ tails = c.corners-tails.ensures in
     let a = c.corner_across-over_this.result in
     let b = c.corner_across-over_that.result in
-    let v : c.index-tails-s.result ≡ get_or read s 0 = get_or_read read s c.index-tails-s.result (omega (arith, c.loop-s-test.true, c.side_count-s-end.ensures.count, ap length same, corners_len c.args.soup.now)) c.index-tails-s.is 0 in
-    let this : a ≡ over_corner next across tails s (get_or tails s 0) = c.corner_across-over_this.ensures.corner ∙ ap (over_corner next across read s) v ∙ ap (λ (xs : List ℕ). over_corner next across xs s (get_or xs s 0)) same in
-    let that : b ≡ over_corner next across tails (get_or prev s 0) (get_or tails s 0) = c.corner_across-over_that.ensures.corner ∙ ap (over_corner next across read (get_or prev s 0)) v ∙ ap (λ (xs : List ℕ). over_corner next across xs (get_or prev s 0) (get_or xs s 0)) same in
+    let v : c.index-tails-s.result ≡ get_or read s 0 = get_or_read read s c.index-tails-s.result
+    (omega (
+      arith,
+      c.loop-s-test.true,
+      c.side_count-s-end.ensures.count,
+      ap length same,
+      corners_len c.args.soup.now,
+    )) c.index-tails-s.is 0 in
+    let this : a ≡ over_corner next across tails s (get_or tails s 0) = c.corner_across-over_this.ensures.corner
+    ∙ ap (over_corner next across read s) v
+    ∙ ap (λ (xs : List ℕ). over_corner next across xs s (get_or xs s 0)) same in
+    let that : b ≡ over_corner next across tails (get_or prev s 0)
+    (get_or tails s 0) = c.corner_across-over_that.ensures.corner
+    ∙ ap (over_corner next across read (get_or prev s 0)) v
+    ∙ ap (λ (xs : List ℕ). over_corner next across xs (get_or prev s 0) (get_or xs s 0)) same in
     let P : List (List ℕ) → Type 0 = λ rows. AreLinked next prev across tails (s + 1) rows in
-    subst P (sym c.in_ok-push.ensures.ok) (linked_more next prev across tails s a b c.loop-s.rows c.loop-s.invariant this that)
+    subst P (sym c.in_ok-push.ensures.ok)
+    (linked_more next prev across tails s a b c.loop-s.rows c.loop-s.invariant this that)

@@ -6,7 +6,8 @@ use Rattle.surf_disc.proofs.LinkLaws.{some_rows, vertices_few, links_inside, fan
 use Rattle.surf_disc.proofs.fans.mark_fans.Goals as goal
 
 pub first_corners-requires : goal.first_corners-requires
-first_corners-requires c = record { some = some_rows c.args.soup.now c.args.at_vertex.now c.requires.rows c.requires.met }
+first_corners-requires c = record
+    { some = some_rows c.args.soup.now c.args.at_vertex.now c.requires.rows c.requires.met }
 
 pub push-requires : goal.push-requires
 push-requires c =
@@ -14,13 +15,24 @@ push-requires c =
     let linked = c.in_ok-rows.ensures.rows in
     let firsts = c.in_ok-firsts.ensures.firsts in
     let few = vertices_few mesh c.args.at_vertex.now c.requires.rows c.requires.met in
-    omega (arith, linked.total, firsts.size, at_len mesh c.args.at_vertex.now c.requires.rows, few, ap length c.deref.ensures.value, c.side_count-start.ensures.count, c.side_count-start.ensures.few)
+    omega (
+      arith,
+      linked.total,
+      firsts.size,
+      at_len mesh c.args.at_vertex.now c.requires.rows,
+      few,
+      ap length c.deref.ensures.value,
+      c.side_count-start.ensures.count,
+      c.side_count-start.ensures.few,
+    )
 
 pub reach-requires-clause-inside : goal.reach-requires-clause-inside
 reach-requires-clause-inside c =
     let F : List ℕ → Type 0 = λ xs. AreFirsts c.args.at_vertex.now (length c.args.at_vertex.now) xs in
-    links_inside c.args.soup.now c.vertices-mesh.ensures.mesh c.args.next.now c.args.prev.now c.args.across.now c.requires.tables c.in_ok-rows.rows c.push.new.self c.in_ok-rows.ensures.rows
-    c.args.at_vertex.now c.deref.result.now c.requires.rows (subst F (sym c.deref.ensures.value) c.in_ok-firsts.ensures.firsts) c.requires.met c.in_ok-push.ensures.ok
+    links_inside c.args.soup.now c.vertices-mesh.ensures.mesh c.args.next.now c.args.prev.now c.args.across.now
+    c.requires.tables c.in_ok-rows.rows c.push.new.self c.in_ok-rows.ensures.rows
+    c.args.at_vertex.now c.deref.result.now c.requires.rows
+    (subst F (sym c.deref.ensures.value) c.in_ok-firsts.ensures.firsts) c.requires.met c.in_ok-push.ensures.ok
 
 pub returns : goal.returns
 returns c =
@@ -28,7 +40,9 @@ returns c =
     let R : ℕ → Type 0 = λ n. IsReach c.push.new.self n c.in_ok-seen.seen.items in
     record {
       fans =
-          fans_marked c.args.soup.now c.vertices-mesh.ensures.mesh c.args.next.now c.args.prev.now c.args.across.now c.requires.tables c.in_ok-rows.rows c.push.new.self c.in_ok-rows.ensures.rows
-          c.args.at_vertex.now c.deref.result.now c.requires.rows (subst F (sym c.deref.ensures.value) c.in_ok-firsts.ensures.firsts) c.requires.met c.in_ok-push.ensures.ok
+          fans_marked c.args.soup.now c.vertices-mesh.ensures.mesh c.args.next.now c.args.prev.now c.args.across.now
+          c.requires.tables c.in_ok-rows.rows c.push.new.self c.in_ok-rows.ensures.rows
+          c.args.at_vertex.now c.deref.result.now c.requires.rows
+          (subst F (sym c.deref.ensures.value) c.in_ok-firsts.ensures.firsts) c.requires.met c.in_ok-push.ensures.ok
           c.in_ok-seen.seen.items (subst R c.side_count-start.ensures.count c.in_ok-seen.ensures);
     }
