@@ -5,3 +5,4 @@ pub mod VertexLines
 pub mod FaceLines
 pub mod CleanLines
 pub mod CleanParts
+pub mod FaceRows

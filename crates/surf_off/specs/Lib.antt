@@ -3,3 +3,4 @@ pub mod Off
 pub mod Gives
 pub mod Clean
 pub mod Seen
+pub mod Written

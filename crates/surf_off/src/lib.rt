@@ -14,8 +14,10 @@ mod header;
 mod read;
 mod text;
 mod vertices;
+mod write;
 
 pub use fault::OffFault;
 pub use header::Header;
 pub use read::read_off;
 pub use text::OffText;
+pub use write::write_off;

@@ -65,6 +65,13 @@ impl<'a> OffText<'a> {
         requires within { f < length self.now.colours }
         ensures colour { result.now ≡ slice_index_or self.now.colours f [] }
     {
-        self.colours[f.index()]
+        self.colour_at(f.index())
+    }
+
+    pub(crate) fn colour_at(&self, f: usize) -> &'a [u8]
+        requires within { f < length self.now.colours }
+        ensures colour { result.now ≡ slice_index_or self.now.colours f [] }
+    {
+        self.colours[f]
     }
 }

@@ -1,6 +1,6 @@
 -- Texts that are put on a page one after the other.
-use Rattle.std.proofs.Common.{◌≡◌, ◌≤◌, ◌+◌, ℕ, zero, suc, List, [], ◌∷◌, ◌++◌, length, take, Result, Ok, Err, refl, sym, ◌∙◌, ap, subst, append_assoc, length-append, arith}
-use Rattle.std.proofs.lemmas.List.{append-nil}
+use Rattle.std.proofs.Common.{◌≡◌, ◌<◌, ◌≤◌, ◌+◌, ℕ, zero, suc, List, [], ◌∷◌, ◌++◌, length, get_or, take, drop, Result, Ok, Err, refl, sym, ◌∙◌, ap, subst, append_assoc, length-append, arith}
+use Rattle.std.proofs.lemmas.List.{append-nil, take_more, take_all, drop_more, take-append-drop}
 use Rattle.surf_text.specs.declared.page.PageFault.{PageFault}
 use Rattle.surf_text.specs.declared.page.PageFault.TheVariants.{Full, Memory}
 use Rattle.surf_text.specs.Pages.{PageState, grown, HasFront, Stops, Puts}
@@ -54,3 +54,34 @@ puts_stop {A} {B} a b s t first fault second failed fails one =
 -- Nothing is put.
 pub puts_none : {A : Type 0} (a : PageState) (x : A) → length a.bytes ≤ a.most → Puts {A = A} a a [] (Ok x)
 puts_none a x fits = (ap (λ (bytes : List ℕ). record a { bytes = bytes }) (sym (append-nil a.bytes)), omega arith)
+
+-- Texts that are put in a loop: those before, this one, and those to come.
+module _ {X : Type 0} (text : List X → List ℕ) (piece : X → List ℕ) (empty : text [] ≡ []) (cons : (x : X) (xs : List X) → text (x ∷ xs) ≡ piece x ++ text xs) where
+  pub text_append : (xs ys : List X) → text (xs ++ ys) ≡ text xs ++ text ys
+  text_append [] ys = ap (λ (t : List ℕ). t ++ text ys) (sym empty)
+  text_append (x ∷ xs) ys =
+      cons x (xs ++ ys) ∙ ap (λ (t : List ℕ). piece x ++ t) (text_append xs ys) ∙ sym (append_assoc (piece x) (text xs) (text ys)) ∙ ap (λ (t : List ℕ). t ++ text ys) (sym (cons x xs))
+
+  text_one : (x : X) → text (x ∷ []) ≡ piece x
+  text_one x = cons x [] ∙ ap (λ (t : List ℕ). piece x ++ t) empty ∙ append-nil (piece x)
+
+  text_more : (xs : List X) (i : ℕ) (d : X) → i < length xs → text (take (i + 1) xs) ≡ text (take i xs) ++ piece (get_or xs i d)
+  text_more xs i d lt = ap text (take_more xs i d lt) ∙ text_append (take i xs) (get_or xs i d ∷ []) ∙ ap (λ (t : List ℕ). text (take i xs) ++ t) (text_one (get_or xs i d))
+
+  module _ {A : Type 0} (xs : List X) (i : ℕ) (d : X) (lt : i < length xs) (a b c : PageState) (u : A) (so_far : Puts {A = A} a b (text (take i xs)) (Ok u)) where
+    pub loop_more : {B : Type 0} (r : Result B PageFault) (y : B) → r ≡ Ok y → Puts b c (piece (get_or xs i d)) r → Puts {A = A} a c (text (take (i + 1) xs)) (Ok u)
+    loop_more {B} r y good one =
+        let h : Puts {A = B} b c (piece (get_or xs i d)) (Ok y) = subst (λ (s : Result B PageFault). Puts b c (piece (get_or xs i d)) s) good one in
+        let all : Puts {A = B} a c (text (take i xs) ++ piece (get_or xs i d)) (Ok y) = puts_more a b c (text (take i xs)) (piece (get_or xs i d)) (Ok u) u (Ok y) refl so_far h in
+        subst (λ (t : List ℕ). Puts {A = A} a c t (Ok u)) (sym (text_more xs i d lt)) (all.0, all.1)
+
+    pub loop_stop : {B C : Type 0} (r : Result B PageFault) (fault : PageFault) (s : Result C PageFault) → r ≡ Err fault → s ≡ Err fault → Puts b c (piece (get_or xs i d)) r → Puts a c (text xs) s
+    loop_stop {B} {C} r fault s failed fails one =
+        let h : Puts {A = C} b c (piece (get_or xs i d) ++ text (drop (i + 1) xs)) s = puts_stop b c (piece (get_or xs i d)) (text (drop (i + 1) xs)) r fault s failed fails one in
+        let all : Puts {A = C} a c (text (take i xs) ++ (piece (get_or xs i d) ++ text (drop (i + 1) xs))) s = puts_more a b c (text (take i xs)) (piece (get_or xs i d) ++ text (drop (i + 1) xs)) (Ok u) u s refl so_far h in
+        let whole : text xs ≡ text (take i xs) ++ (piece (get_or xs i d) ++ text (drop (i + 1) xs)) =
+        ap text (sym (take-append-drop i xs)) ∙ text_append (take i xs) (drop i xs) ∙ ap (λ (ys : List X). text (take i xs) ++ text ys) (drop_more xs i d lt) ∙ ap (λ (t : List ℕ). text (take i xs) ++ t) (cons (get_or xs i d) (drop (i + 1) xs)) in
+        subst (λ (t : List ℕ). Puts a c t s) (sym whole) all
+
+  pub loop_done : {A : Type 0} (xs : List X) (i : ℕ) (a b : PageState) (u : A) → length xs ≤ i → Puts {A = A} a b (text (take i xs)) (Ok u) → Puts {A = A} a b (text xs) (Ok u)
+  loop_done {A} xs i a b u le so_far = subst (λ (ys : List X). Puts {A = A} a b (text ys) (Ok u)) (take_all i xs le) so_far

@@ -1,3 +1,4 @@
 pub mod Text
 pub mod Walks
 pub mod Pages
+pub mod Pieces

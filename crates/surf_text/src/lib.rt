@@ -10,12 +10,14 @@
 mod lines;
 mod number;
 mod page;
+mod pieces;
 mod places;
 mod tokens;
 
 pub use lines::{Line, Lines};
 pub use number::read_whole;
 pub use page::{Page, PageFault};
+pub use pieces::Piece;
 pub use tokens::Tokens;
 
 #[cfg(test)]

@@ -1,7 +1,9 @@
 //! A page on which a text is made.
 ghost use Rattle.std.specs.Prelude.{◌≡◌, ◌<◌, ◌≤◌, ◌+◌, [], length, decimal, IsErrOf, OnErr};
-ghost use Rattle.surf_text.specs.Pages.{grown, Puts};
+ghost use Rattle.surf_text.specs.Pages.{Puts};
+ghost use Rattle.surf_text.specs.Pieces.{piece_text, pieces_text};
 
+use crate::pieces::Piece;
 use itoa::Buffer;
 use std::alloc::{AllocError, Global};
 use std::marker::Model;
@@ -82,9 +84,33 @@ impl Page {
         self.push_bytes(buffer.format(n).as_bytes())
     }
 
+    fn push_piece(&mut self, piece: &Piece<'_>) -> Result<(), PageFault>
+        ensures puts { Puts self.old self.new (piece_text piece.now) result }
+    {
+        match piece {
+            Piece::Bytes(bytes) => self.push_bytes(bytes),
+            Piece::Whole(n) => self.push_whole(*n),
+        }
+    }
+
+    /// Puts pieces at the end, one after the other. Refuses with `Full` where the page would hold more than
+    /// `most` with all of them, and with `Memory` where there is none. After a refusal the page holds a front
+    /// of their text behind its bytes.
+    pub fn push_pieces(&mut self, pieces: &[Piece<'_>]) -> Result<(), PageFault>
+        ensures puts { Puts self.old self.new (pieces_text pieces.now) result }
+    {
+        let held = self.bytes.len() as u64;
+        prove!(held <= self.most);
+        for piece in pieces {
+            self.push_piece(piece)?;
+        }
+        Ok(())
+    }
+
     /// What it holds.
     pub fn bytes(&self) -> &[u8]
         ensures bytes { result.now ≡ self.now.bytes }
+        ensures fits { length self.now.bytes ≤ self.now.most }
     {
         &self.bytes
     }

@@ -1,0 +1,67 @@
+-- The OFF texts that are written.
+use Rattle.std.specs.Prelude.{◌≡◌, ◌+◌, ◌<◌, ℕ, List, [], ◌∷◌, ◌++◌, length, map, codes, decimal, slice_index, slice_index_or}
+use Rattle.std.specs.List.{All, zip, range_with_len}
+use Rattle.surf_complex.specs.Mesh.{Mesh, IsFace}
+use Rattle.surf_rows.specs.Rows.{cut, AreEnds}
+use Rattle.surf_off.specs.declared.header.Header.{Header}
+use Rattle.surf_off.specs.Keywords.{keyword}
+use Rattle.surf_off.specs.Off.{OffParts}
+
+-- the keyword's line, and that of the numbers of vertices, faces and edges
+abbrev pub head_text : Header → ℕ → ℕ → ℕ → List ℕ
+head_text header v f e = keyword header ++ (codes "\n" ++ (decimal v ++ (codes " " ++ (decimal f ++ (codes " " ++ (decimal e ++ codes "\n"))))))
+
+-- each line and its end
+abbrev pub lines_text : List (List ℕ) → List ℕ
+lines_text [] = []
+lines_text (line ∷ lines) = (line ++ codes "\n") ++ lines_text lines
+
+-- each number behind a space
+abbrev pub numbers_text : List ℕ → List ℕ
+numbers_text [] = []
+numbers_text (n ∷ ns) = (codes " " ++ decimal n) ++ numbers_text ns
+
+-- a colour behind a space, if there is one
+abbrev pub colour_text : List ℕ → List ℕ
+colour_text [] = []
+colour_text (b ∷ bs) = codes " " ++ (b ∷ bs)
+
+-- a face line: its size, its corners and its colour
+abbrev pub face_text : List ℕ → List ℕ → List ℕ
+face_text corners colour = decimal (length corners) ++ (numbers_text corners ++ (colour_text colour ++ codes "\n"))
+
+-- faces beside their colours
+abbrev pub faces_text : List (List ℕ × List ℕ) → List ℕ
+faces_text [] = []
+faces_text (face ∷ faces) = face_text face.0 face.1 ++ faces_text faces
+
+-- a mesh with its keyword, vertex lines and colours
+abbrev pub mesh_text : Header → List (List ℕ) → List (List ℕ) → List (List ℕ) → ℕ → List ℕ
+mesh_text header lines faces colours e = head_text header (length lines) (length faces) e ++ (lines_text lines ++ faces_text (zip faces colours))
+
+-- a comment that says of which vertex a copy is
+abbrev pub copy_text : ℕ → ℕ → List ℕ
+copy_text i v = codes "# copy " ++ (decimal i ++ (codes " from " ++ (decimal v ++ codes "\n")))
+
+-- the same for copies of these numbers
+abbrev pub copies_text : List ℕ → List ℕ → List ℕ
+copies_text origins [] = []
+copies_text origins (i ∷ is) = copy_text i (slice_index origins i) ++ copies_text origins is
+
+-- the vertex lines of the copies
+abbrev pub lines_at : List (List ℕ) → List ℕ → List (List ℕ)
+lines_at lines origins = map (λ v. slice_index_or lines v []) origins
+
+-- A table of starts begins with 0 and ends with the number of things.
+abbrev pub AreStarts : List ℕ → ℕ → Type 0
+AreStarts [] total = ⊥
+AreStarts (first ∷ ends) total = (first ≡ 0) × AreEnds 0 ends total
+
+-- the rows of a flat table, by the places where they start and where the last one ends
+abbrev pub rows_at : List ℕ → List ℕ → List (List ℕ)
+rows_at [] items = []
+rows_at (first ∷ ends) items = cut 0 ends items
+
+-- an opened mesh: the vertex lines of its copies, its faces and their colours, and a comment for each copy
+abbrev pub opened_text : OffParts → List ℕ → List (List ℕ) → ℕ → List ℕ
+opened_text parts origins faces e = mesh_text parts.header (lines_at parts.vertex_lines origins) faces parts.colours e ++ copies_text origins (range_with_len 0 (length origins))

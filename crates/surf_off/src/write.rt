@@ -1,0 +1,145 @@
+//! Writes an opened mesh as an OFF text.
+ghost use Rattle.std.specs.Prelude.{◌≡◌, ◌<◌, ◌≤◌, ◌+◌, [], length, slice_index_or};
+ghost use Rattle.std.specs.List.{All, zip, range_with_len};
+ghost use Rattle.surf_complex.specs.Mesh.{IsFace};
+ghost use Rattle.surf_text.specs.Pages.{Puts};
+ghost use Rattle.surf_off.specs.Written.{head_text, lines_text, numbers_text, colour_text, face_text, faces_text, copy_text, copies_text, lines_at, rows_at, AreStarts, opened_text};
+
+use crate::header::Header;
+use crate::text::OffText;
+use surf_base::{CopyId, VertexId};
+use surf_text::{Page, PageFault, Piece};
+
+pub(crate) fn write_head(
+    page: &mut Page,
+    header: Header,
+    vertices: usize,
+    faces: usize,
+    edges: u32,
+) -> Result<(), PageFault>
+    ensures puts { Puts page.old page.new (head_text header vertices faces edges) result }
+{
+    page.push_pieces(&[
+        Piece::Bytes(header.keyword()),
+        Piece::Bytes(b"\n"),
+        Piece::Whole(vertices as u128),
+        Piece::Bytes(b" "),
+        Piece::Whole(faces as u128),
+        Piece::Bytes(b" "),
+        Piece::Whole(edges as u128),
+        Piece::Bytes(b"\n"),
+    ])
+}
+
+// The line of each copy's vertex.
+fn write_lines(page: &mut Page, text: &OffText<'_>, origins: &[VertexId]) -> Result<(), PageFault>
+    requires fits { length page.old.bytes ≤ page.old.most }
+    requires within { All (λ v. v < length text.now.vertex_lines) origins.now }
+    ensures puts { Puts page.old page.new (lines_text (lines_at text.now.vertex_lines origins.now)) result }
+{
+    for v in origins {
+        page.push_pieces(&[Piece::Bytes(text.vertex_line(*v)), Piece::Bytes(b"\n")])?;
+    }
+    Ok(())
+}
+
+fn write_corners(page: &mut Page, corners: &[CopyId]) -> Result<(), PageFault>
+    requires fits { length page.old.bytes ≤ page.old.most }
+    ensures puts { Puts page.old page.new (numbers_text corners.now) result }
+{
+    for c in corners {
+        page.push_pieces(&[Piece::Bytes(b" "), Piece::Whole(c.index() as u128)])?;
+    }
+    Ok(())
+}
+
+pub(crate) fn write_colour(page: &mut Page, colour: &[u8]) -> Result<(), PageFault>
+    requires fits { length page.old.bytes ≤ page.old.most }
+    ensures puts { Puts page.old page.new (colour_text colour.now) result }
+{
+    if colour.is_empty() {
+        return Ok(());
+    }
+    page.push_pieces(&[Piece::Bytes(b" "), Piece::Bytes(colour)])
+}
+
+fn write_face(page: &mut Page, corners: &[CopyId], colour: &[u8]) -> Result<(), PageFault>
+    ensures puts { Puts page.old page.new (face_text corners.now colour.now) result }
+{
+    page.push_whole(corners.len() as u128)?;
+    write_corners(page, corners)?;
+    write_colour(page, colour)?;
+    page.push_bytes(b"\n")
+}
+
+// The corners of a face.
+fn face_at<'a>(corners: &'a [CopyId], starts: &[u32], f: usize) -> &'a [CopyId]
+    requires starts { AreStarts starts.now (length corners.now) }
+    requires within { f + 1 < length starts.now }
+    ensures face { result.now ≡ slice_index_or (rows_at starts.now corners.now) f [] }
+{
+    let start = starts[f] as usize;
+    let end = starts[f + 1] as usize;
+    &corners[start..end]
+}
+
+fn write_faces(
+    page: &mut Page,
+    text: &OffText<'_>,
+    corners: &[CopyId],
+    starts: &[u32],
+) -> Result<(), PageFault>
+    requires fits { length page.old.bytes ≤ page.old.most }
+    requires starts { AreStarts starts.now (length corners.now) }
+    requires count { length starts.now ≡ length text.now.colours + 1 }
+    ensures puts { Puts page.old page.new (faces_text (zip (rows_at starts.now corners.now) text.now.colours)) result }
+{
+    for f in 0..starts.len() - 1 {
+        write_face(page, face_at(corners, starts, f), text.colour_at(f))?;
+    }
+    Ok(())
+}
+
+// A comment for each copy.
+fn write_copies(page: &mut Page, origins: &[VertexId]) -> Result<(), PageFault>
+    requires fits { length page.old.bytes ≤ page.old.most }
+    ensures puts { Puts page.old page.new (copies_text origins.now (range_with_len 0 (length origins.now))) result }
+{
+    for i in 0..origins.len() {
+        page.push_pieces(&[
+            Piece::Bytes(b"# copy "),
+            Piece::Whole(i as u128),
+            Piece::Bytes(b" from "),
+            Piece::Whole(origins[i].index() as u128),
+            Piece::Bytes(b"\n"),
+        ])?;
+    }
+    Ok(())
+}
+
+/// Puts an opened mesh on a page: the keyword of `text`, the numbers of copies, faces and edges, the line of
+/// each copy's vertex, each face with its colour, and a comment for each copy that names its vertex.
+///
+/// `origins` has the vertex of each copy. The corners of face `f` are those from place `starts[f]` up to, but
+/// without, place `starts[f + 1]`. Refuses with `Full` where the page would hold more than its bound with the
+/// whole text, and with `Memory` where there is none. After a refusal the page holds a front of the text behind
+/// its bytes.
+pub fn write_off(
+    page: &mut Page,
+    text: &OffText<'_>,
+    origins: &[VertexId],
+    corners: &[CopyId],
+    starts: &[u32],
+    edges: u32,
+) -> Result<(), PageFault>
+    requires origins { All (λ v. v < length text.now.vertex_lines) origins.now }
+    requires starts { AreStarts starts.now (length corners.now) }
+    requires count { length starts.now ≡ length text.now.colours + 1 }
+    requires faces { All (IsFace (length origins.now)) (rows_at starts.now corners.now) }
+    ensures puts { Puts page.old page.new (opened_text text.now origins.now (rows_at starts.now corners.now) edges) result }
+{
+    write_head(page, text.header(), origins.len(), starts.len() - 1, edges)?;
+    write_lines(page, text, origins)?;
+    write_faces(page, text, corners, starts)?;
+    write_copies(page, origins)
+}
