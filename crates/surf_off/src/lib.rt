@@ -21,3 +21,6 @@ pub use header::Header;
 pub use read::read_off;
 pub use text::OffText;
 pub use write::write_off;
+
+#[cfg(test)]
+mod tests;
