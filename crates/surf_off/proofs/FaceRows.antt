@@ -3,7 +3,7 @@ use Rattle.std.proofs.Common.{◌≡◌, ◌<◌, ◌≤◌, ◌+◌, ◌-◌, �
 use Rattle.std.specs.List.{zip}
 use Rattle.surf_rows.specs.Rows.{cut, AreEnds}
 use Rattle.surf_rows.proofs.Cuts.{length-cut, span_at, get_or-cut}
-use Rattle.surf_off.specs.Written.{AreStarts, rows_at}
+use Rattle.surf_off.specs.Written.{AreStarts, rows_at, no_colours}
 
 next_start : (first : ℕ) (ends : List ℕ) (f : ℕ) → get_or (first ∷ ends) (f + 1) 0 ≡ get_or ends f 0
 next_start first ends f = let k : f + 1 ≡ suc f = omega arith in ap (λ (n : ℕ). get_or (first ∷ ends) n 0) k
@@ -43,3 +43,8 @@ pub other_default : (xs : List ℕ) (i d e : ℕ) → i < length xs → get_or x
 other_default [] i d e lt = absurd (omega arith)
 other_default (x ∷ xs) zero d e lt = refl
 other_default (x ∷ xs) (suc i) d e lt = other_default xs i d e (omega arith)
+
+pub no_colour : (faces : List (List ℕ)) (f : ℕ) → get_or (no_colours faces) f [] ≡ []
+no_colour [] f = refl
+no_colour (face ∷ faces) zero = refl
+no_colour (face ∷ faces) (suc f) = no_colour faces f

@@ -4,6 +4,7 @@ use Rattle.std.specs.List.{All, zip, range_with_len}
 use Rattle.surf_complex.specs.Mesh.{Mesh, IsFace}
 use Rattle.surf_rows.specs.Rows.{cut, AreEnds}
 use Rattle.surf_off.specs.declared.header.Header.{Header}
+use Rattle.surf_off.specs.declared.header.Header.TheVariants.{Off}
 use Rattle.surf_off.specs.Keywords.{keyword}
 use Rattle.surf_off.specs.Off.{OffParts}
 
@@ -65,3 +66,18 @@ rows_at (first ∷ ends) items = cut 0 ends items
 -- an opened mesh: the vertex lines of its copies, its faces and their colours, and a comment for each copy
 abbrev pub opened_text : OffParts → List ℕ → List (List ℕ) → ℕ → List ℕ
 opened_text parts origins faces e = mesh_text parts.header (lines_at parts.vertex_lines origins) faces parts.colours e ++ copies_text origins (range_with_len 0 (length origins))
+
+-- the vertex lines of a made mesh: the number of the vertex and two zeros
+abbrev pub point_text : ℕ → List ℕ
+point_text v = decimal v ++ codes " 0 0"
+
+abbrev pub points : List ℕ → List (List ℕ)
+points vs = map point_text vs
+
+-- no colour for any face
+abbrev pub no_colours : List (List ℕ) → List (List ℕ)
+no_colours faces = map (λ face. []) faces
+
+-- a made mesh
+abbrev pub soup_text : Mesh → ℕ → List ℕ
+soup_text mesh e = mesh_text Off (points (range_with_len 0 mesh.vertices)) mesh.faces (no_colours mesh.faces) e

@@ -11,6 +11,7 @@ mod faces;
 mod fault;
 mod head;
 mod header;
+mod made;
 mod read;
 mod text;
 mod vertices;
@@ -18,6 +19,7 @@ mod write;
 
 pub use fault::OffFault;
 pub use header::Header;
+pub use made::write_soup;
 pub use read::read_off;
 pub use text::OffText;
 pub use write::write_off;

@@ -1,0 +1,67 @@
+//! Writes a made mesh as an OFF text.
+ghost use Rattle.std.specs.Prelude.{◌≡◌, ◌≤◌, [], length};
+ghost use Rattle.std.specs.List.{zip, range_with_len};
+ghost use Rattle.surf_text.specs.Pages.{Puts};
+ghost use Rattle.surf_off.specs.Written.{lines_text, numbers_text, face_text, faces_text, points, no_colours, soup_text};
+
+use crate::header::Header;
+use crate::write::write_head;
+use surf_base::{FaceId, VertexId};
+use surf_mesh::Soup;
+use surf_text::{Page, PageFault, Piece};
+
+fn write_points(page: &mut Page, vertices: u32) -> Result<(), PageFault>
+    requires fits { length page.old.bytes ≤ page.old.most }
+    ensures puts { Puts page.old page.new (lines_text (points (range_with_len 0 vertices))) result }
+{
+    for v in 0..vertices {
+        page.push_pieces(&[Piece::Whole(v as u128), Piece::Bytes(b" 0 0\n")])?;
+    }
+    Ok(())
+}
+
+fn write_numbers(page: &mut Page, corners: &[VertexId]) -> Result<(), PageFault>
+    requires fits { length page.old.bytes ≤ page.old.most }
+    ensures puts { Puts page.old page.new (numbers_text corners.now) result }
+{
+    for c in corners {
+        page.push_pieces(&[Piece::Bytes(b" "), Piece::Whole(c.index() as u128)])?;
+    }
+    Ok(())
+}
+
+fn write_plain_face(page: &mut Page, corners: &[VertexId]) -> Result<(), PageFault>
+    ensures puts { Puts page.old page.new (face_text corners.now []) result }
+{
+    page.push_whole(corners.len() as u128)?;
+    write_numbers(page, corners)?;
+    page.push_bytes(b"\n")
+}
+
+fn write_plain_faces(page: &mut Page, soup: &Soup) -> Result<(), PageFault>
+    requires fits { length page.old.bytes ≤ page.old.most }
+    ensures puts { Puts page.old page.new (faces_text (zip soup.now.faces (no_colours soup.now.faces))) result }
+{
+    for f in 0..soup.faces() {
+        write_plain_face(page, soup.face(FaceId::new(f)))?;
+    }
+    Ok(())
+}
+
+/// Puts a made mesh on a page: the keyword `OFF`, the numbers of vertices, faces and edges, for each vertex a
+/// line with its number and two zeros, and the faces. Refuses with `Full` where the page would hold more than
+/// its bound with the whole text, and with `Memory` where there is none. After a refusal the page holds a front
+/// of the text behind its bytes.
+pub fn write_soup(page: &mut Page, soup: &Soup, edges: u32) -> Result<(), PageFault>
+    ensures puts { Puts page.old page.new (soup_text soup.now edges) result }
+{
+    write_head(
+        page,
+        Header::Off,
+        soup.vertices() as usize,
+        soup.faces() as usize,
+        edges,
+    )?;
+    write_points(page, soup.vertices())?;
+    write_plain_faces(page, soup)
+}
