@@ -4,9 +4,10 @@ use std::test::Fail;
 #[test]
 fn the_least_comes_out_first(rt: HostRuntime) -> Result<(), Fail> {
     let mut heap = Heap::make(rt.alloc(), 4).ok().ok_or("room")?;
-    for (place, key, tie) in [(2, 5, 0), (1, 5, 0), (2, 5, 1), (2, 3, 9)] {
-        heap.offer(place, key, tie);
-    }
+    heap.offer(2, 5, 0);
+    heap.offer(1, 5, 0);
+    heap.offer(2, 5, 1);
+    heap.offer(2, 3, 9);
     assert_eq!(rt; heap.take_least(), Some((2, 3, 9)));
     assert_eq!(rt; heap.take_least(), Some((1, 5, 0)));
     assert_eq!(rt; heap.take_least(), None);
@@ -16,9 +17,9 @@ fn the_least_comes_out_first(rt: HostRuntime) -> Result<(), Fail> {
 #[test]
 fn equal_keys_go_by_tie_and_place(rt: HostRuntime) -> Result<(), Fail> {
     let mut heap = Heap::make(rt.alloc(), 4).ok().ok_or("room")?;
-    for (place, key, tie) in [(3, 7, 1), (0, 7, 2), (1, 7, 1)] {
-        heap.offer(place, key, tie);
-    }
+    heap.offer(3, 7, 1);
+    heap.offer(0, 7, 2);
+    heap.offer(1, 7, 1);
     assert_eq!(rt; heap.take_least(), Some((1, 7, 1)));
     assert_eq!(rt; heap.take_least(), Some((3, 7, 1)));
     heap.clear();

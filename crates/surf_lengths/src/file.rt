@@ -126,6 +126,7 @@ fn missing_edge(default: Option<u32>, named: &[u32]) -> Option<usize>
 pub fn read_lengths(alloc: Global, text: &[u8], mesh: &HalfMesh) -> Result<Lengths, LengthFault>
     requires short { length text.now < 4294967295 }
     ensures gives { Gives result (lengths_in mesh.now text.now) }
+    ensures count { IfOk result (λ lengths. length lengths ≡ edge_count mesh.now) }
 {
     let mut lines = Lines::over(text);
     let (default, first) = read_head(&mut lines)?;

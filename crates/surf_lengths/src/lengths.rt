@@ -63,6 +63,7 @@ impl Lengths {
 /// Length 1 for each edge of a mesh.
 pub fn unit_lengths(alloc: Global, mesh: &HalfMesh) -> Result<Lengths, NoMemory>
     ensures ones { IfOk result (λ lengths. lengths ≡ replicate (edge_count mesh.now) 1) }
+    ensures count { IfOk result (λ lengths. length lengths ≡ edge_count mesh.now) }
 {
     let values = vec![in alloc; 1u32; mesh.edges() as usize]?;
     Ok(Lengths::from_values(values))

@@ -16,3 +16,6 @@ mod parents;
 mod search;
 
 pub use desk::TreeDesk;
+
+#[cfg(test)]
+mod tests;
