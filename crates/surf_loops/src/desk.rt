@@ -1,0 +1,127 @@
+//! The tables of the loops at one base.
+ghost use Rattle.std.specs.Prelude.{◌≡◌, ◌<◌, ◌≤◌, length, map, IfOk};
+ghost use Rattle.std.specs.List.{range_with_len};
+ghost use Rattle.surf_homology.specs.Cells.{IsSplit};
+ghost use Rattle.surf_homology.specs.Trees.{Tree};
+ghost use Rattle.surf_complex.specs.Cells.{cells_of};
+ghost use Rattle.surf_complex.specs.Surface.{edge_count};
+ghost use Rattle.surf_complex.specs.Loop.{loop_walk};
+ghost use Rattle.surf_complex.specs.Signature.{edge_signature};
+ghost use Rattle.surf_tree.specs.Tables.{tree_of};
+ghost use Rattle.surf_cotree.specs.Tables.{split_with};
+ghost use Rattle.surf_cotree.specs.Grown.{IsGrownOn};
+ghost use Rattle.surf_loops.specs.Loops.{LoopTables, IsMadeFor, IsRooted, IsGreedy};
+
+use crate::head::LoopHead;
+use crate::heads::{list_heads, set_weights};
+use crate::ways::push_way;
+use std::alloc::Global;
+use std::marker::Model;
+use surf_base::{EdgeId, NoMemory, VertexId};
+use surf_cotree::CotreeDesk;
+use surf_lengths::Lengths;
+use surf_mesh::{HalfMesh, Walk};
+use surf_tree::TreeDesk;
+
+/// The loops at a base: the tree of shortest walks, the heaviest tree of faces outside it by the lengths of loops, and
+/// the edges in neither, in the order of their loops.
+#[derive(Drop)]
+pub struct LoopDesk {
+    tree: TreeDesk,
+    cotree: CotreeDesk,
+    weight: Vec<u64>,
+    heads: Vec<LoopHead>,
+}
+
+impl Model for LoopDesk {
+    ghost use Rattle.std.specs.Prelude.{◌≡◌, ◌≤◌, length, vec_capacity};
+    ghost use Rattle.surf_loops.specs.Loops.{LoopTables};
+
+    ghost Value = { LoopTables };
+
+    ghost view = { λ d. record { tree = d.tree; cotree = d.cotree; heads = d.heads.items } };
+
+    ghost invariant = { λ d. (length d.weight.items ≡ length d.cotree.held)
+        × (length d.cotree.held ≤ vec_capacity d.heads) };
+}
+
+impl LoopDesk {
+    /// A desk for the loops of a mesh, and of every mesh with as many vertices, edges and faces. No later call but `walk`
+    /// takes memory.
+    pub fn make(alloc: Global, mesh: &HalfMesh) -> Result<LoopDesk, NoMemory>
+        ensures made { IfOk result (λ desk. IsMadeFor mesh.now desk) }
+    {
+        let edges = mesh.edges() as usize;
+        let tree = TreeDesk::make(alloc, mesh)?;
+        let cotree = CotreeDesk::make(alloc, mesh)?;
+        let weight = vec![in alloc; 0u64; edges]?;
+        let heads = Vec::with_capacity(alloc, edges)?;
+        Ok(LoopDesk {
+            tree,
+            cotree,
+            weight,
+            heads,
+        })
+    }
+
+    /// Finds the loops at a base that are chosen, a least loop system there. It takes no memory and can't be refused.
+    pub fn greedy(&mut self, mesh: &HalfMesh, lengths: &Lengths, base: VertexId)
+        requires made { IsMadeFor mesh.now self.old }
+        requires base { base < mesh.now.vertices }
+        requires lengths { length lengths.now ≡ edge_count mesh.now }
+        ensures greedy { IsGreedy mesh.now lengths.now base self.new }
+    {
+        let _edges = mesh.edges();
+        let _lengths = lengths.count();
+        self.tree.grow(mesh, lengths, base);
+        set_weights(mesh, lengths, &self.tree, &mut self.weight);
+        self.cotree.grow(mesh, self.tree.tree_edges(), &self.weight);
+        list_heads(self.cotree.left(), &self.weight, &mut self.heads);
+    }
+
+    /// Gives each edge its signature, until the next `greedy`. It takes no memory and can't be refused.
+    pub fn sign(&mut self, mesh: &HalfMesh)
+        requires grown { IsGrownOn mesh.now self.old.cotree }
+        requires few { length self.old.cotree.left ≤ 1024 }
+        ensures signed { (tree : Tree) → IsSplit (cells_of mesh.now) (split_with tree self.new.cotree) → self.new.cotree.signatures ≡ map (edge_signature mesh.now (split_with tree self.new.cotree)) (range_with_len 0 (edge_count mesh.now)) }
+        ensures rest { self.new ≡ record self.old { cotree = record self.old.cotree { signatures = self.new.cotree.signatures } } }
+    {
+        self.cotree.sign(mesh);
+    }
+
+    /// The edges of the loops with their lengths, in the order of (length, edge number).
+    pub fn heads(&self) -> &[LoopHead]
+        ensures heads { result.now ≡ self.now.heads }
+    {
+        &self.heads
+    }
+
+    /// The tree of shortest walks.
+    pub fn tree(&self) -> &TreeDesk
+        ensures tree { result.now ≡ self.now.tree }
+    {
+        &self.tree
+    }
+
+    /// The tree of faces, with the left edges and the signatures.
+    pub fn cotree(&self) -> &CotreeDesk
+        ensures cotree { result.now ≡ self.now.cotree }
+    {
+        &self.cotree
+    }
+
+    /// The loop of an edge: down the tree from the base to the lesser end, over the edge, and up to the base again.
+    pub fn walk(&self, alloc: Global, mesh: &HalfMesh, edge: EdgeId) -> Result<Walk, NoMemory>
+        requires rooted { IsRooted mesh.now self.now.tree }
+        requires edge { edge < edge_count mesh.now }
+        ensures walk { IfOk result (λ walk. walk ≡ loop_walk mesh.now (tree_of self.now.tree) edge) }
+    {
+        let _surface = mesh.faces();
+        let (u, v) = mesh.ends(edge);
+        let mut list = Vec::new(alloc);
+        push_way(mesh, &self.tree, u, &mut list)?;
+        list.reverse();
+        push_way(mesh, &self.tree, v, &mut list)?;
+        Ok(Walk::from_vertices(list))
+    }
+}

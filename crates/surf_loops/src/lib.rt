@@ -1,0 +1,17 @@
+//! Least systems of loops at a base.
+//!
+//! Each edge closes a loop with a tree of shortest walks from a base. Beside that tree stands the heaviest tree of faces
+//! over the other edges by the lengths of their loops, and the loops of the edges in neither tree, two less the
+//! characteristic of them, are together no longer than any as many independent closed walks at the base
+//! (J. Erickson and K. Whittlesey, "Greedy Optimal Homotopy and Homology Generators", SODA 2005).
+//!
+//! A desk takes all its memory when it is made, so that the loops at many bases are found on it one after the other.
+#![tactic(auto)]
+
+mod desk;
+mod head;
+mod heads;
+mod ways;
+
+pub use desk::LoopDesk;
+pub use head::LoopHead;
