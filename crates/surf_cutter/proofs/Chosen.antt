@@ -1,0 +1,43 @@
+-- What is opened along the full cut, or the trimmed one, is the chosen opening.
+use Rattle.std.proofs.Common.{◌≡◌, ℕ, ◌+◌, not, sym, ap, ◌∙◌, List, length, Bool, true, false, arith}
+use Rattle.surf_homology.specs.Trees.{Tree}
+use Rattle.surf_complex.specs.Cotree.{cotree_edges}
+use Rattle.surf_complex.specs.Disc.{IsOpening}
+use Rattle.surf_complex.specs.Mesh.{Mesh}
+use Rattle.surf_complex.specs.Surface.{face_count, edge_count, IsSurface}
+use Rattle.surf_opening.specs.ChosenCut.{AreDivided}
+use Rattle.surf_opening.specs.Laws.{AreInOrder, TellsCut}
+use Rattle.surf_opening.specs.Named.{whole}
+use Rattle.surf_opening.specs.Opening.{IsOpenedBy}
+use Rattle.surf_opening.proofs.ChosenOpenings.{some_list, full_cuts_are_chosen, trimmed_cuts_are_chosen, chosen_are_openings, full_openings_are_counted}
+use Rattle.surf_opening.proofs.CutCounts.{full_told}
+use Rattle.surf_slit.specs.Labels.{IsUncut}
+use Rattle.surf_cutter.specs.Opened.{MarksCotree, IsHeld, IsChosenFor, AreTurnedOver}
+use Rattle.surf_cutter.specs.Trimming.{is_cut, IsTrimmedFrom, HasEndedBy}
+use Rattle.surf_cutter.proofs.Trims.{told_same}
+
+module _ {mesh : Mesh} (surface : IsSurface mesh) (held cut : List Bool) (flags : length held ≡ edge_count mesh) (over : AreTurnedOver held cut) where
+  -- a list of the edges of the tree tells the full cut
+  told : {tree cotree : Tree} → (split : AreDivided mesh tree cotree) → MarksCotree mesh cotree held → TellsCut mesh (some_list surface split).0 (is_cut cut)
+  told {tree} {cotree} split marks =
+      let l = some_list surface split in
+      told_same mesh l.0 (λ e. not (cotree_edges mesh cotree e)) (is_cut cut) (λ e h. sym (over.1 e (omega arith) ∙ ap not (marks e h))) (full_told surface cotree l.0 l.1.its_edges)
+
+  module _ {origins : List ℕ} {faces : List (List ℕ)} where
+    pub full_chosen : IsOpenedBy mesh (IsUncut mesh cut) origins faces → AreInOrder mesh origins faces → IsChosenFor mesh held false (record { origins = origins; faces = faces })
+    full_chosen opened order tree cotree split marks =
+        let l = some_list surface split in
+        record { cut = is_cut cut; is_chosen = full_cuts_are_chosen mesh tree cotree l.0 (is_cut cut) surface split l.1 (told split marks); opened = opened; in_order = order }
+
+    pub trimmed_chosen : (less : List Bool) → IsTrimmedFrom mesh cut less → HasEndedBy mesh less → IsOpenedBy mesh (IsUncut mesh less) origins faces → AreInOrder mesh origins faces → IsChosenFor mesh held true (record { origins = origins; faces = faces })
+    trimmed_chosen less trimmed ended opened order tree cotree split marks =
+        let l = some_list surface split in
+        let t = trimmed l.0 l.0 whole (told split marks) in
+        record { cut = is_cut less; is_chosen = trimmed_cuts_are_chosen mesh tree cotree l.0 t.0 (is_cut less) surface split l.1 t.1 t.2 ended; opened = opened; in_order = order }
+
+pub chosen_opens : {mesh : Mesh} → IsSurface mesh → (held : List Bool) → IsHeld mesh held → (trim : Bool) (origins : List ℕ) (faces : List (List ℕ)) → IsChosenFor mesh held trim (record { origins = origins; faces = faces }) → IsOpening mesh origins faces
+chosen_opens {mesh} surface held is trim origins faces chosen = chosen_are_openings mesh is.0 is.1 trim origins faces surface is.2 (chosen is.0 is.1 is.2 is.3)
+
+pub full_counted : {mesh : Mesh} → IsSurface mesh → (held : List Bool) → IsHeld mesh held → (origins : List ℕ) (faces : List (List ℕ)) → IsChosenFor mesh held false (record { origins = origins; faces = faces }) →
+    length origins + (face_count mesh + face_count mesh) ≡ edge_count mesh + edge_count mesh + 2
+full_counted {mesh} surface held is origins faces chosen = full_openings_are_counted mesh is.0 is.1 origins faces surface is.2 (chosen is.0 is.1 is.2 is.3)

@@ -1,0 +1,5 @@
+pub mod Chosen
+pub mod Counted
+pub mod OpenedBy
+pub mod Sorted
+pub mod Trims

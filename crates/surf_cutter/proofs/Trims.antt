@@ -1,0 +1,222 @@
+-- Counts of cut edges while a cut is trimmed.
+use Rattle.std.proofs.Common.{◌≡◌, ◌≢◌, ℕ, zero, suc, ◌+◌, ◌-◌, ◌<◌, ◌≤◌, ◌⊎◌, ◌&&◌, not, inl, inr, sym, refl, subst, ap, ◌∙◌, cond, eqb, List, ◌∷◌, length, get_or, Bool, true, false, IsTrue, arith, ne_eqb}
+use Rattle.std.proofs.Math.ListN.{set}
+use Rattle.std.proofs.lemmas.Bool.{cases_eq, cases_lt, cases_Bool, cond-true, cond-false, and_from, and_parts, or_left, or_right, or_cases, or_from, eq-eqb, eqb-true, and_left, both_ways}
+use Rattle.std.proofs.lemmas.List.{get_or-set_same, get_or-set_other, length-set}
+use Rattle.surf_z2.specs.Parity.{count_below}
+use Rattle.surf_z2.specs.Space.{Chain}
+use Rattle.surf_z2.proofs.Sums.{count_below-same, count_below-without}
+use Rattle.surf_complex.specs.Mesh.{Mesh, pair}
+use Rattle.surf_complex.specs.Surface.{edge_count, ends, touches, IsSurface}
+use Rattle.surf_complex.proofs.CellLaws.{ends_below}
+use Rattle.surf_complex.proofs.FaceLaws.{pair_comm}
+use Rattle.surf_opening.specs.Laws.{TellsCut, cut_count, cut_degree, without}
+use Rattle.surf_opening.proofs.Cotrees.{ends_pair}
+use Rattle.surf_opening.proofs.CutCounts.{trimming_by_greatest_goes_on}
+use Rattle.surf_mesh.specs.Ring.{AreEdgesAt}
+use Rattle.surf_cutter.specs.Trimming.{is_cut, is_cut_at, AreDegrees, AreDegreesTo, IsTakenBack, IsTrimmedFrom, HasNoLeafFrom, HasNoOtherLeaf, HasEndedBy}
+
+passes : (p : ℕ → Bool) (n : ℕ) → p n ≡ true → count_below (suc n) p ≡ suc (count_below n p)
+passes p n e = let h : cond {A = ℕ} (p n) 1 0 ≡ 1 = cond-true {A = ℕ} (p n) 1 0 e in omega arith
+
+fails : (p : ℕ → Bool) (n : ℕ) → p n ≡ false → count_below (suc n) p ≡ count_below n p
+fails p n e = let h : cond {A = ℕ} (p n) 1 0 ≡ 0 = cond-false {A = ℕ} (p n) 1 0 e in omega arith
+
+pub count_passes : (p : ℕ → Bool) (n : ℕ) → p n ≡ true → count_below (n + 1) p ≡ count_below n p + 1
+count_passes p n e = let z : n + 1 ≡ suc n = omega arith in rw z (omega (arith, passes p n e))
+
+pub count_fails : (p : ℕ → Bool) (n : ℕ) → p n ≡ false → count_below (n + 1) p ≡ count_below n p
+count_fails p n e = let z : n + 1 ≡ suc n = omega arith in rw z (fails p n e)
+
+pub count_few : (p : ℕ → Bool) (n : ℕ) → count_below n p ≤ n
+count_few p zero = omega arith
+count_few p (suc n) = elim (cases_Bool (p n)) [ inl e ↦ omega (arith, passes p n e, count_few p n) | inr e ↦ omega (arith, fails p n e, count_few p n) ]
+
+-- what passes below n, where some does
+pub some_passes : (p : ℕ → Bool) (n : ℕ) → 0 < count_below n p → (k : ℕ) × (k < n) × (p k ≡ true)
+some_passes p zero h = absurd (omega arith)
+some_passes p (suc n) h = elim (cases_Bool (p n)) [
+  | inl e ↦ (n, omega arith, e)
+  | inr e ↦ let r = some_passes p n (let f = fails p n e in omega arith) in let lt = r.1 in (r.0, omega arith, r.2)
+]
+
+touches_end : (v a b : ℕ) → (a ≡ v) ⊎ (b ≡ v) → touches v (a, b) ≡ true
+touches_end v a b (inl e) = or_left (eqb a v) (eqb b v) (eq-eqb a v e)
+touches_end v a b (inr e) = or_right (eqb a v) (eqb b v) (eq-eqb b v e)
+
+touches_no : (v a b : ℕ) → a ≢ v → b ≢ v → touches v (a, b) ≡ false
+touches_no v a b x y = or_from (eqb a v) (eqb b v) (ne_eqb a v x) (ne_eqb b v y)
+
+-- one more edge is gone through
+pub degree_uncut : (mesh : Mesh) (cut : List Bool) (v e : ℕ) → get_or cut e false ≡ false → count_below (e + 1) (is_cut_at mesh cut v) ≡ count_below e (is_cut_at mesh cut v)
+degree_uncut mesh cut v e free = count_fails (is_cut_at mesh cut v) e (and_left (get_or cut e false) (touches v (ends mesh e)) free)
+
+pub degree_at : (mesh : Mesh) (cut : List Bool) (v e : ℕ) → get_or cut e false ≡ true → ((ends mesh e).0 ≡ v) ⊎ ((ends mesh e).1 ≡ v) → count_below (e + 1) (is_cut_at mesh cut v) ≡ count_below e (is_cut_at mesh cut v) + 1
+degree_at mesh cut v e is at = count_passes (is_cut_at mesh cut v) e (and_from (get_or cut e false) (touches v (ends mesh e)) is (touches_end v (ends mesh e).0 (ends mesh e).1 at))
+
+pub degree_off : (mesh : Mesh) (cut : List Bool) (v e : ℕ) → (ends mesh e).0 ≢ v → (ends mesh e).1 ≢ v → count_below (e + 1) (is_cut_at mesh cut v) ≡ count_below e (is_cut_at mesh cut v)
+degree_off mesh cut v e a b = count_fails (is_cut_at mesh cut v) e (Rattle.std.proofs.lemmas.Bool.and_right (get_or cut e false) (touches v (ends mesh e)) (touches_no v (ends mesh e).0 (ends mesh e).1 a b))
+
+-- the edge of a leaf is in the list of the edges there
+pub leaf_edge : (mesh : Mesh) (cut : List Bool) (v : ℕ) (edges : List ℕ) → AreEdgesAt mesh v edges → cut_degree mesh (is_cut cut) v ≡ 1 → (k : ℕ) × (k < length edges) × (get_or cut (get_or edges k 0) false ≡ true)
+leaf_edge mesh cut v edges are one =
+    let e = some_passes (is_cut_at mesh cut v) (edge_count mesh) (omega arith) in
+    let both = and_parts (get_or cut e.0 false) (touches v (ends mesh e.0)) e.2 in
+    let k = are.all e.0 (e.1, both.1) in
+    (k.0, k.1, ap (λ e. get_or cut e false) k.2 ∙ both.0)
+
+-- the same without one edge
+flag_off : (cut : List Bool) (e h : ℕ) → e < length cut → is_cut (set cut e false) h ≡ without (is_cut cut) e h
+flag_off cut e h lt = elim (cases_eq h e) [
+  | inl i ↦ let z : without (is_cut cut) e h ≡ false = rw (eq-eqb h e i) (Rattle.std.proofs.lemmas.Bool.and_right (get_or cut h false) false refl) in ap (λ h. get_or (set cut e false) h false) i ∙ get_or-set_same cut e false false lt ∙ sym z
+  | inr ne ↦ let z : without (is_cut cut) e h ≡ get_or cut h false = rw (ne_eqb h e ne) (and_true (get_or cut h false)) in get_or-set_other cut e h false false ne ∙ sym z
+]
+  where
+    and_true : (b : Bool) → (b && true) ≡ b
+    and_true true = refl
+    and_true false = refl
+
+eqb_comm : (a b : ℕ) → eqb a b ≡ eqb b a
+eqb_comm a b = elim (cases_eq a b) [ inl e ↦ eq-eqb a b e ∙ sym (eq-eqb b a (sym e)) | inr ne ↦ ne_eqb a b ne ∙ sym (ne_eqb b a (λ e. ne (sym e))) ]
+
+pub count_without : (mesh : Mesh) (cut : List Bool) (e : ℕ) → e < edge_count mesh → e < length cut → get_or cut e false ≡ true → cut_count mesh (is_cut cut) ≡ suc (cut_count mesh (is_cut (set cut e false)))
+count_without mesh cut e h lt is =
+    count_below-without (edge_count mesh) e (is_cut cut) h is
+    ∙ ap suc (count_below-same (edge_count mesh) (λ k. is_cut cut k && not (eqb e k)) (is_cut (set cut e false)) (λ k l. ap (λ b. is_cut cut k && not b) (eqb_comm e k) ∙ sym (flag_off cut e k lt)))
+
+degree_same : (mesh : Mesh) (cut : List Bool) (e v : ℕ) → e < length cut → touches v (ends mesh e) ≡ false → cut_degree mesh (is_cut (set cut e false)) v ≡ cut_degree mesh (is_cut cut) v
+degree_same mesh cut e v lt off = count_below-same (edge_count mesh) (is_cut_at mesh (set cut e false) v) (is_cut_at mesh cut v) (λ k l. elim (cases_eq k e) [
+  | inl i ↦ let z : touches v (ends mesh k) ≡ false = ap (λ k. touches v (ends mesh k)) i ∙ off in Rattle.std.proofs.lemmas.Bool.and_right (get_or (set cut e false) k false) (touches v (ends mesh k)) z ∙ sym (Rattle.std.proofs.lemmas.Bool.and_right (get_or cut k false) (touches v (ends mesh k)) z)
+  | inr ne ↦ ap (λ b. b && touches v (ends mesh k)) (get_or-set_other cut e k false false ne)
+])
+
+degree_less : (mesh : Mesh) (cut : List Bool) (e v : ℕ) → e < edge_count mesh → e < length cut → get_or cut e false ≡ true → touches v (ends mesh e) ≡ true → cut_degree mesh (is_cut cut) v ≡ suc (cut_degree mesh (is_cut (set cut e false)) v)
+degree_less mesh cut e v h lt is on =
+    count_below-without (edge_count mesh) e (is_cut_at mesh cut v) h (and_from (get_or cut e false) (touches v (ends mesh e)) is on)
+    ∙ ap suc (count_below-same (edge_count mesh) (λ k. is_cut_at mesh cut v k && not (eqb e k)) (is_cut_at mesh (set cut e false) v) (λ k l.
+    ap (λ b. is_cut_at mesh cut v k && not b) (eqb_comm e k) ∙ swap (is_cut cut k) (touches v (ends mesh k)) (not (eqb k e)) ∙ ap (λ b. b && touches v (ends mesh k)) (sym (flag_off cut e k lt))))
+  where
+    swap : (a b c : Bool) → (a && b && c) ≡ (a && c && b)
+    swap true true true = refl
+    swap true true false = refl
+    swap true false true = refl
+    swap true false false = refl
+    swap false b c = refl
+
+-- the edge with the given ends is taken back, and its ends count one less
+pub taken_back : {mesh : Mesh} → IsSurface mesh → (cut : List Bool) (degree less : List ℕ) (p q e : ℕ) → AreDegrees mesh cut degree → length cut ≡ edge_count mesh → e < edge_count mesh → get_or cut e false ≡ true →
+    length less ≡ length degree → get_or less (ends mesh e).0 0 + 1 ≡ get_or degree (ends mesh e).0 0 → get_or less (ends mesh e).1 0 + 1 ≡ get_or degree (ends mesh e).1 0 →
+    ((v : ℕ) → v ≢ (ends mesh e).0 → v ≢ (ends mesh e).1 → get_or less v 0 ≡ get_or degree v 0) → get_or degree p 0 ≡ 1 →
+    (((ends mesh e).0 ≡ p) × ((ends mesh e).1 ≡ q)) ⊎ (((ends mesh e).1 ≡ p) × ((ends mesh e).0 ≡ q)) → IsTakenBack mesh p q cut (set cut e false) degree less
+taken_back {mesh} surface cut degree less p q e are flags h is size first second rest one which =
+    let lt : e < length cut = omega arith in
+    let below = ends_below mesh surface.is_mesh e h in
+    let u = (ends mesh e).0 in
+    let w = (ends mesh e).1 in
+    let in_u : u < mesh.vertices = omega (arith, below.0, below.1) in
+    record {
+      taken = (
+        e,
+        record {
+          is_edge = h;
+          is_cut = is;
+          its_ends = elim which [
+            | inl o ↦ sym (ends_pair surface e h) ∙ ap (λ x. pair x (ends mesh e).1) o.0 ∙ ap (pair p) o.1
+            | inr o ↦ sym (ends_pair surface e h) ∙ pair_comm (ends mesh e).0 (ends mesh e).1 ∙ ap (λ x. pair x (ends mesh e).0) o.0 ∙ ap (pair p) o.1
+          ];
+        },
+        refl,
+      );
+      other_end = elim which [ inl o ↦ subst (λ q. q < mesh.vertices) o.1 below.1 | inr o ↦ subst (λ q. q < mesh.vertices) o.1 in_u ];
+      degrees = record {
+        size = size ∙ are.size;
+        counted = λ v v_in. elim (cases_eq u v) [
+          | inl i ↦
+              let s = degree_less mesh cut e v h lt is (touches_end v (ends mesh e).0 (ends mesh e).1 (inl i)) in
+              let d = are.counted v v_in in
+              let f : get_or less v 0 + 1 ≡ get_or degree v 0 = subst (λ u. get_or less u 0 + 1 ≡ get_or degree u 0) i first in
+              omega arith
+          | inr nu ↦ elim (cases_eq w v) [
+            | inl i ↦
+                let s = degree_less mesh cut e v h lt is (touches_end v (ends mesh e).0 (ends mesh e).1 (inr i)) in
+                let d = are.counted v v_in in
+                let f : get_or less v 0 + 1 ≡ get_or degree v 0 = subst (λ u. get_or less u 0 + 1 ≡ get_or degree u 0) i second in
+                omega arith
+            | inr nw ↦ rest v (λ i. nu (sym i)) (λ i. nw (sym i)) ∙ are.counted v v_in ∙ sym (degree_same mesh cut e v lt (touches_no v (ends mesh e).0 (ends mesh e).1 nu nw))
+          ]
+        ];
+      };
+      leaf_done = elim which [
+        | inl o ↦ let f : get_or less p 0 + 1 ≡ get_or degree p 0 = subst (λ u. get_or less u 0 + 1 ≡ get_or degree u 0) o.0 first in omega arith
+        | inr o ↦ let f : get_or less p 0 + 1 ≡ get_or degree p 0 = subst (λ u. get_or less u 0 + 1 ≡ get_or degree u 0) o.0 second in omega arith
+      ];
+      others = λ v np nq. elim which [
+        | inl o ↦ rest v (λ i. np (i ∙ o.0)) (λ i. nq (i ∙ o.1))
+        | inr o ↦ rest v (λ i. nq (i ∙ o.1)) (λ i. np (i ∙ o.0))
+      ];
+    }
+
+-- sets of edges that agree have one list
+pub told_same : (mesh : Mesh) (uncut : List (ℕ × ℕ)) (a b : Chain) → ((e : ℕ) → e < edge_count mesh → a e ≡ b e) → TellsCut mesh uncut a → TellsCut mesh uncut b
+told_same mesh uncut a b same told e h = let k = told e h in ((λ x. k.0 (subst (λ t. IsTrue t) (sym (same e h)) x)), (λ n. subst (λ t. IsTrue t) (same e h) (k.1 n)))
+
+-- the lists of uncut edges go along
+pub trimmed_none : (mesh : Mesh) (cut : List Bool) → IsTrimmedFrom mesh cut cut
+trimmed_none mesh cut list uncut trimmed told = (uncut, trimmed, told)
+
+pub trimmed_more : {mesh : Mesh} → IsSurface mesh → (first old new : List Bool) (degree less : List ℕ) (p q : ℕ) → IsTrimmedFrom mesh first old → AreDegrees mesh old degree → length old ≡ edge_count mesh → p < mesh.vertices →
+    get_or degree p 0 ≡ 1 → 2 < cut_count mesh (is_cut old) → ((v : ℕ) → p < v → v < mesh.vertices → get_or degree v 0 ≢ 1) → IsTakenBack mesh p q old new degree less → IsTrimmedFrom mesh first new
+trimmed_more {mesh} surface first old new degree less p q before are flags p_in one many above taken list uncut trimmed told =
+    let b = before list uncut trimmed told in
+    let e = taken.taken.0 in
+    let is = taken.taken.1 in
+    let edge : e < edge_count mesh = is.is_edge in
+    let lt : e < length old = omega arith in
+    let goes = trimming_by_greatest_goes_on mesh list b.0 (is_cut old) e p q surface b.1 b.2 edge is.is_cut is.its_ends (sym (are.counted p p_in) ∙ one) (omega arith)
+    (λ v v_in d. elim (cases_lt p v) [ inl gt ↦ absurd (above v gt v_in (are.counted v v_in ∙ d)) | inr le ↦ le ]) in
+    ((p, q) ∷ b.0, goes.0, told_same mesh ((p, q) ∷ b.0) (without (is_cut old) e) (is_cut new) (λ h _. sym (ap (λ (cut : List Bool). get_or cut h false) taken.taken.2 ∙ flag_off old e h lt)) goes.1)
+
+-- counting goes on by one edge
+pub degrees_more : (mesh : Mesh) (cut : List Bool) (e : ℕ) (old new : List ℕ) → AreDegreesTo mesh cut e old → get_or cut e false ≡ true → get_or new (ends mesh e).0 0 ≡ get_or old (ends mesh e).0 0 + 1 → get_or new (ends mesh e).1 0 ≡ get_or old (ends mesh e).1 0 + 1 →
+    ((v : ℕ) → v ≢ (ends mesh e).0 → v ≢ (ends mesh e).1 → get_or new v 0 ≡ get_or old v 0) → AreDegreesTo mesh cut (e + 1) new
+degrees_more mesh cut e old new so_far is first second rest v h = elim (cases_eq (ends mesh e).0 v) [
+  | inl i ↦ subst (λ u. get_or new u 0 ≡ get_or old u 0 + 1) i first ∙ ap (λ n. n + 1) (so_far v h) ∙ sym (degree_at mesh cut v e is (inl i))
+  | inr nu ↦ elim (cases_eq (ends mesh e).1 v) [
+    | inl i ↦ subst (λ u. get_or new u 0 ≡ get_or old u 0 + 1) i second ∙ ap (λ n. n + 1) (so_far v h) ∙ sym (degree_at mesh cut v e is (inr i))
+    | inr nw ↦ rest v (λ i. nu (sym i)) (λ i. nw (sym i)) ∙ so_far v h ∙ sym (degree_off mesh cut v e nu nw)
+  ]
+]
+
+pub degrees_none : (mesh : Mesh) (cut : List Bool) (e : ℕ) (old : List ℕ) → AreDegreesTo mesh cut e old → get_or cut e false ≡ false → AreDegreesTo mesh cut (e + 1) old
+degrees_none mesh cut e old so_far free v h = so_far v h ∙ sym (degree_uncut mesh cut v e free)
+
+-- a cut edge counts at its ends
+pub end_counts : (mesh : Mesh) (cut : List Bool) (degree : List ℕ) (e v : ℕ) → AreDegrees mesh cut degree → v < mesh.vertices → e < edge_count mesh → get_or cut e false ≡ true → ((ends mesh e).0 ≡ v) ⊎ ((ends mesh e).1 ≡ v) → length cut ≡ edge_count mesh → 0 < get_or degree v 0
+end_counts mesh cut degree e v are v_in h is at flags = let d = degree_less mesh cut e v h (omega arith) is (touches_end v (ends mesh e).0 (ends mesh e).1 at) in let c = are.counted v v_in in omega arith
+
+-- there is one cut edge less
+pub count_taken : {mesh : Mesh} (p q : ℕ) (old new : List Bool) (degree less : List ℕ) → length old ≡ edge_count mesh → IsTakenBack mesh p q old new degree less → cut_count mesh (is_cut old) ≡ suc (cut_count mesh (is_cut new))
+count_taken {mesh} p q old new degree less flags t =
+    let e = t.taken.0 in
+    let is = t.taken.1 in
+    let lt = is.is_edge in
+    count_without mesh old e is.is_edge (omega arith) is.is_cut ∙ ap (λ (cut : List Bool). suc (cut_count mesh (is_cut cut))) (sym t.taken.2)
+
+pub size_taken : {mesh : Mesh} (p q : ℕ) (old new : List Bool) (degree less : List ℕ) → IsTakenBack mesh p q old new degree less → length new ≡ length old
+size_taken {mesh} p q old new degree less t = ap length t.taken.2 ∙ length-set old t.taken.0 false
+
+pub degree_few : (mesh : Mesh) (cut : List Bool) (e v : ℕ) (degree : List ℕ) → AreDegreesTo mesh cut e degree → v < mesh.vertices → get_or degree v 0 ≤ e
+degree_few mesh cut e v degree are h = let d = are v h in omega (arith, count_few (is_cut_at mesh cut v) e)
+
+-- trimming from a vertex on has come to its end
+pub no_other_left : {mesh : Mesh} (p q low : ℕ) (old new : List Bool) (degree less : List ℕ) (left : ℕ) → 2 < left → HasNoOtherLeaf mesh low p degree left → IsTakenBack mesh p q old new degree less → HasNoOtherLeaf mesh low q less (left - 1)
+no_other_left {mesh} p q low old new degree less left many none t more v from v_in nq = elim (cases_eq v p) [
+  | inl i ↦ λ one. let z = t.leaf_done in let y = ap (λ v. get_or less v 0) i in absurd (omega arith)
+  | inr np ↦ λ one. none many v from v_in np (sym (t.others v np nq) ∙ one)
+]
+
+pub has_ended : {mesh : Mesh} (cut : List Bool) (degree : List ℕ) (left : ℕ) → AreDegrees mesh cut degree → left ≡ cut_count mesh (is_cut cut) → HasNoLeafFrom mesh 0 degree left → HasEndedBy mesh cut
+has_ended {mesh} cut degree left are counted none = elim (cases_lt 2 left) [
+  | inr few ↦ inl (omega arith)
+  | inl many ↦ inr (λ v h one. none many v (omega arith) h (are.counted v h ∙ one))
+]

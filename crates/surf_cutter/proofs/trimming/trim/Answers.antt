@@ -1,0 +1,14 @@
+use Rattle.std.proofs.Common.{◌≡◌, subst, arith}
+use Rattle.surf_mesh.proofs.HalfLaws.{edges_few}
+use Rattle.surf_cutter.specs.Trimming.{HasNoLeafFrom}
+use Rattle.surf_cutter.proofs.Trims.{has_ended}
+use Rattle.surf_cutter.proofs.trimming.trim.Goals as goal
+
+pub count_cut-left-requires : goal.count_cut-left-requires
+count_cut-left-requires c = omega (arith, c.requires.flags, edges_few c.args.mesh.now c.faces-surface.ensures.surface, c.faces-surface.ensures.few)
+
+pub returns-clause-ended : goal.returns-clause-ended
+returns-clause-ended c =
+    let i = c.loop-low.invariant in
+    let zero_low : c.loop-low.low ≡ 0 = omega (arith, c.loop-low-test.false) in
+    has_ended c.loop-low.cut c.loop-low.degree c.loop-low.left i.degrees i.counted (subst (λ low. HasNoLeafFrom c.args.mesh.now low c.loop-low.degree c.loop-low.left) zero_low i.above)

@@ -1,0 +1,51 @@
+-- Labels of corners numbered in the order in which a list meets them.
+use Rattle.std.specs.Prelude.{◌≡◌, ◌≢◌, ℕ, ◌+◌, ◌<◌, ◌≤◌, ◌⊎◌, List, [], length, slice_index, slice_index_or}
+use Rattle.surf_complex.specs.Mesh.{Mesh}
+use Rattle.surf_complex.specs.Surface.{face_at}
+use Rattle.surf_mesh.specs.Half.{first_side}
+use Rattle.surf_mesh.specs.Sides.{side_count}
+use Rattle.surf_slit.specs.Labels.{corner_at}
+
+-- what stands for no number yet
+abbrev pub nobody : ℕ
+nobody = 4294967295
+
+-- the label of the side at a place of a list
+abbrev pub label_at : List ℕ → List ℕ → ℕ → ℕ
+label_at order labels j = slice_index labels (slice_index order j)
+
+-- a place is the first one whose label has the number c: all places before have lesser numbers
+pub record IsFirst (order labels tails numbers origins : List ℕ) (c p : ℕ) : Type 0 where
+  pub has : slice_index numbers (label_at order labels p) ≡ c
+  pub lesser : (j : ℕ) → j < p → slice_index numbers (label_at order labels j) < c
+  pub vertex : slice_index origins c ≡ slice_index tails (slice_index order p)
+
+-- The labels of the first n sides of a list are numbered in the order in which they come, and each number has the vertex of its label.
+pub record AreCounted (order labels tails : List ℕ) (n : ℕ) (numbers origins : List ℕ) : Type 0 where
+  pub few : length origins ≤ n
+  pub unset : (l : ℕ) → l < length numbers → ((j : ℕ) → j < n → label_at order labels j ≢ l) → slice_index numbers l ≡ nobody
+  pub below : (j : ℕ) → j < n → slice_index numbers (label_at order labels j) < length origins
+  pub first : (c : ℕ) → c < length origins → (p : ℕ) × (p < n) × IsFirst order labels tails numbers origins c p
+  pub apart : (j k : ℕ) → j < n → k < n → slice_index numbers (label_at order labels j) ≡ slice_index numbers (label_at order labels k) → label_at order labels j ≡ label_at order labels k
+
+-- the numbers of the labels of the first n of some sides
+pub record AreNumbersOf (sides labels numbers : List ℕ) (n : ℕ) (row : List ℕ) : Type 0 where
+  pub size : length row ≡ n
+  pub entries : (k : ℕ) → k < n → slice_index row k ≡ slice_index numbers (label_at sides labels k)
+
+-- the first n faces with the numbers of their corners' labels in place of the corners
+pub record AreCopied (mesh : Mesh) (labels numbers : List ℕ) (n : ℕ) (faces : List (List ℕ)) : Type 0 where
+  pub size : length faces ≡ n
+  pub row_sizes : (f : ℕ) → f < n → length (slice_index_or faces f []) ≡ length (face_at mesh f)
+  pub entries : (f k : ℕ) → f < n → k < length (face_at mesh f) → slice_index (slice_index_or faces f []) k ≡ slice_index numbers (slice_index labels (first_side mesh f + k))
+
+-- by vertex, and at one vertex by number
+abbrev pub IsBefore : Mesh → ℕ → ℕ → Type 0
+IsBefore mesh s t = (corner_at mesh s < corner_at mesh t) ⊎ ((corner_at mesh s ≡ corner_at mesh t) × (s < t))
+
+-- a list of all sides, by the vertices at which they begin and at one vertex by number
+pub record AreSorted (mesh : Mesh) (order : List ℕ) : Type 0 where
+  pub few : length order ≤ side_count mesh
+  pub inside : (i : ℕ) → i < length order → slice_index order i < side_count mesh
+  pub has : (s : ℕ) → s < side_count mesh → (i : ℕ) × (i < length order) × (slice_index order i ≡ s)
+  pub rises : (i j : ℕ) → i < j → j < length order → IsBefore mesh (slice_index order i) (slice_index order j)

@@ -1,0 +1,48 @@
+-- Opened surfaces, and which cuts open a surface.
+use Rattle.std.specs.Prelude.{◌≡◌, ℕ, ◌+◌, ◌<◌, ◌≤◌, ◌^◌, List, Bool, false, not, length, take, slice_index, slice_index_or}
+use Rattle.std.specs.List.{sum_by}
+use Rattle.surf_homology.specs.Trees.{Tree}
+use Rattle.surf_complex.specs.Cotree.{cotree_edges}
+use Rattle.surf_complex.specs.Disc.{IsDisc}
+use Rattle.surf_complex.specs.Mesh.{Mesh}
+use Rattle.surf_complex.specs.Surface.{edge_count}
+use Rattle.surf_opening.specs.ChosenCut.{AreDivided, IsChosenOpening}
+
+-- the vertex of each copy, and the faces with copies for corners
+pub record OpenMesh : Type 0 where
+  pub origins : List ℕ
+  pub faces : List (List ℕ)
+
+-- the faces over the copies
+abbrev pub mesh_of : OpenMesh → Mesh
+mesh_of opened = record { vertices = length opened.origins; faces = opened.faces }
+
+-- where the faces begin among the corners of all faces, and the end
+pub record AreStarts (faces : List (List ℕ)) (starts : List ℕ) : Type 0 where
+  pub size : length starts ≡ length faces + 1
+  pub at : (f : ℕ) → f ≤ length faces → slice_index starts f ≡ sum_by length (take f faces)
+
+-- what an opened surface keeps: its faces over its copies are a disc
+pub record IsOpened (opened : OpenMesh) (starts : List ℕ) : Type 0 where
+  pub disc : IsDisc (mesh_of opened)
+  pub few_copies : length opened.origins < 2 ^ 30
+  pub few_faces : length opened.faces < 2 ^ 30
+  pub are_starts : AreStarts opened.faces starts
+
+-- the flags mark the edges of the tree of faces
+abbrev pub MarksCotree : Mesh → Tree → List Bool → Type 0
+MarksCotree mesh cotree held = (e : ℕ) → e < edge_count mesh → slice_index_or held e false ≡ cotree_edges mesh cotree e
+
+-- the flags mark the edges of a tree of the faces that goes with a tree of the vertices
+abbrev pub IsHeld : Mesh → List Bool → Type 0
+IsHeld mesh held = (tree : Tree) × (cotree : Tree) × AreDivided mesh tree cotree × MarksCotree mesh cotree held
+
+-- for each such pair of trees, this is the opening along the chosen cut: the trimmed one or the full one
+abbrev pub IsChosenFor : Mesh → List Bool → Bool → OpenMesh → Type 0
+IsChosenFor mesh held trim opened =
+    (tree cotree : Tree) → AreDivided mesh tree cotree → MarksCotree mesh cotree held →
+    IsChosenOpening mesh tree cotree trim opened.origins opened.faces
+
+-- each edge is marked in exactly one of the two tables
+abbrev pub AreTurnedOver : List Bool → List Bool → Type 0
+AreTurnedOver held cut = (length cut ≡ length held) × ((e : ℕ) → e < length held → slice_index_or cut e false ≡ not (slice_index_or held e false))

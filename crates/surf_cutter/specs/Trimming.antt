@@ -1,0 +1,59 @@
+-- Cuts by a flag for each edge, and how they are trimmed.
+use Rattle.std.specs.Prelude.{◌≡◌, ◌≢◌, ℕ, ◌<◌, ◌≤◌, ◌⊎◌, ◌&&◌, Bool, true, false, List, length, slice_index, slice_index_or, slice_set}
+use Rattle.surf_z2.specs.Parity.{count_below}
+use Rattle.surf_z2.specs.Space.{Chain}
+use Rattle.surf_complex.specs.Mesh.{Mesh, pair}
+use Rattle.surf_complex.specs.Surface.{edge_count, ends, touches}
+use Rattle.surf_opening.specs.Laws.{TellsCut, cut_count, cut_degree}
+use Rattle.surf_opening.specs.Named.{IsTrimmedByGreatest}
+use Rattle.surf_opening.specs.Side.{Side}
+
+-- the set of the edges with a flag
+abbrev pub is_cut : List Bool → Chain
+is_cut cut e = slice_index_or cut e false
+
+-- whether an edge is cut and has the vertex
+abbrev pub is_cut_at : Mesh → List Bool → ℕ → ℕ → Bool
+is_cut_at mesh cut v e = slice_index_or cut e false && touches v (ends mesh e)
+
+-- how many of the first n edges are cut at each vertex
+abbrev pub AreDegreesTo : Mesh → List Bool → ℕ → List ℕ → Type 0
+AreDegreesTo mesh cut n degree = (v : ℕ) → v < mesh.vertices → slice_index degree v ≡ count_below n (is_cut_at mesh cut v)
+
+-- how many cut edges each vertex has
+pub record AreDegrees (mesh : Mesh) (cut : List Bool) (degree : List ℕ) : Type 0 where
+  pub size : length degree ≡ mesh.vertices
+  pub counted : (v : ℕ) → v < mesh.vertices → slice_index degree v ≡ cut_degree mesh (is_cut cut) v
+
+-- a cut edge between p and q
+pub record IsCutBetween (mesh : Mesh) (cut : List Bool) (p q e : ℕ) : Type 0 where
+  pub is_edge : e < edge_count mesh
+  pub is_cut : slice_index_or cut e false ≡ true
+  pub its_ends : ends mesh e ≡ pair p q
+
+-- the edge of a leaf p is taken out of the cut
+pub record IsTakenBack (mesh : Mesh) (p q : ℕ) (old new : List Bool) (degree less : List ℕ) : Type 0 where
+  pub taken : (e : ℕ) × IsCutBetween mesh old p q e × (new ≡ slice_set old e false)
+  pub other_end : q < mesh.vertices
+  pub degrees : AreDegrees mesh new less
+  pub leaf_done : slice_index less p ≡ 0
+  pub others : (v : ℕ) → v ≢ p → v ≢ q → slice_index less v ≡ slice_index degree v
+
+-- one cut comes from the other by taking back, one by one, the edge of the greatest vertex with exactly one cut edge, while more than two are cut
+abbrev pub IsTrimmedFrom : Mesh → List Bool → List Bool → Type 0
+IsTrimmedFrom mesh old new =
+    (list uncut : List (ℕ × ℕ)) → IsTrimmedByGreatest (Side mesh) list uncut → TellsCut mesh uncut (is_cut old) →
+    (more : List (ℕ × ℕ)) × IsTrimmedByGreatest (Side mesh) list more × TellsCut mesh more (is_cut new)
+
+-- while more than two edges are cut, no vertex from the given one on has exactly one of them
+abbrev pub HasNoLeafFrom : Mesh → ℕ → List ℕ → ℕ → Type 0
+HasNoLeafFrom mesh low degree count = 2 < count → (v : ℕ) → low ≤ v → v < mesh.vertices → slice_index degree v ≢ 1
+
+-- the same but for one vertex
+abbrev pub HasNoOtherLeaf : Mesh → ℕ → ℕ → List ℕ → ℕ → Type 0
+HasNoOtherLeaf mesh low leaf degree count = 2 < count → (v : ℕ) → low ≤ v → v < mesh.vertices → v ≢ leaf → slice_index degree v ≢ 1
+
+-- no more than two edges are cut, or no vertex has exactly one of them
+abbrev pub HasEndedBy : Mesh → List Bool → Type 0
+HasEndedBy mesh cut =
+    (cut_count mesh (is_cut cut) ≤ 2) ⊎ ((v : ℕ) → v < mesh.vertices → cut_degree mesh (is_cut cut) v ≢ 1)

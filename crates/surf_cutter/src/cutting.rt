@@ -1,0 +1,81 @@
+//! Cutting a surface open along the edges outside a tree of its faces.
+ghost use Rattle.std.specs.Prelude.{◌≡◌, ◌+◌, ◌<◌, ◌^◌, ℕ, true, false, not, length, IfOk, slice_index, slice_index_or};
+ghost use Rattle.std.specs.List.{sum_by};
+ghost use Rattle.surf_complex.specs.Disc.{IsOpening};
+ghost use Rattle.surf_complex.specs.Surface.{edge_count, face_count};
+ghost use Rattle.surf_opening.specs.Laws.{AreInOrder};
+ghost use Rattle.surf_opening.specs.Opening.{IsOpenedBy};
+ghost use Rattle.surf_mesh.specs.Sides.{side_count};
+ghost use Rattle.surf_slit.specs.Labels.{IsUncut};
+ghost use Rattle.surf_cutter.specs.Trimming.{IsTrimmedFrom, HasEndedBy};
+ghost use Rattle.surf_cutter.specs.Opened.{IsHeld, IsChosenFor, AreTurnedOver};
+
+use crate::Opened;
+use crate::copies::open_along;
+use crate::trimming::{count_degrees, trim};
+use std::alloc::Global;
+use surf_base::{CopyId, NoMemory, VertexId};
+use surf_mesh::HalfMesh;
+use surf_rows::Rows;
+
+// The edges that aren't held.
+fn turned_over(alloc: Global, held: &[bool]) -> Result<Vec<bool>, NoMemory>
+    ensures { IfOk result (λ v. AreTurnedOver held.now v.items) }
+{
+    let mut cut = Vec::with_capacity(alloc, held.len())?;
+    for e in 0..held.len() {
+        cut.push(!held[e])?;
+    }
+    Ok(cut)
+}
+
+// The surface opened along a cut that is trimmed before.
+fn open_by_trim(
+    alloc: Global,
+    mesh: &HalfMesh,
+    cut: &mut [bool],
+    degree: &mut [u32],
+) -> Result<(Vec<VertexId>, Rows<CopyId>), NoMemory>
+    requires flags { length cut.old ≡ edge_count mesh.now }
+    requires size { length degree.old ≡ mesh.now.vertices }
+    requires none { (v : ℕ) → v < mesh.now.vertices → slice_index degree.old v ≡ 0 }
+    ensures trimmed { IsTrimmedFrom mesh.now cut.old cut.new }
+    ensures ended { HasEndedBy mesh.now cut.new }
+    ensures opened { IfOk result (λ r. IsOpenedBy mesh.now (IsUncut mesh.now cut.new) r.0.items r.1) }
+    ensures order { IfOk result (λ r. AreInOrder mesh.now r.0.items r.1) }
+    ensures few { IfOk result (λ r. length r.0.items < 2 ^ 30) }
+    ensures corners { IfOk result (λ r. sum_by length r.1 ≡ side_count mesh.now) }
+{
+    count_degrees(mesh, cut, degree);
+    trim(mesh, cut, degree);
+    open_along(alloc, mesh, cut)
+}
+
+/// The surface cut along all edges that a tree of its faces doesn't hold, by a flag for each edge.
+pub fn open_full(alloc: Global, mesh: &HalfMesh, held: &[bool]) -> Result<Opened, NoMemory>
+    requires flags { length held.now ≡ edge_count mesh.now }
+    requires held { IsHeld mesh.now held.now }
+    ensures chosen { IfOk result (λ o. IsChosenFor mesh.now held.now false o) }
+    ensures opening { IfOk result (λ o. IsOpening mesh.now o.origins o.faces) }
+    ensures copies { IfOk result (λ o. length o.origins + (face_count mesh.now + face_count mesh.now) ≡ edge_count mesh.now + edge_count mesh.now + 2) }
+{
+    let _surface = mesh.faces();
+    let cut = turned_over(alloc, held)?;
+    let (origins, faces) = open_along(alloc, mesh, &cut)?;
+    Opened::from_parts(alloc, origins, faces)
+}
+
+/// The same with the cut trimmed: while more than two edges are cut and a vertex has exactly one of them,
+/// the greatest such vertex loses it.
+pub fn open_trimmed(alloc: Global, mesh: &HalfMesh, held: &[bool]) -> Result<Opened, NoMemory>
+    requires flags { length held.now ≡ edge_count mesh.now }
+    requires held { IsHeld mesh.now held.now }
+    ensures chosen { IfOk result (λ o. IsChosenFor mesh.now held.now true o) }
+    ensures opening { IfOk result (λ o. IsOpening mesh.now o.origins o.faces) }
+{
+    let _surface = mesh.faces();
+    let mut cut = turned_over(alloc, held)?;
+    let mut degree = vec![in alloc; 0u32; mesh.vertices() as usize]?;
+    let (origins, faces) = open_by_trim(alloc, mesh, &mut cut, &mut degree)?;
+    Opened::from_parts(alloc, origins, faces)
+}

@@ -1,0 +1,16 @@
+//! Surfaces cut open to a disc.
+//!
+//! A tree of the faces, in which neighbours share an edge, leaves edges uncut so that the faces hang
+//! together in one piece without a hole: cut along all other edges, the surface is a disc. `open_full` cuts
+//! along all of them, and `open_trimmed` takes the cut back where it ends at a vertex, as long as more than
+//! two edges are cut. `Opened` is the disc: its corners are copies of the surface's vertices, numbered in
+//! the order of their vertices, and those of one vertex in the order of the least faces that have them.
+#![tactic(auto)]
+
+mod copies;
+mod cutting;
+mod opened;
+mod trimming;
+
+pub use cutting::{open_full, open_trimmed};
+pub use opened::Opened;

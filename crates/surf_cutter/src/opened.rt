@@ -1,0 +1,111 @@
+//! The opened surface.
+ghost use Rattle.std.specs.Prelude.{◌≡◌, ◌<◌, ◌≤◌, ◌+◌, ◌^◌, ℕ, [], length, take, IfOk, slice_index, slice_index_or};
+ghost use Rattle.std.specs.List.{flat_map, sum_by};
+ghost use Rattle.surf_complex.specs.Disc.{IsDisc};
+ghost use Rattle.surf_complex.specs.Surface.{edge_count};
+ghost use Rattle.surf_cutter.specs.Opened.{mesh_of, AreStarts};
+
+use std::alloc::Global;
+use std::marker::Model;
+use surf_base::{CopyId, FaceId, NoMemory, VertexId};
+use surf_rows::Rows;
+
+/// A surface cut open: its faces with copies of its vertices for corners. They are a disc.
+#[derive(Drop)]
+pub struct Opened {
+    origins: Vec<VertexId>,
+    faces: Rows<CopyId>,
+    starts: Vec<u32>,
+}
+
+impl Model for Opened {
+    ghost use Rattle.surf_cutter.specs.Opened.{OpenMesh, IsOpened};
+
+    ghost Value = { OpenMesh };
+
+    ghost view = { λ o. record { origins = o.origins.items; faces = o.faces } };
+
+    ghost invariant = { λ o. IsOpened (record { origins = o.origins.items; faces = o.faces }) o.starts.items };
+}
+
+// Where each row begins among the things of all rows, and the end.
+fn starts_of(alloc: Global, faces: &Rows<CopyId>) -> Result<Vec<u32>, NoMemory>
+    requires { sum_by length faces.now < 2 ^ 32 }
+    ensures { IfOk result (λ v. AreStarts faces.now v.items) }
+{
+    let mut starts = vec![in alloc; 0u32; 1]?;
+    for f in 0..faces.len() {
+        let (_, end) = faces.span(f);
+        starts.push(end as u32)?;
+    }
+    Ok(starts)
+}
+
+impl Opened {
+    // The disc of some faces over copies.
+    pub(crate) fn from_parts(
+        alloc: Global,
+        origins: Vec<VertexId>,
+        faces: Rows<CopyId>,
+    ) -> Result<Opened, NoMemory>
+        requires disc { IsDisc (record { vertices = length origins.items; faces = faces }) }
+        requires few_copies { length origins.items < 2 ^ 30 }
+        requires few_faces { length faces < 2 ^ 30 }
+        requires few_corners { sum_by length faces < 2 ^ 32 }
+        ensures { IfOk result (λ o. o ≡ record { origins = origins.items; faces = faces }) }
+    {
+        let starts = starts_of(alloc, &faces)?;
+        Ok(Opened {
+            origins,
+            faces,
+            starts,
+        })
+    }
+
+    /// The vertex of the surface that a copy is of.
+    pub fn origin(&self, copy: CopyId) -> VertexId
+        requires { copy < length self.now.origins }
+        ensures { result ≡ slice_index self.now.origins copy }
+    {
+        self.origins[copy.index()]
+    }
+
+    /// The vertices that the copies are of, one entry a copy.
+    pub fn origins(&self) -> &[VertexId]
+        ensures origins { result.now ≡ self.now.origins }
+        ensures disc { IsDisc (mesh_of self.now) }
+    {
+        &self.origins
+    }
+
+    /// The corners of all faces as copies, face after face.
+    pub fn corners(&self) -> &[CopyId]
+        ensures { result.now ≡ flat_map (λ row. row) self.now.faces }
+    {
+        self.faces.items()
+    }
+
+    /// Where each face begins among the corners of all faces, and the end.
+    pub fn starts(&self) -> &[u32]
+        ensures { AreStarts self.now.faces result.now }
+    {
+        &self.starts
+    }
+
+    /// The corners of a face as copies.
+    pub fn face(&self, f: FaceId) -> &[CopyId]
+        requires { f < length self.now.faces }
+        ensures { result.now ≡ slice_index_or self.now.faces f [] }
+    {
+        self.faces.row(f.index())
+    }
+
+    /// How many edges the opened surface has.
+    pub fn edges(&self) -> u32
+        ensures { result ≡ edge_count (mesh_of self.now) }
+    {
+        let copies = self.origins.len() as u32;
+        let faces = self.faces.len() as u32;
+        copies + faces - 1
+    }
+}
