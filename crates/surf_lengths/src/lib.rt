@@ -15,6 +15,3 @@ mod line;
 pub use fault::LengthFault;
 pub use file::read_lengths;
 pub use lengths::{Lengths, unit_lengths};
-
-#[cfg(test)]
-mod tests;

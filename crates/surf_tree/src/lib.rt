@@ -16,6 +16,3 @@ mod parents;
 mod search;
 
 pub use desk::TreeDesk;
-
-#[cfg(test)]
-mod tests;
