@@ -27,7 +27,7 @@ use Rattle.surf_mesh.proofs.Order.{Ordered, all_filter, passing, range_below}
 use Rattle.surf_mesh.proofs.HalfLaws.{face_of_side, spans}
 use Rattle.surf_mesh.proofs.Mates.{member_filter, with_pair, with_all, ordered_filter, range_ordered}
 use Rattle.surf_mesh.proofs.Paired.{side_below}
-use Rattle.surf_mesh.proofs.SideNumbers.{pair_at_place, side_of_face, face_has_side, one_face, first_mono}
+use Rattle.surf_mesh.proofs.SideNumbers.{pair_at_place, side_of_face, face_has_side, one_face, first_mono, third}
 use Rattle.surf_mesh.proofs.VertexLaws.{corners_len, corner_at_place, IsPlaced, placed}
 use Rattle.surf_mesh.proofs.ApartLaws.{two_sides}
 use Rattle.surf_mesh.proofs.RoundSteps.{cross_in, corner_in, flip_corner, cross_vertex, walk_in, walk_vertex, round_closed, round_differ, round_sides}
@@ -147,12 +147,6 @@ touched v a b t = elim (cases_eq a v) [
 -- an edge is known by its ends
 one_edge : (mesh : Mesh) (d e : ℕ) → d < edge_count mesh → e < edge_count mesh → ends mesh d ≡ ends mesh e → d ≡ e
 one_edge mesh d e a b q = sym (place_of-ends mesh d a) ∙ ap (λ p. place_of p (edges mesh)) q ∙ place_of-ends mesh e b
-
-third : (s t m x y : ℕ) → s ≢ t → m ≢ s → (s ≡ x) ⊎ (s ≡ y) → (t ≡ x) ⊎ (t ≡ y) → (m ≡ x) ⊎ (m ≡ y) → m ≡ t
-third s t m x y a b p q r = elim p [
-  | inl e ↦ elim q [ inl f ↦ absurd (a (e ∙ sym f)) | inr f ↦ elim r [ inl g ↦ absurd (b (g ∙ sym e)) | inr g ↦ g ∙ sym f ] ]
-  | inr e ↦ elim q [ inl f ↦ elim r [ inl g ↦ g ∙ sym f | inr g ↦ absurd (b (g ∙ sym e)) ] | inr f ↦ absurd (a (e ∙ sym f)) ]
-]
 
 module _ (mesh : Mesh) (is_mesh : IsMesh mesh) (two : HasTwoFaces mesh) (mate : List ℕ) (mates : AreAllMates mesh mate) (next prev : List ℕ) (nexts : AreTurned after mesh (face_count mesh) next) (prevs : AreTurned before mesh (face_count mesh) prev) where
   abbrev tail : ℕ → ℕ
