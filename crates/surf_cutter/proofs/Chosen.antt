@@ -12,6 +12,8 @@ use Rattle.surf_opening.specs.Opening.{IsOpenedBy}
 use Rattle.surf_opening.proofs.ChosenOpenings.{some_list, full_cuts_are_chosen, trimmed_cuts_are_chosen, chosen_are_openings, full_openings_are_counted}
 use Rattle.surf_opening.proofs.CutCounts.{full_told}
 use Rattle.surf_slit.specs.Labels.{IsUncut}
+use Rattle.surf_cotree.specs.Grown.{IsMarked, IsGrown}
+use Rattle.surf_cotree.specs.Tables.{CotreeTables, tree_of}
 use Rattle.surf_cutter.specs.Opened.{MarksCotree, IsHeld, IsChosenFor, AreTurnedOver}
 use Rattle.surf_cutter.specs.Trimming.{is_cut, IsTrimmedFrom, HasEndedBy}
 use Rattle.surf_cutter.proofs.Trims.{told_same}
@@ -41,3 +43,7 @@ chosen_opens {mesh} surface held is trim origins faces chosen = chosen_are_openi
 pub full_counted : {mesh : Mesh} → IsSurface mesh → (held : List Bool) → IsHeld mesh held → (origins : List ℕ) (faces : List (List ℕ)) → IsChosenFor mesh held false (record { origins = origins; faces = faces }) →
     length origins + (face_count mesh + face_count mesh) ≡ edge_count mesh + edge_count mesh + 2
 full_counted {mesh} surface held is origins faces chosen = full_openings_are_counted mesh is.0 is.1 origins faces surface is.2 (chosen is.0 is.1 is.2 is.3)
+
+-- a tree that a desk has grown is one that its flags mark
+pub grown_is_held : {mesh : Mesh} (marks : List Bool) (weight : ℕ → ℕ) (tree : Tree) (t : CotreeTables) → IsMarked mesh tree marks → IsGrown mesh marks weight t → IsHeld mesh t.held
+grown_is_held {mesh} marks weight tree t marked grown = (tree, tree_of t, grown.split tree marked, grown.held)

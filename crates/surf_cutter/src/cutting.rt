@@ -30,7 +30,7 @@ fn turned_over(alloc: Global, held: &[bool]) -> Result<Vec<bool>, NoMemory>
 }
 
 // The surface opened along a cut that is trimmed before.
-fn open_by_trim(
+pub(crate) fn open_by_trim(
     alloc: Global,
     mesh: &HalfMesh,
     cut: &mut [bool],

@@ -7,10 +7,12 @@
 //! the order of their vertices, and those of one vertex in the order of the least faces that have them.
 #![tactic(auto)]
 
+mod along_tree;
 mod copies;
 mod cutting;
 mod opened;
 mod trimming;
 
+pub use along_tree::{cut_full, cut_trim};
 pub use cutting::{open_full, open_trimmed};
 pub use opened::Opened;
