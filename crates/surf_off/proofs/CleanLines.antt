@@ -11,14 +11,14 @@ use Rattle.surf_off.specs.Clean.{IsClean}
 none_cons : (p : ℕ → Bool) (x : ℕ) (xs : List ℕ) → p x ≡ false → list_any p xs ≡ false → list_any p (x ∷ xs) ≡ false
 none_cons p x xs here later = rw (here, later) refl
 
-none_head : (p : ℕ → Bool) (x : ℕ) (xs : List ℕ) → list_any p (x ∷ xs) ≡ false → p x ≡ false
+pub none_head : (p : ℕ → Bool) (x : ℕ) (xs : List ℕ) → list_any p (x ∷ xs) ≡ false → p x ≡ false
 none_head p x xs none = at (p x) none
   where
     at : (b : Bool) → (b || list_any p xs) ≡ false → b ≡ false
     at true e = e
     at false e = refl
 
-none_tail : (p : ℕ → Bool) (x : ℕ) (xs : List ℕ) → list_any p (x ∷ xs) ≡ false → list_any p xs ≡ false
+pub none_tail : (p : ℕ → Bool) (x : ℕ) (xs : List ℕ) → list_any p (x ∷ xs) ≡ false → list_any p xs ≡ false
 none_tail p x xs none = at (p x) none
   where
     at : (b : Bool) → (b || list_any p xs) ≡ false → list_any p xs ≡ false
@@ -101,13 +101,13 @@ back_front : (xs : List ℕ) → trimmed_back xs ≡ xs → trimmed_back (trimme
 back_front [] same = refl
 back_front (x ∷ xs) same = elim (cases_Bool (is_blank x)) [ inl blank ↦ rw blank (back_front xs (back_tail x xs same)) | inr dark ↦ rw dark same ]
 
-trimmed_is : (xs : List ℕ) → trimmed_front xs ≡ xs → trimmed_back xs ≡ xs → trimmed xs ≡ xs
+pub trimmed_is : (xs : List ℕ) → trimmed_front xs ≡ xs → trimmed_back xs ≡ xs → trimmed xs ≡ xs
 trimmed_is xs front back = ap trimmed_back front ∙ back
 
-trimmed_fronts : (xs : List ℕ) → trimmed xs ≡ xs → trimmed_front xs ≡ xs
+pub trimmed_fronts : (xs : List ℕ) → trimmed xs ≡ xs → trimmed_front xs ≡ xs
 trimmed_fronts xs same = sym (ap trimmed_front same) ∙ trimmed_begins xs ∙ same
 
-trimmed_backs : (xs : List ℕ) → trimmed xs ≡ xs → trimmed_back xs ≡ xs
+pub trimmed_backs : (xs : List ℕ) → trimmed xs ≡ xs → trimmed_back xs ≡ xs
 trimmed_backs xs same = sym (ap trimmed_back same) ∙ back_twice (trimmed_front xs) ∙ same
 
 trimmed_twice : (xs : List ℕ) → trimmed (trimmed xs) ≡ trimmed xs

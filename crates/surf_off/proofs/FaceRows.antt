@@ -1,6 +1,7 @@
 -- Rows of a flat table by their starts.
-use Rattle.std.proofs.Common.{◌≡◌, ◌<◌, ◌≤◌, ◌+◌, ◌-◌, ℕ, zero, suc, List, [], ◌∷◌, length, get_or, take, drop, refl, sym, ◌∙◌, ap, subst, arith}
-use Rattle.std.specs.List.{zip}
+use Rattle.std.proofs.Common.{◌≡◌, ◌<◌, ◌≤◌, ◌+◌, ◌-◌, ℕ, zero, suc, List, [], ◌∷◌, length, length-take, length-drop, get_or, take, drop, refl, sym, ◌∙◌, ap, subst, arith}
+use Rattle.std.specs.List.{zip, All}
+use Rattle.std.proofs.lemmas.List.Elements.{All-nil, All-cons}
 use Rattle.surf_rows.specs.Rows.{cut, AreEnds}
 use Rattle.surf_rows.proofs.Cuts.{length-cut, span_at, get_or-cut}
 use Rattle.surf_off.specs.Written.{AreStarts, rows_at, no_colours}
@@ -48,3 +49,12 @@ pub no_colour : (faces : List (List ℕ)) (f : ℕ) → get_or (no_colours faces
 no_colour [] f = refl
 no_colour (face ∷ faces) zero = refl
 no_colour (face ∷ faces) (suc f) = no_colour faces f
+
+-- No row has more than all things.
+short_cut : (from : ℕ) (ends items : List ℕ) (most : ℕ) → length items < most → All (λ f. length f < most) (cut from ends items)
+short_cut from [] items most lt = All-nil (λ f. length f < most)
+short_cut from (e ∷ ends) items most lt = All-cons (λ f. length f < most) (take (e - from) items) (cut e ends (drop (e - from) items)) (omega (arith, length-take {A = ℕ}, lt)) (short_cut e ends (drop (e - from) items) most (omega (arith, length-drop {A = ℕ}, lt)))
+
+pub short_rows : (starts items : List ℕ) (most : ℕ) → length items < most → All (λ f. length f < most) (rows_at starts items)
+short_rows [] items most lt = All-nil (λ f. length f < most)
+short_rows (first ∷ ends) items most lt = short_cut 0 ends items most lt

@@ -6,3 +6,7 @@ pub mod FaceLines
 pub mod CleanLines
 pub mod CleanParts
 pub mod FaceRows
+pub mod Decimals
+pub mod NumberLines
+pub mod Reread
+pub mod RereadMesh

@@ -1,12 +1,12 @@
 -- The OFF texts that are written.
-use Rattle.std.specs.Prelude.{◌≡◌, ◌+◌, ◌<◌, ℕ, List, [], ◌∷◌, ◌++◌, length, map, codes, decimal, slice_index, slice_index_or}
+use Rattle.std.specs.Prelude.{◌≡◌, ◌+◌, ◌<◌, ℕ, List, [], ◌∷◌, ◌++◌, length, map, codes, decimal, slice_index, slice_index_or, Ok}
 use Rattle.std.specs.List.{All, zip, range_with_len}
 use Rattle.surf_complex.specs.Mesh.{Mesh, IsFace}
 use Rattle.surf_rows.specs.Rows.{cut, AreEnds}
 use Rattle.surf_off.specs.declared.header.Header.{Header}
 use Rattle.surf_off.specs.declared.header.Header.TheVariants.{Off}
 use Rattle.surf_off.specs.Keywords.{keyword}
-use Rattle.surf_off.specs.Off.{OffParts}
+use Rattle.surf_off.specs.Off.{OffParts, off_without_limits}
 
 -- the keyword's line, and that of the numbers of vertices, faces and edges
 abbrev pub head_text : Header → ℕ → ℕ → ℕ → List ℕ
@@ -81,3 +81,15 @@ no_colours faces = map (λ face. []) faces
 -- a made mesh
 abbrev pub soup_text : Mesh → ℕ → List ℕ
 soup_text mesh e = mesh_text Off (points (range_with_len 0 mesh.vertices)) mesh.faces (no_colours mesh.faces) e
+
+-- Read without limits, the text of an opened mesh has the keyword, the lines of the copies, the faces and the colours.
+abbrev pub RereadsOpened : OffParts → List ℕ → List (List ℕ) → ℕ → Type 0
+RereadsOpened parts origins faces e =
+    off_without_limits (opened_text parts origins faces e)
+    ≡ Ok (record { header = parts.header; vertex_lines = lines_at parts.vertex_lines origins; colours = parts.colours }, record { vertices = length origins; faces = faces })
+
+-- Read without limits, the text of a made mesh is that mesh.
+abbrev pub RereadsSoup : Mesh → ℕ → Type 0
+RereadsSoup mesh e =
+    off_without_limits (soup_text mesh e)
+    ≡ Ok (record { header = Off; vertex_lines = points (range_with_len 0 mesh.vertices); colours = no_colours mesh.faces }, mesh)

@@ -1,8 +1,9 @@
 //! Writes a made mesh as an OFF text.
-ghost use Rattle.std.specs.Prelude.{◌≡◌, ◌≤◌, [], length};
+ghost use Rattle.std.specs.Prelude.{◌≡◌, ◌<◌, ◌≤◌, ◌^◌, [], length};
 ghost use Rattle.std.specs.List.{zip, range_with_len};
+ghost use Rattle.surf_mesh.specs.Sides.{side_count};
 ghost use Rattle.surf_text.specs.Pages.{Puts};
-ghost use Rattle.surf_off.specs.Written.{lines_text, numbers_text, face_text, faces_text, points, no_colours, soup_text};
+ghost use Rattle.surf_off.specs.Written.{lines_text, numbers_text, face_text, faces_text, points, no_colours, soup_text, RereadsSoup};
 
 use crate::header::Header;
 use crate::write::write_head;
@@ -54,6 +55,7 @@ fn write_plain_faces(page: &mut Page, soup: &Soup) -> Result<(), PageFault>
 /// of the text behind its bytes.
 pub fn write_soup(page: &mut Page, soup: &Soup, edges: u32) -> Result<(), PageFault>
     ensures puts { Puts page.old page.new (soup_text soup.now edges) result }
+    ensures reread { side_count soup.now < 2 ^ 30 → RereadsSoup soup.now edges }
 {
     write_head(
         page,

@@ -1,5 +1,5 @@
 //! What an OFF text has beside its mesh.
-ghost use Rattle.std.specs.Prelude.{◌≡◌, ◌<◌, [], length, slice_index_or};
+ghost use Rattle.std.specs.Prelude.{◌≡◌, ◌<◌, ◌^◌, [], length, slice_index_or};
 ghost use Rattle.surf_off.specs.Clean.{IsOffParts};
 ghost use Rattle.surf_off.specs.Seen.{lent};
 
@@ -48,6 +48,8 @@ impl<'a> OffText<'a> {
     /// Its keyword.
     pub fn header(&self) -> Header
         ensures header { result ≡ self.now.header }
+        ensures clean { IsOffParts self.now }
+        ensures countable { length self.now.vertex_lines < 2 ^ 64 }
     {
         self.header
     }

@@ -3,7 +3,7 @@ ghost use Rattle.std.specs.Prelude.{◌≡◌, ◌<◌, ◌≤◌, ◌+◌, [], 
 ghost use Rattle.std.specs.List.{All, zip, range_with_len};
 ghost use Rattle.surf_complex.specs.Mesh.{IsFace};
 ghost use Rattle.surf_text.specs.Pages.{Puts};
-ghost use Rattle.surf_off.specs.Written.{head_text, lines_text, numbers_text, colour_text, face_text, faces_text, copy_text, copies_text, lines_at, rows_at, AreStarts, opened_text};
+ghost use Rattle.surf_off.specs.Written.{head_text, lines_text, numbers_text, colour_text, face_text, faces_text, copy_text, copies_text, lines_at, rows_at, AreStarts, opened_text, RereadsOpened};
 
 use crate::header::Header;
 use crate::text::OffText;
@@ -123,7 +123,7 @@ fn write_copies(page: &mut Page, origins: &[VertexId]) -> Result<(), PageFault>
 /// `origins` has the vertex of each copy. The corners of face `f` are those from place `starts[f]` up to, but
 /// without, place `starts[f + 1]`. Refuses with `Full` where the page would hold more than its bound with the
 /// whole text, and with `Memory` where there is none. After a refusal the page holds a front of the text behind
-/// its bytes.
+/// its bytes. Read again without limits, the text has the keyword, these vertex lines, faces and colours.
 pub fn write_off(
     page: &mut Page,
     text: &OffText<'_>,
@@ -137,6 +137,7 @@ pub fn write_off(
     requires count { length starts.now ≡ length text.now.colours + 1 }
     requires faces { All (IsFace (length origins.now)) (rows_at starts.now corners.now) }
     ensures puts { Puts page.old page.new (opened_text text.now origins.now (rows_at starts.now corners.now) edges) result }
+    ensures reread { RereadsOpened text.now origins.now (rows_at starts.now corners.now) edges }
 {
     write_head(page, text.header(), origins.len(), starts.len() - 1, edges)?;
     write_lines(page, text, origins)?;

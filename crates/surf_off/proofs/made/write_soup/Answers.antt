@@ -1,4 +1,4 @@
-use Rattle.std.proofs.Common.{◌≡◌, ℕ, List, ◌++◌, length, Ok, Err, refl, sym, ◌∙◌, ap, subst}
+use Rattle.std.proofs.Common.{◌≡◌, ◌<◌, ◌^◌, arith, ℕ, List, ◌++◌, length, Ok, Err, refl, sym, ◌∙◌, ap, subst}
 use Rattle.std.specs.List.{zip, range_with_len}
 use Rattle.std.proofs.lemmas.List.{length-map}
 use Rattle.std.proofs.lemmas.List.FromFn.{length-range_with_len}
@@ -6,7 +6,9 @@ use Rattle.std.proofs.lemmas.Result.{err_from_is_err_and}
 use Rattle.surf_text.specs.Pages.{Puts}
 use Rattle.surf_text.proofs.Writing.{puts_more, puts_stop}
 use Rattle.surf_off.specs.declared.header.Header.TheVariants.{Off}
-use Rattle.surf_off.specs.Written.{head_text, lines_text, faces_text, points, no_colours}
+use Rattle.surf_off.specs.Written.{head_text, lines_text, faces_text, points, no_colours, RereadsSoup}
+use Rattle.surf_mesh.specs.Sides.{side_count}
+use Rattle.surf_off.proofs.RereadMesh.{soup_again, short_faces}
 use Rattle.surf_off.proofs.made.write_soup.Goals as goal
 
 pub returns-in_err-write_head : goal.returns-in_err-write_head
@@ -23,7 +25,8 @@ returns-in_err-write_head c =
     let one : Puts p0 p1 head c.write_head.result = subst (λ (n : ℕ). Puts p0 p1 (head_text Off (length (points (range_with_len 0 mesh.vertices))) n e) c.write_head.result) c.faces.ensures.count half in
     let r = c.from_residual.result in
     let p = err_from_is_err_and r c.from_residual.ensures.1 in
-    record { puts = puts_stop p0 p1 head (lines ++ faces) c.write_head.result c.in_err-write_head.field-0.0 r c.in_err-write_head.was (rw (p.1, p.2) refl) one }
+    let again : side_count mesh < 2 ^ 30 → RereadsSoup mesh e = λ few. soup_again mesh e c.vertices.ensures.mesh (short_faces mesh.faces (2 ^ 64) (omega (arith, few))) (omega (arith, c.vertices.ensures.count)) (omega (arith, c.faces.ensures.count)) (omega arith) in
+    record { reread = again; puts = puts_stop p0 p1 head (lines ++ faces) c.write_head.result c.in_err-write_head.field-0.0 r c.in_err-write_head.was (rw (p.1, p.2) refl) one }
 
 pub returns-in_err-write_points : goal.returns-in_err-write_points
 returns-in_err-write_points c =
@@ -41,8 +44,12 @@ returns-in_err-write_points c =
     let p2 = c.write_points.new.page in
     let r = c.from_residual-in_err-write_points.result in
     let p = err_from_is_err_and r c.from_residual-in_err-write_points.ensures.1 in
-    record { puts = puts_more p0 p1 p2 head (lines ++ faces) c.write_head.result c.in_ok-write_head.field-0 r c.in_ok-write_head.was one
-      (puts_stop p1 p2 lines faces c.write_points.result c.in_err-write_points.field-0.0 r c.in_err-write_points.was (rw (p.1, p.2) refl) points_put) }
+    let again : side_count mesh < 2 ^ 30 → RereadsSoup mesh e = λ few. soup_again mesh e c.vertices.ensures.mesh (short_faces mesh.faces (2 ^ 64) (omega (arith, few))) (omega (arith, c.vertices.ensures.count)) (omega (arith, c.faces.ensures.count)) (omega arith) in
+    record {
+      reread = again;
+      puts = puts_more p0 p1 p2 head (lines ++ faces) c.write_head.result c.in_ok-write_head.field-0 r c.in_ok-write_head.was one
+          (puts_stop p1 p2 lines faces c.write_points.result c.in_err-write_points.field-0.0 r c.in_err-write_points.was (rw (p.1, p.2) refl) points_put);
+    }
 
 pub returns : goal.returns
 returns c =
@@ -60,5 +67,9 @@ returns c =
     let p2 = c.write_points.new.page in
     let p3 = c.write_plain_faces.new.page in
     let r = c.write_plain_faces.result in
-    record { puts = puts_more p0 p1 p3 head (lines ++ faces) c.write_head.result c.in_ok-write_head.field-0 r c.in_ok-write_head.was one
-      (puts_more p1 p2 p3 lines faces c.write_points.result c.in_ok-write_points.field-0 r c.in_ok-write_points.was points_put c.write_plain_faces.ensures.puts) }
+    let again : side_count mesh < 2 ^ 30 → RereadsSoup mesh e = λ few. soup_again mesh e c.vertices.ensures.mesh (short_faces mesh.faces (2 ^ 64) (omega (arith, few))) (omega (arith, c.vertices.ensures.count)) (omega (arith, c.faces.ensures.count)) (omega arith) in
+    record {
+      reread = again;
+      puts = puts_more p0 p1 p3 head (lines ++ faces) c.write_head.result c.in_ok-write_head.field-0 r c.in_ok-write_head.was one
+          (puts_more p1 p2 p3 lines faces c.write_points.result c.in_ok-write_points.field-0 r c.in_ok-write_points.was points_put c.write_plain_faces.ensures.puts);
+    }
