@@ -184,6 +184,7 @@ impl CotreeDesk {
         requires few { length self.old.left ≤ 1024 }
         ensures signed { (tree : Tree) → IsSplit (cells_of mesh.now) (split_with tree self.new) → self.new.signatures ≡ map (edge_signature mesh.now (split_with tree self.new)) (range_with_len 0 (edge_count mesh.now)) }
         ensures rest { self.new ≡ record self.old { signatures = self.new.signatures } }
+        ensures made { IsMadeFor mesh.now self.new }
     {
         let _surface = mesh.faces();
         let words = words_of(self.width);

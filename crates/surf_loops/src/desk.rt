@@ -8,7 +8,7 @@ ghost use Rattle.surf_complex.specs.Surface.{edge_count};
 ghost use Rattle.surf_complex.specs.Loop.{loop_walk};
 ghost use Rattle.surf_complex.specs.Signature.{edge_signature};
 ghost use Rattle.surf_tree.specs.Tables.{tree_of};
-ghost use Rattle.surf_cotree.specs.Tables.{split_with};
+ghost use Rattle.surf_cotree.specs.Tables.{split_with, IsMadeFor as CotreeMade};
 ghost use Rattle.surf_cotree.specs.Grown.{IsGrownOn};
 ghost use Rattle.surf_loops.specs.Loops.{LoopTables, IsMadeFor, IsRooted, IsGreedy};
 
@@ -85,6 +85,7 @@ impl LoopDesk {
         requires few { length self.old.cotree.left ≤ 1024 }
         ensures signed { (tree : Tree) → IsSplit (cells_of mesh.now) (split_with tree self.new.cotree) → self.new.cotree.signatures ≡ map (edge_signature mesh.now (split_with tree self.new.cotree)) (range_with_len 0 (edge_count mesh.now)) }
         ensures rest { self.new ≡ record self.old { cotree = record self.old.cotree { signatures = self.new.cotree.signatures } } }
+        ensures made { CotreeMade mesh.now self.new.cotree }
     {
         self.cotree.sign(mesh);
     }

@@ -7,10 +7,10 @@ use Rattle.surf_complex.specs.Cells.{cells_of}
 use Rattle.surf_complex.specs.Signature.{edge_signature}
 use Rattle.surf_complex.specs.Surface.{edge_count}
 use Rattle.surf_cotree.specs.Signs.{sign_bit, has_left}
-use Rattle.surf_cotree.specs.Tables.{CotreeTables, words_for, rows_of, split_with}
+use Rattle.surf_cotree.specs.Tables.{CotreeTables, IsMadeFor, words_for, rows_of, split_with}
 use Rattle.surf_cotree.specs.Searches.{at, tree_of as tree_from}
 use Rattle.surf_cotree.specs.Grown.{IsGrownOn}
-use Rattle.surf_cotree.proofs.Tabled.{words_enough, rows_are_signatures}
+use Rattle.surf_cotree.proofs.Tabled.{rows-length, words_enough, rows_are_signatures}
 use Rattle.surf_cotree.proofs.desk.CotreeDesk.sign.Goals as goal
 
 pub write_signs-requires-clause-bits : goal.write_signs-requires-clause-bits
@@ -44,3 +44,18 @@ returns-clause-signed c tree split =
     let signs_is : (with_items d.signs signs).items ≡ signs = with_items_is d.signs signs (omega (arith, c.deref_mut.ensures.len)) in
     rw signs_is (subst (λ n. rows_of w n signs ≡ map (edge_signature mesh (split_with tree t)) (range_with_len 0 (edge_count mesh))) (sym held)
     (rows_are_signatures mesh (split_with tree t) c.faces-surface.ensures.surface split w signs c.write_signs.ensures.fit enough rest signed))
+
+pub returns-clause-made : goal.returns-clause-made
+returns-clause-made c =
+    let mesh = c.args.mesh.now in
+    let d = c.self.inside in
+    let grown : IsGrownOn mesh c.args.self.now = c.requires.grown in
+    let made = subst (IsMadeFor mesh) (sym c.self.view_is) grown.made in
+    record {
+      held = made.held;
+      parents = made.parents;
+      ups = made.ups;
+      depths = made.depths;
+      width = made.width;
+      signatures = rows-length (words_for d.width) (length d.held.items) (with_items d.signs c.write_signs.new.signs).items ∙ made.held;
+    }
