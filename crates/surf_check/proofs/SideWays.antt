@@ -43,7 +43,8 @@ other_end : (p : ℕ × ℕ) (c d : ℕ) → p.0 < p.1 → p ≡ pair c d → p.
 other_end p c d lt e ne = elim (pair_ends p.0 p.1 c d (sorted p lt ∙ e)) [ inl q ↦ absurd (ne q.0) | inr q ↦ q.1 ]
 
 -- two runs of a pair go the same way where they begin at the same end
-same_start : (p : ℕ × ℕ) (c d x y : ℕ) → p.0 < p.1 → p ≡ pair c d → p ≡ pair x y → not (xor (pair_eq p (c, d)) (pair_eq p (x, y))) ≡ eqb c x
+same_start : (p : ℕ × ℕ) (c d x y : ℕ) → p.0 < p.1 → p ≡ pair c d → p ≡ pair x y →
+    not (xor (pair_eq p (c, d)) (pair_eq p (x, y))) ≡ eqb c x
 same_start p c d x y lt e f = rw (run_starts p c d lt e, run_starts p x y lt f) (elim (cases_eq p.0 c) [
   | inl a ↦ elim (cases_eq p.0 x) [
     | inl b ↦ rw (eq-eqb p.0 c a, eq-eqb p.0 x b, eq-eqb c x (sym a ∙ b)) refl
@@ -51,16 +52,22 @@ same_start p c d x y lt e f = rw (run_starts p c d lt e, run_starts p x y lt f) 
   ]
   | inr a ↦ elim (cases_eq p.0 x) [
     | inl b ↦ rw (ne_eqb p.0 c a, eq-eqb p.0 x b, ne_eqb c x (λ q. a (b ∙ sym q))) refl
-    | inr b ↦ rw (ne_eqb p.0 c a, ne_eqb p.0 x b, eq-eqb c x (sym (other_end p c d lt e a) ∙ other_end p x y lt f b)) refl
+    | inr b ↦ rw (
+      ne_eqb p.0 c a,
+      ne_eqb p.0 x b,
+      eq-eqb c x (sym (other_end p c d lt e a) ∙ other_end p x y lt f b),
+    ) refl
   ]
 ])
 
 -- a face that has an edge is one of its two
-one_of_two : (mesh : Mesh) → IsSurface mesh → (e f : ℕ) → e < edge_count mesh → has_side (ends mesh e) (face_at mesh f) ≡ true → (f ≡ (faces_of mesh e).0) ⊎ (f ≡ (faces_of mesh e).1)
+one_of_two : (mesh : Mesh) → IsSurface mesh → (e f : ℕ) → e < edge_count mesh →
+    has_side (ends mesh e) (face_at mesh f) ≡ true → (f ≡ (faces_of mesh e).0) ⊎ (f ≡ (faces_of mesh e).1)
 one_of_two mesh surface e f lt has =
     let a = (faces_of mesh e).0 in
     let b = (faces_of mesh e).1 in
-    elim (or_cases (eqb f a) (eqb f b) (sym ((two_faces_of mesh surface e lt).no_other f) ∙ has)) [ inl q ↦ inl (eqb-true f a q) | inr q ↦ inr (eqb-true f b q) ]
+    elim (or_cases (eqb f a) (eqb f b) (sym ((two_faces_of mesh surface e lt).no_other f)
+    ∙ has)) [ inl q ↦ inl (eqb-true f a q) | inr q ↦ inr (eqb-true f b q) ]
 
 module _ (mesh : Mesh) (surface : IsSurface mesh) where
   -- where a side stands in its face
@@ -88,37 +95,61 @@ module _ (mesh : Mesh) (surface : IsSurface mesh) where
   is_face f lt = surface.is_mesh f [] lt
 
   -- the two sides of an edge are of two faces
-  mates_differ : (s t f g e : ℕ) → IsMate mesh s t → IsFaceOf mesh s f → IsFaceOf mesh t g → IsEdgeOf mesh s e → f ≢ g
+  mates_differ : (s t f g e : ℕ) → IsMate mesh s t → IsFaceOf mesh s f → IsFaceOf mesh t g → IsEdgeOf mesh s e →
+      f ≢ g
   mates_differ s t f g e m a b h same =
       let i = stands s f e a h in
       let P : ℕ → Type 0 = λ x. IsFaceOf mesh t x in
-      let j = stands t f e (subst P (sym same) b) (record { is_edge = h.is_edge; its_ends = h.its_ends ∙ sym m.same_edge }) in
-      let k : i.0 ≡ j.0 = side_place mesh.vertices (face_at mesh f) (is_face f a.is_face) i.0 j.0 i.1.is_place j.1.is_place (sym i.1.its_pair ∙ j.1.its_pair) in
+      let j = stands t f e (subst P (sym same) b) (record {
+        is_edge = h.is_edge;
+        its_ends = h.its_ends
+            ∙ sym m.same_edge;
+      }) in
+      let k : i.0 ≡ j.0 = side_place mesh.vertices (face_at mesh f) (is_face f a.is_face) i.0 j.0 i.1.is_place
+      j.1.is_place (sym i.1.its_pair ∙ j.1.its_pair) in
       m.other (omega (arith, k, i.1.number, j.1.number))
 
   pub mates_faces : (s t f g e : ℕ) → IsMate mesh s t → IsFaceOf mesh s f → IsFaceOf mesh t g → IsEdgeOf mesh s e →
-      (((faces_of mesh e).0 ≡ f) × ((faces_of mesh e).1 ≡ g)) ⊎ (((faces_of mesh e).0 ≡ g) × ((faces_of mesh e).1 ≡ f))
+      (((faces_of mesh e).0 ≡ f) × ((faces_of mesh e).1 ≡ g))
+      ⊎ (((faces_of mesh e).0 ≡ g) × ((faces_of mesh e).1 ≡ f))
   mates_faces s t f g e m a b h =
       let ne = mates_differ s t f g e m a b h in
-      let has_f : has_side (ends mesh e) (face_at mesh f) ≡ true = ap (λ p. has_side p (face_at mesh f)) h.its_ends ∙ side_of_face mesh s f a in
-      let has_g : has_side (ends mesh e) (face_at mesh g) ≡ true = ap (λ p. has_side p (face_at mesh g)) (h.its_ends ∙ sym m.same_edge) ∙ side_of_face mesh t g b in
+      let has_f : has_side (ends mesh e) (face_at mesh f) ≡ true = ap (λ p. has_side p (face_at mesh f)) h.its_ends
+      ∙ side_of_face mesh s f a in
+      let has_g : has_side (ends mesh e) (face_at mesh g) ≡ true =
+      ap (λ p. has_side p (face_at mesh g)) (h.its_ends ∙ sym m.same_edge) ∙ side_of_face mesh t g b in
       elim (one_of_two mesh surface e f h.is_edge has_f) [
-        | inl p ↦ elim (one_of_two mesh surface e g h.is_edge has_g) [ inl q ↦ absurd (ne (p ∙ sym q)) | inr q ↦ inl (sym p, sym q) ]
-        | inr p ↦ elim (one_of_two mesh surface e g h.is_edge has_g) [ inl q ↦ inr (sym q, sym p) | inr q ↦ absurd (ne (p ∙ sym q)) ]
+        | inl p ↦ elim (one_of_two mesh surface e g h.is_edge has_g) [
+          | inl q ↦ absurd (ne (p
+              ∙ sym q))
+          | inr q ↦ inl (sym p, sym q)
+        ]
+        | inr p ↦ elim (one_of_two mesh surface e g h.is_edge has_g) [
+          | inl q ↦ inr (
+            sym q,
+            sym p,
+          )
+          | inr q ↦ absurd (ne (p ∙ sym q))
+        ]
       ]
 
   -- the dual graph has the edge between the two faces
-  pub mates_join : (s t f g e : ℕ) → IsMate mesh s t → IsFaceOf mesh s f → IsFaceOf mesh t g → IsEdgeOf mesh s e → joins (dual (cells_of mesh)) g f e ≡ true
+  pub mates_join : (s t f g e : ℕ) → IsMate mesh s t → IsFaceOf mesh s f → IsFaceOf mesh t g → IsEdgeOf mesh s e →
+      joins (dual (cells_of mesh)) g f e ≡ true
   mates_join s t f g e m a b h = elim (mates_faces s t f g e m a b h) [
     | inl q ↦ both_ways (faces_of mesh e).0 (faces_of mesh e).1 f g q.0 q.1
     | inr q ↦ rw (eq-eqb (faces_of mesh e).0 g q.0, eq-eqb (faces_of mesh e).1 f q.1) refl
   ]
     where
-      both_ways : (a b f g : ℕ) → a ≡ f → b ≡ g → joins (record { nodes = 0; edges = 0; from = λ e. a; to = λ e. b }) g f 0 ≡ true
-      both_ways a b f g p q = or_right (Rattle.std.proofs.Common.◌&&◌ (eqb a g) (eqb b f)) (Rattle.std.proofs.Common.◌&&◌ (eqb a f) (eqb b g)) (rw (eq-eqb a f p, eq-eqb b g q) refl)
+      both_ways : (a b f g : ℕ) → a ≡ f → b ≡ g →
+          joins (record { nodes = 0; edges = 0; from = λ e. a; to = λ e. b }) g f 0 ≡ true
+      both_ways a b f g p q =
+          or_right (Rattle.std.proofs.Common.◌&&◌ (eqb a g) (eqb b f))
+          (Rattle.std.proofs.Common.◌&&◌ (eqb a f) (eqb b g)) (rw (eq-eqb a f p, eq-eqb b g q) refl)
 
   ways : (s t f g e : ℕ) → IsMate mesh s t → IsFaceOf mesh s f → IsFaceOf mesh t g → IsEdgeOf mesh s e →
-      not (xor (runs (ends mesh e) (face_at mesh f)) (runs (ends mesh e) (face_at mesh g))) ≡ eqb (get_or (all_corners mesh) s 0) (get_or (all_corners mesh) t 0)
+      not (xor (runs (ends mesh e) (face_at mesh f)) (runs (ends mesh e) (face_at mesh g))) ≡ eqb
+      (get_or (all_corners mesh) s 0) (get_or (all_corners mesh) t 0)
   ways s t f g e m a b h =
       let p = ends mesh e in
       let lt : p.0 < p.1 = ends_rise mesh surface.is_mesh e h.is_edge in
@@ -126,12 +157,21 @@ module _ (mesh : Mesh) (surface : IsSurface mesh) where
       let j = stands t g e b (record { is_edge = h.is_edge; its_ends = h.its_ends ∙ sym m.same_edge }) in
       let face = face_at mesh f in
       let other = face_at mesh g in
-      let first = runs_at mesh.vertices face (is_face f a.is_face) i.0 i.1.is_place p (sorted p lt ∙ i.1.its_pair) in
-      let second = runs_at mesh.vertices other (is_face g b.is_face) j.0 j.1.is_place p (sorted p lt ∙ j.1.its_pair) in
-      rw (first, second, i.1.its_tail, j.1.its_tail) (same_start p (corner face i.0) (corner face (after (length face) i.0)) (corner other j.0) (corner other (after (length other) j.0)) lt i.1.its_pair j.1.its_pair)
+      let first = runs_at mesh.vertices face (is_face f a.is_face) i.0 i.1.is_place p (sorted p lt
+      ∙ i.1.its_pair) in
+      let second = runs_at mesh.vertices other (is_face g b.is_face) j.0 j.1.is_place p (sorted p lt
+      ∙ j.1.its_pair) in
+      rw (
+        first,
+        second,
+        i.1.its_tail,
+        j.1.its_tail,
+      ) (same_start p (corner face i.0) (corner face (after (length face) i.0)) (corner other j.0)
+      (corner other (after (length other) j.0)) lt i.1.its_pair j.1.its_pair)
 
   -- an edge's faces run it the same way where its two sides begin at one vertex
-  pub mates_ways : (s t f g e u v : ℕ) → IsMate mesh s t → IsFaceOf mesh s f → IsFaceOf mesh t g → IsEdgeOf mesh s e → BeginsAt mesh u s → BeginsAt mesh v t → same_way mesh e ≡ eqb u v
+  pub mates_ways : (s t f g e u v : ℕ) → IsMate mesh s t → IsFaceOf mesh s f → IsFaceOf mesh t g →
+      IsEdgeOf mesh s e → BeginsAt mesh u s → BeginsAt mesh v t → same_way mesh e ≡ eqb u v
   mates_ways s t f g e u v m a b h x y =
       let w = ways s t f g e m a b h in
       let R : ℕ → Bool = λ k. runs (ends mesh e) (face_at mesh k) in
@@ -142,21 +182,24 @@ module _ (mesh : Mesh) (surface : IsSurface mesh) where
       here ∙ w ∙ ap (λ n. eqb n (get_or (all_corners mesh) t 0)) x.1 ∙ ap (eqb u) y.1
 
   -- where both faces are marked, the side is crossed
-  pub is_crossed : (s t f g : ℕ) (seen : List Bool) → IsMate mesh s t → IsFaceOf mesh s f → IsFaceOf mesh t g → marked seen f ≡ true → marked seen g ≡ true → IsCrossed mesh seen s
+  pub is_crossed : (s t f g : ℕ) (seen : List Bool) → IsMate mesh s t → IsFaceOf mesh s f → IsFaceOf mesh t g →
+      marked seen f ≡ true → marked seen g ≡ true → IsCrossed mesh seen s
   is_crossed s t f g seen m a b p q e h = elim (mates_faces s t f g e m a b h) [
     | inl r ↦ (ap (marked seen) r.0 ∙ p, ap (marked seen) r.1 ∙ q)
     | inr r ↦ (ap (marked seen) r.0 ∙ q, ap (marked seen) r.1 ∙ p)
   ]
 
   -- marks whose faces are crossed at each side pass over each shared edge
-  pub crossed_closed : (seen : List Bool) (f g : ℕ) → ((s : ℕ) → IsFaceOf mesh s f → IsCrossed mesh seen s) → Share mesh f g → marked seen g ≡ true
+  pub crossed_closed : (seen : List Bool) (f g : ℕ) → ((s : ℕ) → IsFaceOf mesh s f → IsCrossed mesh seen s) →
+      Share mesh f g → marked seen g ≡ true
   crossed_closed seen f g crossed share =
       let p = share.0 in
       let r = face_has_side mesh f p share.1.0 share.1.1 in
       let at = place_of-among (pair_at mesh r.0) (edges mesh) (0, 0) (pair_at-edge mesh r.0 r.1.is_side) in
       let e = place_of (pair_at mesh r.0) (edges mesh) in
       let c = crossed r.0 r.1.its_face e (record { is_edge = at.0; its_ends = at.1 }) in
-      elim (one_of_two mesh surface e g at.0 (ap (λ q. has_side q (face_at mesh g)) (at.1 ∙ r.1.its_pair) ∙ share.2.1)) [
+      elim (one_of_two mesh surface e g at.0 (ap (λ q. has_side q (face_at mesh g)) (at.1 ∙ r.1.its_pair)
+      ∙ share.2.1)) [
         | inl q ↦ ap (marked seen) q ∙ c.0
         | inr q ↦ ap (marked seen) q ∙ c.1
       ]

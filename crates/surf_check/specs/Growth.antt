@@ -18,7 +18,8 @@ flag_of flags f = get_or flags f false
 
 -- the tree that tables by face say
 abbrev pub tree_of : List ℕ → List ℕ → List ℕ → Tree
-tree_of parent up rank = record { root = 0; parent = λ f. get_or parent f 0; up = λ f. get_or up f 0; rank = λ f. get_or rank f 0 }
+tree_of parent up rank =
+    record { root = 0; parent = λ f. get_or parent f 0; up = λ f. get_or up f 0; rank = λ f. get_or rank f 0 }
 
 -- a face hangs on a face of the tree by an edge of both, and has the flag that the edge asks for
 pub record Hangs (mesh : Mesh) (parent up rank : List ℕ) (flags seen : List Bool) (f : ℕ) : Type 0 where
@@ -56,7 +57,8 @@ TreeGrowsOn old new = GrowsOn old.seen.items new.seen.items old.listed.items new
 
 -- the faces of a side's edge are marked
 abbrev pub IsCrossed : Mesh → List Bool → ℕ → Type 0
-IsCrossed mesh seen s = (e : ℕ) → IsEdgeOf mesh s e → (marked seen (faces_of mesh e).0 ≡ true) × (marked seen (faces_of mesh e).1 ≡ true)
+IsCrossed mesh seen s = (e : ℕ) → IsEdgeOf mesh s e →
+    (marked seen (faces_of mesh e).0 ≡ true) × (marked seen (faces_of mesh e).1 ≡ true)
 
 -- a tree of all faces, with flags that its edges fit
 pub record IsFlagTree (mesh : Mesh) (t : FaceTree) : Type 0 where

@@ -7,4 +7,6 @@ use Rattle.surf_check.proofs.FaultLaws.{fault_only}
 use Rattle.surf_check.proofs.checking.check.Goals as goal
 
 pub returns-clause-excludes : goal.returns-clause-excludes
-returns-clause-excludes c = IfErr-weaker c.examine.result (IsSurfaceFault c.args.soup) (λ e. e ≢ Memory → IsSurface c.args.soup → ⊥) (λ e h ne s. ne (fault_only c.args.soup e h s)) c.examine.ensures.fault
+returns-clause-excludes c =
+    IfErr-weaker c.examine.result (IsSurfaceFault c.args.soup) (λ e. e ≢ Memory → IsSurface c.args.soup →
+    ⊥) (λ e h ne s. ne (fault_only c.args.soup e h s)) c.examine.ensures.fault

@@ -12,5 +12,6 @@ overflow_sub-result c =
 pub returns-clause-twice : goal.returns-clause-twice
 returns-clause-twice c =
     let mesh = c.args.mesh.now in
-    let same : (c.edges.result + 2 - (c.vertices.result + c.faces.result)) / 2 ≡ genus_of mesh = rw (c.edges.ensures.count, c.vertices.ensures.count, c.faces.ensures.count) in
+    let same : (c.edges.result + 2 - (c.vertices.result + c.faces.result)) / 2 ≡ genus_of mesh =
+    rw (c.edges.ensures.count, c.vertices.ensures.count, c.faces.ensures.count) in
     ap (λ n. pos (2 * n)) same ∙ genus_is_half mesh (flag_of c.args.turning.now) c.edges.ensures.surface c.requires

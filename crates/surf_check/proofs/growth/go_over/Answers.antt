@@ -16,7 +16,8 @@ cross-requires-clause-side c =
     let row = c.sides-row.result.now in
     let j = c.loop-side.side-index in
     let lt : j < length row = c.loop-side-test.true in
-    let face : c.args.face < face_count mesh = let n = c.requires.grows.seen_count in let m = marked-inside c.args.tree.now.seen.items c.args.face c.requires.face in omega arith in
+    let face : c.args.face < face_count mesh = let n = c.requires.grows.seen_count in
+    let m = marked-inside c.args.tree.now.seen.items c.args.face c.requires.face in omega arith in
     let item = get_or_read row j c.side-item.result lt c.side-item.is 0 in
     omega (arith, item, row_below mesh c.args.face row face c.sides-row.ensures j lt)
 
@@ -26,10 +27,12 @@ cross-requires-clause-from c = λ f h.
     let row = c.sides-row.result.now in
     let j = c.loop-side.side-index in
     let lt : j < length row = c.loop-side-test.true in
-    let face : c.args.face < face_count mesh = let n = c.requires.grows.seen_count in let m = marked-inside c.args.tree.now.seen.items c.args.face c.requires.face in omega arith in
+    let face : c.args.face < face_count mesh = let n = c.requires.grows.seen_count in
+    let m = marked-inside c.args.tree.now.seen.items c.args.face c.requires.face in omega arith in
     let item = get_or_read row j c.side-item.result lt c.side-item.is 0 in
     let P : ℕ → Type 0 = λ s. IsFaceOf mesh s c.args.face in
-    let same = one_face mesh c.side-item.result f c.args.face h (subst P (sym item) (row_face mesh c.args.face row face c.sides-row.ensures j lt)) in
+    let same = one_face mesh c.side-item.result f c.args.face h
+    (subst P (sym item) (row_face mesh c.args.face row face c.sides-row.ensures j lt)) in
     ap (marked c.loop-side.tree.seen.items) same ∙ c.loop-side.invariant.on.stay c.args.face c.requires.face
 
 pub loop-side-preserved : goal.loop-side-preserved
@@ -45,10 +48,12 @@ loop-side-preserved c =
     let P : ℕ → Type 0 = IsCrossed mesh new.seen.items in
     record {
       grows = e.grows;
-      on = grows_on_both start.seen.items old.seen.items new.seen.items start.listed.items old.listed.items new.listed.items c.loop-side.invariant.on e.on;
+      on = grows_on_both start.seen.items old.seen.items new.seen.items start.listed.items old.listed.items
+          new.listed.items c.loop-side.invariant.on e.on;
       crossed = λ i lt. elim (cases_eq i j) [
         | inl q ↦ subst P (item ∙ ap (λ k. get_or row k 0) (sym q)) e.crossed
-        | inr ne ↦ crossed_still mesh old.seen.items new.seen.items old.listed.items new.listed.items (get_or row i 0) e.on (c.loop-side.invariant.crossed i (omega arith))
+        | inr ne ↦ crossed_still mesh old.seen.items new.seen.items old.listed.items new.listed.items
+            (get_or row i 0) e.on (c.loop-side.invariant.crossed i (omega arith))
       ];
     }
 
@@ -56,7 +61,9 @@ pub returns-clause-crossed : goal.returns-clause-crossed
 returns-clause-crossed c = λ s h.
     let mesh = c.args.mesh.now in
     let row = c.sides-row.result.now in
-    let face : c.args.face < face_count mesh = let n = c.requires.grows.seen_count in let m = marked-inside c.args.tree.now.seen.items c.args.face c.requires.face in omega arith in
+    let face : c.args.face < face_count mesh = let n = c.requires.grows.seen_count in
+    let m = marked-inside c.args.tree.now.seen.items c.args.face c.requires.face in omega arith in
     let r = row_has mesh c.args.face row face c.sides-row.ensures s h in
     let P : ℕ → Type 0 = IsCrossed mesh c.loop-side.tree.seen.items in
-    subst P r.2 (c.loop-side.invariant.crossed r.0 (let last = c.loop-side-test.false in let lt = r.1 in omega arith))
+    subst P r.2 (c.loop-side.invariant.crossed r.0 (let last = c.loop-side-test.false in
+    let lt = r.1 in omega arith))

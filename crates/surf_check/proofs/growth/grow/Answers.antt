@@ -23,7 +23,8 @@ loop-k-preserved c =
         | inr ne ↦
             let P : ℕ → Type 0 = IsFaceOf mesh s in
             let less : i < k = omega arith in
-            crossed_still mesh old.seen.items new.seen.items old.listed.items new.listed.items s e.on (c.loop-k.invariant.done i less s (subst P (e.on.kept i (omega arith)) h))
+            crossed_still mesh old.seen.items new.seen.items old.listed.items new.listed.items s e.on
+            (c.loop-k.invariant.done i less s (subst P (e.on.kept i (omega arith)) h))
       ];
     }
 
@@ -33,11 +34,15 @@ returns c =
     let t = c.loop-k.tree in
     let g = c.loop-k.invariant.grows in
     let surface = c.faces-count.ensures.surface in
-    let done : (i : ℕ) → i < length t.listed.items → (s : ℕ) → IsFaceOf mesh s (get_or t.listed.items i 0) → Rattle.surf_check.specs.Growth.IsCrossed mesh t.seen.items s = λ i lt. c.loop-k.invariant.done i (omega (arith, c.loop-k-test.false, c.len.ensures)) in
+    let done : (i : ℕ) → i < length t.listed.items → (s : ℕ) → IsFaceOf mesh s (get_or t.listed.items i 0) →
+    Rattle.surf_check.specs.Growth.IsCrossed mesh t.seen.items s =
+    λ i lt. c.loop-k.invariant.done i (omega (arith, c.loop-k-test.false, c.len.ensures)) in
     record {
       parents = g.parents;
       ups = g.ups;
       flag_count = g.flag_count;
-      is_tree = whole_tree mesh surface t.parent.items t.up.items t.rank.items t.flags.items t.seen.items t.listed.items g done;
-      follows = flags_follow mesh surface t.parent.items t.up.items t.rank.items t.flags.items t.seen.items t.listed.items g done;
+      is_tree = whole_tree mesh surface t.parent.items t.up.items t.rank.items t.flags.items t.seen.items
+          t.listed.items g done;
+      follows = flags_follow mesh surface t.parent.items t.up.items t.rank.items t.flags.items t.seen.items
+          t.listed.items g done;
     }

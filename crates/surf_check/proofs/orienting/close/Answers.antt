@@ -33,7 +33,16 @@ returns c =
     let up = links_up mesh t (t.rank b) b in
     let pushed : c.push.new.self.items ≡ c.in_ok-links.links.items ++ c.link.result ∷ [] = search rules in
     let mapped : map link_of c.push.new.self.items ≡ down ++ link ∷ [] =
-    ap (map link_of) pushed ∙ map-append link_of c.in_ok-links.links.items (c.link.result ∷ []) ∙ ap (λ xs. xs ++ link_of c.link.result ∷ []) c.in_ok-links.ensures ∙ ap (λ l. down ++ l ∷ []) c.link.ensures in
-    let there : map link_of c.climb.new.chain.items ≡ down ++ (link ∷ up) = c.in_ok-climb.ensures ∙ ap (λ xs. xs ++ up) mapped ∙ append_assoc down (link ∷ []) up in
-    let chain : ℕ → ℕ → List Link = λ x y. links_down mesh t (t.rank x) x (record { face = x; ends = ends mesh e } ∷ links_up mesh t (t.rank y) y) in
-    c.from_links.ensures ∙ there ∙ sym (down_then mesh t (t.rank a) a (link ∷ up)) ∙ ap (λ x. chain x b) at_a ∙ ap (chain (faces_of mesh e).0) at_b
+    ap (map link_of) pushed ∙ map-append link_of c.in_ok-links.links.items (c.link.result ∷ [])
+    ∙ ap (λ xs. xs ++ link_of c.link.result ∷ []) c.in_ok-links.ensures
+    ∙ ap (λ l. down ++ l ∷ []) c.link.ensures in
+    let there : map link_of c.climb.new.chain.items ≡ down ++ (link ∷ up) = c.in_ok-climb.ensures
+    ∙ ap (λ xs. xs ++ up) mapped ∙ append_assoc down (link ∷ []) up in
+    let chain : ℕ → ℕ → List Link =
+    λ x y. links_down mesh t (t.rank x) x (record {
+      face = x;
+      ends =
+          ends mesh e;
+    } ∷ links_up mesh t (t.rank y) y) in
+    c.from_links.ensures ∙ there ∙ sym (down_then mesh t (t.rank a) a (link ∷ up)) ∙ ap (λ x. chain x b) at_a
+    ∙ ap (chain (faces_of mesh e).0) at_b

@@ -20,13 +20,20 @@ loop-at-preserved c =
     let parents = is.parents in
     let ups = is.ups in
     let q = c.number-at-in-loop-at.result in
-    let read : c.index-parent.result.now ≡ t.parent f = get_or_read tree.parent.items f c.index-parent.result.now (omega (arith, in', parents)) c.index-parent.ensures 0 in
+    let read : c.index-parent.result.now ≡ t.parent f =
+    get_or_read tree.parent.items f c.index-parent.result.now (omega (
+      arith,
+      in',
+      parents,
+    )) c.index-parent.ensures 0 in
     let q_is : q ≡ t.parent f = c.number-at-in-loop-at.ensures ∙ read in
-    let up_is : c.index.result.now ≡ t.up f = get_or_read tree.up.items f c.index.result.now (omega (arith, in', ups)) c.index.ensures 0 in
+    let up_is : c.index.result.now ≡ t.up f =
+    get_or_read tree.up.items f c.index.result.now (omega (arith, in', ups)) c.index.ensures 0 in
     let made : ℕ → ℕ → Link = λ x y. record { face = x; ends = ends mesh y } in
     let link = made (t.parent f) (t.up f) in
     let r = c.link-step.result in
-    let link_is : link_of r ≡ link = c.link-step.ensures ∙ ap (λ x. made x c.index.result.now) read ∙ ap (made (t.parent f)) up_is in
+    let link_is : link_of r ≡ link = c.link-step.ensures ∙ ap (λ x. made x c.index.result.now) read
+    ∙ ap (made (t.parent f)) up_is in
     let down : ℕ → List Link → List Link = λ x rest. links_down mesh t (t.rank x) x rest in
     let old = c.loop-at.chain.items in
     let rest = map link_of (reverse old) in
@@ -35,6 +42,8 @@ loop-at-preserved c =
     record {
       face = let p = is.is_tree.parent_in f in' ne in omega (arith, p, q_is);
       chain =
-          ap (λ xs. down q (map link_of (reverse xs))) pushed ∙ ap (λ xs. down q (map link_of xs)) (reverse-append old (r ∷ [])) ∙ ap (λ l. down q (l ∷ rest)) link_is
+          ap (λ xs. down q (map link_of (reverse xs))) pushed
+          ∙ ap (λ xs. down q (map link_of xs)) (reverse-append old (r ∷ []))
+          ∙ ap (λ l. down q (l ∷ rest)) link_is
           ∙ ap (λ x. down x (link ∷ rest)) q_is ∙ sym step ∙ c.loop-at.invariant.chain;
     }
