@@ -10,3 +10,4 @@ pub mod Decimals
 pub mod NumberLines
 pub mod Reread
 pub mod RereadMesh
+pub mod StartsOf
