@@ -1,5 +1,5 @@
 -- Texts of many parts, put on a page one after another.
-use Rattle.std.proofs.Common.{◌≡◌, ℕ, zero, suc, ◌+◌, ◌<◌, ◌≤◌, List, [], ◌∷◌, ◌++◌, length, take, get_or, refl, sym, ap, ◌∙◌, arith, length-append, append_assoc, append-nil, subst}
+use Rattle.std.proofs.Common.{◌≡◌, ℕ, zero, suc, ◌+◌, ◌<◌, ◌≤◌, List, [], ◌∷◌, ◌++◌, length, take, get_or, refl, sym, ap, ◌∙◌, arith, length-append, append_assoc, append-nil, subst, Result, Ok, Err}
 use Rattle.std.specs.List.{flat_map, range_with_len}
 use Rattle.std.proofs.lemmas.Grind.{flat_map-append}
 use Rattle.std.proofs.lemmas.List.{take_more}
@@ -8,7 +8,7 @@ use Rattle.std.proofs.lemmas.List.Folds.{length-flat_map-take}
 use Rattle.surf_text.specs.Pages.{PageState, grown}
 use Rattle.surf_text.specs.declared.page.PageFault.{PageFault}
 use Rattle.surf_text.specs.declared.page.PageFault.TheVariants.{Full, Memory}
-use Rattle.surf_print.specs.Fills.{Overfills}
+use Rattle.surf_print.specs.Fills.{Fills, Overfills}
 
 -- where a part of many doesn't fit, the whole doesn't
 pub overfilled : {X : Type 0} (old mid : PageState) (f : X → List ℕ) (xs : List X) (i : ℕ) (d : X) (e : PageFault) → i < length xs →
@@ -57,3 +57,21 @@ overfilled_below old mid f n i e l is full =
     let here : get_or (range_with_len 0 n) i 0 ≡ i = get_or-range_with_len 0 n i 0 l ∙ zero-plus i in
     overfilled old mid f (range_with_len 0 n) i 0 e (rw (length-range_with_len 0 n) l)
     (rw (taken 0 n i (omega (arith, l))) is) (rw here full)
+
+-- ---- two texts
+
+-- where the first doesn't fit, both don't
+pub overfilled_first : (old : PageState) (a b : List ℕ) (e : PageFault) → Overfills old a e → Overfills old (a ++ b) e
+overfilled_first old a b Full over = let sum : length (a ++ b) ≡ length a + length b = length-append _ _ in omega (arith, over, sum)
+overfilled_first old a b Memory over = tt
+
+-- the first is on the page, and the second comes behind it
+pub fills_both : {T : Type 0} (old mid new : PageState) (a b : List ℕ) (r : Result T PageFault) → mid ≡ grown old a → Fills mid new b r → Fills old new (a ++ b) r
+fills_both old mid new a b (Ok x) is more =
+    more ∙ ap (λ (p : PageState). grown p b) is ∙ ap (λ xs. record old { bytes = xs }) (append_assoc old.bytes a b)
+fills_both old mid new a b (Err Full) is over =
+    let known : (grown old a).most < length (grown old a).bytes + length b = subst (λ (p : PageState). p.most < length p.bytes + length b) is over in
+    let front : length (old.bytes ++ a) ≡ length old.bytes + length a = length-append _ _ in
+    let both : length (a ++ b) ≡ length a + length b = length-append _ _ in
+    omega (arith, known, front, both)
+fills_both old mid new a b (Err Memory) is over = tt

@@ -18,7 +18,7 @@ pub fn put_loop(page: &mut Page, length: u64, walk: &[VertexId]) -> Result<(), P
 }
 
 /// Puts how many loops there are and what they total.
-pub fn put_loops_head(page: &mut Page, count: u32, total: u128) -> Result<(), PageFault>
+pub fn put_loops_head(page: &mut Page, count: usize, total: u128) -> Result<(), PageFault>
     ensures fills { Fills page.old page.new (loops_head count total) result }
 {
     page.push_bytes(b"loops ")?;

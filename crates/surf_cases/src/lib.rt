@@ -1,0 +1,12 @@
+//! The program's worked cases, run against `surf_run::run` over files and streams in memory.
+//!
+//! No clause says that an answer is the one that was wanted; these tables do, with expected texts that were
+//! worked out by hand or by an independent program.
+#![tactic(auto)]
+
+#[cfg(test)]
+mod meshes;
+#[cfg(test)]
+mod outside;
+#[cfg(test)]
+mod rows;

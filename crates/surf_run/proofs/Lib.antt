@@ -1,0 +1,6 @@
+mod Running
+mod Unique
+mod LengthLaws
+mod Composing
+mod Saying
+mod HeadLaws

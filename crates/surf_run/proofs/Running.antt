@@ -1,0 +1,180 @@
+-- What a run leaves, by what its command answered.
+use Rattle.std.proofs.Common.{◌≡◌, ◌≢◌, ◌⊎◌, ◌<◌, ◌≤◌, inl, inr, ℕ, List, [], Option, Some, None, Result, Ok, Err, refl, sym, ◌∙◌, subst, arith}
+use Rattle.std.specs.Prelude.{IfSome, codes}
+use Rattle.surf_base.specs.Outside.{Files, HasRisen, GrowsBy}
+use Rattle.surf_base.specs.Transfer.{GrowsByShorter}
+use Rattle.surf_off.specs.declared.fault.OffFault.{OffFault}
+use Rattle.surf_off.specs.declared.fault.OffFault.TheVariants as off
+use Rattle.surf_check.specs.declared.checking.SurfaceFault.{SurfaceFault}
+use Rattle.surf_check.specs.declared.checking.SurfaceFault.TheVariants as check
+use Rattle.surf_lengths.specs.declared.fault.LengthFault.{LengthFault}
+use Rattle.surf_lengths.specs.declared.fault.LengthFault.TheVariants as lengths
+use Rattle.surf_run.specs.MeshTexts.{off_cause}
+use Rattle.surf_run.specs.Surfaces.{surface_cause}
+use Rattle.surf_run.specs.Weights.{length_cause}
+use Rattle.surf_run.specs.Outcome.{Outcome, answers, refuses, misses, Shows, status_of}
+use Rattle.surf_run.specs.Cause.{Cause, due, unread, starved, misused, line_of, status_of_cause}
+use Rattle.surf_run.specs.Refusals.{cause_of}
+use Rattle.surf_run.specs.Leads.{Leads, Answer, OnRequest}
+use Rattle.surf_run.specs.Tells.{IsTold, WhyOver, verdict_status}
+use Rattle.surf_run.specs.Words.{Request, request_of}
+use Rattle.surf_run.specs.Run.{PutsLine, IsLineOf, Refuses, WritesAnswer, WritesFront}
+use Rattle.surf_run.specs.declared.answered.Verdict.{Verdict}
+use Rattle.surf_run.specs.declared.answered.Verdict.TheVariants.{Yes, No}
+use Rattle.surf_run.specs.declared.refusal.Refused.{Refused}
+use Rattle.surf_run.specs.declared.refusal.Refused.TheVariants.{MeshText, Surface, Lengths, Base, Limit, Read, Memory}
+
+-- what is due has a status from 2 to 8 and a line
+abbrev pub IsDue : Cause → Type 0
+IsDue (due (answers status text)) = ⊥
+IsDue (due (refuses status line)) = (1 < status) × (status < 9)
+IsDue (due misses) = ⊥
+IsDue unread = Unit {0}
+IsDue starved = Unit {0}
+
+off_due : (fault : OffFault) → IsDue (off_cause fault)
+off_due (off.Header line) = (omega arith, omega arith)
+off_due (off.Counts line) = (omega arith, omega arith)
+off_due (off.VertexLine line) = (omega arith, omega arith)
+off_due (off.FaceSize line) = (omega arith, omega arith)
+off_due (off.FaceIndex line place) = (omega arith, omega arith)
+off_due (off.FaceRepeat line vertex) = (omega arith, omega arith)
+off_due (off.Early missing) = (omega arith, omega arith)
+off_due (off.Trailing line) = (omega arith, omega arith)
+off_due (off.Limit line kind) = (omega arith, omega arith)
+off_due off.Memory = tt
+
+surface_due : (fault : SurfaceFault) → IsDue (surface_cause fault)
+surface_due check.Empty = (omega arith, omega arith)
+surface_due (check.Border u v face) = (omega arith, omega arith)
+surface_due (check.Crowded u v faces) = (omega arith, omega arith)
+surface_due (check.Isolated v) = (omega arith, omega arith)
+surface_due (check.Pinched v first second) = (omega arith, omega arith)
+surface_due (check.Apart face) = (omega arith, omega arith)
+surface_due check.Memory = tt
+
+length_due : (fault : LengthFault) → IsDue (length_cause fault)
+length_due (lengths.Form line) = (omega arith, omega arith)
+length_due (lengths.Range line) = (omega arith, omega arith)
+length_due (lengths.NotEdge line) = (omega arith, omega arith)
+length_due (lengths.Twice line earlier) = (omega arith, omega arith)
+length_due (lengths.Missing u v) = (omega arith, omega arith)
+length_due lengths.Memory = tt
+
+pub refusals_are_due : (e : Refused) → IsDue (cause_of e)
+refusals_are_due (MeshText fault) = off_due fault
+refusals_are_due (Surface fault) = surface_due fault
+refusals_are_due (Lengths fault) = length_due fault
+refusals_are_due (Base base vertices) = (omega arith, omega arith)
+refusals_are_due (Limit kind) = (omega arith, omega arith)
+refusals_are_due Read = tt
+refusals_are_due Memory = tt
+
+-- a verdict's status is 0 or 1
+pub verdicts_are_low : (v : Verdict) → verdict_status v ≤ 1
+verdicts_are_low Yes = omega arith
+verdicts_are_low No = omega arith
+
+-- a fact of what is held that follows from another
+pub told_map : (holds : Option Files) (P Q : Files → Type 0) → ((files : Files) → P files → Q files) → IfSome holds P → IfSome holds Q
+told_map None P Q f told = tt
+told_map (Some files) P Q f told = f files told
+
+module _ (words : List (List ℕ)) where
+  pub leads : (r : Option Request) (files : Files) (o : Outcome) → request_of words ≡ r → OnRequest r files o → Leads words files o
+  unfolding Leads
+  leads r files o is on = subst (λ (q : Option Request). OnRequest q files o) (sym is) on
+
+  -- the words are in no row
+  pub no_row : (holds : Option Files) → request_of words ≡ None → IsLineOf words holds 2 (line_of (due misused))
+  no_row holds none = record {
+    related = λ _. told holds;
+    read = λ wrong. absurd (omega (arith, wrong));
+    write = λ wrong. absurd (omega (arith, wrong));
+    memory = λ wrong. absurd (omega (arith, wrong));
+  }
+    where
+      told : (holds : Option Files) → IfSome holds (λ files. Answer words files 2 [] (line_of (due misused)))
+      told None = tt
+      told (Some files) = (misused, leads None files misused none refl, (refl, refl, refl))
+
+  module _ (r : Request) (is : request_of words ≡ Some r) (holds : Option Files) where
+    -- the answer was written
+    pub written : (v : Verdict) (text : List ℕ) (old new : Option (List ℕ)) →
+        IfSome holds (λ files. OnRequest (Some r) files (answers (verdict_status v) text)) → GrowsBy old new text →
+        IfSome holds (WritesAnswer words (verdict_status v) old new)
+    written v text old new ends grows =
+        told_map holds (λ files. OnRequest (Some r) files (answers (verdict_status v) text)) (WritesAnswer words (verdict_status v) old new)
+        (λ files on. (text, (answers (verdict_status v) text, leads (Some r) files (answers (verdict_status v) text) is on, (refl, refl, refl)), grows)) ends
+
+    -- a front of it was written
+    pub cut_off : (v : Verdict) (text : List ℕ) (old new : Option (List ℕ)) →
+        IfSome holds (λ files. OnRequest (Some r) files (answers (verdict_status v) text)) → GrowsByShorter old new text →
+        IfSome holds (WritesFront words old new)
+    cut_off v text old new ends grows =
+        told_map holds (λ files. OnRequest (Some r) files (answers (verdict_status v) text)) (WritesFront words old new)
+        (λ files on. (verdict_status v, (text, verdicts_are_low v, (answers (verdict_status v) text, leads (Some r) files (answers (verdict_status v) text) is on, (refl, refl, refl)), grows))) ends
+
+    -- it was said why there is no answer
+    pub told_why : (c : Cause) (status faults faults_new : ℕ) (old new : Option (List ℕ)) (before after : ℕ) → IsDue c →
+        WhyOver holds faults faults_new (OnRequest (Some r)) c → Refuses c status old new before after →
+        (line : List ℕ) × IsLineOf words holds status line × PutsLine old new before after line
+    told_why (due (refuses s l)) status faults faults_new old new before after is_due why (inl said) = (
+      l,
+      record {
+        related = λ _. told_map holds (λ files. OnRequest (Some r) files (refuses s l)) (λ files. Answer words files status [] l)
+            (λ files on. (refuses s l, leads (Some r) files (refuses s l) is on, (said.0, refl, refl))) why;
+        read = λ wrong. absurd (omega (arith, wrong, said.0, is_due.1));
+        write = λ wrong. absurd (omega (arith, wrong, said.0, is_due.1));
+        memory = λ wrong. absurd (omega (arith, wrong, said.0, is_due.1));
+      },
+      said.1,
+    )
+    told_why (due (answers s t)) status faults faults_new old new before after is_due why (inl said) = absurd is_due
+    told_why (due misses) status faults faults_new old new before after is_due why (inl said) = absurd is_due
+    told_why unread status faults faults_new old new before after is_due why (inl said) = (
+      codes "read fault\n",
+      record {
+        related = λ lt. absurd (omega (arith, lt, said.0));
+        read = λ _. refl;
+        write = λ wrong. absurd (omega (arith, wrong, said.0));
+        memory = λ wrong. absurd (omega (arith, wrong, said.0));
+      },
+      said.1,
+    )
+    told_why starved status faults faults_new old new before after is_due why (inl said) = (
+      codes "memory\n",
+      record {
+        related = λ lt. absurd (omega (arith, lt, said.0));
+        read = λ wrong. absurd (omega (arith, wrong, said.0));
+        write = λ wrong. absurd (omega (arith, wrong, said.0));
+        memory = λ _. refl;
+      },
+      said.1,
+    )
+    told_why c status faults faults_new old new before after is_due why (inr said) = (
+      codes "memory\n",
+      record {
+        related = λ lt. absurd (omega (arith, lt, said.0));
+        read = λ wrong. absurd (omega (arith, wrong, said.0));
+        write = λ wrong. absurd (omega (arith, wrong, said.0));
+        memory = λ _. refl;
+      },
+      said.1,
+    )
+
+    -- the status 9 is that of a read that failed
+    pub told_unread : (c : Cause) (status faults faults_new : ℕ) (old new : Option (List ℕ)) (before after : ℕ) → IsDue c →
+        WhyOver holds faults faults_new (OnRequest (Some r)) c → Refuses c status old new before after → status ≡ 9 →
+        HasRisen faults faults_new ⊎ IsTold holds (λ files. Leads words files misses)
+    told_unread (due (refuses s l)) status faults faults_new old new before after is_due why (inl said) nine = absurd (omega (arith, nine, said.0, is_due.1))
+    told_unread (due (answers s t)) status faults faults_new old new before after is_due why (inl said) nine = absurd is_due
+    told_unread (due misses) status faults faults_new old new before after is_due why (inl said) nine = absurd is_due
+    told_unread unread status faults faults_new old new before after is_due (inl rose) (inl said) nine = inl rose
+    told_unread unread status faults faults_new old new before after is_due (inr missing) (inl said) nine = inr (at holds missing)
+      where
+        at : (holds : Option Files) → IsTold holds (λ files. OnRequest (Some r) files misses) → IsTold holds (λ files. Leads words files misses)
+        at None wrong = wrong
+        at (Some files) on = leads (Some r) files misses is on
+    told_unread starved status faults faults_new old new before after is_due why (inl said) nine = absurd (omega (arith, nine, said.0))
+    told_unread c status faults faults_new old new before after is_due why (inr said) nine = absurd (omega (arith, nine, said.0))

@@ -1,0 +1,224 @@
+-- Words and files have one status, and where nothing failed it is the answer.
+use Rattle.std.proofs.Common.{◌≡◌, ◌≢◌, ◌⊎◌, ◌<◌, ◌≤◌, inl, inr, ℕ, Bool, List, [], Option, Some, None, Result, Ok, Err, refl, sym, ◌∙◌, ap, subst, arith, get_or, length}
+use Rattle.std.specs.Prelude.{nat_lt, if◌then◌else◌}
+use Rattle.std.proofs.lemmas.Bool.{cases_eq, cases_lt}
+use Rattle.std.proofs.lemmas.List.Elements.{All-get_or}
+use Rattle.surf_base.specs.Outside.{Files, bytes_of}
+use Rattle.surf_run.specs.Outcome.{Outcome, answers, refuses, misses, Shows, status_of}
+use Rattle.surf_run.specs.Steps.{Ends}
+use Rattle.surf_run.specs.Reading.{Reads, within_text}
+use Rattle.surf_complex.specs.Mesh.{Mesh}
+use Rattle.surf_complex.specs.Surface.{IsSurface, edge_count}
+use Rattle.surf_check.specs.declared.checking.SurfaceFault.{SurfaceFault}
+use Rattle.surf_check.specs.declared.checking.SurfaceFault.TheVariants.{Empty, Border, Crowded, Isolated, Pinched, Apart, Memory}
+use Rattle.surf_check.proofs.FaultLaws.{fault_only}
+use Rattle.surf_disc.proofs.FaultLaws.{fault_only as disc_fault_only}
+use Rattle.surf_off.specs.Off.{OffParts, off_of}
+use Rattle.surf_run.specs.Cause.{outcome_of}
+use Rattle.surf_run.specs.Discs.{JudgesDisc}
+use Rattle.surf_run.specs.Info.{Informs}
+use Rattle.surf_run.specs.Given.{looped, HasFewLoops, IsFewLoopedText, IsWeighted}
+use Rattle.surf_run.specs.Weights.{HasLengths, HasBase, weighed_for, based}
+use Rattle.surf_run.specs.Says.{Says}
+use Rattle.surf_run.specs.Limits.{beyond}
+use Rattle.surf_run.specs.Tasks.{Performs, OnSurface, OnText, is_limited}
+use Rattle.surf_run.specs.declared.weighted.Task.{Task}
+use Rattle.surf_run.specs.declared.weighted.Task.TheVariants.{Distances, LeastLoops}
+use Rattle.surf_base.specs.declared.limits.LimitKind.TheVariants as limits
+use Rattle.surf_lengths.specs.Lengths.{IsLength, AreLengths}
+use Rattle.surf_complex.specs.Walk.{ArePositive}
+use Rattle.surf_complex.specs.Choice.{loops_at}
+use Rattle.surf_complex.proofs.ShortestTreeLaws.{shortest_trees_are_one}
+use Rattle.surf_complex.proofs.LoopsOne.{loops_are_one}
+use Rattle.surf_print.specs.DistanceTexts.{distances_text}
+use Rattle.surf_print.specs.LoopTexts.{loops_text}
+use Rattle.surf_print.proofs.TreeTextLaws.{texts_same}
+use Rattle.surf_run.specs.MeshTexts.{IsMeshText, read_outcome}
+use Rattle.surf_run.specs.Surfaces.{surface_cause, EndsInFault, IsSurfaceText}
+use Rattle.surf_run.specs.Leads.{Leads, Answer, OnRequest, OnInfoText, OnDiscText}
+use Rattle.surf_run.specs.Words.{Request, help, version, info, disc, weighted, request_of}
+
+-- two results of a step go on with one value, or end with one status
+abbrev pub Agree : {A : Type 0} → Result A Outcome → Result A Outcome → Type 0
+Agree (Ok a) (Ok b) = a ≡ b
+Agree (Ok a) (Err p) = ⊥
+Agree (Err o) (Ok b) = ⊥
+Agree (Err o) (Err p) = status_of o ≡ status_of p
+
+abbrev pub IsOne : {A : Type 0} → (Result A Outcome → Type 0) → Type 0
+IsOne {A} step = (r s : Result A Outcome) → step r → step s → Agree r s
+
+abbrev pub HasOneStatus : (Outcome → Type 0) → Type 0
+HasOneStatus end = (o p : Outcome) → end o → end p → status_of o ≡ status_of p
+
+agree_same : {A : Type 0} (r : Result A Outcome) → Agree r r
+agree_same (Ok a) = refl
+agree_same (Err o) = refl
+
+-- a step with a stated result is one
+pub one_result : {A : Type 0} (x : Result A Outcome) → IsOne (λ r. r ≡ x)
+one_result {A} x = λ r s first second. subst (λ (t : Result A Outcome). Agree r t) (first ∙ sym second) (agree_same r)
+
+-- an end with a stated outcome has one status
+pub one_outcome : (x : Outcome) → HasOneStatus (λ o. o ≡ x)
+one_outcome x = λ o p first second. ap status_of (first ∙ sym second)
+
+-- where each step has one result, so has what comes of them
+pub one_end : {A : Type 0} (first : Result A Outcome → Type 0) (second : A → Outcome → Type 0) →
+    IsOne first → ((a : A) → first (Ok a) → HasOneStatus (second a)) → HasOneStatus (Ends first second)
+one_end {A} first second one rest = at
+  where
+    at : (o p : Outcome) → Ends first second o → Ends first second p → status_of o ≡ status_of p
+    at o p (inl x) (inl y) = one (Err o) (Err p) x y
+    at o p (inl x) (inr y) = absurd (one (Err o) (Ok y.0) x y.1)
+    at o p (inr x) (inl y) = absurd (one (Ok x.0) (Err p) x.1 y)
+    at o p (inr x) (inr y) = rest y.0 y.1 o p (subst (λ (a : A). second a o) (one (Ok x.0) (Ok y.0) x.1 y.1) x.2) y.2
+
+-- no step reads one text of a mesh as two things
+pub one_mesh_text : (bytes : List ℕ) → IsOne (IsMeshText bytes)
+one_mesh_text bytes = one_result (read_outcome (off_of bytes))
+
+-- each fault of a surface has status 4
+fault_status : (fault : SurfaceFault) → fault ≢ Memory → status_of (outcome_of (surface_cause fault)) ≡ 4
+fault_status Empty ne = refl
+fault_status (Border u v face) ne = refl
+fault_status (Crowded u v faces) ne = refl
+fault_status (Isolated v) ne = refl
+fault_status (Pinched v first second) ne = refl
+fault_status (Apart face) ne = refl
+fault_status Memory ne = absurd (ne refl)
+
+ends_with_four : (mesh : Mesh) (o : Outcome) → EndsInFault mesh o → status_of o ≡ 4
+ends_with_four mesh o ends = ap status_of ends.is ∙ fault_status ends.fault ends.isnt_memory
+
+-- a surface has no fault
+no_fault : (mesh : Mesh) (o : Outcome) → IsSurface mesh → EndsInFault mesh o → ⊥
+no_fault mesh o surface ends = ends.isnt_memory (fault_only mesh ends.fault ends.is_fault surface)
+
+pub one_surface_text : (bytes : List ℕ) → IsOne (IsSurfaceText bytes)
+one_surface_text bytes (Ok a) (Ok b) x y = one_mesh_text bytes (Ok a) (Ok b) x.0 y.0
+one_surface_text bytes (Ok a) (Err p) x (inl y) = one_mesh_text bytes (Ok a) (Err p) x.0 y
+one_surface_text bytes (Ok a) (Err p) x (inr y) =
+    no_fault a.1 p x.1 (subst (λ (read : OffParts × Mesh). EndsInFault read.1 p) (one_mesh_text bytes (Ok y.0) (Ok a) y.1 x.0) y.2)
+one_surface_text bytes (Err o) (Ok b) (inl x) y = one_mesh_text bytes (Err o) (Ok b) x y.0
+one_surface_text bytes (Err o) (Ok b) (inr x) y =
+    no_fault b.1 o y.1 (subst (λ (read : OffParts × Mesh). EndsInFault read.1 o) (one_mesh_text bytes (Ok x.0) (Ok b) x.1 y.0) x.2)
+one_surface_text bytes (Err o) (Err p) (inl x) (inl y) = one_mesh_text bytes (Err o) (Err p) x y
+one_surface_text bytes (Err o) (Err p) (inl x) (inr y) = absurd (one_mesh_text bytes (Err o) (Ok y.0) x y.1)
+one_surface_text bytes (Err o) (Err p) (inr x) (inl y) = absurd (one_mesh_text bytes (Ok x.0) (Err p) x.1 y)
+one_surface_text bytes (Err o) (Err p) (inr x) (inr y) = ends_with_four x.0.1 o x.2 ∙ sym (ends_with_four y.0.1 p y.2)
+
+informs_with_zero : (mesh : Mesh) (o : Outcome) → Informs mesh o → status_of o ≡ 0
+informs_with_zero mesh o (inl x) = ap status_of x.text
+informs_with_zero mesh o (inr x) = ap status_of x.text
+
+one_info : (mesh : Mesh) → HasOneStatus (Informs mesh)
+one_info mesh o p x y = informs_with_zero mesh o x ∙ sym (informs_with_zero mesh p y)
+
+-- a disc has no fault
+one_judgement : (mesh : Mesh) → HasOneStatus (JudgesDisc mesh)
+one_judgement mesh o p (inl x) (inl y) = ap status_of x.text ∙ sym (ap status_of y.text)
+one_judgement mesh o p (inl x) (inr y) = absurd (y.isnt_memory (disc_fault_only mesh y.fault y.is_fault x.is_disc))
+one_judgement mesh o p (inr x) (inl y) = absurd (x.isnt_memory (disc_fault_only mesh x.fault x.is_fault y.is_disc))
+one_judgement mesh o p (inr x) (inr y) = ap status_of x.text ∙ sym (ap status_of y.text)
+
+one_looped_text : (limited : Bool) (bytes : List ℕ) → IsOne (IsFewLoopedText limited bytes)
+one_looped_text limited bytes (Ok a) (Ok b) x y = one_surface_text bytes (Ok a) (Ok b) x.0 y.0
+one_looped_text limited bytes (Ok a) (Err p) x (inl y) = one_surface_text bytes (Ok a) (Err p) x.0 y
+one_looped_text limited bytes (Ok a) (Err p) x (inr y) =
+    one_result (looped limited a.1) (Ok a.1) (Err p) x.1
+    (subst (λ (read : OffParts × Mesh). HasFewLoops limited read.1 (Err p)) (one_surface_text bytes (Ok y.0) (Ok a) y.1 x.0) y.2)
+one_looped_text limited bytes (Err o) (Ok b) (inl x) y = one_surface_text bytes (Err o) (Ok b) x y.0
+one_looped_text limited bytes (Err o) (Ok b) (inr x) y =
+    one_result (looped limited b.1) (Err o) (Ok b.1)
+    (subst (λ (read : OffParts × Mesh). HasFewLoops limited read.1 (Err o)) (one_surface_text bytes (Ok x.0) (Ok b) x.1 y.0) x.2) y.1
+one_looped_text limited bytes (Err o) (Err p) (inl x) (inl y) = one_surface_text bytes (Err o) (Err p) x y
+one_looped_text limited bytes (Err o) (Err p) (inl x) (inr y) = absurd (one_surface_text bytes (Err o) (Ok y.0) x y.1)
+one_looped_text limited bytes (Err o) (Err p) (inr x) (inl y) = absurd (one_surface_text bytes (Ok x.0) (Err p) x.1 y)
+one_looped_text limited bytes (Err o) (Err p) (inr x) (inr y) =
+    one_result (looped limited y.0.1) (Err o) (Err p)
+    (subst (λ (read : OffParts × Mesh). HasFewLoops limited read.1 (Err o)) (one_surface_text bytes (Ok x.0) (Ok y.0) x.1 y.1) x.2) y.2
+
+module _ (word : List ℕ) (base : ℕ) (mesh : Mesh) (files : Files) where
+  lengths_agree : IsOne (HasLengths word mesh files)
+  lengths_agree = one_result (weighed_for word mesh files)
+
+  base_agrees : IsOne (HasBase base mesh)
+  base_agrees = one_result (based base mesh)
+
+  one_weighted : IsOne (IsWeighted word base mesh files)
+  one_weighted (Ok a) (Ok b) x y = pair_same a b (lengths_agree (Ok a.0) (Ok b.0) x.0 y.0) (base_agrees (Ok a.1) (Ok b.1) x.1 y.1)
+    where
+      pair_same : (a b : List ℕ × ℕ) → a.0 ≡ b.0 → a.1 ≡ b.1 → a ≡ b
+      pair_same a b p q = ap (λ l. (l, a.1)) p ∙ ap (λ n. (b.0, n)) q
+  one_weighted (Ok a) (Err p) x (inl y) = lengths_agree (Ok a.0) (Err p) x.0 y
+  one_weighted (Ok a) (Err p) x (inr y) = base_agrees (Ok a.1) (Err p) x.1 y.2
+  one_weighted (Err o) (Ok b) (inl x) y = lengths_agree (Err o) (Ok b.0) x y.0
+  one_weighted (Err o) (Ok b) (inr x) y = base_agrees (Err o) (Ok b.1) x.2 y.1
+  one_weighted (Err o) (Err p) (inl x) (inl y) = lengths_agree (Err o) (Err p) x y
+  one_weighted (Err o) (Err p) (inl x) (inr y) = absurd (lengths_agree (Err o) (Ok y.0) x y.1)
+  one_weighted (Err o) (Err p) (inr x) (inl y) = absurd (lengths_agree (Ok x.0) (Err p) x.1 y)
+  one_weighted (Err o) (Err p) (inr x) (inr y) = base_agrees (Err o) (Err p) x.2 y.2
+
+-- lengths of edges are positive
+positive : (mesh : Mesh) (lengths : List ℕ) → AreLengths lengths → length lengths ≡ edge_count mesh → ArePositive mesh lengths
+positive mesh lengths are sized e l = (All-get_or IsLength lengths e 0 (subst (λ (n : ℕ). e < n) (sym sized) l) are).positive
+
+-- one text is said with one status
+says_same : (t u : List ℕ) (o p : Outcome) → t ≡ u → Says t o → Says u p → status_of o ≡ status_of p
+says_same t u o p same x y = ap status_of (x ∙ ap (λ s. if nat_lt 1073741824 (length s) then beyond limits.Answer else answers 0 s) same ∙ sym y)
+
+one_performance : (task : Task) (read : OffParts × Mesh) (given : List ℕ × ℕ) → IsSurface read.1 → ArePositive read.1 given.0 → HasOneStatus (Performs task read given)
+one_performance Distances read given surface lengths o p x y =
+    says_same (distances_text read.1.vertices x.tree) (distances_text read.1.vertices y.tree) o p
+    (texts_same read.1 given.1 x.tree y.tree (shortest_trees_are_one read.1 given.0 given.1 x.tree y.tree surface lengths x.shortest y.shortest) x.shortest.root y.shortest.root)
+    x.says y.says
+one_performance LeastLoops read given surface lengths o p x y =
+    says_same (loops_text (loops_at read.1 given.0 given.1 x.trees)) (loops_text (loops_at read.1 given.0 given.1 y.trees)) o p
+    (ap loops_text (loops_are_one read.1 given.0 given.1 x.trees y.trees surface lengths x.chosen y.chosen)) x.says y.says
+
+one_text : (task : Task) (bytes word : List ℕ) (base : ℕ) (files : Files) → HasOneStatus (OnText task bytes word base files)
+one_text task bytes word base files =
+    one_end (IsFewLoopedText (is_limited task) bytes) (λ read. OnSurface task read word base files) (one_looped_text (is_limited task) bytes)
+    (λ read looped. one_end (IsWeighted word base read.1 files) (Performs task read) (one_weighted word base read.1 files)
+    (λ given is. one_performance task read given looped.0.1 (positive read.1 given.0 is.2 is.3)))
+
+pub one_request : (r : Option Request) (files : Files) → HasOneStatus (OnRequest r files)
+one_request None files = one_outcome _
+one_request (Some help) files = one_outcome _
+one_request (Some version) files = one_outcome _
+one_request (Some (info mesh)) files = one_end (Reads mesh files) OnInfoText (one_result (within_text (bytes_of files mesh)))
+    (λ bytes _. one_end (IsSurfaceText bytes) (λ read. Informs read.1) (one_surface_text bytes) (λ read _. one_info read.1))
+one_request (Some (disc mesh)) files = one_end (Reads mesh files) OnDiscText (one_result (within_text (bytes_of files mesh)))
+    (λ bytes _. one_end (IsMeshText bytes) (λ read. JudgesDisc read.1) (one_mesh_text bytes) (λ read _. one_judgement read.1))
+one_request (Some (weighted task mesh word base)) files = one_end (Reads mesh files) (λ bytes. OnText task bytes word base files)
+    (one_result (within_text (bytes_of files mesh))) (λ bytes _. one_text task bytes word base files)
+
+module _ (words : List (List ℕ)) (files : Files) where
+  pub one_lead : HasOneStatus (Leads words files)
+  unfolding Leads
+  one_lead = one_request (request_of words) files
+
+  shown : (o : Outcome) (status : ℕ) (text line : List ℕ) → Shows o status text line → status ≡ status_of o
+  shown (answers s t) status text line shows = shows.0
+  shown (refuses s l) status text line shows = shows.0
+  shown misses status text line shows = absurd shows
+
+  pub one_status : (s t : ℕ) (text line other_text other_line : List ℕ) → Answer words files s text line → Answer words files t other_text other_line → s ≡ t
+  one_status s t text line other_text other_line a b =
+      shown a.0 s text line a.2 ∙ one_lead a.0 b.0 a.1 b.1 ∙ sym (shown b.0 t other_text other_line b.2)
+
+  -- where nothing failed, what is due is the status, unless memory ran out
+  pub completes : (result due : ℕ) (text line : List ℕ) → Answer words files due text line →
+      (result ≤ 1 → (said : List ℕ) × Answer words files result said []) → (1 < result → result < 9 → (said : List ℕ) × Answer words files result [] said) →
+      (result ≡ 9 → Leads words files misses) → (result ≡ 10 → ⊥) → result ≤ 11 → (result ≡ due) ⊎ (result ≡ 11)
+  completes result due text line is answered refused unread write bound = elim (cases_lt 1 result) [
+    | inr low ↦ let a = answered low in inl (one_status result due a.0 [] text line a.1 is)
+    | inl high ↦ elim (cases_lt result 9) [
+      | inl lt ↦ let a = refused high lt in inl (one_status result due [] a.0 text line a.1 is)
+      | inr ge ↦ elim (cases_eq result 9) [
+        | inl nine ↦ inl (nine ∙ one_lead misses is.0 (unread nine) is.1 ∙ sym (shown is.0 due text line is.2))
+        | inr ne ↦ inr (omega (arith, write, ne))
+      ]
+    ]
+  ]

@@ -1,0 +1,11 @@
+use Rattle.std.proofs.Common.{Some, sym, subst}
+use Rattle.surf_run.specs.Leads.{OnRequest}
+use Rattle.surf_run.specs.Seen.{request}
+use Rattle.surf_run.specs.Tells.{ConcludesOver}
+use Rattle.surf_run.specs.declared.words.Command.{Command}
+use Rattle.surf_run.proofs.dispatch.answer.Goals as goal
+
+pub returns-in-Weighted-clause-tells : goal.returns-in-Weighted-clause-tells
+returns-in-Weighted-clause-tells g c =
+    subst (λ (command : Command). ConcludesOver (g.S.Shelf.holds c.args.shelf.now) (g.S.Shelf.faults c.args.shelf.now) (g.S.Shelf.faults c.weighted.new.shelf) (OnRequest (Some (request command))) c.weighted.result)
+    (sym c.in-Weighted.is) c.weighted.ensures.tells

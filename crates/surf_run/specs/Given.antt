@@ -1,0 +1,38 @@
+-- What commands on weighted surfaces work on: a surface, its lengths and a base.
+use Rattle.std.specs.Prelude.{◌≡◌, ◌+◌, ◌-◌, ◌⊎◌, ℕ, Bool, true, false, ◌&&◌, nat_lt, List, length, Result, Ok, Err, if◌then◌else◌}
+use Rattle.surf_base.specs.Outside.{Files}
+use Rattle.surf_base.specs.declared.limits.LimitKind.TheVariants.{Loops}
+use Rattle.surf_complex.specs.Mesh.{Mesh}
+use Rattle.surf_complex.specs.Surface.{face_count, edge_count}
+use Rattle.surf_lengths.specs.Lengths.{AreLengths}
+use Rattle.surf_off.specs.Off.{OffParts}
+use Rattle.surf_run.specs.Limits.{beyond}
+use Rattle.surf_run.specs.Outcome.{Outcome}
+use Rattle.surf_run.specs.Surfaces.{IsSurfaceText}
+use Rattle.surf_run.specs.Weights.{HasLengths, HasBase}
+
+-- how many independent loops a surface has: two less its characteristic
+abbrev pub loop_count : Mesh → ℕ
+loop_count mesh = edge_count mesh + 2 - (mesh.vertices + face_count mesh)
+
+-- Where loops are limited, there are at most 1,024 of them.
+abbrev pub looped : Bool → Mesh → Result Mesh Outcome
+looped limited mesh = if limited && nat_lt 1024 (loop_count mesh) then Err (beyond Loops) else Ok mesh
+
+abbrev pub HasFewLoops : Bool → Mesh → Result Mesh Outcome → Type 0
+HasFewLoops limited mesh result = result ≡ looped limited mesh
+
+-- The bytes are the text of a surface, with few loops where these are limited.
+abbrev pub IsFewLoopedText : Bool → List ℕ → Result (OffParts × Mesh) Outcome → Type 0
+IsFewLoopedText limited bytes (Ok read) = IsSurfaceText bytes (Ok read) × HasFewLoops limited read.1 (Ok read.1)
+IsFewLoopedText limited bytes (Err outcome) =
+    IsSurfaceText bytes (Err outcome)
+    ⊎ ((read : OffParts × Mesh) × IsSurfaceText bytes (Ok read) × HasFewLoops limited read.1 (Err outcome))
+
+-- A word gives lengths to the edges, each from 1 to 4,294,967,295, and then the base is a vertex.
+abbrev pub IsWeighted : List ℕ → ℕ → Mesh → Files → Result (List ℕ × ℕ) Outcome → Type 0
+IsWeighted word base mesh files (Ok given) =
+    HasLengths word mesh files (Ok given.0) × HasBase base mesh (Ok given.1) × AreLengths given.0 × (length given.0 ≡ edge_count mesh)
+IsWeighted word base mesh files (Err outcome) =
+    HasLengths word mesh files (Err outcome)
+    ⊎ ((lengths : List ℕ) × HasLengths word mesh files (Ok lengths) × HasBase base mesh (Err outcome))

@@ -1,0 +1,16 @@
+-- A least system of loops at a base.
+use Rattle.std.specs.Prelude.{ℕ, List}
+use Rattle.surf_complex.specs.Mesh.{Mesh}
+use Rattle.surf_complex.specs.Choice.{Trees, AreChosenAt, loops_at}
+use Rattle.surf_complex.specs.ChoiceLaws.{LoopsAtBase}
+use Rattle.surf_print.specs.LoopTexts.{loops_text}
+use Rattle.surf_run.specs.Outcome.{Outcome}
+use Rattle.surf_run.specs.Says.{Says}
+
+-- The loops that are chosen at the base. They are a least loop system there, each with its length, in their order: 2 − χ closed walks at the
+-- base, independent, and no such walks total less.
+pub record GivesLoops (mesh : Mesh) (lengths : List ℕ) (base : ℕ) (outcome : Outcome) : Type 0 where
+  pub trees : Trees
+  pub chosen : AreChosenAt mesh lengths base trees
+  pub least : LoopsAtBase mesh lengths base trees
+  pub says : Says (loops_text (loops_at mesh lengths base trees)) outcome

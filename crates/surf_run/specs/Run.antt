@@ -1,0 +1,41 @@
+-- What a run leaves of its sinks.
+use Rattle.std.specs.Prelude.{◌≡◌, ◌<◌, ◌≤◌, ◌⊎◌, ℕ, List, [], Option, Some, None, IfSome, codes}
+use Rattle.surf_base.specs.Outside.{Files, HasRisen, GrowsBy}
+use Rattle.surf_base.specs.Transfer.{GrowsByShorter}
+use Rattle.surf_run.specs.Cause.{Cause, line_of, status_of_cause}
+use Rattle.surf_run.specs.Leads.{Answer}
+use Rattle.surf_run.specs.Words.{Request, help, version, info, disc, weighted}
+
+-- The words are a row of the command table that names a file.
+abbrev pub NamesFile : Option Request → Type 0
+NamesFile None = ⊥
+NamesFile (Some help) = ⊥
+NamesFile (Some version) = ⊥
+NamesFile (Some (info mesh)) = Unit {0}
+NamesFile (Some (disc mesh)) = Unit {0}
+NamesFile (Some (weighted task mesh lengths base)) = Unit {0}
+
+-- The whole text of an answer with status 0 or 1 was written.
+abbrev pub WritesAnswer : List (List ℕ) → ℕ → Option (List ℕ) → Option (List ℕ) → Files → Type 0
+WritesAnswer words status old new files = (text : List ℕ) × Answer words files status text [] × GrowsBy old new text
+
+-- A front of the text of an answer, shorter than the text, was written.
+abbrev pub WritesFront : List (List ℕ) → Option (List ℕ) → Option (List ℕ) → Files → Type 0
+WritesFront words old new files = (status : ℕ) × ((text : List ℕ) × (status ≤ 1) × Answer words files status text [] × GrowsByShorter old new text)
+
+-- A line was written whole, or, where the sink's faults rose, a shorter front of it.
+abbrev pub PutsLine : Option (List ℕ) → Option (List ℕ) → ℕ → ℕ → List ℕ → Type 0
+PutsLine old new faults_old faults_new line = GrowsBy old new line ⊎ (HasRisen faults_old faults_new × GrowsByShorter old new line)
+
+-- The line of a status above 1. From 2 to 8 the words and the files give it, where it is told what is held.
+pub record IsLineOf (words : List (List ℕ)) (holds : Option Files) (status : ℕ) (line : List ℕ) : Type 0 where
+  pub related : status < 9 → IfSome holds (λ files. Answer words files status [] line)
+  pub read : status ≡ 9 → line ≡ codes "read fault\n"
+  pub write : status ≡ 10 → line ≡ codes "write fault\n"
+  pub memory : status ≡ 11 → line ≡ codes "memory\n"
+
+-- The status and the line of a cause, or those of want of memory.
+abbrev pub Refuses : Cause → ℕ → Option (List ℕ) → Option (List ℕ) → ℕ → ℕ → Type 0
+Refuses cause status old new faults_old faults_new =
+    ((status ≡ status_of_cause cause) × PutsLine old new faults_old faults_new (line_of cause))
+    ⊎ ((status ≡ 11) × PutsLine old new faults_old faults_new (codes "memory\n"))

@@ -1,0 +1,11 @@
+-- A command of the code as a row of the command table.
+use Rattle.surf_run.specs.declared.words.Command.{Command}
+use Rattle.surf_run.specs.declared.words.Command.TheVariants.{Help, Version, Info, Disc, Weighted}
+use Rattle.surf_run.specs.Words.{Request, help, version, info, disc, weighted}
+
+abbrev pub request : Command → Request
+request Help = help
+request Version = version
+request (Info mesh) = info mesh.now
+request (Disc mesh) = disc mesh.now
+request (Weighted task mesh lengths base) = weighted task mesh.now lengths.now base

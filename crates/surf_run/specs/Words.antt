@@ -1,0 +1,54 @@
+-- The words of a command line, and the command that they are.
+use Rattle.std.specs.Prelude.{ℕ, List, [], ◌∷◌, map, String, Option, Some, None, nat_lt, option_and_then, if◌then◌else◌, codes, string_bytes}
+use Rattle.std.specs.Str.{bytes_eq}
+use Rattle.surf_text.specs.Text.{whole}
+use Rattle.surf_run.specs.declared.weighted.Task.{Task}
+use Rattle.surf_run.specs.declared.weighted.Task.TheVariants.{Distances, LeastLoops}
+use Rattle.std.specs.declared.alloc.Global.{Global}
+
+-- the bytes of each word
+abbrev pub texts : List (String Global) → List (List ℕ)
+texts words = map string_bytes words
+
+-- a row of the command table, with the names of its files
+pub data Request : Type 0 where
+  help : Request
+  version : Request
+  info : List ℕ → Request
+  disc : List ℕ → Request
+  -- a task on the surface of a file, with the lengths that a word gives and a base
+  weighted : Task → List ℕ → List ℕ → ℕ → Request
+
+abbrev pub lone_request : List ℕ → Option Request
+lone_request word =
+    if bytes_eq word (codes "--help") then Some help
+    else (if bytes_eq word (codes "--version") then Some version else None)
+
+abbrev pub mesh_request : List ℕ → List ℕ → Option Request
+mesh_request word mesh =
+    if bytes_eq word (codes "info") then Some (info mesh)
+    else (if bytes_eq word (codes "disc") then Some (disc mesh) else None)
+
+-- a number word: digits of a value at most 4,294,967,295
+abbrev pub number_of : List ℕ → Option ℕ
+number_of word = option_and_then (λ n. if nat_lt 4294967295 n then None else Some n) (whole word)
+
+-- the task of a command with four words
+abbrev pub task_of : List ℕ → Option Task
+task_of word =
+    if bytes_eq word (codes "dist") then Some Distances
+    else (if bytes_eq word (codes "loops") then Some LeastLoops else None)
+
+abbrev pub weighted_request : Option Task → List ℕ → List ℕ → Option ℕ → Option Request
+weighted_request None mesh lengths base = None
+weighted_request (Some task) mesh lengths None = None
+weighted_request (Some task) mesh lengths (Some base) = Some (weighted task mesh lengths base)
+
+-- the row of the command table that the words are in
+abbrev pub request_of : List (List ℕ) → Option Request
+request_of [] = None
+request_of (word ∷ []) = lone_request word
+request_of (word ∷ mesh ∷ []) = mesh_request word mesh
+request_of (word ∷ mesh ∷ third ∷ []) = None
+request_of (word ∷ mesh ∷ lengths ∷ base ∷ []) = weighted_request (task_of word) mesh lengths (number_of base)
+request_of (word ∷ mesh ∷ lengths ∷ base ∷ fifth ∷ more) = None

@@ -1,0 +1,61 @@
+//! Answers.
+ghost use Rattle.std.specs.Prelude.{◌≡◌};
+ghost use Rattle.surf_run.specs.Help.{help_text, version_text};
+ghost use Rattle.surf_run.specs.Outcome.{answers};
+ghost use Rattle.surf_run.specs.Tells.{Concludes, verdict_status};
+
+use crate::refusal::Refused;
+use std::alloc::Global;
+
+/// Whether what was asked about is as it should be. Only a check answers `No`.
+#[derive(Clone, Copy, Debug, PartialEq, Eq)]
+pub enum Verdict {
+    Yes,
+    No,
+}
+
+impl Verdict {
+    /// The status with which the program ends.
+    pub fn status(self) -> u8
+        ensures { result ≡ verdict_status self }
+    {
+        match self {
+            Verdict::Yes => 0,
+            Verdict::No => 1,
+        }
+    }
+}
+
+/// An answer: its verdict, and the text that goes to the output.
+#[derive(Drop)]
+pub struct Answered {
+    pub verdict: Verdict,
+    pub text: Vec<u8>,
+}
+
+// How the program is called.
+const HELP: &str =
+    "usage: surf info M\n       surf dist M L x\n       surf loops M L x\n       surf disc M\n       surf --help | --version\nM is an OFF mesh, L a length file or the word unit, x a vertex.\n";
+
+fn fixed(alloc: Global, text: &str) -> Result<Answered, Refused>
+    ensures { Concludes (λ end. end ≡ answers 0 text.now) result }
+{
+    Ok(Answered {
+        verdict: Verdict::Yes,
+        text: text.as_bytes().to_vec(alloc)?,
+    })
+}
+
+/// How the program is called.
+pub fn help(alloc: Global) -> Result<Answered, Refused>
+    ensures { Concludes (λ end. end ≡ answers 0 help_text) result }
+{
+    fixed(alloc, HELP)
+}
+
+/// The program's name and version.
+pub fn version(alloc: Global) -> Result<Answered, Refused>
+    ensures { Concludes (λ end. end ≡ answers 0 version_text) result }
+{
+    fixed(alloc, "surf 0.1.0\n")
+}

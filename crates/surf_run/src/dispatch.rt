@@ -1,0 +1,36 @@
+//! What each command answers.
+ghost use Rattle.std.specs.Prelude.{◌≡◌, ◌≤◌, Some, IsErrOf};
+ghost use Rattle.surf_run.specs.Leads.{OnRequest};
+ghost use Rattle.surf_run.specs.Run.{NamesFile};
+ghost use Rattle.surf_run.specs.Seen.{request};
+ghost use Rattle.surf_run.specs.Tells.{ConcludesOver};
+
+use crate::answered::{Answered, help, version};
+use crate::disc_command::disc;
+use crate::info_command::info;
+use crate::refusal::Refused;
+use crate::weighted::weighted;
+use crate::words::Command;
+use std::alloc::Global;
+use surf_base::Shelf;
+
+/// What a command answers.
+pub fn answer<S: Shelf>(alloc: Global, command: Command, shelf: &mut S) -> Result<Answered, Refused>
+    ensures holds { S.holds shelf.new ≡ S.holds shelf.old }
+    ensures later { S.faults shelf.old ≤ S.faults shelf.new }
+    ensures tells { ConcludesOver (S.holds shelf.old) (S.faults shelf.old) (S.faults shelf.new) (OnRequest (Some (request command.entry))) result }
+    ensures reached { IsErrOf result Refused.Read → NamesFile (Some (request command.entry)) }
+{
+    match command {
+        Command::Help => help(alloc),
+        Command::Version => version(alloc),
+        Command::Info { mesh } => info(alloc, shelf, mesh),
+        Command::Disc { mesh } => disc(alloc, shelf, mesh),
+        Command::Weighted {
+            task,
+            mesh,
+            lengths,
+            base,
+        } => weighted(alloc, shelf, task, mesh, lengths, base),
+    }
+}

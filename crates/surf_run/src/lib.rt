@@ -1,0 +1,22 @@
+//! The program as one call.
+#![tactic(auto)]
+
+mod answered;
+mod disc_command;
+mod dispatch;
+mod dist_command;
+mod info_command;
+mod lines;
+mod loops_command;
+mod reading;
+mod refusal;
+mod top;
+mod weighted;
+mod weights;
+mod words;
+
+pub use answered::{Answered, Verdict};
+pub use refusal::Refused;
+pub use top::run;
+pub use weighted::Task;
+pub use words::{Command, parse};

@@ -1,0 +1,55 @@
+//! Files that are reached.
+ghost use Rattle.std.specs.Prelude.{◌≡◌, ◌≤◌, length, IfOk};
+ghost use Rattle.surf_run.specs.MeshTexts.{IsMeshText};
+ghost use Rattle.surf_run.specs.Reading.{Reads};
+ghost use Rattle.surf_run.specs.Surfaces.{IsSurfaceOf, IsSurfaceText};
+ghost use Rattle.surf_run.specs.Tells.{Takes, TakesOver};
+
+use crate::refusal::Refused;
+use std::alloc::Global;
+use surf_base::{FetchFault, LimitKind, MAX_TEXT, Shelf, fetch};
+use surf_check::check;
+use surf_mesh::{HalfMesh, Soup};
+use surf_off::{OffText, read_off};
+
+/// The bytes of the file of a name.
+pub fn read_file<S: Shelf>(alloc: Global, shelf: &mut S, name: &str) -> Result<Vec<u8>, Refused>
+    ensures holds { S.holds shelf.new ≡ S.holds shelf.old }
+    ensures later { S.faults shelf.old ≤ S.faults shelf.new }
+    ensures most { IfOk result (λ bytes. length bytes.items ≤ 268435456) }
+    ensures tells { TakesOver (S.holds shelf.old) (S.faults shelf.old) (S.faults shelf.new) (λ bytes. bytes.items) (Reads name.now) result }
+{
+    match fetch(alloc, shelf, name, MAX_TEXT) {
+        Ok(bytes) => Ok(bytes),
+        Err(FetchFault::Failed) => Err(Refused::Read),
+        Err(FetchFault::TooLong) => Err(Refused::Limit(LimitKind::Text)),
+        Err(FetchFault::Memory) => Err(Refused::Memory),
+    }
+}
+
+/// The parts and the faces of the text of a mesh.
+pub fn read_mesh(alloc: Global, bytes: &[u8]) -> Result<(OffText<'_>, Soup), Refused>
+    requires { length bytes.now ≤ 268435456 }
+    ensures { Takes (λ read. read) (IsMeshText bytes.now) result }
+{
+    let read = read_off(alloc, bytes)?;
+    Ok(read)
+}
+
+// The surface that faces are.
+fn surface_of(alloc: Global, soup: Soup) -> Result<HalfMesh, Refused>
+    ensures { Takes (λ mesh. mesh) (IsSurfaceOf soup) result }
+{
+    let mesh = check(alloc, soup)?;
+    Ok(mesh)
+}
+
+/// The parts and the surface of the text of a mesh.
+pub fn read_surface(alloc: Global, bytes: &[u8]) -> Result<(OffText<'_>, HalfMesh), Refused>
+    requires { length bytes.now ≤ 268435456 }
+    ensures { Takes (λ read. read) (IsSurfaceText bytes.now) result }
+{
+    let (text, soup) = read_mesh(alloc, bytes)?;
+    let mesh = surface_of(alloc, soup)?;
+    Ok((text, mesh))
+}

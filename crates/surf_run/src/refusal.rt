@@ -1,0 +1,120 @@
+//! Why there is no answer.
+ghost use Rattle.std.specs.Prelude.{◌≡◌, IfOk, string_bytes};
+ghost use Rattle.surf_run.specs.Cause.{line_of, status_of_cause};
+ghost use Rattle.surf_run.specs.Refusals.{cause_of, of_page};
+ghost use Rattle.surf_run.specs.declared.refusal.Refused.TheVariants.{MeshText, Surface, Lengths, Memory};
+
+use crate::lines::{limit_line, off_line, surface_line};
+use crate::weights::{base_line, length_line};
+use std::alloc::{AllocError, AllocFailed, Global};
+use surf_base::{LimitKind, NoMemory};
+use surf_check::SurfaceFault;
+use surf_lengths::LengthFault;
+use surf_off::OffFault;
+use surf_text::PageFault;
+
+/// Why there is no answer: the first test that refuses, in their order.
+#[derive(Clone, Copy, Debug, PartialEq, Eq)]
+pub enum Refused {
+    MeshText(OffFault),
+    Surface(SurfaceFault),
+    Lengths(LengthFault),
+    Base { base: u32, vertices: u32 },
+    Limit(LimitKind),
+    Read,
+    Memory,
+}
+
+impl From<NoMemory> for Refused {
+    ghost from_gives = { λ _ e. e ≡ Memory };
+
+    fn from(_: NoMemory) -> Refused {
+        Refused::Memory
+    }
+}
+
+impl From<AllocError> for Refused {
+    ghost from_gives = { λ _ e. e ≡ Memory };
+
+    fn from(_: AllocError) -> Refused {
+        Refused::Memory
+    }
+}
+
+impl<T: Drop> From<AllocFailed<T>> for Refused {
+    ghost from_gives = { λ _ e. e ≡ Memory };
+
+    fn from(_: AllocFailed<T>) -> Refused {
+        Refused::Memory
+    }
+}
+
+impl From<OffFault> for Refused {
+    ghost from_gives = { λ fault e. e ≡ MeshText fault };
+
+    fn from(fault: OffFault) -> Refused {
+        Refused::MeshText(fault)
+    }
+}
+
+impl From<LengthFault> for Refused {
+    ghost from_gives = { λ fault e. e ≡ Lengths fault };
+
+    fn from(fault: LengthFault) -> Refused {
+        Refused::Lengths(fault)
+    }
+}
+
+impl From<PageFault> for Refused {
+    ghost from_gives = { λ fault e. e ≡ of_page fault };
+
+    fn from(fault: PageFault) -> Refused {
+        match fault {
+            PageFault::Full => Refused::Limit(LimitKind::Answer),
+            PageFault::Memory => Refused::Memory,
+        }
+    }
+}
+
+impl From<SurfaceFault> for Refused {
+    ghost from_gives = { λ fault e. e ≡ Surface fault };
+
+    fn from(fault: SurfaceFault) -> Refused {
+        Refused::Surface(fault)
+    }
+}
+
+impl Refused {
+    /// The status with which the program ends.
+    pub fn status(&self) -> u8
+        ensures { result ≡ status_of_cause (cause_of self.now) }
+    {
+        match self {
+            Refused::MeshText(OffFault::Limit { .. }) | Refused::Limit(_) => 6,
+            Refused::MeshText(OffFault::Memory)
+            | Refused::Surface(SurfaceFault::Memory)
+            | Refused::Lengths(LengthFault::Memory)
+            | Refused::Memory => 11,
+            Refused::MeshText(_) => 3,
+            Refused::Surface(_) => 4,
+            Refused::Lengths(_) => 5,
+            Refused::Base { .. } => 7,
+            Refused::Read => 9,
+        }
+    }
+
+    /// The line that says why.
+    pub fn line(&self, alloc: Global) -> Result<String, AllocError>
+        ensures { IfOk result (λ line. string_bytes line ≡ line_of (cause_of self.now)) }
+    {
+        match self {
+            Refused::MeshText(fault) => off_line(alloc, fault),
+            Refused::Surface(fault) => surface_line(alloc, fault),
+            Refused::Lengths(fault) => length_line(alloc, fault),
+            Refused::Base { base, vertices } => base_line(alloc, *base, *vertices),
+            Refused::Limit(kind) => limit_line(alloc, *kind),
+            Refused::Read => String::from_str(alloc, "read fault\n"),
+            Refused::Memory => String::from_str(alloc, "memory\n"),
+        }
+    }
+}

@@ -1,0 +1,115 @@
+//! The top call.
+ghost use Rattle.std.specs.Prelude.{◌≡◌, ◌≢◌, ◌⊎◌, ◌↔◌, ◌≤◌, ◌<◌, ℕ, List, [], None, Some, IfSome};
+ghost use Rattle.surf_base.specs.Outside.{Files, HasRisen};
+ghost use Rattle.surf_run.specs.Refusals.{cause_of};
+ghost use Rattle.surf_run.specs.Leads.{Answer, Leads};
+ghost use Rattle.surf_run.specs.Outcome.{misses};
+ghost use Rattle.surf_run.specs.Run.{NamesFile, PutsLine, IsLineOf, Refuses, WritesAnswer, WritesFront};
+ghost use Rattle.surf_run.specs.Tells.{IsTold};
+ghost use Rattle.surf_run.specs.Words.{texts, request_of};
+
+use crate::dispatch::answer;
+use crate::refusal::Refused;
+use crate::words::parse;
+use std::alloc::Global;
+use surf_base::{Shelf, Sink, put_all};
+
+const USAGE: &str = "usage: the words are in no row of the command table\n";
+
+// Says a line, whatever the sink answers.
+fn say<D: Sink>(diag: &mut D, line: &str)
+    ensures { PutsLine (D.written diag.old) (D.written diag.new) (D.faults diag.old) (D.faults diag.new) line.now }
+{
+    let _ = put_all(diag, line.as_bytes());
+}
+
+// Says why there is no answer, and gives the status: that of a cause, or want of memory for its line.
+fn refuse<D: Sink>(alloc: Global, refused: &Refused, diag: &mut D) -> u8
+    ensures { Refuses (cause_of refused.now) result (D.written diag.old) (D.written diag.new) (D.faults diag.old) (D.faults diag.new) }
+{
+    match refused.line(alloc) {
+        Ok(line) => {
+            say(diag, line.as_str());
+            refused.status()
+        }
+        Err(_) => {
+            say(diag, "memory\n");
+            11
+        }
+    }
+}
+
+fn run_words<S: Shelf, O: Sink, D: Sink>(
+    alloc: Global,
+    words: &[String],
+    shelf: &mut S,
+    out: &mut O,
+    diag: &mut D,
+) -> u8
+    ensures holds { S.holds shelf.new ≡ S.holds shelf.old }
+
+    // The answer is written whole.
+    ensures answered { result ≤ 1 → IfSome (S.holds shelf.old) (WritesAnswer (texts words.now) result (O.written out.old) (O.written out.new)) }
+    ensures quiet { result ≤ 1 → D.written diag.new ≡ D.written diag.old }
+
+    // Or nothing of it, or a front where the output failed.
+    ensures unchanged { 1 < result → result ≢ 10 → O.written out.new ≡ O.written out.old }
+    ensures write { result ≡ 10 → HasRisen (O.faults out.old) (O.faults out.new) × IfSome (S.holds shelf.old) (WritesFront (texts words.now) (O.written out.old) (O.written out.new)) }
+
+    // And then why.
+    ensures line { 1 < result → (line : List ℕ) × IsLineOf (texts words.now) (S.holds shelf.old) result line × PutsLine (D.written diag.old) (D.written diag.new) (D.faults diag.old) (D.faults diag.new) line }
+
+    ensures usage { result ≡ 2 ↔ request_of (texts words.now) ≡ None }
+    ensures reached { result ≡ 9 → NamesFile (request_of (texts words.now)) }
+    ensures read { result ≡ 9 → HasRisen (S.faults shelf.old) (S.faults shelf.new) ⊎ IsTold (S.holds shelf.old) (λ files. Leads (texts words.now) files misses) }
+    ensures statuses { result ≤ 11 }
+{
+    let Some(command) = parse(words) else {
+        say(diag, USAGE);
+        return 2;
+    };
+    match answer(alloc, command, shelf) {
+        Ok(answered) => match put_all(out, &answered.text) {
+            Ok(()) => answered.verdict.status(),
+            Err(_) => {
+                say(diag, "write fault\n");
+                10
+            }
+        },
+        Err(refused) => refuse(alloc, &refused, diag),
+    }
+}
+
+/// Does all that the program does, and answers its status.
+pub fn run<S: Shelf, O: Sink, D: Sink>(
+    alloc: Global,
+    words: &[String],
+    shelf: &mut S,
+    out: &mut O,
+    diag: &mut D,
+) -> u8
+    ensures holds { S.holds shelf.new ≡ S.holds shelf.old }
+
+    // The answer is written whole.
+    ensures answered { result ≤ 1 → IfSome (S.holds shelf.old) (WritesAnswer (texts words.now) result (O.written out.old) (O.written out.new)) }
+    ensures quiet { result ≤ 1 → D.written diag.new ≡ D.written diag.old }
+
+    // Or nothing of it, or a front where the output failed.
+    ensures unchanged { 1 < result → result ≢ 10 → O.written out.new ≡ O.written out.old }
+    ensures write { result ≡ 10 → HasRisen (O.faults out.old) (O.faults out.new) × IfSome (S.holds shelf.old) (WritesFront (texts words.now) (O.written out.old) (O.written out.new)) }
+
+    // And then why.
+    ensures line { 1 < result → (line : List ℕ) × IsLineOf (texts words.now) (S.holds shelf.old) result line × PutsLine (D.written diag.old) (D.written diag.new) (D.faults diag.old) (D.faults diag.new) line }
+
+    ensures usage { result ≡ 2 ↔ request_of (texts words.now) ≡ None }
+    ensures reached { result ≡ 9 → NamesFile (request_of (texts words.now)) }
+    ensures read { result ≡ 9 → HasRisen (S.faults shelf.old) (S.faults shelf.new) ⊎ IsTold (S.holds shelf.old) (λ files. Leads (texts words.now) files misses) }
+    ensures statuses { result ≤ 11 }
+
+    // Where nothing failed, the words and the files decide.
+    ensures complete { (files : Files) → S.holds shelf.old ≡ Some files → (status : ℕ) (text line : List ℕ)
+        → Answer (texts words.now) files status text line → ¬ HasRisen (S.faults shelf.old) (S.faults shelf.new)
+        → ¬ HasRisen (O.faults out.old) (O.faults out.new) → result ≡ status ⊎ result ≡ 11 }
+{
+    run_words(alloc, words, shelf, out, diag)
+}

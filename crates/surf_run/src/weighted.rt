@@ -1,0 +1,145 @@
+//! Commands on a surface with lengths and a base.
+ghost use Rattle.std.specs.Prelude.{◌≡◌, ◌<◌, ◌≤◌, ℕ, length, IfOk};
+ghost use Rattle.surf_complex.specs.Surface.{edge_count};
+ghost use Rattle.surf_run.specs.Given.{IsFewLoopedText, IsWeighted, loop_count};
+ghost use Rattle.surf_run.specs.Tasks.{OnTask, OnText, OnSurface, Performs, is_limited};
+ghost use Rattle.surf_run.specs.Tells.{Concludes, ConcludesOver, Takes, TakesOver};
+
+use crate::answered::Answered;
+use crate::dist_command::dist_of;
+use crate::info_command::loop_count;
+use crate::loops_command::loops_of;
+use crate::reading::{read_file, read_surface};
+use crate::refusal::Refused;
+use crate::weights::{base_of, read_weights};
+use std::alloc::Global;
+use surf_base::{LimitKind, MAX_LOOPS, Shelf, VertexId};
+use surf_lengths::Lengths;
+use surf_mesh::HalfMesh;
+use surf_off::OffText;
+
+/// What is asked of a surface with lengths and a base.
+#[derive(Clone, Copy, Debug, PartialEq, Eq)]
+pub enum Task {
+    Distances,
+    LeastLoops,
+}
+
+impl Task {
+    // Whether the limit on loops is tested.
+    fn is_limited(self) -> bool
+        ensures { result ≡ is_limited self }
+    {
+        match self {
+            Task::Distances => false,
+            Task::LeastLoops => true,
+        }
+    }
+}
+
+/// What a task on the mesh of a file answers.
+pub fn weighted<S: Shelf>(
+    alloc: Global,
+    shelf: &mut S,
+    task: Task,
+    mesh: &str,
+    lengths: &str,
+    base: u32,
+) -> Result<Answered, Refused>
+    ensures holds { S.holds shelf.new ≡ S.holds shelf.old }
+    ensures later { S.faults shelf.old ≤ S.faults shelf.new }
+    ensures tells { ConcludesOver (S.holds shelf.old) (S.faults shelf.old) (S.faults shelf.new) (OnTask task mesh.now lengths.now base) result }
+{
+    let bytes = read_file(alloc, shelf, mesh)?;
+    on_text(alloc, shelf, task, &bytes, lengths, base)
+}
+
+fn on_text<S: Shelf>(
+    alloc: Global,
+    shelf: &mut S,
+    task: Task,
+    bytes: &[u8],
+    lengths: &str,
+    base: u32,
+) -> Result<Answered, Refused>
+    requires { length bytes.now ≤ 268435456 }
+    ensures holds { S.holds shelf.new ≡ S.holds shelf.old }
+    ensures later { S.faults shelf.old ≤ S.faults shelf.new }
+    ensures tells { ConcludesOver (S.holds shelf.old) (S.faults shelf.old) (S.faults shelf.new) (OnText task bytes.now lengths.now base) result }
+{
+    let (text, mesh) = read_looped(alloc, task.is_limited(), bytes)?;
+    on_surface(alloc, shelf, task, &text, &mesh, lengths, base)
+}
+
+fn on_surface<S: Shelf>(
+    alloc: Global,
+    shelf: &mut S,
+    task: Task,
+    text: &OffText<'_>,
+    mesh: &HalfMesh,
+    lengths: &str,
+    base: u32,
+) -> Result<Answered, Refused>
+    ensures holds { S.holds shelf.new ≡ S.holds shelf.old }
+    ensures later { S.faults shelf.old ≤ S.faults shelf.new }
+    ensures tells { ConcludesOver (S.holds shelf.old) (S.faults shelf.old) (S.faults shelf.new) (OnSurface task (text.now, mesh.now) lengths.now base) result }
+{
+    let (lengths, base) = read_weighted(alloc, shelf, mesh, lengths, base)?;
+    perform(alloc, task, text, mesh, &lengths, base)
+}
+
+// The answer of a task.
+fn perform(
+    alloc: Global,
+    task: Task,
+    text: &OffText<'_>,
+    mesh: &HalfMesh,
+    lengths: &Lengths,
+    base: VertexId,
+) -> Result<Answered, Refused>
+    requires lengths { length lengths.now ≡ edge_count mesh.now }
+    requires base { base < mesh.now.vertices }
+    ensures { Concludes (Performs task (text.now, mesh.now) (lengths.now, base)) result }
+{
+    let _text = text;
+    match task {
+        Task::Distances => dist_of(alloc, mesh, lengths, base),
+        Task::LeastLoops => loops_of(alloc, mesh, lengths, base),
+    }
+}
+
+// The parts and the surface of the text of a mesh, with few loops where these are limited.
+fn read_looped(
+    alloc: Global,
+    limited: bool,
+    bytes: &[u8],
+) -> Result<(OffText<'_>, HalfMesh), Refused>
+    requires { length bytes.now ≤ 268435456 }
+    ensures { Takes (λ read. read) (IsFewLoopedText limited bytes.now) result }
+{
+    let (text, mesh) = read_surface(alloc, bytes)?;
+    if limited && loop_count(&mesh) > MAX_LOOPS as u64 {
+        return Err(Refused::Limit(LimitKind::Loops));
+    }
+    Ok((text, mesh))
+}
+
+// Lengths and a base for a surface.
+fn read_weighted<S: Shelf>(
+    alloc: Global,
+    shelf: &mut S,
+    mesh: &HalfMesh,
+    lengths: &str,
+    base: u32,
+) -> Result<(Lengths, VertexId), Refused>
+    ensures holds { S.holds shelf.new ≡ S.holds shelf.old }
+    ensures later { S.faults shelf.old ≤ S.faults shelf.new }
+    ensures tells { TakesOver (S.holds shelf.old) (S.faults shelf.old) (S.faults shelf.new) (λ given. given) (IsWeighted lengths.now base mesh.now) result }
+    ensures lengths { IfOk result (λ given. length given.0 ≡ edge_count mesh.now) }
+    ensures base { IfOk result (λ given. given.1 < mesh.now.vertices) }
+{
+    let lengths = read_weights(alloc, shelf, mesh, lengths)?;
+    let _lengths = lengths.count();
+    let base = base_of(mesh, base)?;
+    Ok((lengths, base))
+}

@@ -1,0 +1,81 @@
+//! Lengths and a base for a surface.
+ghost use Rattle.std.specs.Prelude.{◌≡◌, ◌<◌, ◌≤◌, ◌++◌, codes, decimal, length, string_bytes, IfOk};
+ghost use Rattle.surf_complex.specs.Surface.{edge_count};
+ghost use Rattle.surf_run.specs.Cause.{line_of};
+ghost use Rattle.surf_run.specs.Tells.{Takes, TakesOver};
+ghost use Rattle.surf_run.specs.Weights.{HasLengths, HasBase, WeighsText, base_line, length_cause};
+
+use crate::lines::numbered;
+use crate::reading::read_file;
+use crate::refusal::Refused;
+use std::alloc::{AllocError, Global};
+use surf_base::{Shelf, VertexId};
+use surf_lengths::{LengthFault, Lengths, read_lengths, unit_lengths};
+use surf_mesh::HalfMesh;
+
+/// The lengths that a word gives: `unit`, or the name of a length file.
+pub fn read_weights<S: Shelf>(
+    alloc: Global,
+    shelf: &mut S,
+    mesh: &HalfMesh,
+    word: &str,
+) -> Result<Lengths, Refused>
+    ensures holds { S.holds shelf.new ≡ S.holds shelf.old }
+    ensures later { S.faults shelf.old ≤ S.faults shelf.new }
+    ensures tells { TakesOver (S.holds shelf.old) (S.faults shelf.old) (S.faults shelf.new) (λ lengths. lengths) (HasLengths word.now mesh.now) result }
+    ensures count { IfOk result (λ lengths. length lengths ≡ edge_count mesh.now) }
+{
+    if word == "unit" {
+        let lengths = unit_lengths(alloc, mesh)?;
+        return Ok(lengths);
+    }
+    let bytes = read_file(alloc, shelf, word)?;
+    weights_of(alloc, mesh, &bytes)
+}
+
+fn weights_of(alloc: Global, mesh: &HalfMesh, bytes: &[u8]) -> Result<Lengths, Refused>
+    requires { length bytes.now ≤ 268435456 }
+    ensures tells { Takes (λ lengths. lengths) (WeighsText bytes.now mesh.now) result }
+    ensures count { IfOk result (λ lengths. length lengths ≡ edge_count mesh.now) }
+{
+    let lengths = read_lengths(alloc, bytes, mesh)?;
+    Ok(lengths)
+}
+
+/// The vertex of a number, which is the base.
+pub fn base_of(mesh: &HalfMesh, base: u32) -> Result<VertexId, Refused>
+    ensures tells { Takes (λ vertex. vertex) (HasBase base mesh.now) result }
+    ensures vertex { IfOk result (λ vertex. vertex < mesh.now.vertices) }
+{
+    let vertices = mesh.vertices();
+    if base < vertices {
+        Ok(VertexId::new(base))
+    } else {
+        Err(Refused::Base { base, vertices })
+    }
+}
+
+/// The line of a fault in a length file.
+pub fn length_line(alloc: Global, fault: &LengthFault) -> Result<String, AllocError>
+    ensures { IfOk result (λ line. string_bytes line ≡ line_of (length_cause fault.now)) }
+{
+    match fault {
+        LengthFault::Form { line } => numbered(alloc, "lengths: form", &[*line]),
+        LengthFault::Range { line } => numbered(alloc, "lengths: range", &[*line]),
+        LengthFault::NotEdge { line } => numbered(alloc, "lengths: not-edge", &[*line]),
+        LengthFault::Twice { line, earlier } => {
+            numbered(alloc, "lengths: twice", &[*line, *earlier])
+        }
+        LengthFault::Missing { u, v } => {
+            numbered(alloc, "lengths: missing", &[u.number(), v.number()])
+        }
+        LengthFault::Memory => String::from_str(alloc, "memory\n"),
+    }
+}
+
+/// The line of a base that is no vertex.
+pub fn base_line(alloc: Global, base: u32, vertices: u32) -> Result<String, AllocError>
+    ensures { IfOk result (λ line. string_bytes line ≡ base_line base vertices) }
+{
+    format!(in alloc; "base: {base} of {vertices}\n")
+}

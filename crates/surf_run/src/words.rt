@@ -1,0 +1,95 @@
+//! The words of the command line.
+ghost use Rattle.std.specs.Prelude.{◌≡◌, None, Some, MatchOption};
+ghost use Rattle.surf_run.specs.Words.{texts, request_of, lone_request, mesh_request, number_of, task_of, weighted_request};
+ghost use Rattle.surf_run.specs.Seen.{request};
+
+use crate::weighted::Task;
+use surf_text::read_whole;
+
+/// A row of the command table, with the names of its files.
+#[derive(Clone, Copy, Debug)]
+pub enum Command<'w> {
+    Help,
+    Version,
+    Info {
+        mesh: &'w str,
+    },
+    Disc {
+        mesh: &'w str,
+    },
+    Weighted {
+        task: Task,
+        mesh: &'w str,
+        lengths: &'w str,
+        base: u32,
+    },
+}
+
+// A number word: digits of a value at most 4,294,967,295.
+fn number_of(word: &str) -> Option<u32>
+    ensures { result ≡ number_of word.now }
+{
+    match read_whole(word.as_bytes()) {
+        Some(n) if n <= u32::MAX as u64 => Some(n as u32),
+        _ => None,
+    }
+}
+
+// The task of a command with four words.
+fn task_of(word: &str) -> Option<Task>
+    ensures { result ≡ task_of word.now }
+{
+    match word {
+        "dist" => Some(Task::Distances),
+        "loops" => Some(Task::LeastLoops),
+        _ => None,
+    }
+}
+
+fn weighted<'w>(
+    task: Option<Task>,
+    mesh: &'w str,
+    lengths: &'w str,
+    base: Option<u32>,
+) -> Option<Command<'w>>
+    ensures { MatchOption result (weighted_request task mesh.now lengths.now base ≡ None) (λ c. weighted_request task mesh.now lengths.now base ≡ Some (request c)) }
+{
+    Some(Command::Weighted {
+        task: task?,
+        mesh,
+        lengths,
+        base: base?,
+    })
+}
+
+fn lone<'w>(word: &str) -> Option<Command<'w>>
+    ensures { MatchOption result (lone_request word.now ≡ None) (λ c. lone_request word.now ≡ Some (request c)) }
+{
+    match word {
+        "--help" => Some(Command::Help),
+        "--version" => Some(Command::Version),
+        _ => None,
+    }
+}
+
+fn on_mesh<'w>(word: &str, mesh: &'w str) -> Option<Command<'w>>
+    ensures { MatchOption result (mesh_request word.now mesh.now ≡ None) (λ c. mesh_request word.now mesh.now ≡ Some (request c)) }
+{
+    match word {
+        "info" => Some(Command::Info { mesh }),
+        "disc" => Some(Command::Disc { mesh }),
+        _ => None,
+    }
+}
+
+/// The row of the command table that the words are in.
+pub fn parse(words: &[String]) -> Option<Command<'_>>
+    ensures { MatchOption result (request_of (texts words.now) ≡ None) (λ c. request_of (texts words.now) ≡ Some (request c)) }
+{
+    match words {
+        [] | [_, _, _] | [_, _, _, _, _, ..] => None,
+        [word] => lone(word),
+        [word, mesh] => on_mesh(word, mesh),
+        [word, mesh, lengths, base] => weighted(task_of(word), mesh, lengths, number_of(base)),
+    }
+}
