@@ -17,7 +17,11 @@ fn each_read_fails_once(rt: HostRuntime) -> Result<(), Fail> {
         let status = run(alloc, &words, &mut shelf, &mut out, &mut diag);
         assert_eq!(rt; status, 9, "at call {call}");
         assert_eq!(rt; out.written().len(), 0, "at call {call}");
-        assert_eq!(rt; diag.written(), b"read fault\n".as_slice(), "at call {call}");
+        assert_eq!(rt;
+            diag.written(),
+            b"read fault\n".as_slice(),
+            "at call {call}"
+        );
         let again = run(alloc, &words, &mut shelf, &mut out, &mut diag);
         assert_eq!(rt; again, 0, "after call {call}");
     }
@@ -35,8 +39,15 @@ fn each_write_fails_once(rt: HostRuntime) -> Result<(), Fail> {
         let status = run(alloc, &words, &mut shelf, &mut out, &mut diag);
         assert_eq!(rt; status, 10, "at call {call}");
         assert_eq!(rt; out.written().len(), 7 * call, "at call {call}");
-        assert!(rt; INFO.as_bytes().starts_with(out.written()), "at call {call}");
-        assert_eq!(rt; diag.written(), b"write fault\n".as_slice(), "at call {call}");
+        assert!(rt;
+            INFO.as_bytes().starts_with(out.written()),
+            "at call {call}"
+        );
+        assert_eq!(rt;
+            diag.written(),
+            b"write fault\n".as_slice(),
+            "at call {call}"
+        );
     }
     Ok(())
 }

@@ -1,7 +1,10 @@
 //! Words and files, and the status and texts that are due.
 ghost use Rattle.std.specs.Prelude.{◌<◌};
 
-use crate::meshes::{TET, COLOURED_TET, PILLOW, TORUS33, SCATTERED_LENGTHS, SEVEN, SEVEN_TURNED, GREAT_LENGTHS, ONE_GREAT_LENGTH, PLANE6};
+use crate::meshes::{
+    COLOURED_TET, GREAT_LENGTHS, ONE_GREAT_LENGTH, PILLOW, PLANE6, SCATTERED_LENGTHS, SEVEN,
+    SEVEN_TURNED, TET, TORUS33,
+};
 use std::alloc::Global;
 use std::process::Abort;
 use std::test::Fail;
@@ -70,7 +73,11 @@ fn answers(rt: &(impl Abort + AllocGlobal), case: &Case) -> Result<(), Fail> {
     let status = run(alloc, &words, &mut shelf, &mut out, &mut diag);
     let name = case.words.last().copied().unwrap_or("no word");
     assert_eq!(rt; out.written(), case.out.as_bytes(), "the output of {name}");
-    assert_eq!(rt; diag.written(), case.diag.as_bytes(), "the diagnostics of {name}");
+    assert_eq!(rt;
+        diag.written(),
+        case.diag.as_bytes(),
+        "the diagnostics of {name}"
+    );
     assert_eq!(rt; status, case.status, "the status of {name}");
     Ok(())
 }
@@ -132,35 +139,50 @@ fn the_counts_of_meshes_and_their_refusals(rt: HostRuntime) -> Result<(), Fail> 
         },
         Case {
             words: &["info", "M"],
-            files: &[("M", "OFF\n4 3 6\n0 0 0\n1 0 0\n2 0 0\n3 0 0\n3 0 1 2\n3 0 3 1\n3 0 2 3\n")],
+            files: &[(
+                "M",
+                "OFF\n4 3 6\n0 0 0\n1 0 0\n2 0 0\n3 0 0\n3 0 1 2\n3 0 3 1\n3 0 2 3\n",
+            )],
             status: 4,
             out: "",
             diag: "surface: border 1 2 0\n",
         },
         Case {
             words: &["info", "M"],
-            files: &[("M", "OFF\n7 8 12\n0 0 0\n1 0 0\n2 0 0\n3 0 0\n4 0 0\n5 0 0\n6 0 0\n3 0 1 2\n3 0 3 1\n3 0 2 3\n3 1 3 2\n3 0 4 5\n3 0 6 4\n3 0 5 6\n3 4 6 5\n")],
+            files: &[(
+                "M",
+                "OFF\n7 8 12\n0 0 0\n1 0 0\n2 0 0\n3 0 0\n4 0 0\n5 0 0\n6 0 0\n3 0 1 2\n3 0 3 1\n3 0 2 3\n3 1 3 2\n3 0 4 5\n3 0 6 4\n3 0 5 6\n3 4 6 5\n",
+            )],
             status: 4,
             out: "",
             diag: "surface: pinched 0 0 4\n",
         },
         Case {
             words: &["info", "M"],
-            files: &[("M", "OFF\n8 8 12\n0 0 0\n1 0 0\n2 0 0\n3 0 0\n4 0 0\n5 0 0\n6 0 0\n7 0 0\n3 0 1 2\n3 0 3 1\n3 0 2 3\n3 1 3 2\n3 4 5 6\n3 4 7 5\n3 4 6 7\n3 5 7 6\n")],
+            files: &[(
+                "M",
+                "OFF\n8 8 12\n0 0 0\n1 0 0\n2 0 0\n3 0 0\n4 0 0\n5 0 0\n6 0 0\n7 0 0\n3 0 1 2\n3 0 3 1\n3 0 2 3\n3 1 3 2\n3 4 5 6\n3 4 7 5\n3 4 6 7\n3 5 7 6\n",
+            )],
             status: 4,
             out: "",
             diag: "surface: apart 4\n",
         },
         Case {
             words: &["info", "M"],
-            files: &[("M", "OFF\n6 8 11\n0 0 0\n1 0 0\n2 0 0\n3 0 0\n4 0 0\n5 0 0\n3 0 1 2\n3 0 3 1\n3 0 2 3\n3 1 3 2\n3 0 1 4\n3 0 5 1\n3 0 4 5\n3 1 5 4\n")],
+            files: &[(
+                "M",
+                "OFF\n6 8 11\n0 0 0\n1 0 0\n2 0 0\n3 0 0\n4 0 0\n5 0 0\n3 0 1 2\n3 0 3 1\n3 0 2 3\n3 1 3 2\n3 0 1 4\n3 0 5 1\n3 0 4 5\n3 1 5 4\n",
+            )],
             status: 4,
             out: "",
             diag: "surface: crowded 0 1 0 1 4\n",
         },
         Case {
             words: &["info", "M"],
-            files: &[("M", "OFF\n5 4 6\n0 0 0\n1 0 0\n2 0 0\n3 0 0\n4 0 0\n3 0 1 2\n3 0 3 1\n3 0 2 3\n3 1 3 2\n")],
+            files: &[(
+                "M",
+                "OFF\n5 4 6\n0 0 0\n1 0 0\n2 0 0\n3 0 0\n4 0 0\n3 0 1 2\n3 0 3 1\n3 0 2 3\n3 1 3 2\n",
+            )],
             status: 4,
             out: "",
             diag: "surface: isolated 4\n",
@@ -195,42 +217,60 @@ fn the_counts_of_meshes_and_their_refusals(rt: HostRuntime) -> Result<(), Fail> 
         },
         Case {
             words: &["info", "M"],
-            files: &[("M", "OFF\n4 4 6\n0 0 0\n1 0 0\n0 1 0\n0 0 1\n3 0 1 2\n3 0 3 1\n")],
+            files: &[(
+                "M",
+                "OFF\n4 4 6\n0 0 0\n1 0 0\n0 1 0\n0 0 1\n3 0 1 2\n3 0 3 1\n",
+            )],
             status: 3,
             out: "",
             diag: "mesh text: early 2\n",
         },
         Case {
             words: &["info", "M"],
-            files: &[("M", "OFF\n4 4 6\n0 0 0\n1 0 0\n0 1 0\n0 0 1\n3 0 1 2\n3 0 3 1\n3 0 2 3\n3 1 3 2\n3 0 1 2\n")],
+            files: &[(
+                "M",
+                "OFF\n4 4 6\n0 0 0\n1 0 0\n0 1 0\n0 0 1\n3 0 1 2\n3 0 3 1\n3 0 2 3\n3 1 3 2\n3 0 1 2\n",
+            )],
             status: 3,
             out: "",
             diag: "mesh text: trailing 11\n",
         },
         Case {
             words: &["info", "M"],
-            files: &[("M", "OFF\n4 4 6\n0 0 0\n1 0 0\n0 1 0\n0 0 1\n3 0 1 4\n3 0 3 1\n3 0 2 3\n3 1 3 2\n")],
+            files: &[(
+                "M",
+                "OFF\n4 4 6\n0 0 0\n1 0 0\n0 1 0\n0 0 1\n3 0 1 4\n3 0 3 1\n3 0 2 3\n3 1 3 2\n",
+            )],
             status: 3,
             out: "",
             diag: "mesh text: face-index 7 2\n",
         },
         Case {
             words: &["info", "M"],
-            files: &[("M", "OFF\n4 4 6\n0 0 0\n1 0 0\n0 1 0\n0 0 1\n3 0 1 0\n3 0 3 1\n3 0 2 3\n3 1 3 2\n")],
+            files: &[(
+                "M",
+                "OFF\n4 4 6\n0 0 0\n1 0 0\n0 1 0\n0 0 1\n3 0 1 0\n3 0 3 1\n3 0 2 3\n3 1 3 2\n",
+            )],
             status: 3,
             out: "",
             diag: "mesh text: face-repeat 7 0\n",
         },
         Case {
             words: &["info", "M"],
-            files: &[("M", "OFF\n4 4 6\n0 0 0\n1 0 0\n0 1 0\n0 0 1\n2 0 1\n3 0 3 1\n3 0 2 3\n3 1 3 2\n")],
+            files: &[(
+                "M",
+                "OFF\n4 4 6\n0 0 0\n1 0 0\n0 1 0\n0 0 1\n2 0 1\n3 0 3 1\n3 0 2 3\n3 1 3 2\n",
+            )],
             status: 3,
             out: "",
             diag: "mesh text: face-size 7\n",
         },
         Case {
             words: &["info", "M"],
-            files: &[("M", "OFF\n4 4 6\n0 0\n1 0 0\n0 1 0\n0 0 1\n3 0 1 2\n3 0 3 1\n3 0 2 3\n3 1 3 2\n")],
+            files: &[(
+                "M",
+                "OFF\n4 4 6\n0 0\n1 0 0\n0 1 0\n0 0 1\n3 0 1 2\n3 0 3 1\n3 0 2 3\n3 1 3 2\n",
+            )],
             status: 3,
             out: "",
             diag: "mesh text: vertex-line 3\n",
@@ -279,7 +319,10 @@ fn the_counts_of_meshes_and_their_refusals(rt: HostRuntime) -> Result<(), Fail> 
         },
         Case {
             words: &["info", "M"],
-            files: &[("M", "OFF\n4 4 6\n0 0 0\n1 0 0\n0 1 0\n0 0 1\n18446744073709551616 0 1 2\n3 0 3 1\n3 0 2 3\n3 1 3 2\n")],
+            files: &[(
+                "M",
+                "OFF\n4 4 6\n0 0 0\n1 0 0\n0 1 0\n0 0 1\n18446744073709551616 0 1 2\n3 0 3 1\n3 0 2 3\n3 1 3 2\n",
+            )],
             status: 3,
             out: "",
             diag: "mesh text: face-size 7\n",
@@ -366,7 +409,10 @@ fn distances_and_lengths(rt: HostRuntime) -> Result<(), Fail> {
         },
         Case {
             words: &["dist", "M", "L", "9"],
-            files: &[("M", "OFF\n4 3 6\n0 0 0\n1 0 0\n2 0 0\n3 0 0\n3 0 1 2\n3 0 3 1\n3 0 2 3\n")],
+            files: &[(
+                "M",
+                "OFF\n4 3 6\n0 0 0\n1 0 0\n2 0 0\n3 0 0\n3 0 1 2\n3 0 3 1\n3 0 2 3\n",
+            )],
             status: 4,
             out: "",
             diag: "surface: border 1 2 0\n",
@@ -519,7 +565,10 @@ fn discs_and_their_refusals(rt: HostRuntime) -> Result<(), Fail> {
     let cases = [
         Case {
             words: &["disc", "M"],
-            files: &[("M", "OFF\n4 3 6\n0 0 0\n1 0 0\n2 0 0\n3 0 0\n3 0 1 2\n3 0 3 1\n3 0 2 3\n")],
+            files: &[(
+                "M",
+                "OFF\n4 3 6\n0 0 0\n1 0 0\n2 0 0\n3 0 0\n3 0 1 2\n3 0 3 1\n3 0 2 3\n",
+            )],
             status: 0,
             out: "disc\nborder 3\n",
             diag: "",
@@ -540,14 +589,20 @@ fn discs_and_their_refusals(rt: HostRuntime) -> Result<(), Fail> {
         },
         Case {
             words: &["disc", "M"],
-            files: &[("M", "OFF\n6 3 9\n0 0 0\n1 0 0\n2 0 0\n3 0 0\n4 0 0\n5 0 0\n4 0 1 4 3\n4 1 2 5 4\n4 2 0 3 5\n")],
+            files: &[(
+                "M",
+                "OFF\n6 3 9\n0 0 0\n1 0 0\n2 0 0\n3 0 0\n4 0 0\n5 0 0\n4 0 1 4 3\n4 1 2 5 4\n4 2 0 3 5\n",
+            )],
             status: 1,
             out: "no border 0 1 3 4\n",
             diag: "",
         },
         Case {
             words: &["disc", "M"],
-            files: &[("M", "OFF\n9 17 27\n0 0 0\n1 0 0\n2 0 0\n3 0 0\n4 0 0\n5 0 0\n6 0 0\n7 0 0\n8 0 0\n3 0 3 4\n3 0 4 1\n3 1 4 5\n3 1 5 2\n3 2 5 3\n3 2 3 0\n3 3 6 7\n3 3 7 4\n3 4 7 8\n3 4 8 5\n3 5 8 6\n3 5 6 3\n3 6 0 1\n3 6 1 7\n3 7 1 2\n3 7 2 8\n3 8 2 0\n")],
+            files: &[(
+                "M",
+                "OFF\n9 17 27\n0 0 0\n1 0 0\n2 0 0\n3 0 0\n4 0 0\n5 0 0\n6 0 0\n7 0 0\n8 0 0\n3 0 3 4\n3 0 4 1\n3 1 4 5\n3 1 5 2\n3 2 5 3\n3 2 3 0\n3 3 6 7\n3 3 7 4\n3 4 7 8\n3 4 8 5\n3 5 8 6\n3 5 6 3\n3 6 0 1\n3 6 1 7\n3 7 1 2\n3 7 2 8\n3 8 2 0\n",
+            )],
             status: 1,
             out: "no count 9 27 17\n",
             diag: "",

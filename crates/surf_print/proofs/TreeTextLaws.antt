@@ -47,11 +47,11 @@ texts_same mesh base a b same a_root b_root =
     parents_agree : (v : ℕ) → v < mesh.vertices → parent_in a v ≡ parent_in b v
     parents_agree v l = elim (cases_eq v base) [
       | inl is ↦
-        let one : eqb v a.root ≡ true = eq-eqb v a.root (is ∙ sym a_root) in
-        let two : eqb v b.root ≡ true = eq-eqb v b.root (is ∙ sym b_root) in
-        rw (one, two) refl
+          let one : eqb v a.root ≡ true = eq-eqb v a.root (is ∙ sym a_root) in
+          let two : eqb v b.root ≡ true = eq-eqb v b.root (is ∙ sym b_root) in
+          rw (one, two) refl
       | inr ne ↦
-        let one : eqb v a.root ≡ false = ne_eqb v a.root (λ is. ne (is ∙ a_root)) in
-        let two : eqb v b.root ≡ false = ne_eqb v b.root (λ is. ne (is ∙ b_root)) in
-        rw (one, two, same.parents v l ne) refl
+          let one : eqb v a.root ≡ false = ne_eqb v a.root (λ is. ne (is ∙ a_root)) in
+          let two : eqb v b.root ≡ false = ne_eqb v b.root (λ is. ne (is ∙ b_root)) in
+          rw (one, two, same.parents v l ne) refl
     ]

@@ -1,5 +1,5 @@
 -- Steps that functions take, one after another.
-use Rattle.std.proofs.Common.{ℕ, ◌≤◌, ◌<◌, Option, Some, None, Result, Ok, Err, inl, inr, arith}
+use Rattle.std.proofs.Common.{ℕ, ◌≤◌, Option, Some, None, Result, Ok, Err, inl, inr, arith}
 use Rattle.std.specs.Prelude.{IfSome}
 use Rattle.surf_base.specs.Outside.{Files}
 use Rattle.surf_run.specs.Cause.{Cause, due, unread, starved}

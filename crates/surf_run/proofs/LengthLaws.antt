@@ -1,5 +1,5 @@
 -- The lengths of a file are as many as the edges.
-use Rattle.std.proofs.Common.{◌≡◌, ℕ, Bool, true, false, cond, List, [], ◌∷◌, length, Option, Some, None, Result, Ok, Err, refl, sym, ap, ◌∙◌, eqb, get_or, subst, set}
+use Rattle.std.proofs.Common.{◌≡◌, ℕ, Bool, true, false, cond, List, [], ◌∷◌, length, Option, Some, None, Result, Ok, Err, ◌∙◌, eqb, get_or, set}
 use Rattle.std.specs.List.{fold}
 use Rattle.std.proofs.lemmas.List.{length-set, length-replicate}
 use Rattle.std.specs.Prelude.{unwrap_or}
@@ -9,7 +9,7 @@ use Rattle.surf_complex.specs.Surface.{edge_count}
 use Rattle.surf_lengths.specs.Files.{Named, none_named, name_edge, name_line, all_named, missing_edge, when_read, behind_head, Head, head_of, lengths_in}
 use Rattle.surf_lengths.specs.Lines.{entry_of}
 use Rattle.surf_lengths.specs.declared.fault.LengthFault.{LengthFault}
-use Rattle.surf_lengths.specs.declared.fault.LengthFault.TheVariants.{Twice, Missing}
+use Rattle.surf_lengths.specs.declared.fault.LengthFault.TheVariants.{Twice}
 
 -- a result has a length for each edge
 abbrev pub IsSized : Mesh → Result (List ℕ) LengthFault → Type 0

@@ -1,5 +1,5 @@
 -- What a run leaves, by what its command answered.
-use Rattle.std.proofs.Common.{◌≡◌, ◌≢◌, ◌⊎◌, ◌<◌, ◌≤◌, inl, inr, ℕ, List, [], Option, Some, None, Result, Ok, Err, refl, sym, ◌∙◌, subst, arith}
+use Rattle.std.proofs.Common.{◌≡◌, ◌⊎◌, ◌<◌, ◌≤◌, inl, inr, ℕ, List, [], Option, Some, None, refl, sym, subst, arith}
 use Rattle.std.specs.Prelude.{IfSome, codes}
 use Rattle.surf_base.specs.Outside.{Files, HasRisen, GrowsBy}
 use Rattle.surf_base.specs.Transfer.{GrowsByShorter}
@@ -12,8 +12,8 @@ use Rattle.surf_lengths.specs.declared.fault.LengthFault.TheVariants as lengths
 use Rattle.surf_run.specs.MeshTexts.{off_cause}
 use Rattle.surf_run.specs.Surfaces.{surface_cause}
 use Rattle.surf_run.specs.Weights.{length_cause}
-use Rattle.surf_run.specs.Outcome.{Outcome, answers, refuses, misses, Shows, status_of}
-use Rattle.surf_run.specs.Cause.{Cause, due, unread, starved, misused, line_of, status_of_cause}
+use Rattle.surf_run.specs.Outcome.{Outcome, answers, refuses, misses}
+use Rattle.surf_run.specs.Cause.{Cause, due, unread, starved, misused, line_of}
 use Rattle.surf_run.specs.Refusals.{cause_of}
 use Rattle.surf_run.specs.Leads.{Leads, Answer, OnRequest}
 use Rattle.surf_run.specs.Tells.{IsTold, WhyOver, verdict_status}

@@ -1,9 +1,9 @@
 -- Texts on a page as answers.
-use Rattle.std.proofs.Common.{◌≡◌, ℕ, ◌+◌, ◌<◌, ◌≤◌, true, false, List, [], ◌++◌, length, refl, sym, ap, subst, arith}
+use Rattle.std.proofs.Common.{◌≡◌, ℕ, ◌<◌, ◌≤◌, true, false, List, [], length, refl, ap, subst, arith}
 use Rattle.std.specs.Prelude.{nat_lt}
 use Rattle.std.proofs.lemmas.Bool.{lt-ltb, le-ltb}
 use Rattle.surf_base.specs.declared.limits.LimitKind.TheVariants.{Answer}
-use Rattle.surf_text.specs.Pages.{PageState, grown}
+use Rattle.surf_text.specs.Pages.{PageState}
 use Rattle.surf_text.specs.declared.page.PageFault.{PageFault}
 use Rattle.surf_text.specs.declared.page.PageFault.TheVariants.{Full, Memory}
 use Rattle.surf_print.specs.Fills.{Overfills}

@@ -1,5 +1,5 @@
 -- The counts of a surface, its characteristic, and its genus or its crosscaps.
-use Rattle.std.specs.Prelude.{◌≡◌, ℕ, ◌+◌, ◌*◌, ◌⊎◌, ℤ, List, ◌++◌, codes, decimal}
+use Rattle.std.specs.Prelude.{◌≡◌, ℕ, ◌*◌, ◌⊎◌, ℤ, List, ◌++◌, codes, decimal}
 use Rattle.std.specs.Fmt.{signed_decimal}
 use Rattle.surf_complex.specs.Mesh.{Mesh, characteristic}
 use Rattle.surf_complex.specs.Surface.{face_count, edge_count, IsTwoSided}

@@ -1,5 +1,5 @@
 -- Tests that come one after another: each goes on with a value, or ends in an outcome.
-use Rattle.std.specs.Prelude.{◌≡◌, ◌⊎◌, Result, Ok, Err}
+use Rattle.std.specs.Prelude.{◌⊎◌, Result, Ok, Err}
 use Rattle.surf_run.specs.Outcome.{Outcome}
 
 -- The first step ends so, or it goes on and the second ends so.

@@ -1,5 +1,5 @@
 -- Lengths and a base for a surface, and the lines of their faults.
-use Rattle.std.specs.Prelude.{◌≡◌, ◌<◌, ℕ, nat_lt, List, [], ◌∷◌, ◌++◌, length, replicate, Result, Ok, Err, if◌then◌else◌, codes, decimal}
+use Rattle.std.specs.Prelude.{◌≡◌, ℕ, nat_lt, List, [], ◌∷◌, ◌++◌, replicate, Result, Ok, Err, if◌then◌else◌, codes, decimal}
 use Rattle.std.specs.Str.{bytes_eq}
 use Rattle.surf_base.specs.Outside.{Files, bytes_of}
 use Rattle.surf_complex.specs.Mesh.{Mesh}

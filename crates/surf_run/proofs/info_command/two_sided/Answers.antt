@@ -1,4 +1,4 @@
-use Rattle.std.proofs.Common.{◌*◌, ap, subst, sym, arith, ℕ}
+use Rattle.std.proofs.Common.{◌*◌, subst, sym, arith, ℕ}
 use Rattle.std.proofs.lemmas.Grind.{common_steps}
 use Rattle.surf_check.specs.Growth.{flag_of}
 use Rattle.surf_complex.specs.Homology.{IsFullCount}

@@ -1,4 +1,4 @@
-use Rattle.std.proofs.Common.{ℕ, List, [], Option, subst, ⊎_elim}
+use Rattle.std.proofs.Common.{[], Option, subst, ⊎_elim}
 use Rattle.std.specs.Prelude.{IfSome}
 use Rattle.surf_base.specs.Outside.{Files}
 use Rattle.surf_run.specs.Leads.{Answer, Leads}

@@ -1,4 +1,4 @@
-use Rattle.std.proofs.Common.{ℕ, List, subst, sym, Some}
+use Rattle.std.proofs.Common.{ℕ, List, subst, sym}
 use Rattle.std.specs.Prelude.{IfSome}
 use Rattle.surf_base.specs.Outside.{GrowsBy}
 use Rattle.surf_base.specs.Transfer.{GrowsByShorter}
