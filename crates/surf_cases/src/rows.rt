@@ -44,7 +44,11 @@ pub fn shelf_of(
         names.push(String::from_str(alloc, name)?)?;
         texts.push(text.as_bytes().to_vec(alloc)?)?;
     }
-    Ok(MemShelf::make(names, texts, piece, fails.to_vec(alloc)?))
+    let fails = fails.to_vec(alloc)?;
+    if names.len() != texts.len() {
+        return Err("a text for each name")?;
+    }
+    Ok(MemShelf::make(names, texts, piece, fails))
 }
 
 /// A sink with room for `room` bytes that takes at most `piece` of them a write.
