@@ -16,3 +16,6 @@ mod trimming;
 pub use along_tree::{cut_full, cut_trim};
 pub use cutting::{open_full, open_trimmed};
 pub use opened::Opened;
+
+#[cfg(test)]
+mod tests;

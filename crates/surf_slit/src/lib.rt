@@ -16,3 +16,6 @@ mod slit;
 mod splitting;
 
 pub use slit::Slit;
+
+#[cfg(test)]
+mod tests;
