@@ -1,6 +1,7 @@
 //! The task of the command `cut`.
 ghost use Rattle.std.specs.Prelude.{◌≡◌, ◌<◌, All, length, IfOk};
 ghost use Rattle.surf_complex.specs.Surface.{edge_count, face_count};
+ghost use Rattle.surf_cutter.specs.Opened.{IsHeld, IsChosenFor};
 ghost use Rattle.surf_run.specs.Cuts.{GivesCut, IsCutAt, cut_text, is_trimmed};
 ghost use Rattle.surf_run.specs.Tells.{Concludes};
 ghost use Rattle.surf_text.specs.Pages.{Puts};
@@ -9,6 +10,7 @@ use crate::answered::{Answered, Verdict};
 use crate::refusal::Refused;
 use std::alloc::Global;
 use surf_base::{MAX_ANSWER, NoMemory, VertexId};
+use surf_cotree::CotreeDesk;
 use surf_cutter::{Opened, cut_full, cut_trim};
 use surf_lengths::Lengths;
 use surf_loops::LoopDesk;
@@ -65,9 +67,23 @@ fn opened_at(
     let _surface = mesh.faces();
     let mut desk = LoopDesk::make(alloc, mesh)?;
     desk.greedy(mesh, lengths, base);
+    opened_outside(alloc, mesh, desk.cotree(), kind)
+}
+
+// The surface opened along the edges that a tree of its faces doesn't hold, all of them or trimmed.
+fn opened_outside(
+    alloc: Global,
+    mesh: &HalfMesh,
+    cotree: &CotreeDesk,
+    kind: CutKind,
+) -> Result<Opened, NoMemory>
+    requires size { length cotree.now.held ≡ edge_count mesh.now }
+    requires held { IsHeld mesh.now cotree.now.held }
+    ensures { IfOk result (λ o. IsChosenFor mesh.now cotree.now.held (is_trimmed kind) o) }
+{
     match kind {
-        CutKind::Full => cut_full(alloc, mesh, desk.cotree()),
-        CutKind::Trimmed => cut_trim(alloc, mesh, desk.cotree()),
+        CutKind::Full => cut_full(alloc, mesh, cotree),
+        CutKind::Trimmed => cut_trim(alloc, mesh, cotree),
     }
 }
 
