@@ -178,7 +178,6 @@ one_performance Distances read given surface lengths o p x y =
 one_performance LeastLoops read given surface lengths o p x y =
     says_same (loops_text (loops_at read.1 given.0 given.1 x.trees)) (loops_text (loops_at read.1 given.0 given.1 y.trees)) o p
     (ap loops_text (loops_are_one read.1 given.0 given.1 x.trees y.trees surface lengths x.chosen y.chosen)) x.says y.says
-
 one_performance (Cut kind) read given surface lengths o p x y =
     let same = openings_at_are_one read.1 given.0 given.1 x.is_cut.trees y.is_cut.trees (is_trimmed kind) x.origins y.origins x.faces y.faces surface lengths
     x.is_cut.chosen y.is_cut.chosen x.is_cut.opened y.is_cut.opened in
