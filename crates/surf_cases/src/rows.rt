@@ -14,6 +14,7 @@ use surf_run::run;
 const HELP: &str = "usage: surf info M
        surf dist M L x
        surf loops M L x
+       surf cut M L x full | trim
        surf disc M
        surf --help | --version
 M is an OFF mesh, L a length file or the word unit, x a vertex.
@@ -21,12 +22,12 @@ M is an OFF mesh, L a length file or the word unit, x a vertex.
 
 /// Words, files, and what is due.
 #[derive(Clone, Copy)]
-struct Case<'a> {
-    words: &'a [&'a str],
-    files: &'a [(&'a str, &'a str)],
-    status: u8,
-    out: &'a str,
-    diag: &'a str,
+pub struct Case<'a> {
+    pub words: &'a [&'a str],
+    pub files: &'a [(&'a str, &'a str)],
+    pub status: u8,
+    pub out: &'a str,
+    pub diag: &'a str,
 }
 
 /// A shelf of named files that gives at most `piece` bytes a read.
@@ -68,7 +69,8 @@ pub fn words_of(alloc: Global, words: &[&str]) -> Result<Vec<String>, Fail> {
     Ok(all)
 }
 
-fn answers(rt: &(impl Abort + AllocGlobal), case: &Case) -> Result<(), Fail> {
+/// Runs a case, and compares what came of it with what is due.
+pub fn answers(rt: &(impl Abort + AllocGlobal), case: &Case) -> Result<(), Fail> {
     let alloc = rt.alloc();
     let words = words_of(alloc, case.words)?;
     let mut shelf = shelf_of(alloc, case.files, 4096, &[])?;

@@ -4,3 +4,4 @@ mod LengthLaws
 mod Composing
 mod Saying
 mod HeadLaws
+mod CutLaws

@@ -15,6 +15,7 @@ use Rattle.surf_check.proofs.FaultLaws.{fault_only}
 use Rattle.surf_disc.proofs.FaultLaws.{fault_only as disc_fault_only}
 use Rattle.surf_off.specs.Off.{OffParts, off_of}
 use Rattle.surf_run.specs.Cause.{outcome_of}
+use Rattle.surf_run.specs.Cuts.{is_trimmed, cut_text}
 use Rattle.surf_run.specs.Discs.{JudgesDisc}
 use Rattle.surf_run.specs.Info.{Informs}
 use Rattle.surf_run.specs.Given.{looped, HasFewLoops, IsFewLoopedText, IsWeighted}
@@ -23,13 +24,14 @@ use Rattle.surf_run.specs.Says.{Says}
 use Rattle.surf_run.specs.Limits.{beyond}
 use Rattle.surf_run.specs.Tasks.{Performs, OnSurface, OnText, is_limited}
 use Rattle.surf_run.specs.declared.weighted.Task.{Task}
-use Rattle.surf_run.specs.declared.weighted.Task.TheVariants.{Distances, LeastLoops}
+use Rattle.surf_run.specs.declared.weighted.Task.TheVariants.{Distances, LeastLoops, Cut}
 use Rattle.surf_base.specs.declared.limits.LimitKind.TheVariants as limits
 use Rattle.surf_lengths.specs.Lengths.{IsLength, AreLengths}
 use Rattle.surf_complex.specs.Walk.{ArePositive}
 use Rattle.surf_complex.specs.Choice.{loops_at}
 use Rattle.surf_complex.proofs.ShortestTreeLaws.{shortest_trees_are_one}
 use Rattle.surf_complex.proofs.LoopsOne.{loops_are_one}
+use Rattle.surf_opening.proofs.ChosenTrees.{openings_at_are_one}
 use Rattle.surf_print.specs.DistanceTexts.{distances_text}
 use Rattle.surf_print.specs.LoopTexts.{loops_text}
 use Rattle.surf_print.proofs.TreeTextLaws.{texts_same}
@@ -176,6 +178,12 @@ one_performance Distances read given surface lengths o p x y =
 one_performance LeastLoops read given surface lengths o p x y =
     says_same (loops_text (loops_at read.1 given.0 given.1 x.trees)) (loops_text (loops_at read.1 given.0 given.1 y.trees)) o p
     (ap loops_text (loops_are_one read.1 given.0 given.1 x.trees y.trees surface lengths x.chosen y.chosen)) x.says y.says
+one_performance (Cut kind) read given surface lengths o p x y =
+    let same = openings_at_are_one read.1 given.0 given.1 x.is_cut.trees y.is_cut.trees (is_trimmed kind) x.origins y.origins x.faces y.faces surface lengths
+    x.is_cut.chosen y.is_cut.chosen x.is_cut.opened y.is_cut.opened in
+    says_same (cut_text read.0 x.origins x.faces) (cut_text read.0 y.origins y.faces) o p
+    (ap (λ (origins : List ℕ). cut_text read.0 origins x.faces) same.0 ∙ ap (λ (faces : List (List ℕ)). cut_text read.0 y.origins faces) same.1)
+    x.says y.says
 
 one_text : (task : Task) (bytes word : List ℕ) (base : ℕ) (files : Files) → HasOneStatus (OnText task bytes word base files)
 one_text task bytes word base files =

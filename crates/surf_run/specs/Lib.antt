@@ -14,6 +14,7 @@ pub mod Says
 pub mod Distances
 pub mod Given
 pub mod LeastLoops
+pub mod Cuts
 pub mod HeadTexts
 pub mod Tasks
 pub mod Help

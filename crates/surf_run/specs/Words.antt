@@ -3,7 +3,8 @@ use Rattle.std.specs.Prelude.{ℕ, List, [], ◌∷◌, map, String, Option, Som
 use Rattle.std.specs.Str.{bytes_eq}
 use Rattle.surf_text.specs.Text.{whole}
 use Rattle.surf_run.specs.declared.weighted.Task.{Task}
-use Rattle.surf_run.specs.declared.weighted.Task.TheVariants.{Distances, LeastLoops}
+use Rattle.surf_run.specs.declared.weighted.Task.TheVariants.{Distances, LeastLoops, Cut}
+use Rattle.surf_run.specs.declared.cut_command.CutKind.TheVariants.{Full, Trimmed}
 use Rattle.std.specs.declared.alloc.Global.{Global}
 
 -- the bytes of each word
@@ -39,6 +40,13 @@ task_of word =
     if bytes_eq word (codes "dist") then Some Distances
     else (if bytes_eq word (codes "loops") then Some LeastLoops else None)
 
+-- the task of a command with five words
+abbrev pub cut_task : List ℕ → List ℕ → Option Task
+cut_task word kind =
+    if bytes_eq word (codes "cut")
+    then (if bytes_eq kind (codes "full") then Some (Cut Full) else (if bytes_eq kind (codes "trim") then Some (Cut Trimmed) else None))
+    else None
+
 abbrev pub weighted_request : Option Task → List ℕ → List ℕ → Option ℕ → Option Request
 weighted_request None mesh lengths base = None
 weighted_request (Some task) mesh lengths None = None
@@ -51,4 +59,5 @@ request_of (word ∷ []) = lone_request word
 request_of (word ∷ mesh ∷ []) = mesh_request word mesh
 request_of (word ∷ mesh ∷ third ∷ []) = None
 request_of (word ∷ mesh ∷ lengths ∷ base ∷ []) = weighted_request (task_of word) mesh lengths (number_of base)
-request_of (word ∷ mesh ∷ lengths ∷ base ∷ fifth ∷ more) = None
+request_of (word ∷ mesh ∷ lengths ∷ base ∷ kind ∷ []) = weighted_request (cut_task word kind) mesh lengths (number_of base)
+request_of (word ∷ mesh ∷ lengths ∷ base ∷ kind ∷ sixth ∷ more) = None

@@ -2,6 +2,7 @@
 #![tactic(auto)]
 
 mod answered;
+mod cut_command;
 mod disc_command;
 mod dispatch;
 mod dist_command;
@@ -16,6 +17,7 @@ mod weights;
 mod words;
 
 pub use answered::{Answered, Verdict};
+pub use cut_command::CutKind;
 pub use refusal::Refused;
 pub use top::run;
 pub use weighted::Task;

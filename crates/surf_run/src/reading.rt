@@ -1,5 +1,6 @@
 //! Files that are reached.
 ghost use Rattle.std.specs.Prelude.{◌≡◌, ◌≤◌, length, IfOk};
+ghost use Rattle.surf_complex.specs.Surface.{face_count};
 ghost use Rattle.surf_run.specs.MeshTexts.{IsMeshText};
 ghost use Rattle.surf_run.specs.Reading.{Reads};
 ghost use Rattle.surf_run.specs.Surfaces.{IsSurfaceOf, IsSurfaceText};
@@ -30,7 +31,9 @@ pub fn read_file<S: Shelf>(alloc: Global, shelf: &mut S, name: &str) -> Result<V
 /// The parts and the faces of the text of a mesh.
 pub fn read_mesh(alloc: Global, bytes: &[u8]) -> Result<(OffText<'_>, Soup), Refused>
     requires { length bytes.now ≤ 268435456 }
-    ensures { Takes (λ read. read) (IsMeshText bytes.now) result }
+    ensures tells { Takes (λ read. read) (IsMeshText bytes.now) result }
+    ensures lines { IfOk result (λ read. length read.0.vertex_lines ≡ read.1.vertices) }
+    ensures colours { IfOk result (λ read. length read.0.colours ≡ face_count read.1) }
 {
     let read = read_off(alloc, bytes)?;
     Ok(read)
@@ -47,7 +50,9 @@ fn surface_of(alloc: Global, soup: Soup) -> Result<HalfMesh, Refused>
 /// The parts and the surface of the text of a mesh.
 pub fn read_surface(alloc: Global, bytes: &[u8]) -> Result<(OffText<'_>, HalfMesh), Refused>
     requires { length bytes.now ≤ 268435456 }
-    ensures { Takes (λ read. read) (IsSurfaceText bytes.now) result }
+    ensures tells { Takes (λ read. read) (IsSurfaceText bytes.now) result }
+    ensures lines { IfOk result (λ read. length read.0.vertex_lines ≡ read.1.vertices) }
+    ensures colours { IfOk result (λ read. length read.0.colours ≡ face_count read.1) }
 {
     let (text, soup) = read_mesh(alloc, bytes)?;
     let mesh = surface_of(alloc, soup)?;

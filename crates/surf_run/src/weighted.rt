@@ -1,11 +1,12 @@
 //! Commands on a surface with lengths and a base.
 ghost use Rattle.std.specs.Prelude.{◌≡◌, ◌<◌, ◌≤◌, ℕ, length, IfOk};
-ghost use Rattle.surf_complex.specs.Surface.{edge_count};
+ghost use Rattle.surf_complex.specs.Surface.{edge_count, face_count};
 ghost use Rattle.surf_run.specs.Given.{IsFewLoopedText, IsWeighted, loop_count};
 ghost use Rattle.surf_run.specs.Tasks.{OnTask, OnText, OnSurface, Performs, is_limited};
 ghost use Rattle.surf_run.specs.Tells.{Concludes, ConcludesOver, Takes, TakesOver};
 
 use crate::answered::Answered;
+use crate::cut_command::{CutKind, cut_of};
 use crate::dist_command::dist_of;
 use crate::info_command::loop_count;
 use crate::loops_command::loops_of;
@@ -23,6 +24,7 @@ use surf_off::OffText;
 pub enum Task {
     Distances,
     LeastLoops,
+    Cut(CutKind),
 }
 
 impl Task {
@@ -32,7 +34,7 @@ impl Task {
     {
         match self {
             Task::Distances => false,
-            Task::LeastLoops => true,
+            Task::LeastLoops | Task::Cut(_) => true,
         }
     }
 }
@@ -80,6 +82,8 @@ fn on_surface<S: Shelf>(
     lengths: &str,
     base: u32,
 ) -> Result<Answered, Refused>
+    requires lines { length text.now.vertex_lines ≡ mesh.now.vertices }
+    requires colours { length text.now.colours ≡ face_count mesh.now }
     ensures holds { S.holds shelf.new ≡ S.holds shelf.old }
     ensures later { S.faults shelf.old ≤ S.faults shelf.new }
     ensures tells { ConcludesOver (S.holds shelf.old) (S.faults shelf.old) (S.faults shelf.new) (OnSurface task (text.now, mesh.now) lengths.now base) result }
@@ -97,14 +101,16 @@ fn perform(
     lengths: &Lengths,
     base: VertexId,
 ) -> Result<Answered, Refused>
+    requires lines { length text.now.vertex_lines ≡ mesh.now.vertices }
+    requires colours { length text.now.colours ≡ face_count mesh.now }
     requires lengths { length lengths.now ≡ edge_count mesh.now }
     requires base { base < mesh.now.vertices }
     ensures { Concludes (Performs task (text.now, mesh.now) (lengths.now, base)) result }
 {
-    let _text = text;
     match task {
         Task::Distances => dist_of(alloc, mesh, lengths, base),
         Task::LeastLoops => loops_of(alloc, mesh, lengths, base),
+        Task::Cut(kind) => cut_of(alloc, text, mesh, lengths, base, kind),
     }
 }
 
@@ -115,7 +121,9 @@ fn read_looped(
     bytes: &[u8],
 ) -> Result<(OffText<'_>, HalfMesh), Refused>
     requires { length bytes.now ≤ 268435456 }
-    ensures { Takes (λ read. read) (IsFewLoopedText limited bytes.now) result }
+    ensures tells { Takes (λ read. read) (IsFewLoopedText limited bytes.now) result }
+    ensures lines { IfOk result (λ read. length read.0.vertex_lines ≡ read.1.vertices) }
+    ensures colours { IfOk result (λ read. length read.0.colours ≡ face_count read.1) }
 {
     let (text, mesh) = read_surface(alloc, bytes)?;
     if limited && loop_count(&mesh) > MAX_LOOPS as u64 {

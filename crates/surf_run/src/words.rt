@@ -1,8 +1,9 @@
 //! The words of the command line.
 ghost use Rattle.std.specs.Prelude.{◌≡◌, None, Some, MatchOption};
-ghost use Rattle.surf_run.specs.Words.{texts, request_of, lone_request, mesh_request, number_of, task_of, weighted_request};
+ghost use Rattle.surf_run.specs.Words.{texts, request_of, lone_request, mesh_request, number_of, task_of, cut_task, weighted_request};
 ghost use Rattle.surf_run.specs.Seen.{request};
 
+use crate::cut_command::CutKind;
 use crate::weighted::Task;
 use surf_text::read_whole;
 
@@ -42,6 +43,20 @@ fn task_of(word: &str) -> Option<Task>
     match word {
         "dist" => Some(Task::Distances),
         "loops" => Some(Task::LeastLoops),
+        _ => None,
+    }
+}
+
+// The task of a command with five words.
+fn cut_task(word: &str, kind: &str) -> Option<Task>
+    ensures { result ≡ cut_task word.now kind.now }
+{
+    if word != "cut" {
+        return None;
+    }
+    match kind {
+        "full" => Some(Task::Cut(CutKind::Full)),
+        "trim" => Some(Task::Cut(CutKind::Trimmed)),
         _ => None,
     }
 }
@@ -87,9 +102,12 @@ pub fn parse(words: &[String]) -> Option<Command<'_>>
     ensures { MatchOption result (request_of (texts words.now) ≡ None) (λ c. request_of (texts words.now) ≡ Some (request c)) }
 {
     match words {
-        [] | [_, _, _] | [_, _, _, _, _, ..] => None,
+        [] | [_, _, _] | [_, _, _, _, _, _, ..] => None,
         [word] => lone(word),
         [word, mesh] => on_mesh(word, mesh),
         [word, mesh, lengths, base] => weighted(task_of(word), mesh, lengths, number_of(base)),
+        [word, mesh, lengths, base, kind] => {
+            weighted(cut_task(word, kind), mesh, lengths, number_of(base))
+        }
     }
 }

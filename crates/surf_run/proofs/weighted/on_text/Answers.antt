@@ -12,4 +12,4 @@ returns-clause-tells g c =
     let read : OffParts × Mesh = (c.in_ok-text.text, c.in_ok-text.mesh) in
     goes_before (g.S.Shelf.holds c.args.shelf.now) (g.S.Shelf.faults c.args.shelf.now) (g.S.Shelf.faults c.on_surface.new.shelf)
     (IsFewLoopedText (is_limited c.args.task) c.args.bytes.now) (λ given. OnSurface c.args.task given c.args.lengths.now c.args.base)
-    read (subst (λ (limited : Bool). IsFewLoopedText limited c.args.bytes.now (Ok read)) c.is_limited.ensures c.in_ok-text.ensures) c.on_surface.result c.on_surface.ensures.tells
+    read (subst (λ (limited : Bool). IsFewLoopedText limited c.args.bytes.now (Ok read)) c.is_limited.ensures c.in_ok-text.ensures.tells) c.on_surface.result c.on_surface.ensures.tells
