@@ -18,6 +18,3 @@ mod trimming;
 pub use along_tree::{cut_full, cut_trim};
 pub use cutting::{open_full, open_trimmed};
 pub use opened::Opened;
-
-#[cfg(test)]
-mod tests;
