@@ -11,9 +11,11 @@ use Rattle.surf_opening.specs.Named.{whole}
 use Rattle.surf_opening.specs.Opening.{IsOpenedBy}
 use Rattle.surf_opening.proofs.ChosenOpenings.{some_list, full_cuts_are_chosen, trimmed_cuts_are_chosen, chosen_are_openings, full_openings_are_counted}
 use Rattle.surf_opening.proofs.CutCounts.{full_told}
+use Rattle.surf_opening.proofs.NamedEdges.{forget}
 use Rattle.surf_slit.specs.Labels.{IsUncut}
 use Rattle.surf_cotree.specs.Grown.{IsMarked, IsGrown}
 use Rattle.surf_cotree.specs.Tables.{CotreeTables, tree_of}
+use Rattle.surf_cutter.specs.Boundary.{IsFullCut, OpensToDisc}
 use Rattle.surf_cutter.specs.Opened.{MarksCotree, IsHeld, IsChosenFor, AreTurnedOver}
 use Rattle.surf_cutter.specs.Trimming.{is_cut, IsTrimmedFrom, HasEndedBy}
 use Rattle.surf_cutter.proofs.Trims.{told_same}
@@ -24,6 +26,9 @@ module _ {mesh : Mesh} (surface : IsSurface mesh) (held cut : List Bool) (flags 
   told {tree} {cotree} split marks =
       let l = some_list surface split in
       told_same mesh l.0 (λ e. not (cotree_edges mesh cotree e)) (is_cut cut) (λ e h. sym (over.1 e (omega arith) ∙ ap not (marks e h))) (full_told surface cotree l.0 l.1.its_edges)
+
+  pub is_full : IsHeld mesh held → IsFullCut mesh cut
+  is_full is = let l = some_list surface is.2 in (l.0, l.1.grows, told is.2 is.3)
 
   module _ {origins : List ℕ} {faces : List (List ℕ)} where
     pub full_chosen : IsOpenedBy mesh (IsUncut mesh cut) origins faces → AreInOrder mesh origins faces → IsChosenFor mesh held false (record { origins = origins; faces = faces })
@@ -36,6 +41,13 @@ module _ {mesh : Mesh} (surface : IsSurface mesh) (held cut : List Bool) (flags 
         let l = some_list surface split in
         let t = trimmed l.0 l.0 whole (told split marks) in
         record { cut = is_cut less; is_chosen = trimmed_cuts_are_chosen mesh tree cotree l.0 t.0 (is_cut less) surface split l.1 t.1 t.2 ended; opened = opened; in_order = order }
+
+-- the full cut opens the surface to a disc, and so does what is left of it by trimming
+pub full_opens : {mesh : Mesh} (cut : List Bool) → IsFullCut mesh cut → OpensToDisc mesh cut
+full_opens cut full = (full.0, full.0, full.1, forget whole, full.2)
+
+pub trimmed_opens : {mesh : Mesh} (cut less : List Bool) → IsFullCut mesh cut → IsTrimmedFrom mesh cut less → OpensToDisc mesh less
+trimmed_opens cut less full trimmed = let t = trimmed full.0 full.0 whole full.2 in (full.0, t.0, full.1, forget t.1, t.2)
 
 pub chosen_opens : {mesh : Mesh} → IsSurface mesh → (held : List Bool) → IsHeld mesh held → (trim : Bool) (origins : List ℕ) (faces : List (List ℕ)) → IsChosenFor mesh held trim (record { origins = origins; faces = faces }) → IsOpening mesh origins faces
 chosen_opens {mesh} surface held is trim origins faces chosen = chosen_are_openings mesh is.0 is.1 trim origins faces surface is.2 (chosen is.0 is.1 is.2 is.3)

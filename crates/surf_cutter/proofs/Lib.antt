@@ -1,5 +1,9 @@
+pub mod BorderRounds
+pub mod BorderSides
+pub mod BorderTables
 pub mod Chosen
 pub mod Counted
 pub mod OpenedBy
+pub mod PairedBorders
 pub mod Sorted
 pub mod Trims

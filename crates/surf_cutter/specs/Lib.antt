@@ -1,3 +1,4 @@
+pub mod Boundary
 pub mod Copies
 pub mod Opened
 pub mod Trimming

@@ -7,6 +7,10 @@ use Rattle.surf_complex.specs.Disc.{IsDisc}
 use Rattle.surf_complex.specs.Mesh.{Mesh}
 use Rattle.surf_complex.specs.Surface.{edge_count}
 use Rattle.surf_opening.specs.ChosenCut.{AreDivided, IsChosenOpening}
+use Rattle.surf_opening.specs.Laws.{AreInOrder}
+use Rattle.surf_opening.specs.Opening.{IsOpenedBy}
+use Rattle.surf_slit.specs.Labels.{IsUncut}
+use Rattle.surf_cutter.specs.Boundary.{IsBoundary}
 
 -- the vertex of each copy, and the faces with copies for corners
 pub record OpenMesh : Type 0 where
@@ -22,12 +26,18 @@ pub record AreStarts (faces : List (List ℕ)) (starts : List ℕ) : Type 0 wher
   pub size : length starts ≡ length faces + 1
   pub at : (f : ℕ) → f ≤ length faces → slice_index starts f ≡ sum_by length (take f faces)
 
--- what an opened surface keeps: its faces over its copies are a disc
-pub record IsOpened (opened : OpenMesh) (starts : List ℕ) : Type 0 where
+-- what an opened surface keeps: its faces over its copies are a disc, with its border in one round
+pub record IsOpened (opened : OpenMesh) (starts boundary : List ℕ) : Type 0 where
   pub disc : IsDisc (mesh_of opened)
   pub few_copies : length opened.origins < 2 ^ 30
   pub few_faces : length opened.faces < 2 ^ 30
   pub are_starts : AreStarts opened.faces starts
+  pub is_boundary : IsBoundary (mesh_of opened) boundary
+
+-- the surface opened along the edges with a flag, with its copies in order
+abbrev pub IsOpenedInOrder : Mesh → List Bool → OpenMesh → Type 0
+IsOpenedInOrder mesh cut opened =
+    IsOpenedBy mesh (IsUncut mesh cut) opened.origins opened.faces × AreInOrder mesh opened.origins opened.faces
 
 -- the flags mark the edges of the tree of faces
 abbrev pub MarksCotree : Mesh → Tree → List Bool → Type 0

@@ -1,22 +1,18 @@
 //! Cutting a surface open along the edges outside a tree of its faces.
 ghost use Rattle.std.specs.Prelude.{◌≡◌, ◌+◌, ◌<◌, ◌^◌, ℕ, true, false, not, length, IfOk, slice_index, slice_index_or};
-ghost use Rattle.std.specs.List.{sum_by};
 ghost use Rattle.surf_complex.specs.Disc.{IsOpening};
 ghost use Rattle.surf_complex.specs.Surface.{edge_count, face_count};
-ghost use Rattle.surf_opening.specs.Laws.{AreInOrder};
-ghost use Rattle.surf_opening.specs.Opening.{IsOpenedBy};
-ghost use Rattle.surf_mesh.specs.Sides.{side_count};
-ghost use Rattle.surf_slit.specs.Labels.{IsUncut};
+ghost use Rattle.surf_cutter.specs.Boundary.{IsFullCut, OpensToDisc};
 ghost use Rattle.surf_cutter.specs.Trimming.{IsTrimmedFrom, HasEndedBy};
-ghost use Rattle.surf_cutter.specs.Opened.{IsHeld, IsChosenFor, AreTurnedOver};
+ghost use Rattle.surf_cutter.specs.Opened.{IsOpenedInOrder, IsHeld, IsChosenFor, AreTurnedOver};
 
 use crate::Opened;
+use crate::border::boundary_along;
 use crate::copies::open_along;
 use crate::trimming::{count_degrees, trim};
 use std::alloc::Global;
-use surf_base::{CopyId, NoMemory, VertexId};
+use surf_base::NoMemory;
 use surf_mesh::HalfMesh;
-use surf_rows::Rows;
 
 // The edges that aren't held.
 fn turned_over(alloc: Global, held: &[bool]) -> Result<Vec<bool>, NoMemory>
@@ -29,26 +25,36 @@ fn turned_over(alloc: Global, held: &[bool]) -> Result<Vec<bool>, NoMemory>
     Ok(cut)
 }
 
-// The surface opened along a cut that is trimmed before.
-pub(crate) fn open_by_trim(
+// The surface opened along the edges with a flag, which open it to a disc.
+fn open_cut(alloc: Global, mesh: &HalfMesh, cut: &[bool]) -> Result<Opened, NoMemory>
+    requires flags { length cut.now ≡ edge_count mesh.now }
+    requires opens { OpensToDisc mesh.now cut.now }
+    ensures { IfOk result (λ o. IsOpenedInOrder mesh.now cut.now o) }
+{
+    let _surface = mesh.faces();
+    let (origins, faces) = open_along(alloc, mesh, cut)?;
+    let boundary = boundary_along(alloc, mesh, cut, origins.len() as u32, &faces)?;
+    Opened::from_parts(alloc, origins, faces, boundary)
+}
+
+// The surface opened along a full cut that is trimmed before.
+fn open_by_trim(
     alloc: Global,
     mesh: &HalfMesh,
     cut: &mut [bool],
     degree: &mut [u32],
-) -> Result<(Vec<VertexId>, Rows<CopyId>), NoMemory>
+) -> Result<Opened, NoMemory>
     requires flags { length cut.old ≡ edge_count mesh.now }
+    requires full { IsFullCut mesh.now cut.old }
     requires size { length degree.old ≡ mesh.now.vertices }
     requires none { (v : ℕ) → v < mesh.now.vertices → slice_index degree.old v ≡ 0 }
     ensures trimmed { IsTrimmedFrom mesh.now cut.old cut.new }
     ensures ended { HasEndedBy mesh.now cut.new }
-    ensures opened { IfOk result (λ r. IsOpenedBy mesh.now (IsUncut mesh.now cut.new) r.0.items r.1) }
-    ensures order { IfOk result (λ r. AreInOrder mesh.now r.0.items r.1) }
-    ensures few { IfOk result (λ r. length r.0.items < 2 ^ 30) }
-    ensures corners { IfOk result (λ r. sum_by length r.1 ≡ side_count mesh.now) }
+    ensures opened { IfOk result (λ o. IsOpenedInOrder mesh.now cut.new o) }
 {
     count_degrees(mesh, cut, degree);
     trim(mesh, cut, degree);
-    open_along(alloc, mesh, cut)
+    open_cut(alloc, mesh, cut)
 }
 
 /// The surface cut along all edges that a tree of its faces doesn't hold, by a flag for each edge.
@@ -61,8 +67,7 @@ pub fn open_full(alloc: Global, mesh: &HalfMesh, held: &[bool]) -> Result<Opened
 {
     let _surface = mesh.faces();
     let cut = turned_over(alloc, held)?;
-    let (origins, faces) = open_along(alloc, mesh, &cut)?;
-    Opened::from_parts(alloc, origins, faces)
+    open_cut(alloc, mesh, &cut)
 }
 
 /// The same with the cut trimmed: while more than two edges are cut and a vertex has exactly one of them,
@@ -76,6 +81,5 @@ pub fn open_trimmed(alloc: Global, mesh: &HalfMesh, held: &[bool]) -> Result<Ope
     let _surface = mesh.faces();
     let mut cut = turned_over(alloc, held)?;
     let mut degree = vec![in alloc; 0u32; mesh.vertices() as usize]?;
-    let (origins, faces) = open_by_trim(alloc, mesh, &mut cut, &mut degree)?;
-    Opened::from_parts(alloc, origins, faces)
+    open_by_trim(alloc, mesh, &mut cut, &mut degree)
 }

@@ -5,9 +5,11 @@
 //! along all of them, and `open_trimmed` takes the cut back where it ends at a vertex, as long as more than
 //! two edges are cut. `Opened` is the disc: its corners are copies of the surface's vertices, numbered in
 //! the order of their vertices, and those of one vertex in the order of the least faces that have them.
+//! Its border is the cut, both sides of each cut edge, and it lends the border sides in one round.
 #![tactic(auto)]
 
 mod along_tree;
+mod border;
 mod copies;
 mod cutting;
 mod opened;
@@ -16,6 +18,3 @@ mod trimming;
 pub use along_tree::{cut_full, cut_trim};
 pub use cutting::{open_full, open_trimmed};
 pub use opened::Opened;
-
-#[cfg(test)]
-mod tests;

@@ -3,11 +3,12 @@ ghost use Rattle.std.specs.Prelude.{◌≡◌, ◌<◌, ◌≤◌, ◌+◌, ◌^
 ghost use Rattle.std.specs.List.{flat_map, sum_by};
 ghost use Rattle.surf_complex.specs.Disc.{IsDisc};
 ghost use Rattle.surf_complex.specs.Surface.{edge_count};
+ghost use Rattle.surf_cutter.specs.Boundary.{IsBoundary};
 ghost use Rattle.surf_cutter.specs.Opened.{mesh_of, AreStarts};
 
 use std::alloc::Global;
 use std::marker::Model;
-use surf_base::{CopyId, FaceId, NoMemory, VertexId};
+use surf_base::{CopyId, FaceId, NoMemory, SideId, VertexId};
 use surf_rows::Rows;
 
 /// A surface cut open: its faces with copies of its vertices for corners. They are a disc.
@@ -16,6 +17,7 @@ pub struct Opened {
     origins: Vec<VertexId>,
     faces: Rows<CopyId>,
     starts: Vec<u32>,
+    boundary: Vec<SideId>,
 }
 
 impl Model for Opened {
@@ -25,7 +27,7 @@ impl Model for Opened {
 
     ghost view = { λ o. record { origins = o.origins.items; faces = o.faces } };
 
-    ghost invariant = { λ o. IsOpened (record { origins = o.origins.items; faces = o.faces }) o.starts.items };
+    ghost invariant = { λ o. IsOpened (record { origins = o.origins.items; faces = o.faces }) o.starts.items o.boundary.items };
 }
 
 // Where each row begins among the things of all rows, and the end.
@@ -42,13 +44,15 @@ fn starts_of(alloc: Global, faces: &Rows<CopyId>) -> Result<Vec<u32>, NoMemory>
 }
 
 impl Opened {
-    // The disc of some faces over copies.
+    // The disc of some faces over copies, with its border.
     pub(crate) fn from_parts(
         alloc: Global,
         origins: Vec<VertexId>,
         faces: Rows<CopyId>,
+        boundary: Vec<SideId>,
     ) -> Result<Opened, NoMemory>
         requires disc { IsDisc (record { vertices = length origins.items; faces = faces }) }
+        requires boundary { IsBoundary (record { vertices = length origins.items; faces = faces }) boundary.items }
         requires few_copies { length origins.items < 2 ^ 30 }
         requires few_faces { length faces < 2 ^ 30 }
         requires few_corners { sum_by length faces < 2 ^ 32 }
@@ -59,6 +63,7 @@ impl Opened {
             origins,
             faces,
             starts,
+            boundary,
         })
     }
 
@@ -107,5 +112,15 @@ impl Opened {
         let copies = self.origins.len() as u32;
         let faces = self.faces.len() as u32;
         copies + faces - 1
+    }
+
+    /// The border sides, in one round along the border. Sides are numbered in the order of faces and
+    /// corners. The first is the least border side. The second is the other border side at the first
+    /// side's second corner in listed order. Each further one is the other border side at the copy that
+    /// the last side has and the side before it doesn't have.
+    pub fn boundary(&self) -> &[SideId]
+        ensures { IsBoundary (mesh_of self.now) result.now }
+    {
+        &self.boundary
     }
 }

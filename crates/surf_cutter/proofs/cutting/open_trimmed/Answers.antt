@@ -1,29 +1,16 @@
-use Rattle.std.proofs.Common.{◌≡◌, true, sym, subst, arith}
+use Rattle.std.proofs.Common.{◌≡◌, true, sym, subst}
 use Rattle.std.proofs.lemmas.Result.{IfOk-weaker}
 use Rattle.surf_complex.specs.Disc.{IsOpening}
-use Rattle.surf_mesh.proofs.SideTables.{three_each}
-use Rattle.surf_cutter.specs.Opened.{OpenMesh, IsChosenFor, AreTurnedOver}
-use Rattle.surf_cutter.proofs.Chosen.{trimmed_chosen, chosen_opens}
+use Rattle.surf_cutter.specs.Opened.{OpenMesh, IsOpenedInOrder, IsChosenFor, AreTurnedOver}
+use Rattle.surf_cutter.proofs.Chosen.{is_full, trimmed_chosen, chosen_opens}
 use Rattle.surf_cutter.proofs.cutting.open_trimmed.Goals as goal
 
-pub from_parts-requires-clause-disc : goal.from_parts-requires-clause-disc
-from_parts-requires-clause-disc c =
-    let mesh = c.args.mesh.now in
+pub open_by_trim-requires-clause-full : goal.open_by_trim-requires-clause-full
+open_by_trim-requires-clause-full c =
     let held = c.args.held.now in
-    let surface = c.faces-surface.ensures.surface in
     let cut = c.deref_mut.result.now in
     let over : AreTurnedOver held cut = subst (AreTurnedOver held) (sym c.deref_mut.ensures.value) c.in_ok-cut.ensures in
-    let origins = c.in_ok-origins.origins.items in
-    let faces = c.in_ok-origins.faces in
-    let e = c.in_ok-origins.ensures in
-    let chosen : IsChosenFor mesh held true (record { origins = origins; faces = faces }) = trimmed_chosen surface held cut c.requires.flags over c.open_by_trim.new.cut e.trimmed e.ended e.opened e.order in
-    (chosen_opens surface held c.requires.held true origins faces chosen).is_disc
-
-pub from_parts-requires-clause-few_faces : goal.from_parts-requires-clause-few_faces
-from_parts-requires-clause-few_faces c =
-    let mesh = c.args.mesh.now in
-    let s = c.faces-surface.ensures in
-    omega (arith, c.in_ok-origins.ensures.opened.same_faces, three_each mesh.vertices mesh.faces s.surface.is_mesh, s.few)
+    is_full c.faces-surface.ensures.surface held cut c.requires.flags over c.requires.held
 
 pub returns-clause-chosen : goal.returns-clause-chosen
 returns-clause-chosen c =
@@ -32,12 +19,10 @@ returns-clause-chosen c =
     let surface = c.faces-surface.ensures.surface in
     let cut = c.deref_mut.result.now in
     let over : AreTurnedOver held cut = subst (AreTurnedOver held) (sym c.deref_mut.ensures.value) c.in_ok-cut.ensures in
-    let origins = c.in_ok-origins.origins.items in
-    let faces = c.in_ok-origins.faces in
-    let e = c.in_ok-origins.ensures in
-    let chosen : IsChosenFor mesh held true (record { origins = origins; faces = faces }) = trimmed_chosen surface held cut c.requires.flags over c.open_by_trim.new.cut e.trimmed e.ended e.opened e.order in
+    let less = c.open_by_trim.new.cut in
+    let e = c.open_by_trim.ensures in
     let P : OpenMesh → Type 0 = λ o. IsChosenFor mesh held true o in
-    IfOk-weaker c.from_parts.result (λ o. o ≡ record { origins = origins; faces = faces }) P (λ o is. subst P (sym is) chosen) c.from_parts.ensures
+    IfOk-weaker c.open_by_trim.result (λ o. IsOpenedInOrder mesh less o) P (λ o is. trimmed_chosen surface held cut c.requires.flags over less e.trimmed e.ended is.0 is.1) e.opened
 
 pub returns-clause-opening : goal.returns-clause-opening
 returns-clause-opening c =
@@ -46,9 +31,8 @@ returns-clause-opening c =
     let surface = c.faces-surface.ensures.surface in
     let cut = c.deref_mut.result.now in
     let over : AreTurnedOver held cut = subst (AreTurnedOver held) (sym c.deref_mut.ensures.value) c.in_ok-cut.ensures in
-    let origins = c.in_ok-origins.origins.items in
-    let faces = c.in_ok-origins.faces in
-    let e = c.in_ok-origins.ensures in
-    let chosen : IsChosenFor mesh held true (record { origins = origins; faces = faces }) = trimmed_chosen surface held cut c.requires.flags over c.open_by_trim.new.cut e.trimmed e.ended e.opened e.order in
+    let less = c.open_by_trim.new.cut in
+    let e = c.open_by_trim.ensures in
     let P : OpenMesh → Type 0 = λ o. IsOpening mesh o.origins o.faces in
-    IfOk-weaker c.from_parts.result (λ o. o ≡ record { origins = origins; faces = faces }) P (λ o is. subst P (sym is) (chosen_opens surface held c.requires.held true origins faces chosen)) c.from_parts.ensures
+    IfOk-weaker c.open_by_trim.result (λ o. IsOpenedInOrder mesh less o) P
+    (λ o is. chosen_opens surface held c.requires.held true o.origins o.faces (trimmed_chosen surface held cut c.requires.flags over less e.trimmed e.ended is.0 is.1)) e.opened

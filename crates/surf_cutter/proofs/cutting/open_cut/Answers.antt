@@ -1,0 +1,23 @@
+use Rattle.std.proofs.Common.{◌≡◌, ◌+◌, length, sym, subst, arith}
+use Rattle.std.proofs.lemmas.Result.{IfOk-weaker}
+use Rattle.surf_mesh.proofs.SideTables.{three_each}
+use Rattle.surf_cutter.specs.Opened.{OpenMesh, IsOpenedInOrder}
+use Rattle.surf_cutter.proofs.PairedBorders.{opens_to_disc}
+use Rattle.surf_cutter.proofs.cutting.open_cut.Goals as goal
+
+pub from_parts-requires-clause-disc : goal.from_parts-requires-clause-disc
+from_parts-requires-clause-disc c = opens_to_disc c.faces-surface.ensures.surface c.args.cut.now c.requires.opens c.in_ok-origins.ensures.opened
+
+pub from_parts-requires-clause-few_faces : goal.from_parts-requires-clause-few_faces
+from_parts-requires-clause-few_faces c =
+    let mesh = c.args.mesh.now in
+    let s = c.faces-surface.ensures in
+    omega (arith, c.in_ok-origins.ensures.opened.same_faces, three_each mesh.vertices mesh.faces s.surface.is_mesh, s.few)
+
+pub returns : goal.returns
+returns c =
+    let origins = c.in_ok-origins.origins.items in
+    let faces = c.in_ok-origins.faces in
+    let P : OpenMesh → Type 0 = λ o. IsOpenedInOrder c.args.mesh.now c.args.cut.now o in
+    IfOk-weaker c.from_parts.result (λ o. o ≡ record { origins = origins; faces = faces }) P
+    (λ o is. subst P (sym is) (c.in_ok-origins.ensures.opened, c.in_ok-origins.ensures.order)) c.from_parts.ensures

@@ -1,0 +1,104 @@
+//! The tree of faces beside the shortest walks from vertex 0, each edge of length 1, and the signatures by it.
+ghost use Rattle.surf_cotree.specs.Tables.{IsMadeFor};
+
+use crate::loops::loops_at_first;
+use crate::meshes::{TORUS, surface};
+use std::test::Fail;
+use surf_base::{EdgeId, FaceId};
+use surf_cotree::CotreeDesk;
+use surf_mesh::HalfMesh;
+
+// The ends of an edge.
+fn ends(mesh: &HalfMesh, edge: EdgeId) -> Option<(u32, u32)> {
+    if edge.number() >= mesh.edges() {
+        return None;
+    }
+    let (u, v) = mesh.ends(edge);
+    Some((u.number(), v.number()))
+}
+
+// Whether the edges in neither tree are these.
+fn left_are(mesh: &HalfMesh, cotree: &CotreeDesk, want: &[(u32, u32)]) -> bool {
+    let mut same = cotree.left().len() == want.len();
+    for (edge, pair) in cotree.left().iter().zip(want) {
+        same = same && ends(mesh, *edge) == Some(*pair);
+    }
+    same
+}
+
+// Whether each face has the depth and the edge to its parent that are wanted.
+fn rows_are(mesh: &HalfMesh, cotree: &CotreeDesk, want: &[(u32, Option<(u32, u32)>)]) -> bool
+    requires made { IsMadeFor mesh.now cotree.now }
+{
+    let mut same = want.len() == mesh.faces() as usize;
+    for f in 0..mesh.faces() {
+        let face = FaceId::new(f);
+        let over = match cotree.parent_edge(face) {
+            None => None,
+            Some(edge) => ends(mesh, edge),
+        };
+        same = same && want.get(f as usize) == Some(&(cotree.depth(face), over));
+    }
+    same
+}
+
+// Whether just these edges have place 0 in their signatures.
+fn first_is_in(mesh: &HalfMesh, cotree: &CotreeDesk, want: &[(u32, u32)]) -> bool
+    requires made { IsMadeFor mesh.now cotree.now }
+{
+    let mut same = true;
+    for e in 0..mesh.edges() {
+        let edge = EdgeId::new(e);
+        let (u, v) = mesh.ends(edge);
+        let wanted = want.contains(&(u.number(), v.number()));
+        same = same && cotree.signature(edge).bit(0) == wanted;
+    }
+    same
+}
+
+// For each face the number of edges to face 0, and the edge to its parent.
+const ROWS: [(u32, Option<(u32, u32)>); 18] = [
+    (0, None),
+    (5, Some((1, 4))),
+    (4, Some((4, 5))),
+    (7, Some((2, 5))),
+    (6, Some((3, 5))),
+    (7, Some((2, 3))),
+    (2, Some((3, 7))),
+    (1, Some((3, 4))),
+    (2, Some((4, 7))),
+    (3, Some((4, 8))),
+    (4, Some((5, 8))),
+    (5, Some((5, 6))),
+    (4, Some((1, 6))),
+    (3, Some((6, 7))),
+    (4, Some((2, 7))),
+    (3, Some((7, 8))),
+    (4, Some((2, 8))),
+    (5, Some((6, 8))),
+];
+
+#[test]
+fn faces_of_a_torus(rt: HostRuntime) -> Result<(), Fail> {
+    let alloc = rt.alloc();
+    let mesh = surface(alloc, 9, &TORUS)?;
+    let mut desk = loops_at_first(alloc, &mesh)?;
+    assert!(rt; left_are(&mesh, desk.cotree(), &[(1, 2), (3, 6)]));
+    assert!(rt; rows_are(&mesh, desk.cotree(), &ROWS));
+    if desk.cotree().left().len() > 1024 {
+        return Err("many")?;
+    }
+    desk.sign(&mesh);
+    let odd = [
+        (1, 2),
+        (2, 5),
+        (2, 7),
+        (3, 5),
+        (4, 8),
+        (5, 6),
+        (5, 8),
+        (7, 8),
+    ];
+    assert!(rt; first_is_in(&mesh, desk.cotree(), &odd));
+    Ok(())
+}

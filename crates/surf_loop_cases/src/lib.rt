@@ -1,0 +1,12 @@
+//! Trees of faces, loops and openings of small surfaces, with answers that were worked out by hand. The crate
+//! has tests alone.
+#![tactic(auto)]
+
+#[cfg(test)]
+mod faces;
+#[cfg(test)]
+mod loops;
+#[cfg(test)]
+mod meshes;
+#[cfg(test)]
+mod openings;

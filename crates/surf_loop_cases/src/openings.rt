@@ -1,0 +1,202 @@
+//! Openings along what the tree of faces beside the shortest walks from vertex 0 leaves, each edge of length 1.
+ghost use Rattle.std.specs.Prelude.{◌≡◌, length};
+ghost use Rattle.surf_complex.specs.Surface.{edge_count};
+ghost use Rattle.surf_cutter.specs.Opened.{IsHeld};
+
+use crate::loops::loops_at_first;
+use crate::meshes::{PILLOW, PROJECTIVE, TETRAHEDRON, TORUS, surface};
+use std::alloc::Global;
+use std::test::Fail;
+use surf_base::{CopyId, FaceId, NoMemory, SideId, VertexId};
+use surf_cotree::CotreeDesk;
+use surf_cutter::{Opened, cut_full, cut_trim};
+use surf_mesh::HalfMesh;
+
+// How far a surface is cut.
+#[derive(Clone, Copy, PartialEq, Eq)]
+enum Cut {
+    Full,
+    Trimmed,
+}
+
+// What an opened surface is to be.
+#[derive(Drop)]
+struct Want<'a> {
+    origins: &'a [u32],
+    faces: &'a [(u32, u32, u32)],
+    edges: u32,
+    boundary: &'a [u32],
+}
+
+fn open_along(
+    alloc: Global,
+    mesh: &HalfMesh,
+    cotree: &CotreeDesk,
+    cut: Cut,
+) -> Result<Opened, NoMemory>
+    requires size { length cotree.now.held ≡ edge_count mesh.now }
+    requires held { IsHeld mesh.now cotree.now.held }
+{
+    match cut {
+        Cut::Full => cut_full(alloc, mesh, cotree),
+        Cut::Trimmed => cut_trim(alloc, mesh, cotree),
+    }
+}
+
+fn open(alloc: Global, vertices: u32, faces: &[(u32, u32, u32)], cut: Cut) -> Result<Opened, Fail> {
+    let mesh = surface(alloc, vertices, faces)?;
+    let desk = loops_at_first(alloc, &mesh)?;
+    Ok(
+        open_along(alloc, &mesh, desk.cotree(), cut)
+            .ok()
+            .ok_or("room")?,
+    )
+}
+
+fn origins_are(origins: &[VertexId], want: &[u32]) -> bool {
+    let mut same = origins.len() == want.len();
+    for (origin, v) in origins.iter().zip(want) {
+        same = same && origin.number() == *v;
+    }
+    same
+}
+
+fn sides_are(sides: &[SideId], want: &[u32]) -> bool {
+    let mut same = sides.len() == want.len();
+    for (side, s) in sides.iter().zip(want) {
+        same = same && side.number() == *s;
+    }
+    same
+}
+
+fn is_row(row: &[CopyId], a: u32, b: u32, c: u32) -> bool {
+    row.len() == 3 && row[0].number() == a && row[1].number() == b && row[2].number() == c
+}
+
+// Whether there are as many faces as wanted, with the wanted copies.
+fn faces_are(opened: &Opened, want: &[(u32, u32, u32)]) -> bool {
+    let count = opened.starts().len();
+    let mut same = count == want.len() + 1;
+    let mut f = 0;
+    for (a, b, c) in want {
+        if f < 1_000 && (f as usize) + 1 < count {
+            same = same && is_row(opened.face(FaceId::new(f)), *a, *b, *c);
+            f += 1;
+        } else {
+            same = false;
+        }
+    }
+    same
+}
+
+// What differs from what is wanted, or nothing.
+fn difference(opened: &Opened, want: &Want<'_>) -> &'static str {
+    if !origins_are(opened.origins(), want.origins) {
+        return "origins";
+    }
+    if !faces_are(opened, want.faces) {
+        return "faces";
+    }
+    if opened.edges() != want.edges {
+        return "edges";
+    }
+    if !sides_are(opened.boundary(), want.boundary) {
+        return "boundary";
+    }
+    ""
+}
+
+#[test]
+fn a_tetrahedron_opens_along_a_star(rt: HostRuntime) -> Result<(), Fail> {
+    let alloc = rt.alloc();
+    let opened = open(alloc, 4, &TETRAHEDRON, Cut::Full)?;
+    let want = Want {
+        origins: &[0, 0, 0, 1, 2, 3],
+        faces: &[(0, 3, 4), (1, 5, 3), (2, 4, 5), (3, 5, 4)],
+        edges: 9,
+        boundary: &[0, 5, 3, 8, 6, 2],
+    };
+    assert_eq!(rt; difference(&opened, &want), "");
+    // The greatest leaf, 3, loses its edge.
+    let opened = open(alloc, 4, &TETRAHEDRON, Cut::Trimmed)?;
+    let want = Want {
+        origins: &[0, 0, 1, 2, 3],
+        faces: &[(0, 2, 3), (1, 4, 2), (1, 3, 4), (2, 4, 3)],
+        edges: 8,
+        boundary: &[0, 5, 6, 2],
+    };
+    assert_eq!(rt; difference(&opened, &want), "");
+    Ok(())
+}
+
+#[test]
+fn a_pillow_opens_along_two_edges(rt: HostRuntime) -> Result<(), Fail> {
+    let alloc = rt.alloc();
+    let want = Want {
+        origins: &[0, 0, 1, 2],
+        faces: &[(0, 2, 3), (1, 3, 2)],
+        edges: 5,
+        boundary: &[0, 5, 3, 2],
+    };
+    for cut in [Cut::Full, Cut::Trimmed] {
+        let opened = open(alloc, 3, &PILLOW, cut)?;
+        assert_eq!(rt; difference(&opened, &want), "");
+    }
+    Ok(())
+}
+
+#[test]
+fn a_projective_plane_opens_along_one_loop(rt: HostRuntime) -> Result<(), Fail> {
+    let opened = open(rt.alloc(), 6, &PROJECTIVE, Cut::Trimmed)?;
+    let want = Want {
+        origins: &[0, 0, 1, 1, 2, 3, 3, 4, 5],
+        faces: &[
+            (0, 2, 4),
+            (0, 4, 5),
+            (1, 6, 7),
+            (1, 7, 8),
+            (1, 3, 8),
+            (2, 4, 7),
+            (4, 5, 8),
+            (2, 6, 7),
+            (4, 7, 8),
+            (3, 5, 8),
+        ],
+        edges: 18,
+        boundary: &[0, 21, 6, 12, 27, 5],
+    };
+    assert_eq!(rt; difference(&opened, &want), "");
+    Ok(())
+}
+
+#[test]
+fn a_torus_opens_along_two_loops(rt: HostRuntime) -> Result<(), Fail> {
+    let opened = open(rt.alloc(), 9, &TORUS, Cut::Trimmed)?;
+    let want = Want {
+        origins: &[0, 0, 0, 0, 1, 1, 2, 2, 3, 3, 4, 5, 6, 6, 7, 8],
+        faces: &[
+            (0, 8, 10),
+            (0, 10, 4),
+            (4, 10, 11),
+            (4, 11, 6),
+            (6, 11, 9),
+            (6, 9, 1),
+            (8, 12, 14),
+            (8, 14, 10),
+            (10, 14, 15),
+            (10, 15, 11),
+            (11, 15, 13),
+            (11, 13, 9),
+            (12, 2, 5),
+            (12, 5, 14),
+            (14, 5, 7),
+            (14, 7, 15),
+            (15, 7, 3),
+            (15, 3, 13),
+        ],
+        edges: 33,
+        boundary: &[0, 18, 36, 37, 43, 49, 52, 34, 16, 17, 11, 5],
+    };
+    assert_eq!(rt; difference(&opened, &want), "");
+    Ok(())
+}
