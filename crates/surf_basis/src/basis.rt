@@ -1,0 +1,100 @@
+//! The least basis, kept base by base.
+ghost use Rattle.std.specs.Prelude.{ℕ, ◌≡◌, ◌<◌, ◌≤◌, ◌+◌, [], All, IfOk, length};
+ghost use Rattle.surf_homology.specs.Cells.{Split, IsSplit};
+ghost use Rattle.surf_complex.specs.Cells.{cells_of};
+ghost use Rattle.surf_complex.specs.Homology.{IsFullCount};
+ghost use Rattle.surf_complex.specs.Choice.{Trees, AreChosen};
+ghost use Rattle.surf_complex.specs.Surface.{edge_count, face_count};
+ghost use Rattle.surf_complex.specs.ChoiceLaws.{LeastSimpleBasis};
+ghost use Rattle.surf_loops.specs.Loops.{IsMadeFor};
+ghost use Rattle.surf_basis.specs.Cycles.{IsTheBasis, loops_of};
+ghost use Rattle.surf_basis.specs.Candidates.{signed_heads, AreKept};
+ghost use Rattle.surf_basis.specs.Signing.{AreSignatures, AreSigned, IsClimbed};
+
+use crate::candidate::{Candidate, Signed};
+use crate::choosing::Choice;
+use crate::cycle::Cycle;
+use crate::signing::loop_signature;
+use crate::walking::cycles_of;
+use std::alloc::Global;
+use surf_base::{NoMemory, VertexId};
+use surf_cotree::CotreeDesk;
+use surf_lengths::Lengths;
+use surf_loops::LoopDesk;
+use surf_mesh::HalfMesh;
+
+// Offers the loops of a desk, with their signatures.
+fn offer_loops(mesh: &HalfMesh, signatures: &CotreeDesk, desk: &LoopDesk, choice: &mut Choice)
+    requires climbed { IsClimbed mesh.now desk.now.tree }
+    requires edges { All (λ h. h.edge < edge_count mesh.now) desk.now.heads }
+    requires signed { AreSigned mesh.now signatures.now choice.old.width }
+    requires none { choice.old.offered ≡ [] }
+    requires room { length desk.now.heads ≤ choice.old.width }
+    ensures offered { (d : Split) → AreSignatures mesh.now d signatures.now → choice.new ≡ record choice.old { offered = signed_heads mesh.now d desk.now.tree desk.now.heads } }
+{
+    let base = desk.tree().base();
+    for head in desk.heads() {
+        let candidate = Candidate {
+            length: head.length,
+            base,
+            edge: head.edge,
+        };
+        let signature = loop_signature(mesh, signatures, desk.tree(), head.edge);
+        choice.offer(Signed {
+            candidate,
+            signature,
+        });
+    }
+}
+
+// Makes the choice from the loops at all bases.
+fn choose(
+    mesh: &HalfMesh,
+    lengths: &Lengths,
+    signatures: &CotreeDesk,
+    desk: &mut LoopDesk,
+    choice: &mut Choice,
+)
+    requires made { IsMadeFor mesh.now desk.old }
+    requires lengths { length lengths.now ≡ edge_count mesh.now }
+    requires signed { AreSigned mesh.now signatures.now choice.old.width }
+    requires count { IsFullCount mesh.now choice.old.width }
+    requires fresh { (choice.old.kept ≡ []) × (choice.old.offered ≡ []) }
+    ensures kept { (trees : ℕ → Trees) → AreChosen mesh.now lengths.now trees → (d : Split) → IsSplit (cells_of mesh.now) d → AreSignatures mesh.now d signatures.now → AreKept mesh.now lengths.now trees d mesh.now.vertices choice.new.kept }
+    ensures made { IsMadeFor mesh.now desk.new }
+{
+    let _surface = mesh.faces();
+    let _lengths = lengths.count();
+    for base in 0..mesh.vertices() {
+        desk.greedy(mesh, lengths, VertexId::new(base));
+        offer_loops(mesh, signatures, desk, choice);
+        choice.keep();
+    }
+}
+
+/// The basis that is chosen: two less the characteristic independent closed walks, each a simple cycle, and no such
+/// walks total less. They are in the order of length, base and edge. On a sphere it has none.
+pub fn least_basis(
+    alloc: Global,
+    mesh: &HalfMesh,
+    lengths: &Lengths,
+) -> Result<Vec<Cycle>, NoMemory>
+    requires lengths { length lengths.now ≡ edge_count mesh.now }
+    requires few { edge_count mesh.now + 2 ≤ mesh.now.vertices + face_count mesh.now + 1024 }
+    ensures chosen { IfOk result (λ cycles. IsTheBasis mesh.now lengths.now (loops_of cycles.items)) }
+    ensures least { IfOk result (λ cycles. LeastSimpleBasis mesh.now lengths.now (loops_of cycles.items)) }
+{
+    let _surface = mesh.faces();
+    let _lengths = lengths.count();
+    let mut first = LoopDesk::make(alloc, mesh)?;
+    first.greedy(mesh, lengths, VertexId::new(0));
+    let count = first.cotree().left().len();
+    if count == 0 {
+        return Ok(Vec::new(alloc));
+    }
+    first.sign(mesh);
+    let mut desk = LoopDesk::make(alloc, mesh)?;
+    let mut choice = Choice::make(alloc, count as u32)?;
+    choose(mesh, lengths, first.cotree(), &mut desk, &mut choice);
+    cycles_of(alloc, mesh, lengths, &mut desk, choice.kept())
+}
