@@ -1,13 +1,16 @@
-// A library with one function.
+//! Meshes and lengths that are made from numbers.
+//!
+//! `torus` makes a torus of squares, each cut into two triangles: a surface of characteristic 0.
+//! `made_lengths` gives each edge of a mesh a length from 1 to 97 that depends on its number and
+//! on a scatter alone; at scatter 0 all lengths are 1.
 #![tactic(auto)]
 
-ghost use Rattle.std.specs.Prelude.{◌≡◌};
-ghost use Rattle.surf_gen.specs.Echo.{echo_of};
+mod grid;
+mod made;
+mod tori;
 
-// The `ensures` clause is the contract: what `echo` returns is `echo_of` of its argument, a definition
-// in `specs/Echo.antt`, which a caller's clause can cite too.
-pub fn echo(x: usize) -> usize
-    ensures { result ≡ echo_of x }
-{
-    x
-}
+pub use made::made_lengths;
+pub use tori::torus;
+
+#[cfg(test)]
+mod tests;

@@ -1,19 +1,18 @@
 -- A grid of cells that closes in both directions, two triangles a cell, is a surface.
-use Rattle.std.proofs.Common.{◌≡◌, ◌≢◌, ℕ, zero, suc, ◌+◌, ◌*◌, ◌<◌, ◌≤◌, Bool, true, false, cond, eqb, List, [], ◌∷◌, ◌⊎◌, length, get_or, refl, sym, ap, ◌∙◌, arith, inl, inr, subst, Contains}
+use Rattle.std.proofs.Common.{◌≡◌, ◌≢◌, ℕ, zero, suc, ◌+◌, ◌*◌, ◌<◌, cond, eqb, List, [], ◌∷◌, ◌⊎◌, length, refl, sym, ap, ◌∙◌, arith, inl, inr, subst, Contains}
 use Rattle.std.proofs.Math.Nat.{mul_comm}
 use Rattle.std.proofs.lemmas.Bool.{eq-eqb, ne_eqb}
 use Rattle.std.proofs.lemmas.Nat.{same_from_place, mul-add-lt}
 use Rattle.std.proofs.lemmas.List.Elements.{All-from_get_or}
 use Rattle.surf_complex.specs.Joined.{Joined, here, over}
-use Rattle.surf_complex.specs.Mesh.{Mesh, IsMesh, IsFace, pair, pair_of}
-use Rattle.surf_complex.specs.Surface.{face_count, face_at, has_side, HasCorner, HasEdge, Share, ShareAt, IsConnected, IsSurface}
-use Rattle.surf_complex.proofs.FaceLaws.{pair_comm}
+use Rattle.surf_complex.specs.Mesh.{Mesh, IsFace, pair_of}
+use Rattle.surf_complex.specs.Surface.{face_count, face_at, HasCorner, Share, ShareAt, IsConnected, IsSurface}
 use Rattle.surf_complex.proofs.JoinedLaws.{joined_trans, joined_sym, joined_lift}
 use Rattle.surf_complex.proofs.SurfaceLaws.{has_side-face}
 use Rattle.surf_tori.specs.Coherent.{Runs, IsCoherent}
 use Rattle.surf_tori.proofs.CoherentLaws.{runs_side, coherent_edges_have_two_faces}
-use Rattle.surf_tori.proofs.LinkLaws.{Member, Linked, linked_members, KeptShareAt, HasKeptFans, kept_share_at_turned, share_in_out, share_run}
-use Rattle.surf_tori.proofs.TriangleLaws.{triangle, OneOf, corner_of, run_of, runs_first, runs_second, runs_third}
+use Rattle.surf_tori.proofs.LinkLaws.{Member, linked_members, KeptShareAt, HasKeptFans, kept_share_at_turned, share_in_out, share_run}
+use Rattle.surf_tori.proofs.TriangleLaws.{triangle, corner_of, run_of, runs_first, runs_second, runs_third}
 
 -- going round n places, at least three, forwards and backwards
 pub record IsRound (n : ℕ) (next prev : ℕ → ℕ) : Type 0 where
@@ -114,58 +113,58 @@ module _ {mesh : Mesh} {a b : ℕ} {down up right left : ℕ → ℕ} (grid : Is
 
   low_way : (i j : ℕ) → i < a → j < b → (p : ℕ × ℕ) → Runs mesh (low b i j) p → Way (low b i j) p
   low_way i j x y p h = elim (run_of (place b i j) (place b (down i) j) (place b (down i) (right j)) p
-    (rw (grid.first i j x y) at h)) [
-    | inl e ↦ record {
-      i = i;
-      j = j;
-      k = down i;
-      l = j;
-      column = y;
-      to_column = y;
-      start = ap (λ (q : ℕ × ℕ). q.0) e;
-      stop = ap (λ (q : ℕ × ℕ). q.1) e;
-      owned = rw (eq-eqb (down i) (down i) refl, eq-eqb j j refl);
-      back = (
-        high b i (left j),
-        rw e (rw (columns.next_prev j y) at (high_second i (left j) x (columns.prev_below j y))),
-      );
-    }
-    | inr o ↦ elim o [
-      | inl e ↦ record {
-        i = down i;
-        j = j;
-        k = down i;
-        l = right j;
-        column = y;
-        to_column = columns.next_below j y;
-        start = ap (λ (q : ℕ × ℕ). q.0) e;
-        stop = ap (λ (q : ℕ × ℕ). q.1) e;
-        owned = rw (
-          ne_eqb (down i) (down (down i)) (λ q. rows.apart (down i) (rows.next_below i x) (sym q)),
-          eq-eqb (down i) (down i) refl,
-          eq-eqb (right j) (right j) refl,
-          rows.prev_next i x,
-        );
-        back = (high b (down i) j, rw e (high_third (down i) j (rows.next_below i x) y));
-      }
-      | inr e ↦ record {
-        i = down i;
-        j = right j;
-        k = i;
-        l = j;
-        column = columns.next_below j y;
-        to_column = y;
-        start = ap (λ (q : ℕ × ℕ). q.0) e;
-        stop = ap (λ (q : ℕ × ℕ). q.1) e;
-        owned = rw (
-          ne_eqb i (down (down i)) (λ q. rows.far i x (sym q)),
-          ne_eqb i (down i) (λ q. rows.apart i x (sym q)),
-          ne_eqb j (right j) (λ q. columns.apart j y (sym q)),
-        );
-        back = (high b i j, rw e (high_first i j x y));
-      }
-    ]
-  ]
+      (rw (grid.first i j x y) at h)) [
+        | inl e ↦ record {
+          i = i;
+          j = j;
+          k = down i;
+          l = j;
+          column = y;
+          to_column = y;
+          start = ap (λ (q : ℕ × ℕ). q.0) e;
+          stop = ap (λ (q : ℕ × ℕ). q.1) e;
+          owned = rw (eq-eqb (down i) (down i) refl, eq-eqb j j refl);
+          back = (
+            high b i (left j),
+            rw e (rw (columns.next_prev j y) at (high_second i (left j) x (columns.prev_below j y))),
+          );
+        }
+        | inr o ↦ elim o [
+          | inl e ↦ record {
+            i = down i;
+            j = j;
+            k = down i;
+            l = right j;
+            column = y;
+            to_column = columns.next_below j y;
+            start = ap (λ (q : ℕ × ℕ). q.0) e;
+            stop = ap (λ (q : ℕ × ℕ). q.1) e;
+            owned = rw (
+              ne_eqb (down i) (down (down i)) (λ q. rows.apart (down i) (rows.next_below i x) (sym q)),
+              eq-eqb (down i) (down i) refl,
+              eq-eqb (right j) (right j) refl,
+              rows.prev_next i x,
+            );
+            back = (high b (down i) j, rw e (high_third (down i) j (rows.next_below i x) y));
+          }
+          | inr e ↦ record {
+            i = down i;
+            j = right j;
+            k = i;
+            l = j;
+            column = columns.next_below j y;
+            to_column = y;
+            start = ap (λ (q : ℕ × ℕ). q.0) e;
+            stop = ap (λ (q : ℕ × ℕ). q.1) e;
+            owned = rw (
+              ne_eqb i (down (down i)) (λ q. rows.far i x (sym q)),
+              ne_eqb i (down i) (λ q. rows.apart i x (sym q)),
+              ne_eqb j (right j) (λ q. columns.apart j y (sym q)),
+            );
+            back = (high b i j, rw e (high_first i j x y));
+          }
+        ]
+      ]
     where
       rows : IsRound a down up
       rows = grid.rows
@@ -175,58 +174,58 @@ module _ {mesh : Mesh} {a b : ℕ} {down up right left : ℕ → ℕ} (grid : Is
 
   high_way : (i j : ℕ) → i < a → j < b → (p : ℕ × ℕ) → Runs mesh (high b i j) p → Way (high b i j) p
   high_way i j x y p h = elim (run_of (place b i j) (place b (down i) (right j)) (place b i (right j)) p
-    (rw (grid.second i j x y) at h)) [
-    | inl e ↦ record {
-      i = i;
-      j = j;
-      k = down i;
-      l = right j;
-      column = y;
-      to_column = columns.next_below j y;
-      start = ap (λ (q : ℕ × ℕ). q.0) e;
-      stop = ap (λ (q : ℕ × ℕ). q.1) e;
-      owned = rw (eq-eqb (down i) (down i) refl, ne_eqb (right j) j (columns.apart j y));
-      back = (low b i j, rw e (low_third i j x y));
-    }
-    | inr o ↦ elim o [
-      | inl e ↦ record {
-        i = down i;
-        j = right j;
-        k = i;
-        l = right j;
-        column = columns.next_below j y;
-        to_column = columns.next_below j y;
-        start = ap (λ (q : ℕ × ℕ). q.0) e;
-        stop = ap (λ (q : ℕ × ℕ). q.1) e;
-        owned = rw (
-          ne_eqb i (down (down i)) (λ q. rows.far i x (sym q)),
-          ne_eqb i (down i) (λ q. rows.apart i x (sym q)),
-          eq-eqb (right j) (right j) refl,
-          columns.prev_next j y,
-        );
-        back = (low b i (right j), rw e (low_first i (right j) x (columns.next_below j y)));
-      }
-      | inr e ↦ record {
-        i = i;
-        j = right j;
-        k = i;
-        l = j;
-        column = columns.next_below j y;
-        to_column = y;
-        start = ap (λ (q : ℕ × ℕ). q.0) e;
-        stop = ap (λ (q : ℕ × ℕ). q.1) e;
-        owned = rw (
-          ne_eqb i (down i) (λ q. rows.apart i x (sym q)),
-          eq-eqb i i refl,
-          ne_eqb j (right (right j)) (λ q. columns.far j y (sym q)),
-        );
-        back = (
-          low b (up i) j,
-          rw e (rw (rows.next_prev i x) at (low_second (up i) j (rows.prev_below i x) y)),
-        );
-      }
-    ]
-  ]
+      (rw (grid.second i j x y) at h)) [
+        | inl e ↦ record {
+          i = i;
+          j = j;
+          k = down i;
+          l = right j;
+          column = y;
+          to_column = columns.next_below j y;
+          start = ap (λ (q : ℕ × ℕ). q.0) e;
+          stop = ap (λ (q : ℕ × ℕ). q.1) e;
+          owned = rw (eq-eqb (down i) (down i) refl, ne_eqb (right j) j (columns.apart j y));
+          back = (low b i j, rw e (low_third i j x y));
+        }
+        | inr o ↦ elim o [
+          | inl e ↦ record {
+            i = down i;
+            j = right j;
+            k = i;
+            l = right j;
+            column = columns.next_below j y;
+            to_column = columns.next_below j y;
+            start = ap (λ (q : ℕ × ℕ). q.0) e;
+            stop = ap (λ (q : ℕ × ℕ). q.1) e;
+            owned = rw (
+              ne_eqb i (down (down i)) (λ q. rows.far i x (sym q)),
+              ne_eqb i (down i) (λ q. rows.apart i x (sym q)),
+              eq-eqb (right j) (right j) refl,
+              columns.prev_next j y,
+            );
+            back = (low b i (right j), rw e (low_first i (right j) x (columns.next_below j y)));
+          }
+          | inr e ↦ record {
+            i = i;
+            j = right j;
+            k = i;
+            l = j;
+            column = columns.next_below j y;
+            to_column = y;
+            start = ap (λ (q : ℕ × ℕ). q.0) e;
+            stop = ap (λ (q : ℕ × ℕ). q.1) e;
+            owned = rw (
+              ne_eqb i (down i) (λ q. rows.apart i x (sym q)),
+              eq-eqb i i refl,
+              ne_eqb j (right (right j)) (λ q. columns.far j y (sym q)),
+            );
+            back = (
+              low b (up i) j,
+              rw e (rw (rows.next_prev i x) at (low_second (up i) j (rows.prev_below i x) y)),
+            );
+          }
+        ]
+      ]
     where
       rows : IsRound a down up
       rows = grid.rows
@@ -252,7 +251,7 @@ module _ {mesh : Mesh} {a b : ℕ} {down up right left : ℕ → ℕ} (grid : Is
       ∙ owner_same (owner down up right left b) s.i s.j s.k s.l t.i t.j t.k t.l one.0 one.1 two.0 two.1
       ∙ t.owned
 
-  faces_are_triangles : (f : ℕ) → f < face_count mesh → IsFace mesh.vertices (face_at mesh f)
+  pub faces_are_triangles : (f : ℕ) → f < face_count mesh → IsFace mesh.vertices (face_at mesh f)
   faces_are_triangles f in' =
       let (i, j, x, y, o) = grid.faces f in' in
       elim o [
@@ -337,30 +336,30 @@ module _ {mesh : Mesh} {a b : ℕ} {down up right left : ℕ → ℕ} (grid : Is
       elim o [
         | inl e ↦ elim (corner_of (place b k l) (place b (down k) l) (place b (down k) (right l)) (place b i j)
             (subst (λ face. Contains face (place b i j)) (ap (face_at mesh) e ∙ grid.first k l kx ly) h.1)) [
-          | inl c ↦ let s = same_from_place i j k l b y ly c in inl (e ∙ cc (sym s.0, sym s.1))
-          | inr c ↦ elim c [
-            | inl d ↦ let s = same_from_place i j (down k) l b y ly d in
-                let r : k ≡ up i = sym (grid.rows.prev_next k kx) ∙ ap up (sym s.0) in
-                inr (inr (inl (e ∙ cc (r, sym s.1))))
-            | inr d ↦ let s = same_from_place i j (down k) (right l) b y (grid.columns.next_below l ly) d in
-                let r : k ≡ up i = sym (grid.rows.prev_next k kx) ∙ ap up (sym s.0) in
-                let t : l ≡ left j = sym (grid.columns.prev_next l ly) ∙ ap left (sym s.1) in
-                inr (inr (inr (inr (inl (e ∙ cc (r, t))))))
-          ]
-        ]
+              | inl c ↦ let s = same_from_place i j k l b y ly c in inl (e ∙ cc (sym s.0, sym s.1))
+              | inr c ↦ elim c [
+                | inl d ↦ let s = same_from_place i j (down k) l b y ly d in
+                    let r : k ≡ up i = sym (grid.rows.prev_next k kx) ∙ ap up (sym s.0) in
+                    inr (inr (inl (e ∙ cc (r, sym s.1))))
+                | inr d ↦ let s = same_from_place i j (down k) (right l) b y (grid.columns.next_below l ly) d in
+                    let r : k ≡ up i = sym (grid.rows.prev_next k kx) ∙ ap up (sym s.0) in
+                    let t : l ≡ left j = sym (grid.columns.prev_next l ly) ∙ ap left (sym s.1) in
+                    inr (inr (inr (inr (inl (e ∙ cc (r, t))))))
+              ]
+            ]
         | inr e ↦ elim (corner_of (place b k l) (place b (down k) (right l)) (place b k (right l)) (place b i j)
             (subst (λ face. Contains face (place b i j)) (ap (face_at mesh) e ∙ grid.second k l kx ly) h.1)) [
-          | inl c ↦ let s = same_from_place i j k l b y ly c in inr (inl (e ∙ cc (sym s.0, sym s.1)))
-          | inr c ↦ elim c [
-            | inl d ↦ let s = same_from_place i j (down k) (right l) b y (grid.columns.next_below l ly) d in
-                let r : k ≡ up i = sym (grid.rows.prev_next k kx) ∙ ap up (sym s.0) in
-                let t : l ≡ left j = sym (grid.columns.prev_next l ly) ∙ ap left (sym s.1) in
-                inr (inr (inr (inl (e ∙ cc (r, t)))))
-            | inr d ↦ let s = same_from_place i j k (right l) b y (grid.columns.next_below l ly) d in
-                let t : l ≡ left j = sym (grid.columns.prev_next l ly) ∙ ap left (sym s.1) in
-                inr (inr (inr (inr (inr (inl (e ∙ cc (sym s.0, t)))))))
-          ]
-        ]
+              | inl c ↦ let s = same_from_place i j k l b y ly c in inr (inl (e ∙ cc (sym s.0, sym s.1)))
+              | inr c ↦ elim c [
+                | inl d ↦ let s = same_from_place i j (down k) (right l) b y (grid.columns.next_below l ly) d in
+                    let r : k ≡ up i = sym (grid.rows.prev_next k kx) ∙ ap up (sym s.0) in
+                    let t : l ≡ left j = sym (grid.columns.prev_next l ly) ∙ ap left (sym s.1) in
+                    inr (inr (inr (inl (e ∙ cc (r, t)))))
+                | inr d ↦ let s = same_from_place i j k (right l) b y (grid.columns.next_below l ly) d in
+                    let t : l ≡ left j = sym (grid.columns.prev_next l ly) ∙ ap left (sym s.1) in
+                    inr (inr (inr (inr (inr (inl (e ∙ cc (sym s.0, t)))))))
+              ]
+            ]
       ]
 
   -- each vertex is a corner of the first face of its cell

@@ -1,8 +1,8 @@
 -- Lists of faces whose neighbours are related, and chains among faces with a property.
-use Rattle.std.proofs.Common.{◌≡◌, ◌≢◌, ℕ, ◌<◌, true, List, [], ◌∷◌, ◌++◌, ◌⊎◌, refl, sym, ap, ◌∙◌, inl, inr, subst, Contains}
+use Rattle.std.proofs.Common.{◌≡◌, ◌≢◌, ℕ, ◌<◌, List, [], ◌∷◌, ◌++◌, ◌⊎◌, sym, inl, inr, subst}
 use Rattle.surf_complex.specs.Joined.{Joined, here, over}
 use Rattle.surf_complex.specs.Mesh.{Mesh, pair}
-use Rattle.surf_complex.specs.Surface.{face_at, has_side, HasCorner, HasEdge, Share, ShareAt}
+use Rattle.surf_complex.specs.Surface.{face_at, HasCorner, HasEdge, Share, ShareAt}
 use Rattle.surf_complex.proofs.FaceLaws.{pair_comm}
 use Rattle.surf_complex.proofs.JoinedLaws.{joined_trans, joined_sym}
 use Rattle.surf_complex.proofs.SurfaceLaws.{has_side-face}

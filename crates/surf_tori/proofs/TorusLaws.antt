@@ -1,22 +1,17 @@
 -- The torus of a by b squares is a surface of characteristic 0.
-use Rattle.std.proofs.Common.{◌≡◌, ◌≢◌, ℕ, zero, suc, ◌+◌, ◌-◌, ◌*◌, ◌/◌, ◌%◌, ◌<◌, ◌≤◌, true, false, List, [], ◌∷◌, ◌⊎◌, length, get_or, refl, sym, ap, ◌∙◌, arith, inl, inr, subst}
-use Rattle.std.specs.List.{flat_map, range_with_len, sum_by, AllByRecursion}
-use Rattle.std.specs.Prelude.{pos, ◌+ℤ◌, ◌-ℤ◌}
+use Rattle.std.proofs.Common.{◌≡◌, ◌≢◌, ℕ, zero, suc, ◌+◌, ◌*◌, ◌/◌, ◌%◌, ◌<◌, ◌≤◌, List, [], ◌∷◌, ◌++◌, ◌⊎◌, length, get_or, refl, sym, ap, ◌∙◌, arith, inl, inr, subst}
+use Rattle.std.specs.List.{flat_map, range_with_len, sum_by}
 use Rattle.std.proofs.Math.Nat.{mod-eq_of_lt, mod_self}
-use Rattle.std.proofs.Math.IntN.{neg_ℤ, +ℤ_assoc, +ℤ_comm, pos-+ℤ-pos, +ℤ-neg_ℤ_cancel}
-use Rattle.std.proofs.lemmas.Bool.{cases_lt, cases_eq, lt-ltb, le-ltb, eq-eqb, ne_eqb}
+use Rattle.std.proofs.lemmas.Bool.{cases_lt, cases_eq, lt-ltb, le-ltb}
 use Rattle.std.proofs.lemmas.Nat.{div-mul-add, mod-mul-add, div-add-mod', div_below, mod_below}
 use Rattle.std.proofs.lemmas.List.FromFn.{length-range_with_len, get_or-range_with_len}
-use Rattle.std.proofs.lemmas.List.Elements.{All-from_get_or, recursion_from_All}
 use Rattle.std.proofs.lemmas.List.Sums.{sum_by-cons}
-use Rattle.surf_complex.specs.Mesh.{Mesh, characteristic}
+use Rattle.surf_complex.specs.Mesh.{IsFace}
 use Rattle.surf_complex.specs.Side.{after, before}
-use Rattle.surf_complex.specs.Surface.{face_count, edge_count, face_at, IsSurface}
-use Rattle.surf_complex.proofs.CountLaws.{sizes_twice}
+use Rattle.surf_complex.specs.Surface.{face_count, face_at}
 use Rattle.surf_complex.proofs.SideLaws.{after-below, before-below, after-before, before-after}
-use Rattle.surf_tori.specs.Torus.{grid_vertex, first_face, second_face, cell_faces, torus_faces, torus, ToriAreSurfaces, ToriHaveCharacteristicZero}
-use Rattle.surf_tori.proofs.CoherentLaws.{coherent_edges_have_two_faces}
-use Rattle.surf_tori.proofs.GridLaws.{IsRound, place, low, high, place_in, IsGrid, grid_is_coherent, grid_no_isolated, grid_fans, grid_is_connected, grid_is_surface, grid_triangles}
+use Rattle.surf_tori.specs.Torus.{grid_vertex, first_face, second_face, cell_faces, torus, CellsAreFaces, ToriAreSurfaces, ToriHaveCharacteristicZero}
+use Rattle.surf_tori.proofs.GridLaws.{IsRound, place, low, high, place_in, IsGrid, faces_are_triangles, grid_is_surface, grid_triangles}
 use Rattle.surf_tori.proofs.EulerLaws.{triangle_edges, characteristic_less}
 
 -- going round by one place
@@ -131,11 +126,16 @@ module _ (a b : ℕ) (wide : 3 ≤ a) (high_enough : 3 ≤ b) where
       let small : r < 2 = mod_below f 2 (omega arith) in
       let whole : c * 2 + r ≡ f = div-add-mod' f 2 in
       let all = count in
-      let (i, j, x, y, e) = cell_of c (div_below f 2 (a * b) (omega arith) (omega (arith, all, h))) in
-      (i, j, x, y, elim (cases_eq r 0) [
-        | inl even ↦ inl (omega (arith, even, whole, e))
-        | inr odd ↦ inr (omega (arith, odd, small, whole, e))
-      ])
+      let (i, j, x, y, e) = cell_of c (div_below f 2 (a * b) (omega arith) (omega (arith, all, h))) in (
+        i,
+        j,
+        x,
+        y,
+        elim (cases_eq r 0) [
+          | inl even ↦ inl (omega (arith, even, whole, e))
+          | inr odd ↦ inr (omega (arith, odd, small, whole, e))
+        ],
+      )
 
   pub torus_is_grid : IsGrid (torus a b) a b (after a) (before a) (after b) (before b)
   torus_is_grid = record {
@@ -159,3 +159,50 @@ tori_have_characteristic_zero a b x y =
     let faces : face_count (torus a b) ≡ 2 * (a * b) = count a b x y in
     let edges = triangle_edges (torus a b) (grid_is_surface grid) (grid_triangles grid) in
     characteristic_less (torus a b) 2 (omega (arith, faces, edges))
+
+pub cells_are_faces : (a b : ℕ) → 3 ≤ a → 3 ≤ b → CellsAreFaces a b
+cells_are_faces a b x y = record { first = λ cell in'. (at cell in').0; second = λ cell in'. (at cell in').1 }
+  where
+    at : (cell : ℕ) → cell < a * b →
+        IsFace (a * b) (first_face a b (cell / b) (cell % b)) × IsFace (a * b) (second_face a b (cell / b) (cell % b))
+    at cell in' =
+        let grid = torus_is_grid a b x y in
+        let i = cell / b in
+        let j = cell % b in
+        let row : i < a = div_below cell b a (omega arith) in' in
+        let column : j < b = mod_below cell b (omega arith) in
+        let is = cell_at a b x y i j row column in (
+          subst (IsFace (a * b)) is.0 (faces_are_triangles grid (low b i j) (grid.first_in i j row column)),
+          subst (IsFace (a * b)) is.1 (faces_are_triangles grid (high b i j) (grid.second_in i j row column)),
+        )
+
+range_more : (n k : ℕ) → range_with_len n (k + 1) ≡ range_with_len n k ++ (n + k) ∷ []
+range_more n zero = ap (λ m. m ∷ []) (omega arith)
+range_more n (suc k) =
+    let e : suc k + 1 ≡ suc (k + 1) = omega arith in
+    let s : n + 1 + k ≡ n + suc k = omega arith in
+    ap (range_with_len n) e ∙ ap (λ xs. n ∷ xs) (range_more (n + 1) k)
+    ∙ ap (λ m. n ∷ (range_with_len (n + 1) k ++ m ∷ [])) s
+
+two_more : {X : Type 0} (f g : ℕ → X) (xs : List ℕ) (n : ℕ) → flat_map (λ c. f c ∷ g c ∷ []) (xs ++ n ∷ [])
+    ≡ flat_map (λ c. f c ∷ g c ∷ []) xs ++ f n ∷ g n ∷ []
+two_more f g [] n = refl
+two_more f g (x ∷ xs) n = ap (λ ys. f x ∷ g x ∷ ys) (two_more f g xs n)
+
+-- the faces of one cell more
+pub cells_more : (a b n : ℕ) → flat_map (cell_faces a b) (range_with_len 0 (n + 1))
+    ≡ flat_map (cell_faces a b) (range_with_len 0 n) ++ cell_faces a b n
+cells_more a b n =
+    ap (flat_map (cell_faces a b)) (range_more 0 n ∙ ap (λ m. range_with_len 0 n ++ m ∷ []) (omega arith))
+    ∙ two_more (λ c. first_face a b (c / b) (c % b)) (λ c. second_face a b (c / b) (c % b)) (range_with_len 0 n) n
+
+-- each cell has six sides
+pub cells_sides : (a b : ℕ) (cells : List ℕ) → sum_by length (flat_map (cell_faces a b) cells) ≡ 6 * length cells
+cells_sides a b [] = refl
+cells_sides a b (x ∷ xs) =
+    let rest = flat_map (cell_faces a b) xs in
+    let first = first_face a b (x / b) (x % b) in
+    let second = second_face a b (x / b) (x % b) in
+    let one = sum_by-cons {X = List ℕ} length first (second ∷ rest) in
+    let two = sum_by-cons {X = List ℕ} length second rest in
+    omega (arith, one, two, cells_sides a b xs)

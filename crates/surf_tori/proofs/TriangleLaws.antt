@@ -1,10 +1,10 @@
 -- Triangles by their corners.
-use Rattle.std.proofs.Common.{◌≡◌, ◌≢◌, ℕ, zero, suc, ◌<◌, true, false, ◌||◌, List, [], ◌∷◌, ◌⊎◌, length, get_or, refl, sym, ap, ◌∙◌, arith, inl, inr, subst, AllPairs, Contains}
+use Rattle.std.proofs.Common.{◌≡◌, ◌≢◌, ℕ, zero, suc, ◌<◌, true, false, ◌||◌, [], ◌∷◌, ◌⊎◌, get_or, sym, arith, inl, inr, AllPairs, Contains}
 use Rattle.std.proofs.lemmas.Bool.{or_cases, or_left, or_right, true≢false}
 use Rattle.std.proofs.lemmas.List.Elements.{All-from_recursion}
-use Rattle.surf_complex.specs.Mesh.{Mesh, IsFace, pair, pair_of, pair_eq}
-use Rattle.surf_complex.specs.Surface.{face_at, has_side, runs}
-use Rattle.surf_complex.proofs.PairLaws.{pair_eq-true, pair_eq-self, pair_eq-same, pair_same}
+use Rattle.surf_complex.specs.Mesh.{IsFace, pair_eq}
+use Rattle.surf_complex.specs.Surface.{runs}
+use Rattle.surf_complex.proofs.PairLaws.{pair_eq-true, pair_eq-self}
 
 -- three different vertices are a face
 three_differ : (a b c : ℕ) → a ≢ b → a ≢ c → b ≢ c → AllPairs (λ u v. u ≢ v) (a ∷ b ∷ c ∷ [])

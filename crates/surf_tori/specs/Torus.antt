@@ -1,7 +1,7 @@
 -- Tori of a by b squares, each cut into two triangles.
-use Rattle.std.specs.Prelude.{◌≡◌, ℕ, ◌+◌, ◌*◌, ◌/◌, ◌%◌, ◌≤◌, List, [], ◌∷◌, flat_map, pos}
+use Rattle.std.specs.Prelude.{◌≡◌, ℕ, ◌+◌, ◌*◌, ◌/◌, ◌%◌, ◌<◌, ◌≤◌, List, [], ◌∷◌, flat_map, pos}
 use Rattle.std.specs.List.{range_with_len}
-use Rattle.surf_complex.specs.Mesh.{Mesh, characteristic}
+use Rattle.surf_complex.specs.Mesh.{Mesh, IsFace, characteristic}
 use Rattle.surf_complex.specs.Surface.{IsSurface}
 
 -- the vertex in a row and a column; rows are taken modulo a, and columns modulo b
@@ -37,3 +37,8 @@ ToriAreSurfaces = (a b : ℕ) → 3 ≤ a → 3 ≤ b → IsSurface (torus a b)
 -- of characteristic 0
 abbrev pub ToriHaveCharacteristicZero : Type 0
 ToriHaveCharacteristicZero = (a b : ℕ) → 3 ≤ a → 3 ≤ b → characteristic (torus a b) ≡ pos 0
+
+-- the two faces of each cell are faces over its vertices
+pub record CellsAreFaces (a b : ℕ) : Type 0 where
+  pub first : (cell : ℕ) → cell < a * b → IsFace (a * b) (first_face a b (cell / b) (cell % b))
+  pub second : (cell : ℕ) → cell < a * b → IsFace (a * b) (second_face a b (cell / b) (cell % b))

@@ -8,8 +8,9 @@
 //! Each law is the contract of a function that does nothing.
 #![tactic(auto)]
 
+ghost use Rattle.std.specs.Prelude.{ℕ, ◌≤◌};
 ghost use Rattle.surf_tori.specs.Coherent.{CoherentEdgesHaveTwoFaces};
-ghost use Rattle.surf_tori.specs.Torus.{ToriAreSurfaces, ToriHaveCharacteristicZero};
+ghost use Rattle.surf_tori.specs.Torus.{CellsAreFaces, ToriAreSurfaces, ToriHaveCharacteristicZero};
 
 /// Coherently oriented meshes.
 pub fn law_of_coherence()
@@ -20,4 +21,5 @@ pub fn law_of_coherence()
 pub fn law_of_tori()
     ensures surfaces { ToriAreSurfaces }
     ensures characteristic { ToriHaveCharacteristicZero }
+    ensures faces { (a b : ℕ) → 3 ≤ a → 3 ≤ b → CellsAreFaces a b }
 {}
