@@ -4,3 +4,7 @@ pub mod TriangleLaws
 pub mod LinkLaws
 pub mod GridLaws
 pub mod TorusLaws
+pub mod RenamedLaws
+pub mod GluedLaws
+pub mod OpenLaws
+pub mod GluedFans
