@@ -11,7 +11,7 @@ use Rattle.surf_tori.proofs.CoherentLaws.{some_way, coherent_edges_have_two_face
 use Rattle.surf_tori.proofs.LinkLaws.{KeptShareAt, KeptShare, HasKeptFans, kept_share_at_turned, edge_out, edge_back, share_in_out}
 use Rattle.surf_tori.proofs.RenamedLaws.{joined_map, corner_of_renamed, corner_renamed, run_corners, run_face, across}
 use Rattle.surf_tori.proofs.TriangleLaws.{OneOf, corner_of}
-use Rattle.surf_tori.proofs.OpenLaws.{CanLose, edge_run, others_joined}
+use Rattle.surf_tori.proofs.OpenLaws.{Losing, edge_run, others_joined}
 use Rattle.surf_tori.proofs.GluedLaws.{IsGlued, f_first, f_second, f_third, h_first, h_second, h_third, left_runs, right_runs, first_below, second_below, shared, glued_is_coherent}
 
 -- the faces of K that come from kept ones
@@ -328,7 +328,7 @@ module _ {M N K : Mesh} {f h : ℕ} {name left right : ℕ → ℕ} {a0 a1 a2 b0
 
 -- joined along a triangle that each can lose, two surfaces are one
 pub glued_is_surface : {M N K : Mesh} {f h : ℕ} {name left right : ℕ → ℕ} {a0 a1 a2 b0 b1 b2 : ℕ} →
-    IsGlued M N K f h name left right a0 a1 a2 b0 b1 b2 → CanLose M f b0 b1 b2 → CanLose N h a0 a1 a2 → IsSurface K
+    IsGlued M N K f h name left right a0 a1 a2 b0 b1 b2 → Losing M f b0 b1 b2 → Losing N h a0 a1 a2 → IsSurface K
 glued_is_surface {M} {N} {K} {f} {h} {name} {left} {right} glued first second =
     let coherent = glued_is_coherent glued first.coherent second.coherent in
     let fans = glued_fans glued first.coherent second.coherent (λ g. g ≢ f) (λ k. k ≢ h) (λ g x. x) (λ k x. x)

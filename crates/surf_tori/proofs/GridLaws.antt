@@ -1,7 +1,7 @@
 -- A grid of cells that closes in both directions, two triangles a cell, is a surface.
 use Rattle.std.proofs.Common.{◌≡◌, ◌≢◌, ℕ, zero, suc, ◌+◌, ◌*◌, ◌<◌, cond, eqb, List, [], ◌∷◌, ◌⊎◌, length, refl, sym, ap, ◌∙◌, arith, inl, inr, subst, Contains}
 use Rattle.std.proofs.Math.Nat.{mul_comm}
-use Rattle.std.proofs.lemmas.Bool.{eq-eqb, ne_eqb}
+use Rattle.std.proofs.lemmas.Bool.{eq-eqb, ne_eqb, cases_eq}
 use Rattle.std.proofs.lemmas.Nat.{same_from_place, mul-add-lt}
 use Rattle.std.proofs.lemmas.List.Elements.{All-from_get_or}
 use Rattle.surf_complex.specs.Joined.{Joined, here, over}
@@ -11,7 +11,7 @@ use Rattle.surf_complex.proofs.JoinedLaws.{joined_trans, joined_sym, joined_lift
 use Rattle.surf_complex.proofs.SurfaceLaws.{has_side-face}
 use Rattle.surf_tori.specs.Coherent.{Runs, IsCoherent}
 use Rattle.surf_tori.proofs.CoherentLaws.{runs_side, coherent_edges_have_two_faces}
-use Rattle.surf_tori.proofs.LinkLaws.{Member, linked_members, KeptShareAt, HasKeptFans, kept_share_at_turned, share_in_out, share_run}
+use Rattle.surf_tori.proofs.LinkLaws.{Member, member_turn, member_but_last, linked_members, KeptShareAt, HasKeptFans, kept_share_at_turned, share_in_out, share_run}
 use Rattle.surf_tori.proofs.TriangleLaws.{triangle, corner_of, run_of, runs_first, runs_second, runs_third}
 
 -- going round n places, at least three, forwards and backwards
@@ -384,6 +384,86 @@ module _ {mesh : Mesh} {a b : ℕ} {down up right left : ℕ → ℕ} (grid : Is
       (kept_share_at_turned mesh (λ h. Unit {0}) (place b i j)) (ring i j)
       ((tt, tt, r.first), ((tt, tt, r.second), ((tt, tt, r.third), ((tt, tt, r.fourth), ((tt, tt, r.fifth), tt)))))
       f g (in_ring i j f x y (subst (HasCorner mesh f) e cf)) (in_ring i j g x y (subst (HasCorner mesh g) e cg)))
+
+  -- five faces round a place, of which the sixth is left out
+  arc : (v o a0 a1 a2 a3 a4 a5 : ℕ) → ShareAt mesh v a0 a1 → ShareAt mesh v a1 a2 → ShareAt mesh v a2 a3 →
+      ShareAt mesh v a3 a4 → a0 ≢ o → a1 ≢ o → a2 ≢ o → a3 ≢ o → a4 ≢ o → o ≡ a5 → (f g : ℕ) → f ≢ o → g ≢ o →
+      Member f (a0 ∷ a1 ∷ a2 ∷ a3 ∷ a4 ∷ a5 ∷ []) → Member g (a0 ∷ a1 ∷ a2 ∷ a3 ∷ a4 ∷ a5 ∷ []) →
+      Joined (KeptShareAt mesh (λ h. h ≢ o) v) f g
+  arc v o a0 a1 a2 a3 a4 a5 s t u w n0 n1 n2 n3 n4 last f g nf ng mf mg =
+      linked_members (KeptShareAt mesh (λ h. h ≢ o) v) (kept_share_at_turned mesh (λ h. h ≢ o) v)
+      (a0 ∷ a1 ∷ a2 ∷ a3 ∷ a4 ∷ []) ((n0, n1, s), ((n1, n2, t), ((n2, n3, u), ((n3, n4, w), tt)))) f g
+      (member_but_last f a5 (a0 ∷ a1 ∷ a2 ∷ a3 ∷ a4 ∷ []) mf (λ e. nf (e ∙ sym last)))
+      (member_but_last g a5 (a0 ∷ a1 ∷ a2 ∷ a3 ∷ a4 ∷ []) mg (λ e. ng (e ∙ sym last)))
+
+  low_row : (i j k l : ℕ) → j < b → l < b → i ≢ k → low b i j ≢ low b k l
+  low_row i j k l x y apart e = row_apart b i j k l x y apart (omega (arith, e))
+
+  low_column : (i j k l : ℕ) → j < b → l < b → j ≢ l → low b i j ≢ low b k l
+  low_column i j k l x y apart e = column_apart b i j k l x y apart (omega (arith, e))
+
+  high_low : (i j k l : ℕ) → high b i j ≢ low b k l
+  high_low i j k l e = omega (arith, e)
+
+  -- the faces at a place but the first face of a cell stay joined without it
+  fan_without : (c d i j : ℕ) → i < a → j < b → (f g : ℕ) → f ≢ low b c d → g ≢ low b c d →
+      HasCorner mesh f (place b i j) → HasCorner mesh g (place b i j) →
+      Joined (KeptShareAt mesh (λ h. h ≢ low b c d) (place b i j)) f g
+  fan_without c d i j x y f g nf ng cf cg =
+      let o = low b c d in
+      let v = place b i j in
+      let u = up i in
+      let l = left j in
+      let r = ring_at i j x y in
+      let ux : u < a = grid.rows.prev_below i x in
+      let ly : l < b = grid.columns.prev_below j y in
+      let up_apart : i ≢ u = λ e. grid.rows.apart u ux (grid.rows.next_prev i x ∙ e) in
+      let left_apart : j ≢ l = λ e. grid.columns.apart l ly (grid.columns.next_prev j y ∙ e) in
+      let a0 = low b i j in
+      let a1 = high b i j in
+      let a2 = low b u j in
+      let a3 = high b u l in
+      let a4 = low b u l in
+      let a5 = high b i l in
+      let apart02 : a0 ≢ a2 = low_row i j u j y y up_apart in
+      let apart04 : a0 ≢ a4 = low_row i j u l y ly up_apart in
+      let apart24 : a2 ≢ a4 = low_column u j u l y ly left_apart in
+      let n1 : a1 ≢ o = high_low i j c d in
+      let n3 : a3 ≢ o = high_low u l c d in
+      let n5 : a5 ≢ o = high_low i l c d in
+      let mf = in_ring i j f x y cf in
+      let mg = in_ring i j g x y cg in
+      elim (cases_eq o a0) [
+        | inl is0 ↦ arc v o a1 a2 a3 a4 a5 a0 r.second r.third r.fourth r.fifth n1 (λ e. apart02 (sym (e ∙ is0))) n3
+            (λ e. apart04 (sym (e ∙ is0))) n5 is0 f g nf ng
+            (member_turn f (a0 ∷ []) (a1 ∷ a2 ∷ a3 ∷ a4 ∷ a5 ∷ []) mf)
+            (member_turn g (a0 ∷ []) (a1 ∷ a2 ∷ a3 ∷ a4 ∷ a5 ∷ []) mg)
+        | inr n0 ↦ elim (cases_eq o a2) [
+          | inl is2 ↦ arc v o a3 a4 a5 a0 a1 a2 r.fourth r.fifth r.sixth r.first n3 (λ e. apart24 (sym (e ∙ is2))) n5
+              (λ e. n0 (sym e)) n1 is2 f g nf ng
+              (member_turn f (a0 ∷ a1 ∷ a2 ∷ []) (a3 ∷ a4 ∷ a5 ∷ []) mf)
+              (member_turn g (a0 ∷ a1 ∷ a2 ∷ []) (a3 ∷ a4 ∷ a5 ∷ []) mg)
+          | inr n2 ↦ elim (cases_eq o a4) [
+            | inl is4 ↦ arc v o a5 a0 a1 a2 a3 a4 r.sixth r.first r.second r.third n5 (λ e. n0 (sym e)) n1
+                (λ e. n2 (sym e)) n3 is4 f g nf ng
+                (member_turn f (a0 ∷ a1 ∷ a2 ∷ a3 ∷ a4 ∷ []) (a5 ∷ []) mf)
+                (member_turn g (a0 ∷ a1 ∷ a2 ∷ a3 ∷ a4 ∷ []) (a5 ∷ []) mg)
+            | inr n4 ↦
+                let m0 : a0 ≢ o = λ e. n0 (sym e) in
+                let m2 : a2 ≢ o = λ e. n2 (sym e) in
+                let m4 : a4 ≢ o = λ e. n4 (sym e) in
+                linked_members (KeptShareAt mesh (λ h. h ≢ o) v) (kept_share_at_turned mesh (λ h. h ≢ o) v) (ring i j)
+                ((m0, n1, r.first), ((n1, m2, r.second), ((m2, n3, r.third), ((n3, m4, r.fourth), ((m4, n5, r.fifth),
+                tt))))) f g mf mg
+          ]
+        ]
+      ]
+
+  pub grid_fans_without : (c d : ℕ) → HasKeptFans mesh (λ f. f ≢ low b c d)
+  grid_fans_without c d v in' f g nf ng cf cg =
+      let (i, j, x, y, e) = grid.corners v in' in
+      subst (λ w. Joined (KeptShareAt mesh (λ h. h ≢ low b c d) w) f g) (sym e)
+      (fan_without c d i j x y f g nf ng (subst (HasCorner mesh f) e cf) (subst (HasCorner mesh g) e cg))
 
   -- from cell to cell along a row, and from row to row
   to_the_right : (i j : ℕ) → i < a → j < b → Joined (Share mesh) (low b i j) (low b i (right j))

@@ -8,3 +8,5 @@ pub mod RenamedLaws
 pub mod GluedLaws
 pub mod OpenLaws
 pub mod GluedFans
+pub mod RankLaws
+pub mod SumLaws

@@ -15,7 +15,7 @@ use Rattle.surf_tori.proofs.TriangleLaws.{run_of, runs_first}
 use Rattle.surf_complex.proofs.FaceLaws.{pair_comm}
 
 -- what stays joined where the triangle f is left out
-pub record CanLose (mesh : Mesh) (f b0 b1 b2 : ℕ) : Type 0 where
+pub record Losing (mesh : Mesh) (f b0 b1 b2 : ℕ) : Type 0 where
   pub coherent : IsCoherent mesh
   pub triangle : face_at mesh f ≡ b0 ∷ b1 ∷ b2 ∷ []
   pub no_isolated : (v : ℕ) → v < mesh.vertices → (g : ℕ) × HasCorner mesh g v
@@ -34,7 +34,7 @@ edge_run p face h =
 pub share_of : (mesh : Mesh) (Kept : ℕ → Type 0) (v g k : ℕ) → KeptShareAt mesh Kept v g k → KeptShare mesh Kept g k
 share_of mesh Kept v g k h = (h.0, h.1, (pair v h.2.0, h.2.1, h.2.2))
 
-module _ {mesh : Mesh} {f b0 b1 b2 : ℕ} (can : CanLose mesh f b0 b1 b2) where
+module _ {mesh : Mesh} {f b0 b1 b2 : ℕ} (can : Losing mesh f b0 b1 b2) where
   abbrev Chain : ℕ → ℕ → Type 0
   Chain = Joined (KeptShare mesh (λ g. g ≢ f))
 

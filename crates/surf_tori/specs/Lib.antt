@@ -1,2 +1,3 @@
 pub mod Coherent
 pub mod Torus
+pub mod ConnectedSum
