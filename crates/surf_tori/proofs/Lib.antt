@@ -10,3 +10,4 @@ pub mod OpenLaws
 pub mod GluedFans
 pub mod RankLaws
 pub mod SumLaws
+pub mod ChainLaws

@@ -74,7 +74,7 @@ two_long f g (x ∷ xs) =
     ap (λ n. suc (suc n)) r ∙ sym e
 
 module _ (a b : ℕ) (wide : 3 ≤ a) (high_enough : 3 ≤ b) where
-  count : face_count (torus a b) ≡ 2 * (a * b)
+  pub count : face_count (torus a b) ≡ 2 * (a * b)
   count = two_long (λ c. first_face a b (c / b) (c % b)) (λ c. second_face a b (c / b) (c % b))
       (range_with_len 0 (a * b)) ∙ ap (λ n. 2 * n) (length-range_with_len 0 (a * b))
 
@@ -175,6 +175,19 @@ cells_are_faces a b x y = record { first = λ cell in'. (at cell in').0; second 
           subst (IsFace (a * b)) is.0 (faces_are_triangles grid (low b i j) (grid.first_in i j row column)),
           subst (IsFace (a * b)) is.1 (faces_are_triangles grid (high b i j) (grid.second_in i j row column)),
         )
+
+-- the two faces of a cell have its number, twice, and one more
+pub cell_faces_at : (a b cell : ℕ) → 3 ≤ a → 3 ≤ b → cell < a * b →
+    (face_at (torus a b) (2 * cell) ≡ first_face a b (cell / b) (cell % b))
+    × (face_at (torus a b) (2 * cell + 1) ≡ second_face a b (cell / b) (cell % b))
+cell_faces_at a b cell x y in' =
+    let i = cell / b in
+    let j = cell % b in
+    let is = cell_at a b x y i j (div_below cell b a (omega arith) in') (mod_below cell b (omega arith)) in
+    let n : i * b + j ≡ cell = div-add-mod' cell b in (
+      ap (λ c. face_at (torus a b) (2 * c)) (sym n) ∙ is.0,
+      ap (λ c. face_at (torus a b) (2 * c + 1)) (sym n) ∙ is.1,
+    )
 
 range_more : (n k : ℕ) → range_with_len n (k + 1) ≡ range_with_len n k ++ (n + k) ∷ []
 range_more n zero = ap (λ m. m ∷ []) (omega arith)
