@@ -1,0 +1,63 @@
+//! Rows and columns that close into a torus.
+ghost use Rattle.std.specs.Prelude.{◌≡◌, ◌<◌, ◌≤◌, ◌*◌, ◌/◌, ◌%◌};
+ghost use Rattle.surf_complex.specs.Mesh.{IsFace};
+ghost use Rattle.surf_tori.specs.Torus.{grid_vertex, first_face, second_face};
+
+use surf_base::VertexId;
+
+/// A number of rows and of columns.
+#[derive(Clone, Copy)]
+pub struct Grid {
+    pub rows: u32,
+    pub columns: u32,
+}
+
+impl Grid {
+    // The vertex in a row and a column, each taken modulo how many there are.
+    fn vertex(self, row: u32, column: u32) -> VertexId
+        requires rows { 3 ≤ self.rows }
+        requires columns { 3 ≤ self.columns }
+        requires few { self.rows * self.columns ≤ 1000000 }
+        ensures vertex { result ≡ grid_vertex self.rows self.columns row column }
+    {
+        VertexId::new(row % self.rows * self.columns + column % self.columns)
+    }
+
+    /// The first face of the cell of a number.
+    pub fn first_face(self, cell: u32) -> [VertexId; 3]
+        requires rows { 3 ≤ self.rows }
+        requires columns { 3 ≤ self.columns }
+        requires few { self.rows * self.columns ≤ 1000000 }
+        requires cell { cell < self.rows * self.columns }
+        ensures corners { result ≡ first_face self.rows self.columns (cell / self.columns) (cell % self.columns) }
+        ensures face { IsFace (self.rows * self.columns) result }
+    {
+        surf_tori::law_of_tori();
+        let row = cell / self.columns;
+        let column = cell % self.columns;
+        [
+            self.vertex(row, column),
+            self.vertex(row + 1, column),
+            self.vertex(row + 1, column + 1),
+        ]
+    }
+
+    /// The second face of the cell of a number.
+    pub fn second_face(self, cell: u32) -> [VertexId; 3]
+        requires rows { 3 ≤ self.rows }
+        requires columns { 3 ≤ self.columns }
+        requires few { self.rows * self.columns ≤ 1000000 }
+        requires cell { cell < self.rows * self.columns }
+        ensures corners { result ≡ second_face self.rows self.columns (cell / self.columns) (cell % self.columns) }
+        ensures face { IsFace (self.rows * self.columns) result }
+    {
+        surf_tori::law_of_tori();
+        let row = cell / self.columns;
+        let column = cell % self.columns;
+        [
+            self.vertex(row, column),
+            self.vertex(row + 1, column + 1),
+            self.vertex(row, column + 1),
+        ]
+    }
+}

@@ -1,0 +1,13 @@
+pub mod CoherentLaws
+pub mod EulerLaws
+pub mod TriangleLaws
+pub mod LinkLaws
+pub mod GridLaws
+pub mod TorusLaws
+pub mod RenamedLaws
+pub mod GluedLaws
+pub mod OpenLaws
+pub mod GluedFans
+pub mod RankLaws
+pub mod SumLaws
+pub mod ChainLaws

@@ -1,0 +1,4 @@
+pub mod Coherent
+pub mod Torus
+pub mod ConnectedSum
+pub mod Chain
