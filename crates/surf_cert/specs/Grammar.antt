@@ -3,7 +3,7 @@
 use Rattle.std.specs.Prelude.{◌+◌, ℕ, zero, suc, List, [], ◌∷◌, codes, map, Option, Some, None, Result, Ok, Err, if◌then◌else◌}
 use Rattle.surf_text.specs.Text.{TextLine, tokens_of, lines_of}
 use Rattle.surf_cert.specs.Rows.{TreeRows, DualRows, LoopCert, BasisCert}
-use Rattle.surf_cert.specs.Lines.{Counts, is_word, is_header, counts_of, base_of, base_at, tree_row, dual_row, pair_behind, cycle_of}
+use Rattle.surf_cert.specs.Lines.{the_word, is_header, counts_of, base_of, base_at, tree_row, dual_row, pair_behind, cycle_of}
 use Rattle.surf_cert.specs.declared.cert.Cert.{Cert}
 use Rattle.surf_cert.specs.declared.cert.Cert.TheVariants.{Loops, Basis}
 use Rattle.surf_cert.specs.declared.fault.CertText.{CertText}
@@ -43,10 +43,6 @@ unfoldable pub pairs_of : Option (ℕ × ℕ) → ℕ → List TextLine → Resu
 pairs_of before zero lines = Ok ([], lines)
 pairs_of before (suc n) lines = next_of (pair_behind before) lines >>= λ x. onto_rows x.0 (pairs_of (Some x.0) n x.1)
 
--- a line that is exactly a word
-abbrev pub the_word : List ℕ → List (List ℕ) → Option (Unit {0})
-the_word word tokens = if is_word word tokens then Some tt else None
-
 -- the rows of so many vertices, from this base
 unfoldable pub tree_of : ℕ → ℕ → List TextLine → Result (TreeRows × List TextLine) CertText
 tree_of base v lines = rows_of tree_row v lines >>= λ rows.
@@ -62,9 +58,13 @@ trees_of base v zero lines = Ok ([], lines)
 trees_of base v (suc n) lines = based_tree (base_at base) v lines >>= λ x. onto_rows x.0 (trees_of (base + 1) v n x.1)
 
 -- the rows of so many faces
-unfoldable pub dual_of : ℕ → List TextLine → Result (DualRows × List TextLine) CertText
-dual_of f lines = next_of (the_word (codes "dual")) lines >>= λ word. rows_of dual_row f word.1 >>= λ rows.
+unfoldable pub dual_rows_of : ℕ → List TextLine → Result (DualRows × List TextLine) CertText
+dual_rows_of f lines = rows_of dual_row f lines >>= λ rows.
     Ok (record { depth = map (λ row. row.0) rows.0; side = map (λ row. row.1) rows.0 }, rows.1)
+
+-- the same behind their word
+unfoldable pub dual_of : ℕ → List TextLine → Result (DualRows × List TextLine) CertText
+dual_of f lines = next_of (the_word (codes "dual")) lines >>= λ word. dual_rows_of f word.1
 
 -- so many left edges
 unfoldable pub left_of : ℕ → List TextLine → Result (List (ℕ × ℕ) × List TextLine) CertText

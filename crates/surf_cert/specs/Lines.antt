@@ -2,6 +2,7 @@
 use Rattle.std.specs.Prelude.{ℕ, Bool, true, false, ◌&&◌, ◌||◌, ◌==◌, nat_le, nat_lt, List, [], ◌∷◌, codes, Option, Some, None, if◌then◌else◌}
 use Rattle.std.specs.Str.{bytes_eq}
 use Rattle.surf_text.specs.Text.{whole}
+use Rattle.surf_cert.specs.declared.line.Counts.{Counts}
 
 -- the greatest number that isn't a distance
 abbrev pub greatest : ℕ
@@ -20,17 +21,15 @@ abbrev pub is_word : List ℕ → List (List ℕ) → Bool
 is_word word (token ∷ []) = bytes_eq token word
 is_word word _ = false
 
+-- a line that is exactly a word
+abbrev pub the_word : List ℕ → List (List ℕ) → Option (Unit {0})
+the_word word tokens = if is_word word tokens then Some tt else None
+
 -- exactly the tokens SURFCERT, 1 and the word for what is certified
 abbrev pub is_header : List ℕ → List (List ℕ) → Bool
 is_header word (name ∷ version ∷ kind ∷ []) =
     bytes_eq name (codes "SURFCERT") && bytes_eq version (codes "1") && bytes_eq kind word
 is_header word _ = false
-
--- how many vertices, faces and left edges there are
-pub record Counts : Type 0 where
-  pub vertices : ℕ
-  pub faces : ℕ
-  pub left : ℕ
 
 abbrev pub three_counts : Option ℕ → Option ℕ → Option ℕ → Option Counts
 three_counts (Some v) (Some f) (Some k) = Some (record { vertices = v; faces = f; left = k })
@@ -91,14 +90,10 @@ abbrev pub pair_of : List (List ℕ) → Option (ℕ × ℕ)
 pair_of (u ∷ v ∷ []) = increasing (number_of u) (number_of v)
 pair_of _ = None
 
--- whether a pair stands behind another, by the first number and then by the second
-abbrev pub is_behind : ℕ × ℕ → ℕ × ℕ → Bool
-is_behind before pair = nat_lt before.0 pair.0 || before.0 == pair.0 && nat_lt before.1 pair.1
-
--- whether it stands behind the one before, if there is one
+-- whether a pair stands behind the one before, if there is one: by the first number, and then by the second
 abbrev pub is_next : Option (ℕ × ℕ) → ℕ × ℕ → Bool
 is_next None pair = true
-is_next (Some before) pair = is_behind before pair
+is_next (Some before) pair = nat_lt before.0 pair.0 || before.0 == pair.0 && nat_lt before.1 pair.1
 
 abbrev pub if_next : Option (ℕ × ℕ) → Option (ℕ × ℕ) → Option (ℕ × ℕ)
 if_next before None = None

@@ -8,8 +8,13 @@
 
 mod cert;
 mod fault;
+mod line;
+mod next;
+mod read;
 mod rows;
+mod sections;
 
 pub use cert::{BasisCert, Cert, LoopCert};
 pub use fault::CertText;
+pub use read::read_cert;
 pub use rows::{DualRows, TreeRows};
