@@ -1,6 +1,7 @@
 -- What the lines of a certificate say, by their tokens.
-use Rattle.std.specs.Prelude.{ℕ, Bool, true, false, ◌&&◌, ◌||◌, ◌==◌, nat_le, nat_lt, List, [], ◌∷◌, codes, Option, Some, None, if◌then◌else◌}
+use Rattle.std.specs.Prelude.{ℕ, Bool, true, false, ◌&&◌, ◌==◌, nat_le, nat_lt, List, [], ◌∷◌, codes, Option, Some, None, if◌then◌else◌}
 use Rattle.std.specs.Str.{bytes_eq}
+use Rattle.surf_complex.specs.Mesh.{pair_lt}
 use Rattle.surf_text.specs.Text.{whole}
 use Rattle.surf_cert.specs.declared.line.Counts.{Counts}
 
@@ -90,10 +91,10 @@ abbrev pub pair_of : List (List ℕ) → Option (ℕ × ℕ)
 pair_of (u ∷ v ∷ []) = increasing (number_of u) (number_of v)
 pair_of _ = None
 
--- whether a pair stands behind the one before, if there is one: by the first number, and then by the second
+-- whether a pair stands behind the one before, if there is one
 abbrev pub is_next : Option (ℕ × ℕ) → ℕ × ℕ → Bool
 is_next None pair = true
-is_next (Some before) pair = nat_lt before.0 pair.0 || before.0 == pair.0 && nat_lt before.1 pair.1
+is_next (Some before) pair = pair_lt before pair
 
 abbrev pub if_next : Option (ℕ × ℕ) → Option (ℕ × ℕ) → Option (ℕ × ℕ)
 if_next before None = None

@@ -13,8 +13,10 @@ mod next;
 mod read;
 mod rows;
 mod sections;
+mod write;
 
 pub use cert::{BasisCert, Cert, LoopCert};
 pub use fault::CertText;
 pub use read::read_cert;
 pub use rows::{DualRows, TreeRows};
+pub use write::{write_basis_cert, write_loop_cert};
