@@ -144,6 +144,7 @@ fn write_left(page: &mut Page, left: &[(VertexId, VertexId)]) -> Result<(), Page
 pub fn write_loop_cert(page: &mut Page, cert: &LoopCert) -> Result<(), PageFault>
     requires fits { LoopFits cert.now }
     ensures puts { Puts page.old page.new (loop_text cert.now) result }
+    ensures reread { RereadsLoops cert.now }
 {
     let vertices = cert.tree().distance().len();
     let faces = cert.dual().depth().len();
@@ -208,6 +209,7 @@ fn write_cycles(page: &mut Page, cycles: &[Walk]) -> Result<(), PageFault>
 pub fn write_basis_cert(page: &mut Page, cert: &BasisCert) -> Result<(), PageFault>
     requires fits { BasisFits cert.now }
     ensures puts { Puts page.old page.new (basis_text cert.now) result }
+    ensures reread { RereadsBasis cert.now }
 {
     let vertices = cert.trees().len();
     let faces = cert.dual().depth().len();

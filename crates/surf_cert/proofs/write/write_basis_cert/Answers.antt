@@ -3,6 +3,7 @@ use Rattle.std.specs.List.{zip}
 use Rattle.std.proofs.lemmas.Result.{err_from_is_err_and}
 use Rattle.surf_text.specs.Pages.{Puts}
 use Rattle.std.proofs.lemmas.List.{take_rest}
+use Rattle.surf_cert.proofs.Reread.{loops_again, basis_again}
 use Rattle.surf_cert.proofs.CycleLines.{cycle_first}
 use Rattle.surf_text.proofs.Writing.{puts_more, puts_stop}
 use Rattle.surf_cert.specs.Rows.{TreeRows, DualRows}
@@ -22,7 +23,7 @@ returns-in_err-write_head c =
     in
     let r = c.from_residual.result in
     let p = err_from_is_err_and r c.from_residual.ensures.1 in
-    record { puts = puts_stop c.args.page.now c.write_head.new.page head (trees ++ (dual ++ (left ++ cycles))) c.write_head.result c.in_err-write_head.field-0.0 r c.in_err-write_head.was (rw (p.1, p.2) refl) (subst (λ (n : ℕ × ℕ × ℕ). Puts c.args.page.now c.write_head.new.page (head_text (codes "basis") n.0 n.1 n.2) c.write_head.result) counts c.write_head.ensures.puts) }
+    record { reread = basis_again c.args.cert.now c.requires.fits; puts = puts_stop c.args.page.now c.write_head.new.page head (trees ++ (dual ++ (left ++ cycles))) c.write_head.result c.in_err-write_head.field-0.0 r c.in_err-write_head.was (rw (p.1, p.2) refl) (subst (λ (n : ℕ × ℕ × ℕ). Puts c.args.page.now c.write_head.new.page (head_text (codes "basis") n.0 n.1 n.2) c.write_head.result) counts c.write_head.ensures.puts) }
 
 pub returns-in_err-write_trees : goal.returns-in_err-write_trees
 returns-in_err-write_trees c =
@@ -38,6 +39,7 @@ returns-in_err-write_trees c =
     let r = c.from_residual-in_err-write_trees.result in
     let p = err_from_is_err_and r c.from_residual-in_err-write_trees.ensures.1 in
     record {
+      reread = basis_again c.args.cert.now c.requires.fits;
       puts = puts_more c.args.page.now c.write_head.new.page c.write_trees.new.page head (trees ++ (dual ++ (left ++ cycles))) c.write_head.result c.in_ok-write_head.field-0 r c.in_ok-write_head.was (subst (λ (n : ℕ × ℕ × ℕ). Puts c.args.page.now c.write_head.new.page (head_text (codes "basis") n.0 n.1 n.2) c.write_head.result) counts c.write_head.ensures.puts)
           (puts_stop c.write_head.new.page c.write_trees.new.page trees (dual ++ (left ++ cycles)) c.write_trees.result c.in_err-write_trees.field-0.0 r c.in_err-write_trees.was (rw (p.1, p.2) refl) (subst (λ (x : List TreeRows). Puts c.write_head.new.page c.write_trees.new.page (flat_map tree_text x) c.write_trees.result) c.trees.ensures.trees c.write_trees.ensures.puts));
     }
@@ -56,6 +58,7 @@ returns-in_err-write_dual c =
     let r = c.from_residual-in_err-write_dual.result in
     let p = err_from_is_err_and r c.from_residual-in_err-write_dual.ensures.1 in
     record {
+      reread = basis_again c.args.cert.now c.requires.fits;
       puts = puts_more c.args.page.now c.write_head.new.page c.write_dual.new.page head (trees ++ (dual ++ (left ++ cycles))) c.write_head.result c.in_ok-write_head.field-0 r c.in_ok-write_head.was (subst (λ (n : ℕ × ℕ × ℕ). Puts c.args.page.now c.write_head.new.page (head_text (codes "basis") n.0 n.1 n.2) c.write_head.result) counts c.write_head.ensures.puts)
           (puts_more c.write_head.new.page c.write_trees.new.page c.write_dual.new.page trees (dual ++ (left ++ cycles)) c.write_trees.result c.in_ok-write_trees.field-0 r c.in_ok-write_trees.was (subst (λ (x : List TreeRows). Puts c.write_head.new.page c.write_trees.new.page (flat_map tree_text x) c.write_trees.result) c.trees.ensures.trees c.write_trees.ensures.puts)
           (puts_stop c.write_trees.new.page c.write_dual.new.page dual (left ++ cycles) c.write_dual.result c.in_err-write_dual.field-0.0 r c.in_err-write_dual.was (rw (p.1, p.2) refl) (subst (λ (x : DualRows). Puts c.write_trees.new.page c.write_dual.new.page (dual_text x) c.write_dual.result) c.dual-2.ensures.dual c.write_dual.ensures.puts)));
@@ -75,6 +78,7 @@ returns-in_err-write_left c =
     let r = c.from_residual-in_err-write_left.result in
     let p = err_from_is_err_and r c.from_residual-in_err-write_left.ensures.1 in
     record {
+      reread = basis_again c.args.cert.now c.requires.fits;
       puts = puts_more c.args.page.now c.write_head.new.page c.write_left.new.page head (trees ++ (dual ++ (left ++ cycles))) c.write_head.result c.in_ok-write_head.field-0 r c.in_ok-write_head.was (subst (λ (n : ℕ × ℕ × ℕ). Puts c.args.page.now c.write_head.new.page (head_text (codes "basis") n.0 n.1 n.2) c.write_head.result) counts c.write_head.ensures.puts)
           (puts_more c.write_head.new.page c.write_trees.new.page c.write_left.new.page trees (dual ++ (left ++ cycles)) c.write_trees.result c.in_ok-write_trees.field-0 r c.in_ok-write_trees.was (subst (λ (x : List TreeRows). Puts c.write_head.new.page c.write_trees.new.page (flat_map tree_text x) c.write_trees.result) c.trees.ensures.trees c.write_trees.ensures.puts)
           (puts_more c.write_trees.new.page c.write_dual.new.page c.write_left.new.page dual (left ++ cycles) c.write_dual.result c.in_ok-write_dual.field-0 r c.in_ok-write_dual.was (subst (λ (x : DualRows). Puts c.write_trees.new.page c.write_dual.new.page (dual_text x) c.write_dual.result) c.dual-2.ensures.dual c.write_dual.ensures.puts)
@@ -94,6 +98,7 @@ returns c =
     in
     let r = c.write_cycles.result in
     record {
+      reread = basis_again c.args.cert.now c.requires.fits;
       puts = puts_more c.args.page.now c.write_head.new.page c.write_cycles.new.page head (trees ++ (dual ++ (left ++ cycles))) c.write_head.result c.in_ok-write_head.field-0 r c.in_ok-write_head.was (subst (λ (n : ℕ × ℕ × ℕ). Puts c.args.page.now c.write_head.new.page (head_text (codes "basis") n.0 n.1 n.2) c.write_head.result) counts c.write_head.ensures.puts)
           (puts_more c.write_head.new.page c.write_trees.new.page c.write_cycles.new.page trees (dual ++ (left ++ cycles)) c.write_trees.result c.in_ok-write_trees.field-0 r c.in_ok-write_trees.was (subst (λ (x : List TreeRows). Puts c.write_head.new.page c.write_trees.new.page (flat_map tree_text x) c.write_trees.result) c.trees.ensures.trees c.write_trees.ensures.puts)
           (puts_more c.write_trees.new.page c.write_dual.new.page c.write_cycles.new.page dual (left ++ cycles) c.write_dual.result c.in_ok-write_dual.field-0 r c.in_ok-write_dual.was (subst (λ (x : DualRows). Puts c.write_trees.new.page c.write_dual.new.page (dual_text x) c.write_dual.result) c.dual-2.ensures.dual c.write_dual.ensures.puts)

@@ -3,6 +3,7 @@ use Rattle.std.specs.List.{zip}
 use Rattle.std.proofs.lemmas.Result.{err_from_is_err_and}
 use Rattle.surf_text.specs.Pages.{Puts}
 use Rattle.std.proofs.lemmas.List.{take_rest}
+use Rattle.surf_cert.proofs.Reread.{loops_again, basis_again}
 use Rattle.surf_cert.proofs.CycleLines.{cycle_first}
 use Rattle.surf_text.proofs.Writing.{puts_more, puts_stop}
 use Rattle.surf_cert.specs.Rows.{TreeRows, DualRows}
@@ -21,7 +22,7 @@ returns-in_err-write_head c =
     in
     let r = c.from_residual.result in
     let p = err_from_is_err_and r c.from_residual.ensures.1 in
-    record { puts = puts_stop c.args.page.now c.write_head.new.page head (tree ++ (dual ++ left)) c.write_head.result c.in_err-write_head.field-0.0 r c.in_err-write_head.was (rw (p.1, p.2) refl) (subst (λ (n : ℕ × ℕ × ℕ). Puts c.args.page.now c.write_head.new.page (head_text (codes "loops") n.0 n.1 n.2) c.write_head.result) counts c.write_head.ensures.puts) }
+    record { reread = loops_again c.args.cert.now c.requires.fits; puts = puts_stop c.args.page.now c.write_head.new.page head (tree ++ (dual ++ left)) c.write_head.result c.in_err-write_head.field-0.0 r c.in_err-write_head.was (rw (p.1, p.2) refl) (subst (λ (n : ℕ × ℕ × ℕ). Puts c.args.page.now c.write_head.new.page (head_text (codes "loops") n.0 n.1 n.2) c.write_head.result) counts c.write_head.ensures.puts) }
 
 pub returns-in_err-write_tree : goal.returns-in_err-write_tree
 returns-in_err-write_tree c =
@@ -36,6 +37,7 @@ returns-in_err-write_tree c =
     let r = c.from_residual-in_err-write_tree.result in
     let p = err_from_is_err_and r c.from_residual-in_err-write_tree.ensures.1 in
     record {
+      reread = loops_again c.args.cert.now c.requires.fits;
       puts = puts_more c.args.page.now c.write_head.new.page c.write_tree.new.page head (tree ++ (dual ++ left)) c.write_head.result c.in_ok-write_head.field-0 r c.in_ok-write_head.was (subst (λ (n : ℕ × ℕ × ℕ). Puts c.args.page.now c.write_head.new.page (head_text (codes "loops") n.0 n.1 n.2) c.write_head.result) counts c.write_head.ensures.puts)
           (puts_stop c.write_head.new.page c.write_tree.new.page tree (dual ++ left) c.write_tree.result c.in_err-write_tree.field-0.0 r c.in_err-write_tree.was (rw (p.1, p.2) refl) (subst (λ (x : TreeRows). Puts c.write_head.new.page c.write_tree.new.page (tree_text x) c.write_tree.result) c.tree-2.ensures.tree c.write_tree.ensures.puts));
     }
@@ -53,6 +55,7 @@ returns-in_err-write_dual c =
     let r = c.from_residual-in_err-write_dual.result in
     let p = err_from_is_err_and r c.from_residual-in_err-write_dual.ensures.1 in
     record {
+      reread = loops_again c.args.cert.now c.requires.fits;
       puts = puts_more c.args.page.now c.write_head.new.page c.write_dual.new.page head (tree ++ (dual ++ left)) c.write_head.result c.in_ok-write_head.field-0 r c.in_ok-write_head.was (subst (λ (n : ℕ × ℕ × ℕ). Puts c.args.page.now c.write_head.new.page (head_text (codes "loops") n.0 n.1 n.2) c.write_head.result) counts c.write_head.ensures.puts)
           (puts_more c.write_head.new.page c.write_tree.new.page c.write_dual.new.page tree (dual ++ left) c.write_tree.result c.in_ok-write_tree.field-0 r c.in_ok-write_tree.was (subst (λ (x : TreeRows). Puts c.write_head.new.page c.write_tree.new.page (tree_text x) c.write_tree.result) c.tree-2.ensures.tree c.write_tree.ensures.puts)
           (puts_stop c.write_tree.new.page c.write_dual.new.page dual left c.write_dual.result c.in_err-write_dual.field-0.0 r c.in_err-write_dual.was (rw (p.1, p.2) refl) (subst (λ (x : DualRows). Puts c.write_tree.new.page c.write_dual.new.page (dual_text x) c.write_dual.result) c.dual-2.ensures.dual c.write_dual.ensures.puts)));
@@ -70,6 +73,7 @@ returns c =
     in
     let r = c.write_left.result in
     record {
+      reread = loops_again c.args.cert.now c.requires.fits;
       puts = puts_more c.args.page.now c.write_head.new.page c.write_left.new.page head (tree ++ (dual ++ left)) c.write_head.result c.in_ok-write_head.field-0 r c.in_ok-write_head.was (subst (λ (n : ℕ × ℕ × ℕ). Puts c.args.page.now c.write_head.new.page (head_text (codes "loops") n.0 n.1 n.2) c.write_head.result) counts c.write_head.ensures.puts)
           (puts_more c.write_head.new.page c.write_tree.new.page c.write_left.new.page tree (dual ++ left) c.write_tree.result c.in_ok-write_tree.field-0 r c.in_ok-write_tree.was (subst (λ (x : TreeRows). Puts c.write_head.new.page c.write_tree.new.page (tree_text x) c.write_tree.result) c.tree-2.ensures.tree c.write_tree.ensures.puts)
           (puts_more c.write_tree.new.page c.write_dual.new.page c.write_left.new.page dual left c.write_dual.result c.in_ok-write_dual.field-0 r c.in_ok-write_dual.was (subst (λ (x : DualRows). Puts c.write_tree.new.page c.write_dual.new.page (dual_text x) c.write_dual.result) c.dual-2.ensures.dual c.write_dual.ensures.puts)
