@@ -4,3 +4,5 @@ pub mod CycleLines
 pub mod WordLines
 pub mod LineTexts
 pub mod Reread
+pub mod ReadLines
+pub mod ReadParts

@@ -3,6 +3,8 @@ use Rattle.std.specs.Prelude.{◌≡◌, ◌<◌, ◌≤◌, ◌^◌, ℕ, true,
 use Rattle.std.specs.List.{All, AllPairs, zip}
 use Rattle.surf_complex.specs.Mesh.{pair_lt}
 use Rattle.surf_cert.specs.Rows.{TreeRows, DualRows, LoopCert, BasisCert}
+use Rattle.surf_cert.specs.declared.cert.Cert.{Cert}
+use Rattle.surf_cert.specs.declared.cert.Cert.TheVariants.{Loops, Basis}
 use Rattle.surf_cert.specs.Lines.{greatest}
 
 -- A number of a text is at most 4,294,967,295.
@@ -68,3 +70,8 @@ pub record BasisFits (cert : BasisCert) : Type 0 where
   pub left : LeftFits (length cert.left) cert.left
   pub as_many : length cert.cycles ≡ length cert.left
   pub cycles : All CycleFits cert.cycles
+
+-- a certificate of either kind
+abbrev pub CertFits : Cert → Type 0
+CertFits (Loops cert) = LoopFits cert
+CertFits (Basis cert) = BasisFits cert

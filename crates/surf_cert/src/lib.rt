@@ -21,5 +21,5 @@ pub use read::read_cert;
 pub use rows::{DualRows, TreeRows};
 pub use write::{write_basis_cert, write_loop_cert};
 
-//#[cfg(test)]
-//mod tests;
+#[cfg(test)]
+mod tests;

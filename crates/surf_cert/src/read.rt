@@ -1,5 +1,6 @@
 //! Reads the text of a certificate.
-ghost use Rattle.std.specs.Prelude.{◌≡◌, ◌<◌, length};
+ghost use Rattle.std.specs.Prelude.{◌≡◌, ◌<◌, length, IfOk};
+ghost use Rattle.surf_cert.specs.Fits.{CertFits};
 ghost use Rattle.surf_cert.specs.Grammar.{loops_in, basis_in, ended, cert_of};
 ghost use Rattle.surf_cert.specs.Gives.{Gives};
 
@@ -46,14 +47,8 @@ fn read_basis(alloc: Global, lines: &mut Lines<'_>) -> Result<BasisCert, CertTex
     Ok(BasisCert::make(trees, dual, left, cycles))
 }
 
-/// Reads the text of a certificate. Refuses with the first fault of the text, or with `Memory` where there is none.
-/// The text is shorter than 2^32 − 1 bytes.
-///
-/// The first line says whether it is a certificate of loops or of a basis, and the second how many vertices, faces
-/// and left edges there are. So many lines follow for each part, and none after them. No room is taken for counts
-/// that a text merely states.
 #[tactic(auto, unfolding(crate::specs::Grammar::cert_in))]
-pub fn read_cert(alloc: Global, text: &[u8]) -> Result<Cert, CertText>
+fn read_text(alloc: Global, text: &[u8]) -> Result<Cert, CertText>
     requires short { length text.now < 4294967295 }
     ensures cert { Gives (λ x. x) result (cert_of text.now) }
 {
@@ -70,4 +65,18 @@ pub fn read_cert(alloc: Global, text: &[u8]) -> Result<Cert, CertText>
         return Ok(Cert::Basis(cert));
     }
     Err(CertText::Header { line: line.number })
+}
+
+/// Reads the text of a certificate. Refuses with the first fault of the text, or with `Memory` where there is none.
+/// The text is shorter than 2^32 − 1 bytes.
+///
+/// The first line says whether it is a certificate of loops or of a basis, and the second how many vertices, faces
+/// and left edges there are. So many lines follow for each part, and none after them. No room is taken for counts
+/// that a text merely states. A certificate that was read fits the lines of a text, so it can be written.
+pub fn read_cert(alloc: Global, text: &[u8]) -> Result<Cert, CertText>
+    requires short { length text.now < 4294967295 }
+    ensures cert { Gives (λ x. x) result (cert_of text.now) }
+    ensures fits { IfOk result CertFits }
+{
+    read_text(alloc, text)
 }
