@@ -1,0 +1,8 @@
+pub mod Numbers
+pub mod RowLines
+pub mod CycleLines
+pub mod WordLines
+pub mod LineTexts
+pub mod Reread
+pub mod ReadLines
+pub mod ReadParts

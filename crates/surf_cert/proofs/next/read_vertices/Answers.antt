@@ -1,0 +1,21 @@
+use Rattle.std.proofs.Common.{◌≡◌, ◌∙◌, sym, ap, subst, ℕ, List, Option}
+use Rattle.surf_cert.specs.declared.fault.CertText.{CertText}
+use Rattle.surf_cert.specs.Grammar.{formed}
+use Rattle.surf_cert.specs.Lines.{numbers_of}
+use Rattle.surf_cert.proofs.Numbers.{with_numbers, number_more, number_bad, numbers_done}
+use Rattle.surf_cert.proofs.next.read_vertices.Goals as goal
+
+pub returns-in_default-read_number : goal.returns-in_default-read_number
+returns-in_default-read_number c =
+    let none = number_bad c.loop-token.vertices.items c.loop-token.tokens.tokens _ c.loop-token.invariant c.in-Some.token.now c.next_token.new.self.tokens c.in-Some.ensures.next (sym c.read_number.ensures.number ∙ c.in_default-read_number.is) in
+    record { vertices = λ other. ap (λ (ns : Option (List ℕ)). formed c.args.line.now.number ns) none }
+
+pub loop-token-preserved : goal.loop-token-preserved
+loop-token-preserved c =
+    let more = number_more c.loop-token.vertices.items c.loop-token.tokens.tokens _ c.loop-token.invariant c.in-Some.token.now c.next_token.new.self.tokens c.new.result c.in-Some.ensures.next (sym c.read_number.ensures.number ∙ c.in-Some-read_number.is ∙ ap (λ (n : ℕ). Option.Some n) (sym c.new.ensures)) in
+    ap (λ (ns : List ℕ). with_numbers ns (numbers_of c.next_token.new.self.tokens)) c.in_ok-push.ensures.items ∙ more
+
+pub returns : goal.returns
+returns c =
+    let all = numbers_done c.loop-token.vertices.items c.loop-token.tokens.tokens _ c.loop-token.invariant c.in_default.ensures.next.0 in
+    record { vertices = ap (λ (ns : Option (List ℕ)). formed c.args.line.now.number ns) all }

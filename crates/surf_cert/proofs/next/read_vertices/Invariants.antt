@@ -1,0 +1,11 @@
+use Rattle.std.proofs.Common.{◌≡◌, length}
+use Rattle.surf_text.specs.Text.{tokens_of}
+use Rattle.surf_cert.specs.Lines.{numbers_of}
+use Rattle.surf_cert.proofs.Numbers.{with_numbers}
+use Rattle.surf_cert.proofs.next.read_vertices.Given as goal
+
+abbrev pub invariant-loop-token : goal.invariant-loop-token
+invariant-loop-token l = with_numbers l.vertices.items (numbers_of l.tokens.tokens) ≡ numbers_of (tokens_of l.fn.line.bytes.now)
+
+abbrev pub decreases-loop-token : goal.decreases-loop-token
+decreases-loop-token l = length l.tokens.tokens

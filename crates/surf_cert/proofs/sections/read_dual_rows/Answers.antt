@@ -1,0 +1,28 @@
+use Rattle.std.proofs.Common.{arith, ◌≡◌, ◌∙◌, ◌-◌, sym, ap, Option, List, []}
+use Rattle.std.proofs.lemmas.Result.{err_from_is_err_and}
+use Rattle.surf_cert.specs.Rows.{DualRows}
+use Rattle.surf_cert.specs.Lines.{dual_row}
+use Rattle.surf_cert.specs.Grammar.{rows_of}
+use Rattle.surf_cert.proofs.RowLines.{with_rows, push_face, dual_start, row_more, row_bad, rows_done}
+use Rattle.surf_cert.proofs.sections.read_dual_rows.Goals as goal
+
+pub loop-init : goal.loop-init
+loop-init c =
+    let all : c.args.faces - 0 ≡ c.args.faces = omega arith in
+    rw (c.new-depth.ensures.items, c.new-side.ensures.items, all) (dual_start c.args.faces c.args.lines.now)
+
+pub returns-in_err-row : goal.returns-in_err-row
+returns-in_err-row c =
+    let p = err_from_is_err_and c.from_residual.result c.from_residual.ensures.1 in
+    let rows : DualRows = record { depth = c.loop.depth.items; side = c.loop.side.items } in
+    rw (p.1, p.2) (record { dual = λ other. row_bad dual_row push_face c.args.faces c.loop.counter rows c.loop.lines _ c.loop.invariant c.in_err-row.field-0.0 c.loop-test.true (c.in_err-row.ensures.row other) })
+
+pub loop-preserved : goal.loop-preserved
+loop-preserved c =
+    let rows : DualRows = record { depth = c.loop.depth.items; side = c.loop.side.items } in
+    rw (c.in_ok-push.ensures.items, c.in_ok-push-2.ensures.items) (row_more dual_row push_face c.args.faces c.loop.counter rows c.loop.lines _ c.loop.invariant c.in_ok-row.row c.next_dual_row.new.lines c.loop-test.true c.in_ok-row.ensures.row)
+
+pub returns : goal.returns
+returns c =
+    let rows : DualRows = record { depth = c.loop.depth.items; side = c.loop.side.items } in
+    record { dual = rw c.make.ensures.rows (rows_done dual_row push_face c.args.faces c.loop.counter rows c.loop.lines _ c.loop.invariant c.loop-test.false) }

@@ -1,0 +1,32 @@
+use Rattle.std.proofs.Common.{◌≡◌, ◌<◌, ◌≤◌, ℕ, List, [], ◌∷◌, ◌++◌, length, get_or, Option, None, Ok, refl, sym, ◌∙◌, ap, subst, flat_map, codes, decimal, append-nil, arith}
+use Rattle.std.specs.List.{zip}
+use Rattle.std.proofs.lemmas.Slice.Zip.{length-zip, get_or-zip}
+use Rattle.std.proofs.lemmas.Result.{err_from_is_err_and}
+use Rattle.surf_text.specs.Pages.{Puts}
+use Rattle.surf_text.proofs.Writing.{loop_more, loop_stop, loop_done}
+use Rattle.surf_cert.specs.Rows.{TreeRows}
+use Rattle.surf_cert.specs.Written.{vertex_line, face_line, pair_line, tree_text, cycle_line, numbers_text}
+use Rattle.surf_cert.proofs.write.write_numbers.Goals as goal
+
+pub returns-in_err-push_pieces : goal.returns-in_err-push_pieces
+returns-in_err-push_pieces c =
+    let xs = c.args.vertices.now in
+    let i = c.loop-v.v-index in
+    let lt : i < length xs = c.loop-v-test.true in
+    let one : Puts c.loop-v.page c.push_pieces.new.self (codes " " ++ decimal (get_or xs i c.v-item.result)) c.push_pieces.result = subst (λ (x : ℕ). Puts c.loop-v.page c.push_pieces.new.self (codes " " ++ decimal x) c.push_pieces.result) c.v-item.is (subst (λ (t : List ℕ). Puts c.loop-v.page c.push_pieces.new.self (32 ∷ t) c.push_pieces.result) (append-nil (decimal c.index.result) ∙ ap decimal c.index.ensures) c.push_pieces.ensures.puts) in
+    let p = err_from_is_err_and c.from_residual.result c.from_residual.ensures.1 in
+    record { puts = loop_stop numbers_text (λ (n : ℕ). codes " " ++ decimal n) refl (λ x xs. refl) xs i c.v-item.result lt c.args.page.now c.loop-v.page c.push_pieces.new.self (tt {0}) c.loop-v.invariant c.push_pieces.result c.in_err-push_pieces.field-0.0 c.from_residual.result c.in_err-push_pieces.was (rw (p.1, p.2) refl) one }
+
+pub loop-v-preserved : goal.loop-v-preserved
+loop-v-preserved c =
+    let xs = c.args.vertices.now in
+    let i = c.loop-v.v-index in
+    let lt : i < length xs = c.loop-v-test.true in
+    let one : Puts c.loop-v.page c.push_pieces.new.self (codes " " ++ decimal (get_or xs i c.v-item.result)) c.push_pieces.result = subst (λ (x : ℕ). Puts c.loop-v.page c.push_pieces.new.self (codes " " ++ decimal x) c.push_pieces.result) c.v-item.is (subst (λ (t : List ℕ). Puts c.loop-v.page c.push_pieces.new.self (32 ∷ t) c.push_pieces.result) (append-nil (decimal c.index.result) ∙ ap decimal c.index.ensures) c.push_pieces.ensures.puts) in
+    loop_more numbers_text (λ (n : ℕ). codes " " ++ decimal n) refl (λ x xs. refl) xs i c.v-item.result lt c.args.page.now c.loop-v.page c.push_pieces.new.self (tt {0}) c.loop-v.invariant c.push_pieces.result c.in_ok-push_pieces.field-0 c.in_ok-push_pieces.was one
+
+pub returns : goal.returns
+returns c =
+    let xs = c.args.vertices.now in
+    let le : length xs ≤ c.loop-v.v-index = c.loop-v-test.false in
+    record { puts = loop_done numbers_text (λ (n : ℕ). codes " " ++ decimal n) refl (λ x xs. refl) xs c.loop-v.v-index c.args.page.now c.loop-v.page (tt {0}) le c.loop-v.invariant }

@@ -1,0 +1,8 @@
+use Rattle.std.proofs.Common.{take, Ok, flat_map}
+use Rattle.std.specs.List.{zip}
+use Rattle.surf_text.specs.Pages.{Puts}
+use Rattle.surf_cert.specs.Written.{vertex_line, face_line, pair_line, tree_text, cycle_line, numbers_text}
+use Rattle.surf_cert.proofs.write.write_numbers.Given as goal
+
+abbrev pub invariant-loop-v : goal.invariant-loop-v
+invariant-loop-v l = Puts {A = Unit {0}} l.fn.page l.page (numbers_text (take l.v-index l.vertices)) (Ok tt)

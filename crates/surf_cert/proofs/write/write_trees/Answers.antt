@@ -1,0 +1,32 @@
+use Rattle.std.proofs.Common.{◌≡◌, ◌<◌, ◌≤◌, ℕ, List, [], ◌∷◌, ◌++◌, length, get_or, Option, None, Ok, refl, sym, ◌∙◌, ap, subst, flat_map, codes, decimal, append-nil, arith}
+use Rattle.std.specs.List.{zip}
+use Rattle.std.proofs.lemmas.Slice.Zip.{length-zip, get_or-zip}
+use Rattle.std.proofs.lemmas.Result.{err_from_is_err_and}
+use Rattle.surf_text.specs.Pages.{Puts}
+use Rattle.surf_text.proofs.Writing.{loop_more, loop_stop, loop_done}
+use Rattle.surf_cert.specs.Rows.{TreeRows}
+use Rattle.surf_cert.specs.Written.{vertex_line, face_line, pair_line, tree_text, cycle_line, numbers_text}
+use Rattle.surf_cert.proofs.write.write_trees.Goals as goal
+
+pub returns-in_err-write_tree : goal.returns-in_err-write_tree
+returns-in_err-write_tree c =
+    let xs = c.args.trees.now in
+    let i = c.loop-tree.tree-index in
+    let lt : i < length xs = c.loop-tree-test.true in
+    let one : Puts c.loop-tree.page c.write_tree.new.page (tree_text (get_or xs i c.tree-item.result)) c.write_tree.result = subst (λ (x : TreeRows). Puts c.loop-tree.page c.write_tree.new.page (tree_text x) c.write_tree.result) c.tree-item.is (c.write_tree.ensures.puts) in
+    let p = err_from_is_err_and c.from_residual.result c.from_residual.ensures.1 in
+    record { puts = loop_stop (flat_map tree_text) tree_text refl (λ x xs. refl) xs i c.tree-item.result lt c.args.page.now c.loop-tree.page c.write_tree.new.page (tt {0}) c.loop-tree.invariant c.write_tree.result c.in_err-write_tree.field-0.0 c.from_residual.result c.in_err-write_tree.was (rw (p.1, p.2) refl) one }
+
+pub loop-tree-preserved : goal.loop-tree-preserved
+loop-tree-preserved c =
+    let xs = c.args.trees.now in
+    let i = c.loop-tree.tree-index in
+    let lt : i < length xs = c.loop-tree-test.true in
+    let one : Puts c.loop-tree.page c.write_tree.new.page (tree_text (get_or xs i c.tree-item.result)) c.write_tree.result = subst (λ (x : TreeRows). Puts c.loop-tree.page c.write_tree.new.page (tree_text x) c.write_tree.result) c.tree-item.is (c.write_tree.ensures.puts) in
+    loop_more (flat_map tree_text) tree_text refl (λ x xs. refl) xs i c.tree-item.result lt c.args.page.now c.loop-tree.page c.write_tree.new.page (tt {0}) c.loop-tree.invariant c.write_tree.result c.in_ok-write_tree.field-0 c.in_ok-write_tree.was one
+
+pub returns : goal.returns
+returns c =
+    let xs = c.args.trees.now in
+    let le : length xs ≤ c.loop-tree.tree-index = c.loop-tree-test.false in
+    record { puts = loop_done (flat_map tree_text) tree_text refl (λ x xs. refl) xs c.loop-tree.tree-index c.args.page.now c.loop-tree.page (tt {0}) le c.loop-tree.invariant }

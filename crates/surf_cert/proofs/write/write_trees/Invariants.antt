@@ -1,0 +1,8 @@
+use Rattle.std.proofs.Common.{take, Ok, flat_map}
+use Rattle.std.specs.List.{zip}
+use Rattle.surf_text.specs.Pages.{Puts}
+use Rattle.surf_cert.specs.Written.{vertex_line, face_line, pair_line, tree_text, cycle_line, numbers_text}
+use Rattle.surf_cert.proofs.write.write_trees.Given as goal
+
+abbrev pub invariant-loop-tree : goal.invariant-loop-tree
+invariant-loop-tree l = Puts {A = Unit {0}} l.fn.page l.page (flat_map tree_text (take l.tree-index l.trees)) (Ok tt)

@@ -1,0 +1,8 @@
+use Rattle.std.proofs.Common.{take, Ok, flat_map}
+use Rattle.std.specs.List.{zip}
+use Rattle.surf_text.specs.Pages.{Puts}
+use Rattle.surf_cert.specs.Written.{vertex_line, face_line, pair_line, tree_text, cycle_line, numbers_text}
+use Rattle.surf_cert.proofs.write.write_walks.Given as goal
+
+abbrev pub invariant-loop-cycle : goal.invariant-loop-cycle
+invariant-loop-cycle l = Puts {A = Unit {0}} l.fn.page l.page (flat_map cycle_line (take l.cycle-index l.cycles)) (Ok tt)

@@ -1,0 +1,6 @@
+pub mod Rows
+pub mod Lines
+pub mod Grammar
+pub mod Gives
+pub mod Fits
+pub mod Written
