@@ -1,0 +1,119 @@
+-- The texts of certificates, over the list of lines that have a token. A line has exactly the tokens that its form
+-- shows. The first line that doesn't fit decides.
+use Rattle.std.specs.Prelude.{◌+◌, ℕ, zero, suc, List, [], ◌∷◌, codes, map, Option, Some, None, Result, Ok, Err, if◌then◌else◌}
+use Rattle.surf_text.specs.Text.{TextLine, tokens_of, lines_of}
+use Rattle.surf_cert.specs.Rows.{TreeRows, DualRows, LoopCert, BasisCert}
+use Rattle.surf_cert.specs.Lines.{Counts, is_word, is_header, counts_of, base_of, base_at, tree_row, dual_row, pair_behind, cycle_of}
+use Rattle.surf_cert.specs.declared.cert.Cert.{Cert}
+use Rattle.surf_cert.specs.declared.cert.Cert.TheVariants.{Loops, Basis}
+use Rattle.surf_cert.specs.declared.fault.CertText.{CertText}
+use Rattle.surf_cert.specs.declared.fault.CertText.TheVariants.{Header, Form, Early, Trailing}
+
+infixl 10 ◌>>=◌
+abbrev pub ◌>>=◌ : {A B : Type 0} → Result A CertText → (A → Result B CertText) → Result B CertText
+(Ok x) >>= f = f x
+(Err e) >>= f = Err e
+
+-- A line that has its form gives a value.
+abbrev pub formed : {A : Type 0} → ℕ → Option A → Result A CertText
+formed line None = Err (Form line)
+formed line (Some x) = Ok x
+
+abbrev pub and_lines : {A : Type 0} → List TextLine → Result A CertText → Result (A × List TextLine) CertText
+and_lines lines (Ok x) = Ok (x, lines)
+and_lines lines (Err e) = Err e
+
+-- the next line, which has a form, and the lines behind it
+unfoldable pub next_of : {A : Type 0} → (List (List ℕ) → Option A) → List TextLine → Result (A × List TextLine) CertText
+next_of form [] = Err Early
+next_of form (line ∷ lines) = and_lines lines (formed line.number (form (tokens_of line.bytes)))
+
+-- a row in front of those that are read behind it
+abbrev pub onto_rows : {A : Type 0} → A → Result (List A × List TextLine) CertText → Result (List A × List TextLine) CertText
+onto_rows row (Ok rest) = Ok (row ∷ rest.0, rest.1)
+onto_rows row (Err e) = Err e
+
+-- so many lines of one form
+unfoldable pub rows_of : {A : Type 0} → (List (List ℕ) → Option A) → ℕ → List TextLine → Result (List A × List TextLine) CertText
+rows_of form zero lines = Ok ([], lines)
+rows_of form (suc n) lines = next_of form lines >>= λ x. onto_rows x.0 (rows_of form n x.1)
+
+-- so many pairs, each greater than the one before
+unfoldable pub pairs_of : Option (ℕ × ℕ) → ℕ → List TextLine → Result (List (ℕ × ℕ) × List TextLine) CertText
+pairs_of before zero lines = Ok ([], lines)
+pairs_of before (suc n) lines = next_of (pair_behind before) lines >>= λ x. onto_rows x.0 (pairs_of (Some x.0) n x.1)
+
+-- a line that is exactly a word
+abbrev pub the_word : List ℕ → List (List ℕ) → Option (Unit {0})
+the_word word tokens = if is_word word tokens then Some tt else None
+
+-- the rows of so many vertices, from this base
+unfoldable pub tree_of : ℕ → ℕ → List TextLine → Result (TreeRows × List TextLine) CertText
+tree_of base v lines = rows_of tree_row v lines >>= λ rows.
+    Ok (record { base = base; distance = map (λ row. row.0) rows.0; parent = map (λ row. row.1) rows.0 }, rows.1)
+
+-- a line with the base, and the rows of so many vertices
+unfoldable pub based_tree : (List (List ℕ) → Option ℕ) → ℕ → List TextLine → Result (TreeRows × List TextLine) CertText
+based_tree base v lines = next_of base lines >>= λ x. tree_of x.0 v x.1
+
+-- so many trees of v vertices, the base of the first being this one, and the base of each later one the next vertex
+unfoldable pub trees_of : ℕ → ℕ → ℕ → List TextLine → Result (List TreeRows × List TextLine) CertText
+trees_of base v zero lines = Ok ([], lines)
+trees_of base v (suc n) lines = based_tree (base_at base) v lines >>= λ x. onto_rows x.0 (trees_of (base + 1) v n x.1)
+
+-- the rows of so many faces
+unfoldable pub dual_of : ℕ → List TextLine → Result (DualRows × List TextLine) CertText
+dual_of f lines = next_of (the_word (codes "dual")) lines >>= λ word. rows_of dual_row f word.1 >>= λ rows.
+    Ok (record { depth = map (λ row. row.0) rows.0; side = map (λ row. row.1) rows.0 }, rows.1)
+
+-- so many left edges
+unfoldable pub left_of : ℕ → List TextLine → Result (List (ℕ × ℕ) × List TextLine) CertText
+left_of k lines = next_of (the_word (codes "left")) lines >>= λ word. pairs_of None k word.1
+
+-- so many cycles
+unfoldable pub cycles_of : ℕ → List TextLine → Result (List (List ℕ) × List TextLine) CertText
+cycles_of k lines = next_of (the_word (codes "cycles")) lines >>= λ word. rows_of cycle_of k word.1
+
+-- No line stands behind.
+abbrev pub ended : {A : Type 0} → A → List TextLine → Result A CertText
+ended x [] = Ok x
+ended x (line ∷ lines) = Err (Trailing line.number)
+
+-- a loop certificate, behind its first line
+unfoldable pub loops_in : List TextLine → Result LoopCert CertText
+loops_in lines = do
+  counts ← next_of counts_of lines
+  tree ← based_tree base_of counts.0.vertices counts.1
+  dual ← dual_of counts.0.faces tree.1
+  left ← left_of counts.0.left dual.1
+  ended (record { tree = tree.0; dual = dual.0; left = left.0 }) left.1
+
+-- a basis certificate, behind its first line
+unfoldable pub basis_in : List TextLine → Result BasisCert CertText
+basis_in lines = do
+  counts ← next_of counts_of lines
+  trees ← trees_of 0 counts.0.vertices counts.0.vertices counts.1
+  dual ← dual_of counts.0.faces trees.1
+  left ← left_of counts.0.left dual.1
+  cycles ← cycles_of counts.0.left left.1
+  ended (record { trees = trees.0; dual = dual.0; left = left.0; cycles = cycles.0 }) cycles.1
+
+abbrev pub as_loops : Result LoopCert CertText → Result Cert CertText
+as_loops (Ok cert) = Ok (Loops cert)
+as_loops (Err e) = Err e
+
+abbrev pub as_basis : Result BasisCert CertText → Result Cert CertText
+as_basis (Ok cert) = Ok (Basis cert)
+as_basis (Err e) = Err e
+
+-- The first line says of which kind a certificate is.
+unfoldable pub cert_in : List TextLine → Result Cert CertText
+cert_in [] = Err (Header 0)
+cert_in (line ∷ lines) =
+    if is_header (codes "loops") (tokens_of line.bytes) then as_loops (loops_in lines)
+    else (if is_header (codes "basis") (tokens_of line.bytes) then as_basis (basis_in lines)
+    else Err (Header line.number))
+
+-- the certificate that a text is, or its first fault
+abbrev pub cert_of : List ℕ → Result Cert CertText
+cert_of text = cert_in (lines_of text)
