@@ -1,5 +1,5 @@
 -- The loops of a valid certificate are a least loop system.
-use Rattle.std.proofs.Common.{◌≡◌, ℕ, ◌+◌, ◌≤◌, List, [], ◌∷◌, map, sum, Contains, refl, sym, ap, ◌∙◌, subst}
+use Rattle.std.proofs.Common.{◌≡◌, ℕ, ◌+◌, ◌≤◌, List, [], ◌∷◌, map, sum, Contains, refl, sym, ap, ◌∙◌, subst, get_or}
 use Rattle.std.specs.List.{AllByRecursion}
 use Rattle.std.proofs.lemmas.Simd.{map-map}
 use Rattle.std.proofs.lemmas.List.Elements.{recursion_from_All}
@@ -51,11 +51,9 @@ module _ (mesh : Mesh) (lengths : List ℕ) (cert : LoopCert) (surface : IsSurfa
 
   heaviest : IsHeaviest (cells_of mesh) (edge_length lengths) (split_of mesh tree cotree)
   heaviest k e k_in e_in on parted =
-      let (p, has, same) = left_listed mesh tree cotree cert.left apart k k_in in
-      let no_less : loop_size mesh lengths cert.tree (edge_number mesh p) ≤ loop_size mesh lengths cert.tree e =
-      valid.heaviest p e has e_in
-      (ap (λ l. between cotree (faces_of mesh l).0 (faces_of mesh l).1 e) same ∙ parted) in
-      subst (λ l. loop_size mesh lengths cert.tree l ≤ loop_size mesh lengths cert.tree e) same no_less
+      let l = get_or (left_edges mesh tree cotree) k 0 in
+      let is = left_listed mesh tree cotree cert.left apart k k_in in
+      valid.heaviest l is.0 is.1 e e_in parted
 
   sizes : (ps : List (ℕ × ℕ)) → AllByRecursion (λ p. Contains (edges mesh) (pair_of p)) ps →
       sum (map (walk_length mesh lengths) (map (λ p. loop_walk mesh tree (edge_number mesh p)) ps))

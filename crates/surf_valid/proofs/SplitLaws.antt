@@ -33,7 +33,7 @@ just_third true b c h on = absurd (false≢true (sym (just_first true b c h refl
 just_third false true c h on = absurd (false≢true (sym (not-false_is c h) ∙ on))
 just_third false false c h on = (refl, refl)
 
-pub else_third : (a b c : Bool) → just_one a b c ≡ true → a ≡ false → b ≡ false → c ≡ true
+else_third : (a b c : Bool) → just_one a b c ≡ true → a ≡ false → b ≡ false → c ≡ true
 else_third a b c h no_a no_b = rw (no_a, no_b) at h
 
 module _ (mesh : Mesh) (tree cotree : Tree) (left : List (ℕ × ℕ)) (apart : AreApart mesh tree cotree left) where
@@ -109,18 +109,14 @@ module _ (mesh : Mesh) (tree cotree : Tree) (left : List (ℕ × ℕ)) (apart : 
             found xs h.1,
           )
 
-  -- each edge in neither tree is the number of a listed pair
+  -- each edge in neither tree is listed
   pub left_listed : (k : ℕ) → k < length (left_edges mesh tree cotree) →
-      (p : ℕ × ℕ) × Contains left p × (edge_number mesh p ≡ get_or (left_edges mesh tree cotree) k 0)
+      (get_or (left_edges mesh tree cotree) k 0 < edge_count mesh)
+      × (is_listed mesh left (get_or (left_edges mesh tree cotree) k 0) ≡ true)
   left_listed k l =
       let e = get_or (left_edges mesh tree cotree) k 0 in
-      let is = left_each k l in
-      let listed : list_any (λ p. pair_eq (ends mesh e) (pair_of p)) left ≡ true =
-      else_third (tree_edges mesh tree e) (cotree_edges mesh cotree e) (is_listed mesh left e) (apart.one_of e is.0) is.1
-      is.2 in
-      let (i, i_in, same) = list_any_at (λ p. pair_eq (ends mesh e) (pair_of p)) left (0, 0) listed in (
-        get_or left i (0, 0),
-        Contains-get_or left i (0, 0) i_in,
-        ap (λ q. place_of q (edges mesh)) (sym (pair_eq-true (ends mesh e) (pair_of (get_or left i (0, 0))) same))
-            ∙ place_of-ends mesh e is.0,
+      let is = left_each k l in (
+        is.0,
+        else_third (tree_edges mesh tree e) (cotree_edges mesh cotree e) (is_listed mesh left e) (apart.one_of e is.0) is.1
+            is.2,
       )

@@ -19,8 +19,8 @@ pub record LoopCert : Type 0 where
   pub dual : DualRows
   pub left : List (ℕ × ℕ)
 
--- what shows that cycles are a least basis: a tree at each vertex, the tree of faces and the left edges over the tree at
--- vertex 0, and the cycles
+-- what shows that cycles are a least basis: a tree at each vertex, the tree of faces and the left edges over the tree
+-- at vertex 0, and the cycles
 pub record BasisCert : Type 0 where
   pub trees : List TreeRows
   pub dual : DualRows

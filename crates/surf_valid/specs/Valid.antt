@@ -120,8 +120,8 @@ is_listed mesh left e = list_any (λ p. pair_eq (ends mesh e) (pair_of p)) left
 abbrev pub just_one : Bool → Bool → Bool → Bool
 just_one a b c = if a then (not b && not c) else (if b then not c else c)
 
--- each pair that is listed as left is an edge, and each edge is in just one of the tree of vertices, the tree of faces and
--- the list
+-- each pair that is listed as left is an edge, and each edge is in just one of the tree of vertices, the tree of faces
+-- and the list
 pub record IsDivided (mesh : Mesh) (rows : TreeRows) (dual : DualRows) (left : List (ℕ × ℕ)) : Type 0 where
   pub are_edges : All (λ p. Contains (edges mesh) (pair_of p)) left
   pub divided : (e : ℕ) → e < edge_count mesh →
@@ -134,12 +134,17 @@ abbrev pub loop_size : Mesh → List ℕ → TreeRows → ℕ → ℕ
 loop_size mesh lengths rows e =
     distance_at rows (ends mesh e).0 + edge_length lengths e + distance_at rows (ends mesh e).1
 
--- no edge on the way through the tree of faces between the two faces of a left edge has a shorter loop
-abbrev pub IsNotHeavier : Mesh → List ℕ → LoopCert → ℕ × ℕ → ℕ → Type 0
-IsNotHeavier mesh lengths cert p c =
-    between (dual_tree mesh cert.dual) (faces_of mesh (edge_number mesh p)).0 (faces_of mesh (edge_number mesh p)).1 c
-    ≡ true →
-    loop_size mesh lengths cert.tree (edge_number mesh p) ≤ loop_size mesh lengths cert.tree c
+-- where edge c is on the way through the tree of faces between the two faces of edge l, its loop is no shorter than that
+-- of l
+abbrev pub IsNotHeavier : Mesh → List ℕ → LoopCert → ℕ → ℕ → Type 0
+IsNotHeavier mesh lengths cert l c =
+    between (dual_tree mesh cert.dual) (faces_of mesh l).0 (faces_of mesh l).1 c ≡ true →
+    loop_size mesh lengths cert.tree l ≤ loop_size mesh lengths cert.tree c
+
+-- a left edge has no such edge with a shorter loop
+abbrev pub HasNoShorter : Mesh → List ℕ → LoopCert → ℕ → Type 0
+HasNoShorter mesh lengths cert l =
+    is_listed mesh cert.left l ≡ true → (c : ℕ) → c < edge_count mesh → IsNotHeavier mesh lengths cert l c
 
 -- ---- the certificate
 
@@ -158,8 +163,7 @@ pub record IsValidLoops (mesh : Mesh) (lengths : List ℕ) (cert : LoopCert) : T
   pub tree : IsTreeValid mesh lengths cert.tree
   pub dual : IsDualValid mesh cert.dual
   pub divided : IsDivided mesh cert.tree cert.dual cert.left
-  pub heaviest : (p : ℕ × ℕ) (c : ℕ) → Contains cert.left p → c < edge_count mesh →
-      IsNotHeavier mesh lengths cert p c
+  pub heaviest : (l : ℕ) → l < edge_count mesh → HasNoShorter mesh lengths cert l
 
 -- the loops of the left edges through the tree, in their order
 abbrev pub loops_of : Mesh → LoopCert → List (List ℕ)
