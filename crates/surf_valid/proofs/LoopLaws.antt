@@ -1,19 +1,18 @@
 -- The loops of a valid certificate are a least loop system.
-use Rattle.std.proofs.Common.{◌≡◌, ℕ, ◌+◌, ◌≤◌, List, [], ◌∷◌, map, sum, Contains, refl, sym, ap, ◌∙◌, subst, get_or}
+use Rattle.std.proofs.Common.{◌≡◌, ℕ, ◌+◌, List, [], ◌∷◌, map, sum, Contains, refl, sym, ap, ◌∙◌, subst, get_or}
 use Rattle.std.specs.List.{AllByRecursion}
 use Rattle.std.proofs.lemmas.Simd.{map-map}
 use Rattle.std.proofs.lemmas.List.Elements.{recursion_from_All}
 use Rattle.std.proofs.lemmas.List.Sums.{sum_by-cons}
 use Rattle.surf_homology.specs.Cells.{primal, dual, IsHeaviest}
-use Rattle.surf_homology.specs.Growth.{between}
 use Rattle.surf_homology.specs.Trees.{Tree, IsTree, IsShortest}
 use Rattle.surf_complex.specs.Mesh.{Mesh, pair_of, edges}
-use Rattle.surf_complex.specs.Surface.{faces_of, IsSurface}
+use Rattle.surf_complex.specs.Surface.{IsSurface}
 use Rattle.surf_complex.specs.Walk.{edge_length, edge_number, walk_length, ArePositive}
 use Rattle.surf_complex.specs.Homology.{total, IsLeastLoopSystem}
 use Rattle.surf_complex.specs.Cells.{cells_of}
 use Rattle.surf_complex.specs.Loop.{loop_walk}
-use Rattle.surf_complex.specs.Cotree.{split_of}
+use Rattle.surf_complex.specs.Cotree.{left_edges, split_of}
 use Rattle.surf_complex.proofs.EdgeLaws.{place_of-among, among-contains}
 use Rattle.surf_complex.proofs.ClassLaws.{runs_loop}
 use Rattle.surf_complex.proofs.LeastLaws.{left_loops_are_least}

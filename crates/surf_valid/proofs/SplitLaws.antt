@@ -1,9 +1,8 @@
 -- The trees of a valid certificate and the edges in neither are a split, and the listed pairs are those edges.
-use Rattle.std.proofs.Common.{◌≡◌, ℕ, zero, suc, ◌+◌, ◌<◌, Bool, true, false, not, eqb, List, [], ◌∷◌, length, get_or, map, Contains, IsPermutation, refl, sym, ap, ◌∙◌, arith, inl, inr}
+use Rattle.std.proofs.Common.{◌≡◌, ℕ, zero, suc, ◌+◌, ◌<◌, Bool, true, false, not, eqb, List, [], ◌∷◌, length, get_or, map, IsPermutation, refl, sym, ap, ◌∙◌, arith, inl, inr}
 use Rattle.std.specs.List.{AllByRecursion, list_any}
 use Rattle.std.proofs.lemmas.Bool.{cases_Bool, or_right, and_parts, eq-eqb, false≢true}
 use Rattle.std.proofs.lemmas.List.{length-map}
-use Rattle.std.proofs.lemmas.List.Elements.{Contains-get_or}
 use Rattle.surf_homology.specs.Cells.{primal, dual, IsSplit}
 use Rattle.surf_homology.specs.Trees.{Tree, IsTree}
 use Rattle.surf_homology.proofs.Counting.{left_edges as left_count}
@@ -14,7 +13,7 @@ use Rattle.surf_complex.specs.Homology.{IsFullCount}
 use Rattle.surf_complex.specs.Cells.{cells_of}
 use Rattle.surf_complex.specs.Cotree.{tree_edges, cotree_edges, is_left, left_edges, split_of}
 use Rattle.surf_complex.proofs.PairLaws.{pair_eq-true}
-use Rattle.surf_complex.proofs.EdgeLaws.{place_of-ends, list_any_at}
+use Rattle.surf_complex.proofs.EdgeLaws.{place_of-ends}
 use Rattle.surf_complex.proofs.CotreeLaws.{passing_climb, passing_each, passing_found, not-false_is}
 use Rattle.surf_valid.specs.Valid.{is_listed, just_one}
 use Rattle.surf_valid.proofs.ListLaws.{climbs_in_order, permuted_where_found}
