@@ -1,0 +1,3 @@
+pub mod EdgeUp
+pub mod FaceEdges
+pub mod Flags

@@ -1,0 +1,4 @@
+pub mod First
+pub mod Rows
+pub mod LoopFaults
+pub mod Split

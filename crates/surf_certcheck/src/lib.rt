@@ -1,0 +1,11 @@
+//! Whether a certificate is valid, by its conditions alone.
+#![tactic(auto)]
+
+mod dual;
+mod edges;
+mod fault;
+mod marks;
+mod shape;
+mod tree;
+
+pub use fault::{CertFault, CertPart};
