@@ -1,3 +1,5 @@
 pub mod EdgeUp
 pub mod FaceEdges
 pub mod Flags
+pub mod Strays
+pub mod BadPairs

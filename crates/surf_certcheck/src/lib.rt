@@ -6,6 +6,7 @@ mod edges;
 mod fault;
 mod marks;
 mod shape;
+mod split;
 mod tree;
 
 pub use fault::{CertFault, CertPart};
