@@ -3,3 +3,5 @@ pub mod FaceEdges
 pub mod Flags
 pub mod Strays
 pub mod BadPairs
+pub mod FaceLinks
+pub mod LeastIn

@@ -2,3 +2,4 @@ pub mod First
 pub mod Rows
 pub mod LoopFaults
 pub mod Split
+pub mod Paths

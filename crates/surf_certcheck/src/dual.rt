@@ -22,7 +22,7 @@ fn is_beside(mesh: &HalfMesh, f: FaceId, e: EdgeId) -> bool
 }
 
 // The edge of a face between two vertices.
-fn edge_of_face(mesh: &HalfMesh, f: FaceId, u: VertexId, v: VertexId) -> Option<EdgeId>
+pub(crate) fn edge_of_face(mesh: &HalfMesh, f: FaceId, u: VertexId, v: VertexId) -> Option<EdgeId>
     requires face { f < face_count mesh.now }
     ensures edge { MatchOption result (has_side (pair u v) (face_at mesh.now f) ≡ true → ⊥) (λ e. (has_side (pair u v) (face_at mesh.now f) ≡ true) × (e < edge_count mesh.now) × (edge_number mesh.now (u, v) ≡ e)) }
 {
@@ -40,7 +40,7 @@ fn edge_of_face(mesh: &HalfMesh, f: FaceId, u: VertexId, v: VertexId) -> Option<
 }
 
 // The face on the other side of an edge of a face.
-fn face_across(mesh: &HalfMesh, f: FaceId, e: EdgeId) -> FaceId
+pub(crate) fn face_across(mesh: &HalfMesh, f: FaceId, e: EdgeId) -> FaceId
     requires edge { e < edge_count mesh.now }
     ensures across { result ≡ (if f == (faces_of mesh.now e).0 then (faces_of mesh.now e).1 else (faces_of mesh.now e).0) }
     ensures inside { result < face_count mesh.now }

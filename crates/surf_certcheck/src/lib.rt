@@ -4,6 +4,8 @@
 mod dual;
 mod edges;
 mod fault;
+mod heavier;
+mod links;
 mod marks;
 mod shape;
 mod split;
