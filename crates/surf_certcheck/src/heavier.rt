@@ -7,6 +7,7 @@ ghost use Rattle.surf_valid.specs.Valid.{dual_tree, loop_size, is_listed, IsNotH
 ghost use Rattle.surf_certcheck.specs.First.{HoldsBelow, FailsFirst};
 ghost use Rattle.surf_certcheck.specs.Rows.{HasTreeRows, HasDualRows, HasDual};
 ghost use Rattle.surf_certcheck.specs.Split.{AreFlags, none};
+ghost use Rattle.surf_certcheck.specs.LoopFaults.{AreHeavier};
 ghost use Rattle.surf_certcheck.specs.Paths.{AreLinks, IsShort, IsLeastIn, OnWay, OnEither, IsLeastWith, least_with, lesser_of};
 
 use crate::edges::{ends_inside, faces_inside};
@@ -198,4 +199,58 @@ fn first_shorter(
     let least = least_on_two(mesh, lengths, rows, dual, links, flags, limit, near, far);
     turn_between(mesh, dual, links, flags, near, far);
     least
+}
+
+// The same for an edge that counts where it is listed as left.
+fn shorter_if_listed(
+    mesh: &HalfMesh,
+    lengths: &Lengths,
+    cert: &LoopCert,
+    links: &Links,
+    left: &[bool],
+    flags: &mut [bool],
+    l: EdgeId,
+) -> Option<EdgeId>
+    requires rows { HasTreeRows mesh.now cert.now.tree }
+    requires lengths { length lengths.now ≡ edge_count mesh.now }
+    requires tree { HoldsBelow (face_count mesh.now) (HasDual mesh.now cert.now.dual) }
+    requires links { AreLinks mesh.now cert.now.dual (face_count mesh.now) links.now.parent.items links.now.up.items }
+    requires left { AreFlags (edge_count mesh.now) (is_listed mesh.now cert.now.left) left.now }
+    requires off { AreFlags (edge_count mesh.now) none flags.old }
+    requires edge { l < edge_count mesh.now }
+    ensures off { AreFlags (edge_count mesh.now) none flags.new }
+    ensures first { MatchOption result (HasNoShorter mesh.now lengths.now cert.now l) (λ c. (HasNoShorter mesh.now lengths.now cert.now l → ⊥) × FailsFirst (edge_count mesh.now) (IsNotHeavier mesh.now lengths.now cert.now l) c) }
+{
+    if left[l.index()] {
+        first_shorter(mesh, lengths, cert, links, flags, l)
+    } else {
+        None
+    }
+}
+
+/// The least left edge that has such an edge with a shorter loop, and the least of these. The flags are off, before and
+/// after.
+pub(crate) fn first_heavier(
+    mesh: &HalfMesh,
+    lengths: &Lengths,
+    cert: &LoopCert,
+    links: &Links,
+    left: &[bool],
+    flags: &mut [bool],
+) -> Option<(EdgeId, EdgeId)>
+    requires rows { HasTreeRows mesh.now cert.now.tree }
+    requires lengths { length lengths.now ≡ edge_count mesh.now }
+    requires tree { HoldsBelow (face_count mesh.now) (HasDual mesh.now cert.now.dual) }
+    requires links { AreLinks mesh.now cert.now.dual (face_count mesh.now) links.now.parent.items links.now.up.items }
+    requires left { AreFlags (edge_count mesh.now) (is_listed mesh.now cert.now.left) left.now }
+    requires off { AreFlags (edge_count mesh.now) none flags.old }
+    ensures first { MatchOption result (HoldsBelow (edge_count mesh.now) (HasNoShorter mesh.now lengths.now cert.now)) (λ p. AreHeavier mesh.now lengths.now cert.now p.0 p.1) }
+{
+    for e in 0..mesh.edges() {
+        let l = EdgeId::new(e);
+        if let Some(c) = shorter_if_listed(mesh, lengths, cert, links, left, flags, l) {
+            return Some((l, c));
+        }
+    }
+    None
 }

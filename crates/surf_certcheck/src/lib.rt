@@ -6,6 +6,7 @@ mod edges;
 mod fault;
 mod heavier;
 mod links;
+mod loops;
 mod marks;
 mod shape;
 mod split;

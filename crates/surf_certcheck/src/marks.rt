@@ -89,7 +89,7 @@ fn flag_listed(mesh: &HalfMesh, flags: &mut [bool], left: &[(VertexId, VertexId)
 }
 
 // No edge is flagged yet.
-fn no_flags(alloc: Global, mesh: &HalfMesh) -> Result<Vec<bool>, NoMemory>
+pub(crate) fn no_flags(alloc: Global, mesh: &HalfMesh) -> Result<Vec<bool>, NoMemory>
     ensures none { IfOk result (λ v. AreFlags (edge_count mesh.now) none v.items) }
 {
     Ok(vec![in alloc; false; mesh.edges() as usize]?)
