@@ -5,3 +5,5 @@ pub mod Strays
 pub mod BadPairs
 pub mod FaceLinks
 pub mod LeastIn
+pub mod LoopFaults
+pub mod Totals

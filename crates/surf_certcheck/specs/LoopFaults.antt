@@ -40,6 +40,12 @@ IsTreeFault mesh lengths rows (Slack base u v) =
     × ((e : ℕ) × (ends mesh e ≡ (u, v)) × FailsFirst (edge_count mesh) (IsNoShortCut mesh lengths rows) e)
 IsTreeFault mesh lengths rows fault = ⊥
 
+-- the least left edge that could be exchanged, and the least edge that it could be exchanged for, by their ends
+abbrev pub IsHeavierFault : Mesh → List ℕ → LoopCert → CertFault → Type 0
+IsHeavierFault mesh lengths cert (Heavier left cotree) =
+    (l : ℕ) × (c : ℕ) × (ends mesh l ≡ left) × (ends mesh c ≡ cotree) × AreHeavier mesh lengths cert l c
+IsHeavierFault mesh lengths cert fault = ⊥
+
 -- What each fault says: its condition with the least witness, and that none of the conditions before it fails.
 abbrev pub IsLoopFault : Mesh → List ℕ → LoopCert → CertFault → Type 0
 IsLoopFault mesh lengths cert (Shape part) = IsShapeFault mesh cert part
@@ -57,7 +63,7 @@ IsLoopFault mesh lengths cert (Split u v) =
 IsLoopFault mesh lengths cert (Heavier left cotree) =
     HasShape mesh cert × IsTreeValid mesh lengths cert.tree × IsDualValid mesh cert.dual
     × IsDivided mesh cert.tree cert.dual cert.left
-    × ((l : ℕ) × (c : ℕ) × (ends mesh l ≡ left) × (ends mesh c ≡ cotree) × AreHeavier mesh lengths cert l c)
+    × IsHeavierFault mesh lengths cert (Heavier left cotree)
 IsLoopFault mesh lengths cert (NotClosed place) = ⊥
 IsLoopFault mesh lengths cert (Dependent place) = ⊥
 IsLoopFault mesh lengths cert (Uncovered base u v) = ⊥

@@ -17,12 +17,13 @@ use surf_cert::{DualRows, LoopCert, TreeRows};
 use surf_lengths::Lengths;
 use surf_mesh::HalfMesh;
 
-// How long the loop of an edge is.
-fn size_of(mesh: &HalfMesh, lengths: &Lengths, rows: &TreeRows, e: EdgeId) -> u128
+/// How long the loop of an edge is.
+pub(crate) fn size_of(mesh: &HalfMesh, lengths: &Lengths, rows: &TreeRows, e: EdgeId) -> u128
     requires rows { HasTreeRows mesh.now rows.now }
     requires lengths { length lengths.now ≡ edge_count mesh.now }
     requires edge { e < edge_count mesh.now }
     ensures size { result ≡ loop_size mesh.now lengths.now rows.now e }
+    ensures small { result < 2 ^ 66 }
 {
     let (near, far) = ends_inside(mesh, e);
     let distance = rows.distance();
