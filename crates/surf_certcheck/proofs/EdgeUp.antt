@@ -1,0 +1,37 @@
+-- The edge between two vertices by its number.
+use Rattle.std.proofs.Common.{◌≡◌, ℕ, ◌<◌, true, false, refl, sym, ap, ◌∙◌, Contains, Option, Some, None}
+use Rattle.std.specs.Option.{MatchOption}
+use Rattle.std.proofs.lemmas.Bool.{true≢false}
+use Rattle.surf_homology.specs.Cells.{primal}
+use Rattle.surf_homology.proofs.Trees.{joined_below}
+use Rattle.surf_complex.specs.Mesh.{Mesh, pair, pair_eq, edges, among}
+use Rattle.surf_complex.specs.Surface.{edge_count, ends, IsSurface}
+use Rattle.surf_complex.specs.Walk.{edge_number, place_of}
+use Rattle.surf_complex.specs.Cells.{cells_of}
+use Rattle.surf_complex.proofs.EdgeLaws.{place_of-ends, among-contains, contains_from_among, list_any_from}
+use Rattle.surf_complex.proofs.PairLaws.{pair_eq-same}
+use Rattle.surf_complex.proofs.CellLaws.{surfaces_are_cells}
+use Rattle.surf_complex.proofs.GraphWalkLaws.{joined}
+
+pub number_is : (mesh : Mesh) (p v e : ℕ) → e < edge_count mesh → ends mesh e ≡ pair p v → edge_number mesh (p, v) ≡ e
+number_is mesh p v e l same = ap (λ q. place_of q (edges mesh)) (sym same) ∙ place_of-ends mesh e l
+
+pub neighbour_in : (mesh : Mesh) (p v : ℕ) → IsSurface mesh → Contains (edges mesh) (pair p v) → p < mesh.vertices
+neighbour_in mesh p v surface has =
+    joined_below (primal (cells_of mesh)) (surfaces_are_cells mesh surface).complex.primal_ends p v (joined mesh p v has)
+
+-- what is found between two vertices
+abbrev pub IsEdgeUp : Mesh → ℕ → ℕ → Option ℕ → Type 0
+IsEdgeUp mesh p v o = MatchOption o (Contains (edges mesh) (pair p v) → ⊥)
+    (λ e. Contains (edges mesh) (pair p v) × (e < edge_count mesh) × (edge_number mesh (p, v) ≡ e)
+    × (p < mesh.vertices))
+
+pub edge_up_is : (mesh : Mesh) (p v : ℕ) → IsSurface mesh → (o : Option ℕ) →
+    MatchOption o (among (pair p v) (edges mesh) ≡ false) (λ e. (e < edge_count mesh) × (ends mesh e ≡ pair p v)) →
+    IsEdgeUp mesh p v o
+edge_up_is mesh p v surface None none = λ has. true≢false (sym (among-contains (pair p v) (edges mesh) has) ∙ none)
+edge_up_is mesh p v surface (Some e) is =
+    let there : among (pair p v) (edges mesh) ≡ true =
+    list_any_from (pair_eq (pair p v)) (edges mesh) (0, 0) e is.0 (pair_eq-same (pair p v) (ends mesh e) (sym is.1)) in
+    let has = contains_from_among (pair p v) (edges mesh) there in
+    (has, is.0, number_is mesh p v e is.0 is.1, neighbour_in mesh p v surface has)

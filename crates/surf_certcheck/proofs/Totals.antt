@@ -1,0 +1,36 @@
+-- What a valid certificate of loops shows, and what a fault rules out, of an answer.
+use Rattle.std.proofs.Common.{◌≡◌, ◌≢◌, ℕ, ◌≤◌, List, length, sym, ◌∙◌, arith, subst}
+use Rattle.std.specs.Result.{IfOk, IfErr}
+use Rattle.std.specs.declared.result.Result.{Result}
+use Rattle.std.specs.declared.result.Result.TheVariants.{Ok, Err}
+use Rattle.surf_complex.specs.Mesh.{Mesh}
+use Rattle.surf_complex.specs.Surface.{edge_count, IsSurface}
+use Rattle.surf_complex.specs.Walk.{ArePositive}
+use Rattle.surf_complex.specs.Homology.{total, IsLeastLoopSystem}
+use Rattle.surf_lengths.specs.Lengths.{AreLengths}
+use Rattle.surf_valid.specs.Rows.{LoopCert}
+use Rattle.surf_valid.specs.Valid.{IsValidLoops, loops_of, loops_total}
+use Rattle.surf_valid.proofs.LoopLaws.{valid_loops_are_least}
+use Rattle.surf_certcheck.specs.LoopFaults.{IsLoopFault}
+use Rattle.surf_certcheck.specs.declared.fault.CertFault.{CertFault}
+use Rattle.surf_certcheck.specs.declared.fault.CertFault.TheVariants.{Memory}
+use Rattle.surf_certcheck.proofs.LoopFaults.{no_loop_fault}
+
+pub positive_lengths : (mesh : Mesh) (lengths : List ℕ) → AreLengths lengths → length lengths ≡ edge_count mesh →
+    ArePositive mesh lengths
+positive_lengths mesh lengths are count e l = (are e 0 (omega (arith, count, l))).positive
+
+pub least_where_ok : (mesh : Mesh) (lengths : List ℕ) (cert : LoopCert) → IsSurface mesh → ArePositive mesh lengths →
+    (r : Result ℕ CertFault) →
+    IfOk r (λ t. IsValidLoops mesh lengths cert × (t ≡ loops_total mesh lengths cert)) →
+    IfOk r (λ t. IsLeastLoopSystem mesh lengths cert.tree.base (loops_of mesh cert)
+    × (t ≡ total mesh lengths (loops_of mesh cert)))
+least_where_ok mesh lengths cert surface positive (Ok t) is =
+    let shown = valid_loops_are_least mesh lengths cert surface positive is.0 in
+    (shown.0, is.1 ∙ sym shown.1)
+least_where_ok mesh lengths cert surface positive (Err e) is = tt
+
+pub none_where_err : (mesh : Mesh) (lengths : List ℕ) (cert : LoopCert) (r : Result ℕ CertFault) →
+    IfErr r (IsLoopFault mesh lengths cert) → IfErr r (λ e. e ≢ Memory → IsValidLoops mesh lengths cert → ⊥)
+none_where_err mesh lengths cert (Ok t) is = tt
+none_where_err mesh lengths cert (Err e) is = λ ne valid. no_loop_fault mesh lengths cert valid e ne is

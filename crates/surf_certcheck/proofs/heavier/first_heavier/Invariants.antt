@@ -1,0 +1,12 @@
+use Rattle.surf_complex.specs.Surface.{edge_count}
+use Rattle.surf_valid.specs.Valid.{HasNoShorter}
+use Rattle.surf_certcheck.specs.First.{HoldsBelow}
+use Rattle.surf_certcheck.specs.Split.{AreFlags, none}
+use Rattle.surf_certcheck.proofs.heavier.first_heavier.Given as goal
+
+-- no left edge before could be exchanged
+abbrev pub invariant-loop-e : goal.invariant-loop-e
+invariant-loop-e l = record {
+  before : HoldsBelow l.e (HasNoShorter l.mesh l.lengths l.cert);
+  off : AreFlags (edge_count l.mesh) none l.flags;
+}

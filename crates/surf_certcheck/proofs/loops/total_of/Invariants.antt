@@ -1,0 +1,11 @@
+use Rattle.std.proofs.Common.{◌≡◌, ◌≤◌, ◌*◌, ◌^◌, map, sum, take}
+use Rattle.surf_complex.specs.Walk.{edge_number}
+use Rattle.surf_valid.specs.Valid.{loop_size}
+use Rattle.surf_certcheck.proofs.loops.total_of.Given as goal
+
+-- the loops of the pairs before
+abbrev pub invariant-loop-i : goal.invariant-loop-i
+invariant-loop-i l = record {
+  total : l.total ≡ sum (map (λ p. loop_size l.mesh l.lengths l.rows (edge_number l.mesh p)) (take l.i l.left));
+  bound : l.total ≤ l.i * 2 ^ 66;
+}

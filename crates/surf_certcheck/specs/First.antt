@@ -1,0 +1,12 @@
+-- The first number below a bound at which a condition fails.
+use Rattle.std.specs.Prelude.{ℕ, ◌<◌}
+
+-- the condition holds at each number below
+abbrev pub HoldsBelow : ℕ → (ℕ → Type 0) → Type 0
+HoldsBelow n P = (k : ℕ) → k < n → P k
+
+-- it fails at a number below, and at none before
+pub record FailsFirst (n : ℕ) (P : ℕ → Type 0) (k : ℕ) : Type 0 where
+  pub below : k < n
+  pub fails : P k → ⊥
+  pub before : HoldsBelow k P

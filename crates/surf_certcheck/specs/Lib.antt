@@ -1,0 +1,5 @@
+pub mod First
+pub mod Rows
+pub mod LoopFaults
+pub mod Split
+pub mod Paths

@@ -1,0 +1,28 @@
+-- The conditions on the rows of a certificate, each by its number.
+use Rattle.std.specs.Prelude.{◌≡◌, ℕ, List, length}
+use Rattle.surf_complex.specs.Mesh.{Mesh}
+use Rattle.surf_complex.specs.Surface.{face_count}
+use Rattle.surf_valid.specs.Rows.{TreeRows, DualRows}
+use Rattle.surf_valid.specs.Valid.{parent_at, side_at, IsParent, AddsUp, IsDualRow}
+
+-- there is a row for each vertex
+pub record HasTreeRows (mesh : Mesh) (rows : TreeRows) : Type 0 where
+  pub distances : length rows.distance ≡ mesh.vertices
+  pub parents : length rows.parent ≡ mesh.vertices
+
+-- there is a row for each face
+pub record HasDualRows (mesh : Mesh) (dual : DualRows) : Type 0 where
+  pub depths : length dual.depth ≡ face_count mesh
+  pub sides : length dual.side ≡ face_count mesh
+
+-- the parent of a vertex is one
+abbrev pub HasParent : Mesh → TreeRows → ℕ → Type 0
+HasParent mesh rows v = IsParent mesh rows.base v (parent_at rows v)
+
+-- the distance of a vertex is that by its parent
+abbrev pub HasDistance : Mesh → List ℕ → TreeRows → ℕ → Type 0
+HasDistance mesh lengths rows v = AddsUp mesh lengths rows v (parent_at rows v)
+
+-- the row of a face is one of the tree of faces
+abbrev pub HasDual : Mesh → DualRows → ℕ → Type 0
+HasDual mesh dual f = IsDualRow mesh dual f (side_at dual f)

@@ -1,0 +1,120 @@
+//! The tree of faces that a certificate says, as tables of edges and faces.
+ghost use Rattle.std.specs.Prelude.{◌≡◌, ◌≢◌, ◌<◌, ◌==◌, ℕ, IfOk, length, get_or, false, true};
+ghost use Rattle.surf_z2.specs.Parity.{xor};
+ghost use Rattle.surf_homology.specs.Trees.{on_path};
+ghost use Rattle.surf_complex.specs.Mesh.{pair};
+ghost use Rattle.surf_complex.specs.Surface.{edge_count, face_count, face_at, has_side};
+ghost use Rattle.surf_valid.specs.Valid.{dual_tree, IsDualRow};
+ghost use Rattle.surf_certcheck.specs.First.{HoldsBelow};
+ghost use Rattle.surf_certcheck.specs.Rows.{HasDualRows, HasDual};
+ghost use Rattle.surf_certcheck.specs.Paths.{AreLinks, IsLinkOver, HasLink, IsStepUp};
+
+use crate::dual::{edge_of_face, face_across};
+use std::alloc::Global;
+use surf_base::{EdgeId, FaceId, NoMemory, VertexId};
+use surf_cert::DualRows;
+use surf_mesh::HalfMesh;
+
+/// For each face but face 0, the face that it hangs on and the edge between them.
+#[derive(Drop)]
+pub(crate) struct Links {
+    pub(crate) parent: Vec<FaceId>,
+    pub(crate) up: Vec<EdgeId>,
+}
+
+// The face across the side of a face between two vertices, and the edge.
+fn link_by(mesh: &HalfMesh, f: FaceId, u: VertexId, v: VertexId) -> (FaceId, EdgeId)
+    requires face { f < face_count mesh.now }
+    requires side { has_side (pair u v) (face_at mesh.now f) ≡ true }
+    ensures link { IsLinkOver mesh.now f (u, v) result.0 result.1 }
+{
+    match edge_of_face(mesh, f, u, v) {
+        None => (FaceId::new(0), EdgeId::new(0)),
+        Some(e) => (face_across(mesh, f, e), e),
+    }
+}
+
+// The face that a face hangs on over its side, and the edge between them.
+fn link_over(
+    mesh: &HalfMesh,
+    dual: &DualRows,
+    f: FaceId,
+    side: Option<(VertexId, VertexId)>,
+) -> (FaceId, EdgeId)
+    requires face { f < face_count mesh.now }
+    requires row { IsDualRow mesh.now dual.now f side }
+    ensures link { HasLink mesh.now f side result.0 result.1 }
+{
+    let _rows = dual;
+    match side {
+        None => (FaceId::new(0), EdgeId::new(0)),
+        Some((u, v)) => link_by(mesh, f, u, v),
+    }
+}
+
+/// The links of all faces.
+pub(crate) fn link_faces(
+    alloc: Global,
+    mesh: &HalfMesh,
+    dual: &DualRows,
+) -> Result<Links, NoMemory>
+    requires rows { HasDualRows mesh.now dual.now }
+    requires tree { HoldsBelow (face_count mesh.now) (HasDual mesh.now dual.now) }
+    ensures links { IfOk result (λ l. AreLinks mesh.now dual.now (face_count mesh.now) l.parent.items l.up.items) }
+{
+    let count = mesh.faces();
+    let mut parent = Vec::with_capacity(alloc, count as usize)?;
+    let mut up = Vec::with_capacity(alloc, count as usize)?;
+    for f in 0..count {
+        let (face, edge) = link_over(mesh, dual, FaceId::new(f), dual.side()[f as usize]);
+        parent.push(face)?;
+        up.push(edge)?;
+    }
+    Ok(Links { parent, up })
+}
+
+/// The face that a face other than face 0 hangs on, and the edge between them.
+pub(crate) fn step_up(mesh: &HalfMesh, dual: &DualRows, links: &Links, at: FaceId) -> (FaceId, EdgeId)
+    requires tree { HoldsBelow (face_count mesh.now) (HasDual mesh.now dual.now) }
+    requires links { AreLinks mesh.now dual.now (face_count mesh.now) links.now.parent.items links.now.up.items }
+    requires face { at < face_count mesh.now }
+    requires below { at ≢ 0 }
+    ensures step { IsStepUp mesh.now dual.now at result.0 result.1 }
+{
+    let _surface = mesh.faces();
+    let _rows = dual;
+    (links.parent[at.index()], links.up[at.index()])
+}
+
+/// Turns the flags of the edges on the way from a face to face 0.
+pub(crate) fn turn_path(
+    mesh: &HalfMesh,
+    dual: &DualRows,
+    links: &Links,
+    flags: &mut [bool],
+    face: FaceId,
+)
+    requires tree { HoldsBelow (face_count mesh.now) (HasDual mesh.now dual.now) }
+    requires links { AreLinks mesh.now dual.now (face_count mesh.now) links.now.parent.items links.now.up.items }
+    requires face { face < face_count mesh.now }
+    requires count { length flags.old ≡ edge_count mesh.now }
+    ensures count { length flags.new ≡ edge_count mesh.now }
+    ensures turned { (e : ℕ) → get_or flags.new e false ≡ xor (get_or flags.old e false) (on_path (dual_tree mesh.now dual.now) face e) }
+{
+    let _surface = mesh.faces();
+    let mut at = face;
+    while at.index() != 0 {
+        let (above, edge) = step_up(mesh, dual, links, at);
+        turn(flags, edge);
+        at = above;
+    }
+}
+
+// Turns the flag of an edge.
+fn turn(flags: &mut [bool], edge: EdgeId)
+    requires edge { edge < length flags.old }
+    ensures count { length flags.new ≡ length flags.old }
+    ensures turned { (e : ℕ) → get_or flags.new e false ≡ xor (get_or flags.old e false) (edge == e) }
+{
+    flags[edge.index()] = !flags[edge.index()];
+}

@@ -1,0 +1,168 @@
+//! Whether a certificate of loops is valid.
+ghost use Rattle.std.specs.Prelude.{◌≡◌, ◌≢◌, ◌<◌, ℕ, ◌^◌, IfOk, IfErr, MatchOption, length, map, sum, All, Contains};
+ghost use Rattle.surf_complex.specs.Mesh.{edges, pair, pair_of};
+ghost use Rattle.surf_complex.specs.Surface.{edge_count, face_count};
+ghost use Rattle.surf_complex.specs.Walk.{edge_number};
+ghost use Rattle.surf_complex.specs.Homology.{total, IsLeastLoopSystem};
+ghost use Rattle.surf_valid.specs.Valid.{HasShape, IsTreeValid, IsDualValid, IsValidLoops, HasNoShorter};
+ghost use Rattle.surf_valid.specs.Valid.{is_listed, loop_size, loops_of, loops_total};
+ghost use Rattle.surf_certcheck.specs.First.{HoldsBelow};
+ghost use Rattle.surf_certcheck.specs.Split.{AreFlags};
+ghost use Rattle.surf_certcheck.specs.Rows.{HasTreeRows, HasDualRows, HasDual};
+ghost use Rattle.surf_certcheck.specs.LoopFaults.{IsTreeFault, IsHeavierFault, IsLoopFault};
+ghost use Rattle.surf_certcheck.specs.declared.fault.CertFault.TheVariants.{Memory};
+
+use crate::dual::first_dual;
+use crate::edges::{edge_up, ends_inside};
+use crate::fault::CertFault;
+use crate::heavier::{first_heavier, size_of};
+use crate::links::link_faces;
+use crate::marks::no_flags;
+use crate::shape::loop_shape;
+use crate::split::{Marks, first_split, mark_edges};
+use crate::tree::{first_distance, first_parent, first_short_cut};
+use std::alloc::Global;
+use surf_base::{NoMemory, VertexId};
+use surf_cert::{LoopCert, TreeRows};
+use surf_lengths::Lengths;
+use surf_mesh::HalfMesh;
+
+// The first fault of the rows of vertices.
+fn tree_fault(mesh: &HalfMesh, lengths: &Lengths, rows: &TreeRows) -> Option<CertFault>
+    requires rows { HasTreeRows mesh.now rows.now }
+    requires lengths { length lengths.now ≡ edge_count mesh.now }
+    ensures fault { MatchOption result (IsTreeValid mesh.now lengths.now rows.now) (IsTreeFault mesh.now lengths.now rows.now) }
+{
+    let base = rows.base();
+    if let Some(vertex) = first_parent(mesh, rows) {
+        return Some(CertFault::Parent { base, vertex });
+    }
+    if let Some(vertex) = first_distance(mesh, lengths, rows) {
+        return Some(CertFault::Distance { base, vertex });
+    }
+    if let Some(edge) = first_short_cut(mesh, lengths, rows) {
+        let (u, v) = ends_inside(mesh, edge);
+        return Some(CertFault::Slack { base, u, v });
+    }
+    None
+}
+
+// How long the loop of the edge between two vertices is.
+fn size_between(
+    mesh: &HalfMesh,
+    lengths: &Lengths,
+    rows: &TreeRows,
+    u: VertexId,
+    v: VertexId,
+) -> u128
+    requires rows { HasTreeRows mesh.now rows.now }
+    requires lengths { length lengths.now ≡ edge_count mesh.now }
+    requires edge { Contains (edges mesh.now) (pair u v) }
+    ensures size { result ≡ loop_size mesh.now lengths.now rows.now (edge_number mesh.now (u, v)) }
+    ensures small { result < 2 ^ 66 }
+{
+    match edge_up(mesh, u, v) {
+        None => 0,
+        Some(e) => size_of(mesh, lengths, rows, e),
+    }
+}
+
+// The sum of the lengths of the loops of the left edges.
+fn total_of(
+    mesh: &HalfMesh,
+    lengths: &Lengths,
+    rows: &TreeRows,
+    left: &[(VertexId, VertexId)],
+) -> u128
+    requires rows { HasTreeRows mesh.now rows.now }
+    requires lengths { length lengths.now ≡ edge_count mesh.now }
+    requires edges { All (λ p. Contains (edges mesh.now) (pair_of p)) left.now }
+    ensures total { result ≡ sum (map (λ p. loop_size mesh.now lengths.now rows.now (edge_number mesh.now p)) left.now) }
+{
+    let mut total = 0u128;
+    for i in 0..left.len() {
+        let (u, v) = left[i];
+        total += size_between(mesh, lengths, rows, u, v);
+    }
+    total
+}
+
+// The first left edge that could be exchanged for an edge of the tree of faces, with that edge.
+fn heavier_fault(
+    alloc: Global,
+    mesh: &HalfMesh,
+    lengths: &Lengths,
+    cert: &LoopCert,
+    marks: &Marks,
+) -> Result<Option<CertFault>, NoMemory>
+    requires rows { HasTreeRows mesh.now cert.now.tree }
+    requires faces { HasDualRows mesh.now cert.now.dual }
+    requires lengths { length lengths.now ≡ edge_count mesh.now }
+    requires tree { HoldsBelow (face_count mesh.now) (HasDual mesh.now cert.now.dual) }
+    requires marks { AreFlags (edge_count mesh.now) (is_listed mesh.now cert.now.left) marks.now.left.items }
+    ensures fault { IfOk result (λ o. MatchOption o (HoldsBelow (edge_count mesh.now) (HasNoShorter mesh.now lengths.now cert.now)) (IsHeavierFault mesh.now lengths.now cert.now)) }
+{
+    let links = link_faces(alloc, mesh, cert.dual())?;
+    let mut flags = no_flags(alloc, mesh)?;
+    match first_heavier(mesh, lengths, cert, &links, &marks.left, &mut flags) {
+        None => Ok(None),
+        Some((l, c)) => Ok(Some(CertFault::Heavier {
+            left: ends_inside(mesh, l),
+            cotree: ends_inside(mesh, c),
+        })),
+    }
+}
+
+// The total of a certificate whose trees are valid, or its first fault among those of edges.
+fn check_edges(
+    alloc: Global,
+    mesh: &HalfMesh,
+    lengths: &Lengths,
+    cert: &LoopCert,
+) -> Result<u128, CertFault>
+    requires shape { HasShape mesh.now cert.now }
+    requires lengths { length lengths.now ≡ edge_count mesh.now }
+    requires tree { IsTreeValid mesh.now lengths.now cert.now.tree }
+    requires dual { IsDualValid mesh.now cert.now.dual }
+    ensures valid { IfOk result (λ t. IsValidLoops mesh.now lengths.now cert.now × (t ≡ loops_total mesh.now lengths.now cert.now)) }
+    ensures fault { IfErr result (IsLoopFault mesh.now lengths.now cert.now) }
+{
+    let (rows, dual, left) = (cert.tree(), cert.dual(), cert.left());
+    let marks = mark_edges(alloc, mesh, rows, dual, left)?;
+    if let Some((u, v)) = first_split(mesh, rows, dual, left, &marks) {
+        return Err(CertFault::Split { u, v });
+    }
+    match heavier_fault(alloc, mesh, lengths, cert, &marks)? {
+        None => Ok(total_of(mesh, lengths, rows, left)),
+        Some(fault) => Err(fault),
+    }
+}
+
+/// The total of the loops of a valid certificate, which is then the least of all loop systems at its base: see
+/// `surf_valid`. A certificate that isn't valid is refused with its first fault, in the order of [`CertFault`]. It asks
+/// nothing of the certificate.
+pub fn check_loops(
+    alloc: Global,
+    mesh: &HalfMesh,
+    lengths: &Lengths,
+    cert: &LoopCert,
+) -> Result<u128, CertFault>
+    requires lengths { length lengths.now ≡ edge_count mesh.now }
+    ensures valid { IfOk result (λ t. IsValidLoops mesh.now lengths.now cert.now × (t ≡ loops_total mesh.now lengths.now cert.now)) }
+    ensures least { IfOk result (λ t. IsLeastLoopSystem mesh.now lengths.now cert.now.tree.base (loops_of mesh.now cert.now) × (t ≡ total mesh.now lengths.now (loops_of mesh.now cert.now))) }
+    ensures fault { IfErr result (IsLoopFault mesh.now lengths.now cert.now) }
+    ensures excludes { IfErr result (λ e. e ≢ Memory → IsValidLoops mesh.now lengths.now cert.now → ⊥) }
+{
+    let _surface = mesh.edges();
+    let _positive = lengths.count();
+    if let Some(part) = loop_shape(mesh, cert) {
+        return Err(CertFault::Shape { part });
+    }
+    if let Some(fault) = tree_fault(mesh, lengths, cert.tree()) {
+        return Err(fault);
+    }
+    if let Some(face) = first_dual(mesh, cert.dual()) {
+        return Err(CertFault::Dual { face });
+    }
+    check_edges(alloc, mesh, lengths, cert)
+}

@@ -1,0 +1,6 @@
+pub mod TreeLaws
+pub mod DualLaws
+pub mod ListLaws
+pub mod SplitLaws
+pub mod LoopLaws
+pub mod BasisLaws

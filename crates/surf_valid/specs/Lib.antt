@@ -1,0 +1,4 @@
+pub mod Rows
+pub mod Valid
+pub mod Bases
+pub mod Laws

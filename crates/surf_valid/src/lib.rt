@@ -1,0 +1,27 @@
+//! What makes a certificate valid for a mesh and lengths, and what a valid one shows, as laws.
+//!
+//! A certificate is a record of plain lists (specs/Rows.antt). It is valid where each of its rows and pairs meets a
+//! condition that is checked by itself (specs/Valid.antt, specs/Bases.antt): each vertex has a neighbour as parent and is
+//! as much farther from the base as that edge is long, no edge is a short cut, each face lies one edge deeper than the one
+//! across its side, each edge is in just one of the two trees and the list of left edges, and no edge of the tree of faces
+//! could be exchanged for a left edge with a longer loop. A certificate of a basis has a tree at each vertex, and its
+//! cycles cover the loops through all of them. The words least and shortest are not in these conditions.
+//!
+//! - The loops of a valid loop certificate are a least loop system at its base, whichever trees it has
+//!   (`law_of_valid_loops`).
+//! - The cycles of a valid basis certificate are a least basis (`law_of_valid_bases`).
+//!
+//! Each law is the contract of a function that does nothing.
+#![tactic(auto)]
+
+ghost use Rattle.surf_valid.specs.Laws.{ValidLoopsAreLeast, ValidBasesAreLeast};
+
+/// The loops of a valid loop certificate are a least loop system at its base, and its total is theirs.
+pub fn law_of_valid_loops()
+    ensures { ValidLoopsAreLeast }
+{}
+
+/// The cycles of a valid basis certificate are a least basis.
+pub fn law_of_valid_bases()
+    ensures { ValidBasesAreLeast }
+{}
