@@ -14,7 +14,7 @@ use Rattle.surf_text.specs.Text.{TextLine, is_nonempty, tokens_of, value_of, who
 use Rattle.surf_cert.specs.declared.cert.Cert.{Cert}
 use Rattle.surf_cert.specs.declared.fault.CertText.{CertText}
 use Rattle.surf_cert.specs.declared.line.Counts.{Counts}
-use Rattle.surf_cert.specs.Rows.{TreeRows, DualRows, LoopCert, BasisCert}
+use Rattle.surf_valid.specs.Rows.{TreeRows, DualRows, LoopCert, BasisCert}
 use Rattle.surf_cert.specs.Lines.{greatest, at_most_greatest, number_of, is_header, three_counts, counts_of, if_same, base_of, base_at, some_parent, parent_of, with_parent, tree_row, below_root, dual_row, increasing, pair_of, is_next, if_next, pair_behind, onto_numbers, numbers_of, cycle_of, the_word}
 use Rattle.surf_cert.specs.Fits.{IsNumber, IsParent, IsPair, IsFaceRow, TreeFits, DualFits, LeftFits, CycleFits, LoopFits, BasisFits, CertFits}
 use Rattle.surf_cert.specs.Gives.{Gives}

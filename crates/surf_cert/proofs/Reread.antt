@@ -10,7 +10,7 @@ use Rattle.surf_off.proofs.Reread.{lines_from}
 use Rattle.surf_cert.specs.declared.fault.CertText.{CertText}
 use Rattle.surf_cert.specs.declared.cert.Cert.TheVariants.{Loops, Basis}
 use Rattle.surf_cert.specs.declared.line.Counts.{Counts}
-use Rattle.surf_cert.specs.Rows.{TreeRows, DualRows, LoopCert, BasisCert}
+use Rattle.surf_valid.specs.Rows.{TreeRows, DualRows, LoopCert, BasisCert}
 use Rattle.surf_cert.specs.Lines.{the_word, is_header, counts_of, base_of, base_at, tree_row, dual_row, is_next, pair_behind, cycle_of}
 use Rattle.surf_cert.specs.Fits.{IsNumber, IsParent, IsPair, IsFaceRow, TreeFits, DualFits, LeftFits, CycleFits, LoopFits, BasisFits}
 use Rattle.surf_cert.specs.Grammar.{◌>>=◌, next_of, onto_rows, rows_of, pairs_of, tree_of, based_tree, trees_of, dual_rows_of, dual_of, left_of, cycles_of, ended, loops_in, basis_in, cert_in}

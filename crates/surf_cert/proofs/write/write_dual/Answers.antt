@@ -5,7 +5,7 @@ use Rattle.surf_text.specs.Pages.{Puts}
 use Rattle.std.proofs.lemmas.List.{take_rest}
 use Rattle.surf_cert.proofs.CycleLines.{cycle_first}
 use Rattle.surf_text.proofs.Writing.{puts_more, puts_stop}
-use Rattle.surf_cert.specs.Rows.{TreeRows, DualRows}
+use Rattle.surf_valid.specs.Rows.{TreeRows, DualRows}
 use Rattle.surf_cert.specs.Written.{head_text, base_line, vertex_line, face_line, pair_line, tree_text, cycle_line, numbers_text, dual_text, left_text, cycles_text}
 use Rattle.surf_cert.proofs.write.write_dual.Goals as goal
 
