@@ -42,11 +42,11 @@ module _ (mesh : Mesh) (rows : TreeRows) (dual : DualRows) (left : List (ℕ × 
     are_edges = λ k d l.
         let p = pair_of (get_or left k d) in
         elim (cases_Bool (among p (edges mesh))) [
-        | inl there ↦ contains_from_among p (edges mesh) there
-        | inr out ↦ absurd (none p (
-          list_any_from (λ q. pair_eq p (pair_of q)) left d k l (pair_eq-same p p refl),
-          out,
-        ))
+          | inl there ↦ contains_from_among p (edges mesh) there
+          | inr out ↦ absurd (none p (
+            list_any_from (λ q. pair_eq p (pair_of q)) left d k l (pair_eq-same p p refl),
+            out,
+          ))
         ];
     divided = λ e l. one_from e l (all e l);
   }
@@ -98,15 +98,15 @@ module _ (mesh : Mesh) (rows : TreeRows) (dual : DualRows) (left : List (ℕ × 
     | inl less ↦ rw less (record {
       bad = edge_bad e first;
       least = λ q bad. elim bad [
-      | inl stray ↦ not_less (ends mesh e) p q less (is.1 q stray)
-      | inr other ↦ edge_first e first q other
+        | inl stray ↦ not_less (ends mesh e) p q less (is.1 q stray)
+        | inr other ↦ edge_first e first q other
       ];
     })
     | inr out ↦ rw out (record {
       bad = inl is.0;
       least = λ q bad. elim bad [
-      | inl stray ↦ is.1 q stray
-      | inr other ↦ not_less_up (ends mesh e) p q out (edge_first e first q other)
+        | inl stray ↦ is.1 q stray
+        | inr other ↦ not_less_up (ends mesh e) p q out (edge_first e first q other)
       ];
     })
   ]

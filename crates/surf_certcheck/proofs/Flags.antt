@@ -25,8 +25,8 @@ flagged mesh u v edge flags count edge_in same e e_in =
     let test : pair_eq (ends mesh e) (pair u v) ≡ eqb e edge =
     ends-eq mesh (pair u v) e there e_in ∙ ap (eqb e) number in
     elim (cases_eq e edge) [
-    | inl is ↦ rw (test, eq-eqb e edge is, is) (get_or-set_same flags edge true false (omega (arith, count, edge_in)))
-    | inr not ↦ rw (test, ne_eqb e edge not) (get_or-set_other flags edge e true false not)
+      | inl is ↦ rw (test, eq-eqb e edge is, is) (get_or-set_same flags edge true false (omega (arith, count, edge_in)))
+      | inr not ↦ rw (test, ne_eqb e edge not) (get_or-set_other flags edge e true false not)
     ]
 
 -- one more test

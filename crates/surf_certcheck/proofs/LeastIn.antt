@@ -9,10 +9,13 @@ module _ (short : ℕ → Type 0) (old new : ℕ → Type 0) (e : ℕ) (grows : 
   -- a further number that isn't short
   keep : (o : Option ℕ) → (short e → ⊥) → IsLeastIn short old o → IsLeastIn short new o
   keep None long h = λ c is s. elim (grows c is) [ inl was ↦ h c was s | inr same ↦ long (subst short same s) ]
-  keep (Some b) long h = (h.0, λ c is s. elim (grows c is) [
-    | inl was ↦ h.1 c was s
-    | inr same ↦ absurd (long (subst short same s))
-  ])
+  keep (Some b) long h = (
+    h.0,
+    λ c is s. elim (grows c is) [
+      | inl was ↦ h.1 c was s
+      | inr same ↦ absurd (long (subst short same s))
+    ],
+  )
 
   -- one that is
   take : (o : Option ℕ) → short e → IsLeastIn short old o → IsLeastIn short new (Some (least_with e o))
@@ -20,16 +23,22 @@ module _ (short : ℕ → Type 0) (old new : ℕ → Type 0) (e : ℕ) (grows : 
   take (Some b) s h = elim (cases_Bool (ltb b e)) [
     | inl less ↦
         let below : b < e = ltb-true b e less in
-        rw less (h.0, λ c is t. elim (grows c is) [
-          | inl was ↦ h.1 c was t
-          | inr same ↦ omega (arith, same, below)
-        ])
+        rw less (
+          h.0,
+          λ c is t. elim (grows c is) [
+            | inl was ↦ h.1 c was t
+            | inr same ↦ omega (arith, same, below)
+          ],
+        )
     | inr no_less ↦
         let above : e ≤ b = grind (arith, nat_tests) in
-        rw no_less (s, λ c is t. elim (grows c is) [
-          | inl was ↦ (let bound : b ≤ c = h.1 c was t in omega (arith, bound, above))
-          | inr same ↦ omega (arith, same)
-        ])
+        rw no_less (
+          s,
+          λ c is t. elim (grows c is) [
+            | inl was ↦ (let bound : b ≤ c = h.1 c was t in omega (arith, bound, above))
+            | inr same ↦ omega (arith, same)
+          ],
+        )
   ]
 
   pub least_more : (before after : Option ℕ) → IsLeastWith short e before after → IsLeastIn short old before →

@@ -32,7 +32,7 @@ module _ (mesh : Mesh) (xs : List (ℕ × ℕ)) (y : ℕ × ℕ) where
   last_stray out = (
     named_more (pair_of y)
         ∙ or_right (is_named xs (pair_of y)) (pair_eq (pair_of y) (pair_of y) || false)
-            (or_left (pair_eq (pair_of y) (pair_of y)) false (pair_eq-same (pair_of y) (pair_of y) refl)),
+        (or_left (pair_eq (pair_of y) (pair_of y)) false (pair_eq-same (pair_of y) (pair_of y) refl)),
     out,
   )
 
@@ -42,27 +42,39 @@ module _ (mesh : Mesh) (xs : List (ℕ × ℕ)) (y : ℕ × ℕ) where
     | inl old ↦ h q old
     | inr same ↦ true≢false (sym there ∙ ap (λ r. among r (edges mesh)) (sym same) ∙ is.1)
   ]
-  stray_edge (Some p) there h = (stray_more p h.0, λ q is. elim (stray_from q is) [
-    | inl old ↦ h.1 q old
-    | inr same ↦ absurd (true≢false (sym there ∙ ap (λ r. among r (edges mesh)) (sym same) ∙ is.1))
-  ])
+  stray_edge (Some p) there h = (
+    stray_more p h.0,
+    λ q is. elim (stray_from q is) [
+      | inl old ↦ h.1 q old
+      | inr same ↦ absurd (true≢false (sym there ∙ ap (λ r. among r (edges mesh)) (sym same) ∙ is.1))
+    ],
+  )
 
   pub stray_other : (o : Option (ℕ × ℕ)) → among (pair_of y) (edges mesh) ≡ false → IsLeastStray mesh xs o →
       IsLeastStray mesh (xs ++ y ∷ []) (Some (lesser_of (pair_of y) o))
-  stray_other None out h = (last_stray out, λ q is. elim (stray_from q is) [
-    | inl old ↦ absurd (h q old)
-    | inr same ↦ false_from_ne_true (pair_lt q (pair_of y)) (λ less. pair_lt-irreflexive q (pair_of y) less same)
-  ])
+  stray_other None out h = (
+    last_stray out,
+    λ q is. elim (stray_from q is) [
+      | inl old ↦ absurd (h q old)
+      | inr same ↦ false_from_ne_true (pair_lt q (pair_of y)) (λ less. pair_lt-irreflexive q (pair_of y) less same)
+    ],
+  )
   stray_other (Some p) out h = elim (cases_Bool (pair_lt (pair_of y) p)) [
-    | inl less ↦ rw less (last_stray out, λ q is. elim (stray_from q is) [
-      | inl old ↦ false_from_ne_true (pair_lt q (pair_of y))
-          (λ before. true≢false (sym (pair_lt-trans q (pair_of y) p before less) ∙ h.1 q old))
-      | inr same ↦ false_from_ne_true (pair_lt q (pair_of y)) (λ before. pair_lt-irreflexive q (pair_of y) before same)
-    ])
-    | inr not ↦ rw not (stray_more p h.0, λ q is. elim (stray_from q is) [
-      | inl old ↦ h.1 q old
-      | inr same ↦ ap (λ r. pair_lt r p) same ∙ not
-    ])
+    | inl less ↦ rw less (
+      last_stray out,
+      λ q is. elim (stray_from q is) [
+        | inl old ↦ false_from_ne_true (pair_lt q (pair_of y))
+            (λ before. true≢false (sym (pair_lt-trans q (pair_of y) p before less) ∙ h.1 q old))
+        | inr same ↦ false_from_ne_true (pair_lt q (pair_of y)) (λ before. pair_lt-irreflexive q (pair_of y) before same)
+      ],
+    )
+    | inr not ↦ rw not (
+      stray_more p h.0,
+      λ q is. elim (stray_from q is) [
+        | inl old ↦ h.1 q old
+        | inr same ↦ ap (λ r. pair_lt r p) same ∙ not
+      ],
+    )
   ]
 
 -- one more place of a list, whichever defaults its reads have

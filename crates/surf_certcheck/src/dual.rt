@@ -29,13 +29,7 @@ pub(crate) fn edge_of_face(mesh: &HalfMesh, f: FaceId, u: VertexId, v: VertexId)
     let _surface = mesh.faces();
     match mesh.find_edge(u, v) {
         None => None,
-        Some(e) => {
-            if is_beside(mesh, f, e) {
-                Some(e)
-            } else {
-                None
-            }
-        }
+        Some(e) => { if is_beside(mesh, f, e) { Some(e) } else { None } }
     }
 }
 
@@ -50,12 +44,7 @@ pub(crate) fn face_across(mesh: &HalfMesh, f: FaceId, e: EdgeId) -> FaceId
 }
 
 // Whether a face has a side of its own over which it lies one deeper, or is face 0 and has none.
-fn has_dual(
-    mesh: &HalfMesh,
-    dual: &DualRows,
-    f: FaceId,
-    side: Option<(VertexId, VertexId)>,
-) -> bool
+fn has_dual(mesh: &HalfMesh, dual: &DualRows, f: FaceId, side: Option<(VertexId, VertexId)>) -> bool
     requires rows { HasDualRows mesh.now dual.now }
     requires face { f < face_count mesh.now }
     ensures row { MatchBool result (IsDualRow mesh.now dual.now f side) (IsDualRow mesh.now dual.now f side → ⊥) }

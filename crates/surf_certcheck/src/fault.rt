@@ -22,7 +22,9 @@ pub enum CertPart {
 #[derive(Clone, Copy, Debug, PartialEq, Eq)]
 pub enum CertFault {
     /// The first part that doesn't fit the mesh.
-    Shape { part: CertPart },
+    Shape {
+        part: CertPart,
+    },
     /// The base has a parent, or another vertex has none or one that isn't its neighbour.
     Parent {
         base: VertexId,
@@ -41,18 +43,27 @@ pub enum CertFault {
     },
     /// Face 0 has a side or a depth other than 0, or another face has no side, one that isn't its own, or a depth other
     /// than one more than that of the face across.
-    Dual { face: FaceId },
+    Dual {
+        face: FaceId,
+    },
     /// A pair that is listed as left isn't an edge, or an edge isn't in just one of the tree, the tree of faces and the list.
-    Split { u: VertexId, v: VertexId },
+    Split {
+        u: VertexId,
+        v: VertexId,
+    },
     /// Between the two faces of a left edge stands an edge of the tree of faces whose loop is shorter.
     Heavier {
         left: (VertexId, VertexId),
         cotree: (VertexId, VertexId),
     },
     /// A cycle is empty, or has neighbours that no edge joins, or its ends differ. Cycles are counted from 0.
-    NotClosed { place: u32 },
+    NotClosed {
+        place: u32,
+    },
     /// A cycle's signature is a sum of those before it.
-    Dependent { place: u32 },
+    Dependent {
+        place: u32,
+    },
     /// The signature of an edge's loop isn't a sum of those of cycles that are no longer.
     Uncovered {
         base: VertexId,

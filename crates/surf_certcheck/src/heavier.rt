@@ -27,7 +27,9 @@ pub(crate) fn size_of(mesh: &HalfMesh, lengths: &Lengths, rows: &TreeRows, e: Ed
 {
     let (near, far) = ends_inside(mesh, e);
     let distance = rows.distance();
-    u128::from(distance[near.index()]) + u128::from(lengths.of(e)) + u128::from(distance[far.index()])
+    u128::from(distance[near.index()])
+        + u128::from(lengths.of(e))
+        + u128::from(distance[far.index()])
 }
 
 // Whether an edge is flagged and its loop is shorter than the limit.
@@ -54,13 +56,7 @@ fn least_edge(e: EdgeId, other: Option<EdgeId>) -> EdgeId
 {
     match other {
         None => e,
-        Some(least) => {
-            if least < e {
-                least
-            } else {
-                e
-            }
-        }
+        Some(least) => { if least < e { least } else { e } }
     }
 }
 

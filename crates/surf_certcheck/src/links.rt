@@ -53,11 +53,7 @@ fn link_over(
 }
 
 /// The links of all faces.
-pub(crate) fn link_faces(
-    alloc: Global,
-    mesh: &HalfMesh,
-    dual: &DualRows,
-) -> Result<Links, NoMemory>
+pub(crate) fn link_faces(alloc: Global, mesh: &HalfMesh, dual: &DualRows) -> Result<Links, NoMemory>
     requires rows { HasDualRows mesh.now dual.now }
     requires tree { HoldsBelow (face_count mesh.now) (HasDual mesh.now dual.now) }
     ensures links { IfOk result (λ l. AreLinks mesh.now dual.now (face_count mesh.now) l.parent.items l.up.items) }
@@ -74,7 +70,12 @@ pub(crate) fn link_faces(
 }
 
 /// The face that a face other than face 0 hangs on, and the edge between them.
-pub(crate) fn step_up(mesh: &HalfMesh, dual: &DualRows, links: &Links, at: FaceId) -> (FaceId, EdgeId)
+pub(crate) fn step_up(
+    mesh: &HalfMesh,
+    dual: &DualRows,
+    links: &Links,
+    at: FaceId,
+) -> (FaceId, EdgeId)
     requires tree { HoldsBelow (face_count mesh.now) (HasDual mesh.now dual.now) }
     requires links { AreLinks mesh.now dual.now (face_count mesh.now) links.now.parent.items links.now.up.items }
     requires face { at < face_count mesh.now }

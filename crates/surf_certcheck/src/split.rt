@@ -25,15 +25,15 @@ fn in_order(u: VertexId, v: VertexId) -> (VertexId, VertexId)
 fn lesser(u: VertexId, v: VertexId, s: VertexId, t: VertexId) -> (VertexId, VertexId)
     ensures lesser { result ≡ (if pair_lt (u, v) (s, t) then (u, v) else (s, t)) }
 {
-    if u < s || (u == s && v < t) { (u, v) } else { (s, t) }
+    if u < s || (u == s && v < t) {
+        (u, v)
+    } else {
+        (s, t)
+    }
 }
 
 // The lesser of two pairs where the second may be missing.
-fn least_of(
-    u: VertexId,
-    v: VertexId,
-    other: Option<(VertexId, VertexId)>,
-) -> (VertexId, VertexId)
+fn least_of(u: VertexId, v: VertexId, other: Option<(VertexId, VertexId)>) -> (VertexId, VertexId)
     ensures least { result ≡ lesser_of (pair u v) other }
 {
     let (low, high) = in_order(u, v);

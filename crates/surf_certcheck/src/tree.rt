@@ -98,11 +98,7 @@ fn is_no_short_cut(mesh: &HalfMesh, lengths: &Lengths, rows: &TreeRows, e: EdgeI
 }
 
 /// The least edge whose ends are farther apart than it is long.
-pub(crate) fn first_short_cut(
-    mesh: &HalfMesh,
-    lengths: &Lengths,
-    rows: &TreeRows,
-) -> Option<EdgeId>
+pub(crate) fn first_short_cut(mesh: &HalfMesh, lengths: &Lengths, rows: &TreeRows) -> Option<EdgeId>
     requires rows { HasTreeRows mesh.now rows.now }
     requires lengths { length lengths.now ≡ edge_count mesh.now }
     ensures first { MatchOption result (HoldsBelow (edge_count mesh.now) (IsNoShortCut mesh.now lengths.now rows.now)) (FailsFirst (edge_count mesh.now) (IsNoShortCut mesh.now lengths.now rows.now)) }

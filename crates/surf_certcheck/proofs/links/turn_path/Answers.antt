@@ -28,6 +28,6 @@ loop-at-preserved c =
           ∙ ap (λ p. xor (xor old here) (on_path t p e)) step.parent
           ∙ xor_assoc old here (on_path t (t.parent n) e)
           ∙ ap (xor old) (sym (path_step g t tree n e c.loop-at.invariant.within
-              (λ z. c.loop-at-test.true (c.index.ensures ∙ z))))
+          (λ z. c.loop-at-test.true (c.index.ensures ∙ z))))
           ∙ c.loop-at.invariant.path e;
     }
