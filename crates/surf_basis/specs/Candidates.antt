@@ -1,0 +1,83 @@
+-- Candidates for a basis: their order, which are independent, and what is kept of them.
+use Rattle.std.specs.Prelude.{ℕ, ◌≡◌, ◌<◌, Bool, IsTrue, ◌&&◌, ◌||◌, ◌==◌, nat_lt, List, length, map, slice_index_or, All}
+use Rattle.surf_z2.specs.Greedy.{greedy}
+use Rattle.surf_z2.specs.Space.{numbers, is_nothing}
+use Rattle.surf_homology.specs.Cells.{Split}
+use Rattle.surf_complex.specs.Mesh.{Mesh}
+use Rattle.surf_complex.specs.Surface.{edge_count}
+use Rattle.surf_complex.specs.Class.{class_of}
+use Rattle.surf_complex.specs.Loop.{loop_walk, loop_length}
+use Rattle.surf_complex.specs.Cotree.{is_left}
+use Rattle.surf_complex.specs.Choice.{Trees, AreChosenAt, Loop, IsKeptFrom}
+use Rattle.surf_tree.specs.Tables.{TreeTables, tree_of}
+use Rattle.surf_loops.specs.declared.head.LoopHead.{LoopHead}
+use Rattle.surf_basis.specs.declared.candidate.Candidate.{Candidate}
+use Rattle.surf_basis.specs.declared.candidate.Signed.{Signed}
+use Rattle.surf_basis.specs.declared.cycle.Cycle.{Cycle}
+
+-- a candidate comes before another: by length, then by base, then by edge
+abbrev pub earlier : Candidate → Candidate → Bool
+earlier c d = nat_lt c.length d.length ||
+    ((c.length == d.length) && (nat_lt c.base d.base || ((c.base == d.base) && nat_lt c.edge d.edge)))
+
+abbrev pub signed_earlier : Signed → Signed → Bool
+signed_earlier c d = earlier c.candidate d.candidate
+
+-- of candidates in order, each whose signature is no sum of those of the candidates before it
+abbrev pub independent_of : List Signed → List Signed
+independent_of cs = greedy numbers is_nothing (λ c. c.signature) cs
+
+-- how many candidates may be independent, those that are kept, and those that are offered
+pub record Chosen : Type 0 where
+  pub width : ℕ
+  pub kept : List Signed
+  pub offered : List Signed
+
+-- a candidate as a loop, through the trees at all bases
+abbrev pub loop_in : Mesh → (ℕ → Trees) → Candidate → Loop
+loop_in mesh trees c =
+    record { size = c.length; base = c.base; edge = c.edge; walk = loop_walk mesh (trees c.base).tree c.edge }
+
+abbrev pub loops_in : Mesh → (ℕ → Trees) → List Signed → List Loop
+loops_in mesh trees cs = map (λ c. loop_in mesh trees c.candidate) cs
+
+-- its base is a vertex and its edge an edge
+pub record IsInside (mesh : Mesh) (c : Candidate) : Type 0 where
+  pub base : c.base < mesh.vertices
+  pub edge : c.edge < edge_count mesh
+
+-- the cycle has the candidate's length, base and edge, and its walk is that of the candidate's loop, whichever trees
+-- show the choice at the base
+pub record IsCycleOf (mesh : Mesh) (lengths : List ℕ) (c : Candidate) (cycle : Cycle) : Type 0 where
+  pub size : cycle.length ≡ c.length
+  pub base : cycle.base ≡ c.base
+  pub edge : cycle.edge ≡ c.edge
+  pub walk : (trees : Trees) → AreChosenAt mesh lengths c.base trees →
+      IsTrue (is_left mesh trees.tree trees.cotree c.edge) → cycle.walk ≡ loop_walk mesh trees.tree c.edge
+
+-- each cycle is that of the candidate at its place
+pub record AreCyclesOf (mesh : Mesh) (lengths : List ℕ) (cs : List Signed) (cycles : List Cycle) : Type 0 where
+  pub count : length cycles ≡ length cs
+  pub each : (i : ℕ) (c : Signed) (cycle : Cycle) → i < length cs →
+      IsCycleOf mesh lengths (slice_index_or cs i c).candidate (slice_index_or cycles i cycle)
+
+-- the loops of a desk at its base, as candidates with their signatures
+abbrev pub signed_heads : Mesh → Split → TreeTables → List LoopHead → List Signed
+signed_heads mesh d t heads =
+    map (λ h. record {
+      candidate = record { length = h.length; base = t.base; edge = h.edge };
+      signature = class_of mesh d (loop_walk mesh (tree_of t) h.edge);
+    }) heads
+
+-- a candidate is the loop of a left edge at one of the first bases, and its signature is that of its walk
+pub record IsSigned (mesh : Mesh) (lengths : List ℕ) (trees : ℕ → Trees) (d : Split) (bases : ℕ) (c : Signed) : Type 0 where
+  pub base_in : c.candidate.base < bases
+  pub edge_in : c.candidate.edge < edge_count mesh
+  pub left : IsTrue (is_left mesh (trees c.candidate.base).tree (trees c.candidate.base).cotree c.candidate.edge)
+  pub size : c.candidate.length ≡ loop_length mesh lengths (trees c.candidate.base).tree c.candidate.edge
+  pub signature : c.signature ≡ class_of mesh d (loop_walk mesh (trees c.candidate.base).tree c.candidate.edge)
+
+-- of the loops at the first bases those are kept that are independent of the loops before them
+pub record AreKept (mesh : Mesh) (lengths : List ℕ) (trees : ℕ → Trees) (d : Split) (bases : ℕ) (kept : List Signed) : Type 0 where
+  pub kept : IsKeptFrom mesh lengths trees bases (loops_in mesh trees kept)
+  pub signed : All (IsSigned mesh lengths trees d bases) kept

@@ -1,0 +1,23 @@
+-- Signatures of edges, and trees that are climbed edge by edge.
+use Rattle.std.specs.Prelude.{ℕ, ◌≡◌, ◌≢◌, ◌<◌, List, map, length, slice_index, Some, None}
+use Rattle.std.specs.List.{range_with_len}
+use Rattle.surf_homology.specs.Cells.{primal, Split, IsSplit}
+use Rattle.surf_homology.specs.Trees.{IsTree}
+use Rattle.surf_complex.specs.Mesh.{Mesh}
+use Rattle.surf_complex.specs.Surface.{edge_count}
+use Rattle.surf_complex.specs.Cells.{cells_of}
+use Rattle.surf_complex.specs.Signature.{edge_signature}
+use Rattle.surf_tree.specs.Tables.{TreeTables, IsMadeFor, parent_of, parent_edge_of, tree_of}
+use Rattle.surf_cotree.specs.Tables.{CotreeTables}
+
+-- the table has the signatures of all edges by two trees and the edges in neither
+abbrev pub AreSignatures : Mesh → Split → CotreeTables → Type 0
+AreSignatures mesh d t = t.signatures ≡ map (edge_signature mesh d) (range_with_len 0 (edge_count mesh))
+
+-- the tables hold a spanning tree of the vertices, in which each but the base has a parent and an edge to it
+pub record IsClimbed (mesh : Mesh) (t : TreeTables) : Type 0 where
+  pub made : IsMadeFor mesh t
+  pub spans : IsTree (primal (cells_of mesh)) (tree_of t)
+  pub base_alone : parent_of t t.base ≡ None
+  pub parents : (v : ℕ) → v < mesh.vertices → v ≢ t.base → parent_of t v ≡ Some (slice_index t.parents v)
+  pub parent_edges : (v : ℕ) → v < mesh.vertices → v ≢ t.base → parent_edge_of t v ≡ Some (slice_index t.ups v)

@@ -1,0 +1,68 @@
+//! A shortest cycle that doesn't separate the surface.
+ghost use Rattle.std.specs.Prelude.{◌≡◌, ◌<◌, ◌≤◌, ◌+◌, ◌↔◌, None, IfOk, IfSome, length};
+ghost use Rattle.surf_complex.specs.Surface.{edge_count, face_count};
+ghost use Rattle.surf_complex.specs.Homology.{IsFullCount};
+ghost use Rattle.surf_loops.specs.Loops.{IsMadeFor};
+ghost use Rattle.surf_basis.specs.Cycles.{IsFirstCandidate, IsShortestCycle, AllSeparate};
+
+use crate::candidate::Candidate;
+use crate::cycle::Cycle;
+use crate::walking::cycle_of;
+use std::alloc::Global;
+use surf_base::{NoMemory, VertexId};
+use surf_lengths::Lengths;
+use surf_loops::LoopDesk;
+use surf_mesh::HalfMesh;
+
+// The first candidate of a desk, if it has one.
+fn first_of(desk: &LoopDesk) -> Option<Candidate> {
+    let [head, ..] = desk.heads() else {
+        return None;
+    };
+    Some(Candidate {
+        length: head.length,
+        base: desk.tree().base(),
+        edge: head.edge,
+    })
+}
+
+// The first of a candidate and one at a later base.
+fn shorter_of(first: Option<Candidate>, next: Candidate) -> Candidate {
+    match first {
+        Some(candidate) if candidate.length <= next.length => candidate,
+        _ => next,
+    }
+}
+
+// The first candidate at any base.
+fn first_candidate(mesh: &HalfMesh, lengths: &Lengths, desk: &mut LoopDesk) -> Option<Candidate> {
+    let mut first = None;
+    for base in 0..mesh.vertices() {
+        desk.greedy(mesh, lengths, VertexId::new(base));
+        let next = first_of(desk)?;
+        first = Some(shorter_of(first, next));
+    }
+    first
+}
+
+/// The first candidate for a basis, a simple cycle that doesn't separate the surface, such that none is shorter. None
+/// exactly where the characteristic is 2: on a sphere every simple cycle separates.
+pub fn least_nonseparating(
+    alloc: Global,
+    mesh: &HalfMesh,
+    lengths: &Lengths,
+) -> Result<Option<Cycle>, NoMemory>
+    requires lengths { length lengths.now ≡ edge_count mesh.now }
+    requires few { edge_count mesh.now + 2 ≤ mesh.now.vertices + face_count mesh.now + 1024 }
+    ensures first { IfOk result (λ found. IsFirstCandidate mesh.now lengths.now found) }
+    ensures shortest { IfOk result (λ found. IfSome found (λ cycle. IsShortestCycle mesh.now lengths.now cycle)) }
+    ensures none { IfOk result (λ found. (found ≡ None) ↔ IsFullCount mesh.now 0) }
+    ensures separate { IfOk result (λ found. (found ≡ None) ↔ AllSeparate mesh.now) }
+{
+    let mut desk = LoopDesk::make(alloc, mesh)?;
+    let Some(candidate) = first_candidate(mesh, lengths, &mut desk) else {
+        return Ok(None);
+    };
+    let cycle = cycle_of(alloc, mesh, lengths, &mut desk, candidate)?;
+    Ok(Some(cycle))
+}

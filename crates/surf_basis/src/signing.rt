@@ -1,0 +1,59 @@
+//! Signatures of loops.
+ghost use Rattle.std.specs.Prelude.{◌≡◌, ◌<◌, bit_xor, length, slice_index};
+ghost use Rattle.surf_homology.specs.Cells.{Split};
+ghost use Rattle.surf_homology.specs.Independence.{signature_of};
+ghost use Rattle.surf_homology.specs.Trees.{on_path};
+ghost use Rattle.surf_complex.specs.Cells.{cells_of};
+ghost use Rattle.surf_complex.specs.Class.{class_of};
+ghost use Rattle.surf_complex.specs.Loop.{loop_walk};
+ghost use Rattle.surf_complex.specs.Surface.{edge_count};
+ghost use Rattle.surf_tree.specs.Tables.{tree_of};
+ghost use Rattle.surf_cotree.specs.Tables.{IsMadeFor};
+ghost use Rattle.surf_basis.specs.Signing.{AreSignatures, IsClimbed};
+
+use surf_base::{EdgeId, VertexId};
+use surf_bits::Signature;
+use surf_cotree::CotreeDesk;
+use surf_mesh::HalfMesh;
+use surf_tree::TreeDesk;
+
+// Adds the signatures of the edges on the way from a vertex up to the base of a tree.
+fn add_way(
+    mesh: &HalfMesh,
+    signatures: &CotreeDesk,
+    tree: &TreeDesk,
+    from: VertexId,
+    signature: &mut Signature,
+)
+    requires climbed { IsClimbed mesh.now tree.now }
+    requires vertex { from < mesh.now.vertices }
+    requires table { length signatures.now.signatures ≡ edge_count mesh.now }
+    ensures added { (d : Split) → AreSignatures mesh.now d signatures.now → signature.new ≡ bit_xor signature.old (signature_of (cells_of mesh.now) d (on_path (tree_of tree.now) from)) }
+{
+    let _surface = mesh.faces();
+    let mut at = from;
+    while let (Some(edge), Some(parent)) = (tree.parent_edge(at), tree.parent(at)) {
+        signature.add(signatures.signature(edge));
+        at = parent;
+    }
+}
+
+// The signature of the loop of an edge: the sum over its two ways to the base and the edge.
+pub(crate) fn loop_signature(
+    mesh: &HalfMesh,
+    signatures: &CotreeDesk,
+    tree: &TreeDesk,
+    edge: EdgeId,
+) -> Signature
+    requires climbed { IsClimbed mesh.now tree.now }
+    requires edge { edge < edge_count mesh.now }
+    requires table { length signatures.now.signatures ≡ edge_count mesh.now }
+    ensures class { (d : Split) → AreSignatures mesh.now d signatures.now → result ≡ class_of mesh.now d (loop_walk mesh.now (tree_of tree.now) edge) }
+{
+    let (u, v) = mesh.ends(edge);
+    let mut signature = Signature::zero();
+    add_way(mesh, signatures, tree, u, &mut signature);
+    signature.add(signatures.signature(edge));
+    add_way(mesh, signatures, tree, v, &mut signature);
+    signature
+}

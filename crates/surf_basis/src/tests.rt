@@ -1,0 +1,177 @@
+//! Bases and shortest cycles of small surfaces, worked out by hand.
+use crate::{Cycle, least_basis, least_nonseparating};
+use std::alloc::Global;
+use std::test::Fail;
+use surf_base::{NoMemory, VertexId};
+use surf_check::check;
+use surf_lengths::{Lengths, unit_lengths};
+use surf_mesh::{HalfMesh, Soup};
+
+const TETRAHEDRON: [(u32, u32, u32); 4] = [(0, 1, 2), (0, 3, 1), (0, 2, 3), (1, 3, 2)];
+
+// The projective plane of six vertices.
+const SIX: [(u32, u32, u32); 10] = [
+    (0, 1, 2),
+    (0, 2, 3),
+    (0, 3, 4),
+    (0, 4, 5),
+    (0, 1, 5),
+    (1, 2, 4),
+    (2, 3, 5),
+    (1, 3, 4),
+    (2, 4, 5),
+    (1, 3, 5),
+];
+
+// The torus of Möbius and Császár, of seven vertices.
+const SEVEN: [(u32, u32, u32); 14] = [
+    (0, 1, 3),
+    (0, 3, 2),
+    (1, 2, 4),
+    (1, 4, 3),
+    (2, 3, 5),
+    (2, 5, 4),
+    (3, 4, 6),
+    (3, 6, 5),
+    (4, 5, 0),
+    (4, 0, 6),
+    (5, 6, 1),
+    (5, 1, 0),
+    (6, 0, 2),
+    (6, 2, 1),
+];
+
+// The torus of three by three squares, each of two triangles.
+const TORUS: [(u32, u32, u32); 18] = [
+    (0, 3, 4),
+    (0, 4, 1),
+    (1, 4, 5),
+    (1, 5, 2),
+    (2, 5, 3),
+    (2, 3, 0),
+    (3, 6, 7),
+    (3, 7, 4),
+    (4, 7, 8),
+    (4, 8, 5),
+    (5, 8, 6),
+    (5, 6, 3),
+    (6, 0, 1),
+    (6, 1, 7),
+    (7, 1, 2),
+    (7, 2, 8),
+    (8, 2, 0),
+    (8, 0, 6),
+];
+
+fn push(soup: &mut Soup, a: u32, b: u32, c: u32) -> Result<(), NoMemory> {
+    let n = soup.vertices();
+    let few = soup.side_count() < 1_000_000;
+    if few && a < n && b < n && c < n && a != b && b != c && a != c {
+        soup.push_face(&[VertexId::new(a), VertexId::new(b), VertexId::new(c)])?;
+    }
+    Ok(())
+}
+
+fn surface(alloc: Global, vertices: u32, faces: &[(u32, u32, u32)]) -> Result<HalfMesh, Fail> {
+    let mut soup = Soup::start(alloc, vertices);
+    for (a, b, c) in faces {
+        push(&mut soup, *a, *b, *c).ok().ok_or("room")?;
+    }
+    Ok(check(alloc, soup).ok().ok_or("a surface")?)
+}
+
+// Length 1 for each edge, or for edge k the length 1 + (7 k + 13) mod 97.
+fn lengths_for(alloc: Global, mesh: &HalfMesh, scattered: bool) -> Result<Lengths, NoMemory> {
+    if !scattered {
+        return unit_lengths(alloc, mesh);
+    }
+    let mut values = vec![in alloc; 1u32; mesh.edges() as usize]?;
+    for k in 0..values.len() {
+        values[k] = 1 + ((7 * (k as u64) + 13) % 97) as u32;
+    }
+    Ok(Lengths::from_values(values))
+}
+
+// Whether a cycle has a length and some vertices, the first of which is its base.
+fn is_cycle(cycle: &Cycle, length: u64, walk: &[u32]) -> bool {
+    let vertices = cycle.walk.vertices();
+    let mut same = cycle.length == length && vertices.len() == walk.len();
+    for (vertex, wanted) in vertices.iter().zip(walk) {
+        same = same && vertex.number() == *wanted;
+    }
+    same && walk.len() > 0 && cycle.base.number() == walk[0]
+}
+
+// The basis of a surface, and its shortest cycle.
+fn answers(
+    alloc: Global,
+    mesh: &HalfMesh,
+    scattered: bool,
+) -> Result<(Vec<Cycle>, Option<Cycle>), Fail> {
+    let lengths = lengths_for(alloc, mesh, scattered).ok().ok_or("room")?;
+    let nodes = mesh.vertices() as u64 + mesh.faces() as u64;
+    if lengths.count() != mesh.edges() || mesh.edges() as u64 + 2 > nodes + 1024 {
+        return Err("lengths").map_err(Fail::from);
+    }
+    let basis = least_basis(alloc, mesh, &lengths).ok().ok_or("room")?;
+    let first = least_nonseparating(alloc, mesh, &lengths)
+        .ok()
+        .ok_or("room")?;
+    Ok((basis, first))
+}
+
+// Whether a surface has two cycles for a basis, the first of which is its shortest cycle.
+fn has_two(
+    alloc: Global,
+    mesh: &HalfMesh,
+    scattered: bool,
+    one: (u64, &[u32]),
+    other: (u64, &[u32]),
+) -> Result<bool, Fail> {
+    let (basis, first) = answers(alloc, mesh, scattered)?;
+    let Some(first) = first else {
+        return Ok(false);
+    };
+    Ok(
+        basis.len() == 2
+            && is_cycle(&basis[0], one.0, one.1)
+            && is_cycle(&basis[1], other.0, other.1)
+            && is_cycle(&first, one.0, one.1),
+    )
+}
+
+#[test]
+fn two_cycles_on_a_torus(rt: HostRuntime) -> Result<(), Fail> {
+    let alloc = rt.alloc();
+    let torus = surface(alloc, 9, &TORUS)?;
+    let seven = surface(alloc, 7, &SEVEN)?;
+    assert!(rt; has_two(alloc, &torus, false, (3, &[0, 1, 2, 0]), (3, &[0, 3, 6, 0]))?);
+    assert!(rt;
+        has_two(
+            alloc,
+            &torus,
+            true,
+            (81, &[2, 5, 3, 7, 2]),
+            (89, &[2, 5, 8, 7, 2])
+        )?
+    );
+    assert!(rt; has_two(alloc, &seven, false, (3, &[0, 1, 2, 0]), (3, &[0, 1, 4, 0]))?);
+    Ok(())
+}
+
+#[test]
+fn one_cycle_on_a_projective_plane(rt: HostRuntime) -> Result<(), Fail> {
+    let mesh = surface(rt.alloc(), 6, &SIX)?;
+    let (basis, first) = answers(rt.alloc(), &mesh, false)?;
+    assert!(rt; basis.len() == 1 && is_cycle(&basis[0], 3, &[0, 1, 3, 0]));
+    assert!(rt; matches!(&first, Some(cycle) if is_cycle(cycle, 3, &[0, 1, 3, 0])));
+    Ok(())
+}
+
+#[test]
+fn no_cycle_on_a_tetrahedron(rt: HostRuntime) -> Result<(), Fail> {
+    let mesh = surface(rt.alloc(), 4, &TETRAHEDRON)?;
+    let (basis, first) = answers(rt.alloc(), &mesh, false)?;
+    assert!(rt; basis.len() == 0 && first.is_none());
+    Ok(())
+}
