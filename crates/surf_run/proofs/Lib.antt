@@ -5,3 +5,4 @@ mod Composing
 mod Saying
 mod HeadLaws
 mod CutLaws
+mod CycleLaws
