@@ -1,5 +1,6 @@
 -- Candidates for a basis: their order, which are independent, and what is kept of them.
-use Rattle.std.specs.Prelude.{ℕ, ◌≡◌, ◌<◌, Bool, IsTrue, ◌&&◌, ◌||◌, ◌==◌, nat_lt, List, length, map, slice_index_or, All}
+use Rattle.std.specs.Prelude.{ℕ, ◌≡◌, ◌<◌, Bool, true, false, IsTrue, ◌&&◌, ◌||◌, ◌==◌, nat_lt, nat_le, List, [], ◌∷◌, map, All, Option, Some, None, if◌then◌else◌}
+use Rattle.std.specs.Option.{option_map}
 use Rattle.surf_z2.specs.Greedy.{greedy}
 use Rattle.surf_z2.specs.Space.{numbers, is_nothing}
 use Rattle.surf_homology.specs.Cells.{Split}
@@ -11,6 +12,8 @@ use Rattle.surf_complex.specs.Cotree.{is_left}
 use Rattle.surf_complex.specs.Choice.{Trees, AreChosenAt, Loop, IsKeptFrom}
 use Rattle.surf_tree.specs.Tables.{TreeTables, tree_of}
 use Rattle.surf_loops.specs.declared.head.LoopHead.{LoopHead}
+use Rattle.surf_loops.specs.Loops.{LoopTables}
+use Rattle.surf_basis.specs.Cycles.{first_of}
 use Rattle.surf_basis.specs.declared.candidate.Candidate.{Candidate}
 use Rattle.surf_basis.specs.declared.candidate.Signed.{Signed}
 use Rattle.surf_basis.specs.declared.cycle.Cycle.{Cycle}
@@ -22,6 +25,12 @@ earlier c d = nat_lt c.length d.length ||
 
 abbrev pub signed_earlier : Signed → Signed → Bool
 signed_earlier c d = earlier c.candidate d.candidate
+
+-- of two lists in order the first has the next candidate
+abbrev pub has_next : List Signed → List Signed → Bool
+has_next [] ds = false
+has_next (c ∷ cs) [] = true
+has_next (c ∷ cs) (d ∷ ds) = signed_earlier c d
 
 -- of candidates in order, each whose signature is no sum of those of the candidates before it
 abbrev pub independent_of : List Signed → List Signed
@@ -56,16 +65,30 @@ pub record IsCycleOf (mesh : Mesh) (lengths : List ℕ) (c : Candidate) (cycle :
       IsTrue (is_left mesh trees.tree trees.cotree c.edge) → cycle.walk ≡ loop_walk mesh trees.tree c.edge
 
 -- each cycle is that of the candidate at its place
-pub record AreCyclesOf (mesh : Mesh) (lengths : List ℕ) (cs : List Signed) (cycles : List Cycle) : Type 0 where
-  pub count : length cycles ≡ length cs
-  pub each : (i : ℕ) (c : Signed) (cycle : Cycle) → i < length cs →
-      IsCycleOf mesh lengths (slice_index_or cs i c).candidate (slice_index_or cycles i cycle)
+abbrev pub AreCyclesOf : Mesh → List ℕ → List Signed → List Cycle → Type 0
+AreCyclesOf mesh lengths [] [] = Unit {0}
+AreCyclesOf mesh lengths [] (y ∷ ys) = ⊥
+AreCyclesOf mesh lengths (c ∷ cs) [] = ⊥
+AreCyclesOf mesh lengths (c ∷ cs) (y ∷ ys) = IsCycleOf mesh lengths c.candidate y × AreCyclesOf mesh lengths cs ys
+
+-- a head of a desk as a candidate at its base
+abbrev pub candidate_of : TreeTables → LoopHead → Candidate
+candidate_of t h = record { length = h.length; base = t.base; edge = h.edge }
+
+-- the first loop of a desk as a candidate, if it has one
+abbrev pub first_head : LoopTables → Option Candidate
+first_head t = option_map (candidate_of t.tree) (first_of t.heads)
+
+-- the first of a candidate and one at a later base
+abbrev pub shorter : Option Candidate → Candidate → Candidate
+shorter None next = next
+shorter (Some c) next = if nat_le c.length next.length then c else next
 
 -- the loops of a desk at its base, as candidates with their signatures
 abbrev pub signed_heads : Mesh → Split → TreeTables → List LoopHead → List Signed
 signed_heads mesh d t heads =
     map (λ h. record {
-      candidate = record { length = h.length; base = t.base; edge = h.edge };
+      candidate = candidate_of t h;
       signature = class_of mesh d (loop_walk mesh (tree_of t) h.edge);
     }) heads
 
@@ -79,5 +102,5 @@ pub record IsSigned (mesh : Mesh) (lengths : List ℕ) (trees : ℕ → Trees) (
 
 -- of the loops at the first bases those are kept that are independent of the loops before them
 pub record AreKept (mesh : Mesh) (lengths : List ℕ) (trees : ℕ → Trees) (d : Split) (bases : ℕ) (kept : List Signed) : Type 0 where
-  pub kept : IsKeptFrom mesh lengths trees bases (loops_in mesh trees kept)
+  pub by_bases : IsKeptFrom mesh lengths trees bases (loops_in mesh trees kept)
   pub signed : All (IsSigned mesh lengths trees d bases) kept

@@ -21,9 +21,9 @@ IsTheBasis mesh lengths basis =
     (trees : ℕ → Trees) → AreChosen mesh lengths trees → IsChosenBasis mesh lengths trees basis
 
 -- the first of a list, if it has one
-abbrev pub first_of : List Loop → Option Loop
+abbrev pub first_of : {X : Type 0} → List X → Option X
 first_of [] = None
-first_of (c ∷ rest) = Some c
+first_of (x ∷ rest) = Some x
 
 -- the first candidate for the basis, if there is one, whichever trees show the choice
 abbrev pub IsFirstCandidate : Mesh → List ℕ → Option Cycle → Type 0

@@ -1,11 +1,15 @@
 //! The least basis, kept base by base.
-ghost use Rattle.std.specs.Prelude.{◌≡◌, ◌<◌, ◌≤◌, ◌+◌, [], IfOk, length};
+ghost use Rattle.std.specs.Prelude.{ℕ, ◌≡◌, ◌<◌, ◌≤◌, ◌+◌, [], All, IfOk, length};
+ghost use Rattle.surf_homology.specs.Cells.{Split, IsSplit};
+ghost use Rattle.surf_complex.specs.Cells.{cells_of};
+ghost use Rattle.surf_complex.specs.Homology.{IsFullCount};
+ghost use Rattle.surf_complex.specs.Choice.{Trees, AreChosen};
 ghost use Rattle.surf_complex.specs.Surface.{edge_count, face_count};
 ghost use Rattle.surf_complex.specs.ChoiceLaws.{LeastSimpleBasis};
-ghost use Rattle.surf_loops.specs.Loops.{IsMadeFor, IsGreedy};
+ghost use Rattle.surf_loops.specs.Loops.{IsMadeFor};
 ghost use Rattle.surf_basis.specs.Cycles.{IsTheBasis, loops_of};
-ghost use Rattle.surf_basis.specs.Candidates.{IsBasisOf, AreHeadsOf};
-ghost use Rattle.surf_basis.specs.Signing.{AreSigned};
+ghost use Rattle.surf_basis.specs.Candidates.{signed_heads, AreKept};
+ghost use Rattle.surf_basis.specs.Signing.{AreSignatures, AreSigned, IsClimbed};
 
 use crate::candidate::{Candidate, Signed};
 use crate::choosing::Choice;
@@ -20,7 +24,14 @@ use surf_loops::LoopDesk;
 use surf_mesh::HalfMesh;
 
 // Offers the loops of a desk, with their signatures.
-fn offer_loops(mesh: &HalfMesh, signatures: &CotreeDesk, desk: &LoopDesk, choice: &mut Choice) {
+fn offer_loops(mesh: &HalfMesh, signatures: &CotreeDesk, desk: &LoopDesk, choice: &mut Choice)
+    requires climbed { IsClimbed mesh.now desk.now.tree }
+    requires edges { All (λ h. h.edge < edge_count mesh.now) desk.now.heads }
+    requires signed { AreSigned mesh.now signatures.now choice.old.width }
+    requires none { choice.old.offered ≡ [] }
+    requires room { length desk.now.heads ≤ choice.old.width }
+    ensures offered { (d : Split) → AreSignatures mesh.now d signatures.now → choice.new ≡ record choice.old { offered = signed_heads mesh.now d desk.now.tree desk.now.heads } }
+{
     let base = desk.tree().base();
     for head in desk.heads() {
         let candidate = Candidate {
@@ -43,7 +54,17 @@ fn choose(
     signatures: &CotreeDesk,
     desk: &mut LoopDesk,
     choice: &mut Choice,
-) {
+)
+    requires made { IsMadeFor mesh.now desk.old }
+    requires lengths { length lengths.now ≡ edge_count mesh.now }
+    requires signed { AreSigned mesh.now signatures.now choice.old.width }
+    requires count { IsFullCount mesh.now choice.old.width }
+    requires fresh { (choice.old.kept ≡ []) × (choice.old.offered ≡ []) }
+    ensures kept { (trees : ℕ → Trees) → AreChosen mesh.now lengths.now trees → (d : Split) → IsSplit (cells_of mesh.now) d → AreSignatures mesh.now d signatures.now → AreKept mesh.now lengths.now trees d mesh.now.vertices choice.new.kept }
+    ensures made { IsMadeFor mesh.now desk.new }
+{
+    let _surface = mesh.faces();
+    let _lengths = lengths.count();
     for base in 0..mesh.vertices() {
         desk.greedy(mesh, lengths, VertexId::new(base));
         offer_loops(mesh, signatures, desk, choice);

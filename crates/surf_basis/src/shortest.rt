@@ -1,9 +1,12 @@
 //! A shortest cycle that doesn't separate the surface.
-ghost use Rattle.std.specs.Prelude.{◌≡◌, ◌<◌, ◌≤◌, ◌+◌, ◌↔◌, None, IfOk, IfSome, length};
+ghost use Rattle.std.specs.Prelude.{ℕ, ◌≡◌, ◌<◌, ◌≤◌, ◌+◌, ◌↔◌, None, IfOk, IfSome, length};
 ghost use Rattle.surf_complex.specs.Surface.{edge_count, face_count};
 ghost use Rattle.surf_complex.specs.Homology.{IsFullCount};
+ghost use Rattle.std.specs.Option.{option_map};
+ghost use Rattle.surf_complex.specs.Choice.{Trees, AreChosen, candidates};
 ghost use Rattle.surf_loops.specs.Loops.{IsMadeFor};
-ghost use Rattle.surf_basis.specs.Cycles.{IsFirstCandidate, IsShortestCycle, AllSeparate};
+ghost use Rattle.surf_basis.specs.Candidates.{first_head, loop_in, shorter};
+ghost use Rattle.surf_basis.specs.Cycles.{first_of, IsFirstCandidate, IsShortestCycle, AllSeparate};
 
 use crate::candidate::Candidate;
 use crate::cycle::Cycle;
@@ -15,7 +18,9 @@ use surf_loops::LoopDesk;
 use surf_mesh::HalfMesh;
 
 // The first candidate of a desk, if it has one.
-fn first_of(desk: &LoopDesk) -> Option<Candidate> {
+fn first_of(desk: &LoopDesk) -> Option<Candidate>
+    ensures first { result ≡ first_head desk.now }
+{
     let [head, ..] = desk.heads() else {
         return None;
     };
@@ -27,7 +32,9 @@ fn first_of(desk: &LoopDesk) -> Option<Candidate> {
 }
 
 // The first of a candidate and one at a later base.
-fn shorter_of(first: Option<Candidate>, next: Candidate) -> Candidate {
+fn shorter_of(first: Option<Candidate>, next: Candidate) -> Candidate
+    ensures shorter { result ≡ shorter first next }
+{
     match first {
         Some(candidate) if candidate.length <= next.length => candidate,
         _ => next,
@@ -35,7 +42,14 @@ fn shorter_of(first: Option<Candidate>, next: Candidate) -> Candidate {
 }
 
 // The first candidate at any base.
-fn first_candidate(mesh: &HalfMesh, lengths: &Lengths, desk: &mut LoopDesk) -> Option<Candidate> {
+fn first_candidate(mesh: &HalfMesh, lengths: &Lengths, desk: &mut LoopDesk) -> Option<Candidate>
+    requires made { IsMadeFor mesh.now desk.old }
+    requires lengths { length lengths.now ≡ edge_count mesh.now }
+    ensures first { (trees : ℕ → Trees) → AreChosen mesh.now lengths.now trees → option_map (loop_in mesh.now trees) result ≡ first_of (candidates mesh.now lengths.now trees) }
+    ensures made { IsMadeFor mesh.now desk.new }
+{
+    let _surface = mesh.faces();
+    let _lengths = lengths.count();
     let mut first = None;
     for base in 0..mesh.vertices() {
         desk.greedy(mesh, lengths, VertexId::new(base));
@@ -59,6 +73,8 @@ pub fn least_nonseparating(
     ensures none { IfOk result (λ found. (found ≡ None) ↔ IsFullCount mesh.now 0) }
     ensures separate { IfOk result (λ found. (found ≡ None) ↔ AllSeparate mesh.now) }
 {
+    let _surface = mesh.faces();
+    let _lengths = lengths.count();
     let mut desk = LoopDesk::make(alloc, mesh)?;
     let Some(candidate) = first_candidate(mesh, lengths, &mut desk) else {
         return Ok(None);

@@ -50,6 +50,7 @@ pub(crate) fn loop_signature(
     requires table { length signatures.now.signatures ≡ edge_count mesh.now }
     ensures class { (d : Split) → AreSignatures mesh.now d signatures.now → result ≡ class_of mesh.now d (loop_walk mesh.now (tree_of tree.now) edge) }
 {
+    let _surface = mesh.faces();
     let (u, v) = mesh.ends(edge);
     let mut signature = Signature::zero();
     add_way(mesh, signatures, tree, u, &mut signature);

@@ -26,6 +26,8 @@ pub(crate) fn cycle_of(
     ensures cycle { IfOk result (λ cycle. IsCycleOf mesh.now lengths.now candidate cycle) }
     ensures made { IsMadeFor mesh.now desk.new }
 {
+    let _surface = mesh.faces();
+    let _lengths = lengths.count();
     desk.greedy(mesh, lengths, candidate.base);
     let walk = desk.walk(alloc, mesh, candidate.edge)?;
     Ok(Cycle {

@@ -1,0 +1,4 @@
+pub mod Sifted
+pub mod Climbed
+pub mod Looped
+pub mod Kept
