@@ -1,5 +1,5 @@
 -- The candidates for a basis are one list, and so are the basis and the first of them; and the texts of cycles.
-use Rattle.std.proofs.Common.{◌≡◌, ℕ, zero, suc, ◌+◌, ◌<◌, ◌≤◌, true, false, List, [], ◌∷◌, ◌++◌, length, map, Option, Some, None, Result, Ok, Err, refl, sym, ap, ◌∙◌, subst, arith}
+use Rattle.std.proofs.Common.{◌≡◌, inl, inr, ℕ, zero, suc, ◌+◌, ◌<◌, ◌≤◌, true, List, [], ◌∷◌, ◌++◌, length, map, Option, Some, None, Result, Ok, Err, refl, sym, ap, ◌∙◌, subst, arith}
 use Rattle.std.specs.Prelude.{nat_lt, sum}
 use Rattle.std.specs.List.{flat_map, range_with_len}
 use Rattle.std.specs.Option.{option_map}
@@ -11,12 +11,12 @@ use Rattle.surf_complex.specs.Walk.{ArePositive}
 use Rattle.surf_complex.specs.Choice.{Trees, AreChosen, Loop, comes_before, loops_at, candidates, IsGreedyChoice, IsChosenBasis}
 use Rattle.surf_complex.proofs.BasisLaws.{basis_is_one}
 use Rattle.surf_complex.proofs.LoopsOne.{loops_are_one}
-use Rattle.surf_base.specs.declared.limits.LimitKind.TheVariants.{Loops}
+use Rattle.surf_base.specs.declared.limits.LimitKind.TheVariants.{Loops, BasisVertices}
 use Rattle.surf_basis.specs.Cycles.{loop_of, loops_of, first_of}
 use Rattle.surf_basis.specs.declared.cycle.Cycle.{Cycle}
 use Rattle.surf_print.specs.CycleTexts.{cycle_line, cycles_head, cycles_text}
 use Rattle.surf_run.specs.CycleTexts.{line_of}
-use Rattle.surf_run.specs.Given.{loop_count, looped, HasFewLoops}
+use Rattle.surf_run.specs.Given.{loop_count, looped, HasFewLoops, HasFewVertices}
 use Rattle.surf_run.specs.Limits.{beyond}
 use Rattle.surf_run.specs.Outcome.{Outcome}
 
@@ -72,6 +72,10 @@ few_loops mesh is = elim (cases_lt 1024 (loop_count mesh)) [
     GoesOn : Result Mesh Outcome → Type 0
     GoesOn (Ok m) = Unit {0}
     GoesOn (Err o) = ⊥
+
+-- one with too many vertices doesn't go on
+pub many_vertices : (mesh : Mesh) → 20000 < mesh.vertices → HasFewVertices mesh (Err (beyond BasisVertices))
+many_vertices mesh many = let t : nat_lt 20000 mesh.vertices ≡ true = lt-ltb _ _ many in rw t refl
 
 -- ---- texts
 

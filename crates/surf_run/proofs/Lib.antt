@@ -6,3 +6,4 @@ mod Saying
 mod HeadLaws
 mod CutLaws
 mod CycleLaws
+mod FindingLaws
