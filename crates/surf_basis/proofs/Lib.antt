@@ -2,3 +2,5 @@ pub mod Sifted
 pub mod Climbed
 pub mod Looped
 pub mod Kept
+pub mod First
+pub mod Whole

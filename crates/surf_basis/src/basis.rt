@@ -84,6 +84,8 @@ pub fn least_basis(
     ensures chosen { IfOk result (λ cycles. IsTheBasis mesh.now lengths.now (loops_of cycles.items)) }
     ensures least { IfOk result (λ cycles. LeastSimpleBasis mesh.now lengths.now (loops_of cycles.items)) }
 {
+    let _surface = mesh.faces();
+    let _lengths = lengths.count();
     let mut first = LoopDesk::make(alloc, mesh)?;
     first.greedy(mesh, lengths, VertexId::new(0));
     let count = first.cotree().left().len();

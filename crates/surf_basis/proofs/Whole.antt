@@ -1,0 +1,82 @@
+-- What is known when all bases were gone through.
+use Rattle.std.proofs.Common.{◌≡◌, ℕ, ◌<◌, ◌≤◌, ◌+◌, List, [], length, map, All, refl, sym, ap, ◌∙◌, subst, arith}
+use Rattle.std.specs.List.{range_with_len}
+use Rattle.surf_homology.specs.Cells.{Split, IsSplit}
+use Rattle.surf_homology.specs.Trees.{Tree}
+use Rattle.surf_complex.specs.Mesh.{Mesh}
+use Rattle.surf_complex.specs.Surface.{edge_count, IsSurface}
+use Rattle.surf_complex.specs.Walk.{ArePositive}
+use Rattle.surf_complex.specs.Cells.{cells_of}
+use Rattle.surf_complex.specs.Homology.{IsFullCount}
+use Rattle.surf_complex.specs.Choice.{Trees, AreChosen, Loop, IsChosenBasis}
+use Rattle.surf_complex.specs.ChoiceLaws.{LeastSimpleBasis}
+use Rattle.surf_complex.specs.Signature.{edge_signature}
+use Rattle.surf_complex.proofs.BasisLaws.{basis_is_least}
+use Rattle.surf_complex.proofs.ChoiceExists.{choice_exists}
+use Rattle.surf_cotree.specs.Tables.{CotreeTables, split_with}
+use Rattle.surf_loops.specs.Loops.{LoopTables, IsGreedy}
+use Rattle.surf_basis.specs.declared.candidate.Signed.{Signed}
+use Rattle.surf_basis.specs.declared.cycle.Cycle.{Cycle}
+use Rattle.surf_basis.specs.Candidates.{AreKept, IsInside, AreCyclesOf}
+use Rattle.surf_basis.specs.Cycles.{loops_of, IsTheBasis}
+use Rattle.surf_basis.specs.Signing.{AreSignatures, AreSigned}
+use Rattle.surf_basis.proofs.Looped.{empty_basis}
+use Rattle.surf_basis.proofs.Kept.{cycles_basis, kept_inside}
+
+-- how many edges are left is 2 − χ
+pub left_full : (mesh : Mesh) (lengths : List ℕ) (base : ℕ) (t : LoopTables) (cotree : CotreeTables) (left : List ℕ) → IsGreedy mesh lengths base t →
+    cotree ≡ t.cotree → left ≡ cotree.left → IsFullCount mesh (length left)
+left_full mesh lengths base t cotree left g same is =
+    let count = g.cotree.count in
+    let e : length left ≡ length t.cotree.left = ap (λ (xs : List ℕ). length xs) (is ∙ ap (λ (c : CotreeTables). c.left) same) in
+    omega (arith, count, e)
+
+-- a desk that was signed has the signatures by its trees
+pub desk_signed : (mesh : Mesh) (lengths : List ℕ) (base : ℕ) (t new : LoopTables) (before after : CotreeTables) (left : List ℕ) (width : ℕ) →
+    IsGreedy mesh lengths base t → before ≡ t.cotree → left ≡ before.left → width ≡ length left →
+    new ≡ record t { cotree = record t.cotree { signatures = new.cotree.signatures } } →
+    ((tree : Tree) → IsSplit (cells_of mesh) (split_with tree new.cotree) →
+    new.cotree.signatures ≡ map (edge_signature mesh (split_with tree new.cotree)) (range_with_len 0 (edge_count mesh))) →
+    after ≡ new.cotree → AreSigned mesh after width
+desk_signed mesh lengths base t new before after left width g old is_left wide rest signed same =
+    let tree = g.grown.tree in
+    let split_is : split_with tree new.cotree ≡ split_with tree t.cotree = ap (λ (x : LoopTables). split_with tree x.cotree) rest in
+    let split = subst (IsSplit (cells_of mesh)) (sym split_is) g.grown.split in
+    let left_is : length new.cotree.left ≡ length left =
+    ap (λ (x : LoopTables). length x.cotree.left) rest ∙ ap (λ (c : CotreeTables). length c.left) (sym old) ∙ ap (λ (xs : List ℕ). length xs) (sym is_left) in
+    subst (λ s. AreSigned mesh s width) (sym same) (record {
+      split = split_with tree new.cotree;
+      is_split = split;
+      count = left_is ∙ sym wide;
+      signatures = signed tree split;
+    })
+
+-- what is kept at the end, by any trees and signatures
+abbrev pub IsKept : Mesh → List ℕ → CotreeTables → List Signed → Type 0
+IsKept mesh lengths s kept = (trees : ℕ → Trees) → AreChosen mesh lengths trees → (d : Split) → IsSplit (cells_of mesh) d →
+    AreSignatures mesh d s → AreKept mesh lengths trees d mesh.vertices kept
+
+module _ (mesh : Mesh) (lengths : List ℕ) (surface : IsSurface mesh) (positive : ArePositive mesh lengths) where
+  pub least_of : (basis : List Loop) → IsTheBasis mesh lengths basis → LeastSimpleBasis mesh lengths basis
+  least_of basis is =
+      let (trees, chosen) = choice_exists mesh lengths surface positive in
+      basis_is_least mesh lengths trees basis surface positive chosen (is trees chosen)
+
+  pub none_basis : (cycles : List Cycle) → cycles ≡ [] → IsFullCount mesh 0 → IsTheBasis mesh lengths (loops_of cycles)
+  none_basis cycles none full trees chosen =
+      subst (λ ys. IsChosenBasis mesh lengths trees (loops_of ys)) (sym none) (empty_basis mesh lengths trees surface positive chosen full)
+
+  module _ (s : CotreeTables) (width : ℕ) (signed : AreSigned mesh s width) where
+    pub all_inside : (kept list : List Signed) → IsKept mesh lengths s kept → list ≡ kept → All (λ c. IsInside mesh c.candidate) list
+    all_inside kept list k same =
+        let (trees, chosen) = choice_exists mesh lengths surface positive in
+        let inside : All (λ c. IsInside mesh c.candidate) kept =
+        kept_inside mesh lengths trees surface positive chosen signed.split signed.is_split kept (k trees chosen signed.split signed.is_split signed.signatures) in
+        subst (All (λ c. IsInside mesh c.candidate)) (sym same) inside
+
+    pub the_basis : (kept list : List Signed) (cycles : List Cycle) → IsKept mesh lengths s kept → list ≡ kept →
+        AreCyclesOf mesh lengths list cycles → IsTheBasis mesh lengths (loops_of cycles)
+    the_basis kept list cycles k same are trees chosen =
+        cycles_basis mesh lengths trees surface positive chosen signed.split signed.is_split kept cycles
+        (k trees chosen signed.split signed.is_split signed.signatures)
+        (subst (λ cs. AreCyclesOf mesh lengths cs cycles) same are)

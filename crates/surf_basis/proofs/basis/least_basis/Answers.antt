@@ -1,0 +1,69 @@
+use Rattle.std.proofs.Common.{◌≡◌, ◌<◌, List, length, sym, ap, ◌∙◌, subst}
+use Rattle.std.proofs.lemmas.Result.{IfOk-weaker}
+use Rattle.surf_complex.specs.Homology.{IsFullCount}
+use Rattle.surf_complex.specs.ChoiceLaws.{LeastSimpleBasis}
+use Rattle.surf_complex.proofs.ClassLaws.{some_vertex}
+use Rattle.surf_loops.proofs.Turned.{lengths_positive}
+use Rattle.surf_basis.specs.Candidates.{Chosen, AreCyclesOf}
+use Rattle.surf_basis.specs.Cycles.{loops_of, IsTheBasis}
+use Rattle.surf_basis.proofs.Whole.{left_full, desk_signed, least_of, none_basis, all_inside, the_basis}
+use Rattle.surf_basis.proofs.basis.least_basis.Goals as goal
+
+pub greedy-requires-clause-base : goal.greedy-requires-clause-base
+greedy-requires-clause-base c = subst (λ n. n < c.args.mesh.now.vertices) (sym c.new.ensures) (some_vertex c.args.mesh.now c.faces-surface.ensures.surface)
+
+pub returns-then-count-eq0-clause-chosen : goal.returns-then-count-eq0-clause-chosen
+returns-then-count-eq0-clause-chosen c =
+    let mesh = c.args.mesh.now in
+    let lengths = c.args.lengths.now in
+    let positive = lengths_positive mesh lengths c.count-lengths.ensures.lengths c.requires.lengths in
+    let full = left_full mesh lengths c.new.result c.greedy.new.self c.cotree.result.now c.left-count.result.now c.greedy.ensures.greedy c.cotree.ensures.cotree c.left-count.ensures.left in
+    none_basis mesh lengths c.faces-surface.ensures.surface positive c.new-then-count-eq0.result.items c.new-then-count-eq0.ensures.items (subst (IsFullCount mesh) c.if-count-eq0.true full)
+
+pub returns-then-count-eq0-clause-least : goal.returns-then-count-eq0-clause-least
+returns-then-count-eq0-clause-least c =
+    let mesh = c.args.mesh.now in
+    let lengths = c.args.lengths.now in
+    let positive = lengths_positive mesh lengths c.count-lengths.ensures.lengths c.requires.lengths in
+    least_of mesh lengths c.faces-surface.ensures.surface positive (loops_of c.new-then-count-eq0.result.items) (returns-then-count-eq0-clause-chosen c)
+
+pub choose-requires-clause-signed : goal.choose-requires-clause-signed
+choose-requires-clause-signed c =
+    desk_signed c.args.mesh.now c.args.lengths.now c.new.result c.greedy.new.self c.sign.new.self c.cotree.result.now c.cotree-2.result.now c.left-count.result.now c.in_ok-choice.choice.width
+    c.greedy.ensures.greedy c.cotree.ensures.cotree c.left-count.ensures.left (ap (λ (x : Chosen). x.width) c.in_ok-choice.ensures) c.sign.ensures.rest c.sign.ensures.signed c.cotree-2.ensures.cotree
+
+pub choose-requires-clause-count : goal.choose-requires-clause-count
+choose-requires-clause-count c =
+    let mesh = c.args.mesh.now in
+    subst (IsFullCount mesh) (sym (ap (λ (x : Chosen). x.width) c.in_ok-choice.ensures))
+    (left_full mesh c.args.lengths.now c.new.result c.greedy.new.self c.cotree.result.now c.left-count.result.now c.greedy.ensures.greedy c.cotree.ensures.cotree c.left-count.ensures.left)
+
+pub cycles_of-requires-clause-inside : goal.cycles_of-requires-clause-inside
+cycles_of-requires-clause-inside c =
+    let mesh = c.args.mesh.now in
+    let lengths = c.args.lengths.now in
+    let positive = lengths_positive mesh lengths c.count-lengths.ensures.lengths c.requires.lengths in
+    let signed = desk_signed c.args.mesh.now c.args.lengths.now c.new.result c.greedy.new.self c.sign.new.self c.cotree.result.now c.cotree-2.result.now c.left-count.result.now c.in_ok-choice.choice.width
+    c.greedy.ensures.greedy c.cotree.ensures.cotree c.left-count.ensures.left (ap (λ (x : Chosen). x.width) c.in_ok-choice.ensures) c.sign.ensures.rest c.sign.ensures.signed c.cotree-2.ensures.cotree in
+    all_inside mesh lengths c.faces-surface.ensures.surface positive c.cotree-2.result.now c.in_ok-choice.choice.width signed c.choose.new.choice.kept c.kept.result.now c.choose.ensures.kept c.kept.ensures.kept
+
+pub returns-clause-chosen : goal.returns-clause-chosen
+returns-clause-chosen c =
+    let mesh = c.args.mesh.now in
+    let lengths = c.args.lengths.now in
+    let surface = c.faces-surface.ensures.surface in
+    let positive = lengths_positive mesh lengths c.count-lengths.ensures.lengths c.requires.lengths in
+    let kept = c.kept.result.now in
+    let signed = desk_signed mesh lengths c.new.result c.greedy.new.self c.sign.new.self c.cotree.result.now c.cotree-2.result.now c.left-count.result.now c.in_ok-choice.choice.width
+    c.greedy.ensures.greedy c.cotree.ensures.cotree c.left-count.ensures.left (ap (λ (x : Chosen). x.width) c.in_ok-choice.ensures) c.sign.ensures.rest c.sign.ensures.signed c.cotree-2.ensures.cotree in
+    IfOk-weaker c.cycles_of.result (λ cycles. AreCyclesOf mesh lengths kept cycles.items) (λ cycles. IsTheBasis mesh lengths (loops_of cycles.items))
+    (λ cycles are. the_basis mesh lengths surface positive c.cotree-2.result.now c.in_ok-choice.choice.width signed c.choose.new.choice.kept kept cycles.items c.choose.ensures.kept c.kept.ensures.kept are)
+    c.cycles_of.ensures.cycles
+
+pub returns-clause-least : goal.returns-clause-least
+returns-clause-least c =
+    let mesh = c.args.mesh.now in
+    let lengths = c.args.lengths.now in
+    let positive = lengths_positive mesh lengths c.count-lengths.ensures.lengths c.requires.lengths in
+    IfOk-weaker c.cycles_of.result (λ cycles. IsTheBasis mesh lengths (loops_of cycles.items)) (λ cycles. LeastSimpleBasis mesh lengths (loops_of cycles.items))
+    (λ cycles is. least_of mesh lengths c.faces-surface.ensures.surface positive (loops_of cycles.items) is) (returns-clause-chosen c)
