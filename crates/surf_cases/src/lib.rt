@@ -7,6 +7,8 @@
 #[cfg(test)]
 mod cuts;
 #[cfg(test)]
+mod cycles;
+#[cfg(test)]
 mod meshes;
 #[cfg(test)]
 mod outside;

@@ -14,6 +14,8 @@ use surf_run::run;
 const HELP: &str = "usage: surf info M
        surf dist M L x
        surf loops M L x
+       surf basis M L
+       surf cycle M L
        surf cut M L x full | trim
        surf disc M
        surf --help | --version

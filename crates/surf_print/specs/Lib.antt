@@ -3,3 +3,4 @@ pub mod Lines
 pub mod DistanceTexts
 pub mod TreeTexts
 pub mod LoopTexts
+pub mod CycleTexts

@@ -5,3 +5,5 @@ mod Composing
 mod Saying
 mod HeadLaws
 mod CutLaws
+mod CycleLaws
+mod FindingLaws

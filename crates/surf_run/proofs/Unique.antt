@@ -1,8 +1,7 @@
 -- Words and files have one status, and where nothing failed it is the answer.
-use Rattle.std.proofs.Common.{◌≡◌, ◌≢◌, ◌⊎◌, ◌<◌, ◌≤◌, inl, inr, ℕ, Bool, List, [], Option, Some, None, Result, Ok, Err, refl, sym, ◌∙◌, ap, subst, arith, length}
-use Rattle.std.specs.Prelude.{nat_lt, if◌then◌else◌}
+use Rattle.std.proofs.Common.{◌≡◌, ◌≢◌, ◌⊎◌, ◌<◌, ◌≤◌, inl, inr, ℕ, Bool, true, List, [], Option, Some, None, Result, Ok, Err, refl, sym, ◌∙◌, ap, subst, arith, length}
+use Rattle.std.specs.Prelude.{nat_lt, if◌then◌else◌, codes}
 use Rattle.std.proofs.lemmas.Bool.{cases_eq, cases_lt}
-use Rattle.std.proofs.lemmas.List.Elements.{All-get_or}
 use Rattle.surf_base.specs.Outside.{Files, bytes_of}
 use Rattle.surf_run.specs.Outcome.{Outcome, answers, refuses, misses, Shows, status_of}
 use Rattle.surf_run.specs.Steps.{Ends}
@@ -18,27 +17,32 @@ use Rattle.surf_run.specs.Cause.{outcome_of}
 use Rattle.surf_run.specs.Cuts.{is_trimmed, cut_text}
 use Rattle.surf_run.specs.Discs.{JudgesDisc}
 use Rattle.surf_run.specs.Info.{Informs}
-use Rattle.surf_run.specs.Given.{looped, HasFewLoops, IsFewLoopedText, IsWeighted}
+use Rattle.surf_run.specs.Given.{looped, searchable, HasFewLoops, HasFewVertices, IsFewLoopedText, IsSearchableText, IsMeasured, IsWeighted}
 use Rattle.surf_run.specs.Weights.{HasLengths, HasBase, weighed_for, based}
 use Rattle.surf_run.specs.Says.{Says}
 use Rattle.surf_run.specs.Limits.{beyond}
+use Rattle.surf_run.specs.CycleTasks.{Finds, OnMesh, OnMeshText}
 use Rattle.surf_run.specs.Tasks.{Performs, OnSurface, OnText, is_limited}
+use Rattle.surf_run.specs.declared.cycles.CycleTask.{CycleTask}
+use Rattle.surf_run.specs.declared.cycles.CycleTask.TheVariants.{Basis, Shortest}
+use Rattle.surf_run.proofs.CycleLaws.{bases_are_one, firsts_are_one}
+use Rattle.surf_run.proofs.LengthLaws.{positive}
 use Rattle.surf_run.specs.declared.weighted.Task.{Task}
 use Rattle.surf_run.specs.declared.weighted.Task.TheVariants.{Distances, LeastLoops, Cut}
 use Rattle.surf_base.specs.declared.limits.LimitKind.TheVariants as limits
-use Rattle.surf_lengths.specs.Lengths.{IsLength, AreLengths}
 use Rattle.surf_complex.specs.Walk.{ArePositive}
-use Rattle.surf_complex.specs.Choice.{loops_at}
+use Rattle.surf_complex.specs.Choice.{Loop, loops_at}
 use Rattle.surf_complex.proofs.ShortestTreeLaws.{shortest_trees_are_one}
 use Rattle.surf_complex.proofs.LoopsOne.{loops_are_one}
 use Rattle.surf_opening.proofs.ChosenTrees.{openings_at_are_one}
+use Rattle.surf_print.specs.CycleTexts.{cycle_line, cycles_text}
 use Rattle.surf_print.specs.DistanceTexts.{distances_text}
 use Rattle.surf_print.specs.LoopTexts.{loops_text}
 use Rattle.surf_print.proofs.TreeTextLaws.{texts_same}
 use Rattle.surf_run.specs.MeshTexts.{IsMeshText, read_outcome}
 use Rattle.surf_run.specs.Surfaces.{surface_cause, EndsInFault, IsSurfaceText}
 use Rattle.surf_run.specs.Leads.{Leads, Answer, OnRequest, OnInfoText, OnDiscText}
-use Rattle.surf_run.specs.Words.{Request, help, version, info, disc, weighted, request_of}
+use Rattle.surf_run.specs.Words.{Request, help, version, info, disc, cycles, weighted, request_of}
 
 -- two results of a step go on with one value, or end with one status
 abbrev pub Agree : {A : Type 0} → Result A Outcome → Result A Outcome → Type 0
@@ -162,10 +166,6 @@ module _ (word : List ℕ) (base : ℕ) (mesh : Mesh) (files : Files) where
   one_weighted (Err o) (Err p) (inr x) (inl y) = absurd (lengths_agree (Ok x.0) (Err p) x.1 y)
   one_weighted (Err o) (Err p) (inr x) (inr y) = base_agrees (Err o) (Err p) x.2 y.2
 
--- lengths of edges are positive
-positive : (mesh : Mesh) (lengths : List ℕ) → AreLengths lengths → length lengths ≡ edge_count mesh → ArePositive mesh lengths
-positive mesh lengths are sized e l = (All-get_or IsLength lengths e 0 (subst (λ (n : ℕ). e < n) (sym sized) l) are).positive
-
 -- one text is said with one status
 says_same : (t u : List ℕ) (o p : Outcome) → t ≡ u → Says t o → Says u p → status_of o ≡ status_of p
 says_same t u o p same x y = ap status_of (x ∙ ap (λ s. if nat_lt 1073741824 (length s) then beyond limits.Answer else answers 0 s) same ∙ sym y)
@@ -191,6 +191,49 @@ one_text task bytes word base files =
     (λ read looped. one_end (IsWeighted word base read.1 files) (Performs task read) (one_weighted word base read.1 files)
     (λ given is. one_performance task read given looped.0.1 (positive read.1 given.0 is.2 is.3)))
 
+one_searchable : (bytes : List ℕ) → IsOne (IsSearchableText bytes)
+one_searchable bytes (Ok a) (Ok b) x y = ap (λ (read : OffParts × Mesh). read.1) (one_looped_text true bytes (Ok (x.0, a)) (Ok (y.0, b)) x.1 y.1)
+one_searchable bytes (Ok a) (Err p) x (inl y) = one_looped_text true bytes (Ok (x.0, a)) (Err p) x.1 y
+one_searchable bytes (Ok a) (Err p) x (inr y) =
+    one_result (searchable a) (Ok a) (Err p) x.2
+    (subst (λ (read : OffParts × Mesh). HasFewVertices read.1 (Err p)) (one_looped_text true bytes (Ok y.0) (Ok (x.0, a)) y.1 x.1) y.2)
+one_searchable bytes (Err o) (Ok b) (inl x) y = one_looped_text true bytes (Err o) (Ok (y.0, b)) x y.1
+one_searchable bytes (Err o) (Ok b) (inr x) y =
+    one_result (searchable b) (Err o) (Ok b)
+    (subst (λ (read : OffParts × Mesh). HasFewVertices read.1 (Err o)) (one_looped_text true bytes (Ok x.0) (Ok (y.0, b)) x.1 y.1) x.2) y.2
+one_searchable bytes (Err o) (Err p) (inl x) (inl y) = one_looped_text true bytes (Err o) (Err p) x y
+one_searchable bytes (Err o) (Err p) (inl x) (inr y) = absurd (one_looped_text true bytes (Err o) (Ok y.0) x y.1)
+one_searchable bytes (Err o) (Err p) (inr x) (inl y) = absurd (one_looped_text true bytes (Ok x.0) (Err p) x.1 y)
+one_searchable bytes (Err o) (Err p) (inr x) (inr y) =
+    one_result (searchable y.0.1) (Err o) (Err p)
+    (subst (λ (read : OffParts × Mesh). HasFewVertices read.1 (Err o)) (one_looped_text true bytes (Ok x.0) (Ok y.0) x.1 y.1) x.2) y.2
+
+one_measured : (word : List ℕ) (mesh : Mesh) (files : Files) → IsOne (IsMeasured word mesh files)
+one_measured word mesh files (Ok a) (Ok b) x y = one_result (weighed_for word mesh files) (Ok a) (Ok b) x.0 y.0
+one_measured word mesh files (Ok a) (Err p) x y = one_result (weighed_for word mesh files) (Ok a) (Err p) x.0 y
+one_measured word mesh files (Err o) (Ok b) x y = one_result (weighed_for word mesh files) (Err o) (Ok b) x y.0
+one_measured word mesh files (Err o) (Err p) x y = one_result (weighed_for word mesh files) (Err o) (Err p) x y
+
+one_finding : (task : CycleTask) (mesh : Mesh) (lengths : List ℕ) → IsSurface mesh → ArePositive mesh lengths → HasOneStatus (Finds task mesh lengths)
+one_finding Basis mesh lengths surface long o p x y =
+    says_same (cycles_text x.basis) (cycles_text y.basis) o p
+    (ap cycles_text (bases_are_one mesh lengths x.trees y.trees surface long x.chosen y.chosen x.basis y.basis x.is_basis y.is_basis)) x.says y.says
+one_finding Shortest mesh lengths surface long o p (inl x) (inl y) =
+    says_same (cycle_line x.first.size x.first.walk) (cycle_line y.first.size y.first.walk) o p
+    (ap (λ (c : Loop). cycle_line c.size c.walk) (firsts_are_one mesh lengths x.trees y.trees surface long x.chosen y.chosen x.first y.first x.rest y.rest x.is_first y.is_first))
+    x.says y.says
+one_finding Shortest mesh lengths surface long o p (inl x) (inr y) =
+    absurd (x.shortest.nonseparating.separates_not (y.separate x.first.walk x.shortest.nonseparating.simple))
+one_finding Shortest mesh lengths surface long o p (inr x) (inl y) =
+    absurd (y.shortest.nonseparating.separates_not (x.separate y.first.walk y.shortest.nonseparating.simple))
+one_finding Shortest mesh lengths surface long o p (inr x) (inr y) = says_same (codes "none\n") (codes "none\n") o p refl x.says y.says
+
+one_cycles : (task : CycleTask) (bytes word : List ℕ) (files : Files) → HasOneStatus (OnMeshText task bytes word files)
+one_cycles task bytes word files =
+    one_end (IsSearchableText bytes) (λ mesh. OnMesh task mesh word files) (one_searchable bytes)
+    (λ mesh given. one_end (IsMeasured word mesh files) (Finds task mesh) (one_measured word mesh files)
+    (λ lengths is. one_finding task mesh lengths given.1.0.1 (positive mesh lengths is.1 is.2)))
+
 pub one_request : (r : Option Request) (files : Files) → HasOneStatus (OnRequest r files)
 one_request None files = one_outcome _
 one_request (Some help) files = one_outcome _
@@ -199,6 +242,8 @@ one_request (Some (info mesh)) files = one_end (Reads mesh files) OnInfoText (on
     (λ bytes _. one_end (IsSurfaceText bytes) (λ read. Informs read.1) (one_surface_text bytes) (λ read _. one_info read.1))
 one_request (Some (disc mesh)) files = one_end (Reads mesh files) OnDiscText (one_result (within_text (bytes_of files mesh)))
     (λ bytes _. one_end (IsMeshText bytes) (λ read. JudgesDisc read.1) (one_mesh_text bytes) (λ read _. one_judgement read.1))
+one_request (Some (cycles task mesh word)) files = one_end (Reads mesh files) (λ bytes. OnMeshText task bytes word files)
+    (one_result (within_text (bytes_of files mesh))) (λ bytes _. one_cycles task bytes word files)
 one_request (Some (weighted task mesh word base)) files = one_end (Reads mesh files) (λ bytes. OnText task bytes word base files)
     (one_result (within_text (bytes_of files mesh))) (λ bytes _. one_text task bytes word base files)
 

@@ -3,6 +3,7 @@ use Rattle.std.specs.Prelude.{◌≡◌, ℕ, List, Option, Some, None}
 use Rattle.surf_base.specs.Outside.{Files}
 use Rattle.surf_run.specs.Cause.{misused}
 use Rattle.surf_run.specs.Help.{help_text, version_text}
+use Rattle.surf_run.specs.CycleTasks.{OnCycles}
 use Rattle.surf_run.specs.Discs.{JudgesDisc}
 use Rattle.surf_run.specs.Info.{Informs}
 use Rattle.surf_run.specs.MeshTexts.{IsMeshText}
@@ -11,7 +12,7 @@ use Rattle.surf_run.specs.Reading.{Reads}
 use Rattle.surf_run.specs.Steps.{Ends}
 use Rattle.surf_run.specs.Surfaces.{IsSurfaceText}
 use Rattle.surf_run.specs.Tasks.{OnTask}
-use Rattle.surf_run.specs.Words.{Request, help, version, info, disc, weighted, request_of}
+use Rattle.surf_run.specs.Words.{Request, help, version, info, disc, cycles, weighted, request_of}
 
 -- `info` of the text of a mesh
 abbrev pub OnInfoText : List ℕ → Outcome → Type 0
@@ -36,6 +37,7 @@ OnRequest (Some help) files outcome = outcome ≡ answers 0 help_text
 OnRequest (Some version) files outcome = outcome ≡ answers 0 version_text
 OnRequest (Some (info mesh)) files outcome = OnInfo mesh files outcome
 OnRequest (Some (disc mesh)) files outcome = OnDisc mesh files outcome
+OnRequest (Some (cycles task mesh lengths)) files outcome = OnCycles task mesh lengths files outcome
 OnRequest (Some (weighted task mesh lengths base)) files outcome = OnTask task mesh lengths base files outcome
 
 -- what comes of these words over these files

@@ -17,6 +17,10 @@ pub mod LeastLoops
 pub mod Cuts
 pub mod HeadTexts
 pub mod Tasks
+pub mod LeastBasis
+pub mod ShortestCycle
+pub mod CycleTasks
+pub mod CycleTexts
 pub mod Help
 pub mod Seen
 pub mod Leads

@@ -1,11 +1,12 @@
 -- A command of the code as a row of the command table.
 use Rattle.surf_run.specs.declared.words.Command.{Command}
-use Rattle.surf_run.specs.declared.words.Command.TheVariants.{Help, Version, Info, Disc, Weighted}
-use Rattle.surf_run.specs.Words.{Request, help, version, info, disc, weighted}
+use Rattle.surf_run.specs.declared.words.Command.TheVariants.{Help, Version, Info, Disc, Cycles, Weighted}
+use Rattle.surf_run.specs.Words.{Request, help, version, info, disc, cycles, weighted}
 
 abbrev pub request : Command → Request
 request Help = help
 request Version = version
 request (Info mesh) = info mesh.now
 request (Disc mesh) = disc mesh.now
+request (Cycles task mesh lengths) = cycles task mesh.now lengths.now
 request (Weighted task mesh lengths base) = weighted task mesh.now lengths.now base

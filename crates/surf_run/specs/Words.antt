@@ -2,6 +2,8 @@
 use Rattle.std.specs.Prelude.{ℕ, List, [], ◌∷◌, map, String, Option, Some, None, nat_lt, option_and_then, if◌then◌else◌, codes, string_bytes}
 use Rattle.std.specs.Str.{bytes_eq}
 use Rattle.surf_text.specs.Text.{whole}
+use Rattle.surf_run.specs.declared.cycles.CycleTask.{CycleTask}
+use Rattle.surf_run.specs.declared.cycles.CycleTask.TheVariants.{Basis, Shortest}
 use Rattle.surf_run.specs.declared.weighted.Task.{Task}
 use Rattle.surf_run.specs.declared.weighted.Task.TheVariants.{Distances, LeastLoops, Cut}
 use Rattle.surf_run.specs.declared.cut_command.CutKind.TheVariants.{Full, Trimmed}
@@ -17,6 +19,8 @@ pub data Request : Type 0 where
   version : Request
   info : List ℕ → Request
   disc : List ℕ → Request
+  -- a task on the cycles of the surface of a file, with the lengths that a word gives
+  cycles : CycleTask → List ℕ → List ℕ → Request
   -- a task on the surface of a file, with the lengths that a word gives and a base
   weighted : Task → List ℕ → List ℕ → ℕ → Request
 
@@ -52,12 +56,22 @@ weighted_request None mesh lengths base = None
 weighted_request (Some task) mesh lengths None = None
 weighted_request (Some task) mesh lengths (Some base) = Some (weighted task mesh lengths base)
 
+-- the task of a command with three words
+abbrev pub cycle_task : List ℕ → Option CycleTask
+cycle_task word =
+    if bytes_eq word (codes "basis") then Some Basis
+    else (if bytes_eq word (codes "cycle") then Some Shortest else None)
+
+abbrev pub cycles_request : Option CycleTask → List ℕ → List ℕ → Option Request
+cycles_request None mesh lengths = None
+cycles_request (Some task) mesh lengths = Some (cycles task mesh lengths)
+
 -- the row of the command table that the words are in
 abbrev pub request_of : List (List ℕ) → Option Request
 request_of [] = None
 request_of (word ∷ []) = lone_request word
 request_of (word ∷ mesh ∷ []) = mesh_request word mesh
-request_of (word ∷ mesh ∷ third ∷ []) = None
+request_of (word ∷ mesh ∷ lengths ∷ []) = cycles_request (cycle_task word) mesh lengths
 request_of (word ∷ mesh ∷ lengths ∷ base ∷ []) = weighted_request (task_of word) mesh lengths (number_of base)
 request_of (word ∷ mesh ∷ lengths ∷ base ∷ kind ∷ []) = weighted_request (cut_task word kind) mesh lengths (number_of base)
 request_of (word ∷ mesh ∷ lengths ∷ base ∷ kind ∷ sixth ∷ more) = None

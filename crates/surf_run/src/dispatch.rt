@@ -6,6 +6,7 @@ ghost use Rattle.surf_run.specs.Seen.{request};
 ghost use Rattle.surf_run.specs.Tells.{ConcludesOver};
 
 use crate::answered::{Answered, help, version};
+use crate::cycles::cycles;
 use crate::disc_command::disc;
 use crate::info_command::info;
 use crate::refusal::Refused;
@@ -26,6 +27,11 @@ pub fn answer<S: Shelf>(alloc: Global, command: Command, shelf: &mut S) -> Resul
         Command::Version => version(alloc),
         Command::Info { mesh } => info(alloc, shelf, mesh),
         Command::Disc { mesh } => disc(alloc, shelf, mesh),
+        Command::Cycles {
+            task,
+            mesh,
+            lengths,
+        } => cycles(alloc, shelf, task, mesh, lengths),
         Command::Weighted {
             task,
             mesh,

@@ -2,7 +2,10 @@
 #![tactic(auto)]
 
 mod answered;
+mod basis_command;
 mod cut_command;
+mod cycle_command;
+mod cycles;
 mod disc_command;
 mod dispatch;
 mod dist_command;
@@ -18,6 +21,7 @@ mod words;
 
 pub use answered::{Answered, Verdict};
 pub use cut_command::CutKind;
+pub use cycles::CycleTask;
 pub use refusal::Refused;
 pub use top::run;
 pub use weighted::Task;

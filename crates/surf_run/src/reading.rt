@@ -1,14 +1,16 @@
 //! Files that are reached.
 ghost use Rattle.std.specs.Prelude.{◌≡◌, ◌≤◌, length, IfOk};
 ghost use Rattle.surf_complex.specs.Surface.{face_count};
+ghost use Rattle.surf_run.specs.Given.{IsFewLoopedText, loop_count};
 ghost use Rattle.surf_run.specs.MeshTexts.{IsMeshText};
 ghost use Rattle.surf_run.specs.Reading.{Reads};
 ghost use Rattle.surf_run.specs.Surfaces.{IsSurfaceOf, IsSurfaceText};
 ghost use Rattle.surf_run.specs.Tells.{Takes, TakesOver};
 
+use crate::info_command::loop_count;
 use crate::refusal::Refused;
 use std::alloc::Global;
-use surf_base::{FetchFault, LimitKind, MAX_TEXT, Shelf, fetch};
+use surf_base::{FetchFault, LimitKind, MAX_LOOPS, MAX_TEXT, Shelf, fetch};
 use surf_check::check;
 use surf_mesh::{HalfMesh, Soup};
 use surf_off::{OffText, read_off};
@@ -56,5 +58,23 @@ pub fn read_surface(alloc: Global, bytes: &[u8]) -> Result<(OffText<'_>, HalfMes
 {
     let (text, soup) = read_mesh(alloc, bytes)?;
     let mesh = surface_of(alloc, soup)?;
+    Ok((text, mesh))
+}
+
+/// The parts and the surface of the text of a mesh, with few loops where these are limited.
+pub fn read_looped(
+    alloc: Global,
+    limited: bool,
+    bytes: &[u8],
+) -> Result<(OffText<'_>, HalfMesh), Refused>
+    requires { length bytes.now ≤ 268435456 }
+    ensures tells { Takes (λ read. read) (IsFewLoopedText limited bytes.now) result }
+    ensures lines { IfOk result (λ read. length read.0.vertex_lines ≡ read.1.vertices) }
+    ensures colours { IfOk result (λ read. length read.0.colours ≡ face_count read.1) }
+{
+    let (text, mesh) = read_surface(alloc, bytes)?;
+    if limited && loop_count(&mesh) > MAX_LOOPS as u64 {
+        return Err(Refused::Limit(LimitKind::Loops));
+    }
     Ok((text, mesh))
 }

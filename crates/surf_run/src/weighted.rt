@@ -1,20 +1,19 @@
 //! Commands on a surface with lengths and a base.
 ghost use Rattle.std.specs.Prelude.{◌≡◌, ◌<◌, ◌≤◌, ℕ, length, IfOk};
 ghost use Rattle.surf_complex.specs.Surface.{edge_count, face_count};
-ghost use Rattle.surf_run.specs.Given.{IsFewLoopedText, IsWeighted, loop_count};
+ghost use Rattle.surf_run.specs.Given.{IsWeighted};
 ghost use Rattle.surf_run.specs.Tasks.{OnTask, OnText, OnSurface, Performs, is_limited};
 ghost use Rattle.surf_run.specs.Tells.{Concludes, ConcludesOver, Takes, TakesOver};
 
 use crate::answered::Answered;
 use crate::cut_command::{CutKind, cut_of};
 use crate::dist_command::dist_of;
-use crate::info_command::loop_count;
 use crate::loops_command::loops_of;
-use crate::reading::{read_file, read_surface};
+use crate::reading::{read_file, read_looped};
 use crate::refusal::Refused;
 use crate::weights::{base_of, read_weights};
 use std::alloc::Global;
-use surf_base::{LimitKind, MAX_LOOPS, Shelf, VertexId};
+use surf_base::{Shelf, VertexId};
 use surf_lengths::Lengths;
 use surf_mesh::HalfMesh;
 use surf_off::OffText;
@@ -112,24 +111,6 @@ fn perform(
         Task::LeastLoops => loops_of(alloc, mesh, lengths, base),
         Task::Cut(kind) => cut_of(alloc, text, mesh, lengths, base, kind),
     }
-}
-
-// The parts and the surface of the text of a mesh, with few loops where these are limited.
-fn read_looped(
-    alloc: Global,
-    limited: bool,
-    bytes: &[u8],
-) -> Result<(OffText<'_>, HalfMesh), Refused>
-    requires { length bytes.now ≤ 268435456 }
-    ensures tells { Takes (λ read. read) (IsFewLoopedText limited bytes.now) result }
-    ensures lines { IfOk result (λ read. length read.0.vertex_lines ≡ read.1.vertices) }
-    ensures colours { IfOk result (λ read. length read.0.colours ≡ face_count read.1) }
-{
-    let (text, mesh) = read_surface(alloc, bytes)?;
-    if limited && loop_count(&mesh) > MAX_LOOPS as u64 {
-        return Err(Refused::Limit(LimitKind::Loops));
-    }
-    Ok((text, mesh))
 }
 
 // Lengths and a base for a surface.

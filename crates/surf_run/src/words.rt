@@ -1,9 +1,10 @@
 //! The words of the command line.
 ghost use Rattle.std.specs.Prelude.{◌≡◌, None, Some, MatchOption};
-ghost use Rattle.surf_run.specs.Words.{texts, request_of, lone_request, mesh_request, number_of, task_of, cut_task, weighted_request};
+ghost use Rattle.surf_run.specs.Words.{texts, request_of, lone_request, mesh_request, number_of, cycle_task, task_of, cut_task, cycles_request, weighted_request};
 ghost use Rattle.surf_run.specs.Seen.{request};
 
 use crate::cut_command::CutKind;
+use crate::cycles::CycleTask;
 use crate::weighted::Task;
 use surf_text::read_whole;
 
@@ -17,6 +18,11 @@ pub enum Command<'w> {
     },
     Disc {
         mesh: &'w str,
+    },
+    Cycles {
+        task: CycleTask,
+        mesh: &'w str,
+        lengths: &'w str,
     },
     Weighted {
         task: Task,
@@ -32,6 +38,17 @@ fn number_of(word: &str) -> Option<u32>
 {
     match read_whole(word.as_bytes()) {
         Some(n) if n <= u32::MAX as u64 => Some(n as u32),
+        _ => None,
+    }
+}
+
+// The task of a command with three words.
+fn cycle_task(word: &str) -> Option<CycleTask>
+    ensures { result ≡ cycle_task word.now }
+{
+    match word {
+        "basis" => Some(CycleTask::Basis),
+        "cycle" => Some(CycleTask::Shortest),
         _ => None,
     }
 }
@@ -59,6 +76,16 @@ fn cut_task(word: &str, kind: &str) -> Option<Task>
         "trim" => Some(Task::Cut(CutKind::Trimmed)),
         _ => None,
     }
+}
+
+fn cycles<'w>(task: Option<CycleTask>, mesh: &'w str, lengths: &'w str) -> Option<Command<'w>>
+    ensures { MatchOption result (cycles_request task mesh.now lengths.now ≡ None) (λ c. cycles_request task mesh.now lengths.now ≡ Some (request c)) }
+{
+    Some(Command::Cycles {
+        task: task?,
+        mesh,
+        lengths,
+    })
 }
 
 fn weighted<'w>(
@@ -102,9 +129,10 @@ pub fn parse(words: &[String]) -> Option<Command<'_>>
     ensures { MatchOption result (request_of (texts words.now) ≡ None) (λ c. request_of (texts words.now) ≡ Some (request c)) }
 {
     match words {
-        [] | [_, _, _] | [_, _, _, _, _, _, ..] => None,
+        [] | [_, _, _, _, _, _, ..] => None,
         [word] => lone(word),
         [word, mesh] => on_mesh(word, mesh),
+        [word, mesh, lengths] => cycles(cycle_task(word), mesh, lengths),
         [word, mesh, lengths, base] => weighted(task_of(word), mesh, lengths, number_of(base)),
         [word, mesh, lengths, base, kind] => {
             weighted(cut_task(word, kind), mesh, lengths, number_of(base))

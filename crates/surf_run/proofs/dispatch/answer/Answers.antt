@@ -9,3 +9,8 @@ pub returns-in-Weighted-clause-tells : goal.returns-in-Weighted-clause-tells
 returns-in-Weighted-clause-tells g c =
     subst (λ (command : Command). ConcludesOver (g.S.Shelf.holds c.args.shelf.now) (g.S.Shelf.faults c.args.shelf.now) (g.S.Shelf.faults c.weighted.new.shelf) (OnRequest (Some (request command))) c.weighted.result)
     (sym c.in-Weighted.is) c.weighted.ensures.tells
+
+pub returns-in-Cycles-clause-tells : goal.returns-in-Cycles-clause-tells
+returns-in-Cycles-clause-tells g c =
+    subst (λ (command : Command). ConcludesOver (g.S.Shelf.holds c.args.shelf.now) (g.S.Shelf.faults c.args.shelf.now) (g.S.Shelf.faults c.cycles.new.shelf) (OnRequest (Some (request command))) c.cycles.result)
+    (sym c.in-Cycles.is) c.cycles.ensures.tells

@@ -1,0 +1,45 @@
+-- What is found of the cycles of a surface, as answers.
+use Rattle.std.proofs.Common.{◌≡◌, ℕ, List, length, Option, Some, None, inl, inr, refl}
+use Rattle.std.specs.Prelude.{IfSome, ◌↔◌}
+use Rattle.surf_complex.specs.Mesh.{Mesh}
+use Rattle.surf_complex.specs.Surface.{IsSurface, edge_count}
+use Rattle.surf_complex.specs.Choice.{Trees, AreChosen, Loop, candidates}
+use Rattle.surf_complex.specs.ChoiceLaws.{LeastSimpleBasis}
+use Rattle.surf_complex.proofs.ChoiceExists.{choice_exists}
+use Rattle.surf_lengths.specs.Lengths.{AreLengths}
+use Rattle.surf_basis.specs.Cycles.{loop_of, IsTheBasis, IsFirstCandidate, IsShortestCycle, AllSeparate}
+use Rattle.surf_basis.specs.declared.cycle.Cycle.{Cycle}
+use Rattle.surf_print.specs.CycleTexts.{cycles_text}
+use Rattle.surf_run.specs.CycleTexts.{found_text}
+use Rattle.surf_run.specs.LeastBasis.{GivesBasis}
+use Rattle.surf_run.specs.Outcome.{Outcome}
+use Rattle.surf_run.specs.Says.{Says}
+use Rattle.surf_run.specs.ShortestCycle.{GivesCycle}
+use Rattle.surf_run.proofs.CycleLaws.{begins}
+use Rattle.surf_run.proofs.LengthLaws.{positive}
+
+module _ (mesh : Mesh) (lengths : List ℕ) (surface : IsSurface mesh) (are : AreLengths lengths) (sized : length lengths ≡ edge_count mesh) where
+  some : (trees : ℕ → Trees) × AreChosen mesh lengths trees
+  some = choice_exists mesh lengths surface (positive mesh lengths are sized)
+
+  -- a basis that is chosen whichever trees show the choice
+  pub gives_basis : (basis : List Loop) → IsTheBasis mesh lengths basis → LeastSimpleBasis mesh lengths basis → (o : Outcome) → Says (cycles_text basis) o →
+      GivesBasis mesh lengths o
+  gives_basis basis is least o says = record { trees = some.0; chosen = some.1; basis = basis; is_basis = is some.0 some.1; least = least; says = says }
+
+  -- a first candidate that was found, or none
+  pub gives_cycle : (found : Option Cycle) → IsFirstCandidate mesh lengths found → IfSome found (λ c. IsShortestCycle mesh lengths c) →
+      (found ≡ None) ↔ AllSeparate mesh → (o : Outcome) → Says (found_text found) o → GivesCycle mesh lengths o
+  gives_cycle None first shortest separate o says = inr (record { separate = separate.0 refl; says = says })
+  gives_cycle (Some c) first shortest separate o says =
+      let b = begins (candidates mesh lengths some.0) c (first some.0 some.1) in
+      inl (record {
+        trees = some.0;
+        chosen = some.1;
+        first = loop_of c;
+        rest = b.0;
+        is_first = b.1;
+        shortest = shortest.shortest;
+        size = shortest.size;
+        says = says;
+      })

@@ -1,0 +1,29 @@
+-- What commands on the cycles of a surface with lengths answer.
+use Rattle.std.specs.Prelude.{ℕ, List}
+use Rattle.surf_base.specs.Outside.{Files}
+use Rattle.surf_complex.specs.Mesh.{Mesh}
+use Rattle.surf_run.specs.Given.{IsSearchableText, IsMeasured}
+use Rattle.surf_run.specs.LeastBasis.{GivesBasis}
+use Rattle.surf_run.specs.Outcome.{Outcome}
+use Rattle.surf_run.specs.Reading.{Reads}
+use Rattle.surf_run.specs.ShortestCycle.{GivesCycle}
+use Rattle.surf_run.specs.Steps.{Ends}
+use Rattle.surf_run.specs.declared.cycles.CycleTask.{CycleTask}
+use Rattle.surf_run.specs.declared.cycles.CycleTask.TheVariants.{Basis, Shortest}
+
+-- what is done with a surface and lengths
+abbrev pub Finds : CycleTask → Mesh → List ℕ → Outcome → Type 0
+Finds Basis mesh lengths outcome = GivesBasis mesh lengths outcome
+Finds Shortest mesh lengths outcome = GivesCycle mesh lengths outcome
+
+-- a task on a surface
+abbrev pub OnMesh : CycleTask → Mesh → List ℕ → Files → Outcome → Type 0
+OnMesh task mesh word files outcome = Ends (IsMeasured word mesh files) (Finds task mesh) outcome
+
+-- a task on the text of a mesh
+abbrev pub OnMeshText : CycleTask → List ℕ → List ℕ → Files → Outcome → Type 0
+OnMeshText task bytes word files outcome = Ends (IsSearchableText bytes) (λ mesh. OnMesh task mesh word files) outcome
+
+-- a task on a file
+abbrev pub OnCycles : CycleTask → List ℕ → List ℕ → Files → Outcome → Type 0
+OnCycles task mesh word files outcome = Ends (Reads mesh files) (λ bytes. OnMeshText task bytes word files) outcome
