@@ -118,8 +118,7 @@ pub across : (mesh : Mesh) → IsCoherent mesh → (f u v : ℕ) → Runs mesh f
     (g : ℕ) × (g ≢ f) × Runs mesh g (v, u)
 across mesh c f u v h =
     let r = c.back f (u, v) h in
-    let is_face = c.is_mesh f [] (run_face mesh f (u, v) h) in
-    (
+    let is_face = c.is_mesh f [] (run_face mesh f (u, v) h) in (
       r.0,
       (λ same. one_way mesh.vertices (face_at mesh f) is_face u v
           (run_below mesh.vertices (u, v) (face_at mesh f) is_face h).2 h
