@@ -18,14 +18,14 @@ use Rattle.surf_tori.proofs.TorusLaws.{torus_is_grid, count}
 use Rattle.surf_tori.proofs.SumLaws.{behind, losing_of, sum_is_glued, sum_count, sum_can_lose}
 
 -- a mesh of triangles alone
-AllTriangles : Mesh → Type 0
+abbrev pub AllTriangles : Mesh → Type 0
 AllTriangles mesh = (f : ℕ) → f < face_count mesh → length (face_at mesh f) ≡ 3
 
 module _ (a b : ℕ) (wide : 4 ≤ a) (high : 4 ≤ b) where
-  grid : IsGrid (torus a b) a b (after a) (before a) (after b) (before b)
+  pub grid : IsGrid (torus a b) a b (after a) (before a) (after b) (before b)
   grid = torus_is_grid a b (omega arith) (omega arith)
 
-  torus_count : face_count (torus a b) ≡ 2 * (a * b)
+  pub torus_count : face_count (torus a b) ≡ 2 * (a * b)
   torus_count = count a b (omega arith) (omega arith)
 
   -- a torus can lose the first face of each cell
@@ -38,12 +38,12 @@ module _ (a b : ℕ) (wide : 4 ≤ a) (high : 4 ≤ b) where
     fans = grid_fans_without grid i j;
   }
 
-  first_can_go : CanLose (torus a b) 0
+  pub first_can_go : CanLose (torus a b) 0
   first_can_go =
       let zero_is : low b 0 0 ≡ 0 = omega arith in
       subst (CanLose (torus a b)) zero_is (cell_can_go 0 0 (omega arith) (omega arith))
 
-  joint_in : joint b < face_count (torus a b)
+  pub joint_in : joint b < face_count (torus a b)
   joint_in = grid.first_in 2 2 (omega arith) (omega arith)
 
   -- the two faces that are left out have no corner in common
@@ -73,14 +73,13 @@ module _ (a b : ℕ) (wide : 4 ≤ a) (high : 4 ≤ b) where
       ]
 
   -- what holds of a chain, so that one more torus can be joined
-  record IsLongChain (k : ℕ) (mesh : Mesh) : Type 0 where
-    can : CanLose mesh (last_joint mesh a b)
-    triangles : AllTriangles mesh
-    vertices : mesh.vertices + 3 * k ≡ (k + 1) * (a * b)
-    faces : face_count mesh + 2 * k ≡ 2 * ((k + 1) * (a * b))
+  pub record IsLongChain (k : ℕ) (mesh : Mesh) : Type 0 where
+    pub can : CanLose mesh (last_joint mesh a b)
+    pub triangles : AllTriangles mesh
+    pub vertices : mesh.vertices + 3 * k ≡ (k + 1) * (a * b)
+    pub faces : face_count mesh + 2 * k ≡ 2 * ((k + 1) * (a * b))
 
   one_torus : IsLongChain 0 (torus a b)
-  unfolding AllTriangles
   one_torus =
       let all = torus_count in
       let below = joint_in in
@@ -94,7 +93,6 @@ module _ (a b : ℕ) (wide : 4 ≤ a) (high : 4 ≤ b) where
 
   one_more : (k : ℕ) (mesh : Mesh) → IsLongChain k mesh →
       IsLongChain (suc k) (connected_sum mesh (last_joint mesh a b) (torus a b) 0)
-  unfolding AllTriangles
   one_more k mesh long =
       let f = last_joint mesh a b in
       let all = torus_count in
@@ -124,7 +122,7 @@ module _ (a b : ℕ) (wide : 4 ≤ a) (high : 4 ≤ b) where
         faces = let n = long.faces in omega (arith, n, all, total);
       }
 
-  long_chain : (k : ℕ) → IsLongChain k (longer_chain k a b)
+  pub long_chain : (k : ℕ) → IsLongChain k (longer_chain k a b)
   long_chain zero = one_torus
   long_chain (suc k) = one_more k (longer_chain k a b) (long_chain k)
 
@@ -147,7 +145,6 @@ module _ (a b : ℕ) (wide : 4 ≤ a) (high : 4 ≤ b) where
       record { vertices = omega (arith, v); faces = omega (arith, f) }
 
   pub chain_characteristic : (g : ℕ) → 1 ≤ g → characteristic (chain g a b) ≡ pos 2 -ℤ pos (2 * g)
-  unfolding AllTriangles
   chain_characteristic g some =
       let long = chain_long g in
       let edges = triangle_edges (chain g a b) long.can.surface long.triangles in
