@@ -1,18 +1,17 @@
 -- Chains of tori are surfaces.
-use Rattle.std.proofs.Common.{◌≡◌, ◌≢◌, ℕ, zero, suc, ◌+◌, ◌-◌, ◌*◌, ◌<◌, ◌≤◌, List, [], ◌∷◌, ◌⊎◌, length, map, refl, sym, ap, ◌∙◌, arith, inl, inr, subst, Contains}
+use Rattle.std.proofs.Common.{◌≡◌, ◌≢◌, ℕ, zero, suc, ◌+◌, ◌-◌, ◌*◌, ◌<◌, ◌≤◌, ◌⊎◌, length, refl, sym, ap, ◌∙◌, arith, inl, inr, subst, Contains}
 use Rattle.std.specs.Prelude.{pos, ◌-ℤ◌}
 use Rattle.std.proofs.lemmas.Bool.{le-ltb}
 use Rattle.std.proofs.lemmas.List.{length-map}
 use Rattle.std.proofs.lemmas.Nat.{same_from_place, mul-le}
 use Rattle.surf_complex.specs.Mesh.{Mesh, characteristic}
 use Rattle.surf_complex.specs.Side.{after, before}
-use Rattle.surf_complex.specs.Surface.{face_count, edge_count, face_at, HasCorner, IsSurface}
+use Rattle.surf_complex.specs.Surface.{face_count, face_at, HasCorner, IsSurface}
 use Rattle.surf_tori.specs.Torus.{torus}
 use Rattle.surf_tori.specs.ConnectedSum.{connected_sum, CanLose}
 use Rattle.surf_tori.specs.Chain.{joint, last_joint, longer_chain, chain, ChainsAreSurfaces, ChainsHaveCharacteristic, ChainCounts}
 use Rattle.surf_tori.proofs.TriangleLaws.{corner_of}
-use Rattle.surf_tori.proofs.LinkLaws.{HasKeptFans}
-use Rattle.surf_tori.proofs.GridLaws.{IsGrid, place, low, place_in, grid_is_coherent, grid_is_surface, grid_triangles, grid_fans_without}
+use Rattle.surf_tori.proofs.GridLaws.{IsGrid, place, low, grid_is_coherent, grid_is_surface, grid_triangles, grid_fans_without}
 use Rattle.surf_tori.proofs.EulerLaws.{triangle_edges, characteristic_less}
 use Rattle.surf_tori.proofs.TorusLaws.{torus_is_grid, count}
 use Rattle.surf_tori.proofs.SumLaws.{behind, losing_of, sum_is_glued, sum_count, sum_can_lose}

@@ -452,9 +452,22 @@ module _ {mesh : Mesh} {a b : ℕ} {down up right left : ℕ → ℕ} (grid : Is
                 let m0 : a0 ≢ o = λ e. n0 (sym e) in
                 let m2 : a2 ≢ o = λ e. n2 (sym e) in
                 let m4 : a4 ≢ o = λ e. n4 (sym e) in
-                linked_members (KeptShareAt mesh (λ h. h ≢ o) v) (kept_share_at_turned mesh (λ h. h ≢ o) v) (ring i j)
-                ((m0, n1, r.first), ((n1, m2, r.second), ((m2, n3, r.third), ((n3, m4, r.fourth), ((m4, n5, r.fifth),
-                tt))))) f g mf mg
+                linked_members (KeptShareAt mesh (λ h. h ≢ o) v) (kept_share_at_turned mesh (λ h. h ≢ o) v) (ring i j) (
+                  (m0, n1, r.first),
+                  (
+                    (n1, m2, r.second),
+                    (
+                      (m2, n3, r.third),
+                      (
+                        (n3, m4, r.fourth),
+                        (
+                          (m4, n5, r.fifth),
+                          tt,
+                        ),
+                      ),
+                    ),
+                  ),
+                ) f g mf mg
           ]
         ]
       ]

@@ -1,22 +1,22 @@
 -- Chains, torus by torus: the faces so far, and the numbers of the last torus's vertices.
-use Rattle.std.proofs.Common.{◌≡◌, ◌≢◌, ℕ, zero, suc, ◌+◌, ◌-◌, ◌*◌, ◌<◌, ◌≤◌, List, [], ◌∷◌, ◌++◌, length, get_or, map, take, drop, refl, sym, ap, ◌∙◌, arith, subst, All, AllPairs}
+use Rattle.std.proofs.Common.{◌≡◌, ◌≢◌, ℕ, suc, ◌+◌, ◌-◌, ◌*◌, ◌<◌, ◌≤◌, List, [], ◌∷◌, ◌++◌, length, get_or, map, take, drop, refl, sym, ap, ◌∙◌, arith, subst, All, AllPairs}
 use Rattle.std.specs.List.{AllByRecursion, range_with_len, sum_by}
 use Rattle.std.specs.Prelude.{slice_index}
-use Rattle.std.proofs.lemmas.List.{append_assoc, map-append, length-append, length-map, length-drop, get_or-drop, get_or-map, get_or-append-add, drop-drop, take-map}
-use Rattle.std.proofs.lemmas.List.Elements.{recursion_from_All}
+use Rattle.std.proofs.lemmas.List.{append_assoc, map-append, length-append, length-map, length-drop, get_or-drop, get_or-map, get_or-append-add, get_or_append_left, drop-drop}
+use Rattle.std.proofs.lemmas.List.Elements.{recursion_from_All, All-from_get_or}
 use Rattle.std.proofs.lemmas.List.FromFn.{length-range_with_len, get_or-range_with_len, length-map-range_with_len, get_or-map-range_with_len}
-use Rattle.std.proofs.lemmas.List.Sums.{sum_by-append}
 use Rattle.std.proofs.lemmas.Nat.{mul-le}
-use Rattle.surf_complex.specs.Mesh.{Mesh, IsFace}
+use Rattle.surf_complex.specs.Mesh.{IsFace}
 use Rattle.surf_complex.specs.Side.{after}
 use Rattle.surf_complex.specs.Surface.{face_count, face_at}
 use Rattle.surf_tori.specs.Torus.{torus, torus_faces}
-use Rattle.surf_tori.specs.ConnectedSum.{without, sum_name, connected_sum}
-use Rattle.surf_tori.specs.Chain.{joint, last_joint, longer_chain}
+use Rattle.surf_tori.specs.ConnectedSum.{without, sum_name}
+use Rattle.surf_tori.specs.Chain.{joint, last_joint, longer_chain, chain}
+use Rattle.surf_tori.proofs.EulerLaws.{three_each}
 use Rattle.surf_tori.proofs.GridLaws.{place, low}
 use Rattle.surf_tori.proofs.ListLaws.{without-behind, without-map, part_all, faces_alike, own_faces, range_inside, range_differs}
 use Rattle.surf_tori.proofs.SumLaws.{sum_is_glued}
-use Rattle.surf_tori.proofs.ChainLaws.{grid, torus_count, first_can_go, joint_in, IsLongChain, long_chain}
+use Rattle.surf_tori.proofs.ChainLaws.{grid, torus_count, first_can_go, joint_in, long_chain, chains_have_counts}
 
 -- What stands once all tori but the last are done: the faces so far, the numbers of the last torus's vertices, and the
 -- first of its faces that is still to come.
@@ -26,6 +26,12 @@ pub record IsPart (k a b : ℕ) (done : List (List ℕ)) (numbers : List ℕ) (f
   pub long : length numbers ≡ a * b
   pub inside : All (λ v. v < (longer_chain k a b).vertices) numbers
   pub differ : AllPairs (λ u v. u ≢ v) numbers
+
+-- k + 1 chunks of n, less 3 from each but one, grow with k
+chunks_grow : (k d n : ℕ) → 3 ≤ n → (k + 1) * n + 3 * d ≤ (k + d + 1) * n
+chunks_grow k d n large =
+    let more : d * 3 ≤ d * n = mul-le d 3 d n (omega arith) large in
+    omega (arith, more)
 
 -- the numbers of the next torus's vertices
 abbrev pub next_numbers : ℕ → ℕ → ℕ → List ℕ → List ℕ
@@ -71,6 +77,23 @@ module _ (a b : ℕ) (wide : 4 ≤ a) (high : 4 ≤ b) where
       subst (IsFace (a * b)) (sym (get_or-drop n (torus_faces a b) k d))
       ((long_chain a b wide high 0).can.coherent.is_mesh (n + k) d (omega (arith, l, in'))) in
       recursion_from_All (λ v. v < a * b) (get_or (drop n (torus_faces a b)) k d) is.inside)
+
+  -- a longer chain has no fewer vertices or faces
+  pub sizes_grow : (k m : ℕ) → k ≤ m → ((longer_chain k a b).vertices ≤ (longer_chain m a b).vertices)
+      × (face_count (longer_chain k a b) ≤ face_count (longer_chain m a b))
+  sizes_grow k m below =
+      let few = long_chain a b wide high k in
+      let many = long_chain a b wide high m in
+      let cells : 16 ≤ a * b = mul-le 4 4 a b wide high in
+      let e : k + (m - k) ≡ m = omega arith in
+      let grows : (k + 1) * (a * b) + 3 * (m - k) ≤ (m + 1) * (a * b) =
+      subst (λ n. (k + 1) * (a * b) + 3 * (m - k) ≤ (n + 1) * (a * b)) e
+      (chunks_grow k (m - k) (a * b) (omega arith)) in
+      let v = few.vertices in
+      let w = many.vertices in
+      let f = few.faces in
+      let g = many.faces in
+      (omega (arith, grows, v, w, below), omega (arith, grows, f, g, below))
 
   -- before the first torus
   pub part_none : IsPart 0 a b [] (range_with_len 0 (a * b)) 0
@@ -191,3 +214,24 @@ module _ (a b : ℕ) (wide : 4 ≤ a) (high : 4 ≤ b) where
         let all = torus_count a b wide high in
         part.faces ∙ ap (λ zs. done ++ map (map named) zs)
         (sym (part_all (torus_faces a b) from (2 * (a * b)) (omega (arith, all))))
+
+    -- what is done and what is still to come of the last torus
+    pub part_sides : sum_by length done + 3 * (2 * (a * b) - from) ≡ 3 * face_count (longer_chain k a b)
+    part_sides =
+        let n = part_count in
+        let triangles = (long_chain a b wide high k).triangles in
+        let all : sum_by length done ≡ 3 * length done =
+        three_each done (recursion_from_All (λ x. length x ≡ 3) done
+        (All-from_get_or (λ x. length x ≡ 3) done [] (λ i in'.
+        ap length (sym (ap (λ (xs : List (List ℕ)). get_or xs i []) part.faces
+        ∙ get_or_append_left done (map (map named) left) [] i in')) ∙ triangles i (omega (arith, n, in'))))) in
+        omega (arith, n, all)
+
+-- how many vertices a chain has
+pub chain_vertices : (g a b : ℕ) → 1 ≤ g → 4 ≤ a → 4 ≤ b → g * (a * b - 3) + 3 ≡ (chain g a b).vertices
+chain_vertices g a b some x y =
+    let cells : 16 ≤ a * b = mul-le 4 4 a b x y in
+    let counts = (chains_have_counts g a b some x y).vertices in
+    let is : a * b ≡ (a * b - 3) + 3 = omega arith in
+    let spread : g * (a * b) ≡ g * (a * b - 3) + 3 * g = ap (λ n. g * n) is ∙ omega arith in
+    omega (arith, counts, spread, some)

@@ -1,17 +1,17 @@
 -- Connected sums are surfaces.
-use Rattle.std.proofs.Common.{◌≡◌, ◌≢◌, ℕ, zero, suc, ◌+◌, ◌-◌, ◌<◌, ◌≤◌, true, false, cond, ltb, List, [], ◌∷◌, ◌++◌, ◌⊎◌, length, get_or, map, take, drop, refl, sym, ap, ◌∙◌, arith, inl, inr, subst, Contains}
+use Rattle.std.proofs.Common.{◌≡◌, ◌≢◌, ℕ, ◌+◌, ◌-◌, ◌<◌, ◌≤◌, cond, ltb, List, [], ◌∷◌, ◌⊎◌, length, get_or, map, take, drop, refl, sym, ap, ◌∙◌, arith, inl, inr, subst, Contains}
 use Rattle.std.proofs.lemmas.Bool.{cases_eq, cases_lt, lt-ltb, le-ltb}
 use Rattle.std.proofs.lemmas.List.{length-append, length-map, length-take-le, length-drop, get_or_append_left, get_or-append_right, get_or-take, get_or-drop, get_or-map}
-use Rattle.surf_complex.specs.Joined.{Joined, here, over}
+use Rattle.surf_complex.specs.Joined.{here, over}
 use Rattle.surf_complex.specs.Mesh.{Mesh, IsFace, pair}
-use Rattle.surf_complex.specs.Surface.{face_count, face_at, HasCorner, HasEdge, IsSurface}
+use Rattle.surf_complex.specs.Surface.{face_count, face_at, HasCorner, HasEdge}
 use Rattle.surf_complex.proofs.JoinedLaws.{joined_lift}
 use Rattle.surf_tori.specs.Coherent.{Runs, IsCoherent}
 use Rattle.surf_tori.specs.ConnectedSum.{without, sum_name, connected_sum, CanLose, ConnectedSumsAreSurfaces}
 use Rattle.surf_tori.proofs.RankLaws.{name, name_0, name_1, name_2, name_fresh, name_injective, name_in, named}
 use Rattle.surf_tori.proofs.TriangleLaws.{corner_of, runs_first}
 use Rattle.surf_tori.proofs.RenamedLaws.{edge_corner, run_face, run_corners}
-use Rattle.surf_tori.proofs.LinkLaws.{HasKeptFans, KeptShareAt}
+use Rattle.surf_tori.proofs.LinkLaws.{HasKeptFans}
 use Rattle.surf_tori.proofs.OpenLaws.{Losing}
 use Rattle.surf_tori.proofs.GluedLaws.{IsGlued, glued_is_coherent}
 use Rattle.surf_tori.proofs.GluedFans.{Kept, near_first, near_second, glued_fans, glued_is_surface}
@@ -191,14 +191,18 @@ three_corners (x ∷ y ∷ z ∷ w ∷ rest) e = absurd (omega arith)
 
 pub losing_of : (mesh : Mesh) (f : ℕ) → CanLose mesh f → (x : ℕ) × (y : ℕ) × (z : ℕ) × Losing mesh f x y z
 losing_of mesh f can =
-    let c = three_corners (face_at mesh f) can.triangle in
-    (c.0, c.1, c.2, record {
-      coherent = can.coherent;
-      triangle = c.3;
-      no_isolated = can.surface.no_isolated;
-      fans = can.fans;
-      connected = can.surface.connected;
-    })
+    let c = three_corners (face_at mesh f) can.triangle in (
+      c.0,
+      c.1,
+      c.2,
+      record {
+        coherent = can.coherent;
+        triangle = c.3;
+        no_isolated = can.surface.no_isolated;
+        fans = can.fans;
+        connected = can.surface.connected;
+      },
+    )
 
 pub connected_sums_are_surfaces : ConnectedSumsAreSurfaces
 connected_sums_are_surfaces M N f h can_first can_second =
@@ -214,15 +218,15 @@ pub fans_without_both : (mesh : Mesh) (f h x y z : ℕ) → IsCoherent mesh → 
 fans_without_both mesh f h x y z coherent is without_f without_h apart v in' g k kg kk cg ck =
     elim (at_f (cases_eq v x) (cases_eq v y) (cases_eq v z)) [
       | inl there ↦ joined_lift (λ p q s. over (
-          (s.0, (λ e. apart v there (subst (λ t. HasCorner mesh t v) e (corner p s.2.0 s.2.1)))),
-          (s.1, (λ e. apart v there (subst (λ t. HasCorner mesh t v) e (corner q s.2.0 s.2.2)))),
-          s.2,
-        ) here) (without_f v in' g k kg.0 kk.0 cg ck)
+        (s.0, (λ e. apart v there (subst (λ t. HasCorner mesh t v) e (corner p s.2.0 s.2.1)))),
+        (s.1, (λ e. apart v there (subst (λ t. HasCorner mesh t v) e (corner q s.2.0 s.2.2)))),
+        s.2,
+      ) here) (without_f v in' g k kg.0 kk.0 cg ck)
       | inr away ↦ joined_lift (λ p q s. over (
-          ((λ e. away (subst (λ t. HasCorner mesh t v) e (corner p s.2.0 s.2.1))), s.0),
-          ((λ e. away (subst (λ t. HasCorner mesh t v) e (corner q s.2.0 s.2.2))), s.1),
-          s.2,
-        ) here) (without_h v in' g k kg.1 kk.1 cg ck)
+        ((λ e. away (subst (λ t. HasCorner mesh t v) e (corner p s.2.0 s.2.1))), s.0),
+        ((λ e. away (subst (λ t. HasCorner mesh t v) e (corner q s.2.0 s.2.2))), s.1),
+        s.2,
+      ) here) (without_h v in' g k kg.1 kk.1 cg ck)
     ]
   where
     corner : (p w : ℕ) → HasEdge mesh p (pair v w) → HasCorner mesh p v
@@ -264,10 +268,12 @@ sum_can_lose M N f h t can_first can_second t_in other three fans_t apart =
     let fans_both = fans_without_both N h t two.0 two.1 two.2 c2 two.3.triangle can_second.fans fans_t apart in
     let fans = glued_fans glued c1 c2 (λ g. g ≢ f) (λ k. (k ≢ h) × (k ≢ t)) (λ g x. x) (λ k x. x.0) one.3.fans fans_both
     (λ s. (near_first glued c1 c2 s).1)
-    (λ s. let near = near_second glued c1 c2 s in
-    (near.1, (λ e. apart s.i (run_face N h (s.j, s.i) s.in_second, (run_corners (s.j, s.i) (face_at N h) s.in_second).1)
-    (subst (λ k. HasCorner N k s.i) e
-    (run_face N near.0 (s.i, s.j) near.2, (run_corners (s.i, s.j) (face_at N near.0) near.2).0))))) in
+    (λ s. let near = near_second glued c1 c2 s in (
+      near.1,
+      (λ e. apart s.i (run_face N h (s.j, s.i) s.in_second, (run_corners (s.j, s.i) (face_at N h) s.in_second).1)
+          (subst (λ k. HasCorner N k s.i) e
+          (run_face N near.0 (s.i, s.j) near.2, (run_corners (s.i, s.j) (face_at N near.0) near.2).0))),
+    )) in
     let at = behind (face_count M) h t in
     let InBoth = Kept M N (moved f) (behind (face_count M) h) (λ g. g ≢ f) (λ k. (k ≢ h) × (k ≢ t)) in
     let kept : (x : ℕ) → x < face_count (connected_sum M f N h) → x ≢ at → InBoth x = λ x in' away.
