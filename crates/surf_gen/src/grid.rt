@@ -1,7 +1,8 @@
 //! Rows and columns that close into a torus.
 ghost use Rattle.std.specs.Prelude.{◌≡◌, ◌<◌, ◌≤◌, ◌*◌, ◌/◌, ◌%◌};
 ghost use Rattle.surf_complex.specs.Mesh.{IsFace};
-ghost use Rattle.surf_tori.specs.Torus.{grid_vertex, first_face, second_face};
+ghost use Rattle.surf_complex.specs.Surface.{face_at};
+ghost use Rattle.surf_tori.specs.Torus.{grid_vertex, first_face, second_face, torus};
 
 use surf_base::VertexId;
 
@@ -59,5 +60,22 @@ impl Grid {
             self.vertex(row + 1, column + 1),
             self.vertex(row, column + 1),
         ]
+    }
+
+    /// The face of a number: the cell of number `n` has the faces `2 * n` and `2 * n + 1`.
+    pub fn face(self, f: u32) -> [VertexId; 3]
+        requires rows { 3 ≤ self.rows }
+        requires columns { 3 ≤ self.columns }
+        requires few { self.rows * self.columns ≤ 1000000 }
+        requires face { f < 2 * (self.rows * self.columns) }
+        ensures corners { result ≡ face_at (torus self.rows self.columns) f }
+        ensures face { IsFace (self.rows * self.columns) result }
+    {
+        let cell = f / 2;
+        if f % 2 == 0 {
+            self.first_face(cell)
+        } else {
+            self.second_face(cell)
+        }
     }
 }

@@ -1,5 +1,5 @@
 //! Tori and lengths by their tables.
-use crate::{made_lengths, torus};
+use crate::{chain, made_lengths, torus};
 use std::alloc::Global;
 use std::test::Fail;
 use surf_base::{EdgeId, FaceId};
@@ -104,5 +104,42 @@ fn the_greatest_scatter_fits(rt: HostRuntime) -> Result<(), Fail> {
         lengths_of_torus(rt.alloc(), 4_294_967_295)?.as_slice(),
         want.as_slice()
     );
+    Ok(())
+}
+
+#[test]
+fn a_chain_of_one_is_a_torus(rt: HostRuntime) -> Result<(), Fail> {
+    let alloc = rt.alloc();
+    let one = chain(alloc, 1, 4, 5)?;
+    let same = torus(alloc, 4, 5)?;
+    assert_eq!(rt; one.vertices(), same.vertices());
+    assert_eq!(rt; one.faces(), same.faces());
+    assert_eq!(rt; one.corners(), same.corners());
+    Ok(())
+}
+
+#[test]
+fn chains_are_joined_in_turn(rt: HostRuntime) -> Result<(), Fail> {
+    let soup = chain(rt.alloc(), 3, 4, 5)?;
+    assert_eq!(rt; soup.vertices(), 54);
+    assert_eq!(rt; soup.faces(), 116);
+    for (f, corners) in [
+        (0u32, [0, 5, 6]),
+        (1, [0, 6, 1]),
+        (23, [11, 17, 12]),
+        (24, [12, 18, 13]),
+        (38, [19, 0, 15]),
+        (39, [12, 17, 20]),
+        (40, [20, 17, 24]),
+        (41, [20, 24, 21]),
+        (60, [28, 33, 34]),
+        (76, [36, 12, 32]),
+        (77, [29, 34, 37]),
+        (78, [37, 34, 41]),
+        (100, [46, 51, 52]),
+        (115, [53, 29, 49]),
+    ] {
+        assert!(rt; has_corners(&soup, f, corners));
+    }
     Ok(())
 }

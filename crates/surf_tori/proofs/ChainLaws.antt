@@ -1,31 +1,30 @@
 -- Chains of tori are surfaces.
-use Rattle.std.proofs.Common.{◌≡◌, ◌≢◌, ℕ, zero, suc, ◌+◌, ◌-◌, ◌*◌, ◌<◌, ◌≤◌, List, [], ◌∷◌, ◌⊎◌, length, map, refl, sym, ap, ◌∙◌, arith, inl, inr, subst, Contains}
+use Rattle.std.proofs.Common.{◌≡◌, ◌≢◌, ℕ, zero, suc, ◌+◌, ◌-◌, ◌*◌, ◌<◌, ◌≤◌, ◌⊎◌, length, refl, sym, ap, ◌∙◌, arith, inl, inr, subst, Contains}
 use Rattle.std.specs.Prelude.{pos, ◌-ℤ◌}
 use Rattle.std.proofs.lemmas.Bool.{le-ltb}
 use Rattle.std.proofs.lemmas.List.{length-map}
 use Rattle.std.proofs.lemmas.Nat.{same_from_place, mul-le}
 use Rattle.surf_complex.specs.Mesh.{Mesh, characteristic}
 use Rattle.surf_complex.specs.Side.{after, before}
-use Rattle.surf_complex.specs.Surface.{face_count, edge_count, face_at, HasCorner, IsSurface}
+use Rattle.surf_complex.specs.Surface.{face_count, face_at, HasCorner, IsSurface}
 use Rattle.surf_tori.specs.Torus.{torus}
 use Rattle.surf_tori.specs.ConnectedSum.{connected_sum, CanLose}
 use Rattle.surf_tori.specs.Chain.{joint, last_joint, longer_chain, chain, ChainsAreSurfaces, ChainsHaveCharacteristic, ChainCounts}
 use Rattle.surf_tori.proofs.TriangleLaws.{corner_of}
-use Rattle.surf_tori.proofs.LinkLaws.{HasKeptFans}
-use Rattle.surf_tori.proofs.GridLaws.{IsGrid, place, low, place_in, grid_is_coherent, grid_is_surface, grid_triangles, grid_fans_without}
+use Rattle.surf_tori.proofs.GridLaws.{IsGrid, place, low, grid_is_coherent, grid_is_surface, grid_triangles, grid_fans_without}
 use Rattle.surf_tori.proofs.EulerLaws.{triangle_edges, characteristic_less}
 use Rattle.surf_tori.proofs.TorusLaws.{torus_is_grid, count}
 use Rattle.surf_tori.proofs.SumLaws.{behind, losing_of, sum_is_glued, sum_count, sum_can_lose}
 
 -- a mesh of triangles alone
-AllTriangles : Mesh → Type 0
+abbrev pub AllTriangles : Mesh → Type 0
 AllTriangles mesh = (f : ℕ) → f < face_count mesh → length (face_at mesh f) ≡ 3
 
 module _ (a b : ℕ) (wide : 4 ≤ a) (high : 4 ≤ b) where
-  grid : IsGrid (torus a b) a b (after a) (before a) (after b) (before b)
+  pub grid : IsGrid (torus a b) a b (after a) (before a) (after b) (before b)
   grid = torus_is_grid a b (omega arith) (omega arith)
 
-  torus_count : face_count (torus a b) ≡ 2 * (a * b)
+  pub torus_count : face_count (torus a b) ≡ 2 * (a * b)
   torus_count = count a b (omega arith) (omega arith)
 
   -- a torus can lose the first face of each cell
@@ -38,12 +37,12 @@ module _ (a b : ℕ) (wide : 4 ≤ a) (high : 4 ≤ b) where
     fans = grid_fans_without grid i j;
   }
 
-  first_can_go : CanLose (torus a b) 0
+  pub first_can_go : CanLose (torus a b) 0
   first_can_go =
       let zero_is : low b 0 0 ≡ 0 = omega arith in
       subst (CanLose (torus a b)) zero_is (cell_can_go 0 0 (omega arith) (omega arith))
 
-  joint_in : joint b < face_count (torus a b)
+  pub joint_in : joint b < face_count (torus a b)
   joint_in = grid.first_in 2 2 (omega arith) (omega arith)
 
   -- the two faces that are left out have no corner in common
@@ -73,14 +72,13 @@ module _ (a b : ℕ) (wide : 4 ≤ a) (high : 4 ≤ b) where
       ]
 
   -- what holds of a chain, so that one more torus can be joined
-  record IsLongChain (k : ℕ) (mesh : Mesh) : Type 0 where
-    can : CanLose mesh (last_joint mesh a b)
-    triangles : AllTriangles mesh
-    vertices : mesh.vertices + 3 * k ≡ (k + 1) * (a * b)
-    faces : face_count mesh + 2 * k ≡ 2 * ((k + 1) * (a * b))
+  pub record IsLongChain (k : ℕ) (mesh : Mesh) : Type 0 where
+    pub can : CanLose mesh (last_joint mesh a b)
+    pub triangles : AllTriangles mesh
+    pub vertices : mesh.vertices + 3 * k ≡ (k + 1) * (a * b)
+    pub faces : face_count mesh + 2 * k ≡ 2 * ((k + 1) * (a * b))
 
   one_torus : IsLongChain 0 (torus a b)
-  unfolding AllTriangles
   one_torus =
       let all = torus_count in
       let below = joint_in in
@@ -94,7 +92,6 @@ module _ (a b : ℕ) (wide : 4 ≤ a) (high : 4 ≤ b) where
 
   one_more : (k : ℕ) (mesh : Mesh) → IsLongChain k mesh →
       IsLongChain (suc k) (connected_sum mesh (last_joint mesh a b) (torus a b) 0)
-  unfolding AllTriangles
   one_more k mesh long =
       let f = last_joint mesh a b in
       let all = torus_count in
@@ -124,7 +121,7 @@ module _ (a b : ℕ) (wide : 4 ≤ a) (high : 4 ≤ b) where
         faces = let n = long.faces in omega (arith, n, all, total);
       }
 
-  long_chain : (k : ℕ) → IsLongChain k (longer_chain k a b)
+  pub long_chain : (k : ℕ) → IsLongChain k (longer_chain k a b)
   long_chain zero = one_torus
   long_chain (suc k) = one_more k (longer_chain k a b) (long_chain k)
 
@@ -147,7 +144,6 @@ module _ (a b : ℕ) (wide : 4 ≤ a) (high : 4 ≤ b) where
       record { vertices = omega (arith, v); faces = omega (arith, f) }
 
   pub chain_characteristic : (g : ℕ) → 1 ≤ g → characteristic (chain g a b) ≡ pos 2 -ℤ pos (2 * g)
-  unfolding AllTriangles
   chain_characteristic g some =
       let long = chain_long g in
       let edges = triangle_edges (chain g a b) long.can.surface long.triangles in

@@ -9,7 +9,7 @@ use Rattle.surf_complex.specs.Mesh.{Mesh, characteristic}
 use Rattle.surf_complex.specs.Surface.{face_count, edge_count, face_at, IsSurface}
 use Rattle.surf_complex.proofs.CountLaws.{sizes_twice}
 
-three_each : (xs : List (List ℕ)) → AllByRecursion (λ x. length x ≡ 3) xs → sum_by length xs ≡ 3 * length xs
+pub three_each : (xs : List (List ℕ)) → AllByRecursion (λ x. length x ≡ 3) xs → sum_by length xs ≡ 3 * length xs
 three_each [] h = refl
 three_each (x ∷ xs) h = sum_by-cons length x xs ∙ omega (arith, h.0, three_each xs h.1)
 

@@ -1,18 +1,18 @@
 -- Two surfaces joined along a triangle: the faces at each vertex, and all faces, stay joined.
-use Rattle.std.proofs.Common.{◌≡◌, ◌≢◌, ℕ, ◌<◌, ◌≤◌, true, List, [], ◌∷◌, ◌⊎◌, map, refl, sym, ap, ◌∙◌, arith, inl, inr, subst, Contains}
+use Rattle.std.proofs.Common.{◌≡◌, ◌≢◌, ℕ, ◌<◌, ◌≤◌, true, [], ◌⊎◌, refl, sym, ap, ◌∙◌, arith, inl, inr, subst, Contains}
 use Rattle.std.proofs.lemmas.Bool.{cases_eq}
 use Rattle.std.proofs.lemmas.List.Elements.{All-contains}
 use Rattle.surf_complex.specs.Joined.{Joined, here, over}
-use Rattle.surf_complex.specs.Mesh.{Mesh, pair, pair_of}
+use Rattle.surf_complex.specs.Mesh.{Mesh, pair}
 use Rattle.surf_complex.specs.Surface.{face_count, face_at, has_side, HasCorner, HasEdge, Share, ShareAt, IsConnected, IsSurface}
 use Rattle.surf_complex.proofs.JoinedLaws.{joined_trans, joined_sym, joined_lift}
 use Rattle.surf_tori.specs.Coherent.{Runs, IsCoherent}
 use Rattle.surf_tori.proofs.CoherentLaws.{some_way, coherent_edges_have_two_faces}
 use Rattle.surf_tori.proofs.LinkLaws.{KeptShareAt, KeptShare, HasKeptFans, kept_share_at_turned, edge_out, edge_back, share_in_out}
 use Rattle.surf_tori.proofs.RenamedLaws.{joined_map, corner_of_renamed, corner_renamed, run_corners, run_face, across}
-use Rattle.surf_tori.proofs.TriangleLaws.{OneOf, corner_of}
+use Rattle.surf_tori.proofs.TriangleLaws.{corner_of}
 use Rattle.surf_tori.proofs.OpenLaws.{Losing, edge_run, others_joined}
-use Rattle.surf_tori.proofs.GluedLaws.{IsGlued, f_first, f_second, f_third, h_first, h_second, h_third, left_runs, right_runs, first_below, second_below, shared, glued_is_coherent}
+use Rattle.surf_tori.proofs.GluedLaws.{IsGlued, f_first, f_second, h_second, h_third, left_runs, right_runs, first_below, shared, glued_is_coherent}
 
 -- the faces of K that come from kept ones
 abbrev pub Kept : (M N : Mesh) → (ℕ → ℕ) → (ℕ → ℕ) → (ℕ → Type 0) → (ℕ → Type 0) → ℕ → Type 0

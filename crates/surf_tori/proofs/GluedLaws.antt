@@ -1,18 +1,12 @@
 -- Two coherently oriented surfaces, joined along a triangle that is left out of both.
-use Rattle.std.proofs.Common.{◌≡◌, ◌≢◌, ℕ, ◌<◌, ◌≤◌, true, List, [], ◌∷◌, ◌⊎◌, length, map, refl, sym, ap, ◌∙◌, arith, inl, inr, subst, Contains}
+use Rattle.std.proofs.Common.{◌≡◌, ◌≢◌, ℕ, ◌<◌, ◌≤◌, [], ◌∷◌, ◌⊎◌, map, sym, ap, ◌∙◌, arith, inl, inr, subst}
 use Rattle.std.proofs.lemmas.Bool.{cases_eq}
 use Rattle.std.proofs.lemmas.List.Elements.{All-from_get_or}
-use Rattle.surf_complex.specs.Joined.{Joined, here, over}
-use Rattle.surf_complex.specs.Mesh.{Mesh, IsMesh, IsFace, pair, pair_of}
-use Rattle.surf_complex.specs.Surface.{face_count, face_at, has_side, runs, HasCorner, HasEdge, Share, ShareAt, IsConnected, IsSurface}
-use Rattle.surf_complex.proofs.FaceLaws.{pair_comm}
-use Rattle.surf_complex.proofs.JoinedLaws.{joined_trans, joined_sym, joined_lift, joined_closed}
-use Rattle.surf_complex.proofs.SurfaceLaws.{has_side-face}
+use Rattle.surf_complex.specs.Mesh.{Mesh, IsFace}
+use Rattle.surf_complex.specs.Surface.{face_count, face_at}
 use Rattle.surf_tori.specs.Coherent.{Runs, IsCoherent}
-use Rattle.surf_tori.proofs.CoherentLaws.{runs_side, one_way, some_way, coherent_edges_have_two_faces}
-use Rattle.surf_tori.proofs.LinkLaws.{KeptShareAt, KeptShare, HasKeptFans, kept_share_at_turned, kept_share_turned, edge_out, edge_back, share_in_out}
-use Rattle.surf_tori.proofs.RenamedLaws.{joined_map, both, runs_renamed, run_of_renamed, face_renamed, corner_of_renamed, corner_renamed, run_corners, run_below, edge_corner, run_face, across}
-use Rattle.surf_tori.proofs.TriangleLaws.{OneOf, corner_of, run_of, runs_first, runs_second, runs_third}
+use Rattle.surf_tori.proofs.RenamedLaws.{both, runs_renamed, run_of_renamed, face_renamed, run_below, run_face, across}
+use Rattle.surf_tori.proofs.TriangleLaws.{OneOf, run_of, runs_first, runs_second, runs_third}
 
 -- K has the faces of M but f, and those of N but h with their vertices renamed. The corners of h are renamed to those
 -- of f, the other way round, and no other vertex of N to one of M.

@@ -11,3 +11,5 @@ pub mod GluedFans
 pub mod RankLaws
 pub mod SumLaws
 pub mod ChainLaws
+pub mod ListLaws
+pub mod PartLaws

@@ -1,17 +1,17 @@
 -- Connected sums are surfaces.
-use Rattle.std.proofs.Common.{◌≡◌, ◌≢◌, ℕ, zero, suc, ◌+◌, ◌-◌, ◌<◌, ◌≤◌, true, false, cond, ltb, List, [], ◌∷◌, ◌++◌, ◌⊎◌, length, get_or, map, take, drop, refl, sym, ap, ◌∙◌, arith, inl, inr, subst, Contains}
+use Rattle.std.proofs.Common.{◌≡◌, ◌≢◌, ℕ, ◌+◌, ◌-◌, ◌<◌, ◌≤◌, cond, ltb, List, [], ◌∷◌, ◌⊎◌, length, get_or, map, take, drop, refl, sym, ap, ◌∙◌, arith, inl, inr, subst, Contains}
 use Rattle.std.proofs.lemmas.Bool.{cases_eq, cases_lt, lt-ltb, le-ltb}
 use Rattle.std.proofs.lemmas.List.{length-append, length-map, length-take-le, length-drop, get_or_append_left, get_or-append_right, get_or-take, get_or-drop, get_or-map}
-use Rattle.surf_complex.specs.Joined.{Joined, here, over}
+use Rattle.surf_complex.specs.Joined.{here, over}
 use Rattle.surf_complex.specs.Mesh.{Mesh, IsFace, pair}
-use Rattle.surf_complex.specs.Surface.{face_count, face_at, HasCorner, HasEdge, IsSurface}
+use Rattle.surf_complex.specs.Surface.{face_count, face_at, HasCorner, HasEdge}
 use Rattle.surf_complex.proofs.JoinedLaws.{joined_lift}
 use Rattle.surf_tori.specs.Coherent.{Runs, IsCoherent}
 use Rattle.surf_tori.specs.ConnectedSum.{without, sum_name, connected_sum, CanLose, ConnectedSumsAreSurfaces}
 use Rattle.surf_tori.proofs.RankLaws.{name, name_0, name_1, name_2, name_fresh, name_injective, name_in, named}
 use Rattle.surf_tori.proofs.TriangleLaws.{corner_of, runs_first}
 use Rattle.surf_tori.proofs.RenamedLaws.{edge_corner, run_face, run_corners}
-use Rattle.surf_tori.proofs.LinkLaws.{HasKeptFans, KeptShareAt}
+use Rattle.surf_tori.proofs.LinkLaws.{HasKeptFans}
 use Rattle.surf_tori.proofs.OpenLaws.{Losing}
 use Rattle.surf_tori.proofs.GluedLaws.{IsGlued, glued_is_coherent}
 use Rattle.surf_tori.proofs.GluedFans.{Kept, near_first, near_second, glued_fans, glued_is_surface}

@@ -189,7 +189,7 @@ cell_faces_at a b cell x y in' =
       ap (λ c. face_at (torus a b) (2 * c + 1)) (sym n) ∙ is.1,
     )
 
-range_more : (n k : ℕ) → range_with_len n (k + 1) ≡ range_with_len n k ++ (n + k) ∷ []
+pub range_more : (n k : ℕ) → range_with_len n (k + 1) ≡ range_with_len n k ++ (n + k) ∷ []
 range_more n zero = ap (λ m. m ∷ []) (omega arith)
 range_more n (suc k) =
     let e : suc k + 1 ≡ suc (k + 1) = omega arith in
