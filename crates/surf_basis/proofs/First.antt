@@ -73,8 +73,8 @@ module _ (mesh : Mesh) (lengths : List ℕ) (trees : ℕ → Trees) (surface : I
       let same : candidate_of t.tree h ≡ next = some_same (candidate_of t.tree h) next is in (
         map (head_loop mesh t) hs,
         sym (heads_chosen mesh lengths trees surface positive chosen base t l g)
-        ∙ ap (map (head_loop mesh t)) (sym e)
-        ∙ ap (λ (c : Loop). c ∷ map (head_loop mesh t) hs) (head_in mesh lengths trees surface positive chosen t h each.0 ∙ ap (loop_in mesh trees) same),
+            ∙ ap (map (head_loop mesh t)) (sym e)
+            ∙ ap (λ (c : Loop). c ∷ map (head_loop mesh t) hs) (head_in mesh lengths trees surface positive chosen t h each.0 ∙ ap (loop_in mesh trees) same),
       )
     where
       some_same : (a b : Candidate) → Some a ≡ Some b → a ≡ b
