@@ -99,33 +99,73 @@ module _ (mesh : Mesh) (lengths : List ℕ) (trees : ℕ → Trees) (surface : I
       (λ c s. (runs mesh lengths trees surface positive chosen bases le (loop_in mesh trees c.candidate)
       (signed_loop mesh lengths trees surface positive chosen d bases c s)).0) h)
 
+  -- what is kept and the loops at one more base, merged
+  merged_signed : (base : ℕ) (t : LoopTables) (kept : List Signed) → base < mesh.vertices → IsGreedy mesh lengths base t →
+      AreKept mesh lengths trees d base kept →
+      All (IsSigned mesh lengths trees d (suc base)) (merge signed_earlier kept (signed_heads mesh d t.tree t.heads))
+  merged_signed base t kept l g k =
+      let Right = IsSigned mesh lengths trees d (suc base) in
+      let before : AllByRecursion Right kept =
+      all_each (IsSigned mesh lengths trees d base) Right kept (signed_more base)
+      (recursion_from_All (IsSigned mesh lengths trees d base) kept k.signed) in
+      all_merged Right kept (signed_heads mesh d t.tree t.heads) (All-from_recursion Right kept before)
+      (All-from_recursion Right (signed_heads mesh d t.tree t.heads)
+      (offered_signed mesh lengths trees surface positive chosen d base t l g))
+
+  merged_with : (base : ℕ) (t : LoopTables) (kept : List Signed) → base < mesh.vertices → IsGreedy mesh lengths base t →
+      merge comes_before (loops_in mesh trees kept) (loops_at mesh lengths base (trees base))
+      ≡ loops_in mesh trees (merge signed_earlier kept (signed_heads mesh d t.tree t.heads))
+  merged_with base t kept l g =
+      ap (merge comes_before (loops_in mesh trees kept)) (offered_loops mesh lengths trees surface positive chosen d base t l g)
+      ∙ merged_loops mesh trees kept (signed_heads mesh d t.tree t.heads)
+
+  -- the choice among them
+  pub next_choice : (base : ℕ) (t : LoopTables) (kept : List Signed) (next : List Loop) → base < mesh.vertices →
+      IsGreedy mesh lengths base t → AreKept mesh lengths trees d base kept →
+      greedy numbers is_nothing (λ (c : Loop). class_of mesh d c.walk)
+      (merge comes_before (loops_in mesh trees kept) (loops_at mesh lengths base (trees base))) ≡ next →
+      IsGreedyChoice mesh (merge comes_before (loops_in mesh trees kept) (loops_at mesh lengths base (trees base))) next
+  next_choice base t kept next l g k is =
+      let merged = merge signed_earlier kept (signed_heads mesh d t.tree t.heads) in
+      let Right = IsSigned mesh lengths trees d (suc base) in
+      let closed = all_closed (suc base) (omega arith) merged (recursion_from_All Right merged (merged_signed base t kept l g k)) in
+      let loops = merge comes_before (loops_in mesh trees kept) (loops_at mesh lengths base (trees base)) in
+      subst (IsGreedyChoice mesh loops) is
+      (greedy_is_choice mesh d surface split loops (subst (AreClosed mesh) (sym (merged_with base t kept l g)) closed))
+
   -- the loops at one more base
   pub kept_more : (base bases : ℕ) (t : LoopTables) (kept next : List Signed) → base < mesh.vertices → bases ≡ suc base →
       IsGreedy mesh lengths base t → AreKept mesh lengths trees d base kept →
       next ≡ independent_of (merge signed_earlier kept (signed_heads mesh d t.tree t.heads)) →
       AreKept mesh lengths trees d bases next
   kept_more base bases t kept next l after g k is =
-      let offered = signed_heads mesh d t.tree t.heads in
-      let merged = merge signed_earlier kept offered in
+      let merged = merge signed_earlier kept (signed_heads mesh d t.tree t.heads) in
       let Right = IsSigned mesh lengths trees d (suc base) in
-      let before : AllByRecursion Right kept =
-      all_each (IsSigned mesh lengths trees d base) Right kept (signed_more base)
-      (recursion_from_All (IsSigned mesh lengths trees d base) kept k.signed) in
-      let right : All Right merged = all_merged Right kept offered (All-from_recursion Right kept before)
-      (All-from_recursion Right offered (offered_signed mesh lengths trees surface positive chosen d base t l g)) in
-      let each = recursion_from_All Right merged right in
-      let loops : merge comes_before (loops_in mesh trees kept) (loops_at mesh lengths base (trees base)) ≡ loops_in mesh trees merged =
-      ap (merge comes_before (loops_in mesh trees kept)) (offered_loops mesh lengths trees surface positive chosen d base t l g)
-      ∙ merged_loops mesh trees kept offered in
-      let choice = greedy_is_choice mesh d surface split (loops_in mesh trees merged) (all_closed (suc base) (omega arith) merged each) in
-      let same : greedy numbers is_nothing (λ (c : Loop). class_of mesh d c.walk) (loops_in mesh trees merged) ≡ loops_in mesh trees next =
-      kept_after mesh trees d [] merged
-      (all_each Right (λ c. c.signature ≡ class_of mesh d (loop_in mesh trees c.candidate).walk) merged (λ c s. s.signature) each)
+      let right = merged_signed base t kept l g k in
+      let same : greedy numbers is_nothing (λ (c : Loop). class_of mesh d c.walk)
+      (merge comes_before (loops_in mesh trees kept) (loops_at mesh lengths base (trees base))) ≡ loops_in mesh trees next =
+      ap (greedy numbers is_nothing (λ (c : Loop). class_of mesh d c.walk)) (merged_with base t kept l g)
+      ∙ kept_after mesh trees d [] merged
+      (all_each Right (λ c. c.signature ≡ class_of mesh d (loop_in mesh trees c.candidate).walk) merged (λ c s. s.signature)
+      (recursion_from_All Right merged right))
       ∙ ap (loops_in mesh trees) (sym is) in
       subst (λ n. AreKept mesh lengths trees d n next) (sym after) (record {
-        by_bases = one_more k.by_bases (subst (λ cs. IsGreedyChoice mesh cs (loops_in mesh trees next)) (sym loops)
-            (subst (IsGreedyChoice mesh (loops_in mesh trees merged)) same choice));
+        by_bases = one_more k.by_bases (next_choice base t kept (loops_in mesh trees next) l g k same);
         signed = subst (All Right) (sym is) (all_kept Right merged right);
+      })
+
+  -- and one more base that changes nothing
+  pub kept_same : (base bases : ℕ) (t : LoopTables) (kept : List Signed) → base < mesh.vertices → bases ≡ suc base →
+      IsGreedy mesh lengths base t → AreKept mesh lengths trees d base kept →
+      greedy numbers is_nothing (λ (c : Loop). class_of mesh d c.walk)
+      (merge comes_before (loops_in mesh trees kept) (loops_at mesh lengths base (trees base))) ≡ loops_in mesh trees kept →
+      AreKept mesh lengths trees d bases kept
+  kept_same base bases t kept l after g k same =
+      subst (λ n. AreKept mesh lengths trees d n kept) (sym after) (record {
+        by_bases = one_more k.by_bases (next_choice base t kept (loops_in mesh trees kept) l g k same);
+        signed = All-from_recursion (IsSigned mesh lengths trees d (suc base)) kept
+            (all_each (IsSigned mesh lengths trees d base) (IsSigned mesh lengths trees d (suc base)) kept (signed_more base)
+            (recursion_from_All (IsSigned mesh lengths trees d base) kept k.signed));
       })
 
   -- and their cycles are its loops

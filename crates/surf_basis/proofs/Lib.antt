@@ -4,3 +4,4 @@ pub mod Looped
 pub mod Kept
 pub mod First
 pub mod Whole
+pub mod Settled

@@ -1,5 +1,6 @@
 -- Candidates for a basis: their order, which are independent, and what is kept of them.
-use Rattle.std.specs.Prelude.{ℕ, ◌≡◌, ◌<◌, Bool, true, false, IsTrue, ◌&&◌, ◌||◌, ◌==◌, nat_lt, nat_le, List, [], ◌∷◌, map, All, Option, Some, None, if◌then◌else◌}
+use Rattle.std.specs.Prelude.{ℕ, ◌≡◌, ◌<◌, Bool, true, false, IsTrue, ◌&&◌, ◌||◌, ◌==◌, nat_lt, nat_le, List, [], ◌∷◌, length, map, All, Option, Some, None, if◌then◌else◌}
+use Rattle.std.specs.List.{list_all}
 use Rattle.std.specs.Option.{option_map}
 use Rattle.surf_z2.specs.Greedy.{greedy}
 use Rattle.surf_z2.specs.Space.{numbers, is_nothing}
@@ -91,6 +92,11 @@ signed_heads mesh d t heads =
       candidate = candidate_of t h;
       signature = class_of mesh d (loop_walk mesh (tree_of t) h.edge);
     }) heads
+
+-- as many are kept as a desk has heads, and none is longer than the first of those
+abbrev pub is_settled : List Signed → List LoopHead → Bool
+is_settled kept [] = false
+is_settled kept (h ∷ hs) = (length kept == length (h ∷ hs)) && list_all (λ c. nat_le c.candidate.length h.length) kept
 
 -- a candidate is the loop of a left edge at one of the first bases, and its signature is that of its walk
 pub record IsSigned (mesh : Mesh) (lengths : List ℕ) (trees : ℕ → Trees) (d : Split) (bases : ℕ) (c : Signed) : Type 0 where

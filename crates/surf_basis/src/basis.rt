@@ -1,5 +1,6 @@
 //! The least basis, kept base by base.
-ghost use Rattle.std.specs.Prelude.{ℕ, ◌≡◌, ◌<◌, ◌≤◌, ◌+◌, [], All, IfOk, length};
+ghost use Rattle.std.specs.Prelude.{ℕ, ◌≡◌, ◌<◌, ◌≤◌, ◌+◌, [], All, IfOk, length, nat_le};
+ghost use Rattle.std.specs.List.{list_all};
 ghost use Rattle.surf_homology.specs.Cells.{Split, IsSplit};
 ghost use Rattle.surf_complex.specs.Cells.{cells_of};
 ghost use Rattle.surf_complex.specs.Homology.{IsFullCount};
@@ -8,7 +9,7 @@ ghost use Rattle.surf_complex.specs.Surface.{edge_count, face_count};
 ghost use Rattle.surf_complex.specs.ChoiceLaws.{LeastSimpleBasis};
 ghost use Rattle.surf_loops.specs.Loops.{IsMadeFor};
 ghost use Rattle.surf_basis.specs.Cycles.{IsTheBasis, loops_of};
-ghost use Rattle.surf_basis.specs.Candidates.{signed_heads, AreKept};
+ghost use Rattle.surf_basis.specs.Candidates.{signed_heads, is_settled, AreKept};
 ghost use Rattle.surf_basis.specs.Signing.{AreSignatures, AreSigned, IsClimbed};
 
 use crate::candidate::{Candidate, Signed};
@@ -20,7 +21,7 @@ use std::alloc::Global;
 use surf_base::{NoMemory, VertexId};
 use surf_cotree::CotreeDesk;
 use surf_lengths::Lengths;
-use surf_loops::LoopDesk;
+use surf_loops::{LoopDesk, LoopHead};
 use surf_mesh::HalfMesh;
 
 // Offers the loops of a desk, with their signatures.
@@ -47,6 +48,24 @@ fn offer_loops(mesh: &HalfMesh, signatures: &CotreeDesk, desk: &LoopDesk, choice
     }
 }
 
+// Whether no candidate is longer than a length.
+fn all_up_to(kept: &[Signed], length: u64) -> bool
+    ensures all { result ≡ list_all (λ c. nat_le c.candidate.length length) kept.now }
+{
+    kept.iter().all(|signed| signed.candidate.length <= length)
+}
+
+// Whether no loop of a desk at a later base can be kept: as many are kept as the desk has loops, and none is longer than
+// the first of those.
+fn is_settled(kept: &[Signed], heads: &[LoopHead]) -> bool
+    ensures settled { result ≡ is_settled kept.now heads.now }
+{
+    let [first, ..] = heads else {
+        return false;
+    };
+    kept.len() == heads.len() && all_up_to(kept, first.length)
+}
+
 // Makes the choice from the loops at all bases.
 fn choose(
     mesh: &HalfMesh,
@@ -67,8 +86,10 @@ fn choose(
     let _lengths = lengths.count();
     for base in 0..mesh.vertices() {
         desk.greedy(mesh, lengths, VertexId::new(base));
-        offer_loops(mesh, signatures, desk, choice);
-        choice.keep();
+        if !is_settled(choice.kept(), desk.heads()) {
+            offer_loops(mesh, signatures, desk, choice);
+            choice.keep();
+        }
     }
 }
 

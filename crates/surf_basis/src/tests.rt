@@ -4,7 +4,7 @@ use std::alloc::Global;
 use std::test::Fail;
 use surf_base::{NoMemory, VertexId};
 use surf_check::check;
-use surf_lengths::{Lengths, unit_lengths};
+use surf_lengths::read_lengths;
 use surf_mesh::{HalfMesh, Soup};
 
 const TETRAHEDRON: [(u32, u32, u32); 4] = [(0, 1, 2), (0, 3, 1), (0, 2, 3), (1, 3, 2)];
@@ -63,6 +63,14 @@ const TORUS: [(u32, u32, u32); 18] = [
     (8, 0, 6),
 ];
 
+// Length 1 for each edge.
+const UNIT: &[u8] = b"SURFLEN 2\ndefault 1\n";
+
+// Lengths on the torus of three by three squares, all different.
+const SCATTERED: &[u8] = b"0 1 14\n0 2 21\n0 3 28\n0 4 35\n0 6 42\n0 8 49\n1 2 56\n1 4 63\n1 5 70
+1 6 77\n1 7 84\n2 3 91\n2 5 1\n2 7 8\n2 8 15\n3 4 22\n3 5 29\n3 6 36
+3 7 43\n4 5 50\n4 7 57\n4 8 64\n5 6 71\n5 8 78\n6 7 85\n6 8 92\n7 8 2\n";
+
 fn push(soup: &mut Soup, a: u32, b: u32, c: u32) -> Result<(), NoMemory> {
     let n = soup.vertices();
     let few = soup.side_count() < 1_000_000;
@@ -80,18 +88,6 @@ fn surface(alloc: Global, vertices: u32, faces: &[(u32, u32, u32)]) -> Result<Ha
     Ok(check(alloc, soup).ok().ok_or("a surface")?)
 }
 
-// Length 1 for each edge, or for edge k the length 1 + (7 k + 13) mod 97.
-fn lengths_for(alloc: Global, mesh: &HalfMesh, scattered: bool) -> Result<Lengths, NoMemory> {
-    if !scattered {
-        return unit_lengths(alloc, mesh);
-    }
-    let mut values = vec![in alloc; 1u32; mesh.edges() as usize]?;
-    for k in 0..values.len() {
-        values[k] = 1 + ((7 * (k as u64) + 13) % 97) as u32;
-    }
-    Ok(Lengths::from_values(values))
-}
-
 // Whether a cycle has a length and some vertices, the first of which is its base.
 fn is_cycle(cycle: &Cycle, length: u64, walk: &[u32]) -> bool {
     let vertices = cycle.walk.vertices();
@@ -106,12 +102,15 @@ fn is_cycle(cycle: &Cycle, length: u64, walk: &[u32]) -> bool {
 fn answers(
     alloc: Global,
     mesh: &HalfMesh,
-    scattered: bool,
+    text: &[u8],
 ) -> Result<(Vec<Cycle>, Option<Cycle>), Fail> {
-    let lengths = lengths_for(alloc, mesh, scattered).ok().ok_or("room")?;
+    if text.len() > 1_000 {
+        return Err("a short text").map_err(Fail::from);
+    }
+    let lengths = read_lengths(alloc, text, mesh).ok().ok_or("lengths")?;
     let nodes = mesh.vertices() as u64 + mesh.faces() as u64;
     if lengths.count() != mesh.edges() || mesh.edges() as u64 + 2 > nodes + 1024 {
-        return Err("lengths").map_err(Fail::from);
+        return Err("as many lengths").map_err(Fail::from);
     }
     let basis = least_basis(alloc, mesh, &lengths).ok().ok_or("room")?;
     let first = least_nonseparating(alloc, mesh, &lengths)
@@ -124,11 +123,11 @@ fn answers(
 fn has_two(
     alloc: Global,
     mesh: &HalfMesh,
-    scattered: bool,
+    text: &[u8],
     one: (u64, &[u32]),
     other: (u64, &[u32]),
 ) -> Result<bool, Fail> {
-    let (basis, first) = answers(alloc, mesh, scattered)?;
+    let (basis, first) = answers(alloc, mesh, text)?;
     let Some(first) = first else {
         return Ok(false);
     };
@@ -145,7 +144,7 @@ fn two_cycles_on_a_torus(rt: HostRuntime) -> Result<(), Fail> {
     let alloc = rt.alloc();
     let torus = surface(alloc, 9, &TORUS)?;
     let seven = surface(alloc, 7, &SEVEN)?;
-    assert!(rt; has_two(alloc, &torus, false, (3, &[0, 1, 2, 0]), (3, &[0, 3, 6, 0]))?);
+    assert!(rt; has_two(alloc, &torus, UNIT, (3, &[0, 1, 2, 0]), (3, &[0, 3, 6, 0]))?);
     assert!(rt;
         has_two(
             alloc,
@@ -155,14 +154,14 @@ fn two_cycles_on_a_torus(rt: HostRuntime) -> Result<(), Fail> {
             (89, &[2, 5, 8, 7, 2])
         )?
     );
-    assert!(rt; has_two(alloc, &seven, false, (3, &[0, 1, 2, 0]), (3, &[0, 1, 4, 0]))?);
+    assert!(rt; has_two(alloc, &seven, UNIT, (3, &[0, 1, 2, 0]), (3, &[0, 1, 4, 0]))?);
     Ok(())
 }
 
 #[test]
 fn one_cycle_on_a_projective_plane(rt: HostRuntime) -> Result<(), Fail> {
     let mesh = surface(rt.alloc(), 6, &SIX)?;
-    let (basis, first) = answers(rt.alloc(), &mesh, false)?;
+    let (basis, first) = answers(rt.alloc(), &mesh, UNIT)?;
     assert!(rt; basis.len() == 1 && is_cycle(&basis[0], 3, &[0, 1, 3, 0]));
     assert!(rt; matches!(&first, Some(cycle) if is_cycle(cycle, 3, &[0, 1, 3, 0])));
     Ok(())
@@ -171,7 +170,7 @@ fn one_cycle_on_a_projective_plane(rt: HostRuntime) -> Result<(), Fail> {
 #[test]
 fn no_cycle_on_a_tetrahedron(rt: HostRuntime) -> Result<(), Fail> {
     let mesh = surface(rt.alloc(), 4, &TETRAHEDRON)?;
-    let (basis, first) = answers(rt.alloc(), &mesh, false)?;
+    let (basis, first) = answers(rt.alloc(), &mesh, UNIT)?;
     assert!(rt; basis.len() == 0 && first.is_none());
     Ok(())
 }
