@@ -10,7 +10,8 @@ use Rattle.surf_cutter.specs.Boundary.{corners_of, HasCopy, IsBorderSide, IsOthe
 use Rattle.surf_cutter.proofs.BorderSides.{has_all}
 
 -- two different copies of a side are all that it has
-two_copies : (mesh : Mesh) (s c d x : ℕ) → HasCopy mesh s c → HasCopy mesh s d → c ≢ d → HasCopy mesh s x → (x ≡ c) ⊎ (x ≡ d)
+two_copies : (mesh : Mesh) (s c d x : ℕ) → HasCopy mesh s c → HasCopy mesh s d → c ≢ d → HasCopy mesh s x → (x ≡ c)
+    ⊎ (x ≡ d)
 two_copies mesh s c d x a b ne i = elim i [
   | inl e ↦ elim a [
     | inl h ↦ inl (e ∙ sym h)
@@ -23,7 +24,8 @@ two_copies mesh s c d x a b ne i = elim i [
 ]
 
 -- Sides 0 to n, each of which is entered at a copy and left at its other copy, where the next one is entered.
-module _ (mesh : Mesh) (paired : HasPairedBorder mesh) (n : ℕ) (l c : ℕ → ℕ) (border : (k : ℕ) → k ≤ n → IsBorderSide mesh (l k))
+module _ (mesh : Mesh) (paired : HasPairedBorder mesh) (n : ℕ) (l c : ℕ → ℕ) (border : (k : ℕ) → k ≤ n →
+    IsBorderSide mesh (l k))
     (enters : (k : ℕ) → k ≤ n → HasCopy mesh (l k) (c k)) (leaves : (k : ℕ) → k ≤ n → HasCopy mesh (l k) (c (k + 1)))
     (turns : (k : ℕ) → k ≤ n → c k ≢ c (k + 1)) (differs : (k : ℕ) → k < n → l k ≢ l (k + 1))
     (distinct : (i k : ℕ) → i < k → k < n → l i ≢ l k) where
@@ -33,7 +35,8 @@ module _ (mesh : Mesh) (paired : HasPairedBorder mesh) (n : ℕ) (l c : ℕ → 
   -- at the copy where one is left there are this one and the next
   pub two_at : (k u : ℕ) → k < n → IsBorderSide mesh u → HasCopy mesh u (c (k + 1)) → (u ≡ l k) ⊎ (u ≡ l (k + 1))
   two_at k u h b at =
-      elim (paired.no_third u (l k) (l (k + 1)) (c (k + 1)) b (border k (omega arith)) (border (k + 1) (omega arith)) at (leaves k (omega arith)) (enters (k + 1) (omega arith))) [
+      elim (paired.no_third u (l k) (l (k + 1)) (c (k + 1)) b (border k (omega arith)) (border (k + 1)
+      (omega arith)) at (leaves k (omega arith)) (enters (k + 1) (omega arith))) [
         | inl e ↦ inl e
         | inr o ↦ elim o [ inl e ↦ inr e | inr e ↦ absurd (differs k h e) ]
       ]
@@ -55,22 +58,24 @@ module _ (mesh : Mesh) (paired : HasPairedBorder mesh) (n : ℕ) (l c : ℕ → 
     pub met_first : (j ≡ 0) × (c n ≡ c 0)
     met_first =
         elim (its j (c n) (omega arith) (subst (λ s. HasCopy mesh s (c n)) (sym again) (enters n (omega arith)))) [
-          | inr e ↦ absurd (elim (two_at j (l (n - 1)) lt (border (n - 1) (omega arith)) (subst (λ x. HasCopy mesh (l (n - 1)) x) e leaves_last)) [
-            | inl i ↦ last_differs (i ∙ again)
-            | inr i ↦ elim (cases_order (j + 1) (n - 1)) [
-              | inl m ↦ turns (n - 1) (omega arith) (ap c (sym m) ∙ sym e ∙ sym (ap c is_last))
-              | inr o ↦ elim o [
-                | inl less ↦ distinct (j + 1) (n - 1) less (omega arith) (sym i)
-                | inr more ↦ let m : n - 1 ≡ j = omega arith in last_differs (ap l m ∙ again)
-              ]
-            ]
-          ])
+          | inr e ↦ absurd (elim (two_at j (l (n - 1)) lt (border (n - 1) (omega arith)) (subst (λ x.
+              HasCopy mesh (l (n - 1)) x) e leaves_last)) [
+                | inl i ↦ last_differs (i ∙ again)
+                | inr i ↦ elim (cases_order (j + 1) (n - 1)) [
+                  | inl m ↦ turns (n - 1) (omega arith) (ap c (sym m) ∙ sym e ∙ sym (ap c is_last))
+                  | inr o ↦ elim o [
+                    | inl less ↦ distinct (j + 1) (n - 1) less (omega arith) (sym i)
+                    | inr more ↦ let m : n - 1 ≡ j = omega arith in last_differs (ap l m ∙ again)
+                  ]
+                ]
+              ])
           | inl e ↦ elim (cases_eq j 0) [
             | inl z ↦ (z, e ∙ ap c z)
             | inr ne ↦
                 let i = j - 1 in
                 let next : j - 1 + 1 ≡ j = omega arith in
-                absurd (elim (two_at (j - 1) (l (n - 1)) (omega arith) (border (n - 1) (omega arith)) (subst (λ x. HasCopy mesh (l (n - 1)) x) (e ∙ sym (ap c next)) leaves_last)) [
+                absurd (elim (two_at (j - 1) (l (n - 1)) (omega arith) (border (n - 1) (omega arith)) (subst (λ x.
+                HasCopy mesh (l (n - 1)) x) (e ∙ sym (ap c next)) leaves_last)) [
                   | inl m ↦ distinct (j - 1) (n - 1) (omega arith) (omega arith) (sym m)
                   | inr m ↦ last_differs (m ∙ ap l next ∙ again)
                 ])
@@ -98,7 +103,8 @@ module _ (mesh : Mesh) (paired : HasPairedBorder mesh) (n : ℕ) (l c : ℕ → 
           ]
           | inl e ↦ elim (cases_eq k 0) [
             | inl z ↦
-                elim (two_at (n - 1) t (omega arith) b (subst (λ x. HasCopy mesh t x) (e ∙ ap c z ∙ sym met_first.1 ∙ sym (ap c is_last)) at_t)) [
+                elim (two_at (n - 1) t (omega arith) b (subst (λ x. HasCopy mesh t x) (e ∙ ap c z ∙ sym met_first.1
+                ∙ sym (ap c is_last)) at_t)) [
                   | inl i ↦ (n - 1, omega arith, sym i)
                   | inr i ↦ (0, omega arith, sym (i ∙ ap l is_last ∙ first_again))
                 ]
@@ -113,15 +119,19 @@ module _ (mesh : Mesh) (paired : HasPairedBorder mesh) (n : ℕ) (l c : ℕ → 
 
     pub listed_all : IsDisc mesh → (s : ℕ) → IsBorderSide mesh s → Listed s
     listed_all disc s b =
-        has_all mesh disc Listed (λ s in'. subst (IsBorderSide mesh) in'.2 (border in'.0 (let h = in'.1 in omega arith))) listed_closed (l 0) s (0, omega arith, refl) b
+        has_all mesh disc Listed (λ s in'. subst (IsBorderSide mesh) in'.2 (border in'.0 (let h = in'.1 in
+        omega arith))) listed_closed (l 0) s (0, omega arith, refl) b
 
   -- going on is by the one new copy
-  pub goes_on : (k : ℕ) → k + 2 < n → (x : ℕ) × IsOnward mesh (l k) (l (k + 1)) x × IsOtherAt mesh x (l (k + 1)) (l (k + 2))
+  pub goes_on : (k : ℕ) → k + 2 < n → (x : ℕ) × IsOnward mesh (l k) (l (k + 1)) x
+      × IsOtherAt mesh x (l (k + 1)) (l (k + 2))
   goes_on k h =
       let two : k + 1 + 1 ≡ k + 2 = omega arith in
-      let left : HasCopy mesh (l (k + 1)) (c (k + 2)) = subst (λ m. HasCopy mesh (l (k + 1)) (c m)) two (leaves (k + 1) (omega arith)) in
+      let left : HasCopy mesh (l (k + 1)) (c (k + 2)) = subst (λ m.
+      HasCopy mesh (l (k + 1)) (c m)) two (leaves (k + 1) (omega arith)) in
       let at : (u : ℕ) → IsBorderSide mesh u → HasCopy mesh u (c (k + 2)) → (u ≡ l (k + 1)) ⊎ (u ≡ l (k + 2)) =
-      λ u b has. subst (λ m. (u ≡ l (k + 1)) ⊎ (u ≡ l m)) two (two_at (k + 1) u (omega arith) b (subst (λ m. HasCopy mesh u (c m)) (sym two) has)) in (
+      λ u b has. subst (λ m. (u ≡ l (k + 1)) ⊎ (u ≡ l m)) two (two_at (k + 1) u (omega arith) b (subst (λ m.
+      HasCopy mesh u (c m)) (sym two) has)) in (
         c (k + 2),
         record {
           of_last = left;
@@ -154,7 +164,8 @@ pub record IsTrail (mesh : Mesh) (first : ℕ) (list copies : List ℕ) : Type 0
   pub from : get_or copies 0 0 ≡ (corners_of mesh first).0
   pub to : get_or copies 1 0 ≡ (corners_of mesh first).1
 
-trail_start : (mesh : Mesh) (first : ℕ) → IsBorderSide mesh first → (corners_of mesh first).0 ≢ (corners_of mesh first).1 →
+trail_start : (mesh : Mesh) (first : ℕ) → IsBorderSide mesh first →
+    (corners_of mesh first).0 ≢ (corners_of mesh first).1 →
     IsTrail mesh first (first ∷ []) ((corners_of mesh first).0 ∷ (corners_of mesh first).1 ∷ [])
 trail_start mesh first b ne = record {
   size = refl;
@@ -168,40 +179,52 @@ trail_start mesh first b ne = record {
   to = refl;
 }
 
-trail_more : (mesh : Mesh) (first : ℕ) (list copies : List ℕ) → IsTrail mesh first list copies → 0 < length list → (t d : ℕ) → IsBorderSide mesh t → HasCopy mesh t (get_or copies (length list) 0) →
-    get_or list (length list - 1) 0 ≢ t → HasCopy mesh t d → get_or copies (length list) 0 ≢ d → IsTrail mesh first (list ++ t ∷ []) (copies ++ d ∷ [])
+trail_more : (mesh : Mesh) (first : ℕ) (list copies : List ℕ) → IsTrail mesh first list copies → 0 < length list →
+    (t d : ℕ) → IsBorderSide mesh t → HasCopy mesh t (get_or copies (length list) 0) →
+    get_or list (length list - 1) 0 ≢ t → HasCopy mesh t d → get_or copies (length list) 0 ≢ d →
+    IsTrail mesh first (list ++ t ∷ []) (copies ++ d ∷ [])
 trail_more mesh first list copies trail some t d b at ne to turn =
     let n = length_push list t in
     let m = length_push copies d in
     let size = trail.size in
-    let early : (k : ℕ) → k < length list → get_or (list ++ t ∷ []) k 0 ≡ get_or list k 0 = λ k h. get_or_append_left list (t ∷ []) 0 k h in
+    let early : (k : ℕ) → k < length list → get_or (list ++ t ∷ []) k 0 ≡ get_or list k 0 = λ k h.
+    get_or_append_left list (t ∷ []) 0 k h in
     let late : get_or (list ++ t ∷ []) (length list) 0 ≡ t = get_or_push list t 0 (length list) refl in
-    let copy : (k : ℕ) → k < length copies → get_or (copies ++ d ∷ []) k 0 ≡ get_or copies k 0 = λ k h. get_or_append_left copies (d ∷ []) 0 k h in
+    let copy : (k : ℕ) → k < length copies → get_or (copies ++ d ∷ []) k 0 ≡ get_or copies k 0 = λ k h.
+    get_or_append_left copies (d ∷ []) 0 k h in
     let copy_last : get_or (copies ++ d ∷ []) (length list + 1) 0 ≡ d = get_or_push copies d 0 (length list + 1) size in
     record {
       size = omega arith;
       border = λ k h. elim (cases_eq k (length list)) [
         | inl e ↦ subst (IsBorderSide mesh) (sym (ap (λ k. get_or (list ++ t ∷ []) k 0) e ∙ late)) b
-        | inr neq ↦ let lt : k < length list = omega arith in subst (IsBorderSide mesh) (sym (early k lt)) (trail.border k lt)
+        | inr neq ↦ let lt : k < length list = omega arith in
+            subst (IsBorderSide mesh) (sym (early k lt)) (trail.border k lt)
       ];
       enters = λ k h. elim (cases_eq k (length list)) [
-        | inl e ↦ subst (λ s. HasCopy mesh s (get_or (copies ++ d ∷ []) k 0)) (sym (ap (λ k. get_or (list ++ t ∷ []) k 0) e ∙ late))
+        | inl e ↦ subst (λ s. HasCopy mesh s (get_or (copies ++ d ∷ []) k 0)) (sym (ap (λ k.
+            get_or (list ++ t ∷ []) k 0) e ∙ late))
             (subst (λ x. HasCopy mesh t x) (sym (copy k (omega arith) ∙ ap (λ k. get_or copies k 0) e)) at)
-        | inr neq ↦ let lt : k < length list = omega arith in subst (λ s. HasCopy mesh s (get_or (copies ++ d ∷ []) k 0)) (sym (early k lt))
+        | inr neq ↦ let lt : k < length list = omega arith in subst (λ s.
+            HasCopy mesh s (get_or (copies ++ d ∷ []) k 0)) (sym (early k lt))
             (subst (λ x. HasCopy mesh (get_or list k 0) x) (sym (copy k (omega arith))) (trail.enters k lt))
       ];
       leaves = λ k h. elim (cases_eq k (length list)) [
-        | inl e ↦ subst (λ s. HasCopy mesh s (get_or (copies ++ d ∷ []) (k + 1) 0)) (sym (ap (λ k. get_or (list ++ t ∷ []) k 0) e ∙ late))
+        | inl e ↦ subst (λ s. HasCopy mesh s (get_or (copies ++ d ∷ []) (k + 1) 0)) (sym (ap (λ k.
+            get_or (list ++ t ∷ []) k 0) e ∙ late))
             (subst (λ x. HasCopy mesh t x) (sym (ap (λ k. get_or (copies ++ d ∷ []) (k + 1) 0) e ∙ copy_last)) to)
-        | inr neq ↦ let lt : k < length list = omega arith in subst (λ s. HasCopy mesh s (get_or (copies ++ d ∷ []) (k + 1) 0)) (sym (early k lt))
+        | inr neq ↦ let lt : k < length list = omega arith in subst (λ s.
+            HasCopy mesh s (get_or (copies ++ d ∷ []) (k + 1) 0)) (sym (early k lt))
             (subst (λ x. HasCopy mesh (get_or list k 0) x) (sym (copy (k + 1) (omega arith))) (trail.leaves k lt))
       ];
       turns = λ k h i. elim (cases_eq k (length list)) [
-        | inl e ↦ turn (sym (copy k (omega arith) ∙ ap (λ k. get_or copies k 0) e) ∙ i ∙ ap (λ k. get_or (copies ++ d ∷ []) (k + 1) 0) e ∙ copy_last)
-        | inr neq ↦ let lt : k < length list = omega arith in trail.turns k lt (sym (copy k (omega arith)) ∙ i ∙ copy (k + 1) (omega arith))
+        | inl e ↦ turn (sym (copy k (omega arith) ∙ ap (λ k. get_or copies k 0) e) ∙ i ∙ ap (λ k.
+            get_or (copies ++ d ∷ []) (k + 1) 0) e ∙ copy_last)
+        | inr neq ↦ let lt : k < length list = omega arith in trail.turns k lt (sym (copy k (omega arith)) ∙ i
+            ∙ copy (k + 1) (omega arith))
       ];
       differs = λ k h i. elim (cases_eq (k + 1) (length list)) [
-        | inl e ↦ let z : length list - 1 ≡ k = omega arith in ne (ap (λ k. get_or list k 0) z ∙ sym (early k (omega arith)) ∙ i ∙ ap (λ k. get_or (list ++ t ∷ []) k 0) e ∙ late)
+        | inl e ↦ let z : length list - 1 ≡ k = omega arith in ne (ap (λ k. get_or list k 0) z
+            ∙ sym (early k (omega arith)) ∙ i ∙ ap (λ k. get_or (list ++ t ∷ []) k 0) e ∙ late)
         | inr neq ↦ trail.differs k (omega arith) (sym (early k (omega arith)) ∙ i ∙ early (k + 1) (omega arith))
       ];
       begins = early 0 some ∙ trail.begins;
@@ -219,7 +242,9 @@ pub record IsGone (mesh : Mesh) (first side copy : ℕ) (seen : List Bool) (list
   pub only : (s : ℕ) → marked seen s ≡ true → (k : ℕ) × (k < length list) × (get_or list k 0 ≡ s)
   pub distinct : (i k : ℕ) → i < k → k < length list → get_or list i 0 ≢ get_or list k 0
 
-pub gone_start : (mesh : Mesh) → HasPairedBorder mesh → (first : ℕ) → IsBorderSide mesh first → (seen : List Bool) → length seen ≡ side_count mesh → ((s : ℕ) → marked seen s ≡ false) → IsGone mesh first first (corners_of mesh first).1 seen []
+pub gone_start : (mesh : Mesh) → HasPairedBorder mesh → (first : ℕ) → IsBorderSide mesh first → (seen : List Bool) →
+    length seen ≡ side_count mesh → ((s : ℕ) → marked seen s ≡ false) →
+    IsGone mesh first first (corners_of mesh first).1 seen []
 gone_start mesh paired first b seen size none = record {
   size = size;
   copies = (corners_of mesh first).0 ∷ (corners_of mesh first).1 ∷ [];
@@ -230,88 +255,120 @@ gone_start mesh paired first b seen size none = record {
   distinct = λ i k a h. absurd (omega arith);
 }
 
-module _ (mesh : Mesh) (first side copy : ℕ) (seen : List Bool) (list : List ℕ) (gone : IsGone mesh first side copy seen list) where
+module _ (mesh : Mesh) (first side copy : ℕ) (seen : List Bool) (list : List ℕ)
+    (gone : IsGone mesh first side copy seen list) where
   here : get_or (list ++ side ∷ []) (length list) 0 ≡ side
   here = get_or_push list side 0 (length list) refl
 
   pub gone_border : IsBorderSide mesh side
-  gone_border = let n = length_push list side in subst (IsBorderSide mesh) here (gone.trail.border (length list) (omega arith))
+  gone_border = let n = length_push list side in subst (IsBorderSide mesh) here (gone.trail.border (length list)
+      (omega arith))
 
   pub gone_leaves : HasCopy mesh side copy
   gone_leaves =
       let n = length_push list side in
-      subst (λ s. HasCopy mesh s copy) here (subst (λ x. HasCopy mesh (get_or (list ++ side ∷ []) (length list) 0) x) gone.leaves_by (gone.trail.leaves (length list) (omega arith)))
+      subst (λ s. HasCopy mesh s copy) here (subst (λ x.
+      HasCopy mesh (get_or (list ++ side ∷ []) (length list) 0) x) gone.leaves_by (gone.trail.leaves (length list)
+      (omega arith)))
 
-  pub gone_more : marked seen side ≡ false → (t d : ℕ) → IsBorderSide mesh t → HasCopy mesh t copy → t ≢ side → HasCopy mesh t d → d ≢ copy → IsGone mesh first t d (set seen side true) (list ++ side ∷ [])
+  pub gone_more : marked seen side ≡ false → (t d : ℕ) → IsBorderSide mesh t → HasCopy mesh t copy → t ≢ side →
+      HasCopy mesh t d → d ≢ copy → IsGone mesh first t d (set seen side true) (list ++ side ∷ [])
   gone_more new t d b at ne to turn =
       let n = length_push list side in
       let inside : side < length seen = let z = gone.size in let i = gone_border.0 in omega arith in
       let last : length (list ++ side ∷ []) - 1 ≡ length list = omega arith in
       let more : length (list ++ side ∷ []) ≡ length list + 1 = omega arith in
-      let leaves : get_or gone.copies (length (list ++ side ∷ [])) 0 ≡ copy = ap (λ k. get_or gone.copies k 0) more ∙ gone.leaves_by in
-      let early : (k : ℕ) → k < length list → get_or (list ++ side ∷ []) k 0 ≡ get_or list k 0 = λ k h. get_or_append_left list (side ∷ []) 0 k h in
+      let leaves : get_or gone.copies (length (list ++ side ∷ [])) 0 ≡ copy = ap (λ k. get_or gone.copies k 0) more
+      ∙ gone.leaves_by in
+      let early : (k : ℕ) → k < length list → get_or (list ++ side ∷ []) k 0 ≡ get_or list k 0 = λ k h.
+      get_or_append_left list (side ∷ []) 0 k h in
       let mark : marked (set seen side true) side ≡ true = get_or-set_same seen side true false inside in
       let still : (s : ℕ) → marked seen s ≡ true → marked (set seen side true) s ≡ true =
-      λ s m. elim (cases_eq s side) [ inl e ↦ ap (marked (set seen side true)) e ∙ mark | inr neq ↦ get_or-set_other seen side s true false neq ∙ m ] in
-      let unlike : (k : ℕ) → k < length list → get_or list k 0 ≢ side = λ k h e. true≢false (sym (gone.are_marked k h) ∙ ap (marked seen) e ∙ new) in
+      λ s m. elim (cases_eq s side) [
+        | inl e ↦ ap (marked (set seen side true)) e ∙ mark
+        | inr neq ↦
+            get_or-set_other seen side s true false neq ∙ m
+      ] in
+      let unlike : (k : ℕ) → k < length list → get_or list k 0 ≢ side = λ k h e. true≢false (sym (gone.are_marked k h)
+      ∙ ap (marked seen) e ∙ new) in
       record {
         size = length-set seen side true ∙ gone.size;
         copies = gone.copies ++ d ∷ [];
-        trail = trail_more mesh first (list ++ side ∷ []) gone.copies gone.trail (omega arith) t d b (subst (λ x. HasCopy mesh t x) (sym leaves) at)
-            (λ e. ne (sym (sym here ∙ ap (λ k. get_or (list ++ side ∷ []) k 0) (sym last) ∙ e))) to (λ e. turn (sym e ∙ leaves));
+        trail = trail_more mesh first (list ++ side ∷ []) gone.copies gone.trail (omega arith) t d b (subst (λ x.
+            HasCopy mesh t x) (sym leaves) at)
+            (λ e. ne (sym (sym here ∙ ap (λ k. get_or (list ++ side ∷ []) k 0) (sym last) ∙ e))) to (λ e. turn (sym e
+            ∙ leaves));
         leaves_by = get_or_push gone.copies d 0 (length (list ++ side ∷ []) + 1) (gone.trail.size);
         are_marked = λ k h. elim (cases_eq k (length list)) [
-          | inl e ↦ ap (λ k. marked (set seen side true) (get_or (list ++ side ∷ []) k 0)) e ∙ ap (marked (set seen side true)) here ∙ mark
-          | inr neq ↦ let lt : k < length list = omega arith in ap (marked (set seen side true)) (early k lt) ∙ still (get_or list k 0) (gone.are_marked k lt)
+          | inl e ↦ ap (λ k. marked (set seen side true) (get_or (list ++ side ∷ []) k 0)) e
+              ∙ ap (marked (set seen side true)) here ∙ mark
+          | inr neq ↦ let lt : k < length list = omega arith in ap (marked (set seen side true)) (early k lt)
+              ∙ still (get_or list k 0) (gone.are_marked k lt)
         ];
         only = λ s m. elim (cases_eq s side) [
           | inl e ↦ (length list, omega arith, here ∙ sym e)
-          | inr neq ↦ let k = gone.only s (sym (get_or-set_other seen side s true false neq) ∙ m) in let lt = k.1 in (k.0, omega arith, early k.0 k.1 ∙ k.2)
+          | inr neq ↦ let k = gone.only s (sym (get_or-set_other seen side s true false neq) ∙ m) in let lt = k.1 in
+              (k.0, omega arith, early k.0 k.1 ∙ k.2)
         ];
         distinct = λ i k a h e. elim (cases_eq k (length list)) [
-          | inl q ↦ let lt : i < length list = omega arith in unlike i lt (sym (early i lt) ∙ e ∙ ap (λ k. get_or (list ++ side ∷ []) k 0) q ∙ here)
-          | inr neq ↦ let lt : k < length list = omega arith in let lt' : i < length list = omega arith in gone.distinct i k a lt (sym (early i lt') ∙ e ∙ early k lt)
+          | inl q ↦ let lt : i < length list = omega arith in unlike i lt (sym (early i lt) ∙ e ∙ ap (λ k.
+              get_or (list ++ side ∷ []) k 0) q ∙ here)
+          | inr neq ↦ let lt : k < length list = omega arith in let lt' : i < length list = omega arith in
+              gone.distinct i k a lt (sym (early i lt') ∙ e ∙ early k lt)
         ];
       }
 
   -- where the side to come is listed, the walk is the round
-  pub gone_round : HasPairedBorder mesh → IsDisc mesh → ((s : ℕ) → IsBorderSide mesh s → first ≤ s) → marked seen side ≡ true → IsBoundary mesh list
+  pub gone_round : HasPairedBorder mesh → IsDisc mesh → ((s : ℕ) → IsBorderSide mesh s → first ≤ s) →
+      marked seen side ≡ true → IsBoundary mesh list
   gone_round paired disc least again =
       let found = gone.only side again in
       let n = length list in
       let size = length_push list side in
       let l : ℕ → ℕ = λ k. get_or (list ++ side ∷ []) k 0 in
       let c : ℕ → ℕ = λ k. get_or gone.copies k 0 in
-      let early : (k : ℕ) → k < length list → get_or (list ++ side ∷ []) k 0 ≡ get_or list k 0 = λ k h. get_or_append_left list (side ∷ []) 0 k h in
+      let early : (k : ℕ) → k < length list → get_or (list ++ side ∷ []) k 0 ≡ get_or list k 0 = λ k h.
+      get_or_append_left list (side ∷ []) 0 k h in
       let trail = gone.trail in
-      let border : (k : ℕ) → k ≤ length list → IsBorderSide mesh (get_or (list ++ side ∷ []) k 0) = λ k h. trail.border k (omega arith) in
-      let enters : (k : ℕ) → k ≤ length list → HasCopy mesh (get_or (list ++ side ∷ []) k 0) (get_or gone.copies k 0) = λ k h. trail.enters k (omega arith) in
-      let leaves : (k : ℕ) → k ≤ length list → HasCopy mesh (get_or (list ++ side ∷ []) k 0) (get_or gone.copies (k + 1) 0) = λ k h. trail.leaves k (omega arith) in
-      let turns : (k : ℕ) → k ≤ length list → get_or gone.copies k 0 ≢ get_or gone.copies (k + 1) 0 = λ k h. trail.turns k (omega arith) in
-      let differs : (k : ℕ) → k < length list → get_or (list ++ side ∷ []) k 0 ≢ get_or (list ++ side ∷ []) (k + 1) 0 = λ k h. trail.differs k (omega arith) in
-      let distinct : (i k : ℕ) → i < k → k < length list → get_or (list ++ side ∷ []) i 0 ≢ get_or (list ++ side ∷ []) k 0 =
+      let border : (k : ℕ) → k ≤ length list → IsBorderSide mesh (get_or (list ++ side ∷ []) k 0) = λ k h.
+      trail.border k (omega arith) in
+      let enters : (k : ℕ) → k ≤ length list → HasCopy mesh (get_or (list ++ side ∷ []) k 0)
+      (get_or gone.copies k 0) = λ k h. trail.enters k (omega arith) in
+      let leaves : (k : ℕ) → k ≤ length list → HasCopy mesh (get_or (list ++ side ∷ []) k 0) (get_or gone.copies
+      (k + 1) 0) = λ k h. trail.leaves k (omega arith) in
+      let turns : (k : ℕ) → k ≤ length list → get_or gone.copies k 0 ≢ get_or gone.copies (k + 1) 0 = λ k h.
+      trail.turns k (omega arith) in
+      let differs : (k : ℕ) → k < length list → get_or (list ++ side ∷ []) k 0 ≢ get_or (list ++ side ∷ [])
+      (k + 1) 0 = λ k h. trail.differs k (omega arith) in
+      let distinct : (i k : ℕ) → i < k → k < length list →
+      get_or (list ++ side ∷ []) i 0 ≢ get_or (list ++ side ∷ []) k 0 =
       λ i k a h e. gone.distinct i k a h (sym (early i (omega arith)) ∙ e ∙ early k h) in
       let j = found.0 in
       let lt : j < length list = found.1 in
-      let meets : get_or (list ++ side ∷ []) j 0 ≡ get_or (list ++ side ∷ []) (length list) 0 = early j lt ∙ found.2 ∙ sym here in
+      let meets : get_or (list ++ side ∷ []) j 0 ≡ get_or (list ++ side ∷ []) (length list) 0 = early j lt ∙ found.2
+      ∙ sym here in
       let closing = met_first mesh paired n l c border enters leaves turns differs distinct j lt meets in
       let some : 0 < length list = omega arith in
       let is_first : get_or list 0 0 ≡ first = sym (early 0 some) ∙ trail.begins in
       record {
         border = λ k h. subst (IsBorderSide mesh) (early k h) (border k (omega arith));
-        all = λ s b. let k = listed_all mesh paired n l c border enters leaves turns differs distinct j lt meets disc s b in (k.0, k.1, sym (early k.0 k.1) ∙ k.2);
+        all = λ s b. let k = listed_all mesh paired n l c border enters leaves turns differs distinct j lt meets disc s
+            b in (k.0, k.1, sym (early k.0 k.1) ∙ k.2);
         once = gone.distinct;
         first = λ s b. subst (λ f. f ≤ s) (sym is_first) (least s b);
         second = λ h.
             let one = early 1 h in
             let zero = early 0 some in
-            let head : get_or gone.copies 1 0 ≡ (corners_of mesh (get_or list 0 0)).1 = trail.to ∙ ap (λ s. (corners_of mesh s).1) (sym is_first) in
+            let head : get_or gone.copies 1 0 ≡ (corners_of mesh (get_or list 0 0)).1 = trail.to ∙ ap (λ s.
+            (corners_of mesh s).1) (sym is_first) in
             record {
               border = subst (IsBorderSide mesh) one (border 1 (omega arith));
-              at = subst (λ x. HasCopy mesh (get_or list 1 0) x) head (subst (λ s. HasCopy mesh s (get_or gone.copies 1 0)) one (enters 1 (omega arith)));
+              at = subst (λ x. HasCopy mesh (get_or list 1 0) x) head (subst (λ s.
+                  HasCopy mesh s (get_or gone.copies 1 0)) one (enters 1 (omega arith)));
               differs = λ e. distinct 0 1 (omega arith) h (zero ∙ sym e ∙ sym one);
               no_third = λ u b at.
-                  elim (two_at mesh paired n l c border enters leaves turns differs distinct 0 u some b (subst (λ x. HasCopy mesh u x) (sym head) at)) [
+                  elim (two_at mesh paired n l c border enters leaves turns differs distinct 0 u some b (subst (λ x.
+                  HasCopy mesh u x) (sym head) at)) [
                     | inl e ↦ inl (e ∙ zero)
                     | inr e ↦ inr (e ∙ one)
                   ];
@@ -322,13 +379,17 @@ module _ (mesh : Mesh) (first side copy : ℕ) (seen : List Bool) (list : List �
             let b = early (k + 1) (omega arith) in
             let d = early (k + 2) h in (
               on.0,
-              subst (λ s. IsOnward mesh s (get_or list (k + 1) 0) on.0) a (subst (λ s. IsOnward mesh (get_or (list ++ side ∷ []) k 0) s on.0) b on.1),
-              subst (λ s. IsOtherAt mesh on.0 s (get_or list (k + 2) 0)) b (subst (λ s. IsOtherAt mesh on.0 (get_or (list ++ side ∷ []) (k + 1) 0) s) d on.2),
+              subst (λ s. IsOnward mesh s (get_or list (k + 1) 0) on.0) a (subst (λ s.
+                  IsOnward mesh (get_or (list ++ side ∷ []) k 0) s on.0) b on.1),
+              subst (λ s. IsOtherAt mesh on.0 s (get_or list (k + 2) 0)) b (subst (λ s.
+                  IsOtherAt mesh on.0 (get_or (list ++ side ∷ []) (k + 1) 0) s) d on.2),
             );
         closes =
             let is_last : length list - 1 + 1 ≡ length list = omega arith in
             let tail : get_or gone.copies (length list - 1 + 1) 0 ≡ (corners_of mesh (get_or list 0 0)).0 =
-            ap (λ k. get_or gone.copies k 0) is_last ∙ closing.1 ∙ trail.from ∙ ap (λ s. (corners_of mesh s).0) (sym is_first) in
+            ap (λ k. get_or gone.copies k 0) is_last ∙ closing.1 ∙ trail.from ∙ ap (λ s.
+            (corners_of mesh s).0) (sym is_first) in
             subst (λ x. HasCopy mesh (get_or list (length list - 1) 0) x) tail
-            (subst (λ s. HasCopy mesh s (get_or gone.copies (length list - 1 + 1) 0)) (early (length list - 1) (omega arith)) (leaves (length list - 1) (omega arith)));
+            (subst (λ s. HasCopy mesh s (get_or gone.copies (length list - 1 + 1) 0)) (early (length list - 1)
+            (omega arith)) (leaves (length list - 1) (omega arith)));
       }

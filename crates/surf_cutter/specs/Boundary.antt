@@ -39,17 +39,19 @@ pub record IsOnward (mesh : Mesh) (before last c : ℕ) : Type 0 where
   pub new : HasCopy mesh before c → ⊥
   pub one : (d : ℕ) → HasCopy mesh last d → (HasCopy mesh before d → ⊥) → d ≡ c
 
--- All border sides, each once, in one round along the border. The first is the least. The second is the other border side at the
--- second corner of the first. Each further one is the other border side at the copy that the last side has and the side before it
--- doesn't have. The round closes at the first corner of the first side.
+-- All border sides, each once, in one round along the border. The first is the least. The second is the other border
+-- side at the second corner of the first. Each further one is the other border side at the copy that the last side has
+-- and the side before it doesn't have. The round closes at the first corner of the first side.
 pub record IsBoundary (mesh : Mesh) (list : List ℕ) : Type 0 where
   pub border : (k : ℕ) → k < length list → IsBorderSide mesh (slice_index list k)
   pub all : (s : ℕ) → IsBorderSide mesh s → (k : ℕ) × (k < length list) × (slice_index list k ≡ s)
   pub once : (i k : ℕ) → i < k → k < length list → slice_index list i ≢ slice_index list k
   pub first : (s : ℕ) → IsBorderSide mesh s → slice_index list 0 ≤ s
-  pub second : 1 < length list → IsOtherAt mesh (corners_of mesh (slice_index list 0)).1 (slice_index list 0) (slice_index list 1)
+  pub second : 1 < length list → IsOtherAt mesh (corners_of mesh (slice_index list 0)).1 (slice_index list 0)
+      (slice_index list 1)
   pub further : (k : ℕ) → k + 2 < length list →
-      (c : ℕ) × IsOnward mesh (slice_index list k) (slice_index list (k + 1)) c × IsOtherAt mesh c (slice_index list (k + 1)) (slice_index list (k + 2))
+      (c : ℕ) × IsOnward mesh (slice_index list k) (slice_index list (k + 1)) c
+      × IsOtherAt mesh c (slice_index list (k + 1)) (slice_index list (k + 2))
   pub closes : HasCopy mesh (slice_index list (length list - 1)) (corners_of mesh (slice_index list 0)).0
 
 -- a list of all border sides, in their order
@@ -65,7 +67,8 @@ IsLeastBorderSide mesh s = IsBorderSide mesh s × ((t : ℕ) → IsBorderSide me
 -- at each copy of a border side there is another border side, and no third
 pub record HasPairedBorder (mesh : Mesh) : Type 0 where
   pub apart : (s : ℕ) → IsBorderSide mesh s → (corners_of mesh s).0 ≢ (corners_of mesh s).1
-  pub another : (s c : ℕ) → IsBorderSide mesh s → HasCopy mesh s c → (t : ℕ) × IsBorderSide mesh t × HasCopy mesh t c × (t ≢ s)
+  pub another : (s c : ℕ) → IsBorderSide mesh s → HasCopy mesh s c → (t : ℕ) × IsBorderSide mesh t × HasCopy mesh t c
+      × (t ≢ s)
   pub no_third : (s t u c : ℕ) → IsBorderSide mesh s → IsBorderSide mesh t → IsBorderSide mesh u →
       HasCopy mesh s c → HasCopy mesh t c → HasCopy mesh u c → (s ≡ t) ⊎ ((s ≡ u) ⊎ (t ≡ u))
 
@@ -80,7 +83,8 @@ pub record AreCorners (faces : List (List ℕ)) (n : ℕ) (tails heads : List �
 pub record AreSidesAt (mesh : Mesh) (corner : ℕ × ℕ → ℕ) (c : ℕ) (row : List ℕ) : Type 0 where
   pub border : (k : ℕ) → k < length row → IsBorderSide mesh (slice_index row k)
   pub at : (k : ℕ) → k < length row → corner (corners_of mesh (slice_index row k)) ≡ c
-  pub all : (s : ℕ) → IsBorderSide mesh s → corner (corners_of mesh s) ≡ c → (k : ℕ) × (k < length row) × (slice_index row k ≡ s)
+  pub all : (s : ℕ) → IsBorderSide mesh s → corner (corners_of mesh s) ≡ c → (k : ℕ) × (k < length row)
+      × (slice_index row k ≡ s)
 
 -- for each copy the border sides that begin there, and those that end there
 pub record AreRims (mesh : Mesh) (begin end : List (List ℕ)) : Type 0 where
@@ -104,8 +108,9 @@ pub record AreCutSides (mesh : Mesh) (cut : List Bool) (n : ℕ) (list : List �
 abbrev pub IsFullCut : Mesh → List Bool → Type 0
 IsFullCut mesh cut = (tree : List (ℕ × ℕ)) × IsDualTree (Side mesh) tree × TellsCut mesh tree (is_cut cut)
 
--- The flags mark what is cut where a tree of the faces grows face by face along edges that aren't cut, and some edges are left uncut
--- beside it, each at a vertex where it is the only cut edge while more than two are cut.
+-- The flags mark what is cut where a tree of the faces grows face by face along edges that aren't cut, and some edges
+-- are left uncut beside it, each at a vertex where it is the only cut edge while more than two are cut.
 abbrev pub OpensToDisc : Mesh → List Bool → Type 0
 OpensToDisc mesh cut =
-    (tree : List (ℕ × ℕ)) × (uncut : List (ℕ × ℕ)) × IsDualTree (Side mesh) tree × IsTrimmed (Side mesh) tree uncut × TellsCut mesh uncut (is_cut cut)
+    (tree : List (ℕ × ℕ)) × (uncut : List (ℕ × ℕ)) × IsDualTree (Side mesh) tree × IsTrimmed (Side mesh) tree uncut
+    × TellsCut mesh uncut (is_cut cut)

@@ -32,10 +32,15 @@ fn list_corners(
     requires few { length corners.now < 2 ^ 32 }
     ensures tails_size { OnOk result (length tails.new.items ≡ length tails.old.items + length corners.now) }
     ensures heads_size { OnOk result (length heads.new.items ≡ length heads.old.items + length corners.now) }
-    ensures tails_kept { OnOk result ((s : ℕ) → s < length tails.old.items → slice_index tails.new.items s ≡ slice_index tails.old.items s) }
-    ensures heads_kept { OnOk result ((s : ℕ) → s < length heads.old.items → slice_index heads.new.items s ≡ slice_index heads.old.items s) }
-    ensures tails { OnOk result ((k : ℕ) → k < length corners.now → slice_index tails.new.items (length tails.old.items + k) ≡ slice_index corners.now k) }
-    ensures heads { OnOk result ((k : ℕ) → k < length corners.now → slice_index heads.new.items (length heads.old.items + k) ≡ slice_index corners.now (after (length corners.now) k)) }
+    ensures tails_kept { OnOk result ((s : ℕ) → s < length tails.old.items →
+        slice_index tails.new.items s ≡ slice_index tails.old.items s) }
+    ensures heads_kept { OnOk result ((s : ℕ) → s < length heads.old.items →
+        slice_index heads.new.items s ≡ slice_index heads.old.items s) }
+    ensures tails { OnOk result ((k : ℕ) → k < length corners.now →
+        slice_index tails.new.items (length tails.old.items + k) ≡ slice_index corners.now k) }
+    ensures heads { OnOk result ((k : ℕ) → k < length corners.now →
+        slice_index heads.new.items (length heads.old.items + k)
+        ≡ slice_index corners.now (after (length corners.now) k)) }
 {
     for k in 0..corners.len() {
         let next = after_place(corners.len(), k);
@@ -60,7 +65,8 @@ fn side_corners(alloc: Global, faces: &Rows<CopyId>) -> Result<(Vec<u32>, Vec<u3
 
 // The first side of a list that isn't the given one.
 fn first_other(row: &[SideId], side: SideId) -> Option<SideId>
-    ensures { MatchOption result ((k : ℕ) → k < length row.now → slice_index row.now k ≡ side) (λ t. (t ≢ side) × ((k : ℕ) × (k < length row.now) × (slice_index row.now k ≡ t))) }
+    ensures { MatchOption result ((k : ℕ) → k < length row.now → slice_index row.now k ≡ side)
+        (λ t. (t ≢ side) × ((k : ℕ) × (k < length row.now) × (slice_index row.now k ≡ t))) }
 {
     for other in row {
         if *other != side {
@@ -72,9 +78,11 @@ fn first_other(row: &[SideId], side: SideId) -> Option<SideId>
 
 // The other border side at a copy, by those that begin there and those that end there.
 fn other_at(begin: &[SideId], end: &[SideId], side: SideId) -> SideId
-    requires { ((k : ℕ) × (k < length begin.now) × (slice_index begin.now k ≢ side)) ⊎ ((k : ℕ) × (k < length end.now) × (slice_index end.now k ≢ side)) }
+    requires { ((k : ℕ) × (k < length begin.now) × (slice_index begin.now k ≢ side))
+        ⊎ ((k : ℕ) × (k < length end.now) × (slice_index end.now k ≢ side)) }
     ensures other { result ≢ side }
-    ensures found { ((k : ℕ) × (k < length begin.now) × (slice_index begin.now k ≡ result)) ⊎ ((k : ℕ) × (k < length end.now) × (slice_index end.now k ≡ result)) }
+    ensures found { ((k : ℕ) × (k < length begin.now) × (slice_index begin.now k ≡ result))
+        ⊎ ((k : ℕ) × (k < length end.now) × (slice_index end.now k ≡ result)) }
 {
     match first_other(begin, side) {
         Some(other) => other,
@@ -125,6 +133,14 @@ fn go_round(
     Ok(round)
 }
 
+// The least of some border sides in their order.
+fn least_side(border: &[SideId]) -> SideId
+    requires { 0 < length border.now }
+    ensures { result ≡ slice_index border.now 0 }
+{
+    border[0]
+}
+
 // The border of a disc in one round, by the list of its border sides.
 fn round_of(
     alloc: Global,
@@ -142,7 +158,8 @@ fn round_of(
     let (tails, heads) = side_corners(alloc, faces)?;
     let begin = group_sides(alloc, border, &tails, copies)?;
     let end = group_sides(alloc, border, &heads, copies)?;
-    go_round(alloc, faces, &tails, &heads, &begin, &end, border[0])
+    let first = least_side(border);
+    go_round(alloc, faces, &tails, &heads, &begin, &end, first)
 }
 
 // The sides of the surface that are cut.
@@ -173,7 +190,8 @@ pub(crate) fn boundary_along(
     requires flags { length cut.now ≡ edge_count mesh.now }
     requires opens { OpensToDisc mesh.now cut.now }
     requires corners { sum_by length faces.now ≡ side_count mesh.now }
-    requires opened { (origins : List ℕ) × (copies ≡ length origins) × IsOpenedBy mesh.now (IsUncut mesh.now cut.now) origins faces.now }
+    requires opened { (origins : List ℕ) × (copies ≡ length origins)
+        × IsOpenedBy mesh.now (IsUncut mesh.now cut.now) origins faces.now }
     ensures { IfOk result (λ v. IsBoundary (over copies faces.now) v.items) }
 {
     let _surface = mesh.faces();

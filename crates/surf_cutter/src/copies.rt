@@ -119,10 +119,10 @@ fn copy_faces(
     ensures copied { IfOk result (λ rows. AreCopied mesh.now slit.now.labels numbers.now (face_count mesh.now) rows) }
     ensures corners { IfOk result (λ rows. sum_by length rows ≡ side_count mesh.now) }
 {
-    let _few = mesh.faces();
+    let count = mesh.faces();
     let mut rows = Rows::new(alloc);
     let mut row = Vec::new(alloc);
-    for f in 0..mesh.faces() {
+    for f in 0..count {
         list_copies(mesh.sides(FaceId::new(f)), slit, numbers, &mut row)?;
         rows.push(&row)?;
     }

@@ -1,10 +1,12 @@
 //! The tree of faces beside the shortest walks from vertex 0, each edge of length 1, and the signatures by it.
+ghost use Rattle.std.specs.Prelude.{◌<◌};
 ghost use Rattle.surf_cotree.specs.Tables.{IsMadeFor};
 
-use crate::loops::loops_at_first;
+use crate::loops::loops_at;
 use crate::meshes::{TORUS, surface};
+use std::alloc::Global;
 use std::test::Fail;
-use surf_base::{EdgeId, FaceId};
+use surf_base::{EdgeId, FaceId, NoMemory, VertexId};
 use surf_cotree::CotreeDesk;
 use surf_mesh::HalfMesh;
 
@@ -56,6 +58,21 @@ fn first_is_in(mesh: &HalfMesh, cotree: &CotreeDesk, want: &[(u32, u32)]) -> boo
     same
 }
 
+// The edges in neither tree.
+const LEFT: [(u32, u32); 2] = [(1, 2), (3, 6)];
+
+// The edges with place 0 in their signatures.
+const ODD: [(u32, u32); 8] = [
+    (1, 2),
+    (2, 5),
+    (2, 7),
+    (3, 5),
+    (4, 8),
+    (5, 6),
+    (5, 8),
+    (7, 8),
+];
+
 // For each face the number of edges to face 0, and the edge to its parent.
 const ROWS: [(u32, Option<(u32, u32)>); 18] = [
     (0, None),
@@ -78,27 +95,37 @@ const ROWS: [(u32, Option<(u32, u32)>); 18] = [
     (5, Some((6, 8))),
 ];
 
+// What of the tree of faces isn't as wanted, or nothing.
+fn difference(alloc: Global, mesh: &HalfMesh, base: VertexId) -> Result<&'static str, NoMemory>
+    requires { base < mesh.now.vertices }
+{
+    let mut desk = loops_at(alloc, mesh, base)?;
+    if !left_are(mesh, desk.cotree(), &LEFT) {
+        return Ok("left");
+    }
+    if !rows_are(mesh, desk.cotree(), &ROWS) {
+        return Ok("rows");
+    }
+    if desk.cotree().left().len() > 1024 {
+        return Ok("many");
+    }
+    desk.sign(mesh);
+    if !first_is_in(mesh, desk.cotree(), &ODD) {
+        return Ok("signatures");
+    }
+    Ok("")
+}
+
 #[test]
 fn faces_of_a_torus(rt: HostRuntime) -> Result<(), Fail> {
     let alloc = rt.alloc();
     let mesh = surface(alloc, 9, &TORUS)?;
-    let mut desk = loops_at_first(alloc, &mesh)?;
-    assert!(rt; left_are(&mesh, desk.cotree(), &[(1, 2), (3, 6)]));
-    assert!(rt; rows_are(&mesh, desk.cotree(), &ROWS));
-    if desk.cotree().left().len() > 1024 {
-        return Err("many")?;
+    if mesh.vertices() == 0 {
+        return Err("no vertex")?;
     }
-    desk.sign(&mesh);
-    let odd = [
-        (1, 2),
-        (2, 5),
-        (2, 7),
-        (3, 5),
-        (4, 8),
-        (5, 6),
-        (5, 8),
-        (7, 8),
-    ];
-    assert!(rt; first_is_in(&mesh, desk.cotree(), &odd));
+    let found = difference(alloc, &mesh, VertexId::new(0))
+        .ok()
+        .ok_or("room")?;
+    assert_eq!(rt; found, "");
     Ok(())
 }

@@ -1,26 +1,24 @@
 //! Loops at vertex 0, each edge of length 1.
-ghost use Rattle.std.specs.Prelude.{◌≡◌, length, replicate, IfOk};
+ghost use Rattle.std.specs.Prelude.{◌<◌, replicate, IfOk};
 ghost use Rattle.surf_complex.specs.Surface.{edge_count};
 ghost use Rattle.surf_loops.specs.Loops.{IsGreedy};
 
 use crate::meshes::{PROJECTIVE, TETRAHEDRON, TORUS, surface};
 use std::alloc::Global;
 use std::test::Fail;
-use surf_base::VertexId;
+use surf_base::{NoMemory, VertexId};
 use surf_lengths::unit_lengths;
 use surf_loops::LoopDesk;
 use surf_mesh::HalfMesh;
 
-/// A desk with the loops at vertex 0.
-pub(crate) fn loops_at_first(alloc: Global, mesh: &HalfMesh) -> Result<LoopDesk, Fail>
-    ensures { IfOk result (λ desk. IsGreedy mesh.now (replicate (edge_count mesh.now) 1) 0 desk) }
+/// A desk with the loops at a vertex.
+pub(crate) fn loops_at(alloc: Global, mesh: &HalfMesh, base: VertexId) -> Result<LoopDesk, NoMemory>
+    requires { base < mesh.now.vertices }
+    ensures { IfOk result (λ desk. IsGreedy mesh.now (replicate (edge_count mesh.now) 1) base desk) }
 {
-    if mesh.vertices() == 0 {
-        return Err("no vertex")?;
-    }
-    let lengths = unit_lengths(alloc, mesh).ok().ok_or("room")?;
-    let mut desk = LoopDesk::make(alloc, mesh).ok().ok_or("room")?;
-    desk.greedy(mesh, &lengths, VertexId::new(0));
+    let lengths = unit_lengths(alloc, mesh)?;
+    let mut desk = LoopDesk::make(alloc, mesh)?;
+    desk.greedy(mesh, &lengths, base);
     Ok(desk)
 }
 
@@ -32,7 +30,10 @@ fn loops_are(
     want: &[(u32, u32, u64)],
 ) -> Result<bool, Fail> {
     let mesh = surface(alloc, vertices, faces)?;
-    let desk = loops_at_first(alloc, &mesh)?;
+    if mesh.vertices() == 0 {
+        return Err("no vertex")?;
+    }
+    let desk = loops_at(alloc, &mesh, VertexId::new(0)).ok().ok_or("room")?;
     let heads = desk.heads();
     let mut same = heads.len() == want.len();
     for (head, (u, v, length)) in heads.iter().zip(want) {

@@ -1,9 +1,9 @@
 //! Openings along what the tree of faces beside the shortest walks from vertex 0 leaves, each edge of length 1.
-ghost use Rattle.std.specs.Prelude.{◌≡◌, length};
+ghost use Rattle.std.specs.Prelude.{◌≡◌, ◌<◌, length};
 ghost use Rattle.surf_complex.specs.Surface.{edge_count};
 ghost use Rattle.surf_cutter.specs.Opened.{IsHeld};
 
-use crate::loops::loops_at_first;
+use crate::loops::loops_at;
 use crate::meshes::{PILLOW, PROJECTIVE, TETRAHEDRON, TORUS, surface};
 use std::alloc::Global;
 use std::test::Fail;
@@ -43,11 +43,22 @@ fn open_along(
     }
 }
 
+// The surface cut open at the loops at a vertex.
+fn open_at(alloc: Global, mesh: &HalfMesh, base: VertexId, cut: Cut) -> Result<Opened, NoMemory>
+    requires { base < mesh.now.vertices }
+{
+    let _surface = mesh.faces();
+    let desk = loops_at(alloc, mesh, base)?;
+    open_along(alloc, mesh, desk.cotree(), cut)
+}
+
 fn open(alloc: Global, vertices: u32, faces: &[(u32, u32, u32)], cut: Cut) -> Result<Opened, Fail> {
     let mesh = surface(alloc, vertices, faces)?;
-    let desk = loops_at_first(alloc, &mesh)?;
+    if mesh.vertices() == 0 {
+        return Err("no vertex")?;
+    }
     Ok(
-        open_along(alloc, &mesh, desk.cotree(), cut)
+        open_at(alloc, &mesh, VertexId::new(0), cut)
             .ok()
             .ok_or("room")?,
     )

@@ -1,4 +1,4 @@
-use Rattle.std.proofs.Common.{◌≡◌, ◌<◌, ℕ, List, length, refl, sym, subst, arith}
+use Rattle.std.proofs.Common.{length, refl, sym, subst}
 use Rattle.surf_complex.specs.Disc.{IsDisc}
 use Rattle.surf_cutter.specs.Boundary.{over, HasPairedBorder, AreBorderSides}
 use Rattle.surf_mesh.specs.Sides.{side_count}
@@ -9,12 +9,14 @@ use Rattle.surf_cutter.proofs.border.boundary_along.Goals as goal
 pub round_of-requires-clause-disc : goal.round_of-requires-clause-disc
 round_of-requires-clause-disc c =
     let o = c.requires.opened in
-    subst (λ n. IsDisc (over n c.args.faces.now)) (sym o.1) (opens_to_disc c.faces-surface.ensures.surface c.args.cut.now c.requires.opens o.2)
+    subst (λ n. IsDisc (over n c.args.faces.now)) (sym o.1)
+    (opens_to_disc c.faces-surface.ensures.surface c.args.cut.now c.requires.opens o.2)
 
 pub round_of-requires-clause-paired : goal.round_of-requires-clause-paired
 round_of-requires-clause-paired c =
     let o = c.requires.opened in
-    subst (λ n. HasPairedBorder (over n c.args.faces.now)) (sym o.1) (has_paired c.faces-surface.ensures.surface c.args.cut.now c.requires.opens o.2)
+    subst (λ n. HasPairedBorder (over n c.args.faces.now)) (sym o.1)
+    (has_paired c.faces-surface.ensures.surface c.args.cut.now c.requires.opens o.2)
 
 pub round_of-requires-clause-border : goal.round_of-requires-clause-border
 round_of-requires-clause-border c =
@@ -22,7 +24,8 @@ round_of-requires-clause-border c =
     let border = c.deref.result.now in
     subst (λ n. AreBorderSides (over n c.args.faces.now) border) (sym o.1)
     (subst (AreBorderSides (over (length o.0) c.args.faces.now)) (sym c.deref.ensures.value)
-    (are_border_sides c.faces-surface.ensures.surface c.args.cut.now c.requires.opens o.2 (side_count c.args.mesh.now) c.in_ok-border.border.items refl c.in_ok-border.ensures))
+    (are_border_sides c.faces-surface.ensures.surface c.args.cut.now c.requires.opens o.2
+    (side_count c.args.mesh.now) c.in_ok-border.border.items refl c.in_ok-border.ensures))
 
 pub round_of-requires-clause-some : goal.round_of-requires-clause-some
 round_of-requires-clause-some c =
@@ -32,4 +35,5 @@ round_of-requires-clause-some c =
     let disc = opens_to_disc c.faces-surface.ensures.surface c.args.cut.now c.requires.opens o.2 in
     border_some (over (length o.0) faces) border disc
     (subst (AreBorderSides (over (length o.0) faces)) (sym c.deref.ensures.value)
-    (are_border_sides c.faces-surface.ensures.surface c.args.cut.now c.requires.opens o.2 (side_count c.args.mesh.now) c.in_ok-border.border.items refl c.in_ok-border.ensures))
+    (are_border_sides c.faces-surface.ensures.surface c.args.cut.now c.requires.opens o.2
+    (side_count c.args.mesh.now) c.in_ok-border.border.items refl c.in_ok-border.ensures))

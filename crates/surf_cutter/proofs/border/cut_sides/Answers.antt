@@ -1,4 +1,4 @@
-use Rattle.std.proofs.Common.{◌≡◌, ◌+◌, ◌∷◌, ◌++◌, [], ℕ, List, true, false, get_or, ap, sym, ◌∙◌, subst, rules}
+use Rattle.std.proofs.Common.{◌≡◌, ◌+◌, ◌∷◌, ◌++◌, [], true, false, get_or, ap, sym, ◌∙◌, subst, rules}
 use Rattle.surf_mesh.specs.Half.{IsEdgeOf}
 use Rattle.surf_cutter.specs.Boundary.{AreCutSides}
 use Rattle.surf_cutter.proofs.BorderTables.{cut_more, cut_none}
@@ -15,11 +15,13 @@ loop-s-preserved c =
     let own : IsEdgeOf mesh s e = subst (λ t. IsEdgeOf mesh t e) c.new-side.ensures c.edge_of.ensures in
     elim c.if-cut-index.branch [
       | then-cut-index+in_ok-push w ↦
-          let is : get_or cut e false ≡ true = ap (λ k. get_or cut k false) (sym c.index.ensures) ∙ w.if-cut-index.true in
+          let is : get_or cut e false ≡ true = ap (λ k. get_or cut k false) (sym c.index.ensures)
+          ∙ w.if-cut-index.true in
           let items : c.if-cut-index.sides.items ≡ list ++ s ∷ [] = search rules in
           subst (AreCutSides mesh cut (s + 1)) (sym items) (cut_more mesh cut s e list c.loop-s.invariant own is)
       | else-cut-index w ↦
-          let is : get_or cut e false ≡ false = ap (λ k. get_or cut k false) (sym c.index.ensures) ∙ w.if-cut-index.false in
+          let is : get_or cut e false ≡ false = ap (λ k. get_or cut k false) (sym c.index.ensures)
+          ∙ w.if-cut-index.false in
           let items : c.if-cut-index.sides.items ≡ list = search rules in
           subst (AreCutSides mesh cut (s + 1)) (sym items) (cut_none mesh cut s e list c.loop-s.invariant own is)
     ]

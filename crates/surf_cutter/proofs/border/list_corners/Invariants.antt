@@ -9,5 +9,6 @@ invariant-loop-k l = record {
   tails_kept : (s : ℕ) → s < length l.fn.tails.items → get_or l.tails.items s 0 ≡ get_or l.fn.tails.items s 0;
   heads_kept : (s : ℕ) → s < length l.fn.heads.items → get_or l.heads.items s 0 ≡ get_or l.fn.heads.items s 0;
   tails : (j : ℕ) → j < l.k → get_or l.tails.items (length l.fn.tails.items + j) 0 ≡ get_or l.corners j 0;
-  heads : (j : ℕ) → j < l.k → get_or l.heads.items (length l.fn.heads.items + j) 0 ≡ get_or l.corners (after (length l.corners) j) 0;
+  heads : (j : ℕ) → j < l.k → get_or l.heads.items (length l.fn.heads.items + j) 0 ≡ get_or l.corners (after
+      (length l.corners) j) 0;
 }

@@ -14,7 +14,7 @@ pub list_copies-requires-clause-sides : goal.list_copies-requires-clause-sides
 list_copies-requires-clause-sides c k h =
     let mesh = c.args.mesh.now in
     let f = c.loop-f.f in
-    let lt : f < face_count mesh = omega (arith, c.loop-f-test.true, c.faces-f-end.ensures.count) in
+    let lt : f < face_count mesh = omega (arith, c.loop-f-test.true, c.faces-count.ensures.count) in
     let own : c.sides.result.now ≡ range_with_len (first_side mesh f) (length (face_at mesh f)) = c.sides.ensures ∙ ap (λ f. range_with_len (first_side mesh f) (length (face_at mesh f))) c.new.ensures in
     let b = side_of_range mesh f k c.sides.result.now lt own h in
     omega (arith, b, ap side_count c.requires.mesh)
@@ -23,11 +23,11 @@ pub push-requires : goal.push-requires
 push-requires c =
     let mesh = c.args.mesh.now in
     let f = c.loop-f.f in
-    let lt : f < face_count mesh = omega (arith, c.loop-f-test.true, c.faces-f-end.ensures.count) in
+    let lt : f < face_count mesh = omega (arith, c.loop-f-test.true, c.faces-count.ensures.count) in
     let own : c.sides.result.now ≡ range_with_len (first_side mesh f) (length (face_at mesh f)) = c.sides.ensures ∙ ap (λ f. range_with_len (first_side mesh f) (length (face_at mesh f))) c.new.ensures in
     let n = length-range_with_len (first_side mesh f) (length (face_at mesh f)) in
     let sp = spans mesh.faces f lt in
-    omega (arith, c.loop-f.invariant.sum, ap length c.deref.ensures.value, c.in_ok-list_copies.ensures.size, ap length own, n, sp.0, sp.1, c.faces-few.ensures.few)
+    omega (arith, c.loop-f.invariant.sum, ap length c.deref.ensures.value, c.in_ok-list_copies.ensures.size, ap length own, n, sp.0, sp.1, c.faces-count.ensures.few)
 
 pub loop-f-preserved : goal.loop-f-preserved
 loop-f-preserved c =
@@ -36,7 +36,7 @@ loop-f-preserved c =
     let i = c.loop-f.invariant in
     let labels = c.args.slit.now.labels in
     let numbers = c.args.numbers.now in
-    let lt : f < face_count mesh = omega (arith, c.loop-f-test.true, c.faces-f-end.ensures.count) in
+    let lt : f < face_count mesh = omega (arith, c.loop-f-test.true, c.faces-count.ensures.count) in
     let own : c.sides.result.now ≡ range_with_len (first_side mesh f) (length (face_at mesh f)) = c.sides.ensures ∙ ap (λ f. range_with_len (first_side mesh f) (length (face_at mesh f))) c.new.ensures in
     let row = c.list_copies.new.row.items in
     let new : c.push.new.self ≡ c.loop-f.rows ++ row ∷ [] = c.in_ok-push.ensures.ok ∙ ap (λ (xs : List ℕ). c.loop-f.rows ++ xs ∷ []) c.deref.ensures.value in

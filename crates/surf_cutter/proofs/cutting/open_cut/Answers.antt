@@ -1,4 +1,4 @@
-use Rattle.std.proofs.Common.{◌≡◌, ◌+◌, length, sym, subst, arith}
+use Rattle.std.proofs.Common.{◌≡◌, sym, subst, arith}
 use Rattle.std.proofs.lemmas.Result.{IfOk-weaker}
 use Rattle.surf_mesh.proofs.SideTables.{three_each}
 use Rattle.surf_cutter.specs.Opened.{OpenMesh, IsOpenedInOrder}

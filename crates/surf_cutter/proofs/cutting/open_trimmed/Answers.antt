@@ -1,4 +1,4 @@
-use Rattle.std.proofs.Common.{◌≡◌, true, sym, subst}
+use Rattle.std.proofs.Common.{true, sym, subst}
 use Rattle.std.proofs.lemmas.Result.{IfOk-weaker}
 use Rattle.surf_complex.specs.Disc.{IsOpening}
 use Rattle.surf_cutter.specs.Opened.{OpenMesh, IsOpenedInOrder, IsChosenFor, AreTurnedOver}
