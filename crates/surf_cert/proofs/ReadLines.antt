@@ -1,25 +1,15 @@
 -- What was read of a line fits the lines of a text.
-use Rattle.std.proofs.Common.{◌≡◌, ◌<◌, ◌≤◌, ◌+◌, ◌^◌, ℕ, zero, suc, Bool, true, false, List, [], ◌∷◌, length, get_or, Option, Some, None, Result, Ok, Err, refl, sym, ◌∙◌, ap, subst, codes, inl, inr, arith}
-use Rattle.std.specs.Prelude.{nat_le, nat_lt, ◌&&◌, ◌==◌, map, IfOk, IfSome}
+use Rattle.std.proofs.Common.{◌≡◌, ◌<◌, ◌^◌, ℕ, suc, Bool, true, false, List, [], ◌∷◌, length, Option, Some, None, refl, ap, codes, inl, inr, arith}
+use Rattle.std.specs.Prelude.{nat_le, nat_lt, ◌&&◌, ◌==◌, IfSome}
 use Rattle.std.specs.Str.{bytes_eq}
 use Rattle.std.specs.Char.{is_ascii_digit}
-use Rattle.std.specs.List.{All, AllPairs, zip, list_all}
+use Rattle.std.specs.List.{All, list_all}
 use Rattle.std.proofs.lemmas.Bool.{cases_Bool, leb-true, ltb-true, eqb-true}
-use Rattle.std.proofs.lemmas.List.{length-map}
 use Rattle.std.proofs.lemmas.List.Elements.{All-nil, All-cons}
-use Rattle.std.proofs.lemmas.List.Kept.{AllPairs-cons}
-use Rattle.surf_complex.specs.Mesh.{pair_lt}
-use Rattle.surf_complex.proofs.PairLaws.{pair_lt-trans}
-use Rattle.surf_text.specs.Text.{TextLine, is_nonempty, tokens_of, value_of, whole, lines_of}
-use Rattle.surf_cert.specs.declared.cert.Cert.{Cert}
-use Rattle.surf_cert.specs.declared.fault.CertText.{CertText}
+use Rattle.surf_text.specs.Text.{is_nonempty, value_of, whole}
 use Rattle.surf_cert.specs.declared.line.Counts.{Counts}
-use Rattle.surf_cert.specs.Rows.{TreeRows, DualRows, LoopCert, BasisCert}
-use Rattle.surf_cert.specs.Lines.{greatest, at_most_greatest, number_of, is_header, three_counts, counts_of, if_same, base_of, base_at, some_parent, parent_of, with_parent, tree_row, below_root, dual_row, increasing, pair_of, is_next, if_next, pair_behind, onto_numbers, numbers_of, cycle_of, the_word}
-use Rattle.surf_cert.specs.Fits.{IsNumber, IsParent, IsPair, IsFaceRow, TreeFits, DualFits, LeftFits, CycleFits, LoopFits, BasisFits, CertFits}
-use Rattle.surf_cert.specs.Gives.{Gives}
-use Rattle.surf_cert.specs.Grammar.{◌>>=◌, formed, and_lines, next_of, onto_rows, rows_of, pairs_of, tree_of, based_tree, trees_of, dual_rows_of, dual_of, left_of, cycles_of, ended, loops_in, basis_in, as_loops, as_basis, cert_in, cert_of}
-use Rattle.surf_cert.proofs.Reread.{Follow}
+use Rattle.surf_cert.specs.Lines.{greatest, at_most_greatest, number_of, three_counts, counts_of, if_same, base_of, base_at, some_parent, parent_of, with_parent, tree_row, below_root, dual_row, increasing, pair_of, is_next, if_next, pair_behind, onto_numbers, numbers_of, cycle_of}
+use Rattle.surf_cert.specs.Fits.{IsNumber, IsParent, IsPair, IsFaceRow, CycleFits}
 
 -- numbers
 

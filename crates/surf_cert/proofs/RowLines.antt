@@ -1,11 +1,11 @@
 -- Lines of one form, one after the other.
-use Rattle.std.proofs.Common.{◌≡◌, ◌<◌, ◌≤◌, ◌+◌, ◌-◌, ℕ, zero, suc, List, [], ◌∷◌, ◌++◌, Option, Some, None, Result, Ok, Err, refl, sym, ◌∙◌, ap, append_assoc, append-nil, arith}
+use Rattle.std.proofs.Common.{◌≡◌, ◌<◌, ◌≤◌, ◌+◌, ◌-◌, ℕ, suc, List, [], ◌∷◌, ◌++◌, Option, Some, Result, Ok, Err, refl, sym, ◌∙◌, ap, append_assoc, append-nil, arith}
 use Rattle.std.specs.Prelude.{map}
 use Rattle.std.specs.List.{fold}
 use Rattle.surf_text.specs.Text.{TextLine}
 use Rattle.surf_cert.specs.declared.fault.CertText.{CertText}
 use Rattle.surf_cert.specs.Rows.{TreeRows, DualRows}
-use Rattle.surf_cert.specs.Lines.{tree_row, dual_row, pair_behind, cycle_of, base_at}
+use Rattle.surf_cert.specs.Lines.{tree_row, dual_row, pair_behind, base_at}
 use Rattle.surf_cert.specs.Grammar.{◌>>=◌, next_of, onto_rows, rows_of, pairs_of, tree_of, dual_rows_of, based_tree, trees_of}
 
 -- what was made of the rows so far, and of those that are still read

@@ -1,15 +1,13 @@
 -- Lines of words with a space between any two, and their tokens.
-use Rattle.std.proofs.Common.{◌≡◌, ◌<◌, ◌≤◌, ◌+◌, ◌^◌, ℕ, Bool, true, false, List, [], ◌∷◌, ◌++◌, Option, Some, None, Result, Ok, refl, sym, ◌∙◌, ap, subst, append_assoc}
-use Rattle.std.specs.List.{list_any, slice_split}
-use Rattle.surf_text.specs.Text.{TextLine, is_blank, is_line_end, is_comment_sign, uncommented, words_of, tokens_of, trimmed, onto_lines, lines_of}
+use Rattle.std.proofs.Common.{◌≡◌, ◌+◌, ℕ, true, false, List, [], ◌∷◌, ◌++◌, Option, Some, Ok, refl, ◌∙◌, ap, subst}
+use Rattle.std.specs.List.{list_any}
+use Rattle.surf_text.specs.Text.{TextLine, is_line_end, is_comment_sign, uncommented, words_of, tokens_of, trimmed, onto_lines, lines_of}
 use Rattle.surf_text.proofs.Words.{words_trimmed}
-use Rattle.surf_off.specs.Clean.{IsClean}
 use Rattle.surf_off.proofs.CleanLines.{AllClean, clean_lines}
 use Rattle.surf_off.proofs.Decimals.{IsWord}
 use Rattle.surf_off.proofs.NumberLines.{opens, uncommented_is, words_word, none_append}
 use Rattle.surf_off.proofs.Reread.{lines_from, first_line}
-use Rattle.surf_cert.specs.declared.fault.CertText.{CertText}
-use Rattle.surf_cert.specs.Grammar.{and_lines, formed, next_of}
+use Rattle.surf_cert.specs.Grammar.{next_of}
 
 -- words, each behind a space
 abbrev pub spaced : List (List ℕ) → List ℕ
