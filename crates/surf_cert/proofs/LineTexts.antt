@@ -44,7 +44,8 @@ abbrev pub Reads : {A : Type 0} → (List (List ℕ) → Option A) → List ℕ 
 Reads form line x = (n : ℕ) (rest : List ℕ) → next_of form (lines_from n (line ++ rest)) ≡ Ok (x, lines_from (n + 1) rest)
 
 -- the same where the line is words
-reads_words : {A : Type 0} (form : List (List ℕ) → Option A) (line w : List ℕ) (ws : List (List ℕ)) (x : A) → IsWord w → AllWords ws → form (w ∷ ws) ≡ Some x → line ≡ line_of w ws ++ 10 ∷ [] → Reads form line x
+reads_words : {A : Type 0} (form : List (List ℕ) → Option A) (line w : List ℕ) (ws : List (List ℕ)) (x : A) → IsWord w
+    → AllWords ws → form (w ∷ ws) ≡ Some x → line ≡ line_of w ws ++ 10 ∷ [] → Reads form line x
 reads_words form line w ws x first words good is n rest =
     let text : line ++ rest ≡ line_of w ws ++ 10 ∷ rest = ap (λ (l : List ℕ). l ++ rest) is ∙ append_assoc (line_of w ws) (10 ∷ []) rest in
     ap (λ (t : List ℕ). next_of form (lines_from n t)) text ∙ line_again w ws first words form x good n rest
@@ -100,7 +101,8 @@ face_again (d, Some (u, v)) fits =
     reads_words dual_row (face_line (d, Some (u, v))) (decimal d) (decimal u ∷ decimal v ∷ []) (d, Some (u, v)) (word d fits.1) (word u number_u, (word v fits.2.number, tt))
     (rw (number_again d fits.1, number_again u number_u, number_again v fits.2.number, low, ordered) refl) (simp (append_assoc, append-nil))
 
-pub pair_again : (before : Option (ℕ × ℕ)) (p : ℕ × ℕ) → IsPair p → is_next before p ≡ true → Reads (pair_behind before) (pair_line p) p
+pub pair_again : (before : Option (ℕ × ℕ)) (p : ℕ × ℕ) → IsPair p → is_next before p ≡ true
+    → Reads (pair_behind before) (pair_line p) p
 unfolding AllWords
 pair_again before (u, v) fits next =
     let number_u : IsNumber u = omega (arith, fits.ordered, fits.number) in

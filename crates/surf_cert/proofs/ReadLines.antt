@@ -47,13 +47,15 @@ row_fits [] = tt
 row_fits (d ∷ []) = tt
 row_fits (d ∷ p ∷ []) = at (whole d) (parent_of p) (whole_fits d) (parent_fits p)
   where
-    at : (d : Option ℕ) (p : Option (Option ℕ)) → IfSome d (λ n. n < 2 ^ 64) → IfSome p IsParent → IfSome (with_parent d p) IsRow
+    at : (d : Option ℕ) (p : Option (Option ℕ)) → IfSome d (λ n. n < 2 ^ 64) → IfSome p IsParent
+        → IfSome (with_parent d p) IsRow
     at None p small fits = tt
     at (Some d) None small fits = tt
     at (Some d) (Some p) small fits = (small, fits)
 row_fits (d ∷ p ∷ t ∷ ts) = tt
 
-side_fits : (d u v : Option ℕ) → IfSome d IsNumber → IfSome u IsNumber → IfSome v IsNumber → IfSome (below_root d u v) IsFaceRow
+side_fits : (d u v : Option ℕ) → IfSome d IsNumber → IfSome u IsNumber → IfSome v IsNumber
+    → IfSome (below_root d u v) IsFaceRow
 side_fits None u v fd fu fv = tt
 side_fits (Some d) None v fd fu fv = tt
 side_fits (Some d) (Some u) None fd fu fv = tt
@@ -83,7 +85,8 @@ pair_fits (u ∷ v ∷ []) = at (number_of u) (number_of v) (number_fits v)
     at (Some u) (Some v) fits = elim (cases_Bool (nat_lt u v)) [ inl ordered ↦ rw ordered (record { ordered = ltb-true u v ordered; number = fits }) | inr other ↦ rw other tt ]
 pair_fits (u ∷ v ∷ t ∷ ts) = tt
 
-pub behind_fits : (before : Option (ℕ × ℕ)) (tokens : List (List ℕ)) → IfSome (pair_behind before tokens) (λ p. IsPair p × (is_next before p ≡ true))
+pub behind_fits : (before : Option (ℕ × ℕ)) (tokens : List (List ℕ))
+    → IfSome (pair_behind before tokens) (λ p. IsPair p × (is_next before p ≡ true))
 behind_fits before tokens = at (pair_of tokens) (pair_fits tokens)
   where
     at : (p : Option (ℕ × ℕ)) → IfSome p IsPair → IfSome (if_next before p) (λ p. IsPair p × (is_next before p ≡ true))
@@ -95,7 +98,9 @@ unfolding numbers_of
 all_fit [] = (refl, All-nil IsNumber)
 all_fit (token ∷ tokens) = at (number_of token) (numbers_of tokens) (number_fits token) (all_fit tokens)
   where
-    at : (n : Option ℕ) (ns : Option (List ℕ)) → IfSome n IsNumber → IfSome ns (λ ns. (length ns ≡ length tokens) × All IsNumber ns) → IfSome (onto_numbers n ns) (λ ns. (length ns ≡ suc (length tokens)) × All IsNumber ns)
+    at : (n : Option ℕ) (ns : Option (List ℕ)) → IfSome n IsNumber
+        → IfSome ns (λ ns. (length ns ≡ length tokens) × All IsNumber ns)
+        → IfSome (onto_numbers n ns) (λ ns. (length ns ≡ suc (length tokens)) × All IsNumber ns)
     at None ns fits all = tt
     at (Some n) None fits all = tt
     at (Some n) (Some ns) fits all = (ap suc all.0, All-cons IsNumber n ns fits all.1)
@@ -104,7 +109,8 @@ pub cycle_fits : (tokens : List (List ℕ)) → IfSome (cycle_of tokens) CycleFi
 cycle_fits [] = tt
 cycle_fits (token ∷ tokens) = at (numbers_of (token ∷ tokens)) (all_fit (token ∷ tokens))
   where
-    at : (ns : Option (List ℕ)) → IfSome ns (λ ns. (length ns ≡ suc (length tokens)) × All IsNumber ns) → IfSome ns CycleFits
+    at : (ns : Option (List ℕ)) → IfSome ns (λ ns. (length ns ≡ suc (length tokens)) × All IsNumber ns)
+        → IfSome ns CycleFits
     at None all = tt
     at (Some ns) all = record { some = omega (arith, all.0); numbers = all.1 }
 
@@ -136,7 +142,8 @@ counts_fit (w ∷ v ∷ f ∷ k ∷ []) = elim (cases_Bool (bytes_eq w (codes "c
   | inr other ↦ rw other tt
 ]
   where
-    at : (v f k : Option ℕ) → IfSome v IsNumber → IfSome f IsNumber → IfSome k IsNumber → IfSome (three_counts v f k) AreCounts
+    at : (v f k : Option ℕ) → IfSome v IsNumber → IfSome f IsNumber → IfSome k IsNumber
+        → IfSome (three_counts v f k) AreCounts
     at None f k a b c = tt
     at (Some v) None k a b c = tt
     at (Some v) (Some f) None a b c = tt

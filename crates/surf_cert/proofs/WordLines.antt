@@ -42,7 +42,8 @@ words_spaced [] words = refl
 words_spaced (w ∷ ws) words = words_word w (spaced ws) words.0.some words.0.dark (opens_spaced ws) ∙ ap (λ (vs : List (List ℕ)). w ∷ vs) (words_spaced ws words.1)
 
 -- what is kept of a line has the line's tokens
-kept_tokens : (l w : List ℕ) (ws : List (List ℕ)) → list_any is_line_end l ≡ false → tokens_of l ≡ w ∷ ws → tokens_of (trimmed (uncommented l)) ≡ w ∷ ws
+kept_tokens : (l w : List ℕ) (ws : List (List ℕ)) → list_any is_line_end l ≡ false → tokens_of l ≡ w ∷ ws
+    → tokens_of (trimmed (uncommented l)) ≡ w ∷ ws
 kept_tokens l w ws one is =
     let kept : TextLine = record { number = 1; bytes = trimmed (uncommented l) } in
     let lines : lines_of (l ++ 10 ∷ []) ≡ kept ∷ lines_from 2 [] = first_line 1 l [] one ∙ ap (λ (tokens : List (List ℕ)). onto_lines kept tokens (lines_from 2 [])) is in
@@ -67,12 +68,15 @@ module _ (w : List ℕ) (ws : List (List ℕ)) (first : IsWord w) (words : AllWo
   kept_is = kept_tokens (line_of w ws) w ws one line_tokens
 
   -- the line in front of a text
-  pub line_first : (n : ℕ) (rest : List ℕ) → lines_from n (line_of w ws ++ 10 ∷ rest) ≡ record { number = n; bytes = trimmed (uncommented (line_of w ws)) } ∷ lines_from (n + 1) rest
+  pub line_first : (n : ℕ) (rest : List ℕ)
+      → lines_from n (line_of w ws ++ 10 ∷ rest) ≡ record { number = n; bytes = trimmed (uncommented (line_of w ws)) } ∷ lines_from (n + 1) rest
   line_first n rest =
       first_line n (line_of w ws) rest one
       ∙ ap (λ (tokens : List (List ℕ)). onto_lines (record { number = n; bytes = trimmed (uncommented (line_of w ws)) }) tokens (lines_from (n + 1) rest)) line_tokens
 
   -- the line read by a form
-  pub line_again : {A : Type 0} (form : List (List ℕ) → Option A) (x : A) → form (w ∷ ws) ≡ Some x → (n : ℕ) (rest : List ℕ) → next_of form (lines_from n (line_of w ws ++ 10 ∷ rest)) ≡ Ok (x, lines_from (n + 1) rest)
+  pub line_again : {A : Type 0} (form : List (List ℕ) → Option A) (x : A) → form (w ∷ ws) ≡ Some x
+      → (n : ℕ) (rest : List ℕ)
+      → next_of form (lines_from n (line_of w ws ++ 10 ∷ rest)) ≡ Ok (x, lines_from (n + 1) rest)
   unfolding next_of
   line_again form x good n rest = rw (line_first n rest, kept_is, good) refl

@@ -2,7 +2,7 @@ use Rattle.std.proofs.Common.{◌≡◌, ℕ, List, ◌++◌, refl, ◌∙◌, s
 use Rattle.std.proofs.lemmas.Result.{err_from_is_err_and}
 use Rattle.surf_text.specs.Pages.{Puts}
 use Rattle.std.proofs.lemmas.List.{take_rest}
-use Rattle.surf_cert.proofs.CycleLines.{cycle_first}
+use Rattle.surf_cert.proofs.WrittenRows.{cycle_first}
 use Rattle.surf_text.proofs.Writing.{puts_more, puts_stop}
 use Rattle.surf_cert.specs.Written.{cycle_line, numbers_text}
 use Rattle.surf_cert.proofs.write.write_cycle.Goals as goal
