@@ -1,6 +1,6 @@
 pub mod Numbers
 pub mod RowLines
-pub mod CycleLines
+pub mod WrittenRows
 pub mod WordLines
 pub mod LineTexts
 pub mod Reread

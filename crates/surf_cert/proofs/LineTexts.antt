@@ -1,21 +1,18 @@
 -- Each line that is written is read as what it was written of.
-use Rattle.std.proofs.Common.{◌≡◌, ◌≢◌, ◌<◌, ◌≤◌, ◌+◌, ◌^◌, ℕ, suc, Bool, true, false, List, [], ◌∷◌, ◌++◌, length, Option, Some, None, Result, Ok, refl, sym, ◌∙◌, ap, subst, append_assoc, append-nil, codes, inl, inr, arith}
-use Rattle.std.specs.Prelude.{decimal, map, nat_le, nat_lt, flat_map, ◌==◌, ◌&&◌}
+use Rattle.std.proofs.Common.{◌≡◌, ◌<◌, ◌+◌, ◌^◌, ℕ, suc, true, false, List, [], ◌∷◌, ◌++◌, Option, Some, None, Ok, refl, sym, ◌∙◌, ap, append_assoc, append-nil, codes, inl, inr, arith}
+use Rattle.std.specs.Prelude.{decimal, map, nat_le, nat_lt, ◌==◌}
 use Rattle.std.specs.Str.{bytes_eq}
 use Rattle.std.specs.List.{All}
 use Rattle.std.proofs.lemmas.Bool.{cases_Bool, le-leb, lt-ltb, eq-eqb}
 use Rattle.std.proofs.lemmas.Fmt.{decimal_digit}
 use Rattle.std.proofs.lemmas.Slice.Eq.{bytes_eq-Decides}
-use Rattle.surf_complex.specs.Mesh.{pair_lt}
-use Rattle.surf_text.specs.Text.{TextLine, whole}
+use Rattle.surf_text.specs.Text.{whole}
 use Rattle.surf_off.proofs.Decimals.{IsWord, word_decimal, whole_decimal}
 use Rattle.surf_off.proofs.Reread.{lines_from}
-use Rattle.surf_cert.specs.declared.fault.CertText.{CertText}
-use Rattle.surf_cert.specs.declared.line.Counts.{Counts}
-use Rattle.surf_cert.specs.Lines.{greatest, number_of, the_word, counts_of, base_of, base_at, parent_of, tree_row, dual_row, pair_of, is_next, pair_behind, onto_numbers, numbers_of, cycle_of}
+use Rattle.surf_cert.specs.Lines.{greatest, number_of, the_word, base_of, base_at, parent_of, tree_row, dual_row, is_next, pair_behind, numbers_of, cycle_of}
 use Rattle.surf_cert.specs.Fits.{IsNumber, IsParent, IsPair, IsFaceRow, CycleFits}
 use Rattle.surf_cert.specs.Grammar.{next_of}
-use Rattle.surf_cert.specs.Written.{base_line, parent_text, vertex_line, side_text, face_line, pair_line, numbers_text, cycle_line}
+use Rattle.surf_cert.specs.Written.{base_line, parent_text, vertex_line, face_line, pair_line, numbers_text, cycle_line}
 use Rattle.surf_cert.proofs.WordLines.{spaced, line_of, AllWords, line_again}
 
 small : (n : ℕ) → IsNumber n → n < 2 ^ 64
@@ -47,7 +44,8 @@ abbrev pub Reads : {A : Type 0} → (List (List ℕ) → Option A) → List ℕ 
 Reads form line x = (n : ℕ) (rest : List ℕ) → next_of form (lines_from n (line ++ rest)) ≡ Ok (x, lines_from (n + 1) rest)
 
 -- the same where the line is words
-reads_words : {A : Type 0} (form : List (List ℕ) → Option A) (line w : List ℕ) (ws : List (List ℕ)) (x : A) → IsWord w → AllWords ws → form (w ∷ ws) ≡ Some x → line ≡ line_of w ws ++ 10 ∷ [] → Reads form line x
+reads_words : {A : Type 0} (form : List (List ℕ) → Option A) (line w : List ℕ) (ws : List (List ℕ)) (x : A) → IsWord w
+    → AllWords ws → form (w ∷ ws) ≡ Some x → line ≡ line_of w ws ++ 10 ∷ [] → Reads form line x
 reads_words form line w ws x first words good is n rest =
     let text : line ++ rest ≡ line_of w ws ++ 10 ∷ rest = ap (λ (l : List ℕ). l ++ rest) is ∙ append_assoc (line_of w ws) (10 ∷ []) rest in
     ap (λ (t : List ℕ). next_of form (lines_from n t)) text ∙ line_again w ws first words form x good n rest
@@ -103,7 +101,8 @@ face_again (d, Some (u, v)) fits =
     reads_words dual_row (face_line (d, Some (u, v))) (decimal d) (decimal u ∷ decimal v ∷ []) (d, Some (u, v)) (word d fits.1) (word u number_u, (word v fits.2.number, tt))
     (rw (number_again d fits.1, number_again u number_u, number_again v fits.2.number, low, ordered) refl) (simp (append_assoc, append-nil))
 
-pub pair_again : (before : Option (ℕ × ℕ)) (p : ℕ × ℕ) → IsPair p → is_next before p ≡ true → Reads (pair_behind before) (pair_line p) p
+pub pair_again : (before : Option (ℕ × ℕ)) (p : ℕ × ℕ) → IsPair p → is_next before p ≡ true
+    → Reads (pair_behind before) (pair_line p) p
 unfolding AllWords
 pair_again before (u, v) fits next =
     let number_u : IsNumber u = omega (arith, fits.ordered, fits.number) in

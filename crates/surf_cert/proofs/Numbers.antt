@@ -9,18 +9,21 @@ abbrev pub with_numbers : List ℕ → Option (List ℕ) → Option (List ℕ)
 with_numbers front None = None
 with_numbers front (Some ns) = Some (front ++ ns)
 
-regroup : (front : List ℕ) (n : ℕ) (read : Option (List ℕ)) → with_numbers front (onto_numbers (Some n) read) ≡ with_numbers (front ++ n ∷ []) read
+regroup : (front : List ℕ) (n : ℕ) (read : Option (List ℕ))
+    → with_numbers front (onto_numbers (Some n) read) ≡ with_numbers (front ++ n ∷ []) read
 regroup front n None = refl
 regroup front n (Some ns) = ap (λ (xs : List ℕ). Some xs) (sym (append_assoc front (n ∷ []) ns))
 
 module _ (front : List ℕ) (tokens : List (List ℕ)) (total : Option (List ℕ)) (so_far : with_numbers front (numbers_of tokens) ≡ total) where
-  pub number_more : (token : List ℕ) (rest : List (List ℕ)) (n : ℕ) → tokens ≡ token ∷ rest → number_of token ≡ Some n → with_numbers (front ++ n ∷ []) (numbers_of rest) ≡ total
+  pub number_more : (token : List ℕ) (rest : List (List ℕ)) (n : ℕ) → tokens ≡ token ∷ rest → number_of token ≡ Some n
+      → with_numbers (front ++ n ∷ []) (numbers_of rest) ≡ total
   unfolding numbers_of
   number_more token rest n is good =
       let one : with_numbers front (numbers_of tokens) ≡ with_numbers (front ++ n ∷ []) (numbers_of rest) = rw (is, good) (regroup front n (numbers_of rest)) in
       sym one ∙ so_far
 
-  pub number_bad : (token : List ℕ) (rest : List (List ℕ)) → tokens ≡ token ∷ rest → number_of token ≡ None → total ≡ None
+  pub number_bad : (token : List ℕ) (rest : List (List ℕ)) → tokens ≡ token ∷ rest → number_of token ≡ None
+      → total ≡ None
   unfolding numbers_of
   number_bad token rest is bad =
       let one : with_numbers front (numbers_of tokens) ≡ None = rw (is, bad) refl in
@@ -37,7 +40,8 @@ size None = 0
 size (Some ns) = length ns
 
 -- where no token is there, no number is
-pub cycle_none : (tokens : List (List ℕ)) (ns : List ℕ) → numbers_of tokens ≡ Some ns → length ns ≡ 0 → cycle_of tokens ≡ None
+pub cycle_none : (tokens : List (List ℕ)) (ns : List ℕ) → numbers_of tokens ≡ Some ns → length ns ≡ 0
+    → cycle_of tokens ≡ None
 unfolding numbers_of size
 cycle_none [] ns is none = refl
 cycle_none (token ∷ tokens) ns is none = at (number_of token) (numbers_of tokens) is
@@ -48,7 +52,8 @@ cycle_none (token ∷ tokens) ns is none = at (number_of token) (numbers_of toke
     at (Some n) (Some ms) e = absurd (let long : suc (length ms) ≡ length ns = ap size e in omega (arith, long, none))
 
 -- where a number is, a token is
-pub cycle_some : (tokens : List (List ℕ)) (ns : List ℕ) → numbers_of tokens ≡ Some ns → length ns ≢ 0 → cycle_of tokens ≡ Some ns
+pub cycle_some : (tokens : List (List ℕ)) (ns : List ℕ) → numbers_of tokens ≡ Some ns → length ns ≢ 0
+    → cycle_of tokens ≡ Some ns
 unfolding numbers_of size
 cycle_some [] ns is some = absurd (let none : 0 ≡ length ns = ap size is in some (sym none))
 cycle_some (token ∷ tokens) ns is some = is

@@ -1,25 +1,15 @@
 -- What was read of a line fits the lines of a text.
-use Rattle.std.proofs.Common.{◌≡◌, ◌<◌, ◌≤◌, ◌+◌, ◌^◌, ℕ, zero, suc, Bool, true, false, List, [], ◌∷◌, length, get_or, Option, Some, None, Result, Ok, Err, refl, sym, ◌∙◌, ap, subst, codes, inl, inr, arith}
-use Rattle.std.specs.Prelude.{nat_le, nat_lt, ◌&&◌, ◌==◌, map, IfOk, IfSome}
+use Rattle.std.proofs.Common.{◌≡◌, ◌<◌, ◌^◌, ℕ, suc, Bool, true, false, List, [], ◌∷◌, length, Option, Some, None, refl, ap, codes, inl, inr, arith}
+use Rattle.std.specs.Prelude.{nat_le, nat_lt, ◌&&◌, ◌==◌, IfSome}
 use Rattle.std.specs.Str.{bytes_eq}
 use Rattle.std.specs.Char.{is_ascii_digit}
-use Rattle.std.specs.List.{All, AllPairs, zip, list_all}
+use Rattle.std.specs.List.{All, list_all}
 use Rattle.std.proofs.lemmas.Bool.{cases_Bool, leb-true, ltb-true, eqb-true}
-use Rattle.std.proofs.lemmas.List.{length-map}
 use Rattle.std.proofs.lemmas.List.Elements.{All-nil, All-cons}
-use Rattle.std.proofs.lemmas.List.Kept.{AllPairs-cons}
-use Rattle.surf_complex.specs.Mesh.{pair_lt}
-use Rattle.surf_complex.proofs.PairLaws.{pair_lt-trans}
-use Rattle.surf_text.specs.Text.{TextLine, is_nonempty, tokens_of, value_of, whole, lines_of}
-use Rattle.surf_cert.specs.declared.cert.Cert.{Cert}
-use Rattle.surf_cert.specs.declared.fault.CertText.{CertText}
+use Rattle.surf_text.specs.Text.{is_nonempty, value_of, whole}
 use Rattle.surf_cert.specs.declared.line.Counts.{Counts}
-use Rattle.surf_valid.specs.Rows.{TreeRows, DualRows, LoopCert, BasisCert}
-use Rattle.surf_cert.specs.Lines.{greatest, at_most_greatest, number_of, is_header, three_counts, counts_of, if_same, base_of, base_at, some_parent, parent_of, with_parent, tree_row, below_root, dual_row, increasing, pair_of, is_next, if_next, pair_behind, onto_numbers, numbers_of, cycle_of, the_word}
-use Rattle.surf_cert.specs.Fits.{IsNumber, IsParent, IsPair, IsFaceRow, TreeFits, DualFits, LeftFits, CycleFits, LoopFits, BasisFits, CertFits}
-use Rattle.surf_cert.specs.Gives.{Gives}
-use Rattle.surf_cert.specs.Grammar.{◌>>=◌, formed, and_lines, next_of, onto_rows, rows_of, pairs_of, tree_of, based_tree, trees_of, dual_rows_of, dual_of, left_of, cycles_of, ended, loops_in, basis_in, as_loops, as_basis, cert_in, cert_of}
-use Rattle.surf_cert.proofs.Reread.{Follow}
+use Rattle.surf_cert.specs.Lines.{greatest, at_most_greatest, number_of, three_counts, counts_of, if_same, base_of, base_at, some_parent, parent_of, with_parent, tree_row, below_root, dual_row, increasing, pair_of, is_next, if_next, pair_behind, onto_numbers, numbers_of, cycle_of}
+use Rattle.surf_cert.specs.Fits.{IsNumber, IsParent, IsPair, IsFaceRow, CycleFits}
 
 -- numbers
 
@@ -57,13 +47,15 @@ row_fits [] = tt
 row_fits (d ∷ []) = tt
 row_fits (d ∷ p ∷ []) = at (whole d) (parent_of p) (whole_fits d) (parent_fits p)
   where
-    at : (d : Option ℕ) (p : Option (Option ℕ)) → IfSome d (λ n. n < 2 ^ 64) → IfSome p IsParent → IfSome (with_parent d p) IsRow
+    at : (d : Option ℕ) (p : Option (Option ℕ)) → IfSome d (λ n. n < 2 ^ 64) → IfSome p IsParent
+        → IfSome (with_parent d p) IsRow
     at None p small fits = tt
     at (Some d) None small fits = tt
     at (Some d) (Some p) small fits = (small, fits)
 row_fits (d ∷ p ∷ t ∷ ts) = tt
 
-side_fits : (d u v : Option ℕ) → IfSome d IsNumber → IfSome u IsNumber → IfSome v IsNumber → IfSome (below_root d u v) IsFaceRow
+side_fits : (d u v : Option ℕ) → IfSome d IsNumber → IfSome u IsNumber → IfSome v IsNumber
+    → IfSome (below_root d u v) IsFaceRow
 side_fits None u v fd fu fv = tt
 side_fits (Some d) None v fd fu fv = tt
 side_fits (Some d) (Some u) None fd fu fv = tt
@@ -93,7 +85,8 @@ pair_fits (u ∷ v ∷ []) = at (number_of u) (number_of v) (number_fits v)
     at (Some u) (Some v) fits = elim (cases_Bool (nat_lt u v)) [ inl ordered ↦ rw ordered (record { ordered = ltb-true u v ordered; number = fits }) | inr other ↦ rw other tt ]
 pair_fits (u ∷ v ∷ t ∷ ts) = tt
 
-pub behind_fits : (before : Option (ℕ × ℕ)) (tokens : List (List ℕ)) → IfSome (pair_behind before tokens) (λ p. IsPair p × (is_next before p ≡ true))
+pub behind_fits : (before : Option (ℕ × ℕ)) (tokens : List (List ℕ))
+    → IfSome (pair_behind before tokens) (λ p. IsPair p × (is_next before p ≡ true))
 behind_fits before tokens = at (pair_of tokens) (pair_fits tokens)
   where
     at : (p : Option (ℕ × ℕ)) → IfSome p IsPair → IfSome (if_next before p) (λ p. IsPair p × (is_next before p ≡ true))
@@ -105,7 +98,9 @@ unfolding numbers_of
 all_fit [] = (refl, All-nil IsNumber)
 all_fit (token ∷ tokens) = at (number_of token) (numbers_of tokens) (number_fits token) (all_fit tokens)
   where
-    at : (n : Option ℕ) (ns : Option (List ℕ)) → IfSome n IsNumber → IfSome ns (λ ns. (length ns ≡ length tokens) × All IsNumber ns) → IfSome (onto_numbers n ns) (λ ns. (length ns ≡ suc (length tokens)) × All IsNumber ns)
+    at : (n : Option ℕ) (ns : Option (List ℕ)) → IfSome n IsNumber
+        → IfSome ns (λ ns. (length ns ≡ length tokens) × All IsNumber ns)
+        → IfSome (onto_numbers n ns) (λ ns. (length ns ≡ suc (length tokens)) × All IsNumber ns)
     at None ns fits all = tt
     at (Some n) None fits all = tt
     at (Some n) (Some ns) fits all = (ap suc all.0, All-cons IsNumber n ns fits all.1)
@@ -114,7 +109,8 @@ pub cycle_fits : (tokens : List (List ℕ)) → IfSome (cycle_of tokens) CycleFi
 cycle_fits [] = tt
 cycle_fits (token ∷ tokens) = at (numbers_of (token ∷ tokens)) (all_fit (token ∷ tokens))
   where
-    at : (ns : Option (List ℕ)) → IfSome ns (λ ns. (length ns ≡ suc (length tokens)) × All IsNumber ns) → IfSome ns CycleFits
+    at : (ns : Option (List ℕ)) → IfSome ns (λ ns. (length ns ≡ suc (length tokens)) × All IsNumber ns)
+        → IfSome ns CycleFits
     at None all = tt
     at (Some ns) all = record { some = omega (arith, all.0); numbers = all.1 }
 
@@ -146,7 +142,8 @@ counts_fit (w ∷ v ∷ f ∷ k ∷ []) = elim (cases_Bool (bytes_eq w (codes "c
   | inr other ↦ rw other tt
 ]
   where
-    at : (v f k : Option ℕ) → IfSome v IsNumber → IfSome f IsNumber → IfSome k IsNumber → IfSome (three_counts v f k) AreCounts
+    at : (v f k : Option ℕ) → IfSome v IsNumber → IfSome f IsNumber → IfSome k IsNumber
+        → IfSome (three_counts v f k) AreCounts
     at None f k a b c = tt
     at (Some v) None k a b c = tt
     at (Some v) (Some f) None a b c = tt

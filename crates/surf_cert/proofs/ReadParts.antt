@@ -1,21 +1,19 @@
 -- A certificate that was read fits the lines of a text.
-use Rattle.std.proofs.Common.{◌≡◌, ◌<◌, ◌≤◌, ◌+◌, ◌^◌, ℕ, zero, suc, Bool, true, false, List, [], ◌∷◌, length, get_or, Option, Some, None, Result, Ok, Err, refl, sym, ◌∙◌, ap, subst, codes, inl, inr, arith}
-use Rattle.std.specs.Prelude.{nat_le, nat_lt, ◌&&◌, ◌==◌, map, IfOk, IfSome}
-use Rattle.std.specs.Str.{bytes_eq}
-use Rattle.std.specs.Char.{is_ascii_digit}
-use Rattle.std.specs.List.{All, AllPairs, zip, list_all}
-use Rattle.std.proofs.lemmas.Bool.{cases_Bool, leb-true, ltb-true, eqb-true}
+use Rattle.std.proofs.Common.{◌≡◌, ◌<◌, ◌+◌, ◌^◌, ℕ, zero, suc, true, List, [], ◌∷◌, length, get_or, Option, Some, None, Result, Ok, Err, refl, sym, ◌∙◌, ap, subst, codes, inl, inr, arith}
+use Rattle.std.specs.Prelude.{map, IfOk, IfSome}
+use Rattle.std.specs.List.{All, AllPairs, zip}
+use Rattle.std.proofs.lemmas.Bool.{cases_Bool}
 use Rattle.std.proofs.lemmas.List.{length-map}
 use Rattle.std.proofs.lemmas.List.Elements.{All-nil, All-cons}
 use Rattle.std.proofs.lemmas.List.Kept.{AllPairs-cons}
 use Rattle.surf_complex.specs.Mesh.{pair_lt}
 use Rattle.surf_complex.proofs.PairLaws.{pair_lt-trans}
-use Rattle.surf_text.specs.Text.{TextLine, is_nonempty, tokens_of, value_of, whole, lines_of}
+use Rattle.surf_text.specs.Text.{TextLine, tokens_of, lines_of}
 use Rattle.surf_cert.specs.declared.cert.Cert.{Cert}
 use Rattle.surf_cert.specs.declared.fault.CertText.{CertText}
 use Rattle.surf_cert.specs.declared.line.Counts.{Counts}
 use Rattle.surf_valid.specs.Rows.{TreeRows, DualRows, LoopCert, BasisCert}
-use Rattle.surf_cert.specs.Lines.{greatest, at_most_greatest, number_of, is_header, three_counts, counts_of, if_same, base_of, base_at, some_parent, parent_of, with_parent, tree_row, below_root, dual_row, increasing, pair_of, is_next, if_next, pair_behind, onto_numbers, numbers_of, cycle_of, the_word}
+use Rattle.surf_cert.specs.Lines.{is_header, counts_of, base_of, base_at, tree_row, dual_row, is_next, pair_behind, cycle_of, the_word}
 use Rattle.surf_cert.specs.Fits.{IsNumber, IsParent, IsPair, IsFaceRow, TreeFits, DualFits, LeftFits, CycleFits, LoopFits, BasisFits, CertFits}
 use Rattle.surf_cert.specs.Gives.{Gives}
 use Rattle.surf_cert.specs.Grammar.{◌>>=◌, formed, and_lines, next_of, onto_rows, rows_of, pairs_of, tree_of, based_tree, trees_of, dual_rows_of, dual_of, left_of, cycles_of, ended, loops_in, basis_in, as_loops, as_basis, cert_in, cert_of}
@@ -24,11 +22,14 @@ use Rattle.surf_cert.proofs.ReadLines.{IsRow, row_fits, face_fits, behind_fits, 
 
 -- lines
 
-bind_fits : {A B : Type 0} (read : Result A CertText) (f : A → Result B CertText) (P : A → Type 0) (Q : B → Type 0) → IfOk read P → ((x : A) → P x → IfOk (f x) Q) → IfOk (read >>= f) Q
+bind_fits : {A B : Type 0} (read : Result A CertText) (f : A → Result B CertText) (P : A → Type 0) (Q : B → Type 0)
+    → IfOk read P → ((x : A) → P x → IfOk (f x) Q) → IfOk (read >>= f) Q
 bind_fits (Ok x) f P Q fits then = then x fits
 bind_fits (Err e) f P Q fits then = tt
 
-next_fits : {A : Type 0} (form : List (List ℕ) → Option A) (Good : A → Type 0) → ((tokens : List (List ℕ)) → IfSome (form tokens) Good) → (lines : List TextLine) → IfOk (next_of form lines) (λ x. Good x.0)
+next_fits : {A : Type 0} (form : List (List ℕ) → Option A) (Good : A → Type 0)
+    → ((tokens : List (List ℕ)) → IfSome (form tokens) Good) → (lines : List TextLine)
+    → IfOk (next_of form lines) (λ x. Good x.0)
 unfolding next_of
 next_fits form Good fits [] = tt
 next_fits {A} form Good fits (line ∷ lines) = at (form (tokens_of line.bytes)) (fits (tokens_of line.bytes))
@@ -40,12 +41,15 @@ next_fits {A} form Good fits (line ∷ lines) = at (form (tokens_of line.bytes))
 AreRows : {A : Type 0} → (A → Type 0) → ℕ → List A × List TextLine → Type 0
 AreRows Good n read = (length read.0 ≡ n) × All Good read.0
 
-onto_fits : {A : Type 0} (Good : A → Type 0) (n : ℕ) (x : A) (read : Result (List A × List TextLine) CertText) → Good x → IfOk read (AreRows Good n) → IfOk (onto_rows x read) (AreRows Good (suc n))
+onto_fits : {A : Type 0} (Good : A → Type 0) (n : ℕ) (x : A) (read : Result (List A × List TextLine) CertText) → Good x
+    → IfOk read (AreRows Good n) → IfOk (onto_rows x read) (AreRows Good (suc n))
 unfolding AreRows
 onto_fits Good n x (Ok rows) good fits = (ap suc fits.0, All-cons Good x rows.0 good fits.1)
 onto_fits Good n x (Err e) good fits = tt
 
-rows_fit : {A : Type 0} (form : List (List ℕ) → Option A) (Good : A → Type 0) → ((tokens : List (List ℕ)) → IfSome (form tokens) Good) → (n : ℕ) (lines : List TextLine) → IfOk (rows_of form n lines) (AreRows Good n)
+rows_fit : {A : Type 0} (form : List (List ℕ) → Option A) (Good : A → Type 0)
+    → ((tokens : List (List ℕ)) → IfSome (form tokens) Good) → (n : ℕ) (lines : List TextLine)
+    → IfOk (rows_of form n lines) (AreRows Good n)
 unfolding rows_of AreRows
 rows_fit form Good fits zero lines = (refl, All-nil Good)
 rows_fit form Good fits (suc n) lines =
@@ -57,7 +61,8 @@ record ArePairs (before : Option (ℕ × ℕ)) (n : ℕ) (read : List (ℕ × �
   pairs : All IsPair read.0
   follow : Follow before read.0
 
-pairs_fit : (before : Option (ℕ × ℕ)) (n : ℕ) (lines : List TextLine) → IfOk (pairs_of before n lines) (ArePairs before n)
+pairs_fit : (before : Option (ℕ × ℕ)) (n : ℕ) (lines : List TextLine)
+    → IfOk (pairs_of before n lines) (ArePairs before n)
 unfolding pairs_of
 pairs_fit before zero lines = record { count = refl; pairs = All-nil IsPair; follow = tt }
 pairs_fit before (suc n) lines =
@@ -65,11 +70,13 @@ pairs_fit before (suc n) lines =
     (next_fits (pair_behind before) (λ p. IsPair p × (is_next before p ≡ true)) (behind_fits before) lines)
     (λ x good. at x.0 (pairs_of (Some x.0) n x.1) good (pairs_fit (Some x.0) n x.1))
   where
-    at : (p : ℕ × ℕ) (read : Result (List (ℕ × ℕ) × List TextLine) CertText) → IsPair p × (is_next before p ≡ true) → IfOk read (ArePairs (Some p) n) → IfOk (onto_rows p read) (ArePairs before (suc n))
+    at : (p : ℕ × ℕ) (read : Result (List (ℕ × ℕ) × List TextLine) CertText) → IsPair p × (is_next before p ≡ true)
+        → IfOk read (ArePairs (Some p) n) → IfOk (onto_rows p read) (ArePairs before (suc n))
     at p (Ok ps) good fits = record { count = ap suc fits.count; pairs = All-cons IsPair p ps.0 good.0 fits.pairs; follow = (good.1, fits.follow) }
     at p (Err e) good fits = tt
 
-behind_all : (p q : ℕ × ℕ) (ps : List (ℕ × ℕ)) → pair_lt p q ≡ true → Follow (Some q) ps → All (λ r. pair_lt p r ≡ true) (q ∷ ps)
+behind_all : (p q : ℕ × ℕ) (ps : List (ℕ × ℕ)) → pair_lt p q ≡ true → Follow (Some q) ps
+    → All (λ r. pair_lt p r ≡ true) (q ∷ ps)
 behind_all p q [] lt follow = All-cons (λ r. pair_lt p r ≡ true) q [] lt (All-nil (λ r. pair_lt p r ≡ true))
 behind_all p q (r ∷ ps) lt follow = All-cons (λ r. pair_lt p r ≡ true) q (r ∷ ps) lt (behind_all p r ps (pair_lt-trans p q r lt follow.0) follow.1)
 
@@ -87,11 +94,13 @@ word_fits word tokens = at (the_word word tokens)
 
 -- parts
 
-firsts : {A B : Type 0} (P : A → Type 0) (Q : A × B → Type 0) → ((row : A × B) → Q row → P row.0) → (rows : List (A × B)) → All Q rows → All P (map (λ row. row.0) rows)
+firsts : {A B : Type 0} (P : A → Type 0) (Q : A × B → Type 0) → ((row : A × B) → Q row → P row.0)
+    → (rows : List (A × B)) → All Q rows → All P (map (λ row. row.0) rows)
 firsts P Q then [] all = All-nil P
 firsts P Q then (row ∷ rows) all = All-cons P row.0 (map (λ row. row.0) rows) (then row (all 0 row (omega arith))) (firsts P Q then rows (λ k d lt. all (suc k) d (omega arith)))
 
-seconds : {A B : Type 0} (P : B → Type 0) (Q : A × B → Type 0) → ((row : A × B) → Q row → P row.1) → (rows : List (A × B)) → All Q rows → All P (map (λ row. row.1) rows)
+seconds : {A B : Type 0} (P : B → Type 0) (Q : A × B → Type 0) → ((row : A × B) → Q row → P row.1)
+    → (rows : List (A × B)) → All Q rows → All P (map (λ row. row.1) rows)
 seconds P Q then [] all = All-nil P
 seconds P Q then (row ∷ rows) all = All-cons P row.1 (map (λ row. row.1) rows) (then row (all 0 row (omega arith))) (seconds P Q then rows (λ k d lt. all (suc k) d (omega arith)))
 
@@ -99,7 +108,8 @@ zipped : {A B : Type 0} (rows : List (A × B)) → zip (map (λ row. row.0) rows
 zipped [] = refl
 zipped (row ∷ rows) = ap (λ rest. row ∷ rest) (zipped rows)
 
-tree_fits : (base v : ℕ) (lines : List TextLine) → IsNumber base → IfOk (tree_of base v lines) (λ x. TreeFits v x.0 × (x.0.base ≡ base))
+tree_fits : (base v : ℕ) (lines : List TextLine) → IsNumber base
+    → IfOk (tree_of base v lines) (λ x. TreeFits v x.0 × (x.0.base ≡ base))
 unfolding tree_of AreRows
 tree_fits base v lines number = at (rows_of tree_row v lines) (rows_fit tree_row IsRow row_fits v lines)
   where
@@ -117,13 +127,16 @@ tree_fits base v lines number = at (rows_of tree_row v lines) (rows_fit tree_row
       refl,
     )
 
-based_fits : (form : List (List ℕ) → Option ℕ) (Good : ℕ → Type 0) → ((tokens : List (List ℕ)) → IfSome (form tokens) (λ x. IsNumber x × Good x)) → (v : ℕ) (lines : List TextLine) → IfOk (based_tree form v lines) (λ x. TreeFits v x.0 × Good x.0.base)
+based_fits : (form : List (List ℕ) → Option ℕ) (Good : ℕ → Type 0)
+    → ((tokens : List (List ℕ)) → IfSome (form tokens) (λ x. IsNumber x × Good x)) → (v : ℕ) (lines : List TextLine)
+    → IfOk (based_tree form v lines) (λ x. TreeFits v x.0 × Good x.0.base)
 unfolding based_tree
 based_fits form Good fits v lines =
     bind_fits (next_of form lines) (λ x. tree_of x.0 v x.1) (λ x. IsNumber x.0 × Good x.0) (λ x. TreeFits v x.0 × Good x.0.base) (next_fits form (λ x. IsNumber x × Good x) fits lines)
     (λ x good. at x.0 (tree_of x.0 v x.1) good.1 (tree_fits x.0 v x.1 good.0))
   where
-    at : (base : ℕ) (read : Result (TreeRows × List TextLine) CertText) → Good base → IfOk read (λ x. TreeFits v x.0 × (x.0.base ≡ base)) → IfOk read (λ x. TreeFits v x.0 × Good x.0.base)
+    at : (base : ℕ) (read : Result (TreeRows × List TextLine) CertText) → Good base
+        → IfOk read (λ x. TreeFits v x.0 × (x.0.base ≡ base)) → IfOk read (λ x. TreeFits v x.0 × Good x.0.base)
     at base (Ok x) good fits = (fits.0, subst Good (sym fits.1) good)
     at base (Err e) good fits = tt
 
@@ -139,11 +152,14 @@ trees_fit base v (suc n) lines =
     bind_fits (based_tree (base_at base) v lines) (λ x. onto_rows x.0 (trees_of (base + 1) v n x.1)) (λ x. TreeFits v x.0 × (x.0.base ≡ base)) (AreTrees base v (suc n)) (based_fits (base_at base) (λ x. x ≡ base) (base_at_fits base) v lines)
     (λ x good. at x.0 (trees_of (base + 1) v n x.1) good (trees_fit (base + 1) v n x.1))
   where
-    bases_more : (t : TreeRows) (ts : List TreeRows) → t.base ≡ base → ((x : ℕ) (d : TreeRows) → x < length ts → (get_or ts x d).base ≡ base + 1 + x) → (x : ℕ) (d : TreeRows) → x < length (t ∷ ts) → (get_or (t ∷ ts) x d).base ≡ base + x
+    bases_more : (t : TreeRows) (ts : List TreeRows) → t.base ≡ base
+        → ((x : ℕ) (d : TreeRows) → x < length ts → (get_or ts x d).base ≡ base + 1 + x) → (x : ℕ) (d : TreeRows)
+        → x < length (t ∷ ts) → (get_or (t ∷ ts) x d).base ≡ base + x
     bases_more t ts is more zero d lt = is ∙ omega arith
     bases_more t ts is more (suc x) d lt = more x d (omega arith) ∙ omega arith
 
-    at : (t : TreeRows) (read : Result (List TreeRows × List TextLine) CertText) → TreeFits v t × (t.base ≡ base) → IfOk read (AreTrees (base + 1) v n) → IfOk (onto_rows t read) (AreTrees base v (suc n))
+    at : (t : TreeRows) (read : Result (List TreeRows × List TextLine) CertText) → TreeFits v t × (t.base ≡ base)
+        → IfOk read (AreTrees (base + 1) v n) → IfOk (onto_rows t read) (AreTrees base v (suc n))
     at t (Ok ts) good fits = record { count = ap suc fits.count; trees = All-cons (TreeFits v) t ts.0 good.0 fits.trees; bases = bases_more t ts.0 good.1 fits.bases }
     at t (Err e) good fits = tt
 
@@ -168,7 +184,8 @@ left_fits k lines =
     bind_fits (next_of (the_word (codes "left")) lines) (λ word. pairs_of None k word.1) (λ word. Unit {0}) (λ x. LeftFits k x.0) (next_fits (the_word (codes "left")) (λ word. Unit {0}) (word_fits (codes "left")) lines)
     (λ word good. at (pairs_of None k word.1) (pairs_fit None k word.1))
   where
-    at : (read : Result (List (ℕ × ℕ) × List TextLine) CertText) → IfOk read (ArePairs None k) → IfOk read (λ x. LeftFits k x.0)
+    at : (read : Result (List (ℕ × ℕ) × List TextLine) CertText) → IfOk read (ArePairs None k)
+        → IfOk read (λ x. LeftFits k x.0)
     at (Ok ps) fits = record { count = fits.count; pairs = fits.pairs; rises = rise None ps.0 fits.follow }
     at (Err e) fits = tt
 
@@ -182,7 +199,9 @@ ended_fits : {A : Type 0} (x : A) (lines : List TextLine) (P : A → Type 0) →
 ended_fits x [] P fits = fits
 ended_fits x (line ∷ lines) P fits = tt
 
-loop_made : (counts : Counts) (tree : TreeRows) (dual : DualRows) (left : List (ℕ × ℕ)) → AreCounts counts → TreeFits counts.vertices tree → DualFits counts.faces dual → LeftFits counts.left left → LoopFits (record { tree = tree; dual = dual; left = left })
+loop_made : (counts : Counts) (tree : TreeRows) (dual : DualRows) (left : List (ℕ × ℕ)) → AreCounts counts
+    → TreeFits counts.vertices tree → DualFits counts.faces dual → LeftFits counts.left left
+    → LoopFits (record { tree = tree; dual = dual; left = left })
 loop_made counts tree dual left few t d l = record {
   vertices = omega (arith, few.vertices, t.distances);
   faces = omega (arith, few.faces, d.depths);
@@ -208,8 +227,11 @@ loops_fit lines =
         at None fits = tt
         at (Some x) fits = (fits, tt)
 
-basis_made : (counts : Counts) (trees : List TreeRows) (dual : DualRows) (left : List (ℕ × ℕ)) (cycles : List (List ℕ)) → AreCounts counts → length trees ≡ counts.vertices → All (TreeFits counts.vertices) trees
-    → ((x : ℕ) (d : TreeRows) → x < length trees → (get_or trees x d).base ≡ 0 + x) → DualFits counts.faces dual → LeftFits counts.left left → length cycles ≡ counts.left → All CycleFits cycles → BasisFits (record { trees = trees; dual = dual; left = left; cycles = cycles })
+basis_made : (counts : Counts) (trees : List TreeRows) (dual : DualRows) (left : List (ℕ × ℕ)) (cycles : List (List ℕ))
+    → AreCounts counts → length trees ≡ counts.vertices → All (TreeFits counts.vertices) trees
+    → ((x : ℕ) (d : TreeRows) → x < length trees → (get_or trees x d).base ≡ 0 + x) → DualFits counts.faces dual
+    → LeftFits counts.left left → length cycles ≡ counts.left → All CycleFits cycles
+    → BasisFits (record { trees = trees; dual = dual; left = left; cycles = cycles })
 basis_made counts trees dual left cycles few count t bases d l many c = record {
   vertices = omega (arith, few.vertices, count);
   faces = omega (arith, few.faces, d.depths);
@@ -252,6 +274,7 @@ cert_fits (line ∷ lines) = elim (cases_Bool (is_header (codes "loops") (tokens
     at_basis (Err e) fits = tt
 
 -- What a call gave that reads a text fits, if it is a certificate.
-pub given_fits : (result : Result Cert CertText) (text : List ℕ) → Gives (λ x. x) result (cert_of text) → IfOk result CertFits
+pub given_fits : (result : Result Cert CertText) (text : List ℕ) → Gives (λ x. x) result (cert_of text)
+    → IfOk result CertFits
 given_fits (Ok cert) text gives = subst (λ (read : Result Cert CertText). IfOk read CertFits) gives (cert_fits (lines_of text))
 given_fits (Err e) text gives = tt

@@ -1,6 +1,6 @@
 -- What is written of a certificate that fits is read as that certificate.
-use Rattle.std.proofs.Common.{◌≡◌, ◌<◌, ◌≤◌, ◌+◌, ◌^◌, ℕ, zero, suc, Bool, true, List, [], ◌∷◌, ◌++◌, length, get_or, Option, Some, None, Result, Ok, refl, sym, ◌∙◌, ap, subst, append_assoc, append-nil, codes, arith}
-use Rattle.std.specs.Prelude.{decimal, map, flat_map}
+use Rattle.std.proofs.Common.{◌≡◌, ◌<◌, ◌+◌, ◌^◌, ℕ, zero, suc, true, List, [], ◌∷◌, ◌++◌, length, get_or, Option, Some, None, Result, Ok, refl, sym, ◌∙◌, ap, subst, append_assoc, append-nil, codes, arith}
+use Rattle.std.specs.Prelude.{decimal, flat_map}
 use Rattle.std.specs.List.{All, AllPairs, zip}
 use Rattle.std.proofs.lemmas.Slice.Zip.{length-zip, firsts-zip, seconds-zip}
 use Rattle.surf_complex.specs.Mesh.{pair_lt}
@@ -11,10 +11,10 @@ use Rattle.surf_cert.specs.declared.fault.CertText.{CertText}
 use Rattle.surf_cert.specs.declared.cert.Cert.TheVariants.{Loops, Basis}
 use Rattle.surf_cert.specs.declared.line.Counts.{Counts}
 use Rattle.surf_valid.specs.Rows.{TreeRows, DualRows, LoopCert, BasisCert}
-use Rattle.surf_cert.specs.Lines.{the_word, is_header, counts_of, base_of, base_at, tree_row, dual_row, is_next, pair_behind, cycle_of}
+use Rattle.surf_cert.specs.Lines.{counts_of, base_of, base_at, tree_row, dual_row, is_next, cycle_of}
 use Rattle.surf_cert.specs.Fits.{IsNumber, IsParent, IsPair, IsFaceRow, TreeFits, DualFits, LeftFits, CycleFits, LoopFits, BasisFits}
-use Rattle.surf_cert.specs.Grammar.{◌>>=◌, next_of, onto_rows, rows_of, pairs_of, tree_of, based_tree, trees_of, dual_rows_of, dual_of, left_of, cycles_of, ended, loops_in, basis_in, cert_in}
-use Rattle.surf_cert.specs.Written.{head_text, base_line, vertex_line, face_line, pair_line, cycle_line, tree_text, dual_text, left_text, cycles_text, loop_text, basis_text, RereadsLoops, RereadsBasis}
+use Rattle.surf_cert.specs.Grammar.{next_of, rows_of, pairs_of, tree_of, based_tree, trees_of, dual_rows_of, dual_of, left_of, cycles_of, loops_in, basis_in, cert_in}
+use Rattle.surf_cert.specs.Written.{head_text, base_line, vertex_line, face_line, pair_line, cycle_line, tree_text, dual_text, left_text, cycles_text, RereadsLoops, RereadsBasis}
 use Rattle.surf_cert.proofs.WordLines.{line_of, AllWords, line_first, kept_is, line_again}
 use Rattle.surf_cert.proofs.LineTexts.{Reads, number_again, dual_again, left_again, cycles_again, base_again, base_at_again, vertex_again, face_again, pair_again, cycle_again}
 
@@ -23,7 +23,9 @@ abbrev pub ReadsPart : {A : Type 0} → (List TextLine → Result (A × List Tex
 ReadsPart read text x = (n : ℕ) (rest : List ℕ) → (m : ℕ) × (read (lines_from n (text ++ rest)) ≡ Ok (x, lines_from m rest))
 
 -- rows of one form
-rows_again : {A : Type 0} (form : List (List ℕ) → Option A) (line : A → List ℕ) (Good : A → Type 0) → ((x : A) → Good x → Reads form (line x) x) → (rows : List A) → All Good rows → ReadsPart (rows_of form (length rows)) (flat_map line rows) rows
+rows_again : {A : Type 0} (form : List (List ℕ) → Option A) (line : A → List ℕ) (Good : A → Type 0)
+    → ((x : A) → Good x → Reads form (line x) x) → (rows : List A) → All Good rows
+    → ReadsPart (rows_of form (length rows)) (flat_map line rows) rows
 unfolding rows_of
 rows_again form line Good reads [] good n rest = (n, refl)
 rows_again form line Good reads (x ∷ xs) good n rest =
@@ -37,7 +39,8 @@ abbrev pub Follow : Option (ℕ × ℕ) → List (ℕ × ℕ) → Type 0
 Follow before [] = Unit {0}
 Follow before (p ∷ ps) = (is_next before p ≡ true) × Follow (Some p) ps
 
-pairs_again : (before : Option (ℕ × ℕ)) (pairs : List (ℕ × ℕ)) → All IsPair pairs → Follow before pairs → ReadsPart (pairs_of before (length pairs)) (flat_map pair_line pairs) pairs
+pairs_again : (before : Option (ℕ × ℕ)) (pairs : List (ℕ × ℕ)) → All IsPair pairs → Follow before pairs
+    → ReadsPart (pairs_of before (length pairs)) (flat_map pair_line pairs) pairs
 unfolding pairs_of
 pairs_again before [] good follow n rest = (n, refl)
 pairs_again before (p ∷ ps) good follow n rest =
@@ -54,14 +57,16 @@ follow_all : (ps : List (ℕ × ℕ)) → AllPairs (λ p q. pair_lt p q ≡ true
 follow_all [] rises = tt
 follow_all (p ∷ ps) rises = (refl, follow_on p ps rises)
 
-all_rows : (v : ℕ) (ds : List ℕ) (ps : List (Option ℕ)) → All (λ d. d < 2 ^ 64) ds → All IsParent ps → All (λ row. (row.0 < 2 ^ 64) × IsParent row.1) (zip ds ps)
+all_rows : (v : ℕ) (ds : List ℕ) (ps : List (Option ℕ)) → All (λ d. d < 2 ^ 64) ds → All IsParent ps
+    → All (λ row. (row.0 < 2 ^ 64) × IsParent row.1) (zip ds ps)
 all_rows v [] ps small fits k d lt = absurd (omega (arith, lt))
 all_rows v (x ∷ ds) [] small fits k d lt = absurd (omega (arith, lt))
 all_rows v (x ∷ ds) (p ∷ ps) small fits zero d lt = (small 0 x (omega arith), fits 0 p (omega arith))
 all_rows v (x ∷ ds) (p ∷ ps) small fits (suc k) d lt = all_rows v ds ps (λ k d lt. small (suc k) d (omega arith)) (λ k d lt. fits (suc k) d (omega arith)) k d (omega arith)
 
 -- the rows of a tree
-tree_again : (v : ℕ) (tree : TreeRows) → TreeFits v tree → ReadsPart (tree_of tree.base v) (flat_map vertex_line (zip tree.distance tree.parent)) tree
+tree_again : (v : ℕ) (tree : TreeRows) → TreeFits v tree
+    → ReadsPart (tree_of tree.base v) (flat_map vertex_line (zip tree.distance tree.parent)) tree
 unfolding tree_of
 tree_again v tree fits n rest =
     let ds = tree.distance in
@@ -74,14 +79,17 @@ tree_again v tree fits n rest =
     (read.0, rw (is, firsts-zip ds ps same, seconds-zip ds ps same) refl)
 
 -- a tree behind the line of its base
-based_again : (form : List (List ℕ) → Option ℕ) (v : ℕ) (tree : TreeRows) → Reads form (base_line tree.base) tree.base → TreeFits v tree → ReadsPart (based_tree form v) (tree_text tree) tree
+based_again : (form : List (List ℕ) → Option ℕ) (v : ℕ) (tree : TreeRows) → Reads form (base_line tree.base) tree.base
+    → TreeFits v tree → ReadsPart (based_tree form v) (tree_text tree) tree
 unfolding based_tree
 based_again form v tree first fits n rest =
     let rows = flat_map vertex_line (zip tree.distance tree.parent) in
     let more = tree_again v tree fits (n + 1) rest in
     (more.0, ap (λ (t : List ℕ). based_tree form v (lines_from n t)) (append_assoc (base_line tree.base) rows rest) ∙ rw (first n (rows ++ rest), more.1) refl)
 
-trees_again : (base v : ℕ) (trees : List TreeRows) → All (TreeFits v) trees → ((x : ℕ) (d : TreeRows) → x < length trees → (get_or trees x d).base ≡ base + x) → ReadsPart (trees_of base v (length trees)) (flat_map tree_text trees) trees
+trees_again : (base v : ℕ) (trees : List TreeRows) → All (TreeFits v) trees
+    → ((x : ℕ) (d : TreeRows) → x < length trees → (get_or trees x d).base ≡ base + x)
+    → ReadsPart (trees_of base v (length trees)) (flat_map tree_text trees) trees
 unfolding trees_of
 trees_again base v [] fits bases n rest = (n, refl)
 trees_again base v (t0 ∷ ts) fits bases n rest =
@@ -112,7 +120,8 @@ left_part k left fits n rest =
     let is : pairs_of None k (lines_from (n + 1) (lines ++ rest)) ≡ Ok (left, lines_from read.0 rest) = subst (λ (k : ℕ). pairs_of None k (lines_from (n + 1) (lines ++ rest)) ≡ Ok (left, lines_from read.0 rest)) fits.count read.1 in
     (read.0, ap (λ (t : List ℕ). left_of k (lines_from n t)) (append_assoc (codes "left\n") lines rest) ∙ rw (left_again n (lines ++ rest), is) refl)
 
-cycles_part : (k : ℕ) (cycles : List (List ℕ)) → length cycles ≡ k → All CycleFits cycles → ReadsPart (cycles_of k) (cycles_text cycles) cycles
+cycles_part : (k : ℕ) (cycles : List (List ℕ)) → length cycles ≡ k → All CycleFits cycles
+    → ReadsPart (cycles_of k) (cycles_text cycles) cycles
 unfolding cycles_of
 cycles_part k cycles count fits n rest =
     let lines = flat_map cycle_line cycles in
@@ -163,22 +172,31 @@ basis_word : IsWord (codes "basis")
 basis_word = record { some = refl; dark = refl; one_line = refl; uncommented = refl }
 
 -- the first line of each kind
-cert_loops : (line : TextLine) (lines : List TextLine) (cert : LoopCert) → tokens_of line.bytes ≡ codes "SURFCERT" ∷ codes "1" ∷ codes "loops" ∷ [] → loops_in lines ≡ Ok cert → cert_in (line ∷ lines) ≡ Ok (Loops cert)
+cert_loops : (line : TextLine) (lines : List TextLine) (cert : LoopCert)
+    → tokens_of line.bytes ≡ codes "SURFCERT" ∷ codes "1" ∷ codes "loops" ∷ [] → loops_in lines ≡ Ok cert
+    → cert_in (line ∷ lines) ≡ Ok (Loops cert)
 unfolding cert_in
 cert_loops line lines cert words read = rw (words, read) refl
 
-cert_basis : (line : TextLine) (lines : List TextLine) (cert : BasisCert) → tokens_of line.bytes ≡ codes "SURFCERT" ∷ codes "1" ∷ codes "basis" ∷ [] → basis_in lines ≡ Ok cert → cert_in (line ∷ lines) ≡ Ok (Basis cert)
+cert_basis : (line : TextLine) (lines : List TextLine) (cert : BasisCert)
+    → tokens_of line.bytes ≡ codes "SURFCERT" ∷ codes "1" ∷ codes "basis" ∷ [] → basis_in lines ≡ Ok cert
+    → cert_in (line ∷ lines) ≡ Ok (Basis cert)
 unfolding cert_in
 cert_basis line lines cert words read = rw (words, read) refl
 
 -- the parts behind it, one after the other
-loops_parts : (lines behind after last : List TextLine) (counts : Counts) (cert : LoopCert) → next_of counts_of lines ≡ Ok (counts, behind) → based_tree base_of counts.vertices behind ≡ Ok (cert.tree, after) → dual_of counts.faces after ≡ Ok (cert.dual, last)
+loops_parts : (lines behind after last : List TextLine) (counts : Counts) (cert : LoopCert)
+    → next_of counts_of lines ≡ Ok (counts, behind) → based_tree base_of counts.vertices behind ≡ Ok (cert.tree, after)
+    → dual_of counts.faces after ≡ Ok (cert.dual, last)
     → left_of counts.left last ≡ Ok (cert.left, []) → loops_in lines ≡ Ok cert
 unfolding loops_in
 loops_parts lines behind after last counts cert first tree dual left = rw (first, tree, dual, left) refl
 
-basis_parts : (lines behind after next last : List TextLine) (counts : Counts) (cert : BasisCert) → next_of counts_of lines ≡ Ok (counts, behind) → trees_of 0 counts.vertices counts.vertices behind ≡ Ok (cert.trees, after)
-    → dual_of counts.faces after ≡ Ok (cert.dual, next) → left_of counts.left next ≡ Ok (cert.left, last) → cycles_of counts.left last ≡ Ok (cert.cycles, []) → basis_in lines ≡ Ok cert
+basis_parts : (lines behind after next last : List TextLine) (counts : Counts) (cert : BasisCert)
+    → next_of counts_of lines ≡ Ok (counts, behind)
+    → trees_of 0 counts.vertices counts.vertices behind ≡ Ok (cert.trees, after)
+    → dual_of counts.faces after ≡ Ok (cert.dual, next) → left_of counts.left next ≡ Ok (cert.left, last)
+    → cycles_of counts.left last ≡ Ok (cert.cycles, []) → basis_in lines ≡ Ok cert
 unfolding basis_in
 basis_parts lines behind after next last counts cert first trees dual left cycles = rw (first, trees, dual, left, cycles) refl
 

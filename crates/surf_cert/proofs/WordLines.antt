@@ -1,15 +1,13 @@
 -- Lines of words with a space between any two, and their tokens.
-use Rattle.std.proofs.Common.{◌≡◌, ◌<◌, ◌≤◌, ◌+◌, ◌^◌, ℕ, Bool, true, false, List, [], ◌∷◌, ◌++◌, Option, Some, None, Result, Ok, refl, sym, ◌∙◌, ap, subst, append_assoc}
-use Rattle.std.specs.List.{list_any, slice_split}
-use Rattle.surf_text.specs.Text.{TextLine, is_blank, is_line_end, is_comment_sign, uncommented, words_of, tokens_of, trimmed, onto_lines, lines_of}
+use Rattle.std.proofs.Common.{◌≡◌, ◌+◌, ℕ, true, false, List, [], ◌∷◌, ◌++◌, Option, Some, Ok, refl, ◌∙◌, ap, subst}
+use Rattle.std.specs.List.{list_any}
+use Rattle.surf_text.specs.Text.{TextLine, is_line_end, is_comment_sign, uncommented, words_of, tokens_of, trimmed, onto_lines, lines_of}
 use Rattle.surf_text.proofs.Words.{words_trimmed}
-use Rattle.surf_off.specs.Clean.{IsClean}
 use Rattle.surf_off.proofs.CleanLines.{AllClean, clean_lines}
 use Rattle.surf_off.proofs.Decimals.{IsWord}
 use Rattle.surf_off.proofs.NumberLines.{opens, uncommented_is, words_word, none_append}
 use Rattle.surf_off.proofs.Reread.{lines_from, first_line}
-use Rattle.surf_cert.specs.declared.fault.CertText.{CertText}
-use Rattle.surf_cert.specs.Grammar.{and_lines, formed, next_of}
+use Rattle.surf_cert.specs.Grammar.{next_of}
 
 -- words, each behind a space
 abbrev pub spaced : List (List ℕ) → List ℕ
@@ -44,7 +42,8 @@ words_spaced [] words = refl
 words_spaced (w ∷ ws) words = words_word w (spaced ws) words.0.some words.0.dark (opens_spaced ws) ∙ ap (λ (vs : List (List ℕ)). w ∷ vs) (words_spaced ws words.1)
 
 -- what is kept of a line has the line's tokens
-kept_tokens : (l w : List ℕ) (ws : List (List ℕ)) → list_any is_line_end l ≡ false → tokens_of l ≡ w ∷ ws → tokens_of (trimmed (uncommented l)) ≡ w ∷ ws
+kept_tokens : (l w : List ℕ) (ws : List (List ℕ)) → list_any is_line_end l ≡ false → tokens_of l ≡ w ∷ ws
+    → tokens_of (trimmed (uncommented l)) ≡ w ∷ ws
 kept_tokens l w ws one is =
     let kept : TextLine = record { number = 1; bytes = trimmed (uncommented l) } in
     let lines : lines_of (l ++ 10 ∷ []) ≡ kept ∷ lines_from 2 [] = first_line 1 l [] one ∙ ap (λ (tokens : List (List ℕ)). onto_lines kept tokens (lines_from 2 [])) is in
@@ -69,12 +68,15 @@ module _ (w : List ℕ) (ws : List (List ℕ)) (first : IsWord w) (words : AllWo
   kept_is = kept_tokens (line_of w ws) w ws one line_tokens
 
   -- the line in front of a text
-  pub line_first : (n : ℕ) (rest : List ℕ) → lines_from n (line_of w ws ++ 10 ∷ rest) ≡ record { number = n; bytes = trimmed (uncommented (line_of w ws)) } ∷ lines_from (n + 1) rest
+  pub line_first : (n : ℕ) (rest : List ℕ)
+      → lines_from n (line_of w ws ++ 10 ∷ rest) ≡ record { number = n; bytes = trimmed (uncommented (line_of w ws)) } ∷ lines_from (n + 1) rest
   line_first n rest =
       first_line n (line_of w ws) rest one
       ∙ ap (λ (tokens : List (List ℕ)). onto_lines (record { number = n; bytes = trimmed (uncommented (line_of w ws)) }) tokens (lines_from (n + 1) rest)) line_tokens
 
   -- the line read by a form
-  pub line_again : {A : Type 0} (form : List (List ℕ) → Option A) (x : A) → form (w ∷ ws) ≡ Some x → (n : ℕ) (rest : List ℕ) → next_of form (lines_from n (line_of w ws ++ 10 ∷ rest)) ≡ Ok (x, lines_from (n + 1) rest)
+  pub line_again : {A : Type 0} (form : List (List ℕ) → Option A) (x : A) → form (w ∷ ws) ≡ Some x
+      → (n : ℕ) (rest : List ℕ)
+      → next_of form (lines_from n (line_of w ws ++ 10 ∷ rest)) ≡ Ok (x, lines_from (n + 1) rest)
   unfolding next_of
   line_again form x good n rest = rw (line_first n rest, kept_is, good) refl

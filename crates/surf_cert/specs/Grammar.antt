@@ -14,64 +14,72 @@ abbrev pub ◌>>=◌ : {A B : Type 0} → Result A CertText → (A → Result B 
 (Ok x) >>= f = f x
 (Err e) >>= f = Err e
 
+-- what the tokens of a line say, where it has a form
+abbrev pub LineForm : Type 0 → Type 0
+LineForm A = List (List ℕ) → Option A
+
+-- what is read of lines, and the lines behind it
+abbrev pub Read : Type 0 → Type 0
+Read A = Result (A × List TextLine) CertText
+
 -- A line that has its form gives a value.
 abbrev pub formed : {A : Type 0} → ℕ → Option A → Result A CertText
 formed line None = Err (Form line)
 formed line (Some x) = Ok x
 
-abbrev pub and_lines : {A : Type 0} → List TextLine → Result A CertText → Result (A × List TextLine) CertText
+abbrev pub and_lines : {A : Type 0} → List TextLine → Result A CertText → Read A
 and_lines lines (Ok x) = Ok (x, lines)
 and_lines lines (Err e) = Err e
 
 -- the next line, which has a form, and the lines behind it
-unfoldable pub next_of : {A : Type 0} → (List (List ℕ) → Option A) → List TextLine → Result (A × List TextLine) CertText
+unfoldable pub next_of : {A : Type 0} → LineForm A → List TextLine → Read A
 next_of form [] = Err Early
 next_of form (line ∷ lines) = and_lines lines (formed line.number (form (tokens_of line.bytes)))
 
 -- a row in front of those that are read behind it
-abbrev pub onto_rows : {A : Type 0} → A → Result (List A × List TextLine) CertText → Result (List A × List TextLine) CertText
+abbrev pub onto_rows : {A : Type 0} → A → Read (List A) → Read (List A)
 onto_rows row (Ok rest) = Ok (row ∷ rest.0, rest.1)
 onto_rows row (Err e) = Err e
 
 -- so many lines of one form
-unfoldable pub rows_of : {A : Type 0} → (List (List ℕ) → Option A) → ℕ → List TextLine → Result (List A × List TextLine) CertText
+unfoldable pub rows_of : {A : Type 0} → LineForm A → ℕ → List TextLine → Read (List A)
 rows_of form zero lines = Ok ([], lines)
 rows_of form (suc n) lines = next_of form lines >>= λ x. onto_rows x.0 (rows_of form n x.1)
 
 -- so many pairs, each greater than the one before
-unfoldable pub pairs_of : Option (ℕ × ℕ) → ℕ → List TextLine → Result (List (ℕ × ℕ) × List TextLine) CertText
+unfoldable pub pairs_of : Option (ℕ × ℕ) → ℕ → List TextLine → Read (List (ℕ × ℕ))
 pairs_of before zero lines = Ok ([], lines)
 pairs_of before (suc n) lines = next_of (pair_behind before) lines >>= λ x. onto_rows x.0 (pairs_of (Some x.0) n x.1)
 
 -- the rows of so many vertices, from this base
-unfoldable pub tree_of : ℕ → ℕ → List TextLine → Result (TreeRows × List TextLine) CertText
+unfoldable pub tree_of : ℕ → ℕ → List TextLine → Read TreeRows
 tree_of base v lines = rows_of tree_row v lines >>= λ rows.
     Ok (record { base = base; distance = map (λ row. row.0) rows.0; parent = map (λ row. row.1) rows.0 }, rows.1)
 
 -- a line with the base, and the rows of so many vertices
-unfoldable pub based_tree : (List (List ℕ) → Option ℕ) → ℕ → List TextLine → Result (TreeRows × List TextLine) CertText
+unfoldable pub based_tree : LineForm ℕ → ℕ → List TextLine → Read TreeRows
 based_tree base v lines = next_of base lines >>= λ x. tree_of x.0 v x.1
 
 -- so many trees of v vertices, the base of the first being this one, and the base of each later one the next vertex
-unfoldable pub trees_of : ℕ → ℕ → ℕ → List TextLine → Result (List TreeRows × List TextLine) CertText
+unfoldable pub trees_of : ℕ → ℕ → ℕ → List TextLine → Read (List TreeRows)
 trees_of base v zero lines = Ok ([], lines)
 trees_of base v (suc n) lines = based_tree (base_at base) v lines >>= λ x. onto_rows x.0 (trees_of (base + 1) v n x.1)
 
 -- the rows of so many faces
-unfoldable pub dual_rows_of : ℕ → List TextLine → Result (DualRows × List TextLine) CertText
+unfoldable pub dual_rows_of : ℕ → List TextLine → Read DualRows
 dual_rows_of f lines = rows_of dual_row f lines >>= λ rows.
     Ok (record { depth = map (λ row. row.0) rows.0; side = map (λ row. row.1) rows.0 }, rows.1)
 
 -- the same behind their word
-unfoldable pub dual_of : ℕ → List TextLine → Result (DualRows × List TextLine) CertText
+unfoldable pub dual_of : ℕ → List TextLine → Read DualRows
 dual_of f lines = next_of (the_word (codes "dual")) lines >>= λ word. dual_rows_of f word.1
 
 -- so many left edges
-unfoldable pub left_of : ℕ → List TextLine → Result (List (ℕ × ℕ) × List TextLine) CertText
+unfoldable pub left_of : ℕ → List TextLine → Read (List (ℕ × ℕ))
 left_of k lines = next_of (the_word (codes "left")) lines >>= λ word. pairs_of None k word.1
 
 -- so many cycles
-unfoldable pub cycles_of : ℕ → List TextLine → Result (List (List ℕ) × List TextLine) CertText
+unfoldable pub cycles_of : ℕ → List TextLine → Read (List (List ℕ))
 cycles_of k lines = next_of (the_word (codes "cycles")) lines >>= λ word. rows_of cycle_of k word.1
 
 -- No line stands behind.

@@ -8,7 +8,8 @@ use Rattle.surf_cert.specs.declared.cert.Cert.TheVariants.{Loops, Basis}
 -- the first line, with the word for what is certified, and the counts of vertices, faces and left edges
 abbrev pub head_text : List ℕ → ℕ → ℕ → ℕ → List ℕ
 head_text word v f k =
-    codes "SURFCERT 1 " ++ (word ++ (codes "\ncounts " ++ (decimal v ++ (codes " " ++ (decimal f ++ (codes " " ++ (decimal k ++ codes "\n")))))))
+    codes "SURFCERT 1 " ++ (word ++ (codes "\ncounts "
+    ++ (decimal v ++ (codes " " ++ (decimal f ++ (codes " " ++ (decimal k ++ codes "\n")))))))
 
 abbrev pub base_line : ℕ → List ℕ
 base_line x = codes "tree " ++ (decimal x ++ codes "\n")
@@ -62,7 +63,8 @@ cycles_text cycles = codes "cycles\n" ++ flat_map cycle_line cycles
 -- the text of a certificate of loops
 abbrev pub loop_text : LoopCert → List ℕ
 loop_text cert =
-    head_text (codes "loops") (length cert.tree.distance) (length cert.dual.depth) (length cert.left) ++ (tree_text cert.tree ++ (dual_text cert.dual ++ left_text cert.left))
+    head_text (codes "loops") (length cert.tree.distance) (length cert.dual.depth) (length cert.left)
+    ++ (tree_text cert.tree ++ (dual_text cert.dual ++ left_text cert.left))
 
 -- the text of a certificate of a basis
 abbrev pub basis_text : BasisCert → List ℕ

@@ -1,9 +1,8 @@
-use Rattle.std.proofs.Common.{arith, ◌≡◌, ◌∙◌, sym, ap, ℕ, List, Option, Some, None, Ok, Result, subst}
+use Rattle.std.proofs.Common.{arith, ◌∙◌, sym, ap, ℕ, List, Option, Ok}
 use Rattle.std.proofs.lemmas.Grind.{common_steps}
 use Rattle.std.proofs.lemmas.Bool.Decides.{nat_tests}
 use Rattle.surf_text.specs.Text.{tokens_of}
-use Rattle.surf_cert.specs.declared.fault.CertText.{CertText}
-use Rattle.surf_cert.specs.Lines.{numbers_of, cycle_of}
+use Rattle.surf_cert.specs.Lines.{numbers_of}
 use Rattle.surf_cert.specs.Grammar.{formed}
 use Rattle.surf_cert.proofs.Numbers.{cycle_none, cycle_some, formed_ok}
 use Rattle.surf_cert.proofs.next.read_cycle.Goals as goal

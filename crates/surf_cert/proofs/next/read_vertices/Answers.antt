@@ -1,5 +1,4 @@
-use Rattle.std.proofs.Common.{◌≡◌, ◌∙◌, sym, ap, subst, ℕ, List, Option}
-use Rattle.surf_cert.specs.declared.fault.CertText.{CertText}
+use Rattle.std.proofs.Common.{◌∙◌, sym, ap, ℕ, List, Option}
 use Rattle.surf_cert.specs.Grammar.{formed}
 use Rattle.surf_cert.specs.Lines.{numbers_of}
 use Rattle.surf_cert.proofs.Numbers.{with_numbers, number_more, number_bad, numbers_done}

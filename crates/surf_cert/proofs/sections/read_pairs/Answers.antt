@@ -1,4 +1,4 @@
-use Rattle.std.proofs.Common.{arith, ◌-◌, ◌≡◌, ◌∙◌, sym, ap, List, [], None}
+use Rattle.std.proofs.Common.{arith, ◌-◌, ◌≡◌, None}
 use Rattle.std.proofs.lemmas.Result.{err_from_is_err_and}
 use Rattle.surf_cert.specs.Grammar.{pairs_of}
 use Rattle.surf_cert.proofs.RowLines.{list_start, pair_more, pair_bad, pairs_done}

@@ -1,9 +1,8 @@
-use Rattle.std.proofs.Common.{arith, ◌≡◌, ◌∙◌, ◌-◌, sym, ap, Option, List, []}
+use Rattle.std.proofs.Common.{arith, ◌≡◌, ◌-◌}
 use Rattle.std.proofs.lemmas.Result.{err_from_is_err_and}
 use Rattle.surf_valid.specs.Rows.{TreeRows}
 use Rattle.surf_cert.specs.Lines.{tree_row}
-use Rattle.surf_cert.specs.Grammar.{rows_of}
-use Rattle.surf_cert.proofs.RowLines.{with_rows, push_vertex, tree_start, row_more, row_bad, rows_done}
+use Rattle.surf_cert.proofs.RowLines.{push_vertex, tree_start, row_more, row_bad, rows_done}
 use Rattle.surf_cert.proofs.sections.read_tree_rows.Goals as goal
 
 pub loop-init : goal.loop-init

@@ -1,4 +1,4 @@
-use Rattle.std.proofs.Common.{arith, ◌-◌, ◌≡◌, ◌∙◌, sym, ap, List, []}
+use Rattle.std.proofs.Common.{arith, ◌-◌, ◌≡◌}
 use Rattle.std.proofs.lemmas.Result.{err_from_is_err_and}
 use Rattle.surf_cert.specs.Grammar.{trees_of}
 use Rattle.surf_cert.proofs.RowLines.{list_start, tree_more, tree_bad, trees_done}

@@ -1,12 +1,10 @@
-use Rattle.std.proofs.Common.{◌≡◌, ℕ, List, [], ◌∷◌, ◌++◌, length, Ok, Err, refl, sym, ap, ◌∙◌, subst, flat_map, codes, decimal, get_or, drop, arith}
-use Rattle.std.specs.List.{zip}
+use Rattle.std.proofs.Common.{◌≡◌, ℕ, List, ◌++◌, refl, ◌∙◌, subst, codes, decimal, get_or, drop}
 use Rattle.std.proofs.lemmas.Result.{err_from_is_err_and}
 use Rattle.surf_text.specs.Pages.{Puts}
 use Rattle.std.proofs.lemmas.List.{take_rest}
-use Rattle.surf_cert.proofs.CycleLines.{cycle_first}
+use Rattle.surf_cert.proofs.WrittenRows.{cycle_first}
 use Rattle.surf_text.proofs.Writing.{puts_more, puts_stop}
-use Rattle.surf_valid.specs.Rows.{TreeRows, DualRows}
-use Rattle.surf_cert.specs.Written.{head_text, base_line, vertex_line, face_line, pair_line, tree_text, cycle_line, numbers_text, dual_text, left_text, cycles_text}
+use Rattle.surf_cert.specs.Written.{cycle_line, numbers_text}
 use Rattle.surf_cert.proofs.write.write_cycle.Goals as goal
 
 pub returns-in_err-push_whole : goal.returns-in_err-push_whole

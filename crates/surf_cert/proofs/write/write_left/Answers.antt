@@ -1,12 +1,6 @@
-use Rattle.std.proofs.Common.{◌≡◌, ℕ, List, [], ◌∷◌, ◌++◌, length, Ok, Err, refl, sym, ap, ◌∙◌, subst, flat_map, codes, decimal, get_or, drop, arith}
-use Rattle.std.specs.List.{zip}
-use Rattle.std.proofs.lemmas.Result.{err_from_is_err_and}
-use Rattle.surf_text.specs.Pages.{Puts}
-use Rattle.std.proofs.lemmas.List.{take_rest}
-use Rattle.surf_cert.proofs.CycleLines.{cycle_first}
-use Rattle.surf_text.proofs.Writing.{puts_more, puts_stop}
-use Rattle.surf_valid.specs.Rows.{TreeRows, DualRows}
-use Rattle.surf_cert.specs.Written.{head_text, base_line, vertex_line, face_line, pair_line, tree_text, cycle_line, numbers_text, dual_text, left_text, cycles_text}
+use Rattle.std.proofs.Common.{flat_map, codes}
+use Rattle.surf_text.proofs.Writing.{puts_more}
+use Rattle.surf_cert.specs.Written.{pair_line}
 use Rattle.surf_cert.proofs.write.write_left.Goals as goal
 
 pub returns : goal.returns

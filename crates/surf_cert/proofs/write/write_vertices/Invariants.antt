@@ -1,7 +1,7 @@
 use Rattle.std.proofs.Common.{take, Ok, flat_map}
 use Rattle.std.specs.List.{zip}
 use Rattle.surf_text.specs.Pages.{Puts}
-use Rattle.surf_cert.specs.Written.{vertex_line, face_line, pair_line, tree_text, cycle_line, numbers_text}
+use Rattle.surf_cert.specs.Written.{vertex_line}
 use Rattle.surf_cert.proofs.write.write_vertices.Given as goal
 
 abbrev pub invariant-loop-v : goal.invariant-loop-v

@@ -1,11 +1,8 @@
-use Rattle.std.proofs.Common.{◌≡◌, ◌<◌, ◌≤◌, ℕ, List, [], ◌∷◌, ◌++◌, length, get_or, Option, None, Ok, refl, sym, ◌∙◌, ap, subst, flat_map, codes, decimal, append-nil, arith}
-use Rattle.std.specs.List.{zip}
-use Rattle.std.proofs.lemmas.Slice.Zip.{length-zip, get_or-zip}
+use Rattle.std.proofs.Common.{◌<◌, ◌≤◌, ℕ, List, length, get_or, refl, subst, flat_map}
 use Rattle.std.proofs.lemmas.Result.{err_from_is_err_and}
 use Rattle.surf_text.specs.Pages.{Puts}
 use Rattle.surf_text.proofs.Writing.{loop_more, loop_stop, loop_done}
-use Rattle.surf_valid.specs.Rows.{TreeRows}
-use Rattle.surf_cert.specs.Written.{vertex_line, face_line, pair_line, tree_text, cycle_line, numbers_text}
+use Rattle.surf_cert.specs.Written.{cycle_line}
 use Rattle.surf_cert.proofs.write.write_walks.Goals as goal
 
 pub returns-in_err-write_cycle : goal.returns-in_err-write_cycle

@@ -1,7 +1,6 @@
 use Rattle.std.proofs.Common.{take, Ok, flat_map}
-use Rattle.std.specs.List.{zip}
 use Rattle.surf_text.specs.Pages.{Puts}
-use Rattle.surf_cert.specs.Written.{vertex_line, face_line, pair_line, tree_text, cycle_line, numbers_text}
+use Rattle.surf_cert.specs.Written.{cycle_line}
 use Rattle.surf_cert.proofs.write.write_walks.Given as goal
 
 abbrev pub invariant-loop-cycle : goal.invariant-loop-cycle
