@@ -7,7 +7,7 @@ use Rattle.surf_run.specs.Outcome.{Outcome, answers, refuses, misses, Shows, sta
 use Rattle.surf_run.specs.Steps.{Ends}
 use Rattle.surf_run.specs.Reading.{Reads, within_text}
 use Rattle.surf_complex.specs.Mesh.{Mesh}
-use Rattle.surf_complex.specs.Surface.{IsSurface, edge_count}
+use Rattle.surf_complex.specs.Surface.{IsSurface}
 use Rattle.surf_check.specs.declared.checking.SurfaceFault.{SurfaceFault}
 use Rattle.surf_check.specs.declared.checking.SurfaceFault.TheVariants.{Empty, Border, Crowded, Isolated, Pinched, Apart, Memory}
 use Rattle.surf_check.proofs.FaultLaws.{fault_only}

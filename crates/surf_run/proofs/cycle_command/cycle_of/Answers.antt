@@ -8,7 +8,7 @@ use Rattle.surf_run.specs.Limits.{beyond}
 use Rattle.surf_run.specs.Outcome.{answers}
 use Rattle.surf_run.specs.ShortestCycle.{GivesCycle}
 use Rattle.surf_run.proofs.FindingLaws.{gives_cycle}
-use Rattle.surf_run.proofs.Saying.{blank, says_whole, says_beyond, why_overfilled}
+use Rattle.surf_run.proofs.Saying.{says_whole, says_beyond, why_overfilled}
 use Rattle.surf_run.proofs.cycle_command.cycle_of.Goals as goal
 
 pub returns-in_err-put_found : goal.returns-in_err-put_found
