@@ -4,3 +4,5 @@ pub mod ListLaws
 pub mod SplitLaws
 pub mod LoopLaws
 pub mod BasisLaws
+pub mod ChosenLaws
+pub mod OneCert

@@ -4,7 +4,9 @@ use Rattle.surf_complex.specs.Mesh.{Mesh}
 use Rattle.surf_complex.specs.Surface.{IsSurface}
 use Rattle.surf_complex.specs.Walk.{ArePositive}
 use Rattle.surf_complex.specs.Homology.{total, IsLeastLoopSystem, IsLeastBasis}
+use Rattle.surf_complex.specs.Choice.{Trees, AreChosenAt}
 use Rattle.surf_valid.specs.Rows.{LoopCert, BasisCert}
+use Rattle.surf_valid.specs.Chosen.{cert_of}
 use Rattle.surf_valid.specs.Valid.{IsValidLoops, loops_of, loops_total}
 use Rattle.surf_valid.specs.Bases.{IsValidBasis}
 
@@ -21,3 +23,15 @@ abbrev pub ValidBasesAreLeast : Type 0
 ValidBasesAreLeast =
     (mesh : Mesh) (lengths : List ℕ) (cert : BasisCert) → IsSurface mesh → ArePositive mesh lengths →
     IsValidBasis mesh lengths cert → IsLeastBasis mesh lengths cert.cycles
+
+-- the certificate of the trees that are chosen at a base is valid
+abbrev pub ChosenLoopsAreValid : Type 0
+ChosenLoopsAreValid =
+    (mesh : Mesh) (lengths : List ℕ) (base : ℕ) (trees : Trees) → IsSurface mesh → ArePositive mesh lengths →
+    AreChosenAt mesh lengths base trees → IsValidLoops mesh lengths (cert_of mesh trees)
+
+-- there is one, whichever trees show it
+abbrev pub ChosenCertsAreOne : Type 0
+ChosenCertsAreOne =
+    (mesh : Mesh) (lengths : List ℕ) (base : ℕ) (a b : Trees) → IsSurface mesh → ArePositive mesh lengths →
+    AreChosenAt mesh lengths base a → AreChosenAt mesh lengths base b → cert_of mesh a ≡ cert_of mesh b

@@ -1,4 +1,5 @@
 pub mod Rows
 pub mod Valid
 pub mod Bases
+pub mod Chosen
 pub mod Laws

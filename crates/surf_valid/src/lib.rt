@@ -10,11 +10,14 @@
 //! - The loops of a valid loop certificate are a least loop system at its base, whichever trees it has
 //!   (`law_of_valid_loops`).
 //! - The cycles of a valid basis certificate are a least basis (`law_of_valid_bases`).
+//! - The certificate of the trees that are chosen at a base (specs/Chosen.antt) is valid, and there is one
+//!   (`law_of_chosen_certificates`).
 //!
 //! Each law is the contract of a function that does nothing.
 #![tactic(auto)]
 
 ghost use Rattle.surf_valid.specs.Laws.{ValidLoopsAreLeast, ValidBasesAreLeast};
+ghost use Rattle.surf_valid.specs.Laws.{ChosenLoopsAreValid, ChosenCertsAreOne};
 
 /// The loops of a valid loop certificate are a least loop system at its base, and its total is theirs.
 pub fn law_of_valid_loops()
@@ -24,4 +27,10 @@ pub fn law_of_valid_loops()
 /// The cycles of a valid basis certificate are a least basis.
 pub fn law_of_valid_bases()
     ensures { ValidBasesAreLeast }
+{}
+
+/// The certificate of the choice among ties at a base is valid, and there is one.
+pub fn law_of_chosen_certificates()
+    ensures valid { ChosenLoopsAreValid }
+    ensures one { ChosenCertsAreOne }
 {}

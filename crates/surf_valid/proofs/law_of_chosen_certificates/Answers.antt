@@ -1,0 +1,6 @@
+use Rattle.surf_valid.proofs.ChosenLaws.{chosen_loops_are_valid}
+use Rattle.surf_valid.proofs.OneCert.{chosen_certs_are_one}
+use Rattle.surf_valid.proofs.law_of_chosen_certificates.Goals as goal
+
+pub returns : goal.returns
+returns c = record { valid = chosen_loops_are_valid; one = chosen_certs_are_one }

@@ -1,0 +1,40 @@
+-- The certificate of the choice among ties at a base.
+use Rattle.std.specs.List.{range_with_len}
+use Rattle.std.specs.Prelude.{ℕ, ◌==◌, if◌then◌else◌, map, Option, Some, None}
+use Rattle.surf_homology.specs.Trees.{Tree}
+use Rattle.surf_complex.specs.Mesh.{Mesh}
+use Rattle.surf_complex.specs.Surface.{face_count, ends}
+use Rattle.surf_complex.specs.Cotree.{left_edges}
+use Rattle.surf_complex.specs.Choice.{Trees}
+use Rattle.surf_valid.specs.Rows.{TreeRows, DualRows, LoopCert}
+
+-- the parent of a vertex, which the root has not
+abbrev pub parent_in : Tree → ℕ → Option ℕ
+parent_in tree v = if v == tree.root then None else Some (tree.parent v)
+
+-- the side of a face over which its parent lies, which the root has not
+abbrev pub side_in : Mesh → Tree → ℕ → Option (ℕ × ℕ)
+side_in mesh cotree f = if f == cotree.root then None else Some (ends mesh (cotree.up f))
+
+-- the rows of a tree of vertices
+abbrev pub rows_of : Mesh → Tree → TreeRows
+rows_of mesh tree = record {
+  base = tree.root;
+  distance = map tree.rank (range_with_len 0 mesh.vertices);
+  parent = map (parent_in tree) (range_with_len 0 mesh.vertices);
+}
+
+-- the rows of a tree of faces
+abbrev pub dual_rows_of : Mesh → Tree → DualRows
+dual_rows_of mesh cotree = record {
+  depth = map cotree.rank (range_with_len 0 (face_count mesh));
+  side = map (side_in mesh cotree) (range_with_len 0 (face_count mesh));
+}
+
+-- the certificate of two trees: their rows, and the edges in neither, increasing
+abbrev pub cert_of : Mesh → Trees → LoopCert
+cert_of mesh trees = record {
+  tree = rows_of mesh trees.tree;
+  dual = dual_rows_of mesh trees.cotree;
+  left = map (ends mesh) (left_edges mesh trees.tree trees.cotree);
+}
