@@ -1,13 +1,11 @@
 -- Signatures of ways up a tree, and of loops.
-use Rattle.std.proofs.Common.{◌≡◌, ◌≢◌, ℕ, ◌<◌, ◌+◌, ◌&&◌, List, Option, Some, None, Bool, false, eqb, length, get_or, slice_index, map, bit_xor, refl, sym, ap, ◌∙◌, subst, arith, inl, inr}
-use Rattle.std.specs.Int.Bits.{xor_assoc, xor_comm, xor_zero_l, xor_zero_r}
-use Rattle.std.specs.List.{range_with_len}
+use Rattle.std.proofs.Common.{◌≡◌, ◌≢◌, ℕ, ◌<◌, ◌&&◌, List, Option, Some, None, false, eqb, length, slice_index, bit_xor, sym, ap, ◌∙◌, subst, arith, inl, inr}
+use Rattle.std.specs.Int.Bits.{xor_assoc, xor_comm, xor_zero_l}
 use Rattle.std.proofs.lemmas.Bool.{cases_eq}
 use Rattle.std.proofs.lemmas.Bool.Decides.{nat_tests}
 use Rattle.std.proofs.lemmas.List.FromFn.{get_or-map-range_with_len}
 use Rattle.surf_z2.specs.Parity.{xor}
-use Rattle.surf_z2.specs.Below.{number_of}
-use Rattle.surf_z2.proofs.Below.{same_from, small}
+use Rattle.surf_z2.proofs.Below.{same_from}
 use Rattle.surf_z2.proofs.ParityLaws.{odd_below-same, odd_below-one}
 use Rattle.surf_homology.specs.Cells.{primal, Split, signature, chain_signature}
 use Rattle.surf_homology.specs.Independence.{signature_of}

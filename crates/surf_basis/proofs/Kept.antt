@@ -1,5 +1,5 @@
 -- What is kept base by base is the basis that is chosen.
-use Rattle.std.proofs.Common.{◌≡◌, ℕ, zero, suc, ◌<◌, ◌≤◌, Bool, true, false, cond, List, [], ◌∷◌, ◌++◌, ◌+◌, length, get_or, map, take, All, refl, sym, ap, ◌∙◌, subst, arith}
+use Rattle.std.proofs.Common.{◌≡◌, ℕ, suc, ◌<◌, ◌≤◌, Bool, true, false, cond, List, [], ◌∷◌, ◌++◌, ◌+◌, length, get_or, take, All, refl, sym, ap, ◌∙◌, subst, arith}
 use Rattle.std.specs.List.{AllByRecursion}
 use Rattle.std.proofs.lemmas.List.{take_more, take_all}
 use Rattle.std.proofs.lemmas.List.Elements.{recursion_from_All, All-from_recursion}
@@ -8,17 +8,14 @@ use Rattle.surf_z2.specs.Order.{merge, merge_from}
 use Rattle.surf_z2.specs.Space.{numbers, is_nothing}
 use Rattle.surf_homology.specs.Cells.{Split, IsSplit}
 use Rattle.surf_complex.specs.Mesh.{Mesh}
-use Rattle.surf_complex.specs.Surface.{edge_count, IsSurface}
+use Rattle.surf_complex.specs.Surface.{IsSurface}
 use Rattle.surf_complex.specs.Walk.{IsClosed, ArePositive}
 use Rattle.surf_complex.specs.Cells.{cells_of}
 use Rattle.surf_complex.specs.Class.{class_of}
-use Rattle.surf_complex.specs.Loop.{loop_walk}
-use Rattle.surf_complex.specs.Choice.{Trees, AreChosen, Loop, comes_before, loops_at, IsGreedyChoice, IsChosenBasis, IsKeptFrom, nothing, one_more}
+use Rattle.surf_complex.specs.Choice.{Trees, AreChosen, Loop, comes_before, loops_at, IsGreedyChoice, IsChosenBasis, nothing, one_more}
 use Rattle.surf_complex.proofs.LeastLaws.{all_each, all_mapped}
-use Rattle.surf_complex.proofs.CandidateLaws.{IsLoopBelow}
 use Rattle.surf_complex.proofs.GreedyChoiceLaws.{AreClosed, greedy_is_choice}
 use Rattle.surf_complex.proofs.BasisLaws.{runs, basis_is_kept_base_by_base}
-use Rattle.surf_tree.specs.Tables.{TreeTables}
 use Rattle.surf_loops.specs.Loops.{LoopTables, IsGreedy}
 use Rattle.surf_basis.specs.declared.candidate.Signed.{Signed}
 use Rattle.surf_basis.specs.declared.cycle.Cycle.{Cycle}

@@ -1,22 +1,21 @@
 -- The loops of a desk at a base, as loops of the choice.
-use Rattle.std.proofs.Common.{◌≡◌, ℕ, zero, suc, ◌<◌, ◌≤◌, ◌+◌, ◌^◌, Bool, true, List, [], ◌∷◌, ◌++◌, length, get_or, map, take, All, Contains, IsPermutation, refl, sym, ap, ◌∙◌, subst, arith}
+use Rattle.std.proofs.Common.{◌≡◌, ℕ, suc, ◌<◌, ◌+◌, ◌^◌, true, List, [], ◌∷◌, ◌++◌, length, get_or, map, take, All, Contains, refl, sym, ap, ◌∙◌, subst, arith}
 use Rattle.std.specs.List.{AllByRecursion}
 use Rattle.std.proofs.lemmas.List.{length-map, get_or-map, map-append, take_more}
-use Rattle.std.proofs.lemmas.List.Elements.{recursion_from_All, All-from_recursion, All-contains}
+use Rattle.std.proofs.lemmas.List.Elements.{All-from_recursion, All-contains}
 use Rattle.std.proofs.lemmas.List.Sorted.{Contains-permutation}
 use Rattle.surf_z2.proofs.Below.{small}
 use Rattle.surf_z2.proofs.Merge.{sorted-permutes}
-use Rattle.surf_homology.specs.Cells.{primal, Split, chain_signature}
-use Rattle.surf_homology.specs.Trees.{Tree}
+use Rattle.surf_homology.specs.Cells.{Split, chain_signature}
 use Rattle.surf_complex.specs.Mesh.{Mesh}
 use Rattle.surf_complex.specs.Surface.{edge_count, face_count, IsSurface}
 use Rattle.surf_complex.specs.Walk.{ArePositive, parity}
 use Rattle.surf_complex.specs.Cells.{cells_of}
 use Rattle.surf_complex.specs.Homology.{IsFullCount}
 use Rattle.surf_complex.specs.Class.{class_of}
-use Rattle.surf_complex.specs.Loop.{loop_walk, loop_length}
+use Rattle.surf_complex.specs.Loop.{loop_walk}
 use Rattle.surf_complex.specs.Cotree.{is_left, left_edges}
-use Rattle.surf_complex.specs.Choice.{Trees, AreChosenAt, AreChosen, Loop, comes_before, walks, loop_at, loops_at, candidates, IsGreedyChoice, IsChosenBasis}
+use Rattle.surf_complex.specs.Choice.{Trees, AreChosenAt, AreChosen, Loop, comes_before, loop_at, loops_at, candidates, IsGreedyChoice, IsChosenBasis}
 use Rattle.surf_complex.proofs.CotreeLaws.{passing_found}
 use Rattle.surf_complex.proofs.LoopsAtLaws.{IsLoopAt, loops_each, tree_is, tree_short}
 use Rattle.surf_complex.proofs.LoopsOne.{loops_are_one}
@@ -25,7 +24,6 @@ use Rattle.surf_complex.proofs.FirstCycleLaws.{candidates_below_two}
 use Rattle.surf_tree.specs.Tables.{TreeTables, tree_of}
 use Rattle.surf_loops.specs.Loops.{LoopTables, trees_of, loop_of, IsGreedy}
 use Rattle.surf_loops.specs.declared.head.LoopHead.{LoopHead}
-use Rattle.surf_basis.specs.declared.candidate.Candidate.{Candidate}
 use Rattle.surf_basis.specs.declared.candidate.Signed.{Signed}
 use Rattle.surf_basis.specs.Candidates.{Chosen, candidate_of, loop_in, loops_in, signed_heads, IsSigned}
 use Rattle.surf_basis.specs.Signing.{IsClimbed}

@@ -1,5 +1,5 @@
 -- Where as many are kept as may be independent, no later candidate that is at least as long is kept.
-use Rattle.std.proofs.Common.{◌≡◌, ℕ, suc, ◌<◌, ◌≤◌, ◌+◌, ◌*◌, ◌^◌, ◌&&◌, Bool, true, false, cond, eqb, List, [], ◌∷◌, ◌++◌, length, map, get_or, All, refl, sym, ap, ◌∙◌, subst, arith, inl, inr, append_assoc}
+use Rattle.std.proofs.Common.{◌≡◌, ℕ, suc, ◌<◌, ◌≤◌, ◌^◌, ◌&&◌, Bool, true, false, eqb, List, [], ◌∷◌, ◌++◌, length, map, get_or, refl, sym, ap, ◌∙◌, subst, arith, inl, inr, append_assoc}
 use Rattle.std.specs.Prelude.{nat_le}
 use Rattle.std.specs.List.{AllByRecursion, list_all}
 use Rattle.std.proofs.lemmas.Bool.{cases_Bool, eqb-true}
@@ -7,7 +7,7 @@ use Rattle.std.proofs.lemmas.Bool.Decides.{nat_tests}
 use Rattle.std.proofs.lemmas.List.{append-nil, length-map, length-append, map-append}
 use Rattle.std.proofs.lemmas.List.Elements.{recursion_from_All, All-from_recursion, Contains-append_left, Contains-get_or}
 use Rattle.surf_z2.specs.Greedy.{greedy, spans}
-use Rattle.surf_z2.specs.Order.{merge, merge_from, IsInOrder}
+use Rattle.surf_z2.specs.Order.{merge}
 use Rattle.surf_z2.specs.Space.{numbers, is_nothing, Spanned, Independent}
 use Rattle.surf_z2.proofs.Basics.{independence_law, span_law}
 use Rattle.surf_z2.proofs.Greedy.{spans_law, greedy_law, two_step_law}
@@ -29,8 +29,8 @@ use Rattle.surf_complex.proofs.BasisLaws.{kept_is_greedy}
 use Rattle.surf_loops.specs.Loops.{LoopTables, IsGreedy}
 use Rattle.surf_loops.specs.declared.head.LoopHead.{LoopHead}
 use Rattle.surf_basis.specs.declared.candidate.Signed.{Signed}
-use Rattle.surf_basis.specs.Candidates.{signed_earlier, is_settled, candidate_of, loop_in, loops_in, signed_heads, IsSigned, AreKept}
-use Rattle.surf_basis.proofs.Looped.{offered_loops, offered_signed, heads_count, class_small}
+use Rattle.surf_basis.specs.Candidates.{is_settled, candidate_of, loop_in, loops_in, signed_heads, IsSigned, AreKept}
+use Rattle.surf_basis.proofs.Looped.{offered_loops, heads_count, class_small}
 use Rattle.surf_basis.proofs.Kept.{kept_same}
 
 -- ---- lists

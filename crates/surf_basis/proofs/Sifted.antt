@@ -1,16 +1,16 @@
 -- The choice of the independent candidates of a list, one after another.
-use Rattle.std.proofs.Common.{◌≡◌, ℕ, ◌+◌, ◌<◌, ◌≤◌, ◌^◌, true, false, Bool, List, [], ◌∷◌, ◌++◌, length, get_or, drop, map, All, refl, sym, ap, ◌∙◌, subst, append_assoc, arith, MatchBool}
+use Rattle.std.proofs.Common.{◌≡◌, ℕ, ◌+◌, ◌<◌, ◌≤◌, ◌^◌, true, false, Bool, List, [], ◌∷◌, ◌++◌, length, get_or, drop, map, All, refl, sym, ap, ◌∙◌, subst, append_assoc, MatchBool}
 use Rattle.std.specs.List.{AllByRecursion}
 use Rattle.std.proofs.lemmas.List.{at_drop_more, at_drop_all, append-nil, map-append, length-map}
 use Rattle.std.proofs.lemmas.List.Elements.{recursion_from_All, All-from_recursion}
-use Rattle.std.proofs.lemmas.List.Sorted.{All-permutation, length_permutation}
+use Rattle.std.proofs.lemmas.List.Sorted.{All-permutation}
 use Rattle.surf_z2.specs.Greedy.{greedy_after, spans}
 use Rattle.surf_z2.specs.Order.{merge}
 use Rattle.surf_z2.specs.Space.{numbers, is_nothing, chosen, Spanned}
 use Rattle.surf_z2.proofs.Greedy.{spans_law, not_spans, greedy_law}
 use Rattle.surf_z2.proofs.Merge.{same_members}
 use Rattle.surf_z2.proofs.Numbers.{Decides-is_nothing}
-use Rattle.surf_z2.proofs.Span.{InSpan, spanned_from_in}
+use Rattle.surf_z2.proofs.Span.{spanned_from_in}
 use Rattle.surf_basis.specs.declared.candidate.Signed.{Signed}
 use Rattle.surf_basis.specs.Candidates.{signed_earlier, independent_of}
 

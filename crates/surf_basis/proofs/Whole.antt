@@ -1,5 +1,5 @@
 -- What is known when all bases were gone through.
-use Rattle.std.proofs.Common.{◌≡◌, ℕ, ◌<◌, ◌≤◌, ◌+◌, List, [], length, map, All, refl, sym, ap, ◌∙◌, subst, arith}
+use Rattle.std.proofs.Common.{◌≡◌, ℕ, List, [], length, map, All, sym, ap, ◌∙◌, subst, arith}
 use Rattle.std.specs.List.{range_with_len}
 use Rattle.surf_homology.specs.Cells.{Split, IsSplit}
 use Rattle.surf_homology.specs.Trees.{Tree}

@@ -22,6 +22,3 @@ mod walking;
 pub use basis::least_basis;
 pub use cycle::Cycle;
 pub use shortest::least_nonseparating;
-
-#[cfg(test)]
-mod tests;

@@ -1,4 +1,4 @@
-use Rattle.std.proofs.Common.{◌≡◌, ◌≤◌, ◌<◌, ◌+◌, suc, true, List, refl, sym, ap, ◌∙◌, subst, arith, add-one}
+use Rattle.std.proofs.Common.{◌≡◌, ◌<◌, ◌+◌, true, List, refl, sym, ap, ◌∙◌, subst, arith, add-one}
 use Rattle.surf_z2.specs.Order.{merge}
 use Rattle.surf_loops.proofs.Turned.{lengths_positive}
 use Rattle.surf_loops.specs.Loops.{IsGreedy}

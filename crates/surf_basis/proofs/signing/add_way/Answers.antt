@@ -1,6 +1,6 @@
-use Rattle.std.proofs.Common.{◌≡◌, bit_xor, sym, ap, ◌∙◌}
+use Rattle.std.proofs.Common.{bit_xor, sym, ap, ◌∙◌}
 use Rattle.std.specs.Int.Bits.{xor_zero_r}
-use Rattle.surf_basis.proofs.Climbed.{step_up, way_ends, way_added, way_class}
+use Rattle.surf_basis.proofs.Climbed.{step_up, way_ends, way_added}
 use Rattle.surf_basis.proofs.signing.add_way.Goals as goal
 
 pub loop-edge-preserved : goal.loop-edge-preserved

@@ -1,4 +1,4 @@
-use Rattle.std.proofs.Common.{ℕ, ◌≡◌, ◌<◌, bit_xor, slice_index}
+use Rattle.std.proofs.Common.{◌≡◌, ◌<◌, bit_xor, slice_index}
 use Rattle.surf_homology.specs.Cells.{Split}
 use Rattle.surf_tree.specs.Tables.{tree_of}
 use Rattle.surf_basis.specs.Signing.{AreSignatures}

@@ -1,4 +1,4 @@
-use Rattle.std.proofs.Common.{ℕ, ◌≡◌, ◌<◌, sym, ap, subst}
+use Rattle.std.proofs.Common.{ℕ, ◌<◌, sym, ap, subst}
 use Rattle.surf_loops.proofs.Turned.{ends_in}
 use Rattle.surf_basis.proofs.Climbed.{loop_summed}
 use Rattle.surf_basis.proofs.signing.loop_signature.Goals as goal

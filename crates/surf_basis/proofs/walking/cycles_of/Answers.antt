@@ -1,4 +1,3 @@
-use Rattle.std.proofs.Common.{arith}
 use Rattle.surf_basis.proofs.Kept.{cycles_next, cycles_all}
 use Rattle.surf_basis.proofs.walking.cycles_of.Goals as goal
 

@@ -1,4 +1,4 @@
-use Rattle.std.proofs.Common.{◌≡◌, take}
+use Rattle.std.proofs.Common.{take}
 use Rattle.surf_loops.specs.Loops.{IsMadeFor}
 use Rattle.surf_basis.specs.Candidates.{AreCyclesOf}
 use Rattle.surf_basis.proofs.walking.cycles_of.Given as goal

@@ -1,4 +1,4 @@
-use Rattle.std.proofs.Common.{◌≡◌, ◌≤◌, ◌<◌, List, ap, sym, subst, arith, length}
+use Rattle.std.proofs.Common.{◌≡◌, List, ap, sym, subst, arith, length}
 use Rattle.surf_basis.specs.declared.candidate.Signed.{Signed}
 use Rattle.surf_basis.proofs.Sifted.{AreSmall, merged_small, kept_small}
 use Rattle.surf_basis.proofs.choosing.Choice.keep.Goals as goal

@@ -1,0 +1,181 @@
+//! Bases and shortest cycles of small surfaces, worked out by hand.
+ghost use Rattle.std.specs.Prelude.{◌≡◌, ◌≤◌, ◌+◌, IsTrue, length};
+ghost use Rattle.surf_complex.specs.Surface.{edge_count, face_count};
+
+use std::alloc::Global;
+use std::test::Fail;
+use surf_base::{NoMemory, VertexId};
+use surf_basis::{Cycle, least_basis, least_nonseparating};
+use surf_check::check;
+use surf_lengths::{Lengths, read_lengths};
+use surf_mesh::{HalfMesh, Soup};
+
+const TETRAHEDRON: [(u32, u32, u32); 4] = [(0, 1, 2), (0, 3, 1), (0, 2, 3), (1, 3, 2)];
+
+// The projective plane of six vertices.
+const SIX: [(u32, u32, u32); 10] = [
+    (0, 1, 2),
+    (0, 2, 3),
+    (0, 3, 4),
+    (0, 4, 5),
+    (0, 1, 5),
+    (1, 2, 4),
+    (2, 3, 5),
+    (1, 3, 4),
+    (2, 4, 5),
+    (1, 3, 5),
+];
+
+// The torus of Möbius and Császár, of seven vertices.
+const SEVEN: [(u32, u32, u32); 14] = [
+    (0, 1, 3),
+    (0, 3, 2),
+    (1, 2, 4),
+    (1, 4, 3),
+    (2, 3, 5),
+    (2, 5, 4),
+    (3, 4, 6),
+    (3, 6, 5),
+    (4, 5, 0),
+    (4, 0, 6),
+    (5, 6, 1),
+    (5, 1, 0),
+    (6, 0, 2),
+    (6, 2, 1),
+];
+
+// The torus of three by three squares, each of two triangles.
+const TORUS: [(u32, u32, u32); 18] = [
+    (0, 3, 4),
+    (0, 4, 1),
+    (1, 4, 5),
+    (1, 5, 2),
+    (2, 5, 3),
+    (2, 3, 0),
+    (3, 6, 7),
+    (3, 7, 4),
+    (4, 7, 8),
+    (4, 8, 5),
+    (5, 8, 6),
+    (5, 6, 3),
+    (6, 0, 1),
+    (6, 1, 7),
+    (7, 1, 2),
+    (7, 2, 8),
+    (8, 2, 0),
+    (8, 0, 6),
+];
+
+// Length 1 for each edge.
+const UNIT: &[u8] = b"SURFLEN 2\ndefault 1\n";
+
+// Lengths on the torus of three by three squares, all different.
+const SCATTERED: &[u8] = b"0 1 14\n0 2 21\n0 3 28\n0 4 35\n0 6 42\n0 8 49\n1 2 56\n1 4 63\n1 5 70
+1 6 77\n1 7 84\n2 3 91\n2 5 1\n2 7 8\n2 8 15\n3 4 22\n3 5 29\n3 6 36
+3 7 43\n4 5 50\n4 7 57\n4 8 64\n5 6 71\n5 8 78\n6 7 85\n6 8 92\n7 8 2\n";
+
+// The vertices and faces of a surface, the text of its lengths, and the lengths and walks of its basis.
+type Case = (
+    u32,
+    &'static [(u32, u32, u32)],
+    &'static [u8],
+    &'static [(u64, &'static [u32])],
+);
+
+const CASES: [Case; 5] = [
+    (4, &TETRAHEDRON, UNIT, &[]),
+    (6, &SIX, UNIT, &[(3, &[0, 1, 3, 0])]),
+    (7, &SEVEN, UNIT, &[(3, &[0, 1, 2, 0]), (3, &[0, 1, 4, 0])]),
+    (9, &TORUS, UNIT, &[(3, &[0, 1, 2, 0]), (3, &[0, 3, 6, 0])]),
+    (
+        9,
+        &TORUS,
+        SCATTERED,
+        &[(81, &[2, 5, 3, 7, 2]), (89, &[2, 5, 8, 7, 2])],
+    ),
+];
+
+fn push(soup: &mut Soup, a: u32, b: u32, c: u32) -> Result<(), NoMemory> {
+    let n = soup.vertices();
+    let few = soup.side_count() < 1_000_000;
+    if few && a < n && b < n && c < n && a != b && b != c && a != c {
+        soup.push_face(&[VertexId::new(a), VertexId::new(b), VertexId::new(c)])?;
+    }
+    Ok(())
+}
+
+fn surface(alloc: Global, vertices: u32, faces: &[(u32, u32, u32)]) -> Result<HalfMesh, Fail> {
+    let mut soup = Soup::start(alloc, vertices);
+    for (a, b, c) in faces {
+        push(&mut soup, *a, *b, *c).ok().ok_or("room")?;
+    }
+    Ok(check(alloc, soup).ok().ok_or("a surface")?)
+}
+
+// Whether a cycle has a length and some vertices, the first of which is its base.
+fn is_cycle(cycle: &Cycle, length: u64, walk: &[u32]) -> bool {
+    let vertices = cycle.walk.vertices();
+    let mut same = cycle.length == length && vertices.len() == walk.len();
+    for (vertex, wanted) in vertices.iter().zip(walk) {
+        same = same && vertex.number() == *wanted;
+    }
+    same && walk.len() > 0 && cycle.base.number() == walk[0]
+}
+
+fn are_cycles(cycles: &[Cycle], wanted: &[(u64, &[u32])]) -> bool {
+    let mut same = cycles.len() == wanted.len();
+    for (cycle, (length, walk)) in cycles.iter().zip(wanted) {
+        same = same && is_cycle(cycle, *length, walk);
+    }
+    same
+}
+
+// Whether the lengths are of the mesh, which isn't too wild for a basis.
+fn fit(mesh: &HalfMesh, lengths: &Lengths) -> bool
+    ensures lengths { IsTrue result → length lengths.now ≡ edge_count mesh.now }
+    ensures few { IsTrue result → edge_count mesh.now + 2 ≤ mesh.now.vertices + face_count mesh.now + 1024 }
+{
+    let nodes = mesh.vertices() as u64 + mesh.faces() as u64;
+    lengths.count() == mesh.edges() && mesh.edges() as u64 + 2 <= nodes + 1024
+}
+
+// Whether the cycles are the basis of the mesh, and the first of them its shortest cycle.
+fn has_basis(alloc: Global, mesh: &HalfMesh, lengths: &Lengths, wanted: &[(u64, &[u32])]) -> bool {
+    if !fit(mesh, lengths) {
+        return false;
+    }
+    match least_basis(alloc, mesh, lengths) {
+        Ok(basis) => are_cycles(&basis, wanted),
+        Err(_) => false,
+    }
+}
+
+fn has_first(alloc: Global, mesh: &HalfMesh, lengths: &Lengths, wanted: &[(u64, &[u32])]) -> bool {
+    if !fit(mesh, lengths) {
+        return false;
+    }
+    match (least_nonseparating(alloc, mesh, lengths), wanted) {
+        (Ok(Some(cycle)), [(length, walk), ..]) => is_cycle(&cycle, *length, walk),
+        (Ok(None), []) => true,
+        _ => false,
+    }
+}
+
+// Whether a case is answered as it should be.
+fn answers(alloc: Global, case: &Case) -> Result<bool, Fail> {
+    let (vertices, faces, text, wanted) = *case;
+    if text.len() > 1_000 {
+        return Ok(false);
+    }
+    let mesh = surface(alloc, vertices, faces)?;
+    let lengths = read_lengths(alloc, text, &mesh).ok().ok_or("lengths")?;
+    Ok(has_basis(alloc, &mesh, &lengths, wanted) && has_first(alloc, &mesh, &lengths, wanted))
+}
+
+#[test]
+fn bases_of_small_surfaces(rt: HostRuntime) -> Result<(), Fail> {
+    for case in &CASES {
+        assert!(rt; answers(rt.alloc(), case)?);
+    }
+    Ok(())
+}

@@ -1,0 +1,5 @@
+//! Bases and shortest cycles of small surfaces, with answers that were worked out by hand. The crate has tests alone.
+#![tactic(auto)]
+
+#[cfg(test)]
+mod cases;
