@@ -11,7 +11,8 @@ use Rattle.surf_tori.specs.Torus.{torus}
 use Rattle.surf_tori.specs.ConnectedSum.{connected_sum, CanLose}
 use Rattle.surf_tori.specs.Chain.{joint, last_joint, longer_chain, chain, ChainsAreSurfaces, ChainsHaveCharacteristic, ChainCounts}
 use Rattle.surf_tori.proofs.TriangleLaws.{corner_of}
-use Rattle.surf_tori.proofs.GridLaws.{IsGrid, place, low, grid_is_coherent, grid_is_surface, grid_triangles, grid_fans_without}
+use Rattle.surf_tori.proofs.GridLaws.{IsGrid, place, low, grid_is_coherent}
+use Rattle.surf_tori.proofs.GridFans.{grid_is_surface, grid_triangles, grid_fans_without}
 use Rattle.surf_tori.proofs.EulerLaws.{triangle_edges, characteristic_less}
 use Rattle.surf_tori.proofs.TorusLaws.{torus_is_grid, count}
 use Rattle.surf_tori.proofs.SumLaws.{behind, losing_of, sum_is_glued, sum_count, sum_can_lose}

@@ -11,7 +11,8 @@ use Rattle.surf_complex.specs.Side.{after, before}
 use Rattle.surf_complex.specs.Surface.{face_count, face_at}
 use Rattle.surf_complex.proofs.SideLaws.{after-below, before-below, after-before, before-after}
 use Rattle.surf_tori.specs.Torus.{grid_vertex, first_face, second_face, cell_faces, torus, CellsAreFaces, ToriAreSurfaces, ToriHaveCharacteristicZero}
-use Rattle.surf_tori.proofs.GridLaws.{IsRound, place, low, high, place_in, IsGrid, faces_are_triangles, grid_is_surface, grid_triangles}
+use Rattle.surf_tori.proofs.GridLaws.{IsRound, place, low, high, place_in, IsGrid, faces_are_triangles}
+use Rattle.surf_tori.proofs.GridFans.{grid_is_surface, grid_triangles}
 use Rattle.surf_tori.proofs.EulerLaws.{triangle_edges, characteristic_less}
 
 -- going round by one place

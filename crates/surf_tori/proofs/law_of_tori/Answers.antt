@@ -2,4 +2,8 @@ use Rattle.surf_tori.proofs.TorusLaws.{cells_are_faces, tori_are_surfaces, tori_
 use Rattle.surf_tori.proofs.law_of_tori.Goals as goal
 
 pub returns : goal.returns
-returns c = record { surfaces = tori_are_surfaces; characteristic = tori_have_characteristic_zero; faces = cells_are_faces }
+returns c = record {
+  surfaces = tori_are_surfaces;
+  characteristic = tori_have_characteristic_zero;
+  faces = cells_are_faces;
+}
