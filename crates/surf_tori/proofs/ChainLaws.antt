@@ -142,7 +142,11 @@ module _ (a b : ℕ) (wide : 4 ≤ a) (high : 4 ≤ b) where
       long.vertices ∙ ap (λ n. n * (a * b)) (last_of g some) in
       let f : face_count (chain g a b) + 2 * (g - 1) ≡ 2 * (g * (a * b)) =
       long.faces ∙ ap (λ n. 2 * (n * (a * b))) (last_of g some) in
-      record { vertices = omega (arith, v); faces = omega (arith, f) }
+      record {
+        vertices = omega (arith, v);
+        faces = omega (arith, f);
+        edges = sym (triangle_edges (chain g a b) long.can.surface long.triangles);
+      }
 
   pub chain_characteristic : (g : ℕ) → 1 ≤ g → characteristic (chain g a b) ≡ pos 2 -ℤ pos (2 * g)
   chain_characteristic g some =

@@ -16,7 +16,8 @@
 
 ghost use Rattle.std.specs.Prelude.{ℕ, ◌≤◌};
 ghost use Rattle.surf_tori.specs.Coherent.{CoherentEdgesHaveTwoFaces};
-ghost use Rattle.surf_tori.specs.Torus.{CellsAreFaces, ToriAreSurfaces, ToriHaveCharacteristicZero};
+ghost use Rattle.surf_tori.specs.Torus.{TorusCounts, CellsAreFaces, ToriAreSurfaces};
+ghost use Rattle.surf_tori.specs.Torus.{ToriHaveCharacteristicZero};
 ghost use Rattle.surf_tori.specs.ConnectedSum.{ConnectedSumsAreSurfaces, ConnectedSumsLoseTwo};
 ghost use Rattle.surf_tori.specs.Chain.{ChainsAreSurfaces, ChainsHaveCharacteristic, ChainCounts};
 
@@ -29,6 +30,7 @@ pub fn law_of_coherence()
 pub fn law_of_tori()
     ensures surfaces { ToriAreSurfaces }
     ensures characteristic { ToriHaveCharacteristicZero }
+    ensures counts { (a b : ℕ) → 3 ≤ a → 3 ≤ b → TorusCounts a b }
     ensures faces { (a b : ℕ) → 3 ≤ a → 3 ≤ b → CellsAreFaces a b }
 {}
 
