@@ -1,6 +1,7 @@
 pub mod BorderRounds
 pub mod BorderSides
 pub mod BorderTables
+pub mod BoundaryOne
 pub mod Chosen
 pub mod Counted
 pub mod OpenedBy

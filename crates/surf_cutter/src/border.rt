@@ -1,5 +1,5 @@
 //! The border of an opened surface, in one round.
-ghost use Rattle.std.specs.Prelude.{◌≡◌, ◌≢◌, ◌<◌, ◌≤◌, ◌+◌, ◌^◌, ◌⊎◌, ℕ, List, [], true, length, IfOk, OnOk, MatchOption, slice_index, slice_index_or};
+ghost use Rattle.std.specs.Prelude.{◌≡◌, ◌≢◌, ◌<◌, ◌+◌, ◌^◌, ◌⊎◌, ℕ, List, length, IfOk, OnOk, MatchOption, slice_index};
 ghost use Rattle.std.specs.List.{sum_by};
 ghost use Rattle.surf_complex.specs.Disc.{IsDisc};
 ghost use Rattle.surf_complex.specs.Side.{after};

@@ -1,5 +1,5 @@
 //! Cutting a surface open along the edges outside a tree of its faces.
-ghost use Rattle.std.specs.Prelude.{◌≡◌, ◌+◌, ◌<◌, ◌^◌, ℕ, true, false, not, length, IfOk, slice_index, slice_index_or};
+ghost use Rattle.std.specs.Prelude.{◌≡◌, ◌+◌, ◌<◌, ℕ, true, false, length, IfOk, slice_index};
 ghost use Rattle.surf_complex.specs.Disc.{IsOpening};
 ghost use Rattle.surf_complex.specs.Surface.{edge_count, face_count};
 ghost use Rattle.surf_cutter.specs.Boundary.{IsFullCut, OpensToDisc};

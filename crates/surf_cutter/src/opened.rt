@@ -1,5 +1,5 @@
 //! The opened surface.
-ghost use Rattle.std.specs.Prelude.{◌≡◌, ◌<◌, ◌≤◌, ◌+◌, ◌^◌, ℕ, [], length, take, IfOk, slice_index, slice_index_or};
+ghost use Rattle.std.specs.Prelude.{◌≡◌, ◌<◌, ◌≤◌, ◌+◌, ◌^◌, ℕ, List, [], length, take, IfOk, slice_index, slice_index_or};
 ghost use Rattle.std.specs.List.{flat_map, sum_by};
 ghost use Rattle.surf_complex.specs.Disc.{IsDisc};
 ghost use Rattle.surf_complex.specs.Surface.{edge_count};
@@ -119,7 +119,8 @@ impl Opened {
     /// side's second corner in listed order. Each further one is the other border side at the copy that
     /// the last side has and the side before it doesn't have.
     pub fn boundary(&self) -> &[SideId]
-        ensures { IsBoundary (mesh_of self.now) result.now }
+        ensures round { IsBoundary (mesh_of self.now) result.now }
+        ensures only { (list : List ℕ) → IsBoundary (mesh_of self.now) list → list ≡ result.now }
     {
         &self.boundary
     }
