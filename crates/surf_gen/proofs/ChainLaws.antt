@@ -12,7 +12,7 @@ use Rattle.surf_complex.specs.Surface.{face_count, face_at}
 use Rattle.surf_tori.specs.Torus.{torus}
 use Rattle.surf_tori.specs.ConnectedSum.{others_before}
 use Rattle.surf_tori.specs.Chain.{longer_chain}
-use Rattle.surf_tori.proofs.GridLaws.{grid_triangles}
+use Rattle.surf_tori.proofs.GridFans.{grid_triangles}
 use Rattle.surf_tori.proofs.TorusLaws.{torus_is_grid, count}
 use Rattle.surf_tori.proofs.ListLaws.{part_more}
 use Rattle.surf_tori.proofs.ChainLaws.{chains_have_counts}

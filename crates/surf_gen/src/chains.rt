@@ -104,9 +104,9 @@ fn own_numbers(alloc: Global, count: u32) -> Result<Vec<VertexId>, NoMemory>
     Ok(numbers)
 }
 
-/// The chain of `g` tori of `a` rows and `b` columns, each joined to the one before along a
-/// triangle that is left out of both (Herbert Seifert and William Threlfall, "Lehrbuch der
-/// Topologie", 1934, on connected sums of surfaces).
+/// The chain of `g` tori of `a` rows and `b` columns: their connected sum, as in William S. Massey,
+/// "Algebraic Topology: An Introduction" (1967). Each is joined to the one before along a triangle
+/// that is left out of both.
 ///
 /// Of each torus but the last, the first face of the cell in row 2 and column 2 is left out, and of
 /// each but the first that of the cell in row 0 and column 0. Of these two faces, the corners of

@@ -11,7 +11,8 @@ use Rattle.surf_tori.specs.Torus.{torus}
 use Rattle.surf_tori.specs.ConnectedSum.{connected_sum, CanLose}
 use Rattle.surf_tori.specs.Chain.{joint, last_joint, longer_chain, chain, ChainsAreSurfaces, ChainsHaveCharacteristic, ChainCounts}
 use Rattle.surf_tori.proofs.TriangleLaws.{corner_of}
-use Rattle.surf_tori.proofs.GridLaws.{IsGrid, place, low, grid_is_coherent, grid_is_surface, grid_triangles, grid_fans_without}
+use Rattle.surf_tori.proofs.GridLaws.{IsGrid, place, low, grid_is_coherent}
+use Rattle.surf_tori.proofs.GridFans.{grid_is_surface, grid_triangles, grid_fans_without}
 use Rattle.surf_tori.proofs.EulerLaws.{triangle_edges, characteristic_less}
 use Rattle.surf_tori.proofs.TorusLaws.{torus_is_grid, count}
 use Rattle.surf_tori.proofs.SumLaws.{behind, losing_of, sum_is_glued, sum_count, sum_can_lose}
@@ -141,7 +142,11 @@ module _ (a b : ℕ) (wide : 4 ≤ a) (high : 4 ≤ b) where
       long.vertices ∙ ap (λ n. n * (a * b)) (last_of g some) in
       let f : face_count (chain g a b) + 2 * (g - 1) ≡ 2 * (g * (a * b)) =
       long.faces ∙ ap (λ n. 2 * (n * (a * b))) (last_of g some) in
-      record { vertices = omega (arith, v); faces = omega (arith, f) }
+      record {
+        vertices = omega (arith, v);
+        faces = omega (arith, f);
+        edges = sym (triangle_edges (chain g a b) long.can.surface long.triangles);
+      }
 
   pub chain_characteristic : (g : ℕ) → 1 ≤ g → characteristic (chain g a b) ≡ pos 2 -ℤ pos (2 * g)
   chain_characteristic g some =

@@ -179,8 +179,10 @@ module _ {M N K : Mesh} {f h : ℕ} {name left right : ℕ → ℕ} {a0 a1 a2 b0
           let q = near_second s in
           let is : v ≡ s.p = sym e ∙ ap name i ∙ s.start in
           meet v w p.0 q.0 e in' (kept_first s) (kept_second s)
-          (subst (HasCorner M p.0) (sym is) (run_face M p.0 (s.q, s.p) p.2, (run_corners (s.q, s.p) (face_at M p.0) p.2).1))
-          (subst (HasCorner N q.0) (sym i) (run_face N q.0 (s.i, s.j) q.2, (run_corners (s.i, s.j) (face_at N q.0) q.2).0))
+          (subst (HasCorner M p.0) (sym is)
+          (run_face M p.0 (s.q, s.p) p.2, (run_corners (s.q, s.p) (face_at M p.0) p.2).1))
+          (subst (HasCorner N q.0) (sym i)
+          (run_face N q.0 (s.i, s.j) q.2, (run_corners (s.i, s.j) (face_at N q.0) q.2).0))
           (subst (λ u. ShareAt K u (left p.0) (right q.0)) (sym is) (share_start s)) g k x y cx cy
 
       at_stop : (s : Seam) (v w : ℕ) → w ≡ s.j → name w ≡ v → w < N.vertices → (g k : ℕ) → InFirst g → InSecond k →
@@ -190,8 +192,10 @@ module _ {M N K : Mesh} {f h : ℕ} {name left right : ℕ → ℕ} {a0 a1 a2 b0
           let q = near_second s in
           let is : v ≡ s.q = sym e ∙ ap name j ∙ s.stop in
           meet v w p.0 q.0 e in' (kept_first s) (kept_second s)
-          (subst (HasCorner M p.0) (sym is) (run_face M p.0 (s.q, s.p) p.2, (run_corners (s.q, s.p) (face_at M p.0) p.2).0))
-          (subst (HasCorner N q.0) (sym j) (run_face N q.0 (s.i, s.j) q.2, (run_corners (s.i, s.j) (face_at N q.0) q.2).1))
+          (subst (HasCorner M p.0) (sym is)
+          (run_face M p.0 (s.q, s.p) p.2, (run_corners (s.q, s.p) (face_at M p.0) p.2).0))
+          (subst (HasCorner N q.0) (sym j)
+          (run_face N q.0 (s.i, s.j) q.2, (run_corners (s.i, s.j) (face_at N q.0) q.2).1))
           (subst (λ u. ShareAt K u (left p.0) (right q.0)) (sym is) (share_stop s)) g k x y cx cy
 
       -- a face of M and one of N that meet at a vertex

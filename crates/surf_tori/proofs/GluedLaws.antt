@@ -100,7 +100,8 @@ module _ {M N K : Mesh} {f h : ℕ} {name left right : ℕ → ℕ} {a0 a1 a2 b0
         let runs_h : (p q : ℕ) → u ≡ p → v ≡ q → Runs N h (p, q) → ⊥ = λ p q x y t.
         other_k (of_second.once k h (u, v) s (subst (λ w. Runs N h (u, w)) (sym y) (subst (λ w. Runs N h (w, q)) (sym x)
         t))) in
-        let runs_f : (p q i j : ℕ) → u ≡ p → v ≡ q → name p ≡ i → name q ≡ j → Runs M f (i, j) → ⊥ = λ p q i j x y m n t.
+        let runs_f : (p q i j : ℕ) → u ≡ p → v ≡ q → name p ≡ i → name q ≡ j → Runs M f (i, j) → ⊥ =
+        λ p q i j x y m n t.
         other_g (of_first.once g f (name u, name v) r
         (subst (λ w. Runs M f (name u, w)) (sym (ap name y ∙ n))
         (subst (λ w. Runs M f (w, j)) (sym (ap name x ∙ m)) t))) in

@@ -3,6 +3,7 @@ pub mod EulerLaws
 pub mod TriangleLaws
 pub mod LinkLaws
 pub mod GridLaws
+pub mod GridFans
 pub mod TorusLaws
 pub mod RenamedLaws
 pub mod GluedLaws

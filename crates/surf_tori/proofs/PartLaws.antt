@@ -194,7 +194,8 @@ module _ (a b : ℕ) (wide : 4 ≤ a) (high : 4 ≤ b) where
               ap (λ zs. zs ++ map (map old_name) (without 0 (torus_faces a b))) without_joint
               ∙ ap (λ zs. ((done ++ upto_joint) ++ behind_joint) ++ zs)
               (ap (λ (rename : ℕ → ℕ). map (map rename) (drop 1 (torus_faces a b)))
-              (ap (λ face. sum_name start face (face_at (torus a b) 0)) joint_face ∙ ap (sum_name start out) first_corners)
+              (ap (λ face. sum_name start face (face_at (torus a b) 0)) joint_face
+              ∙ ap (sum_name start out) first_corners)
               ∙ sym (faces_alike (a * b) (slice_index next) name at (drop 1 (torus_faces a b)) (corners_in 1)));
           few = omega arith;
           long = size;

@@ -141,8 +141,10 @@ module _ {a0 a1 a2 : ℕ} (d01 : a0 ≢ a1) (d02 : a0 ≢ a2) (d12 : a1 ≢ a2) 
                   elim (cases_order u v) [
                     | inl is ↦ is
                     | inr o ↦ elim o [
-                      | inl lt ↦ let r = rank_less other u v lt (other_is u m.0 m.1 m.2) in absurd (omega (arith, r, same))
-                      | inr gt ↦ let r = rank_less other v u gt (other_is v n.0 n.1 n.2) in absurd (omega (arith, r, same))
+                      | inl lt ↦ let r = rank_less other u v lt (other_is u m.0 m.1 m.2) in
+                          absurd (omega (arith, r, same))
+                      | inr gt ↦ let r = rank_less other v u gt (other_is v n.0 n.1 n.2) in
+                          absurd (omega (arith, r, same))
                     ]
                   ]
             ]

@@ -1,13 +1,19 @@
 -- Connected sums are surfaces.
-use Rattle.std.proofs.Common.{◌≡◌, ◌≢◌, ℕ, ◌+◌, ◌-◌, ◌<◌, ◌≤◌, cond, ltb, List, [], ◌∷◌, ◌⊎◌, length, get_or, map, take, drop, refl, sym, ap, ◌∙◌, arith, inl, inr, subst, Contains}
+use Rattle.std.proofs.Common.{◌≡◌, ◌≢◌, ℕ, suc, ◌+◌, ◌-◌, ◌<◌, ◌≤◌, cond, ltb, List, [], ◌∷◌, ◌⊎◌, length, get_or, map, take, drop, refl, sym, ap, ◌∙◌, arith, inl, inr, subst, Contains}
 use Rattle.std.proofs.lemmas.Bool.{cases_eq, cases_lt, lt-ltb, le-ltb}
 use Rattle.std.proofs.lemmas.List.{length-append, length-map, length-take-le, length-drop, get_or_append_left, get_or-append_right, get_or-take, get_or-drop, get_or-map}
+use Rattle.std.specs.List.{sum_by}
+use Rattle.std.proofs.Math.Seq.{drop-cons}
+use Rattle.std.proofs.lemmas.List.{take-append-drop}
+use Rattle.std.proofs.lemmas.List.Sums.{sum_by-cons, sum_by-append}
+use Rattle.surf_complex.proofs.CountLaws.{sizes_twice}
+use Rattle.surf_tori.proofs.EulerLaws.{characteristic_of_sum}
 use Rattle.surf_complex.specs.Joined.{here, over}
 use Rattle.surf_complex.specs.Mesh.{Mesh, IsFace, pair}
 use Rattle.surf_complex.specs.Surface.{face_count, face_at, HasCorner, HasEdge}
 use Rattle.surf_complex.proofs.JoinedLaws.{joined_lift}
 use Rattle.surf_tori.specs.Coherent.{Runs, IsCoherent}
-use Rattle.surf_tori.specs.ConnectedSum.{without, sum_name, connected_sum, CanLose, ConnectedSumsAreSurfaces}
+use Rattle.surf_tori.specs.ConnectedSum.{without, sum_name, connected_sum, CanLose, ConnectedSumsAreSurfaces, ConnectedSumsLoseTwo}
 use Rattle.surf_tori.proofs.RankLaws.{name, name_0, name_1, name_2, name_fresh, name_injective, name_in, named}
 use Rattle.surf_tori.proofs.TriangleLaws.{corner_of, runs_first}
 use Rattle.surf_tori.proofs.RenamedLaws.{edge_corner, run_face, run_corners}
@@ -136,7 +142,8 @@ module _ {M N : Mesh} {f h a0 a1 a2 b0 b1 b2 : ℕ} (f_in : f < face_count M) (h
       let back = back_long in
       let at = moved_in h k (face_count N) h_in in' other in
       let there : behind (face_count M) h k - (face_count M - 1) ≡ moved h k = omega arith in
-      get_or-append_right (without f M.faces) (map (map old_name) (without h N.faces)) (face_count M - 1) (behind (face_count M) h k) []
+      get_or-append_right (without f M.faces) (map (map old_name) (without h N.faces)) (face_count M - 1)
+      (behind (face_count M) h k) []
       (omega (arith, front)) (omega arith)
       ∙ ap (λ n. get_or (map (map old_name) (without h N.faces)) n []) there
       ∙ get_or-map (map old_name) (without h N.faces) (moved h k) [] [] (omega (arith, back, at))
@@ -296,3 +303,59 @@ sum_can_lose M N f h t can_first can_second t_in other three fans_t apart =
       fans = λ v in' x y nx ny cx cy. joined_lift (λ p q s. over (away p s.0, away q s.1, s.2) here)
           (fans v in' x y (kept x cx.0 nx) (kept y cy.0 ny) cx cy);
     }
+
+-- sizes without one item
+sizes_without : (n : ℕ) (xs : List (List ℕ)) → n < length xs →
+    sum_by length (without n xs) + length (get_or xs n []) ≡ sum_by length xs
+sizes_without n xs in' =
+    let next : n + 1 ≡ suc n = omega arith in
+    let here = drop-cons xs n [] in' in
+    let whole : sum_by length xs ≡ sum_by length (take n xs) + sum_by length (drop n xs) =
+    ap (sum_by length) (sym (take-append-drop n xs)) ∙ sum_by-append length (take n xs) (drop n xs) in
+    let back : sum_by length (drop n xs) ≡ length (get_or xs n []) + sum_by length (drop (n + 1) xs) =
+    ap (sum_by length) here ∙ sum_by-cons length (get_or xs n []) (drop (suc n) xs)
+    ∙ ap (λ m. length (get_or xs n []) + sum_by length (drop m xs)) (sym next) in
+    let all = sum_by-append length (take n xs) (drop (n + 1) xs) in
+    omega (arith, whole, back, all)
+
+sizes_renamed : (name : ℕ → ℕ) (xs : List (List ℕ)) → sum_by length (map (map name) xs) ≡ sum_by length xs
+sizes_renamed name [] = refl
+sizes_renamed name (x ∷ xs) =
+    let one = sum_by-cons length (map name x) (map (map name) xs) in
+    let two = sum_by-cons length x xs in
+    let same : length (map name x) ≡ length x = length-map x name in
+    omega (arith, one, two, same, sizes_renamed name xs)
+
+-- three different numbers below a bound
+three_below : (n x y z : ℕ) → IsFace n (x ∷ y ∷ z ∷ []) → 3 ≤ n
+three_below n x y z h =
+    let a : x < n = h.inside 0 0 (omega arith) in
+    let b : y < n = h.inside 1 0 (omega arith) in
+    let c : z < n = h.inside 2 0 (omega arith) in
+    let d : x ≢ y = h.distinct 0 1 0 (omega arith) (omega arith) in
+    let e : x ≢ z = h.distinct 0 2 0 (omega arith) (omega arith) in
+    let f : y ≢ z = h.distinct 1 2 0 (omega arith) (omega arith) in
+    omega arith
+
+pub connected_sums_lose_two : ConnectedSumsLoseTwo
+connected_sums_lose_two M N f h can_first can_second =
+    let K = connected_sum M f N h in
+    let one = losing_of M f can_first in
+    let two = losing_of N h can_second in
+    let name = sum_name M.vertices (face_at M f) (face_at N h) in
+    let surface = connected_sums_are_surfaces M N f h can_first can_second in
+    let faces = sum_count can_first.is_face can_second.is_face one.3.triangle two.3.triangle can_first.coherent
+    can_second.coherent in
+    let large = three_below N.vertices two.0 two.1 two.2
+    (subst (IsFace N.vertices) two.3.triangle (can_second.coherent.is_mesh h [] can_second.is_face)) in
+    let front = sizes_without f M.faces can_first.is_face in
+    let back = sizes_without h N.faces can_second.is_face in
+    let renamed = sizes_renamed name (without h N.faces) in
+    let all = sum_by-append length (without f M.faces) (map (map name) (without h N.faces)) in
+    let first_edges = sizes_twice M can_first.surface in
+    let second_edges = sizes_twice N can_second.surface in
+    let edges = sizes_twice K surface in
+    let a = can_first.triangle in
+    let b = can_second.triangle in
+    characteristic_of_sum M N K (omega (arith, large))
+    (omega (arith, front, back, renamed, all, first_edges, second_edges, edges, a, b)) faces

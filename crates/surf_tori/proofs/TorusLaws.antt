@@ -10,8 +10,9 @@ use Rattle.surf_complex.specs.Mesh.{IsFace}
 use Rattle.surf_complex.specs.Side.{after, before}
 use Rattle.surf_complex.specs.Surface.{face_count, face_at}
 use Rattle.surf_complex.proofs.SideLaws.{after-below, before-below, after-before, before-after}
-use Rattle.surf_tori.specs.Torus.{grid_vertex, first_face, second_face, cell_faces, torus, CellsAreFaces, ToriAreSurfaces, ToriHaveCharacteristicZero}
-use Rattle.surf_tori.proofs.GridLaws.{IsRound, place, low, high, place_in, IsGrid, faces_are_triangles, grid_is_surface, grid_triangles}
+use Rattle.surf_tori.specs.Torus.{grid_vertex, first_face, second_face, cell_faces, torus, TorusCounts, CellsAreFaces, ToriAreSurfaces, ToriHaveCharacteristicZero}
+use Rattle.surf_tori.proofs.GridLaws.{IsRound, place, low, high, place_in, IsGrid, faces_are_triangles}
+use Rattle.surf_tori.proofs.GridFans.{grid_is_surface, grid_triangles}
 use Rattle.surf_tori.proofs.EulerLaws.{triangle_edges, characteristic_less}
 
 -- going round by one place
@@ -152,6 +153,13 @@ module _ (a b : ℕ) (wide : 3 ≤ a) (high_enough : 3 ≤ b) where
 
 pub tori_are_surfaces : ToriAreSurfaces
 tori_are_surfaces a b x y = grid_is_surface (torus_is_grid a b x y)
+
+pub tori_have_counts : (a b : ℕ) → 3 ≤ a → 3 ≤ b → TorusCounts a b
+tori_have_counts a b x y =
+    let grid = torus_is_grid a b x y in
+    let faces : face_count (torus a b) ≡ 2 * (a * b) = count a b x y in
+    let edges = triangle_edges (torus a b) (grid_is_surface grid) (grid_triangles grid) in
+    record { faces = faces; edges = omega (arith, faces, edges) }
 
 pub tori_have_characteristic_zero : ToriHaveCharacteristicZero
 tori_have_characteristic_zero a b x y =

@@ -1,7 +1,7 @@
 -- Chains of tori.
 use Rattle.std.specs.Prelude.{◌≡◌, ℕ, zero, suc, ◌+◌, ◌-◌, ◌*◌, ◌≤◌, pos, ◌-ℤ◌}
 use Rattle.surf_complex.specs.Mesh.{Mesh, characteristic}
-use Rattle.surf_complex.specs.Surface.{face_count, IsSurface}
+use Rattle.surf_complex.specs.Surface.{face_count, edge_count, IsSurface}
 use Rattle.surf_tori.specs.Torus.{torus}
 use Rattle.surf_tori.specs.ConnectedSum.{connected_sum}
 
@@ -33,7 +33,8 @@ abbrev pub ChainsHaveCharacteristic : Type 0
 ChainsHaveCharacteristic =
     (g a b : ℕ) → 1 ≤ g → 4 ≤ a → 4 ≤ b → characteristic (chain g a b) ≡ pos 2 -ℤ pos (2 * g)
 
--- how many vertices and faces there are
+-- how many vertices, edges and faces there are: the edges are three halves of the faces
 pub record ChainCounts (g a b : ℕ) : Type 0 where
   pub vertices : (chain g a b).vertices ≡ g * (a * b) - 3 * (g - 1)
   pub faces : face_count (chain g a b) ≡ 2 * (g * (a * b)) - 2 * (g - 1)
+  pub edges : 2 * edge_count (chain g a b) ≡ 3 * face_count (chain g a b)

@@ -1,9 +1,9 @@
 -- Connected sums: two surfaces, joined along a triangle that is left out of both.
-use Rattle.std.specs.Prelude.{◌≡◌, ◌≢◌, ℕ, ◌+◌, ◌-◌, ◌<◌, ◌==◌, not, if◌then◌else◌, List, ◌++◌, length, map, take, drop}
+use Rattle.std.specs.Prelude.{◌≡◌, ◌≢◌, ℕ, ◌+◌, ◌-◌, ◌<◌, ◌==◌, not, if◌then◌else◌, List, ◌++◌, length, map, take, drop, pos, ◌+ℤ◌, ◌-ℤ◌}
 use Rattle.std.specs.List.{list_any}
 use Rattle.surf_z2.specs.Parity.{count_below}
 use Rattle.surf_complex.specs.Joined.{Joined}
-use Rattle.surf_complex.specs.Mesh.{Mesh}
+use Rattle.surf_complex.specs.Mesh.{Mesh, characteristic}
 use Rattle.surf_complex.specs.Side.{corner}
 use Rattle.surf_complex.specs.Surface.{face_count, face_at, HasCorner, ShareAt, IsSurface}
 use Rattle.surf_tori.specs.Coherent.{IsCoherent}
@@ -49,3 +49,9 @@ pub record CanLose (mesh : Mesh) (f : ℕ) : Type 0 where
 abbrev pub ConnectedSumsAreSurfaces : Type 0
 ConnectedSumsAreSurfaces =
     (first second : Mesh) (f h : ℕ) → CanLose first f → CanLose second h → IsSurface (connected_sum first f second h)
+
+-- and its characteristic is 2 less than the sum of theirs
+abbrev pub ConnectedSumsLoseTwo : Type 0
+ConnectedSumsLoseTwo =
+    (first second : Mesh) (f h : ℕ) → CanLose first f → CanLose second h →
+    characteristic (connected_sum first f second h) ≡ (characteristic first +ℤ characteristic second) -ℤ pos 2

@@ -2,7 +2,7 @@
 use Rattle.std.specs.Prelude.{◌≡◌, ℕ, ◌+◌, ◌*◌, ◌/◌, ◌%◌, ◌<◌, ◌≤◌, List, [], ◌∷◌, flat_map, pos}
 use Rattle.std.specs.List.{range_with_len}
 use Rattle.surf_complex.specs.Mesh.{Mesh, IsFace, characteristic}
-use Rattle.surf_complex.specs.Surface.{IsSurface}
+use Rattle.surf_complex.specs.Surface.{face_count, edge_count, IsSurface}
 
 -- the vertex in a row and a column; rows are taken modulo a, and columns modulo b
 abbrev pub grid_vertex : ℕ → ℕ → ℕ → ℕ → ℕ
@@ -37,6 +37,11 @@ ToriAreSurfaces = (a b : ℕ) → 3 ≤ a → 3 ≤ b → IsSurface (torus a b)
 -- of characteristic 0
 abbrev pub ToriHaveCharacteristicZero : Type 0
 ToriHaveCharacteristicZero = (a b : ℕ) → 3 ≤ a → 3 ≤ b → characteristic (torus a b) ≡ pos 0
+
+-- how many faces and edges there are
+pub record TorusCounts (a b : ℕ) : Type 0 where
+  pub faces : face_count (torus a b) ≡ 2 * (a * b)
+  pub edges : edge_count (torus a b) ≡ 3 * (a * b)
 
 -- the two faces of each cell are faces over its vertices
 pub record CellsAreFaces (a b : ℕ) : Type 0 where

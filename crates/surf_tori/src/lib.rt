@@ -6,17 +6,19 @@
 //! surface; its characteristic is 0 (`law_of_tori`).
 //!
 //! Two such surfaces are joined along a triangle that is left out of both: their connected sum. It
-//! is a surface where the faces at each vertex stay joined without the triangle
-//! (`law_of_connected_sums`). A chain is a torus to which others are joined one after the other, so
-//! it is a surface too; its characteristic is 2 less twice the number of tori (`law_of_chains`).
+//! is a surface where the faces at each vertex stay joined without the triangle, and its
+//! characteristic is 2 less than theirs together (`law_of_connected_sums`). A chain is a torus to
+//! which others are joined one after the other, so it is a surface too; its characteristic is 2 less
+//! twice the number of tori (`law_of_chains`).
 //!
 //! Each law is the contract of a function that does nothing.
 #![tactic(auto)]
 
 ghost use Rattle.std.specs.Prelude.{ℕ, ◌≤◌};
 ghost use Rattle.surf_tori.specs.Coherent.{CoherentEdgesHaveTwoFaces};
-ghost use Rattle.surf_tori.specs.Torus.{CellsAreFaces, ToriAreSurfaces, ToriHaveCharacteristicZero};
-ghost use Rattle.surf_tori.specs.ConnectedSum.{ConnectedSumsAreSurfaces};
+ghost use Rattle.surf_tori.specs.Torus.{TorusCounts, CellsAreFaces, ToriAreSurfaces};
+ghost use Rattle.surf_tori.specs.Torus.{ToriHaveCharacteristicZero};
+ghost use Rattle.surf_tori.specs.ConnectedSum.{ConnectedSumsAreSurfaces, ConnectedSumsLoseTwo};
 ghost use Rattle.surf_tori.specs.Chain.{ChainsAreSurfaces, ChainsHaveCharacteristic, ChainCounts};
 
 /// Coherently oriented meshes.
@@ -28,12 +30,14 @@ pub fn law_of_coherence()
 pub fn law_of_tori()
     ensures surfaces { ToriAreSurfaces }
     ensures characteristic { ToriHaveCharacteristicZero }
+    ensures counts { (a b : ℕ) → 3 ≤ a → 3 ≤ b → TorusCounts a b }
     ensures faces { (a b : ℕ) → 3 ≤ a → 3 ≤ b → CellsAreFaces a b }
 {}
 
 /// Two surfaces, joined along a triangle that is left out of both.
 pub fn law_of_connected_sums()
     ensures surfaces { ConnectedSumsAreSurfaces }
+    ensures characteristic { ConnectedSumsLoseTwo }
 {}
 
 /// Chains of tori.

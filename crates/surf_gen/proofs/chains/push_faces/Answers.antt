@@ -45,7 +45,8 @@ loop-f-preserved c =
       faces =
           ap (λ (m : Mesh). m.faces) pushed
           ∙ ap (λ (xs : List (List ℕ)). xs ++ (x ∷ y ∷ z ∷ []) ∷ []) c.loop-f.invariant.faces
-          ∙ faces_more c.args.soup.now.faces (torus_faces a b) (map (slice_index numbers)) c.args.from f (x ∷ y ∷ z ∷ [])
+          ∙ faces_more c.args.soup.now.faces (torus_faces a b) (map (slice_index numbers)) c.args.from f
+          (x ∷ y ∷ z ∷ [])
           after (omega (arith, all, in')) (corners ∙ ap (map (slice_index numbers)) is);
       sides = ap side_count pushed ∙ omega (arith, sides, before, after);
     }
