@@ -7,8 +7,8 @@ use Rattle.surf_print.specs.CycleTexts.{cycles_text}
 use Rattle.surf_run.specs.Outcome.{Outcome}
 use Rattle.surf_run.specs.Says.{Says}
 
--- The basis that is chosen from the loops at all vertices. It is a least basis of simple cycles, each with its length: 2 − χ closed walks,
--- independent, and no such walks total less.
+-- The basis that is chosen from the loops at all vertices. It is a least basis of simple cycles, each with its length:
+-- 2 − χ closed walks, independent, and no such walks total less.
 pub record GivesBasis (mesh : Mesh) (lengths : List ℕ) (outcome : Outcome) : Type 0 where
   pub trees : ℕ → Trees
   pub chosen : AreChosen mesh lengths trees

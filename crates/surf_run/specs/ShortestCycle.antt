@@ -8,7 +8,8 @@ use Rattle.surf_print.specs.CycleTexts.{cycle_line}
 use Rattle.surf_run.specs.Outcome.{Outcome}
 use Rattle.surf_run.specs.Says.{Says}
 
--- The first candidate for the basis, with its length: a simple cycle that doesn't separate the surface, and none is shorter.
+-- The first candidate for the basis, with its length: a simple cycle that doesn't separate the surface, and no such
+-- cycle is shorter.
 pub record GivesShortest (mesh : Mesh) (lengths : List ℕ) (outcome : Outcome) : Type 0 where
   pub trees : ℕ → Trees
   pub chosen : AreChosen mesh lengths trees
