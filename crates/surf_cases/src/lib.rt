@@ -9,6 +9,8 @@ mod cuts;
 #[cfg(test)]
 mod cycles;
 #[cfg(test)]
+mod made;
+#[cfg(test)]
 mod meshes;
 #[cfg(test)]
 mod outside;

@@ -18,8 +18,11 @@ const HELP: &str = "usage: surf info M
        surf cycle M L
        surf cut M L x full | trim
        surf disc M
+       surf gen torus a b
+       surf gen chain g a b
        surf --help | --version
 M is an OFF mesh, L a length file or the word unit, x a vertex.
+a and b are rows and columns of squares, g tori.
 ";
 
 /// Words, files, and what is due.

@@ -7,3 +7,4 @@ mod HeadLaws
 mod CutLaws
 mod CycleLaws
 mod FindingLaws
+mod ShapeLaws

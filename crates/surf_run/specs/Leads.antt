@@ -6,13 +6,14 @@ use Rattle.surf_run.specs.Help.{help_text, version_text}
 use Rattle.surf_run.specs.CycleTasks.{OnCycles}
 use Rattle.surf_run.specs.Discs.{JudgesDisc}
 use Rattle.surf_run.specs.Info.{Informs}
+use Rattle.surf_run.specs.Making.{OnGen}
 use Rattle.surf_run.specs.MeshTexts.{IsMeshText}
 use Rattle.surf_run.specs.Outcome.{Outcome, answers, Shows}
 use Rattle.surf_run.specs.Reading.{Reads}
 use Rattle.surf_run.specs.Steps.{Ends}
 use Rattle.surf_run.specs.Surfaces.{IsSurfaceText}
 use Rattle.surf_run.specs.Tasks.{OnTask}
-use Rattle.surf_run.specs.Words.{Request, help, version, info, disc, cycles, weighted, request_of}
+use Rattle.surf_run.specs.Words.{Request, help, version, info, disc, cycles, weighted, makes, request_of}
 
 -- `info` of the text of a mesh
 abbrev pub OnInfoText : List ℕ → Outcome → Type 0
@@ -39,6 +40,7 @@ OnRequest (Some (info mesh)) files outcome = OnInfo mesh files outcome
 OnRequest (Some (disc mesh)) files outcome = OnDisc mesh files outcome
 OnRequest (Some (cycles task mesh lengths)) files outcome = OnCycles task mesh lengths files outcome
 OnRequest (Some (weighted task mesh lengths base)) files outcome = OnTask task mesh lengths base files outcome
+OnRequest (Some (makes shape)) files outcome = OnGen shape outcome
 
 -- what comes of these words over these files
 unfoldable pub Leads : List (List ℕ) → Files → Outcome → Type 0

@@ -26,3 +26,5 @@ pub mod Seen
 pub mod Leads
 pub mod Tells
 pub mod Run
+pub mod Shapes
+pub mod Making

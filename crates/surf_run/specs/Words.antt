@@ -7,6 +7,7 @@ use Rattle.surf_run.specs.declared.cycles.CycleTask.TheVariants.{Basis, Shortest
 use Rattle.surf_run.specs.declared.weighted.Task.{Task}
 use Rattle.surf_run.specs.declared.weighted.Task.TheVariants.{Distances, LeastLoops, Cut}
 use Rattle.surf_run.specs.declared.cut_command.CutKind.TheVariants.{Full, Trimmed}
+use Rattle.surf_run.specs.Shapes.{Shape, torus_named, chain_named}
 use Rattle.std.specs.declared.alloc.Global.{Global}
 
 -- the bytes of each word
@@ -23,6 +24,8 @@ pub data Request : Type 0 where
   cycles : CycleTask → List ℕ → List ℕ → Request
   -- a task on the surface of a file, with the lengths that a word gives and a base
   weighted : Task → List ℕ → List ℕ → ℕ → Request
+  -- the mesh of a shape
+  makes : Shape → Request
 
 abbrev pub lone_request : List ℕ → Option Request
 lone_request word =
@@ -66,12 +69,36 @@ abbrev pub cycles_request : Option CycleTask → List ℕ → List ℕ → Optio
 cycles_request None mesh lengths = None
 cycles_request (Some task) mesh lengths = Some (cycles task mesh lengths)
 
+abbrev pub shape_request : Option Shape → Option Request
+shape_request None = None
+shape_request (Some shape) = Some (makes shape)
+
+-- the rows of four words and of five that begin with `gen`
+abbrev pub torus_request : List ℕ → List ℕ → List ℕ → Option Request
+torus_request kind rows columns =
+    if bytes_eq kind (codes "torus") then shape_request (torus_named (number_of rows) (number_of columns)) else None
+
+abbrev pub chain_request : List ℕ → List ℕ → List ℕ → List ℕ → Option Request
+chain_request kind tori rows columns =
+    if bytes_eq kind (codes "chain") then shape_request (chain_named (number_of tori) (number_of rows) (number_of columns)) else None
+
+-- the row of four words, and that of five
+abbrev pub four_words : List ℕ → List ℕ → List ℕ → List ℕ → Option Request
+four_words word second third fourth =
+    if bytes_eq word (codes "gen") then torus_request second third fourth
+    else weighted_request (task_of word) second third (number_of fourth)
+
+abbrev pub five_words : List ℕ → List ℕ → List ℕ → List ℕ → List ℕ → Option Request
+five_words word second third fourth fifth =
+    if bytes_eq word (codes "gen") then chain_request second third fourth fifth
+    else weighted_request (cut_task word fifth) second third (number_of fourth)
+
 -- the row of the command table that the words are in
 abbrev pub request_of : List (List ℕ) → Option Request
 request_of [] = None
 request_of (word ∷ []) = lone_request word
 request_of (word ∷ mesh ∷ []) = mesh_request word mesh
 request_of (word ∷ mesh ∷ lengths ∷ []) = cycles_request (cycle_task word) mesh lengths
-request_of (word ∷ mesh ∷ lengths ∷ base ∷ []) = weighted_request (task_of word) mesh lengths (number_of base)
-request_of (word ∷ mesh ∷ lengths ∷ base ∷ kind ∷ []) = weighted_request (cut_task word kind) mesh lengths (number_of base)
+request_of (word ∷ second ∷ third ∷ fourth ∷ []) = four_words word second third fourth
+request_of (word ∷ second ∷ third ∷ fourth ∷ fifth ∷ []) = five_words word second third fourth fifth
 request_of (word ∷ mesh ∷ lengths ∷ base ∷ kind ∷ sixth ∷ more) = None

@@ -8,6 +8,7 @@ ghost use Rattle.surf_run.specs.Tells.{ConcludesOver};
 use crate::answered::{Answered, help, version};
 use crate::cycles::cycles;
 use crate::disc_command::disc;
+use crate::gen_command::generate;
 use crate::info_command::info;
 use crate::refusal::Refused;
 use crate::weighted::weighted;
@@ -38,5 +39,6 @@ pub fn answer<S: Shelf>(alloc: Global, command: Command, shelf: &mut S) -> Resul
             lengths,
             base,
         } => weighted(alloc, shelf, task, mesh, lengths, base),
+        Command::Generate { shape } => generate(alloc, shape),
     }
 }

@@ -1,10 +1,11 @@
 //! The words of the command line.
 ghost use Rattle.std.specs.Prelude.{◌≡◌, None, Some, MatchOption};
-ghost use Rattle.surf_run.specs.Words.{texts, request_of, lone_request, mesh_request, number_of, cycle_task, task_of, cut_task, cycles_request, weighted_request};
+ghost use Rattle.surf_run.specs.Words.{texts, request_of, lone_request, mesh_request, number_of, cycle_task, task_of, cut_task, cycles_request, weighted_request, torus_request, chain_request, four_words, five_words};
 ghost use Rattle.surf_run.specs.Seen.{request};
 
 use crate::cut_command::CutKind;
 use crate::cycles::CycleTask;
+use crate::shape::Shape;
 use crate::weighted::Task;
 use surf_text::read_whole;
 
@@ -29,6 +30,9 @@ pub enum Command<'w> {
         mesh: &'w str,
         lengths: &'w str,
         base: u32,
+    },
+    Generate {
+        shape: Shape,
     },
 }
 
@@ -124,18 +128,67 @@ fn on_mesh<'w>(word: &str, mesh: &'w str) -> Option<Command<'w>>
     }
 }
 
+// The mesh of four words that begin with `gen`.
+fn torus_of<'w>(kind: &str, rows: &str, columns: &str) -> Option<Command<'w>>
+    ensures { MatchOption result (torus_request kind.now rows.now columns.now ≡ None) (λ c. torus_request kind.now rows.now columns.now ≡ Some (request c)) }
+{
+    if kind != "torus" {
+        return None;
+    }
+    Some(Command::Generate {
+        shape: Shape::torus(number_of(rows)?, number_of(columns)?)?,
+    })
+}
+
+// The mesh of five words that begin with `gen`.
+fn chain_of<'w>(kind: &str, tori: &str, rows: &str, columns: &str) -> Option<Command<'w>>
+    ensures { MatchOption result (chain_request kind.now tori.now rows.now columns.now ≡ None) (λ c. chain_request kind.now tori.now rows.now columns.now ≡ Some (request c)) }
+{
+    if kind != "chain" {
+        return None;
+    }
+    Some(Command::Generate {
+        shape: Shape::chain(number_of(tori)?, number_of(rows)?, number_of(columns)?)?,
+    })
+}
+
+// The row of four words.
+fn on_four<'w>(word: &str, second: &'w str, third: &'w str, fourth: &str) -> Option<Command<'w>>
+    ensures { MatchOption result (four_words word.now second.now third.now fourth.now ≡ None) (λ c. four_words word.now second.now third.now fourth.now ≡ Some (request c)) }
+{
+    if word == "gen" {
+        return torus_of(second, third, fourth);
+    }
+    weighted(task_of(word), second, third, number_of(fourth))
+}
+
+// The row of five words.
+fn on_five<'w>(
+    word: &str,
+    second: &'w str,
+    third: &'w str,
+    fourth: &str,
+    fifth: &str,
+) -> Option<Command<'w>>
+    ensures { MatchOption result (five_words word.now second.now third.now fourth.now fifth.now ≡ None) (λ c. five_words word.now second.now third.now fourth.now fifth.now ≡ Some (request c)) }
+{
+    if word == "gen" {
+        return chain_of(second, third, fourth, fifth);
+    }
+    weighted(cut_task(word, fifth), second, third, number_of(fourth))
+}
+
 /// The row of the command table that the words are in.
 pub fn parse(words: &[String]) -> Option<Command<'_>>
     ensures { MatchOption result (request_of (texts words.now) ≡ None) (λ c. request_of (texts words.now) ≡ Some (request c)) }
 {
     match words {
-        [] | [_, _, _, _, _, _, ..] => None,
+        [] => None,
         [word] => lone(word),
         [word, mesh] => on_mesh(word, mesh),
         [word, mesh, lengths] => cycles(cycle_task(word), mesh, lengths),
-        [word, mesh, lengths, base] => weighted(task_of(word), mesh, lengths, number_of(base)),
-        [word, mesh, lengths, base, kind] => {
-            weighted(cut_task(word, kind), mesh, lengths, number_of(base))
-        }
+        [word, second, third, fourth] => on_four(word, second, third, fourth),
+        [word, second, third, fourth, fifth] => on_five(word, second, third, fourth, fifth),
+        [_, _, _, _, _, _, ..] => None,
     }
 }

@@ -1,0 +1,41 @@
+-- How many vertices and faces the mesh of a shape has, and how many edges a surface of triangles.
+use Rattle.std.proofs.Common.{◌≡◌, ℕ, ◌+◌, ◌-◌, ◌*◌, ◌/◌, ◌≤◌, sym, subst, arith, inl, inr, ◌∙◌}
+use Rattle.surf_complex.specs.Mesh.{Mesh}
+use Rattle.surf_complex.specs.Surface.{face_count, edge_count, IsSurface}
+use Rattle.surf_complex.proofs.CountLaws.{sizes_twice}
+use Rattle.surf_mesh.specs.Sides.{side_count}
+use Rattle.surf_tori.specs.Chain.{chain}
+use Rattle.surf_tori.proofs.TorusLaws.{tori_have_counts}
+use Rattle.surf_tori.proofs.ChainLaws.{chains_have_counts}
+use Rattle.surf_run.specs.Shapes.{Shape, IsShape, mesh_of}
+
+-- the counts of a chain of g tori of a rows and b columns
+record AreCounts (g a b : ℕ) : Type 0 where
+  pub vertices : (chain g a b).vertices ≡ g * (a * b) - 3 * (g - 1)
+  pub faces : face_count (chain g a b) ≡ 2 * (g * (a * b)) - 2 * (g - 1)
+
+one_torus : (a b : ℕ) → 3 ≤ a → 3 ≤ b → AreCounts 1 a b
+one_torus a b rows columns =
+    let faces = (tori_have_counts a b rows columns).faces in
+    let cells : ℕ = a * b in
+    record { vertices = omega arith; faces = omega (arith, faces) }
+
+counts : (s : Shape) → IsShape s → AreCounts s.tori s.rows s.columns
+counts s is = elim is.longer [
+  | inl one ↦ subst (λ g. AreCounts g s.rows s.columns) (sym one) (one_torus s.rows s.columns is.rows is.columns)
+  | inr four ↦
+      let are = chains_have_counts s.tori s.rows s.columns is.some four.0 four.1 in
+      record { vertices = are.vertices; faces = are.faces }
+]
+
+pub shape_vertices : (s : Shape) → IsShape s →
+    (mesh_of s).vertices ≡ s.tori * (s.rows * s.columns) - 3 * (s.tori - 1)
+shape_vertices s is = (counts s is).vertices
+
+pub shape_faces : (s : Shape) → IsShape s →
+    face_count (mesh_of s) ≡ 2 * (s.tori * (s.rows * s.columns)) - 2 * (s.tori - 1)
+shape_faces s is = (counts s is).faces
+
+-- each edge is two sides
+pub half_the_sides : (mesh : Mesh) → IsSurface mesh → side_count mesh / 2 ≡ edge_count mesh
+half_the_sides mesh surface = let twice = sizes_twice mesh surface in omega (arith, twice)

@@ -1,0 +1,29 @@
+-- What a command on a mesh that is made from numbers answers.
+use Rattle.std.specs.Prelude.{◌≡◌, ℕ, nat_lt, if◌then◌else◌, Result, Ok, Err}
+use Rattle.surf_base.specs.declared.limits.LimitKind.TheVariants.{Vertices, Faces}
+use Rattle.surf_complex.specs.Mesh.{Mesh}
+use Rattle.surf_complex.specs.Surface.{face_count, edge_count}
+use Rattle.surf_off.specs.Written.{soup_text}
+use Rattle.surf_run.specs.Limits.{beyond}
+use Rattle.surf_run.specs.Outcome.{Outcome}
+use Rattle.surf_run.specs.Says.{Says}
+use Rattle.surf_run.specs.Shapes.{Shape, mesh_of}
+use Rattle.surf_run.specs.Steps.{Ends}
+
+-- The mesh has at most 1,000,000 vertices and then at most 2,000,000 faces. These are triangles, so it has at most
+-- 6,000,000 sides too.
+abbrev pub made : Mesh → Result Mesh Outcome
+made mesh =
+    if nat_lt 1000000 mesh.vertices then Err (beyond Vertices)
+    else (if nat_lt 2000000 (face_count mesh) then Err (beyond Faces) else Ok mesh)
+
+abbrev pub IsMade : Shape → Result Mesh Outcome → Type 0
+IsMade shape result = result ≡ made (mesh_of shape)
+
+-- the text of the mesh is the answer
+abbrev pub GivesMesh : Mesh → Outcome → Type 0
+GivesMesh mesh outcome = Says (soup_text mesh (edge_count mesh)) outcome
+
+-- `gen`
+abbrev pub OnGen : Shape → Outcome → Type 0
+OnGen shape outcome = Ends (IsMade shape) GivesMesh outcome

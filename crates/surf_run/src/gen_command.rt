@@ -1,0 +1,43 @@
+//! The command `gen`.
+ghost use Rattle.std.specs.Prelude.{◌≡◌};
+ghost use Rattle.surf_complex.specs.Surface.{edge_count, IsSurface};
+ghost use Rattle.surf_run.specs.Making.{OnGen, GivesMesh};
+ghost use Rattle.surf_run.specs.Tells.{Concludes};
+
+use crate::answered::{Answered, Verdict};
+use crate::refusal::Refused;
+use crate::shape::{Shape, make_mesh};
+use std::alloc::Global;
+use surf_base::MAX_ANSWER;
+use surf_mesh::Soup;
+use surf_off::write_soup;
+use surf_text::Page;
+
+/// What `gen` answers: the mesh of a shape.
+pub fn generate(alloc: Global, shape: Shape) -> Result<Answered, Refused>
+    ensures { Concludes (OnGen shape) result }
+{
+    let soup = make_mesh(alloc, shape)?;
+    text_of(alloc, &soup)
+}
+
+// How many edges a surface has: each is two sides.
+fn edges_of(soup: &Soup) -> u32
+    requires { IsSurface soup.now }
+    ensures { result ≡ edge_count soup.now }
+{
+    soup.side_count() / 2
+}
+
+// The text of a surface.
+fn text_of(alloc: Global, soup: &Soup) -> Result<Answered, Refused>
+    requires { IsSurface soup.now }
+    ensures { Concludes (GivesMesh soup.now) result }
+{
+    let mut page = Page::make(alloc, MAX_ANSWER);
+    write_soup(&mut page, soup, edges_of(soup))?;
+    Ok(Answered {
+        verdict: Verdict::Yes,
+        text: page.into_bytes(),
+    })
+}
