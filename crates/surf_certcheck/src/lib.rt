@@ -19,3 +19,4 @@ mod split;
 mod tree;
 
 pub use fault::{CertFault, CertPart};
+pub use loops::check_loops;
