@@ -1,3 +1,4 @@
+pub mod RankLaws
 pub mod TreeLaws
 pub mod DualLaws
 pub mod ListLaws
