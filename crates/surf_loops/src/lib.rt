@@ -8,10 +8,12 @@
 //! A desk takes all its memory when it is made, so that the loops at many bases are found on it one after the other.
 #![tactic(auto)]
 
+mod cert;
 mod desk;
 mod head;
 mod heads;
 mod ways;
 
+pub use cert::{dual_rows, left_pairs, tree_rows};
 pub use desk::LoopDesk;
 pub use head::LoopHead;
