@@ -1,3 +1,4 @@
+-- Bits that are turned in a flat table.
 use Rattle.std.proofs.Common.{ℕ, ◌<◌, ◌≡◌, ◌≢◌, ◌+◌, ◌*◌, ◌/◌, ◌%◌, ◌^◌, refl, sym, ◌∙◌, arith, inl, inr, List, length, set, Bool, true, false, ◌&&◌, eqb, eq-eqb, ne_eqb, ltb, lt-ltb, get_or-set_same, get_or-set_other, bit_xor}
 use Rattle.std.specs.Int.{bit_at}
 use Rattle.std.proofs.lemmas.Bool.{cases_eq, cases_lt, le-ltb}
@@ -5,8 +6,7 @@ use Rattle.std.proofs.lemmas.Nat.{mul-add-lt}
 use Rattle.std.proofs.lemmas.Nat.Bits.{bit_at_xor, bit_at-pow_same, bit_at-pow_other, bit_at-lt}
 use Rattle.surf_z2.specs.Parity.{xor}
 use Rattle.surf_z2.proofs.ParityLaws.{xor-false}
-use Rattle.surf_cotree.specs.Searches.{at}
-use Rattle.surf_cotree.specs.Signs.{cell, sign_bit}
+use Rattle.surf_sign.specs.Signs.{at, cell, sign_bit}
 
 -- a cell is that of one edge and one word
 one_cell : (w e a f b : ℕ) → a < w → b < w → e * w + a ≡ f * w + b → (e ≡ f) × (a ≡ b)

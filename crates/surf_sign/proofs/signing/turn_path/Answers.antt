@@ -7,18 +7,17 @@ use Rattle.surf_homology.proofs.Trees.{path_root, path_step}
 use Rattle.surf_z2.proofs.ParityLaws.{xor-false}
 use Rattle.surf_homology.specs.Cells.{dual}
 use Rattle.surf_complex.specs.Cells.{cells_of}
-use Rattle.surf_cotree.specs.Tables.{nobody}
-use Rattle.surf_cotree.specs.Searches.{at, tree_of}
-use Rattle.surf_cotree.specs.Signs.{sign_bit}
-use Rattle.surf_cotree.proofs.Toggling.{two_turns}
-use Rattle.surf_cotree.proofs.signing.turn_path.Goals as goal
+use Rattle.surf_sign.specs.Signs.{at, sign_bit}
+use Rattle.surf_sign.specs.Tables.{face_tree}
+use Rattle.surf_sign.proofs.Toggling.{two_turns}
+use Rattle.surf_sign.proofs.signing.turn_path.Goals as goal
 
 pub toggle-requires-clause-cell : goal.toggle-requires-clause-cell
 toggle-requires-clause-cell c =
     let g = dual (cells_of c.args.mesh.now) in
-    let t = tree_of 0 c.args.parent.now c.args.up.now c.args.depth.now in
+    let t = face_tree c.args.parent.now c.args.up.now c.args.depth.now in
     let tree : IsTree g t = c.requires.tree in
-    let ne : c.loop-at.at ≢ 0 = λ same. c.loop-at-test.true (ap (at c.args.up.now) same ∙ c.requires.root) in
+    let ne : c.loop-at.at ≢ 0 = c.loop-at-test.true in
     let e : at c.args.up.now c.loop-at.at < g.edges = tree.up_in c.loop-at.at c.loop-at.invariant.within ne in
     let w : c.args.k / 64 < c.args.words = omega arith in
     omega (arith, mul-add-lt (at c.args.up.now c.loop-at.at) c.args.words (c.args.k / 64) g.edges e w)
@@ -26,10 +25,10 @@ toggle-requires-clause-cell c =
 pub loop-at-preserved : goal.loop-at-preserved
 loop-at-preserved c =
     let g = dual (cells_of c.args.mesh.now) in
-    let t = tree_of 0 c.args.parent.now c.args.up.now c.args.depth.now in
+    let t = face_tree c.args.parent.now c.args.up.now c.args.depth.now in
     let tree : IsTree g t = c.requires.tree in
     let n = c.loop-at.at in
-    let ne : n ≢ 0 = λ same. c.loop-at-test.true (ap (at c.args.up.now) same ∙ c.requires.root) in
+    let ne : n ≢ 0 = c.loop-at-test.true in
     record {
       within = tree.parent_in n c.loop-at.invariant.within ne;
       path = λ e j l.
@@ -41,15 +40,9 @@ loop-at-preserved c =
 
 pub returns : goal.returns
 returns c =
-    let g = dual (cells_of c.args.mesh.now) in
-    let t = tree_of 0 c.args.parent.now c.args.up.now c.args.depth.now in
-    let tree : IsTree g t = c.requires.tree in
+    let t = face_tree c.args.parent.now c.args.up.now c.args.depth.now in
     let n = c.loop-at.at in
-    let few : g.edges ≤ nobody = omega (arith, c.edges-edges.type_inv, c.edges-edges.ensures.count) in
-    let here : n ≡ 0 = elim (cases_eq n 0) [
-      | inl same ↦ same
-      | inr ne ↦ let l : at c.args.up.now n < g.edges = tree.up_in n c.loop-at.invariant.within ne in let e : at c.args.up.now n ≡ nobody = c.loop-at-test.false in absurd (omega arith)
-    ] in
+    let here : n ≡ 0 = c.loop-at-test.false in
     record {
       turned = λ e j l.
           let none : on_path t n e ≡ false = ap (λ m. on_path t m e) here ∙ path_root t e in

@@ -5,11 +5,9 @@ ghost use Rattle.surf_homology.specs.Cells.{dual};
 ghost use Rattle.surf_homology.specs.Trees.{IsTree, on_path};
 ghost use Rattle.surf_complex.specs.Surface.{face_count, edge_count};
 ghost use Rattle.surf_complex.specs.Cells.{cells_of};
-ghost use Rattle.surf_cotree.specs.Tables.{nobody};
-ghost use Rattle.surf_cotree.specs.Searches.{at, tree_of};
-ghost use Rattle.surf_cotree.specs.Signs.{cell, sign_bit, has_left};
+ghost use Rattle.surf_sign.specs.Signs.{at, cell, sign_bit, has_left};
+ghost use Rattle.surf_sign.specs.Tables.{face_tree};
 
-use crate::search::NOBODY;
 use surf_base::EdgeId;
 use surf_mesh::HalfMesh;
 
@@ -41,20 +39,19 @@ fn turn_path(
     face: u32,
     k: usize,
 )
-    requires tree { IsTree (dual (cells_of mesh.now)) (tree_of 0 parent.now up.now depth.now) }
-    requires root { at up.now 0 ≡ nobody }
+    requires tree { IsTree (dual (cells_of mesh.now)) (face_tree parent.now up.now depth.now) }
     requires ups { length up.now ≡ face_count mesh.now }
     requires parents { length parent.now ≡ face_count mesh.now }
     requires face { face < face_count mesh.now }
     requires bit { k < 64 * words }
     requires few { words ≤ 16 }
     requires room { length signs.old ≡ edge_count mesh.now * words }
-    ensures turned { (e j : ℕ) → j < 64 * words → sign_bit signs.new words e j ≡ xor (sign_bit signs.old words e j) (on_path (tree_of 0 parent.now up.now depth.now) face e && eqb k j) }
+    ensures turned { (e j : ℕ) → j < 64 * words → sign_bit signs.new words e j ≡ xor (sign_bit signs.old words e j) (on_path (face_tree parent.now up.now depth.now) face e && eqb k j) }
 {
     let _edges = mesh.edges();
     let _depths = depth;
     let mut at = face as usize;
-    while up[at] != NOBODY {
+    while at != 0 {
         toggle(signs, words, up[at] as usize, k);
         at = parent[at] as usize;
     }
@@ -83,8 +80,7 @@ pub(crate) fn write_signs(
     signs: &mut [u64],
     words: usize,
 )
-    requires tree { IsTree (dual (cells_of mesh.now)) (tree_of 0 parent.now up.now depth.now) }
-    requires root { at up.now 0 ≡ nobody }
+    requires tree { IsTree (dual (cells_of mesh.now)) (face_tree parent.now up.now depth.now) }
     requires ups { length up.now ≡ face_count mesh.now }
     requires parents { length parent.now ≡ face_count mesh.now }
     requires left { (k : ℕ) → k < length left.now → at left.now k < edge_count mesh.now }
@@ -93,7 +89,7 @@ pub(crate) fn write_signs(
     requires room { length signs.old ≡ edge_count mesh.now * words }
     ensures fit { (k : ℕ) → at signs.new k < 2 ^ 64 }
     ensures rest { (e k : ℕ) → length left.now ≤ k → k < 64 * words → sign_bit signs.new words e k ≡ false }
-    ensures signature { (e k : ℕ) → k < length left.now → sign_bit signs.new words e k ≡ has_left (dual (cells_of mesh.now)) (tree_of 0 parent.now up.now depth.now) (at left.now k) e }
+    ensures signature { (e k : ℕ) → k < length left.now → sign_bit signs.new words e k ≡ has_left (dual (cells_of mesh.now)) (face_tree parent.now up.now depth.now) (at left.now k) e }
 {
     let _surface = mesh.faces();
     let _edges = mesh.edges();

@@ -1,10 +1,13 @@
 -- The bits of edges in a flat table.
-use Rattle.std.specs.Prelude.{ℕ, ◌+◌, ◌*◌, ◌/◌, ◌%◌, Bool, eqb, List}
+use Rattle.std.specs.Prelude.{ℕ, ◌+◌, ◌*◌, ◌/◌, ◌%◌, Bool, eqb, List, slice_index}
 use Rattle.std.specs.Int.{bit_at}
 use Rattle.surf_z2.specs.Parity.{xor}
 use Rattle.surf_homology.specs.Graphs.{Graph}
 use Rattle.surf_homology.specs.Trees.{Tree, on_path}
-use Rattle.surf_cotree.specs.Searches.{at}
+
+-- the entry of a table
+abbrev pub at : List ℕ → ℕ → ℕ
+at table n = slice_index table n
 
 -- the cell of bit k of edge e in a flat table with as many words for each edge
 abbrev pub cell : ℕ → ℕ → ℕ → ℕ

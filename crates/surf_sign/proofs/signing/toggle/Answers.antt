@@ -1,10 +1,9 @@
 use Rattle.std.proofs.Common.{◌≡◌, ◌<◌, ◌^◌, ◌%◌, ◌*◌, ◌&&◌, eqb, set, bit_xor, subst, arith}
 use Rattle.std.proofs.lemmas.Nat.{pow_below}
 use Rattle.surf_z2.specs.Parity.{xor}
-use Rattle.surf_cotree.specs.Searches.{at}
-use Rattle.surf_cotree.specs.Signs.{cell, sign_bit}
-use Rattle.surf_cotree.proofs.Toggling.{toggled}
-use Rattle.surf_cotree.proofs.signing.toggle.Goals as goal
+use Rattle.surf_sign.specs.Signs.{at, cell, sign_bit}
+use Rattle.surf_sign.proofs.Toggling.{toggled}
+use Rattle.surf_sign.proofs.signing.toggle.Goals as goal
 
 pub returns : goal.returns
 returns c = record {

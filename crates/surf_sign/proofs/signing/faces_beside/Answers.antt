@@ -2,7 +2,7 @@ use Rattle.std.proofs.Common.{◌<◌, ◌≡◌, ◌∙◌, ℕ, ap, subst, sym
 use Rattle.surf_homology.specs.Cells.{dual}
 use Rattle.surf_complex.specs.Cells.{cells_of}
 use Rattle.surf_complex.proofs.CellLaws.{surfaces_are_cells}
-use Rattle.surf_cotree.proofs.signing.faces_beside.Goals as goal
+use Rattle.surf_sign.proofs.signing.faces_beside.Goals as goal
 
 pub returns-clause-inside : goal.returns-clause-inside
 returns-clause-inside c =

@@ -5,15 +5,15 @@ use Rattle.surf_z2.specs.Parity.{xor}
 use Rattle.surf_homology.specs.Trees.{on_path}
 use Rattle.surf_homology.specs.Cells.{dual}
 use Rattle.surf_complex.specs.Cells.{cells_of}
-use Rattle.surf_cotree.specs.Searches.{at, tree_of}
-use Rattle.surf_cotree.specs.Signs.{sign_bit, has_left}
-use Rattle.surf_cotree.proofs.Toggling.{three_turns, no_turns, below_more}
-use Rattle.surf_cotree.proofs.signing.write_signs.Goals as goal
+use Rattle.surf_sign.specs.Signs.{at, sign_bit, has_left}
+use Rattle.surf_sign.specs.Tables.{face_tree}
+use Rattle.surf_sign.proofs.Toggling.{three_turns, no_turns, below_more}
+use Rattle.surf_sign.proofs.signing.write_signs.Goals as goal
 
 pub loop-k-preserved : goal.loop-k-preserved
 loop-k-preserved c =
     let g = dual (cells_of c.args.mesh.now) in
-    let t = tree_of 0 c.args.parent.now c.args.up.now c.args.depth.now in
+    let t = face_tree c.args.parent.now c.args.up.now c.args.depth.now in
     let k = c.loop-k.k in
     let edge = at c.args.left.now k in
     let same : c.index-left-k.result ≡ edge = c.index-left-k.is ∙ get_or_default c.args.left.now k c.index-left-k.result 0 c.loop-k-test.true in

@@ -1,0 +1,3 @@
+pub mod Toggling
+pub mod Written
+pub mod Rewritten
