@@ -1,5 +1,7 @@
 pub mod Pairs
 pub mod Growing
+pub mod Leaves
+pub mod Hanging
 pub mod Passing
 pub mod Toggling
 pub mod Tabled

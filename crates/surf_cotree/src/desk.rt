@@ -11,6 +11,7 @@ ghost use Rattle.surf_cotree.specs.Searches.{at};
 ghost use Rattle.surf_cotree.specs.Grown.{MarkTree, IsGrown, IsGrownOn};
 
 use crate::listing::{list_left, mark_edges};
+use crate::peeling::{Leaf, hang, peel};
 use crate::search::{NOBODY, span};
 use crate::signing::write_signs;
 use std::alloc::Global;
@@ -25,6 +26,7 @@ use surf_mesh::HalfMesh;
 #[derive(Drop)]
 pub struct CotreeDesk {
     heap: Heap,
+    leaves: Vec<Leaf>,
     depth: Vec<u32>,
     parent: Vec<u32>,
     up: Vec<u32>,
@@ -53,7 +55,8 @@ impl Model for CotreeDesk {
     ghost invariant = { λ d. (length d.heap ≡ length d.depth.items)
         × (length d.held.items ≤ vec_capacity d.left)
         × (d.width ≤ 1024)
-        × (length d.signs.items ≡ length d.held.items * words_for d.width) };
+        × (length d.signs.items ≡ length d.held.items * words_for d.width)
+        × (length d.leaves.items ≡ length d.depth.items) };
 }
 
 // How many edges are in neither tree.
@@ -100,6 +103,11 @@ impl CotreeDesk {
         let edges = mesh.edges() as usize;
         let width = width_of(count_loops(mesh));
         let heap = Heap::make(alloc, mesh.faces())?;
+        let none = Leaf {
+            face: FaceId::new(0),
+            edge: EdgeId::new(0),
+        };
+        let leaves = vec![in alloc; none; faces]?;
         let depth = vec![in alloc; 0u32; faces]?;
         let parent = vec![in alloc; 0u32; faces]?;
         let up = vec![in alloc; 0u32; faces]?;
@@ -108,6 +116,7 @@ impl CotreeDesk {
         let signs = vec![in alloc; 0u64; edges * words_of(width)]?;
         Ok(CotreeDesk {
             heap,
+            leaves,
             depth,
             parent,
             up,
@@ -129,11 +138,21 @@ impl CotreeDesk {
     {
         let _surface = mesh.faces();
         let _edges = mesh.edges();
+        self.held.copy_from_slice(in_tree);
+        let count = peel(mesh, &mut self.held, &mut self.leaves);
         span(
             mesh,
-            in_tree,
+            &self.held,
             weight,
             &mut self.heap,
+            &mut self.depth,
+            &mut self.parent,
+            &mut self.up,
+        );
+        hang(
+            mesh,
+            &self.leaves,
+            count,
             &mut self.depth,
             &mut self.parent,
             &mut self.up,
