@@ -1,4 +1,6 @@
 pub mod Pairs
 pub mod Growing
+pub mod Leaves
+pub mod Hanging
 pub mod Passing
 pub mod Tabled

@@ -11,6 +11,7 @@ ghost use Rattle.surf_cotree.specs.Searches.{at};
 ghost use Rattle.surf_cotree.specs.Grown.{MarkTree, IsGrown, IsGrownOn};
 
 use crate::listing::{list_left, mark_edges};
+use crate::peeling::{Leaf, hang, peel};
 use crate::search::{NOBODY, span};
 use std::alloc::Global;
 use std::marker::Model;
@@ -25,6 +26,7 @@ use surf_sign::Signs;
 #[derive(Drop)]
 pub struct CotreeDesk {
     heap: Heap,
+    leaves: Vec<Leaf>,
     depth: Vec<u32>,
     parent: Vec<u32>,
     up: Vec<u32>,
@@ -50,7 +52,8 @@ impl Model for CotreeDesk {
     } };
 
     ghost invariant = { λ d. (length d.heap ≡ length d.depth.items)
-        × (length d.held.items ≤ vec_capacity d.left) };
+        × (length d.held.items ≤ vec_capacity d.left)
+        × (length d.leaves.items ≡ length d.depth.items) };
 }
 
 // How many edges are in neither tree.
@@ -81,6 +84,11 @@ impl CotreeDesk {
         let edges = mesh.edges() as usize;
         let width = width_of(count_loops(mesh));
         let heap = Heap::make(alloc, mesh.faces())?;
+        let none = Leaf {
+            face: FaceId::new(0),
+            edge: EdgeId::new(0),
+        };
+        let leaves = vec![in alloc; none; faces]?;
         let depth = vec![in alloc; 0u32; faces]?;
         let parent = vec![in alloc; 0u32; faces]?;
         let up = vec![in alloc; 0u32; faces]?;
@@ -89,6 +97,7 @@ impl CotreeDesk {
         let signs = Signs::make(alloc, mesh.edges(), width)?;
         Ok(CotreeDesk {
             heap,
+            leaves,
             depth,
             parent,
             up,
@@ -109,11 +118,21 @@ impl CotreeDesk {
     {
         let _surface = mesh.faces();
         let _edges = mesh.edges();
+        self.held.copy_from_slice(in_tree);
+        let count = peel(mesh, &mut self.held, &mut self.leaves);
         span(
             mesh,
-            in_tree,
+            &self.held,
             weight,
             &mut self.heap,
+            &mut self.depth,
+            &mut self.parent,
+            &mut self.up,
+        );
+        hang(
+            mesh,
+            &self.leaves,
+            count,
             &mut self.depth,
             &mut self.parent,
             &mut self.up,

@@ -1,12 +1,13 @@
-//! Grows a heaviest tree of the faces of a mesh from face 0.
-ghost use Rattle.std.specs.Prelude.{◌≡◌, ◌<◌, ◌≤◌, ◌&&◌, ◌-◌, ℕ, true, not, length, slice_set, Some};
+//! Grows a heaviest tree of faces of a mesh from face 0.
+ghost use Rattle.std.specs.Prelude.{◌≡◌, ◌<◌, ◌≤◌, ◌&&◌, ◌-◌, ◌==◌, ℕ, true, not, length, slice_set, Some};
+ghost use Rattle.surf_z2.specs.Parity.{count_below};
 ghost use Rattle.surf_homology.specs.Graphs.{joins};
 ghost use Rattle.surf_homology.specs.Cells.{dual};
 ghost use Rattle.surf_complex.specs.Surface.{face_count, edge_count};
 ghost use Rattle.surf_complex.specs.Cells.{cells_of};
-ghost use Rattle.surf_heap.specs.Entries.{entry_of, lesser};
+ghost use Rattle.surf_heap.specs.Entries.{entry_of, lesser, IsEmpty};
 ghost use Rattle.surf_cotree.specs.Tables.{nobody};
-ghost use Rattle.surf_cotree.specs.Searches.{at, heaviest, reached, outside, Connects, IsOffered, IsHeaviestTree, tree_of};
+ghost use Rattle.surf_cotree.specs.Searches.{at, heaviest, reached, outside, IsOffered, IsPrim, tree_of};
 
 use surf_base::{EdgeId, FaceId};
 use surf_heap::Heap;
@@ -21,13 +22,13 @@ fn weights_fit(weight: &[u64])
     ensures fit { (e : ℕ) → at weight.now e ≤ heaviest }
 {}
 
-// Whether an edge is outside the tree and leads to a face that isn't reached.
-fn leads_on(in_tree: &[bool], depth: &[u32], edge: EdgeId, face: FaceId) -> bool
-    requires edge { edge < length in_tree.now }
+// Whether an edge isn't marked and leads to a face that isn't reached.
+fn leads_on(marks: &[bool], depth: &[u32], edge: EdgeId, face: FaceId) -> bool
+    requires edge { edge < length marks.now }
     requires face { face < length depth.now }
-    ensures leads { result ≡ (outside in_tree.now edge && not (reached depth.now face)) }
+    ensures leads { result ≡ (outside marks.now edge && not (reached depth.now face)) }
 {
-    !in_tree[edge.index()] && depth[face.index()] == NOBODY
+    !marks[edge.index()] && depth[face.index()] == NOBODY
 }
 
 // Offers a face to the heap by an edge that leads to it: the heavier the edge, the lesser the entry.
@@ -43,7 +44,7 @@ fn offer_by(heap: &mut Heap, weight: &[u64], edge: EdgeId, face: FaceId)
 // Offers the unreached neighbours of a face to the heap.
 fn offer_neighbours(
     mesh: &HalfMesh,
-    in_tree: &[bool],
+    marks: &[bool],
     weight: &[u64],
     depth: &[u32],
     heap: &mut Heap,
@@ -51,22 +52,22 @@ fn offer_neighbours(
 )
     requires face { face < face_count mesh.now }
     requires depths { length depth.now ≡ face_count mesh.now }
-    requires marks { length in_tree.now ≡ edge_count mesh.now }
+    requires marks { length marks.now ≡ edge_count mesh.now }
     requires weights { length weight.now ≡ edge_count mesh.now }
     requires places { length heap.old ≡ face_count mesh.now }
-    ensures offered { IsOffered (dual (cells_of mesh.now)) (outside in_tree.now) (at weight.now) (reached depth.now) face heap.old heap.new }
+    ensures offered { IsOffered (dual (cells_of mesh.now)) (outside marks.now) (at weight.now) (reached depth.now) face heap.old heap.new }
 {
     let _edges = mesh.edges();
     for s in sides_of(mesh, FaceId::new(face)) {
         let (next, edge) = across(mesh, *s);
-        if leads_on(in_tree, depth, edge, next) {
+        if leads_on(marks, depth, edge, next) {
             offer_by(heap, weight, edge, next);
         }
     }
 }
 
 // The face on the other side of an edge.
-fn face_across(mesh: &HalfMesh, edge: u32, face: u32) -> u32
+pub(crate) fn face_across(mesh: &HalfMesh, edge: u32, face: u32) -> u32
     requires edge { edge < edge_count mesh.now }
     ensures across { (a : ℕ) → joins (dual (cells_of mesh.now)) face a edge ≡ true → result ≡ a }
 {
@@ -75,10 +76,10 @@ fn face_across(mesh: &HalfMesh, edge: u32, face: u32) -> u32
     if near == face { far } else { near }
 }
 
-// Grows the heaviest tree of all faces from face 0.
+// Grows the heaviest tree of the faces that edges without a mark join to face 0.
 pub(crate) fn span(
     mesh: &HalfMesh,
-    in_tree: &[bool],
+    marks: &[bool],
     weight: &[u64],
     heap: &mut Heap,
     depth: &mut [u32],
@@ -88,11 +89,11 @@ pub(crate) fn span(
     requires depths { length depth.old ≡ face_count mesh.now }
     requires parents { length parent.old ≡ face_count mesh.now }
     requires ups { length up.old ≡ face_count mesh.now }
-    requires marks { length in_tree.now ≡ edge_count mesh.now }
+    requires marks { length marks.now ≡ edge_count mesh.now }
     requires weights { length weight.now ≡ edge_count mesh.now }
     requires places { length heap.old ≡ face_count mesh.now }
-    requires connects { Connects (dual (cells_of mesh.now)) (outside in_tree.now) }
-    ensures heaviest { IsHeaviestTree (dual (cells_of mesh.now)) (outside in_tree.now) (at weight.now) (tree_of 0 parent.new up.new depth.new) }
+    ensures grown { IsPrim (dual (cells_of mesh.now)) (outside marks.now) (at weight.now) (reached depth.new) (tree_of 0 parent.new up.new depth.new) heap.new (count_below (face_count mesh.now) (λ f. at depth.new f == nobody)) }
+    ensures empty { IsEmpty heap.new }
     ensures root { at up.new 0 ≡ nobody }
     ensures places { length heap.new ≡ face_count mesh.now }
 {
@@ -103,13 +104,13 @@ pub(crate) fn span(
     depth[0] = 0;
     up[0] = NOBODY;
     heap.clear();
-    offer_neighbours(mesh, in_tree, weight, depth, heap, 0);
+    offer_neighbours(mesh, marks, weight, depth, heap, 0);
     while let Some((face, _, tie)) = heap.take_least() {
         let edge = NOBODY - tie;
         let from = face_across(mesh, edge, face);
         depth[face as usize] = depth[from as usize] + 1;
         parent[face as usize] = from;
         up[face as usize] = edge;
-        offer_neighbours(mesh, in_tree, weight, depth, heap, face);
+        offer_neighbours(mesh, marks, weight, depth, heap, face);
     }
 }

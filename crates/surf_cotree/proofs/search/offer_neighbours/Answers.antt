@@ -18,7 +18,7 @@ leads_on-requires-clause-edge c =
     let n = c.loop-s.s-index in
     let long = length-map items (side_link mesh) in
     let is : link_at (map (side_link mesh) items) n ≡ c.across-next.result = link_of_side mesh n c.s-item.result items c.loop-s-test.true c.s-item.is ∙ sym c.across-next.ensures.link in
-    let inside = link_in (dual (cells_of mesh)) (outside c.args.in_tree.now) (at c.args.weight.now) (reached c.args.depth.now) c.args.face (map (side_link mesh) items) (subst (λ f. IsRow (dual (cells_of mesh)) f (map (side_link mesh) items)) c.new.ensures c.sides_of-s-items.ensures.row) c.args.heap.now c.loop-s.heap n c.loop-s.invariant (omega arith) c.across-next.result is in
+    let inside = link_in (dual (cells_of mesh)) (outside c.args.marks.now) (at c.args.weight.now) (reached c.args.depth.now) c.args.face (map (side_link mesh) items) (subst (λ f. IsRow (dual (cells_of mesh)) f (map (side_link mesh) items)) c.new.ensures c.sides_of-s-items.ensures.row) c.args.heap.now c.loop-s.heap n c.loop-s.invariant (omega arith) c.across-next.result is in
     let l : c.across-next.result.1 < (dual (cells_of mesh)).edges = inside.1 in
     omega (arith, l, c.requires.marks)
 
@@ -29,7 +29,7 @@ offer_by-requires-clause-edge c =
     let n = c.loop-s.s-index in
     let long = length-map items (side_link mesh) in
     let is : link_at (map (side_link mesh) items) n ≡ c.across-next.result = link_of_side mesh n c.s-item.result items c.loop-s-test.true c.s-item.is ∙ sym c.across-next.ensures.link in
-    let inside = link_in (dual (cells_of mesh)) (outside c.args.in_tree.now) (at c.args.weight.now) (reached c.args.depth.now) c.args.face (map (side_link mesh) items) (subst (λ f. IsRow (dual (cells_of mesh)) f (map (side_link mesh) items)) c.new.ensures c.sides_of-s-items.ensures.row) c.args.heap.now c.loop-s.heap n c.loop-s.invariant (omega arith) c.across-next.result is in
+    let inside = link_in (dual (cells_of mesh)) (outside c.args.marks.now) (at c.args.weight.now) (reached c.args.depth.now) c.args.face (map (side_link mesh) items) (subst (λ f. IsRow (dual (cells_of mesh)) f (map (side_link mesh) items)) c.new.ensures c.sides_of-s-items.ensures.row) c.args.heap.now c.loop-s.heap n c.loop-s.invariant (omega arith) c.across-next.result is in
     let l : c.across-next.result.1 < (dual (cells_of mesh)).edges = inside.1 in
     omega (arith, l, c.requires.weights)
 
@@ -40,7 +40,7 @@ leads_on-requires-clause-face c =
     let n = c.loop-s.s-index in
     let long = length-map items (side_link mesh) in
     let is : link_at (map (side_link mesh) items) n ≡ c.across-next.result = link_of_side mesh n c.s-item.result items c.loop-s-test.true c.s-item.is ∙ sym c.across-next.ensures.link in
-    let inside = link_in (dual (cells_of mesh)) (outside c.args.in_tree.now) (at c.args.weight.now) (reached c.args.depth.now) c.args.face (map (side_link mesh) items) (subst (λ f. IsRow (dual (cells_of mesh)) f (map (side_link mesh) items)) c.new.ensures c.sides_of-s-items.ensures.row) c.args.heap.now c.loop-s.heap n c.loop-s.invariant (omega arith) c.across-next.result is in
+    let inside = link_in (dual (cells_of mesh)) (outside c.args.marks.now) (at c.args.weight.now) (reached c.args.depth.now) c.args.face (map (side_link mesh) items) (subst (λ f. IsRow (dual (cells_of mesh)) f (map (side_link mesh) items)) c.new.ensures c.sides_of-s-items.ensures.row) c.args.heap.now c.loop-s.heap n c.loop-s.invariant (omega arith) c.across-next.result is in
     let l : c.across-next.result.0 < (dual (cells_of mesh)).nodes = inside.0 in
     omega (arith, l, c.requires.depths)
 
@@ -48,7 +48,7 @@ pub loop-s-preserved : goal.loop-s-preserved
 loop-s-preserved c =
     let mesh = c.args.mesh.now in
     let g = dual (cells_of mesh) in
-    let allowed = outside c.args.in_tree.now in
+    let allowed = outside c.args.marks.now in
     let weight = at c.args.weight.now in
     let there = reached c.args.depth.now in
     let items = c.sides_of-s-items.result.now in
@@ -82,7 +82,7 @@ returns c =
     let links = map (side_link mesh) items in
     let long = length-map items (side_link mesh) in
     record {
-      offered = offered_all (dual (cells_of mesh)) (outside c.args.in_tree.now) (at c.args.weight.now) (reached c.args.depth.now) c.args.face links
+      offered = offered_all (dual (cells_of mesh)) (outside c.args.marks.now) (at c.args.weight.now) (reached c.args.depth.now) c.args.face links
           (subst (λ f. IsRow (dual (cells_of mesh)) f links) c.new.ensures c.sides_of-s-items.ensures.row) c.args.heap.now c.loop-s.heap c.loop-s.s-index (omega arith) c.loop-s.invariant;
     }
 
@@ -91,5 +91,5 @@ loop-s-init c =
     let mesh = c.args.mesh.now in
     let items = c.sides_of-s-items.result.now in
     let links = map (side_link mesh) items in
-    offered_none (dual (cells_of mesh)) (outside c.args.in_tree.now) (at c.args.weight.now) (reached c.args.depth.now) c.args.face links
+    offered_none (dual (cells_of mesh)) (outside c.args.marks.now) (at c.args.weight.now) (reached c.args.depth.now) c.args.face links
     (subst (λ f. IsRow (dual (cells_of mesh)) f links) c.new.ensures c.sides_of-s-items.ensures.row) c.args.heap.now

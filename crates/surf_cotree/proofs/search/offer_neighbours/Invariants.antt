@@ -6,5 +6,5 @@ use Rattle.surf_cotree.specs.Searches.{at, outside, reached, IsOfferedSome}
 use Rattle.surf_cotree.proofs.search.offer_neighbours.Given as goal
 
 abbrev pub invariant-loop-s : goal.invariant-loop-s
-invariant-loop-s l = IsOfferedSome (dual (cells_of l.mesh)) (outside l.in_tree) (at l.weight) (reached l.depth) l.fn.face l.initial.heap l.heap
+invariant-loop-s l = IsOfferedSome (dual (cells_of l.mesh)) (outside l.marks) (at l.weight) (reached l.depth) l.fn.face l.initial.heap l.heap
     (λ k. (link_at (map (side_link l.mesh) l.s-items) k).0) (λ k. (link_at (map (side_link l.mesh) l.s-items) k).1) l.s-index

@@ -11,7 +11,7 @@ use Rattle.surf_complex.proofs.CellLaws.{surfaces_are_cells}
 use Rattle.surf_cotree.specs.Tables.{nobody}
 use Rattle.surf_cotree.specs.Searches.{at, reached, outside, tree_of, IsWaiting}
 use Rattle.surf_cotree.proofs.Pairs.{none_there}
-use Rattle.surf_cotree.proofs.Growing.{first_count, first_only, prim_begins, prim_ends, depth_fits, turn_count, turn_keeps}
+use Rattle.surf_cotree.proofs.Growing.{first_count, first_only, prim_begins, depth_fits, turn_count, turn_keeps}
 use Rattle.surf_cotree.proofs.search.span.Goals as goal
 use Rattle.surf_cotree.proofs.search.span.Goals.{In-Some}
 
@@ -34,7 +34,7 @@ loop-face-init c =
     record {
       places = c.offer_neighbours.ensures.offered.same_length ∙ (ap length c.clear.ensures.empty ∙ (length-replicate {A = Option (ℕ × ℕ)} (length c.args.heap.now) None ∙ c.requires.places));
       root = get_or-set_same c.args.up.now 0 nobody 0 lu;
-      prim = prim_begins g (outside c.args.in_tree.now) (at c.args.weight.now) (graph_is c.args.mesh.now c.faces-surface.ensures.surface) few c.weights_fit.ensures.fit (reached (set fresh 0 0)) (tree_of 0 c.args.parent.now (set c.args.up.now 0 nobody) (set fresh 0 0))
+      prim = prim_begins g (outside c.args.marks.now) (at c.args.weight.now) (graph_is c.args.mesh.now c.faces-surface.ensures.surface) few c.weights_fit.ensures.fit (reached (set fresh 0 0)) (tree_of 0 c.args.parent.now (set c.args.up.now 0 nobody) (set fresh 0 0))
           c.clear.new.self c.offer_neighbours.new.heap _ some root_reached (first_only g.nodes fresh free) zero_depth shallow (none_there (length c.args.heap.now) c.clear.new.self c.clear.ensures.empty)
           c.offer_neighbours.ensures.offered;
     }
@@ -42,7 +42,7 @@ loop-face-init c =
 below_suc : (a b : ℕ) → b ≡ suc a → a < b
 below_suc a b e = omega arith
 
-abbrev waiting : (c : In-Some) → IsWaiting (dual (cells_of c.args.mesh.now)) (outside c.args.in_tree.now) (at c.args.weight.now) (reached c.loop-face.depth) c.in-Some.face c.in-Some.field-0-1 c.in-Some.tie
+abbrev waiting : (c : In-Some) → IsWaiting (dual (cells_of c.args.mesh.now)) (outside c.args.marks.now) (at c.args.weight.now) (reached c.loop-face.depth) c.in-Some.face c.in-Some.field-0-1 c.in-Some.tie
 waiting c = c.loop-face.invariant.prim.waiting c.in-Some.face c.in-Some.field-0-1 c.in-Some.tie c.in-Some.ensures.taken.0.holds
 
 edge_is : (c : In-Some) → nobody - c.in-Some.tie ≡ (waiting c).edge
@@ -70,7 +70,7 @@ fits c =
     let g = dual (cells_of c.args.mesh.now) in
     let few : g.edges ≤ nobody = omega (arith, c.edges-edges.type_inv, c.edges-edges.ensures.count) in
     let small : g.nodes ≤ nobody = omega (arith, c.faces-surface.type_inv, c.faces-surface.ensures.count) in
-    depth_fits g (outside c.args.in_tree.now) (at c.args.weight.now) (graph_is c.args.mesh.now c.faces-surface.ensures.surface) few c.weights_fit.ensures.fit small 0 c.loop-face.parent c.loop-face.up c.loop-face.depth c.loop-face.heap c.in-Some.face c.in-Some.field-0-1 c.in-Some.tie
+    depth_fits g (outside c.args.marks.now) (at c.args.weight.now) (graph_is c.args.mesh.now c.faces-surface.ensures.surface) few c.weights_fit.ensures.fit small 0 c.loop-face.parent c.loop-face.up c.loop-face.depth c.loop-face.heap c.in-Some.face c.in-Some.field-0-1 c.in-Some.tie
     (omega (arith, length-set {A = ℕ})) (omega (arith, length-set {A = ℕ})) (omega (arith, length-set {A = ℕ})) c.loop-face.invariant.prim c.in-Some.ensures.taken.0
 
 pub overflow_add-depth : goal.overflow_add-depth
@@ -90,7 +90,7 @@ loop-face-smaller c =
     let from : c.face_across-from.result ≡ (waiting i).before = from_is i c.face_across-from.result c.face_across-from.ensures.across in
     let d = at c.loop-face.depth c.face_across-from.result + 1 in
     let less : count_below g.nodes (λ v. eqb (at c.loop-face.depth v) nobody) ≡ suc (count_below g.nodes (λ v. eqb (at (set c.loop-face.depth c.in-Some.face d) v) nobody)) =
-    turn_count g (outside c.args.in_tree.now) (at c.args.weight.now) (graph_is c.args.mesh.now c.faces-surface.ensures.surface) few c.weights_fit.ensures.fit small 0 c.loop-face.parent c.loop-face.up c.loop-face.depth c.loop-face.heap c.in-Some.face c.in-Some.field-0-1 c.in-Some.tie
+    turn_count g (outside c.args.marks.now) (at c.args.weight.now) (graph_is c.args.mesh.now c.faces-surface.ensures.surface) few c.weights_fit.ensures.fit small 0 c.loop-face.parent c.loop-face.up c.loop-face.depth c.loop-face.heap c.in-Some.face c.in-Some.field-0-1 c.in-Some.tie
     (omega (arith, length-set {A = ℕ})) (omega (arith, length-set {A = ℕ})) (omega (arith, length-set {A = ℕ})) c.loop-face.invariant.prim c.in-Some.ensures.taken.0 d (ap (λ x. at c.loop-face.depth x + 1) from)
     in
     below_suc _ _ less
@@ -107,13 +107,7 @@ loop-face-preserved c =
     record {
       places = c.offer_neighbours-in-Some.ensures.offered.same_length ∙ (ap length c.in-Some.ensures.taken.1 ∙ (length-set c.loop-face.heap c.in-Some.face None ∙ c.loop-face.invariant.places));
       root = get_or-set_other c.loop-face.up c.in-Some.face 0 (nobody - c.in-Some.tie) 0 apart ∙ c.loop-face.invariant.root;
-      prim = turn_keeps g (outside c.args.in_tree.now) (at c.args.weight.now) (graph_is c.args.mesh.now c.faces-surface.ensures.surface) few c.weights_fit.ensures.fit small 0 c.loop-face.parent c.loop-face.up c.loop-face.depth c.loop-face.heap c.in-Some.face c.in-Some.field-0-1 c.in-Some.tie
+      prim = turn_keeps g (outside c.args.marks.now) (at c.args.weight.now) (graph_is c.args.mesh.now c.faces-surface.ensures.surface) few c.weights_fit.ensures.fit small 0 c.loop-face.parent c.loop-face.up c.loop-face.depth c.loop-face.heap c.in-Some.face c.in-Some.field-0-1 c.in-Some.tie
           (omega (arith, length-set {A = ℕ})) (omega (arith, length-set {A = ℕ})) (omega (arith, length-set {A = ℕ})) prim c.in-Some.ensures.taken.0 c.face_across-from.result (nobody - c.in-Some.tie) (at c.loop-face.depth c.face_across-from.result + 1) c.take_least.new.self c.offer_neighbours-in-Some.new.heap
           from (edge_is i) refl c.in-Some.ensures.taken.1 c.offer_neighbours-in-Some.ensures.offered;
     }
-
-pub returns-clause-heaviest : goal.returns-clause-heaviest
-returns-clause-heaviest c =
-    let g = dual (cells_of c.args.mesh.now) in
-    let few : g.edges ≤ nobody = omega (arith, c.edges-edges.type_inv, c.edges-edges.ensures.count) in
-    prim_ends g (outside c.args.in_tree.now) (at c.args.weight.now) (graph_is c.args.mesh.now c.faces-surface.ensures.surface) few c.weights_fit.ensures.fit (reached c.loop-face.depth) (tree_of 0 c.loop-face.parent c.loop-face.up c.loop-face.depth) c.loop-face.heap _ c.loop-face.invariant.prim c.requires.connects c.in_default.ensures.taken.0

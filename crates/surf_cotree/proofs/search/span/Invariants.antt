@@ -11,7 +11,7 @@ abbrev pub invariant-loop-face : goal.invariant-loop-face
 invariant-loop-face l = record {
   places : length l.heap ≡ face_count l.mesh;
   root : at l.up 0 ≡ nobody;
-  prim : IsPrim (dual (cells_of l.mesh)) (outside l.in_tree) (at l.weight) (reached l.depth) (tree_of 0 l.parent l.up l.depth) l.heap (count_below (face_count l.mesh) (λ v. eqb (at l.depth v) nobody));
+  prim : IsPrim (dual (cells_of l.mesh)) (outside l.marks) (at l.weight) (reached l.depth) (tree_of 0 l.parent l.up l.depth) l.heap (count_below (face_count l.mesh) (λ v. eqb (at l.depth v) nobody));
 }
 
 abbrev pub decreases-loop-face : goal.decreases-loop-face

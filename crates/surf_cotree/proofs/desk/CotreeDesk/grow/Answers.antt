@@ -1,40 +1,117 @@
-use Rattle.std.proofs.Common.{◌≡◌, ◌<◌, ◌&&◌, ◌∙◌, ℕ, not, eqb, false, filter, get_or, length, arith, sym, subst}
+use Rattle.std.proofs.Common.{◌≡◌, ◌≢◌, ◌<◌, ◌≤◌, ◌&&◌, ◌∙◌, ℕ, List, Bool, not, eqb, false, filter, get_or, length, arith, ap, sym, subst, inl, inr}
 use Rattle.std.specs.List.{range_with_len}
+use Rattle.std.proofs.lemmas.Bool.{cases_eq}
 use Rattle.std.proofs.lemmas.List.{with_items_is}
 use Rattle.std.specs.Vec.{with_items}
 use Rattle.surf_z2.specs.Parity.{any_below}
+use Rattle.surf_homology.specs.Graphs.{Graph}
+use Rattle.surf_homology.specs.Cells.{dual}
 use Rattle.surf_complex.specs.Surface.{edge_count, face_count}
+use Rattle.surf_complex.specs.Cells.{cells_of}
+use Rattle.surf_complex.proofs.CellLaws.{surfaces_are_cells}
+use Rattle.surf_cotree.specs.declared.peeling.Leaf.{Leaf}
 use Rattle.surf_cotree.specs.Tables.{CotreeTables, nobody, IsMadeFor}
-use Rattle.surf_cotree.specs.Searches.{at, is_unmarked}
+use Rattle.surf_cotree.specs.Searches.{at, outside, heaviest, tree_of, is_unmarked, IsHeaviestTree}
+use Rattle.surf_cotree.specs.Peeling.{IsPeeled, IsHung}
+use Rattle.surf_cotree.proofs.Hanging.{hung_first, hung_all}
 use Rattle.surf_cotree.proofs.Tabled.{unmarked_join, grown_tables}
 use Rattle.surf_cotree.proofs.desk.CotreeDesk.grow.Goals as goal
+use Rattle.surf_cotree.proofs.desk.CotreeDesk.grow.Goals.{After-deref_mut-8}
 
-pub span-requires-clause-connects : goal.span-requires-clause-connects
-span-requires-clause-connects c = unmarked_join c.args.mesh.now c.args.in_tree.now c.faces-surface.ensures.surface c.requires.tree
+abbrev dual_of : After-deref_mut-8 → Graph
+dual_of c = dual (cells_of c.args.mesh.now)
+
+-- the tables that the hanging starts from
+leaves_are : (c : After-deref_mut-8) → c.deref-2.result.now ≡ c.peel-count.new.leaves
+leaves_are c = c.deref-2.ensures.value ∙ with_items_is c.self.inside.leaves c.peel-count.new.leaves (omega (arith, c.deref_mut-2.ensures.len))
+
+depth_is : (c : After-deref_mut-8) → c.deref_mut-6.result.now ≡ c.span.new.depth
+depth_is c = c.deref_mut-6.ensures.value ∙ with_items_is c.self.inside.depth c.span.new.depth (omega (arith, c.deref_mut-3.ensures.len))
+
+parent_is : (c : After-deref_mut-8) → c.deref_mut-7.result.now ≡ c.span.new.parent
+parent_is c = c.deref_mut-7.ensures.value ∙ with_items_is c.self.inside.parent c.span.new.parent (omega (arith, c.deref_mut-4.ensures.len))
+
+up_is : (c : After-deref_mut-8) → c.deref_mut-8.result.now ≡ c.span.new.up
+up_is c = c.deref_mut-8.ensures.value ∙ with_items_is c.self.inside.up c.span.new.up (omega (arith, c.deref_mut-5.ensures.len))
+
+peeled : (c : After-deref_mut-8) → IsPeeled (dual_of c) (outside c.args.in_tree.now) c.peel-count.new.leaves c.peel-count.result (outside c.deref.result.now)
+peeled c =
+    let begin : c.deref_mut.result.now ≡ c.args.in_tree.now = c.deref_mut.ensures.value ∙ c.copy_from_slice.ensures.items in
+    let held : c.deref.result.now ≡ c.peel-count.new.marks = c.deref.ensures.value ∙ with_items_is c.copy_from_slice.new.self c.peel-count.new.marks (omega (arith, c.deref_mut.ensures.len)) in
+    subst (λ (m : List Bool). IsPeeled (dual_of c) (outside m) c.peel-count.new.leaves c.peel-count.result (outside c.deref.result.now)) begin
+    (subst (λ (m : List Bool). IsPeeled (dual_of c) (outside c.deref_mut.result.now) c.peel-count.new.leaves c.peel-count.result (outside m)) (sym held) c.peel-count.ensures.peeled)
+
+start : (c : After-deref_mut-8) → IsHung (dual_of c) (outside c.args.in_tree.now) (at c.args.weight.now) c.deref-2.result.now c.peel-count.result c.deref_mut-7.result.now c.deref_mut-8.result.now c.deref_mut-6.result.now
+start c =
+    let light : (e : ℕ) → at c.args.weight.now e ≤ heaviest = λ e. omega (arith, c.type_inv.weight e) in
+    let hung = hung_first (dual_of c) (outside c.args.in_tree.now) (at c.args.weight.now) light c.peel-count.new.leaves c.peel-count.result (outside c.deref.result.now) (peeled c) c.span.new.parent c.span.new.up c.span.new.depth c.span.new.heap c.span.ensures.places c.span.ensures.empty c.span.ensures.root c.span.ensures.grown in
+    subst (λ (x : List Leaf). IsHung (dual_of c) (outside c.args.in_tree.now) (at c.args.weight.now) x c.peel-count.result c.deref_mut-7.result.now c.deref_mut-8.result.now c.deref_mut-6.result.now) (sym (leaves_are c))
+    (subst (λ (x : List ℕ). IsHung (dual_of c) (outside c.args.in_tree.now) (at c.args.weight.now) c.peel-count.new.leaves c.peel-count.result x c.deref_mut-8.result.now c.deref_mut-6.result.now) (sym (parent_is c))
+    (subst (λ (x : List ℕ). IsHung (dual_of c) (outside c.args.in_tree.now) (at c.args.weight.now) c.peel-count.new.leaves c.peel-count.result c.span.new.parent x c.deref_mut-6.result.now) (sym (up_is c))
+    (subst (λ (x : List ℕ). IsHung (dual_of c) (outside c.args.in_tree.now) (at c.args.weight.now) c.peel-count.new.leaves c.peel-count.result c.span.new.parent c.span.new.up x) (sym (depth_is c)) hung)))
+
+pub hang-requires-clause-some : goal.hang-requires-clause-some
+hang-requires-clause-some c = (outside c.args.in_tree.now, at c.args.weight.now, start c)
+
+-- the tables that it ends with
+module _ (c : After-deref_mut-8) (parent up depth : List ℕ)
+    (hung : (allowed : ℕ → Bool) (weight : ℕ → ℕ) → IsHung (dual (cells_of c.args.mesh.now)) allowed weight c.deref-2.result.now c.peel-count.result c.deref_mut-7.result.now c.deref_mut-8.result.now c.deref_mut-6.result.now → IsHung (dual (cells_of c.args.mesh.now)) allowed weight c.deref-2.result.now 0 parent up depth) where
+  end : IsHung (dual_of c) (outside c.args.in_tree.now) (at c.args.weight.now) c.deref-2.result.now 0 parent up depth
+  end = hung (outside c.args.in_tree.now) (at c.args.weight.now) (start c)
+
+  heavy : IsHeaviestTree (dual_of c) (outside c.args.in_tree.now) (at c.args.weight.now) (tree_of 0 parent up depth)
+  heavy = hung_all (dual_of c) (outside c.args.in_tree.now) (at c.args.weight.now) (surfaces_are_cells c.args.mesh.now c.faces-surface.ensures.surface).complex.dual_ends (omega (arith, c.edges-edges.type_inv, c.edges-edges.ensures.count)) c.deref-2.result.now parent up depth end
+      (unmarked_join c.args.mesh.now c.args.in_tree.now c.faces-surface.ensures.surface c.requires.tree)
+
+  root : at up 0 ≡ nobody
+  root = end.root
+
+  ups_in : (f : ℕ) → f < face_count c.args.mesh.now → at up f ≢ nobody → at up f < edge_count c.args.mesh.now
+  ups_in f l some = elim (cases_eq f 0) [
+    | inl same ↦ absurd (some (ap (at up) same ∙ root))
+    | inr ne ↦ heavy.tree.up_in f l ne
+  ]
+
+pub mark_edges-requires : goal.mark_edges-requires
+mark_edges-requires c =
+    let i = (goal.at.mark_edges-requires c).After-deref_mut-8 in
+    let mesh = c.args.mesh.now in
+    let here = subst (IsMadeFor mesh) (sym c.self.view_is) c.requires.made in
+    let up = c.hang.new.up in
+    let up_is : c.deref-3.result.now ≡ up = c.deref-3.ensures.value ∙ with_items_is (with_items c.self.inside.up c.span.new.up) up (omega (arith, c.deref_mut-8.ensures.len)) in
+    let wide : length c.deref_mut-9.result.now ≡ edge_count mesh = omega (arith, c.deref_mut-9.ensures.len, c.deref_mut.ensures.len, c.copy_from_slice.ensures.len, here.held) in
+    let long : length up ≡ face_count mesh = omega (arith, c.deref_mut-8.ensures.len, c.deref_mut-5.ensures.len, here.ups) in
+    record {
+      ups = λ f l some.
+          let lf : f < face_count mesh = let same = ap length up_is in omega (arith, same) in
+          let inside = ups_in i c.hang.new.parent up c.hang.new.depth c.hang.ensures.hung f lf (subst (λ (x : List ℕ). at x f ≢ nobody) up_is some) in
+          subst (λ (x : List ℕ). at x f < length c.deref_mut-9.result.now) (sym up_is) (omega (arith, inside));
+    }
 
 pub returns : goal.returns
 returns c =
+    let i = (goal.at.returns c).After-deref_mut-8 in
     let mesh = c.args.mesh.now in
     let d = c.self.inside in
     let made : IsMadeFor mesh c.args.self.now = c.requires.made in
     let here = subst (IsMadeFor mesh) (sym c.self.view_is) made in
     let marks = c.args.in_tree.now in
-    let depth = c.span.new.depth in
-    let parent = c.span.new.parent in
-    let up = c.span.new.up in
+    let depth = c.hang.new.depth in
+    let parent = c.hang.new.parent in
+    let up = c.hang.new.up in
     let held = c.mark_edges.new.marks in
-    let depth_is : (with_items d.depth depth).items ≡ depth = with_items_is d.depth depth (omega (arith, c.deref_mut.ensures.len)) in
-    let parent_is : (with_items d.parent parent).items ≡ parent = with_items_is d.parent parent (omega (arith, c.deref_mut-2.ensures.len)) in
-    let up_is : (with_items d.up up).items ≡ up = with_items_is d.up up (omega (arith, c.deref_mut-3.ensures.len)) in
-    let held_is : (with_items d.held held).items ≡ held = with_items_is d.held held (omega (arith, c.deref_mut-4.ensures.len)) in
-    let long : length up ≡ face_count mesh = omega (arith, c.deref_mut-3.ensures.value, here.ups) in
-    let wide : length held ≡ edge_count mesh = omega (arith, c.deref_mut-4.ensures.value, here.held) in
+    let depth_is : (with_items (with_items d.depth c.span.new.depth) depth).items ≡ depth = with_items_is (with_items d.depth c.span.new.depth) depth (omega (arith, c.deref_mut-6.ensures.len)) in
+    let parent_is : (with_items (with_items d.parent c.span.new.parent) parent).items ≡ parent = with_items_is (with_items d.parent c.span.new.parent) parent (omega (arith, c.deref_mut-7.ensures.len)) in
+    let up_is : (with_items (with_items d.up c.span.new.up) up).items ≡ up = with_items_is (with_items d.up c.span.new.up) up (omega (arith, c.deref_mut-8.ensures.len)) in
+    let held_is : (with_items (with_items c.copy_from_slice.new.self c.peel-count.new.marks) held).items ≡ held = with_items_is (with_items c.copy_from_slice.new.self c.peel-count.new.marks) held (omega (arith, c.deref_mut-9.ensures.len)) in
+    let long : length up ≡ face_count mesh = omega (arith, c.deref_mut-8.ensures.len, c.deref_mut-5.ensures.len, here.ups) in
+    let wide : length held ≡ edge_count mesh = omega (arith, c.deref_mut-9.ensures.len, c.deref_mut.ensures.len, c.copy_from_slice.ensures.len, here.held) in
     let marked : (e : ℕ) → e < edge_count mesh → get_or held e false ≡ any_below (face_count mesh) (λ v. not (eqb (at up v) nobody) && eqb (at up v) e) = λ e l.
     subst (λ n. get_or held e false ≡ any_below n (λ v. not (eqb (at up v) nobody) && eqb (at up v) e)) long
-    (rw (c.deref.ensures.value, up_is) at (c.mark_edges.ensures.marks e (omega (arith, wide, l))))
+    (rw (c.deref-3.ensures.value, up_is) at (c.mark_edges.ensures.marks e (omega (arith, wide, l))))
     in
     let listed : c.list_left.new.left.items ≡ filter (is_unmarked marks held) (range_with_len 0 (edge_count mesh)) =
-    subst (λ m. c.list_left.new.left.items ≡ filter (is_unmarked marks held) (range_with_len 0 m)) c.requires.marks (rw (c.deref-2.ensures.value, held_is) at c.list_left.ensures.listed)
+    subst (λ m. c.list_left.new.left.items ≡ filter (is_unmarked marks held) (range_with_len 0 m)) c.requires.marks (rw (c.deref-4.ensures.value, held_is) at c.list_left.ensures.listed)
     in
     let t : CotreeTables = record { held = held; left = c.list_left.new.left.items; parents = parent; ups = up; depths = depth; width = d.signs.width; signatures = d.signs.sets } in
     rw (depth_is, parent_is, up_is, held_is) (record {
@@ -43,15 +120,15 @@ returns c =
         few = omega (arith, c.edges-edges.type_inv, c.edges-edges.ensures.count);
         made = record {
           held = wide;
-          parents = omega (arith, c.deref_mut-2.ensures.value, here.parents);
+          parents = omega (arith, c.deref_mut-7.ensures.len, c.deref_mut-4.ensures.len, here.parents);
           ups = long;
-          depths = omega (arith, c.deref_mut.ensures.value, here.depths);
+          depths = omega (arith, c.deref_mut-6.ensures.len, c.deref_mut-3.ensures.len, here.depths);
           width = here.width;
           signatures = here.signatures;
         };
         some_tree = c.requires.tree;
-        heavy = c.span.ensures.heaviest;
-        root = c.span.ensures.root;
+        heavy = heavy i parent up depth c.hang.ensures.hung;
+        root = root i parent up depth c.hang.ensures.hung;
         marked = marked;
         listed = listed;
       });

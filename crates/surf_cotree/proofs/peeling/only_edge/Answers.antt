@@ -1,0 +1,45 @@
+use Rattle.std.proofs.Common.{◌≡◌, ◌<◌, ◌∙◌, ℕ, not, true, false, length, arith, sym, ap, subst, map}
+use Rattle.std.proofs.lemmas.List.{length-map}
+use Rattle.surf_homology.specs.Cells.{dual}
+use Rattle.surf_complex.specs.Cells.{cells_of}
+use Rattle.surf_net.specs.Rows.{link_at, side_link}
+use Rattle.surf_cotree.specs.Searches.{outside}
+use Rattle.surf_cotree.proofs.Passing.{link_of_side}
+use Rattle.surf_cotree.proofs.Leaves.{only_skip, only_second, found_only}
+use Rattle.surf_cotree.proofs.peeling.only_edge.Goals as goal
+use Rattle.surf_cotree.proofs.peeling.only_edge.Goals.{then-not-marks-index+else-is_some, else-not-marks-index}
+
+pub bounds-marks-index : goal.bounds-marks-index
+bounds-marks-index c =
+    let mesh = c.args.mesh.now in
+    let items = c.sides_of-s-items.result.now in
+    let n = c.loop-s.s-index in
+    let long = length-map items (side_link mesh) in
+    let is : link_at (map (side_link mesh) items) n ≡ c.across-edge.result = link_of_side mesh n c.s-item.result items c.loop-s-test.true c.s-item.is ∙ sym c.across-edge.ensures.link in
+    let l : c.across-edge.result.1 < (dual (cells_of mesh)).edges = subst (λ (p : ℕ × ℕ). p.1 < (dual (cells_of mesh)).edges) is (c.sides_of-s-items.ensures.row.edge_in n (omega arith)) in
+    omega (arith, l, c.requires.marks, c.index.ensures)
+
+pub loop-s-preserved : goal.loop-s-preserved
+loop-s-preserved c =
+    let mesh = c.args.mesh.now in
+    let items = c.sides_of-s-items.result.now in
+    let n = c.loop-s.s-index in
+    let number : ℕ → ℕ = λ k. (link_at (map (side_link mesh) items) k).1 in
+    let rest = outside c.args.marks.now in
+    let is : number n ≡ c.index.result = ap (λ (p : ℕ × ℕ). p.1) (link_of_side mesh n c.s-item.result items c.loop-s-test.true c.s-item.is ∙ sym c.across-edge.ensures.link) ∙ sym c.index.ensures in
+    elim c.if-not-marks-index.branch [
+      | then-not-marks-index+else-is_some w ↦
+          let free : rest (number n) ≡ true = ap rest is ∙ ap not w.if-not-marks-index.true in
+          rw w.found-is (only_second rest number n c.across-edge.result.1 c.loop-s.found w.if-is_some.ensures (is ∙ c.index.ensures) free c.loop-s.invariant)
+      | else-not-marks-index w ↦
+          let shut : rest (number n) ≡ false = ap rest is ∙ ap not w.if-not-marks-index.false in
+          rw w.found-is (only_skip rest number n c.loop-s.found shut c.loop-s.invariant)
+    ]
+
+pub returns : goal.returns
+returns c =
+    let mesh = c.args.mesh.now in
+    let items = c.sides_of-s-items.result.now in
+    let long : length (map (side_link mesh) items) ≡ length items = length-map items (side_link mesh) in
+    let end : c.loop-s.s-index ≡ length items = omega (arith, c.loop-s-test.false, c.loop-s.auto.s-index-end) in
+    record { only = found_only (dual (cells_of mesh)) (outside c.args.marks.now) c.args.face (map (side_link mesh) items) c.loop-s.s-index c.loop-s.found c.sides_of-s-items.ensures.row (long ∙ sym end) c.loop-s.invariant }

@@ -1,0 +1,5 @@
+use Rattle.surf_cotree.specs.Searches.{outside}
+use Rattle.surf_cotree.proofs.peeling.peel.Goals as goal
+
+pub loop-face-preserved : goal.loop-face-preserved
+loop-face-preserved c = c.peel_from-count.ensures.peeled (outside c.args.marks.now) c.loop-face.invariant

@@ -1,0 +1,53 @@
+-- Faces that hang on the others by one edge, taken off and hung on again.
+use Rattle.std.specs.Prelude.{ℕ, zero, suc, ◌≡◌, ◌≢◌, ◌<◌, ◌≤◌, ◌&&◌, ◌==◌, Bool, true, false, not, List, length, slice_index_or, Option, Some, None}
+use Rattle.surf_z2.specs.Parity.{count_below}
+use Rattle.surf_homology.specs.Graphs.{Graph, joins}
+use Rattle.surf_heap.specs.Entries.{Entries, IsEmpty}
+use Rattle.surf_cotree.specs.Tables.{nobody}
+use Rattle.surf_cotree.specs.Searches.{at, heaviest, reached, tree_of, IsPrim}
+use Rattle.surf_cotree.specs.declared.peeling.Leaf.{Leaf}
+
+abbrev pub leaf_at : List Leaf → ℕ → Leaf
+leaf_at leaves k = slice_index_or leaves k (record { face = 0; edge = 0 })
+
+-- the allowed edges that are left when the first n leaves have been taken off, each with its edge
+abbrev pub left_after : (ℕ → Bool) → List Leaf → ℕ → ℕ → Bool
+left_after allowed leaves zero e = allowed e
+left_after allowed leaves (suc n) e = left_after allowed leaves n e && not (e == (leaf_at leaves n).edge)
+
+-- of the edges that are left, e alone is at node f
+pub record IsOnlyEdge (g : Graph) (rest : ℕ → Bool) (f e : ℕ) : Type 0 where
+  pub edge_in : e < g.edges
+  pub is_left : rest e ≡ true
+  pub other : ℕ
+  pub other_in : other < g.nodes
+  pub joined : joins g f other e ≡ true
+  pub only : (l w : ℕ) → l < g.edges → rest l ≡ true → joins g f w l ≡ true → l ≡ e
+
+-- the same for the first n edges of a row, or none of them is left
+abbrev pub IsOnlySoFar : (ℕ → Bool) → (ℕ → ℕ) → ℕ → Option ℕ → Type 0
+IsOnlySoFar rest number n None = (k : ℕ) → k < n → rest (number k) ≡ false
+IsOnlySoFar rest number n (Some e) = (rest e ≡ true) × ((k : ℕ) × (k < n) × (number k ≡ e)) × ((k : ℕ) → k < n → rest (number k) ≡ true → number k ≡ e)
+
+-- when the leaves before it have been taken off, a leaf hangs on the other nodes by its edge alone. Node 0 stays
+pub record IsLeaf (g : Graph) (allowed : ℕ → Bool) (leaves : List Leaf) (k : ℕ) : Type 0 where
+  pub node_in : (leaf_at leaves k).face < g.nodes
+  pub not_first : (leaf_at leaves k).face ≢ 0
+  pub hangs : IsOnlyEdge g (left_after allowed leaves k) (leaf_at leaves k).face (leaf_at leaves k).edge
+
+-- the first n leaves have been taken off one after the other, and the rest of the edges is left
+pub record IsPeeled (g : Graph) (allowed : ℕ → Bool) (leaves : List Leaf) (n : ℕ) (rest : ℕ → Bool) : Type 0 where
+  pub few : n ≤ length leaves
+  pub leaf : (k : ℕ) → k < n → IsLeaf g allowed leaves k
+  pub rest_is : (e : ℕ) → rest e ≡ left_after allowed leaves n e
+
+-- A search over the edges that are left after n leaves is at its end: no node waits. The other leaves have been hung.
+pub record IsHung (g : Graph) (allowed : ℕ → Bool) (weight : ℕ → ℕ) (leaves : List Leaf) (n : ℕ) (parent up depth : List ℕ) : Type 0 where
+  pub light : (e : ℕ) → weight e ≤ heaviest
+  pub few : n ≤ length leaves
+  pub leaf : (k : ℕ) → k < n → IsLeaf g allowed leaves k
+  pub root : at up 0 ≡ nobody
+  pub heap : Entries
+  pub places : length heap ≡ g.nodes
+  pub empty : IsEmpty heap
+  pub prim : IsPrim g (left_after allowed leaves n) weight (reached depth) (tree_of 0 parent up depth) heap (count_below g.nodes (λ v. at depth v == nobody))
