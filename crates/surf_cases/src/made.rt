@@ -91,3 +91,110 @@ fn numbers_that_make_no_mesh(rt: HostRuntime) -> Result<(), Fail> {
     }
     Ok(())
 }
+
+// What is found on a torus or a chain whose edges all have length 1.
+#[test]
+fn summaries_of_unit_lengths(rt: HostRuntime) -> Result<(), Fail> {
+    let cases = [
+        Case {
+            words: &["try", "torus", "12", "12", "0"],
+            files: &[],
+            status: 0,
+            out: "vertices 144\nedges 432\nfaces 288\ncharacteristic 0\ngenus 1\nloops 24\nbasis 24\ncycle 12\n",
+            diag: "",
+        },
+        Case {
+            words: &["try", "torus", "5", "4", "0"],
+            files: &[],
+            status: 0,
+            out: "vertices 20\nedges 60\nfaces 40\ncharacteristic 0\ngenus 1\nloops 9\nbasis 9\ncycle 4\n",
+            diag: "",
+        },
+        Case {
+            words: &["try", "chain", "2", "4", "4", "0"],
+            files: &[],
+            status: 0,
+            out: "vertices 29\nedges 93\nfaces 62\ncharacteristic -2\ngenus 2\nloops 20\nbasis 16\ncycle 4\n",
+            diag: "",
+        },
+    ];
+    for case in &cases {
+        answers(&rt, case)?;
+    }
+    Ok(())
+}
+
+// The total of the basis is less than that of the loops at vertex 0.
+#[test]
+fn summary_of_scattered_lengths(rt: HostRuntime) -> Result<(), Fail> {
+    answers(
+        &rt,
+        &Case {
+            words: &["try", "torus", "3", "3", "1"],
+            files: &[],
+            status: 0,
+            out: "vertices 9\nedges 27\nfaces 18\ncharacteristic 0\ngenus 1\nloops 191\nbasis 170\ncycle 81\n",
+            diag: "",
+        },
+    )
+}
+
+#[test]
+fn summary_of_1600_vertices(rt: HostRuntime) -> Result<(), Fail> {
+    answers(
+        &rt,
+        &Case {
+            words: &["try", "torus", "40", "40", "0"],
+            files: &[],
+            status: 0,
+            out: "vertices 1600\nedges 4800\nfaces 3200\ncharacteristic 0\ngenus 1\nloops 80\nbasis 80\ncycle 40\n",
+            diag: "",
+        },
+    )
+}
+
+#[test]
+fn numbers_that_are_not_tried(rt: HostRuntime) -> Result<(), Fail> {
+    let cases: [(&[&str], u8, &str); 11] = [
+        (&["try", "torus", "2", "3", "0"], 2, USAGE),
+        (&["try", "torus", "3", "3"], 2, USAGE),
+        (&["try", "torus", "3", "3", "x"], 2, USAGE),
+        (&["try", "torus", "3", "3", "4294967296"], 2, USAGE),
+        (&["try", "chain", "1", "4", "3", "0"], 2, USAGE),
+        (&["try", "chain", "1", "4", "4", "0", "0"], 2, USAGE),
+        (
+            &["try", "torus", "1000", "1001", "0"],
+            6,
+            "limit: vertices\n",
+        ),
+        (
+            &["try", "chain", "4", "6", "41667", "0"],
+            6,
+            "limit: faces\n",
+        ),
+        (&["try", "chain", "513", "4", "4", "0"], 6, "limit: loops\n"),
+        (
+            &["try", "chain", "513", "10", "10", "0"],
+            6,
+            "limit: loops\n",
+        ),
+        (
+            &["try", "torus", "100", "201", "0"],
+            6,
+            "limit: basis-vertices\n",
+        ),
+    ];
+    for (words, status, diag) in &cases {
+        answers(
+            &rt,
+            &Case {
+                words,
+                files: &[],
+                status: *status,
+                out: "",
+                diag,
+            },
+        )?;
+    }
+    Ok(())
+}

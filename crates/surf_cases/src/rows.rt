@@ -20,9 +20,11 @@ const HELP: &str = "usage: surf info M
        surf disc M
        surf gen torus a b
        surf gen chain g a b
+       surf try torus a b s
+       surf try chain g a b s
        surf --help | --version
 M is an OFF mesh, L a length file or the word unit, x a vertex.
-a and b are rows and columns of squares, g tori.
+a and b are rows and columns of squares, g tori, s any number.
 ";
 
 /// Words, files, and what is due.

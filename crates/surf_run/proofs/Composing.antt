@@ -10,6 +10,19 @@ use Rattle.surf_run.specs.Tells.{IsTold, Why, Concludes, WhyOver, ConcludesOver,
 use Rattle.surf_run.specs.declared.answered.Answered.{Answered}
 use Rattle.surf_run.specs.declared.refusal.Refused.{Refused}
 
+module _ {A : Type 0} (first : Result A Outcome → Type 0) (second : A → Outcome → Type 0) (a : A) (went : first (Ok a)) where
+  why_alone : (c : Cause) → Why (second a) c → Why (Ends first second) c
+  why_alone (due o) end = inr (a, went, end)
+  why_alone unread end = end
+  why_alone starved end = tt
+
+  -- the first step went on, and the second comes to an end
+  pub ends_alone : (r : Result Answered Refused) → Concludes (second a) r → Concludes (Ends first second) r
+  ends_alone (Ok x) end = inr (a, went, end)
+  ends_alone (Err e) end = why_alone (cause_of e) end
+
+-- ---- a step over files that steps without files follow
+
 module _ {A : Type 0} (holds : Option Files) (old new : ℕ) (first : Files → Result A Outcome → Type 0) (second : A → Outcome → Type 0) (a : A)
     (went : IfSome holds (λ files. first files (Ok a))) where
   on : (o : Outcome) → second a o → IfSome holds (λ files. Ends (first files) second o)

@@ -79,7 +79,7 @@ many_vertices mesh many = let t : nat_lt 20000 mesh.vertices ≡ true = lt-ltb _
 
 -- ---- texts
 
-as_long : (cs : List Cycle) → map (λ c. c.size) (loops_of cs) ≡ map (λ c. c.length) cs
+pub as_long : (cs : List Cycle) → map (λ c. c.size) (loops_of cs) ≡ map (λ c. c.length) cs
 as_long [] = refl
 as_long (c ∷ cs) = ap (λ xs. c.length ∷ xs) (as_long cs)
 

@@ -11,6 +11,7 @@ use Rattle.surf_loops.specs.Loops.{LoopTables, IsGreedy, loop_of, trees_of}
 use Rattle.surf_loops.specs.declared.head.LoopHead.{LoopHead}
 use Rattle.surf_print.specs.LoopTexts.{walk_line, loops_head, loops_text}
 use Rattle.surf_run.specs.HeadTexts.{head_line, heads_text}
+use Rattle.surf_run.specs.Summaries.{total_size}
 
 module _ (mesh : Mesh) (t : LoopTables) where
   as_many : (heads : List LoopHead) → length (map (loop_of mesh t) heads) ≡ length heads
@@ -42,6 +43,9 @@ weaker P Q (x ∷ xs) f all = (f x all.0, weaker P Q xs f all.1)
 module _ (mesh : Mesh) (lengths : List ℕ) (base : ℕ) (t : LoopTables) (greedy : IsGreedy mesh lengths base t) where
   pub heads_are_loops : heads_text mesh t ≡ loops_text (loops_at mesh lengths base (trees_of t))
   heads_are_loops = sym (text_of_heads mesh t) ∙ ap loops_text greedy.heads
+
+  pub heads_total : sum (map (λ h. h.length) t.heads) ≡ total_size (loops_at mesh lengths base (trees_of t))
+  heads_total = ap sum (sym (as_long mesh t t.heads)) ∙ ap total_size greedy.heads
 
   pub heads_inside : All (λ h. h.edge < edge_count mesh) t.heads
   heads_inside = All-from_recursion (λ h. h.edge < edge_count mesh) t.heads (edges_of mesh t t.heads

@@ -8,3 +8,5 @@ mod CutLaws
 mod CycleLaws
 mod FindingLaws
 mod ShapeLaws
+mod TryLaws
+mod WordLaws

@@ -11,6 +11,9 @@ use Rattle.surf_complex.specs.Surface.{edge_count, IsSurface}
 use Rattle.surf_off.specs.Written.{soup_text}
 use Rattle.surf_run.specs.Making.{made, IsMade, GivesMesh}
 use Rattle.surf_run.specs.Shapes.{mesh_of}
+use Rattle.surf_gen.specs.Made.{made_values}
+use Rattle.surf_run.specs.Summaries.{GivesSummary}
+use Rattle.surf_run.specs.Trying.{IsTried, then_searched}
 use Rattle.surf_check.specs.declared.checking.SurfaceFault.{SurfaceFault}
 use Rattle.surf_check.specs.declared.checking.SurfaceFault.TheVariants.{Empty, Border, Crowded, Isolated, Pinched, Apart, Memory}
 use Rattle.surf_check.proofs.FaultLaws.{fault_only}
@@ -45,7 +48,7 @@ use Rattle.surf_print.proofs.TreeTextLaws.{texts_same}
 use Rattle.surf_run.specs.MeshTexts.{IsMeshText, read_outcome}
 use Rattle.surf_run.specs.Surfaces.{surface_cause, EndsInFault, IsSurfaceText}
 use Rattle.surf_run.specs.Leads.{Leads, Answer, OnRequest, OnInfoText, OnDiscText}
-use Rattle.surf_run.specs.Words.{Request, help, version, info, disc, cycles, weighted, makes, request_of}
+use Rattle.surf_run.specs.Words.{Request, help, version, info, disc, cycles, weighted, makes, tries, request_of}
 
 -- two results of a step go on with one value, or end with one status
 abbrev pub Agree : {A : Type 0} → Result A Outcome → Result A Outcome → Type 0
@@ -251,6 +254,8 @@ one_request (Some (weighted task mesh word base)) files = one_end (Reads mesh fi
     (one_result (within_text (bytes_of files mesh))) (λ bytes _. one_text task bytes word base files)
 one_request (Some (makes shape)) files = one_end (IsMade shape) GivesMesh (one_result (made (mesh_of shape)))
     (λ mesh _ o p x y. says_same (soup_text mesh (edge_count mesh)) (soup_text mesh (edge_count mesh)) o p refl x y)
+one_request (Some (tries shape scatter)) files = one_end (IsTried shape) (λ mesh. GivesSummary mesh (made_values mesh scatter))
+    (one_result (then_searched (made (mesh_of shape)))) (λ mesh _ o p x y. ap status_of x.text ∙ sym (ap status_of y.text))
 
 module _ (words : List (List ℕ)) (files : Files) where
   pub one_lead : HasOneStatus (Leads words files)

@@ -13,7 +13,8 @@ use Rattle.surf_run.specs.Reading.{Reads}
 use Rattle.surf_run.specs.Steps.{Ends}
 use Rattle.surf_run.specs.Surfaces.{IsSurfaceText}
 use Rattle.surf_run.specs.Tasks.{OnTask}
-use Rattle.surf_run.specs.Words.{Request, help, version, info, disc, cycles, weighted, makes, request_of}
+use Rattle.surf_run.specs.Trying.{OnTry}
+use Rattle.surf_run.specs.Words.{Request, help, version, info, disc, cycles, weighted, makes, tries, request_of}
 
 -- `info` of the text of a mesh
 abbrev pub OnInfoText : List ℕ → Outcome → Type 0
@@ -41,6 +42,7 @@ OnRequest (Some (disc mesh)) files outcome = OnDisc mesh files outcome
 OnRequest (Some (cycles task mesh lengths)) files outcome = OnCycles task mesh lengths files outcome
 OnRequest (Some (weighted task mesh lengths base)) files outcome = OnTask task mesh lengths base files outcome
 OnRequest (Some (makes shape)) files outcome = OnGen shape outcome
+OnRequest (Some (tries shape scatter)) files outcome = OnTry shape scatter outcome
 
 -- what comes of these words over these files
 unfoldable pub Leads : List (List ℕ) → Files → Outcome → Type 0

@@ -28,3 +28,5 @@ pub mod Tells
 pub mod Run
 pub mod Shapes
 pub mod Making
+pub mod Summaries
+pub mod Trying

@@ -1,5 +1,5 @@
 -- What a command on a mesh that is made from numbers answers.
-use Rattle.std.specs.Prelude.{◌≡◌, ℕ, nat_lt, if◌then◌else◌, Result, Ok, Err}
+use Rattle.std.specs.Prelude.{◌≡◌, nat_lt, if◌then◌else◌, Result, Ok, Err}
 use Rattle.surf_base.specs.declared.limits.LimitKind.TheVariants.{Vertices, Faces}
 use Rattle.surf_complex.specs.Mesh.{Mesh}
 use Rattle.surf_complex.specs.Surface.{face_count, edge_count}

@@ -26,6 +26,8 @@ pub data Request : Type 0 where
   weighted : Task → List ℕ → List ℕ → ℕ → Request
   -- the mesh of a shape
   makes : Shape → Request
+  -- what is found on the surface of a shape, with the lengths that a scatter makes
+  tries : Shape → ℕ → Request
 
 abbrev pub lone_request : List ℕ → Option Request
 lone_request word =
@@ -73,25 +75,35 @@ abbrev pub shape_request : Option Shape → Option Request
 shape_request None = None
 shape_request (Some shape) = Some (makes shape)
 
--- the rows of four words and of five that begin with `gen`
-abbrev pub torus_request : List ℕ → List ℕ → List ℕ → Option Request
-torus_request kind rows columns =
-    if bytes_eq kind (codes "torus") then shape_request (torus_named (number_of rows) (number_of columns)) else None
+-- a shape with a scatter
+abbrev pub tried_request : Option Shape → Option ℕ → Option Request
+tried_request None scatter = None
+tried_request (Some shape) None = None
+tried_request (Some shape) (Some scatter) = Some (tries shape scatter)
 
-abbrev pub chain_request : List ℕ → List ℕ → List ℕ → List ℕ → Option Request
-chain_request kind tori rows columns =
-    if bytes_eq kind (codes "chain") then shape_request (chain_named (number_of tori) (number_of rows) (number_of columns)) else None
+-- the shape that a word names with two numbers, and with three
+abbrev pub torus_words : List ℕ → List ℕ → List ℕ → Option Shape
+torus_words kind rows columns = if bytes_eq kind (codes "torus") then torus_named (number_of rows) (number_of columns) else None
 
--- the row of four words, and that of five
+abbrev pub chain_words : List ℕ → List ℕ → List ℕ → List ℕ → Option Shape
+chain_words kind tori rows columns =
+    if bytes_eq kind (codes "chain") then chain_named (number_of tori) (number_of rows) (number_of columns) else None
+
+-- the row of four words, that of five and that of six
 abbrev pub four_words : List ℕ → List ℕ → List ℕ → List ℕ → Option Request
 four_words word second third fourth =
-    if bytes_eq word (codes "gen") then torus_request second third fourth
+    if bytes_eq word (codes "gen") then shape_request (torus_words second third fourth)
     else weighted_request (task_of word) second third (number_of fourth)
 
 abbrev pub five_words : List ℕ → List ℕ → List ℕ → List ℕ → List ℕ → Option Request
 five_words word second third fourth fifth =
-    if bytes_eq word (codes "gen") then chain_request second third fourth fifth
-    else weighted_request (cut_task word fifth) second third (number_of fourth)
+    if bytes_eq word (codes "gen") then shape_request (chain_words second third fourth fifth)
+    else (if bytes_eq word (codes "try") then tried_request (torus_words second third fourth) (number_of fifth)
+    else weighted_request (cut_task word fifth) second third (number_of fourth))
+
+abbrev pub six_words : List ℕ → List ℕ → List ℕ → List ℕ → List ℕ → List ℕ → Option Request
+six_words word second third fourth fifth sixth =
+    if bytes_eq word (codes "try") then tried_request (chain_words second third fourth fifth) (number_of sixth) else None
 
 -- the row of the command table that the words are in
 abbrev pub request_of : List (List ℕ) → Option Request
@@ -101,4 +113,5 @@ request_of (word ∷ mesh ∷ []) = mesh_request word mesh
 request_of (word ∷ mesh ∷ lengths ∷ []) = cycles_request (cycle_task word) mesh lengths
 request_of (word ∷ second ∷ third ∷ fourth ∷ []) = four_words word second third fourth
 request_of (word ∷ second ∷ third ∷ fourth ∷ fifth ∷ []) = five_words word second third fourth fifth
-request_of (word ∷ mesh ∷ lengths ∷ base ∷ kind ∷ sixth ∷ more) = None
+request_of (word ∷ second ∷ third ∷ fourth ∷ fifth ∷ sixth ∷ []) = six_words word second third fourth fifth sixth
+request_of (word ∷ second ∷ third ∷ fourth ∷ fifth ∷ sixth ∷ seventh ∷ more) = None

@@ -43,8 +43,8 @@ fn put_basis(page: &mut Page, basis: &[Cycle]) -> Result<(), PageFault>
     put_cycles(page, basis)
 }
 
-// The sum of the lengths of cycles.
-fn total_of(cycles: &[Cycle]) -> u128
+/// The sum of the lengths of cycles.
+pub fn total_of(cycles: &[Cycle]) -> u128
     ensures { result ≡ sum (map (λ c. c.length) cycles.now) }
 {
     let mut total = 0u128;

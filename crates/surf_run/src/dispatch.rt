@@ -11,6 +11,7 @@ use crate::disc_command::disc;
 use crate::gen_command::generate;
 use crate::info_command::info;
 use crate::refusal::Refused;
+use crate::try_command::tried;
 use crate::weighted::weighted;
 use crate::words::Command;
 use std::alloc::Global;
@@ -40,5 +41,6 @@ pub fn answer<S: Shelf>(alloc: Global, command: Command, shelf: &mut S) -> Resul
             base,
         } => weighted(alloc, shelf, task, mesh, lengths, base),
         Command::Generate { shape } => generate(alloc, shape),
+        Command::Try { shape, scatter } => tried(alloc, shape, scatter),
     }
 }

@@ -33,7 +33,8 @@ fn info_of_text(alloc: Global, bytes: &[u8]) -> Result<Answered, Refused>
     info_of(alloc, &mesh)
 }
 
-fn info_of(alloc: Global, mesh: &HalfMesh) -> Result<Answered, Refused>
+/// The counts of a surface, its characteristic, and its genus or its crosscaps.
+pub fn info_of(alloc: Global, mesh: &HalfMesh) -> Result<Answered, Refused>
     ensures { Concludes (Informs mesh.now) result }
 {
     match orient(alloc, mesh)? {

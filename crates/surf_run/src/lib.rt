@@ -17,6 +17,7 @@ mod reading;
 mod refusal;
 mod shape;
 mod top;
+mod try_command;
 mod weighted;
 mod weights;
 mod words;

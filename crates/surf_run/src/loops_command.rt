@@ -60,8 +60,8 @@ fn put_head(page: &mut Page, heads: &[LoopHead]) -> Result<(), PageFault>
     put_loops_head(page, heads.len(), total_of(heads))
 }
 
-// The sum of the lengths of loops.
-fn total_of(heads: &[LoopHead]) -> u128
+/// The sum of the lengths of loops.
+pub fn total_of(heads: &[LoopHead]) -> u128
     ensures { result ≡ sum (map (λ h. h.length) heads.now) }
 {
     let mut total = 0u128;

@@ -1,6 +1,6 @@
 //! The words of the command line.
 ghost use Rattle.std.specs.Prelude.{◌≡◌, None, Some, MatchOption};
-ghost use Rattle.surf_run.specs.Words.{texts, request_of, lone_request, mesh_request, number_of, cycle_task, task_of, cut_task, cycles_request, weighted_request, torus_request, chain_request, four_words, five_words};
+ghost use Rattle.surf_run.specs.Words.{texts, request_of, lone_request, mesh_request, number_of, cycle_task, task_of, cut_task, cycles_request, weighted_request, shape_request, tried_request, torus_words, chain_words, four_words, five_words, six_words};
 ghost use Rattle.surf_run.specs.Seen.{request};
 
 use crate::cut_command::CutKind;
@@ -33,6 +33,10 @@ pub enum Command<'w> {
     },
     Generate {
         shape: Shape,
+    },
+    Try {
+        shape: Shape,
+        scatter: u32,
     },
 }
 
@@ -128,27 +132,38 @@ fn on_mesh<'w>(word: &str, mesh: &'w str) -> Option<Command<'w>>
     }
 }
 
-// The mesh of four words that begin with `gen`.
-fn torus_of<'w>(kind: &str, rows: &str, columns: &str) -> Option<Command<'w>>
-    ensures { MatchOption result (torus_request kind.now rows.now columns.now ≡ None) (λ c. torus_request kind.now rows.now columns.now ≡ Some (request c)) }
+// The shape that a word names with two numbers.
+fn torus_of(kind: &str, rows: &str, columns: &str) -> Option<Shape>
+    ensures { result ≡ torus_words kind.now rows.now columns.now }
 {
     if kind != "torus" {
         return None;
     }
-    Some(Command::Generate {
-        shape: Shape::torus(number_of(rows)?, number_of(columns)?)?,
-    })
+    Shape::torus(number_of(rows)?, number_of(columns)?)
 }
 
-// The mesh of five words that begin with `gen`.
-fn chain_of<'w>(kind: &str, tori: &str, rows: &str, columns: &str) -> Option<Command<'w>>
-    ensures { MatchOption result (chain_request kind.now tori.now rows.now columns.now ≡ None) (λ c. chain_request kind.now tori.now rows.now columns.now ≡ Some (request c)) }
+// The shape that a word names with three numbers.
+fn chain_of(kind: &str, tori: &str, rows: &str, columns: &str) -> Option<Shape>
+    ensures { result ≡ chain_words kind.now tori.now rows.now columns.now }
 {
     if kind != "chain" {
         return None;
     }
-    Some(Command::Generate {
-        shape: Shape::chain(number_of(tori)?, number_of(rows)?, number_of(columns)?)?,
+    Shape::chain(number_of(tori)?, number_of(rows)?, number_of(columns)?)
+}
+
+fn generate<'w>(shape: Option<Shape>) -> Option<Command<'w>>
+    ensures { MatchOption result (shape_request shape ≡ None) (λ c. shape_request shape ≡ Some (request c)) }
+{
+    Some(Command::Generate { shape: shape? })
+}
+
+fn tried<'w>(shape: Option<Shape>, scatter: Option<u32>) -> Option<Command<'w>>
+    ensures { MatchOption result (tried_request shape scatter ≡ None) (λ c. tried_request shape scatter ≡ Some (request c)) }
+{
+    Some(Command::Try {
+        shape: shape?,
+        scatter: scatter?,
     })
 }
 
@@ -157,7 +172,7 @@ fn on_four<'w>(word: &str, second: &'w str, third: &'w str, fourth: &str) -> Opt
     ensures { MatchOption result (four_words word.now second.now third.now fourth.now ≡ None) (λ c. four_words word.now second.now third.now fourth.now ≡ Some (request c)) }
 {
     if word == "gen" {
-        return torus_of(second, third, fourth);
+        return generate(torus_of(second, third, fourth));
     }
     weighted(task_of(word), second, third, number_of(fourth))
 }
@@ -173,9 +188,29 @@ fn on_five<'w>(
     ensures { MatchOption result (five_words word.now second.now third.now fourth.now fifth.now ≡ None) (λ c. five_words word.now second.now third.now fourth.now fifth.now ≡ Some (request c)) }
 {
     if word == "gen" {
-        return chain_of(second, third, fourth, fifth);
+        return generate(chain_of(second, third, fourth, fifth));
+    }
+    if word == "try" {
+        return tried(torus_of(second, third, fourth), number_of(fifth));
     }
     weighted(cut_task(word, fifth), second, third, number_of(fourth))
+}
+
+// The row of six words.
+fn on_six<'w>(
+    word: &str,
+    second: &str,
+    third: &str,
+    fourth: &str,
+    fifth: &str,
+    sixth: &str,
+) -> Option<Command<'w>>
+    ensures { MatchOption result (six_words word.now second.now third.now fourth.now fifth.now sixth.now ≡ None) (λ c. six_words word.now second.now third.now fourth.now fifth.now sixth.now ≡ Some (request c)) }
+{
+    if word != "try" {
+        return None;
+    }
+    tried(chain_of(second, third, fourth, fifth), number_of(sixth))
 }
 
 /// The row of the command table that the words are in.
@@ -189,6 +224,9 @@ pub fn parse(words: &[String]) -> Option<Command<'_>>
         [word, mesh, lengths] => cycles(cycle_task(word), mesh, lengths),
         [word, second, third, fourth] => on_four(word, second, third, fourth),
         [word, second, third, fourth, fifth] => on_five(word, second, third, fourth, fifth),
-        [_, _, _, _, _, _, ..] => None,
+        [word, second, third, fourth, fifth, sixth] => {
+            on_six(word, second, third, fourth, fifth, sixth)
+        }
+        [_, _, _, _, _, _, _, ..] => None,
     }
 }

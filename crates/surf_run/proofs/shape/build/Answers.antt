@@ -1,25 +1,21 @@
-use Rattle.std.proofs.Common.{◌≡◌, ℕ, ◌≤◌, ap, sym, ◌∙◌, arith}
+use Rattle.std.proofs.Common.{ap, sym, ◌∙◌, arith}
 use Rattle.surf_complex.specs.Surface.{face_count}
 use Rattle.surf_run.specs.Shapes.{Shape, mesh_of}
 use Rattle.surf_run.proofs.ShapeLaws.{shape_vertices, shape_faces}
-use Rattle.surf_run.proofs.shape.make_mesh.Goals as goal
+use Rattle.surf_run.proofs.shape.build.Goals as goal
 
 pub chain-requires-clause-few_vertices : goal.chain-requires-clause-few_vertices
 chain-requires-clause-few_vertices c =
     let inside = c.shape.inside in
     let seen : Shape = record { tori = inside.tori; rows = inside.rows; columns = inside.columns } in
     let same = sym (shape_vertices seen c.shape.invariant) ∙ ap (λ s. (mesh_of s).vertices) c.shape.view_is in
-    let counted = c.vertices.ensures in
-    let low = c.if-vertices-from.false in
-    let most = c.from.ensures in
-    omega (arith, same, counted, low, most)
+    let most = c.requires.vertices in
+    omega (arith, same, most)
 
 pub chain-requires-clause-few_faces : goal.chain-requires-clause-few_faces
 chain-requires-clause-few_faces c =
     let inside = c.shape.inside in
     let seen : Shape = record { tori = inside.tori; rows = inside.rows; columns = inside.columns } in
     let same = sym (shape_faces seen c.shape.invariant) ∙ ap (λ s. face_count (mesh_of s)) c.shape.view_is in
-    let counted = c.faces.ensures in
-    let low = c.if-faces-from.false in
-    let most = c.from-2.ensures in
-    omega (arith, same, counted, low, most)
+    let most = c.requires.faces in
+    omega (arith, same, most)
