@@ -63,7 +63,3 @@ numbers_fit mesh lengths vertices faces few long are = record {
   edges = omega (arith, few, long);
   sizes = λ e l. (are e 0 (omega (arith, long, l))).fits;
 }
-
--- a desk with the loops at a base has them at its own
-pub greedy_at_own_base : (mesh : Mesh) (lengths : List ℕ) (base : ℕ) (t : LoopTables) → IsGreedy mesh lengths base t → IsGreedy mesh lengths t.tree.base t
-greedy_at_own_base mesh lengths base t g = subst (λ b. IsGreedy mesh lengths b t) (sym g.tree.base_is) g
