@@ -5,3 +5,4 @@ pub mod Kept
 pub mod First
 pub mod Whole
 pub mod Settled
+pub mod Certified

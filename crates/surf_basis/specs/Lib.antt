@@ -1,3 +1,4 @@
 pub mod Cycles
 pub mod Candidates
 pub mod Signing
+pub mod Certs

@@ -8,10 +8,14 @@
 //! The bases are gone through one by one, and no more candidates are held than a basis has: what was kept so far and the
 //! loops at the next base are merged, and from these the choice is made again. Whether a loop is independent of others
 //! is told by its signature, a sum over its edges of signatures that one base gives for all.
+//!
+//! A certificate of the basis has the trees at all vertices, which are grown again for it one after the other, and shows
+//! that the basis is least to a checker that searches nothing.
 #![tactic(auto)]
 
 mod basis;
 mod candidate;
+mod cert;
 mod choosing;
 mod cycle;
 mod merging;
@@ -20,5 +24,6 @@ mod signing;
 mod walking;
 
 pub use basis::least_basis;
+pub use cert::basis_cert;
 pub use cycle::Cycle;
 pub use shortest::least_nonseparating;

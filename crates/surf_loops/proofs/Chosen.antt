@@ -1,5 +1,5 @@
 -- The loops that a desk holds are those that are chosen.
-use Rattle.std.proofs.Common.{ℕ, ◌<◌, ◌≤◌, ◌≡◌, ◌≢◌, ◌^◌, ◌||◌, ◌&&◌, refl, sym, ap, ◌∙◌, subst, arith, inl, inr, List, [], ◌∷◌, length, map, get_or, slice_index, true, false, eqb, ltb, All, IsPermutation, None}
+use Rattle.std.proofs.Common.{ℕ, ◌<◌, ◌≤◌, ◌≡◌, ◌≢◌, ◌^◌, ◌||◌, ◌&&◌, refl, sym, ap, ◌∙◌, subst, arith, inl, inr, List, [], ◌∷◌, length, map, get_or, slice_index, true, false, eqb, ltb, All, IsPermutation}
 use Rattle.std.specs.List.{AllByRecursion, IsDistinct}
 use Rattle.std.specs.List.Sorted.{IsNonDecreasingBy}
 use Rattle.std.proofs.lemmas.Bool.{cases_lt, eq-eqb, ne_eqb, false≢true}
@@ -24,13 +24,14 @@ use Rattle.surf_complex.proofs.ShortestTreeLaws.{shortest_is_tree}
 use Rattle.surf_complex.proofs.ClassLaws.{independent_walks_are_few}
 use Rattle.surf_complex.proofs.LoopsAtLaws.{comes_before-trans, comes_before-strict, loops-sorted, loops_are_least}
 use Rattle.surf_lengths.specs.Lengths.{AreLengths}
-use Rattle.surf_tree.specs.Tables.{tree_of, parent_of}
+use Rattle.surf_tree.specs.Tables.{tree_of}
 use Rattle.surf_tree.specs.Grown.{IsGrown as IsTreeGrown}
 use Rattle.surf_cotree.specs.Tables.{tree_of as cotree_of, split_with}
 use Rattle.surf_cotree.specs.Grown.{IsGrown as IsCotreeGrown, IsMarked}
 use Rattle.surf_loops.specs.Heads.{head_of, order_of}
 use Rattle.surf_loops.specs.Loops.{LoopTables, trees_of, loop_of, IsRooted, IsGreedy}
 use Rattle.surf_loops.specs.declared.head.LoopHead.{LoopHead}
+use Rattle.surf_loops.proofs.Rows.{grown_rooted}
 
 -- a table of the left edges in the order of their loops has the loops at the base
 sorted_tables_are_loops : (mesh : Mesh) (lengths : List ℕ) (base : ℕ) (trees : Trees) (table : List ℕ) → IsPermutation (left_edges mesh trees.tree trees.cotree) table →
@@ -160,12 +161,7 @@ module _ (mesh : Mesh) (lengths : List ℕ) (base : ℕ) (t : LoopTables) (weigh
       omega (arith, few_walks, cotree.count, n, m)
 
   rooted : IsRooted mesh t.tree
-  rooted = record {
-    made = tree.made;
-    spans = spans;
-    base_alone = subst (λ b. parent_of t.tree b ≡ None) (sym tree.base_is) tree.base_alone;
-    parents = λ v l ne. tree.parents v l (λ e. ne (e ∙ sym tree.base_is));
-  }
+  rooted = grown_rooted mesh lengths base t.tree surface positive tree
 
   pub greedy_tables : IsGreedy mesh lengths base t
   greedy_tables = record {

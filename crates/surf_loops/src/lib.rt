@@ -5,13 +5,17 @@
 //! characteristic of them, are together no longer than any as many independent closed walks at the base
 //! (J. Erickson and K. Whittlesey, "Greedy Optimal Homotopy and Homology Generators", SODA 2005).
 //!
-//! A desk takes all its memory when it is made, so that the loops at many bases are found on it one after the other.
+//! A desk takes all its memory when it is made, so that the loops at many bases are found on it one after the other. Its
+//! certificate, the rows of the two trees and the ends of the left edges, shows that the loops are least to a checker that
+//! searches nothing.
 #![tactic(auto)]
 
+mod cert;
 mod desk;
 mod head;
 mod heads;
 mod ways;
 
+pub use cert::{dual_rows, left_pairs, tree_rows};
 pub use desk::LoopDesk;
 pub use head::LoopHead;

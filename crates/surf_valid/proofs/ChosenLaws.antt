@@ -9,7 +9,7 @@ use Rattle.std.proofs.lemmas.List.FromFn.{length-range_with_len, get_or-map-rang
 use Rattle.surf_z2.specs.Parity.{xor}
 use Rattle.surf_homology.specs.Cells.{primal}
 use Rattle.surf_homology.specs.Growth.{between}
-use Rattle.surf_homology.specs.Trees.{Tree, IsTree, IsShortest, on_way, on_path, loop_length}
+use Rattle.surf_homology.specs.Trees.{Tree, IsTree, IsShortest, on_way, on_path, loop, loop_length}
 use Rattle.surf_homology.proofs.Counting.{left_edges as left_count}
 use Rattle.surf_complex.specs.Mesh.{Mesh, pair, pair_of, pair_eq, edges}
 use Rattle.surf_complex.specs.Surface.{face_count, edge_count, face_at, ends, faces_of, has_side, IsSurface}
@@ -24,17 +24,17 @@ use Rattle.surf_complex.proofs.CellLaws.{surfaces_are_cells, ends_below}
 use Rattle.surf_complex.proofs.ShortestTreeLaws.{shortest_is_tree, shortest_is_shortest}
 use Rattle.surf_complex.proofs.CotreeLaws.{passing_each, passing_found, is_split}
 use Rattle.surf_valid.specs.Rows.{LoopCert}
-use Rattle.surf_valid.specs.Valid.{distance_at, parent_at, depth_at, side_at, or_zero, dual_tree, across, IsParent, AddsUp, IsNoShortCut, IsTreeValid, IsDualRow, is_parent_edge, is_dual_edge, is_listed, just_one, IsDivided, loop_size, HasNoShorter, HasShape, IsValidLoops}
+use Rattle.surf_valid.specs.Valid.{distance_at, parent_at, depth_at, side_at, or_zero, tree_of, dual_tree, across, IsParent, AddsUp, IsNoShortCut, IsTreeValid, IsDualRow, is_parent_edge, is_dual_edge, is_listed, just_one, IsDivided, loop_size, HasNoShorter, HasShape, IsValidLoops}
 use Rattle.surf_valid.specs.Chosen.{parent_in, side_in, cert_of}
 use Rattle.surf_valid.specs.Laws.{ChosenLoopsAreValid}
 use Rattle.surf_valid.proofs.TreeLaws.{any_same, rows_in_tree}
 use Rattle.surf_valid.proofs.DualLaws.{dual_rows_in_tree}
 
 -- what a table of a function has at a place
-at : {X : Type 0} (f : ℕ → X) (n i : ℕ) (d : X) → i < n → get_or (map f (range_with_len 0 n)) i d ≡ f i
+pub at : {X : Type 0} (f : ℕ → X) (n i : ℕ) (d : X) → i < n → get_or (map f (range_with_len 0 n)) i d ≡ f i
 at f n i d l = get_or-map-range_with_len f 0 n i i d l (omega arith)
 
-size : {X : Type 0} (f : ℕ → X) (n : ℕ) → length (map f (range_with_len 0 n)) ≡ n
+pub size : {X : Type 0} (f : ℕ → X) (n : ℕ) → length (map f (range_with_len 0 n)) ≡ n
 size f n = length-map (range_with_len 0 n) f ∙ length-range_with_len 0 n
 
 -- the ways through two trees that say the same
@@ -163,6 +163,12 @@ module _ (mesh : Mesh) (lengths : List ℕ) (base : ℕ) (trees : Trees) (surfac
 
   -- ---- each edge is in one of three sets
 
+  vertex_up : (v : ℕ) → v < mesh.vertices → v ≢ tree.root →
+      ((tree_of mesh cert.tree).parent v ≡ tree.parent v) × ((tree_of mesh cert.tree).up v ≡ tree.up v)
+  vertex_up v l ne =
+      let parent : parent_at cert.tree v ≡ Some (tree.parent v) = parent_is v l ∙ rw (ne_eqb v tree.root ne) refl in
+      rw parent (refl, sym (chosen.shortest.up v l (not_base v ne)))
+
   same_tree : (e : ℕ) → e < edge_count mesh → is_parent_edge mesh cert.tree e ≡ tree_edges mesh tree e
   same_tree e l =
       sym (rows_in_tree mesh lengths cert.tree surface positive spans.root_in tree_valid e l)
@@ -175,9 +181,7 @@ module _ (mesh : Mesh) (lengths : List ℕ) (base : ℕ) (trees : Trees) (surfac
           ≡ (not (eqb v tree.root) && eqb (tree.up v) e)
       each v v_in = elim (cases_eq v tree.root) [
         | inl same ↦ rw (eq-eqb v tree.root same) refl
-        | inr ne ↦
-            let parent : parent_at cert.tree v ≡ Some (tree.parent v) = parent_is v v_in ∙ rw (ne_eqb v tree.root ne) refl in
-            rw (parent, chosen.shortest.up v v_in (not_base v ne)) refl
+        | inr ne ↦ rw (ne_eqb v tree.root ne, (vertex_up v v_in ne).1) refl
       ]
 
   dual_up : (f : ℕ) → f < face_count mesh → f ≢ 0 →
@@ -284,8 +288,29 @@ module _ (mesh : Mesh) (lengths : List ℕ) (base : ℕ) (trees : Trees) (surfac
       (depth_at cert.dual f) f e l
       ∙ ap (λ k. on_way cotree k f e) (depth_is f l)
 
-  size_is : (e : ℕ) → e < edge_count mesh →
-      loop_size mesh lengths cert.tree e ≡ loop_length (primal (cells_of mesh)) (edge_length lengths) tree e
+  way_is : (v e : ℕ) → v < mesh.vertices → on_path (tree_of mesh cert.tree) v e ≡ on_path tree v e
+  way_is v e l =
+      ways_same mesh.vertices (tree_of mesh cert.tree) tree refl
+      (λ n n_in ne.
+      let it = vertex_up n n_in ne in
+      (subst (λ p. p < mesh.vertices) (sym it.0) (spans.parent_in n n_in ne), it.0, it.1))
+      (distance_at cert.tree v) v e l
+      ∙ ap (λ k. on_way tree k v e) (distance_is v l)
+
+  -- the loops through the tree that the rows say are those through the tree
+  pub loop_is : (e h : ℕ) → e < edge_count mesh →
+      loop (primal (cells_of mesh)) (tree_of mesh (cert_of mesh trees).tree) e h
+      ≡ loop (primal (cells_of mesh)) trees.tree e h
+  loop_is e h l =
+      let inside = (surfaces_are_cells mesh surface).complex.primal_ends e l in
+      let u = (ends mesh e).0 in
+      let v = (ends mesh e).1 in
+      ap (λ b. xor (eqb e h) (xor b (on_path (tree_of mesh cert.tree) v h))) (way_is u h inside.0)
+      ∙ ap (λ b. xor (eqb e h) (xor (on_path tree u h) b)) (way_is v h inside.1)
+
+  pub size_is : (e : ℕ) → e < edge_count mesh →
+      loop_size mesh lengths (cert_of mesh trees).tree e
+      ≡ loop_length (primal (cells_of mesh)) (edge_length lengths) trees.tree e
   size_is e l =
       let inside = (surfaces_are_cells mesh surface).complex.primal_ends e l in
       rw (distance_is (ends mesh e).0 inside.0, distance_is (ends mesh e).1 inside.1) refl
@@ -321,7 +346,7 @@ module _ (mesh : Mesh) (lengths : List ℕ) (base : ℕ) (trees : Trees) (surfac
     base = spans.root_in;
   }
 
-  pub valid_at : IsValidLoops mesh lengths cert
+  pub valid_at : IsValidLoops mesh lengths (cert_of mesh trees)
   valid_at = record {
     shape = shape;
     tree = tree_valid;

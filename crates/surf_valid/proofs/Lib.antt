@@ -1,3 +1,4 @@
+pub mod RankLaws
 pub mod TreeLaws
 pub mod DualLaws
 pub mod ListLaws
@@ -5,4 +6,6 @@ pub mod SplitLaws
 pub mod LoopLaws
 pub mod BasisLaws
 pub mod ChosenLaws
+pub mod ChosenBases
 pub mod OneCert
+pub mod OneBasis

@@ -12,7 +12,7 @@ use Rattle.surf_valid.specs.Rows.{TreeRows, DualRows, LoopCert}
 use Rattle.surf_valid.specs.Chosen.{parent_in, side_in, rows_of, dual_rows_of, cert_of}
 use Rattle.surf_valid.specs.Laws.{ChosenCertsAreOne}
 
-tables_same : {X : Type 0} (f g : ℕ → X) (a n : ℕ) → ((k : ℕ) → k < a + n → f k ≡ g k) →
+pub tables_same : {X : Type 0} (f g : ℕ → X) (a n : ℕ) → ((k : ℕ) → k < a + n → f k ≡ g k) →
     map f (range_with_len a n) ≡ map g (range_with_len a n)
 tables_same f g a zero same = refl
 tables_same f g a (suc n) same =

@@ -1,12 +1,12 @@
--- The certificate of the choice among ties at a base.
+-- The certificates of the choice among ties: of the loops at a base, and of the basis.
 use Rattle.std.specs.List.{range_with_len}
-use Rattle.std.specs.Prelude.{ℕ, ◌==◌, if◌then◌else◌, map, Option, Some, None}
+use Rattle.std.specs.Prelude.{ℕ, ◌==◌, if◌then◌else◌, List, map, Option, Some, None}
 use Rattle.surf_homology.specs.Trees.{Tree}
 use Rattle.surf_complex.specs.Mesh.{Mesh}
 use Rattle.surf_complex.specs.Surface.{face_count, ends}
 use Rattle.surf_complex.specs.Cotree.{left_edges}
-use Rattle.surf_complex.specs.Choice.{Trees}
-use Rattle.surf_valid.specs.Rows.{TreeRows, DualRows, LoopCert}
+use Rattle.surf_complex.specs.Choice.{Trees, Loop, walks}
+use Rattle.surf_valid.specs.Rows.{TreeRows, DualRows, LoopCert, BasisCert}
 
 -- the parent of a vertex, which the root has not
 abbrev pub parent_in : Tree → ℕ → Option ℕ
@@ -37,4 +37,13 @@ cert_of mesh trees = record {
   tree = rows_of mesh trees.tree;
   dual = dual_rows_of mesh trees.cotree;
   left = map (ends mesh) (left_edges mesh trees.tree trees.cotree);
+}
+
+-- the certificate of a basis: the trees at all vertices, the tree of faces and the left edges at vertex 0, and the walks
+abbrev pub basis_cert_of : Mesh → (ℕ → Trees) → List Loop → BasisCert
+basis_cert_of mesh trees basis = record {
+  trees = map (λ x. rows_of mesh (trees x).tree) (range_with_len 0 mesh.vertices);
+  dual = dual_rows_of mesh (trees 0).cotree;
+  left = map (ends mesh) (left_edges mesh (trees 0).tree (trees 0).cotree);
+  cycles = walks basis;
 }

@@ -4,9 +4,9 @@ use Rattle.surf_complex.specs.Mesh.{Mesh}
 use Rattle.surf_complex.specs.Surface.{IsSurface}
 use Rattle.surf_complex.specs.Walk.{ArePositive}
 use Rattle.surf_complex.specs.Homology.{total, IsLeastLoopSystem, IsLeastBasis}
-use Rattle.surf_complex.specs.Choice.{Trees, AreChosenAt}
+use Rattle.surf_complex.specs.Choice.{Trees, Loop, AreChosenAt, AreChosen, IsChosenBasis}
 use Rattle.surf_valid.specs.Rows.{LoopCert, BasisCert}
-use Rattle.surf_valid.specs.Chosen.{cert_of}
+use Rattle.surf_valid.specs.Chosen.{cert_of, basis_cert_of}
 use Rattle.surf_valid.specs.Valid.{IsValidLoops, loops_of, loops_total}
 use Rattle.surf_valid.specs.Bases.{IsValidBasis}
 
@@ -35,3 +35,18 @@ abbrev pub ChosenCertsAreOne : Type 0
 ChosenCertsAreOne =
     (mesh : Mesh) (lengths : List ℕ) (base : ℕ) (a b : Trees) → IsSurface mesh → ArePositive mesh lengths →
     AreChosenAt mesh lengths base a → AreChosenAt mesh lengths base b → cert_of mesh a ≡ cert_of mesh b
+
+-- the certificate of the basis that is chosen from the loops at all bases is valid
+abbrev pub ChosenBasesAreValid : Type 0
+ChosenBasesAreValid =
+    (mesh : Mesh) (lengths : List ℕ) (trees : ℕ → Trees) (basis : List Loop) → IsSurface mesh →
+    ArePositive mesh lengths → AreChosen mesh lengths trees → IsChosenBasis mesh lengths trees basis →
+    IsValidBasis mesh lengths (basis_cert_of mesh trees basis)
+
+-- there is one, whichever trees show it
+abbrev pub ChosenBasisCertsAreOne : Type 0
+ChosenBasisCertsAreOne =
+    (mesh : Mesh) (lengths : List ℕ) (a b : ℕ → Trees) (basis other : List Loop) → IsSurface mesh →
+    ArePositive mesh lengths → AreChosen mesh lengths a → AreChosen mesh lengths b →
+    IsChosenBasis mesh lengths a basis → IsChosenBasis mesh lengths b other →
+    basis_cert_of mesh a basis ≡ basis_cert_of mesh b other

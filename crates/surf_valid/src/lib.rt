@@ -10,14 +10,15 @@
 //! - The loops of a valid loop certificate are a least loop system at its base, whichever trees it has
 //!   (`law_of_valid_loops`).
 //! - The cycles of a valid basis certificate are a least basis (`law_of_valid_bases`).
-//! - The certificate of the trees that are chosen at a base (specs/Chosen.antt) is valid, and there is one
-//!   (`law_of_chosen_certificates`).
+//! - The certificate of the trees that are chosen at a base (specs/Chosen.antt) is valid, and there is one. So is that
+//!   of the basis that is chosen from the loops at all bases (`law_of_chosen_certificates`).
 //!
 //! Each law is the contract of a function that does nothing.
 #![tactic(auto)]
 
 ghost use Rattle.surf_valid.specs.Laws.{ValidLoopsAreLeast, ValidBasesAreLeast};
 ghost use Rattle.surf_valid.specs.Laws.{ChosenLoopsAreValid, ChosenCertsAreOne};
+ghost use Rattle.surf_valid.specs.Laws.{ChosenBasesAreValid, ChosenBasisCertsAreOne};
 
 /// The loops of a valid loop certificate are a least loop system at its base, and its total is theirs.
 pub fn law_of_valid_loops()
@@ -29,8 +30,11 @@ pub fn law_of_valid_bases()
     ensures { ValidBasesAreLeast }
 {}
 
-/// The certificate of the choice among ties at a base is valid, and there is one.
+/// The certificate of the choice among ties is valid, and there is one: that of the loops at a base, and that of the
+/// basis.
 pub fn law_of_chosen_certificates()
     ensures valid { ChosenLoopsAreValid }
     ensures one { ChosenCertsAreOne }
+    ensures valid_basis { ChosenBasesAreValid }
+    ensures one_basis { ChosenBasisCertsAreOne }
 {}

@@ -1,0 +1,70 @@
+-- The parts of the certificate of the basis.
+use Rattle.std.proofs.Common.{◌≡◌, ℕ, ◌+◌, ◌<◌, ◌++◌, ◌∷◌, [], List, map, refl, sym, ap, ◌∙◌, subst}
+use Rattle.surf_complex.specs.Mesh.{Mesh}
+use Rattle.surf_complex.specs.Surface.{ends, IsSurface}
+use Rattle.surf_complex.specs.Walk.{ArePositive}
+use Rattle.surf_complex.specs.Choice.{Trees, AreChosenAt, Loop, walks}
+use Rattle.surf_complex.proofs.ChoiceExists.{choice_exists, heaviest_exists}
+use Rattle.surf_complex.proofs.ClassLaws.{some_vertex}
+use Rattle.surf_complex.proofs.ShortestTreeLaws.{shortest_is_tree}
+use Rattle.surf_valid.specs.Rows.{TreeRows, DualRows, LoopCert, BasisCert}
+use Rattle.surf_valid.specs.Chosen.{rows_of, dual_rows_of, cert_of, basis_cert_of}
+use Rattle.surf_valid.specs.Bases.{IsValidBasis}
+use Rattle.surf_valid.proofs.OneCert.{chosen_certs_are_one}
+use Rattle.surf_valid.proofs.ChosenBases.{chosen_bases_are_valid}
+use Rattle.surf_cert.specs.Fits.{BasisFits}
+use Rattle.surf_cert.proofs.ChosenFits.{AreNumbers, chosen_basis_fits}
+use Rattle.surf_tree.specs.Tables.{TreeTables, tree_of}
+use Rattle.surf_tree.specs.Grown.{IsGrown as IsTreeGrown}
+use Rattle.surf_cotree.specs.Tables.{tree_of as cotree_of}
+use Rattle.surf_loops.specs.Loops.{LoopTables, trees_of, IsGreedy}
+use Rattle.surf_loops.proofs.Rows.{listed_more, cert_shown}
+use Rattle.surf_basis.specs.Certs.{AreTreeRowsBelow, AreTreeRows, IsTheCert}
+use Rattle.surf_basis.specs.Cycles.{IsTheBasis}
+
+module _ (mesh : Mesh) (lengths : List ℕ) (surface : IsSurface mesh) (positive : ArePositive mesh lengths) where
+  -- the rows of a grown tree are those of each tree that is chosen at its base
+  rows_are_one : (base : ℕ) (t : TreeTables) (trees : Trees) → IsTreeGrown mesh lengths base t → AreChosenAt mesh lengths base trees →
+      rows_of mesh (tree_of t) ≡ rows_of mesh trees.tree
+  rows_are_one base t trees grown chosen =
+      let spans = shortest_is_tree mesh lengths base (tree_of t) surface positive grown.shortest in
+      let (cotree, heaviest) = heaviest_exists mesh lengths (tree_of t) surface spans in
+      let own : Trees = record { tree = tree_of t; cotree = cotree } in
+      ap (λ (c : LoopCert). c.tree) (chosen_certs_are_one mesh lengths base own trees surface positive (record { shortest = grown.shortest; heaviest = heaviest }) chosen)
+
+  -- one more tree
+  pub rows_more : (base : ℕ) (t : TreeTables) (old new : List TreeRows) (row : TreeRows) → base < mesh.vertices → IsTreeGrown mesh lengths base t →
+      AreTreeRowsBelow mesh lengths base old → row ≡ rows_of mesh (tree_of t) → new ≡ old ++ row ∷ [] → AreTreeRowsBelow mesh lengths (base + 1) new
+  rows_more base t old new row l grown are is added trees chosen =
+      listed_more (λ x. rows_of mesh (trees x).tree) base old new row (are trees chosen) added (is ∙ rows_are_one base t (trees base) grown (chosen base l))
+
+  -- the parts together
+  pub the_cert : (t : LoopTables) (basis : List Loop) (cert : BasisCert) (rows : List TreeRows) (dual : DualRows) (left : List (ℕ × ℕ)) (cycles : List (List ℕ)) →
+      IsGreedy mesh lengths 0 t → IsTheBasis mesh lengths basis → cert ≡ record { trees = rows; dual = dual; left = left; cycles = cycles } →
+      AreTreeRows mesh lengths rows → dual ≡ dual_rows_of mesh (cotree_of t.cotree) → left ≡ map (ends mesh) t.cotree.left → cycles ≡ walks basis →
+      IsTheCert mesh lengths cert
+  the_cert t basis cert rows dual left cycles g is_basis is trees_are dual_is left_is cycles_are =
+      let (trees, chosen) = choice_exists mesh lengths surface positive in
+      let one : cert_of mesh (trees_of t) ≡ cert_of mesh (trees 0) =
+      chosen_certs_are_one mesh lengths 0 (trees_of t) (trees 0) surface positive g.chosen (chosen 0 (some_vertex mesh surface)) in
+      let parts : record { tree = rows_of mesh (tree_of t.tree); dual = dual; left = left } ≡ cert_of mesh (trees_of t) =
+      cert_shown mesh lengths 0 t (record { tree = rows_of mesh (tree_of t.tree); dual = dual; left = left }) (rows_of mesh (tree_of t.tree)) dual left surface positive g refl refl dual_is left_is in
+      let of : List TreeRows → DualRows → List (ℕ × ℕ) → List (List ℕ) → BasisCert = λ rows dual left cycles. record { trees = rows; dual = dual; left = left; cycles = cycles } in
+      record {
+        trees = trees;
+        chosen = chosen;
+        basis = basis;
+        is_basis = is_basis trees chosen;
+        cert_is = is ∙ ap (λ r. of r dual left cycles) (trees_are trees chosen)
+            ∙ ap (λ d. of (basis_cert_of mesh trees basis).trees d left cycles) (ap (λ (c : LoopCert). c.dual) (parts ∙ one))
+            ∙ ap (λ l. of (basis_cert_of mesh trees basis).trees (basis_cert_of mesh trees basis).dual l cycles) (ap (λ (c : LoopCert). c.left) (parts ∙ one))
+            ∙ ap (of (basis_cert_of mesh trees basis).trees (basis_cert_of mesh trees basis).dual (basis_cert_of mesh trees basis).left) cycles_are;
+      }
+
+  -- it is valid
+  pub valid_cert : (cert : BasisCert) → IsTheCert mesh lengths cert → IsValidBasis mesh lengths cert
+  valid_cert cert c = subst (IsValidBasis mesh lengths) (sym c.cert_is) (chosen_bases_are_valid mesh lengths c.trees c.basis surface positive c.chosen c.is_basis)
+
+  -- and fits the lines of a text
+  pub fitting_cert : (cert : BasisCert) → AreNumbers mesh lengths → IsTheCert mesh lengths cert → BasisFits cert
+  fitting_cert cert numbers c = subst BasisFits (sym c.cert_is) (chosen_basis_fits mesh lengths surface positive numbers c.trees c.basis c.chosen c.is_basis)

@@ -1,0 +1,25 @@
+-- The certificate of the basis that is chosen.
+use Rattle.std.specs.Prelude.{ℕ, ◌≡◌, List, map}
+use Rattle.std.specs.List.{range_with_len}
+use Rattle.surf_complex.specs.Mesh.{Mesh}
+use Rattle.surf_complex.specs.Choice.{Trees, AreChosen, Loop, IsChosenBasis}
+use Rattle.surf_valid.specs.Rows.{TreeRows, BasisCert}
+use Rattle.surf_valid.specs.Chosen.{rows_of, basis_cert_of}
+
+-- the rows are those of the trees of shortest walks from the first bases, whichever trees show the choice
+abbrev pub AreTreeRowsBelow : Mesh → List ℕ → ℕ → List TreeRows → Type 0
+AreTreeRowsBelow mesh lengths bases rows =
+    (trees : ℕ → Trees) → AreChosen mesh lengths trees →
+    rows ≡ map (λ x. rows_of mesh (trees x).tree) (range_with_len 0 bases)
+
+-- those from all vertices
+abbrev pub AreTreeRows : Mesh → List ℕ → List TreeRows → Type 0
+AreTreeRows mesh lengths rows = AreTreeRowsBelow mesh lengths mesh.vertices rows
+
+-- the certificate has the trees that are chosen at all vertices and the basis that is chosen from their loops
+pub record IsTheCert (mesh : Mesh) (lengths : List ℕ) (cert : BasisCert) : Type 0 where
+  pub trees : ℕ → Trees
+  pub chosen : AreChosen mesh lengths trees
+  pub basis : List Loop
+  pub is_basis : IsChosenBasis mesh lengths trees basis
+  pub cert_is : cert ≡ basis_cert_of mesh trees basis

@@ -1,0 +1,69 @@
+//! The certificate of the basis.
+ghost use Rattle.std.specs.Prelude.{◌≡◌, ◌≤◌, ◌+◌, IfOk, length};
+ghost use Rattle.surf_complex.specs.Choice.{walks};
+ghost use Rattle.surf_complex.specs.Surface.{edge_count, face_count};
+ghost use Rattle.surf_valid.specs.Bases.{IsValidBasis};
+ghost use Rattle.surf_cert.specs.Fits.{BasisFits};
+ghost use Rattle.surf_basis.specs.Certs.{AreTreeRows, IsTheCert};
+ghost use Rattle.surf_basis.specs.Cycles.{loops_of};
+
+use crate::basis::least_basis;
+use crate::cycle::Cycle;
+use std::alloc::Global;
+use surf_base::{NoMemory, VertexId};
+use surf_cert::{BasisCert, TreeRows};
+use surf_lengths::Lengths;
+use surf_loops::{LoopDesk, dual_rows, left_pairs, tree_rows};
+use surf_mesh::{HalfMesh, Walk};
+use surf_tree::TreeDesk;
+
+// The rows of the trees of shortest walks from all vertices.
+fn all_tree_rows(
+    alloc: Global,
+    mesh: &HalfMesh,
+    lengths: &Lengths,
+) -> Result<Vec<TreeRows>, NoMemory>
+    requires lengths { length lengths.now ≡ edge_count mesh.now }
+    ensures rows { IfOk result (λ rows. AreTreeRows mesh.now lengths.now rows.items) }
+{
+    let _surface = mesh.faces();
+    let _lengths = lengths.count();
+    let vertices = mesh.vertices();
+    let mut tree = TreeDesk::make(alloc, mesh)?;
+    let mut rows = Vec::with_capacity(alloc, vertices as usize)?;
+    for base in 0..vertices {
+        tree.grow(mesh, lengths, VertexId::new(base));
+        rows.push(tree_rows(alloc, mesh, &tree)?)?;
+    }
+    Ok(rows)
+}
+
+// The walks of cycles, in their order.
+fn walks_of(alloc: Global, cycles: Vec<Cycle>) -> Result<Vec<Walk>, NoMemory>
+    ensures walks { IfOk result (λ list. list.items ≡ walks (loops_of cycles.items)) }
+{
+    Ok(cycles.into_iter().map(|cycle| cycle.walk).collect(alloc)?)
+}
+
+/// A certificate that the cycles of `least_basis` are a least basis: the trees of shortest walks from all vertices, the
+/// tree of faces and the left edges at vertex 0, and the cycles in their order. It is valid for the mesh and the lengths,
+/// and its lists fit the lines of a text.
+pub fn basis_cert(alloc: Global, mesh: &HalfMesh, lengths: &Lengths) -> Result<BasisCert, NoMemory>
+    requires lengths { length lengths.now ≡ edge_count mesh.now }
+    requires few { edge_count mesh.now + 2 ≤ mesh.now.vertices + face_count mesh.now + 1024 }
+    ensures chosen { IfOk result (IsTheCert mesh.now lengths.now) }
+    ensures valid { IfOk result (IsValidBasis mesh.now lengths.now) }
+    ensures fits { IfOk result BasisFits }
+{
+    let _vertices = mesh.vertices();
+    let _faces = mesh.faces();
+    let _lengths = lengths.count();
+    let trees = all_tree_rows(alloc, mesh, lengths)?;
+    let mut first = LoopDesk::make(alloc, mesh)?;
+    first.greedy(mesh, lengths, VertexId::new(0));
+    let dual = dual_rows(alloc, mesh, first.cotree())?;
+    let left = left_pairs(alloc, mesh, first.cotree())?;
+    let basis = least_basis(alloc, mesh, lengths)?;
+    let cycles = walks_of(alloc, basis)?;
+    Ok(BasisCert::make(trees, dual, left, cycles))
+}

@@ -1,0 +1,7 @@
+use Rattle.std.proofs.Common.{◌≡◌, map, take}
+use Rattle.surf_complex.specs.Surface.{ends}
+use Rattle.surf_loops.proofs.cert.left_pairs.Given as goal
+
+-- the pairs of the edges so far
+abbrev pub invariant-loop-edge : goal.invariant-loop-edge
+invariant-loop-edge l = l.pairs.items ≡ map (ends l.mesh) (take l.edge-index l.left)

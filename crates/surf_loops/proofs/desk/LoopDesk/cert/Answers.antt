@@ -1,0 +1,34 @@
+use Rattle.std.proofs.Common.{◌≡◌, ◌∙◌, map, sym, ap, subst, arith}
+use Rattle.surf_complex.specs.Surface.{ends}
+use Rattle.surf_valid.specs.Valid.{IsValidLoops}
+use Rattle.surf_valid.specs.Chosen.{cert_of, rows_of, dual_rows_of}
+use Rattle.surf_valid.proofs.ChosenLaws.{chosen_loops_are_valid}
+use Rattle.surf_cert.specs.Fits.{LoopFits}
+use Rattle.surf_cert.proofs.ChosenFits.{chosen_loops_fit}
+use Rattle.surf_tree.specs.Tables.{TreeTables, tree_of}
+use Rattle.surf_cotree.specs.Tables.{CotreeTables, tree_of as cotree_of}
+use Rattle.surf_loops.specs.Loops.{trees_of}
+use Rattle.surf_loops.proofs.Turned.{lengths_positive}
+use Rattle.surf_loops.proofs.Rows.{numbers_fit, cert_shown}
+use Rattle.surf_loops.proofs.desk.LoopDesk.cert.Goals as goal
+
+pub returns : goal.returns
+returns c =
+    let mesh = c.args.mesh.now in
+    let lengths = c.args.lengths.now in
+    let t = c.args.self.now in
+    let g = c.requires.greedy in
+    let surface = c.faces-faces.ensures.surface in
+    let positive = lengths_positive mesh lengths c.count-lengths.ensures.lengths c.requires.lengths in
+    let numbers = numbers_fit mesh lengths (omega (arith, c.vertices-vertices.type_inv, c.vertices-vertices.ensures.count)) (omega (arith, c.faces-faces.type_inv, c.faces-faces.ensures.count))
+    (omega (arith, c.count-lengths.type_inv, c.count-lengths.ensures.count)) c.requires.lengths c.count-lengths.ensures.lengths in
+    let is : c.make.result ≡ cert_of mesh (trees_of t) =
+    cert_shown mesh lengths t.tree.base t c.make.result c.in_ok-tree.tree c.in_ok-dual.dual c.in_ok-left.left.items surface positive g c.make.ensures.parts
+    (c.in_ok-tree.ensures.rows ∙ ap (λ (x : TreeTables). rows_of mesh (tree_of x)) c.tree.ensures.tree)
+    (c.in_ok-dual.ensures.rows ∙ ap (λ (x : CotreeTables). dual_rows_of mesh (cotree_of x)) c.cotree.ensures.cotree)
+    (c.in_ok-left.ensures.pairs ∙ ap (λ (x : CotreeTables). map (ends mesh) x.left) c.cotree-2.ensures.cotree) in
+    record {
+      cert = is;
+      valid = subst (IsValidLoops mesh lengths) (sym is) (chosen_loops_are_valid mesh lengths t.tree.base (trees_of t) surface positive g.chosen);
+      fits = subst LoopFits (sym is) (chosen_loops_fit mesh lengths surface positive numbers t.tree.base (trees_of t) g.chosen);
+    }
