@@ -7,3 +7,4 @@ pub mod Reread
 pub mod ReadLines
 pub mod ReadParts
 pub mod ChosenFits
+pub mod ChosenReread

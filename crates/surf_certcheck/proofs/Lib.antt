@@ -5,5 +5,7 @@ pub mod Strays
 pub mod BadPairs
 pub mod FaceLinks
 pub mod LeastIn
+pub mod FirstFault
 pub mod LoopFaults
+pub mod OneFault
 pub mod Totals

@@ -1,53 +1,94 @@
--- A certificate of loops with a fault isn't valid.
-use Rattle.std.proofs.Common.{◌≡◌, ◌≢◌, ℕ, ◌<◌, List, [], length, get_or, All, Contains, refl, sym, ap, subst, inl, inr, true, false, ◌∙◌}
-use Rattle.std.specs.List.{list_any}
+-- The fault of a certificate of loops is its first one, and one with a fault isn't valid.
+use Rattle.std.proofs.Common.{◌≢◌, ℕ, zero, suc, List, get_or, refl, sym, ap, inl, inr, ◌∙◌}
 use Rattle.std.proofs.lemmas.Bool.{true≢false}
 use Rattle.surf_complex.specs.Mesh.{Mesh, pair_of, pair_eq, edges, among}
-use Rattle.surf_complex.specs.Surface.{edge_count, ends}
+use Rattle.surf_complex.specs.Surface.{edge_count}
 use Rattle.surf_complex.proofs.PairLaws.{pair_eq-true}
 use Rattle.surf_complex.proofs.EdgeLaws.{among-contains, list_any_at}
-use Rattle.surf_valid.specs.Rows.{LoopCert}
-use Rattle.surf_valid.specs.Valid.{IsTreeValid, IsDivided, IsValidLoops}
-use Rattle.surf_certcheck.specs.Rows.{HasTreeRows, HasDualRows}
+use Rattle.surf_valid.specs.Rows.{TreeRows, DualRows, LoopCert}
+use Rattle.surf_valid.specs.Valid.{HasShape, IsNoShortCut, IsDualValid, IsDivided, HasNoShorter, IsValidLoops}
+use Rattle.surf_certcheck.specs.First.{HoldsBelow}
+use Rattle.surf_certcheck.specs.Rows.{HasParent, HasDistance}
 use Rattle.surf_certcheck.specs.Split.{IsBadPair}
-use Rattle.surf_certcheck.specs.LoopFaults.{IsShapeFault, IsTreeFault, IsLoopFault}
+use Rattle.surf_certcheck.specs.LoopFaults.{IsShapeFault, IsLoopFault}
 use Rattle.surf_certcheck.specs.declared.fault.CertPart.{CertPart}
 use Rattle.surf_certcheck.specs.declared.fault.CertPart.TheVariants.{Vertices, Faces, Loops, Base}
 use Rattle.surf_certcheck.specs.declared.fault.CertFault.{CertFault}
 use Rattle.surf_certcheck.specs.declared.fault.CertFault.TheVariants.{Shape, Parent, Distance, Slack, Dual, Split, Heavier, NotClosed, Dependent, Uncovered, Memory}
+use Rattle.surf_certcheck.proofs.FirstFault.{kind, Passed, AreFirst}
 
-module _ (mesh : Mesh) (lengths : List ℕ) (cert : LoopCert) (valid : IsValidLoops mesh lengths cert) where
-  has_rows : HasTreeRows mesh cert.tree
-  has_rows = record { distances = valid.shape.distances; parents = valid.shape.parents }
+-- a pair keeps the trees and the list from dividing the edges
+pub bad_pair_fails : (mesh : Mesh) (rows : TreeRows) (dual : DualRows) (left : List (ℕ × ℕ)) (p : ℕ × ℕ) →
+    IsBadPair mesh rows dual left p → IsDivided mesh rows dual left → ⊥
+bad_pair_fails mesh rows dual left p (inl stray) divided =
+    let (k, l, same) = list_any_at (λ q. pair_eq p (pair_of q)) left (0, 0) stray.0 in
+    let there = among-contains (pair_of (get_or left k (0, 0))) (edges mesh) (divided.are_edges k (0, 0) l) in
+    true≢false (sym there
+    ∙ ap (λ q. among q (edges mesh)) (sym (pair_eq-true p (pair_of (get_or left k (0, 0))) same)) ∙ stray.1)
+bad_pair_fails mesh rows dual left p (inr (e, l, same, out)) divided = out (divided.divided e l)
 
-  has_faces : HasDualRows mesh cert.dual
-  has_faces = record { depths = valid.shape.depths; sides = valid.shape.sides }
+module _ (mesh : Mesh) (lengths : List ℕ) (cert : LoopCert) where
+  shape_fails : (part : CertPart) → IsShapeFault mesh cert part → HasShape mesh cert → ⊥
+  shape_fails Vertices is shape = is (record { distances = shape.distances; parents = shape.parents })
+  shape_fails Faces is shape = is.1 (record { depths = shape.depths; sides = shape.sides })
+  shape_fails Loops is shape = is.2 shape.loops
+  shape_fails Base is shape = is.3 shape.base
 
-  no_shape_fault : (part : CertPart) → IsShapeFault mesh cert part → ⊥
-  no_shape_fault Vertices is = is has_rows
-  no_shape_fault Faces is = is.1 has_faces
-  no_shape_fault Loops is = is.2 valid.shape.loops
-  no_shape_fault Base is = is.3 valid.shape.base
+  -- ---- the kinds
 
-  no_bad_pair : (p : ℕ × ℕ) → IsBadPair mesh cert.tree cert.dual cert.left p → ⊥
-  no_bad_pair p (inl stray) =
-      let (k, l, same) = list_any_at (λ q. pair_eq p (pair_of q)) cert.left (0, 0) stray.0 in
-      let there = among-contains (pair_of (get_or cert.left k (0, 0))) (edges mesh)
-      (valid.divided.are_edges k (0, 0) l) in
-      true≢false (sym there
-      ∙ ap (λ q. among q (edges mesh)) (sym (pair_eq-true p (pair_of (get_or cert.left k (0, 0))) same)) ∙ stray.1)
-  no_bad_pair p (inr (e, l, same, out)) = out (valid.divided.divided e l)
+  -- the condition of each kind
+  abbrev pub Holds : ℕ → Type 0
+  Holds zero = HasShape mesh cert
+  Holds (suc zero) = HoldsBelow mesh.vertices (HasParent mesh cert.tree)
+  Holds (suc (suc zero)) = HoldsBelow mesh.vertices (HasDistance mesh lengths cert.tree)
+  Holds (suc (suc (suc zero))) = HoldsBelow (edge_count mesh) (IsNoShortCut mesh lengths cert.tree)
+  Holds (suc (suc (suc (suc zero)))) = IsDualValid mesh cert.dual
+  Holds (suc (suc (suc (suc (suc zero))))) = IsDivided mesh cert.tree cert.dual cert.left
+  Holds (suc (suc (suc (suc (suc (suc zero)))))) = HoldsBelow (edge_count mesh) (HasNoShorter mesh lengths cert)
+  Holds (suc (suc (suc (suc (suc (suc (suc k))))))) = Unit {0}
 
-  pub no_loop_fault : (fault : CertFault) → fault ≢ Memory → IsLoopFault mesh lengths cert fault → ⊥
-  no_loop_fault (Shape part) ne is = no_shape_fault part is
-  no_loop_fault (Parent base v) ne is = is.1.1.fails (valid.tree.parents v is.1.1.below)
-  no_loop_fault (Distance base v) ne is = is.1.2.fails (valid.tree.distances v is.1.2.below)
-  no_loop_fault (Slack base u v) ne is = let (e, same, first) = is.1.3 in first.fails (valid.tree.slack e first.below)
-  no_loop_fault (Dual face) ne is = is.2.fails (valid.dual face is.2.below)
-  no_loop_fault (Split u v) ne is = no_bad_pair (u, v) is.3.bad
-  no_loop_fault (Heavier left cotree) ne is =
-      let (l, c, same, other, are) = is.4 in are.left.fails (valid.heaviest l are.left.below)
-  no_loop_fault (NotClosed place) ne is = is
-  no_loop_fault (Dependent place) ne is = is
-  no_loop_fault (Uncovered base u v) ne is = is
-  no_loop_fault Memory ne is = ne refl
+  passed : (fault : CertFault) → fault ≢ Memory → IsLoopFault mesh lengths cert fault → Passed Holds (kind fault)
+  passed (Shape part) ne is = tt
+  passed (Parent base v) ne is = (tt, is.0)
+  passed (Distance base v) ne is = ((tt, is.0), is.1.1)
+  passed (Slack base u v) ne is = (((tt, is.0), is.1.1), is.1.2)
+  passed (Dual face) ne is = ((((tt, is.0), is.1.parents), is.1.distances), is.1.slack)
+  passed (Split u v) ne is = (((((tt, is.0), is.1.parents), is.1.distances), is.1.slack), is.2)
+  passed (Heavier left cotree) ne is = ((((((tt, is.0), is.1.parents), is.1.distances), is.1.slack), is.2), is.3)
+  passed (NotClosed place) ne is = absurd is
+  passed (Dependent place) ne is = absurd is
+  passed (Uncovered base u v) ne is = absurd is
+  passed Memory ne is = absurd (ne refl)
+
+  fails : (fault : CertFault) → fault ≢ Memory → IsLoopFault mesh lengths cert fault → Holds (kind fault) → ⊥
+  fails (Shape part) ne is holds = shape_fails part is holds
+  fails (Parent base v) ne is holds = is.1.1.fails (holds v is.1.1.below)
+  fails (Distance base v) ne is holds = is.1.2.fails (holds v is.1.2.below)
+  fails (Slack base u v) ne is holds = let (e, same, first) = is.1.3 in first.fails (holds e first.below)
+  fails (Dual face) ne is holds = is.2.fails (holds face is.2.below)
+  fails (Split u v) ne is holds = bad_pair_fails mesh cert.tree cert.dual cert.left (u, v) is.3.bad holds
+  fails (Heavier left cotree) ne is holds =
+      let (l, c, same, other, are) = is.4 in are.left.fails (holds l are.left.below)
+  fails (NotClosed place) ne is holds = is
+  fails (Dependent place) ne is holds = is
+  fails (Uncovered base u v) ne is holds = is
+  fails Memory ne is holds = ne refl
+
+  pub loop_faults_are_first : AreFirst Holds (IsLoopFault mesh lengths cert)
+  loop_faults_are_first = record { passed = passed; fails = fails }
+
+  -- ---- validity
+
+  all_hold : IsValidLoops mesh lengths cert → (k : ℕ) → Holds k
+  all_hold valid zero = valid.shape
+  all_hold valid (suc zero) = valid.tree.parents
+  all_hold valid (suc (suc zero)) = valid.tree.distances
+  all_hold valid (suc (suc (suc zero))) = valid.tree.slack
+  all_hold valid (suc (suc (suc (suc zero)))) = valid.dual
+  all_hold valid (suc (suc (suc (suc (suc zero))))) = valid.divided
+  all_hold valid (suc (suc (suc (suc (suc (suc zero)))))) = valid.heaviest
+  all_hold valid (suc (suc (suc (suc (suc (suc (suc k))))))) = tt
+
+  pub no_loop_fault : IsValidLoops mesh lengths cert → (fault : CertFault) → fault ≢ Memory →
+      IsLoopFault mesh lengths cert fault → ⊥
+  no_loop_fault valid fault ne is = fails fault ne is (all_hold valid (kind fault))

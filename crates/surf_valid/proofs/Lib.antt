@@ -9,3 +9,4 @@ pub mod ChosenLaws
 pub mod ChosenBases
 pub mod OneCert
 pub mod OneBasis
+pub mod ChosenTotals

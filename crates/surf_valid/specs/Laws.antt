@@ -1,14 +1,14 @@
 -- What a valid certificate shows.
-use Rattle.std.specs.Prelude.{◌≡◌, ℕ, List}
+use Rattle.std.specs.Prelude.{◌≡◌, ℕ, List, map, sum}
 use Rattle.surf_complex.specs.Mesh.{Mesh}
 use Rattle.surf_complex.specs.Surface.{IsSurface}
 use Rattle.surf_complex.specs.Walk.{ArePositive}
 use Rattle.surf_complex.specs.Homology.{total, IsLeastLoopSystem, IsLeastBasis}
-use Rattle.surf_complex.specs.Choice.{Trees, Loop, AreChosenAt, AreChosen, IsChosenBasis}
+use Rattle.surf_complex.specs.Choice.{Trees, Loop, AreChosenAt, AreChosen, loops_at, IsChosenBasis}
 use Rattle.surf_valid.specs.Rows.{LoopCert, BasisCert}
 use Rattle.surf_valid.specs.Chosen.{cert_of, basis_cert_of}
 use Rattle.surf_valid.specs.Valid.{IsValidLoops, loops_of, loops_total}
-use Rattle.surf_valid.specs.Bases.{IsValidBasis}
+use Rattle.surf_valid.specs.Bases.{IsValidBasis, basis_total}
 
 -- the loops of a valid certificate are a least loop system at its base, and its total is theirs
 abbrev pub ValidLoopsAreLeast : Type 0
@@ -50,3 +50,17 @@ ChosenBasisCertsAreOne =
     ArePositive mesh lengths → AreChosen mesh lengths a → AreChosen mesh lengths b →
     IsChosenBasis mesh lengths a basis → IsChosenBasis mesh lengths b other →
     basis_cert_of mesh a basis ≡ basis_cert_of mesh b other
+
+-- what the loops of the certificate total is what the loops that are chosen at the base do
+abbrev pub ChosenLoopsTotal : Type 0
+ChosenLoopsTotal =
+    (mesh : Mesh) (lengths : List ℕ) (base : ℕ) (trees : Trees) → IsSurface mesh → ArePositive mesh lengths →
+    AreChosenAt mesh lengths base trees →
+    loops_total mesh lengths (cert_of mesh trees) ≡ sum (map (λ c. c.size) (loops_at mesh lengths base trees))
+
+-- and so for the basis
+abbrev pub ChosenBasisTotal : Type 0
+ChosenBasisTotal =
+    (mesh : Mesh) (lengths : List ℕ) (trees : ℕ → Trees) (basis : List Loop) → IsSurface mesh →
+    ArePositive mesh lengths → AreChosen mesh lengths trees → IsChosenBasis mesh lengths trees basis →
+    basis_total mesh lengths (basis_cert_of mesh trees basis) ≡ sum (map (λ c. c.size) basis)

@@ -19,6 +19,7 @@
 ghost use Rattle.surf_valid.specs.Laws.{ValidLoopsAreLeast, ValidBasesAreLeast};
 ghost use Rattle.surf_valid.specs.Laws.{ChosenLoopsAreValid, ChosenCertsAreOne};
 ghost use Rattle.surf_valid.specs.Laws.{ChosenBasesAreValid, ChosenBasisCertsAreOne};
+ghost use Rattle.surf_valid.specs.Laws.{ChosenLoopsTotal, ChosenBasisTotal};
 
 /// The loops of a valid loop certificate are a least loop system at its base, and its total is theirs.
 pub fn law_of_valid_loops()
@@ -31,10 +32,12 @@ pub fn law_of_valid_bases()
 {}
 
 /// The certificate of the choice among ties is valid, and there is one: that of the loops at a base, and that of the
-/// basis.
+/// basis. Each has the total of the loops that are chosen.
 pub fn law_of_chosen_certificates()
     ensures valid { ChosenLoopsAreValid }
     ensures one { ChosenCertsAreOne }
     ensures valid_basis { ChosenBasesAreValid }
     ensures one_basis { ChosenBasisCertsAreOne }
+    ensures loops_total { ChosenLoopsTotal }
+    ensures basis_total { ChosenBasisTotal }
 {}

@@ -2,6 +2,7 @@ use Rattle.surf_valid.proofs.ChosenLaws.{chosen_loops_are_valid}
 use Rattle.surf_valid.proofs.ChosenBases.{chosen_bases_are_valid}
 use Rattle.surf_valid.proofs.OneCert.{chosen_certs_are_one}
 use Rattle.surf_valid.proofs.OneBasis.{chosen_basis_certs_are_one}
+use Rattle.surf_valid.proofs.ChosenTotals.{chosen_loops_total, chosen_basis_total}
 use Rattle.surf_valid.proofs.law_of_chosen_certificates.Goals as goal
 
 pub returns : goal.returns
@@ -10,4 +11,6 @@ returns c = record {
   one = chosen_certs_are_one;
   valid_basis = chosen_bases_are_valid;
   one_basis = chosen_basis_certs_are_one;
+  loops_total = chosen_loops_total;
+  basis_total = chosen_basis_total;
 }
