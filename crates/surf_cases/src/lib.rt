@@ -5,6 +5,8 @@
 #![tactic(auto)]
 
 #[cfg(test)]
+mod certs;
+#[cfg(test)]
 mod cuts;
 #[cfg(test)]
 mod cycles;

@@ -38,3 +38,7 @@ pub const ONE_GREAT_LENGTH: &str =
 /// The projective plane with six vertices.
 pub const PLANE6: &str =
     "OFF\n6 10 15\n0 0 0\n1 0 0\n2 0 0\n3 0 0\n4 0 0\n5 0 0\n3 0 1 2\n3 0 2 3\n3 0 3 4\n3 0 4 5\n3 0 1 5\n3 1 2 4\n3 2 3 5\n3 1 3 4\n3 2 4 5\n3 1 3 5\n";
+
+/// The certificate of the loops at vertex 0 of `TORUS33`, where each edge has length 1. By hand.
+pub const TORUS33_CERT: &str =
+    "SURFCERT 1 loops\ncounts 9 18 2\ntree 0\n0 -\n1 0\n1 0\n1 0\n1 0\n2 1\n1 0\n2 1\n1 0\ndual\n0 -\n5 1 4\n4 4 5\n7 2 5\n6 3 5\n7 2 3\n2 3 7\n1 3 4\n2 4 7\n3 4 8\n4 5 8\n5 5 6\n4 1 6\n3 6 7\n4 2 7\n3 7 8\n4 2 8\n5 6 8\nleft\n1 2\n3 6\n";

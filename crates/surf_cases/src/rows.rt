@@ -17,6 +17,8 @@ const HELP: &str = "usage: surf info M
        surf basis M L
        surf cycle M L
        surf cut M L x full | trim
+       surf certify M L x
+       surf certify M L
        surf disc M
        surf gen torus a b
        surf gen chain g a b
@@ -74,6 +76,23 @@ pub fn words_of(alloc: Global, words: &[&str]) -> Result<Vec<String>, Fail> {
         all.push(String::from_str(alloc, word)?)?;
     }
     Ok(all)
+}
+
+/// What is written where the words are answered with status 0.
+pub fn output_of(
+    rt: &(impl Abort + AllocGlobal),
+    words: &[&str],
+    files: &[(&str, &str)],
+) -> Result<String, Fail> {
+    let alloc = rt.alloc();
+    let words = words_of(alloc, words)?;
+    let mut shelf = shelf_of(alloc, files, 4096, &[])?;
+    let mut out = sink_of(alloc, 1_000_000, 4096, &[])?;
+    let mut diag = sink_of(alloc, 10_000, 4096, &[])?;
+    let status = run(alloc, &words, &mut shelf, &mut out, &mut diag);
+    assert_eq!(rt; status, 0);
+    let written = out.written().to_vec(alloc)?;
+    Ok(String::from_utf8(written).ok().ok_or("no text")?)
 }
 
 /// Runs a case, and compares what came of it with what is due.

@@ -10,3 +10,4 @@ mod FindingLaws
 mod ShapeLaws
 mod TryLaws
 mod WordLaws
+mod CertifyLaws

@@ -27,15 +27,20 @@ use Rattle.surf_run.specs.Given.{looped, searchable, HasFewLoops, HasFewVertices
 use Rattle.surf_run.specs.Weights.{HasLengths, HasBase, weighed_for, based}
 use Rattle.surf_run.specs.Says.{Says}
 use Rattle.surf_run.specs.Limits.{beyond}
-use Rattle.surf_run.specs.CycleTasks.{Finds, OnMesh, OnMeshText}
+use Rattle.surf_run.specs.CycleTasks.{Finds, OnMesh, OnMeshText, vertex_limit}
 use Rattle.surf_run.specs.Tasks.{Performs, OnSurface, OnText, is_limited}
 use Rattle.surf_run.specs.declared.cycles.CycleTask.{CycleTask}
-use Rattle.surf_run.specs.declared.cycles.CycleTask.TheVariants.{Basis, Shortest}
-use Rattle.surf_run.proofs.CycleLaws.{bases_are_one, firsts_are_one}
+use Rattle.surf_run.specs.declared.cycles.CycleTask.TheVariants.{Basis, Shortest, BasisCertificate}
+use Rattle.surf_run.proofs.CycleLaws.{firsts_are_one}
 use Rattle.surf_run.proofs.LengthLaws.{positive}
 use Rattle.surf_run.specs.declared.weighted.Task.{Task}
-use Rattle.surf_run.specs.declared.weighted.Task.TheVariants.{Distances, LeastLoops, Cut}
+use Rattle.surf_run.specs.declared.weighted.Task.TheVariants.{Distances, LeastLoops, LoopCertificate, Cut}
+use Rattle.surf_base.specs.declared.limits.LimitKind.{LimitKind}
 use Rattle.surf_base.specs.declared.limits.LimitKind.TheVariants as limits
+use Rattle.surf_cert.specs.Written.{loop_text, basis_text}
+use Rattle.surf_valid.specs.Chosen.{cert_of, basis_cert_of}
+use Rattle.surf_valid.proofs.OneCert.{chosen_certs_are_one}
+use Rattle.surf_valid.proofs.OneBasis.{bases_are_one, chosen_basis_certs_are_one}
 use Rattle.surf_complex.specs.Walk.{ArePositive}
 use Rattle.surf_complex.specs.Choice.{Loop, loops_at}
 use Rattle.surf_complex.proofs.ShortestTreeLaws.{shortest_trees_are_one}
@@ -184,6 +189,9 @@ one_performance Distances read given surface lengths o p x y =
 one_performance LeastLoops read given surface lengths o p x y =
     says_same (loops_text (loops_at read.1 given.0 given.1 x.trees)) (loops_text (loops_at read.1 given.0 given.1 y.trees)) o p
     (ap loops_text (loops_are_one read.1 given.0 given.1 x.trees y.trees surface lengths x.chosen y.chosen)) x.says y.says
+one_performance LoopCertificate read given surface lengths o p x y =
+    says_same (loop_text (cert_of read.1 x.trees)) (loop_text (cert_of read.1 y.trees)) o p
+    (ap loop_text (chosen_certs_are_one read.1 given.0 given.1 x.trees y.trees surface lengths x.chosen y.chosen)) x.says y.says
 one_performance (Cut kind) read given surface lengths o p x y =
     let same = openings_at_are_one read.1 given.0 given.1 x.is_cut.trees y.is_cut.trees (is_trimmed kind) x.origins y.origins x.faces y.faces surface lengths
     x.is_cut.chosen y.is_cut.chosen x.is_cut.opened y.is_cut.opened in
@@ -197,22 +205,22 @@ one_text task bytes word base files =
     (λ read looped. one_end (IsWeighted word base read.1 files) (Performs task read) (one_weighted word base read.1 files)
     (λ given is. one_performance task read given looped.0.1 (positive read.1 given.0 is.2 is.3)))
 
-one_searchable : (bytes : List ℕ) → IsOne (IsSearchableText bytes)
-one_searchable bytes (Ok a) (Ok b) x y = ap (λ (read : OffParts × Mesh). read.1) (one_looped_text true bytes (Ok (x.0, a)) (Ok (y.0, b)) x.1 y.1)
-one_searchable bytes (Ok a) (Err p) x (inl y) = one_looped_text true bytes (Ok (x.0, a)) (Err p) x.1 y
-one_searchable bytes (Ok a) (Err p) x (inr y) =
-    one_result (searchable a) (Ok a) (Err p) x.2
-    (subst (λ (read : OffParts × Mesh). HasFewVertices read.1 (Err p)) (one_looped_text true bytes (Ok y.0) (Ok (x.0, a)) y.1 x.1) y.2)
-one_searchable bytes (Err o) (Ok b) (inl x) y = one_looped_text true bytes (Err o) (Ok (y.0, b)) x y.1
-one_searchable bytes (Err o) (Ok b) (inr x) y =
-    one_result (searchable b) (Err o) (Ok b)
-    (subst (λ (read : OffParts × Mesh). HasFewVertices read.1 (Err o)) (one_looped_text true bytes (Ok x.0) (Ok (y.0, b)) x.1 y.1) x.2) y.2
-one_searchable bytes (Err o) (Err p) (inl x) (inl y) = one_looped_text true bytes (Err o) (Err p) x y
-one_searchable bytes (Err o) (Err p) (inl x) (inr y) = absurd (one_looped_text true bytes (Err o) (Ok y.0) x y.1)
-one_searchable bytes (Err o) (Err p) (inr x) (inl y) = absurd (one_looped_text true bytes (Ok x.0) (Err p) x.1 y)
-one_searchable bytes (Err o) (Err p) (inr x) (inr y) =
-    one_result (searchable y.0.1) (Err o) (Err p)
-    (subst (λ (read : OffParts × Mesh). HasFewVertices read.1 (Err o)) (one_looped_text true bytes (Ok x.0) (Ok y.0) x.1 y.1) x.2) y.2
+one_searchable : (limit : LimitKind × ℕ) (bytes : List ℕ) → IsOne (IsSearchableText limit bytes)
+one_searchable limit bytes (Ok a) (Ok b) x y = ap (λ (read : OffParts × Mesh). read.1) (one_looped_text true bytes (Ok (x.0, a)) (Ok (y.0, b)) x.1 y.1)
+one_searchable limit bytes (Ok a) (Err p) x (inl y) = one_looped_text true bytes (Ok (x.0, a)) (Err p) x.1 y
+one_searchable limit bytes (Ok a) (Err p) x (inr y) =
+    one_result (searchable limit a) (Ok a) (Err p) x.2
+    (subst (λ (read : OffParts × Mesh). HasFewVertices limit read.1 (Err p)) (one_looped_text true bytes (Ok y.0) (Ok (x.0, a)) y.1 x.1) y.2)
+one_searchable limit bytes (Err o) (Ok b) (inl x) y = one_looped_text true bytes (Err o) (Ok (y.0, b)) x y.1
+one_searchable limit bytes (Err o) (Ok b) (inr x) y =
+    one_result (searchable limit b) (Err o) (Ok b)
+    (subst (λ (read : OffParts × Mesh). HasFewVertices limit read.1 (Err o)) (one_looped_text true bytes (Ok x.0) (Ok (y.0, b)) x.1 y.1) x.2) y.2
+one_searchable limit bytes (Err o) (Err p) (inl x) (inl y) = one_looped_text true bytes (Err o) (Err p) x y
+one_searchable limit bytes (Err o) (Err p) (inl x) (inr y) = absurd (one_looped_text true bytes (Err o) (Ok y.0) x y.1)
+one_searchable limit bytes (Err o) (Err p) (inr x) (inl y) = absurd (one_looped_text true bytes (Ok x.0) (Err p) x.1 y)
+one_searchable limit bytes (Err o) (Err p) (inr x) (inr y) =
+    one_result (searchable limit y.0.1) (Err o) (Err p)
+    (subst (λ (read : OffParts × Mesh). HasFewVertices limit read.1 (Err o)) (one_looped_text true bytes (Ok x.0) (Ok y.0) x.1 y.1) x.2) y.2
 
 one_measured : (word : List ℕ) (mesh : Mesh) (files : Files) → IsOne (IsMeasured word mesh files)
 one_measured word mesh files (Ok a) (Ok b) x y = one_result (weighed_for word mesh files) (Ok a) (Ok b) x.0 y.0
@@ -233,10 +241,13 @@ one_finding Shortest mesh lengths surface long o p (inl x) (inr y) =
 one_finding Shortest mesh lengths surface long o p (inr x) (inl y) =
     absurd (y.shortest.nonseparating.separates_not (x.separate y.first.walk y.shortest.nonseparating.simple))
 one_finding Shortest mesh lengths surface long o p (inr x) (inr y) = says_same (codes "none\n") (codes "none\n") o p refl x.says y.says
+one_finding BasisCertificate mesh lengths surface long o p x y =
+    says_same (basis_text (basis_cert_of mesh x.trees x.basis)) (basis_text (basis_cert_of mesh y.trees y.basis)) o p
+    (ap basis_text (chosen_basis_certs_are_one mesh lengths x.trees y.trees x.basis y.basis surface long x.chosen y.chosen x.is_basis y.is_basis)) x.says y.says
 
 one_cycles : (task : CycleTask) (bytes word : List ℕ) (files : Files) → HasOneStatus (OnMeshText task bytes word files)
 one_cycles task bytes word files =
-    one_end (IsSearchableText bytes) (λ mesh. OnMesh task mesh word files) (one_searchable bytes)
+    one_end (IsSearchableText (vertex_limit task) bytes) (λ mesh. OnMesh task mesh word files) (one_searchable (vertex_limit task) bytes)
     (λ mesh given. one_end (IsMeasured word mesh files) (Finds task mesh) (one_measured word mesh files)
     (λ lengths is. one_finding task mesh lengths given.1.0.1 (positive mesh lengths is.1 is.2)))
 

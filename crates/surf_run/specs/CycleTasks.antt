@@ -1,7 +1,10 @@
 -- What commands on the cycles of a surface with lengths answer.
 use Rattle.std.specs.Prelude.{ℕ, List}
 use Rattle.surf_base.specs.Outside.{Files}
+use Rattle.surf_base.specs.declared.limits.LimitKind.{LimitKind}
+use Rattle.surf_base.specs.declared.limits.LimitKind.TheVariants.{BasisVertices, CertificateVertices}
 use Rattle.surf_complex.specs.Mesh.{Mesh}
+use Rattle.surf_run.specs.Certificates.{GivesBasisCert}
 use Rattle.surf_run.specs.Given.{IsSearchableText, IsMeasured}
 use Rattle.surf_run.specs.LeastBasis.{GivesBasis}
 use Rattle.surf_run.specs.Outcome.{Outcome}
@@ -9,12 +12,19 @@ use Rattle.surf_run.specs.Reading.{Reads}
 use Rattle.surf_run.specs.ShortestCycle.{GivesCycle}
 use Rattle.surf_run.specs.Steps.{Ends}
 use Rattle.surf_run.specs.declared.cycles.CycleTask.{CycleTask}
-use Rattle.surf_run.specs.declared.cycles.CycleTask.TheVariants.{Basis, Shortest}
+use Rattle.surf_run.specs.declared.cycles.CycleTask.TheVariants.{Basis, Shortest, BasisCertificate}
 
 -- what is done with a surface and lengths
 abbrev pub Finds : CycleTask → Mesh → List ℕ → Outcome → Type 0
 Finds Basis mesh lengths outcome = GivesBasis mesh lengths outcome
 Finds Shortest mesh lengths outcome = GivesCycle mesh lengths outcome
+Finds BasisCertificate mesh lengths outcome = GivesBasisCert mesh lengths outcome
+
+-- how many vertices there may be: fewer where each has its tree in a certificate
+abbrev pub vertex_limit : CycleTask → LimitKind × ℕ
+vertex_limit Basis = (BasisVertices, 20000)
+vertex_limit Shortest = (BasisVertices, 20000)
+vertex_limit BasisCertificate = (CertificateVertices, 1000)
 
 -- a task on a surface
 abbrev pub OnMesh : CycleTask → Mesh → List ℕ → Files → Outcome → Type 0
@@ -22,7 +32,7 @@ OnMesh task mesh word files outcome = Ends (IsMeasured word mesh files) (Finds t
 
 -- a task on the text of a mesh
 abbrev pub OnMeshText : CycleTask → List ℕ → List ℕ → Files → Outcome → Type 0
-OnMeshText task bytes word files outcome = Ends (IsSearchableText bytes) (λ mesh. OnMesh task mesh word files) outcome
+OnMeshText task bytes word files outcome = Ends (IsSearchableText (vertex_limit task) bytes) (λ mesh. OnMesh task mesh word files) outcome
 
 -- a task on a file
 abbrev pub OnCycles : CycleTask → List ℕ → List ℕ → Files → Outcome → Type 0

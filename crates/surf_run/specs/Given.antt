@@ -1,7 +1,8 @@
 -- What commands on weighted surfaces work on: a surface, its lengths and a base.
 use Rattle.std.specs.Prelude.{◌≡◌, ◌+◌, ◌-◌, ◌⊎◌, ℕ, Bool, true, ◌&&◌, nat_lt, List, length, Result, Ok, Err, if◌then◌else◌}
 use Rattle.surf_base.specs.Outside.{Files}
-use Rattle.surf_base.specs.declared.limits.LimitKind.TheVariants.{Loops, BasisVertices}
+use Rattle.surf_base.specs.declared.limits.LimitKind.{LimitKind}
+use Rattle.surf_base.specs.declared.limits.LimitKind.TheVariants.{Loops}
 use Rattle.surf_complex.specs.Mesh.{Mesh}
 use Rattle.surf_complex.specs.Surface.{face_count, edge_count}
 use Rattle.surf_lengths.specs.Lengths.{AreLengths}
@@ -29,19 +30,20 @@ IsFewLoopedText limited bytes (Err outcome) =
     IsSurfaceText bytes (Err outcome)
     ⊎ ((read : OffParts × Mesh) × IsSurfaceText bytes (Ok read) × HasFewLoops limited read.1 (Err outcome))
 
--- Where all vertices are bases, there are at most 20,000 of them.
-abbrev pub searchable : Mesh → Result Mesh Outcome
-searchable mesh = if nat_lt 20000 mesh.vertices then Err (beyond BasisVertices) else Ok mesh
+-- Where all vertices are bases, there are at most so many of them.
+abbrev pub searchable : LimitKind × ℕ → Mesh → Result Mesh Outcome
+searchable limit mesh = if nat_lt limit.1 mesh.vertices then Err (beyond limit.0) else Ok mesh
 
-abbrev pub HasFewVertices : Mesh → Result Mesh Outcome → Type 0
-HasFewVertices mesh result = result ≡ searchable mesh
+abbrev pub HasFewVertices : LimitKind × ℕ → Mesh → Result Mesh Outcome → Type 0
+HasFewVertices limit mesh result = result ≡ searchable limit mesh
 
 -- The bytes are the text of a surface with few loops, and then with few vertices.
-abbrev pub IsSearchableText : List ℕ → Result Mesh Outcome → Type 0
-IsSearchableText bytes (Ok mesh) = (parts : OffParts) × IsFewLoopedText true bytes (Ok (parts, mesh)) × HasFewVertices mesh (Ok mesh)
-IsSearchableText bytes (Err outcome) =
+abbrev pub IsSearchableText : LimitKind × ℕ → List ℕ → Result Mesh Outcome → Type 0
+IsSearchableText limit bytes (Ok mesh) =
+    (parts : OffParts) × IsFewLoopedText true bytes (Ok (parts, mesh)) × HasFewVertices limit mesh (Ok mesh)
+IsSearchableText limit bytes (Err outcome) =
     IsFewLoopedText true bytes (Err outcome)
-    ⊎ ((read : OffParts × Mesh) × IsFewLoopedText true bytes (Ok read) × HasFewVertices read.1 (Err outcome))
+    ⊎ ((read : OffParts × Mesh) × IsFewLoopedText true bytes (Ok read) × HasFewVertices limit read.1 (Err outcome))
 
 -- A word gives lengths to the edges, each from 1 to 4,294,967,295.
 abbrev pub IsMeasured : List ℕ → Mesh → Files → Result (List ℕ) Outcome → Type 0

@@ -16,6 +16,7 @@ pub mod Given
 pub mod LeastLoops
 pub mod Cuts
 pub mod HeadTexts
+pub mod Certificates
 pub mod Tasks
 pub mod LeastBasis
 pub mod ShortestCycle

@@ -3,6 +3,7 @@ use Rattle.std.specs.Prelude.{ℕ, Bool, true, false, List}
 use Rattle.surf_base.specs.Outside.{Files}
 use Rattle.surf_complex.specs.Mesh.{Mesh}
 use Rattle.surf_off.specs.Off.{OffParts}
+use Rattle.surf_run.specs.Certificates.{GivesLoopCert}
 use Rattle.surf_run.specs.Cuts.{GivesCut, is_trimmed}
 use Rattle.surf_run.specs.Distances.{GivesDistances}
 use Rattle.surf_run.specs.Given.{IsFewLoopedText, IsWeighted}
@@ -11,18 +12,20 @@ use Rattle.surf_run.specs.Outcome.{Outcome}
 use Rattle.surf_run.specs.Reading.{Reads}
 use Rattle.surf_run.specs.Steps.{Ends}
 use Rattle.surf_run.specs.declared.weighted.Task.{Task}
-use Rattle.surf_run.specs.declared.weighted.Task.TheVariants.{Distances, LeastLoops, Cut}
+use Rattle.surf_run.specs.declared.weighted.Task.TheVariants.{Distances, LeastLoops, LoopCertificate, Cut}
 
 -- whether the limit on loops is tested
 abbrev pub is_limited : Task → Bool
 is_limited Distances = false
 is_limited LeastLoops = true
+is_limited LoopCertificate = true
 is_limited (Cut kind) = true
 
 -- what is done with a surface, lengths and a base
 abbrev pub Performs : Task → OffParts × Mesh → List ℕ × ℕ → Outcome → Type 0
 Performs Distances read given outcome = GivesDistances read.1 given.0 given.1 outcome
 Performs LeastLoops read given outcome = GivesLoops read.1 given.0 given.1 outcome
+Performs LoopCertificate read given outcome = GivesLoopCert read.1 given.0 given.1 outcome
 Performs (Cut kind) read given outcome = GivesCut (is_trimmed kind) read.0 read.1 given.0 given.1 outcome
 
 -- a task on a surface

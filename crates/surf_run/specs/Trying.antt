@@ -1,6 +1,6 @@
 -- What is answered of a surface and lengths that are made from numbers.
 use Rattle.std.specs.Prelude.{◌≡◌, ℕ, nat_lt, if◌then◌else◌, Result, Ok, Err}
-use Rattle.surf_base.specs.declared.limits.LimitKind.TheVariants.{Loops}
+use Rattle.surf_base.specs.declared.limits.LimitKind.TheVariants.{Loops, BasisVertices}
 use Rattle.surf_complex.specs.Mesh.{Mesh}
 use Rattle.surf_gen.specs.Made.{made_values}
 use Rattle.surf_run.specs.Given.{loop_count, searchable}
@@ -13,7 +13,7 @@ use Rattle.surf_run.specs.Summaries.{GivesSummary}
 
 -- The mesh has at most 1,024 loops and then at most 20,000 vertices.
 abbrev pub searched : Mesh → Result Mesh Outcome
-searched mesh = if nat_lt 1024 (loop_count mesh) then Err (beyond Loops) else searchable mesh
+searched mesh = if nat_lt 1024 (loop_count mesh) then Err (beyond Loops) else searchable (BasisVertices, 20000) mesh
 
 abbrev pub IsSearched : Mesh → Result Mesh Outcome → Type 0
 IsSearched mesh result = result ≡ searched mesh

@@ -3,9 +3,9 @@ use Rattle.std.specs.Prelude.{ℕ, List, [], ◌∷◌, map, String, Option, Som
 use Rattle.std.specs.Str.{bytes_eq}
 use Rattle.surf_text.specs.Text.{whole}
 use Rattle.surf_run.specs.declared.cycles.CycleTask.{CycleTask}
-use Rattle.surf_run.specs.declared.cycles.CycleTask.TheVariants.{Basis, Shortest}
+use Rattle.surf_run.specs.declared.cycles.CycleTask.TheVariants.{Basis, Shortest, BasisCertificate}
 use Rattle.surf_run.specs.declared.weighted.Task.{Task}
-use Rattle.surf_run.specs.declared.weighted.Task.TheVariants.{Distances, LeastLoops, Cut}
+use Rattle.surf_run.specs.declared.weighted.Task.TheVariants.{Distances, LeastLoops, LoopCertificate, Cut}
 use Rattle.surf_run.specs.declared.cut_command.CutKind.TheVariants.{Full, Trimmed}
 use Rattle.surf_run.specs.Shapes.{Shape, torus_named, chain_named}
 use Rattle.std.specs.declared.alloc.Global.{Global}
@@ -47,7 +47,8 @@ number_of word = option_and_then (λ n. if nat_lt 4294967295 n then None else So
 abbrev pub task_of : List ℕ → Option Task
 task_of word =
     if bytes_eq word (codes "dist") then Some Distances
-    else (if bytes_eq word (codes "loops") then Some LeastLoops else None)
+    else (if bytes_eq word (codes "loops") then Some LeastLoops
+    else (if bytes_eq word (codes "certify") then Some LoopCertificate else None))
 
 -- the task of a command with five words
 abbrev pub cut_task : List ℕ → List ℕ → Option Task
@@ -65,7 +66,8 @@ weighted_request (Some task) mesh lengths (Some base) = Some (weighted task mesh
 abbrev pub cycle_task : List ℕ → Option CycleTask
 cycle_task word =
     if bytes_eq word (codes "basis") then Some Basis
-    else (if bytes_eq word (codes "cycle") then Some Shortest else None)
+    else (if bytes_eq word (codes "cycle") then Some Shortest
+    else (if bytes_eq word (codes "certify") then Some BasisCertificate else None))
 
 abbrev pub cycles_request : Option CycleTask → List ℕ → List ℕ → Option Request
 cycles_request None mesh lengths = None

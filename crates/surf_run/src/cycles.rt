@@ -1,18 +1,19 @@
 //! Commands on the cycles of a surface with lengths.
 ghost use Rattle.std.specs.Prelude.{◌≡◌, ◌+◌, ◌≤◌, length, IfOk};
 ghost use Rattle.surf_complex.specs.Surface.{edge_count, face_count};
-ghost use Rattle.surf_run.specs.CycleTasks.{Finds, OnCycles, OnMesh, OnMeshText};
+ghost use Rattle.surf_run.specs.CycleTasks.{Finds, OnCycles, OnMesh, OnMeshText, vertex_limit};
 ghost use Rattle.surf_run.specs.Given.{IsMeasured, IsSearchableText};
 ghost use Rattle.surf_run.specs.Tells.{Concludes, ConcludesOver, Takes, TakesOver};
 
 use crate::answered::Answered;
 use crate::basis_command::basis_of;
+use crate::certify_command::basis_cert_of;
 use crate::cycle_command::cycle_of;
 use crate::reading::{read_file, read_looped};
 use crate::refusal::Refused;
 use crate::weights::read_weights;
 use std::alloc::Global;
-use surf_base::{LimitKind, MAX_BASIS_VERTICES, Shelf};
+use surf_base::{LimitKind, MAX_BASIS_VERTICES, MAX_CERTIFICATE_VERTICES, Shelf};
 use surf_lengths::Lengths;
 use surf_mesh::HalfMesh;
 
@@ -23,6 +24,24 @@ pub enum CycleTask {
     Basis,
     /// A shortest one that doesn't separate the surface.
     Shortest,
+    /// A certificate that a basis is least.
+    BasisCertificate,
+}
+
+impl CycleTask {
+    // How many vertices there may be, after the name of the limit.
+    fn vertex_limit(self) -> (LimitKind, u32)
+        ensures { result ≡ vertex_limit self }
+    {
+        match self {
+            CycleTask::Basis | CycleTask::Shortest => {
+                (LimitKind::BasisVertices, MAX_BASIS_VERTICES)
+            }
+            CycleTask::BasisCertificate => {
+                (LimitKind::CertificateVertices, MAX_CERTIFICATE_VERTICES)
+            }
+        }
+    }
 }
 
 /// What a task on the mesh of a file answers.
@@ -53,7 +72,7 @@ fn on_text<S: Shelf>(
     ensures later { S.faults shelf.old ≤ S.faults shelf.new }
     ensures tells { ConcludesOver (S.holds shelf.old) (S.faults shelf.old) (S.faults shelf.new) (OnMeshText task bytes.now lengths.now) result }
 {
-    let mesh = read_searchable(alloc, bytes)?;
+    let mesh = read_searchable(alloc, task, bytes)?;
     on_mesh(alloc, shelf, task, &mesh, lengths)
 }
 
@@ -87,18 +106,20 @@ fn find(
     match task {
         CycleTask::Basis => basis_of(alloc, mesh, lengths),
         CycleTask::Shortest => cycle_of(alloc, mesh, lengths),
+        CycleTask::BasisCertificate => basis_cert_of(alloc, mesh, lengths),
     }
 }
 
 // The surface of the text of a mesh, with few loops and few vertices.
-fn read_searchable(alloc: Global, bytes: &[u8]) -> Result<HalfMesh, Refused>
+fn read_searchable(alloc: Global, task: CycleTask, bytes: &[u8]) -> Result<HalfMesh, Refused>
     requires { length bytes.now ≤ 268435456 }
-    ensures tells { Takes (λ mesh. mesh) (IsSearchableText bytes.now) result }
+    ensures tells { Takes (λ mesh. mesh) (IsSearchableText (vertex_limit task) bytes.now) result }
     ensures few { IfOk result (λ mesh. edge_count mesh + 2 ≤ mesh.vertices + face_count mesh + 1024) }
 {
     let (_, mesh) = read_looped(alloc, true, bytes)?;
-    if mesh.vertices() > MAX_BASIS_VERTICES {
-        return Err(Refused::Limit(LimitKind::BasisVertices));
+    let (kind, most) = task.vertex_limit();
+    if mesh.vertices() > most {
+        return Err(Refused::Limit(kind));
     }
     Ok(mesh)
 }

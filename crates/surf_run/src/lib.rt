@@ -3,6 +3,7 @@
 
 mod answered;
 mod basis_command;
+mod certify_command;
 mod cut_command;
 mod cycle_command;
 mod cycles;

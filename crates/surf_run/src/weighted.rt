@@ -6,6 +6,7 @@ ghost use Rattle.surf_run.specs.Tasks.{OnTask, OnText, OnSurface, Performs, is_l
 ghost use Rattle.surf_run.specs.Tells.{Concludes, ConcludesOver, Takes, TakesOver};
 
 use crate::answered::Answered;
+use crate::certify_command::loop_cert_of;
 use crate::cut_command::{CutKind, cut_of};
 use crate::dist_command::dist_of;
 use crate::loops_command::loops_of;
@@ -23,6 +24,8 @@ use surf_off::OffText;
 pub enum Task {
     Distances,
     LeastLoops,
+    /// A certificate that the loops are least.
+    LoopCertificate,
     Cut(CutKind),
 }
 
@@ -33,7 +36,7 @@ impl Task {
     {
         match self {
             Task::Distances => false,
-            Task::LeastLoops | Task::Cut(_) => true,
+            Task::LeastLoops | Task::LoopCertificate | Task::Cut(_) => true,
         }
     }
 }
@@ -109,6 +112,7 @@ fn perform(
     match task {
         Task::Distances => dist_of(alloc, mesh, lengths, base),
         Task::LeastLoops => loops_of(alloc, mesh, lengths, base),
+        Task::LoopCertificate => loop_cert_of(alloc, mesh, lengths, base),
         Task::Cut(kind) => cut_of(alloc, text, mesh, lengths, base, kind),
     }
 }

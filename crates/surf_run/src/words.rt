@@ -57,6 +57,7 @@ fn cycle_task(word: &str) -> Option<CycleTask>
     match word {
         "basis" => Some(CycleTask::Basis),
         "cycle" => Some(CycleTask::Shortest),
+        "certify" => Some(CycleTask::BasisCertificate),
         _ => None,
     }
 }
@@ -68,6 +69,7 @@ fn task_of(word: &str) -> Option<Task>
     match word {
         "dist" => Some(Task::Distances),
         "loops" => Some(Task::LeastLoops),
+        "certify" => Some(Task::LoopCertificate),
         _ => None,
     }
 }
