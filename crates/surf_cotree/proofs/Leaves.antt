@@ -1,8 +1,9 @@
 -- Faces that hang on the others by one edge are taken off.
-use Rattle.std.proofs.Common.{ℕ, zero, suc, ◌<◌, ◌≤◌, ◌≡◌, ◌≢◌, ◌+◌, refl, sym, ap, ◌∙◌, subst, arith, inl, inr, List, length, set, Option, Some, None, Bool, true, false, not, ◌&&◌, eqb, eq-eqb, ne_eqb, get_or-set_same, get_or-set_other}
+use Rattle.std.proofs.Common.{ℕ, zero, suc, ◌<◌, ◌≤◌, ◌≡◌, ◌≢◌, ◌+◌, refl, sym, ap, ◌∙◌, subst, arith, inl, inr, List, length, set, Option, Some, None, Bool, true, false, not, ◌&&◌, eqb, eq-eqb, ne_eqb, get_or, get_or-set_same, get_or-set_other}
 use Rattle.std.proofs.Math.ListN.{length-set}
 use Rattle.std.specs.Option.{IfSome, is_some}
 use Rattle.std.proofs.lemmas.Bool.{cases_eq, false≢true}
+use Rattle.std.proofs.lemmas.List.{get_or_default}
 use Rattle.surf_homology.specs.Graphs.{Graph, joins}
 use Rattle.surf_net.specs.Rows.{link_at, IsRow}
 use Rattle.surf_cotree.specs.Searches.{outside}
@@ -123,3 +124,18 @@ peeled_more g allowed leaves n rest later f e ln lf ne only less p =
           let next : suc n ≡ n + 1 = omega arith in
           subst (λ m. later x ≡ left_after allowed new m x) next after;
     }
+
+-- the edge of a leaf, and the node that it hangs on
+pub leaf_ends : (g : Graph) (allowed : ℕ → Bool) (leaves : List Leaf) (n : ℕ) (rest : ℕ → Bool) → IsPeeled g allowed leaves n rest → (k : ℕ) → k < n → (x : Leaf) → x ≡ get_or leaves k x → (f e : ℕ) → f ≡ x.face → e ≡ x.edge →
+    (e < g.edges) × ((next : ℕ) → ((a : ℕ) → joins g f a e ≡ true → next ≡ a) → next < g.nodes)
+leaf_ends g allowed leaves n rest p k l x is f e f_is e_is =
+    let few = p.few in
+    let there : x ≡ leaf_at leaves k = is ∙ get_or_default leaves k x (record { face = 0; edge = 0 }) (omega arith) in
+    let hangs = (p.leaf k l).hangs in
+    let e_there : e ≡ (leaf_at leaves k).edge = e_is ∙ ap (λ (y : Leaf). y.edge) there in
+    let f_there : f ≡ (leaf_at leaves k).face = f_is ∙ ap (λ (y : Leaf). y.face) there in (
+      subst (λ y. y < g.edges) (sym e_there) hangs.edge_in,
+      λ next across.
+          let same : next ≡ hangs.other = across hangs.other (subst (λ y. joins g y hangs.other e ≡ true) (sym f_there) (subst (λ y. joins g (leaf_at leaves k).face hangs.other y ≡ true) (sym e_there) hangs.joined)) in
+          subst (λ y. y < g.nodes) (sym same) hangs.other_in,
+    )

@@ -38,47 +38,70 @@ fn only_edge(mesh: &HalfMesh, marks: &[bool], face: FaceId) -> Option<EdgeId>
     found
 }
 
-// Takes a face off that hangs on the others by one edge, and then each one that does so by its going. Face 0 stays.
-fn peel_from(
+// Takes a face off that hangs on the others by one edge without a mark, and marks the edge. Face 0 stays.
+fn take_leaf(
     mesh: &HalfMesh,
     marks: &mut [bool],
     leaves: &mut [Leaf],
-    taken: usize,
-    start: u32,
+    count: usize,
+    face: u32,
 ) -> usize
-    requires start { start < face_count mesh.now }
+    requires face { face < face_count mesh.now }
     requires marks { length marks.old ≡ edge_count mesh.now }
-    ensures peeled { (allowed : ℕ → Bool) → IsPeeled (dual (cells_of mesh.now)) allowed leaves.old taken (outside marks.old) → IsPeeled (dual (cells_of mesh.now)) allowed leaves.new result (outside marks.new) }
+    ensures peeled { (allowed : ℕ → Bool) → IsPeeled (dual (cells_of mesh.now)) allowed leaves.old count (outside marks.old) → IsPeeled (dual (cells_of mesh.now)) allowed leaves.new result (outside marks.new) }
 {
     let _edges = mesh.edges();
-    let mut count = taken;
-    let mut face = start;
-    while face != 0 && count < leaves.len() {
-        let Some(edge) = only_edge(mesh, marks, FaceId::new(face)) else {
-            break;
-        };
-        marks[edge.index()] = true;
-        leaves[count] = Leaf {
-            face: FaceId::new(face),
-            edge,
-        };
-        count += 1;
-        face = face_across(mesh, edge.number(), face);
+    if face == 0 || count >= leaves.len() {
+        return count;
     }
-    count
+    let Some(edge) = only_edge(mesh, marks, FaceId::new(face)) else {
+        return count;
+    };
+    marks[edge.index()] = true;
+    leaves[count] = Leaf {
+        face: FaceId::new(face),
+        edge,
+    };
+    count + 1
 }
 
-/// Takes the faces off that hang on the others by one edge that isn't marked, one after the other, and marks these
-/// edges. It gives their number.
-pub(crate) fn peel(mesh: &HalfMesh, marks: &mut [bool], leaves: &mut [Leaf]) -> usize
+// Takes off what hangs by one edge when its turn comes, in the order of the faces.
+fn take_in_order(mesh: &HalfMesh, marks: &mut [bool], leaves: &mut [Leaf]) -> usize
     requires marks { length marks.old ≡ edge_count mesh.now }
     ensures peeled { IsPeeled (dual (cells_of mesh.now)) (outside marks.old) leaves.new result (outside marks.new) }
 {
     let mut count = 0;
     for face in 0..mesh.faces() {
-        count = peel_from(mesh, marks, leaves, count, face);
+        count = take_leaf(mesh, marks, leaves, count, face);
     }
     count
+}
+
+// Takes off each face that hangs by one edge when the one beside it has gone.
+fn take_beside(mesh: &HalfMesh, marks: &mut [bool], leaves: &mut [Leaf], taken: usize) -> usize
+    requires marks { length marks.old ≡ edge_count mesh.now }
+    requires some { (allowed : ℕ → Bool) × IsPeeled (dual (cells_of mesh.now)) allowed leaves.old taken (outside marks.old) }
+    ensures peeled { (allowed : ℕ → Bool) → IsPeeled (dual (cells_of mesh.now)) allowed leaves.old taken (outside marks.old) → IsPeeled (dual (cells_of mesh.now)) allowed leaves.new result (outside marks.new) }
+{
+    let mut count = taken;
+    let mut next = 0;
+    while next < count {
+        let leaf = leaves[next];
+        let on = face_across(mesh, leaf.edge.number(), leaf.face.number());
+        count = take_leaf(mesh, marks, leaves, count, on);
+        next += 1;
+    }
+    count
+}
+
+/// Takes the faces off that hang on the others by one edge without a mark, one after the other, and marks these edges.
+/// It gives their number.
+pub(crate) fn peel(mesh: &HalfMesh, marks: &mut [bool], leaves: &mut [Leaf]) -> usize
+    requires marks { length marks.old ≡ edge_count mesh.now }
+    ensures peeled { IsPeeled (dual (cells_of mesh.now)) (outside marks.old) leaves.new result (outside marks.new) }
+{
+    let first = take_in_order(mesh, marks, leaves);
+    take_beside(mesh, marks, leaves, first)
 }
 
 /// Hangs the faces that were taken off on the tree again, the last first.
