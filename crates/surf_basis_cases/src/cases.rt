@@ -10,7 +10,8 @@ use surf_check::check;
 use surf_lengths::{Lengths, read_lengths};
 use surf_mesh::{HalfMesh, Soup};
 
-const TETRAHEDRON: [(u32, u32, u32); 4] = [(0, 1, 2), (0, 3, 1), (0, 2, 3), (1, 3, 2)];
+/// Four triangles.
+pub(crate) const TETRAHEDRON: [(u32, u32, u32); 4] = [(0, 1, 2), (0, 3, 1), (0, 2, 3), (1, 3, 2)];
 
 // The projective plane of six vertices.
 const SIX: [(u32, u32, u32); 10] = [
@@ -44,8 +45,8 @@ const SEVEN: [(u32, u32, u32); 14] = [
     (6, 2, 1),
 ];
 
-// The torus of three by three squares, each of two triangles.
-const TORUS: [(u32, u32, u32); 18] = [
+/// The torus of three by three squares, each of two triangles.
+pub(crate) const TORUS: [(u32, u32, u32); 18] = [
     (0, 3, 4),
     (0, 4, 1),
     (1, 4, 5),
@@ -66,11 +67,12 @@ const TORUS: [(u32, u32, u32); 18] = [
     (8, 0, 6),
 ];
 
-// Length 1 for each edge.
-const UNIT: &[u8] = b"SURFLEN 2\ndefault 1\n";
+/// Length 1 for each edge.
+pub(crate) const UNIT: &[u8] = b"SURFLEN 2\ndefault 1\n";
 
-// Lengths on the torus of three by three squares, all different.
-const SCATTERED: &[u8] = b"0 1 14\n0 2 21\n0 3 28\n0 4 35\n0 6 42\n0 8 49\n1 2 56\n1 4 63\n1 5 70
+/// Lengths on the torus of three by three squares, all different.
+pub(crate) const SCATTERED: &[u8] =
+    b"0 1 14\n0 2 21\n0 3 28\n0 4 35\n0 6 42\n0 8 49\n1 2 56\n1 4 63\n1 5 70
 1 6 77\n1 7 84\n2 3 91\n2 5 1\n2 7 8\n2 8 15\n3 4 22\n3 5 29\n3 6 36
 3 7 43\n4 5 50\n4 7 57\n4 8 64\n5 6 71\n5 8 78\n6 7 85\n6 8 92\n7 8 2\n";
 
@@ -104,7 +106,12 @@ fn push(soup: &mut Soup, a: u32, b: u32, c: u32) -> Result<(), NoMemory> {
     Ok(())
 }
 
-fn surface(alloc: Global, vertices: u32, faces: &[(u32, u32, u32)]) -> Result<HalfMesh, Fail> {
+/// The surface of some triangles.
+pub(crate) fn surface(
+    alloc: Global,
+    vertices: u32,
+    faces: &[(u32, u32, u32)],
+) -> Result<HalfMesh, Fail> {
     let mut soup = Soup::start(alloc, vertices);
     for (a, b, c) in faces {
         push(&mut soup, *a, *b, *c).ok().ok_or("room")?;
@@ -130,8 +137,8 @@ fn are_cycles(cycles: &[Cycle], wanted: &[(u64, &[u32])]) -> bool {
     same
 }
 
-// Whether the lengths are of the mesh, which isn't too wild for a basis.
-fn fit(mesh: &HalfMesh, lengths: &Lengths) -> bool
+/// Whether the lengths are of the mesh, which isn't too wild for a basis.
+pub(crate) fn fit(mesh: &HalfMesh, lengths: &Lengths) -> bool
     ensures lengths { IsTrue result → length lengths.now ≡ edge_count mesh.now }
     ensures few { IsTrue result → edge_count mesh.now + 2 ≤ mesh.now.vertices + face_count mesh.now + 1024 }
 {

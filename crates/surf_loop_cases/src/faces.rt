@@ -58,8 +58,8 @@ fn first_is_in(mesh: &HalfMesh, cotree: &CotreeDesk, want: &[(u32, u32)]) -> boo
     same
 }
 
-// The edges in neither tree.
-const LEFT: [(u32, u32); 2] = [(1, 2), (3, 6)];
+/// The edges in neither tree.
+pub(crate) const LEFT: [(u32, u32); 2] = [(1, 2), (3, 6)];
 
 // The edges with place 0 in their signatures.
 const ODD: [(u32, u32); 8] = [
@@ -73,8 +73,8 @@ const ODD: [(u32, u32); 8] = [
     (7, 8),
 ];
 
-// For each face the number of edges to face 0, and the edge to its parent.
-const ROWS: [(u32, Option<(u32, u32)>); 18] = [
+/// For each face the number of edges to face 0, and the edge to its parent.
+pub(crate) const ROWS: [(u32, Option<(u32, u32)>); 18] = [
     (0, None),
     (5, Some((1, 4))),
     (4, Some((4, 5))),

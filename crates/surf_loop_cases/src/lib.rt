@@ -1,7 +1,9 @@
-//! Trees of faces, loops and openings of small surfaces, with answers that were worked out by hand. The crate
+//! Trees of faces, loops, certificates and openings of small surfaces, with answers that were worked out by hand. The crate
 //! has tests alone.
 #![tactic(auto)]
 
+#[cfg(test)]
+mod certs;
 #[cfg(test)]
 mod faces;
 #[cfg(test)]

@@ -1,0 +1,154 @@
+//! Certificates of the bases of small surfaces.
+
+use crate::cases::{SCATTERED, TETRAHEDRON, TORUS, UNIT, fit, surface};
+use std::alloc::Global;
+use std::test::Fail;
+use surf_base::VertexId;
+use surf_basis::basis_cert;
+use surf_cert::{BasisCert, DualRows, TreeRows};
+use surf_lengths::read_lengths;
+use surf_mesh::Walk;
+
+fn pair_of(pair: (u32, u32)) -> (VertexId, VertexId) {
+    (VertexId::new(pair.0), VertexId::new(pair.1))
+}
+
+// Whether the tree at a place has that base, and these distances and parents.
+fn tree_is(trees: &[TreeRows], place: u32, want: &[(u64, Option<u32>)]) -> bool {
+    let Some(tree) = trees.get(place as usize) else {
+        return false;
+    };
+    let mut same = tree.base().number() == place && tree.parent().len() == want.len();
+    for (v, (distance, parent)) in want.iter().enumerate() {
+        same = same && tree.distance().get(v) == Some(distance);
+        same = same && tree.parent().get(v) == Some(&parent.map(VertexId::new));
+    }
+    same
+}
+
+// Whether the first faces have these depths and sides.
+fn faces_begin(dual: &DualRows, want: &[(u32, Option<(u32, u32)>)]) -> bool {
+    let mut same = dual.depth().len() == dual.side().len();
+    for (f, (depth, side)) in want.iter().enumerate() {
+        same = same && dual.depth().get(f) == Some(depth);
+        same = same && dual.side().get(f) == Some(&side.map(pair_of));
+    }
+    same
+}
+
+// Whether the left edges have these ends.
+fn left_are(left: &[(VertexId, VertexId)], want: &[(u32, u32)]) -> bool {
+    let mut same = left.len() == want.len();
+    for (pair, ends) in left.iter().zip(want) {
+        same = same && *pair == pair_of(*ends);
+    }
+    same
+}
+
+fn is_walk(walk: &Walk, want: &[u32]) -> bool {
+    let mut same = walk.vertices().len() == want.len();
+    for (vertex, wanted) in walk.vertices().iter().zip(want) {
+        same = same && vertex.number() == *wanted;
+    }
+    same
+}
+
+fn are_walks(walks: &[Walk], want: &[&[u32]]) -> bool {
+    let mut same = walks.len() == want.len();
+    for (walk, wanted) in walks.iter().zip(want) {
+        same = same && is_walk(walk, wanted);
+    }
+    same
+}
+
+/// What a certificate should have: the rows of one of its trees, those of the first faces, the left edges and the
+/// cycles.
+#[derive(Clone, Copy)]
+struct Wanted {
+    place: u32,
+    vertices: &'static [(u64, Option<u32>)],
+    faces: &'static [(u32, Option<(u32, u32)>)],
+    left: &'static [(u32, u32)],
+    cycles: &'static [&'static [u32]],
+}
+
+// What of the certificate isn't as wanted, or nothing.
+fn difference(cert: &BasisCert, want: &Wanted) -> &'static str {
+    if cert.trees().len() != want.vertices.len()
+        || !tree_is(cert.trees(), want.place, want.vertices)
+    {
+        return "trees";
+    }
+    if !faces_begin(cert.dual(), want.faces) {
+        return "faces";
+    }
+    if !left_are(cert.left(), want.left) {
+        return "left";
+    }
+    if !are_walks(cert.cycles(), want.cycles) {
+        return "cycles";
+    }
+    ""
+}
+
+// The certificate of the basis of a surface.
+fn cert_of(
+    alloc: Global,
+    vertices: u32,
+    faces: &[(u32, u32, u32)],
+    text: &[u8],
+) -> Result<BasisCert, Fail> {
+    if text.len() > 1_000 {
+        return Err("a long text")?;
+    }
+    let mesh = surface(alloc, vertices, faces)?;
+    let lengths = read_lengths(alloc, text, &mesh).ok().ok_or("lengths")?;
+    if !fit(&mesh, &lengths) {
+        return Err("lengths of another mesh")?;
+    }
+    Ok(basis_cert(alloc, &mesh, &lengths).ok().ok_or("room")?)
+}
+
+// The tree at vertex 4 of the torus, each edge of length 1.
+const FROM_FOUR: [(u64, Option<u32>); 9] = [
+    (1, Some(4)),
+    (1, Some(4)),
+    (2, Some(0)),
+    (1, Some(4)),
+    (0, None),
+    (1, Some(4)),
+    (2, Some(0)),
+    (1, Some(4)),
+    (1, Some(4)),
+];
+
+#[test]
+fn certificates_of_bases(rt: HostRuntime) -> Result<(), Fail> {
+    let cert = cert_of(rt.alloc(), 9, &TORUS, UNIT)?;
+    let torus = Wanted {
+        place: 4,
+        vertices: &FROM_FOUR,
+        faces: &[(0, None), (5, Some((1, 4))), (4, Some((4, 5)))],
+        left: &[(1, 2), (3, 6)],
+        cycles: &[&[0, 1, 2, 0], &[0, 3, 6, 0]],
+    };
+    assert_eq!(rt; difference(&cert, &torus), "");
+    let cert = cert_of(rt.alloc(), 9, &TORUS, SCATTERED)?;
+    assert!(rt; left_are(cert.left(), &[(1, 2), (3, 7)]));
+    assert!(rt; are_walks(cert.cycles(), &[&[2, 5, 3, 7, 2], &[2, 5, 8, 7, 2]]));
+    let cert = cert_of(rt.alloc(), 4, &TETRAHEDRON, UNIT)?;
+    let tetrahedron = Wanted {
+        place: 3,
+        vertices: &[(1, Some(3)), (1, Some(3)), (1, Some(3)), (0, None)],
+        faces: &[
+            (0, None),
+            (2, Some((1, 3))),
+            (2, Some((2, 3))),
+            (1, Some((1, 2))),
+        ],
+        left: &[],
+        cycles: &[],
+    };
+    assert_eq!(rt; difference(&cert, &tetrahedron), "");
+    Ok(())
+}
