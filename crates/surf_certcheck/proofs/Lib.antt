@@ -7,3 +7,11 @@ pub mod FaceLinks
 pub mod LeastIn
 pub mod LoopFaults
 pub mod Totals
+pub mod Placing
+pub mod Steps
+pub mod Bases
+pub mod Climbing
+pub mod Framing
+pub mod Validity
+pub mod Independence
+pub mod BasisFaults
