@@ -9,6 +9,7 @@ use Rattle.surf_homology.specs.Trees.{Tree, in_tree}
 use Rattle.surf_homology.proofs.Trees.{tree_edge}
 use Rattle.surf_homology.proofs.CellLaws.{outside_joins}
 use Rattle.surf_homology.proofs.Counting.{left_edges as left_count}
+use Rattle.surf_sign.proofs.Passing.{passing_same}
 use Rattle.surf_complex.specs.Mesh.{Mesh}
 use Rattle.surf_complex.specs.Surface.{edge_count, face_count, faces_of, IsSurface}
 use Rattle.surf_complex.specs.Cells.{cells_of}
@@ -38,18 +39,6 @@ all_at : (P : ℕ → Type 0) (xs : List ℕ) (k : ℕ) → AllByRecursion P xs 
 all_at P [] k h l = absurd (omega arith)
 all_at P (x ∷ xs) zero h l = h.0
 all_at P (x ∷ xs) (suc k) h l = all_at P xs k h.1 (omega arith)
-
-passing_same : (p q : ℕ → Bool) (a n : ℕ) → ((k : ℕ) → k < a + n → p k ≡ q k) → filter p (range_with_len a n) ≡ filter q (range_with_len a n)
-passing_same p q a zero h = refl
-passing_same p q a (suc n) h =
-    let here : p a ≡ q a = h a (omega arith) in
-    let rest = passing_same p q (a + 1) n (λ k l. h k (omega arith)) in
-    rw here (split (q a) rest)
-  where
-    split : (b : Bool) → filter p (range_with_len (a + 1) n) ≡ filter q (range_with_len (a + 1) n) →
-        cond b (a ∷ filter p (range_with_len (a + 1) n)) (filter p (range_with_len (a + 1) n)) ≡ cond b (a ∷ filter q (range_with_len (a + 1) n)) (filter q (range_with_len (a + 1) n))
-    split true e = ap (λ xs. a ∷ xs) e
-    split false e = e
 
 any_same : (n : ℕ) (p q : ℕ → Bool) → ((k : ℕ) → k < n → p k ≡ q k) → any_below n p ≡ any_below n q
 any_same zero p q h = refl
