@@ -9,3 +9,4 @@ pub mod FirstFault
 pub mod LoopFaults
 pub mod OneFault
 pub mod Totals
+pub mod OneBasisFault

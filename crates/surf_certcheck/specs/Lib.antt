@@ -3,3 +3,4 @@ pub mod Rows
 pub mod LoopFaults
 pub mod Split
 pub mod Paths
+pub mod BasisFaults
