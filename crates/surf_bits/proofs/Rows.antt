@@ -1,10 +1,11 @@
 -- The rows of a sieve.
-use Rattle.std.proofs.Common.{ℕ, zero, suc, ◌≡◌, ◌+◌, ◌*◌, ◌/◌, ◌<◌, ◌≤◌, ◌^◌, Option, Some, None, is_some, not, Bool, true, false, cond, lit<, MatchOption, MatchBool, List, [], ◌∷◌, ◌++◌, length, take, drop, get_or, bit_xor, IsTrue, min, refl, sym, ap, ◌∙◌, subst, arith, ◌↔◌}
+use Rattle.std.proofs.Common.{ℕ, zero, suc, ◌≡◌, ◌+◌, ◌*◌, ◌/◌, ◌<◌, ◌≤◌, ◌^◌, Option, Some, None, is_some, not, Bool, true, false, cond, lit<, MatchOption, MatchBool, List, [], ◌∷◌, ◌++◌, length, take, drop, get_or, bit_xor, IsTrue, min, inl, inr, refl, sym, ap, ◌∙◌, subst, arith, ◌↔◌}
 use Rattle.std.specs.Int.{bit_at}
 use Rattle.std.proofs.lemmas.Bool.{eqb-true}
 use Rattle.std.proofs.lemmas.Nat.{xor_lt, pow_pos}
 use Rattle.std.proofs.lemmas.Nat.Bits.{bit_at-zero}
 use Rattle.std.proofs.Math.Nat.{pow-le-pow_right, mul-le-mul_right}
+use Rattle.std.proofs.lemmas.Bool.{cases_lt}
 use Rattle.std.proofs.Math.Pow.{pow-add}
 use Rattle.std.proofs.lemmas.List.{map-append, get_or-drop, length-drop, length-append, take-append-le, drop-append-le, length-take, length-take-le, take_all, drop-drop, at_drop_more}
 use Rattle.std.proofs.lemmas.List.Elements.{All-push}
@@ -20,7 +21,7 @@ use Rattle.surf_bits.specs.Rows.{rows_of, originals_of, left_of, IsTold, AreRows
 law : SieveLaw numbers has (λ (r : Row ℕ). r.pivot) (λ (r : Row ℕ). r.reduced) (λ (r : Row ℕ). r.original)
 law = sieve_law numbers has has-xor (λ (r : Row ℕ). r.pivot) (λ (r : Row ℕ). r.reduced) (λ (r : Row ℕ). r.original)
 
-take_whole : (n : ℕ) (xs : List ℕ) → length xs ≡ n → take n xs ≡ xs
+pub take_whole : (n : ℕ) (xs : List ℕ) → length xs ≡ n → take n xs ≡ xs
 take_whole n xs e = take_all n xs (omega arith)
 
 pub rows-length : (stride : ℕ) (pivots reduced originals : List ℕ) → length (rows_of stride pivots reduced originals) ≡ length pivots
@@ -90,6 +91,15 @@ number_take (suc n) (w ∷ ws) l =
     let l' : number ws * 2 ^ 64 + w < 2 ^ (64 * n) * 2 ^ 64 = omega (arith, p, l) in
     let k : number ws < 2 ^ (64 * n) = omega (arith, l') in
     ap (λ x. x * 2 ^ 64 + w) (number_take n ws k)
+
+-- as many of them as there are, or as are enough
+pub number_most : (m n : ℕ) (ws : List ℕ) → n ≡ min m (length ws) → number ws < 2 ^ (64 * m) → number (take n ws) ≡ number ws
+number_most m n ws e l = elim (cases_lt m (length ws)) [
+  | inl less ↦
+      let is : n ≡ m = omega (arith, e, less) in
+      number_take n ws (subst (λ k. number ws < 2 ^ (64 * k)) (sym is) l)
+  | inr past ↦ ap number (take_all n ws (omega (arith, e, past)))
+]
 
 -- what rows of as many words leave of a set of as many
 pub left_small : (stride : ℕ) (ps rs os : List ℕ) (v : ℕ) → ((k : ℕ) → get_or rs k 0 < 2 ^ 64) → v < 2 ^ (64 * stride) → left_of (rows_of stride ps rs os) v < 2 ^ (64 * stride)

@@ -1,10 +1,10 @@
 //! Bits that are lent.
 
-ghost use Rattle.std.specs.Prelude.{◌≡◌, ◌<◌, ◌≤◌, length};
+ghost use Rattle.std.specs.Prelude.{◌≡◌, ◌<◌, ◌≤◌, ◌*◌, ◌^◌, ◌==◌, bit_xor, length};
 ghost use Rattle.surf_z2.specs.Sieve.{has};
 ghost use Rattle.surf_z2.specs.Words.{number};
 
-use crate::words::has_bit;
+use crate::words::{add_words, first_bit, has_bit};
 use std::marker::Model;
 
 /// A set of numbers below 1,024, lent as at most sixteen words: number `64 j + i` is in it exactly where the bit of value
@@ -40,6 +40,22 @@ impl<'a> Bits<'a> {
         ensures { result ≡ has self.now k }
     {
         has_bit(self.words, k as usize)
+    }
+
+    /// Whether the set has no number.
+    pub fn is_empty(&self) -> bool
+        ensures empty { result ≡ (self.now == 0) }
+    {
+        first_bit(self.words).is_none()
+    }
+
+    /// Adds it to a set that is kept as words, of which there are enough for its numbers.
+    pub fn add_to(&self, words: &mut [u64])
+        requires fits { self.now < 2 ^ (64 * length words.old) }
+        ensures sum { number words.new ≡ bit_xor (number words.old) self.now }
+    {
+        let count = words.len().min(self.words.len());
+        add_words(words, &self.words[..count]);
     }
 
     /// The words.

@@ -1,4 +1,5 @@
 //! Certificates of loops, with a line edited.
+use crate::edit::edited;
 use crate::texts::{CHOSEN, LIGHTER, TORUS};
 use std::alloc::Global;
 use std::test::Fail;
@@ -8,29 +9,6 @@ use surf_certcheck::{CertFault, CertPart, check_loops};
 use surf_check::check;
 use surf_lengths::unit_lengths;
 use surf_off::read_off;
-use surf_text::Lines;
-
-// A text with another line in the place of one, or as it is for line 0.
-fn edited(alloc: Global, text: &str, place: u32, line_there: &str) -> Result<Vec<u8>, Fail> {
-    let bytes = text.as_bytes();
-    if bytes.len() > 1000 || line_there.len() > 100 {
-        return Err("a long text")?;
-    }
-    let mut lines = Lines::over(bytes);
-    let mut edited = Vec::new(alloc);
-    for _ in 0..100u32 {
-        let Some(line) = lines.next_line() else {
-            return Ok(edited);
-        };
-        if line.number == place {
-            edited.extend_from_slice(line_there.as_bytes())?;
-        } else {
-            edited.extend_from_slice(line.bytes)?;
-        }
-        edited.push(b'\n')?;
-    }
-    Err("many lines")?
-}
 
 // What the checker says of the certificate of a text.
 fn judged(alloc: Global, text: &[u8]) -> Result<Result<u128, CertFault>, Fail> {
@@ -120,7 +98,7 @@ fn valid_ones_and_first_faults(rt: HostRuntime) -> Result<(), Fail> {
         ),
     ];
     for (text, place, line, want) in cases {
-        let text = edited(alloc, text, place, line)?;
+        let text = edited(alloc, text.as_bytes(), place, line)?;
         assert_eq!(rt; judged(alloc, &text)?, want);
     }
     Ok(())

@@ -9,4 +9,12 @@ pub mod FirstFault
 pub mod LoopFaults
 pub mod OneFault
 pub mod Totals
+pub mod Placing
+pub mod Steps
+pub mod Bases
+pub mod Climbing
+pub mod Framing
+pub mod Validity
+pub mod Independence
+pub mod BasisFaults
 pub mod OneBasisFault

@@ -1,6 +1,6 @@
 -- Why a certificate of a basis isn't valid.
-use Rattle.std.specs.Prelude.{◌≡◌, ℕ, ◌<◌, List, [], length, slice_index_or}
-use Rattle.surf_complex.specs.Mesh.{Mesh}
+use Rattle.std.specs.Prelude.{◌≡◌, ℕ, ◌<◌, ◌+◌, List, [], length, Contains, slice_index, slice_index_or}
+use Rattle.surf_complex.specs.Mesh.{Mesh, pair, edges}
 use Rattle.surf_complex.specs.Surface.{face_count, edge_count, ends}
 use Rattle.surf_complex.specs.Homology.{IsFullCount}
 use Rattle.surf_valid.specs.Rows.{BasisCert}
@@ -87,6 +87,10 @@ IsTreesFault mesh lengths cert fault = ⊥
 
 abbrev pub cycle_at : BasisCert → ℕ → List ℕ
 cycle_at cert k = slice_index_or cert.cycles k []
+
+-- an edge joins the vertex at a place of a list with the next one
+abbrev pub IsAlong : Mesh → List ℕ → ℕ → Type 0
+IsAlong mesh list k = Contains (edges mesh) (pair (slice_index list k) (slice_index list (k + 1)))
 
 -- the cycle at a place is a closed list of neighbours
 abbrev pub IsClosedAt : Mesh → BasisCert → ℕ → Type 0

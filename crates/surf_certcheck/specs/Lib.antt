@@ -4,3 +4,5 @@ pub mod LoopFaults
 pub mod Split
 pub mod Paths
 pub mod BasisFaults
+pub mod Frames
+pub mod Climbs

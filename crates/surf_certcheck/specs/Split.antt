@@ -11,6 +11,10 @@ pub record AreFlags (n : ℕ) (test : ℕ → Bool) (flags : List Bool) : Type 0
   pub count : length flags ≡ n
   pub each : (e : ℕ) → e < n → get_or flags e false ≡ test e
 
+-- whether an edge is flagged
+abbrev pub is_flagged : List Bool → ℕ → Bool
+is_flagged flags e = get_or flags e false
+
 -- no edge
 abbrev pub none : ℕ → Bool
 none e = false

@@ -15,11 +15,11 @@ use surf_base::{EdgeId, FaceId, NoMemory, VertexId};
 use surf_cert::DualRows;
 use surf_mesh::HalfMesh;
 
-/// For each face but face 0, the face that it hangs on and the edge between them.
+/// For each face but face 0, the number of the face that it hangs on and that of the edge between them.
 #[derive(Drop)]
 pub(crate) struct Links {
-    pub(crate) parent: Vec<FaceId>,
-    pub(crate) up: Vec<EdgeId>,
+    pub(crate) parent: Vec<u32>,
+    pub(crate) up: Vec<u32>,
 }
 
 // The face across the side of a face between two vertices, and the edge.
@@ -63,8 +63,8 @@ pub(crate) fn link_faces(alloc: Global, mesh: &HalfMesh, dual: &DualRows) -> Res
     let mut up = Vec::with_capacity(alloc, count as usize)?;
     for f in 0..count {
         let (face, edge) = link_over(mesh, dual, FaceId::new(f), dual.side()[f as usize]);
-        parent.push(face)?;
-        up.push(edge)?;
+        parent.push(face.number())?;
+        up.push(edge.number())?;
     }
     Ok(Links { parent, up })
 }
@@ -84,7 +84,8 @@ pub(crate) fn step_up(
 {
     let _surface = mesh.faces();
     let _rows = dual;
-    (links.parent[at.index()], links.up[at.index()])
+    let (face, edge) = (links.parent[at.index()], links.up[at.index()]);
+    (FaceId::new(face), EdgeId::new(edge))
 }
 
 /// Turns the flags of the edges on the way from a face to face 0.

@@ -1,12 +1,17 @@
 //! Whether the parts of a certificate have the sizes that the mesh asks for.
-ghost use Rattle.std.specs.Prelude.{◌≡◌, MatchOption, MatchBool};
+ghost use Rattle.std.specs.Prelude.{◌≡◌, ◌<◌, MatchOption, MatchBool, length};
 ghost use Rattle.surf_complex.specs.Homology.{IsFullCount};
+ghost use Rattle.surf_valid.specs.Bases.{tree_at};
+ghost use Rattle.surf_valid.specs.Bases.{HasShape as HasBasisShape};
 ghost use Rattle.surf_valid.specs.Valid.{HasShape};
+ghost use Rattle.surf_certcheck.specs.First.{HoldsBelow};
 ghost use Rattle.surf_certcheck.specs.Rows.{HasTreeRows, HasDualRows};
 ghost use Rattle.surf_certcheck.specs.LoopFaults.{IsShapeFault};
+ghost use Rattle.surf_certcheck.specs.BasisFaults.{HasBase, HasTrees, HasCounts, IsBasisShapeFault};
 
 use crate::fault::CertPart;
-use surf_cert::{DualRows, LoopCert, TreeRows};
+use surf_base::VertexId;
+use surf_cert::{BasisCert, DualRows, LoopCert, TreeRows};
 use surf_mesh::HalfMesh;
 
 /// Whether there is a row for each vertex.
@@ -47,6 +52,69 @@ pub(crate) fn loop_shape(mesh: &HalfMesh, cert: &LoopCert) -> Option<CertPart>
         return Some(CertPart::Loops);
     }
     if cert.tree().base().number() >= mesh.vertices() {
+        return Some(CertPart::Base);
+    }
+    None
+}
+
+/// The tree at a place of a certificate of a basis.
+pub(crate) fn tree_from(cert: &BasisCert, x: VertexId) -> &TreeRows
+    requires place { x < length cert.now.trees }
+    ensures tree { result.now ≡ tree_at cert.now x }
+{
+    &cert.trees()[x.index()]
+}
+
+// Whether there is a tree for each vertex, with a row for each vertex.
+fn fits_trees(mesh: &HalfMesh, cert: &BasisCert) -> bool
+    ensures fits { MatchBool result (HasTrees mesh.now cert.now) (HasTrees mesh.now cert.now → ⊥) }
+{
+    if cert.trees().len() != mesh.vertices() as usize {
+        return false;
+    }
+    for x in 0..mesh.vertices() {
+        if !fits_vertices(mesh, tree_from(cert, VertexId::new(x))) {
+            return false;
+        }
+    }
+    true
+}
+
+// Whether there are as many left pairs and as many cycles as two less the characteristic.
+fn fits_counts(mesh: &HalfMesh, cert: &BasisCert) -> bool
+    ensures fits { MatchBool result (HasCounts mesh.now cert.now) (HasCounts mesh.now cert.now → ⊥) }
+{
+    is_full_count(mesh, cert.left().len()) && is_full_count(mesh, cert.cycles().len())
+}
+
+// Whether the base of each tree is its place.
+fn fits_bases(mesh: &HalfMesh, cert: &BasisCert) -> bool
+    requires trees { HasTrees mesh.now cert.now }
+    ensures fits { MatchBool result (HoldsBelow mesh.now.vertices (HasBase cert.now)) (HoldsBelow mesh.now.vertices (HasBase cert.now) → ⊥) }
+{
+    for x in 0..mesh.vertices() {
+        let place = VertexId::new(x);
+        if tree_from(cert, place).base() != place {
+            return false;
+        }
+    }
+    true
+}
+
+/// The first part of a basis certificate that doesn't fit the mesh.
+pub(crate) fn basis_shape(mesh: &HalfMesh, cert: &BasisCert) -> Option<CertPart>
+    ensures shape { MatchOption result (HasBasisShape mesh.now cert.now) (IsBasisShapeFault mesh.now cert.now) }
+{
+    if !fits_trees(mesh, cert) {
+        return Some(CertPart::Vertices);
+    }
+    if !fits_faces(mesh, cert.dual()) {
+        return Some(CertPart::Faces);
+    }
+    if !fits_counts(mesh, cert) {
+        return Some(CertPart::Loops);
+    }
+    if !fits_bases(mesh, cert) {
         return Some(CertPart::Base);
     }
     None

@@ -1,5 +1,4 @@
 pub mod Pairs
 pub mod Growing
 pub mod Passing
-pub mod Toggling
 pub mod Tabled

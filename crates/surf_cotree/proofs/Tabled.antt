@@ -1,43 +1,25 @@
 -- What the tables of a desk hold.
-use Rattle.std.proofs.Common.{ℕ, zero, suc, ◌<◌, ◌≤◌, ◌≡◌, ◌≢◌, ◌+◌, ◌*◌, ◌/◌, ◌%◌, ◌^◌, ◌⊎◌, refl, sym, ap, ◌∙◌, subst, arith, inl, inr, List, [], ◌∷◌, length, filter, map, take, drop, get_or, min, Bool, true, false, cond, not, ◌&&◌, eqb, eq-eqb, ne_eqb, Some, None}
+use Rattle.std.proofs.Common.{ℕ, zero, suc, ◌<◌, ◌≤◌, ◌≡◌, ◌≢◌, ◌+◌, ◌⊎◌, refl, sym, ap, ◌∙◌, subst, arith, inl, inr, List, [], ◌∷◌, length, filter, get_or, Bool, true, false, cond, not, ◌&&◌, eqb, eq-eqb, ne_eqb, Some, None}
 use Rattle.std.specs.List.{range_with_len, AllByRecursion}
-use Rattle.std.specs.Int.{bit_at}
-use Rattle.std.proofs.lemmas.Bool.{cases_eq, cases_lt, cases_Bool, false≢true, not-true, and_parts, eqb-true}
+use Rattle.std.proofs.lemmas.Bool.{cases_eq, cases_Bool, false≢true, not-true, and_parts}
 use Rattle.std.proofs.lemmas.Bool.Decides.{nat_tests}
-use Rattle.std.proofs.lemmas.Nat.Bits.{bit_at-lt, bit_at-zero, same_from_bits}
-use Rattle.std.proofs.Math.Nat.{mul-le-mul_right}
-use Rattle.std.proofs.lemmas.List.{get_or-take, get_or-drop, get_or_past, length-take}
-use Rattle.std.proofs.lemmas.List.FromFn.{get_or-map-range_with_len, length-map-range_with_len, fill_by_all}
 use Rattle.surf_z2.specs.Parity.{any_below}
-use Rattle.surf_z2.specs.Sieve.{has}
-use Rattle.surf_z2.specs.Words.{number}
-use Rattle.surf_z2.proofs.Below.{below_law}
-use Rattle.surf_z2.proofs.Words.{bit_number}
-use Rattle.surf_homology.specs.Cells.{dual, Split, IsSplit, signature}
+use Rattle.surf_homology.specs.Cells.{dual, IsSplit}
 use Rattle.surf_homology.specs.Trees.{Tree, in_tree}
 use Rattle.surf_homology.proofs.Trees.{tree_edge}
-use Rattle.surf_homology.proofs.CellLaws.{outside_joins, signature_is}
+use Rattle.surf_homology.proofs.CellLaws.{outside_joins}
 use Rattle.surf_homology.proofs.Counting.{left_edges as left_count}
+use Rattle.surf_sign.proofs.Passing.{passing_same}
 use Rattle.surf_complex.specs.Mesh.{Mesh}
 use Rattle.surf_complex.specs.Surface.{edge_count, face_count, faces_of, IsSurface}
 use Rattle.surf_complex.specs.Cells.{cells_of}
 use Rattle.surf_complex.specs.Loop.{loop_length}
-use Rattle.surf_complex.specs.Signature.{edge_signature}
 use Rattle.surf_complex.specs.Cotree.{tree_edges, cotree_edges, is_left, left_edges, split_of, precedes, IsHeaviestCotree}
 use Rattle.surf_complex.proofs.CellLaws.{surfaces_are_cells}
 use Rattle.surf_complex.proofs.CotreeLaws.{Climbs, passing_climb, passing_each, passing_found, not-false_is, between_inside}
-use Rattle.surf_cotree.specs.Tables.{CotreeTables, nobody, tree_of, IsMadeFor, rows_of, split_with, loop_count, width_for, words_for}
+use Rattle.surf_cotree.specs.Tables.{CotreeTables, nobody, tree_of, IsMadeFor, split_with, loop_count, width_for}
 use Rattle.surf_cotree.specs.Searches.{at, outside, is_unmarked, Connects, IsHeaviestTree}
 use Rattle.surf_cotree.specs.Grown.{IsMarked, MarkTree, AreLoopLengths, IsGrown, IsGrownOn}
-use Rattle.surf_cotree.specs.Signs.{sign_bit, has_left}
-
--- ---- rows of a flat table
-
-pub rows-length : (words count : ℕ) (signs : List ℕ) → length (rows_of words count signs) ≡ count
-rows-length words count signs = length-map-range_with_len (λ e. number (take words (drop (e * words) signs))) 0 count
-
-pub rows-at : (words count : ℕ) (signs : List ℕ) (e : ℕ) → e < count → get_or (rows_of words count signs) e 0 ≡ number (take words (drop (e * words) signs))
-rows-at words count signs e l = get_or-map-range_with_len (λ e. number (take words (drop (e * words) signs))) 0 count e e 0 l (omega arith)
 
 -- ---- numbers that pass a test
 
@@ -57,18 +39,6 @@ all_at : (P : ℕ → Type 0) (xs : List ℕ) (k : ℕ) → AllByRecursion P xs 
 all_at P [] k h l = absurd (omega arith)
 all_at P (x ∷ xs) zero h l = h.0
 all_at P (x ∷ xs) (suc k) h l = all_at P xs k h.1 (omega arith)
-
-passing_same : (p q : ℕ → Bool) (a n : ℕ) → ((k : ℕ) → k < a + n → p k ≡ q k) → filter p (range_with_len a n) ≡ filter q (range_with_len a n)
-passing_same p q a zero h = refl
-passing_same p q a (suc n) h =
-    let here : p a ≡ q a = h a (omega arith) in
-    let rest = passing_same p q (a + 1) n (λ k l. h k (omega arith)) in
-    rw here (split (q a) rest)
-  where
-    split : (b : Bool) → filter p (range_with_len (a + 1) n) ≡ filter q (range_with_len (a + 1) n) →
-        cond b (a ∷ filter p (range_with_len (a + 1) n)) (filter p (range_with_len (a + 1) n)) ≡ cond b (a ∷ filter q (range_with_len (a + 1) n)) (filter q (range_with_len (a + 1) n))
-    split true e = ap (λ xs. a ∷ xs) e
-    split false e = e
 
 any_same : (n : ℕ) (p q : ℕ → Bool) → ((k : ℕ) → k < n → p k ≡ q k) → any_below n p ≡ any_below n q
 any_same zero p q h = refl
@@ -191,77 +161,9 @@ module _ (mesh : Mesh) (marks : List Bool) (weight : ℕ → ℕ) (t : CotreeTab
         chosen = λ lengths tree m loops. heaviest_is tree m lengths loops;
       }
 
--- ---- signatures
-
-bit_from_has : (x y i : ℕ) → has x i ≡ has y i → bit_at x i ≡ bit_at y i
-bit_from_has x y i h =
-    let a = bit_at-lt x i in
-    let b = bit_at-lt y i in
-    elim (cases_eq (bit_at x i) 1) [
-      | inl one ↦ one ∙ sym (eqb-true (bit_at y i) 1 (sym h ∙ eq-eqb (bit_at x i) 1 one))
-      | inr ne ↦ elim (cases_eq (bit_at y i) 1) [
-        | inl one ↦ absurd (ne (eqb-true (bit_at x i) 1 (h ∙ eq-eqb (bit_at y i) 1 one)))
-        | inr other ↦ omega (arith, a, b, ne, other)
-      ]
-    ]
-
-module _ (mesh : Mesh) (d : Split) (surface : IsSurface mesh) (split : IsSplit (cells_of mesh) d) (words : ℕ) (signs : List ℕ)
-    (fit : (k : ℕ) → get_or signs k 0 < 2 ^ 64) (enough : length d.left ≤ 64 * words)
-    (rest : (e k : ℕ) → length d.left ≤ k → k < 64 * words → sign_bit signs words e k ≡ false)
-    (signed : (e k : ℕ) → k < length d.left → sign_bit signs words e k ≡ has_left (dual (cells_of mesh)) d.cotree (get_or d.left k 0) e) where
-  row_of : ℕ → List ℕ
-  row_of e = take words (drop (e * words) signs)
-
-  row_word : (e j : ℕ) → j < words → get_or (take words (drop (e * words) signs)) j 0 ≡ get_or signs (e * words + j) 0
-  row_word e j l = get_or-take words (drop (e * words) signs) j 0 l ∙ get_or-drop (e * words) signs j 0
-
-  row_past : (e j : ℕ) → words ≤ j → get_or (take words (drop (e * words) signs)) j 0 ≡ 0
-  row_past e j l =
-      let n : length (take words (drop (e * words) signs)) ≡ min words (length (drop (e * words) signs)) = length-take words (drop (e * words) signs) in
-      get_or_past (take words (drop (e * words) signs)) j 0 (omega (arith, n))
-
-  row_fits : (e j : ℕ) → get_or (take words (drop (e * words) signs)) j 0 < 2 ^ 64
-  row_fits e j = elim (cases_lt j words) [
-    | inl l ↦ subst (λ x. x < 2 ^ 64) (sym (row_word e j l)) (fit (e * words + j))
-    | inr past ↦ subst (λ x. x < 2 ^ 64) (sym (row_past e j past)) (omega arith)
-  ]
-
-  row_bit : (e i : ℕ) → i < 64 * words → has (number (take words (drop (e * words) signs))) i ≡ sign_bit signs words e i
-  row_bit e i l =
-      let lw : i / 64 < words = omega arith in
-      ap (λ x. eqb x 1) (bit_number (take words (drop (e * words) signs)) i (row_fits e) ∙ ap (λ x. bit_at x (i % 64)) (row_word e (i / 64) lw))
-
-  row_none : (e i : ℕ) → 64 * words ≤ i → has (number (take words (drop (e * words) signs))) i ≡ false
-  row_none e i l =
-      let lw : words ≤ i / 64 = omega arith in
-      ap (λ x. eqb x 1) (bit_number (take words (drop (e * words) signs)) i (row_fits e) ∙ ap (λ x. bit_at x (i % 64)) (row_past e (i / 64) lw) ∙ bit_at-zero (i % 64))
-
-  signature_bit : (e k : ℕ) → e < edge_count mesh → k < length d.left → has (edge_signature mesh d e) k ≡ has_left (dual (cells_of mesh)) d.cotree (get_or d.left k 0) e
-  signature_bit e k l lk =
-      below_law.member (length d.left) (signature (cells_of mesh) d e) k lk
-      ∙ signature_is (cells_of mesh) d (surfaces_are_cells mesh surface).complex split e k l lk
-
-  signature_none : (e k : ℕ) → length d.left ≤ k → has (edge_signature mesh d e) k ≡ false
-  signature_none e k l = below_law.no_member (length d.left) (signature (cells_of mesh) d e) k l
-
-  row_is : (e : ℕ) → e < edge_count mesh → number (take words (drop (e * words) signs)) ≡ edge_signature mesh d e
-  row_is e l = same_from_bits (number (take words (drop (e * words) signs))) (edge_signature mesh d e) (λ i.
-      bit_from_has (number (take words (drop (e * words) signs))) (edge_signature mesh d e) i (elim (cases_lt i (64 * words)) [
-        | inl li ↦ elim (cases_lt i (length d.left)) [
-          | inl lk ↦ row_bit e i li ∙ signed e i lk ∙ sym (signature_bit e i l lk)
-          | inr past ↦ row_bit e i li ∙ rest e i past li ∙ sym (signature_none e i past)
-        ]
-        | inr past ↦ row_none e i past ∙ sym (signature_none e i (omega arith))
-      ]))
-
-  pub rows_are_signatures : rows_of words (edge_count mesh) signs ≡ map (edge_signature mesh d) (range_with_len 0 (edge_count mesh))
-  rows_are_signatures =
-      fill_by_all (edge_signature mesh d) (rows_of words (edge_count mesh) signs) (edge_count mesh) 0 (rows-length words (edge_count mesh) signs)
-      (λ e l. rows-at words (edge_count mesh) signs e l ∙ row_is e l)
-
 -- there is room for the signatures of as many left edges as there are
-pub words_enough : (mesh : Mesh) (t : CotreeTables) → IsGrownOn mesh t → length t.left ≤ 1024 → length t.left ≤ 64 * words_for t.width
-words_enough mesh t g few =
+pub width_enough : (mesh : Mesh) (t : CotreeTables) → IsGrownOn mesh t → length t.left ≤ 1024 → length t.left ≤ t.width
+width_enough mesh t g few =
     let count : length t.left + (mesh.vertices + face_count mesh) ≡ edge_count mesh + 2 = left_count (cells_of mesh) (split_with g.tree t) g.split in
     let loops : loop_count mesh ≡ length t.left = omega (arith, count) in
     let width : t.width ≡ length t.left = g.made.width ∙ ap width_for loops ∙ small (length t.left) few in
@@ -269,9 +171,3 @@ words_enough mesh t g few =
   where
     small : (n : ℕ) → n ≤ 1024 → width_for n ≡ n
     small n l = grind (arith, nat_tests)
-
-pub cell_room : (count words e len : ℕ) → e < count → len ≡ count * words → e * words + words ≤ len
-cell_room count words e len l is =
-    let up : e + 1 ≤ count = omega arith in
-    let m : (e + 1) * words ≤ count * words = mul-le-mul_right words up in
-    omega (arith, m, is)

@@ -1,4 +1,3 @@
 pub mod Tables
 pub mod Searches
 pub mod Grown
-pub mod Signs

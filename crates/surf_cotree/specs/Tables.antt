@@ -1,7 +1,5 @@
 -- What a cotree desk shows: the tables of one tree of faces.
-use Rattle.std.specs.Prelude.{◌≡◌, ℕ, ◌+◌, ◌-◌, ◌*◌, ◌/◌, ◌==◌, nat_le, map, take, drop, Bool, List, length, slice_index, Option, Some, None, if◌then◌else◌}
-use Rattle.std.specs.List.{range_with_len}
-use Rattle.surf_z2.specs.Words.{number}
+use Rattle.std.specs.Prelude.{◌≡◌, ℕ, ◌+◌, ◌-◌, ◌==◌, nat_le, Bool, List, length, slice_index, Option, Some, None, if◌then◌else◌}
 use Rattle.surf_homology.specs.Cells.{Split}
 use Rattle.surf_homology.specs.Trees.{Tree}
 use Rattle.surf_complex.specs.Mesh.{Mesh}
@@ -34,14 +32,6 @@ tree_of t = record { root = 0; parent = slice_index t.parents; up = slice_index 
 -- that tree and the left edges, with a tree of the vertices
 abbrev pub split_with : Tree → CotreeTables → Split
 split_with tree t = record { tree = tree; cotree = tree_of t; left = t.left }
-
--- how many words of 64 bits a signature has
-abbrev pub words_for : ℕ → ℕ
-words_for width = (width + 63) / 64
-
--- the sets of a flat table with as many words for each of them
-abbrev pub rows_of : ℕ → ℕ → List ℕ → List ℕ
-rows_of words count signs = map (λ e. number (take words (drop (e * words) signs))) (range_with_len 0 count)
 
 -- two less the characteristic: how many edges are in neither tree
 abbrev pub loop_count : Mesh → ℕ

@@ -1,5 +1,5 @@
 //! The tables of one tree of faces.
-ghost use Rattle.std.specs.Prelude.{◌≡◌, ◌<◌, ◌≤◌, ◌+◌, ◌/◌, length, slice_index, slice_index_or, map, take, drop, false, IfOk, Bool, ℕ, List};
+ghost use Rattle.std.specs.Prelude.{◌≡◌, ◌<◌, ◌≤◌, length, slice_index, slice_index_or, map, false, IfOk, Bool, ℕ, List};
 ghost use Rattle.std.specs.List.{range_with_len};
 ghost use Rattle.surf_homology.specs.Cells.{Split, IsSplit};
 ghost use Rattle.surf_homology.specs.Trees.{Tree};
@@ -12,13 +12,13 @@ ghost use Rattle.surf_cotree.specs.Grown.{MarkTree, IsGrown, IsGrownOn};
 
 use crate::listing::{list_left, mark_edges};
 use crate::search::{NOBODY, span};
-use crate::signing::write_signs;
 use std::alloc::Global;
 use std::marker::Model;
 use surf_base::{EdgeId, FaceId, NoMemory};
 use surf_bits::Bits;
 use surf_heap::Heap;
 use surf_mesh::HalfMesh;
+use surf_sign::Signs;
 
 /// The heaviest tree of the faces outside a tree of the vertices: for each face the edge to its parent and the number of
 /// edges to face 0, for each edge whether the tree has it, the edges that are left, and the signatures of all edges.
@@ -30,13 +30,12 @@ pub struct CotreeDesk {
     up: Vec<u32>,
     held: Vec<bool>,
     left: Vec<EdgeId>,
-    width: u32,
-    signs: Vec<u64>,
+    signs: Signs,
 }
 
 impl Model for CotreeDesk {
-    ghost use Rattle.std.specs.Prelude.{◌≡◌, ◌≤◌, ◌*◌, length, vec_capacity};
-    ghost use Rattle.surf_cotree.specs.Tables.{CotreeTables, words_for, rows_of};
+    ghost use Rattle.std.specs.Prelude.{◌≡◌, ◌≤◌, length, vec_capacity};
+    ghost use Rattle.surf_cotree.specs.Tables.{CotreeTables};
 
     ghost Value = { CotreeTables };
 
@@ -46,14 +45,12 @@ impl Model for CotreeDesk {
       parents = d.parent.items;
       ups = d.up.items;
       depths = d.depth.items;
-      width = d.width;
-      signatures = rows_of (words_for d.width) (length d.held.items) d.signs.items;
+      width = d.signs.width;
+      signatures = d.signs.sets;
     } };
 
     ghost invariant = { λ d. (length d.heap ≡ length d.depth.items)
-        × (length d.held.items ≤ vec_capacity d.left)
-        × (d.width ≤ 1024)
-        × (length d.signs.items ≡ length d.held.items * words_for d.width) };
+        × (length d.held.items ≤ vec_capacity d.left) };
 }
 
 // How many edges are in neither tree.
@@ -73,22 +70,6 @@ fn width_of(loops: usize) -> u32
     if loops <= 1024 { loops as u32 } else { 0 }
 }
 
-// How many words a signature has.
-fn words_of(width: u32) -> usize
-    requires width { width ≤ 1024 }
-    ensures words { result ≡ (width + 63) / 64 }
-{
-    (width as usize + 63) / 64
-}
-
-// So many words of a table from a place on.
-fn words_at(signs: &[u64], start: usize, words: usize) -> &[u64]
-    requires room { start + words ≤ length signs.now }
-    ensures words { result.now ≡ take words (drop start signs.now) }
-{
-    &signs[start..start + words]
-}
-
 impl CotreeDesk {
     /// A desk for the trees of a mesh, and of every mesh with as many vertices, edges and faces. No later call takes
     /// memory. Signatures have as many words as two less the characteristic needs; where that is more than 1,024, which
@@ -105,7 +86,7 @@ impl CotreeDesk {
         let up = vec![in alloc; 0u32; faces]?;
         let held = vec![in alloc; false; edges]?;
         let left = Vec::with_capacity(alloc, edges)?;
-        let signs = vec![in alloc; 0u64; edges * words_of(width)]?;
+        let signs = Signs::make(alloc, mesh.edges(), width)?;
         Ok(CotreeDesk {
             heap,
             depth,
@@ -113,7 +94,6 @@ impl CotreeDesk {
             up,
             held,
             left,
-            width,
             signs,
         })
     }
@@ -187,16 +167,8 @@ impl CotreeDesk {
         ensures made { IsMadeFor mesh.now self.new }
     {
         let _surface = mesh.faces();
-        let words = words_of(self.width);
-        write_signs(
-            mesh,
-            &self.parent,
-            &self.up,
-            &self.depth,
-            &self.left,
-            &mut self.signs,
-            words,
-        );
+        self.signs
+            .write(mesh, &self.parent, &self.up, &self.depth, &self.left);
     }
 
     /// The signature of an edge, lent: the places in `left` whose loops make up that of the edge.
@@ -204,7 +176,6 @@ impl CotreeDesk {
         requires edge { e < length self.now.signatures }
         ensures signature { result ≡ slice_index self.now.signatures e }
     {
-        let words = words_of(self.width);
-        Bits::over(words_at(&self.signs, e.index() * words, words))
+        self.signs.signature(e)
     }
 }

@@ -14,6 +14,5 @@
 mod desk;
 mod listing;
 mod search;
-mod signing;
 
 pub use desk::CotreeDesk;

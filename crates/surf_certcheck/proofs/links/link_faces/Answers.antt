@@ -19,5 +19,9 @@ loop-f-preserved c =
     let is : HasLink mesh f (side_at dual f) face edge =
     subst (λ o. HasLink mesh f o face edge) here
     (subst (λ g. HasLink mesh g c.index-side-f.result face edge) c.new.ensures c.link_over-face.ensures.link) in
+    let by_number : HasLink mesh f (side_at dual f) c.number.result edge =
+    subst (λ g. HasLink mesh f (side_at dual f) g edge) (sym c.number.ensures) is in
     rw (c.in_ok-push.ensures.items, c.in_ok-push-2.ensures.items)
-    (links_more mesh dual f c.loop-f.parent.items c.loop-f.up.items face edge c.loop-f.invariant is)
+    (links_more mesh dual f c.loop-f.parent.items c.loop-f.up.items c.number.result c.number-in-loop-f.result
+    c.loop-f.invariant
+    (subst (HasLink mesh f (side_at dual f) c.number.result) (sym c.number-in-loop-f.ensures) by_number))

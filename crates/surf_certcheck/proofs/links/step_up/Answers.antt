@@ -11,16 +11,16 @@ returns c =
     let links = c.args.links.now in
     let at = c.args.at in
     let is = c.requires.links.each at c.requires.face in
-    let face : c.index-2.result.now ≡ get_or links.parent.items at 0 =
-    c.index-2.ensures ∙ ap (λ i. get_or links.parent.items i c.index-2.result.now) c.index.ensures
+    let face : c.new.result ≡ get_or links.parent.items at 0 =
+    c.new.ensures ∙ c.index-2.ensures ∙ ap (λ i. get_or links.parent.items i c.index-2.result.now) c.index.ensures
     ∙ get_or_default links.parent.items at c.index-2.result.now 0
     (omega (arith, c.requires.links.parents, c.requires.face)) in
-    let edge : c.index-4.result.now ≡ get_or links.up.items at 0 =
-    c.index-4.ensures ∙ ap (λ i. get_or links.up.items i c.index-4.result.now) c.index-3.ensures
+    let edge : c.new-2.result ≡ get_or links.up.items at 0 =
+    c.new-2.ensures ∙ c.index-4.ensures ∙ ap (λ i. get_or links.up.items i c.index-4.result.now) c.index-3.ensures
     ∙ get_or_default links.up.items at c.index-4.result.now 0 (omega (arith, c.requires.links.ups, c.requires.face)) in
     record {
-      step = step_is mesh c.args.dual.now at c.index-2.result.now c.index-4.result.now
+      step = step_is mesh c.args.dual.now at c.new.result c.new-2.result
           c.faces-surface.ensures.surface c.requires.tree c.requires.face c.requires.below
-          (subst (λ f. HasLink mesh at (side_at c.args.dual.now at) f c.index-4.result.now) (sym face)
+          (subst (λ f. HasLink mesh at (side_at c.args.dual.now at) f c.new-2.result) (sym face)
           (subst (HasLink mesh at (side_at c.args.dual.now at) (get_or links.parent.items at 0)) (sym edge) is));
     }

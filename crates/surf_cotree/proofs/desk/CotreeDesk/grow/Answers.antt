@@ -4,9 +4,9 @@ use Rattle.std.proofs.lemmas.List.{with_items_is}
 use Rattle.std.specs.Vec.{with_items}
 use Rattle.surf_z2.specs.Parity.{any_below}
 use Rattle.surf_complex.specs.Surface.{edge_count, face_count}
-use Rattle.surf_cotree.specs.Tables.{CotreeTables, nobody, rows_of, words_for, IsMadeFor}
+use Rattle.surf_cotree.specs.Tables.{CotreeTables, nobody, IsMadeFor}
 use Rattle.surf_cotree.specs.Searches.{at, is_unmarked}
-use Rattle.surf_cotree.proofs.Tabled.{unmarked_join, grown_tables, rows-length}
+use Rattle.surf_cotree.proofs.Tabled.{unmarked_join, grown_tables}
 use Rattle.surf_cotree.proofs.desk.CotreeDesk.grow.Goals as goal
 
 pub span-requires-clause-connects : goal.span-requires-clause-connects
@@ -36,7 +36,7 @@ returns c =
     let listed : c.list_left.new.left.items ≡ filter (is_unmarked marks held) (range_with_len 0 (edge_count mesh)) =
     subst (λ m. c.list_left.new.left.items ≡ filter (is_unmarked marks held) (range_with_len 0 m)) c.requires.marks (rw (c.deref-2.ensures.value, held_is) at c.list_left.ensures.listed)
     in
-    let t : CotreeTables = record { held = held; left = c.list_left.new.left.items; parents = parent; ups = up; depths = depth; width = d.width; signatures = rows_of (words_for d.width) (length held) d.signs.items } in
+    let t : CotreeTables = record { held = held; left = c.list_left.new.left.items; parents = parent; ups = up; depths = depth; width = d.signs.width; signatures = d.signs.sets } in
     rw (depth_is, parent_is, up_is, held_is) (record {
       grown = grown_tables mesh marks (at c.args.weight.now) t (record {
         surface = c.faces-surface.ensures.surface;
@@ -47,7 +47,7 @@ returns c =
           ups = long;
           depths = omega (arith, c.deref_mut.ensures.value, here.depths);
           width = here.width;
-          signatures = rows-length (words_for d.width) (length held) d.signs.items ∙ wide;
+          signatures = here.signatures;
         };
         some_tree = c.requires.tree;
         heavy = c.span.ensures.heaviest;

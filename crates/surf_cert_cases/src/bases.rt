@@ -1,0 +1,219 @@
+//! Certificates of bases, with a line edited or other cycles.
+use crate::edit::edited;
+use crate::texts::{SCATTERED, SCATTERED_TREES, TORUS, TREES};
+use std::alloc::Global;
+use std::test::Fail;
+use surf_base::{FaceId, VertexId};
+use surf_cert::{BasisCert, Cert, DualRows, TreeRows, read_cert};
+use surf_certcheck::{CertFault, CertPart, check_basis};
+use surf_check::check;
+use surf_lengths::{Lengths, unit_lengths};
+use surf_mesh::{HalfMesh, Walk};
+use surf_off::read_off;
+
+// The torus.
+fn torus(alloc: Global) -> Result<HalfMesh, Fail> {
+    if TORUS.len() > 10_000 {
+        return Err("a long text")?;
+    }
+    let Ok((_, soup)) = read_off(alloc, TORUS.as_bytes()) else {
+        return Err("a mesh")?;
+    };
+    match check(alloc, soup) {
+        Ok(mesh) => Ok(mesh),
+        Err(_) => Err("a surface")?,
+    }
+}
+
+// The certificate of a text, with these cycles, each on a line.
+fn cert_of(alloc: Global, trees: &[u8], cycles: &str) -> Result<BasisCert, Fail> {
+    if trees.len() > 10_000 || cycles.len() > 1000 {
+        return Err("a long text")?;
+    }
+    let mut text = trees.to_vec(alloc)?;
+    text.extend_from_slice(b"cycles\n")?;
+    text.extend_from_slice(cycles.as_bytes())?;
+    if text.len() > 20_000 {
+        return Err("a long text")?;
+    }
+    match read_cert(alloc, &text) {
+        Ok(Cert::Basis(cert)) => Ok(cert),
+        _ => Err("a certificate of a basis")?,
+    }
+}
+
+// What the checker says for length 1.
+fn judged(alloc: Global, cert: &BasisCert) -> Result<Result<u128, CertFault>, Fail> {
+    let mesh = torus(alloc)?;
+    let Ok(lengths) = unit_lengths(alloc, &mesh) else {
+        return Err("memory")?;
+    };
+    Ok(check_basis(alloc, &mesh, &lengths, cert))
+}
+
+#[test]
+fn cycles_and_their_faults(rt: HostRuntime) -> Result<(), Fail> {
+    let alloc = rt.alloc();
+    let v = VertexId::new;
+    let cases = [
+        ("0 1 2 0\n0 3 6 0\n", Ok(6)),
+        ("0 3 6 0\n0 1 2 0\n", Ok(6)),
+        ("0 1 2\n0 3 6 0\n", Err(CertFault::NotClosed { place: 0 })),
+        ("0 1 2 0\n0 3 8 0\n", Err(CertFault::NotClosed { place: 1 })),
+        ("9\n0 3 6 0\n", Err(CertFault::Dependent { place: 0 })),
+        ("0 1 2 0\n0 3 4 0\n", Err(CertFault::Dependent { place: 1 })),
+        ("0 1 2 0\n0 1 2 0\n", Err(CertFault::Dependent { place: 1 })),
+        (
+            "0 1 2 0\n0 3 7 6 0\n",
+            Err(CertFault::Uncovered {
+                base: v(0),
+                u: v(3),
+                v: v(6),
+            }),
+        ),
+    ];
+    for (cycles, want) in cases {
+        let cert = cert_of(alloc, TREES.as_bytes(), cycles)?;
+        assert_eq!(rt; judged(alloc, &cert)?, want);
+    }
+    Ok(())
+}
+
+#[test]
+fn trees_and_their_faults(rt: HostRuntime) -> Result<(), Fail> {
+    let alloc = rt.alloc();
+    let v = VertexId::new;
+    let cases = [
+        (
+            (4, "1 0"),
+            (0, ""),
+            CertFault::Parent {
+                base: v(0),
+                vertex: v(0),
+            },
+        ),
+        (
+            (5, "7 0"),
+            (14, "1 -"),
+            CertFault::Parent {
+                base: v(1),
+                vertex: v(0),
+            },
+        ),
+        (
+            (12, "3 5"),
+            (84, "2 8"),
+            CertFault::Distance {
+                base: v(8),
+                vertex: v(0),
+            },
+        ),
+        (
+            (12, "3 5"),
+            (95, "4 1 4"),
+            CertFault::Slack {
+                base: v(0),
+                u: v(0),
+                v: v(8),
+            },
+        ),
+        (
+            (95, "4 1 4"),
+            (113, "1 3"),
+            CertFault::Dual {
+                face: FaceId::new(1),
+            },
+        ),
+        ((113, "1 3"), (0, ""), CertFault::Split { u: v(1), v: v(2) }),
+    ];
+    for ((place, line), (other_place, other_line), want) in cases {
+        let text = edited(alloc, TREES.as_bytes(), place, line)?;
+        let text = edited(alloc, &text, other_place, other_line)?;
+        let cert = cert_of(alloc, &text, "0 1 2 0\n0 1 2 0\n")?;
+        assert_eq!(rt; judged(alloc, &cert)?, Err(want));
+    }
+    Ok(())
+}
+
+// The same certificate, with this base for the tree at vertex 0 and so many trees.
+fn rebased(
+    alloc: Global,
+    cert: &BasisCert,
+    base: VertexId,
+    most: usize,
+) -> Result<BasisCert, Fail> {
+    let mut trees = Vec::new(alloc);
+    for rows in cert.trees() {
+        let at = if trees.is_empty() { base } else { rows.base() };
+        let tree = TreeRows::make(
+            at,
+            rows.distance().to_vec(alloc)?,
+            rows.parent().to_vec(alloc)?,
+        );
+        if trees.len() < most {
+            trees.push(tree)?;
+        }
+    }
+    let mut cycles = Vec::new(alloc);
+    for walk in cert.cycles() {
+        cycles.push(Walk::from_vertices(walk.vertices().to_vec(alloc)?))?;
+    }
+    let dual = DualRows::make(
+        cert.dual().depth().to_vec(alloc)?,
+        cert.dual().side().to_vec(alloc)?,
+    );
+    Ok(BasisCert::make(trees, dual, cert.left().to_vec(alloc)?, cycles))
+}
+
+#[test]
+fn sizes_and_bases(rt: HostRuntime) -> Result<(), Fail> {
+    let alloc = rt.alloc();
+    let v = VertexId::new;
+    let cert = cert_of(alloc, TREES.as_bytes(), "0 1 2 0\n0 3 6 0\n")?;
+    let cases = [
+        (v(0), 9, Ok(6)),
+        (
+            v(1),
+            9,
+            Err(CertFault::Shape {
+                part: CertPart::Base,
+            }),
+        ),
+        (
+            v(1),
+            8,
+            Err(CertFault::Shape {
+                part: CertPart::Vertices,
+            }),
+        ),
+    ];
+    for (base, most, want) in cases {
+        let other = rebased(alloc, &cert, base, most)?;
+        assert_eq!(rt; judged(alloc, &other)?, want);
+    }
+    Ok(())
+}
+
+#[test]
+fn lengths_that_differ(rt: HostRuntime) -> Result<(), Fail> {
+    let alloc = rt.alloc();
+    let v = VertexId::new;
+    let mesh = torus(alloc)?;
+    let lengths = Lengths::from_values(Vec::from_array(alloc, SCATTERED)?);
+    let cases = [
+        ("2 5 3 7 2\n2 5 8 7 2\n", Ok(170)),
+        (
+            "0 1 2 0\n0 3 7 2 0\n",
+            Err(CertFault::Uncovered {
+                base: v(2),
+                u: v(3),
+                v: v(7),
+            }),
+        ),
+    ];
+    for (cycles, want) in cases {
+        let cert = cert_of(alloc, SCATTERED_TREES.as_bytes(), cycles)?;
+        assert_eq!(rt; check_basis(alloc, &mesh, &lengths, &cert), want);
+    }
+    Ok(())
+}

@@ -1,0 +1,16 @@
+use Rattle.surf_certcheck.proofs.BasisFaults.{least_where_ok, none_where_err}
+use Rattle.surf_certcheck.proofs.Totals.{positive_lengths}
+use Rattle.surf_certcheck.proofs.basis.check_basis.Goals as goal
+
+pub returns-clause-least : goal.returns-clause-least
+returns-clause-least c =
+    let mesh = c.args.mesh.now in
+    let lengths = c.args.lengths.now in
+    least_where_ok mesh lengths c.args.cert.now c.edges-surface.ensures.surface
+    (positive_lengths mesh lengths c.count-positive.ensures.lengths c.requires.lengths) c.check_edges.result
+    c.check_edges.ensures.valid
+
+pub returns-clause-excludes : goal.returns-clause-excludes
+returns-clause-excludes c =
+    none_where_err c.args.mesh.now c.args.lengths.now c.args.cert.now c.edges-surface.ensures.surface
+    c.check_edges.result c.check_edges.ensures.fault

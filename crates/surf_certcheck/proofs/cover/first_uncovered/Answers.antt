@@ -1,0 +1,83 @@
+use Rattle.std.proofs.Common.{rules, ◌≡◌, ◌<◌, ◌∙◌, ℕ, length, map, sym, ap, subst, arith}
+use Rattle.surf_complex.specs.Surface.{edge_count}
+use Rattle.surf_valid.specs.Bases.{tree_at, split_in, weighed_cycle, IsCovered}
+use Rattle.surf_certcheck.specs.BasisFaults.{AreCovered, IsFirstAt}
+use Rattle.surf_certcheck.specs.Climbs.{IsClimbed}
+use Rattle.surf_certcheck.specs.First.{HoldsBelow, FailsFirst}
+use Rattle.surf_certcheck.specs.Frames.{IsCoveredBy}
+use Rattle.surf_certcheck.proofs.Bases.{first_at, holds_more}
+use Rattle.surf_certcheck.proofs.Totals.{positive_lengths}
+use Rattle.surf_certcheck.proofs.Independence.{frame_whole}
+use Rattle.surf_certcheck.proofs.Validity.{climbed_at}
+use Rattle.surf_certcheck.proofs.cover.first_uncovered.Goals as goal
+
+pub find_ups-requires-clause-climbed : goal.find_ups-requires-clause-climbed
+find_ups-requires-clause-climbed c =
+    let mesh = c.args.mesh.now in
+    let cert = c.args.cert.now in
+    let is : c.tree_from-rows.result.now ≡ tree_at cert c.loop-x.x =
+    c.tree_from-rows.ensures.tree ∙ ap (tree_at cert) c.new-base.ensures in
+    subst (IsClimbed mesh) (sym is)
+    (climbed_at mesh c.args.lengths.now cert c.vertices-x-end.ensures.surface
+    (positive_lengths mesh c.args.lengths.now c.count-positive.ensures.lengths c.requires.lengths) c.requires.trees
+    c.requires.bases c.requires.valid c.loop-x.x (omega (arith, c.loop-x-test.true, c.vertices-x-end.ensures.count)))
+
+pub first_at-requires-clause-climbed : goal.first_at-requires-clause-climbed
+first_at-requires-clause-climbed c =
+    let mesh = c.args.mesh.now in
+    let cert = c.args.cert.now in
+    let is : c.tree_from-rows.result.now ≡ tree_at cert c.loop-x.x =
+    c.tree_from-rows.ensures.tree ∙ ap (tree_at cert) c.new-base.ensures in
+    subst (IsClimbed mesh) (sym is)
+    (climbed_at mesh c.args.lengths.now cert c.vertices-x-end.ensures.surface
+    (positive_lengths mesh c.args.lengths.now c.count-positive.ensures.lengths c.requires.lengths) c.requires.trees
+    c.requires.bases c.requires.valid c.loop-x.x (omega (arith, c.loop-x-test.true, c.vertices-x-end.ensures.count)))
+
+pub returns-in-Some : goal.returns-in-Some
+returns-in-Some c =
+    let mesh = c.args.mesh.now in
+    let lengths = c.args.lengths.now in
+    let cert = c.args.cert.now in
+    let d = split_in mesh cert in
+    let cycles = map (weighed_cycle mesh lengths cert) cert.cycles in
+    let frame = frame_whole mesh lengths cert c.args.frame.now.signs c.args.frame.now.weights.items c.requires.frame in
+    let x = c.loop-x.x in
+    let is : c.tree_from-rows.result.now ≡ tree_at cert x =
+    c.tree_from-rows.ensures.tree ∙ ap (tree_at cert) c.new-base.ensures in
+    let inside : x < mesh.vertices = omega (arith, c.loop-x-test.true, c.vertices-x-end.ensures.count) in
+    let first : FailsFirst (edge_count mesh) (IsCovered mesh lengths cert x) c.in-Some.edge =
+    subst (λ rows. FailsFirst (edge_count mesh) (IsCoveredBy mesh lengths d cycles rows) c.in-Some.edge) is
+    (c.in-Some.ensures.first d cycles frame) in
+    record {
+      first = subst
+          (λ y. IsFirstAt mesh.vertices (edge_count mesh) (IsCovered mesh lengths cert) y c.in-Some.edge)
+          (sym c.new-base.ensures)
+          (first_at mesh.vertices (edge_count mesh) (IsCovered mesh lengths cert) x c.in-Some.edge inside
+          c.loop-x.invariant.covered first);
+    }
+
+pub loop-x-preserved : goal.loop-x-preserved
+loop-x-preserved c =
+    let mesh = c.args.mesh.now in
+    let lengths = c.args.lengths.now in
+    let cert = c.args.cert.now in
+    let d = split_in mesh cert in
+    let cycles = map (weighed_cycle mesh lengths cert) cert.cycles in
+    let frame = frame_whole mesh lengths cert c.args.frame.now.signs c.args.frame.now.weights.items c.requires.frame in
+    let x = c.loop-x.x in
+    let is : c.tree_from-rows.result.now ≡ tree_at cert x =
+    c.tree_from-rows.ensures.tree ∙ ap (tree_at cert) c.new-base.ensures in
+    record {
+      count = c.find_ups.ensures.ups.count;
+      covered = holds_more x (AreCovered mesh lengths cert) c.loop-x.invariant.covered
+          (subst (λ rows. HoldsBelow (edge_count mesh) (IsCoveredBy mesh lengths d cycles rows)) is
+          (c.in_default.ensures.first d cycles frame));
+    }
+
+pub returns : goal.returns
+returns c =
+    let end : c.loop-x.x ≡ c.args.mesh.now.vertices = search rules in
+    record {
+      first = subst (λ n. HoldsBelow n (AreCovered c.args.mesh.now c.args.lengths.now c.args.cert.now)) end
+          c.loop-x.invariant.covered;
+    }

@@ -1,0 +1,17 @@
+use Rattle.std.proofs.Common.{◌≡◌, ◌<◌, ◌^◌, ◌∙◌, ℕ, Bool, true, false, length, sym, ap, subst, arith}
+use Rattle.std.specs.Bool.{MatchBool}
+use Rattle.surf_complex.specs.Loop.{loop_walk}
+use Rattle.surf_valid.specs.Valid.{tree_of}
+use Rattle.surf_certcheck.specs.Frames.{weighed_through}
+use Rattle.surf_certcheck.proofs.Framing.{cover_tells, signature_small}
+use Rattle.surf_certcheck.proofs.cover.is_covered.Goals as goal
+
+pub returns : goal.returns
+returns c = record {
+  covered = λ d cycles f.
+      cover_tells c.args.mesh.now d cycles c.args.frame.now.signs c.args.frame.now.weights.items f
+      (weighed_through c.args.mesh.now c.args.lengths.now d c.args.rows.now c.args.e) c.loop_set-set.result
+      c.size_of.result c.is_placed.result (c.loop_set-set.ensures.sum d f.to f.taken) (signature_small c.args.mesh.now d
+      (loop_walk c.args.mesh.now (tree_of c.args.mesh.now c.args.rows.now) c.args.e)) c.size_of.ensures.size
+      (rw c.deref.ensures.value at c.is_placed.ensures.placed);
+}

@@ -1,0 +1,16 @@
+use Rattle.std.proofs.Common.{◌≡◌, length}
+use Rattle.surf_complex.specs.Surface.{edge_count}
+use Rattle.surf_certcheck.specs.First.{HoldsBelow}
+use Rattle.surf_certcheck.specs.BasisFaults.{IsIndependentAt}
+use Rattle.surf_certcheck.specs.Frames.{IsFrameOf}
+use Rattle.surf_certcheck.proofs.frame.admit_all.Given as goal
+
+-- each cycle before has a place
+abbrev pub invariant-loop-place : goal.invariant-loop-place
+invariant-loop-place l = record {
+  count : length l.signs.sets ≡ edge_count l.mesh;
+  width : l.signs.width ≡ l.initial.signs.width;
+  places : length l.weights ≡ l.signs.width;
+  before : HoldsBelow l.place (IsIndependentAt l.mesh l.cert);
+  frame : IsFrameOf l.mesh l.lengths l.cert l.place l.signs l.weights;
+}

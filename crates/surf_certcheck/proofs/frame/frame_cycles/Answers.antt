@@ -1,0 +1,20 @@
+use Rattle.std.proofs.Common.{◌≡◌, ◌≤◌, ◌<◌, ◌∙◌, ℕ, None, Option, List, All, length, get_or, sym, ap, subst, arith, inl, inr}
+use Rattle.surf_valid.specs.Bases.{split_in}
+use Rattle.surf_certcheck.proofs.Framing.{frame_none, no_weight}
+use Rattle.surf_certcheck.proofs.Validity.{signed_at, signed_count}
+use Rattle.surf_certcheck.proofs.frame.frame_cycles.Goals as goal
+
+pub admit_all-requires-clause-count : goal.admit_all-requires-clause-count
+admit_all-requires-clause-count c =
+    signed_count c.args.mesh.now (split_in c.args.mesh.now c.args.cert.now) c.args.signs.sets c.requires.signed
+
+pub admit_all-requires-clause-frame : goal.admit_all-requires-clause-frame
+admit_all-requires-clause-frame c =
+    let mesh = c.args.mesh.now in
+    let d = split_in mesh c.args.cert.now in
+    let weights = c.in_ok-weights.weights.items in
+    let cycles = ap length c.cycles.ensures.cycles in
+    let count : length weights ≡ length d.left =
+    omega (arith, c.in_ok-weights.ensures.count, cycles, c.requires.places) in
+    rw c.deref_mut.ensures.value (frame_none mesh d c.args.signs weights
+    (signed_at mesh d c.args.signs.sets c.requires.signed) count (no_weight weights c.in_ok-weights.ensures.none))

@@ -1,0 +1,8 @@
+use Rattle.std.proofs.Common.{◌≡◌, filter}
+use Rattle.std.specs.List.{range_with_len}
+use Rattle.surf_certcheck.specs.Split.{is_flagged}
+use Rattle.surf_certcheck.proofs.signing.list_flagged.Given as goal
+
+-- the flagged edges before
+abbrev pub invariant-loop-e : goal.invariant-loop-e
+invariant-loop-e l = l.listed.items ≡ filter (is_flagged l.flags) (range_with_len 0 l.e)

@@ -1,0 +1,114 @@
+//! Whether a certificate of a basis is valid.
+ghost use Rattle.std.specs.Prelude.{◌≡◌, ◌≢◌, ◌≤◌, ◌+◌, ℕ, IfOk, IfErr, length};
+ghost use Rattle.surf_complex.specs.Homology.{total, IsLeastBasis};
+ghost use Rattle.surf_complex.specs.Surface.{edge_count, face_count};
+ghost use Rattle.surf_valid.specs.Bases.{IsValidBasis, HasShape, basis_total};
+ghost use Rattle.surf_valid.specs.Valid.{is_listed, IsDualValid};
+ghost use Rattle.surf_certcheck.specs.First.{HoldsBelow};
+ghost use Rattle.surf_certcheck.specs.Split.{AreFlags};
+ghost use Rattle.surf_certcheck.specs.BasisFaults.{AreTreesDivided, AreTreesValid, IsClosedAt, IsBasisFault};
+ghost use Rattle.surf_certcheck.specs.declared.fault.CertFault.TheVariants.{Memory};
+
+use crate::cover::first_uncovered;
+use crate::cycles::{first_open, total_length};
+use crate::dual::first_dual;
+use crate::edges::ends_inside;
+use crate::fault::CertFault;
+use crate::frame::frame_cycles;
+use crate::shape::{basis_shape, tree_from};
+use crate::signing::sign_edges;
+use crate::split::{first_split, mark_edges};
+use crate::trees::trees_fault;
+use std::alloc::Global;
+use surf_base::{EdgeId, VertexId};
+use surf_cert::BasisCert;
+use surf_lengths::Lengths;
+use surf_mesh::HalfMesh;
+
+// The total of a certificate whose trees divide the edges and whose cycles are closed, or its first fault.
+fn check_cycles(
+    alloc: Global,
+    mesh: &HalfMesh,
+    lengths: &Lengths,
+    cert: &BasisCert,
+    left: &[bool],
+) -> Result<u128, CertFault>
+    requires divided { AreTreesDivided mesh.now lengths.now cert.now }
+    requires closed { HoldsBelow (length cert.now.cycles) (IsClosedAt mesh.now cert.now) }
+    requires lengths { length lengths.now ≡ edge_count mesh.now }
+    requires few { edge_count mesh.now + 2 ≤ mesh.now.vertices + face_count mesh.now + 1024 }
+    requires left { AreFlags (edge_count mesh.now) (is_listed mesh.now cert.now.left) left.now }
+    ensures valid { IfOk result (λ t. IsValidBasis mesh.now lengths.now cert.now × (t ≡ basis_total mesh.now lengths.now cert.now)) }
+    ensures fault { IfErr result (IsBasisFault mesh.now lengths.now cert.now) }
+{
+    let _surface = mesh.edges();
+    let _positive = lengths.count();
+    let signs = sign_edges(alloc, mesh, cert, left)?;
+    let frame = frame_cycles(alloc, mesh, lengths, cert, signs)?;
+    let mut up = vec![in alloc; EdgeId::new(0); mesh.vertices() as usize]?;
+    match first_uncovered(mesh, lengths, cert, &frame, &mut up) {
+        None => Ok(total_length(mesh, lengths, cert)),
+        Some((base, edge)) => {
+            let (u, v) = ends_inside(mesh, edge);
+            Err(CertFault::Uncovered { base, u, v })
+        }
+    }
+}
+
+// The total of a certificate whose trees are valid, or its first fault.
+fn check_edges(
+    alloc: Global,
+    mesh: &HalfMesh,
+    lengths: &Lengths,
+    cert: &BasisCert,
+) -> Result<u128, CertFault>
+    requires shape { HasShape mesh.now cert.now }
+    requires trees { AreTreesValid mesh.now lengths.now cert.now }
+    requires dual { IsDualValid mesh.now cert.now.dual }
+    requires lengths { length lengths.now ≡ edge_count mesh.now }
+    requires few { edge_count mesh.now + 2 ≤ mesh.now.vertices + face_count mesh.now + 1024 }
+    ensures valid { IfOk result (λ t. IsValidBasis mesh.now lengths.now cert.now × (t ≡ basis_total mesh.now lengths.now cert.now)) }
+    ensures fault { IfErr result (IsBasisFault mesh.now lengths.now cert.now) }
+{
+    let _surface = mesh.edges();
+    let rows = tree_from(cert, VertexId::new(0));
+    let marks = mark_edges(alloc, mesh, rows, cert.dual(), cert.left())?;
+    if let Some((u, v)) = first_split(mesh, rows, cert.dual(), cert.left(), &marks) {
+        return Err(CertFault::Split { u, v });
+    }
+    if let Some(place) = first_open(mesh, cert) {
+        return Err(CertFault::NotClosed {
+            place: place as u32,
+        });
+    }
+    check_cycles(alloc, mesh, lengths, cert, &marks.left)
+}
+
+/// The total of the cycles of a valid certificate, which are then a least basis: see `surf_valid`. A certificate that
+/// isn't valid is refused with its first fault, in the order of [`CertFault`]. It asks nothing of the certificate.
+pub fn check_basis(
+    alloc: Global,
+    mesh: &HalfMesh,
+    lengths: &Lengths,
+    cert: &BasisCert,
+) -> Result<u128, CertFault>
+    requires lengths { length lengths.now ≡ edge_count mesh.now }
+    requires few { edge_count mesh.now + 2 ≤ mesh.now.vertices + face_count mesh.now + 1024 }
+    ensures valid { IfOk result (λ t. IsValidBasis mesh.now lengths.now cert.now × (t ≡ basis_total mesh.now lengths.now cert.now)) }
+    ensures least { IfOk result (λ t. IsLeastBasis mesh.now lengths.now cert.now.cycles × (t ≡ total mesh.now lengths.now cert.now.cycles)) }
+    ensures fault { IfErr result (IsBasisFault mesh.now lengths.now cert.now) }
+    ensures excludes { IfErr result (λ e. e ≢ Memory → IsValidBasis mesh.now lengths.now cert.now → ⊥) }
+{
+    let _surface = mesh.edges();
+    let _positive = lengths.count();
+    if let Some(part) = basis_shape(mesh, cert) {
+        return Err(CertFault::Shape { part });
+    }
+    if let Some(fault) = trees_fault(mesh, lengths, cert) {
+        return Err(fault);
+    }
+    if let Some(face) = first_dual(mesh, cert.dual()) {
+        return Err(CertFault::Dual { face });
+    }
+    check_edges(alloc, mesh, lengths, cert)
+}

@@ -1,0 +1,184 @@
+//! Coordinates in which each cycle of a certificate has a place of its own.
+ghost use Rattle.std.specs.Prelude.{◌≡◌, ◌≢◌, ◌<◌, ◌≤◌, ◌+◌, ℕ, IfOk, IfErr, MatchOption, MatchBool, All, length, true, None, map};
+ghost use Rattle.std.specs.List.{range_with_len};
+ghost use Rattle.surf_z2.specs.Sieve.{has};
+ghost use Rattle.surf_homology.specs.Cells.{Split};
+ghost use Rattle.surf_complex.specs.Signature.{edge_signature, walk_signature};
+ghost use Rattle.surf_complex.specs.Surface.{edge_count};
+ghost use Rattle.surf_valid.specs.Bases.{IsClosedList, IsDependent, split_in};
+ghost use Rattle.surf_certcheck.specs.First.{HoldsBelow};
+ghost use Rattle.surf_certcheck.specs.BasisFaults.{IsClosedAt, IsIndependentAt, DependsFirst, IsDependentFault};
+ghost use Rattle.surf_certcheck.specs.Frames.{AreTaken, IsPlacedUpTo, weight_at, IsFrameOf};
+
+use crate::cycles::{cycle_from, length_of, step_edge};
+use crate::fault::CertFault;
+use std::alloc::Global;
+use surf_base::{NoMemory, VertexId};
+use surf_bits::Signature;
+use surf_cert::BasisCert;
+use surf_lengths::Lengths;
+use surf_mesh::HalfMesh;
+use surf_sign::Signs;
+
+/// The coordinates of all edges in which each cycle is a place alone, and for each place the length of its cycle.
+///
+/// This is C. Jordan's elimination. The coordinates are first the signatures. One cycle after the other gets a place
+/// that it has and no earlier one got: where an edge has that place, the rest of the cycle is added. The map of signatures
+/// to coordinates takes sums to sums and can be undone, so a signature is a sum of those of some of the cycles exactly
+/// where its coordinates are among their places.
+#[derive(Drop)]
+pub(crate) struct Frame {
+    pub(crate) signs: Signs,
+    pub(crate) weights: Vec<Option<u128>>,
+}
+
+// The sum of the coordinates of a cycle's steps.
+fn cycle_set(mesh: &HalfMesh, signs: &Signs, list: &[VertexId]) -> Signature
+    requires closed { IsClosedList mesh.now list.now }
+    requires count { length signs.now.sets ≡ edge_count mesh.now }
+    ensures sum { (d : Split) (to : ℕ → ℕ) → AreTaken mesh.now d to signs.now.sets → result ≡ to (walk_signature mesh.now d list.now) }
+{
+    let mut sum = Signature::zero();
+    for i in 0..list.len() - 1 {
+        sum.add(signs.signature(step_edge(mesh, list, i)));
+    }
+    sum
+}
+
+// A place of a set that no cycle has got.
+fn free_place(set: &Signature, weights: &[Option<u128>]) -> Option<usize>
+    requires few { length weights.now ≤ 1024 }
+    ensures free { MatchOption result ((k : ℕ) → k < length weights.now → has set.now k ≡ true → weight_at weights.now k ≢ None) (λ k. (k < length weights.now) × (has set.now k ≡ true) × (weight_at weights.now k ≡ None)) }
+{
+    for k in 0..weights.len() {
+        if weights[k].is_none() && set.bits().bit(k as u32) {
+            return Some(k);
+        }
+    }
+    None
+}
+
+// Whether all places of a set are those of cycles no longer than a limit.
+pub(crate) fn is_placed(set: &Signature, weights: &[Option<u128>], limit: u128) -> bool
+    requires few { length weights.now ≤ 1024 }
+    ensures placed { MatchBool result ((k : ℕ) → k < length weights.now → has set.now k ≡ true → IsPlacedUpTo limit (weight_at weights.now k)) (((k : ℕ) → k < length weights.now → has set.now k ≡ true → IsPlacedUpTo limit (weight_at weights.now k)) → ⊥) }
+{
+    if set.bits().is_empty() {
+        return true;
+    }
+    for k in 0..weights.len() {
+        if set.bits().bit(k as u32) && !is_up_to(weights[k], limit) {
+            return false;
+        }
+    }
+    true
+}
+
+// Whether a cycle has the place and is no longer than a limit.
+fn is_up_to(weight: Option<u128>, limit: u128) -> bool
+    ensures up_to { MatchBool result (IsPlacedUpTo limit weight) (IsPlacedUpTo limit weight → ⊥) }
+{
+    match weight {
+        None => false,
+        Some(weight) => weight <= limit,
+    }
+}
+
+// Gives the cycle at a place of the list a coordinate of its own, or none where its signature is a sum of those before it.
+fn admit(
+    mesh: &HalfMesh,
+    lengths: &Lengths,
+    cert: &BasisCert,
+    place: usize,
+    signs: &mut Signs,
+    weights: &mut [Option<u128>],
+) -> bool
+    requires place { place < length cert.now.cycles }
+    requires closed { IsClosedAt mesh.now cert.now place }
+    requires lengths { length lengths.now ≡ edge_count mesh.now }
+    requires count { length signs.old.sets ≡ edge_count mesh.now }
+    requires places { length weights.old ≡ signs.old.width }
+    requires few { signs.old.width ≤ 1024 }
+    requires frame { IsFrameOf mesh.now lengths.now cert.now place signs.old weights.old }
+    ensures width { signs.new.width ≡ signs.old.width }
+    ensures count { length signs.new.sets ≡ edge_count mesh.now }
+    ensures places { length weights.new ≡ signs.new.width }
+    ensures admitted { MatchBool result (IsIndependentAt mesh.now cert.now place × IsFrameOf mesh.now lengths.now cert.now (place + 1) signs.new weights.new) (IsDependent mesh.now cert.now place) }
+{
+    let list = cycle_from(cert, place);
+    let mut rest = cycle_set(mesh, signs, list);
+    match free_place(&rest, weights) {
+        None => false,
+        Some(free) => {
+            rest.add(Signature::unit(free as u32).bits());
+            signs.add_where(free as u32, &rest.bits());
+            weights[free] = Some(length_of(mesh, lengths, list));
+            true
+        }
+    }
+}
+
+// Gives one cycle after the other a place of its own, up to the first whose signature is a sum of those before it.
+fn admit_all(
+    mesh: &HalfMesh,
+    lengths: &Lengths,
+    cert: &BasisCert,
+    signs: &mut Signs,
+    weights: &mut [Option<u128>],
+) -> Option<usize>
+    requires closed { HoldsBelow (length cert.now.cycles) (IsClosedAt mesh.now cert.now) }
+    requires lengths { length lengths.now ≡ edge_count mesh.now }
+    requires count { length signs.old.sets ≡ edge_count mesh.now }
+    requires places { length weights.old ≡ signs.old.width }
+    requires few { signs.old.width ≤ 1024 }
+    requires frame { IsFrameOf mesh.now lengths.now cert.now 0 signs.old weights.old }
+    ensures count { length signs.new.sets ≡ edge_count mesh.now }
+    ensures places { length weights.new ≡ signs.old.width }
+    ensures frame { MatchOption result (HoldsBelow (length cert.now.cycles) (IsIndependentAt mesh.now cert.now) × IsFrameOf mesh.now lengths.now cert.now (length cert.now.cycles) signs.new weights.new) (DependsFirst mesh.now cert.now) }
+{
+    for place in 0..cert.cycles().len() {
+        if !admit(mesh, lengths, cert, place, signs, weights) {
+            return Some(place);
+        }
+    }
+    None
+}
+
+// No cycle has a place yet.
+fn no_weights(alloc: Global, count: usize) -> Result<Vec<Option<u128>>, NoMemory>
+    ensures count { IfOk result (λ v. length v.items ≡ count) }
+    ensures none { IfOk result (λ v. All (λ o. o ≡ None) v.items) }
+{
+    Ok(vec![in alloc; None; count]?)
+}
+
+/// The frame of the cycles over the signatures of the edges, or the least place of a cycle whose signature is a sum of
+/// those before it.
+pub(crate) fn frame_cycles(
+    alloc: Global,
+    mesh: &HalfMesh,
+    lengths: &Lengths,
+    cert: &BasisCert,
+    signs: Signs,
+) -> Result<Frame, CertFault>
+    requires closed { HoldsBelow (length cert.now.cycles) (IsClosedAt mesh.now cert.now) }
+    requires lengths { length lengths.now ≡ edge_count mesh.now }
+    requires places { length cert.now.cycles ≡ length (split_in mesh.now cert.now).left }
+    requires width { signs.width ≡ length cert.now.cycles }
+    requires few { signs.width ≤ 1024 }
+    requires signed { signs.sets ≡ map (edge_signature mesh.now (split_in mesh.now cert.now)) (range_with_len 0 (edge_count mesh.now)) }
+    ensures independent { IfOk result (λ f. HoldsBelow (length cert.now.cycles) (IsIndependentAt mesh.now cert.now)) }
+    ensures frame { IfOk result (λ f. IsFrameOf mesh.now lengths.now cert.now (length cert.now.cycles) f.signs f.weights.items) }
+    ensures count { IfOk result (λ f. length f.signs.sets ≡ edge_count mesh.now) }
+    ensures places { IfOk result (λ f. length f.weights.items ≡ length cert.now.cycles) }
+    ensures fault { IfErr result (IsDependentFault mesh.now cert.now) }
+{
+    let mut signs = signs;
+    let mut weights = no_weights(alloc, cert.cycles().len())?;
+    match admit_all(mesh, lengths, cert, &mut signs, &mut weights) {
+        None => Ok(Frame { signs, weights }),
+        Some(place) => Err(CertFault::Dependent {
+            place: place as u32,
+        }),
+    }
+}

@@ -1,0 +1,5 @@
+pub mod Toggling
+pub mod Written
+pub mod Rewritten
+pub mod WayLaws
+pub mod Passing
