@@ -7,6 +7,8 @@
 #[cfg(test)]
 mod certs;
 #[cfg(test)]
+mod checks;
+#[cfg(test)]
 mod cuts;
 #[cfg(test)]
 mod cycles;

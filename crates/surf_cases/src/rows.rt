@@ -19,13 +19,14 @@ const HELP: &str = "usage: surf info M
        surf cut M L x full | trim
        surf certify M L x
        surf certify M L
+       surf check M L C
        surf disc M
        surf gen torus a b
        surf gen chain g a b
        surf try torus a b s
        surf try chain g a b s
        surf --help | --version
-M is an OFF mesh, L a length file or the word unit, x a vertex.
+M is an OFF mesh, L a length file or the word unit, x a vertex, C a certificate.
 a and b are rows and columns of squares, g tori, s any number.
 ";
 

@@ -17,3 +17,4 @@ pub mod Framing
 pub mod Validity
 pub mod Independence
 pub mod BasisFaults
+pub mod OneBasisFault

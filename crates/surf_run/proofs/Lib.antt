@@ -11,3 +11,6 @@ mod ShapeLaws
 mod TryLaws
 mod WordLaws
 mod CertifyLaws
+mod Refusing
+mod TextLaws
+mod TwoRuns

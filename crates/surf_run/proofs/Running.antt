@@ -9,6 +9,9 @@ use Rattle.surf_check.specs.declared.checking.SurfaceFault.{SurfaceFault}
 use Rattle.surf_check.specs.declared.checking.SurfaceFault.TheVariants as check
 use Rattle.surf_lengths.specs.declared.fault.LengthFault.{LengthFault}
 use Rattle.surf_lengths.specs.declared.fault.LengthFault.TheVariants as lengths
+use Rattle.surf_cert.specs.declared.fault.CertText.{CertText}
+use Rattle.surf_cert.specs.declared.fault.CertText.TheVariants as certs
+use Rattle.surf_run.specs.CertTexts.{cert_cause}
 use Rattle.surf_run.specs.MeshTexts.{off_cause}
 use Rattle.surf_run.specs.Surfaces.{surface_cause}
 use Rattle.surf_run.specs.Weights.{length_cause}
@@ -22,7 +25,7 @@ use Rattle.surf_run.specs.Run.{PutsLine, IsLineOf, Refuses, WritesAnswer, Writes
 use Rattle.surf_run.specs.declared.answered.Verdict.{Verdict}
 use Rattle.surf_run.specs.declared.answered.Verdict.TheVariants.{Yes, No}
 use Rattle.surf_run.specs.declared.refusal.Refused.{Refused}
-use Rattle.surf_run.specs.declared.refusal.Refused.TheVariants.{MeshText, Surface, Lengths, Base, Limit, Read, Memory}
+use Rattle.surf_run.specs.declared.refusal.Refused.TheVariants.{MeshText, Surface, Lengths, Base, Certificate, Limit, Read, Memory}
 
 -- what is due has a status from 2 to 8 and a line
 abbrev pub IsDue : Cause → Type 0
@@ -32,7 +35,7 @@ IsDue (due misses) = ⊥
 IsDue unread = Unit {0}
 IsDue starved = Unit {0}
 
-off_due : (fault : OffFault) → IsDue (off_cause fault)
+pub off_due : (fault : OffFault) → IsDue (off_cause fault)
 off_due (off.Header line) = (omega arith, omega arith)
 off_due (off.Counts line) = (omega arith, omega arith)
 off_due (off.VertexLine line) = (omega arith, omega arith)
@@ -44,7 +47,7 @@ off_due (off.Trailing line) = (omega arith, omega arith)
 off_due (off.Limit line kind) = (omega arith, omega arith)
 off_due off.Memory = tt
 
-surface_due : (fault : SurfaceFault) → IsDue (surface_cause fault)
+pub surface_due : (fault : SurfaceFault) → IsDue (surface_cause fault)
 surface_due check.Empty = (omega arith, omega arith)
 surface_due (check.Border u v face) = (omega arith, omega arith)
 surface_due (check.Crowded u v faces) = (omega arith, omega arith)
@@ -53,7 +56,7 @@ surface_due (check.Pinched v first second) = (omega arith, omega arith)
 surface_due (check.Apart face) = (omega arith, omega arith)
 surface_due check.Memory = tt
 
-length_due : (fault : LengthFault) → IsDue (length_cause fault)
+pub length_due : (fault : LengthFault) → IsDue (length_cause fault)
 length_due (lengths.Form line) = (omega arith, omega arith)
 length_due (lengths.Range line) = (omega arith, omega arith)
 length_due (lengths.NotEdge line) = (omega arith, omega arith)
@@ -61,11 +64,19 @@ length_due (lengths.Twice line earlier) = (omega arith, omega arith)
 length_due (lengths.Missing u v) = (omega arith, omega arith)
 length_due lengths.Memory = tt
 
+cert_due : (fault : CertText) → IsDue (cert_cause fault)
+cert_due (certs.Header line) = (omega arith, omega arith)
+cert_due (certs.Form line) = (omega arith, omega arith)
+cert_due certs.Early = (omega arith, omega arith)
+cert_due (certs.Trailing line) = (omega arith, omega arith)
+cert_due certs.Memory = tt
+
 pub refusals_are_due : (e : Refused) → IsDue (cause_of e)
 refusals_are_due (MeshText fault) = off_due fault
 refusals_are_due (Surface fault) = surface_due fault
 refusals_are_due (Lengths fault) = length_due fault
 refusals_are_due (Base base vertices) = (omega arith, omega arith)
+refusals_are_due (Certificate fault) = cert_due fault
 refusals_are_due (Limit kind) = (omega arith, omega arith)
 refusals_are_due Read = tt
 refusals_are_due Memory = tt

@@ -27,6 +27,15 @@ use Rattle.surf_run.specs.Given.{looped, searchable, HasFewLoops, HasFewVertices
 use Rattle.surf_run.specs.Weights.{HasLengths, HasBase, weighed_for, based}
 use Rattle.surf_run.specs.Says.{Says}
 use Rattle.surf_run.specs.Limits.{beyond}
+use Rattle.surf_cert.specs.Grammar.{cert_of as cert_in}
+use Rattle.surf_cert.specs.declared.cert.Cert.{Cert}
+use Rattle.surf_cert.specs.declared.cert.Cert.TheVariants.{Loops}
+use Rattle.surf_cert.specs.declared.cert.Cert.TheVariants as certs
+use Rattle.surf_certcheck.proofs.LoopFaults.{no_loop_fault}
+use Rattle.surf_certcheck.proofs.OneBasisFault.{no_basis_fault}
+use Rattle.surf_run.specs.CertTexts.{IsCertText, certified, then_bounded}
+use Rattle.surf_run.specs.Checking.{OnCheckedText, OnCheckedMesh, OnCertFile, OnCertText}
+use Rattle.surf_run.specs.Verdicts.{JudgesCert}
 use Rattle.surf_run.specs.CycleTasks.{Finds, OnMesh, OnMeshText, vertex_limit}
 use Rattle.surf_run.specs.Tasks.{Performs, OnSurface, OnText, is_limited}
 use Rattle.surf_run.specs.declared.cycles.CycleTask.{CycleTask}
@@ -53,7 +62,7 @@ use Rattle.surf_print.proofs.TreeTextLaws.{texts_same}
 use Rattle.surf_run.specs.MeshTexts.{IsMeshText, read_outcome}
 use Rattle.surf_run.specs.Surfaces.{surface_cause, EndsInFault, IsSurfaceText}
 use Rattle.surf_run.specs.Leads.{Leads, Answer, OnRequest, OnInfoText, OnDiscText}
-use Rattle.surf_run.specs.Words.{Request, help, version, info, disc, cycles, weighted, makes, tries, request_of}
+use Rattle.surf_run.specs.Words.{Request, help, version, info, disc, cycles, weighted, makes, tries, checks, request_of}
 
 -- two results of a step go on with one value, or end with one status
 abbrev pub Agree : {A : Type 0} → Result A Outcome → Result A Outcome → Type 0
@@ -251,6 +260,25 @@ one_cycles task bytes word files =
     (λ mesh given. one_end (IsMeasured word mesh files) (Finds task mesh) (one_measured word mesh files)
     (λ lengths is. one_finding task mesh lengths given.1.0.1 (positive mesh lengths is.1 is.2)))
 
+-- no certificate is valid and has a fault
+one_verdict : (mesh : Mesh) (lengths : List ℕ) (cert : Cert) → HasOneStatus (JudgesCert mesh lengths cert)
+one_verdict mesh lengths (Loops cert) o p (inl x) (inl y) = ap status_of x.text ∙ sym (ap status_of y.text)
+one_verdict mesh lengths (Loops cert) o p (inl x) (inr y) = absurd (no_loop_fault mesh lengths cert x.valid y.fault y.isnt_memory y.is_fault)
+one_verdict mesh lengths (Loops cert) o p (inr x) (inl y) = absurd (no_loop_fault mesh lengths cert y.valid x.fault x.isnt_memory x.is_fault)
+one_verdict mesh lengths (Loops cert) o p (inr x) (inr y) = ap status_of x.text ∙ sym (ap status_of y.text)
+one_verdict mesh lengths (certs.Basis cert) o p (inl x) (inl y) = ap status_of x.text ∙ sym (ap status_of y.text)
+one_verdict mesh lengths (certs.Basis cert) o p (inl x) (inr y) = absurd (no_basis_fault mesh lengths cert x.valid y.fault y.isnt_memory y.is_fault)
+one_verdict mesh lengths (certs.Basis cert) o p (inr x) (inl y) = absurd (no_basis_fault mesh lengths cert y.valid x.fault x.isnt_memory x.is_fault)
+one_verdict mesh lengths (certs.Basis cert) o p (inr x) (inr y) = ap status_of x.text ∙ sym (ap status_of y.text)
+
+one_check : (bytes word cert : List ℕ) (files : Files) → HasOneStatus (OnCheckedText bytes word cert files)
+one_check bytes word cert files =
+    one_end (IsFewLoopedText true bytes) (λ read. OnCheckedMesh read.1 word cert files) (one_looped_text true bytes)
+    (λ read _. one_end (IsMeasured word read.1 files) (λ lengths. OnCertFile read.1 lengths cert files) (one_measured word read.1 files)
+    (λ lengths _. one_end (Reads cert files) (OnCertText read.1 lengths) (one_result (within_text (bytes_of files cert)))
+    (λ text _. one_end (IsCertText read.1 text) (JudgesCert read.1 lengths) (one_result (then_bounded read.1 (certified (cert_in text))))
+    (λ c _. one_verdict read.1 lengths c))))
+
 pub one_request : (r : Option Request) (files : Files) → HasOneStatus (OnRequest r files)
 one_request None files = one_outcome _
 one_request (Some help) files = one_outcome _
@@ -267,6 +295,8 @@ one_request (Some (makes shape)) files = one_end (IsMade shape) GivesMesh (one_r
     (λ mesh _ o p x y. says_same (soup_text mesh (edge_count mesh)) (soup_text mesh (edge_count mesh)) o p refl x y)
 one_request (Some (tries shape scatter)) files = one_end (IsTried shape) (λ mesh. GivesSummary mesh (made_values mesh scatter))
     (one_result (then_searched (made (mesh_of shape)))) (λ mesh _ o p x y. ap status_of x.text ∙ sym (ap status_of y.text))
+one_request (Some (checks mesh word cert)) files = one_end (Reads mesh files) (λ bytes. OnCheckedText bytes word cert files)
+    (one_result (within_text (bytes_of files mesh))) (λ bytes _. one_check bytes word cert files)
 
 module _ (words : List (List ℕ)) (files : Files) where
   pub one_lead : HasOneStatus (Leads words files)

@@ -3,6 +3,7 @@ use Rattle.std.specs.Prelude.{◌≡◌, ℕ, List, Option, Some, None}
 use Rattle.surf_base.specs.Outside.{Files}
 use Rattle.surf_run.specs.Cause.{misused}
 use Rattle.surf_run.specs.Help.{help_text, version_text}
+use Rattle.surf_run.specs.Checking.{OnCheck}
 use Rattle.surf_run.specs.CycleTasks.{OnCycles}
 use Rattle.surf_run.specs.Discs.{JudgesDisc}
 use Rattle.surf_run.specs.Info.{Informs}
@@ -14,7 +15,7 @@ use Rattle.surf_run.specs.Steps.{Ends}
 use Rattle.surf_run.specs.Surfaces.{IsSurfaceText}
 use Rattle.surf_run.specs.Tasks.{OnTask}
 use Rattle.surf_run.specs.Trying.{OnTry}
-use Rattle.surf_run.specs.Words.{Request, help, version, info, disc, cycles, weighted, makes, tries, request_of}
+use Rattle.surf_run.specs.Words.{Request, help, version, info, disc, cycles, weighted, makes, tries, checks, request_of}
 
 -- `info` of the text of a mesh
 abbrev pub OnInfoText : List ℕ → Outcome → Type 0
@@ -43,6 +44,7 @@ OnRequest (Some (cycles task mesh lengths)) files outcome = OnCycles task mesh l
 OnRequest (Some (weighted task mesh lengths base)) files outcome = OnTask task mesh lengths base files outcome
 OnRequest (Some (makes shape)) files outcome = OnGen shape outcome
 OnRequest (Some (tries shape scatter)) files outcome = OnTry shape scatter outcome
+OnRequest (Some (checks mesh lengths cert)) files outcome = OnCheck mesh lengths cert files outcome
 
 -- what comes of these words over these files
 unfoldable pub Leads : List (List ℕ) → Files → Outcome → Type 0

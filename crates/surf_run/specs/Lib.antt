@@ -31,3 +31,7 @@ pub mod Shapes
 pub mod Making
 pub mod Summaries
 pub mod Trying
+pub mod CertTexts
+pub mod Verdicts
+pub mod Checking
+pub mod TwoRuns

@@ -28,6 +28,8 @@ pub data Request : Type 0 where
   makes : Shape → Request
   -- what is found on the surface of a shape, with the lengths that a scatter makes
   tries : Shape → ℕ → Request
+  -- the certificate of a file against the surface of a file, with the lengths that a word gives
+  checks : List ℕ → List ℕ → List ℕ → Request
 
 abbrev pub lone_request : List ℕ → Option Request
 lone_request word =
@@ -95,7 +97,8 @@ chain_words kind tori rows columns =
 abbrev pub four_words : List ℕ → List ℕ → List ℕ → List ℕ → Option Request
 four_words word second third fourth =
     if bytes_eq word (codes "gen") then shape_request (torus_words second third fourth)
-    else weighted_request (task_of word) second third (number_of fourth)
+    else (if bytes_eq word (codes "check") then Some (checks second third fourth)
+    else weighted_request (task_of word) second third (number_of fourth))
 
 abbrev pub five_words : List ℕ → List ℕ → List ℕ → List ℕ → List ℕ → Option Request
 five_words word second third fourth fifth =

@@ -2,8 +2,8 @@
 ghost use Rattle.std.specs.Prelude.{◌≡◌, ◌+◌, ◌≤◌, length, IfOk};
 ghost use Rattle.surf_complex.specs.Surface.{edge_count, face_count};
 ghost use Rattle.surf_run.specs.CycleTasks.{Finds, OnCycles, OnMesh, OnMeshText, vertex_limit};
-ghost use Rattle.surf_run.specs.Given.{IsMeasured, IsSearchableText};
-ghost use Rattle.surf_run.specs.Tells.{Concludes, ConcludesOver, Takes, TakesOver};
+ghost use Rattle.surf_run.specs.Given.{IsSearchableText};
+ghost use Rattle.surf_run.specs.Tells.{Concludes, ConcludesOver, Takes};
 
 use crate::answered::Answered;
 use crate::basis_command::basis_of;
@@ -11,7 +11,7 @@ use crate::certify_command::basis_cert_of;
 use crate::cycle_command::cycle_of;
 use crate::reading::{read_file, read_looped};
 use crate::refusal::Refused;
-use crate::weights::read_weights;
+use crate::weights::read_measures;
 use std::alloc::Global;
 use surf_base::{LimitKind, MAX_BASIS_VERTICES, MAX_CERTIFICATE_VERTICES, Shelf};
 use surf_lengths::Lengths;
@@ -122,21 +122,4 @@ fn read_searchable(alloc: Global, task: CycleTask, bytes: &[u8]) -> Result<HalfM
         return Err(Refused::Limit(kind));
     }
     Ok(mesh)
-}
-
-// Lengths for a surface.
-fn read_measures<S: Shelf>(
-    alloc: Global,
-    shelf: &mut S,
-    mesh: &HalfMesh,
-    lengths: &str,
-) -> Result<Lengths, Refused>
-    ensures holds { S.holds shelf.new ≡ S.holds shelf.old }
-    ensures later { S.faults shelf.old ≤ S.faults shelf.new }
-    ensures tells { TakesOver (S.holds shelf.old) (S.faults shelf.old) (S.faults shelf.new) (λ lengths. lengths) (IsMeasured lengths.now mesh.now) result }
-    ensures count { IfOk result (λ lengths. length lengths ≡ edge_count mesh.now) }
-{
-    let lengths = read_weights(alloc, shelf, mesh, lengths)?;
-    let _lengths = lengths.count();
-    Ok(lengths)
 }

@@ -6,6 +6,7 @@ ghost use Rattle.surf_run.specs.Seen.{request};
 ghost use Rattle.surf_run.specs.Tells.{ConcludesOver};
 
 use crate::answered::{Answered, help, version};
+use crate::check_command::checked;
 use crate::cycles::cycles;
 use crate::disc_command::disc;
 use crate::gen_command::generate;
@@ -42,5 +43,10 @@ pub fn answer<S: Shelf>(alloc: Global, command: Command, shelf: &mut S) -> Resul
         } => weighted(alloc, shelf, task, mesh, lengths, base),
         Command::Generate { shape } => generate(alloc, shape),
         Command::Try { shape, scatter } => tried(alloc, shape, scatter),
+        Command::Check {
+            mesh,
+            lengths,
+            cert,
+        } => checked(alloc, shelf, mesh, lengths, cert),
     }
 }

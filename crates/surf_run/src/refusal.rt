@@ -2,12 +2,14 @@
 ghost use Rattle.std.specs.Prelude.{◌≡◌, IfOk, string_bytes};
 ghost use Rattle.surf_run.specs.Cause.{line_of, status_of_cause};
 ghost use Rattle.surf_run.specs.Refusals.{cause_of, of_page};
-ghost use Rattle.surf_run.specs.declared.refusal.Refused.TheVariants.{MeshText, Surface, Lengths, Memory};
+ghost use Rattle.surf_run.specs.declared.refusal.Refused.TheVariants.{MeshText, Surface, Lengths, Certificate, Memory};
 
+use crate::certificates::cert_line;
 use crate::lines::{limit_line, off_line, surface_line};
 use crate::weights::{base_line, length_line};
 use std::alloc::{AllocError, AllocFailed, Global};
 use surf_base::{LimitKind, NoMemory};
+use surf_cert::CertText;
 use surf_check::SurfaceFault;
 use surf_lengths::LengthFault;
 use surf_off::OffFault;
@@ -20,6 +22,7 @@ pub enum Refused {
     Surface(SurfaceFault),
     Lengths(LengthFault),
     Base { base: u32, vertices: u32 },
+    Certificate(CertText),
     Limit(LimitKind),
     Read,
     Memory,
@@ -65,6 +68,14 @@ impl From<LengthFault> for Refused {
     }
 }
 
+impl From<CertText> for Refused {
+    ghost from_gives = { λ fault e. e ≡ Certificate fault };
+
+    fn from(fault: CertText) -> Refused {
+        Refused::Certificate(fault)
+    }
+}
+
 impl From<PageFault> for Refused {
     ghost from_gives = { λ fault e. e ≡ of_page fault };
 
@@ -94,11 +105,13 @@ impl Refused {
             Refused::MeshText(OffFault::Memory)
             | Refused::Surface(SurfaceFault::Memory)
             | Refused::Lengths(LengthFault::Memory)
+            | Refused::Certificate(CertText::Memory)
             | Refused::Memory => 11,
             Refused::MeshText(_) => 3,
             Refused::Surface(_) => 4,
             Refused::Lengths(_) => 5,
             Refused::Base { .. } => 7,
+            Refused::Certificate(_) => 8,
             Refused::Read => 9,
         }
     }
@@ -112,6 +125,7 @@ impl Refused {
             Refused::Surface(fault) => surface_line(alloc, fault),
             Refused::Lengths(fault) => length_line(alloc, fault),
             Refused::Base { base, vertices } => base_line(alloc, *base, *vertices),
+            Refused::Certificate(fault) => cert_line(alloc, fault),
             Refused::Limit(kind) => limit_line(alloc, *kind),
             Refused::Read => String::from_str(alloc, "read fault\n"),
             Refused::Memory => String::from_str(alloc, "memory\n"),

@@ -2,6 +2,7 @@
 ghost use Rattle.std.specs.Prelude.{◌≡◌, ◌<◌, ◌≤◌, ◌++◌, codes, decimal, length, string_bytes, IfOk};
 ghost use Rattle.surf_complex.specs.Surface.{edge_count};
 ghost use Rattle.surf_run.specs.Cause.{line_of};
+ghost use Rattle.surf_run.specs.Given.{IsMeasured};
 ghost use Rattle.surf_run.specs.Tells.{Takes, TakesOver};
 ghost use Rattle.surf_run.specs.Weights.{HasLengths, HasBase, WeighsText, base_line, length_cause};
 
@@ -31,6 +32,23 @@ pub fn read_weights<S: Shelf>(
     }
     let bytes = read_file(alloc, shelf, word)?;
     weights_of(alloc, mesh, &bytes)
+}
+
+/// The lengths that a word gives, each from 1 to 4,294,967,295.
+pub fn read_measures<S: Shelf>(
+    alloc: Global,
+    shelf: &mut S,
+    mesh: &HalfMesh,
+    lengths: &str,
+) -> Result<Lengths, Refused>
+    ensures holds { S.holds shelf.new ≡ S.holds shelf.old }
+    ensures later { S.faults shelf.old ≤ S.faults shelf.new }
+    ensures tells { TakesOver (S.holds shelf.old) (S.faults shelf.old) (S.faults shelf.new) (λ lengths. lengths) (IsMeasured lengths.now mesh.now) result }
+    ensures count { IfOk result (λ lengths. length lengths ≡ edge_count mesh.now) }
+{
+    let lengths = read_weights(alloc, shelf, mesh, lengths)?;
+    let _lengths = lengths.count();
+    Ok(lengths)
 }
 
 fn weights_of(alloc: Global, mesh: &HalfMesh, bytes: &[u8]) -> Result<Lengths, Refused>

@@ -38,6 +38,11 @@ pub enum Command<'w> {
         shape: Shape,
         scatter: u32,
     },
+    Check {
+        mesh: &'w str,
+        lengths: &'w str,
+        cert: &'w str,
+    },
 }
 
 // A number word: digits of a value at most 4,294,967,295.
@@ -170,11 +175,18 @@ fn tried<'w>(shape: Option<Shape>, scatter: Option<u32>) -> Option<Command<'w>>
 }
 
 // The row of four words.
-fn on_four<'w>(word: &str, second: &'w str, third: &'w str, fourth: &str) -> Option<Command<'w>>
+fn on_four<'w>(word: &str, second: &'w str, third: &'w str, fourth: &'w str) -> Option<Command<'w>>
     ensures { MatchOption result (four_words word.now second.now third.now fourth.now ≡ None) (λ c. four_words word.now second.now third.now fourth.now ≡ Some (request c)) }
 {
     if word == "gen" {
         return generate(torus_of(second, third, fourth));
+    }
+    if word == "check" {
+        return Some(Command::Check {
+            mesh: second,
+            lengths: third,
+            cert: fourth,
+        });
     }
     weighted(task_of(word), second, third, number_of(fourth))
 }

@@ -14,3 +14,8 @@ pub returns-in-Cycles-clause-tells : goal.returns-in-Cycles-clause-tells
 returns-in-Cycles-clause-tells g c =
     subst (λ (command : Command). ConcludesOver (g.S.Shelf.holds c.args.shelf.now) (g.S.Shelf.faults c.args.shelf.now) (g.S.Shelf.faults c.cycles.new.shelf) (OnRequest (Some (request command))) c.cycles.result)
     (sym c.in-Cycles.is) c.cycles.ensures.tells
+
+pub returns-in-Check-clause-tells : goal.returns-in-Check-clause-tells
+returns-in-Check-clause-tells g c =
+    subst (λ (command : Command). ConcludesOver (g.S.Shelf.holds c.args.shelf.now) (g.S.Shelf.faults c.args.shelf.now) (g.S.Shelf.faults c.checked.new.shelf) (OnRequest (Some (request command))) c.checked.result)
+    (sym c.in-Check.is) c.checked.ensures.tells

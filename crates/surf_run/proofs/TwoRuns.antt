@@ -1,0 +1,294 @@
+-- What `certify` writes passes `check`.
+use Rattle.std.proofs.Common.{◌≡◌, ◌<◌, ◌≤◌, ℕ, true, false, List, [], ◌∷◌, length, Option, Some, None, Result, Ok, Err, refl, sym, ap, ◌∙◌, subst, arith, inl, inr}
+use Rattle.std.specs.Prelude.{nat_lt, codes}
+use Rattle.std.proofs.lemmas.Bool.{cases_lt, lt-ltb, le-ltb}
+use Rattle.std.proofs.lemmas.List.Elements.{All-get_or}
+use Rattle.surf_base.specs.Outside.{Files, bytes_of}
+use Rattle.surf_base.specs.declared.limits.LimitKind.{LimitKind}
+use Rattle.surf_base.specs.declared.limits.LimitKind.TheVariants.{BasisVertices, CertificateVertices}
+use Rattle.surf_cert.specs.Grammar.{cert_of as cert_in}
+use Rattle.surf_cert.specs.Written.{loop_text, basis_text}
+use Rattle.surf_cert.specs.declared.cert.Cert.{Cert}
+use Rattle.surf_cert.specs.declared.cert.Cert.TheVariants.{Loops, Basis}
+use Rattle.surf_cert.specs.declared.fault.CertText.{CertText}
+use Rattle.surf_cert.proofs.ChosenFits.{AreNumbers}
+use Rattle.surf_cert.proofs.ChosenReread.{chosen_loops_again, chosen_basis_again}
+use Rattle.surf_complex.specs.Mesh.{Mesh}
+use Rattle.surf_complex.specs.Surface.{IsSurface, face_count, edge_count}
+use Rattle.surf_complex.specs.Walk.{ArePositive}
+use Rattle.surf_print.specs.CycleTexts.{cycles_text}
+use Rattle.surf_print.specs.LoopTexts.{loops_text}
+use Rattle.surf_complex.specs.Choice.{Loop, loops_at}
+use Rattle.surf_complex.proofs.BasisLaws.{basis_is_least}
+use Rattle.surf_complex.proofs.LoopsAtLaws.{loops_are_least}
+use Rattle.surf_lengths.specs.Lengths.{IsLength, AreLengths}
+use Rattle.surf_off.specs.Off.{OffParts, off_of}
+use Rattle.surf_off.specs.declared.fault.OffFault.{OffFault}
+use Rattle.surf_valid.specs.Chosen.{cert_of, basis_cert_of}
+use Rattle.surf_valid.proofs.BasisLaws.{valid_bases_are_least}
+use Rattle.surf_valid.proofs.ChosenTotals.{chosen_loops_total, chosen_basis_total}
+use Rattle.surf_valid.proofs.LoopLaws.{valid_loops_are_least}
+use Rattle.surf_run.specs.CertTexts.{bounded, certified, then_bounded, IsCertText}
+use Rattle.surf_run.specs.Certificates.{GivesLoopCert, GivesBasisCert}
+use Rattle.surf_run.specs.CycleTasks.{Finds, OnMesh, OnMeshText}
+use Rattle.surf_run.specs.Given.{searchable, HasFewVertices, IsFewLoopedText, IsSearchableText, IsMeasured, IsWeighted}
+use Rattle.surf_run.specs.Leads.{Answer, Leads, OnRequest}
+use Rattle.surf_run.specs.Limits.{beyond}
+use Rattle.surf_run.specs.MeshTexts.{read_outcome, IsMeshText}
+use Rattle.surf_run.specs.Outcome.{Outcome, answers, status_of}
+use Rattle.surf_run.specs.Reading.{Reads, within_text}
+use Rattle.surf_run.specs.Says.{Says}
+use Rattle.surf_run.specs.Summaries.{total_size}
+use Rattle.surf_run.specs.Tasks.{Performs, OnSurface, OnText}
+use Rattle.surf_run.specs.TwoRuns.{LoopsPass, CertifiedLoopsPass, CertifiedBasesPass}
+use Rattle.surf_run.specs.Verdicts.{loops_line, basis_line}
+use Rattle.surf_run.specs.Words.{Request, number_of, weighted_request}
+use Rattle.surf_run.specs.declared.cycles.CycleTask.TheVariants.{BasisCertificate}
+use Rattle.surf_run.specs.declared.weighted.Task.TheVariants.{LeastLoops, LoopCertificate}
+use Rattle.surf_run.proofs.CycleLaws.{few_loops, few_vertices}
+use Rattle.surf_run.proofs.LengthLaws.{positive}
+use Rattle.surf_run.proofs.Refusing.{reads_refuses, looped_refuses, searchable_refuses, measured_refuses, weighted_refuses, goes_on, shown_low, shown_text}
+use Rattle.surf_run.proofs.TextLaws.{mesh_texts_are_few}
+
+-- ---- what is known of what was read
+
+-- a text that is read as a mesh
+read_back : (read : OffParts × Mesh) (r : Result (OffParts × Mesh) OffFault) → Ok read ≡ read_outcome r → r ≡ Ok read
+read_back read (Ok x) is = ap Ok (sym (ap (mesh_in read) is))
+  where
+    mesh_in : OffParts × Mesh → Result (OffParts × Mesh) Outcome → OffParts × Mesh
+    mesh_in default (Ok y) = y
+    mesh_in default (Err o) = default
+read_back read (Err fault) is = absurd (subst WasRead is tt)
+  where
+    WasRead : Result (OffParts × Mesh) Outcome → Type 0
+    WasRead (Ok y) = Unit {0}
+    WasRead (Err o) = ⊥
+
+-- counts and lengths are numbers of a text
+numbers_of : (bytes : List ℕ) (read : OffParts × Mesh) (values : List ℕ) → IsFewLoopedText true bytes (Ok read) → AreLengths values →
+    length values ≡ edge_count read.1 → AreNumbers read.1 values
+numbers_of bytes read values looped are sized =
+    let few = mesh_texts_are_few bytes read (read_back read (off_of bytes) looped.0.0) in
+    let vertices : read.1.vertices ≤ 1000000 = few.0 in
+    let faces : face_count read.1 ≤ 2000000 = few.1 in
+    let loops = few_loops read.1 looped.1 in
+    record {
+      vertices = omega (arith, vertices);
+      faces = omega (arith, faces);
+      edges = omega (arith, vertices, faces, loops);
+      sizes = λ e l. (All-get_or IsLength values e 0 (subst (λ (n : ℕ). e < n) (sym sized) l) are).fits;
+    }
+
+-- vertices that are few enough
+few_from : (limit : LimitKind × ℕ) (mesh : Mesh) → HasFewVertices limit mesh (Ok mesh) → mesh.vertices ≤ limit.1
+few_from limit mesh is = elim (cases_lt limit.1 mesh.vertices) [
+  | inl many ↦
+      let t : nat_lt limit.1 mesh.vertices ≡ true = lt-ltb _ _ many in
+      let past : searchable limit mesh ≡ Err (beyond limit.0) = rw t refl in
+      absurd (subst GoesOn (is ∙ past) tt)
+  | inr few ↦ few
+]
+  where
+    GoesOn : Result Mesh Outcome → Type 0
+    GoesOn (Ok m) = Unit {0}
+    GoesOn (Err o) = ⊥
+
+-- ---- a file that holds a text
+
+module _ (files : Files) (mesh lengths cert text : List ℕ) (held : bytes_of files cert ≡ Some text) (short : length text ≤ 268435456) where
+  read_again : Reads cert files (Ok text)
+  read_again =
+      let t : nat_lt 268435456 (length text) ≡ false = le-ltb _ _ short in
+      let within : within_text (Some text) ≡ Ok text = rw t refl in
+      sym (ap within_text held ∙ within)
+
+  -- ---- loops
+
+  module _ (base : List ℕ) (o : Outcome) (b : ℕ) (is_base : number_of base ≡ Some b) (bytes : List ℕ) (reads : Reads mesh files (Ok bytes))
+      (read : OffParts × Mesh) (looped : IsFewLoopedText true bytes (Ok read)) (given : List ℕ × ℕ) (weighted : IsWeighted lengths b read.1 files (Ok given))
+      (gives : GivesLoopCert read.1 given.0 given.1 o) (text_is : text ≡ loop_text (cert_of read.1 gives.trees)) where
+    loops_long : ArePositive read.1 given.0
+    loops_long = positive read.1 given.0 weighted.2 weighted.3
+
+    abbrev the_loops : List Loop
+    the_loops = loops_at read.1 given.0 given.1 gives.trees
+
+    loops_said : (outcome : Outcome) → Says (loops_text the_loops) outcome → Leads (codes "loops" ∷ mesh ∷ lengths ∷ base ∷ []) files outcome
+    unfolding Leads
+    loops_said outcome says =
+        subst (λ (x : Option ℕ). OnRequest (weighted_request (Some LeastLoops) mesh lengths x) files outcome) (sym is_base)
+        (inr (
+          bytes,
+          reads,
+          inr (
+            read,
+            looped,
+            inr (
+              given,
+              weighted,
+              record {
+                trees = gives.trees;
+                chosen = gives.chosen;
+                least = loops_are_least read.1 given.0 given.1 gives.trees looped.0.1 loops_long gives.chosen;
+                says = says;
+              },
+            ),
+          ),
+        ))
+
+    loops_pass : Answer (codes "check" ∷ mesh ∷ lengths ∷ cert ∷ []) files 0 (loops_line (total_size the_loops)) []
+    unfolding Leads
+    loops_pass =
+        let c = cert_of read.1 gives.trees in
+        let again =
+        chosen_loops_again read.1 given.0 given.1 gives.trees looped.0.1 loops_long (numbers_of bytes read given.0 looped weighted.2 weighted.3) gives.chosen in
+        let least = valid_loops_are_least read.1 given.0 c looped.0.1 loops_long again.1 in
+        let cert_is : Ok (Loops c) ≡ then_bounded read.1 (certified (cert_in text)) =
+        sym (ap (λ (t : List ℕ). then_bounded read.1 (certified (cert_in t))) text_is
+        ∙ ap (λ (r : Result Cert CertText). then_bounded read.1 (certified r)) again.0) in (
+          answers 0 (loops_line (total_size the_loops)),
+          inr (
+            bytes,
+            reads,
+            inr (
+              read,
+              looped,
+              inr (
+                given.0,
+                (weighted.0, weighted.2, weighted.3),
+                inr (
+                  text,
+                  read_again,
+                  inr (
+                    Loops c,
+                    cert_is,
+                    inl (record {
+                      valid = again.1;
+                      least = least.0;
+                      text = ap (λ n. answers 0 (loops_line n)) (sym (least.1 ∙ chosen_loops_total read.1 given.0 given.1 gives.trees looped.0.1 loops_long gives.chosen));
+                    }),
+                  ),
+                ),
+              ),
+            ),
+          ),
+          (refl, refl, refl),
+        )
+
+  -- ---- a basis
+
+  module _ (o : Outcome) (bytes : List ℕ) (reads : Reads mesh files (Ok bytes)) (m : Mesh) (given : IsSearchableText (CertificateVertices, 1000) bytes (Ok m))
+      (values : List ℕ) (measured : IsMeasured lengths m files (Ok values))
+      (gives : GivesBasisCert m values o) (text_is : text ≡ basis_text (basis_cert_of m gives.trees gives.basis)) where
+    surface : IsSurface m
+    surface = given.1.0.1
+
+    basis_long : ArePositive m values
+    basis_long = positive m values measured.1 measured.2
+
+    few : m.vertices ≤ 1000
+    few = few_from (CertificateVertices, 1000) m given.2
+
+    basis_said : (outcome : Outcome) → Says (cycles_text gives.basis) outcome → Leads (codes "basis" ∷ mesh ∷ lengths ∷ []) files outcome
+    unfolding Leads
+    basis_said outcome says =
+        inr (
+          bytes,
+          reads,
+          inr (
+            m,
+            (given.0, given.1, few_vertices (BasisVertices, 20000) m (let small = few in omega (arith, small))),
+            inr (
+              values,
+              measured,
+              record {
+                trees = gives.trees;
+                chosen = gives.chosen;
+                basis = gives.basis;
+                is_basis = gives.is_basis;
+                least = basis_is_least m values gives.trees gives.basis surface basis_long gives.chosen gives.is_basis;
+                says = says;
+              },
+            ),
+          ),
+        )
+
+    basis_pass : Answer (codes "check" ∷ mesh ∷ lengths ∷ cert ∷ []) files 0 (basis_line (total_size gives.basis)) []
+    unfolding Leads
+    basis_pass =
+        let c = basis_cert_of m gives.trees gives.basis in
+        let again =
+        chosen_basis_again m values gives.trees gives.basis surface basis_long (numbers_of bytes (given.0, m) values given.1 measured.1 measured.2) gives.chosen
+        gives.is_basis in
+        let within : nat_lt 1000 m.vertices ≡ false = le-ltb _ _ few in
+        let goes : bounded m (Basis c) ≡ Ok (Basis c) = rw within refl in
+        let cert_is : Ok (Basis c) ≡ then_bounded m (certified (cert_in text)) =
+        sym (ap (λ (t : List ℕ). then_bounded m (certified (cert_in t))) text_is
+        ∙ ap (λ (r : Result Cert CertText). then_bounded m (certified r)) again.0 ∙ goes) in (
+          answers 0 (basis_line (total_size gives.basis)),
+          inr (
+            bytes,
+            reads,
+            inr (
+              (given.0, m),
+              given.1,
+              inr (
+                values,
+                measured,
+                inr (
+                  text,
+                  read_again,
+                  inr (
+                    Basis c,
+                    cert_is,
+                    inl (record {
+                      valid = again.1;
+                      least = valid_bases_are_least m values c surface basis_long again.1;
+                      text = ap (λ n. answers 0 (basis_line n)) (sym (chosen_basis_total m values gives.trees gives.basis surface basis_long gives.chosen gives.is_basis));
+                    }),
+                  ),
+                ),
+              ),
+            ),
+          ),
+          (refl, refl, refl),
+        )
+
+-- ---- the laws
+
+pub certified_loops_pass : CertifiedLoopsPass
+unfolding Leads
+certified_loops_pass files mesh lengths base cert text (o, leads, shows) held short = at (number_of base) refl leads
+  where
+    low : status_of o ≤ 1
+    low = shown_low o text [] shows
+
+    at : (x : Option ℕ) → number_of base ≡ x → OnRequest (weighted_request (Some LoopCertificate) mesh lengths x) files o → LoopsPass files mesh lengths base cert
+    at None is on = absurd (let low_status = low in let status = ap status_of on in omega (arith, low_status, status))
+    at (Some b) is on =
+        let (bytes, reads, on_text) = goes_on (Reads mesh files) (λ x. OnText LoopCertificate x lengths b files) o (reads_refuses mesh files) low on in
+        let (read, looped, on_surface) =
+        goes_on (IsFewLoopedText true bytes) (λ x. OnSurface LoopCertificate x lengths b files) o (looped_refuses true bytes) low on_text in
+        let (given, weighted, gives) =
+        goes_on (IsWeighted lengths b read.1 files) (Performs LoopCertificate read) o (weighted_refuses lengths b read.1 files) low on_surface in
+        let text_is = shown_text (loop_text (cert_of read.1 gives.trees)) o text gives.says shows in (
+          the_loops files mesh lengths cert text held short base o b is bytes reads read looped given weighted gives text_is,
+          loops_said files mesh lengths cert text held short base o b is bytes reads read looped given weighted gives text_is,
+          loops_pass files mesh lengths cert text held short base o b is bytes reads read looped given weighted gives text_is,
+        )
+
+pub certified_bases_pass : CertifiedBasesPass
+unfolding Leads
+certified_bases_pass files mesh lengths cert text (o, leads, shows) held short =
+    let low = shown_low o text [] shows in
+    let (bytes, reads, on_text) = goes_on (Reads mesh files) (λ x. OnMeshText BasisCertificate x lengths files) o (reads_refuses mesh files) low leads in
+    let (m, given, on_mesh) =
+    goes_on (IsSearchableText (CertificateVertices, 1000) bytes) (λ x. OnMesh BasisCertificate x lengths files) o
+    (searchable_refuses (CertificateVertices, 1000) bytes) low on_text in
+    let (values, measured, gives) = goes_on (IsMeasured lengths m files) (Finds BasisCertificate m) o (measured_refuses lengths m files) low on_mesh in
+    let text_is = shown_text (basis_text (basis_cert_of m gives.trees gives.basis)) o text gives.says shows in (
+      gives.basis,
+      basis_said files mesh lengths cert text held short o bytes reads m given values measured gives text_is,
+      basis_pass files mesh lengths cert text held short o bytes reads m given values measured gives text_is,
+    )

@@ -1,0 +1,78 @@
+-- Whether a certificate is valid for a surface and lengths.
+use Rattle.std.specs.Prelude.{◌≡◌, ◌≢◌, ◌⊎◌, ℕ, List, [], ◌∷◌, ◌++◌, codes, decimal}
+use Rattle.surf_complex.specs.Mesh.{Mesh}
+use Rattle.surf_complex.specs.Homology.{total, IsLeastLoopSystem, IsLeastBasis}
+use Rattle.surf_cert.specs.declared.cert.Cert.{Cert}
+use Rattle.surf_cert.specs.declared.cert.Cert.TheVariants.{Loops, Basis}
+use Rattle.surf_certcheck.specs.BasisFaults.{IsBasisFault}
+use Rattle.surf_certcheck.specs.LoopFaults.{IsLoopFault}
+use Rattle.surf_certcheck.specs.declared.fault.CertPart.{CertPart}
+use Rattle.surf_certcheck.specs.declared.fault.CertPart.TheVariants as part
+use Rattle.surf_certcheck.specs.declared.fault.CertFault.{CertFault}
+use Rattle.surf_certcheck.specs.declared.fault.CertFault.TheVariants.{Shape, Parent, Distance, Slack, Dual, Split, Heavier, NotClosed, Dependent, Uncovered, Memory}
+use Rattle.surf_print.specs.Lines.{numbered}
+use Rattle.surf_valid.specs.Rows.{LoopCert, BasisCert}
+use Rattle.surf_valid.specs.Bases.{IsValidBasis}
+use Rattle.surf_valid.specs.Valid.{IsValidLoops, loops_of}
+use Rattle.surf_run.specs.Outcome.{Outcome, answers}
+
+-- the part that doesn't fit the mesh
+abbrev pub part_line : CertPart → List ℕ
+part_line part.Vertices = codes "no shape vertices\n"
+part_line part.Faces = codes "no shape faces\n"
+part_line part.Loops = codes "no shape loops\n"
+part_line part.Base = codes "no shape base\n"
+
+-- a left edge, and an edge of the tree of faces that it could be exchanged for
+abbrev pub heavier_line : ℕ × ℕ → ℕ × ℕ → List ℕ
+heavier_line left cotree = numbered (codes "no heavier") (left.0 ∷ left.1 ∷ cotree.0 ∷ cotree.1 ∷ [])
+
+-- what is wrong. Want of memory is no answer
+abbrev pub fault_line : CertFault → List ℕ
+fault_line (Shape p) = part_line p
+fault_line (Parent base vertex) = numbered (codes "no parent") (base ∷ vertex ∷ [])
+fault_line (Distance base vertex) = numbered (codes "no distance") (base ∷ vertex ∷ [])
+fault_line (Slack base u v) = numbered (codes "no slack") (base ∷ u ∷ v ∷ [])
+fault_line (Dual face) = numbered (codes "no dual") (face ∷ [])
+fault_line (Split u v) = numbered (codes "no split") (u ∷ v ∷ [])
+fault_line (Heavier left cotree) = heavier_line left cotree
+fault_line (NotClosed place) = numbered (codes "no not-closed") (place ∷ [])
+fault_line (Dependent place) = numbered (codes "no dependent") (place ∷ [])
+fault_line (Uncovered base u v) = numbered (codes "no uncovered") (base ∷ u ∷ v ∷ [])
+fault_line Memory = []
+
+-- that a certificate of loops is valid, or one of a basis, and what these total
+abbrev pub loops_line : ℕ → List ℕ
+loops_line total = codes "valid loops " ++ (decimal total ++ codes "\n")
+
+abbrev pub basis_line : ℕ → List ℕ
+basis_line total = codes "valid basis " ++ (decimal total ++ codes "\n")
+
+-- The certificate is valid: its loops are a least loop system at its base.
+pub record SaysLoops (mesh : Mesh) (lengths : List ℕ) (cert : LoopCert) (outcome : Outcome) : Type 0 where
+  pub valid : IsValidLoops mesh lengths cert
+  pub least : IsLeastLoopSystem mesh lengths cert.tree.base (loops_of mesh cert)
+  pub text : outcome ≡ answers 0 (loops_line (total mesh lengths (loops_of mesh cert)))
+
+-- The certificate is valid: its cycles are a least basis.
+pub record SaysBasis (mesh : Mesh) (lengths : List ℕ) (cert : BasisCert) (outcome : Outcome) : Type 0 where
+  pub valid : IsValidBasis mesh lengths cert
+  pub least : IsLeastBasis mesh lengths cert.cycles
+  pub text : outcome ≡ answers 0 (basis_line (total mesh lengths cert.cycles))
+
+-- It isn't, for its first fault.
+pub record SaysFault (IsFault : CertFault → Type 0) (outcome : Outcome) : Type 0 where
+  pub fault : CertFault
+  pub isnt_memory : fault ≢ Memory
+  pub is_fault : IsFault fault
+  pub text : outcome ≡ answers 1 (fault_line fault)
+
+abbrev pub JudgesLoops : Mesh → List ℕ → LoopCert → Outcome → Type 0
+JudgesLoops mesh lengths cert outcome = SaysLoops mesh lengths cert outcome ⊎ SaysFault (IsLoopFault mesh lengths cert) outcome
+
+abbrev pub JudgesBasis : Mesh → List ℕ → BasisCert → Outcome → Type 0
+JudgesBasis mesh lengths cert outcome = SaysBasis mesh lengths cert outcome ⊎ SaysFault (IsBasisFault mesh lengths cert) outcome
+
+abbrev pub JudgesCert : Mesh → List ℕ → Cert → Outcome → Type 0
+JudgesCert mesh lengths (Loops cert) outcome = JudgesLoops mesh lengths cert outcome
+JudgesCert mesh lengths (Basis cert) outcome = JudgesBasis mesh lengths cert outcome
