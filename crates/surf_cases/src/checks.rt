@@ -13,6 +13,9 @@ const ROWS: &str = "0 -\n1 0\n1 0\n1 0\n1 0\n2 1\n1 0\n2 1\n1 0\n";
 const DUAL: &str =
     "dual\n0 -\n5 1 4\n4 4 5\n7 2 5\n6 3 5\n7 2 3\n2 3 7\n1 3 4\n2 4 7\n3 4 8\n4 5 8\n5 5 6\n4 1 6\n3 6 7\n4 2 7\n3 7 8\n4 2 8\n5 6 8\n";
 
+const OTHER_DUAL: &str =
+    "dual\n0 -\n5 1 4\n4 4 5\n5 1 5\n6 3 5\n7 2 3\n2 3 7\n1 3 4\n2 4 7\n3 4 8\n4 5 8\n5 5 6\n4 1 6\n3 6 7\n4 1 7\n3 7 8\n4 2 8\n5 6 8\n";
+
 const LEFT: &str = "left\n1 2\n3 6\n";
 
 // A certificate of a basis of the tetrahedron.
@@ -41,8 +44,19 @@ fn checks(
 
 #[test]
 fn edited_certificates(rt: HostRuntime) -> Result<(), Fail> {
-    let cases: [([&str; 5], &str); 12] = [
+    let cases: [([&str; 5], &str); 13] = [
         ([COUNTS, "tree 0\n", ROWS, DUAL, LEFT], "valid loops 6\n"),
+        // Vertices 5 and 7 hang on vertex 2 as well as on 1, and then faces 3 and 14 hang on other faces.
+        (
+            [
+                COUNTS,
+                "tree 0\n",
+                "0 -\n1 0\n1 0\n1 0\n1 0\n2 2\n1 0\n2 2\n1 0\n",
+                OTHER_DUAL,
+                LEFT,
+            ],
+            "valid loops 6\n",
+        ),
         (
             [
                 "counts 8 18 2\n",

@@ -13,6 +13,8 @@ mod cuts;
 #[cfg(test)]
 mod cycles;
 #[cfg(test)]
+mod large;
+#[cfg(test)]
 mod made;
 #[cfg(test)]
 mod meshes;

@@ -1,5 +1,5 @@
 //! Reads and writes that fail.
-use crate::meshes::{TET, TORUS33};
+use crate::meshes::{TET, TORUS33, TORUS33_CERT};
 use crate::rows::{shelf_of, sink_of, words_of};
 use std::test::Fail;
 use surf_run::run;
@@ -26,6 +26,31 @@ fn each_read_fails_once(rt: HostRuntime) -> Result<(), Fail> {
         assert_eq!(rt; again, 0, "after call {call}");
     }
     Ok(())
+}
+
+#[test]
+fn each_read_of_a_check_fails_once(rt: HostRuntime) -> Result<(), Fail> {
+    let alloc = rt.alloc();
+    let words = words_of(alloc, &["check", "torus33", "unit", "C"])?;
+    let files = [("torus33", TORUS33), ("C", TORUS33_CERT)];
+    for call in 0..100 {
+        let mut shelf = shelf_of(alloc, &files, 16, &[call])?;
+        let mut out = sink_of(alloc, 100, 7, &[])?;
+        let mut diag = sink_of(alloc, 100, 7, &[])?;
+        let status = run(alloc, &words, &mut shelf, &mut out, &mut diag);
+        if status != 9 {
+            assert_eq!(rt; status, 0);
+            assert_eq!(rt; out.written(), b"valid loops 6\n".as_slice());
+            return Ok(());
+        }
+        assert_eq!(rt; out.written().len(), 0, "at call {call}");
+        assert_eq!(rt;
+            diag.written(),
+            b"read fault\n".as_slice(),
+            "at call {call}"
+        );
+    }
+    Err("a run without faults")?
 }
 
 #[test]
