@@ -1,6 +1,7 @@
 //! Checks of certificates.
 use crate::meshes::{SCATTERED_LENGTHS, TET, TORUS33, TORUS33_CERT};
 use crate::rows::{Case, answers, output_of};
+use std::process::Abort;
 use std::test::Fail;
 
 // The parts of the certificate of the torus of 3 by 3.

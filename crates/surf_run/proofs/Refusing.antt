@@ -1,5 +1,5 @@
 -- No test of words and files answers: where one ends, it refuses.
-use Rattle.std.proofs.Common.{◌≡◌, ◌<◌, ◌≤◌, inl, inr, ℕ, Bool, true, false, cond, List, [], length, Option, Some, None, Result, Ok, Err, refl, sym, ap, ◌∙◌, subst, arith}
+use Rattle.std.proofs.Common.{◌≡◌, ◌<◌, ◌≤◌, inl, inr, ℕ, Bool, true, false, List, [], length, Option, Some, None, Result, Ok, Err, sym, ap, subst, arith}
 use Rattle.std.specs.Prelude.{nat_lt, ◌&&◌, if◌then◌else◌, codes, replicate}
 use Rattle.std.specs.Str.{bytes_eq}
 use Rattle.surf_base.specs.Outside.{Files, bytes_of}
@@ -20,7 +20,7 @@ use Rattle.surf_run.specs.Reading.{Reads, within_text}
 use Rattle.surf_run.specs.Says.{Says}
 use Rattle.surf_run.specs.Steps.{Ends}
 use Rattle.surf_run.specs.Surfaces.{surface_cause, EndsInFault, IsSurfaceText}
-use Rattle.surf_run.specs.Weights.{weighed, weighed_by, weighed_for, length_cause, base_line, based, HasLengths, HasBase}
+use Rattle.surf_run.specs.Weights.{weighed, weighed_by, weighed_for, length_cause, base_line, based, HasLengths}
 use Rattle.surf_run.proofs.Running.{IsDue, off_due, surface_due, length_due}
 
 -- where a step ends, its status is above 1

@@ -28,13 +28,13 @@ use Rattle.surf_valid.specs.Chosen.{cert_of, basis_cert_of}
 use Rattle.surf_valid.proofs.BasisLaws.{valid_bases_are_least}
 use Rattle.surf_valid.proofs.ChosenTotals.{chosen_loops_total, chosen_basis_total}
 use Rattle.surf_valid.proofs.LoopLaws.{valid_loops_are_least}
-use Rattle.surf_run.specs.CertTexts.{bounded, certified, then_bounded, IsCertText}
+use Rattle.surf_run.specs.CertTexts.{bounded, certified, then_bounded}
 use Rattle.surf_run.specs.Certificates.{GivesLoopCert, GivesBasisCert}
 use Rattle.surf_run.specs.CycleTasks.{Finds, OnMesh, OnMeshText}
 use Rattle.surf_run.specs.Given.{searchable, HasFewVertices, IsFewLoopedText, IsSearchableText, IsMeasured, IsWeighted}
 use Rattle.surf_run.specs.Leads.{Answer, Leads, OnRequest}
 use Rattle.surf_run.specs.Limits.{beyond}
-use Rattle.surf_run.specs.MeshTexts.{read_outcome, IsMeshText}
+use Rattle.surf_run.specs.MeshTexts.{read_outcome}
 use Rattle.surf_run.specs.Outcome.{Outcome, answers, status_of}
 use Rattle.surf_run.specs.Reading.{Reads, within_text}
 use Rattle.surf_run.specs.Says.{Says}
@@ -42,7 +42,7 @@ use Rattle.surf_run.specs.Summaries.{total_size}
 use Rattle.surf_run.specs.Tasks.{Performs, OnSurface, OnText}
 use Rattle.surf_run.specs.TwoRuns.{LoopsPass, CertifiedLoopsPass, CertifiedBasesPass}
 use Rattle.surf_run.specs.Verdicts.{loops_line, basis_line}
-use Rattle.surf_run.specs.Words.{Request, number_of, weighted_request}
+use Rattle.surf_run.specs.Words.{number_of, weighted_request}
 use Rattle.surf_run.specs.declared.cycles.CycleTask.TheVariants.{BasisCertificate}
 use Rattle.surf_run.specs.declared.weighted.Task.TheVariants.{LeastLoops, LoopCertificate}
 use Rattle.surf_run.proofs.CycleLaws.{few_loops, few_vertices}
