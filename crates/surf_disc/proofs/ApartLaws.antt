@@ -18,8 +18,8 @@ use Rattle.surf_disc.specs.Across.{AreAcrossUpTo}
 use Rattle.surf_disc.proofs.CornerLaws.{face_of, own_face}
 
 module _ (mesh : Mesh) (across : List ℕ) (acrosses : AreAcrossUpTo mesh (side_count mesh) across)
-    (rows : List (List ℕ)) (are : AreAcross mesh across (face_count mesh) rows) where
-  leads_share : (f g : ℕ) → f < face_count mesh → Leads rows f g → Share mesh f g
+    (links : List (List ℕ)) (are : AreAcross mesh across (face_count mesh) links) where
+  leads_share : (f g : ℕ) → f < face_count mesh → Leads links f g → Share mesh f g
   leads_share f g lt h =
       let m = h.0 in
       let in' : m < length (face_at mesh f) = omega (arith, h.1, are.row_len f lt) in
@@ -38,7 +38,7 @@ module _ (mesh : Mesh) (across : List ℕ) (acrosses : AreAcrossUpTo mesh (side_
         (there.is_face, ap (λ p. has_side p (face_at mesh far)) (sym is.same_edge) ∙ side_of_face mesh t far there),
       )
 
-  share_leads : (f g : ℕ) → f ≢ g → Share mesh f g → Leads rows f g
+  share_leads : (f g : ℕ) → f ≢ g → Share mesh f g → Leads links f g
   share_leads f g differ h =
       let x = face_has_side mesh f h.0 h.1.0 h.1.1 in
       let y = face_has_side mesh g h.0 h.2.0 h.2.1 in
@@ -61,38 +61,38 @@ module _ (mesh : Mesh) (across : List ℕ) (acrosses : AreAcrossUpTo mesh (side_
             ∙ one_face mesh t (face_of mesh t) g (own_face mesh t is.is_side) (subst P other y.1.its_face),
       )
 
-  -- rows lead from faces alone
-  leads_face : (f g : ℕ) → Leads rows f g → f < face_count mesh
-  leads_face f g h = elim (cases_lt f (length rows)) [
+  -- links lead from faces alone
+  leads_face : (f g : ℕ) → Leads links f g → f < face_count mesh
+  leads_face f g h = elim (cases_lt f (length links)) [
     | inl lt ↦ let n = are.size in omega arith
-    | inr ge ↦ let e = ap length (get_or_past rows f [] ge) in absurd (omega (arith, h.1))
+    | inr ge ↦ let e = ap length (get_or_past links f [] ge) in absurd (omega (arith, h.1))
   ]
 
-  reach_shares : (g : ℕ) → Joined (Leads rows) 0 g → Joined (Share mesh) 0 g
+  reach_shares : (g : ℕ) → Joined (Leads links) 0 g → Joined (Share mesh) 0 g
   reach_shares g h = joined_lift (λ x y l. over (leads_share x y (leads_face x y l) l) here) h
 
-  shares_reach : (g : ℕ) → Joined (Share mesh) 0 g → Joined (Leads rows) 0 g
+  shares_reach : (g : ℕ) → Joined (Share mesh) 0 g → Joined (Leads links) 0 g
   shares_reach g h = joined_lift (λ x y s. elim (cases_eq x y) [
-    | inl e ↦ let P : ℕ → Type 0 = λ z. Joined (Leads rows) x z in subst P e here
+    | inl e ↦ let P : ℕ → Type 0 = λ z. Joined (Leads links) x z in subst P e here
     | inr ne ↦ over (share_leads x y ne s) here
   ]) h
 
-  pub over_inside : All (λ row. All (λ g. g < length rows) row) rows
+  pub over_inside : All (λ link. All (λ g. g < length links) link) links
   over_inside = λ f e lt m d in'.
       let n = are.size in
       let in_f : f < face_count mesh = omega arith in
-      let same : get_or rows f e ≡ get_or rows f [] = get_or_default rows f e [] lt in
+      let same : get_or links f e ≡ get_or links f [] = get_or_default links f e [] lt in
       let l = ap length same in
       let place : m < length (face_at mesh f) = omega (arith, are.row_len f in_f) in
       let sp = spans mesh.faces f in_f in
       let is = acrosses.all (first_side mesh f + m) (omega (arith, sp.0, sp.1)) in
       let there = own_face mesh (get_or across (first_side mesh f + m) 0) is.is_side in
-      let value : get_or (get_or rows f e) m d ≡ face_of mesh
-      (get_or across (first_side mesh f + m) 0) = get_or_default (get_or rows f e) m d 0 in'
+      let value : get_or (get_or links f e) m d ≡ face_of mesh
+      (get_or across (first_side mesh f + m) 0) = get_or_default (get_or links f e) m d 0 in'
       ∙ ap (λ (xs : List ℕ). get_or xs m 0) same ∙ are.row_at f m in_f place in
       omega (arith, value, there.is_face)
 
-  module _ (seen : List Bool) (r : IsReach rows 0 seen) where
+  module _ (seen : List Bool) (r : IsReach links 0 seen) where
     seen_joined : (g : ℕ) → marked seen g ≡ true → Joined (Share mesh) 0 g
     seen_joined g h = reach_shares g (r.sound g h)
 

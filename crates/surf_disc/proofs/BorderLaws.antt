@@ -267,9 +267,9 @@ module _ (mesh : Mesh) (is_mesh : IsMesh mesh) (next prev across : List ℕ)
       | inl inside ↦
           let n = near.size in
           let lt : v < mesh.vertices = omega arith in
-          let row = get_or rows v [] in
-          let any : list_any (eqb w) row ≡ true = list_any_from (eqb w) row 0 h.0 h.1
-          (eq-eqb w (get_or row h.0 0) (sym h.2)) in
+          let ends = get_or rows v [] in
+          let any : list_any (eqb w) ends ≡ true = list_any_from (eqb w) ends 0 h.0 h.1
+          (eq-eqb w (get_or ends h.0 0) (sym h.2)) in
           let each = sym (list_any-flat_map (eqb w) ends_at (sides_at mesh v))
           ∙ ap (list_any (eqb w)) (sym (near.row v lt)) ∙ any in
           let r = list_any_at (λ s. list_any (eqb w) (ends_at s)) (sides_at mesh v) 0 each in

@@ -28,7 +28,7 @@ module _ (mesh : Mesh) (met : AllMet mesh) (seen : List Bool) (fans : AreFansMar
   first_face : IsFaceOf mesh (get_or at 0 0) first
   first_face = own_face mesh (get_or at 0 0) (at_begins mesh v 0 some).0
 
-  -- a face at the vertex has a side in its row
+  -- a face at the vertex has a side in its ring
   placed_at : (h : ℕ) → HasCorner mesh h v → (k : ℕ) × ((k < length at) × IsFaceOf mesh (get_or at k 0) h)
   placed_at h c =
       let t = corner_begins mesh h v c in
@@ -67,11 +67,11 @@ module _ (mesh : Mesh) (met : AllMet mesh) (seen : List Bool) (fans : AreFansMar
 
 -- the least vertex with a corner that isn't marked
 pub least_pinch : (mesh : Mesh) → AllMet mesh → (seen : List Bool) → AreFansMarked mesh seen → (v : ℕ) →
-    v < mesh.vertices → ((u : ℕ) → u < v → HasOneFan mesh u) → (k : ℕ) (row : List ℕ) → row ≡ sides_at mesh v →
-    k < length row → marked seen (get_or row k 0) ≡ false →
-    ((j : ℕ) → j < k → marked seen (get_or row j 0) ≡ true) →
-    IsLeastPinch mesh v (face_of mesh (get_or row 0 0)) (face_of mesh (get_or row k 0))
-least_pinch mesh met seen fans v lt before k row is in' new old =
+    v < mesh.vertices → ((u : ℕ) → u < v → HasOneFan mesh u) → (k : ℕ) (ring : List ℕ) → ring ≡ sides_at mesh v →
+    k < length ring → marked seen (get_or ring k 0) ≡ false →
+    ((j : ℕ) → j < k → marked seen (get_or ring j 0) ≡ true) →
+    IsLeastPinch mesh v (face_of mesh (get_or ring 0 0)) (face_of mesh (get_or ring k 0))
+least_pinch mesh met seen fans v lt before k ring is in' new old =
     let Q : List ℕ → Type 0 = λ xs. IsPinch mesh v (face_of mesh (get_or xs 0 0)) (face_of mesh (get_or xs k 0)) in
     record {
       is_vertex = lt;
@@ -83,9 +83,9 @@ least_pinch mesh met seen fans v lt before k row is in' new old =
     }
 
 pub fans_more : (mesh : Mesh) → AllMet mesh → (seen : List Bool) → AreFansMarked mesh seen → (v : ℕ) →
-    v < mesh.vertices → ((u : ℕ) → u < v → HasOneFan mesh u) → (row : List ℕ) → row ≡ sides_at mesh v →
-    ((k : ℕ) → k < length row → marked seen (get_or row k 0) ≡ true) → (u : ℕ) → u < v + 1 → HasOneFan mesh u
-fans_more mesh met seen fans v lt before row is all u below = elim (cases_eq u v) [
+    v < mesh.vertices → ((u : ℕ) → u < v → HasOneFan mesh u) → (ring : List ℕ) → ring ≡ sides_at mesh v →
+    ((k : ℕ) → k < length ring → marked seen (get_or ring k 0) ≡ true) → (u : ℕ) → u < v + 1 → HasOneFan mesh u
+fans_more mesh met seen fans v lt before ring is all u below = elim (cases_eq u v) [
   | inl e ↦
       let P : ℕ → Type 0 = λ w. HasOneFan mesh w in
       subst P (sym e) (one_fan mesh met seen fans v lt
@@ -94,9 +94,9 @@ fans_more mesh met seen fans v lt before row is all u below = elim (cases_eq u v
   | inr ne ↦ before u (omega arith)
 ]
 
--- the sides of a row are marked or not, and have faces
-pub row_inside : (mesh : Mesh) (v k n : ℕ) (row : List ℕ) → row ≡ sides_at mesh v → k < length row →
-    side_count mesh ≤ n → get_or row k 0 < n
-row_inside mesh v k n row is in' room =
+-- the sides of a ring are marked or not, and have faces
+pub row_inside : (mesh : Mesh) (v k n : ℕ) (ring : List ℕ) → ring ≡ sides_at mesh v → k < length ring →
+    side_count mesh ≤ n → get_or ring k 0 < n
+row_inside mesh v k n ring is in' room =
     let b = at_begins mesh v k (omega (arith, in', ap length is)) in
     omega (arith, b.0, ap (λ (xs : List ℕ). get_or xs k 0) is)

@@ -10,14 +10,16 @@ reach-requires-clause-inside c = over_inside c.args.soup.now c.args.across.now c
 
 pub returns-in-None-clause-ok : goal.returns-in-None-clause-ok
 returns-in-None-clause-ok c =
-    let R : List Bool → Type 0 = IsReach c.in_ok-rows.rows 0 in
+    let links = c.in_ok-rows.rows in
+    let R : List Bool → Type 0 = IsReach links 0 in
     let r = subst R (sym c.deref.ensures.value) c.in_ok-seen.ensures in
     none_apart c.args.soup.now c.args.across.now c.requires.acrosses c.in_ok-rows.rows c.in_ok-rows.ensures.rows
     c.deref.result.now r c.in-None.ensures
 
 pub returns-clause-fault : goal.returns-clause-fault
 returns-clause-fault c =
-    let R : List Bool → Type 0 = IsReach c.in_ok-rows.rows 0 in
+    let links = c.in_ok-rows.rows in
+    let R : List Bool → Type 0 = IsReach links 0 in
     let r = subst R (sym c.deref.ensures.value) c.in_ok-seen.ensures in
     let found = c.in-Some.ensures in
     let least = least_apart c.args.soup.now c.args.across.now c.requires.acrosses c.in_ok-rows.rows

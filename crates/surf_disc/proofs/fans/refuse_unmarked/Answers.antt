@@ -48,18 +48,18 @@ pub returns-in-Some-clause-fault : goal.returns-in-Some-clause-fault
 returns-in-Some-clause-fault c =
     let mesh = c.args.soup.now in
     let v = c.loop-v.v in
-    let row = c.row-row.result.now in
+    let ring = c.row-row.result.now in
     let k = c.in-Some.k in
     let lt : v < mesh.vertices = omega (arith, c.loop-v-test.true, c.vertices-v-end.ensures.count) in
     let is = c.row-row.ensures ∙ at_is mesh c.args.at_vertex.now c.requires.rows v lt in
     let found = c.in-Some.ensures in
-    let least = least_pinch mesh c.requires.met c.args.seen.now c.requires.fans v lt c.loop-v.invariant k row is
+    let least = least_pinch mesh c.requires.met c.args.seen.now c.requires.fans v lt c.loop-v.invariant k ring is
     found.0 found.1 found.2 in
-    let first : c.face_in-first.result ≡ face_of mesh (get_or row 0 0) = c.face_in-first.ensures
-    ∙ ap (λ (xs : List ℕ). get_or xs (get_or row 0 0) 0) c.requires.faces in
-    let second : c.face_in-second.result ≡ face_of mesh (get_or row k 0) = c.face_in-second.ensures
-    ∙ ap (λ (xs : List ℕ). get_or xs (get_or row k 0) 0) c.requires.faces in
-    let F : ℕ → Type 0 = λ f. IsLeastPinch mesh v f (face_of mesh (get_or row k 0)) in
+    let first : c.face_in-first.result ≡ face_of mesh (get_or ring 0 0) = c.face_in-first.ensures
+    ∙ ap (λ (xs : List ℕ). get_or xs (get_or ring 0 0) 0) c.requires.faces in
+    let second : c.face_in-second.result ≡ face_of mesh (get_or ring k 0) = c.face_in-second.ensures
+    ∙ ap (λ (xs : List ℕ). get_or xs (get_or ring k 0) 0) c.requires.faces in
+    let F : ℕ → Type 0 = λ f. IsLeastPinch mesh v f (face_of mesh (get_or ring k 0)) in
     let G : ℕ → Type 0 = λ g. IsLeastPinch mesh v c.face_in-first.result g in
     let V : ℕ → Type 0 = λ w. IsLeastPinch mesh w c.face_in-first.result c.face_in-second.result in (
       c.requires.none_crowded,
