@@ -1,4 +1,4 @@
-use Rattle.std.proofs.Common.{◌≡◌, ◌≢◌, ◌+◌, ◌<◌, ◌∙◌, ℕ, length, set, slice_index, sym, ap, subst, arith}
+use Rattle.std.proofs.Common.{◌≡◌, ◌≢◌, ◌<◌, ◌∙◌, length, set, slice_index, sym, ap, arith}
 use Rattle.std.proofs.lemmas.List.{length-set}
 use Rattle.surf_complex.specs.Walk.{edge_number}
 use Rattle.surf_valid.specs.Valid.{tree_of, parent_at, or_zero}
