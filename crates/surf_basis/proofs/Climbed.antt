@@ -1,76 +1,19 @@
 -- Signatures of ways up a tree, and of loops.
-use Rattle.std.proofs.Common.{◌≡◌, ◌≢◌, ℕ, ◌<◌, ◌&&◌, List, Option, Some, None, false, eqb, length, slice_index, bit_xor, sym, ap, ◌∙◌, subst, arith, inl, inr}
+use Rattle.std.proofs.Common.{◌≡◌, ◌≢◌, ℕ, ◌<◌, List, Option, Some, None, slice_index, bit_xor, sym, ap, ◌∙◌, subst, arith, inl, inr}
 use Rattle.std.specs.Int.Bits.{xor_assoc, xor_comm, xor_zero_l}
 use Rattle.std.proofs.lemmas.Bool.{cases_eq}
-use Rattle.std.proofs.lemmas.Bool.Decides.{nat_tests}
 use Rattle.std.proofs.lemmas.List.FromFn.{get_or-map-range_with_len}
-use Rattle.surf_z2.specs.Parity.{xor}
-use Rattle.surf_z2.proofs.Below.{same_from}
-use Rattle.surf_z2.proofs.ParityLaws.{odd_below-same, odd_below-one}
-use Rattle.surf_homology.specs.Cells.{primal, Split, signature, chain_signature}
-use Rattle.surf_homology.specs.Independence.{signature_of}
-use Rattle.surf_homology.specs.Trees.{Tree, IsTree, on_path, loop}
-use Rattle.surf_homology.proofs.Independence.{signature_of-same, signature_of-linear}
-use Rattle.surf_homology.proofs.Trees.{path_root, path_step}
+use Rattle.surf_homology.specs.Cells.{Split}
 use Rattle.surf_complex.specs.Mesh.{Mesh}
 use Rattle.surf_complex.specs.Surface.{edge_count, ends, IsSurface}
-use Rattle.surf_complex.specs.Walk.{parity}
-use Rattle.surf_complex.specs.Cells.{cells_of}
 use Rattle.surf_complex.specs.Class.{class_of}
 use Rattle.surf_complex.specs.Loop.{loop_walk}
 use Rattle.surf_complex.specs.Signature.{edge_signature}
-use Rattle.surf_complex.proofs.ClassLaws.{runs_loop}
+use Rattle.surf_sign.specs.Ways.{way_class}
+use Rattle.surf_sign.proofs.WayLaws.{way_none, way_more, loop_class}
 use Rattle.surf_tree.specs.Tables.{TreeTables, tree_of, parent_of, parent_edge_of}
 use Rattle.surf_cotree.specs.Tables.{CotreeTables}
 use Rattle.surf_basis.specs.Signing.{AreSignatures, IsClimbed}
-
-eqb_flip : (a b : ℕ) → eqb a b ≡ eqb b a
-eqb_flip a b = grind (arith, nat_tests)
-
--- the signature of the edges on the way up from a vertex
-abbrev pub way_class : Mesh → Split → Tree → ℕ → ℕ
-way_class mesh d t n = signature_of (cells_of mesh) d (on_path t n)
-
--- an edge alone has its own signature
-one_edge : (mesh : Mesh) (d : Split) (e : ℕ) → e < edge_count mesh →
-    signature_of (cells_of mesh) d (λ h. eqb e h) ≡ edge_signature mesh d e
-one_edge mesh d e l =
-    same_from (length d.left) (chain_signature (cells_of mesh) d (λ h. eqb e h)) (signature (cells_of mesh) d e) (λ k below.
-    odd_below-same (edge_count mesh) (λ h. eqb e h && signature (cells_of mesh) d h k)
-    (λ h. eqb h e && signature (cells_of mesh) d h k)
-    (λ h in'. ap (λ b. b && signature (cells_of mesh) d h k) (eqb_flip e h))
-    ∙ odd_below-one (edge_count mesh) e (λ h. signature (cells_of mesh) d h k) l)
-
--- at the root there is none
-pub way_none : (mesh : Mesh) (d : Split) (t : Tree) → way_class mesh d t t.root ≡ 0
-way_none mesh d t =
-    signature_of-same (cells_of mesh) d (on_path t t.root) (λ e. false) (λ e l. path_root t e)
-    ∙ (signature_of-linear (cells_of mesh) d).zero
-
--- elsewhere that of the edge to the parent, and of the way from there
-pub way_more : (mesh : Mesh) (d : Split) (t : Tree) → IsTree (primal (cells_of mesh)) t → (n : ℕ) → n < mesh.vertices →
-    n ≢ t.root → way_class mesh d t n ≡ bit_xor (edge_signature mesh d (t.up n)) (way_class mesh d t (t.parent n))
-way_more mesh d t tree n l ne =
-    signature_of-same (cells_of mesh) d (on_path t n) (λ e. xor (eqb (t.up n) e) (on_path t (t.parent n) e))
-    (λ e in'. path_step (primal (cells_of mesh)) t tree n e l ne)
-    ∙ (signature_of-linear (cells_of mesh) d).add (λ e. eqb (t.up n) e) (on_path t (t.parent n))
-    ∙ ap (λ x. bit_xor x (way_class mesh d t (t.parent n))) (one_edge mesh d (t.up n) (tree.up_in n l ne))
-
--- the loop of an edge has its own signature and those of the two ways
-pub loop_class : (mesh : Mesh) (d : Split) (t : TreeTables) (e : ℕ) → IsSurface mesh → IsClimbed mesh t → e < edge_count mesh →
-    class_of mesh d (loop_walk mesh (tree_of t) e)
-    ≡ bit_xor (edge_signature mesh d e)
-    (bit_xor (way_class mesh d (tree_of t) (ends mesh e).0) (way_class mesh d (tree_of t) (ends mesh e).1))
-loop_class mesh d t e surface climbed l =
-    let run = runs_loop mesh climbed.lengths surface (tree_of t) climbed.spans climbed.short e l in
-    let u = (ends mesh e).0 in
-    let v = (ends mesh e).1 in
-    let linear = signature_of-linear (cells_of mesh) d in
-    signature_of-same (cells_of mesh) d (parity mesh (loop_walk mesh (tree_of t) e)) (loop (primal (cells_of mesh)) (tree_of t) e)
-    (λ h in'. run.parities h in')
-    ∙ linear.add (λ h. eqb e h) (λ h. xor (on_path (tree_of t) u h) (on_path (tree_of t) v h))
-    ∙ ap (λ x. bit_xor x (signature_of (cells_of mesh) d (λ h. xor (on_path (tree_of t) u h) (on_path (tree_of t) v h)))) (one_edge mesh d e l)
-    ∙ ap (bit_xor (edge_signature mesh d e)) (linear.add (on_path (tree_of t) u) (on_path (tree_of t) v))
 
 -- what a table of signatures has for an edge
 pub at_edge : (mesh : Mesh) (d : Split) (t : CotreeTables) (e : ℕ) → AreSignatures mesh d t → e < edge_count mesh →
@@ -148,4 +91,4 @@ loop_summed mesh d t s e u v nothing first both added all surface climbed l are 
     let added_is : added ≡ own = is ∙ at_edge mesh d s e are l in
     let both_is : both ≡ bit_xor own a = two ∙ ap (λ x. bit_xor x added) first_is ∙ ap (bit_xor a) added_is ∙ xor_comm a own in
     three ∙ ap (λ x. bit_xor x (way_class mesh d (tree_of t) v)) both_is ∙ ap (λ n. bit_xor (bit_xor own a) (way_class mesh d (tree_of t) n)) is_v
-    ∙ xor_assoc own a b ∙ sym (loop_class mesh d t e surface climbed l)
+    ∙ xor_assoc own a b ∙ sym (loop_class mesh climbed.lengths d (tree_of t) e surface climbed.spans climbed.short l)

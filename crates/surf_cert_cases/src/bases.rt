@@ -1,4 +1,7 @@
 //! Certificates of bases, with a line edited or other cycles.
+ghost use Rattle.std.specs.Prelude.{◌≡◌, ◌≤◌, ◌+◌, IsTrue, IfOk, length};
+ghost use Rattle.surf_complex.specs.Surface.{edge_count, face_count};
+
 use crate::edit::edited;
 use crate::texts::{SCATTERED, SCATTERED_TREES, TORUS, TREES};
 use std::alloc::Global;
@@ -7,7 +10,7 @@ use surf_base::{FaceId, VertexId};
 use surf_cert::{BasisCert, Cert, DualRows, TreeRows, read_cert};
 use surf_certcheck::{CertFault, CertPart, check_basis};
 use surf_check::check;
-use surf_lengths::{Lengths, unit_lengths};
+use surf_lengths::{Lengths, read_lengths, unit_lengths};
 use surf_mesh::{HalfMesh, Walk};
 use surf_off::read_off;
 
@@ -42,12 +45,40 @@ fn cert_of(alloc: Global, trees: &[u8], cycles: &str) -> Result<BasisCert, Fail>
     }
 }
 
-// What the checker says for length 1.
-fn judged(alloc: Global, cert: &BasisCert) -> Result<Result<u128, CertFault>, Fail> {
+// Whether two less the characteristic is at most 1,024.
+fn has_few_loops(mesh: &HalfMesh) -> bool
+    ensures few { IsTrue result → edge_count mesh.now + 2 ≤ mesh.now.vertices + face_count mesh.now + 1024 }
+{
+    let nodes = mesh.vertices() as u64 + mesh.faces() as u64;
+    mesh.edges() as u64 + 2 <= nodes + 1024
+}
+
+// The lengths of a text, or length 1 where it is empty.
+fn lengths_of(alloc: Global, mesh: &HalfMesh, text: &str) -> Result<Lengths, Fail>
+    ensures count { IfOk result (λ lengths. length lengths ≡ edge_count mesh.now) }
+{
+    if text.len() > 1000 {
+        return Err("a long text")?;
+    }
+    if text.is_empty() {
+        return match unit_lengths(alloc, mesh) {
+            Ok(lengths) => Ok(lengths),
+            Err(_) => Err("memory")?,
+        };
+    }
+    match read_lengths(alloc, text.as_bytes(), mesh) {
+        Ok(lengths) => Ok(lengths),
+        Err(_) => Err("lengths")?,
+    }
+}
+
+// What the checker says of a certificate for the lengths of a text.
+fn judged(alloc: Global, lengths: &str, cert: &BasisCert) -> Result<Result<u128, CertFault>, Fail> {
     let mesh = torus(alloc)?;
-    let Ok(lengths) = unit_lengths(alloc, &mesh) else {
-        return Err("memory")?;
-    };
+    if !has_few_loops(&mesh) {
+        return Err("few loops")?;
+    }
+    let lengths = lengths_of(alloc, &mesh, lengths)?;
     Ok(check_basis(alloc, &mesh, &lengths, cert))
 }
 
@@ -74,7 +105,7 @@ fn cycles_and_their_faults(rt: HostRuntime) -> Result<(), Fail> {
     ];
     for (cycles, want) in cases {
         let cert = cert_of(alloc, TREES.as_bytes(), cycles)?;
-        assert_eq!(rt; judged(alloc, &cert)?, want);
+        assert_eq!(rt; judged(alloc, "", &cert)?, want);
     }
     Ok(())
 }
@@ -130,7 +161,7 @@ fn trees_and_their_faults(rt: HostRuntime) -> Result<(), Fail> {
         let text = edited(alloc, TREES.as_bytes(), place, line)?;
         let text = edited(alloc, &text, other_place, other_line)?;
         let cert = cert_of(alloc, &text, "0 1 2 0\n0 1 2 0\n")?;
-        assert_eq!(rt; judged(alloc, &cert)?, Err(want));
+        assert_eq!(rt; judged(alloc, "", &cert)?, Err(want));
     }
     Ok(())
 }
@@ -189,7 +220,7 @@ fn sizes_and_bases(rt: HostRuntime) -> Result<(), Fail> {
     ];
     for (base, most, want) in cases {
         let other = rebased(alloc, &cert, base, most)?;
-        assert_eq!(rt; judged(alloc, &other)?, want);
+        assert_eq!(rt; judged(alloc, "", &other)?, want);
     }
     Ok(())
 }
@@ -198,8 +229,6 @@ fn sizes_and_bases(rt: HostRuntime) -> Result<(), Fail> {
 fn lengths_that_differ(rt: HostRuntime) -> Result<(), Fail> {
     let alloc = rt.alloc();
     let v = VertexId::new;
-    let mesh = torus(alloc)?;
-    let lengths = Lengths::from_values(Vec::from_array(alloc, SCATTERED)?);
     let cases = [
         ("2 5 3 7 2\n2 5 8 7 2\n", Ok(170)),
         (
@@ -213,7 +242,7 @@ fn lengths_that_differ(rt: HostRuntime) -> Result<(), Fail> {
     ];
     for (cycles, want) in cases {
         let cert = cert_of(alloc, SCATTERED_TREES.as_bytes(), cycles)?;
-        assert_eq!(rt; check_basis(alloc, &mesh, &lengths, &cert), want);
+        assert_eq!(rt; judged(alloc, SCATTERED, &cert)?, want);
     }
     Ok(())
 }

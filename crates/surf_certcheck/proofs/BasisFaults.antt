@@ -1,18 +1,16 @@
 -- A certificate of a basis with a fault isn't valid, and a valid one shows a least basis.
-use Rattle.std.proofs.Common.{◌≡◌, ◌≢◌, ℕ, ◌<◌, List, [], length, get_or, All, Contains, refl, sym, ap, ◌∙◌, subst, inl, inr, true, false}
-use Rattle.std.specs.List.{list_any}
+use Rattle.std.proofs.Common.{◌≡◌, ◌≢◌, ℕ, List, [], length, get_or, refl, sym, ap, ◌∙◌, subst, inl, inr}
 use Rattle.std.specs.Result.{IfOk, IfErr}
 use Rattle.std.specs.declared.result.Result.{Result}
 use Rattle.std.specs.declared.result.Result.TheVariants.{Ok, Err}
 use Rattle.std.proofs.lemmas.Bool.{true≢false}
 use Rattle.std.proofs.lemmas.List.{get_or_default}
 use Rattle.surf_complex.specs.Mesh.{Mesh, pair_of, pair_eq, edges, among}
-use Rattle.surf_complex.specs.Surface.{edge_count, IsSurface}
+use Rattle.surf_complex.specs.Surface.{IsSurface}
 use Rattle.surf_complex.specs.Walk.{ArePositive}
 use Rattle.surf_complex.specs.Homology.{total, IsLeastBasis}
 use Rattle.surf_complex.proofs.PairLaws.{pair_eq-true}
 use Rattle.surf_complex.proofs.EdgeLaws.{among-contains, list_any_at}
-use Rattle.surf_complex.proofs.ClassLaws.{some_vertex}
 use Rattle.surf_valid.specs.Rows.{BasisCert}
 use Rattle.surf_valid.specs.Bases.{tree_at, IsClosedList, IsValidBasis, basis_total}
 use Rattle.surf_valid.proofs.BasisLaws.{valid_bases_are_least}

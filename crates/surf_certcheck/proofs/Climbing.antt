@@ -1,15 +1,12 @@
 -- The coordinates of ways up a tree, and of loops through it.
-use Rattle.std.proofs.Common.{◌≡◌, ◌≢◌, ℕ, ◌+◌, ◌<◌, Option, Some, None, List, bit_xor, slice_index, get_or, set, length, sym, ap, ◌∙◌, subst, arith, inl, inr, get_or-set_same, get_or-set_other}
+use Rattle.std.proofs.Common.{◌≡◌, ◌≢◌, ℕ, ◌+◌, ◌<◌, Some, None, List, bit_xor, slice_index, set, length, sym, ap, ◌∙◌, subst, arith, inl, inr, get_or-set_same, get_or-set_other}
 use Rattle.std.specs.Int.Bits.{xor_assoc, xor_comm, xor_zero_l, xor_zero_r}
 use Rattle.std.proofs.lemmas.Bool.{cases_eq}
-use Rattle.surf_homology.specs.Cells.{primal, Split}
-use Rattle.surf_homology.specs.Trees.{IsTree}
-use Rattle.surf_complex.specs.Cells.{cells_of}
+use Rattle.surf_homology.specs.Cells.{Split}
 use Rattle.surf_complex.specs.Loop.{loop_walk}
 use Rattle.surf_complex.specs.Mesh.{Mesh}
 use Rattle.surf_complex.specs.Signature.{edge_signature, walk_signature}
 use Rattle.surf_complex.specs.Surface.{edge_count, ends, IsSurface}
-use Rattle.surf_complex.specs.Walk.{edge_number}
 use Rattle.surf_complex.proofs.ClassLaws.{runs_loop}
 use Rattle.surf_complex.proofs.SignatureLaws.{signatures_are_classes}
 use Rattle.surf_sign.specs.Ways.{way_class}
@@ -17,7 +14,7 @@ use Rattle.surf_sign.proofs.WayLaws.{way_none, way_more, loop_class}
 use Rattle.surf_valid.specs.Rows.{TreeRows}
 use Rattle.surf_valid.specs.Valid.{tree_of, distance_at, parent_at, or_zero, IsParent}
 use Rattle.surf_certcheck.specs.Frames.{AreTaken}
-use Rattle.surf_certcheck.specs.Climbs.{IsClimbed, AreUps}
+use Rattle.surf_certcheck.specs.Climbs.{IsClimbed}
 
 -- one more vertex has the edge to its parent
 pub ups_more : (mesh : Mesh) (rows : TreeRows) (up : List ℕ) (n edge : ℕ) → n < length up →

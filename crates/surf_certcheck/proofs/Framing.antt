@@ -1,19 +1,15 @@
 -- A frame with one cycle more, and what a frame tells of sums.
-use Rattle.std.proofs.Common.{◌≡◌, ◌≢◌, ℕ, ◌<◌, ◌≤◌, ◌+◌, ◌^◌, Bool, true, false, cond, List, [], ◌∷◌, ◌++◌, length, get_or, set, map, filter, slice_index, Option, Some, None, All, Contains, bit_xor, nat_le, refl, sym, ap, ◌∙◌, subst, arith, inl, inr, get_or-set_same, get_or-set_other}
+use Rattle.std.proofs.Common.{◌≡◌, ◌≢◌, ℕ, ◌<◌, ◌^◌, Bool, true, false, cond, List, [], ◌∷◌, ◌++◌, length, get_or, set, map, filter, slice_index, Option, Some, None, All, bit_xor, nat_le, refl, sym, ap, ◌∙◌, subst, arith, inl, inr, get_or-set_same, get_or-set_other}
 use Rattle.std.specs.Bool.{MatchBool}
 use Rattle.std.specs.List.{AllByRecursion}
-use Rattle.std.specs.Int.Bits.{xor_zero_r, xor_zero_l, xor_self}
+use Rattle.std.specs.Int.Bits.{xor_zero_r, xor_self}
 use Rattle.std.proofs.lemmas.Bool.{cases_eq, cases_lt, cases_Bool, le-leb, leb-true}
-use Rattle.std.proofs.lemmas.Bool.Decides.{nat_tests}
 use Rattle.std.proofs.lemmas.List.{get_or-map, get_or_past, length-set}
 use Rattle.std.proofs.lemmas.List.Elements.{All-push, recursion_from_All, Contains-push, Contains-append_left}
 use Rattle.std.proofs.lemmas.Nat.{xor_lt, pow_pos, pow_below}
-use Rattle.surf_z2.specs.Below.{number_of}
-use Rattle.surf_z2.specs.Parity.{xor}
 use Rattle.surf_z2.specs.Sieve.{has}
-use Rattle.surf_z2.specs.Space.{numbers, IsLinear, Weighed, Spanned, SpannedUpToWeight, vectors, up_to, sum_of}
-use Rattle.surf_z2.proofs.Basics.{span_law}
-use Rattle.surf_z2.proofs.Below.{below_law, small}
+use Rattle.surf_z2.specs.Space.{numbers, IsLinear, Weighed, Spanned, SpannedUpToWeight, vectors, sum_of}
+use Rattle.surf_z2.proofs.Below.{small}
 use Rattle.surf_z2.proofs.Linear.{passing_in}
 use Rattle.surf_z2.proofs.Numbers.{has-xor}
 use Rattle.surf_z2.proofs.Span.{InSpan, four, cancel, in_from_spanned, spanned_from_in}
@@ -24,7 +20,7 @@ use Rattle.surf_complex.specs.Signature.{edge_signature, walk_signature}
 use Rattle.surf_complex.specs.Surface.{edge_count}
 use Rattle.surf_complex.specs.Walk.{edge_number}
 use Rattle.surf_sign.specs.Tables.{Signed, added_where}
-use Rattle.surf_certcheck.specs.Frames.{IsFrame, AreTaken, HasPlace, IsOfCycle, IsPlacedUpTo, weight_at}
+use Rattle.surf_certcheck.specs.Frames.{IsFrame, HasPlace, IsPlacedUpTo, weight_at}
 use Rattle.surf_certcheck.proofs.Placing.{has_one, has_other, has_none, gathered, members_of_sum, image_in}
 
 -- ---- sizes

@@ -1,7 +1,6 @@
 -- The cycles of a certificate by their places, and the frame of the first of them.
-use Rattle.std.proofs.Common.{◌≡◌, ◌≢◌, ℕ, ◌<◌, ◌≤◌, ◌+◌, ◌^◌, true, Option, Some, None, List, [], ◌∷◌, ◌++◌, length, get_or, map, set, take, bit_xor, refl, sym, ap, ◌∙◌, subst, arith}
+use Rattle.std.proofs.Common.{◌≡◌, ◌≢◌, ℕ, ◌<◌, ◌+◌, ◌^◌, true, Option, Some, None, List, [], length, get_or, map, set, take, bit_xor, sym, ap, ◌∙◌, subst}
 use Rattle.std.proofs.lemmas.List.{get_or-map, take-map, map_more}
-use Rattle.std.proofs.lemmas.Nat.{xor_lt, pow_below}
 use Rattle.std.proofs.lemmas.Simd.{map-map}
 use Rattle.std.proofs.Math.Seq.{take-length}
 use Rattle.surf_z2.specs.Sieve.{has}

@@ -1,10 +1,10 @@
 -- The steps of a list by their places, and a list one longer.
-use Rattle.std.proofs.Common.{◌≡◌, ℕ, zero, suc, ◌<◌, ◌+◌, List, [], ◌∷◌, ◌++◌, length, get_or, map, sum, take, All, Contains, bit_xor, refl, sym, ap, ◌∙◌, subst, arith}
+use Rattle.std.proofs.Common.{◌≡◌, ℕ, zero, suc, ◌<◌, ◌+◌, List, [], ◌∷◌, length, get_or, map, sum, take, All, Contains, bit_xor, refl, sym, ap, ◌∙◌, subst, arith}
 use Rattle.std.proofs.Math.Seq.{take-suc}
 use Rattle.std.proofs.lemmas.List.{map-append, take_all}
 use Rattle.std.proofs.lemmas.List.Sums.{sum-map, sum_by_more}
 use Rattle.std.specs.Int.Bits.{xor_zero_r}
-use Rattle.surf_z2.specs.Space.{numbers, sum_of, IsLinear}
+use Rattle.surf_z2.specs.Space.{numbers, sum_of}
 use Rattle.surf_z2.proofs.Basics.{span_law}
 use Rattle.surf_complex.specs.Mesh.{Mesh, pair, pair_of, edges, steps, steps_from}
 use Rattle.surf_complex.specs.Walk.{first, last, last_from}

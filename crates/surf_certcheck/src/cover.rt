@@ -34,11 +34,9 @@ fn parent_of(rows: &TreeRows, v: VertexId) -> Option<VertexId>
 }
 
 // The edge from a vertex to its parent.
-fn edge_to(mesh: &HalfMesh, base: VertexId, v: VertexId, parent: Option<VertexId>) -> EdgeId
-    requires parent { IsParent mesh.now base v parent }
-    ensures edge { v ≢ base → result ≡ edge_number mesh.now (or_zero parent, v) }
+fn edge_to(mesh: &HalfMesh, v: VertexId, parent: Option<VertexId>) -> EdgeId
+    ensures edge { (base : ℕ) → IsParent mesh.now base v parent → v ≢ base → result ≡ edge_number mesh.now (or_zero parent, v) }
 {
-    let _base = base;
     match parent {
         None => EdgeId::new(0),
         Some(p) => match edge_up(mesh, p, v) {
@@ -56,7 +54,7 @@ fn find_ups(mesh: &HalfMesh, rows: &TreeRows, up: &mut [EdgeId])
 {
     for v in 0..mesh.vertices() {
         let vertex = VertexId::new(v);
-        up[vertex.index()] = edge_to(mesh, rows.base(), vertex, parent_of(rows, vertex));
+        up[vertex.index()] = edge_to(mesh, vertex, parent_of(rows, vertex));
     }
 }
 

@@ -1,5 +1,5 @@
 -- Lists of the numbers below a bound that pass a test.
-use Rattle.std.proofs.Common.{ℕ, zero, suc, ◌<◌, ◌≤◌, ◌≡◌, ◌+◌, refl, sym, ap, ◌∙◌, append-nil, subst, arith, List, [], ◌∷◌, ◌++◌, length, filter, Bool, true, false, cond}
+use Rattle.std.proofs.Common.{ℕ, zero, suc, ◌<◌, ◌≤◌, ◌≡◌, ◌+◌, refl, sym, ap, ◌∙◌, append-nil, subst, arith, [], ◌∷◌, ◌++◌, length, filter, Bool, true, false, cond}
 use Rattle.std.specs.List.{range_with_len}
 
 passing_one : (p : ℕ → Bool) (a n : ℕ) → filter p (range_with_len a (suc n)) ≡ filter p (range_with_len a n) ++ cond (p (a + n)) ((a + n) ∷ []) []

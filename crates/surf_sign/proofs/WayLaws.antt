@@ -1,5 +1,5 @@
 -- Signatures of ways up a tree, and of loops.
-use Rattle.std.proofs.Common.{◌≡◌, ◌≢◌, ℕ, ◌<◌, ◌&&◌, List, false, eqb, length, bit_xor, sym, ap, ◌∙◌}
+use Rattle.std.proofs.Common.{◌≡◌, ◌≢◌, ℕ, ◌<◌, ◌&&◌, List, false, eqb, length, bit_xor, ap, ◌∙◌}
 use Rattle.surf_z2.specs.Parity.{xor}
 use Rattle.surf_z2.proofs.Below.{same_from}
 use Rattle.surf_z2.proofs.ParityLaws.{eqb_comm, odd_below-same, odd_below-one}

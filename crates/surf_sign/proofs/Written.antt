@@ -1,9 +1,9 @@
 -- What a flat table of signatures holds.
-use Rattle.std.proofs.Common.{ℕ, ◌<◌, ◌≤◌, ◌≡◌, ◌≢◌, ◌+◌, ◌*◌, ◌/◌, ◌%◌, ◌^◌, refl, sym, ap, ◌∙◌, subst, arith, inl, inr, List, length, map, take, drop, replicate, get_or, min, eqb, eq-eqb, false}
+use Rattle.std.proofs.Common.{ℕ, ◌<◌, ◌≤◌, ◌≡◌, ◌≢◌, ◌+◌, ◌*◌, ◌/◌, ◌%◌, ◌^◌, sym, ap, ◌∙◌, subst, arith, inl, inr, List, length, map, take, drop, replicate, get_or, min, eqb, false}
 use Rattle.std.specs.List.{range_with_len}
 use Rattle.std.specs.Int.{bit_at}
-use Rattle.std.proofs.lemmas.Bool.{cases_eq, cases_lt, eqb-true}
-use Rattle.std.proofs.lemmas.Nat.Bits.{bit_at-lt, bit_at-zero, same_from_bits}
+use Rattle.std.proofs.lemmas.Bool.{cases_lt}
+use Rattle.std.proofs.lemmas.Nat.Bits.{bit_at-zero}
 use Rattle.std.proofs.Math.Nat.{mul-le-mul_right}
 use Rattle.std.proofs.lemmas.List.{get_or-take, get_or-drop, get_or_past, get_or-replicate, length-replicate, length-take}
 use Rattle.std.proofs.lemmas.Grind.{same_number_lists}
@@ -14,12 +14,12 @@ use Rattle.surf_z2.specs.Parity.{xor}
 use Rattle.surf_z2.proofs.Below.{below_law, same_from_has}
 use Rattle.surf_z2.proofs.Words.{bit_number, number_zero}
 use Rattle.surf_homology.specs.Cells.{dual, Split, IsSplit, signature}
-use Rattle.surf_homology.specs.Graphs.{Graph, IsGraph}
+use Rattle.surf_homology.specs.Graphs.{Graph}
 use Rattle.surf_homology.specs.Trees.{Tree, IsTree, on_path}
 use Rattle.surf_homology.proofs.CellLaws.{signature_is}
 use Rattle.surf_homology.proofs.Trees.{path_root, path_step, down_tree}
 use Rattle.surf_complex.specs.Mesh.{Mesh}
-use Rattle.surf_complex.specs.Surface.{edge_count, face_count, IsSurface}
+use Rattle.surf_complex.specs.Surface.{edge_count, IsSurface}
 use Rattle.surf_complex.specs.Cells.{cells_of}
 use Rattle.surf_complex.specs.Signature.{edge_signature}
 use Rattle.surf_complex.proofs.CellLaws.{surfaces_are_cells}

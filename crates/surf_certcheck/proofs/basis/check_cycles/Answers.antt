@@ -1,4 +1,4 @@
-use Rattle.std.proofs.Common.{◌≡◌, ◌∙◌, sym, length}
+use Rattle.std.proofs.Common.{◌∙◌, sym}
 use Rattle.surf_certcheck.proofs.BasisFaults.{basis_valid}
 use Rattle.surf_certcheck.proofs.Totals.{positive_lengths}
 use Rattle.surf_certcheck.proofs.Validity.{has_split, cycles_size}

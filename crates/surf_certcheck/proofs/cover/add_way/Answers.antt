@@ -1,6 +1,5 @@
-use Rattle.std.proofs.Common.{◌≡◌, ◌<◌, ◌∙◌, ℕ, None, Some, length, get_or, slice_index, sym, ap, subst, arith}
+use Rattle.std.proofs.Common.{◌≡◌, ◌<◌, ◌∙◌, None, Some, length, get_or, sym, ap, arith}
 use Rattle.std.proofs.lemmas.List.{get_or_default}
-use Rattle.surf_complex.specs.Surface.{edge_count}
 use Rattle.surf_valid.specs.Valid.{tree_of, parent_at}
 use Rattle.surf_certcheck.proofs.Climbing.{step_up, at_base, way_added, way_ended, IsStep}
 use Rattle.surf_certcheck.proofs.cover.add_way.Goals as goal

@@ -1,4 +1,4 @@
-use Rattle.std.proofs.Common.{rules, ◌≡◌, ◌<◌, ◌∙◌, ℕ, length, map, sym, ap, subst, arith}
+use Rattle.std.proofs.Common.{rules, ◌≡◌, ◌<◌, ◌∙◌, map, sym, ap, subst, arith}
 use Rattle.surf_complex.specs.Surface.{edge_count}
 use Rattle.surf_valid.specs.Bases.{tree_at, split_in, weighed_cycle, IsCovered}
 use Rattle.surf_certcheck.specs.BasisFaults.{AreCovered, IsFirstAt}

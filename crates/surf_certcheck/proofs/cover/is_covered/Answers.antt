@@ -1,5 +1,3 @@
-use Rattle.std.proofs.Common.{◌≡◌, ◌<◌, ◌^◌, ◌∙◌, ℕ, Bool, true, false, length, sym, ap, subst, arith}
-use Rattle.std.specs.Bool.{MatchBool}
 use Rattle.surf_complex.specs.Loop.{loop_walk}
 use Rattle.surf_valid.specs.Valid.{tree_of}
 use Rattle.surf_certcheck.specs.Frames.{weighed_through}

@@ -1,4 +1,4 @@
-use Rattle.std.proofs.Common.{rules, ◌≡◌, ◌≤◌, ◌+◌, ◌*◌, ◌^◌, ◌<◌, ℕ, length, get_or, map, sum, take, ap, sym, ◌∙◌, arith}
+use Rattle.std.proofs.Common.{rules, ◌≡◌, ◌≤◌, ◌+◌, ◌^◌, ◌<◌, length, get_or, map, sum, take, ap, sym, ◌∙◌, arith}
 use Rattle.surf_complex.specs.Mesh.{steps}
 use Rattle.surf_complex.specs.Walk.{edge_length, edge_number}
 use Rattle.surf_certcheck.proofs.Steps.{sum_more, count_steps, take_whole}

@@ -1,6 +1,5 @@
-use Rattle.std.proofs.Common.{◌≡◌, ◌+◌, ◌<◌, ℕ, Contains, get_or, ap, sym, ◌∙◌, subst, arith}
+use Rattle.std.proofs.Common.{◌≡◌, ◌+◌, ℕ, get_or, ap, sym, ◌∙◌, arith}
 use Rattle.std.proofs.lemmas.List.{get_or_default}
-use Rattle.surf_complex.specs.Mesh.{pair, edges}
 use Rattle.surf_complex.specs.Walk.{edge_number}
 use Rattle.surf_certcheck.proofs.Steps.{one_along, steps_at}
 use Rattle.surf_certcheck.proofs.cycles.step_edge.Goals as goal

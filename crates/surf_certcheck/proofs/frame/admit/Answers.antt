@@ -1,4 +1,4 @@
-use Rattle.std.proofs.Common.{◌≡◌, ◌<◌, ◌^◌, ◌∙◌, ℕ, length, bit_xor, refl, ap, sym, subst, arith}
+use Rattle.std.proofs.Common.{◌≡◌, ◌<◌, ◌^◌, ◌∙◌, bit_xor, refl, ap, sym, subst, arith}
 use Rattle.std.proofs.lemmas.Nat.{xor_lt, pow_below}
 use Rattle.surf_complex.specs.Walk.{walk_length}
 use Rattle.surf_valid.specs.Bases.{split_in}

@@ -1,4 +1,4 @@
-use Rattle.std.proofs.Common.{rules, ◌≡◌, ◌+◌, ◌<◌, ℕ, length, get_or, map, take, bit_xor, slice_index, ap, sym, ◌∙◌, arith}
+use Rattle.std.proofs.Common.{rules, ◌≡◌, ◌+◌, ◌<◌, ℕ, length, get_or, map, take, bit_xor, ap, sym, ◌∙◌, arith}
 use Rattle.surf_z2.specs.Space.{numbers, sum_of}
 use Rattle.surf_complex.specs.Mesh.{steps}
 use Rattle.surf_complex.specs.Signature.{edge_signature}

@@ -1,4 +1,4 @@
-use Rattle.std.proofs.Common.{◌≡◌, ◌≤◌, ◌<◌, ◌∙◌, ℕ, None, Option, List, All, length, get_or, sym, ap, subst, arith, inl, inr}
+use Rattle.std.proofs.Common.{◌≡◌, length, ap, arith}
 use Rattle.surf_valid.specs.Bases.{split_in}
 use Rattle.surf_certcheck.proofs.Framing.{frame_none, no_weight}
 use Rattle.surf_certcheck.proofs.Validity.{signed_at, signed_count}

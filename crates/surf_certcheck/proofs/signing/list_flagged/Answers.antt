@@ -1,5 +1,4 @@
-use Rattle.std.proofs.Common.{rules, ◌≡◌, ◌+◌, ◌∙◌, ◌++◌, ◌∷◌, [], List, ℕ, Bool, true, false, get_or, ap, arith, sym, filter}
-use Rattle.std.specs.List.{range_with_len}
+use Rattle.std.proofs.Common.{rules, ◌≡◌, ◌∙◌, ◌++◌, ◌∷◌, [], true, false, ap, sym}
 use Rattle.surf_sign.proofs.Passing.{passing_taken, passing_left}
 use Rattle.surf_certcheck.specs.Split.{is_flagged}
 use Rattle.surf_certcheck.proofs.signing.list_flagged.Goals as goal

@@ -1,11 +1,7 @@
-use Rattle.std.proofs.Common.{◌≡◌, ◌≤◌, ◌<◌, ◌+◌, ◌∙◌, ℕ, length, get_or, slice_index, map, sym, ap, subst, arith}
-use Rattle.surf_complex.specs.Surface.{edge_count, face_count}
-use Rattle.surf_homology.specs.Cells.{dual}
-use Rattle.surf_homology.specs.Trees.{IsTree}
-use Rattle.surf_complex.specs.Cells.{cells_of}
-use Rattle.surf_sign.specs.Tables.{face_tree, HangsBy}
+use Rattle.std.proofs.Common.{◌≡◌, ◌≤◌, ◌∙◌, length, sym, ap, subst, arith}
+use Rattle.surf_complex.specs.Surface.{face_count}
 use Rattle.surf_valid.specs.Bases.{split_in}
-use Rattle.surf_valid.specs.Valid.{dual_tree, IsDualValid}
+use Rattle.surf_valid.specs.Valid.{IsDualValid}
 use Rattle.surf_certcheck.specs.Paths.{AreLinks}
 use Rattle.surf_certcheck.proofs.Validity.{links_are_tree, links_hang, left_is, left_size}
 use Rattle.surf_certcheck.proofs.signing.sign_edges.Goals as goal

@@ -1,5 +1,4 @@
-use Rattle.std.proofs.Common.{◌≡◌, ◌≢◌, ◌<◌, ◌≤◌, ◌/◌, ◌∙◌, ◌&&◌, false, eqb, ap, inl, inr, sym, arith}
-use Rattle.std.proofs.lemmas.Bool.{cases_eq}
+use Rattle.std.proofs.Common.{◌≡◌, ◌≢◌, ◌<◌, ◌/◌, ◌∙◌, ◌&&◌, false, eqb, ap, sym, arith}
 use Rattle.std.proofs.lemmas.Nat.{mul-add-lt}
 use Rattle.surf_z2.specs.Parity.{xor}
 use Rattle.surf_homology.specs.Trees.{IsTree, on_path}

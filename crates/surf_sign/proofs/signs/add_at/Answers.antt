@@ -1,9 +1,8 @@
-use Rattle.std.proofs.Common.{rules, ◌≡◌, ◌+◌, ◌*◌, ◌-◌, ℕ, cond, eqb, bit_xor, ap, sym, ◌∙◌, length, drop, take, true, false, Bool, inl, inr, arith}
-use Rattle.std.proofs.lemmas.Bool.{cases_eq, eq-eqb, ne_eqb}
+use Rattle.std.proofs.Common.{◌≡◌, ◌+◌, ◌*◌, ◌-◌, bit_xor, ap, sym, ◌∙◌, length, drop, take, true, arith}
 use Rattle.surf_z2.specs.Sieve.{has}
 use Rattle.surf_z2.specs.Words.{number}
-use Rattle.surf_sign.specs.Tables.{added_where, row_of}
-use Rattle.surf_sign.proofs.Rewritten.{row_put, put_added}
+use Rattle.surf_sign.specs.Tables.{row_of}
+use Rattle.surf_sign.proofs.Rewritten.{put_added}
 use Rattle.surf_sign.proofs.signs.add_at.Goals as goal
 
 pub returns-then-bit-clause-added : goal.returns-then-bit-clause-added

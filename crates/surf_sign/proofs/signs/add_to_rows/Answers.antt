@@ -1,6 +1,5 @@
-use Rattle.std.proofs.Common.{rules, ◌≡◌, ◌∙◌, ℕ, cond, ltb, length, arith}
+use Rattle.std.proofs.Common.{rules, ◌≡◌, ◌∙◌}
 use Rattle.surf_sign.proofs.Rewritten.{rows_more, rows_whole}
-use Rattle.surf_sign.proofs.Written.{cell_room}
 use Rattle.surf_sign.proofs.signs.add_to_rows.Goals as goal
 
 pub loop-edge-preserved : goal.loop-edge-preserved

@@ -1,4 +1,4 @@
-use Rattle.std.proofs.Common.{◌≡◌, ◌<◌, ◌*◌, ◌∙◌, ℕ, ap, sym, subst, length, take, drop, slice_index}
+use Rattle.std.proofs.Common.{◌≡◌, ◌<◌, ◌*◌, ◌∙◌, ap, sym, subst, length, take, drop, slice_index}
 use Rattle.surf_z2.specs.Words.{number}
 use Rattle.surf_sign.specs.Tables.{words_for, Signed}
 use Rattle.surf_sign.proofs.Written.{rows-at, rows-length, cell_room}
