@@ -5,6 +5,8 @@
 #![tactic(auto)]
 
 #[cfg(test)]
+mod bases;
+#[cfg(test)]
 mod certs;
 #[cfg(test)]
 mod checks;

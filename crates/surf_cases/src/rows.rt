@@ -360,6 +360,30 @@ fn the_counts_of_meshes_and_their_refusals(rt: HostRuntime) -> Result<(), Fail> 
             out: "",
             diag: "mesh text: face-size 7\n",
         },
+        Case {
+            words: &["info", "M"],
+            files: &[(
+                "M",
+                "OFF\n4 3 6\n0 0 0\n1 0 0\n0 1 0\n0 0 1\n3 0 1 2\n3 0 3 1\n3 0 2 3\n",
+            )],
+            status: 4,
+            out: "",
+            diag: "surface: border 1 2 0\n",
+        },
+        Case {
+            words: &["info", "M"],
+            files: &[("M", "OFF\n")],
+            status: 3,
+            out: "",
+            diag: "mesh text: counts 0\n",
+        },
+        Case {
+            words: &["info", "seven"],
+            files: &[("seven", SEVEN)],
+            status: 0,
+            out: "vertices 7\nedges 21\nfaces 14\ncharacteristic 0\ngenus 1\n",
+            diag: "",
+        },
     ];
     for case in &cases {
         answers(&rt, case)?;
@@ -526,6 +550,13 @@ fn distances_and_lengths(rt: HostRuntime) -> Result<(), Fail> {
             status: 5,
             out: "",
             diag: "lengths: form 3\n",
+        },
+        Case {
+            words: &["dist", "tet", "unit", "4"],
+            files: &[("tet", TET)],
+            status: 7,
+            out: "",
+            diag: "base: 4 of 4\n",
         },
     ];
     for case in &cases {

@@ -1,0 +1,88 @@
+//! Checks of certificates of bases.
+use crate::meshes::{PLANE6, SCATTERED_LENGTHS, TORUS33};
+use crate::rows::{Case, answers, output_of};
+use std::test::Fail;
+
+// For the torus of 3 by 3 with lengths 1, the trees at all vertices, the tree of faces and the left edges.
+const UNIT: &str =
+    "SURFCERT 1 basis\ncounts 9 18 2\ntree 0\n0 -\n1 0\n1 0\n1 0\n1 0\n2 1\n1 0\n2 1\n1 0\ntree 1\n1 1\n0 -\n1 1\n2 0\n1 1\n1 1\n1 1\n1 1\n2 0\ntree 2\n1 2\n1 2\n0 -\n1 2\n2 0\n1 2\n2 0\n1 2\n1 2\ntree 3\n1 3\n2 0\n1 3\n0 -\n1 3\n1 3\n1 3\n1 3\n2 0\ntree 4\n1 4\n1 4\n2 0\n1 4\n0 -\n1 4\n2 0\n1 4\n1 4\ntree 5\n2 1\n1 5\n1 5\n1 5\n1 5\n0 -\n1 5\n2 1\n1 5\ntree 6\n1 6\n1 6\n2 0\n1 6\n2 0\n1 6\n0 -\n1 6\n1 6\ntree 7\n2 1\n1 7\n1 7\n1 7\n1 7\n2 1\n1 7\n0 -\n1 7\ntree 8\n1 8\n2 0\n1 8\n2 0\n1 8\n1 8\n1 8\n1 8\n0 -\ndual\n0 -\n5 1 4\n4 4 5\n7 2 5\n6 3 5\n7 2 3\n2 3 7\n1 3 4\n2 4 7\n3 4 8\n4 5 8\n5 5 6\n4 1 6\n3 6 7\n4 2 7\n3 7 8\n4 2 8\n5 6 8\nleft\n1 2\n3 6\n";
+
+// The same with scattered lengths.
+const SCATTERED: &str =
+    "SURFCERT 1 basis\ncounts 9 18 2\ntree 0\n0 -\n14 0\n21 0\n28 0\n35 0\n22 2\n42 0\n29 2\n31 7\ntree 1\n14 1\n0 -\n35 0\n42 0\n49 0\n36 2\n56 0\n43 2\n45 7\ntree 2\n21 2\n35 0\n0 -\n30 5\n51 5\n1 2\n63 0\n8 2\n10 7\ntree 3\n28 3\n42 0\n30 5\n0 -\n22 3\n29 3\n36 3\n38 2\n40 7\ntree 4\n35 4\n49 0\n51 5\n22 4\n0 -\n50 4\n58 3\n57 4\n59 7\ntree 5\n22 2\n36 0\n1 5\n29 5\n50 5\n0 -\n64 0\n9 2\n11 7\ntree 6\n42 6\n56 0\n63 0\n36 6\n58 3\n64 2\n0 -\n71 2\n73 7\ntree 7\n29 2\n43 0\n8 7\n38 5\n57 7\n9 2\n71 0\n0 -\n2 7\ntree 8\n31 2\n45 0\n10 7\n40 5\n59 7\n11 2\n73 0\n2 8\n0 -\ndual\n0 -\n5 1 4\n4 4 5\n5 1 5\n6 3 5\n7 2 3\n6 3 6\n1 3 4\n2 4 7\n3 4 8\n4 5 8\n5 5 6\n8 1 6\n7 6 7\n8 1 7\n7 2 8\n6 0 8\n5 6 8\nleft\n1 2\n3 7\n";
+
+#[test]
+fn cycles_that_are_a_basis_and_others(rt: HostRuntime) -> Result<(), Fail> {
+    let alloc = rt.alloc();
+    let cases = [
+        ("unit", UNIT, "0 1 2 0\n0 3 6 0\n", 0, "valid basis 6\n"),
+        ("unit", UNIT, "0 1 2 0\n0 1 2 0\n", 1, "no dependent 1\n"),
+        (
+            "unit",
+            UNIT,
+            "0 1 2 0\n0 3 7 6 0\n",
+            1,
+            "no uncovered 0 3 6\n",
+        ),
+        ("unit", UNIT, "0 1 2\n0 3 6 0\n", 1, "no not-closed 0\n"),
+        // At vertices 0 and 1 the loops of all edges are sums of no longer ones of these.
+        (
+            "L",
+            SCATTERED,
+            "0 1 2 0\n0 3 7 2 0\n",
+            1,
+            "no uncovered 2 3 7\n",
+        ),
+    ];
+    for (lengths, rows, cycles, status, out) in &cases {
+        let cert = format!(in alloc; "{rows}cycles\n{cycles}")?;
+        answers(
+            &rt,
+            &Case {
+                words: &["check", "torus33", lengths, "C"],
+                files: &[
+                    ("torus33", TORUS33),
+                    ("L", SCATTERED_LENGTHS),
+                    ("C", cert.as_str()),
+                ],
+                status: *status,
+                out,
+                diag: "",
+            },
+        )?;
+    }
+    Ok(())
+}
+
+#[test]
+fn certificates_of_a_chain_and_a_plane(rt: HostRuntime) -> Result<(), Fail> {
+    let chain = output_of(&rt, &["gen", "chain", "2", "4", "4"], &[])?;
+    let cases: [(&[&str], &str, &str); 4] = [
+        (
+            &["certify", "M", "unit", "0"],
+            chain.as_str(),
+            "valid loops 20\n",
+        ),
+        (
+            &["certify", "M", "unit"],
+            chain.as_str(),
+            "valid basis 16\n",
+        ),
+        (&["certify", "M", "unit", "0"], PLANE6, "valid loops 3\n"),
+        (&["certify", "M", "unit"], PLANE6, "valid basis 3\n"),
+    ];
+    for (words, mesh, out) in &cases {
+        let cert = output_of(&rt, words, &[("M", mesh)])?;
+        answers(
+            &rt,
+            &Case {
+                words: &["check", "M", "unit", "C"],
+                files: &[("M", mesh), ("C", cert.as_str())],
+                status: 0,
+                out,
+                diag: "",
+            },
+        )?;
+    }
+    Ok(())
+}
