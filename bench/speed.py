@@ -3,11 +3,12 @@
 
     bench/speed.py [--surf PROGRAM] [--beside PROGRAM] [--repeat N] [--limit SECONDS] [COMMAND ..]
 
-Builds the program (`rt lib` in crates/surf), unless one is named, makes tori with `surf gen`, runs each command
-on three of them, and prints one table in Markdown: processor seconds (user and system, the least of the repeats),
-peak resident megabytes, and the growth exponent p of the seconds, fitted so that time goes with the p-th power of
-the number of vertices. `--beside` names a second program that takes the same words: it gets columns of its own, the
-ratio of the seconds, and whether its answers are the same bytes.
+Builds the program (`rt run` in crates/surf), unless one is named, makes tori with `surf gen`, runs each command on
+three of them, and prints one table in Markdown: processor seconds (user and system, the least of the repeats), peak
+resident megabytes, and the growth exponent p of the seconds, fitted so that time goes with the p-th power of the
+number of vertices. Megabytes below those of this script (some 23) aren't seen, since a program starts as its copy.
+`--beside` names a second program that takes the same words: it gets columns of its own, the ratio of the seconds, and
+whether its answers are the same bytes.
 """
 import argparse
 import math
