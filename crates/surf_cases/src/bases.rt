@@ -1,6 +1,6 @@
 //! Checks of certificates of bases.
-use crate::meshes::{PLANE6, SCATTERED_LENGTHS, TORUS33};
-use crate::rows::{Case, answers, output_of};
+use crate::meshes::{SCATTERED_LENGTHS, TORUS33};
+use crate::rows::{Case, answers};
 use std::test::Fail;
 
 // For the torus of 3 by 3 with lengths 1, the trees at all vertices, the tree of faces and the left edges.
@@ -46,39 +46,6 @@ fn cycles_that_are_a_basis_and_others(rt: HostRuntime) -> Result<(), Fail> {
                     ("C", cert.as_str()),
                 ],
                 status: *status,
-                out,
-                diag: "",
-            },
-        )?;
-    }
-    Ok(())
-}
-
-#[test]
-fn certificates_of_a_chain_and_a_plane(rt: HostRuntime) -> Result<(), Fail> {
-    let chain = output_of(&rt, &["gen", "chain", "2", "4", "4"], &[])?;
-    let cases: [(&[&str], &str, &str); 4] = [
-        (
-            &["certify", "M", "unit", "0"],
-            chain.as_str(),
-            "valid loops 20\n",
-        ),
-        (
-            &["certify", "M", "unit"],
-            chain.as_str(),
-            "valid basis 16\n",
-        ),
-        (&["certify", "M", "unit", "0"], PLANE6, "valid loops 3\n"),
-        (&["certify", "M", "unit"], PLANE6, "valid basis 3\n"),
-    ];
-    for (words, mesh, out) in &cases {
-        let cert = output_of(&rt, words, &[("M", mesh)])?;
-        answers(
-            &rt,
-            &Case {
-                words: &["check", "M", "unit", "C"],
-                files: &[("M", mesh), ("C", cert.as_str())],
-                status: 0,
                 out,
                 diag: "",
             },
