@@ -16,10 +16,6 @@ use Rattle.surf_certcheck.specs.declared.fault.CertFault.{CertFault}
 use Rattle.surf_certcheck.specs.declared.fault.CertFault.TheVariants.{Memory}
 use Rattle.surf_certcheck.proofs.LoopFaults.{no_loop_fault}
 
-pub positive_lengths : (mesh : Mesh) (lengths : List ℕ) → AreLengths lengths → length lengths ≡ edge_count mesh →
-    ArePositive mesh lengths
-positive_lengths mesh lengths are count e l = (are e 0 (omega (arith, count, l))).positive
-
 pub least_where_ok : (mesh : Mesh) (lengths : List ℕ) (cert : LoopCert) → IsSurface mesh → ArePositive mesh lengths →
     (r : Result ℕ CertFault) →
     IfOk r (λ t. IsValidLoops mesh lengths cert × (t ≡ loops_total mesh lengths cert)) →

@@ -4,6 +4,7 @@ use Rattle.std.specs.List.{filter, range_with_len}
 use Rattle.std.proofs.lemmas.Bool.{cases_eq, ne_eqb}
 use Rattle.surf_z2.specs.Order.{sorted}
 use Rattle.surf_z2.specs.Parity.{any_below}
+use Rattle.surf_z2.proofs.ParityLaws.{any_below-same}
 use Rattle.surf_homology.specs.Cells.{primal, dual}
 use Rattle.surf_homology.specs.Growth.{between}
 use Rattle.surf_homology.specs.Loops.{way_down, way_up}
@@ -37,13 +38,6 @@ mapped_same {X} p q f g a (suc n) tests maps =
     pick true rest = rw (maps a (omega arith), rest) refl
     pick false rest = rest
 
-any_same : (n : ℕ) (p q : ℕ → Bool) → ((k : ℕ) → k < n → p k ≡ q k) → any_below n p ≡ any_below n q
-any_same zero p q same = refl
-any_same (suc n) p q same =
-    let here : p n ≡ q n = same n (omega arith) in
-    let rest : any_below n p ≡ any_below n q = any_same n p q (λ k l. same k (omega (arith, l))) in
-    rw (here, rest) refl
-
 module _ (mesh : Mesh) (lengths : List ℕ) (base : ℕ) (a b : Trees) (surface : IsSurface mesh)
     (positive : ArePositive mesh lengths) (x : AreChosenAt mesh lengths base a) (y : AreChosenAt mesh lengths base b) where
   pub trees_same : SameTree mesh base a.tree b.tree
@@ -71,7 +65,7 @@ module _ (mesh : Mesh) (lengths : List ℕ) (base : ℕ) (a b : Trees) (surface 
   ]
 
   pub edges_same : (e : ℕ) → tree_edges mesh a.tree e ≡ tree_edges mesh b.tree e
-  edges_same e = any_same mesh.vertices (λ n. not (eqb n a.tree.root) && eqb (a.tree.up n) e)
+  edges_same e = any_below-same mesh.vertices (λ n. not (eqb n a.tree.root) && eqb (a.tree.up n) e)
       (λ n. not (eqb n b.tree.root) && eqb (b.tree.up n) e) (λ n l. ups_below e n l)
 
   -- the second cotree over the first tree

@@ -4,6 +4,7 @@ use Rattle.std.specs.List.{range_with_len, AllByRecursion}
 use Rattle.std.proofs.lemmas.Bool.{cases_eq, cases_Bool, false≢true, not-true, and_parts}
 use Rattle.std.proofs.lemmas.Bool.Decides.{nat_tests}
 use Rattle.surf_z2.specs.Parity.{any_below}
+use Rattle.surf_z2.proofs.ParityLaws.{any_below-same}
 use Rattle.surf_homology.specs.Cells.{dual, IsSplit}
 use Rattle.surf_homology.specs.Trees.{Tree, in_tree}
 use Rattle.surf_homology.proofs.Trees.{tree_edge}
@@ -16,36 +17,17 @@ use Rattle.surf_complex.specs.Cells.{cells_of}
 use Rattle.surf_complex.specs.Loop.{loop_length}
 use Rattle.surf_complex.specs.Cotree.{tree_edges, cotree_edges, is_left, left_edges, split_of, precedes, IsHeaviestCotree}
 use Rattle.surf_complex.proofs.CellLaws.{surfaces_are_cells}
-use Rattle.surf_complex.proofs.CotreeLaws.{Climbs, passing_climb, passing_each, passing_found, not-false_is, between_inside}
+use Rattle.surf_complex.proofs.CotreeLaws.{passing_climb, climbs_order, passing_each, passing_found, not-false_is, between_inside}
 use Rattle.surf_cotree.specs.Tables.{CotreeTables, nobody, tree_of, IsMadeFor, split_with, loop_count, width_for}
 use Rattle.surf_cotree.specs.Searches.{at, outside, is_unmarked, Connects, IsHeaviestTree}
 use Rattle.surf_cotree.specs.Grown.{IsMarked, MarkTree, AreLoopLengths, IsGrown, IsGrownOn}
 
 -- ---- numbers that pass a test
 
-climbs_above : (low : ℕ) (xs : List ℕ) (k : ℕ) → Climbs low xs → k < length xs → low ≤ get_or xs k 0
-climbs_above low [] k c l = absurd (omega arith)
-climbs_above low (x ∷ xs) zero c l = c.0
-climbs_above low (x ∷ xs) (suc k) c l = let later = climbs_above (suc x) xs k c.1 (omega arith) in omega (arith, later, c.0)
-
-climbs_order : (low : ℕ) (xs : List ℕ) → Climbs low xs → (i j : ℕ) → i < j → j < length xs → get_or xs i 0 < get_or xs j 0
-climbs_order low [] c i j h l = absurd (omega arith)
-climbs_order low (x ∷ xs) c zero zero h l = absurd (omega arith)
-climbs_order low (x ∷ xs) c zero (suc j) h l = let later = climbs_above (suc x) xs j c.1 (omega arith) in omega (arith, later)
-climbs_order low (x ∷ xs) c (suc i) zero h l = absurd (omega arith)
-climbs_order low (x ∷ xs) c (suc i) (suc j) h l = climbs_order (suc x) xs c.1 i j (omega arith) (omega arith)
-
 all_at : (P : ℕ → Type 0) (xs : List ℕ) (k : ℕ) → AllByRecursion P xs → k < length xs → P (get_or xs k 0)
 all_at P [] k h l = absurd (omega arith)
 all_at P (x ∷ xs) zero h l = h.0
 all_at P (x ∷ xs) (suc k) h l = all_at P xs k h.1 (omega arith)
-
-any_same : (n : ℕ) (p q : ℕ → Bool) → ((k : ℕ) → k < n → p k ≡ q k) → any_below n p ≡ any_below n q
-any_same zero p q h = refl
-any_same (suc n) p q h =
-    let here : p n ≡ q n = h n (omega arith) in
-    let rest : any_below n p ≡ any_below n q = any_same n p q (λ k l. h k (omega arith)) in
-    rw (here, rest)
 
 -- ---- a grown desk
 
@@ -83,7 +65,7 @@ module _ (mesh : Mesh) (marks : List Bool) (weight : ℕ → ℕ) (t : CotreeTab
   ]
 
   holds : (e : ℕ) → e < edge_count mesh → get_or t.held e false ≡ cotree_edges mesh (tree_of t) e
-  holds e l = w.marked e l ∙ any_same (face_count mesh) (λ f. not (eqb (at t.ups f) nobody) && eqb (at t.ups f) e) (λ f. not (eqb f 0) && eqb (at t.ups f) e) (λ f lf. rw (same_root f lf))
+  holds e l = w.marked e l ∙ any_below-same (face_count mesh) (λ f. not (eqb (at t.ups f) nobody) && eqb (at t.ups f) e) (λ f. not (eqb f 0) && eqb (at t.ups f) e) (λ f lf. rw (same_root f lf))
 
   module _ (tree : Tree) (m : IsMarked mesh tree marks) where
     unmarked : (e : ℕ) → e < edge_count mesh → outside marks e ≡ true → tree_edges mesh tree e ≡ false

@@ -9,9 +9,9 @@ use Rattle.surf_mesh.specs.Sides.{side_count, pair_at}
 abbrev pub NoneCrowded : Mesh → Type 0
 NoneCrowded mesh = (e : ℕ) → e < edge_count mesh → degree mesh e ≤ 2
 
--- the other one of a row of two, or the only one of a row of one
+-- the other one of two, or the only one
 abbrev pub other_of : List ℕ → ℕ → ℕ
-other_of row s = if get_or row 0 0 == s then get_or row (length row - 1) 0 else get_or row 0 0
+other_of xs s = if get_or xs 0 0 == s then get_or xs (length xs - 1) 0 else get_or xs 0 0
 
 -- t is a side of the same edge as s, and there is no third one
 pub record IsAcross (mesh : Mesh) (s t : ℕ) : Type 0 where

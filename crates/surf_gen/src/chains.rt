@@ -108,8 +108,8 @@ fn own_numbers(alloc: Global, count: u32) -> Result<Vec<VertexId>, NoMemory>
 /// "Algebraic Topology: An Introduction" (1967). Each is joined to the one before along a triangle
 /// that is left out of both.
 ///
-/// Of each torus but the last, the first face of the cell in row 2 and column 2 is left out, and of
-/// each but the first that of the cell in row 0 and column 0. Of these two faces, the corners of
+/// Of each torus but the last, the first face of the cell in the third row and the third column is left out, and of
+/// each but the first that of the cell in the first row and the first column. Of these two faces, the corners of
 /// the second are the first, the third and the second corner of the first. Vertices are numbered
 /// torus by torus, each when it is first met, and faces stand torus by torus in their order.
 pub fn chain(alloc: Global, g: u32, a: u32, b: u32) -> Result<Soup, NoMemory>

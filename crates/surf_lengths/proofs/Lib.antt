@@ -1,2 +1,3 @@
 pub mod EdgeNames
 pub mod Naming
+pub mod Positive

@@ -93,10 +93,6 @@ loop_listed mesh t e u v l0 l1 l2 l3 r lu is_u is_v a b c d =
     ∙ ap (λ n. t.base ∷ way_down (tree_of t) (slice_index t.distances n) n ++ (v ∷ way_up (tree_of t) (slice_index t.distances v) v)) is_u
     ∙ ap (λ n. t.base ∷ way_down (tree_of t) (slice_index t.distances (ends mesh e).0) (ends mesh e).0 ++ (n ∷ way_up (tree_of t) (slice_index t.distances n) n)) is_v
 
--- lengths are positive
-pub lengths_positive : (mesh : Mesh) (lengths : List ℕ) → AreLengths lengths → length lengths ≡ edge_count mesh → ArePositive mesh lengths
-lengths_positive mesh lengths are long e l = (are e 0 (omega (arith, long, l))).positive
-
 -- a grown tree marks its edges
 pub tree_marks : (mesh : Mesh) (lengths : List ℕ) (base : ℕ) (t : TreeTables) → IsSurface mesh → ArePositive mesh lengths → IsTreeGrown mesh lengths base t → IsMarked mesh (tree_of t) t.flags
 tree_marks mesh lengths base t surface positive tree = record { spans = shortest_is_tree mesh lengths base (tree_of t) surface positive tree.shortest; marks_are = tree.flags }

@@ -115,9 +115,9 @@ across_inside mesh mate rows mates a = λ f e lt m d in'.
     let value : get_or (get_or rows f e) m d ≡ get_or (owners 0 mesh.faces) (get_or mate (first_side mesh f + m) 0) 0 = get_or_default (get_or rows f e) m d 0 in' ∙ ap (λ (xs : List ℕ). get_or xs m 0) same ∙ a.row_at f m in_f place in
     omega (arith, value, there.is_face)
 
-module _ (mesh : Mesh) (is_mesh : IsMesh mesh) (two : HasTwoFaces mesh) (mate : List ℕ) (mates : AreAllMates mesh mate) (rows : List (List ℕ)) (a : AreAcross mesh mate (face_count mesh) rows) (seen : List Bool) (r : IsReach rows 0 seen) where
+module _ (mesh : Mesh) (is_mesh : IsMesh mesh) (two : HasTwoFaces mesh) (mate : List ℕ) (mates : AreAllMates mesh mate) (beside : List (List ℕ)) (a : AreAcross mesh mate (face_count mesh) beside) (seen : List Bool) (r : IsReach beside 0 seen) where
   pub seen_joined : (g : ℕ) → marked seen g ≡ true → Joined (Share mesh) 0 g
-  seen_joined g h = reach_shares mesh (two_sides mesh is_mesh two) mate mates rows a.row_len a.row_at a.size g (r.sound g h)
+  seen_joined g h = reach_shares mesh (two_sides mesh is_mesh two) mate mates beside a.row_len a.row_at a.size g (r.sound g h)
 
   pub none_apart : ((k : ℕ) → k < length seen → marked seen k ≡ true) → IsConnected mesh
   none_apart all = all_joined mesh (λ g lt. seen_joined g (all g (let n = a.size in let m = r.size in omega arith)))
@@ -125,6 +125,6 @@ module _ (mesh : Mesh) (is_mesh : IsMesh mesh) (two : HasTwoFaces mesh) (mate : 
   pub least_apart : (f : ℕ) → f < length seen → marked seen f ≡ false → ((j : ℕ) → j < f → marked seen j ≡ true) → IsLeastApart mesh f
   least_apart f lt unseen before = record {
     is_face = let n = a.size in let m = r.size in omega arith;
-    apart = λ h. true≢false (sym (r.complete f (shares_reach mesh (two_sides mesh is_mesh two) mate mates rows a.row_len a.row_at a.size f h)) ∙ unseen);
+    apart = λ h. true≢false (sym (r.complete f (shares_reach mesh (two_sides mesh is_mesh two) mate mates beside a.row_len a.row_at a.size f h)) ∙ unseen);
     joined_before = λ g below. seen_joined g (before g below);
   }

@@ -10,20 +10,20 @@ use Rattle.surf_mesh.specs.Reach.{Leads, marked, unmarked, Visits, Reaches, IsRe
 pub marked-inside : (seen : List Bool) (j : ℕ) → marked seen j ≡ true → j < length seen
 marked-inside seen j h = elim (cases_lt j (length seen)) [ inl lt ↦ lt | inr ge ↦ absurd (true≢false (sym h ∙ get_or_past seen j false ge)) ]
 
-module _ (row : List ℕ) (k : ℕ) (seen_before : List Bool) (listed_before : List ℕ) (seen : List Bool) (listed : List ℕ) (so_far : Visits row k seen_before listed_before seen listed) where
-  pub visit_old : marked seen (get_or row k 0) ≡ true → Visits row (k + 1) seen_before listed_before seen listed
+module _ (beside : List ℕ) (k : ℕ) (seen_before : List Bool) (listed_before : List ℕ) (seen : List Bool) (listed : List ℕ) (so_far : Visits beside k seen_before listed_before seen listed) where
+  pub visit_old : marked seen (get_or beside k 0) ≡ true → Visits beside (k + 1) seen_before listed_before seen listed
   visit_old old = record {
     size = so_far.size;
     longer = so_far.longer;
     kept = so_far.kept;
     counted = so_far.counted;
     stay = so_far.stay;
-    all = λ i lt. elim (cases_eq i k) [ inl e ↦ ap (λ n. marked seen (get_or row n 0)) e ∙ old | inr ne ↦ so_far.all i (omega arith) ];
+    all = λ i lt. elim (cases_eq i k) [ inl e ↦ ap (λ n. marked seen (get_or beside n 0)) e ∙ old | inr ne ↦ so_far.all i (omega arith) ];
     only = λ j h. elim (so_far.only j h) [ inl a ↦ inl a | inr b ↦ inr ((b.0.0, omega (arith, b.0.1), b.0.2), b.1) ];
     listed_marked = so_far.listed_marked;
   }
 
-  pub visit_new : (g : ℕ) → g ≡ get_or row k 0 → g < length seen → marked seen g ≡ false → Visits row (k + 1) seen_before listed_before (set seen g true) (listed ++ g ∷ [])
+  pub visit_new : (g : ℕ) → g ≡ get_or beside k 0 → g < length seen → marked seen g ≡ false → Visits beside (k + 1) seen_before listed_before (set seen g true) (listed ++ g ∷ [])
   visit_new g is in' new = record {
     size = length-set seen g true ∙ so_far.size;
     longer = let a = so_far.longer in let b = length_push listed g in omega arith;
@@ -34,8 +34,8 @@ module _ (row : List ℕ) (k : ℕ) (seen_before : List Bool) (listed_before : L
         omega (arith, length_push listed g, one, was, so_far.counted);
     stay = λ j h. still j (so_far.stay j h);
     all = λ i lt. elim (cases_eq i k) [
-      | inl e ↦ ap (λ n. marked (set seen g true) (get_or row n 0)) e ∙ ap (marked (set seen g true)) (sym is) ∙ get_or-set_same seen g true false in'
-      | inr ne ↦ still (get_or row i 0) (so_far.all i (omega arith))
+      | inl e ↦ ap (λ n. marked (set seen g true) (get_or beside n 0)) e ∙ ap (marked (set seen g true)) (sym is) ∙ get_or-set_same seen g true false in'
+      | inr ne ↦ still (get_or beside i 0) (so_far.all i (omega arith))
     ];
     only = λ j h. elim (cases_eq j g) [
       | inl e ↦ inr ((k, omega arith, sym is ∙ sym e), (length listed, omega (arith, length_push listed g), get_or_push listed g 0 (length listed) refl ∙ sym e))
@@ -58,8 +58,8 @@ module _ (row : List ℕ) (k : ℕ) (seen_before : List Bool) (listed_before : L
       still : (j : ℕ) → marked seen j ≡ true → marked (set seen g true) j ≡ true
       still j h = elim (cases_eq j g) [ inl e ↦ ap (marked (set seen g true)) e ∙ get_or-set_same seen g true false in' | inr ne ↦ get_or-set_other seen g j true false ne ∙ h ]
 
-pub visit_none : (row : List ℕ) (seen : List Bool) (listed : List ℕ) → Visits row 0 seen listed seen listed
-visit_none row seen listed = record {
+pub visit_none : (beside : List ℕ) (seen : List Bool) (listed : List ℕ) → Visits beside 0 seen listed seen listed
+visit_none beside seen listed = record {
   size = refl;
   longer = omega arith;
   kept = λ i lt. refl;
@@ -70,9 +70,9 @@ visit_none row seen listed = record {
   listed_marked = λ h. h;
 }
 
-pub reach_next : (rows : List (List ℕ)) (from k : ℕ) (seen : List Bool) (listed : List ℕ) (row : List ℕ) (now : List Bool) (listed_now : List ℕ) → Reaches rows from k seen listed → k < length listed → row ≡ get_or rows (get_or listed k 0) [] →
-    Visits row (length row) seen listed now listed_now → Reaches rows from (k + 1) now listed_now
-reach_next rows from k seen listed row now listed_now r lt is v =
+pub reach_next : (rows : List (List ℕ)) (from k : ℕ) (seen : List Bool) (listed : List ℕ) (beside : List ℕ) (now : List Bool) (listed_now : List ℕ) → Reaches rows from k seen listed → k < length listed → beside ≡ get_or rows (get_or listed k 0) [] →
+    Visits beside (length beside) seen listed now listed_now → Reaches rows from (k + 1) now listed_now
+reach_next rows from k seen listed beside now listed_now r lt is v =
     let f = get_or listed k 0 in
     record {
       size = v.size ∙ r.size;
@@ -89,7 +89,7 @@ reach_next rows from k seen listed row now listed_now r lt is v =
       done = λ i below m in'. elim (cases_eq i k) [
         | inl e ↦
             let here' : get_or listed_now i 0 ≡ f = ap (λ n. get_or listed_now n 0) e ∙ v.kept k lt in
-            let own : get_or rows (get_or listed_now i 0) [] ≡ row = ap (λ n. get_or rows n []) here' ∙ sym is in
+            let own : get_or rows (get_or listed_now i 0) [] ≡ beside = ap (λ n. get_or rows n []) here' ∙ sym is in
             ap (λ (xs : List ℕ). marked now (get_or xs m 0)) own ∙ v.all m (omega (arith, ap length own))
         | inr ne ↦
             let same : get_or listed_now i 0 ≡ get_or listed i 0 = v.kept i (omega arith) in

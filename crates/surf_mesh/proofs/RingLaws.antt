@@ -172,9 +172,9 @@ module _ (mesh : Mesh) (is_mesh : IsMesh mesh) (two : HasTwoFaces mesh) (mate : 
   -- of three sides of one edge two are the same
   of_edge : (s t m : ℕ) → s < side_count mesh → t < side_count mesh → m < side_count mesh → pair_at mesh t ≡ pair_at mesh s → pair_at mesh m ≡ pair_at mesh s → s ≢ t → m ≢ s → m ≡ t
   of_edge s t m a b c e f differ other =
-      let row = sides_with mesh (pair_at mesh s) in
-      let at : (u : ℕ) → u < side_count mesh → pair_at mesh u ≡ pair_at mesh s → (u ≡ get_or row 0 0) ⊎ (u ≡ get_or row 1 0) = λ u lt q. let w = with_all mesh u lt (two_sides mesh is_mesh two u lt) in rw q at w in
-      third s t m (get_or row 0 0) (get_or row 1 0) differ other (at s a refl) (at t b e) (at m c f)
+      let both = sides_with mesh (pair_at mesh s) in
+      let at : (u : ℕ) → u < side_count mesh → pair_at mesh u ≡ pair_at mesh s → (u ≡ get_or both 0 0) ⊎ (u ≡ get_or both 1 0) = λ u lt q. let w = with_all mesh u lt (two_sides mesh is_mesh two u lt) in rw q at w in
+      third s t m (get_or both 0 0) (get_or both 1 0) differ other (at s a refl) (at t b e) (at m c f)
 
   pub are_darts : AreDarts next prev mate (all_corners mesh)
   are_darts =

@@ -2,6 +2,7 @@
 use Rattle.std.proofs.Common.{ℕ, zero, suc, ◌<◌, ◌≤◌, ◌≡◌, ◌≢◌, ◌+◌, refl, sym, ◌∙◌, arith, inl, inr, List, get_or, Bool, false, not, ◌&&◌, eqb, eq-eqb, ne_eqb}
 use Rattle.std.proofs.lemmas.Bool.{cases_eq}
 use Rattle.surf_z2.specs.Parity.{any_below}
+use Rattle.surf_z2.proofs.ParityLaws.{any_below-same}
 use Rattle.surf_homology.specs.Graphs.{Graph, IsGraph}
 use Rattle.surf_homology.specs.Trees.{IsTree, IsShortest}
 use Rattle.surf_homology.proofs.Loops.{joins_turned, joins_ends}
@@ -13,13 +14,6 @@ use Rattle.surf_tree.specs.Grown.{IsGrownIn}
 
 abbrev tables : ℕ → List ℕ → List ℕ → List ℕ → List Bool → TreeTables
 tables base distance parent up marks = record { base = base; distances = distance; parents = parent; ups = up; flags = marks }
-
-any_same : (n : ℕ) (p q : ℕ → Bool) → ((k : ℕ) → k < n → p k ≡ q k) → any_below n p ≡ any_below n q
-any_same zero p q h = refl
-any_same (suc n) p q h =
-    let here : p n ≡ q n = h n (omega arith) in
-    let rest : any_below n p ≡ any_below n q = any_same n p q (λ k l. h k (omega arith)) in
-    rw (here, rest)
 
 module _ (g : Graph) (len : ℕ → ℕ) (base : ℕ) (distance parent up : List ℕ) (marks : List Bool) (graph : IsGraph g) (small : g.nodes ≤ longest) (positive : (e : ℕ) → e < g.edges → 1 ≤ len e)
     (in_range : base < g.nodes) (settled : IsSettled g len base (at distance)) (chosen : (v : ℕ) → v < g.nodes → IsLeastTight g len (at distance) v (at parent v) (at up v)) where
@@ -81,5 +75,5 @@ module _ (g : Graph) (len : ℕ → ℕ) (base : ℕ) (distance parent up : List
     fits = settled.fits;
     has_parent = has_parent;
     base_parent = base_alone;
-    flags = λ e l. marked e l ∙ any_same g.nodes (λ v. not (eqb (at parent v) nobody) && eqb (at up v) e) (λ v. not (eqb v base) && eqb (at up v) e) (λ v lv. rw (same_root v lv));
+    flags = λ e l. marked e l ∙ any_below-same g.nodes (λ v. not (eqb (at parent v) nobody) && eqb (at up v) e) (λ v. not (eqb v base) && eqb (at up v) e) (λ v lv. rw (same_root v lv));
   }

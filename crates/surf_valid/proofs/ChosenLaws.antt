@@ -7,6 +7,7 @@ use Rattle.std.proofs.lemmas.List.{length-map, get_or-map}
 use Rattle.std.proofs.lemmas.List.Elements.{Contains-get_or}
 use Rattle.std.proofs.lemmas.List.FromFn.{length-range_with_len, get_or-map-range_with_len}
 use Rattle.surf_z2.specs.Parity.{xor}
+use Rattle.surf_z2.proofs.ParityLaws.{any_below-same}
 use Rattle.surf_homology.specs.Cells.{primal}
 use Rattle.surf_homology.specs.Growth.{between}
 use Rattle.surf_homology.specs.Trees.{Tree, IsTree, IsShortest, on_way, on_path, loop, loop_length}
@@ -27,7 +28,7 @@ use Rattle.surf_valid.specs.Rows.{LoopCert}
 use Rattle.surf_valid.specs.Valid.{distance_at, parent_at, depth_at, side_at, or_zero, tree_of, dual_tree, across, IsParent, AddsUp, IsNoShortCut, IsTreeValid, IsDualRow, is_parent_edge, is_dual_edge, is_listed, just_one, IsDivided, loop_size, HasNoShorter, HasShape, IsValidLoops}
 use Rattle.surf_valid.specs.Chosen.{parent_in, side_in, cert_of}
 use Rattle.surf_valid.specs.Laws.{ChosenLoopsAreValid}
-use Rattle.surf_valid.proofs.TreeLaws.{any_same, rows_in_tree}
+use Rattle.surf_valid.proofs.TreeLaws.{rows_in_tree}
 use Rattle.surf_valid.proofs.DualLaws.{dual_rows_in_tree}
 
 -- what a table of a function has at a place
@@ -172,7 +173,7 @@ module _ (mesh : Mesh) (lengths : List ℕ) (base : ℕ) (trees : Trees) (surfac
   same_tree : (e : ℕ) → e < edge_count mesh → is_parent_edge mesh cert.tree e ≡ tree_edges mesh tree e
   same_tree e l =
       sym (rows_in_tree mesh lengths cert.tree surface positive spans.root_in tree_valid e l)
-      ∙ any_same mesh.vertices
+      ∙ any_below-same mesh.vertices
       (λ v. not (eqb v tree.root) && eqb (edge_number mesh (or_zero (parent_at cert.tree v), v)) e)
       (λ v. not (eqb v tree.root) && eqb (tree.up v) e) each
     where
@@ -202,7 +203,7 @@ module _ (mesh : Mesh) (lengths : List ℕ) (base : ℕ) (trees : Trees) (surfac
   same_cotree : (e : ℕ) → e < edge_count mesh → is_dual_edge mesh cert.dual e ≡ cotree_edges mesh cotree e
   same_cotree e l =
       sym (dual_rows_in_tree mesh cert.dual surface dual_row e l)
-      ∙ any_same (face_count mesh) (λ f. not (eqb f 0) && eqb ((dual_tree mesh cert.dual).up f) e)
+      ∙ any_below-same (face_count mesh) (λ f. not (eqb f 0) && eqb ((dual_tree mesh cert.dual).up f) e)
       (λ f. not (eqb f cotree.root) && eqb (cotree.up f) e) each
     where
       each : (f : ℕ) → f < face_count mesh → (not (eqb f 0) && eqb ((dual_tree mesh cert.dual).up f) e)

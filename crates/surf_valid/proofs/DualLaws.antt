@@ -1,7 +1,7 @@
 -- Valid rows of faces are a tree of the faces.
 use Rattle.std.proofs.Common.{◌≡◌, ◌≢◌, ℕ, ◌+◌, ◌<◌, true, not, ◌&&◌, ◌||◌, eqb, [], refl, sym, ap, ◌∙◌, arith, Option, Some, None, inl, inr}
 use Rattle.std.proofs.lemmas.Bool.{cases_eq, ne_eqb, eq-eqb, or_left, or_right, and_from}
-use Rattle.surf_z2.proofs.ParityLaws.{eqb_comm}
+use Rattle.surf_z2.proofs.ParityLaws.{eqb_comm, any_below-same}
 use Rattle.surf_homology.specs.Cells.{dual}
 use Rattle.surf_homology.specs.Graphs.{joins}
 use Rattle.surf_homology.specs.Trees.{IsTree, in_tree}
@@ -13,7 +13,6 @@ use Rattle.surf_complex.proofs.EdgeLaws.{place_of-among, among-edges, list_any_f
 use Rattle.surf_complex.proofs.SurfaceLaws.{two_faces_of}
 use Rattle.surf_valid.specs.Rows.{DualRows}
 use Rattle.surf_valid.specs.Valid.{depth_at, side_at, or_zeros, across, dual_tree, IsDualRow, IsDualValid, is_side, is_dual_edge}
-use Rattle.surf_valid.proofs.TreeLaws.{any_same}
 
 module _ (mesh : Mesh) (rows : DualRows) (surface : IsSurface mesh) where
   -- a side of a face is an edge
@@ -92,5 +91,5 @@ module _ (mesh : Mesh) (rows : DualRows) (surface : IsSurface mesh) where
     pub dual_rows_in_tree : (e : ℕ) → e < edge_count mesh →
         in_tree (dual (cells_of mesh)) (dual_tree mesh rows) e ≡ is_dual_edge mesh rows e
     dual_rows_in_tree e e_in =
-        any_same (face_count mesh) (λ f. not (eqb f 0) && eqb (edge_number mesh (or_zeros (side_at rows f))) e)
+        any_below-same (face_count mesh) (λ f. not (eqb f 0) && eqb (edge_number mesh (or_zeros (side_at rows f))) e)
         (λ f. is_side mesh e (side_at rows f)) (λ f l. same_test e f (side_at rows f) e_in l (valid f l))

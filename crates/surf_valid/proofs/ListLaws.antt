@@ -5,20 +5,6 @@ use Rattle.std.proofs.lemmas.Bool.{cases_Bool, cases_eq, ne_eqb, false≢true}
 use Rattle.std.proofs.lemmas.List.Sorted.{IsPermutation-refl, IsPermutation-cons, IsPermutation-trans, IsPermutation-sym, IsPermutation-middle, length_permutation}
 use Rattle.surf_complex.proofs.CotreeLaws.{Climbs}
 
-at_least : (low : ℕ) (xs : List ℕ) → Climbs low xs → (k : ℕ) → k < length xs → low ≤ get_or xs k 0
-at_least low [] c k l = absurd (omega arith)
-at_least low (x ∷ xs) c zero l = c.0
-at_least low (x ∷ xs) c (suc k) l = let later = at_least (suc x) xs c.1 k (omega arith) in omega (arith, later, c.0)
-
--- a later number is greater
-pub climbs_in_order : (low : ℕ) (xs : List ℕ) → Climbs low xs → (i j : ℕ) → i < j → j < length xs →
-    get_or xs i 0 < get_or xs j 0
-climbs_in_order low [] c i j h l = absurd (omega arith)
-climbs_in_order low (x ∷ xs) c i zero h l = absurd (omega arith)
-climbs_in_order low (x ∷ xs) c zero (suc j) h l =
-    let later = at_least (suc x) xs c.1 j (omega arith) in omega (arith, later)
-climbs_in_order low (x ∷ xs) c (suc i) (suc j) h l = climbs_in_order (suc x) xs c.1 i j (omega arith) (omega arith)
-
 -- a list without one place of a number
 record TakesOut (x : ℕ) (ys rest : List ℕ) : Type 0 where
   pub same : IsPermutation ys (x ∷ rest)

@@ -14,9 +14,9 @@ use Rattle.surf_complex.specs.Cells.{cells_of}
 use Rattle.surf_complex.specs.Cotree.{tree_edges, cotree_edges, is_left, left_edges, split_of}
 use Rattle.surf_complex.proofs.PairLaws.{pair_eq-true}
 use Rattle.surf_complex.proofs.EdgeLaws.{place_of-ends}
-use Rattle.surf_complex.proofs.CotreeLaws.{passing_climb, passing_each, passing_found, not-false_is}
+use Rattle.surf_complex.proofs.CotreeLaws.{passing_climb, climbs_order, passing_each, passing_found, not-false_is}
 use Rattle.surf_valid.specs.Valid.{is_listed, just_one}
-use Rattle.surf_valid.proofs.ListLaws.{climbs_in_order, permuted_where_found}
+use Rattle.surf_valid.proofs.ListLaws.{permuted_where_found}
 
 -- each edge is in just one of the two trees and the list
 pub record AreApart (mesh : Mesh) (tree cotree : Tree) (left : List (ℕ × ℕ)) : Type 0 where
@@ -61,7 +61,7 @@ module _ (mesh : Mesh) (tree cotree : Tree) (left : List (ℕ × ℕ)) (apart : 
     cotree_is = is_cotree;
     apart = λ e l on.
         (just_first (tree_edges mesh tree e) (cotree_edges mesh cotree e) (is_listed mesh left e) (apart.one_of e l) on).0;
-    left_rises = λ i j h l. climbs_in_order 0 (left_edges mesh tree cotree)
+    left_rises = λ i j h l. climbs_order 0 (left_edges mesh tree cotree)
         (passing_climb (is_left mesh tree cotree) 0 (edge_count mesh)) i j h l;
     left_in = λ k l. (left_each k l).0;
     left_outside = λ k l. (left_each k l).1;

@@ -2,7 +2,7 @@
 use Rattle.std.proofs.Common.{◌≡◌, ◌≢◌, ℕ, zero, suc, ◌+◌, ◌<◌, Bool, true, not, ◌&&◌, eqb, List, refl, sym, ◌∙◌, arith, Option, Some, None}
 use Rattle.std.proofs.lemmas.Bool.{ne_eqb, eq-eqb}
 use Rattle.surf_z2.specs.Parity.{any_below}
-use Rattle.surf_z2.proofs.ParityLaws.{eqb_comm}
+use Rattle.surf_z2.proofs.ParityLaws.{eqb_comm, any_below-same}
 use Rattle.surf_homology.specs.Cells.{primal}
 use Rattle.surf_homology.specs.Graphs.{joins}
 use Rattle.surf_homology.specs.Trees.{IsTree, IsShortest, in_tree}
@@ -17,11 +17,6 @@ use Rattle.surf_complex.proofs.CellLaws.{surfaces_are_cells, joins_from}
 use Rattle.surf_complex.proofs.GraphWalkLaws.{joined}
 use Rattle.surf_valid.specs.Rows.{TreeRows}
 use Rattle.surf_valid.specs.Valid.{distance_at, parent_at, or_zero, tree_of, IsParent, AddsUp, IsTreeValid, leads_up, is_parent_edge}
-
-pub any_same : (n : ℕ) (p q : ℕ → Bool) → ((k : ℕ) → k < n → p k ≡ q k) → any_below n p ≡ any_below n q
-any_same zero p q h = refl
-any_same (suc n) p q h =
-    rw (h n (omega arith), any_same n p q (λ k l. h k (omega arith))) refl
 
 module _ (mesh : Mesh) (lengths : List ℕ) (rows : TreeRows) (surface : IsSurface mesh) where
   -- the edge between a vertex and the parent that is given
@@ -88,6 +83,6 @@ module _ (mesh : Mesh) (lengths : List ℕ) (rows : TreeRows) (surface : IsSurfa
     pub rows_in_tree : (e : ℕ) → e < edge_count mesh →
         in_tree (primal (cells_of mesh)) (tree_of mesh rows) e ≡ is_parent_edge mesh rows e
     rows_in_tree e e_in =
-        any_same mesh.vertices
+        any_below-same mesh.vertices
         (λ v. not (eqb v rows.base) && eqb (edge_number mesh (or_zero (parent_at rows v), v)) e)
         (λ v. leads_up mesh e v (parent_at rows v)) (λ v l. same_test e v (parent_at rows v) e_in (valid.parents v l))

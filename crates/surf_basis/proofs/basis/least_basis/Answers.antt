@@ -3,7 +3,7 @@ use Rattle.std.proofs.lemmas.Result.{IfOk-weaker}
 use Rattle.surf_complex.specs.Homology.{IsFullCount}
 use Rattle.surf_complex.specs.ChoiceLaws.{LeastSimpleBasis}
 use Rattle.surf_complex.proofs.ClassLaws.{some_vertex}
-use Rattle.surf_loops.proofs.Turned.{lengths_positive}
+use Rattle.surf_lengths.proofs.Positive.{lengths_positive}
 use Rattle.surf_basis.specs.Candidates.{Chosen, AreCyclesOf}
 use Rattle.surf_basis.specs.Cycles.{loops_of, IsTheBasis}
 use Rattle.surf_basis.proofs.Whole.{left_full, desk_signed, least_of, none_basis, all_inside, the_basis}

@@ -1,5 +1,5 @@
 use Rattle.std.proofs.Common.{◌≡◌, ◌<◌, subst, arith}
-use Rattle.surf_loops.proofs.Turned.{lengths_positive}
+use Rattle.surf_lengths.proofs.Positive.{lengths_positive}
 use Rattle.surf_loops.proofs.Rows.{grown_rooted}
 use Rattle.surf_tree.specs.Grown.{IsGrown}
 use Rattle.surf_basis.specs.Certs.{AreTreeRowsBelow}

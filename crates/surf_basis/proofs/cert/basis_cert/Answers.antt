@@ -4,7 +4,7 @@ use Rattle.surf_complex.proofs.ClassLaws.{some_vertex}
 use Rattle.surf_valid.specs.Chosen.{dual_rows_of}
 use Rattle.surf_cotree.specs.Tables.{CotreeTables, tree_of}
 use Rattle.surf_loops.specs.Loops.{IsGreedy}
-use Rattle.surf_loops.proofs.Turned.{lengths_positive}
+use Rattle.surf_lengths.proofs.Positive.{lengths_positive}
 use Rattle.surf_loops.proofs.Rows.{numbers_fit}
 use Rattle.surf_basis.specs.Cycles.{loops_of}
 use Rattle.surf_basis.proofs.Certified.{the_cert, valid_cert, fitting_cert}

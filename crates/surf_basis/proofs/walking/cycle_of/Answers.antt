@@ -1,6 +1,6 @@
 use Rattle.std.proofs.Common.{refl, sym, ◌∙◌}
 use Rattle.surf_loops.specs.Loops.{trees_of}
-use Rattle.surf_loops.proofs.Turned.{lengths_positive}
+use Rattle.surf_lengths.proofs.Positive.{lengths_positive}
 use Rattle.surf_basis.proofs.Looped.{loop_is_one}
 use Rattle.surf_basis.proofs.walking.cycle_of.Goals as goal
 

@@ -1,5 +1,5 @@
 use Rattle.surf_certcheck.proofs.BasisFaults.{least_where_ok, none_where_err}
-use Rattle.surf_certcheck.proofs.Totals.{positive_lengths}
+use Rattle.surf_lengths.proofs.Positive.{lengths_positive}
 use Rattle.surf_certcheck.proofs.basis.check_basis.Goals as goal
 
 pub returns-clause-least : goal.returns-clause-least
@@ -7,7 +7,7 @@ returns-clause-least c =
     let mesh = c.args.mesh.now in
     let lengths = c.args.lengths.now in
     least_where_ok mesh lengths c.args.cert.now c.edges-surface.ensures.surface
-    (positive_lengths mesh lengths c.count-positive.ensures.lengths c.requires.lengths) c.check_edges.result
+    (lengths_positive mesh lengths c.count-positive.ensures.lengths c.requires.lengths) c.check_edges.result
     c.check_edges.ensures.valid
 
 pub returns-clause-excludes : goal.returns-clause-excludes

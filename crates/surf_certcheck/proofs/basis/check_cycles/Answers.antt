@@ -1,20 +1,20 @@
 use Rattle.std.proofs.Common.{◌∙◌, sym}
 use Rattle.surf_certcheck.proofs.BasisFaults.{basis_valid}
-use Rattle.surf_certcheck.proofs.Totals.{positive_lengths}
+use Rattle.surf_lengths.proofs.Positive.{lengths_positive}
 use Rattle.surf_certcheck.proofs.Validity.{has_split, cycles_size}
 use Rattle.surf_certcheck.proofs.basis.check_cycles.Goals as goal
 
 pub sign_edges-requires-clause-split : goal.sign_edges-requires-clause-split
 sign_edges-requires-clause-split c =
     has_split c.args.mesh.now c.args.lengths.now c.args.cert.now c.edges-surface.ensures.surface
-    (positive_lengths c.args.mesh.now c.args.lengths.now c.count-positive.ensures.lengths c.requires.lengths)
+    (lengths_positive c.args.mesh.now c.args.lengths.now c.count-positive.ensures.lengths c.requires.lengths)
     c.requires.divided
 
 pub frame_cycles-requires-clause-places : goal.frame_cycles-requires-clause-places
 frame_cycles-requires-clause-places c =
     cycles_size c.args.mesh.now c.args.cert.now c.requires.divided.shape
     (has_split c.args.mesh.now c.args.lengths.now c.args.cert.now c.edges-surface.ensures.surface
-    (positive_lengths c.args.mesh.now c.args.lengths.now c.count-positive.ensures.lengths c.requires.lengths)
+    (lengths_positive c.args.mesh.now c.args.lengths.now c.count-positive.ensures.lengths c.requires.lengths)
     c.requires.divided)
 
 pub frame_cycles-requires-clause-width : goal.frame_cycles-requires-clause-width
@@ -22,7 +22,7 @@ frame_cycles-requires-clause-width c =
     c.in_ok-signs.ensures.width
     ∙ sym (cycles_size c.args.mesh.now c.args.cert.now c.requires.divided.shape
     (has_split c.args.mesh.now c.args.lengths.now c.args.cert.now c.edges-surface.ensures.surface
-    (positive_lengths c.args.mesh.now c.args.lengths.now c.count-positive.ensures.lengths c.requires.lengths)
+    (lengths_positive c.args.mesh.now c.args.lengths.now c.count-positive.ensures.lengths c.requires.lengths)
     c.requires.divided))
 
 pub returns-in-None-clause-valid : goal.returns-in-None-clause-valid

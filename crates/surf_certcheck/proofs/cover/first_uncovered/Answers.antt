@@ -6,7 +6,7 @@ use Rattle.surf_certcheck.specs.Climbs.{IsClimbed}
 use Rattle.surf_certcheck.specs.First.{HoldsBelow, FailsFirst}
 use Rattle.surf_certcheck.specs.Frames.{IsCoveredBy}
 use Rattle.surf_certcheck.proofs.Bases.{first_at, holds_more}
-use Rattle.surf_certcheck.proofs.Totals.{positive_lengths}
+use Rattle.surf_lengths.proofs.Positive.{lengths_positive}
 use Rattle.surf_certcheck.proofs.Independence.{frame_whole}
 use Rattle.surf_certcheck.proofs.Validity.{climbed_at}
 use Rattle.surf_certcheck.proofs.cover.first_uncovered.Goals as goal
@@ -19,7 +19,7 @@ find_ups-requires-clause-climbed c =
     c.tree_from-rows.ensures.tree ∙ ap (tree_at cert) c.new-base.ensures in
     subst (IsClimbed mesh) (sym is)
     (climbed_at mesh c.args.lengths.now cert c.vertices-x-end.ensures.surface
-    (positive_lengths mesh c.args.lengths.now c.count-positive.ensures.lengths c.requires.lengths) c.requires.trees
+    (lengths_positive mesh c.args.lengths.now c.count-positive.ensures.lengths c.requires.lengths) c.requires.trees
     c.requires.bases c.requires.valid c.loop-x.x (omega (arith, c.loop-x-test.true, c.vertices-x-end.ensures.count)))
 
 pub first_at-requires-clause-climbed : goal.first_at-requires-clause-climbed
@@ -30,7 +30,7 @@ first_at-requires-clause-climbed c =
     c.tree_from-rows.ensures.tree ∙ ap (tree_at cert) c.new-base.ensures in
     subst (IsClimbed mesh) (sym is)
     (climbed_at mesh c.args.lengths.now cert c.vertices-x-end.ensures.surface
-    (positive_lengths mesh c.args.lengths.now c.count-positive.ensures.lengths c.requires.lengths) c.requires.trees
+    (lengths_positive mesh c.args.lengths.now c.count-positive.ensures.lengths c.requires.lengths) c.requires.trees
     c.requires.bases c.requires.valid c.loop-x.x (omega (arith, c.loop-x-test.true, c.vertices-x-end.ensures.count)))
 
 pub returns-in-Some : goal.returns-in-Some

@@ -10,8 +10,8 @@ use Rattle.surf_mesh.proofs.RingLaws.{turned_size, at_begins, are_darts, begin_i
 use Rattle.surf_mesh.proofs.rings.ring_at.Goals as goal
 
 -- the first side of a row
-first_read : (row at : List ℕ) (x y : ℕ) → y ≡ x → x ≡ get_or row 0 x → 0 < length row → row ≡ at → y ≡ get_or at 0 0
-first_read row at x y e r lt is = e ∙ get_or_read row 0 x lt r 0 ∙ ap (λ (xs : List ℕ). get_or xs 0 0) is
+first_read : (ys at : List ℕ) (x y : ℕ) → y ≡ x → x ≡ get_or ys 0 x → 0 < length ys → ys ≡ at → y ≡ get_or at 0 0
+first_read ys at x y e r lt is = e ∙ get_or_read ys 0 x lt r 0 ∙ ap (λ (xs : List ℕ). get_or xs 0 0) is
 
 each_case : (o : Option ℕ) (P Q : Type 0) (R S : ℕ → Type 0) → (P → Q) → ((x : ℕ) → R x → S x) → MatchOption o P R → MatchOption o Q S
 each_case None P Q R S f g h = f h
@@ -88,12 +88,12 @@ returns-clause-found c =
     let edges = c.go_round.new.edges.items in
     let Tr : List ℕ → Type 0 = λ tails. IsTrail c.args.next.now c.args.prev.now c.args.mate.now tails c.args.edge_of.now (from, true) (length ring) edges in
     let trail = subst Tr c.corners.ensures c.in_ok-go_round.ensures.trail in
-    let All : List ℕ → Type 0 = λ row. (k : ℕ) → k < length row → marked seen (get_or row k 0) ≡ true in
-    let Left : List ℕ → ℕ → Type 0 = λ row f. (f < length row) × (marked seen (get_or row f 0) ≡ false) × ((j : ℕ) → j < f → marked seen (get_or row j 0) ≡ true) in
-    let Pinch : List ℕ → ℕ → Type 0 = λ row k. (k < length row) × IsPinch mesh v (get_or (owners 0 mesh.faces) (get_or row 0 0) 0) (get_or (owners 0 mesh.faces) (get_or row k 0) 0) in
+    let All : List ℕ → Type 0 = λ sides. (k : ℕ) → k < length sides → marked seen (get_or sides k 0) ≡ true in
+    let Left : List ℕ → ℕ → Type 0 = λ sides f. (f < length sides) × (marked seen (get_or sides f 0) ≡ false) × ((j : ℕ) → j < f → marked seen (get_or sides j 0) ≡ true) in
+    let Pinch : List ℕ → ℕ → Type 0 = λ sides k. (k < length sides) × IsPinch mesh v (get_or (owners 0 mesh.faces) (get_or sides 0 0) 0) (get_or (owners 0 mesh.faces) (get_or sides k 0) 0) in
     let Whole : Type 0 = IsWholeRing mesh v ring edges in
-    let T : List ℕ → Type 0 = λ row. MatchOption o (All row) (Left row) in
-    let G : List ℕ → Type 0 = λ row. MatchOption o Whole (Pinch row) in
+    let T : List ℕ → Type 0 = λ sides. MatchOption o (All sides) (Left sides) in
+    let G : List ℕ → Type 0 = λ sides. MatchOption o Whole (Pinch sides) in
     subst G (sym c.requires.row) (each_case o (All at) Whole (Left at) (Pinch at)
     (whole_ring mesh c.vertices-mesh.ensures.mesh c.requires.two c.args.mate.now c.requires.mates c.args.next.now c.args.prev.now c.requires.next c.requires.prev v some from (ap (λ t. get_or c.args.prev.now t 0) e) c.args.seen.now seen ring c.requires.fresh round c.args.edge_of.now edges c.requires.edges trail)
     (λ k h. (h.0, ring_pinch mesh c.vertices-mesh.ensures.mesh c.requires.two c.args.mate.now c.requires.mates c.args.next.now c.args.prev.now c.requires.next c.requires.prev v some from (ap (λ t. get_or c.args.prev.now t 0) e) c.args.seen.now seen ring c.requires.fresh round k h.0 h.1 h.2))

@@ -8,7 +8,7 @@ use Rattle.surf_cert.proofs.ChosenFits.{chosen_loops_fit}
 use Rattle.surf_tree.specs.Tables.{TreeTables, tree_of}
 use Rattle.surf_cotree.specs.Tables.{CotreeTables, tree_of as cotree_of}
 use Rattle.surf_loops.specs.Loops.{trees_of}
-use Rattle.surf_loops.proofs.Turned.{lengths_positive}
+use Rattle.surf_lengths.proofs.Positive.{lengths_positive}
 use Rattle.surf_loops.proofs.Rows.{numbers_fit, cert_shown}
 use Rattle.surf_loops.proofs.desk.LoopDesk.cert.Goals as goal
 

@@ -6,7 +6,8 @@ use Rattle.surf_tree.specs.Tables.{tree_of}
 use Rattle.surf_cotree.specs.Grown.{IsMarked, IsGrown as IsCotreeGrown}
 use Rattle.surf_loops.specs.Heads.{head_of}
 use Rattle.surf_loops.specs.Loops.{LoopTables}
-use Rattle.surf_loops.proofs.Turned.{lengths_positive, tree_marks, left_inside}
+use Rattle.surf_lengths.proofs.Positive.{lengths_positive}
+use Rattle.surf_loops.proofs.Turned.{tree_marks, left_inside}
 use Rattle.surf_loops.proofs.Chosen.{greedy_tables}
 use Rattle.surf_loops.proofs.desk.LoopDesk.greedy.Goals as goal
 
