@@ -1,5 +1,5 @@
 //! Checks of certificates.
-use crate::meshes::{SCATTERED_LENGTHS, TET, TORUS33, TORUS33_CERT};
+use crate::meshes::{PLANE6, SCATTERED_LENGTHS, TET, TORUS33, TORUS33_CERT};
 use crate::rows::{Case, answers, output_of};
 use std::process::Abort;
 use std::test::Fail;
@@ -243,8 +243,13 @@ fn a_basis_for_1001_vertices(rt: HostRuntime) -> Result<(), Fail> {
 
 #[test]
 fn what_is_certified_is_valid(rt: HostRuntime) -> Result<(), Fail> {
-    let files = [("tet", TET), ("torus33", TORUS33), ("L", SCATTERED_LENGTHS)];
-    let cases: [(&[&str], &str, &str, &str); 7] = [
+    let files = [
+        ("tet", TET),
+        ("torus33", TORUS33),
+        ("plane6", PLANE6),
+        ("L", SCATTERED_LENGTHS),
+    ];
+    let cases: [(&[&str], &str, &str, &str); 9] = [
         (
             &["certify", "tet", "unit", "0"],
             "tet",
@@ -287,6 +292,18 @@ fn what_is_certified_is_valid(rt: HostRuntime) -> Result<(), Fail> {
             "L",
             "valid basis 170\n",
         ),
+        (
+            &["certify", "plane6", "unit", "0"],
+            "plane6",
+            "unit",
+            "valid loops 3\n",
+        ),
+        (
+            &["certify", "plane6", "unit"],
+            "plane6",
+            "unit",
+            "valid basis 3\n",
+        ),
     ];
     for (words, mesh, lengths, out) in &cases {
         let cert = output_of(&rt, words, &files)?;
@@ -297,9 +314,33 @@ fn what_is_certified_is_valid(rt: HostRuntime) -> Result<(), Fail> {
                 files: &[
                     ("tet", TET),
                     ("torus33", TORUS33),
+                    ("plane6", PLANE6),
                     ("L", SCATTERED_LENGTHS),
                     ("C", cert.as_str()),
                 ],
+                status: 0,
+                out,
+                diag: "",
+            },
+        )?;
+    }
+    Ok(())
+}
+
+#[test]
+fn a_chain_is_certified(rt: HostRuntime) -> Result<(), Fail> {
+    let mesh = output_of(&rt, &["gen", "chain", "2", "4", "4"], &[])?;
+    let cases: [(&[&str], &str); 2] = [
+        (&["certify", "M", "unit", "0"], "valid loops 20\n"),
+        (&["certify", "M", "unit"], "valid basis 16\n"),
+    ];
+    for (words, out) in &cases {
+        let cert = output_of(&rt, words, &[("M", mesh.as_str())])?;
+        answers(
+            &rt,
+            &Case {
+                words: &["check", "M", "unit", "C"],
+                files: &[("M", mesh.as_str()), ("C", cert.as_str())],
                 status: 0,
                 out,
                 diag: "",
