@@ -2,7 +2,7 @@
 use Rattle.std.proofs.Common.{◌≡◌, ℕ, suc, ◌<◌, ◌+◌, ◌↔◌, Bool, true, false, cond, List, [], ◌∷◌, length, map, Option, Some, None, refl, sym, ap, ◌∙◌, subst, arith, inl, inr}
 use Rattle.std.specs.List.{AllByRecursion}
 use Rattle.std.specs.Option.{option_map}
-use Rattle.std.specs.Prelude.{nat_le}
+use Rattle.std.specs.Prelude.{nat_le, IfSome}
 use Rattle.std.proofs.lemmas.Bool.{cases_Bool, cases_lt}
 use Rattle.std.proofs.lemmas.Bool.Decides.{nat_tests}
 use Rattle.surf_z2.specs.Order.{merge}
@@ -24,6 +24,14 @@ use Rattle.surf_basis.specs.declared.cycle.Cycle.{Cycle}
 use Rattle.surf_basis.specs.Candidates.{candidate_of, first_head, loop_in, shorter, IsInside, IsCycleOf}
 use Rattle.surf_basis.specs.Cycles.{first_of, loop_of, IsFirstCandidate, IsShortestCycle, AllSeparate}
 use Rattle.surf_basis.proofs.Looped.{heads_chosen, each_head, head_in, heads_count, none_on_sphere}
+
+-- a list with its first loop
+pub first_listed : (c : Loop) (cs : List Loop) → Some c ≡ first_of cs → (rest : List Loop) × (cs ≡ c ∷ rest)
+first_listed c [] e = cc
+first_listed c (d ∷ ds) e = let same : c ≡ d = of_some c d e in (ds, ap (λ k. k ∷ ds) (sym same))
+  where
+    of_some : (a b : Loop) → Some a ≡ Some b → a ≡ b
+    of_some a b e = cc
 
 -- of a first loop and one at a later base the shorter, the first where they are as long
 abbrev pub shorter_loop : Option Loop → Loop → Loop
@@ -117,18 +125,10 @@ module _ (mesh : Mesh) (lengths : List ℕ) (trees : ℕ → Trees) (surface : I
 
   -- ---- what the first candidate is
 
-  pub first_listed : (c : Candidate) (cs : List Loop) → Some (loop_in mesh trees c) ≡ first_of cs →
-      (rest : List Loop) × (cs ≡ loop_in mesh trees c ∷ rest)
-  first_listed c [] e = cc
-  first_listed c (d ∷ ds) e = let same : loop_in mesh trees c ≡ d = of_some (loop_in mesh trees c) d e in (ds, ap (λ k. k ∷ ds) (sym same))
-    where
-      of_some : (a b : Loop) → Some a ≡ Some b → a ≡ b
-      of_some a b e = cc
-
   pub first_placed : (c : Candidate) → Some (loop_in mesh trees c) ≡ first_of (candidates mesh lengths trees) →
       IsLoopBelow mesh lengths trees mesh.vertices (loop_in mesh trees c)
   first_placed c e =
-      let (rest, is) = first_listed c (candidates mesh lengths trees) e in
+      let (rest, is) = first_listed (loop_in mesh trees c) (candidates mesh lengths trees) e in
       let each : AllByRecursion (IsLoopBelow mesh lengths trees mesh.vertices) (loop_in mesh trees c ∷ rest) =
       subst (AllByRecursion (IsLoopBelow mesh lengths trees mesh.vertices)) is (below_each mesh lengths trees mesh.vertices) in
       each.0
@@ -139,17 +139,6 @@ module _ (mesh : Mesh) (lengths : List ℕ) (trees : ℕ → Trees) (surface : I
       let placed = first_placed c e in
       let walk = is.walk (trees c.base) (chosen c.base placed.base_in) placed.of.left in
       λ i. record { size = is.size i; base = is.base i; edge = is.edge i; walk = walk i }
-
-  pub first_shortest : (c : Candidate) (cycle : Cycle) → Some (loop_in mesh trees c) ≡ first_of (candidates mesh lengths trees) →
-      IsCycleOf mesh lengths c cycle → IsShortestCycle mesh lengths cycle
-  first_shortest c cycle e is =
-      let (rest, listed) = first_listed c (candidates mesh lengths trees) e in
-      let good = first_is_shortest mesh lengths trees (loop_in mesh trees c) rest surface positive chosen listed in
-      let same = first_cycle c cycle e is in
-      record {
-        shortest = subst (λ (k : Loop). IsShortestNonseparating mesh lengths k.walk) (sym same) good.0;
-        size = subst (λ (k : Loop). walk_length mesh lengths k.walk ≡ k.size) (sym same) good.1;
-      }
 
   pub no_first : None ≡ first_of (candidates mesh lengths trees) → IsFullCount mesh 0
   no_first e =
@@ -182,11 +171,15 @@ module _ (mesh : Mesh) (lengths : List ℕ) (surface : IsSurface mesh) (positive
   found_first c cycle found is trees chosen =
       ap Some (first_cycle mesh lengths trees surface positive chosen c cycle (found trees chosen) is) ∙ found trees chosen
 
-  pub found_shortest : (c : Candidate) (cycle : Cycle) → IsFound mesh lengths (Some c) → IsCycleOf mesh lengths c cycle →
-      IsShortestCycle mesh lengths cycle
-  found_shortest c cycle found is =
+  -- the first candidate is a shortest cycle
+  pub first_shortest : (found : Option Cycle) → IsFirstCandidate mesh lengths found →
+      IfSome found (λ cycle. IsShortestCycle mesh lengths cycle)
+  first_shortest None is = tt
+  first_shortest (Some cycle) is =
       let (trees, chosen) = choice_exists mesh lengths surface positive in
-      first_shortest mesh lengths trees surface positive chosen c cycle (found trees chosen) is
+      let (rest, listed) = first_listed (loop_of cycle) (candidates mesh lengths trees) (is trees chosen) in
+      let good = first_is_shortest mesh lengths trees (loop_of cycle) rest surface positive chosen listed in
+      record { shortest = good.0; size = good.1 }
 
   pub found_some : (c : Candidate) → IsFound mesh lengths (Some c) → IsFullCount mesh 0 → ⊥
   found_some c found full =

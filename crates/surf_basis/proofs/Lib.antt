@@ -3,6 +3,7 @@ pub mod Climbed
 pub mod Looped
 pub mod Kept
 pub mod First
+pub mod Leading
 pub mod Whole
 pub mod Settled
 pub mod Certified

@@ -1,5 +1,5 @@
 //! The least basis, kept base by base.
-ghost use Rattle.std.specs.Prelude.{ℕ, ◌≡◌, ◌<◌, ◌≤◌, ◌+◌, [], All, IfOk, length, nat_le};
+ghost use Rattle.std.specs.Prelude.{ℕ, ◌≡◌, ◌<◌, ◌≤◌, ◌+◌, [], All, IfOk, IfSome, length, nat_le};
 ghost use Rattle.std.specs.List.{list_all};
 ghost use Rattle.surf_homology.specs.Cells.{Split, IsSplit};
 ghost use Rattle.surf_complex.specs.Cells.{cells_of};
@@ -8,7 +8,7 @@ ghost use Rattle.surf_complex.specs.Choice.{Trees, AreChosen};
 ghost use Rattle.surf_complex.specs.Surface.{edge_count, face_count};
 ghost use Rattle.surf_complex.specs.ChoiceLaws.{LeastSimpleBasis};
 ghost use Rattle.surf_loops.specs.Loops.{IsMadeFor};
-ghost use Rattle.surf_basis.specs.Cycles.{IsTheBasis, loops_of};
+ghost use Rattle.surf_basis.specs.Cycles.{first_of, IsFirstCandidate, IsShortestCycle, IsTheBasis, loops_of};
 ghost use Rattle.surf_basis.specs.Candidates.{signed_heads, is_settled, AreKept};
 ghost use Rattle.surf_basis.specs.Signing.{AreSignatures, AreSigned, IsClimbed};
 
@@ -94,7 +94,8 @@ fn choose(
 }
 
 /// The basis that is chosen: two less the characteristic independent closed walks, each a simple cycle, and no such
-/// walks total less. They are in the order of length, base and edge. On a sphere it has none.
+/// walks total less. They are in the order of length, base and edge, so the first is a shortest cycle that doesn't
+/// separate the surface, the one that `least_nonseparating` gives. On a sphere it has none.
 pub fn least_basis(
     alloc: Global,
     mesh: &HalfMesh,
@@ -104,6 +105,8 @@ pub fn least_basis(
     requires few { edge_count mesh.now + 2 ≤ mesh.now.vertices + face_count mesh.now + 1024 }
     ensures chosen { IfOk result (λ cycles. IsTheBasis mesh.now lengths.now (loops_of cycles.items)) }
     ensures least { IfOk result (λ cycles. LeastSimpleBasis mesh.now lengths.now (loops_of cycles.items)) }
+    ensures first { IfOk result (λ cycles. IsFirstCandidate mesh.now lengths.now (first_of cycles.items)) }
+    ensures shortest { IfOk result (λ cycles. IfSome (first_of cycles.items) (λ cycle. IsShortestCycle mesh.now lengths.now cycle)) }
 {
     let _surface = mesh.faces();
     let _lengths = lengths.count();

@@ -28,15 +28,6 @@ module _ (mesh : Mesh) (lengths : List ℕ) (a b : ℕ → Trees) (surface : IsS
       head default [] = default
       head default (loop ∷ loops) = loop
 
--- a list with a first loop
-pub begins : (loops : List Loop) (c : Cycle) → option_map loop_of (Some c) ≡ first_of loops → (rest : List Loop) × (loops ≡ loop_of c ∷ rest)
-begins [] c is = absurd cc
-begins (loop ∷ rest) c is = (rest, ap (λ (l : Loop). l ∷ rest) (sym (ap (found loop) is)))
-  where
-    found : Loop → Option Loop → Loop
-    found default None = default
-    found default (Some l) = l
-
 -- a mesh that goes on where loops are limited has few
 pub few_loops : (mesh : Mesh) → HasFewLoops true mesh (Ok mesh) → edge_count mesh + 2 ≤ mesh.vertices + face_count mesh + 1024
 few_loops mesh is = elim (cases_lt 1024 (loop_count mesh)) [

@@ -7,6 +7,7 @@ use Rattle.surf_complex.specs.Choice.{Trees, AreChosen, Loop, candidates}
 use Rattle.surf_complex.specs.ChoiceLaws.{LeastSimpleBasis}
 use Rattle.surf_complex.proofs.ChoiceExists.{choice_exists}
 use Rattle.surf_lengths.specs.Lengths.{AreLengths}
+use Rattle.surf_lengths.proofs.Positive.{lengths_positive}
 use Rattle.surf_basis.specs.Cycles.{loop_of, IsTheBasis, IsFirstCandidate, IsShortestCycle, AllSeparate}
 use Rattle.surf_basis.specs.declared.cycle.Cycle.{Cycle}
 use Rattle.surf_print.specs.CycleTexts.{cycles_text}
@@ -15,12 +16,11 @@ use Rattle.surf_run.specs.LeastBasis.{GivesBasis}
 use Rattle.surf_run.specs.Outcome.{Outcome}
 use Rattle.surf_run.specs.Says.{Says}
 use Rattle.surf_run.specs.ShortestCycle.{GivesCycle}
-use Rattle.surf_run.proofs.CycleLaws.{begins}
-use Rattle.surf_run.proofs.LengthLaws.{positive}
+use Rattle.surf_basis.proofs.First.{first_listed}
 
 module _ (mesh : Mesh) (lengths : List ℕ) (surface : IsSurface mesh) (are : AreLengths lengths) (sized : length lengths ≡ edge_count mesh) where
   some : (trees : ℕ → Trees) × AreChosen mesh lengths trees
-  some = choice_exists mesh lengths surface (positive mesh lengths are sized)
+  some = choice_exists mesh lengths surface (lengths_positive mesh lengths are sized)
 
   -- a basis that is chosen whichever trees show the choice
   pub gives_basis : (basis : List Loop) → IsTheBasis mesh lengths basis → LeastSimpleBasis mesh lengths basis → (o : Outcome) → Says (cycles_text basis) o →
@@ -32,7 +32,7 @@ module _ (mesh : Mesh) (lengths : List ℕ) (surface : IsSurface mesh) (are : Ar
       (found ≡ None) ↔ AllSeparate mesh → (o : Outcome) → Says (found_text found) o → GivesCycle mesh lengths o
   gives_cycle None first shortest separate o says = inr (record { separate = separate.0 refl; says = says })
   gives_cycle (Some c) first shortest separate o says =
-      let b = begins (candidates mesh lengths some.0) c (first some.0 some.1) in
+      let b = first_listed (loop_of c) (candidates mesh lengths some.0) (first some.0 some.1) in
       inl (record {
         trees = some.0;
         chosen = some.1;

@@ -56,7 +56,3 @@ lengths_sized mesh text = at (head_of (lines_of text))
     at (Err fault) = tt
     at (Ok head) = read_sized mesh head.default _ (lines_keep mesh head.entries (Ok (none_named mesh head.default))
         (length-replicate (edge_count mesh) (unwrap_or head.default 0)))
-
--- lengths of edges are positive
-pub positive : (mesh : Mesh) (lengths : List ℕ) → AreLengths lengths → length lengths ≡ edge_count mesh → ArePositive mesh lengths
-positive mesh lengths are sized e l = (All-get_or IsLength lengths e 0 (subst (λ (n : ℕ). e < n) (sym sized) l) are).positive

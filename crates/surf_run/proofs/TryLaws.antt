@@ -6,6 +6,7 @@ use Rattle.surf_complex.specs.Choice.{Trees, AreChosen, Loop, candidates}
 use Rattle.surf_complex.specs.ChoiceLaws.{LeastSimpleBasis}
 use Rattle.surf_complex.proofs.ChoiceExists.{choice_exists}
 use Rattle.surf_lengths.specs.Lengths.{AreLengths}
+use Rattle.surf_lengths.proofs.Positive.{lengths_positive}
 use Rattle.surf_basis.specs.Cycles.{loop_of, IsTheBasis, IsFirstCandidate, IsShortestCycle}
 use Rattle.surf_basis.specs.declared.cycle.Cycle.{Cycle}
 use Rattle.surf_run.specs.Cause.{Cause, due, unread, starved}
@@ -15,8 +16,7 @@ use Rattle.surf_run.specs.Outcome.{Outcome, answers, status_of}
 use Rattle.surf_run.specs.Summaries.{total_size, BasisTotals, CycleMeasures}
 use Rattle.surf_run.specs.Tells.{Why}
 use Rattle.surf_run.specs.Trying.{searched, then_searched}
-use Rattle.surf_run.proofs.CycleLaws.{begins}
-use Rattle.surf_run.proofs.LengthLaws.{positive}
+use Rattle.surf_basis.proofs.First.{first_listed}
 
 -- `info` answers with status 0
 informs_with : (mesh : Mesh) (o : Outcome) → Informs mesh o → status_of o ≡ 0
@@ -28,7 +28,7 @@ informs_well mesh status facts informs = informs_with mesh (answers status facts
 
 module _ (mesh : Mesh) (lengths : List ℕ) (surface : IsSurface mesh) (are : AreLengths lengths) (sized : length lengths ≡ edge_count mesh) where
   some : (trees : ℕ → Trees) × AreChosen mesh lengths trees
-  some = choice_exists mesh lengths surface (positive mesh lengths are sized)
+  some = choice_exists mesh lengths surface (lengths_positive mesh lengths are sized)
 
   -- a basis that is chosen whichever trees show the choice
   pub totals_so : (basis : List Loop) (total : ℕ) → IsTheBasis mesh lengths basis → LeastSimpleBasis mesh lengths basis → total ≡ total_size basis →
@@ -38,7 +38,7 @@ module _ (mesh : Mesh) (lengths : List ℕ) (surface : IsSurface mesh) (are : Ar
   -- a first candidate that was found
   pub measures_so : (c : Cycle) → IsFirstCandidate mesh lengths (Some c) → IsShortestCycle mesh lengths c → CycleMeasures mesh lengths c.length
   measures_so c first shortest =
-      let b = begins (candidates mesh lengths some.0) c (first some.0 some.1) in
+      let b = first_listed (loop_of c) (candidates mesh lengths some.0) (first some.0 some.1) in
       record {
         trees = some.0;
         chosen = some.1;

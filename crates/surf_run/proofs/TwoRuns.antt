@@ -22,6 +22,7 @@ use Rattle.surf_complex.specs.Choice.{Loop, loops_at}
 use Rattle.surf_complex.proofs.BasisLaws.{basis_is_least}
 use Rattle.surf_complex.proofs.LoopsAtLaws.{loops_are_least}
 use Rattle.surf_lengths.specs.Lengths.{IsLength, AreLengths}
+use Rattle.surf_lengths.proofs.Positive.{lengths_positive}
 use Rattle.surf_off.specs.Off.{OffParts, off_of}
 use Rattle.surf_off.specs.declared.fault.OffFault.{OffFault}
 use Rattle.surf_valid.specs.Chosen.{cert_of, basis_cert_of}
@@ -46,7 +47,6 @@ use Rattle.surf_run.specs.Words.{number_of, weighted_request}
 use Rattle.surf_run.specs.declared.cycles.CycleTask.TheVariants.{BasisCertificate}
 use Rattle.surf_run.specs.declared.weighted.Task.TheVariants.{LeastLoops, LoopCertificate}
 use Rattle.surf_run.proofs.CycleLaws.{few_loops, few_vertices}
-use Rattle.surf_run.proofs.LengthLaws.{positive}
 use Rattle.surf_run.proofs.Refusing.{reads_refuses, looped_refuses, searchable_refuses, measured_refuses, weighted_refuses, goes_on, shown_low, shown_text}
 use Rattle.surf_run.proofs.TextLaws.{mesh_texts_are_few}
 
@@ -109,7 +109,7 @@ module _ (files : Files) (mesh lengths cert text : List ℕ) (held : bytes_of fi
       (read : OffParts × Mesh) (looped : IsFewLoopedText true bytes (Ok read)) (given : List ℕ × ℕ) (weighted : IsWeighted lengths b read.1 files (Ok given))
       (gives : GivesLoopCert read.1 given.0 given.1 o) (text_is : text ≡ loop_text (cert_of read.1 gives.trees)) where
     loops_long : ArePositive read.1 given.0
-    loops_long = positive read.1 given.0 weighted.2 weighted.3
+    loops_long = lengths_positive read.1 given.0 weighted.2 weighted.3
 
     abbrev the_loops : List Loop
     the_loops = loops_at read.1 given.0 given.1 gives.trees
@@ -185,7 +185,7 @@ module _ (files : Files) (mesh lengths cert text : List ℕ) (held : bytes_of fi
     surface = given.1.0.1
 
     basis_long : ArePositive m values
-    basis_long = positive m values measured.1 measured.2
+    basis_long = lengths_positive m values measured.1 measured.2
 
     few : m.vertices ≤ 1000
     few = few_from (CertificateVertices, 1000) m given.2

@@ -41,7 +41,6 @@ use Rattle.surf_run.specs.Tasks.{Performs, OnSurface, OnText, is_limited}
 use Rattle.surf_run.specs.declared.cycles.CycleTask.{CycleTask}
 use Rattle.surf_run.specs.declared.cycles.CycleTask.TheVariants.{Basis, Shortest, BasisCertificate}
 use Rattle.surf_run.proofs.CycleLaws.{firsts_are_one}
-use Rattle.surf_run.proofs.LengthLaws.{positive}
 use Rattle.surf_run.specs.declared.weighted.Task.{Task}
 use Rattle.surf_run.specs.declared.weighted.Task.TheVariants.{Distances, LeastLoops, LoopCertificate, Cut}
 use Rattle.surf_base.specs.declared.limits.LimitKind.{LimitKind}
@@ -54,6 +53,7 @@ use Rattle.surf_complex.specs.Walk.{ArePositive}
 use Rattle.surf_complex.specs.Choice.{Loop, loops_at}
 use Rattle.surf_complex.proofs.ShortestTreeLaws.{shortest_trees_are_one}
 use Rattle.surf_complex.proofs.LoopsOne.{loops_are_one}
+use Rattle.surf_lengths.proofs.Positive.{lengths_positive}
 use Rattle.surf_opening.proofs.ChosenTrees.{openings_at_are_one}
 use Rattle.surf_print.specs.CycleTexts.{cycle_line, cycles_text}
 use Rattle.surf_print.specs.DistanceTexts.{distances_text}
@@ -212,7 +212,7 @@ one_text : (task : Task) (bytes word : List ℕ) (base : ℕ) (files : Files) �
 one_text task bytes word base files =
     one_end (IsFewLoopedText (is_limited task) bytes) (λ read. OnSurface task read word base files) (one_looped_text (is_limited task) bytes)
     (λ read looped. one_end (IsWeighted word base read.1 files) (Performs task read) (one_weighted word base read.1 files)
-    (λ given is. one_performance task read given looped.0.1 (positive read.1 given.0 is.2 is.3)))
+    (λ given is. one_performance task read given looped.0.1 (lengths_positive read.1 given.0 is.2 is.3)))
 
 one_searchable : (limit : LimitKind × ℕ) (bytes : List ℕ) → IsOne (IsSearchableText limit bytes)
 one_searchable limit bytes (Ok a) (Ok b) x y = ap (λ (read : OffParts × Mesh). read.1) (one_looped_text true bytes (Ok (x.0, a)) (Ok (y.0, b)) x.1 y.1)
@@ -258,7 +258,7 @@ one_cycles : (task : CycleTask) (bytes word : List ℕ) (files : Files) → HasO
 one_cycles task bytes word files =
     one_end (IsSearchableText (vertex_limit task) bytes) (λ mesh. OnMesh task mesh word files) (one_searchable (vertex_limit task) bytes)
     (λ mesh given. one_end (IsMeasured word mesh files) (Finds task mesh) (one_measured word mesh files)
-    (λ lengths is. one_finding task mesh lengths given.1.0.1 (positive mesh lengths is.1 is.2)))
+    (λ lengths is. one_finding task mesh lengths given.1.0.1 (lengths_positive mesh lengths is.1 is.2)))
 
 -- no certificate is valid and has a fault
 one_verdict : (mesh : Mesh) (lengths : List ℕ) (cert : Cert) → HasOneStatus (JudgesCert mesh lengths cert)

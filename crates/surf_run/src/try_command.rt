@@ -13,7 +13,7 @@ use crate::shape::{Shape, make_searchable};
 use crate::{basis_command, loops_command};
 use std::alloc::{AllocError, Global};
 use surf_base::{NoMemory, VertexId};
-use surf_basis::{least_basis, least_nonseparating};
+use surf_basis::least_basis;
 use surf_gen::made_lengths;
 use surf_lengths::Lengths;
 use surf_loops::LoopDesk;
@@ -37,8 +37,7 @@ fn summary_of(alloc: Global, mesh: &HalfMesh, lengths: &Lengths) -> Result<Answe
 {
     let mut answered = info_of(alloc, mesh)?;
     let loops = loops_total(alloc, mesh, lengths)?;
-    let basis = basis_total(alloc, mesh, lengths)?;
-    let cycle = cycle_length(alloc, mesh, lengths)?;
+    let (basis, cycle) = basis_measures(alloc, mesh, lengths)?;
     let measures = measures_text(alloc, loops, basis, cycle)?;
     answered.text.extend_from_slice(measures.as_bytes())?;
     Ok(answered)
@@ -55,29 +54,21 @@ fn loops_total(alloc: Global, mesh: &HalfMesh, lengths: &Lengths) -> Result<u128
     Ok(loops_command::total_of(desk.heads()))
 }
 
-// What the basis that is chosen totals.
-fn basis_total(alloc: Global, mesh: &HalfMesh, lengths: &Lengths) -> Result<u128, NoMemory>
+// What the basis that is chosen totals, and the length of its first cycle, on a surface that has loops: no simple cycle
+// that doesn't separate the surface is shorter, so a search for one of its own is spared.
+fn basis_measures(alloc: Global, mesh: &HalfMesh, lengths: &Lengths) -> Result<(u128, u64), NoMemory>
     requires lengths { length lengths.now ≡ edge_count mesh.now }
+    requires some { 0 < loop_count mesh.now }
     requires few { edge_count mesh.now + 2 ≤ mesh.now.vertices + face_count mesh.now + 1024 }
-    ensures { IfOk result (BasisTotals mesh.now lengths.now) }
+    ensures total { IfOk result (λ measures. BasisTotals mesh.now lengths.now measures.0) }
+    ensures cycle { IfOk result (λ measures. CycleMeasures mesh.now lengths.now measures.1) }
 {
     let _surface = mesh.faces();
     let _positive = lengths.count();
     let basis = least_basis(alloc, mesh, lengths)?;
-    Ok(basis_command::total_of(&basis))
-}
-
-// The length of a shortest simple cycle that doesn't separate a surface that has loops.
-fn cycle_length(alloc: Global, mesh: &HalfMesh, lengths: &Lengths) -> Result<u64, NoMemory>
-    requires lengths { length lengths.now ≡ edge_count mesh.now }
-    requires some { 0 < loop_count mesh.now }
-    requires few { edge_count mesh.now + 2 ≤ mesh.now.vertices + face_count mesh.now + 1024 }
-    ensures { IfOk result (CycleMeasures mesh.now lengths.now) }
-{
-    let _surface = mesh.faces();
-    let _positive = lengths.count();
-    match least_nonseparating(alloc, mesh, lengths)? {
-        Some(cycle) => Ok(cycle.length),
+    let total = basis_command::total_of(&basis);
+    match basis.first() {
+        Some(cycle) => Ok((total, cycle.length)),
         None => unreachable!(),
     }
 }

@@ -1,11 +1,14 @@
 use Rattle.std.proofs.Common.{◌<◌, sym, ap, subst}
+use Rattle.std.specs.Prelude.{IfSome}
 use Rattle.std.proofs.lemmas.Result.{IfOk-weaker}
 use Rattle.surf_complex.specs.Homology.{IsFullCount}
 use Rattle.surf_complex.specs.ChoiceLaws.{LeastSimpleBasis}
 use Rattle.surf_complex.proofs.ClassLaws.{some_vertex}
 use Rattle.surf_lengths.proofs.Positive.{lengths_positive}
 use Rattle.surf_basis.specs.Candidates.{Chosen, AreCyclesOf}
-use Rattle.surf_basis.specs.Cycles.{loops_of, IsTheBasis}
+use Rattle.surf_basis.specs.Cycles.{first_of, loops_of, IsTheBasis, IsFirstCandidate, IsShortestCycle}
+use Rattle.surf_basis.proofs.First.{first_shortest}
+use Rattle.surf_basis.proofs.Leading.{basis_first}
 use Rattle.surf_basis.proofs.Whole.{left_full, desk_signed, least_of, none_basis, all_inside, the_basis}
 use Rattle.surf_basis.proofs.basis.least_basis.Goals as goal
 
@@ -67,3 +70,34 @@ returns-clause-least c =
     let positive = lengths_positive mesh lengths c.count-lengths.ensures.lengths c.requires.lengths in
     IfOk-weaker c.cycles_of.result (λ cycles. IsTheBasis mesh lengths (loops_of cycles.items)) (λ cycles. LeastSimpleBasis mesh lengths (loops_of cycles.items))
     (λ cycles is. least_of mesh lengths c.faces-surface.ensures.surface positive (loops_of cycles.items) is) (returns-clause-chosen c)
+
+pub returns-then-count-eq0-clause-first : goal.returns-then-count-eq0-clause-first
+returns-then-count-eq0-clause-first c =
+    let mesh = c.args.mesh.now in
+    let lengths = c.args.lengths.now in
+    let positive = lengths_positive mesh lengths c.count-lengths.ensures.lengths c.requires.lengths in
+    basis_first mesh lengths c.faces-surface.ensures.surface positive c.new-then-count-eq0.result.items (returns-then-count-eq0-clause-chosen c)
+
+pub returns-then-count-eq0-clause-shortest : goal.returns-then-count-eq0-clause-shortest
+returns-then-count-eq0-clause-shortest c =
+    let mesh = c.args.mesh.now in
+    let lengths = c.args.lengths.now in
+    let positive = lengths_positive mesh lengths c.count-lengths.ensures.lengths c.requires.lengths in
+    first_shortest mesh lengths c.faces-surface.ensures.surface positive (first_of c.new-then-count-eq0.result.items) (returns-then-count-eq0-clause-first c)
+
+pub returns-clause-first : goal.returns-clause-first
+returns-clause-first c =
+    let mesh = c.args.mesh.now in
+    let lengths = c.args.lengths.now in
+    let positive = lengths_positive mesh lengths c.count-lengths.ensures.lengths c.requires.lengths in
+    IfOk-weaker c.cycles_of.result (λ cycles. IsTheBasis mesh lengths (loops_of cycles.items)) (λ cycles. IsFirstCandidate mesh lengths (first_of cycles.items))
+    (λ cycles is. basis_first mesh lengths c.faces-surface.ensures.surface positive cycles.items is) (returns-clause-chosen c)
+
+pub returns-clause-shortest : goal.returns-clause-shortest
+returns-clause-shortest c =
+    let mesh = c.args.mesh.now in
+    let lengths = c.args.lengths.now in
+    let positive = lengths_positive mesh lengths c.count-lengths.ensures.lengths c.requires.lengths in
+    IfOk-weaker c.cycles_of.result (λ cycles. IsFirstCandidate mesh lengths (first_of cycles.items))
+    (λ cycles. IfSome (first_of cycles.items) (λ cycle. IsShortestCycle mesh lengths cycle))
+    (λ cycles is. first_shortest mesh lengths c.faces-surface.ensures.surface positive (first_of cycles.items) is) (returns-clause-first c)

@@ -1,6 +1,7 @@
+use Rattle.std.proofs.Common.{Some}
 use Rattle.std.proofs.Common.{None, refl, subst}
 use Rattle.surf_lengths.proofs.Positive.{lengths_positive}
-use Rattle.surf_basis.proofs.First.{IsFound, found_inside, found_first, found_shortest, none_found, some_found}
+use Rattle.surf_basis.proofs.First.{IsFound, found_inside, found_first, first_shortest, none_found, some_found}
 use Rattle.surf_basis.proofs.shortest.least_nonseparating.Goals as goal
 
 pub returns-in_default-clause-none : goal.returns-in_default-clause-none
@@ -37,8 +38,7 @@ returns-clause-shortest c =
     let mesh = c.args.mesh.now in
     let lengths = c.args.lengths.now in
     let positive = lengths_positive mesh lengths c.count-lengths.ensures.lengths c.requires.lengths in
-    found_shortest mesh lengths c.faces-surface.ensures.surface positive c.in-Some.candidate c.in_ok-cycle.cycle
-    (subst (IsFound mesh lengths) c.in-Some.is c.first_candidate.ensures.first) c.in_ok-cycle.ensures.cycle
+    first_shortest mesh lengths c.faces-surface.ensures.surface positive (Some c.in_ok-cycle.cycle) (returns-clause-first c)
 
 pub returns-clause-none : goal.returns-clause-none
 returns-clause-none c =

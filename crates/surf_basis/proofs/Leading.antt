@@ -1,0 +1,59 @@
+-- The first cycle of a basis that is chosen is the first candidate.
+use Rattle.std.proofs.Common.{◌≡◌, ℕ, Bool, true, false, List, [], ◌∷◌, length, map, Option, Some, None, refl, sym, ap, ◌∙◌, subst, arith}
+use Rattle.std.specs.Prelude.{MatchBool, slice_index_or}
+use Rattle.std.specs.Option.{option_map}
+use Rattle.surf_z2.specs.Space.{chains, chosen, difference, sum_of}
+use Rattle.surf_z2.proofs.ParityLaws.{xor-false}
+use Rattle.surf_complex.specs.Mesh.{Mesh}
+use Rattle.surf_complex.specs.Surface.{IsSurface}
+use Rattle.surf_complex.specs.Walk.{parity, ArePositive}
+use Rattle.surf_complex.specs.Homology.{IsBoundary, IsNull}
+use Rattle.surf_complex.specs.Choice.{Trees, AreChosen, Loop, candidates, DependsOn, DependsAt, IsGreedyChoice, IsChosenBasis}
+use Rattle.surf_complex.proofs.CycleLaws.{null_cycles_separate}
+use Rattle.surf_complex.proofs.FirstCycleLaws.{first_is_shortest}
+use Rattle.surf_basis.specs.declared.cycle.Cycle.{Cycle}
+use Rattle.surf_basis.specs.Cycles.{first_of, loop_of, loops_of, IsTheBasis, IsFirstCandidate}
+
+-- a walk that depends on no other is null
+alone_null : (mesh : Mesh) (walk : List ℕ) (choice : List Bool) →
+    IsBoundary mesh (difference (parity mesh walk) (sum_of chains (map (parity mesh) (chosen choice [])))) → IsNull mesh walk
+alone_null mesh walk [] (faces, is) = (faces, λ e l. sym (xor-false (parity mesh walk e)) ∙ is e l)
+alone_null mesh walk (b ∷ bs) (faces, is) = (faces, λ e l. sym (xor-false (parity mesh walk e)) ∙ is e l)
+
+none_chosen : (keep : List Bool) → ◌≡◌ {A = List Loop} (chosen keep []) []
+none_chosen [] = refl
+none_chosen (b ∷ bs) = refl
+
+mapped_first : (cycles : List Cycle) → option_map loop_of (first_of cycles) ≡ first_of (loops_of cycles)
+mapped_first [] = refl
+mapped_first (c ∷ cs) = refl
+
+module _ (mesh : Mesh) (lengths : List ℕ) (surface : IsSurface mesh) (positive : ArePositive mesh lengths) where
+  module _ (trees : ℕ → Trees) (chosen_trees : AreChosen mesh lengths trees) where
+    first_stands : (first : Loop) (rest : List Loop) → candidates mesh lengths trees ≡ first ∷ rest →
+        DependsOn mesh [] first.walk → ⊥
+    first_stands first rest is (choice, null) =
+        let one = (first_is_shortest mesh lengths trees first rest surface positive chosen_trees is).0.nonseparating in
+        one.separates_not ((null_cycles_separate mesh surface first.walk one.simple).0 (alone_null mesh first.walk choice null))
+
+    first_kept : (basis loops : List Loop) → candidates mesh lengths trees ≡ loops → IsGreedyChoice mesh loops basis →
+        first_of basis ≡ first_of loops
+    first_kept basis [] e g = ap first_of (g.are_kept ∙ none_chosen g.keep)
+    first_kept basis (c ∷ cs) e g = of_keep g.keep refl
+      where
+        Stands : List Bool → Type 0
+        Stands keep = MatchBool (slice_index_or keep 0 false) (DependsAt mesh (c ∷ cs) 0 c → ⊥) (DependsAt mesh (c ∷ cs) 0 c)
+
+        stands : (keep : List Bool) → g.keep ≡ keep → Stands keep
+        stands keep k = subst Stands k (g.exactly 0 c (omega arith))
+
+        of_keep : (keep : List Bool) → g.keep ≡ keep → first_of basis ≡ Some c
+        of_keep [] k = absurd (first_stands c cs e (stands [] k))
+        of_keep (false ∷ bs) k = absurd (first_stands c cs e (stands (false ∷ bs) k))
+        of_keep (true ∷ bs) k = ap first_of (g.are_kept ∙ ap (λ keep. chosen keep (c ∷ cs)) k)
+
+  pub basis_first : (cycles : List Cycle) → IsTheBasis mesh lengths (loops_of cycles) →
+      IsFirstCandidate mesh lengths (first_of cycles)
+  basis_first cycles is trees chosen_trees =
+      mapped_first cycles
+      ∙ first_kept trees chosen_trees (loops_of cycles) (candidates mesh lengths trees) refl (is trees chosen_trees)
