@@ -8,8 +8,7 @@ use Rattle.std.proofs.lemmas.Bool.Decides.{nat_tests}
 use Rattle.surf_z2.specs.Order.{merge}
 use Rattle.surf_complex.specs.Mesh.{Mesh}
 use Rattle.surf_complex.specs.Surface.{face_count, edge_count, IsSurface}
-use Rattle.surf_complex.specs.Walk.{ArePositive, walk_length}
-use Rattle.surf_complex.specs.Cycle.{IsShortestNonseparating}
+use Rattle.surf_complex.specs.Walk.{ArePositive}
 use Rattle.surf_complex.specs.Homology.{IsFullCount}
 use Rattle.surf_complex.specs.Choice.{Trees, AreChosen, Loop, comes_before, loops_at, loops_below, candidates}
 use Rattle.surf_complex.proofs.ClassLaws.{some_vertex}

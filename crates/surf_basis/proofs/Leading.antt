@@ -1,5 +1,5 @@
 -- The first cycle of a basis that is chosen is the first candidate.
-use Rattle.std.proofs.Common.{◌≡◌, ℕ, Bool, true, false, List, [], ◌∷◌, length, map, Option, Some, None, refl, sym, ap, ◌∙◌, subst, arith}
+use Rattle.std.proofs.Common.{◌≡◌, ℕ, Bool, true, false, List, [], ◌∷◌, map, Some, refl, sym, ap, ◌∙◌, subst, arith}
 use Rattle.std.specs.Prelude.{MatchBool, slice_index_or}
 use Rattle.std.specs.Option.{option_map}
 use Rattle.surf_z2.specs.Space.{chains, chosen, difference, sum_of}
@@ -8,7 +8,7 @@ use Rattle.surf_complex.specs.Mesh.{Mesh}
 use Rattle.surf_complex.specs.Surface.{IsSurface}
 use Rattle.surf_complex.specs.Walk.{parity, ArePositive}
 use Rattle.surf_complex.specs.Homology.{IsBoundary, IsNull}
-use Rattle.surf_complex.specs.Choice.{Trees, AreChosen, Loop, candidates, DependsOn, DependsAt, IsGreedyChoice, IsChosenBasis}
+use Rattle.surf_complex.specs.Choice.{Trees, AreChosen, Loop, candidates, DependsOn, DependsAt, IsGreedyChoice}
 use Rattle.surf_complex.proofs.CycleLaws.{null_cycles_separate}
 use Rattle.surf_complex.proofs.FirstCycleLaws.{first_is_shortest}
 use Rattle.surf_basis.specs.declared.cycle.Cycle.{Cycle}

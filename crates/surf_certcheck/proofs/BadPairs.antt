@@ -1,7 +1,6 @@
 -- The least pair that keeps the trees and the list from dividing the edges.
-use Rattle.std.proofs.Common.{◌≡◌, ℕ, ◌<◌, ◌≤◌, Bool, true, false, List, [], length, get_or, All, Contains, refl, sym, ap, ◌∙◌, subst, arith, inl, inr, Option, Some, None, ◌⊎◌}
+use Rattle.std.proofs.Common.{◌≡◌, ℕ, ◌<◌, ◌≤◌, Bool, true, false, List, get_or, refl, sym, ap, ◌∙◌, arith, inl, inr, Option, Some, None}
 use Rattle.std.specs.Option.{MatchOption}
-use Rattle.std.specs.List.{list_any}
 use Rattle.std.proofs.lemmas.Bool.{cases_Bool, cases_eq, cases_lt, true≢false, false_from_ne_true, lt-ltb}
 use Rattle.surf_complex.specs.Mesh.{Mesh, pair, pair_of, pair_eq, pair_lt, edges, among}
 use Rattle.surf_complex.specs.Surface.{edge_count, ends, IsSurface}
@@ -9,7 +8,7 @@ use Rattle.surf_complex.proofs.PairLaws.{pair_eq-same, pair_eq-true, pair_lt-tra
 use Rattle.surf_complex.proofs.EdgeLaws.{contains_from_among, edges-rise, rising_at, list_any_from}
 use Rattle.surf_complex.proofs.CellLaws.{ends_below}
 use Rattle.surf_valid.specs.Rows.{TreeRows, DualRows}
-use Rattle.surf_valid.specs.Valid.{is_parent_edge, is_dual_edge, is_listed, just_one, IsDivided}
+use Rattle.surf_valid.specs.Valid.{IsDivided}
 use Rattle.surf_certcheck.specs.First.{HoldsBelow, FailsFirst}
 use Rattle.surf_certcheck.specs.Split.{AreMarks, AreOne, IsInOne, IsStray, IsLeastStray, IsUndivided, IsBadPair, IsLeastBadPair, lesser_of}
 

@@ -1,5 +1,5 @@
 -- The edge of a face between two vertices.
-use Rattle.std.proofs.Common.{◌≡◌, ℕ, ◌<◌, Bool, true, false, ◌||◌, eqb, [], sym, ap, ◌∙◌}
+use Rattle.std.proofs.Common.{◌≡◌, ℕ, ◌<◌, true, false, ◌||◌, eqb, [], sym, ap, ◌∙◌}
 use Rattle.std.proofs.lemmas.Bool.{true≢false}
 use Rattle.surf_complex.specs.Mesh.{Mesh, pair, edges, among}
 use Rattle.surf_complex.specs.Surface.{face_count, edge_count, face_at, ends, has_side, faces_of, IsSurface}

@@ -1,15 +1,14 @@
 -- The links of faces, and the ways by them.
-use Rattle.std.proofs.Common.{◌≡◌, ◌≢◌, ℕ, ◌<◌, ◌+◌, [], ◌∷◌, ◌++◌, length, subst, arith, Option, Some, None, Bool, false, not, cond, eqb, List, get_or, set, sym, ap, ◌∙◌, inl, inr, get_or-set_same, get_or-set_other}
+use Rattle.std.proofs.Common.{◌≡◌, ◌≢◌, ℕ, ◌<◌, ◌+◌, [], ◌∷◌, ◌++◌, length, subst, arith, Option, Some, None, cond, eqb, List, get_or, sym, ap, ◌∙◌, inl, inr}
 use Rattle.std.proofs.Math.Seq.{get_or-append_seam}
 use Rattle.std.proofs.lemmas.List.{length-append, get_or_append_left}
-use Rattle.std.proofs.lemmas.Bool.{cases_eq, eq-eqb, ne_eqb}
-use Rattle.surf_z2.specs.Parity.{xor}
+use Rattle.std.proofs.lemmas.Bool.{cases_eq}
 use Rattle.surf_homology.specs.Cells.{dual as faces}
 use Rattle.surf_complex.specs.Mesh.{Mesh}
 use Rattle.surf_complex.specs.Surface.{face_count, edge_count, faces_of, IsSurface}
 use Rattle.surf_complex.specs.Walk.{edge_number}
 use Rattle.surf_valid.specs.Rows.{DualRows}
-use Rattle.surf_valid.specs.Valid.{across, depth_at, side_at, or_zeros, IsDualRow}
+use Rattle.surf_valid.specs.Valid.{depth_at, side_at, or_zeros, IsDualRow}
 use Rattle.surf_valid.proofs.DualLaws.{row_falls}
 use Rattle.surf_certcheck.specs.First.{HoldsBelow}
 use Rattle.surf_certcheck.specs.Rows.{HasDual}

@@ -1,8 +1,7 @@
 -- The least short number of a set that grows.
-use Rattle.std.proofs.Common.{◌≡◌, ℕ, ◌<◌, ◌≤◌, Bool, true, false, eqb, ltb, sym, ap, subst, ◌∙◌, arith, inl, inr, ◌⊎◌, Option, Some, None}
-use Rattle.std.proofs.lemmas.Bool.{cases_Bool, cases_eq, eqb-true, ne_eqb, ltb-true}
+use Rattle.std.proofs.Common.{◌≡◌, ℕ, ◌<◌, ◌≤◌, ltb, sym, subst, arith, inl, inr, ◌⊎◌, Option, Some, None}
+use Rattle.std.proofs.lemmas.Bool.{cases_Bool, ltb-true}
 use Rattle.std.proofs.lemmas.Bool.Decides.{nat_tests}
-use Rattle.surf_z2.specs.Parity.{xor}
 use Rattle.surf_certcheck.specs.Paths.{IsLeastIn, IsLeastWith, least_with}
 
 module _ (short : ℕ → Type 0) (old new : ℕ → Type 0) (e : ℕ) (grows : (c : ℕ) → new c → old c ⊎ (c ≡ e)) where

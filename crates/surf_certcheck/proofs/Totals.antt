@@ -1,13 +1,12 @@
 -- What a valid certificate of loops shows, and what a fault rules out, of an answer.
-use Rattle.std.proofs.Common.{◌≡◌, ◌≢◌, ℕ, ◌≤◌, List, length, sym, ◌∙◌, arith, subst}
+use Rattle.std.proofs.Common.{◌≡◌, ◌≢◌, ℕ, List, sym, ◌∙◌}
 use Rattle.std.specs.Result.{IfOk, IfErr}
 use Rattle.std.specs.declared.result.Result.{Result}
 use Rattle.std.specs.declared.result.Result.TheVariants.{Ok, Err}
 use Rattle.surf_complex.specs.Mesh.{Mesh}
-use Rattle.surf_complex.specs.Surface.{edge_count, IsSurface}
+use Rattle.surf_complex.specs.Surface.{IsSurface}
 use Rattle.surf_complex.specs.Walk.{ArePositive}
 use Rattle.surf_complex.specs.Homology.{total, IsLeastLoopSystem}
-use Rattle.surf_lengths.specs.Lengths.{AreLengths}
 use Rattle.surf_valid.specs.Rows.{LoopCert}
 use Rattle.surf_valid.specs.Valid.{IsValidLoops, loops_of, loops_total}
 use Rattle.surf_valid.proofs.LoopLaws.{valid_loops_are_least}

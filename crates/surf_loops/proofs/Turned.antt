@@ -12,7 +12,6 @@ use Rattle.surf_complex.specs.Cells.{cells_of}
 use Rattle.surf_complex.specs.Walk.{ArePositive}
 use Rattle.surf_complex.specs.Loop.{loop_walk}
 use Rattle.surf_complex.proofs.ShortestTreeLaws.{shortest_is_tree}
-use Rattle.surf_lengths.specs.Lengths.{AreLengths}
 use Rattle.surf_tree.specs.Tables.{TreeTables, tree_of, parent_of}
 use Rattle.surf_tree.specs.Grown.{IsGrown as IsTreeGrown}
 use Rattle.surf_cotree.specs.Tables.{CotreeTables}

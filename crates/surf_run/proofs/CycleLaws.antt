@@ -1,8 +1,7 @@
 -- Whichever trees show them, the candidates for a basis have one first loop; limits; and the texts of cycles.
-use Rattle.std.proofs.Common.{◌≡◌, inl, inr, ℕ, ◌+◌, ◌<◌, ◌≤◌, true, false, List, [], ◌∷◌, ◌++◌, length, map, Option, Some, None, Result, Ok, Err, refl, sym, ap, ◌∙◌, subst, arith}
+use Rattle.std.proofs.Common.{◌≡◌, inl, inr, ℕ, ◌+◌, ◌<◌, ◌≤◌, true, false, List, [], ◌∷◌, ◌++◌, length, map, Result, Ok, Err, refl, sym, ap, ◌∙◌, subst, arith}
 use Rattle.std.specs.Prelude.{nat_lt, sum}
 use Rattle.std.specs.List.{flat_map}
-use Rattle.std.specs.Option.{option_map}
 use Rattle.std.proofs.lemmas.Bool.{cases_lt, lt-ltb, le-ltb}
 use Rattle.surf_complex.specs.Mesh.{Mesh}
 use Rattle.surf_complex.specs.Surface.{IsSurface, face_count, edge_count}
@@ -11,7 +10,7 @@ use Rattle.surf_complex.specs.Choice.{Trees, AreChosen, Loop, candidates}
 use Rattle.surf_valid.proofs.OneBasis.{candidates_are_one}
 use Rattle.surf_base.specs.declared.limits.LimitKind.{LimitKind}
 use Rattle.surf_base.specs.declared.limits.LimitKind.TheVariants.{Loops}
-use Rattle.surf_basis.specs.Cycles.{loop_of, loops_of, first_of}
+use Rattle.surf_basis.specs.Cycles.{loops_of}
 use Rattle.surf_basis.specs.declared.cycle.Cycle.{Cycle}
 use Rattle.surf_print.specs.CycleTexts.{cycle_line, cycles_head, cycles_text}
 use Rattle.surf_run.specs.CycleTexts.{line_of}

@@ -1,14 +1,11 @@
 -- The lengths of a file are as many as the edges.
-use Rattle.std.proofs.Common.{◌≡◌, ◌<◌, ℕ, sym, subst, Bool, true, false, cond, List, [], ◌∷◌, length, Option, Some, None, Result, Ok, Err, ◌∙◌, eqb, get_or, set}
+use Rattle.std.proofs.Common.{◌≡◌, ℕ, Bool, true, false, cond, List, [], ◌∷◌, length, Option, Some, None, Result, Ok, Err, ◌∙◌, eqb, get_or, set}
 use Rattle.std.specs.List.{fold}
 use Rattle.std.proofs.lemmas.List.{length-set, length-replicate}
 use Rattle.std.specs.Prelude.{unwrap_or}
 use Rattle.surf_text.specs.Text.{TextLine, lines_of}
 use Rattle.surf_complex.specs.Mesh.{Mesh}
 use Rattle.surf_complex.specs.Surface.{edge_count}
-use Rattle.std.proofs.lemmas.List.Elements.{All-get_or}
-use Rattle.surf_complex.specs.Walk.{ArePositive}
-use Rattle.surf_lengths.specs.Lengths.{IsLength, AreLengths}
 use Rattle.surf_lengths.specs.Files.{Named, none_named, name_edge, name_line, all_named, missing_edge, when_read, behind_head, Head, head_of, lengths_in}
 use Rattle.surf_lengths.specs.Lines.{entry_of}
 use Rattle.surf_lengths.specs.declared.fault.LengthFault.{LengthFault}

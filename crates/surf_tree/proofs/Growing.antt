@@ -1,5 +1,5 @@
 -- The tables of a search that has settled all nodes are of the tree of shortest walks.
-use Rattle.std.proofs.Common.{ℕ, zero, suc, ◌<◌, ◌≤◌, ◌≡◌, ◌≢◌, ◌+◌, refl, sym, ◌∙◌, arith, inl, inr, List, get_or, Bool, false, not, ◌&&◌, eqb, eq-eqb, ne_eqb}
+use Rattle.std.proofs.Common.{ℕ, ◌<◌, ◌≤◌, ◌≡◌, ◌≢◌, ◌+◌, refl, sym, ◌∙◌, arith, inl, inr, List, get_or, Bool, false, not, ◌&&◌, eqb, eq-eqb, ne_eqb}
 use Rattle.std.proofs.lemmas.Bool.{cases_eq}
 use Rattle.surf_z2.specs.Parity.{any_below}
 use Rattle.surf_z2.proofs.ParityLaws.{any_below-same}

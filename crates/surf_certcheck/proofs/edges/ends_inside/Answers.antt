@@ -1,4 +1,4 @@
-use Rattle.std.proofs.Common.{◌≡◌, ◌<◌, ℕ, ap, sym, subst}
+use Rattle.std.proofs.Common.{◌<◌, ℕ, sym, subst}
 use Rattle.surf_complex.proofs.CellLaws.{surfaces_are_cells}
 use Rattle.surf_certcheck.proofs.edges.ends_inside.Goals as goal
 

@@ -1,4 +1,4 @@
-use Rattle.std.proofs.Common.{◌≡◌, ◌<◌, ℕ, true, false}
+use Rattle.std.proofs.Common.{◌≡◌, ◌<◌, false}
 use Rattle.surf_homology.specs.Trees.{on_path}
 use Rattle.surf_complex.specs.Surface.{face_count}
 use Rattle.surf_valid.specs.Valid.{dual_tree, depth_at}

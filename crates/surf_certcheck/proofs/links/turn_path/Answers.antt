@@ -1,9 +1,9 @@
-use Rattle.std.proofs.Common.{◌≡◌, ℕ, Bool, true, false, eqb, get_or, ap, sym, refl, ◌∙◌}
+use Rattle.std.proofs.Common.{true, false, eqb, get_or, ap, sym, ◌∙◌}
 use Rattle.surf_z2.specs.Parity.{xor}
 use Rattle.surf_z2.proofs.ParityLaws.{xor_assoc}
 use Rattle.surf_homology.specs.Cells.{dual as faces}
 use Rattle.surf_homology.specs.Trees.{IsTree, on_path}
-use Rattle.surf_homology.proofs.Trees.{path_root, path_step}
+use Rattle.surf_homology.proofs.Trees.{path_step}
 use Rattle.surf_complex.specs.Cells.{cells_of}
 use Rattle.surf_valid.specs.Valid.{dual_tree}
 use Rattle.surf_valid.proofs.DualLaws.{dual_rows_are_tree}

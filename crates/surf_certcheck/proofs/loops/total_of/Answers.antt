@@ -1,4 +1,4 @@
-use Rattle.std.proofs.Common.{◌≡◌, ℕ, Contains, get_or, ap, subst}
+use Rattle.std.proofs.Common.{ℕ, Contains, get_or, subst}
 use Rattle.std.proofs.lemmas.List.{get_or_default}
 use Rattle.surf_complex.specs.Mesh.{pair, edges}
 use Rattle.surf_certcheck.proofs.loops.total_of.Goals as goal

@@ -1,4 +1,3 @@
-use Rattle.std.proofs.Common.{ℕ}
 use Rattle.surf_z2.specs.Parity.{any_below}
 use Rattle.surf_complex.specs.Surface.{edge_count}
 use Rattle.surf_valid.specs.Valid.{side_at, is_side}
