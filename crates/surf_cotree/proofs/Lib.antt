@@ -1,3 +1,4 @@
+pub mod Faces
 pub mod Pairs
 pub mod Growing
 pub mod Leaves

@@ -1,21 +1,16 @@
 use Rattle.std.proofs.Common.{◌≡◌, ◌<◌, ◌≤◌, ◌∙◌, ◌-◌, ℕ, false, true, sym, subst, arith, length, eq-eqb, ne_eqb}
 use Rattle.std.proofs.lemmas.List.{get_or_default}
-use Rattle.surf_homology.specs.Graphs.{Graph, IsGraph, joins}
+use Rattle.surf_homology.specs.Graphs.{Graph, joins}
 use Rattle.surf_homology.specs.Cells.{dual}
 use Rattle.surf_complex.specs.Cells.{cells_of}
-use Rattle.surf_complex.specs.Mesh.{Mesh}
-use Rattle.surf_complex.specs.Surface.{IsSurface}
-use Rattle.surf_complex.proofs.CellLaws.{surfaces_are_cells}
 use Rattle.surf_cotree.specs.Tables.{nobody}
 use Rattle.surf_cotree.specs.Searches.{at, reached}
 use Rattle.surf_cotree.specs.Peeling.{IsHung, leaf_at}
 use Rattle.surf_cotree.specs.declared.peeling.Leaf.{Leaf}
+use Rattle.surf_cotree.proofs.Faces.{graph_is}
 use Rattle.surf_cotree.proofs.Hanging.{face_in, edge_in, next_in, turn_none, turn_fits, turn_one}
 use Rattle.surf_cotree.proofs.peeling.hang.Goals as goal
 use Rattle.surf_cotree.proofs.peeling.hang.Goals.{After-number-edge}
-
-graph_is : (mesh : Mesh) → IsSurface mesh → IsGraph (dual (cells_of mesh))
-graph_is mesh surface = (surfaces_are_cells mesh surface).complex.dual_ends
 
 abbrev dual_of : After-number-edge → Graph
 dual_of c = dual (cells_of c.args.mesh.now)

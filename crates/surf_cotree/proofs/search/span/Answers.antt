@@ -1,22 +1,18 @@
 use Rattle.std.proofs.Common.{◌≡◌, ◌≢◌, ◌<◌, ◌≤◌, ◌+◌, ◌-◌, ◌∙◌, ℕ, true, eqb, length, arith, ap, sym, subst, set, refl, suc, Option, None, get_or-set_same, get_or-set_other}
 use Rattle.std.proofs.Math.ListN.{length-set, length-replicate}
 use Rattle.std.proofs.lemmas.Bool.{false≢true}
-use Rattle.surf_homology.specs.Graphs.{IsGraph, joins}
+use Rattle.surf_homology.specs.Graphs.{joins}
 use Rattle.surf_homology.specs.Cells.{dual}
 use Rattle.surf_z2.specs.Parity.{count_below}
-use Rattle.surf_complex.specs.Surface.{IsSurface, face_count}
+use Rattle.surf_complex.specs.Surface.{face_count}
 use Rattle.surf_complex.specs.Cells.{cells_of}
-use Rattle.surf_complex.specs.Mesh.{Mesh}
-use Rattle.surf_complex.proofs.CellLaws.{surfaces_are_cells}
 use Rattle.surf_cotree.specs.Tables.{nobody}
 use Rattle.surf_cotree.specs.Searches.{at, reached, outside, tree_of, IsWaiting}
 use Rattle.surf_cotree.proofs.Pairs.{none_there}
+use Rattle.surf_cotree.proofs.Faces.{graph_is}
 use Rattle.surf_cotree.proofs.Growing.{first_count, first_only, prim_begins, depth_fits, turn_count, turn_keeps}
 use Rattle.surf_cotree.proofs.search.span.Goals as goal
 use Rattle.surf_cotree.proofs.search.span.Goals.{In-Some}
-
-graph_is : (mesh : Mesh) → IsSurface mesh → IsGraph (dual (cells_of mesh))
-graph_is mesh surface = (surfaces_are_cells mesh surface).complex.dual_ends
 
 pub loop-face-init : goal.loop-face-init
 loop-face-init c =
