@@ -8,6 +8,7 @@ ghost use Rattle.surf_complex.specs.Surface.{edge_count};
 ghost use Rattle.surf_complex.specs.Loop.{loop_walk};
 ghost use Rattle.surf_complex.specs.Signature.{edge_signature};
 ghost use Rattle.surf_tree.specs.Tables.{tree_of};
+ghost use Rattle.surf_tree.specs.Grown.{IsGrown as IsTreeGrown};
 ghost use Rattle.surf_cotree.specs.Tables.{split_with, IsMadeFor as CotreeMade};
 ghost use Rattle.surf_cotree.specs.Grown.{IsGrownOn};
 ghost use Rattle.surf_loops.specs.Loops.{LoopTables, IsMadeFor, IsRooted, IsGreedy};
@@ -64,6 +65,34 @@ impl LoopDesk {
         })
     }
 
+    /// Grows the tree of shortest walks from a base alone. The loops of another base stay until `find_loops`. It takes no
+    /// memory and can't be refused.
+    pub fn grow_tree(&mut self, mesh: &HalfMesh, lengths: &Lengths, base: VertexId)
+        requires made { IsMadeFor mesh.now self.old }
+        requires base { base < mesh.now.vertices }
+        requires lengths { length lengths.now ≡ edge_count mesh.now }
+        ensures tree { IsTreeGrown mesh.now lengths.now base self.new.tree }
+        ensures made { IsMadeFor mesh.now self.new }
+        ensures rest { self.new ≡ record self.old { tree = self.new.tree } }
+    {
+        self.tree.grow(mesh, lengths, base);
+    }
+
+    /// Finds the loops at the base of the tree that was grown last, those that are chosen, a least loop system there. It
+    /// takes no memory and can't be refused.
+    pub fn find_loops(&mut self, mesh: &HalfMesh, lengths: &Lengths)
+        requires made { IsMadeFor mesh.now self.old }
+        requires lengths { length lengths.now ≡ edge_count mesh.now }
+        requires tree { IsTreeGrown mesh.now lengths.now self.old.tree.base self.old.tree }
+        ensures greedy { IsGreedy mesh.now lengths.now self.old.tree.base self.new }
+    {
+        let _edges = mesh.edges();
+        let _lengths = lengths.count();
+        set_weights(mesh, lengths, &self.tree, &mut self.weight);
+        self.cotree.grow(mesh, self.tree.tree_edges(), &self.weight);
+        list_heads(self.cotree.left(), &self.weight, &mut self.heads);
+    }
+
     /// Finds the loops at a base that are chosen, a least loop system there. It takes no memory and can't be refused.
     pub fn greedy(&mut self, mesh: &HalfMesh, lengths: &Lengths, base: VertexId)
         requires made { IsMadeFor mesh.now self.old }
@@ -71,15 +100,11 @@ impl LoopDesk {
         requires lengths { length lengths.now ≡ edge_count mesh.now }
         ensures greedy { IsGreedy mesh.now lengths.now base self.new }
     {
-        let _edges = mesh.edges();
-        let _lengths = lengths.count();
-        self.tree.grow(mesh, lengths, base);
-        set_weights(mesh, lengths, &self.tree, &mut self.weight);
-        self.cotree.grow(mesh, self.tree.tree_edges(), &self.weight);
-        list_heads(self.cotree.left(), &self.weight, &mut self.heads);
+        self.grow_tree(mesh, lengths, base);
+        self.find_loops(mesh, lengths);
     }
 
-    /// Gives each edge its signature, until the next `greedy`. It takes no memory and can't be refused.
+    /// Gives each edge its signature, until loops are found again. It takes no memory and can't be refused.
     pub fn sign(&mut self, mesh: &HalfMesh)
         requires grown { IsGrownOn mesh.now self.old.cotree }
         requires few { length self.old.cotree.left ≤ 1024 }
