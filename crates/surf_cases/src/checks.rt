@@ -1,5 +1,5 @@
 //! Checks of certificates.
-use crate::meshes::{PLANE6, SCATTERED_LENGTHS, TET, TORUS33, TORUS33_CERT};
+use crate::meshes::{CHAIN244, PLANE6, SCATTERED_LENGTHS, TET, TORUS33, TORUS33_CERT};
 use crate::rows::{Case, answers, output_of};
 use std::process::Abort;
 use std::test::Fail;
@@ -247,9 +247,10 @@ fn what_is_certified_is_valid(rt: HostRuntime) -> Result<(), Fail> {
         ("tet", TET),
         ("torus33", TORUS33),
         ("plane6", PLANE6),
+        ("chain244", CHAIN244),
         ("L", SCATTERED_LENGTHS),
     ];
-    let cases: [(&[&str], &str, &str, &str); 9] = [
+    let cases: [(&[&str], &str, &str, &str); 11] = [
         (
             &["certify", "tet", "unit", "0"],
             "tet",
@@ -304,6 +305,18 @@ fn what_is_certified_is_valid(rt: HostRuntime) -> Result<(), Fail> {
             "unit",
             "valid basis 3\n",
         ),
+        (
+            &["certify", "chain244", "unit", "0"],
+            "chain244",
+            "unit",
+            "valid loops 20\n",
+        ),
+        (
+            &["certify", "chain244", "unit"],
+            "chain244",
+            "unit",
+            "valid basis 16\n",
+        ),
     ];
     for (words, mesh, lengths, out) in &cases {
         let cert = output_of(&rt, words, &files)?;
@@ -315,32 +328,10 @@ fn what_is_certified_is_valid(rt: HostRuntime) -> Result<(), Fail> {
                     ("tet", TET),
                     ("torus33", TORUS33),
                     ("plane6", PLANE6),
+                    ("chain244", CHAIN244),
                     ("L", SCATTERED_LENGTHS),
                     ("C", cert.as_str()),
                 ],
-                status: 0,
-                out,
-                diag: "",
-            },
-        )?;
-    }
-    Ok(())
-}
-
-#[test]
-fn a_chain_is_certified(rt: HostRuntime) -> Result<(), Fail> {
-    let mesh = output_of(&rt, &["gen", "chain", "2", "4", "4"], &[])?;
-    let cases: [(&[&str], &str); 2] = [
-        (&["certify", "M", "unit", "0"], "valid loops 20\n"),
-        (&["certify", "M", "unit"], "valid basis 16\n"),
-    ];
-    for (words, out) in &cases {
-        let cert = output_of(&rt, words, &[("M", mesh.as_str())])?;
-        answers(
-            &rt,
-            &Case {
-                words: &["check", "M", "unit", "C"],
-                files: &[("M", mesh.as_str()), ("C", cert.as_str())],
                 status: 0,
                 out,
                 diag: "",

@@ -1,13 +1,9 @@
 //! Meshes that are made from numbers.
-use crate::meshes::TORUS33;
+use crate::meshes::{CHAIN244, TORUS33};
 use crate::rows::{Case, answers};
 use std::test::Fail;
 
 const USAGE: &str = "usage: the words are in no row of the command table\n";
-
-// The chain of 2 tori of 4 by 4 squares, by another program.
-const CHAIN244: &str =
-    "OFF\n29 62 93\n0 0 0\n1 0 0\n2 0 0\n3 0 0\n4 0 0\n5 0 0\n6 0 0\n7 0 0\n8 0 0\n9 0 0\n10 0 0\n11 0 0\n12 0 0\n13 0 0\n14 0 0\n15 0 0\n16 0 0\n17 0 0\n18 0 0\n19 0 0\n20 0 0\n21 0 0\n22 0 0\n23 0 0\n24 0 0\n25 0 0\n26 0 0\n27 0 0\n28 0 0\n3 0 4 5\n3 0 5 1\n3 1 5 6\n3 1 6 2\n3 2 6 7\n3 2 7 3\n3 3 7 4\n3 3 4 0\n3 4 8 9\n3 4 9 5\n3 5 9 10\n3 5 10 6\n3 6 10 11\n3 6 11 7\n3 7 11 8\n3 7 8 4\n3 8 12 13\n3 8 13 9\n3 9 13 14\n3 9 14 10\n3 10 15 11\n3 11 15 12\n3 11 12 8\n3 12 0 1\n3 12 1 13\n3 13 1 2\n3 13 2 14\n3 14 2 3\n3 14 3 15\n3 15 3 0\n3 15 0 12\n3 10 14 16\n3 16 14 19\n3 16 19 17\n3 17 19 20\n3 17 20 18\n3 18 20 15\n3 18 15 10\n3 15 21 22\n3 15 22 14\n3 14 22 23\n3 14 23 19\n3 19 23 24\n3 19 24 20\n3 20 24 21\n3 20 21 15\n3 21 25 26\n3 21 26 22\n3 22 26 27\n3 22 27 23\n3 23 27 28\n3 23 28 24\n3 24 28 25\n3 24 25 21\n3 25 10 16\n3 25 16 26\n3 26 16 17\n3 26 17 27\n3 27 17 18\n3 27 18 28\n3 28 18 10\n3 28 10 25\n";
 
 // The torus of 4 by 5 squares and the chain of 3 such tori, by another program.
 const TORUS45: &str =
