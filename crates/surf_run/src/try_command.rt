@@ -56,7 +56,11 @@ fn loops_total(alloc: Global, mesh: &HalfMesh, lengths: &Lengths) -> Result<u128
 
 // What the basis that is chosen totals, and the length of its first cycle, on a surface that has loops: no simple cycle
 // that doesn't separate the surface is shorter, so a search for one of its own is spared.
-fn basis_measures(alloc: Global, mesh: &HalfMesh, lengths: &Lengths) -> Result<(u128, u64), NoMemory>
+fn basis_measures(
+    alloc: Global,
+    mesh: &HalfMesh,
+    lengths: &Lengths,
+) -> Result<(u128, u64), NoMemory>
     requires lengths { length lengths.now ≡ edge_count mesh.now }
     requires some { 0 < loop_count mesh.now }
     requires few { edge_count mesh.now + 2 ≤ mesh.now.vertices + face_count mesh.now + 1024 }
