@@ -3,7 +3,6 @@ use Rattle.std.proofs.Common.{◌≡◌, ◌≢◌, ℕ, zero, suc, ◌+◌, ◌
 use Rattle.std.specs.List.{filter, range_with_len}
 use Rattle.std.proofs.lemmas.Bool.{cases_eq, ne_eqb}
 use Rattle.surf_z2.specs.Order.{sorted}
-use Rattle.surf_z2.specs.Parity.{any_below}
 use Rattle.surf_z2.proofs.ParityLaws.{any_below-same}
 use Rattle.surf_homology.specs.Cells.{primal, dual}
 use Rattle.surf_homology.specs.Growth.{between}

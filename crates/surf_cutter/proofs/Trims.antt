@@ -1,7 +1,7 @@
 -- Counts of cut edges while a cut is trimmed.
 use Rattle.std.proofs.Common.{◌≡◌, ◌≢◌, ℕ, zero, suc, ◌+◌, ◌-◌, ◌<◌, ◌≤◌, ◌⊎◌, ◌&&◌, not, inl, inr, sym, refl, subst, ap, ◌∙◌, cond, eqb, List, ◌∷◌, length, get_or, Bool, true, false, IsTrue, arith, ne_eqb}
 use Rattle.std.proofs.Math.ListN.{set}
-use Rattle.std.proofs.lemmas.Bool.{cases_eq, cases_lt, cases_Bool, cond-true, cond-false, and_from, and_parts, or_left, or_right, or_cases, or_from, eq-eqb, eqb-true, and_left, both_ways}
+use Rattle.std.proofs.lemmas.Bool.{cases_eq, cases_lt, cases_Bool, cond-true, cond-false, and_from, and_parts, or_left, or_right, or_from, eq-eqb, and_left}
 use Rattle.std.proofs.lemmas.List.{get_or-set_same, get_or-set_other, length-set}
 use Rattle.surf_z2.specs.Parity.{count_below}
 use Rattle.surf_z2.specs.Space.{Chain}

@@ -1,8 +1,8 @@
 -- Rows of a flat table by their starts.
-use Rattle.std.proofs.Common.{◌≡◌, ◌<◌, ◌≤◌, ◌+◌, ◌-◌, ℕ, zero, suc, List, [], ◌∷◌, length, length-take, length-drop, get_or, take, drop, refl, sym, ◌∙◌, ap, subst, arith}
+use Rattle.std.proofs.Common.{◌≡◌, ◌<◌, ◌≤◌, ◌+◌, ◌-◌, ℕ, zero, suc, List, [], ◌∷◌, length, length-take, length-drop, get_or, take, drop, refl, sym, ◌∙◌, ap, arith}
 use Rattle.std.specs.List.{zip, All}
 use Rattle.std.proofs.lemmas.List.Elements.{All-nil, All-cons}
-use Rattle.surf_rows.specs.Rows.{cut, AreEnds}
+use Rattle.surf_rows.specs.Rows.{cut}
 use Rattle.surf_rows.proofs.Cuts.{length-cut, span_at, get_or-cut}
 use Rattle.surf_off.specs.Written.{AreStarts, rows_at, no_colours}
 

@@ -1,17 +1,16 @@
 -- Lines of numbers, and their tokens.
-use Rattle.std.proofs.Common.{◌≡◌, ◌<◌, ◌≤◌, ◌+◌, ◌^◌, ℕ, zero, suc, Bool, true, false, cond, List, [], ◌∷◌, ◌++◌, length, take, drop, refl, sym, ◌∙◌, ap, subst, append_assoc, arith, inl, inr, not, codes}
+use Rattle.std.proofs.Common.{◌≡◌, ◌<◌, ◌≤◌, ◌+◌, ◌^◌, ℕ, zero, suc, Bool, true, false, List, [], ◌∷◌, ◌++◌, length, take, drop, refl, sym, ◌∙◌, ap, append_assoc, arith}
 use Rattle.std.specs.Prelude.{◌||◌, decimal, map}
-use Rattle.std.specs.List.{list_any, before_first, position_or_len, All}
-use Rattle.std.proofs.lemmas.Bool.{cases_Bool}
+use Rattle.std.specs.List.{list_any, position_or_len}
 use Rattle.std.proofs.lemmas.List.{append-nil}
 use Rattle.std.proofs.lemmas.List.Folds.{list_any-append}
 use Rattle.std.proofs.Math.Seq.{take-append_seam, drop-append_seam}
 use Rattle.surf_text.specs.Text.{is_blank, is_line_end, is_comment_sign, is_nonempty, uncommented, words_of, tokens_of, trimmed_front, trimmed_back, trimmed, before_some, behind_word, behind_words, rest_after}
-use Rattle.surf_text.proofs.Words.{words_first, words_front}
+use Rattle.surf_text.proofs.Words.{words_first}
 use Rattle.surf_off.specs.Clean.{IsClean}
 use Rattle.surf_off.specs.Written.{numbers_text, colour_text}
 use Rattle.surf_off.proofs.CleanLines.{none_head, none_tail, trimmed_is, trimmed_fronts, trimmed_backs}
-use Rattle.surf_off.proofs.Decimals.{IsWord, word_decimal}
+use Rattle.surf_off.proofs.Decimals.{word_decimal}
 
 -- nothing, or something that begins with a blank
 abbrev pub opens : List ℕ → Bool

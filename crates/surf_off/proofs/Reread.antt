@@ -1,22 +1,19 @@
 -- What is written is read as what was handed in.
-use Rattle.std.proofs.Common.{◌≡◌, ◌≢◌, ◌<◌, ◌≤◌, ◌+◌, ◌^◌, ℕ, zero, suc, Bool, true, false, cond, List, [], ◌∷◌, ◌++◌, length, take, drop, get_or, Option, Some, None, Result, Ok, Err, refl, sym, ◌∙◌, ap, subst, append_assoc, arith, inl, inr, codes}
+use Rattle.std.proofs.Common.{◌≡◌, ◌≢◌, ◌<◌, ◌≤◌, ◌+◌, ◌^◌, ℕ, zero, suc, Bool, true, false, List, [], ◌∷◌, ◌++◌, length, take, get_or, None, Ok, refl, sym, ◌∙◌, ap, subst, append_assoc, arith, codes}
 use Rattle.std.specs.Prelude.{◌==◌, ◌&&◌, nat_le, nat_lt, decimal, map}
 use Rattle.std.specs.List.{list_any, slice_split, All, AllPairs, zip}
-use Rattle.std.proofs.lemmas.Bool.{cases_Bool, le-leb, lt-ltb, ne_eqb}
-use Rattle.std.proofs.lemmas.List.{length-map, take_all, append-nil}
-use Rattle.std.proofs.lemmas.List.Splits.{slice_split-cons_no}
+use Rattle.std.proofs.lemmas.Bool.{le-leb, lt-ltb, ne_eqb}
+use Rattle.std.proofs.lemmas.List.{length-map}
 use Rattle.std.proofs.Math.Seq.{take-append_seam}
-use Rattle.surf_complex.specs.Mesh.{Mesh, IsFace}
-use Rattle.surf_text.specs.Text.{TextLine, is_line_end, is_blank, uncommented, trimmed, tokens_of, words_of, onto_lines, numbered_from, lines_of, rest_after, whole}
-use Rattle.surf_off.specs.declared.fault.OffFault.{OffFault}
+use Rattle.surf_complex.specs.Mesh.{IsFace}
+use Rattle.surf_text.specs.Text.{TextLine, is_line_end, uncommented, trimmed, tokens_of, words_of, onto_lines, numbered_from, rest_after}
 use Rattle.surf_off.specs.declared.header.Header.{Header}
-use Rattle.surf_off.specs.declared.header.Header.TheVariants.{Off, Coff, Noff, Cnoff, Stoff, Stcoff, Stnoff, Stcnoff}
-use Rattle.surf_off.specs.Keywords.{keyword, header_of}
-use Rattle.surf_off.specs.Off.{◌>>=◌, Head, head_of, counts_of, vertices_at, Face, FaceLines, size_of, few_sides, corners_at, first_repeat, distinct, face_of, faces_at, OffParts, off_in, off_without_limits}
+use Rattle.surf_off.specs.declared.header.Header.TheVariants.{Off}
+use Rattle.surf_off.specs.Off.{◌>>=◌, vertices_at, size_of, corners_at, first_repeat, distinct, face_of, faces_at}
 use Rattle.surf_off.specs.Clean.{IsClean, IsVertexLine}
-use Rattle.surf_off.specs.Written.{head_text, lines_text, numbers_text, colour_text, face_text, faces_text, mesh_text}
+use Rattle.surf_off.specs.Written.{lines_text, numbers_text, colour_text, face_text, faces_text}
 use Rattle.surf_off.proofs.CleanLines.{none_head, none_tail}
-use Rattle.surf_off.proofs.Decimals.{IsWord, word_decimal, whole_decimal}
+use Rattle.surf_off.proofs.Decimals.{whole_decimal}
 use Rattle.surf_off.proofs.NumberLines.{Small, number_line, tail_text, uncommented_is, clean_numbers, tokens_numbers, rest_numbers}
 
 -- the lines of a text that goes on at a line of this number

@@ -1,21 +1,20 @@
 -- A text that is written is read, without limits, as the mesh that was handed in.
-use Rattle.std.proofs.Common.{◌≡◌, ◌<◌, ◌≤◌, ◌+◌, ◌^◌, ℕ, zero, suc, Bool, true, false, List, [], ◌∷◌, ◌++◌, length, get_or, Option, Some, None, Result, Ok, Err, refl, sym, ◌∙◌, ap, subst, append_assoc, arith, codes}
-use Rattle.std.specs.Prelude.{decimal, map, slice_index, slice_index_or}
-use Rattle.std.specs.List.{list_any, slice_split, All, zip, range_with_len, sum_by}
+use Rattle.std.proofs.Common.{◌≡◌, ◌<◌, ◌≤◌, ◌+◌, ◌^◌, ℕ, zero, suc, true, false, List, [], ◌∷◌, ◌++◌, length, Some, Ok, refl, sym, ◌∙◌, ap, subst, append_assoc, arith, codes}
+use Rattle.std.specs.Prelude.{decimal, slice_index}
+use Rattle.std.specs.List.{list_any, All, zip, range_with_len, sum_by}
 use Rattle.std.proofs.lemmas.Fmt.{decimal_digit}
 use Rattle.std.proofs.lemmas.List.Elements.{All-nil, All-cons}
 use Rattle.std.proofs.lemmas.List.FromFn.{length-range_with_len}
 use Rattle.std.proofs.lemmas.List.Sums.{get_or-le-sum_by}
 use Rattle.std.proofs.lemmas.List.{length-map, append-nil}
 use Rattle.surf_complex.specs.Mesh.{Mesh, IsFace, IsMesh}
-use Rattle.surf_text.specs.Text.{TextLine, is_line_end, tokens_of, words_of, lines_of}
-use Rattle.surf_off.specs.declared.fault.OffFault.{OffFault}
+use Rattle.surf_text.specs.Text.{is_line_end, tokens_of}
 use Rattle.surf_off.specs.declared.header.Header.{Header}
 use Rattle.surf_off.specs.declared.header.Header.TheVariants.{Off, Coff, Noff, Cnoff, Stoff, Stcoff, Stnoff, Stcnoff}
 use Rattle.surf_off.specs.Keywords.{keyword, header_of}
-use Rattle.surf_off.specs.Off.{◌>>=◌, Head, head_of, counts_of, vertices_at, FaceLines, faces_at, OffParts, off_in, off_without_limits}
+use Rattle.surf_off.specs.Off.{◌>>=◌, head_of, counts_of, OffParts, off_in, off_without_limits}
 use Rattle.surf_off.specs.Clean.{IsClean, IsVertexLine, IsOffParts}
-use Rattle.surf_off.specs.Written.{head_text, lines_text, numbers_text, colour_text, faces_text, mesh_text, copy_text, copies_text, lines_at, opened_text, point_text, points, no_colours, soup_text, RereadsSoup}
+use Rattle.surf_off.specs.Written.{head_text, lines_text, faces_text, mesh_text, copies_text, lines_at, opened_text, point_text, points, no_colours, soup_text, RereadsSoup}
 use Rattle.surf_off.proofs.Decimals.{word_decimal, whole_decimal}
 use Rattle.surf_off.proofs.NumberLines.{Small, number_line, tail_text, tail_more, clean_numbers, tokens_numbers, none_append}
 use Rattle.surf_off.proofs.Reread.{lines_from, first_line, clean_first, AllLines, vertices_again, AllFaces, Silent, faces_again}

@@ -1,6 +1,6 @@
 -- The opening along the chosen cut.
 use Rattle.std.specs.Prelude.{◌↔◌}
-use Rattle.std.proofs.Common.{◌≡◌, ℕ, ◌<◌, sym, ◌∙◌, Bool, true, false, List}
+use Rattle.std.proofs.Common.{◌≡◌, ℕ, ◌<◌, ◌∙◌, Bool, true, false, List}
 use Rattle.surf_z2.specs.Space.{Chain}
 use Rattle.surf_homology.specs.Trees.{Tree}
 use Rattle.surf_complex.specs.Joined.{Joined, here, over}

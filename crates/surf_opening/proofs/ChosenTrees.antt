@@ -1,5 +1,5 @@
 -- The chosen opening at a base is one, whichever trees show it.
-use Rattle.std.proofs.Common.{◌≡◌, ℕ, ◌<◌, inl, inr, sym, ap, ◌∙◌, Bool, true, false, not, ◌||◌, List, ◌∷◌, get_or}
+use Rattle.std.proofs.Common.{◌≡◌, ℕ, ◌<◌, inl, inr, sym, ◌∙◌, Bool, true, false, ◌||◌, List, ◌∷◌, get_or}
 use Rattle.surf_z2.specs.Space.{Chain}
 use Rattle.surf_complex.specs.Choice.{Trees, AreChosenAt}
 use Rattle.surf_complex.specs.Mesh.{Mesh, steps}

@@ -1,8 +1,8 @@
-use Rattle.std.proofs.Common.{◌≡◌, ℕ, List, ◌++◌, length, Ok, Err, refl, ap, codes}
+use Rattle.std.proofs.Common.{◌≡◌, ℕ, ◌++◌, length, refl, codes}
 use Rattle.std.specs.Prelude.{decimal}
 use Rattle.std.proofs.lemmas.Result.{err_from_is_err_and}
 use Rattle.surf_text.proofs.Writing.{puts_more, puts_stop}
-use Rattle.surf_off.specs.Written.{numbers_text, colour_text, face_text}
+use Rattle.surf_off.specs.Written.{numbers_text, colour_text}
 use Rattle.surf_off.proofs.write.write_face.Goals as goal
 
 pub returns-in_err-push_whole : goal.returns-in_err-push_whole

@@ -1,11 +1,10 @@
-use Rattle.std.proofs.Common.{◌<◌, ◌^◌, ◌≡◌, ◌+◌, ◌-◌, ℕ, List, ◌++◌, length, Ok, Err, Result, refl, sym, ◌∙◌, ap, subst, append_assoc, arith}
+use Rattle.std.proofs.Common.{◌<◌, ◌^◌, ◌≡◌, ◌+◌, ◌-◌, ℕ, List, ◌++◌, length, Result, refl, sym, ◌∙◌, ap, subst, append_assoc, arith}
 use Rattle.std.proofs.lemmas.List.{length-map}
 use Rattle.std.specs.List.{zip, range_with_len, All}
 use Rattle.surf_complex.specs.Mesh.{IsFace}
 use Rattle.surf_off.specs.Clean.{IsOffParts}
 use Rattle.std.proofs.lemmas.Result.{err_from_is_err_and}
-use Rattle.surf_text.specs.Pages.{PageState, Puts}
-use Rattle.surf_text.specs.declared.page.PageFault.{PageFault}
+use Rattle.surf_text.specs.Pages.{Puts}
 use Rattle.surf_text.proofs.Writing.{puts_more, puts_stop}
 use Rattle.surf_off.specs.declared.header.Header.{Header}
 use Rattle.surf_off.specs.Off.{OffParts}

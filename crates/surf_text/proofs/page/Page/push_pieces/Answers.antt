@@ -1,4 +1,4 @@
-use Rattle.std.proofs.Common.{refl, ap, arith}
+use Rattle.std.proofs.Common.{refl}
 use Rattle.std.proofs.lemmas.Result.{err_from_is_err_and}
 use Rattle.surf_text.specs.Pieces.{piece_text, pieces_text}
 use Rattle.surf_text.proofs.Writing.{loop_more, loop_stop, loop_done}
