@@ -1,5 +1,5 @@
 -- The first candidate, base by base.
-use Rattle.std.proofs.Common.{◌≡◌, ℕ, suc, ◌<◌, ◌+◌, ◌↔◌, Bool, true, false, cond, List, [], ◌∷◌, length, map, Option, Some, None, refl, sym, ap, ◌∙◌, subst, arith, inl, inr}
+use Rattle.std.proofs.Common.{◌≡◌, ℕ, suc, ◌<◌, ◌≤◌, ◌+◌, ◌↔◌, Bool, true, false, cond, List, [], ◌∷◌, length, map, Option, Some, None, refl, sym, ap, ◌∙◌, subst, arith, inl, inr}
 use Rattle.std.specs.List.{AllByRecursion}
 use Rattle.std.specs.Option.{option_map}
 use Rattle.std.specs.Prelude.{nat_le, IfSome}
@@ -14,7 +14,7 @@ use Rattle.surf_complex.specs.Choice.{Trees, AreChosen, Loop, comes_before, loop
 use Rattle.surf_complex.proofs.ClassLaws.{some_vertex}
 use Rattle.surf_complex.proofs.ChoiceExists.{choice_exists}
 use Rattle.surf_complex.proofs.FirstCycleLaws.{first_is_shortest, candidates_below_two, simple_cycles_separate}
-use Rattle.surf_complex.proofs.LoopsAtLaws.{IsLoopAt, loops_are_least}
+use Rattle.surf_complex.proofs.LoopsAtLaws.{IsLoopAt, loops_each, loops_are_least}
 use Rattle.surf_complex.proofs.CandidateLaws.{IsLoopBelow, below_each, below_more}
 use Rattle.surf_loops.specs.Loops.{LoopTables, loop_of as head_loop, IsGreedy}
 use Rattle.surf_loops.specs.declared.head.LoopHead.{LoopHead}
@@ -110,6 +110,29 @@ module _ (mesh : Mesh) (lengths : List ℕ) (trees : ℕ → Trees) (surface : I
           of_heads : (hs : List LoopHead) → option_map (candidate_of t.tree) (first_of hs) ≡ Some next → next.base ≡ t.tree.base
           of_heads [] e = cc
           of_heads (h ∷ hs) e = cc
+
+  -- one more base where no loop is shorter
+  pub first_over : (base bases : ℕ) (c : Candidate) → bases ≡ suc base →
+      AllByRecursion (λ d. c.length ≤ d.size) (loops_at mesh lengths base (trees base)) →
+      option_map (loop_in mesh trees) (Some c) ≡ first_of (loops_below mesh lengths trees base) →
+      option_map (loop_in mesh trees) (Some c) ≡ first_of (loops_below mesh lengths trees bases)
+  first_over base bases c after long was =
+      stays (loops_below mesh lengths trees base) (loops_at mesh lengths base (trees base)) was
+      (below_each mesh lengths trees base) (loops_each mesh lengths base (trees base)) long
+      ∙ sym (ap (λ n. first_of (loops_below mesh lengths trees n)) after ∙ ap first_of (below_more mesh lengths trees base))
+    where
+      stays : (cs ds : List Loop) → Some (loop_in mesh trees c) ≡ first_of cs → AllByRecursion (IsLoopBelow mesh lengths trees base) cs →
+          AllByRecursion (IsLoopAt mesh lengths base (trees base)) ds → AllByRecursion (λ d. c.length ≤ d.size) ds →
+          Some (loop_in mesh trees c) ≡ first_of (merge comes_before cs ds)
+      stays [] ds was below each long = cc
+      stays (x ∷ xs) [] was below each long = was
+      stays (x ∷ xs) (d ∷ ds) was below each long =
+          let base_is : d.base ≡ base = ap (λ (y : Loop). y.base) each.0.is in
+          let le : c.length ≤ d.size = long.0 in
+          let first : nat_le c.length d.size ≡ true = grind (arith, nat_tests) in
+          let kept : Some (shorter_loop (Some (loop_in mesh trees c)) d) ≡ Some (loop_in mesh trees c) = rw first refl in
+          sym (first_merged (x ∷ xs) d ds (below_bases base d base_is (x ∷ xs) below)
+          ∙ ap (λ o. Some (shorter_loop o d)) (sym was) ∙ kept)
 
   -- where a desk has no heads there is no candidate
   pub first_none : (base : ℕ) (t : LoopTables) → IsGreedy mesh lengths base t → first_head t ≡ None →

@@ -15,6 +15,7 @@ use Rattle.surf_complex.specs.Class.{class_of}
 use Rattle.surf_complex.specs.Choice.{Trees, AreChosen, Loop, comes_before, loops_at, IsGreedyChoice, IsChosenBasis, nothing, one_more}
 use Rattle.surf_complex.proofs.LeastLaws.{all_each, all_mapped}
 use Rattle.surf_complex.proofs.GreedyChoiceLaws.{AreClosed, greedy_is_choice}
+use Rattle.surf_complex.proofs.LoopsAtLaws.{IsLoopAt, loops_each}
 use Rattle.surf_complex.proofs.BasisLaws.{runs, basis_is_kept_base_by_base}
 use Rattle.surf_loops.specs.Loops.{LoopTables, IsGreedy}
 use Rattle.surf_basis.specs.declared.candidate.Signed.{Signed}
@@ -105,7 +106,7 @@ module _ (mesh : Mesh) (lengths : List ℕ) (trees : ℕ → Trees) (surface : I
       let before : AllByRecursion Right kept =
       all_each (IsSigned mesh lengths trees d base) Right kept (signed_more base)
       (recursion_from_All (IsSigned mesh lengths trees d base) kept k.signed) in
-      all_merged Right kept (signed_heads mesh d t.tree t.heads) (All-from_recursion Right kept before)
+      all_merged signed_earlier Right kept (signed_heads mesh d t.tree t.heads) (All-from_recursion Right kept before)
       (All-from_recursion Right (signed_heads mesh d t.tree t.heads)
       (offered_signed mesh lengths trees surface positive chosen d base t l g))
 
@@ -151,18 +152,35 @@ module _ (mesh : Mesh) (lengths : List ℕ) (trees : ℕ → Trees) (surface : I
         signed = subst (All Right) (sym is) (all_kept Right merged right);
       })
 
-  -- and one more base that changes nothing
-  pub kept_same : (base bases : ℕ) (t : LoopTables) (kept : List Signed) → base < mesh.vertices → bases ≡ suc base →
-      IsGreedy mesh lengths base t → AreKept mesh lengths trees d base kept →
+  -- the loops at a base are closed
+  loops_closed : (base : ℕ) → base < mesh.vertices → (cs : List Loop) →
+      AllByRecursion (IsLoopAt mesh lengths base (trees base)) cs → AreClosed mesh cs
+  loops_closed base l cs h = all_each (IsLoopAt mesh lengths base (trees base)) (λ c. IsClosed mesh c.walk) cs
+      (λ c is.
+      (let same : c.base ≡ base = ap (λ (x : Loop). x.base) is.is in
+      (runs mesh lengths trees surface positive chosen (suc base) (omega arith) c
+      (record { base_in = omega (arith, same); of = subst (λ b. IsLoopAt mesh lengths b (trees b) c) (sym same) is })).0)) h
+
+  -- one more base that changes nothing
+  pub kept_same : (base bases : ℕ) (kept : List Signed) → base < mesh.vertices → bases ≡ suc base →
+      AreKept mesh lengths trees d base kept →
       greedy numbers is_nothing (λ (c : Loop). class_of mesh d c.walk)
       (merge comes_before (loops_in mesh trees kept) (loops_at mesh lengths base (trees base))) ≡ loops_in mesh trees kept →
       AreKept mesh lengths trees d bases kept
-  kept_same base bases t kept l after g k same =
+  kept_same base bases kept l after k same =
+      let loops = loops_in mesh trees kept in
+      let here = loops_at mesh lengths base (trees base) in
+      let Closed : Loop → Type 0 = λ c. IsClosed mesh c.walk in
+      let signed = recursion_from_All (IsSigned mesh lengths trees d base) kept k.signed in
+      let closed : AreClosed mesh (merge comes_before loops here) = recursion_from_All Closed (merge comes_before loops here)
+      (all_merged comes_before Closed loops here
+      (All-from_recursion Closed loops (all_closed base (omega arith) kept signed))
+      (All-from_recursion Closed here (loops_closed base l here (loops_each mesh lengths base (trees base))))) in
       subst (λ n. AreKept mesh lengths trees d n kept) (sym after) (record {
-        by_bases = one_more k.by_bases (next_choice base t kept (loops_in mesh trees kept) l g k same);
+        by_bases = one_more k.by_bases (subst (IsGreedyChoice mesh (merge comes_before loops here)) same
+            (greedy_is_choice mesh d surface split (merge comes_before loops here) closed));
         signed = All-from_recursion (IsSigned mesh lengths trees d (suc base)) kept
-            (all_each (IsSigned mesh lengths trees d base) (IsSigned mesh lengths trees d (suc base)) kept (signed_more base)
-            (recursion_from_All (IsSigned mesh lengths trees d base) kept k.signed));
+            (all_each (IsSigned mesh lengths trees d base) (IsSigned mesh lengths trees d (suc base)) kept (signed_more base) signed);
       })
 
   -- and their cycles are its loops

@@ -7,3 +7,6 @@ pub mod Leading
 pub mod Whole
 pub mod Settled
 pub mod Certified
+pub mod PassedOver
+pub mod Summed
+pub mod Spared

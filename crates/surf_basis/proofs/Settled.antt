@@ -23,15 +23,15 @@ use Rattle.surf_complex.specs.Cells.{cells_of}
 use Rattle.surf_complex.specs.Class.{class_of}
 use Rattle.surf_complex.specs.Choice.{Trees, AreChosen, Loop, comes_before, loops_at, loops_below}
 use Rattle.surf_complex.proofs.LeastLaws.{all_each}
-use Rattle.surf_complex.proofs.LoopsAtLaws.{comes_before-trans}
+use Rattle.surf_complex.proofs.LoopsAtLaws.{IsLoopAt, loops_each, comes_before-trans}
 use Rattle.surf_complex.proofs.CandidateLaws.{below-sorted}
 use Rattle.surf_complex.proofs.BasisLaws.{kept_is_greedy}
 use Rattle.surf_loops.specs.Loops.{LoopTables, IsGreedy}
 use Rattle.surf_loops.specs.declared.head.LoopHead.{LoopHead}
 use Rattle.surf_basis.specs.declared.candidate.Signed.{Signed}
-use Rattle.surf_basis.specs.Candidates.{is_settled, candidate_of, loop_in, loops_in, signed_heads, IsSigned, AreKept}
+use Rattle.surf_basis.specs.Candidates.{Chosen, signed_earlier, independent_of, is_settled, with_loops, candidate_of, loop_in, loops_in, signed_heads, IsSigned, AreKept}
 use Rattle.surf_basis.proofs.Looped.{offered_loops, heads_count, class_small}
-use Rattle.surf_basis.proofs.Kept.{kept_same}
+use Rattle.surf_basis.proofs.Kept.{kept_same, kept_more}
 
 -- ---- lists
 
@@ -88,7 +88,7 @@ and_both : (a b : Bool) → (a && b) ≡ true → (a ≡ true) × (b ≡ true)
 and_both true b h = (refl, h)
 and_both false b h = cc
 
-all_up_to : (size : ℕ) (cs : List Signed) → list_all (λ c. nat_le c.candidate.length size) cs ≡ true → IsUpTo size cs
+pub all_up_to : (size : ℕ) (cs : List Signed) → list_all (λ c. nat_le c.candidate.length size) cs ≡ true → IsUpTo size cs
 all_up_to size [] h = tt
 all_up_to size (c ∷ cs) h =
     let both = and_both (nat_le c.candidate.length size) (list_all (λ c. nat_le c.candidate.length size) cs) h in
@@ -126,29 +126,53 @@ module _ (mesh : Mesh) (lengths : List ℕ) (trees : ℕ → Trees) (surface : I
     before_head base cs x le h.1 up.1,
   )
 
+  -- what is kept is independent, so all of it is kept again
+  kept_again : (base : ℕ) (kept : List Signed) → base < mesh.vertices → AreKept mesh lengths trees d base kept →
+      Independent numbers (map class (loops_in mesh trees kept))
+      × (greedy numbers is_nothing class (loops_in mesh trees kept) ≡ loops_in mesh trees kept)
+  kept_again base kept l k =
+      let loops = loops_in mesh trees kept in
+      let now = loops_below mesh lengths trees base in
+      let law = greedy_law numbers is_nothing Decides-is_nothing class in
+      let is : loops ≡ greedy numbers is_nothing class now =
+      kept_is_greedy mesh lengths trees surface positive chosen d split k.by_bases (omega arith) in (
+        subst (λ cs. Independent numbers (map class cs)) (sym is) (law.independent now),
+        ap (greedy numbers is_nothing class) (is ∙ sym (merged_alone comes_before (greedy numbers is_nothing class now)))
+            ∙ two_step_law numbers is_nothing Decides-is_nothing class comes_before comes_before-trans now []
+            (order_from_sorted comes_before now (below-sorted mesh lengths trees base))
+            ∙ ap (greedy numbers is_nothing class) (merged_alone comes_before now) ∙ sym is,
+      )
+
   -- the loops at a base that aren't shorter than any that is kept
   loops_left_out : (base : ℕ) (kept : List Signed) (x : Loop) (xs : List Loop) → base < mesh.vertices →
       AreKept mesh lengths trees d base kept → length kept ≡ length d.left → base ≤ x.base → IsUpTo x.size kept →
       greedy numbers is_nothing class (merge comes_before (loops_in mesh trees kept) (x ∷ xs)) ≡ loops_in mesh trees kept
   loops_left_out base kept x xs l k full le up =
       let loops = loops_in mesh trees kept in
-      let now = loops_below mesh lengths trees base in
-      let law = greedy_law numbers is_nothing Decides-is_nothing class in
-      let is : loops ≡ greedy numbers is_nothing class now =
-      kept_is_greedy mesh lengths trees surface positive chosen d split k.by_bases (omega arith) in
-      let free : Independent numbers (map class loops) = subst (λ cs. Independent numbers (map class cs)) (sym is) (law.independent now) in
+      let again = kept_again base kept l k in
       let many : length (map class loops) ≡ length d.left =
       length-map loops class ∙ length-map kept (λ (c : Signed). loop_in mesh trees c.candidate) ∙ full in
-      let again : greedy numbers is_nothing class loops ≡ loops =
-      ap (greedy numbers is_nothing class) (is ∙ sym (merged_alone comes_before (greedy numbers is_nothing class now)))
-      ∙ two_step_law numbers is_nothing Decides-is_nothing class comes_before comes_before-trans now []
-      (order_from_sorted comes_before now (below-sorted mesh lengths trees base))
-      ∙ ap (greedy numbers is_nothing class) (merged_alone comes_before now) ∙ sym is in
       ap (greedy numbers is_nothing class)
       (merged_after comes_before loops x xs (before_head base kept x le
       (recursion_from_All (IsSigned mesh lengths trees d base) kept k.signed) up))
-      ∙ left_out class loops (x ∷ xs) (each_spanned (map class loops) (classes_small loops) free many (x ∷ xs))
-      ∙ again
+      ∙ left_out class loops (x ∷ xs) (each_spanned (map class loops) (classes_small loops) again.0 many (x ∷ xs))
+      ∙ again.1
+
+  -- what is kept stays so over a base where no loop is shorter than any that is kept
+  pub kept_over : (base bases : ℕ) (kept : List Signed) (size : ℕ) → base < mesh.vertices → bases ≡ suc base →
+      AreKept mesh lengths trees d base kept → length kept ≡ length d.left → IsUpTo size kept →
+      AllByRecursion (λ c. size ≤ c.size) (loops_at mesh lengths base (trees base)) → AreKept mesh lengths trees d bases kept
+  kept_over base bases kept size l after k full up long =
+      kept_same mesh lengths trees surface positive chosen d split base bases kept l after k
+      (at_base (loops_at mesh lengths base (trees base)) (loops_each mesh lengths base (trees base)) long)
+    where
+      at_base : (xs : List Loop) → AllByRecursion (IsLoopAt mesh lengths base (trees base)) xs → AllByRecursion (λ c. size ≤ c.size) xs →
+          greedy numbers is_nothing class (merge comes_before (loops_in mesh trees kept) xs) ≡ loops_in mesh trees kept
+      at_base [] h long = ap (greedy numbers is_nothing class) (merged_alone comes_before (loops_in mesh trees kept)) ∙ (kept_again base kept l k).1
+      at_base (x ∷ xs) h long =
+          let same : x.base ≡ base = ap (λ (c : Loop). c.base) h.0.is in
+          loops_left_out base kept x xs l k full (omega (arith, same))
+          (all_each (λ c. c.candidate.length ≤ size) (λ c. c.candidate.length ≤ x.size) kept (λ c le. omega (arith, le, long.0)) up)
 
   -- what is kept stays so over a base whose loops aren't shorter
   pub kept_settled : (base bases : ℕ) (t : LoopTables) (kept : List Signed) → base < mesh.vertices → bases ≡ suc base →
@@ -170,6 +194,24 @@ module _ (mesh : Mesh) (lengths : List ℕ) (trees : ℕ → Trees) (surface : I
           offered_loops mesh lengths trees surface positive chosen d base t l g
           ∙ ap (λ xs. loops_in mesh trees (signed_heads mesh d t.tree xs)) e in
           let base_is : t.tree.base ≡ base = g.tree.base_is in
-          kept_same mesh lengths trees surface positive chosen d split base bases t kept l after g k
+          kept_same mesh lengths trees surface positive chosen d split base bases kept l after k
           (ap (λ cs. greedy numbers is_nothing class (merge comes_before (loops_in mesh trees kept) cs)) loops
           ∙ loops_left_out base kept x rest l k full (omega arith) (all_up_to h.length kept both.1))
+
+  -- the loops of a desk at a later base, kept as far as they are of use
+  pub kept_with : (base bases : ℕ) (t : LoopTables) (choice : Chosen) → base < mesh.vertices → bases ≡ suc base →
+      IsGreedy mesh lengths base t → AreKept mesh lengths trees d base choice.kept →
+      AreKept mesh lengths trees d bases (with_loops mesh d t choice).kept
+  kept_with base bases t choice l after g k = elim (cases_Bool (is_settled choice.kept t.heads)) [
+    | inl settled ↦ rw settled (kept_settled base bases t choice.kept l after g k settled)
+    | inr more ↦ rw more (kept_more mesh lengths trees surface positive chosen d split base bases t choice.kept
+        (independent_of (merge signed_earlier choice.kept (signed_heads mesh d t.tree t.heads))) l after g k refl)
+  ]
+
+-- nothing is offered then, and the width is as before
+pub with_none : (mesh : Mesh) (d : Split) (t : LoopTables) (choice : Chosen) → choice.offered ≡ [] →
+    ((with_loops mesh d t choice).offered ≡ []) × ((with_loops mesh d t choice).width ≡ choice.width)
+with_none mesh d t choice none = elim (cases_Bool (is_settled choice.kept t.heads)) [
+  | inl settled ↦ rw settled (none, refl)
+  | inr more ↦ rw more (refl, refl)
+]

@@ -92,12 +92,12 @@ as_many kept admitted e = sym (ap length e ∙ length-map kept (λ (c : Signed).
 abbrev pub AreSmall : ℕ → List Signed → Type 0
 AreSmall width cs = All (λ c. c.signature < 2 ^ width) cs
 
-all_joined : (P : Signed → Type 0) (cs ds : List Signed) → AllByRecursion P cs → AllByRecursion P ds → AllByRecursion P (cs ++ ds)
+all_joined : {C : Type 0} (P : C → Type 0) (cs ds : List C) → AllByRecursion P cs → AllByRecursion P ds → AllByRecursion P (cs ++ ds)
 all_joined P [] ds h k = k
 all_joined P (c ∷ cs) ds h k = (h.0, all_joined P cs ds h.1 k)
 
-pub all_merged : (P : Signed → Type 0) (cs ds : List Signed) → All P cs → All P ds → All P (merge signed_earlier cs ds)
-all_merged P cs ds h k = All-permutation P (cs ++ ds) (merge signed_earlier cs ds) (same_members signed_earlier cs ds)
+pub all_merged : {C : Type 0} (before : C → C → Bool) (P : C → Type 0) (cs ds : List C) → All P cs → All P ds → All P (merge before cs ds)
+all_merged before P cs ds h k = All-permutation P (cs ++ ds) (merge before cs ds) (same_members before cs ds)
     (All-from_recursion P (cs ++ ds) (all_joined P cs ds (recursion_from_All P cs h) (recursion_from_All P ds k)))
 
 all_chosen : (P : Signed → Type 0) (choice : List Bool) (cs : List Signed) → AllByRecursion P cs → AllByRecursion P (chosen choice cs)
@@ -115,7 +115,7 @@ pub merged_small : (width : ℕ) (cs ds first second whole all : List Signed) �
     first ≡ cs → second ≡ ds → whole ≡ merge signed_earlier first second → all ≡ whole → AreSmall width all
 merged_small width cs ds first second whole all h k e f is same =
     subst (AreSmall width) (sym (same ∙ is ∙ ap (λ xs. merge signed_earlier xs second) e ∙ ap (merge signed_earlier cs) f))
-    (all_merged (λ c. c.signature < 2 ^ width) cs ds h k)
+    (all_merged signed_earlier (λ c. c.signature < 2 ^ width) cs ds h k)
 
 pub kept_small : (width : ℕ) (cs : List Signed) → AreSmall width cs → AreSmall width (independent_of cs)
 kept_small width cs h = all_kept (λ c. c.signature < 2 ^ width) cs h

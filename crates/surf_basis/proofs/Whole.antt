@@ -51,6 +51,19 @@ desk_signed mesh lengths base t new before after left width g old is_left wide r
       signatures = signed tree split;
     })
 
+-- the edges that are left, as a view shows them, are as many
+pub left_count : (mesh : Mesh) (t view : CotreeTables) (left : List ℕ) → IsFullCount mesh (length t.left) → view ≡ t → left ≡ view.left →
+    IsFullCount mesh (length left)
+left_count mesh t view left full same is =
+    subst (λ (xs : List ℕ). IsFullCount mesh (length xs)) (sym (is ∙ ap (λ (c : CotreeTables). c.left) same)) full
+
+-- the signatures, as a view shows them, are so
+pub still_signed : (mesh : Mesh) (t view later : CotreeTables) (left : List ℕ) → AreSigned mesh t (length t.left) → view ≡ t → left ≡ view.left →
+    later ≡ t → AreSigned mesh later (length left)
+still_signed mesh t view later left signed same is last =
+    subst (λ (c : CotreeTables). AreSigned mesh c (length left)) (sym last)
+    (subst (λ (xs : List ℕ). AreSigned mesh t (length xs)) (sym (is ∙ ap (λ (c : CotreeTables). c.left) same)) signed)
+
 -- what is kept at the end, by any trees and signatures
 abbrev pub IsKept : Mesh → List ℕ → CotreeTables → List Signed → Type 0
 IsKept mesh lengths s kept = (trees : ℕ → Trees) → AreChosen mesh lengths trees → (d : Split) → IsSplit (cells_of mesh) d →

@@ -3,6 +3,7 @@ use Rattle.std.specs.Prelude.{ℕ, ◌≡◌, ◌<◌, Bool, true, false, IsTrue
 use Rattle.std.specs.List.{list_all}
 use Rattle.std.specs.Option.{option_map}
 use Rattle.surf_z2.specs.Greedy.{greedy}
+use Rattle.surf_z2.specs.Order.{merge}
 use Rattle.surf_z2.specs.Space.{numbers, is_nothing}
 use Rattle.surf_homology.specs.Cells.{Split}
 use Rattle.surf_complex.specs.Mesh.{Mesh}
@@ -97,6 +98,12 @@ signed_heads mesh d t heads =
 abbrev pub is_settled : List Signed → List LoopHead → Bool
 is_settled kept [] = false
 is_settled kept (h ∷ hs) = (length kept == length (h ∷ hs)) && list_all (λ c. nat_le c.candidate.length h.length) kept
+
+-- a choice when the loops of a desk at a later base have been kept as far as they are of use
+abbrev pub with_loops : Mesh → Split → LoopTables → Chosen → Chosen
+with_loops mesh d t choice =
+    if is_settled choice.kept t.heads then choice
+    else (record choice { kept = independent_of (merge signed_earlier choice.kept (signed_heads mesh d t.tree t.heads)); offered = [] })
 
 -- a candidate is the loop of a left edge at one of the first bases, and its signature is that of its walk
 pub record IsSigned (mesh : Mesh) (lengths : List ℕ) (trees : ℕ → Trees) (d : Split) (bases : ℕ) (c : Signed) : Type 0 where

@@ -2,3 +2,4 @@ pub mod Cycles
 pub mod Candidates
 pub mod Signing
 pub mod Certs
+pub mod Passing

@@ -1,6 +1,5 @@
 //! The least basis, kept base by base.
 ghost use Rattle.std.specs.Prelude.{ℕ, ◌≡◌, ◌<◌, ◌≤◌, ◌+◌, [], All, IfOk, IfSome, length, nat_le};
-ghost use Rattle.std.specs.List.{list_all};
 ghost use Rattle.surf_homology.specs.Cells.{Split, IsSplit};
 ghost use Rattle.surf_complex.specs.Cells.{cells_of};
 ghost use Rattle.surf_complex.specs.Homology.{IsFullCount};
@@ -9,13 +8,15 @@ ghost use Rattle.surf_complex.specs.Surface.{edge_count, face_count};
 ghost use Rattle.surf_complex.specs.ChoiceLaws.{LeastSimpleBasis};
 ghost use Rattle.surf_loops.specs.Loops.{IsMadeFor};
 ghost use Rattle.surf_basis.specs.Cycles.{first_of, IsFirstCandidate, IsShortestCycle, IsTheBasis, loops_of};
-ghost use Rattle.surf_basis.specs.Candidates.{signed_heads, is_settled, AreKept};
+ghost use Rattle.surf_basis.specs.Candidates.{signed_heads, is_settled, with_loops, AreKept};
 ghost use Rattle.surf_basis.specs.Signing.{AreSignatures, AreSigned, IsClimbed};
 
 use crate::candidate::{Candidate, Signed};
 use crate::choosing::Choice;
 use crate::cycle::Cycle;
-use crate::signing::loop_signature;
+use crate::passing::Ways;
+use crate::signing::{loop_signature, signed_desk};
+use crate::sparing::{all_up_to, is_over};
 use crate::walking::cycles_of;
 use std::alloc::Global;
 use surf_base::{NoMemory, VertexId};
@@ -48,13 +49,6 @@ fn offer_loops(mesh: &HalfMesh, signatures: &CotreeDesk, desk: &LoopDesk, choice
     }
 }
 
-// Whether no candidate is longer than a length.
-fn all_up_to(kept: &[Signed], length: u64) -> bool
-    ensures all { result ≡ list_all (λ c. nat_le c.candidate.length length) kept.now }
-{
-    kept.iter().all(|signed| signed.candidate.length <= length)
-}
-
 // Whether no loop of a desk at a later base can be kept: as many are kept as the desk has loops, and none is longer than
 // the first of those.
 fn is_settled(kept: &[Signed], heads: &[LoopHead]) -> bool
@@ -66,18 +60,37 @@ fn is_settled(kept: &[Signed], heads: &[LoopHead]) -> bool
     kept.len() == heads.len() && all_up_to(kept, first.length)
 }
 
+// Keeps of the loops of a desk at a later base what is of use.
+fn keep_loops(mesh: &HalfMesh, signatures: &CotreeDesk, desk: &LoopDesk, choice: &mut Choice)
+    requires climbed { IsClimbed mesh.now desk.now.tree }
+    requires edges { All (λ h. h.edge < edge_count mesh.now) desk.now.heads }
+    requires signed { AreSigned mesh.now signatures.now choice.old.width }
+    requires none { choice.old.offered ≡ [] }
+    requires room { length desk.now.heads ≤ choice.old.width }
+    ensures kept { (d : Split) → AreSignatures mesh.now d signatures.now → choice.new ≡ with_loops mesh.now d desk.now choice.old }
+{
+    if !is_settled(choice.kept(), desk.heads()) {
+        offer_loops(mesh, signatures, desk, choice);
+        choice.keep();
+    }
+}
+
 // Makes the choice from the loops at all bases.
 fn choose(
     mesh: &HalfMesh,
     lengths: &Lengths,
     signatures: &CotreeDesk,
     desk: &mut LoopDesk,
+    ways: &mut Ways,
+    count: usize,
     choice: &mut Choice,
 )
     requires made { IsMadeFor mesh.now desk.old }
     requires lengths { length lengths.now ≡ edge_count mesh.now }
-    requires signed { AreSigned mesh.now signatures.now choice.old.width }
-    requires count { IsFullCount mesh.now choice.old.width }
+    requires ways { ways.old ≡ mesh.now.vertices }
+    requires width { count ≡ choice.old.width }
+    requires signed { AreSigned mesh.now signatures.now count }
+    requires full { IsFullCount mesh.now count }
     requires fresh { (choice.old.kept ≡ []) × (choice.old.offered ≡ []) }
     ensures kept { (trees : ℕ → Trees) → AreChosen mesh.now lengths.now trees → (d : Split) → IsSplit (cells_of mesh.now) d → AreSignatures mesh.now d signatures.now → AreKept mesh.now lengths.now trees d mesh.now.vertices choice.new.kept }
     ensures made { IsMadeFor mesh.now desk.new }
@@ -85,10 +98,18 @@ fn choose(
     let _surface = mesh.faces();
     let _lengths = lengths.count();
     for base in 0..mesh.vertices() {
-        desk.greedy(mesh, lengths, VertexId::new(base));
-        if !is_settled(choice.kept(), desk.heads()) {
-            offer_loops(mesh, signatures, desk, choice);
-            choice.keep();
+        desk.grow_tree(mesh, lengths, VertexId::new(base));
+        if !is_over(
+            mesh,
+            lengths,
+            signatures,
+            desk.tree(),
+            ways,
+            count,
+            choice.kept(),
+        ) {
+            desk.find_loops(mesh, lengths);
+            keep_loops(mesh, signatures, desk, choice);
         }
     }
 }
@@ -110,15 +131,22 @@ pub fn least_basis(
 {
     let _surface = mesh.faces();
     let _lengths = lengths.count();
-    let mut first = LoopDesk::make(alloc, mesh)?;
-    first.greedy(mesh, lengths, VertexId::new(0));
-    let count = first.cotree().left().len();
+    let signed = signed_desk(alloc, mesh, lengths)?;
+    let count = signed.cotree().left().len();
     if count == 0 {
         return Ok(Vec::new(alloc));
     }
-    first.sign(mesh);
     let mut desk = LoopDesk::make(alloc, mesh)?;
     let mut choice = Choice::make(alloc, count as u32)?;
-    choose(mesh, lengths, first.cotree(), &mut desk, &mut choice);
+    let mut ways = Ways::make(alloc, mesh)?;
+    choose(
+        mesh,
+        lengths,
+        signed.cotree(),
+        &mut desk,
+        &mut ways,
+        count,
+        &mut choice,
+    );
     cycles_of(alloc, mesh, lengths, &mut desk, choice.kept())
 }

@@ -19,8 +19,10 @@ mod cert;
 mod choosing;
 mod cycle;
 mod merging;
+mod passing;
 mod shortest;
 mod signing;
+mod sparing;
 mod walking;
 
 pub use basis::least_basis;

@@ -1,21 +1,30 @@
 //! A shortest cycle that doesn't separate the surface.
-ghost use Rattle.std.specs.Prelude.{ℕ, ◌≡◌, ◌<◌, ◌≤◌, ◌+◌, ◌↔◌, None, IfOk, IfSome, length};
+ghost use Rattle.std.specs.Prelude.{ℕ, ◌≡◌, ◌<◌, ◌≤◌, ◌+◌, ◌↔◌, true, None, IfOk, IfSome, length};
 ghost use Rattle.surf_complex.specs.Surface.{edge_count, face_count};
 ghost use Rattle.surf_complex.specs.Homology.{IsFullCount};
 ghost use Rattle.std.specs.Option.{option_map};
 ghost use Rattle.surf_complex.specs.Choice.{Trees, AreChosen, candidates};
+ghost use Rattle.surf_tree.specs.Tables.{tree_of};
+ghost use Rattle.surf_tree.specs.Grown.{IsGrown};
 ghost use Rattle.surf_loops.specs.Loops.{IsMadeFor};
 ghost use Rattle.surf_basis.specs.Candidates.{first_head, loop_in, shorter};
+ghost use Rattle.surf_basis.specs.Signing.{AreSigned};
+ghost use Rattle.surf_basis.specs.Passing.{IsBeaten};
 ghost use Rattle.surf_basis.specs.Cycles.{first_of, IsFirstCandidate, IsShortestCycle, AllSeparate};
 
 use crate::candidate::Candidate;
 use crate::cycle::Cycle;
+use crate::passing::Ways;
+use crate::signing::signed_desk;
+use crate::sparing::is_none_shorter;
 use crate::walking::cycle_of;
 use std::alloc::Global;
 use surf_base::{NoMemory, VertexId};
+use surf_cotree::CotreeDesk;
 use surf_lengths::Lengths;
 use surf_loops::LoopDesk;
 use surf_mesh::HalfMesh;
+use surf_tree::TreeDesk;
 
 // The first candidate of a desk, if it has one.
 fn first_of(desk: &LoopDesk) -> Option<Candidate>
@@ -41,10 +50,50 @@ fn shorter_of(first: Option<Candidate>, next: Candidate) -> Candidate
     }
 }
 
+// Whether no loop at the base of a tree is shorter than the first candidate so far.
+fn is_beaten(
+    mesh: &HalfMesh,
+    lengths: &Lengths,
+    signatures: &CotreeDesk,
+    tree: &TreeDesk,
+    ways: &mut Ways,
+    count: usize,
+    first: &Option<Candidate>,
+) -> bool
+    requires lengths { length lengths.now ≡ edge_count mesh.now }
+    requires signed { AreSigned mesh.now signatures.now count }
+    requires grown { IsGrown mesh.now lengths.now tree.now.base tree.now }
+    requires ways { ways.old ≡ mesh.now.vertices }
+    ensures beaten { result ≡ true → IsBeaten mesh.now lengths.now signatures.now (tree_of tree.now) first.now }
+    ensures ways { ways.new ≡ mesh.now.vertices }
+{
+    match first {
+        Some(candidate) => is_none_shorter(
+            mesh,
+            lengths,
+            signatures,
+            tree,
+            ways,
+            count,
+            candidate.length,
+        ),
+        None => false,
+    }
+}
+
 // The first candidate at any base.
-fn first_candidate(mesh: &HalfMesh, lengths: &Lengths, desk: &mut LoopDesk) -> Option<Candidate>
+fn first_candidate(
+    mesh: &HalfMesh,
+    lengths: &Lengths,
+    signatures: &CotreeDesk,
+    desk: &mut LoopDesk,
+    ways: &mut Ways,
+    count: usize,
+) -> Option<Candidate>
     requires made { IsMadeFor mesh.now desk.old }
     requires lengths { length lengths.now ≡ edge_count mesh.now }
+    requires signed { AreSigned mesh.now signatures.now count }
+    requires ways { ways.old ≡ mesh.now.vertices }
     ensures first { (trees : ℕ → Trees) → AreChosen mesh.now lengths.now trees → option_map (loop_in mesh.now trees) result ≡ first_of (candidates mesh.now lengths.now trees) }
     ensures made { IsMadeFor mesh.now desk.new }
 {
@@ -52,9 +101,12 @@ fn first_candidate(mesh: &HalfMesh, lengths: &Lengths, desk: &mut LoopDesk) -> O
     let _lengths = lengths.count();
     let mut first = None;
     for base in 0..mesh.vertices() {
-        desk.greedy(mesh, lengths, VertexId::new(base));
-        let next = first_of(desk)?;
-        first = Some(shorter_of(first, next));
+        desk.grow_tree(mesh, lengths, VertexId::new(base));
+        if !is_beaten(mesh, lengths, signatures, desk.tree(), ways, count, &first) {
+            desk.find_loops(mesh, lengths);
+            let next = first_of(desk)?;
+            first = Some(shorter_of(first, next));
+        }
     }
     first
 }
@@ -75,8 +127,18 @@ pub fn least_nonseparating(
 {
     let _surface = mesh.faces();
     let _lengths = lengths.count();
+    let signed = signed_desk(alloc, mesh, lengths)?;
+    let count = signed.cotree().left().len();
     let mut desk = LoopDesk::make(alloc, mesh)?;
-    let Some(candidate) = first_candidate(mesh, lengths, &mut desk) else {
+    let mut ways = Ways::make(alloc, mesh)?;
+    let Some(candidate) = first_candidate(
+        mesh,
+        lengths,
+        signed.cotree(),
+        &mut desk,
+        &mut ways,
+        count,
+    ) else {
         return Ok(None);
     };
     let cycle = cycle_of(alloc, mesh, lengths, &mut desk, candidate)?;

@@ -1,19 +1,23 @@
 //! Signatures of loops.
-ghost use Rattle.std.specs.Prelude.{◌≡◌, ◌<◌, bit_xor, length, slice_index};
+ghost use Rattle.std.specs.Prelude.{◌≡◌, ◌<◌, ◌≤◌, ◌+◌, bit_xor, length, slice_index, IfOk};
 ghost use Rattle.surf_homology.specs.Cells.{Split};
 ghost use Rattle.surf_homology.specs.Independence.{signature_of};
 ghost use Rattle.surf_homology.specs.Trees.{on_path};
 ghost use Rattle.surf_complex.specs.Cells.{cells_of};
 ghost use Rattle.surf_complex.specs.Class.{class_of};
 ghost use Rattle.surf_complex.specs.Loop.{loop_walk};
-ghost use Rattle.surf_complex.specs.Surface.{edge_count};
+ghost use Rattle.surf_complex.specs.Homology.{IsFullCount};
+ghost use Rattle.surf_complex.specs.Surface.{edge_count, face_count};
 ghost use Rattle.surf_tree.specs.Tables.{tree_of};
 ghost use Rattle.surf_cotree.specs.Tables.{IsMadeFor};
-ghost use Rattle.surf_basis.specs.Signing.{AreSignatures, IsClimbed};
+ghost use Rattle.surf_basis.specs.Signing.{AreSignatures, AreSigned, IsClimbed};
 
-use surf_base::{EdgeId, VertexId};
+use std::alloc::Global;
+use surf_base::{EdgeId, NoMemory, VertexId};
 use surf_bits::Signature;
 use surf_cotree::CotreeDesk;
+use surf_lengths::Lengths;
+use surf_loops::LoopDesk;
 use surf_mesh::HalfMesh;
 use surf_tree::TreeDesk;
 
@@ -57,4 +61,23 @@ pub(crate) fn loop_signature(
     signature.add(signatures.signature(edge));
     add_way(mesh, signatures, tree, v, &mut signature);
     signature
+}
+
+// A desk with the loops at vertex 0 and, by its trees, the signatures of all edges.
+pub(crate) fn signed_desk(
+    alloc: Global,
+    mesh: &HalfMesh,
+    lengths: &Lengths,
+) -> Result<LoopDesk, NoMemory>
+    requires lengths { length lengths.now ≡ edge_count mesh.now }
+    requires few { edge_count mesh.now + 2 ≤ mesh.now.vertices + face_count mesh.now + 1024 }
+    ensures signed { IfOk result (λ desk. AreSigned mesh.now desk.cotree (length desk.cotree.left)) }
+    ensures full { IfOk result (λ desk. IsFullCount mesh.now (length desk.cotree.left)) }
+{
+    let _surface = mesh.faces();
+    let _lengths = lengths.count();
+    let mut desk = LoopDesk::make(alloc, mesh)?;
+    desk.greedy(mesh, lengths, VertexId::new(0));
+    desk.sign(mesh);
+    Ok(desk)
 }

@@ -19,3 +19,4 @@ mod ways;
 pub use cert::{dual_rows, left_pairs, tree_rows};
 pub use desk::LoopDesk;
 pub use head::LoopHead;
+pub use heads::loop_length;

@@ -12,6 +12,7 @@ invariant-loop-base l = record {
   kept : (trees : ℕ → Trees) → AreChosen l.mesh l.lengths trees → (d : Split) → IsSplit (cells_of l.mesh) d →
       AreSignatures l.mesh d l.signatures → AreKept l.mesh l.lengths trees d l.base l.choice.kept;
   none : l.choice.offered ≡ [];
-  width : l.choice.width ≡ l.fn.choice.width;
+  width : l.choice.width ≡ l.count;
   made : IsMadeFor l.mesh l.desk;
+  ways : l.ways ≡ l.mesh.vertices;
 }

@@ -1,54 +1,48 @@
-use Rattle.std.proofs.Common.{◌<◌, sym, ap, subst}
+use Rattle.std.proofs.Common.{length, subst}
 use Rattle.std.specs.Prelude.{IfSome}
 use Rattle.std.proofs.lemmas.Result.{IfOk-weaker}
 use Rattle.surf_complex.specs.Homology.{IsFullCount}
 use Rattle.surf_complex.specs.ChoiceLaws.{LeastSimpleBasis}
-use Rattle.surf_complex.proofs.ClassLaws.{some_vertex}
 use Rattle.surf_lengths.proofs.Positive.{lengths_positive}
-use Rattle.surf_basis.specs.Candidates.{Chosen, AreCyclesOf}
+use Rattle.surf_basis.specs.Candidates.{AreCyclesOf}
 use Rattle.surf_basis.specs.Cycles.{first_of, loops_of, IsTheBasis, IsFirstCandidate, IsShortestCycle}
 use Rattle.surf_basis.proofs.First.{first_shortest}
 use Rattle.surf_basis.proofs.Leading.{basis_first}
-use Rattle.surf_basis.proofs.Whole.{left_full, desk_signed, least_of, none_basis, all_inside, the_basis}
+use Rattle.surf_basis.proofs.Whole.{left_count, still_signed, least_of, none_basis, all_inside, the_basis}
 use Rattle.surf_basis.proofs.basis.least_basis.Goals as goal
-
-pub greedy-requires-clause-base : goal.greedy-requires-clause-base
-greedy-requires-clause-base c = subst (λ n. n < c.args.mesh.now.vertices) (sym c.new.ensures) (some_vertex c.args.mesh.now c.faces-surface.ensures.surface)
 
 pub returns-then-count-eq0-clause-chosen : goal.returns-then-count-eq0-clause-chosen
 returns-then-count-eq0-clause-chosen c =
     let mesh = c.args.mesh.now in
     let lengths = c.args.lengths.now in
     let positive = lengths_positive mesh lengths c.count-lengths.ensures.lengths c.requires.lengths in
-    let full = left_full mesh lengths c.new.result c.greedy.new.self c.cotree.result.now c.left-count.result.now c.greedy.ensures.greedy c.cotree.ensures.cotree c.left-count.ensures.left in
-    none_basis mesh lengths c.faces-surface.ensures.surface positive c.new-then-count-eq0.result.items c.new-then-count-eq0.ensures.items (subst (IsFullCount mesh) c.if-count-eq0.true full)
+    let full = left_count mesh c.in_ok-signed.signed.cotree c.cotree.result.now c.left-count.result.now c.in_ok-signed.ensures.full c.cotree.ensures.cotree c.left-count.ensures.left in
+    none_basis mesh lengths c.faces-surface.ensures.surface positive c.new.result.items c.new.ensures.items (subst (IsFullCount mesh) c.if-count-eq0.true full)
 
 pub returns-then-count-eq0-clause-least : goal.returns-then-count-eq0-clause-least
 returns-then-count-eq0-clause-least c =
     let mesh = c.args.mesh.now in
     let lengths = c.args.lengths.now in
     let positive = lengths_positive mesh lengths c.count-lengths.ensures.lengths c.requires.lengths in
-    least_of mesh lengths c.faces-surface.ensures.surface positive (loops_of c.new-then-count-eq0.result.items) (returns-then-count-eq0-clause-chosen c)
+    least_of mesh lengths c.faces-surface.ensures.surface positive (loops_of c.new.result.items) (returns-then-count-eq0-clause-chosen c)
 
 pub choose-requires-clause-signed : goal.choose-requires-clause-signed
 choose-requires-clause-signed c =
-    desk_signed c.args.mesh.now c.args.lengths.now c.new.result c.greedy.new.self c.sign.new.self c.cotree.result.now c.cotree-2.result.now c.left-count.result.now c.in_ok-choice.choice.width
-    c.greedy.ensures.greedy c.cotree.ensures.cotree c.left-count.ensures.left (ap (λ (x : Chosen). x.width) c.in_ok-choice.ensures) c.sign.ensures.rest c.sign.ensures.signed c.cotree-2.ensures.cotree
+    still_signed c.args.mesh.now c.in_ok-signed.signed.cotree c.cotree.result.now c.cotree-2.result.now c.left-count.result.now c.in_ok-signed.ensures.signed
+    c.cotree.ensures.cotree c.left-count.ensures.left c.cotree-2.ensures.cotree
 
-pub choose-requires-clause-count : goal.choose-requires-clause-count
-choose-requires-clause-count c =
-    let mesh = c.args.mesh.now in
-    subst (IsFullCount mesh) (sym (ap (λ (x : Chosen). x.width) c.in_ok-choice.ensures))
-    (left_full mesh c.args.lengths.now c.new.result c.greedy.new.self c.cotree.result.now c.left-count.result.now c.greedy.ensures.greedy c.cotree.ensures.cotree c.left-count.ensures.left)
+pub choose-requires-clause-full : goal.choose-requires-clause-full
+choose-requires-clause-full c =
+    left_count c.args.mesh.now c.in_ok-signed.signed.cotree c.cotree.result.now c.left-count.result.now c.in_ok-signed.ensures.full c.cotree.ensures.cotree c.left-count.ensures.left
 
 pub cycles_of-requires-clause-inside : goal.cycles_of-requires-clause-inside
 cycles_of-requires-clause-inside c =
     let mesh = c.args.mesh.now in
     let lengths = c.args.lengths.now in
     let positive = lengths_positive mesh lengths c.count-lengths.ensures.lengths c.requires.lengths in
-    let signed = desk_signed c.args.mesh.now c.args.lengths.now c.new.result c.greedy.new.self c.sign.new.self c.cotree.result.now c.cotree-2.result.now c.left-count.result.now c.in_ok-choice.choice.width
-    c.greedy.ensures.greedy c.cotree.ensures.cotree c.left-count.ensures.left (ap (λ (x : Chosen). x.width) c.in_ok-choice.ensures) c.sign.ensures.rest c.sign.ensures.signed c.cotree-2.ensures.cotree in
-    all_inside mesh lengths c.faces-surface.ensures.surface positive c.cotree-2.result.now c.in_ok-choice.choice.width signed c.choose.new.choice.kept c.kept.result.now c.choose.ensures.kept c.kept.ensures.kept
+    let signed = still_signed mesh c.in_ok-signed.signed.cotree c.cotree.result.now c.cotree-2.result.now c.left-count.result.now c.in_ok-signed.ensures.signed
+    c.cotree.ensures.cotree c.left-count.ensures.left c.cotree-2.ensures.cotree in
+    all_inside mesh lengths c.faces-surface.ensures.surface positive c.cotree-2.result.now (length c.left-count.result.now) signed c.choose.new.choice.kept c.kept.result.now c.choose.ensures.kept c.kept.ensures.kept
 
 pub returns-clause-chosen : goal.returns-clause-chosen
 returns-clause-chosen c =
@@ -57,10 +51,10 @@ returns-clause-chosen c =
     let surface = c.faces-surface.ensures.surface in
     let positive = lengths_positive mesh lengths c.count-lengths.ensures.lengths c.requires.lengths in
     let kept = c.kept.result.now in
-    let signed = desk_signed mesh lengths c.new.result c.greedy.new.self c.sign.new.self c.cotree.result.now c.cotree-2.result.now c.left-count.result.now c.in_ok-choice.choice.width
-    c.greedy.ensures.greedy c.cotree.ensures.cotree c.left-count.ensures.left (ap (λ (x : Chosen). x.width) c.in_ok-choice.ensures) c.sign.ensures.rest c.sign.ensures.signed c.cotree-2.ensures.cotree in
+    let signed = still_signed mesh c.in_ok-signed.signed.cotree c.cotree.result.now c.cotree-2.result.now c.left-count.result.now c.in_ok-signed.ensures.signed
+    c.cotree.ensures.cotree c.left-count.ensures.left c.cotree-2.ensures.cotree in
     IfOk-weaker c.cycles_of.result (λ cycles. AreCyclesOf mesh lengths kept cycles.items) (λ cycles. IsTheBasis mesh lengths (loops_of cycles.items))
-    (λ cycles are. the_basis mesh lengths surface positive c.cotree-2.result.now c.in_ok-choice.choice.width signed c.choose.new.choice.kept kept cycles.items c.choose.ensures.kept c.kept.ensures.kept are)
+    (λ cycles are. the_basis mesh lengths surface positive c.cotree-2.result.now (length c.left-count.result.now) signed c.choose.new.choice.kept kept cycles.items c.choose.ensures.kept c.kept.ensures.kept are)
     c.cycles_of.ensures.cycles
 
 pub returns-clause-least : goal.returns-clause-least
@@ -76,14 +70,14 @@ returns-then-count-eq0-clause-first c =
     let mesh = c.args.mesh.now in
     let lengths = c.args.lengths.now in
     let positive = lengths_positive mesh lengths c.count-lengths.ensures.lengths c.requires.lengths in
-    basis_first mesh lengths c.faces-surface.ensures.surface positive c.new-then-count-eq0.result.items (returns-then-count-eq0-clause-chosen c)
+    basis_first mesh lengths c.faces-surface.ensures.surface positive c.new.result.items (returns-then-count-eq0-clause-chosen c)
 
 pub returns-then-count-eq0-clause-shortest : goal.returns-then-count-eq0-clause-shortest
 returns-then-count-eq0-clause-shortest c =
     let mesh = c.args.mesh.now in
     let lengths = c.args.lengths.now in
     let positive = lengths_positive mesh lengths c.count-lengths.ensures.lengths c.requires.lengths in
-    first_shortest mesh lengths c.faces-surface.ensures.surface positive (first_of c.new-then-count-eq0.result.items) (returns-then-count-eq0-clause-first c)
+    first_shortest mesh lengths c.faces-surface.ensures.surface positive (first_of c.new.result.items) (returns-then-count-eq0-clause-first c)
 
 pub returns-clause-first : goal.returns-clause-first
 returns-clause-first c =

@@ -11,4 +11,5 @@ invariant-loop-base l = record {
   first : (trees : ℕ → Trees) → AreChosen l.mesh l.lengths trees →
       option_map (loop_in l.mesh trees) l.first ≡ first_of (loops_below l.mesh l.lengths trees l.base);
   made : IsMadeFor l.mesh l.desk;
+  ways : l.ways ≡ l.mesh.vertices;
 }

@@ -1,0 +1,101 @@
+-- A base where every shorter loop is null: nothing that is kept changes there.
+use Rattle.std.proofs.Common.{◌≡◌, ℕ, suc, ◌<◌, ◌≤◌, true, List, length, Some, sym, ap, ◌∙◌, subst, arith, inl, inr, Option, None}
+use Rattle.std.specs.List.{AllByRecursion}
+use Rattle.std.specs.Option.{option_map}
+use Rattle.std.proofs.lemmas.Bool.{cases_lt}
+use Rattle.surf_homology.specs.Cells.{primal, Split, IsSplit}
+use Rattle.surf_homology.specs.Graphs.{IsEven}
+use Rattle.surf_homology.specs.Independence.{signature_of}
+use Rattle.surf_homology.specs.Trees.{Tree, loop}
+use Rattle.surf_homology.proofs.Graphs.{even_same}
+use Rattle.surf_homology.proofs.Independence.{signature_of-same, zero_null}
+use Rattle.surf_complex.specs.Mesh.{Mesh}
+use Rattle.surf_complex.specs.Surface.{edge_count, IsSurface}
+use Rattle.surf_complex.specs.Walk.{parity, ArePositive}
+use Rattle.surf_complex.specs.Cells.{cells_of}
+use Rattle.surf_complex.specs.Class.{class_of}
+use Rattle.surf_complex.specs.Cotree.{is_left}
+use Rattle.surf_complex.specs.Loop.{loop_walk, loop_length}
+use Rattle.surf_complex.specs.ShortestTree.{IsShortestTree}
+use Rattle.surf_complex.specs.Choice.{Trees, AreChosenAt, AreChosen, Loop, loops_at, loops_below}
+use Rattle.surf_complex.proofs.CellLaws.{surfaces_are_cells}
+use Rattle.surf_complex.proofs.GraphWalkLaws.{closed_parity_even}
+use Rattle.surf_complex.proofs.ClassLaws.{runs_loop}
+use Rattle.surf_complex.proofs.ShortestTreeLaws.{shortest_is_tree}
+use Rattle.surf_complex.proofs.ChoiceExists.{heaviest_exists}
+use Rattle.surf_complex.proofs.LeastLaws.{all_each}
+use Rattle.surf_complex.proofs.LoopsAtLaws.{IsLoopAt, loops_each, tree_is, tree_short}
+use Rattle.surf_complex.proofs.LoopsOne.{loops_are_one}
+use Rattle.surf_complex.proofs.FirstCycleLaws.{left_essential}
+use Rattle.surf_basis.specs.declared.candidate.Candidate.{Candidate}
+use Rattle.surf_basis.specs.declared.candidate.Signed.{Signed}
+use Rattle.surf_basis.specs.Candidates.{loop_in, AreKept}
+use Rattle.surf_basis.specs.Cycles.{first_of}
+use Rattle.surf_cotree.specs.Tables.{CotreeTables}
+use Rattle.surf_basis.specs.Signing.{AreSignatures}
+use Rattle.surf_basis.specs.Passing.{AreNullBelow, IsBeaten}
+use Rattle.surf_basis.proofs.First.{first_over}
+use Rattle.surf_basis.proofs.Settled.{IsUpTo, kept_over}
+
+module _ (mesh : Mesh) (lengths : List ℕ) (surface : IsSurface mesh) (positive : ArePositive mesh lengths) (d : Split)
+    (split : IsSplit (cells_of mesh) d) where
+  -- the loop of a left edge isn't null
+  left_class : (base : ℕ) (a : Trees) → AreChosenAt mesh lengths base a → (e : ℕ) → e < edge_count mesh →
+      is_left mesh a.tree a.cotree e ≡ true → class_of mesh d (loop_walk mesh a.tree e) ≡ 0 → ⊥
+  left_class base a at e e_in left zero =
+      let s = cells_of mesh in
+      let chain = loop (primal s) a.tree e in
+      let run = runs_loop mesh lengths surface a.tree (tree_is mesh lengths base a surface positive at)
+      (tree_short mesh lengths base a surface positive at) e e_in in
+      let even : IsEven (primal s) chain = even_same (primal s) chain (parity mesh (loop_walk mesh a.tree e))
+      (λ h l. sym (run.parities h l)) (closed_parity_even mesh surface (loop_walk mesh a.tree e) run.closed.is_closed) in
+      let none : signature_of s d chain ≡ 0 =
+      signature_of-same s d chain (parity mesh (loop_walk mesh a.tree e)) (λ h l. sym (run.parities h l)) ∙ zero in
+      left_essential mesh lengths surface positive base a at e e_in left
+      (zero_null s d (surfaces_are_cells mesh surface).complex split chain even none)
+
+  each_long : (base : ℕ) (a : Trees) → AreChosenAt mesh lengths base a → (size : ℕ) → AreNullBelow mesh lengths d a.tree size →
+      (cs : List Loop) → AllByRecursion (IsLoopAt mesh lengths base a) cs → AllByRecursion (λ c. size ≤ c.size) cs
+  each_long base a at size null cs h = all_each (IsLoopAt mesh lengths base a) (λ c. size ≤ c.size) cs
+      (λ c is. elim (cases_lt c.size size) [
+        | inl shorter ↦
+            let same : c.size ≡ loop_length mesh lengths a.tree c.edge = ap (λ (x : Loop). x.size) is.is in
+            absurd (left_class base a at c.edge is.edge_in is.left (null c.edge is.edge_in (omega (arith, shorter, same))))
+        | inr le ↦ le
+      ]) h
+
+  module _ (trees : ℕ → Trees) (chosen : AreChosen mesh lengths trees) where
+    -- where every shorter loop through the tree at a base is null, no loop that is chosen there is shorter
+    loops_long : (base : ℕ) → base < mesh.vertices → (tree : Tree) → IsShortestTree mesh lengths base tree → (size : ℕ) →
+        AreNullBelow mesh lengths d tree size → AllByRecursion (λ c. size ≤ c.size) (loops_at mesh lengths base (trees base))
+    loops_long base l tree short size null =
+        let (cotree, heaviest) = heaviest_exists mesh lengths tree surface
+        (shortest_is_tree mesh lengths base tree surface positive short) in
+        let a : Trees = record { tree = tree; cotree = cotree } in
+        let at : AreChosenAt mesh lengths base a = record { shortest = short; heaviest = heaviest } in
+        subst (AllByRecursion (λ c. size ≤ c.size))
+        (loops_are_one mesh lengths base a (trees base) surface positive at (chosen base l))
+        (each_long base a at size null (loops_at mesh lengths base a) (loops_each mesh lengths base a))
+
+    pub kept_passed : (base bases : ℕ) (tree : Tree) (kept : List Signed) (size : ℕ) → base < mesh.vertices → bases ≡ suc base →
+        IsShortestTree mesh lengths base tree → AreKept mesh lengths trees d base kept → length kept ≡ length d.left →
+        IsUpTo size kept → AreNullBelow mesh lengths d tree size → AreKept mesh lengths trees d bases kept
+    kept_passed base bases tree kept size l after short k full up null =
+        kept_over mesh lengths trees surface positive chosen d split base bases kept size l after k full up
+        (loops_long base l tree short size null)
+
+    first_passed : (base bases : ℕ) (tree : Tree) (c : Candidate) → base < mesh.vertices → bases ≡ suc base →
+        IsShortestTree mesh lengths base tree → AreNullBelow mesh lengths d tree c.length →
+        option_map (loop_in mesh trees) (Some c) ≡ first_of (loops_below mesh lengths trees base) →
+        option_map (loop_in mesh trees) (Some c) ≡ first_of (loops_below mesh lengths trees bases)
+    first_passed base bases tree c l after short null was =
+        first_over mesh lengths trees surface positive chosen base bases c after
+        (loops_long base l tree short c.length null) was
+
+    pub first_beaten : (base bases : ℕ) (tree : Tree) (s : CotreeTables) (first : Option Candidate) → AreSignatures mesh d s →
+        base < mesh.vertices → bases ≡ suc base → IsShortestTree mesh lengths base tree → IsBeaten mesh lengths s tree first →
+        option_map (loop_in mesh trees) first ≡ first_of (loops_below mesh lengths trees base) →
+        option_map (loop_in mesh trees) first ≡ first_of (loops_below mesh lengths trees bases)
+    first_beaten base bases tree s None are l after short beaten was = absurd beaten
+    first_beaten base bases tree s (Some c) are l after short beaten was =
+        first_passed base bases tree c l after short (beaten d are) was
