@@ -1,7 +1,9 @@
 -- The coordinates of ways up a tree, and of loops through it.
-use Rattle.std.proofs.Common.{◌≡◌, ◌≢◌, ℕ, ◌+◌, ◌<◌, Some, None, List, bit_xor, slice_index, set, length, sym, ap, ◌∙◌, subst, arith, inl, inr, get_or-set_same, get_or-set_other}
-use Rattle.std.specs.Int.Bits.{xor_assoc, xor_comm, xor_zero_l, xor_zero_r}
-use Rattle.std.proofs.lemmas.Bool.{cases_eq}
+use Rattle.std.proofs.Common.{◌≡◌, ◌≢◌, ℕ, ◌<◌, Some, None, List, length, get_or, IsPermutation, Contains, bit_xor, slice_index, sym, ap, ◌∙◌, subst, arith}
+use Rattle.std.specs.List.{range_with_len}
+use Rattle.std.proofs.lemmas.List.FromFn.{length-range_with_len, get_or-range_with_len}
+use Rattle.std.proofs.lemmas.List.Sorted.{All-permutation, Contains-permutation}
+use Rattle.std.specs.Int.Bits.{xor_assoc, xor_comm, xor_zero_l}
 use Rattle.surf_homology.specs.Cells.{Split}
 use Rattle.surf_complex.specs.Loop.{loop_walk}
 use Rattle.surf_complex.specs.Mesh.{Mesh}
@@ -16,15 +18,19 @@ use Rattle.surf_valid.specs.Valid.{tree_of, distance_at, parent_at, or_zero, IsP
 use Rattle.surf_certcheck.specs.Frames.{AreTaken}
 use Rattle.surf_certcheck.specs.Climbs.{IsClimbed}
 
--- one more vertex has the edge to its parent
-pub ups_more : (mesh : Mesh) (rows : TreeRows) (up : List ℕ) (n edge : ℕ) → n < length up →
-    ((v : ℕ) → v < n → v ≢ rows.base → slice_index up v ≡ (tree_of mesh rows).up v) →
-    (n ≢ rows.base → edge ≡ (tree_of mesh rows).up n) → (v : ℕ) → v < n + 1 → v ≢ rows.base →
-    slice_index (set up n edge) v ≡ (tree_of mesh rows).up v
-ups_more mesh rows up n edge l before here v lv ne = elim (cases_eq v n) [
-  | inl same ↦ rw same (get_or-set_same up n edge 0 l ∙ here (λ s. ne (same ∙ s)))
-  | inr other ↦ get_or-set_other up n v edge 0 other ∙ before v (omega (arith, lv, other)) ne
-]
+-- ---- all vertices in some order
+
+pub order_in : (n k d : ℕ) (order : List ℕ) → IsPermutation (range_with_len 0 n) order → k < length order → get_or order k d < n
+order_in n k d order all l = All-permutation (λ v. v < n) (range_with_len 0 n) order all (λ i e m.
+    let inside : i < n = omega (arith, m, length-range_with_len 0 n) in
+    omega (arith, inside, get_or-range_with_len 0 n i e inside)) k d l
+
+pub listed : (n v : ℕ) (order : List ℕ) → IsPermutation (range_with_len 0 n) order → v < n → Contains order v
+listed n v order all l =
+    let here : get_or (range_with_len 0 n) v v ≡ v = omega (arith, get_or-range_with_len 0 n v v l) in
+    Contains-permutation (range_with_len 0 n) order v all (v, omega (arith, l, length-range_with_len 0 n), here)
+
+-- ---- ways
 
 -- a vertex with a parent is not the base, and its parent is one step nearer
 pub record IsStep (mesh : Mesh) (rows : TreeRows) (at parent : ℕ) : Type 0 where
@@ -54,12 +60,11 @@ at_base mesh rows at climbed l is = subst (IsParent mesh rows.base at) is (climb
 
 module _ (mesh : Mesh) (d : Split) (to : ℕ → ℕ) (sets : List ℕ) (taken : AreTaken mesh d to sets) (rows : TreeRows)
     (climbed : IsClimbed mesh rows) where
-  -- an edge that was added, with what is still to come
-  pub way_added : (at edge parent old new added : ℕ) → at < mesh.vertices → IsStep mesh rows at parent →
-      edge ≡ (tree_of mesh rows).up at → added ≡ slice_index sets edge → new ≡ bit_xor old added →
-      bit_xor new (to (way_class mesh d (tree_of mesh rows) parent))
-      ≡ bit_xor old (to (way_class mesh d (tree_of mesh rows) at))
-  way_added at edge parent old new added l step is_edge is sum =
+  -- the way of the parent and the edge to it
+  pub way_summed : (at edge parent above added sum : ℕ) → at < mesh.vertices → IsStep mesh rows at parent →
+      edge ≡ (tree_of mesh rows).up at → added ≡ slice_index sets edge → above ≡ to (way_class mesh d (tree_of mesh rows) parent) →
+      sum ≡ bit_xor (bit_xor 0 above) added → sum ≡ to (way_class mesh d (tree_of mesh rows) at)
+  way_summed at edge parent above added sum l step is_edge is before summed =
       let t = tree_of mesh rows in
       let way = way_class mesh d t in
       let own = edge_signature mesh d (t.up at) in
@@ -67,25 +72,22 @@ module _ (mesh : Mesh) (d : Split) (to : ℕ → ℕ) (sets : List ℕ) (taken :
       let more : to (way at) ≡ bit_xor (to own) (to (way parent)) =
       ap to (way_more mesh d t climbed.tree at l step.apart) ∙ taken.linear.add own (way (t.parent at))
       ∙ ap (λ p. bit_xor (to own) (to (way p))) step.parent_is in
-      ap (λ x. bit_xor x (to (way parent))) (sum ∙ ap (bit_xor old) one)
-      ∙ xor_assoc old (to own) (to (way parent)) ∙ ap (bit_xor old) (sym more)
+      summed ∙ ap (λ x. bit_xor x added) (xor_zero_l above ∙ before) ∙ ap (bit_xor (to (way parent))) one
+      ∙ xor_comm (to (way parent)) (to own) ∙ sym more
 
-  -- at the base nothing is to come
-  pub way_ended : (at sum whole : ℕ) → at ≡ rows.base →
-      bit_xor sum (to (way_class mesh d (tree_of mesh rows) at)) ≡ whole → sum ≡ whole
-  way_ended at sum whole same is =
-      let none : to (way_class mesh d (tree_of mesh rows) at) ≡ 0 =
-      ap (λ n. to (way_class mesh d (tree_of mesh rows) n)) same
-      ∙ ap to (way_none mesh d (tree_of mesh rows)) ∙ taken.linear.zero in
-      sym (xor_zero_r sum) ∙ ap (bit_xor sum) (sym none) ∙ is
+  -- that of the base is empty
+  pub way_empty : (at sum : ℕ) → at ≡ rows.base → sum ≡ 0 → sum ≡ to (way_class mesh d (tree_of mesh rows) at)
+  way_empty at sum same none =
+      none ∙ sym (ap (λ n. to (way_class mesh d (tree_of mesh rows) n)) same
+      ∙ ap to (way_none mesh d (tree_of mesh rows)) ∙ taken.linear.zero)
 
   -- the way to one end, the edge, and the way to the other
-  pub loop_summed : (surface : IsSurface mesh) (e u v nothing first both added all : ℕ) → e < edge_count mesh →
-      u ≡ (ends mesh e).0 → v ≡ (ends mesh e).1 → nothing ≡ 0 →
-      first ≡ bit_xor nothing (to (way_class mesh d (tree_of mesh rows) u)) → added ≡ slice_index sets e →
-      both ≡ bit_xor first added → all ≡ bit_xor both (to (way_class mesh d (tree_of mesh rows) v)) →
+  pub loop_summed : (surface : IsSurface mesh) (e u v near far added all : ℕ) → e < edge_count mesh →
+      u ≡ (ends mesh e).0 → v ≡ (ends mesh e).1 → near ≡ to (way_class mesh d (tree_of mesh rows) u) →
+      far ≡ to (way_class mesh d (tree_of mesh rows) v) → added ≡ slice_index sets e →
+      all ≡ bit_xor (bit_xor (bit_xor 0 near) added) far →
       all ≡ to (walk_signature mesh d (loop_walk mesh (tree_of mesh rows) e))
-  loop_summed surface e u v nothing first both added all l is_u is_v none one is two three =
+  loop_summed surface e u v near far added all l is_u is_v one two is summed =
       let t = tree_of mesh rows in
       let way = way_class mesh d t in
       let a = way (ends mesh e).0 in
@@ -95,11 +97,11 @@ module _ (mesh : Mesh) (d : Split) (to : ℕ → ℕ) (sets : List ℕ) (taken :
       let class : walk_signature mesh d (loop_walk mesh t e) ≡ bit_xor own (bit_xor a b) =
       signatures_are_classes mesh d surface (loop_walk mesh t e) runs.closed.is_closed.is_walk
       ∙ loop_class mesh climbed.lengths d t e surface climbed.tree climbed.short l in
-      let first_is : first ≡ to a =
-      one ∙ ap (λ z. bit_xor z (to (way u))) none ∙ xor_zero_l (to (way u)) ∙ ap (λ n. to (way n)) is_u in
+      let near_is : bit_xor 0 near ≡ to a = xor_zero_l near ∙ one ∙ ap (λ n. to (way n)) is_u in
+      let far_is : far ≡ to b = two ∙ ap (λ n. to (way n)) is_v in
       let added_is : added ≡ to own = is ∙ taken.each e l in
-      let both_is : both ≡ bit_xor (to own) (to a) =
-      two ∙ ap (λ x. bit_xor x added) first_is ∙ ap (bit_xor (to a)) added_is ∙ xor_comm (to a) (to own) in
-      three ∙ ap (λ x. bit_xor x (to (way v))) both_is ∙ ap (λ n. bit_xor (bit_xor (to own) (to a)) (to (way n))) is_v
+      let both_is : bit_xor (bit_xor 0 near) added ≡ bit_xor (to own) (to a) =
+      ap (λ x. bit_xor x added) near_is ∙ ap (bit_xor (to a)) added_is ∙ xor_comm (to a) (to own) in
+      summed ∙ ap (λ x. bit_xor x far) both_is ∙ ap (bit_xor (bit_xor (to own) (to a))) far_is
       ∙ xor_assoc (to own) (to a) (to b) ∙ ap (bit_xor (to own)) (sym (taken.linear.add a b))
       ∙ sym (taken.linear.add own (bit_xor a b)) ∙ ap to (sym class)

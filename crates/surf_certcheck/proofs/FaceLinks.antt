@@ -3,7 +3,6 @@ use Rattle.std.proofs.Common.{◌≡◌, ◌≢◌, ℕ, ◌<◌, ◌+◌, [], �
 use Rattle.std.proofs.Math.Seq.{get_or-append_seam}
 use Rattle.std.proofs.lemmas.List.{length-append, get_or_append_left}
 use Rattle.std.proofs.lemmas.Bool.{cases_eq}
-use Rattle.surf_homology.specs.Cells.{dual as faces}
 use Rattle.surf_complex.specs.Mesh.{Mesh}
 use Rattle.surf_complex.specs.Surface.{face_count, edge_count, faces_of, IsSurface}
 use Rattle.surf_complex.specs.Walk.{edge_number}

@@ -1,13 +1,15 @@
 -- Trees of shortest walks that are climbed edge by edge.
-use Rattle.std.specs.Prelude.{◌≡◌, ◌≢◌, ℕ, ◌<◌, List, length, slice_index}
-use Rattle.surf_homology.specs.Cells.{primal}
+use Rattle.std.specs.Prelude.{◌≡◌, ℕ, ◌<◌, List, slice_index}
+use Rattle.surf_homology.specs.Cells.{primal, Split}
 use Rattle.surf_homology.specs.Trees.{IsTree, IsShortest}
 use Rattle.surf_complex.specs.Cells.{cells_of}
 use Rattle.surf_complex.specs.Mesh.{Mesh}
 use Rattle.surf_complex.specs.Walk.{edge_length}
+use Rattle.surf_sign.specs.Ways.{way_class}
 use Rattle.surf_valid.specs.Rows.{TreeRows}
 use Rattle.surf_valid.specs.Valid.{tree_of, IsTreeValid}
 use Rattle.surf_certcheck.specs.Rows.{HasTreeRows}
+use Rattle.surf_certcheck.specs.Frames.{AreTaken}
 
 -- rows that are a tree of shortest walks by some lengths
 pub record IsClimbed (mesh : Mesh) (rows : TreeRows) : Type 0 where
@@ -17,7 +19,7 @@ pub record IsClimbed (mesh : Mesh) (rows : TreeRows) : Type 0 where
   pub tree : IsTree (primal (cells_of mesh)) (tree_of mesh rows)
   pub short : IsShortest (primal (cells_of mesh)) (edge_length lengths) (tree_of mesh rows)
 
--- a table has for each vertex but the base the edge to its parent
-pub record AreUps (mesh : Mesh) (rows : TreeRows) (up : List ℕ) : Type 0 where
-  pub count : length up ≡ mesh.vertices
-  pub each : (v : ℕ) → v < mesh.vertices → v ≢ rows.base → slice_index up v ≡ (tree_of mesh rows).up v
+-- a table has for each vertex the sum over its way up to the base of what a map makes of the signatures of edges
+abbrev pub AreSummed : Mesh → TreeRows → List ℕ → List ℕ → Type 0
+AreSummed mesh rows sets sums = (d : Split) (to : ℕ → ℕ) → AreTaken mesh d to sets → (v : ℕ) → v < mesh.vertices →
+    slice_index sums v ≡ to (way_class mesh d (tree_of mesh rows) v)

@@ -18,12 +18,14 @@ use crate::frame::frame_cycles;
 use crate::shape::{basis_shape, tree_from};
 use crate::signing::sign_edges;
 use crate::split::{first_split, mark_edges};
+use crate::sums::all_vertices;
 use crate::trees::trees_fault;
 use std::alloc::Global;
-use surf_base::{EdgeId, VertexId};
+use surf_base::VertexId;
 use surf_cert::BasisCert;
 use surf_lengths::Lengths;
 use surf_mesh::HalfMesh;
+use surf_sign::VertexSets;
 
 // The total of a certificate whose trees divide the edges and whose cycles are closed, or its first fault.
 fn check_cycles(
@@ -45,8 +47,9 @@ fn check_cycles(
     let _positive = lengths.count();
     let signs = sign_edges(alloc, mesh, cert, left)?;
     let frame = frame_cycles(alloc, mesh, lengths, cert, signs)?;
-    let mut up = vec![in alloc; EdgeId::new(0); mesh.vertices() as usize]?;
-    match first_uncovered(mesh, lengths, cert, &frame, &mut up) {
+    let mut order = all_vertices(alloc, mesh)?;
+    let mut sums = VertexSets::make(alloc, mesh.vertices(), frame.weights.len() as u32)?;
+    match first_uncovered(mesh, lengths, cert, &frame, &mut order, &mut sums) {
         None => Ok(total_length(mesh, lengths, cert)),
         Some((base, edge)) => {
             let (u, v) = ends_inside(mesh, edge);

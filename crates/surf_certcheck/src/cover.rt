@@ -1,100 +1,44 @@
 //! Whether the loops through the trees of all bases are sums of cycles that are no longer.
-ghost use Rattle.std.specs.Prelude.{◌≡◌, ◌≢◌, ◌<◌, ◌≤◌, ℕ, List, Option, MatchOption, MatchBool, bit_xor, length, map};
+ghost use Rattle.std.specs.Prelude.{◌≡◌, ◌<◌, ◌≤◌, ℕ, List, MatchOption, MatchBool, IsPermutation, length};
+ghost use Rattle.std.specs.List.{range_with_len};
 ghost use Rattle.surf_z2.specs.Space.{Weighed};
 ghost use Rattle.surf_homology.specs.Cells.{Split};
 ghost use Rattle.surf_complex.specs.Surface.{edge_count};
 ghost use Rattle.surf_complex.specs.Signature.{walk_signature};
-ghost use Rattle.surf_complex.specs.Walk.{edge_number};
 ghost use Rattle.surf_complex.specs.Loop.{loop_walk};
-ghost use Rattle.surf_sign.specs.Ways.{way_class};
+ghost use Rattle.surf_valid.specs.Rows.{TreeRows};
 ghost use Rattle.surf_valid.specs.Bases.{IsCovered};
-ghost use Rattle.surf_valid.specs.Valid.{tree_of, parent_at, or_zero, IsParent};
+ghost use Rattle.surf_valid.specs.Valid.{tree_of};
 ghost use Rattle.surf_certcheck.specs.First.{HoldsBelow, FailsFirst};
 ghost use Rattle.surf_certcheck.specs.BasisFaults.{HasTrees, HasBase, AreTreesValid, AreCovered, IsFirstAt};
 ghost use Rattle.surf_certcheck.specs.Frames.{IsFrame, IsFrameOf, AreTaken, IsCoveredBy};
-ghost use Rattle.surf_certcheck.specs.Climbs.{AreUps, IsClimbed};
+ghost use Rattle.surf_certcheck.specs.Climbs.{IsClimbed, AreSummed};
 
-use crate::edges::{edge_up, ends_inside};
+use crate::edges::ends_inside;
 use crate::frame::{Frame, is_placed};
 use crate::heavier::size_of;
 use crate::shape::tree_from;
+use crate::sums::sum_ways;
 use surf_base::{EdgeId, VertexId};
 use surf_bits::Signature;
 use surf_cert::{BasisCert, TreeRows};
 use surf_lengths::Lengths;
 use surf_mesh::HalfMesh;
-use surf_sign::Signs;
-
-// The parent of a vertex.
-fn parent_of(rows: &TreeRows, v: VertexId) -> Option<VertexId>
-    requires vertex { v < length rows.now.parent }
-    ensures parent { result ≡ parent_at rows.now v }
-{
-    rows.parent()[v.index()]
-}
-
-// The edge from a vertex to its parent.
-fn edge_to(mesh: &HalfMesh, v: VertexId, parent: Option<VertexId>) -> EdgeId
-    ensures edge { (base : ℕ) → IsParent mesh.now base v parent → v ≢ base → result ≡ edge_number mesh.now (or_zero parent, v) }
-{
-    match parent {
-        None => EdgeId::new(0),
-        Some(p) => match edge_up(mesh, p, v) {
-            None => EdgeId::new(0),
-            Some(edge) => edge,
-        },
-    }
-}
-
-// Writes for each vertex but the base the edge to its parent.
-fn find_ups(mesh: &HalfMesh, rows: &TreeRows, up: &mut [EdgeId])
-    requires climbed { IsClimbed mesh.now rows.now }
-    requires count { length up.old ≡ mesh.now.vertices }
-    ensures ups { AreUps mesh.now rows.now up.new }
-{
-    for v in 0..mesh.vertices() {
-        let vertex = VertexId::new(v);
-        up[vertex.index()] = edge_to(mesh, vertex, parent_of(rows, vertex));
-    }
-}
-
-// Adds the coordinates of the edges on the way from a vertex up to the base of a tree.
-fn add_way(
-    mesh: &HalfMesh,
-    rows: &TreeRows,
-    up: &[EdgeId],
-    signs: &Signs,
-    from: VertexId,
-    sum: &mut Signature,
-)
-    requires climbed { IsClimbed mesh.now rows.now }
-    requires ups { AreUps mesh.now rows.now up.now }
-    requires count { length signs.now.sets ≡ edge_count mesh.now }
-    requires vertex { from < mesh.now.vertices }
-    ensures added { (d : Split) (to : ℕ → ℕ) → AreTaken mesh.now d to signs.now.sets → sum.new ≡ bit_xor sum.old (to (way_class mesh.now d (tree_of mesh.now rows.now) from)) }
-{
-    let _surface = mesh.faces();
-    let mut at = from;
-    while let Some(parent) = parent_of(rows, at) {
-        sum.add(signs.signature(up[at.index()]));
-        at = parent;
-    }
-}
+use surf_sign::{Signs, VertexSets};
 
 // The coordinates of the loop of an edge: the sum over its two ways to the base and the edge.
-fn loop_set(mesh: &HalfMesh, rows: &TreeRows, up: &[EdgeId], signs: &Signs, e: EdgeId) -> Signature
-    requires climbed { IsClimbed mesh.now rows.now }
-    requires ups { AreUps mesh.now rows.now up.now }
+fn loop_set(mesh: &HalfMesh, signs: &Signs, sums: &VertexSets, e: EdgeId) -> Signature
     requires count { length signs.now.sets ≡ edge_count mesh.now }
+    requires room { length sums.now.sets ≡ mesh.now.vertices }
     requires edge { e < edge_count mesh.now }
-    ensures sum { (d : Split) (to : ℕ → ℕ) → AreTaken mesh.now d to signs.now.sets → result ≡ to (walk_signature mesh.now d (loop_walk mesh.now (tree_of mesh.now rows.now) e)) }
+    ensures sum { (rows : TreeRows) → IsClimbed mesh.now rows → AreSummed mesh.now rows signs.now.sets sums.now.sets → (d : Split) (to : ℕ → ℕ) → AreTaken mesh.now d to signs.now.sets → result ≡ to (walk_signature mesh.now d (loop_walk mesh.now (tree_of mesh.now rows) e)) }
 {
     let _surface = mesh.faces();
     let (u, v) = ends_inside(mesh, e);
     let mut sum = Signature::zero();
-    add_way(mesh, rows, up, signs, u, &mut sum);
+    sum.add(sums.of(u));
     sum.add(signs.signature(e));
-    add_way(mesh, rows, up, signs, v, &mut sum);
+    sum.add(sums.of(v));
     sum
 }
 
@@ -103,19 +47,20 @@ fn is_covered(
     mesh: &HalfMesh,
     lengths: &Lengths,
     rows: &TreeRows,
-    up: &[EdgeId],
+    sums: &VertexSets,
     frame: &Frame,
     e: EdgeId,
 ) -> bool
     requires climbed { IsClimbed mesh.now rows.now }
-    requires ups { AreUps mesh.now rows.now up.now }
+    requires room { length sums.now.sets ≡ mesh.now.vertices }
+    requires summed { AreSummed mesh.now rows.now frame.now.signs.sets sums.now.sets }
     requires lengths { length lengths.now ≡ edge_count mesh.now }
     requires count { length frame.now.signs.sets ≡ edge_count mesh.now }
     requires few { length frame.now.weights.items ≤ 1024 }
     requires edge { e < edge_count mesh.now }
     ensures covered { (d : Split) (cycles : List (Weighed ℕ)) → IsFrame mesh.now d cycles frame.now.signs frame.now.weights.items → MatchBool result (IsCoveredBy mesh.now lengths.now d cycles rows.now e) (IsCoveredBy mesh.now lengths.now d cycles rows.now e → ⊥) }
 {
-    let set = loop_set(mesh, rows, up, &frame.signs, e);
+    let set = loop_set(mesh, &frame.signs, sums, e);
     is_placed(&set, &frame.weights, size_of(mesh, lengths, rows, e))
 }
 
@@ -124,11 +69,12 @@ fn first_at(
     mesh: &HalfMesh,
     lengths: &Lengths,
     rows: &TreeRows,
-    up: &[EdgeId],
+    sums: &VertexSets,
     frame: &Frame,
 ) -> Option<EdgeId>
     requires climbed { IsClimbed mesh.now rows.now }
-    requires ups { AreUps mesh.now rows.now up.now }
+    requires room { length sums.now.sets ≡ mesh.now.vertices }
+    requires summed { AreSummed mesh.now rows.now frame.now.signs.sets sums.now.sets }
     requires lengths { length lengths.now ≡ edge_count mesh.now }
     requires count { length frame.now.signs.sets ≡ edge_count mesh.now }
     requires few { length frame.now.weights.items ≤ 1024 }
@@ -136,7 +82,7 @@ fn first_at(
 {
     for e in 0..mesh.edges() {
         let edge = EdgeId::new(e);
-        if !is_covered(mesh, lengths, rows, up, frame, edge) {
+        if !is_covered(mesh, lengths, rows, sums, frame, edge) {
             return Some(edge);
         }
     }
@@ -149,7 +95,8 @@ pub(crate) fn first_uncovered(
     lengths: &Lengths,
     cert: &BasisCert,
     frame: &Frame,
-    up: &mut [EdgeId],
+    order: &mut [VertexId],
+    sums: &mut VertexSets,
 ) -> Option<(VertexId, EdgeId)>
     requires trees { HasTrees mesh.now cert.now }
     requires bases { HoldsBelow mesh.now.vertices (HasBase cert.now) }
@@ -158,15 +105,17 @@ pub(crate) fn first_uncovered(
     requires frame { IsFrameOf mesh.now lengths.now cert.now (length cert.now.cycles) frame.now.signs frame.now.weights.items }
     requires count { length frame.now.signs.sets ≡ edge_count mesh.now }
     requires few { length frame.now.weights.items ≤ 1024 }
-    requires ups { length up.old ≡ mesh.now.vertices }
+    requires all { IsPermutation (range_with_len 0 mesh.now.vertices) order.old }
+    requires room { length sums.old.sets ≡ mesh.now.vertices }
+    requires width { sums.old.width ≡ frame.now.signs.width }
     ensures first { MatchOption result (HoldsBelow mesh.now.vertices (AreCovered mesh.now lengths.now cert.now)) (λ p. IsFirstAt mesh.now.vertices (edge_count mesh.now) (IsCovered mesh.now lengths.now cert.now) p.0 p.1) }
 {
     let _positive = lengths.count();
     for x in 0..mesh.vertices() {
         let base = VertexId::new(x);
         let rows = tree_from(cert, base);
-        find_ups(mesh, rows, up);
-        if let Some(edge) = first_at(mesh, lengths, rows, up, frame) {
+        sum_ways(mesh, rows, &frame.signs, order, sums);
+        if let Some(edge) = first_at(mesh, lengths, rows, sums, frame) {
             return Some((base, edge));
         }
     }

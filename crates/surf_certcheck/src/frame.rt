@@ -133,6 +133,7 @@ fn admit_all(
     requires few { signs.old.width ≤ 1024 }
     requires frame { IsFrameOf mesh.now lengths.now cert.now 0 signs.old weights.old }
     ensures count { length signs.new.sets ≡ edge_count mesh.now }
+    ensures width { signs.new.width ≡ signs.old.width }
     ensures places { length weights.new ≡ signs.old.width }
     ensures frame { MatchOption result (HoldsBelow (length cert.now.cycles) (IsIndependentAt mesh.now cert.now) × IsFrameOf mesh.now lengths.now cert.now (length cert.now.cycles) signs.new weights.new) (DependsFirst mesh.now cert.now) }
 {
@@ -170,6 +171,7 @@ pub(crate) fn frame_cycles(
     ensures independent { IfOk result (λ f. HoldsBelow (length cert.now.cycles) (IsIndependentAt mesh.now cert.now)) }
     ensures frame { IfOk result (λ f. IsFrameOf mesh.now lengths.now cert.now (length cert.now.cycles) f.signs f.weights.items) }
     ensures count { IfOk result (λ f. length f.signs.sets ≡ edge_count mesh.now) }
+    ensures width { IfOk result (λ f. f.signs.width ≡ length cert.now.cycles) }
     ensures places { IfOk result (λ f. length f.weights.items ≡ length cert.now.cycles) }
     ensures fault { IfErr result (IsDependentFault mesh.now cert.now) }
 {

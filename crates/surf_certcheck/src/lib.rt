@@ -8,7 +8,8 @@
 //!
 //! `check_basis` does the same for a tree at each vertex (trees) and for the cycles: they are closed (cycles), their
 //! signatures by the tree at vertex 0 (signing) are independent, for which each gets a coordinate of its own (frame), and
-//! by these coordinates each loop through each tree is a sum of cycles that are no longer (cover). The cycles of a valid
+//! by these coordinates, summed up along the ways of each tree (sums), each loop through it is a sum of cycles that are no
+//! longer (cover). The cycles of a valid
 //! certificate are a least basis.
 #![tactic(auto)]
 
@@ -26,6 +27,7 @@ mod marks;
 mod shape;
 mod signing;
 mod split;
+mod sums;
 mod tree;
 mod trees;
 

@@ -1,15 +1,13 @@
 -- What is written is read as what was handed in.
 use Rattle.std.proofs.Common.{◌≡◌, ◌≢◌, ◌<◌, ◌≤◌, ◌+◌, ◌^◌, ℕ, zero, suc, Bool, true, false, List, [], ◌∷◌, ◌++◌, length, take, get_or, None, Ok, refl, sym, ◌∙◌, ap, subst, append_assoc, arith, codes}
-use Rattle.std.specs.Prelude.{◌==◌, ◌&&◌, nat_le, nat_lt, decimal, map}
+use Rattle.std.specs.Prelude.{◌==◌, nat_le, nat_lt, decimal, map}
 use Rattle.std.specs.List.{list_any, slice_split, All, AllPairs, zip}
 use Rattle.std.proofs.lemmas.Bool.{le-leb, lt-ltb, ne_eqb}
 use Rattle.std.proofs.lemmas.List.{length-map}
 use Rattle.std.proofs.Math.Seq.{take-append_seam}
 use Rattle.surf_complex.specs.Mesh.{IsFace}
 use Rattle.surf_text.specs.Text.{TextLine, is_line_end, uncommented, trimmed, tokens_of, words_of, onto_lines, numbered_from, rest_after}
-use Rattle.surf_off.specs.declared.header.Header.{Header}
-use Rattle.surf_off.specs.declared.header.Header.TheVariants.{Off}
-use Rattle.surf_off.specs.Off.{◌>>=◌, vertices_at, size_of, corners_at, first_repeat, distinct, face_of, faces_at}
+use Rattle.surf_off.specs.Off.{vertices_at, size_of, corners_at, first_repeat, face_of, faces_at}
 use Rattle.surf_off.specs.Clean.{IsClean, IsVertexLine}
 use Rattle.surf_off.specs.Written.{lines_text, numbers_text, colour_text, face_text, faces_text}
 use Rattle.surf_off.proofs.CleanLines.{none_head, none_tail}

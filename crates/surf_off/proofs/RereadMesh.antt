@@ -1,5 +1,5 @@
 -- A text that is written is read, without limits, as the mesh that was handed in.
-use Rattle.std.proofs.Common.{◌≡◌, ◌<◌, ◌≤◌, ◌+◌, ◌^◌, ℕ, zero, suc, true, false, List, [], ◌∷◌, ◌++◌, length, Some, Ok, refl, sym, ◌∙◌, ap, subst, append_assoc, arith, codes}
+use Rattle.std.proofs.Common.{◌≡◌, ◌<◌, ◌+◌, ◌^◌, ℕ, zero, suc, false, List, [], ◌∷◌, ◌++◌, length, Some, Ok, refl, sym, ◌∙◌, ap, subst, append_assoc, arith, codes}
 use Rattle.std.specs.Prelude.{decimal, slice_index}
 use Rattle.std.specs.List.{list_any, All, zip, range_with_len, sum_by}
 use Rattle.std.proofs.lemmas.Fmt.{decimal_digit}
@@ -12,7 +12,7 @@ use Rattle.surf_text.specs.Text.{is_line_end, tokens_of}
 use Rattle.surf_off.specs.declared.header.Header.{Header}
 use Rattle.surf_off.specs.declared.header.Header.TheVariants.{Off, Coff, Noff, Cnoff, Stoff, Stcoff, Stnoff, Stcnoff}
 use Rattle.surf_off.specs.Keywords.{keyword, header_of}
-use Rattle.surf_off.specs.Off.{◌>>=◌, head_of, counts_of, OffParts, off_in, off_without_limits}
+use Rattle.surf_off.specs.Off.{head_of, counts_of, OffParts, off_in, off_without_limits}
 use Rattle.surf_off.specs.Clean.{IsClean, IsVertexLine, IsOffParts}
 use Rattle.surf_off.specs.Written.{head_text, lines_text, faces_text, mesh_text, copies_text, lines_at, opened_text, point_text, points, no_colours, soup_text, RereadsSoup}
 use Rattle.surf_off.proofs.Decimals.{word_decimal, whole_decimal}

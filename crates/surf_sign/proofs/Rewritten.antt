@@ -1,9 +1,9 @@
 -- Rows of a flat table of which one is written anew.
-use Rattle.std.proofs.Common.{ℕ, suc, ◌<◌, ◌≤◌, ◌≡◌, ◌+◌, ◌-◌, ◌*◌, ◌^◌, refl, sym, ap, ◌∙◌, arith, inl, inr, List, [], ◌∷◌, length, map, take, drop, get_or, cond, true, false, bit_xor, ltb, eqb, eq-eqb, ne_eqb}
+use Rattle.std.proofs.Common.{ℕ, suc, ◌<◌, ◌≤◌, ◌≡◌, ◌+◌, ◌-◌, ◌*◌, ◌^◌, refl, sym, ap, ◌∙◌, arith, inl, inr, List, [], ◌∷◌, length, map, take, drop, set, get_or, get_or-set_same, get_or-set_other, cond, true, false, bit_xor, ltb, eqb, eq-eqb, ne_eqb}
 use Rattle.std.proofs.Math.Nat.{mul-le-mul_right}
 use Rattle.std.proofs.lemmas.Bool.{cases_eq, cases_lt, lt-ltb, le-ltb}
 use Rattle.std.proofs.lemmas.Grind.{same_number_lists}
-use Rattle.std.proofs.lemmas.List.{get_or-take, get_or-drop, get_or_past, get_or-append_right, get_or-map, length-map, length-take-le}
+use Rattle.std.proofs.lemmas.List.{get_or-take, get_or-drop, get_or_past, get_or-append_right, get_or-map, length-map, length-set, length-take-le}
 use Rattle.std.proofs.lemmas.Slice.{take-put_mid, take-put_mid_below, drop-put_mid}
 use borrow.Rule.Slice.PartMut.{put_mid}
 use Rattle.surf_z2.specs.Words.{number}
@@ -124,3 +124,18 @@ rows_whole words k other n first new is =
     rows-at words n new e below ∙ rw (lt-ltb e n below) at here
     ∙ ap (added_where k other) (sym (rows-at words n first e below))
     ∙ sym (get_or-map (added_where k other) (rows_of words n first) e 0 0 (omega (arith, below, size_first))))
+
+-- one row is made anew
+pub rows_set : (words n at row : ℕ) (old new : List ℕ) → at < n →
+    ((e : ℕ) → row_of words new e ≡ cond (eqb at e) row (row_of words old e)) →
+    rows_of words n new ≡ set (rows_of words n old) at row
+rows_set words n at row old new inside is =
+    let size = rows-length words n new in
+    let size_old = rows-length words n old in
+    let rows = rows_of words n old in
+    same_number_lists (rows_of words n new) (set rows at row) (size ∙ sym (length-set rows at row ∙ size_old)) (λ e l.
+    let below : e < n = omega (arith, l, size) in
+    rows-at words n new e below ∙ is e ∙ elim (cases_eq at e) [
+      | inl same ↦ rw (eq-eqb at e same, ← same) (sym (get_or-set_same rows at row 0 (omega (arith, inside, size_old))))
+      | inr ne ↦ rw (ne_eqb at e ne) (sym (get_or-set_other rows at e row 0 (λ s. ne (sym s)) ∙ rows-at words n old e below))
+    ])

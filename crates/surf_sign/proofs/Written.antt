@@ -5,7 +5,7 @@ use Rattle.std.specs.Int.{bit_at}
 use Rattle.std.proofs.lemmas.Bool.{cases_lt}
 use Rattle.std.proofs.lemmas.Nat.Bits.{bit_at-zero}
 use Rattle.std.proofs.Math.Nat.{mul-le-mul_right}
-use Rattle.std.proofs.lemmas.List.{get_or-take, get_or-drop, get_or_past, get_or-replicate, length-replicate, length-take}
+use Rattle.std.proofs.lemmas.List.{get_or-take, get_or-drop, get_or_past, get_or-replicate, length-replicate, length-take, take_all}
 use Rattle.std.proofs.lemmas.Grind.{same_number_lists}
 use Rattle.std.proofs.lemmas.List.FromFn.{get_or-map-range_with_len, length-map-range_with_len, fill_by_all}
 use Rattle.surf_z2.specs.Sieve.{has}
@@ -13,6 +13,7 @@ use Rattle.surf_z2.specs.Words.{number}
 use Rattle.surf_z2.specs.Parity.{xor}
 use Rattle.surf_z2.proofs.Below.{below_law, same_from_has}
 use Rattle.surf_z2.proofs.Words.{bit_number, number_zero}
+use Rattle.surf_bits.proofs.Rows.{front_small}
 use Rattle.surf_homology.specs.Cells.{dual, Split, IsSplit, signature}
 use Rattle.surf_homology.specs.Graphs.{Graph}
 use Rattle.surf_homology.specs.Trees.{Tree, IsTree, on_path}
@@ -39,6 +40,11 @@ cell_room count words e len l is =
     let up : e + 1 ≤ count = omega arith in
     let m : (e + 1) * words ≤ count * words = mul-le-mul_right words up in
     omega (arith, m, is)
+
+-- so many words write no greater number than they have room for
+pub words_small : (words : ℕ) (row : List ℕ) → length row ≤ words → ((k : ℕ) → get_or row k 0 < 2 ^ 64) → number row < 2 ^ (64 * words)
+words_small words row few fit =
+    subst (λ (ws : List ℕ). number ws < 2 ^ (64 * words)) (take_all words row few) (front_small words row fit)
 
 -- the words of a row are those of the table
 pub row_word : (words : ℕ) (table : List ℕ) (e j : ℕ) → j < words →

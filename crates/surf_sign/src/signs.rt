@@ -1,13 +1,14 @@
 //! A table of signatures.
-ghost use Rattle.std.specs.Prelude.{◌≡◌, ◌<◌, ◌≤◌, ◌+◌, ◌/◌, ◌*◌, ◌^◌, ◌==◌, ℕ, if◌then◌else◌, length, map, take, drop, replicate, slice_index, IfOk};
+ghost use Rattle.std.specs.Prelude.{◌≡◌, ◌<◌, ◌≤◌, ◌+◌, ◌*◌, ◌^◌, ◌==◌, ℕ, if◌then◌else◌, length, map, replicate, slice_index, IfOk};
 ghost use Rattle.std.specs.List.{range_with_len};
 ghost use Rattle.surf_homology.specs.Cells.{dual, Split, IsSplit};
 ghost use Rattle.surf_homology.specs.Trees.{IsTree};
 ghost use Rattle.surf_complex.specs.Cells.{cells_of};
 ghost use Rattle.surf_complex.specs.Signature.{edge_signature};
 ghost use Rattle.surf_complex.specs.Surface.{edge_count, face_count};
-ghost use Rattle.surf_sign.specs.Tables.{added_where, row_of, rows_of, face_tree, HangsBy};
+ghost use Rattle.surf_sign.specs.Tables.{added_where, row_of, rows_of, words_for, face_tree, HangsBy};
 
+use crate::rows::{words_at, words_of};
 use crate::signing::write_signs;
 use std::alloc::Global;
 use std::marker::Model;
@@ -36,22 +37,6 @@ impl Model for Signs {
     } };
 
     ghost invariant = { λ s. (s.width ≤ 1024) × (length s.table.items ≡ s.edges * words_for s.width) };
-}
-
-// How many words a set has.
-fn words_of(width: u32) -> usize
-    requires width { width ≤ 1024 }
-    ensures words { result ≡ (width + 63) / 64 }
-{
-    (width as usize + 63) / 64
-}
-
-// So many words of a table from a place on.
-fn words_at(table: &[u64], start: usize, words: usize) -> &[u64]
-    requires room { start + words ≤ length table.now }
-    ensures words { result.now ≡ take words (drop start table.now) }
-{
-    &table[start..start + words]
 }
 
 // Adds a set to the row of an edge where that has a number.
@@ -128,6 +113,7 @@ impl Signs {
     pub fn signature(&self, e: EdgeId) -> Bits<'_>
         requires edge { e < length self.now.sets }
         ensures set { result ≡ slice_index self.now.sets e }
+        ensures within { result < 2 ^ (64 * words_for self.now.width) }
     {
         let words = words_of(self.width);
         Bits::over(words_at(&self.table, e.index() * words, words))

@@ -11,8 +11,8 @@ use Rattle.surf_certcheck.proofs.Independence.{frame_whole}
 use Rattle.surf_certcheck.proofs.Validity.{climbed_at}
 use Rattle.surf_certcheck.proofs.cover.first_uncovered.Goals as goal
 
-pub find_ups-requires-clause-climbed : goal.find_ups-requires-clause-climbed
-find_ups-requires-clause-climbed c =
+pub sum_ways-requires-clause-climbed : goal.sum_ways-requires-clause-climbed
+sum_ways-requires-clause-climbed c =
     let mesh = c.args.mesh.now in
     let cert = c.args.cert.now in
     let is : c.tree_from-rows.result.now ≡ tree_at cert c.loop-x.x =
@@ -68,7 +68,9 @@ loop-x-preserved c =
     let is : c.tree_from-rows.result.now ≡ tree_at cert x =
     c.tree_from-rows.ensures.tree ∙ ap (tree_at cert) c.new-base.ensures in
     record {
-      count = c.find_ups.ensures.ups.count;
+      all = c.sum_ways.ensures.all;
+      room = c.sum_ways.ensures.room;
+      width = c.sum_ways.ensures.width;
       covered = holds_more x (AreCovered mesh lengths cert) c.loop-x.invariant.covered
           (subst (λ rows. HoldsBelow (edge_count mesh) (IsCoveredBy mesh lengths d cycles rows)) is
           (c.in_default.ensures.first d cycles frame));

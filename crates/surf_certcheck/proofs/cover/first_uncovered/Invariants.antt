@@ -1,4 +1,5 @@
-use Rattle.std.proofs.Common.{◌≡◌, length}
+use Rattle.std.proofs.Common.{◌≡◌, length, IsPermutation}
+use Rattle.std.specs.List.{range_with_len}
 use Rattle.surf_certcheck.specs.First.{HoldsBelow}
 use Rattle.surf_certcheck.specs.BasisFaults.{AreCovered}
 use Rattle.surf_certcheck.proofs.cover.first_uncovered.Given as goal
@@ -6,6 +7,8 @@ use Rattle.surf_certcheck.proofs.cover.first_uncovered.Given as goal
 -- the loops at the bases before are covered
 abbrev pub invariant-loop-x : goal.invariant-loop-x
 invariant-loop-x l = record {
-  count : length l.up ≡ l.mesh.vertices;
+  all : IsPermutation (range_with_len 0 l.mesh.vertices) l.order;
+  room : length l.sums.sets ≡ l.mesh.vertices;
+  width : l.sums.width ≡ l.frame.signs.width;
   covered : HoldsBelow l.x (AreCovered l.mesh l.lengths l.cert);
 }

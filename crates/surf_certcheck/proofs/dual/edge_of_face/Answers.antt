@@ -1,4 +1,4 @@
-use Rattle.std.proofs.Common.{true, sym, ◌∙◌}
+use Rattle.std.proofs.Common.{sym, ◌∙◌}
 use Rattle.std.proofs.lemmas.Bool.{true≢false}
 use Rattle.surf_certcheck.proofs.EdgeUp.{number_is}
 use Rattle.surf_certcheck.proofs.FaceEdges.{no_side, side_of}

@@ -1,4 +1,4 @@
-use Rattle.std.proofs.Common.{true, false, eqb, get_or, ap, sym, ◌∙◌}
+use Rattle.std.proofs.Common.{false, eqb, get_or, ap, sym, ◌∙◌}
 use Rattle.surf_z2.specs.Parity.{xor}
 use Rattle.surf_z2.proofs.ParityLaws.{xor_assoc}
 use Rattle.surf_homology.specs.Cells.{dual as faces}

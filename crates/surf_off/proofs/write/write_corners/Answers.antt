@@ -1,4 +1,4 @@
-use Rattle.std.proofs.Common.{◌≡◌, ℕ, List, [], ◌∷◌, ◌++◌, get_or, refl, ◌∙◌, ap, subst, codes}
+use Rattle.std.proofs.Common.{ℕ, List, ◌++◌, get_or, refl, ◌∙◌, ap, subst, codes}
 use Rattle.std.specs.Prelude.{decimal}
 use Rattle.std.proofs.lemmas.List.{append-nil}
 use Rattle.std.proofs.lemmas.Result.{err_from_is_err_and}

@@ -1,4 +1,4 @@
-use Rattle.std.proofs.Common.{◌≡◌, ℕ, ◌++◌, length, refl, codes}
+use Rattle.std.proofs.Common.{◌++◌, length, refl, codes}
 use Rattle.std.specs.Prelude.{decimal}
 use Rattle.std.proofs.lemmas.Result.{err_from_is_err_and}
 use Rattle.surf_text.proofs.Writing.{puts_more, puts_stop}

@@ -1,4 +1,4 @@
-use Rattle.std.proofs.Common.{◌<◌, ◌^◌, ◌≡◌, ◌+◌, ◌-◌, ℕ, List, ◌++◌, length, Result, refl, sym, ◌∙◌, ap, subst, append_assoc, arith}
+use Rattle.std.proofs.Common.{◌<◌, ◌^◌, ◌≡◌, ◌+◌, ◌-◌, ℕ, List, ◌++◌, length, refl, sym, ◌∙◌, ap, subst, append_assoc, arith}
 use Rattle.std.proofs.lemmas.List.{length-map}
 use Rattle.std.specs.List.{zip, range_with_len, All}
 use Rattle.surf_complex.specs.Mesh.{IsFace}

@@ -1,4 +1,4 @@
-use Rattle.std.proofs.Common.{◌≡◌, ◌<◌, ◌*◌, ◌^◌, ℕ, bit_xor, ap, sym, subst, ◌∙◌, length}
+use Rattle.std.proofs.Common.{◌≡◌, ◌<◌, ◌*◌, ◌^◌, bit_xor, ap, sym, subst, ◌∙◌, length}
 use Rattle.surf_z2.specs.Words.{number}
 use Rattle.surf_bits.proofs.Rows.{number_most}
 use Rattle.surf_bits.proofs.bits.Bits.add_to.Goals as goal

@@ -1,0 +1,15 @@
+use Rattle.std.proofs.Common.{◌≡◌, ◌<◌, ℕ, length, slice_index}
+use Rattle.surf_homology.specs.Cells.{Split}
+use Rattle.surf_sign.specs.Ways.{way_class}
+use Rattle.surf_valid.specs.Valid.{tree_of}
+use Rattle.surf_certcheck.specs.Frames.{AreTaken}
+use Rattle.surf_certcheck.proofs.sums.sum_ways.Given as goal
+
+-- the vertices before in the list have their sums
+abbrev pub invariant-loop-k : goal.invariant-loop-k
+invariant-loop-k l = record {
+  summed : (d : Split) (to : ℕ → ℕ) → AreTaken l.mesh d to l.signs.sets → (j : ℕ) → j < l.k →
+      slice_index l.sums.sets (slice_index l.order j) ≡ to (way_class l.mesh d (tree_of l.mesh l.rows) (slice_index l.order j));
+  room : length l.sums.sets ≡ l.mesh.vertices;
+  width : l.sums.width ≡ l.signs.width;
+}

@@ -1,0 +1,19 @@
+//! Rows of words.
+ghost use Rattle.std.specs.Prelude.{◌≡◌, ◌≤◌, ◌+◌, ◌/◌, ◌<◌, ◌^◌, ℕ, length, take, drop, slice_index};
+
+/// How many words a set has.
+pub(crate) fn words_of(width: u32) -> usize
+    requires width { width ≤ 1024 }
+    ensures words { result ≡ (width + 63) / 64 }
+{
+    (width as usize + 63) / 64
+}
+
+/// So many words of a table from a place on.
+pub(crate) fn words_at(table: &[u64], start: usize, words: usize) -> &[u64]
+    requires room { start + words ≤ length table.now }
+    ensures words { result.now ≡ take words (drop start table.now) }
+    ensures fit { (k : ℕ) → slice_index result.now k < 2 ^ 64 }
+{
+    &table[start..start + words]
+}
