@@ -1,4 +1,4 @@
--- Trees of shortest walks that are climbed edge by edge.
+-- Trees of shortest walks, and sums along their ways.
 use Rattle.std.specs.Prelude.{◌≡◌, ℕ, ◌<◌, List, slice_index}
 use Rattle.surf_homology.specs.Cells.{primal, Split}
 use Rattle.surf_homology.specs.Trees.{IsTree, IsShortest}

@@ -9,8 +9,7 @@
 //! `check_basis` does the same for a tree at each vertex (trees) and for the cycles: they are closed (cycles), their
 //! signatures by the tree at vertex 0 (signing) are independent, for which each gets a coordinate of its own (frame), and
 //! by these coordinates, summed up along the ways of each tree (sums), each loop through it is a sum of cycles that are no
-//! longer (cover). The cycles of a valid
-//! certificate are a least basis.
+//! longer (cover). The cycles of a valid certificate are a least basis.
 #![tactic(auto)]
 
 mod basis;

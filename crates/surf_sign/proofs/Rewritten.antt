@@ -126,16 +126,16 @@ rows_whole words k other n first new is =
     ∙ sym (get_or-map (added_where k other) (rows_of words n first) e 0 0 (omega (arith, below, size_first))))
 
 -- one row is made anew
-pub rows_set : (words n at row : ℕ) (old new : List ℕ) → at < n →
-    ((e : ℕ) → row_of words new e ≡ cond (eqb at e) row (row_of words old e)) →
-    rows_of words n new ≡ set (rows_of words n old) at row
-rows_set words n at row old new inside is =
+pub rows_set : (words n at written : ℕ) (old new : List ℕ) → at < n →
+    ((e : ℕ) → row_of words new e ≡ cond (eqb at e) written (row_of words old e)) →
+    rows_of words n new ≡ set (rows_of words n old) at written
+rows_set words n at written old new inside is =
     let size = rows-length words n new in
     let size_old = rows-length words n old in
     let rows = rows_of words n old in
-    same_number_lists (rows_of words n new) (set rows at row) (size ∙ sym (length-set rows at row ∙ size_old)) (λ e l.
+    same_number_lists (rows_of words n new) (set rows at written) (size ∙ sym (length-set rows at written ∙ size_old)) (λ e l.
     let below : e < n = omega (arith, l, size) in
     rows-at words n new e below ∙ is e ∙ elim (cases_eq at e) [
-      | inl same ↦ rw (eq-eqb at e same, ← same) (sym (get_or-set_same rows at row 0 (omega (arith, inside, size_old))))
-      | inr ne ↦ rw (ne_eqb at e ne) (sym (get_or-set_other rows at e row 0 (λ s. ne (sym s)) ∙ rows-at words n old e below))
+      | inl same ↦ rw (eq-eqb at e same, ← same) (sym (get_or-set_same rows at written 0 (omega (arith, inside, size_old))))
+      | inr ne ↦ rw (ne_eqb at e ne) (sym (get_or-set_other rows at e written 0 (λ s. ne (sym s)) ∙ rows-at words n old e below))
     ])

@@ -13,7 +13,7 @@ use Rattle.surf_z2.specs.Words.{number}
 use Rattle.surf_z2.specs.Parity.{xor}
 use Rattle.surf_z2.proofs.Below.{below_law, same_from_has}
 use Rattle.surf_z2.proofs.Words.{bit_number, number_zero}
-use Rattle.surf_bits.proofs.Rows.{front_small}
+use Rattle.surf_bits.proofs.Rows.{front_small, take_most}
 use Rattle.surf_homology.specs.Cells.{dual, Split, IsSplit, signature}
 use Rattle.surf_homology.specs.Graphs.{Graph}
 use Rattle.surf_homology.specs.Trees.{Tree, IsTree, on_path}
@@ -24,7 +24,7 @@ use Rattle.surf_complex.specs.Surface.{edge_count, IsSurface}
 use Rattle.surf_complex.specs.Cells.{cells_of}
 use Rattle.surf_complex.specs.Signature.{edge_signature}
 use Rattle.surf_complex.proofs.CellLaws.{surfaces_are_cells}
-use Rattle.surf_sign.specs.Tables.{row_of, rows_of, face_tree, HangsBy}
+use Rattle.surf_sign.specs.Tables.{Signed, words_for, row_of, rows_of, face_tree, HangsBy}
 use Rattle.surf_sign.specs.Signs.{sign_bit, has_left}
 
 -- ---- rows of a flat table
@@ -177,3 +177,24 @@ rows_none words count n =
       | inl l ↦ row_word words (zeros n) e k l ∙ zeros_at n (e * words + k)
       | inr past ↦ row_past words (zeros n) e k past
     ]
+
+-- ---- one row, lent
+
+module _ (s : Signed) (width count e : ℕ) (table : List ℕ)
+    (view : record { width = width; sets = rows_of (words_for width) count table } ≡ s) (inside : e < length s.sets) where
+  below : e < count
+  below = subst (λ n. e < n) (ap (λ (t : Signed). length t.sets) (sym view) ∙ rows-length (words_for width) count table) inside
+
+  -- the table has room for it
+  pub row_room : length table ≡ count * words_for width → e * words_for width + words_for width ≤ length table
+  row_room size = cell_room count (words_for width) e (length table) below size
+
+  -- its words write the set at its place
+  pub row_lent : (row : List ℕ) → row ≡ take (words_for width) (drop (e * words_for width) table) →
+      ((k : ℕ) → get_or row k 0 < 2 ^ 64) → (number row ≡ get_or s.sets e 0) × (number row < 2 ^ (64 * words_for s.width))
+  row_lent row is fit =
+      let w = words_for width in
+      let few : length row ≤ w = omega (arith, ap (λ (ws : List ℕ). length ws) is, take_most w (drop (e * w) table)) in (
+        ap number is ∙ sym (rows-at w count table e below) ∙ ap (λ (t : Signed). get_or t.sets e 0) view,
+        subst (λ (t : Signed). number row < 2 ^ (64 * words_for t.width)) view (words_small w row few fit),
+      )

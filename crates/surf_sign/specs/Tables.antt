@@ -1,4 +1,4 @@
--- Tables of sets by the numbers of edges, and of a tree of faces.
+-- Tables of sets by the numbers of edges or vertices, and of a tree of faces.
 use Rattle.std.specs.Prelude.{◌≡◌, ◌≢◌, ℕ, ◌+◌, ◌*◌, ◌/◌, ◌<◌, if◌then◌else◌, bit_xor, map, take, drop, List, slice_index}
 use Rattle.std.specs.List.{range_with_len}
 use Rattle.surf_z2.specs.Sieve.{has}
@@ -7,7 +7,7 @@ use Rattle.surf_homology.specs.Trees.{Tree}
 use Rattle.surf_complex.specs.Mesh.{Mesh}
 use Rattle.surf_complex.specs.Surface.{face_count}
 
--- sets of numbers below a width, each as one number, by the numbers of edges
+-- sets of numbers below a width, each as one number, by the numbers of edges or vertices
 pub record Signed : Type 0 where
   pub width : ℕ
   pub sets : List ℕ

@@ -2,18 +2,14 @@ use Rattle.std.proofs.Common.{◌≡◌, ◌<◌, ◌∙◌, ℕ, List, cond, eq
 use Rattle.std.specs.Vec.{with_items}
 use Rattle.std.proofs.lemmas.List.{with_items_is}
 use Rattle.surf_sign.specs.Tables.{words_for, row_of, rows_of, Signed}
-use Rattle.surf_sign.proofs.Written.{rows-length, cell_room}
+use Rattle.surf_sign.proofs.Written.{rows-length, row_room}
 use Rattle.surf_sign.proofs.Rewritten.{rows_set}
 use Rattle.surf_sign.proofs.vertex_sets.VertexSets.put.Goals as goal
 
 pub put_at-requires-clause-room : goal.put_at-requires-clause-room
 put_at-requires-clause-room c =
     let s = c.self.inside in
-    let w = words_for s.width in
-    let in_table : c.args.v < s.vertices =
-    subst (λ n. c.args.v < n)
-    (ap (λ (t : Signed). length t.sets) (sym c.self.view_is) ∙ rows-length w s.vertices s.table.items) c.requires.vertex in
-    let room = cell_room s.vertices w c.args.v (length s.table.items) in_table c.self.invariant.1 in
+    let room = row_room c.args.self.now s.width s.vertices c.args.v s.table.items c.self.view_is c.requires.vertex c.self.invariant.1 in
     rw (c.index.ensures, c.words_of-words.ensures.words, c.deref_mut.ensures.value) room
 
 pub returns : goal.returns
