@@ -18,3 +18,4 @@ pub mod Validity
 pub mod Independence
 pub mod BasisFaults
 pub mod OneBasisFault
+pub mod Places

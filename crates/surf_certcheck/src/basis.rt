@@ -1,6 +1,7 @@
 //! Whether a certificate of a basis is valid.
 ghost use Rattle.std.specs.Prelude.{◌≡◌, ◌≢◌, ◌≤◌, ◌+◌, ℕ, IfOk, IfErr, length};
 ghost use Rattle.surf_complex.specs.Homology.{total, IsLeastBasis};
+ghost use Rattle.surf_complex.specs.Places.{IsLeastBasisInOrder, MeasureShortest};
 ghost use Rattle.surf_complex.specs.Surface.{edge_count, face_count};
 ghost use Rattle.surf_valid.specs.Bases.{IsValidBasis, HasShape, basis_total};
 ghost use Rattle.surf_valid.specs.Valid.{is_listed, IsDualValid};
@@ -87,8 +88,8 @@ fn check_edges(
     check_cycles(alloc, mesh, lengths, cert, &marks.left)
 }
 
-/// The total of the cycles of a valid certificate, which are then a least basis: see `surf_valid`. A certificate that
-/// isn't valid is refused with its first fault, in the order of [`CertFault`]. It asks nothing of the certificate.
+/// The total of the cycles of a valid certificate, which are then a least basis, place by place too, and the shortest of
+/// them a shortest cycle that doesn't separate the surface: see `surf_valid`. A certificate that isn't valid is refused with its first fault, in the order of [`CertFault`]. It asks nothing of the certificate.
 pub fn check_basis(
     alloc: Global,
     mesh: &HalfMesh,
@@ -99,6 +100,7 @@ pub fn check_basis(
     requires few { edge_count mesh.now + 2 ≤ mesh.now.vertices + face_count mesh.now + 1024 }
     ensures valid { IfOk result (λ t. IsValidBasis mesh.now lengths.now cert.now × (t ≡ basis_total mesh.now lengths.now cert.now)) }
     ensures least { IfOk result (λ t. IsLeastBasis mesh.now lengths.now cert.now.cycles × (t ≡ total mesh.now lengths.now cert.now.cycles)) }
+    ensures in_order { IfOk result (λ t. IsLeastBasisInOrder mesh.now lengths.now cert.now.cycles × MeasureShortest mesh.now lengths.now cert.now.cycles) }
     ensures fault { IfErr result (IsBasisFault mesh.now lengths.now cert.now) }
     ensures excludes { IfErr result (λ e. e ≢ Memory → IsValidBasis mesh.now lengths.now cert.now → ⊥) }
 {

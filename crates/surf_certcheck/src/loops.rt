@@ -4,6 +4,7 @@ ghost use Rattle.surf_complex.specs.Mesh.{edges, pair, pair_of};
 ghost use Rattle.surf_complex.specs.Surface.{edge_count, face_count};
 ghost use Rattle.surf_complex.specs.Walk.{edge_number};
 ghost use Rattle.surf_complex.specs.Homology.{total, IsLeastLoopSystem};
+ghost use Rattle.surf_complex.specs.Places.{IsLeastLoopSystemInOrder};
 ghost use Rattle.surf_valid.specs.Valid.{HasShape, IsTreeValid, IsDualValid, IsValidLoops, HasNoShorter};
 ghost use Rattle.surf_valid.specs.Valid.{is_listed, loop_size, loops_of, loops_total};
 ghost use Rattle.surf_certcheck.specs.First.{HoldsBelow};
@@ -138,8 +139,8 @@ fn check_edges(
     }
 }
 
-/// The total of the loops of a valid certificate, which is then the least of all loop systems at its base: see
-/// `surf_valid`. A certificate that isn't valid is refused with its first fault, in the order of [`CertFault`]. It asks
+/// The total of the loops of a valid certificate, which is then the least of all loop systems at its base, and they are
+/// least place by place too: see `surf_valid`. A certificate that isn't valid is refused with its first fault, in the order of [`CertFault`]. It asks
 /// nothing of the certificate.
 pub fn check_loops(
     alloc: Global,
@@ -150,6 +151,7 @@ pub fn check_loops(
     requires lengths { length lengths.now ≡ edge_count mesh.now }
     ensures valid { IfOk result (λ t. IsValidLoops mesh.now lengths.now cert.now × (t ≡ loops_total mesh.now lengths.now cert.now)) }
     ensures least { IfOk result (λ t. IsLeastLoopSystem mesh.now lengths.now cert.now.tree.base (loops_of mesh.now cert.now) × (t ≡ total mesh.now lengths.now (loops_of mesh.now cert.now))) }
+    ensures in_order { IfOk result (λ t. IsLeastLoopSystemInOrder mesh.now lengths.now cert.now.tree.base (loops_of mesh.now cert.now)) }
     ensures fault { IfErr result (IsLoopFault mesh.now lengths.now cert.now) }
     ensures excludes { IfErr result (λ e. e ≢ Memory → IsValidLoops mesh.now lengths.now cert.now → ⊥) }
 {

@@ -10,3 +10,4 @@ pub mod ChosenBases
 pub mod OneCert
 pub mod OneBasis
 pub mod ChosenTotals
+pub mod PlaceLaws

@@ -3,3 +3,4 @@ pub mod Valid
 pub mod Bases
 pub mod Chosen
 pub mod Laws
+pub mod PlaceLaws

@@ -10,6 +10,9 @@
 //! - The loops of a valid loop certificate are a least loop system at its base, whichever trees it has
 //!   (`law_of_valid_loops`).
 //! - The cycles of a valid basis certificate are a least basis (`law_of_valid_bases`).
+//! - Both are so place by place, and the shortest loop or cycle of a valid certificate is a shortest of all closed walks
+//!   that are not null: that of a basis is a shortest nonseparating cycle (`law_of_valid_places`,
+//!   `law_of_valid_shortest`).
 //! - The certificate of the trees that are chosen at a base (specs/Chosen.antt) is valid, and there is one. So is that
 //!   of the basis that is chosen from the loops at all bases (`law_of_chosen_certificates`).
 //!
@@ -20,6 +23,9 @@ ghost use Rattle.surf_valid.specs.Laws.{ValidLoopsAreLeast, ValidBasesAreLeast};
 ghost use Rattle.surf_valid.specs.Laws.{ChosenLoopsAreValid, ChosenCertsAreOne};
 ghost use Rattle.surf_valid.specs.Laws.{ChosenBasesAreValid, ChosenBasisCertsAreOne};
 ghost use Rattle.surf_valid.specs.Laws.{ChosenLoopsTotal, ChosenBasisTotal};
+ghost use Rattle.surf_valid.specs.PlaceLaws.{ValidLoopsAreLeastInOrder, ShortestOfValidLoops};
+ghost use Rattle.surf_valid.specs.PlaceLaws.{ValidBasesAreLeastInOrder, ShortestOfValidBases};
+ghost use Rattle.surf_valid.specs.PlaceLaws.{ValidBasesHaveShortest, ValidBasesMeasureShortest};
 
 /// The loops of a valid loop certificate are a least loop system at its base, and its total is theirs.
 pub fn law_of_valid_loops()
@@ -29,6 +35,21 @@ pub fn law_of_valid_loops()
 /// The cycles of a valid basis certificate are a least basis.
 pub fn law_of_valid_bases()
     ensures { ValidBasesAreLeast }
+{}
+
+/// The loops or the cycles of a valid certificate are least place by place, against all independent closed walks.
+pub fn law_of_valid_places()
+    ensures loops { ValidLoopsAreLeastInOrder }
+    ensures bases { ValidBasesAreLeastInOrder }
+{}
+
+/// The shortest of them is a shortest of all closed walks that are not null, and that of a basis is a shortest
+/// nonseparating cycle.
+pub fn law_of_valid_shortest()
+    ensures loops { ShortestOfValidLoops }
+    ensures bases { ShortestOfValidBases }
+    ensures some { ValidBasesHaveShortest }
+    ensures length { ValidBasesMeasureShortest }
 {}
 
 /// The certificate of the choice among ties is valid, and there is one: that of the loops at a base, and that of the

@@ -1,5 +1,6 @@
 use Rattle.surf_certcheck.proofs.BasisFaults.{least_where_ok, none_where_err}
 use Rattle.surf_lengths.proofs.Positive.{lengths_positive}
+use Rattle.surf_certcheck.proofs.Places.{basis_in_order}
 use Rattle.surf_certcheck.proofs.basis.check_basis.Goals as goal
 
 pub returns-clause-least : goal.returns-clause-least
@@ -14,3 +15,11 @@ pub returns-clause-excludes : goal.returns-clause-excludes
 returns-clause-excludes c =
     none_where_err c.args.mesh.now c.args.lengths.now c.args.cert.now c.edges-surface.ensures.surface
     c.check_edges.result c.check_edges.ensures.fault
+
+pub returns-clause-in_order : goal.returns-clause-in_order
+returns-clause-in_order c =
+    let mesh = c.args.mesh.now in
+    let lengths = c.args.lengths.now in
+    basis_in_order mesh lengths c.args.cert.now c.edges-surface.ensures.surface
+    (lengths_positive mesh lengths c.count-positive.ensures.lengths c.requires.lengths) c.check_edges.result
+    c.check_edges.ensures.valid

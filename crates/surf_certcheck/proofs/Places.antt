@@ -1,0 +1,30 @@
+-- A certificate that is found valid is least place by place.
+use Rattle.std.proofs.Common.{◌≡◌, ℕ, List}
+use Rattle.std.specs.Result.{IfOk}
+use Rattle.std.specs.declared.result.Result.{Result}
+use Rattle.std.specs.declared.result.Result.TheVariants.{Ok, Err}
+use Rattle.surf_complex.specs.Mesh.{Mesh}
+use Rattle.surf_complex.specs.Surface.{IsSurface}
+use Rattle.surf_complex.specs.Walk.{ArePositive}
+use Rattle.surf_complex.specs.Places.{IsLeastLoopSystemInOrder, IsLeastBasisInOrder, MeasureShortest}
+use Rattle.surf_valid.specs.Rows.{LoopCert, BasisCert}
+use Rattle.surf_valid.specs.Valid.{IsValidLoops, loops_of, loops_total}
+use Rattle.surf_valid.specs.Bases.{IsValidBasis, basis_total}
+use Rattle.surf_valid.proofs.PlaceLaws.{valid_loops_are_least_in_order, valid_bases_are_least_in_order, valid_bases_measure_shortest}
+use Rattle.surf_certcheck.specs.declared.fault.CertFault.{CertFault}
+
+pub loops_in_order : (mesh : Mesh) (lengths : List ℕ) (cert : LoopCert) → IsSurface mesh → ArePositive mesh lengths →
+    (r : Result ℕ CertFault) → IfOk r (λ t. IsValidLoops mesh lengths cert × (t ≡ loops_total mesh lengths cert)) →
+    IfOk r (λ t. IsLeastLoopSystemInOrder mesh lengths cert.tree.base (loops_of mesh cert))
+loops_in_order mesh lengths cert surface positive (Ok t) is =
+    valid_loops_are_least_in_order mesh lengths cert surface positive is.0
+loops_in_order mesh lengths cert surface positive (Err e) is = tt
+
+pub basis_in_order : (mesh : Mesh) (lengths : List ℕ) (cert : BasisCert) → IsSurface mesh → ArePositive mesh lengths →
+    (r : Result ℕ CertFault) → IfOk r (λ t. IsValidBasis mesh lengths cert × (t ≡ basis_total mesh lengths cert)) →
+    IfOk r (λ t. IsLeastBasisInOrder mesh lengths cert.cycles × MeasureShortest mesh lengths cert.cycles)
+basis_in_order mesh lengths cert surface positive (Ok t) is = (
+  valid_bases_are_least_in_order mesh lengths cert surface positive is.0,
+  valid_bases_measure_shortest mesh lengths cert surface positive is.0,
+)
+basis_in_order mesh lengths cert surface positive (Err e) is = tt
