@@ -26,7 +26,7 @@ use Rattle.surf_complex.proofs.ChoiceExists.{heaviest_exists}
 use Rattle.surf_complex.proofs.LeastLaws.{all_each}
 use Rattle.surf_complex.proofs.LoopsAtLaws.{IsLoopAt, loops_each, tree_is, tree_short}
 use Rattle.surf_complex.proofs.LoopsOne.{loops_are_one}
-use Rattle.surf_complex.proofs.FirstCycleLaws.{left_essential}
+use Rattle.surf_complex.proofs.FirstCycleLaws.{left_class}
 use Rattle.surf_basis.specs.declared.candidate.Candidate.{Candidate}
 use Rattle.surf_basis.specs.declared.candidate.Signed.{Signed}
 use Rattle.surf_basis.specs.Candidates.{loop_in, AreKept}
@@ -39,28 +39,13 @@ use Rattle.surf_basis.proofs.Settled.{IsUpTo, kept_over}
 
 module _ (mesh : Mesh) (lengths : List ℕ) (surface : IsSurface mesh) (positive : ArePositive mesh lengths) (d : Split)
     (split : IsSplit (cells_of mesh) d) where
-  -- the loop of a left edge isn't null
-  left_class : (base : ℕ) (a : Trees) → AreChosenAt mesh lengths base a → (e : ℕ) → e < edge_count mesh →
-      is_left mesh a.tree a.cotree e ≡ true → class_of mesh d (loop_walk mesh a.tree e) ≡ 0 → ⊥
-  left_class base a at e e_in left zero =
-      let s = cells_of mesh in
-      let chain = loop (primal s) a.tree e in
-      let run = runs_loop mesh lengths surface a.tree (tree_is mesh lengths base a surface positive at)
-      (tree_short mesh lengths base a surface positive at) e e_in in
-      let even : IsEven (primal s) chain = even_same (primal s) chain (parity mesh (loop_walk mesh a.tree e))
-      (λ h l. sym (run.parities h l)) (closed_parity_even mesh surface (loop_walk mesh a.tree e) run.closed.is_closed) in
-      let none : signature_of s d chain ≡ 0 =
-      signature_of-same s d chain (parity mesh (loop_walk mesh a.tree e)) (λ h l. sym (run.parities h l)) ∙ zero in
-      left_essential mesh lengths surface positive base a at e e_in left
-      (zero_null s d (surfaces_are_cells mesh surface).complex split chain even none)
-
   each_long : (base : ℕ) (a : Trees) → AreChosenAt mesh lengths base a → (size : ℕ) → AreNullBelow mesh lengths d a.tree size →
       (cs : List Loop) → AllByRecursion (IsLoopAt mesh lengths base a) cs → AllByRecursion (λ c. size ≤ c.size) cs
   each_long base a at size null cs h = all_each (IsLoopAt mesh lengths base a) (λ c. size ≤ c.size) cs
       (λ c is. elim (cases_lt c.size size) [
         | inl shorter ↦
             let same : c.size ≡ loop_length mesh lengths a.tree c.edge = ap (λ (x : Loop). x.size) is.is in
-            absurd (left_class base a at c.edge is.edge_in is.left (null c.edge is.edge_in (omega (arith, shorter, same))))
+            absurd (left_class mesh lengths surface positive d split base a at c.edge is.edge_in is.left (null c.edge is.edge_in (omega (arith, shorter, same))))
         | inr le ↦ le
       ]) h
 

@@ -89,7 +89,8 @@ fn check_edges(
 }
 
 /// The total of the cycles of a valid certificate, which are then a least basis, place by place too, and the shortest of
-/// them a shortest cycle that doesn't separate the surface: see `surf_valid`. A certificate that isn't valid is refused with its first fault, in the order of [`CertFault`]. It asks nothing of the certificate.
+/// them a shortest cycle that doesn't separate the surface: see `surf_valid`. A certificate that isn't valid is refused
+/// with its first fault, in the order of [`CertFault`]. It asks nothing of the certificate.
 pub fn check_basis(
     alloc: Global,
     mesh: &HalfMesh,

@@ -140,8 +140,8 @@ fn check_edges(
 }
 
 /// The total of the loops of a valid certificate, which is then the least of all loop systems at its base, and they are
-/// least place by place too: see `surf_valid`. A certificate that isn't valid is refused with its first fault, in the order of [`CertFault`]. It asks
-/// nothing of the certificate.
+/// least place by place too: see `surf_valid`. A certificate that isn't valid is refused with its first fault, in the
+/// order of [`CertFault`]. It asks nothing of the certificate.
 pub fn check_loops(
     alloc: Global,
     mesh: &HalfMesh,

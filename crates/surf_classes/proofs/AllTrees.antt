@@ -1,6 +1,5 @@
 -- The odd evidence is that of all trees that are chosen at a base.
-use Rattle.std.proofs.Common.{◌≡◌, ℕ, zero, suc, ◌+◌, ◌<◌, Bool, true, false, not, ◌&&◌, cond, eqb, List, ◌∷◌, length, get_or, refl, sym, ap, ◌∙◌, arith, inl, inr}
-use Rattle.std.specs.List.{filter, range_with_len}
+use Rattle.std.proofs.Common.{◌≡◌, ℕ, zero, suc, ◌<◌, Bool, true, false, not, ◌&&◌, cond, eqb, List, length, get_or, refl, sym, ap, ◌∙◌, arith, inl, inr}
 use Rattle.std.proofs.lemmas.Bool.{cases_eq, eq-eqb, ne_eqb}
 use Rattle.std.proofs.lemmas.List.Elements.{All-from_recursion}
 use Rattle.surf_z2.specs.Parity.{xor}
@@ -8,6 +7,7 @@ use Rattle.surf_z2.specs.Space.{Chain}
 use Rattle.surf_z2.specs.Below.{number_of}
 use Rattle.surf_z2.proofs.Below.{same_from}
 use Rattle.surf_z2.proofs.ParityLaws.{any_below-same, odd_below-same}
+use Rattle.surf_z2.proofs.Passing.{filter_same}
 use Rattle.surf_homology.specs.Cells.{signature, chain_signature}
 use Rattle.surf_homology.specs.Independence.{signature_of}
 use Rattle.surf_homology.specs.Trees.{on_way, on_path}
@@ -23,17 +23,6 @@ use Rattle.surf_complex.proofs.LoopsOne.{trees_same, cotrees_same}
 use Rattle.surf_classes.specs.EvidenceLaws.{OddChoiceIsThatOfAllTrees}
 use Rattle.surf_classes.proofs.Listed.{passing_below}
 use Rattle.surf_classes.proofs.OddChoice.{choice_same}
-
--- tests that agree keep the same numbers
-kept_same : (p q : ℕ → Bool) (a n : ℕ) → ((k : ℕ) → k < a + n → p k ≡ q k) →
-    filter p (range_with_len a n) ≡ filter q (range_with_len a n)
-kept_same p q a zero same = refl
-kept_same p q a (suc n) same =
-    let rest : filter p (range_with_len (a + 1) n) ≡ filter q (range_with_len (a + 1) n) =
-    kept_same p q (a + 1) n (λ k l. same k (omega (arith, l))) in
-    ap (λ b. cond b (a ∷ filter p (range_with_len (a + 1) n)) (filter p (range_with_len (a + 1) n)))
-    (same a (omega arith))
-    ∙ ap (λ xs. cond (q a) (a ∷ xs) xs) rest
 
 module _ (mesh : Mesh) (lengths : List ℕ) (base : ℕ) (a b : Trees) (surface : IsSurface mesh)
     (positive : ArePositive mesh lengths) (x : AreChosenAt mesh lengths base a) (y : AreChosenAt mesh lengths base b) where
@@ -56,7 +45,7 @@ module _ (mesh : Mesh) (lengths : List ℕ) (base : ℕ) (a b : Trees) (surface 
   cotree_same e l = (cotrees_same mesh lengths base a b surface positive x y).edges e l
 
   left_same : left_edges mesh a.tree a.cotree ≡ left_edges mesh b.tree b.cotree
-  left_same = kept_same (is_left mesh a.tree a.cotree) (is_left mesh b.tree b.cotree) 0 (edge_count mesh)
+  left_same = filter_same (is_left mesh a.tree a.cotree) (is_left mesh b.tree b.cotree) 0 (edge_count mesh)
       (λ e l.
       let e_in : e < edge_count mesh = omega arith in
       ap (λ t. not t && not (cotree_edges mesh a.cotree e)) (tree_same e)

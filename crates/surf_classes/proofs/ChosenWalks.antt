@@ -16,7 +16,7 @@ use Rattle.surf_complex.proofs.CellLaws.{surfaces_are_cells}
 use Rattle.surf_complex.proofs.ClassLaws.{some_split, some_vertex}
 use Rattle.surf_classes.specs.Shortest.{IsInClass, IsShortestInClass, IsChosenWalk}
 use Rattle.surf_classes.specs.ShortestLaws.{ChosenWalkIsOne, NullChoiceIsVertex}
-use Rattle.surf_classes.proofs.Sought.{least_such}
+use Rattle.surf_z2.proofs.Sought.{least_such}
 use Rattle.surf_classes.proofs.SignedWalks.{walk_sum, Goes, IsLeastWalk, Found, seek, least_one, least_at, least_from}
 use Rattle.surf_classes.proofs.Rounds.{Signed, reverse_at, homologous_by_signature, backwards, Round, forwards}
 

@@ -13,7 +13,7 @@ use Rattle.surf_classes.specs.Evidence.{is_listed, has_odd_sides, is_odd_in, IsN
 use Rattle.surf_classes.specs.Faults.{Fault, no_face, no_boundary, no_pair, odd_face, even_number, IsNoFace, IsNoBoundary, IsNoPair, IsNullFault, IsOddFault}
 use Rattle.surf_classes.specs.EvidenceLaws.{FaultsAreTold}
 use Rattle.surf_classes.proofs.Listed.{Climbing, climbing_from, listed_above}
-use Rattle.surf_classes.proofs.Sought.{least_such}
+use Rattle.surf_z2.proofs.Sought.{least_such}
 
 -- ---- faces
 

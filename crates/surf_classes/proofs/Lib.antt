@@ -4,7 +4,6 @@ pub mod OneKind
 pub mod NullChoice
 pub mod OddChoice
 pub mod AllTrees
-pub mod Sought
 pub mod SignedWalks
 pub mod Rounds
 pub mod ChosenWalks

@@ -15,7 +15,7 @@ use Rattle.surf_complex.proofs.EdgeLaws.{among-contains, contains_from_among}
 use Rattle.surf_complex.proofs.SignatureLaws.{signatures_are_classes}
 use Rattle.surf_classes.specs.Cover.{IsSet, IsTightFor, IsLeastTight, IsReadBack, IsReadTo, IsCertified, step_signature, step_length}
 use Rattle.surf_classes.specs.ShortestLaws.{ReadBackIsChosen, TablesAreReadBack, TablesReadOn}
-use Rattle.surf_classes.proofs.Sought.{least_such}
+use Rattle.surf_z2.proofs.Sought.{least_such}
 use Rattle.surf_classes.proofs.SignedWalks.{xor_on, goes_over, after, step_long}
 use Rattle.surf_classes.proofs.Rounds.{Signed, forwards}
 use Rattle.surf_classes.proofs.ChosenWalks.{Least, LeastRound, chosen_from}

@@ -15,7 +15,7 @@ use Rattle.surf_complex.proofs.EdgeLaws.{contains_from_among}
 use Rattle.surf_complex.proofs.FaceLaws.{pair_comm}
 use Rattle.surf_complex.proofs.GraphWalkLaws.{joined, between_is_number, from_joined}
 use Rattle.surf_classes.specs.Cover.{IsSet, LeadsWith, IsSignedDistance, IsTightFor}
-use Rattle.surf_classes.proofs.Sought.{least_such}
+use Rattle.surf_z2.proofs.Sought.{least_such}
 use Rattle.surf_classes.proofs.SignedWalks.{walk_sum, turned, Goes, Found, seek}
 use Rattle.surf_classes.proofs.Rounds.{Signed, signed_walk, mesh_walk, turn}
 

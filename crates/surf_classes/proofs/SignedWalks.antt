@@ -10,7 +10,7 @@ use Rattle.surf_homology.specs.Loops.{IsSimple}
 use Rattle.surf_homology.proofs.Graphs.{edge_between_is, walk-append}
 use Rattle.surf_homology.proofs.Loops.{joins_turned}
 use Rattle.surf_homology.proofs.Trees.{joined_in}
-use Rattle.surf_classes.proofs.Sought.{least_such}
+use Rattle.surf_z2.proofs.Sought.{least_such}
 
 -- ---- sums of sets
 

@@ -14,15 +14,11 @@ use Rattle.surf_z2.proofs.Numbers.{Decides-is_nothing}
 use Rattle.surf_z2.proofs.Passing.{passing_before, filter_all}
 use Rattle.surf_z2.proofs.Ranks.{in_whole}
 use Rattle.surf_z2.proofs.Span.{InSpan, in_from_spanned, spanned_from_in}
-use Rattle.surf_homology.specs.Cells.{primal, Split, IsSplit}
-use Rattle.surf_homology.specs.Graphs.{IsEven}
-use Rattle.surf_homology.specs.Independence.{signature_of}
-use Rattle.surf_homology.specs.Trees.{Tree, loop}
-use Rattle.surf_homology.proofs.Graphs.{even_same}
-use Rattle.surf_homology.proofs.Independence.{signature_of-same, zero_null}
+use Rattle.surf_homology.specs.Cells.{Split, IsSplit}
+use Rattle.surf_homology.specs.Trees.{Tree}
 use Rattle.surf_complex.specs.Mesh.{Mesh}
 use Rattle.surf_complex.specs.Surface.{edge_count, ends, IsSurface}
-use Rattle.surf_complex.specs.Walk.{IsClosed, edge_length, parity, walk_length, ArePositive}
+use Rattle.surf_complex.specs.Walk.{IsClosed, edge_length, walk_length, ArePositive}
 use Rattle.surf_complex.specs.Homology.{IsIndependent, IsFullCount}
 use Rattle.surf_complex.specs.Cells.{cells_of}
 use Rattle.surf_complex.specs.Class.{class_of, AreShortestTrees}
@@ -31,14 +27,12 @@ use Rattle.surf_complex.specs.Choice.{Trees, AreChosen, Loop, comes_before, walk
 use Rattle.surf_complex.specs.Cotree.{is_left, left_edges}
 use Rattle.surf_complex.specs.FewBases.{is_no_later, place_at, Found, is_within, IsWithin, walks_found, MeetsAll, IsFoundLoop, IsFirstFound, FirstIsAtLeastBase, EndsAreNear, ShortSearchesSuffice}
 use Rattle.surf_complex.proofs.BasisLaws.{contains-map, walk_covered, basis_is, basis_of, basis_is_one}
-use Rattle.surf_complex.proofs.CandidateLaws.{IsLoopBelow, below-sorted, below_contains}
-use Rattle.surf_complex.proofs.CellLaws.{surfaces_are_cells}
+use Rattle.surf_complex.proofs.CandidateLaws.{below-sorted, below_contains}
 use Rattle.surf_complex.proofs.ChoiceExists.{choice_exists}
 use Rattle.surf_complex.proofs.CotreeLaws.{passing_found}
 use Rattle.surf_complex.proofs.ClassLaws.{runs_loop, some_split, null_by_class, independent_by_classes}
 use Rattle.surf_complex.proofs.FewBasesLaws.{no_later-trans, is_loop_within, walk_in_span, loop_in_candidates}
-use Rattle.surf_complex.proofs.FirstCycleLaws.{shortest_trees, left_essential, first_each}
-use Rattle.surf_complex.proofs.GraphWalkLaws.{closed_parity_even}
+use Rattle.surf_complex.proofs.FirstCycleLaws.{shortest_trees, left_class, first_each}
 use Rattle.surf_complex.proofs.GreedyChoiceLaws.{depends_from_spanned}
 use Rattle.surf_complex.proofs.LeastLaws.{all_each, all_mapped}
 use Rattle.surf_complex.proofs.LoopsAtLaws.{IsLoopAt, comes_before-trans, comes_before-strict, loops-sorted}
@@ -128,25 +122,6 @@ module _ (mesh : Mesh) (lengths : List ℕ) (trees : ℕ → Trees) (surface : I
 module _ (mesh : Mesh) (lengths : List ℕ) (searched : ℕ → Tree) (surface : IsSurface mesh)
     (positive : ArePositive mesh lengths) (shortest : AreShortestTrees mesh lengths searched) (trees : ℕ → Trees)
     (chosen : AreChosen mesh lengths trees) (d : Split) (split : IsSplit (cells_of mesh) d) where
-  -- a candidate's class isn't zero
-  candidate_class : (c : Loop) → IsLoopBelow mesh lengths trees mesh.vertices c →
-      class_of mesh d (loop_walk mesh (trees c.base).tree c.edge) ≡ 0 → ⊥
-  candidate_class c h zero_is =
-      let s = cells_of mesh in
-      let at = chosen c.base h.base_in in
-      let own = shortest_trees mesh lengths surface positive trees chosen in
-      let tree = (trees c.base).tree in
-      let walk = loop_walk mesh tree c.edge in
-      let chain = loop (primal s) tree c.edge in
-      let run = runs_loop mesh lengths surface tree (own.is_tree c.base h.base_in)
-      (own.shortest c.base h.base_in) c.edge h.of.edge_in in
-      let even : IsEven (primal s) chain = even_same (primal s) chain (parity mesh walk)
-      (λ f l. sym (run.parities f l)) (closed_parity_even mesh surface walk run.closed.is_closed) in
-      let none : signature_of s d chain ≡ 0 =
-      signature_of-same s d chain (parity mesh walk) (λ f l. sym (run.parities f l)) ∙ zero_is in
-      left_essential mesh lengths surface positive c.base (trees c.base) at c.edge h.of.edge_in h.of.left
-      (zero_null s d (surfaces_are_cells mesh surface).complex split chain even none)
-
   module _ (set : ℕ → Bool) (meets : MeetsAll mesh set) (z e : ℕ) (least : IsFirstFound mesh lengths searched set z e)
       (first : Loop) (rest : List Loop) (is : candidates mesh lengths trees ≡ first ∷ rest) where
     -- the first candidate comes no sooner
@@ -162,7 +137,7 @@ module _ (mesh : Mesh) (lengths : List ℕ) (searched : ℕ → Tree) (surface :
           first.edge h.of.edge_in in
           let size_is : walk_length mesh lengths (loop_walk mesh tree first.edge) ≡ first.size =
           run.size ∙ sym (ap (λ k. k.size) h.of.is) in
-          absurd (candidate_class first h
+          absurd (left_class mesh lengths surface positive d split x (trees x) (chosen x h.base_in) first.edge h.of.edge_in h.of.left
           (walk_in_span mesh lengths searched surface positive shortest d split set meets [] tree.root _ run.closed.is_closed
           (λ y f y_in in_set f_in no_later. elim (cases_eq (class_of mesh d (loop_walk mesh (searched y) f)) 0) [
             | inl zero_is ↦ zero_is

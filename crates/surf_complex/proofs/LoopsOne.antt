@@ -1,9 +1,9 @@
 -- The loops that are chosen at a base are one list.
-use Rattle.std.proofs.Common.{◌≡◌, ◌≢◌, ℕ, zero, suc, ◌+◌, ◌<◌, Bool, true, false, not, ◌&&◌, cond, eqb, List, ◌∷◌, ◌++◌, map, refl, sym, ap, ◌∙◌, arith, inl, inr, subst, eq-eqb}
-use Rattle.std.specs.List.{filter, range_with_len}
+use Rattle.std.proofs.Common.{◌≡◌, ◌≢◌, ℕ, zero, suc, ◌<◌, true, false, not, ◌&&◌, eqb, List, ◌∷◌, ◌++◌, refl, sym, ap, ◌∙◌, arith, inl, inr, subst, eq-eqb}
 use Rattle.std.proofs.lemmas.Bool.{cases_eq, ne_eqb}
 use Rattle.surf_z2.specs.Order.{sorted}
 use Rattle.surf_z2.proofs.ParityLaws.{any_below-same}
+use Rattle.surf_z2.proofs.Passing.{mapped_same}
 use Rattle.surf_homology.specs.Cells.{primal, dual}
 use Rattle.surf_homology.specs.Growth.{between}
 use Rattle.surf_homology.specs.Loops.{way_down, way_up}
@@ -21,21 +21,6 @@ use Rattle.surf_complex.specs.ChoiceLaws.{LoopsAreOne}
 use Rattle.surf_complex.proofs.CellLaws.{surfaces_are_cells}
 use Rattle.surf_complex.proofs.ShortestTreeLaws.{shortest_is_tree, shortest_trees_are_one}
 use Rattle.surf_complex.proofs.CotreeLaws.{cotrees_are_one, between_inside}
-
--- two maps of the numbers that pass two tests, where both agree
-mapped_same : {X : Type 0} (p q : ℕ → Bool) (f g : ℕ → X) (a n : ℕ) → ((k : ℕ) → k < a + n → p k ≡ q k) →
-    ((k : ℕ) → k < a + n → f k ≡ g k) → map f (filter p (range_with_len a n)) ≡ map g (filter q (range_with_len a n))
-mapped_same {X} p q f g a zero tests maps = refl
-mapped_same {X} p q f g a (suc n) tests maps =
-    let rest : map f (filter p (range_with_len (a + 1) n)) ≡ map g (filter q (range_with_len (a + 1) n)) =
-    mapped_same p q f g (a + 1) n (λ k l. tests k (omega (arith, l))) (λ k l. maps k (omega (arith, l))) in
-    rw (tests a (omega arith)) (pick (q a) rest)
-  where
-    pick : (b : Bool) → map f (filter p (range_with_len (a + 1) n)) ≡ map g (filter q (range_with_len (a + 1) n)) →
-        map f (cond b (a ∷ filter p (range_with_len (a + 1) n)) (filter p (range_with_len (a + 1) n)))
-        ≡ map g (cond b (a ∷ filter q (range_with_len (a + 1) n)) (filter q (range_with_len (a + 1) n)))
-    pick true rest = rw (maps a (omega arith), rest) refl
-    pick false rest = rest
 
 module _ (mesh : Mesh) (lengths : List ℕ) (base : ℕ) (a b : Trees) (surface : IsSurface mesh)
     (positive : ArePositive mesh lengths) (x : AreChosenAt mesh lengths base a) (y : AreChosenAt mesh lengths base b) where

@@ -1,7 +1,8 @@
 -- Spans and choices of those members of a list that pass a test.
-use Rattle.std.proofs.Common.{◌≡◌, ℕ, zero, suc, ◌<◌, Bool, true, false, cond, List, [], ◌∷◌, ◌++◌, length, map, filter, take, get_or, Contains, Decides, refl, sym, ap, ◌∙◌, subst, arith, ◌⊎◌, inl, inr}
-use Rattle.std.specs.List.{AllByRecursion}
+use Rattle.std.proofs.Common.{◌≡◌, ℕ, zero, suc, ◌+◌, ◌<◌, Bool, true, false, cond, List, [], ◌∷◌, ◌++◌, length, map, filter, take, get_or, Contains, Decides, refl, sym, ap, ◌∙◌, subst, arith, ◌⊎◌, inl, inr}
+use Rattle.std.specs.List.{AllByRecursion, range_with_len}
 use Rattle.std.proofs.lemmas.Bool.{cases_Bool, false≢true}
+use Rattle.std.proofs.lemmas.List.{map-id}
 use Rattle.surf_z2.specs.Space.{Space}
 use Rattle.surf_z2.specs.Order.{merge_from, merge}
 use Rattle.surf_z2.specs.Greedy.{spans, greedy_after}
@@ -274,3 +275,26 @@ module _ {C : Type 0} (comes_before no_later : C → C → Bool) (transitive : (
       Sorted no_later (merge comes_before cs ds)
   merged_by [] ds s t = t
   merged_by (c ∷ cs) ds s t = merged_from c cs s.0 (λ es u. merged_by cs es s.1 u) ds t
+
+-- two maps of the numbers that pass two tests, where both agree
+pub mapped_same : {X : Type 0} (p q : ℕ → Bool) (f g : ℕ → X) (a n : ℕ) → ((k : ℕ) → k < a + n → p k ≡ q k) →
+    ((k : ℕ) → k < a + n → f k ≡ g k) → map f (filter p (range_with_len a n)) ≡ map g (filter q (range_with_len a n))
+mapped_same {X} p q f g a zero tests maps = refl
+mapped_same {X} p q f g a (suc n) tests maps =
+    let rest : map f (filter p (range_with_len (a + 1) n)) ≡ map g (filter q (range_with_len (a + 1) n)) =
+    mapped_same p q f g (a + 1) n (λ k l. tests k (omega (arith, l))) (λ k l. maps k (omega (arith, l))) in
+    rw (tests a (omega arith)) (pick (q a) rest)
+  where
+    pick : (b : Bool) → map f (filter p (range_with_len (a + 1) n)) ≡ map g (filter q (range_with_len (a + 1) n)) →
+        map f (cond b (a ∷ filter p (range_with_len (a + 1) n)) (filter p (range_with_len (a + 1) n)))
+        ≡ map g (cond b (a ∷ filter q (range_with_len (a + 1) n)) (filter q (range_with_len (a + 1) n)))
+    pick true rest = rw (maps a (omega arith), rest) refl
+    pick false rest = rest
+
+-- tests that agree keep the same numbers
+pub filter_same : (p q : ℕ → Bool) (a n : ℕ) → ((k : ℕ) → k < a + n → p k ≡ q k) →
+    filter p (range_with_len a n) ≡ filter q (range_with_len a n)
+filter_same p q a n same =
+    sym (map-id (filter p (range_with_len a n)))
+    ∙ mapped_same p q (λ k. k) (λ k. k) a n same (λ k l. refl)
+    ∙ map-id (filter q (range_with_len a n))
