@@ -11,6 +11,8 @@ mod certs;
 #[cfg(test)]
 mod checks;
 #[cfg(test)]
+mod coordinates;
+#[cfg(test)]
 mod cuts;
 #[cfg(test)]
 mod cycles;

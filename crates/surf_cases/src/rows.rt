@@ -21,12 +21,14 @@ const HELP: &str = "usage: surf info M
        surf certify M L
        surf check M L C
        surf disc M
+       surf lengths M k
        surf gen torus a b
        surf gen chain g a b
        surf try torus a b s
        surf try chain g a b s
        surf --help | --version
 M is an OFF mesh, L a length file or the word unit, x a vertex, C a certificate.
+k is from 0 to 9, for lengths in units of 10^-k from coordinates.
 a and b are rows and columns of squares, g tori, s any number.
 ";
 

@@ -13,4 +13,5 @@ mod WordLaws
 mod CertifyLaws
 mod Refusing
 mod TextLaws
+mod Named
 mod TwoRuns

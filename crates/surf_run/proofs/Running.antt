@@ -1,5 +1,5 @@
 -- What a run leaves, by what its command answered.
-use Rattle.std.proofs.Common.{◌≡◌, ◌⊎◌, ◌<◌, ◌≤◌, inl, inr, ℕ, List, [], Option, Some, None, refl, sym, subst, arith}
+use Rattle.std.proofs.Common.{◌≡◌, ◌⊎◌, ◌<◌, ◌≤◌, inl, inr, ℕ, List, [], Option, Some, None, refl, sym, ◌∙◌, subst, arith}
 use Rattle.std.specs.Prelude.{IfSome, codes}
 use Rattle.surf_base.specs.Outside.{Files, HasRisen, GrowsBy}
 use Rattle.surf_base.specs.Transfer.{GrowsByShorter}
@@ -12,6 +12,9 @@ use Rattle.surf_lengths.specs.declared.fault.LengthFault.TheVariants as lengths
 use Rattle.surf_cert.specs.declared.fault.CertText.{CertText}
 use Rattle.surf_cert.specs.declared.fault.CertText.TheVariants as certs
 use Rattle.surf_run.specs.CertTexts.{cert_cause}
+use Rattle.surf_geom.specs.declared.fault.GeomFault.{GeomFault}
+use Rattle.surf_geom.specs.declared.fault.GeomFault.TheVariants as geom
+use Rattle.surf_run.specs.Coordinates.{geom_cause}
 use Rattle.surf_run.specs.MeshTexts.{off_cause}
 use Rattle.surf_run.specs.Surfaces.{surface_cause}
 use Rattle.surf_run.specs.Weights.{length_cause}
@@ -21,65 +24,78 @@ use Rattle.surf_run.specs.Refusals.{cause_of}
 use Rattle.surf_run.specs.Leads.{Leads, Answer, OnRequest}
 use Rattle.surf_run.specs.Tells.{IsTold, WhyOver, verdict_status}
 use Rattle.surf_run.specs.Words.{Request, request_of}
-use Rattle.surf_run.specs.Run.{PutsLine, IsLineOf, Refuses, WritesAnswer, WritesFront}
+use Rattle.surf_run.specs.Run.{PutsLine, IsDecided, IsLineOf, Refuses, WritesAnswer, WritesFront}
 use Rattle.surf_run.specs.declared.answered.Verdict.{Verdict}
 use Rattle.surf_run.specs.declared.answered.Verdict.TheVariants.{Yes, No}
 use Rattle.surf_run.specs.declared.refusal.Refused.{Refused}
-use Rattle.surf_run.specs.declared.refusal.Refused.TheVariants.{MeshText, Surface, Lengths, Base, Certificate, Limit, Read, Memory}
+use Rattle.surf_run.specs.declared.refusal.Refused.TheVariants.{MeshText, Surface, Lengths, Base, Certificate, Coordinates, Limit, Read, Memory}
 
--- what is due has a status from 2 to 8 and a line
+-- what is due has a status from 2 to 8 or from 12 on, and a line
 abbrev pub IsDue : Cause → Type 0
 IsDue (due (answers status text)) = ⊥
-IsDue (due (refuses status line)) = (1 < status) × (status < 9)
+IsDue (due (refuses status line)) = IsDecided status
 IsDue (due misses) = ⊥
 IsDue unread = Unit {0}
 IsDue starved = Unit {0}
 
 pub off_due : (fault : OffFault) → IsDue (off_cause fault)
-off_due (off.Header line) = (omega arith, omega arith)
-off_due (off.Counts line) = (omega arith, omega arith)
-off_due (off.VertexLine line) = (omega arith, omega arith)
-off_due (off.FaceSize line) = (omega arith, omega arith)
-off_due (off.FaceIndex line place) = (omega arith, omega arith)
-off_due (off.FaceRepeat line vertex) = (omega arith, omega arith)
-off_due (off.Early missing) = (omega arith, omega arith)
-off_due (off.Trailing line) = (omega arith, omega arith)
-off_due (off.Limit line kind) = (omega arith, omega arith)
+off_due (off.Header line) = (omega arith, inl (omega arith))
+off_due (off.Counts line) = (omega arith, inl (omega arith))
+off_due (off.VertexLine line) = (omega arith, inl (omega arith))
+off_due (off.FaceSize line) = (omega arith, inl (omega arith))
+off_due (off.FaceIndex line place) = (omega arith, inl (omega arith))
+off_due (off.FaceRepeat line vertex) = (omega arith, inl (omega arith))
+off_due (off.Early missing) = (omega arith, inl (omega arith))
+off_due (off.Trailing line) = (omega arith, inl (omega arith))
+off_due (off.Limit line kind) = (omega arith, inl (omega arith))
 off_due off.Memory = tt
 
 pub surface_due : (fault : SurfaceFault) → IsDue (surface_cause fault)
-surface_due check.Empty = (omega arith, omega arith)
-surface_due (check.Border u v face) = (omega arith, omega arith)
-surface_due (check.Crowded u v faces) = (omega arith, omega arith)
-surface_due (check.Isolated v) = (omega arith, omega arith)
-surface_due (check.Pinched v first second) = (omega arith, omega arith)
-surface_due (check.Apart face) = (omega arith, omega arith)
+surface_due check.Empty = (omega arith, inl (omega arith))
+surface_due (check.Border u v face) = (omega arith, inl (omega arith))
+surface_due (check.Crowded u v faces) = (omega arith, inl (omega arith))
+surface_due (check.Isolated v) = (omega arith, inl (omega arith))
+surface_due (check.Pinched v first second) = (omega arith, inl (omega arith))
+surface_due (check.Apart face) = (omega arith, inl (omega arith))
 surface_due check.Memory = tt
 
 pub length_due : (fault : LengthFault) → IsDue (length_cause fault)
-length_due (lengths.Form line) = (omega arith, omega arith)
-length_due (lengths.Range line) = (omega arith, omega arith)
-length_due (lengths.NotEdge line) = (omega arith, omega arith)
-length_due (lengths.Twice line earlier) = (omega arith, omega arith)
-length_due (lengths.Missing u v) = (omega arith, omega arith)
+length_due (lengths.Form line) = (omega arith, inl (omega arith))
+length_due (lengths.Range line) = (omega arith, inl (omega arith))
+length_due (lengths.NotEdge line) = (omega arith, inl (omega arith))
+length_due (lengths.Twice line earlier) = (omega arith, inl (omega arith))
+length_due (lengths.Missing u v) = (omega arith, inl (omega arith))
 length_due lengths.Memory = tt
 
 cert_due : (fault : CertText) → IsDue (cert_cause fault)
-cert_due (certs.Header line) = (omega arith, omega arith)
-cert_due (certs.Form line) = (omega arith, omega arith)
-cert_due certs.Early = (omega arith, omega arith)
-cert_due (certs.Trailing line) = (omega arith, omega arith)
+cert_due (certs.Header line) = (omega arith, inl (omega arith))
+cert_due (certs.Form line) = (omega arith, inl (omega arith))
+cert_due certs.Early = (omega arith, inl (omega arith))
+cert_due (certs.Trailing line) = (omega arith, inl (omega arith))
 cert_due certs.Memory = tt
+
+geom_due : (fault : GeomFault) → IsDue (geom_cause fault)
+geom_due (geom.Form vertex place) = (omega arith, inr (omega arith))
+geom_due (geom.Range vertex place) = (omega arith, inr (omega arith))
+geom_due (geom.Zero u v) = (omega arith, inr (omega arith))
+geom_due (geom.Great u v) = (omega arith, inr (omega arith))
+geom_due geom.Memory = tt
 
 pub refusals_are_due : (e : Refused) → IsDue (cause_of e)
 refusals_are_due (MeshText fault) = off_due fault
 refusals_are_due (Surface fault) = surface_due fault
 refusals_are_due (Lengths fault) = length_due fault
-refusals_are_due (Base base vertices) = (omega arith, omega arith)
+refusals_are_due (Base base vertices) = (omega arith, inl (omega arith))
 refusals_are_due (Certificate fault) = cert_due fault
-refusals_are_due (Limit kind) = (omega arith, omega arith)
+refusals_are_due (Coordinates fault) = geom_due fault
+refusals_are_due (Limit kind) = (omega arith, inl (omega arith))
 refusals_are_due Read = tt
 refusals_are_due Memory = tt
+
+-- the words and the files decide no status from 9 to 11
+undecided : (status other : ℕ) → status ≡ other → 8 < other → other < 12 → IsDecided status → ⊥
+undecided status other is low high (above, inl lt) = absurd (omega (arith, is, low, lt))
+undecided status other is low high (above, inr gt) = absurd (omega (arith, is, high, gt))
 
 -- a verdict's status is 0 or 1
 pub verdicts_are_low : (v : Verdict) → verdict_status v ≤ 1
@@ -135,9 +151,9 @@ module _ (words : List (List ℕ)) where
       record {
         related = λ _. told_map holds (λ files. OnRequest (Some r) files (refuses s l)) (λ files. Answer words files status [] l)
             (λ files on. (refuses s l, leads (Some r) files (refuses s l) is on, (said.0, refl, refl))) why;
-        read = λ wrong. absurd (omega (arith, wrong, said.0, is_due.1));
-        write = λ wrong. absurd (omega (arith, wrong, said.0, is_due.1));
-        memory = λ wrong. absurd (omega (arith, wrong, said.0, is_due.1));
+        read = λ wrong. absurd (undecided s 9 (sym said.0 ∙ wrong) (omega arith) (omega arith) is_due);
+        write = λ wrong. absurd (undecided s 10 (sym said.0 ∙ wrong) (omega arith) (omega arith) is_due);
+        memory = λ wrong. absurd (undecided s 11 (sym said.0 ∙ wrong) (omega arith) (omega arith) is_due);
       },
       said.1,
     )
@@ -146,7 +162,7 @@ module _ (words : List (List ℕ)) where
     told_why unread status faults faults_new old new before after is_due why (inl said) = (
       codes "read fault\n",
       record {
-        related = λ lt. absurd (omega (arith, lt, said.0));
+        related = λ decided. absurd (undecided status 9 said.0 (omega arith) (omega arith) decided);
         read = λ _. refl;
         write = λ wrong. absurd (omega (arith, wrong, said.0));
         memory = λ wrong. absurd (omega (arith, wrong, said.0));
@@ -156,7 +172,7 @@ module _ (words : List (List ℕ)) where
     told_why starved status faults faults_new old new before after is_due why (inl said) = (
       codes "memory\n",
       record {
-        related = λ lt. absurd (omega (arith, lt, said.0));
+        related = λ decided. absurd (undecided status 11 said.0 (omega arith) (omega arith) decided);
         read = λ wrong. absurd (omega (arith, wrong, said.0));
         write = λ wrong. absurd (omega (arith, wrong, said.0));
         memory = λ _. refl;
@@ -166,7 +182,7 @@ module _ (words : List (List ℕ)) where
     told_why c status faults faults_new old new before after is_due why (inr said) = (
       codes "memory\n",
       record {
-        related = λ lt. absurd (omega (arith, lt, said.0));
+        related = λ decided. absurd (undecided status 11 said.0 (omega arith) (omega arith) decided);
         read = λ wrong. absurd (omega (arith, wrong, said.0));
         write = λ wrong. absurd (omega (arith, wrong, said.0));
         memory = λ _. refl;
@@ -178,7 +194,8 @@ module _ (words : List (List ℕ)) where
     pub told_unread : (c : Cause) (status faults faults_new : ℕ) (old new : Option (List ℕ)) (before after : ℕ) → IsDue c →
         WhyOver holds faults faults_new (OnRequest (Some r)) c → Refuses c status old new before after → status ≡ 9 →
         HasRisen faults faults_new ⊎ IsTold holds (λ files. Leads words files misses)
-    told_unread (due (refuses s l)) status faults faults_new old new before after is_due why (inl said) nine = absurd (omega (arith, nine, said.0, is_due.1))
+    told_unread (due (refuses s l)) status faults faults_new old new before after is_due why (inl said) nine =
+        absurd (undecided s 9 (sym said.0 ∙ nine) (omega arith) (omega arith) is_due)
     told_unread (due (answers s t)) status faults faults_new old new before after is_due why (inl said) nine = absurd is_due
     told_unread (due misses) status faults faults_new old new before after is_due why (inl said) nine = absurd is_due
     told_unread unread status faults faults_new old new before after is_due (inl rose) (inl said) nine = inl rose

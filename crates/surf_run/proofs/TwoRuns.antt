@@ -2,7 +2,7 @@
 use Rattle.std.proofs.Common.{◌≡◌, ◌<◌, ◌≤◌, ℕ, true, false, List, [], ◌∷◌, length, Option, Some, None, Result, Ok, Err, refl, sym, ap, ◌∙◌, subst, arith, inl, inr}
 use Rattle.std.specs.Prelude.{nat_lt, codes}
 use Rattle.std.proofs.lemmas.Bool.{cases_lt, lt-ltb, le-ltb}
-use Rattle.std.proofs.lemmas.List.Elements.{All-get_or}
+use Rattle.std.proofs.lemmas.List.Elements.{All-get_or, All-nil}
 use Rattle.surf_base.specs.Outside.{Files, bytes_of}
 use Rattle.surf_base.specs.declared.limits.LimitKind.{LimitKind}
 use Rattle.surf_base.specs.declared.limits.LimitKind.TheVariants.{BasisVertices, CertificateVertices}
@@ -36,6 +36,7 @@ use Rattle.surf_run.specs.Given.{searchable, HasFewVertices, IsFewLoopedText, Is
 use Rattle.surf_run.specs.Leads.{Answer, Leads, OnRequest}
 use Rattle.surf_run.specs.Limits.{beyond}
 use Rattle.surf_run.specs.MeshTexts.{read_outcome}
+use Rattle.surf_run.specs.Named.{AgreeOn, named}
 use Rattle.surf_run.specs.Outcome.{Outcome, answers, status_of}
 use Rattle.surf_run.specs.Reading.{Reads, within_text}
 use Rattle.surf_run.specs.Says.{Says}
@@ -43,10 +44,11 @@ use Rattle.surf_run.specs.Summaries.{total_size}
 use Rattle.surf_run.specs.Tasks.{Performs, OnSurface, OnText}
 use Rattle.surf_run.specs.TwoRuns.{LoopsPass, CertifiedLoopsPass, CertifiedBasesPass}
 use Rattle.surf_run.specs.Verdicts.{loops_line, basis_line}
-use Rattle.surf_run.specs.Words.{number_of, weighted_request}
+use Rattle.surf_run.specs.Words.{number_of, weighted_request, request_of}
 use Rattle.surf_run.specs.declared.cycles.CycleTask.TheVariants.{BasisCertificate}
 use Rattle.surf_run.specs.declared.weighted.Task.TheVariants.{LeastLoops, LoopCertificate}
 use Rattle.surf_run.proofs.CycleLaws.{few_loops, few_vertices}
+use Rattle.surf_run.proofs.Named.{answers_depend_on_named_files}
 use Rattle.surf_run.proofs.Refusing.{reads_refuses, looped_refuses, searchable_refuses, measured_refuses, weighted_refuses, goes_on, shown_low, shown_text}
 use Rattle.surf_run.proofs.TextLaws.{mesh_texts_are_few}
 
@@ -257,9 +259,11 @@ module _ (files : Files) (mesh lengths cert text : List ℕ) (held : bytes_of fi
 
 -- ---- the laws
 
-pub certified_loops_pass : CertifiedLoopsPass
+loops_pass_there : (files : Files) (mesh lengths base cert text : List ℕ) →
+    Answer (codes "certify" ∷ mesh ∷ lengths ∷ base ∷ []) files 0 text [] → bytes_of files cert ≡ Some text →
+    length text ≤ 268435456 → LoopsPass files mesh lengths base cert
 unfolding Leads
-certified_loops_pass files mesh lengths base cert text (o, leads, shows) held short = at (number_of base) refl leads
+loops_pass_there files mesh lengths base cert text (o, leads, shows) held short = at (number_of base) refl leads
   where
     low : status_of o ≤ 1
     low = shown_low o text [] shows
@@ -278,9 +282,11 @@ certified_loops_pass files mesh lengths base cert text (o, leads, shows) held sh
           loops_pass files mesh lengths cert text held short base o b is bytes reads read looped given weighted gives text_is,
         )
 
-pub certified_bases_pass : CertifiedBasesPass
+basis_passes_there : (files : Files) (mesh lengths cert text : List ℕ) →
+    Answer (codes "certify" ∷ mesh ∷ lengths ∷ []) files 0 text [] → bytes_of files cert ≡ Some text →
+    length text ≤ 268435456 → BasisPasses files mesh lengths cert
 unfolding Leads
-certified_bases_pass files mesh lengths cert text (o, leads, shows) held short =
+basis_passes_there files mesh lengths cert text (o, leads, shows) held short =
     let low = shown_low o text [] shows in
     let (bytes, reads, on_text) = goes_on (Reads mesh files) (λ x. OnMeshText BasisCertificate x lengths files) o (reads_refuses mesh files) low leads in
     let (m, given, on_mesh) =
@@ -292,3 +298,26 @@ certified_bases_pass files mesh lengths cert text (o, leads, shows) held short =
       basis_said files mesh lengths cert text held short o bytes reads m given values measured gives text_is,
       basis_pass files mesh lengths cert text held short o bytes reads m given values measured gives text_is,
     )
+
+-- ---- over other files
+
+-- what is answered is answered over files that agree on those that the words name
+answered_there : (words : List (List ℕ)) (files later : Files) (text : List ℕ) → Answer words files 0 text [] →
+    AgreeOn (named (request_of words)) files later → Answer words later 0 text []
+answered_there words files later text (o, leads, shows) same =
+    (o, answers_depend_on_named_files words files later same o leads, shows)
+
+pub certified_loops_pass : CertifiedLoopsPass
+certified_loops_pass files later mesh lengths base cert text answer same held short =
+    loops_pass_there later mesh lengths base cert text
+    (answered_there (codes "certify" ∷ mesh ∷ lengths ∷ base ∷ []) files later text answer (at (number_of base)))
+    held short
+  where
+    at : (x : Option ℕ) → AgreeOn (named (weighted_request (Some LoopCertificate) mesh lengths x)) files later
+    at None = All-nil (λ name. bytes_of files name ≡ bytes_of later name)
+    at (Some b) = same
+
+pub certified_bases_pass : CertifiedBasesPass
+certified_bases_pass files later mesh lengths cert text answer same held short =
+    basis_passes_there later mesh lengths cert text
+    (answered_there (codes "certify" ∷ mesh ∷ lengths ∷ []) files later text answer same) held short

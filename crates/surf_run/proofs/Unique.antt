@@ -20,6 +20,9 @@ use Rattle.surf_check.proofs.FaultLaws.{fault_only}
 use Rattle.surf_disc.proofs.FaultLaws.{fault_only as disc_fault_only}
 use Rattle.surf_off.specs.Off.{OffParts, off_of}
 use Rattle.surf_run.specs.Cause.{outcome_of}
+use Rattle.surf_geom.specs.Measures.{measures_in}
+use Rattle.surf_geom.specs.Texts.{lengths_text}
+use Rattle.surf_run.specs.Coordinates.{measured, Measures, GivesMeasures, OnCoordinates, OnLengthsText}
 use Rattle.surf_run.specs.Cuts.{is_trimmed, cut_text}
 use Rattle.surf_run.specs.Discs.{JudgesDisc}
 use Rattle.surf_run.specs.Info.{Informs}
@@ -61,8 +64,9 @@ use Rattle.surf_print.specs.LoopTexts.{loops_text}
 use Rattle.surf_print.proofs.TreeTextLaws.{texts_same}
 use Rattle.surf_run.specs.MeshTexts.{IsMeshText, read_outcome}
 use Rattle.surf_run.specs.Surfaces.{surface_cause, EndsInFault, IsSurfaceText}
+use Rattle.surf_run.specs.Run.{IsDecided}
 use Rattle.surf_run.specs.Leads.{Leads, Answer, OnRequest, OnInfoText, OnDiscText}
-use Rattle.surf_run.specs.Words.{Request, help, version, info, disc, cycles, weighted, makes, tries, checks, request_of}
+use Rattle.surf_run.specs.Words.{Request, help, version, info, disc, cycles, weighted, makes, tries, checks, measures, request_of}
 
 -- two results of a step go on with one value, or end with one status
 abbrev pub Agree : {A : Type 0} → Result A Outcome → Result A Outcome → Type 0
@@ -279,7 +283,12 @@ one_check bytes word cert files =
     (λ text _. one_end (IsCertText read.1 text) (JudgesCert read.1 lengths) (one_result (then_bounded read.1 (certified (cert_in text))))
     (λ c _. one_verdict read.1 lengths c))))
 
-pub one_request : (r : Option Request) (files : Files) → HasOneStatus (OnRequest r files)
+pub one_measure : (decimals : ℕ) (read : OffParts × Mesh) → HasOneStatus (OnCoordinates decimals read)
+one_measure decimals read = one_end (Measures decimals read) (GivesMeasures read.1)
+    (one_result (measured (measures_in read.1 read.0.vertex_lines decimals)))
+    (λ lengths _ o p x y. says_same (lengths_text read.1 lengths) (lengths_text read.1 lengths) o p refl x.says y.says)
+
+one_request : (r : Option Request) (files : Files) → HasOneStatus (OnRequest r files)
 one_request None files = one_outcome _
 one_request (Some help) files = one_outcome _
 one_request (Some version) files = one_outcome _
@@ -297,6 +306,8 @@ one_request (Some (tries shape scatter)) files = one_end (IsTried shape) (λ mes
     (one_result (then_searched (made (mesh_of shape)))) (λ mesh _ o p x y. ap status_of x.text ∙ sym (ap status_of y.text))
 one_request (Some (checks mesh word cert)) files = one_end (Reads mesh files) (λ bytes. OnCheckedText bytes word cert files)
     (one_result (within_text (bytes_of files mesh))) (λ bytes _. one_check bytes word cert files)
+one_request (Some (measures mesh decimals)) files = one_end (Reads mesh files) (OnLengthsText decimals) (one_result (within_text (bytes_of files mesh)))
+    (λ bytes _. one_end (IsSurfaceText bytes) (OnCoordinates decimals) (one_surface_text bytes) (λ read _. one_measure decimals read))
 
 module _ (words : List (List ℕ)) (files : Files) where
   pub one_lead : HasOneStatus (Leads words files)
@@ -314,15 +325,19 @@ module _ (words : List (List ℕ)) (files : Files) where
 
   -- where nothing failed, what is due is the status, unless memory ran out
   pub completes : (result due : ℕ) (text line : List ℕ) → Answer words files due text line →
-      (result ≤ 1 → (said : List ℕ) × Answer words files result said []) → (1 < result → result < 9 → (said : List ℕ) × Answer words files result [] said) →
-      (result ≡ 9 → Leads words files misses) → (result ≡ 10 → ⊥) → result ≤ 11 → (result ≡ due) ⊎ (result ≡ 11)
-  completes result due text line is answered refused unread write bound = elim (cases_lt 1 result) [
+      (result ≤ 1 → (said : List ℕ) × Answer words files result said []) →
+      (IsDecided result → (said : List ℕ) × Answer words files result [] said) →
+      (result ≡ 9 → Leads words files misses) → (result ≡ 10 → ⊥) → (result ≡ due) ⊎ (result ≡ 11)
+  completes result due text line is answered refused unread write = elim (cases_lt 1 result) [
     | inr low ↦ let a = answered low in inl (one_status result due a.0 [] text line a.1 is)
     | inl high ↦ elim (cases_lt result 9) [
-      | inl lt ↦ let a = refused high lt in inl (one_status result due [] a.0 text line a.1 is)
-      | inr ge ↦ elim (cases_eq result 9) [
-        | inl nine ↦ inl (nine ∙ one_lead misses is.0 (unread nine) is.1 ∙ sym (shown is.0 due text line is.2))
-        | inr ne ↦ inr (omega (arith, write, ne))
+      | inl lt ↦ let a = refused (high, inl lt) in inl (one_status result due [] a.0 text line a.1 is)
+      | inr ge ↦ elim (cases_lt 11 result) [
+        | inl gt ↦ let a = refused (high, inr gt) in inl (one_status result due [] a.0 text line a.1 is)
+        | inr few ↦ elim (cases_eq result 9) [
+          | inl nine ↦ inl (nine ∙ one_lead misses is.0 (unread nine) is.1 ∙ sym (shown is.0 due text line is.2))
+          | inr ne ↦ inr (omega (arith, write, ne, few, ge))
+        ]
       ]
     ]
   ]

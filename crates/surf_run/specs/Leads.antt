@@ -4,6 +4,7 @@ use Rattle.surf_base.specs.Outside.{Files}
 use Rattle.surf_run.specs.Cause.{misused}
 use Rattle.surf_run.specs.Help.{help_text, version_text}
 use Rattle.surf_run.specs.Checking.{OnCheck}
+use Rattle.surf_run.specs.Coordinates.{OnLengths}
 use Rattle.surf_run.specs.CycleTasks.{OnCycles}
 use Rattle.surf_run.specs.Discs.{JudgesDisc}
 use Rattle.surf_run.specs.Info.{Informs}
@@ -15,7 +16,7 @@ use Rattle.surf_run.specs.Steps.{Ends}
 use Rattle.surf_run.specs.Surfaces.{IsSurfaceText}
 use Rattle.surf_run.specs.Tasks.{OnTask}
 use Rattle.surf_run.specs.Trying.{OnTry}
-use Rattle.surf_run.specs.Words.{Request, help, version, info, disc, cycles, weighted, makes, tries, checks, request_of}
+use Rattle.surf_run.specs.Words.{Request, help, version, info, disc, cycles, weighted, makes, tries, checks, measures, request_of}
 
 -- `info` of the text of a mesh
 abbrev pub OnInfoText : List ℕ → Outcome → Type 0
@@ -45,6 +46,7 @@ OnRequest (Some (weighted task mesh lengths base)) files outcome = OnTask task m
 OnRequest (Some (makes shape)) files outcome = OnGen shape outcome
 OnRequest (Some (tries shape scatter)) files outcome = OnTry shape scatter outcome
 OnRequest (Some (checks mesh lengths cert)) files outcome = OnCheck mesh lengths cert files outcome
+OnRequest (Some (measures mesh decimals)) files outcome = OnLengths mesh decimals files outcome
 
 -- what comes of these words over these files
 unfoldable pub Leads : List (List ℕ) → Files → Outcome → Type 0

@@ -4,6 +4,7 @@ pub mod Limits
 pub mod MeshTexts
 pub mod Surfaces
 pub mod Weights
+pub mod Coordinates
 pub mod Refusals
 pub mod Steps
 pub mod Words
@@ -34,4 +35,5 @@ pub mod Trying
 pub mod CertTexts
 pub mod Verdicts
 pub mod Checking
+pub mod Named
 pub mod TwoRuns

@@ -4,7 +4,7 @@ use Rattle.surf_base.specs.Outside.{Files, HasRisen, GrowsBy}
 use Rattle.surf_base.specs.Transfer.{GrowsByShorter}
 use Rattle.surf_run.specs.Cause.{Cause, line_of, status_of_cause}
 use Rattle.surf_run.specs.Leads.{Answer}
-use Rattle.surf_run.specs.Words.{Request, help, version, info, disc, cycles, weighted, makes, tries, checks}
+use Rattle.surf_run.specs.Words.{Request, help, version, info, disc, cycles, weighted, makes, tries, checks, measures}
 
 -- The words are a row of the command table that names a file.
 abbrev pub NamesFile : Option Request → Type 0
@@ -18,6 +18,7 @@ NamesFile (Some (weighted task mesh lengths base)) = Unit {0}
 NamesFile (Some (makes shape)) = ⊥
 NamesFile (Some (tries shape scatter)) = ⊥
 NamesFile (Some (checks mesh lengths cert)) = Unit {0}
+NamesFile (Some (measures mesh decimals)) = Unit {0}
 
 -- The whole text of an answer with status 0 or 1 was written.
 abbrev pub WritesAnswer : List (List ℕ) → ℕ → Option (List ℕ) → Option (List ℕ) → Files → Type 0
@@ -31,9 +32,13 @@ WritesFront words old new files = (status : ℕ) × ((text : List ℕ) × (statu
 abbrev pub PutsLine : Option (List ℕ) → Option (List ℕ) → ℕ → ℕ → List ℕ → Type 0
 PutsLine old new faults_old faults_new line = GrowsBy old new line ⊎ (HasRisen faults_old faults_new × GrowsByShorter old new line)
 
--- The line of a status above 1. From 2 to 8 the words and the files give it, where it is told what is held.
+-- The status of a refusal that the words and the files decide: from 2 to 8, and from 12 on.
+abbrev pub IsDecided : ℕ → Type 0
+IsDecided status = (1 < status) × ((status < 9) ⊎ (11 < status))
+
+-- The line of a status above 1. Where the words and the files decide, they give it, wherever it is told what is held.
 pub record IsLineOf (words : List (List ℕ)) (holds : Option Files) (status : ℕ) (line : List ℕ) : Type 0 where
-  pub related : status < 9 → IfSome holds (λ files. Answer words files status [] line)
+  pub related : IsDecided status → IfSome holds (λ files. Answer words files status [] line)
   pub read : status ≡ 9 → line ≡ codes "read fault\n"
   pub write : status ≡ 10 → line ≡ codes "write fault\n"
   pub memory : status ≡ 11 → line ≡ codes "memory\n"

@@ -5,6 +5,7 @@ use Rattle.surf_complex.specs.Choice.{Loop}
 use Rattle.surf_print.specs.CycleTexts.{cycles_text}
 use Rattle.surf_print.specs.LoopTexts.{loops_text}
 use Rattle.surf_run.specs.Leads.{Answer, Leads}
+use Rattle.surf_run.specs.Named.{length_file, AgreeOn}
 use Rattle.surf_run.specs.Outcome.{Outcome}
 use Rattle.surf_run.specs.Says.{Says}
 use Rattle.surf_run.specs.Summaries.{total_size}
@@ -17,12 +18,14 @@ LoopsPass files mesh lengths base cert =
     × ((outcome : Outcome) → Says (loops_text loops) outcome → Leads (codes "loops" ∷ mesh ∷ lengths ∷ base ∷ []) files outcome)
     × Answer (codes "check" ∷ mesh ∷ lengths ∷ cert ∷ []) files 0 (loops_line (total_size loops)) []
 
--- So it is where the file holds what `certify` answers of the same mesh, lengths and base, and isn't too long to be read.
+-- So it is, over files that have the same mesh and lengths, where the file holds what `certify` answered of them at the
+-- base, and isn't too long to be read.
 abbrev pub CertifiedLoopsPass : Type 0
 CertifiedLoopsPass =
-    (files : Files) (mesh lengths base cert text : List ℕ) →
+    (files later : Files) (mesh lengths base cert text : List ℕ) →
     Answer (codes "certify" ∷ mesh ∷ lengths ∷ base ∷ []) files 0 text [] →
-    bytes_of files cert ≡ Some text → length text ≤ 268435456 → LoopsPass files mesh lengths base cert
+    AgreeOn (mesh ∷ length_file lengths) files later → bytes_of later cert ≡ Some text → length text ≤ 268435456 →
+    LoopsPass later mesh lengths base cert
 
 -- `check` of a file answers that its certificate of a basis is valid, with the total of the cycles that `basis` says.
 abbrev pub BasisPasses : Files → List ℕ → List ℕ → List ℕ → Type 0
@@ -31,9 +34,11 @@ BasisPasses files mesh lengths cert =
     × ((outcome : Outcome) → Says (cycles_text basis) outcome → Leads (codes "basis" ∷ mesh ∷ lengths ∷ []) files outcome)
     × Answer (codes "check" ∷ mesh ∷ lengths ∷ cert ∷ []) files 0 (basis_line (total_size basis)) []
 
--- So it is where the file holds what `certify` answers of the same mesh and lengths, and isn't too long to be read.
+-- So it is, over files that have the same mesh and lengths, where the file holds what `certify` answered of them, and
+-- isn't too long to be read.
 abbrev pub CertifiedBasesPass : Type 0
 CertifiedBasesPass =
-    (files : Files) (mesh lengths cert text : List ℕ) →
+    (files later : Files) (mesh lengths cert text : List ℕ) →
     Answer (codes "certify" ∷ mesh ∷ lengths ∷ []) files 0 text [] →
-    bytes_of files cert ≡ Some text → length text ≤ 268435456 → BasisPasses files mesh lengths cert
+    AgreeOn (mesh ∷ length_file lengths) files later → bytes_of later cert ≡ Some text → length text ≤ 268435456 →
+    BasisPasses later mesh lengths cert

@@ -7,6 +7,7 @@ use Rattle.surf_run.specs.declared.cycles.CycleTask.TheVariants.{Basis, Shortest
 use Rattle.surf_run.specs.declared.weighted.Task.{Task}
 use Rattle.surf_run.specs.declared.weighted.Task.TheVariants.{Distances, LeastLoops, LoopCertificate, Cut}
 use Rattle.surf_run.specs.declared.cut_command.CutKind.TheVariants.{Full, Trimmed}
+use Rattle.surf_run.specs.Coordinates.{few_decimals}
 use Rattle.surf_run.specs.Shapes.{Shape, torus_named, chain_named}
 use Rattle.std.specs.declared.alloc.Global.{Global}
 
@@ -30,6 +31,8 @@ pub data Request : Type 0 where
   tries : Shape → ℕ → Request
   -- the certificate of a file against the surface of a file, with the lengths that a word gives
   checks : List ℕ → List ℕ → List ℕ → Request
+  -- the measures of the edges of the surface of a file, in units of so many decimals
+  measures : List ℕ → ℕ → Request
 
 abbrev pub lone_request : List ℕ → Option Request
 lone_request word =
@@ -79,6 +82,14 @@ abbrev pub shape_request : Option Shape → Option Request
 shape_request None = None
 shape_request (Some shape) = Some (makes shape)
 
+-- the measures of a mesh, with the decimals of their unit
+abbrev pub measures_request : List ℕ → Option ℕ → Option Request
+measures_request mesh None = None
+measures_request mesh (Some decimals) = Some (measures mesh decimals)
+
+abbrev pub decimals_of : List ℕ → Option ℕ
+decimals_of word = option_and_then few_decimals (number_of word)
+
 -- a shape with a scatter
 abbrev pub tried_request : Option Shape → Option ℕ → Option Request
 tried_request None scatter = None
@@ -93,7 +104,12 @@ abbrev pub chain_words : List ℕ → List ℕ → List ℕ → List ℕ → Opt
 chain_words kind tori rows columns =
     if bytes_eq kind (codes "chain") then chain_named (number_of tori) (number_of rows) (number_of columns) else None
 
--- the row of four words, that of five and that of six
+-- the row of three words, that of four, that of five and that of six
+abbrev pub three_words : List ℕ → List ℕ → List ℕ → Option Request
+three_words word mesh third =
+    if bytes_eq word (codes "lengths") then measures_request mesh (decimals_of third)
+    else cycles_request (cycle_task word) mesh third
+
 abbrev pub four_words : List ℕ → List ℕ → List ℕ → List ℕ → Option Request
 four_words word second third fourth =
     if bytes_eq word (codes "gen") then shape_request (torus_words second third fourth)
@@ -115,7 +131,7 @@ abbrev pub request_of : List (List ℕ) → Option Request
 request_of [] = None
 request_of (word ∷ []) = lone_request word
 request_of (word ∷ mesh ∷ []) = mesh_request word mesh
-request_of (word ∷ mesh ∷ lengths ∷ []) = cycles_request (cycle_task word) mesh lengths
+request_of (word ∷ mesh ∷ third ∷ []) = three_words word mesh third
 request_of (word ∷ second ∷ third ∷ fourth ∷ []) = four_words word second third fourth
 request_of (word ∷ second ∷ third ∷ fourth ∷ fifth ∷ []) = five_words word second third fourth fifth
 request_of (word ∷ second ∷ third ∷ fourth ∷ fifth ∷ sixth ∷ []) = six_words word second third fourth fifth sixth

@@ -3,6 +3,7 @@ ghost use Rattle.std.specs.Prelude.{◌≡◌, ◌≢◌, ◌≤◌, length, str
 ghost use Rattle.surf_disc.specs.declared.faults.DiscFault.TheVariants.{Memory};
 ghost use Rattle.surf_run.specs.Discs.{JudgesDisc, disc_text, no_line, border_line};
 ghost use Rattle.surf_run.specs.Leads.{OnDisc, OnDiscText};
+ghost use Rattle.surf_run.specs.Outcome.{answers};
 ghost use Rattle.surf_run.specs.Tells.{Concludes, ConcludesOver};
 
 use crate::answered::{Answered, Verdict};
@@ -41,11 +42,20 @@ fn disc_of(alloc: Global, soup: &Soup) -> Result<Answered, Refused>
             text: disc_text(alloc, border)?.into_bytes(),
         }),
         Err(DiscFault::Memory) => Err(Refused::Memory),
-        Err(fault) => Ok(Answered {
-            verdict: Verdict::No,
-            text: no_line(alloc, &fault)?.into_bytes(),
-        }),
+        Err(fault) => not_disc(alloc, &fault),
     }
+}
+
+/// What is wrong with a mesh that is no disc.
+pub fn not_disc(alloc: Global, fault: &DiscFault) -> Result<Answered, Refused>
+    requires { fault.now ≢ Memory }
+    ensures { Concludes (λ end. end ≡ answers 1 (no_line fault.now)) result }
+{
+    let line = no_line(alloc, fault)?;
+    Ok(Answered {
+        verdict: Verdict::No,
+        text: line.into_bytes(),
+    })
 }
 
 fn disc_text(alloc: Global, border: u32) -> Result<String, AllocError>

@@ -11,6 +11,7 @@ use crate::cycles::cycles;
 use crate::disc_command::disc;
 use crate::gen_command::generate;
 use crate::info_command::info;
+use crate::lengths_command::lengths;
 use crate::refusal::Refused;
 use crate::try_command::tried;
 use crate::weighted::weighted;
@@ -48,5 +49,6 @@ pub fn answer<S: Shelf>(alloc: Global, command: Command, shelf: &mut S) -> Resul
             lengths,
             cert,
         } => checked(alloc, shelf, mesh, lengths, cert),
+        Command::Measure { mesh, decimals } => lengths(alloc, shelf, mesh, decimals),
     }
 }

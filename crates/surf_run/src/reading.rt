@@ -41,8 +41,8 @@ pub fn read_mesh(alloc: Global, bytes: &[u8]) -> Result<(OffText<'_>, Soup), Ref
     Ok(read)
 }
 
-// The surface that faces are.
-fn surface_of(alloc: Global, soup: Soup) -> Result<HalfMesh, Refused>
+/// The surface that faces are.
+pub fn surface_of(alloc: Global, soup: Soup) -> Result<HalfMesh, Refused>
     ensures { Takes (λ mesh. mesh) (IsSurfaceOf soup) result }
 {
     let mesh = check(alloc, soup)?;

@@ -2,15 +2,17 @@
 ghost use Rattle.std.specs.Prelude.{◌≡◌, IfOk, string_bytes};
 ghost use Rattle.surf_run.specs.Cause.{line_of, status_of_cause};
 ghost use Rattle.surf_run.specs.Refusals.{cause_of, of_page};
-ghost use Rattle.surf_run.specs.declared.refusal.Refused.TheVariants.{MeshText, Surface, Lengths, Certificate, Memory};
+ghost use Rattle.surf_run.specs.declared.refusal.Refused.TheVariants.{MeshText, Surface, Lengths, Certificate, Coordinates, Memory};
 
 use crate::certificates::cert_line;
+use crate::lengths_command::geom_line;
 use crate::lines::{limit_line, off_line, surface_line};
 use crate::weights::{base_line, length_line};
 use std::alloc::{AllocError, AllocFailed, Global};
 use surf_base::{LimitKind, NoMemory};
 use surf_cert::CertText;
 use surf_check::SurfaceFault;
+use surf_geom::GeomFault;
 use surf_lengths::LengthFault;
 use surf_off::OffFault;
 use surf_text::PageFault;
@@ -23,6 +25,7 @@ pub enum Refused {
     Lengths(LengthFault),
     Base { base: u32, vertices: u32 },
     Certificate(CertText),
+    Coordinates(GeomFault),
     Limit(LimitKind),
     Read,
     Memory,
@@ -76,6 +79,14 @@ impl From<CertText> for Refused {
     }
 }
 
+impl From<GeomFault> for Refused {
+    ghost from_gives = { λ fault e. e ≡ Coordinates fault };
+
+    fn from(fault: GeomFault) -> Refused {
+        Refused::Coordinates(fault)
+    }
+}
+
 impl From<PageFault> for Refused {
     ghost from_gives = { λ fault e. e ≡ of_page fault };
 
@@ -106,6 +117,7 @@ impl Refused {
             | Refused::Surface(SurfaceFault::Memory)
             | Refused::Lengths(LengthFault::Memory)
             | Refused::Certificate(CertText::Memory)
+            | Refused::Coordinates(GeomFault::Memory)
             | Refused::Memory => 11,
             Refused::MeshText(_) => 3,
             Refused::Surface(_) => 4,
@@ -113,6 +125,7 @@ impl Refused {
             Refused::Base { .. } => 7,
             Refused::Certificate(_) => 8,
             Refused::Read => 9,
+            Refused::Coordinates(_) => 12,
         }
     }
 
@@ -126,6 +139,7 @@ impl Refused {
             Refused::Lengths(fault) => length_line(alloc, fault),
             Refused::Base { base, vertices } => base_line(alloc, *base, *vertices),
             Refused::Certificate(fault) => cert_line(alloc, fault),
+            Refused::Coordinates(fault) => geom_line(alloc, fault),
             Refused::Limit(kind) => limit_line(alloc, *kind),
             Refused::Read => String::from_str(alloc, "read fault\n"),
             Refused::Memory => String::from_str(alloc, "memory\n"),

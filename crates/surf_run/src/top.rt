@@ -62,7 +62,7 @@ fn run_words<S: Shelf, O: Sink, D: Sink>(
     ensures usage { result ≡ 2 ↔ request_of (texts words.now) ≡ None }
     ensures reached { result ≡ 9 → NamesFile (request_of (texts words.now)) }
     ensures read { result ≡ 9 → HasRisen (S.faults shelf.old) (S.faults shelf.new) ⊎ IsTold (S.holds shelf.old) (λ files. Leads (texts words.now) files misses) }
-    ensures statuses { result ≤ 11 }
+    ensures statuses { result ≤ 14 }
 {
     let Some(command) = parse(words) else {
         say(diag, USAGE);
@@ -104,7 +104,7 @@ pub fn run<S: Shelf, O: Sink, D: Sink>(
     ensures usage { result ≡ 2 ↔ request_of (texts words.now) ≡ None }
     ensures reached { result ≡ 9 → NamesFile (request_of (texts words.now)) }
     ensures read { result ≡ 9 → HasRisen (S.faults shelf.old) (S.faults shelf.new) ⊎ IsTold (S.holds shelf.old) (λ files. Leads (texts words.now) files misses) }
-    ensures statuses { result ≤ 11 }
+    ensures statuses { result ≤ 14 }
 
     // Where nothing failed, the words and the files decide.
     ensures complete { (files : Files) → S.holds shelf.old ≡ Some files → (status : ℕ) (text line : List ℕ)

@@ -1,10 +1,11 @@
 //! The words of the command line.
 ghost use Rattle.std.specs.Prelude.{◌≡◌, None, Some, MatchOption};
-ghost use Rattle.surf_run.specs.Words.{texts, request_of, lone_request, mesh_request, number_of, cycle_task, task_of, cut_task, cycles_request, weighted_request, shape_request, tried_request, torus_words, chain_words, four_words, five_words, six_words};
+ghost use Rattle.surf_run.specs.Words.{texts, request_of, lone_request, mesh_request, number_of, cycle_task, task_of, cut_task, cycles_request, weighted_request, shape_request, tried_request, torus_words, chain_words, measures_request, decimals_of, three_words, four_words, five_words, six_words};
 ghost use Rattle.surf_run.specs.Seen.{request};
 
 use crate::cut_command::CutKind;
 use crate::cycles::CycleTask;
+use crate::lengths_command::Decimals;
 use crate::shape::Shape;
 use crate::weighted::Task;
 use surf_text::read_whole;
@@ -42,6 +43,10 @@ pub enum Command<'w> {
         mesh: &'w str,
         lengths: &'w str,
         cert: &'w str,
+    },
+    Measure {
+        mesh: &'w str,
+        decimals: Decimals,
     },
 }
 
@@ -174,6 +179,32 @@ fn tried<'w>(shape: Option<Shape>, scatter: Option<u32>) -> Option<Command<'w>>
     })
 }
 
+// The decimals of a unit of length.
+fn decimals_of(word: &str) -> Option<Decimals>
+    ensures { result ≡ decimals_of word.now }
+{
+    Decimals::new(number_of(word)?)
+}
+
+fn measured<'w>(mesh: &'w str, decimals: Option<Decimals>) -> Option<Command<'w>>
+    ensures { MatchOption result (measures_request mesh.now decimals ≡ None) (λ c. measures_request mesh.now decimals ≡ Some (request c)) }
+{
+    Some(Command::Measure {
+        mesh,
+        decimals: decimals?,
+    })
+}
+
+// The row of three words.
+fn on_three<'w>(word: &str, mesh: &'w str, third: &'w str) -> Option<Command<'w>>
+    ensures { MatchOption result (three_words word.now mesh.now third.now ≡ None) (λ c. three_words word.now mesh.now third.now ≡ Some (request c)) }
+{
+    if word == "lengths" {
+        return measured(mesh, decimals_of(third));
+    }
+    cycles(cycle_task(word), mesh, third)
+}
+
 // The row of four words.
 fn on_four<'w>(word: &str, second: &'w str, third: &'w str, fourth: &'w str) -> Option<Command<'w>>
     ensures { MatchOption result (four_words word.now second.now third.now fourth.now ≡ None) (λ c. four_words word.now second.now third.now fourth.now ≡ Some (request c)) }
@@ -235,7 +266,7 @@ pub fn parse(words: &[String]) -> Option<Command<'_>>
         [] => None,
         [word] => lone(word),
         [word, mesh] => on_mesh(word, mesh),
-        [word, mesh, lengths] => cycles(cycle_task(word), mesh, lengths),
+        [word, mesh, third] => on_three(word, mesh, third),
         [word, second, third, fourth] => on_four(word, second, third, fourth),
         [word, second, third, fourth, fifth] => on_five(word, second, third, fourth, fifth),
         [word, second, third, fourth, fifth, sixth] => {

@@ -16,7 +16,6 @@ returns-clause-complete g c = λ files told status text line due no_fault no_wri
     let r = c.run_words.result in
     completes words files r status text line due
     (λ low. let a = subst (λ (h : Option Files). IfSome h (WritesAnswer words r (g.O.Sink.written c.args.out.now) (g.O.Sink.written c.run_words.new.out))) told (e.answered low) in (a.0, a.1))
-    (λ high lt. let a = e.line high in (a.0, subst (λ (h : Option Files). IfSome h (λ f. Answer words f r [] a.0)) told (a.1.related lt)))
+    (λ decided. let a = e.line decided.0 in (a.0, subst (λ (h : Option Files). IfSome h (λ f. Answer words f r [] a.0)) told (a.1.related decided)))
     (λ nine. ⊎_elim (λ rose. absurd (no_fault rose)) (λ missing. subst (λ (h : Option Files). IsTold h (λ f. Leads words f misses)) told missing) (e.read nine))
     (λ ten. no_write_fault (e.write ten).0)
-    e.statuses

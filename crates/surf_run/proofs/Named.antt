@@ -1,0 +1,118 @@
+-- What comes of words depends on the files that they name alone.
+use Rattle.std.proofs.Common.{◌≡◌, ℕ, Bool, true, false, List, [], ◌∷◌, Option, Some, None, Result, Ok, Err, refl, ap, ◌∙◌, inl, inr}
+use Rattle.std.specs.Prelude.{if◌then◌else◌, codes, replicate}
+use Rattle.std.specs.List.{AllByRecursion}
+use Rattle.std.specs.Str.{bytes_eq}
+use Rattle.std.proofs.lemmas.List.Elements.{recursion_from_All}
+use Rattle.surf_base.specs.Outside.{Files, bytes_of}
+use Rattle.surf_complex.specs.Mesh.{Mesh}
+use Rattle.surf_complex.specs.Surface.{edge_count}
+use Rattle.surf_run.specs.Checking.{OnCheckedText, OnCheckedMesh, OnCertFile, OnCertText}
+use Rattle.surf_run.specs.Coordinates.{OnLengthsText}
+use Rattle.surf_run.specs.CycleTasks.{Finds, OnMesh, OnMeshText, vertex_limit}
+use Rattle.surf_run.specs.Given.{IsFewLoopedText, IsSearchableText, IsMeasured, IsWeighted}
+use Rattle.surf_run.specs.Leads.{Leads, OnRequest, OnInfoText, OnDiscText}
+use Rattle.surf_run.specs.Named.{length_file, named, AgreeOn, AnswersDependOnNamedFiles}
+use Rattle.surf_run.specs.Outcome.{Outcome}
+use Rattle.surf_run.specs.Reading.{Reads, within_text}
+use Rattle.surf_run.specs.Steps.{Ends}
+use Rattle.surf_run.specs.Tasks.{Performs, OnSurface, OnText, is_limited}
+use Rattle.surf_run.specs.Weights.{weighed_by, weighed_for, HasLengths}
+use Rattle.surf_run.specs.Words.{Request, help, version, info, disc, cycles, weighted, makes, tries, checks, measures, request_of}
+use Rattle.surf_run.specs.declared.cycles.CycleTask.{CycleTask}
+use Rattle.surf_run.specs.declared.weighted.Task.{Task}
+
+-- what ends two steps ends two others that follow from them
+ends_map : {A : Type 0} (first other : Result A Outcome → Type 0) (second next : A → Outcome → Type 0) →
+    ((r : Result A Outcome) → first r → other r) → ((a : A) (o : Outcome) → second a o → next a o) →
+    (o : Outcome) → Ends first second o → Ends other next o
+ends_map first other second next f g o (inl ended) = inl (f (Err o) ended)
+ends_map first other second next f g o (inr (a, went, end)) = inr (a, f (Ok a) went, g a o end)
+
+module _ (here there : Files) where
+  abbrev Same : List ℕ → Type 0
+  Same name = bytes_of here name ≡ bytes_of there name
+
+  reads_same : (name : List ℕ) → Same name → (r : Result (List ℕ) Outcome) → Reads name here r → Reads name there r
+  reads_same name same r is = is ∙ ap within_text same
+
+  -- the first step reads a file
+  on_file : (name : List ℕ) → Same name → (second next : List ℕ → Outcome → Type 0) →
+      ((bytes : List ℕ) (o : Outcome) → second bytes o → next bytes o) → (o : Outcome) →
+      Ends (Reads name here) second o → Ends (Reads name there) next o
+  on_file name same second next rest o ends = ends_map (Reads name here) (Reads name there) second next (reads_same name same) rest o ends
+
+  -- it reads no file
+  on_step : {A : Type 0} (first : Result A Outcome → Type 0) (second next : A → Outcome → Type 0) →
+      ((a : A) (o : Outcome) → second a o → next a o) → (o : Outcome) → Ends first second o → Ends first next o
+  on_step first second next rest o ends = ends_map first first second next (λ r is. is) rest o ends
+
+  weighed_same : (word : List ℕ) (mesh : Mesh) → AllByRecursion Same (length_file word) →
+      weighed_for word mesh here ≡ weighed_for word mesh there
+  weighed_same word mesh same = at (bytes_eq word (codes "unit")) same
+    where
+      at : (b : Bool) → AllByRecursion Same (if b then [] else word ∷ []) →
+          (if b then Ok (replicate (edge_count mesh) 1) else weighed_by mesh (within_text (bytes_of here word)))
+          ≡ (if b then Ok (replicate (edge_count mesh) 1) else weighed_by mesh (within_text (bytes_of there word)))
+      at true none = refl
+      at false one = ap (λ bytes. weighed_by mesh (within_text bytes)) one.0
+
+  lengths_same : (word : List ℕ) (mesh : Mesh) → AllByRecursion Same (length_file word) → (r : Result (List ℕ) Outcome) →
+      HasLengths word mesh here r → HasLengths word mesh there r
+  lengths_same word mesh same r is = is ∙ weighed_same word mesh same
+
+  measured_same : (word : List ℕ) (mesh : Mesh) → AllByRecursion Same (length_file word) → (r : Result (List ℕ) Outcome) →
+      IsMeasured word mesh here r → IsMeasured word mesh there r
+  measured_same word mesh same (Ok lengths) is = (lengths_same word mesh same (Ok lengths) is.0, is.1)
+  measured_same word mesh same (Err o) is = lengths_same word mesh same (Err o) is
+
+  weighted_same : (word : List ℕ) (base : ℕ) (mesh : Mesh) → AllByRecursion Same (length_file word) → (r : Result (List ℕ × ℕ) Outcome) →
+      IsWeighted word base mesh here r → IsWeighted word base mesh there r
+  weighted_same word base mesh same (Ok given) is = (lengths_same word mesh same (Ok given.0) is.0, is.1)
+  weighted_same word base mesh same (Err o) (inl is) = inl (lengths_same word mesh same (Err o) is)
+  weighted_same word base mesh same (Err o) (inr (lengths, is, off)) = inr (lengths, lengths_same word mesh same (Ok lengths) is, off)
+
+  cycles_same : (task : CycleTask) (word : List ℕ) → AllByRecursion Same (length_file word) → (bytes : List ℕ) (o : Outcome) →
+      OnMeshText task bytes word here o → OnMeshText task bytes word there o
+  cycles_same task word same bytes =
+      on_step (IsSearchableText (vertex_limit task) bytes) (λ mesh. OnMesh task mesh word here) (λ mesh. OnMesh task mesh word there)
+      (λ mesh. ends_map (IsMeasured word mesh here) (IsMeasured word mesh there) (Finds task mesh) (Finds task mesh)
+      (measured_same word mesh same) (λ lengths o is. is))
+
+  tasks_same : (task : Task) (word : List ℕ) (base : ℕ) → AllByRecursion Same (length_file word) → (bytes : List ℕ) (o : Outcome) →
+      OnText task bytes word base here o → OnText task bytes word base there o
+  tasks_same task word base same bytes =
+      on_step (IsFewLoopedText (is_limited task) bytes) (λ read. OnSurface task read word base here) (λ read. OnSurface task read word base there)
+      (λ read. ends_map (IsWeighted word base read.1 here) (IsWeighted word base read.1 there) (Performs task read) (Performs task read)
+      (weighted_same word base read.1 same) (λ given o is. is))
+
+  checks_same : (word cert : List ℕ) → AllByRecursion Same (length_file word) → Same cert → (bytes : List ℕ) (o : Outcome) →
+      OnCheckedText bytes word cert here o → OnCheckedText bytes word cert there o
+  checks_same word cert same held bytes =
+      on_step (IsFewLoopedText true bytes) (λ read. OnCheckedMesh read.1 word cert here) (λ read. OnCheckedMesh read.1 word cert there)
+      (λ read. ends_map (IsMeasured word read.1 here) (IsMeasured word read.1 there) (λ lengths. OnCertFile read.1 lengths cert here)
+      (λ lengths. OnCertFile read.1 lengths cert there) (measured_same word read.1 same)
+      (λ lengths. on_file cert held (OnCertText read.1 lengths) (OnCertText read.1 lengths) (λ text o is. is)))
+
+  requests_same : (r : Option Request) → AllByRecursion Same (named r) → (o : Outcome) → OnRequest r here o → OnRequest r there o
+  requests_same None same o on = on
+  requests_same (Some help) same o on = on
+  requests_same (Some version) same o on = on
+  requests_same (Some (info mesh)) same o on = on_file mesh same.0 OnInfoText OnInfoText (λ bytes o is. is) o on
+  requests_same (Some (disc mesh)) same o on = on_file mesh same.0 OnDiscText OnDiscText (λ bytes o is. is) o on
+  requests_same (Some (cycles task mesh word)) same o on =
+      on_file mesh same.0 (λ bytes. OnMeshText task bytes word here) (λ bytes. OnMeshText task bytes word there) (cycles_same task word same.1) o on
+  requests_same (Some (weighted task mesh word base)) same o on =
+      on_file mesh same.0 (λ bytes. OnText task bytes word base here) (λ bytes. OnText task bytes word base there) (tasks_same task word base same.1) o on
+  requests_same (Some (makes shape)) same o on = on
+  requests_same (Some (tries shape scatter)) same o on = on
+  requests_same (Some (checks mesh word cert)) same o on =
+      on_file mesh same.0 (λ bytes. OnCheckedText bytes word cert here) (λ bytes. OnCheckedText bytes word cert there)
+      (checks_same word cert same.1.1 same.1.0) o on
+  requests_same (Some (measures mesh decimals)) same o on = on_file mesh same.0 (OnLengthsText decimals) (OnLengthsText decimals) (λ bytes o is. is) o on
+
+pub answers_depend_on_named_files : AnswersDependOnNamedFiles
+unfolding Leads
+answers_depend_on_named_files words here there same o leads =
+    requests_same here there (request_of words)
+    (recursion_from_All (λ name. bytes_of here name ≡ bytes_of there name) (named (request_of words)) same) o leads
