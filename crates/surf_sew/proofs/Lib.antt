@@ -1,0 +1,3 @@
+pub mod CopyLines
+pub mod Gaps
+pub mod Faults

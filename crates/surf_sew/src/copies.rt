@@ -1,13 +1,12 @@
 //! The copy lines of a text.
-ghost use Rattle.std.specs.Prelude.{◌≡◌, ◌≤◌, ◌∷◌, length};
+ghost use Rattle.std.specs.Prelude.{◌≡◌, ◌≤◌, ◌∷◌, Some, length};
 ghost use Rattle.std.specs.List.{position, slice_split};
 ghost use Rattle.std.specs.Str.{bytes_eq};
 ghost use Rattle.surf_text.specs.Text.{is_line_end, words_of};
 ghost use Rattle.surf_text.specs.Walks.{parts_of};
-ghost use Rattle.surf_sew.specs.Copies.{is_copy, origin_of, copies_in, Gives};
+ghost use Rattle.surf_sew.specs.Copies.{is_copy, origin_at, origin_of, copies_in, Gives};
 ghost use Rattle.surf_sew.specs.declared.copies.CopyFault.TheVariants.{Memory};
 
-use memchr::memchr;
 use std::alloc::{AllocFailed, Global};
 use surf_base::VertexId;
 use surf_text::{Tokens, read_whole};
@@ -34,7 +33,7 @@ impl<T: Drop> From<AllocFailed<T>> for CopyFault {
 fn line_end(bytes: &[u8]) -> Option<usize>
     ensures place { result ≡ position is_line_end bytes.now }
 {
-    memchr(b'\n', bytes)
+    bytes.iter().position(|b| *b == b'\n')
 }
 
 // A first line and what stands behind its end, if it has one.
@@ -63,6 +62,17 @@ fn is_copy_line(line: &[u8]) -> bool
     }
 }
 
+// The vertex, where the copy is the one that is due.
+fn origin_at(place: u64, copy: u64, vertex: u64) -> Option<VertexId>
+    ensures origin { result ≡ origin_at place (Some copy) (Some vertex) }
+{
+    if copy == place && vertex <= u32::MAX as u64 {
+        Some(VertexId::new(vertex as u32))
+    } else {
+        None
+    }
+}
+
 // The origin that a copy line names, for the copy at its place.
 fn read_origin(line: &[u8], place: u64) -> Option<VertexId>
     ensures origin { result ≡ origin_of place (words_of line.now) }
@@ -70,15 +80,13 @@ fn read_origin(line: &[u8], place: u64) -> Option<VertexId>
     let mut words = Tokens::between_blanks(line);
     words.next_token()?;
     words.next_token()?;
-    let copy = read_whole(words.next_token()?)?;
+    let copy = words.next_token()?;
     let from = words.next_token()?;
-    let vertex = read_whole(words.next_token()?)?;
-    let named = is_word(from, b"from") && words.is_empty();
-    if named && copy == place && vertex <= u32::MAX as u64 {
-        Some(VertexId::new(vertex as u32))
-    } else {
-        None
+    let vertex = words.next_token()?;
+    if !words.is_empty() || !is_word(from, b"from") {
+        return None;
     }
+    origin_at(place, read_whole(copy)?, read_whole(vertex)?)
 }
 
 /// Reads the origins of so many copies from the copy lines of a text: those whose first two tokens, between

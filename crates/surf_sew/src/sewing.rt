@@ -1,6 +1,6 @@
 //! Sews copies together.
-ghost use Rattle.std.specs.Prelude.{◌≡◌, ◌≢◌, ◌<◌, ◌≤◌, ◌^◌, ℕ, None, Some, Ok, [], length, slice_index, AllPairs, MatchResult, IfOk, IfNone};
-ghost use Rattle.std.specs.List.{All};
+ghost use Rattle.std.specs.Prelude.{◌≡◌, ◌≢◌, ◌==◌, nat_lt, ◌<◌, ◌≤◌, ◌^◌, ℕ, None, Some, Ok, [], length, slice_index, AllPairs, MatchResult, IfOk, IfNone};
+ghost use Rattle.std.specs.List.{All, list_all, position, position_or_len};
 ghost use Rattle.surf_off.specs.Off.{first_repeat};
 ghost use Rattle.surf_sew.specs.Sewing.{different, first_copies, gap_fault, HaveCopies, line_fault, sewn_face, sewn_faces, repeat_from, unless, sewn_of, Gives};
 
@@ -11,6 +11,29 @@ use surf_base::{CopyId, FaceId, VertexId};
 use surf_mesh::Soup;
 use surf_off::OffText;
 
+// The first vertex without a copy.
+fn first_without(first: &[u32], copies: u32) -> Option<usize>
+    ensures place { result ≡ position (λ c. c == copies) first.now }
+{
+    first.iter().position(|c| *c == copies)
+}
+
+// The same, or how many vertices are listed.
+fn first_gap(first: &[u32], copies: u32) -> usize
+    ensures gap { result ≡ position_or_len (λ c. c == copies) first.now }
+{
+    match first_without(first, copies) {
+        Some(v) => v,
+        None => first.len(),
+    }
+}
+
+fn are_below(origins: &[VertexId], vertices: usize) -> bool
+    ensures below { result ≡ list_all (λ v. nat_lt v vertices) origins.now }
+{
+    origins.iter().all(|v| v.index() < vertices)
+}
+
 // How many different origins there are, where they have no gap.
 fn count_origins(first: &[u32], origins: &[VertexId]) -> Result<u32, SewFault>
     requires countable { length origins.now < 2 ^ 32 }
@@ -20,12 +43,8 @@ fn count_origins(first: &[u32], origins: &[VertexId]) -> Result<u32, SewFault>
     ensures copies { IfOk result (λ n. HaveCopies origins.now n) }
     ensures few { IfOk result (λ n. n ≤ length origins.now) }
 {
-    let copies = origins.len();
-    let gap = first
-        .iter()
-        .position(|c| *c as usize == copies)
-        .unwrap_or(copies);
-    if origins.iter().all(|v| v.index() < gap) {
+    let gap = first_gap(first, origins.len() as u32);
+    if are_below(origins, gap) {
         Ok(gap as u32)
     } else {
         Err(SewFault::Gap {
