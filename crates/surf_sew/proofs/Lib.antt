@@ -1,3 +1,4 @@
 pub mod CopyLines
 pub mod Gaps
+pub mod Firsts
 pub mod Faults
