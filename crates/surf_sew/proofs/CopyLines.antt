@@ -1,10 +1,12 @@
 -- Copy lines that are read one after the other.
-use Rattle.std.proofs.Common.{◌≡◌, ◌+◌, ℕ, true, false, List, [], ◌∷◌, ◌++◌, length, Option, Some, None, Result, Ok, Err, refl, sym, ◌∙◌, ap, append_assoc}
+use Rattle.std.proofs.Common.{◌≡◌, ◌+◌, ℕ, true, false, List, [], ◌∷◌, ◌++◌, length, Option, Some, None, Result, Ok, Err, refl, sym, ◌∙◌, ap, append_assoc, not, codes}
 use Rattle.std.proofs.lemmas.List.{append-nil}
-use Rattle.surf_text.specs.Text.{words_of}
+use Rattle.std.specs.Str.{bytes_eq}
+use Rattle.surf_text.specs.Text.{words_of, whole}
+use Rattle.surf_text.specs.Walks.{has_some}
 use Rattle.surf_sew.specs.declared.copies.CopyFault.{CopyFault}
 use Rattle.surf_sew.specs.declared.copies.CopyFault.TheVariants.{CopyForm}
-use Rattle.surf_sew.specs.Copies.{WordLine, word_lines_from, is_copy, copies_among, origin_of, with_origin, origins_from}
+use Rattle.surf_sew.specs.Copies.{WordLine, word_lines_from, is_copy, copies_among, origin_at, origin_of, with_origin, origins_from}
 
 -- origins that were read, in front of those to come
 abbrev pub with_origins : List ℕ → Result (List ℕ) CopyFault → Result (List ℕ) CopyFault
@@ -35,3 +37,11 @@ module _ (n : ℕ) (front line : List ℕ) (lines : List (List ℕ)) where
 pub no_line : (n : ℕ) (front : List ℕ) → with_origins front (origins_from (length front) (copies_among (word_lines_from n []))) ≡ Ok front
 unfolding origins_from
 no_line n front = ap (λ (os : List ℕ). Ok os) (append-nil front)
+
+-- five words, the fourth of which is from
+pub five_words : (place : ℕ) (words t1 t2 t3 t4 t5 : List (List ℕ)) (sign copy i from v : List ℕ) → words ≡ sign ∷ t1 → t1 ≡ copy ∷ t2 → t2 ≡ i ∷ t3 → t3 ≡ from ∷ t4 → t4 ≡ v ∷ t5 → not (has_some t5) ≡ true → bytes_eq from (codes "from") ≡ true
+    → origin_of place words ≡ origin_at place (whole i) (whole v)
+five_words place words t1 t2 t3 t4 [] sign copy i from v e1 e2 e3 e4 e5 last named =
+    let all : words ≡ sign ∷ copy ∷ i ∷ from ∷ v ∷ [] = cc in
+    rw (all, named) refl
+five_words place words t1 t2 t3 t4 (t ∷ ts) sign copy i from v e1 e2 e3 e4 e5 last named = absurd cc

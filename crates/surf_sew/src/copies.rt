@@ -83,11 +83,13 @@ fn read_origin(line: &[u8], place: u64) -> Option<VertexId>
     let copy = words.next_token()?;
     let from = words.next_token()?;
     let vertex = words.next_token()?;
-    if words.is_empty() && is_word(from, b"from") {
-        origin_at(place, read_whole(copy)?, read_whole(vertex)?)
-    } else {
-        None
+    if !words.is_empty() {
+        return None;
     }
+    if !is_word(from, b"from") {
+        return None;
+    }
+    origin_at(place, read_whole(copy)?, read_whole(vertex)?)
 }
 
 /// Reads the origins of so many copies from the copy lines of a text: those whose first two tokens, between

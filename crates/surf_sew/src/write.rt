@@ -1,7 +1,6 @@
 //! Writes a sewn mesh as an OFF text.
 ghost use Rattle.std.specs.Prelude.{◌≡◌, ◌<◌, ◌≤◌, ◌^◌, length};
 ghost use Rattle.std.specs.List.{All, zip};
-ghost use Rattle.surf_complex.specs.Surface.{face_count, edge_count};
 ghost use Rattle.surf_text.specs.Pages.{Puts};
 ghost use Rattle.surf_off.specs.Written.{head_text, lines_text, numbers_text, colour_text, face_text, faces_text, lines_at};
 ghost use Rattle.surf_sew.specs.Sewing.{HaveCopies};
@@ -10,23 +9,29 @@ ghost use Rattle.surf_sew.specs.Texts.{sewn_lines, sewn_text, RereadsSewn};
 use crate::first::list_first;
 use surf_base::{FaceId, VertexId};
 use surf_mesh::HalfMesh;
-use surf_off::OffText;
+use surf_off::{Header, OffText};
 use surf_text::{Page, PageFault, Piece};
 
 // The least copies of so many vertices are found at a time, so that no memory is taken.
 const WINDOW: usize = 4096;
 
-fn write_head(page: &mut Page, text: &OffText<'_>, mesh: &HalfMesh) -> Result<(), PageFault>
-    ensures puts { Puts page.old page.new (head_text text.now.header mesh.now.vertices (face_count mesh.now) (edge_count mesh.now)) result }
+fn write_head(
+    page: &mut Page,
+    header: Header,
+    vertices: u32,
+    faces: u32,
+    edges: u32,
+) -> Result<(), PageFault>
+    ensures puts { Puts page.old page.new (head_text header vertices faces edges) result }
 {
     page.push_pieces(&[
-        Piece::Bytes(text.header().keyword()),
+        Piece::Bytes(header.keyword()),
         Piece::Bytes(b"\n"),
-        Piece::Whole(mesh.vertices() as u128),
+        Piece::Whole(vertices as u128),
         Piece::Bytes(b" "),
-        Piece::Whole(mesh.faces() as u128),
+        Piece::Whole(faces as u128),
         Piece::Bytes(b" "),
-        Piece::Whole(mesh.edges() as u128),
+        Piece::Whole(edges as u128),
         Piece::Bytes(b"\n"),
     ])
 }
@@ -49,7 +54,7 @@ fn write_lines(
     page: &mut Page,
     text: &OffText<'_>,
     origins: &[VertexId],
-    vertices: usize,
+    vertices: u32,
 ) -> Result<(), PageFault>
     requires fits { length page.old.bytes ≤ page.old.most }
     requires countable { length origins.now < 2 ^ 32 }
@@ -57,6 +62,7 @@ fn write_lines(
     requires copies { HaveCopies origins.now vertices }
     ensures puts { Puts page.old page.new (lines_text (sewn_lines text.now.vertex_lines origins.now vertices)) result }
 {
+    let vertices = vertices as usize;
     let mut first = [0u32; WINDOW];
     let mut from = 0;
     while from < vertices {
@@ -132,7 +138,8 @@ pub fn write_sewn(
     ensures puts { Puts page.old page.new (sewn_text text.now origins.now mesh.now) result }
     ensures reread { RereadsSewn text.now origins.now mesh.now }
 {
-    write_head(page, text, mesh)?;
-    write_lines(page, text, origins, mesh.vertices() as usize)?;
+    let vertices = mesh.vertices();
+    write_head(page, text.header(), vertices, mesh.faces(), mesh.edges())?;
+    write_lines(page, text, origins, vertices)?;
     write_faces(page, text, mesh)
 }
