@@ -1,0 +1,44 @@
+-- The text of a sewn mesh, and what it is read as.
+use Rattle.std.proofs.Common.{◌≡◌, ◌<◌, ◌≤◌, ◌+◌, ◌^◌, ℕ, zero, suc, List, [], ◌∷◌, ◌++◌, length, get_or, map, Ok, refl, sym, ◌∙◌, ap, subst, append_assoc, arith}
+use Rattle.std.specs.List.{All, zip, range_with_len}
+use Rattle.std.proofs.lemmas.List.{length-map, append-nil}
+use Rattle.std.proofs.lemmas.List.FromFn.{length-range_with_len}
+use Rattle.surf_complex.specs.Mesh.{Mesh, IsMesh}
+use Rattle.surf_complex.specs.Surface.{edge_count}
+use Rattle.surf_off.specs.Clean.{IsVertexLine, IsOffParts}
+use Rattle.surf_off.specs.Off.{OffParts}
+use Rattle.surf_off.specs.Written.{head_text, lines_text, faces_text, lines_at}
+use Rattle.surf_off.proofs.Reread.{AllLines, AllFaces}
+use Rattle.surf_off.proofs.RereadMesh.{mesh_again, all_faces}
+use Rattle.surf_sew.specs.Sewing.{first_copy, first_copies, HaveCopies}
+use Rattle.surf_sew.specs.Texts.{sewn_lines, sewn_text, RereadsSewn}
+use Rattle.surf_sew.proofs.Gaps.{among_copy}
+
+pub lines_count : (lines : List (List ℕ)) (origins : List ℕ) (n : ℕ) → length (sewn_lines lines origins n) ≡ n
+lines_count lines origins n = length-map (first_copies origins 0 n) _ ∙ length-map (range_with_len 0 n) (first_copy origins) ∙ length-range_with_len 0 n
+
+-- the parts of the text, one after the other
+pub parts : (text : OffParts) (origins : List ℕ) (mesh : Mesh)
+    → head_text text.header mesh.vertices (length mesh.faces) (edge_count mesh) ++ (lines_text (sewn_lines text.vertex_lines origins mesh.vertices) ++ faces_text (zip mesh.faces text.colours)) ≡ sewn_text text origins mesh
+parts text origins mesh = ap (λ (v : ℕ). head_text text.header v (length mesh.faces) (edge_count mesh) ++ (lines_text (sewn_lines text.vertex_lines origins mesh.vertices) ++ faces_text (zip mesh.faces text.colours))) (sym (lines_count text.vertex_lines origins mesh.vertices))
+
+-- Vertices from one on have copies.
+all_lines : (lines : List (List ℕ)) (origins : List ℕ) (from n : ℕ) → All IsVertexLine lines → length origins ≡ length lines → HaveCopies origins (from + n) → AllLines (lines_at lines (first_copies origins from n))
+unfolding AllLines
+all_lines lines origins from zero good same have = tt
+all_lines lines origins from (suc n) good same have =
+    let few = among_copy origins from (have from (omega arith)) in (
+      good (first_copy origins from) [] (omega arith),
+      all_lines lines origins (from + 1) n good same (λ v lt. have v (omega arith)),
+    )
+
+-- The text of a sewn mesh is read as its keyword, the lines of the least copies, the colours and the mesh.
+pub sewn_again : (text : OffParts) (origins : List ℕ) (mesh : Mesh) → IsOffParts text → length origins ≡ length text.vertex_lines → HaveCopies origins mesh.vertices → IsMesh mesh → All (λ f. length f < 2 ^ 64) mesh.faces → length mesh.faces ≡ length text.colours
+    → mesh.vertices < 2 ^ 64 → length mesh.faces < 2 ^ 64 → edge_count mesh < 2 ^ 64 → RereadsSewn text origins mesh
+sewn_again text origins mesh kept same have good short faces small_v small_f small_e =
+    let lines = sewn_lines text.vertex_lines origins mesh.vertices in
+    let count = lines_count text.vertex_lines origins mesh.vertices in
+    let all : AllFaces (length lines) mesh.faces text.colours = subst (λ (v : ℕ). AllFaces v mesh.faces text.colours) (sym count) (all_faces mesh.vertices mesh.faces text.colours small_v good short kept.colours faces) in
+    ap Rattle.surf_off.specs.Off.off_without_limits (sym (append-nil (sewn_text text origins mesh)))
+    ∙ mesh_again text.header lines mesh.faces text.colours (edge_count mesh) [] (all_lines text.vertex_lines origins 0 mesh.vertices kept.vertex_lines same (λ v lt. have v (omega arith))) all (λ n. refl) (omega (arith, count)) small_f small_e
+    ∙ ap (λ (n : ℕ). Ok (record { header = text.header; vertex_lines = lines; colours = text.colours }, record { vertices = n; faces = mesh.faces })) count

@@ -1,0 +1,45 @@
+-- The vertex lines of least copies, some vertices at a time.
+use Rattle.std.proofs.Common.{◌≡◌, ◌<◌, ◌≤◌, ◌+◌, ℕ, zero, suc, List, [], ◌∷◌, ◌++◌, length, get_or, map, refl, sym, ◌∙◌, ap, append_assoc, codes, arith}
+use Rattle.std.specs.List.{All, range_with_len}
+use Rattle.std.proofs.lemmas.List.{map-append}
+use Rattle.std.proofs.lemmas.List.FromFn.{get_or-map-range_with_len, length-map-range_with_len}
+use Rattle.surf_text.proofs.Writing.{text_append}
+use Rattle.surf_off.specs.Written.{lines_text, lines_at}
+use Rattle.surf_sew.specs.Sewing.{first_copy, first_copies, HaveCopies}
+use Rattle.surf_sew.specs.Texts.{sewn_lines}
+use Rattle.surf_sew.proofs.Gaps.{among_copy}
+
+pub copies_few : (vs : List ℕ) (from n : ℕ) → HaveCopies vs (from + n) → All (λ c. c < length vs) (first_copies vs from n)
+copies_few vs from n have k d lt =
+    let small : k < n = omega (arith, length-map-range_with_len (first_copy vs) from n) in
+    rw (get_or-map-range_with_len (first_copy vs) from n k (from + k) d small refl) (among_copy vs (from + k) (have (from + k) (omega arith)))
+
+range_append : (a m n : ℕ) → range_with_len a (m + n) ≡ range_with_len a m ++ range_with_len (a + m) n
+range_append a zero n =
+    let e : 0 + n ≡ n = omega arith in
+    let f : a ≡ a + 0 = omega arith in
+    ap (range_with_len a) e ∙ ap (λ (b : ℕ). range_with_len b n) f
+range_append a (suc m) n =
+    let e : suc m + n ≡ suc (m + n) = omega arith in
+    let f : a + 1 + m ≡ a + suc m = omega arith in
+    ap (range_with_len a) e ∙ ap (λ (xs : List ℕ). a ∷ xs) (range_append (a + 1) m n ∙ ap (λ (b : ℕ). range_with_len (a + 1) m ++ range_with_len b n) f)
+
+module _ (lines : List (List ℕ)) (vs : List ℕ) where
+
+  pub more_lines : (from n : ℕ) → lines_text (lines_at lines (first_copies vs 0 (from + n))) ≡ lines_text (lines_at lines (first_copies vs 0 from)) ++ lines_text (lines_at lines (first_copies vs from n))
+  more_lines from n =
+      let e : 0 + from ≡ from = omega arith in
+      let ranges : range_with_len 0 (from + n) ≡ range_with_len 0 from ++ range_with_len from n = range_append 0 from n ∙ ap (λ (b : ℕ). range_with_len 0 from ++ range_with_len b n) e in
+      let copies : first_copies vs 0 (from + n) ≡ first_copies vs 0 from ++ first_copies vs from n = ap (map (first_copy vs)) ranges ∙ map-append (first_copy vs) (range_with_len 0 from) (range_with_len from n) in
+      ap (λ (cs : List ℕ). lines_text (lines_at lines cs)) copies
+      ∙ ap lines_text (map-append (λ c. get_or lines c []) (first_copies vs 0 from) (first_copies vs from n))
+      ∙ text_append lines_text (λ l. l ++ codes "\n") refl (λ x xs. refl) (lines_at lines (first_copies vs 0 from)) (lines_at lines (first_copies vs from n))
+
+  -- those before, some, and the rest
+  pub all_lines : (from n rest all : ℕ) → from + n + rest ≡ all
+      → lines_text (lines_at lines (first_copies vs 0 from)) ++ (lines_text (lines_at lines (first_copies vs from n)) ++ lines_text (lines_at lines (first_copies vs (from + n) rest))) ≡ lines_text (sewn_lines lines vs all)
+  all_lines from n rest all e =
+      sym (append_assoc (lines_text (lines_at lines (first_copies vs 0 from))) (lines_text (lines_at lines (first_copies vs from n))) (lines_text (lines_at lines (first_copies vs (from + n) rest))))
+      ∙ ap (λ (t : List ℕ). t ++ lines_text (lines_at lines (first_copies vs (from + n) rest))) (sym (more_lines from n))
+      ∙ sym (more_lines (from + n) rest)
+      ∙ ap (λ (k : ℕ). lines_text (sewn_lines lines vs k)) e

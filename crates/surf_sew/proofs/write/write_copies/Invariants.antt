@@ -1,0 +1,7 @@
+use Rattle.std.proofs.Common.{take, Ok}
+use Rattle.surf_text.specs.Pages.{Puts}
+use Rattle.surf_off.specs.Written.{lines_text, lines_at}
+use Rattle.surf_sew.proofs.write.write_copies.Given as goal
+
+abbrev pub invariant-loop-c : goal.invariant-loop-c
+invariant-loop-c l = Puts {A = Unit {0}} l.fn.page l.page (lines_text (lines_at l.text.vertex_lines (take l.c-index l.copies))) (Ok tt)

@@ -1,0 +1,8 @@
+use Rattle.std.proofs.Common.{take, Ok}
+use Rattle.std.specs.List.{zip}
+use Rattle.surf_text.specs.Pages.{Puts}
+use Rattle.surf_off.specs.Written.{faces_text}
+use Rattle.surf_sew.proofs.write.write_faces.Given as goal
+
+abbrev pub invariant-loop-f : goal.invariant-loop-f
+invariant-loop-f l = Puts {A = Unit {0}} l.fn.page l.page (faces_text (take l.f (zip l.mesh.faces l.text.colours))) (Ok tt)

@@ -1,0 +1,145 @@
+//! Writes a sewn mesh as an OFF text.
+ghost use Rattle.std.specs.Prelude.{◌≡◌, ◌<◌, ◌≤◌, ◌^◌, length};
+ghost use Rattle.std.specs.List.{All, zip};
+ghost use Rattle.surf_text.specs.Pages.{Puts};
+ghost use Rattle.surf_off.specs.Written.{head_text, lines_text, numbers_text, colour_text, face_text, faces_text, lines_at};
+ghost use Rattle.surf_sew.specs.Sewing.{HaveCopies};
+ghost use Rattle.surf_sew.specs.Texts.{sewn_lines, sewn_text, RereadsSewn};
+
+use crate::first::list_first;
+use surf_base::{FaceId, VertexId};
+use surf_mesh::HalfMesh;
+use surf_off::{Header, OffText};
+use surf_text::{Page, PageFault, Piece};
+
+// The least copies of so many vertices are found at a time, so that no memory is taken.
+const WINDOW: usize = 4096;
+
+fn write_head(
+    page: &mut Page,
+    header: Header,
+    vertices: u32,
+    faces: u32,
+    edges: u32,
+) -> Result<(), PageFault>
+    ensures puts { Puts page.old page.new (head_text header vertices faces edges) result }
+{
+    page.push_pieces(&[
+        Piece::Bytes(header.keyword()),
+        Piece::Bytes(b"\n"),
+        Piece::Whole(vertices as u128),
+        Piece::Bytes(b" "),
+        Piece::Whole(faces as u128),
+        Piece::Bytes(b" "),
+        Piece::Whole(edges as u128),
+        Piece::Bytes(b"\n"),
+    ])
+}
+
+// The vertex lines of some copies.
+fn write_copies(page: &mut Page, text: &OffText<'_>, copies: &[u32]) -> Result<(), PageFault>
+    requires fits { length page.old.bytes ≤ page.old.most }
+    requires within { All (λ c. c < length text.now.vertex_lines) copies.now }
+    ensures puts { Puts page.old page.new (lines_text (lines_at text.now.vertex_lines copies.now)) result }
+{
+    for c in copies {
+        let line = text.vertex_line(VertexId::new(*c));
+        page.push_pieces(&[Piece::Bytes(line), Piece::Bytes(b"\n")])?;
+    }
+    Ok(())
+}
+
+// The vertex line of the least copy of each vertex.
+fn write_lines(
+    page: &mut Page,
+    text: &OffText<'_>,
+    origins: &[VertexId],
+    vertices: u32,
+) -> Result<(), PageFault>
+    requires fits { length page.old.bytes ≤ page.old.most }
+    requires countable { length origins.now < 2 ^ 32 }
+    requires origins { length origins.now ≡ length text.now.vertex_lines }
+    requires copies { HaveCopies origins.now vertices }
+    ensures puts { Puts page.old page.new (lines_text (sewn_lines text.now.vertex_lines origins.now vertices)) result }
+{
+    let vertices = vertices as usize;
+    let mut first = [0u32; WINDOW];
+    let mut from = 0;
+    while from < vertices {
+        let count = WINDOW.min(vertices - from);
+        list_first(origins, from, &mut first[..count]);
+        write_copies(page, text, &first[..count])?;
+        from += count;
+    }
+    Ok(())
+}
+
+fn write_corners(page: &mut Page, corners: &[VertexId]) -> Result<(), PageFault>
+    requires fits { length page.old.bytes ≤ page.old.most }
+    ensures puts { Puts page.old page.new (numbers_text corners.now) result }
+{
+    for v in corners {
+        page.push_pieces(&[Piece::Bytes(b" "), Piece::Whole(v.index() as u128)])?;
+    }
+    Ok(())
+}
+
+fn write_colour(page: &mut Page, colour: &[u8]) -> Result<(), PageFault>
+    requires fits { length page.old.bytes ≤ page.old.most }
+    ensures puts { Puts page.old page.new (colour_text colour.now) result }
+{
+    if colour.is_empty() {
+        return Ok(());
+    }
+    page.push_pieces(&[Piece::Bytes(b" "), Piece::Bytes(colour)])
+}
+
+fn write_face(page: &mut Page, corners: &[VertexId], colour: &[u8]) -> Result<(), PageFault>
+    ensures puts { Puts page.old page.new (face_text corners.now colour.now) result }
+{
+    page.push_whole(corners.len() as u128)?;
+    write_corners(page, corners)?;
+    write_colour(page, colour)?;
+    page.push_bytes(b"\n")
+}
+
+fn write_faces(page: &mut Page, text: &OffText<'_>, mesh: &HalfMesh) -> Result<(), PageFault>
+    requires fits { length page.old.bytes ≤ page.old.most }
+    requires faces { length mesh.now.faces ≡ length text.now.colours }
+    ensures puts { Puts page.old page.new (faces_text (zip mesh.now.faces text.now.colours)) result }
+{
+    for f in 0..mesh.faces() {
+        let face = FaceId::new(f);
+        write_face(page, mesh.face(face), text.colour(face))?;
+    }
+    Ok(())
+}
+
+/// Puts a sewn mesh on a page: the keyword of `text`, the numbers of vertices, faces and edges, for each vertex the
+/// line of its least copy, and each face with its colour.
+///
+/// `text` and `origins` are those of the copies, and `mesh` is what was sewn: it has a face for each face of `text`,
+/// and each of its vertices is an origin. Refuses with `Full` where the page would hold more than its bound with the
+/// whole text, and with `Memory` where there is none. After a refusal the page holds a front of the text behind its
+/// bytes. Read again without limits, the text has the keyword, these vertex lines, the colours and the mesh.
+///
+/// It takes no memory but the page's: the least copies are found for some thousands of vertices at a time, by one turn
+/// over the origins.
+pub fn write_sewn(
+    page: &mut Page,
+    text: &OffText<'_>,
+    origins: &[VertexId],
+    mesh: &HalfMesh,
+) -> Result<(), PageFault>
+    requires countable { length origins.now < 2 ^ 32 }
+    requires faces { length mesh.now.faces ≡ length text.now.colours }
+    requires origins { length origins.now ≡ length text.now.vertex_lines }
+    requires copies { HaveCopies origins.now mesh.now.vertices }
+    ensures puts { Puts page.old page.new (sewn_text text.now origins.now mesh.now) result }
+    ensures reread { RereadsSewn text.now origins.now mesh.now }
+{
+    let vertices = mesh.vertices();
+    write_head(page, text.header(), vertices, mesh.faces(), mesh.edges())?;
+    write_lines(page, text, origins, vertices)?;
+    write_faces(page, text, mesh)
+}
