@@ -1,0 +1,3 @@
+pub mod Greatest
+pub mod DigitLaws
+pub mod Quotients
