@@ -1,15 +1,16 @@
 -- Numbers by their digits.
-use Rattle.std.proofs.Common.{◌≡◌, ℕ, zero, suc, ◌+◌, ◌-◌, ◌*◌, ◌^◌, ◌<◌, ◌≤◌, Bool, true, false, List, [], ◌∷◌, ◌++◌, length, take, drop, get_or, refl, sym, ap, ◌∙◌, subst, arith}
-use Rattle.std.specs.Prelude.{nat_le, ◌&&◌}
+use Rattle.std.proofs.Common.{◌≡◌, ℕ, zero, suc, ◌+◌, ◌-◌, ◌*◌, ◌^◌, ◌<◌, ◌≤◌, Bool, true, false, List, [], ◌∷◌, ◌++◌, length, take, drop, get_or, refl, sym, ap, ◌∙◌, subst, arith, inl, inr}
+use Rattle.std.specs.Prelude.{nat_le, nat_lt, ◌&&◌, ◌==◌, Option, Some}
 use Rattle.std.specs.Char.{is_ascii_digit}
 use Rattle.std.specs.List.{list_all}
-use Rattle.std.proofs.lemmas.Bool.{and_parts, and_from, leb-true}
+use Rattle.std.proofs.lemmas.Bool.{and_parts, and_from, leb-true, cases_Bool}
 use Rattle.std.proofs.lemmas.List.{take-append-drop}
 use Rattle.std.proofs.lemmas.List.Folds.{list_all-append}
 use Rattle.std.proofs.lemmas.List.Sums.{fold-append}
-use Rattle.std.proofs.Math.Nat.{pow-succ'}
-use Rattle.surf_text.specs.Text.{value_of}
+use Rattle.std.proofs.Math.Nat.{pow-succ', pow-le-pow_right}
+use Rattle.surf_text.specs.Text.{value_of, whole, is_nonempty}
 use Rattle.surf_geom.specs.Digits.{pushed}
+use Rattle.surf_geom.specs.Fixed.{are_digits}
 
 -- bytes that are all digits
 abbrev pub AreDigits : List ℕ → Type 0
@@ -76,3 +77,21 @@ value_below (d ∷ ds) all =
     let is : pushed (0 * 10 + x) ds ≡ (0 * 10 + x) * 10 ^ length ds + value_of ds = pushed_is (0 * 10 + x) ds in
     let most : x * 10 ^ length ds ≤ 9 * 10 ^ length ds = Rattle.std.proofs.lemmas.Nat.mul-le x (10 ^ length ds) 9 (10 ^ length ds) (omega arith) (omega arith) in
     omega (arith, one_digit 0 x (10 ^ length ds) (10 ^ suc (length ds)) power)
+
+-- three digits are below a thousand
+pub three_digits : (token : List ℕ) (n : ℕ) → length token ≤ 3 → whole token ≡ Some n → n ≤ 999
+three_digits token n le is = elim (cases_Bool ((is_nonempty token && list_all is_ascii_digit token) && nat_lt (value_of token) (2 ^ 64))) [
+  | inl fits ↦
+      let digits : AreDigits token = (and_parts (is_nonempty token) (list_all is_ascii_digit token) (and_parts (is_nonempty token && list_all is_ascii_digit token) (nat_lt (value_of token) (2 ^ 64)) fits).0).1 in
+      let most : 10 ^ length token ≤ 10 ^ 3 = pow-le-pow_right (omega arith) le in
+      let below : value_of token < 10 ^ length token = value_below token digits in
+      let same = rw fits at is in
+      let value : value_of token ≡ n = cc in
+      omega arith
+  | inr out ↦ let bad = rw out at is in cc
+]
+
+-- digits before and behind a point
+pub some_front : (xs ys : List ℕ) → false ≡ (length xs == 0) → are_digits (xs ++ ys) ≡ (list_all is_ascii_digit xs && list_all is_ascii_digit ys)
+some_front [] ys some = absurd cc
+some_front (x ∷ xs) ys some = list_all-append is_ascii_digit (x ∷ xs) ys

@@ -6,9 +6,10 @@ use Rattle.std.proofs.lemmas.List.{take-append-drop}
 use Rattle.std.proofs.lemmas.Nat.{mul-le, pow-add, div-mul-add, div-add-mod', mod_below}
 use Rattle.std.proofs.Math.Nat.{one-le-pow, pow-le-pow_right}
 use Rattle.surf_text.specs.Text.{value_of}
-use Rattle.surf_geom.specs.Digits.{pushed, in_range}
-use Rattle.surf_geom.specs.Fixed.{Decimal, numerator, denominator, is_great, fixed_amount}
-use Rattle.surf_geom.proofs.DigitLaws.{AreDigits, both_digits, cut_digits, pushed-append, value-append, value_below}
+use Rattle.surf_geom.specs.Digits.{pushed, pushed_to, in_range}
+use Rattle.surf_geom.specs.Fixed.{Decimal, numerator, denominator, is_great, fixed_amount, signed, fixed_if}
+use Rattle.surf_geom.specs.declared.fault.FixedFault.TheVariants.{Range}
+use Rattle.surf_geom.proofs.DigitLaws.{AreDigits, both_digits, cut_digits, pushed_least, pushed-append, value-append, value_below}
 
 some_power : (n : ℕ) → 0 < 10 ^ n
 some_power n = omega (arith, one-le-pow n 10 (omega arith))
@@ -130,3 +131,53 @@ none_past a b out le = rw (le-ltb b (10 ^ 18) (omega arith)) refl
 
 pub some_within : (a : ℕ) → a < 10 ^ 18 → in_range a ≡ Some a
 some_within a lt = rw (lt-ltb a (10 ^ 18) lt) refl
+
+-- up to so many places behind the number
+pub to_few : (n : ℕ) (ds : List ℕ) (places : ℕ) → places ≤ length ds → pushed_to n ds places ≡ pushed n (take places ds)
+to_few n ds places le = rw (le-leb places (length ds) le) refl
+
+pub to_many : (n : ℕ) (ds : List ℕ) (places : ℕ) → length ds < places → pushed_to n ds places ≡ pushed n ds * 10 ^ (places - length ds)
+to_many n ds places lt = rw (lt-leb places (length ds) lt) refl
+
+-- no places make it less
+pub to_least : (n : ℕ) (ds : List ℕ) (places : ℕ) → n ≤ pushed_to n ds places
+to_least n ds places = elim (cases_lt (length ds) places) [
+  | inl lt ↦
+      let some : 0 < 10 ^ (places - length ds) = some_power (places - length ds) in
+      let more : pushed n ds * 1 ≤ pushed n ds * 10 ^ (places - length ds) = mul-le (pushed n ds) 1 (pushed n ds) (10 ^ (places - length ds)) (omega arith) (omega arith) in
+      omega (arith, to_many n ds places lt, pushed_least n ds)
+  | inr le ↦ omega (arith, to_few n ds places le, pushed_least n (take places ds))
+]
+
+pub to_least_many : (n : ℕ) (ds : List ℕ) (places : ℕ) → length ds < places → pushed n ds ≤ pushed_to n ds places
+to_least_many n ds places lt =
+    let some : 0 < 10 ^ (places - length ds) = some_power (places - length ds) in
+    let more : pushed n ds * 1 ≤ pushed n ds * 10 ^ (places - length ds) = mul-le (pushed n ds) 1 (pushed n ds) (10 ^ (places - length ds)) (omega arith) (omega arith) in
+    omega (arith, to_many n ds places lt)
+
+pub amount_behind : (d : Decimal) → AreDigits (d.front ++ d.behind) → d.lowered ≤ d.raised + 9 → fixed_amount d ≡ pushed_to (value_of d.front) d.behind ((d.raised + 9) - d.lowered)
+amount_behind d digits le = elim (cases_lt (length d.behind) ((d.raised + 9) - d.lowered)) [
+  | inl lt ↦ amount_past d le (omega arith) ∙ sym (to_many (value_of d.front) d.behind ((d.raised + 9) - d.lowered) lt)
+  | inr fits ↦ amount_among d digits le fits ∙ sym (to_few (value_of d.front) d.behind ((d.raised + 9) - d.lowered) fits)
+]
+
+-- an amount that is out of range, or in it
+pub out_is : (a : ℕ) → None ≡ in_range a → 10 ^ 18 ≤ a
+out_is a none = elim (cases_lt a (10 ^ 18)) [
+  | inl lt ↦ let bad = none ∙ some_within a lt in cc
+  | inr ge ↦ ge
+]
+
+pub in_is : (a n : ℕ) → Some n ≡ in_range a → (n ≡ a) × (a < 10 ^ 18)
+in_is a n some = elim (cases_lt a (10 ^ 18)) [
+  | inl lt ↦ let same = some ∙ some_within a lt in (cc, lt)
+  | inr ge ↦ let bad = some ∙ none_past a a ge (omega arith) in cc
+]
+
+pub out_of_range : (d : Decimal) → None ≡ in_range (fixed_amount d) → fixed_if (Some d) ≡ Err Range
+out_of_range d none = rw (great_is d, le-ltb (fixed_amount d) (10 ^ 18) (out_is (fixed_amount d) none)) refl
+
+pub within_range : (d : Decimal) (n : ℕ) → Some n ≡ in_range (fixed_amount d) → fixed_if (Some d) ≡ Ok (signed d.negative n)
+within_range d n some =
+    let is = in_is (fixed_amount d) n some in
+    rw (great_is d, lt-ltb (fixed_amount d) (10 ^ 18) is.1, is.0) refl

@@ -1,7 +1,7 @@
 -- A coordinate as a token writes it, and its fixed value: its value times 10^9, cut to a whole number towards zero.
-use Rattle.std.specs.Prelude.{ℕ, ◌+◌, ◌*◌, ◌/◌, ◌^◌, Bool, true, false, ◌==◌, ◌||◌, ◌&&◌, nat_le, List, [], ◌∷◌, ◌++◌, length, Option, Some, None, Result, Ok, Err, if◌then◌else◌, ℤ, pos, neg_ℤ}
+use Rattle.std.specs.Prelude.{ℕ, ◌+◌, ◌*◌, ◌/◌, ◌^◌, Bool, true, false, ◌==◌, ◌||◌, ◌&&◌, nat_le, List, [], ◌∷◌, ◌++◌, length, drop, Option, Some, None, option_map, Result, Ok, Err, if◌then◌else◌, ℤ, pos, neg_ℤ}
 use Rattle.std.specs.Char.{is_ascii_digit}
-use Rattle.std.specs.List.{before_first, after_first, list_all, list_any}
+use Rattle.std.specs.List.{before_first, after_first, position, list_all}
 use Rattle.surf_text.specs.Text.{is_nonempty, value_of, whole}
 use Rattle.surf_geom.specs.declared.fault.FixedFault.{FixedFault}
 use Rattle.surf_geom.specs.declared.fault.FixedFault.TheVariants.{Form, Range}
@@ -39,9 +39,14 @@ shift negative (Some x) = if negative then Some (0, x) else Some (x, 0)
 abbrev pub exponent_in : List ℕ → Option (ℕ × ℕ)
 exponent_in text = if nat_le (length (unsigned text)) 3 then shift (is_negative text) (whole (unsigned text)) else None
 
--- the exponent behind the letter; without a letter the number is neither raised nor lowered
-abbrev pub exponent_of : List ℕ → Option (ℕ × ℕ)
-exponent_of text = if list_any is_letter text then exponent_in (after_first is_letter text) else Some (0, 0)
+-- what stands behind the first letter, if there is one
+abbrev pub behind_letter : List ℕ → Option (List ℕ)
+behind_letter text = option_map (λ place. drop (place + 1) text) (position is_letter text)
+
+-- Without a letter a number is neither raised nor lowered.
+abbrev pub exponent_of : Option (List ℕ) → Option (ℕ × ℕ)
+exponent_of None = Some (0, 0)
+exponent_of (Some text) = exponent_in text
 
 -- A number: its sign, the digits before and behind the point, and by how many powers of ten it is raised and lowered.
 pub record Decimal : Type 0 where
@@ -51,22 +56,31 @@ pub record Decimal : Type 0 where
   pub raised : ℕ
   pub lowered : ℕ
 
--- digits with at most one point among, before or behind them, and at least one digit
-abbrev pub is_mantissa : List ℕ → Bool
-is_mantissa text =
-    is_nonempty (before_first is_point text ++ after_first is_point text)
-    && list_all is_ascii_digit (before_first is_point text ++ after_first is_point text)
+-- at least one digit, and nothing else
+abbrev pub are_digits : List ℕ → Bool
+are_digits text = is_nonempty text && list_all is_ascii_digit text
 
 abbrev pub raised_by : Bool → List ℕ → Option (ℕ × ℕ) → Option Decimal
 raised_by negative mantissa None = None
-raised_by negative mantissa (Some x) = Some (record { negative = negative; front = before_first is_point mantissa; behind = after_first is_point mantissa; raised = x.0; lowered = x.1 })
+raised_by negative mantissa (Some x) = Some (record {
+  negative = negative;
+  front = before_first is_point mantissa;
+  behind = after_first is_point mantissa;
+  raised = x.0;
+  lowered = x.1;
+})
 
--- the number that a token has the form of: an optional sign, a mantissa, and then optionally a letter and an exponent
+-- digits with at most one point among, before or behind them, with a sign, and raised by an exponent if there is one
+abbrev pub decimal_of : Bool → List ℕ → Option (ℕ × ℕ) → Option Decimal
+decimal_of negative mantissa exponent =
+    if are_digits (before_first is_point mantissa ++ after_first is_point mantissa)
+    then raised_by negative mantissa exponent
+    else None
+
+-- The number that a token has the form of: an optional sign, a mantissa, and optionally a letter and an exponent
 abbrev pub decimal_in : List ℕ → Option Decimal
 decimal_in token =
-    if is_mantissa (before_first is_letter (unsigned token))
-    then raised_by (is_negative token) (before_first is_letter (unsigned token)) (exponent_of (unsigned token))
-    else None
+    decimal_of (is_negative token) (before_first is_letter (unsigned token)) (exponent_of (behind_letter (unsigned token)))
 
 -- The amount of a number is a fraction of whole numbers: all its digits, raised, ..
 abbrev pub numerator : Decimal → ℕ

@@ -1,9 +1,9 @@
 //! Decimal numbers in parts.
-ghost use Rattle.std.specs.Prelude.{◌≡◌, ◌≤◌, true, false, ◌++◌, length, option_map, MatchOption, IfSome};
+ghost use Rattle.std.specs.Prelude.{◌≡◌, ◌≤◌, true, ◌++◌, option_map, IfSome};
 ghost use Rattle.std.specs.Char.{is_ascii_digit};
-ghost use Rattle.std.specs.List.{before_first, after_first, position, list_all, list_any};
-ghost use Rattle.surf_geom.specs.Fixed.{is_point, is_letter, is_negative, unsigned, exponent_in, exponent_of, decimal_in};
-ghost use Rattle.surf_geom.specs.Seen.{decimal_seen};
+ghost use Rattle.std.specs.List.{before_first, after_first, position, list_all};
+ghost use Rattle.surf_geom.specs.Fixed.{is_point, is_letter, is_negative, unsigned, exponent_in, behind_letter, exponent_of, are_digits, decimal_in};
+ghost use Rattle.surf_geom.specs.Seen.{decimal_seen, seen};
 
 use surf_text::read_whole;
 
@@ -18,7 +18,7 @@ pub(crate) struct Number<'a> {
     pub(crate) lowered: u32,
 }
 
-fn are_digits(bytes: &[u8]) -> bool
+fn all_digits(bytes: &[u8]) -> bool
     ensures digits { result ≡ list_all is_ascii_digit bytes.now }
 {
     bytes.iter().all(|b| b.is_ascii_digit())
@@ -62,7 +62,7 @@ fn split_point(bytes: &[u8]) -> (&[u8], &[u8])
 // What stands before the letter of an exponent, and what stands behind it, if there is one.
 fn split_letter(bytes: &[u8]) -> (&[u8], Option<&[u8]>)
     ensures mantissa { result.0.now ≡ before_first is_letter bytes.now }
-    ensures exponent { MatchOption result.1 (list_any is_letter bytes.now ≡ false) (λ e. (list_any is_letter bytes.now ≡ true) × (e.now ≡ after_first is_letter bytes.now)) }
+    ensures exponent { seen result.1 ≡ behind_letter bytes.now }
 {
     match letter_place(bytes) {
         Some(place) => (&bytes[..place], Some(&bytes[place + 1..])),
@@ -83,6 +83,34 @@ fn read_exponent(text: &[u8]) -> Option<(u32, u32)>
     Some(if negative { (0, size) } else { (size, 0) })
 }
 
+// The same for what stands behind a letter, if there is one.
+fn read_shift(exponent: Option<&[u8]>) -> Option<(u32, u32)>
+    ensures exponent { result ≡ exponent_of (seen exponent.entry) }
+    ensures small { IfSome result (λ x. (x.0 ≤ 999) × (x.1 ≤ 999)) }
+{
+    match exponent {
+        None => Some((0, 0)),
+        Some(text) => read_exponent(text),
+    }
+}
+
+// Whether there is at least one digit, and nothing else.
+fn are_digits(bytes: &[u8]) -> bool
+    ensures digits { result ≡ are_digits bytes.now }
+{
+    !bytes.is_empty() && all_digits(bytes)
+}
+
+// The same of both together.
+fn are_mantissa(front: &[u8], behind: &[u8]) -> bool
+    ensures digits { result ≡ are_digits (front.now ++ behind.now) }
+{
+    if front.is_empty() {
+        return are_digits(behind);
+    }
+    all_digits(front) && all_digits(behind)
+}
+
 /// The number that a token has the form of.
 pub(crate) fn read_number(token: &[u8]) -> Option<Number<'_>>
     ensures number { option_map decimal_seen result ≡ decimal_in token.now }
@@ -92,16 +120,10 @@ pub(crate) fn read_number(token: &[u8]) -> Option<Number<'_>>
     let (negative, text) = split_sign(token);
     let (mantissa, exponent) = split_letter(text);
     let (front, behind) = split_point(mantissa);
-    if front.is_empty() && behind.is_empty() {
+    if !are_mantissa(front, behind) {
         return None;
     }
-    if !are_digits(front) || !are_digits(behind) {
-        return None;
-    }
-    let (raised, lowered) = match exponent {
-        None => (0, 0),
-        Some(text) => read_exponent(text)?,
-    };
+    let (raised, lowered) = read_shift(exponent)?;
     Some(Number {
         negative,
         front,

@@ -3,7 +3,7 @@ ghost use Rattle.std.specs.Prelude.{◌≡◌, ◌+◌, ◌*◌, ◌/◌, ◌^�
 ghost use Rattle.std.specs.Char.{is_ascii_digit};
 ghost use Rattle.std.specs.List.{list_all};
 ghost use Rattle.surf_text.specs.Text.{value_of};
-ghost use Rattle.surf_geom.specs.Digits.{pushed, in_range};
+ghost use Rattle.surf_geom.specs.Digits.{pushed, pushed_to, in_range};
 ghost use Rattle.surf_geom.specs.Fixed.{fixed_amount, signed, fixed_of};
 ghost use Rattle.surf_geom.specs.Seen.{decimal_seen};
 
@@ -47,6 +47,18 @@ fn push_zeros(amount: u64, zeros: usize) -> Option<u64>
     Some(amount)
 }
 
+// The number whose digits are those of an amount and then these, up to so many places behind it.
+fn push_places(amount: u64, digits: &[u8], places: usize) -> Option<u64>
+    requires digits { list_all is_ascii_digit digits.now ≡ true }
+    requires small { amount < 10 ^ 18 }
+    ensures amount { result ≡ in_range (pushed_to amount digits.now places) }
+{
+    if places <= digits.len() {
+        return push_digits(amount, &digits[..places]);
+    }
+    push_zeros(push_digits(amount, digits)?, places - digits.len())
+}
+
 // The fixed amount of a number. Its value has the digits before and behind the point, and in units of 10^-9 the point
 // lies nine places farther to the right, and as many more as the exponent says. What lies behind it is cut.
 fn amount(number: &Number<'_>) -> Option<u64>
@@ -55,19 +67,15 @@ fn amount(number: &Number<'_>) -> Option<u64>
     requires lowered { number.now.lowered ≤ 999 }
     ensures amount { result ≡ in_range (fixed_amount (decimal_seen number.now)) }
 {
-    let (front, behind) = (number.front, number.behind);
+    let front = number.front;
     let right = number.raised as usize + 9;
     let left = number.lowered as usize;
     if right < left {
         let kept = front.len().saturating_sub(left - right);
         return push_digits(0, &front[..kept]);
     }
-    let places = right - left;
     let whole = push_digits(0, front)?;
-    if places <= behind.len() {
-        return push_digits(whole, &behind[..places]);
-    }
-    push_zeros(push_digits(whole, behind)?, places - behind.len())
+    push_places(whole, number.behind, right - left)
 }
 
 fn signed(negative: bool, amount: u64) -> i64
