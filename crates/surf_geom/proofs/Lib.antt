@@ -1,3 +1,5 @@
 pub mod Greatest
 pub mod DigitLaws
 pub mod Quotients
+pub mod EachLaws
+pub mod Near

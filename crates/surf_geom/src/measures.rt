@@ -1,11 +1,11 @@
 //! The lengths of edges by the coordinates of their ends.
-ghost use Rattle.std.specs.Prelude.{◌≡◌, ◌<◌, ◌≤◌, ◌^◌, All, drop, length, slice_get, IfOk};
+ghost use Rattle.std.specs.Prelude.{◌≡◌, ◌<◌, ◌≤◌, ◌*◌, ◌^◌, ◌-ℤ◌, unsigned_abs, All, drop, length, slice_get, IfOk};
 ghost use Rattle.surf_text.specs.Text.{tokens_of};
 ghost use Rattle.surf_complex.specs.Mesh.{edges};
 ghost use Rattle.surf_complex.specs.Surface.{edge_count};
 ghost use Rattle.surf_lengths.specs.Lengths.{AreLengths};
 ghost use Rattle.surf_geom.specs.Gives.{Gives, each};
-ghost use Rattle.surf_geom.specs.Points.{coordinate, point_of, points_in, square_distance, point_at, IsNear};
+ghost use Rattle.surf_geom.specs.Points.{coordinate, point_of, points_in, square, square_distance, IsNear};
 ghost use Rattle.surf_geom.specs.Measures.{unit_square, measure_of, fitting, length_of, measures_in};
 
 use crate::values::fixed;
@@ -67,17 +67,24 @@ fn read_points(
     Ok(points)
 }
 
+// The square of the difference of two coordinates.
+fn square_apart(a: i64, b: i64) -> u128
+    requires near { unsigned_abs a < 10 ^ 18 }
+    requires other { unsigned_abs b < 10 ^ 18 }
+    ensures square { result ≡ square (a -ℤ b) }
+    ensures small { result ≤ 4 * 10 ^ 36 }
+{
+    let difference = u128::from(a.abs_diff(b));
+    difference * difference
+}
+
 // The square of the distance of two points.
 fn square_distance(p: Point, q: Point) -> u128
     requires near { IsNear p }
     requires other { IsNear q }
     ensures square { result ≡ square_distance p q }
-    ensures small { result < 2 ^ 124 }
 {
-    let x = u128::from(p.x.abs_diff(q.x));
-    let y = u128::from(p.y.abs_diff(q.y));
-    let z = u128::from(p.z.abs_diff(q.z));
-    x * x + y * y + z * z
+    square_apart(p.x, q.x) + square_apart(p.y, q.y) + square_apart(p.z, q.z)
 }
 
 // The measure of an edge, as its length.
