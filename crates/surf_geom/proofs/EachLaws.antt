@@ -28,6 +28,10 @@ module _ {A B : Type 0} (f : A → Result B GeomFault) where
       first (Ok y) rest = ap (λ (s : Result (List B) GeomFault). s >>= λ zs. Ok (y ∷ zs)) rest ∙ regrouped y (each f xs) (each f ys)
       first (Err e) rest = refl
 
+  pub each_none : each f [] ≡ Ok []
+  unfolding each
+  each_none = refl
+
   pub each_more : (xs : List A) (i : ℕ) (d : A) (ys : List B) (y : B) → i < length xs → each f (take i xs) ≡ Ok ys → f (get_or xs i d) ≡ Ok y → each f (take (i + 1) xs) ≡ Ok (ys ++ y ∷ [])
   unfolding each
   each_more xs i d ys y lt so_far here = ap (each f) (take_more xs i d lt) ∙ each-append (take i xs) (get_or xs i d ∷ []) ∙ rw (so_far, here) refl
@@ -58,3 +62,6 @@ module _ {A B : Type 0} (f : A → Result B GeomFault) where
           (r >>= λ y. each f xs >>= λ zs. Ok (y ∷ zs)) ≡ Ok ys → All P ys × (length ys ≡ length (x ∷ xs))
       first (Ok y) here more h = later y (law x y here) (each f xs) refl more h
       first (Err e) here more h = cc
+
+  pub each_length : (xs : List A) (ys : List B) → each f xs ≡ Ok ys → length ys ≡ length xs
+  each_length xs ys is = (each_all (λ y. Unit {0}) (λ x y here. tt) xs ys is).1

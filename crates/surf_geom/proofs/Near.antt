@@ -12,7 +12,7 @@ use Rattle.surf_geom.specs.declared.points.Point.{Point}
 use Rattle.surf_geom.specs.declared.fault.FixedFault.TheVariants.{Form, Range}
 use Rattle.surf_geom.specs.Fixed.{Decimal, is_great, fixed_amount, signed, fixed_if, fixed_of, decimal_in}
 use Rattle.surf_geom.specs.Gives.{◌>>=◌, each}
-use Rattle.surf_geom.specs.Points.{placed, coordinate, point_of, points_in, square, square_distance, IsNear}
+use Rattle.surf_geom.specs.Points.{placed, coordinate, point_of, point_in, points_in, square, square_distance, IsNear}
 use Rattle.surf_geom.proofs.Quotients.{great_is}
 use Rattle.surf_geom.proofs.EachLaws.{each_all}
 
@@ -64,7 +64,7 @@ point_near v tokens p is =
 -- all points that are read
 pub points_near : (lines : List (List ℕ)) (points : List Point) → points_in lines ≡ Ok points → All IsNear points
 points_near lines points is =
-    (each_all (λ v. point_of v (tokens_of (slice_index_or lines v []))) IsNear (λ v p here. point_near v (tokens_of (slice_index_or lines v [])) p here) (range_with_len 0 (length lines)) points is).0
+    (each_all (point_in lines) IsNear (λ v p here. point_near v (tokens_of (slice_index_or lines v [])) p here) (range_with_len 0 (length lines)) points is).0
 
 apart : (a b : ℤ) → unsigned_abs a < 10 ^ 18 → unsigned_abs b < 10 ^ 18 → unsigned_abs (a -ℤ b) < 2 * 10 ^ 18
 apart a b near other = grind (arith, ints)

@@ -29,9 +29,13 @@ point_of vertex tokens = do
   z ← coordinate vertex 2 (slice_get tokens 2)
   Ok (record { x = x; y = y; z = z })
 
+-- the point of a vertex, by its line among the lines of all vertices
+abbrev pub point_in : List (List ℕ) → ℕ → Result Point GeomFault
+point_in lines v = point_of v (tokens_of (slice_index_or lines v []))
+
 -- the points of all vertices, or the first fault by vertex and place
 abbrev pub points_in : List (List ℕ) → Result (List Point) GeomFault
-points_in lines = each (λ v. point_of v (tokens_of (slice_index_or lines v []))) (range_with_len 0 (length lines))
+points_in lines = each (point_in lines) (range_with_len 0 (length lines))
 
 abbrev pub square : ℤ → ℕ
 square z = unsigned_abs z * unsigned_abs z

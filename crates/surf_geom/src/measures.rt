@@ -123,6 +123,7 @@ fn edge_lengths(
     requires near { All IsNear points.now }
     requires some { 0 < unit }
     ensures lengths { Gives (λ lengths. lengths.items) result (each (length_of points.now unit) (edges mesh.now)) }
+    ensures few { IfOk result (λ lengths. length lengths.items < 2 ^ 32) }
 {
     let edges = mesh.edges();
     let mut lengths = Vec::with_capacity(alloc, edges as usize)?;
