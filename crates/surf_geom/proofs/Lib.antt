@@ -3,3 +3,4 @@ pub mod DigitLaws
 pub mod Quotients
 pub mod EachLaws
 pub mod Near
+pub mod Fitting
