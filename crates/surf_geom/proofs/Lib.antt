@@ -1,0 +1,6 @@
+pub mod Greatest
+pub mod DigitLaws
+pub mod Quotients
+pub mod EachLaws
+pub mod Near
+pub mod Fitting

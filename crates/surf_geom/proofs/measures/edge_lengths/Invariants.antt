@@ -1,0 +1,8 @@
+use Rattle.std.proofs.Common.{◌≡◌, ◌≤◌, take, Ok}
+use Rattle.surf_complex.specs.Mesh.{edges}
+use Rattle.surf_geom.specs.Gives.{each}
+use Rattle.surf_geom.specs.Measures.{length_of}
+use Rattle.surf_geom.proofs.measures.edge_lengths.Given as goal
+
+abbrev pub invariant-loop-e : goal.invariant-loop-e
+invariant-loop-e l = record { so_far : each (length_of l.points l.unit) (take l.e (edges l.mesh)) ≡ Ok l.lengths.items }

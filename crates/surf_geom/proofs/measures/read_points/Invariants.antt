@@ -1,0 +1,10 @@
+use Rattle.std.proofs.Common.{◌≡◌, ◌≤◌, take, length, Ok}
+use Rattle.std.specs.List.{range_with_len}
+use Rattle.surf_geom.specs.Gives.{each}
+use Rattle.surf_geom.specs.Points.{point_in}
+use Rattle.surf_geom.proofs.measures.read_points.Given as goal
+
+abbrev pub invariant-loop-v : goal.invariant-loop-v
+invariant-loop-v l = record {
+  so_far : each (point_in l.text.vertex_lines) (take l.v (range_with_len 0 (length l.text.vertex_lines))) ≡ Ok l.points.items;
+}

@@ -1,0 +1,9 @@
+pub mod Fixed
+pub mod Seen
+pub mod Digits
+pub mod Root
+pub mod Gives
+pub mod Points
+pub mod Measures
+pub mod Texts
+pub mod Laws
