@@ -12,6 +12,7 @@ mod TryLaws
 mod WordLaws
 mod CertifyLaws
 mod Refusing
+mod SewLaws
 mod TextLaws
 mod Named
 mod TwoRuns

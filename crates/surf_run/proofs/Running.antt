@@ -15,6 +15,11 @@ use Rattle.surf_run.specs.CertTexts.{cert_cause}
 use Rattle.surf_geom.specs.declared.fault.GeomFault.{GeomFault}
 use Rattle.surf_geom.specs.declared.fault.GeomFault.TheVariants as geom
 use Rattle.surf_run.specs.Coordinates.{geom_cause}
+use Rattle.surf_sew.specs.declared.copies.CopyFault.{CopyFault}
+use Rattle.surf_sew.specs.declared.copies.CopyFault.TheVariants as copies
+use Rattle.surf_sew.specs.declared.fault.SewFault.{SewFault}
+use Rattle.surf_sew.specs.declared.fault.SewFault.TheVariants as sewing
+use Rattle.surf_run.specs.Sewing.{copy_cause, sew_cause}
 use Rattle.surf_run.specs.MeshTexts.{off_cause}
 use Rattle.surf_run.specs.Surfaces.{surface_cause}
 use Rattle.surf_run.specs.Weights.{length_cause}
@@ -28,7 +33,7 @@ use Rattle.surf_run.specs.Run.{PutsLine, IsDecided, IsLineOf, Refuses, WritesAns
 use Rattle.surf_run.specs.declared.answered.Verdict.{Verdict}
 use Rattle.surf_run.specs.declared.answered.Verdict.TheVariants.{Yes, No}
 use Rattle.surf_run.specs.declared.refusal.Refused.{Refused}
-use Rattle.surf_run.specs.declared.refusal.Refused.TheVariants.{MeshText, Surface, Lengths, Base, Certificate, Coordinates, Limit, Read, Memory}
+use Rattle.surf_run.specs.declared.refusal.Refused.TheVariants.{MeshText, Surface, Lengths, Base, Certificate, Coordinates, Copies, Sewing, Limit, Read, Memory}
 
 -- what is due has a status from 2 to 8 or from 12 on, and a line
 abbrev pub IsDue : Cause → Type 0
@@ -81,6 +86,17 @@ geom_due (geom.Zero u v) = (omega arith, inr (omega arith))
 geom_due (geom.Great u v) = (omega arith, inr (omega arith))
 geom_due geom.Memory = tt
 
+copies_due : (vertices : ℕ) (fault : CopyFault) → IsDue (copy_cause vertices fault)
+copies_due vertices (copies.CopyForm line) = (omega arith, inr (omega arith))
+copies_due vertices (copies.CopyCount have) = (omega arith, inr (omega arith))
+copies_due vertices copies.Memory = tt
+
+sew_due : (fault : SewFault) → IsDue (sew_cause fault)
+sew_due (sewing.Gap v) = (omega arith, inr (omega arith))
+sew_due (sewing.Line copy earlier) = (omega arith, inr (omega arith))
+sew_due (sewing.FaceRepeat face v) = (omega arith, inr (omega arith))
+sew_due sewing.Memory = tt
+
 pub refusals_are_due : (e : Refused) → IsDue (cause_of e)
 refusals_are_due (MeshText fault) = off_due fault
 refusals_are_due (Surface fault) = surface_due fault
@@ -88,6 +104,8 @@ refusals_are_due (Lengths fault) = length_due fault
 refusals_are_due (Base base vertices) = (omega arith, inl (omega arith))
 refusals_are_due (Certificate fault) = cert_due fault
 refusals_are_due (Coordinates fault) = geom_due fault
+refusals_are_due (Copies fault vertices) = copies_due vertices fault
+refusals_are_due (Sewing fault) = sew_due fault
 refusals_are_due (Limit kind) = (omega arith, inl (omega arith))
 refusals_are_due Read = tt
 refusals_are_due Memory = tt

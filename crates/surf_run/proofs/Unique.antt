@@ -63,10 +63,14 @@ use Rattle.surf_print.specs.DistanceTexts.{distances_text}
 use Rattle.surf_print.specs.LoopTexts.{loops_text}
 use Rattle.surf_print.proofs.TreeTextLaws.{texts_same}
 use Rattle.surf_run.specs.MeshTexts.{IsMeshText, read_outcome}
-use Rattle.surf_run.specs.Surfaces.{surface_cause, EndsInFault, IsSurfaceText}
+use Rattle.surf_run.specs.Surfaces.{surface_cause, EndsInFault, IsSurfaceOf, IsSurfaceText}
 use Rattle.surf_run.specs.Run.{IsDecided}
+use Rattle.surf_sew.specs.Copies.{copies_in}
+use Rattle.surf_sew.specs.Sewing.{sewn_of}
+use Rattle.surf_sew.specs.Texts.{sewn_text}
+use Rattle.surf_run.specs.Sewing.{copied, sewn, HasOrigins, IsSewn, GivesSewn, OnSewnMesh, OnOrigins, OnCopies, OnSewText}
 use Rattle.surf_run.specs.Leads.{Leads, Answer, OnRequest, OnInfoText, OnDiscText}
-use Rattle.surf_run.specs.Words.{Request, help, version, info, disc, cycles, weighted, makes, tries, checks, measures, request_of}
+use Rattle.surf_run.specs.Words.{Request, help, version, info, disc, cycles, weighted, makes, tries, checks, measures, sews, request_of}
 
 -- two results of a step go on with one value, or end with one status
 abbrev pub Agree : {A : Type 0} → Result A Outcome → Result A Outcome → Type 0
@@ -283,7 +287,27 @@ one_check bytes word cert files =
     (λ text _. one_end (IsCertText read.1 text) (JudgesCert read.1 lengths) (one_result (then_bounded read.1 (certified (cert_in text))))
     (λ c _. one_verdict read.1 lengths c))))
 
-pub one_measure : (decimals : ℕ) (read : OffParts × Mesh) → HasOneStatus (OnCoordinates decimals read)
+pub one_surface_of : (mesh : Mesh) → IsOne (IsSurfaceOf mesh)
+one_surface_of mesh (Ok a) (Ok b) x y = x.0 ∙ sym y.0
+one_surface_of mesh (Ok a) (Err p) x y = no_fault mesh p x.1 y
+one_surface_of mesh (Err o) (Ok b) x y = no_fault mesh o y.1 x
+one_surface_of mesh (Err o) (Err p) x y = ends_with_four mesh o x ∙ sym (ends_with_four mesh p y)
+
+-- a disc has no fault, and neither has a surface
+one_sewing : (read : OffParts × Mesh) (origins : List ℕ) (mesh : Mesh) → HasOneStatus (OnSewnMesh read origins mesh)
+one_sewing read origins mesh o p (inl x) (inl y) = ap status_of x.text ∙ sym (ap status_of y.text)
+one_sewing read origins mesh o p (inl x) (inr y) = absurd (x.isnt_memory (disc_fault_only read.1 x.fault x.is_fault y.0))
+one_sewing read origins mesh o p (inr x) (inl y) = absurd (y.isnt_memory (disc_fault_only read.1 y.fault y.is_fault x.0))
+one_sewing read origins mesh o p (inr x) (inr y) = one_end (IsSurfaceOf mesh) (GivesSewn read.0 origins) (one_surface_of mesh)
+    (λ sewn _ s t a b. says_same (sewn_text read.0 origins sewn) (sewn_text read.0 origins sewn) s t refl a.says b.says) o p x.1 y.1
+
+one_copies : (bytes : List ℕ) (read : OffParts × Mesh) → HasOneStatus (OnCopies bytes read)
+one_copies bytes read = one_end (HasOrigins bytes read.1.vertices) (OnOrigins read)
+    (one_result (copied read.1.vertices (copies_in bytes read.1.vertices)))
+    (λ origins _. one_end (IsSewn read origins) (OnSewnMesh read origins)
+    (one_result (sewn (sewn_of read.0.vertex_lines read.1 origins))) (λ mesh _. one_sewing read origins mesh))
+
+one_measure : (decimals : ℕ) (read : OffParts × Mesh) → HasOneStatus (OnCoordinates decimals read)
 one_measure decimals read = one_end (Measures decimals read) (GivesMeasures read.1)
     (one_result (measured (measures_in read.1 read.0.vertex_lines decimals)))
     (λ lengths _ o p x y. says_same (lengths_text read.1 lengths) (lengths_text read.1 lengths) o p refl x.says y.says)
@@ -308,6 +332,8 @@ one_request (Some (checks mesh word cert)) files = one_end (Reads mesh files) (�
     (one_result (within_text (bytes_of files mesh))) (λ bytes _. one_check bytes word cert files)
 one_request (Some (measures mesh decimals)) files = one_end (Reads mesh files) (OnLengthsText decimals) (one_result (within_text (bytes_of files mesh)))
     (λ bytes _. one_end (IsSurfaceText bytes) (OnCoordinates decimals) (one_surface_text bytes) (λ read _. one_measure decimals read))
+one_request (Some (sews mesh)) files = one_end (Reads mesh files) OnSewText (one_result (within_text (bytes_of files mesh)))
+    (λ bytes _. one_end (IsMeshText bytes) (OnCopies bytes) (one_mesh_text bytes) (λ read _. one_copies bytes read))
 
 module _ (words : List (List ℕ)) (files : Files) where
   pub one_lead : HasOneStatus (Leads words files)

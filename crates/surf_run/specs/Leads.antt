@@ -16,7 +16,8 @@ use Rattle.surf_run.specs.Steps.{Ends}
 use Rattle.surf_run.specs.Surfaces.{IsSurfaceText}
 use Rattle.surf_run.specs.Tasks.{OnTask}
 use Rattle.surf_run.specs.Trying.{OnTry}
-use Rattle.surf_run.specs.Words.{Request, help, version, info, disc, cycles, weighted, makes, tries, checks, measures, request_of}
+use Rattle.surf_run.specs.Sewing.{OnSew}
+use Rattle.surf_run.specs.Words.{Request, help, version, info, disc, cycles, weighted, makes, tries, checks, measures, sews, request_of}
 
 -- `info` of the text of a mesh
 abbrev pub OnInfoText : List ℕ → Outcome → Type 0
@@ -47,6 +48,7 @@ OnRequest (Some (makes shape)) files outcome = OnGen shape outcome
 OnRequest (Some (tries shape scatter)) files outcome = OnTry shape scatter outcome
 OnRequest (Some (checks mesh lengths cert)) files outcome = OnCheck mesh lengths cert files outcome
 OnRequest (Some (measures mesh decimals)) files outcome = OnLengths mesh decimals files outcome
+OnRequest (Some (sews mesh)) files outcome = OnSew mesh files outcome
 
 -- what comes of these words over these files
 unfoldable pub Leads : List (List ℕ) → Files → Outcome → Type 0

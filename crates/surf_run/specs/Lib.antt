@@ -5,6 +5,7 @@ pub mod MeshTexts
 pub mod Surfaces
 pub mod Weights
 pub mod Coordinates
+pub mod Sewing
 pub mod Refusals
 pub mod Steps
 pub mod Words

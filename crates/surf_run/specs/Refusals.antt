@@ -6,13 +6,14 @@ use Rattle.surf_text.specs.declared.page.PageFault.TheVariants as page
 use Rattle.surf_run.specs.Cause.{Cause, due, unread, starved}
 use Rattle.surf_run.specs.CertTexts.{cert_cause}
 use Rattle.surf_run.specs.Coordinates.{geom_cause}
+use Rattle.surf_run.specs.Sewing.{copy_cause, sew_cause}
 use Rattle.surf_run.specs.Limits.{beyond}
 use Rattle.surf_run.specs.MeshTexts.{off_cause}
 use Rattle.surf_run.specs.Outcome.{refuses}
 use Rattle.surf_run.specs.Surfaces.{surface_cause}
 use Rattle.surf_run.specs.Weights.{length_cause, base_line}
 use Rattle.surf_run.specs.declared.refusal.Refused.{Refused}
-use Rattle.surf_run.specs.declared.refusal.Refused.TheVariants.{MeshText, Surface, Lengths, Base, Certificate, Coordinates, Limit, Read, Memory}
+use Rattle.surf_run.specs.declared.refusal.Refused.TheVariants.{MeshText, Surface, Lengths, Base, Certificate, Coordinates, Copies, Sewing, Limit, Read, Memory}
 
 abbrev pub cause_of : Refused → Cause
 cause_of (MeshText fault) = off_cause fault
@@ -21,6 +22,8 @@ cause_of (Lengths fault) = length_cause fault
 cause_of (Base base vertices) = due (refuses 7 (base_line base vertices))
 cause_of (Certificate fault) = cert_cause fault
 cause_of (Coordinates fault) = geom_cause fault
+cause_of (Copies fault vertices) = copy_cause vertices fault
+cause_of (Sewing fault) = sew_cause fault
 cause_of (Limit kind) = due (beyond kind)
 cause_of Read = unread
 cause_of Memory = starved

@@ -1,7 +1,7 @@
 -- A command of the code as a row of the command table.
 use Rattle.surf_run.specs.declared.words.Command.{Command}
-use Rattle.surf_run.specs.declared.words.Command.TheVariants.{Help, Version, Info, Disc, Cycles, Weighted, Generate, Try, Check, Measure}
-use Rattle.surf_run.specs.Words.{Request, help, version, info, disc, cycles, weighted, makes, tries, checks, measures}
+use Rattle.surf_run.specs.declared.words.Command.TheVariants.{Help, Version, Info, Disc, Cycles, Weighted, Generate, Try, Check, Measure, Sew}
+use Rattle.surf_run.specs.Words.{Request, help, version, info, disc, cycles, weighted, makes, tries, checks, measures, sews}
 
 abbrev pub request : Command → Request
 request Help = help
@@ -14,3 +14,4 @@ request (Generate shape) = makes shape
 request (Try shape scatter) = tries shape scatter
 request (Check mesh lengths cert) = checks mesh.now lengths.now cert.now
 request (Measure mesh decimals) = measures mesh.now decimals
+request (Sew mesh) = sews mesh.now

@@ -33,6 +33,8 @@ pub data Request : Type 0 where
   checks : List ℕ → List ℕ → List ℕ → Request
   -- the measures of the edges of the surface of a file, in units of so many decimals
   measures : List ℕ → ℕ → Request
+  -- the mesh before the cut, from the text that `cut` wrote
+  sews : List ℕ → Request
 
 abbrev pub lone_request : List ℕ → Option Request
 lone_request word =
@@ -42,7 +44,8 @@ lone_request word =
 abbrev pub mesh_request : List ℕ → List ℕ → Option Request
 mesh_request word mesh =
     if bytes_eq word (codes "info") then Some (info mesh)
-    else (if bytes_eq word (codes "disc") then Some (disc mesh) else None)
+    else (if bytes_eq word (codes "disc") then Some (disc mesh)
+    else (if bytes_eq word (codes "sew") then Some (sews mesh) else None))
 
 -- a number word: digits of a value at most 4,294,967,295
 abbrev pub number_of : List ℕ → Option ℕ

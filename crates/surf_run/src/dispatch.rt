@@ -15,6 +15,7 @@ use crate::lengths_command::lengths;
 use crate::refusal::Refused;
 use crate::try_command::tried;
 use crate::weighted::weighted;
+use crate::sew_command::sew;
 use crate::words::Command;
 use std::alloc::Global;
 use surf_base::Shelf;
@@ -50,5 +51,6 @@ pub fn answer<S: Shelf>(alloc: Global, command: Command, shelf: &mut S) -> Resul
             cert,
         } => checked(alloc, shelf, mesh, lengths, cert),
         Command::Measure { mesh, decimals } => lengths(alloc, shelf, mesh, decimals),
+        Command::Sew { mesh } => sew(alloc, shelf, mesh),
     }
 }

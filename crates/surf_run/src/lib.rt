@@ -19,6 +19,7 @@ mod lengths_command;
 mod lines;
 mod loops_command;
 mod reading;
+mod sew_command;
 mod refusal;
 mod shape;
 mod top;

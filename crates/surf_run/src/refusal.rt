@@ -2,11 +2,12 @@
 ghost use Rattle.std.specs.Prelude.{◌≡◌, IfOk, string_bytes};
 ghost use Rattle.surf_run.specs.Cause.{line_of, status_of_cause};
 ghost use Rattle.surf_run.specs.Refusals.{cause_of, of_page};
-ghost use Rattle.surf_run.specs.declared.refusal.Refused.TheVariants.{MeshText, Surface, Lengths, Certificate, Coordinates, Memory};
+ghost use Rattle.surf_run.specs.declared.refusal.Refused.TheVariants.{MeshText, Surface, Lengths, Certificate, Coordinates, Sewing, Memory};
 
 use crate::certificates::cert_line;
 use crate::lengths_command::geom_line;
 use crate::lines::{limit_line, off_line, surface_line};
+use crate::sew_command::{copy_line, sew_line};
 use crate::weights::{base_line, length_line};
 use std::alloc::{AllocError, AllocFailed, Global};
 use surf_base::{LimitKind, NoMemory};
@@ -15,6 +16,7 @@ use surf_check::SurfaceFault;
 use surf_geom::GeomFault;
 use surf_lengths::LengthFault;
 use surf_off::OffFault;
+use surf_sew::{CopyFault, SewFault};
 use surf_text::PageFault;
 
 /// Why there is no answer: the first test that refuses, in their order.
@@ -26,6 +28,8 @@ pub enum Refused {
     Base { base: u32, vertices: u32 },
     Certificate(CertText),
     Coordinates(GeomFault),
+    Copies { fault: CopyFault, vertices: u32 },
+    Sewing(SewFault),
     Limit(LimitKind),
     Read,
     Memory,
@@ -87,6 +91,14 @@ impl From<GeomFault> for Refused {
     }
 }
 
+impl From<SewFault> for Refused {
+    ghost from_gives = { λ fault e. e ≡ Sewing fault };
+
+    fn from(fault: SewFault) -> Refused {
+        Refused::Sewing(fault)
+    }
+}
+
 impl From<PageFault> for Refused {
     ghost from_gives = { λ fault e. e ≡ of_page fault };
 
@@ -118,6 +130,11 @@ impl Refused {
             | Refused::Lengths(LengthFault::Memory)
             | Refused::Certificate(CertText::Memory)
             | Refused::Coordinates(GeomFault::Memory)
+            | Refused::Copies {
+                fault: CopyFault::Memory,
+                ..
+            }
+            | Refused::Sewing(SewFault::Memory)
             | Refused::Memory => 11,
             Refused::MeshText(_) => 3,
             Refused::Surface(_) => 4,
@@ -126,6 +143,7 @@ impl Refused {
             Refused::Certificate(_) => 8,
             Refused::Read => 9,
             Refused::Coordinates(_) => 12,
+            Refused::Copies { .. } | Refused::Sewing(_) => 14,
         }
     }
 
@@ -140,6 +158,8 @@ impl Refused {
             Refused::Base { base, vertices } => base_line(alloc, *base, *vertices),
             Refused::Certificate(fault) => cert_line(alloc, fault),
             Refused::Coordinates(fault) => geom_line(alloc, fault),
+            Refused::Copies { fault, vertices } => copy_line(alloc, fault, *vertices),
+            Refused::Sewing(fault) => sew_line(alloc, fault),
             Refused::Limit(kind) => limit_line(alloc, *kind),
             Refused::Read => String::from_str(alloc, "read fault\n"),
             Refused::Memory => String::from_str(alloc, "memory\n"),

@@ -92,6 +92,8 @@ fn sewn_of(
     requires colours { length text.now.colours ≡ face_count copies.now }
     requires origins { length origins.now ≡ copies.now.vertices }
     ensures tells { Takes (λ soup. soup) (IsSewn (text.now, copies.now) origins.now) result }
+    ensures copies { IfOk result (λ soup. HaveCopies origins.now soup.vertices) }
+    ensures faces { IfOk result (λ soup. face_count soup ≡ face_count copies.now) }
 {
     let sewn = sew_copies(alloc, text, copies, origins)?;
     Ok(sewn)

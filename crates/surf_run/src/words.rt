@@ -48,6 +48,9 @@ pub enum Command<'w> {
         mesh: &'w str,
         decimals: Decimals,
     },
+    Sew {
+        mesh: &'w str,
+    },
 }
 
 // A number word: digits of a value at most 4,294,967,295.
@@ -140,6 +143,7 @@ fn on_mesh<'w>(word: &str, mesh: &'w str) -> Option<Command<'w>>
     match word {
         "info" => Some(Command::Info { mesh }),
         "disc" => Some(Command::Disc { mesh }),
+        "sew" => Some(Command::Sew { mesh }),
         _ => None,
     }
 }
