@@ -4,3 +4,5 @@ pub mod Quotients
 pub mod EachLaws
 pub mod Near
 pub mod Fitting
+pub mod Entries
+pub mod Reread
