@@ -15,10 +15,11 @@ use Rattle.surf_run.specs.Leads.{Leads, OnRequest, OnInfoText, OnDiscText}
 use Rattle.surf_run.specs.Named.{length_file, named, AgreeOn, AnswersDependOnNamedFiles}
 use Rattle.surf_run.specs.Outcome.{Outcome}
 use Rattle.surf_run.specs.Reading.{Reads, within_text}
+use Rattle.surf_run.specs.Sewing.{OnSewText}
 use Rattle.surf_run.specs.Steps.{Ends}
 use Rattle.surf_run.specs.Tasks.{Performs, OnSurface, OnText, is_limited}
 use Rattle.surf_run.specs.Weights.{weighed_by, weighed_for, HasLengths}
-use Rattle.surf_run.specs.Words.{Request, help, version, info, disc, cycles, weighted, makes, tries, checks, measures, request_of}
+use Rattle.surf_run.specs.Words.{Request, help, version, info, disc, cycles, weighted, makes, tries, checks, measures, sews, request_of}
 use Rattle.surf_run.specs.declared.cycles.CycleTask.{CycleTask}
 use Rattle.surf_run.specs.declared.weighted.Task.{Task}
 
@@ -110,6 +111,7 @@ module _ (here there : Files) where
       on_file mesh same.0 (λ bytes. OnCheckedText bytes word cert here) (λ bytes. OnCheckedText bytes word cert there)
       (checks_same word cert same.1.1 same.1.0) o on
   requests_same (Some (measures mesh decimals)) same o on = on_file mesh same.0 (OnLengthsText decimals) (OnLengthsText decimals) (λ bytes o is. is) o on
+  requests_same (Some (sews mesh)) same o on = on_file mesh same.0 OnSewText OnSewText (λ bytes o is. is) o on
 
 pub answers_depend_on_named_files : AnswersDependOnNamedFiles
 unfolding Leads

@@ -1,5 +1,5 @@
 //! The command `sew`.
-ghost use Rattle.std.specs.Prelude.{◌≡◌, ◌≤◌, length, string_bytes, IfOk};
+ghost use Rattle.std.specs.Prelude.{◌≡◌, ◌<◌, ◌≤◌, ◌^◌, length, string_bytes, IfOk};
 ghost use Rattle.surf_complex.specs.Surface.{face_count};
 ghost use Rattle.surf_run.specs.Cause.{line_of};
 ghost use Rattle.surf_run.specs.Sewing.{GivesSewn, HasOrigins, IsSewn, OnCopies, OnOrigins, OnSew, OnSewText, OnSewnMesh, copy_cause, copy_count_line, sew_cause};
@@ -109,6 +109,7 @@ fn sewn_disc(
 ) -> Result<Answered, Refused>
     requires lines { length origins.now ≡ length text.now.vertex_lines }
     requires colours { face_count sewn ≡ length text.now.colours }
+    requires countable { length origins.now < 2 ^ 32 }
     requires copies { HaveCopies origins.now sewn.vertices }
     ensures { Concludes (OnSewnMesh (text.now, copies.now) origins.now sewn) result }
 {
@@ -128,6 +129,7 @@ fn sewn_surface(
 ) -> Result<Answered, Refused>
     requires lines { length origins.now ≡ length text.now.vertex_lines }
     requires colours { face_count sewn ≡ length text.now.colours }
+    requires countable { length origins.now < 2 ^ 32 }
     requires copies { HaveCopies origins.now sewn.vertices }
     ensures { Concludes (λ outcome. Ends (IsSurfaceOf sewn) (GivesSewn text.now origins.now) outcome) result }
 {
@@ -144,6 +146,7 @@ fn text_of(
 ) -> Result<Answered, Refused>
     requires lines { length origins.now ≡ length text.now.vertex_lines }
     requires colours { face_count mesh.now ≡ length text.now.colours }
+    requires countable { length origins.now < 2 ^ 32 }
     requires copies { HaveCopies origins.now mesh.now.vertices }
     ensures { Concludes (GivesSewn text.now origins.now mesh.now) result }
 {
