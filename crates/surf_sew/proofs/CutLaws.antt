@@ -1,5 +1,5 @@
 -- What is sewn of a mesh that was cut is that mesh.
-use Rattle.std.proofs.Common.{◌≡◌, ◌≢◌, ◌<◌, ◌≤◌, ◌+◌, ◌^◌, ℕ, zero, suc, Bool, true, false, not, List, [], ◌∷◌, ◌++◌, length, get_or, map, Option, Some, None, Result, Ok, refl, sym, ◌∙◌, ap, subst, append_assoc, length-append, arith, inl, inr, cond, eq-eqb}
+use Rattle.std.proofs.Common.{◌≡◌, ◌≢◌, ◌<◌, ◌≤◌, ◌+◌, ◌^◌, ℕ, zero, suc, Bool, true, false, not, List, [], ◌∷◌, ◌++◌, length, get_or, map, Option, Some, None, Result, Ok, Err, refl, sym, ◌∙◌, ap, subst, append_assoc, length-append, arith, inl, inr, cond, eq-eqb}
 use Rattle.std.specs.Prelude.{◌==◌, slice_index, AllPairs, Contains}
 use Rattle.std.specs.List.{All, list_any, range_with_len, sum_by}
 use Rattle.std.specs.Str.{bytes_eq}
@@ -18,7 +18,7 @@ use Rattle.surf_off.specs.Written.{lines_at, mesh_text, opened_text}
 use Rattle.surf_off.proofs.FaceRows.{other_default}
 use Rattle.surf_off.proofs.Reread.{AllLines, AllFaces}
 use Rattle.surf_off.proofs.RereadMesh.{all_faces, short_faces}
-use Rattle.surf_sew.specs.declared.copies.CopyFault.{CopyFault}
+use Rattle.surf_sew.specs.declared.copies.CopyFault.TheVariants.{CopyCount}
 use Rattle.surf_sew.specs.declared.fault.SewFault.{SewFault}
 use Rattle.surf_sew.specs.Copies.{counted, copies_in}
 use Rattle.surf_sew.specs.Sewing.{first_copy, first_like, first_copies, different, HaveCopies, gap_fault, line_fault, sewn_face, sewn_faces, repeat_or, repeat_from, unless, sewn_mesh, sewn_of}
@@ -132,7 +132,7 @@ module _ (parts : OffParts) (mesh : Mesh) (origins : List ℕ) (faces : List (Li
       let same : length faces ≡ length parts.colours = cut.opening.same_faces ∙ sym cut.colours in
       let all : AllFaces (length lines) faces parts.colours = subst (λ (v : ℕ). AllFaces v faces parts.colours) (sym count) (all_faces n faces parts.colours (omega (arith, cut.few_copies)) good short cut.clean.colours same) in
       let read = cut_again parts.header lines faces parts.colours (edge_count (opened origins faces)) origins (all_lines parts.vertex_lines origins cut.clean.vertex_lines within) all (omega (arith, count, cut.few_copies)) (omega (arith, some, sides, cut.few_sides)) (omega (arith, cut.opening.is_disc.characteristic_one, some, sides, cut.few_sides, cut.few_copies)) (omega (arith, cut.few_copies)) small_origin in
-      ap (counted n) read ∙ ap (λ (b : Bool). cond b (Ok origins) _) (eq-eqb n n refl)
+      ap (counted n) read ∙ ap (λ (b : Bool). cond b (Ok origins) (Err (CopyCount n))) (eq-eqb n n refl)
 
 pub copies_are_reread : CopiesAreReread
 copies_are_reread parts mesh origins faces cut = cut_copies parts mesh origins faces cut

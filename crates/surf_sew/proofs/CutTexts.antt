@@ -1,6 +1,6 @@
 -- The copy lines of the text of an opened mesh.
 use Rattle.std.proofs.Common.{◌≡◌, ◌<◌, ◌≤◌, ◌+◌, ◌^◌, ℕ, zero, suc, List, [], ◌∷◌, ◌++◌, length, get_or, map, Result, Ok, Err, refl, sym, ◌∙◌, ap, append_assoc, arith, codes, cond, eq-eqb}
-use Rattle.std.specs.Prelude.{decimal, slice_index, Bool, true, ◌==◌}
+use Rattle.std.specs.Prelude.{decimal, slice_index, Bool, true, false, ◌==◌}
 use Rattle.std.specs.List.{All, list_any, zip, range_with_len}
 use Rattle.std.proofs.lemmas.List.{append-nil, ext_get_or, length-map}
 use Rattle.std.proofs.lemmas.List.FromFn.{length-map-range_with_len, get_or-map-range_with_len}
@@ -56,12 +56,12 @@ head_quiet h v f e small_v small_f small_e =
 
 lines_quiet : (lines : List (List ℕ)) → AllLines lines → Quiet (lines_text lines)
 unfolding AllLines
-lines_quiet [] good n rest = (n, refl)
+lines_quiet [] good = λ n rest. (n, refl)
 lines_quiet (l ∷ ls) good = both_quiet (l ++ codes "\n") (lines_text ls) (line_quiet l good.0.clean.one_line good.0.clean.uncommented) (lines_quiet ls good.1)
 
 faces_quiet : (v : ℕ) (faces colours : List (List ℕ)) → AllFaces v faces colours → Quiet (faces_text (zip faces colours))
 unfolding AllFaces
-faces_quiet v [] [] good n rest = (n, refl)
+faces_quiet v [] [] good = λ n rest. (n, refl)
 faces_quiet v [] (c ∷ cs) good = absurd good
 faces_quiet v (f ∷ fs) [] good = absurd good
 faces_quiet v (f ∷ fs) (c ∷ cs) good =
