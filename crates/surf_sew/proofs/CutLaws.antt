@@ -13,6 +13,8 @@ use Rattle.std.proofs.lemmas.Slice.Eq.{bytes_eq-Decides}
 use Rattle.surf_complex.specs.Disc.{IsOpening}
 use Rattle.surf_complex.specs.Mesh.{Mesh, IsFace, IsMesh}
 use Rattle.surf_complex.specs.Surface.{face_count, edge_count, face_at}
+use Rattle.surf_disc.proofs.TableLaws.{edges_within}
+use Rattle.surf_mesh.specs.Sides.{side_count}
 use Rattle.surf_off.specs.Off.{OffParts, first_repeat}
 use Rattle.surf_off.specs.Written.{lines_at, mesh_text, opened_text}
 use Rattle.surf_off.proofs.FaceRows.{other_default}
@@ -113,9 +115,16 @@ module _ (parts : OffParts) (mesh : Mesh) (origins : List ℕ) (faces : List (Li
           ∙ line_of (first_copy origins v) copy
           ∙ ap (λ (u : ℕ). get_or parts.vertex_lines u []) (copy_origin origins v copy))
 
+  few_sides : side_count (opened origins faces) < 2 ^ 30
+  few_sides = omega (arith, sewn_sides origins faces, ap (sum_by length) cut_faces, cut.few_sides)
+
+  -- A disc has no more vertices than sides.
+  few_copies : length origins < 2 ^ 31
+  few_copies = omega (arith, cut.opening.is_disc.characteristic_one, edges_within (opened origins faces), few_sides)
+
   small_origin : (k : ℕ) → slice_index origins k < 2 ^ 32
   small_origin k = elim (cases_lt k (length origins)) [
-    | inl lt ↦ let h : get_or origins k 0 < mesh.vertices = cut_inside k 0 lt in omega (arith, h, cut_vertices, different_few origins, cut.few_copies)
+    | inl lt ↦ let h : get_or origins k 0 < mesh.vertices = cut_inside k 0 lt in omega (arith, h, cut_vertices, different_few origins, few_copies)
     | inr le ↦ let none : get_or origins k 0 ≡ 0 = get_or_past origins k 0 le in omega (arith, none)
   ]
 
@@ -130,8 +139,8 @@ module _ (parts : OffParts) (mesh : Mesh) (origins : List ℕ) (faces : List (Li
       let within : All (λ v. v < length parts.vertex_lines) origins = subst (λ (m : ℕ). All (λ v. v < m) origins) (sym cut.lines) cut_inside in
       let short = short_faces faces (2 ^ 64) (omega (arith, sides, cut.few_sides)) in
       let same : length faces ≡ length parts.colours = cut.opening.same_faces ∙ sym cut.colours in
-      let all : AllFaces (length lines) faces parts.colours = subst (λ (v : ℕ). AllFaces v faces parts.colours) (sym count) (all_faces n faces parts.colours (omega (arith, cut.few_copies)) good short cut.clean.colours same) in
-      let read = cut_again parts.header lines faces parts.colours (edge_count (opened origins faces)) origins (all_lines parts.vertex_lines origins cut.clean.vertex_lines within) all (omega (arith, count, cut.few_copies)) (omega (arith, some, sides, cut.few_sides)) (omega (arith, cut.opening.is_disc.characteristic_one, some, sides, cut.few_sides, cut.few_copies)) (omega (arith, cut.few_copies)) small_origin in
+      let all : AllFaces (length lines) faces parts.colours = subst (λ (v : ℕ). AllFaces v faces parts.colours) (sym count) (all_faces n faces parts.colours (omega (arith, few_copies)) good short cut.clean.colours same) in
+      let read = cut_again parts.header lines faces parts.colours (edge_count (opened origins faces)) origins (all_lines parts.vertex_lines origins cut.clean.vertex_lines within) all (omega (arith, count, few_copies)) (omega (arith, some, sides, cut.few_sides)) (omega (arith, cut.opening.is_disc.characteristic_one, some, sides, cut.few_sides, few_copies)) (omega (arith, few_copies)) small_origin in
       ap (counted n) read ∙ ap (λ (b : Bool). cond b (Ok origins) (Err (CopyCount n))) (eq-eqb n n refl)
 
 pub copies_are_reread : CopiesAreReread

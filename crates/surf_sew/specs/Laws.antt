@@ -19,7 +19,6 @@ pub record WasCut (parts : OffParts) (mesh : Mesh) (origins : List ℕ) (faces :
   pub colours : length parts.colours ≡ face_count mesh
   pub is_mesh : IsMesh mesh
   pub few_sides : side_count mesh < 2 ^ 30
-  pub few_copies : length origins < 2 ^ 30
   pub opening : IsOpening mesh origins faces
 
 -- the mesh of the copies, and its parts
