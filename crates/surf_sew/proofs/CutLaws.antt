@@ -1,31 +1,29 @@
 -- What is sewn of a mesh that was cut is that mesh.
-use Rattle.std.proofs.Common.{◌≡◌, ◌≢◌, ◌<◌, ◌≤◌, ◌+◌, ◌^◌, ℕ, zero, suc, Bool, true, false, not, List, [], ◌∷◌, ◌++◌, length, get_or, map, Option, Some, None, Result, Ok, Err, refl, sym, ◌∙◌, ap, subst, append_assoc, length-append, arith, inl, inr, cond, eq-eqb}
-use Rattle.std.specs.Prelude.{◌==◌, slice_index, AllPairs, Contains}
-use Rattle.std.specs.List.{All, list_any, range_with_len, sum_by}
-use Rattle.std.specs.Str.{bytes_eq}
+use Rattle.std.proofs.Common.{◌≡◌, ◌≢◌, ◌<◌, ◌≤◌, ◌+◌, ◌^◌, ℕ, Bool, false, List, [], ◌∷◌, ◌++◌, length, get_or, map, Option, None, Ok, Err, refl, sym, ◌∙◌, ap, subst, append_assoc, length-append, arith, inl, inr, cond, eq-eqb}
+use Rattle.std.specs.Prelude.{◌==◌, slice_index, AllPairs}
+use Rattle.std.specs.List.{All, list_any, sum_by}
 use Rattle.std.proofs.lemmas.Bool.{cases_lt, ne_eqb, not_from_true}
 use Rattle.std.proofs.lemmas.List.{ext_get_or, length-map, get_or-map, get_or_past, get_or_at, get_or_append_left}
 use Rattle.std.proofs.lemmas.List.Elements.{All-tail, All-head}
 use Rattle.std.proofs.lemmas.List.Folds.{list_any_at, list_any_none}
-use Rattle.std.proofs.lemmas.List.FromFn.{get_or-map-range_with_len, length-map-range_with_len, length-range_with_len}
+use Rattle.std.proofs.lemmas.List.FromFn.{get_or-map-range_with_len, length-map-range_with_len}
 use Rattle.std.proofs.lemmas.List.Sums.{sum_by-cons}
 use Rattle.std.proofs.lemmas.Slice.Eq.{bytes_eq-Decides}
-use Rattle.surf_complex.specs.Disc.{IsOpening}
-use Rattle.surf_complex.specs.Mesh.{Mesh, IsFace, IsMesh}
-use Rattle.surf_complex.specs.Surface.{face_count, edge_count, face_at}
+use Rattle.surf_complex.specs.Mesh.{Mesh, IsFace}
+use Rattle.surf_complex.specs.Surface.{edge_count}
 use Rattle.surf_disc.proofs.TableLaws.{edges_within}
 use Rattle.surf_mesh.specs.Sides.{side_count}
 use Rattle.surf_off.specs.Off.{OffParts, first_repeat}
 use Rattle.surf_off.specs.Written.{lines_at, mesh_text, opened_text}
 use Rattle.surf_off.proofs.FaceRows.{other_default}
-use Rattle.surf_off.proofs.Reread.{AllLines, AllFaces}
+use Rattle.surf_off.proofs.Reread.{AllFaces}
 use Rattle.surf_off.proofs.RereadMesh.{all_faces, short_faces}
 use Rattle.surf_sew.specs.declared.copies.CopyFault.TheVariants.{CopyCount}
 use Rattle.surf_sew.specs.declared.fault.SewFault.{SewFault}
 use Rattle.surf_sew.specs.Copies.{counted, copies_in}
-use Rattle.surf_sew.specs.Sewing.{first_copy, first_like, first_copies, different, HaveCopies, gap_fault, line_fault, sewn_face, sewn_faces, repeat_or, repeat_from, unless, sewn_mesh, sewn_of}
-use Rattle.surf_sew.specs.Texts.{sewn_lines, sewn_text}
-use Rattle.surf_sew.specs.Laws.{WasCut, opened, opened_parts, CopiesAreReread, OpenedAreSewn, LinesAreSewn}
+use Rattle.surf_sew.specs.Sewing.{first_copy, first_like, first_copies, different, HaveCopies, line_fault, sewn_face, sewn_faces, repeat_or, repeat_from, unless, sewn_mesh, sewn_of}
+use Rattle.surf_sew.specs.Texts.{sewn_lines}
+use Rattle.surf_sew.specs.Laws.{WasCut, opened, CopiesAreReread, OpenedAreSewn, LinesAreSewn}
 use Rattle.surf_sew.proofs.Gaps.{among_copy, copy_origin, different_few, no_more, no_gap}
 use Rattle.surf_sew.proofs.Firsts.{like_few}
 use Rattle.surf_sew.proofs.Faults.{no_line, sewn_sides, mesh_is}
@@ -108,12 +106,12 @@ module _ (parts : OffParts) (mesh : Mesh) (origins : List ℕ) (faces : List (Li
       let lines = lines_at parts.vertex_lines origins in
       let firsts = first_copies origins 0 mesh.vertices in
       ext_get_or [] (sewn_lines lines origins mesh.vertices) parts.vertex_lines (lines_count lines origins mesh.vertices ∙ sym cut.lines) (λ v lt.
-          let few : v < mesh.vertices = omega (arith, lines_count lines origins mesh.vertices) in
-          let copy = among_copy origins v (cut_have v few) in
-          get_or-map (λ c. get_or lines c []) firsts v 0 [] (omega (arith, length-map-range_with_len (first_copy origins) 0 mesh.vertices))
-          ∙ ap (λ (c : ℕ). get_or lines c []) (get_or-map-range_with_len (first_copy origins) 0 mesh.vertices v v 0 few (omega arith))
-          ∙ line_of (first_copy origins v) copy
-          ∙ ap (λ (u : ℕ). get_or parts.vertex_lines u []) (copy_origin origins v copy))
+      let few : v < mesh.vertices = omega (arith, lines_count lines origins mesh.vertices) in
+      let copy = among_copy origins v (cut_have v few) in
+      get_or-map (λ c. get_or lines c []) firsts v 0 [] (omega (arith, length-map-range_with_len (first_copy origins) 0 mesh.vertices))
+      ∙ ap (λ (c : ℕ). get_or lines c []) (get_or-map-range_with_len (first_copy origins) 0 mesh.vertices v v 0 few (omega arith))
+      ∙ line_of (first_copy origins v) copy
+      ∙ ap (λ (u : ℕ). get_or parts.vertex_lines u []) (copy_origin origins v copy))
 
   few_sides : side_count (opened origins faces) < 2 ^ 30
   few_sides = omega (arith, sewn_sides origins faces, ap (sum_by length) cut_faces, cut.few_sides)

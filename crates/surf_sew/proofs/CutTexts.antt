@@ -1,20 +1,18 @@
 -- The copy lines of the text of an opened mesh.
-use Rattle.std.proofs.Common.{◌≡◌, ◌<◌, ◌≤◌, ◌+◌, ◌^◌, ℕ, zero, suc, List, [], ◌∷◌, ◌++◌, length, get_or, map, Result, Ok, Err, refl, sym, ◌∙◌, ap, append_assoc, arith, codes, cond, eq-eqb}
-use Rattle.std.specs.Prelude.{decimal, slice_index, Bool, true, false, ◌==◌}
-use Rattle.std.specs.List.{All, list_any, zip, range_with_len}
-use Rattle.std.proofs.lemmas.List.{append-nil, ext_get_or, length-map}
+use Rattle.std.proofs.Common.{◌≡◌, ◌<◌, ◌+◌, ◌^◌, ℕ, zero, suc, List, [], ◌∷◌, ◌++◌, length, map, Ok, refl, sym, ◌∙◌, ap, append_assoc, arith, codes}
+use Rattle.std.specs.Prelude.{decimal, slice_index, false}
+use Rattle.std.specs.List.{list_any, zip, range_with_len}
+use Rattle.std.proofs.lemmas.List.{ext_get_or}
 use Rattle.std.proofs.lemmas.List.FromFn.{length-map-range_with_len, get_or-map-range_with_len}
 use Rattle.surf_text.specs.Text.{is_line_end, is_comment_sign}
 use Rattle.surf_off.specs.declared.header.Header.{Header}
 use Rattle.surf_off.specs.declared.header.Header.TheVariants.{Off, Coff, Noff, Cnoff, Stoff, Stcoff, Stnoff, Stcnoff}
-use Rattle.surf_off.specs.Clean.{IsClean, IsVertexLine}
 use Rattle.surf_off.specs.Keywords.{keyword}
-use Rattle.surf_off.specs.Written.{head_text, lines_text, numbers_text, colour_text, face_text, faces_text, mesh_text, copy_text, copies_text}
+use Rattle.surf_off.specs.Written.{head_text, lines_text, face_text, faces_text, mesh_text, copies_text}
 use Rattle.surf_off.proofs.Decimals.{word_decimal}
-use Rattle.surf_off.proofs.NumberLines.{Small, number_line, tail_text, clean_numbers, none_append}
+use Rattle.surf_off.proofs.NumberLines.{number_line, clean_numbers, none_append}
 use Rattle.surf_off.proofs.Reread.{AllLines, AllFaces}
-use Rattle.surf_sew.specs.declared.copies.CopyFault.{CopyFault}
-use Rattle.surf_sew.specs.Copies.{with_origin, origins_from}
+use Rattle.surf_sew.specs.Copies.{origins_from}
 use Rattle.surf_sew.proofs.CutLines.{copies_from, quiet_line, copy_first, origin_again}
 
 -- Behind the text the copy lines are those that follow, from some line on.

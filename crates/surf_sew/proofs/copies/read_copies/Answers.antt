@@ -1,4 +1,4 @@
-use Rattle.std.proofs.Common.{◌≡◌, ◌≤◌, ◌+◌, ℕ, List, [], ◌∷◌, ◌++◌, length, Some, None, Ok, Err, Result, refl, sym, ◌∙◌, ap, arith, cond}
+use Rattle.std.proofs.Common.{◌≡◌, ◌+◌, ℕ, List, [], ◌∷◌, ◌++◌, length, Some, None, Ok, Err, sym, ◌∙◌, ap, arith, cond}
 use Rattle.std.specs.Prelude.{◌==◌, true, false, Bool}
 use Rattle.std.proofs.lemmas.Bool.{eq-eqb, ne_eqb}
 use Rattle.std.proofs.lemmas.List.{length_push}
@@ -6,10 +6,9 @@ use Rattle.std.proofs.lemmas.List.Splits.{length-slice_split}
 use Rattle.std.proofs.lemmas.List.Sums.{count_by-le-length}
 use Rattle.surf_text.specs.Text.{is_line_end, words_of}
 use Rattle.surf_text.specs.Walks.{parts_of}
-use Rattle.surf_sew.specs.declared.copies.CopyFault.{CopyFault}
 use Rattle.surf_sew.specs.declared.copies.CopyFault.TheVariants.{CopyCount}
 use Rattle.surf_sew.specs.Copies.{word_lines_from, copies_among, copy_lines, origins_from, is_copy, origin_of, counted}
-use Rattle.surf_sew.proofs.CopyLines.{with_origins, with_none, other_line, copy_line, bad_line, no_line}
+use Rattle.surf_sew.proofs.CopyLines.{with_origins, with_none, copy_line, bad_line, no_line}
 use Rattle.surf_sew.proofs.copies.read_copies.Goals as goal
 
 pub loop-rest-init : goal.loop-rest-init
