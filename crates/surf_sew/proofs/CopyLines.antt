@@ -1,12 +1,12 @@
 -- Copy lines that are read one after the other.
-use Rattle.std.proofs.Common.{◌≡◌, ◌+◌, ℕ, true, false, List, [], ◌∷◌, ◌++◌, length, Option, Some, None, Result, Ok, Err, refl, sym, ◌∙◌, ap, append_assoc, not, codes}
+use Rattle.std.proofs.Common.{◌≡◌, ◌+◌, ℕ, true, false, List, [], ◌∷◌, ◌++◌, length, Some, None, Result, Ok, Err, refl, sym, ap, append_assoc, not, codes}
 use Rattle.std.proofs.lemmas.List.{append-nil}
 use Rattle.std.specs.Str.{bytes_eq}
 use Rattle.surf_text.specs.Text.{words_of, whole}
 use Rattle.surf_text.specs.Walks.{has_some}
 use Rattle.surf_sew.specs.declared.copies.CopyFault.{CopyFault}
 use Rattle.surf_sew.specs.declared.copies.CopyFault.TheVariants.{CopyForm}
-use Rattle.surf_sew.specs.Copies.{WordLine, word_lines_from, is_copy, copies_among, origin_at, origin_of, with_origin, origins_from}
+use Rattle.surf_sew.specs.Copies.{word_lines_from, is_copy, copies_among, origin_at, origin_of, with_origin, origins_from}
 
 -- origins that were read, in front of those to come
 abbrev pub with_origins : List ℕ → Result (List ℕ) CopyFault → Result (List ℕ) CopyFault
@@ -22,7 +22,6 @@ one_more front line v (Ok origins) = ap (λ (os : List ℕ). Ok os) (sym (append
 one_more front line v (Err fault) = refl
 
 module _ (n : ℕ) (front line : List ℕ) (lines : List (List ℕ)) where
-
   pub other_line : is_copy (words_of line) ≡ false → with_origins front (origins_from (length front) (copies_among (word_lines_from n (line ∷ lines)))) ≡ with_origins front (origins_from (length front) (copies_among (word_lines_from (n + 1) lines)))
   other_line other = rw other refl
 

@@ -1,7 +1,7 @@
 -- The first fault of copies and their origins.
-use Rattle.std.proofs.Common.{◌≡◌, ◌≢◌, ◌<◌, ◌≤◌, ◌+◌, ℕ, zero, suc, Bool, true, false, not, List, [], ◌∷◌, length, get_or, take, drop, map, Option, Some, None, Result, Ok, Err, refl, sym, ◌∙◌, ap, arith}
+use Rattle.std.proofs.Common.{◌≡◌, ◌≢◌, ◌<◌, ◌≤◌, ◌+◌, ℕ, Bool, true, false, not, List, [], ◌∷◌, length, get_or, drop, Option, Some, None, refl, sym, ◌∙◌, ap, arith}
 use Rattle.std.specs.Prelude.{slice_index, AllPairs}
-use Rattle.std.specs.List.{All, find, range_with_len, sum_by}
+use Rattle.std.specs.List.{All, sum_by}
 use Rattle.std.specs.Option.{option_map}
 use Rattle.std.proofs.lemmas.List.{length-map, get_or-map, at_drop_more, at_drop_all}
 use Rattle.std.proofs.lemmas.List.Elements.{All-map}
@@ -9,9 +9,8 @@ use Rattle.std.proofs.lemmas.List.Sums.{sum_by-cons}
 use Rattle.surf_complex.specs.Mesh.{Mesh, IsFace}
 use Rattle.surf_off.specs.Off.{first_repeat}
 use Rattle.surf_off.proofs.FaceRows.{other_default}
-use Rattle.surf_sew.specs.declared.fault.SewFault.{SewFault}
 use Rattle.surf_sew.specs.declared.fault.SewFault.TheVariants.{Line, FaceRepeat}
-use Rattle.surf_sew.specs.Sewing.{same_line, first_like, line_fault, sewn_face, sewn_faces, repeat_or, repeat_from, unless}
+use Rattle.surf_sew.specs.Sewing.{same_line, first_like, line_fault, sewn_face, sewn_faces, repeat_or, repeat_from}
 use Rattle.surf_sew.proofs.Gaps.{find_range, find_no_range}
 
 -- whether the vertex line of a copy differs from that of the least copy with its origin

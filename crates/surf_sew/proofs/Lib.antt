@@ -2,5 +2,8 @@ pub mod CopyLines
 pub mod Gaps
 pub mod Firsts
 pub mod Faults
-pub mod Rereads
 pub mod Windows
+pub mod Rereads
+pub mod CutLines
+pub mod CutTexts
+pub mod CutLaws

@@ -1,5 +1,5 @@
 -- The vertex lines of least copies, some vertices at a time.
-use Rattle.std.proofs.Common.{◌≡◌, ◌<◌, ◌≤◌, ◌+◌, ℕ, zero, suc, List, [], ◌∷◌, ◌++◌, length, get_or, map, refl, sym, ◌∙◌, ap, append_assoc, codes, arith}
+use Rattle.std.proofs.Common.{◌≡◌, ◌<◌, ◌+◌, ℕ, zero, suc, List, [], ◌∷◌, ◌++◌, length, get_or, map, refl, sym, ◌∙◌, ap, append_assoc, codes, arith}
 use Rattle.std.specs.List.{All, range_with_len}
 use Rattle.std.proofs.lemmas.List.{map-append}
 use Rattle.std.proofs.lemmas.List.FromFn.{get_or-map-range_with_len, length-map-range_with_len}
@@ -25,7 +25,6 @@ range_append a (suc m) n =
     ap (range_with_len a) e ∙ ap (λ (xs : List ℕ). a ∷ xs) (range_append (a + 1) m n ∙ ap (λ (b : ℕ). range_with_len (a + 1) m ++ range_with_len b n) f)
 
 module _ (lines : List (List ℕ)) (vs : List ℕ) where
-
   pub more_lines : (from n : ℕ) → lines_text (lines_at lines (first_copies vs 0 (from + n))) ≡ lines_text (lines_at lines (first_copies vs 0 from)) ++ lines_text (lines_at lines (first_copies vs from n))
   more_lines from n =
       let e : 0 + from ≡ from = omega arith in

@@ -1,3 +1,4 @@
 pub mod Copies
 pub mod Sewing
 pub mod Texts
+pub mod Laws

@@ -1,5 +1,5 @@
 //! The copy lines of a text.
-ghost use Rattle.std.specs.Prelude.{◌≡◌, ◌≤◌, ◌∷◌, Some, length};
+ghost use Rattle.std.specs.Prelude.{◌≡◌, ◌≤◌, ◌∷◌, Some, IfOk, length};
 ghost use Rattle.std.specs.List.{position, slice_split};
 ghost use Rattle.std.specs.Str.{bytes_eq};
 ghost use Rattle.surf_text.specs.Text.{is_line_end, words_of};
@@ -99,6 +99,7 @@ fn read_origin(line: &[u8], place: u64) -> Option<VertexId>
 pub fn read_copies(alloc: Global, text: &[u8], count: u32) -> Result<Vec<VertexId>, CopyFault>
     requires short { length text.now ≤ 268435456 }
     ensures copies { Gives (λ origins. origins.items) result (copies_in text.now count) }
+    ensures count { IfOk result (λ origins. length origins.items ≡ count) }
 {
     let mut origins = Vec::new(alloc);
     let mut rest = Some(text);

@@ -114,6 +114,7 @@ fn sew_faces(
     requires copies { length origins.now ≡ soup.now.vertices }
     requires within { All (λ v. v < vertices) origins.now }
     ensures faces { Gives (λ s. s) result (unless (repeat_from 0 (sewn_faces origins.now soup.now.faces)) (Ok (record { vertices = vertices; faces = sewn_faces origins.now soup.now.faces }))) }
+    ensures count { IfOk result (λ s. length s.faces ≡ length soup.now.faces) }
 {
     let mut sewn = Soup::start(alloc, vertices);
     let mut corners = Vec::new(alloc);
@@ -144,6 +145,7 @@ pub fn sew(
     requires origins { length origins.now ≡ soup.now.vertices }
     ensures sewn { Gives (λ s. s) result (sewn_of text.now.vertex_lines soup.now origins.now) }
     ensures copies { IfOk result (λ s. HaveCopies origins.now s.vertices) }
+    ensures faces { IfOk result (λ s. length s.faces ≡ length soup.now.faces) }
 {
     let mut first = vec![in alloc; 0u32; soup.vertices() as usize]?;
     list_first(origins, 0, &mut first);

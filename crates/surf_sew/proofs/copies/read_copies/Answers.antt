@@ -1,4 +1,4 @@
-use Rattle.std.proofs.Common.{◌≡◌, ◌≤◌, ◌+◌, ℕ, List, [], ◌∷◌, ◌++◌, length, Some, None, Ok, Err, Result, refl, sym, ◌∙◌, ap, arith, cond}
+use Rattle.std.proofs.Common.{◌≡◌, ◌+◌, ℕ, List, [], ◌∷◌, ◌++◌, length, Some, None, Ok, Err, sym, ◌∙◌, ap, arith, cond}
 use Rattle.std.specs.Prelude.{◌==◌, true, false, Bool}
 use Rattle.std.proofs.lemmas.Bool.{eq-eqb, ne_eqb}
 use Rattle.std.proofs.lemmas.List.{length_push}
@@ -6,10 +6,9 @@ use Rattle.std.proofs.lemmas.List.Splits.{length-slice_split}
 use Rattle.std.proofs.lemmas.List.Sums.{count_by-le-length}
 use Rattle.surf_text.specs.Text.{is_line_end, words_of}
 use Rattle.surf_text.specs.Walks.{parts_of}
-use Rattle.surf_sew.specs.declared.copies.CopyFault.{CopyFault}
 use Rattle.surf_sew.specs.declared.copies.CopyFault.TheVariants.{CopyCount}
 use Rattle.surf_sew.specs.Copies.{word_lines_from, copies_among, copy_lines, origins_from, is_copy, origin_of, counted}
-use Rattle.surf_sew.proofs.CopyLines.{with_origins, with_none, other_line, copy_line, bad_line, no_line}
+use Rattle.surf_sew.proofs.CopyLines.{with_origins, with_none, copy_line, bad_line, no_line}
 use Rattle.surf_sew.proofs.copies.read_copies.Goals as goal
 
 pub loop-rest-init : goal.loop-rest-init
@@ -22,8 +21,8 @@ loop-rest-init c =
       so_far = rw none (with_none (origins_from 0 (copy_lines text)));
     }
 
-pub returns-in_default-read_origin : goal.returns-in_default-read_origin
-returns-in_default-read_origin c =
+pub returns-in_default-read_origin-clause-copies : goal.returns-in_default-read_origin-clause-copies
+returns-in_default-read_origin-clause-copies c =
     let front = c.loop-rest.origins.items in
     let n = c.loop-rest.number + 1 in
     let line = c.split_line.result.0.now in
@@ -33,7 +32,7 @@ returns-in_default-read_origin c =
     let place : c.len.result ≡ length front = omega (arith, c.len.ensures, c.loop-rest.origins.ok.0) in
     let origin : origin_of (length front) (words_of line) ≡ None = ap (λ (k : ℕ). origin_of k (words_of line)) (sym place) ∙ sym c.read_origin.ensures.origin ∙ c.in_default-read_origin.is in
     let bad = sym c.loop-rest.invariant.so_far ∙ ap (λ (ls : List (List ℕ)). with_origins front (origins_from (length front) (copies_among (word_lines_from n ls)))) whole ∙ bad_line n front line parts copy origin in
-    record { copies = λ other. ap (counted c.args.count) bad }
+    λ other. ap (counted c.args.count) bad
 
 pub loop-rest-preserved-in-Continue-1 : goal.loop-rest-preserved-in-Continue-1
 loop-rest-preserved-in-Continue-1 c =
@@ -56,21 +55,21 @@ loop-rest-preserved-in-Continue-1 c =
       so_far = rw (items, count) more;
     }
 
-pub returns-then-len-count : goal.returns-then-len-count
-returns-then-len-count c =
+pub returns-then-len-count-clause-copies : goal.returns-then-len-count-clause-copies
+returns-then-len-count-clause-copies c =
     let front = c.loop-rest.origins.items in
     let n = c.loop-rest.number + 1 in
     let all = sym c.loop-rest.invariant.so_far ∙ ap (λ (ls : List (List ℕ)). with_origins front (origins_from (length front) (copies_among (word_lines_from n ls)))) (ap (parts_of is_line_end) c.in_default.is) ∙ no_line n front in
     let place : c.len-2.result ≡ length front = omega (arith, c.len-2.ensures, c.loop-rest.origins.ok.0) in
     let have : c.len-then-len-count.result ≡ length front = omega (arith, c.len-then-len-count.ensures, c.loop-rest.origins.ok.0) in
     let other : (length front == c.args.count) ≡ false = ne_eqb _ _ (λ e. c.if-len-count.true (place ∙ e)) in
-    record { copies = λ m. ap (counted c.args.count) all ∙ ap (λ (b : Bool). cond b (Ok front) (Err (CopyCount (length front)))) other ∙ ap (λ (k : ℕ). Err (CopyCount k)) (sym have) }
+    λ m. ap (counted c.args.count) all ∙ ap (λ (b : Bool). cond b (Ok front) (Err (CopyCount (length front)))) other ∙ ap (λ (k : ℕ). Err (CopyCount k)) (sym have)
 
-pub returns : goal.returns
-returns c =
+pub returns-clause-copies : goal.returns-clause-copies
+returns-clause-copies c =
     let front = c.loop-rest.origins.items in
     let n = c.loop-rest.number + 1 in
     let all = sym c.loop-rest.invariant.so_far ∙ ap (λ (ls : List (List ℕ)). with_origins front (origins_from (length front) (copies_among (word_lines_from n ls)))) (ap (parts_of is_line_end) c.in_default.is) ∙ no_line n front in
     let place : c.len-2.result ≡ length front = omega (arith, c.len-2.ensures, c.loop-rest.origins.ok.0) in
     let same : (length front == c.args.count) ≡ true = eq-eqb _ _ (omega (arith, place, c.if-len-count.false)) in
-    record { copies = ap (counted c.args.count) all ∙ ap (λ (b : Bool). cond b (Ok front) (Err (CopyCount (length front)))) same }
+    ap (counted c.args.count) all ∙ ap (λ (b : Bool). cond b (Ok front) (Err (CopyCount (length front)))) same

@@ -1,4 +1,4 @@
-use Rattle.std.proofs.Common.{◌≡◌, ℕ, Option, Some, sym, ◌∙◌, ap}
+use Rattle.std.proofs.Common.{ℕ, Option, Some, sym, ◌∙◌, ap}
 use Rattle.surf_text.specs.Text.{whole}
 use Rattle.surf_text.specs.Walks.{TokenWalk}
 use Rattle.surf_sew.specs.Copies.{origin_at}

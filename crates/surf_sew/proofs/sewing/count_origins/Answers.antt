@@ -1,8 +1,7 @@
-use Rattle.std.proofs.Common.{◌≡◌, ◌≤◌, ℕ, List, length, sym, ◌∙◌, ap, subst, arith}
-use Rattle.std.specs.Prelude.{nat_lt, Bool, true, false}
+use Rattle.std.proofs.Common.{ℕ, sym, ◌∙◌, ap, subst, arith}
+use Rattle.std.specs.Prelude.{nat_lt}
 use Rattle.std.specs.List.{list_all}
-use Rattle.surf_sew.specs.Sewing.{HaveCopies, gap_fault}
-use Rattle.surf_sew.specs.declared.fault.SewFault.TheVariants.{Gap}
+use Rattle.surf_sew.specs.Sewing.{HaveCopies}
 use Rattle.surf_sew.proofs.Gaps.{gap_few, gap_have, all_sewn, not_sewn, no_gap}
 use Rattle.surf_sew.proofs.sewing.count_origins.Goals as goal
 

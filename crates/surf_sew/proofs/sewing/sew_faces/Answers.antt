@@ -1,4 +1,4 @@
-use Rattle.std.proofs.Common.{◌≡◌, ◌<◌, ◌≤◌, ◌+◌, ◌^◌, ℕ, List, [], ◌∷◌, ◌++◌, Option, Some, None, Result, Ok, Err, length, get_or, take, drop, refl, sym, ◌∙◌, ap, subst, arith}
+use Rattle.std.proofs.Common.{◌≡◌, ◌<◌, ◌≤◌, ◌+◌, ℕ, List, [], ◌∷◌, ◌++◌, Option, Some, None, Ok, Err, length, get_or, take, drop, sym, ◌∙◌, ap, subst, arith}
 use Rattle.std.specs.Prelude.{◌≢◌, AllPairs, IfNone}
 use Rattle.std.proofs.lemmas.List.{length-map, get_or-map, take_more, take_all}
 use Rattle.std.proofs.lemmas.List.Sums.{sum_by_more_le}
@@ -11,8 +11,8 @@ use Rattle.surf_sew.specs.Sewing.{sewn_face, sewn_faces, unless}
 use Rattle.surf_sew.proofs.Faults.{sewn_is_face, sewn_sides, repeat_here, repeat_next, repeat_never, mesh_is}
 use Rattle.surf_sew.proofs.sewing.sew_faces.Goals as goal
 
-pub returns-in-Some : goal.returns-in-Some
-returns-in-Some c =
+pub returns-in-Some-clause-faces : goal.returns-in-Some-clause-faces
+returns-in-Some-clause-faces c =
     let origins = c.args.origins.now in
     let faces = c.args.soup.now.faces in
     let fs = sewn_faces origins faces in
@@ -23,7 +23,7 @@ returns-in-Some c =
     let sewn : get_or fs f [] ≡ sewn_face origins c.face.result.now = get_or-map (sewn_face origins) faces f [] [] few ∙ ap (sewn_face origins) (sym face) in
     let again : first_repeat [] (get_or fs f []) ≡ Some c.in-Some.v = ap (first_repeat []) sewn ∙ sym c.in_ok-v.ensures.first ∙ c.in-Some.is in
     let here = repeat_here fs f c.loop-f.invariant.so_far c.in-Some.v lt again in
-    record { faces = λ other. ap (λ (o : Option SewFault). unless o (Ok (record { vertices = c.args.vertices; faces = fs }))) here ∙ ap (λ (k : ℕ). Err (FaceRepeat k c.in-Some.v)) (sym c.new-face.ensures) }
+    λ other. ap (λ (o : Option SewFault). unless o (Ok (record { vertices = c.args.vertices; faces = fs }))) here ∙ ap (λ (k : ℕ). Err (FaceRepeat k c.in-Some.v)) (sym c.new-face.ensures)
 
 pub push_face-requires-clause-face : goal.push_face-requires-clause-face
 push_face-requires-clause-face c =
@@ -82,8 +82,8 @@ loop-f-preserved c =
       so_far = repeat_next fs f c.loop-f.invariant.so_far lt again;
     }
 
-pub returns : goal.returns
-returns c =
+pub returns-clause-faces : goal.returns-clause-faces
+returns-clause-faces c =
     let origins = c.args.origins.now in
     let faces = c.args.soup.now.faces in
     let fs = sewn_faces origins faces in
@@ -91,4 +91,11 @@ returns c =
     let le : length fs ≤ f = omega (arith, length-map faces (sewn_face origins), c.faces-f-end.ensures.count, c.loop-f-test.false) in
     let none = repeat_never fs f c.loop-f.invariant.so_far le in
     let whole : c.loop-f.sewn.faces ≡ fs = c.loop-f.invariant.faces ∙ take_all f fs le in
-    record { faces = ap (λ (o : Option SewFault). unless o (Ok (record { vertices = c.args.vertices; faces = fs }))) none ∙ ap (λ (m : Mesh). Ok m) (mesh_is c.loop-f.sewn c.args.vertices fs c.loop-f.invariant.vertices whole) }
+    ap (λ (o : Option SewFault). unless o (Ok (record { vertices = c.args.vertices; faces = fs }))) none ∙ ap (λ (m : Mesh). Ok m) (mesh_is c.loop-f.sewn c.args.vertices fs c.loop-f.invariant.vertices whole)
+
+pub returns-clause-count : goal.returns-clause-count
+returns-clause-count c =
+    let faces = c.args.soup.now.faces in
+    let fs = sewn_faces c.args.origins.now faces in
+    let le : length fs ≤ c.loop-f.f = omega (arith, length-map faces (sewn_face c.args.origins.now), c.faces-f-end.ensures.count, c.loop-f-test.false) in
+    ap length (c.loop-f.invariant.faces ∙ take_all c.loop-f.f fs le) ∙ length-map faces (sewn_face c.args.origins.now)

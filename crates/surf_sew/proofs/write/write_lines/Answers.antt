@@ -1,4 +1,4 @@
-use Rattle.std.proofs.Common.{◌≡◌, ◌<◌, ◌≤◌, ◌+◌, ◌-◌, ℕ, List, [], ◌++◌, length, get_or, take, drop, Ok, refl, sym, ◌∙◌, ap, subst, arith}
+use Rattle.std.proofs.Common.{◌≡◌, ◌<◌, ◌≤◌, ◌+◌, ◌-◌, ℕ, List, ◌++◌, length, take, drop, Ok, refl, sym, ◌∙◌, ap, subst, arith}
 use Rattle.std.specs.List.{All}
 use Rattle.std.proofs.lemmas.Result.{err_from_is_err_and}
 use Rattle.std.proofs.lemmas.List.{take_at, length-take-le}
@@ -7,7 +7,6 @@ use Rattle.surf_text.specs.Pages.{Puts}
 use Rattle.surf_text.proofs.Writing.{puts_more, puts_stop}
 use Rattle.surf_off.specs.Written.{lines_text, lines_at}
 use Rattle.surf_sew.specs.Sewing.{first_copy, first_copies}
-use Rattle.surf_sew.specs.Texts.{sewn_lines}
 use Rattle.surf_sew.proofs.Windows.{copies_few, more_lines, all_lines}
 use Rattle.surf_sew.proofs.write.write_lines.Goals as goal
 

@@ -1,13 +1,12 @@
-use Rattle.std.proofs.Common.{◌≡◌, ◌<◌, ◌≤◌, ◌+◌, ◌^◌, ℕ, List, [], ◌++◌, length, get_or, take, refl, sym, ◌∙◌, ap, subst, arith}
+use Rattle.std.proofs.Common.{◌^◌, ℕ, List, ◌++◌, length, refl, subst, arith}
 use Rattle.std.specs.List.{zip}
 use Rattle.std.proofs.lemmas.Result.{err_from_is_err_and}
-use Rattle.surf_complex.specs.Mesh.{Mesh, IsMesh}
 use Rattle.surf_complex.specs.Surface.{edge_count}
 use Rattle.surf_text.specs.Pages.{Puts}
 use Rattle.surf_text.proofs.Writing.{puts_more, puts_stop}
 use Rattle.surf_off.proofs.RereadMesh.{short_faces}
 use Rattle.surf_off.specs.Written.{head_text, lines_text, faces_text}
-use Rattle.surf_sew.specs.Texts.{sewn_lines, sewn_text, RereadsSewn}
+use Rattle.surf_sew.specs.Texts.{sewn_lines}
 use Rattle.surf_sew.proofs.Rereads.{parts, sewn_again}
 use Rattle.surf_sew.proofs.write.write_sewn.Goals as goal
 

@@ -1,0 +1,49 @@
+-- What is sewn of a mesh that was cut is that mesh.
+use Rattle.std.specs.Prelude.{◌≡◌, ◌<◌, ◌^◌, ℕ, List, length, Ok}
+use Rattle.surf_complex.specs.Disc.{IsOpening}
+use Rattle.surf_complex.specs.Mesh.{Mesh, IsMesh}
+use Rattle.surf_complex.specs.Surface.{face_count, edge_count}
+use Rattle.surf_mesh.specs.Sides.{side_count}
+use Rattle.surf_off.specs.Clean.{IsOffParts}
+use Rattle.surf_off.specs.Off.{OffParts}
+use Rattle.surf_off.specs.Written.{opened_text, lines_at, mesh_text}
+use Rattle.surf_sew.specs.Copies.{copies_in}
+use Rattle.surf_sew.specs.Sewing.{HaveCopies, sewn_of}
+use Rattle.surf_sew.specs.Texts.{sewn_lines, sewn_text}
+
+-- A mesh with a vertex line for each vertex and a colour for each face, and an opening of it: the vertex of each copy,
+-- and the faces over the copies.
+pub record WasCut (parts : OffParts) (mesh : Mesh) (origins : List ℕ) (faces : List (List ℕ)) : Type 0 where
+  pub clean : IsOffParts parts
+  pub lines : length parts.vertex_lines ≡ mesh.vertices
+  pub colours : length parts.colours ≡ face_count mesh
+  pub is_mesh : IsMesh mesh
+  pub few_sides : side_count mesh < 2 ^ 30
+  pub opening : IsOpening mesh origins faces
+
+-- the mesh of the copies, and its parts
+abbrev pub opened : List ℕ → List (List ℕ) → Mesh
+opened origins faces = record { vertices = length origins; faces = faces }
+
+abbrev pub opened_parts : OffParts → List ℕ → OffParts
+opened_parts parts origins = record parts { vertex_lines = lines_at parts.vertex_lines origins }
+
+-- The copy lines of the text of an opened mesh name the origins of its copies.
+abbrev pub CopiesAreReread : Type 0
+CopiesAreReread =
+    (parts : OffParts) (mesh : Mesh) (origins : List ℕ) (faces : List (List ℕ)) → WasCut parts mesh origins faces
+    → copies_in (opened_text parts origins faces (edge_count (opened origins faces))) (length origins) ≡ Ok origins
+
+-- What is sewn of an opened mesh is the mesh that was cut.
+abbrev pub OpenedAreSewn : Type 0
+OpenedAreSewn =
+    (parts : OffParts) (mesh : Mesh) (origins : List ℕ) (faces : List (List ℕ)) → WasCut parts mesh origins faces
+    → (sewn_of (opened_parts parts origins).vertex_lines (opened origins faces) origins ≡ Ok mesh) × HaveCopies origins mesh.vertices
+
+-- The vertex line of the least copy of each vertex is that of the vertex, so what is written of what is sewn has the
+-- keyword, the vertex lines, the faces and the colours of the mesh that was cut.
+abbrev pub LinesAreSewn : Type 0
+LinesAreSewn =
+    (parts : OffParts) (mesh : Mesh) (origins : List ℕ) (faces : List (List ℕ)) → WasCut parts mesh origins faces
+    → (sewn_lines (opened_parts parts origins).vertex_lines origins mesh.vertices ≡ parts.vertex_lines)
+    × (sewn_text (opened_parts parts origins) origins mesh ≡ mesh_text parts.header parts.vertex_lines mesh.faces parts.colours (edge_count mesh))
