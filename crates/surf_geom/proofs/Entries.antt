@@ -1,23 +1,21 @@
 -- The lines of a written length file, and what each of them says.
-use Rattle.std.proofs.Common.{◌≡◌, ◌<◌, ◌≤◌, ◌+◌, ◌^◌, ℕ, zero, suc, Bool, true, false, List, [], ◌∷◌, ◌++◌, length, get_or, Some, None, Option, Ok, Result, refl, sym, ◌∙◌, ap, append_assoc, arith, codes, inl, inr}
-use Rattle.std.specs.Prelude.{decimal, nat_le, nat_lt, ◌&&◌}
-use Rattle.std.specs.List.{All, zip}
+use Rattle.std.proofs.Common.{◌≡◌, ◌<◌, ◌+◌, ◌^◌, ℕ, false, List, [], ◌∷◌, ◌++◌, Some, None, Option, Ok, refl, sym, ◌∙◌, ap, append_assoc, arith, codes}
+use Rattle.std.specs.Prelude.{decimal}
 use Rattle.std.specs.Str.{bytes_eq}
-use Rattle.std.proofs.lemmas.Bool.{cases_Bool, lt-ltb, le-leb, false_from_ne_true, and_from}
+use Rattle.std.proofs.lemmas.Bool.{lt-ltb, le-leb, false_from_ne_true}
 use Rattle.std.proofs.lemmas.List.{append-nil}
 use Rattle.std.proofs.lemmas.Slice.Eq.{bytes_eq-Decides}
-use Rattle.surf_complex.specs.Mesh.{Mesh, pair, edges}
+use Rattle.surf_complex.specs.Mesh.{Mesh}
 use Rattle.surf_complex.specs.Surface.{edge_count, ends}
-use Rattle.surf_text.specs.Text.{TextLine, tokens_of, whole}
+use Rattle.surf_text.specs.Text.{tokens_of, whole}
 use Rattle.surf_off.specs.Clean.{IsClean}
 use Rattle.surf_off.proofs.Decimals.{whole_decimal}
 use Rattle.surf_off.proofs.NumberLines.{Small, number_line, tail_text, tail_more, clean_numbers, tokens_numbers}
 use Rattle.surf_off.proofs.Reread.{lines_from, clean_first}
 use Rattle.surf_lengths.specs.Lengths.{IsLength, longest}
 use Rattle.surf_lengths.specs.Lines.{as_length, edge_named, entry_of, begins_with}
-use Rattle.surf_lengths.specs.declared.fault.LengthFault.{LengthFault}
 use Rattle.surf_lengths.proofs.EdgeNames.{an_edge}
-use Rattle.surf_geom.specs.Texts.{entry_text, entries_text}
+use Rattle.surf_geom.specs.Texts.{entry_text}
 
 -- an edge of the mesh and its length
 pub record IsEntry (mesh : Mesh) (e : ℕ) (entry : (ℕ × ℕ) × ℕ) : Type 0 where

@@ -3,7 +3,7 @@ use Rattle.std.proofs.Common.{◌≡◌, ℕ, zero, suc, ◌+◌, ◌-◌, ◌*�
 use Rattle.std.specs.Prelude.{nat_le}
 use Rattle.std.proofs.lemmas.Bool.{cases_Bool, cases_eq, cases_lt, cases_order, leb-true, le-leb, both_ways}
 use Rattle.std.proofs.lemmas.Nat.{mul-le, div-add-mod', mod_below}
-use Rattle.std.proofs.Math.Nat.{one-le-pow, le-mul_of_pos_right, mul_assoc}
+use Rattle.std.proofs.Math.Nat.{one-le-pow}
 use Rattle.surf_geom.specs.Root.{IsRoot}
 use Rattle.surf_geom.specs.Measures.{greatest, unit_square, measure_of}
 use Rattle.surf_geom.specs.Laws.{IsMeasure}

@@ -1,6 +1,6 @@
 -- Coordinates that are read are in range, and so are the squares of distances.
-use Rattle.std.proofs.Common.{◌≡◌, ℕ, zero, suc, ◌+◌, ◌-◌, ◌*◌, ◌^◌, ◌<◌, ◌≤◌, Bool, true, false, List, length, Option, Some, None, Result, Ok, Err, refl, sym, ap, ◌∙◌, subst, arith, inl, inr}
-use Rattle.std.specs.Prelude.{ℤ, pos, negsuc, neg_ℤ, ◌-ℤ◌, unsigned_abs, not, nat_lt, slice_get, slice_index_or, []}
+use Rattle.std.proofs.Common.{◌≡◌, ℕ, zero, suc, ◌*◌, ◌^◌, ◌<◌, ◌≤◌, Bool, true, false, List, length, Option, Some, None, Result, Ok, Err, refl, sym, ap, ◌∙◌, subst, arith, inl, inr}
+use Rattle.std.specs.Prelude.{ℤ, ◌-ℤ◌, unsigned_abs, not, slice_get, slice_index_or, []}
 use Rattle.std.specs.List.{All, range_with_len}
 use Rattle.std.proofs.lemmas.Bool.{cases_Bool, cases_lt, le-ltb}
 use Rattle.std.proofs.lemmas.Int.{ints}
@@ -11,8 +11,8 @@ use Rattle.surf_geom.specs.declared.fault.GeomFault.{GeomFault}
 use Rattle.surf_geom.specs.declared.points.Point.{Point}
 use Rattle.surf_geom.specs.declared.fault.FixedFault.TheVariants.{Form, Range}
 use Rattle.surf_geom.specs.Fixed.{Decimal, is_great, fixed_amount, signed, fixed_if, fixed_of, decimal_in}
-use Rattle.surf_geom.specs.Gives.{◌>>=◌, each}
-use Rattle.surf_geom.specs.Points.{placed, coordinate, point_of, point_in, points_in, square, square_distance, IsNear}
+use Rattle.surf_geom.specs.Gives.{◌>>=◌}
+use Rattle.surf_geom.specs.Points.{placed, coordinate, point_of, point_in, points_in, square, IsNear}
 use Rattle.surf_geom.proofs.Quotients.{great_is}
 use Rattle.surf_geom.proofs.EachLaws.{each_all}
 
@@ -59,7 +59,7 @@ three_near p (Err e) y z hx hy hz is = cc
 point_near : (v : ℕ) (tokens : List (List ℕ)) (p : Point) → point_of v tokens ≡ Ok p → IsNear p
 point_near v tokens p is =
     three_near p (coordinate v 0 (slice_get tokens 0)) (coordinate v 1 (slice_get tokens 1)) (coordinate v 2 (slice_get tokens 2))
-        (coordinate_near v 0 (slice_get tokens 0)) (coordinate_near v 1 (slice_get tokens 1)) (coordinate_near v 2 (slice_get tokens 2)) is
+    (coordinate_near v 0 (slice_get tokens 0)) (coordinate_near v 1 (slice_get tokens 1)) (coordinate_near v 2 (slice_get tokens 2)) is
 
 -- all points that are read
 pub points_near : (lines : List (List ℕ)) (points : List Point) → points_in lines ≡ Ok points → All IsNear points

@@ -1,9 +1,8 @@
 -- Lengths that are written are read as what was handed in.
 use Rattle.std.proofs.Common.{◌≡◌, ◌<◌, ◌≤◌, ◌+◌, ◌^◌, eqb, ℕ, zero, suc, Bool, true, false, List, [], ◌∷◌, ◌++◌, length, get_or, set, replicate, map, Some, None, Option, Ok, Err, Result, unwrap_or, refl, sym, ◌∙◌, ap, append_assoc, arith, codes, inl, inr}
-use Rattle.std.specs.List.{All, zip, fold, position, position_or_len, range_with_len}
+use Rattle.std.specs.List.{zip, fold, position, position_or_len, range_with_len}
 use Rattle.std.proofs.Math.Seq.{set-append_seam}
 use Rattle.std.proofs.lemmas.Bool.{le-ltb, ne_eqb}
-use Rattle.std.proofs.lemmas.List.{append-nil}
 use Rattle.std.proofs.lemmas.List.FromFn.{length-range_with_len}
 use Rattle.std.proofs.lemmas.Slice.Zip.{length-zip, seconds-zip}
 use Rattle.surf_complex.specs.Mesh.{Mesh, IsMesh, edges}
@@ -11,11 +10,11 @@ use Rattle.surf_complex.specs.Surface.{edge_count, ends}
 use Rattle.surf_complex.proofs.CellLaws.{ends_below}
 use Rattle.surf_text.specs.Text.{TextLine, lines_of}
 use Rattle.surf_off.proofs.Reread.{lines_from}
-use Rattle.surf_lengths.specs.Lengths.{IsLength, AreLengths}
+use Rattle.surf_lengths.specs.Lengths.{AreLengths}
 use Rattle.surf_lengths.specs.Lines.{entry_of}
-use Rattle.surf_lengths.specs.Files.{Named, Head, none_named, name_edge, name_line, head_of, missing_edge, when_read, behind_head, lengths_in}
+use Rattle.surf_lengths.specs.Files.{Named, none_named, name_edge, name_line, head_of, when_read, behind_head, lengths_in}
 use Rattle.surf_lengths.specs.declared.fault.LengthFault.{LengthFault}
-use Rattle.surf_geom.specs.Texts.{entry_text, entries_text, lengths_text}
+use Rattle.surf_geom.specs.Texts.{entries_text, lengths_text}
 use Rattle.surf_geom.proofs.Entries.{IsEntry, line_of, entry_first, entry_is, no_version}
 
 -- entries for the edges from a number on
@@ -90,9 +89,10 @@ entries_of mesh e (p ∷ ps) (n ∷ ns) edges lengths =
     let here = edges zero (omega arith) in
     let none : e + 0 ≡ e = omega arith in
     let later : (k : ℕ) → k < length ps → (e + 1 + k < edge_count mesh) × (ends mesh (e + 1 + k) ≡ get_or ps k (0, 0)) × ((get_or ps k (0, 0)).0 < (get_or ps k (0, 0)).1) × ((get_or ps k (0, 0)).1 < 2 ^ 64) =
-    λ k lt. let at = edges (suc k) (omega arith) in let same : e + 1 + k ≡ e + suc k = omega arith in (omega (arith, at.0), ap (ends mesh) same ∙ at.1, at.2, at.3) in
-    (record { inside = omega (arith, here.0); ends_are = ap (ends mesh) (sym none) ∙ here.1; rises = here.2; fits = here.3; length = lengths zero 0 (omega arith) },
-     entries_of mesh (e + 1) ps ns later (λ k d lt. lengths (suc k) d (omega arith)))
+    λ k lt. let at = edges (suc k) (omega arith) in let same : e + 1 + k ≡ e + suc k = omega arith in (omega (arith, at.0), ap (ends mesh) same ∙ at.1, at.2, at.3) in (
+      record { inside = omega (arith, here.0); ends_are = ap (ends mesh) (sym none) ∙ here.1; rises = here.2; fits = here.3; length = lengths zero 0 (omega arith) },
+      entries_of mesh (e + 1) ps ns later (λ k d lt. lengths (suc k) d (omega arith)),
+    )
 
 -- a text without the head of version 2
 plain_head : (mesh : Mesh) (xs : List ((ℕ × ℕ) × ℕ)) → AreEntries mesh 0 xs → head_of (text_lines 1 xs) ≡ Ok (record { default = None; entries = text_lines 1 xs })

@@ -8,19 +8,19 @@
 #![tactic(auto)]
 
 mod fault;
-mod values;
 mod laws;
 mod measures;
 mod numbers;
 mod points;
 mod roots;
+mod values;
 mod write;
 
 pub use fault::{FixedFault, GeomFault};
-pub use values::fixed;
 pub use laws::law_of_measures;
 pub use measures::measure;
 pub use roots::root;
+pub use values::fixed;
 pub use write::write_lengths;
 
 #[cfg(test)]

@@ -8,9 +8,9 @@ ghost use Rattle.surf_geom.specs.Gives.{Gives, each};
 ghost use Rattle.surf_geom.specs.Points.{coordinate, point_of, points_in, square, square_distance, IsNear};
 ghost use Rattle.surf_geom.specs.Measures.{unit_square, measure_of, fitting, length_of, measures_in};
 
-use crate::values::fixed;
 use crate::points::Point;
 use crate::roots::root;
+use crate::values::fixed;
 use crate::{FixedFault, GeomFault};
 use std::alloc::Global;
 use surf_base::{EdgeId, VertexId};
@@ -20,11 +20,7 @@ use surf_off::OffText;
 use surf_text::Tokens;
 
 // The next coordinate of a vertex, which stands at this place of its line.
-fn next_coordinate(
-    vertex: VertexId,
-    place: u32,
-    tokens: &mut Tokens<'_>,
-) -> Result<i64, GeomFault>
+fn next_coordinate(vertex: VertexId, place: u32, tokens: &mut Tokens<'_>) -> Result<i64, GeomFault>
     ensures coordinate { result ≡ coordinate vertex place (slice_get tokens.old.tokens 0) }
     ensures rest { tokens.new.tokens ≡ drop 1 tokens.old.tokens }
 {
@@ -50,11 +46,7 @@ fn read_point(vertex: VertexId, line: &[u8]) -> Result<Point, GeomFault>
 }
 
 // The points of all vertices.
-fn read_points(
-    alloc: Global,
-    vertices: u32,
-    text: &OffText<'_>,
-) -> Result<Vec<Point>, GeomFault>
+fn read_points(alloc: Global, vertices: u32, text: &OffText<'_>) -> Result<Vec<Point>, GeomFault>
     requires lines { length text.now.vertex_lines ≡ vertices }
     ensures points { Gives (λ points. points.items) result (points_in text.now.vertex_lines) }
     ensures count { IfOk result (λ points. length points.items ≡ vertices) }

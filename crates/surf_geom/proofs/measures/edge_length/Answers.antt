@@ -1,4 +1,4 @@
-use Rattle.std.proofs.Common.{◌≡◌, ℕ, List, ap, sym, ◌∙◌}
+use Rattle.std.proofs.Common.{◌≡◌, ℕ, ap, ◌∙◌}
 use Rattle.surf_geom.specs.Points.{square_distance, point_at}
 use Rattle.surf_geom.specs.Measures.{measure_of, fitting}
 use Rattle.surf_geom.proofs.Greatest.{measure_is_root}

@@ -1,4 +1,4 @@
-use Rattle.std.proofs.Common.{◌≡◌, ◌≤◌, take, Ok}
+use Rattle.std.proofs.Common.{◌≡◌, take, Ok}
 use Rattle.surf_complex.specs.Mesh.{edges}
 use Rattle.surf_geom.specs.Gives.{each}
 use Rattle.surf_geom.specs.Measures.{length_of}

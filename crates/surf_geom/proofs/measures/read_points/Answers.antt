@@ -1,11 +1,10 @@
-use Rattle.std.proofs.Common.{◌≡◌, ℕ, ◌+◌, ◌<◌, ◌≤◌, ◌^◌, List, [], ◌∷◌, ◌++◌, length, get_or, Result, Ok, Err, refl, ap, sym, ◌∙◌, subst, zero-add, arith}
+use Rattle.std.proofs.Common.{◌≡◌, ℕ, ◌<◌, List, [], length, get_or, Ok, ap, sym, ◌∙◌, zero-add, arith}
 use Rattle.std.specs.List.{range_with_len}
 use Rattle.std.proofs.lemmas.Result.{err_from_is_err_and}
 use Rattle.std.proofs.lemmas.List.FromFn.{get_or-range_with_len, length-range_with_len}
 use Rattle.surf_text.specs.Text.{tokens_of}
 use Rattle.surf_geom.specs.declared.points.Point.{Point}
-use Rattle.surf_geom.specs.Gives.{Gives, each}
-use Rattle.surf_geom.specs.Points.{point_of, point_in, points_in}
+use Rattle.surf_geom.specs.Points.{point_of, point_in}
 use Rattle.surf_geom.proofs.EachLaws.{each_none, each_more, each_stop, each_done, each_length}
 use Rattle.surf_geom.proofs.measures.read_points.Goals as goal
 

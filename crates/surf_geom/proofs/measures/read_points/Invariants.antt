@@ -1,4 +1,4 @@
-use Rattle.std.proofs.Common.{◌≡◌, ◌≤◌, take, length, Ok}
+use Rattle.std.proofs.Common.{◌≡◌, take, length, Ok}
 use Rattle.std.specs.List.{range_with_len}
 use Rattle.surf_geom.specs.Gives.{each}
 use Rattle.surf_geom.specs.Points.{point_in}

@@ -1,5 +1,4 @@
-use Rattle.std.proofs.Common.{◌≡◌, ◌≤◌, Some, sym, arith, ◌∙◌}
-use Rattle.surf_text.specs.Text.{whole}
+use Rattle.std.proofs.Common.{◌≤◌, sym, arith}
 use Rattle.surf_geom.proofs.DigitLaws.{three_digits}
 use Rattle.surf_geom.proofs.numbers.read_exponent.Goals as goal
 

@@ -1,4 +1,4 @@
-use Rattle.std.proofs.Common.{◌≡◌, ℕ, ◌+◌, ◌-◌, ◌*◌, ◌<◌, ◌≤◌, ◌^◌, Some, None, take, length, refl, ap, sym, ◌∙◌, arith}
+use Rattle.std.proofs.Common.{◌≡◌, ℕ, ◌+◌, ◌-◌, None, take, length, ap, sym, ◌∙◌, arith}
 use Rattle.surf_geom.specs.Digits.{pushed, pushed_to, in_range}
 use Rattle.surf_text.specs.Text.{value_of}
 use Rattle.surf_geom.specs.Fixed.{fixed_amount}

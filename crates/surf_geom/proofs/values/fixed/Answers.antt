@@ -2,7 +2,7 @@ use Rattle.std.proofs.Common.{◌≡◌, Option, Some, None, Ok, Err, ap, sym, �
 use Rattle.std.proofs.lemmas.Int.{to_z-of_z}
 use Rattle.std.specs.Int.{w64}
 use Rattle.std.specs.Prelude.{FitsSigned}
-use Rattle.surf_geom.specs.Fixed.{Decimal, decimal_in, fixed_if}
+use Rattle.surf_geom.specs.Fixed.{decimal_in, fixed_if}
 use Rattle.surf_geom.specs.Seen.{decimal_seen}
 use Rattle.surf_geom.proofs.Quotients.{out_of_range, within_range}
 use Rattle.surf_geom.proofs.values.fixed.Goals as goal
