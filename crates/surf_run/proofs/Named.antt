@@ -64,12 +64,12 @@ module _ (here there : Files) where
 
   measured_same : (word : List ℕ) (mesh : Mesh) → AllByRecursion Same (length_file word) → (r : Result (List ℕ) Outcome) →
       IsMeasured word mesh here r → IsMeasured word mesh there r
-  measured_same word mesh same (Ok lengths) is = (lengths_same word mesh same (Ok lengths) is.0, is.1)
+  measured_same word mesh same (Ok lengths) is = (lengths_same word mesh same (Ok lengths) is.0, is.1, is.2)
   measured_same word mesh same (Err o) is = lengths_same word mesh same (Err o) is
 
   weighted_same : (word : List ℕ) (base : ℕ) (mesh : Mesh) → AllByRecursion Same (length_file word) → (r : Result (List ℕ × ℕ) Outcome) →
       IsWeighted word base mesh here r → IsWeighted word base mesh there r
-  weighted_same word base mesh same (Ok given) is = (lengths_same word mesh same (Ok given.0) is.0, is.1)
+  weighted_same word base mesh same (Ok given) is = (lengths_same word mesh same (Ok given.0) is.0, is.1, is.2, is.3)
   weighted_same word base mesh same (Err o) (inl is) = inl (lengths_same word mesh same (Err o) is)
   weighted_same word base mesh same (Err o) (inr (lengths, is, off)) = inr (lengths, lengths_same word mesh same (Ok lengths) is, off)
 

@@ -42,7 +42,7 @@ use Rattle.surf_run.specs.Reading.{Reads, within_text}
 use Rattle.surf_run.specs.Says.{Says}
 use Rattle.surf_run.specs.Summaries.{total_size}
 use Rattle.surf_run.specs.Tasks.{Performs, OnSurface, OnText}
-use Rattle.surf_run.specs.TwoRuns.{LoopsPass, CertifiedLoopsPass, CertifiedBasesPass}
+use Rattle.surf_run.specs.TwoRuns.{LoopsPass, BasisPasses, CertifiedLoopsPass, CertifiedBasesPass}
 use Rattle.surf_run.specs.Verdicts.{loops_line, basis_line}
 use Rattle.surf_run.specs.Words.{number_of, weighted_request, request_of}
 use Rattle.surf_run.specs.declared.cycles.CycleTask.TheVariants.{BasisCertificate}

@@ -59,6 +59,7 @@ fn origins_of(alloc: Global, bytes: &[u8], vertices: u32) -> Result<Vec<VertexId
     requires { length bytes.now ≤ 268435456 }
     ensures tells { Takes (λ origins. origins.items) (HasOrigins bytes.now vertices) result }
     ensures count { IfOk result (λ origins. length origins.items ≡ vertices) }
+    ensures countable { IfOk result (λ origins. length origins.items < 2 ^ 32) }
 {
     match read_copies(alloc, bytes, vertices) {
         Ok(origins) => Ok(origins),
@@ -75,6 +76,7 @@ fn sew_origins(
     requires lines { length text.now.vertex_lines ≡ copies.now.vertices }
     requires colours { length text.now.colours ≡ face_count copies.now }
     requires origins { length origins.now ≡ copies.now.vertices }
+    requires countable { length origins.now < 2 ^ 32 }
     ensures { Concludes (OnOrigins (text.now, copies.now) origins.now) result }
 {
     let sewn = sewn_of(alloc, text, copies, origins)?;
