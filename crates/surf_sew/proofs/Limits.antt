@@ -1,6 +1,6 @@
 -- A text within the limits is read the same with them and without.
-use Rattle.std.proofs.Common.{◌≡◌, ◌<◌, ◌≤◌, ◌+◌, ℕ, zero, suc, Bool, true, false, List, [], ◌∷◌, length, take, drop, Option, Some, None, Result, Ok, Err, refl, sym, ◌∙◌, ap, arith, inl, inr}
-use Rattle.std.specs.Prelude.{nat_lt, nat_le, ◌&&◌}
+use Rattle.std.proofs.Common.{◌≡◌, ◌≤◌, ◌+◌, ℕ, zero, suc, Bool, true, false, List, [], ◌∷◌, length, take, drop, Option, Some, None, Result, Ok, Err, refl, sym, ◌∙◌, ap, arith, inl, inr}
+use Rattle.std.specs.Prelude.{nat_le, ◌&&◌}
 use Rattle.std.specs.List.{sum_by}
 use Rattle.std.proofs.lemmas.Bool.{cases_Bool, le-ltb, leb-true, and_parts}
 use Rattle.std.proofs.lemmas.List.{length-take-le}
@@ -8,7 +8,7 @@ use Rattle.std.proofs.lemmas.List.Sums.{sum_by-cons}
 use Rattle.surf_complex.specs.Mesh.{Mesh}
 use Rattle.surf_text.specs.Text.{TextLine, tokens_of, whole, lines_of, rest_after}
 use Rattle.surf_off.specs.declared.fault.OffFault.{OffFault}
-use Rattle.surf_off.specs.Off.{◌>>=◌, Head, head_of, within_limits, both, counts_of, vertices_at, sized, size_of, few_sides, corner_of, corners_at, first_repeat, distinct, Face, face_of, FaceLines, with_face, faces_at, OffParts, ended, off_in, off_of, off_without_limits}
+use Rattle.surf_off.specs.Off.{◌>>=◌, Head, head_of, both, counts_of, vertices_at, sized, size_of, few_sides, corner_of, corners_at, first_repeat, distinct, Face, face_of, FaceLines, with_face, faces_at, OffParts, ended, off_in}
 use Rattle.surf_sew.specs.Laws.{LimitsAreKept}
 
 -- What was bound was read.
