@@ -55,7 +55,8 @@ CopiesAreReread =
 abbrev pub OpenedAreSewn : Type 0
 OpenedAreSewn =
     (parts : OffParts) (mesh : Mesh) (origins : List ℕ) (faces : List (List ℕ)) → WasCut parts mesh origins faces
-    → (sewn_of (opened_parts parts origins).vertex_lines (opened origins faces) origins ≡ Ok mesh) × HaveCopies origins mesh.vertices
+    → (sewn_of (opened_parts parts origins).vertex_lines (opened origins faces) origins ≡ Ok mesh)
+    × HaveCopies origins mesh.vertices
 
 -- The vertex line of the least copy of each vertex is that of the vertex, so what is written of what is sewn has the
 -- keyword, the vertex lines, the faces and the colours of the mesh that was cut.
@@ -63,9 +64,11 @@ abbrev pub LinesAreSewn : Type 0
 LinesAreSewn =
     (parts : OffParts) (mesh : Mesh) (origins : List ℕ) (faces : List (List ℕ)) → WasCut parts mesh origins faces
     → (sewn_lines (opened_parts parts origins).vertex_lines origins mesh.vertices ≡ parts.vertex_lines)
-    × (sewn_text (opened_parts parts origins) origins mesh ≡ mesh_text parts.header parts.vertex_lines mesh.faces parts.colours (edge_count mesh))
+    × (sewn_text (opened_parts parts origins) origins mesh
+    ≡ mesh_text parts.header parts.vertex_lines mesh.faces parts.colours (edge_count mesh))
 
--- Read without limits, what is written of what is sewn is the mesh that was cut, with its keyword, vertex lines and colours.
+-- Read without limits, what is written of what is sewn is the mesh that was cut, with its keyword, vertex lines and
+-- colours.
 abbrev pub SewnAreReread : Type 0
 SewnAreReread =
     (parts : OffParts) (mesh : Mesh) (origins : List ℕ) (faces : List (List ℕ)) → WasCut parts mesh origins faces
