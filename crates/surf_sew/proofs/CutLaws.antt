@@ -4,7 +4,7 @@ use Rattle.std.specs.Prelude.{◌==◌, slice_index, AllPairs}
 use Rattle.std.specs.List.{All, list_any, sum_by}
 use Rattle.std.proofs.lemmas.Bool.{cases_lt, ne_eqb, not_from_true}
 use Rattle.std.proofs.lemmas.List.{ext_get_or, length-map, get_or-map, get_or_past, get_or_at, get_or_append_left}
-use Rattle.std.proofs.lemmas.List.Elements.{All-tail, All-head}
+use Rattle.std.proofs.lemmas.List.Elements.{All-tail, All-head, All-map}
 use Rattle.std.proofs.lemmas.List.Folds.{list_any_at, list_any_none}
 use Rattle.std.proofs.lemmas.List.FromFn.{get_or-map-range_with_len, length-map-range_with_len}
 use Rattle.std.proofs.lemmas.List.Sums.{sum_by-cons}
@@ -13,21 +13,22 @@ use Rattle.surf_complex.specs.Mesh.{Mesh, IsFace}
 use Rattle.surf_complex.specs.Surface.{edge_count}
 use Rattle.surf_disc.proofs.TableLaws.{edges_within}
 use Rattle.surf_mesh.specs.Sides.{side_count}
-use Rattle.surf_off.specs.Off.{OffParts, first_repeat}
-use Rattle.surf_off.specs.Written.{lines_at, mesh_text, opened_text}
+use Rattle.surf_off.specs.Clean.{IsVertexLine, IsOffParts}
+use Rattle.surf_off.specs.Off.{OffParts, first_repeat, off_without_limits}
+use Rattle.surf_off.specs.Written.{lines_at, mesh_text}
 use Rattle.surf_off.proofs.FaceRows.{other_default}
 use Rattle.surf_off.proofs.Reread.{AllFaces}
-use Rattle.surf_off.proofs.RereadMesh.{all_faces, short_faces}
+use Rattle.surf_off.proofs.RereadMesh.{all_faces, short_faces, opened_again}
 use Rattle.surf_sew.specs.declared.copies.CopyFault.TheVariants.{CopyCount}
 use Rattle.surf_sew.specs.declared.fault.SewFault.{SewFault}
 use Rattle.surf_sew.specs.Copies.{counted, copies_in}
 use Rattle.surf_sew.specs.Sewing.{first_copy, first_like, first_copies, different, HaveCopies, line_fault, sewn_face, sewn_faces, repeat_or, repeat_from, unless, sewn_mesh, sewn_of}
-use Rattle.surf_sew.specs.Texts.{sewn_lines}
-use Rattle.surf_sew.specs.Laws.{WasCut, opened, CopiesAreReread, OpenedAreSewn, LinesAreSewn}
+use Rattle.surf_sew.specs.Texts.{sewn_lines, sewn_text}
+use Rattle.surf_sew.specs.Laws.{WasCut, opened, opened_parts, text_cut, OpenedAreReread, CopiesAreReread, OpenedAreSewn, LinesAreSewn, SewnAreReread}
 use Rattle.surf_sew.proofs.Gaps.{among_copy, copy_origin, different_few, no_more, no_gap}
 use Rattle.surf_sew.proofs.Firsts.{like_few}
 use Rattle.surf_sew.proofs.Faults.{no_line, sewn_sides, mesh_is}
-use Rattle.surf_sew.proofs.Rereads.{lines_count, all_lines}
+use Rattle.surf_sew.proofs.Rereads.{lines_count, all_lines, sewn_again}
 use Rattle.surf_sew.proofs.CutTexts.{cut_again}
 
 -- No vertex of a face stands before.
@@ -126,20 +127,60 @@ module _ (parts : OffParts) (mesh : Mesh) (origins : List ℕ) (faces : List (Li
     | inr le ↦ let none : get_or origins k 0 ≡ 0 = get_or_past origins k 0 le in omega (arith, none)
   ]
 
-  pub cut_copies : copies_in (opened_text parts origins faces (edge_count (opened origins faces))) (length origins) ≡ Ok origins
+  good : All (IsFace (length origins)) faces
+  good = cut.opening.is_disc.is_mesh
+
+  few_faces_cut : length faces < 2 ^ 30
+  few_faces_cut = omega (arith, few_faces (length origins) faces good, few_sides)
+
+  within : All (λ v. v < length parts.vertex_lines) origins
+  within = subst (λ (m : ℕ). All (λ v. v < m) origins) (sym cut.lines) cut_inside
+
+  short : All (λ f. length f < 2 ^ 64) faces
+  short = short_faces faces (2 ^ 64) (omega (arith, few_sides))
+
+  same_colours : length faces ≡ length parts.colours
+  same_colours = cut.opening.same_faces ∙ sym cut.colours
+
+  few_vertices : mesh.vertices < 2 ^ 31
+  few_vertices = omega (arith, cut_vertices, different_few origins, few_copies)
+
+  few_edges : edge_count (opened origins faces) < 2 ^ 30
+  few_edges = omega (arith, edges_within (opened origins faces), few_sides)
+
+  pub cut_reread : off_without_limits (text_cut parts origins faces) ≡ Ok (opened_parts parts origins, opened origins faces)
+  cut_reread =
+      opened_again parts origins faces (edge_count (opened origins faces)) cut.clean within good short same_colours (omega (arith, few_copies)) (omega (arith, cut.lines, few_vertices)) (omega (arith, few_faces_cut)) (omega (arith, few_edges))
+
+  pub cut_copies : copies_in (text_cut parts origins faces) (length origins) ≡ Ok origins
   cut_copies =
       let lines = lines_at parts.vertex_lines origins in
       let n = length origins in
-      let good : All (IsFace n) faces = cut.opening.is_disc.is_mesh in
-      let sides : sum_by length faces ≡ sum_by length mesh.faces = sym (sewn_sides origins faces) ∙ ap (sum_by length) cut_faces in
-      let some : length faces ≤ sum_by length faces = few_faces n faces good in
       let count : length lines ≡ n = length-map origins _ in
-      let within : All (λ v. v < length parts.vertex_lines) origins = subst (λ (m : ℕ). All (λ v. v < m) origins) (sym cut.lines) cut_inside in
-      let short = short_faces faces (2 ^ 64) (omega (arith, sides, cut.few_sides)) in
-      let same : length faces ≡ length parts.colours = cut.opening.same_faces ∙ sym cut.colours in
-      let all : AllFaces (length lines) faces parts.colours = subst (λ (v : ℕ). AllFaces v faces parts.colours) (sym count) (all_faces n faces parts.colours (omega (arith, few_copies)) good short cut.clean.colours same) in
-      let read = cut_again parts.header lines faces parts.colours (edge_count (opened origins faces)) origins (all_lines parts.vertex_lines origins cut.clean.vertex_lines within) all (omega (arith, count, few_copies)) (omega (arith, some, sides, cut.few_sides)) (omega (arith, cut.opening.is_disc.characteristic_one, some, sides, cut.few_sides, few_copies)) (omega (arith, few_copies)) small_origin in
+      let all : AllFaces (length lines) faces parts.colours = subst (λ (v : ℕ). AllFaces v faces parts.colours) (sym count) (all_faces n faces parts.colours (omega (arith, few_copies)) good short cut.clean.colours same_colours) in
+      let read = cut_again parts.header lines faces parts.colours (edge_count (opened origins faces)) origins (all_lines parts.vertex_lines origins cut.clean.vertex_lines within) all (omega (arith, count, few_copies)) (omega (arith, few_faces_cut)) (omega (arith, few_edges)) (omega (arith, few_copies)) small_origin in
       ap (counted n) read ∙ ap (λ (b : Bool). cond b (Ok origins) (Err (CopyCount n))) (eq-eqb n n refl)
+
+  clean_copies : IsOffParts (opened_parts parts origins)
+  clean_copies = record {
+    vertex_lines = All-map IsVertexLine (λ v. get_or parts.vertex_lines v []) origins (λ k d lt. cut.clean.vertex_lines (get_or origins k d) [] (within k d lt));
+    colours = cut.clean.colours;
+  }
+
+  pub cut_written : off_without_limits (sewn_text (opened_parts parts origins) origins mesh) ≡ Ok (parts, mesh)
+  cut_written =
+      let lines = lines_at parts.vertex_lines origins in
+      let count : length origins ≡ length lines = sym (length-map origins _) in
+      let sides = short_faces mesh.faces (2 ^ 64) (omega (arith, cut.few_sides)) in
+      let some = few_faces mesh.vertices mesh.faces cut.is_mesh in
+      sewn_again (opened_parts parts origins) origins mesh clean_copies count cut_have cut.is_mesh sides (sym cut.colours) (omega (arith, few_vertices)) (omega (arith, some, cut.few_sides)) (omega (arith, edges_within mesh, cut.few_sides))
+      ∙ ap (λ (ls : List (List ℕ)). Ok (record { header = parts.header; vertex_lines = ls; colours = parts.colours }, mesh)) cut_lines
+
+pub opened_are_reread : OpenedAreReread
+opened_are_reread parts mesh origins faces cut = cut_reread parts mesh origins faces cut
+
+pub sewn_are_reread : SewnAreReread
+sewn_are_reread parts mesh origins faces cut = cut_written parts mesh origins faces cut
 
 pub copies_are_reread : CopiesAreReread
 copies_are_reread parts mesh origins faces cut = cut_copies parts mesh origins faces cut

@@ -7,3 +7,4 @@ pub mod Rereads
 pub mod CutLines
 pub mod CutTexts
 pub mod CutLaws
+pub mod Limits

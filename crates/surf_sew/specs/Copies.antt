@@ -38,7 +38,8 @@ origin_at place None v = None
 
 -- the vertex that the words `# copy i from v` name as the origin of the copy at a place
 abbrev pub origin_of : ℕ → List (List ℕ) → Option ℕ
-origin_of place (sign ∷ copy ∷ i ∷ from ∷ v ∷ []) = if bytes_eq from (codes "from") then origin_at place (whole i) (whole v) else None
+origin_of place (sign ∷ copy ∷ i ∷ from ∷ v ∷ []) =
+    if bytes_eq from (codes "from") then origin_at place (whole i) (whole v) else None
 origin_of place _ = None
 
 -- an origin in front of those that are read behind it
@@ -47,10 +48,12 @@ with_origin line None later = Err (CopyForm line)
 with_origin line (Some v) (Ok origins) = Ok (v ∷ origins)
 with_origin line (Some v) (Err fault) = Err fault
 
--- the origins that copy lines name, the first of them that of the copy at a place, or the first line that hasn't the form
+-- the origins that copy lines name, the first of them that of the copy at a place, or the first line that hasn't the
+-- form
 unfoldable pub origins_from : ℕ → List WordLine → Result (List ℕ) CopyFault
 origins_from place [] = Ok []
-origins_from place (line ∷ lines) = with_origin line.number (origin_of place line.words) (origins_from (place + 1) lines)
+origins_from place (line ∷ lines) =
+    with_origin line.number (origin_of place line.words) (origins_from (place + 1) lines)
 
 -- as many as there are copies
 abbrev pub counted : ℕ → Result (List ℕ) CopyFault → Result (List ℕ) CopyFault

@@ -1,11 +1,11 @@
 -- What is sewn of a mesh that was cut is that mesh.
-use Rattle.std.specs.Prelude.{◌≡◌, ◌<◌, ◌^◌, ℕ, List, length, Ok}
+use Rattle.std.specs.Prelude.{◌≡◌, ◌<◌, ◌≤◌, ◌^◌, ℕ, List, length, Ok}
 use Rattle.surf_complex.specs.Disc.{IsOpening}
 use Rattle.surf_complex.specs.Mesh.{Mesh, IsMesh}
 use Rattle.surf_complex.specs.Surface.{face_count, edge_count}
 use Rattle.surf_mesh.specs.Sides.{side_count}
 use Rattle.surf_off.specs.Clean.{IsOffParts}
-use Rattle.surf_off.specs.Off.{OffParts}
+use Rattle.surf_off.specs.Off.{OffParts, off_of, off_without_limits}
 use Rattle.surf_off.specs.Written.{opened_text, lines_at, mesh_text}
 use Rattle.surf_sew.specs.Copies.{copies_in}
 use Rattle.surf_sew.specs.Sewing.{HaveCopies, sewn_of}
@@ -28,17 +28,35 @@ opened origins faces = record { vertices = length origins; faces = faces }
 abbrev pub opened_parts : OffParts → List ℕ → OffParts
 opened_parts parts origins = record parts { vertex_lines = lines_at parts.vertex_lines origins }
 
+-- the text of an opened mesh, with the number of its edges
+abbrev pub text_cut : OffParts → List ℕ → List (List ℕ) → List ℕ
+text_cut parts origins faces = opened_text parts origins faces (edge_count (opened origins faces))
+
+-- Read without limits, the text of an opened mesh is that of its copies.
+abbrev pub OpenedAreReread : Type 0
+OpenedAreReread =
+    (parts : OffParts) (mesh : Mesh) (origins : List ℕ) (faces : List (List ℕ)) → WasCut parts mesh origins faces
+    → off_without_limits (text_cut parts origins faces) ≡ Ok (opened_parts parts origins, opened origins faces)
+
+-- A text that is within the limits is read the same with them.
+abbrev pub LimitsAreKept : Type 0
+LimitsAreKept =
+    (text : List ℕ) (parts : OffParts) (mesh : Mesh) → off_without_limits text ≡ Ok (parts, mesh)
+    → mesh.vertices ≤ 1000000 → face_count mesh ≤ 2000000 → side_count mesh ≤ 6000000
+    → off_of text ≡ Ok (parts, mesh)
+
 -- The copy lines of the text of an opened mesh name the origins of its copies.
 abbrev pub CopiesAreReread : Type 0
 CopiesAreReread =
     (parts : OffParts) (mesh : Mesh) (origins : List ℕ) (faces : List (List ℕ)) → WasCut parts mesh origins faces
-    → copies_in (opened_text parts origins faces (edge_count (opened origins faces))) (length origins) ≡ Ok origins
+    → copies_in (text_cut parts origins faces) (length origins) ≡ Ok origins
 
 -- What is sewn of an opened mesh is the mesh that was cut.
 abbrev pub OpenedAreSewn : Type 0
 OpenedAreSewn =
     (parts : OffParts) (mesh : Mesh) (origins : List ℕ) (faces : List (List ℕ)) → WasCut parts mesh origins faces
-    → (sewn_of (opened_parts parts origins).vertex_lines (opened origins faces) origins ≡ Ok mesh) × HaveCopies origins mesh.vertices
+    → (sewn_of (opened_parts parts origins).vertex_lines (opened origins faces) origins ≡ Ok mesh)
+    × HaveCopies origins mesh.vertices
 
 -- The vertex line of the least copy of each vertex is that of the vertex, so what is written of what is sewn has the
 -- keyword, the vertex lines, the faces and the colours of the mesh that was cut.
@@ -46,4 +64,12 @@ abbrev pub LinesAreSewn : Type 0
 LinesAreSewn =
     (parts : OffParts) (mesh : Mesh) (origins : List ℕ) (faces : List (List ℕ)) → WasCut parts mesh origins faces
     → (sewn_lines (opened_parts parts origins).vertex_lines origins mesh.vertices ≡ parts.vertex_lines)
-    × (sewn_text (opened_parts parts origins) origins mesh ≡ mesh_text parts.header parts.vertex_lines mesh.faces parts.colours (edge_count mesh))
+    × (sewn_text (opened_parts parts origins) origins mesh
+    ≡ mesh_text parts.header parts.vertex_lines mesh.faces parts.colours (edge_count mesh))
+
+-- Read without limits, what is written of what is sewn is the mesh that was cut, with its keyword, vertex lines and
+-- colours.
+abbrev pub SewnAreReread : Type 0
+SewnAreReread =
+    (parts : OffParts) (mesh : Mesh) (origins : List ℕ) (faces : List (List ℕ)) → WasCut parts mesh origins faces
+    → off_without_limits (sewn_text (opened_parts parts origins) origins mesh) ≡ Ok (parts, mesh)

@@ -44,7 +44,8 @@ same_line lines c d = bytes_eq (slice_index_or lines c []) (slice_index_or lines
 -- the least copy whose vertex line differs from that of the least copy with its origin
 abbrev pub line_fault : List (List ℕ) → List ℕ → Option SewFault
 line_fault lines origins =
-    option_map (λ c. Line c (first_like origins c)) (find (λ c. not (same_line lines c (first_like origins c))) (range_with_len 0 (length origins)))
+    option_map (λ c. Line c (first_like origins c))
+    (find (λ c. not (same_line lines c (first_like origins c))) (range_with_len 0 (length origins)))
 
 -- a face with each corner replaced by its origin
 abbrev pub sewn_face : List ℕ → List ℕ → List ℕ
@@ -74,7 +75,8 @@ sewn_mesh origins faces = record { vertices = different origins; faces = sewn_fa
 -- what is sewn of a mesh of copies with these vertex lines and origins, or the first fault
 abbrev pub sewn_of : List (List ℕ) → Mesh → List ℕ → Result Mesh SewFault
 sewn_of lines copies origins =
-    unless (gap_fault origins) (unless (line_fault lines origins) (unless (repeat_from 0 (sewn_faces origins copies.faces)) (Ok (sewn_mesh origins copies.faces))))
+    unless (gap_fault origins) (unless (line_fault lines origins)
+    (unless (repeat_from 0 (sewn_faces origins copies.faces)) (Ok (sewn_mesh origins copies.faces))))
 
 -- It is that fault, unless memory ran out.
 abbrev pub Fails : {Y : Type 0} → SewFault → Result Y SewFault → Type 0

@@ -10,13 +10,19 @@ use Rattle.surf_sew.specs.Sewing.{first_copies}
 abbrev pub sewn_lines : List (List ℕ) → List ℕ → ℕ → List (List ℕ)
 sewn_lines lines origins count = lines_at lines (first_copies origins 0 count)
 
--- the keyword and the colours of the text of the copies, the vertex lines of the least copies, and the mesh with its edges
+-- the keyword and the colours of the text of the copies, the vertex lines of the least copies, and the mesh with the
+-- number of its edges
 abbrev pub sewn_text : OffParts → List ℕ → Mesh → List ℕ
 sewn_text parts origins mesh =
-    mesh_text parts.header (sewn_lines parts.vertex_lines origins mesh.vertices) mesh.faces parts.colours (edge_count mesh)
+    mesh_text parts.header (sewn_lines parts.vertex_lines origins mesh.vertices) mesh.faces parts.colours
+    (edge_count mesh)
 
--- Read without limits, the text of a sewn mesh has the keyword, the lines of the least copies, the colours and the mesh.
+-- what a text of a sewn mesh has beside the mesh
+abbrev pub sewn_parts : OffParts → List ℕ → ℕ → OffParts
+sewn_parts parts origins count = record parts { vertex_lines = sewn_lines parts.vertex_lines origins count }
+
+-- Read without limits, the text of a sewn mesh has the keyword, the lines of the least copies, the colours and the
+-- mesh.
 abbrev pub RereadsSewn : OffParts → List ℕ → Mesh → Type 0
 RereadsSewn parts origins mesh =
-    off_without_limits (sewn_text parts origins mesh)
-    ≡ Ok (record { header = parts.header; vertex_lines = sewn_lines parts.vertex_lines origins mesh.vertices; colours = parts.colours }, mesh)
+    off_without_limits (sewn_text parts origins mesh) ≡ Ok (sewn_parts parts origins mesh.vertices, mesh)

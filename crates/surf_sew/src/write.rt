@@ -12,8 +12,8 @@ use surf_mesh::HalfMesh;
 use surf_off::{Header, OffText};
 use surf_text::{Page, PageFault, Piece};
 
-// The least copies of so many vertices are found at a time, so that no memory is taken.
-const WINDOW: usize = 4096;
+// The least copies of so many vertices are found by one turn over the origins, so that no memory is taken.
+const WINDOW: usize = 16_384;
 
 fn write_head(
     page: &mut Page,

@@ -21,7 +21,7 @@ pub write_copies-requires-clause-within : goal.write_copies-requires-clause-with
 write_copies-requires-clause-within c =
     let vs = c.args.origins.now in
     let n = c.min-count.result in
-    let small : n ≤ 4096 = omega (arith, c.min-count.ensures) in
+    let small : n ≤ 16384 = omega (arith, c.min-count.ensures) in
     let more : c.loop-from.from + n ≤ c.args.vertices = omega (arith, c.min-count.ensures, c.loop-from-test.true) in
     let is = front_is vs c.list_first.new.table (drop n c.loop-from.first) c.loop-from.first c.loop-from.from n (omega (arith, small, c.min-count.array_long)) c.list_first.ensures.first in
     subst (λ (cs : List ℕ). All (λ k. k < length c.args.text.now.vertex_lines) cs) (sym is) (subst (λ (m : ℕ). All (λ k. k < m) (first_copies vs c.loop-from.from n)) c.requires.origins (copies_few vs c.loop-from.from n (λ v lt. c.requires.copies v (omega arith))))
@@ -32,7 +32,7 @@ returns-in_err-write_copies c =
     let lines = c.args.text.now.vertex_lines in
     let from = c.loop-from.from in
     let n = c.min-count.result in
-    let small : n ≤ 4096 = omega (arith, c.min-count.ensures) in
+    let small : n ≤ 16384 = omega (arith, c.min-count.ensures) in
     let more : from + n ≤ c.args.vertices = omega (arith, c.min-count.ensures, c.loop-from-test.true) in
     let is = front_is vs c.list_first.new.table (drop n c.loop-from.first) c.loop-from.first from n (omega (arith, small, c.min-count.array_long)) c.list_first.ensures.first in
     let before = lines_text (lines_at lines (first_copies vs 0 from)) in
@@ -55,7 +55,7 @@ loop-from-preserved c =
     let lines = c.args.text.now.vertex_lines in
     let from = c.loop-from.from in
     let n = c.min-count.result in
-    let small : n ≤ 4096 = omega (arith, c.min-count.ensures) in
+    let small : n ≤ 16384 = omega (arith, c.min-count.ensures) in
     let more : from + n ≤ c.args.vertices = omega (arith, c.min-count.ensures, c.loop-from-test.true) in
     let is = front_is vs c.list_first.new.table (drop n c.loop-from.first) c.loop-from.first from n (omega (arith, small, c.min-count.array_long)) c.list_first.ensures.first in
     let before = lines_text (lines_at lines (first_copies vs 0 from)) in
