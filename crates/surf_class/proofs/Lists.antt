@@ -1,0 +1,54 @@
+-- Lists, place by place.
+use Rattle.std.proofs.Common.{◌≡◌, ◌≢◌, ℕ, zero, suc, ◌<◌, ◌≤◌, ◌+◌, Bool, true, false, ◌&&◌, List, [], ◌∷◌, ◌++◌, length, get_or, take, map, Option, Some, None, refl, sym, ap, ◌∙◌, arith, inl, inr}
+use Rattle.std.specs.List.{position}
+use Rattle.std.proofs.Math.Seq.{take-suc}
+use Rattle.std.proofs.lemmas.Bool.{cases_Bool, true≢false}
+use Rattle.surf_class.specs.Evidences.{rises_from, is_rising}
+
+-- a longer front has the next member
+pub take_next : {X : Type 0} (xs : List X) (n : ℕ) (d : X) → n < length xs → take (n + 1) xs ≡ take n xs ++ get_or xs n d ∷ []
+take_next xs n d l = let one : n + 1 ≡ suc n = omega arith in ap (λ k. take k xs) one ∙ take-suc xs n d l
+
+-- the first place that passes
+pub position_at : {X : Type 0} (p : X → Bool) (xs : List X) (i : ℕ) (d : X) → i < length xs →
+    ((k : ℕ) → k < i → p (get_or xs k d) ≡ false) → p (get_or xs i d) ≡ true → position p xs ≡ Some i
+unfolding position
+position_at p xs i d l before here = ?
+
+pub position_none : {X : Type 0} (p : X → Bool) (xs : List X) (d : X) →
+    ((k : ℕ) → k < length xs → p (get_or xs k d) ≡ false) → position p xs ≡ None
+unfolding position
+position_none p xs d none = ?
+
+rising_behind : {X : Type 0} (lt : X → X → Bool) (x : X) (xs : List X) (d : X) →
+    ((k : ℕ) → k < length xs → lt (get_or (x ∷ xs) k d) (get_or xs k d) ≡ true) → rises_from lt x xs ≡ true
+rising_behind lt x [] d all = refl
+rising_behind lt x (y ∷ ys) d all =
+    let first : lt x y ≡ true = all 0 (omega arith) in
+    rw first (rising_behind lt y ys d (λ k l. all (suc k) (omega arith)))
+
+-- each is above the one before it
+pub rising_all : {X : Type 0} (lt : X → X → Bool) (xs : List X) (d : X) →
+    ((k : ℕ) → k + 1 < length xs → lt (get_or xs k d) (get_or xs (k + 1) d) ≡ true) → is_rising lt xs ≡ true
+rising_all lt [] d all = refl
+rising_all lt (x ∷ xs) d all =
+    rising_behind lt x xs d (λ k l.
+    let one : k + 1 ≡ suc k = omega arith in
+    ap (λ n. lt (get_or (x ∷ xs) k d) (get_or (x ∷ xs) n d)) (sym one) ∙ all k (omega arith))
+
+not_behind : {X : Type 0} (lt : X → X → Bool) (x : X) (xs : List X) (d : X) (k : ℕ) → k < length xs →
+    lt (get_or (x ∷ xs) k d) (get_or xs k d) ≡ false → rises_from lt x xs ≡ false
+not_behind lt x [] d k l bad = absurd (omega arith)
+not_behind lt x (y ∷ ys) d zero l bad = rw bad refl
+not_behind lt x (y ∷ ys) d (suc k) l bad = elim (cases_Bool (lt x y)) [
+  | inl on ↦ rw on (not_behind lt y ys d k (omega arith) bad)
+  | inr off ↦ rw off refl
+]
+
+-- one that isn't
+pub rising_not : {X : Type 0} (lt : X → X → Bool) (xs : List X) (d : X) (k : ℕ) → k + 1 < length xs →
+    lt (get_or xs k d) (get_or xs (k + 1) d) ≡ false → is_rising lt xs ≡ false
+rising_not lt [] d k l bad = absurd (omega arith)
+rising_not lt (x ∷ xs) d k l bad =
+    let one : k + 1 ≡ suc k = omega arith in
+    not_behind lt x xs d k (omega arith) (ap (λ n. lt (get_or (x ∷ xs) k d) (get_or (x ∷ xs) n d)) (sym one) ∙ bad)
