@@ -1,2 +1,6 @@
 pub mod Lists
 pub mod Reading
+pub mod StepEdges
+pub mod Pairs
+pub mod Pairing
+pub mod LeastFaults

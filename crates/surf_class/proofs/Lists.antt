@@ -1,8 +1,9 @@
 -- Lists, place by place.
-use Rattle.std.proofs.Common.{◌≡◌, ◌≢◌, ℕ, zero, suc, ◌<◌, ◌≤◌, ◌+◌, Bool, true, false, ◌&&◌, List, [], ◌∷◌, ◌++◌, length, get_or, take, map, Option, Some, None, refl, sym, ap, ◌∙◌, arith, inl, inr}
-use Rattle.std.specs.List.{position}
+use Rattle.std.proofs.Common.{◌≡◌, ◌≢◌, ℕ, zero, suc, ◌<◌, ◌≤◌, ◌+◌, Bool, true, false, ◌&&◌, List, [], ◌∷◌, ◌++◌, length, get_or, take, map, nat_lt, Option, Some, None, refl, sym, ap, ◌∙◌, arith, inl, inr}
+use Rattle.std.specs.List.{position, position_or_len}
 use Rattle.std.proofs.Math.Seq.{take-suc}
-use Rattle.std.proofs.lemmas.Bool.{cases_Bool, true≢false}
+use Rattle.std.proofs.lemmas.Bool.{cases_Bool, lt-ltb, le-ltb}
+use Rattle.std.proofs.lemmas.List.Sums.{position_or_len_is}
 use Rattle.surf_class.specs.Evidences.{rises_from, is_rising}
 
 -- a longer front has the next member
@@ -12,13 +13,18 @@ take_next xs n d l = let one : n + 1 ≡ suc n = omega arith in ap (λ k. take k
 -- the first place that passes
 pub position_at : {X : Type 0} (p : X → Bool) (xs : List X) (i : ℕ) (d : X) → i < length xs →
     ((k : ℕ) → k < i → p (get_or xs k d) ≡ false) → p (get_or xs i d) ≡ true → position p xs ≡ Some i
-unfolding position
-position_at p xs i d l before here = ?
+position_at p xs i d l before here =
+    let place : position_or_len p xs ≡ i = position_or_len_is p xs i d (omega arith) before (λ _. here) in
+    let below : nat_lt i (length xs) ≡ true = lt-ltb i (length xs) l in
+    rw (place, below) refl
 
 pub position_none : {X : Type 0} (p : X → Bool) (xs : List X) (d : X) →
     ((k : ℕ) → k < length xs → p (get_or xs k d) ≡ false) → position p xs ≡ None
-unfolding position
-position_none p xs d none = ?
+position_none p xs d none =
+    let place : position_or_len p xs ≡ length xs =
+    position_or_len_is p xs (length xs) d (omega arith) none (λ l. absurd (omega arith)) in
+    let above : nat_lt (length xs) (length xs) ≡ false = le-ltb (length xs) (length xs) (omega arith) in
+    rw (place, above) refl
 
 rising_behind : {X : Type 0} (lt : X → X → Bool) (x : X) (xs : List X) (d : X) →
     ((k : ℕ) → k < length xs → lt (get_or (x ∷ xs) k d) (get_or xs k d) ≡ true) → rises_from lt x xs ≡ true

@@ -1,7 +1,7 @@
 //! Checks evidence.
 ghost use Rattle.std.specs.Prelude.{◌≡◌, ◌≢◌, ◌<◌, ◌≤◌, ℕ, true, false, All, AllPairs, Contains, IfErr, OnOk, IfOk, MatchOption, length, map, slice_index_or};
 ghost use Rattle.std.specs.List.{position};
-ghost use Rattle.surf_z2.specs.Parity.{xor};
+ghost use Rattle.surf_z2.specs.Parity.{xor, odd};
 ghost use Rattle.surf_z2.specs.Space.{Chain};
 ghost use Rattle.surf_complex.specs.Homology.{boundary};
 ghost use Rattle.surf_complex.specs.Mesh.{edges, pair_lt, among};
@@ -15,6 +15,7 @@ ghost use Rattle.surf_class.specs.Agreement.{AgreesAt};
 ghost use Rattle.surf_class.specs.Faults.{IsClassFault};
 ghost use Rattle.surf_class.specs.Seen.{seen};
 
+use crate::edges::{faces_beside, pair_edge, turn};
 use crate::evidence::Evidence;
 use crate::fault::ClassFault;
 use crate::parity::joint_flags;
@@ -53,8 +54,7 @@ fn is_between(mesh: &HalfMesh, faces: &[bool], edge: EdgeId) -> bool
     requires edge { edge < edge_count mesh.now }
     ensures between { result ≡ boundary mesh.now (is_flagged faces.now) edge }
 {
-    let _surface = mesh.faces();
-    let (near, far) = mesh.faces_of(edge);
+    let (near, far) = faces_beside(mesh, edge);
     faces[near.index()] != faces[far.index()]
 }
 
@@ -110,30 +110,27 @@ fn first_stranger(mesh: &HalfMesh, pairs: &[(VertexId, VertexId)]) -> Option<(Ve
     None
 }
 
-// The edge of a pair.
-fn pair_edge(mesh: &HalfMesh, pair: (VertexId, VertexId)) -> EdgeId
-    requires edge { Contains (edges mesh.now) pair }
-    requires ordered { pair.0 < pair.1 }
-    ensures edge { result ≡ edge_number mesh.now pair }
-    ensures inside { result < edge_count mesh.now }
-    ensures ends { ends mesh.now result ≡ pair }
-{
-    match mesh.find_edge(pair.0, pair.1) {
-        Some(edge) => edge,
-        None => unreachable!(),
-    }
-}
-
 // Turns the flags of the two faces of an edge.
 fn turn_faces(mesh: &HalfMesh, edge: EdgeId, odd: &mut [bool])
     requires edge { edge < edge_count mesh.now }
     requires count { length odd.old ≡ face_count mesh.now }
     ensures turned { (f : ℕ) → f < face_count mesh.now → slice_index_or odd.new f false ≡ xor (slice_index_or odd.old f false) (borders mesh.now f edge) }
 {
-    let _surface = mesh.faces();
-    let (near, far) = mesh.faces_of(edge);
-    odd[near.index()] = !odd[near.index()];
-    odd[far.index()] = !odd[far.index()];
+    let (near, far) = faces_beside(mesh, edge);
+    turn(odd, near.index());
+    turn(odd, far.index());
+}
+
+// Turns the flags of the two faces of each pair.
+fn turn_pairs(mesh: &HalfMesh, pairs: &[(VertexId, VertexId)], flags: &mut [bool])
+    requires edges { All (Contains (edges mesh.now)) pairs.now }
+    requires ordered { All (λ a. a.0 < a.1) pairs.now }
+    requires count { length flags.old ≡ face_count mesh.now }
+    ensures turned { (f : ℕ) → f < face_count mesh.now → slice_index_or flags.new f false ≡ xor (slice_index_or flags.old f false) (odd (map (λ p. borders mesh.now f (edge_number mesh.now p)) pairs.now)) }
+{
+    for i in 0..pairs.len() {
+        turn_faces(mesh, pair_edge(mesh, pairs[i]), flags);
+    }
 }
 
 // Flags of the faces that have an odd number of the pairs as sides.
@@ -148,9 +145,7 @@ fn odd_faces(
     ensures flags { IfOk result (λ v. AreFlags (face_count mesh.now) (has_odd_sides mesh.now pairs.now) v.items) }
 {
     let mut odd = vec![in alloc; false; mesh.faces() as usize]?;
-    for i in 0..pairs.len() {
-        turn_faces(mesh, pair_edge(mesh, pairs[i]), &mut odd);
-    }
+    turn_pairs(mesh, pairs, &mut odd);
     Ok(odd)
 }
 

@@ -14,8 +14,9 @@ ghost use Rattle.surf_class.specs.Desk.{IsSigned, IsSignedOn};
 ghost use Rattle.surf_class.specs.Seen.{seen};
 ghost use Rattle.surf_class.specs.Sides.{is_inside};
 
+use crate::edges::step_edge;
 use crate::evidence::{Evidence, FaceList, PairList};
-use crate::parity::{joint_flags, step_edge};
+use crate::parity::joint_flags;
 use crate::sides::all_sides;
 use std::alloc::Global;
 use surf_base::{EdgeId, FaceId, NoMemory, VertexId};

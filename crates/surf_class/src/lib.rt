@@ -16,6 +16,7 @@
 #![tactic(auto)]
 
 mod check;
+mod edges;
 mod evidence;
 mod fault;
 mod finding;

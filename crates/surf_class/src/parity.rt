@@ -1,30 +1,16 @@
 //! Flags of the edges that walks run an odd number of times.
-ghost use Rattle.std.specs.Prelude.{◌≡◌, ◌<◌, ◌+◌, ℕ, IfOk, length, slice_index_or, false};
+ghost use Rattle.std.specs.Prelude.{◌≡◌, ◌<◌, ℕ, IfOk, length, slice_index_or, false};
 ghost use Rattle.std.specs.Option.{option_copied};
 ghost use Rattle.surf_z2.specs.Parity.{xor};
-ghost use Rattle.surf_complex.specs.Mesh.{steps, pair_of};
-ghost use Rattle.surf_complex.specs.Surface.{edge_count, ends};
-ghost use Rattle.surf_complex.specs.Walk.{IsClosed, edge_number, parity};
+ghost use Rattle.surf_complex.specs.Surface.{edge_count};
+ghost use Rattle.surf_complex.specs.Walk.{IsClosed, parity};
 ghost use Rattle.surf_certcheck.specs.Split.{AreFlags};
 ghost use Rattle.surf_classes.specs.Evidence.{joint_parity, AreClosed};
 
+use crate::edges::{step_edge, turn};
 use std::alloc::Global;
-use surf_base::{EdgeId, NoMemory, VertexId};
+use surf_base::{NoMemory, VertexId};
 use surf_mesh::{HalfMesh, Walk};
-
-/// The edge of a step of a closed walk.
-pub(crate) fn step_edge(mesh: &HalfMesh, walk: &[VertexId], i: usize) -> EdgeId
-    requires closed { IsClosed mesh.now walk.now }
-    requires step { i + 1 < length walk.now }
-    ensures edge { result ≡ edge_number mesh.now (slice_index_or (steps walk.now) i (0, 0)) }
-    ensures inside { result < edge_count mesh.now }
-    ensures ends { ends mesh.now result ≡ pair_of (slice_index_or (steps walk.now) i (0, 0)) }
-{
-    match mesh.find_edge(walk[i], walk[i + 1]) {
-        Some(edge) => edge,
-        None => unreachable!(),
-    }
-}
 
 // Turns the flag of the edge of each step of a closed walk.
 fn turn_steps(mesh: &HalfMesh, walk: &[VertexId], flags: &mut [bool])
@@ -33,8 +19,7 @@ fn turn_steps(mesh: &HalfMesh, walk: &[VertexId], flags: &mut [bool])
     ensures turned { (e : ℕ) → e < edge_count mesh.now → slice_index_or flags.new e false ≡ xor (slice_index_or flags.old e false) (parity mesh.now walk.now e) }
 {
     for i in 0..walk.len() - 1 {
-        let edge = step_edge(mesh, walk, i).index();
-        flags[edge] = !flags[edge];
+        turn(flags, step_edge(mesh, walk, i).index());
     }
 }
 

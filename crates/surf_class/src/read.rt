@@ -28,12 +28,19 @@ fn rise(numbers: &[u32]) -> bool
     true
 }
 
+// Whether a pair is before another one.
+fn is_below(p: (VertexId, VertexId), q: (VertexId, VertexId)) -> bool
+    ensures below { result ≡ pair_lt p q }
+{
+    p.0 < q.0 || p.0 == q.0 && p.1 < q.1
+}
+
 // Whether each pair is above the one before it.
 fn pairs_rise(pairs: &[(VertexId, VertexId)]) -> bool
     ensures rising { result ≡ is_rising pair_lt pairs.now }
 {
     for i in 1..pairs.len() {
-        if pairs[i] <= pairs[i - 1] {
+        if !is_below(pairs[i - 1], pairs[i]) {
             return false;
         }
     }

@@ -4,6 +4,7 @@ ghost use Rattle.surf_complex.specs.Surface.{edge_count, face_count};
 ghost use Rattle.surf_class.specs.Desk.{IsSignedOn};
 ghost use Rattle.surf_class.specs.Sides.{IsParted, AreSidesOf, AreAllSidesOf, side_at};
 
+use crate::edges::faces_beside;
 use std::alloc::Global;
 use surf_base::{EdgeId, FaceId, NoMemory};
 use surf_cotree::CotreeDesk;
@@ -16,10 +17,11 @@ fn above(mesh: &HalfMesh, cotree: &CotreeDesk, face: FaceId) -> Option<(FaceId, 
     ensures above { MatchOption result (face ≡ 0) (λ x. (face ≢ 0) × (x.0 ≡ slice_index cotree.now.parents face) × (x.1 ≡ slice_index cotree.now.ups face)) }
     ensures inside { IfSome result (λ x. (x.0 < face_count mesh.now) × (x.1 < edge_count mesh.now) × (slice_index cotree.now.depths x.0 < slice_index cotree.now.depths face)) }
 {
-    let _surface = mesh.faces();
+    let _edges = mesh.edges();
     let edge = cotree.parent_edge(face)?;
-    let (near, far) = mesh.faces_of(edge);
-    Some((if near == face { far } else { near }, edge))
+    let (near, far) = faces_beside(mesh, edge);
+    let other = if near == face { far } else { near };
+    Some((other, edge))
 }
 
 // The side of a face, by the first face on its way to face 0 whose side is known.
@@ -77,6 +79,21 @@ fn note_sides(
     }
 }
 
+// Notes the sides of all faces.
+fn note_all(mesh: &HalfMesh, cotree: &CotreeDesk, flags: &[bool], sides: &mut [Option<bool>])
+    requires signed { IsSignedOn mesh.now cotree.now }
+    requires flags { length flags.now ≡ edge_count mesh.now }
+    requires sides { length sides.old ≡ face_count mesh.now }
+    ensures right { (set : ℕ → Bool) → IsParted mesh.now cotree.now flags.now set → AreSidesOf set sides.old → AreSidesOf set sides.new }
+    ensures known { (f : ℕ) → f < face_count mesh.now → IsSome (side_at sides.new f) }
+{
+    for f in 0..mesh.faces() {
+        let face = FaceId::new(f);
+        let side = find_side(mesh, cotree, flags, sides, face);
+        note_sides(mesh, cotree, flags, sides, face, side);
+    }
+}
+
 /// On which side of the flagged edges each face is, where they are the boundary of a set of faces: whether it is in the
 /// set without face 0. Each face is climbed over twice at most.
 pub(crate) fn all_sides(
@@ -91,10 +108,6 @@ pub(crate) fn all_sides(
     ensures sides { IfOk result (λ v. (set : ℕ → Bool) → IsParted mesh.now cotree.now flags.now set → AreAllSidesOf set v.items) }
 {
     let mut sides = vec![in alloc; None; mesh.faces() as usize]?;
-    for f in 0..mesh.faces() {
-        let face = FaceId::new(f);
-        let side = find_side(mesh, cotree, flags, &sides, face);
-        note_sides(mesh, cotree, flags, &mut sides, face, side);
-    }
+    note_all(mesh, cotree, flags, &mut sides);
     Ok(sides)
 }

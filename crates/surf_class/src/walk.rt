@@ -19,8 +19,12 @@ fn first_stranger(mesh: &HalfMesh, numbers: &[u32]) -> Option<u32>
     ensures place { result ≡ position (λ v. nat_le mesh.now.vertices v) numbers.now }
 {
     let vertices = mesh.vertices();
-    let place = numbers.iter().position(|v| vertices <= *v)?;
-    Some(place as u32)
+    for i in 0..numbers.len() {
+        if vertices <= numbers[i] {
+            return Some(i as u32);
+        }
+    }
+    None
 }
 
 // Numbers as vertices.

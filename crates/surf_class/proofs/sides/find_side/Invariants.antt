@@ -8,7 +8,7 @@ use Rattle.surf_class.proofs.sides.find_side.Given as goal
 abbrev pub invariant-loop-parent : goal.invariant-loop-parent
 invariant-loop-parent l = record {
   within : l.at < face_count l.mesh;
-  side : (set : ℕ → Bool) → IsParted l.mesh l.cotree l.flags set → xor l.side (set l.at) ≡ set l.face;
+  side : (set : ℕ → Bool) → IsParted l.mesh l.cotree l.flags set → xor l.side (set l.at) ≡ set l.fn.face;
 }
 
 abbrev pub decreases-loop-parent : goal.decreases-loop-parent

@@ -8,9 +8,9 @@ abbrev pub invariant-loop-at : goal.invariant-loop-at
 invariant-loop-at l = record {
   within : l.at < face_count l.mesh;
   count : length l.sides ≡ face_count l.mesh;
-  right : (set : ℕ → Bool) → IsParted l.mesh l.cotree l.flags set → l.fn.side ≡ set l.face → AreSidesOf set l.fn.sides →
+  right : (set : ℕ → Bool) → IsParted l.mesh l.cotree l.flags set → l.fn.side ≡ set l.fn.face → AreSidesOf set l.fn.sides →
       (l.side ≡ set l.at) × AreSidesOf set l.sides;
-  known : IsSome (side_at l.sides l.face) ⊎ (l.at ≡ l.face);
+  known : IsSome (side_at l.sides l.fn.face) ⊎ (l.at ≡ l.fn.face);
   kept : (f : ℕ) → IsSome (side_at l.fn.sides f) → IsSome (side_at l.sides f);
 }
 

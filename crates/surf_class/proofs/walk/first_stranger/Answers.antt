@@ -1,0 +1,13 @@
+use Rattle.std.proofs.Common.{◌≡◌, ◌≤◌, nat_le, get_or, sym, arith}
+use Rattle.std.proofs.lemmas.Bool.{le-leb}
+use Rattle.surf_class.proofs.Lists.{position_at, position_none}
+use Rattle.surf_class.proofs.walk.first_stranger.Goals as goal
+
+pub returns-then-vertices-numbers : goal.returns-then-vertices-numbers
+returns-then-vertices-numbers c = ?
+
+pub returns : goal.returns
+returns c = record {
+  place = sym (position_none (λ v. nat_le c.args.mesh.now.vertices v) c.args.numbers.now 0
+      (λ k l. c.loop-i.invariant k (omega (arith, l, c.loop-i-test.false))));
+}
