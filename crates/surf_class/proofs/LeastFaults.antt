@@ -22,8 +22,8 @@ no_face_at mesh faces i f rises l is outside before =
           let k = r.0 in
           let same : g ≡ get_or faces k 0 = eqb-true g (get_or faces k 0) r.2 in
           elim (cases_order k i) [
-            | inl less ↦ subst (λ (n : ℕ). n < face_count mesh) (sym same) (before k less)
-            | inr (inl eq) ↦ absurd (let here : get_or faces k 0 ≡ get_or faces i 0 = ap (λ n. get_or faces n 0) eq in omega (arith, same, here, at_i, m))
+            | inr (inl less) ↦ subst (λ (n : ℕ). n < face_count mesh) (sym same) (before k less)
+            | inl eq ↦ absurd (let here : get_or faces k 0 ≡ get_or faces i 0 = ap (λ n. get_or faces n 0) eq in omega (arith, same, here, at_i, m))
             | inr (inr more) ↦ absurd (let above : get_or faces i 0 < get_or faces k 0 = rises i k 0 more r.1 in omega (arith, same, above, at_i, m))
           ];
     }
@@ -41,8 +41,8 @@ no_pair_at mesh pairs i p rises l is outside before =
           let k = r.0 in
           let same : q ≡ get_or pairs k (0, 0) = pair_eq-true q (get_or pairs k (0, 0)) r.2 in
           elim (cases_order k i) [
-            | inl less ↦ ap (λ t. among t (edges mesh)) same ∙ before k less
-            | inr (inl eq) ↦ absurd (pair_lt-irreflexive q p m (same ∙ ap (λ n. get_or pairs n (0, 0)) eq ∙ sym at_i))
+            | inr (inl less) ↦ ap (λ t. among t (edges mesh)) same ∙ before k less
+            | inl eq ↦ absurd (pair_lt-irreflexive q p m (same ∙ ap (λ n. get_or pairs n (0, 0)) eq ∙ sym at_i))
             | inr (inr more) ↦ absurd (
                 let above : pair_lt p q ≡ true =
                 subst (λ t. pair_lt t q ≡ true) (sym at_i)

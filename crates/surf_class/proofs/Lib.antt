@@ -4,3 +4,5 @@ pub mod StepEdges
 pub mod Pairs
 pub mod Pairing
 pub mod LeastFaults
+pub mod FaceSides
+pub mod Gaps

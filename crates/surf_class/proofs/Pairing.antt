@@ -19,4 +19,6 @@ two_at (u ∷ v ∷ rest) zero l = refl
 two_at (u ∷ v ∷ rest) (suc i) l =
     let one : 2 * suc i ≡ suc (suc (2 * i)) = omega arith in
     let two : 2 * suc i + 1 ≡ suc (suc (2 * i + 1)) = omega arith in
-    rw (one, two) (two_at rest i (omega arith))
+    two_at rest i (omega arith)
+    ∙ ap (λ n. (get_or (u ∷ v ∷ rest) n 0, get_or rest (2 * i + 1) 0)) (sym one)
+    ∙ ap (λ n. (get_or (u ∷ v ∷ rest) (2 * suc i) 0, get_or (u ∷ v ∷ rest) n 0)) (sym two)

@@ -116,6 +116,7 @@ fn turn_faces(mesh: &HalfMesh, edge: EdgeId, odd: &mut [bool])
     requires count { length odd.old ≡ face_count mesh.now }
     ensures turned { (f : ℕ) → f < face_count mesh.now → slice_index_or odd.new f false ≡ xor (slice_index_or odd.old f false) (borders mesh.now f edge) }
 {
+    let _surface = mesh.faces();
     let (near, far) = faces_beside(mesh, edge);
     turn(odd, near.index());
     turn(odd, far.index());

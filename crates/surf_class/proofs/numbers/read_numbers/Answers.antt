@@ -1,19 +1,32 @@
-use Rattle.std.proofs.Common.{rules, ◌≡◌, ◌<◌, ◌^◌, IfOk, length, ℕ, ◌+◌, ◌-◌, ◌*◌, ◌≤◌, ◌/◌, ◌%◌, Bool, true, false, nat_eq, nat_lt, List, [], ◌∷◌, ◌++◌, slice_index_or, slice_set, bit_and, bit_or, Fits, w8, w32, w64, Bor, MutBor}
-use Rattle.surf_cert.specs.Lines.{number_of}
-use Rattle.surf_class.specs.Gives.{Gives}
+use Rattle.std.proofs.Common.{◌≡◌, ◌+◌, ◌∷◌, [], ◌++◌, ◌∙◌, sym, ap, ℕ, List, Option, Some, Err, length, arith, subst, length-append}
 use Rattle.surf_class.specs.Numbers.{numbers_from}
-use Rattle.surf_class.specs.declared.numbers.NumberFault.TheVariants.{Memory}
+use Rattle.surf_class.specs.declared.numbers.NumberFault.TheVariants.{Bad}
+use Rattle.surf_class.proofs.Reading.{with_front, number_more, number_bad, numbers_done}
 use Rattle.surf_class.proofs.numbers.read_numbers.Goals as goal
 
--- src/numbers.rt:47:13
-pub returns-in_default-read_number-clause-numbers :
-    goal.returns-in_default-read_number-clause-numbers
-returns-in_default-read_number-clause-numbers c = ?
+pub returns-in_default-read_number-clause-numbers : goal.returns-in_default-read_number-clause-numbers
+returns-in_default-read_number-clause-numbers c = λ other.
+    number_bad c.loop-token.numbers.items c.loop-token.tokens.tokens (numbers_from 0 c.args.tokens.tokens) c.loop-token.invariant.numbers
+    c.in-Some.token.now c.next_token.new.self.tokens c.in-Some.ensures.next (sym c.read_number.ensures.number ∙ c.in_default-read_number.is)
+    ∙ ap (λ (n : ℕ). Err (Bad n)) (sym c.len.ensures)
 
--- src/numbers.rt:45:5
 pub loop-token-preserved : goal.loop-token-preserved
-loop-token-preserved c = ?
+loop-token-preserved c =
+    let front = c.loop-token.numbers.items in
+    let n = c.in-Some-read_number.number in
+    let rest = c.next_token.new.self.tokens in
+    let pushed : c.push.new.self.items ≡ front ++ n ∷ [] = c.in_ok-push.ensures.items in
+    let long : length (front ++ n ∷ []) ≡ length front + 1 = length-append front (n ∷ []) in
+    let taken = ap length c.in-Some.ensures.next in
+    record {
+      numbers = subst (λ (xs : List ℕ). with_front xs (numbers_from (length xs) rest) ≡ numbers_from 0 c.args.tokens.tokens) (sym pushed)
+          (number_more front c.loop-token.tokens.tokens (numbers_from 0 c.args.tokens.tokens) c.loop-token.invariant.numbers
+          c.in-Some.token.now rest n c.in-Some.ensures.next (sym c.read_number.ensures.number ∙ c.in-Some-read_number.is));
+      few = subst (λ (xs : List ℕ). length xs + length rest ≡ length c.args.tokens.tokens) (sym pushed)
+          (omega (arith, long, taken, c.loop-token.invariant.few));
+    }
 
--- src/numbers.rt:39:1
 pub returns-clause-numbers : goal.returns-clause-numbers
-returns-clause-numbers c = ?
+returns-clause-numbers c =
+    numbers_done c.loop-token.numbers.items c.loop-token.tokens.tokens (numbers_from 0 c.args.tokens.tokens) c.loop-token.invariant.numbers
+    c.in_default.ensures.next.0

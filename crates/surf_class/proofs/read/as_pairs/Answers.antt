@@ -22,4 +22,4 @@ pub returns : goal.returns
 returns c =
     let ns = c.args.numbers.now in
     let all = two_length ns in
-    record { pairs = c.loop-i.invariant ∙ take_all (two_by_two ns) c.loop-i.i (omega (arith, all, c.loop-i-test.false)) }
+    record { pairs = c.loop-i.invariant ∙ take_all c.loop-i.i (two_by_two ns) (omega (arith, all, c.loop-i-test.false)) }
