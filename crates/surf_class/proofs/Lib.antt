@@ -6,3 +6,7 @@ pub mod Pairing
 pub mod LeastFaults
 pub mod FaceSides
 pub mod Gaps
+pub mod Joint
+pub mod PairFlags
+pub mod Increasing
+pub mod EdgeLists

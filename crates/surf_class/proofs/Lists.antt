@@ -1,10 +1,19 @@
 -- Lists, place by place.
-use Rattle.std.proofs.Common.{◌≡◌, ◌≢◌, ℕ, zero, suc, ◌<◌, ◌≤◌, ◌+◌, Bool, true, false, ◌&&◌, List, [], ◌∷◌, ◌++◌, length, get_or, take, map, nat_lt, Option, Some, None, refl, sym, ap, ◌∙◌, arith, inl, inr}
+use Rattle.std.proofs.Common.{◌≡◌, ◌≢◌, ℕ, zero, suc, ◌<◌, ◌≤◌, ◌+◌, Bool, true, false, ◌&&◌, List, [], ◌∷◌, ◌++◌, length, get_or, take, drop, map, nat_lt, AllPairs, Option, Some, None, refl, sym, ap, ◌∙◌, arith, inl, inr}
 use Rattle.std.specs.List.{position, position_or_len}
 use Rattle.std.proofs.Math.Seq.{take-suc}
-use Rattle.std.proofs.lemmas.Bool.{cases_Bool, lt-ltb, le-ltb}
+use Rattle.std.proofs.lemmas.Bool.{cases_Bool, lt-ltb, le-ltb, true≢false}
+use Rattle.std.proofs.lemmas.List.{take-append-le, take_all}
 use Rattle.std.proofs.lemmas.List.Sums.{position_or_len_is}
 use Rattle.surf_class.specs.Evidences.{rises_from, is_rising}
+
+pub and_first : (a b : Bool) → (a && b) ≡ true → a ≡ true
+and_first true b h = refl
+and_first false b h = absurd (true≢false (sym h))
+
+pub and_second : (a b : Bool) → (a && b) ≡ true → b ≡ true
+and_second true b h = h
+and_second false b h = absurd (true≢false (sym h))
 
 -- a longer front has the next member
 pub take_next : {X : Type 0} (xs : List X) (n : ℕ) (d : X) → n < length xs → take (n + 1) xs ≡ take n xs ++ get_or xs n d ∷ []
@@ -58,3 +67,30 @@ rising_not lt [] d k l bad = absurd (omega arith)
 rising_not lt (x ∷ xs) d k l bad =
     let one : k + 1 ≡ suc k = omega arith in
     not_behind lt x xs d k (omega arith) (ap (λ n. lt (get_or (x ∷ xs) k d) (get_or (x ∷ xs) n d)) (sym one) ∙ bad)
+
+-- a list of the same length has been written over another one
+pub restored : {X : Type 0} (n : ℕ) (xs ys : List X) → length xs ≡ n → take n (xs ++ drop (length xs) ys) ≡ xs
+restored n xs ys e =
+    let h : n ≤ length xs = omega (arith, e) in
+    rw take-append-le (take_all n xs (omega (arith, e)))
+
+-- of a list in which each is above the one before it, the earlier of two is below the later
+module _ {X : Type 0} (lt : X → X → Bool)
+    (trans : (a b c : X) → lt a b ≡ true → lt b c ≡ true → lt a c ≡ true) where
+  above_first : (x : X) (xs : List X) (d : X) → rises_from lt x xs ≡ true → (k : ℕ) → k < length xs → lt x (get_or xs k d) ≡ true
+  above_first x [] d rises k l = absurd (omega arith)
+  above_first x (y ∷ ys) d rises zero l = and_first (lt x y) (rises_from lt y ys) rises
+  above_first x (y ∷ ys) d rises (suc k) l =
+      trans x y (get_or ys k d) (and_first (lt x y) (rises_from lt y ys) rises)
+      (above_first y ys d (and_second (lt x y) (rises_from lt y ys) rises) k (omega arith))
+
+  rise_behind : (x : X) (xs : List X) → rises_from lt x xs ≡ true → is_rising lt xs ≡ true
+  rise_behind x [] rises = refl
+  rise_behind x (y ∷ ys) rises = and_second (lt x y) (rises_from lt y ys) rises
+
+  pub pairs_of_rising : (xs : List X) → is_rising lt xs ≡ true → AllPairs (λ a b. lt a b ≡ true) xs
+  pairs_of_rising [] rises i j d less l = absurd (omega arith)
+  pairs_of_rising (x ∷ xs) rises i zero d less l = absurd (omega arith)
+  pairs_of_rising (x ∷ xs) rises zero (suc j) d less l = above_first x xs d rises j (omega arith)
+  pairs_of_rising (x ∷ xs) rises (suc i) (suc j) d less l =
+      pairs_of_rising xs (rise_behind x xs rises) i j d (omega arith) (omega arith)

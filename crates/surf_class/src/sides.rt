@@ -40,13 +40,15 @@ fn find_side(
 {
     let mut at = face;
     let mut side = false;
-    while let (None, Some((parent, edge))) = (sides[at.index()], above(mesh, cotree, at)) {
+    loop {
+        if let Some(known) = sides[at.index()] {
+            return side != known;
+        }
+        let Some((parent, edge)) = above(mesh, cotree, at) else {
+            return side;
+        };
         side = side != flags[edge.index()];
         at = parent;
-    }
-    match sides[at.index()] {
-        Some(known) => side != known,
-        None => side,
     }
 }
 

@@ -1,20 +1,21 @@
-use Rattle.std.proofs.Common.{rules, ◌≡◌, ◌≢◌, ◌<◌, ◌≤◌, ℕ, true, false, All, AllPairs, Contains, IfErr, OnOk, IfOk, MatchOption, length, map, slice_index_or, ◌+◌, ◌-◌, ◌*◌, ◌/◌, ◌%◌, Bool, nat_eq, nat_lt, List, [], ◌∷◌, ◌++◌, slice_set, bit_and, bit_or, Fits, w8, w32, w64, Bor, MutBor}
-use Rattle.std.specs.List.{position}
-use Rattle.surf_z2.specs.Parity.{xor, odd}
-use Rattle.surf_z2.specs.Space.{Chain}
-use Rattle.surf_complex.specs.Homology.{boundary}
-use Rattle.surf_complex.specs.Mesh.{edges, pair_lt, among}
-use Rattle.surf_complex.specs.Surface.{borders, edge_count, face_count, ends, faces_of}
-use Rattle.surf_complex.specs.Walk.{IsClosed, edge_number, parity}
-use Rattle.surf_certcheck.specs.First.{HoldsBelow, FailsFirst}
-use Rattle.surf_certcheck.specs.Split.{AreFlags, is_flagged}
-use Rattle.surf_classes.specs.Evidence.{IsEvidence, IsNullEvidence, IsOddEvidence, null_faces, odd_pairs, is_listed, has_odd_sides, is_odd_in}
-use Rattle.surf_classes.specs.Faults.{IsNoFace, IsNoPair}
-use Rattle.surf_class.specs.Agreement.{AgreesAt}
-use Rattle.surf_class.specs.Faults.{IsClassFault}
-use Rattle.surf_class.specs.Seen.{seen}
+use Rattle.std.proofs.Common.{rules, ◌≡◌, ◌<◌, ℕ, Bool, false, List, length, get_or, sym, ap, ◌∙◌, subst, arith, true}
+use Rattle.surf_z2.specs.Parity.{xor}
+use Rattle.surf_complex.specs.Surface.{face_count}
+use Rattle.surf_certcheck.specs.Split.{AreFlags}
+use Rattle.surf_classes.specs.Evidence.{has_odd_sides}
+use Rattle.surf_class.proofs.Lists.{restored}
+use Rattle.surf_class.proofs.PairFlags.{odd_by_pairs}
 use Rattle.surf_class.proofs.check.odd_faces.Goals as goal
 
--- src/check.rt:137:1
 pub returns : goal.returns
-returns c = ?
+returns c =
+    let mesh = c.args.mesh.now in
+    let pairs = c.args.pairs.now in
+    let size : length c.turn_pairs.new.flags ≡ face_count mesh = omega (arith, c.turn_pairs.auto.flags, c.deref_mut.ensures.len, c.in_ok-odd.ensures.len, c.faces.ensures.count) in
+    let off : (f : ℕ) → f < face_count mesh → get_or c.deref_mut.result.now f false ≡ false = ? in
+    let flags : AreFlags (face_count mesh) (has_odd_sides mesh pairs) c.turn_pairs.new.flags = record {
+      count = size;
+      each = λ f l. c.turn_pairs.ensures.turned f l ∙ ap (λ b. xor b _) (off f l)
+          ∙ odd_by_pairs mesh pairs f c.faces.ensures.surface c.requires.rises c.requires.edges l;
+    } in
+    record { flags = subst (λ (xs : List Bool). AreFlags (face_count mesh) (has_odd_sides mesh pairs) xs) (sym (restored _ _ _ (omega (arith, size, c.in_ok-odd.ensures.len, c.faces.ensures.count)))) flags }

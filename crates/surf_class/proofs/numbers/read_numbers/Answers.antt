@@ -1,4 +1,5 @@
 use Rattle.std.proofs.Common.{◌≡◌, ◌+◌, ◌∷◌, [], ◌++◌, ◌∙◌, sym, ap, ℕ, List, Option, Some, Err, length, arith, subst, length-append}
+use Rattle.std.proofs.lemmas.Grind.{common_steps}
 use Rattle.surf_class.specs.Numbers.{numbers_from}
 use Rattle.surf_class.specs.declared.numbers.NumberFault.TheVariants.{Bad}
 use Rattle.surf_class.proofs.Reading.{with_front, number_more, number_bad, numbers_done}
@@ -6,9 +7,10 @@ use Rattle.surf_class.proofs.numbers.read_numbers.Goals as goal
 
 pub returns-in_default-read_number-clause-numbers : goal.returns-in_default-read_number-clause-numbers
 returns-in_default-read_number-clause-numbers c = λ other.
+    let long : c.len.result ≡ length c.loop-token.numbers.items = grind (arith, common_steps) in
     number_bad c.loop-token.numbers.items c.loop-token.tokens.tokens (numbers_from 0 c.args.tokens.tokens) c.loop-token.invariant.numbers
     c.in-Some.token.now c.next_token.new.self.tokens c.in-Some.ensures.next (sym c.read_number.ensures.number ∙ c.in_default-read_number.is)
-    ∙ ap (λ (n : ℕ). Err (Bad n)) (sym c.len.ensures)
+    ∙ ap (λ (n : ℕ). Err (Bad n)) (sym long)
 
 pub loop-token-preserved : goal.loop-token-preserved
 loop-token-preserved c =

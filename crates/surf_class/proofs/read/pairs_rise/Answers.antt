@@ -1,18 +1,24 @@
-use Rattle.std.proofs.Common.{rules, ◌≡◌, ◌<◌, ◌≤◌, ◌^◌, ◌*◌, nat_lt, IfOk, Ok, length, ℕ, ◌+◌, ◌-◌, ◌/◌, ◌%◌, Bool, true, false, nat_eq, List, [], ◌∷◌, ◌++◌, slice_index_or, slice_set, bit_and, bit_or, Fits, w8, w32, w64, Bor, MutBor}
-use Rattle.std.specs.Str.{bytes_eq}
-use Rattle.surf_text.specs.Text.{tokens_of}
+use Rattle.std.proofs.Common.{◌≡◌, ◌≤◌, ◌<◌, ◌+◌, ◌-◌, get_or, true, false, sym, ap, ◌∙◌, subst, ℕ, arith, length}
+use Rattle.std.proofs.lemmas.List.{get_or_default}
 use Rattle.surf_complex.specs.Mesh.{pair_lt}
-use Rattle.surf_class.specs.Evidences.{is_rising, is_ordered, two_by_two, face_numbers, pair_numbers, counted, if_formed, evidence_of, evidence_in}
-use Rattle.surf_class.specs.Gives.{Gives}
-use Rattle.surf_class.specs.Numbers.{numbers_from}
-use Rattle.surf_class.specs.Reading.{as_formed}
-use Rattle.surf_class.specs.Seen.{seen}
+use Rattle.surf_class.proofs.Lists.{rising_all, rising_not}
 use Rattle.surf_class.proofs.read.pairs_rise.Goals as goal
 
--- src/read.rt:44:13
 pub returns-then-not-is_below : goal.returns-then-not-is_below
-returns-then-not-is_below c = ?
+returns-then-not-is_below c =
+    let ps = c.args.pairs.now in
+    let i = c.loop-i.i in
+    let back : i ≡ i - 1 + 1 = omega (arith, c.loop-i.auto.i) in
+    let near = c.index-pairs-i.is ∙ get_or_default ps (i - 1) c.index-pairs-i.result (0, 0) (omega (arith, c.loop-i-test.true)) in
+    let far = c.index-pairs-i-in-loop-i.is ∙ get_or_default ps i c.index-pairs-i-in-loop-i.result (0, 0) c.loop-i-test.true in
+    let off : pair_lt (get_or ps (i - 1) (0, 0)) (get_or ps i (0, 0)) ≡ false =
+    sym (c.if-not-is_below.ensures.below ∙ ap (λ p. pair_lt p c.index-pairs-i-in-loop-i.result) near ∙ ap (pair_lt (get_or ps (i - 1) (0, 0))) far) in
+    record {
+      rising = sym (rising_not pair_lt ps (0, 0) (i - 1) (omega (arith, back, c.loop-i-test.true))
+          (subst (λ (k : ℕ). pair_lt (get_or ps (i - 1) (0, 0)) (get_or ps k (0, 0)) ≡ false) back off));
+    }
 
--- src/read.rt:39:1
 pub returns : goal.returns
-returns c = ?
+returns c = record {
+  rising = sym (rising_all pair_lt c.args.pairs.now (0, 0) (λ k l. c.loop-i.invariant k (omega (arith, l, c.loop-i-test.false))));
+}

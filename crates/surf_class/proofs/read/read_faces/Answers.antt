@@ -1,14 +1,10 @@
-use Rattle.std.proofs.Common.{rules, ◌≡◌, ◌<◌, ◌≤◌, ◌^◌, ◌*◌, nat_lt, IfOk, Ok, length, ℕ, ◌+◌, ◌-◌, ◌/◌, ◌%◌, Bool, true, false, nat_eq, List, [], ◌∷◌, ◌++◌, slice_index_or, slice_set, bit_and, bit_or, Fits, w8, w32, w64, Bor, MutBor}
-use Rattle.std.specs.Str.{bytes_eq}
-use Rattle.surf_text.specs.Text.{tokens_of}
-use Rattle.surf_complex.specs.Mesh.{pair_lt}
-use Rattle.surf_class.specs.Evidences.{is_rising, is_ordered, two_by_two, face_numbers, pair_numbers, counted, if_formed, evidence_of, evidence_in}
-use Rattle.surf_class.specs.Gives.{Gives}
-use Rattle.surf_class.specs.Numbers.{numbers_from}
-use Rattle.surf_class.specs.Reading.{as_formed}
-use Rattle.surf_class.specs.Seen.{seen}
+use Rattle.std.proofs.Common.{◌≡◌, ◌<◌, nat_lt, true, List, ℕ, AllPairs, sym, ap, ◌∙◌, subst}
+use Rattle.surf_class.specs.Evidences.{is_rising}
+use Rattle.surf_class.proofs.Increasing.{numbers_increase}
 use Rattle.surf_class.proofs.read.read_faces.Goals as goal
 
--- src/read.rt:86:23
 pub from_faces-requires : goal.from_faces-requires
-from_faces-requires c = ?
+from_faces-requires c = record {
+  rises = subst (λ (xs : List ℕ). AllPairs (λ a b. a < b) xs) (sym c.in_ok-faces.ensures.faces)
+      (numbers_increase _ (sym c.if-not-rise.ensures.rising));
+}

@@ -1,9 +1,15 @@
-use Rattle.std.proofs.Common.{rules, ◌≡◌, ◌≢◌, ◌<◌, ℕ, Bool, IsSome, IfOk, IfSome, MatchOption, length, slice_index, ◌+◌, ◌-◌, ◌*◌, ◌≤◌, ◌/◌, ◌%◌, true, false, nat_eq, nat_lt, List, [], ◌∷◌, ◌++◌, slice_index_or, slice_set, bit_and, bit_or, Fits, w8, w32, w64, Bor, MutBor}
-use Rattle.surf_complex.specs.Surface.{edge_count, face_count}
-use Rattle.surf_class.specs.Desk.{IsSignedOn}
-use Rattle.surf_class.specs.Sides.{IsParted, AreSidesOf, AreAllSidesOf, side_at}
+use Rattle.std.proofs.Common.{◌≡◌, ◌<◌, ℕ, Bool, List, length, get_or, sym, ap, ◌∙◌, subst, arith, Option, Some, None}
+use Rattle.surf_complex.specs.Surface.{face_count}
+use Rattle.surf_class.specs.Sides.{AreAllSidesOf, AreSidesOf, side_at}
+use Rattle.surf_class.proofs.Lists.{restored}
+use Rattle.surf_class.proofs.FaceSides.{all_known}
 use Rattle.surf_class.proofs.sides.all_sides.Goals as goal
 
--- src/sides.rt:99:1
 pub returns-clause-sides : goal.returns-clause-sides
-returns-clause-sides c = ?
+returns-clause-sides c = λ set parted.
+    let mesh = c.args.mesh.now in
+    let new = c.note_all.new.sides in
+    let size : length new ≡ face_count mesh = omega (arith, c.note_all.auto.sides, c.deref_mut.ensures.len, c.in_ok-sides.ensures.len, c.faces.ensures.count) in
+    let none : AreSidesOf set c.deref_mut.result.now = ? in
+    let all : AreAllSidesOf set new = λ f l. all_known set new f (c.note_all.ensures.right set parted none) l (c.note_all.ensures.known f (omega (arith, l, size))) in
+    subst (λ (xs : List (Option Bool)). AreAllSidesOf set xs) (sym (restored _ _ _ (omega (arith, size, c.in_ok-sides.ensures.len, c.faces.ensures.count)))) all
