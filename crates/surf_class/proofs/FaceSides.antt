@@ -2,7 +2,7 @@
 use Rattle.std.proofs.Common.{◌≡◌, ◌≢◌, ℕ, ◌<◌, Bool, true, false, not, List, length, get_or, set, unwrap_or, Option, Some, None, IsSome, refl, sym, ap, ◌∙◌, subst, arith, rules, inl, inr, get_or-set_same, get_or-set_other, length-set}
 use mathlib.Core.Bool.{beq}
 use Rattle.std.specs.Option.{option_eq}
-use Rattle.std.proofs.lemmas.Bool.{cases_eq}
+use Rattle.std.proofs.lemmas.Bool.{cases_eq, true≢false}
 use Rattle.surf_z2.specs.Parity.{xor}
 use Rattle.surf_z2.proofs.ParityLaws.{xors, xor_back}
 use Rattle.surf_complex.specs.Mesh.{Mesh}
@@ -82,5 +82,5 @@ pub all_known : (inside : ℕ → Bool) (sides : List (Option Bool)) (f : ℕ) �
 all_known inside sides f are l known = at (side_at sides f) refl known
   where
     at : (o : Option Bool) → side_at sides f ≡ o → IsSome o → side_at sides f ≡ Some (inside f)
-    at None is h = absurd h
+    at None is h = absurd (true≢false (sym h))
     at (Some s) is h = is ∙ ap (λ (b : Bool). Some b) (are f s l is)

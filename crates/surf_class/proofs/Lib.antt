@@ -10,3 +10,6 @@ pub mod Joint
 pub mod PairFlags
 pub mod Increasing
 pub mod EdgeLists
+pub mod PairTexts
+pub mod Checking
+pub mod Choosing

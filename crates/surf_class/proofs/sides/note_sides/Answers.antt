@@ -19,7 +19,7 @@ loop-at-preserved c =
       count = length-set c.loop-at.sides place (Some side) ∙ inv.count;
       right = λ set parted is are.
           let both = inv.right set parted is are in
-          (known_up mesh t flags set parted at c.in-Some.parent c.in-Some.edge c.index-in-loop-at-2.result inv.within up.0 up.1 up.2
+          (known_up mesh t flags set parted at _ _ c.index-in-loop-at-2.result inv.within up.0 up.1 up.2
           c.index-in-loop-at-2.ensures side both.0,
           noted set c.loop-at.sides place at side c.index-in-loop-at.ensures here both.0 both.1);
       known = elim inv.known [
