@@ -1,7 +1,9 @@
 -- Evidence as it is counted.
-use Rattle.std.proofs.Common.{◌≡◌, ◌≢◌, ℕ, ◌<◌, ◌≤◌, Bool, true, false, List, length, get_or, map, AllPairs, All, Contains, Result, Ok, Err, Option, Some, None, IfErr, refl, sym, ap, ◌∙◌, subst, arith}
+use Rattle.std.proofs.Common.{◌≡◌, ◌≢◌, ℕ, ◌<◌, ◌≤◌, Bool, true, false, suc, List, [], ◌∷◌, length, get_or, map, AllPairs, All, Contains, Result, Ok, Err, Option, Some, None, IfErr, refl, sym, ap, ◌∙◌, subst, arith}
 use Rattle.std.specs.List.{position}
 use Rattle.std.proofs.lemmas.List.Quantifiers.{position-Some}
+use Rattle.std.proofs.lemmas.List.{get_or_default}
+use Rattle.surf_class.proofs.Lists.{none_passes}
 use Rattle.surf_z2.specs.Parity.{xor, odd}
 use Rattle.surf_z2.specs.Space.{Chain}
 use Rattle.surf_complex.specs.Mesh.{Mesh, edges, pair_lt}
@@ -19,6 +21,13 @@ use Rattle.surf_class.specs.Agreement.{AgreesAt}
 use Rattle.surf_class.specs.Faults.{IsClassFault}
 use Rattle.surf_class.specs.declared.fault.ClassFault.{ClassFault}
 use Rattle.surf_class.specs.declared.fault.ClassFault.TheVariants.{Face, Boundary, Pair, OddFace, Even, Memory}
+
+-- a pair that is an edge has a number
+edge_in : (mesh : Mesh) → IsSurface mesh → (p : ℕ × ℕ) → Contains (edges mesh) p → edge_number mesh p < edge_count mesh
+edge_in mesh surface p (k, l, is) =
+    let at : ends mesh k ≡ p = get_or_default (edges mesh) k (0, 0) p l ∙ is in
+    subst (λ (n : ℕ). n < edge_count mesh)
+    (sym (ap (edge_number mesh) (sym at) ∙ (edges_are_numbered mesh surface.is_mesh).number_of_ends k l)) l
 
 module _ (mesh : Mesh) (surface : IsSurface mesh) (chain : Chain) (flags : List Bool) (are : AreFlags (edge_count mesh) chain flags) where
   module _ (faces : List ℕ) (inside : List Bool) (set : AreFlags (face_count mesh) (is_listed faces) inside) where
@@ -57,7 +66,10 @@ module _ (mesh : Mesh) (surface : IsSurface mesh) (chain : Chain) (flags : List 
     same_odd = each pairs are_edges
       where
         each : (ps : List (ℕ × ℕ)) → All (Contains (edges mesh)) ps → is_odd_in mesh (is_flagged flags) ps ≡ is_odd_in mesh chain ps
-        each ps all = ?
+        each [] all = refl
+        each (p ∷ ps) all =
+            ap (λ b. xor b (is_odd_in mesh (is_flagged flags) ps)) (are.each (edge_number mesh p) (edge_in mesh surface p (all 0 p (omega arith))))
+            ∙ ap (xor (chain (edge_number mesh p))) (each ps (λ k d l. all (suc k) d (omega arith)))
 
     module _ (odds : List Bool) (sides : AreFlags (face_count mesh) (has_odd_sides mesh pairs) odds) where
       even_below : (n : ℕ) → n ≤ face_count mesh → ((k : ℕ) → k < n → get_or odds k false ≡ false) → (f : ℕ) → f < n →
@@ -76,7 +88,7 @@ module _ (mesh : Mesh) (surface : IsSurface mesh) (chain : Chain) (flags : List 
           }
 
       all_even : position (λ b. b) odds ≡ None → (f : ℕ) → f < face_count mesh → has_odd_sides mesh pairs f ≡ false
-      all_even none = ?
+      all_even none = even_below (face_count mesh) (omega arith) (λ k l. none_passes (λ b. b) odds false none k (omega (arith, l, sides.count)))
 
       pub odd_right : AllPairs (λ p q. pair_lt p q ≡ true) pairs → position (λ b. b) odds ≡ None →
           is_odd_in mesh (is_flagged flags) pairs ≡ true → IsOddEvidence mesh chain pairs

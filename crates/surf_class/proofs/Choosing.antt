@@ -22,7 +22,9 @@ use Rattle.surf_sign.proofs.Passing.{passing_same}
 use Rattle.surf_classes.specs.Evidence.{joint_parity, AreClosed, IsChosenNull, IsChosenOdd, is_listed, null_faces, odd_pairs, IsNullEvidence, IsOddEvidence}
 use Rattle.surf_classes.specs.EvidenceLaws.{joint_signature}
 use Rattle.surf_classes.proofs.NullChoice.{null_choice_is_filtered, null_choice_is_one}
-use Rattle.surf_classes.proofs.OddChoice.{odd_choice_is_filtered, odd_choice_is_right, odd_choice_is_one, joint_signatures_add}
+use Rattle.surf_classes.proofs.OddChoice.{odd_choice_is_filtered, odd_choice_is_right, joint_signatures_add, joint_even}
+use Rattle.surf_homology.proofs.CellLaws.{signature_null}
+use Rattle.surf_z2.proofs.Below.{below_law}
 use Rattle.surf_class.specs.Desk.{IsSigned}
 use Rattle.surf_class.specs.Sides.{IsParted, AreAllSidesOf, side_at, is_inside}
 
@@ -48,7 +50,13 @@ module _ (mesh : Mesh) (surface : IsSurface mesh) (tree : Tree) (t : CotreeTable
 
   -- where the sum has no number below 1,024, the chain is a boundary
   pub bounds_something : ((k : ℕ) → k < 1024 → has sum k ≡ false) → IsBoundary mesh (joint_parity mesh walk other)
-  bounds_something none = ?
+  bounds_something none =
+      let s = cells_of mesh in
+      let d = split_with tree t in
+      let chain = joint_parity mesh walk other in
+      signature_null s d (surfaces_are_cells mesh surface).complex signed.split chain (joint_even mesh surface walk other closed)
+      (λ k l. sym (below_law.member (length d.left) (chain_signature s d chain) k l) ∙ ap (λ n. has n k) whole
+      ∙ none k (omega (arith, l, signed.few)))
 
 module _ (mesh : Mesh) (surface : IsSurface mesh) (tree : Tree) (t : CotreeTables) (signed : IsSigned mesh tree t)
     (chain : Chain) (flags : List Bool) (are : AreFlags (edge_count mesh) chain flags) (some : IsBoundary mesh chain) where

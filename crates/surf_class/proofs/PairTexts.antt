@@ -14,4 +14,5 @@ ends_cons p ps =
     let a = decimal p.0 in
     let b = decimal p.1 in
     let rest = ends_text ps in
-    simp (append_assoc, append-nil)
+    ap (λ (t : List ℕ). 32 ∷ t)
+    (ap (λ (t : List ℕ). a ++ 32 ∷ (t ++ rest)) (sym (append-nil b)) ∙ sym (append_assoc a (32 ∷ (b ++ [])) rest))

@@ -85,6 +85,7 @@ fn check_faces(
     ensures right { (chain : Chain) → AreFlags (edge_count mesh.now) chain flags.now → OnOk result (IsNullEvidence mesh.now chain faces.now) }
     ensures fault { (chain : Chain) → AreFlags (edge_count mesh.now) chain flags.now → IfErr result (IsClassFault mesh.now chain (null_faces faces.now)) }
 {
+    let _surface = mesh.faces();
     if let Some(face) = first_outside(mesh, faces) {
         return Err(ClassFault::Face { face });
     }
@@ -184,6 +185,7 @@ fn check_pairs(
     ensures right { (chain : Chain) → AreFlags (edge_count mesh.now) chain flags.now → OnOk result (IsOddEvidence mesh.now chain pairs.now) }
     ensures fault { (chain : Chain) → AreFlags (edge_count mesh.now) chain flags.now → IfErr result (IsClassFault mesh.now chain (odd_pairs pairs.now)) }
 {
+    let _surface = mesh.faces();
     if let Some((u, v)) = first_stranger(mesh, pairs) {
         return Err(ClassFault::Pair { u, v });
     }

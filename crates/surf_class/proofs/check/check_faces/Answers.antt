@@ -1,25 +1,24 @@
-use Rattle.std.proofs.Common.{rules, ◌≡◌, ◌≢◌, ◌<◌, ◌≤◌, ℕ, true, false, All, AllPairs, Contains, IfErr, OnOk, IfOk, MatchOption, length, map, slice_index_or, ◌+◌, ◌-◌, ◌*◌, ◌/◌, ◌%◌, Bool, nat_eq, nat_lt, List, [], ◌∷◌, ◌++◌, slice_set, bit_and, bit_or, Fits, w8, w32, w64, Bor, MutBor}
-use Rattle.std.specs.List.{position}
-use Rattle.surf_z2.specs.Parity.{xor}
-use Rattle.surf_z2.specs.Space.{Chain}
-use Rattle.surf_complex.specs.Homology.{boundary}
-use Rattle.surf_complex.specs.Mesh.{edges, pair_lt, among}
-use Rattle.surf_complex.specs.Surface.{borders, edge_count, face_count, ends, faces_of}
-use Rattle.surf_complex.specs.Walk.{IsClosed, edge_number, parity}
+use Rattle.std.proofs.Common.{◌≡◌, sym, ap, ◌∙◌, subst, List, Bool, ℕ}
+use Rattle.surf_complex.specs.Surface.{edge_count, face_count}
 use Rattle.surf_certcheck.specs.First.{HoldsBelow, FailsFirst}
-use Rattle.surf_certcheck.specs.Split.{AreFlags, is_flagged}
-use Rattle.surf_classes.specs.Evidence.{IsEvidence, IsNullEvidence, IsOddEvidence, null_faces, odd_pairs, is_listed, has_odd_sides, is_odd_in}
-use Rattle.surf_classes.specs.Faults.{IsNoFace, IsNoPair}
+use Rattle.surf_certcheck.specs.Split.{AreFlags}
+use Rattle.surf_classes.specs.Evidence.{is_listed}
 use Rattle.surf_class.specs.Agreement.{AgreesAt}
-use Rattle.surf_class.specs.Faults.{IsClassFault}
-use Rattle.surf_class.specs.Seen.{seen}
+use Rattle.surf_class.proofs.Checking.{null_right, null_wrong}
 use Rattle.surf_class.proofs.check.check_faces.Goals as goal
 
--- src/check.rt:94:9
-pub returns-in-Some-first_differing-clause-fault :
-    goal.returns-in-Some-first_differing-clause-fault
-returns-in-Some-first_differing-clause-fault c = ?
+pub returns-in-Some-first_differing-clause-fault : goal.returns-in-Some-first_differing-clause-fault
+returns-in-Some-first_differing-clause-fault c = λ chain are.
+    let mesh = c.args.mesh.now in
+    let flags = c.args.flags.now in
+    null_wrong mesh c.faces-surface.ensures.surface chain flags are c.args.faces.now c.in_ok-inside.inside.items c.in_ok-inside.ensures.flags
+    c.in-Some-first_differing.edge c.ends-u.result.0 c.ends-u.result.1 c.in_default.ensures.face c.ends-u.ensures
+    (subst (λ (xs : List Bool). FailsFirst (edge_count mesh) (AgreesAt mesh xs flags) c.in-Some-first_differing.edge) c.deref.ensures.value c.in-Some-first_differing.ensures.edge)
 
--- src/check.rt:77:1
 pub returns-clause-right : goal.returns-clause-right
-returns-clause-right c = ?
+returns-clause-right c = λ chain are.
+    let mesh = c.args.mesh.now in
+    let flags = c.args.flags.now in
+    null_right mesh c.faces-surface.ensures.surface chain flags are c.args.faces.now c.in_ok-inside.inside.items c.in_ok-inside.ensures.flags
+    c.requires.rises c.in_default.ensures.face
+    (subst (λ (xs : List Bool). HoldsBelow (edge_count mesh) (AgreesAt mesh xs flags)) c.deref.ensures.value c.in_default-first_differing.ensures.edge)
