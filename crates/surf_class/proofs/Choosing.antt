@@ -97,3 +97,10 @@ module _ (mesh : Mesh) (surface : IsSurface mesh) (tree : Tree) (t : CotreeTable
       passing_same (is_inside sides) inside 0 F (λ f l. ap (λ (o : Option Bool). unwrap_or o false) (all f (omega (arith, l, count)))) in
       subst (λ (fs : List ℕ). IsChosenNull mesh chain fs) (sym (is ∙ same))
       (null_choice_is_filtered mesh surface chain inside (λ e l. chosen.evidence.bounds e l) chosen.without_first)
+
+  pub null_found : (sides lent : List (Option Bool)) (faces : List ℕ) → lent ≡ sides → length sides ≡ face_count mesh →
+      ((set : ℕ → Bool) → IsParted mesh t flags set → AreAllSidesOf set sides) →
+      faces ≡ filter (is_inside lent) (range_with_len 0 (face_count mesh)) → IsChosenNull mesh chain faces
+  null_found sides lent faces same count all is =
+      null_chosen sides faces count (all inside is_parted)
+      (is ∙ ap (λ (xs : List (Option Bool)). filter (is_inside xs) (range_with_len 0 (face_count mesh))) same)

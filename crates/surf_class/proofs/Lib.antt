@@ -13,3 +13,5 @@ pub mod EdgeLists
 pub mod PairTexts
 pub mod Checking
 pub mod Choosing
+pub mod LineSizes
+pub mod WalkLines

@@ -96,24 +96,12 @@ module _ {X : Type 0} (lt : X → X → Bool)
       pairs_of_rising xs (rise_behind x xs rises) i j d (omega arith) (omega arith)
 
 -- where nothing is found, nothing passes
-not_passed : {X : Type 0} (p : X → Bool) (xs : List X) (d : X) → length xs ≤ position_or_len p xs → (k : ℕ) → k < length xs →
-    p (get_or xs k d) ≡ false
-not_passed p [] d le k l = absurd (omega arith)
-not_passed p (x ∷ xs) d le k l = elim (cases_Bool (p x)) [
-  | inl on ↦ absurd (let none = rw on at le in omega (arith, none))
-  | inr off ↦ later off k l (let more = rw off at le in omega (arith, more))
-]
-  where
-    later : p x ≡ false → (k : ℕ) → k < length (x ∷ xs) → length xs ≤ position_or_len p xs → p (get_or (x ∷ xs) k d) ≡ false
-    later off zero l le = off
-    later off (suc k) l le = not_passed p xs d le k (omega arith)
-
 pub none_passes : {X : Type 0} (p : X → Bool) (xs : List X) (d : X) → position p xs ≡ None → (k : ℕ) → k < length xs →
     p (get_or xs k d) ≡ false
-none_passes p xs d none = not_passed p xs d (elim (cases_lt (position_or_len p xs) (length xs)) [
+none_passes p xs d none k l = elim (cases_lt (position_or_len p xs) (length xs)) [
   | inl lt ↦ absurd (none_some (ltb (position_or_len p xs) (length xs)) (lt-ltb _ _ lt) none)
-  | inr le ↦ le
-])
+  | inr le ↦ fails_before_first p xs k d (omega (arith, l, le))
+]
   where
     none_some : (b : Bool) → b ≡ true → cond b (Some (position_or_len p xs)) None ≡ None → ⊥
     none_some true e h = cc

@@ -1,14 +1,9 @@
-use Rattle.std.proofs.Common.{rules, ◌≡◌, ◌<◌, ◌≤◌, ◌^◌, ◌*◌, nat_lt, IfOk, Ok, length, ℕ, ◌+◌, ◌-◌, ◌/◌, ◌%◌, Bool, true, false, nat_eq, List, [], ◌∷◌, ◌++◌, slice_index_or, slice_set, bit_and, bit_or, Fits, w8, w32, w64, Bor, MutBor}
-use Rattle.std.specs.Str.{bytes_eq}
-use Rattle.surf_text.specs.Text.{tokens_of}
-use Rattle.surf_complex.specs.Mesh.{pair_lt}
-use Rattle.surf_class.specs.Evidences.{is_rising, is_ordered, two_by_two, face_numbers, pair_numbers, counted, if_formed, evidence_of, evidence_in}
-use Rattle.surf_class.specs.Gives.{Gives}
-use Rattle.surf_class.specs.Numbers.{numbers_from}
-use Rattle.surf_class.specs.Reading.{as_formed}
-use Rattle.surf_class.specs.Seen.{seen}
+use Rattle.std.proofs.Common.{◌≡◌, ◌<◌, ◌≤◌, ◌+◌, ◌^◌, length, ◌∷◌, sym, ◌∙◌, arith}
+use Rattle.surf_text.specs.Text.{lines_of, tokens_of}
+use Rattle.surf_class.proofs.LineSizes.{few_tokens}
 use Rattle.surf_class.proofs.read.read_evidence.Goals as goal
 
--- src/read.rt:159:20
 pub read_line-requires : goal.read_line-requires
-read_line-requires c = ?
+read_line-requires c =
+    let few = few_tokens c.args.text.now _ c.next_line.new.self (sym c.over-lines.ensures.lines ∙ c.in-Some.ensures.next) in
+    record { few = omega (arith, few, c.requires.short) }
