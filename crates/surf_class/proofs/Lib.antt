@@ -15,3 +15,4 @@ pub mod Checking
 pub mod Choosing
 pub mod LineSizes
 pub mod WalkLines
+pub mod Rereading

@@ -1,10 +1,10 @@
 -- The lines of a text are no longer than it, and have tokens.
 use Rattle.std.proofs.Common.{◌≡◌, ℕ, suc, ◌<◌, ◌≤◌, ◌+◌, Bool, true, false, List, [], ◌∷◌, length, cond, not, refl, sym, ap, ◌∙◌, subst, arith, inl, inr}
-use Rattle.std.specs.List.{AllByRecursion, slice_split, onto_first, before_first, filter}
+use Rattle.std.specs.List.{AllByRecursion, slice_split, onto_first, before_first, filter, position_or_len}
 use Rattle.std.proofs.lemmas.Bool.{cases_Bool}
-use Rattle.std.proofs.lemmas.List.Sums.{length-filter}
+use Rattle.std.proofs.lemmas.List.Sums.{length-filter, count_by-le-length}
+use Rattle.std.proofs.lemmas.List.{length-take}
 use Rattle.std.proofs.lemmas.List.Splits.{length-slice_split}
-use Rattle.std.proofs.lemmas.List.Folds.{count_by-le-length}
 use Rattle.surf_text.specs.Text.{TextLine, is_blank, is_nonempty, is_line_end, is_comment_sign, uncommented, trimmed_front, before_some, trimmed_back, trimmed, words_of, tokens_of, onto_lines, numbered_from, lines_of}
 use Rattle.surf_text.proofs.Words.{words_trimmed}
 use Rattle.surf_off.proofs.CleanLines.{AllClean, clean_lines}
@@ -29,11 +29,7 @@ back_short (b ∷ bs) =
     omega (arith, one, rest)
 
 before_short : (p : ℕ → Bool) (bs : List ℕ) → length (before_first p bs) ≤ length bs
-before_short p [] = omega arith
-before_short p (b ∷ bs) = let rest = before_short p bs in elim (cases_Bool (p b)) [
-  | inl on ↦ rw on (omega arith)
-  | inr off ↦ rw off (omega (arith, rest))
-]
+before_short p bs = let size = length-take (position_or_len p bs) bs in omega (arith, size)
 
 kept_short : (part : List ℕ) → length (trimmed (uncommented part)) ≤ length part
 kept_short part =

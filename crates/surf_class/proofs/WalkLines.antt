@@ -22,6 +22,7 @@ size (Err fault) = 0
 
 onto_size : (place : ℕ) (n : Option ℕ) (read : Result (List ℕ) NumberFault) (ns : List ℕ) → onto_numbers place n read ≡ Ok ns →
     (ms : List ℕ) × (read ≡ Ok ms) × (length ns ≡ suc (length ms))
+unfolding size
 onto_size place None read ns is = absurd cc
 onto_size place (Some n) (Ok ms) ns is = (ms, refl, sym (ap size is))
 onto_size place (Some n) (Err fault) ns is = absurd cc

@@ -72,7 +72,9 @@ pub fn read_walk(alloc: Global, text: &[u8], mesh: &HalfMesh) -> Result<Walk, Wa
     ensures closed { IfOk result (λ w. IsClosed mesh.now w) }
 {
     let mut lines = Lines::over(text);
-    let line = lines.next_line().ok_or(WalkFault::Empty)?;
+    let Some(line) = lines.next_line() else {
+        return Err(WalkFault::Empty);
+    };
     let numbers = read_numbers(alloc, Tokens::over(line.bytes))?;
     if let Some(place) = first_stranger(mesh, &numbers) {
         return Err(WalkFault::NotVertex { place });
