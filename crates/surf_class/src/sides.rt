@@ -1,5 +1,5 @@
 //! On which side of a boundary each face is.
-ghost use Rattle.std.specs.Prelude.{◌≡◌, ◌≢◌, ◌<◌, ℕ, Bool, IsSome, IfOk, IfSome, MatchOption, length, slice_index};
+ghost use Rattle.std.specs.Prelude.{◌≡◌, ◌≢◌, ◌<◌, ℕ, Bool, All, None, IsSome, IfOk, IfSome, MatchOption, length, slice_index};
 ghost use Rattle.surf_complex.specs.Surface.{edge_count, face_count};
 ghost use Rattle.surf_class.specs.Desk.{IsSignedOn};
 ghost use Rattle.surf_class.specs.Sides.{IsParted, AreSidesOf, AreAllSidesOf, side_at};
@@ -96,6 +96,14 @@ fn note_all(mesh: &HalfMesh, cotree: &CotreeDesk, flags: &[bool], sides: &mut [O
     }
 }
 
+// Nothing is known of so many faces.
+fn no_sides(alloc: Global, count: usize) -> Result<Vec<Option<bool>>, NoMemory>
+    ensures count { IfOk result (λ v. length v.items ≡ count) }
+    ensures none { IfOk result (λ v. All (λ o. o ≡ None) v.items) }
+{
+    Ok(vec![in alloc; None; count]?)
+}
+
 /// On which side of the flagged edges each face is, where they are the boundary of a set of faces: whether it is in the
 /// set without face 0. Each face is climbed over twice at most.
 pub(crate) fn all_sides(
@@ -109,7 +117,7 @@ pub(crate) fn all_sides(
     ensures count { IfOk result (λ v. length v.items ≡ face_count mesh.now) }
     ensures sides { IfOk result (λ v. (set : ℕ → Bool) → IsParted mesh.now cotree.now flags.now set → AreAllSidesOf set v.items) }
 {
-    let mut sides = vec![in alloc; None; mesh.faces() as usize]?;
+    let mut sides = no_sides(alloc, mesh.faces() as usize)?;
     note_all(mesh, cotree, flags, &mut sides);
     Ok(sides)
 }
