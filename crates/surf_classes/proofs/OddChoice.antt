@@ -69,7 +69,7 @@ odd_choice_is_right mesh d surface split chain pairs h =
 
 -- ---- lists of edges by their numbers
 
-numbers_rise : (mesh : Mesh) (es : List ℕ) → Climbing es → AllByRecursion (λ e. e < edge_count mesh) es →
+pub numbers_rise : (mesh : Mesh) (es : List ℕ) → Climbing es → AllByRecursion (λ e. e < edge_count mesh) es →
     Rising (map (ends mesh) es)
 numbers_rise mesh [] h in' = tt
 numbers_rise mesh (e ∷ es) h in' = (later es h.0 in'.1, numbers_rise mesh es h.1 in'.1)

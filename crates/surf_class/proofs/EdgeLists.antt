@@ -1,0 +1,28 @@
+-- The ends of chosen edges, in order.
+use Rattle.std.proofs.Common.{◌≡◌, ℕ, suc, ◌<◌, ◌≤◌, true, Bool, List, [], ◌∷◌, map, filter, get_or, length, AllPairs, All, arith}
+use Rattle.std.specs.List.{range_with_len, AllByRecursion}
+use Rattle.std.proofs.lemmas.List.Elements.{All-from_recursion}
+use Rattle.surf_complex.specs.Mesh.{Mesh, pair_lt}
+use Rattle.surf_complex.specs.Surface.{edge_count, ends, IsSurface}
+use Rattle.surf_complex.proofs.EdgeLaws.{rising_at}
+use Rattle.surf_complex.proofs.LawProofs.{edges_are_ordered}
+use Rattle.surf_classes.proofs.Listed.{passing_climb, passing_below}
+use Rattle.surf_classes.proofs.OddChoice.{numbers_rise}
+
+pub edges_rise : (mesh : Mesh) (pass : ℕ → Bool) (n : ℕ) → n ≤ edge_count mesh →
+    AllPairs (λ a b. pair_lt a b ≡ true) (map (ends mesh) (filter pass (range_with_len 0 n)))
+edges_rise mesh pass n few =
+    rising_at _ (numbers_rise mesh (filter pass (range_with_len 0 n)) (passing_climb pass 0 n)
+    (passing_below pass 0 n (edge_count mesh) (omega (arith, few))))
+
+ordered : (mesh : Mesh) → IsSurface mesh → (es : List ℕ) → AllByRecursion (λ e. e < edge_count mesh) es →
+    AllByRecursion (λ a. a.0 < a.1) (map (ends mesh) es)
+ordered mesh surface [] inside = tt
+ordered mesh surface (e ∷ es) inside =
+    ((edges_are_ordered mesh surface.is_mesh e (0, 0) inside.0).0, ordered mesh surface es inside.1)
+
+pub edges_ordered : (mesh : Mesh) → IsSurface mesh → (pass : ℕ → Bool) (n : ℕ) → n ≤ edge_count mesh →
+    All (λ a. a.0 < a.1) (map (ends mesh) (filter pass (range_with_len 0 n)))
+edges_ordered mesh surface pass n few =
+    All-from_recursion (λ a. a.0 < a.1) _
+    (ordered mesh surface (filter pass (range_with_len 0 n)) (passing_below pass 0 n (edge_count mesh) (omega (arith, few))))

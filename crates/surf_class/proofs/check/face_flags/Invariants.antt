@@ -1,0 +1,9 @@
+use Rattle.std.proofs.Common.{take}
+use Rattle.surf_complex.specs.Surface.{face_count}
+use Rattle.surf_certcheck.specs.Split.{AreFlags}
+use Rattle.surf_classes.specs.Evidence.{is_listed}
+use Rattle.surf_class.proofs.check.face_flags.Given as goal
+
+-- the faces before
+abbrev pub invariant-loop-i : goal.invariant-loop-i
+invariant-loop-i l = AreFlags (face_count l.mesh) (is_listed (take l.i l.faces)) l.flags.items

@@ -1,0 +1,7 @@
+use Rattle.surf_certcheck.specs.First.{HoldsBelow}
+use Rattle.surf_class.specs.Agreement.{AgreesAt}
+use Rattle.surf_class.proofs.check.first_differing.Given as goal
+
+-- the edges before agree
+abbrev pub invariant-loop-e : goal.invariant-loop-e
+invariant-loop-e l = HoldsBelow l.e (AgreesAt l.mesh l.faces l.flags)

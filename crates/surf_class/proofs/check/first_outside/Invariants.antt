@@ -1,0 +1,7 @@
+use Rattle.std.proofs.Common.{◌<◌, ℕ, get_or}
+use Rattle.surf_complex.specs.Surface.{face_count}
+use Rattle.surf_class.proofs.check.first_outside.Given as goal
+
+-- the faces before are ones of the mesh
+abbrev pub invariant-loop-face : goal.invariant-loop-face
+invariant-loop-face l = (k : ℕ) → k < l.face-index → get_or l.faces k 0 < face_count l.mesh

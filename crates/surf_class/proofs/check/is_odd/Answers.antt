@@ -1,0 +1,28 @@
+use Rattle.std.proofs.Common.{◌≡◌, ◌<◌, ℕ, Bool, not, get_or, false, subst, sym, ap, ◌∙◌, Contains, take}
+use Rattle.std.proofs.lemmas.List.{get_or_default}
+use Rattle.surf_z2.specs.Parity.{xor}
+use Rattle.surf_complex.specs.Mesh.{edges}
+use Rattle.surf_complex.specs.Walk.{edge_number}
+use Rattle.surf_certcheck.specs.Split.{is_flagged}
+use Rattle.surf_classes.specs.Evidence.{is_odd_in}
+use Rattle.surf_class.proofs.StepEdges.{odd_next, differ_is}
+use Rattle.surf_class.proofs.check.is_odd.Goals as goal
+
+pub pair_edge-requires-clause-edge : goal.pair_edge-requires-clause-edge
+pair_edge-requires-clause-edge c =
+    subst (λ (p : ℕ × ℕ). Contains (edges c.args.mesh.now) p) (sym c.index-pairs-i.is)
+    (c.requires.edges c.loop-i.i c.index-pairs-i.result c.loop-i-test.true)
+
+pub loop-i-preserved : goal.loop-i-preserved
+loop-i-preserved c =
+    let mesh = c.args.mesh.now in
+    let ps = c.args.pairs.now in
+    let i = c.loop-i.i in
+    let flags = c.args.flags.now in
+    let edge : c.index.result ≡ edge_number mesh (get_or ps i (0, 0)) =
+    c.index.ensures ∙ c.pair_edge.ensures.edge
+    ∙ ap (edge_number mesh) (c.index-pairs-i.is ∙ get_or_default ps i c.index-pairs-i.result (0, 0) c.loop-i-test.true) in
+    differ_is c.loop-i.odd (get_or flags c.index.result false)
+    ∙ ap (λ b. xor b (get_or flags c.index.result false)) c.loop-i.invariant
+    ∙ ap (λ e. xor (is_odd_in mesh (is_flagged flags) (take i ps)) (get_or flags e false)) edge
+    ∙ sym (odd_next (λ p. is_flagged flags (edge_number mesh p)) ps i (0, 0) c.loop-i-test.true)

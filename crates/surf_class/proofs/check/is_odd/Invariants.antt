@@ -1,0 +1,8 @@
+use Rattle.std.proofs.Common.{◌≡◌, take}
+use Rattle.surf_certcheck.specs.Split.{is_flagged}
+use Rattle.surf_classes.specs.Evidence.{is_odd_in}
+use Rattle.surf_class.proofs.check.is_odd.Given as goal
+
+-- the pairs before
+abbrev pub invariant-loop-i : goal.invariant-loop-i
+invariant-loop-i l = l.odd ≡ is_odd_in l.mesh (is_flagged l.flags) (take l.i l.pairs)

@@ -1,0 +1,40 @@
+use Rattle.std.proofs.Common.{◌≡◌, ◌<◌, ◌≤◌, ◌+◌, ℕ, length, get_or, false, map, take, ap, sym, ◌∙◌, arith, subst, Contains}
+use Rattle.std.proofs.lemmas.List.{get_or_default}
+use Rattle.surf_z2.specs.Parity.{xor, odd}
+use Rattle.surf_complex.specs.Mesh.{edges}
+use Rattle.surf_complex.specs.Surface.{borders}
+use Rattle.surf_complex.specs.Walk.{edge_number}
+use Rattle.surf_certcheck.proofs.Steps.{take_whole}
+use Rattle.surf_class.proofs.StepEdges.{odd_next, xor_chain}
+use Rattle.surf_class.proofs.check.turn_pairs.Goals as goal
+
+pub pair_edge-requires-clause-edge : goal.pair_edge-requires-clause-edge
+pair_edge-requires-clause-edge c =
+    subst (λ (p : ℕ × ℕ). Contains (edges c.args.mesh.now) p) (sym c.index-pairs-i.is)
+    (c.requires.edges c.loop-i.i c.index-pairs-i.result c.loop-i-test.true)
+
+pub loop-i-preserved : goal.loop-i-preserved
+loop-i-preserved c =
+    let mesh = c.args.mesh.now in
+    let ps = c.args.pairs.now in
+    let i = c.loop-i.i in
+    let edge : c.pair_edge.result ≡ edge_number mesh (get_or ps i (0, 0)) =
+    c.pair_edge.ensures.edge ∙ ap (edge_number mesh) (c.index-pairs-i.is ∙ get_or_default ps i c.index-pairs-i.result (0, 0) c.loop-i-test.true) in
+    record {
+      count = omega (arith, c.loop-i.invariant.count);
+      turned = λ f l.
+          c.turn_faces.ensures.turned f l
+          ∙ ap (λ e. xor (get_or c.loop-i.flags f false) (borders mesh f e)) edge
+          ∙ xor_chain _ _ _ _ (c.loop-i.invariant.turned f l)
+          ∙ ap (xor (get_or c.args.flags.now f false)) (sym (odd_next (λ p. borders mesh f (edge_number mesh p)) ps i (0, 0) c.loop-i-test.true));
+    }
+
+pub returns : goal.returns
+returns c =
+    let mesh = c.args.mesh.now in
+    let end : c.loop-i.i ≡ length c.args.pairs.now = omega (arith, c.loop-i-test.false, c.loop-i.auto.i-end) in
+    record {
+      turned = λ f l. c.loop-i.invariant.turned f l
+          ∙ ap (λ xs. xor (get_or c.args.flags.now f false) (odd (map (λ p. borders mesh f (edge_number mesh p)) xs)))
+          (take_whole c.args.pairs.now c.loop-i.i end);
+    }

@@ -1,0 +1,14 @@
+use Rattle.std.proofs.Common.{◌≡◌, ◌<◌, ℕ, false, map, take, length, get_or}
+use Rattle.surf_z2.specs.Parity.{xor, odd}
+use Rattle.surf_complex.specs.Walk.{edge_number}
+use Rattle.surf_complex.specs.Surface.{face_count, borders}
+use Rattle.surf_class.proofs.check.turn_pairs.Given as goal
+
+-- the pairs before
+abbrev pub invariant-loop-i : goal.invariant-loop-i
+invariant-loop-i l = record {
+  count : length l.flags ≡ face_count l.mesh;
+  turned : (f : ℕ) → f < face_count l.mesh →
+      get_or l.flags f false
+      ≡ xor (get_or l.fn.flags f false) (odd (map (λ p. borders l.mesh f (edge_number l.mesh p)) (take l.i l.pairs)));
+}

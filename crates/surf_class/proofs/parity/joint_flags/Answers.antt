@@ -1,0 +1,10 @@
+use Rattle.std.proofs.Common.{sym, subst, List, ℕ}
+use Rattle.std.specs.Option.{option_copied}
+use Rattle.surf_complex.specs.Walk.{IsClosed}
+use Rattle.surf_class.proofs.Joint.{first_closed}
+use Rattle.surf_class.proofs.parity.joint_flags.Goals as goal
+
+pub turn_steps-requires-clause-closed : goal.turn_steps-requires-clause-closed
+turn_steps-requires-clause-closed c =
+    subst (λ (w : List ℕ). IsClosed c.args.mesh.now w) (sym c.vertices.ensures)
+    (first_closed c.args.mesh.now c.args.first.now (option_copied c.args.second) c.requires.closed)

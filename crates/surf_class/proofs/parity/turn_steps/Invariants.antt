@@ -1,0 +1,13 @@
+use Rattle.std.proofs.Common.{◌≡◌, ◌<◌, ℕ, false, map, take, length, get_or}
+use Rattle.surf_z2.specs.Parity.{xor, odd}
+use Rattle.surf_complex.specs.Mesh.{steps, pair_eq, pair_of}
+use Rattle.surf_complex.specs.Surface.{edge_count, ends}
+use Rattle.surf_class.proofs.parity.turn_steps.Given as goal
+
+-- the steps before
+abbrev pub invariant-loop-i : goal.invariant-loop-i
+invariant-loop-i l = record {
+  count : length l.flags ≡ edge_count l.mesh;
+  turned : (e : ℕ) → e < edge_count l.mesh →
+      get_or l.flags e false ≡ xor (get_or l.fn.flags e false) (odd (map (λ s. pair_eq (ends l.mesh e) (pair_of s)) (take l.i (steps l.walk))));
+}

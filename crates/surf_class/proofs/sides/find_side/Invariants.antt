@@ -1,0 +1,15 @@
+use Rattle.std.proofs.Common.{◌≡◌, ◌<◌, ℕ, Bool, get_or}
+use Rattle.surf_z2.specs.Parity.{xor}
+use Rattle.surf_complex.specs.Surface.{face_count}
+use Rattle.surf_class.specs.Sides.{IsParted}
+use Rattle.surf_class.proofs.sides.find_side.Given as goal
+
+-- the side so far, with that of the face to which the climb has come
+abbrev pub invariant-loop-known : goal.invariant-loop-known
+invariant-loop-known l = record {
+  within : l.at < face_count l.mesh;
+  side : (set : ℕ → Bool) → IsParted l.mesh l.cotree l.flags set → xor l.side (set l.at) ≡ set l.fn.face;
+}
+
+abbrev pub decreases-loop-known : goal.decreases-loop-known
+decreases-loop-known l = get_or l.cotree.depths l.at 0

@@ -1,0 +1,8 @@
+use Rattle.std.proofs.Common.{take, Ok}
+use Rattle.surf_text.specs.Pages.{Puts}
+use Rattle.surf_cert.specs.Written.{numbers_text}
+use Rattle.surf_class.specs.Texts.{both_ends}
+use Rattle.surf_class.proofs.write.write_pairs.Given as goal
+
+abbrev pub invariant-loop-pair : goal.invariant-loop-pair
+invariant-loop-pair l = Puts {A = Unit {0}} l.fn.page l.page (numbers_text (both_ends (take l.pair-index l.pairs))) (Ok tt)

@@ -1,0 +1,23 @@
+-- A desk that has grown a tree of the faces and signed the edges by it.
+use Rattle.std.specs.Prelude.{◌≡◌, ◌≤◌, None, length, map}
+use Rattle.std.specs.List.{range_with_len}
+use Rattle.surf_homology.specs.Cells.{IsSplit}
+use Rattle.surf_homology.specs.Trees.{Tree}
+use Rattle.surf_complex.specs.Mesh.{Mesh}
+use Rattle.surf_complex.specs.Surface.{edge_count}
+use Rattle.surf_complex.specs.Cells.{cells_of}
+use Rattle.surf_complex.specs.Signature.{edge_signature}
+use Rattle.surf_cotree.specs.Tables.{CotreeTables, IsMadeFor, parent_edge_of, split_with}
+
+-- The tables hold a tree of the faces, rooted at face 0, the edges that are neither in it nor in a tree of the
+-- vertices, at most 1,024, and the signatures of all edges by these.
+pub record IsSigned (mesh : Mesh) (tree : Tree) (t : CotreeTables) : Type 0 where
+  pub made : IsMadeFor mesh t
+  pub root : parent_edge_of t 0 ≡ None
+  pub split : IsSplit (cells_of mesh) (split_with tree t)
+  pub few : length t.left ≤ 1024
+  pub signed : t.signatures ≡ map (edge_signature mesh (split_with tree t)) (range_with_len 0 (edge_count mesh))
+
+-- for some tree of the vertices
+abbrev pub IsSignedOn : Mesh → CotreeTables → Type 0
+IsSignedOn mesh t = (tree : Tree) × IsSigned mesh tree t

@@ -1,0 +1,11 @@
+pub mod Gives
+pub mod Numbers
+pub mod Walks
+pub mod Seen
+pub mod Evidences
+pub mod Reading
+pub mod Texts
+pub mod Desk
+pub mod Faults
+pub mod Sides
+pub mod Agreement

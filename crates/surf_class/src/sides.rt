@@ -1,0 +1,123 @@
+//! On which side of a boundary each face is.
+ghost use Rattle.std.specs.Prelude.{◌≡◌, ◌≢◌, ◌<◌, ℕ, Bool, All, None, IsSome, IfOk, IfSome, MatchOption, length, slice_index};
+ghost use Rattle.surf_complex.specs.Surface.{edge_count, face_count};
+ghost use Rattle.surf_class.specs.Desk.{IsSignedOn};
+ghost use Rattle.surf_class.specs.Sides.{IsParted, AreSidesOf, AreAllSidesOf, side_at};
+
+use crate::edges::faces_beside;
+use std::alloc::Global;
+use surf_base::{EdgeId, FaceId, NoMemory};
+use surf_cotree::CotreeDesk;
+use surf_mesh::HalfMesh;
+
+// The face that a face hangs on in the tree, and the edge between them. None for face 0.
+fn above(mesh: &HalfMesh, cotree: &CotreeDesk, face: FaceId) -> Option<(FaceId, EdgeId)>
+    requires signed { IsSignedOn mesh.now cotree.now }
+    requires face { face < face_count mesh.now }
+    ensures above { MatchOption result (face ≡ 0) (λ x. (face ≢ 0) × (x.0 ≡ slice_index cotree.now.parents face) × (x.1 ≡ slice_index cotree.now.ups face)) }
+    ensures inside { IfSome result (λ x. (x.0 < face_count mesh.now) × (x.1 < edge_count mesh.now) × (slice_index cotree.now.depths x.0 < slice_index cotree.now.depths face)) }
+{
+    let _edges = mesh.edges();
+    let edge = cotree.parent_edge(face)?;
+    let (near, far) = faces_beside(mesh, edge);
+    let other = if near == face { far } else { near };
+    Some((other, edge))
+}
+
+// The side of a face, by the first face on its way to face 0 whose side is known.
+fn find_side(
+    mesh: &HalfMesh,
+    cotree: &CotreeDesk,
+    flags: &[bool],
+    sides: &[Option<bool>],
+    face: FaceId,
+) -> bool
+    requires signed { IsSignedOn mesh.now cotree.now }
+    requires flags { length flags.now ≡ edge_count mesh.now }
+    requires sides { length sides.now ≡ face_count mesh.now }
+    requires face { face < face_count mesh.now }
+    ensures side { (set : ℕ → Bool) → IsParted mesh.now cotree.now flags.now set → AreSidesOf set sides.now → result ≡ set face }
+{
+    let mut at = face;
+    let mut side = false;
+    loop {
+        if let Some(known) = sides[at.index()] {
+            return side != known;
+        }
+        let Some((parent, edge)) = above(mesh, cotree, at) else {
+            return side;
+        };
+        side = side != flags[edge.index()];
+        at = parent;
+    }
+}
+
+// Notes the side of a face, and those of the faces on its way to face 0 up to the first that is known.
+fn note_sides(
+    mesh: &HalfMesh,
+    cotree: &CotreeDesk,
+    flags: &[bool],
+    sides: &mut [Option<bool>],
+    face: FaceId,
+    side: bool,
+)
+    requires signed { IsSignedOn mesh.now cotree.now }
+    requires flags { length flags.now ≡ edge_count mesh.now }
+    requires sides { length sides.old ≡ face_count mesh.now }
+    requires face { face < face_count mesh.now }
+    ensures right { (set : ℕ → Bool) → IsParted mesh.now cotree.now flags.now set → side ≡ set face → AreSidesOf set sides.old → AreSidesOf set sides.new }
+    ensures known { IsSome (side_at sides.new face) }
+    ensures kept { (f : ℕ) → IsSome (side_at sides.old f) → IsSome (side_at sides.new f) }
+{
+    let mut at = face;
+    let mut side = side;
+    while sides[at.index()].is_none() {
+        sides[at.index()] = Some(side);
+        let Some((parent, edge)) = above(mesh, cotree, at) else {
+            return;
+        };
+        side = side != flags[edge.index()];
+        at = parent;
+    }
+}
+
+// Notes the sides of all faces.
+fn note_all(mesh: &HalfMesh, cotree: &CotreeDesk, flags: &[bool], sides: &mut [Option<bool>])
+    requires signed { IsSignedOn mesh.now cotree.now }
+    requires flags { length flags.now ≡ edge_count mesh.now }
+    requires sides { length sides.old ≡ face_count mesh.now }
+    ensures right { (set : ℕ → Bool) → IsParted mesh.now cotree.now flags.now set → AreSidesOf set sides.old → AreSidesOf set sides.new }
+    ensures known { (f : ℕ) → f < face_count mesh.now → IsSome (side_at sides.new f) }
+{
+    for f in 0..mesh.faces() {
+        let face = FaceId::new(f);
+        let side = find_side(mesh, cotree, flags, sides, face);
+        note_sides(mesh, cotree, flags, sides, face, side);
+    }
+}
+
+// Nothing is known of so many faces.
+fn no_sides(alloc: Global, count: usize) -> Result<Vec<Option<bool>>, NoMemory>
+    ensures count { IfOk result (λ v. length v.items ≡ count) }
+    ensures none { IfOk result (λ v. All (λ o. o ≡ None) v.items) }
+{
+    Ok(vec![in alloc; None; count]?)
+}
+
+/// On which side of the flagged edges each face is, where they are the boundary of a set of faces: whether it is in the
+/// set without face 0. Each face is climbed over twice at most.
+pub(crate) fn all_sides(
+    alloc: Global,
+    mesh: &HalfMesh,
+    cotree: &CotreeDesk,
+    flags: &[bool],
+) -> Result<Vec<Option<bool>>, NoMemory>
+    requires signed { IsSignedOn mesh.now cotree.now }
+    requires flags { length flags.now ≡ edge_count mesh.now }
+    ensures count { IfOk result (λ v. length v.items ≡ face_count mesh.now) }
+    ensures sides { IfOk result (λ v. (set : ℕ → Bool) → IsParted mesh.now cotree.now flags.now set → AreAllSidesOf set v.items) }
+{
+    let mut sides = no_sides(alloc, mesh.faces() as usize)?;
+    note_all(mesh, cotree, flags, &mut sides);
+    Ok(sides)
+}
