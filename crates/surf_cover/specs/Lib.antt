@@ -1,0 +1,4 @@
+pub mod Tables
+pub mod Networks
+pub mod Grown
+pub mod Starts
