@@ -3,7 +3,7 @@ use Rattle.std.specs.Prelude.{◌≡◌, ℕ, ◌+◌, ◌*◌, ◌/◌, ◌%◌
 use Rattle.surf_homology.specs.Cells.{Split, IsSplit}
 use Rattle.surf_homology.specs.Graphs.{Graph}
 use Rattle.surf_complex.specs.Mesh.{Mesh}
-use Rattle.surf_complex.specs.Surface.{edge_count, ends}
+use Rattle.surf_complex.specs.Surface.{edge_count, ends, IsSurface}
 use Rattle.surf_complex.specs.Walk.{edge_length}
 use Rattle.surf_complex.specs.Cells.{cells_of}
 use Rattle.surf_complex.specs.Signature.{edge_signature}
@@ -42,9 +42,10 @@ pub record IsSignedBy (mesh : Mesh) (d : Split) (sets : ℕ) (signs : List ℕ) 
   pub count : length signs ≡ edge_count mesh
   pub signs_are : (e : ℕ) → e < edge_count mesh → slice_index signs e ≡ edge_signature mesh d e
 
--- there is such a split, with few vertices with sets
+-- the mesh is a surface, and there is such a split, with few vertices with sets
 pub record IsCoverable (mesh : Mesh) (lengths : List ℕ) (sets : ℕ) (signs : List ℕ) : Type 0 where
+  pub surface : IsSurface mesh
   pub split : Split
   pub signed : IsSignedBy mesh split sets signs
-  pub lengths : length lengths ≡ edge_count mesh
+  pub measured : length lengths ≡ edge_count mesh
   pub few : mesh.vertices * sets ≤ 65536
