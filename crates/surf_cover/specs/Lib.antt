@@ -1,4 +1,4 @@
-pub mod Tables
 pub mod Networks
+pub mod Tables
 pub mod Grown
 pub mod Starts

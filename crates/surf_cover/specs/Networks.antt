@@ -1,5 +1,5 @@
 -- The cover as a search sees it: by a table that has the signatures of the edges.
-use Rattle.std.specs.Prelude.{◌≡◌, ℕ, ◌+◌, ◌*◌, ◌/◌, ◌%◌, ◌<◌, ◌≤◌, ◌==◌, List, length, slice_index, bit_xor, if◌then◌else◌}
+use Rattle.std.specs.Prelude.{◌≡◌, ℕ, ◌+◌, ◌*◌, ◌/◌, ◌%◌, ◌<◌, ◌≤◌, ◌==◌, List, ◌∷◌, length, slice_index, bit_xor, if◌then◌else◌}
 use Rattle.surf_homology.specs.Cells.{Split, IsSplit}
 use Rattle.surf_homology.specs.Graphs.{Graph}
 use Rattle.surf_complex.specs.Mesh.{Mesh}
@@ -7,6 +7,7 @@ use Rattle.surf_complex.specs.Surface.{edge_count, ends, IsSurface}
 use Rattle.surf_complex.specs.Walk.{edge_length}
 use Rattle.surf_complex.specs.Cells.{cells_of}
 use Rattle.surf_complex.specs.Signature.{edge_signature}
+use Rattle.surf_classes.specs.Cover.{IsCertified, IsReadBack}
 use Rattle.surf_classes.specs.CoverGraph.{set_count}
 use Rattle.surf_net.specs.Rows.{other_of}
 
@@ -41,6 +42,23 @@ pub record IsSignedBy (mesh : Mesh) (d : Split) (sets : ℕ) (signs : List ℕ) 
   pub sets_are : sets ≡ set_count d
   pub count : length signs ≡ edge_count mesh
   pub signs_are : (e : ℕ) → e < edge_count mesh → slice_index signs e ≡ edge_signature mesh d e
+
+-- the distances of vertices with sets, as a table has them one after the other
+abbrev pub table_of : ℕ → List ℕ → ℕ → ℕ → ℕ
+table_of sets distances v set = slice_index distances (node_of sets v set)
+
+-- distances from a base are certified by the signatures of a table
+pub record IsCertifiedBy (mesh : Mesh) (lengths : List ℕ) (d : Split) (sets : ℕ) (signs distances : List ℕ)
+    (base : ℕ) : Type 0 where
+  pub signed : IsSignedBy mesh d sets signs
+  pub certified : IsCertified mesh lengths d base (table_of sets distances)
+
+-- what is read back off such distances, from the base with a set: the base, and the vertices before it, last first
+abbrev pub IsReadOff : Mesh → List ℕ → ℕ → List ℕ → List ℕ → ℕ → ℕ → List ℕ → Type 0
+IsReadOff mesh lengths sets signs distances base set list =
+    (d : Split) → IsCertifiedBy mesh lengths d sets signs distances base →
+    (before : List ℕ) × (list ≡ base ∷ before)
+    × IsReadBack mesh lengths d base (table_of sets distances) base set before
 
 -- the mesh is a surface, and there is such a split, with few vertices with sets
 pub record IsCoverable (mesh : Mesh) (lengths : List ℕ) (sets : ℕ) (signs : List ℕ) : Type 0 where

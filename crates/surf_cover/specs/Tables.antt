@@ -1,8 +1,9 @@
 -- What a cover desk shows: for each vertex with each set of left edges a distance.
-use Rattle.std.specs.Prelude.{◌≡◌, ℕ, ◌+◌, ◌*◌, ◌^◌, ◌≤◌, List, length, slice_index}
+use Rattle.std.specs.Prelude.{◌≡◌, ℕ, ◌*◌, ◌^◌, ◌≤◌, List, length}
 use Rattle.surf_complex.specs.Mesh.{Mesh}
 use Rattle.surf_complex.specs.Surface.{edge_count}
 use Rattle.surf_cotree.specs.Tables.{loop_count}
+use Rattle.surf_cover.specs.Networks.{table_of}
 
 -- how many vertices and how many sets there are, for each edge its signature, and for each vertex the distances with
 -- all sets, one after the other
@@ -14,7 +15,7 @@ pub record CoverTables : Type 0 where
 
 -- the distance of a vertex with a set
 abbrev pub distance_at : CoverTables → ℕ → ℕ → ℕ
-distance_at t v set = slice_index t.distances (v * t.sets + set)
+distance_at t = table_of t.sets t.distances
 
 -- how many sets of left edges there are: a power of two
 abbrev pub sets_of : Mesh → ℕ
