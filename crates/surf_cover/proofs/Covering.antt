@@ -117,7 +117,7 @@ module _ (mesh : Mesh) (d : Split) (sets : ℕ) (signs : List ℕ) (signed : IsS
     | inr past ↦ get_or_past signs e 0 (omega (arith, past, signed.count)) ∙ sym (sign_past mesh d signed.split e past)
   ]
 
-  same_sign : ◌≡◌ {A = ℕ → ℕ} (slice_index signs) (edge_signature mesh d)
+  pub same_sign : ◌≡◌ {A = ℕ → ℕ} (slice_index signs) (edge_signature mesh d)
   same_sign = λ i e. sign_at e i
 
   pub is_set : (set : ℕ) → set < sets → IsSet d set

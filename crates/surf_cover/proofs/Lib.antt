@@ -1,3 +1,4 @@
 pub mod Covering
 pub mod Signed
 pub mod Grown
+pub mod Stepping

@@ -19,6 +19,7 @@
 mod choice;
 mod desk;
 mod network;
+mod reading;
 mod signs;
 
 pub use choice::{ClassWalk, least_in_class};
