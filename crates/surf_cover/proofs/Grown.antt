@@ -61,7 +61,7 @@ module _ (mesh : Mesh) (t : CotreeTables) (signed : IsSigned mesh t) (sets : ℕ
         IsGrown mesh lengths t x (record { vertices = vertices; sets = sets; signs = signs; distances = distances })
     grown surface few lengths measured are x x_in vertices same distances settled = record {
       made = record { vertices = same; sets = as_many; signs = count };
-      fits = λ n l.
+      short = λ n l.
           let few_nodes : n < mesh.vertices * sets = subst (λ v. n < v * sets) same l in
           let bound : slice_index distances n + longest ≤ mesh.vertices * sets * longest = settled.fits n few_nodes in
           omega (arith, bound, few);

@@ -2,3 +2,4 @@ pub mod Covering
 pub mod Signed
 pub mod Grown
 pub mod Stepping
+pub mod Starts

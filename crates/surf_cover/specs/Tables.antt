@@ -1,5 +1,5 @@
 -- What a cover desk shows: for each vertex with each set of left edges a distance.
-use Rattle.std.specs.Prelude.{◌≡◌, ℕ, ◌*◌, ◌^◌, ◌≤◌, List, length}
+use Rattle.std.specs.Prelude.{◌≡◌, ℕ, ◌*◌, ◌^◌, ◌<◌, ◌≤◌, List, length, slice_index}
 use Rattle.surf_complex.specs.Mesh.{Mesh}
 use Rattle.surf_complex.specs.Surface.{edge_count}
 use Rattle.surf_cotree.specs.Tables.{loop_count}
@@ -31,3 +31,7 @@ pub record IsMadeFor (mesh : Mesh) (t : CoverTables) : Type 0 where
   pub vertices : t.vertices ≡ mesh.vertices
   pub sets : t.sets ≡ sets_of mesh
   pub signs : length t.signs ≡ edge_count mesh
+
+-- all distances are far below the greatest number of a table
+abbrev pub AreShort : CoverTables → Type 0
+AreShort t = (n : ℕ) → n < t.vertices * t.sets → slice_index t.distances n < 2 ^ 62

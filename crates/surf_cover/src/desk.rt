@@ -1,15 +1,13 @@
 //! The distances over the cover from one base.
-ghost use Rattle.std.specs.Prelude.{◌≡◌, ◌<◌, ◌+◌, ℕ, List, length, drop, IfOk, OnOk};
-ghost use Rattle.surf_homology.specs.Cells.{Split, IsSplit};
-ghost use Rattle.surf_homology.specs.Trees.{Tree};
-ghost use Rattle.surf_complex.specs.Cells.{cells_of};
+ghost use Rattle.std.specs.Prelude.{◌≡◌, ◌<◌, length, IfOk};
+ghost use Rattle.surf_homology.specs.Cells.{Split};
 ghost use Rattle.surf_complex.specs.Surface.{edge_count};
-ghost use Rattle.surf_classes.specs.Cover.{IsReadBack};
-ghost use Rattle.surf_cotree.specs.Tables.{CotreeTables, split_with};
-ghost use Rattle.surf_cover.specs.Tables.{CoverTables, IsSmall, IsMadeFor, distance_at};
+ghost use Rattle.surf_cover.specs.Networks.{IsCertifiedBy, IsReadOff};
+ghost use Rattle.surf_cover.specs.Tables.{IsSmall, IsMadeFor, AreShort, distance_at};
 ghost use Rattle.surf_cover.specs.Grown.{IsSigned, IsGrown};
 
 use crate::network::CoverNetwork;
+use crate::reading::read_off;
 use crate::signs::{copy_signs, count_sets};
 use std::alloc::Global;
 use std::marker::Model;
@@ -105,5 +103,36 @@ impl CoverDesk {
         ensures distance { result ≡ distance_at self.now v set }
     {
         self.distance[(v.number() * self.sets + set) as usize]
+    }
+
+    /// The base, and the vertices of a shortest round with a set from there, last first, as they are read off the
+    /// distances.
+    pub(crate) fn round(
+        &self,
+        alloc: Global,
+        mesh: &HalfMesh,
+        lengths: &Lengths,
+        base: VertexId,
+        set: u32,
+    ) -> Result<Vec<VertexId>, NoMemory>
+        requires made { IsMadeFor mesh.now self.now }
+        requires fits { AreShort self.now }
+        requires certified { (d : Split) × IsCertifiedBy mesh.now lengths.now d self.now.sets self.now.signs self.now.distances base }
+        requires base { base < mesh.now.vertices }
+        requires set { set < self.now.sets }
+        requires lengths { length lengths.now ≡ edge_count mesh.now }
+        ensures read { IfOk result (λ list. IsReadOff mesh.now lengths.now self.now.sets self.now.signs self.now.distances base set list.items) }
+    {
+        let _surface = mesh.faces();
+        let _lengths = lengths.count();
+        let network = CoverNetwork {
+            mesh,
+            lengths,
+            signs: &self.signs,
+            sets: self.sets,
+        };
+        let mut list = Vec::new(alloc);
+        read_off(&network, &self.distance, base, set, &mut list)?;
+        Ok(list)
     }
 }

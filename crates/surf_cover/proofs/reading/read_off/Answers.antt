@@ -57,9 +57,10 @@ loop-node-preserved c =
           let table = table_of n.sets c.args.distance.now in
           let back = (step d by).0 in
           let (before, items, read) = c.loop-node.invariant.read d by in
+          let more : c.push-in-loop-node.new.self.items ≡ c.loop-node.list.items ++ c.new.result ∷ [] = c.in_ok-push-2.ensures.items in
           let on = (tables_read_on n.mesh.now n.lengths.now d table).goes_on c.args.base c.args.set before (node / n.sets) (node % n.sets) (u / n.sets) read back.least in (
             before ++ (u / n.sets) ∷ [],
-            c.in_ok-push-2.ensures.items ∙ ap (λ (xs : List ℕ). xs ++ c.new.result ∷ []) items ∙ ap (λ k. c.args.base ∷ (before ++ k ∷ [])) w,
+            more ∙ ap (λ (xs : List ℕ). xs ++ c.new.result ∷ []) items ∙ ap (λ k. c.args.base ∷ (before ++ k ∷ [])) w,
             subst (λ k. IsReadTo n.mesh.now n.lengths.now d table c.args.base c.args.set (before ++ (u / n.sets) ∷ []) (u / n.sets) k) (sym back.rest) on,
           );
     }
