@@ -1,19 +1,16 @@
 -- The cover by a table of signatures is the cover.
-use Rattle.std.proofs.Common.{◌≡◌, ◌≢◌, ℕ, ◌+◌, ◌*◌, ◌/◌, ◌%◌, ◌<◌, ◌≤◌, Bool, true, false, not, ◌&&◌, cond, eqb, List, length, map, slice_index, bit_xor, refl, sym, ap, ◌∙◌, subst, arith, inl, inr}
-use Rattle.std.proofs.lemmas.Bool.{cases_lt, cases_eq, cases_Bool, and_parts, eqb-true, eq-eqb, ne_eqb}
+use Rattle.std.proofs.Common.{◌≡◌, ◌≢◌, ℕ, ◌*◌, ◌/◌, ◌<◌, ◌≤◌, Bool, true, false, not, ◌&&◌, cond, eqb, List, length, map, slice_index, bit_xor, sym, ap, ◌∙◌, subst, arith, inl, inr}
+use Rattle.std.proofs.lemmas.Bool.{cases_lt, cases_Bool, and_parts, eqb-true, eq-eqb, ne_eqb}
 use Rattle.std.proofs.lemmas.List.{length-map, get_or-map, get_or_past}
 use Rattle.std.proofs.lemmas.Simd.{map-map}
-use Rattle.std.proofs.lemmas.Nat.{div_below, div-mul-add, div-add-mod', mod_below, row_fits}
-use Rattle.surf_z2.specs.Parity.{any_below}
+use Rattle.std.proofs.lemmas.Nat.{div_below, div-mul-add}
 use Rattle.surf_z2.proofs.ParityLaws.{any_below-found}
-use Rattle.surf_z2.specs.Below.{number_of}
 use Rattle.surf_z2.proofs.Below.{same_from, number_of-none}
 use Rattle.surf_homology.specs.Cells.{Split, IsSplit, primal, dual, signature, parts}
 use Rattle.surf_homology.specs.Graphs.{Graph, IsGraph, IsConnected, joins}
 use Rattle.surf_homology.specs.Trees.{Tree, IsTree, in_tree}
 use Rattle.surf_complex.specs.Mesh.{Mesh}
 use Rattle.surf_complex.specs.Surface.{edge_count, ends, IsSurface}
-use Rattle.surf_complex.specs.Walk.{edge_length}
 use Rattle.surf_complex.specs.Cells.{cells_of}
 use Rattle.surf_complex.specs.Signature.{edge_signature}
 use Rattle.surf_complex.proofs.CellLaws.{ends_below}
@@ -21,11 +18,11 @@ use Rattle.surf_classes.specs.Cover.{IsSet, IsCertified}
 use Rattle.surf_classes.specs.CoverGraph.{set_count, cover, cover_node, cover_edge, cover_length}
 use Rattle.surf_classes.proofs.Covers.{is_cover, searches_certify}
 use Rattle.surf_classes.proofs.SignedSteps.{edge_set, xor_set, none_set}
-use Rattle.surf_lengths.specs.Lengths.{longest, AreLengths}
+use Rattle.surf_lengths.specs.Lengths.{AreLengths}
 use Rattle.surf_net.specs.Rows.{link_at, IsRow, other_of, edge_link}
 use Rattle.surf_tree.specs.Searches.{IsSettled, IsSearchable}
 use Rattle.surf_tree.proofs.LengthLaws.{short_lengths}
-use Rattle.surf_cover.specs.Networks.{node_of, cover_by, length_by, link_by, IsSignedBy, IsCoverable}
+use Rattle.surf_cover.specs.Networks.{node_of, cover_by, length_by, link_by, IsSignedBy}
 
 -- a tree has no edge past those of the graph
 tree_past : (g : Graph) (t : Tree) → IsTree g t → (e : ℕ) → g.edges ≤ e → in_tree g t e ≡ false

@@ -1,5 +1,5 @@
 -- What is found over the cover by the signatures of a signed tree of faces.
-use Rattle.std.proofs.Common.{◌≡◌, ℕ, ◌+◌, ◌*◌, ◌<◌, ◌≤◌, List, length, slice_index, sym, ap, ◌∙◌, subst, arith}
+use Rattle.std.proofs.Common.{◌≡◌, ℕ, ◌+◌, ◌*◌, ◌<◌, ◌≤◌, List, length, slice_index, ◌∙◌, subst, arith}
 use Rattle.std.proofs.lemmas.Nat.{row_fits}
 use Rattle.surf_homology.specs.Cells.{IsSplit}
 use Rattle.surf_homology.specs.Trees.{Tree}
@@ -12,7 +12,7 @@ use Rattle.surf_classes.proofs.Tables.{certified_tables_are_distances}
 use Rattle.surf_cotree.specs.Tables.{CotreeTables, split_with}
 use Rattle.surf_lengths.specs.Lengths.{longest, AreLengths}
 use Rattle.surf_tree.specs.Searches.{IsSettled}
-use Rattle.surf_cover.specs.Tables.{CoverTables, IsMadeFor, sets_of}
+use Rattle.surf_cover.specs.Tables.{sets_of}
 use Rattle.surf_cover.specs.Networks.{node_of, cover_by, length_by, IsSignedBy, IsCoverable}
 use Rattle.surf_cover.specs.Grown.{IsSigned, IsGrown}
 use Rattle.surf_cover.proofs.Signed.{sets_are, sign_is}

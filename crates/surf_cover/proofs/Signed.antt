@@ -1,6 +1,5 @@
 -- What a signed tree of faces has, and the steps of a walk from a place on.
-use Rattle.std.proofs.Common.{◌≡◌, ℕ, suc, ◌+◌, ◌*◌, ◌-◌, ◌^◌, ◌<◌, ◌≤◌, List, [], ◌∷◌, length, get_or, slice_index, map, drop, All, sym, ap, ◌∙◌, subst, arith}
-use Rattle.std.specs.List.{range_with_len}
+use Rattle.std.proofs.Common.{◌≡◌, ℕ, suc, ◌+◌, ◌^◌, ◌<◌, ◌≤◌, List, ◌∷◌, length, get_or, slice_index, drop, All, sym, ap, ◌∙◌, arith}
 use Rattle.std.proofs.Math.Nat.{pow-le-pow_right}
 use Rattle.std.proofs.Math.Seq.{drop-cons}
 use Rattle.std.proofs.lemmas.List.FromFn.{get_or-map-range_with_len, length-map-range_with_len}
@@ -8,14 +7,13 @@ use Rattle.surf_homology.specs.Cells.{IsSplit}
 use Rattle.surf_homology.specs.Trees.{Tree}
 use Rattle.surf_homology.proofs.Counting.{left_edges}
 use Rattle.surf_complex.specs.Mesh.{Mesh, steps}
-use Rattle.surf_complex.specs.Surface.{edge_count, face_count, IsSurface}
+use Rattle.surf_complex.specs.Surface.{edge_count, face_count}
 use Rattle.surf_complex.specs.Cells.{cells_of}
 use Rattle.surf_complex.specs.Signature.{edge_signature}
 use Rattle.surf_classes.specs.CoverGraph.{set_count}
 use Rattle.surf_classes.proofs.SignedSteps.{edge_set}
 use Rattle.surf_cotree.specs.Tables.{CotreeTables, loop_count, split_with}
 use Rattle.surf_cover.specs.Tables.{sets_of}
-use Rattle.surf_cover.specs.Networks.{IsSignedBy, IsCoverable}
 use Rattle.surf_cover.specs.Grown.{IsSigned}
 
 module _ (mesh : Mesh) (t : CotreeTables) (signed : IsSigned mesh t) where

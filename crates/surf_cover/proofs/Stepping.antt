@@ -1,8 +1,8 @@
 -- Tight steps over the cover are tight steps of the mesh with signatures.
-use Rattle.std.proofs.Common.{◌≡◌, ◌≢◌, ℕ, ◌+◌, ◌*◌, ◌/◌, ◌%◌, ◌<◌, ◌≤◌, Bool, true, false, cond, eqb, List, length, slice_index, bit_xor, refl, sym, ap, ◌∙◌, subst, add-zero, arith}
+use Rattle.std.proofs.Common.{◌≡◌, ◌≢◌, ℕ, ◌+◌, ◌*◌, ◌/◌, ◌%◌, ◌<◌, ◌≤◌, Bool, true, false, cond, eqb, List, slice_index, bit_xor, refl, sym, ap, ◌∙◌, subst, add-zero, arith}
 use Rattle.std.proofs.lemmas.Nat.{div_below, div-mul-add, mod-mul-add, div-add-mod', mod_below, row_fits}
 use Rattle.surf_homology.specs.Cells.{Split, IsSplit, primal}
-use Rattle.surf_homology.specs.Graphs.{Graph, IsJoined, joins, edge_between}
+use Rattle.surf_homology.specs.Graphs.{IsJoined, edge_between}
 use Rattle.surf_homology.proofs.Graphs.{edge_between_is}
 use Rattle.surf_homology.proofs.Trees.{joined_in}
 use Rattle.surf_complex.specs.Mesh.{Mesh}
@@ -11,13 +11,12 @@ use Rattle.surf_complex.specs.Walk.{ArePositive, edge_length, edge_number}
 use Rattle.surf_complex.specs.Cells.{cells_of}
 use Rattle.surf_complex.specs.Signature.{edge_signature}
 use Rattle.surf_complex.proofs.CellLaws.{surfaces_are_cells}
-use Rattle.surf_classes.specs.Cover.{IsSet, IsTightFor, IsLeastTight, IsCertified, step_signature, step_length}
+use Rattle.surf_classes.specs.Cover.{IsSet, IsTightFor, IsLeastTight, IsCertified, step_signature}
 use Rattle.surf_classes.specs.CoverGraph.{set_count, cover, cover_node, cover_edge, cover_length}
 use Rattle.surf_classes.proofs.Covers.{is_cover}
 use Rattle.surf_classes.proofs.Reached.{between_one}
 use Rattle.surf_classes.proofs.SignedSteps.{edge_set, xor_set, none_set, step_back, tight_to, tight_from}
 use Rattle.surf_tree.specs.Searches.{IsTight, IsLeastTight as IsLeastTightIn}
-use Rattle.surf_tree.specs.Tables.{nobody}
 use Rattle.surf_cover.specs.Networks.{node_of, cover_by, length_by, IsSignedBy, IsCertifiedBy}
 use Rattle.surf_cover.proofs.Covering.{same_sign, some_set}
 

@@ -70,13 +70,7 @@ impl CoverDesk {
 
     /// Finds the distances from a base with no left edge, by the signatures of a tree of faces that was grown on the mesh
     /// and signed. It takes no memory and can't be refused.
-    pub fn grow(
-        &mut self,
-        mesh: &HalfMesh,
-        lengths: &Lengths,
-        cotree: &CotreeDesk,
-        base: VertexId,
-    )
+    pub fn grow(&mut self, mesh: &HalfMesh, lengths: &Lengths, cotree: &CotreeDesk, base: VertexId)
         requires made { IsMadeFor mesh.now self.old }
         requires signed { IsSigned mesh.now cotree.now }
         requires base { base < mesh.now.vertices }

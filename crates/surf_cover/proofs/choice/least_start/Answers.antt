@@ -1,4 +1,4 @@
-use Rattle.std.proofs.Common.{◌≡◌, ◌<◌, ◌≤◌, ◌+◌, ℕ, sym, ap, ◌∙◌, subst, arith}
+use Rattle.std.proofs.Common.{◌≡◌, ◌<◌, ◌≤◌, ◌+◌, sym, subst, arith}
 use Rattle.surf_homology.specs.Cells.{IsSplit}
 use Rattle.surf_homology.specs.Trees.{Tree}
 use Rattle.surf_complex.specs.Cells.{cells_of}

@@ -1,4 +1,4 @@
-use Rattle.std.proofs.Common.{suc, ◌≡◌, ◌+◌, ◌<◌, ◌≤◌, ◌∷◌, [], ℕ, List, length, get_or, drop, map, bit_xor, All, Contains, slice_index, sym, ap, ◌∙◌, subst, arith}
+use Rattle.std.proofs.Common.{suc, ◌≡◌, ◌+◌, ◌<◌, ◌∷◌, [], ℕ, List, length, get_or, drop, map, bit_xor, All, Contains, sym, ap, ◌∙◌, subst, arith}
 use Rattle.std.specs.Int.Bits.{xor_zero_r}
 use Rattle.std.proofs.Math.Seq.{drop-cons}
 use Rattle.std.proofs.lemmas.List.{get_or_default, drop_all}

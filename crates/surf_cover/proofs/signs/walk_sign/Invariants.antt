@@ -1,4 +1,4 @@
-use Rattle.std.proofs.Common.{◌≡◌, ℕ, drop, bit_xor, All, Contains}
+use Rattle.std.proofs.Common.{◌≡◌, drop, bit_xor, All, Contains}
 use Rattle.surf_homology.specs.Cells.{IsSplit}
 use Rattle.surf_homology.specs.Trees.{Tree}
 use Rattle.surf_complex.specs.Cells.{cells_of}

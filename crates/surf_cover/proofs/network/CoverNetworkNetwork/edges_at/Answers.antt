@@ -1,4 +1,4 @@
-use Rattle.std.proofs.Common.{◌≡◌, ◌<◌, ℕ, ◌+◌, ◌*◌, ◌/◌, ◌%◌, map, subst, slice_index}
+use Rattle.std.proofs.Common.{◌/◌, ◌%◌, map, subst, slice_index}
 use Rattle.std.proofs.lemmas.Nat.{div_below, div-add-mod', mod_below}
 use Rattle.surf_homology.specs.Cells.{primal}
 use Rattle.surf_complex.specs.Cells.{cells_of}
