@@ -1,5 +1,6 @@
 -- What a signed tree of faces has, and the steps of a walk from a place on.
-use Rattle.std.proofs.Common.{◌≡◌, ℕ, suc, ◌+◌, ◌^◌, ◌<◌, ◌≤◌, List, ◌∷◌, length, get_or, slice_index, drop, All, sym, ap, ◌∙◌, arith}
+use Rattle.std.proofs.Common.{◌≡◌, ℕ, suc, ◌+◌, ◌^◌, ◌<◌, ◌≤◌, List, ◌∷◌, length, get_or, slice_index, drop, map, All, sym, ap, ◌∙◌, subst, arith}
+use Rattle.std.specs.List.{range_with_len}
 use Rattle.std.proofs.Math.Nat.{pow-le-pow_right}
 use Rattle.std.proofs.Math.Seq.{drop-cons}
 use Rattle.std.proofs.lemmas.List.FromFn.{get_or-map-range_with_len, length-map-range_with_len}
@@ -12,7 +13,8 @@ use Rattle.surf_complex.specs.Cells.{cells_of}
 use Rattle.surf_complex.specs.Signature.{edge_signature}
 use Rattle.surf_classes.specs.CoverGraph.{set_count}
 use Rattle.surf_classes.proofs.SignedSteps.{edge_set}
-use Rattle.surf_cotree.specs.Tables.{CotreeTables, loop_count, split_with}
+use Rattle.surf_cotree.specs.Grown.{IsGrownOn}
+use Rattle.surf_cotree.specs.Tables.{IsMadeFor as CotreeMade, parent_edge_of, CotreeTables, loop_count, split_with}
 use Rattle.surf_cover.specs.Tables.{sets_of}
 use Rattle.surf_cover.specs.Grown.{IsSigned}
 
@@ -63,3 +65,18 @@ all_first P x xs h = h 0 x (omega arith)
 
 pub all_others : {X : Type 0} (P : X → Type 0) (x : X) (xs : List X) → All P (x ∷ xs) → All P xs
 all_others P x xs h k d l = h (suc k) d (omega arith)
+
+-- tables that were grown on the mesh and then signed
+pub signed_after : (mesh : Mesh) (old new : CotreeTables) → IsGrownOn mesh old →
+    new ≡ record old { signatures = new.signatures } → CotreeMade mesh new →
+    ((tree : Tree) → IsSplit (cells_of mesh) (split_with tree new) →
+    new.signatures ≡ map (edge_signature mesh (split_with tree new)) (range_with_len 0 (edge_count mesh))) → IsSigned mesh new
+signed_after mesh old new grown rest made signed = record {
+  grown = record {
+    made = made;
+    root = ap (λ (c : CotreeTables). parent_edge_of c 0) rest ∙ grown.root;
+    tree = grown.tree;
+    split = subst (IsSplit (cells_of mesh)) (sym (ap (λ (c : CotreeTables). split_with grown.tree c) rest)) grown.split;
+  };
+  signatures = signed;
+}
