@@ -1,9 +1,9 @@
-use Rattle.std.proofs.Common.{ℕ, suc, ◌<◌, ◌≤◌, ◌≡◌, ◌≢◌, ◌+◌, ◌⊎◌, refl, sym, ap, ◌∙◌, subst, replicate, ◌*◌, arith, inl, inr, List, length, set, Option, Some, None, Bool, true, false, cond, not, ◌&&◌, eqb, ltb, eq-eqb, ne_eqb, get_or-set_same, get_or-set_other}
+use Rattle.std.proofs.Common.{ℕ, suc, ◌<◌, ◌≤◌, ◌≡◌, ◌≢◌, ◌+◌, ◌⊎◌, refl, sym, ap, ◌∙◌, subst, replicate, ◌*◌, arith, inl, inr, List, length, set, Option, Some, None, Bool, true, false, cond, not, ◌&&◌, eqb, ltb, eq-eqb, ne_eqb, get_or-set_same, get_or-set_other, get_or, map}
 use Rattle.std.proofs.Math.ListN.{length-set}
 use Rattle.std.proofs.lemmas.Bool.{cases_eq, cases_lt, cases_Bool, lt-ltb, le-ltb}
 use Rattle.std.proofs.lemmas.Bool.Decides.{nat_tests}
 use Rattle.surf_homology.specs.Graphs.{Graph, joins}
-use Rattle.std.proofs.lemmas.List.{get_or-replicate, get_or_past}
+use Rattle.std.proofs.lemmas.List.{get_or-map, get_or-replicate, get_or_past}
 use Rattle.std.proofs.Math.ListN.{length-replicate}
 use Rattle.surf_z2.specs.Parity.{count_below}
 use Rattle.surf_z2.proofs.Sums.{count_below-without, count_below-same, count_below-all}
@@ -76,6 +76,12 @@ module _ (old : Entries) (w key : ℕ) (lw : w < length old) where
         }
     | inr ne ↦ record { key = h.key; tie = h.tie; entry = get_or-set_other old w q (Some (lesser (entry_of old w) key 0)) None ne ∙ h.entry; bound = h.bound }
   ]
+
+-- the link of an item of a row
+pub link_of : (f : ℕ → ℕ × ℕ) (items : List ℕ) (k e w : ℕ) → k < length items → e ≡ get_or items k e → w ≡ (f e).0 →
+    link_at (map f items) k ≡ (w, (f e).1)
+link_of f items k e w l is end =
+    get_or-map f items k e (0, 0) l ∙ ap f (sym is) ∙ ap (λ (x : ℕ). (x, (f e).1)) (sym end)
 
 module _ (g : Graph) (len dist : ℕ → ℕ) (v d : ℕ) (links : List (ℕ × ℕ)) (row : IsRow g v links) where
   abbrev pub neighbour : ℕ → ℕ

@@ -1,6 +1,6 @@
 -- A search from a base that settles the nearest node first, over any graph.
 use Rattle.std.specs.Prelude.{ℕ, ◌≡◌, ◌≢◌, ◌<◌, ◌≤◌, ◌+◌, ◌*◌, ◌⊎◌, true, List, length, slice_index, Some}
-use Rattle.surf_homology.specs.Graphs.{Graph, joins}
+use Rattle.surf_homology.specs.Graphs.{Graph, IsGraph, IsConnected, joins}
 use Rattle.surf_heap.specs.Entries.{Entries, entry_of}
 use Rattle.surf_lengths.specs.Lengths.{longest}
 use Rattle.surf_tree.specs.Tables.{nobody}
@@ -12,6 +12,13 @@ at table n = slice_index table n
 -- the distance of a node that isn't settled
 abbrev pub far : ℕ
 far = 18446744073709551615
+
+-- a connected graph with so few nodes and such short edges that all distances fit
+pub record IsSearchable (g : Graph) (len : ℕ → ℕ) : Type 0 where
+  pub is_graph : IsGraph g
+  pub connected : IsConnected g
+  pub few : g.nodes ≤ longest
+  pub short : (e : ℕ) → len e ≤ longest
 
 -- the heap has a node, with a key of at most x
 pub record HasKey (heap : Entries) (w x : ℕ) : Type 0 where

@@ -4,6 +4,7 @@ ghost use Rattle.surf_complex.specs.Surface.{edge_count};
 ghost use Rattle.surf_tree.specs.Tables.{TreeTables, IsMadeFor, parent_of, parent_edge_of};
 ghost use Rattle.surf_tree.specs.Grown.{IsGrown};
 
+use crate::network::MeshNetwork;
 use crate::parents::{NOBODY, mark_edges, set_parents};
 use crate::search::settle;
 use std::alloc::Global;
@@ -74,14 +75,9 @@ impl TreeDesk {
     {
         let _surface = mesh.faces();
         let _lengths = lengths.count();
-        settle(mesh, lengths, &mut self.distance, &mut self.heap, base);
-        set_parents(
-            mesh,
-            lengths,
-            &self.distance,
-            &mut self.parent,
-            &mut self.up,
-        );
+        let network = MeshNetwork { mesh, lengths };
+        settle(&network, &mut self.distance, &mut self.heap, base.number());
+        set_parents(&network, &self.distance, &mut self.parent, &mut self.up);
         mark_edges(&self.parent, &self.up, &mut self.flags);
         self.base = base;
     }

@@ -12,7 +12,11 @@
 #![tactic(auto)]
 
 mod desk;
+mod network;
 mod parents;
 mod search;
 
 pub use desk::TreeDesk;
+pub use network::Network;
+pub use parents::least_tight;
+pub use search::settle;

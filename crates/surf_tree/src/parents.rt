@@ -9,30 +9,28 @@ ghost use Rattle.surf_lengths.specs.Lengths.{longest};
 ghost use Rattle.surf_tree.specs.Tables.{nobody};
 ghost use Rattle.surf_tree.specs.Searches.{at, IsLeastTight};
 
-use surf_base::VertexId;
-use surf_lengths::Lengths;
-use surf_mesh::HalfMesh;
-use surf_net::{edges_at, other_end};
+use crate::network::{MeshNetwork, Network};
 
 /// Stands for no parent.
 pub(crate) const NOBODY: u32 = u32::MAX;
 
-// The least neighbour from which an edge's length leads to the distance of `v`, and that edge.
-fn least_tight(mesh: &HalfMesh, lengths: &Lengths, distance: &[u64], v: VertexId) -> (u32, u32)
-    requires vertex { v < mesh.now.vertices }
-    requires distances { length distance.now ≡ mesh.now.vertices }
-    requires lengths { length lengths.now ≡ edge_count mesh.now }
-    requires fits { (u : ℕ) → u < mesh.now.vertices → at distance.now u + longest < 2 ^ 64 }
-    ensures least { IsLeastTight (primal (cells_of mesh.now)) (edge_length lengths.now) (at distance.now) v result.0 result.1 }
+/// The least neighbour of a node from which a link's length leads to the node's distance, and the number of the edge below
+/// the link. `u32::MAX` stands for none.
+pub fn least_tight<N: Network>(network: &N, distance: &[u64], node: u32) -> (u32, u32)
+    requires valid { N.valid network.now }
+    requires node { node < (N.graph network.now).nodes }
+    requires distances { length distance.now ≡ (N.graph network.now).nodes }
+    requires fits { (u : ℕ) → u < (N.graph network.now).nodes → at distance.now u + longest < 2 ^ 64 }
+    ensures least { IsLeastTight (N.graph network.now) (N.weight network.now) (at distance.now) node result.0 (N.link network.now node result.1).1 }
 {
-    let here = distance[v.index()];
+    let here = distance[node as usize];
     let mut best = NOBODY;
     let mut up = NOBODY;
-    for e in edges_at(mesh, v) {
-        let u = other_end(mesh, v, *e);
-        let there = distance[u.index()] + u64::from(lengths.of(*e));
-        if there == here && u.number() < best {
-            best = u.number();
+    for e in network.edges_at(node) {
+        let (u, length) = network.across(node, *e);
+        let there = distance[u as usize] + u64::from(length);
+        if there == here && u < best {
+            best = u;
             up = e.number();
         }
     }
@@ -41,21 +39,20 @@ fn least_tight(mesh: &HalfMesh, lengths: &Lengths, distance: &[u64], v: VertexId
 
 // Gives each vertex its parent and the edge to it.
 pub(crate) fn set_parents(
-    mesh: &HalfMesh,
-    lengths: &Lengths,
+    network: &MeshNetwork<'_>,
     distance: &[u64],
     parent: &mut [u32],
     up: &mut [u32],
 )
-    requires distances { length distance.now ≡ mesh.now.vertices }
-    requires lengths { length lengths.now ≡ edge_count mesh.now }
-    requires parents { length parent.old ≡ mesh.now.vertices }
-    requires ups { length up.old ≡ mesh.now.vertices }
-    requires fits { (u : ℕ) → u < mesh.now.vertices → at distance.now u + longest < 2 ^ 64 }
-    ensures parents { (v : ℕ) → v < mesh.now.vertices → IsLeastTight (primal (cells_of mesh.now)) (edge_length lengths.now) (at distance.now) v (at parent.new v) (at up.new v) }
+    requires distances { length distance.now ≡ network.now.mesh.now.vertices }
+    requires lengths { length network.now.lengths.now ≡ edge_count network.now.mesh.now }
+    requires parents { length parent.old ≡ network.now.mesh.now.vertices }
+    requires ups { length up.old ≡ network.now.mesh.now.vertices }
+    requires fits { (u : ℕ) → u < network.now.mesh.now.vertices → at distance.now u + longest < 2 ^ 64 }
+    ensures parents { (v : ℕ) → v < network.now.mesh.now.vertices → IsLeastTight (primal (cells_of network.now.mesh.now)) (edge_length network.now.lengths.now) (at distance.now) v (at parent.new v) (at up.new v) }
 {
-    for v in 0..mesh.vertices() {
-        let (u, e) = least_tight(mesh, lengths, distance, VertexId::new(v));
+    for v in 0..network.mesh.vertices() {
+        let (u, e) = least_tight(network, distance, v);
         parent[v as usize] = u;
         up[v as usize] = e;
     }

@@ -6,4 +6,5 @@ use Rattle.surf_tree.specs.Searches.{at, IsLeastTight}
 use Rattle.surf_tree.proofs.parents.set_parents.Given as goal
 
 abbrev pub invariant-loop-v : goal.invariant-loop-v
-invariant-loop-v l = (v : ℕ) → v < l.v → IsLeastTight (primal (cells_of l.mesh)) (edge_length l.lengths) (at l.distance) v (at l.parent v) (at l.up v)
+invariant-loop-v l = (v : ℕ) → v < l.v →
+    IsLeastTight (primal (cells_of l.network.mesh.now)) (edge_length l.network.lengths.now) (at l.distance) v (at l.parent v) (at l.up v)

@@ -1,90 +1,77 @@
-use Rattle.std.proofs.Common.{◌≡◌, ◌<◌, ◌≤◌, ◌∙◌, ℕ, length, arith, ap, refl, None, set, subst, ◌+◌, ◌*◌}
+use Rattle.std.proofs.Common.{◌≡◌, ◌<◌, ◌≤◌, ◌∙◌, ℕ, length, arith, ap, refl, None, ◌+◌, ◌*◌}
 use Rattle.std.proofs.Math.ListN.{length-set}
-use Rattle.surf_homology.specs.Cells.{primal}
-use Rattle.surf_complex.specs.Cells.{cells_of}
-use Rattle.surf_complex.specs.Walk.{edge_length}
-use Rattle.surf_complex.proofs.CellLaws.{surfaces_are_cells}
-use Rattle.surf_net.proofs.RowLaws.{cells_few}
 use Rattle.surf_lengths.specs.Lengths.{longest}
-use Rattle.surf_tree.specs.Searches.{at, far, IsOffered}
+use Rattle.surf_tree.specs.Searches.{at, far}
 use Rattle.surf_tree.proofs.Settling.{search_begins, search_ends}
 use Rattle.surf_tree.proofs.Offering.{all_free, first_offer, turn_inside, turn_smaller, turn_keeps}
-use Rattle.surf_tree.proofs.LengthLaws.{short_lengths}
 use Rattle.surf_tree.proofs.search.settle.Goals as goal
 
-pub loop-v-init : goal.loop-v-init
-loop-v-init c =
-    let g = primal (cells_of c.args.mesh.now) in
-    let few = (cells_few c.args.mesh.now c.faces-surface.ensures.surface c.faces-surface.ensures.few).0 in
-    let small : g.nodes ≤ longest = omega (arith, few) in
-    let free : (u : ℕ) → u < g.nodes → at c.fill.new.self u ≡ far = λ u l. c.fill.ensures.clones u 0 (omega arith) refl in
-    let first = first_offer g.nodes c.args.base c.clear.new.self c.offer.new.self c.requires.base (rw (← c.requires.places) c.clear.ensures.empty) (rw c.number.ensures at c.offer.ensures.entry) in
+pub loop-node-init : goal.loop-node-init
+loop-node-init g c =
+    let net = c.args.network.now in
+    let graph = g.N.Network.graph net in
+    let can = c.requires.searchable in
+    let free : (u : ℕ) → u < graph.nodes → at c.fill.new.self u ≡ far = λ u l. c.fill.ensures.clones u 0 (omega (arith, c.requires.distances)) refl in
+    let first = first_offer graph.nodes c.args.base c.clear.new.self c.offer.new.self c.requires.base (rw (← c.requires.places) c.clear.ensures.empty) c.offer.ensures.entry in
     record {
       places = first.2;
       last = 0;
-      search = search_begins g (edge_length c.args.lengths.now) c.args.base small (short_lengths c.args.lengths.now c.count-lengths.ensures.lengths) (at c.fill.new.self) c.offer.new.self _ c.requires.base (all_free g.nodes c.fill.new.self free) free first.0 first.1;
+      search = search_begins graph (g.N.Network.weight net) c.args.base can.few can.short (at c.fill.new.self) c.offer.new.self _ c.requires.base (all_free graph.nodes c.fill.new.self free) free first.0 first.1;
     }
 
-pub bounds-distance-v : goal.bounds-distance-v
-bounds-distance-v c =
-    let g = primal (cells_of c.args.mesh.now) in
-    let few = (cells_few c.args.mesh.now c.faces-surface.ensures.surface c.faces-surface.ensures.few).0 in
-    let small : g.nodes ≤ longest = omega (arith, few) in
-    let long : length c.loop-v.distance ≡ g.nodes = omega arith in
-    let inside : c.in-Some.v < g.nodes = (turn_inside g (edge_length c.args.lengths.now) c.args.base small (short_lengths c.args.lengths.now c.count-lengths.ensures.lengths) c.loop-v.distance c.loop-v.heap c.loop-v.invariant.last c.in-Some.v c.in-Some.d c.in-Some.field-0-2 long c.loop-v.invariant.search c.in-Some.ensures.taken.0).0 in
+pub bounds-distance-node : goal.bounds-distance-node
+bounds-distance-node g c =
+    let net = c.args.network.now in
+    let graph = g.N.Network.graph net in
+    let can = c.requires.searchable in
+    let long : length c.loop-node.distance ≡ graph.nodes = omega (arith, c.requires.distances) in
+    let inside : c.in-Some.node < graph.nodes = (turn_inside graph (g.N.Network.weight net) c.args.base can.few can.short c.loop-node.distance c.loop-node.heap c.loop-node.invariant.last c.in-Some.node c.in-Some.d c.in-Some.field-0-2 long c.loop-node.invariant.search c.in-Some.ensures.taken.0).0 in
     omega (arith, inside, long)
 
-pub offer_neighbours-requires-clause-vertex : goal.offer_neighbours-requires-clause-vertex
-offer_neighbours-requires-clause-vertex c =
-    let g = primal (cells_of c.args.mesh.now) in
-    let few = (cells_few c.args.mesh.now c.faces-surface.ensures.surface c.faces-surface.ensures.few).0 in
-    let small : g.nodes ≤ longest = omega (arith, few) in
-    let long : length c.loop-v.distance ≡ g.nodes = omega arith in
-    let inside : c.in-Some.v < g.nodes = (turn_inside g (edge_length c.args.lengths.now) c.args.base small (short_lengths c.args.lengths.now c.count-lengths.ensures.lengths) c.loop-v.distance c.loop-v.heap c.loop-v.invariant.last c.in-Some.v c.in-Some.d c.in-Some.field-0-2 long c.loop-v.invariant.search c.in-Some.ensures.taken.0).0 in
-    omega (arith, inside, c.new.ensures)
+pub offer_neighbours-requires-clause-node : goal.offer_neighbours-requires-clause-node
+offer_neighbours-requires-clause-node g c =
+    let net = c.args.network.now in
+    let graph = g.N.Network.graph net in
+    let can = c.requires.searchable in
+    let long : length c.loop-node.distance ≡ graph.nodes = omega (arith, c.requires.distances) in
+    (turn_inside graph (g.N.Network.weight net) c.args.base can.few can.short c.loop-node.distance c.loop-node.heap c.loop-node.invariant.last c.in-Some.node c.in-Some.d c.in-Some.field-0-2 long c.loop-node.invariant.search c.in-Some.ensures.taken.0).0
 
 pub offer_neighbours-requires-clause-places : goal.offer_neighbours-requires-clause-places
-offer_neighbours-requires-clause-places c = ap length c.in-Some.ensures.taken.1 ∙ (length-set c.loop-v.heap c.in-Some.v None ∙ c.loop-v.invariant.places)
+offer_neighbours-requires-clause-places g c = ap length c.in-Some.ensures.taken.1 ∙ (length-set c.loop-node.heap c.in-Some.node None ∙ c.loop-node.invariant.places)
 
 pub offer_neighbours-requires-clause-fits : goal.offer_neighbours-requires-clause-fits
-offer_neighbours-requires-clause-fits c =
-    let g = primal (cells_of c.args.mesh.now) in
-    let few = (cells_few c.args.mesh.now c.faces-surface.ensures.surface c.faces-surface.ensures.few).0 in
-    let small : g.nodes ≤ longest = omega (arith, few) in
-    let long : length c.loop-v.distance ≡ g.nodes = omega arith in
-    let inside = (turn_inside g (edge_length c.args.lengths.now) c.args.base small (short_lengths c.args.lengths.now c.count-lengths.ensures.lengths) c.loop-v.distance c.loop-v.heap c.loop-v.invariant.last c.in-Some.v c.in-Some.d c.in-Some.field-0-2 long c.loop-v.invariant.search c.in-Some.ensures.taken.0).1 in
-    let bound : c.in-Some.d + longest ≤ g.nodes * longest = inside in
-    omega (arith, bound, few)
+offer_neighbours-requires-clause-fits g c =
+    let net = c.args.network.now in
+    let graph = g.N.Network.graph net in
+    let can = c.requires.searchable in
+    let long : length c.loop-node.distance ≡ graph.nodes = omega (arith, c.requires.distances) in
+    let bound : c.in-Some.d + longest ≤ graph.nodes * longest = (turn_inside graph (g.N.Network.weight net) c.args.base can.few can.short c.loop-node.distance c.loop-node.heap c.loop-node.invariant.last c.in-Some.node c.in-Some.d c.in-Some.field-0-2 long c.loop-node.invariant.search c.in-Some.ensures.taken.0).1 in
+    omega (arith, bound, can.few)
 
-pub loop-v-smaller : goal.loop-v-smaller
-loop-v-smaller c =
-    let g = primal (cells_of c.args.mesh.now) in
-    let few = (cells_few c.args.mesh.now c.faces-surface.ensures.surface c.faces-surface.ensures.few).0 in
-    let small : g.nodes ≤ longest = omega (arith, few) in
-    let long : length c.loop-v.distance ≡ g.nodes = omega arith in
-    turn_smaller g (edge_length c.args.lengths.now) c.args.base small (short_lengths c.args.lengths.now c.count-lengths.ensures.lengths) c.loop-v.distance c.loop-v.heap c.loop-v.invariant.last c.in-Some.v c.in-Some.d c.in-Some.field-0-2 long c.loop-v.invariant.search c.in-Some.ensures.taken.0
+pub loop-node-smaller : goal.loop-node-smaller
+loop-node-smaller g c =
+    let net = c.args.network.now in
+    let graph = g.N.Network.graph net in
+    let can = c.requires.searchable in
+    let long : length c.loop-node.distance ≡ graph.nodes = omega (arith, c.requires.distances) in
+    turn_smaller graph (g.N.Network.weight net) c.args.base can.few can.short c.loop-node.distance c.loop-node.heap c.loop-node.invariant.last c.in-Some.node c.in-Some.d c.in-Some.field-0-2 long c.loop-node.invariant.search c.in-Some.ensures.taken.0
 
-pub loop-v-preserved : goal.loop-v-preserved
-loop-v-preserved c =
-    let g = primal (cells_of c.args.mesh.now) in
-    let len = edge_length c.args.lengths.now in
-    let few = (cells_few c.args.mesh.now c.faces-surface.ensures.surface c.faces-surface.ensures.few).0 in
-    let small : g.nodes ≤ longest = omega (arith, few) in
-    let long : length c.loop-v.distance ≡ g.nodes = omega arith in
-    let dist = set c.loop-v.distance c.in-Some.v c.in-Some.d in
-    let done : IsOffered g len (at dist) c.in-Some.v c.in-Some.d c.take_least.new.self c.offer_neighbours.new.heap =
-    subst (λ v. IsOffered g len (at dist) v c.in-Some.d c.take_least.new.self c.offer_neighbours.new.heap) c.new.ensures c.offer_neighbours.ensures.offered in
+pub loop-node-preserved : goal.loop-node-preserved
+loop-node-preserved g c =
+    let net = c.args.network.now in
+    let graph = g.N.Network.graph net in
+    let can = c.requires.searchable in
+    let long : length c.loop-node.distance ≡ graph.nodes = omega (arith, c.requires.distances) in
+    let done = c.offer_neighbours.ensures.offered in
     record {
-      places = done.same_length ∙ (ap length c.in-Some.ensures.taken.1 ∙ (length-set c.loop-v.heap c.in-Some.v None ∙ c.loop-v.invariant.places));
+      places = done.same_length ∙ (ap length c.in-Some.ensures.taken.1 ∙ (length-set c.loop-node.heap c.in-Some.node None ∙ c.loop-node.invariant.places));
       last = c.in-Some.d;
-      search = turn_keeps g len c.args.base small (short_lengths c.args.lengths.now c.count-lengths.ensures.lengths) c.loop-v.distance c.loop-v.heap c.loop-v.invariant.last c.in-Some.v c.in-Some.d c.in-Some.field-0-2 long c.loop-v.invariant.search c.in-Some.ensures.taken.0
+      search = turn_keeps graph (g.N.Network.weight net) c.args.base can.few can.short c.loop-node.distance c.loop-node.heap c.loop-node.invariant.last c.in-Some.node c.in-Some.d c.in-Some.field-0-2 long c.loop-node.invariant.search c.in-Some.ensures.taken.0
           c.take_least.new.self c.offer_neighbours.new.heap c.in-Some.ensures.taken.1 done;
     }
 
 pub returns-clause-settled : goal.returns-clause-settled
-returns-clause-settled c =
-    let g = primal (cells_of c.args.mesh.now) in
-    let few = (cells_few c.args.mesh.now c.faces-surface.ensures.surface c.faces-surface.ensures.few).0 in
-    let small : g.nodes ≤ longest = omega (arith, few) in
-    let complex = (surfaces_are_cells c.args.mesh.now c.faces-surface.ensures.surface).complex in
-    search_ends g (edge_length c.args.lengths.now) c.args.base small (short_lengths c.args.lengths.now c.count-lengths.ensures.lengths) (at c.loop-v.distance) c.loop-v.heap c.loop-v.invariant.last _ c.loop-v.invariant.search complex.primal_ends complex.primal_connected c.requires.base c.in_default.ensures.taken.0
+returns-clause-settled g c =
+    let net = c.args.network.now in
+    let can = c.requires.searchable in
+    search_ends (g.N.Network.graph net) (g.N.Network.weight net) c.args.base can.few can.short (at c.loop-node.distance) c.loop-node.heap c.loop-node.invariant.last _ c.loop-node.invariant.search can.is_graph can.connected c.requires.base c.in_default.ensures.taken.0

@@ -10,10 +10,23 @@ use Rattle.surf_complex.proofs.CellLaws.{surfaces_are_cells}
 use Rattle.surf_net.proofs.RowLaws.{cells_few}
 use Rattle.surf_lengths.specs.Lengths.{longest}
 use Rattle.surf_tree.specs.Tables.{TreeTables, nobody, IsMadeFor}
-use Rattle.surf_tree.specs.Searches.{at, IsLeastTight}
+use Rattle.surf_tree.specs.Searches.{at, IsSettled, IsLeastTight}
 use Rattle.surf_tree.proofs.Growing.{grown_tree}
+use Rattle.surf_tree.proofs.LengthLaws.{short_lengths}
 use Rattle.surf_tree.proofs.MeshTrees.{grown_here}
 use Rattle.surf_tree.proofs.desk.TreeDesk.grow.Goals as goal
+
+pub settle-requires-clause-searchable : goal.settle-requires-clause-searchable
+settle-requires-clause-searchable c =
+    let mesh = c.args.mesh.now in
+    let complex = (surfaces_are_cells mesh c.faces-surface.ensures.surface).complex in
+    let few = (cells_few mesh c.faces-surface.ensures.surface c.faces-surface.ensures.few).0 in
+    record {
+      is_graph = complex.primal_ends;
+      connected = complex.primal_connected;
+      few = omega (arith, few);
+      short = short_lengths c.args.lengths.now c.count-lengths.ensures.lengths;
+    }
 
 pub set_parents-requires-clause-fits : goal.set_parents-requires-clause-fits
 set_parents-requires-clause-fits c =
@@ -62,6 +75,7 @@ returns c =
     let parent_is : (with_items t.parent parent).items ≡ parent = with_items_is t.parent parent (omega arith) in
     let up_is : (with_items t.up up).items ≡ up = with_items_is t.up up (omega arith) in
     let flags_is : (with_items t.flags flags).items ≡ flags = with_items_is t.flags flags (omega arith) in
+    let settled : IsSettled g len c.args.base (at distance) = subst (λ b. IsSettled g len b (at distance)) c.number.ensures c.settle.ensures.settled in
     let chosen : (v : ℕ) → v < g.nodes → IsLeastTight g len (at distance) v (at parent v) (at up v) = rw (c.deref.ensures.value, distance_is) at c.set_parents.ensures.parents in
     let long : length parent ≡ g.nodes = omega arith in
     let wide : length c.deref_mut-4.result.now ≡ g.edges = omega arith in
@@ -70,6 +84,6 @@ returns c =
     (rw (c.deref-2.ensures.value, parent_is, c.deref-3.ensures.value, up_is) at (c.mark_edges.ensures.flags e (omega arith)))
     in
     let positive : (e : ℕ) → e < g.edges → 1 ≤ len e = λ e l. (c.count-lengths.ensures.lengths e 0 (omega (arith, c.requires.lengths))).positive in
-    let grown = grown_tree g len c.args.base distance parent up flags (surfaces_are_cells mesh surface).complex.primal_ends small positive c.requires.base c.settle.ensures.settled chosen marked in
+    let grown = grown_tree g len c.args.base distance parent up flags (surfaces_are_cells mesh surface).complex.primal_ends small positive c.requires.base settled chosen marked in
     let tables : IsMadeFor mesh (record { base = c.args.base; distances = distance; parents = parent; ups = up; flags = flags }) = record { distances = omega arith; parents = long; ups = omega arith; flags = omega arith } in
     record { grown = rw (distance_is, parent_is, up_is, flags_is) (grown_here mesh c.args.lengths.now (record { base = c.args.base; distances = distance; parents = parent; ups = up; flags = flags }) surface grown tables few) }

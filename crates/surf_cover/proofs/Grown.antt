@@ -1,0 +1,76 @@
+-- What is found over the cover by the signatures of a signed tree of faces.
+use Rattle.std.proofs.Common.{◌≡◌, ℕ, ◌+◌, ◌*◌, ◌<◌, ◌≤◌, List, length, slice_index, ◌∙◌, subst, arith}
+use Rattle.std.proofs.lemmas.Nat.{row_fits}
+use Rattle.surf_homology.specs.Cells.{IsSplit}
+use Rattle.surf_homology.specs.Trees.{Tree}
+use Rattle.surf_complex.specs.Mesh.{Mesh}
+use Rattle.surf_complex.specs.Surface.{edge_count, IsSurface}
+use Rattle.surf_complex.specs.Walk.{ArePositive}
+use Rattle.surf_complex.specs.Cells.{cells_of}
+use Rattle.surf_classes.proofs.SignedSteps.{edge_set}
+use Rattle.surf_classes.proofs.Tables.{certified_tables_are_distances}
+use Rattle.surf_cotree.specs.Tables.{CotreeTables, split_with}
+use Rattle.surf_lengths.specs.Lengths.{longest, AreLengths}
+use Rattle.surf_tree.specs.Searches.{IsSettled}
+use Rattle.surf_cover.specs.Tables.{sets_of}
+use Rattle.surf_cover.specs.Networks.{node_of, cover_by, length_by, IsSignedBy, IsCoverable}
+use Rattle.surf_cover.specs.Grown.{IsSigned, IsGrown}
+use Rattle.surf_cover.proofs.Signed.{sets_are, sign_is}
+use Rattle.surf_cover.proofs.Covering.{settled_certified}
+
+-- each length is positive
+pub positive : (mesh : Mesh) (lengths : List ℕ) → length lengths ≡ edge_count mesh → AreLengths lengths → ArePositive mesh lengths
+positive mesh lengths count are e l = (are e 0 (omega (arith, l, count))).positive
+
+module _ (mesh : Mesh) (t : CotreeTables) (signed : IsSigned mesh t) (sets : ℕ) (as_many : sets ≡ sets_of mesh) where
+  -- signatures are small
+  pub sign_below : (v : ℕ) → v < mesh.vertices → mesh.vertices * sets ≤ 65536 → (e : ℕ) → e < edge_count mesh →
+      slice_index t.signatures e < 65536
+  sign_below v v_in few e l =
+      let tree = signed.grown.tree in
+      let split = signed.grown.split in
+      let below = edge_set mesh (split_with tree t) e in
+      let same = sets_are mesh t signed tree split in
+      let is = sign_is mesh t signed tree split e l in
+      let fits : 0 * sets + sets ≤ mesh.vertices * sets = row_fits 0 sets mesh.vertices sets (omega (arith, v_in)) (omega arith) in
+      omega (arith, below, same, is, fits, few, as_many)
+
+  module _ (signs : List ℕ) (count : length signs ≡ edge_count mesh)
+      (copied : (e : ℕ) → e < length signs → slice_index signs e ≡ slice_index t.signatures e) where
+    pub signed_by : (tree : Tree) → IsSplit (cells_of mesh) (split_with tree t) → IsSignedBy mesh (split_with tree t) sets signs
+    signed_by tree split = record {
+      split = split;
+      sets_are = as_many ∙ sets_are mesh t signed tree split;
+      count = count;
+      signs_are = λ e l. copied e (omega (arith, l, count)) ∙ sign_is mesh t signed tree split e l;
+    }
+
+    pub coverable : IsSurface mesh → (lengths : List ℕ) → length lengths ≡ edge_count mesh → mesh.vertices * sets ≤ 65536 →
+        IsCoverable mesh lengths sets signs
+    coverable surface lengths measured few = record {
+      surface = surface;
+      split = split_with signed.grown.tree t;
+      signed = signed_by signed.grown.tree signed.grown.split;
+      measured = measured;
+      few = few;
+    }
+
+    pub grown : IsSurface mesh → mesh.vertices * sets ≤ 65536 → (lengths : List ℕ) → length lengths ≡ edge_count mesh → AreLengths lengths →
+        (x : ℕ) → x < mesh.vertices → (vertices : ℕ) → vertices ≡ mesh.vertices → (distances : List ℕ) →
+        IsSettled (cover_by mesh sets (slice_index signs)) (length_by lengths sets) (node_of sets x 0) (slice_index distances) →
+        IsGrown mesh lengths t x (record { vertices = vertices; sets = sets; signs = signs; distances = distances })
+    grown surface few lengths measured are x x_in vertices same distances settled = record {
+      made = record { vertices = same; sets = as_many; signs = count };
+      short = λ n l.
+          let few_nodes : n < mesh.vertices * sets = subst (λ v. n < v * sets) same l in
+          let bound : slice_index distances n + longest ≤ mesh.vertices * sets * longest = settled.fits n few_nodes in
+          omega (arith, bound, few);
+      grown = λ tree split.
+          let d = split_with tree t in
+          let certified = settled_certified mesh d sets signs (signed_by tree split) surface lengths x x_in (slice_index distances) settled in
+          record {
+            certified = record { signed = signed_by tree split; certified = certified };
+            distances = certified_tables_are_distances mesh lengths d x (λ v set. slice_index distances (node_of sets v set)) surface
+                (positive mesh lengths measured are) x_in certified;
+          };
+    }

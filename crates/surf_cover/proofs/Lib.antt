@@ -1,0 +1,5 @@
+pub mod Covering
+pub mod Signed
+pub mod Grown
+pub mod Stepping
+pub mod Starts

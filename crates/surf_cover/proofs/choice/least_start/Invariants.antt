@@ -1,0 +1,16 @@
+use Rattle.std.proofs.Common.{◌<◌}
+use Rattle.surf_homology.specs.Cells.{IsSplit}
+use Rattle.surf_homology.specs.Trees.{Tree}
+use Rattle.surf_complex.specs.Cells.{cells_of}
+use Rattle.surf_cotree.specs.Tables.{split_with}
+use Rattle.surf_cover.specs.Starts.{IsLeastStart}
+use Rattle.surf_cover.specs.Tables.{IsMadeFor}
+use Rattle.surf_cover.proofs.choice.least_start.Given as goal
+
+abbrev pub invariant-loop-v : goal.invariant-loop-v
+invariant-loop-v l = record {
+  made : IsMadeFor l.mesh l.desk;
+  before : l.start < l.v;
+  least : (tree : Tree) → IsSplit (cells_of l.mesh) (split_with tree l.cotree) →
+      IsLeastStart l.mesh l.lengths (split_with tree l.cotree) l.set l.v l.start l.least;
+}

@@ -1,0 +1,11 @@
+use Rattle.std.proofs.Common.{sym, ap, ◌∙◌}
+use Rattle.surf_complex.specs.Mesh.{edges}
+use Rattle.surf_complex.specs.Walk.{place_of}
+use Rattle.surf_complex.proofs.EdgeLaws.{place_of-ends}
+use Rattle.surf_cover.proofs.signs.edge_between.Goals as goal
+
+pub returns-clause-edge : goal.returns-clause-edge
+returns-clause-edge c =
+    let mesh = c.args.mesh.now in
+    let (inside, is) = c.in-Some.ensures in
+    sym (place_of-ends mesh c.in-Some.edge inside) ∙ ap (λ p. place_of p (edges mesh)) is

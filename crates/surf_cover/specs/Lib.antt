@@ -1,0 +1,4 @@
+pub mod Networks
+pub mod Tables
+pub mod Grown
+pub mod Starts
