@@ -11,6 +11,8 @@ mod certs;
 #[cfg(test)]
 mod checks;
 #[cfg(test)]
+mod classes;
+#[cfg(test)]
 mod coordinates;
 #[cfg(test)]
 mod cuts;
@@ -26,3 +28,5 @@ mod meshes;
 mod outside;
 #[cfg(test)]
 mod rows;
+#[cfg(test)]
+mod sewing;

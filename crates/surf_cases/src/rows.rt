@@ -17,17 +17,23 @@ const HELP: &str = "usage: surf info M
        surf basis M L
        surf cycle M L
        surf cut M L x full | trim
+       surf sew M
        surf certify M L x
        surf certify M L
        surf check M L C
        surf disc M
+       surf class M W
+       surf same M W W2
+       surf confirm M W C
+       surf shortest M L W
        surf lengths M k
        surf gen torus a b
        surf gen chain g a b
        surf try torus a b s
        surf try chain g a b s
        surf --help | --version
-M is an OFF mesh, L a length file or the word unit, x a vertex, C a certificate.
+M is an OFF mesh, L a length file or the word unit, x a vertex, C a certificate or evidence.
+W and W2 are files of a closed walk: its vertices on a line, the first at the end again.
 k is from 0 to 9, for lengths in units of 10^-k from coordinates.
 a and b are rows and columns of squares, g tori, s any number.
 ";

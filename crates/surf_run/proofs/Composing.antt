@@ -21,6 +21,17 @@ module _ {A : Type 0} (first : Result A Outcome → Type 0) (second : A → Outc
   ends_alone (Ok x) end = inr (a, went, end)
   ends_alone (Err e) end = why_alone (cause_of e) end
 
+-- an end that follows from another
+module _ (end other : Outcome → Type 0) (follows : (o : Outcome) → end o → other o) where
+  why_follows : (c : Cause) → Why end c → Why other c
+  why_follows (due o) is = follows o is
+  why_follows unread is = is
+  why_follows starved is = tt
+
+  pub concludes_so : (r : Result Answered Refused) → Concludes end r → Concludes other r
+  concludes_so (Ok x) is = follows (answers (verdict_status x.verdict) x.text.items) is
+  concludes_so (Err e) is = why_follows (cause_of e) is
+
 -- ---- a step over files that steps without files follow
 
 module _ {A : Type 0} (holds : Option Files) (old new : ℕ) (first : Files → Result A Outcome → Type 0) (second : A → Outcome → Type 0) (a : A)

@@ -12,7 +12,8 @@ mod TryLaws
 mod WordLaws
 mod CertifyLaws
 mod Refusing
-mod SewLaws
+mod SignedLaws
 mod TextLaws
 mod Named
 mod TwoRuns
+mod ClassRuns

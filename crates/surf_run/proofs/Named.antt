@@ -8,6 +8,8 @@ use Rattle.surf_base.specs.Outside.{Files, bytes_of}
 use Rattle.surf_complex.specs.Mesh.{Mesh}
 use Rattle.surf_complex.specs.Surface.{edge_count}
 use Rattle.surf_run.specs.Checking.{OnCheckedText, OnCheckedMesh, OnCertFile, OnCertText}
+use Rattle.surf_run.specs.Classes.{GivesClass, OnClassMesh, OnClassText, OnSecond, OnSameMesh, OnSameText}
+use Rattle.surf_run.specs.Confirming.{OnEvidenceText, OnEvidenceFile, OnConfirmMesh, OnConfirmText}
 use Rattle.surf_run.specs.Coordinates.{OnLengthsText}
 use Rattle.surf_run.specs.CycleTasks.{Finds, OnMesh, OnMeshText, vertex_limit}
 use Rattle.surf_run.specs.Given.{IsFewLoopedText, IsSearchableText, IsMeasured, IsWeighted}
@@ -17,10 +19,15 @@ use Rattle.surf_run.specs.Outcome.{Outcome}
 use Rattle.surf_run.specs.Reading.{Reads, within_text}
 use Rattle.surf_run.specs.Sewing.{OnSewText}
 use Rattle.surf_run.specs.Steps.{Ends}
+use Rattle.surf_run.specs.Surfaces.{IsSurfaceText}
+use Rattle.surf_run.specs.Tightening.{HasSmallCover, GivesShortestWalk, OnTightLengths, OnTightMesh, OnCovered, OnTightText}
+use Rattle.surf_run.specs.Walks.{walked_by, HasWalk}
 use Rattle.surf_run.specs.Tasks.{Performs, OnSurface, OnText, is_limited}
 use Rattle.surf_run.specs.Weights.{weighed_by, weighed_for, HasLengths}
-use Rattle.surf_run.specs.Words.{Request, help, version, info, disc, cycles, weighted, makes, tries, checks, measures, sews, request_of}
+use Rattle.surf_run.specs.Words.{Request, help, version, info, disc, cycles, weighted, makes, tries, checks, measures, sews, classes, compares, confirms, tightens, request_of}
 use Rattle.surf_run.specs.declared.cycles.CycleTask.{CycleTask}
+use Rattle.surf_run.specs.declared.walks.WalkFile.{WalkFile}
+use Rattle.surf_run.specs.declared.walks.WalkFile.TheVariants.{First, Second}
 use Rattle.surf_run.specs.declared.weighted.Task.{Task}
 
 -- what ends two steps ends two others that follow from them
@@ -95,6 +102,46 @@ module _ (here there : Files) where
       (λ lengths. OnCertFile read.1 lengths cert there) (measured_same word read.1 same)
       (λ lengths. on_file cert held (OnCertText read.1 lengths) (OnCertText read.1 lengths) (λ text o is. is)))
 
+  walk_same : (file : WalkFile) (name : List ℕ) (mesh : Mesh) → Same name → (r : Result (List ℕ) Outcome) →
+      HasWalk file name mesh here r → HasWalk file name mesh there r
+  walk_same file name mesh same (Ok walk) is = (is.0 ∙ ap (λ bytes. walked_by file mesh (within_text bytes)) same, is.1)
+  walk_same file name mesh same (Err o) is = is ∙ ap (λ bytes. walked_by file mesh (within_text bytes)) same
+
+  -- the first step reads a walk
+  on_walk : (file : WalkFile) (name : List ℕ) (mesh : Mesh) → Same name → (second next : List ℕ → Outcome → Type 0) →
+      ((walk : List ℕ) (o : Outcome) → second walk o → next walk o) → (o : Outcome) →
+      Ends (HasWalk file name mesh here) second o → Ends (HasWalk file name mesh there) next o
+  on_walk file name mesh same second next rest o ends =
+      ends_map (HasWalk file name mesh here) (HasWalk file name mesh there) second next (walk_same file name mesh same) rest o ends
+
+  classes_same : (walk : List ℕ) → Same walk → (bytes : List ℕ) (o : Outcome) → OnClassText walk bytes here o → OnClassText walk bytes there o
+  classes_same walk same bytes =
+      on_step (IsFewLoopedText true bytes) (λ read. OnClassMesh walk read.1 here) (λ read. OnClassMesh walk read.1 there)
+      (λ read. on_walk First walk read.1 same (λ w. GivesClass read.1 w None) (λ w. GivesClass read.1 w None) (λ w o is. is))
+
+  compares_same : (first second : List ℕ) → Same first → Same second → (bytes : List ℕ) (o : Outcome) →
+      OnSameText first second bytes here o → OnSameText first second bytes there o
+  compares_same first second one two bytes =
+      on_step (IsFewLoopedText true bytes) (λ read. OnSameMesh first second read.1 here) (λ read. OnSameMesh first second read.1 there)
+      (λ read. on_walk First first read.1 one (λ w. OnSecond second read.1 w here) (λ w. OnSecond second read.1 w there)
+      (λ w. on_walk Second second read.1 two (λ v. GivesClass read.1 w (Some v)) (λ v. GivesClass read.1 w (Some v)) (λ v o is. is)))
+
+  confirms_same : (walk cert : List ℕ) → Same walk → Same cert → (bytes : List ℕ) (o : Outcome) →
+      OnConfirmText walk cert bytes here o → OnConfirmText walk cert bytes there o
+  confirms_same walk cert one two bytes =
+      on_step (IsSurfaceText bytes) (λ read. OnConfirmMesh walk cert read.1 here) (λ read. OnConfirmMesh walk cert read.1 there)
+      (λ read. on_walk First walk read.1 one (λ w. OnEvidenceFile cert read.1 w here) (λ w. OnEvidenceFile cert read.1 w there)
+      (λ w. on_file cert two (OnEvidenceText read.1 w) (OnEvidenceText read.1 w) (λ text o is. is)))
+
+  tightens_same : (word walk : List ℕ) → AllByRecursion Same (length_file word) → Same walk → (bytes : List ℕ) (o : Outcome) →
+      OnTightText word walk bytes here o → OnTightText word walk bytes there o
+  tightens_same word walk same one bytes =
+      on_step (IsFewLoopedText true bytes) (λ read. OnCovered word walk read.1 here) (λ read. OnCovered word walk read.1 there)
+      (λ read. on_step (HasSmallCover read.1) (λ small. OnTightMesh word walk small here) (λ small. OnTightMesh word walk small there)
+      (λ small. ends_map (IsMeasured word small here) (IsMeasured word small there) (λ lengths. OnTightLengths walk small lengths here)
+      (λ lengths. OnTightLengths walk small lengths there) (measured_same word small same)
+      (λ lengths. on_walk First walk small one (GivesShortestWalk small lengths) (GivesShortestWalk small lengths) (λ w o is. is))))
+
   requests_same : (r : Option Request) → AllByRecursion Same (named r) → (o : Outcome) → OnRequest r here o → OnRequest r there o
   requests_same None same o on = on
   requests_same (Some help) same o on = on
@@ -112,6 +159,17 @@ module _ (here there : Files) where
       (checks_same word cert same.1.1 same.1.0) o on
   requests_same (Some (measures mesh decimals)) same o on = on_file mesh same.0 (OnLengthsText decimals) (OnLengthsText decimals) (λ bytes o is. is) o on
   requests_same (Some (sews mesh)) same o on = on_file mesh same.0 OnSewText OnSewText (λ bytes o is. is) o on
+  requests_same (Some (classes mesh walk)) same o on =
+      on_file mesh same.0 (λ bytes. OnClassText walk bytes here) (λ bytes. OnClassText walk bytes there) (classes_same walk same.1.0) o on
+  requests_same (Some (compares mesh first second)) same o on =
+      on_file mesh same.0 (λ bytes. OnSameText first second bytes here) (λ bytes. OnSameText first second bytes there)
+      (compares_same first second same.1.0 same.1.1.0) o on
+  requests_same (Some (confirms mesh walk cert)) same o on =
+      on_file mesh same.0 (λ bytes. OnConfirmText walk cert bytes here) (λ bytes. OnConfirmText walk cert bytes there)
+      (confirms_same walk cert same.1.0 same.1.1.0) o on
+  requests_same (Some (tightens mesh word walk)) same o on =
+      on_file mesh same.0 (λ bytes. OnTightText word walk bytes here) (λ bytes. OnTightText word walk bytes there)
+      (tightens_same word walk same.1.1 same.1.0) o on
 
 pub answers_depend_on_named_files : AnswersDependOnNamedFiles
 unfolding Leads

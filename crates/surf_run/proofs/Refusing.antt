@@ -21,7 +21,11 @@ use Rattle.surf_run.specs.Says.{Says}
 use Rattle.surf_run.specs.Steps.{Ends}
 use Rattle.surf_run.specs.Surfaces.{surface_cause, EndsInFault, IsSurfaceText}
 use Rattle.surf_run.specs.Weights.{weighed, weighed_by, weighed_for, length_cause, base_line, based, HasLengths}
-use Rattle.surf_run.proofs.Running.{IsDue, off_due, surface_due, length_due}
+use Rattle.surf_class.specs.Walks.{walk_in}
+use Rattle.surf_class.specs.declared.fault.WalkFault.{WalkFault}
+use Rattle.surf_run.specs.Walks.{walk_cause, walk_named, walked, walked_by, HasWalk}
+use Rattle.surf_run.specs.declared.walks.WalkFile.{WalkFile}
+use Rattle.surf_run.proofs.Running.{IsDue, off_due, surface_due, length_due, walk_due}
 
 -- where a step ends, its status is above 1
 abbrev pub Refusing : {A : Type 0} → (Result A Outcome → Type 0) → Type 0
@@ -99,6 +103,18 @@ measured_refuses word mesh files o is = lengths_refuse word mesh files o is
 pub weighted_refuses : (word : List ℕ) (base : ℕ) (mesh : Mesh) (files : Files) → Refusing (IsWeighted word base mesh files)
 weighted_refuses word base mesh files o (inl is) = lengths_refuse word mesh files o is
 weighted_refuses word base mesh files o (inr (lengths, is, off)) = stated (based base mesh) (based_high (nat_lt base mesh.vertices) base (refuses 7 (base_line base mesh.vertices)) (omega arith)) o off
+
+walked_high : (file : WalkFile) (r : Result (List ℕ) WalkFault) → 1 < end_status (walked file r)
+walked_high file (Ok walk) = omega arith
+walked_high file (Err fault) = due_refuses (walk_cause file fault) (walk_due file fault)
+
+walked_by_high : (file : WalkFile) (mesh : Mesh) (r : Result (List ℕ) Outcome) → 1 < end_status r → 1 < end_status (walked_by file mesh r)
+walked_by_high file mesh (Ok bytes) high = walked_high file (walk_in mesh bytes)
+walked_by_high file mesh (Err o) high = high
+
+pub walk_refuses : (file : WalkFile) (name : List ℕ) (mesh : Mesh) (files : Files) → Refusing (HasWalk file name mesh files)
+walk_refuses file name mesh files o is =
+    stated (walk_named file name mesh files) (walked_by_high file mesh (within_text (bytes_of files name)) (within_high (bytes_of files name))) o is
 
 -- so what ends with status 0 or 1 ends in the second step
 pub goes_on : {A : Type 0} (first : Result A Outcome → Type 0) (second : A → Outcome → Type 0) (o : Outcome) → Refusing first → status_of o ≤ 1 →

@@ -20,6 +20,13 @@ use Rattle.surf_sew.specs.declared.copies.CopyFault.TheVariants as copies
 use Rattle.surf_sew.specs.declared.fault.SewFault.{SewFault}
 use Rattle.surf_sew.specs.declared.fault.SewFault.TheVariants as sewing
 use Rattle.surf_run.specs.Sewing.{copy_cause, sew_cause}
+use Rattle.surf_class.specs.declared.fault.EvidenceFault.{EvidenceFault}
+use Rattle.surf_class.specs.declared.fault.EvidenceFault.TheVariants as evidence
+use Rattle.surf_class.specs.declared.fault.WalkFault.{WalkFault}
+use Rattle.surf_class.specs.declared.fault.WalkFault.TheVariants as walking
+use Rattle.surf_run.specs.Confirming.{evidence_cause}
+use Rattle.surf_run.specs.Walks.{walk_cause}
+use Rattle.surf_run.specs.declared.walks.WalkFile.{WalkFile}
 use Rattle.surf_run.specs.MeshTexts.{off_cause}
 use Rattle.surf_run.specs.Surfaces.{surface_cause}
 use Rattle.surf_run.specs.Weights.{length_cause}
@@ -33,7 +40,7 @@ use Rattle.surf_run.specs.Run.{PutsLine, IsDecided, IsLineOf, Refuses, WritesAns
 use Rattle.surf_run.specs.declared.answered.Verdict.{Verdict}
 use Rattle.surf_run.specs.declared.answered.Verdict.TheVariants.{Yes, No}
 use Rattle.surf_run.specs.declared.refusal.Refused.{Refused}
-use Rattle.surf_run.specs.declared.refusal.Refused.TheVariants.{MeshText, Surface, Lengths, Base, Certificate, Coordinates, Copies, Sewing, Limit, Read, Memory}
+use Rattle.surf_run.specs.declared.refusal.Refused.TheVariants.{MeshText, Surface, Lengths, Base, Certificate, Coordinates, Copies, Sewing, Walk, Evidence, Limit, Read, Memory}
 
 -- what is due has a status from 2 to 8 or from 12 on, and a line
 abbrev pub IsDue : Cause → Type 0
@@ -97,6 +104,21 @@ sew_due (sewing.Line copy earlier) = (omega arith, inr (omega arith))
 sew_due (sewing.FaceRepeat face v) = (omega arith, inr (omega arith))
 sew_due sewing.Memory = tt
 
+pub walk_due : (file : WalkFile) (fault : WalkFault) → IsDue (walk_cause file fault)
+walk_due file walking.Empty = (omega arith, inr (omega arith))
+walk_due file (walking.Form place) = (omega arith, inr (omega arith))
+walk_due file (walking.NotVertex place) = (omega arith, inr (omega arith))
+walk_due file (walking.NotEdge place) = (omega arith, inr (omega arith))
+walk_due file walking.Unclosed = (omega arith, inr (omega arith))
+walk_due file (walking.Trailing line) = (omega arith, inr (omega arith))
+walk_due file walking.Memory = tt
+
+evidence_due : (fault : EvidenceFault) → IsDue (evidence_cause fault)
+evidence_due (evidence.Header line) = (omega arith, inl (omega arith))
+evidence_due (evidence.Form line) = (omega arith, inl (omega arith))
+evidence_due (evidence.Trailing line) = (omega arith, inl (omega arith))
+evidence_due evidence.Memory = tt
+
 pub refusals_are_due : (e : Refused) → IsDue (cause_of e)
 refusals_are_due (MeshText fault) = off_due fault
 refusals_are_due (Surface fault) = surface_due fault
@@ -106,6 +128,8 @@ refusals_are_due (Certificate fault) = cert_due fault
 refusals_are_due (Coordinates fault) = geom_due fault
 refusals_are_due (Copies fault vertices) = copies_due vertices fault
 refusals_are_due (Sewing fault) = sew_due fault
+refusals_are_due (Walk file fault) = walk_due file fault
+refusals_are_due (Evidence fault) = evidence_due fault
 refusals_are_due (Limit kind) = (omega arith, inl (omega arith))
 refusals_are_due Read = tt
 refusals_are_due Memory = tt

@@ -55,7 +55,7 @@ use Rattle.surf_run.proofs.TextLaws.{mesh_texts_are_few}
 -- ---- what is known of what was read
 
 -- a text that is read as a mesh
-read_back : (read : OffParts × Mesh) (r : Result (OffParts × Mesh) OffFault) → Ok read ≡ read_outcome r → r ≡ Ok read
+pub read_back : (read : OffParts × Mesh) (r : Result (OffParts × Mesh) OffFault) → Ok read ≡ read_outcome r → r ≡ Ok read
 read_back read (Ok x) is = ap Ok (sym (ap (mesh_in read) is))
   where
     mesh_in : OffParts × Mesh → Result (OffParts × Mesh) Outcome → OffParts × Mesh
@@ -99,7 +99,7 @@ few_from limit mesh is = elim (cases_lt limit.1 mesh.vertices) [
 -- ---- a file that holds a text
 
 module _ (files : Files) (mesh lengths cert text : List ℕ) (held : bytes_of files cert ≡ Some text) (short : length text ≤ 268435456) where
-  read_again : Reads cert files (Ok text)
+  pub read_again : Reads cert files (Ok text)
   read_again =
       let t : nat_lt 268435456 (length text) ≡ false = le-ltb _ _ short in
       let within : within_text (Some text) ≡ Ok text = rw t refl in
@@ -302,7 +302,7 @@ basis_passes_there files mesh lengths cert text (o, leads, shows) held short =
 -- ---- over other files
 
 -- what is answered is answered over files that agree on those that the words name
-answered_there : (words : List (List ℕ)) (files later : Files) (text : List ℕ) → Answer words files 0 text [] →
+pub answered_there : (words : List (List ℕ)) (files later : Files) (text : List ℕ) → Answer words files 0 text [] →
     AgreeOn (named (request_of words)) files later → Answer words later 0 text []
 answered_there words files later text (o, leads, shows) same =
     (o, answers_depend_on_named_files words files later same o leads, shows)

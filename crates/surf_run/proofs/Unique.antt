@@ -1,5 +1,5 @@
 -- Words and files have one status, and where nothing failed it is the answer.
-use Rattle.std.proofs.Common.{◌≡◌, ◌≢◌, ◌⊎◌, ◌<◌, ◌≤◌, inl, inr, ℕ, Bool, true, List, [], Option, Some, None, Result, Ok, Err, refl, sym, ◌∙◌, ap, subst, arith, length}
+use Rattle.std.proofs.Common.{◌≡◌, ◌≢◌, ◌⊎◌, ◌<◌, ◌≤◌, inl, inr, ℕ, ◌*◌, ◌^◌, Bool, true, false, List, [], Option, Some, None, Result, Ok, Err, refl, sym, ◌∙◌, ap, subst, arith, length}
 use Rattle.std.specs.Prelude.{nat_lt, if◌then◌else◌, codes}
 use Rattle.std.proofs.lemmas.Bool.{cases_eq, cases_lt}
 use Rattle.surf_base.specs.Outside.{Files, bytes_of}
@@ -26,7 +26,7 @@ use Rattle.surf_run.specs.Coordinates.{measured, Measures, GivesMeasures, OnCoor
 use Rattle.surf_run.specs.Cuts.{is_trimmed, cut_text}
 use Rattle.surf_run.specs.Discs.{JudgesDisc}
 use Rattle.surf_run.specs.Info.{Informs}
-use Rattle.surf_run.specs.Given.{looped, searchable, HasFewLoops, HasFewVertices, IsFewLoopedText, IsSearchableText, IsMeasured, IsWeighted}
+use Rattle.surf_run.specs.Given.{loop_count, looped, searchable, HasFewLoops, HasFewVertices, IsFewLoopedText, IsSearchableText, IsMeasured, IsWeighted}
 use Rattle.surf_run.specs.Weights.{HasLengths, HasBase, weighed_for, based}
 use Rattle.surf_run.specs.Says.{Says}
 use Rattle.surf_run.specs.Limits.{beyond}
@@ -52,7 +52,7 @@ use Rattle.surf_cert.specs.Written.{loop_text, basis_text}
 use Rattle.surf_valid.specs.Chosen.{cert_of, basis_cert_of}
 use Rattle.surf_valid.proofs.OneCert.{chosen_certs_are_one}
 use Rattle.surf_valid.proofs.OneBasis.{bases_are_one, chosen_basis_certs_are_one}
-use Rattle.surf_complex.specs.Walk.{ArePositive}
+use Rattle.surf_complex.specs.Walk.{ArePositive, IsClosed, walk_length}
 use Rattle.surf_complex.specs.Choice.{Loop, loops_at}
 use Rattle.surf_complex.proofs.ShortestTreeLaws.{shortest_trees_are_one}
 use Rattle.surf_complex.proofs.LoopsOne.{loops_are_one}
@@ -69,8 +69,20 @@ use Rattle.surf_sew.specs.Copies.{copies_in}
 use Rattle.surf_sew.specs.Sewing.{sewn_of}
 use Rattle.surf_sew.specs.Texts.{sewn_text}
 use Rattle.surf_run.specs.Sewing.{copied, sewn, HasOrigins, IsSewn, GivesSewn, OnSewnMesh, OnOrigins, OnCopies, OnSewText}
+use Rattle.surf_class.specs.Evidences.{evidence_in}
+use Rattle.surf_class.specs.Texts.{evidence_text}
+use Rattle.surf_classes.specs.Evidence.{Evidence, AreClosed}
+use Rattle.surf_classes.proofs.ChosenEvidence.{class_evidence_is_one}
+use Rattle.surf_run.specs.Classes.{null_word, odd_word, GivesClass, OnClassMesh, OnClassText, OnSecond, OnSameMesh, OnSameText}
+use Rattle.surf_run.specs.Confirming.{evident, IsEvidenceText, JudgesEvidence, OnEvidenceText, OnEvidenceFile, OnConfirmMesh, OnConfirmText}
+use Rattle.surf_run.specs.Walks.{walk_named, HasWalk}
+use Rattle.surf_run.specs.declared.walks.WalkFile.{WalkFile}
+use Rattle.surf_run.specs.declared.walks.WalkFile.TheVariants.{First, Second}
+use Rattle.surf_classes.specs.Shortest.{IsChosenWalk}
+use Rattle.surf_classes.proofs.ChosenWalks.{chosen_walk_is_one}
+use Rattle.surf_run.specs.Tightening.{covered, HasSmallCover, shortest_line, GivesShortestWalk, OnTightLengths, OnTightMesh, OnCovered, OnTightText}
 use Rattle.surf_run.specs.Leads.{Leads, Answer, OnRequest, OnInfoText, OnDiscText}
-use Rattle.surf_run.specs.Words.{Request, help, version, info, disc, cycles, weighted, makes, tries, checks, measures, sews, request_of}
+use Rattle.surf_run.specs.Words.{Request, help, version, info, disc, cycles, weighted, makes, tries, checks, measures, sews, classes, compares, confirms, tightens, request_of}
 
 -- two results of a step go on with one value, or end with one status
 abbrev pub Agree : {A : Type 0} → Result A Outcome → Result A Outcome → Type 0
@@ -307,6 +319,71 @@ one_copies bytes read = one_end (HasOrigins bytes read.1.vertices) (OnOrigins re
     (λ origins _. one_end (IsSewn read origins) (OnSewnMesh read origins)
     (one_result (sewn (sewn_of read.0.vertex_lines read.1 origins))) (λ mesh _. one_sewing read origins mesh))
 
+one_walk : (file : WalkFile) (name : List ℕ) (mesh : Mesh) (files : Files) → IsOne (HasWalk file name mesh files)
+one_walk file name mesh files (Ok a) (Ok b) x y = one_result (walk_named file name mesh files) (Ok a) (Ok b) x.0 y.0
+one_walk file name mesh files (Ok a) (Err p) x y = one_result (walk_named file name mesh files) (Ok a) (Err p) x.0 y
+one_walk file name mesh files (Err o) (Ok b) x y = one_result (walk_named file name mesh files) (Err o) (Ok b) x y.0
+one_walk file name mesh files (Err o) (Err p) x y = one_result (walk_named file name mesh files) (Err o) (Err p) x y
+
+-- there is one evidence that is chosen
+one_class : (mesh : Mesh) (walk : List ℕ) (other : Option (List ℕ)) → IsSurface mesh → AreClosed mesh walk other →
+    HasOneStatus (GivesClass mesh walk other)
+one_class mesh walk other surface closed o p x y =
+    let one = class_evidence_is_one mesh surface walk other closed in
+    says_same (evidence_text (null_word other) (odd_word other) x.evidence) (evidence_text (null_word other) (odd_word other) y.evidence) o p
+    (ap (evidence_text (null_word other) (odd_word other)) (one.2 x.evidence x.chosen ∙ sym (one.2 y.evidence y.chosen))) x.says y.says
+
+one_class_text : (walk bytes : List ℕ) (files : Files) → HasOneStatus (OnClassText walk bytes files)
+one_class_text walk bytes files = one_end (IsFewLoopedText true bytes) (λ read. OnClassMesh walk read.1 files) (one_looped_text true bytes)
+    (λ read is. one_end (HasWalk First walk read.1 files) (λ w. GivesClass read.1 w None) (one_walk First walk read.1 files)
+    (λ w has. one_class read.1 w None is.0.1 has.1))
+
+one_same_text : (first second bytes : List ℕ) (files : Files) → HasOneStatus (OnSameText first second bytes files)
+one_same_text first second bytes files = one_end (IsFewLoopedText true bytes) (λ read. OnSameMesh first second read.1 files) (one_looped_text true bytes)
+    (λ read is. one_end (HasWalk First first read.1 files) (λ w. OnSecond second read.1 w files) (one_walk First first read.1 files)
+    (λ w has. one_end (HasWalk Second second read.1 files) (λ v. GivesClass read.1 w (Some v)) (one_walk Second second read.1 files)
+    (λ v too. one_class read.1 w (Some v) is.0.1 (has.1, too.1))))
+
+one_evidence_text : (bytes : List ℕ) → IsOne (IsEvidenceText bytes)
+one_evidence_text bytes = one_result (evident (evidence_in bytes))
+
+-- right evidence has no fault
+one_judged_evidence : (mesh : Mesh) (walk : List ℕ) (evidence : Evidence) → HasOneStatus (JudgesEvidence mesh walk evidence)
+one_judged_evidence mesh walk evidence o p (inl x) (inl y) = ap status_of x.text ∙ sym (ap status_of y.text)
+one_judged_evidence mesh walk evidence o p (inl x) (inr y) = absurd (y.excludes x.right)
+one_judged_evidence mesh walk evidence o p (inr x) (inl y) = absurd (x.excludes y.right)
+one_judged_evidence mesh walk evidence o p (inr x) (inr y) = ap status_of x.text ∙ sym (ap status_of y.text)
+
+one_confirm_text : (walk cert bytes : List ℕ) (files : Files) → HasOneStatus (OnConfirmText walk cert bytes files)
+one_confirm_text walk cert bytes files = one_end (IsSurfaceText bytes) (λ read. OnConfirmMesh walk cert read.1 files) (one_surface_text bytes)
+    (λ read _. one_end (HasWalk First walk read.1 files) (λ w. OnEvidenceFile cert read.1 w files) (one_walk First walk read.1 files)
+    (λ w _. one_end (Reads cert files) (OnEvidenceText read.1 w) (one_result (within_text (bytes_of files cert)))
+    (λ text _. one_end (IsEvidenceText text) (JudgesEvidence read.1 w) (one_evidence_text text) (λ evidence _. one_judged_evidence read.1 w evidence))))
+
+-- a mesh whose cover is small goes on
+small_same : (mesh small : Mesh) → HasSmallCover mesh (Ok small) → small ≡ mesh
+small_same mesh small is = at (nat_lt 8 (loop_count mesh)) (nat_lt 65536 (mesh.vertices * 2 ^ loop_count mesh)) is
+  where
+    at : (loops nodes : Bool) → Ok small ≡ (if loops then Err (beyond limits.CoverLoops) else (if nodes then Err (beyond limits.CoverNodes) else Ok mesh)) → small ≡ mesh
+    at true nodes same = absurd (one_result (Err (beyond limits.CoverLoops)) (Ok small) (Err (beyond limits.CoverLoops)) same refl)
+    at false true same = absurd (one_result (Err (beyond limits.CoverNodes)) (Ok small) (Err (beyond limits.CoverNodes)) same refl)
+    at false false same = one_result (Ok mesh) (Ok small) (Ok mesh) same refl
+
+-- there is one walk that is chosen
+one_shortest : (mesh : Mesh) (lengths walk : List ℕ) → IsSurface mesh → ArePositive mesh lengths → IsClosed mesh walk →
+    HasOneStatus (GivesShortestWalk mesh lengths walk)
+one_shortest mesh lengths walk surface positive closed o p x y =
+    let one = chosen_walk_is_one mesh lengths walk surface positive closed in
+    says_same (shortest_line (walk_length mesh lengths x.found) x.found) (shortest_line (walk_length mesh lengths y.found) y.found) o p
+    (ap (λ (w : List ℕ). shortest_line (walk_length mesh lengths w) w) (one.2 x.found x.chosen ∙ sym (one.2 y.found y.chosen))) x.says y.says
+
+one_covered : (word walk : List ℕ) (mesh : Mesh) (files : Files) → IsSurface mesh → HasOneStatus (OnCovered word walk mesh files)
+one_covered word walk mesh files surface = one_end (HasSmallCover mesh) (λ small. OnTightMesh word walk small files) (one_result (covered mesh))
+    (λ small is. let same : small ≡ mesh = small_same mesh small is in
+    one_end (IsMeasured word small files) (λ lengths. OnTightLengths walk small lengths files) (one_measured word small files)
+    (λ lengths given. one_end (HasWalk First walk small files) (GivesShortestWalk small lengths) (one_walk First walk small files)
+    (λ w has. one_shortest small lengths w (subst IsSurface (sym same) surface) (lengths_positive small lengths given.1 given.2) has.1)))
+
 one_measure : (decimals : ℕ) (read : OffParts × Mesh) → HasOneStatus (OnCoordinates decimals read)
 one_measure decimals read = one_end (Measures decimals read) (GivesMeasures read.1)
     (one_result (measured (measures_in read.1 read.0.vertex_lines decimals)))
@@ -334,6 +411,15 @@ one_request (Some (measures mesh decimals)) files = one_end (Reads mesh files) (
     (λ bytes _. one_end (IsSurfaceText bytes) (OnCoordinates decimals) (one_surface_text bytes) (λ read _. one_measure decimals read))
 one_request (Some (sews mesh)) files = one_end (Reads mesh files) OnSewText (one_result (within_text (bytes_of files mesh)))
     (λ bytes _. one_end (IsMeshText bytes) (OnCopies bytes) (one_mesh_text bytes) (λ read _. one_copies bytes read))
+one_request (Some (classes mesh walk)) files = one_end (Reads mesh files) (λ bytes. OnClassText walk bytes files)
+    (one_result (within_text (bytes_of files mesh))) (λ bytes _. one_class_text walk bytes files)
+one_request (Some (compares mesh first second)) files = one_end (Reads mesh files) (λ bytes. OnSameText first second bytes files)
+    (one_result (within_text (bytes_of files mesh))) (λ bytes _. one_same_text first second bytes files)
+one_request (Some (confirms mesh walk cert)) files = one_end (Reads mesh files) (λ bytes. OnConfirmText walk cert bytes files)
+    (one_result (within_text (bytes_of files mesh))) (λ bytes _. one_confirm_text walk cert bytes files)
+one_request (Some (tightens mesh word walk)) files = one_end (Reads mesh files) (λ bytes. OnTightText word walk bytes files)
+    (one_result (within_text (bytes_of files mesh))) (λ bytes _. one_end (IsFewLoopedText true bytes) (λ read. OnCovered word walk read.1 files)
+    (one_looped_text true bytes) (λ read is. one_covered word walk read.1 files is.0.1))
 
 module _ (words : List (List ℕ)) (files : Files) where
   pub one_lead : HasOneStatus (Leads words files)

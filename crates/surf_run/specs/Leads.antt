@@ -17,7 +17,10 @@ use Rattle.surf_run.specs.Surfaces.{IsSurfaceText}
 use Rattle.surf_run.specs.Tasks.{OnTask}
 use Rattle.surf_run.specs.Trying.{OnTry}
 use Rattle.surf_run.specs.Sewing.{OnSew}
-use Rattle.surf_run.specs.Words.{Request, help, version, info, disc, cycles, weighted, makes, tries, checks, measures, sews, request_of}
+use Rattle.surf_run.specs.Classes.{OnClass, OnSame}
+use Rattle.surf_run.specs.Confirming.{OnConfirm}
+use Rattle.surf_run.specs.Tightening.{OnShortest}
+use Rattle.surf_run.specs.Words.{Request, help, version, info, disc, cycles, weighted, makes, tries, checks, measures, sews, classes, compares, confirms, tightens, request_of}
 
 -- `info` of the text of a mesh
 abbrev pub OnInfoText : List ℕ → Outcome → Type 0
@@ -49,6 +52,10 @@ OnRequest (Some (tries shape scatter)) files outcome = OnTry shape scatter outco
 OnRequest (Some (checks mesh lengths cert)) files outcome = OnCheck mesh lengths cert files outcome
 OnRequest (Some (measures mesh decimals)) files outcome = OnLengths mesh decimals files outcome
 OnRequest (Some (sews mesh)) files outcome = OnSew mesh files outcome
+OnRequest (Some (classes mesh walk)) files outcome = OnClass mesh walk files outcome
+OnRequest (Some (compares mesh first second)) files outcome = OnSame mesh first second files outcome
+OnRequest (Some (confirms mesh walk cert)) files outcome = OnConfirm mesh walk cert files outcome
+OnRequest (Some (tightens mesh lengths walk)) files outcome = OnShortest mesh lengths walk files outcome
 
 -- what comes of these words over these files
 unfoldable pub Leads : List (List ℕ) → Files → Outcome → Type 0

@@ -6,6 +6,11 @@ pub mod Surfaces
 pub mod Weights
 pub mod Coordinates
 pub mod Sewing
+pub mod Walks
+pub mod Classes
+pub mod Confirming
+pub mod Tightening
+pub mod SignedDesks
 pub mod Refusals
 pub mod Steps
 pub mod Words

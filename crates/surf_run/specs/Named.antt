@@ -4,7 +4,7 @@ use Rattle.std.specs.Str.{bytes_eq}
 use Rattle.surf_base.specs.Outside.{Files, bytes_of}
 use Rattle.surf_run.specs.Leads.{Leads}
 use Rattle.surf_run.specs.Outcome.{Outcome}
-use Rattle.surf_run.specs.Words.{Request, help, version, info, disc, cycles, weighted, makes, tries, checks, measures, sews, request_of}
+use Rattle.surf_run.specs.Words.{Request, help, version, info, disc, cycles, weighted, makes, tries, checks, measures, sews, classes, compares, confirms, tightens, request_of}
 
 -- the file of the lengths that a word gives, where it isn't `unit`
 abbrev pub length_file : List ℕ → List (List ℕ)
@@ -24,6 +24,10 @@ named (Some (tries shape scatter)) = []
 named (Some (checks mesh lengths cert)) = mesh ∷ cert ∷ length_file lengths
 named (Some (measures mesh decimals)) = mesh ∷ []
 named (Some (sews mesh)) = mesh ∷ []
+named (Some (classes mesh walk)) = mesh ∷ walk ∷ []
+named (Some (compares mesh first second)) = mesh ∷ first ∷ second ∷ []
+named (Some (confirms mesh walk cert)) = mesh ∷ walk ∷ cert ∷ []
+named (Some (tightens mesh lengths walk)) = mesh ∷ walk ∷ length_file lengths
 
 -- the files of these names are the same here and there
 abbrev pub AgreeOn : List (List ℕ) → Files → Files → Type 0

@@ -7,13 +7,15 @@ use Rattle.surf_run.specs.Cause.{Cause, due, unread, starved}
 use Rattle.surf_run.specs.CertTexts.{cert_cause}
 use Rattle.surf_run.specs.Coordinates.{geom_cause}
 use Rattle.surf_run.specs.Sewing.{copy_cause, sew_cause}
+use Rattle.surf_run.specs.Confirming.{evidence_cause}
+use Rattle.surf_run.specs.Walks.{walk_cause}
 use Rattle.surf_run.specs.Limits.{beyond}
 use Rattle.surf_run.specs.MeshTexts.{off_cause}
 use Rattle.surf_run.specs.Outcome.{refuses}
 use Rattle.surf_run.specs.Surfaces.{surface_cause}
 use Rattle.surf_run.specs.Weights.{length_cause, base_line}
 use Rattle.surf_run.specs.declared.refusal.Refused.{Refused}
-use Rattle.surf_run.specs.declared.refusal.Refused.TheVariants.{MeshText, Surface, Lengths, Base, Certificate, Coordinates, Copies, Sewing, Limit, Read, Memory}
+use Rattle.surf_run.specs.declared.refusal.Refused.TheVariants.{MeshText, Surface, Lengths, Base, Certificate, Coordinates, Copies, Sewing, Walk, Evidence, Limit, Read, Memory}
 
 abbrev pub cause_of : Refused → Cause
 cause_of (MeshText fault) = off_cause fault
@@ -24,6 +26,8 @@ cause_of (Certificate fault) = cert_cause fault
 cause_of (Coordinates fault) = geom_cause fault
 cause_of (Copies fault vertices) = copy_cause vertices fault
 cause_of (Sewing fault) = sew_cause fault
+cause_of (Walk file fault) = walk_cause file fault
+cause_of (Evidence fault) = evidence_cause fault
 cause_of (Limit kind) = due (beyond kind)
 cause_of Read = unread
 cause_of Memory = starved

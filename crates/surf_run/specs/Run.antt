@@ -4,7 +4,7 @@ use Rattle.surf_base.specs.Outside.{Files, HasRisen, GrowsBy}
 use Rattle.surf_base.specs.Transfer.{GrowsByShorter}
 use Rattle.surf_run.specs.Cause.{Cause, line_of, status_of_cause}
 use Rattle.surf_run.specs.Leads.{Answer}
-use Rattle.surf_run.specs.Words.{Request, help, version, info, disc, cycles, weighted, makes, tries, checks, measures, sews}
+use Rattle.surf_run.specs.Words.{Request, help, version, info, disc, cycles, weighted, makes, tries, checks, measures, sews, classes, compares, confirms, tightens}
 
 -- The words are a row of the command table that names a file.
 abbrev pub NamesFile : Option Request → Type 0
@@ -20,6 +20,10 @@ NamesFile (Some (tries shape scatter)) = ⊥
 NamesFile (Some (checks mesh lengths cert)) = Unit {0}
 NamesFile (Some (measures mesh decimals)) = Unit {0}
 NamesFile (Some (sews mesh)) = Unit {0}
+NamesFile (Some (classes mesh walk)) = Unit {0}
+NamesFile (Some (compares mesh first second)) = Unit {0}
+NamesFile (Some (confirms mesh walk cert)) = Unit {0}
+NamesFile (Some (tightens mesh lengths walk)) = Unit {0}
 
 -- The whole text of an answer with status 0 or 1 was written.
 abbrev pub WritesAnswer : List (List ℕ) → ℕ → Option (List ℕ) → Option (List ℕ) → Files → Type 0

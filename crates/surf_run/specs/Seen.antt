@@ -1,7 +1,7 @@
 -- A command of the code as a row of the command table.
 use Rattle.surf_run.specs.declared.words.Command.{Command}
-use Rattle.surf_run.specs.declared.words.Command.TheVariants.{Help, Version, Info, Disc, Cycles, Weighted, Generate, Try, Check, Measure, Sew}
-use Rattle.surf_run.specs.Words.{Request, help, version, info, disc, cycles, weighted, makes, tries, checks, measures, sews}
+use Rattle.surf_run.specs.declared.words.Command.TheVariants.{Help, Version, Info, Disc, Cycles, Weighted, Generate, Try, Check, Measure, Sew, Class, Same, Confirm, Shortest}
+use Rattle.surf_run.specs.Words.{Request, help, version, info, disc, cycles, weighted, makes, tries, checks, measures, sews, classes, compares, confirms, tightens}
 
 abbrev pub request : Command → Request
 request Help = help
@@ -15,3 +15,7 @@ request (Try shape scatter) = tries shape scatter
 request (Check mesh lengths cert) = checks mesh.now lengths.now cert.now
 request (Measure mesh decimals) = measures mesh.now decimals
 request (Sew mesh) = sews mesh.now
+request (Class mesh walk) = classes mesh.now walk.now
+request (Same mesh first second) = compares mesh.now first.now second.now
+request (Confirm mesh walk cert) = confirms mesh.now walk.now cert.now
+request (Shortest mesh lengths walk) = tightens mesh.now lengths.now walk.now

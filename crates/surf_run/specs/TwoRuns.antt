@@ -1,9 +1,12 @@
--- What `certify` writes passes `check`.
+-- What `certify` writes passes `check`, and what `class` writes is confirmed.
 use Rattle.std.specs.Prelude.{◌≡◌, ℕ, ◌≤◌, List, [], ◌∷◌, length, Some, codes}
 use Rattle.surf_base.specs.Outside.{Files, bytes_of}
+use Rattle.surf_class.specs.Texts.{evidence_text}
+use Rattle.surf_classes.specs.Evidence.{Evidence}
 use Rattle.surf_complex.specs.Choice.{Loop}
 use Rattle.surf_print.specs.CycleTexts.{cycles_text}
 use Rattle.surf_print.specs.LoopTexts.{loops_text}
+use Rattle.surf_run.specs.Confirming.{right_line}
 use Rattle.surf_run.specs.Leads.{Answer, Leads}
 use Rattle.surf_run.specs.Named.{length_file, AgreeOn}
 use Rattle.surf_run.specs.Outcome.{Outcome}
@@ -42,3 +45,13 @@ CertifiedBasesPass =
     Answer (codes "certify" ∷ mesh ∷ lengths ∷ []) files 0 text [] →
     AgreeOn (mesh ∷ length_file lengths) files later → bytes_of later cert ≡ Some text → length text ≤ 268435456 →
     BasisPasses later mesh lengths cert
+
+-- `confirm` of a file says that its evidence is right, over files that have the same mesh and walk, where the file holds
+-- what `class` answered of them, and isn't too long to be read.
+abbrev pub ClassesAreConfirmed : Type 0
+ClassesAreConfirmed =
+    (files later : Files) (mesh walk cert text : List ℕ) →
+    Answer (codes "class" ∷ mesh ∷ walk ∷ []) files 0 text [] →
+    AgreeOn (mesh ∷ walk ∷ []) files later → bytes_of later cert ≡ Some text → length text ≤ 268435456 →
+    (evidence : Evidence) × (text ≡ evidence_text (codes "null") (codes "odd") evidence)
+    × Answer (codes "confirm" ∷ mesh ∷ walk ∷ cert ∷ []) later 0 (right_line evidence) []

@@ -35,6 +35,14 @@ pub data Request : Type 0 where
   measures : List ℕ → ℕ → Request
   -- the mesh before the cut, from the text that `cut` wrote
   sews : List ℕ → Request
+  -- evidence of the class of the walk of a file
+  classes : List ℕ → List ℕ → Request
+  -- evidence of how the classes of the walks of two files differ
+  compares : List ℕ → List ℕ → List ℕ → Request
+  -- whether the evidence of a file is right for the class of the walk of another
+  confirms : List ℕ → List ℕ → List ℕ → Request
+  -- a shortest walk in the class of the walk of a file, with the lengths that a word gives
+  tightens : List ℕ → List ℕ → List ℕ → Request
 
 abbrev pub lone_request : List ℕ → Option Request
 lone_request word =
@@ -111,13 +119,17 @@ chain_words kind tori rows columns =
 abbrev pub three_words : List ℕ → List ℕ → List ℕ → Option Request
 three_words word mesh third =
     if bytes_eq word (codes "lengths") then measures_request mesh (decimals_of third)
-    else cycles_request (cycle_task word) mesh third
+    else (if bytes_eq word (codes "class") then Some (classes mesh third)
+    else cycles_request (cycle_task word) mesh third)
 
 abbrev pub four_words : List ℕ → List ℕ → List ℕ → List ℕ → Option Request
 four_words word second third fourth =
     if bytes_eq word (codes "gen") then shape_request (torus_words second third fourth)
     else (if bytes_eq word (codes "check") then Some (checks second third fourth)
-    else weighted_request (task_of word) second third (number_of fourth))
+    else (if bytes_eq word (codes "same") then Some (compares second third fourth)
+    else (if bytes_eq word (codes "confirm") then Some (confirms second third fourth)
+    else (if bytes_eq word (codes "shortest") then Some (tightens second third fourth)
+    else weighted_request (task_of word) second third (number_of fourth)))))
 
 abbrev pub five_words : List ℕ → List ℕ → List ℕ → List ℕ → List ℕ → Option Request
 five_words word second third fourth fifth =

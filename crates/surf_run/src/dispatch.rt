@@ -16,6 +16,9 @@ use crate::refusal::Refused;
 use crate::try_command::tried;
 use crate::weighted::weighted;
 use crate::sew_command::sew;
+use crate::class_command::{class, same};
+use crate::confirm_command::confirm;
+use crate::shortest_command::shortest;
 use crate::words::Command;
 use std::alloc::Global;
 use surf_base::Shelf;
@@ -52,5 +55,17 @@ pub fn answer<S: Shelf>(alloc: Global, command: Command, shelf: &mut S) -> Resul
         } => checked(alloc, shelf, mesh, lengths, cert),
         Command::Measure { mesh, decimals } => lengths(alloc, shelf, mesh, decimals),
         Command::Sew { mesh } => sew(alloc, shelf, mesh),
+        Command::Class { mesh, walk } => class(alloc, shelf, mesh, walk),
+        Command::Same {
+            mesh,
+            first,
+            second,
+        } => same(alloc, shelf, mesh, first, second),
+        Command::Confirm { mesh, walk, cert } => confirm(alloc, shelf, mesh, walk, cert),
+        Command::Shortest {
+            mesh,
+            lengths,
+            walk,
+        } => shortest(alloc, shelf, mesh, lengths, walk),
     }
 }

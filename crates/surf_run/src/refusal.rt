@@ -2,17 +2,20 @@
 ghost use Rattle.std.specs.Prelude.{◌≡◌, IfOk, string_bytes};
 ghost use Rattle.surf_run.specs.Cause.{line_of, status_of_cause};
 ghost use Rattle.surf_run.specs.Refusals.{cause_of, of_page};
-ghost use Rattle.surf_run.specs.declared.refusal.Refused.TheVariants.{MeshText, Surface, Lengths, Certificate, Coordinates, Sewing, Memory};
+ghost use Rattle.surf_run.specs.declared.refusal.Refused.TheVariants.{MeshText, Surface, Lengths, Certificate, Coordinates, Sewing, Evidence, Memory};
 
 use crate::certificates::cert_line;
+use crate::confirm_command::evidence_line;
 use crate::lengths_command::geom_line;
 use crate::lines::{limit_line, off_line, surface_line};
 use crate::sew_command::{copy_line, sew_line};
+use crate::walks::{WalkFile, walk_line};
 use crate::weights::{base_line, length_line};
 use std::alloc::{AllocError, AllocFailed, Global};
 use surf_base::{LimitKind, NoMemory};
 use surf_cert::CertText;
 use surf_check::SurfaceFault;
+use surf_class::{EvidenceFault, WalkFault};
 use surf_geom::GeomFault;
 use surf_lengths::LengthFault;
 use surf_off::OffFault;
@@ -30,6 +33,8 @@ pub enum Refused {
     Coordinates(GeomFault),
     Copies { fault: CopyFault, vertices: u32 },
     Sewing(SewFault),
+    Walk { file: WalkFile, fault: WalkFault },
+    Evidence(EvidenceFault),
     Limit(LimitKind),
     Read,
     Memory,
@@ -99,6 +104,14 @@ impl From<SewFault> for Refused {
     }
 }
 
+impl From<EvidenceFault> for Refused {
+    ghost from_gives = { λ fault e. e ≡ Evidence fault };
+
+    fn from(fault: EvidenceFault) -> Refused {
+        Refused::Evidence(fault)
+    }
+}
+
 impl From<PageFault> for Refused {
     ghost from_gives = { λ fault e. e ≡ of_page fault };
 
@@ -135,14 +148,20 @@ impl Refused {
                 ..
             }
             | Refused::Sewing(SewFault::Memory)
+            | Refused::Walk {
+                fault: WalkFault::Memory,
+                ..
+            }
+            | Refused::Evidence(EvidenceFault::Memory)
             | Refused::Memory => 11,
             Refused::MeshText(_) => 3,
             Refused::Surface(_) => 4,
             Refused::Lengths(_) => 5,
             Refused::Base { .. } => 7,
-            Refused::Certificate(_) => 8,
+            Refused::Certificate(_) | Refused::Evidence(_) => 8,
             Refused::Read => 9,
             Refused::Coordinates(_) => 12,
+            Refused::Walk { .. } => 13,
             Refused::Copies { .. } | Refused::Sewing(_) => 14,
         }
     }
@@ -160,6 +179,8 @@ impl Refused {
             Refused::Coordinates(fault) => geom_line(alloc, fault),
             Refused::Copies { fault, vertices } => copy_line(alloc, fault, *vertices),
             Refused::Sewing(fault) => sew_line(alloc, fault),
+            Refused::Walk { file, fault } => walk_line(alloc, *file, fault),
+            Refused::Evidence(fault) => evidence_line(alloc, fault),
             Refused::Limit(kind) => limit_line(alloc, *kind),
             Refused::Read => String::from_str(alloc, "read fault\n"),
             Refused::Memory => String::from_str(alloc, "memory\n"),

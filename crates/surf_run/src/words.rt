@@ -51,6 +51,25 @@ pub enum Command<'w> {
     Sew {
         mesh: &'w str,
     },
+    Class {
+        mesh: &'w str,
+        walk: &'w str,
+    },
+    Same {
+        mesh: &'w str,
+        first: &'w str,
+        second: &'w str,
+    },
+    Confirm {
+        mesh: &'w str,
+        walk: &'w str,
+        cert: &'w str,
+    },
+    Shortest {
+        mesh: &'w str,
+        lengths: &'w str,
+        walk: &'w str,
+    },
 }
 
 // A number word: digits of a value at most 4,294,967,295.
@@ -206,6 +225,9 @@ fn on_three<'w>(word: &str, mesh: &'w str, third: &'w str) -> Option<Command<'w>
     if word == "lengths" {
         return measured(mesh, decimals_of(third));
     }
+    if word == "class" {
+        return Some(Command::Class { mesh, walk: third });
+    }
     cycles(cycle_task(word), mesh, third)
 }
 
@@ -221,6 +243,27 @@ fn on_four<'w>(word: &str, second: &'w str, third: &'w str, fourth: &'w str) -> 
             mesh: second,
             lengths: third,
             cert: fourth,
+        });
+    }
+    if word == "same" {
+        return Some(Command::Same {
+            mesh: second,
+            first: third,
+            second: fourth,
+        });
+    }
+    if word == "confirm" {
+        return Some(Command::Confirm {
+            mesh: second,
+            walk: third,
+            cert: fourth,
+        });
+    }
+    if word == "shortest" {
+        return Some(Command::Shortest {
+            mesh: second,
+            lengths: third,
+            walk: fourth,
         });
     }
     weighted(task_of(word), second, third, number_of(fourth))

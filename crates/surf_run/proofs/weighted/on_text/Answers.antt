@@ -1,10 +1,14 @@
-use Rattle.std.proofs.Common.{Ok, subst}
+use Rattle.std.proofs.Common.{Ok, Err, subst}
 use Rattle.std.specs.Prelude.{Bool}
 use Rattle.surf_complex.specs.Mesh.{Mesh}
 use Rattle.surf_off.specs.Off.{OffParts}
 use Rattle.surf_run.specs.Given.{IsFewLoopedText}
 use Rattle.surf_run.specs.Tasks.{OnSurface, is_limited}
-use Rattle.surf_run.proofs.Composing.{goes_before}
+use Rattle.surf_run.specs.Tells.{Why}
+use Rattle.std.proofs.lemmas.Result.{err_from_is_err_and}
+use Rattle.surf_run.specs.Outcome.{Outcome}
+use Rattle.surf_run.specs.Refusals.{cause_of}
+use Rattle.surf_run.proofs.Composing.{goes_before, stops_before}
 use Rattle.surf_run.proofs.weighted.on_text.Goals as goal
 
 pub returns-clause-tells : goal.returns-clause-tells
@@ -13,3 +17,11 @@ returns-clause-tells g c =
     goes_before (g.S.Shelf.holds c.args.shelf.now) (g.S.Shelf.faults c.args.shelf.now) (g.S.Shelf.faults c.on_surface.new.shelf)
     (IsFewLoopedText (is_limited c.args.task) c.args.bytes.now) (λ given. OnSurface c.args.task given c.args.lengths.now c.args.base)
     read (subst (λ (limited : Bool). IsFewLoopedText limited c.args.bytes.now (Ok read)) c.is_limited.ensures c.in_ok-text.ensures.tells) c.on_surface.result c.on_surface.ensures.tells
+
+pub returns-in_err-text-clause-tells : goal.returns-in_err-text-clause-tells
+returns-in_err-text-clause-tells g c =
+    let p = err_from_is_err_and c.from_residual.result c.from_residual.ensures.1 in
+    rw (p.1, p.2) (stops_before (g.S.Shelf.holds c.args.shelf.now) (g.S.Shelf.faults c.args.shelf.now) (g.S.Shelf.faults c.args.shelf.now) (IsFewLoopedText (is_limited c.args.task) c.args.bytes.now)
+    (λ read. OnSurface c.args.task read c.args.lengths.now c.args.base) (cause_of c.in_err-text.field-0.0)
+    (subst (λ (limited : Bool). Why (λ (o : Outcome). IsFewLoopedText limited c.args.bytes.now (Err o)) (cause_of c.in_err-text.field-0.0)) c.is_limited.ensures
+    c.in_err-text.ensures.tells))

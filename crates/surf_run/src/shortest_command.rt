@@ -1,0 +1,170 @@
+//! The command `shortest`.
+ghost use Rattle.std.specs.Prelude.{◌≡◌, ◌≤◌, ◌+◌, ◌*◌, ◌^◌, length, IfOk};
+ghost use Rattle.surf_complex.specs.Surface.{edge_count, face_count};
+ghost use Rattle.surf_complex.specs.Walk.{IsClosed};
+ghost use Rattle.surf_cover.specs.Starts.{IsLeastInClass};
+ghost use Rattle.surf_print.specs.Fills.{Fills};
+ghost use Rattle.surf_run.specs.Given.{loop_count};
+ghost use Rattle.surf_run.specs.Tells.{Concludes, ConcludesOver, Takes};
+ghost use Rattle.surf_run.specs.Tightening.{GivesShortestWalk, HasSmallCover, OnCovered, OnShortest, OnTightLengths, OnTightMesh, OnTightText, shortest_line};
+
+use crate::answered::{Answered, Verdict};
+use crate::info_command::loop_count;
+use crate::reading::{read_file, read_looped};
+use crate::refusal::Refused;
+use crate::signed::signed_desk;
+use crate::walks::{WalkFile, walk_named};
+use crate::weights::read_measures;
+use std::alloc::Global;
+use surf_base::{LimitKind, MAX_ANSWER, MAX_COVER_LOOPS, MAX_COVER_NODES, NoMemory, Shelf};
+use surf_cover::{ClassWalk, least_in_class};
+use surf_lengths::Lengths;
+use surf_mesh::{HalfMesh, Walk};
+use surf_print::put_walk;
+use surf_text::{Page, PageFault};
+
+/// What `shortest` answers: the walk that is chosen of the shortest in the class of a walk.
+pub fn shortest<S: Shelf>(
+    alloc: Global,
+    shelf: &mut S,
+    mesh: &str,
+    lengths: &str,
+    walk: &str,
+) -> Result<Answered, Refused>
+    ensures holds { S.holds shelf.new ≡ S.holds shelf.old }
+    ensures later { S.faults shelf.old ≤ S.faults shelf.new }
+    ensures tells { ConcludesOver (S.holds shelf.old) (S.faults shelf.old) (S.faults shelf.new) (OnShortest mesh.now lengths.now walk.now) result }
+{
+    let bytes = read_file(alloc, shelf, mesh)?;
+    on_text(alloc, shelf, &bytes, lengths, walk)
+}
+
+fn on_text<S: Shelf>(
+    alloc: Global,
+    shelf: &mut S,
+    bytes: &[u8],
+    lengths: &str,
+    walk: &str,
+) -> Result<Answered, Refused>
+    requires { length bytes.now ≤ 268435456 }
+    ensures holds { S.holds shelf.new ≡ S.holds shelf.old }
+    ensures later { S.faults shelf.old ≤ S.faults shelf.new }
+    ensures tells { ConcludesOver (S.holds shelf.old) (S.faults shelf.old) (S.faults shelf.new) (OnTightText lengths.now walk.now bytes.now) result }
+{
+    let (_, mesh) = read_looped(alloc, true, bytes)?;
+    on_cover(alloc, shelf, &mesh, lengths, walk)
+}
+
+// Whether a mesh has few loops, and then few pairs of a vertex and a set of loops.
+fn test_cover(mesh: &HalfMesh) -> Result<(), Refused>
+    ensures tells { Takes (λ _. mesh.now) (HasSmallCover mesh.now) result }
+    ensures loops { IfOk result (λ _. loop_count mesh.now ≤ 8) }
+    ensures nodes { IfOk result (λ _. mesh.now.vertices * 2 ^ loop_count mesh.now ≤ 65536) }
+{
+    let loops = loop_count(mesh);
+    if loops > MAX_COVER_LOOPS as u64 {
+        return Err(Refused::Limit(LimitKind::CoverLoops));
+    }
+    if (u64::from(mesh.vertices()) << loops) > MAX_COVER_NODES as u64 {
+        return Err(Refused::Limit(LimitKind::CoverNodes));
+    }
+    Ok(())
+}
+
+fn on_cover<S: Shelf>(
+    alloc: Global,
+    shelf: &mut S,
+    mesh: &HalfMesh,
+    lengths: &str,
+    walk: &str,
+) -> Result<Answered, Refused>
+    ensures holds { S.holds shelf.new ≡ S.holds shelf.old }
+    ensures later { S.faults shelf.old ≤ S.faults shelf.new }
+    ensures tells { ConcludesOver (S.holds shelf.old) (S.faults shelf.old) (S.faults shelf.new) (OnCovered lengths.now walk.now mesh.now) result }
+{
+    test_cover(mesh)?;
+    on_mesh(alloc, shelf, mesh, lengths, walk)
+}
+
+fn on_mesh<S: Shelf>(
+    alloc: Global,
+    shelf: &mut S,
+    mesh: &HalfMesh,
+    lengths: &str,
+    walk: &str,
+) -> Result<Answered, Refused>
+    requires loops { loop_count mesh.now ≤ 8 }
+    requires nodes { mesh.now.vertices * 2 ^ loop_count mesh.now ≤ 65536 }
+    ensures holds { S.holds shelf.new ≡ S.holds shelf.old }
+    ensures later { S.faults shelf.old ≤ S.faults shelf.new }
+    ensures tells { ConcludesOver (S.holds shelf.old) (S.faults shelf.old) (S.faults shelf.new) (OnTightMesh lengths.now walk.now mesh.now) result }
+{
+    let lengths = read_measures(alloc, shelf, mesh, lengths)?;
+    on_lengths(alloc, shelf, mesh, &lengths, walk)
+}
+
+fn on_lengths<S: Shelf>(
+    alloc: Global,
+    shelf: &mut S,
+    mesh: &HalfMesh,
+    lengths: &Lengths,
+    walk: &str,
+) -> Result<Answered, Refused>
+    requires loops { loop_count mesh.now ≤ 8 }
+    requires nodes { mesh.now.vertices * 2 ^ loop_count mesh.now ≤ 65536 }
+    requires lengths { length lengths.now ≡ edge_count mesh.now }
+    ensures holds { S.holds shelf.new ≡ S.holds shelf.old }
+    ensures later { S.faults shelf.old ≤ S.faults shelf.new }
+    ensures tells { ConcludesOver (S.holds shelf.old) (S.faults shelf.old) (S.faults shelf.new) (OnTightLengths walk.now mesh.now lengths.now) result }
+{
+    let walk = walk_named(alloc, shelf, mesh, WalkFile::First, walk)?;
+    shortest_of(alloc, mesh, lengths, &walk)
+}
+
+fn shortest_of(
+    alloc: Global,
+    mesh: &HalfMesh,
+    lengths: &Lengths,
+    walk: &Walk,
+) -> Result<Answered, Refused>
+    requires loops { loop_count mesh.now ≤ 8 }
+    requires nodes { mesh.now.vertices * 2 ^ loop_count mesh.now ≤ 65536 }
+    requires lengths { length lengths.now ≡ edge_count mesh.now }
+    requires closed { IsClosed mesh.now walk.now }
+    ensures { Concludes (GivesShortestWalk mesh.now lengths.now walk.now) result }
+{
+    let found = found_walk(alloc, mesh, lengths, walk)?;
+    let mut page = Page::make(alloc, MAX_ANSWER);
+    put_shortest(&mut page, &found)?;
+    Ok(Answered {
+        verdict: Verdict::Yes,
+        text: page.into_bytes(),
+    })
+}
+
+// The walk that is chosen, by the signatures of the trees at vertex 0.
+fn found_walk(
+    alloc: Global,
+    mesh: &HalfMesh,
+    lengths: &Lengths,
+    walk: &Walk,
+) -> Result<ClassWalk, NoMemory>
+    requires loops { loop_count mesh.now ≤ 8 }
+    requires nodes { mesh.now.vertices * 2 ^ loop_count mesh.now ≤ 65536 }
+    requires lengths { length lengths.now ≡ edge_count mesh.now }
+    requires closed { IsClosed mesh.now walk.now }
+    ensures { IfOk result (IsLeastInClass mesh.now lengths.now walk.now) }
+{
+    let desk = signed_desk(alloc, mesh, lengths)?;
+    least_in_class(alloc, mesh, lengths, desk.cotree(), walk)
+}
+
+// Puts the line of a walk with its length.
+fn put_shortest(page: &mut Page, found: &ClassWalk) -> Result<(), PageFault>
+    ensures { Fills page.old page.new (shortest_line found.now.length found.now.walk) result }
+{
+    page.push_bytes(b"shortest ")?;
+    page.push_whole(found.length as u128)?;
+    put_walk(page, found.walk.vertices())?;
+    page.push_bytes(b"\n")
+}
