@@ -1,10 +1,10 @@
 -- Evidence as it is counted.
-use Rattle.std.proofs.Common.{◌≡◌, ◌≢◌, ℕ, ◌<◌, ◌≤◌, Bool, true, false, suc, List, [], ◌∷◌, length, get_or, map, AllPairs, All, Contains, Result, Ok, Err, Option, Some, None, IfErr, refl, sym, ap, ◌∙◌, subst, arith}
+use Rattle.std.proofs.Common.{◌≡◌, ◌≢◌, ℕ, ◌<◌, ◌≤◌, Bool, true, false, suc, List, [], ◌∷◌, get_or, AllPairs, All, Contains, Result, Ok, Err, Some, None, IfErr, refl, sym, ap, ◌∙◌, subst, arith}
 use Rattle.std.specs.List.{position}
 use Rattle.std.proofs.lemmas.List.Quantifiers.{position-Some}
 use Rattle.std.proofs.lemmas.List.{get_or_default}
 use Rattle.surf_class.proofs.Lists.{none_passes}
-use Rattle.surf_z2.specs.Parity.{xor, odd}
+use Rattle.surf_z2.specs.Parity.{xor}
 use Rattle.surf_z2.specs.Space.{Chain}
 use Rattle.surf_complex.specs.Mesh.{Mesh, edges, pair_lt}
 use Rattle.surf_complex.specs.Surface.{face_count, edge_count, faces_of, ends, IsSurface}
@@ -15,7 +15,7 @@ use Rattle.surf_complex.proofs.LawProofs.{edges_are_numbered}
 use Rattle.surf_certcheck.specs.First.{HoldsBelow, FailsFirst}
 use Rattle.surf_certcheck.specs.Split.{AreFlags, is_flagged}
 use Rattle.surf_classes.specs.Evidence.{Evidence, IsEvidence, IsRising, IsNullEvidence, IsOddEvidence, is_listed, has_odd_sides, is_odd_in}
-use Rattle.surf_classes.specs.Faults.{IsNoBoundary, IsOddFace, IsEvenNumber, IsFirstFault}
+use Rattle.surf_classes.specs.Faults.{IsNoBoundary, IsOddFace, IsEvenNumber}
 use Rattle.surf_classes.proofs.FirstFaults.{faults_are_told}
 use Rattle.surf_class.specs.Agreement.{AgreesAt}
 use Rattle.surf_class.specs.Faults.{IsClassFault}

@@ -1,8 +1,7 @@
 -- The chosen evidence.
-use Rattle.std.proofs.Common.{◌≡◌, ◌≢◌, ℕ, ◌<◌, ◌≤◌, ◌+◌, Bool, true, false, List, length, get_or, map, filter, Option, Some, None, bit_xor, refl, sym, ap, ◌∙◌, subst, arith, unwrap_or}
+use Rattle.std.proofs.Common.{◌≡◌, ℕ, ◌<◌, Bool, true, false, List, length, get_or, map, filter, Option, refl, sym, ap, ◌∙◌, subst, arith, unwrap_or}
 use Rattle.std.specs.List.{range_with_len}
 use Rattle.std.proofs.lemmas.List.FromFn.{get_or-map-range_with_len}
-use Rattle.std.proofs.lemmas.Bool.{cases_Bool, true≢false}
 use Rattle.surf_z2.specs.Parity.{xor}
 use Rattle.surf_z2.specs.Space.{Chain}
 use Rattle.surf_z2.specs.Sieve.{has}
@@ -11,22 +10,22 @@ use Rattle.surf_homology.specs.Trees.{Tree}
 use Rattle.surf_homology.specs.Independence.{signature_of}
 use Rattle.surf_homology.proofs.Graphs.{leaves_joined}
 use Rattle.surf_complex.specs.Mesh.{Mesh}
-use Rattle.surf_complex.specs.Surface.{face_count, edge_count, ends, faces_of, IsSurface}
-use Rattle.surf_complex.specs.Homology.{boundary, IsBoundary}
+use Rattle.surf_complex.specs.Surface.{face_count, edge_count, ends, IsSurface}
+use Rattle.surf_complex.specs.Homology.{IsBoundary}
 use Rattle.surf_complex.specs.Cells.{cells_of}
 use Rattle.surf_complex.specs.Signature.{edge_signature}
 use Rattle.surf_complex.proofs.CellLaws.{surfaces_are_cells}
 use Rattle.surf_cotree.specs.Tables.{CotreeTables, split_with, tree_of}
 use Rattle.surf_certcheck.specs.Split.{AreFlags}
 use Rattle.surf_sign.proofs.Passing.{passing_same}
-use Rattle.surf_classes.specs.Evidence.{joint_parity, AreClosed, IsChosenNull, IsChosenOdd, is_listed, null_faces, odd_pairs, IsNullEvidence, IsOddEvidence}
+use Rattle.surf_classes.specs.Evidence.{joint_parity, AreClosed, IsChosenNull, IsChosenOdd, is_listed}
 use Rattle.surf_classes.specs.EvidenceLaws.{joint_signature}
 use Rattle.surf_classes.proofs.NullChoice.{null_choice_is_filtered, null_choice_is_one}
-use Rattle.surf_classes.proofs.OddChoice.{odd_choice_is_filtered, odd_choice_is_right, joint_signatures_add, joint_even}
+use Rattle.surf_classes.proofs.OddChoice.{odd_choice_is_filtered, joint_signatures_add, joint_even}
 use Rattle.surf_homology.proofs.CellLaws.{signature_null}
 use Rattle.surf_z2.proofs.Below.{below_law}
 use Rattle.surf_class.specs.Desk.{IsSigned}
-use Rattle.surf_class.specs.Sides.{IsParted, AreAllSidesOf, side_at, is_inside}
+use Rattle.surf_class.specs.Sides.{IsParted, AreAllSidesOf, is_inside}
 
 module _ (mesh : Mesh) (surface : IsSurface mesh) (tree : Tree) (t : CotreeTables) (signed : IsSigned mesh tree t)
     (walk : List ℕ) (other : Option (List ℕ)) (closed : AreClosed mesh walk other) (sum : ℕ)

@@ -1,5 +1,5 @@
 -- The ends of chosen edges, in order.
-use Rattle.std.proofs.Common.{◌≡◌, ℕ, suc, ◌<◌, ◌≤◌, true, Bool, List, [], ◌∷◌, map, filter, get_or, length, AllPairs, All, arith}
+use Rattle.std.proofs.Common.{◌≡◌, ℕ, ◌<◌, ◌≤◌, true, Bool, List, [], ◌∷◌, map, filter, AllPairs, All, arith}
 use Rattle.std.specs.List.{range_with_len, AllByRecursion}
 use Rattle.std.proofs.lemmas.List.Elements.{All-from_recursion}
 use Rattle.surf_complex.specs.Mesh.{Mesh, pair_lt}

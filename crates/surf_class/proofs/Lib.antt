@@ -16,3 +16,4 @@ pub mod Choosing
 pub mod LineSizes
 pub mod WalkLines
 pub mod Rereading
+pub mod Signed

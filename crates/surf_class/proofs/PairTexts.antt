@@ -1,5 +1,5 @@
 -- The text of pairs.
-use Rattle.std.proofs.Common.{◌≡◌, ℕ, List, [], ◌∷◌, ◌++◌, refl, sym, ap, ◌∙◌, append_assoc, append-nil, codes, decimal}
+use Rattle.std.proofs.Common.{◌≡◌, ℕ, List, [], ◌∷◌, ◌++◌, sym, ap, ◌∙◌, append_assoc, append-nil, decimal}
 use Rattle.surf_cert.specs.Written.{numbers_text}
 use Rattle.surf_class.specs.Texts.{both_ends}
 

@@ -1,7 +1,7 @@
 -- Pairs with the lesser number first.
-use Rattle.std.proofs.Common.{◌≡◌, ℕ, ◌<◌, ltb, true, sym, ap, ◌∙◌, refl, subst}
+use Rattle.std.proofs.Common.{◌≡◌, ℕ, ◌<◌, ltb, true, refl}
 use Rattle.std.proofs.lemmas.Bool.{lt-ltb}
-use Rattle.surf_complex.specs.Mesh.{Mesh, pair, pair_of}
+use Rattle.surf_complex.specs.Mesh.{Mesh, pair}
 use Rattle.surf_complex.specs.Surface.{edge_count, ends}
 use Rattle.surf_complex.specs.Walk.{edge_number}
 use Rattle.surf_class.proofs.StepEdges.{numbered}

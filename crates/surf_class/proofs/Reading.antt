@@ -1,5 +1,5 @@
 -- The numbers of tokens, one after the other.
-use Rattle.std.proofs.Common.{◌≡◌, ℕ, suc, ◌+◌, List, [], ◌∷◌, ◌++◌, length, Option, Some, None, Result, Ok, Err, refl, sym, ◌∙◌, ap, append_assoc, append-nil, arith, length-append}
+use Rattle.std.proofs.Common.{◌≡◌, ℕ, ◌+◌, List, [], ◌∷◌, ◌++◌, length, Some, None, Result, Ok, Err, refl, sym, ◌∙◌, ap, append_assoc, append-nil, length-append}
 use Rattle.surf_cert.specs.Lines.{number_of}
 use Rattle.surf_class.specs.declared.numbers.NumberFault.{NumberFault}
 use Rattle.surf_class.specs.declared.numbers.NumberFault.TheVariants.{Bad}

@@ -1,20 +1,16 @@
 -- What is written of evidence is read as that evidence.
-use Rattle.std.proofs.Common.{◌≡◌, ◌≢◌, ℕ, zero, suc, ◌<◌, ◌≤◌, ◌+◌, ◌*◌, ◌^◌, Bool, true, false, ◌&&◌, nat_lt, ltb, eqb, List, [], ◌∷◌, ◌++◌, length, get_or, map, All, AllPairs, Option, Some, None, Result, Ok, Err, refl, sym, ap, ◌∙◌, subst, arith, codes, decimal, append_assoc, append-nil, flat_map}
+use Rattle.std.proofs.Common.{◌≡◌, ℕ, zero, suc, ◌<◌, ◌+◌, ◌*◌, ◌^◌, true, nat_lt, ltb, eqb, List, [], ◌∷◌, ◌++◌, length, get_or, map, All, Ok, refl, sym, ap, ◌∙◌, arith, codes, decimal, append_assoc}
 use Rattle.std.proofs.lemmas.Bool.{lt-ltb, eq-eqb}
-use Rattle.surf_text.specs.Text.{TextLine, tokens_of, lines_of, trimmed, uncommented}
 use Rattle.surf_complex.specs.Mesh.{pair_lt}
 use Rattle.surf_off.proofs.Decimals.{IsWord, word_decimal}
-use Rattle.surf_cert.specs.Lines.{number_of}
 use Rattle.surf_cert.specs.Fits.{IsNumber, IsPair}
 use Rattle.surf_cert.specs.Written.{numbers_text}
 use Rattle.surf_cert.proofs.LineTexts.{number_again}
 use Rattle.surf_cert.proofs.WordLines.{spaced, line_of, AllWords, line_first, kept_is}
-use Rattle.surf_classes.specs.Evidence.{Evidence, null_faces, odd_pairs}
-use Rattle.surf_class.specs.Numbers.{numbers_from, onto_numbers}
-use Rattle.surf_class.specs.Evidences.{rises_from, is_rising, is_ordered, two_by_two, face_numbers, pair_list, pair_numbers, counted, if_formed, evidence_of, if_alone, evidence_on, evidence_in}
-use Rattle.surf_class.specs.Texts.{head_text, counted_text, both_ends, evidence_text, FacesFit, PairsFit, EvidenceFits, EvidenceIsReread}
-use Rattle.surf_class.specs.declared.numbers.NumberFault.{NumberFault}
-use Rattle.surf_class.specs.declared.fault.EvidenceFault.{EvidenceFault}
+use Rattle.surf_classes.specs.Evidence.{null_faces, odd_pairs}
+use Rattle.surf_class.specs.Numbers.{numbers_from}
+use Rattle.surf_class.specs.Evidences.{is_rising, is_ordered, two_by_two, face_numbers, pair_numbers, counted, if_formed, evidence_of, if_alone, evidence_on, evidence_in}
+use Rattle.surf_class.specs.Texts.{counted_text, both_ends, FacesFit, PairsFit, EvidenceIsReread}
 use Rattle.surf_class.proofs.Lists.{rising_all}
 
 small : (n : ℕ) → IsNumber n → n < 2 ^ 64

@@ -1,5 +1,5 @@
 -- What a walk file says, stage by stage.
-use Rattle.std.proofs.Common.{◌≡◌, ℕ, suc, ◌<◌, ◌≤◌, ◌+◌, Bool, true, false, not, nat_le, eqb, List, [], ◌∷◌, length, get_or, map, All, Contains, Option, Some, None, Result, Ok, Err, refl, sym, ap, ◌∙◌, subst, arith}
+use Rattle.std.proofs.Common.{◌≡◌, ℕ, suc, ◌<◌, ◌+◌, Bool, true, false, not, nat_le, eqb, List, [], ◌∷◌, length, get_or, Option, Some, None, Result, Ok, Err, refl, sym, ap, ◌∙◌, subst, arith}
 use Rattle.std.specs.List.{position}
 use Rattle.std.proofs.lemmas.Bool.{leb-false, eqb-true}
 use Rattle.std.proofs.lemmas.List.{get_or_default}
@@ -9,9 +9,8 @@ use Rattle.surf_complex.specs.Walk.{first, last, IsClosed}
 use Rattle.surf_complex.proofs.EdgeLaws.{contains_from_among}
 use Rattle.surf_cert.specs.Lines.{number_of}
 use Rattle.surf_class.specs.Numbers.{onto_numbers, numbers_from}
-use Rattle.surf_class.specs.Walks.{walk_of, walk_in, as_numbers, if_vertices, if_joined, if_closed, if_alone, ◌>>=◌}
+use Rattle.surf_class.specs.Walks.{walk_of, walk_in, if_joined, if_closed, if_alone, ◌>>=◌}
 use Rattle.surf_class.specs.declared.numbers.NumberFault.{NumberFault}
-use Rattle.surf_class.specs.declared.fault.WalkFault.{WalkFault}
 use Rattle.surf_class.specs.declared.fault.WalkFault.TheVariants.{NotEdge, Unclosed, Trailing}
 use Rattle.surf_class.proofs.Lists.{none_passes}
 use Rattle.surf_class.proofs.LineSizes.{some_token}
@@ -60,7 +59,7 @@ module _ (mesh : Mesh) (text : List ℕ) (line : TextLine) (lines : List TextLin
       closed = record {
         is_walk = record {
           begins = (let some = some_token text line lines is in
-          let count = numbers_length 0 (tokens_of line.bytes) list read in omega (arith, some, count));
+              let count = numbers_length 0 (tokens_of line.bytes) list read in omega (arith, some, count));
           vertices = λ k d l. subst (λ (v : ℕ). v < mesh.vertices) (sym (get_or_default list k d 0 l))
               (leb-false mesh.vertices (get_or list k 0) (none_passes (λ v. nat_le mesh.vertices v) list 0 vertices k l));
           along_edges = λ k d l. contains_from_among (pair_of (get_or (steps list) k d)) (edges mesh)

@@ -8,6 +8,7 @@ use Rattle.surf_complex.specs.Surface.{edge_count}
 use Rattle.surf_complex.specs.Cells.{cells_of}
 use Rattle.surf_complex.specs.Signature.{edge_signature}
 use Rattle.surf_cotree.specs.Tables.{CotreeTables, IsMadeFor, parent_edge_of, split_with}
+use Rattle.surf_cotree.specs.Grown.{IsGrownOn}
 
 -- The tables hold a tree of the faces, rooted at face 0, the edges that are neither in it nor in a tree of the
 -- vertices, at most 1,024, and the signatures of all edges by these.
@@ -21,3 +22,15 @@ pub record IsSigned (mesh : Mesh) (tree : Tree) (t : CotreeTables) : Type 0 wher
 -- for some tree of the vertices
 abbrev pub IsSignedOn : Mesh → CotreeTables → Type 0
 IsSignedOn mesh t = (tree : Tree) × IsSigned mesh tree t
+
+-- the signatures by each tree of the vertices that goes with the tables
+abbrev pub HasSignatures : Mesh → CotreeTables → Type 0
+HasSignatures mesh t = (tree : Tree) → IsSplit (cells_of mesh) (split_with tree t) →
+    t.signatures ≡ map (edge_signature mesh (split_with tree t)) (range_with_len 0 (edge_count mesh))
+
+-- A desk that has grown a tree of the faces has signed the edges when only its signatures have changed since, and they
+-- are those by the tree.
+abbrev pub GrownDesksSign : Type 0
+GrownDesksSign = (mesh : Mesh) (grown signed : CotreeTables) → IsGrownOn mesh grown → length grown.left ≤ 1024 →
+    IsMadeFor mesh signed → signed ≡ record grown { signatures = signed.signatures } → HasSignatures mesh signed →
+    IsSignedOn mesh signed

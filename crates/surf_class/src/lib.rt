@@ -32,7 +32,7 @@ pub use check::check_class;
 pub use evidence::{Evidence, FaceList, PairList};
 pub use fault::{ClassFault, EvidenceFault, WalkFault};
 pub use finding::classify;
-pub use laws::law_of_reread;
+pub use laws::{law_of_reread, law_of_signing};
 pub use read::read_evidence;
 pub use walk::read_walk;
 pub use write::write_evidence;

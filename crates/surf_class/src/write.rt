@@ -64,11 +64,7 @@ fn write_null(page: &mut Page, word: &[u8], faces: &[FaceId]) -> Result<(), Page
 }
 
 // The line of edges.
-fn write_odd(
-    page: &mut Page,
-    word: &[u8],
-    pairs: &[(VertexId, VertexId)],
-) -> Result<(), PageFault>
+fn write_odd(page: &mut Page, word: &[u8], pairs: &[(VertexId, VertexId)]) -> Result<(), PageFault>
     ensures puts { Puts page.old page.new (counted_text word.now (length pairs.now) (both_ends pairs.now)) result }
 {
     write_head(page, word, pairs.len())?;

@@ -1,9 +1,9 @@
-use Rattle.std.proofs.Common.{◌≡◌, ◌≢◌, ◌<◌, true, ℕ, List, Bool, AllPairs, IfErr, sym, ap, ◌∙◌, subst}
+use Rattle.std.proofs.Common.{◌≡◌, ◌≢◌, ◌<◌, true, ℕ, List, Bool, AllPairs, IfErr, sym, subst}
 use Rattle.surf_complex.specs.Mesh.{pair_lt}
 use Rattle.surf_complex.specs.Surface.{edge_count}
 use Rattle.surf_complex.specs.Walk.{parity}
 use Rattle.surf_certcheck.specs.Split.{AreFlags}
-use Rattle.surf_classes.specs.Evidence.{Evidence, null_faces, odd_pairs, IsEvidence}
+use Rattle.surf_classes.specs.Evidence.{null_faces, odd_pairs, IsEvidence}
 use Rattle.surf_class.specs.Faults.{IsClassFault}
 use Rattle.surf_class.specs.Seen.{seen}
 use Rattle.surf_class.specs.declared.evidence.Evidence.{Evidence as Listed}

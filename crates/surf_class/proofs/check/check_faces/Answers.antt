@@ -1,8 +1,6 @@
-use Rattle.std.proofs.Common.{◌≡◌, sym, ap, ◌∙◌, subst, List, Bool, ℕ}
-use Rattle.surf_complex.specs.Surface.{edge_count, face_count}
+use Rattle.std.proofs.Common.{subst, List, Bool}
+use Rattle.surf_complex.specs.Surface.{edge_count}
 use Rattle.surf_certcheck.specs.First.{HoldsBelow, FailsFirst}
-use Rattle.surf_certcheck.specs.Split.{AreFlags}
-use Rattle.surf_classes.specs.Evidence.{is_listed}
 use Rattle.surf_class.specs.Agreement.{AgreesAt}
 use Rattle.surf_class.proofs.Checking.{null_right, null_wrong}
 use Rattle.surf_class.proofs.check.check_faces.Goals as goal

@@ -1,7 +1,6 @@
-use Rattle.std.proofs.Common.{◌≡◌, ◌<◌, ℕ, sym, ap, ◌∙◌, subst, List, Bool, arith, length, Some, false}
+use Rattle.std.proofs.Common.{ℕ, sym, ap, ◌∙◌, subst, arith, false}
 use Rattle.std.specs.List.{position}
 use Rattle.std.proofs.lemmas.List.Quantifiers.{position-Some}
-use Rattle.surf_complex.specs.Surface.{face_count}
 use Rattle.surf_classes.specs.Faults.{IsOddFace}
 use Rattle.surf_class.proofs.Checking.{odd_face_at, odd_right, odd_wrong}
 use Rattle.surf_class.proofs.check.check_pairs.Goals as goal

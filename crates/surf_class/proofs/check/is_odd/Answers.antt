@@ -1,4 +1,4 @@
-use Rattle.std.proofs.Common.{◌≡◌, ◌<◌, ℕ, Bool, not, get_or, false, subst, sym, ap, ◌∙◌, Contains, take}
+use Rattle.std.proofs.Common.{◌≡◌, ℕ, get_or, false, subst, sym, ap, ◌∙◌, Contains, take}
 use Rattle.std.proofs.lemmas.List.{get_or_default}
 use Rattle.surf_z2.specs.Parity.{xor}
 use Rattle.surf_complex.specs.Mesh.{edges}

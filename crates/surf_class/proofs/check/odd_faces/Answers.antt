@@ -1,4 +1,4 @@
-use Rattle.std.proofs.Common.{rules, ◌≡◌, ◌<◌, ℕ, Bool, false, List, length, get_or, sym, ap, ◌∙◌, subst, arith, true, map}
+use Rattle.std.proofs.Common.{◌≡◌, ◌<◌, ℕ, Bool, false, List, length, get_or, sym, ap, ◌∙◌, subst, arith, map}
 use Rattle.std.proofs.lemmas.Grind.{common_steps}
 use Rattle.surf_z2.specs.Parity.{xor, odd}
 use Rattle.surf_complex.specs.Surface.{face_count, borders}

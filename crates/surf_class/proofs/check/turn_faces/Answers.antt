@@ -1,4 +1,4 @@
-use Rattle.std.proofs.Common.{◌≡◌, eqb, get_or, false, ap, sym, ◌∙◌}
+use Rattle.std.proofs.Common.{◌≡◌, eqb, get_or, false, ap, ◌∙◌}
 use Rattle.surf_z2.specs.Parity.{xor}
 use Rattle.surf_z2.proofs.ParityLaws.{xor_assoc}
 use Rattle.surf_complex.specs.Surface.{faces_of}

@@ -1,4 +1,4 @@
-use Rattle.std.proofs.Common.{◌≡◌, ◌<◌, ◌≤◌, ◌+◌, ℕ, length, get_or, false, map, take, ap, sym, ◌∙◌, arith, subst, Contains}
+use Rattle.std.proofs.Common.{◌≡◌, ℕ, length, get_or, false, map, ap, sym, ◌∙◌, arith, subst, Contains}
 use Rattle.std.proofs.lemmas.List.{get_or_default}
 use Rattle.surf_z2.specs.Parity.{xor, odd}
 use Rattle.surf_complex.specs.Mesh.{edges}

@@ -1,6 +1,3 @@
-use Rattle.std.proofs.Common.{◌≡◌, sym, ap, ◌∙◌, refl}
-use Rattle.std.proofs.lemmas.Bool.{lt-ltb}
-use Rattle.surf_complex.specs.Mesh.{pair}
 use Rattle.surf_class.proofs.Pairs.{pair_number}
 use Rattle.surf_class.proofs.edges.pair_edge.Goals as goal
 

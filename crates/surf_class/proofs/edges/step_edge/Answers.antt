@@ -1,5 +1,4 @@
-use Rattle.std.proofs.Common.{◌≡◌, ◌+◌, ℕ, get_or, ap, sym, ◌∙◌, arith}
-use Rattle.std.proofs.lemmas.List.{get_or_default}
+use Rattle.std.proofs.Common.{get_or}
 use Rattle.surf_complex.specs.Mesh.{steps}
 use Rattle.surf_class.proofs.StepEdges.{step_there, step_ends, numbered}
 use Rattle.surf_class.proofs.edges.step_edge.Goals as goal

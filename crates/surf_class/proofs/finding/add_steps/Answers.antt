@@ -1,6 +1,5 @@
-use Rattle.std.proofs.Common.{◌≡◌, ◌<◌, ◌≤◌, ◌+◌, ℕ, length, get_or, bit_xor, map, take, ap, sym, ◌∙◌, arith, List}
+use Rattle.std.proofs.Common.{◌≡◌, ◌<◌, ℕ, length, get_or, bit_xor, map, take, ap, sym, ◌∙◌, arith, List}
 use Rattle.std.specs.Int.Bits.{xor_assoc}
-use Rattle.std.specs.List.{range_with_len}
 use Rattle.std.proofs.lemmas.List.FromFn.{get_or-map-range_with_len}
 use Rattle.surf_z2.specs.Space.{numbers, sum_of}
 use Rattle.surf_complex.specs.Mesh.{steps}

@@ -1,14 +1,11 @@
-use Rattle.std.proofs.Common.{◌≡◌, sym, ap, ◌∙◌, subst, List, Bool, Option, ℕ, false, length, arith}
+use Rattle.std.proofs.Common.{sym, subst, List, Bool}
 use Rattle.std.specs.Option.{option_copied}
-use Rattle.surf_homology.specs.Trees.{Tree}
 use Rattle.surf_complex.specs.Homology.{IsBoundary}
 use Rattle.surf_complex.specs.Surface.{edge_count}
 use Rattle.surf_cotree.specs.Tables.{split_with}
 use Rattle.surf_certcheck.specs.Split.{AreFlags}
-use Rattle.surf_classes.specs.Evidence.{joint_parity, IsChosenNull, IsChosenOdd}
+use Rattle.surf_classes.specs.Evidence.{joint_parity, IsChosenOdd}
 use Rattle.surf_classes.proofs.OddChoice.{odd_choice_is_right}
-use Rattle.surf_class.specs.Desk.{IsSigned}
-use Rattle.surf_class.specs.Sides.{AreAllSidesOf, is_inside}
 use Rattle.surf_class.proofs.Choosing.{odd_chosen, bounds_something, null_found}
 use Rattle.surf_class.proofs.finding.classify.Goals as goal
 

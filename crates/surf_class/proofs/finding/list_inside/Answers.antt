@@ -1,6 +1,4 @@
-use Rattle.std.proofs.Common.{rules, ◌≡◌, ◌∙◌, ◌++◌, ◌∷◌, [], true, false, ap, sym, subst, List, ℕ, AllPairs, ◌<◌}
-use Rattle.std.specs.Option.{option_eq}
-use Rattle.std.specs.List.{range_with_len}
+use Rattle.std.proofs.Common.{◌≡◌, ◌∙◌, ◌++◌, ◌∷◌, [], true, false, ap, sym, subst, List, ℕ, AllPairs, ◌<◌}
 use Rattle.surf_sign.proofs.Passing.{passing_taken, passing_left}
 use Rattle.surf_classes.proofs.Listed.{climbing_at, passing_climb}
 use Rattle.surf_class.specs.Sides.{is_inside, side_at}

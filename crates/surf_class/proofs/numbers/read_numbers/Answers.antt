@@ -1,4 +1,4 @@
-use Rattle.std.proofs.Common.{◌≡◌, ◌+◌, ◌∷◌, [], ◌++◌, ◌∙◌, sym, ap, ℕ, List, Option, Some, Err, length, arith, subst, length-append}
+use Rattle.std.proofs.Common.{◌≡◌, ◌+◌, ◌∷◌, [], ◌++◌, ◌∙◌, sym, ap, ℕ, List, Err, length, arith, subst, length-append}
 use Rattle.std.proofs.lemmas.Grind.{common_steps}
 use Rattle.surf_class.specs.Numbers.{numbers_from}
 use Rattle.surf_class.specs.declared.numbers.NumberFault.TheVariants.{Bad}

@@ -1,4 +1,4 @@
-use Rattle.std.proofs.Common.{◌≡◌, ◌<◌, ◌≤◌, ◌+◌, length, get_or, false, map, take, ap, sym, ◌∙◌, arith, eqb}
+use Rattle.std.proofs.Common.{◌≡◌, ◌<◌, length, get_or, false, map, ap, sym, ◌∙◌, arith, eqb}
 use Rattle.surf_z2.specs.Parity.{xor, odd}
 use Rattle.surf_complex.specs.Mesh.{steps, pair_of, pair_eq}
 use Rattle.surf_complex.specs.Surface.{ends}

@@ -1,4 +1,4 @@
-use Rattle.std.proofs.Common.{◌≡◌, ◌≤◌, ◌<◌, ◌+◌, ◌-◌, get_or, true, false, sym, ap, ◌∙◌, subst, ℕ, arith, length}
+use Rattle.std.proofs.Common.{◌≡◌, ◌+◌, ◌-◌, get_or, false, sym, ap, ◌∙◌, subst, ℕ, arith}
 use Rattle.std.proofs.lemmas.List.{get_or_default}
 use Rattle.surf_complex.specs.Mesh.{pair_lt}
 use Rattle.surf_class.proofs.Lists.{rising_all, rising_not}

@@ -1,5 +1,4 @@
-use Rattle.std.proofs.Common.{◌≡◌, ◌<◌, ◌≤◌, ◌+◌, ◌^◌, length, ◌∷◌, sym, ◌∙◌, arith}
-use Rattle.surf_text.specs.Text.{lines_of, tokens_of}
+use Rattle.std.proofs.Common.{sym, ◌∙◌, arith}
 use Rattle.surf_class.proofs.LineSizes.{few_tokens}
 use Rattle.surf_class.proofs.read.read_evidence.Goals as goal
 

@@ -1,5 +1,4 @@
-use Rattle.std.proofs.Common.{◌≡◌, ◌<◌, nat_lt, true, List, ℕ, AllPairs, sym, ap, ◌∙◌, subst}
-use Rattle.surf_class.specs.Evidences.{is_rising}
+use Rattle.std.proofs.Common.{◌<◌, List, ℕ, AllPairs, sym, subst}
 use Rattle.surf_class.proofs.Increasing.{numbers_increase}
 use Rattle.surf_class.proofs.read.read_faces.Goals as goal
 

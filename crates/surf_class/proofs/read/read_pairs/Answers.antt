@@ -1,4 +1,4 @@
-use Rattle.std.proofs.Common.{◌≡◌, ◌<◌, true, List, ℕ, AllPairs, All, sym, ap, ◌∙◌, subst}
+use Rattle.std.proofs.Common.{sym, ap, ◌∙◌}
 use Rattle.surf_complex.specs.Mesh.{pair_lt}
 use Rattle.surf_class.specs.Evidences.{is_rising, is_ordered}
 use Rattle.surf_class.proofs.Increasing.{pairs_increase, pairs_ordered}

@@ -1,6 +1,6 @@
-use Rattle.std.proofs.Common.{◌≡◌, ◌<◌, ℕ, Bool, List, length, get_or, sym, ap, ◌∙◌, subst, arith, Option, Some, None}
+use Rattle.std.proofs.Common.{◌≡◌, Bool, List, length, get_or, sym, ap, ◌∙◌, subst, arith, Option, Some, None}
 use Rattle.surf_complex.specs.Surface.{face_count}
-use Rattle.surf_class.specs.Sides.{AreAllSidesOf, AreSidesOf, side_at}
+use Rattle.surf_class.specs.Sides.{AreAllSidesOf, AreSidesOf}
 use Rattle.surf_class.proofs.Lists.{restored}
 use Rattle.surf_class.proofs.FaceSides.{all_known}
 use Rattle.surf_class.proofs.sides.all_sides.Goals as goal

@@ -1,4 +1,4 @@
-use Rattle.std.proofs.Common.{◌≡◌, sym, ap, ◌∙◌, get_or, length, arith, false, ◌<◌}
+use Rattle.std.proofs.Common.{sym, ap, ◌∙◌, length, arith, ◌<◌}
 use Rattle.surf_z2.specs.Parity.{xor}
 use Rattle.surf_z2.proofs.ParityLaws.{xor-false}
 use Rattle.surf_class.proofs.StepEdges.{differ_is}

@@ -1,5 +1,4 @@
-use Rattle.std.proofs.Common.{◌≡◌, ◌<◌, ◌⊎◌, length, sym, ap, ◌∙◌, subst, arith, inl, inr, length-set, Option, Some, Bool}
-use Rattle.surf_class.specs.Sides.{IsParted, AreSidesOf, side_at}
+use Rattle.std.proofs.Common.{◌<◌, length, ◌∙◌, arith, inl, inr, length-set, Some}
 use Rattle.surf_class.proofs.FaceSides.{known_up, noted, now_known, still_known}
 use Rattle.surf_class.proofs.sides.note_sides.Goals as goal
 
@@ -18,10 +17,11 @@ loop-at-preserved c =
       within = c.in-Some.ensures.inside.0;
       count = length-set c.loop-at.sides place (Some side) ∙ inv.count;
       right = λ set parted is are.
-          let both = inv.right set parted is are in
-          (known_up mesh t flags set parted at _ _ c.index-in-loop-at-2.result inv.within up.0 up.1 up.2
-          c.index-in-loop-at-2.ensures side both.0,
-          noted set c.loop-at.sides place at side c.index-in-loop-at.ensures here both.0 both.1);
+          let both = inv.right set parted is are in (
+            known_up mesh t flags set parted at _ _ c.index-in-loop-at-2.result inv.within up.0 up.1 up.2
+                c.index-in-loop-at-2.ensures side both.0,
+            noted set c.loop-at.sides place at side c.index-in-loop-at.ensures here both.0 both.1,
+          );
       known = elim inv.known [
         | inl is ↦ inl (still_known c.loop-at.sides place side c.args.face here is)
         | inr is ↦ inl (now_known c.loop-at.sides place c.args.face side (c.index-in-loop-at.ensures ∙ is) here)

@@ -1,7 +1,6 @@
-use Rattle.std.proofs.Common.{◌≡◌, ◌<◌, ◌≤◌, ◌+◌, ◌-◌, ℕ, true, false, not, get_or, length, subst, sym, ap, ◌∙◌, arith, inl, inr}
+use Rattle.std.proofs.Common.{◌≡◌, ◌<◌, ◌+◌, false, sym, arith, inl, inr}
 use Rattle.std.proofs.lemmas.Bool.{cases_lt}
-use Rattle.std.proofs.lemmas.List.{get_or_default}
-use Rattle.surf_complex.specs.Mesh.{pair, pair_of, among, edges, steps}
+use Rattle.surf_complex.specs.Mesh.{pair, among, edges}
 use Rattle.surf_complex.specs.Surface.{edge_count, ends}
 use Rattle.surf_class.proofs.LeastFaults.{none_found, some_found}
 use Rattle.surf_class.proofs.Gaps.{gap_at, gap_none, there_is}

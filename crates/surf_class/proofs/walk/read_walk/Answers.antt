@@ -1,6 +1,6 @@
-use Rattle.std.proofs.Common.{◌≡◌, ◌<◌, ◌≤◌, ◌+◌, ◌∷◌, [], length, List, ℕ, sym, ap, ◌∙◌, subst, arith, Ok, Some, None, true, false, Bool, nat_le, not, eqb}
+use Rattle.std.proofs.Common.{◌≡◌, ◌∷◌, length, List, ℕ, sym, ap, ◌∙◌, subst, arith, Ok, None, true, false, nat_le, not, eqb}
 use Rattle.std.specs.List.{position}
-use Rattle.surf_text.specs.Text.{TextLine, lines_of, tokens_of}
+use Rattle.surf_text.specs.Text.{lines_of, tokens_of}
 use Rattle.surf_text.specs.Walks.{TokenWalk, text_line}
 use Rattle.surf_complex.specs.Mesh.{pair_of, among, steps, edges}
 use Rattle.surf_complex.specs.Walk.{first, last, IsClosed}
