@@ -90,6 +90,13 @@ impl CoverDesk {
         settle(&network, &mut self.distance, &mut self.heap, from);
     }
 
+    /// How many sets of left edges there are.
+    pub fn sets(&self) -> u32
+        ensures sets { result ≡ self.now.sets }
+    {
+        self.sets
+    }
+
     /// The least length of a walk from the base to a vertex whose signature is a set.
     pub fn distance(&self, v: VertexId, set: u32) -> u64
         requires vertex { v < self.now.vertices }
