@@ -49,12 +49,7 @@ fn classes_of_walks(rt: HostRuntime) -> Result<(), Fail> {
         ("torus33", "0 1 0\n\n0\n", 13, "", "walk 1: trailing 3\n"),
     ];
     for (mesh, walk, status, out, diag) in &cases {
-        on_walks(
-            &rt,
-            &["class", mesh, "W"],
-            [walk, ""],
-            (*status, out, diag),
-        )?;
+        on_walks(&rt, &["class", mesh, "W"], [walk, ""], (*status, out, diag))?;
     }
     Ok(())
 }

@@ -45,7 +45,9 @@ fn coordinates_that_are_refused(rt: HostRuntime) -> Result<(), Fail> {
         ("1 0 0", "0 0 0", "coordinates: zero 0 3\n"),
     ];
     for (second, fourth, diag) in &cases {
-        let mesh = format!(in alloc; "OFF\n4 4 6\n0 0 0\n{second}\n0 1 0\n{fourth}\n3 0 1 2\n3 0 3 1\n3 0 2 3\n3 1 3 2\n")?;
+        let mesh = format!(in alloc;
+            "OFF\n4 4 6\n0 0 0\n{second}\n0 1 0\n{fourth}\n3 0 1 2\n3 0 3 1\n3 0 2 3\n3 1 3 2\n"
+        )?;
         answers(
             &rt,
             &Case {

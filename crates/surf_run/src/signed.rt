@@ -10,11 +10,7 @@ use surf_loops::LoopDesk;
 use surf_mesh::HalfMesh;
 
 /// A desk with the trees that are chosen at vertex 0, and by them the signatures of all edges.
-pub fn signed_desk(
-    alloc: Global,
-    mesh: &HalfMesh,
-    lengths: &Lengths,
-) -> Result<LoopDesk, NoMemory>
+pub fn signed_desk(alloc: Global, mesh: &HalfMesh, lengths: &Lengths) -> Result<LoopDesk, NoMemory>
     requires lengths { length lengths.now ≡ edge_count mesh.now }
     requires few { edge_count mesh.now + 2 ≤ mesh.now.vertices + face_count mesh.now + 1024 }
     ensures chosen { IfOk result (λ desk. IsChosenDesk mesh.now lengths.now desk.cotree) }

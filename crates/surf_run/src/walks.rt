@@ -49,12 +49,7 @@ pub fn walk_named<S: Shelf>(
     walk_of(alloc, mesh, file, &bytes)
 }
 
-fn walk_of(
-    alloc: Global,
-    mesh: &HalfMesh,
-    file: WalkFile,
-    bytes: &[u8],
-) -> Result<Walk, Refused>
+fn walk_of(alloc: Global, mesh: &HalfMesh, file: WalkFile, bytes: &[u8]) -> Result<Walk, Refused>
     requires { length bytes.now ≤ 268435456 }
     ensures tells { Takes (λ walk. walk) (WalksText file mesh.now bytes.now) result }
     ensures closed { IfOk result (IsClosed mesh.now) }
