@@ -1,11 +1,14 @@
 //! Measures and their faults.
+ghost use Rattle.std.specs.Prelude.{◌≡◌, ◌≤◌, length, IfOk};
+
 use std::alloc::Global;
 use std::test::Fail;
 use surf_base::VertexId;
 use surf_check::check;
 use surf_geom::{GeomFault, measure, write_lengths};
-use surf_lengths::read_lengths;
-use surf_off::read_off;
+use surf_lengths::{Lengths, read_lengths};
+use surf_mesh::{HalfMesh, Soup};
+use surf_off::{OffText, read_off};
 use surf_text::Page;
 
 // A tetrahedron with these vertex lines.
@@ -17,29 +20,75 @@ fn text_of(alloc: Global, lines: &[u8]) -> Result<Vec<u8>, Fail> {
     Ok(text)
 }
 
-// The length file of its measures, which is read again, or the fault.
-fn measured(alloc: Global, lines: &[u8], k: u32) -> Result<Result<Vec<u8>, GeomFault>, Fail> {
-    let source = text_of(alloc, lines)?;
-    if source.len() > 1_000 || k > 9 {
-        return Err("a short text")?;
+// A length file of lengths, which is read again.
+fn written(alloc: Global, mesh: &HalfMesh, lengths: &Lengths) -> Result<Vec<u8>, Fail> {
+    if lengths.count() != mesh.edges() {
+        return Err("a length for each edge")?;
     }
-    let (text, soup) = read_off(alloc, &source).ok().ok_or("a text")?;
-    let mesh = check(alloc, soup).ok().ok_or("a surface")?;
-    let lengths = match measure(alloc, &mesh, &text, k) {
-        Ok(lengths) => lengths,
-        Err(fault) => return Ok(Err(fault)),
-    };
     let mut page = Page::make(alloc, 1_000);
-    write_lengths(&mut page, &mesh, &lengths).ok().ok_or("room")?;
-    let written = page.into_bytes();
-    if written.len() > 1_000 {
+    write_lengths(&mut page, mesh, lengths).ok().ok_or("room")?;
+    Ok(page.into_bytes())
+}
+
+// How many lengths a length file has.
+fn read_again(alloc: Global, mesh: &HalfMesh, text: &[u8]) -> Result<u32, Fail> {
+    if text.len() > 1_000 {
         return Err("a short text")?;
     }
-    let again = read_lengths(alloc, &written, &mesh).ok().ok_or("a length file")?;
-    if again.count() != lengths.count() {
-        return Err("as many lengths")?;
+    let lengths = read_lengths(alloc, text, mesh).ok().ok_or("a length file")?;
+    Ok(lengths.count())
+}
+
+fn read_text(alloc: Global, source: &[u8]) -> Result<(OffText<'_>, Soup), Fail>
+    ensures lines { IfOk result (λ read. length read.0.vertex_lines ≡ read.1.vertices) }
+{
+    if source.len() > 1_000 {
+        return Err("a short text")?;
     }
-    Ok(Ok(written))
+    match read_off(alloc, source) {
+        Ok(read) => Ok(read),
+        Err(_) => Err("a text")?,
+    }
+}
+
+fn surface_of(alloc: Global, soup: Soup) -> Result<HalfMesh, Fail>
+    ensures { IfOk result (λ mesh. mesh ≡ soup) }
+{
+    match check(alloc, soup) {
+        Ok(mesh) => Ok(mesh),
+        Err(_) => Err("a surface")?,
+    }
+}
+
+// The length file of the measures of a mesh, or the fault.
+fn measured_file(
+    alloc: Global,
+    mesh: &HalfMesh,
+    text: &OffText<'_>,
+    k: u32,
+) -> Result<Result<Vec<u8>, GeomFault>, Fail>
+    requires lines { length text.now.vertex_lines ≡ mesh.now.vertices }
+    requires unit { k ≤ 9 }
+{
+    match measure(alloc, mesh, text, k) {
+        Ok(lengths) => Ok(Ok(written(alloc, mesh, &lengths)?)),
+        Err(fault) => Ok(Err(fault)),
+    }
+}
+
+// The same of the text of a mesh.
+fn measured(alloc: Global, source: &[u8], k: u32) -> Result<Result<Vec<u8>, GeomFault>, Fail>
+    requires unit { k ≤ 9 }
+{
+    let (text, soup) = read_text(alloc, source)?;
+    let mesh = surface_of(alloc, soup)?;
+    let file = measured_file(alloc, &mesh, &text, k)?;
+    if let Ok(bytes) = &file {
+        if read_again(alloc, &mesh, bytes)? != 6 {
+            return Err("six lengths")?;
+        }
+    }
+    Ok(file)
 }
 
 #[test]
@@ -61,7 +110,8 @@ fn lengths_are_measured(rt: HostRuntime) -> Result<(), Fail> {
             b"0 1 5\n0 2 12\n0 3 15\n1 2 13\n1 3 14\n2 3 9\n",
         ),
     ] {
-        let Ok(text) = measured(rt.alloc(), lines, k)? else {
+        assert!(rt; k <= 9);
+        let Ok(text) = measured(rt.alloc(), &text_of(rt.alloc(), lines)?, k)? else {
             return Err("lengths")?;
         };
         assert_eq!(rt; text.as_slice(), want);
@@ -115,7 +165,8 @@ fn the_first_fault_decides(rt: HostRuntime) -> Result<(), Fail> {
             GeomFault::Zero { u: zero, v: three },
         ),
     ] {
-        let Err(fault) = measured(rt.alloc(), lines, k)? else {
+        assert!(rt; k <= 9);
+        let Err(fault) = measured(rt.alloc(), &text_of(rt.alloc(), lines)?, k)? else {
             return Err("a fault")?;
         };
         assert_eq!(rt; fault, want);
