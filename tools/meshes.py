@@ -1,0 +1,104 @@
+#!/usr/bin/env python3
+"""Makes the meshes with coordinates in `meshes/`: closed surfaces of genus 1, 2 and 3 in space.
+
+    python3 tools/meshes.py
+
+Circles of radius 1 stand in a row in a plane, each touching the next. The surface has the distance 0.4 from them, so
+each circle gives it one hole and its genus is their number. It is cut out of a grid of cubes, each of six tetrahedra
+along its diagonal, which gives a closed surface of triangles whatever the grid is. Coordinates are written with seven
+decimals, as tools for meshes write them.
+"""
+import math
+import os
+import sys
+
+CORNERS = [(i >> 2 & 1, i >> 1 & 1, i & 1) for i in range(8)]
+TETRAHEDRA = [(0, 4, 6, 7), (0, 4, 5, 7), (0, 2, 6, 7), (0, 2, 3, 7), (0, 1, 5, 7), (0, 1, 3, 7)]
+
+
+def value(circles, point):
+    """Below 0 inside the surface of so many circles, and above 0 outside."""
+    x, y, z = point
+    across = min(abs(math.hypot(x - 2 * i, y) - 1) for i in range(circles))
+    return across**2 + z**2 - 0.4**2
+
+
+def surface(circles, step):
+    """The points and the triangles of the surface, on a grid of cubes with sides of this length."""
+    # The grid is set off, so that it has no plane in common with the surface's symmetries.
+    start = (-1.5 + 0.13 * step, -1.5 - 0.21 * step, -0.5 - 0.37 * step)
+    sizes = tuple(math.ceil(length / step) + 1 for length in (2 * circles + 1, 3, 1))
+    place = lambda cell: tuple(start[k] + cell[k] * step for k in range(3))
+    values, numbers, points, triangles = {}, {}, [], []
+
+    def at(cell):
+        if cell not in values:
+            values[cell] = value(circles, place(cell))
+        return values[cell]
+
+    def crossing(a, b):
+        key = (min(a, b), max(a, b))
+        if key not in numbers:
+            a, b = key
+            part = min(0.95, max(0.05, at(a) / (at(a) - at(b))))
+            numbers[key] = len(points)
+            points.append(tuple(p + part * (q - p) for p, q in zip(place(a), place(b))))
+        return numbers[key]
+
+    def add(corners, inner):
+        """A triangle, turned so that it is seen from outside against the clock."""
+        p, q, r = (points[c] for c in corners)
+        u, v = [b - a for a, b in zip(p, q)], [b - a for a, b in zip(p, r)]
+        normal = (u[1] * v[2] - u[2] * v[1], u[2] * v[0] - u[0] * v[2], u[0] * v[1] - u[1] * v[0])
+        side = sum(m * (a - b) for m, a, b in zip(normal, p, inner))
+        triangles.append(corners if side > 0 else (corners[0], corners[2], corners[1]))
+
+    for i in range(sizes[0]):
+        for j in range(sizes[1]):
+            for k in range(sizes[2]):
+                cube = [(i + a, j + b, k + c) for a, b, c in CORNERS]
+                for tetrahedron in TETRAHEDRA:
+                    cells = [cube[c] for c in tetrahedron]
+                    inside = [c for c in cells if at(c) < 0]
+                    outside = [c for c in cells if at(c) >= 0]
+                    if not inside or not outside:
+                        continue
+                    inner = place(inside[0])
+                    if len(inside) == 2:
+                        (a, b), (c, d) = inside, outside
+                        ring = [crossing(a, c), crossing(a, d), crossing(b, d), crossing(b, c)]
+                        add((ring[0], ring[1], ring[2]), inner)
+                        add((ring[0], ring[2], ring[3]), inner)
+                    else:
+                        lone, others = (inside[0], outside) if len(inside) == 1 else (outside[0], inside)
+                        add(tuple(crossing(lone, c) for c in others), inner)
+    return points, triangles
+
+
+def write(path, genus, points, triangles):
+    sides = {}
+    for t in triangles:
+        for a, b in zip(t, t[1:] + t[:1]):
+            sides.setdefault((min(a, b), max(a, b)), []).append((a, b))
+    if any(len(s) != 2 or s[0] == s[1] for s in sides.values()):
+        sys.exit(f"{path}: not a closed surface that is turned one way")
+    if len(points) - len(sides) + len(triangles) != 2 - 2 * genus:
+        sys.exit(f"{path}: not of genus {genus}")
+    lines = [" ".join(f"{c:.7f}" for c in p) for p in points]
+    if len(set(lines)) != len(points):
+        sys.exit(f"{path}: two vertices at one point")
+    with open(path, "w") as file:
+        file.write(f"OFF\n{len(points)} {len(triangles)} {len(sides)}\n")
+        file.writelines(line + "\n" for line in lines)
+        file.writelines(f"3 {a} {b} {c}\n" for a, b, c in triangles)
+    print(f"{path}: {len(points)} vertices, {len(sides)} edges, {len(triangles)} faces")
+
+
+def main():
+    folder = os.path.join(os.path.dirname(os.path.abspath(__file__)), "..", "meshes")
+    for name, genus, step in [("ring", 1, 0.4), ("eight", 2, 0.4), ("three", 3, 0.3)]:
+        points, triangles = surface(genus, step)
+        write(os.path.normpath(os.path.join(folder, name + ".off")), genus, points, triangles)
+
+
+main()
