@@ -1,37 +1,10 @@
 //! Classes of walks, their evidence, and shortest walks in them.
 use crate::meshes::{PILLOW, PLANE6, TORUS33};
 use crate::rows::{Case, answers};
-use std::process::Abort;
 use std::test::Fail;
 
 // Evidence that the row `0 1 2 0` of the torus isn't a boundary.
 const ODD: &str = "odd 8 1 2 2 5 2 7 3 5 4 8 5 6 5 8 7 8\n";
-
-// The walks of two files on a mesh.
-fn on_walks(
-    rt: &(impl Abort + AllocGlobal),
-    words: &[&str],
-    walks: [&str; 2],
-    due: (u8, &str, &str),
-) -> Result<(), Fail> {
-    let (status, out, diag) = due;
-    answers(
-        rt,
-        &Case {
-            words,
-            files: &[
-                ("torus33", TORUS33),
-                ("pillow", PILLOW),
-                ("plane6", PLANE6),
-                ("W", walks[0]),
-                ("V", walks[1]),
-            ],
-            status,
-            out,
-            diag,
-        },
-    )
-}
 
 #[test]
 fn classes_of_walks(rt: HostRuntime) -> Result<(), Fail> {
@@ -49,7 +22,16 @@ fn classes_of_walks(rt: HostRuntime) -> Result<(), Fail> {
         ("torus33", "0 1 0\n\n0\n", 13, "", "walk 1: trailing 3\n"),
     ];
     for (mesh, walk, status, out, diag) in &cases {
-        on_walks(&rt, &["class", mesh, "W"], [walk, ""], (*status, out, diag))?;
+        answers(
+            &rt,
+            &Case {
+                words: &["class", mesh, "W"],
+                files: &[("torus33", TORUS33), ("pillow", PILLOW), ("W", walk)],
+                status: *status,
+                out,
+                diag,
+            },
+        )?;
     }
     Ok(())
 }
@@ -74,11 +56,15 @@ fn classes_of_two_walks(rt: HostRuntime) -> Result<(), Fail> {
         ("0 1 0\n", "0 1 2\n", 13, "", "walk 2: open\n"),
     ];
     for (walk, other, status, out, diag) in &cases {
-        on_walks(
+        answers(
             &rt,
-            &["same", "torus33", "W", "V"],
-            [walk, other],
-            (*status, out, diag),
+            &Case {
+                words: &["same", "torus33", "W", "V"],
+                files: &[("torus33", TORUS33), ("W", walk), ("V", other)],
+                status: *status,
+                out,
+                diag,
+            },
         )?;
     }
     Ok(())
@@ -111,11 +97,15 @@ fn evidence_is_confirmed(rt: HostRuntime) -> Result<(), Fail> {
         ),
     ];
     for (walk, evidence, status, out, diag) in &cases {
-        on_walks(
+        answers(
             &rt,
-            &["confirm", "torus33", "W", "V"],
-            [walk, evidence],
-            (*status, out, diag),
+            &Case {
+                words: &["confirm", "torus33", "W", "C"],
+                files: &[("torus33", TORUS33), ("W", walk), ("C", evidence)],
+                status: *status,
+                out,
+                diag,
+            },
         )?;
     }
     Ok(())
@@ -130,11 +120,15 @@ fn shortest_walks_in_a_class(rt: HostRuntime) -> Result<(), Fail> {
         ("plane6", "0 2 4 0\n", "shortest 3 0 3 1 0\n"),
     ];
     for (mesh, walk, out) in &cases {
-        on_walks(
+        answers(
             &rt,
-            &["shortest", mesh, "unit", "W"],
-            [walk, ""],
-            (0, out, ""),
+            &Case {
+                words: &["shortest", mesh, "unit", "W"],
+                files: &[("torus33", TORUS33), ("plane6", PLANE6), ("W", walk)],
+                status: 0,
+                out,
+                diag: "",
+            },
         )?;
     }
     Ok(())
