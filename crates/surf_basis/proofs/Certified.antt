@@ -1,17 +1,17 @@
 -- The parts of the certificate of the basis.
 use Rattle.std.proofs.Common.{◌≡◌, ℕ, ◌+◌, ◌<◌, ◌++◌, ◌∷◌, [], List, map, refl, sym, ap, ◌∙◌, subst}
-use Rattle.surf_complex.specs.Mesh.{Mesh}
-use Rattle.surf_complex.specs.Surface.{ends, IsSurface}
-use Rattle.surf_complex.specs.Walk.{ArePositive}
-use Rattle.surf_complex.specs.Choice.{Trees, AreChosenAt, Loop, walks}
-use Rattle.surf_complex.proofs.ChoiceExists.{choice_exists, heaviest_exists}
-use Rattle.surf_complex.proofs.ClassLaws.{some_vertex}
-use Rattle.surf_complex.proofs.ShortestTreeLaws.{shortest_is_tree}
-use Rattle.surf_valid.specs.Rows.{TreeRows, DualRows, LoopCert, BasisCert}
-use Rattle.surf_valid.specs.Chosen.{rows_of, dual_rows_of, cert_of, basis_cert_of}
-use Rattle.surf_valid.specs.Bases.{IsValidBasis}
-use Rattle.surf_valid.proofs.OneCert.{chosen_certs_are_one}
-use Rattle.surf_valid.proofs.ChosenBases.{chosen_bases_are_valid}
+use Rattle.surf_surfaces.specs.Mesh.{Mesh}
+use Rattle.surf_surfaces.specs.Surface.{ends, IsSurface}
+use Rattle.surf_surfaces.specs.Walk.{ArePositive}
+use Rattle.surf_surfaces.specs.Choice.{Trees, AreChosenAt, Loop, walks}
+use Rattle.surf_surfaces.proofs.ChoiceExists.{choice_exists, heaviest_exists}
+use Rattle.surf_surfaces.proofs.ClassLaws.{some_vertex}
+use Rattle.surf_surfaces.proofs.ShortestTreeLaws.{shortest_is_tree}
+use Rattle.surf_validity.specs.Rows.{TreeRows, DualRows, LoopCert, BasisCert}
+use Rattle.surf_validity.specs.Chosen.{rows_of, dual_rows_of, cert_of, basis_cert_of}
+use Rattle.surf_validity.specs.Bases.{IsValidBasis}
+use Rattle.surf_validity.proofs.OneCert.{chosen_certs_are_one}
+use Rattle.surf_validity.proofs.ChosenBases.{chosen_bases_are_valid}
 use Rattle.surf_cert.specs.Fits.{BasisFits}
 use Rattle.surf_cert.proofs.ChosenFits.{AreNumbers, chosen_basis_fits}
 use Rattle.surf_tree.specs.Tables.{TreeTables, tree_of}

@@ -3,14 +3,14 @@ use Rattle.std.proofs.Common.{◌≡◌, ◌≢◌, ℕ, ◌<◌, List, Option, 
 use Rattle.std.specs.Int.Bits.{xor_assoc, xor_comm, xor_zero_l}
 use Rattle.std.proofs.lemmas.Bool.{cases_eq}
 use Rattle.std.proofs.lemmas.List.FromFn.{get_or-map-range_with_len}
-use Rattle.surf_homology.specs.Cells.{Split}
-use Rattle.surf_complex.specs.Mesh.{Mesh}
-use Rattle.surf_complex.specs.Surface.{edge_count, ends, IsSurface}
-use Rattle.surf_complex.specs.Class.{class_of}
-use Rattle.surf_complex.specs.Loop.{loop_walk}
-use Rattle.surf_complex.specs.Signature.{edge_signature}
-use Rattle.surf_sign.specs.Ways.{way_class}
-use Rattle.surf_sign.proofs.WayLaws.{way_none, way_more, loop_class}
+use Rattle.surf_graphs.specs.Cells.{Split}
+use Rattle.surf_surfaces.specs.Mesh.{Mesh}
+use Rattle.surf_surfaces.specs.Surface.{edge_count, ends, IsSurface}
+use Rattle.surf_surfaces.specs.Class.{class_of}
+use Rattle.surf_surfaces.specs.Loop.{loop_walk}
+use Rattle.surf_surfaces.specs.Signature.{edge_signature}
+use Rattle.surf_signatures.specs.Ways.{way_class}
+use Rattle.surf_signatures.proofs.WayLaws.{way_none, way_more, loop_class}
 use Rattle.surf_tree.specs.Tables.{TreeTables, tree_of, parent_of, parent_edge_of}
 use Rattle.surf_cotree.specs.Tables.{CotreeTables}
 use Rattle.surf_basis.specs.Signing.{AreSignatures, IsClimbed}

@@ -6,16 +6,16 @@ use Rattle.std.specs.Prelude.{nat_le, IfSome}
 use Rattle.std.proofs.lemmas.Bool.{cases_Bool, cases_lt}
 use Rattle.std.proofs.lemmas.Bool.Decides.{nat_tests}
 use Rattle.surf_z2.specs.Order.{merge}
-use Rattle.surf_complex.specs.Mesh.{Mesh}
-use Rattle.surf_complex.specs.Surface.{face_count, edge_count, IsSurface}
-use Rattle.surf_complex.specs.Walk.{ArePositive}
-use Rattle.surf_complex.specs.Homology.{IsFullCount}
-use Rattle.surf_complex.specs.Choice.{Trees, AreChosen, Loop, comes_before, loops_at, loops_below, candidates}
-use Rattle.surf_complex.proofs.ClassLaws.{some_vertex}
-use Rattle.surf_complex.proofs.ChoiceExists.{choice_exists}
-use Rattle.surf_complex.proofs.FirstCycleLaws.{first_is_shortest, candidates_below_two, simple_cycles_separate}
-use Rattle.surf_complex.proofs.LoopsAtLaws.{IsLoopAt, loops_each, loops_are_least}
-use Rattle.surf_complex.proofs.CandidateLaws.{IsLoopBelow, below_each, below_more}
+use Rattle.surf_surfaces.specs.Mesh.{Mesh}
+use Rattle.surf_surfaces.specs.Surface.{face_count, edge_count, IsSurface}
+use Rattle.surf_surfaces.specs.Walk.{ArePositive}
+use Rattle.surf_surfaces.specs.Homology.{IsFullCount}
+use Rattle.surf_surfaces.specs.Choice.{Trees, AreChosen, Loop, comes_before, loops_at, loops_below, candidates}
+use Rattle.surf_surfaces.proofs.ClassLaws.{some_vertex}
+use Rattle.surf_surfaces.proofs.ChoiceExists.{choice_exists}
+use Rattle.surf_surfaces.proofs.FirstCycleLaws.{first_is_shortest, candidates_below_two, simple_cycles_separate}
+use Rattle.surf_surfaces.proofs.LoopsAtLaws.{IsLoopAt, loops_each, loops_are_least}
+use Rattle.surf_surfaces.proofs.CandidateLaws.{IsLoopBelow, below_each, below_more}
 use Rattle.surf_loops.specs.Loops.{LoopTables, loop_of as head_loop, IsGreedy}
 use Rattle.surf_loops.specs.declared.head.LoopHead.{LoopHead}
 use Rattle.surf_basis.specs.declared.candidate.Candidate.{Candidate}

@@ -6,17 +6,17 @@ use Rattle.std.proofs.lemmas.List.Elements.{recursion_from_All, All-from_recursi
 use Rattle.surf_z2.specs.Greedy.{greedy, greedy_after, spans}
 use Rattle.surf_z2.specs.Order.{merge, merge_from}
 use Rattle.surf_z2.specs.Space.{numbers, is_nothing}
-use Rattle.surf_homology.specs.Cells.{Split, IsSplit}
-use Rattle.surf_complex.specs.Mesh.{Mesh}
-use Rattle.surf_complex.specs.Surface.{IsSurface}
-use Rattle.surf_complex.specs.Walk.{IsClosed, ArePositive}
-use Rattle.surf_complex.specs.Cells.{cells_of}
-use Rattle.surf_complex.specs.Class.{class_of}
-use Rattle.surf_complex.specs.Choice.{Trees, AreChosen, Loop, comes_before, loops_at, IsGreedyChoice, IsChosenBasis, nothing, one_more}
-use Rattle.surf_complex.proofs.LeastLaws.{all_each, all_mapped}
-use Rattle.surf_complex.proofs.GreedyChoiceLaws.{AreClosed, greedy_is_choice}
-use Rattle.surf_complex.proofs.LoopsAtLaws.{IsLoopAt, loops_each}
-use Rattle.surf_complex.proofs.BasisLaws.{runs, basis_is_kept_base_by_base}
+use Rattle.surf_graphs.specs.Cells.{Split, IsSplit}
+use Rattle.surf_surfaces.specs.Mesh.{Mesh}
+use Rattle.surf_surfaces.specs.Surface.{IsSurface}
+use Rattle.surf_surfaces.specs.Walk.{IsClosed, ArePositive}
+use Rattle.surf_surfaces.specs.Cells.{cells_of}
+use Rattle.surf_surfaces.specs.Class.{class_of}
+use Rattle.surf_surfaces.specs.Choice.{Trees, AreChosen, Loop, comes_before, loops_at, IsGreedyChoice, IsChosenBasis, nothing, one_more}
+use Rattle.surf_surfaces.proofs.LeastLaws.{all_each, all_mapped}
+use Rattle.surf_surfaces.proofs.GreedyChoiceLaws.{AreClosed, greedy_is_choice}
+use Rattle.surf_surfaces.proofs.LoopsAtLaws.{IsLoopAt, loops_each}
+use Rattle.surf_surfaces.proofs.BasisLaws.{runs, basis_is_kept_base_by_base}
 use Rattle.surf_loops.specs.Loops.{LoopTables, IsGreedy}
 use Rattle.surf_basis.specs.declared.candidate.Signed.{Signed}
 use Rattle.surf_basis.specs.declared.cycle.Cycle.{Cycle}

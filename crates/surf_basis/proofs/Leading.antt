@@ -4,13 +4,13 @@ use Rattle.std.specs.Prelude.{MatchBool, slice_index_or}
 use Rattle.std.specs.Option.{option_map}
 use Rattle.surf_z2.specs.Space.{chains, chosen, difference, sum_of}
 use Rattle.surf_z2.proofs.ParityLaws.{xor-false}
-use Rattle.surf_complex.specs.Mesh.{Mesh}
-use Rattle.surf_complex.specs.Surface.{IsSurface}
-use Rattle.surf_complex.specs.Walk.{parity, ArePositive}
-use Rattle.surf_complex.specs.Homology.{IsBoundary, IsNull}
-use Rattle.surf_complex.specs.Choice.{Trees, AreChosen, Loop, candidates, DependsOn, DependsAt, IsGreedyChoice}
-use Rattle.surf_complex.proofs.CycleLaws.{null_cycles_separate}
-use Rattle.surf_complex.proofs.FirstCycleLaws.{first_is_shortest}
+use Rattle.surf_surfaces.specs.Mesh.{Mesh}
+use Rattle.surf_surfaces.specs.Surface.{IsSurface}
+use Rattle.surf_surfaces.specs.Walk.{parity, ArePositive}
+use Rattle.surf_surfaces.specs.Homology.{IsBoundary, IsNull}
+use Rattle.surf_surfaces.specs.Choice.{Trees, AreChosen, Loop, candidates, DependsOn, DependsAt, IsGreedyChoice}
+use Rattle.surf_surfaces.proofs.CycleLaws.{null_cycles_separate}
+use Rattle.surf_surfaces.proofs.FirstCycleLaws.{first_is_shortest}
 use Rattle.surf_basis.specs.declared.cycle.Cycle.{Cycle}
 use Rattle.surf_basis.specs.Cycles.{first_of, loop_of, loops_of, IsTheBasis, IsFirstCandidate}
 

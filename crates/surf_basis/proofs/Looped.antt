@@ -6,21 +6,21 @@ use Rattle.std.proofs.lemmas.List.Elements.{All-from_recursion, All-contains}
 use Rattle.std.proofs.lemmas.List.Sorted.{Contains-permutation}
 use Rattle.surf_z2.proofs.Below.{small}
 use Rattle.surf_z2.proofs.Merge.{sorted-permutes}
-use Rattle.surf_homology.specs.Cells.{Split, chain_signature}
-use Rattle.surf_complex.specs.Mesh.{Mesh}
-use Rattle.surf_complex.specs.Surface.{edge_count, face_count, IsSurface}
-use Rattle.surf_complex.specs.Walk.{ArePositive, parity}
-use Rattle.surf_complex.specs.Cells.{cells_of}
-use Rattle.surf_complex.specs.Homology.{IsFullCount}
-use Rattle.surf_complex.specs.Class.{class_of}
-use Rattle.surf_complex.specs.Loop.{loop_walk}
-use Rattle.surf_complex.specs.Cotree.{is_left, left_edges}
-use Rattle.surf_complex.specs.Choice.{Trees, AreChosenAt, AreChosen, Loop, comes_before, loop_at, loops_at, candidates, IsGreedyChoice, IsChosenBasis}
-use Rattle.surf_complex.proofs.CotreeLaws.{passing_found}
-use Rattle.surf_complex.proofs.LoopsAtLaws.{IsLoopAt, loops_each, tree_is, tree_short}
-use Rattle.surf_complex.proofs.LoopsOne.{loops_are_one}
-use Rattle.surf_complex.proofs.CandidateLaws.{IsLoopBelow}
-use Rattle.surf_complex.proofs.FirstCycleLaws.{candidates_below_two}
+use Rattle.surf_graphs.specs.Cells.{Split, chain_signature}
+use Rattle.surf_surfaces.specs.Mesh.{Mesh}
+use Rattle.surf_surfaces.specs.Surface.{edge_count, face_count, IsSurface}
+use Rattle.surf_surfaces.specs.Walk.{ArePositive, parity}
+use Rattle.surf_surfaces.specs.Cells.{cells_of}
+use Rattle.surf_surfaces.specs.Homology.{IsFullCount}
+use Rattle.surf_surfaces.specs.Class.{class_of}
+use Rattle.surf_surfaces.specs.Loop.{loop_walk}
+use Rattle.surf_surfaces.specs.Cotree.{is_left, left_edges}
+use Rattle.surf_surfaces.specs.Choice.{Trees, AreChosenAt, AreChosen, Loop, comes_before, loop_at, loops_at, candidates, IsGreedyChoice, IsChosenBasis}
+use Rattle.surf_surfaces.proofs.CotreeLaws.{passing_found}
+use Rattle.surf_surfaces.proofs.LoopsAtLaws.{IsLoopAt, loops_each, tree_is, tree_short}
+use Rattle.surf_surfaces.proofs.LoopsOne.{loops_are_one}
+use Rattle.surf_surfaces.proofs.CandidateLaws.{IsLoopBelow}
+use Rattle.surf_surfaces.proofs.FirstCycleLaws.{candidates_below_two}
 use Rattle.surf_tree.specs.Tables.{TreeTables, tree_of}
 use Rattle.surf_loops.specs.Loops.{LoopTables, trees_of, loop_of, IsGreedy}
 use Rattle.surf_loops.specs.declared.head.LoopHead.{LoopHead}

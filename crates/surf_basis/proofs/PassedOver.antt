@@ -3,30 +3,30 @@ use Rattle.std.proofs.Common.{◌≡◌, ℕ, suc, ◌<◌, ◌≤◌, true, Lis
 use Rattle.std.specs.List.{AllByRecursion}
 use Rattle.std.specs.Option.{option_map}
 use Rattle.std.proofs.lemmas.Bool.{cases_lt}
-use Rattle.surf_homology.specs.Cells.{primal, Split, IsSplit}
-use Rattle.surf_homology.specs.Graphs.{IsEven}
-use Rattle.surf_homology.specs.Independence.{signature_of}
-use Rattle.surf_homology.specs.Trees.{Tree, loop}
-use Rattle.surf_homology.proofs.Graphs.{even_same}
-use Rattle.surf_homology.proofs.Independence.{signature_of-same, zero_null}
-use Rattle.surf_complex.specs.Mesh.{Mesh}
-use Rattle.surf_complex.specs.Surface.{edge_count, IsSurface}
-use Rattle.surf_complex.specs.Walk.{parity, ArePositive}
-use Rattle.surf_complex.specs.Cells.{cells_of}
-use Rattle.surf_complex.specs.Class.{class_of}
-use Rattle.surf_complex.specs.Cotree.{is_left}
-use Rattle.surf_complex.specs.Loop.{loop_walk, loop_length}
-use Rattle.surf_complex.specs.ShortestTree.{IsShortestTree}
-use Rattle.surf_complex.specs.Choice.{Trees, AreChosenAt, AreChosen, Loop, loops_at, loops_below}
-use Rattle.surf_complex.proofs.CellLaws.{surfaces_are_cells}
-use Rattle.surf_complex.proofs.GraphWalkLaws.{closed_parity_even}
-use Rattle.surf_complex.proofs.ClassLaws.{runs_loop}
-use Rattle.surf_complex.proofs.ShortestTreeLaws.{shortest_is_tree}
-use Rattle.surf_complex.proofs.ChoiceExists.{heaviest_exists}
-use Rattle.surf_complex.proofs.LeastLaws.{all_each}
-use Rattle.surf_complex.proofs.LoopsAtLaws.{IsLoopAt, loops_each, tree_is, tree_short}
-use Rattle.surf_complex.proofs.LoopsOne.{loops_are_one}
-use Rattle.surf_complex.proofs.FirstCycleLaws.{left_class}
+use Rattle.surf_graphs.specs.Cells.{primal, Split, IsSplit}
+use Rattle.surf_graphs.specs.Graphs.{IsEven}
+use Rattle.surf_graphs.specs.Independence.{signature_of}
+use Rattle.surf_graphs.specs.Trees.{Tree, loop}
+use Rattle.surf_graphs.proofs.Graphs.{even_same}
+use Rattle.surf_graphs.proofs.Independence.{signature_of-same, zero_null}
+use Rattle.surf_surfaces.specs.Mesh.{Mesh}
+use Rattle.surf_surfaces.specs.Surface.{edge_count, IsSurface}
+use Rattle.surf_surfaces.specs.Walk.{parity, ArePositive}
+use Rattle.surf_surfaces.specs.Cells.{cells_of}
+use Rattle.surf_surfaces.specs.Class.{class_of}
+use Rattle.surf_surfaces.specs.Cotree.{is_left}
+use Rattle.surf_surfaces.specs.Loop.{loop_walk, loop_length}
+use Rattle.surf_surfaces.specs.ShortestTree.{IsShortestTree}
+use Rattle.surf_surfaces.specs.Choice.{Trees, AreChosenAt, AreChosen, Loop, loops_at, loops_below}
+use Rattle.surf_surfaces.proofs.CellLaws.{surfaces_are_cells}
+use Rattle.surf_surfaces.proofs.GraphWalkLaws.{closed_parity_even}
+use Rattle.surf_surfaces.proofs.ClassLaws.{runs_loop}
+use Rattle.surf_surfaces.proofs.ShortestTreeLaws.{shortest_is_tree}
+use Rattle.surf_surfaces.proofs.ChoiceExists.{heaviest_exists}
+use Rattle.surf_surfaces.proofs.LeastLaws.{all_each}
+use Rattle.surf_surfaces.proofs.LoopsAtLaws.{IsLoopAt, loops_each, tree_is, tree_short}
+use Rattle.surf_surfaces.proofs.LoopsOne.{loops_are_one}
+use Rattle.surf_surfaces.proofs.FirstCycleLaws.{left_class}
 use Rattle.surf_basis.specs.declared.candidate.Candidate.{Candidate}
 use Rattle.surf_basis.specs.declared.candidate.Signed.{Signed}
 use Rattle.surf_basis.specs.Candidates.{loop_in, AreKept}

@@ -14,18 +14,18 @@ use Rattle.surf_z2.proofs.Greedy.{spans_law, greedy_law, two_step_law}
 use Rattle.surf_z2.proofs.Merge.{order_from_sorted}
 use Rattle.surf_z2.proofs.Numbers.{Decides-is_nothing}
 use Rattle.surf_z2.proofs.Width.{width_law}
-use Rattle.surf_homology.specs.Cells.{Split, IsSplit}
-use Rattle.surf_homology.proofs.Counting.{left_edges}
-use Rattle.surf_complex.specs.Mesh.{Mesh}
-use Rattle.surf_complex.specs.Surface.{IsSurface}
-use Rattle.surf_complex.specs.Walk.{ArePositive}
-use Rattle.surf_complex.specs.Cells.{cells_of}
-use Rattle.surf_complex.specs.Class.{class_of}
-use Rattle.surf_complex.specs.Choice.{Trees, AreChosen, Loop, comes_before, loops_at, loops_below}
-use Rattle.surf_complex.proofs.LeastLaws.{all_each}
-use Rattle.surf_complex.proofs.LoopsAtLaws.{IsLoopAt, loops_each, comes_before-trans}
-use Rattle.surf_complex.proofs.CandidateLaws.{below-sorted}
-use Rattle.surf_complex.proofs.BasisLaws.{kept_is_greedy}
+use Rattle.surf_graphs.specs.Cells.{Split, IsSplit}
+use Rattle.surf_graphs.proofs.Counting.{left_edges}
+use Rattle.surf_surfaces.specs.Mesh.{Mesh}
+use Rattle.surf_surfaces.specs.Surface.{IsSurface}
+use Rattle.surf_surfaces.specs.Walk.{ArePositive}
+use Rattle.surf_surfaces.specs.Cells.{cells_of}
+use Rattle.surf_surfaces.specs.Class.{class_of}
+use Rattle.surf_surfaces.specs.Choice.{Trees, AreChosen, Loop, comes_before, loops_at, loops_below}
+use Rattle.surf_surfaces.proofs.LeastLaws.{all_each}
+use Rattle.surf_surfaces.proofs.LoopsAtLaws.{IsLoopAt, loops_each, comes_before-trans}
+use Rattle.surf_surfaces.proofs.CandidateLaws.{below-sorted}
+use Rattle.surf_surfaces.proofs.BasisLaws.{kept_is_greedy}
 use Rattle.surf_loops.specs.Loops.{LoopTables, IsGreedy}
 use Rattle.surf_loops.specs.declared.head.LoopHead.{LoopHead}
 use Rattle.surf_basis.specs.declared.candidate.Signed.{Signed}

@@ -1,11 +1,11 @@
 -- What is known of a tree and of signatures when a base is looked at.
 use Rattle.std.proofs.Common.{◌≡◌, ℕ, ◌∙◌, List, None, length, sym, ap, subst}
 use Rattle.std.proofs.lemmas.List.FromFn.{length-map-range_with_len}
-use Rattle.surf_complex.specs.Mesh.{Mesh}
-use Rattle.surf_complex.specs.Surface.{edge_count, IsSurface}
-use Rattle.surf_complex.specs.Walk.{ArePositive}
-use Rattle.surf_complex.specs.Signature.{edge_signature}
-use Rattle.surf_complex.proofs.ShortestTreeLaws.{shortest_is_tree, shortest_is_shortest}
+use Rattle.surf_surfaces.specs.Mesh.{Mesh}
+use Rattle.surf_surfaces.specs.Surface.{edge_count, IsSurface}
+use Rattle.surf_surfaces.specs.Walk.{ArePositive}
+use Rattle.surf_surfaces.specs.Signature.{edge_signature}
+use Rattle.surf_surfaces.proofs.ShortestTreeLaws.{shortest_is_tree, shortest_is_shortest}
 use Rattle.surf_tree.specs.Tables.{TreeTables, tree_of, parent_of}
 use Rattle.surf_tree.specs.Grown.{IsGrown}
 use Rattle.surf_cotree.specs.Tables.{CotreeTables}

@@ -6,12 +6,12 @@ use Rattle.std.proofs.Math.Seq.{take-append_seam}
 use Rattle.std.proofs.lemmas.Bool.{cases_eq, cases_lt}
 use Rattle.std.proofs.lemmas.List.{get_or-set_same, get_or-set_other, get_or_past}
 use Rattle.surf_z2.proofs.Below.{small}
-use Rattle.surf_homology.specs.Cells.{signature}
-use Rattle.surf_complex.specs.Mesh.{Mesh}
-use Rattle.surf_complex.specs.Surface.{edge_count, ends, IsSurface}
-use Rattle.surf_complex.specs.Cells.{cells_of}
-use Rattle.surf_sign.specs.Ways.{way_class}
-use Rattle.surf_sign.proofs.WayLaws.{way_none, loop_class}
+use Rattle.surf_graphs.specs.Cells.{signature}
+use Rattle.surf_surfaces.specs.Mesh.{Mesh}
+use Rattle.surf_surfaces.specs.Surface.{edge_count, ends, IsSurface}
+use Rattle.surf_surfaces.specs.Cells.{cells_of}
+use Rattle.surf_signatures.specs.Ways.{way_class}
+use Rattle.surf_signatures.proofs.WayLaws.{way_none, loop_class}
 use Rattle.surf_tree.specs.Tables.{TreeTables, tree_of}
 use Rattle.surf_cotree.specs.Tables.{CotreeTables}
 use Rattle.surf_basis.specs.Signing.{AreSigned, IsClimbed}

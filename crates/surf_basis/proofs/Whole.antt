@@ -1,18 +1,18 @@
 -- What is known when all bases were gone through.
 use Rattle.std.proofs.Common.{◌≡◌, ℕ, List, [], length, map, All, sym, ap, ◌∙◌, subst, arith}
 use Rattle.std.specs.List.{range_with_len}
-use Rattle.surf_homology.specs.Cells.{Split, IsSplit}
-use Rattle.surf_homology.specs.Trees.{Tree}
-use Rattle.surf_complex.specs.Mesh.{Mesh}
-use Rattle.surf_complex.specs.Surface.{edge_count, IsSurface}
-use Rattle.surf_complex.specs.Walk.{ArePositive}
-use Rattle.surf_complex.specs.Cells.{cells_of}
-use Rattle.surf_complex.specs.Homology.{IsFullCount}
-use Rattle.surf_complex.specs.Choice.{Trees, AreChosen, Loop, IsChosenBasis}
-use Rattle.surf_complex.specs.ChoiceLaws.{LeastSimpleBasis}
-use Rattle.surf_complex.specs.Signature.{edge_signature}
-use Rattle.surf_complex.proofs.BasisLaws.{basis_is_least}
-use Rattle.surf_complex.proofs.ChoiceExists.{choice_exists}
+use Rattle.surf_graphs.specs.Cells.{Split, IsSplit}
+use Rattle.surf_graphs.specs.Trees.{Tree}
+use Rattle.surf_surfaces.specs.Mesh.{Mesh}
+use Rattle.surf_surfaces.specs.Surface.{edge_count, IsSurface}
+use Rattle.surf_surfaces.specs.Walk.{ArePositive}
+use Rattle.surf_surfaces.specs.Cells.{cells_of}
+use Rattle.surf_surfaces.specs.Homology.{IsFullCount}
+use Rattle.surf_surfaces.specs.Choice.{Trees, AreChosen, Loop, IsChosenBasis}
+use Rattle.surf_surfaces.specs.ChoiceLaws.{LeastSimpleBasis}
+use Rattle.surf_surfaces.specs.Signature.{edge_signature}
+use Rattle.surf_surfaces.proofs.BasisLaws.{basis_is_least}
+use Rattle.surf_surfaces.proofs.ChoiceExists.{choice_exists}
 use Rattle.surf_cotree.specs.Tables.{CotreeTables, split_with}
 use Rattle.surf_loops.specs.Loops.{LoopTables, IsGreedy}
 use Rattle.surf_basis.specs.declared.candidate.Signed.{Signed}

@@ -5,13 +5,13 @@ use Rattle.std.specs.Option.{option_map}
 use Rattle.surf_z2.specs.Greedy.{greedy}
 use Rattle.surf_z2.specs.Order.{merge}
 use Rattle.surf_z2.specs.Space.{numbers, is_nothing}
-use Rattle.surf_homology.specs.Cells.{Split}
-use Rattle.surf_complex.specs.Mesh.{Mesh}
-use Rattle.surf_complex.specs.Surface.{edge_count}
-use Rattle.surf_complex.specs.Class.{class_of}
-use Rattle.surf_complex.specs.Loop.{loop_walk, loop_length}
-use Rattle.surf_complex.specs.Cotree.{is_left}
-use Rattle.surf_complex.specs.Choice.{Trees, AreChosenAt, Loop, IsKeptFrom}
+use Rattle.surf_graphs.specs.Cells.{Split}
+use Rattle.surf_surfaces.specs.Mesh.{Mesh}
+use Rattle.surf_surfaces.specs.Surface.{edge_count}
+use Rattle.surf_surfaces.specs.Class.{class_of}
+use Rattle.surf_surfaces.specs.Loop.{loop_walk, loop_length}
+use Rattle.surf_surfaces.specs.Cotree.{is_left}
+use Rattle.surf_surfaces.specs.Choice.{Trees, AreChosenAt, Loop, IsKeptFrom}
 use Rattle.surf_tree.specs.Tables.{TreeTables, tree_of}
 use Rattle.surf_loops.specs.declared.head.LoopHead.{LoopHead}
 use Rattle.surf_loops.specs.Loops.{LoopTables}

@@ -1,10 +1,10 @@
 -- The certificate of the basis that is chosen.
 use Rattle.std.specs.Prelude.{ℕ, ◌≡◌, List, map}
 use Rattle.std.specs.List.{range_with_len}
-use Rattle.surf_complex.specs.Mesh.{Mesh}
-use Rattle.surf_complex.specs.Choice.{Trees, AreChosen, Loop, IsChosenBasis}
-use Rattle.surf_valid.specs.Rows.{TreeRows, BasisCert}
-use Rattle.surf_valid.specs.Chosen.{rows_of, basis_cert_of}
+use Rattle.surf_surfaces.specs.Mesh.{Mesh}
+use Rattle.surf_surfaces.specs.Choice.{Trees, AreChosen, Loop, IsChosenBasis}
+use Rattle.surf_validity.specs.Rows.{TreeRows, BasisCert}
+use Rattle.surf_validity.specs.Chosen.{rows_of, basis_cert_of}
 
 -- the rows are those of the trees of shortest walks from the first bases, whichever trees show the choice
 abbrev pub AreTreeRowsBelow : Mesh → List ℕ → ℕ → List TreeRows → Type 0

@@ -1,10 +1,10 @@
 -- Cycles of a surface as loops of the choice among ties.
 use Rattle.std.specs.Prelude.{ℕ, ◌≡◌, List, [], ◌∷◌, map, Option, Some, None}
 use Rattle.std.specs.Option.{option_map}
-use Rattle.surf_complex.specs.Mesh.{Mesh}
-use Rattle.surf_complex.specs.Walk.{walk_length}
-use Rattle.surf_complex.specs.Cycle.{IsSimpleCycle, Separation, IsShortestNonseparating}
-use Rattle.surf_complex.specs.Choice.{Trees, AreChosen, Loop, candidates, IsChosenBasis}
+use Rattle.surf_surfaces.specs.Mesh.{Mesh}
+use Rattle.surf_surfaces.specs.Walk.{walk_length}
+use Rattle.surf_surfaces.specs.Cycle.{IsSimpleCycle, Separation, IsShortestNonseparating}
+use Rattle.surf_surfaces.specs.Choice.{Trees, AreChosen, Loop, candidates, IsChosenBasis}
 use Rattle.surf_basis.specs.declared.cycle.Cycle.{Cycle}
 
 -- a cycle as a loop of the choice

@@ -1,14 +1,14 @@
 -- Sums of signatures along the ways of a tree.
 use Rattle.std.specs.Prelude.{ℕ, ◌≡◌, ◌<◌, length, nat_le, Bool, true, false, List, slice_index, slice_index_or, Option, Some, None}
 use Rattle.std.specs.List.{list_all}
-use Rattle.surf_homology.specs.Cells.{Split}
-use Rattle.surf_homology.specs.Independence.{signature_of}
-use Rattle.surf_homology.specs.Trees.{Tree, on_path}
-use Rattle.surf_complex.specs.Mesh.{Mesh}
-use Rattle.surf_complex.specs.Surface.{edge_count}
-use Rattle.surf_complex.specs.Cells.{cells_of}
-use Rattle.surf_complex.specs.Class.{class_of}
-use Rattle.surf_complex.specs.Loop.{loop_walk, loop_length}
+use Rattle.surf_graphs.specs.Cells.{Split}
+use Rattle.surf_graphs.specs.Independence.{signature_of}
+use Rattle.surf_graphs.specs.Trees.{Tree, on_path}
+use Rattle.surf_surfaces.specs.Mesh.{Mesh}
+use Rattle.surf_surfaces.specs.Surface.{edge_count}
+use Rattle.surf_surfaces.specs.Cells.{cells_of}
+use Rattle.surf_surfaces.specs.Class.{class_of}
+use Rattle.surf_surfaces.specs.Loop.{loop_walk, loop_length}
 use Rattle.surf_tree.specs.Tables.{TreeTables, tree_of}
 use Rattle.surf_cotree.specs.Tables.{CotreeTables}
 use Rattle.surf_basis.specs.declared.candidate.Candidate.{Candidate}

@@ -1,13 +1,13 @@
 -- Signatures of edges, and trees that are climbed edge by edge.
 use Rattle.std.specs.Prelude.{ℕ, ◌≡◌, ◌≢◌, ◌<◌, List, map, length, slice_index, Some, None}
 use Rattle.std.specs.List.{range_with_len}
-use Rattle.surf_homology.specs.Cells.{primal, Split, IsSplit}
-use Rattle.surf_homology.specs.Trees.{IsTree, IsShortest}
-use Rattle.surf_complex.specs.Mesh.{Mesh}
-use Rattle.surf_complex.specs.Surface.{edge_count}
-use Rattle.surf_complex.specs.Walk.{edge_length}
-use Rattle.surf_complex.specs.Cells.{cells_of}
-use Rattle.surf_complex.specs.Signature.{edge_signature}
+use Rattle.surf_graphs.specs.Cells.{primal, Split, IsSplit}
+use Rattle.surf_graphs.specs.Trees.{IsTree, IsShortest}
+use Rattle.surf_surfaces.specs.Mesh.{Mesh}
+use Rattle.surf_surfaces.specs.Surface.{edge_count}
+use Rattle.surf_surfaces.specs.Walk.{edge_length}
+use Rattle.surf_surfaces.specs.Cells.{cells_of}
+use Rattle.surf_surfaces.specs.Signature.{edge_signature}
 use Rattle.surf_tree.specs.Tables.{TreeTables, IsMadeFor, parent_of, parent_edge_of, tree_of}
 use Rattle.surf_cotree.specs.Tables.{CotreeTables}
 

@@ -1,11 +1,11 @@
 //! The least basis, kept base by base.
 ghost use Rattle.std.specs.Prelude.{ℕ, ◌≡◌, ◌<◌, ◌≤◌, ◌+◌, [], All, IfOk, IfSome, length, nat_le};
-ghost use Rattle.surf_homology.specs.Cells.{Split, IsSplit};
-ghost use Rattle.surf_complex.specs.Cells.{cells_of};
-ghost use Rattle.surf_complex.specs.Homology.{IsFullCount};
-ghost use Rattle.surf_complex.specs.Choice.{Trees, AreChosen};
-ghost use Rattle.surf_complex.specs.Surface.{edge_count, face_count};
-ghost use Rattle.surf_complex.specs.ChoiceLaws.{LeastSimpleBasis};
+ghost use Rattle.surf_graphs.specs.Cells.{Split, IsSplit};
+ghost use Rattle.surf_surfaces.specs.Cells.{cells_of};
+ghost use Rattle.surf_surfaces.specs.Homology.{IsFullCount};
+ghost use Rattle.surf_surfaces.specs.Choice.{Trees, AreChosen};
+ghost use Rattle.surf_surfaces.specs.Surface.{edge_count, face_count};
+ghost use Rattle.surf_surfaces.specs.ChoiceLaws.{LeastSimpleBasis};
 ghost use Rattle.surf_loops.specs.Loops.{IsMadeFor};
 ghost use Rattle.surf_basis.specs.Cycles.{first_of, IsFirstCandidate, IsShortestCycle, IsTheBasis, loops_of};
 ghost use Rattle.surf_basis.specs.Candidates.{signed_heads, is_settled, with_loops, AreKept};

@@ -1,8 +1,8 @@
 //! The certificate of the basis.
 ghost use Rattle.std.specs.Prelude.{◌≡◌, ◌≤◌, ◌+◌, IfOk, length};
-ghost use Rattle.surf_complex.specs.Choice.{walks};
-ghost use Rattle.surf_complex.specs.Surface.{edge_count, face_count};
-ghost use Rattle.surf_valid.specs.Bases.{IsValidBasis};
+ghost use Rattle.surf_surfaces.specs.Choice.{walks};
+ghost use Rattle.surf_surfaces.specs.Surface.{edge_count, face_count};
+ghost use Rattle.surf_validity.specs.Bases.{IsValidBasis};
 ghost use Rattle.surf_cert.specs.Fits.{BasisFits};
 ghost use Rattle.surf_basis.specs.Certs.{AreTreeRows, IsTheCert};
 ghost use Rattle.surf_basis.specs.Cycles.{loops_of};

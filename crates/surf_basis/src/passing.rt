@@ -1,9 +1,9 @@
 //! Whether the short loops at a base are null, by sums of signatures along the ways of its tree.
 ghost use Rattle.std.specs.Prelude.{◌≡◌, ◌<◌, ◌≤◌, ◌^◌, ℕ, true, bit_xor, length, slice_index, IfOk};
-ghost use Rattle.surf_homology.specs.Cells.{Split};
-ghost use Rattle.surf_complex.specs.Class.{class_of};
-ghost use Rattle.surf_complex.specs.Loop.{loop_walk};
-ghost use Rattle.surf_complex.specs.Surface.{edge_count};
+ghost use Rattle.surf_graphs.specs.Cells.{Split};
+ghost use Rattle.surf_surfaces.specs.Class.{class_of};
+ghost use Rattle.surf_surfaces.specs.Loop.{loop_walk};
+ghost use Rattle.surf_surfaces.specs.Surface.{edge_count};
 ghost use Rattle.surf_tree.specs.Tables.{TreeTables, tree_of};
 ghost use Rattle.surf_basis.specs.Signing.{AreSignatures, IsClimbed};
 ghost use Rattle.surf_basis.specs.Passing.{AreNullBelow, AreSums, IsNullLoop};

@@ -1,9 +1,9 @@
 //! A shortest cycle that doesn't separate the surface.
 ghost use Rattle.std.specs.Prelude.{ℕ, ◌≡◌, ◌<◌, ◌≤◌, ◌+◌, ◌↔◌, true, None, IfOk, IfSome, length};
-ghost use Rattle.surf_complex.specs.Surface.{edge_count, face_count};
-ghost use Rattle.surf_complex.specs.Homology.{IsFullCount};
+ghost use Rattle.surf_surfaces.specs.Surface.{edge_count, face_count};
+ghost use Rattle.surf_surfaces.specs.Homology.{IsFullCount};
 ghost use Rattle.std.specs.Option.{option_map};
-ghost use Rattle.surf_complex.specs.Choice.{Trees, AreChosen, candidates};
+ghost use Rattle.surf_surfaces.specs.Choice.{Trees, AreChosen, candidates};
 ghost use Rattle.surf_tree.specs.Tables.{tree_of};
 ghost use Rattle.surf_tree.specs.Grown.{IsGrown};
 ghost use Rattle.surf_loops.specs.Loops.{IsMadeFor};

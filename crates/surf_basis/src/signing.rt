@@ -1,13 +1,13 @@
 //! Signatures of loops.
 ghost use Rattle.std.specs.Prelude.{◌≡◌, ◌<◌, ◌≤◌, ◌+◌, bit_xor, length, slice_index, IfOk};
-ghost use Rattle.surf_homology.specs.Cells.{Split};
-ghost use Rattle.surf_homology.specs.Independence.{signature_of};
-ghost use Rattle.surf_homology.specs.Trees.{on_path};
-ghost use Rattle.surf_complex.specs.Cells.{cells_of};
-ghost use Rattle.surf_complex.specs.Class.{class_of};
-ghost use Rattle.surf_complex.specs.Loop.{loop_walk};
-ghost use Rattle.surf_complex.specs.Homology.{IsFullCount};
-ghost use Rattle.surf_complex.specs.Surface.{edge_count, face_count};
+ghost use Rattle.surf_graphs.specs.Cells.{Split};
+ghost use Rattle.surf_graphs.specs.Independence.{signature_of};
+ghost use Rattle.surf_graphs.specs.Trees.{on_path};
+ghost use Rattle.surf_surfaces.specs.Cells.{cells_of};
+ghost use Rattle.surf_surfaces.specs.Class.{class_of};
+ghost use Rattle.surf_surfaces.specs.Loop.{loop_walk};
+ghost use Rattle.surf_surfaces.specs.Homology.{IsFullCount};
+ghost use Rattle.surf_surfaces.specs.Surface.{edge_count, face_count};
 ghost use Rattle.surf_tree.specs.Tables.{tree_of};
 ghost use Rattle.surf_cotree.specs.Tables.{IsMadeFor};
 ghost use Rattle.surf_basis.specs.Signing.{AreSignatures, AreSigned, IsClimbed};

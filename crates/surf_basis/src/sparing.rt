@@ -1,8 +1,8 @@
 //! Bases whose tree of faces is spared, since no loop there can be of use.
 ghost use Rattle.std.specs.Prelude.{ℕ, ◌≡◌, ◌<◌, ◌≤◌, true, length, nat_le, IfSome};
 ghost use Rattle.std.specs.List.{list_all};
-ghost use Rattle.surf_homology.specs.Cells.{Split};
-ghost use Rattle.surf_complex.specs.Surface.{edge_count};
+ghost use Rattle.surf_graphs.specs.Cells.{Split};
+ghost use Rattle.surf_surfaces.specs.Surface.{edge_count};
 ghost use Rattle.surf_tree.specs.Tables.{tree_of};
 ghost use Rattle.surf_tree.specs.Grown.{IsGrown};
 ghost use Rattle.surf_basis.specs.Signing.{AreSignatures, AreSigned};

@@ -1,6 +1,6 @@
 //! The walks of candidates.
 ghost use Rattle.std.specs.Prelude.{◌≡◌, ◌<◌, All, IfOk, length, map};
-ghost use Rattle.surf_complex.specs.Surface.{edge_count};
+ghost use Rattle.surf_surfaces.specs.Surface.{edge_count};
 ghost use Rattle.surf_loops.specs.Loops.{IsMadeFor};
 ghost use Rattle.surf_basis.specs.Candidates.{IsInside, IsCycleOf, AreCyclesOf};
 

@@ -1,6 +1,6 @@
 //! Bases and shortest cycles of small surfaces, worked out by hand.
 ghost use Rattle.std.specs.Prelude.{◌≡◌, ◌≤◌, ◌+◌, IsTrue, length};
-ghost use Rattle.surf_complex.specs.Surface.{edge_count, face_count};
+ghost use Rattle.surf_surfaces.specs.Surface.{edge_count, face_count};
 
 use std::alloc::Global;
 use std::test::Fail;

@@ -4,25 +4,25 @@ use Rattle.std.specs.List.{All, zip, range_with_len}
 use Rattle.std.proofs.lemmas.Bool.{cases_eq, ne_eqb, eq-eqb}
 use Rattle.std.proofs.lemmas.List.{length-map, get_or-map}
 use Rattle.std.proofs.lemmas.List.FromFn.{length-range_with_len, get_or-map-range_with_len}
-use Rattle.surf_homology.specs.Cells.{primal, dual, IsSplit}
-use Rattle.surf_homology.specs.Trees.{Tree, IsTree, IsShortest}
-use Rattle.surf_homology.proofs.Counting.{left_edges as left_count}
-use Rattle.surf_complex.specs.Mesh.{Mesh}
-use Rattle.surf_complex.specs.Surface.{face_count, edge_count, ends, IsSurface}
-use Rattle.surf_complex.specs.Walk.{IsClosed, edge_length, ArePositive}
-use Rattle.surf_complex.specs.Homology.{IsFullCount}
-use Rattle.surf_complex.specs.Cells.{cells_of}
-use Rattle.surf_complex.specs.Cotree.{left_edges, split_of}
-use Rattle.surf_complex.specs.Choice.{Trees, Loop, AreChosenAt, AreChosen, IsChosenBasis, walks}
-use Rattle.surf_complex.proofs.BasisLaws.{basis_is_least}
-use Rattle.surf_complex.proofs.CellLaws.{ends_below}
-use Rattle.surf_complex.proofs.ClassLaws.{some_vertex}
-use Rattle.surf_complex.proofs.CotreeLaws.{is_split}
-use Rattle.surf_complex.proofs.LawProofs.{edges_are_in_order}
-use Rattle.surf_complex.proofs.ShortestTreeLaws.{shortest_is_tree, shortest_is_shortest}
-use Rattle.surf_valid.specs.Rows.{TreeRows}
-use Rattle.surf_valid.specs.Chosen.{parent_in, side_in, rows_of, dual_rows_of, cert_of, basis_cert_of}
-use Rattle.surf_valid.proofs.RankLaws.{ranks_fit}
+use Rattle.surf_graphs.specs.Cells.{primal, dual, IsSplit}
+use Rattle.surf_graphs.specs.Trees.{Tree, IsTree, IsShortest}
+use Rattle.surf_graphs.proofs.Counting.{left_edges as left_count}
+use Rattle.surf_surfaces.specs.Mesh.{Mesh}
+use Rattle.surf_surfaces.specs.Surface.{face_count, edge_count, ends, IsSurface}
+use Rattle.surf_surfaces.specs.Walk.{IsClosed, edge_length, ArePositive}
+use Rattle.surf_surfaces.specs.Homology.{IsFullCount}
+use Rattle.surf_surfaces.specs.Cells.{cells_of}
+use Rattle.surf_surfaces.specs.Cotree.{left_edges, split_of}
+use Rattle.surf_surfaces.specs.Choice.{Trees, Loop, AreChosenAt, AreChosen, IsChosenBasis, walks}
+use Rattle.surf_surfaces.proofs.BasisLaws.{basis_is_least}
+use Rattle.surf_surfaces.proofs.CellLaws.{ends_below}
+use Rattle.surf_surfaces.proofs.ClassLaws.{some_vertex}
+use Rattle.surf_surfaces.proofs.CotreeLaws.{is_split}
+use Rattle.surf_surfaces.proofs.LawProofs.{edges_are_in_order}
+use Rattle.surf_surfaces.proofs.ShortestTreeLaws.{shortest_is_tree, shortest_is_shortest}
+use Rattle.surf_validity.specs.Rows.{TreeRows}
+use Rattle.surf_validity.specs.Chosen.{parent_in, side_in, rows_of, dual_rows_of, cert_of, basis_cert_of}
+use Rattle.surf_validity.proofs.RankLaws.{ranks_fit}
 use Rattle.surf_cert.specs.Lines.{greatest}
 use Rattle.surf_cert.specs.Fits.{IsNumber, IsParent, TreeFits, IsPair, IsFaceRow, DualFits, LeftFits, CycleFits, LoopFits, BasisFits}
 

@@ -1,14 +1,14 @@
 -- What is written of the certificates of the choice is read again as these, and they are valid.
 use Rattle.std.proofs.Common.{ℕ, List}
-use Rattle.surf_complex.specs.Mesh.{Mesh}
-use Rattle.surf_complex.specs.Surface.{IsSurface}
-use Rattle.surf_complex.specs.Walk.{ArePositive}
-use Rattle.surf_complex.specs.Choice.{Trees, Loop, AreChosenAt, AreChosen, IsChosenBasis}
-use Rattle.surf_valid.specs.Valid.{IsValidLoops}
-use Rattle.surf_valid.specs.Bases.{IsValidBasis}
-use Rattle.surf_valid.specs.Chosen.{cert_of, basis_cert_of}
-use Rattle.surf_valid.proofs.ChosenLaws.{chosen_loops_are_valid}
-use Rattle.surf_valid.proofs.ChosenBases.{chosen_bases_are_valid}
+use Rattle.surf_surfaces.specs.Mesh.{Mesh}
+use Rattle.surf_surfaces.specs.Surface.{IsSurface}
+use Rattle.surf_surfaces.specs.Walk.{ArePositive}
+use Rattle.surf_surfaces.specs.Choice.{Trees, Loop, AreChosenAt, AreChosen, IsChosenBasis}
+use Rattle.surf_validity.specs.Valid.{IsValidLoops}
+use Rattle.surf_validity.specs.Bases.{IsValidBasis}
+use Rattle.surf_validity.specs.Chosen.{cert_of, basis_cert_of}
+use Rattle.surf_validity.proofs.ChosenLaws.{chosen_loops_are_valid}
+use Rattle.surf_validity.proofs.ChosenBases.{chosen_bases_are_valid}
 use Rattle.surf_cert.specs.Written.{RereadsLoops, RereadsBasis}
 use Rattle.surf_cert.proofs.Reread.{loops_again, basis_again}
 use Rattle.surf_cert.proofs.ChosenFits.{AreNumbers, chosen_loops_fit, chosen_basis_fits}

@@ -6,13 +6,13 @@ use Rattle.std.proofs.lemmas.Bool.{cases_Bool}
 use Rattle.std.proofs.lemmas.List.{length-map}
 use Rattle.std.proofs.lemmas.List.Elements.{All-nil, All-cons}
 use Rattle.std.proofs.lemmas.List.Kept.{AllPairs-cons}
-use Rattle.surf_complex.specs.Mesh.{pair_lt}
-use Rattle.surf_complex.proofs.PairLaws.{pair_lt-trans}
+use Rattle.surf_surfaces.specs.Mesh.{pair_lt}
+use Rattle.surf_surfaces.proofs.PairLaws.{pair_lt-trans}
 use Rattle.surf_text.specs.Text.{TextLine, tokens_of, lines_of}
 use Rattle.surf_cert.specs.declared.cert.Cert.{Cert}
 use Rattle.surf_cert.specs.declared.fault.CertText.{CertText}
 use Rattle.surf_cert.specs.declared.line.Counts.{Counts}
-use Rattle.surf_valid.specs.Rows.{TreeRows, DualRows, LoopCert, BasisCert}
+use Rattle.surf_validity.specs.Rows.{TreeRows, DualRows, LoopCert, BasisCert}
 use Rattle.surf_cert.specs.Lines.{is_header, counts_of, base_of, base_at, tree_row, dual_row, is_next, pair_behind, cycle_of, the_word}
 use Rattle.surf_cert.specs.Fits.{IsNumber, IsParent, IsPair, IsFaceRow, TreeFits, DualFits, LeftFits, CycleFits, LoopFits, BasisFits, CertFits}
 use Rattle.surf_cert.specs.Gives.{Gives}

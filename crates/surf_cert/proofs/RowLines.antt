@@ -4,7 +4,7 @@ use Rattle.std.specs.Prelude.{map}
 use Rattle.std.specs.List.{fold}
 use Rattle.surf_text.specs.Text.{TextLine}
 use Rattle.surf_cert.specs.declared.fault.CertText.{CertText}
-use Rattle.surf_valid.specs.Rows.{TreeRows, DualRows}
+use Rattle.surf_validity.specs.Rows.{TreeRows, DualRows}
 use Rattle.surf_cert.specs.Lines.{tree_row, dual_row, pair_behind, base_at}
 use Rattle.surf_cert.specs.Grammar.{◌>>=◌, next_of, onto_rows, rows_of, pairs_of, tree_of, dual_rows_of, based_tree, trees_of}
 

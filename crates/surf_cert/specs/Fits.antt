@@ -1,8 +1,8 @@
 -- Certificates whose lists fit the lines of a text.
 use Rattle.std.specs.Prelude.{◌≡◌, ◌<◌, ◌≤◌, ◌^◌, ℕ, true, List, length, slice_index_or, Option, Some, None}
 use Rattle.std.specs.List.{All, AllPairs, zip}
-use Rattle.surf_complex.specs.Mesh.{pair_lt}
-use Rattle.surf_valid.specs.Rows.{TreeRows, DualRows, LoopCert, BasisCert}
+use Rattle.surf_surfaces.specs.Mesh.{pair_lt}
+use Rattle.surf_validity.specs.Rows.{TreeRows, DualRows, LoopCert, BasisCert}
 use Rattle.surf_cert.specs.declared.cert.Cert.{Cert}
 use Rattle.surf_cert.specs.declared.cert.Cert.TheVariants.{Loops, Basis}
 use Rattle.surf_cert.specs.Lines.{greatest}

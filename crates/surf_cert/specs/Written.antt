@@ -1,7 +1,7 @@
 -- The texts of certificates.
 use Rattle.std.specs.Prelude.{◌≡◌, ℕ, List, [], ◌∷◌, ◌++◌, length, flat_map, codes, decimal, Option, Some, None, Ok}
 use Rattle.std.specs.List.{zip}
-use Rattle.surf_valid.specs.Rows.{TreeRows, DualRows, LoopCert, BasisCert}
+use Rattle.surf_validity.specs.Rows.{TreeRows, DualRows, LoopCert, BasisCert}
 use Rattle.surf_cert.specs.Grammar.{cert_of}
 use Rattle.surf_cert.specs.declared.cert.Cert.TheVariants.{Loops, Basis}
 

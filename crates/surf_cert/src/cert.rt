@@ -16,7 +16,7 @@ pub struct LoopCert {
 }
 
 impl Model for LoopCert {
-    ghost use Rattle.surf_valid.specs.Rows.{LoopCert};
+    ghost use Rattle.surf_validity.specs.Rows.{LoopCert};
 
     ghost Value = { LoopCert };
 
@@ -64,7 +64,7 @@ pub struct BasisCert {
 }
 
 impl Model for BasisCert {
-    ghost use Rattle.surf_valid.specs.Rows.{BasisCert};
+    ghost use Rattle.surf_validity.specs.Rows.{BasisCert};
 
     ghost Value = { BasisCert };
 

@@ -14,7 +14,7 @@ pub struct TreeRows {
 }
 
 impl Model for TreeRows {
-    ghost use Rattle.surf_valid.specs.Rows.{TreeRows};
+    ghost use Rattle.surf_validity.specs.Rows.{TreeRows};
 
     ghost Value = { TreeRows };
 
@@ -64,7 +64,7 @@ pub struct DualRows {
 }
 
 impl Model for DualRows {
-    ghost use Rattle.surf_valid.specs.Rows.{DualRows};
+    ghost use Rattle.surf_validity.specs.Rows.{DualRows};
 
     ghost Value = { DualRows };
 

@@ -1,6 +1,6 @@
 //! Certificates of bases, with a line edited or other cycles.
 ghost use Rattle.std.specs.Prelude.{◌≡◌, ◌≤◌, ◌+◌, IsTrue, IfOk, length};
-ghost use Rattle.surf_complex.specs.Surface.{edge_count, face_count};
+ghost use Rattle.surf_surfaces.specs.Surface.{edge_count, face_count};
 
 use crate::edit::edited;
 use crate::texts::{SCATTERED, SCATTERED_TREES, TORUS, TREES};

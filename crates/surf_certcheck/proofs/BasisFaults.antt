@@ -5,15 +5,15 @@ use Rattle.std.specs.declared.result.Result.{Result}
 use Rattle.std.specs.declared.result.Result.TheVariants.{Ok, Err}
 use Rattle.std.proofs.lemmas.Bool.{true≢false}
 use Rattle.std.proofs.lemmas.List.{get_or_default}
-use Rattle.surf_complex.specs.Mesh.{Mesh, pair_of, pair_eq, edges, among}
-use Rattle.surf_complex.specs.Surface.{IsSurface}
-use Rattle.surf_complex.specs.Walk.{ArePositive}
-use Rattle.surf_complex.specs.Homology.{total, IsLeastBasis}
-use Rattle.surf_complex.proofs.PairLaws.{pair_eq-true}
-use Rattle.surf_complex.proofs.EdgeLaws.{among-contains, list_any_at}
-use Rattle.surf_valid.specs.Rows.{BasisCert}
-use Rattle.surf_valid.specs.Bases.{tree_at, IsClosedList, IsValidBasis, basis_total}
-use Rattle.surf_valid.proofs.BasisLaws.{valid_bases_are_least}
+use Rattle.surf_surfaces.specs.Mesh.{Mesh, pair_of, pair_eq, edges, among}
+use Rattle.surf_surfaces.specs.Surface.{IsSurface}
+use Rattle.surf_surfaces.specs.Walk.{ArePositive}
+use Rattle.surf_surfaces.specs.Homology.{total, IsLeastBasis}
+use Rattle.surf_surfaces.proofs.PairLaws.{pair_eq-true}
+use Rattle.surf_surfaces.proofs.EdgeLaws.{among-contains, list_any_at}
+use Rattle.surf_validity.specs.Rows.{BasisCert}
+use Rattle.surf_validity.specs.Bases.{tree_at, IsClosedList, IsValidBasis, basis_total}
+use Rattle.surf_validity.proofs.BasisLaws.{valid_bases_are_least}
 use Rattle.surf_certcheck.specs.First.{HoldsBelow}
 use Rattle.surf_certcheck.specs.Split.{IsBadPair}
 use Rattle.surf_certcheck.specs.BasisFaults.{IsClosedAt, IsIndependentAt, AreCovered, AreTreesDivided, IsBasisShapeFault, IsBasisFault}

@@ -4,17 +4,17 @@ use Rattle.std.specs.List.{range_with_len}
 use Rattle.std.proofs.lemmas.List.FromFn.{length-range_with_len, get_or-range_with_len}
 use Rattle.std.proofs.lemmas.List.Sorted.{All-permutation, Contains-permutation}
 use Rattle.std.specs.Int.Bits.{xor_assoc, xor_comm, xor_zero_l}
-use Rattle.surf_homology.specs.Cells.{Split}
-use Rattle.surf_complex.specs.Loop.{loop_walk}
-use Rattle.surf_complex.specs.Mesh.{Mesh}
-use Rattle.surf_complex.specs.Signature.{edge_signature, walk_signature}
-use Rattle.surf_complex.specs.Surface.{edge_count, ends, IsSurface}
-use Rattle.surf_complex.proofs.ClassLaws.{runs_loop}
-use Rattle.surf_complex.proofs.SignatureLaws.{signatures_are_classes}
-use Rattle.surf_sign.specs.Ways.{way_class}
-use Rattle.surf_sign.proofs.WayLaws.{way_none, way_more, loop_class}
-use Rattle.surf_valid.specs.Rows.{TreeRows}
-use Rattle.surf_valid.specs.Valid.{tree_of, distance_at, parent_at, or_zero, IsParent}
+use Rattle.surf_graphs.specs.Cells.{Split}
+use Rattle.surf_surfaces.specs.Loop.{loop_walk}
+use Rattle.surf_surfaces.specs.Mesh.{Mesh}
+use Rattle.surf_surfaces.specs.Signature.{edge_signature, walk_signature}
+use Rattle.surf_surfaces.specs.Surface.{edge_count, ends, IsSurface}
+use Rattle.surf_surfaces.proofs.ClassLaws.{runs_loop}
+use Rattle.surf_surfaces.proofs.SignatureLaws.{signatures_are_classes}
+use Rattle.surf_signatures.specs.Ways.{way_class}
+use Rattle.surf_signatures.proofs.WayLaws.{way_none, way_more, loop_class}
+use Rattle.surf_validity.specs.Rows.{TreeRows}
+use Rattle.surf_validity.specs.Valid.{tree_of, distance_at, parent_at, or_zero, IsParent}
 use Rattle.surf_certcheck.specs.Frames.{AreTaken}
 use Rattle.surf_certcheck.specs.Climbs.{IsClimbed}
 

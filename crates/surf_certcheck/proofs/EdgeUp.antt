@@ -2,16 +2,16 @@
 use Rattle.std.proofs.Common.{◌≡◌, ℕ, ◌<◌, true, false, sym, ap, ◌∙◌, Contains, Option, Some, None}
 use Rattle.std.specs.Option.{MatchOption}
 use Rattle.std.proofs.lemmas.Bool.{true≢false}
-use Rattle.surf_homology.specs.Cells.{primal}
-use Rattle.surf_homology.proofs.Trees.{joined_below}
-use Rattle.surf_complex.specs.Mesh.{Mesh, pair, pair_eq, edges, among}
-use Rattle.surf_complex.specs.Surface.{edge_count, ends, IsSurface}
-use Rattle.surf_complex.specs.Walk.{edge_number, place_of}
-use Rattle.surf_complex.specs.Cells.{cells_of}
-use Rattle.surf_complex.proofs.EdgeLaws.{place_of-ends, among-contains, contains_from_among, list_any_from}
-use Rattle.surf_complex.proofs.PairLaws.{pair_eq-same}
-use Rattle.surf_complex.proofs.CellLaws.{surfaces_are_cells}
-use Rattle.surf_complex.proofs.GraphWalkLaws.{joined}
+use Rattle.surf_graphs.specs.Cells.{primal}
+use Rattle.surf_graphs.proofs.Trees.{joined_below}
+use Rattle.surf_surfaces.specs.Mesh.{Mesh, pair, pair_eq, edges, among}
+use Rattle.surf_surfaces.specs.Surface.{edge_count, ends, IsSurface}
+use Rattle.surf_surfaces.specs.Walk.{edge_number, place_of}
+use Rattle.surf_surfaces.specs.Cells.{cells_of}
+use Rattle.surf_surfaces.proofs.EdgeLaws.{place_of-ends, among-contains, contains_from_among, list_any_from}
+use Rattle.surf_surfaces.proofs.PairLaws.{pair_eq-same}
+use Rattle.surf_surfaces.proofs.CellLaws.{surfaces_are_cells}
+use Rattle.surf_surfaces.proofs.GraphWalkLaws.{joined}
 
 pub number_is : (mesh : Mesh) (p v e : ℕ) → e < edge_count mesh → ends mesh e ≡ pair p v → edge_number mesh (p, v) ≡ e
 number_is mesh p v e l same = ap (λ q. place_of q (edges mesh)) (sym same) ∙ place_of-ends mesh e l

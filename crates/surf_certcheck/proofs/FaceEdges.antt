@@ -1,10 +1,10 @@
 -- The edge of a face between two vertices.
 use Rattle.std.proofs.Common.{◌≡◌, ℕ, ◌<◌, true, false, ◌||◌, eqb, [], sym, ap, ◌∙◌}
 use Rattle.std.proofs.lemmas.Bool.{true≢false}
-use Rattle.surf_complex.specs.Mesh.{Mesh, pair, edges, among}
-use Rattle.surf_complex.specs.Surface.{face_count, edge_count, face_at, ends, has_side, faces_of, IsSurface}
-use Rattle.surf_complex.proofs.EdgeLaws.{among-edges, list_any_from}
-use Rattle.surf_complex.proofs.SurfaceLaws.{two_faces_of}
+use Rattle.surf_surfaces.specs.Mesh.{Mesh, pair, edges, among}
+use Rattle.surf_surfaces.specs.Surface.{face_count, edge_count, face_at, ends, has_side, faces_of, IsSurface}
+use Rattle.surf_surfaces.proofs.EdgeLaws.{among-edges, list_any_from}
+use Rattle.surf_surfaces.proofs.SurfaceLaws.{two_faces_of}
 
 -- what is no edge is no side of a face
 pub no_side : (mesh : Mesh) (f u v : ℕ) → f < face_count mesh → among (pair u v) (edges mesh) ≡ false →

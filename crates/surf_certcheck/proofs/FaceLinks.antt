@@ -3,12 +3,12 @@ use Rattle.std.proofs.Common.{◌≡◌, ◌≢◌, ℕ, ◌<◌, ◌+◌, [], �
 use Rattle.std.proofs.Math.Seq.{get_or-append_seam}
 use Rattle.std.proofs.lemmas.List.{length-append, get_or_append_left}
 use Rattle.std.proofs.lemmas.Bool.{cases_eq}
-use Rattle.surf_complex.specs.Mesh.{Mesh}
-use Rattle.surf_complex.specs.Surface.{face_count, edge_count, faces_of, IsSurface}
-use Rattle.surf_complex.specs.Walk.{edge_number}
-use Rattle.surf_valid.specs.Rows.{DualRows}
-use Rattle.surf_valid.specs.Valid.{depth_at, side_at, or_zeros, IsDualRow}
-use Rattle.surf_valid.proofs.DualLaws.{row_falls}
+use Rattle.surf_surfaces.specs.Mesh.{Mesh}
+use Rattle.surf_surfaces.specs.Surface.{face_count, edge_count, faces_of, IsSurface}
+use Rattle.surf_surfaces.specs.Walk.{edge_number}
+use Rattle.surf_validity.specs.Rows.{DualRows}
+use Rattle.surf_validity.specs.Valid.{depth_at, side_at, or_zeros, IsDualRow}
+use Rattle.surf_validity.proofs.DualLaws.{row_falls}
 use Rattle.surf_certcheck.specs.First.{HoldsBelow}
 use Rattle.surf_certcheck.specs.Rows.{HasDual}
 use Rattle.surf_certcheck.specs.Paths.{AreLinks, IsLinkOver, HasLink, IsStepUp}

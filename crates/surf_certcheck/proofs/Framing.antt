@@ -13,13 +13,13 @@ use Rattle.surf_z2.proofs.Below.{small}
 use Rattle.surf_z2.proofs.Linear.{passing_in}
 use Rattle.surf_z2.proofs.Numbers.{has-xor}
 use Rattle.surf_z2.proofs.Span.{InSpan, four, cancel, in_from_spanned, spanned_from_in}
-use Rattle.surf_homology.specs.Cells.{Split, signature}
-use Rattle.surf_complex.specs.Cells.{cells_of}
-use Rattle.surf_complex.specs.Mesh.{Mesh, steps}
-use Rattle.surf_complex.specs.Signature.{edge_signature, walk_signature}
-use Rattle.surf_complex.specs.Surface.{edge_count}
-use Rattle.surf_complex.specs.Walk.{edge_number}
-use Rattle.surf_sign.specs.Tables.{Signed, added_where}
+use Rattle.surf_graphs.specs.Cells.{Split, signature}
+use Rattle.surf_surfaces.specs.Cells.{cells_of}
+use Rattle.surf_surfaces.specs.Mesh.{Mesh, steps}
+use Rattle.surf_surfaces.specs.Signature.{edge_signature, walk_signature}
+use Rattle.surf_surfaces.specs.Surface.{edge_count}
+use Rattle.surf_surfaces.specs.Walk.{edge_number}
+use Rattle.surf_signatures.specs.Tables.{Signed, added_where}
 use Rattle.surf_certcheck.specs.Frames.{IsFrame, HasPlace, IsPlacedUpTo, weight_at}
 use Rattle.surf_certcheck.proofs.Placing.{has_one, has_other, has_none, gathered, members_of_sum, image_in}
 

@@ -5,13 +5,13 @@ use Rattle.std.proofs.lemmas.Simd.{map-map}
 use Rattle.std.proofs.Math.Seq.{take-length}
 use Rattle.surf_z2.specs.Sieve.{has}
 use Rattle.surf_z2.specs.Space.{numbers, Spanned, vectors, Weighed}
-use Rattle.surf_complex.specs.Mesh.{Mesh}
-use Rattle.surf_complex.specs.Signature.{walk_signature}
-use Rattle.surf_complex.specs.Surface.{edge_count}
-use Rattle.surf_complex.specs.Walk.{walk_length}
-use Rattle.surf_sign.specs.Tables.{Signed, added_where}
-use Rattle.surf_valid.specs.Bases.{split_in, signatures, IsDependent, weighed_cycle}
-use Rattle.surf_valid.specs.Rows.{BasisCert}
+use Rattle.surf_surfaces.specs.Mesh.{Mesh}
+use Rattle.surf_surfaces.specs.Signature.{walk_signature}
+use Rattle.surf_surfaces.specs.Surface.{edge_count}
+use Rattle.surf_surfaces.specs.Walk.{walk_length}
+use Rattle.surf_signatures.specs.Tables.{Signed, added_where}
+use Rattle.surf_validity.specs.Bases.{split_in, signatures, IsDependent, weighed_cycle}
+use Rattle.surf_validity.specs.Rows.{BasisCert}
 use Rattle.surf_certcheck.specs.BasisFaults.{cycle_at, IsIndependentAt}
 use Rattle.surf_certcheck.specs.Frames.{IsFrame, IsFrameOf, weight_at}
 use Rattle.surf_certcheck.proofs.Framing.{signature_small, all_placed, not_all_placed, frame_more}

@@ -1,12 +1,12 @@
 -- The fault of a certificate of loops is its first one, and one with a fault isn't valid.
 use Rattle.std.proofs.Common.{◌≢◌, ℕ, zero, suc, List, get_or, refl, sym, ap, inl, inr, ◌∙◌}
 use Rattle.std.proofs.lemmas.Bool.{true≢false}
-use Rattle.surf_complex.specs.Mesh.{Mesh, pair_of, pair_eq, edges, among}
-use Rattle.surf_complex.specs.Surface.{edge_count}
-use Rattle.surf_complex.proofs.PairLaws.{pair_eq-true}
-use Rattle.surf_complex.proofs.EdgeLaws.{among-contains, list_any_at}
-use Rattle.surf_valid.specs.Rows.{TreeRows, DualRows, LoopCert}
-use Rattle.surf_valid.specs.Valid.{HasShape, IsNoShortCut, IsDualValid, IsDivided, HasNoShorter, IsValidLoops}
+use Rattle.surf_surfaces.specs.Mesh.{Mesh, pair_of, pair_eq, edges, among}
+use Rattle.surf_surfaces.specs.Surface.{edge_count}
+use Rattle.surf_surfaces.proofs.PairLaws.{pair_eq-true}
+use Rattle.surf_surfaces.proofs.EdgeLaws.{among-contains, list_any_at}
+use Rattle.surf_validity.specs.Rows.{TreeRows, DualRows, LoopCert}
+use Rattle.surf_validity.specs.Valid.{HasShape, IsNoShortCut, IsDualValid, IsDivided, HasNoShorter, IsValidLoops}
 use Rattle.surf_certcheck.specs.First.{HoldsBelow}
 use Rattle.surf_certcheck.specs.Rows.{HasParent, HasDistance}
 use Rattle.surf_certcheck.specs.Split.{IsBadPair}

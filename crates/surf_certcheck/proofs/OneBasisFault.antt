@@ -1,10 +1,10 @@
 -- The fault of a certificate of a basis is its first one, so there is one, and a valid certificate has none.
 use Rattle.std.proofs.Common.{◌≡◌, ◌≢◌, ℕ, zero, suc, List, [], length, refl, sym, ap, subst, ◌∙◌}
-use Rattle.surf_complex.specs.Mesh.{Mesh}
-use Rattle.surf_complex.specs.Surface.{face_count, edge_count, ends}
-use Rattle.surf_valid.specs.Rows.{BasisCert}
-use Rattle.surf_valid.specs.Valid.{IsDualValid, IsDivided}
-use Rattle.surf_valid.specs.Bases.{tree_at, HasShape, IsCovered, IsValidBasis}
+use Rattle.surf_surfaces.specs.Mesh.{Mesh}
+use Rattle.surf_surfaces.specs.Surface.{face_count, edge_count, ends}
+use Rattle.surf_validity.specs.Rows.{BasisCert}
+use Rattle.surf_validity.specs.Valid.{IsDualValid, IsDivided}
+use Rattle.surf_validity.specs.Bases.{tree_at, HasShape, IsCovered, IsValidBasis}
 use Rattle.surf_certcheck.specs.First.{HoldsBelow, FailsFirst}
 use Rattle.surf_certcheck.specs.Rows.{HasDualRows, HasDual}
 use Rattle.surf_certcheck.specs.BasisFaults.{HasTrees, HasCounts, HasBase, IsBasisShapeFault, IsFirstAt, HasParentAt, HasDistanceAt, IsNoShortCutAt, HasParents, HasDistances, HasNoShortCut, IsClosedAt, IsIndependentAt, DependsFirst, AreCovered, AreTreesDivided, IsBasisFault}

@@ -1,12 +1,12 @@
 -- A certificate has one fault.
 use Rattle.std.proofs.Common.{◌≡◌, ◌≢◌, ℕ, ◌<◌, List, length, sym, ap, subst, inl, inr, ◌∙◌}
 use Rattle.std.proofs.lemmas.Bool.{true≢false, cases_Bool}
-use Rattle.surf_complex.specs.Mesh.{Mesh, pair_eq}
-use Rattle.surf_complex.specs.Surface.{edge_count, ends}
-use Rattle.surf_complex.specs.Homology.{IsFullCount}
-use Rattle.surf_complex.proofs.PairLaws.{pair_eq-true, pair_lt-total}
-use Rattle.surf_valid.specs.Rows.{TreeRows, DualRows, LoopCert}
-use Rattle.surf_valid.specs.Valid.{IsNoShortCut, HasNoShorter, IsNotHeavier}
+use Rattle.surf_surfaces.specs.Mesh.{Mesh, pair_eq}
+use Rattle.surf_surfaces.specs.Surface.{edge_count, ends}
+use Rattle.surf_surfaces.specs.Homology.{IsFullCount}
+use Rattle.surf_surfaces.proofs.PairLaws.{pair_eq-true, pair_lt-total}
+use Rattle.surf_validity.specs.Rows.{TreeRows, DualRows, LoopCert}
+use Rattle.surf_validity.specs.Valid.{IsNoShortCut, HasNoShorter, IsNotHeavier}
 use Rattle.surf_certcheck.specs.First.{FailsFirst}
 use Rattle.surf_certcheck.specs.Rows.{HasTreeRows, HasDualRows, HasParent, HasDistance, HasDual}
 use Rattle.surf_certcheck.specs.Split.{IsLeastBadPair}

@@ -3,14 +3,14 @@ use Rattle.std.proofs.Common.{◌≡◌, ℕ, List}
 use Rattle.std.specs.Result.{IfOk}
 use Rattle.std.specs.declared.result.Result.{Result}
 use Rattle.std.specs.declared.result.Result.TheVariants.{Ok, Err}
-use Rattle.surf_complex.specs.Mesh.{Mesh}
-use Rattle.surf_complex.specs.Surface.{IsSurface}
-use Rattle.surf_complex.specs.Walk.{ArePositive}
-use Rattle.surf_complex.specs.Places.{IsLeastLoopSystemInOrder, IsLeastBasisInOrder, MeasureShortest}
-use Rattle.surf_valid.specs.Rows.{LoopCert, BasisCert}
-use Rattle.surf_valid.specs.Valid.{IsValidLoops, loops_of, loops_total}
-use Rattle.surf_valid.specs.Bases.{IsValidBasis, basis_total}
-use Rattle.surf_valid.proofs.PlaceLaws.{valid_loops_are_least_in_order, valid_bases_are_least_in_order, valid_bases_measure_shortest}
+use Rattle.surf_surfaces.specs.Mesh.{Mesh}
+use Rattle.surf_surfaces.specs.Surface.{IsSurface}
+use Rattle.surf_surfaces.specs.Walk.{ArePositive}
+use Rattle.surf_surfaces.specs.Places.{IsLeastLoopSystemInOrder, IsLeastBasisInOrder, MeasureShortest}
+use Rattle.surf_validity.specs.Rows.{LoopCert, BasisCert}
+use Rattle.surf_validity.specs.Valid.{IsValidLoops, loops_of, loops_total}
+use Rattle.surf_validity.specs.Bases.{IsValidBasis, basis_total}
+use Rattle.surf_validity.proofs.PlaceLaws.{valid_loops_are_least_in_order, valid_bases_are_least_in_order, valid_bases_measure_shortest}
 use Rattle.surf_certcheck.specs.declared.fault.CertFault.{CertFault}
 
 pub loops_in_order : (mesh : Mesh) (lengths : List ℕ) (cert : LoopCert) → IsSurface mesh → ArePositive mesh lengths →

@@ -6,9 +6,9 @@ use Rattle.std.proofs.lemmas.List.Sums.{sum-map, sum_by_more}
 use Rattle.std.specs.Int.Bits.{xor_zero_r}
 use Rattle.surf_z2.specs.Space.{numbers, sum_of}
 use Rattle.surf_z2.proofs.Basics.{span_law}
-use Rattle.surf_complex.specs.Mesh.{Mesh, pair, pair_of, edges, steps, steps_from}
-use Rattle.surf_complex.specs.Walk.{first, last, last_from}
-use Rattle.surf_complex.proofs.CycleLaws.{length-steps}
+use Rattle.surf_surfaces.specs.Mesh.{Mesh, pair, pair_of, edges, steps, steps_from}
+use Rattle.surf_surfaces.specs.Walk.{first, last, last_from}
+use Rattle.surf_surfaces.proofs.CycleLaws.{length-steps}
 use Rattle.surf_certcheck.specs.First.{HoldsBelow}
 
 from_at : (u : ℕ) (rest : List ℕ) (k : ℕ) (d : ℕ × ℕ) → k < length rest →

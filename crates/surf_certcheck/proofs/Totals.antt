@@ -3,13 +3,13 @@ use Rattle.std.proofs.Common.{◌≡◌, ◌≢◌, ℕ, List, sym, ◌∙◌}
 use Rattle.std.specs.Result.{IfOk, IfErr}
 use Rattle.std.specs.declared.result.Result.{Result}
 use Rattle.std.specs.declared.result.Result.TheVariants.{Ok, Err}
-use Rattle.surf_complex.specs.Mesh.{Mesh}
-use Rattle.surf_complex.specs.Surface.{IsSurface}
-use Rattle.surf_complex.specs.Walk.{ArePositive}
-use Rattle.surf_complex.specs.Homology.{total, IsLeastLoopSystem}
-use Rattle.surf_valid.specs.Rows.{LoopCert}
-use Rattle.surf_valid.specs.Valid.{IsValidLoops, loops_of, loops_total}
-use Rattle.surf_valid.proofs.LoopLaws.{valid_loops_are_least}
+use Rattle.surf_surfaces.specs.Mesh.{Mesh}
+use Rattle.surf_surfaces.specs.Surface.{IsSurface}
+use Rattle.surf_surfaces.specs.Walk.{ArePositive}
+use Rattle.surf_surfaces.specs.Homology.{total, IsLeastLoopSystem}
+use Rattle.surf_validity.specs.Rows.{LoopCert}
+use Rattle.surf_validity.specs.Valid.{IsValidLoops, loops_of, loops_total}
+use Rattle.surf_validity.proofs.LoopLaws.{valid_loops_are_least}
 use Rattle.surf_certcheck.specs.LoopFaults.{IsLoopFault}
 use Rattle.surf_certcheck.specs.declared.fault.CertFault.{CertFault}
 use Rattle.surf_certcheck.specs.declared.fault.CertFault.TheVariants.{Memory}

@@ -2,24 +2,24 @@
 use Rattle.std.proofs.Common.{◌≡◌, ℕ, ◌<◌, ◌+◌, Bool, true, false, not, ◌&&◌, List, length, get_or, slice_index, filter, map, refl, sym, ap, ◌∙◌, subst, arith}
 use Rattle.std.specs.List.{range_with_len}
 use Rattle.std.proofs.lemmas.List.FromFn.{get_or-map-range_with_len, length-map-range_with_len}
-use Rattle.surf_homology.specs.Cells.{dual, Split}
-use Rattle.surf_homology.specs.Trees.{IsTree}
-use Rattle.surf_homology.proofs.Counting.{left_edges as left_count}
-use Rattle.surf_complex.specs.Cells.{cells_of}
-use Rattle.surf_complex.specs.Cotree.{is_left, tree_edges, cotree_edges}
-use Rattle.surf_complex.specs.Mesh.{Mesh}
-use Rattle.surf_complex.specs.Signature.{edge_signature}
-use Rattle.surf_complex.specs.Surface.{edge_count, face_count, IsSurface}
-use Rattle.surf_complex.specs.Walk.{ArePositive}
-use Rattle.surf_complex.proofs.ClassLaws.{some_vertex}
-use Rattle.surf_sign.proofs.Passing.{passing_same}
-use Rattle.surf_sign.specs.Tables.{face_tree, HangsBy}
-use Rattle.surf_valid.specs.Bases.{tree_at, split_in, HasShape}
-use Rattle.surf_valid.specs.Rows.{BasisCert}
-use Rattle.surf_valid.specs.Valid.{tree_of, dual_tree, is_listed, just_one}
-use Rattle.surf_valid.proofs.DualLaws.{dual_rows_are_tree, dual_rows_in_tree}
-use Rattle.surf_valid.proofs.SplitLaws.{is_split}
-use Rattle.surf_valid.proofs.TreeLaws.{rows_are_tree, rows_are_shortest, rows_in_tree}
+use Rattle.surf_graphs.specs.Cells.{dual, Split}
+use Rattle.surf_graphs.specs.Trees.{IsTree}
+use Rattle.surf_graphs.proofs.Counting.{left_edges as left_count}
+use Rattle.surf_surfaces.specs.Cells.{cells_of}
+use Rattle.surf_surfaces.specs.Cotree.{is_left, tree_edges, cotree_edges}
+use Rattle.surf_surfaces.specs.Mesh.{Mesh}
+use Rattle.surf_surfaces.specs.Signature.{edge_signature}
+use Rattle.surf_surfaces.specs.Surface.{edge_count, face_count, IsSurface}
+use Rattle.surf_surfaces.specs.Walk.{ArePositive}
+use Rattle.surf_surfaces.proofs.ClassLaws.{some_vertex}
+use Rattle.surf_signatures.proofs.Passing.{passing_same}
+use Rattle.surf_signatures.specs.Tables.{face_tree, HangsBy}
+use Rattle.surf_validity.specs.Bases.{tree_at, split_in, HasShape}
+use Rattle.surf_validity.specs.Rows.{BasisCert}
+use Rattle.surf_validity.specs.Valid.{tree_of, dual_tree, is_listed, just_one}
+use Rattle.surf_validity.proofs.DualLaws.{dual_rows_are_tree, dual_rows_in_tree}
+use Rattle.surf_validity.proofs.SplitLaws.{is_split}
+use Rattle.surf_validity.proofs.TreeLaws.{rows_are_tree, rows_are_shortest, rows_in_tree}
 use Rattle.surf_certcheck.specs.BasisFaults.{HasTrees, HasBase, AreTreesValid, AreTreesDivided}
 use Rattle.surf_certcheck.specs.Climbs.{IsClimbed}
 use Rattle.surf_certcheck.specs.First.{HoldsBelow}

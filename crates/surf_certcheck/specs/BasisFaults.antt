@@ -1,11 +1,11 @@
 -- Why a certificate of a basis isn't valid.
 use Rattle.std.specs.Prelude.{◌≡◌, ℕ, ◌<◌, ◌+◌, List, [], length, Contains, slice_index, slice_index_or}
-use Rattle.surf_complex.specs.Mesh.{Mesh, pair, edges}
-use Rattle.surf_complex.specs.Surface.{face_count, edge_count, ends}
-use Rattle.surf_complex.specs.Homology.{IsFullCount}
-use Rattle.surf_valid.specs.Rows.{BasisCert}
-use Rattle.surf_valid.specs.Valid.{IsNoShortCut, IsTreeValid, IsDualValid, IsDivided}
-use Rattle.surf_valid.specs.Bases.{tree_at, HasShape, IsClosedList, IsDependent, IsCovered}
+use Rattle.surf_surfaces.specs.Mesh.{Mesh, pair, edges}
+use Rattle.surf_surfaces.specs.Surface.{face_count, edge_count, ends}
+use Rattle.surf_surfaces.specs.Homology.{IsFullCount}
+use Rattle.surf_validity.specs.Rows.{BasisCert}
+use Rattle.surf_validity.specs.Valid.{IsNoShortCut, IsTreeValid, IsDualValid, IsDivided}
+use Rattle.surf_validity.specs.Bases.{tree_at, HasShape, IsClosedList, IsDependent, IsCovered}
 use Rattle.surf_certcheck.specs.First.{HoldsBelow, FailsFirst}
 use Rattle.surf_certcheck.specs.Rows.{HasTreeRows, HasDualRows, HasParent, HasDistance, HasDual}
 use Rattle.surf_certcheck.specs.Split.{IsLeastBadPair}

@@ -1,13 +1,13 @@
 -- Trees of shortest walks, and sums along their ways.
 use Rattle.std.specs.Prelude.{◌≡◌, ℕ, ◌<◌, List, slice_index}
-use Rattle.surf_homology.specs.Cells.{primal, Split}
-use Rattle.surf_homology.specs.Trees.{IsTree, IsShortest}
-use Rattle.surf_complex.specs.Cells.{cells_of}
-use Rattle.surf_complex.specs.Mesh.{Mesh}
-use Rattle.surf_complex.specs.Walk.{edge_length}
-use Rattle.surf_sign.specs.Ways.{way_class}
-use Rattle.surf_valid.specs.Rows.{TreeRows}
-use Rattle.surf_valid.specs.Valid.{tree_of, IsTreeValid}
+use Rattle.surf_graphs.specs.Cells.{primal, Split}
+use Rattle.surf_graphs.specs.Trees.{IsTree, IsShortest}
+use Rattle.surf_surfaces.specs.Cells.{cells_of}
+use Rattle.surf_surfaces.specs.Mesh.{Mesh}
+use Rattle.surf_surfaces.specs.Walk.{edge_length}
+use Rattle.surf_signatures.specs.Ways.{way_class}
+use Rattle.surf_validity.specs.Rows.{TreeRows}
+use Rattle.surf_validity.specs.Valid.{tree_of, IsTreeValid}
 use Rattle.surf_certcheck.specs.Rows.{HasTreeRows}
 use Rattle.surf_certcheck.specs.Frames.{AreTaken}
 

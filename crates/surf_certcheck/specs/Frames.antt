@@ -1,19 +1,19 @@
 -- Coordinates of signatures in which each of some cycles has a place of its own.
 use Rattle.std.specs.Prelude.{◌≡◌, ℕ, ◌<◌, ◌≤◌, ◌^◌, List, length, map, take, slice_index, slice_index_or, All, Contains, Option, Some, None}
 use Rattle.surf_z2.specs.Space.{numbers, IsLinear, Weighed, SpannedUpToWeight}
-use Rattle.surf_homology.specs.Cells.{Split, IsSplit}
-use Rattle.surf_complex.specs.Cells.{cells_of}
-use Rattle.surf_complex.specs.Loop.{loop_walk}
-use Rattle.surf_complex.specs.Mesh.{Mesh}
-use Rattle.surf_complex.specs.Signature.{edge_signature, walk_signature}
-use Rattle.surf_complex.specs.Surface.{edge_count}
-use Rattle.surf_complex.specs.Walk.{walk_length}
-use Rattle.surf_sign.specs.Tables.{Signed}
-use Rattle.surf_valid.specs.Bases.{tree_at, split_in, weighed_cycle}
-use Rattle.surf_valid.specs.Rows.{TreeRows, BasisCert}
-use Rattle.surf_valid.specs.Valid.{tree_of, loop_size, is_listed, IsDualValid}
-use Rattle.surf_complex.specs.Cotree.{is_left}
-use Rattle.surf_valid.specs.Valid.{dual_tree}
+use Rattle.surf_graphs.specs.Cells.{Split, IsSplit}
+use Rattle.surf_surfaces.specs.Cells.{cells_of}
+use Rattle.surf_surfaces.specs.Loop.{loop_walk}
+use Rattle.surf_surfaces.specs.Mesh.{Mesh}
+use Rattle.surf_surfaces.specs.Signature.{edge_signature, walk_signature}
+use Rattle.surf_surfaces.specs.Surface.{edge_count}
+use Rattle.surf_surfaces.specs.Walk.{walk_length}
+use Rattle.surf_signatures.specs.Tables.{Signed}
+use Rattle.surf_validity.specs.Bases.{tree_at, split_in, weighed_cycle}
+use Rattle.surf_validity.specs.Rows.{TreeRows, BasisCert}
+use Rattle.surf_validity.specs.Valid.{tree_of, loop_size, is_listed, IsDualValid}
+use Rattle.surf_surfaces.specs.Cotree.{is_left}
+use Rattle.surf_validity.specs.Valid.{dual_tree}
 use Rattle.surf_certcheck.specs.Rows.{HasDualRows}
 
 -- a walk's signature with its length

@@ -1,10 +1,10 @@
 -- Why a loop certificate isn't valid.
 use Rattle.std.specs.Prelude.{◌≡◌, ℕ, ◌<◌, List, length}
-use Rattle.surf_complex.specs.Mesh.{Mesh}
-use Rattle.surf_complex.specs.Surface.{face_count, edge_count, ends}
-use Rattle.surf_complex.specs.Homology.{IsFullCount}
-use Rattle.surf_valid.specs.Rows.{TreeRows, LoopCert}
-use Rattle.surf_valid.specs.Valid.{HasShape, IsNoShortCut, IsTreeValid, IsDualValid, IsDivided, IsNotHeavier, HasNoShorter}
+use Rattle.surf_surfaces.specs.Mesh.{Mesh}
+use Rattle.surf_surfaces.specs.Surface.{face_count, edge_count, ends}
+use Rattle.surf_surfaces.specs.Homology.{IsFullCount}
+use Rattle.surf_validity.specs.Rows.{TreeRows, LoopCert}
+use Rattle.surf_validity.specs.Valid.{HasShape, IsNoShortCut, IsTreeValid, IsDualValid, IsDivided, IsNotHeavier, HasNoShorter}
 use Rattle.surf_certcheck.specs.First.{HoldsBelow, FailsFirst}
 use Rattle.surf_certcheck.specs.Rows.{HasTreeRows, HasDualRows, HasParent, HasDistance, HasDual}
 use Rattle.surf_certcheck.specs.Split.{IsLeastBadPair}

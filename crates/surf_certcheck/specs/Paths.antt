@@ -1,11 +1,11 @@
 -- The ways through the tree of faces that a certificate says.
 use Rattle.std.specs.Prelude.{◌≡◌, ℕ, ◌<◌, ◌≤◌, Bool, true, false, List, length, get_or, Option, Some, None, MatchOption, if◌then◌else◌, nat_lt, ◌⊎◌}
-use Rattle.surf_homology.specs.Trees.{on_path}
-use Rattle.surf_complex.specs.Mesh.{Mesh}
-use Rattle.surf_complex.specs.Surface.{face_count, edge_count}
-use Rattle.surf_complex.specs.Walk.{edge_number}
-use Rattle.surf_valid.specs.Rows.{TreeRows, DualRows}
-use Rattle.surf_valid.specs.Valid.{side_at, across, depth_at, dual_tree, loop_size}
+use Rattle.surf_graphs.specs.Trees.{on_path}
+use Rattle.surf_surfaces.specs.Mesh.{Mesh}
+use Rattle.surf_surfaces.specs.Surface.{face_count, edge_count}
+use Rattle.surf_surfaces.specs.Walk.{edge_number}
+use Rattle.surf_validity.specs.Rows.{TreeRows, DualRows}
+use Rattle.surf_validity.specs.Valid.{side_at, across, depth_at, dual_tree, loop_size}
 
 -- a face hangs on the face across a side, by the edge that is the side
 pub record IsLinkOver (mesh : Mesh) (f : ℕ) (side : ℕ × ℕ) (face edge : ℕ) : Type 0 where

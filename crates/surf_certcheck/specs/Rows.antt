@@ -1,9 +1,9 @@
 -- The conditions on the rows of a certificate, each by its number.
 use Rattle.std.specs.Prelude.{◌≡◌, ℕ, List, length}
-use Rattle.surf_complex.specs.Mesh.{Mesh}
-use Rattle.surf_complex.specs.Surface.{face_count}
-use Rattle.surf_valid.specs.Rows.{TreeRows, DualRows}
-use Rattle.surf_valid.specs.Valid.{parent_at, side_at, IsParent, AddsUp, IsDualRow}
+use Rattle.surf_surfaces.specs.Mesh.{Mesh}
+use Rattle.surf_surfaces.specs.Surface.{face_count}
+use Rattle.surf_validity.specs.Rows.{TreeRows, DualRows}
+use Rattle.surf_validity.specs.Valid.{parent_at, side_at, IsParent, AddsUp, IsDualRow}
 
 -- there is a row for each vertex
 pub record HasTreeRows (mesh : Mesh) (rows : TreeRows) : Type 0 where

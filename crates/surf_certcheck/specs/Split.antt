@@ -1,10 +1,10 @@
 -- Which pairs keep the trees and the list of left pairs from dividing the edges.
 use Rattle.std.specs.List.{list_any}
 use Rattle.std.specs.Prelude.{◌≡◌, ℕ, ◌<◌, ◌⊎◌, Bool, true, false, List, length, get_or, if◌then◌else◌, Option, Some, None, MatchOption}
-use Rattle.surf_complex.specs.Mesh.{Mesh, pair_of, pair_eq, pair_lt, edges, among}
-use Rattle.surf_complex.specs.Surface.{edge_count, ends}
-use Rattle.surf_valid.specs.Rows.{TreeRows, DualRows}
-use Rattle.surf_valid.specs.Valid.{is_parent_edge, is_dual_edge, is_listed, just_one}
+use Rattle.surf_surfaces.specs.Mesh.{Mesh, pair_of, pair_eq, pair_lt, edges, among}
+use Rattle.surf_surfaces.specs.Surface.{edge_count, ends}
+use Rattle.surf_validity.specs.Rows.{TreeRows, DualRows}
+use Rattle.surf_validity.specs.Valid.{is_parent_edge, is_dual_edge, is_listed, just_one}
 
 -- the flags by edge number are those of a test
 pub record AreFlags (n : ℕ) (test : ℕ → Bool) (flags : List Bool) : Type 0 where

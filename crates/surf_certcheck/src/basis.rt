@@ -1,10 +1,10 @@
 //! Whether a certificate of a basis is valid.
 ghost use Rattle.std.specs.Prelude.{◌≡◌, ◌≢◌, ◌≤◌, ◌+◌, ℕ, IfOk, IfErr, length};
-ghost use Rattle.surf_complex.specs.Homology.{total, IsLeastBasis};
-ghost use Rattle.surf_complex.specs.Places.{IsLeastBasisInOrder, MeasureShortest};
-ghost use Rattle.surf_complex.specs.Surface.{edge_count, face_count};
-ghost use Rattle.surf_valid.specs.Bases.{IsValidBasis, HasShape, basis_total};
-ghost use Rattle.surf_valid.specs.Valid.{is_listed, IsDualValid};
+ghost use Rattle.surf_surfaces.specs.Homology.{total, IsLeastBasis};
+ghost use Rattle.surf_surfaces.specs.Places.{IsLeastBasisInOrder, MeasureShortest};
+ghost use Rattle.surf_surfaces.specs.Surface.{edge_count, face_count};
+ghost use Rattle.surf_validity.specs.Bases.{IsValidBasis, HasShape, basis_total};
+ghost use Rattle.surf_validity.specs.Valid.{is_listed, IsDualValid};
 ghost use Rattle.surf_certcheck.specs.First.{HoldsBelow};
 ghost use Rattle.surf_certcheck.specs.Split.{AreFlags};
 ghost use Rattle.surf_certcheck.specs.BasisFaults.{AreTreesDivided, AreTreesValid, IsClosedAt, IsBasisFault};
@@ -26,7 +26,7 @@ use surf_base::VertexId;
 use surf_cert::BasisCert;
 use surf_lengths::Lengths;
 use surf_mesh::HalfMesh;
-use surf_sign::VertexSets;
+use surf_signatures::VertexSets;
 
 // The total of a certificate whose trees divide the edges and whose cycles are closed, or its first fault.
 fn check_cycles(
@@ -89,7 +89,7 @@ fn check_edges(
 }
 
 /// The total of the cycles of a valid certificate, which are then a least basis, place by place too, and the shortest of
-/// them a shortest cycle that doesn't separate the surface: see `surf_valid`. A certificate that isn't valid is refused
+/// them a shortest cycle that doesn't separate the surface: see `surf_validity`. A certificate that isn't valid is refused
 /// with its first fault, in the order of [`CertFault`]. It asks nothing of the certificate.
 pub fn check_basis(
     alloc: Global,

@@ -2,13 +2,13 @@
 ghost use Rattle.std.specs.Prelude.{◌≡◌, ◌<◌, ◌≤◌, ℕ, List, MatchOption, MatchBool, IsPermutation, length};
 ghost use Rattle.std.specs.List.{range_with_len};
 ghost use Rattle.surf_z2.specs.Space.{Weighed};
-ghost use Rattle.surf_homology.specs.Cells.{Split};
-ghost use Rattle.surf_complex.specs.Surface.{edge_count};
-ghost use Rattle.surf_complex.specs.Signature.{walk_signature};
-ghost use Rattle.surf_complex.specs.Loop.{loop_walk};
-ghost use Rattle.surf_valid.specs.Rows.{TreeRows};
-ghost use Rattle.surf_valid.specs.Bases.{IsCovered};
-ghost use Rattle.surf_valid.specs.Valid.{tree_of};
+ghost use Rattle.surf_graphs.specs.Cells.{Split};
+ghost use Rattle.surf_surfaces.specs.Surface.{edge_count};
+ghost use Rattle.surf_surfaces.specs.Signature.{walk_signature};
+ghost use Rattle.surf_surfaces.specs.Loop.{loop_walk};
+ghost use Rattle.surf_validity.specs.Rows.{TreeRows};
+ghost use Rattle.surf_validity.specs.Bases.{IsCovered};
+ghost use Rattle.surf_validity.specs.Valid.{tree_of};
 ghost use Rattle.surf_certcheck.specs.First.{HoldsBelow, FailsFirst};
 ghost use Rattle.surf_certcheck.specs.BasisFaults.{HasTrees, HasBase, AreTreesValid, AreCovered, IsFirstAt};
 ghost use Rattle.surf_certcheck.specs.Frames.{IsFrame, IsFrameOf, AreTaken, IsCoveredBy};
@@ -24,7 +24,7 @@ use surf_bits::Signature;
 use surf_cert::{BasisCert, TreeRows};
 use surf_lengths::Lengths;
 use surf_mesh::HalfMesh;
-use surf_sign::{Signs, VertexSets};
+use surf_signatures::{Signs, VertexSets};
 
 // The coordinates of the loop of an edge: the sum over its two ways to the base and the edge.
 fn loop_set(mesh: &HalfMesh, signs: &Signs, sums: &VertexSets, e: EdgeId) -> Signature

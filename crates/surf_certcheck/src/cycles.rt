@@ -1,9 +1,9 @@
 //! The cycles of a certificate: whether they are closed, and their lengths.
 ghost use Rattle.std.specs.Prelude.{◌≡◌, ◌<◌, ◌≤◌, ◌+◌, ◌^◌, MatchOption, MatchBool, All, Contains, length, map, sum, slice_index_or};
-ghost use Rattle.surf_complex.specs.Mesh.{edges, pair_of, steps};
-ghost use Rattle.surf_complex.specs.Surface.{edge_count};
-ghost use Rattle.surf_complex.specs.Walk.{edge_number, first, last, walk_length};
-ghost use Rattle.surf_valid.specs.Bases.{IsClosedList, basis_total};
+ghost use Rattle.surf_surfaces.specs.Mesh.{edges, pair_of, steps};
+ghost use Rattle.surf_surfaces.specs.Surface.{edge_count};
+ghost use Rattle.surf_surfaces.specs.Walk.{edge_number, first, last, walk_length};
+ghost use Rattle.surf_validity.specs.Bases.{IsClosedList, basis_total};
 ghost use Rattle.surf_certcheck.specs.First.{HoldsBelow, FailsFirst};
 ghost use Rattle.surf_certcheck.specs.BasisFaults.{cycle_at, IsClosedAt, IsAlong};
 

@@ -1,9 +1,9 @@
 //! Whether rows are a tree of the faces.
 ghost use Rattle.std.specs.Prelude.{◌≡◌, ◌<◌, ◌==◌, if◌then◌else◌, true, MatchOption, MatchBool};
-ghost use Rattle.surf_complex.specs.Mesh.{pair};
-ghost use Rattle.surf_complex.specs.Surface.{edge_count, face_count, face_at, faces_of, has_side, borders};
-ghost use Rattle.surf_complex.specs.Walk.{edge_number};
-ghost use Rattle.surf_valid.specs.Valid.{IsDualRow};
+ghost use Rattle.surf_surfaces.specs.Mesh.{pair};
+ghost use Rattle.surf_surfaces.specs.Surface.{edge_count, face_count, face_at, faces_of, has_side, borders};
+ghost use Rattle.surf_surfaces.specs.Walk.{edge_number};
+ghost use Rattle.surf_validity.specs.Valid.{IsDualRow};
 ghost use Rattle.surf_certcheck.specs.First.{HoldsBelow, FailsFirst};
 ghost use Rattle.surf_certcheck.specs.Rows.{HasDualRows, HasDual};
 

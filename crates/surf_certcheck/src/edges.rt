@@ -1,8 +1,8 @@
 //! Edges by their ends and faces.
 ghost use Rattle.std.specs.Prelude.{◌≡◌, ◌<◌, MatchOption, Contains};
-ghost use Rattle.surf_complex.specs.Mesh.{edges, pair};
-ghost use Rattle.surf_complex.specs.Surface.{edge_count, face_count, ends, faces_of};
-ghost use Rattle.surf_complex.specs.Walk.{edge_number};
+ghost use Rattle.surf_surfaces.specs.Mesh.{edges, pair};
+ghost use Rattle.surf_surfaces.specs.Surface.{edge_count, face_count, ends, faces_of};
+ghost use Rattle.surf_surfaces.specs.Walk.{edge_number};
 
 use surf_base::{EdgeId, FaceId, VertexId};
 use surf_mesh::HalfMesh;

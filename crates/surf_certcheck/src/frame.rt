@@ -2,10 +2,10 @@
 ghost use Rattle.std.specs.Prelude.{◌≡◌, ◌≢◌, ◌<◌, ◌≤◌, ◌+◌, ℕ, IfOk, IfErr, MatchOption, MatchBool, All, length, true, None, map};
 ghost use Rattle.std.specs.List.{range_with_len};
 ghost use Rattle.surf_z2.specs.Sieve.{has};
-ghost use Rattle.surf_homology.specs.Cells.{Split};
-ghost use Rattle.surf_complex.specs.Signature.{edge_signature, walk_signature};
-ghost use Rattle.surf_complex.specs.Surface.{edge_count};
-ghost use Rattle.surf_valid.specs.Bases.{IsClosedList, IsDependent, split_in};
+ghost use Rattle.surf_graphs.specs.Cells.{Split};
+ghost use Rattle.surf_surfaces.specs.Signature.{edge_signature, walk_signature};
+ghost use Rattle.surf_surfaces.specs.Surface.{edge_count};
+ghost use Rattle.surf_validity.specs.Bases.{IsClosedList, IsDependent, split_in};
 ghost use Rattle.surf_certcheck.specs.First.{HoldsBelow};
 ghost use Rattle.surf_certcheck.specs.BasisFaults.{IsClosedAt, IsIndependentAt, DependsFirst, IsDependentFault};
 ghost use Rattle.surf_certcheck.specs.Frames.{AreTaken, IsPlacedUpTo, weight_at, IsFrameOf};
@@ -18,7 +18,7 @@ use surf_bits::Signature;
 use surf_cert::BasisCert;
 use surf_lengths::Lengths;
 use surf_mesh::HalfMesh;
-use surf_sign::Signs;
+use surf_signatures::Signs;
 
 /// The coordinates of all edges in which each cycle is a place alone, and for each place the length of its cycle.
 ///

@@ -1,9 +1,9 @@
 //! Whether a left edge could be exchanged for an edge of the tree of faces with a shorter loop.
 ghost use Rattle.std.specs.Prelude.{◌≡◌, ◌<◌, ◌^◌, ℕ, IfOk, MatchOption, MatchBool, length, true, false, get_or};
 ghost use Rattle.surf_z2.specs.Parity.{xor};
-ghost use Rattle.surf_homology.specs.Growth.{between};
-ghost use Rattle.surf_complex.specs.Surface.{edge_count, face_count, faces_of};
-ghost use Rattle.surf_valid.specs.Valid.{dual_tree, loop_size, is_listed, IsNotHeavier, HasNoShorter};
+ghost use Rattle.surf_graphs.specs.Growth.{between};
+ghost use Rattle.surf_surfaces.specs.Surface.{edge_count, face_count, faces_of};
+ghost use Rattle.surf_validity.specs.Valid.{dual_tree, loop_size, is_listed, IsNotHeavier, HasNoShorter};
 ghost use Rattle.surf_certcheck.specs.First.{HoldsBelow, FailsFirst};
 ghost use Rattle.surf_certcheck.specs.Rows.{HasTreeRows, HasDualRows, HasDual};
 ghost use Rattle.surf_certcheck.specs.Split.{AreFlags, none};

@@ -3,7 +3,7 @@
 //! `check_loops` reads each row and pair of a certificate against the mesh and the lengths and stands on no search: rows of
 //! vertices (tree), rows of faces (dual), which edge is in which set (marks, split), and whether an edge on the way
 //! through the tree of faces between the two faces of a left edge has a shorter loop (links, heavier). The first condition
-//! that fails is named with its least witness. What a valid certificate shows is a law of `surf_valid`: its loops are a
+//! that fails is named with its least witness. What a valid certificate shows is a law of `surf_validity`: its loops are a
 //! least loop system at its base, whoever made it.
 //!
 //! `check_basis` does the same for a tree at each vertex (trees) and for the cycles: they are closed (cycles), their

@@ -1,12 +1,12 @@
 //! Whether a certificate of loops is valid.
 ghost use Rattle.std.specs.Prelude.{◌≡◌, ◌≢◌, ◌<◌, ℕ, ◌^◌, IfOk, IfErr, MatchOption, length, map, sum, All, Contains};
-ghost use Rattle.surf_complex.specs.Mesh.{edges, pair, pair_of};
-ghost use Rattle.surf_complex.specs.Surface.{edge_count, face_count};
-ghost use Rattle.surf_complex.specs.Walk.{edge_number};
-ghost use Rattle.surf_complex.specs.Homology.{total, IsLeastLoopSystem};
-ghost use Rattle.surf_complex.specs.Places.{IsLeastLoopSystemInOrder};
-ghost use Rattle.surf_valid.specs.Valid.{HasShape, IsTreeValid, IsDualValid, IsValidLoops, HasNoShorter};
-ghost use Rattle.surf_valid.specs.Valid.{is_listed, loop_size, loops_of, loops_total};
+ghost use Rattle.surf_surfaces.specs.Mesh.{edges, pair, pair_of};
+ghost use Rattle.surf_surfaces.specs.Surface.{edge_count, face_count};
+ghost use Rattle.surf_surfaces.specs.Walk.{edge_number};
+ghost use Rattle.surf_surfaces.specs.Homology.{total, IsLeastLoopSystem};
+ghost use Rattle.surf_surfaces.specs.Places.{IsLeastLoopSystemInOrder};
+ghost use Rattle.surf_validity.specs.Valid.{HasShape, IsTreeValid, IsDualValid, IsValidLoops, HasNoShorter};
+ghost use Rattle.surf_validity.specs.Valid.{is_listed, loop_size, loops_of, loops_total};
 ghost use Rattle.surf_certcheck.specs.First.{HoldsBelow};
 ghost use Rattle.surf_certcheck.specs.Split.{AreFlags};
 ghost use Rattle.surf_certcheck.specs.Rows.{HasTreeRows, HasDualRows, HasDual};
@@ -140,7 +140,7 @@ fn check_edges(
 }
 
 /// The total of the loops of a valid certificate, which is then the least of all loop systems at its base, and they are
-/// least place by place too: see `surf_valid`. A certificate that isn't valid is refused with its first fault, in the
+/// least place by place too: see `surf_validity`. A certificate that isn't valid is refused with its first fault, in the
 /// order of [`CertFault`]. It asks nothing of the certificate.
 pub fn check_loops(
     alloc: Global,

@@ -1,8 +1,8 @@
 //! Flags by edge number: which edges lead to a parent, which are sides of the rows of faces, and which are listed.
 ghost use Rattle.std.specs.Prelude.{◌≡◌, ◌<◌, ◌||◌, ℕ, IfOk, length, get_or, false};
-ghost use Rattle.surf_complex.specs.Mesh.{pair, pair_eq};
-ghost use Rattle.surf_complex.specs.Surface.{edge_count, face_count, ends};
-ghost use Rattle.surf_valid.specs.Valid.{parent_at, side_at, leads_up, is_side, is_parent_edge, is_dual_edge, is_listed};
+ghost use Rattle.surf_surfaces.specs.Mesh.{pair, pair_eq};
+ghost use Rattle.surf_surfaces.specs.Surface.{edge_count, face_count, ends};
+ghost use Rattle.surf_validity.specs.Valid.{parent_at, side_at, leads_up, is_side, is_parent_edge, is_dual_edge, is_listed};
 ghost use Rattle.surf_certcheck.specs.Rows.{HasTreeRows, HasDualRows};
 ghost use Rattle.surf_certcheck.specs.Split.{AreFlags, none};
 

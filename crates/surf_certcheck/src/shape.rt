@@ -1,9 +1,9 @@
 //! Whether the parts of a certificate have the sizes that the mesh asks for.
 ghost use Rattle.std.specs.Prelude.{◌≡◌, ◌<◌, MatchOption, MatchBool, length};
-ghost use Rattle.surf_complex.specs.Homology.{IsFullCount};
-ghost use Rattle.surf_valid.specs.Bases.{tree_at};
-ghost use Rattle.surf_valid.specs.Bases.{HasShape as HasBasisShape};
-ghost use Rattle.surf_valid.specs.Valid.{HasShape};
+ghost use Rattle.surf_surfaces.specs.Homology.{IsFullCount};
+ghost use Rattle.surf_validity.specs.Bases.{tree_at};
+ghost use Rattle.surf_validity.specs.Bases.{HasShape as HasBasisShape};
+ghost use Rattle.surf_validity.specs.Valid.{HasShape};
 ghost use Rattle.surf_certcheck.specs.First.{HoldsBelow};
 ghost use Rattle.surf_certcheck.specs.Rows.{HasTreeRows, HasDualRows};
 ghost use Rattle.surf_certcheck.specs.LoopFaults.{IsShapeFault};

@@ -1,10 +1,10 @@
 //! The signatures of edges by the trees and the left edges of a certificate.
 ghost use Rattle.std.specs.Prelude.{◌≡◌, ◌≤◌, ◌+◌, IfOk, length, map, filter};
 ghost use Rattle.std.specs.List.{range_with_len};
-ghost use Rattle.surf_complex.specs.Signature.{edge_signature};
-ghost use Rattle.surf_complex.specs.Surface.{edge_count, face_count};
-ghost use Rattle.surf_valid.specs.Bases.{split_in};
-ghost use Rattle.surf_valid.specs.Valid.{is_listed};
+ghost use Rattle.surf_surfaces.specs.Signature.{edge_signature};
+ghost use Rattle.surf_surfaces.specs.Surface.{edge_count, face_count};
+ghost use Rattle.surf_validity.specs.Bases.{split_in};
+ghost use Rattle.surf_validity.specs.Valid.{is_listed};
 ghost use Rattle.surf_certcheck.specs.Split.{AreFlags, is_flagged};
 ghost use Rattle.surf_certcheck.specs.Frames.{HasSplit};
 
@@ -13,7 +13,7 @@ use std::alloc::Global;
 use surf_base::{EdgeId, NoMemory};
 use surf_cert::BasisCert;
 use surf_mesh::HalfMesh;
-use surf_sign::Signs;
+use surf_signatures::Signs;
 
 // The edges that are flagged, increasing.
 fn list_flagged(alloc: Global, mesh: &HalfMesh, flags: &[bool]) -> Result<Vec<EdgeId>, NoMemory>

@@ -1,8 +1,8 @@
 //! Whether the two trees and the list of left pairs divide the edges.
 ghost use Rattle.std.specs.Prelude.{◌≡◌, ◌<◌, if◌then◌else◌, IfOk, MatchOption, MatchBool, length, take};
-ghost use Rattle.surf_complex.specs.Mesh.{pair, pair_lt, edges, among};
-ghost use Rattle.surf_complex.specs.Surface.{edge_count, IsSurface};
-ghost use Rattle.surf_valid.specs.Valid.{just_one, IsDivided};
+ghost use Rattle.surf_surfaces.specs.Mesh.{pair, pair_lt, edges, among};
+ghost use Rattle.surf_surfaces.specs.Surface.{edge_count, IsSurface};
+ghost use Rattle.surf_validity.specs.Valid.{just_one, IsDivided};
 ghost use Rattle.surf_certcheck.specs.First.{HoldsBelow, FailsFirst};
 ghost use Rattle.surf_certcheck.specs.Rows.{HasTreeRows, HasDualRows};
 ghost use Rattle.surf_certcheck.specs.Split.{AreOne, AreMarks, IsLeastStray, lesser_of, least_with, IsLeastBadPair};

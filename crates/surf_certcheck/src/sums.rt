@@ -2,12 +2,12 @@
 ghost use Rattle.std.specs.Prelude.{◌≡◌, ◌≢◌, ◌<◌, ◌≤◌, ℕ, length, slice_index, Some, Contains, IsPermutation, IfOk};
 ghost use Rattle.std.specs.List.{range_with_len};
 ghost use Rattle.std.specs.List.Sorted.{IsNonDecreasingBy};
-ghost use Rattle.surf_homology.specs.Cells.{Split};
-ghost use Rattle.surf_complex.specs.Mesh.{edges, pair};
-ghost use Rattle.surf_complex.specs.Surface.{edge_count};
-ghost use Rattle.surf_complex.specs.Walk.{edge_number};
-ghost use Rattle.surf_sign.specs.Ways.{way_class};
-ghost use Rattle.surf_valid.specs.Valid.{tree_of, distance_at, parent_at};
+ghost use Rattle.surf_graphs.specs.Cells.{Split};
+ghost use Rattle.surf_surfaces.specs.Mesh.{edges, pair};
+ghost use Rattle.surf_surfaces.specs.Surface.{edge_count};
+ghost use Rattle.surf_surfaces.specs.Walk.{edge_number};
+ghost use Rattle.surf_signatures.specs.Ways.{way_class};
+ghost use Rattle.surf_validity.specs.Valid.{tree_of, distance_at, parent_at};
 ghost use Rattle.surf_certcheck.specs.Frames.{AreTaken};
 ghost use Rattle.surf_certcheck.specs.Climbs.{IsClimbed, AreSummed};
 
@@ -17,7 +17,7 @@ use surf_base::{EdgeId, NoMemory, VertexId};
 use surf_bits::Signature;
 use surf_cert::TreeRows;
 use surf_mesh::HalfMesh;
-use surf_sign::{Signs, VertexSets};
+use surf_signatures::{Signs, VertexSets};
 
 /// All vertices.
 pub(crate) fn all_vertices(alloc: Global, mesh: &HalfMesh) -> Result<Vec<VertexId>, NoMemory>

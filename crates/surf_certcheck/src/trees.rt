@@ -1,6 +1,6 @@
 //! Whether the rows of all bases are trees of shortest walks.
 ghost use Rattle.std.specs.Prelude.{◌≡◌, MatchOption, length};
-ghost use Rattle.surf_complex.specs.Surface.{edge_count};
+ghost use Rattle.surf_surfaces.specs.Surface.{edge_count};
 ghost use Rattle.surf_certcheck.specs.First.{HoldsBelow};
 ghost use Rattle.surf_certcheck.specs.BasisFaults.{HasTrees, HasParentAt, HasDistanceAt, IsNoShortCutAt, HasParents, HasDistances, HasNoShortCut, AreTreesValid, IsTreesFault, IsFirstAt};
 

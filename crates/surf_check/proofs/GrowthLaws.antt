@@ -5,14 +5,14 @@ use Rattle.std.proofs.lemmas.List.{length-replicate, get_or-replicate, length-se
 use Rattle.std.specs.List.{range_with_len}
 use Rattle.std.proofs.lemmas.List.FromFn.{length-range_with_len, get_or-range_with_len}
 use Rattle.surf_z2.specs.Parity.{xor}
-use Rattle.surf_homology.specs.Graphs.{joins}
-use Rattle.surf_homology.specs.Trees.{IsTree}
-use Rattle.surf_homology.specs.Cells.{dual}
-use Rattle.surf_complex.specs.Mesh.{Mesh}
-use Rattle.surf_complex.specs.Surface.{face_count, edge_count, face_at, IsSurface}
-use Rattle.surf_complex.specs.Cells.{cells_of}
-use Rattle.surf_complex.proofs.JoinedLaws.{joined_closed}
-use Rattle.surf_parity.specs.Chains.{same_way, FollowTree}
+use Rattle.surf_graphs.specs.Graphs.{joins}
+use Rattle.surf_graphs.specs.Trees.{IsTree}
+use Rattle.surf_graphs.specs.Cells.{dual}
+use Rattle.surf_surfaces.specs.Mesh.{Mesh}
+use Rattle.surf_surfaces.specs.Surface.{face_count, edge_count, face_at, IsSurface}
+use Rattle.surf_surfaces.specs.Cells.{cells_of}
+use Rattle.surf_surfaces.proofs.JoinedLaws.{joined_closed}
+use Rattle.surf_turnings.specs.Chains.{same_way, FollowTree}
 use Rattle.surf_mesh.specs.Sides.{side_count}
 use Rattle.surf_mesh.specs.Half.{first_side, IsFaceOf}
 use Rattle.surf_mesh.proofs.HalfLaws.{spans}

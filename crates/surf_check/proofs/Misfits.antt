@@ -4,12 +4,12 @@ use Rattle.std.proofs.lemmas.Bool.{cases_Bool}
 use Rattle.std.proofs.lemmas.List.{append_assoc}
 use Rattle.surf_z2.specs.Parity.{xor, xor_comm}
 use Rattle.surf_z2.proofs.ParityLaws.{xor_equal}
-use Rattle.surf_homology.specs.Trees.{Tree}
-use Rattle.surf_complex.specs.Mesh.{Mesh}
-use Rattle.surf_complex.specs.Surface.{edge_count, ends, faces_of, IsSurface, IsTurning}
-use Rattle.surf_complex.specs.Turning.{Link}
-use Rattle.surf_parity.specs.Chains.{same_way, Fits, misfit, links_down}
-use Rattle.surf_parity.proofs.OneSidedLaws.{turnings_fit}
+use Rattle.surf_graphs.specs.Trees.{Tree}
+use Rattle.surf_surfaces.specs.Mesh.{Mesh}
+use Rattle.surf_surfaces.specs.Surface.{edge_count, ends, faces_of, IsSurface, IsTurning}
+use Rattle.surf_surfaces.specs.Turning.{Link}
+use Rattle.surf_turnings.specs.Chains.{same_way, Fits, misfit, links_down}
+use Rattle.surf_turnings.proofs.OneSidedLaws.{turnings_fit}
 use Rattle.surf_mesh.specs.Sides.{side_count, sides_with}
 use Rattle.surf_mesh.specs.Half.{IsFaceOf, IsEdgeOf, IsMate}
 use Rattle.surf_mesh.specs.Ring.{BeginsAt}

@@ -2,20 +2,20 @@
 use Rattle.std.proofs.Common.{◌≡◌, ◌≢◌, ℕ, ◌+◌, ◌-◌, ◌<◌, ◌||◌, ◌⊎◌, Bool, true, false, not, eqb, List, [], length, get_or, refl, sym, ap, subst, ◌∙◌, arith, inl, inr}
 use Rattle.std.proofs.lemmas.Bool.{cases_eq, eq-eqb, ne_eqb, eqb-true, lt-ltb, or_cases, or_right}
 use Rattle.surf_z2.specs.Parity.{xor, xor_comm}
-use Rattle.surf_homology.specs.Graphs.{joins}
-use Rattle.surf_homology.specs.Cells.{dual}
-use Rattle.surf_complex.specs.Mesh.{Mesh, IsFace, pair, pair_of, pair_eq, edges}
-use Rattle.surf_complex.specs.Side.{after, corner, side_pair}
-use Rattle.surf_complex.specs.Surface.{face_count, edge_count, face_at, ends, has_side, runs, faces_of, Share, IsSurface}
-use Rattle.surf_complex.specs.Cells.{cells_of}
-use Rattle.surf_complex.specs.Walk.{place_of}
-use Rattle.surf_complex.proofs.EdgeLaws.{place_of-among}
-use Rattle.surf_complex.proofs.PairLaws.{pair_eq-same, pair_eq-other}
-use Rattle.surf_complex.proofs.SideLaws.{pair_ends, side_place}
-use Rattle.surf_complex.proofs.SurfaceLaws.{two_faces_of}
-use Rattle.surf_parity.specs.Chains.{same_way}
-use Rattle.surf_parity.proofs.SideNumbers.{ends_rise}
-use Rattle.surf_parity.proofs.Turned.{runs_at}
+use Rattle.surf_graphs.specs.Graphs.{joins}
+use Rattle.surf_graphs.specs.Cells.{dual}
+use Rattle.surf_surfaces.specs.Mesh.{Mesh, IsFace, pair, pair_of, pair_eq, edges}
+use Rattle.surf_surfaces.specs.Side.{after, corner, side_pair}
+use Rattle.surf_surfaces.specs.Surface.{face_count, edge_count, face_at, ends, has_side, runs, faces_of, Share, IsSurface}
+use Rattle.surf_surfaces.specs.Cells.{cells_of}
+use Rattle.surf_surfaces.specs.Walk.{place_of}
+use Rattle.surf_surfaces.proofs.EdgeLaws.{place_of-among}
+use Rattle.surf_surfaces.proofs.PairLaws.{pair_eq-same, pair_eq-other}
+use Rattle.surf_surfaces.proofs.SideLaws.{pair_ends, side_place}
+use Rattle.surf_surfaces.proofs.SurfaceLaws.{two_faces_of}
+use Rattle.surf_turnings.specs.Chains.{same_way}
+use Rattle.surf_turnings.proofs.SideNumbers.{ends_rise}
+use Rattle.surf_turnings.proofs.Turned.{runs_at}
 use Rattle.surf_mesh.specs.Sides.{pair_at}
 use Rattle.surf_mesh.specs.Half.{first_side, IsFaceOf, IsEdgeOf, IsMate}
 use Rattle.surf_mesh.specs.Vertices.{all_corners}

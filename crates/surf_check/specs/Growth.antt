@@ -1,13 +1,13 @@
 -- A tree of the faces that grows from face 0, with a flag for each face.
 use Rattle.std.specs.Prelude.{◌≡◌, ◌≢◌, ℕ, ◌+◌, ◌<◌, ◌≤◌, Bool, true, false, List, length, get_or}
 use Rattle.surf_z2.specs.Parity.{xor}
-use Rattle.surf_homology.specs.Graphs.{joins}
-use Rattle.surf_homology.specs.Trees.{Tree, IsTree}
-use Rattle.surf_homology.specs.Cells.{dual}
-use Rattle.surf_complex.specs.Mesh.{Mesh}
-use Rattle.surf_complex.specs.Surface.{face_count, edge_count, faces_of}
-use Rattle.surf_complex.specs.Cells.{cells_of}
-use Rattle.surf_parity.specs.Chains.{same_way, FollowTree}
+use Rattle.surf_graphs.specs.Graphs.{joins}
+use Rattle.surf_graphs.specs.Trees.{Tree, IsTree}
+use Rattle.surf_graphs.specs.Cells.{dual}
+use Rattle.surf_surfaces.specs.Mesh.{Mesh}
+use Rattle.surf_surfaces.specs.Surface.{face_count, edge_count, faces_of}
+use Rattle.surf_surfaces.specs.Cells.{cells_of}
+use Rattle.surf_turnings.specs.Chains.{same_way, FollowTree}
 use Rattle.surf_mesh.specs.Half.{IsEdgeOf}
 use Rattle.surf_mesh.specs.Reach.{marked, unmarked}
 use Rattle.surf_check.specs.declared.growth.FaceTree.{FaceTree}

@@ -1,5 +1,5 @@
 -- Links as a chain lists them.
-use Rattle.surf_complex.specs.Turning.{Link}
+use Rattle.surf_surfaces.specs.Turning.{Link}
 use Rattle.surf_check.specs.declared.answers.ChainLink.{ChainLink}
 
 -- the face of a link, and the ends of its edge

@@ -1,9 +1,9 @@
 -- Whether a surface has two sides or one.
 use Rattle.std.specs.Prelude.{◌≡◌, length}
-use Rattle.surf_homology.specs.Trees.{Tree}
-use Rattle.surf_complex.specs.Mesh.{Mesh}
-use Rattle.surf_complex.specs.Surface.{face_count, IsTurning, IsTwoSided}
-use Rattle.surf_complex.specs.Turning.{IsOneSided}
+use Rattle.surf_graphs.specs.Trees.{Tree}
+use Rattle.surf_surfaces.specs.Mesh.{Mesh}
+use Rattle.surf_surfaces.specs.Surface.{face_count, IsTurning, IsTwoSided}
+use Rattle.surf_surfaces.specs.Turning.{IsOneSided}
 use Rattle.surf_check.specs.Growth.{flag_of, tree_of}
 use Rattle.surf_check.specs.declared.growth.FaceTree.{FaceTree}
 use Rattle.surf_check.specs.declared.answers.Sides.{Sides}

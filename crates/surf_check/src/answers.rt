@@ -53,7 +53,7 @@ pub struct Chain {
 
 impl Model for Chain {
     ghost use Rattle.std.specs.Prelude.{List, map};
-    ghost use Rattle.surf_complex.specs.Turning.{Link};
+    ghost use Rattle.surf_surfaces.specs.Turning.{Link};
     ghost use Rattle.surf_check.specs.Links.{link_of};
 
     ghost Value = { List Link };

@@ -1,8 +1,8 @@
 //! The Euler characteristic and the genus.
 ghost use Rattle.std.specs.Prelude.{◌≡◌, ◌*◌, ◌-ℤ◌, pos};
-ghost use Rattle.surf_complex.specs.Mesh.{characteristic};
-ghost use Rattle.surf_complex.specs.Surface.{IsTurning};
-ghost use Rattle.surf_parity.specs.Statements.{genus_of};
+ghost use Rattle.surf_surfaces.specs.Mesh.{characteristic};
+ghost use Rattle.surf_surfaces.specs.Surface.{IsTurning};
+ghost use Rattle.surf_turnings.specs.Statements.{genus_of};
 ghost use Rattle.surf_check.specs.Growth.{flag_of};
 
 use crate::answers::Turning;

@@ -1,7 +1,7 @@
 //! A tree of the faces of a surface, with a flag for each face.
 ghost use Rattle.std.specs.Prelude.{◌≡◌, ◌∷◌, ◌++◌, [], ◌<◌, ◌+◌, ◌^◌, ℕ, length, get_or, OnOk, IfOk, true, false, slice_set, Bool};
 ghost use Rattle.surf_z2.specs.Parity.{xor};
-ghost use Rattle.surf_complex.specs.Surface.{face_count, face_at};
+ghost use Rattle.surf_surfaces.specs.Surface.{face_count, face_at};
 ghost use Rattle.surf_mesh.specs.Sides.{side_count};
 ghost use Rattle.surf_mesh.specs.Half.{first_side, IsFaceOf};
 ghost use Rattle.surf_mesh.specs.Reach.{marked};

@@ -6,12 +6,12 @@ use Rattle.std.proofs.lemmas.List.{get_or_default}
 use Rattle.surf_class.proofs.Lists.{none_passes}
 use Rattle.surf_z2.specs.Parity.{xor}
 use Rattle.surf_z2.specs.Space.{Chain}
-use Rattle.surf_complex.specs.Mesh.{Mesh, edges, pair_lt}
-use Rattle.surf_complex.specs.Surface.{face_count, edge_count, faces_of, ends, IsSurface}
-use Rattle.surf_complex.specs.Homology.{boundary}
-use Rattle.surf_complex.specs.Walk.{edge_number}
-use Rattle.surf_complex.proofs.CellLaws.{surfaces_are_cells}
-use Rattle.surf_complex.proofs.LawProofs.{edges_are_numbered}
+use Rattle.surf_surfaces.specs.Mesh.{Mesh, edges, pair_lt}
+use Rattle.surf_surfaces.specs.Surface.{face_count, edge_count, faces_of, ends, IsSurface}
+use Rattle.surf_surfaces.specs.Homology.{boundary}
+use Rattle.surf_surfaces.specs.Walk.{edge_number}
+use Rattle.surf_surfaces.proofs.CellLaws.{surfaces_are_cells}
+use Rattle.surf_surfaces.proofs.LawProofs.{edges_are_numbered}
 use Rattle.surf_certcheck.specs.First.{HoldsBelow, FailsFirst}
 use Rattle.surf_certcheck.specs.Split.{AreFlags, is_flagged}
 use Rattle.surf_classes.specs.Evidence.{Evidence, IsEvidence, IsRising, IsNullEvidence, IsOddEvidence, is_listed, has_odd_sides, is_odd_in}

@@ -5,24 +5,24 @@ use Rattle.std.proofs.lemmas.List.FromFn.{get_or-map-range_with_len}
 use Rattle.surf_z2.specs.Parity.{xor}
 use Rattle.surf_z2.specs.Space.{Chain}
 use Rattle.surf_z2.specs.Sieve.{has}
-use Rattle.surf_homology.specs.Cells.{dual, chain_signature}
-use Rattle.surf_homology.specs.Trees.{Tree}
-use Rattle.surf_homology.specs.Independence.{signature_of}
-use Rattle.surf_homology.proofs.Graphs.{leaves_joined}
-use Rattle.surf_complex.specs.Mesh.{Mesh}
-use Rattle.surf_complex.specs.Surface.{face_count, edge_count, ends, IsSurface}
-use Rattle.surf_complex.specs.Homology.{IsBoundary}
-use Rattle.surf_complex.specs.Cells.{cells_of}
-use Rattle.surf_complex.specs.Signature.{edge_signature}
-use Rattle.surf_complex.proofs.CellLaws.{surfaces_are_cells}
+use Rattle.surf_graphs.specs.Cells.{dual, chain_signature}
+use Rattle.surf_graphs.specs.Trees.{Tree}
+use Rattle.surf_graphs.specs.Independence.{signature_of}
+use Rattle.surf_graphs.proofs.Graphs.{leaves_joined}
+use Rattle.surf_surfaces.specs.Mesh.{Mesh}
+use Rattle.surf_surfaces.specs.Surface.{face_count, edge_count, ends, IsSurface}
+use Rattle.surf_surfaces.specs.Homology.{IsBoundary}
+use Rattle.surf_surfaces.specs.Cells.{cells_of}
+use Rattle.surf_surfaces.specs.Signature.{edge_signature}
+use Rattle.surf_surfaces.proofs.CellLaws.{surfaces_are_cells}
 use Rattle.surf_cotree.specs.Tables.{CotreeTables, split_with, tree_of}
 use Rattle.surf_certcheck.specs.Split.{AreFlags}
-use Rattle.surf_sign.proofs.Passing.{passing_same}
+use Rattle.surf_signatures.proofs.Passing.{passing_same}
 use Rattle.surf_classes.specs.Evidence.{joint_parity, AreClosed, IsChosenNull, IsChosenOdd, is_listed}
 use Rattle.surf_classes.specs.EvidenceLaws.{joint_signature}
 use Rattle.surf_classes.proofs.NullChoice.{null_choice_is_filtered, null_choice_is_one}
 use Rattle.surf_classes.proofs.OddChoice.{odd_choice_is_filtered, joint_signatures_add, joint_even}
-use Rattle.surf_homology.proofs.CellLaws.{signature_null}
+use Rattle.surf_graphs.proofs.CellLaws.{signature_null}
 use Rattle.surf_z2.proofs.Below.{below_law}
 use Rattle.surf_class.specs.Desk.{IsSigned}
 use Rattle.surf_class.specs.Sides.{IsParted, AreAllSidesOf, is_inside}

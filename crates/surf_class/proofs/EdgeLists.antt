@@ -2,10 +2,10 @@
 use Rattle.std.proofs.Common.{◌≡◌, ℕ, ◌<◌, ◌≤◌, true, Bool, List, [], ◌∷◌, map, filter, AllPairs, All, arith}
 use Rattle.std.specs.List.{range_with_len, AllByRecursion}
 use Rattle.std.proofs.lemmas.List.Elements.{All-from_recursion}
-use Rattle.surf_complex.specs.Mesh.{Mesh, pair_lt}
-use Rattle.surf_complex.specs.Surface.{edge_count, ends, IsSurface}
-use Rattle.surf_complex.proofs.EdgeLaws.{rising_at}
-use Rattle.surf_complex.proofs.LawProofs.{edges_are_ordered}
+use Rattle.surf_surfaces.specs.Mesh.{Mesh, pair_lt}
+use Rattle.surf_surfaces.specs.Surface.{edge_count, ends, IsSurface}
+use Rattle.surf_surfaces.proofs.EdgeLaws.{rising_at}
+use Rattle.surf_surfaces.proofs.LawProofs.{edges_are_ordered}
 use Rattle.surf_classes.proofs.Listed.{passing_climb, passing_below}
 use Rattle.surf_classes.proofs.OddChoice.{numbers_rise}
 

@@ -5,8 +5,8 @@ use Rattle.std.specs.Option.{option_eq}
 use Rattle.std.proofs.lemmas.Bool.{cases_eq, true≢false}
 use Rattle.surf_z2.specs.Parity.{xor}
 use Rattle.surf_z2.proofs.ParityLaws.{xors, xor_back}
-use Rattle.surf_complex.specs.Mesh.{Mesh}
-use Rattle.surf_complex.specs.Surface.{face_count}
+use Rattle.surf_surfaces.specs.Mesh.{Mesh}
+use Rattle.surf_surfaces.specs.Surface.{face_count}
 use Rattle.surf_cotree.specs.Tables.{CotreeTables}
 use Rattle.surf_class.specs.Sides.{IsParted, AreSidesOf, side_at}
 use Rattle.surf_class.proofs.StepEdges.{differ_is}

@@ -3,10 +3,10 @@ use Rattle.std.proofs.Common.{◌≡◌, ℕ, ◌<◌, ◌≤◌, ◌+◌, ◌-�
 use Rattle.std.specs.List.{position}
 use Rattle.std.proofs.lemmas.Bool.{cases_lt}
 use Rattle.std.proofs.lemmas.List.{get_or_default}
-use Rattle.surf_complex.specs.Mesh.{Mesh, pair, pair_of, pair_eq, among, edges, steps}
-use Rattle.surf_complex.specs.Surface.{edge_count, ends}
-use Rattle.surf_complex.proofs.EdgeLaws.{list_any_from}
-use Rattle.surf_complex.proofs.PairLaws.{pair_eq-same}
+use Rattle.surf_surfaces.specs.Mesh.{Mesh, pair, pair_of, pair_eq, among, edges, steps}
+use Rattle.surf_surfaces.specs.Surface.{edge_count, ends}
+use Rattle.surf_surfaces.proofs.EdgeLaws.{list_any_from}
+use Rattle.surf_surfaces.proofs.PairLaws.{pair_eq-same}
 use Rattle.surf_certcheck.proofs.Steps.{steps_at, count_steps}
 use Rattle.surf_class.proofs.Lists.{position_at, position_none}
 

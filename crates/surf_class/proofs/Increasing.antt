@@ -3,8 +3,8 @@ use Rattle.std.proofs.Common.{◌≡◌, ℕ, ◌<◌, true, nat_lt, List, [], �
 use Rattle.std.specs.List.{AllByRecursion}
 use Rattle.std.proofs.lemmas.Bool.{ltb-true, lt-ltb}
 use Rattle.std.proofs.lemmas.List.Elements.{All-from_recursion}
-use Rattle.surf_complex.specs.Mesh.{pair_lt}
-use Rattle.surf_complex.proofs.PairLaws.{pair_lt-trans}
+use Rattle.surf_surfaces.specs.Mesh.{pair_lt}
+use Rattle.surf_surfaces.proofs.PairLaws.{pair_lt-trans}
 use Rattle.surf_class.specs.Evidences.{is_rising, is_ordered}
 use Rattle.surf_class.proofs.Lists.{pairs_of_rising, and_first, and_second}
 

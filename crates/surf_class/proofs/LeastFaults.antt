@@ -3,10 +3,10 @@ use Rattle.std.proofs.Common.{◌≡◌, ℕ, ◌<◌, ◌≤◌, true, false, e
 use Rattle.std.specs.Option.{MatchOption, is_some}
 use Rattle.std.proofs.lemmas.Bool.{cases_order, eq-eqb, eqb-true, true≢false}
 use Rattle.std.proofs.lemmas.List.{get_or_default}
-use Rattle.surf_complex.specs.Mesh.{Mesh, pair_eq, pair_lt, among, edges}
-use Rattle.surf_complex.specs.Surface.{face_count}
-use Rattle.surf_complex.proofs.EdgeLaws.{list_any_at, list_any_from}
-use Rattle.surf_complex.proofs.PairLaws.{pair_eq-same, pair_eq-true, pair_lt-trans, pair_lt-irreflexive}
+use Rattle.surf_surfaces.specs.Mesh.{Mesh, pair_eq, pair_lt, among, edges}
+use Rattle.surf_surfaces.specs.Surface.{face_count}
+use Rattle.surf_surfaces.proofs.EdgeLaws.{list_any_at, list_any_from}
+use Rattle.surf_surfaces.proofs.PairLaws.{pair_eq-same, pair_eq-true, pair_lt-trans, pair_lt-irreflexive}
 use Rattle.surf_classes.specs.Faults.{IsNoFace, IsNoPair}
 
 pub no_face_at : (mesh : Mesh) (faces : List ℕ) (i f : ℕ) → AllPairs (λ a b. a < b) faces → i < length faces →

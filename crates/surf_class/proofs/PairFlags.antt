@@ -2,11 +2,11 @@
 use Rattle.std.proofs.Common.{◌≡◌, ℕ, ◌<◌, true, ◌&&◌, List, map, AllPairs, All, Contains, sym, ap, ◌∙◌}
 use Rattle.surf_z2.specs.Parity.{odd}
 use Rattle.surf_z2.proofs.ParityLaws.{odd_below-same, and_comm}
-use Rattle.surf_complex.specs.Mesh.{Mesh, edges, pair_lt, among, pair_eq}
-use Rattle.surf_complex.specs.Surface.{face_count, edge_count, borders, ends, IsSurface}
-use Rattle.surf_complex.specs.Walk.{edge_number}
-use Rattle.surf_complex.proofs.EdgeLaws.{list_any_at, among-contains}
-use Rattle.surf_complex.proofs.PairLaws.{pair_eq-true}
+use Rattle.surf_surfaces.specs.Mesh.{Mesh, edges, pair_lt, among, pair_eq}
+use Rattle.surf_surfaces.specs.Surface.{face_count, edge_count, borders, ends, IsSurface}
+use Rattle.surf_surfaces.specs.Walk.{edge_number}
+use Rattle.surf_surfaces.proofs.EdgeLaws.{list_any_at, among-contains}
+use Rattle.surf_surfaces.proofs.PairLaws.{pair_eq-true}
 use Rattle.surf_classes.specs.Evidence.{has_odd_sides}
 use Rattle.surf_classes.proofs.PairSums.{odd_sums_are_sums_over_edges}
 

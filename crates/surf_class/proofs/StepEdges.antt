@@ -5,12 +5,12 @@ use Rattle.std.proofs.lemmas.Bool.{cases_eq, eq-eqb, ne_eqb, true≢false}
 use Rattle.std.proofs.lemmas.List.{get_or_default, map-append}
 use Rattle.surf_z2.specs.Parity.{xor, odd}
 use Rattle.surf_z2.proofs.ParityLaws.{xor-false, xor_assoc, odd-append}
-use Rattle.surf_complex.specs.Mesh.{Mesh, pair, pair_of, pair_eq, edges, among, steps}
-use Rattle.surf_complex.specs.Surface.{edge_count, ends, borders, faces_of, IsSurface}
-use Rattle.surf_complex.specs.Walk.{IsClosed, edge_number, place_of}
-use Rattle.surf_complex.proofs.EdgeLaws.{place_of-ends, ends-eq, among-contains, list_any_from}
-use Rattle.surf_complex.proofs.PairLaws.{pair_eq-same}
-use Rattle.surf_complex.proofs.SurfaceLaws.{two_faces_of, one_of_two}
+use Rattle.surf_surfaces.specs.Mesh.{Mesh, pair, pair_of, pair_eq, edges, among, steps}
+use Rattle.surf_surfaces.specs.Surface.{edge_count, ends, borders, faces_of, IsSurface}
+use Rattle.surf_surfaces.specs.Walk.{IsClosed, edge_number, place_of}
+use Rattle.surf_surfaces.proofs.EdgeLaws.{place_of-ends, ends-eq, among-contains, list_any_from}
+use Rattle.surf_surfaces.proofs.PairLaws.{pair_eq-same}
+use Rattle.surf_surfaces.proofs.SurfaceLaws.{two_faces_of, one_of_two}
 use Rattle.surf_certcheck.proofs.Steps.{steps_at, one_along}
 use Rattle.surf_class.proofs.Lists.{take_next}
 

@@ -4,9 +4,9 @@ use Rattle.std.specs.List.{position}
 use Rattle.std.proofs.lemmas.Bool.{leb-false, eqb-true}
 use Rattle.std.proofs.lemmas.List.{get_or_default}
 use Rattle.surf_text.specs.Text.{TextLine, tokens_of, lines_of}
-use Rattle.surf_complex.specs.Mesh.{Mesh, pair_of, among, steps, edges}
-use Rattle.surf_complex.specs.Walk.{first, last, IsClosed}
-use Rattle.surf_complex.proofs.EdgeLaws.{contains_from_among}
+use Rattle.surf_surfaces.specs.Mesh.{Mesh, pair_of, among, steps, edges}
+use Rattle.surf_surfaces.specs.Walk.{first, last, IsClosed}
+use Rattle.surf_surfaces.proofs.EdgeLaws.{contains_from_among}
 use Rattle.surf_cert.specs.Lines.{number_of}
 use Rattle.surf_class.specs.Numbers.{onto_numbers, numbers_from}
 use Rattle.surf_class.specs.Walks.{walk_of, walk_in, if_joined, if_closed, if_alone, ◌>>=◌}

@@ -1,7 +1,7 @@
 -- Flags of faces and of edges.
 use Rattle.std.specs.Prelude.{◌≡◌, ℕ, Bool, List}
-use Rattle.surf_complex.specs.Mesh.{Mesh}
-use Rattle.surf_complex.specs.Homology.{boundary}
+use Rattle.surf_surfaces.specs.Mesh.{Mesh}
+use Rattle.surf_surfaces.specs.Homology.{boundary}
 use Rattle.surf_certcheck.specs.Split.{is_flagged}
 
 -- an edge is flagged exactly where one of its two faces is, and not both

@@ -3,7 +3,7 @@ use Rattle.std.specs.Prelude.{ℕ, ◌*◌, ◌==◌, ◌&&◌, Bool, true, nat_
 use Rattle.std.specs.List.{list_all}
 use Rattle.std.specs.Str.{bytes_eq}
 use Rattle.surf_text.specs.Text.{TextLine, tokens_of, lines_of}
-use Rattle.surf_complex.specs.Mesh.{pair_lt}
+use Rattle.surf_surfaces.specs.Mesh.{pair_lt}
 use Rattle.surf_classes.specs.Evidence.{Evidence, null_faces, odd_pairs}
 use Rattle.surf_class.specs.Numbers.{numbers_from}
 use Rattle.surf_class.specs.declared.numbers.NumberFault.{NumberFault}

@@ -1,6 +1,6 @@
 -- What each fault of evidence says: it is the first, or memory ran out.
 use Rattle.surf_z2.specs.Space.{Chain}
-use Rattle.surf_complex.specs.Mesh.{Mesh}
+use Rattle.surf_surfaces.specs.Mesh.{Mesh}
 use Rattle.surf_classes.specs.Evidence.{Evidence}
 use Rattle.surf_classes.specs.Faults.{no_face, no_boundary, no_pair, odd_face, even_number, IsFirstFault}
 use Rattle.surf_class.specs.declared.fault.ClassFault.{ClassFault}

@@ -1,8 +1,8 @@
 -- Sets of faces that a chain of edges parts, along a tree of the faces.
 use Rattle.std.specs.Prelude.{◌≡◌, ◌≢◌, ℕ, ◌<◌, Bool, false, List, length, slice_index, slice_index_or, Option, Some, None, unwrap_or}
 use Rattle.surf_z2.specs.Parity.{xor}
-use Rattle.surf_complex.specs.Mesh.{Mesh}
-use Rattle.surf_complex.specs.Surface.{face_count}
+use Rattle.surf_surfaces.specs.Mesh.{Mesh}
+use Rattle.surf_surfaces.specs.Surface.{face_count}
 use Rattle.surf_cotree.specs.Tables.{CotreeTables}
 
 -- face 0 isn't in the set, and another face is on the other side than the face that it hangs on exactly where the

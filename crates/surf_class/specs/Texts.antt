@@ -1,6 +1,6 @@
 -- The texts of evidence.
 use Rattle.std.specs.Prelude.{◌≡◌, ◌<◌, ℕ, true, List, [], ◌∷◌, ◌++◌, length, flat_map, codes, decimal, All, AllPairs, Ok}
-use Rattle.surf_complex.specs.Mesh.{pair_lt}
+use Rattle.surf_surfaces.specs.Mesh.{pair_lt}
 use Rattle.surf_cert.specs.Fits.{IsNumber, IsPair}
 use Rattle.surf_cert.specs.Written.{numbers_text}
 use Rattle.surf_classes.specs.Evidence.{Evidence, null_faces, odd_pairs}

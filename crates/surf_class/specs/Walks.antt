@@ -2,8 +2,8 @@
 use Rattle.std.specs.Prelude.{ℕ, ◌==◌, nat_le, not, List, [], ◌∷◌, Option, Some, None, Result, Ok, Err, if◌then◌else◌}
 use Rattle.std.specs.List.{position}
 use Rattle.surf_text.specs.Text.{TextLine, tokens_of, lines_of}
-use Rattle.surf_complex.specs.Mesh.{Mesh, pair_of, among, steps, edges}
-use Rattle.surf_complex.specs.Walk.{first, last}
+use Rattle.surf_surfaces.specs.Mesh.{Mesh, pair_of, among, steps, edges}
+use Rattle.surf_surfaces.specs.Walk.{first, last}
 use Rattle.surf_class.specs.Numbers.{numbers_from}
 use Rattle.surf_class.specs.declared.numbers.NumberFault.{NumberFault}
 use Rattle.surf_class.specs.declared.numbers.NumberFault.TheVariants.{Bad, Memory as NoRoom}

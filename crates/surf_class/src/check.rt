@@ -3,10 +3,10 @@ ghost use Rattle.std.specs.Prelude.{◌≡◌, ◌≢◌, ◌<◌, ◌≤◌, �
 ghost use Rattle.std.specs.List.{position};
 ghost use Rattle.surf_z2.specs.Parity.{xor, odd};
 ghost use Rattle.surf_z2.specs.Space.{Chain};
-ghost use Rattle.surf_complex.specs.Homology.{boundary};
-ghost use Rattle.surf_complex.specs.Mesh.{edges, pair_lt, among};
-ghost use Rattle.surf_complex.specs.Surface.{borders, edge_count, face_count, ends, faces_of};
-ghost use Rattle.surf_complex.specs.Walk.{IsClosed, edge_number, parity};
+ghost use Rattle.surf_surfaces.specs.Homology.{boundary};
+ghost use Rattle.surf_surfaces.specs.Mesh.{edges, pair_lt, among};
+ghost use Rattle.surf_surfaces.specs.Surface.{borders, edge_count, face_count, ends, faces_of};
+ghost use Rattle.surf_surfaces.specs.Walk.{IsClosed, edge_number, parity};
 ghost use Rattle.surf_certcheck.specs.First.{HoldsBelow, FailsFirst};
 ghost use Rattle.surf_certcheck.specs.Split.{AreFlags, is_flagged};
 ghost use Rattle.surf_classes.specs.Evidence.{IsEvidence, IsNullEvidence, IsOddEvidence, null_faces, odd_pairs, is_listed, has_odd_sides, is_odd_in};

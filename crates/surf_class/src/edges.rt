@@ -1,9 +1,9 @@
 //! Edges of a mesh by their ends, and flags by number.
 ghost use Rattle.std.specs.Prelude.{◌≡◌, ◌<◌, ◌+◌, ◌==◌, ℕ, Contains, length, slice_index_or, false};
 ghost use Rattle.surf_z2.specs.Parity.{xor};
-ghost use Rattle.surf_complex.specs.Mesh.{steps, pair_of, edges};
-ghost use Rattle.surf_complex.specs.Surface.{edge_count, face_count, ends, faces_of};
-ghost use Rattle.surf_complex.specs.Walk.{IsClosed, edge_number};
+ghost use Rattle.surf_surfaces.specs.Mesh.{steps, pair_of, edges};
+ghost use Rattle.surf_surfaces.specs.Surface.{edge_count, face_count, ends, faces_of};
+ghost use Rattle.surf_surfaces.specs.Walk.{IsClosed, edge_number};
 
 use surf_base::{EdgeId, FaceId, VertexId};
 use surf_mesh::HalfMesh;

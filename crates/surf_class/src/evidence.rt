@@ -1,6 +1,6 @@
 //! Evidence of the class of a walk.
 ghost use Rattle.std.specs.Prelude.{◌≡◌, ◌<◌, true, All, AllPairs};
-ghost use Rattle.surf_complex.specs.Mesh.{pair_lt};
+ghost use Rattle.surf_surfaces.specs.Mesh.{pair_lt};
 
 use std::marker::Model;
 use surf_base::{FaceId, VertexId};
@@ -47,7 +47,7 @@ pub struct PairList {
 
 impl Model for PairList {
     ghost use Rattle.std.specs.Prelude.{◌≡◌, ◌<◌, ℕ, List, true, All, AllPairs};
-    ghost use Rattle.surf_complex.specs.Mesh.{pair_lt};
+    ghost use Rattle.surf_surfaces.specs.Mesh.{pair_lt};
 
     ghost Value = { List (ℕ × ℕ) };
 

@@ -3,10 +3,10 @@ ghost use Rattle.std.specs.Prelude.{◌≡◌, ◌<◌, ◌==◌, ◌+◌, ℕ, 
 ghost use Rattle.std.specs.List.{range_with_len};
 ghost use Rattle.std.specs.Option.{option_copied};
 ghost use Rattle.surf_z2.specs.Sieve.{has};
-ghost use Rattle.surf_homology.specs.Trees.{Tree};
-ghost use Rattle.surf_complex.specs.Signature.{walk_signature};
-ghost use Rattle.surf_complex.specs.Surface.{edge_count, face_count, ends};
-ghost use Rattle.surf_complex.specs.Walk.{IsClosed};
+ghost use Rattle.surf_graphs.specs.Trees.{Tree};
+ghost use Rattle.surf_surfaces.specs.Signature.{walk_signature};
+ghost use Rattle.surf_surfaces.specs.Surface.{edge_count, face_count, ends};
+ghost use Rattle.surf_surfaces.specs.Walk.{IsClosed};
 ghost use Rattle.surf_cotree.specs.Tables.{split_with};
 ghost use Rattle.surf_classes.specs.Evidence.{joint_parity, AreClosed, IsEvidence, IsChosen};
 ghost use Rattle.surf_classes.specs.EvidenceLaws.{joint_signature};

@@ -2,7 +2,7 @@
 ghost use Rattle.std.specs.Prelude.{◌≡◌, ◌<◌, ◌≤◌, ◌^◌, ◌*◌, nat_lt, IfOk, Ok, length};
 ghost use Rattle.std.specs.Str.{bytes_eq};
 ghost use Rattle.surf_text.specs.Text.{tokens_of};
-ghost use Rattle.surf_complex.specs.Mesh.{pair_lt};
+ghost use Rattle.surf_surfaces.specs.Mesh.{pair_lt};
 ghost use Rattle.surf_class.specs.Evidences.{is_rising, is_ordered, two_by_two, face_numbers, pair_numbers, counted, if_formed, evidence_of, evidence_in};
 ghost use Rattle.surf_class.specs.Gives.{Gives};
 ghost use Rattle.surf_class.specs.Numbers.{numbers_from};

@@ -1,8 +1,8 @@
 //! Reads a closed walk.
 ghost use Rattle.std.specs.Prelude.{◌≡◌, ◌<◌, ◌==◌, ◌^◌, nat_le, not, IfOk, IfSome, length};
 ghost use Rattle.std.specs.List.{position};
-ghost use Rattle.surf_complex.specs.Mesh.{pair_of, among, steps, edges};
-ghost use Rattle.surf_complex.specs.Walk.{first, last, IsClosed};
+ghost use Rattle.surf_surfaces.specs.Mesh.{pair_of, among, steps, edges};
+ghost use Rattle.surf_surfaces.specs.Walk.{first, last, IsClosed};
 ghost use Rattle.surf_class.specs.Gives.{Gives};
 ghost use Rattle.surf_class.specs.Walks.{walk_in};
 

@@ -8,18 +8,18 @@ use Rattle.surf_z2.specs.Below.{number_of}
 use Rattle.surf_z2.proofs.Below.{same_from}
 use Rattle.surf_z2.proofs.ParityLaws.{any_below-same, odd_below-same}
 use Rattle.surf_z2.proofs.Passing.{filter_same}
-use Rattle.surf_homology.specs.Cells.{signature, chain_signature}
-use Rattle.surf_homology.specs.Independence.{signature_of}
-use Rattle.surf_homology.specs.Trees.{on_way, on_path}
-use Rattle.surf_complex.specs.Mesh.{Mesh}
-use Rattle.surf_complex.specs.Surface.{face_count, edge_count, faces_of, IsSurface}
-use Rattle.surf_complex.specs.Walk.{ArePositive}
-use Rattle.surf_complex.specs.Cells.{cells_of}
-use Rattle.surf_complex.specs.Cotree.{tree_edges, cotree_edges, is_left, left_edges, split_of}
-use Rattle.surf_complex.specs.Choice.{Trees, AreChosenAt}
-use Rattle.surf_complex.specs.Signature.{edge_signature}
-use Rattle.surf_complex.proofs.CellLaws.{surfaces_are_cells}
-use Rattle.surf_complex.proofs.LoopsOne.{trees_same, cotrees_same}
+use Rattle.surf_graphs.specs.Cells.{signature, chain_signature}
+use Rattle.surf_graphs.specs.Independence.{signature_of}
+use Rattle.surf_graphs.specs.Trees.{on_way, on_path}
+use Rattle.surf_surfaces.specs.Mesh.{Mesh}
+use Rattle.surf_surfaces.specs.Surface.{face_count, edge_count, faces_of, IsSurface}
+use Rattle.surf_surfaces.specs.Walk.{ArePositive}
+use Rattle.surf_surfaces.specs.Cells.{cells_of}
+use Rattle.surf_surfaces.specs.Cotree.{tree_edges, cotree_edges, is_left, left_edges, split_of}
+use Rattle.surf_surfaces.specs.Choice.{Trees, AreChosenAt}
+use Rattle.surf_surfaces.specs.Signature.{edge_signature}
+use Rattle.surf_surfaces.proofs.CellLaws.{surfaces_are_cells}
+use Rattle.surf_surfaces.proofs.LoopsOne.{trees_same, cotrees_same}
 use Rattle.surf_classes.specs.EvidenceLaws.{OddChoiceIsThatOfAllTrees}
 use Rattle.surf_classes.proofs.Listed.{passing_below}
 use Rattle.surf_classes.proofs.OddChoice.{choice_same}

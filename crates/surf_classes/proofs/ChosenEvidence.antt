@@ -3,18 +3,18 @@ use Rattle.std.proofs.Common.{◌≡◌, ℕ, List, sym, ap, ◌∙◌, arith, i
 use Rattle.std.proofs.lemmas.Bool.{cases_eq}
 use Rattle.std.proofs.lemmas.List.{get_or-replicate}
 use Rattle.surf_z2.specs.Space.{Chain}
-use Rattle.surf_homology.specs.Cells.{Split, IsSplit}
-use Rattle.surf_homology.specs.Independence.{signature_of}
-use Rattle.surf_complex.specs.Mesh.{Mesh}
-use Rattle.surf_complex.specs.Surface.{edge_count, IsSurface}
-use Rattle.surf_complex.specs.Walk.{edge_length, ArePositive}
-use Rattle.surf_complex.specs.Homology.{IsBoundary}
-use Rattle.surf_complex.specs.Cells.{cells_of}
-use Rattle.surf_complex.specs.Choice.{Trees, AreChosenAt}
-use Rattle.surf_complex.specs.Cotree.{split_of}
-use Rattle.surf_complex.proofs.ChoiceExists.{choice_exists}
-use Rattle.surf_complex.proofs.ClassLaws.{some_vertex}
-use Rattle.surf_complex.proofs.LoopsAtLaws.{split_is}
+use Rattle.surf_graphs.specs.Cells.{Split, IsSplit}
+use Rattle.surf_graphs.specs.Independence.{signature_of}
+use Rattle.surf_surfaces.specs.Mesh.{Mesh}
+use Rattle.surf_surfaces.specs.Surface.{edge_count, IsSurface}
+use Rattle.surf_surfaces.specs.Walk.{edge_length, ArePositive}
+use Rattle.surf_surfaces.specs.Homology.{IsBoundary}
+use Rattle.surf_surfaces.specs.Cells.{cells_of}
+use Rattle.surf_surfaces.specs.Choice.{Trees, AreChosenAt}
+use Rattle.surf_surfaces.specs.Cotree.{split_of}
+use Rattle.surf_surfaces.proofs.ChoiceExists.{choice_exists}
+use Rattle.surf_surfaces.proofs.ClassLaws.{some_vertex}
+use Rattle.surf_surfaces.proofs.LoopsAtLaws.{split_is}
 use Rattle.surf_classes.specs.Evidence.{joint_parity, is_listed, Evidence, null_faces, odd_pairs, IsChosenNull, IsChosenOdd, IsChosen, unit_lengths}
 use Rattle.surf_classes.specs.EvidenceLaws.{ChosenEvidenceIsRight, ChosenEvidenceIsOne, ClassEvidenceIsRight, ClassEvidenceIsOne}
 use Rattle.surf_classes.proofs.OneKind.{evidence_is_of_one_kind}

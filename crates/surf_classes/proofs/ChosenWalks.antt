@@ -4,16 +4,16 @@ use Rattle.std.proofs.lemmas.Bool.{cases_lt}
 use Rattle.std.proofs.lemmas.List.Elements.{All-from_recursion}
 use Rattle.surf_z2.proofs.ParityLaws.{xor-false}
 use Rattle.std.proofs.lemmas.List.{reverse-reverse, length-append}
-use Rattle.surf_homology.specs.Cells.{primal, Split, IsSplit}
-use Rattle.surf_homology.specs.Graphs.{walk_length as graph_length}
-use Rattle.surf_complex.specs.Mesh.{Mesh, pair_of, edges}
-use Rattle.surf_complex.specs.Surface.{IsSurface}
-use Rattle.surf_complex.specs.Walk.{IsClosed, ArePositive, edge_length, first, parity, walk_length}
-use Rattle.surf_complex.specs.Cycle.{tail}
-use Rattle.surf_complex.specs.Cells.{cells_of}
-use Rattle.surf_complex.specs.Signature.{edge_signature, walk_signature}
-use Rattle.surf_complex.proofs.CellLaws.{surfaces_are_cells}
-use Rattle.surf_complex.proofs.ClassLaws.{some_split, some_vertex}
+use Rattle.surf_graphs.specs.Cells.{primal, Split, IsSplit}
+use Rattle.surf_graphs.specs.Graphs.{walk_length as graph_length}
+use Rattle.surf_surfaces.specs.Mesh.{Mesh, pair_of, edges}
+use Rattle.surf_surfaces.specs.Surface.{IsSurface}
+use Rattle.surf_surfaces.specs.Walk.{IsClosed, ArePositive, edge_length, first, parity, walk_length}
+use Rattle.surf_surfaces.specs.Cycle.{tail}
+use Rattle.surf_surfaces.specs.Cells.{cells_of}
+use Rattle.surf_surfaces.specs.Signature.{edge_signature, walk_signature}
+use Rattle.surf_surfaces.proofs.CellLaws.{surfaces_are_cells}
+use Rattle.surf_surfaces.proofs.ClassLaws.{some_split, some_vertex}
 use Rattle.surf_classes.specs.Shortest.{IsInClass, IsShortestInClass, IsChosenWalk}
 use Rattle.surf_classes.specs.ShortestLaws.{ChosenWalkIsOne, NullChoiceIsVertex}
 use Rattle.surf_z2.proofs.Sought.{least_such}

@@ -5,17 +5,17 @@ use Rattle.std.proofs.lemmas.Nat.{div-mul-add, mod-mul-add, same_from_place, div
 use Rattle.surf_z2.specs.Space.{numbers}
 use Rattle.surf_z2.proofs.ParityLaws.{xor_equal}
 use Rattle.surf_z2.proofs.Span.{add_zero}
-use Rattle.surf_homology.specs.Cells.{Split, IsSplit, primal}
-use Rattle.surf_homology.specs.Graphs.{Graph, IsGraph, IsWalk, IsJoined, joins, leaves, edge_between}
-use Rattle.surf_homology.proofs.Graphs.{edge_between_is, leaves_joined}
-use Rattle.surf_homology.proofs.Loops.{joins_turned, joins_ends}
-use Rattle.surf_homology.proofs.Trees.{one_of}
-use Rattle.surf_complex.specs.Mesh.{Mesh}
-use Rattle.surf_complex.specs.Surface.{edge_count, ends, IsSurface}
-use Rattle.surf_complex.specs.Walk.{edge_length}
-use Rattle.surf_complex.specs.Cells.{cells_of}
-use Rattle.surf_complex.specs.Signature.{edge_signature}
-use Rattle.surf_complex.proofs.CellLaws.{surfaces_are_cells}
+use Rattle.surf_graphs.specs.Cells.{Split, IsSplit, primal}
+use Rattle.surf_graphs.specs.Graphs.{Graph, IsGraph, IsWalk, IsJoined, joins, leaves, edge_between}
+use Rattle.surf_graphs.proofs.Graphs.{edge_between_is, leaves_joined}
+use Rattle.surf_graphs.proofs.Loops.{joins_turned, joins_ends}
+use Rattle.surf_graphs.proofs.Trees.{one_of}
+use Rattle.surf_surfaces.specs.Mesh.{Mesh}
+use Rattle.surf_surfaces.specs.Surface.{edge_count, ends, IsSurface}
+use Rattle.surf_surfaces.specs.Walk.{edge_length}
+use Rattle.surf_surfaces.specs.Cells.{cells_of}
+use Rattle.surf_surfaces.specs.Signature.{edge_signature}
+use Rattle.surf_surfaces.proofs.CellLaws.{surfaces_are_cells}
 use Rattle.surf_classes.specs.Cover.{IsSet}
 use Rattle.surf_classes.specs.CoverGraph.{set_count, cover_node, cover, cover_edge, IsCover, CoversAreGraphs, SearchesCertify}
 use Rattle.surf_classes.proofs.SignedWalks.{walk_sum, xor_twice}

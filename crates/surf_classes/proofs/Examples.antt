@@ -5,14 +5,14 @@ use Rattle.std.proofs.lemmas.Bool.{and_parts}
 use Rattle.std.proofs.lemmas.List.Elements.{All-from_recursion}
 use Rattle.surf_z2.specs.Parity.{xor, any_below}
 use Rattle.surf_z2.proofs.ParityLaws.{any_below-none, xor_equal}
-use Rattle.surf_complex.specs.Mesh.{pair_lt, among, edges}
-use Rattle.surf_complex.specs.Surface.{face_count, edge_count}
-use Rattle.surf_complex.specs.Homology.{boundary}
-use Rattle.surf_complex.specs.Walk.{parity}
-use Rattle.surf_complex.specs.SmallMeshes.{three_torus}
-use Rattle.surf_complex.specs.Pillow.{pillow}
-use Rattle.surf_complex.proofs.PairLaws.{Rising}
-use Rattle.surf_complex.proofs.EdgeLaws.{rising_at, contains_from_among}
+use Rattle.surf_surfaces.specs.Mesh.{pair_lt, among, edges}
+use Rattle.surf_surfaces.specs.Surface.{face_count, edge_count}
+use Rattle.surf_surfaces.specs.Homology.{boundary}
+use Rattle.surf_surfaces.specs.Walk.{parity}
+use Rattle.surf_surfaces.specs.SmallMeshes.{three_torus}
+use Rattle.surf_surfaces.specs.Pillow.{pillow}
+use Rattle.surf_surfaces.proofs.PairLaws.{Rising}
+use Rattle.surf_surfaces.proofs.EdgeLaws.{rising_at, contains_from_among}
 use Rattle.surf_classes.specs.Evidence.{is_listed, has_odd_sides, is_odd_in, IsOddEvidence, IsChosenNull}
 use Rattle.surf_classes.specs.SmallCases.{torus_pairs}
 use Rattle.surf_classes.proofs.Listed.{climbing_at}

@@ -3,9 +3,9 @@ use Rattle.std.proofs.Common.{◌≡◌, ℕ, zero, suc, ◌+◌, ◌<◌, ◌�
 use Rattle.std.specs.List.{AllByRecursion, filter, range_with_len}
 use Rattle.std.proofs.lemmas.Bool.{eqb-true, eq-eqb, ne_eqb, cases_eq, cases_Bool, false_from_ne_true, or_cases, or_left, or_from, false≢true}
 use Rattle.std.proofs.lemmas.List.Elements.{All-from_recursion, recursion_from_All}
-use Rattle.surf_complex.specs.Mesh.{pair_lt, pair_eq, among}
-use Rattle.surf_complex.proofs.PairLaws.{Rising, pair_eq-true, pair_lt-irreflexive}
-use Rattle.surf_complex.proofs.FaceLaws.{Once}
+use Rattle.surf_surfaces.specs.Mesh.{pair_lt, pair_eq, among}
+use Rattle.surf_surfaces.proofs.PairLaws.{Rising, pair_eq-true, pair_lt-irreflexive}
+use Rattle.surf_surfaces.proofs.FaceLaws.{Once}
 use Rattle.surf_classes.specs.Evidence.{is_listed}
 
 -- by recursion: each number is below all later ones

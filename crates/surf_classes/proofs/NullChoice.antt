@@ -6,14 +6,14 @@ use Rattle.std.proofs.lemmas.List.Elements.{All-from_recursion, recursion_from_A
 use Rattle.surf_z2.specs.Parity.{xor}
 use Rattle.surf_z2.specs.Space.{Chain}
 use Rattle.surf_z2.proofs.ParityLaws.{xors, xor-same, xor_ends, xor_pairs, xor_equal, equal_xor}
-use Rattle.surf_homology.specs.Cells.{dual}
-use Rattle.surf_homology.proofs.Graphs.{leaves_joined}
-use Rattle.surf_homology.proofs.Trees.{down_tree}
-use Rattle.surf_complex.specs.Mesh.{Mesh}
-use Rattle.surf_complex.specs.Surface.{face_count, edge_count, faces_of, IsSurface}
-use Rattle.surf_complex.specs.Homology.{boundary}
-use Rattle.surf_complex.specs.Cells.{cells_of}
-use Rattle.surf_complex.proofs.CellLaws.{surfaces_are_cells}
+use Rattle.surf_graphs.specs.Cells.{dual}
+use Rattle.surf_graphs.proofs.Graphs.{leaves_joined}
+use Rattle.surf_graphs.proofs.Trees.{down_tree}
+use Rattle.surf_surfaces.specs.Mesh.{Mesh}
+use Rattle.surf_surfaces.specs.Surface.{face_count, edge_count, faces_of, IsSurface}
+use Rattle.surf_surfaces.specs.Homology.{boundary}
+use Rattle.surf_surfaces.specs.Cells.{cells_of}
+use Rattle.surf_surfaces.proofs.CellLaws.{surfaces_are_cells}
 use Rattle.surf_classes.specs.Evidence.{is_listed, IsChosenNull}
 use Rattle.surf_classes.specs.EvidenceLaws.{BoundariesHaveEvidence, NullChoiceIsOne, NullChoiceIsFiltered, NullEvidenceGrows}
 use Rattle.surf_classes.proofs.Listed.{climbing_from, climbing_at, climbing_one, passing_climb, passing_below, passing_listed}

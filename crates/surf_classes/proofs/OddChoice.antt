@@ -8,23 +8,23 @@ use Rattle.surf_z2.specs.Space.{Chain}
 use Rattle.surf_z2.specs.Sieve.{has}
 use Rattle.surf_z2.proofs.Below.{below_law}
 use Rattle.surf_z2.proofs.ParityLaws.{and_comm, odd_below-same, any_below-none}
-use Rattle.surf_homology.specs.Cells.{primal, dual, Split, signature, chain_signature}
-use Rattle.surf_homology.specs.Graphs.{touches, IsEven}
-use Rattle.surf_homology.specs.Independence.{signature_of}
-use Rattle.surf_homology.proofs.CellLaws.{face_zero, signature_null}
-use Rattle.surf_homology.proofs.Graphs.{even-xor}
-use Rattle.surf_homology.proofs.Independence.{signature_of-linear, null_zero, zero_null}
-use Rattle.surf_homology.proofs.ShortestWalks.{first_passing}
-use Rattle.surf_complex.specs.Mesh.{Mesh, pair_eq, pair_lt, among, edges}
-use Rattle.surf_complex.specs.Surface.{edge_count, ends, borders, IsSurface}
-use Rattle.surf_complex.specs.Walk.{parity, place_of}
-use Rattle.surf_complex.specs.Cells.{cells_of}
-use Rattle.surf_complex.specs.Signature.{edge_signature, walk_signature}
-use Rattle.surf_complex.proofs.CellLaws.{surfaces_are_cells}
-use Rattle.surf_complex.proofs.PairLaws.{Rising, pair_eq-true}
-use Rattle.surf_complex.proofs.EdgeLaws.{rising_from_AllPairs, rising_at, rising_unique, edges-rise, ends-eq, place_of-ends, place_of-among, among-contains, list_any_at}
-use Rattle.surf_complex.proofs.GraphWalkLaws.{closed_parity_even}
-use Rattle.surf_complex.proofs.SignatureLaws.{signatures_are_classes}
+use Rattle.surf_graphs.specs.Cells.{primal, dual, Split, signature, chain_signature}
+use Rattle.surf_graphs.specs.Graphs.{touches, IsEven}
+use Rattle.surf_graphs.specs.Independence.{signature_of}
+use Rattle.surf_graphs.proofs.CellLaws.{face_zero, signature_null}
+use Rattle.surf_graphs.proofs.Graphs.{even-xor}
+use Rattle.surf_graphs.proofs.Independence.{signature_of-linear, null_zero, zero_null}
+use Rattle.surf_graphs.proofs.ShortestWalks.{first_passing}
+use Rattle.surf_surfaces.specs.Mesh.{Mesh, pair_eq, pair_lt, among, edges}
+use Rattle.surf_surfaces.specs.Surface.{edge_count, ends, borders, IsSurface}
+use Rattle.surf_surfaces.specs.Walk.{parity, place_of}
+use Rattle.surf_surfaces.specs.Cells.{cells_of}
+use Rattle.surf_surfaces.specs.Signature.{edge_signature, walk_signature}
+use Rattle.surf_surfaces.proofs.CellLaws.{surfaces_are_cells}
+use Rattle.surf_surfaces.proofs.PairLaws.{Rising, pair_eq-true}
+use Rattle.surf_surfaces.proofs.EdgeLaws.{rising_from_AllPairs, rising_at, rising_unique, edges-rise, ends-eq, place_of-ends, place_of-among, among-contains, list_any_at}
+use Rattle.surf_surfaces.proofs.GraphWalkLaws.{closed_parity_even}
+use Rattle.surf_surfaces.proofs.SignatureLaws.{signatures_are_classes}
 use Rattle.surf_classes.specs.Evidence.{joint_parity, AreClosed, is_listed, IsChosenOdd}
 use Rattle.surf_classes.specs.EvidenceLaws.{OddChoiceIsRight, OddChoiceIsOne, OddChoiceIsFiltered, ClassesAreDecided, JointSignaturesAdd}
 use Rattle.surf_classes.proofs.Listed.{Climbing, passing_climb, passing_below, passing_listed, rising_once}

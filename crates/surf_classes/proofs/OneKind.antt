@@ -5,15 +5,15 @@ use Rattle.std.proofs.lemmas.Bool.{false≢true}
 use Rattle.std.proofs.lemmas.List.Elements.{recursion_from_All}
 use Rattle.surf_z2.specs.Parity.{odd_below}
 use Rattle.surf_z2.proofs.ParityLaws.{and_comm, and-false, odd_below-same, odd_below-none}
-use Rattle.surf_homology.specs.Cells.{dual}
-use Rattle.surf_homology.specs.Graphs.{touches}
-use Rattle.surf_homology.proofs.Graphs.{by_nodes}
-use Rattle.surf_complex.specs.Mesh.{Mesh, among, edges}
-use Rattle.surf_complex.specs.Surface.{face_count, edge_count, ends, borders, IsSurface}
-use Rattle.surf_complex.specs.Homology.{boundary}
-use Rattle.surf_complex.specs.Cells.{cells_of}
-use Rattle.surf_complex.proofs.CellLaws.{surfaces_are_cells}
-use Rattle.surf_complex.proofs.EdgeLaws.{rising_from_AllPairs, among-contains}
+use Rattle.surf_graphs.specs.Cells.{dual}
+use Rattle.surf_graphs.specs.Graphs.{touches}
+use Rattle.surf_graphs.proofs.Graphs.{by_nodes}
+use Rattle.surf_surfaces.specs.Mesh.{Mesh, among, edges}
+use Rattle.surf_surfaces.specs.Surface.{face_count, edge_count, ends, borders, IsSurface}
+use Rattle.surf_surfaces.specs.Homology.{boundary}
+use Rattle.surf_surfaces.specs.Cells.{cells_of}
+use Rattle.surf_surfaces.proofs.CellLaws.{surfaces_are_cells}
+use Rattle.surf_surfaces.proofs.EdgeLaws.{rising_from_AllPairs, among-contains}
 use Rattle.surf_classes.specs.Evidence.{has_odd_sides, is_listed}
 use Rattle.surf_classes.specs.EvidenceLaws.{EvidenceIsOfOneKind}
 use Rattle.surf_classes.proofs.Listed.{rising_once}

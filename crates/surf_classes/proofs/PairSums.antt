@@ -6,17 +6,17 @@ use Rattle.std.proofs.lemmas.Simd.{map-map}
 use Rattle.surf_z2.specs.Parity.{xor, odd, odd_below}
 use Rattle.surf_z2.specs.Space.{Chain}
 use Rattle.surf_z2.proofs.ParityLaws.{xor-and, or-xor, eqb_comm, odd_below-same, odd_below-none, odd_below-xor}
-use Rattle.surf_homology.specs.Cells.{dual}
-use Rattle.surf_homology.specs.Graphs.{touches}
-use Rattle.surf_complex.specs.Mesh.{Mesh, sides, pair_of, pair_eq, among, edges}
-use Rattle.surf_complex.specs.Surface.{face_count, edge_count, face_at, ends, has_side, borders, faces_of, IsSurface}
-use Rattle.surf_complex.specs.Walk.{edge_number}
-use Rattle.surf_complex.specs.Cells.{cells_of}
-use Rattle.surf_complex.proofs.PairLaws.{pair_eq-true, pair_eq-self}
-use Rattle.surf_complex.proofs.EdgeLaws.{odd_below-ends, rising_from_AllPairs}
-use Rattle.surf_complex.proofs.FaceLaws.{Once, face_once, among-map}
-use Rattle.surf_complex.proofs.SurfaceLaws.{two_faces_of, one_of_two, sides_are_edges}
-use Rattle.surf_complex.proofs.LawProofs.{edges_are_numbered}
+use Rattle.surf_graphs.specs.Cells.{dual}
+use Rattle.surf_graphs.specs.Graphs.{touches}
+use Rattle.surf_surfaces.specs.Mesh.{Mesh, sides, pair_of, pair_eq, among, edges}
+use Rattle.surf_surfaces.specs.Surface.{face_count, edge_count, face_at, ends, has_side, borders, faces_of, IsSurface}
+use Rattle.surf_surfaces.specs.Walk.{edge_number}
+use Rattle.surf_surfaces.specs.Cells.{cells_of}
+use Rattle.surf_surfaces.proofs.PairLaws.{pair_eq-true, pair_eq-self}
+use Rattle.surf_surfaces.proofs.EdgeLaws.{odd_below-ends, rising_from_AllPairs}
+use Rattle.surf_surfaces.proofs.FaceLaws.{Once, face_once, among-map}
+use Rattle.surf_surfaces.proofs.SurfaceLaws.{two_faces_of, one_of_two, sides_are_edges}
+use Rattle.surf_surfaces.proofs.LawProofs.{edges_are_numbered}
 use Rattle.surf_classes.specs.Evidence.{has_odd_sides, is_odd_in}
 use Rattle.surf_classes.specs.EvidenceLaws.{OddSumsAreSumsOverEdges}
 use Rattle.surf_classes.proofs.Listed.{rising_once}

@@ -8,19 +8,19 @@ use Rattle.surf_z2.specs.Below.{number_of}
 use Rattle.surf_z2.specs.Sieve.{has}
 use Rattle.surf_z2.proofs.Below.{below_law, same_from, same_from_has, number_of-none, number_of-sum}
 use Rattle.surf_z2.proofs.Span.{add_zero}
-use Rattle.surf_homology.specs.Cells.{primal, Split, IsSplit, signature}
-use Rattle.surf_homology.specs.Graphs.{IsJoined, edge_between}
-use Rattle.surf_homology.specs.Trees.{in_tree}
-use Rattle.surf_homology.proofs.CellLaws.{left_once}
-use Rattle.surf_homology.proofs.Graphs.{edge_between_is}
-use Rattle.surf_homology.proofs.Loops.{joins_ends}
-use Rattle.surf_homology.proofs.Trees.{up_in_tree, down_tree}
-use Rattle.surf_complex.specs.Mesh.{Mesh}
-use Rattle.surf_complex.specs.Surface.{ends, IsSurface}
-use Rattle.surf_complex.specs.Walk.{edge_length}
-use Rattle.surf_complex.specs.Cells.{cells_of}
-use Rattle.surf_complex.specs.Signature.{edge_signature}
-use Rattle.surf_complex.proofs.CellLaws.{surfaces_are_cells}
+use Rattle.surf_graphs.specs.Cells.{primal, Split, IsSplit, signature}
+use Rattle.surf_graphs.specs.Graphs.{IsJoined, edge_between}
+use Rattle.surf_graphs.specs.Trees.{in_tree}
+use Rattle.surf_graphs.proofs.CellLaws.{left_once}
+use Rattle.surf_graphs.proofs.Graphs.{edge_between_is}
+use Rattle.surf_graphs.proofs.Loops.{joins_ends}
+use Rattle.surf_graphs.proofs.Trees.{up_in_tree, down_tree}
+use Rattle.surf_surfaces.specs.Mesh.{Mesh}
+use Rattle.surf_surfaces.specs.Surface.{ends, IsSurface}
+use Rattle.surf_surfaces.specs.Walk.{edge_length}
+use Rattle.surf_surfaces.specs.Cells.{cells_of}
+use Rattle.surf_surfaces.specs.Signature.{edge_signature}
+use Rattle.surf_surfaces.proofs.CellLaws.{surfaces_are_cells}
 use Rattle.surf_classes.specs.Cover.{IsSet}
 use Rattle.surf_classes.specs.ShortestLaws.{SignedDistancesExist}
 use Rattle.surf_classes.proofs.SignedWalks.{turned, goes_over, goes-append}

@@ -2,17 +2,17 @@
 use Rattle.std.proofs.Common.{◌≡◌, ℕ, zero, suc, ◌+◌, ◌-◌, ◌<◌, ◌≤◌, ◌⊎◌, List, [], ◌∷◌, ◌++◌, length, bit_xor, refl, sym, ap, ◌∙◌, subst, arith, inl, inr}
 use Rattle.std.proofs.lemmas.Bool.{cases_eq, cases_Bool, false≢true}
 use Rattle.surf_z2.proofs.Below.{small}
-use Rattle.surf_homology.specs.Cells.{primal, Split, chain_signature}
-use Rattle.surf_homology.specs.Graphs.{edge_between}
-use Rattle.surf_homology.proofs.Trees.{joined_in}
-use Rattle.surf_complex.specs.Mesh.{Mesh, pair, edges, among}
-use Rattle.surf_complex.specs.Surface.{IsSurface}
-use Rattle.surf_complex.specs.Walk.{IsClosed, ArePositive, edge_length, parity}
-use Rattle.surf_complex.specs.Cells.{cells_of}
-use Rattle.surf_complex.specs.Signature.{edge_signature, walk_signature}
-use Rattle.surf_complex.proofs.CellLaws.{surfaces_are_cells}
-use Rattle.surf_complex.proofs.EdgeLaws.{among-contains, contains_from_among}
-use Rattle.surf_complex.proofs.SignatureLaws.{signatures_are_classes}
+use Rattle.surf_graphs.specs.Cells.{primal, Split, chain_signature}
+use Rattle.surf_graphs.specs.Graphs.{edge_between}
+use Rattle.surf_graphs.proofs.Trees.{joined_in}
+use Rattle.surf_surfaces.specs.Mesh.{Mesh, pair, edges, among}
+use Rattle.surf_surfaces.specs.Surface.{IsSurface}
+use Rattle.surf_surfaces.specs.Walk.{IsClosed, ArePositive, edge_length, parity}
+use Rattle.surf_surfaces.specs.Cells.{cells_of}
+use Rattle.surf_surfaces.specs.Signature.{edge_signature, walk_signature}
+use Rattle.surf_surfaces.proofs.CellLaws.{surfaces_are_cells}
+use Rattle.surf_surfaces.proofs.EdgeLaws.{among-contains, contains_from_among}
+use Rattle.surf_surfaces.proofs.SignatureLaws.{signatures_are_classes}
 use Rattle.surf_classes.specs.Cover.{IsSet, IsTightFor, IsLeastTight, IsReadBack, IsReadTo, IsCertified, step_signature, step_length}
 use Rattle.surf_classes.specs.ShortestLaws.{ReadBackIsChosen, TablesAreReadBack, TablesReadOn}
 use Rattle.surf_z2.proofs.Sought.{least_such}

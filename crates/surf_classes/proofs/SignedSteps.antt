@@ -3,17 +3,17 @@ use Rattle.std.proofs.Common.{◌≡◌, ℕ, suc, ◌+◌, ◌<◌, ◌≤◌, 
 use Rattle.std.proofs.lemmas.Bool.{cases_lt}
 use Rattle.std.proofs.lemmas.Nat.{xor_lt}
 use Rattle.surf_z2.proofs.Below.{small, number_of-none}
-use Rattle.surf_homology.specs.Cells.{primal, Split, signature}
-use Rattle.surf_homology.specs.Graphs.{IsJoined, edge_between}
-use Rattle.surf_complex.specs.Mesh.{Mesh, IsMesh, pair, edges}
-use Rattle.surf_complex.specs.Surface.{IsSurface}
-use Rattle.surf_complex.specs.Walk.{ArePositive, edge_length, edge_number, place_of, walk_length}
-use Rattle.surf_complex.specs.Cells.{cells_of}
-use Rattle.surf_complex.specs.Signature.{edge_signature}
-use Rattle.surf_complex.proofs.CellLaws.{surfaces_are_cells}
-use Rattle.surf_complex.proofs.EdgeLaws.{contains_from_among}
-use Rattle.surf_complex.proofs.FaceLaws.{pair_comm}
-use Rattle.surf_complex.proofs.GraphWalkLaws.{joined, between_is_number, from_joined}
+use Rattle.surf_graphs.specs.Cells.{primal, Split, signature}
+use Rattle.surf_graphs.specs.Graphs.{IsJoined, edge_between}
+use Rattle.surf_surfaces.specs.Mesh.{Mesh, IsMesh, pair, edges}
+use Rattle.surf_surfaces.specs.Surface.{IsSurface}
+use Rattle.surf_surfaces.specs.Walk.{ArePositive, edge_length, edge_number, place_of, walk_length}
+use Rattle.surf_surfaces.specs.Cells.{cells_of}
+use Rattle.surf_surfaces.specs.Signature.{edge_signature}
+use Rattle.surf_surfaces.proofs.CellLaws.{surfaces_are_cells}
+use Rattle.surf_surfaces.proofs.EdgeLaws.{contains_from_among}
+use Rattle.surf_surfaces.proofs.FaceLaws.{pair_comm}
+use Rattle.surf_surfaces.proofs.GraphWalkLaws.{joined, between_is_number, from_joined}
 use Rattle.surf_classes.specs.Cover.{IsSet, LeadsWith, IsSignedDistance, IsTightFor}
 use Rattle.surf_z2.proofs.Sought.{least_such}
 use Rattle.surf_classes.proofs.SignedWalks.{walk_sum, turned, Goes, Found, seek}

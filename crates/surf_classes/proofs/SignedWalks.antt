@@ -5,11 +5,11 @@ use Rattle.surf_z2.specs.Parity.{any_below}
 use Rattle.surf_z2.specs.Space.{numbers}
 use Rattle.surf_z2.proofs.ParityLaws.{any_below-found, any_below-from}
 use Rattle.surf_z2.proofs.Span.{add_zero, cancel}
-use Rattle.surf_homology.specs.Graphs.{Graph, IsGraph, joins, IsJoined, edge_between, IsWalk, walk_length}
-use Rattle.surf_homology.specs.Loops.{IsSimple}
-use Rattle.surf_homology.proofs.Graphs.{edge_between_is, walk-append}
-use Rattle.surf_homology.proofs.Loops.{joins_turned}
-use Rattle.surf_homology.proofs.Trees.{joined_in}
+use Rattle.surf_graphs.specs.Graphs.{Graph, IsGraph, joins, IsJoined, edge_between, IsWalk, walk_length}
+use Rattle.surf_graphs.specs.Loops.{IsSimple}
+use Rattle.surf_graphs.proofs.Graphs.{edge_between_is, walk-append}
+use Rattle.surf_graphs.proofs.Loops.{joins_turned}
+use Rattle.surf_graphs.proofs.Trees.{joined_in}
 use Rattle.surf_z2.proofs.Sought.{least_such}
 
 -- ---- sums of sets

@@ -2,16 +2,16 @@
 use Rattle.std.proofs.Common.{◌≡◌, ℕ, zero, suc, ◌+◌, ◌-◌, ◌<◌, ◌≤◌, ◌⊎◌, List, [], ◌∷◌, bit_xor, sym, ap, ◌∙◌, subst, arith, inl, inr}
 use Rattle.std.proofs.lemmas.Bool.{cases_eq}
 use Rattle.surf_z2.specs.Space.{numbers}
-use Rattle.surf_homology.specs.Cells.{primal, Split}
-use Rattle.surf_homology.specs.Graphs.{IsJoined, edge_between}
-use Rattle.surf_homology.proofs.Graphs.{edge_between_is}
-use Rattle.surf_homology.proofs.Trees.{joined_in, one_of}
-use Rattle.surf_complex.specs.Mesh.{Mesh}
-use Rattle.surf_complex.specs.Surface.{ends, IsSurface}
-use Rattle.surf_complex.specs.Walk.{ArePositive, edge_length}
-use Rattle.surf_complex.specs.Cells.{cells_of}
-use Rattle.surf_complex.specs.Signature.{edge_signature, walk_signature}
-use Rattle.surf_complex.proofs.CellLaws.{surfaces_are_cells}
+use Rattle.surf_graphs.specs.Cells.{primal, Split}
+use Rattle.surf_graphs.specs.Graphs.{IsJoined, edge_between}
+use Rattle.surf_graphs.proofs.Graphs.{edge_between_is}
+use Rattle.surf_graphs.proofs.Trees.{joined_in, one_of}
+use Rattle.surf_surfaces.specs.Mesh.{Mesh}
+use Rattle.surf_surfaces.specs.Surface.{ends, IsSurface}
+use Rattle.surf_surfaces.specs.Walk.{ArePositive, edge_length}
+use Rattle.surf_surfaces.specs.Cells.{cells_of}
+use Rattle.surf_surfaces.specs.Signature.{edge_signature, walk_signature}
+use Rattle.surf_surfaces.proofs.CellLaws.{surfaces_are_cells}
 use Rattle.surf_classes.specs.Cover.{IsSet, AreSignedDistances, IsCertified}
 use Rattle.surf_classes.specs.ShortestLaws.{CertifiedTablesAreDistances, CertifiedTablesChoose}
 use Rattle.surf_classes.proofs.SignedWalks.{xor_on, goes_over, after, step_long}

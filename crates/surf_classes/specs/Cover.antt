@@ -1,11 +1,11 @@
 -- Walks by their signatures: least lengths to a vertex with a set, tables of them, and the walk that is read back.
 use Rattle.std.specs.Prelude.{◌≡◌, ℕ, ◌+◌, ◌<◌, ◌≤◌, ◌^◌, List, [], ◌∷◌, length, Contains, bit_xor}
-use Rattle.surf_homology.specs.Cells.{Split}
-use Rattle.surf_complex.specs.Mesh.{Mesh, pair, edges}
-use Rattle.surf_complex.specs.Surface.{edge_count, ends}
-use Rattle.surf_complex.specs.Walk.{edge_length, edge_number, walk_length}
-use Rattle.surf_complex.specs.Distance.{LeadsFrom}
-use Rattle.surf_complex.specs.Signature.{edge_signature, walk_signature}
+use Rattle.surf_graphs.specs.Cells.{Split}
+use Rattle.surf_surfaces.specs.Mesh.{Mesh, pair, edges}
+use Rattle.surf_surfaces.specs.Surface.{edge_count, ends}
+use Rattle.surf_surfaces.specs.Walk.{edge_length, edge_number, walk_length}
+use Rattle.surf_surfaces.specs.Distance.{LeadsFrom}
+use Rattle.surf_surfaces.specs.Signature.{edge_signature, walk_signature}
 
 -- a set of places of left edges, as a number
 abbrev pub IsSet : Split → ℕ → Type 0

@@ -4,16 +4,16 @@ use Rattle.std.specs.Prelude.{◌≡◌, ℕ, ◌<◌, ◌==◌, Bool, true, fal
 use Rattle.surf_z2.specs.Parity.{odd}
 use Rattle.surf_z2.specs.Space.{Chain, difference}
 use Rattle.surf_z2.specs.Sieve.{has}
-use Rattle.surf_homology.specs.Cells.{Split}
-use Rattle.surf_homology.specs.Independence.{signature_of}
-use Rattle.surf_complex.specs.Mesh.{Mesh, sides, pair_of, pair_lt, among, edges}
-use Rattle.surf_complex.specs.Surface.{face_count, edge_count, face_at, ends}
-use Rattle.surf_complex.specs.Walk.{IsClosed, edge_number, parity}
-use Rattle.surf_complex.specs.Homology.{boundary}
-use Rattle.surf_complex.specs.Cells.{cells_of}
-use Rattle.surf_complex.specs.Cotree.{split_of}
-use Rattle.surf_complex.specs.Choice.{Trees, AreChosenAt}
-use Rattle.surf_complex.specs.Signature.{edge_signature}
+use Rattle.surf_graphs.specs.Cells.{Split}
+use Rattle.surf_graphs.specs.Independence.{signature_of}
+use Rattle.surf_surfaces.specs.Mesh.{Mesh, sides, pair_of, pair_lt, among, edges}
+use Rattle.surf_surfaces.specs.Surface.{face_count, edge_count, face_at, ends}
+use Rattle.surf_surfaces.specs.Walk.{IsClosed, edge_number, parity}
+use Rattle.surf_surfaces.specs.Homology.{boundary}
+use Rattle.surf_surfaces.specs.Cells.{cells_of}
+use Rattle.surf_surfaces.specs.Cotree.{split_of}
+use Rattle.surf_surfaces.specs.Choice.{Trees, AreChosenAt}
+use Rattle.surf_surfaces.specs.Signature.{edge_signature}
 
 -- the edges that a walk runs an odd number of times; where there is another walk, those that exactly one
 -- of the two does

@@ -4,17 +4,17 @@ use Rattle.std.specs.List.{range_with_len}
 use Rattle.surf_z2.specs.Parity.{xor, odd_below}
 use Rattle.surf_z2.specs.Space.{Chain}
 use Rattle.surf_z2.specs.Sieve.{has}
-use Rattle.surf_homology.specs.Cells.{Split, IsSplit, dual}
-use Rattle.surf_homology.specs.Independence.{signature_of}
-use Rattle.surf_homology.specs.Trees.{Tree, IsTree}
-use Rattle.surf_complex.specs.Mesh.{Mesh, pair_lt, among, edges}
-use Rattle.surf_complex.specs.Surface.{face_count, edge_count, ends, borders, IsSurface}
-use Rattle.surf_complex.specs.Walk.{ArePositive}
-use Rattle.surf_complex.specs.Homology.{boundary, IsBoundary}
-use Rattle.surf_complex.specs.Cells.{cells_of}
-use Rattle.surf_complex.specs.Cotree.{split_of}
-use Rattle.surf_complex.specs.Choice.{Trees, AreChosenAt}
-use Rattle.surf_complex.specs.Signature.{edge_signature, walk_signature}
+use Rattle.surf_graphs.specs.Cells.{Split, IsSplit, dual}
+use Rattle.surf_graphs.specs.Independence.{signature_of}
+use Rattle.surf_graphs.specs.Trees.{Tree, IsTree}
+use Rattle.surf_surfaces.specs.Mesh.{Mesh, pair_lt, among, edges}
+use Rattle.surf_surfaces.specs.Surface.{face_count, edge_count, ends, borders, IsSurface}
+use Rattle.surf_surfaces.specs.Walk.{ArePositive}
+use Rattle.surf_surfaces.specs.Homology.{boundary, IsBoundary}
+use Rattle.surf_surfaces.specs.Cells.{cells_of}
+use Rattle.surf_surfaces.specs.Cotree.{split_of}
+use Rattle.surf_surfaces.specs.Choice.{Trees, AreChosenAt}
+use Rattle.surf_surfaces.specs.Signature.{edge_signature, walk_signature}
 use Rattle.surf_classes.specs.Evidence.{joint_parity, AreClosed, has_odd_sides, is_odd_in, IsNullEvidence, IsOddEvidence, Evidence, IsEvidence, IsRising, IsChosenNull, IsChosenOdd, IsChosen, IsClassEvidence}
 use Rattle.surf_classes.specs.Faults.{Fault, IsFirstFault}
 

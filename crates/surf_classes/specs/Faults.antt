@@ -1,9 +1,9 @@
 -- What is wrong with evidence that is not right: its first fault.
 use Rattle.std.specs.Prelude.{◌≡◌, ◌≢◌, ℕ, ◌<◌, ◌≤◌, true, false, List, All, Contains}
 use Rattle.surf_z2.specs.Space.{Chain}
-use Rattle.surf_complex.specs.Mesh.{Mesh, pair_lt, among, edges}
-use Rattle.surf_complex.specs.Surface.{face_count, edge_count, ends}
-use Rattle.surf_complex.specs.Homology.{boundary}
+use Rattle.surf_surfaces.specs.Mesh.{Mesh, pair_lt, among, edges}
+use Rattle.surf_surfaces.specs.Surface.{face_count, edge_count, ends}
+use Rattle.surf_surfaces.specs.Homology.{boundary}
 use Rattle.surf_classes.specs.Evidence.{is_listed, has_odd_sides, is_odd_in, Evidence, null_faces, odd_pairs}
 
 -- a listed face that is none, an edge in just one of the chain and the boundary, a listed pair that is no edge, a face

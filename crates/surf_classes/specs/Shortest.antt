@@ -1,9 +1,9 @@
 -- Closed walks of one class, the shortest of them, and the one that is chosen.
 use Rattle.std.specs.Prelude.{◌≡◌, ℕ, ◌≤◌, List, ◌∷◌, ◌++◌}
 use Rattle.surf_z2.specs.Space.{difference}
-use Rattle.surf_complex.specs.Mesh.{Mesh}
-use Rattle.surf_complex.specs.Walk.{IsClosed, first, parity, walk_length}
-use Rattle.surf_complex.specs.Homology.{IsBoundary}
+use Rattle.surf_surfaces.specs.Mesh.{Mesh}
+use Rattle.surf_surfaces.specs.Walk.{IsClosed, first, parity, walk_length}
+use Rattle.surf_surfaces.specs.Homology.{IsBoundary}
 
 -- the edges that exactly one of the walks runs an odd number of times are a boundary
 abbrev pub AreHomologous : Mesh → List ℕ → List ℕ → Type 0

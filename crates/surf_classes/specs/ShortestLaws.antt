@@ -1,12 +1,12 @@
 -- What holds of the shortest walks of a class, and of walks by their signatures.
 use Rattle.std.specs.Prelude.{◌≡◌, ℕ, ◌<◌, ◌≤◌, ◌↔◌, List, [], ◌∷◌, ◌++◌, reverse, bit_xor}
-use Rattle.surf_homology.specs.Cells.{Split, IsSplit}
-use Rattle.surf_complex.specs.Mesh.{Mesh}
-use Rattle.surf_complex.specs.Surface.{IsSurface}
-use Rattle.surf_complex.specs.Walk.{IsClosed, ArePositive, walk_length}
-use Rattle.surf_complex.specs.Homology.{IsNull}
-use Rattle.surf_complex.specs.Cells.{cells_of}
-use Rattle.surf_complex.specs.Signature.{walk_signature}
+use Rattle.surf_graphs.specs.Cells.{Split, IsSplit}
+use Rattle.surf_surfaces.specs.Mesh.{Mesh}
+use Rattle.surf_surfaces.specs.Surface.{IsSurface}
+use Rattle.surf_surfaces.specs.Walk.{IsClosed, ArePositive, walk_length}
+use Rattle.surf_surfaces.specs.Homology.{IsNull}
+use Rattle.surf_surfaces.specs.Cells.{cells_of}
+use Rattle.surf_surfaces.specs.Signature.{walk_signature}
 use Rattle.surf_classes.specs.Shortest.{AreHomologous, IsChosenWalk}
 use Rattle.surf_classes.specs.Cover.{IsSet, IsSignedDistance, AreSignedDistances, IsCertified, IsLeastTight, IsReadBack, IsReadTo, IsLeastBase, step_signature}
 

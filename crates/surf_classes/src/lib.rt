@@ -18,9 +18,9 @@
 #![tactic(auto)]
 
 ghost use Rattle.std.specs.Prelude.{[], ◌∷◌};
-ghost use Rattle.surf_complex.specs.Pillow.{pillow};
-ghost use Rattle.surf_complex.specs.SmallMeshes.{three_torus};
-ghost use Rattle.surf_complex.specs.Walk.{parity};
+ghost use Rattle.surf_surfaces.specs.Pillow.{pillow};
+ghost use Rattle.surf_surfaces.specs.SmallMeshes.{three_torus};
+ghost use Rattle.surf_surfaces.specs.Walk.{parity};
 ghost use Rattle.surf_classes.specs.Evidence.{IsOddEvidence, IsChosenNull};
 ghost use Rattle.surf_classes.specs.EvidenceLaws.{EvidenceIsOfOneKind, BoundariesHaveEvidence};
 ghost use Rattle.surf_classes.specs.EvidenceLaws.{NullChoiceIsOne, NullChoiceIsFiltered, NullEvidenceGrows};

@@ -1,10 +1,10 @@
 -- The faces of a surface, joined by their edges, are a graph.
-use Rattle.surf_homology.specs.Graphs.{IsGraph}
-use Rattle.surf_homology.specs.Cells.{dual}
-use Rattle.surf_complex.specs.Mesh.{Mesh}
-use Rattle.surf_complex.specs.Surface.{IsSurface}
-use Rattle.surf_complex.specs.Cells.{cells_of}
-use Rattle.surf_complex.proofs.CellLaws.{surfaces_are_cells}
+use Rattle.surf_graphs.specs.Graphs.{IsGraph}
+use Rattle.surf_graphs.specs.Cells.{dual}
+use Rattle.surf_surfaces.specs.Mesh.{Mesh}
+use Rattle.surf_surfaces.specs.Surface.{IsSurface}
+use Rattle.surf_surfaces.specs.Cells.{cells_of}
+use Rattle.surf_surfaces.proofs.CellLaws.{surfaces_are_cells}
 
 pub graph_is : (mesh : Mesh) → IsSurface mesh → IsGraph (dual (cells_of mesh))
 graph_is mesh surface = (surfaces_are_cells mesh surface).complex.dual_ends

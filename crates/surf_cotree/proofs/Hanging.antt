@@ -4,11 +4,11 @@ use Rattle.std.proofs.Math.ListN.{length-set}
 use Rattle.std.proofs.lemmas.Bool.{cases_eq, cases_Bool, and_parts, false≢true, not-true}
 use Rattle.surf_z2.specs.Parity.{xor, count_below}
 use Rattle.surf_z2.proofs.ParityLaws.{xor-same}
-use Rattle.surf_homology.specs.Graphs.{Graph, IsGraph, joins, leaves}
-use Rattle.surf_homology.specs.Trees.{on_path}
-use Rattle.surf_homology.specs.Growth.{Grown, IsHeavy, inner_end}
-use Rattle.surf_homology.proofs.Trees.{one_of}
-use Rattle.surf_homology.proofs.Loops.{joins_ends, joins_turned}
+use Rattle.surf_graphs.specs.Graphs.{Graph, IsGraph, joins, leaves}
+use Rattle.surf_graphs.specs.Trees.{on_path}
+use Rattle.surf_graphs.specs.Growth.{Grown, IsHeavy, inner_end}
+use Rattle.surf_graphs.proofs.Trees.{one_of}
+use Rattle.surf_graphs.proofs.Loops.{joins_ends, joins_turned}
 use Rattle.surf_heap.specs.Entries.{Entries, entry_of, IsEmpty, IsLeastEntry}
 use Rattle.surf_cotree.specs.Tables.{nobody}
 use Rattle.surf_cotree.specs.Searches.{at, heaviest, reached, lighter, tree_of, Connects, HasPair, IsOffered, IsWaiting, IsPrim, IsHeaviestTree}

@@ -2,8 +2,8 @@ use Rattle.std.proofs.Common.{ℕ, ◌<◌, ◌≤◌, ◌≡◌, ◌+◌, ◌-�
 use Rattle.std.proofs.Math.ListN.{length-set, length-replicate}
 use Rattle.std.proofs.lemmas.Bool.{cases_eq, cases_lt, lt-ltb, le-ltb}
 use Rattle.std.proofs.lemmas.List.{get_or-replicate, get_or_past}
-use Rattle.surf_homology.specs.Graphs.{Graph}
-use Rattle.surf_homology.proofs.Loops.{joins_turned}
+use Rattle.surf_graphs.specs.Graphs.{Graph}
+use Rattle.surf_graphs.proofs.Loops.{joins_turned}
 use Rattle.surf_heap.specs.Entries.{Entries, entry_of, lesser, precedes, IsUpTo}
 use Rattle.surf_net.specs.Rows.{link_at, IsRow}
 use Rattle.surf_cotree.specs.Tables.{nobody}

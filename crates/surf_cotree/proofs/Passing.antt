@@ -3,7 +3,7 @@ use Rattle.std.proofs.Common.{ℕ, ◌<◌, ◌≡◌, sym, ap, ◌∙◌, List,
 use Rattle.surf_net.specs.Rows.{link_at, side_link}
 use Rattle.std.proofs.lemmas.List.{get_or-map}
 use Rattle.std.proofs.Common.{get_or, map}
-use Rattle.surf_complex.specs.Mesh.{Mesh}
+use Rattle.surf_surfaces.specs.Mesh.{Mesh}
 
 -- the link of a side of a face
 pub link_of_side : (mesh : Mesh) (k s : ℕ) (list : List ℕ) → k < length list → s ≡ get_or list k s → link_at (map (side_link mesh) list) k ≡ side_link mesh s

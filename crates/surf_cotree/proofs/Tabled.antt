@@ -5,19 +5,19 @@ use Rattle.std.proofs.lemmas.Bool.{cases_eq, cases_Bool, false≢true, not-true,
 use Rattle.std.proofs.lemmas.Bool.Decides.{nat_tests}
 use Rattle.surf_z2.specs.Parity.{any_below}
 use Rattle.surf_z2.proofs.ParityLaws.{any_below-same}
-use Rattle.surf_homology.specs.Cells.{dual, IsSplit}
-use Rattle.surf_homology.specs.Trees.{Tree, in_tree}
-use Rattle.surf_homology.proofs.Trees.{tree_edge}
-use Rattle.surf_homology.proofs.CellLaws.{outside_joins}
-use Rattle.surf_homology.proofs.Counting.{left_edges as left_count}
-use Rattle.surf_sign.proofs.Passing.{passing_same}
-use Rattle.surf_complex.specs.Mesh.{Mesh}
-use Rattle.surf_complex.specs.Surface.{edge_count, face_count, faces_of, IsSurface}
-use Rattle.surf_complex.specs.Cells.{cells_of}
-use Rattle.surf_complex.specs.Loop.{loop_length}
-use Rattle.surf_complex.specs.Cotree.{tree_edges, cotree_edges, is_left, left_edges, split_of, precedes, IsHeaviestCotree}
-use Rattle.surf_complex.proofs.CellLaws.{surfaces_are_cells}
-use Rattle.surf_complex.proofs.CotreeLaws.{passing_climb, climbs_order, passing_each, passing_found, not-false_is, between_inside}
+use Rattle.surf_graphs.specs.Cells.{dual, IsSplit}
+use Rattle.surf_graphs.specs.Trees.{Tree, in_tree}
+use Rattle.surf_graphs.proofs.Trees.{tree_edge}
+use Rattle.surf_graphs.proofs.CellLaws.{outside_joins}
+use Rattle.surf_graphs.proofs.Counting.{left_edges as left_count}
+use Rattle.surf_signatures.proofs.Passing.{passing_same}
+use Rattle.surf_surfaces.specs.Mesh.{Mesh}
+use Rattle.surf_surfaces.specs.Surface.{edge_count, face_count, faces_of, IsSurface}
+use Rattle.surf_surfaces.specs.Cells.{cells_of}
+use Rattle.surf_surfaces.specs.Loop.{loop_length}
+use Rattle.surf_surfaces.specs.Cotree.{tree_edges, cotree_edges, is_left, left_edges, split_of, precedes, IsHeaviestCotree}
+use Rattle.surf_surfaces.proofs.CellLaws.{surfaces_are_cells}
+use Rattle.surf_surfaces.proofs.CotreeLaws.{passing_climb, climbs_order, passing_each, passing_found, not-false_is, between_inside}
 use Rattle.surf_cotree.specs.Tables.{CotreeTables, nobody, tree_of, IsMadeFor, split_with, loop_count, width_for}
 use Rattle.surf_cotree.specs.Searches.{at, outside, is_unmarked, Connects, IsHeaviestTree}
 use Rattle.surf_cotree.specs.Grown.{IsMarked, MarkTree, AreLoopLengths, IsGrown, IsGrownOn}

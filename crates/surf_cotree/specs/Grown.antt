@@ -1,12 +1,12 @@
 -- What a cotree desk holds after it has grown the tree of faces outside a tree of vertices.
 use Rattle.std.specs.Prelude.{ℕ, ◌≡◌, ◌≢◌, ◌<◌, ◌+◌, Bool, false, List, length, slice_index, slice_index_or, Some, None}
-use Rattle.surf_homology.specs.Cells.{primal, dual, IsSplit}
-use Rattle.surf_homology.specs.Trees.{Tree, IsTree}
-use Rattle.surf_complex.specs.Mesh.{Mesh}
-use Rattle.surf_complex.specs.Surface.{edge_count, face_count}
-use Rattle.surf_complex.specs.Cells.{cells_of}
-use Rattle.surf_complex.specs.Loop.{loop_length}
-use Rattle.surf_complex.specs.Cotree.{tree_edges, cotree_edges, left_edges, split_of, IsHeaviestCotree}
+use Rattle.surf_graphs.specs.Cells.{primal, dual, IsSplit}
+use Rattle.surf_graphs.specs.Trees.{Tree, IsTree}
+use Rattle.surf_surfaces.specs.Mesh.{Mesh}
+use Rattle.surf_surfaces.specs.Surface.{edge_count, face_count}
+use Rattle.surf_surfaces.specs.Cells.{cells_of}
+use Rattle.surf_surfaces.specs.Loop.{loop_length}
+use Rattle.surf_surfaces.specs.Cotree.{tree_edges, cotree_edges, left_edges, split_of, IsHeaviestCotree}
 use Rattle.surf_cotree.specs.Tables.{CotreeTables, IsMadeFor, parent_edge_of, tree_of, split_with}
 use Rattle.surf_cotree.specs.Searches.{outside, IsHeaviestTree}
 

@@ -1,7 +1,7 @@
 -- Faces that hang on the others by one edge, taken off and hung on again.
 use Rattle.std.specs.Prelude.{ℕ, zero, suc, ◌≡◌, ◌≢◌, ◌<◌, ◌≤◌, ◌&&◌, ◌==◌, Bool, true, false, not, List, length, slice_index_or, Option, Some, None}
 use Rattle.surf_z2.specs.Parity.{count_below}
-use Rattle.surf_homology.specs.Graphs.{Graph, joins}
+use Rattle.surf_graphs.specs.Graphs.{Graph, joins}
 use Rattle.surf_heap.specs.Entries.{Entries, IsEmpty}
 use Rattle.surf_cotree.specs.Tables.{nobody}
 use Rattle.surf_cotree.specs.Searches.{at, heaviest, reached, tree_of, IsPrim}

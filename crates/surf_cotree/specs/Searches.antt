@@ -1,8 +1,8 @@
 -- A search for the heaviest tree of a graph from a root, over some of its edges.
 use Rattle.std.specs.Prelude.{slice_index, ℕ, suc, ◌≡◌, ◌≢◌, ◌<◌, ◌≤◌, ◌+◌, ◌-◌, ◌⊎◌, ◌&&◌, ◌||◌, Bool, true, false, not, eqb, nat_lt, nat_le, List, length, get_or, Some}
-use Rattle.surf_homology.specs.Graphs.{Graph, joins, leaves}
-use Rattle.surf_homology.specs.Trees.{Tree, IsTree, in_tree}
-use Rattle.surf_homology.specs.Growth.{Grown, IsHeavy, between}
+use Rattle.surf_graphs.specs.Graphs.{Graph, joins, leaves}
+use Rattle.surf_graphs.specs.Trees.{Tree, IsTree, in_tree}
+use Rattle.surf_graphs.specs.Growth.{Grown, IsHeavy, between}
 use Rattle.surf_heap.specs.Entries.{Entries, entry_of}
 use Rattle.surf_cotree.specs.Tables.{nobody}
 

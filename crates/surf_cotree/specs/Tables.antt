@@ -1,9 +1,9 @@
 -- What a cotree desk shows: the tables of one tree of faces.
 use Rattle.std.specs.Prelude.{◌≡◌, ℕ, ◌+◌, ◌-◌, ◌==◌, nat_le, Bool, List, length, slice_index, Option, Some, None, if◌then◌else◌}
-use Rattle.surf_homology.specs.Cells.{Split}
-use Rattle.surf_homology.specs.Trees.{Tree}
-use Rattle.surf_complex.specs.Mesh.{Mesh}
-use Rattle.surf_complex.specs.Surface.{edge_count, face_count}
+use Rattle.surf_graphs.specs.Cells.{Split}
+use Rattle.surf_graphs.specs.Trees.{Tree}
+use Rattle.surf_surfaces.specs.Mesh.{Mesh}
+use Rattle.surf_surfaces.specs.Surface.{edge_count, face_count}
 
 -- For each edge whether the tree has it, the edges in neither tree, increasing, for each face its parent, the
 -- edge to it and the number of edges to face 0, how many left edges the signatures have room for, and for each

@@ -1,11 +1,11 @@
 //! The tables of one tree of faces.
 ghost use Rattle.std.specs.Prelude.{◌≡◌, ◌<◌, ◌≤◌, length, slice_index, slice_index_or, map, false, IfOk, Bool, ℕ, List};
 ghost use Rattle.std.specs.List.{range_with_len};
-ghost use Rattle.surf_homology.specs.Cells.{Split, IsSplit};
-ghost use Rattle.surf_homology.specs.Trees.{Tree};
-ghost use Rattle.surf_complex.specs.Cells.{cells_of};
-ghost use Rattle.surf_complex.specs.Surface.{edge_count};
-ghost use Rattle.surf_complex.specs.Signature.{edge_signature};
+ghost use Rattle.surf_graphs.specs.Cells.{Split, IsSplit};
+ghost use Rattle.surf_graphs.specs.Trees.{Tree};
+ghost use Rattle.surf_surfaces.specs.Cells.{cells_of};
+ghost use Rattle.surf_surfaces.specs.Surface.{edge_count};
+ghost use Rattle.surf_surfaces.specs.Signature.{edge_signature};
 ghost use Rattle.surf_cotree.specs.Tables.{CotreeTables, IsMadeFor, parent_edge_of, loop_count, width_for, split_with};
 ghost use Rattle.surf_cotree.specs.Searches.{at};
 ghost use Rattle.surf_cotree.specs.Grown.{MarkTree, IsGrown, IsGrownOn};
@@ -19,7 +19,7 @@ use surf_base::{EdgeId, FaceId, NoMemory};
 use surf_bits::Bits;
 use surf_heap::Heap;
 use surf_mesh::HalfMesh;
-use surf_sign::Signs;
+use surf_signatures::Signs;
 
 /// The heaviest tree of the faces outside a tree of the vertices: for each face the edge to its parent and the number of
 /// edges to face 0, for each edge whether the tree has it, the edges that are left, and the signatures of all edges.

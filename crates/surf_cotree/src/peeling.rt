@@ -1,8 +1,8 @@
 //! Takes off the faces that hang on the others by one edge, and hangs them on again.
 ghost use Rattle.std.specs.Prelude.{◌≡◌, ◌<◌, ◌≤◌, ℕ, Bool, length, IfSome};
-ghost use Rattle.surf_homology.specs.Cells.{dual};
-ghost use Rattle.surf_complex.specs.Surface.{face_count, edge_count};
-ghost use Rattle.surf_complex.specs.Cells.{cells_of};
+ghost use Rattle.surf_graphs.specs.Cells.{dual};
+ghost use Rattle.surf_surfaces.specs.Surface.{face_count, edge_count};
+ghost use Rattle.surf_surfaces.specs.Cells.{cells_of};
 ghost use Rattle.surf_cotree.specs.Searches.{outside};
 ghost use Rattle.surf_cotree.specs.Peeling.{IsOnlyEdge, IsPeeled, IsHung};
 

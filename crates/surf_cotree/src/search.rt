@@ -1,10 +1,10 @@
 //! Grows a heaviest tree of faces of a mesh from face 0.
 ghost use Rattle.std.specs.Prelude.{◌≡◌, ◌<◌, ◌≤◌, ◌&&◌, ◌-◌, ◌==◌, ℕ, true, not, length, slice_set, Some};
 ghost use Rattle.surf_z2.specs.Parity.{count_below};
-ghost use Rattle.surf_homology.specs.Graphs.{joins};
-ghost use Rattle.surf_homology.specs.Cells.{dual};
-ghost use Rattle.surf_complex.specs.Surface.{face_count, edge_count};
-ghost use Rattle.surf_complex.specs.Cells.{cells_of};
+ghost use Rattle.surf_graphs.specs.Graphs.{joins};
+ghost use Rattle.surf_graphs.specs.Cells.{dual};
+ghost use Rattle.surf_surfaces.specs.Surface.{face_count, edge_count};
+ghost use Rattle.surf_surfaces.specs.Cells.{cells_of};
 ghost use Rattle.surf_heap.specs.Entries.{entry_of, lesser, IsEmpty};
 ghost use Rattle.surf_cotree.specs.Tables.{nobody};
 ghost use Rattle.surf_cotree.specs.Searches.{at, heaviest, reached, outside, IsOffered, IsPrim, tree_of};

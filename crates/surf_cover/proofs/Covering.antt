@@ -6,14 +6,14 @@ use Rattle.std.proofs.lemmas.Simd.{map-map}
 use Rattle.std.proofs.lemmas.Nat.{div_below, div-mul-add}
 use Rattle.surf_z2.proofs.ParityLaws.{any_below-found}
 use Rattle.surf_z2.proofs.Below.{same_from, number_of-none}
-use Rattle.surf_homology.specs.Cells.{Split, IsSplit, primal, dual, signature, parts}
-use Rattle.surf_homology.specs.Graphs.{Graph, IsGraph, IsConnected, joins}
-use Rattle.surf_homology.specs.Trees.{Tree, IsTree, in_tree}
-use Rattle.surf_complex.specs.Mesh.{Mesh}
-use Rattle.surf_complex.specs.Surface.{edge_count, ends, IsSurface}
-use Rattle.surf_complex.specs.Cells.{cells_of}
-use Rattle.surf_complex.specs.Signature.{edge_signature}
-use Rattle.surf_complex.proofs.CellLaws.{ends_below}
+use Rattle.surf_graphs.specs.Cells.{Split, IsSplit, primal, dual, signature, parts}
+use Rattle.surf_graphs.specs.Graphs.{Graph, IsGraph, IsConnected, joins}
+use Rattle.surf_graphs.specs.Trees.{Tree, IsTree, in_tree}
+use Rattle.surf_surfaces.specs.Mesh.{Mesh}
+use Rattle.surf_surfaces.specs.Surface.{edge_count, ends, IsSurface}
+use Rattle.surf_surfaces.specs.Cells.{cells_of}
+use Rattle.surf_surfaces.specs.Signature.{edge_signature}
+use Rattle.surf_surfaces.proofs.CellLaws.{ends_below}
 use Rattle.surf_classes.specs.Cover.{IsSet, IsCertified}
 use Rattle.surf_classes.specs.CoverGraph.{set_count, cover, cover_node, cover_edge, cover_length}
 use Rattle.surf_classes.proofs.Covers.{is_cover, searches_certify}

@@ -4,13 +4,13 @@ use Rattle.std.specs.List.{range_with_len}
 use Rattle.std.proofs.Math.Nat.{pow-le-pow_right}
 use Rattle.std.proofs.Math.Seq.{drop-cons}
 use Rattle.std.proofs.lemmas.List.FromFn.{get_or-map-range_with_len, length-map-range_with_len}
-use Rattle.surf_homology.specs.Cells.{IsSplit}
-use Rattle.surf_homology.specs.Trees.{Tree}
-use Rattle.surf_homology.proofs.Counting.{left_edges}
-use Rattle.surf_complex.specs.Mesh.{Mesh, steps}
-use Rattle.surf_complex.specs.Surface.{edge_count, face_count}
-use Rattle.surf_complex.specs.Cells.{cells_of}
-use Rattle.surf_complex.specs.Signature.{edge_signature}
+use Rattle.surf_graphs.specs.Cells.{IsSplit}
+use Rattle.surf_graphs.specs.Trees.{Tree}
+use Rattle.surf_graphs.proofs.Counting.{left_edges}
+use Rattle.surf_surfaces.specs.Mesh.{Mesh, steps}
+use Rattle.surf_surfaces.specs.Surface.{edge_count, face_count}
+use Rattle.surf_surfaces.specs.Cells.{cells_of}
+use Rattle.surf_surfaces.specs.Signature.{edge_signature}
 use Rattle.surf_classes.specs.CoverGraph.{set_count}
 use Rattle.surf_classes.proofs.SignedSteps.{edge_set}
 use Rattle.surf_cotree.specs.Grown.{IsGrownOn}

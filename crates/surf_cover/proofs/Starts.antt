@@ -1,17 +1,17 @@
 -- The least vertex at which a round is shortest, found one vertex after the other.
 use Rattle.std.proofs.Common.{◌≡◌, ℕ, ◌+◌, ◌<◌, ◌≤◌, List, ◌∷◌, reverse, sym, ◌∙◌, subst, arith, inl, inr}
 use Rattle.std.proofs.lemmas.Bool.{cases_lt, cases_eq}
-use Rattle.surf_homology.specs.Cells.{Split, IsSplit}
-use Rattle.surf_complex.specs.Mesh.{Mesh}
-use Rattle.surf_complex.specs.Surface.{IsSurface}
-use Rattle.surf_complex.specs.Walk.{ArePositive, IsClosed, walk_length}
-use Rattle.surf_complex.specs.Cells.{cells_of}
-use Rattle.surf_complex.specs.Signature.{walk_signature}
+use Rattle.surf_graphs.specs.Cells.{Split, IsSplit}
+use Rattle.surf_surfaces.specs.Mesh.{Mesh}
+use Rattle.surf_surfaces.specs.Surface.{IsSurface}
+use Rattle.surf_surfaces.specs.Walk.{ArePositive, IsClosed, walk_length}
+use Rattle.surf_surfaces.specs.Cells.{cells_of}
+use Rattle.surf_surfaces.specs.Signature.{walk_signature}
 use Rattle.surf_classes.specs.Cover.{IsSet, IsSignedDistance, AreSignedDistances, IsLeastBase, IsReadBack}
 use Rattle.surf_classes.specs.Shortest.{IsChosenWalk}
 use Rattle.surf_classes.proofs.Reached.{signed_distances_exist}
 use Rattle.surf_classes.proofs.ReadBack.{read_back_is_chosen}
-use Rattle.surf_homology.specs.Trees.{Tree}
+use Rattle.surf_graphs.specs.Trees.{Tree}
 use Rattle.surf_cotree.specs.Tables.{CotreeTables, split_with}
 use Rattle.surf_cover.specs.Starts.{IsLeastStart}
 use Rattle.surf_cover.specs.Tables.{CoverTables, sets_of, distance_at}

@@ -1,12 +1,12 @@
 -- What a cover desk holds after it has searched from a base.
 use Rattle.std.specs.Prelude.{◌≡◌, ℕ, List, map}
 use Rattle.std.specs.List.{range_with_len}
-use Rattle.surf_homology.specs.Cells.{Split, IsSplit}
-use Rattle.surf_homology.specs.Trees.{Tree}
-use Rattle.surf_complex.specs.Mesh.{Mesh}
-use Rattle.surf_complex.specs.Surface.{edge_count}
-use Rattle.surf_complex.specs.Cells.{cells_of}
-use Rattle.surf_complex.specs.Signature.{edge_signature}
+use Rattle.surf_graphs.specs.Cells.{Split, IsSplit}
+use Rattle.surf_graphs.specs.Trees.{Tree}
+use Rattle.surf_surfaces.specs.Mesh.{Mesh}
+use Rattle.surf_surfaces.specs.Surface.{edge_count}
+use Rattle.surf_surfaces.specs.Cells.{cells_of}
+use Rattle.surf_surfaces.specs.Signature.{edge_signature}
 use Rattle.surf_classes.specs.Cover.{AreSignedDistances}
 use Rattle.surf_cotree.specs.Tables.{CotreeTables, split_with}
 use Rattle.surf_cotree.specs.Grown.{IsGrownOn}

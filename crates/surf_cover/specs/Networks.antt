@@ -1,12 +1,12 @@
 -- The cover as a search sees it: by a table that has the signatures of the edges.
 use Rattle.std.specs.Prelude.{◌≡◌, ℕ, ◌+◌, ◌*◌, ◌/◌, ◌%◌, ◌<◌, ◌≤◌, ◌==◌, List, ◌∷◌, length, slice_index, bit_xor, if◌then◌else◌}
-use Rattle.surf_homology.specs.Cells.{Split, IsSplit}
-use Rattle.surf_homology.specs.Graphs.{Graph}
-use Rattle.surf_complex.specs.Mesh.{Mesh}
-use Rattle.surf_complex.specs.Surface.{edge_count, ends, IsSurface}
-use Rattle.surf_complex.specs.Walk.{edge_length}
-use Rattle.surf_complex.specs.Cells.{cells_of}
-use Rattle.surf_complex.specs.Signature.{edge_signature}
+use Rattle.surf_graphs.specs.Cells.{Split, IsSplit}
+use Rattle.surf_graphs.specs.Graphs.{Graph}
+use Rattle.surf_surfaces.specs.Mesh.{Mesh}
+use Rattle.surf_surfaces.specs.Surface.{edge_count, ends, IsSurface}
+use Rattle.surf_surfaces.specs.Walk.{edge_length}
+use Rattle.surf_surfaces.specs.Cells.{cells_of}
+use Rattle.surf_surfaces.specs.Signature.{edge_signature}
 use Rattle.surf_classes.specs.Cover.{IsCertified, IsReadBack}
 use Rattle.surf_classes.specs.CoverGraph.{set_count}
 use Rattle.surf_net.specs.Rows.{other_of}

@@ -1,8 +1,8 @@
 -- Where a shortest walk of a class may begin.
 use Rattle.std.specs.Prelude.{◌≡◌, ℕ, ◌<◌, ◌≤◌, List}
-use Rattle.surf_homology.specs.Cells.{Split}
-use Rattle.surf_complex.specs.Mesh.{Mesh}
-use Rattle.surf_complex.specs.Walk.{walk_length}
+use Rattle.surf_graphs.specs.Cells.{Split}
+use Rattle.surf_surfaces.specs.Mesh.{Mesh}
+use Rattle.surf_surfaces.specs.Walk.{walk_length}
 use Rattle.surf_classes.specs.Cover.{IsSignedDistance}
 use Rattle.surf_classes.specs.Shortest.{IsChosenWalk}
 use Rattle.surf_cover.specs.declared.choice.ClassWalk.{ClassWalk}

@@ -1,7 +1,7 @@
 -- What a cover desk shows: for each vertex with each set of left edges a distance.
 use Rattle.std.specs.Prelude.{◌≡◌, ℕ, ◌*◌, ◌^◌, ◌<◌, ◌≤◌, List, length, slice_index}
-use Rattle.surf_complex.specs.Mesh.{Mesh}
-use Rattle.surf_complex.specs.Surface.{edge_count}
+use Rattle.surf_surfaces.specs.Mesh.{Mesh}
+use Rattle.surf_surfaces.specs.Surface.{edge_count}
 use Rattle.surf_cotree.specs.Tables.{loop_count}
 use Rattle.surf_cover.specs.Networks.{table_of}
 

@@ -1,10 +1,10 @@
 //! The shortest walk that is chosen in a class.
 ghost use Rattle.std.specs.Prelude.{◌≡◌, ◌<◌, [], ◌∷◌, length, IfOk};
-ghost use Rattle.surf_homology.specs.Cells.{IsSplit};
-ghost use Rattle.surf_homology.specs.Trees.{Tree};
-ghost use Rattle.surf_complex.specs.Cells.{cells_of};
-ghost use Rattle.surf_complex.specs.Surface.{edge_count};
-ghost use Rattle.surf_complex.specs.Walk.{IsClosed};
+ghost use Rattle.surf_graphs.specs.Cells.{IsSplit};
+ghost use Rattle.surf_graphs.specs.Trees.{Tree};
+ghost use Rattle.surf_surfaces.specs.Cells.{cells_of};
+ghost use Rattle.surf_surfaces.specs.Surface.{edge_count};
+ghost use Rattle.surf_surfaces.specs.Walk.{IsClosed};
 ghost use Rattle.surf_cotree.specs.Tables.{split_with};
 ghost use Rattle.surf_cover.specs.Tables.{IsSmall, IsMadeFor, sets_of};
 ghost use Rattle.surf_cover.specs.Grown.{IsSigned};

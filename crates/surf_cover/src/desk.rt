@@ -1,7 +1,7 @@
 //! The distances over the cover from one base.
 ghost use Rattle.std.specs.Prelude.{◌≡◌, ◌<◌, length, IfOk};
-ghost use Rattle.surf_homology.specs.Cells.{Split};
-ghost use Rattle.surf_complex.specs.Surface.{edge_count};
+ghost use Rattle.surf_graphs.specs.Cells.{Split};
+ghost use Rattle.surf_surfaces.specs.Surface.{edge_count};
 ghost use Rattle.surf_cover.specs.Networks.{IsCertifiedBy, IsReadOff};
 ghost use Rattle.surf_cover.specs.Tables.{IsSmall, IsMadeFor, AreShort, distance_at};
 ghost use Rattle.surf_cover.specs.Grown.{IsSigned, IsGrown};

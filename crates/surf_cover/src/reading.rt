@@ -1,7 +1,7 @@
 //! Reads a shortest round back off distances over the cover.
 ghost use Rattle.std.specs.Prelude.{◌≡◌, ◌<◌, ◌*◌, ◌^◌, ℕ, [], length, slice_index, OnOk};
-ghost use Rattle.surf_homology.specs.Cells.{Split};
-ghost use Rattle.surf_complex.specs.Walk.{ArePositive};
+ghost use Rattle.surf_graphs.specs.Cells.{Split};
+ghost use Rattle.surf_surfaces.specs.Walk.{ArePositive};
 ghost use Rattle.surf_cover.specs.Networks.{IsCoverable, IsCertifiedBy, IsReadOff};
 
 use crate::network::CoverNetwork;

@@ -3,13 +3,13 @@ use Rattle.std.proofs.Common.{◌≡◌, ℕ, ◌+◌, ◌-◌, ◌<◌, ◌⊎�
 use Rattle.std.specs.List.{flat_map}
 use Rattle.std.proofs.lemmas.List.{get_or-map, length-map}
 use Rattle.std.proofs.lemmas.List.Concat.{length-flat_map, get_or-flat_map}
-use Rattle.surf_complex.specs.Disc.{IsDisc, IsBorderEdge, ShareOnBorder}
-use Rattle.surf_complex.specs.Joined.{Joined, here, over}
-use Rattle.surf_complex.specs.Mesh.{Mesh, IsMesh, pair, pair_of, sides}
-use Rattle.surf_complex.specs.Side.{after}
-use Rattle.surf_complex.specs.Surface.{face_count, face_at, ends, faces_with, HasEdge}
-use Rattle.surf_complex.proofs.CountLaws.{length-sides}
-use Rattle.surf_complex.proofs.SideLaws.{sides_are_by_place, side_place}
+use Rattle.surf_surfaces.specs.Disc.{IsDisc, IsBorderEdge, ShareOnBorder}
+use Rattle.surf_surfaces.specs.Joined.{Joined, here, over}
+use Rattle.surf_surfaces.specs.Mesh.{Mesh, IsMesh, pair, pair_of, sides}
+use Rattle.surf_surfaces.specs.Side.{after}
+use Rattle.surf_surfaces.specs.Surface.{face_count, face_at, ends, faces_with, HasEdge}
+use Rattle.surf_surfaces.proofs.CountLaws.{length-sides}
+use Rattle.surf_surfaces.proofs.SideLaws.{sides_are_by_place, side_place}
 use Rattle.surf_opening.proofs.Edges.{edge_of, face_of}
 use Rattle.surf_opening.proofs.MeshSides.{same_face}
 use Rattle.surf_opening.proofs.Polygons.{pair_is}

@@ -6,12 +6,12 @@ use Rattle.std.proofs.lemmas.List.{length_push, get_or_push, get_or_append_left}
 use Rattle.std.proofs.lemmas.List.Elements.{All-from_recursion, All-from_get_or, recursion_from_All}
 use Rattle.std.proofs.lemmas.List.FromFn.{length-map-range_with_len, get_or-map-range_with_len}
 use Rattle.std.proofs.Math.Seq.{take-length}
-use Rattle.surf_complex.specs.Disc.{IsDisc}
-use Rattle.surf_complex.specs.Mesh.{Mesh, IsMesh}
-use Rattle.surf_complex.specs.Side.{after}
-use Rattle.surf_complex.specs.Surface.{face_at, ends}
-use Rattle.surf_complex.proofs.EdgeLaws.{list_any_at}
-use Rattle.surf_complex.proofs.SideLaws.{after-below}
+use Rattle.surf_surfaces.specs.Disc.{IsDisc}
+use Rattle.surf_surfaces.specs.Mesh.{Mesh, IsMesh}
+use Rattle.surf_surfaces.specs.Side.{after}
+use Rattle.surf_surfaces.specs.Surface.{face_at, ends}
+use Rattle.surf_surfaces.proofs.EdgeLaws.{list_any_at}
+use Rattle.surf_surfaces.proofs.SideLaws.{after-below}
 use Rattle.surf_opening.proofs.Edges.{edge_one}
 use Rattle.surf_rows.specs.Groups.{has_key, group_of}
 use Rattle.surf_mesh.specs.Half.{IsEdgeOf}

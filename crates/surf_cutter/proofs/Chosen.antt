@@ -1,10 +1,10 @@
 -- What is opened along the full cut, or the trimmed one, is the chosen opening.
 use Rattle.std.proofs.Common.{◌≡◌, ℕ, ◌+◌, not, sym, ap, ◌∙◌, List, length, Bool, true, false, arith}
-use Rattle.surf_homology.specs.Trees.{Tree}
-use Rattle.surf_complex.specs.Cotree.{cotree_edges}
-use Rattle.surf_complex.specs.Disc.{IsOpening}
-use Rattle.surf_complex.specs.Mesh.{Mesh}
-use Rattle.surf_complex.specs.Surface.{face_count, edge_count, IsSurface}
+use Rattle.surf_graphs.specs.Trees.{Tree}
+use Rattle.surf_surfaces.specs.Cotree.{cotree_edges}
+use Rattle.surf_surfaces.specs.Disc.{IsOpening}
+use Rattle.surf_surfaces.specs.Mesh.{Mesh}
+use Rattle.surf_surfaces.specs.Surface.{face_count, edge_count, IsSurface}
 use Rattle.surf_opening.specs.ChosenCut.{AreDivided}
 use Rattle.surf_opening.specs.Laws.{AreInOrder, TellsCut}
 use Rattle.surf_opening.specs.Named.{whole}

@@ -3,11 +3,11 @@ use Rattle.std.proofs.Common.{◌≡◌, ℕ, ◌+◌, ◌<◌, ◌↔◌, inl, 
 use Rattle.std.specs.List.{sum_by}
 use Rattle.std.proofs.lemmas.List.Sums.{sum_by_more}
 use Rattle.std.proofs.Math.Seq.{take-length}
-use Rattle.surf_complex.specs.Disc.{IsDisc}
-use Rattle.surf_complex.specs.Joined.{here}
-use Rattle.surf_complex.specs.Mesh.{Mesh, pair}
-use Rattle.surf_complex.specs.Side.{after}
-use Rattle.surf_complex.specs.Surface.{face_count, face_at, ends, faces_with, HasEdge, IsSurface}
+use Rattle.surf_surfaces.specs.Disc.{IsDisc}
+use Rattle.surf_surfaces.specs.Joined.{here}
+use Rattle.surf_surfaces.specs.Mesh.{Mesh, pair}
+use Rattle.surf_surfaces.specs.Side.{after}
+use Rattle.surf_surfaces.specs.Surface.{face_count, face_at, ends, faces_with, HasEdge, IsSurface}
 use Rattle.surf_opening.specs.Opening.{corner_of, IsOpenedBy, IsOpenedAlong}
 use Rattle.surf_opening.specs.Rim.{along, back, IsPaired}
 use Rattle.surf_opening.specs.Side.{Side, IsPlace}

@@ -6,9 +6,9 @@ use Rattle.std.proofs.lemmas.List.{get_or_default, same_lists, length_push, get_
 use Rattle.std.proofs.lemmas.List.Elements.{All-from_recursion}
 use Rattle.std.proofs.lemmas.List.FromFn.{length-range_with_len, get_or-range_with_len}
 use Rattle.std.proofs.Math.Seq.{take-length}
-use Rattle.surf_complex.specs.Mesh.{Mesh}
-use Rattle.surf_complex.specs.Surface.{face_count, face_at, IsSurface}
-use Rattle.surf_complex.proofs.EdgeLaws.{list_any_at, list_any_from}
+use Rattle.surf_surfaces.specs.Mesh.{Mesh}
+use Rattle.surf_surfaces.specs.Surface.{face_count, face_at, IsSurface}
+use Rattle.surf_surfaces.proofs.EdgeLaws.{list_any_at, list_any_from}
 use Rattle.surf_rows.specs.Groups.{group_of}
 use Rattle.surf_mesh.specs.Order.{by_key}
 use Rattle.surf_mesh.specs.Sides.{side_count}

@@ -6,10 +6,10 @@ use Rattle.std.proofs.lemmas.List.{get_or-set_same, get_or-set_other, length-set
 use Rattle.surf_z2.specs.Parity.{count_below}
 use Rattle.surf_z2.specs.Space.{Chain}
 use Rattle.surf_z2.proofs.Sums.{count_below-same, count_below-without}
-use Rattle.surf_complex.specs.Mesh.{Mesh, pair}
-use Rattle.surf_complex.specs.Surface.{edge_count, ends, touches, IsSurface}
-use Rattle.surf_complex.proofs.CellLaws.{ends_below}
-use Rattle.surf_complex.proofs.FaceLaws.{pair_comm}
+use Rattle.surf_surfaces.specs.Mesh.{Mesh, pair}
+use Rattle.surf_surfaces.specs.Surface.{edge_count, ends, touches, IsSurface}
+use Rattle.surf_surfaces.proofs.CellLaws.{ends_below}
+use Rattle.surf_surfaces.proofs.FaceLaws.{pair_comm}
 use Rattle.surf_opening.specs.Laws.{TellsCut, cut_count, cut_degree, without}
 use Rattle.surf_opening.proofs.Cotrees.{ends_pair}
 use Rattle.surf_opening.proofs.CutCounts.{trimming_by_greatest_goes_on}

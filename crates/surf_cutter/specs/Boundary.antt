@@ -1,8 +1,8 @@
 -- The border of a disc, listed in one round.
 use Rattle.std.specs.Prelude.{◌≡◌, ◌≢◌, ℕ, ◌+◌, ◌-◌, ◌<◌, ◌≤◌, ◌⊎◌, Bool, true, false, List, [], length, slice_index, slice_index_or}
 use Rattle.std.specs.List.{flat_map}
-use Rattle.surf_complex.specs.Mesh.{Mesh, sides}
-use Rattle.surf_complex.specs.Surface.{faces_with}
+use Rattle.surf_surfaces.specs.Mesh.{Mesh, sides}
+use Rattle.surf_surfaces.specs.Surface.{faces_with}
 use Rattle.surf_opening.specs.Laws.{TellsCut}
 use Rattle.surf_opening.specs.Side.{Side}
 use Rattle.surf_opening.specs.Uncut.{IsDualTree, IsTrimmed}

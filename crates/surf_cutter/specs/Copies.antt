@@ -1,7 +1,7 @@
 -- Labels of corners numbered in the order in which a list meets them.
 use Rattle.std.specs.Prelude.{◌≡◌, ◌≢◌, ℕ, ◌+◌, ◌<◌, ◌≤◌, ◌⊎◌, List, [], length, slice_index, slice_index_or}
-use Rattle.surf_complex.specs.Mesh.{Mesh}
-use Rattle.surf_complex.specs.Surface.{face_at}
+use Rattle.surf_surfaces.specs.Mesh.{Mesh}
+use Rattle.surf_surfaces.specs.Surface.{face_at}
 use Rattle.surf_mesh.specs.Half.{first_side}
 use Rattle.surf_mesh.specs.Sides.{side_count}
 use Rattle.surf_slit.specs.Labels.{corner_at}

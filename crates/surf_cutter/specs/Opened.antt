@@ -1,11 +1,11 @@
 -- Opened surfaces, and which cuts open a surface.
 use Rattle.std.specs.Prelude.{◌≡◌, ℕ, ◌+◌, ◌<◌, ◌≤◌, ◌^◌, List, Bool, false, not, length, take, slice_index, slice_index_or}
 use Rattle.std.specs.List.{sum_by}
-use Rattle.surf_homology.specs.Trees.{Tree}
-use Rattle.surf_complex.specs.Cotree.{cotree_edges}
-use Rattle.surf_complex.specs.Disc.{IsDisc}
-use Rattle.surf_complex.specs.Mesh.{Mesh}
-use Rattle.surf_complex.specs.Surface.{edge_count}
+use Rattle.surf_graphs.specs.Trees.{Tree}
+use Rattle.surf_surfaces.specs.Cotree.{cotree_edges}
+use Rattle.surf_surfaces.specs.Disc.{IsDisc}
+use Rattle.surf_surfaces.specs.Mesh.{Mesh}
+use Rattle.surf_surfaces.specs.Surface.{edge_count}
 use Rattle.surf_opening.specs.ChosenCut.{AreDivided, IsChosenOpening}
 use Rattle.surf_opening.specs.Laws.{AreInOrder}
 use Rattle.surf_opening.specs.Opening.{IsOpenedBy}

@@ -2,8 +2,8 @@
 use Rattle.std.specs.Prelude.{◌≡◌, ◌≢◌, ℕ, ◌<◌, ◌≤◌, ◌⊎◌, ◌&&◌, Bool, true, false, List, length, slice_index, slice_index_or, slice_set}
 use Rattle.surf_z2.specs.Parity.{count_below}
 use Rattle.surf_z2.specs.Space.{Chain}
-use Rattle.surf_complex.specs.Mesh.{Mesh, pair}
-use Rattle.surf_complex.specs.Surface.{edge_count, ends, touches}
+use Rattle.surf_surfaces.specs.Mesh.{Mesh, pair}
+use Rattle.surf_surfaces.specs.Surface.{edge_count, ends, touches}
 use Rattle.surf_opening.specs.Laws.{TellsCut, cut_count, cut_degree}
 use Rattle.surf_opening.specs.Named.{IsTrimmedByGreatest}
 use Rattle.surf_opening.specs.Side.{Side}

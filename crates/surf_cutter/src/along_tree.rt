@@ -1,7 +1,7 @@
 //! Cutting along the edges that a desk's tree of the faces doesn't hold.
 ghost use Rattle.std.specs.Prelude.{◌≡◌, ◌+◌, ◌<◌, ℕ, true, false, length, IfOk, slice_index_or};
-ghost use Rattle.surf_complex.specs.Disc.{IsOpening};
-ghost use Rattle.surf_complex.specs.Surface.{edge_count, face_count};
+ghost use Rattle.surf_surfaces.specs.Disc.{IsOpening};
+ghost use Rattle.surf_surfaces.specs.Surface.{edge_count, face_count};
 ghost use Rattle.surf_cutter.specs.Opened.{IsHeld, IsChosenFor};
 
 use crate::{Opened, open_full, open_trimmed};

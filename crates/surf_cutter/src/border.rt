@@ -1,9 +1,9 @@
 //! The border of an opened surface, in one round.
 ghost use Rattle.std.specs.Prelude.{◌≡◌, ◌≢◌, ◌<◌, ◌+◌, ◌^◌, ◌⊎◌, ℕ, List, length, IfOk, OnOk, MatchOption, slice_index};
 ghost use Rattle.std.specs.List.{sum_by};
-ghost use Rattle.surf_complex.specs.Disc.{IsDisc};
-ghost use Rattle.surf_complex.specs.Side.{after};
-ghost use Rattle.surf_complex.specs.Surface.{edge_count};
+ghost use Rattle.surf_surfaces.specs.Disc.{IsDisc};
+ghost use Rattle.surf_surfaces.specs.Side.{after};
+ghost use Rattle.surf_surfaces.specs.Surface.{edge_count};
 ghost use Rattle.surf_opening.specs.Opening.{IsOpenedBy};
 ghost use Rattle.surf_mesh.specs.Sides.{side_count};
 ghost use Rattle.surf_slit.specs.Labels.{IsUncut};

@@ -1,7 +1,7 @@
 //! Cutting a surface open along the edges outside a tree of its faces.
 ghost use Rattle.std.specs.Prelude.{◌≡◌, ◌+◌, ◌<◌, ℕ, true, false, length, IfOk, slice_index};
-ghost use Rattle.surf_complex.specs.Disc.{IsOpening};
-ghost use Rattle.surf_complex.specs.Surface.{edge_count, face_count};
+ghost use Rattle.surf_surfaces.specs.Disc.{IsOpening};
+ghost use Rattle.surf_surfaces.specs.Surface.{edge_count, face_count};
 ghost use Rattle.surf_cutter.specs.Boundary.{IsFullCut, OpensToDisc};
 ghost use Rattle.surf_cutter.specs.Trimming.{IsTrimmedFrom, HasEndedBy};
 ghost use Rattle.surf_cutter.specs.Opened.{IsOpenedInOrder, IsHeld, IsChosenFor, AreTurnedOver};

@@ -1,8 +1,8 @@
 //! The opened surface.
 ghost use Rattle.std.specs.Prelude.{◌≡◌, ◌<◌, ◌≤◌, ◌+◌, ◌^◌, ℕ, List, [], length, take, IfOk, slice_index, slice_index_or};
 ghost use Rattle.std.specs.List.{flat_map, sum_by};
-ghost use Rattle.surf_complex.specs.Disc.{IsDisc};
-ghost use Rattle.surf_complex.specs.Surface.{edge_count};
+ghost use Rattle.surf_surfaces.specs.Disc.{IsDisc};
+ghost use Rattle.surf_surfaces.specs.Surface.{edge_count};
 ghost use Rattle.surf_cutter.specs.Boundary.{IsBoundary};
 ghost use Rattle.surf_cutter.specs.Opened.{mesh_of, AreStarts};
 

@@ -4,9 +4,9 @@ use Rattle.std.specs.List.{range_with_len}
 use Rattle.std.proofs.lemmas.Bool.{cases_eq, cases_Bool, eq-eqb, eqb-true, ne_eqb}
 use Rattle.std.proofs.lemmas.List.{get_or_push, get_or_append_left, get_or_read, length_push}
 use Rattle.std.proofs.lemmas.List.FromFn.{length-range_with_len, get_or-range_with_len}
-use Rattle.surf_complex.specs.Mesh.{Mesh, IsMesh, pair_eq}
-use Rattle.surf_complex.proofs.PairLaws.{pair_eq-self}
-use Rattle.surf_complex.proofs.EdgeLaws.{list_any_at}
+use Rattle.surf_surfaces.specs.Mesh.{Mesh, IsMesh, pair_eq}
+use Rattle.surf_surfaces.proofs.PairLaws.{pair_eq-self}
+use Rattle.surf_surfaces.proofs.EdgeLaws.{list_any_at}
 use Rattle.surf_mesh.specs.EdgeTable.{IsEdgeTable}
 use Rattle.surf_mesh.specs.Sides.{side_count, pair_at, sides_with}
 use Rattle.surf_mesh.proofs.Mates.{member_filter, with_pair}

@@ -3,10 +3,10 @@ use Rattle.std.proofs.Common.{◌≡◌, ◌≢◌, ℕ, ◌+◌, ◌-◌, ◌<�
 use Rattle.std.specs.List.{All}
 use Rattle.std.proofs.lemmas.Bool.{true≢false, cases_eq, cases_lt}
 use Rattle.std.proofs.lemmas.List.{get_or_default, get_or_past}
-use Rattle.surf_complex.specs.Joined.{Joined, here, over}
-use Rattle.surf_complex.proofs.JoinedLaws.{joined_lift}
-use Rattle.surf_complex.specs.Mesh.{Mesh}
-use Rattle.surf_complex.specs.Surface.{face_count, face_at, has_side, Share, IsConnected}
+use Rattle.surf_surfaces.specs.Joined.{Joined, here, over}
+use Rattle.surf_surfaces.proofs.JoinedLaws.{joined_lift}
+use Rattle.surf_surfaces.specs.Mesh.{Mesh}
+use Rattle.surf_surfaces.specs.Surface.{face_count, face_at, has_side, Share, IsConnected}
 use Rattle.surf_mesh.specs.Apart.{AreAcross, IsLeastApart}
 use Rattle.surf_mesh.specs.Half.{first_side, IsFaceOf}
 use Rattle.surf_mesh.specs.Reach.{Leads, marked, IsReach}

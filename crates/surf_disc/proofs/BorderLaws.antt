@@ -5,14 +5,14 @@ use Rattle.std.proofs.lemmas.Bool.{true≢false, cases_eq, cases_lt, eq-eqb, eqb
 use Rattle.std.proofs.lemmas.Grind.{flat_map-append}
 use Rattle.std.proofs.lemmas.List.{append_assoc, append-nil, get_or_push, get_or_append_left, get_or_default, get_or_past, length-map, length_push, take_more}
 use Rattle.std.proofs.lemmas.List.Concat.{flat_map-cons}
-use Rattle.surf_complex.specs.Disc.{IsBorderEdge, ShareOnBorder}
-use Rattle.surf_complex.specs.Joined.{Joined, here, over}
-use Rattle.surf_complex.specs.Mesh.{Mesh, IsMesh, pair, edges}
-use Rattle.surf_complex.specs.Surface.{ends, faces_with}
-use Rattle.surf_complex.specs.Walk.{place_of}
-use Rattle.surf_complex.proofs.EdgeLaws.{list_any_at, list_any_from, list_any-append, list_any-flat_map, place_of-among}
-use Rattle.surf_complex.proofs.FaceLaws.{pair_comm}
-use Rattle.surf_complex.proofs.JoinedLaws.{joined_trans, joined_closed}
+use Rattle.surf_surfaces.specs.Disc.{IsBorderEdge, ShareOnBorder}
+use Rattle.surf_surfaces.specs.Joined.{Joined, here, over}
+use Rattle.surf_surfaces.specs.Mesh.{Mesh, IsMesh, pair, edges}
+use Rattle.surf_surfaces.specs.Surface.{ends, faces_with}
+use Rattle.surf_surfaces.specs.Walk.{place_of}
+use Rattle.surf_surfaces.proofs.EdgeLaws.{list_any_at, list_any_from, list_any-append, list_any-flat_map, place_of-among}
+use Rattle.surf_surfaces.proofs.FaceLaws.{pair_comm}
+use Rattle.surf_surfaces.proofs.JoinedLaws.{joined_trans, joined_closed}
 use Rattle.surf_mesh.specs.Reach.{Leads, marked, IsReach}
 use Rattle.surf_mesh.specs.Ring.{BeginsAt}
 use Rattle.surf_mesh.specs.Sides.{side_count, pair_at, sides_with, owners}

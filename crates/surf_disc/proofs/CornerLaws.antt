@@ -3,11 +3,11 @@ use Rattle.std.proofs.Common.{◌≡◌, ℕ, ◌-◌, ◌<◌, ◌⊎◌, List,
 use Rattle.std.specs.List.{All}
 use Rattle.std.proofs.lemmas.Bool.{cases_eq, eq-eqb, ne_eqb}
 use Rattle.std.proofs.lemmas.List.{get_or_default}
-use Rattle.surf_complex.specs.Mesh.{Mesh, IsMesh, pair}
-use Rattle.surf_complex.specs.Side.{after, before, corner}
-use Rattle.surf_complex.specs.Surface.{face_at, HasEdge, ShareAt}
-use Rattle.surf_complex.proofs.SideLaws.{pair_ends, after-below, before-below, after-before, before-after}
-use Rattle.surf_complex.proofs.FaceLaws.{pair_comm}
+use Rattle.surf_surfaces.specs.Mesh.{Mesh, IsMesh, pair}
+use Rattle.surf_surfaces.specs.Side.{after, before, corner}
+use Rattle.surf_surfaces.specs.Surface.{face_at, HasEdge, ShareAt}
+use Rattle.surf_surfaces.proofs.SideLaws.{pair_ends, after-below, before-below, after-before, before-after}
+use Rattle.surf_surfaces.proofs.FaceLaws.{pair_comm}
 use Rattle.surf_mesh.specs.Sides.{side_count, pair_at, owners}
 use Rattle.surf_mesh.specs.Half.{first_side, IsFaceOf}
 use Rattle.surf_mesh.specs.Ring.{BeginsAt}

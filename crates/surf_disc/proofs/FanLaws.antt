@@ -1,10 +1,10 @@
 -- Where all corners of a vertex are marked it has one fan, and the first that isn't is a pinch.
 use Rattle.std.proofs.Common.{◌≡◌, ℕ, ◌+◌, ◌<◌, ◌≤◌, Bool, true, false, List, length, get_or, sym, ap, subst, ◌∙◌, arith, inl, inr}
 use Rattle.std.proofs.lemmas.Bool.{true≢false, cases_eq}
-use Rattle.surf_complex.specs.Joined.{Joined}
-use Rattle.surf_complex.proofs.JoinedLaws.{joined_trans, joined_sym}
-use Rattle.surf_complex.specs.Mesh.{Mesh}
-use Rattle.surf_complex.specs.Surface.{HasCorner, ShareAt, HasOneFan}
+use Rattle.surf_surfaces.specs.Joined.{Joined}
+use Rattle.surf_surfaces.proofs.JoinedLaws.{joined_trans, joined_sym}
+use Rattle.surf_surfaces.specs.Mesh.{Mesh}
+use Rattle.surf_surfaces.specs.Surface.{HasCorner, ShareAt, HasOneFan}
 use Rattle.surf_mesh.specs.Half.{IsFaceOf}
 use Rattle.surf_mesh.specs.Reach.{marked}
 use Rattle.surf_mesh.specs.Ring.{IsPinch, IsLeastPinch}

@@ -7,10 +7,10 @@ use Rattle.std.proofs.lemmas.List.Sums.{sum_by_push, sum_by-cons}
 use Rattle.std.proofs.lemmas.List.Concat.{length-flat_map}
 use Rattle.std.proofs.lemmas.List.Folds.{flat_map-map}
 use Rattle.std.proofs.lemmas.List.FromFn.{length-range_with_len}
-use Rattle.surf_complex.specs.Joined.{Joined, here, over}
-use Rattle.surf_complex.proofs.JoinedLaws.{joined_trans, joined_closed}
-use Rattle.surf_complex.specs.Mesh.{Mesh, IsMesh}
-use Rattle.surf_complex.specs.Surface.{ShareAt}
+use Rattle.surf_surfaces.specs.Joined.{Joined, here, over}
+use Rattle.surf_surfaces.proofs.JoinedLaws.{joined_trans, joined_closed}
+use Rattle.surf_surfaces.specs.Mesh.{Mesh, IsMesh}
+use Rattle.surf_surfaces.specs.Surface.{ShareAt}
 use Rattle.surf_rows.specs.Groups.{group_of}
 use Rattle.surf_mesh.specs.Half.{IsFaceOf}
 use Rattle.surf_mesh.specs.Reach.{Leads, marked, IsReach}
@@ -192,7 +192,7 @@ module _ (mesh : Mesh) (is_mesh : IsMesh mesh) (next prev across : List ℕ)
         let lt = side_in mesh is_mesh next prev across tables s side b.0 at in
         let r = side_pair_at mesh is_mesh next prev across tables s side b.0 at in
         let o = over_is mesh is_mesh next prev across tables v r.0 side lt
-        (r.1 ∙ ap (λ x. Rattle.surf_complex.specs.Mesh.pair x r.0) b.1) in (
+        (r.1 ∙ ap (λ x. Rattle.surf_surfaces.specs.Mesh.pair x r.0) b.1) in (
           subst B same o.begins,
           λ f g p q.
               (over_shares mesh is_mesh next prev across tables v s side f g b at p (subst (F g) (sym same) q)).1,

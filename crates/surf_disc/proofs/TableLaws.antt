@@ -4,10 +4,10 @@ use Rattle.std.specs.List.{count_by}
 use Rattle.std.proofs.lemmas.Bool.{true≢false, cases_Bool}
 use Rattle.std.proofs.lemmas.List.{length-map}
 use Rattle.std.proofs.lemmas.List.Sums.{sum_by-cons}
-use Rattle.surf_complex.specs.Disc.{IsBorderEdge, ShareOnBorder}
-use Rattle.surf_complex.specs.Mesh.{Mesh, IsMesh, pair_lt, pair_eq, insert_pair, sorted_pairs, edges}
-use Rattle.surf_complex.specs.Surface.{edge_count, ends, faces_with}
-use Rattle.surf_complex.proofs.JoinedLaws.{joined_trans, joined_sym}
+use Rattle.surf_surfaces.specs.Disc.{IsBorderEdge, ShareOnBorder}
+use Rattle.surf_surfaces.specs.Mesh.{Mesh, IsMesh, pair_lt, pair_eq, insert_pair, sorted_pairs, edges}
+use Rattle.surf_surfaces.specs.Surface.{edge_count, ends, faces_with}
+use Rattle.surf_surfaces.proofs.JoinedLaws.{joined_trans, joined_sym}
 use Rattle.surf_mesh.specs.EdgeTable.{IsEdgeTable}
 use Rattle.surf_mesh.specs.Pairs.{NoneWithin, IsFirstWithin, degree}
 use Rattle.surf_mesh.specs.Reach.{marked}
@@ -138,7 +138,7 @@ module _ (mesh : Mesh) (is_mesh : IsMesh mesh) (edge_list : List (ℕ × ℕ)) (
         }
 
     joined_if : AllInside rows edge_list seen (length rows) → (h : ℕ) → IsBorderEdge mesh h →
-        Rattle.surf_complex.specs.Joined.Joined (ShareOnBorder mesh) e h
+        Rattle.surf_surfaces.specs.Joined.Joined (ShareOnBorder mesh) e h
     joined_if all h is = let n = table_len in let lt = is.0 in marks.sound h is
         (sym (listed_end h) ∙ all h (omega arith) (single_row h is))
 

@@ -1,7 +1,7 @@
 -- What lies across a side: the other side of its edge, or the side itself where it has no other.
 use Rattle.std.specs.Prelude.{◌≡◌, ℕ, ◌-◌, ◌<◌, ◌≤◌, ◌==◌, ◌⊎◌, if◌then◌else◌, List, length, get_or}
-use Rattle.surf_complex.specs.Mesh.{Mesh}
-use Rattle.surf_complex.specs.Surface.{edge_count}
+use Rattle.surf_surfaces.specs.Mesh.{Mesh}
+use Rattle.surf_surfaces.specs.Surface.{edge_count}
 use Rattle.surf_mesh.specs.Pairs.{degree}
 use Rattle.surf_mesh.specs.Sides.{side_count, pair_at}
 

@@ -1,10 +1,10 @@
 -- The border of a mesh: its edges with one face.
 use Rattle.std.specs.Prelude.{◌≡◌, ℕ, ◌<◌, ◌==◌, if◌then◌else◌, Bool, true, false, List, [], ◌∷◌, ◌++◌, length, get_or, count_by}
 use Rattle.std.specs.List.{flat_map}
-use Rattle.surf_complex.specs.Joined.{Joined}
-use Rattle.surf_complex.specs.Mesh.{Mesh, pair, edges}
-use Rattle.surf_complex.specs.Surface.{ends, faces_with}
-use Rattle.surf_complex.specs.Disc.{IsBorderEdge, ShareOnBorder}
+use Rattle.surf_surfaces.specs.Joined.{Joined}
+use Rattle.surf_surfaces.specs.Mesh.{Mesh, pair, edges}
+use Rattle.surf_surfaces.specs.Surface.{ends, faces_with}
+use Rattle.surf_surfaces.specs.Disc.{IsBorderEdge, ShareOnBorder}
 use Rattle.surf_mesh.specs.Reach.{marked}
 use Rattle.surf_mesh.specs.Vertices.{sides_at}
 

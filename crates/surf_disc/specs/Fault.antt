@@ -1,8 +1,8 @@
 -- Why a mesh is no disc.
 use Rattle.std.specs.Prelude.{◌≡◌, ◌≢◌, ℕ, ◌+◌, ◌<◌, ◌≤◌, List, length, take}
-use Rattle.surf_complex.specs.Disc.{IsBorderEdge}
-use Rattle.surf_complex.specs.Mesh.{Mesh}
-use Rattle.surf_complex.specs.Surface.{face_count, edge_count, ends, faces_with, HasOneFan, IsConnected}
+use Rattle.surf_surfaces.specs.Disc.{IsBorderEdge}
+use Rattle.surf_surfaces.specs.Mesh.{Mesh}
+use Rattle.surf_surfaces.specs.Surface.{face_count, edge_count, ends, faces_with, HasOneFan, IsConnected}
 use Rattle.surf_mesh.specs.Pairs.{degree}
 use Rattle.surf_mesh.specs.Vertices.{AllMet, IsLeastIsolated}
 use Rattle.surf_mesh.specs.Ring.{IsLeastPinch}

@@ -1,10 +1,10 @@
 -- Corners at one vertex, joined across the sides that end there. A corner has the number of the side that begins at it.
 use Rattle.std.specs.Prelude.{◌≡◌, ℕ, ◌*◌, ◌<◌, ◌==◌, if◌then◌else◌, Bool, true, List, [], ◌∷◌, length, get_or}
 use Rattle.std.specs.List.{sum_by}
-use Rattle.surf_complex.specs.Joined.{Joined}
-use Rattle.surf_complex.specs.Mesh.{Mesh}
-use Rattle.surf_complex.specs.Side.{after, before}
-use Rattle.surf_complex.specs.Surface.{face_count, ShareAt}
+use Rattle.surf_surfaces.specs.Joined.{Joined}
+use Rattle.surf_surfaces.specs.Mesh.{Mesh}
+use Rattle.surf_surfaces.specs.Side.{after, before}
+use Rattle.surf_surfaces.specs.Surface.{face_count, ShareAt}
 use Rattle.surf_mesh.specs.Half.{IsFaceOf}
 use Rattle.surf_mesh.specs.Reach.{marked}
 use Rattle.surf_mesh.specs.Ring.{AreTurned, BeginsAt}

@@ -1,6 +1,6 @@
 //! Whether the faces are connected across their sides.
 ghost use Rattle.std.specs.Prelude.{◌≡◌, ◌<◌, ◌≤◌, ◌+◌, ℕ, length, All, OnOk, IfOk, IfErr, slice_index};
-ghost use Rattle.surf_complex.specs.Surface.{face_count, IsConnected};
+ghost use Rattle.surf_surfaces.specs.Surface.{face_count, IsConnected};
 ghost use Rattle.surf_mesh.specs.Apart.{AreAcross};
 ghost use Rattle.surf_mesh.specs.Sides.{side_count, owners};
 ghost use Rattle.surf_mesh.specs.Vertices.{AllMet};

@@ -1,7 +1,7 @@
 //! The border: the edges with one face, and whether they are one cycle.
 ghost use Rattle.std.specs.Prelude.{◌≡◌, ◌<◌, ◌==◌, ◌^◌, ℕ, length, map, All, OnOk, IfOk, IfErr, MatchOption, slice_index, slice_index_or, [], true, false, count_by};
 ghost use Rattle.std.specs.List.{range_with_len, flat_map};
-ghost use Rattle.surf_complex.specs.Disc.{IsBorderEdge};
+ghost use Rattle.surf_surfaces.specs.Disc.{IsBorderEdge};
 ghost use Rattle.surf_mesh.specs.EdgeTable.{IsEdgeTable};
 ghost use Rattle.surf_mesh.specs.Reach.{marked};
 ghost use Rattle.surf_mesh.specs.Vertices.{all_corners, sides_at};

@@ -1,8 +1,8 @@
 //! The check of a disc, by its faults in their order.
 ghost use Rattle.std.specs.Prelude.{◌≡◌, ◌+◌, ◌<◌, ℕ, map, OnOk, IfOk, IfErr};
 ghost use Rattle.std.specs.List.{range_with_len};
-ghost use Rattle.surf_complex.specs.Disc.{IsDisc, IsBorderEdge};
-ghost use Rattle.surf_complex.specs.Surface.{face_count, edge_count};
+ghost use Rattle.surf_surfaces.specs.Disc.{IsDisc, IsBorderEdge};
+ghost use Rattle.surf_surfaces.specs.Surface.{face_count, edge_count};
 ghost use Rattle.surf_mesh.specs.EdgeTable.{IsEdgeTable};
 ghost use Rattle.surf_mesh.specs.Pairs.{IsFirstWithin};
 ghost use Rattle.surf_mesh.specs.Vertices.{sides_at, AllMet};

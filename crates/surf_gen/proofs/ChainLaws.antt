@@ -7,8 +7,8 @@ use Rattle.std.proofs.lemmas.List.{append_assoc, map-append, get_or_default}
 use Rattle.std.proofs.lemmas.List.Sums.{sum_by-cons, sum_by-append}
 use Rattle.std.proofs.lemmas.Nat.{mul-le}
 use Rattle.surf_z2.specs.Parity.{count_below}
-use Rattle.surf_complex.specs.Mesh.{Mesh}
-use Rattle.surf_complex.specs.Surface.{face_count, face_at}
+use Rattle.surf_surfaces.specs.Mesh.{Mesh}
+use Rattle.surf_surfaces.specs.Surface.{face_count, face_at}
 use Rattle.surf_tori.specs.Torus.{torus}
 use Rattle.surf_tori.specs.ConnectedSum.{others_before}
 use Rattle.surf_tori.specs.Chain.{longer_chain}

@@ -1,8 +1,8 @@
 -- Lengths that are made from a number.
 use Rattle.std.specs.Prelude.{ℕ, ◌+◌, ◌*◌, ◌%◌, List, map}
 use Rattle.std.specs.List.{range_with_len}
-use Rattle.surf_complex.specs.Mesh.{Mesh}
-use Rattle.surf_complex.specs.Surface.{edge_count}
+use Rattle.surf_surfaces.specs.Mesh.{Mesh}
+use Rattle.surf_surfaces.specs.Surface.{edge_count}
 
 -- the length of edge k
 abbrev pub made_length : ℕ → ℕ → ℕ

@@ -1,8 +1,8 @@
 //! Chains of tori.
 ghost use Rattle.std.specs.Prelude.{◌≡◌, ◌≢◌, ◌≤◌, ◌<◌, ◌+◌, ◌-◌, ◌*◌, ◌^◌, ◌++◌, [], ◌∷◌, All, AllPairs, pos, ◌-ℤ◌, length, map, take, drop, slice_index, IfOk, OnOk};
 ghost use Rattle.std.specs.List.{range_with_len};
-ghost use Rattle.surf_complex.specs.Mesh.{characteristic};
-ghost use Rattle.surf_complex.specs.Surface.{IsSurface};
+ghost use Rattle.surf_surfaces.specs.Mesh.{characteristic};
+ghost use Rattle.surf_surfaces.specs.Surface.{IsSurface};
 ghost use Rattle.surf_mesh.specs.Sides.{side_count};
 ghost use Rattle.surf_tori.specs.Torus.{torus_faces};
 ghost use Rattle.surf_tori.specs.ConnectedSum.{sum_name};

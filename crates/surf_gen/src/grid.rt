@@ -1,7 +1,7 @@
 //! Rows and columns that close into a torus.
 ghost use Rattle.std.specs.Prelude.{◌≡◌, ◌<◌, ◌≤◌, ◌*◌, ◌/◌, ◌%◌};
-ghost use Rattle.surf_complex.specs.Mesh.{IsFace};
-ghost use Rattle.surf_complex.specs.Surface.{face_at};
+ghost use Rattle.surf_surfaces.specs.Mesh.{IsFace};
+ghost use Rattle.surf_surfaces.specs.Surface.{face_at};
 ghost use Rattle.surf_tori.specs.Torus.{grid_vertex, first_face, second_face, torus};
 
 use surf_base::VertexId;

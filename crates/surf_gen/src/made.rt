@@ -1,6 +1,6 @@
 //! Lengths that are made from a number.
 ghost use Rattle.std.specs.Prelude.{◌≡◌, ◌<◌, ◌^◌, length, IfOk};
-ghost use Rattle.surf_complex.specs.Surface.{edge_count};
+ghost use Rattle.surf_surfaces.specs.Surface.{edge_count};
 ghost use Rattle.surf_gen.specs.Made.{made_length, made_values};
 
 use std::alloc::Global;
@@ -24,7 +24,7 @@ pub fn made_lengths(alloc: Global, mesh: &HalfMesh, scatter: u32) -> Result<Leng
     ensures values { IfOk result (λ lengths. lengths ≡ made_values mesh.now scatter) }
     ensures count { IfOk result (λ lengths. length lengths ≡ edge_count mesh.now) }
 {
-    surf_complex::law_of_faces();
+    surf_surfaces::law_of_faces();
     let edges = mesh.edges();
     let mut values = Vec::with_capacity(alloc, edges as usize)?;
     for edge in 0..edges {

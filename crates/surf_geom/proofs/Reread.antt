@@ -5,9 +5,9 @@ use Rattle.std.proofs.Math.Seq.{set-append_seam}
 use Rattle.std.proofs.lemmas.Bool.{le-ltb, ne_eqb}
 use Rattle.std.proofs.lemmas.List.FromFn.{length-range_with_len}
 use Rattle.std.proofs.lemmas.Slice.Zip.{length-zip, seconds-zip}
-use Rattle.surf_complex.specs.Mesh.{Mesh, IsMesh, edges}
-use Rattle.surf_complex.specs.Surface.{edge_count, ends}
-use Rattle.surf_complex.proofs.CellLaws.{ends_below}
+use Rattle.surf_surfaces.specs.Mesh.{Mesh, IsMesh, edges}
+use Rattle.surf_surfaces.specs.Surface.{edge_count, ends}
+use Rattle.surf_surfaces.proofs.CellLaws.{ends_below}
 use Rattle.surf_text.specs.Text.{TextLine, lines_of}
 use Rattle.surf_off.proofs.Reread.{lines_from}
 use Rattle.surf_lengths.specs.Lengths.{AreLengths}

@@ -1,7 +1,7 @@
 -- The length files that are written, of version 1.
 use Rattle.std.specs.Prelude.{◌≡◌, ℕ, List, [], ◌∷◌, ◌++◌, codes, decimal, Ok}
 use Rattle.std.specs.List.{zip}
-use Rattle.surf_complex.specs.Mesh.{Mesh, edges}
+use Rattle.surf_surfaces.specs.Mesh.{Mesh, edges}
 use Rattle.surf_lengths.specs.Files.{lengths_in}
 
 -- a line: the ends of an edge and its length

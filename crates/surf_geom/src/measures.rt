@@ -1,8 +1,8 @@
 //! The lengths of edges by the coordinates of their ends.
 ghost use Rattle.std.specs.Prelude.{◌≡◌, ◌<◌, ◌≤◌, ◌*◌, ◌^◌, ◌-ℤ◌, unsigned_abs, All, drop, length, slice_get, IfOk};
 ghost use Rattle.surf_text.specs.Text.{tokens_of};
-ghost use Rattle.surf_complex.specs.Mesh.{edges};
-ghost use Rattle.surf_complex.specs.Surface.{edge_count};
+ghost use Rattle.surf_surfaces.specs.Mesh.{edges};
+ghost use Rattle.surf_surfaces.specs.Surface.{edge_count};
 ghost use Rattle.surf_lengths.specs.Lengths.{AreLengths};
 ghost use Rattle.surf_geom.specs.Gives.{Gives, each};
 ghost use Rattle.surf_geom.specs.Points.{coordinate, point_of, points_in, square, square_distance, IsNear};

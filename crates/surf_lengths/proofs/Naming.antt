@@ -11,8 +11,8 @@ use Rattle.std.proofs.lemmas.List.{get_or-replicate, get_or_default}
 use Rattle.surf_text.specs.Text.{TextLine, tokens_of}
 use Rattle.surf_text.specs.Walks.{text_line}
 use Rattle.surf_text.specs.declared.lines.Line.{Line}
-use Rattle.surf_complex.specs.Mesh.{Mesh}
-use Rattle.surf_complex.specs.Surface.{edge_count}
+use Rattle.surf_surfaces.specs.Mesh.{Mesh}
+use Rattle.surf_surfaces.specs.Surface.{edge_count}
 use Rattle.surf_lengths.specs.Lengths.{longest}
 use Rattle.surf_lengths.specs.Lines.{as_length, entry_of, of_numbers, of_length, on_edge, edge_named, three_numbers}
 use Rattle.surf_lengths.specs.Files.{Named, none_named, name_edge, name_line, missing_edge}

@@ -2,8 +2,8 @@
 use Rattle.std.specs.Prelude.{ℕ, Bool, false, ◌&&◌, nat_le, List, [], ◌∷◌, codes, Option, Some, None, Result, Ok, Err, if◌then◌else◌}
 use Rattle.std.specs.Str.{bytes_eq}
 use Rattle.surf_text.specs.Text.{TextLine, tokens_of, whole}
-use Rattle.surf_complex.specs.Mesh.{Mesh, pair, among, edges}
-use Rattle.surf_complex.specs.Walk.{edge_number}
+use Rattle.surf_surfaces.specs.Mesh.{Mesh, pair, among, edges}
+use Rattle.surf_surfaces.specs.Walk.{edge_number}
 use Rattle.surf_lengths.specs.Lengths.{longest}
 use Rattle.surf_lengths.specs.declared.fault.LengthFault.{LengthFault}
 use Rattle.surf_lengths.specs.declared.fault.LengthFault.TheVariants.{Form, Range, NotEdge}

@@ -2,7 +2,7 @@
 ghost use Rattle.std.specs.Prelude.{◌≡◌, ◌≢◌, ◌<◌, ◌≤◌, ◌==◌, ℕ, List, Result, Ok, Err, length, IfOk, IfSome, MatchResult};
 ghost use Rattle.std.specs.List.{fold, position};
 ghost use Rattle.surf_text.specs.Walks.{text_line};
-ghost use Rattle.surf_complex.specs.Surface.{edge_count};
+ghost use Rattle.surf_surfaces.specs.Surface.{edge_count};
 ghost use Rattle.surf_lengths.specs.Lines.{entry_of};
 ghost use Rattle.surf_lengths.specs.Files.{Head, Named, behind_version, head_of, name_edge, name_line, missing_edge, lengths_in, Gives};
 ghost use Rattle.surf_lengths.specs.Walks.{with_next};

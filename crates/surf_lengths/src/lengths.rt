@@ -1,6 +1,6 @@
 //! A length for each edge of a mesh.
 ghost use Rattle.std.specs.Prelude.{◌≡◌, ◌≢◌, ◌<◌, ◌^◌, All, length, slice_index, replicate, IfOk};
-ghost use Rattle.surf_complex.specs.Surface.{edge_count};
+ghost use Rattle.surf_surfaces.specs.Surface.{edge_count};
 ghost use Rattle.surf_lengths.specs.Lengths.{IsLength, AreLengths};
 
 use std::alloc::Global;

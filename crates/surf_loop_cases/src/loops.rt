@@ -1,6 +1,6 @@
 //! Loops at vertex 0, each edge of length 1.
 ghost use Rattle.std.specs.Prelude.{◌<◌, replicate, IfOk};
-ghost use Rattle.surf_complex.specs.Surface.{edge_count};
+ghost use Rattle.surf_surfaces.specs.Surface.{edge_count};
 ghost use Rattle.surf_loops.specs.Loops.{IsGreedy};
 
 use crate::meshes::{PROJECTIVE, TETRAHEDRON, TORUS, surface};

@@ -10,19 +10,19 @@ use Rattle.std.proofs.lemmas.List.Sorted.{IsPermutation-map, IsPermutation-sym, 
 use Rattle.std.proofs.lemmas.Map.Keys.{apart_from_distinct, IsDistinct-from_apart, IsDistinct-IsPermutation}
 use Rattle.surf_z2.specs.Order.{IsInOrder}
 use Rattle.surf_z2.proofs.Merge.{merge_law, sorted-permutes, order_from_sorted}
-use Rattle.surf_homology.specs.Cells.{primal, IsSplit}
-use Rattle.surf_homology.specs.Trees.{IsTree}
-use Rattle.surf_complex.specs.Mesh.{Mesh}
-use Rattle.surf_complex.specs.Surface.{edge_count, IsSurface}
-use Rattle.surf_complex.specs.Cells.{cells_of}
-use Rattle.surf_complex.specs.Walk.{ArePositive, IsClosed}
-use Rattle.surf_complex.specs.Homology.{IsIndependent}
-use Rattle.surf_complex.specs.Loop.{loop_length, loop_walk}
-use Rattle.surf_complex.specs.Cotree.{left_edges}
-use Rattle.surf_complex.specs.Choice.{Trees, Loop, AreChosenAt, comes_before, loop_at, loops_at}
-use Rattle.surf_complex.proofs.ShortestTreeLaws.{shortest_is_tree}
-use Rattle.surf_complex.proofs.ClassLaws.{independent_walks_are_few}
-use Rattle.surf_complex.proofs.LoopsAtLaws.{comes_before-trans, comes_before-strict, loops-sorted, loops_are_least}
+use Rattle.surf_graphs.specs.Cells.{primal, IsSplit}
+use Rattle.surf_graphs.specs.Trees.{IsTree}
+use Rattle.surf_surfaces.specs.Mesh.{Mesh}
+use Rattle.surf_surfaces.specs.Surface.{edge_count, IsSurface}
+use Rattle.surf_surfaces.specs.Cells.{cells_of}
+use Rattle.surf_surfaces.specs.Walk.{ArePositive, IsClosed}
+use Rattle.surf_surfaces.specs.Homology.{IsIndependent}
+use Rattle.surf_surfaces.specs.Loop.{loop_length, loop_walk}
+use Rattle.surf_surfaces.specs.Cotree.{left_edges}
+use Rattle.surf_surfaces.specs.Choice.{Trees, Loop, AreChosenAt, comes_before, loop_at, loops_at}
+use Rattle.surf_surfaces.proofs.ShortestTreeLaws.{shortest_is_tree}
+use Rattle.surf_surfaces.proofs.ClassLaws.{independent_walks_are_few}
+use Rattle.surf_surfaces.proofs.LoopsAtLaws.{comes_before-trans, comes_before-strict, loops-sorted, loops_are_least}
 use Rattle.surf_lengths.specs.Lengths.{AreLengths}
 use Rattle.surf_tree.specs.Tables.{tree_of}
 use Rattle.surf_tree.specs.Grown.{IsGrown as IsTreeGrown}

@@ -3,13 +3,13 @@ use Rattle.std.proofs.Common.{◌≡◌, ℕ, ◌+◌, ◌<◌, ◌^◌, List, [
 use Rattle.std.specs.List.{range_with_len}
 use Rattle.std.proofs.lemmas.Bool.{cases_eq, ne_eqb, eq-eqb}
 use Rattle.std.proofs.lemmas.List.FromFn.{map-range_with_len_more}
-use Rattle.surf_complex.specs.Mesh.{Mesh}
-use Rattle.surf_complex.specs.Surface.{edge_count, face_count, ends, IsSurface}
-use Rattle.surf_complex.specs.Walk.{ArePositive}
-use Rattle.surf_complex.specs.Cotree.{left_edges}
-use Rattle.surf_complex.proofs.ShortestTreeLaws.{shortest_is_tree}
-use Rattle.surf_valid.specs.Rows.{TreeRows, DualRows, LoopCert}
-use Rattle.surf_valid.specs.Chosen.{parent_in, rows_of, dual_rows_of, cert_of}
+use Rattle.surf_surfaces.specs.Mesh.{Mesh}
+use Rattle.surf_surfaces.specs.Surface.{edge_count, face_count, ends, IsSurface}
+use Rattle.surf_surfaces.specs.Walk.{ArePositive}
+use Rattle.surf_surfaces.specs.Cotree.{left_edges}
+use Rattle.surf_surfaces.proofs.ShortestTreeLaws.{shortest_is_tree}
+use Rattle.surf_validity.specs.Rows.{TreeRows, DualRows, LoopCert}
+use Rattle.surf_validity.specs.Chosen.{parent_in, rows_of, dual_rows_of, cert_of}
 use Rattle.surf_lengths.specs.Lengths.{AreLengths}
 use Rattle.surf_cert.proofs.ChosenFits.{AreNumbers}
 use Rattle.surf_tree.specs.Tables.{TreeTables, parent_of, tree_of}

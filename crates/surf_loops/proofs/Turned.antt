@@ -2,23 +2,23 @@
 use Rattle.std.proofs.Common.{ℕ, zero, suc, ◌<◌, ◌≤◌, ◌≡◌, ◌≢◌, refl, sym, ap, ◌∙◌, subst, arith, inl, inr, List, [], ◌∷◌, ◌++◌, reverse, length, get_or, slice_index, Option, Some, None, Bool}
 use Rattle.std.proofs.lemmas.Bool.{cases_eq}
 use Rattle.std.proofs.lemmas.List.{reverse-append, append_assoc, get_or_default}
-use Rattle.surf_homology.specs.Graphs.{Graph}
-use Rattle.surf_homology.specs.Trees.{Tree, IsTree}
-use Rattle.surf_homology.specs.Loops.{way_down, way_up}
-use Rattle.surf_homology.proofs.Ways.{ways_go_by_parents}
-use Rattle.surf_homology.specs.Cells.{primal}
-use Rattle.surf_complex.specs.Mesh.{Mesh}
-use Rattle.surf_complex.specs.Cells.{cells_of}
-use Rattle.surf_complex.specs.Walk.{ArePositive}
-use Rattle.surf_complex.specs.Loop.{loop_walk}
-use Rattle.surf_complex.proofs.ShortestTreeLaws.{shortest_is_tree}
+use Rattle.surf_graphs.specs.Graphs.{Graph}
+use Rattle.surf_graphs.specs.Trees.{Tree, IsTree}
+use Rattle.surf_graphs.specs.Loops.{way_down, way_up}
+use Rattle.surf_graphs.proofs.Ways.{ways_go_by_parents}
+use Rattle.surf_graphs.specs.Cells.{primal}
+use Rattle.surf_surfaces.specs.Mesh.{Mesh}
+use Rattle.surf_surfaces.specs.Cells.{cells_of}
+use Rattle.surf_surfaces.specs.Walk.{ArePositive}
+use Rattle.surf_surfaces.specs.Loop.{loop_walk}
+use Rattle.surf_surfaces.proofs.ShortestTreeLaws.{shortest_is_tree}
 use Rattle.surf_tree.specs.Tables.{TreeTables, tree_of, parent_of}
 use Rattle.surf_tree.specs.Grown.{IsGrown as IsTreeGrown}
 use Rattle.surf_cotree.specs.Tables.{CotreeTables}
 use Rattle.surf_cotree.specs.Grown.{IsGrown as IsCotreeGrown, IsMarked}
 use Rattle.surf_loops.specs.Loops.{IsRooted}
-use Rattle.surf_complex.specs.Surface.{edge_count, ends, IsSurface}
-use Rattle.surf_complex.proofs.CellLaws.{surfaces_are_cells}
+use Rattle.surf_surfaces.specs.Surface.{edge_count, ends, IsSurface}
+use Rattle.surf_surfaces.proofs.CellLaws.{surfaces_are_cells}
 
 reversed_by : (k : ℕ) (g : Graph) (t : Tree) → IsTree g t → (n : ℕ) → n < g.nodes → t.rank n ≤ k →
     reverse (n ∷ way_up t (t.rank n) n) ≡ t.root ∷ way_down t (t.rank n) n

@@ -1,14 +1,14 @@
 -- What a loop desk holds after it has found the loops at a base.
 use Rattle.std.specs.Prelude.{ℕ, ◌≡◌, ◌≢◌, ◌<◌, ◌≤◌, List, length, map, All, slice_index, Some, None}
-use Rattle.surf_homology.specs.Cells.{primal}
-use Rattle.surf_homology.specs.Trees.{IsTree}
-use Rattle.surf_complex.specs.Mesh.{Mesh}
-use Rattle.surf_complex.specs.Cells.{cells_of}
-use Rattle.surf_complex.specs.Walk.{IsClosed}
-use Rattle.surf_complex.specs.Homology.{IsIndependent}
-use Rattle.surf_complex.specs.Loop.{loop_walk}
-use Rattle.surf_complex.specs.Choice.{Trees, AreChosenAt, Loop, loops_at}
-use Rattle.surf_complex.specs.ChoiceLaws.{LoopsAtBase}
+use Rattle.surf_graphs.specs.Cells.{primal}
+use Rattle.surf_graphs.specs.Trees.{IsTree}
+use Rattle.surf_surfaces.specs.Mesh.{Mesh}
+use Rattle.surf_surfaces.specs.Cells.{cells_of}
+use Rattle.surf_surfaces.specs.Walk.{IsClosed}
+use Rattle.surf_surfaces.specs.Homology.{IsIndependent}
+use Rattle.surf_surfaces.specs.Loop.{loop_walk}
+use Rattle.surf_surfaces.specs.Choice.{Trees, AreChosenAt, Loop, loops_at}
+use Rattle.surf_surfaces.specs.ChoiceLaws.{LoopsAtBase}
 use Rattle.surf_tree.specs.Tables.{TreeTables, parent_of, tree_of, IsMadeFor as TreeMade}
 use Rattle.surf_tree.specs.Grown.{IsGrown as IsTreeGrown}
 use Rattle.surf_cotree.specs.Tables.{CotreeTables, tree_of as cotree_of, IsMadeFor as CotreeMade}

@@ -1,8 +1,8 @@
 //! The certificate of the loops at a base, and its parts.
 ghost use Rattle.std.specs.Prelude.{◌≡◌, ◌<◌, IfOk, length, map};
-ghost use Rattle.surf_complex.specs.Surface.{edge_count, face_count, ends};
-ghost use Rattle.surf_valid.specs.Chosen.{cert_of, dual_rows_of, rows_of, side_in};
-ghost use Rattle.surf_valid.specs.Valid.{IsValidLoops};
+ghost use Rattle.surf_surfaces.specs.Surface.{edge_count, face_count, ends};
+ghost use Rattle.surf_validity.specs.Chosen.{cert_of, dual_rows_of, rows_of, side_in};
+ghost use Rattle.surf_validity.specs.Valid.{IsValidLoops};
 ghost use Rattle.surf_cert.specs.Fits.{LoopFits};
 ghost use Rattle.surf_tree.specs.Tables.{tree_of};
 ghost use Rattle.surf_cotree.specs.Tables.{tree_of as cotree_of};

@@ -1,12 +1,12 @@
 //! The tables of the loops at one base.
 ghost use Rattle.std.specs.Prelude.{◌≡◌, ◌<◌, ◌≤◌, length, map, IfOk};
 ghost use Rattle.std.specs.List.{range_with_len};
-ghost use Rattle.surf_homology.specs.Cells.{IsSplit};
-ghost use Rattle.surf_homology.specs.Trees.{Tree};
-ghost use Rattle.surf_complex.specs.Cells.{cells_of};
-ghost use Rattle.surf_complex.specs.Surface.{edge_count};
-ghost use Rattle.surf_complex.specs.Loop.{loop_walk};
-ghost use Rattle.surf_complex.specs.Signature.{edge_signature};
+ghost use Rattle.surf_graphs.specs.Cells.{IsSplit};
+ghost use Rattle.surf_graphs.specs.Trees.{Tree};
+ghost use Rattle.surf_surfaces.specs.Cells.{cells_of};
+ghost use Rattle.surf_surfaces.specs.Surface.{edge_count};
+ghost use Rattle.surf_surfaces.specs.Loop.{loop_walk};
+ghost use Rattle.surf_surfaces.specs.Signature.{edge_signature};
 ghost use Rattle.surf_tree.specs.Tables.{tree_of};
 ghost use Rattle.surf_tree.specs.Grown.{IsGrown as IsTreeGrown};
 ghost use Rattle.surf_cotree.specs.Tables.{split_with, IsMadeFor as CotreeMade};

@@ -1,8 +1,8 @@
 //! The lengths of loops, and the left edges in the order of them.
 ghost use Rattle.std.specs.Prelude.{◌≡◌, ◌<◌, ◌≤◌, ◌+◌, ◌*◌, ◌^◌, ◌++◌, ◌∷◌, [], ℕ, All, length, map, slice_index, vec_len, vec_capacity, IsPermutation};
 ghost use Rattle.std.specs.List.Sorted.{IsNonDecreasingBy};
-ghost use Rattle.surf_complex.specs.Surface.{edge_count};
-ghost use Rattle.surf_complex.specs.Loop.{loop_length};
+ghost use Rattle.surf_surfaces.specs.Surface.{edge_count};
+ghost use Rattle.surf_surfaces.specs.Loop.{loop_length};
 ghost use Rattle.surf_tree.specs.Tables.{IsMadeFor, tree_of};
 ghost use Rattle.surf_loops.specs.Heads.{head_of, order_of};
 

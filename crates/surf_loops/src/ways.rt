@@ -1,6 +1,6 @@
 //! Ways up a tree.
 ghost use Rattle.std.specs.Prelude.{◌≡◌, ◌<◌, ◌++◌, ◌∷◌, slice_index, OnOk};
-ghost use Rattle.surf_homology.specs.Loops.{way_up};
+ghost use Rattle.surf_graphs.specs.Loops.{way_up};
 ghost use Rattle.surf_tree.specs.Tables.{tree_of};
 ghost use Rattle.surf_loops.specs.Loops.{IsRooted};
 

@@ -5,18 +5,18 @@ use Rattle.std.proofs.lemmas.Bool.{true≢false, cases_eq, cases_lt}
 use Rattle.std.proofs.lemmas.List.{get_or_default, length-map, get_or_past, get_or_push, get_or_append_left, length_push}
 use Rattle.std.proofs.lemmas.List.Sums.{sum_by_push}
 use Rattle.surf_mesh.specs.Apart.{AreAcross, IsLeastApart}
-use Rattle.surf_complex.specs.Joined.{Joined, here, over}
-use Rattle.surf_complex.proofs.JoinedLaws.{joined_trans, joined_sym, joined_lift}
-use Rattle.surf_complex.specs.Mesh.{Mesh, IsMesh, edges}
-use Rattle.surf_complex.specs.Surface.{face_count, face_at, faces_with, Share, IsConnected}
+use Rattle.surf_surfaces.specs.Joined.{Joined, here, over}
+use Rattle.surf_surfaces.proofs.JoinedLaws.{joined_trans, joined_sym, joined_lift}
+use Rattle.surf_surfaces.specs.Mesh.{Mesh, IsMesh, edges}
+use Rattle.surf_surfaces.specs.Surface.{face_count, face_at, faces_with, Share, IsConnected}
 use Rattle.surf_mesh.specs.Sides.{side_count, pair_at, owners, sides_with}
 use Rattle.surf_mesh.specs.Half.{first_side, IsFaceOf, AreAllMates}
 use Rattle.surf_mesh.specs.Reach.{Leads, marked, IsReach}
 use Rattle.surf_mesh.specs.Pairs.{HasTwoFaces}
 use Rattle.surf_mesh.proofs.Owners.{faces_with-sides}
 use Rattle.surf_mesh.proofs.EdgeTables.{pair_at-edge}
-use Rattle.surf_complex.specs.Walk.{place_of}
-use Rattle.surf_complex.proofs.EdgeLaws.{place_of-among}
+use Rattle.surf_surfaces.specs.Walk.{place_of}
+use Rattle.surf_surfaces.proofs.EdgeLaws.{place_of-among}
 use Rattle.surf_mesh.proofs.HalfLaws.{face_of_side, spans}
 use Rattle.surf_mesh.proofs.SideNumbers.{across_shares, shares_across, one_face}
 

@@ -1,7 +1,7 @@
 -- Paired edges have no fault.
 use Rattle.std.proofs.Common.{◌≡◌, ◌<◌, refl, ap, ◌∙◌, length, arith}
-use Rattle.surf_complex.specs.Mesh.{Mesh}
-use Rattle.surf_complex.specs.Surface.{face_count, faces_with}
+use Rattle.surf_surfaces.specs.Mesh.{Mesh}
+use Rattle.surf_surfaces.specs.Surface.{face_count, faces_with}
 use Rattle.surf_mesh.specs.Pairs.{HasTwoFaces, IsPairFault}
 use Rattle.surf_mesh.specs.declared.pairs.PairFault.{PairFault}
 use Rattle.surf_mesh.specs.declared.pairs.PairFault.TheVariants.{Empty, Border, Crowded, Memory}

@@ -3,8 +3,8 @@ use Rattle.std.proofs.Common.{◌≡◌, ℕ, zero, suc, ◌+◌, ◌<◌, ◌�
 use Rattle.std.proofs.lemmas.Bool.{true≢false, cases_eq, cases_lt}
 use Rattle.std.proofs.lemmas.List.{length-replicate, get_or-replicate, length-set, get_or-set_same, get_or-set_other, length_push, get_or_push, get_or_append_left, get_or_past}
 use Rattle.std.proofs.lemmas.List.Sums.{sum_by-set, sum_by-cons}
-use Rattle.surf_complex.specs.Joined.{Joined, here, over}
-use Rattle.surf_complex.proofs.JoinedLaws.{joined_trans, joined_closed}
+use Rattle.surf_surfaces.specs.Joined.{Joined, here, over}
+use Rattle.surf_surfaces.proofs.JoinedLaws.{joined_trans, joined_closed}
 use Rattle.surf_mesh.specs.Reach.{Leads, marked, unmarked, Visits, Reaches, IsReach}
 
 pub marked-inside : (seen : List Bool) (j : ℕ) → marked seen j ≡ true → j < length seen

@@ -6,15 +6,15 @@ use Rattle.std.proofs.lemmas.List.{get_or_default, get_or_push, get_or_append_le
 use Rattle.std.proofs.lemmas.List.Elements.{All-from_recursion}
 use Rattle.std.proofs.lemmas.List.FromFn.{length-range_with_len, get_or-range_with_len}
 use Rattle.std.proofs.Math.Seq.{take-length}
-use Rattle.surf_complex.specs.Joined.{Joined, here, over}
-use Rattle.surf_complex.specs.Mesh.{Mesh, IsMesh, pair, edges}
-use Rattle.surf_complex.specs.Side.{after, before, corner}
-use Rattle.surf_complex.specs.Surface.{face_count, face_at, edge_count, ends, touches, has_side, HasCorner, HasEdge, ShareAt, HasOneFan}
-use Rattle.surf_complex.specs.Walk.{place_of}
-use Rattle.surf_complex.proofs.JoinedLaws.{joined_trans, joined_sym, joined_closed}
-use Rattle.surf_complex.proofs.EdgeLaws.{list_any_at, place_of-ends}
-use Rattle.surf_complex.proofs.FaceLaws.{pair_comm, touches-pair_of, touches_first}
-use Rattle.surf_complex.proofs.SideLaws.{pair_ends, after-below, before-below, after-before, before-after, corner_place}
+use Rattle.surf_surfaces.specs.Joined.{Joined, here, over}
+use Rattle.surf_surfaces.specs.Mesh.{Mesh, IsMesh, pair, edges}
+use Rattle.surf_surfaces.specs.Side.{after, before, corner}
+use Rattle.surf_surfaces.specs.Surface.{face_count, face_at, edge_count, ends, touches, has_side, HasCorner, HasEdge, ShareAt, HasOneFan}
+use Rattle.surf_surfaces.specs.Walk.{place_of}
+use Rattle.surf_surfaces.proofs.JoinedLaws.{joined_trans, joined_sym, joined_closed}
+use Rattle.surf_surfaces.proofs.EdgeLaws.{list_any_at, place_of-ends}
+use Rattle.surf_surfaces.proofs.FaceLaws.{pair_comm, touches-pair_of, touches_first}
+use Rattle.surf_surfaces.proofs.SideLaws.{pair_ends, after-below, before-below, after-before, before-after, corner_place}
 use Rattle.surf_rows.specs.Groups.{has_key}
 use Rattle.surf_mesh.specs.Sides.{side_count, pair_at, owners, sides_with}
 use Rattle.surf_mesh.specs.Half.{first_side, IsFaceOf, AreAllMates}

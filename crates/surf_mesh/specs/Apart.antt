@@ -3,9 +3,9 @@ use Rattle.std.specs.Prelude.{◌≡◌, ℕ, ◌+◌, ◌<◌, List, [], length
 use Rattle.std.specs.List.{sum_by}
 use Rattle.surf_mesh.specs.Sides.{owners}
 use Rattle.surf_mesh.specs.Half.{first_side}
-use Rattle.surf_complex.specs.Joined.{Joined}
-use Rattle.surf_complex.specs.Mesh.{Mesh}
-use Rattle.surf_complex.specs.Surface.{face_count, face_at, Share}
+use Rattle.surf_surfaces.specs.Joined.{Joined}
+use Rattle.surf_surfaces.specs.Mesh.{Mesh}
+use Rattle.surf_surfaces.specs.Surface.{face_count, face_at, Share}
 
 -- the least face that isn't joined with face 0
 pub record IsLeastApart (mesh : Mesh) (f : ℕ) : Type 0 where

@@ -1,6 +1,6 @@
 -- What a walk over rows of numbers reaches.
 use Rattle.std.specs.Prelude.{◌≡◌, ℕ, ◌+◌, ◌<◌, ◌≤◌, Bool, true, false, not, List, [], length, get_or, ◌⊎◌, count_by}
-use Rattle.surf_complex.specs.Joined.{Joined}
+use Rattle.surf_surfaces.specs.Joined.{Joined}
 
 -- a number stands in the row of another
 abbrev pub Leads : List (List ℕ) → ℕ → ℕ → Type 0

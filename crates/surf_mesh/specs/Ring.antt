@@ -1,9 +1,9 @@
 -- Rings: the sides that begin at a vertex, in the order round it.
 use Rattle.std.specs.Prelude.{◌≡◌, ◌≢◌, ℕ, zero, suc, ◌+◌, ◌-◌, ◌<◌, ◌==◌, ◌⊎◌, Bool, true, false, not, cond, List, [], length, get_or}
-use Rattle.surf_complex.specs.Joined.{Joined}
-use Rattle.surf_complex.specs.Mesh.{Mesh}
-use Rattle.surf_complex.specs.Side.{after, before}
-use Rattle.surf_complex.specs.Surface.{face_at, edge_count, ends, touches, HasCorner, HasEdge, ShareAt, HasOneFan}
+use Rattle.surf_surfaces.specs.Joined.{Joined}
+use Rattle.surf_surfaces.specs.Mesh.{Mesh}
+use Rattle.surf_surfaces.specs.Side.{after, before}
+use Rattle.surf_surfaces.specs.Surface.{face_at, edge_count, ends, touches, HasCorner, HasEdge, ShareAt, HasOneFan}
 use Rattle.surf_mesh.specs.Sides.{side_count, pair_at}
 use Rattle.surf_mesh.specs.Half.{first_side, IsFaceOf}
 use Rattle.surf_mesh.specs.Vertices.{all_corners, sides_at}

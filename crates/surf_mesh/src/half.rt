@@ -1,8 +1,8 @@
 //! Surfaces with their half-edges.
 ghost use Rattle.std.specs.Prelude.{◌≡◌, ◌≢◌, ◌<◌, ◌≤◌, ◌+◌, ◌^◌, ℕ, List, length, All, AllPairs, IfOk, MatchOption, slice_index, slice_index_or, [], false, true};
 ghost use Rattle.std.specs.List.{range_with_len};
-ghost use Rattle.surf_complex.specs.Mesh.{IsFace, pair, pair_lt, among, edges};
-ghost use Rattle.surf_complex.specs.Surface.{face_count, face_at, edge_count, ends, faces_of, IsSurface};
+ghost use Rattle.surf_surfaces.specs.Mesh.{IsFace, pair, pair_lt, among, edges};
+ghost use Rattle.surf_surfaces.specs.Surface.{face_count, face_at, edge_count, ends, faces_of, IsSurface};
 ghost use Rattle.surf_mesh.specs.Sides.{side_count};
 ghost use Rattle.surf_mesh.specs.EdgeTable.{IsEdgeTable};
 ghost use Rattle.surf_mesh.specs.Pairs.{HasTwoFaces};
@@ -31,7 +31,7 @@ pub struct HalfMesh {
 }
 
 impl Model for HalfMesh {
-    ghost use Rattle.surf_complex.specs.Mesh.{Mesh};
+    ghost use Rattle.surf_surfaces.specs.Mesh.{Mesh};
     ghost use Rattle.surf_mesh.specs.Kept.{IsHalfMesh};
 
     ghost Value = { Mesh };

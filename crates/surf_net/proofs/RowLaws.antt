@@ -5,17 +5,17 @@ use Rattle.std.proofs.lemmas.Bool.{cases_eq, eq-eqb, ne_eqb}
 use Rattle.std.proofs.lemmas.Bool.Decides.{nat_tests}
 use Rattle.std.proofs.lemmas.List.{get_or-map, length-map}
 use Rattle.std.proofs.lemmas.List.FromFn.{length-range_with_len, get_or-range_with_len}
-use Rattle.surf_homology.specs.Cells.{primal, dual}
-use Rattle.surf_complex.specs.Cells.{cells_of}
-use Rattle.surf_complex.specs.Mesh.{Mesh, IsMesh, edges}
-use Rattle.surf_complex.specs.Surface.{face_count, face_at, edge_count, ends, faces_of, has_side, touches, IsSurface}
-use Rattle.surf_complex.specs.Walk.{place_of}
-use Rattle.surf_complex.proofs.CellLaws.{ends_below}
-use Rattle.surf_complex.proofs.SurfaceLaws.{two_faces_of}
-use Rattle.surf_complex.proofs.EdgeLaws.{place_of-among, place_of-ends}
-use Rattle.surf_complex.proofs.SideLaws.{side_place}
-use Rattle.surf_complex.proofs.CountLaws.{sizes_twice}
-use Rattle.surf_complex.proofs.ClassLaws.{independent_walks_are_few, some_vertex}
+use Rattle.surf_graphs.specs.Cells.{primal, dual}
+use Rattle.surf_surfaces.specs.Cells.{cells_of}
+use Rattle.surf_surfaces.specs.Mesh.{Mesh, IsMesh, edges}
+use Rattle.surf_surfaces.specs.Surface.{face_count, face_at, edge_count, ends, faces_of, has_side, touches, IsSurface}
+use Rattle.surf_surfaces.specs.Walk.{place_of}
+use Rattle.surf_surfaces.proofs.CellLaws.{ends_below}
+use Rattle.surf_surfaces.proofs.SurfaceLaws.{two_faces_of}
+use Rattle.surf_surfaces.proofs.EdgeLaws.{place_of-among, place_of-ends}
+use Rattle.surf_surfaces.proofs.SideLaws.{side_place}
+use Rattle.surf_surfaces.proofs.CountLaws.{sizes_twice}
+use Rattle.surf_surfaces.proofs.ClassLaws.{independent_walks_are_few, some_vertex}
 use Rattle.surf_z2.proofs.Linear.{chosen_none}
 use Rattle.surf_mesh.specs.Sides.{side_count, pair_at, owners}
 use Rattle.surf_mesh.specs.Half.{first_side, IsFaceOf, IsMate, IsEdgeOf}

@@ -1,9 +1,9 @@
 -- What a search sees of a mesh: for each node of a graph a row of links.
 use Rattle.std.specs.Prelude.{◌≡◌, ℕ, ◌<◌, ◌==◌, true, List, length, slice_index, slice_index_or, if◌then◌else◌}
-use Rattle.surf_homology.specs.Graphs.{Graph, joins}
-use Rattle.surf_complex.specs.Mesh.{Mesh, edges}
-use Rattle.surf_complex.specs.Surface.{ends, faces_of}
-use Rattle.surf_complex.specs.Walk.{place_of}
+use Rattle.surf_graphs.specs.Graphs.{Graph, joins}
+use Rattle.surf_surfaces.specs.Mesh.{Mesh, edges}
+use Rattle.surf_surfaces.specs.Surface.{ends, faces_of}
+use Rattle.surf_surfaces.specs.Walk.{place_of}
 use Rattle.surf_mesh.specs.Sides.{pair_at, owners}
 
 -- a link: a neighbour, and the number of an edge to it

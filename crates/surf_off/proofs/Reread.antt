@@ -5,7 +5,7 @@ use Rattle.std.specs.List.{list_any, slice_split, All, AllPairs, zip}
 use Rattle.std.proofs.lemmas.Bool.{le-leb, lt-ltb, ne_eqb}
 use Rattle.std.proofs.lemmas.List.{length-map}
 use Rattle.std.proofs.Math.Seq.{take-append_seam}
-use Rattle.surf_complex.specs.Mesh.{IsFace}
+use Rattle.surf_surfaces.specs.Mesh.{IsFace}
 use Rattle.surf_text.specs.Text.{TextLine, is_line_end, uncommented, trimmed, tokens_of, words_of, onto_lines, numbered_from, rest_after}
 use Rattle.surf_off.specs.Off.{vertices_at, size_of, corners_at, first_repeat, face_of, faces_at}
 use Rattle.surf_off.specs.Clean.{IsClean, IsVertexLine}

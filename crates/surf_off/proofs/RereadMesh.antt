@@ -7,7 +7,7 @@ use Rattle.std.proofs.lemmas.List.Elements.{All-nil, All-cons}
 use Rattle.std.proofs.lemmas.List.FromFn.{length-range_with_len}
 use Rattle.std.proofs.lemmas.List.Sums.{get_or-le-sum_by}
 use Rattle.std.proofs.lemmas.List.{length-map, append-nil}
-use Rattle.surf_complex.specs.Mesh.{Mesh, IsFace, IsMesh}
+use Rattle.surf_surfaces.specs.Mesh.{Mesh, IsFace, IsMesh}
 use Rattle.surf_text.specs.Text.{is_line_end, tokens_of}
 use Rattle.surf_off.specs.declared.header.Header.{Header}
 use Rattle.surf_off.specs.declared.header.Header.TheVariants.{Off, Coff, Noff, Cnoff, Stoff, Stcoff, Stnoff, Stcnoff}

@@ -5,7 +5,7 @@
 use Rattle.std.specs.Prelude.{◌+◌, ℕ, zero, suc, Bool, true, false, ◌==◌, ◌&&◌, nat_lt, nat_le, List, [], ◌∷◌, ◌++◌, length, take, drop, Option, Some, None, Result, Ok, Err, if◌then◌else◌}
 use Rattle.std.specs.List.{list_any}
 use Rattle.surf_base.specs.declared.limits.LimitKind.TheVariants.{Vertices, Faces, Sides}
-use Rattle.surf_complex.specs.Mesh.{Mesh}
+use Rattle.surf_surfaces.specs.Mesh.{Mesh}
 use Rattle.surf_text.specs.Text.{TextLine, tokens_of, lines_of, whole, rest_after}
 use Rattle.surf_off.specs.declared.fault.OffFault.{OffFault}
 use Rattle.surf_off.specs.declared.fault.OffFault.TheVariants.{Header, Counts, VertexLine, FaceSize, FaceIndex, FaceRepeat, Early, Trailing, Limit}

@@ -1,7 +1,7 @@
 -- The OFF texts that are written.
 use Rattle.std.specs.Prelude.{◌≡◌, ℕ, List, [], ◌∷◌, ◌++◌, length, map, codes, decimal, slice_index, slice_index_or, Ok}
 use Rattle.std.specs.List.{zip, range_with_len}
-use Rattle.surf_complex.specs.Mesh.{Mesh}
+use Rattle.surf_surfaces.specs.Mesh.{Mesh}
 use Rattle.surf_rows.specs.Rows.{cut, AreEnds}
 use Rattle.surf_off.specs.declared.header.Header.{Header}
 use Rattle.surf_off.specs.declared.header.Header.TheVariants.{Off}

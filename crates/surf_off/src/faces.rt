@@ -1,7 +1,7 @@
 //! The face lines.
 ghost use Rattle.std.specs.Prelude.{◌≡◌, ◌≢◌, ◌<◌, ◌≤◌, ◌+◌, ◌^◌, ℕ, true, [], length, slice_index, take, drop, IfOk, IfNone, OnOk};
 ghost use Rattle.std.specs.List.{All, AllPairs};
-ghost use Rattle.surf_complex.specs.Mesh.{IsFace};
+ghost use Rattle.surf_surfaces.specs.Mesh.{IsFace};
 ghost use Rattle.surf_mesh.specs.Sides.{side_count};
 ghost use Rattle.surf_text.specs.Text.{whole, behind_word, behind_words};
 ghost use Rattle.surf_text.specs.Walks.{text_line};

@@ -1,7 +1,7 @@
 //! Writes an opened mesh as an OFF text.
 ghost use Rattle.std.specs.Prelude.{◌≡◌, ◌<◌, ◌≤◌, ◌+◌, [], length, slice_index_or};
 ghost use Rattle.std.specs.List.{All, zip, range_with_len};
-ghost use Rattle.surf_complex.specs.Mesh.{IsFace};
+ghost use Rattle.surf_surfaces.specs.Mesh.{IsFace};
 ghost use Rattle.surf_text.specs.Pages.{Puts};
 ghost use Rattle.surf_off.specs.Written.{head_text, lines_text, numbers_text, colour_text, face_text, faces_text, copy_text, copies_text, lines_at, rows_at, AreStarts, opened_text, RereadsOpened};
 

@@ -4,13 +4,13 @@ use Rattle.std.proofs.Common.{◌≡◌, ◌≢◌, ℕ, zero, suc, ◌+◌, ◌
 use Rattle.std.proofs.lemmas.Bool.{cases_eq, cases_order, both_ways}
 use Rattle.std.proofs.lemmas.List.Elements.{All-from_recursion, recursion_from_All}
 use Rattle.surf_z2.specs.Space.{Chain}
-use Rattle.surf_homology.specs.Trees.{Tree}
-use Rattle.surf_homology.proofs.Counting.{left_edges}
-use Rattle.surf_complex.specs.Cells.{cells_of}
-use Rattle.surf_complex.specs.Cotree.{tree_edges, split_of}
-use Rattle.surf_complex.specs.Mesh.{Mesh, pair, steps, steps_from}
-use Rattle.surf_complex.specs.Surface.{face_count, edge_count, ends, IsSurface}
-use Rattle.surf_complex.specs.Walk.{last_from}
+use Rattle.surf_graphs.specs.Trees.{Tree}
+use Rattle.surf_graphs.proofs.Counting.{left_edges}
+use Rattle.surf_surfaces.specs.Cells.{cells_of}
+use Rattle.surf_surfaces.specs.Cotree.{tree_edges, split_of}
+use Rattle.surf_surfaces.specs.Mesh.{Mesh, pair, steps, steps_from}
+use Rattle.surf_surfaces.specs.Surface.{face_count, edge_count, ends, IsSurface}
+use Rattle.surf_surfaces.specs.Walk.{last_from}
 use Rattle.surf_opening.specs.Laws.{TellsCut, cut_count, cut_degree}
 use Rattle.surf_opening.specs.Named.{IsTrimmedByGreatest, IsCutPath, IsNamed}
 use Rattle.surf_opening.specs.Rim.{along, back}

@@ -2,10 +2,10 @@
 use Rattle.std.specs.Prelude.{◌↔◌}
 use Rattle.std.proofs.Common.{◌≡◌, ℕ, ◌<◌, ◌∙◌, Bool, true, false, List}
 use Rattle.surf_z2.specs.Space.{Chain}
-use Rattle.surf_homology.specs.Trees.{Tree}
-use Rattle.surf_complex.specs.Joined.{Joined, here, over}
-use Rattle.surf_complex.specs.Mesh.{Mesh}
-use Rattle.surf_complex.specs.Surface.{IsSurface}
+use Rattle.surf_graphs.specs.Trees.{Tree}
+use Rattle.surf_surfaces.specs.Joined.{Joined, here, over}
+use Rattle.surf_surfaces.specs.Mesh.{Mesh}
+use Rattle.surf_surfaces.specs.Surface.{IsSurface}
 use Rattle.surf_opening.specs.Laws.{TellsCut, OpeningsInOrderExist}
 use Rattle.surf_opening.specs.Named.{IsTrimmedByGreatest, whole}
 use Rattle.surf_opening.specs.Opening.{corner_of, ShareUncutAt, IsOpenedBy, IsOpenedAlong}

@@ -6,8 +6,8 @@ use Rattle.std.proofs.lemmas.List.{get_or_default}
 use Rattle.std.proofs.lemmas.List.Elements.{Contains-get_or}
 use Rattle.surf_z2.specs.Parity.{any_below, least_below}
 use Rattle.surf_z2.proofs.ParityLaws.{any_below-found, any_below-from, least_below-found}
-use Rattle.surf_complex.specs.Mesh.{Mesh}
-use Rattle.surf_complex.specs.Surface.{face_count, face_at, IsSurface}
+use Rattle.surf_surfaces.specs.Mesh.{Mesh}
+use Rattle.surf_surfaces.specs.Surface.{face_count, face_at, IsSurface}
 use Rattle.surf_opening.specs.Laws.{AreInOrder}
 use Rattle.surf_opening.specs.Numbers.{Numbers}
 use Rattle.surf_opening.specs.Opening.{corner_of, IsOpenedAlong}

@@ -8,27 +8,27 @@ use Rattle.std.proofs.lemmas.List.Elements.{recursion_from_All}
 use Rattle.surf_z2.specs.Parity.{xor, odd, odd_below, count_below}
 use Rattle.surf_z2.specs.Space.{Chain}
 use Rattle.surf_z2.proofs.ParityLaws.{xor_equal, equal_xor, odd_below-same}
-use Rattle.surf_homology.specs.Cells.{primal, dual}
-use Rattle.surf_homology.specs.Graphs.{IsEven}
-use Rattle.surf_homology.specs.Trees.{Tree}
-use Rattle.surf_homology.proofs.CellLaws.{boundary_even as cells_boundary_even, signature_null}
-use Rattle.surf_homology.proofs.Counting.{left_edges}
-use Rattle.surf_homology.proofs.Graphs.{even-xor}
-use Rattle.surf_homology.proofs.Rounds.{par, par-suc, par-zero}
-use Rattle.surf_homology.proofs.Trees.{along as along_tree, along_leaves, tree_edge}
-use Rattle.surf_complex.specs.Cells.{cells_of}
-use Rattle.surf_complex.specs.Cotree.{cotree_edges, split_of}
-use Rattle.surf_complex.specs.Homology.{boundary, IsBoundary}
-use Rattle.surf_complex.specs.Mesh.{Mesh, pair, pair_of, pair_eq, steps, steps_from}
-use Rattle.surf_complex.specs.Surface.{face_count, edge_count, face_at, ends, faces_of, has_side, touches, HasEdge, IsSurface}
-use Rattle.surf_complex.specs.Walk.{parity}
-use Rattle.surf_complex.proofs.CellLaws.{surfaces_are_cells}
-use Rattle.surf_complex.proofs.EvenLaws.{touches-xor}
-use Rattle.surf_complex.proofs.FaceLaws.{touches_first}
-use Rattle.surf_complex.proofs.GraphWalkLaws.{closed_parity_even}
-use Rattle.surf_complex.proofs.JoinedLaws.{joined_closed}
-use Rattle.surf_complex.proofs.PairLaws.{pair_eq-other}
-use Rattle.surf_complex.proofs.SurfaceLaws.{two_faces_of}
+use Rattle.surf_graphs.specs.Cells.{primal, dual}
+use Rattle.surf_graphs.specs.Graphs.{IsEven}
+use Rattle.surf_graphs.specs.Trees.{Tree}
+use Rattle.surf_graphs.proofs.CellLaws.{boundary_even as cells_boundary_even, signature_null}
+use Rattle.surf_graphs.proofs.Counting.{left_edges}
+use Rattle.surf_graphs.proofs.Graphs.{even-xor}
+use Rattle.surf_graphs.proofs.Rounds.{par, par-suc, par-zero}
+use Rattle.surf_graphs.proofs.Trees.{along as along_tree, along_leaves, tree_edge}
+use Rattle.surf_surfaces.specs.Cells.{cells_of}
+use Rattle.surf_surfaces.specs.Cotree.{cotree_edges, split_of}
+use Rattle.surf_surfaces.specs.Homology.{boundary, IsBoundary}
+use Rattle.surf_surfaces.specs.Mesh.{Mesh, pair, pair_of, pair_eq, steps, steps_from}
+use Rattle.surf_surfaces.specs.Surface.{face_count, edge_count, face_at, ends, faces_of, has_side, touches, HasEdge, IsSurface}
+use Rattle.surf_surfaces.specs.Walk.{parity}
+use Rattle.surf_surfaces.proofs.CellLaws.{surfaces_are_cells}
+use Rattle.surf_surfaces.proofs.EvenLaws.{touches-xor}
+use Rattle.surf_surfaces.proofs.FaceLaws.{touches_first}
+use Rattle.surf_surfaces.proofs.GraphWalkLaws.{closed_parity_even}
+use Rattle.surf_surfaces.proofs.JoinedLaws.{joined_closed}
+use Rattle.surf_surfaces.proofs.PairLaws.{pair_eq-other}
+use Rattle.surf_surfaces.proofs.SurfaceLaws.{two_faces_of}
 use Rattle.surf_opening.specs.ChosenCut.{AreDivided, full_cut, HasNoEnd, IsWithin, IsLargestEndless, IsTrimmedCut}
 use Rattle.surf_opening.specs.Laws.{TellsCut}
 use Rattle.surf_opening.specs.OffTheCut.{WalksOffTheCutAreNull}

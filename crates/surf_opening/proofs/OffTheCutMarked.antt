@@ -7,17 +7,17 @@ use Rattle.std.proofs.lemmas.Bool.{cases_eq, cases_Bool, both_ways, or_cases, fa
 use Rattle.std.proofs.lemmas.List.Elements.{Contains-get_or}
 use Rattle.surf_z2.specs.Parity.{sum_below}
 use Rattle.surf_z2.specs.Space.{Chain}
-use Rattle.surf_homology.specs.Cells.{primal}
-use Rattle.surf_homology.specs.Trees.{Tree}
-use Rattle.surf_homology.proofs.Trees.{tree_edge}
-use Rattle.surf_complex.specs.Cells.{cells_of}
-use Rattle.surf_complex.specs.Cotree.{tree_edges, is_left}
-use Rattle.surf_complex.specs.Mesh.{Mesh, pair}
-use Rattle.surf_complex.specs.Surface.{edge_count, ends, touches, IsSurface}
-use Rattle.surf_complex.specs.Walk.{parity}
-use Rattle.surf_complex.proofs.CellLaws.{ends_below, joins_is}
-use Rattle.surf_complex.proofs.EdgeLaws.{list_any_at, list_any_from}
-use Rattle.surf_complex.proofs.GraphWalkLaws.{closed_parity_even}
+use Rattle.surf_graphs.specs.Cells.{primal}
+use Rattle.surf_graphs.specs.Trees.{Tree}
+use Rattle.surf_graphs.proofs.Trees.{tree_edge}
+use Rattle.surf_surfaces.specs.Cells.{cells_of}
+use Rattle.surf_surfaces.specs.Cotree.{tree_edges, is_left}
+use Rattle.surf_surfaces.specs.Mesh.{Mesh, pair}
+use Rattle.surf_surfaces.specs.Surface.{edge_count, ends, touches, IsSurface}
+use Rattle.surf_surfaces.specs.Walk.{parity}
+use Rattle.surf_surfaces.proofs.CellLaws.{ends_below, joins_is}
+use Rattle.surf_surfaces.proofs.EdgeLaws.{list_any_at, list_any_from}
+use Rattle.surf_surfaces.proofs.GraphWalkLaws.{closed_parity_even}
 use Rattle.surf_opening.specs.ChosenCut.{AreDivided, full_cut, IsLargestEndless}
 use Rattle.surf_opening.specs.OffTheCut.{AreMarked, HasMarkedEnds, CutEndsAreMarked, UnmarkedWalksAreNull, WalksAreNullOrMeetMarked}
 use Rattle.surf_opening.specs.Rim.{along, back}

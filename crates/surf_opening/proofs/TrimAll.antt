@@ -4,8 +4,8 @@ use Rattle.std.proofs.lemmas.Bool.{cases_eq, cases_lt}
 use Rattle.std.specs.Prelude.{◌≢◌}
 use Rattle.surf_z2.specs.Space.{Chain}
 use Rattle.surf_z2.proofs.Sums.{count_below-same, count_below-without}
-use Rattle.surf_complex.specs.Mesh.{Mesh}
-use Rattle.surf_complex.specs.Surface.{edge_count, IsSurface}
+use Rattle.surf_surfaces.specs.Mesh.{Mesh}
+use Rattle.surf_surfaces.specs.Surface.{edge_count, IsSurface}
 use Rattle.surf_opening.specs.Laws.{TellsCut, cut_count, cut_degree, without}
 use Rattle.surf_opening.specs.Named.{IsTrimmedByGreatest}
 use Rattle.surf_opening.specs.Side.{Side}

@@ -9,13 +9,13 @@
 -- `OpenedAreChosen` makes the whole an `IsChosenOpening`.
 use Rattle.std.specs.Prelude.{◌≡◌, ◌≢◌, ℕ, ◌+◌, ◌<◌, Bool, IsTrue, IsFalse, MatchBool, ◌||◌, ◌↔◌, ◌⊎◌, List, ◌∷◌, All, AllPairs}
 use Rattle.surf_z2.specs.Space.{Chain}
-use Rattle.surf_homology.specs.Cells.{IsSplit}
-use Rattle.surf_homology.specs.Trees.{Tree}
-use Rattle.surf_complex.specs.Cells.{cells_of}
-use Rattle.surf_complex.specs.Cotree.{tree_edges, is_left, split_of}
-use Rattle.surf_complex.specs.Mesh.{Mesh, pair, pair_of, steps}
-use Rattle.surf_complex.specs.Surface.{face_count, edge_count, ends}
-use Rattle.surf_complex.specs.Walk.{last}
+use Rattle.surf_graphs.specs.Cells.{IsSplit}
+use Rattle.surf_graphs.specs.Trees.{Tree}
+use Rattle.surf_surfaces.specs.Cells.{cells_of}
+use Rattle.surf_surfaces.specs.Cotree.{tree_edges, is_left, split_of}
+use Rattle.surf_surfaces.specs.Mesh.{Mesh, pair, pair_of, steps}
+use Rattle.surf_surfaces.specs.Surface.{face_count, edge_count, ends}
+use Rattle.surf_surfaces.specs.Walk.{last}
 use Rattle.surf_opening.specs.Laws.{cut_degree, AreInOrder, HasItsEdges}
 use Rattle.surf_opening.specs.Opening.{IsOpenedBy}
 use Rattle.surf_opening.specs.Side.{Side}

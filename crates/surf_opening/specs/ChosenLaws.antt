@@ -1,12 +1,12 @@
 -- What holds of the chosen cut and of the opening along it.
 use Rattle.std.specs.Prelude.{◌≡◌, ◌≢◌, ℕ, ◌+◌, ◌<◌, ◌≤◌, ◌⊎◌, Bool, true, false, List, length}
 use Rattle.surf_z2.specs.Space.{Chain}
-use Rattle.surf_homology.specs.Trees.{Tree}
-use Rattle.surf_complex.specs.Choice.{Trees, AreChosenAt}
-use Rattle.surf_complex.specs.Disc.{IsOpening}
-use Rattle.surf_complex.specs.Mesh.{Mesh}
-use Rattle.surf_complex.specs.Surface.{face_count, edge_count, IsSurface}
-use Rattle.surf_complex.specs.Walk.{ArePositive}
+use Rattle.surf_graphs.specs.Trees.{Tree}
+use Rattle.surf_surfaces.specs.Choice.{Trees, AreChosenAt}
+use Rattle.surf_surfaces.specs.Disc.{IsOpening}
+use Rattle.surf_surfaces.specs.Mesh.{Mesh}
+use Rattle.surf_surfaces.specs.Surface.{face_count, edge_count, IsSurface}
+use Rattle.surf_surfaces.specs.Walk.{ArePositive}
 use Rattle.surf_opening.specs.Laws.{TellsCut, cut_count, cut_degree, AreInOrder}
 use Rattle.surf_opening.specs.Named.{IsTrimmedByGreatest}
 use Rattle.surf_opening.specs.Opening.{IsOpenedBy}

@@ -1,12 +1,12 @@
 -- Walks that meet none of the vertices of a cut.
 use Rattle.std.specs.Prelude.{◌≢◌, ℕ, ◌+◌, ◌<◌, ◌⊎◌, Bool, IsTrue, IsFalse, List, All, Contains}
 use Rattle.surf_z2.specs.Space.{Chain}
-use Rattle.surf_homology.specs.Trees.{Tree}
-use Rattle.surf_complex.specs.Cotree.{is_left}
-use Rattle.surf_complex.specs.Homology.{IsNull}
-use Rattle.surf_complex.specs.Mesh.{Mesh}
-use Rattle.surf_complex.specs.Surface.{face_count, edge_count, ends, touches, IsSurface}
-use Rattle.surf_complex.specs.Walk.{IsClosed}
+use Rattle.surf_graphs.specs.Trees.{Tree}
+use Rattle.surf_surfaces.specs.Cotree.{is_left}
+use Rattle.surf_surfaces.specs.Homology.{IsNull}
+use Rattle.surf_surfaces.specs.Mesh.{Mesh}
+use Rattle.surf_surfaces.specs.Surface.{face_count, edge_count, ends, touches, IsSurface}
+use Rattle.surf_surfaces.specs.Walk.{IsClosed}
 use Rattle.surf_opening.specs.ChosenCut.{AreDivided, IsTrimmedCut}
 
 -- no edge of the cut is at the vertex

@@ -1,6 +1,6 @@
 -- The texts of cycles.
 use Rattle.std.specs.Prelude.{ℕ, List, ◌++◌, length, map, sum, flat_map, codes, decimal}
-use Rattle.surf_complex.specs.Choice.{Loop}
+use Rattle.surf_surfaces.specs.Choice.{Loop}
 use Rattle.surf_print.specs.Lines.{numbers_text}
 
 -- a length and a walk

@@ -1,7 +1,7 @@
 -- The text of distances and parents from a base.
 use Rattle.std.specs.Prelude.{ℕ, ◌==◌, List, ◌++◌, Option, Some, None, flat_map, if◌then◌else◌, codes, decimal}
 use Rattle.std.specs.List.{range_with_len}
-use Rattle.surf_homology.specs.Trees.{Tree}
+use Rattle.surf_graphs.specs.Trees.{Tree}
 
 -- the parent of a vertex, which the base has not
 abbrev pub parent_in : Tree → ℕ → Option ℕ

@@ -3,14 +3,14 @@ use Rattle.std.proofs.Common.{◌≡◌, ℕ, ◌≤◌, ◌++◌, List, length,
 use Rattle.surf_base.specs.declared.limits.LimitKind.TheVariants.{Answer}
 use Rattle.surf_basis.specs.Certs.{IsTheCert}
 use Rattle.surf_cert.specs.Written.{loop_text, basis_text}
-use Rattle.surf_complex.specs.Mesh.{Mesh}
+use Rattle.surf_surfaces.specs.Mesh.{Mesh}
 use Rattle.surf_loops.specs.Loops.{LoopTables, IsGreedy, trees_of}
 use Rattle.surf_text.specs.Pages.{PageState, grown, Stops}
 use Rattle.surf_text.specs.declared.page.PageFault.{PageFault}
-use Rattle.surf_valid.specs.Rows.{LoopCert, BasisCert}
-use Rattle.surf_valid.specs.Bases.{IsValidBasis}
-use Rattle.surf_valid.specs.Chosen.{cert_of}
-use Rattle.surf_valid.specs.Valid.{IsValidLoops}
+use Rattle.surf_validity.specs.Rows.{LoopCert, BasisCert}
+use Rattle.surf_validity.specs.Bases.{IsValidBasis}
+use Rattle.surf_validity.specs.Chosen.{cert_of}
+use Rattle.surf_validity.specs.Valid.{IsValidLoops}
 use Rattle.surf_run.specs.Certificates.{GivesLoopCert, GivesBasisCert}
 use Rattle.surf_run.specs.Limits.{beyond}
 use Rattle.surf_run.specs.Outcome.{Outcome, answers}

@@ -9,10 +9,10 @@ use Rattle.surf_class.proofs.Rereading.{evidence_again}
 use Rattle.surf_class.specs.Evidences.{evidence_in}
 use Rattle.surf_class.specs.Texts.{head_text, both_ends, evidence_text, EvidenceFits}
 use Rattle.surf_classes.specs.Evidence.{Evidence, null_faces, odd_pairs, IsEvidence}
-use Rattle.surf_complex.proofs.EdgeLaws.{among-contains}
-use Rattle.surf_complex.proofs.SurfaceLaws.{edge_below}
-use Rattle.surf_complex.specs.Mesh.{Mesh, IsMesh, edges}
-use Rattle.surf_complex.specs.Surface.{face_count}
+use Rattle.surf_surfaces.proofs.EdgeLaws.{among-contains}
+use Rattle.surf_surfaces.proofs.SurfaceLaws.{edge_below}
+use Rattle.surf_surfaces.specs.Mesh.{Mesh, IsMesh, edges}
+use Rattle.surf_surfaces.specs.Surface.{face_count}
 use Rattle.surf_off.specs.Off.{OffParts, off_of}
 use Rattle.surf_z2.specs.Space.{Chain}
 use Rattle.surf_run.specs.Classes.{GivesClass, OnClassMesh, OnClassText}

@@ -3,8 +3,8 @@ use Rattle.std.proofs.Common.{◌≡◌, ℕ, ◌<◌, Bool, List, [], length, g
 use Rattle.std.specs.Prelude.{All}
 use Rattle.std.proofs.lemmas.List.{length-map, get_or-map, get_or_default}
 use Rattle.std.proofs.lemmas.List.Elements.{All-get_or, All-from_get_or}
-use Rattle.surf_complex.specs.Mesh.{Mesh, IsFace}
-use Rattle.surf_complex.specs.Surface.{face_at, IsSurface}
+use Rattle.surf_surfaces.specs.Mesh.{Mesh, IsFace}
+use Rattle.surf_surfaces.specs.Surface.{face_at, IsSurface}
 use Rattle.surf_opening.specs.Opening.{IsOpenedBy}
 use Rattle.surf_opening.specs.ChosenCut.{AreDivided, IsChosenOpening}
 use Rattle.surf_opening.proofs.ChosenOpenings.{chosen_are_openings}

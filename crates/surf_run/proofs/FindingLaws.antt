@@ -1,11 +1,11 @@
 -- What is found of the cycles of a surface, as answers.
 use Rattle.std.proofs.Common.{◌≡◌, ℕ, List, length, Option, Some, None, inl, inr, refl}
 use Rattle.std.specs.Prelude.{IfSome, ◌↔◌}
-use Rattle.surf_complex.specs.Mesh.{Mesh}
-use Rattle.surf_complex.specs.Surface.{IsSurface, edge_count}
-use Rattle.surf_complex.specs.Choice.{Trees, AreChosen, Loop, candidates}
-use Rattle.surf_complex.specs.ChoiceLaws.{LeastSimpleBasis}
-use Rattle.surf_complex.proofs.ChoiceExists.{choice_exists}
+use Rattle.surf_surfaces.specs.Mesh.{Mesh}
+use Rattle.surf_surfaces.specs.Surface.{IsSurface, edge_count}
+use Rattle.surf_surfaces.specs.Choice.{Trees, AreChosen, Loop, candidates}
+use Rattle.surf_surfaces.specs.ChoiceLaws.{LeastSimpleBasis}
+use Rattle.surf_surfaces.proofs.ChoiceExists.{choice_exists}
 use Rattle.surf_lengths.specs.Lengths.{AreLengths}
 use Rattle.surf_lengths.proofs.Positive.{lengths_positive}
 use Rattle.surf_basis.specs.Cycles.{loop_of, IsTheBasis, IsFirstCandidate, IsShortestCycle, AllSeparate}

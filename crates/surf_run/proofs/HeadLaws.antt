@@ -3,10 +3,10 @@ use Rattle.std.proofs.Common.{◌≡◌, ℕ, ◌<◌, List, [], ◌∷◌, ◌+
 use Rattle.std.specs.Prelude.{All, sum}
 use Rattle.std.specs.List.{AllByRecursion, flat_map}
 use Rattle.std.proofs.lemmas.List.Elements.{All-from_recursion}
-use Rattle.surf_complex.specs.Mesh.{Mesh}
-use Rattle.surf_complex.specs.Surface.{edge_count}
-use Rattle.surf_complex.specs.Choice.{Loop, loops_at}
-use Rattle.surf_complex.proofs.LoopsAtLaws.{IsLoopAt, loops_each}
+use Rattle.surf_surfaces.specs.Mesh.{Mesh}
+use Rattle.surf_surfaces.specs.Surface.{edge_count}
+use Rattle.surf_surfaces.specs.Choice.{Loop, loops_at}
+use Rattle.surf_surfaces.proofs.LoopsAtLaws.{IsLoopAt, loops_each}
 use Rattle.surf_loops.specs.Loops.{LoopTables, IsGreedy, loop_of, trees_of}
 use Rattle.surf_loops.specs.declared.head.LoopHead.{LoopHead}
 use Rattle.surf_print.specs.LoopTexts.{walk_line, loops_head, loops_text}

@@ -4,8 +4,8 @@ use Rattle.std.specs.List.{fold}
 use Rattle.std.proofs.lemmas.List.{length-set, length-replicate}
 use Rattle.std.specs.Prelude.{unwrap_or}
 use Rattle.surf_text.specs.Text.{TextLine, lines_of}
-use Rattle.surf_complex.specs.Mesh.{Mesh}
-use Rattle.surf_complex.specs.Surface.{edge_count}
+use Rattle.surf_surfaces.specs.Mesh.{Mesh}
+use Rattle.surf_surfaces.specs.Surface.{edge_count}
 use Rattle.surf_lengths.specs.Files.{Named, none_named, name_edge, name_line, all_named, missing_edge, when_read, behind_head, Head, head_of, lengths_in}
 use Rattle.surf_lengths.specs.Lines.{entry_of}
 use Rattle.surf_lengths.specs.declared.fault.LengthFault.{LengthFault}

@@ -5,8 +5,8 @@ use Rattle.std.specs.List.{AllByRecursion}
 use Rattle.std.specs.Str.{bytes_eq}
 use Rattle.std.proofs.lemmas.List.Elements.{recursion_from_All}
 use Rattle.surf_base.specs.Outside.{Files, bytes_of}
-use Rattle.surf_complex.specs.Mesh.{Mesh}
-use Rattle.surf_complex.specs.Surface.{edge_count}
+use Rattle.surf_surfaces.specs.Mesh.{Mesh}
+use Rattle.surf_surfaces.specs.Surface.{edge_count}
 use Rattle.surf_run.specs.Checking.{OnCheckedText, OnCheckedMesh, OnCertFile, OnCertText}
 use Rattle.surf_run.specs.Classes.{GivesClass, OnClassMesh, OnClassText, OnSecond, OnSameMesh, OnSameText}
 use Rattle.surf_run.specs.Confirming.{OnEvidenceText, OnEvidenceFile, OnConfirmMesh, OnConfirmText}

@@ -5,8 +5,8 @@ use Rattle.std.specs.Str.{bytes_eq}
 use Rattle.surf_base.specs.Outside.{Files, bytes_of}
 use Rattle.surf_base.specs.declared.limits.LimitKind.{LimitKind}
 use Rattle.surf_base.specs.declared.limits.LimitKind.TheVariants as limits
-use Rattle.surf_complex.specs.Mesh.{Mesh}
-use Rattle.surf_complex.specs.Surface.{edge_count}
+use Rattle.surf_surfaces.specs.Mesh.{Mesh}
+use Rattle.surf_surfaces.specs.Surface.{edge_count}
 use Rattle.surf_lengths.specs.Files.{lengths_in}
 use Rattle.surf_lengths.specs.declared.fault.LengthFault.{LengthFault}
 use Rattle.surf_off.specs.Off.{OffParts, off_of}

@@ -1,9 +1,9 @@
 -- How many vertices, faces and loops the mesh of a shape has, and how many edges a surface of triangles.
 use Rattle.std.proofs.Common.{◌≡◌, ℕ, ◌-◌, ◌*◌, ◌/◌, ◌≤◌, sym, subst, arith, inl, inr}
 use Rattle.std.proofs.lemmas.Nat.{mul-le}
-use Rattle.surf_complex.specs.Mesh.{Mesh}
-use Rattle.surf_complex.specs.Surface.{face_count, edge_count, IsSurface}
-use Rattle.surf_complex.proofs.CountLaws.{sizes_twice}
+use Rattle.surf_surfaces.specs.Mesh.{Mesh}
+use Rattle.surf_surfaces.specs.Surface.{face_count, edge_count, IsSurface}
+use Rattle.surf_surfaces.proofs.CountLaws.{sizes_twice}
 use Rattle.surf_mesh.specs.Sides.{side_count}
 use Rattle.surf_tori.specs.Chain.{chain}
 use Rattle.surf_tori.proofs.TorusLaws.{tori_have_counts}

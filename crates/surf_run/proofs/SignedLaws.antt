@@ -4,17 +4,17 @@ use Rattle.std.specs.List.{range_with_len}
 use Rattle.std.specs.Prelude.{replicate, Option}
 use Rattle.surf_class.specs.Desk.{IsSigned}
 use Rattle.surf_classes.specs.Evidence.{Evidence, IsChosen, IsClassEvidence}
-use Rattle.surf_complex.specs.Cells.{cells_of}
-use Rattle.surf_complex.specs.Choice.{AreChosenAt}
-use Rattle.surf_complex.specs.Cotree.{split_of}
-use Rattle.surf_complex.specs.Mesh.{Mesh}
-use Rattle.surf_complex.specs.Signature.{edge_signature}
-use Rattle.surf_complex.specs.Surface.{edge_count, face_count}
+use Rattle.surf_surfaces.specs.Cells.{cells_of}
+use Rattle.surf_surfaces.specs.Choice.{AreChosenAt}
+use Rattle.surf_surfaces.specs.Cotree.{split_of}
+use Rattle.surf_surfaces.specs.Mesh.{Mesh}
+use Rattle.surf_surfaces.specs.Signature.{edge_signature}
+use Rattle.surf_surfaces.specs.Surface.{edge_count, face_count}
 use Rattle.surf_cotree.specs.Grown.{IsMarked}
 use Rattle.surf_cotree.specs.Tables.{CotreeTables, IsMadeFor, parent_edge_of, split_with, tree_of as cotree_of}
 use Rattle.surf_cover.specs.Grown.{IsSigned as IsSignedForCover}
-use Rattle.surf_homology.specs.Cells.{IsSplit, Split}
-use Rattle.surf_homology.specs.Trees.{Tree}
+use Rattle.surf_graphs.specs.Cells.{IsSplit, Split}
+use Rattle.surf_graphs.specs.Trees.{Tree}
 use Rattle.surf_loops.specs.Loops.{LoopTables, IsGreedy, trees_of}
 use Rattle.surf_tree.specs.Tables.{tree_of}
 use Rattle.surf_z2.specs.Space.{Chain}

@@ -2,8 +2,8 @@
 use Rattle.std.proofs.Common.{◌≡◌, ◌≤◌, ℕ, zero, suc, ◌+◌, Bool, true, false, List, [], ◌∷◌, length, Option, Some, None, Result, Ok, Err, refl, sym, ap, subst, inl, inr}
 use Rattle.std.specs.Prelude.{nat_lt}
 use Rattle.std.proofs.lemmas.Bool.{cases_lt, lt-ltb, le-ltb}
-use Rattle.surf_complex.specs.Mesh.{Mesh}
-use Rattle.surf_complex.specs.Surface.{face_count}
+use Rattle.surf_surfaces.specs.Mesh.{Mesh}
+use Rattle.surf_surfaces.specs.Surface.{face_count}
 use Rattle.surf_text.specs.Text.{TextLine, lines_of, whole}
 use Rattle.surf_off.specs.Off.{OffParts, FaceLines, Face, ◌>>=◌, head_of, within_limits, both, counts_of, vertices_at, face_of, with_face, faces_at, ended, off_in, off_of}
 use Rattle.surf_off.specs.declared.fault.OffFault.{OffFault}

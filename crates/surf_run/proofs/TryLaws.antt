@@ -1,10 +1,10 @@
 -- What is found on a surface that is made, as an answer.
 use Rattle.std.proofs.Common.{◌≡◌, ℕ, List, length, Some, Ok, Err, inl, inr, sym, ap, ◌∙◌}
-use Rattle.surf_complex.specs.Mesh.{Mesh}
-use Rattle.surf_complex.specs.Surface.{IsSurface, edge_count}
-use Rattle.surf_complex.specs.Choice.{Trees, AreChosen, Loop, candidates}
-use Rattle.surf_complex.specs.ChoiceLaws.{LeastSimpleBasis}
-use Rattle.surf_complex.proofs.ChoiceExists.{choice_exists}
+use Rattle.surf_surfaces.specs.Mesh.{Mesh}
+use Rattle.surf_surfaces.specs.Surface.{IsSurface, edge_count}
+use Rattle.surf_surfaces.specs.Choice.{Trees, AreChosen, Loop, candidates}
+use Rattle.surf_surfaces.specs.ChoiceLaws.{LeastSimpleBasis}
+use Rattle.surf_surfaces.proofs.ChoiceExists.{choice_exists}
 use Rattle.surf_lengths.specs.Lengths.{AreLengths}
 use Rattle.surf_lengths.proofs.Positive.{lengths_positive}
 use Rattle.surf_basis.specs.Cycles.{loop_of, IsTheBasis, IsFirstCandidate, IsShortestCycle}

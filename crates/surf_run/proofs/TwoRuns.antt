@@ -13,22 +13,22 @@ use Rattle.surf_cert.specs.declared.cert.Cert.TheVariants.{Loops, Basis}
 use Rattle.surf_cert.specs.declared.fault.CertText.{CertText}
 use Rattle.surf_cert.proofs.ChosenFits.{AreNumbers}
 use Rattle.surf_cert.proofs.ChosenReread.{chosen_loops_again, chosen_basis_again}
-use Rattle.surf_complex.specs.Mesh.{Mesh}
-use Rattle.surf_complex.specs.Surface.{IsSurface, face_count, edge_count}
-use Rattle.surf_complex.specs.Walk.{ArePositive}
+use Rattle.surf_surfaces.specs.Mesh.{Mesh}
+use Rattle.surf_surfaces.specs.Surface.{IsSurface, face_count, edge_count}
+use Rattle.surf_surfaces.specs.Walk.{ArePositive}
 use Rattle.surf_print.specs.CycleTexts.{cycles_text}
 use Rattle.surf_print.specs.LoopTexts.{loops_text}
-use Rattle.surf_complex.specs.Choice.{Loop, loops_at}
-use Rattle.surf_complex.proofs.BasisLaws.{basis_is_least}
-use Rattle.surf_complex.proofs.LoopsAtLaws.{loops_are_least}
+use Rattle.surf_surfaces.specs.Choice.{Loop, loops_at}
+use Rattle.surf_surfaces.proofs.BasisLaws.{basis_is_least}
+use Rattle.surf_surfaces.proofs.LoopsAtLaws.{loops_are_least}
 use Rattle.surf_lengths.specs.Lengths.{IsLength, AreLengths}
 use Rattle.surf_lengths.proofs.Positive.{lengths_positive}
 use Rattle.surf_off.specs.Off.{OffParts, off_of}
 use Rattle.surf_off.specs.declared.fault.OffFault.{OffFault}
-use Rattle.surf_valid.specs.Chosen.{cert_of, basis_cert_of}
-use Rattle.surf_valid.proofs.BasisLaws.{valid_bases_are_least}
-use Rattle.surf_valid.proofs.ChosenTotals.{chosen_loops_total, chosen_basis_total}
-use Rattle.surf_valid.proofs.LoopLaws.{valid_loops_are_least}
+use Rattle.surf_validity.specs.Chosen.{cert_of, basis_cert_of}
+use Rattle.surf_validity.proofs.BasisLaws.{valid_bases_are_least}
+use Rattle.surf_validity.proofs.ChosenTotals.{chosen_loops_total, chosen_basis_total}
+use Rattle.surf_validity.proofs.LoopLaws.{valid_loops_are_least}
 use Rattle.surf_run.specs.CertTexts.{bounded, certified, then_bounded}
 use Rattle.surf_run.specs.Certificates.{GivesLoopCert, GivesBasisCert}
 use Rattle.surf_run.specs.CycleTasks.{Finds, OnMesh, OnMeshText}

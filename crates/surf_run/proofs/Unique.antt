@@ -6,8 +6,8 @@ use Rattle.surf_base.specs.Outside.{Files, bytes_of}
 use Rattle.surf_run.specs.Outcome.{Outcome, answers, refuses, misses, Shows, status_of}
 use Rattle.surf_run.specs.Steps.{Ends}
 use Rattle.surf_run.specs.Reading.{Reads, within_text}
-use Rattle.surf_complex.specs.Mesh.{Mesh}
-use Rattle.surf_complex.specs.Surface.{edge_count, IsSurface}
+use Rattle.surf_surfaces.specs.Mesh.{Mesh}
+use Rattle.surf_surfaces.specs.Surface.{edge_count, IsSurface}
 use Rattle.surf_off.specs.Written.{soup_text}
 use Rattle.surf_run.specs.Making.{made, IsMade, GivesMesh}
 use Rattle.surf_run.specs.Shapes.{mesh_of}
@@ -49,13 +49,13 @@ use Rattle.surf_run.specs.declared.weighted.Task.TheVariants.{Distances, LeastLo
 use Rattle.surf_base.specs.declared.limits.LimitKind.{LimitKind}
 use Rattle.surf_base.specs.declared.limits.LimitKind.TheVariants as limits
 use Rattle.surf_cert.specs.Written.{loop_text, basis_text}
-use Rattle.surf_valid.specs.Chosen.{cert_of, basis_cert_of}
-use Rattle.surf_valid.proofs.OneCert.{chosen_certs_are_one}
-use Rattle.surf_valid.proofs.OneBasis.{bases_are_one, chosen_basis_certs_are_one}
-use Rattle.surf_complex.specs.Walk.{ArePositive, IsClosed, walk_length}
-use Rattle.surf_complex.specs.Choice.{Loop, loops_at}
-use Rattle.surf_complex.proofs.ShortestTreeLaws.{shortest_trees_are_one}
-use Rattle.surf_complex.proofs.LoopsOne.{loops_are_one}
+use Rattle.surf_validity.specs.Chosen.{cert_of, basis_cert_of}
+use Rattle.surf_validity.proofs.OneCert.{chosen_certs_are_one}
+use Rattle.surf_validity.proofs.OneBasis.{bases_are_one, chosen_basis_certs_are_one}
+use Rattle.surf_surfaces.specs.Walk.{ArePositive, IsClosed, walk_length}
+use Rattle.surf_surfaces.specs.Choice.{Loop, loops_at}
+use Rattle.surf_surfaces.proofs.ShortestTreeLaws.{shortest_trees_are_one}
+use Rattle.surf_surfaces.proofs.LoopsOne.{loops_are_one}
 use Rattle.surf_lengths.proofs.Positive.{lengths_positive}
 use Rattle.surf_opening.proofs.ChosenTrees.{openings_at_are_one}
 use Rattle.surf_print.specs.CycleTexts.{cycle_line, cycles_text}

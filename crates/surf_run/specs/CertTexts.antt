@@ -1,7 +1,7 @@
 -- What is read of the text of a certificate, and the line of its first fault.
 use Rattle.std.specs.Prelude.{◌≡◌, ℕ, nat_lt, List, [], ◌∷◌, Result, Ok, Err, if◌then◌else◌, codes}
 use Rattle.surf_base.specs.declared.limits.LimitKind.TheVariants.{CertificateVertices}
-use Rattle.surf_complex.specs.Mesh.{Mesh}
+use Rattle.surf_surfaces.specs.Mesh.{Mesh}
 use Rattle.surf_cert.specs.Grammar.{cert_of}
 use Rattle.surf_cert.specs.declared.cert.Cert.{Cert}
 use Rattle.surf_cert.specs.declared.cert.Cert.TheVariants.{Loops, Basis}

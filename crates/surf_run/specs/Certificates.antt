@@ -1,11 +1,11 @@
 -- Certificates that loops at a base or the cycles of a basis are least, as answers.
 use Rattle.std.specs.Prelude.{ℕ, List}
 use Rattle.surf_cert.specs.Written.{loop_text, basis_text}
-use Rattle.surf_complex.specs.Mesh.{Mesh}
-use Rattle.surf_complex.specs.Choice.{Trees, AreChosenAt, AreChosen, Loop, IsChosenBasis}
-use Rattle.surf_valid.specs.Bases.{IsValidBasis}
-use Rattle.surf_valid.specs.Chosen.{cert_of, basis_cert_of}
-use Rattle.surf_valid.specs.Valid.{IsValidLoops}
+use Rattle.surf_surfaces.specs.Mesh.{Mesh}
+use Rattle.surf_surfaces.specs.Choice.{Trees, AreChosenAt, AreChosen, Loop, IsChosenBasis}
+use Rattle.surf_validity.specs.Bases.{IsValidBasis}
+use Rattle.surf_validity.specs.Chosen.{cert_of, basis_cert_of}
+use Rattle.surf_validity.specs.Valid.{IsValidLoops}
 use Rattle.surf_run.specs.Outcome.{Outcome}
 use Rattle.surf_run.specs.Says.{Says}
 

@@ -1,7 +1,7 @@
 -- What the check of a certificate against a surface with lengths answers.
 use Rattle.std.specs.Prelude.{ℕ, true, List}
 use Rattle.surf_base.specs.Outside.{Files}
-use Rattle.surf_complex.specs.Mesh.{Mesh}
+use Rattle.surf_surfaces.specs.Mesh.{Mesh}
 use Rattle.surf_run.specs.CertTexts.{IsCertText}
 use Rattle.surf_run.specs.Given.{IsFewLoopedText, IsMeasured}
 use Rattle.surf_run.specs.Outcome.{Outcome}

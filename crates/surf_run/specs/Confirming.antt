@@ -8,8 +8,8 @@ use Rattle.surf_class.specs.declared.fault.ClassFault.TheVariants.{Face, Boundar
 use Rattle.surf_class.specs.declared.fault.EvidenceFault.{EvidenceFault}
 use Rattle.surf_class.specs.declared.fault.EvidenceFault.TheVariants as text
 use Rattle.surf_classes.specs.Evidence.{Evidence, null_faces, odd_pairs, IsEvidence}
-use Rattle.surf_complex.specs.Mesh.{Mesh}
-use Rattle.surf_complex.specs.Walk.{parity}
+use Rattle.surf_surfaces.specs.Mesh.{Mesh}
+use Rattle.surf_surfaces.specs.Walk.{parity}
 use Rattle.surf_print.specs.Lines.{numbered}
 use Rattle.surf_run.specs.Cause.{Cause, due, starved, outcome_of}
 use Rattle.surf_run.specs.Outcome.{Outcome, answers, refuses}

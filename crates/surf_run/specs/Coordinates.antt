@@ -1,7 +1,7 @@
 -- Lengths of edges from the coordinates of their ends.
 use Rattle.std.specs.Prelude.{◌≡◌, ℕ, nat_le, List, [], ◌∷◌, Option, Some, None, Result, Ok, Err, if◌then◌else◌, codes}
 use Rattle.surf_base.specs.Outside.{Files}
-use Rattle.surf_complex.specs.Mesh.{Mesh}
+use Rattle.surf_surfaces.specs.Mesh.{Mesh}
 use Rattle.surf_geom.specs.Measures.{measures_in}
 use Rattle.surf_geom.specs.Texts.{lengths_text}
 use Rattle.surf_geom.specs.declared.fault.GeomFault.{GeomFault}

@@ -1,9 +1,9 @@
 -- A surface cut open into a disc along the cut that is chosen at a base.
 use Rattle.std.specs.Prelude.{ℕ, List, Bool, true, false, length}
-use Rattle.surf_complex.specs.Choice.{Trees, AreChosenAt}
-use Rattle.surf_complex.specs.Disc.{IsOpening}
-use Rattle.surf_complex.specs.Mesh.{Mesh}
-use Rattle.surf_complex.specs.Surface.{edge_count}
+use Rattle.surf_surfaces.specs.Choice.{Trees, AreChosenAt}
+use Rattle.surf_surfaces.specs.Disc.{IsOpening}
+use Rattle.surf_surfaces.specs.Mesh.{Mesh}
+use Rattle.surf_surfaces.specs.Surface.{edge_count}
 use Rattle.surf_off.specs.Off.{OffParts}
 use Rattle.surf_off.specs.Written.{opened_text}
 use Rattle.surf_opening.specs.ChosenCut.{IsChosenOpening}

@@ -1,7 +1,7 @@
 -- Whether a mesh is a disc.
 use Rattle.std.specs.Prelude.{◌≡◌, ◌≢◌, ◌⊎◌, ℕ, List, [], ◌∷◌, ◌++◌, codes, decimal, slice_index}
-use Rattle.surf_complex.specs.Mesh.{Mesh}
-use Rattle.surf_complex.specs.Disc.{IsDisc}
+use Rattle.surf_surfaces.specs.Mesh.{Mesh}
+use Rattle.surf_surfaces.specs.Disc.{IsDisc}
 use Rattle.surf_disc.specs.Border.{border_count}
 use Rattle.surf_disc.specs.Fault.{IsDiscFault}
 use Rattle.surf_disc.specs.declared.faults.BorderKind.{BorderKind}

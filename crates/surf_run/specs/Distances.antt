@@ -1,8 +1,8 @@
 -- The distances and parents of the vertices from a base.
 use Rattle.std.specs.Prelude.{ℕ, List}
-use Rattle.surf_homology.specs.Trees.{Tree}
-use Rattle.surf_complex.specs.Mesh.{Mesh}
-use Rattle.surf_complex.specs.ShortestTree.{IsShortestTree}
+use Rattle.surf_graphs.specs.Trees.{Tree}
+use Rattle.surf_surfaces.specs.Mesh.{Mesh}
+use Rattle.surf_surfaces.specs.ShortestTree.{IsShortestTree}
 use Rattle.surf_print.specs.DistanceTexts.{distances_text}
 use Rattle.surf_run.specs.Outcome.{Outcome}
 use Rattle.surf_run.specs.Says.{Says}

@@ -1,7 +1,7 @@
 -- The lines of the loops of a desk.
 use Rattle.std.specs.Prelude.{ℕ, List, ◌++◌, length, map, sum, flat_map}
-use Rattle.surf_complex.specs.Mesh.{Mesh}
-use Rattle.surf_complex.specs.Loop.{loop_walk}
+use Rattle.surf_surfaces.specs.Mesh.{Mesh}
+use Rattle.surf_surfaces.specs.Loop.{loop_walk}
 use Rattle.surf_tree.specs.Tables.{TreeTables, tree_of}
 use Rattle.surf_loops.specs.Loops.{LoopTables}
 use Rattle.surf_loops.specs.declared.head.LoopHead.{LoopHead}

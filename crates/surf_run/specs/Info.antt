@@ -1,9 +1,9 @@
 -- The counts of a surface, its characteristic, and its genus or its crosscaps.
 use Rattle.std.specs.Prelude.{◌≡◌, ℕ, ◌*◌, ◌⊎◌, ℤ, List, ◌++◌, codes, decimal}
 use Rattle.std.specs.Fmt.{signed_decimal}
-use Rattle.surf_complex.specs.Mesh.{Mesh, characteristic}
-use Rattle.surf_complex.specs.Surface.{face_count, edge_count, IsTwoSided}
-use Rattle.surf_complex.specs.Homology.{IsFullCount}
+use Rattle.surf_surfaces.specs.Mesh.{Mesh, characteristic}
+use Rattle.surf_surfaces.specs.Surface.{face_count, edge_count, IsTwoSided}
+use Rattle.surf_surfaces.specs.Homology.{IsFullCount}
 use Rattle.surf_run.specs.Outcome.{Outcome, answers}
 
 abbrev pub counts_text : ℕ → ℕ → ℕ → List ℕ

@@ -1,8 +1,8 @@
 -- A least basis.
 use Rattle.std.specs.Prelude.{ℕ, List}
-use Rattle.surf_complex.specs.Mesh.{Mesh}
-use Rattle.surf_complex.specs.Choice.{Trees, AreChosen, Loop, IsChosenBasis}
-use Rattle.surf_complex.specs.ChoiceLaws.{LeastSimpleBasis}
+use Rattle.surf_surfaces.specs.Mesh.{Mesh}
+use Rattle.surf_surfaces.specs.Choice.{Trees, AreChosen, Loop, IsChosenBasis}
+use Rattle.surf_surfaces.specs.ChoiceLaws.{LeastSimpleBasis}
 use Rattle.surf_print.specs.CycleTexts.{cycles_text}
 use Rattle.surf_run.specs.Outcome.{Outcome}
 use Rattle.surf_run.specs.Says.{Says}

@@ -1,8 +1,8 @@
 -- A least system of loops at a base.
 use Rattle.std.specs.Prelude.{ℕ, List}
-use Rattle.surf_complex.specs.Mesh.{Mesh}
-use Rattle.surf_complex.specs.Choice.{Trees, AreChosenAt, loops_at}
-use Rattle.surf_complex.specs.ChoiceLaws.{LoopsAtBase}
+use Rattle.surf_surfaces.specs.Mesh.{Mesh}
+use Rattle.surf_surfaces.specs.Choice.{Trees, AreChosenAt, loops_at}
+use Rattle.surf_surfaces.specs.ChoiceLaws.{LoopsAtBase}
 use Rattle.surf_print.specs.LoopTexts.{loops_text}
 use Rattle.surf_run.specs.Outcome.{Outcome}
 use Rattle.surf_run.specs.Says.{Says}

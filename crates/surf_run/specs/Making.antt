@@ -1,8 +1,8 @@
 -- What a command on a mesh that is made from numbers answers.
 use Rattle.std.specs.Prelude.{◌≡◌, nat_lt, if◌then◌else◌, Result, Ok, Err}
 use Rattle.surf_base.specs.declared.limits.LimitKind.TheVariants.{Vertices, Faces}
-use Rattle.surf_complex.specs.Mesh.{Mesh}
-use Rattle.surf_complex.specs.Surface.{face_count, edge_count}
+use Rattle.surf_surfaces.specs.Mesh.{Mesh}
+use Rattle.surf_surfaces.specs.Surface.{face_count, edge_count}
 use Rattle.surf_off.specs.Written.{soup_text}
 use Rattle.surf_run.specs.Limits.{beyond}
 use Rattle.surf_run.specs.Outcome.{Outcome}

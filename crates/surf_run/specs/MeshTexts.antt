@@ -1,6 +1,6 @@
 -- What is read of the text of a mesh, and the line of its first fault.
 use Rattle.std.specs.Prelude.{◌≡◌, ℕ, List, [], ◌∷◌, Result, Ok, Err, codes}
-use Rattle.surf_complex.specs.Mesh.{Mesh}
+use Rattle.surf_surfaces.specs.Mesh.{Mesh}
 use Rattle.surf_off.specs.Off.{OffParts, off_of}
 use Rattle.surf_off.specs.declared.fault.OffFault.{OffFault}
 use Rattle.surf_off.specs.declared.fault.OffFault.TheVariants.{Header, Counts, VertexLine, FaceSize, FaceIndex, FaceRepeat, Early, Trailing, Limit, Memory}

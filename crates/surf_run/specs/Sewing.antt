@@ -1,8 +1,8 @@
 -- Sewing: the mesh before the cut.
 use Rattle.std.specs.Prelude.{◌≡◌, ◌⊎◌, ℕ, List, [], ◌∷◌, ◌++◌, Result, Ok, Err, codes, decimal}
 use Rattle.surf_base.specs.Outside.{Files}
-use Rattle.surf_complex.specs.Disc.{IsDisc}
-use Rattle.surf_complex.specs.Mesh.{Mesh}
+use Rattle.surf_surfaces.specs.Disc.{IsDisc}
+use Rattle.surf_surfaces.specs.Mesh.{Mesh}
 use Rattle.surf_off.specs.Off.{OffParts}
 use Rattle.surf_print.specs.Lines.{numbered}
 use Rattle.surf_run.specs.Cause.{Cause, due, starved, outcome_of}

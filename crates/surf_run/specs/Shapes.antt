@@ -1,6 +1,6 @@
 -- Meshes that are made from numbers.
 use Rattle.std.specs.Prelude.{ℕ, ◌≤◌, ◌⊎◌, ◌≡◌, nat_le, ◌&&◌, if◌then◌else◌, Option, Some, None, option_and_then}
-use Rattle.surf_complex.specs.Mesh.{Mesh}
+use Rattle.surf_surfaces.specs.Mesh.{Mesh}
 use Rattle.surf_tori.specs.Chain.{chain}
 
 -- a chain of tori, each of as many rows and columns of squares; one torus is a chain too

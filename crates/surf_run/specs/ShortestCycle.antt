@@ -1,9 +1,9 @@
 -- A shortest cycle that doesn't separate a surface.
 use Rattle.std.specs.Prelude.{◌≡◌, ◌⊎◌, ℕ, List, ◌∷◌, codes}
-use Rattle.surf_complex.specs.Mesh.{Mesh}
-use Rattle.surf_complex.specs.Walk.{walk_length}
-use Rattle.surf_complex.specs.Cycle.{IsSimpleCycle, Separation, IsShortestNonseparating}
-use Rattle.surf_complex.specs.Choice.{Trees, AreChosen, Loop, candidates}
+use Rattle.surf_surfaces.specs.Mesh.{Mesh}
+use Rattle.surf_surfaces.specs.Walk.{walk_length}
+use Rattle.surf_surfaces.specs.Cycle.{IsSimpleCycle, Separation, IsShortestNonseparating}
+use Rattle.surf_surfaces.specs.Choice.{Trees, AreChosen, Loop, candidates}
 use Rattle.surf_print.specs.CycleTexts.{cycle_line}
 use Rattle.surf_run.specs.Outcome.{Outcome}
 use Rattle.surf_run.specs.Says.{Says}

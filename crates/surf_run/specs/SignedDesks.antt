@@ -1,9 +1,9 @@
 -- A desk with the trees that are chosen at vertex 0, and by them the signatures of all edges.
 use Rattle.std.specs.Prelude.{◌≡◌, ℕ, List}
 use Rattle.surf_class.specs.Desk.{IsSigned}
-use Rattle.surf_complex.specs.Choice.{Trees, AreChosenAt}
-use Rattle.surf_complex.specs.Cotree.{split_of}
-use Rattle.surf_complex.specs.Mesh.{Mesh}
+use Rattle.surf_surfaces.specs.Choice.{Trees, AreChosenAt}
+use Rattle.surf_surfaces.specs.Cotree.{split_of}
+use Rattle.surf_surfaces.specs.Mesh.{Mesh}
 use Rattle.surf_cotree.specs.Tables.{CotreeTables, split_with}
 use Rattle.surf_cover.specs.Grown.{IsSigned as IsSignedForCover}
 

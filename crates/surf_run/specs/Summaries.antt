@@ -1,10 +1,10 @@
 -- What is found on a surface in short: its counts, and what its least loops, its least basis and its shortest cycle measure.
 use Rattle.std.specs.Prelude.{◌≡◌, ℕ, List, ◌∷◌, ◌++◌, map, sum, codes, decimal}
-use Rattle.surf_complex.specs.Mesh.{Mesh}
-use Rattle.surf_complex.specs.Walk.{walk_length}
-use Rattle.surf_complex.specs.Cycle.{IsShortestNonseparating}
-use Rattle.surf_complex.specs.Choice.{Trees, AreChosenAt, AreChosen, Loop, loops_at, candidates, IsChosenBasis}
-use Rattle.surf_complex.specs.ChoiceLaws.{LoopsAtBase, LeastSimpleBasis}
+use Rattle.surf_surfaces.specs.Mesh.{Mesh}
+use Rattle.surf_surfaces.specs.Walk.{walk_length}
+use Rattle.surf_surfaces.specs.Cycle.{IsShortestNonseparating}
+use Rattle.surf_surfaces.specs.Choice.{Trees, AreChosenAt, AreChosen, Loop, loops_at, candidates, IsChosenBasis}
+use Rattle.surf_surfaces.specs.ChoiceLaws.{LoopsAtBase, LeastSimpleBasis}
 use Rattle.surf_run.specs.Info.{Informs}
 use Rattle.surf_run.specs.Outcome.{Outcome, answers}
 

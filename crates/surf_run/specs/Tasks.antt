@@ -1,7 +1,7 @@
 -- What commands on weighted surfaces answer.
 use Rattle.std.specs.Prelude.{ℕ, Bool, true, false, List}
 use Rattle.surf_base.specs.Outside.{Files}
-use Rattle.surf_complex.specs.Mesh.{Mesh}
+use Rattle.surf_surfaces.specs.Mesh.{Mesh}
 use Rattle.surf_off.specs.Off.{OffParts}
 use Rattle.surf_run.specs.Certificates.{GivesLoopCert}
 use Rattle.surf_run.specs.Cuts.{GivesCut, is_trimmed}

@@ -3,8 +3,8 @@ use Rattle.std.specs.Prelude.{◌≡◌, ◌*◌, ◌^◌, ℕ, true, nat_lt, Li
 use Rattle.surf_base.specs.Outside.{Files}
 use Rattle.surf_base.specs.declared.limits.LimitKind.TheVariants.{CoverLoops, CoverNodes}
 use Rattle.surf_classes.specs.Shortest.{IsChosenWalk}
-use Rattle.surf_complex.specs.Mesh.{Mesh}
-use Rattle.surf_complex.specs.Walk.{walk_length}
+use Rattle.surf_surfaces.specs.Mesh.{Mesh}
+use Rattle.surf_surfaces.specs.Walk.{walk_length}
 use Rattle.surf_print.specs.Lines.{numbers_text}
 use Rattle.surf_run.specs.Given.{loop_count, IsFewLoopedText, IsMeasured}
 use Rattle.surf_run.specs.Limits.{beyond}

@@ -1,7 +1,7 @@
 -- What is answered of a surface and lengths that are made from numbers.
 use Rattle.std.specs.Prelude.{◌≡◌, ℕ, nat_lt, if◌then◌else◌, Result, Ok, Err}
 use Rattle.surf_base.specs.declared.limits.LimitKind.TheVariants.{Loops, BasisVertices}
-use Rattle.surf_complex.specs.Mesh.{Mesh}
+use Rattle.surf_surfaces.specs.Mesh.{Mesh}
 use Rattle.surf_gen.specs.Made.{made_values}
 use Rattle.surf_run.specs.Given.{loop_count, searchable}
 use Rattle.surf_run.specs.Limits.{beyond}

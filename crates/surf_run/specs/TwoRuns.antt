@@ -3,7 +3,7 @@ use Rattle.std.specs.Prelude.{◌≡◌, ℕ, ◌≤◌, List, [], ◌∷◌, le
 use Rattle.surf_base.specs.Outside.{Files, bytes_of}
 use Rattle.surf_class.specs.Texts.{evidence_text}
 use Rattle.surf_classes.specs.Evidence.{Evidence}
-use Rattle.surf_complex.specs.Choice.{Loop}
+use Rattle.surf_surfaces.specs.Choice.{Loop}
 use Rattle.surf_print.specs.CycleTexts.{cycles_text}
 use Rattle.surf_print.specs.LoopTexts.{loops_text}
 use Rattle.surf_run.specs.Confirming.{right_line}

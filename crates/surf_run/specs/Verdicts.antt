@@ -1,7 +1,7 @@
 -- Whether a certificate is valid for a surface and lengths.
 use Rattle.std.specs.Prelude.{◌≡◌, ◌≢◌, ◌⊎◌, ℕ, List, [], ◌∷◌, ◌++◌, codes, decimal}
-use Rattle.surf_complex.specs.Mesh.{Mesh}
-use Rattle.surf_complex.specs.Homology.{total, IsLeastLoopSystem, IsLeastBasis}
+use Rattle.surf_surfaces.specs.Mesh.{Mesh}
+use Rattle.surf_surfaces.specs.Homology.{total, IsLeastLoopSystem, IsLeastBasis}
 use Rattle.surf_cert.specs.declared.cert.Cert.{Cert}
 use Rattle.surf_cert.specs.declared.cert.Cert.TheVariants.{Loops, Basis}
 use Rattle.surf_certcheck.specs.BasisFaults.{IsBasisFault}
@@ -11,9 +11,9 @@ use Rattle.surf_certcheck.specs.declared.fault.CertPart.TheVariants as part
 use Rattle.surf_certcheck.specs.declared.fault.CertFault.{CertFault}
 use Rattle.surf_certcheck.specs.declared.fault.CertFault.TheVariants.{Shape, Parent, Distance, Slack, Dual, Split, Heavier, NotClosed, Dependent, Uncovered, Memory}
 use Rattle.surf_print.specs.Lines.{numbered}
-use Rattle.surf_valid.specs.Rows.{LoopCert, BasisCert}
-use Rattle.surf_valid.specs.Bases.{IsValidBasis}
-use Rattle.surf_valid.specs.Valid.{IsValidLoops, loops_of}
+use Rattle.surf_validity.specs.Rows.{LoopCert, BasisCert}
+use Rattle.surf_validity.specs.Bases.{IsValidBasis}
+use Rattle.surf_validity.specs.Valid.{IsValidLoops, loops_of}
 use Rattle.surf_run.specs.Outcome.{Outcome, answers}
 
 -- the part that doesn't fit the mesh

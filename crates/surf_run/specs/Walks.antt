@@ -4,8 +4,8 @@ use Rattle.surf_base.specs.Outside.{Files, bytes_of}
 use Rattle.surf_class.specs.Walks.{walk_in}
 use Rattle.surf_class.specs.declared.fault.WalkFault.{WalkFault}
 use Rattle.surf_class.specs.declared.fault.WalkFault.TheVariants.{Empty, Form, NotVertex, NotEdge, Unclosed, Trailing, Memory}
-use Rattle.surf_complex.specs.Mesh.{Mesh}
-use Rattle.surf_complex.specs.Walk.{IsClosed}
+use Rattle.surf_surfaces.specs.Mesh.{Mesh}
+use Rattle.surf_surfaces.specs.Walk.{IsClosed}
 use Rattle.surf_print.specs.Lines.{numbered}
 use Rattle.surf_run.specs.Cause.{Cause, due, starved, outcome_of}
 use Rattle.surf_run.specs.Outcome.{Outcome, refuses}

@@ -1,7 +1,7 @@
 //! The task of the command `basis`.
 ghost use Rattle.std.specs.Prelude.{◌≡◌, ◌+◌, ◌≤◌, length, map, sum, flat_map};
 ghost use Rattle.surf_basis.specs.Cycles.{loops_of};
-ghost use Rattle.surf_complex.specs.Surface.{edge_count, face_count};
+ghost use Rattle.surf_surfaces.specs.Surface.{edge_count, face_count};
 ghost use Rattle.surf_print.specs.CycleTexts.{cycles_text};
 ghost use Rattle.surf_print.specs.Fills.{Fills};
 ghost use Rattle.surf_run.specs.CycleTexts.{line_of};

@@ -1,6 +1,6 @@
 //! The tasks of the command `certify`.
 ghost use Rattle.std.specs.Prelude.{◌≡◌, ◌<◌, ◌≤◌, ◌+◌, length};
-ghost use Rattle.surf_complex.specs.Surface.{edge_count, face_count};
+ghost use Rattle.surf_surfaces.specs.Surface.{edge_count, face_count};
 ghost use Rattle.surf_run.specs.Certificates.{GivesLoopCert, GivesBasisCert};
 ghost use Rattle.surf_run.specs.Tells.{Concludes};
 

@@ -3,8 +3,8 @@ ghost use Rattle.std.specs.Prelude.{◌≡◌, ◌≤◌, ◌+◌, length, None,
 ghost use Rattle.std.specs.Option.{option_copied};
 ghost use Rattle.surf_class.specs.Seen.{seen};
 ghost use Rattle.surf_classes.specs.Evidence.{AreClosed, IsClassEvidence, IsEvidence, joint_parity};
-ghost use Rattle.surf_complex.specs.Surface.{edge_count, face_count};
-ghost use Rattle.surf_complex.specs.Walk.{IsClosed};
+ghost use Rattle.surf_surfaces.specs.Surface.{edge_count, face_count};
+ghost use Rattle.surf_surfaces.specs.Walk.{IsClosed};
 ghost use Rattle.surf_run.specs.Classes.{null_word, odd_word, GivesClass, OnClass, OnClassMesh, OnClassText, OnSame, OnSameMesh, OnSameText, OnSecond};
 ghost use Rattle.surf_run.specs.Tells.{Concludes, ConcludesOver};
 

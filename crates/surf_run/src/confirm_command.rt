@@ -2,7 +2,7 @@
 ghost use Rattle.std.specs.Prelude.{◌≡◌, ◌≢◌, ◌≤◌, length, string_bytes, IfOk};
 ghost use Rattle.surf_class.specs.Seen.{seen};
 ghost use Rattle.surf_class.specs.declared.fault.ClassFault.TheVariants.{Memory};
-ghost use Rattle.surf_complex.specs.Walk.{IsClosed};
+ghost use Rattle.surf_surfaces.specs.Walk.{IsClosed};
 ghost use Rattle.surf_run.specs.Cause.{line_of};
 ghost use Rattle.surf_run.specs.Confirming.{IsEvidenceText, JudgesEvidence, OnConfirm, OnConfirmMesh, OnConfirmText, OnEvidenceFile, OnEvidenceText, evidence_cause, right_line, wrong_line};
 ghost use Rattle.surf_run.specs.Tells.{Concludes, ConcludesOver, Takes};

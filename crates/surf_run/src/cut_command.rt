@@ -1,6 +1,6 @@
 //! The task of the command `cut`.
 ghost use Rattle.std.specs.Prelude.{◌≡◌, ◌<◌, All, length, IfOk};
-ghost use Rattle.surf_complex.specs.Surface.{edge_count, face_count};
+ghost use Rattle.surf_surfaces.specs.Surface.{edge_count, face_count};
 ghost use Rattle.surf_cutter.specs.Opened.{IsHeld, IsChosenFor};
 ghost use Rattle.surf_run.specs.Cuts.{GivesCut, IsCutAt, cut_text, is_trimmed};
 ghost use Rattle.surf_run.specs.Tells.{Concludes};

@@ -1,6 +1,6 @@
 //! The task of the command `cycle`.
 ghost use Rattle.std.specs.Prelude.{◌≡◌, ◌+◌, ◌≤◌, length};
-ghost use Rattle.surf_complex.specs.Surface.{edge_count, face_count};
+ghost use Rattle.surf_surfaces.specs.Surface.{edge_count, face_count};
 ghost use Rattle.surf_print.specs.Fills.{Fills};
 ghost use Rattle.surf_run.specs.CycleTexts.{found_text};
 ghost use Rattle.surf_run.specs.ShortestCycle.{GivesCycle};

@@ -1,6 +1,6 @@
 //! Commands on the cycles of a surface with lengths.
 ghost use Rattle.std.specs.Prelude.{◌≡◌, ◌+◌, ◌≤◌, length, IfOk};
-ghost use Rattle.surf_complex.specs.Surface.{edge_count, face_count};
+ghost use Rattle.surf_surfaces.specs.Surface.{edge_count, face_count};
 ghost use Rattle.surf_run.specs.CycleTasks.{Finds, OnCycles, OnMesh, OnMeshText, vertex_limit};
 ghost use Rattle.surf_run.specs.Given.{IsSearchableText};
 ghost use Rattle.surf_run.specs.Tells.{Concludes, ConcludesOver, Takes};

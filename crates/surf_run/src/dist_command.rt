@@ -1,6 +1,6 @@
 //! The task of the command `dist`.
 ghost use Rattle.std.specs.Prelude.{◌≡◌, ◌<◌, length};
-ghost use Rattle.surf_complex.specs.Surface.{edge_count};
+ghost use Rattle.surf_surfaces.specs.Surface.{edge_count};
 ghost use Rattle.surf_run.specs.Distances.{GivesDistances};
 ghost use Rattle.surf_run.specs.Tells.{Concludes};
 

@@ -1,6 +1,6 @@
 //! The command `gen`.
 ghost use Rattle.std.specs.Prelude.{◌≡◌};
-ghost use Rattle.surf_complex.specs.Surface.{edge_count, IsSurface};
+ghost use Rattle.surf_surfaces.specs.Surface.{edge_count, IsSurface};
 ghost use Rattle.surf_run.specs.Making.{OnGen, GivesMesh};
 ghost use Rattle.surf_run.specs.Tells.{Concludes};
 

@@ -1,8 +1,8 @@
 //! The command `info`.
 ghost use Rattle.std.specs.Prelude.{◌≡◌, ◌≤◌, ◌++◌, length, string_bytes, IfOk};
 ghost use Rattle.surf_check.specs.Growth.{flag_of};
-ghost use Rattle.surf_complex.specs.Homology.{IsFullCount};
-ghost use Rattle.surf_complex.specs.Surface.{IsTurning, IsTwoSided};
+ghost use Rattle.surf_surfaces.specs.Homology.{IsFullCount};
+ghost use Rattle.surf_surfaces.specs.Surface.{IsTurning, IsTwoSided};
 ghost use Rattle.surf_run.specs.Info.{Informs, HasGenus, HasCrosscaps, mesh_counts, genus_text, crosscaps_text};
 ghost use Rattle.surf_run.specs.Leads.{OnInfo, OnInfoText};
 ghost use Rattle.surf_run.specs.Tells.{Concludes, ConcludesOver};

@@ -1,6 +1,6 @@
 //! The command `lengths`.
 ghost use Rattle.std.specs.Prelude.{◌≡◌, ◌≤◌, length, string_bytes, IfOk};
-ghost use Rattle.surf_complex.specs.Surface.{edge_count};
+ghost use Rattle.surf_surfaces.specs.Surface.{edge_count};
 ghost use Rattle.surf_run.specs.Cause.{line_of};
 ghost use Rattle.surf_run.specs.Coordinates.{GivesMeasures, Measures, OnCoordinates, OnLengths, OnLengthsText, few_decimals, geom_cause};
 ghost use Rattle.surf_run.specs.Tells.{Concludes, ConcludesOver, Takes};

@@ -1,6 +1,6 @@
 //! The task of the command `loops`.
 ghost use Rattle.std.specs.Prelude.{◌≡◌, ◌<◌, All, length, map, sum, flat_map};
-ghost use Rattle.surf_complex.specs.Surface.{edge_count};
+ghost use Rattle.surf_surfaces.specs.Surface.{edge_count};
 ghost use Rattle.surf_loops.specs.Loops.{IsRooted};
 ghost use Rattle.surf_print.specs.Fills.{Fills};
 ghost use Rattle.surf_run.specs.HeadTexts.{head_line, head_text, heads_text};

@@ -1,6 +1,6 @@
 //! The command `sew`.
 ghost use Rattle.std.specs.Prelude.{◌≡◌, ◌<◌, ◌≤◌, ◌^◌, length, string_bytes, IfOk};
-ghost use Rattle.surf_complex.specs.Surface.{face_count};
+ghost use Rattle.surf_surfaces.specs.Surface.{face_count};
 ghost use Rattle.surf_run.specs.Cause.{line_of};
 ghost use Rattle.surf_run.specs.Sewing.{GivesSewn, HasOrigins, IsSewn, OnCopies, OnOrigins, OnSew, OnSewText, OnSewnMesh, copy_cause, copy_count_line, sew_cause};
 ghost use Rattle.surf_run.specs.Steps.{Ends};

@@ -1,7 +1,7 @@
 //! The command `shortest`.
 ghost use Rattle.std.specs.Prelude.{◌≡◌, ◌≤◌, ◌+◌, ◌*◌, ◌^◌, length, IfOk};
-ghost use Rattle.surf_complex.specs.Surface.{edge_count, face_count};
-ghost use Rattle.surf_complex.specs.Walk.{IsClosed};
+ghost use Rattle.surf_surfaces.specs.Surface.{edge_count, face_count};
+ghost use Rattle.surf_surfaces.specs.Walk.{IsClosed};
 ghost use Rattle.surf_cover.specs.Starts.{IsLeastInClass};
 ghost use Rattle.surf_print.specs.Fills.{Fills};
 ghost use Rattle.surf_run.specs.Given.{loop_count};

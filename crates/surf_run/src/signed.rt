@@ -1,6 +1,6 @@
 //! A desk with signatures.
 ghost use Rattle.std.specs.Prelude.{◌≡◌, ◌≤◌, ◌+◌, length, IfOk};
-ghost use Rattle.surf_complex.specs.Surface.{edge_count, face_count};
+ghost use Rattle.surf_surfaces.specs.Surface.{edge_count, face_count};
 ghost use Rattle.surf_run.specs.SignedDesks.{IsChosenDesk};
 
 use std::alloc::Global;

@@ -1,7 +1,7 @@
 //! Whether a certificate is valid for a surface and lengths.
 ghost use Rattle.std.specs.Prelude.{◌≡◌, ◌≢◌, ◌≤◌, ◌+◌, length, string_bytes, IfOk};
 ghost use Rattle.surf_certcheck.specs.declared.fault.CertFault.TheVariants.{Memory};
-ghost use Rattle.surf_complex.specs.Surface.{edge_count, face_count};
+ghost use Rattle.surf_surfaces.specs.Surface.{edge_count, face_count};
 ghost use Rattle.surf_run.specs.Outcome.{answers};
 ghost use Rattle.surf_run.specs.Tells.{Concludes};
 ghost use Rattle.surf_run.specs.Verdicts.{JudgesBasis, JudgesCert, JudgesLoops, basis_line, fault_line, heavier_line, loops_line, part_line};

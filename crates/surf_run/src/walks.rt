@@ -1,6 +1,6 @@
 //! Walk files.
 ghost use Rattle.std.specs.Prelude.{◌≡◌, ◌≤◌, length, string_bytes, IfOk};
-ghost use Rattle.surf_complex.specs.Walk.{IsClosed};
+ghost use Rattle.surf_surfaces.specs.Walk.{IsClosed};
 ghost use Rattle.surf_run.specs.Cause.{line_of};
 ghost use Rattle.surf_run.specs.Tells.{Takes, TakesOver};
 ghost use Rattle.surf_run.specs.Walks.{HasWalk, WalksText, file_words, walk_cause, walk_line};

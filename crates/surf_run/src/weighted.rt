@@ -1,6 +1,6 @@
 //! Commands on a surface with lengths and a base.
 ghost use Rattle.std.specs.Prelude.{◌≡◌, ◌<◌, ◌≤◌, ℕ, length, IfOk};
-ghost use Rattle.surf_complex.specs.Surface.{edge_count, face_count};
+ghost use Rattle.surf_surfaces.specs.Surface.{edge_count, face_count};
 ghost use Rattle.surf_run.specs.Given.{IsWeighted};
 ghost use Rattle.surf_run.specs.Tasks.{OnTask, OnText, OnSurface, Performs, is_limited};
 ghost use Rattle.surf_run.specs.Tells.{Concludes, ConcludesOver, Takes, TakesOver};

@@ -1,6 +1,6 @@
 //! Lengths and a base for a surface.
 ghost use Rattle.std.specs.Prelude.{◌≡◌, ◌<◌, ◌≤◌, ◌++◌, codes, decimal, length, string_bytes, IfOk};
-ghost use Rattle.surf_complex.specs.Surface.{edge_count};
+ghost use Rattle.surf_surfaces.specs.Surface.{edge_count};
 ghost use Rattle.surf_run.specs.Cause.{line_of};
 ghost use Rattle.surf_run.specs.Given.{IsMeasured};
 ghost use Rattle.surf_run.specs.Tells.{Takes, TakesOver};

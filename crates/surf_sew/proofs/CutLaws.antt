@@ -9,8 +9,8 @@ use Rattle.std.proofs.lemmas.List.Folds.{list_any_at, list_any_none}
 use Rattle.std.proofs.lemmas.List.FromFn.{get_or-map-range_with_len, length-map-range_with_len}
 use Rattle.std.proofs.lemmas.List.Sums.{sum_by-cons}
 use Rattle.std.proofs.lemmas.Slice.Eq.{bytes_eq-Decides}
-use Rattle.surf_complex.specs.Mesh.{Mesh, IsFace}
-use Rattle.surf_complex.specs.Surface.{edge_count}
+use Rattle.surf_surfaces.specs.Mesh.{Mesh, IsFace}
+use Rattle.surf_surfaces.specs.Surface.{edge_count}
 use Rattle.surf_disc.proofs.TableLaws.{edges_within}
 use Rattle.surf_mesh.specs.Sides.{side_count}
 use Rattle.surf_off.specs.Clean.{IsVertexLine, IsOffParts}

@@ -6,7 +6,7 @@ use Rattle.std.specs.Option.{option_map}
 use Rattle.std.proofs.lemmas.List.{length-map, get_or-map, at_drop_more, at_drop_all}
 use Rattle.std.proofs.lemmas.List.Elements.{All-map}
 use Rattle.std.proofs.lemmas.List.Sums.{sum_by-cons}
-use Rattle.surf_complex.specs.Mesh.{Mesh, IsFace}
+use Rattle.surf_surfaces.specs.Mesh.{Mesh, IsFace}
 use Rattle.surf_off.specs.Off.{first_repeat}
 use Rattle.surf_off.proofs.FaceRows.{other_default}
 use Rattle.surf_sew.specs.declared.fault.SewFault.TheVariants.{Line, FaceRepeat}

@@ -1,8 +1,8 @@
 -- What is sewn of a mesh that was cut is that mesh.
 use Rattle.std.specs.Prelude.{◌≡◌, ◌<◌, ◌≤◌, ◌^◌, ℕ, List, length, Ok}
-use Rattle.surf_complex.specs.Disc.{IsOpening}
-use Rattle.surf_complex.specs.Mesh.{Mesh, IsMesh}
-use Rattle.surf_complex.specs.Surface.{face_count, edge_count}
+use Rattle.surf_surfaces.specs.Disc.{IsOpening}
+use Rattle.surf_surfaces.specs.Mesh.{Mesh, IsMesh}
+use Rattle.surf_surfaces.specs.Surface.{face_count, edge_count}
 use Rattle.surf_mesh.specs.Sides.{side_count}
 use Rattle.surf_off.specs.Clean.{IsOffParts}
 use Rattle.surf_off.specs.Off.{OffParts, off_of, off_without_limits}

@@ -1,7 +1,7 @@
 -- The text of a sewn mesh.
 use Rattle.std.specs.Prelude.{◌≡◌, ℕ, List, Ok}
-use Rattle.surf_complex.specs.Mesh.{Mesh}
-use Rattle.surf_complex.specs.Surface.{edge_count}
+use Rattle.surf_surfaces.specs.Mesh.{Mesh}
+use Rattle.surf_surfaces.specs.Surface.{edge_count}
 use Rattle.surf_off.specs.Off.{OffParts, off_without_limits}
 use Rattle.surf_off.specs.Written.{lines_at, mesh_text}
 use Rattle.surf_sew.specs.Sewing.{first_copies}

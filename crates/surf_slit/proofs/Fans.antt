@@ -1,13 +1,13 @@
 -- The faces around a vertex by their places, and the chains of faces there.
 use Rattle.std.proofs.Common.{◌≡◌, ℕ, ◌+◌, ◌<◌, ◌⊎◌, ◌↔◌, inl, inr, sym, refl, subst, ap, ◌∙◌, eqb, List, length, get_or, Bool, true, false, arith, eqb-true}
 use Rattle.std.proofs.lemmas.Bool.{cases_eq, or_cases}
-use Rattle.surf_complex.specs.Joined.{Joined, here, over}
-use Rattle.surf_complex.specs.Mesh.{Mesh, pair}
-use Rattle.surf_complex.specs.Side.{after}
-use Rattle.surf_complex.specs.Surface.{face_at, edge_count, ends, touches, HasEdge, IsSurface}
-use Rattle.surf_complex.proofs.FaceLaws.{pair_comm, touches_first}
-use Rattle.surf_complex.proofs.JoinedLaws.{joined_trans}
-use Rattle.surf_complex.proofs.SideLaws.{after-below}
+use Rattle.surf_surfaces.specs.Joined.{Joined, here, over}
+use Rattle.surf_surfaces.specs.Mesh.{Mesh, pair}
+use Rattle.surf_surfaces.specs.Side.{after}
+use Rattle.surf_surfaces.specs.Surface.{face_at, edge_count, ends, touches, HasEdge, IsSurface}
+use Rattle.surf_surfaces.proofs.FaceLaws.{pair_comm, touches_first}
+use Rattle.surf_surfaces.proofs.JoinedLaws.{joined_trans}
+use Rattle.surf_surfaces.proofs.SideLaws.{after-below}
 use Rattle.surf_opening.specs.Opening.{ShareUncutAt}
 use Rattle.surf_opening.specs.Side.{Side}
 use Rattle.surf_opening.proofs.Cotrees.{ends_pair}

@@ -2,9 +2,9 @@
 use Rattle.std.proofs.Common.{◌≡◌, ◌≢◌, ℕ, zero, suc, ◌+◌, ◌-◌, ◌<◌, ◌≤◌, ◌↔◌, max, inl, inr, sym, refl, subst, ap, ◌∙◌, cond, eqb, leb as nat_leb, Bool, true, false, arith, ne_eqb}
 use Rattle.std.proofs.lemmas.Bool.{cases_eq, cases_lt, cases_Bool, cond-true, cond-false, eq-eqb, both_ways, lt-ltb, le-ltb, le-leb, lt-leb, cases_order}
 use Rattle.surf_z2.specs.Parity.{count_below}
-use Rattle.surf_complex.specs.Joined.{Joined, here, over}
-use Rattle.surf_complex.specs.Side.{after}
-use Rattle.surf_complex.proofs.JoinedLaws.{joined_trans, joined_sym}
+use Rattle.surf_surfaces.specs.Joined.{Joined, here, over}
+use Rattle.surf_surfaces.specs.Side.{after}
+use Rattle.surf_surfaces.proofs.JoinedLaws.{joined_trans, joined_sym}
 use Rattle.surf_slit.specs.Link.{Linked, run_of}
 
 passes : (p : ℕ → Bool) (n : ℕ) → p n ≡ true → count_below (suc n) p ≡ suc (count_below n p)

@@ -1,8 +1,8 @@
 -- Places counted from behind one of them, so that it comes last.
 use Rattle.std.proofs.Common.{◌≡◌, ℕ, ◌+◌, ◌-◌, ◌<◌, ◌≤◌, ◌⊎◌, inl, inr, refl, subst, ap, ◌∙◌, arith}
 use Rattle.std.proofs.lemmas.Bool.{cases_lt, lt-ltb, le-ltb}
-use Rattle.surf_complex.specs.Mesh.{Mesh}
-use Rattle.surf_complex.specs.Side.{after}
+use Rattle.surf_surfaces.specs.Mesh.{Mesh}
+use Rattle.surf_surfaces.specs.Side.{after}
 use Rattle.surf_mesh.specs.Half.{IsFaceOf}
 use Rattle.surf_opening.proofs.Polygons.{after_cases}
 use Rattle.surf_slit.specs.Place.{place}

@@ -4,11 +4,11 @@ use Rattle.std.proofs.Math.ListN.{set}
 use Rattle.std.proofs.lemmas.Bool.{cases_eq, cases_lt, cases_order, or_left, or_right, eq-eqb, or_cases, eqb-true}
 use Rattle.std.proofs.lemmas.List.{get_or-set_same, get_or-set_other, get_or-replicate}
 use Rattle.surf_z2.specs.Parity.{count_below}
-use Rattle.surf_complex.specs.Joined.{Joined, here, over}
-use Rattle.surf_complex.specs.Mesh.{Mesh, pair}
-use Rattle.surf_complex.specs.Surface.{edge_count, ends, touches, ShareAt, IsSurface}
-use Rattle.surf_complex.proofs.CellLaws.{ends_below}
-use Rattle.surf_complex.proofs.JoinedLaws.{joined_lift}
+use Rattle.surf_surfaces.specs.Joined.{Joined, here, over}
+use Rattle.surf_surfaces.specs.Mesh.{Mesh, pair}
+use Rattle.surf_surfaces.specs.Surface.{edge_count, ends, touches, ShareAt, IsSurface}
+use Rattle.surf_surfaces.proofs.CellLaws.{ends_below}
+use Rattle.surf_surfaces.proofs.JoinedLaws.{joined_lift}
 use Rattle.surf_opening.specs.Opening.{ShareUncutAt}
 use Rattle.surf_opening.proofs.Counting.{pigeons}
 use Rattle.surf_opening.proofs.Edges.{edge_of}

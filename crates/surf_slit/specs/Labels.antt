@@ -1,8 +1,8 @@
 -- Labels of the corners of a surface that is cut along some of its edges.
 use Rattle.std.specs.Prelude.{◌≡◌, ℕ, ◌+◌, ◌<◌, ◌≤◌, ◌↔◌, List, Bool, false, length, slice_index, slice_index_or}
-use Rattle.surf_complex.specs.Joined.{Joined}
-use Rattle.surf_complex.specs.Mesh.{Mesh, pair}
-use Rattle.surf_complex.specs.Surface.{edge_count, ends}
+use Rattle.surf_surfaces.specs.Joined.{Joined}
+use Rattle.surf_surfaces.specs.Mesh.{Mesh, pair}
+use Rattle.surf_surfaces.specs.Surface.{edge_count, ends}
 use Rattle.surf_opening.specs.Opening.{ShareUncutAt}
 use Rattle.surf_mesh.specs.Sides.{side_count}
 use Rattle.surf_mesh.specs.Half.{IsFaceOf}

@@ -1,6 +1,6 @@
 -- Places around a vertex, and which of them hang together.
 use Rattle.std.specs.Prelude.{◌≡◌, ℕ, ◌<◌, ◌==◌, ◌⊎◌, Bool, false, if◌then◌else◌}
-use Rattle.surf_complex.specs.Side.{after}
+use Rattle.surf_surfaces.specs.Side.{after}
 use Rattle.surf_z2.specs.Parity.{count_below}
 
 -- Around n places: one is next to the other, and no cut is between them. The test says whether a cut is behind a place.

@@ -1,7 +1,7 @@
 -- A surface that is cut along some of its edges, with the labels of its corners.
 use Rattle.std.specs.Prelude.{◌≡◌, ℕ, ◌<◌, ◌^◌, List, Bool, false, length, replicate, slice_index}
-use Rattle.surf_complex.specs.Mesh.{Mesh}
-use Rattle.surf_complex.specs.Surface.{edge_count, IsSurface}
+use Rattle.surf_surfaces.specs.Mesh.{Mesh}
+use Rattle.surf_surfaces.specs.Surface.{edge_count, IsSurface}
 use Rattle.surf_mesh.specs.Sides.{side_count}
 use Rattle.surf_slit.specs.Labels.{corner_at, AreLabels}
 

@@ -2,14 +2,14 @@
 use Rattle.std.proofs.Common.{◌≡◌, ◌≢◌, ℕ, ◌<◌, true, false, eqb, List, [], ◌∷◌, ◌⊎◌, length, get_or, refl, sym, ap, ◌∙◌, arith, inl, inr, subst, AllPairs}
 use Rattle.std.specs.List.{list_any}
 use Rattle.std.proofs.lemmas.Bool.{eqb-true, eq-eqb, cases_order, lt-ltb, or_cases, true≢false}
-use Rattle.surf_complex.specs.Mesh.{IsFace, sides, pair, pair_of, pair_eq, edges, among}
-use Rattle.surf_complex.specs.Surface.{face_at, ends, has_side, runs, faces_with}
-use Rattle.surf_complex.proofs.PairLaws.{pair_eq-true, pair_eq-same, pair_eq-self, pair_same}
-use Rattle.surf_complex.proofs.EdgeLaws.{list_any_at, list_any_from, among-edges}
-use Rattle.surf_complex.proofs.FaceLaws.{pair_comm}
-use Rattle.surf_complex.proofs.SurfaceLaws.{edge_below, faces_with-has, faces_with-rise, has_side-face}
-use Rattle.surf_complex.proofs.LawProofs.{sides_differ}
-use Rattle.surf_complex.proofs.SideLaws.{pair_ends}
+use Rattle.surf_surfaces.specs.Mesh.{IsFace, sides, pair, pair_of, pair_eq, edges, among}
+use Rattle.surf_surfaces.specs.Surface.{face_at, ends, has_side, runs, faces_with}
+use Rattle.surf_surfaces.proofs.PairLaws.{pair_eq-true, pair_eq-same, pair_eq-self, pair_same}
+use Rattle.surf_surfaces.proofs.EdgeLaws.{list_any_at, list_any_from, among-edges}
+use Rattle.surf_surfaces.proofs.FaceLaws.{pair_comm}
+use Rattle.surf_surfaces.proofs.SurfaceLaws.{edge_below, faces_with-has, faces_with-rise, has_side-face}
+use Rattle.surf_surfaces.proofs.LawProofs.{sides_differ}
+use Rattle.surf_surfaces.proofs.SideLaws.{pair_ends}
 use Rattle.surf_tori.specs.Coherent.{Runs, CoherentEdgesHaveTwoFaces}
 
 -- a run of a face is a side of it

@@ -5,9 +5,9 @@ use Rattle.std.specs.Prelude.{ℤ, pos, ◌+ℤ◌, ◌-ℤ◌}
 use Rattle.std.proofs.Math.IntN.{neg_ℤ, +ℤ_assoc, +ℤ_comm, pos-+ℤ-pos, +ℤ-neg_ℤ_cancel, -ℤ-+ℤ_cancel}
 use Rattle.std.proofs.lemmas.List.Elements.{All-from_get_or, recursion_from_All}
 use Rattle.std.proofs.lemmas.List.Sums.{sum_by-cons}
-use Rattle.surf_complex.specs.Mesh.{Mesh, characteristic}
-use Rattle.surf_complex.specs.Surface.{face_count, edge_count, face_at, IsSurface}
-use Rattle.surf_complex.proofs.CountLaws.{sizes_twice}
+use Rattle.surf_surfaces.specs.Mesh.{Mesh, characteristic}
+use Rattle.surf_surfaces.specs.Surface.{face_count, edge_count, face_at, IsSurface}
+use Rattle.surf_surfaces.proofs.CountLaws.{sizes_twice}
 
 pub three_each : (xs : List (List ℕ)) → AllByRecursion (λ x. length x ≡ 3) xs → sum_by length xs ≡ 3 * length xs
 three_each [] h = refl

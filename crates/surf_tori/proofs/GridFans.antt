@@ -2,10 +2,10 @@
 use Rattle.std.proofs.Common.{◌≡◌, ◌≢◌, ℕ, zero, suc, ◌<◌, List, [], ◌∷◌, length, refl, sym, ap, ◌∙◌, arith, inl, inr, subst, Contains}
 use Rattle.std.proofs.lemmas.Bool.{cases_eq}
 use Rattle.std.proofs.lemmas.Nat.{same_from_place}
-use Rattle.surf_complex.specs.Joined.{Joined, here, over}
-use Rattle.surf_complex.specs.Mesh.{Mesh}
-use Rattle.surf_complex.specs.Surface.{face_count, face_at, HasCorner, Share, ShareAt, IsConnected, IsSurface}
-use Rattle.surf_complex.proofs.JoinedLaws.{joined_trans, joined_sym, joined_lift}
+use Rattle.surf_surfaces.specs.Joined.{Joined, here, over}
+use Rattle.surf_surfaces.specs.Mesh.{Mesh}
+use Rattle.surf_surfaces.specs.Surface.{face_count, face_at, HasCorner, Share, ShareAt, IsConnected, IsSurface}
+use Rattle.surf_surfaces.proofs.JoinedLaws.{joined_trans, joined_sym, joined_lift}
 use Rattle.surf_tori.specs.Coherent.{Runs}
 use Rattle.surf_tori.proofs.CoherentLaws.{coherent_edges_have_two_faces}
 use Rattle.surf_tori.proofs.LinkLaws.{Member, member_turn, member_but_last, linked_members, KeptShareAt, HasKeptFans, kept_share_at_turned, share_in_out, share_run}

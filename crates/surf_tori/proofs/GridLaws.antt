@@ -4,9 +4,9 @@ use Rattle.std.proofs.Math.Nat.{mul_comm}
 use Rattle.std.proofs.lemmas.Bool.{eq-eqb, ne_eqb}
 use Rattle.std.proofs.lemmas.Nat.{same_from_place, mul-add-lt}
 use Rattle.std.proofs.lemmas.List.Elements.{All-from_get_or}
-use Rattle.surf_complex.specs.Mesh.{Mesh, IsFace, pair_of}
-use Rattle.surf_complex.specs.Surface.{face_count, face_at}
-use Rattle.surf_complex.proofs.SurfaceLaws.{has_side-face}
+use Rattle.surf_surfaces.specs.Mesh.{Mesh, IsFace, pair_of}
+use Rattle.surf_surfaces.specs.Surface.{face_count, face_at}
+use Rattle.surf_surfaces.proofs.SurfaceLaws.{has_side-face}
 use Rattle.surf_tori.specs.Coherent.{Runs, IsCoherent}
 use Rattle.surf_tori.proofs.CoherentLaws.{runs_side}
 use Rattle.surf_tori.proofs.TriangleLaws.{triangle, run_of, runs_first, runs_second, runs_third}

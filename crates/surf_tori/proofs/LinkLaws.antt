@@ -1,11 +1,11 @@
 -- Lists of faces whose neighbours are related, and chains among faces with a property.
 use Rattle.std.proofs.Common.{◌≡◌, ◌≢◌, ℕ, ◌<◌, List, [], ◌∷◌, ◌++◌, ◌⊎◌, sym, inl, inr, subst}
-use Rattle.surf_complex.specs.Joined.{Joined, here, over}
-use Rattle.surf_complex.specs.Mesh.{Mesh, pair}
-use Rattle.surf_complex.specs.Surface.{face_at, HasCorner, HasEdge, Share, ShareAt}
-use Rattle.surf_complex.proofs.FaceLaws.{pair_comm}
-use Rattle.surf_complex.proofs.JoinedLaws.{joined_trans, joined_sym}
-use Rattle.surf_complex.proofs.SurfaceLaws.{has_side-face}
+use Rattle.surf_surfaces.specs.Joined.{Joined, here, over}
+use Rattle.surf_surfaces.specs.Mesh.{Mesh, pair}
+use Rattle.surf_surfaces.specs.Surface.{face_at, HasCorner, HasEdge, Share, ShareAt}
+use Rattle.surf_surfaces.proofs.FaceLaws.{pair_comm}
+use Rattle.surf_surfaces.proofs.JoinedLaws.{joined_trans, joined_sym}
+use Rattle.surf_surfaces.proofs.SurfaceLaws.{has_side-face}
 use Rattle.surf_tori.specs.Coherent.{Runs}
 use Rattle.surf_tori.proofs.CoherentLaws.{runs_side}
 

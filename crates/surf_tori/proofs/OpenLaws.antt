@@ -2,17 +2,17 @@
 use Rattle.std.proofs.Common.{◌≡◌, ◌≢◌, ℕ, ◌<◌, true, List, [], ◌∷◌, ◌⊎◌, get_or, sym, ap, inl, inr, subst}
 use Rattle.std.specs.List.{list_any}
 use Rattle.std.proofs.lemmas.Bool.{cases_eq}
-use Rattle.surf_complex.specs.Joined.{Joined, here, over}
-use Rattle.surf_complex.specs.Mesh.{Mesh, sides, pair, pair_of, pair_eq}
-use Rattle.surf_complex.specs.Surface.{face_count, face_at, has_side, runs, HasCorner, Share, IsConnected}
-use Rattle.surf_complex.proofs.EdgeLaws.{list_any_at, list_any_from}
-use Rattle.surf_complex.proofs.JoinedLaws.{joined_trans, joined_sym, joined_lift, joined_closed}
-use Rattle.surf_complex.proofs.PairLaws.{pair_eq-true, pair_eq-self}
+use Rattle.surf_surfaces.specs.Joined.{Joined, here, over}
+use Rattle.surf_surfaces.specs.Mesh.{Mesh, sides, pair, pair_of, pair_eq}
+use Rattle.surf_surfaces.specs.Surface.{face_count, face_at, has_side, runs, HasCorner, Share, IsConnected}
+use Rattle.surf_surfaces.proofs.EdgeLaws.{list_any_at, list_any_from}
+use Rattle.surf_surfaces.proofs.JoinedLaws.{joined_trans, joined_sym, joined_lift, joined_closed}
+use Rattle.surf_surfaces.proofs.PairLaws.{pair_eq-true, pair_eq-self}
 use Rattle.surf_tori.specs.Coherent.{Runs, IsCoherent}
 use Rattle.surf_tori.proofs.LinkLaws.{KeptShareAt, KeptShare, HasKeptFans, kept_share_turned}
 use Rattle.surf_tori.proofs.RenamedLaws.{run_corners, run_below, edge_corner, run_face, across}
 use Rattle.surf_tori.proofs.TriangleLaws.{run_of, runs_first}
-use Rattle.surf_complex.proofs.FaceLaws.{pair_comm}
+use Rattle.surf_surfaces.proofs.FaceLaws.{pair_comm}
 
 -- what stays joined where the triangle f is left out
 pub record Losing (mesh : Mesh) (f b0 b1 b2 : ℕ) : Type 0 where

@@ -6,9 +6,9 @@ use Rattle.std.proofs.lemmas.List.{append_assoc, map-append, length-append, leng
 use Rattle.std.proofs.lemmas.List.Elements.{recursion_from_All, All-from_get_or}
 use Rattle.std.proofs.lemmas.List.FromFn.{length-range_with_len, get_or-range_with_len, length-map-range_with_len, get_or-map-range_with_len}
 use Rattle.std.proofs.lemmas.Nat.{mul-le}
-use Rattle.surf_complex.specs.Mesh.{IsFace}
-use Rattle.surf_complex.specs.Side.{after}
-use Rattle.surf_complex.specs.Surface.{face_count, face_at}
+use Rattle.surf_surfaces.specs.Mesh.{IsFace}
+use Rattle.surf_surfaces.specs.Side.{after}
+use Rattle.surf_surfaces.specs.Surface.{face_count, face_at}
 use Rattle.surf_tori.specs.Torus.{torus, torus_faces}
 use Rattle.surf_tori.specs.ConnectedSum.{without, sum_name}
 use Rattle.surf_tori.specs.Chain.{joint, last_joint, longer_chain, chain}

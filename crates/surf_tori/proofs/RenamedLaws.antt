@@ -3,16 +3,16 @@ use Rattle.std.proofs.Common.{◌≡◌, ◌≢◌, ℕ, ◌<◌, true, List, []
 use Rattle.std.specs.List.{list_any}
 use Rattle.std.proofs.lemmas.List.{map-append, get_or-map, length-map, get_or_default}
 use Rattle.std.proofs.lemmas.List.Elements.{All-from_recursion}
-use Rattle.surf_complex.specs.Joined.{Joined, here, over}
-use Rattle.surf_complex.specs.Mesh.{Mesh, IsFace, steps_from, sides, pair, pair_eq}
-use Rattle.surf_complex.specs.Side.{after, corner}
-use Rattle.surf_complex.specs.Surface.{face_count, face_at, has_side, runs}
-use Rattle.surf_complex.proofs.PairLaws.{pair_eq-true, pair_eq-same, pair_eq-self}
-use Rattle.surf_complex.proofs.EdgeLaws.{list_any_at, list_any_from, list_any-map}
-use Rattle.surf_complex.proofs.CountLaws.{length-sides}
-use Rattle.surf_complex.proofs.FaceLaws.{IsStepBelow, face_steps}
-use Rattle.surf_complex.proofs.SideLaws.{sides_are_by_place, after-below}
-use Rattle.surf_complex.proofs.SurfaceLaws.{has_side-face}
+use Rattle.surf_surfaces.specs.Joined.{Joined, here, over}
+use Rattle.surf_surfaces.specs.Mesh.{Mesh, IsFace, steps_from, sides, pair, pair_eq}
+use Rattle.surf_surfaces.specs.Side.{after, corner}
+use Rattle.surf_surfaces.specs.Surface.{face_count, face_at, has_side, runs}
+use Rattle.surf_surfaces.proofs.PairLaws.{pair_eq-true, pair_eq-same, pair_eq-self}
+use Rattle.surf_surfaces.proofs.EdgeLaws.{list_any_at, list_any_from, list_any-map}
+use Rattle.surf_surfaces.proofs.CountLaws.{length-sides}
+use Rattle.surf_surfaces.proofs.FaceLaws.{IsStepBelow, face_steps}
+use Rattle.surf_surfaces.proofs.SideLaws.{sides_are_by_place, after-below}
+use Rattle.surf_surfaces.proofs.SurfaceLaws.{has_side-face}
 use Rattle.surf_tori.specs.Coherent.{Runs, IsCoherent}
 use Rattle.surf_tori.proofs.CoherentLaws.{runs_side, one_way, some_way}
 

@@ -6,12 +6,12 @@ use Rattle.std.specs.List.{sum_by}
 use Rattle.std.proofs.Math.Seq.{drop-cons}
 use Rattle.std.proofs.lemmas.List.{take-append-drop}
 use Rattle.std.proofs.lemmas.List.Sums.{sum_by-cons, sum_by-append}
-use Rattle.surf_complex.proofs.CountLaws.{sizes_twice}
+use Rattle.surf_surfaces.proofs.CountLaws.{sizes_twice}
 use Rattle.surf_tori.proofs.EulerLaws.{characteristic_of_sum}
-use Rattle.surf_complex.specs.Joined.{here, over}
-use Rattle.surf_complex.specs.Mesh.{Mesh, IsFace, pair}
-use Rattle.surf_complex.specs.Surface.{face_count, face_at, HasCorner, HasEdge}
-use Rattle.surf_complex.proofs.JoinedLaws.{joined_lift}
+use Rattle.surf_surfaces.specs.Joined.{here, over}
+use Rattle.surf_surfaces.specs.Mesh.{Mesh, IsFace, pair}
+use Rattle.surf_surfaces.specs.Surface.{face_count, face_at, HasCorner, HasEdge}
+use Rattle.surf_surfaces.proofs.JoinedLaws.{joined_lift}
 use Rattle.surf_tori.specs.Coherent.{Runs, IsCoherent}
 use Rattle.surf_tori.specs.ConnectedSum.{without, sum_name, connected_sum, CanLose, ConnectedSumsAreSurfaces, ConnectedSumsLoseTwo}
 use Rattle.surf_tori.proofs.RankLaws.{name, name_0, name_1, name_2, name_fresh, name_injective, name_in, named}

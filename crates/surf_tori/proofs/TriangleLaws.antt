@@ -2,9 +2,9 @@
 use Rattle.std.proofs.Common.{◌≡◌, ◌≢◌, ℕ, zero, suc, ◌<◌, true, false, ◌||◌, [], ◌∷◌, ◌⊎◌, get_or, sym, arith, inl, inr, AllPairs, Contains}
 use Rattle.std.proofs.lemmas.Bool.{or_cases, or_left, or_right, true≢false}
 use Rattle.std.proofs.lemmas.List.Elements.{All-from_recursion}
-use Rattle.surf_complex.specs.Mesh.{IsFace, pair_eq}
-use Rattle.surf_complex.specs.Surface.{runs}
-use Rattle.surf_complex.proofs.PairLaws.{pair_eq-true, pair_eq-self}
+use Rattle.surf_surfaces.specs.Mesh.{IsFace, pair_eq}
+use Rattle.surf_surfaces.specs.Surface.{runs}
+use Rattle.surf_surfaces.proofs.PairLaws.{pair_eq-true, pair_eq-self}
 
 -- three different vertices are a face
 three_differ : (a b c : ℕ) → a ≢ b → a ≢ c → b ≢ c → AllPairs (λ u v. u ≢ v) (a ∷ b ∷ c ∷ [])

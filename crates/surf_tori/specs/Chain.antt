@@ -1,7 +1,7 @@
 -- Chains of tori.
 use Rattle.std.specs.Prelude.{◌≡◌, ℕ, zero, suc, ◌+◌, ◌-◌, ◌*◌, ◌≤◌, pos, ◌-ℤ◌}
-use Rattle.surf_complex.specs.Mesh.{Mesh, characteristic}
-use Rattle.surf_complex.specs.Surface.{face_count, edge_count, IsSurface}
+use Rattle.surf_surfaces.specs.Mesh.{Mesh, characteristic}
+use Rattle.surf_surfaces.specs.Surface.{face_count, edge_count, IsSurface}
 use Rattle.surf_tori.specs.Torus.{torus}
 use Rattle.surf_tori.specs.ConnectedSum.{connected_sum}
 

@@ -1,7 +1,7 @@
 -- Coherently oriented meshes: each side is run once in each direction.
 use Rattle.std.specs.Prelude.{◌≡◌, ℕ, ◌<◌, true, length}
-use Rattle.surf_complex.specs.Mesh.{Mesh, IsMesh}
-use Rattle.surf_complex.specs.Surface.{edge_count, face_at, runs, ends, faces_with}
+use Rattle.surf_surfaces.specs.Mesh.{Mesh, IsMesh}
+use Rattle.surf_surfaces.specs.Surface.{edge_count, face_at, runs, ends, faces_with}
 
 -- face f runs from p's first to its second in its listed order
 abbrev pub Runs : Mesh → ℕ → ℕ × ℕ → Type 0

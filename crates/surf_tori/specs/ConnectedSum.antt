@@ -2,10 +2,10 @@
 use Rattle.std.specs.Prelude.{◌≡◌, ◌≢◌, ℕ, ◌+◌, ◌-◌, ◌<◌, ◌==◌, not, if◌then◌else◌, List, ◌++◌, length, map, take, drop, pos, ◌+ℤ◌, ◌-ℤ◌}
 use Rattle.std.specs.List.{list_any}
 use Rattle.surf_z2.specs.Parity.{count_below}
-use Rattle.surf_complex.specs.Joined.{Joined}
-use Rattle.surf_complex.specs.Mesh.{Mesh, characteristic}
-use Rattle.surf_complex.specs.Side.{corner}
-use Rattle.surf_complex.specs.Surface.{face_count, face_at, HasCorner, ShareAt, IsSurface}
+use Rattle.surf_surfaces.specs.Joined.{Joined}
+use Rattle.surf_surfaces.specs.Mesh.{Mesh, characteristic}
+use Rattle.surf_surfaces.specs.Side.{corner}
+use Rattle.surf_surfaces.specs.Surface.{face_count, face_at, HasCorner, ShareAt, IsSurface}
 use Rattle.surf_tori.specs.Coherent.{IsCoherent}
 
 -- a list without what stands at a place

@@ -1,8 +1,8 @@
 -- Tori of a by b squares, each cut into two triangles.
 use Rattle.std.specs.Prelude.{◌≡◌, ℕ, ◌+◌, ◌*◌, ◌/◌, ◌%◌, ◌<◌, ◌≤◌, List, [], ◌∷◌, flat_map, pos}
 use Rattle.std.specs.List.{range_with_len}
-use Rattle.surf_complex.specs.Mesh.{Mesh, IsFace, characteristic}
-use Rattle.surf_complex.specs.Surface.{face_count, edge_count, IsSurface}
+use Rattle.surf_surfaces.specs.Mesh.{Mesh, IsFace, characteristic}
+use Rattle.surf_surfaces.specs.Surface.{face_count, edge_count, IsSurface}
 
 -- the vertex in a row and a column; rows are taken modulo a, and columns modulo b
 abbrev pub grid_vertex : ℕ → ℕ → ℕ → ℕ → ℕ

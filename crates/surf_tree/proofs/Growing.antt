@@ -3,10 +3,10 @@ use Rattle.std.proofs.Common.{ℕ, ◌<◌, ◌≤◌, ◌≡◌, ◌≢◌, ◌
 use Rattle.std.proofs.lemmas.Bool.{cases_eq}
 use Rattle.surf_z2.specs.Parity.{any_below}
 use Rattle.surf_z2.proofs.ParityLaws.{any_below-same}
-use Rattle.surf_homology.specs.Graphs.{Graph, IsGraph}
-use Rattle.surf_homology.specs.Trees.{IsTree, IsShortest}
-use Rattle.surf_homology.proofs.Loops.{joins_turned, joins_ends}
-use Rattle.surf_homology.proofs.Distances.{ranks_least}
+use Rattle.surf_graphs.specs.Graphs.{Graph, IsGraph}
+use Rattle.surf_graphs.specs.Trees.{IsTree, IsShortest}
+use Rattle.surf_graphs.proofs.Loops.{joins_turned, joins_ends}
+use Rattle.surf_graphs.proofs.Distances.{ranks_least}
 use Rattle.surf_lengths.specs.Lengths.{longest}
 use Rattle.surf_tree.specs.Tables.{TreeTables, nobody, tree_of}
 use Rattle.surf_tree.specs.Searches.{at, IsSettled, IsTight, IsLeastTight}

@@ -2,12 +2,12 @@ use Rattle.std.proofs.Common.{ℕ, suc, ◌<◌, ◌≤◌, ◌≡◌, ◌≢◌
 use Rattle.std.proofs.Math.ListN.{length-set}
 use Rattle.std.proofs.lemmas.Bool.{cases_eq, cases_lt, cases_Bool, lt-ltb, le-ltb}
 use Rattle.std.proofs.lemmas.Bool.Decides.{nat_tests}
-use Rattle.surf_homology.specs.Graphs.{Graph, joins}
+use Rattle.surf_graphs.specs.Graphs.{Graph, joins}
 use Rattle.std.proofs.lemmas.List.{get_or-map, get_or-replicate, get_or_past}
 use Rattle.std.proofs.Math.ListN.{length-replicate}
 use Rattle.surf_z2.specs.Parity.{count_below}
 use Rattle.surf_z2.proofs.Sums.{count_below-without, count_below-same, count_below-all}
-use Rattle.surf_homology.proofs.Loops.{joins_turned}
+use Rattle.surf_graphs.proofs.Loops.{joins_turned}
 use Rattle.surf_heap.specs.Entries.{Entries, entry_of, lesser, precedes, IsLeastEntry}
 use Rattle.surf_net.specs.Rows.{link_at, IsRow}
 use Rattle.surf_tree.specs.Searches.{at}

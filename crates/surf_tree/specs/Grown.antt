@@ -1,12 +1,12 @@
 -- What a tree desk holds after it has grown the tree at a base.
 use Rattle.std.specs.Prelude.{ℕ, ◌≡◌, ◌≢◌, ◌<◌, ◌≤◌, ◌+◌, ◌*◌, ◌^◌, false, List, slice_index, slice_index_or, Some, None}
-use Rattle.surf_homology.specs.Graphs.{Graph, IsWalk, walk_length}
-use Rattle.surf_homology.specs.Loops.{IsSimple}
-use Rattle.surf_homology.specs.Trees.{IsTree, IsShortest, in_tree}
-use Rattle.surf_complex.specs.Mesh.{Mesh}
-use Rattle.surf_complex.specs.Surface.{edge_count}
-use Rattle.surf_complex.specs.ShortestTree.{IsShortestTree}
-use Rattle.surf_complex.specs.Cotree.{tree_edges}
+use Rattle.surf_graphs.specs.Graphs.{Graph, IsWalk, walk_length}
+use Rattle.surf_graphs.specs.Loops.{IsSimple}
+use Rattle.surf_graphs.specs.Trees.{IsTree, IsShortest, in_tree}
+use Rattle.surf_surfaces.specs.Mesh.{Mesh}
+use Rattle.surf_surfaces.specs.Surface.{edge_count}
+use Rattle.surf_surfaces.specs.ShortestTree.{IsShortestTree}
+use Rattle.surf_surfaces.specs.Cotree.{tree_edges}
 use Rattle.surf_lengths.specs.Lengths.{longest}
 use Rattle.surf_tree.specs.Tables.{TreeTables, IsMadeFor, nobody, parent_of, parent_edge_of, tree_of}
 use Rattle.surf_tree.specs.Searches.{IsLeastTight}

@@ -1,8 +1,8 @@
 -- What a tree desk shows: the tables of one tree of shortest walks.
 use Rattle.std.specs.Prelude.{◌≡◌, ℕ, ◌==◌, Bool, List, length, slice_index, Option, Some, None, if◌then◌else◌}
-use Rattle.surf_homology.specs.Trees.{Tree}
-use Rattle.surf_complex.specs.Mesh.{Mesh}
-use Rattle.surf_complex.specs.Surface.{edge_count}
+use Rattle.surf_graphs.specs.Trees.{Tree}
+use Rattle.surf_surfaces.specs.Mesh.{Mesh}
+use Rattle.surf_surfaces.specs.Surface.{edge_count}
 
 -- the base, for each vertex its distance, its parent and the edge to it, and for each edge whether the tree has it
 pub record TreeTables : Type 0 where

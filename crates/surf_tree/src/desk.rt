@@ -1,6 +1,6 @@
 //! The tables of one tree.
 ghost use Rattle.std.specs.Prelude.{◌≡◌, ◌<◌, length, slice_index, IfOk};
-ghost use Rattle.surf_complex.specs.Surface.{edge_count};
+ghost use Rattle.surf_surfaces.specs.Surface.{edge_count};
 ghost use Rattle.surf_tree.specs.Tables.{TreeTables, IsMadeFor, parent_of, parent_edge_of};
 ghost use Rattle.surf_tree.specs.Grown.{IsGrown};
 

@@ -1,10 +1,10 @@
 //! Graphs as a search sees them.
 ghost use Rattle.std.specs.Prelude.{◌≡◌, ◌<◌, ℕ, length, map, All};
-ghost use Rattle.surf_homology.specs.Graphs.{Graph};
-ghost use Rattle.surf_homology.specs.Cells.{primal};
-ghost use Rattle.surf_complex.specs.Surface.{edge_count};
-ghost use Rattle.surf_complex.specs.Walk.{edge_length};
-ghost use Rattle.surf_complex.specs.Cells.{cells_of};
+ghost use Rattle.surf_graphs.specs.Graphs.{Graph};
+ghost use Rattle.surf_graphs.specs.Cells.{primal};
+ghost use Rattle.surf_surfaces.specs.Surface.{edge_count};
+ghost use Rattle.surf_surfaces.specs.Walk.{edge_length};
+ghost use Rattle.surf_surfaces.specs.Cells.{cells_of};
 ghost use Rattle.surf_net.specs.Rows.{IsRow, edge_link};
 
 use surf_base::{EdgeId, VertexId};

@@ -1,10 +1,10 @@
 //! The parents of settled vertices, and the edges to them.
 ghost use Rattle.std.specs.Prelude.{◌≡◌, ◌≢◌, ◌<◌, ◌≤◌, ◌+◌, ◌^◌, ◌&&◌, ◌==◌, ℕ, false, not, length, slice_index_or};
 ghost use Rattle.surf_z2.specs.Parity.{any_below};
-ghost use Rattle.surf_homology.specs.Cells.{primal};
-ghost use Rattle.surf_complex.specs.Surface.{edge_count};
-ghost use Rattle.surf_complex.specs.Walk.{edge_length};
-ghost use Rattle.surf_complex.specs.Cells.{cells_of};
+ghost use Rattle.surf_graphs.specs.Cells.{primal};
+ghost use Rattle.surf_surfaces.specs.Surface.{edge_count};
+ghost use Rattle.surf_surfaces.specs.Walk.{edge_length};
+ghost use Rattle.surf_surfaces.specs.Cells.{cells_of};
 ghost use Rattle.surf_lengths.specs.Lengths.{longest};
 ghost use Rattle.surf_tree.specs.Tables.{nobody};
 ghost use Rattle.surf_tree.specs.Searches.{at, IsLeastTight};

@@ -1,9 +1,9 @@
 use Rattle.std.proofs.Common.{◌≡◌, ◌<◌, ◌+◌, ◌∙◌, true, List, length, sym, ap, subst, arith, add-one}
 use Rattle.std.specs.Prelude.{nat_le}
 use Rattle.std.specs.List.{list_all}
-use Rattle.surf_homology.proofs.Counting.{left_edges}
-use Rattle.surf_complex.specs.Cells.{cells_of}
-use Rattle.surf_complex.specs.ShortestTree.{IsShortestTree}
+use Rattle.surf_graphs.proofs.Counting.{left_edges}
+use Rattle.surf_surfaces.specs.Cells.{cells_of}
+use Rattle.surf_surfaces.specs.ShortestTree.{IsShortestTree}
 use Rattle.surf_lengths.proofs.Positive.{lengths_positive}
 use Rattle.surf_tree.specs.Tables.{TreeTables, tree_of}
 use Rattle.surf_loops.specs.Loops.{IsGreedy, IsMadeFor}

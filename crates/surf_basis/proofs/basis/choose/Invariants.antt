@@ -1,7 +1,7 @@
 use Rattle.std.proofs.Common.{ℕ, ◌≡◌, []}
-use Rattle.surf_homology.specs.Cells.{Split, IsSplit}
-use Rattle.surf_complex.specs.Cells.{cells_of}
-use Rattle.surf_complex.specs.Choice.{Trees, AreChosen}
+use Rattle.surf_graphs.specs.Cells.{Split, IsSplit}
+use Rattle.surf_surfaces.specs.Cells.{cells_of}
+use Rattle.surf_surfaces.specs.Choice.{Trees, AreChosen}
 use Rattle.surf_loops.specs.Loops.{IsMadeFor}
 use Rattle.surf_basis.specs.Candidates.{AreKept}
 use Rattle.surf_basis.specs.Signing.{AreSignatures}

@@ -1,8 +1,8 @@
 use Rattle.std.proofs.Common.{length, subst}
 use Rattle.std.specs.Prelude.{IfSome}
 use Rattle.std.proofs.lemmas.Result.{IfOk-weaker}
-use Rattle.surf_complex.specs.Homology.{IsFullCount}
-use Rattle.surf_complex.specs.ChoiceLaws.{LeastSimpleBasis}
+use Rattle.surf_surfaces.specs.Homology.{IsFullCount}
+use Rattle.surf_surfaces.specs.ChoiceLaws.{LeastSimpleBasis}
 use Rattle.surf_lengths.proofs.Positive.{lengths_positive}
 use Rattle.surf_basis.specs.Candidates.{AreCyclesOf}
 use Rattle.surf_basis.specs.Cycles.{first_of, loops_of, IsTheBasis, IsFirstCandidate, IsShortestCycle}

@@ -1,5 +1,5 @@
 use Rattle.std.proofs.Common.{◌≡◌, length, take}
-use Rattle.surf_homology.specs.Cells.{Split}
+use Rattle.surf_graphs.specs.Cells.{Split}
 use Rattle.surf_basis.specs.Candidates.{signed_heads}
 use Rattle.surf_basis.specs.Signing.{AreSignatures}
 use Rattle.surf_basis.proofs.basis.offer_loops.Given as goal

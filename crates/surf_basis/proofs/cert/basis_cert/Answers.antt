@@ -1,7 +1,7 @@
 use Rattle.std.proofs.Common.{◌<◌, ◌∙◌, map, sym, ap, subst, arith}
-use Rattle.surf_complex.specs.Surface.{ends}
-use Rattle.surf_complex.proofs.ClassLaws.{some_vertex}
-use Rattle.surf_valid.specs.Chosen.{dual_rows_of}
+use Rattle.surf_surfaces.specs.Surface.{ends}
+use Rattle.surf_surfaces.proofs.ClassLaws.{some_vertex}
+use Rattle.surf_validity.specs.Chosen.{dual_rows_of}
 use Rattle.surf_cotree.specs.Tables.{CotreeTables, tree_of}
 use Rattle.surf_loops.specs.Loops.{IsGreedy}
 use Rattle.surf_lengths.proofs.Positive.{lengths_positive}

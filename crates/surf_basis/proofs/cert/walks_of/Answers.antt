@@ -2,7 +2,7 @@ use Rattle.std.proofs.Common.{◌∙◌, sym, rules}
 use Rattle.std.proofs.lemmas.Iterator.{items_from_collect, YieldsList-from_map}
 use Rattle.std.proofs.lemmas.Iterator.Adapters.{YieldsList-from_vec}
 use Rattle.std.proofs.lemmas.Simd.{map-map}
-use Rattle.surf_complex.specs.Choice.{Loop}
+use Rattle.surf_surfaces.specs.Choice.{Loop}
 use Rattle.surf_basis.specs.Cycles.{loop_of}
 use Rattle.surf_basis.specs.declared.cycle.Cycle.{Cycle}
 use Rattle.surf_basis.proofs.cert.walks_of.Goals as goal

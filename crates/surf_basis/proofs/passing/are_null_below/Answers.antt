@@ -1,5 +1,5 @@
 use Rattle.std.proofs.Common.{ℕ, ◌≡◌, ◌<◌, ◌∙◌, Bool, List, sym, ap, subst, arith}
-use Rattle.surf_complex.specs.Loop.{loop_length}
+use Rattle.surf_surfaces.specs.Loop.{loop_length}
 use Rattle.surf_tree.specs.Tables.{tree_of}
 use Rattle.surf_basis.specs.Passing.{AreSums, IsNullLoop}
 use Rattle.surf_basis.proofs.Summed.{one_more, written_back}

@@ -1,5 +1,5 @@
 use Rattle.std.proofs.Common.{ℕ, ◌<◌}
-use Rattle.surf_complex.specs.Loop.{loop_length}
+use Rattle.surf_surfaces.specs.Loop.{loop_length}
 use Rattle.surf_tree.specs.Tables.{tree_of}
 use Rattle.surf_basis.specs.Passing.{IsNullLoop}
 use Rattle.surf_basis.proofs.passing.are_null_below.Given as goal

@@ -1,5 +1,5 @@
 use Rattle.std.proofs.Common.{◌≡◌, ◌<◌, ◌∙◌, ℕ, eqb-true, ap, arith}
-use Rattle.surf_complex.specs.Surface.{ends}
+use Rattle.surf_surfaces.specs.Surface.{ends}
 use Rattle.surf_loops.proofs.Turned.{ends_in}
 use Rattle.surf_basis.proofs.Summed.{loop_null}
 use Rattle.surf_basis.proofs.passing.is_null.Goals as goal

@@ -1,7 +1,7 @@
 use Rattle.std.proofs.Common.{◌≡◌, ◌<◌, ◌+◌, Some, sym, ap, ◌∙◌, subst, arith, add-one}
 use Rattle.std.specs.Option.{option_map}
-use Rattle.surf_complex.specs.ShortestTree.{IsShortestTree}
-use Rattle.surf_complex.specs.Choice.{loops_below}
+use Rattle.surf_surfaces.specs.ShortestTree.{IsShortestTree}
+use Rattle.surf_surfaces.specs.Choice.{loops_below}
 use Rattle.surf_lengths.proofs.Positive.{lengths_positive}
 use Rattle.surf_tree.specs.Tables.{TreeTables, tree_of}
 use Rattle.surf_loops.specs.Loops.{IsGreedy, IsMadeFor}

@@ -1,6 +1,6 @@
 use Rattle.std.proofs.Common.{ℕ, ◌≡◌}
 use Rattle.std.specs.Option.{option_map}
-use Rattle.surf_complex.specs.Choice.{Trees, AreChosen, loops_below}
+use Rattle.surf_surfaces.specs.Choice.{Trees, AreChosen, loops_below}
 use Rattle.surf_loops.specs.Loops.{IsMadeFor}
 use Rattle.surf_basis.specs.Candidates.{loop_in}
 use Rattle.surf_basis.specs.Cycles.{first_of}

@@ -1,8 +1,8 @@
 use Rattle.std.proofs.Common.{◌≡◌, ◌<◌, bit_xor, slice_index}
-use Rattle.surf_homology.specs.Cells.{Split}
+use Rattle.surf_graphs.specs.Cells.{Split}
 use Rattle.surf_tree.specs.Tables.{tree_of}
 use Rattle.surf_basis.specs.Signing.{AreSignatures}
-use Rattle.surf_sign.specs.Ways.{way_class}
+use Rattle.surf_signatures.specs.Ways.{way_class}
 use Rattle.surf_basis.proofs.signing.add_way.Given as goal
 
 -- what was added, with what is still to add, is the signature of the whole way

@@ -1,6 +1,6 @@
 use Rattle.std.proofs.Common.{◌<◌, length, refl, sym, ap, subst}
-use Rattle.surf_complex.specs.Homology.{IsFullCount}
-use Rattle.surf_complex.proofs.ClassLaws.{some_vertex}
+use Rattle.surf_surfaces.specs.Homology.{IsFullCount}
+use Rattle.surf_surfaces.proofs.ClassLaws.{some_vertex}
 use Rattle.surf_loops.specs.Loops.{LoopTables}
 use Rattle.surf_basis.proofs.Whole.{left_full, desk_signed}
 use Rattle.surf_basis.proofs.signing.signed_desk.Goals as goal

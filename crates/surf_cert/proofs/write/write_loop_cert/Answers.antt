@@ -3,7 +3,7 @@ use Rattle.std.proofs.lemmas.Result.{err_from_is_err_and}
 use Rattle.surf_text.specs.Pages.{Puts}
 use Rattle.surf_cert.proofs.Reread.{loops_again}
 use Rattle.surf_text.proofs.Writing.{puts_more, puts_stop}
-use Rattle.surf_valid.specs.Rows.{TreeRows, DualRows}
+use Rattle.surf_validity.specs.Rows.{TreeRows, DualRows}
 use Rattle.surf_cert.specs.Written.{head_text, tree_text, dual_text, left_text}
 use Rattle.surf_cert.proofs.write.write_loop_cert.Goals as goal
 

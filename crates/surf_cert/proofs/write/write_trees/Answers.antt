@@ -2,7 +2,7 @@ use Rattle.std.proofs.Common.{◌<◌, ◌≤◌, length, get_or, refl, subst, f
 use Rattle.std.proofs.lemmas.Result.{err_from_is_err_and}
 use Rattle.surf_text.specs.Pages.{Puts}
 use Rattle.surf_text.proofs.Writing.{loop_more, loop_stop, loop_done}
-use Rattle.surf_valid.specs.Rows.{TreeRows}
+use Rattle.surf_validity.specs.Rows.{TreeRows}
 use Rattle.surf_cert.specs.Written.{tree_text}
 use Rattle.surf_cert.proofs.write.write_trees.Goals as goal
 

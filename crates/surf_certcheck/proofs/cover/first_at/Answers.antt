@@ -1,5 +1,5 @@
 use Rattle.std.proofs.Common.{subst, arith}
-use Rattle.surf_complex.specs.Surface.{edge_count}
+use Rattle.surf_surfaces.specs.Surface.{edge_count}
 use Rattle.surf_certcheck.specs.Frames.{IsCoveredBy}
 use Rattle.surf_certcheck.proofs.Bases.{holds_more, failed_at}
 use Rattle.surf_certcheck.proofs.cover.first_at.Goals as goal

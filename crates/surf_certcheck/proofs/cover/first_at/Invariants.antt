@@ -1,6 +1,6 @@
 use Rattle.surf_certcheck.specs.First.{HoldsBelow}
 use Rattle.std.proofs.Common.{List}
-use Rattle.surf_homology.specs.Cells.{Split}
+use Rattle.surf_graphs.specs.Cells.{Split}
 use Rattle.surf_z2.specs.Space.{Weighed}
 use Rattle.std.proofs.Common.{ℕ}
 use Rattle.surf_certcheck.specs.Frames.{IsFrame, IsCoveredBy}

@@ -1,6 +1,6 @@
 use Rattle.std.proofs.Common.{rules, ◌≡◌, ◌<◌, ◌∙◌, map, sym, ap, subst, arith}
-use Rattle.surf_complex.specs.Surface.{edge_count}
-use Rattle.surf_valid.specs.Bases.{tree_at, split_in, weighed_cycle, IsCovered}
+use Rattle.surf_surfaces.specs.Surface.{edge_count}
+use Rattle.surf_validity.specs.Bases.{tree_at, split_in, weighed_cycle, IsCovered}
 use Rattle.surf_certcheck.specs.BasisFaults.{AreCovered, IsFirstAt}
 use Rattle.surf_certcheck.specs.Climbs.{IsClimbed}
 use Rattle.surf_certcheck.specs.First.{HoldsBelow, FailsFirst}

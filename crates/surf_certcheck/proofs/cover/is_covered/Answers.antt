@@ -1,5 +1,5 @@
-use Rattle.surf_complex.specs.Loop.{loop_walk}
-use Rattle.surf_valid.specs.Valid.{tree_of}
+use Rattle.surf_surfaces.specs.Loop.{loop_walk}
+use Rattle.surf_validity.specs.Valid.{tree_of}
 use Rattle.surf_certcheck.specs.Frames.{weighed_through}
 use Rattle.surf_certcheck.proofs.Framing.{cover_tells, signature_small}
 use Rattle.surf_certcheck.proofs.cover.is_covered.Goals as goal

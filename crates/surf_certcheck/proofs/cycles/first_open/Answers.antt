@@ -1,5 +1,5 @@
 use Rattle.std.proofs.Common.{subst}
-use Rattle.surf_valid.specs.Bases.{IsClosedList}
+use Rattle.surf_validity.specs.Bases.{IsClosedList}
 use Rattle.surf_certcheck.specs.BasisFaults.{IsClosedAt}
 use Rattle.surf_certcheck.proofs.Bases.{holds_more}
 use Rattle.surf_certcheck.proofs.cycles.first_open.Goals as goal

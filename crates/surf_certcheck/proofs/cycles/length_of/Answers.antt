@@ -1,6 +1,6 @@
 use Rattle.std.proofs.Common.{rules, ◌≡◌, ◌≤◌, ◌+◌, ◌^◌, ◌<◌, length, get_or, map, sum, take, ap, sym, ◌∙◌, arith}
-use Rattle.surf_complex.specs.Mesh.{steps}
-use Rattle.surf_complex.specs.Walk.{edge_length, edge_number}
+use Rattle.surf_surfaces.specs.Mesh.{steps}
+use Rattle.surf_surfaces.specs.Walk.{edge_length, edge_number}
 use Rattle.surf_certcheck.proofs.Steps.{sum_more, count_steps, take_whole}
 use Rattle.surf_certcheck.proofs.cycles.length_of.Goals as goal
 

@@ -1,5 +1,5 @@
 use Rattle.std.proofs.Common.{◌≡◌, length, ap, arith}
-use Rattle.surf_valid.specs.Bases.{split_in}
+use Rattle.surf_validity.specs.Bases.{split_in}
 use Rattle.surf_certcheck.proofs.Framing.{frame_none, no_weight}
 use Rattle.surf_certcheck.proofs.Validity.{signed_at, signed_count}
 use Rattle.surf_certcheck.proofs.frame.frame_cycles.Goals as goal

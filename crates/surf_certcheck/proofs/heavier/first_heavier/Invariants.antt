@@ -1,5 +1,5 @@
-use Rattle.surf_complex.specs.Surface.{edge_count}
-use Rattle.surf_valid.specs.Valid.{HasNoShorter}
+use Rattle.surf_surfaces.specs.Surface.{edge_count}
+use Rattle.surf_validity.specs.Valid.{HasNoShorter}
 use Rattle.surf_certcheck.specs.First.{HoldsBelow}
 use Rattle.surf_certcheck.specs.Split.{AreFlags, none}
 use Rattle.surf_certcheck.proofs.heavier.first_heavier.Given as goal

@@ -1,5 +1,5 @@
 use Rattle.std.proofs.Common.{sym, subst}
-use Rattle.surf_complex.specs.Surface.{face_count}
+use Rattle.surf_surfaces.specs.Surface.{face_count}
 use Rattle.surf_certcheck.specs.First.{HoldsBelow}
 use Rattle.surf_certcheck.specs.Rows.{HasDual}
 use Rattle.surf_certcheck.proofs.heavier.first_shorter.Goals as goal

@@ -1,7 +1,7 @@
 use Rattle.std.proofs.Common.{◌≡◌, ◌<◌, false}
-use Rattle.surf_homology.specs.Trees.{on_path}
-use Rattle.surf_complex.specs.Surface.{face_count}
-use Rattle.surf_valid.specs.Valid.{dual_tree, depth_at}
+use Rattle.surf_graphs.specs.Trees.{on_path}
+use Rattle.surf_surfaces.specs.Surface.{face_count}
+use Rattle.surf_validity.specs.Valid.{dual_tree, depth_at}
 use Rattle.surf_certcheck.specs.Paths.{IsShort, IsLeastIn}
 use Rattle.surf_certcheck.specs.Paths.{OnWay}
 use Rattle.surf_certcheck.proofs.heavier.least_on_path.Given as goal

@@ -1,6 +1,6 @@
 use Rattle.std.proofs.Common.{◌≡◌, None, get_or, ap, sym, subst, ◌∙◌, arith}
 use Rattle.std.proofs.lemmas.List.{get_or_default}
-use Rattle.surf_valid.specs.Valid.{side_at}
+use Rattle.surf_validity.specs.Valid.{side_at}
 use Rattle.surf_certcheck.specs.Paths.{HasLink}
 use Rattle.surf_certcheck.proofs.FaceLinks.{links_more}
 use Rattle.surf_certcheck.proofs.links.link_faces.Goals as goal

@@ -1,6 +1,6 @@
 use Rattle.std.proofs.Common.{◌≡◌, get_or, ap, sym, subst, ◌∙◌, arith}
 use Rattle.std.proofs.lemmas.List.{get_or_default}
-use Rattle.surf_valid.specs.Valid.{side_at}
+use Rattle.surf_validity.specs.Valid.{side_at}
 use Rattle.surf_certcheck.specs.Paths.{HasLink}
 use Rattle.surf_certcheck.proofs.FaceLinks.{step_is}
 use Rattle.surf_certcheck.proofs.links.step_up.Goals as goal

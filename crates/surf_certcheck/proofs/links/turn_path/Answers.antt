@@ -1,12 +1,12 @@
 use Rattle.std.proofs.Common.{false, eqb, get_or, ap, sym, ◌∙◌}
 use Rattle.surf_z2.specs.Parity.{xor}
 use Rattle.surf_z2.proofs.ParityLaws.{xor_assoc}
-use Rattle.surf_homology.specs.Cells.{dual as faces}
-use Rattle.surf_homology.specs.Trees.{IsTree, on_path}
-use Rattle.surf_homology.proofs.Trees.{path_step}
-use Rattle.surf_complex.specs.Cells.{cells_of}
-use Rattle.surf_valid.specs.Valid.{dual_tree}
-use Rattle.surf_valid.proofs.DualLaws.{dual_rows_are_tree}
+use Rattle.surf_graphs.specs.Cells.{dual as faces}
+use Rattle.surf_graphs.specs.Trees.{IsTree, on_path}
+use Rattle.surf_graphs.proofs.Trees.{path_step}
+use Rattle.surf_surfaces.specs.Cells.{cells_of}
+use Rattle.surf_validity.specs.Valid.{dual_tree}
+use Rattle.surf_validity.proofs.DualLaws.{dual_rows_are_tree}
 use Rattle.surf_certcheck.proofs.links.turn_path.Goals as goal
 
 pub loop-at-preserved : goal.loop-at-preserved

@@ -1,8 +1,8 @@
 use Rattle.std.proofs.Common.{◌≡◌, ◌<◌, ℕ, false, length, get_or}
 use Rattle.surf_z2.specs.Parity.{xor}
-use Rattle.surf_homology.specs.Trees.{on_path}
-use Rattle.surf_complex.specs.Surface.{edge_count, face_count}
-use Rattle.surf_valid.specs.Valid.{dual_tree, depth_at}
+use Rattle.surf_graphs.specs.Trees.{on_path}
+use Rattle.surf_surfaces.specs.Surface.{edge_count, face_count}
+use Rattle.surf_validity.specs.Valid.{dual_tree, depth_at}
 use Rattle.surf_certcheck.proofs.links.turn_path.Given as goal
 
 -- the flags and what is still to turn make up the path

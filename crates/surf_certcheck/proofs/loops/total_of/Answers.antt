@@ -1,6 +1,6 @@
 use Rattle.std.proofs.Common.{ℕ, Contains, get_or, subst}
 use Rattle.std.proofs.lemmas.List.{get_or_default}
-use Rattle.surf_complex.specs.Mesh.{pair, edges}
+use Rattle.surf_surfaces.specs.Mesh.{pair, edges}
 use Rattle.surf_certcheck.proofs.loops.total_of.Goals as goal
 
 pub size_between-total-requires-clause-edge : goal.size_between-total-requires-clause-edge

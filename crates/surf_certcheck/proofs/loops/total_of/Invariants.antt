@@ -1,6 +1,6 @@
 use Rattle.std.proofs.Common.{◌≡◌, ◌≤◌, ◌*◌, ◌^◌, map, sum, take}
-use Rattle.surf_complex.specs.Walk.{edge_number}
-use Rattle.surf_valid.specs.Valid.{loop_size}
+use Rattle.surf_surfaces.specs.Walk.{edge_number}
+use Rattle.surf_validity.specs.Valid.{loop_size}
 use Rattle.surf_certcheck.proofs.loops.total_of.Given as goal
 
 -- the loops of the pairs before

@@ -1,6 +1,6 @@
 use Rattle.std.proofs.Common.{take}
-use Rattle.surf_complex.specs.Surface.{edge_count}
-use Rattle.surf_valid.specs.Valid.{is_listed}
+use Rattle.surf_surfaces.specs.Surface.{edge_count}
+use Rattle.surf_validity.specs.Valid.{is_listed}
 use Rattle.surf_certcheck.specs.Split.{AreFlags}
 use Rattle.surf_certcheck.proofs.marks.flag_listed.Given as goal
 

@@ -1,5 +1,5 @@
-use Rattle.surf_complex.specs.Surface.{edge_count}
-use Rattle.surf_valid.specs.Valid.{parent_at, leads_up}
+use Rattle.surf_surfaces.specs.Surface.{edge_count}
+use Rattle.surf_validity.specs.Valid.{parent_at, leads_up}
 use Rattle.surf_certcheck.proofs.Flags.{more_flags}
 use Rattle.surf_certcheck.proofs.marks.flag_parents.Goals as goal
 

@@ -1,6 +1,6 @@
 use Rattle.surf_z2.specs.Parity.{any_below}
-use Rattle.surf_complex.specs.Surface.{edge_count}
-use Rattle.surf_valid.specs.Valid.{parent_at, leads_up}
+use Rattle.surf_surfaces.specs.Surface.{edge_count}
+use Rattle.surf_validity.specs.Valid.{parent_at, leads_up}
 use Rattle.surf_certcheck.specs.Split.{AreFlags}
 use Rattle.surf_certcheck.proofs.marks.flag_parents.Given as goal
 

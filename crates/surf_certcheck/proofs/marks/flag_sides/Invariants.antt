@@ -1,6 +1,6 @@
 use Rattle.surf_z2.specs.Parity.{any_below}
-use Rattle.surf_complex.specs.Surface.{edge_count}
-use Rattle.surf_valid.specs.Valid.{side_at, is_side}
+use Rattle.surf_surfaces.specs.Surface.{edge_count}
+use Rattle.surf_validity.specs.Valid.{side_at, is_side}
 use Rattle.surf_certcheck.specs.Split.{AreFlags}
 use Rattle.surf_certcheck.proofs.marks.flag_sides.Given as goal
 

@@ -1,5 +1,5 @@
 use Rattle.surf_certcheck.specs.First.{HoldsBelow}
-use Rattle.surf_valid.specs.Bases.{tree_at}
+use Rattle.surf_validity.specs.Bases.{tree_at}
 use Rattle.surf_certcheck.specs.Rows.{HasTreeRows}
 use Rattle.surf_certcheck.proofs.shape.fits_trees.Given as goal
 

@@ -1,6 +1,6 @@
 use Rattle.std.proofs.Common.{◌≡◌, ℕ, sym, ap, ◌∙◌, subst}
-use Rattle.surf_complex.specs.Mesh.{pair}
-use Rattle.surf_complex.specs.Surface.{ends}
+use Rattle.surf_surfaces.specs.Mesh.{pair}
+use Rattle.surf_surfaces.specs.Surface.{ends}
 use Rattle.surf_certcheck.specs.Split.{IsLeastBadPair, lesser_of}
 use Rattle.surf_certcheck.proofs.BadPairs.{stray_or_none, edge_or_stray, ends_ordered}
 use Rattle.surf_certcheck.proofs.split.first_split.Goals as goal

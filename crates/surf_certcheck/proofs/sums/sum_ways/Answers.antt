@@ -3,8 +3,8 @@ use Rattle.std.specs.List.{range_with_len}
 use Rattle.std.proofs.lemmas.Bool.{cases_eq, cases_lt}
 use Rattle.std.proofs.lemmas.List.{get_or_default}
 use Rattle.std.proofs.lemmas.List.Sorted.{IsPermutation-trans}
-use Rattle.surf_sign.specs.Ways.{way_class}
-use Rattle.surf_valid.specs.Valid.{tree_of, distance_at}
+use Rattle.surf_signatures.specs.Ways.{way_class}
+use Rattle.surf_validity.specs.Valid.{tree_of, distance_at}
 use Rattle.surf_certcheck.proofs.Climbing.{order_in, listed, step_up}
 use Rattle.surf_certcheck.proofs.sums.sum_ways.Goals as goal
 

@@ -1,7 +1,7 @@
 use Rattle.std.proofs.Common.{◌≡◌, ◌<◌, ℕ, length, slice_index}
-use Rattle.surf_homology.specs.Cells.{Split}
-use Rattle.surf_sign.specs.Ways.{way_class}
-use Rattle.surf_valid.specs.Valid.{tree_of}
+use Rattle.surf_graphs.specs.Cells.{Split}
+use Rattle.surf_signatures.specs.Ways.{way_class}
+use Rattle.surf_validity.specs.Valid.{tree_of}
 use Rattle.surf_certcheck.specs.Frames.{AreTaken}
 use Rattle.surf_certcheck.proofs.sums.sum_ways.Given as goal
 

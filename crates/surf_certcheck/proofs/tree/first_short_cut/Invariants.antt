@@ -1,4 +1,4 @@
-use Rattle.surf_valid.specs.Valid.{IsNoShortCut}
+use Rattle.surf_validity.specs.Valid.{IsNoShortCut}
 use Rattle.surf_certcheck.specs.First.{HoldsBelow}
 use Rattle.surf_certcheck.proofs.tree.first_short_cut.Given as goal
 

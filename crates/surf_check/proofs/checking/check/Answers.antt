@@ -1,6 +1,6 @@
 use Rattle.std.proofs.Common.{◌≢◌}
 use Rattle.std.proofs.lemmas.Result.{IfErr-weaker}
-use Rattle.surf_complex.specs.Surface.{IsSurface}
+use Rattle.surf_surfaces.specs.Surface.{IsSurface}
 use Rattle.surf_check.specs.Fault.{IsSurfaceFault}
 use Rattle.surf_check.specs.declared.checking.SurfaceFault.TheVariants.{Memory}
 use Rattle.surf_check.proofs.FaultLaws.{fault_only}

@@ -1,6 +1,6 @@
 use Rattle.std.proofs.Common.{◌≡◌, ◌+◌, ◌-◌, ◌*◌, ◌/◌, ap, ◌∙◌, arith, pos}
-use Rattle.surf_parity.specs.Statements.{genus_of}
-use Rattle.surf_parity.proofs.GenusLaws.{counts_are_at_most_two_more, genus_is_half}
+use Rattle.surf_turnings.specs.Statements.{genus_of}
+use Rattle.surf_turnings.proofs.GenusLaws.{counts_are_at_most_two_more, genus_is_half}
 use Rattle.surf_check.specs.Growth.{flag_of}
 use Rattle.surf_check.proofs.counts.genus.Goals as goal
 

@@ -1,7 +1,7 @@
 use Rattle.std.proofs.Common.{◌<◌, ℕ, length, get_or, sym, ap, subst, ◌∙◌, arith, inl, inr}
 use Rattle.std.proofs.lemmas.Bool.{cases_eq}
 use Rattle.std.proofs.lemmas.List.{get_or_read}
-use Rattle.surf_complex.specs.Surface.{face_count}
+use Rattle.surf_surfaces.specs.Surface.{face_count}
 use Rattle.surf_mesh.specs.Half.{IsFaceOf}
 use Rattle.surf_mesh.specs.Reach.{marked}
 use Rattle.surf_mesh.proofs.ReachSteps.{marked-inside}

@@ -1,9 +1,9 @@
 use Rattle.std.proofs.Common.{◌≡◌, ◌++◌, ◌∷◌, [], ℕ, List, map, sym, ap, ◌∙◌, arith, rules}
 use Rattle.std.proofs.lemmas.List.{map-append, append_assoc}
-use Rattle.surf_complex.specs.Surface.{ends, faces_of}
-use Rattle.surf_complex.specs.Turning.{Link}
-use Rattle.surf_complex.proofs.SurfaceLaws.{two_faces_of}
-use Rattle.surf_parity.specs.Chains.{links_up, links_down}
+use Rattle.surf_surfaces.specs.Surface.{ends, faces_of}
+use Rattle.surf_surfaces.specs.Turning.{Link}
+use Rattle.surf_surfaces.proofs.SurfaceLaws.{two_faces_of}
+use Rattle.surf_turnings.specs.Chains.{links_up, links_down}
 use Rattle.surf_check.specs.Links.{link_of}
 use Rattle.surf_check.specs.Oriented.{tree_in}
 use Rattle.surf_check.proofs.Misfits.{down_then}

@@ -1,9 +1,9 @@
 use Rattle.std.proofs.Common.{◌≡◌, List, Bool, length, sym, subst}
-use Rattle.surf_complex.specs.Surface.{face_count, IsTurning, IsTwoSided}
-use Rattle.surf_complex.specs.Turning.{Link, IsOneSided}
-use Rattle.surf_complex.proofs.TurningLaws.{one_sided_chains_exclude_turnings}
-use Rattle.surf_parity.specs.Chains.{Fits, tree_chain}
-use Rattle.surf_parity.proofs.OneSidedLaws.{misfits_are_one_sided}
+use Rattle.surf_surfaces.specs.Surface.{face_count, IsTurning, IsTwoSided}
+use Rattle.surf_surfaces.specs.Turning.{Link, IsOneSided}
+use Rattle.surf_surfaces.proofs.TurningLaws.{one_sided_chains_exclude_turnings}
+use Rattle.surf_turnings.specs.Chains.{Fits, tree_chain}
+use Rattle.surf_turnings.proofs.OneSidedLaws.{misfits_are_one_sided}
 use Rattle.surf_check.specs.Growth.{flag_of}
 use Rattle.surf_check.specs.Oriented.{tree_in}
 use Rattle.surf_check.proofs.orienting.orient.Goals as goal

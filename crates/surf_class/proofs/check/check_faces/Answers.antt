@@ -1,5 +1,5 @@
 use Rattle.std.proofs.Common.{subst, List, Bool}
-use Rattle.surf_complex.specs.Surface.{edge_count}
+use Rattle.surf_surfaces.specs.Surface.{edge_count}
 use Rattle.surf_certcheck.specs.First.{HoldsBelow, FailsFirst}
 use Rattle.surf_class.specs.Agreement.{AgreesAt}
 use Rattle.surf_class.proofs.Checking.{null_right, null_wrong}

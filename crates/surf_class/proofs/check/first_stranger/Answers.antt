@@ -1,8 +1,8 @@
 use Rattle.std.proofs.Common.{◌≡◌, ◌<◌, ℕ, false, get_or, subst, sym, ap, ◌∙◌, arith}
 use Rattle.std.proofs.lemmas.List.{get_or_default}
-use Rattle.surf_complex.specs.Mesh.{pair, among, edges}
-use Rattle.surf_complex.specs.Surface.{edge_count, ends}
-use Rattle.surf_complex.proofs.EdgeLaws.{contains_from_among}
+use Rattle.surf_surfaces.specs.Mesh.{pair, among, edges}
+use Rattle.surf_surfaces.specs.Surface.{edge_count, ends}
+use Rattle.surf_surfaces.proofs.EdgeLaws.{contains_from_among}
 use Rattle.surf_class.proofs.LeastFaults.{no_pair_at, none_found}
 use Rattle.surf_class.proofs.Pairs.{pair_ordered}
 use Rattle.surf_class.proofs.check.first_stranger.Goals as goal

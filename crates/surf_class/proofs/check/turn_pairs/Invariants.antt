@@ -1,7 +1,7 @@
 use Rattle.std.proofs.Common.{◌≡◌, ◌<◌, ℕ, false, map, take, length, get_or}
 use Rattle.surf_z2.specs.Parity.{xor, odd}
-use Rattle.surf_complex.specs.Walk.{edge_number}
-use Rattle.surf_complex.specs.Surface.{face_count, borders}
+use Rattle.surf_surfaces.specs.Walk.{edge_number}
+use Rattle.surf_surfaces.specs.Surface.{face_count, borders}
 use Rattle.surf_class.proofs.check.turn_pairs.Given as goal
 
 -- the pairs before

@@ -2,10 +2,10 @@ use Rattle.std.proofs.Common.{◌≡◌, ◌<◌, ℕ, length, get_or, bit_xor, 
 use Rattle.std.specs.Int.Bits.{xor_assoc}
 use Rattle.std.proofs.lemmas.List.FromFn.{get_or-map-range_with_len}
 use Rattle.surf_z2.specs.Space.{numbers, sum_of}
-use Rattle.surf_complex.specs.Mesh.{steps}
-use Rattle.surf_complex.specs.Surface.{edge_count}
-use Rattle.surf_complex.specs.Walk.{edge_number}
-use Rattle.surf_complex.specs.Signature.{edge_signature}
+use Rattle.surf_surfaces.specs.Mesh.{steps}
+use Rattle.surf_surfaces.specs.Surface.{edge_count}
+use Rattle.surf_surfaces.specs.Walk.{edge_number}
+use Rattle.surf_surfaces.specs.Signature.{edge_signature}
 use Rattle.surf_cotree.specs.Tables.{split_with}
 use Rattle.surf_certcheck.proofs.Steps.{count_steps, take_whole, sets_more}
 use Rattle.surf_class.proofs.finding.add_steps.Goals as goal

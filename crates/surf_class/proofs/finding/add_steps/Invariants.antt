@@ -1,9 +1,9 @@
 use Rattle.std.proofs.Common.{◌≡◌, bit_xor, map, take}
 use Rattle.surf_z2.specs.Space.{numbers, sum_of}
-use Rattle.surf_homology.specs.Trees.{Tree}
-use Rattle.surf_complex.specs.Mesh.{steps}
-use Rattle.surf_complex.specs.Walk.{edge_number}
-use Rattle.surf_complex.specs.Signature.{edge_signature}
+use Rattle.surf_graphs.specs.Trees.{Tree}
+use Rattle.surf_surfaces.specs.Mesh.{steps}
+use Rattle.surf_surfaces.specs.Walk.{edge_number}
+use Rattle.surf_surfaces.specs.Signature.{edge_signature}
 use Rattle.surf_cotree.specs.Tables.{split_with}
 use Rattle.surf_class.specs.Desk.{IsSigned}
 use Rattle.surf_class.proofs.finding.add_steps.Given as goal

@@ -1,7 +1,7 @@
 use Rattle.std.proofs.Common.{sym, subst, List, Bool}
 use Rattle.std.specs.Option.{option_copied}
-use Rattle.surf_complex.specs.Homology.{IsBoundary}
-use Rattle.surf_complex.specs.Surface.{edge_count}
+use Rattle.surf_surfaces.specs.Homology.{IsBoundary}
+use Rattle.surf_surfaces.specs.Surface.{edge_count}
 use Rattle.surf_cotree.specs.Tables.{split_with}
 use Rattle.surf_certcheck.specs.Split.{AreFlags}
 use Rattle.surf_classes.specs.Evidence.{joint_parity, IsChosenOdd}

@@ -1,5 +1,5 @@
 use Rattle.std.proofs.Common.{◌≡◌, ◌∙◌, ◌++◌, ◌∷◌, [], true, false, ap, sym, subst, List, ℕ, AllPairs, ◌<◌}
-use Rattle.surf_sign.proofs.Passing.{passing_taken, passing_left}
+use Rattle.surf_signatures.proofs.Passing.{passing_taken, passing_left}
 use Rattle.surf_classes.proofs.Listed.{climbing_at, passing_climb}
 use Rattle.surf_class.specs.Sides.{is_inside, side_at}
 use Rattle.surf_class.proofs.FaceSides.{inside_is}

@@ -2,9 +2,9 @@ use Rattle.std.proofs.Common.{◌≡◌, ◌∙◌, ◌++◌, ◌∷◌, [], tru
 use Rattle.std.specs.List.{range_with_len}
 use Rattle.std.proofs.lemmas.List.{map-append}
 use Rattle.surf_z2.specs.Sieve.{has}
-use Rattle.surf_complex.specs.Mesh.{pair_lt}
-use Rattle.surf_complex.specs.Surface.{ends}
-use Rattle.surf_sign.proofs.Passing.{passing_taken, passing_left}
+use Rattle.surf_surfaces.specs.Mesh.{pair_lt}
+use Rattle.surf_surfaces.specs.Surface.{ends}
+use Rattle.surf_signatures.proofs.Passing.{passing_taken, passing_left}
 use Rattle.surf_class.proofs.EdgeLists.{edges_rise, edges_ordered}
 use Rattle.surf_class.proofs.finding.list_signed.Goals as goal
 use Rattle.surf_class.proofs.finding.list_signed.Goals.{then-bit+in_ok-push, else-bit}

@@ -1,7 +1,7 @@
 use Rattle.std.proofs.Common.{◌≡◌, filter, map, get_or}
 use Rattle.std.specs.List.{range_with_len}
 use Rattle.surf_z2.specs.Sieve.{has}
-use Rattle.surf_complex.specs.Surface.{ends}
+use Rattle.surf_surfaces.specs.Surface.{ends}
 use Rattle.surf_class.proofs.finding.list_signed.Given as goal
 
 -- the edges before

@@ -1,5 +1,5 @@
 use Rattle.std.proofs.Common.{◌≡◌, ◌<◌, ◌+◌, ℕ, true, get_or}
-use Rattle.surf_complex.specs.Mesh.{pair_lt}
+use Rattle.surf_surfaces.specs.Mesh.{pair_lt}
 use Rattle.surf_class.proofs.read.pairs_rise.Given as goal
 
 -- the pairs before rise

@@ -1,5 +1,5 @@
 use Rattle.std.proofs.Common.{◌≡◌, ◌<◌, ◌+◌, ℕ, true, get_or}
-use Rattle.surf_complex.specs.Mesh.{among, pair, edges}
+use Rattle.surf_surfaces.specs.Mesh.{among, pair, edges}
 use Rattle.surf_class.proofs.walk.first_gap.Given as goal
 
 -- the steps before are along edges

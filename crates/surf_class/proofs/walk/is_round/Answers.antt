@@ -1,6 +1,6 @@
 use Rattle.std.proofs.Common.{◌≡◌, ◌<◌, ◌-◌, length, eqb, ap, ◌∙◌, arith}
 use Rattle.std.proofs.lemmas.List.{get_or_default}
-use Rattle.surf_complex.specs.Walk.{first, last}
+use Rattle.surf_surfaces.specs.Walk.{first, last}
 use Rattle.surf_certcheck.proofs.Steps.{first_at, last_at}
 use Rattle.surf_class.proofs.walk.is_round.Goals as goal
 

@@ -2,8 +2,8 @@ use Rattle.std.proofs.Common.{◌≡◌, ◌∷◌, length, List, ℕ, sym, ap, 
 use Rattle.std.specs.List.{position}
 use Rattle.surf_text.specs.Text.{lines_of, tokens_of}
 use Rattle.surf_text.specs.Walks.{TokenWalk, text_line}
-use Rattle.surf_complex.specs.Mesh.{pair_of, among, steps, edges}
-use Rattle.surf_complex.specs.Walk.{first, last, IsClosed}
+use Rattle.surf_surfaces.specs.Mesh.{pair_of, among, steps, edges}
+use Rattle.surf_surfaces.specs.Walk.{first, last, IsClosed}
 use Rattle.surf_class.specs.Numbers.{numbers_from}
 use Rattle.surf_class.proofs.LineSizes.{few_tokens}
 use Rattle.surf_class.proofs.WalkLines.{gap, unclosed, trailing, alone, closed}

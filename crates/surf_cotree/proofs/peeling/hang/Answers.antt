@@ -1,8 +1,8 @@
 use Rattle.std.proofs.Common.{◌≡◌, ◌<◌, ◌≤◌, ◌∙◌, ◌-◌, ℕ, false, true, sym, subst, arith, length, eq-eqb, ne_eqb}
 use Rattle.std.proofs.lemmas.List.{get_or_default}
-use Rattle.surf_homology.specs.Graphs.{Graph, joins}
-use Rattle.surf_homology.specs.Cells.{dual}
-use Rattle.surf_complex.specs.Cells.{cells_of}
+use Rattle.surf_graphs.specs.Graphs.{Graph, joins}
+use Rattle.surf_graphs.specs.Cells.{dual}
+use Rattle.surf_surfaces.specs.Cells.{cells_of}
 use Rattle.surf_cotree.specs.Tables.{nobody}
 use Rattle.surf_cotree.specs.Searches.{at, reached}
 use Rattle.surf_cotree.specs.Peeling.{IsHung, leaf_at}

@@ -1,6 +1,6 @@
 use Rattle.std.proofs.Common.{ℕ, Bool}
-use Rattle.surf_homology.specs.Cells.{dual}
-use Rattle.surf_complex.specs.Cells.{cells_of}
+use Rattle.surf_graphs.specs.Cells.{dual}
+use Rattle.surf_surfaces.specs.Cells.{cells_of}
 use Rattle.surf_cotree.specs.Peeling.{IsHung}
 use Rattle.surf_cotree.proofs.peeling.hang.Given as goal
 

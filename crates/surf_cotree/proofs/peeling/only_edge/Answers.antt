@@ -1,7 +1,7 @@
 use Rattle.std.proofs.Common.{◌≡◌, ◌<◌, ◌∙◌, ℕ, not, true, false, length, arith, sym, ap, subst, map}
 use Rattle.std.proofs.lemmas.List.{length-map}
-use Rattle.surf_homology.specs.Cells.{dual}
-use Rattle.surf_complex.specs.Cells.{cells_of}
+use Rattle.surf_graphs.specs.Cells.{dual}
+use Rattle.surf_surfaces.specs.Cells.{cells_of}
 use Rattle.surf_net.specs.Rows.{link_at, side_link}
 use Rattle.surf_cotree.specs.Searches.{outside}
 use Rattle.surf_cotree.proofs.Passing.{link_of_side}

@@ -1,5 +1,5 @@
-use Rattle.surf_homology.specs.Cells.{dual}
-use Rattle.surf_complex.specs.Cells.{cells_of}
+use Rattle.surf_graphs.specs.Cells.{dual}
+use Rattle.surf_surfaces.specs.Cells.{cells_of}
 use Rattle.surf_cotree.specs.Searches.{outside}
 use Rattle.surf_cotree.proofs.Leaves.{leaf_ends}
 use Rattle.surf_cotree.proofs.peeling.take_beside.Goals as goal

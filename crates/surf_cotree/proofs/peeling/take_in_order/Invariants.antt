@@ -1,5 +1,5 @@
-use Rattle.surf_homology.specs.Cells.{dual}
-use Rattle.surf_complex.specs.Cells.{cells_of}
+use Rattle.surf_graphs.specs.Cells.{dual}
+use Rattle.surf_surfaces.specs.Cells.{cells_of}
 use Rattle.surf_cotree.specs.Searches.{outside}
 use Rattle.surf_cotree.specs.Peeling.{IsPeeled}
 use Rattle.surf_cotree.proofs.peeling.take_in_order.Given as goal

@@ -1,6 +1,6 @@
 use Rattle.std.proofs.Common.{◌≡◌, ◌+◌, ◌&&◌, ℕ, true, not, set, eqb, sym, subst, arith}
-use Rattle.surf_homology.specs.Cells.{dual}
-use Rattle.surf_complex.specs.Cells.{cells_of}
+use Rattle.surf_graphs.specs.Cells.{dual}
+use Rattle.surf_surfaces.specs.Cells.{cells_of}
 use Rattle.surf_cotree.specs.Searches.{outside}
 use Rattle.surf_cotree.specs.Peeling.{IsOnlyEdge, IsPeeled}
 use Rattle.surf_cotree.proofs.Leaves.{peeled_more, outside_set}

@@ -1,8 +1,8 @@
 use Rattle.std.proofs.Common.{◌≡◌, ◌<◌, ◌≤◌, ◌∙◌, ◌&&◌, not, true, false, length, arith, sym, subst, map}
 use Rattle.std.proofs.lemmas.Bool.{and_parts, false≢true, not-true}
 use Rattle.std.proofs.lemmas.List.{length-map}
-use Rattle.surf_homology.specs.Cells.{dual}
-use Rattle.surf_complex.specs.Cells.{cells_of}
+use Rattle.surf_graphs.specs.Cells.{dual}
+use Rattle.surf_surfaces.specs.Cells.{cells_of}
 use Rattle.surf_net.specs.Rows.{link_at, side_link, IsRow}
 use Rattle.surf_cotree.specs.Tables.{nobody}
 use Rattle.surf_cotree.specs.Searches.{at, reached, outside, heaviest}

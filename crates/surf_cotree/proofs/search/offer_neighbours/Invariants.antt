@@ -1,6 +1,6 @@
 use Rattle.std.proofs.Common.{map}
-use Rattle.surf_homology.specs.Cells.{dual}
-use Rattle.surf_complex.specs.Cells.{cells_of}
+use Rattle.surf_graphs.specs.Cells.{dual}
+use Rattle.surf_surfaces.specs.Cells.{cells_of}
 use Rattle.surf_net.specs.Rows.{link_at, side_link}
 use Rattle.surf_cotree.specs.Searches.{at, outside, reached, IsOfferedSome}
 use Rattle.surf_cotree.proofs.search.offer_neighbours.Given as goal

@@ -1,11 +1,11 @@
 use Rattle.std.proofs.Common.{◌≡◌, ◌≢◌, ◌<◌, ◌≤◌, ◌+◌, ◌-◌, ◌∙◌, ℕ, true, eqb, length, arith, ap, sym, subst, set, refl, suc, Option, None, get_or-set_same, get_or-set_other}
 use Rattle.std.proofs.Math.ListN.{length-set, length-replicate}
 use Rattle.std.proofs.lemmas.Bool.{false≢true}
-use Rattle.surf_homology.specs.Graphs.{joins}
-use Rattle.surf_homology.specs.Cells.{dual}
+use Rattle.surf_graphs.specs.Graphs.{joins}
+use Rattle.surf_graphs.specs.Cells.{dual}
 use Rattle.surf_z2.specs.Parity.{count_below}
-use Rattle.surf_complex.specs.Surface.{face_count}
-use Rattle.surf_complex.specs.Cells.{cells_of}
+use Rattle.surf_surfaces.specs.Surface.{face_count}
+use Rattle.surf_surfaces.specs.Cells.{cells_of}
 use Rattle.surf_cotree.specs.Tables.{nobody}
 use Rattle.surf_cotree.specs.Searches.{at, reached, outside, tree_of, IsWaiting}
 use Rattle.surf_cotree.proofs.Pairs.{none_there}

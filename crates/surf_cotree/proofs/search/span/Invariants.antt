@@ -1,8 +1,8 @@
 use Rattle.std.proofs.Common.{◌≡◌, length, eqb}
 use Rattle.surf_z2.specs.Parity.{count_below}
-use Rattle.surf_homology.specs.Cells.{dual}
-use Rattle.surf_complex.specs.Surface.{face_count}
-use Rattle.surf_complex.specs.Cells.{cells_of}
+use Rattle.surf_graphs.specs.Cells.{dual}
+use Rattle.surf_surfaces.specs.Surface.{face_count}
+use Rattle.surf_surfaces.specs.Cells.{cells_of}
 use Rattle.surf_cotree.specs.Tables.{nobody}
 use Rattle.surf_cotree.specs.Searches.{at, reached, outside, tree_of, IsPrim}
 use Rattle.surf_cotree.proofs.search.span.Given as goal

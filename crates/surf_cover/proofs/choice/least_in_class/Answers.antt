@@ -1,9 +1,9 @@
 use Rattle.std.proofs.Common.{◌≡◌, ◌<◌, ◌∷◌, ℕ, List, reverse, sym, ap, ◌∙◌, subst, refl, arith}
-use Rattle.surf_complex.specs.Signature.{walk_signature}
+use Rattle.surf_surfaces.specs.Signature.{walk_signature}
 use Rattle.surf_classes.specs.CoverGraph.{set_count}
 use Rattle.surf_classes.proofs.ReadBack.{walk_set}
 use Rattle.surf_classes.proofs.ChosenWalks.{null_choice_is_vertex}
-use Rattle.surf_complex.proofs.SignatureLaws.{null_by_signature}
+use Rattle.surf_surfaces.proofs.SignatureLaws.{null_by_signature}
 use Rattle.surf_cotree.specs.Tables.{split_with}
 use Rattle.surf_cover.specs.Tables.{distance_at}
 use Rattle.surf_cover.proofs.Grown.{positive}

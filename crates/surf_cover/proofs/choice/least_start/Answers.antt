@@ -1,8 +1,8 @@
 use Rattle.std.proofs.Common.{◌≡◌, ◌<◌, ◌≤◌, ◌+◌, sym, subst, arith}
-use Rattle.surf_homology.specs.Cells.{IsSplit}
-use Rattle.surf_homology.specs.Trees.{Tree}
-use Rattle.surf_complex.specs.Cells.{cells_of}
-use Rattle.surf_complex.proofs.ClassLaws.{some_vertex}
+use Rattle.surf_graphs.specs.Cells.{IsSplit}
+use Rattle.surf_graphs.specs.Trees.{Tree}
+use Rattle.surf_surfaces.specs.Cells.{cells_of}
+use Rattle.surf_surfaces.proofs.ClassLaws.{some_vertex}
 use Rattle.surf_classes.specs.Cover.{IsSignedDistance}
 use Rattle.surf_cotree.specs.Tables.{split_with}
 use Rattle.surf_cover.specs.Tables.{distance_at}

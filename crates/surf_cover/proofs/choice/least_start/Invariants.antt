@@ -1,7 +1,7 @@
 use Rattle.std.proofs.Common.{◌<◌}
-use Rattle.surf_homology.specs.Cells.{IsSplit}
-use Rattle.surf_homology.specs.Trees.{Tree}
-use Rattle.surf_complex.specs.Cells.{cells_of}
+use Rattle.surf_graphs.specs.Cells.{IsSplit}
+use Rattle.surf_graphs.specs.Trees.{Tree}
+use Rattle.surf_surfaces.specs.Cells.{cells_of}
 use Rattle.surf_cotree.specs.Tables.{split_with}
 use Rattle.surf_cover.specs.Starts.{IsLeastStart}
 use Rattle.surf_cover.specs.Tables.{IsMadeFor}

@@ -1,7 +1,7 @@
 use Rattle.std.proofs.Common.{sym, ap, ◌∙◌}
-use Rattle.surf_complex.specs.Mesh.{edges}
-use Rattle.surf_complex.specs.Walk.{place_of}
-use Rattle.surf_complex.proofs.EdgeLaws.{place_of-ends}
+use Rattle.surf_surfaces.specs.Mesh.{edges}
+use Rattle.surf_surfaces.specs.Walk.{place_of}
+use Rattle.surf_surfaces.proofs.EdgeLaws.{place_of-ends}
 use Rattle.surf_cover.proofs.signs.edge_between.Goals as goal
 
 pub returns-clause-edge : goal.returns-clause-edge

@@ -1,9 +1,9 @@
 use Rattle.std.proofs.Common.{◌≡◌, drop, bit_xor, All, Contains}
-use Rattle.surf_homology.specs.Cells.{IsSplit}
-use Rattle.surf_homology.specs.Trees.{Tree}
-use Rattle.surf_complex.specs.Cells.{cells_of}
-use Rattle.surf_complex.specs.Mesh.{edges, pair_of, steps}
-use Rattle.surf_complex.specs.Signature.{walk_signature}
+use Rattle.surf_graphs.specs.Cells.{IsSplit}
+use Rattle.surf_graphs.specs.Trees.{Tree}
+use Rattle.surf_surfaces.specs.Cells.{cells_of}
+use Rattle.surf_surfaces.specs.Mesh.{edges, pair_of, steps}
+use Rattle.surf_surfaces.specs.Signature.{walk_signature}
 use Rattle.surf_cotree.specs.Tables.{split_with}
 use Rattle.surf_cover.proofs.signs.walk_sign.Given as goal
 

@@ -1,5 +1,5 @@
 use Rattle.std.proofs.Common.{length, refl, sym, subst}
-use Rattle.surf_complex.specs.Disc.{IsDisc}
+use Rattle.surf_surfaces.specs.Disc.{IsDisc}
 use Rattle.surf_cutter.specs.Boundary.{over, HasPairedBorder, AreBorderSides}
 use Rattle.surf_mesh.specs.Sides.{side_count}
 use Rattle.surf_cutter.proofs.BorderTables.{border_some}

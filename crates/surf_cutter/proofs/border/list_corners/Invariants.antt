@@ -1,5 +1,5 @@
 use Rattle.std.proofs.Common.{◌≡◌, ◌+◌, ◌<◌, ℕ, length, get_or}
-use Rattle.surf_complex.specs.Side.{after}
+use Rattle.surf_surfaces.specs.Side.{after}
 use Rattle.surf_cutter.proofs.border.list_corners.Given as goal
 
 abbrev pub invariant-loop-k : goal.invariant-loop-k

@@ -1,6 +1,6 @@
 use Rattle.std.proofs.Common.{◌<◌, ℕ, List, All, length, get_or, ap, sym, ◌∙◌, subst, arith, IfOk}
 use Rattle.std.specs.List.{sum_by}
-use Rattle.surf_complex.specs.Disc.{IsDisc}
+use Rattle.surf_surfaces.specs.Disc.{IsDisc}
 use Rattle.surf_cutter.specs.Boundary.{over, IsLeastBorderSide, AreCorners, AreRims, IsBoundary}
 use Rattle.surf_cutter.proofs.BorderTables.{border_few, border_in, border_first, corners_in, keys_in, rims_are}
 use Rattle.surf_cutter.proofs.border.round_of.Goals as goal

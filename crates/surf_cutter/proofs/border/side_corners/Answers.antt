@@ -1,5 +1,5 @@
 use Rattle.std.proofs.Common.{◌≡◌, ◌+◌, ◌<◌, ℕ, List, [], length, get_or, ap, sym, ◌∙◌, subst, arith}
-use Rattle.surf_complex.specs.Side.{after}
+use Rattle.surf_surfaces.specs.Side.{after}
 use Rattle.surf_cutter.proofs.BorderTables.{side_corners_more}
 use Rattle.surf_cutter.proofs.border.side_corners.Goals as goal
 

@@ -2,7 +2,7 @@ use Rattle.std.proofs.Common.{◌≡◌, ◌+◌, ◌<◌, ℕ, List, [], ◌∷
 use Rattle.std.specs.List.{range_with_len, sum_by}
 use Rattle.std.proofs.lemmas.List.FromFn.{length-range_with_len}
 use Rattle.std.proofs.lemmas.List.Sums.{sum_by_push}
-use Rattle.surf_complex.specs.Surface.{face_count, face_at}
+use Rattle.surf_surfaces.specs.Surface.{face_count, face_at}
 use Rattle.surf_mesh.specs.Sides.{side_count}
 use Rattle.surf_mesh.specs.Half.{first_side}
 use Rattle.surf_mesh.proofs.HalfLaws.{spans}

@@ -1,5 +1,5 @@
 use Rattle.std.proofs.Common.{◌≡◌, ◌+◌, ◌<◌, ℕ, List, length, get_or, ap, sym, ◌∙◌, subst, arith}
-use Rattle.surf_complex.specs.Surface.{face_count, face_at}
+use Rattle.surf_surfaces.specs.Surface.{face_count, face_at}
 use Rattle.surf_cutter.proofs.Sorted.{corners_more, corners_done}
 use Rattle.surf_cutter.proofs.copies.corner_vertices.Goals as goal
 

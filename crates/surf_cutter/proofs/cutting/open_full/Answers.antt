@@ -1,7 +1,7 @@
 use Rattle.std.proofs.Common.{◌≡◌, ◌+◌, false, length, sym, subst}
 use Rattle.std.proofs.lemmas.Result.{IfOk-weaker}
-use Rattle.surf_complex.specs.Disc.{IsOpening}
-use Rattle.surf_complex.specs.Surface.{face_count, edge_count}
+use Rattle.surf_surfaces.specs.Disc.{IsOpening}
+use Rattle.surf_surfaces.specs.Surface.{face_count, edge_count}
 use Rattle.surf_cutter.specs.Opened.{OpenMesh, IsOpenedInOrder, IsChosenFor, AreTurnedOver}
 use Rattle.surf_cutter.proofs.Chosen.{is_full, full_opens, full_chosen, chosen_opens, full_counted}
 use Rattle.surf_cutter.proofs.cutting.open_full.Goals as goal

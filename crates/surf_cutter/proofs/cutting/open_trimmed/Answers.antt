@@ -1,6 +1,6 @@
 use Rattle.std.proofs.Common.{true, sym, subst}
 use Rattle.std.proofs.lemmas.Result.{IfOk-weaker}
-use Rattle.surf_complex.specs.Disc.{IsOpening}
+use Rattle.surf_surfaces.specs.Disc.{IsOpening}
 use Rattle.surf_cutter.specs.Opened.{OpenMesh, IsOpenedInOrder, IsChosenFor, AreTurnedOver}
 use Rattle.surf_cutter.proofs.Chosen.{is_full, trimmed_chosen, chosen_opens}
 use Rattle.surf_cutter.proofs.cutting.open_trimmed.Goals as goal

@@ -3,8 +3,8 @@ use Rattle.std.proofs.Math.ListN.{set}
 use Rattle.std.proofs.lemmas.List.{get_or_default}
 use Rattle.std.proofs.lemmas.Bool.{eqb-false}
 use Rattle.surf_slit.proofs.VertexLabels.{an_end}
-use Rattle.surf_complex.specs.Surface.{ends, edge_count, touches}
-use Rattle.surf_complex.proofs.CellLaws.{ends_below}
+use Rattle.surf_surfaces.specs.Surface.{ends, edge_count, touches}
+use Rattle.surf_surfaces.proofs.CellLaws.{ends_below}
 use Rattle.surf_cutter.specs.Trimming.{IsTakenBack}
 use Rattle.surf_cutter.proofs.Trims.{leaf_edge, end_counts, taken_back}
 use Rattle.surf_cutter.proofs.trimming.take_back.Goals as goal

@@ -2,7 +2,7 @@ use Rattle.std.proofs.Common.{◌≡◌, ◌<◌, ◌+◌, ◌++◌, ◌∷◌, 
 use Rattle.std.specs.List.{flat_map, sum_by}
 use Rattle.std.proofs.lemmas.List.{get_or_default}
 use Rattle.std.proofs.lemmas.List.Sums.{sum_by_push}
-use Rattle.surf_complex.specs.Side.{after, before}
+use Rattle.surf_surfaces.specs.Side.{after, before}
 use Rattle.surf_mesh.specs.Sides.{side_count}
 use Rattle.surf_mesh.specs.Vertices.{all_corners, sides_at}
 use Rattle.surf_mesh.proofs.RingLaws.{turned_size}

@@ -1,7 +1,7 @@
 use Rattle.std.proofs.Common.{◌≡◌, ◌<◌, ℕ, List, get_or, length, sym, ap, subst, ◌∙◌, arith}
 use Rattle.std.proofs.lemmas.List.{get_or_read}
-use Rattle.surf_complex.specs.Surface.{edge_count, ends}
-use Rattle.surf_complex.proofs.CellLaws.{ends_below}
+use Rattle.surf_surfaces.specs.Surface.{edge_count, ends}
+use Rattle.surf_surfaces.proofs.CellLaws.{ends_below}
 use Rattle.surf_disc.specs.Border.{AllInside, IsFirstOutside}
 use Rattle.surf_disc.proofs.TableLaws.{least_outside, one_border}
 use Rattle.surf_disc.proofs.border.refuse_second.Goals as goal

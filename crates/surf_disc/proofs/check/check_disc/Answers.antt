@@ -1,6 +1,6 @@
 use Rattle.std.proofs.Common.{◌≡◌}
 use Rattle.std.proofs.lemmas.Result.{IfErr-weaker}
-use Rattle.surf_complex.specs.Disc.{IsDisc}
+use Rattle.surf_surfaces.specs.Disc.{IsDisc}
 use Rattle.surf_disc.specs.Fault.{IsDiscFault}
 use Rattle.surf_disc.specs.declared.faults.DiscFault.TheVariants.{Memory}
 use Rattle.surf_disc.proofs.FaultLaws.{fault_only}

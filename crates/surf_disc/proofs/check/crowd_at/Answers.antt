@@ -1,7 +1,7 @@
 use Rattle.std.proofs.Common.{◌≡◌, ◌<◌, ℕ, List, [], ◌∷◌, get_or, length, refl, sym, ap, subst, ◌∙◌, arith}
 use Rattle.std.proofs.lemmas.List.{get_or_read}
-use Rattle.surf_complex.specs.Mesh.{Mesh, IsMesh}
-use Rattle.surf_complex.specs.Surface.{ends}
+use Rattle.surf_surfaces.specs.Mesh.{Mesh, IsMesh}
+use Rattle.surf_surfaces.specs.Surface.{ends}
 use Rattle.surf_mesh.specs.EdgeTable.{IsEdgeTable}
 use Rattle.surf_mesh.specs.Pairs.{IsFirstWithin}
 use Rattle.surf_mesh.proofs.Owners.{length-owners}

@@ -1,5 +1,5 @@
 use Rattle.std.proofs.Common.{◌<◌, ℕ}
-use Rattle.surf_complex.specs.Surface.{HasOneFan}
+use Rattle.surf_surfaces.specs.Surface.{HasOneFan}
 use Rattle.surf_disc.proofs.fans.refuse_unmarked.Given as goal
 
 abbrev pub invariant-loop-v : goal.invariant-loop-v

@@ -1,6 +1,6 @@
 use Rattle.std.proofs.Common.{◌≡◌, ℕ, ◌*◌, ◌<◌, List, [], ◌∷◌, ◌++◌, length, get_or, map, slice_index, ap, sym, subst, ◌≤◌, ◌∙◌, arith}
-use Rattle.surf_complex.specs.Mesh.{Mesh}
-use Rattle.surf_complex.specs.Surface.{face_at}
+use Rattle.surf_surfaces.specs.Mesh.{Mesh}
+use Rattle.surf_surfaces.specs.Surface.{face_at}
 use Rattle.surf_mesh.specs.Sides.{side_count}
 use Rattle.surf_tori.specs.Torus.{torus, torus_faces}
 use Rattle.surf_tori.proofs.TorusLaws.{count}

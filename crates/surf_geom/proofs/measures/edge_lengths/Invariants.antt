@@ -1,5 +1,5 @@
 use Rattle.std.proofs.Common.{◌≡◌, take, Ok}
-use Rattle.surf_complex.specs.Mesh.{edges}
+use Rattle.surf_surfaces.specs.Mesh.{edges}
 use Rattle.surf_geom.specs.Gives.{each}
 use Rattle.surf_geom.specs.Measures.{length_of}
 use Rattle.surf_geom.proofs.measures.edge_lengths.Given as goal

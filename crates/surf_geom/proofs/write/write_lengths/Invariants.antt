@@ -1,6 +1,6 @@
 use Rattle.std.proofs.Common.{take, Ok}
 use Rattle.std.specs.List.{zip}
-use Rattle.surf_complex.specs.Mesh.{edges}
+use Rattle.surf_surfaces.specs.Mesh.{edges}
 use Rattle.surf_text.specs.Pages.{Puts}
 use Rattle.surf_geom.specs.Texts.{entries_text}
 use Rattle.surf_geom.proofs.write.write_lengths.Given as goal

@@ -1,6 +1,6 @@
 use Rattle.std.proofs.Common.{◌≡◌, length, Ok}
 use Rattle.std.specs.List.{fold}
-use Rattle.surf_complex.specs.Surface.{edge_count}
+use Rattle.surf_surfaces.specs.Surface.{edge_count}
 use Rattle.surf_lengths.specs.Files.{name_line}
 use Rattle.surf_lengths.specs.Walks.{with_next}
 use Rattle.surf_lengths.proofs.file.name_all.Given as goal

@@ -2,7 +2,7 @@ use Rattle.std.proofs.Common.{◌≡◌, ◌≢◌, ◌∙◌, sym, arith, repli
 use Rattle.std.proofs.lemmas.Grind.{common_steps}
 use Rattle.std.proofs.lemmas.List.{with_items_is}
 use Rattle.std.specs.Vec.{with_items}
-use Rattle.surf_complex.specs.Surface.{edge_count}
+use Rattle.surf_surfaces.specs.Surface.{edge_count}
 use Rattle.surf_lengths.specs.Walks.{with_next}
 use Rattle.surf_lengths.proofs.Naming.{all_positive}
 use Rattle.surf_lengths.proofs.file.read_lengths.Goals as goal

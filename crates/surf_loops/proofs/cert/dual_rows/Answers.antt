@@ -1,6 +1,6 @@
 use Rattle.std.proofs.Common.{◌∙◌, ap, slice_index}
 use Rattle.surf_cotree.specs.Tables.{tree_of}
-use Rattle.surf_valid.specs.Chosen.{side_in}
+use Rattle.surf_validity.specs.Chosen.{side_in}
 use Rattle.surf_loops.proofs.Rows.{listed_more}
 use Rattle.surf_loops.proofs.cert.dual_rows.Goals as goal
 

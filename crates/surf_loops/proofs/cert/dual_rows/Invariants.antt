@@ -1,7 +1,7 @@
 use Rattle.std.proofs.Common.{◌≡◌, map}
 use Rattle.std.specs.List.{range_with_len}
 use Rattle.surf_cotree.specs.Tables.{tree_of}
-use Rattle.surf_valid.specs.Chosen.{side_in}
+use Rattle.surf_validity.specs.Chosen.{side_in}
 use Rattle.surf_loops.proofs.cert.dual_rows.Given as goal
 
 -- the rows of the faces so far

@@ -1,5 +1,5 @@
 use Rattle.std.proofs.Common.{◌≡◌, map, take}
-use Rattle.surf_complex.specs.Surface.{ends}
+use Rattle.surf_surfaces.specs.Surface.{ends}
 use Rattle.surf_loops.proofs.cert.left_pairs.Given as goal
 
 -- the pairs of the edges so far

@@ -1,6 +1,6 @@
 use Rattle.std.proofs.Common.{◌<◌, ◌∙◌, ap, arith, slice_index}
 use Rattle.surf_tree.specs.Tables.{tree_of, parent_of}
-use Rattle.surf_valid.specs.Chosen.{parent_in}
+use Rattle.surf_validity.specs.Chosen.{parent_in}
 use Rattle.surf_loops.proofs.Rows.{listed_more, parent_shown}
 use Rattle.surf_loops.proofs.cert.tree_rows.Goals as goal
 

@@ -1,5 +1,5 @@
 use Rattle.std.proofs.Common.{ℕ, ◌≡◌, ◌<◌, slice_index}
-use Rattle.surf_complex.specs.Loop.{loop_length}
+use Rattle.surf_surfaces.specs.Loop.{loop_length}
 use Rattle.surf_tree.specs.Tables.{tree_of}
 use Rattle.surf_loops.proofs.heads.set_weights.Given as goal
 

@@ -1,5 +1,5 @@
 use Rattle.std.proofs.Common.{ℕ, ◌∙◌, ◌++◌, ◌∷◌, List, sym, ap, append-nil, slice_index}
-use Rattle.surf_homology.specs.Loops.{way_up}
+use Rattle.surf_graphs.specs.Loops.{way_up}
 use Rattle.surf_tree.specs.Tables.{tree_of}
 use Rattle.surf_loops.proofs.Turned.{up_one, up_end, way_goes_on}
 use Rattle.surf_loops.proofs.ways.push_way.Goals as goal

@@ -1,7 +1,7 @@
 use Rattle.std.proofs.Common.{◌≡◌, ◌<◌, ℕ, List, Option, Some, None, true, false, length, get_or, sym, ap, subst, ◌∙◌, arith}
 use Rattle.std.specs.Option.{MatchOption}
 use Rattle.std.proofs.lemmas.List.{get_or_read}
-use Rattle.surf_complex.specs.Side.{before}
+use Rattle.surf_surfaces.specs.Side.{before}
 use Rattle.surf_mesh.specs.Reach.{marked}
 use Rattle.surf_mesh.specs.Sides.{owners}
 use Rattle.surf_mesh.specs.Vertices.{sides_at}

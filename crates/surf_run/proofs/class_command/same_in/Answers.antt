@@ -1,5 +1,5 @@
 use Rattle.std.proofs.Common.{true}
-use Rattle.surf_complex.specs.Mesh.{Mesh}
+use Rattle.surf_surfaces.specs.Mesh.{Mesh}
 use Rattle.surf_off.specs.Off.{OffParts}
 use Rattle.surf_run.specs.Classes.{OnSameMesh}
 use Rattle.surf_run.specs.Given.{IsFewLoopedText}

@@ -1,6 +1,6 @@
 use Rattle.std.proofs.Common.{◌≡◌, ℕ, List, length, sym, ap, ◌∙◌, subst}
 use Rattle.std.specs.Prelude.{All}
-use Rattle.surf_complex.specs.Mesh.{IsFace}
+use Rattle.surf_surfaces.specs.Mesh.{IsFace}
 use Rattle.surf_text.specs.Pages.{Puts}
 use Rattle.surf_off.specs.Written.{AreStarts, opened_text, rows_at}
 use Rattle.surf_off.proofs.StartsOf.{tables_of}

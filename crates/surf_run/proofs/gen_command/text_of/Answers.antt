@@ -1,6 +1,6 @@
 use Rattle.std.proofs.Common.{subst}
 use Rattle.std.proofs.lemmas.Result.{err_from_is_err_and}
-use Rattle.surf_complex.specs.Surface.{edge_count}
+use Rattle.surf_surfaces.specs.Surface.{edge_count}
 use Rattle.surf_text.specs.Pages.{PageState, Stops}
 use Rattle.surf_off.specs.Written.{soup_text}
 use Rattle.surf_run.specs.Making.{GivesMesh}

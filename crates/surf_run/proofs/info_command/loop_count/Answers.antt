@@ -1,5 +1,5 @@
 use Rattle.std.proofs.Common.{arith}
-use Rattle.surf_parity.proofs.GenusLaws.{counts_are_at_most_two_more}
+use Rattle.surf_turnings.proofs.GenusLaws.{counts_are_at_most_two_more}
 use Rattle.surf_run.proofs.info_command.loop_count.Goals as goal
 
 pub overflow_sub-result : goal.overflow_sub-result

@@ -1,8 +1,8 @@
 use Rattle.std.proofs.Common.{◌*◌, subst, sym, arith, ℕ}
 use Rattle.std.proofs.lemmas.Grind.{common_steps}
 use Rattle.surf_check.specs.Growth.{flag_of}
-use Rattle.surf_complex.specs.Homology.{IsFullCount}
-use Rattle.surf_parity.proofs.GenusLaws.{genus_is_full_count}
+use Rattle.surf_surfaces.specs.Homology.{IsFullCount}
+use Rattle.surf_turnings.proofs.GenusLaws.{genus_is_full_count}
 use Rattle.surf_run.proofs.info_command.two_sided.Goals as goal
 
 pub returns : goal.returns

@@ -1,6 +1,6 @@
 use Rattle.std.proofs.Common.{◌≡◌, ◌≤◌, ◌∙◌, ◌++◌, ℕ, List, length, ap, subst}
 use Rattle.std.proofs.lemmas.Result.{err_from_is_err_and}
-use Rattle.surf_complex.specs.Choice.{loops_at}
+use Rattle.surf_surfaces.specs.Choice.{loops_at}
 use Rattle.surf_loops.specs.Loops.{trees_of}
 use Rattle.surf_text.specs.Pages.{PageState}
 use Rattle.surf_print.specs.Fills.{Overfills}

@@ -1,4 +1,4 @@
-use Rattle.surf_complex.specs.Mesh.{Mesh}
+use Rattle.surf_surfaces.specs.Mesh.{Mesh}
 use Rattle.surf_off.specs.Off.{OffParts}
 use Rattle.surf_run.specs.MeshTexts.{IsMeshText}
 use Rattle.surf_run.specs.Sewing.{OnCopies}

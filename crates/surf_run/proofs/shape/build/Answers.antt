@@ -1,5 +1,5 @@
 use Rattle.std.proofs.Common.{ap, sym, ◌∙◌, arith}
-use Rattle.surf_complex.specs.Surface.{face_count}
+use Rattle.surf_surfaces.specs.Surface.{face_count}
 use Rattle.surf_run.specs.Shapes.{Shape, mesh_of}
 use Rattle.surf_run.proofs.ShapeLaws.{shape_vertices, shape_faces}
 use Rattle.surf_run.proofs.shape.build.Goals as goal

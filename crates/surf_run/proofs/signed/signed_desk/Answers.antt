@@ -1,5 +1,5 @@
 use Rattle.std.proofs.Common.{◌<◌, sym, subst}
-use Rattle.surf_complex.proofs.ClassLaws.{some_vertex}
+use Rattle.surf_surfaces.proofs.ClassLaws.{some_vertex}
 use Rattle.surf_loops.specs.Loops.{IsGreedy}
 use Rattle.surf_run.proofs.SignedLaws.{desk_chosen}
 use Rattle.surf_run.proofs.signed.signed_desk.Goals as goal

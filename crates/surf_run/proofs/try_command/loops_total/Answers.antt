@@ -1,6 +1,6 @@
 use Rattle.std.proofs.Common.{◌<◌, ◌∙◌, List, map, ap, subst, sym}
 use Rattle.std.specs.Prelude.{sum}
-use Rattle.surf_complex.proofs.ClassLaws.{some_vertex}
+use Rattle.surf_surfaces.proofs.ClassLaws.{some_vertex}
 use Rattle.surf_loops.specs.Loops.{IsGreedy, trees_of}
 use Rattle.surf_loops.specs.declared.head.LoopHead.{LoopHead}
 use Rattle.surf_run.proofs.HeadLaws.{heads_total}

@@ -1,6 +1,6 @@
 use Rattle.std.proofs.Common.{Ok, Err, subst}
 use Rattle.std.specs.Prelude.{Bool}
-use Rattle.surf_complex.specs.Mesh.{Mesh}
+use Rattle.surf_surfaces.specs.Mesh.{Mesh}
 use Rattle.surf_off.specs.Off.{OffParts}
 use Rattle.surf_run.specs.Given.{IsFewLoopedText}
 use Rattle.surf_run.specs.Tasks.{OnSurface, is_limited}

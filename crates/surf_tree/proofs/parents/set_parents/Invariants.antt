@@ -1,7 +1,7 @@
 use Rattle.std.proofs.Common.{ℕ, ◌<◌}
-use Rattle.surf_homology.specs.Cells.{primal}
-use Rattle.surf_complex.specs.Cells.{cells_of}
-use Rattle.surf_complex.specs.Walk.{edge_length}
+use Rattle.surf_graphs.specs.Cells.{primal}
+use Rattle.surf_surfaces.specs.Cells.{cells_of}
+use Rattle.surf_surfaces.specs.Walk.{edge_length}
 use Rattle.surf_tree.specs.Searches.{at, IsLeastTight}
 use Rattle.surf_tree.proofs.parents.set_parents.Given as goal
 

@@ -4,11 +4,11 @@ use Rattle.std.proofs.lemmas.Bool.{cases_eq}
 use Rattle.std.proofs.lemmas.List.{with_items_is}
 use Rattle.std.specs.Vec.{with_items}
 use Rattle.surf_z2.specs.Parity.{any_below}
-use Rattle.surf_homology.specs.Graphs.{Graph}
-use Rattle.surf_homology.specs.Cells.{dual}
-use Rattle.surf_complex.specs.Surface.{edge_count, face_count}
-use Rattle.surf_complex.specs.Cells.{cells_of}
-use Rattle.surf_complex.proofs.CellLaws.{surfaces_are_cells}
+use Rattle.surf_graphs.specs.Graphs.{Graph}
+use Rattle.surf_graphs.specs.Cells.{dual}
+use Rattle.surf_surfaces.specs.Surface.{edge_count, face_count}
+use Rattle.surf_surfaces.specs.Cells.{cells_of}
+use Rattle.surf_surfaces.proofs.CellLaws.{surfaces_are_cells}
 use Rattle.surf_cotree.specs.declared.peeling.Leaf.{Leaf}
 use Rattle.surf_cotree.specs.Tables.{CotreeTables, nobody, IsMadeFor}
 use Rattle.surf_cotree.specs.Searches.{at, outside, heaviest, tree_of, is_unmarked, IsHeaviestTree}

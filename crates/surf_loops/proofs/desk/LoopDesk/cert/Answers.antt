@@ -1,8 +1,8 @@
 use Rattle.std.proofs.Common.{◌≡◌, ◌∙◌, map, sym, ap, subst, arith}
-use Rattle.surf_complex.specs.Surface.{ends}
-use Rattle.surf_valid.specs.Valid.{IsValidLoops}
-use Rattle.surf_valid.specs.Chosen.{cert_of, rows_of, dual_rows_of}
-use Rattle.surf_valid.proofs.ChosenLaws.{chosen_loops_are_valid}
+use Rattle.surf_surfaces.specs.Surface.{ends}
+use Rattle.surf_validity.specs.Valid.{IsValidLoops}
+use Rattle.surf_validity.specs.Chosen.{cert_of, rows_of, dual_rows_of}
+use Rattle.surf_validity.proofs.ChosenLaws.{chosen_loops_are_valid}
 use Rattle.surf_cert.specs.Fits.{LoopFits}
 use Rattle.surf_cert.proofs.ChosenFits.{chosen_loops_fit}
 use Rattle.surf_tree.specs.Tables.{TreeTables, tree_of}

@@ -1,5 +1,5 @@
 use Rattle.std.proofs.Common.{ℕ, ◌≡◌, ◌<◌, ◌∙◌, sym, ap, subst}
-use Rattle.surf_complex.specs.Loop.{loop_walk}
+use Rattle.surf_surfaces.specs.Loop.{loop_walk}
 use Rattle.surf_tree.specs.Tables.{TreeTables, tree_of}
 use Rattle.surf_loops.specs.Loops.{LoopTables, IsRooted}
 use Rattle.surf_loops.proofs.Turned.{ends_in, loop_listed}

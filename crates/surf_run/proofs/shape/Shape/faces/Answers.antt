@@ -1,5 +1,5 @@
 use Rattle.std.proofs.Common.{◌≡◌, ◌*◌, ◌-◌, sym, subst}
-use Rattle.surf_complex.specs.Surface.{face_count}
+use Rattle.surf_surfaces.specs.Surface.{face_count}
 use Rattle.surf_run.specs.Shapes.{Shape, mesh_of}
 use Rattle.surf_run.proofs.ShapeLaws.{shape_faces}
 use Rattle.surf_run.proofs.shape.Shape.faces.Goals as goal

@@ -1,5 +1,0 @@
-use Rattle.surf_complex.proofs.FirstFoundLaws.{first_is_at_least_base}
-use Rattle.surf_complex.proofs.law_of_first_found.Goals as goal
-
-pub returns : goal.returns
-returns c = first_is_at_least_base

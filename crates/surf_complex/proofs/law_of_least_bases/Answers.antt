@@ -1,5 +1,0 @@
-use Rattle.surf_complex.proofs.OnTheWayLaws.{least_tables_are_least}
-use Rattle.surf_complex.proofs.law_of_least_bases.Goals as goal
-
-pub returns : goal.returns
-returns c = least_tables_are_least

@@ -1,6 +1,0 @@
-use Rattle.surf_complex.proofs.FirstFoundLaws.{ends_are_near, short_searches_suffice}
-use Rattle.surf_complex.proofs.NearTreeLaws.{near_trees_have_loops}
-use Rattle.surf_complex.proofs.law_of_short_searches.Goals as goal
-
-pub returns : goal.returns
-returns c = record { near = ends_are_near; loops = near_trees_have_loops; suffice = short_searches_suffice }

@@ -1,5 +1,0 @@
-use Rattle.surf_complex.proofs.ShortSumLaws.{loop_systems_are_least_by_short_sums, bases_are_least_by_short_sums}
-use Rattle.surf_complex.proofs.law_of_short_sums.Goals as goal
-
-pub returns : goal.returns
-returns c = record { loops = loop_systems_are_least_by_short_sums; bases = bases_are_least_by_short_sums }

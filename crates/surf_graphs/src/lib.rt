@@ -1,0 +1,243 @@
+//! Homology over the field with two elements on two graphs that share their edges, as laws.
+//!
+//! `Cells` (specs/Cells.antt) are vertices, edges and faces by their numbers, where each edge runs
+//! between two vertices and lies between two faces. So there are two graphs on one set of edges:
+//! `primal`, of the vertices, and `dual`, of the faces. Nothing is said of polygons here:
+//! `IsCellComplex` asks that both graphs are connected and that each face has an even number of
+//! edges at each vertex, and that is all that the laws need.
+//!
+//! - A chain is a set of edges. It is even where an even number of its edges end at each vertex,
+//!   and null where it is the boundary of a set of faces.
+//! - A split is a spanning tree of the vertices, a spanning tree of the faces over other edges (the
+//!   cotree), and the edges left over, of which there are 2 - χ (`left_edges_count`).
+//! - Each edge has a signature, a set of left edges. An even chain is null exactly where the
+//!   signatures of its edges sum to zero (`null_chains`), so independence is decided by signatures
+//!   (`independent_chains`).
+//! - Through a tree, each edge has a loop. An even chain is the sum of the loops of its edges
+//!   (`even_chains_are_sums_of_loops`). With a shortest tree and a heaviest cotree the loops of the
+//!   left edges are a least system of loops at the root (`left_loops_are_least`), and cycles that
+//!   cover the loops through the shortest trees at all vertices are a least basis
+//!   (`covering_cycles_are_least`).
+//! - Trees grow by an edge at a time (`trees_grow`, `heavy_trees_grow`), which is how programs find
+//!   them.
+//!
+//! Trees and cotrees are those of Eppstein 2003, "Dynamic generators of topologically embedded
+//! graphs"; the loops of a heaviest cotree those of Erickson and Whittlesey, "Greedy Optimal
+//! Homotopy and Homology Generators", SODA 2005. Each law is the contract of a function that does
+//! nothing.
+#![tactic(auto)]
+
+ghost use Rattle.surf_graphs.specs.Laws.{EvenInTreeIsEmpty, BoundariesAreEven};
+ghost use Rattle.surf_graphs.specs.Laws.{ClosedWalksAreEven, EdgesOutsideTreeJoinFaces};
+ghost use Rattle.surf_graphs.specs.Laws.{TreesHaveOneEdgeLess, LeftEdgesCount, NullChains};
+ghost use Rattle.surf_graphs.specs.Laws.{NullWalks, FacesSumToZero, EvenChainsAreSumsOfLoops};
+ghost use Rattle.surf_graphs.specs.Laws.{LoopsOfWalkAreNoLonger, ShortLeftLoopsSpan};
+ghost use Rattle.surf_graphs.specs.Laws.{IndependentChains, IndependentChainsAreFew};
+ghost use Rattle.surf_graphs.specs.Laws.{LeftLoopsAreIndependent, LeftLoopsAreLeast};
+ghost use Rattle.surf_graphs.specs.Laws.{CoveringCyclesAreLeast, CotreeEdgesPart};
+ghost use Rattle.surf_graphs.specs.Laws.{FacesAreClosedWalks, NullCyclesSeparate};
+ghost use Rattle.surf_graphs.specs.Laws.{SidesMakeCornersEven, SidesConnectVertices};
+ghost use Rattle.surf_graphs.specs.Laws.{LoopsAreWalks, NonNullWalksHaveShortLoops};
+ghost use Rattle.surf_graphs.specs.Laws.{ClosedWalksAreSimpleOrTwo, RoundsAreEven};
+ghost use Rattle.surf_graphs.specs.Laws.{LeftEdgesAreEven, MatesAreRounds, SplitsExist};
+ghost use Rattle.surf_graphs.specs.Laws.{BordersAreConnected, RanksAreDistances, TreesGrow};
+ghost use Rattle.surf_graphs.specs.Laws.{HeavyTreesGrow, HeavyTreesAreHeaviest};
+ghost use Rattle.surf_graphs.specs.Laws.{GrownTreesByTables, GrownTreesSpan, SimpleCyclesRunOnce};
+ghost use Rattle.surf_graphs.specs.Laws.{FacesAreSimpleCycles, WaysGoByParents};
+
+/// An even chain inside a spanning tree is empty.
+pub fn even_in_tree_is_empty()
+    ensures { EvenInTreeIsEmpty }
+{}
+
+/// The boundary of a set of faces is even at each vertex.
+pub fn boundaries_are_even()
+    ensures { BoundariesAreEven }
+{}
+
+/// A closed walk runs an even number of edges at each node an odd number of times.
+pub fn closed_walks_are_even()
+    ensures { ClosedWalksAreEven }
+{}
+
+/// The edges outside a spanning tree of the vertices join all faces.
+pub fn edges_outside_tree_join_faces()
+    ensures { EdgesOutsideTreeJoinFaces }
+{}
+
+/// A spanning tree has one edge less than nodes.
+pub fn trees_have_one_edge_less()
+    ensures { TreesHaveOneEdgeLess }
+{}
+
+/// The edges outside both trees are 2 - χ.
+pub fn left_edges_count()
+    ensures { LeftEdgesCount }
+{}
+
+/// An even chain is null exactly where its signature is zero.
+pub fn null_chains()
+    ensures { NullChains }
+{}
+
+/// A closed walk is null exactly where its signature is zero.
+pub fn null_walks()
+    ensures { NullWalks }
+{}
+
+/// The signatures of a face's edges sum to zero.
+pub fn faces_sum_to_zero()
+    ensures { FacesSumToZero }
+{}
+
+/// An even chain is the sum of the loops of its edges.
+pub fn even_chains_are_sums_of_loops()
+    ensures { EvenChainsAreSumsOfLoops }
+{}
+
+/// No edge of a closed walk at the root has a longer loop than the walk.
+pub fn loops_of_walk_are_no_longer()
+    ensures { LoopsOfWalkAreNoLonger }
+{}
+
+/// Where the cotree is heaviest, each loop's signature is a sum of those of left loops that are no
+/// longer.
+pub fn short_left_loops_span()
+    ensures { ShortLeftLoopsSpan }
+{}
+
+/// Even chains are independent exactly where their signatures are.
+pub fn independent_chains()
+    ensures { IndependentChains }
+{}
+
+/// No more than 2 - χ even chains are independent.
+pub fn independent_chains_are_few()
+    ensures { IndependentChainsAreFew }
+{}
+
+/// The left loops are independent.
+pub fn left_loops_are_independent()
+    ensures { LeftLoopsAreIndependent }
+{}
+
+/// The left loops of a shortest tree and its heaviest cotree are a least system of loops.
+pub fn left_loops_are_least()
+    ensures { LeftLoopsAreLeast }
+{}
+
+/// Cycles that cover the loops through all shortest trees are a least basis.
+pub fn covering_cycles_are_least()
+    ensures { CoveringCyclesAreLeast }
+{}
+
+/// What it means that two faces lie on different sides of an edge of the cotree.
+pub fn cotree_edges_part()
+    ensures { CotreeEdgesPart }
+{}
+
+/// Each face has an even number of edges at each vertex where faces are closed walks.
+pub fn faces_are_closed_walks()
+    ensures { FacesAreClosedWalks }
+{}
+
+/// A simple cycle is null exactly where it separates.
+pub fn null_cycles_separate()
+    ensures { NullCyclesSeparate }
+{}
+
+/// Faces that are run round by their sides have an even number of edges at each vertex.
+pub fn sides_make_corners_even()
+    ensures { SidesMakeCornersEven }
+{}
+
+/// The vertices are connected where the faces are.
+pub fn sides_connect_vertices()
+    ensures { SidesConnectVertices }
+{}
+
+/// The loop of an edge is a closed walk.
+pub fn loops_are_walks()
+    ensures { LoopsAreWalks }
+{}
+
+/// A closed walk that is not null has an edge whose loop is not null, and is no longer.
+pub fn non_null_walks_have_short_loops()
+    ensures { NonNullWalksHaveShortLoops }
+{}
+
+/// A closed walk is a simple cycle, or the sum of two, where it runs some edge an odd number of
+/// times.
+pub fn closed_walks_are_simple_or_two()
+    ensures { ClosedWalksAreSimpleOrTwo }
+{}
+
+/// The rounds of three turns of which one is the other two make an even number with what they turn.
+pub fn rounds_are_even()
+    ensures { RoundsAreEven }
+{}
+
+/// The number of left edges is even where the sides can be turned about faces and vertices alike.
+pub fn left_edges_are_even()
+    ensures { LeftEdgesAreEven }
+{}
+
+/// The mates go round in pairs.
+pub fn mates_are_rounds()
+    ensures { MatesAreRounds }
+{}
+
+/// Each cell complex has a tree, a cotree and left edges.
+pub fn splits_exist()
+    ensures { SplitsExist }
+{}
+
+/// The border of a disc is connected.
+pub fn borders_are_connected()
+    ensures { BordersAreConnected }
+{}
+
+/// The ranks of a shortest tree are distances.
+pub fn ranks_are_distances()
+    ensures { RanksAreDistances }
+{}
+
+/// A tree grows by an edge to a new node.
+pub fn trees_grow()
+    ensures { TreesGrow }
+{}
+
+/// A heaviest edge keeps a grown tree heavy.
+pub fn heavy_trees_grow()
+    ensures { HeavyTreesGrow }
+{}
+
+/// A heavy tree of all faces is a heaviest cotree.
+pub fn heavy_trees_are_heaviest()
+    ensures { HeavyTreesAreHeaviest }
+{}
+
+/// Tables that say the same are the same grown tree.
+pub fn grown_trees_by_tables()
+    ensures { GrownTreesByTables }
+{}
+
+/// A grown tree that has reached all nodes is a spanning tree.
+pub fn grown_trees_span()
+    ensures { GrownTreesSpan }
+{}
+
+/// A simple cycle runs each of its edges once.
+pub fn simple_cycles_run_once()
+    ensures { SimpleCyclesRunOnce }
+{}
+
+/// Each face has an even number of edges at each vertex where faces are simple cycles.
+pub fn faces_are_simple_cycles()
+    ensures { FacesAreSimpleCycles }
+{}
+
+/// The ways between the root of a tree and its nodes go from parent to parent.
+pub fn ways_go_by_parents()
+    ensures { WaysGoByParents }
+{}

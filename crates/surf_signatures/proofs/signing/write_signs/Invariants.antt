@@ -1,0 +1,9 @@
+use Rattle.std.proofs.Common.{◌≡◌, ◌<◌, ◌*◌, ◌&&◌, ℕ, ltb}
+use Rattle.surf_graphs.specs.Cells.{dual}
+use Rattle.surf_surfaces.specs.Cells.{cells_of}
+use Rattle.surf_signatures.specs.Signs.{at, sign_bit, has_left}
+use Rattle.surf_signatures.specs.Tables.{face_tree}
+use Rattle.surf_signatures.proofs.signing.write_signs.Given as goal
+
+abbrev pub invariant-loop-k : goal.invariant-loop-k
+invariant-loop-k l = (e j : ℕ) → j < 64 * l.words → sign_bit l.signs l.words e j ≡ (ltb j l.k && has_left (dual (cells_of l.mesh)) (face_tree l.parent l.up l.depth) (at l.left j) e)

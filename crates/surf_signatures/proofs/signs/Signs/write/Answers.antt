@@ -1,0 +1,37 @@
+use Rattle.std.proofs.Common.{◌≡◌, ◌≤◌, ◌∙◌, ap, sym, subst, length, arith}
+use Rattle.std.proofs.lemmas.List.{with_items_is}
+use Rattle.std.specs.Vec.{with_items}
+use Rattle.surf_surfaces.specs.Surface.{edge_count}
+use Rattle.surf_signatures.specs.Tables.{Signed, words_for}
+use Rattle.surf_signatures.proofs.Written.{rows-length, signatures_written}
+use Rattle.surf_signatures.proofs.signs.Signs.write.Goals as goal
+
+pub write_signs-requires-clause-room : goal.write_signs-requires-clause-room
+write_signs-requires-clause-room c =
+    let s = c.self.inside in
+    let count : s.edges ≡ edge_count c.args.mesh.now =
+    sym (rows-length (words_for s.width) s.edges s.table.items)
+    ∙ ap (λ (t : Signed). length t.sets) c.self.view_is ∙ c.requires.room in
+    rw (c.deref_mut.ensures.value, c.words_of-words.ensures.words, ← count) c.self.invariant.1
+
+pub returns-clause-signed : goal.returns-clause-signed
+returns-clause-signed c = λ d split hangs same.
+    let mesh = c.args.mesh.now in
+    let s = c.self.inside in
+    let w = words_for s.width in
+    let signs = c.write_signs.new.signs in
+    let left = c.args.left.now in
+    let is : c.words_of-words.result ≡ w = c.words_of-words.ensures.words in
+    let count : s.edges ≡ edge_count mesh =
+    sym (rows-length w s.edges s.table.items) ∙ ap (λ (t : Signed). length t.sets) c.self.view_is ∙ c.requires.room in
+    let few : length left ≤ s.width = subst (λ (t : Signed). length left ≤ t.width) (sym c.self.view_is) c.requires.few in
+    let kept : (with_items s.table signs).items ≡ signs =
+    with_items_is s.table signs (omega (arith, c.deref_mut.ensures.len)) in
+    rw (kept, count) (signatures_written mesh c.args.parent.now c.args.up.now c.args.depth.now left w signs (record {
+      surface = c.faces-surface.ensures.surface;
+      tree = c.requires.tree;
+      enough = omega (arith, few);
+      fit = c.write_signs.ensures.fit;
+      rest = rw is at c.write_signs.ensures.rest;
+      signed = rw is at c.write_signs.ensures.signature;
+    }) d split hangs same)

@@ -1,0 +1,105 @@
+//! Writes the signatures of edges into a flat table.
+ghost use Rattle.std.specs.Prelude.{◌≡◌, ◌<◌, ◌≤◌, ◌*◌, ◌^◌, ◌&&◌, ℕ, false, eqb, length};
+ghost use Rattle.surf_z2.specs.Parity.{xor};
+ghost use Rattle.surf_graphs.specs.Cells.{dual};
+ghost use Rattle.surf_graphs.specs.Trees.{IsTree, on_path};
+ghost use Rattle.surf_surfaces.specs.Surface.{face_count, edge_count};
+ghost use Rattle.surf_surfaces.specs.Cells.{cells_of};
+ghost use Rattle.surf_signatures.specs.Signs.{at, cell, sign_bit, has_left};
+ghost use Rattle.surf_signatures.specs.Tables.{face_tree};
+
+use surf_base::EdgeId;
+use surf_mesh::HalfMesh;
+
+// Tells proofs the range of the words.
+fn words_fit(signs: &[u64])
+    ensures fit { (k : ℕ) → at signs.now k < 2 ^ 64 }
+{}
+
+// Turns bit `k` of an edge.
+fn toggle(signs: &mut [u64], words: usize, edge: usize, k: usize)
+    requires bit { k < 64 * words }
+    requires cell { cell words edge k < length signs.old }
+    requires row { edge * words < 2 ^ 63 }
+    requires words { words < 2 ^ 63 }
+    ensures turned { (e j : ℕ) → j < 64 * words → sign_bit signs.new words e j ≡ xor (sign_bit signs.old words e j) (eqb edge e && eqb k j) }
+{
+    words_fit(signs);
+    signs[edge * words + k / 64] ^= 1 << (k % 64);
+}
+
+// Turns bit `k` of the edges on the way from a face to face 0.
+fn turn_path(
+    mesh: &HalfMesh,
+    parent: &[u32],
+    up: &[u32],
+    depth: &[u32],
+    signs: &mut [u64],
+    words: usize,
+    face: u32,
+    k: usize,
+)
+    requires tree { IsTree (dual (cells_of mesh.now)) (face_tree parent.now up.now depth.now) }
+    requires ups { length up.now ≡ face_count mesh.now }
+    requires parents { length parent.now ≡ face_count mesh.now }
+    requires face { face < face_count mesh.now }
+    requires bit { k < 64 * words }
+    requires few { words ≤ 16 }
+    requires room { length signs.old ≡ edge_count mesh.now * words }
+    ensures turned { (e j : ℕ) → j < 64 * words → sign_bit signs.new words e j ≡ xor (sign_bit signs.old words e j) (on_path (face_tree parent.now up.now depth.now) face e && eqb k j) }
+{
+    let _edges = mesh.edges();
+    let _depths = depth;
+    let mut at = face as usize;
+    while at != 0 {
+        toggle(signs, words, up[at] as usize, k);
+        at = parent[at] as usize;
+    }
+}
+
+// The two faces of an edge.
+fn faces_beside(mesh: &HalfMesh, edge: EdgeId) -> (u32, u32)
+    requires edge { edge < edge_count mesh.now }
+    ensures near { result.0 ≡ (dual (cells_of mesh.now)).from edge }
+    ensures far { result.1 ≡ (dual (cells_of mesh.now)).to edge }
+    ensures inside { (result.0 < face_count mesh.now) × (result.1 < face_count mesh.now) }
+{
+    let _surface = mesh.faces();
+    let (near, far) = mesh.faces_of(edge);
+    (near.number(), far.number())
+}
+
+// Writes the signatures of all edges: each left edge has its own place, and so have the edges of the tree on the ways
+// from its two faces to face 0, where the two ways differ.
+pub(crate) fn write_signs(
+    mesh: &HalfMesh,
+    parent: &[u32],
+    up: &[u32],
+    depth: &[u32],
+    left: &[EdgeId],
+    signs: &mut [u64],
+    words: usize,
+)
+    requires tree { IsTree (dual (cells_of mesh.now)) (face_tree parent.now up.now depth.now) }
+    requires ups { length up.now ≡ face_count mesh.now }
+    requires parents { length parent.now ≡ face_count mesh.now }
+    requires left { (k : ℕ) → k < length left.now → at left.now k < edge_count mesh.now }
+    requires bits { length left.now ≤ 64 * words }
+    requires few { words ≤ 16 }
+    requires room { length signs.old ≡ edge_count mesh.now * words }
+    ensures fit { (k : ℕ) → at signs.new k < 2 ^ 64 }
+    ensures rest { (e k : ℕ) → length left.now ≤ k → k < 64 * words → sign_bit signs.new words e k ≡ false }
+    ensures signature { (e k : ℕ) → k < length left.now → sign_bit signs.new words e k ≡ has_left (dual (cells_of mesh.now)) (face_tree parent.now up.now depth.now) (at left.now k) e }
+{
+    let _surface = mesh.faces();
+    let _edges = mesh.edges();
+    signs.fill(0);
+    for k in 0..left.len() {
+        let edge = left[k];
+        let (near, far) = faces_beside(mesh, edge);
+        toggle(signs, words, edge.index(), k);
+        turn_path(mesh, parent, up, depth, signs, words, near, k);
+        turn_path(mesh, parent, up, depth, signs, words, far, k);
+    }
+    words_fit(signs);
+}

@@ -1,0 +1,92 @@
+-- The smallest surface is one.
+use Rattle.std.specs.Prelude.{◌≡◌, ◌≢◌, ℕ, ◌<◌, false, [], ◌∷◌}
+use Rattle.std.proofs.Common.{zero, suc, refl, arith, AllPairs, length}
+use Rattle.std.proofs.lemmas.List.Elements.{All-from_recursion}
+use Rattle.surf_surfaces.specs.Joined.{Joined, here, over}
+use Rattle.surf_surfaces.specs.Mesh.{IsMesh, IsFace, pair}
+use Rattle.surf_surfaces.specs.Pillow.{pillow}
+use Rattle.surf_surfaces.specs.Surface.{ends, faces_with, HasCorner, HasEdge, ShareAt, HasOneFan, IsConnected, IsSurface, IsTurning, IsTwoSided}
+use Rattle.surf_surfaces.specs.Homology.{IsFullCount}
+
+three_differ : (a b c : ℕ) → a ≢ b → a ≢ c → b ≢ c → AllPairs (λ u v. u ≢ v) (a ∷ b ∷ c ∷ [])
+three_differ a b c x y z i zero d lt in' = absurd (omega arith)
+three_differ a b c x y z zero (suc zero) d lt in' = x
+three_differ a b c x y z zero (suc (suc zero)) d lt in' = y
+three_differ a b c x y z (suc zero) (suc zero) d lt in' = absurd (omega arith)
+three_differ a b c x y z (suc zero) (suc (suc zero)) d lt in' = z
+three_differ a b c x y z (suc (suc i)) (suc zero) d lt in' = absurd (omega arith)
+three_differ a b c x y z (suc (suc i)) (suc (suc zero)) d lt in' = absurd (omega arith)
+three_differ a b c x y z i (suc (suc (suc j))) d lt in' = absurd (omega arith)
+
+triangle : (a b c : ℕ) → a ≢ b → a ≢ c → b ≢ c → a < 3 → b < 3 → c < 3 → IsFace 3 (a ∷ b ∷ c ∷ [])
+triangle a b c x y z i j k = record {
+  large = omega arith;
+  distinct = three_differ a b c x y z;
+  inside = All-from_recursion (λ v. v < 3) (a ∷ b ∷ c ∷ []) (i, (j, (k, tt)));
+}
+
+pillow_is_mesh : IsMesh pillow
+pillow_is_mesh = All-from_recursion (IsFace 3) pillow.faces (
+  triangle 0 1 2 (λ e. omega arith) (λ e. omega arith) (λ e. omega arith) (omega arith) (omega arith) (omega arith),
+  (
+    triangle 0 2 1 (λ e. omega arith) (λ e. omega arith) (λ e. omega arith) (omega arith) (omega arith) (omega arith),
+    tt,
+  ),
+)
+
+both_have : (v w : ℕ) → HasEdge pillow 0 (pair v w) → HasEdge pillow 1 (pair v w) → (f g : ℕ) → f < 2 → g < 2 →
+    Joined (ShareAt pillow v) f g
+both_have v w a b zero zero x y = here
+both_have v w a b zero (suc zero) x y = over (w, a, b) here
+both_have v w a b (suc zero) zero x y = over (w, b, a) here
+both_have v w a b (suc zero) (suc zero) x y = here
+both_have v w a b (suc (suc f)) g x y = absurd (omega arith)
+both_have v w a b f (suc (suc g)) x y = absurd (omega arith)
+
+fan : (v : ℕ) → v < 3 → HasOneFan pillow v
+fan zero h f g a b = both_have 0 1 (omega arith, refl) (omega arith, refl) f g a.0 b.0
+fan (suc zero) h f g a b = both_have 1 2 (omega arith, refl) (omega arith, refl) f g a.0 b.0
+fan (suc (suc zero)) h f g a b = both_have 2 0 (omega arith, refl) (omega arith, refl) f g a.0 b.0
+fan (suc (suc (suc v))) h f g a b = absurd (omega arith)
+
+connected : IsConnected pillow
+connected zero zero x y = here
+connected zero (suc zero) x y = over ((0, 1), (omega arith, refl), (omega arith, refl)) here
+connected (suc zero) zero x y = over ((0, 1), (omega arith, refl), (omega arith, refl)) here
+connected (suc zero) (suc zero) x y = here
+connected (suc (suc f)) g x y = absurd (omega arith)
+connected f (suc (suc g)) x y = absurd (omega arith)
+
+two_faces : (e : ℕ) → e < 3 → length (faces_with pillow (ends pillow e)) ≡ 2
+two_faces zero h = refl
+two_faces (suc zero) h = refl
+two_faces (suc (suc zero)) h = refl
+two_faces (suc (suc (suc e))) h = absurd (omega arith)
+
+no_isolated : (v : ℕ) → v < 3 → (f : ℕ) × HasCorner pillow f v
+no_isolated zero h = (0, (omega arith, (0, omega arith, refl)))
+no_isolated (suc zero) h = (0, (omega arith, (1, omega arith, refl)))
+no_isolated (suc (suc zero)) h = (0, (omega arith, (2, omega arith, refl)))
+no_isolated (suc (suc (suc v))) h = absurd (omega arith)
+
+pub pillow_is_surface : IsSurface pillow
+pillow_is_surface = record {
+  is_mesh = pillow_is_mesh;
+  some_face = omega arith;
+  two_faces = two_faces;
+  no_isolated = no_isolated;
+  one_fan = fan;
+  connected = connected;
+}
+
+turning : IsTurning pillow (λ f. false)
+turning zero h = refl
+turning (suc zero) h = refl
+turning (suc (suc zero)) h = refl
+turning (suc (suc (suc e))) h = absurd (omega arith)
+
+pub pillow_is_two_sided : IsTwoSided pillow
+pillow_is_two_sided = ((λ f. false), turning)
+
+pub pillow_count : IsFullCount pillow 0
+pillow_count = refl

@@ -1,0 +1,5 @@
+use Rattle.surf_surfaces.proofs.LoopsAtLaws.{loops_are_least}
+use Rattle.surf_surfaces.proofs.law_of_loops.Goals as goal
+
+pub returns : goal.returns
+returns c = loops_are_least

@@ -1,0 +1,85 @@
+-- What holds of the choice among ties.
+use Rattle.std.specs.Prelude.{◌≡◌, ℕ, ◌+◌, ◌<◌, ◌↔◌, List, ◌∷◌, length, All}
+use Rattle.surf_z2.specs.Order.{IsInOrder}
+use Rattle.surf_surfaces.specs.Mesh.{Mesh}
+use Rattle.surf_surfaces.specs.Surface.{face_count, edge_count, IsSurface}
+use Rattle.surf_surfaces.specs.Walk.{walk_length, ArePositive}
+use Rattle.surf_surfaces.specs.Homology.{IsFullCount, IsLeastLoopSystem, IsLeastBasis}
+use Rattle.surf_surfaces.specs.Cycle.{IsSimpleCycle, Separation, IsShortestNonseparating}
+use Rattle.surf_surfaces.specs.Places.{IsLeastLoopSystemInOrder, IsLeastBasisInOrder}
+use Rattle.surf_surfaces.specs.Choice.{Trees, AreChosenAt, AreChosen, Loop, comes_before, walks, loops_at, candidates, IsChosenBasis, IsKeptFrom}
+
+-- the loops at a base are a least loop system there, in total and place by place, each with its length, in order
+pub record LoopsAtBase (mesh : Mesh) (lengths : List ℕ) (base : ℕ) (trees : Trees) : Type 0 where
+  pub least : IsLeastLoopSystem mesh lengths base (walks (loops_at mesh lengths base trees))
+  pub least_in_order : IsLeastLoopSystemInOrder mesh lengths base (walks (loops_at mesh lengths base trees))
+  pub sizes : All (λ c. walk_length mesh lengths c.walk ≡ c.size) (loops_at mesh lengths base trees)
+  pub in_order : IsInOrder comes_before (loops_at mesh lengths base trees)
+
+-- the loops that are chosen at a base are so
+abbrev pub LoopsAreLeast : Type 0
+LoopsAreLeast =
+    (mesh : Mesh) (lengths : List ℕ) (base : ℕ) (trees : Trees) → IsSurface mesh → ArePositive mesh lengths →
+    AreChosenAt mesh lengths base trees →
+    LoopsAtBase mesh lengths base trees
+
+-- the loops are a least basis, in total and place by place, of simple cycles, each with its length
+pub record LeastSimpleBasis (mesh : Mesh) (lengths : List ℕ) (basis : List Loop) : Type 0 where
+  pub least : IsLeastBasis mesh lengths (walks basis)
+  pub least_in_order : IsLeastBasisInOrder mesh lengths (walks basis)
+  pub simple : All (IsSimpleCycle mesh) (walks basis)
+  pub sizes : All (λ c. walk_length mesh lengths c.walk ≡ c.size) basis
+
+-- the chosen basis is so
+abbrev pub BasisIsLeast : Type 0
+BasisIsLeast =
+    (mesh : Mesh) (lengths : List ℕ) (trees : ℕ → Trees) (basis : List Loop) → IsSurface mesh →
+    ArePositive mesh lengths → AreChosen mesh lengths trees →
+    IsChosenBasis mesh lengths trees basis → LeastSimpleBasis mesh lengths basis
+
+-- there is one basis
+abbrev pub BasisIsOne : Type 0
+BasisIsOne =
+    (mesh : Mesh) (lengths : List ℕ) (trees : ℕ → Trees) → IsSurface mesh → ArePositive mesh lengths →
+    AreChosen mesh lengths trees →
+    (basis : List Loop) × IsChosenBasis mesh lengths trees basis
+    × ((other : List Loop) → IsChosenBasis mesh lengths trees other → other ≡ basis)
+
+-- what is kept base by base is the basis
+abbrev pub BasisIsKeptBaseByBase : Type 0
+BasisIsKeptBaseByBase =
+    (mesh : Mesh) (lengths : List ℕ) (trees : ℕ → Trees) (kept : List Loop) → IsSurface mesh →
+    ArePositive mesh lengths → AreChosen mesh lengths trees →
+    IsKeptFrom mesh lengths trees mesh.vertices kept → IsChosenBasis mesh lengths trees kept
+
+-- the first candidate is a shortest nonseparating cycle
+abbrev pub FirstIsShortest : Type 0
+FirstIsShortest =
+    (mesh : Mesh) (lengths : List ℕ) (trees : ℕ → Trees) (first : Loop) (rest : List Loop) → IsSurface mesh →
+    ArePositive mesh lengths →
+    AreChosen mesh lengths trees → candidates mesh lengths trees ≡ first ∷ rest →
+    IsShortestNonseparating mesh lengths first.walk × (walk_length mesh lengths first.walk ≡ first.size)
+
+-- there is a candidate exactly where χ is below 2
+abbrev pub CandidatesBelowTwo : Type 0
+CandidatesBelowTwo =
+    (mesh : Mesh) (lengths : List ℕ) (trees : ℕ → Trees) → IsSurface mesh → ArePositive mesh lengths →
+    AreChosen mesh lengths trees →
+    (0 < length (candidates mesh lengths trees)) ↔ (mesh.vertices + face_count mesh < edge_count mesh + 2)
+
+-- every simple cycle separates exactly where χ is 2
+abbrev pub SimpleCyclesSeparate : Type 0
+SimpleCyclesSeparate = (mesh : Mesh) → IsSurface mesh →
+    ((walk : List ℕ) → IsSimpleCycle mesh walk → Separation mesh walk) ↔ IsFullCount mesh 0
+
+-- the trees that are chosen exist
+abbrev pub ChoiceExists : Type 0
+ChoiceExists = (mesh : Mesh) (lengths : List ℕ) → IsSurface mesh → ArePositive mesh lengths →
+    (trees : ℕ → Trees) × AreChosen mesh lengths trees
+
+-- the loops at a base are one list
+abbrev pub LoopsAreOne : Type 0
+LoopsAreOne =
+    (mesh : Mesh) (lengths : List ℕ) (base : ℕ) (a b : Trees) → IsSurface mesh → ArePositive mesh lengths →
+    AreChosenAt mesh lengths base a → AreChosenAt mesh lengths base b →
+    loops_at mesh lengths base a ≡ loops_at mesh lengths base b

@@ -1,5 +1,0 @@
-use Rattle.surf_valid.proofs.LoopLaws.{valid_loops_are_least}
-use Rattle.surf_valid.proofs.law_of_valid_loops.Goals as goal
-
-pub returns : goal.returns
-returns c = valid_loops_are_least

@@ -1,0 +1,43 @@
+-- The totals of the certificates of the choice are those of the loops and of the basis that are chosen.
+use Rattle.std.proofs.Common.{◌≡◌, ℕ, List, map, sum, ap, ◌∙◌, subst, arith}
+use Rattle.std.specs.List.{All}
+use Rattle.std.proofs.lemmas.Simd.{map-map}
+use Rattle.std.proofs.lemmas.List.Elements.{recursion_from_All}
+use Rattle.surf_surfaces.specs.Mesh.{Mesh}
+use Rattle.surf_surfaces.specs.Walk.{walk_length}
+use Rattle.surf_surfaces.specs.Homology.{total, IsLeastLoopSystem}
+use Rattle.surf_surfaces.specs.Choice.{Loop, walks, loops_at}
+use Rattle.surf_surfaces.proofs.BasisLaws.{basis_is_least}
+use Rattle.surf_surfaces.proofs.LeastLaws.{map-same}
+use Rattle.surf_surfaces.proofs.LoopsAtLaws.{loops_are_least}
+use Rattle.surf_validity.specs.Valid.{loops_of}
+use Rattle.surf_validity.specs.Chosen.{cert_of}
+use Rattle.surf_validity.specs.Laws.{ChosenLoopsTotal, ChosenBasisTotal}
+use Rattle.surf_validity.proofs.LoopLaws.{valid_loops_are_least}
+use Rattle.surf_validity.proofs.ChosenLaws.{chosen_loops_are_valid}
+
+-- where each loop has the length of its walk
+sized_total : (mesh : Mesh) (lengths : List ℕ) (loops : List Loop) →
+    All (λ c. walk_length mesh lengths c.walk ≡ c.size) loops →
+    total mesh lengths (walks loops) ≡ sum (map (λ c. c.size) loops)
+sized_total mesh lengths loops sizes =
+    ap sum (map-map (walk_length mesh lengths) (λ c. c.walk) loops
+    ∙ map-same (λ c. walk_length mesh lengths c.walk) (λ c. c.size) loops
+    (recursion_from_All (λ c. walk_length mesh lengths c.walk ≡ c.size) loops sizes))
+
+-- two least loop systems have one total
+pub chosen_loops_total : ChosenLoopsTotal
+chosen_loops_total mesh lengths base trees surface positive chosen =
+    let cert = cert_of mesh trees in
+    let (certified, counted) = valid_loops_are_least mesh lengths cert surface positive
+    (chosen_loops_are_valid mesh lengths base trees surface positive chosen) in
+    let ours = subst (λ x. IsLeastLoopSystem mesh lengths x (loops_of mesh cert)) chosen.shortest.root certified in
+    let loops = loops_are_least mesh lengths base trees surface positive chosen in
+    let below = ours.least (walks (loops_at mesh lengths base trees)) loops.least.is_system in
+    let above = loops.least.least (loops_of mesh cert) ours.is_system in
+    let sized = sized_total mesh lengths (loops_at mesh lengths base trees) loops.sizes in
+    omega (arith, counted, below, above, sized)
+
+pub chosen_basis_total : ChosenBasisTotal
+chosen_basis_total mesh lengths trees basis surface positive chosen is_basis =
+    sized_total mesh lengths basis (basis_is_least mesh lengths trees basis surface positive chosen is_basis).sizes

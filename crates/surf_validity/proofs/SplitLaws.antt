@@ -1,0 +1,121 @@
+-- The trees of a valid certificate and the edges in neither are a split, and the listed pairs are those edges.
+use Rattle.std.proofs.Common.{◌≡◌, ℕ, zero, suc, ◌+◌, ◌<◌, Bool, true, false, not, eqb, List, [], ◌∷◌, length, get_or, map, IsPermutation, refl, sym, ap, ◌∙◌, arith, inl, inr}
+use Rattle.std.specs.List.{AllByRecursion, list_any}
+use Rattle.std.proofs.lemmas.Bool.{cases_Bool, or_right, and_parts, eq-eqb, false≢true}
+use Rattle.std.proofs.lemmas.List.{length-map}
+use Rattle.surf_graphs.specs.Cells.{primal, dual, IsSplit}
+use Rattle.surf_graphs.specs.Trees.{Tree, IsTree}
+use Rattle.surf_graphs.proofs.Counting.{left_edges as left_count}
+use Rattle.surf_surfaces.specs.Mesh.{Mesh, pair_of, pair_eq, edges}
+use Rattle.surf_surfaces.specs.Surface.{edge_count, ends}
+use Rattle.surf_surfaces.specs.Walk.{edge_number, place_of}
+use Rattle.surf_surfaces.specs.Homology.{IsFullCount}
+use Rattle.surf_surfaces.specs.Cells.{cells_of}
+use Rattle.surf_surfaces.specs.Cotree.{tree_edges, cotree_edges, is_left, left_edges, split_of}
+use Rattle.surf_surfaces.proofs.PairLaws.{pair_eq-true}
+use Rattle.surf_surfaces.proofs.EdgeLaws.{place_of-ends}
+use Rattle.surf_surfaces.proofs.CotreeLaws.{passing_climb, climbs_order, passing_each, passing_found, not-false_is}
+use Rattle.surf_validity.specs.Valid.{is_listed, just_one}
+use Rattle.surf_validity.proofs.ListLaws.{permuted_where_found}
+
+-- each edge is in just one of the two trees and the list
+pub record AreApart (mesh : Mesh) (tree cotree : Tree) (left : List (ℕ × ℕ)) : Type 0 where
+  pub one_of : (e : ℕ) → e < edge_count mesh →
+      just_one (tree_edges mesh tree e) (cotree_edges mesh cotree e) (is_listed mesh left e) ≡ true
+
+just_first : (a b c : Bool) → just_one a b c ≡ true → a ≡ true → (b ≡ false) × (c ≡ false)
+just_first a b c h on = let both = and_parts (not b) (not c) (rw on at h) in
+    (not-false_is b both.0, not-false_is c both.1)
+
+just_third : (a b c : Bool) → just_one a b c ≡ true → c ≡ true → (a ≡ false) × (b ≡ false)
+just_third true b c h on = absurd (false≢true (sym (just_first true b c h refl).1 ∙ on))
+just_third false true c h on = absurd (false≢true (sym (not-false_is c h) ∙ on))
+just_third false false c h on = (refl, refl)
+
+else_third : (a b c : Bool) → just_one a b c ≡ true → a ≡ false → b ≡ false → c ≡ true
+else_third a b c h no_a no_b = rw (no_a, no_b) at h
+
+module _ (mesh : Mesh) (tree cotree : Tree) (left : List (ℕ × ℕ)) (apart : AreApart mesh tree cotree left) where
+  left_each : (k : ℕ) → k < length (left_edges mesh tree cotree) →
+      (get_or (left_edges mesh tree cotree) k 0 < edge_count mesh)
+      × (tree_edges mesh tree (get_or (left_edges mesh tree cotree) k 0) ≡ false)
+      × (cotree_edges mesh cotree (get_or (left_edges mesh tree cotree) k 0) ≡ false)
+  left_each k l = each (left_edges mesh tree cotree) (passing_each (is_left mesh tree cotree) 0 (edge_count mesh)) k l
+    where
+      each : (xs : List ℕ) → AllByRecursion (λ x. (x < 0 + edge_count mesh) × (is_left mesh tree cotree x ≡ true)) xs →
+          (k : ℕ) → k < length xs → (get_or xs k 0 < edge_count mesh) × (tree_edges mesh tree (get_or xs k 0) ≡ false)
+          × (cotree_edges mesh cotree (get_or xs k 0) ≡ false)
+      each [] h k l = absurd (omega arith)
+      each (x ∷ xs) h zero l =
+          let both = and_parts (not (tree_edges mesh tree x)) (not (cotree_edges mesh cotree x)) h.0.1 in (
+            omega (arith, h.0.0),
+            not-false_is (tree_edges mesh tree x) both.0,
+            not-false_is (cotree_edges mesh cotree x) both.1,
+          )
+      each (x ∷ xs) h (suc k) l = each xs h.1 k (omega arith)
+
+  pub is_split : IsTree (primal (cells_of mesh)) tree → IsTree (dual (cells_of mesh)) cotree →
+      IsSplit (cells_of mesh) (split_of mesh tree cotree)
+  is_split is_tree is_cotree = record {
+    tree_is = is_tree;
+    cotree_is = is_cotree;
+    apart = λ e l on.
+        (just_first (tree_edges mesh tree e) (cotree_edges mesh cotree e) (is_listed mesh left e) (apart.one_of e l) on).0;
+    left_rises = λ i j h l. climbs_order 0 (left_edges mesh tree cotree)
+        (passing_climb (is_left mesh tree cotree) 0 (edge_count mesh)) i j h l;
+    left_in = λ k l. (left_each k l).0;
+    left_outside = λ k l. (left_each k l).1;
+    left_outside_dual = λ k l. (left_each k l).2;
+    left_whole = λ e l no_tree no_cotree. passing_found (is_left mesh tree cotree) 0 (edge_count mesh) e (omega arith)
+        (omega arith) (rw (no_tree, no_cotree) refl);
+  }
+
+  -- a listed edge is the number of a listed pair
+  number_listed : (e : ℕ) → e < edge_count mesh → (ps : List (ℕ × ℕ)) →
+      list_any (λ p. pair_eq (ends mesh e) (pair_of p)) ps ≡ true → list_any (eqb e) (map (edge_number mesh) ps) ≡ true
+  number_listed e l [] h = absurd (false≢true h)
+  number_listed e l (p ∷ ps) h = elim (cases_Bool (pair_eq (ends mesh e) (pair_of p))) [
+    | inl is ↦
+        let same : e ≡ edge_number mesh p =
+        sym (place_of-ends mesh e l) ∙ ap (λ q. place_of q (edges mesh)) (pair_eq-true (ends mesh e) (pair_of p) is) in
+        rw (eq-eqb e (edge_number mesh p) same) refl
+    | inr out ↦ or_right (eqb e (edge_number mesh p)) (list_any (eqb e) (map (edge_number mesh) ps))
+        (number_listed e l ps (rw out at h))
+  ]
+
+  -- the numbers of the listed pairs are the edges in neither tree
+  pub listed_permute : IsTree (primal (cells_of mesh)) tree → IsTree (dual (cells_of mesh)) cotree →
+      IsFullCount mesh (length left) →
+      IsPermutation (left_edges mesh tree cotree) (map (edge_number mesh) left)
+  listed_permute is_tree is_cotree count =
+      let split = is_split is_tree is_cotree in
+      let counted = left_count (cells_of mesh) (split_of mesh tree cotree) split in
+      let size = length-map left (edge_number mesh) in
+      permuted_where_found 0 (left_edges mesh tree cotree) (map (edge_number mesh) left)
+      (passing_climb (is_left mesh tree cotree) 0 (edge_count mesh))
+      (found (left_edges mesh tree cotree) (passing_each (is_left mesh tree cotree) 0 (edge_count mesh)))
+      (omega (arith, counted, count, size))
+    where
+      found : (xs : List ℕ) → AllByRecursion (λ x. (x < 0 + edge_count mesh) × (is_left mesh tree cotree x ≡ true)) xs →
+          AllByRecursion (λ x. list_any (eqb x) (map (edge_number mesh) left) ≡ true) xs
+      found [] h = tt
+      found (x ∷ xs) h =
+          let l : x < edge_count mesh = omega (arith, h.0.0) in
+          let both = and_parts (not (tree_edges mesh tree x)) (not (cotree_edges mesh cotree x)) h.0.1 in (
+            number_listed x l left (else_third (tree_edges mesh tree x) (cotree_edges mesh cotree x) (is_listed mesh left x)
+                (apart.one_of x l) (not-false_is (tree_edges mesh tree x) both.0)
+                (not-false_is (cotree_edges mesh cotree x) both.1)),
+            found xs h.1,
+          )
+
+  -- each edge in neither tree is listed
+  pub left_listed : (k : ℕ) → k < length (left_edges mesh tree cotree) →
+      (get_or (left_edges mesh tree cotree) k 0 < edge_count mesh)
+      × (is_listed mesh left (get_or (left_edges mesh tree cotree) k 0) ≡ true)
+  left_listed k l =
+      let e = get_or (left_edges mesh tree cotree) k 0 in
+      let is = left_each k l in (
+        is.0,
+        else_third (tree_edges mesh tree e) (cotree_edges mesh cotree e) (is_listed mesh left e) (apart.one_of e is.0) is.1
+            is.2,
+      )

@@ -1,0 +1,66 @@
+-- What a valid certificate shows.
+use Rattle.std.specs.Prelude.{◌≡◌, ℕ, List, map, sum}
+use Rattle.surf_surfaces.specs.Mesh.{Mesh}
+use Rattle.surf_surfaces.specs.Surface.{IsSurface}
+use Rattle.surf_surfaces.specs.Walk.{ArePositive}
+use Rattle.surf_surfaces.specs.Homology.{total, IsLeastLoopSystem, IsLeastBasis}
+use Rattle.surf_surfaces.specs.Choice.{Trees, Loop, AreChosenAt, AreChosen, loops_at, IsChosenBasis}
+use Rattle.surf_validity.specs.Rows.{LoopCert, BasisCert}
+use Rattle.surf_validity.specs.Chosen.{cert_of, basis_cert_of}
+use Rattle.surf_validity.specs.Valid.{IsValidLoops, loops_of, loops_total}
+use Rattle.surf_validity.specs.Bases.{IsValidBasis, basis_total}
+
+-- the loops of a valid certificate are a least loop system at its base, and its total is theirs
+abbrev pub ValidLoopsAreLeast : Type 0
+ValidLoopsAreLeast =
+    (mesh : Mesh) (lengths : List ℕ) (cert : LoopCert) → IsSurface mesh → ArePositive mesh lengths →
+    IsValidLoops mesh lengths cert →
+    IsLeastLoopSystem mesh lengths cert.tree.base (loops_of mesh cert)
+    × (total mesh lengths (loops_of mesh cert) ≡ loops_total mesh lengths cert)
+
+-- the cycles of a valid certificate are a least basis
+abbrev pub ValidBasesAreLeast : Type 0
+ValidBasesAreLeast =
+    (mesh : Mesh) (lengths : List ℕ) (cert : BasisCert) → IsSurface mesh → ArePositive mesh lengths →
+    IsValidBasis mesh lengths cert → IsLeastBasis mesh lengths cert.cycles
+
+-- the certificate of the trees that are chosen at a base is valid
+abbrev pub ChosenLoopsAreValid : Type 0
+ChosenLoopsAreValid =
+    (mesh : Mesh) (lengths : List ℕ) (base : ℕ) (trees : Trees) → IsSurface mesh → ArePositive mesh lengths →
+    AreChosenAt mesh lengths base trees → IsValidLoops mesh lengths (cert_of mesh trees)
+
+-- there is one, whichever trees show it
+abbrev pub ChosenCertsAreOne : Type 0
+ChosenCertsAreOne =
+    (mesh : Mesh) (lengths : List ℕ) (base : ℕ) (a b : Trees) → IsSurface mesh → ArePositive mesh lengths →
+    AreChosenAt mesh lengths base a → AreChosenAt mesh lengths base b → cert_of mesh a ≡ cert_of mesh b
+
+-- the certificate of the basis that is chosen from the loops at all bases is valid
+abbrev pub ChosenBasesAreValid : Type 0
+ChosenBasesAreValid =
+    (mesh : Mesh) (lengths : List ℕ) (trees : ℕ → Trees) (basis : List Loop) → IsSurface mesh →
+    ArePositive mesh lengths → AreChosen mesh lengths trees → IsChosenBasis mesh lengths trees basis →
+    IsValidBasis mesh lengths (basis_cert_of mesh trees basis)
+
+-- there is one, whichever trees show it
+abbrev pub ChosenBasisCertsAreOne : Type 0
+ChosenBasisCertsAreOne =
+    (mesh : Mesh) (lengths : List ℕ) (a b : ℕ → Trees) (basis other : List Loop) → IsSurface mesh →
+    ArePositive mesh lengths → AreChosen mesh lengths a → AreChosen mesh lengths b →
+    IsChosenBasis mesh lengths a basis → IsChosenBasis mesh lengths b other →
+    basis_cert_of mesh a basis ≡ basis_cert_of mesh b other
+
+-- what the loops of the certificate total is what the loops that are chosen at the base do
+abbrev pub ChosenLoopsTotal : Type 0
+ChosenLoopsTotal =
+    (mesh : Mesh) (lengths : List ℕ) (base : ℕ) (trees : Trees) → IsSurface mesh → ArePositive mesh lengths →
+    AreChosenAt mesh lengths base trees →
+    loops_total mesh lengths (cert_of mesh trees) ≡ sum (map (λ c. c.size) (loops_at mesh lengths base trees))
+
+-- and so for the basis
+abbrev pub ChosenBasisTotal : Type 0
+ChosenBasisTotal =
+    (mesh : Mesh) (lengths : List ℕ) (trees : ℕ → Trees) (basis : List Loop) → IsSurface mesh →
+    ArePositive mesh lengths → AreChosen mesh lengths trees → IsChosenBasis mesh lengths trees basis →
+    basis_total mesh lengths (basis_cert_of mesh trees basis) ≡ sum (map (λ c. c.size) basis)
