@@ -57,6 +57,44 @@ at_root g t ok n l h = elim (cases_eq n t.root) [
   | inr ne ↦ let fall : t.rank (t.parent n) < t.rank n = ok.rank_falls n l ne in absurd (omega arith)
 ]
 
+walk_down : (g : Graph) (t : Tree) → IsTree g t → (k n : ℕ) → n < g.nodes → t.rank n ≤ k →
+    IsWalk g t.root (way_down t k n) n
+walk_down g t ok zero n l h = rw (at_root g t ok n l h) refl
+walk_down g t ok (suc k) n l h = elim (cases_eq n t.root) [
+  | inl same ↦ rw (same, eq-eqb t.root t.root refl) refl
+  | inr ne ↦
+      let p = t.parent n in
+      let m = t.up n in
+      let fall : t.rank p < t.rank n = ok.rank_falls n l ne in
+      let above = walk_down g t ok k p (ok.parent_in n l ne) (omega arith) in
+      rw (ne_eqb n t.root ne)
+      (walk-append g (λ e. 0) t.root (way_down t k p) p (n ∷ []) n above
+      ((m, ok.up_in n l ne, joins_turned g n p m (ok.up_joins n l ne)), refl)).0
+]
+
+walk_up : (g : Graph) (t : Tree) → IsTree g t → (k n : ℕ) → n < g.nodes → t.rank n ≤ k →
+    IsWalk g n (way_up t k n) t.root
+walk_up g t ok zero n l h = rw (at_root g t ok n l h) refl
+walk_up g t ok (suc k) n l h = elim (cases_eq n t.root) [
+  | inl same ↦ rw (same, eq-eqb t.root t.root refl) refl
+  | inr ne ↦
+      let p = t.parent n in
+      let m = t.up n in
+      let fall : t.rank p < t.rank n = ok.rank_falls n l ne in
+      let above = walk_up g t ok k p (ok.parent_in n l ne) (omega arith) in
+      rw (ne_eqb n t.root ne) ((m, ok.up_in n l ne, ok.up_joins n l ne), above)
+]
+
+-- in any tree the loop of an edge is a closed walk at the root
+pub loop_closed : (g : Graph) (t : Tree) → IsGraph g → IsTree g t → (l : ℕ) → l < g.edges →
+    IsWalk g t.root (loop_walk g t l) t.root
+loop_closed g t graph ok l ll =
+    let ends = graph l ll in
+    let down = walk_down g t ok (t.rank (g.from l)) (g.from l) ends.0 (omega arith) in
+    let up = walk_up g t ok (t.rank (g.to l)) (g.to l) ends.1 (omega arith) in
+    (walk-append g (λ e. 0) t.root (way_down t (t.rank (g.from l)) (g.from l)) (g.from l)
+    (g.to l ∷ way_up t (t.rank (g.to l)) (g.to l)) t.root down ((l, ll, joins_ends g l), up)).0
+
 -- down the tree: the rank adds up to the length
 pub runs_down : (g : Graph) (len : ℕ → ℕ) (t : Tree) → IsSimple g → IsTree g t → IsShortest g len t → (k n : ℕ) →
     n < g.nodes → t.rank n ≤ k → Runs g len t.root (way_down t k n) n (λ e. on_way t k n e) (t.rank n)

@@ -149,7 +149,12 @@ SidesMakeCornersEven = (s : Cells) (h : Sides) → IsSides s h → (v f : ℕ) �
 abbrev pub SidesConnectVertices : Type 0
 SidesConnectVertices = (s : Cells) (h : Sides) → IsSides s h → IsConnected (dual s) → IsConnected (primal s)
 
--- the loop of an edge is a closed walk at the root, with the loop's edges and length
+-- in any tree the loop of an edge is a closed walk at the root
+abbrev pub LoopsAreClosed : Type 0
+LoopsAreClosed = (g : Graph) (t : Tree) → IsGraph g → IsTree g t → (l : ℕ) → l < g.edges →
+    IsWalk g t.root (loop_walk g t l) t.root
+
+-- in a shortest one of a graph without double edges it has the loop's edges and length
 abbrev pub LoopsAreWalks : Type 0
 LoopsAreWalks = (g : Graph) (len : ℕ → ℕ) (t : Tree) → IsGraph g → IsSimple g → IsTree g t →
     IsShortest g len t → (l : ℕ) → l < g.edges →

@@ -37,7 +37,7 @@ ghost use Rattle.surf_graphs.specs.Laws.{LeftLoopsAreIndependent, LeftLoopsAreLe
 ghost use Rattle.surf_graphs.specs.Laws.{CoveringCyclesAreLeast, CotreeEdgesPart};
 ghost use Rattle.surf_graphs.specs.Laws.{FacesAreClosedWalks, NullCyclesSeparate};
 ghost use Rattle.surf_graphs.specs.Laws.{SidesMakeCornersEven, SidesConnectVertices};
-ghost use Rattle.surf_graphs.specs.Laws.{LoopsAreWalks, NonNullWalksHaveShortLoops};
+ghost use Rattle.surf_graphs.specs.Laws.{LoopsAreClosed, LoopsAreWalks, NonNullWalksHaveShortLoops};
 ghost use Rattle.surf_graphs.specs.Laws.{ClosedWalksAreSimpleOrTwo, RoundsAreEven};
 ghost use Rattle.surf_graphs.specs.Laws.{LeftEdgesAreEven, MatesAreRounds, SplitsExist};
 ghost use Rattle.surf_graphs.specs.Laws.{BordersAreConnected, RanksAreDistances, TreesGrow};
@@ -156,7 +156,12 @@ pub fn sides_connect_vertices()
     ensures { SidesConnectVertices }
 {}
 
-/// The loop of an edge is a closed walk.
+/// In any tree the loop of an edge is a closed walk at the root.
+pub fn loops_are_closed()
+    ensures { LoopsAreClosed }
+{}
+
+/// In a shortest tree it has the edges and the length that its definition by paths gives.
 pub fn loops_are_walks()
     ensures { LoopsAreWalks }
 {}

@@ -98,6 +98,17 @@ joins_is p a b lt h = elim (or_cases (eqb p.0 a && eqb p.1 b) (eqb p.0 b && eqb 
       rw (le-ltb a b above) (pair_same p (b, a) first second)
 ]
 
+-- a face is one of the two of an edge where it has it as a side
+pub face_sides : (mesh : Mesh) → IsSurface mesh → (f e : ℕ) → e < edge_count mesh →
+    xor (eqb (faces_of mesh e).0 f) (eqb (faces_of mesh e).1 f) ≡ has_side (ends mesh e) (face_at mesh f)
+face_sides mesh surface f e in' =
+    let two = two_faces_of mesh surface e in' in
+    let a = (faces_of mesh e).0 in
+    let b = (faces_of mesh e).1 in
+    let apart : a ≢ b = λ same. omega (arith, two.lesser_first) in
+    ap (λ t. xor t (eqb b f)) (eqb_comm a f) ∙ ap (xor (eqb f a)) (eqb_comm b f)
+    ∙ sym (two.no_other f ∙ one_of_two f a b apart)
+
 pub surfaces_are_cells : SurfacesAreCells
 surfaces_are_cells mesh surface = record {
   complex = record {
@@ -129,13 +140,7 @@ surfaces_are_cells mesh surface = record {
         ≡ (touches v (ends mesh e) && has_side (ends mesh e) (face_at mesh f))
     corner v f e in' =
         let below = ends_below mesh surface.is_mesh e in' in
-        let two = two_faces_of mesh surface e in' in
-        let a = (faces_of mesh e).0 in
-        let b = (faces_of mesh e).1 in
         let moves : (ends mesh e).0 ≢ (ends mesh e).1 = λ same. omega (arith, below.0) in
-        let apart : a ≢ b = λ same. omega (arith, two.lesser_first) in
-        let faces_agree : xor (eqb a f) (eqb b f) ≡ has_side (ends mesh e) (face_at mesh f) =
-        ap (λ t. xor t (eqb b f)) (eqb_comm a f) ∙ ap (xor (eqb f a)) (eqb_comm b f) ∙ sym
-        (two.no_other f ∙ one_of_two f a b apart) in
-        ap (λ t. t && xor (eqb a f) (eqb b f)) (sym (touches-xor v (ends mesh e) moves)) ∙ ap
-        (λ t. touches v (ends mesh e) && t) faces_agree
+        ap (λ t. t && xor (eqb (faces_of mesh e).0 f) (eqb (faces_of mesh e).1 f))
+        (sym (touches-xor v (ends mesh e) moves))
+        ∙ ap (λ t. touches v (ends mesh e) && t) (face_sides mesh surface f e in')

@@ -78,7 +78,7 @@ closed_walk_even mesh m (u ∷ rest) closed v =
     (recursion_from_All (λ s. Contains (edges mesh) (pair_of s)) (steps_from u rest) closed.is_walk.along_edges))
     (sym closed.returns)
 
-last_push : (u z : ℕ) (rest : List ℕ) → last_from u (rest ++ z ∷ []) ≡ z
+pub last_push : (u z : ℕ) (rest : List ℕ) → last_from u (rest ++ z ∷ []) ≡ z
 last_push u z [] = refl
 last_push u z (w ∷ rest) = last_push w z rest
 

@@ -1,12 +1,16 @@
 -- What holds of the choice among ties.
 use Rattle.std.specs.Prelude.{◌≡◌, ℕ, ◌+◌, ◌<◌, ◌↔◌, List, ◌∷◌, length, All}
 use Rattle.surf_z2.specs.Order.{IsInOrder}
+use Rattle.surf_graphs.specs.Cells.{primal}
+use Rattle.surf_graphs.specs.Trees.{Tree, IsTree}
 use Rattle.surf_surfaces.specs.Mesh.{Mesh}
 use Rattle.surf_surfaces.specs.Surface.{face_count, edge_count, IsSurface}
-use Rattle.surf_surfaces.specs.Walk.{walk_length, ArePositive}
+use Rattle.surf_surfaces.specs.Walk.{IsClosedAt, walk_length, ArePositive}
 use Rattle.surf_surfaces.specs.Homology.{IsFullCount, IsLeastLoopSystem, IsLeastBasis}
 use Rattle.surf_surfaces.specs.Cycle.{IsSimpleCycle, Separation, IsShortestNonseparating}
 use Rattle.surf_surfaces.specs.Places.{IsLeastLoopSystemInOrder, IsLeastBasisInOrder}
+use Rattle.surf_surfaces.specs.Cells.{cells_of}
+use Rattle.surf_surfaces.specs.Loop.{loop_walk}
 use Rattle.surf_surfaces.specs.Choice.{Trees, AreChosenAt, AreChosen, Loop, comes_before, walks, loops_at, candidates, IsChosenBasis, IsKeptFrom}
 
 -- the loops at a base are a least loop system there, in total and place by place, each with its length, in order
@@ -77,9 +81,28 @@ abbrev pub ChoiceExists : Type 0
 ChoiceExists = (mesh : Mesh) (lengths : List ℕ) → IsSurface mesh → ArePositive mesh lengths →
     (trees : ℕ → Trees) × AreChosen mesh lengths trees
 
+-- in any tree of the vertices, shortest or not, the loop of an edge is a closed walk at the root
+abbrev pub LoopsAreClosed : Type 0
+LoopsAreClosed =
+    (mesh : Mesh) (tree : Tree) → IsSurface mesh → IsTree (primal (cells_of mesh)) tree → (e : ℕ) →
+    e < edge_count mesh → IsClosedAt mesh tree.root (loop_walk mesh tree e)
+
 -- the loops at a base are one list
 abbrev pub LoopsAreOne : Type 0
 LoopsAreOne =
     (mesh : Mesh) (lengths : List ℕ) (base : ℕ) (a b : Trees) → IsSurface mesh → ArePositive mesh lengths →
     AreChosenAt mesh lengths base a → AreChosenAt mesh lengths base b →
     loops_at mesh lengths base a ≡ loops_at mesh lengths base b
+
+-- so are the candidates, and with them the first cycle
+abbrev pub CandidatesAreOne : Type 0
+CandidatesAreOne =
+    (mesh : Mesh) (lengths : List ℕ) (a b : ℕ → Trees) → IsSurface mesh → ArePositive mesh lengths →
+    AreChosen mesh lengths a → AreChosen mesh lengths b → candidates mesh lengths a ≡ candidates mesh lengths b
+
+-- and the basis, whichever trees show it
+abbrev pub BasesAreOne : Type 0
+BasesAreOne =
+    (mesh : Mesh) (lengths : List ℕ) (a b : ℕ → Trees) (basis other : List Loop) → IsSurface mesh →
+    ArePositive mesh lengths → AreChosen mesh lengths a → AreChosen mesh lengths b →
+    IsChosenBasis mesh lengths a basis → IsChosenBasis mesh lengths b other → basis ≡ other

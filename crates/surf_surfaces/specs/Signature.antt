@@ -1,10 +1,10 @@
 -- The signatures of edges and walks, as sets of places of left edges.
-use Rattle.std.specs.Prelude.{◌≡◌, ℕ, ◌↔◌, List, length, map}
+use Rattle.std.specs.Prelude.{◌≡◌, ℕ, ◌<◌, ◌↔◌, List, length, map}
 use Rattle.surf_z2.specs.Below.{number_of}
 use Rattle.surf_z2.specs.Space.{numbers, sum_of}
 use Rattle.surf_graphs.specs.Cells.{Split, IsSplit, signature}
-use Rattle.surf_surfaces.specs.Mesh.{Mesh, steps}
-use Rattle.surf_surfaces.specs.Surface.{IsSurface}
+use Rattle.surf_surfaces.specs.Mesh.{Mesh, steps, sides}
+use Rattle.surf_surfaces.specs.Surface.{face_count, face_at, IsSurface}
 use Rattle.surf_surfaces.specs.Walk.{IsWalk, IsClosed, edge_number}
 use Rattle.surf_surfaces.specs.Homology.{IsNull}
 use Rattle.surf_surfaces.specs.Cells.{cells_of}
@@ -32,3 +32,9 @@ NullBySignature =
     (mesh : Mesh) (d : Split) → IsSurface mesh → IsSplit (cells_of mesh) d → (walk : List ℕ) →
     IsClosed mesh walk →
     IsNull mesh walk ↔ (walk_signature mesh d walk ≡ 0)
+
+-- the signatures of a face's sides sum to nothing
+abbrev pub FacesSumToZero : Type 0
+FacesSumToZero =
+    (mesh : Mesh) (d : Split) → IsSurface mesh → IsSplit (cells_of mesh) d → (f : ℕ) → f < face_count mesh →
+    sum_of numbers (map (λ s. edge_signature mesh d (edge_number mesh s)) (sides (face_at mesh f))) ≡ 0

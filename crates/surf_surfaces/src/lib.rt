@@ -61,7 +61,7 @@ ghost use Rattle.surf_surfaces.specs.Cells.{SurfacesAreCells, BoundariesAreNull,
 ghost use Rattle.surf_surfaces.specs.Cells.{IndependenceIsThatOfChains, IndependentWalksAreFew};
 ghost use Rattle.surf_surfaces.specs.Class.{NullByClass, IndependentByClasses, LeftLoopsAreLeast};
 ghost use Rattle.surf_surfaces.specs.Class.{CoveringBasesAreLeast};
-ghost use Rattle.surf_surfaces.specs.Signature.{SignaturesAreClasses, NullBySignature};
+ghost use Rattle.surf_surfaces.specs.Signature.{SignaturesAreClasses, NullBySignature, FacesSumToZero};
 ghost use Rattle.surf_surfaces.specs.CycleLaws.{NullCyclesSeparate, CyclesBelowLoopsAreShortest};
 ghost use Rattle.surf_surfaces.specs.CycleLaws.{LeastLoopsAreShortestCycles, CyclesSeparateOnSphere};
 ghost use Rattle.surf_surfaces.specs.ShortestTree.{ShortestTreesAreOne};
@@ -69,6 +69,7 @@ ghost use Rattle.surf_surfaces.specs.Cotree.{CotreesAreOne, HeavyCotreesAreHeavi
 ghost use Rattle.surf_surfaces.specs.ChoiceLaws.{ChoiceExists, LoopsAreLeast, LoopsAreOne, BasisIsLeast};
 ghost use Rattle.surf_surfaces.specs.ChoiceLaws.{BasisIsOne, BasisIsKeptBaseByBase, FirstIsShortest};
 ghost use Rattle.surf_surfaces.specs.ChoiceLaws.{CandidatesBelowTwo, SimpleCyclesSeparate};
+ghost use Rattle.surf_surfaces.specs.ChoiceLaws.{LoopsAreClosed, CandidatesAreOne, BasesAreOne};
 ghost use Rattle.surf_surfaces.specs.FewBases.{LeastTablesAreLeast, SignedEndsMeetAll, FewBasesSuffice};
 ghost use Rattle.surf_surfaces.specs.FewBases.{PlacesAreThoseOfBasis, ChosenTreesAreShortest, BasisIsKeptAmong};
 ghost use Rattle.surf_surfaces.specs.FewBases.{BasisIsKeptOver};
@@ -145,6 +146,7 @@ pub fn law_of_classes()
     ensures independent { IndependentByClasses }
     ensures signatures { SignaturesAreClasses }
     ensures null_signature { NullBySignature }
+    ensures faces { FacesSumToZero }
 {}
 
 /// What makes a loop system or a basis a least one.
@@ -174,9 +176,16 @@ pub fn law_of_loops()
     ensures { LoopsAreLeast }
 {}
 
-/// The loops that are chosen at a base are one list, whichever trees show it.
+/// In any tree of the vertices the loop of an edge is a closed walk at the root.
+pub fn law_of_loop_walks()
+    ensures { LoopsAreClosed }
+{}
+
+/// What is chosen is one, whichever trees show it: the loops at a base, the candidates and the basis.
 pub fn law_of_one_choice()
     ensures loops { LoopsAreOne }
+    ensures candidates { CandidatesAreOne }
+    ensures basis { BasesAreOne }
 {}
 
 /// The basis that is chosen is a least one, of simple cycles. There is one, and it may be kept base

@@ -1,5 +1,6 @@
 use Rattle.surf_surfaces.proofs.ClassLaws.{independent_walks_are_few, null_by_class, independent_by_classes}
 use Rattle.surf_surfaces.proofs.SignatureLaws.{signatures_are_classes, null_by_signature}
+use Rattle.surf_surfaces.proofs.FaceWalkLaws.{faces_sum_to_zero}
 use Rattle.surf_surfaces.proofs.law_of_classes.Goals as goal
 
 pub returns : goal.returns
@@ -9,4 +10,5 @@ returns c = record {
   independent = independent_by_classes;
   signatures = signatures_are_classes;
   null_signature = null_by_signature;
+  faces = faces_sum_to_zero;
 }
