@@ -64,7 +64,8 @@ EvenChainsAreSumsOfLoops = (g : Graph) (t : Tree) → IsGraph g → (chain : ℕ
     (e : ℕ) → e < g.edges →
     odd_below g.edges (λ l. chain l && loop g t l e) ≡ chain e
 
--- no edge of a closed walk at the root has a loop that is longer than the walk
+-- no edge that a closed walk at the root runs an odd number of times has a loop that is longer than the
+-- walk
 abbrev pub LoopsOfWalkAreNoLonger : Type 0
 LoopsOfWalkAreNoLonger = (g : Graph) (len : ℕ → ℕ) (t : Tree) → IsShortest g len t → (w : List ℕ) (e : ℕ) →
     IsWalk g t.root w t.root → walk_chain g t.root w e ≡ true →
@@ -162,7 +163,8 @@ LoopsAreWalks = (g : Graph) (len : ℕ → ℕ) (t : Tree) → IsGraph g → IsS
     × ((e : ℕ) → walk_chain g t.root (loop_walk g t l) e ≡ loop g t l e)
     × (walk_length g len t.root (loop_walk g t l) ≡ loop_length g len t l)
 
--- a closed walk that is not null has an edge whose loop is not null, and is no longer
+-- for a closed walk that is not null there is an edge, whether or not the walk runs it, whose loop is not
+-- null and no longer than the walk
 abbrev pub NonNullWalksHaveShortLoops : Type 0
 NonNullWalksHaveShortLoops = (s : Cells) (len : ℕ → ℕ) (d : Split) → IsCellComplex s → IsSplit s d →
     (t : Tree) → IsShortest (primal s) len t → (a : ℕ) → t.rank a ≡ 0 →
@@ -170,8 +172,8 @@ NonNullWalksHaveShortLoops = (s : Cells) (len : ℕ → ℕ) (d : Split) → IsC
     (e : ℕ) × (e < s.edges) × (loop_length (primal s) len t e ≤ walk_length (primal s) len a w)
     × (IsNull s (loop (primal s) t e) → ⊥)
 
--- a closed walk that runs some edge an odd number of times is a simple cycle, or the sum of two closed
--- walks that are not empty
+-- without double edges and edges from a node to itself, a closed walk that runs some edge an odd number of
+-- times is a simple cycle, or the sum of two closed walks that are not empty
 abbrev pub ClosedWalksAreSimpleOrTwo : Type 0
 ClosedWalksAreSimpleOrTwo = (g : Graph) → IsSimple g → ((e : ℕ) → e < g.edges → g.from e ≢ g.to e) →
     (a : ℕ) (w : List ℕ) → IsWalk g a w a → (e : ℕ) → walk_chain g a w e ≡ true →
@@ -198,7 +200,7 @@ MatesAreRounds = (s : Cells) (h : Sides) → IsSides s h → (mate : ℕ → ℕ
     ((e : ℕ) → e < s.edges → (mate (h.one e) ≡ h.two e) × (mate (h.two e) ≡ h.one e)) →
     (h.count ≡ 2 * s.edges) × Rounds (2 * s.edges) mate s.edges
 
--- each cell complex has a tree, a cotree and left edges
+-- each cell complex with a vertex and a face has a tree, a cotree and left edges
 abbrev pub SplitsExist : Type 0
 SplitsExist = (s : Cells) → IsCellComplex s → 0 < s.vertices → 0 < s.faces → (d : Split) × IsSplit s d
 
@@ -216,7 +218,7 @@ BordersAreConnected = (s : Cells) → IsCellComplex s → 0 < s.vertices → s.v
     (e f : ℕ) → e < s.edges → f < s.edges → touches (dual s) o e ≡ true → touches (dual s) o f ≡ true →
     p e ≡ p f
 
--- the ranks of a shortest tree are the least lengths of walks from its root
+-- without double edges the ranks of a shortest tree are the least lengths of walks from its root
 abbrev pub RanksAreDistances : Type 0
 RanksAreDistances = (g : Graph) (len : ℕ → ℕ) (t : Tree) → IsSimple g → IsTree g t → IsShortest g len t →
     (n : ℕ) → n < g.nodes →
@@ -262,7 +264,7 @@ abbrev pub GrownTreesSpan : Type 0
 GrownTreesSpan = (g : Graph) (allowed reached : ℕ → Bool) (t : Tree) → Grown g allowed reached t →
     ((n : ℕ) → n < g.nodes → reached n ≡ true) → IsTree g t
 
--- a simple cycle runs each of its edges once
+-- a simple cycle runs each edge that it runs an odd number of times
 abbrev pub SimpleCyclesRunOnce : Type 0
 SimpleCyclesRunOnce = (g : Graph) (a : ℕ) (w : List ℕ) → IsSimpleCycle g a w → (e : ℕ) →
     walk_chain g a w e ≡ runs g a w e

@@ -95,7 +95,8 @@ pub fn even_chains_are_sums_of_loops()
     ensures { EvenChainsAreSumsOfLoops }
 {}
 
-/// No edge of a closed walk at the root has a longer loop than the walk.
+/// Of a closed walk at the root of a shortest tree, no edge that it runs an odd number of times has
+/// a loop that is longer than the walk.
 pub fn loops_of_walk_are_no_longer()
     ensures { LoopsOfWalkAreNoLonger }
 {}
@@ -161,18 +162,20 @@ pub fn loops_are_closed()
     ensures { LoopsAreClosed }
 {}
 
-/// In a shortest tree it has the edges and the length that its definition by paths gives.
+/// In a shortest tree of a graph without double edges, the loop of an edge is a closed walk at the
+/// root, with the loop's edges and length.
 pub fn loops_are_walks()
     ensures { LoopsAreWalks }
 {}
 
-/// A closed walk that is not null has an edge whose loop is not null, and is no longer.
+/// For a closed walk that is not null there is an edge, whether or not the walk runs it, whose loop
+/// is not null and no longer than the walk.
 pub fn non_null_walks_have_short_loops()
     ensures { NonNullWalksHaveShortLoops }
 {}
 
-/// A closed walk is a simple cycle, or the sum of two, where it runs some edge an odd number of
-/// times.
+/// In a graph without double edges and without edges from a node to itself, a closed walk that runs
+/// some edge an odd number of times is a simple cycle, or the sum of two.
 pub fn closed_walks_are_simple_or_two()
     ensures { ClosedWalksAreSimpleOrTwo }
 {}
@@ -192,7 +195,7 @@ pub fn mates_are_rounds()
     ensures { MatesAreRounds }
 {}
 
-/// Each cell complex has a tree, a cotree and left edges.
+/// Each cell complex with a vertex and a face has a tree, a cotree and left edges.
 pub fn splits_exist()
     ensures { SplitsExist }
 {}
@@ -202,7 +205,7 @@ pub fn borders_are_connected()
     ensures { BordersAreConnected }
 {}
 
-/// The ranks of a shortest tree are distances.
+/// In a graph without double edges the ranks of a shortest tree are distances.
 pub fn ranks_are_distances()
     ensures { RanksAreDistances }
 {}
@@ -232,7 +235,7 @@ pub fn grown_trees_span()
     ensures { GrownTreesSpan }
 {}
 
-/// A simple cycle runs each of its edges once.
+/// A simple cycle runs each edge that it runs an odd number of times.
 pub fn simple_cycles_run_once()
     ensures { SimpleCyclesRunOnce }
 {}
