@@ -6,6 +6,7 @@ ghost use Rattle.surf_graphs.specs.Trees.{Tree};
 ghost use Rattle.surf_surfaces.specs.Cells.{cells_of};
 ghost use Rattle.surf_surfaces.specs.Surface.{edge_count};
 ghost use Rattle.surf_surfaces.specs.Loop.{loop_walk};
+ghost use Rattle.surf_surfaces.specs.Walk.{IsClosedAt};
 ghost use Rattle.surf_surfaces.specs.Signature.{edge_signature};
 ghost use Rattle.surf_tree.specs.Tables.{tree_of};
 ghost use Rattle.surf_tree.specs.Grown.{IsGrown as IsTreeGrown};
@@ -136,12 +137,15 @@ impl LoopDesk {
         &self.cotree
     }
 
-    /// The loop of an edge: down the tree from the base to the lesser end, over the edge, and up to the base again.
+    /// The loop of an edge: down the tree from the base to the lesser end, over the edge, and up to the base again. It is a
+    /// closed walk at the base, whether the edge is left or not.
     pub fn walk(&self, alloc: Global, mesh: &HalfMesh, edge: EdgeId) -> Result<Walk, NoMemory>
         requires rooted { IsRooted mesh.now self.now.tree }
         requires edge { edge < edge_count mesh.now }
         ensures walk { IfOk result (λ walk. walk ≡ loop_walk mesh.now (tree_of self.now.tree) edge) }
+        ensures closed { IfOk result (λ walk. IsClosedAt mesh.now self.now.tree.base walk) }
     {
+        surf_surfaces::law_of_loop_walks();
         let _surface = mesh.faces();
         let (u, v) = mesh.ends(edge);
         let mut list = Vec::new(alloc);

@@ -1,5 +1,6 @@
 use Rattle.std.proofs.Common.{ℕ, ◌≡◌, ◌<◌, ◌∙◌, sym, ap, subst}
 use Rattle.surf_surfaces.specs.Loop.{loop_walk}
+use Rattle.surf_surfaces.specs.Walk.{IsClosedAt}
 use Rattle.surf_tree.specs.Tables.{TreeTables, tree_of}
 use Rattle.surf_loops.specs.Loops.{LoopTables, IsRooted}
 use Rattle.surf_loops.proofs.Turned.{ends_in, loop_listed}
@@ -27,4 +28,10 @@ returns c =
     let is_v : c.ends-u.result.1 ≡ _ = ap (λ (p : ℕ × ℕ). p.1) c.ends-u.ensures in
     let listed = loop_listed mesh c.self.inside.tree c.args.edge c.ends-u.result.0 c.ends-u.result.1 c.new-list.result.items c.push_way.new.list.items c.reverse.new.self.items c.push_way-2.new.list.items
     rooted (subst (λ (p : ℕ × ℕ). p.0 < mesh.vertices) (sym c.ends-u.ensures) both.0) is_u is_v c.new-list.ensures.items c.in_ok-push_way.ensures.way c.reverse.ensures.items c.in_ok-push_way-2.ensures.way in
-    record { walk = c.from_vertices.ensures ∙ subst (λ (t : TreeTables). c.push_way-2.new.list.items ≡ loop_walk mesh (tree_of t) c.args.edge) tree_is listed }
+    let whole = c.from_vertices.ensures ∙ subst (λ (t : TreeTables). c.push_way-2.new.list.items ≡ loop_walk mesh (tree_of t) c.args.edge) tree_is listed in
+    record {
+      walk = whole;
+      closed = subst (IsClosedAt mesh c.args.self.now.tree.base) (sym whole)
+          (c.law_of_loop_walks.ensures mesh (tree_of c.args.self.now.tree) c.faces-surface.ensures.surface
+          c.requires.rooted.spans c.args.edge c.requires.edge);
+    }
