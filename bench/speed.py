@@ -1,40 +1,48 @@
 #!/usr/bin/env python3
-"""Seconds, peak memory and growth of each command at three sizes.
+"""Seconds and peak memory of each command on generated meshes, as one table in Markdown.
 
-    bench/speed.py [--surf PROGRAM] [--beside PROGRAM] [--repeat N] [--limit SECONDS] [COMMAND ..]
+    bench/speed.py [--surf PROGRAM] [--beside NAME=WORDS ..] [--repeat N] [--limit SECONDS] [COMMAND ..]
 
-Builds the program (`rt run` in crates/surf), unless one is named, makes tori with `surf gen`, runs each command on
-three of them, and prints one table in Markdown: processor seconds (user and system, the least of the repeats), peak
-resident megabytes, and the growth exponent p of the seconds, fitted so that time goes with the p-th power of the
-number of vertices. Megabytes below those of this script (some 23) aren't seen, since a program starts as its copy.
-`--beside` names a second program that takes the same words: it gets columns of its own, the ratio of the seconds, and
-whether its answers are the same bytes.
+Builds the program (`rt run` in crates/surf), unless one is named, makes tori and chains with `surf gen`, and runs each
+command on them. Seconds are of one processor (user and system, the least of the repeats). Megabytes are the most that was
+resident; those below this script's own (some 23) aren't seen, since a program starts as its copy. A run that takes
+more than the limit is `late`.
+
+`--beside` names another program and the words to start it by, as in `--beside fast='plain --fast'`. It takes the same
+words, and gets columns of its own: its seconds, its megabytes, and the ratio of ours to its seconds. Where its bytes are
+not ours, the ratio has `DIFFERS` after it; where it doesn't take the command, the columns are empty. Machines differ
+and are shared, so ratios say more than seconds.
 """
 import argparse
-import math
+import multiprocessing
 import os
+import shlex
 import subprocess
 import sys
 import tempfile
 from pathlib import Path
 
 ROOT = Path(__file__).resolve().parent.parent
-LARGE = [100, 300, 700]
-SMALL = [20, 40, 80]
+TORI = [f"torus {side} {side}" for side in (100, 300, 700)]
+FAR = ["torus 40 40", "torus 100 100", "torus 100 200", "chain 8 30 30", "chain 64 4 4"]
 
-# A command: its name in the table, the sides of its tori, and its words after the program's name, with the mesh for M,
-# the certificate for C and the side of the torus for N.
-COMMANDS = [
-    ("info", LARGE, "info M"),
-    ("dist", LARGE, "dist M unit 0"),
-    ("loops", LARGE, "loops M unit 0"),
-    ("cut trim", LARGE, "cut M unit 0 trim"),
-    ("certify at a base", LARGE, "certify M unit 0"),
-    ("check of loops", LARGE, "check M unit C"),
-    ("gen", LARGE, "gen torus N N"),
-    ("basis", SMALL, "basis M unit"),
-    ("cycle", SMALL, "cycle M unit"),
-    ("try", SMALL, "try torus N N 0"),
+# A command, the meshes that it is measured on by the words of `gen`, the scatter of its lengths (0: all are 1), what is
+# made first (None, or words whose answer is the file C), and its words, with M for the mesh and L for its lengths.
+CASES = [
+    ("info", TORI, [0], None, "info M"),
+    ("dist", TORI, [0, 1], None, "dist M L 0"),
+    ("loops", TORI, [0, 1], None, "loops M L 0"),
+    ("cut trim", TORI, [0], None, "cut M L 0 trim"),
+    ("sew", TORI, [0], "cut M L 0 trim", "sew C"),
+    ("class", TORI, [0], "walk", "class M C"),
+    ("certify at a base", TORI, [0], None, "certify M L 0"),
+    ("check of loops", TORI, [0], "certify M L 0", "check M L C"),
+    ("gen", TORI, [0], None, "gen G"),
+    ("basis", FAR, [0, 1], None, "basis M L"),
+    ("cycle", FAR, [0, 1], None, "cycle M L"),
+    ("shortest", ["torus 128 128", "chain 4 8 8"], [0], "walk", "shortest M L C"),
+    ("certify", ["torus 31 32"], [0], None, "certify M L"),
+    ("check of a basis", ["torus 31 32", "torus 3 333"], [0], "certify M L", "check M L C"),
 ]
 
 
@@ -48,23 +56,25 @@ def built():
     return ROOT / "crates" / "surf" / "out" / "surf"
 
 
+def stop_after(limit):
+    import resource
+
+    resource.setrlimit(resource.RLIMIT_CPU, (limit, limit + 1))
+
+
 def run(program, words, answer, limit):
     """Runs a program once, its answer into a file. Seconds and megabytes, or None where it took too long."""
     with open(answer, "wb") as out:
-        child = subprocess.Popen([program, *words], stdout=out, preexec_fn=lambda: stop_after(limit))
+        child = subprocess.Popen(
+            [*program, *words], stdout=out, stderr=subprocess.DEVNULL, preexec_fn=lambda: stop_after(limit)
+        )
         _, status, usage = os.wait4(child.pid, 0)
     child.returncode = os.waitstatus_to_exitcode(status)
     if child.returncode < 0:
         return None
     if child.returncode != 0:
-        raise Refused(f"{program} {' '.join(words)}: status {child.returncode}")
+        raise Refused(f"{' '.join([*program, *words])}: status {child.returncode}")
     return usage.ru_utime + usage.ru_stime, usage.ru_maxrss / 1024
-
-
-def stop_after(limit):
-    import resource
-
-    resource.setrlimit(resource.RLIMIT_CPU, (limit, limit + 1))
 
 
 def best(program, words, answer, options):
@@ -78,82 +88,123 @@ def best(program, words, answer, options):
     return min(runs)
 
 
-def exponent(sizes, seconds):
-    """The slope of a straight line through the logarithms, by least squares."""
-    points = [(math.log(n), math.log(s)) for n, s in zip(sizes, seconds) if s is not None and s >= 0.01]
-    if len(points) < 2:
-        return "-"
-    x = sum(p[0] for p in points) / len(points)
-    y = sum(p[1] for p in points) / len(points)
-    slope = sum((p[0] - x) * (p[1] - y) for p in points) / sum((p[0] - x) ** 2 for p in points)
-    return f"{slope:.2f}"
+def write_lengths(mesh, scatter, path):
+    lines = Path(mesh).read_text().splitlines()
+    faces = [[int(word) for word in line.split()[1:]] for line in lines[2 + int(lines[1].split()[0]) :]]
+    sides = {(min(u, v), max(u, v)) for face in faces for u, v in zip(face, face[1:] + face[:1])}
+    rows = (f"{u} {v} {1 + scatter * (7 * k + 13) % 97}\n" for k, (u, v) in enumerate(sorted(sides)))
+    path.write_text("".join(rows))
 
 
-def meshes(surf, work, options):
-    """Tori by their side, and of each a certificate of loops."""
-    for side in sorted({*LARGE, *SMALL}):
-        run(surf, ["gen", "torus", str(side), str(side)], work / f"torus{side}", options.limit)
-        run(surf, ["certify", str(work / f"torus{side}"), "unit", "0"], work / f"cert{side}", options.limit)
+class Inputs:
+    """The files that a case reads, each made once."""
+
+    def __init__(self, surf, work, options):
+        self.surf, self.work, self.options = surf, work, options
+        self.made = {}
+
+    def answer_of(self, words, name):
+        """The file that holds what the program answers to these words."""
+        key = (name, *words)
+        if key not in self.made:
+            path = self.work / f"{len(self.made)}.{name}"
+            if run([self.surf], words, path, 600) is None:
+                sys.exit(f"{' '.join(words)}: too long")
+            self.made[key] = str(path)
+        return self.made[key]
+
+    def names(self, mesh, scatter, first):
+        """What stands for the letters of a case's words."""
+        given = mesh.split()
+        names = {"M": [self.answer_of(["gen", *given], "off")], "L": ["unit"], "G": given}
+        if scatter:
+            names["L"] = [self.scattered(names["M"][0], scatter)]
+        if first == "walk":
+            names["C"] = [self.walk(names["M"][0])]
+        elif first:
+            names["C"] = [self.answer_of(filled(first, names), "first")]
+        return names
+
+    def scattered(self, mesh, scatter):
+        """Lengths from 1 to 97 that hang on the number of the edge alone, as `try` scatters them."""
+        key = ("lengths", mesh, scatter)
+        if key not in self.made:
+            path = self.work / f"{len(self.made)}.len"
+            # In a process of its own: what runs later begins with the memory of this one.
+            maker = multiprocessing.Process(target=write_lengths, args=(mesh, scatter, path))
+            maker.start()
+            maker.join()
+            self.made[key] = str(path)
+        return self.made[key]
+
+    def walk(self, mesh):
+        """The first loop at vertex 0, as a file with one walk."""
+        loops = Path(self.answer_of(["loops", mesh, "unit", "0"], "loops")).read_text()
+        path = self.work / f"{len(self.made)}.walk"
+        self.made[("walk", mesh)] = str(path)
+        path.write_text(" ".join(loops.splitlines()[1].split()[2:]) + "\n")
+        return str(path)
 
 
-def words_of(text, work, side):
-    names = {"M": str(work / f"torus{side}"), "C": str(work / f"cert{side}"), "N": str(side)}
-    return [names.get(word, word) for word in text.split()]
+def filled(words, names):
+    """The words with the letters replaced by what they stand for."""
+    return [part for word in words.split() for part in names.get(word, [word])]
 
 
 def figures(measured):
     return ["late", "-"] if measured is None else [f"{measured[0]:.2f}", f"{measured[1]:.0f}"]
 
 
-def beside(ours, words, work, options):
-    """The columns of the second program: its figures, the ratio of the seconds, and whether the bytes are the same."""
+def beside(program, ours, words, work, options):
+    """The columns of another program: its figures, and the ratio of our seconds to its."""
     try:
-        other = best(options.beside, words, work / "other", options)
-    except Refused:
-        return ["-"] * 4
+        other = best(program, words, work / "other", options)
+    except (Refused, OSError):
+        return ["", "", ""]
     if ours is None or other is None:
-        return [*figures(other), "-", "-"]
+        return [*figures(other), "-"]
     same = (work / "ours").read_bytes() == (work / "other").read_bytes()
-    return [*figures(other), f"{ours[0] / max(other[0], 0.01):.1f}", "yes" if same else "NO"]
+    return [*figures(other), f"{ours[0] / max(other[0], 0.005):.2f}" + ("" if same else " DIFFERS")]
 
 
-def rows(name, sides, text, surf, work, options):
-    """The rows of a command, one for each size."""
-    table, seconds = [], []
-    for side in sides:
-        words = words_of(text, work, side)
-        ours = best(surf, words, work / "ours", options)
-        seconds.append(None if ours is None else ours[0])
-        row = [name, f"{side * side:,}", *figures(ours)]
-        if options.beside:
-            row += beside(ours, words, work, options)
-        table.append(row)
-    growth = exponent([side * side for side in sides], seconds)
-    return [[*row, growth if row is table[-1] else ""] for row in table]
+def rows(case, inputs, work, options):
+    """The rows of one command, one for each mesh and scatter."""
+    name, meshes, scatters, first, text = case
+    for mesh in meshes:
+        for scatter in scatters:
+            words = filled(text, inputs.names(mesh, scatter, first))
+            ours = best([str(inputs.surf)], words, work / "ours", options)
+            row = [name, mesh, str(scatter) if scatter else "unit", *figures(ours)]
+            for _, program in options.beside:
+                row += beside(program, ours, words, work, options)
+            yield row
+
+
+def named(text):
+    name, _, words = text.partition("=")
+    return name, shlex.split(words)
 
 
 def main():
     parser = argparse.ArgumentParser(description=__doc__, formatter_class=argparse.RawDescriptionHelpFormatter)
     parser.add_argument("--surf", type=Path)
-    parser.add_argument("--beside", type=Path)
+    parser.add_argument("--beside", type=named, action="append", default=[])
     parser.add_argument("--repeat", type=int, default=3)
     parser.add_argument("--limit", type=int, default=60, help="processor seconds of one run")
     parser.add_argument("commands", nargs="*", help="their first words; none: all")
     options = parser.parse_args()
     surf = (options.surf or built()).resolve()
-    head = ["command", "vertices", "seconds", "MB"]
-    if options.beside:
-        options.beside = options.beside.resolve()
-        head += ["its seconds", "its MB", "ratio", "same answer"]
-    head.append("exponent")
+    head = ["command", "mesh", "lengths", "seconds", "MB"]
+    for name, _ in options.beside:
+        head += [f"{name}: seconds", f"{name}: MB", "ratio"]
     print("| " + " | ".join(head) + " |")
     print("|---" * len(head) + "|")
     with tempfile.TemporaryDirectory() as folder:
         work = Path(folder)
-        meshes(surf, work, options)
-        for name, sides, text in COMMANDS:
-            if not options.commands or text.split()[0] in options.commands:
-                for row in rows(name, sides, text, surf, work, options):
+        inputs = Inputs(surf, work, options)
+        for case in CASES:
+            if not options.commands or case[0].split()[0] in options.commands:
+                for row in rows(case, inputs, work, options):
                     print("| " + " | ".join(row) + " |", flush=True)
 
 

@@ -13,8 +13,7 @@ use Rattle.surf_surfaces.specs.Surface.{face_count, edge_count, face_at, IsSurfa
 use Rattle.surf_surfaces.specs.Cells.{cells_of}
 use Rattle.surf_surfaces.proofs.JoinedLaws.{joined_closed}
 use Rattle.surf_turnings.specs.Chains.{same_way, FollowTree}
-use Rattle.surf_mesh.specs.Sides.{side_count}
-use Rattle.surf_mesh.specs.Half.{first_side, IsFaceOf}
+use Rattle.surf_surfaces.specs.SideNumber.{side_count, first_side, IsFaceOf}
 use Rattle.surf_mesh.proofs.HalfLaws.{spans}
 use Rattle.surf_mesh.specs.Reach.{marked}
 use Rattle.surf_mesh.proofs.ReachSteps.{marked-inside, unmarked-fresh, none_marked}

@@ -10,8 +10,7 @@ use Rattle.surf_surfaces.specs.Surface.{edge_count, ends, faces_of, IsSurface, I
 use Rattle.surf_surfaces.specs.Turning.{Link}
 use Rattle.surf_turnings.specs.Chains.{same_way, Fits, misfit, links_down}
 use Rattle.surf_turnings.proofs.OneSidedLaws.{turnings_fit}
-use Rattle.surf_mesh.specs.Sides.{side_count, sides_with}
-use Rattle.surf_mesh.specs.Half.{IsFaceOf, IsEdgeOf, IsMate}
+use Rattle.surf_surfaces.specs.SideNumber.{side_count, sides_with, IsFaceOf, IsEdgeOf, IsMate}
 use Rattle.surf_mesh.specs.Ring.{BeginsAt}
 use Rattle.surf_mesh.proofs.Mates.{with_pair}
 use Rattle.surf_mesh.proofs.Paired.{side_below, row_some}

@@ -16,8 +16,7 @@ use Rattle.surf_surfaces.proofs.SurfaceLaws.{two_faces_of}
 use Rattle.surf_turnings.specs.Chains.{same_way}
 use Rattle.surf_turnings.proofs.SideNumbers.{ends_rise}
 use Rattle.surf_turnings.proofs.Turned.{runs_at}
-use Rattle.surf_mesh.specs.Sides.{pair_at}
-use Rattle.surf_mesh.specs.Half.{first_side, IsFaceOf, IsEdgeOf, IsMate}
+use Rattle.surf_surfaces.specs.SideNumber.{pair_at, first_side, IsFaceOf, IsEdgeOf, IsMate}
 use Rattle.surf_mesh.specs.Vertices.{all_corners}
 use Rattle.surf_mesh.specs.Ring.{BeginsAt}
 use Rattle.surf_mesh.specs.Reach.{marked}

@@ -1,8 +1,7 @@
 //! A turning of a surface, or a chain that shows that there is none.
 ghost use Rattle.std.specs.Prelude.{◌≡◌, ◌<◌, ◌++◌, [], ℕ, length, map, get_or, not, OnOk, IfOk, MatchOption};
 ghost use Rattle.surf_surfaces.specs.Surface.{face_count, edge_count, ends, IsTurning};
-ghost use Rattle.surf_mesh.specs.Sides.{side_count};
-ghost use Rattle.surf_mesh.specs.Half.{IsEdgeOf};
+ghost use Rattle.surf_surfaces.specs.SideNumber.{side_count, IsEdgeOf};
 ghost use Rattle.surf_turnings.specs.Chains.{Fits, misfit, links_up, links_down, tree_chain};
 ghost use Rattle.surf_check.specs.Links.{link_of};
 ghost use Rattle.surf_check.specs.Growth.{flag_of, IsFlagTree};

@@ -13,8 +13,7 @@ use Rattle.surf_surfaces.proofs.SideLaws.{sides_are_by_place, side_place}
 use Rattle.surf_opening.proofs.Edges.{edge_of, face_of}
 use Rattle.surf_opening.proofs.MeshSides.{same_face}
 use Rattle.surf_opening.proofs.Polygons.{pair_is}
-use Rattle.surf_mesh.specs.Half.{first_side, IsFaceOf}
-use Rattle.surf_mesh.specs.Sides.{side_count, pair_at, owners}
+use Rattle.surf_surfaces.specs.SideNumber.{first_side, IsFaceOf, side_count, pair_at, owners}
 use Rattle.surf_mesh.proofs.EdgeTables.{sizes, length-side_pairs}
 use Rattle.surf_mesh.proofs.HalfLaws.{face_of_side}
 use Rattle.surf_mesh.proofs.SideNumbers.{pair_at_place, side_of_face, face_has_side}

@@ -14,9 +14,8 @@ use Rattle.surf_surfaces.proofs.EdgeLaws.{list_any_at}
 use Rattle.surf_surfaces.proofs.SideLaws.{after-below}
 use Rattle.surf_opening.proofs.Edges.{edge_one}
 use Rattle.surf_rows.specs.Groups.{has_key, group_of}
-use Rattle.surf_mesh.specs.Half.{IsEdgeOf}
+use Rattle.surf_surfaces.specs.SideNumber.{IsEdgeOf, side_count}
 use Rattle.surf_mesh.specs.Reach.{marked}
-use Rattle.surf_mesh.specs.Sides.{side_count}
 use Rattle.surf_mesh.proofs.HalfLaws.{spans}
 use Rattle.surf_mesh.proofs.Mates.{member_filter}
 use Rattle.surf_mesh.proofs.Order.{all_filter, passing}

@@ -8,8 +8,7 @@ use Rattle.surf_surfaces.specs.Mesh.{Mesh}
 use Rattle.surf_surfaces.specs.Surface.{face_count, face_at, IsSurface}
 use Rattle.surf_opening.specs.Laws.{AreInOrder}
 use Rattle.surf_opening.specs.Opening.{ShareUncutAt, IsOpenedBy}
-use Rattle.surf_mesh.specs.Sides.{side_count}
-use Rattle.surf_mesh.specs.Half.{first_side, IsFaceOf}
+use Rattle.surf_surfaces.specs.SideNumber.{side_count, first_side, IsFaceOf}
 use Rattle.surf_mesh.specs.Vertices.{all_corners}
 use Rattle.surf_mesh.proofs.HalfLaws.{spans}
 use Rattle.surf_mesh.proofs.RingLaws.{one_corner}

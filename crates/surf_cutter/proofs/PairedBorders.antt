@@ -23,8 +23,7 @@ use Rattle.surf_opening.proofs.OpeningLaw.{surface_sides, opened_along, is_disc}
 use Rattle.surf_opening.proofs.Polygons.{pair_is, pair_among, among_pair}
 use Rattle.surf_opening.proofs.Trim.{IsOpen, trimmed_is_open}
 use Rattle.surf_opening.proofs.TwoLeaves.{trimmed_are}
-use Rattle.surf_mesh.specs.Half.{first_side, IsFaceOf, IsEdgeOf}
-use Rattle.surf_mesh.specs.Sides.{side_count, pair_at}
+use Rattle.surf_surfaces.specs.SideNumber.{first_side, IsFaceOf, IsEdgeOf, side_count, pair_at}
 use Rattle.surf_mesh.proofs.SideNumbers.{pair_at_place, face_has_side, one_face}
 use Rattle.surf_mesh.proofs.VertexLaws.{placed}
 use Rattle.surf_slit.specs.Labels.{IsUncut}

@@ -11,8 +11,7 @@ use Rattle.surf_surfaces.specs.Surface.{face_count, face_at, IsSurface}
 use Rattle.surf_surfaces.proofs.EdgeLaws.{list_any_at, list_any_from}
 use Rattle.surf_rows.specs.Groups.{group_of}
 use Rattle.surf_mesh.specs.Order.{by_key}
-use Rattle.surf_mesh.specs.Sides.{side_count}
-use Rattle.surf_mesh.specs.Half.{first_side}
+use Rattle.surf_surfaces.specs.SideNumber.{side_count, first_side}
 use Rattle.surf_mesh.specs.Vertices.{all_corners}
 use Rattle.surf_mesh.proofs.HalfLaws.{spans}
 use Rattle.surf_mesh.proofs.Mates.{range_ordered}

@@ -6,8 +6,7 @@ use Rattle.surf_surfaces.specs.Surface.{faces_with}
 use Rattle.surf_opening.specs.Laws.{TellsCut}
 use Rattle.surf_opening.specs.Side.{Side}
 use Rattle.surf_opening.specs.Uncut.{IsDualTree, IsTrimmed}
-use Rattle.surf_mesh.specs.Half.{IsEdgeOf}
-use Rattle.surf_mesh.specs.Sides.{side_count, pair_at}
+use Rattle.surf_surfaces.specs.SideNumber.{IsEdgeOf, side_count, pair_at}
 use Rattle.surf_cutter.specs.Trimming.{is_cut}
 
 -- the faces over copies of which there are so many

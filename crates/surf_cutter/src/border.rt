@@ -5,7 +5,7 @@ ghost use Rattle.surf_surfaces.specs.Disc.{IsDisc};
 ghost use Rattle.surf_surfaces.specs.Side.{after};
 ghost use Rattle.surf_surfaces.specs.Surface.{edge_count};
 ghost use Rattle.surf_opening.specs.Opening.{IsOpenedBy};
-ghost use Rattle.surf_mesh.specs.Sides.{side_count};
+ghost use Rattle.surf_surfaces.specs.SideNumber.{side_count};
 ghost use Rattle.surf_slit.specs.Labels.{IsUncut};
 ghost use Rattle.surf_cutter.specs.Boundary.{over, HasPairedBorder, IsLeastBorderSide, AreBorderSides, AreCorners, AreRims, AreCutSides, OpensToDisc, IsBoundary};
 

@@ -4,7 +4,7 @@ ghost use Rattle.std.specs.List.{range_with_len, sum_by, flat_map};
 ghost use Rattle.surf_surfaces.specs.Surface.{face_count, edge_count};
 ghost use Rattle.surf_opening.specs.Laws.{AreInOrder};
 ghost use Rattle.surf_opening.specs.Opening.{IsOpenedBy};
-ghost use Rattle.surf_mesh.specs.Sides.{side_count};
+ghost use Rattle.surf_surfaces.specs.SideNumber.{side_count};
 ghost use Rattle.surf_mesh.specs.Vertices.{all_corners, sides_at};
 ghost use Rattle.surf_slit.specs.Labels.{corner_at, IsUncut, AreLabels};
 ghost use Rattle.surf_cutter.specs.Copies.{nobody, label_at, AreCounted, AreCopied, AreNumbersOf, AreSorted};

@@ -15,7 +15,7 @@ use Rattle.surf_surfaces.proofs.FaceLaws.{pair_comm}
 use Rattle.surf_surfaces.proofs.JoinedLaws.{joined_trans, joined_closed}
 use Rattle.surf_mesh.specs.Reach.{Leads, marked, IsReach}
 use Rattle.surf_mesh.specs.Ring.{BeginsAt}
-use Rattle.surf_mesh.specs.Sides.{side_count, pair_at, sides_with, owners}
+use Rattle.surf_surfaces.specs.SideNumber.{side_count, pair_at, sides_with, owners}
 use Rattle.surf_mesh.specs.Vertices.{all_corners, sides_at}
 use Rattle.surf_mesh.proofs.EdgeTables.{pair_at-edge}
 use Rattle.surf_mesh.proofs.HalfLaws.{spans}

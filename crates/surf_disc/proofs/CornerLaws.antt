@@ -8,8 +8,7 @@ use Rattle.surf_surfaces.specs.Side.{after, before, corner}
 use Rattle.surf_surfaces.specs.Surface.{face_at, HasEdge, ShareAt}
 use Rattle.surf_surfaces.proofs.SideLaws.{pair_ends, after-below, before-below, after-before, before-after}
 use Rattle.surf_surfaces.proofs.FaceLaws.{pair_comm}
-use Rattle.surf_mesh.specs.Sides.{side_count, pair_at, owners}
-use Rattle.surf_mesh.specs.Half.{first_side, IsFaceOf}
+use Rattle.surf_surfaces.specs.SideNumber.{side_count, pair_at, owners, first_side, IsFaceOf}
 use Rattle.surf_mesh.specs.Ring.{BeginsAt}
 use Rattle.surf_mesh.specs.Vertices.{all_corners}
 use Rattle.surf_mesh.proofs.HalfLaws.{face_of_side}

@@ -5,10 +5,9 @@ use Rattle.surf_surfaces.specs.Joined.{Joined}
 use Rattle.surf_surfaces.proofs.JoinedLaws.{joined_trans, joined_sym}
 use Rattle.surf_surfaces.specs.Mesh.{Mesh}
 use Rattle.surf_surfaces.specs.Surface.{HasCorner, ShareAt, HasOneFan}
-use Rattle.surf_mesh.specs.Half.{IsFaceOf}
+use Rattle.surf_surfaces.specs.SideNumber.{IsFaceOf, side_count}
 use Rattle.surf_mesh.specs.Reach.{marked}
 use Rattle.surf_mesh.specs.Ring.{IsPinch, IsLeastPinch}
-use Rattle.surf_mesh.specs.Sides.{side_count}
 use Rattle.surf_mesh.specs.Vertices.{sides_at, AllMet}
 use Rattle.surf_mesh.proofs.RingLaws.{at_begins, begins_at, at_faces, corner_begins, begins_corner, row_some}
 use Rattle.surf_disc.specs.Links.{AreFansMarked}

@@ -12,10 +12,9 @@ use Rattle.surf_surfaces.proofs.JoinedLaws.{joined_trans, joined_closed}
 use Rattle.surf_surfaces.specs.Mesh.{Mesh, IsMesh}
 use Rattle.surf_surfaces.specs.Surface.{ShareAt}
 use Rattle.surf_rows.specs.Groups.{group_of}
-use Rattle.surf_mesh.specs.Half.{IsFaceOf}
+use Rattle.surf_surfaces.specs.SideNumber.{IsFaceOf, side_count}
 use Rattle.surf_mesh.specs.Reach.{Leads, marked, IsReach}
 use Rattle.surf_mesh.specs.Ring.{BeginsAt}
-use Rattle.surf_mesh.specs.Sides.{side_count}
 use Rattle.surf_mesh.specs.Vertices.{all_corners, sides_at, AllMet}
 use Rattle.surf_mesh.proofs.Order.{by_key-length}
 use Rattle.surf_mesh.proofs.RingLaws.{at_begins, row_some}

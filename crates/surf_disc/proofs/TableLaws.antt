@@ -11,7 +11,7 @@ use Rattle.surf_surfaces.proofs.JoinedLaws.{joined_trans, joined_sym}
 use Rattle.surf_mesh.specs.EdgeTable.{IsEdgeTable}
 use Rattle.surf_mesh.specs.Pairs.{NoneWithin, IsFirstWithin, degree}
 use Rattle.surf_mesh.specs.Reach.{marked}
-use Rattle.surf_mesh.specs.Sides.{side_count, side_pairs, sides_with, owners}
+use Rattle.surf_surfaces.specs.SideNumber.{side_count, side_pairs, sides_with, owners}
 use Rattle.surf_mesh.proofs.EdgeTables.{length-side_pairs}
 use Rattle.surf_mesh.proofs.Owners.{faces_with-sides}
 use Rattle.surf_mesh.proofs.Paired.{rows_len, row_degree, no_crowds, face_at_place}

@@ -3,7 +3,7 @@ use Rattle.std.specs.Prelude.{◌≡◌, ℕ, ◌-◌, ◌<◌, ◌≤◌, ◌==
 use Rattle.surf_surfaces.specs.Mesh.{Mesh}
 use Rattle.surf_surfaces.specs.Surface.{edge_count}
 use Rattle.surf_mesh.specs.Pairs.{degree}
-use Rattle.surf_mesh.specs.Sides.{side_count, pair_at}
+use Rattle.surf_surfaces.specs.SideNumber.{side_count, pair_at}
 
 -- no edge is a side of three or more faces
 abbrev pub NoneCrowded : Mesh → Type 0

@@ -5,10 +5,9 @@ use Rattle.surf_surfaces.specs.Joined.{Joined}
 use Rattle.surf_surfaces.specs.Mesh.{Mesh}
 use Rattle.surf_surfaces.specs.Side.{after, before}
 use Rattle.surf_surfaces.specs.Surface.{face_count, ShareAt}
-use Rattle.surf_mesh.specs.Half.{IsFaceOf}
+use Rattle.surf_surfaces.specs.SideNumber.{IsFaceOf, side_count}
 use Rattle.surf_mesh.specs.Reach.{marked}
 use Rattle.surf_mesh.specs.Ring.{AreTurned, BeginsAt}
-use Rattle.surf_mesh.specs.Sides.{side_count}
 use Rattle.surf_mesh.specs.Vertices.{sides_at}
 use Rattle.surf_disc.specs.Across.{AreAcrossUpTo}
 

@@ -1,7 +1,7 @@
 //! What lies across each side.
 ghost use Rattle.std.specs.Prelude.{◌≡◌, ◌<◌, length, IfOk};
 ghost use Rattle.surf_mesh.specs.EdgeTable.{IsEdgeTable};
-ghost use Rattle.surf_mesh.specs.Sides.{side_count};
+ghost use Rattle.surf_surfaces.specs.SideNumber.{side_count};
 ghost use Rattle.surf_disc.specs.Across.{NoneCrowded, AreAcrossUpTo, other_of};
 
 use std::alloc::Global;

@@ -2,7 +2,7 @@
 ghost use Rattle.std.specs.Prelude.{◌≡◌, ◌<◌, ◌≤◌, ◌+◌, ℕ, length, All, OnOk, IfOk, IfErr, slice_index};
 ghost use Rattle.surf_surfaces.specs.Surface.{face_count, IsConnected};
 ghost use Rattle.surf_mesh.specs.Apart.{AreAcross};
-ghost use Rattle.surf_mesh.specs.Sides.{side_count, owners};
+ghost use Rattle.surf_surfaces.specs.SideNumber.{side_count, owners};
 ghost use Rattle.surf_mesh.specs.Vertices.{AllMet};
 ghost use Rattle.surf_disc.specs.Across.{NoneCrowded, AreAcrossUpTo};
 ghost use Rattle.surf_disc.specs.Fault.{AllFans, IsDiscFault};

@@ -3,7 +3,7 @@ ghost use Rattle.std.specs.Prelude.{◌≡◌, ◌≢◌, ◌≤◌, ◌<◌, �
 ghost use Rattle.std.specs.List.{range_with_len};
 ghost use Rattle.surf_surfaces.specs.Mesh.{characteristic};
 ghost use Rattle.surf_surfaces.specs.Surface.{IsSurface};
-ghost use Rattle.surf_mesh.specs.Sides.{side_count};
+ghost use Rattle.surf_surfaces.specs.SideNumber.{side_count};
 ghost use Rattle.surf_tori.specs.Torus.{torus_faces};
 ghost use Rattle.surf_tori.specs.ConnectedSum.{sum_name};
 ghost use Rattle.surf_tori.specs.Chain.{joint, chain};

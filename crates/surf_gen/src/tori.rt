@@ -2,7 +2,7 @@
 ghost use Rattle.std.specs.Prelude.{◌≡◌, ◌≤◌, ◌<◌, ◌+◌, ◌*◌, ◌^◌, ◌++◌, pos, IfOk, OnOk};
 ghost use Rattle.surf_surfaces.specs.Mesh.{characteristic};
 ghost use Rattle.surf_surfaces.specs.Surface.{IsSurface};
-ghost use Rattle.surf_mesh.specs.Sides.{side_count};
+ghost use Rattle.surf_surfaces.specs.SideNumber.{side_count};
 ghost use Rattle.surf_tori.specs.Torus.{cell_faces, torus};
 
 use crate::grid::Grid;

@@ -9,8 +9,8 @@ use Rattle.surf_surfaces.specs.Joined.{Joined, here, over}
 use Rattle.surf_surfaces.proofs.JoinedLaws.{joined_trans, joined_sym, joined_lift}
 use Rattle.surf_surfaces.specs.Mesh.{Mesh, IsMesh, edges}
 use Rattle.surf_surfaces.specs.Surface.{face_count, face_at, faces_with, Share, IsConnected}
-use Rattle.surf_mesh.specs.Sides.{side_count, pair_at, owners, sides_with}
-use Rattle.surf_mesh.specs.Half.{first_side, IsFaceOf, AreAllMates}
+use Rattle.surf_surfaces.specs.SideNumber.{side_count, pair_at, owners, sides_with, first_side, IsFaceOf}
+use Rattle.surf_mesh.specs.Half.{AreAllMates}
 use Rattle.surf_mesh.specs.Reach.{Leads, marked, IsReach}
 use Rattle.surf_mesh.specs.Pairs.{HasTwoFaces}
 use Rattle.surf_mesh.proofs.Owners.{faces_with-sides}

@@ -16,8 +16,8 @@ use Rattle.surf_surfaces.proofs.EdgeLaws.{list_any_at, place_of-ends}
 use Rattle.surf_surfaces.proofs.FaceLaws.{pair_comm, touches-pair_of, touches_first}
 use Rattle.surf_surfaces.proofs.SideLaws.{pair_ends, after-below, before-below, after-before, before-after, corner_place}
 use Rattle.surf_rows.specs.Groups.{has_key}
-use Rattle.surf_mesh.specs.Sides.{side_count, pair_at, owners, sides_with}
-use Rattle.surf_mesh.specs.Half.{first_side, IsFaceOf, AreAllMates}
+use Rattle.surf_surfaces.specs.SideNumber.{side_count, pair_at, owners, sides_with, first_side, IsFaceOf}
+use Rattle.surf_mesh.specs.Half.{AreAllMates}
 use Rattle.surf_mesh.specs.EdgeTable.{AreEdgeNumbers}
 use Rattle.surf_mesh.specs.Pairs.{HasTwoFaces}
 use Rattle.surf_mesh.specs.Vertices.{all_corners, sides_at}

@@ -1,8 +1,7 @@
 -- Faces that aren't joined with the first.
 use Rattle.std.specs.Prelude.{◌≡◌, ℕ, ◌+◌, ◌<◌, List, [], length, get_or}
 use Rattle.std.specs.List.{sum_by}
-use Rattle.surf_mesh.specs.Sides.{owners}
-use Rattle.surf_mesh.specs.Half.{first_side}
+use Rattle.surf_surfaces.specs.SideNumber.{owners, first_side}
 use Rattle.surf_surfaces.specs.Joined.{Joined}
 use Rattle.surf_surfaces.specs.Mesh.{Mesh}
 use Rattle.surf_surfaces.specs.Surface.{face_count, face_at, Share}

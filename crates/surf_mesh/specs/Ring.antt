@@ -4,8 +4,7 @@ use Rattle.surf_surfaces.specs.Joined.{Joined}
 use Rattle.surf_surfaces.specs.Mesh.{Mesh}
 use Rattle.surf_surfaces.specs.Side.{after, before}
 use Rattle.surf_surfaces.specs.Surface.{face_at, edge_count, ends, touches, HasCorner, HasEdge, ShareAt, HasOneFan}
-use Rattle.surf_mesh.specs.Sides.{side_count, pair_at}
-use Rattle.surf_mesh.specs.Half.{first_side, IsFaceOf}
+use Rattle.surf_surfaces.specs.SideNumber.{side_count, pair_at, first_side, IsFaceOf}
 use Rattle.surf_mesh.specs.Vertices.{all_corners, sides_at}
 use Rattle.surf_mesh.specs.Reach.{marked, unmarked}
 use Rattle.surf_mesh.specs.declared.rings.Rings.{Rings}

@@ -3,11 +3,12 @@ ghost use Rattle.std.specs.Prelude.{◌≡◌, ◌≢◌, ◌<◌, ◌≤◌, �
 ghost use Rattle.std.specs.List.{range_with_len};
 ghost use Rattle.surf_surfaces.specs.Mesh.{IsFace, pair, pair_lt, among, edges};
 ghost use Rattle.surf_surfaces.specs.Surface.{face_count, face_at, edge_count, ends, faces_of, IsSurface};
-ghost use Rattle.surf_mesh.specs.Sides.{side_count};
+ghost use Rattle.surf_surfaces.specs.SideNumber.{side_count, first_side, IsFaceOf, IsEdgeOf};
+ghost use Rattle.surf_surfaces.specs.SideNumber.{IsMate};
 ghost use Rattle.surf_mesh.specs.EdgeTable.{IsEdgeTable};
 ghost use Rattle.surf_mesh.specs.Pairs.{HasTwoFaces};
 ghost use Rattle.surf_mesh.specs.Ring.{BeginsAt, IsRing, AreEdgesAt, GoBetween, AreAllRings};
-ghost use Rattle.surf_mesh.specs.Half.{first_side, IsFaceOf, IsEdgeOf, IsMate, AreAllMates};
+ghost use Rattle.surf_mesh.specs.Half.{AreAllMates};
 
 use crate::Soup;
 use crate::pairs::face_in;

@@ -17,8 +17,7 @@ use Rattle.surf_surfaces.proofs.SideLaws.{side_place}
 use Rattle.surf_surfaces.proofs.CountLaws.{sizes_twice}
 use Rattle.surf_surfaces.proofs.ClassLaws.{independent_walks_are_few, some_vertex}
 use Rattle.surf_z2.proofs.Linear.{chosen_none}
-use Rattle.surf_mesh.specs.Sides.{side_count, pair_at, owners}
-use Rattle.surf_mesh.specs.Half.{first_side, IsFaceOf, IsMate, IsEdgeOf}
+use Rattle.surf_surfaces.specs.SideNumber.{side_count, pair_at, owners, first_side, IsFaceOf, IsMate, IsEdgeOf}
 use Rattle.surf_mesh.proofs.EdgeTables.{pair_at-edge}
 use Rattle.surf_mesh.proofs.HalfLaws.{face_of_side, spans}
 use Rattle.surf_mesh.proofs.SideNumbers.{pair_at_place, side_of_face, face_has_side, one_face}

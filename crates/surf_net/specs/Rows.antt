@@ -4,7 +4,7 @@ use Rattle.surf_graphs.specs.Graphs.{Graph, joins}
 use Rattle.surf_surfaces.specs.Mesh.{Mesh, edges}
 use Rattle.surf_surfaces.specs.Surface.{ends, faces_of}
 use Rattle.surf_surfaces.specs.Walk.{place_of}
-use Rattle.surf_mesh.specs.Sides.{pair_at, owners}
+use Rattle.surf_surfaces.specs.SideNumber.{pair_at, owners}
 
 -- a link: a neighbour, and the number of an edge to it
 abbrev pub link_at : List (ℕ × ℕ) → ℕ → ℕ × ℕ

@@ -12,7 +12,7 @@ ghost use Rattle.std.specs.Prelude.{◌≡◌, ◌<◌, ◌≤◌, ◌^◌, map,
 ghost use Rattle.surf_graphs.specs.Cells.{primal, dual};
 ghost use Rattle.surf_surfaces.specs.Surface.{face_count, edge_count, ends};
 ghost use Rattle.surf_surfaces.specs.Cells.{cells_of};
-ghost use Rattle.surf_mesh.specs.Sides.{side_count};
+ghost use Rattle.surf_surfaces.specs.SideNumber.{side_count};
 ghost use Rattle.surf_net.specs.Rows.{IsRow, other_of, edge_link, side_link};
 
 use surf_base::{EdgeId, FaceId, SideId, VertexId};

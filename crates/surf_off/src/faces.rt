@@ -2,7 +2,7 @@
 ghost use Rattle.std.specs.Prelude.{◌≡◌, ◌≢◌, ◌<◌, ◌≤◌, ◌+◌, ◌^◌, ℕ, true, [], length, slice_index, take, drop, IfOk, IfNone, OnOk};
 ghost use Rattle.std.specs.List.{All, AllPairs};
 ghost use Rattle.surf_surfaces.specs.Mesh.{IsFace};
-ghost use Rattle.surf_mesh.specs.Sides.{side_count};
+ghost use Rattle.surf_surfaces.specs.SideNumber.{side_count};
 ghost use Rattle.surf_text.specs.Text.{whole, behind_word, behind_words};
 ghost use Rattle.surf_text.specs.Walks.{text_line};
 ghost use Rattle.surf_off.specs.Off.{size_of, corner_of, corners_at, first_repeat, face_of, faces_at};

@@ -1,7 +1,7 @@
 //! Writes a made mesh as an OFF text.
 ghost use Rattle.std.specs.Prelude.{◌≡◌, ◌<◌, ◌≤◌, ◌^◌, [], length};
 ghost use Rattle.std.specs.List.{zip, range_with_len};
-ghost use Rattle.surf_mesh.specs.Sides.{side_count};
+ghost use Rattle.surf_surfaces.specs.SideNumber.{side_count};
 ghost use Rattle.surf_text.specs.Pages.{Puts};
 ghost use Rattle.surf_off.specs.Written.{lines_text, numbers_text, face_text, faces_text, points, no_colours, soup_text, RereadsSoup};
 

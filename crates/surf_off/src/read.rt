@@ -1,6 +1,6 @@
 //! Reads an OFF text.
 ghost use Rattle.std.specs.Prelude.{◌≡◌, ◌<◌, ◌≤◌, length, IfOk};
-ghost use Rattle.surf_mesh.specs.Sides.{side_count};
+ghost use Rattle.surf_surfaces.specs.SideNumber.{side_count};
 ghost use Rattle.surf_off.specs.Off.{off_of};
 ghost use Rattle.surf_off.specs.Gives.{Gives};
 

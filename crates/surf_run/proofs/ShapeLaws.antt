@@ -4,7 +4,7 @@ use Rattle.std.proofs.lemmas.Nat.{mul-le}
 use Rattle.surf_surfaces.specs.Mesh.{Mesh}
 use Rattle.surf_surfaces.specs.Surface.{face_count, edge_count, IsSurface}
 use Rattle.surf_surfaces.proofs.CountLaws.{sizes_twice}
-use Rattle.surf_mesh.specs.Sides.{side_count}
+use Rattle.surf_surfaces.specs.SideNumber.{side_count}
 use Rattle.surf_tori.specs.Chain.{chain}
 use Rattle.surf_tori.proofs.TorusLaws.{tori_have_counts}
 use Rattle.surf_tori.proofs.ChainLaws.{chains_have_counts}

@@ -12,7 +12,7 @@ use Rattle.std.proofs.lemmas.Slice.Eq.{bytes_eq-Decides}
 use Rattle.surf_surfaces.specs.Mesh.{Mesh, IsFace}
 use Rattle.surf_surfaces.specs.Surface.{edge_count}
 use Rattle.surf_disc.proofs.TableLaws.{edges_within}
-use Rattle.surf_mesh.specs.Sides.{side_count}
+use Rattle.surf_surfaces.specs.SideNumber.{side_count}
 use Rattle.surf_off.specs.Clean.{IsVertexLine, IsOffParts}
 use Rattle.surf_off.specs.Off.{OffParts, first_repeat, off_without_limits}
 use Rattle.surf_off.specs.Written.{lines_at, mesh_text}

@@ -3,7 +3,7 @@ use Rattle.std.specs.Prelude.{◌≡◌, ◌<◌, ◌≤◌, ◌^◌, ℕ, List,
 use Rattle.surf_surfaces.specs.Disc.{IsOpening}
 use Rattle.surf_surfaces.specs.Mesh.{Mesh, IsMesh}
 use Rattle.surf_surfaces.specs.Surface.{face_count, edge_count}
-use Rattle.surf_mesh.specs.Sides.{side_count}
+use Rattle.surf_surfaces.specs.SideNumber.{side_count}
 use Rattle.surf_off.specs.Clean.{IsOffParts}
 use Rattle.surf_off.specs.Off.{OffParts, off_of, off_without_limits}
 use Rattle.surf_off.specs.Written.{opened_text, lines_at, mesh_text}

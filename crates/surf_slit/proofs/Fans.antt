@@ -13,8 +13,7 @@ use Rattle.surf_opening.specs.Side.{Side}
 use Rattle.surf_opening.proofs.Cotrees.{ends_pair}
 use Rattle.surf_opening.proofs.MeshSides.{is_darts, no_third_face}
 use Rattle.surf_opening.proofs.Polygons.{after_cases}
-use Rattle.surf_mesh.specs.Sides.{owners}
-use Rattle.surf_mesh.specs.Half.{first_side, IsFaceOf}
+use Rattle.surf_surfaces.specs.SideNumber.{owners, first_side, IsFaceOf}
 use Rattle.surf_mesh.specs.Ring.{BeginsAt}
 use Rattle.surf_mesh.proofs.HalfLaws.{face_of_side, spans}
 use Rattle.surf_mesh.proofs.RingLaws.{one_corner}

@@ -3,16 +3,14 @@ use Rattle.std.proofs.Common.{◌≡◌, ◌≢◌, ℕ, ◌+◌, ◌-◌, ◌<�
 use Rattle.std.proofs.Math.ListN.{set}
 use Rattle.std.proofs.lemmas.List.{get_or-set_same, get_or-set_other}
 use Rattle.surf_z2.specs.Parity.{count_below}
-use Rattle.surf_surfaces.specs.Joined.{Joined}
+use Rattle.surf_surfaces.specs.Joined.{Joined, here, over}
 use Rattle.surf_surfaces.specs.Mesh.{Mesh, pair}
 use Rattle.surf_surfaces.specs.Surface.{edge_count, ends, touches, IsSurface}
 use Rattle.surf_surfaces.proofs.FaceLaws.{touches_first}
 use Rattle.surf_surfaces.proofs.JoinedLaws.{joined_lift, joined_trans}
-use Rattle.surf_surfaces.specs.Joined.{here, over}
 use Rattle.surf_opening.specs.Opening.{ShareUncutAt}
 use Rattle.surf_opening.proofs.Counting.{pigeons}
-use Rattle.surf_mesh.specs.Sides.{side_count, owners}
-use Rattle.surf_mesh.specs.Half.{IsFaceOf}
+use Rattle.surf_surfaces.specs.SideNumber.{side_count, owners, IsFaceOf}
 use Rattle.surf_mesh.specs.Ring.{BeginsAt}
 use Rattle.surf_mesh.proofs.HalfLaws.{face_of_side}
 use Rattle.surf_mesh.proofs.VertexLaws.{corners_below, corners_len}

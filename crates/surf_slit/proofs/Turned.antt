@@ -3,7 +3,7 @@ use Rattle.std.proofs.Common.{◌≡◌, ℕ, ◌+◌, ◌-◌, ◌<◌, ◌≤�
 use Rattle.std.proofs.lemmas.Bool.{cases_lt, lt-ltb, le-ltb}
 use Rattle.surf_surfaces.specs.Mesh.{Mesh}
 use Rattle.surf_surfaces.specs.Side.{after}
-use Rattle.surf_mesh.specs.Half.{IsFaceOf}
+use Rattle.surf_surfaces.specs.SideNumber.{IsFaceOf}
 use Rattle.surf_opening.proofs.Polygons.{after_cases}
 use Rattle.surf_slit.specs.Place.{place}
 use Rattle.surf_slit.proofs.Fans.{IsFan}

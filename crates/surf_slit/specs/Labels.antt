@@ -4,8 +4,7 @@ use Rattle.surf_surfaces.specs.Joined.{Joined}
 use Rattle.surf_surfaces.specs.Mesh.{Mesh, pair}
 use Rattle.surf_surfaces.specs.Surface.{edge_count, ends}
 use Rattle.surf_opening.specs.Opening.{ShareUncutAt}
-use Rattle.surf_mesh.specs.Sides.{side_count}
-use Rattle.surf_mesh.specs.Half.{IsFaceOf}
+use Rattle.surf_surfaces.specs.SideNumber.{side_count, IsFaceOf}
 use Rattle.surf_mesh.specs.Ring.{BeginsAt}
 use Rattle.surf_mesh.specs.Vertices.{all_corners}
 

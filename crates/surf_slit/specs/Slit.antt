@@ -2,7 +2,7 @@
 use Rattle.std.specs.Prelude.{◌≡◌, ℕ, ◌<◌, ◌^◌, List, Bool, false, length, replicate, slice_index}
 use Rattle.surf_surfaces.specs.Mesh.{Mesh}
 use Rattle.surf_surfaces.specs.Surface.{edge_count, IsSurface}
-use Rattle.surf_mesh.specs.Sides.{side_count}
+use Rattle.surf_surfaces.specs.SideNumber.{side_count}
 use Rattle.surf_slit.specs.Labels.{corner_at, AreLabels}
 
 -- the surface, which edges are cut, the label of the corner at which each side begins, and how many labels there are

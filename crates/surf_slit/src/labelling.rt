@@ -2,7 +2,7 @@
 ghost use Rattle.std.specs.Prelude.{◌≡◌, ◌≢◌, ◌<◌, ◌≤◌, ◌+◌, ◌^◌, ℕ, max, length, slice_index, slice_index_or};
 ghost use Rattle.surf_z2.specs.Parity.{count_below};
 ghost use Rattle.surf_surfaces.specs.Surface.{edge_count};
-ghost use Rattle.surf_mesh.specs.Sides.{side_count};
+ghost use Rattle.surf_surfaces.specs.SideNumber.{side_count};
 ghost use Rattle.surf_mesh.specs.Ring.{BeginsAt};
 ghost use Rattle.surf_slit.specs.Labels.{corner_at, IsLabelledAt};
 ghost use Rattle.surf_slit.specs.Link.{run_of};

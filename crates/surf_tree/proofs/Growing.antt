@@ -10,7 +10,7 @@ use Rattle.surf_graphs.proofs.Distances.{ranks_least}
 use Rattle.surf_lengths.specs.Lengths.{longest}
 use Rattle.surf_tree.specs.Tables.{TreeTables, nobody, tree_of}
 use Rattle.surf_tree.specs.Searches.{at, IsSettled, IsTight, IsLeastTight}
-use Rattle.surf_tree.specs.Grown.{IsGrownIn}
+use Rattle.surf_tree.proofs.SearchWords.{IsGrownIn}
 
 abbrev tables : ℕ → List ℕ → List ℕ → List ℕ → List Bool → TreeTables
 tables base distance parent up marks = record { base = base; distances = distance; parents = parent; ups = up; flags = marks }

@@ -4,3 +4,4 @@ pub mod Growing
 pub mod LengthLaws
 pub mod Choosing
 pub mod MeshTrees
+mod SearchWords

@@ -14,7 +14,8 @@ use Rattle.surf_surfaces.proofs.CellLaws.{surfaces_are_cells, ends_below, joins_
 use Rattle.surf_surfaces.proofs.GraphWalkLaws.{walks_are_graph_walks, from_joined}
 use Rattle.surf_lengths.specs.Lengths.{longest}
 use Rattle.surf_tree.specs.Tables.{TreeTables, IsMadeFor, nobody, tree_of}
-use Rattle.surf_tree.specs.Grown.{IsGrownIn, IsGrown}
+use Rattle.surf_tree.specs.Grown.{IsGrown}
+use Rattle.surf_tree.proofs.SearchWords.{IsGrownIn}
 
 -- an edge of the graph between two vertices has their edge number
 edge_of_joins : (mesh : Mesh) → IsSurface mesh → (u v e : ℕ) → e < edge_count mesh → joins (primal (cells_of mesh)) u v e ≡ true → e ≡ edge_number mesh (u, v)

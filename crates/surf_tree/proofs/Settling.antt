@@ -4,7 +4,8 @@ use Rattle.surf_graphs.specs.Graphs.{Graph, IsGraph, IsConnected, leaves, joins}
 use Rattle.surf_graphs.proofs.Loops.{joins_turned, joins_ends}
 use Rattle.surf_heap.specs.Entries.{Entries, entry_of, IsUpTo, IsLeastEntry, IsEmpty}
 use Rattle.surf_lengths.specs.Lengths.{longest}
-use Rattle.surf_tree.specs.Searches.{far, HasKey, IsReached, IsOffered, IsOutside, IsSearch, IsSettled}
+use Rattle.surf_tree.specs.Searches.{far, HasKey, IsReached, IsOffered, IsSettled}
+use Rattle.surf_tree.proofs.SearchWords.{IsOutside, IsSearch}
 
 pub no_entry : (o : Option (ℕ × ℕ)) (k t : ℕ) → o ≡ None → ◌≡◌ {A = Option (ℕ × ℕ)} o (Some (k, t)) → ⊥
 no_entry o k t none some = let e = sym none ∙ some in cc

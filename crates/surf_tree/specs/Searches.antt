@@ -44,38 +44,12 @@ pub record IsOffered (g : Graph) (len dist : ℕ → ℕ) (v d : ℕ) (old new :
   pub kept : (w k t : ℕ) → entry_of old w ≡ Some (k, t) → HasKey new w k
   pub offered : (w e : ℕ) → e < g.edges → joins g v w e ≡ true → dist w ≡ far → HasKey new w (d + len e)
 
--- a node in the heap, with its key
-pub record IsOutside (g : Graph) (len : ℕ → ℕ) (base : ℕ) (dist : ℕ → ℕ) (last left w k : ℕ) : Type 0 where
-  pub within : w < g.nodes
-  pub unsettled : dist w ≡ far
-  pub later : last ≤ k
-  pub fits : k + left * longest ≤ g.nodes * longest
-  pub reached : w ≢ base → IsReached g len dist w k
-
--- The state of a search: the settled nodes have their distances, of which the last settled is greatest, and the
--- heap has the nodes that they have edges to. `left` nodes are unsettled.
-pub record IsSearch (g : Graph) (len : ℕ → ℕ) (base : ℕ) (dist : ℕ → ℕ) (heap : Entries) (last left : ℕ) : Type 0 where
-  pub outside : (w k t : ℕ) → entry_of heap w ≡ Some (k, t) → IsOutside g len base dist last left w k
-  pub offered : (u w e : ℕ) → u < g.nodes → w < g.nodes → e < g.edges → joins g u w e ≡ true → dist u ≢ far → dist w ≡ far → HasKey heap w (dist u + len e)
-  pub settled : (u : ℕ) → u < g.nodes → dist u ≢ far → dist u ≤ last
-  pub fits : (u : ℕ) → u < g.nodes → dist u ≢ far → dist u + longest ≤ g.nodes * longest
-  pub near : (u w e : ℕ) → u < g.nodes → w < g.nodes → e < g.edges → joins g u w e ≡ true → dist u ≢ far → dist w ≢ far → dist w ≤ dist u + len e
-  pub tight : (w : ℕ) → w < g.nodes → w ≢ base → dist w ≢ far → IsReached g len dist w (dist w)
-  pub base_first : (dist base ≡ 0) ⊎ ((dist base ≡ far) × HasKey heap base 0)
-
 -- each node has its distance from the base
 pub record IsSettled (g : Graph) (len : ℕ → ℕ) (base : ℕ) (dist : ℕ → ℕ) : Type 0 where
   pub at_base : dist base ≡ 0
   pub fits : (u : ℕ) → u < g.nodes → dist u + longest ≤ g.nodes * longest
   pub near : (u w e : ℕ) → u < g.nodes → w < g.nodes → e < g.edges → joins g u w e ≡ true → dist w ≤ dist u + len e
   pub tight : (w : ℕ) → w < g.nodes → w ≢ base → IsReached g len dist w (dist w)
-
--- the same for the first n edges of a row
-pub record IsOfferedSome (g : Graph) (len dist : ℕ → ℕ) (v d : ℕ) (old new : Entries) (neighbour number : ℕ → ℕ) (n : ℕ) : Type 0 where
-  pub same_length : length new ≡ length old
-  pub came : (w k t : ℕ) → entry_of new w ≡ Some (k, t) → (entry_of old w ≡ Some (k, t)) ⊎ ((e : ℕ) × (e < g.edges) × (w < g.nodes) × (joins g w v e ≡ true) × (dist w ≡ far) × (k ≡ d + len e))
-  pub kept : (w k t : ℕ) → entry_of old w ≡ Some (k, t) → HasKey new w k
-  pub offered : (i : ℕ) → i < n → dist (neighbour i) ≡ far → HasKey new (neighbour i) (d + len (number i))
 
 -- edge e leads from v to a neighbour u that is nearer by the edge's length
 pub record IsTight (g : Graph) (len dist : ℕ → ℕ) (v u e : ℕ) : Type 0 where

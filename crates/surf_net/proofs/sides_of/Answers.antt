@@ -1,7 +1,7 @@
 use Rattle.std.proofs.Common.{All, ◌<◌, map, subst, sym, List, ℕ}
 use Rattle.surf_graphs.specs.Cells.{dual}
 use Rattle.surf_surfaces.specs.Cells.{cells_of}
-use Rattle.surf_mesh.specs.Sides.{side_count}
+use Rattle.surf_surfaces.specs.SideNumber.{side_count}
 use Rattle.surf_net.specs.Rows.{IsRow, side_link}
 use Rattle.surf_net.proofs.RowLaws.{sides_inside, side_row}
 use Rattle.surf_net.proofs.sides_of.Goals as goal

@@ -2,7 +2,7 @@ use Rattle.std.proofs.Common.{◌<◌, ℕ, length, get_or, sym, ap, subst, ◌�
 use Rattle.std.proofs.lemmas.Bool.{cases_eq}
 use Rattle.std.proofs.lemmas.List.{get_or_read}
 use Rattle.surf_surfaces.specs.Surface.{face_count}
-use Rattle.surf_mesh.specs.Half.{IsFaceOf}
+use Rattle.surf_surfaces.specs.SideNumber.{IsFaceOf}
 use Rattle.surf_mesh.specs.Reach.{marked}
 use Rattle.surf_mesh.proofs.ReachSteps.{marked-inside}
 use Rattle.surf_mesh.proofs.SideNumbers.{one_face}

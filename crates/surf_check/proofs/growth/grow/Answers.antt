@@ -1,7 +1,7 @@
 use Rattle.std.proofs.Common.{◌<◌, ℕ, length, get_or, sym, ap, subst, ◌∙◌, arith, inl, inr}
 use Rattle.std.proofs.lemmas.Bool.{cases_eq}
 use Rattle.std.proofs.lemmas.List.{get_or_read}
-use Rattle.surf_mesh.specs.Half.{IsFaceOf}
+use Rattle.surf_surfaces.specs.SideNumber.{IsFaceOf}
 use Rattle.surf_check.proofs.GrowthLaws.{crossed_still, whole_tree, flags_follow}
 use Rattle.surf_check.proofs.growth.grow.Goals as goal
 

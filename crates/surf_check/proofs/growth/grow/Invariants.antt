@@ -1,6 +1,6 @@
 use Rattle.std.proofs.Common.{ℕ, ◌<◌, ◌-◌, get_or}
 use Rattle.surf_surfaces.specs.Surface.{face_count}
-use Rattle.surf_mesh.specs.Half.{IsFaceOf}
+use Rattle.surf_surfaces.specs.SideNumber.{IsFaceOf}
 use Rattle.surf_check.specs.Growth.{TreeGrows, IsCrossed}
 use Rattle.surf_check.proofs.growth.grow.Given as goal
 

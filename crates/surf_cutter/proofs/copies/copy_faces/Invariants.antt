@@ -1,6 +1,6 @@
 use Rattle.std.proofs.Common.{◌≡◌, length}
 use Rattle.std.specs.List.{sum_by}
-use Rattle.surf_mesh.specs.Half.{first_side}
+use Rattle.surf_surfaces.specs.SideNumber.{first_side}
 use Rattle.surf_cutter.specs.Copies.{AreCopied}
 use Rattle.surf_cutter.proofs.copies.copy_faces.Given as goal
 

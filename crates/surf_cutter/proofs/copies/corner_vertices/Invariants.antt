@@ -1,5 +1,5 @@
 use Rattle.std.proofs.Common.{◌≡◌, ◌<◌, ℕ, length, get_or}
-use Rattle.surf_mesh.specs.Half.{first_side}
+use Rattle.surf_surfaces.specs.SideNumber.{first_side}
 use Rattle.surf_slit.specs.Labels.{corner_at}
 use Rattle.surf_cutter.proofs.copies.corner_vertices.Given as goal
 

@@ -2,7 +2,7 @@ use Rattle.std.proofs.Common.{◌≡◌, ◌<◌, ℕ, List, map, length, get_or
 use Rattle.std.specs.List.{range_with_len}
 use Rattle.std.proofs.lemmas.List.FromFn.{length-range_with_len, get_or-range_with_len}
 use Rattle.surf_rows.specs.Groups.{group_of}
-use Rattle.surf_mesh.specs.Sides.{side_count}
+use Rattle.surf_surfaces.specs.SideNumber.{side_count}
 use Rattle.surf_mesh.specs.Vertices.{all_corners}
 use Rattle.surf_mesh.proofs.VertexLaws.{corners_len, corners_below}
 use Rattle.surf_cutter.proofs.Sorted.{sorted_sides}

@@ -1,8 +1,7 @@
 use Rattle.std.proofs.Common.{◌≡◌, ◌<◌, ◌+◌, ◌++◌, ◌∷◌, [], ℕ, List, get_or, length, ap, ◌∙◌, arith}
 use Rattle.std.proofs.lemmas.List.{get_or_default}
 use Rattle.surf_surfaces.specs.Surface.{face_at}
-use Rattle.surf_mesh.specs.Sides.{owners}
-use Rattle.surf_mesh.specs.Half.{first_side}
+use Rattle.surf_surfaces.specs.SideNumber.{owners, first_side}
 use Rattle.surf_mesh.proofs.Owners.{length-owners}
 use Rattle.surf_mesh.proofs.HalfLaws.{spans}
 use Rattle.surf_mesh.proofs.ApartLaws.{across_more}

@@ -1,5 +1,5 @@
 use Rattle.std.proofs.Common.{◌≡◌}
-use Rattle.surf_mesh.specs.Half.{first_side}
+use Rattle.surf_surfaces.specs.SideNumber.{first_side}
 use Rattle.surf_mesh.specs.Apart.{AreAcross}
 use Rattle.surf_disc.proofs.apart.faces_over.Given as goal
 

@@ -3,7 +3,7 @@ use Rattle.std.specs.List.{flat_map, sum_by}
 use Rattle.std.proofs.lemmas.List.{get_or_default}
 use Rattle.std.proofs.lemmas.List.Sums.{sum_by_push}
 use Rattle.surf_surfaces.specs.Side.{after, before}
-use Rattle.surf_mesh.specs.Sides.{side_count}
+use Rattle.surf_surfaces.specs.SideNumber.{side_count}
 use Rattle.surf_mesh.specs.Vertices.{all_corners, sides_at}
 use Rattle.surf_mesh.proofs.RingLaws.{turned_size}
 use Rattle.surf_mesh.proofs.VertexLaws.{at_len, at_is, corners_len}

@@ -3,7 +3,7 @@ use Rattle.std.specs.Option.{MatchOption}
 use Rattle.std.proofs.lemmas.List.{get_or_read}
 use Rattle.surf_surfaces.specs.Side.{before}
 use Rattle.surf_mesh.specs.Reach.{marked}
-use Rattle.surf_mesh.specs.Sides.{owners}
+use Rattle.surf_surfaces.specs.SideNumber.{owners}
 use Rattle.surf_mesh.specs.Vertices.{sides_at}
 use Rattle.surf_mesh.specs.Ring.{AreDarts, IsRound, IsTrail, IsWholeRing, IsPinch}
 use Rattle.surf_mesh.proofs.RingLaws.{turned_size, at_begins, are_darts, begin_in, begin_fresh, whole_ring, ring_pinch, ring_others}

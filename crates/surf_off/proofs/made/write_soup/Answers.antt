@@ -7,7 +7,7 @@ use Rattle.surf_text.specs.Pages.{Puts}
 use Rattle.surf_text.proofs.Writing.{puts_more, puts_stop}
 use Rattle.surf_off.specs.declared.header.Header.TheVariants.{Off}
 use Rattle.surf_off.specs.Written.{head_text, lines_text, faces_text, points, no_colours, RereadsSoup}
-use Rattle.surf_mesh.specs.Sides.{side_count}
+use Rattle.surf_surfaces.specs.SideNumber.{side_count}
 use Rattle.surf_off.proofs.RereadMesh.{soup_again, short_faces}
 use Rattle.surf_off.proofs.made.write_soup.Goals as goal
 

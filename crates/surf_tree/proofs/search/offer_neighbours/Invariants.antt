@@ -1,6 +1,7 @@
 use Rattle.std.proofs.Common.{map}
 use Rattle.surf_net.specs.Rows.{link_at}
-use Rattle.surf_tree.specs.Searches.{at, IsOfferedSome}
+use Rattle.surf_tree.specs.Searches.{at}
+use Rattle.surf_tree.proofs.SearchWords.{IsOfferedSome}
 use Rattle.surf_tree.proofs.search.offer_neighbours.Given as goal
 
 abbrev pub invariant-loop-e : goal.invariant-loop-e
