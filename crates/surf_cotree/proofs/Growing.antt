@@ -11,10 +11,13 @@ use Rattle.surf_z2.proofs.Sums.{count_below-without, count_below-same, count_bel
 use Rattle.surf_graphs.proofs.Growth.{grow_one, old_node}
 use Rattle.surf_graphs.proofs.Heavy.{grow_heavy}
 use Rattle.surf_heap.specs.Entries.{Entries, entry_of, IsLeastEntry, IsEmpty}
-use Rattle.surf_cotree.specs.Searches.{at}
+use Rattle.surf_cotree.specs.Searches.{at, heaviest, IsPairUpTo, lighter, reached, HasPair, IsOffered, IsWaiting, IsPrim, tree_of, IsHeaviestTree}
 use Rattle.surf_cotree.specs.Tables.{nobody}
-use Rattle.surf_cotree.specs.Searches.{heaviest, IsPairUpTo, lighter, reached, Connects, HasPair, IsOffered, IsWaiting, IsPrim, tree_of, IsHeaviestTree}
 use Rattle.surf_cotree.proofs.Pairs.{no_entry, pair_trans, pair_from}
+
+-- the allowed edges join all nodes
+abbrev pub Connects : Graph → (ℕ → Bool) → Type 0
+Connects g allowed = (set : ℕ → Bool) → ((e : ℕ) → e < g.edges → allowed e ≡ true → leaves g set e ≡ false) → (a b : ℕ) → a < g.nodes → b < g.nodes → set a ≡ set b
 
 pub lighter_is : (weight : ℕ → ℕ) (l c : ℕ) → lighter weight l c ≡ true → (weight l < weight c) ⊎ ((weight l ≡ weight c) × (l ≤ c))
 lighter_is weight l c h = elim (or_cases (ltb (weight l) (weight c)) (eqb (weight l) (weight c) && leb l c) h) [

@@ -11,11 +11,11 @@ use Rattle.surf_graphs.proofs.Trees.{one_of}
 use Rattle.surf_graphs.proofs.Loops.{joins_ends, joins_turned}
 use Rattle.surf_heap.specs.Entries.{Entries, entry_of, IsEmpty, IsLeastEntry}
 use Rattle.surf_cotree.specs.Tables.{nobody}
-use Rattle.surf_cotree.specs.Searches.{at, heaviest, reached, lighter, tree_of, Connects, HasPair, IsOffered, IsWaiting, IsPrim, IsHeaviestTree}
+use Rattle.surf_cotree.specs.Searches.{at, heaviest, reached, lighter, tree_of, HasPair, IsOffered, IsWaiting, IsPrim, IsHeaviestTree}
+use Rattle.surf_cotree.proofs.Growing.{Connects, turn_keeps, depth_fits, prim_ends}
 use Rattle.surf_cotree.specs.Peeling.{leaf_at, left_after, IsLeaf, IsPeeled, IsHung}
 use Rattle.surf_cotree.specs.declared.peeling.Leaf.{Leaf}
 use Rattle.surf_cotree.proofs.Pairs.{no_entry, same_pair}
-use Rattle.surf_cotree.proofs.Growing.{turn_keeps, depth_fits, prim_ends}
 
 -- the ends of an edge by two nodes that it joins
 other_end : (g : Graph) (f a u w e : ℕ) → joins g f a e ≡ true → joins g u w e ≡ true → ((u ≡ f) × (w ≡ a)) ⊎ ((u ≡ a) × (w ≡ f))

@@ -7,8 +7,13 @@ use Rattle.std.proofs.lemmas.List.{get_or_default}
 use Rattle.surf_graphs.specs.Graphs.{Graph, joins}
 use Rattle.surf_net.specs.Rows.{link_at, IsRow}
 use Rattle.surf_cotree.specs.Searches.{outside}
-use Rattle.surf_cotree.specs.Peeling.{leaf_at, left_after, IsOnlyEdge, IsOnlySoFar, IsLeaf, IsPeeled}
+use Rattle.surf_cotree.specs.Peeling.{leaf_at, left_after, IsOnlyEdge, IsLeaf, IsPeeled}
 use Rattle.surf_cotree.specs.declared.peeling.Leaf.{Leaf}
+
+-- of the first n edges of a row just this one is left (IsOnlyEdge is of all its edges), or none is
+abbrev pub IsOnlySoFar : (ℕ → Bool) → (ℕ → ℕ) → ℕ → Option ℕ → Type 0
+IsOnlySoFar rest number n None = (k : ℕ) → k < n → rest (number k) ≡ false
+IsOnlySoFar rest number n (Some e) = (rest e ≡ true) × ((k : ℕ) × (k < n) × (number k ≡ e)) × ((k : ℕ) → k < n → rest (number k) ≡ true → number k ≡ e)
 
 -- ---- the only edge of a row
 

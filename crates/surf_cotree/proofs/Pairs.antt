@@ -7,7 +7,14 @@ use Rattle.surf_graphs.proofs.Loops.{joins_turned}
 use Rattle.surf_heap.specs.Entries.{Entries, entry_of, lesser, precedes, IsUpTo}
 use Rattle.surf_net.specs.Rows.{link_at, IsRow}
 use Rattle.surf_cotree.specs.Tables.{nobody}
-use Rattle.surf_cotree.specs.Searches.{heaviest, IsPairUpTo, HasPair, IsOffered, IsOfferedSome}
+use Rattle.surf_cotree.specs.Searches.{heaviest, IsPairUpTo, HasPair, IsOffered, IsBridge}
+
+-- what the first n edges of a node's row offer (IsOffered is of all its edges)
+pub record IsOfferedSome (g : Graph) (allowed : ℕ → Bool) (weight : ℕ → ℕ) (in_tree : ℕ → Bool) (v : ℕ) (old new : Entries) (neighbour number : ℕ → ℕ) (n : ℕ) : Type 0 where
+  pub same_length : length new ≡ length old
+  pub came : (w k t : ℕ) → entry_of new w ≡ Some (k, t) → (entry_of old w ≡ Some (k, t)) ⊎ ((w < g.nodes) × (in_tree w ≡ false) × ((e : ℕ) × IsBridge g allowed weight v w k t e))
+  pub kept : (w k t : ℕ) → entry_of old w ≡ Some (k, t) → HasPair new w k t
+  pub offered : (i : ℕ) → i < n → allowed (number i) ≡ true → in_tree (neighbour i) ≡ false → HasPair new (neighbour i) (heaviest - weight (number i)) (nobody - number i)
 
 pub no_entry : (o : Option (ℕ × ℕ)) (k t : ℕ) → o ≡ None → ◌≡◌ {A = Option (ℕ × ℕ)} o (Some (k, t)) → ⊥
 no_entry o k t none some = let e = sym none ∙ some in cc

@@ -19,7 +19,8 @@ use Rattle.surf_surfaces.specs.Cotree.{tree_edges, cotree_edges, is_left, left_e
 use Rattle.surf_surfaces.proofs.CellLaws.{surfaces_are_cells}
 use Rattle.surf_surfaces.proofs.CotreeLaws.{passing_climb, climbs_order, passing_each, passing_found, not-false_is, between_inside}
 use Rattle.surf_cotree.specs.Tables.{CotreeTables, nobody, tree_of, IsMadeFor, split_with, loop_count, width_for}
-use Rattle.surf_cotree.specs.Searches.{at, outside, is_unmarked, Connects, IsHeaviestTree}
+use Rattle.surf_cotree.specs.Searches.{at, outside, is_unmarked, IsHeaviestTree}
+use Rattle.surf_cotree.proofs.Growing.{Connects}
 use Rattle.surf_cotree.specs.Grown.{IsMarked, MarkTree, AreLoopLengths, IsGrown, IsGrownOn}
 
 -- ---- numbers that pass a test

@@ -1,5 +1,5 @@
 -- Faces that hang on the others by one edge, taken off and hung on again.
-use Rattle.std.specs.Prelude.{ℕ, zero, suc, ◌≡◌, ◌≢◌, ◌<◌, ◌≤◌, ◌&&◌, ◌==◌, Bool, true, false, not, List, length, slice_index_or, Option, Some, None}
+use Rattle.std.specs.Prelude.{ℕ, zero, suc, ◌≡◌, ◌≢◌, ◌<◌, ◌≤◌, ◌&&◌, ◌==◌, Bool, true, not, List, length, slice_index_or}
 use Rattle.surf_z2.specs.Parity.{count_below}
 use Rattle.surf_graphs.specs.Graphs.{Graph, joins}
 use Rattle.surf_heap.specs.Entries.{Entries, IsEmpty}
@@ -23,11 +23,6 @@ pub record IsOnlyEdge (g : Graph) (rest : ℕ → Bool) (f e : ℕ) : Type 0 whe
   pub other_in : other < g.nodes
   pub joined : joins g f other e ≡ true
   pub only : (l w : ℕ) → l < g.edges → rest l ≡ true → joins g f w l ≡ true → l ≡ e
-
--- the same for the first n edges of a row, or none of them is left
-abbrev pub IsOnlySoFar : (ℕ → Bool) → (ℕ → ℕ) → ℕ → Option ℕ → Type 0
-IsOnlySoFar rest number n None = (k : ℕ) → k < n → rest (number k) ≡ false
-IsOnlySoFar rest number n (Some e) = (rest e ≡ true) × ((k : ℕ) × (k < n) × (number k ≡ e)) × ((k : ℕ) → k < n → rest (number k) ≡ true → number k ≡ e)
 
 -- when the leaves before it have been taken off, a leaf hangs on the other nodes by its edge alone. Node 0 stays
 pub record IsLeaf (g : Graph) (allowed : ℕ → Bool) (leaves : List Leaf) (k : ℕ) : Type 0 where

@@ -1,6 +1,6 @@
 -- A search for the heaviest tree of a graph from a root, over some of its edges.
 use Rattle.std.specs.Prelude.{slice_index, ℕ, suc, ◌≡◌, ◌≢◌, ◌<◌, ◌≤◌, ◌+◌, ◌-◌, ◌⊎◌, ◌&&◌, ◌||◌, Bool, true, false, not, eqb, nat_lt, nat_le, List, length, get_or, Some}
-use Rattle.surf_graphs.specs.Graphs.{Graph, joins, leaves}
+use Rattle.surf_graphs.specs.Graphs.{Graph, joins}
 use Rattle.surf_graphs.specs.Trees.{Tree, IsTree, in_tree}
 use Rattle.surf_graphs.specs.Growth.{Grown, IsHeavy, between}
 use Rattle.surf_heap.specs.Entries.{Entries, entry_of}
@@ -28,10 +28,6 @@ reached depth v = not (eqb (at depth v) nobody)
 abbrev pub outside : List Bool → ℕ → Bool
 outside marks e = not (get_or marks e false)
 
--- the allowed edges join all nodes
-abbrev pub Connects : Graph → (ℕ → Bool) → Type 0
-Connects g allowed = (set : ℕ → Bool) → ((e : ℕ) → e < g.edges → allowed e ≡ true → leaves g set e ≡ false) → (a b : ℕ) → a < g.nodes → b < g.nodes → set a ≡ set b
-
 -- the heap has a node, with a pair up to this one
 pub record HasPair (heap : Entries) (w k t : ℕ) : Type 0 where
   pub key : ℕ
@@ -53,13 +49,6 @@ pub record IsOffered (g : Graph) (allowed : ℕ → Bool) (weight : ℕ → ℕ)
   pub came : (w k t : ℕ) → entry_of new w ≡ Some (k, t) → (entry_of old w ≡ Some (k, t)) ⊎ ((w < g.nodes) × (in_tree w ≡ false) × ((e : ℕ) × IsBridge g allowed weight v w k t e))
   pub kept : (w k t : ℕ) → entry_of old w ≡ Some (k, t) → HasPair new w k t
   pub offered : (w e : ℕ) → e < g.edges → allowed e ≡ true → joins g v w e ≡ true → in_tree w ≡ false → HasPair new w (heaviest - weight e) (nobody - e)
-
--- the same for the first n edges of a row
-pub record IsOfferedSome (g : Graph) (allowed : ℕ → Bool) (weight : ℕ → ℕ) (in_tree : ℕ → Bool) (v : ℕ) (old new : Entries) (neighbour number : ℕ → ℕ) (n : ℕ) : Type 0 where
-  pub same_length : length new ≡ length old
-  pub came : (w k t : ℕ) → entry_of new w ≡ Some (k, t) → (entry_of old w ≡ Some (k, t)) ⊎ ((w < g.nodes) × (in_tree w ≡ false) × ((e : ℕ) × IsBridge g allowed weight v w k t e))
-  pub kept : (w k t : ℕ) → entry_of old w ≡ Some (k, t) → HasPair new w k t
-  pub offered : (i : ℕ) → i < n → allowed (number i) ≡ true → in_tree (neighbour i) ≡ false → HasPair new (neighbour i) (heaviest - weight (number i)) (nobody - number i)
 
 -- a node in the heap, with its pair
 pub record IsWaiting (g : Graph) (allowed : ℕ → Bool) (weight : ℕ → ℕ) (in_tree : ℕ → Bool) (w k t : ℕ) : Type 0 where

@@ -5,8 +5,8 @@ use Rattle.surf_surfaces.specs.Cotree.{cotree_edges}
 use Rattle.surf_surfaces.specs.Disc.{IsOpening}
 use Rattle.surf_surfaces.specs.Mesh.{Mesh}
 use Rattle.surf_surfaces.specs.Surface.{face_count, edge_count, IsSurface}
-use Rattle.surf_opening.specs.ChosenCut.{AreDivided}
-use Rattle.surf_opening.specs.Laws.{AreInOrder, TellsCut}
+use Rattle.surf_opening.specs.ChosenCut.{AreDivided, AreInOrder}
+use Rattle.surf_opening.specs.Laws.{TellsCut}
 use Rattle.surf_opening.specs.Named.{whole}
 use Rattle.surf_opening.specs.Opening.{IsOpenedBy}
 use Rattle.surf_opening.proofs.ChosenOpenings.{some_list, full_cuts_are_chosen, trimmed_cuts_are_chosen, chosen_are_openings, full_openings_are_counted}

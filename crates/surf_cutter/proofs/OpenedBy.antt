@@ -6,7 +6,7 @@ use Rattle.std.proofs.lemmas.List.Elements.{All-from_get_or}
 use Rattle.surf_surfaces.specs.Joined.{Joined}
 use Rattle.surf_surfaces.specs.Mesh.{Mesh}
 use Rattle.surf_surfaces.specs.Surface.{face_count, face_at, IsSurface}
-use Rattle.surf_opening.specs.Laws.{AreInOrder}
+use Rattle.surf_opening.specs.ChosenCut.{AreInOrder}
 use Rattle.surf_opening.specs.Opening.{ShareUncutAt, IsOpenedBy}
 use Rattle.surf_surfaces.specs.SideNumber.{side_count, first_side, IsFaceOf}
 use Rattle.surf_mesh.specs.Vertices.{all_corners}

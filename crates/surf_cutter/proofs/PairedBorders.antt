@@ -8,10 +8,12 @@ use Rattle.surf_surfaces.specs.Joined.{here}
 use Rattle.surf_surfaces.specs.Mesh.{Mesh, pair}
 use Rattle.surf_surfaces.specs.Side.{after}
 use Rattle.surf_surfaces.specs.Surface.{face_count, face_at, ends, faces_with, HasEdge, IsSurface}
-use Rattle.surf_opening.specs.Opening.{corner_of, IsOpenedBy, IsOpenedAlong}
-use Rattle.surf_opening.specs.Rim.{along, back, IsPaired}
+use Rattle.surf_opening.specs.Opening.{corner_of, IsOpenedBy}
+use Rattle.surf_opening.proofs.SideWords.{IsOpenedAlong, IsSides}
+use Rattle.surf_opening.specs.Rim.{along, back}
+use Rattle.surf_opening.proofs.RimWords.{IsPaired}
 use Rattle.surf_opening.specs.Side.{Side, IsPlace}
-use Rattle.surf_opening.specs.Uncut.{IsSides, Uncut, Copy, CutSide, IsDualTree, IsTrimmed}
+use Rattle.surf_opening.specs.Uncut.{Uncut, Copy, CutSide, IsDualTree, IsTrimmed}
 use Rattle.surf_opening.specs.Laws.{TellsCut}
 use Rattle.surf_opening.proofs.CutLists.{uncut_told}
 use Rattle.surf_opening.proofs.DiscLaw.{border_at}

@@ -10,11 +10,17 @@ use Rattle.surf_surfaces.specs.Mesh.{Mesh, pair}
 use Rattle.surf_surfaces.specs.Surface.{edge_count, ends, touches, IsSurface}
 use Rattle.surf_surfaces.proofs.CellLaws.{ends_below}
 use Rattle.surf_surfaces.proofs.FaceLaws.{pair_comm}
-use Rattle.surf_opening.specs.Laws.{TellsCut, cut_count, cut_degree, without}
+use Rattle.surf_opening.specs.Laws.{TellsCut, cut_count, without}
+use Rattle.surf_opening.specs.ChosenCut.{cut_degree}
 use Rattle.surf_opening.proofs.Cotrees.{ends_pair}
 use Rattle.surf_opening.proofs.CutCounts.{trimming_by_greatest_goes_on}
 use Rattle.surf_mesh.specs.Ring.{AreEdgesAt}
-use Rattle.surf_cutter.specs.Trimming.{is_cut, is_cut_at, AreDegrees, AreDegreesTo, IsTakenBack, IsTrimmedFrom, HasNoLeafFrom, HasNoOtherLeaf, HasEndedBy}
+use Rattle.surf_cutter.specs.Trimming.{is_cut, is_cut_at, AreDegrees, AreDegreesTo, IsTakenBack, IsTrimmedFrom, HasNoLeafFrom, HasEndedBy}
+use Rattle.std.specs.Prelude.{slice_index}
+
+-- while more than two edges are cut, no vertex from low on but this one has exactly one (HasNoLeafFrom is of all)
+abbrev pub HasNoOtherLeaf : Mesh → ℕ → ℕ → List ℕ → ℕ → Type 0
+HasNoOtherLeaf mesh low leaf degree count = 2 < count → (v : ℕ) → low ≤ v → v < mesh.vertices → v ≢ leaf → slice_index degree v ≢ 1
 
 passes : (p : ℕ → Bool) (n : ℕ) → p n ≡ true → count_below (suc n) p ≡ suc (count_below n p)
 passes p n e = let h : cond {A = ℕ} (p n) 1 0 ≡ 1 = cond-true {A = ℕ} (p n) 1 0 e in omega arith

@@ -6,8 +6,7 @@ use Rattle.surf_surfaces.specs.Cotree.{cotree_edges}
 use Rattle.surf_surfaces.specs.Disc.{IsDisc}
 use Rattle.surf_surfaces.specs.Mesh.{Mesh}
 use Rattle.surf_surfaces.specs.Surface.{edge_count}
-use Rattle.surf_opening.specs.ChosenCut.{AreDivided, IsChosenOpening}
-use Rattle.surf_opening.specs.Laws.{AreInOrder}
+use Rattle.surf_opening.specs.ChosenCut.{AreDivided, IsChosenOpening, AreInOrder}
 use Rattle.surf_opening.specs.Opening.{IsOpenedBy}
 use Rattle.surf_slit.specs.Labels.{IsUncut}
 use Rattle.surf_cutter.specs.Boundary.{IsBoundary}

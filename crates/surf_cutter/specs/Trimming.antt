@@ -4,7 +4,8 @@ use Rattle.surf_z2.specs.Parity.{count_below}
 use Rattle.surf_z2.specs.Space.{Chain}
 use Rattle.surf_surfaces.specs.Mesh.{Mesh, pair}
 use Rattle.surf_surfaces.specs.Surface.{edge_count, ends, touches}
-use Rattle.surf_opening.specs.Laws.{TellsCut, cut_count, cut_degree}
+use Rattle.surf_opening.specs.Laws.{TellsCut, cut_count}
+use Rattle.surf_opening.specs.ChosenCut.{cut_degree}
 use Rattle.surf_opening.specs.Named.{IsTrimmedByGreatest}
 use Rattle.surf_opening.specs.Side.{Side}
 
@@ -48,10 +49,6 @@ IsTrimmedFrom mesh old new =
 -- while more than two edges are cut, no vertex from the given one on has exactly one of them
 abbrev pub HasNoLeafFrom : Mesh → ℕ → List ℕ → ℕ → Type 0
 HasNoLeafFrom mesh low degree count = 2 < count → (v : ℕ) → low ≤ v → v < mesh.vertices → slice_index degree v ≢ 1
-
--- the same but for one vertex
-abbrev pub HasNoOtherLeaf : Mesh → ℕ → ℕ → List ℕ → ℕ → Type 0
-HasNoOtherLeaf mesh low leaf degree count = 2 < count → (v : ℕ) → low ≤ v → v < mesh.vertices → v ≢ leaf → slice_index degree v ≢ 1
 
 -- no more than two edges are cut, or no vertex has exactly one of them
 abbrev pub HasEndedBy : Mesh → List Bool → Type 0

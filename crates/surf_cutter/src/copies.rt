@@ -2,7 +2,7 @@
 ghost use Rattle.std.specs.Prelude.{◌≡◌, ◌<◌, ◌≤◌, ◌+◌, ◌^◌, ℕ, [], length, map, IfOk, OnOk, slice_index, slice_index_or};
 ghost use Rattle.std.specs.List.{range_with_len, sum_by, flat_map};
 ghost use Rattle.surf_surfaces.specs.Surface.{face_count, edge_count};
-ghost use Rattle.surf_opening.specs.Laws.{AreInOrder};
+ghost use Rattle.surf_opening.specs.ChosenCut.{AreInOrder};
 ghost use Rattle.surf_opening.specs.Opening.{IsOpenedBy};
 ghost use Rattle.surf_surfaces.specs.SideNumber.{side_count};
 ghost use Rattle.surf_mesh.specs.Vertices.{all_corners, sides_at};

@@ -24,10 +24,14 @@ use Rattle.surf_mesh.proofs.Owners.{faces_with-sides}
 use Rattle.surf_mesh.proofs.Paired.{side_below}
 use Rattle.surf_mesh.proofs.RingLaws.{at_begins, begins_at}
 use Rattle.surf_mesh.proofs.VertexLaws.{corners_below, corners_len}
-use Rattle.surf_disc.specs.Border.{Along, with_end, border_ends, AreNeighbours, IsBorderMarked}
+use Rattle.surf_disc.specs.Border.{with_end, border_ends, AreNeighbours, IsBorderMarked}
 use Rattle.surf_disc.specs.Links.{AreCornerTables}
 use Rattle.surf_disc.proofs.AcrossLaws.{listed}
 use Rattle.surf_disc.proofs.CornerLaws.{tail, next_in, prev_in, next_prev, prev_next, pair_tails, ends_of}
+
+-- a border edge runs between the vertices
+abbrev pub Along : Mesh → ℕ → ℕ → Type 0
+Along mesh v w = (e : ℕ) × IsBorderEdge mesh e × (ends mesh e ≡ pair v w)
 
 -- a list with the end of a side, where nothing is across the side and where something is
 with_yes : (across : List ℕ) (side end : ℕ) (xs : List ℕ) → get_or across side 0 ≡ side →

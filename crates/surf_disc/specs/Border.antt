@@ -2,7 +2,7 @@
 use Rattle.std.specs.Prelude.{◌≡◌, ℕ, ◌<◌, ◌==◌, if◌then◌else◌, Bool, true, false, List, [], ◌∷◌, ◌++◌, length, get_or, count_by}
 use Rattle.std.specs.List.{flat_map}
 use Rattle.surf_surfaces.specs.Joined.{Joined}
-use Rattle.surf_surfaces.specs.Mesh.{Mesh, pair, edges}
+use Rattle.surf_surfaces.specs.Mesh.{Mesh, edges}
 use Rattle.surf_surfaces.specs.Surface.{ends, faces_with}
 use Rattle.surf_surfaces.specs.Disc.{IsBorderEdge, ShareOnBorder}
 use Rattle.surf_mesh.specs.Reach.{marked}
@@ -11,10 +11,6 @@ use Rattle.surf_mesh.specs.Vertices.{sides_at}
 -- how many edges are a side of exactly one face
 abbrev pub border_count : Mesh → ℕ
 border_count mesh = count_by (λ p. length (faces_with mesh p) == 1) (edges mesh)
-
--- a border edge runs between the vertices
-abbrev pub Along : Mesh → ℕ → ℕ → Type 0
-Along mesh v w = (e : ℕ) × IsBorderEdge mesh e × (ends mesh e ≡ pair v w)
 
 -- a list, and one more where a side has nothing across it
 abbrev pub with_end : List ℕ → ℕ → ℕ → List ℕ → List ℕ

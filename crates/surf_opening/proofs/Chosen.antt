@@ -11,12 +11,13 @@ use Rattle.surf_surfaces.specs.Cotree.{tree_edges, split_of}
 use Rattle.surf_surfaces.specs.Mesh.{Mesh, pair, steps, steps_from}
 use Rattle.surf_surfaces.specs.Surface.{face_count, edge_count, ends, IsSurface}
 use Rattle.surf_surfaces.specs.Walk.{last_from}
-use Rattle.surf_opening.specs.Laws.{TellsCut, cut_count, cut_degree}
+use Rattle.surf_opening.specs.Laws.{TellsCut, cut_count}
+use Rattle.surf_opening.specs.ChosenCut.{cut_degree, AreDivided, ListsCotree, full_cut, SameEdges, HasNoEnd, IsWithin, IsLargestEndless, IsTreeEdge, IsTreePath, IsNamedPath, AreTheTwo, IsTrimmedCut}
 use Rattle.surf_opening.specs.Named.{IsTrimmedByGreatest, IsCutPath, IsNamed}
 use Rattle.surf_opening.specs.Rim.{along, back}
 use Rattle.surf_opening.specs.Side.{Side}
-use Rattle.surf_opening.specs.Uncut.{IsSides, Uncut, CutEdge, IsLeafless, NoMoreThan}
-use Rattle.surf_opening.specs.ChosenCut.{AreDivided, ListsCotree, full_cut, SameEdges, HasNoEnd, IsWithin, IsLargestEndless, IsTreeEdge, IsTreePath, IsNamedPath, AreTheTwo, IsTrimmedCut}
+use Rattle.surf_opening.specs.Uncut.{Uncut, CutEdge, IsLeafless, NoMoreThan}
+use Rattle.surf_opening.proofs.SideWords.{IsSides}
 use Rattle.surf_opening.proofs.CutCounts.{full_told, leaf_counted, ended_counted, no_leaf_counted, spheres_are_cut_along_trees}
 use Rattle.surf_opening.proofs.CutLists.{outside, outside_told, told_edge, edge_told, trimmed_keeps, full_is}
 use Rattle.surf_opening.proofs.Cotrees.{ends_pair}

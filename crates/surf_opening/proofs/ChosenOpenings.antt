@@ -8,7 +8,8 @@ use Rattle.surf_surfaces.specs.Mesh.{Mesh}
 use Rattle.surf_surfaces.specs.Surface.{IsSurface}
 use Rattle.surf_opening.specs.Laws.{TellsCut, OpeningsInOrderExist}
 use Rattle.surf_opening.specs.Named.{IsTrimmedByGreatest, whole}
-use Rattle.surf_opening.specs.Opening.{corner_of, ShareUncutAt, IsOpenedBy, IsOpenedAlong}
+use Rattle.surf_opening.specs.Opening.{corner_of, ShareUncutAt, IsOpenedBy}
+use Rattle.surf_opening.proofs.SideWords.{IsOpenedAlong}
 use Rattle.surf_opening.specs.Side.{Side}
 use Rattle.surf_opening.specs.Uncut.{AreEdges}
 use Rattle.surf_opening.specs.ChosenCut.{AreDivided, ListsCotree, full_cut, SameEdges, IsChosenCut, IsChosenOpening}

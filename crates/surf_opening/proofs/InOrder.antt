@@ -8,11 +8,12 @@ use Rattle.surf_z2.specs.Parity.{any_below, least_below}
 use Rattle.surf_z2.proofs.ParityLaws.{any_below-found, any_below-from, least_below-found}
 use Rattle.surf_surfaces.specs.Mesh.{Mesh}
 use Rattle.surf_surfaces.specs.Surface.{face_count, face_at, IsSurface}
-use Rattle.surf_opening.specs.Laws.{AreInOrder}
+use Rattle.surf_opening.specs.ChosenCut.{AreInOrder}
 use Rattle.surf_opening.specs.Numbers.{Numbers}
-use Rattle.surf_opening.specs.Opening.{corner_of, IsOpenedAlong}
+use Rattle.surf_opening.specs.Opening.{corner_of}
+use Rattle.surf_opening.proofs.SideWords.{IsOpenedAlong, SameCorner}
 use Rattle.surf_opening.specs.Side.{Side, IsPlace}
-use Rattle.surf_opening.specs.Uncut.{IsDualTree, IsTrimmed, SameCorner}
+use Rattle.surf_opening.specs.Uncut.{IsDualTree, IsTrimmed}
 use Rattle.surf_opening.proofs.Count.{trimmed_count}
 use Rattle.surf_opening.proofs.Exists.{rows, origins, copy_is, origin_is, row_is, row_length, opened_table, table_length, pick}
 use Rattle.surf_opening.proofs.MeshSides.{is_darts, face_is}

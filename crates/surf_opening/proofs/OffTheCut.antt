@@ -32,7 +32,8 @@ use Rattle.surf_surfaces.proofs.SurfaceLaws.{two_faces_of}
 use Rattle.surf_opening.specs.ChosenCut.{AreDivided, full_cut, HasNoEnd, IsWithin, IsLargestEndless, IsTrimmedCut}
 use Rattle.surf_opening.specs.Laws.{TellsCut}
 use Rattle.surf_opening.specs.OffTheCut.{WalksOffTheCutAreNull}
-use Rattle.surf_opening.specs.Rim.{along, back, Reaches, here, turn, pass, IsOneRim}
+use Rattle.surf_opening.specs.Rim.{along, back}
+use Rattle.surf_opening.proofs.RimWords.{Reaches, IsOneRim, here, turn, pass}
 use Rattle.surf_opening.specs.Side.{Side}
 use Rattle.surf_opening.specs.Uncut.{Copy, CutSide}
 use Rattle.surf_opening.proofs.ChosenOpenings.{leaves}

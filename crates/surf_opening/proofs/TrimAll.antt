@@ -6,7 +6,8 @@ use Rattle.surf_z2.specs.Space.{Chain}
 use Rattle.surf_z2.proofs.Sums.{count_below-same, count_below-without}
 use Rattle.surf_surfaces.specs.Mesh.{Mesh}
 use Rattle.surf_surfaces.specs.Surface.{edge_count, IsSurface}
-use Rattle.surf_opening.specs.Laws.{TellsCut, cut_count, cut_degree, without}
+use Rattle.surf_opening.specs.Laws.{TellsCut, cut_count, without}
+use Rattle.surf_opening.specs.ChosenCut.{cut_degree}
 use Rattle.surf_opening.specs.Named.{IsTrimmedByGreatest}
 use Rattle.surf_opening.specs.Side.{Side}
 use Rattle.surf_opening.proofs.CutCounts.{leaf_counted, trimming_by_greatest_goes_on}

@@ -7,19 +7,39 @@
 -- `TrimmedCutsAreChosen` says that the cut is the chosen one (for the full cut `FullCutsAreChosen`).
 -- With copies that are opened along the list (`LabelsAreCopies`) and in order (`AreInOrder`),
 -- `OpenedAreChosen` makes the whole an `IsChosenOpening`.
-use Rattle.std.specs.Prelude.{◌≡◌, ◌≢◌, ℕ, ◌+◌, ◌<◌, Bool, IsTrue, IsFalse, MatchBool, ◌||◌, ◌↔◌, ◌⊎◌, List, ◌∷◌, All, AllPairs}
+use Rattle.std.specs.Prelude.{◌≡◌, ◌≢◌, ℕ, ◌+◌, ◌<◌, Bool, IsTrue, IsFalse, MatchBool, ◌||◌, ◌↔◌, ◌⊎◌, List, ◌∷◌, All, AllPairs, ◌&&◌, [], length, Contains, slice_index, slice_index_or}
 use Rattle.surf_z2.specs.Space.{Chain}
 use Rattle.surf_graphs.specs.Cells.{IsSplit}
 use Rattle.surf_graphs.specs.Trees.{Tree}
 use Rattle.surf_surfaces.specs.Cells.{cells_of}
-use Rattle.surf_surfaces.specs.Cotree.{tree_edges, is_left, split_of}
+use Rattle.surf_surfaces.specs.Cotree.{tree_edges, is_left, split_of, cotree_edges}
 use Rattle.surf_surfaces.specs.Mesh.{Mesh, pair, pair_of, steps}
-use Rattle.surf_surfaces.specs.Surface.{face_count, edge_count, ends}
+use Rattle.surf_surfaces.specs.Surface.{face_count, edge_count, ends, touches}
 use Rattle.surf_surfaces.specs.Walk.{last}
-use Rattle.surf_opening.specs.Laws.{cut_degree, AreInOrder, HasItsEdges}
 use Rattle.surf_opening.specs.Opening.{IsOpenedBy}
 use Rattle.surf_opening.specs.Side.{Side}
-use Rattle.surf_opening.specs.Uncut.{IsDualTree}
+use Rattle.surf_opening.specs.Uncut.{IsDualTree, Uncut}
+use Rattle.surf_z2.specs.Parity.{count_below}
+
+-- the pairs in the list are the edges of the tree of faces
+abbrev pub HasItsEdges : Mesh → Tree → List (ℕ × ℕ) → Type 0
+HasItsEdges mesh cotree tree =
+    (v w : ℕ) → Uncut tree v w
+    ↔ ((e : ℕ) × (e < edge_count mesh) × IsTrue (cotree_edges mesh cotree e) × (ends mesh e ≡ pair v w))
+
+-- how many cut edges are at a vertex
+abbrev pub cut_degree : Mesh → Chain → ℕ → ℕ
+cut_degree mesh cut v = count_below (edge_count mesh) (λ e. cut e && touches v (ends mesh e))
+
+-- copies are in order of their vertices, and those of one vertex in order of the least faces that have
+-- them: the first of two is in a face before all that have the second
+abbrev pub AreInOrder : Mesh → List ℕ → List (List ℕ) → Type 0
+AreInOrder mesh origins faces =
+    (c d : ℕ) → c < d → d < length origins →
+    (slice_index origins c < slice_index origins d)
+    ⊎ ((slice_index origins c ≡ slice_index origins d)
+    × ((f : ℕ) × (f < face_count mesh) × Contains (slice_index_or faces f []) c
+    × ((g : ℕ) → g < face_count mesh → Contains (slice_index_or faces g []) d → f < g)))
 
 -- the tree of the vertices, the tree of the faces and the left edges divide the edges
 abbrev pub AreDivided : Mesh → Tree → Tree → Type 0

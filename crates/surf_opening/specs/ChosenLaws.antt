@@ -7,12 +7,12 @@ use Rattle.surf_surfaces.specs.Disc.{IsOpening}
 use Rattle.surf_surfaces.specs.Mesh.{Mesh}
 use Rattle.surf_surfaces.specs.Surface.{face_count, edge_count, IsSurface}
 use Rattle.surf_surfaces.specs.Walk.{ArePositive}
-use Rattle.surf_opening.specs.Laws.{TellsCut, cut_count, cut_degree, AreInOrder}
+use Rattle.surf_opening.specs.Laws.{TellsCut, cut_count}
+use Rattle.surf_opening.specs.ChosenCut.{cut_degree, AreInOrder, AreDivided, ListsCotree, SameEdges, IsChosenCut, IsChosenOpening}
 use Rattle.surf_opening.specs.Named.{IsTrimmedByGreatest}
 use Rattle.surf_opening.specs.Opening.{IsOpenedBy}
 use Rattle.surf_opening.specs.Side.{Side}
 use Rattle.surf_opening.specs.Uncut.{Uncut}
-use Rattle.surf_opening.specs.ChosenCut.{AreDivided, ListsCotree, SameEdges, IsChosenCut, IsChosenOpening}
 
 -- the trees that are chosen at a base divide the edges, with the left edges
 abbrev pub ChosenTreesDivide : Type 0

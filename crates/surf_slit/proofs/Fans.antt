@@ -19,7 +19,7 @@ use Rattle.surf_mesh.proofs.HalfLaws.{face_of_side, spans}
 use Rattle.surf_mesh.proofs.RingLaws.{one_corner}
 use Rattle.surf_mesh.proofs.SideNumbers.{one_face}
 use Rattle.surf_mesh.proofs.VertexLaws.{corner_at_place}
-use Rattle.surf_slit.specs.Link.{Linked}
+use Rattle.surf_slit.proofs.Runs.{Linked}
 use Rattle.surf_slit.specs.Labels.{IsUncut, AgreeAt}
 
 -- the sides that begin at a vertex, one a face there, and the edges there, each between the faces of its place and of the next

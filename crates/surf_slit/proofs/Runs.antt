@@ -5,7 +5,12 @@ use Rattle.surf_z2.specs.Parity.{count_below}
 use Rattle.surf_surfaces.specs.Joined.{Joined, here, over}
 use Rattle.surf_surfaces.specs.Side.{after}
 use Rattle.surf_surfaces.proofs.JoinedLaws.{joined_trans, joined_sym}
-use Rattle.surf_slit.specs.Link.{Linked, run_of}
+use Rattle.surf_slit.specs.Link.{run_of}
+use Rattle.std.specs.Prelude.{◌⊎◌}
+
+-- Around n places: one is next to the other, and no cut is between them. The test says whether a cut is behind a place.
+abbrev pub Linked : ℕ → (ℕ → Bool) → ℕ → ℕ → Type 0
+Linked n cut i j = (k : ℕ) × (k < n) × (cut k ≡ false) × (((i ≡ k) × (j ≡ after n k)) ⊎ ((i ≡ after n k) × (j ≡ k)))
 
 passes : (p : ℕ → Bool) (n : ℕ) → p n ≡ true → count_below (suc n) p ≡ suc (count_below n p)
 passes p n e = let h : cond {A = ℕ} (p n) 1 0 ≡ 1 = cond-true {A = ℕ} (p n) 1 0 e in omega arith

@@ -15,9 +15,9 @@ use Rattle.surf_mesh.specs.Ring.{BeginsAt}
 use Rattle.surf_mesh.proofs.HalfLaws.{face_of_side}
 use Rattle.surf_mesh.proofs.VertexLaws.{corners_below, corners_len}
 use Rattle.surf_slit.specs.Labels.{corner_at, IsUncut, AgreeAt, AreNumbers, AreLabels}
-use Rattle.surf_slit.specs.Link.{Linked, run_of}
+use Rattle.surf_slit.specs.Link.{run_of}
+use Rattle.surf_slit.proofs.Runs.{Linked, run_below, run_used, runs_along, runs_join, closed_agree, split_agree, chain, chain_round}
 use Rattle.surf_slit.proofs.Fans.{IsFan, agree_placed, placed_agree}
-use Rattle.surf_slit.proofs.Runs.{run_below, run_used, runs_along, runs_join, closed_agree, split_agree, chain, chain_round}
 
 -- no more labels than sides
 pub labels_few : (mesh : Mesh) (labels : List ℕ) (count : ℕ) → ((l : ℕ) → l < count → (s : ℕ) × (s < side_count mesh) × (get_or labels s 0 ≡ l)) → count ≤ side_count mesh

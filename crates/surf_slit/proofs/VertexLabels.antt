@@ -15,12 +15,21 @@ use Rattle.surf_opening.proofs.Edges.{edge_of}
 use Rattle.surf_surfaces.specs.SideNumber.{side_count}
 use Rattle.surf_mesh.specs.Ring.{BeginsAt, IsRing, IsEdgeAt, AreEdgesAt, GoBetween}
 use Rattle.surf_mesh.proofs.RingLaws.{begins_corner, corner_begins}
-use Rattle.surf_slit.specs.Labels.{corner_at, IsUncut, AgreeAt, AreNumbers, AreLabels, IsLabelledAt, AreLabelledBelow}
+use Rattle.surf_slit.specs.Labels.{corner_at, IsUncut, AgreeAt, AreNumbers, AreLabels, IsLabelledAt}
 use Rattle.surf_slit.specs.Link.{run_of}
 use Rattle.surf_slit.specs.Place.{place, cut_behind, NoneCut, IsNextCut}
 use Rattle.surf_slit.proofs.Fans.{IsFan}
 use Rattle.surf_slit.proofs.Steps.{labels_few, corner_below, all_labels, each_vertex, agree_kept, agree_elsewhere, runs_agree, runs_between, runs_used, agree_closed, agree_split, old_same}
 use Rattle.surf_slit.proofs.Turned.{turned, place_last}
+use Rattle.std.specs.Prelude.{slice_index}
+
+-- the corners at the first n vertices have so many labels, and these agree (IsLabelledAt is of one vertex)
+pub record AreLabelledBelow (mesh : Mesh) (cut : List Bool) (labels : List ℕ) (n count : ℕ) : Type 0 where
+  pub size : length labels ≡ side_count mesh
+  pub below : (s : ℕ) → s < side_count mesh → corner_at mesh s < n → slice_index labels s < count
+  pub used : (l : ℕ) → l < count → (s : ℕ) × (s < side_count mesh) × (corner_at mesh s < n) × (slice_index labels s ≡ l)
+  pub one_vertex : (s t : ℕ) → s < side_count mesh → t < side_count mesh → corner_at mesh s < n → corner_at mesh t < n → slice_index labels s ≡ slice_index labels t → corner_at mesh s ≡ corner_at mesh t
+  pub agree : (v : ℕ) → v < n → AgreeAt mesh cut labels v
 
 pub ring_few : {mesh : Mesh} {v : ℕ} {ring : List ℕ} → IsRing mesh v ring → length ring ≤ side_count mesh
 ring_few {mesh} {v} {ring} is = pigeons (length ring) (side_count mesh) (λ k s. get_or ring k 0 ≡ s) (λ k h. (get_or ring k 0, (is.begin k h).0, refl)) (λ k l s a b e f. same k l a b (e ∙ sym f))

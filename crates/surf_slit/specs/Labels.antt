@@ -44,11 +44,3 @@ pub record IsLabelledAt (mesh : Mesh) (cut : List Bool) (labels : List ℕ) (v f
   pub upto : (s : ℕ) → BeginsAt mesh v s → slice_index labels s < first + count
   pub used : (l : ℕ) → l < count → (s : ℕ) × BeginsAt mesh v s × (slice_index labels s ≡ first + l)
   pub agree : AgreeAt mesh cut labels v
-
--- the same for the corners at the first vertices
-pub record AreLabelledBelow (mesh : Mesh) (cut : List Bool) (labels : List ℕ) (n count : ℕ) : Type 0 where
-  pub size : length labels ≡ side_count mesh
-  pub below : (s : ℕ) → s < side_count mesh → corner_at mesh s < n → slice_index labels s < count
-  pub used : (l : ℕ) → l < count → (s : ℕ) × (s < side_count mesh) × (corner_at mesh s < n) × (slice_index labels s ≡ l)
-  pub one_vertex : (s t : ℕ) → s < side_count mesh → t < side_count mesh → corner_at mesh s < n → corner_at mesh t < n → slice_index labels s ≡ slice_index labels t → corner_at mesh s ≡ corner_at mesh t
-  pub agree : (v : ℕ) → v < n → AgreeAt mesh cut labels v

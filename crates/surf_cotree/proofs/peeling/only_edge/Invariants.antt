@@ -1,7 +1,7 @@
 use Rattle.std.proofs.Common.{map}
 use Rattle.surf_net.specs.Rows.{link_at, side_link}
 use Rattle.surf_cotree.specs.Searches.{outside}
-use Rattle.surf_cotree.specs.Peeling.{IsOnlySoFar}
+use Rattle.surf_cotree.proofs.Leaves.{IsOnlySoFar}
 use Rattle.surf_cotree.proofs.peeling.only_edge.Given as goal
 
 abbrev pub invariant-loop-s : goal.invariant-loop-s

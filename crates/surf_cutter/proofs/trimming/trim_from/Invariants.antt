@@ -1,7 +1,8 @@
 use Rattle.std.proofs.Common.{◌≡◌, ◌≤◌, ◌<◌, length}
 use Rattle.surf_opening.specs.Laws.{cut_count}
 use Rattle.surf_surfaces.specs.Surface.{edge_count}
-use Rattle.surf_cutter.specs.Trimming.{is_cut, AreDegrees, IsTrimmedFrom, HasNoOtherLeaf}
+use Rattle.surf_cutter.specs.Trimming.{is_cut, AreDegrees, IsTrimmedFrom}
+use Rattle.surf_cutter.proofs.Trims.{HasNoOtherLeaf}
 use Rattle.surf_cutter.proofs.trimming.trim_from.Given as goal
 
 abbrev pub invariant-loop-left : goal.invariant-loop-left

@@ -1,4 +1,4 @@
-use Rattle.surf_slit.specs.Labels.{AreLabelledBelow}
+use Rattle.surf_slit.proofs.VertexLabels.{AreLabelledBelow}
 use Rattle.surf_slit.proofs.slit.label_all.Given as goal
 
 abbrev pub invariant-loop-v : goal.invariant-loop-v
