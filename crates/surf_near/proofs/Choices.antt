@@ -1,0 +1,173 @@
+-- The choice among the links of a vertex, link by link.
+use Rattle.std.proofs.Common.{ℕ, ◌<◌, ◌≤◌, ◌≡◌, ◌≢◌, ◌+◌, ◌⊎◌, min, refl, sym, ap, ◌∙◌, subst, arith, inl, inr, List, length, set, get_or-set_same, get_or-set_other}
+use Rattle.std.proofs.lemmas.Bool.{cases_eq, cases_lt}
+use Rattle.surf_graphs.specs.Graphs.{Graph}
+use Rattle.surf_net.specs.Rows.{link_at, IsRow}
+use Rattle.surf_tree.specs.Tables.{nobody}
+use Rattle.surf_tree.specs.Searches.{at, IsTight}
+use Rattle.surf_tree.proofs.Choosing.{chosen_tight}
+use Rattle.surf_near.specs.Near.{never}
+use Rattle.surf_near.specs.Searching.{IsChoice}
+
+-- the lesser of two numbers
+pub min_parts : (a b m : ℕ) → m ≡ min a b → (m ≤ a) × (m ≤ b) × ((m ≡ a) ⊎ (m ≡ b))
+min_parts a b m is = elim (cases_lt a b) [
+  | inl l ↦ let e : m ≡ a = omega arith in (omega arith, omega arith, inl e)
+  | inr ge ↦ let e : m ≡ b = omega arith in (omega arith, omega arith, inr e)
+]
+
+-- the choice among the first n links
+pub record IsChoiceSome (g : Graph) (len dist least : ℕ → ℕ) (v : ℕ) (links : List (ℕ × ℕ)) (n p e m : ℕ) : Type 0 where
+  pub parent : (i : ℕ) → i < n → dist (link_at links i).0 + len (link_at links i).1 ≡ dist v → p ≤ (link_at links i).0
+  pub tight : p ≢ nobody → (p < g.nodes) × IsTight g len dist v p e
+  pub own : m ≤ v
+  pub before : (i : ℕ) → i < n → dist (link_at links i).0 + len (link_at links i).1 ≡ dist v → m ≤ least (link_at links i).0
+  pub one : (m ≡ v) ⊎ ((u f : ℕ) × (u < g.nodes) × IsTight g len dist v u f × (m ≡ least u))
+
+module _ (g : Graph) (len dist least : ℕ → ℕ) (v : ℕ) (links : List (ℕ × ℕ)) (row : IsRow g v links) where
+  pub choice_none : (e : ℕ) → IsChoiceSome g len dist least v links 0 nobody e v
+  choice_none e = record {
+    parent = λ i l. absurd (omega arith);
+    tight = λ ne. absurd (ne refl);
+    own = omega arith;
+    before = λ i l. absurd (omega arith);
+    one = inl refl;
+  }
+
+  pub choice_all : (n p e m : ℕ) → length links ≤ n → IsChoiceSome g len dist least v links n p e m →
+      IsChoice g len dist least v p e m
+  choice_all n p e m all some = record {
+    parent = record {
+      least = λ w f tight. let (i, l, is) = there w f tight in subst (λ (x : ℕ × ℕ). p ≤ x.0) is (some.parent i (omega arith) (of_link w f tight i is));
+      tight = some.tight;
+    };
+    own = some.own;
+    before = λ w f tight. let (i, l, is) = there w f tight in subst (λ (x : ℕ × ℕ). m ≤ least x.0) is (some.before i (omega arith) (of_link w f tight i is));
+    one = some.one;
+  }
+    where
+      there : (w f : ℕ) → IsTight g len dist v w f → (i : ℕ) × (i < length links) × (link_at links i ≡ (w, f))
+      there w f tight = row.whole f w tight.edge_in tight.joined
+
+      of_link : (w f : ℕ) → IsTight g len dist v w f → (i : ℕ) → link_at links i ≡ (w, f) → dist (link_at links i).0 + len (link_at links i).1 ≡ dist v
+      of_link w f tight i is = subst (λ (x : ℕ × ℕ). dist x.0 + len x.1 ≡ dist v) (sym is) tight.is
+
+  module _ (n w f : ℕ) (l : n < length links) (is : link_at links n ≡ (w, f)) (p e m : ℕ) (some : IsChoiceSome g len dist least v links n p e m) where
+    pub choice_skip : dist w + len f ≢ dist v → IsChoiceSome g len dist least v links (n + 1) p e m
+    choice_skip loose = record {
+      parent = λ i li tight. elim (cases_eq i n) [
+        | inl same ↦ absurd (loose (now i same tight))
+        | inr ne ↦ some.parent i (omega arith) tight
+      ];
+      tight = some.tight;
+      own = some.own;
+      before = λ i li tight. elim (cases_eq i n) [
+        | inl same ↦ absurd (loose (now i same tight))
+        | inr ne ↦ some.before i (omega arith) tight
+      ];
+      one = some.one;
+    }
+      where
+        now : (i : ℕ) → i ≡ n → dist (link_at links i).0 + len (link_at links i).1 ≡ dist v → dist w + len f ≡ dist v
+        now i same tight = subst (λ (x : ℕ × ℕ). dist x.0 + len x.1 ≡ dist v) (ap (link_at links) same ∙ is) tight
+
+    -- a tight neighbour is taken into account
+    pub choice_take : (p2 e2 m2 : ℕ) → dist w + len f ≡ dist v → p2 ≤ p → p2 ≤ w →
+        (((p2 ≡ p) × (e2 ≡ e)) ⊎ ((p2 ≡ w) × (e2 ≡ f))) → m2 ≤ m → m2 ≤ least w → ((m2 ≡ m) ⊎ (m2 ≡ least w)) →
+        IsChoiceSome g len dist least v links (n + 1) p2 e2 m2
+    choice_take p2 e2 m2 is_tight p_old p_new p_is m_old m_new m_is = record {
+      parent = λ i li tight. elim (cases_eq i n) [
+        | inl same ↦ subst (λ (x : ℕ × ℕ). p2 ≤ x.0) (sym (ap (link_at links) same ∙ is)) p_new
+        | inr ne ↦ let was : p ≤ (link_at links i).0 = some.parent i (omega arith) tight in omega (arith, was, p_old)
+      ];
+      tight = λ ne. elim p_is [
+        | inl (same, same_e) ↦ rw (same, same_e) (some.tight (λ none. ne (same ∙ none)))
+        | inr (same, same_e) ↦ rw (same, same_e) (chosen_tight g len dist v links row n w f l is is_tight)
+      ];
+      own = let was : m ≤ v = some.own in omega (arith, was, m_old);
+      before = λ i li tight. elim (cases_eq i n) [
+        | inl same ↦ subst (λ (x : ℕ × ℕ). m2 ≤ least x.0) (sym (ap (link_at links) same ∙ is)) m_new
+        | inr ne ↦ let was : m ≤ least (link_at links i).0 = some.before i (omega arith) tight in omega (arith, was, m_old)
+      ];
+      one = elim m_is [
+        | inl same ↦ rw same some.one
+        | inr same ↦ let t = chosen_tight g len dist v links row n w f l is is_tight in inr (w, f, t.0, t.1, same)
+      ];
+    }
+
+-- What was chosen stays chosen when another node, which was not settled, gets a distance that is no less, and its own entries
+module _ (g : Graph) (len : ℕ → ℕ) (positive : (e : ℕ) → e < g.edges → 1 ≤ len e) (dist least : List ℕ) (v d m : ℕ)
+    (l : v < length dist) (lm : v < length least) (free : at dist v ≡ never) where
+  -- tight neighbours stay so, and are others
+  tight_before : (u p e : ℕ) → at dist u ≤ d → u ≢ v → IsTight g len (at (set dist v d)) u p e → (p ≢ v) × IsTight g len (at dist) u p e
+  tight_before u p e le ne tight = elim (cases_eq p v) [
+    | inl same ↦
+        let is : at (set dist v d) p + len e ≡ at (set dist v d) u = tight.is in
+        let here : at (set dist v d) p ≡ d = ap (at (set dist v d)) same ∙ get_or-set_same dist v d 0 l in
+        let there : at (set dist v d) u ≡ at dist u = get_or-set_other dist v u d 0 ne in
+        let some : 1 ≤ len e = positive e tight.edge_in in
+        absurd (omega arith)
+    | inr other ↦ (
+      other,
+      record {
+        edge_in = tight.edge_in;
+        joined = tight.joined;
+        is = ap (λ x. x + len e) (sym (get_or-set_other dist v p d 0 other)) ∙ tight.is ∙ get_or-set_other dist v u d 0 ne;
+      },
+    )
+  ]
+
+  tight_after : (u p e : ℕ) → at dist u < never → u ≢ v → IsTight g len (at dist) u p e → (p ≢ v) × IsTight g len (at (set dist v d)) u p e
+  tight_after u p e near ne tight = elim (cases_eq p v) [
+    | inl same ↦
+        let is : at dist p + len e ≡ at dist u = tight.is in
+        let here : at dist p ≡ never = ap (at dist) same ∙ free in
+        absurd (omega arith)
+    | inr other ↦ (
+      other,
+      record {
+        edge_in = tight.edge_in;
+        joined = tight.joined;
+        is = ap (λ x. x + len e) (get_or-set_other dist v p d 0 other) ∙ tight.is ∙ sym (get_or-set_other dist v u d 0 ne);
+      },
+    )
+  ]
+
+  pub choice_stays : (u p e x : ℕ) → at dist u ≤ d → at dist u < never → u ≢ v → IsChoice g len (at dist) (at least) u p e x →
+      IsChoice g len (at (set dist v d)) (at (set least v m)) u p e x
+  choice_stays u p e x le near ne choice = record {
+    parent = record {
+      least = λ w f tight. choice.parent.least w f (tight_before u w f le ne tight).1;
+      tight = λ some. let old = choice.parent.tight some in (old.0, (tight_after u p e near ne old.1).1);
+    };
+    own = choice.own;
+    before = λ w f tight.
+        let old = tight_before u w f le ne tight in
+        subst (λ y. x ≤ y) (sym (get_or-set_other least v w m 0 old.0)) (choice.before w f old.1);
+    one = elim choice.one [
+      | inl same ↦ inl same
+      | inr (w, f, w_in, tight, is) ↦
+          let new = tight_after u w f near ne tight in
+          inr (w, f, w_in, new.1, is ∙ sym (get_or-set_other least v w m 0 new.0))
+    ];
+  }
+
+-- Of the node itself, once its entries are written
+pub choice_written : (g : Graph) (len : ℕ → ℕ) → ((e : ℕ) → e < g.edges → 1 ≤ len e) → (dist least : List ℕ) (v p e m : ℕ) →
+    v < length least → IsChoice g len (at dist) (at least) v p e m → IsChoice g len (at dist) (at (set least v m)) v p e m
+choice_written g len positive dist least v p e m l choice = record {
+  parent = choice.parent;
+  own = choice.own;
+  before = λ w f tight. subst (λ y. m ≤ y) (sym (get_or-set_other least v w m 0 (apart w f tight))) (choice.before w f tight);
+  one = elim choice.one [
+    | inl same ↦ inl same
+    | inr (w, f, w_in, tight, is) ↦ inr (w, f, w_in, tight, is ∙ sym (get_or-set_other least v w m 0 (apart w f tight)))
+  ];
+}
+  where
+    apart : (w f : ℕ) → IsTight g len (at dist) v w f → w ≢ v
+    apart w f tight same =
+        let is : at dist w + len f ≡ at dist v = tight.is in
+        let here : at dist w ≡ at dist v = ap (at dist) same in
+        let some : 1 ≤ len f = positive f tight.edge_in in
+        absurd (omega arith)

@@ -1,0 +1,56 @@
+use Rattle.std.proofs.Common.{◌≡◌, ◌<◌, ◌∙◌, ◌∷◌, ◌++◌, [], List, length, length-append, ap, subst, arith, inl, inr}
+use Rattle.std.specs.List.{sum_by}
+use Rattle.std.proofs.lemmas.Bool.{cases_eq}
+use Rattle.std.proofs.lemmas.List.{get_or_push, get_or_append_left}
+use Rattle.std.proofs.lemmas.List.Sums.{sum_by_push}
+use Rattle.surf_net.proofs.RowLaws.{cells_few}
+use Rattle.surf_near.specs.declared.links.Link.{Link}
+use Rattle.surf_near.specs.Links.{AreLinksAt, links_at_most}
+use Rattle.surf_near.proofs.RowCounts.{rows_before, rows_next}
+use Rattle.surf_near.proofs.links.Links.make.Goals as goal
+
+pub push-requires : goal.push-requires
+push-requires c =
+    let mesh = c.args.mesh.now in
+    let surface = c.vertices-v-end.ensures.surface in
+    let few = cells_few mesh surface c.vertices-v-end.ensures.few in
+    let all = rows_before mesh c.loop-v.v mesh.vertices (omega (arith, c.loop-v-test.true, c.vertices-v-end.ensures.count)) in
+    let total = c.loop-v.invariant.total in
+    let row : length c.deref.result.now ≡ links_at_most mesh c.loop-v.v = ap length c.deref.ensures.value ∙ c.in_ok-row.ensures.few ∙ ap (links_at_most mesh) c.new.ensures in
+    omega (arith, all, total, row, few.1)
+
+pub loop-v-preserved : goal.loop-v-preserved
+loop-v-preserved c =
+    let mesh = c.args.mesh.now in
+    let inv = c.loop-v.invariant in
+    let row = c.in_ok-row.row.items in
+    let pushed : c.push.new.self ≡ c.loop-v.rows ++ row ∷ [] = c.in_ok-push.ensures.ok ∙ ap (λ (xs : List Link). c.loop-v.rows ++ xs ∷ []) c.deref.ensures.value in
+    let size : length row ≡ links_at_most mesh c.loop-v.v = c.in_ok-row.ensures.few ∙ ap (links_at_most mesh) c.new.ensures in
+    let more = sum_by_push {X = List Link} length c.loop-v.rows row in
+    let here : AreLinksAt mesh c.args.lengths.now c.loop-v.v row = subst (λ v. AreLinksAt mesh c.args.lengths.now v row) c.new.ensures c.in_ok-row.ensures.links in
+    record {
+      count = omega (arith, ap length pushed, length-append c.loop-v.rows (row ∷ []), inv.count);
+      total = omega (arith, ap (sum_by length) pushed, more, size, inv.total, rows_next mesh c.loop-v.v);
+      at = λ u l. elim (cases_eq u c.loop-v.v) [
+        | inl same ↦ rw (pushed, same, get_or_push c.loop-v.rows row [] c.loop-v.v inv.count) here
+        | inr ne ↦
+            let lu : u < c.loop-v.v = omega arith in
+            rw (pushed, get_or_append_left c.loop-v.rows (row ∷ []) [] u (omega (arith, inv.count))) (inv.at u lu)
+      ];
+    }
+
+pub invariant_of-result : goal.invariant_of-result
+invariant_of-result c =
+    let mesh = c.args.mesh.now in
+    let inv = c.loop-v.invariant in
+    let end : c.loop-v.v ≡ mesh.vertices = omega (arith, c.loop-v-test.false, c.vertices-v-end.ensures.count) in (
+      record {
+        surface = c.vertices-v-end.ensures.surface;
+        few = c.vertices-v-end.ensures.few;
+        are_lengths = c.even_length-even.ensures.lengths;
+        as_many = c.requires.lengths;
+        count = inv.count ∙ end;
+        at = λ v l. inv.at v (omega (arith, end));
+      },
+      c.even_length-even.ensures.even,
+    )

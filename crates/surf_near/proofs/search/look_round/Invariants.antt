@@ -1,0 +1,14 @@
+use Rattle.std.proofs.Common.{◌≡◌, length, map}
+use Rattle.surf_tree.specs.Searches.{at}
+use Rattle.surf_near.specs.Links.{graph_of, weight_of, ends_of}
+use Rattle.surf_near.proofs.Choices.{IsChoiceSome}
+use Rattle.surf_near.proofs.Offers.{OffersSome}
+use Rattle.surf_near.proofs.search.look_round.Given as goal
+
+abbrev pub invariant-loop-link : goal.invariant-loop-link
+invariant-loop-link l = record {
+  places : length l.heap ≡ l.links.mesh.vertices;
+  choice : IsChoiceSome (graph_of l.links) (weight_of l.links) (at l.distance) (at l.least) l.fn.v (map ends_of l.link-items) l.link-index
+      l.best.parent l.best.up l.best.least;
+  offers : OffersSome (graph_of l.links) (weight_of l.links) (at l.distance) l.fn.v l.d l.radius (map ends_of l.link-items) l.fn.heap l.heap l.link-index;
+}

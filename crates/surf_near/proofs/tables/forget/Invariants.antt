@@ -1,0 +1,11 @@
+use Rattle.std.proofs.Common.{◌≡◌, ◌≢◌, ◌<◌, ◌≤◌, ℕ, length}
+use Rattle.surf_tree.specs.Searches.{at}
+use Rattle.surf_near.specs.Near.{never}
+use Rattle.surf_near.proofs.tables.forget.Given as goal
+
+abbrev pub invariant-loop-v : goal.invariant-loop-v
+invariant-loop-v l = record {
+  same_length : length l.distance ≡ length l.initial.distance;
+  listed : (v : ℕ) → v < length l.distance → at l.distance v ≢ never →
+      (i : ℕ) × (l.v-index ≤ i) × (i < length l.order) × (at l.order i ≡ v);
+}

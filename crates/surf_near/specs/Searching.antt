@@ -1,0 +1,96 @@
+-- The states of a search that goes no farther than a radius, over any graph.
+use Rattle.std.specs.Prelude.{ℕ, ◌≡◌, ◌≢◌, ◌<◌, ◌≤◌, ◌+◌, ◌*◌, ◌⊎◌, ◌==◌, true, length, Some}
+use Rattle.surf_z2.specs.Parity.{count_below}
+use Rattle.surf_graphs.specs.Graphs.{Graph, joins}
+use Rattle.surf_heap.specs.Entries.{Entries, entry_of}
+use Rattle.surf_lengths.specs.Lengths.{longest}
+use Rattle.surf_tree.specs.Searches.{at, IsReached, IsOffered, IsSearch, IsTight, IsLeastTight}
+use Rattle.surf_near.specs.Near.{never}
+use Rattle.surf_near.specs.declared.tables.Tables.{Tables}
+
+-- the distances of settled nodes leave room for one more edge
+abbrev pub IsShort : ℕ → (ℕ → ℕ) → Type 0
+IsShort nodes dist = (u : ℕ) → u < nodes → dist u ≢ never → dist u + longest < never
+
+-- p is the least tight neighbour of v, e the edge to it, and m the least of v and of what its tight neighbours have
+pub record IsChoice (g : Graph) (len dist least : ℕ → ℕ) (v p e m : ℕ) : Type 0 where
+  pub parent : IsLeastTight g len dist v p e
+  pub own : m ≤ v
+  pub before : (u f : ℕ) → IsTight g len dist v u f → m ≤ least u
+  pub one : (m ≡ v) ⊎ ((u f : ℕ) × (u < g.nodes) × IsTight g len dist v u f × (m ≡ least u))
+
+-- a heap has what a wider one has, as far as a radius
+pub record IsTrimmed (radius : ℕ) (wide heap : Entries) : Type 0 where
+  pub same_length : length heap ≡ length wide
+  pub here : (w k t : ℕ) → entry_of heap w ≡ Some (k, t) → (entry_of wide w ≡ Some (k, t)) × (k ≤ radius)
+  pub there : (w k t : ℕ) → entry_of wide w ≡ Some (k, t) → k ≤ radius → entry_of heap w ≡ Some (k, t)
+
+-- the unsettled neighbours of v, at distance d, have been offered to a heap, as far as a radius
+abbrev pub OffersNear : Graph → (ℕ → ℕ) → (ℕ → ℕ) → ℕ → ℕ → ℕ → Entries → Entries → Type 0
+OffersNear g len dist v d radius old new = (wide : Entries) → IsTrimmed radius wide old →
+    (wider : Entries) × IsOffered g len dist v d wide wider × IsTrimmed radius wider new
+
+-- the settled nodes stand in a list in order of distance
+pub record IsListed (nodes : ℕ) (dist order : ℕ → ℕ) (count : ℕ) : Type 0 where
+  pub inside : (i : ℕ) → i < count → order i < nodes
+  pub settled : (i : ℕ) → i < count → dist (order i) ≢ never
+  pub all : (v : ℕ) → v < nodes → dist v ≢ never → (i : ℕ) × (i < count) × (order i ≡ v)
+  pub rise : (i j : ℕ) → i < j → j < count → dist (order i) ≤ dist (order j)
+
+-- each settled node has its distance from the base, and no other node is within the radius
+pub record IsReachedNear (g : Graph) (len : ℕ → ℕ) (base radius : ℕ) (dist : ℕ → ℕ) : Type 0 where
+  pub at_base : dist base ≡ 0
+  pub within : (u : ℕ) → u < g.nodes → dist u ≢ never → dist u ≤ radius
+  pub fits : (u : ℕ) → u < g.nodes → dist u ≢ never → dist u + longest ≤ g.nodes * longest
+  pub near : (u w e : ℕ) → u < g.nodes → w < g.nodes → e < g.edges → joins g u w e ≡ true → dist u ≢ never →
+      dist u + len e ≤ radius → (dist w ≢ never) × (dist w ≤ dist u + len e)
+  pub tight : (w : ℕ) → w < g.nodes → w ≢ base → dist w ≢ never → IsReached g len dist w (dist w)
+
+-- what the tables have of a node has been chosen
+abbrev pub IsChosenAt : Graph → (ℕ → ℕ) → Tables → ℕ → Type 0
+IsChosenAt g len t v =
+    IsChoice g len (at t.distance.items) (at t.least.items) v (at t.parent.items v) (at t.up.items v) (at t.least.items v)
+
+-- there is room for each node
+pub record HasRoom (nodes : ℕ) (t : Tables) : Type 0 where
+  pub order : length t.order.items ≡ nodes
+  pub distance : length t.distance.items ≡ nodes
+  pub parent : length t.parent.items ≡ nodes
+  pub up : length t.up.items ≡ nodes
+  pub least : length t.least.items ≡ nodes
+
+-- nothing is settled
+pub record IsBlank (nodes : ℕ) (t : Tables) : Type 0 where
+  pub room : HasRoom nodes t
+  pub count : t.count ≡ 0
+  pub none : (v : ℕ) → v < nodes → at t.distance.items v ≡ never
+
+-- what is within the radius is settled, listed and chosen
+pub record IsFound (g : Graph) (len : ℕ → ℕ) (base radius : ℕ) (t : Tables) : Type 0 where
+  pub room : HasRoom g.nodes t
+  pub count_in : t.count ≤ g.nodes
+  pub reached : IsReachedNear g len base radius (at t.distance.items)
+  pub listed : IsListed g.nodes (at t.distance.items) (at t.order.items) t.count
+  pub chosen : (v : ℕ) → v < g.nodes → at t.distance.items v ≢ never → IsChosenAt g len t v
+
+-- the state of a search: a wider search, whose heap is trimmed
+pub record IsSearchNear (g : Graph) (len : ℕ → ℕ) (base radius : ℕ) (t : Tables) (heap : Entries) : Type 0 where
+  pub room : HasRoom g.nodes t
+  pub wide : Entries
+  pub last : ℕ
+  pub search : IsSearch g len base (at t.distance.items) wide last
+      (count_below g.nodes (λ u. at t.distance.items u == never))
+  pub trimmed : IsTrimmed radius wide heap
+  pub within : (u : ℕ) → u < g.nodes → at t.distance.items u ≢ never → at t.distance.items u ≤ radius
+  pub listed : IsListed g.nodes (at t.distance.items) (at t.order.items) t.count
+  pub counted : t.count + count_below g.nodes (λ u. at t.distance.items u == never) ≡ g.nodes
+  pub chosen : (v : ℕ) → v < g.nodes → at t.distance.items v ≢ never → IsChosenAt g len t v
+
+-- the tables of a desk between two searches
+pub record IsKept (heap : Entries) (t : Tables) : Type 0 where
+  pub places : length heap ≡ length t.distance.items
+  pub order : length t.order.items ≡ length t.distance.items
+  pub count_in : t.count ≤ length t.order.items
+  pub inside : (i : ℕ) → i < t.count → at t.order.items i < length t.distance.items
+  pub listed : (v : ℕ) → v < length t.distance.items → at t.distance.items v ≢ never →
+      (i : ℕ) × (i < t.count) × (at t.order.items i ≡ v)

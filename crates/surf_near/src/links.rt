@@ -1,0 +1,128 @@
+//! The links of each vertex, side by side.
+ghost use Rattle.std.specs.Prelude.{◌≡◌, ◌<◌, ◌≤◌, ◌+◌, length, IfOk, MatchOption};
+ghost use Rattle.surf_surfaces.specs.Mesh.{IsMesh};
+ghost use Rattle.surf_surfaces.specs.Surface.{edge_count};
+ghost use Rattle.surf_lengths.specs.Lengths.{AreLengths};
+ghost use Rattle.surf_near.specs.Links.{AreLinks, AreLinksAt, links_at_most, AreEven, AreUneven};
+
+use std::alloc::Global;
+use std::marker::Model;
+use surf_base::{EdgeId, NoMemory, VertexId};
+use surf_lengths::Lengths;
+use surf_mesh::HalfMesh;
+use surf_net::other_end;
+use surf_rows::Rows;
+
+/// A neighbour of a vertex, and the length and the number of the edge to it.
+#[derive(Clone, Copy)]
+pub struct Link {
+    pub to: VertexId,
+    pub length: u32,
+    pub edge: EdgeId,
+}
+
+/// The links of each vertex of a mesh, whose edges have lengths.
+#[derive(Drop)]
+pub struct Links<'m> {
+    mesh: &'m HalfMesh,
+    lengths: &'m Lengths,
+    rows: Rows<Link>,
+    even: Option<u32>,
+}
+
+impl<'m> Model for Links<'m> {
+    ghost use Rattle.surf_near.specs.Links.{LinkTables, AreLinks};
+
+    ghost Value = { LinkTables };
+
+    ghost view = { λ l. record { mesh = l.mesh.now; lengths = l.lengths.now; rows = l.rows } };
+
+    ghost use Rattle.std.specs.Prelude.{MatchOption};
+    ghost use Rattle.surf_near.specs.Links.{AreEven, AreUneven};
+
+    ghost invariant = { λ l. AreLinks l.mesh.now l.lengths.now l.rows × MatchOption l.even (AreUneven l.lengths.now) (AreEven l.lengths.now) };
+}
+
+// The length that all edges have, where they have one.
+fn even_length(lengths: &Lengths) -> Option<u32>
+    ensures lengths { AreLengths lengths.now }
+    ensures even { MatchOption result (AreUneven lengths.now) (AreEven lengths.now) }
+{
+    if lengths.count() == 0 {
+        return None;
+    }
+    let first = lengths.of(EdgeId::new(0));
+    for e in 1..lengths.count() {
+        if lengths.of(EdgeId::new(e)) != first {
+            return None;
+        }
+    }
+    Some(first)
+}
+
+// The links of one vertex.
+fn links_of(
+    alloc: Global,
+    mesh: &HalfMesh,
+    lengths: &Lengths,
+    v: VertexId,
+) -> Result<Vec<Link>, NoMemory>
+    requires mesh { IsMesh mesh.now }
+    requires vertex { v < mesh.now.vertices }
+    requires lengths { length lengths.now ≡ edge_count mesh.now }
+    ensures links { IfOk result (λ row. AreLinksAt mesh.now lengths.now v row.items) }
+    ensures few { IfOk result (λ row. length row.items ≡ links_at_most mesh.now v) }
+{
+    let edges = mesh.ring_edges(v);
+    let mut row = Vec::with_capacity(alloc, edges.len())?;
+    for e in edges {
+        row.push(Link {
+            to: other_end(mesh, v, *e),
+            length: lengths.of(*e),
+            edge: *e,
+        })?;
+    }
+    Ok(row)
+}
+
+impl<'m> Links<'m> {
+    /// The links of a mesh with its lengths.
+    pub fn make(
+        alloc: Global,
+        mesh: &'m HalfMesh,
+        lengths: &'m Lengths,
+    ) -> Result<Links<'m>, NoMemory>
+        requires lengths { length lengths.now ≡ edge_count mesh.now }
+        ensures mesh { IfOk result (λ links. links.mesh ≡ mesh.now) }
+        ensures lengths { IfOk result (λ links. links.lengths ≡ lengths.now) }
+    {
+        let mut rows = Rows::new(alloc);
+        for v in 0..mesh.vertices() {
+            let row = links_of(alloc, mesh, lengths, VertexId::new(v))?;
+            rows.push(&row)?;
+        }
+        let even = even_length(lengths);
+        Ok(Links {
+            mesh,
+            lengths,
+            rows,
+            even,
+        })
+    }
+
+    /// The length that all edges have, where they have one. A mesh without edges has none.
+    pub fn even(&self) -> Option<u32>
+        ensures links { AreLinks self.now.mesh self.now.lengths self.now.rows }
+        ensures even { MatchOption result (AreUneven self.now.lengths) (AreEven self.now.lengths) }
+    {
+        self.even
+    }
+
+    /// The links of a vertex.
+    pub fn at(&self, v: VertexId) -> &[Link]
+        requires vertex { v < self.now.mesh.vertices }
+        ensures row { AreLinksAt self.now.mesh self.now.lengths v result.now }
+    {
+        self.rows.row(v.index())
+    }
+}
