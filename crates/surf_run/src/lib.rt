@@ -41,7 +41,7 @@ pub use laws::{law_of_named_files, law_of_two_runs};
 pub use lengths_command::Decimals;
 pub use refusal::Refused;
 pub use shape::Shape;
-pub use top::run;
+pub use top::{MEMORY, USAGE, run, say};
 pub use walks::WalkFile;
 pub use weighted::Task;
 pub use words::{Command, parse};

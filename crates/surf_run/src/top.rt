@@ -14,10 +14,14 @@ use crate::words::parse;
 use std::alloc::Global;
 use surf_base::{Shelf, Sink, put_all};
 
-const USAGE: &str = "usage: the words are in no row of the command table\n";
+/// The line for words that are in no row of the table of commands.
+pub const USAGE: &str = "usage: the words are in no row of the command table\n";
 
-// Says a line, whatever the sink answers.
-fn say<D: Sink>(diag: &mut D, line: &str)
+/// The line for want of memory.
+pub const MEMORY: &str = "memory\n";
+
+/// Says a line, whatever the sink answers.
+pub fn say<D: Sink>(diag: &mut D, line: &str)
     ensures { PutsLine (D.written diag.old) (D.written diag.new) (D.faults diag.old) (D.faults diag.new) line.now }
 {
     let _ = put_all(diag, line.as_bytes());
@@ -33,7 +37,7 @@ fn refuse<D: Sink>(alloc: Global, refused: &Refused, diag: &mut D) -> u8
             refused.status()
         }
         Err(_) => {
-            say(diag, "memory\n");
+            say(diag, MEMORY);
             11
         }
     }
