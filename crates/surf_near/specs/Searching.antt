@@ -94,3 +94,32 @@ pub record IsKept (heap : Entries) (t : Tables) : Type 0 where
   pub inside : (i : ℕ) → i < t.count → at t.order.items i < length t.distance.items
   pub listed : (v : ℕ) → v < length t.distance.items → at t.distance.items v ≢ never →
       (i : ℕ) × (i < t.count) × (at t.order.items i ≡ v)
+
+-- The state of a search where all edges have one length: the list of settled nodes is a queue. The nodes before a place
+-- have passed on; no node of the list is farther than those behind the place by more than the length.
+pub record IsQueue (g : Graph) (len : ℕ → ℕ) (size radius : ℕ) (t : Tables) (place : ℕ) : Type 0 where
+  pub room : HasRoom g.nodes t
+  pub place_in : place ≤ t.count
+  pub some : 0 < t.count
+  pub at_first : at t.distance.items (at t.order.items 0) ≡ 0
+  pub listed : IsListed g.nodes (at t.distance.items) (at t.order.items) t.count
+  pub counted : t.count + count_below g.nodes (λ u. at t.distance.items u == never) ≡ g.nodes
+  pub span : (i j : ℕ) → i < t.count → place ≤ j → j < t.count →
+      at t.distance.items (at t.order.items i) ≤ at t.distance.items (at t.order.items j) + size
+  pub steps : (i : ℕ) → i < t.count → at t.distance.items (at t.order.items i) ≤ i * longest
+  pub within : (i : ℕ) → i < t.count → at t.distance.items (at t.order.items i) ≤ radius
+  pub tight : (i : ℕ) → 0 < i → i < t.count →
+      IsReached g len (at t.distance.items) (at t.order.items i) (at t.distance.items (at t.order.items i))
+  pub near : (i w e : ℕ) → i < place → w < g.nodes → e < g.edges → joins g (at t.order.items i) w e ≡ true →
+      at t.distance.items (at t.order.items i) + size ≤ radius →
+      (at t.distance.items w ≢ never) × (at t.distance.items w ≤ at t.distance.items (at t.order.items i) + size)
+  pub chosen : (i : ℕ) → i < place → IsChosenAt g len t (at t.order.items i)
+
+-- the node at the place has passed on, and its choice is made but not kept
+pub record IsLooked (g : Graph) (len : ℕ → ℕ) (size radius : ℕ) (t : Tables) (place p e m : ℕ) : Type 0 where
+  pub queue : IsQueue g len size radius t place
+  pub here : place < t.count
+  pub choice : IsChoice g len (at t.distance.items) (at t.least.items) (at t.order.items place) p e m
+  pub near : (w e : ℕ) → w < g.nodes → e < g.edges → joins g (at t.order.items place) w e ≡ true →
+      at t.distance.items (at t.order.items place) + size ≤ radius →
+      (at t.distance.items w ≢ never) × (at t.distance.items w ≤ at t.distance.items (at t.order.items place) + size)
