@@ -6,14 +6,28 @@ use Rattle.surf_z2.specs.Parity.{count_below}
 use Rattle.surf_graphs.specs.Graphs.{Graph}
 use Rattle.surf_heap.specs.Entries.{Entries, entry_of, IsLeastEntry, IsEmpty}
 use Rattle.surf_lengths.specs.Lengths.{longest}
-use Rattle.surf_tree.specs.Searches.{at, HasKey, IsSearch, IsOffered}
+use Rattle.surf_tree.specs.Searches.{at, HasKey, IsOffered}
+use Rattle.surf_tree.proofs.SearchWords.{IsSearch}
 use Rattle.surf_tree.proofs.Settling.{no_entry, same_key, search_begins}
 use Rattle.surf_tree.proofs.Offering.{one_less, all_free, turn_inside, turn_smaller, turn_keeps}
 use Rattle.surf_near.specs.declared.tables.Tables.{Tables}
 use Rattle.surf_near.specs.Near.{never}
-use Rattle.surf_near.specs.Searching.{IsChoice, IsTrimmed, OffersNear, IsListed, IsBlank, IsFound, IsSearchNear}
+use Rattle.surf_near.specs.Searching.{IsChoice, IsTrimmed, OffersNear, IsListed, IsChosenAt, HasRoom, IsBlank, IsFound}
 use Rattle.surf_near.proofs.Trimming.{trim_all, trim_taken, trim_least}
 use Rattle.surf_near.proofs.Choices.{choice_stays, chosen_kept}
+
+-- the state of a search: a wider search, whose heap is trimmed
+pub record IsSearchNear (g : Graph) (len : ℕ → ℕ) (base radius : ℕ) (t : Tables) (heap : Entries) : Type 0 where
+  pub room : HasRoom g.nodes t
+  pub wide : Entries
+  pub last : ℕ
+  pub search : IsSearch g len base (at t.distance.items) wide last
+      (count_below g.nodes (λ u. eqb (at t.distance.items u) never))
+  pub trimmed : IsTrimmed radius wide heap
+  pub within : (u : ℕ) → u < g.nodes → at t.distance.items u ≢ never → at t.distance.items u ≤ radius
+  pub listed : IsListed g.nodes (at t.distance.items) (at t.order.items) t.count
+  pub counted : t.count + count_below g.nodes (λ u. eqb (at t.distance.items u) never) ≡ g.nodes
+  pub chosen : (v : ℕ) → v < g.nodes → at t.distance.items v ≢ never → IsChosenAt g len t v
 
 -- a list of settled nodes with one more, which is no nearer
 pub list_more : (nodes : ℕ) (dist order : List ℕ) (count v k : ℕ) → IsListed nodes (at dist) (at order) count →

@@ -43,8 +43,8 @@ abbrev pub link_over : Mesh → List ℕ → ℕ → ℕ → Link
 link_over mesh lengths v e = record { to = other_of (ends mesh e) v; length = edge_length lengths e; edge = e }
 
 -- how many edges there are at a vertex
-abbrev pub links_at_most : Mesh → ℕ → ℕ
-links_at_most mesh v = count_below (edge_count mesh) (λ e. touches v (ends mesh e))
+abbrev pub degree : Mesh → ℕ → ℕ
+degree mesh v = count_below (edge_count mesh) (λ e. touches v (ends mesh e))
 
 -- a row of links for each vertex of a surface whose edges have lengths
 pub record AreLinks (mesh : Mesh) (lengths : List ℕ) (rows : List (List Link)) : Type 0 where

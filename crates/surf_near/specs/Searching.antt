@@ -4,7 +4,7 @@ use Rattle.surf_z2.specs.Parity.{count_below}
 use Rattle.surf_graphs.specs.Graphs.{Graph, joins}
 use Rattle.surf_heap.specs.Entries.{Entries, entry_of}
 use Rattle.surf_lengths.specs.Lengths.{longest}
-use Rattle.surf_tree.specs.Searches.{at, IsReached, IsOffered, IsSearch, IsTight, IsLeastTight}
+use Rattle.surf_tree.specs.Searches.{at, IsReached, IsOffered, IsTight, IsLeastTight}
 use Rattle.surf_near.specs.Near.{never}
 use Rattle.surf_near.specs.declared.tables.Tables.{Tables}
 
@@ -71,19 +71,6 @@ pub record IsFound (g : Graph) (len : ℕ → ℕ) (base radius : ℕ) (t : Tabl
   pub count_in : t.count ≤ g.nodes
   pub reached : IsReachedNear g len base radius (at t.distance.items)
   pub listed : IsListed g.nodes (at t.distance.items) (at t.order.items) t.count
-  pub chosen : (v : ℕ) → v < g.nodes → at t.distance.items v ≢ never → IsChosenAt g len t v
-
--- the state of a search: a wider search, whose heap is trimmed
-pub record IsSearchNear (g : Graph) (len : ℕ → ℕ) (base radius : ℕ) (t : Tables) (heap : Entries) : Type 0 where
-  pub room : HasRoom g.nodes t
-  pub wide : Entries
-  pub last : ℕ
-  pub search : IsSearch g len base (at t.distance.items) wide last
-      (count_below g.nodes (λ u. at t.distance.items u == never))
-  pub trimmed : IsTrimmed radius wide heap
-  pub within : (u : ℕ) → u < g.nodes → at t.distance.items u ≢ never → at t.distance.items u ≤ radius
-  pub listed : IsListed g.nodes (at t.distance.items) (at t.order.items) t.count
-  pub counted : t.count + count_below g.nodes (λ u. at t.distance.items u == never) ≡ g.nodes
   pub chosen : (v : ℕ) → v < g.nodes → at t.distance.items v ≢ never → IsChosenAt g len t v
 
 -- the tables of a desk between two searches

@@ -3,7 +3,7 @@ ghost use Rattle.std.specs.Prelude.{◌≡◌, ◌<◌, ◌≤◌, ◌+◌, leng
 ghost use Rattle.surf_surfaces.specs.Mesh.{IsMesh};
 ghost use Rattle.surf_surfaces.specs.Surface.{edge_count};
 ghost use Rattle.surf_lengths.specs.Lengths.{AreLengths};
-ghost use Rattle.surf_near.specs.Links.{AreLinks, AreLinksAt, links_at_most, AreEven, AreUneven};
+ghost use Rattle.surf_near.specs.Links.{AreLinks, AreLinksAt, degree, AreEven, AreUneven};
 
 use std::alloc::Global;
 use std::marker::Model;
@@ -71,7 +71,7 @@ fn links_of(
     requires vertex { v < mesh.now.vertices }
     requires lengths { length lengths.now ≡ edge_count mesh.now }
     ensures links { IfOk result (λ row. AreLinksAt mesh.now lengths.now v row.items) }
-    ensures few { IfOk result (λ row. length row.items ≡ links_at_most mesh.now v) }
+    ensures few { IfOk result (λ row. length row.items ≡ degree mesh.now v) }
 {
     let edges = mesh.ring_edges(v);
     let mut row = Vec::with_capacity(alloc, edges.len())?;
