@@ -1,5 +1,5 @@
 -- The links of the vertices of a mesh, with the lengths of its edges.
-use Rattle.std.specs.Prelude.{◌≡◌, ◌≢◌, ℕ, ◌<◌, ◌⊎◌, ◌^◌, List, [], length, map, slice_index, slice_index_or}
+use Rattle.std.specs.Prelude.{◌≡◌, ◌≢◌, ℕ, ◌<◌, ◌⊎◌, ◌^◌, List, [], length, map, slice_index, slice_index_or, Option, MatchOption}
 use Rattle.surf_z2.specs.Parity.{count_below}
 use Rattle.surf_graphs.specs.Graphs.{Graph}
 use Rattle.surf_graphs.specs.Cells.{primal}
@@ -63,3 +63,7 @@ AreEven lengths size = (e : ℕ) → e < length lengths → slice_index lengths 
 abbrev pub AreUneven : List ℕ → Type 0
 AreUneven lengths = (length lengths ≡ 0)
     ⊎ ((e : ℕ) × (e < length lengths) × (slice_index lengths e ≢ slice_index lengths 0))
+
+-- the one length of all edges, where they have one
+abbrev pub IsEvenness : List ℕ → Option ℕ → Type 0
+IsEvenness lengths even = MatchOption even (AreUneven lengths) (AreEven lengths)

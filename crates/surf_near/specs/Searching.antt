@@ -1,12 +1,14 @@
 -- The states of a search that goes no farther than a radius, over any graph.
-use Rattle.std.specs.Prelude.{ℕ, ◌≡◌, ◌≢◌, ◌<◌, ◌≤◌, ◌+◌, ◌*◌, ◌⊎◌, ◌==◌, true, length, Some}
+use Rattle.std.specs.Prelude.{ℕ, ◌≡◌, ◌≢◌, ◌<◌, ◌≤◌, ◌+◌, ◌*◌, ◌⊎◌, ◌==◌, true, List, length, Some}
 use Rattle.surf_z2.specs.Parity.{count_below}
 use Rattle.surf_graphs.specs.Graphs.{Graph, joins}
 use Rattle.surf_heap.specs.Entries.{Entries, entry_of}
 use Rattle.surf_lengths.specs.Lengths.{longest}
 use Rattle.surf_tree.specs.Searches.{at, IsReached, IsOffered, IsTight, IsLeastTight}
 use Rattle.surf_near.specs.Near.{never}
+use Rattle.surf_near.specs.Links.{LinkTables, graph_of, weight_of}
 use Rattle.surf_near.specs.declared.tables.Tables.{Tables}
+use Rattle.surf_near.specs.declared.tables.Choice.{Choice}
 
 -- the distances of settled nodes leave room for one more edge
 abbrev pub IsShort : ℕ → (ℕ → ℕ) → Type 0
@@ -29,6 +31,10 @@ pub record IsTrimmed (radius : ℕ) (wide heap : Entries) : Type 0 where
 abbrev pub OffersNear : Graph → (ℕ → ℕ) → (ℕ → ℕ) → ℕ → ℕ → ℕ → Entries → Entries → Type 0
 OffersNear g len dist v d radius old new = (wide : Entries) → IsTrimmed radius wide old →
     (wider : Entries) × IsOffered g len dist v d wide wider × IsTrimmed radius wider new
+
+-- each settled node is listed
+abbrev pub ListsSettled : List ℕ → List ℕ → Type 0
+ListsSettled order dist = (v : ℕ) → v < length dist → at dist v ≢ never → (i : ℕ) × (i < length order) × (at order i ≡ v)
 
 -- the settled nodes stand in a list in order of distance
 pub record IsListed (nodes : ℕ) (dist order : ℕ → ℕ) (count : ℕ) : Type 0 where
@@ -110,3 +116,19 @@ pub record IsLooked (g : Graph) (len : ℕ → ℕ) (size radius : ℕ) (t : Tab
   pub near : (w e : ℕ) → w < g.nodes → e < g.edges → joins g (at t.order.items place) w e ≡ true →
       at t.distance.items (at t.order.items place) + size ≤ radius →
       (at t.distance.items w ≢ never) × (at t.distance.items w ≤ at t.distance.items (at t.order.items place) + size)
+
+-- the same of the tables of a mesh's links
+
+abbrev pub Chooses : LinkTables → List ℕ → List ℕ → ℕ → Choice → Type 0
+Chooses links dist least v choice =
+    IsChoice (graph_of links) (weight_of links) (at dist) (at least) v choice.parent choice.up choice.least
+
+abbrev pub Offers : LinkTables → List ℕ → ℕ → ℕ → Entries → Entries → Type 0
+Offers links dist v radius old new = OffersNear (graph_of links) (weight_of links) (at dist) v (at dist v) radius old new
+
+abbrev pub IsQueueOf : LinkTables → ℕ → ℕ → Tables → ℕ → Type 0
+IsQueueOf links size radius t place = IsQueue (graph_of links) (weight_of links) size radius t place
+
+abbrev pub HasLooked : LinkTables → ℕ → ℕ → Tables → ℕ → Choice → Type 0
+HasLooked links size radius t place choice =
+    IsLooked (graph_of links) (weight_of links) size radius t place choice.parent choice.up choice.least

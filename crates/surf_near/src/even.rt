@@ -2,7 +2,7 @@
 ghost use Rattle.std.specs.Prelude.{◌≡◌, ◌<◌, ◌≤◌, ◌+◌, length};
 ghost use Rattle.surf_tree.specs.Searches.{at};
 ghost use Rattle.surf_near.specs.Links.{AreEven, AreLinks, graph_of, weight_of};
-ghost use Rattle.surf_near.specs.Searching.{IsBlank, IsFound, IsLooked, IsQueue};
+ghost use Rattle.surf_near.specs.Searching.{IsBlank, IsFound, HasLooked, IsQueueOf};
 
 use crate::links::Links;
 use crate::tables::{Choice, NEVER, Tables};
@@ -19,9 +19,9 @@ fn look_ahead(
 ) -> Choice
     requires links { AreLinks links.now.mesh links.now.lengths links.now.rows }
     requires even { AreEven links.now.lengths size }
-    requires queue { IsQueue (graph_of links.now) (weight_of links.now) size radius tables.old place }
+    requires queue { IsQueueOf links.now size radius tables.old place }
     requires place { place < tables.old.count }
-    ensures looked { IsLooked (graph_of links.now) (weight_of links.now) size radius tables.new place result.parent result.up result.least }
+    ensures looked { HasLooked links.now size radius tables.new place result }
     ensures first { at tables.new.order.items 0 ≡ at tables.old.order.items 0 }
     ensures same { at tables.new.order.items place ≡ at tables.old.order.items place }
 {
