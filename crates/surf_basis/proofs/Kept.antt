@@ -1,5 +1,5 @@
 -- What is kept base by base is the basis that is chosen.
-use Rattle.std.proofs.Common.{◌≡◌, ℕ, suc, ◌<◌, ◌≤◌, Bool, true, false, cond, List, [], ◌∷◌, ◌++◌, ◌+◌, length, get_or, take, All, refl, sym, ap, ◌∙◌, subst, arith}
+use Rattle.std.proofs.Common.{◌≡◌, ℕ, ◌<◌, ◌≤◌, Bool, true, false, cond, List, [], ◌∷◌, ◌++◌, ◌+◌, length, get_or, take, All, refl, sym, ap, ◌∙◌, subst, arith, slice_index, add-one}
 use Rattle.std.specs.List.{AllByRecursion}
 use Rattle.std.proofs.lemmas.List.{take_more, take_all}
 use Rattle.std.proofs.lemmas.List.Elements.{recursion_from_All, All-from_recursion}
@@ -12,16 +12,18 @@ use Rattle.surf_surfaces.specs.Surface.{IsSurface}
 use Rattle.surf_surfaces.specs.Walk.{IsClosed, ArePositive}
 use Rattle.surf_surfaces.specs.Cells.{cells_of}
 use Rattle.surf_surfaces.specs.Class.{class_of}
-use Rattle.surf_surfaces.specs.Choice.{Trees, AreChosen, Loop, comes_before, loops_at, IsGreedyChoice, IsChosenBasis, nothing, one_more}
+use Rattle.surf_surfaces.specs.Choice.{Trees, AreChosen, Loop, comes_before, loops_at, IsGreedyChoice, IsChosenBasis}
+use Rattle.surf_surfaces.specs.FewBases.{AreBases, none_of_them, one_of_them}
 use Rattle.surf_surfaces.proofs.LeastLaws.{all_each, all_mapped}
 use Rattle.surf_surfaces.proofs.GreedyChoiceLaws.{AreClosed, greedy_is_choice}
-use Rattle.surf_surfaces.proofs.LoopsAtLaws.{IsLoopAt, loops_each}
-use Rattle.surf_surfaces.proofs.BasisLaws.{runs, basis_is_kept_base_by_base}
+use Rattle.surf_surfaces.proofs.BasisLaws.{runs, basis_is_one}
+use Rattle.surf_surfaces.proofs.SomeBasesLaws.{basis_is_kept_over}
 use Rattle.surf_loops.specs.Loops.{LoopTables, IsGreedy}
 use Rattle.surf_basis.specs.declared.candidate.Signed.{Signed}
 use Rattle.surf_basis.specs.declared.cycle.Cycle.{Cycle}
 use Rattle.surf_basis.specs.Candidates.{signed_earlier, independent_of, loop_in, loops_in, signed_heads, IsSigned, AreKept, IsInside, IsCycleOf, AreCyclesOf}
 use Rattle.surf_basis.specs.Cycles.{loop_of, loops_of}
+use Rattle.surf_basis.specs.Found.{HaveBasesOfBasis}
 use Rattle.surf_basis.proofs.Sifted.{all_merged, all_kept}
 use Rattle.surf_basis.proofs.Looped.{offered_loops, offered_signed, signed_loop}
 
@@ -82,32 +84,23 @@ module _ (mesh : Mesh) (lengths : List ℕ) (trees : ℕ → Trees) (surface : I
     (positive : ArePositive mesh lengths) (chosen : AreChosen mesh lengths trees) (d : Split)
     (split : IsSplit (cells_of mesh) d) where
   -- nothing is kept before the first base
-  pub none_kept : (kept : List Signed) → kept ≡ [] → AreKept mesh lengths trees d 0 kept
-  none_kept kept is = subst (AreKept mesh lengths trees d 0) (sym is)
-      (record { by_bases = nothing; signed = λ k c l. absurd (omega arith) })
+  pub none_kept : (bases : List ℕ) (kept : List Signed) → kept ≡ [] → AreKept mesh lengths trees d bases 0 kept
+  none_kept bases kept is = subst (AreKept mesh lengths trees d bases 0) (sym is)
+      (record { by_bases = none_of_them; signed = λ k c l. absurd (omega arith) })
 
-  signed_more : (bases : ℕ) (c : Signed) → IsSigned mesh lengths trees d bases c → IsSigned mesh lengths trees d (suc bases) c
-  signed_more bases c s =
-      record { base_in = omega (arith, s.base_in); edge_in = s.edge_in; left = s.left; size = s.size; signature = s.signature }
-
-  all_closed : (bases : ℕ) → bases ≤ mesh.vertices → (cs : List Signed) →
-      AllByRecursion (IsSigned mesh lengths trees d bases) cs → AreClosed mesh (loops_in mesh trees cs)
-  all_closed bases le cs h = all_mapped (λ c. IsClosed mesh c.walk) (λ c. loop_in mesh trees c.candidate) cs
-      (all_each (IsSigned mesh lengths trees d bases) (λ c. IsClosed mesh (loop_in mesh trees c.candidate).walk) cs
-      (λ c s. (runs mesh lengths trees surface positive chosen bases le (loop_in mesh trees c.candidate)
-      (signed_loop mesh lengths trees surface positive chosen d bases c s)).0) h)
+  all_closed : (cs : List Signed) → AllByRecursion (IsSigned mesh lengths trees d) cs → AreClosed mesh (loops_in mesh trees cs)
+  all_closed cs h = all_mapped (λ c. IsClosed mesh c.walk) (λ c. loop_in mesh trees c.candidate) cs
+      (all_each (IsSigned mesh lengths trees d) (λ c. IsClosed mesh (loop_in mesh trees c.candidate).walk) cs
+      (λ c s. (runs mesh lengths trees surface positive chosen mesh.vertices (omega arith) (loop_in mesh trees c.candidate)
+      (signed_loop mesh lengths trees surface positive chosen d c s)).0) h)
 
   -- what is kept and the loops at one more base, merged
   merged_signed : (base : ℕ) (t : LoopTables) (kept : List Signed) → base < mesh.vertices → IsGreedy mesh lengths base t →
-      AreKept mesh lengths trees d base kept →
-      All (IsSigned mesh lengths trees d (suc base)) (merge signed_earlier kept (signed_heads mesh d t.tree t.heads))
+      All (IsSigned mesh lengths trees d) kept →
+      All (IsSigned mesh lengths trees d) (merge signed_earlier kept (signed_heads mesh d t.tree t.heads))
   merged_signed base t kept l g k =
-      let Right = IsSigned mesh lengths trees d (suc base) in
-      let before : AllByRecursion Right kept =
-      all_each (IsSigned mesh lengths trees d base) Right kept (signed_more base)
-      (recursion_from_All (IsSigned mesh lengths trees d base) kept k.signed) in
-      all_merged signed_earlier Right kept (signed_heads mesh d t.tree t.heads) (All-from_recursion Right kept before)
-      (All-from_recursion Right (signed_heads mesh d t.tree t.heads)
+      all_merged signed_earlier (IsSigned mesh lengths trees d) kept (signed_heads mesh d t.tree t.heads) k
+      (All-from_recursion (IsSigned mesh lengths trees d) (signed_heads mesh d t.tree t.heads)
       (offered_signed mesh lengths trees surface positive chosen d base t l g))
 
   merged_with : (base : ℕ) (t : LoopTables) (kept : List Signed) → base < mesh.vertices → IsGreedy mesh lengths base t →
@@ -118,28 +111,29 @@ module _ (mesh : Mesh) (lengths : List ℕ) (trees : ℕ → Trees) (surface : I
       ∙ merged_loops mesh trees kept (signed_heads mesh d t.tree t.heads)
 
   -- the choice among them
-  pub next_choice : (base : ℕ) (t : LoopTables) (kept : List Signed) (next : List Loop) → base < mesh.vertices →
-      IsGreedy mesh lengths base t → AreKept mesh lengths trees d base kept →
+  next_choice : (base : ℕ) (t : LoopTables) (kept : List Signed) (next : List Loop) → base < mesh.vertices →
+      IsGreedy mesh lengths base t → All (IsSigned mesh lengths trees d) kept →
       greedy numbers is_nothing (λ (c : Loop). class_of mesh d c.walk)
       (merge comes_before (loops_in mesh trees kept) (loops_at mesh lengths base (trees base))) ≡ next →
       IsGreedyChoice mesh (merge comes_before (loops_in mesh trees kept) (loops_at mesh lengths base (trees base))) next
   next_choice base t kept next l g k is =
       let merged = merge signed_earlier kept (signed_heads mesh d t.tree t.heads) in
-      let Right = IsSigned mesh lengths trees d (suc base) in
-      let closed = all_closed (suc base) (omega arith) merged (recursion_from_All Right merged (merged_signed base t kept l g k)) in
+      let Right = IsSigned mesh lengths trees d in
+      let closed = all_closed merged (recursion_from_All Right merged (merged_signed base t kept l g k)) in
       let loops = merge comes_before (loops_in mesh trees kept) (loops_at mesh lengths base (trees base)) in
       subst (IsGreedyChoice mesh loops) is
       (greedy_is_choice mesh d surface split loops (subst (AreClosed mesh) (sym (merged_with base t kept l g)) closed))
 
   -- the loops at one more base
-  pub kept_more : (base bases : ℕ) (t : LoopTables) (kept next : List Signed) → base < mesh.vertices → bases ≡ suc base →
-      IsGreedy mesh lengths base t → AreKept mesh lengths trees d base kept →
+  pub kept_more : (bases : List ℕ) (done base : ℕ) (t : LoopTables) (kept next : List Signed) → base < mesh.vertices →
+      done < length bases → slice_index bases done ≡ base → IsGreedy mesh lengths base t →
+      AreKept mesh lengths trees d bases done kept →
       next ≡ independent_of (merge signed_earlier kept (signed_heads mesh d t.tree t.heads)) →
-      AreKept mesh lengths trees d bases next
-  kept_more base bases t kept next l after g k is =
+      AreKept mesh lengths trees d bases (done + 1) next
+  kept_more bases done base t kept next l below at g k is =
       let merged = merge signed_earlier kept (signed_heads mesh d t.tree t.heads) in
-      let Right = IsSigned mesh lengths trees d (suc base) in
-      let right = merged_signed base t kept l g k in
+      let Right = IsSigned mesh lengths trees d in
+      let right = merged_signed base t kept l g k.signed in
       let same : greedy numbers is_nothing (λ (c : Loop). class_of mesh d c.walk)
       (merge comes_before (loops_in mesh trees kept) (loops_at mesh lengths base (trees base))) ≡ loops_in mesh trees next =
       ap (greedy numbers is_nothing (λ (c : Loop). class_of mesh d c.walk)) (merged_with base t kept l g)
@@ -147,68 +141,42 @@ module _ (mesh : Mesh) (lengths : List ℕ) (trees : ℕ → Trees) (surface : I
       (all_each Right (λ c. c.signature ≡ class_of mesh d (loop_in mesh trees c.candidate).walk) merged (λ c s. s.signature)
       (recursion_from_All Right merged right))
       ∙ ap (loops_in mesh trees) (sym is) in
-      subst (λ n. AreKept mesh lengths trees d n next) (sym after) (record {
-        by_bases = one_more k.by_bases (next_choice base t kept (loops_in mesh trees next) l g k same);
+      subst (λ n. AreKept mesh lengths trees d bases n next) (sym (add-one done)) (record {
+        by_bases = one_of_them k.by_bases below
+            (subst (λ b. IsGreedyChoice mesh (merge comes_before (loops_in mesh trees kept) (loops_at mesh lengths b (trees b))) (loops_in mesh trees next))
+            (sym at) (next_choice base t kept (loops_in mesh trees next) l g k.signed same));
         signed = subst (All Right) (sym is) (all_kept Right merged right);
       })
 
-  -- the loops at a base are closed
-  loops_closed : (base : ℕ) → base < mesh.vertices → (cs : List Loop) →
-      AllByRecursion (IsLoopAt mesh lengths base (trees base)) cs → AreClosed mesh cs
-  loops_closed base l cs h = all_each (IsLoopAt mesh lengths base (trees base)) (λ c. IsClosed mesh c.walk) cs
-      (λ c is.
-      (let same : c.base ≡ base = ap (λ (x : Loop). x.base) is.is in
-      (runs mesh lengths trees surface positive chosen (suc base) (omega arith) c
-      (record { base_in = omega (arith, same); of = subst (λ b. IsLoopAt mesh lengths b (trees b) c) (sym same) is })).0)) h
-
-  -- one more base that changes nothing
-  pub kept_same : (base bases : ℕ) (kept : List Signed) → base < mesh.vertices → bases ≡ suc base →
-      AreKept mesh lengths trees d base kept →
-      greedy numbers is_nothing (λ (c : Loop). class_of mesh d c.walk)
-      (merge comes_before (loops_in mesh trees kept) (loops_at mesh lengths base (trees base))) ≡ loops_in mesh trees kept →
-      AreKept mesh lengths trees d bases kept
-  kept_same base bases kept l after k same =
-      let loops = loops_in mesh trees kept in
-      let here = loops_at mesh lengths base (trees base) in
-      let Closed : Loop → Type 0 = λ c. IsClosed mesh c.walk in
-      let signed = recursion_from_All (IsSigned mesh lengths trees d base) kept k.signed in
-      let closed : AreClosed mesh (merge comes_before loops here) = recursion_from_All Closed (merge comes_before loops here)
-      (all_merged comes_before Closed loops here
-      (All-from_recursion Closed loops (all_closed base (omega arith) kept signed))
-      (All-from_recursion Closed here (loops_closed base l here (loops_each mesh lengths base (trees base))))) in
-      subst (λ n. AreKept mesh lengths trees d n kept) (sym after) (record {
-        by_bases = one_more k.by_bases (subst (IsGreedyChoice mesh (merge comes_before loops here)) same
-            (greedy_is_choice mesh d surface split (merge comes_before loops here) closed));
-        signed = All-from_recursion (IsSigned mesh lengths trees d (suc base)) kept
-            (all_each (IsSigned mesh lengths trees d base) (IsSigned mesh lengths trees d (suc base)) kept (signed_more base) signed);
-      })
-
   -- and their cycles are its loops
-  pub cycle_loop : (bases : ℕ) (c : Signed) (cycle : Cycle) → bases ≤ mesh.vertices → IsSigned mesh lengths trees d bases c →
+  cycle_loop : (c : Signed) (cycle : Cycle) → IsSigned mesh lengths trees d c →
       IsCycleOf mesh lengths c.candidate cycle → loop_of cycle ≡ loop_in mesh trees c.candidate
-  cycle_loop bases c cycle le s is =
-      let walk = is.walk (trees c.candidate.base) (chosen c.candidate.base (omega (arith, s.base_in, le))) s.left in
+  cycle_loop c cycle s is =
+      let walk = is.walk (trees c.candidate.base) (chosen c.candidate.base s.base_in) s.left in
       λ i. record { size = is.size i; base = is.base i; edge = is.edge i; walk = walk i }
 
-  all_cycles : (cs : List Signed) (cycles : List Cycle) → AllByRecursion (IsSigned mesh lengths trees d mesh.vertices) cs →
+  all_cycles : (cs : List Signed) (cycles : List Cycle) → AllByRecursion (IsSigned mesh lengths trees d) cs →
       AreCyclesOf mesh lengths cs cycles → loops_of cycles ≡ loops_in mesh trees cs
   all_cycles [] [] h are = refl
   all_cycles [] (y ∷ ys) h are = absurd are
   all_cycles (c ∷ cs) [] h are = absurd are
   all_cycles (c ∷ cs) (y ∷ ys) h are =
-      ap (λ (k : Loop). k ∷ loops_of ys) (cycle_loop mesh.vertices c y (omega arith) h.0 are.0)
+      ap (λ (k : Loop). k ∷ loops_of ys) (cycle_loop c y h.0 are.0)
       ∙ ap (λ ks. loop_in mesh trees c.candidate ∷ ks) (all_cycles cs ys h.1 are.1)
 
-  pub cycles_basis : (kept : List Signed) (cycles : List Cycle) → AreKept mesh lengths trees d mesh.vertices kept →
+  pub cycles_basis : (bases : List ℕ) (kept : List Signed) (cycles : List Cycle) → AreBases mesh bases →
+      HaveBasesOfBasis mesh lengths bases → AreKept mesh lengths trees d bases (length bases) kept →
       AreCyclesOf mesh lengths kept cycles → IsChosenBasis mesh lengths trees (loops_of cycles)
-  cycles_basis kept cycles k are =
+  cycles_basis bases kept cycles rise have k are =
+      let (basis, is, one) = basis_is_one mesh lengths trees surface positive chosen in
       subst (IsChosenBasis mesh lengths trees)
-      (sym (all_cycles kept cycles (recursion_from_All (IsSigned mesh lengths trees d mesh.vertices) kept k.signed) are))
-      (basis_is_kept_base_by_base mesh lengths trees (loops_in mesh trees kept) surface positive chosen k.by_bases)
+      (sym (all_cycles kept cycles (recursion_from_All (IsSigned mesh lengths trees d) kept k.signed) are))
+      (basis_is_kept_over mesh lengths trees bases basis (loops_in mesh trees kept) surface positive chosen rise is
+      (have trees chosen basis is) k.by_bases)
 
-  pub kept_inside : (kept : List Signed) → AreKept mesh lengths trees d mesh.vertices kept →
+  pub kept_inside : (bases : List ℕ) (done : ℕ) (kept : List Signed) → AreKept mesh lengths trees d bases done kept →
       All (λ c. IsInside mesh c.candidate) kept
-  kept_inside kept k i c l = let s = k.signed i c l in record { base = s.base_in; edge = s.edge_in }
+  kept_inside bases done kept k i c l = let s = k.signed i c l in record { base = s.base_in; edge = s.edge_in }
 
 -- one more cycle
 pub cycles_more : (mesh : Mesh) (lengths : List ℕ) (cs : List Signed) (cycles : List Cycle) (c : Signed) (cycle : Cycle) →

@@ -36,7 +36,7 @@ module _ (mesh : Mesh) (lengths : List ℕ) (surface : IsSurface mesh) (positive
         let one = (first_is_shortest mesh lengths trees first rest surface positive chosen_trees is).0.nonseparating in
         one.separates_not ((null_cycles_separate mesh surface first.walk one.simple).0 (alone_null mesh first.walk choice null))
 
-    first_kept : (basis loops : List Loop) → candidates mesh lengths trees ≡ loops → IsGreedyChoice mesh loops basis →
+    pub first_kept : (basis loops : List Loop) → candidates mesh lengths trees ≡ loops → IsGreedyChoice mesh loops basis →
         first_of basis ≡ first_of loops
     first_kept basis [] e g = ap first_of (g.are_kept ∙ none_chosen g.keep)
     first_kept basis (c ∷ cs) e g = of_keep g.keep refl

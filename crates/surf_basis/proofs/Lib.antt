@@ -5,8 +5,11 @@ pub mod Kept
 pub mod First
 pub mod Leading
 pub mod Whole
-pub mod Settled
 pub mod Certified
-pub mod PassedOver
-pub mod Summed
-pub mod Spared
+pub mod Limits
+pub mod Searched
+pub mod Numbered
+pub mod Told
+pub mod Placed
+pub mod Marked
+pub mod Sufficient

@@ -1,7 +1,8 @@
 -- The loops of a desk at a base, as loops of the choice.
-use Rattle.std.proofs.Common.{◌≡◌, ℕ, suc, ◌<◌, ◌+◌, ◌^◌, true, List, [], ◌∷◌, ◌++◌, length, get_or, map, take, All, Contains, refl, sym, ap, ◌∙◌, subst, arith}
+use Rattle.std.proofs.Common.{◌≡◌, ℕ, ◌<◌, ◌+◌, ◌^◌, true, List, [], ◌∷◌, ◌++◌, length, get_or, map, take, All, Contains, refl, sym, ap, ◌∙◌, subst, arith}
 use Rattle.std.specs.List.{AllByRecursion}
 use Rattle.std.proofs.lemmas.List.{length-map, get_or-map, map-append, take_more}
+use Rattle.std.proofs.lemmas.List.FromFn.{length-map-range_with_len}
 use Rattle.std.proofs.lemmas.List.Elements.{All-from_recursion, All-contains}
 use Rattle.std.proofs.lemmas.List.Sorted.{Contains-permutation}
 use Rattle.surf_z2.proofs.Below.{small}
@@ -13,6 +14,7 @@ use Rattle.surf_surfaces.specs.Walk.{ArePositive, parity}
 use Rattle.surf_surfaces.specs.Cells.{cells_of}
 use Rattle.surf_surfaces.specs.Homology.{IsFullCount}
 use Rattle.surf_surfaces.specs.Class.{class_of}
+use Rattle.surf_surfaces.specs.Signature.{edge_signature}
 use Rattle.surf_surfaces.specs.Loop.{loop_walk}
 use Rattle.surf_surfaces.specs.Cotree.{is_left, left_edges}
 use Rattle.surf_surfaces.specs.Choice.{Trees, AreChosenAt, AreChosen, Loop, comes_before, loop_at, loops_at, candidates, IsGreedyChoice, IsChosenBasis}
@@ -22,11 +24,12 @@ use Rattle.surf_surfaces.proofs.LoopsOne.{loops_are_one}
 use Rattle.surf_surfaces.proofs.CandidateLaws.{IsLoopBelow}
 use Rattle.surf_surfaces.proofs.FirstCycleLaws.{candidates_below_two}
 use Rattle.surf_tree.specs.Tables.{TreeTables, tree_of}
+use Rattle.surf_cotree.specs.Tables.{CotreeTables}
 use Rattle.surf_loops.specs.Loops.{LoopTables, trees_of, loop_of, IsGreedy}
 use Rattle.surf_loops.specs.declared.head.LoopHead.{LoopHead}
 use Rattle.surf_basis.specs.declared.candidate.Signed.{Signed}
-use Rattle.surf_basis.specs.Candidates.{Chosen, candidate_of, loop_in, loops_in, signed_heads, IsSigned}
-use Rattle.surf_basis.specs.Signing.{IsClimbed}
+use Rattle.surf_basis.specs.Candidates.{candidate_of, loop_in, loops_in, signed_heads, IsSigned}
+use Rattle.surf_basis.specs.Signing.{AreSigned, IsClimbed}
 
 -- the loop of a left edge is the same through all trees that are chosen at the base
 pub loop_is_one : (mesh : Mesh) (lengths : List ℕ) (base : ℕ) (a b : Trees) → IsSurface mesh → ArePositive mesh lengths →
@@ -74,23 +77,33 @@ heads_inside mesh lengths base t g = All-from_recursion (λ h. h.edge < edge_cou
     (edges_inside mesh lengths base t t.heads
     (subst (AllByRecursion (IsLoopAt mesh lengths base (trees_of t))) (sym g.heads) (loops_each mesh lengths base (trees_of t))))
 
--- one more of them is offered
-pub heads_more : (mesh : Mesh) (d : Split) (t : TreeTables) (items : List LoopHead) (i : ℕ) (h : LoopHead) (old now new : Chosen)
-    (s : Signed) → now ≡ record old { offered = signed_heads mesh d t (take i items) } →
-    new ≡ record now { offered = now.offered ++ s ∷ [] } →
-    s ≡ record { candidate = candidate_of t h; signature = class_of mesh d (loop_walk mesh (tree_of t) h.edge) } →
-    i < length items → h ≡ get_or items i h → new ≡ record old { offered = signed_heads mesh d t (take (i + 1) items) }
-heads_more mesh d t items i h old now new s was is signed l same =
-    let one : LoopHead → Signed = λ h. record { candidate = candidate_of t h; signature = class_of mesh d (loop_walk mesh (tree_of t) h.edge) } in
+-- one more of them is listed
+pub heads_more : (mesh : Mesh) (d : Split) (t : TreeTables) (items : List LoopHead) (i : ℕ) (h : LoopHead) (old new : List Signed)
+    (s : Signed) → old ≡ signed_heads mesh d t (take i items) → new ≡ old ++ s ∷ [] →
+    s ≡ record { candidate = candidate_of t h; from = t.base; signature = class_of mesh d (loop_walk mesh (tree_of t) h.edge) } →
+    i < length items → h ≡ get_or items i h → new ≡ signed_heads mesh d t (take (i + 1) items)
+heads_more mesh d t items i h old new s was is signed l same =
+    let one : LoopHead → Signed = λ h. record { candidate = candidate_of t h; from = t.base; signature = class_of mesh d (loop_walk mesh (tree_of t) h.edge) } in
     let more : signed_heads mesh d t (take (i + 1) items) ≡ signed_heads mesh d t (take i items) ++ s ∷ [] =
     ap (signed_heads mesh d t) (take_more items i h l ∙ ap (λ x. take i items ++ x ∷ []) (sym same))
     ∙ map-append one (take i items) (h ∷ []) ∙ ap (λ x. signed_heads mesh d t (take i items) ++ x ∷ []) (sym signed) in
-    is ∙ ap (λ (c : Chosen). record c { offered = c.offered ++ s ∷ [] }) was
-    ∙ ap (λ xs. record old { offered = xs }) (sym more)
+    is ∙ ap (λ (xs : List Signed). xs ++ s ∷ []) was ∙ sym more
 
 -- the class of a walk is as small as there are left edges
 pub class_small : (mesh : Mesh) (d : Split) (walk : List ℕ) (width : ℕ) → length d.left ≡ width → class_of mesh d walk < 2 ^ width
 class_small mesh d walk width is = subst (λ n. class_of mesh d walk < 2 ^ n) is (small (length d.left) (chain_signature (cells_of mesh) d (parity mesh walk)))
+
+-- so are those of a desk's loops
+pub heads_small : (mesh : Mesh) (d : Split) (t : TreeTables) (width : ℕ) → length d.left ≡ width → (hs : List LoopHead) →
+    AllByRecursion (λ c. c.signature < 2 ^ width) (signed_heads mesh d t hs)
+heads_small mesh d t width is [] = tt
+heads_small mesh d t width is (h ∷ hs) =
+    (class_small mesh d (loop_walk mesh (tree_of t) h.edge) width is, heads_small mesh d t width is hs)
+
+-- signatures are as many as edges
+pub signs_long : (mesh : Mesh) (t : CotreeTables) (width : ℕ) → AreSigned mesh t width → length t.signatures ≡ edge_count mesh
+signs_long mesh t width s =
+    ap (λ (xs : List ℕ). length xs) s.signatures ∙ length-map-range_with_len (edge_signature mesh s.split) 0 (edge_count mesh)
 
 -- the tree of a desk is climbed
 pub greedy_climbed : (mesh : Mesh) (lengths : List ℕ) (base : ℕ) (t : LoopTables) → IsSurface mesh → ArePositive mesh lengths →
@@ -149,11 +162,11 @@ module _ (mesh : Mesh) (lengths : List ℕ) (trees : ℕ → Trees) (surface : I
       loops_at mesh lengths base (trees base) ≡ loops_in mesh trees (signed_heads mesh d t.tree t.heads)
   offered_loops d base t l g = sym (heads_chosen base t l g) ∙ heads_in d t t.heads (each_head base t l g)
 
-  heads_signed : (d : Split) (t : LoopTables) (bases : ℕ) → t.tree.base < bases → (hs : List LoopHead) →
+  heads_signed : (d : Split) (t : LoopTables) → t.tree.base < mesh.vertices → (hs : List LoopHead) →
       AllByRecursion (λ h. IsLoopAt mesh lengths t.tree.base (trees t.tree.base) (loop_of mesh t h)) hs →
-      AllByRecursion (IsSigned mesh lengths trees d bases) (signed_heads mesh d t.tree hs)
-  heads_signed d t bases l [] h = tt
-  heads_signed d t bases l (x ∷ hs) h = (
+      AllByRecursion (IsSigned mesh lengths trees d) (signed_heads mesh d t.tree hs)
+  heads_signed d t l [] h = tt
+  heads_signed d t l (x ∷ hs) h = (
     record {
       base_in = l;
       edge_in = h.0.edge_in;
@@ -161,19 +174,19 @@ module _ (mesh : Mesh) (lengths : List ℕ) (trees : ℕ → Trees) (surface : I
       size = ap (λ (c : Loop). c.size) h.0.is;
       signature = ap (class_of mesh d) (ap (λ (c : Loop). c.walk) h.0.is);
     },
-    heads_signed d t bases l hs h.1,
+    heads_signed d t l hs h.1,
   )
 
   pub offered_signed : (d : Split) (base : ℕ) (t : LoopTables) → base < mesh.vertices → IsGreedy mesh lengths base t →
-      AllByRecursion (IsSigned mesh lengths trees d (suc base)) (signed_heads mesh d t.tree t.heads)
+      AllByRecursion (IsSigned mesh lengths trees d) (signed_heads mesh d t.tree t.heads)
   offered_signed d base t l g =
       let is : t.tree.base ≡ base = g.tree.base_is in
-      heads_signed d t (suc base) (omega (arith, is)) t.heads (each_head base t l g)
+      heads_signed d t (omega (arith, is)) t.heads (each_head base t l g)
 
-  -- a signed candidate is a loop at one of the first bases
-  pub signed_loop : (d : Split) (bases : ℕ) (c : Signed) → IsSigned mesh lengths trees d bases c →
-      IsLoopBelow mesh lengths trees bases (loop_in mesh trees c.candidate)
-  signed_loop d bases c s = record {
+  -- a signed candidate is a loop at its base
+  pub signed_loop : (d : Split) (c : Signed) → IsSigned mesh lengths trees d c →
+      IsLoopBelow mesh lengths trees mesh.vertices (loop_in mesh trees c.candidate)
+  signed_loop d c s = record {
     base_in = s.base_in;
     of = record {
       edge_in = s.edge_in;

@@ -1,6 +1,7 @@
 -- The choice of the independent candidates of a list, one after another.
-use Rattle.std.proofs.Common.{◌≡◌, ℕ, ◌+◌, ◌<◌, ◌≤◌, ◌^◌, true, false, Bool, List, [], ◌∷◌, ◌++◌, length, get_or, drop, map, All, refl, sym, ap, ◌∙◌, subst, append_assoc, MatchBool}
+use Rattle.std.proofs.Common.{◌≡◌, ℕ, ◌+◌, ◌<◌, ◌≤◌, ◌^◌, true, false, Bool, List, [], ◌∷◌, ◌++◌, length, get_or, drop, map, All, refl, sym, ap, ◌∙◌, subst, append_assoc, MatchBool, inl, inr}
 use Rattle.std.specs.List.{AllByRecursion}
+use Rattle.std.proofs.lemmas.Bool.{cases_Bool}
 use Rattle.std.proofs.lemmas.List.{at_drop_more, at_drop_all, append-nil, map-append, length-map}
 use Rattle.std.proofs.lemmas.List.Elements.{recursion_from_All, All-from_recursion}
 use Rattle.std.proofs.lemmas.List.Sorted.{All-permutation}
@@ -86,6 +87,22 @@ sifted cs kept admitted i s past =
 -- as many are kept as are admitted
 pub as_many : (kept : List Signed) (admitted : List ℕ) → admitted ≡ signatures kept → length kept ≡ length admitted
 as_many kept admitted e = sym (ap length e ∙ length-map kept (λ (c : Signed). c.signature))
+
+-- ---- the choice among candidates is that among what they stand for
+
+pub greedy_mapped : {C E : Type 0} (own : C → ℕ) (f : C → E) (class : E → ℕ) (before : List ℕ) (cs : List C) →
+    AllByRecursion (λ c. own c ≡ class (f c)) cs →
+    greedy_after numbers is_nothing class before (map f cs) ≡ map f (greedy_after numbers is_nothing own before cs)
+greedy_mapped own f class before [] h = refl
+greedy_mapped own f class before (c ∷ cs) h = elim (cases_Bool (spans numbers is_nothing before (class (f c)))) [
+  | inl old ↦
+      let mine : spans numbers is_nothing before (own c) ≡ true = ap (spans numbers is_nothing before) h.0 ∙ old in
+      rw (old, mine) (greedy_mapped own f class before cs h.1)
+  | inr new ↦
+      let mine : spans numbers is_nothing before (own c) ≡ false = ap (spans numbers is_nothing before) h.0 ∙ new in
+      rw (new, mine) (ap (λ es. f c ∷ es) (greedy_mapped own f class (before ++ class (f c) ∷ []) cs h.1
+      ∙ ap (λ v. map f (greedy_after numbers is_nothing own (before ++ v ∷ []) cs)) (sym h.0)))
+]
 
 -- ---- the signatures of what is merged and kept are as small
 

@@ -1,14 +1,14 @@
 -- What is known when all bases were gone through.
 use Rattle.std.proofs.Common.{◌≡◌, ℕ, List, [], length, map, All, sym, ap, ◌∙◌, subst, arith}
 use Rattle.std.specs.List.{range_with_len}
-use Rattle.surf_graphs.specs.Cells.{Split, IsSplit}
+use Rattle.surf_graphs.specs.Cells.{IsSplit}
 use Rattle.surf_graphs.specs.Trees.{Tree}
 use Rattle.surf_surfaces.specs.Mesh.{Mesh}
 use Rattle.surf_surfaces.specs.Surface.{edge_count, IsSurface}
 use Rattle.surf_surfaces.specs.Walk.{ArePositive}
 use Rattle.surf_surfaces.specs.Cells.{cells_of}
 use Rattle.surf_surfaces.specs.Homology.{IsFullCount}
-use Rattle.surf_surfaces.specs.Choice.{Trees, AreChosen, Loop, IsChosenBasis}
+use Rattle.surf_surfaces.specs.Choice.{Loop, IsChosenBasis}
 use Rattle.surf_surfaces.specs.ChoiceLaws.{LeastSimpleBasis}
 use Rattle.surf_surfaces.specs.Signature.{edge_signature}
 use Rattle.surf_surfaces.proofs.BasisLaws.{basis_is_least}
@@ -17,9 +17,11 @@ use Rattle.surf_cotree.specs.Tables.{CotreeTables, split_with}
 use Rattle.surf_loops.specs.Loops.{LoopTables, IsGreedy}
 use Rattle.surf_basis.specs.declared.candidate.Signed.{Signed}
 use Rattle.surf_basis.specs.declared.cycle.Cycle.{Cycle}
-use Rattle.surf_basis.specs.Candidates.{AreKept, IsInside, AreCyclesOf}
+use Rattle.surf_basis.specs.Candidates.{AreKeptOver, IsInside, AreCyclesOf}
+use Rattle.surf_basis.specs.Found.{HaveBasesOfBasis}
+use Rattle.surf_surfaces.specs.FewBases.{AreBases}
 use Rattle.surf_basis.specs.Cycles.{loops_of, IsTheBasis}
-use Rattle.surf_basis.specs.Signing.{AreSignatures, AreSigned}
+use Rattle.surf_basis.specs.Signing.{AreSigned}
 use Rattle.surf_basis.proofs.Looped.{empty_basis}
 use Rattle.surf_basis.proofs.Kept.{cycles_basis, kept_inside}
 
@@ -64,11 +66,6 @@ still_signed mesh t view later left signed same is last =
     subst (λ (c : CotreeTables). AreSigned mesh c (length left)) (sym last)
     (subst (λ (xs : List ℕ). AreSigned mesh t (length xs)) (sym (is ∙ ap (λ (c : CotreeTables). c.left) same)) signed)
 
--- what is kept at the end, by any trees and signatures
-abbrev pub IsKept : Mesh → List ℕ → CotreeTables → List Signed → Type 0
-IsKept mesh lengths s kept = (trees : ℕ → Trees) → AreChosen mesh lengths trees → (d : Split) → IsSplit (cells_of mesh) d →
-    AreSignatures mesh d s → AreKept mesh lengths trees d mesh.vertices kept
-
 module _ (mesh : Mesh) (lengths : List ℕ) (surface : IsSurface mesh) (positive : ArePositive mesh lengths) where
   pub least_of : (basis : List Loop) → IsTheBasis mesh lengths basis → LeastSimpleBasis mesh lengths basis
   least_of basis is =
@@ -80,16 +77,18 @@ module _ (mesh : Mesh) (lengths : List ℕ) (surface : IsSurface mesh) (positive
       subst (λ ys. IsChosenBasis mesh lengths trees (loops_of ys)) (sym none) (empty_basis mesh lengths trees surface positive chosen full)
 
   module _ (s : CotreeTables) (width : ℕ) (signed : AreSigned mesh s width) where
-    pub all_inside : (kept list : List Signed) → IsKept mesh lengths s kept → list ≡ kept → All (λ c. IsInside mesh c.candidate) list
-    all_inside kept list k same =
+    pub all_inside : (bases : List ℕ) (kept list : List Signed) → AreKeptOver mesh lengths s bases (length bases) kept → list ≡ kept →
+        All (λ c. IsInside mesh c.candidate) list
+    all_inside bases kept list k same =
         let (trees, chosen) = choice_exists mesh lengths surface positive in
         let inside : All (λ c. IsInside mesh c.candidate) kept =
-        kept_inside mesh lengths trees surface positive chosen signed.split signed.is_split kept (k trees chosen signed.split signed.is_split signed.signatures) in
+        kept_inside mesh lengths trees surface positive chosen signed.split signed.is_split bases (length bases) kept (k trees chosen signed.split signed.is_split signed.signatures) in
         subst (All (λ c. IsInside mesh c.candidate)) (sym same) inside
 
-    pub the_basis : (kept list : List Signed) (cycles : List Cycle) → IsKept mesh lengths s kept → list ≡ kept →
+    pub the_basis : (bases : List ℕ) (kept list : List Signed) (cycles : List Cycle) → AreBases mesh bases →
+        HaveBasesOfBasis mesh lengths bases → AreKeptOver mesh lengths s bases (length bases) kept → list ≡ kept →
         AreCyclesOf mesh lengths list cycles → IsTheBasis mesh lengths (loops_of cycles)
-    the_basis kept list cycles k same are trees chosen =
-        cycles_basis mesh lengths trees surface positive chosen signed.split signed.is_split kept cycles
+    the_basis bases kept list cycles rise have k same are trees chosen =
+        cycles_basis mesh lengths trees surface positive chosen signed.split signed.is_split bases kept cycles rise have
         (k trees chosen signed.split signed.is_split signed.signatures)
         (subst (λ cs. AreCyclesOf mesh lengths cs cycles) same are)

@@ -1,21 +1,23 @@
 -- Candidates for a basis: their order, which are independent, and what is kept of them.
-use Rattle.std.specs.Prelude.{ℕ, ◌≡◌, ◌<◌, Bool, true, false, IsTrue, ◌&&◌, ◌||◌, ◌==◌, nat_lt, nat_le, List, [], ◌∷◌, length, map, All, Option, Some, None, if◌then◌else◌}
-use Rattle.std.specs.List.{list_all}
+use Rattle.std.specs.Prelude.{ℕ, ◌≡◌, ◌<◌, Bool, true, false, IsTrue, ◌&&◌, ◌||◌, ◌==◌, nat_lt, List, [], ◌∷◌, map, All, Option}
 use Rattle.std.specs.Option.{option_map}
 use Rattle.surf_z2.specs.Greedy.{greedy}
-use Rattle.surf_z2.specs.Order.{merge}
 use Rattle.surf_z2.specs.Space.{numbers, is_nothing}
-use Rattle.surf_graphs.specs.Cells.{Split}
+use Rattle.surf_graphs.specs.Cells.{Split, IsSplit}
 use Rattle.surf_surfaces.specs.Mesh.{Mesh}
 use Rattle.surf_surfaces.specs.Surface.{edge_count}
 use Rattle.surf_surfaces.specs.Class.{class_of}
 use Rattle.surf_surfaces.specs.Loop.{loop_walk, loop_length}
 use Rattle.surf_surfaces.specs.Cotree.{is_left}
-use Rattle.surf_surfaces.specs.Choice.{Trees, AreChosenAt, Loop, IsKeptFrom}
+use Rattle.surf_surfaces.specs.Cells.{cells_of}
+use Rattle.surf_surfaces.specs.Choice.{Trees, AreChosenAt, AreChosen, Loop}
+use Rattle.surf_surfaces.specs.FewBases.{IsKeptOver}
 use Rattle.surf_tree.specs.Tables.{TreeTables, tree_of}
+use Rattle.surf_cotree.specs.Tables.{CotreeTables}
 use Rattle.surf_loops.specs.declared.head.LoopHead.{LoopHead}
 use Rattle.surf_loops.specs.Loops.{LoopTables}
 use Rattle.surf_basis.specs.Cycles.{first_of}
+use Rattle.surf_basis.specs.Signing.{AreSignatures}
 use Rattle.surf_basis.specs.declared.candidate.Candidate.{Candidate}
 use Rattle.surf_basis.specs.declared.candidate.Signed.{Signed}
 use Rattle.surf_basis.specs.declared.cycle.Cycle.{Cycle}
@@ -38,11 +40,10 @@ has_next (c ∷ cs) (d ∷ ds) = signed_earlier c d
 abbrev pub independent_of : List Signed → List Signed
 independent_of cs = greedy numbers is_nothing (λ c. c.signature) cs
 
--- how many candidates may be independent, those that are kept, and those that are offered
+-- how many candidates may be independent, and those that are kept
 pub record Chosen : Type 0 where
   pub width : ℕ
   pub kept : List Signed
-  pub offered : List Signed
 
 -- a candidate as a loop, through the trees at all bases
 abbrev pub loop_in : Mesh → (ℕ → Trees) → Candidate → Loop
@@ -81,39 +82,30 @@ candidate_of t h = record { length = h.length; base = t.base; edge = h.edge }
 abbrev pub first_head : LoopTables → Option Candidate
 first_head t = option_map (candidate_of t.tree) (first_of t.heads)
 
--- the first of a candidate and one at a later base
-abbrev pub shorter : Option Candidate → Candidate → Candidate
-shorter None next = next
-shorter (Some c) next = if nat_le c.length next.length then c else next
-
 -- the loops of a desk at its base, as candidates with their signatures
 abbrev pub signed_heads : Mesh → Split → TreeTables → List LoopHead → List Signed
 signed_heads mesh d t heads =
     map (λ h. record {
       candidate = candidate_of t h;
+      from = t.base;
       signature = class_of mesh d (loop_walk mesh (tree_of t) h.edge);
     }) heads
 
--- as many are kept as a desk has heads, and none is longer than the first of those
-abbrev pub is_settled : List Signed → List LoopHead → Bool
-is_settled kept [] = false
-is_settled kept (h ∷ hs) = (length kept == length (h ∷ hs)) && list_all (λ c. nat_le c.candidate.length h.length) kept
-
--- a choice when the loops of a desk at a later base have been kept as far as they are of use
-abbrev pub with_loops : Mesh → Split → LoopTables → Chosen → Chosen
-with_loops mesh d t choice =
-    if is_settled choice.kept t.heads then choice
-    else (record choice { kept = independent_of (merge signed_earlier choice.kept (signed_heads mesh d t.tree t.heads)); offered = [] })
-
--- a candidate is the loop of a left edge at one of the first bases, and its signature is that of its walk
-pub record IsSigned (mesh : Mesh) (lengths : List ℕ) (trees : ℕ → Trees) (d : Split) (bases : ℕ) (c : Signed) : Type 0 where
-  pub base_in : c.candidate.base < bases
+-- a candidate is the loop of a left edge at its base, and its signature is that of its walk
+pub record IsSigned (mesh : Mesh) (lengths : List ℕ) (trees : ℕ → Trees) (d : Split) (c : Signed) : Type 0 where
+  pub base_in : c.candidate.base < mesh.vertices
   pub edge_in : c.candidate.edge < edge_count mesh
   pub left : IsTrue (is_left mesh (trees c.candidate.base).tree (trees c.candidate.base).cotree c.candidate.edge)
   pub size : c.candidate.length ≡ loop_length mesh lengths (trees c.candidate.base).tree c.candidate.edge
   pub signature : c.signature ≡ class_of mesh d (loop_walk mesh (trees c.candidate.base).tree c.candidate.edge)
 
--- of the loops at the first bases those are kept that are independent of the loops before them
-pub record AreKept (mesh : Mesh) (lengths : List ℕ) (trees : ℕ → Trees) (d : Split) (bases : ℕ) (kept : List Signed) : Type 0 where
-  pub by_bases : IsKeptFrom mesh lengths trees bases (loops_in mesh trees kept)
-  pub signed : All (IsSigned mesh lengths trees d bases) kept
+-- of the loops at the first of some bases those are kept that are independent of the loops before them
+pub record AreKept (mesh : Mesh) (lengths : List ℕ) (trees : ℕ → Trees) (d : Split) (bases : List ℕ) (done : ℕ)
+    (kept : List Signed) : Type 0 where
+  pub by_bases : IsKeptOver mesh lengths trees bases done (loops_in mesh trees kept)
+  pub signed : All (IsSigned mesh lengths trees d) kept
+
+-- so they are by all trees that show the choice
+abbrev pub AreKeptOver : Mesh → List ℕ → CotreeTables → List ℕ → ℕ → List Signed → Type 0
+AreKeptOver mesh lengths s bases done kept = (trees : ℕ → Trees) → AreChosen mesh lengths trees → (d : Split) →
+    IsSplit (cells_of mesh) d → AreSignatures mesh d s → AreKept mesh lengths trees d bases done kept

@@ -2,4 +2,7 @@ pub mod Cycles
 pub mod Candidates
 pub mod Signing
 pub mod Certs
-pub mod Passing
+pub mod Marks
+pub mod Places
+pub mod Ways
+pub mod Found

@@ -5,7 +5,7 @@ ghost use Rattle.surf_basis.specs.Candidates.{earlier};
 use surf_base::{EdgeId, VertexId};
 use surf_bits::Signature;
 
-/// The loop of an edge at a base, with its length.
+/// A loop of an edge, by its length, its base and the edge.
 #[derive(Clone, Copy, Debug, PartialEq, Eq)]
 pub(crate) struct Candidate {
     pub length: u64,
@@ -13,10 +13,13 @@ pub(crate) struct Candidate {
     pub edge: EdgeId,
 }
 
-/// A candidate with the signature of its loop.
+/// A candidate with the vertex at which its loop was found, and the signature of the loop. The loops that are chosen at a
+/// base are found there. A loop that a search found has as its base the least vertex on a shortest walk from where the
+/// search began to an end of the edge.
 #[derive(Drop)]
 pub(crate) struct Signed {
     pub candidate: Candidate,
+    pub from: VertexId,
     pub signature: Signature,
 }
 
@@ -33,14 +36,22 @@ pub(crate) fn comes_before(c: &Candidate, d: &Candidate) -> bool
     c.edge.number() < d.edge.number()
 }
 
+// A copy of a signature.
+pub(crate) fn copy_signature(signature: &Signature) -> Signature
+    ensures same { result ≡ signature.now }
+{
+    let mut copy = Signature::zero();
+    copy.add(signature.bits());
+    copy
+}
+
 // A copy of a candidate with its signature.
 pub(crate) fn copy_of(signed: &Signed) -> Signed
     ensures same { result ≡ signed.now }
 {
-    let mut signature = Signature::zero();
-    signature.add(signed.signature.bits());
     Signed {
         candidate: signed.candidate,
-        signature,
+        from: signed.from,
+        signature: copy_signature(&signed.signature),
     }
 }

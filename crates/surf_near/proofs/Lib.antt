@@ -5,4 +5,5 @@ pub mod Offers
 pub mod Choices
 pub mod Reaching
 pub mod Turns
+pub mod Queues
 pub mod NearTrees

@@ -1,5 +1,5 @@
 -- The links of a vertex are the edges there.
-use Rattle.std.proofs.Common.{◌≡◌, ℕ, ◌<◌, ◌⊎◌, true, ◌&&◌, ◌||◌, eqb, eq-eqb, List, length, map, get_or, refl, sym, ap, ◌∙◌, subst, arith, inl, inr}
+use Rattle.std.proofs.Common.{◌≡◌, ℕ, ◌<◌, ◌≤◌, ◌^◌, ◌⊎◌, true, ◌&&◌, ◌||◌, eqb, eq-eqb, List, length, map, get_or, refl, sym, ap, ◌∙◌, subst, arith, inl, inr}
 use Rattle.std.proofs.lemmas.Bool.{eqb-true, or_cases, or_left, or_right, and_parts, and_from}
 use Rattle.std.proofs.lemmas.List.{get_or-map, get_or_default, length-map}
 use Rattle.std.proofs.lemmas.Simd.{map-map}
@@ -12,9 +12,11 @@ use Rattle.surf_surfaces.specs.Cells.{cells_of}
 use Rattle.surf_surfaces.proofs.PairLaws.{pair_same}
 use Rattle.surf_mesh.specs.Ring.{AreEdgesAt}
 use Rattle.surf_net.specs.Rows.{link_at, IsRow, edge_link}
-use Rattle.surf_net.proofs.RowLaws.{edge_row}
+use Rattle.surf_net.proofs.RowLaws.{edge_row, cells_few}
+use Rattle.surf_lengths.specs.Lengths.{longest}
+use Rattle.surf_tree.proofs.LengthLaws.{short_lengths}
 use Rattle.surf_near.specs.declared.links.Link.{Link}
-use Rattle.surf_near.specs.Links.{ends_of, link_in, link_over, AreLinksAt}
+use Rattle.surf_near.specs.Links.{LinkTables, weight_of, ends_of, link_in, link_over, AreLinksAt, AreLinks, AreEven}
 
 -- a pair that joins two numbers is of these
 either_way : (p : ℕ × ℕ) (a b : ℕ) → ((eqb p.0 a && eqb p.1 b) || (eqb p.0 b && eqb p.1 a)) ≡ true →
@@ -103,5 +105,29 @@ module _ (mesh : Mesh) (lengths : List ℕ) (v : ℕ) (links : List Link) (are :
   pub item_in : x.to < mesh.vertices
   item_in = subst (λ (y : Link). y.to < mesh.vertices) item_is (link_to_in mesh lengths v links are k l)
 
+  pub item_edge_in : x.edge < edge_count mesh
+  item_edge_in = subst (λ (y : Link). y.edge < edge_count mesh) item_is (link_edge_in mesh lengths v links are k l)
+
   pub item_measured : x.length ≡ edge_length lengths x.edge
   item_measured = subst (λ (y : Link). y.length ≡ edge_length lengths y.edge) item_is (are.measured k l)
+
+-- what holds of the lengths and of the number of vertices
+module _ (net : LinkTables) (are : AreLinks net.mesh net.lengths net.rows) where
+  pub links_few : net.mesh.vertices ≤ 2 ^ 29
+  links_few = (cells_few net.mesh are.surface are.few).0
+
+  pub links_small : net.mesh.vertices ≤ longest
+  links_small = let few = links_few in omega arith
+
+  pub links_short : (e : ℕ) → weight_of net e ≤ longest
+  links_short = short_lengths net.lengths are.are_lengths
+
+  pub links_positive : (e : ℕ) → e < edge_count net.mesh → 1 ≤ weight_of net e
+  links_positive e l = (are.are_lengths e 0 (omega (arith, l, are.as_many))).positive
+
+  pub links_even : (size : ℕ) → AreEven net.lengths size → (e : ℕ) → e < edge_count net.mesh → weight_of net e ≡ size
+  links_even size even e l = even e (omega (arith, l, are.as_many))
+
+-- a number that was read from a table
+pub read_at : (xs : List ℕ) (i v x : ℕ) → x ≡ get_or xs i x → i ≡ v → v < length xs → x ≡ get_or xs v 0
+read_at xs i v x read is l = read ∙ ap (λ k. get_or xs k x) is ∙ get_or_default xs v x 0 l

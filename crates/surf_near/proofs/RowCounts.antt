@@ -7,10 +7,10 @@ use Rattle.surf_z2.proofs.Sums.{sum_below-swap, sum_below-const, count_below-all
 use Rattle.surf_surfaces.specs.Mesh.{Mesh}
 use Rattle.surf_surfaces.specs.Surface.{edge_count, ends, touches}
 use Rattle.surf_mesh.specs.Ring.{AreEdgesAt}
-use Rattle.surf_near.specs.Links.{links_at_most}
+use Rattle.surf_near.specs.Links.{degree}
 
 -- a row is as long as there are edges at its vertex
-pub row_length : (mesh : Mesh) (v : ℕ) (list : List ℕ) → AreEdgesAt mesh v list → length list ≡ links_at_most mesh v
+pub row_length : (mesh : Mesh) (v : ℕ) (list : List ℕ) → AreEdgesAt mesh v list → length list ≡ degree mesh v
 row_length mesh v list are =
     sym (count_below-all (length list))
     ∙ count_below-paired (length list) (edge_count mesh) (λ k. true) (λ e. touches v (ends mesh e)) (λ k. get_or list k 0)
@@ -62,7 +62,7 @@ count_either (suc n) p q =
     ]
 
 -- each edge is at two vertices
-pub rows_length : (mesh : Mesh) (n : ℕ) → sum_below n (links_at_most mesh) ≤ 2 * edge_count mesh
+pub rows_length : (mesh : Mesh) (n : ℕ) → sum_below n (degree mesh) ≤ 2 * edge_count mesh
 rows_length mesh n =
     let swapped = sum_below-swap n (edge_count mesh) (λ v e. cond (touches v (ends mesh e)) 1 0) in
     let each : sum_below (edge_count mesh) (λ e. count_below n (λ v. touches v (ends mesh e))) ≤ sum_below (edge_count mesh) (λ e. 2) =
@@ -74,10 +74,10 @@ rows_length mesh n =
     let all = sum_below-const (edge_count mesh) 2 in
     omega (arith, swapped, each, all)
 
-pub rows_before : (mesh : Mesh) (v n : ℕ) → v < n → sum_below v (links_at_most mesh) + links_at_most mesh v ≤ 2 * edge_count mesh
+pub rows_before : (mesh : Mesh) (v n : ℕ) → v < n → sum_below v (degree mesh) + degree mesh v ≤ 2 * edge_count mesh
 rows_before mesh v n l =
     let all = rows_length mesh (suc v) in
     omega (arith, all)
 
-pub rows_next : (mesh : Mesh) (v : ℕ) → sum_below (v + 1) (links_at_most mesh) ≡ sum_below v (links_at_most mesh) + links_at_most mesh v
+pub rows_next : (mesh : Mesh) (v : ℕ) → sum_below (v + 1) (degree mesh) ≡ sum_below v (degree mesh) + degree mesh v
 rows_next mesh v = rw (add-one v) (omega arith)

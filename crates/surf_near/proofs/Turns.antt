@@ -6,14 +6,28 @@ use Rattle.surf_z2.specs.Parity.{count_below}
 use Rattle.surf_graphs.specs.Graphs.{Graph}
 use Rattle.surf_heap.specs.Entries.{Entries, entry_of, IsLeastEntry, IsEmpty}
 use Rattle.surf_lengths.specs.Lengths.{longest}
-use Rattle.surf_tree.specs.Searches.{at, HasKey, IsSearch, IsOffered}
+use Rattle.surf_tree.specs.Searches.{at, HasKey, IsOffered}
+use Rattle.surf_tree.proofs.SearchWords.{IsSearch}
 use Rattle.surf_tree.proofs.Settling.{no_entry, same_key, search_begins}
 use Rattle.surf_tree.proofs.Offering.{one_less, all_free, turn_inside, turn_smaller, turn_keeps}
 use Rattle.surf_near.specs.declared.tables.Tables.{Tables}
 use Rattle.surf_near.specs.Near.{never}
-use Rattle.surf_near.specs.Searching.{IsChoice, IsTrimmed, OffersNear, IsListed, IsBlank, IsFound, IsSearchNear}
+use Rattle.surf_near.specs.Searching.{IsChoice, IsTrimmed, OffersNear, IsListed, IsChosenAt, HasRoom, IsBlank, IsFound}
 use Rattle.surf_near.proofs.Trimming.{trim_all, trim_taken, trim_least}
-use Rattle.surf_near.proofs.Choices.{choice_stays, choice_written}
+use Rattle.surf_near.proofs.Choices.{choice_stays, chosen_kept}
+
+-- the state of a search: a wider search, whose heap is trimmed
+pub record IsSearchNear (g : Graph) (len : ℕ → ℕ) (base radius : ℕ) (t : Tables) (heap : Entries) : Type 0 where
+  pub room : HasRoom g.nodes t
+  pub wide : Entries
+  pub last : ℕ
+  pub search : IsSearch g len base (at t.distance.items) wide last
+      (count_below g.nodes (λ u. eqb (at t.distance.items u) never))
+  pub trimmed : IsTrimmed radius wide heap
+  pub within : (u : ℕ) → u < g.nodes → at t.distance.items u ≢ never → at t.distance.items u ≤ radius
+  pub listed : IsListed g.nodes (at t.distance.items) (at t.order.items) t.count
+  pub counted : t.count + count_below g.nodes (λ u. eqb (at t.distance.items u) never) ≡ g.nodes
+  pub chosen : (v : ℕ) → v < g.nodes → at t.distance.items v ≢ never → IsChosenAt g len t v
 
 -- a list of settled nodes with one more, which is no nearer
 pub list_more : (nodes : ℕ) (dist order : List ℕ) (count v k : ℕ) → IsListed nodes (at dist) (at order) count →
@@ -134,6 +148,12 @@ module _ (g : Graph) (len : ℕ → ℕ) (base radius : ℕ) (small : g.nodes �
         let b : s.last ≤ k = (s.search.outside v k tie wide_least.1.holds).later in
         omega arith
 
+    none_farther : (u : ℕ) → at (set dist v k) u ≢ never → u < g.nodes → at (set dist v k) u ≤ k
+    none_farther u settled l = elim (cases_eq u v) [
+      | inl same ↦ rw (same, get_or-set_same dist v k 0 v_room) (omega arith)
+      | inr ne ↦ rw (get_or-set_other dist v u k 0 ne) (last_up u l (rw (get_or-set_other dist v u k 0 ne) at settled))
+    ]
+
     module _ (positive : (e : ℕ) → e < g.edges → 1 ≤ len e) (t2 : Tables) (new : Entries) (p e m : ℕ)
         (order_is : t2.order.items ≡ set t.order.items t.count v) (count_is : t2.count ≡ t.count + 1)
         (distance_is : t2.distance.items ≡ set t.distance.items v k) (parent_is : t2.parent.items ≡ set t.parent.items v p)
@@ -146,25 +166,15 @@ module _ (g : Graph) (len : ℕ → ℕ) (base radius : ℕ) (small : g.nodes �
       next_chosen : (u : ℕ) → u < g.nodes → at (set dist v k) u ≢ never →
           IsChoice g len (at (set dist v k)) (at (set t.least.items v m)) u (at (set t.parent.items v p) u)
           (at (set t.up.items v e) u) (at (set t.least.items v m) u)
-      next_chosen u l settled = elim (cases_eq u v) [
-        | inl same ↦
-            let v_in = turn_in.0 in
-            rw (
-              same,
-              get_or-set_same t.parent.items v p 0 (omega (arith, v_in, s.room.parent)),
-              get_or-set_same t.up.items v e 0 (omega (arith, v_in, s.room.up)),
-              get_or-set_same t.least.items v m 0 (omega (arith, v_in, s.room.least)),
-            ) (choice_written g len positive (set dist v k) t.least.items v p e m (omega (arith, v_in, s.room.least)) choice)
-        | inr ne ↦
-            let was : at dist u ≢ never = rw (get_or-set_other dist v u k 0 ne) at settled in
-            let f = s.search.fits u l was in
-            rw (
-              get_or-set_other t.parent.items v u p 0 ne,
-              get_or-set_other t.up.items v u e 0 ne,
-              get_or-set_other t.least.items v u m 0 ne,
-            ) (choice_stays g len positive dist t.least.items v k m v_room (omega (arith, turn_in.0, s.room.least)) turn_free
-            u (at t.parent.items u) (at t.up.items u) (at t.least.items u) (last_up u l was) (omega (arith, f, small)) ne (s.chosen u l was))
-      ]
+      next_chosen u l settled =
+          let v_in = turn_in.0 in
+          let now : at (set dist v k) v ≡ k = get_or-set_same dist v k 0 v_room in
+          chosen_kept g len positive (at (set dist v k)) t.parent.items t.up.items t.least.items v p e m (omega (arith, v_in, s.room.parent))
+          (omega (arith, v_in, s.room.up)) (omega (arith, v_in, s.room.least)) choice u (rw now (none_farther u settled l)) (λ ne.
+          let was : at dist u ≢ never = rw (get_or-set_other dist v u k 0 ne) at settled in
+          let f = s.search.fits u l was in
+          choice_stays g len positive dist v k v_room turn_free u (last_up u l was) (omega (arith, f, small)) ne (at t.least.items)
+          (at t.parent.items u) (at t.up.items u) (at t.least.items u) (s.chosen u l was))
 
       pub turn_near : IsSearchNear g len base radius t2 new
       turn_near = record {

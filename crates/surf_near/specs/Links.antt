@@ -1,5 +1,5 @@
 -- The links of the vertices of a mesh, with the lengths of its edges.
-use Rattle.std.specs.Prelude.{◌≡◌, ◌≢◌, ℕ, ◌<◌, ◌⊎◌, ◌^◌, List, [], length, map, slice_index, slice_index_or}
+use Rattle.std.specs.Prelude.{◌≡◌, ◌≢◌, ℕ, ◌<◌, ◌⊎◌, ◌^◌, List, [], length, map, slice_index, slice_index_or, Option, MatchOption}
 use Rattle.surf_z2.specs.Parity.{count_below}
 use Rattle.surf_graphs.specs.Graphs.{Graph}
 use Rattle.surf_graphs.specs.Cells.{primal}
@@ -43,8 +43,8 @@ abbrev pub link_over : Mesh → List ℕ → ℕ → ℕ → Link
 link_over mesh lengths v e = record { to = other_of (ends mesh e) v; length = edge_length lengths e; edge = e }
 
 -- how many edges there are at a vertex
-abbrev pub links_at_most : Mesh → ℕ → ℕ
-links_at_most mesh v = count_below (edge_count mesh) (λ e. touches v (ends mesh e))
+abbrev pub degree : Mesh → ℕ → ℕ
+degree mesh v = count_below (edge_count mesh) (λ e. touches v (ends mesh e))
 
 -- a row of links for each vertex of a surface whose edges have lengths
 pub record AreLinks (mesh : Mesh) (lengths : List ℕ) (rows : List (List Link)) : Type 0 where
@@ -63,3 +63,7 @@ AreEven lengths size = (e : ℕ) → e < length lengths → slice_index lengths 
 abbrev pub AreUneven : List ℕ → Type 0
 AreUneven lengths = (length lengths ≡ 0)
     ⊎ ((e : ℕ) × (e < length lengths) × (slice_index lengths e ≢ slice_index lengths 0))
+
+-- the one length of all edges, where they have one
+abbrev pub IsEvenness : List ℕ → Option ℕ → Type 0
+IsEvenness lengths even = MatchOption even (AreUneven lengths) (AreEven lengths)

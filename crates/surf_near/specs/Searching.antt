@@ -1,12 +1,14 @@
 -- The states of a search that goes no farther than a radius, over any graph.
-use Rattle.std.specs.Prelude.{ℕ, ◌≡◌, ◌≢◌, ◌<◌, ◌≤◌, ◌+◌, ◌*◌, ◌⊎◌, ◌==◌, true, length, Some}
+use Rattle.std.specs.Prelude.{ℕ, ◌≡◌, ◌≢◌, ◌<◌, ◌≤◌, ◌+◌, ◌*◌, ◌⊎◌, ◌==◌, true, List, length, Some}
 use Rattle.surf_z2.specs.Parity.{count_below}
 use Rattle.surf_graphs.specs.Graphs.{Graph, joins}
 use Rattle.surf_heap.specs.Entries.{Entries, entry_of}
 use Rattle.surf_lengths.specs.Lengths.{longest}
-use Rattle.surf_tree.specs.Searches.{at, IsReached, IsOffered, IsSearch, IsTight, IsLeastTight}
+use Rattle.surf_tree.specs.Searches.{at, IsReached, IsOffered, IsTight, IsLeastTight}
 use Rattle.surf_near.specs.Near.{never}
+use Rattle.surf_near.specs.Links.{LinkTables, graph_of, weight_of}
 use Rattle.surf_near.specs.declared.tables.Tables.{Tables}
+use Rattle.surf_near.specs.declared.tables.Choice.{Choice}
 
 -- the distances of settled nodes leave room for one more edge
 abbrev pub IsShort : ℕ → (ℕ → ℕ) → Type 0
@@ -29,6 +31,10 @@ pub record IsTrimmed (radius : ℕ) (wide heap : Entries) : Type 0 where
 abbrev pub OffersNear : Graph → (ℕ → ℕ) → (ℕ → ℕ) → ℕ → ℕ → ℕ → Entries → Entries → Type 0
 OffersNear g len dist v d radius old new = (wide : Entries) → IsTrimmed radius wide old →
     (wider : Entries) × IsOffered g len dist v d wide wider × IsTrimmed radius wider new
+
+-- each settled node is listed
+abbrev pub ListsSettled : List ℕ → List ℕ → Type 0
+ListsSettled order dist = (v : ℕ) → v < length dist → at dist v ≢ never → (i : ℕ) × (i < length order) × (at order i ≡ v)
 
 -- the settled nodes stand in a list in order of distance
 pub record IsListed (nodes : ℕ) (dist order : ℕ → ℕ) (count : ℕ) : Type 0 where
@@ -73,19 +79,6 @@ pub record IsFound (g : Graph) (len : ℕ → ℕ) (base radius : ℕ) (t : Tabl
   pub listed : IsListed g.nodes (at t.distance.items) (at t.order.items) t.count
   pub chosen : (v : ℕ) → v < g.nodes → at t.distance.items v ≢ never → IsChosenAt g len t v
 
--- the state of a search: a wider search, whose heap is trimmed
-pub record IsSearchNear (g : Graph) (len : ℕ → ℕ) (base radius : ℕ) (t : Tables) (heap : Entries) : Type 0 where
-  pub room : HasRoom g.nodes t
-  pub wide : Entries
-  pub last : ℕ
-  pub search : IsSearch g len base (at t.distance.items) wide last
-      (count_below g.nodes (λ u. at t.distance.items u == never))
-  pub trimmed : IsTrimmed radius wide heap
-  pub within : (u : ℕ) → u < g.nodes → at t.distance.items u ≢ never → at t.distance.items u ≤ radius
-  pub listed : IsListed g.nodes (at t.distance.items) (at t.order.items) t.count
-  pub counted : t.count + count_below g.nodes (λ u. at t.distance.items u == never) ≡ g.nodes
-  pub chosen : (v : ℕ) → v < g.nodes → at t.distance.items v ≢ never → IsChosenAt g len t v
-
 -- the tables of a desk between two searches
 pub record IsKept (heap : Entries) (t : Tables) : Type 0 where
   pub places : length heap ≡ length t.distance.items
@@ -94,3 +87,48 @@ pub record IsKept (heap : Entries) (t : Tables) : Type 0 where
   pub inside : (i : ℕ) → i < t.count → at t.order.items i < length t.distance.items
   pub listed : (v : ℕ) → v < length t.distance.items → at t.distance.items v ≢ never →
       (i : ℕ) × (i < t.count) × (at t.order.items i ≡ v)
+
+-- The state of a search where all edges have one length: the list of settled nodes is a queue. The nodes before a place
+-- have passed on; no node of the list is farther than those behind the place by more than the length.
+pub record IsQueue (g : Graph) (len : ℕ → ℕ) (size radius : ℕ) (t : Tables) (place : ℕ) : Type 0 where
+  pub room : HasRoom g.nodes t
+  pub place_in : place ≤ t.count
+  pub some : 0 < t.count
+  pub at_first : at t.distance.items (at t.order.items 0) ≡ 0
+  pub listed : IsListed g.nodes (at t.distance.items) (at t.order.items) t.count
+  pub counted : t.count + count_below g.nodes (λ u. at t.distance.items u == never) ≡ g.nodes
+  pub span : (i j : ℕ) → i < t.count → place ≤ j → j < t.count →
+      at t.distance.items (at t.order.items i) ≤ at t.distance.items (at t.order.items j) + size
+  pub steps : (i : ℕ) → i < t.count → at t.distance.items (at t.order.items i) ≤ i * longest
+  pub within : (i : ℕ) → i < t.count → at t.distance.items (at t.order.items i) ≤ radius
+  pub tight : (i : ℕ) → 0 < i → i < t.count →
+      IsReached g len (at t.distance.items) (at t.order.items i) (at t.distance.items (at t.order.items i))
+  pub near : (i w e : ℕ) → i < place → w < g.nodes → e < g.edges → joins g (at t.order.items i) w e ≡ true →
+      at t.distance.items (at t.order.items i) + size ≤ radius →
+      (at t.distance.items w ≢ never) × (at t.distance.items w ≤ at t.distance.items (at t.order.items i) + size)
+  pub chosen : (i : ℕ) → i < place → IsChosenAt g len t (at t.order.items i)
+
+-- the node at the place has passed on, and its choice is made but not kept
+pub record IsLooked (g : Graph) (len : ℕ → ℕ) (size radius : ℕ) (t : Tables) (place p e m : ℕ) : Type 0 where
+  pub queue : IsQueue g len size radius t place
+  pub here : place < t.count
+  pub choice : IsChoice g len (at t.distance.items) (at t.least.items) (at t.order.items place) p e m
+  pub near : (w e : ℕ) → w < g.nodes → e < g.edges → joins g (at t.order.items place) w e ≡ true →
+      at t.distance.items (at t.order.items place) + size ≤ radius →
+      (at t.distance.items w ≢ never) × (at t.distance.items w ≤ at t.distance.items (at t.order.items place) + size)
+
+-- the same of the tables of a mesh's links
+
+abbrev pub Chooses : LinkTables → List ℕ → List ℕ → ℕ → Choice → Type 0
+Chooses links dist least v choice =
+    IsChoice (graph_of links) (weight_of links) (at dist) (at least) v choice.parent choice.up choice.least
+
+abbrev pub Offers : LinkTables → List ℕ → ℕ → ℕ → Entries → Entries → Type 0
+Offers links dist v radius old new = OffersNear (graph_of links) (weight_of links) (at dist) v (at dist v) radius old new
+
+abbrev pub IsQueueOf : LinkTables → ℕ → ℕ → Tables → ℕ → Type 0
+IsQueueOf links size radius t place = IsQueue (graph_of links) (weight_of links) size radius t place
+
+abbrev pub HasLooked : LinkTables → ℕ → ℕ → Tables → ℕ → Choice → Type 0
+HasLooked links size radius t place choice =
+    IsLooked (graph_of links) (weight_of links) size radius t place choice.parent choice.up choice.least

@@ -1,7 +1,10 @@
 //! The tables of one search at a time.
 ghost use Rattle.std.specs.Prelude.{◌≡◌, ◌<◌, length, slice_index, IfOk};
+ghost use Rattle.surf_near.specs.Links.{AreLinks, graph_of, weight_of};
+ghost use Rattle.surf_near.specs.Searching.{IsBlank, IsFound};
 ghost use Rattle.surf_near.specs.Near.{NearTables, IsMadeFor, IsNear, is_near};
 
+use crate::even::settle_even;
 use crate::links::Links;
 use crate::search::settle_near;
 use crate::tables::{NEVER, Tables, forget};
@@ -23,6 +26,8 @@ pub struct NearDesk {
 
 impl Model for NearDesk {
     ghost use Rattle.std.specs.Prelude.{take};
+    ghost use Rattle.surf_near.specs.Links.{AreLinks, graph_of, weight_of};
+    ghost use Rattle.surf_near.specs.Searching.{IsBlank, IsFound};
     ghost use Rattle.surf_near.specs.Near.{NearTables};
     ghost use Rattle.surf_near.specs.Searching.{IsKept};
 
@@ -38,6 +43,21 @@ impl Model for NearDesk {
     } };
 
     ghost invariant = { λ d. IsKept d.heap d.tables };
+}
+
+// Settles the vertices within a radius, by a queue where one will do.
+fn settle(links: &Links<'_>, tables: &mut Tables, heap: &mut Heap, base: VertexId, radius: u64)
+    requires base { base < links.now.mesh.vertices }
+    requires blank { IsBlank links.now.mesh.vertices tables.old }
+    requires places { length heap.old ≡ links.now.mesh.vertices }
+    ensures links { AreLinks links.now.mesh links.now.lengths links.now.rows }
+    ensures found { IsFound (graph_of links.now) (weight_of links.now) base radius tables.new }
+    ensures places { length heap.new ≡ links.now.mesh.vertices }
+{
+    match links.even() {
+        Some(size) => settle_even(links, tables, size, base, radius),
+        None => settle_near(links, tables, heap, base, radius),
+    }
 }
 
 impl NearDesk {
@@ -77,8 +97,7 @@ impl NearDesk {
             &mut self.tables.distance,
         );
         self.tables.count = 0;
-        let _even = links.even();
-        settle_near(links, &mut self.tables, &mut self.heap, base, radius);
+        settle(links, &mut self.tables, &mut self.heap, base, radius);
         self.base = base;
     }
 

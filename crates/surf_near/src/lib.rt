@@ -1,18 +1,22 @@
 //! Searches that go no farther than a radius.
 //!
 //! `Links` has for each vertex of a mesh its neighbours, with the lengths and the numbers of the
-//! edges to them side by side, and is made once for many searches. `NearDesk` takes all its memory
-//! when it is made. A search settles the vertices from a base on, the nearest first
+//! edges to them side by side, and is made once for many searches. A `NearDesk` takes all its
+//! memory when it is made. Before a search its tables are cleared only where the last one wrote.
+//!
+//! A search settles the vertices from a base on, the nearest first, as far as the radius
 //! (E. W. Dijkstra, "A note on two problems in connexion with graphs", 1959), with a heap in place
-//! of his search for the nearest, and stops where the radius is passed. Before the next search the
-//! tables are cleared only where this one wrote.
+//! of his search for the nearest. What lies past the radius never gets into the heap. Where all
+//! edges have one length, the list of settled vertices itself is the queue of a breadth-first
+//! search (E. F. Moore, "The shortest path through a maze", 1959), and there is no heap.
 //!
 //! Of each settled vertex the desk has the distance, the least neighbour from which an edge leads
-//! to this distance, that edge, and the least vertex on any shortest way from the base. All of
-//! these are the same as after a search of the whole mesh.
+//! to this distance, that edge, and the least vertex on any shortest way from the base. These are
+//! the same as after a search of the whole mesh, whichever of the two ways was taken.
 #![tactic(auto)]
 
 mod desk;
+mod even;
 mod links;
 mod search;
 mod tables;

@@ -1,9 +1,9 @@
 //! The links of each vertex, side by side.
-ghost use Rattle.std.specs.Prelude.{◌≡◌, ◌<◌, ◌≤◌, ◌+◌, length, IfOk, MatchOption};
+ghost use Rattle.std.specs.Prelude.{◌≡◌, ◌<◌, ◌≤◌, ◌+◌, length, IfOk};
 ghost use Rattle.surf_surfaces.specs.Mesh.{IsMesh};
 ghost use Rattle.surf_surfaces.specs.Surface.{edge_count};
 ghost use Rattle.surf_lengths.specs.Lengths.{AreLengths};
-ghost use Rattle.surf_near.specs.Links.{AreLinks, AreLinksAt, links_at_most, AreEven, AreUneven};
+ghost use Rattle.surf_near.specs.Links.{AreLinks, AreLinksAt, IsEvenness, degree};
 
 use std::alloc::Global;
 use std::marker::Model;
@@ -31,22 +31,20 @@ pub struct Links<'m> {
 }
 
 impl<'m> Model for Links<'m> {
-    ghost use Rattle.surf_near.specs.Links.{LinkTables, AreLinks};
+    ghost use Rattle.surf_near.specs.Links.{LinkTables, AreLinks, IsEvenness};
 
     ghost Value = { LinkTables };
 
     ghost view = { λ l. record { mesh = l.mesh.now; lengths = l.lengths.now; rows = l.rows } };
 
-    ghost use Rattle.std.specs.Prelude.{MatchOption};
-    ghost use Rattle.surf_near.specs.Links.{AreEven, AreUneven};
 
-    ghost invariant = { λ l. AreLinks l.mesh.now l.lengths.now l.rows × MatchOption l.even (AreUneven l.lengths.now) (AreEven l.lengths.now) };
+    ghost invariant = { λ l. AreLinks l.mesh.now l.lengths.now l.rows × IsEvenness l.lengths.now l.even };
 }
 
 // The length that all edges have, where they have one.
 fn even_length(lengths: &Lengths) -> Option<u32>
     ensures lengths { AreLengths lengths.now }
-    ensures even { MatchOption result (AreUneven lengths.now) (AreEven lengths.now) }
+    ensures even { IsEvenness lengths.now result }
 {
     if lengths.count() == 0 {
         return None;
@@ -71,7 +69,7 @@ fn links_of(
     requires vertex { v < mesh.now.vertices }
     requires lengths { length lengths.now ≡ edge_count mesh.now }
     ensures links { IfOk result (λ row. AreLinksAt mesh.now lengths.now v row.items) }
-    ensures few { IfOk result (λ row. length row.items ≡ links_at_most mesh.now v) }
+    ensures few { IfOk result (λ row. length row.items ≡ degree mesh.now v) }
 {
     let edges = mesh.ring_edges(v);
     let mut row = Vec::with_capacity(alloc, edges.len())?;
@@ -113,7 +111,7 @@ impl<'m> Links<'m> {
     /// The length that all edges have, where they have one. A mesh without edges has none.
     pub fn even(&self) -> Option<u32>
         ensures links { AreLinks self.now.mesh self.now.lengths self.now.rows }
-        ensures even { MatchOption result (AreUneven self.now.lengths) (AreEven self.now.lengths) }
+        ensures even { IsEvenness self.now.lengths result }
     {
         self.even
     }

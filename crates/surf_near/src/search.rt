@@ -4,7 +4,7 @@ ghost use Rattle.surf_lengths.specs.Lengths.{longest};
 ghost use Rattle.surf_tree.specs.Searches.{at};
 ghost use Rattle.surf_near.specs.Links.{AreLinks, graph_of, weight_of};
 ghost use Rattle.surf_near.specs.Near.{never};
-ghost use Rattle.surf_near.specs.Searching.{IsShort, IsChoice, OffersNear, IsBlank, IsFound};
+ghost use Rattle.surf_near.specs.Searching.{IsShort, Chooses, Offers, IsBlank, IsFound};
 
 use crate::links::Links;
 use crate::tables::{Choice, NEVER, Tables};
@@ -27,8 +27,8 @@ fn look_round(
     requires places { length heap.old ≡ links.now.mesh.vertices }
     requires fits { IsShort links.now.mesh.vertices (at distance.now) }
     requires settled { at distance.now v ≢ never }
-    ensures choice { IsChoice (graph_of links.now) (weight_of links.now) (at distance.now) (at least.now) v result.parent result.up result.least }
-    ensures offers { OffersNear (graph_of links.now) (weight_of links.now) (at distance.now) v (at distance.now v) radius heap.old heap.new }
+    ensures choice { Chooses links.now distance.now least.now v result }
+    ensures offers { Offers links.now distance.now v radius heap.old heap.new }
     ensures places { length heap.new ≡ length heap.old }
 {
     let d = distance[v.index()];

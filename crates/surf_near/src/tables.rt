@@ -2,6 +2,7 @@
 ghost use Rattle.std.specs.Prelude.{◌≡◌, ◌≢◌, ◌<◌, ◌≤◌, ◌+◌, ℕ, length, slice_set};
 ghost use Rattle.surf_tree.specs.Searches.{at};
 ghost use Rattle.surf_near.specs.Near.{never};
+ghost use Rattle.surf_near.specs.Searching.{ListsSettled};
 
 use surf_base::{EdgeId, VertexId};
 
@@ -66,7 +67,7 @@ impl Tables {
 /// Takes the listed vertices' distances away.
 pub(crate) fn forget(order: &[VertexId], distance: &mut [u64])
     requires inside { (i : ℕ) → i < length order.now → at order.now i < length distance.old }
-    requires listed { (v : ℕ) → v < length distance.old → at distance.old v ≢ never → (i : ℕ) × (i < length order.now) × (at order.now i ≡ v) }
+    requires listed { ListsSettled order.now distance.old }
     ensures none { (v : ℕ) → v < length distance.old → at distance.new v ≡ never }
 {
     for v in order {

@@ -4,4 +4,4 @@ pub mod Growing
 pub mod LengthLaws
 pub mod Choosing
 pub mod MeshTrees
-mod SearchWords
+pub mod SearchWords

@@ -1,103 +1,85 @@
-use Rattle.std.proofs.Common.{◌≡◌, ◌<◌, ◌+◌, ◌∙◌, true, List, length, sym, ap, subst, arith, add-one}
-use Rattle.std.specs.Prelude.{nat_le}
-use Rattle.std.specs.List.{list_all}
-use Rattle.surf_graphs.proofs.Counting.{left_edges}
-use Rattle.surf_surfaces.specs.Cells.{cells_of}
-use Rattle.surf_surfaces.specs.ShortestTree.{IsShortestTree}
+use Rattle.std.proofs.Common.{◌≡◌, ◌<◌, ◌^◌, List, All, length, slice_index, refl, sym, ap, ◌∙◌, subst, arith}
+use Rattle.std.proofs.lemmas.List.{get_or_read}
+use Rattle.std.proofs.lemmas.List.Elements.{All-from_recursion}
+use Rattle.surf_z2.specs.Order.{merge}
 use Rattle.surf_lengths.proofs.Positive.{lengths_positive}
-use Rattle.surf_tree.specs.Tables.{TreeTables, tree_of}
-use Rattle.surf_loops.specs.Loops.{IsGreedy, IsMadeFor}
 use Rattle.surf_basis.specs.declared.candidate.Signed.{Signed}
-use Rattle.surf_basis.specs.Candidates.{Chosen, AreKept}
-use Rattle.surf_basis.proofs.Looped.{greedy_climbed, heads_inside, heads_count}
-use Rattle.surf_basis.proofs.Kept.{none_kept}
-use Rattle.surf_basis.proofs.Settled.{all_up_to, kept_with, with_none}
-use Rattle.surf_basis.proofs.PassedOver.{kept_passed}
+use Rattle.surf_basis.specs.Candidates.{Chosen, AreKeptOver, signed_earlier, independent_of, signed_heads}
+use Rattle.surf_basis.proofs.Looped.{greedy_climbed, heads_inside, heads_small, signs_long}
+use Rattle.surf_basis.proofs.Kept.{none_kept, kept_more}
 use Rattle.surf_basis.proofs.basis.choose.Goals as goal
-use Rattle.surf_basis.proofs.basis.choose.Goals.{then-not-is_over, else-not-is_over}
 
 pub loop-base-init : goal.loop-base-init
-loop-base-init c = record {
-  kept = λ trees chosen d split are.
-      none_kept c.args.mesh.now c.args.lengths.now trees c.faces-surface.ensures.surface
-      (lengths_positive c.args.mesh.now c.args.lengths.now c.count-lengths.ensures.lengths c.requires.lengths) chosen d split c.args.choice.now.kept c.requires.fresh.0;
-  none = c.requires.fresh.1;
-  width = sym c.requires.width;
-  made = c.requires.made;
-  ways = c.requires.ways;
-}
+loop-base-init c =
+    let mesh = c.args.surface.now.mesh.now in
+    let lengths = c.args.surface.now.lengths.now in
+    let positive = lengths_positive mesh lengths c.count-lengths.ensures.lengths c.requires.lengths in
+    record {
+      made = c.requires.made;
+      width = refl;
+      kept = λ trees chosen d split are.
+          none_kept mesh lengths trees c.faces-surface.ensures.surface positive chosen d split c.args.bases.now c.args.choice.now.kept c.requires.none;
+    }
 
-pub keep_loops-requires-clause-climbed : goal.keep_loops-requires-clause-climbed
-keep_loops-requires-clause-climbed c =
-    let mesh = c.args.mesh.now in
-    let lengths = c.args.lengths.now in
-    greedy_climbed mesh lengths c.grow_tree.new.self.tree.base c.find_loops.new.self c.faces-surface.ensures.surface
-    (lengths_positive mesh lengths c.count-lengths.ensures.lengths c.requires.lengths) c.find_loops.ensures.greedy
+pub greedy-requires-clause-base : goal.greedy-requires-clause-base
+greedy-requires-clause-base c =
+    let at = get_or_read c.args.bases.now c.loop-base.base-index c.base-item.result c.loop-base-test.true c.base-item.is 0 in
+    let inside = c.requires.bases.inside c.loop-base.base-index c.loop-base-test.true in
+    omega (arith, at, inside)
 
-pub keep_loops-requires-clause-edges : goal.keep_loops-requires-clause-edges
-keep_loops-requires-clause-edges c =
-    heads_inside c.args.mesh.now c.args.lengths.now c.grow_tree.new.self.tree.base c.find_loops.new.self c.find_loops.ensures.greedy
+pub signed_loops-requires-clause-climbed : goal.signed_loops-requires-clause-climbed
+signed_loops-requires-clause-climbed c =
+    let mesh = c.args.surface.now.mesh.now in
+    let lengths = c.args.surface.now.lengths.now in
+    let positive = lengths_positive mesh lengths c.count-lengths.ensures.lengths c.requires.lengths in
+    greedy_climbed mesh lengths c.base-item.result c.greedy.new.self c.faces-surface.ensures.surface positive c.greedy.ensures.greedy
 
-pub keep_loops-requires-clause-room : goal.keep_loops-requires-clause-room
-keep_loops-requires-clause-room c =
-    omega (
-      arith,
-      heads_count c.args.mesh.now c.args.lengths.now c.grow_tree.new.self.tree.base c.find_loops.new.self c.find_loops.ensures.greedy,
-      c.requires.full,
-      c.loop-base.invariant.width,
-    )
+pub signed_loops-requires-clause-edges : goal.signed_loops-requires-clause-edges
+signed_loops-requires-clause-edges c =
+    heads_inside c.args.surface.now.mesh.now c.args.surface.now.lengths.now c.base-item.result c.greedy.new.self c.greedy.ensures.greedy
+
+pub signed_loops-requires-clause-table : goal.signed_loops-requires-clause-table
+signed_loops-requires-clause-table c =
+    signs_long c.args.surface.now.mesh.now c.args.surface.now.signatures.now c.args.choice.now.width c.requires.signed
+
+pub keep-requires : goal.keep-requires
+keep-requires c =
+    let mesh = c.args.surface.now.mesh.now in
+    let s = c.requires.signed in
+    let t = c.greedy.new.self in
+    let Small : List Signed → Type 0 = λ xs. All (λ k. k.signature < 2 ^ c.loop-base.choice.width) xs in
+    record {
+      small = subst Small (sym (c.deref.ensures.value ∙ c.in_ok-loops.ensures.loops s.split s.signatures))
+          (All-from_recursion (λ k. k.signature < 2 ^ c.loop-base.choice.width) (signed_heads mesh s.split t.tree t.heads)
+          (heads_small mesh s.split t.tree c.loop-base.choice.width (s.count ∙ sym c.loop-base.invariant.width) t.heads));
+    }
 
 pub loop-base-preserved : goal.loop-base-preserved
 loop-base-preserved c =
-    let mesh = c.args.mesh.now in
-    let lengths = c.args.lengths.now in
-    let x = c.loop-base.base in
-    let old = c.loop-base.choice in
-    let grown = c.grow_tree.new.self.tree in
-    let at = c.grow_tree.ensures.tree in
-    let positive = lengths_positive mesh lengths c.count-lengths.ensures.lengths c.requires.lengths in
+    let mesh = c.args.surface.now.mesh.now in
+    let lengths = c.args.surface.now.lengths.now in
     let surface = c.faces-surface.ensures.surface in
-    let base_in : x < mesh.vertices = omega (arith, c.loop-base-test.true, c.vertices-base-end.ensures.count) in
-    elim c.if-not-is_over.branch [
-      | then-not-is_over w ↦
-          let t = w.find_loops.new.self in
-          let g : IsGreedy mesh lengths x t = subst (λ b. IsGreedy mesh lengths b t) (at.base_is ∙ c.new.ensures) w.find_loops.ensures.greedy in
-          let s = c.requires.signed in
-          let rest = with_none mesh s.split t old c.loop-base.invariant.none in
-          record {
-            kept = λ trees chosen d split are.
-                subst (λ (k : Chosen). AreKept mesh lengths trees d (x + 1) k.kept) (sym (w.choice-is ∙ w.keep_loops.ensures.kept d are))
-                (kept_with mesh lengths trees surface positive chosen d split x (x + 1) t old base_in (add-one x) g (c.loop-base.invariant.kept trees chosen d split are));
-            none = ap (λ (k : Chosen). k.offered) (w.choice-is ∙ w.keep_loops.ensures.kept s.split s.signatures) ∙ rest.0;
-            width = ap (λ (k : Chosen). k.width) (w.choice-is ∙ w.keep_loops.ensures.kept s.split s.signatures) ∙ rest.1 ∙ c.loop-base.invariant.width;
-            made = subst (IsMadeFor mesh) (sym w.desk-is) g.made;
-            ways = c.is_over.ensures.ways;
-          }
-      | else-not-is_over w ↦
-          let over = c.is_over.ensures.over w.if-not-is_over.false in
-          let kept_is = c.kept.ensures.kept in
-          let tree_is : c.tree.result.now ≡ grown = c.tree.ensures.tree in
-          let short : IsShortestTree mesh lengths x (tree_of c.tree.result.now) =
-          subst (λ (t : TreeTables). IsShortestTree mesh lengths x (tree_of t)) (sym tree_is)
-          (subst (λ b. IsShortestTree mesh lengths b (tree_of grown)) c.new.ensures at.shortest) in
-          record {
-            kept = λ trees chosen d split are.
-                let many = left_edges (cells_of mesh) d split in
-                subst (AreKept mesh lengths trees d (x + 1)) (ap (λ (k : Chosen). k.kept) (sym w.choice-is))
-                (kept_passed mesh lengths surface positive d split trees chosen x (x + 1) (tree_of c.tree.result.now) old.kept over.size base_in (add-one x)
-                short (c.loop-base.invariant.kept trees chosen d split are)
-                (omega (arith, over.full, ap (λ (cs : List Signed). length cs) kept_is, many, c.requires.full))
-                (all_up_to over.size old.kept (subst (λ (cs : List Signed). list_all (λ k. nat_le k.candidate.length over.size) cs ≡ true) kept_is over.longest))
-                (over.null d are));
-            none = ap (λ (k : Chosen). k.offered) w.choice-is ∙ c.loop-base.invariant.none;
-            width = ap (λ (k : Chosen). k.width) w.choice-is ∙ c.loop-base.invariant.width;
-            made = subst (IsMadeFor mesh) (sym w.desk-is) c.grow_tree.ensures.made;
-            ways = c.is_over.ensures.ways;
-          }
-    ]
+    let positive = lengths_positive mesh lengths c.count-lengths.ensures.lengths c.requires.lengths in
+    let t = c.greedy.new.self in
+    let g = c.greedy.ensures.greedy in
+    let x = c.base-item.result in
+    let i = c.loop-base.base-index in
+    let at : x ≡ slice_index c.args.bases.now i = get_or_read c.args.bases.now i x c.loop-base-test.true c.base-item.is 0 in
+    let inside = c.requires.bases.inside i c.loop-base-test.true in
+    let old = c.loop-base.choice in
+    record {
+      made = g.made;
+      width = c.keep.ensures.width ∙ c.loop-base.invariant.width;
+      kept = λ trees chosen d split are.
+          (let loops = c.deref.ensures.value ∙ c.in_ok-loops.ensures.loops d are in
+          let next = ap (λ (k : Chosen). k.kept) c.in_ok-keep.ensures.kept
+          ∙ ap (λ (xs : List Signed). independent_of (merge signed_earlier old.kept xs)) loops in
+          kept_more mesh lengths trees surface positive chosen d split c.args.bases.now i x t old.kept c.keep.new.self.kept
+          (omega (arith, at, inside)) c.loop-base-test.true (sym at) g (c.loop-base.invariant.kept trees chosen d split are) next);
+    }
 
 pub returns-clause-kept : goal.returns-clause-kept
-returns-clause-kept c trees chosen d split are =
-    let n = c.vertices-base-end.ensures.count in
-    let e : c.loop-base.base ≡ c.args.mesh.now.vertices = omega (arith, n, c.loop-base-test.false, c.loop-base.auto.base-end) in
-    subst (λ k. AreKept c.args.mesh.now c.args.lengths.now trees d k c.loop-base.choice.kept) e (c.loop-base.invariant.kept trees chosen d split are)
+returns-clause-kept c =
+    let e : c.loop-base.base-index ≡ length c.args.bases.now = omega (arith, c.loop-base-test.false, c.loop-base.auto.base-index-end) in
+    subst (λ k. AreKeptOver c.args.surface.now.mesh.now c.args.surface.now.lengths.now c.args.surface.now.signatures.now c.args.bases.now k c.loop-base.choice.kept) e
+    c.loop-base.invariant.kept

@@ -1,26 +1,14 @@
-use Rattle.std.proofs.Common.{◌≡◌, ◌<◌, ◌≤◌, ◌∙◌, ℕ, List, length, arith, set, ap, sym, subst, None, get_or-set_same, eqb}
+use Rattle.std.proofs.Common.{◌≡◌, ◌<◌, ◌∙◌, ℕ, List, length, arith, set, ap, sym, subst, None, get_or-set_same, eqb}
 use Rattle.std.proofs.Math.ListN.{length-set}
 use Rattle.surf_z2.specs.Parity.{count_below}
-use Rattle.surf_lengths.specs.Lengths.{longest}
-use Rattle.surf_surfaces.specs.Surface.{edge_count}
-use Rattle.surf_net.proofs.RowLaws.{cells_few}
 use Rattle.surf_tree.specs.Searches.{at}
-use Rattle.surf_tree.proofs.LengthLaws.{short_lengths}
 use Rattle.surf_tree.proofs.Offering.{first_offer}
 use Rattle.surf_near.specs.Near.{never}
-use Rattle.surf_near.specs.Links.{LinkTables, AreLinks, graph_of, weight_of}
+use Rattle.surf_near.specs.Links.{graph_of, weight_of}
 use Rattle.surf_near.specs.Searching.{IsChoice, OffersNear}
+use Rattle.surf_near.proofs.Linking.{links_small, links_short, links_positive}
 use Rattle.surf_near.proofs.Turns.{near_begins, near_ends, turn_in, turn_short, turn_fewer, turn_room, turn_near}
 use Rattle.surf_near.proofs.search.settle_near.Goals as goal
-
-small : (net : LinkTables) → AreLinks net.mesh net.lengths net.rows → net.mesh.vertices ≤ longest
-small net are = let few = (cells_few net.mesh are.surface are.few).0 in omega arith
-
-short : (net : LinkTables) → AreLinks net.mesh net.lengths net.rows → (e : ℕ) → weight_of net e ≤ longest
-short net are = short_lengths net.lengths are.are_lengths
-
-positive : (net : LinkTables) → AreLinks net.mesh net.lengths net.rows → (e : ℕ) → e < edge_count net.mesh → 1 ≤ weight_of net e
-positive net are e l = (are.are_lengths e 0 (omega (arith, l, are.as_many))).positive
 
 pub loop-v-init : goal.loop-v-init
 loop-v-init c =
@@ -30,7 +18,7 @@ loop-v-init c =
     let first = first_offer net.mesh.vertices base c.clear.new.self c.offer.new.self c.requires.base (rw (← c.requires.places) c.clear.ensures.empty) (rw (← c.number.ensures) c.offer.ensures.entry) in
     record {
       places = first.2;
-      search = near_begins (graph_of net) (weight_of net) base c.args.radius (small net are) (short net are) c.args.tables.now c.offer.new.self c.requires.base c.requires.blank first.0 first.1;
+      search = near_begins (graph_of net) (weight_of net) base c.args.radius (links_small net are) (links_short net are) c.args.tables.now c.offer.new.self c.requires.base c.requires.blank first.0 first.1;
     }
 
 pub list-requires-clause-room : goal.list-requires-clause-room
@@ -38,25 +26,25 @@ list-requires-clause-room c =
     let net = c.args.links.now in
     let are = c.requires.links in
     let s = c.loop-v.invariant.search in
-    let room = turn_room (graph_of net) (weight_of net) c.args.base c.args.radius (small net are) (short net are) c.loop-v.tables c.loop-v.heap s c.in-Some.v c.in-Some.d c.in-Some.field-0-2 c.in-Some.ensures.taken.0 in
+    let room = turn_room (graph_of net) (weight_of net) c.args.base c.args.radius (links_small net are) (links_short net are) c.loop-v.tables c.loop-v.heap s c.in-Some.v c.in-Some.d c.in-Some.field-0-2 c.in-Some.ensures.taken.0 in
     omega (arith, room, s.room.order)
 
 pub look_round-choice-requires-clause-fits : goal.look_round-choice-requires-clause-fits
 look_round-choice-requires-clause-fits c =
     let net = c.args.links.now in
     let are = c.requires.links in
-    let few = small net are in
+    let few = links_small net are in
     let s = c.loop-v.invariant.search in
-    let all = turn_short (graph_of net) (weight_of net) c.args.base c.args.radius few (short net are) c.loop-v.tables c.loop-v.heap s c.in-Some.v c.in-Some.d c.in-Some.field-0-2 c.in-Some.ensures.taken.0 in
+    let all = turn_short (graph_of net) (weight_of net) c.args.base c.args.radius few (links_short net are) c.loop-v.tables c.loop-v.heap s c.in-Some.v c.in-Some.d c.in-Some.field-0-2 c.in-Some.ensures.taken.0 in
     rw (c.deref.ensures.value, c.list.ensures.distance) (λ u l settled. let f = all u l settled in omega (arith, f, few))
 
 pub look_round-choice-requires-clause-settled : goal.look_round-choice-requires-clause-settled
 look_round-choice-requires-clause-settled c =
     let net = c.args.links.now in
     let are = c.requires.links in
-    let few = small net are in
+    let few = links_small net are in
     let s = c.loop-v.invariant.search in
-    let inside = turn_in (graph_of net) (weight_of net) c.args.base c.args.radius few (short net are) c.loop-v.tables c.loop-v.heap s c.in-Some.v c.in-Some.d c.in-Some.field-0-2 c.in-Some.ensures.taken.0 in
+    let inside = turn_in (graph_of net) (weight_of net) c.args.base c.args.radius few (links_short net are) c.loop-v.tables c.loop-v.heap s c.in-Some.v c.in-Some.d c.in-Some.field-0-2 c.in-Some.ensures.taken.0 in
     let here = get_or-set_same c.loop-v.tables.distance.items c.in-Some.v c.in-Some.d 0 (omega (arith, inside.0, s.room.distance)) in
     rw (c.deref.ensures.value, c.list.ensures.distance, c.new.ensures, here) (λ e. absurd (omega (arith, inside.1, few, e)))
 
@@ -69,7 +57,7 @@ loop-v-smaller c =
     let net = c.args.links.now in
     let are = c.requires.links in
     let s = c.loop-v.invariant.search in
-    let fewer = turn_fewer (graph_of net) (weight_of net) c.args.base c.args.radius (small net are) (short net are) c.loop-v.tables c.loop-v.heap s c.in-Some.v c.in-Some.d c.in-Some.field-0-2 c.in-Some.ensures.taken.0 in
+    let fewer = turn_fewer (graph_of net) (weight_of net) c.args.base c.args.radius (links_small net are) (links_short net are) c.loop-v.tables c.loop-v.heap s c.in-Some.v c.in-Some.d c.in-Some.field-0-2 c.in-Some.ensures.taken.0 in
     let now = distance_after c.loop-v.tables.distance.items c.list.new.self.distance.items c.keep.new.self.distance.items c.in-Some.v c.in-Some.d c.list.ensures.distance (ap (λ d. d.items) c.keep.ensures.distance) in
     subst (λ (xs : List ℕ). count_below net.mesh.vertices (λ u. eqb (at xs u) never) < count_below net.mesh.vertices (λ u. eqb (at c.loop-v.tables.distance.items u) never)) (sym now) fewer
 
@@ -79,7 +67,7 @@ loop-v-preserved c =
     let are = c.requires.links in
     let graph = graph_of net in
     let len = weight_of net in
-    let few = small net are in
+    let few = links_small net are in
     let t = c.loop-v.tables in
     let heap = c.loop-v.heap in
     let s = c.loop-v.invariant.search in
@@ -87,7 +75,7 @@ loop-v-preserved c =
     let k = c.in-Some.d in
     let choice = c.look_round-choice.result in
     let dist = set t.distance.items v k in
-    let inside = turn_in graph len c.args.base c.args.radius few (short net are) t heap s v k c.in-Some.field-0-2 c.in-Some.ensures.taken.0 in
+    let inside = turn_in graph len c.args.base c.args.radius few (links_short net are) t heap s v k c.in-Some.field-0-2 c.in-Some.ensures.taken.0 in
     let here : at dist v ≡ k = get_or-set_same t.distance.items v k 0 (omega (arith, inside.0, s.room.distance)) in
     let listed : c.deref.result.now ≡ dist = c.deref.ensures.value ∙ c.list.ensures.distance in
     let leasts : c.deref-in-Some.result.now ≡ t.least.items = c.deref-in-Some.ensures.value ∙ ap (λ d. d.items) c.list.ensures.least in
@@ -96,7 +84,7 @@ loop-v-preserved c =
     let offers : OffersNear graph len (at dist) v k c.args.radius (set heap v None) c.look_round-choice.new.heap = rw (listed, c.new.ensures, here, taken) at c.look_round-choice.ensures.offers in
     record {
       places = c.look_round-choice.ensures.places ∙ (ap length taken ∙ (length-set heap v None ∙ c.loop-v.invariant.places));
-      search = turn_near graph len c.args.base c.args.radius few (short net are) t heap s v k c.in-Some.field-0-2 c.in-Some.ensures.taken.0 (positive net are)
+      search = turn_near graph len c.args.base c.args.radius few (links_short net are) t heap s v k c.in-Some.field-0-2 c.in-Some.ensures.taken.0 (links_positive net are)
           c.keep.new.self c.look_round-choice.new.heap choice.parent choice.up choice.least
           (ap (λ d. d.items) c.keep.ensures.order ∙ c.list.ensures.order)
           (c.keep.ensures.count ∙ c.list.ensures.count)
@@ -111,4 +99,4 @@ pub returns-clause-found : goal.returns-clause-found
 returns-clause-found c =
     let net = c.args.links.now in
     let are = c.requires.links in
-    near_ends (graph_of net) (weight_of net) c.args.base c.args.radius (small net are) (short net are) c.loop-v.tables c.loop-v.heap c.loop-v.invariant.search c.in_default.ensures.taken.0
+    near_ends (graph_of net) (weight_of net) c.args.base c.args.radius (links_small net are) (links_short net are) c.loop-v.tables c.loop-v.heap c.loop-v.invariant.search c.in_default.ensures.taken.0

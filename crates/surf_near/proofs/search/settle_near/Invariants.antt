@@ -3,7 +3,7 @@ use Rattle.surf_z2.specs.Parity.{count_below}
 use Rattle.surf_tree.specs.Searches.{at}
 use Rattle.surf_near.specs.Links.{graph_of, weight_of}
 use Rattle.surf_near.specs.Near.{never}
-use Rattle.surf_near.specs.Searching.{IsSearchNear}
+use Rattle.surf_near.proofs.Turns.{IsSearchNear}
 use Rattle.surf_near.proofs.search.settle_near.Given as goal
 
 abbrev pub invariant-loop-v : goal.invariant-loop-v

@@ -1,27 +1,25 @@
-use Rattle.std.proofs.Common.{◌≡◌, List, ap, sym, subst, arith, length}
-use Rattle.surf_basis.specs.declared.candidate.Signed.{Signed}
+use Rattle.std.proofs.Common.{◌≡◌, refl, sym, subst, arith, ◌∙◌}
+use Rattle.surf_basis.specs.Candidates.{Chosen}
 use Rattle.surf_basis.proofs.Sifted.{AreSmall, merged_small, kept_small}
 use Rattle.surf_basis.proofs.choosing.Choice.keep.Goals as goal
 
 pub sift-requires-clause-small : goal.sift-requires-clause-small
 sift-requires-clause-small c =
     let inside = c.self.inside in
-    merged_small inside.sieve.width inside.kept.items inside.offered.items c.deref.result.now c.deref-2.result.now c.merge.new.merged.items c.deref-3.result.now
-    c.self.invariant.5 c.self.invariant.6 c.deref.ensures.value c.deref-2.ensures.value c.merge.ensures.merged c.deref-3.ensures.value
+    subst (λ w. AreSmall w c.deref-2.result.now) (sym c.self.invariant.0)
+    (merged_small inside.width inside.kept.items c.args.offered.now c.deref.result.now c.args.offered.now c.merge.new.merged.items c.deref-2.result.now
+    c.self.invariant.4 (subst (λ (k : Chosen). AreSmall k.width c.args.offered.now) (sym c.self.view_is) c.requires.small) c.deref.ensures.value refl c.merge.ensures.merged c.deref-2.ensures.value)
 
-pub invariant_of-self : goal.invariant_of-self
-invariant_of-self c =
+pub invariant_of-self-2 : goal.invariant_of-self-2
+invariant_of-self-2 c =
     let inside = c.self.inside in
     let width : c.sift.new.sieve.width ≡ inside.sieve.width = c.sift.ensures.width in
-    let small = merged_small inside.sieve.width inside.kept.items inside.offered.items c.deref.result.now c.deref-2.result.now c.merge.new.merged.items c.deref-3.result.now
-    c.self.invariant.5 c.self.invariant.6 c.deref.ensures.value c.deref-2.ensures.value c.merge.ensures.merged c.deref-3.ensures.value in
-    let kept = subst (AreSmall inside.sieve.width) (sym c.sift.ensures.kept) (kept_small inside.sieve.width c.deref-3.result.now small) in
-    let none : length c.clear.new.self.items ≡ 0 = ap (λ (xs : List Signed). length xs) c.clear.ensures.items in (
-      omega (arith, c.sift.ensures.few, width),
-      omega (arith, none),
+    let wide : inside.sieve.width ≡ inside.width = c.self.invariant.0 in
+    let small = merged_small inside.width inside.kept.items c.args.offered.now c.deref.result.now c.args.offered.now c.merge.new.merged.items c.deref-2.result.now
+    c.self.invariant.4 (subst (λ (k : Chosen). AreSmall k.width c.args.offered.now) (sym c.self.view_is) c.requires.small) c.deref.ensures.value refl c.merge.ensures.merged c.deref-2.ensures.value in (
+      width ∙ wide,
+      omega (arith, c.sift.ensures.few, width, wide),
       omega (arith, c.sift.ensures.room, width, c.self.invariant.2),
-      omega (arith, c.clear.ensures.capacity, width, c.self.invariant.3),
-      omega (arith, c.merge.ensures.room, width, c.self.invariant.4),
-      subst (λ w. AreSmall w c.sift.new.kept.items) (sym width) kept,
-      λ k d l. absurd (omega (arith, none, l)),
+      c.self.invariant.3,
+      subst (AreSmall inside.width) (sym c.sift.ensures.kept) (kept_small inside.width c.deref-2.result.now small),
     )

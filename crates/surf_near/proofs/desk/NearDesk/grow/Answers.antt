@@ -1,6 +1,6 @@
 use Rattle.std.proofs.Common.{◌∙◌, arith}
 use Rattle.std.proofs.lemmas.List.{get_or-take, length-take-le}
-use Rattle.surf_net.proofs.RowLaws.{cells_few}
+use Rattle.surf_near.proofs.Linking.{links_few, links_small, links_positive}
 use Rattle.surf_near.proofs.NearTrees.{near_found}
 use Rattle.surf_near.proofs.desk.NearDesk.grow.Goals as goal
 
@@ -16,9 +16,8 @@ forget-requires-clause-listed c =
 pub returns : goal.returns
 returns c =
     let net = c.args.links.now in
-    let are = c.even-even.ensures.links in
-    let few = (cells_few net.mesh are.surface are.few).0 in
+    let are = c.settle.ensures.links in
     record {
-      near = near_found net.mesh net.lengths c.args.base c.args.radius c.settle_near.new.tables are.surface
-          (λ e l. (are.are_lengths e 0 (omega (arith, l, are.as_many))).positive) (omega arith) c.settle_near.ensures.found few;
+      near = near_found net.mesh net.lengths c.args.base c.args.radius c.settle.new.tables are.surface (links_positive net are)
+          (links_small net are) c.settle.ensures.found (links_few net are);
     }

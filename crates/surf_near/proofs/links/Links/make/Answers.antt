@@ -5,7 +5,7 @@ use Rattle.std.proofs.lemmas.List.{get_or_push, get_or_append_left}
 use Rattle.std.proofs.lemmas.List.Sums.{sum_by_push}
 use Rattle.surf_net.proofs.RowLaws.{cells_few}
 use Rattle.surf_near.specs.declared.links.Link.{Link}
-use Rattle.surf_near.specs.Links.{AreLinksAt, links_at_most}
+use Rattle.surf_near.specs.Links.{AreLinksAt, degree}
 use Rattle.surf_near.proofs.RowCounts.{rows_before, rows_next}
 use Rattle.surf_near.proofs.links.Links.make.Goals as goal
 
@@ -16,7 +16,7 @@ push-requires c =
     let few = cells_few mesh surface c.vertices-v-end.ensures.few in
     let all = rows_before mesh c.loop-v.v mesh.vertices (omega (arith, c.loop-v-test.true, c.vertices-v-end.ensures.count)) in
     let total = c.loop-v.invariant.total in
-    let row : length c.deref.result.now ≡ links_at_most mesh c.loop-v.v = ap length c.deref.ensures.value ∙ c.in_ok-row.ensures.few ∙ ap (links_at_most mesh) c.new.ensures in
+    let row : length c.deref.result.now ≡ degree mesh c.loop-v.v = ap length c.deref.ensures.value ∙ c.in_ok-row.ensures.few ∙ ap (degree mesh) c.new.ensures in
     omega (arith, all, total, row, few.1)
 
 pub loop-v-preserved : goal.loop-v-preserved
@@ -25,7 +25,7 @@ loop-v-preserved c =
     let inv = c.loop-v.invariant in
     let row = c.in_ok-row.row.items in
     let pushed : c.push.new.self ≡ c.loop-v.rows ++ row ∷ [] = c.in_ok-push.ensures.ok ∙ ap (λ (xs : List Link). c.loop-v.rows ++ xs ∷ []) c.deref.ensures.value in
-    let size : length row ≡ links_at_most mesh c.loop-v.v = c.in_ok-row.ensures.few ∙ ap (links_at_most mesh) c.new.ensures in
+    let size : length row ≡ degree mesh c.loop-v.v = c.in_ok-row.ensures.few ∙ ap (degree mesh) c.new.ensures in
     let more = sum_by_push {X = List Link} length c.loop-v.rows row in
     let here : AreLinksAt mesh c.args.lengths.now c.loop-v.v row = subst (λ v. AreLinksAt mesh c.args.lengths.now v row) c.new.ensures c.in_ok-row.ensures.links in
     record {

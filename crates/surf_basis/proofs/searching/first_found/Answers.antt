@@ -1,0 +1,48 @@
+use Rattle.std.proofs.Common.{◌≡◌, ◌<◌, ℕ, List, refl, sym, ap, ◌∙◌, subst}
+use Rattle.std.proofs.lemmas.List.{take_all}
+use Rattle.surf_surfaces.proofs.FirstCycleLaws.{shortest_trees}
+use Rattle.surf_basis.specs.declared.candidate.Signed.{Signed}
+use Rattle.surf_basis.specs.Found.{SurfaceTables, AreFound, first_from, IsFirstAmong}
+use Rattle.surf_basis.proofs.Placed.{first_begun, first_next}
+use Rattle.surf_basis.proofs.searching.first_found.Goals as goal
+
+pub loop-v-init : goal.loop-v-init
+loop-v-init c = record {
+  same = refl;
+  first = first_begun c.args.finder.now.mesh c.args.finder.now.lengths c.args.finder.now.signs c.args.vertices.now;
+}
+
+pub find-requires : goal.find-requires
+find-requires c = record {
+  base = subst (λ (f : SurfaceTables). c.v-item.result < f.mesh.vertices) (sym c.loop-v.invariant.same)
+      (subst (λ v. v < c.args.finder.now.mesh.vertices) (sym c.v-item.is) (c.requires.inside c.loop-v.v-index c.v-item.result c.loop-v-test.true));
+}
+
+pub loop-v-preserved : goal.loop-v-preserved
+loop-v-preserved c =
+    let f = c.args.finder.now in
+    let surface = c.requires.positive.0 in
+    let positive = c.requires.positive.1 in
+    let z = c.v-item.result in
+    let found = c.find.new.found.items in
+    let z_in : z < f.mesh.vertices =
+    subst (λ v. v < f.mesh.vertices) (sym c.v-item.is) (c.requires.inside c.loop-v.v-index z c.loop-v-test.true) in
+    let there : AreFound f.mesh f.lengths f.signs c.loop-v.first z found =
+    subst (λ (g : SurfaceTables). AreFound g.mesh g.lengths g.signs c.loop-v.first z found) c.loop-v.invariant.same c.in_ok-find.ensures.found in
+    let next : c.first_from-first.result ≡ first_from c.loop-v.first found =
+    c.first_from-first.ensures.first ∙ ap (λ (xs : List Signed). first_from c.loop-v.first xs) c.deref.ensures.value in
+    record {
+      same = c.find.ensures.same ∙ c.loop-v.invariant.same;
+      first = λ trees chosen d split are.
+          first_next f.mesh f.lengths (λ x. (trees x).tree) surface positive (shortest_trees f.mesh f.lengths surface positive trees chosen) d split
+          c.args.vertices.now c.loop-v.v-index z c.loop-v.first c.first_from-first.result found z_in c.loop-v-test.true (sym c.v-item.is)
+          (c.loop-v.invariant.first trees chosen d split are) (there trees chosen d are) next;
+    }
+
+pub returns : goal.returns
+returns c =
+    let f = c.args.finder.now in
+    record {
+      first = subst (λ (xs : List ℕ). IsFirstAmong f.mesh f.lengths f.signs xs c.loop-v.first) (take_all c.loop-v.v-index c.args.vertices.now c.loop-v-test.false)
+          c.loop-v.invariant.first;
+    }

@@ -1,0 +1,14 @@
+use Rattle.std.proofs.Common.{ap, ◌∙◌}
+use Rattle.std.specs.Option.{option_map}
+use Rattle.surf_lengths.proofs.Positive.{lengths_positive}
+use Rattle.surf_basis.specs.Candidates.{loop_in}
+use Rattle.surf_basis.proofs.First.{first_heads}
+use Rattle.surf_basis.proofs.shortest.first_at.Goals as goal
+
+pub returns-clause-first : goal.returns-clause-first
+returns-clause-first c trees chosen =
+    let mesh = c.args.surface.now.mesh.now in
+    let lengths = c.args.surface.now.lengths.now in
+    let positive = lengths_positive mesh lengths c.count-lengths.ensures.lengths c.requires.lengths in
+    ap (option_map (loop_in mesh trees)) c.first_of.ensures.first
+    ∙ first_heads mesh lengths trees c.faces-surface.ensures.surface positive chosen c.args.base c.greedy.new.self c.requires.base c.greedy.ensures.greedy

@@ -1,0 +1,21 @@
+-- Vertices that are marked in a table.
+use Rattle.std.specs.Prelude.{ℕ, ◌≡◌, ◌≢◌, ◌<◌, true, false, Bool, List, All, Contains, length, slice_index, slice_index_or}
+use Rattle.surf_surfaces.specs.Mesh.{Mesh}
+use Rattle.surf_surfaces.specs.Surface.{edge_count, ends}
+use Rattle.surf_cotree.specs.Tables.{CotreeTables}
+use Rattle.surf_basis.specs.declared.candidate.Signed.{Signed}
+
+-- the list has those of the first vertices that are marked, increasing
+pub record AreMarkedIn (marked : List Bool) (bound : ℕ) (list : List ℕ) : Type 0 where
+  pub inside : (k : ℕ) → k < length list → slice_index list k < bound
+  pub rise : (i j : ℕ) → i < j → j < length list → slice_index list i < slice_index list j
+  pub all : (v : ℕ) → v < bound → slice_index_or marked v false ≡ true → Contains list v
+
+-- a list has the base of each candidate
+abbrev pub HasBases : List ℕ → List Signed → Type 0
+HasBases list kept = All (λ s. Contains list s.candidate.base) kept
+
+-- a list has the lesser end of each edge whose signature isn't empty
+abbrev pub HasSignedEnds : Mesh → CotreeTables → List ℕ → Type 0
+HasSignedEnds mesh s list =
+    (e : ℕ) → e < edge_count mesh → slice_index s.signatures e ≢ 0 → Contains list (ends mesh e).0

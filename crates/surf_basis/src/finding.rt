@@ -1,0 +1,216 @@
+//! The loops that a search from one vertex finds.
+ghost use Rattle.std.specs.Prelude.{◌≡◌, ◌<◌, ◌&&◌, IsTrue, bit_xor, min, length, IfOk, OnOk};
+ghost use Rattle.surf_surfaces.specs.Surface.{edge_count, ends};
+ghost use Rattle.surf_near.specs.Near.{IsMadeFor, is_near};
+ghost use Rattle.surf_basis.specs.Found.{surface_of, search_of, IsReady, is_between, told_loop, told_loops, wanted_loop, AreFound};
+ghost use Rattle.surf_basis.specs.Places.{place_of, is_sought, radius_of};
+
+use crate::candidate::{Candidate, Signed, copy_signature};
+use crate::surface::Surface;
+use crate::ways::Ways;
+use std::alloc::Global;
+use std::marker::Model;
+use surf_base::{EdgeId, NoMemory, VertexId};
+use surf_near::{Links, NearDesk};
+
+/// Finds the loops of edges at one vertex after the other.
+#[derive(Drop)]
+pub(crate) struct Finder<'a> {
+    surface: Surface<'a>,
+    links: Links<'a>,
+    desk: NearDesk,
+    ways: Ways,
+}
+
+impl<'a> Model for Finder<'a> {
+    ghost use Rattle.std.specs.Prelude.{◌≡◌, length};
+    ghost use Rattle.surf_surfaces.specs.Surface.{edge_count};
+    ghost use Rattle.surf_near.specs.Near.{IsMadeFor};
+    ghost use Rattle.surf_basis.specs.Found.{SurfaceTables, surface_of};
+
+    ghost Value = { SurfaceTables };
+
+    ghost view = { λ f. surface_of f.surface };
+
+    ghost invariant = { λ f. (f.links.mesh ≡ f.surface.mesh.now) × (f.links.lengths ≡ f.surface.lengths.now)
+        × IsMadeFor f.surface.mesh.now f.desk × (length f.ways.numbers ≡ f.surface.mesh.now.vertices)
+        × (length f.surface.lengths.now ≡ edge_count f.surface.mesh.now)
+        × (length f.surface.signatures.now.signatures ≡ edge_count f.surface.mesh.now) };
+}
+
+// The lesser of two vertices.
+fn lesser(u: VertexId, v: VertexId) -> VertexId
+    ensures lesser { result ≡ min u v }
+{
+    if u.number() <= v.number() { u } else { v }
+}
+
+// The loop of an edge between vertices that a search from a base has reached, with its least base and its class.
+fn loop_of(
+    surface: &Surface<'_>,
+    desk: &NearDesk,
+    ways: &Ways,
+    base: VertexId,
+    edge: EdgeId,
+) -> Signed
+    requires ready { IsReady (search_of surface.now desk.now ways.now base) }
+    requires edge { edge < edge_count surface.now.mesh.now }
+    requires between { IsTrue (is_between (search_of surface.now desk.now ways.now base) edge) }
+    ensures told { result ≡ told_loop (search_of surface.now desk.now ways.now base) edge }
+{
+    let _surface = surface.mesh.faces();
+    let (u, v) = surface.mesh.ends(edge);
+    let length = desk.distance(u) + u64::from(surface.lengths.of(edge)) + desk.distance(v);
+    let mut signature = copy_signature(ways.class(u));
+    signature.add(surface.signatures.signature(edge));
+    signature.add(ways.class(v).bits());
+    Signed {
+        candidate: Candidate {
+            length,
+            base: lesser(desk.least(u), desk.least(v)),
+            edge,
+        },
+        from: base,
+        signature,
+    }
+}
+
+// Whether both ends of an edge were reached.
+fn is_between(surface: &Surface<'_>, desk: &NearDesk, edge: EdgeId) -> bool
+    requires made { IsMadeFor surface.now.mesh.now desk.now }
+    requires edge { edge < edge_count surface.now.mesh.now }
+    ensures between { (is_near desk.now (ends surface.now.mesh.now edge).0 && is_near desk.now (ends surface.now.mesh.now edge).1) ≡ result }
+{
+    let _surface = surface.mesh.faces();
+    let (u, v) = surface.mesh.ends(edge);
+    desk.is_near(u) && desk.is_near(v)
+}
+
+// Whether the loop of an edge between vertices that were reached is null as far as two numbers tell: those of its ends are
+// the same, and its own signature is empty.
+fn is_plain(
+    surface: &Surface<'_>,
+    desk: &NearDesk,
+    ways: &Ways,
+    base: VertexId,
+    edge: EdgeId,
+) -> bool
+    requires ready { IsReady (search_of surface.now desk.now ways.now base) }
+    requires edge { edge < edge_count surface.now.mesh.now }
+    ensures plain { IsTrue result → (told_loop (search_of surface.now desk.now ways.now base) edge).signature ≡ 0 }
+{
+    let _surface = surface.mesh.faces();
+    let (u, v) = surface.mesh.ends(edge);
+    ways.are_alike(u, v) && surface.signatures.signature(edge).is_empty()
+}
+
+// Whether a candidate comes before a limit, by length and then by base.
+fn is_sought(candidate: &Candidate, limit: &Option<Candidate>) -> bool
+    ensures sought { result ≡ is_sought limit.now (place_of candidate.now) }
+{
+    match limit {
+        Some(last) => {
+            candidate.length < last.length
+                || candidate.length == last.length && candidate.base.number() < last.base.number()
+        }
+        None => true,
+    }
+}
+
+// How far a search has to go that finds the loops before a limit: the ends of an edge are within half the length of its
+// loop.
+fn radius(limit: &Option<Candidate>) -> u64
+    ensures radius { result ≡ radius_of limit.now }
+{
+    match limit {
+        Some(last) => last.length / 2,
+        None => u64::MAX,
+    }
+}
+
+// The loop of an edge, if its ends were reached, it isn't null and it comes before a limit.
+fn wanted_loop(
+    surface: &Surface<'_>,
+    desk: &NearDesk,
+    ways: &Ways,
+    base: VertexId,
+    limit: &Option<Candidate>,
+    edge: EdgeId,
+) -> Option<Signed>
+    requires ready { IsReady (search_of surface.now desk.now ways.now base) }
+    requires edge { edge < edge_count surface.now.mesh.now }
+    ensures wanted { result ≡ wanted_loop (search_of surface.now desk.now ways.now base) limit.now edge }
+{
+    if !is_between(surface, desk, edge) || is_plain(surface, desk, ways, base, edge) {
+        return None;
+    }
+    let signed = loop_of(surface, desk, ways, base, edge);
+    if is_sought(&signed.candidate, limit) && !signed.signature.bits().is_empty() {
+        Some(signed)
+    } else {
+        None
+    }
+}
+
+// Lists the loops that aren't null and come before a limit.
+fn list_loops(
+    surface: &Surface<'_>,
+    desk: &NearDesk,
+    ways: &Ways,
+    base: VertexId,
+    limit: &Option<Candidate>,
+    found: &mut Vec<Signed>,
+) -> Result<(), NoMemory>
+    requires ready { IsReady (search_of surface.now desk.now ways.now base) }
+    ensures told { OnOk result (found.new.items ≡ told_loops (search_of surface.now desk.now ways.now base) limit.now (edge_count surface.now.mesh.now)) }
+{
+    found.clear();
+    for e in 0..surface.mesh.edges() {
+        if let Some(signed) = wanted_loop(surface, desk, ways, base, limit, EdgeId::new(e)) {
+            found.push(signed)?;
+        }
+    }
+    Ok(())
+}
+
+impl<'a> Finder<'a> {
+    /// A finder of loops on a surface.
+    pub fn make(alloc: Global, surface: &Surface<'a>) -> Result<Finder<'a>, NoMemory>
+        requires lengths { length surface.now.lengths.now ≡ edge_count surface.now.mesh.now }
+        requires signatures { length surface.now.signatures.now.signatures ≡ edge_count surface.now.mesh.now }
+        ensures made { IfOk result (λ finder. finder ≡ surface_of surface.now) }
+    {
+        let surface = Surface {
+            mesh: surface.mesh,
+            lengths: surface.lengths,
+            signatures: surface.signatures,
+        };
+        let links = Links::make(alloc, surface.mesh, surface.lengths)?;
+        let desk = NearDesk::make(alloc, surface.mesh)?;
+        let ways = Ways::make(alloc, surface.mesh)?;
+        Ok(Finder {
+            surface,
+            links,
+            desk,
+            ways,
+        })
+    }
+
+    /// Finds the loops at a base that aren't null and come before a limit, if there is one.
+    pub fn find(
+        &mut self,
+        base: VertexId,
+        limit: &Option<Candidate>,
+        found: &mut Vec<Signed>,
+    ) -> Result<(), NoMemory>
+        requires base { base < self.old.mesh.vertices }
+        ensures found { OnOk result (AreFound self.old.mesh self.old.lengths self.old.signs limit.now base found.new.items) }
+        ensures same { self.new ≡ self.old }
+    {
+        let _surface = self.surface.mesh.faces();
+        let _lengths = self.surface.lengths.count();
+        self.desk.grow(&self.links, base, radius(limit));
+        self.ways.sum(&self.surface, &self.desk, base)?;
+        list_loops(&self.surface, &self.desk, &self.ways, base, limit, found)
+    }
+}

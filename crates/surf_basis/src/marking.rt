@@ -1,0 +1,65 @@
+//! Vertices that every closed walk meets which isn't null.
+ghost use Rattle.std.specs.Prelude.{◌≡◌, ◌≢◌, ◌<◌, ◌^◌, ℕ, false, true, All, Contains, IsPermutation, IfOk, length, slice_index, slice_index_or};
+ghost use Rattle.surf_surfaces.specs.Surface.{edge_count, ends};
+ghost use Rattle.surf_basis.specs.Marks.{AreMarkedIn, HasSignedEnds};
+
+use std::alloc::Global;
+use surf_base::{EdgeId, NoMemory, VertexId};
+use surf_cotree::CotreeDesk;
+use surf_mesh::HalfMesh;
+
+// Marks the lesser ends of the edges whose signature isn't empty.
+fn mark_ends(mesh: &HalfMesh, signatures: &CotreeDesk, marked: &mut [bool])
+    requires table { length signatures.now.signatures ≡ edge_count mesh.now }
+    requires marks { length marked.old ≡ mesh.now.vertices }
+    ensures marks { length marked.new ≡ mesh.now.vertices }
+    ensures ends { (e : ℕ) → e < edge_count mesh.now → slice_index signatures.now.signatures e ≢ 0 → slice_index_or marked.new (ends mesh.now e).0 false ≡ true }
+{
+    let _surface = mesh.faces();
+    for e in 0..mesh.edges() {
+        let edge = EdgeId::new(e);
+        if !signatures.signature(edge).is_empty() {
+            let (low, _) = mesh.ends(edge);
+            marked[low.index()] = true;
+        }
+    }
+}
+
+// Lists the vertices that are marked, increasing.
+pub(crate) fn list_marked(alloc: Global, marked: &[bool]) -> Result<Vec<VertexId>, NoMemory>
+    requires few { length marked.now < 2 ^ 32 }
+    ensures marked { IfOk result (λ list. AreMarkedIn marked.now (length marked.now) list.items) }
+{
+    let mut list = Vec::new(alloc);
+    for v in 0..marked.len() {
+        if marked[v] {
+            list.push(VertexId::new(v as u32))?;
+        }
+    }
+    Ok(list)
+}
+
+// Puts vertices into an order that scatters them: those whose numbers agree in the last bits lie apart.
+fn scatter(vertices: &mut [VertexId])
+    ensures same { IsPermutation vertices.old vertices.new }
+{
+    vertices.sort_unstable_by_key(|v| v.number().reverse_bits());
+}
+
+// The lesser ends of the edges whose signature isn't empty, each once, in an order that scatters them. Every closed walk
+// that isn't null has such an edge, and so meets one of them or the edge's other end.
+pub(crate) fn signed_ends(
+    alloc: Global,
+    mesh: &HalfMesh,
+    signatures: &CotreeDesk,
+) -> Result<Vec<VertexId>, NoMemory>
+    requires table { length signatures.now.signatures ≡ edge_count mesh.now }
+    ensures inside { IfOk result (λ list. All (λ v. v < mesh.now.vertices) list.items) }
+    ensures ends { IfOk result (λ list. HasSignedEnds mesh.now signatures.now list.items) }
+{
+    let mut marked = vec![in alloc; false; mesh.vertices() as usize]?;
+    mark_ends(mesh, signatures, &mut marked);
+    let mut list = list_marked(alloc, &marked)?;
+    scatter(&mut list);
+    Ok(list)
+}

@@ -1,0 +1,170 @@
+//! Searches from few vertices.
+ghost use Rattle.std.specs.Prelude.{◌≡◌, ◌≢◌, ◌<◌, ◌≤◌, ◌^◌, ℕ, true, false, [], All, IsPermutation, length, slice_index, slice_index_or, IfOk, OnOk};
+ghost use Rattle.std.specs.List.Sorted.{IsNonDecreasingBy};
+ghost use Rattle.surf_surfaces.specs.Homology.{IsFullCount};
+ghost use Rattle.surf_surfaces.specs.Walk.{ArePositive};
+ghost use Rattle.surf_surfaces.specs.FewBases.{AreBases};
+ghost use Rattle.surf_surfaces.specs.Surface.{edge_count, IsSurface};
+ghost use Rattle.surf_basis.specs.Signing.{AreSigned};
+ghost use Rattle.surf_basis.specs.Places.{order_of};
+ghost use Rattle.surf_basis.specs.Marks.{HasBases};
+ghost use Rattle.surf_basis.specs.Found.{IsNext, AreKeptFrom, HaveBasesOfBasis, first_from, IsFirstAmong, IsFirstPlace};
+
+use crate::candidate::{Candidate, Signed, comes_before};
+use crate::choosing::Choice;
+use crate::finding::Finder;
+use crate::marking::{list_marked, signed_ends};
+use crate::surface::Surface;
+use std::alloc::Global;
+use surf_base::{NoMemory, VertexId};
+use surf_mesh::HalfMesh;
+
+// What loops are sorted by: the length, the base and the number of the edge.
+fn order_of(signed: &Signed) -> u128
+    ensures order { result ≡ order_of signed.now }
+{
+    let candidate = &signed.candidate;
+    (u128::from(candidate.length) << 64)
+        + (u128::from(candidate.base.number()) << 32)
+        + u128::from(candidate.edge.number())
+}
+
+// Puts loops into order.
+fn sort_loops(found: &mut [Signed])
+    ensures same { IsPermutation found.old found.new }
+    ensures sorted { IsNonDecreasingBy order_of found.new }
+{
+    found.sort_unstable_by_key(|signed| order_of(signed));
+}
+
+// Keeps of the loops at a vertex what is independent of those before.
+fn keep_loops(found: &mut [Signed], choice: &mut Choice) -> Result<(), NoMemory>
+    requires small { All (λ s. s.signature < 2 ^ choice.old.width) found.old }
+    ensures next { OnOk result (IsNext choice.old found.old choice.new) }
+    ensures width { choice.new.width ≡ choice.old.width }
+{
+    if found.is_empty() {
+        return Ok(());
+    }
+    sort_loops(found);
+    choice.keep(found)
+}
+
+// Keeps of the loops at the vertices of a list what is independent of those before.
+fn keep_found(
+    alloc: Global,
+    finder: &mut Finder<'_>,
+    vertices: &[VertexId],
+    choice: &mut Choice,
+) -> Result<(), NoMemory>
+    requires lengths { length finder.old.lengths ≡ edge_count finder.old.mesh }
+    requires signed { AreSigned finder.old.mesh finder.old.signs choice.old.width }
+    requires inside { All (λ v. v < finder.old.mesh.vertices) vertices.now }
+    requires positive { IsSurface finder.old.mesh × ArePositive finder.old.mesh finder.old.lengths }
+    requires few { (finder.old.mesh.vertices ≤ 2 ^ 32) × (edge_count finder.old.mesh ≤ 2 ^ 32) }
+    requires none { choice.old.kept ≡ [] }
+    ensures kept { OnOk result (AreKeptFrom finder.old.mesh finder.old.lengths finder.old.signs vertices.now choice.new) }
+    ensures width { choice.new.width ≡ choice.old.width }
+{
+    let mut found = Vec::new(alloc);
+    for v in vertices {
+        finder.find(*v, &choice.limit(), &mut found)?;
+        keep_loops(&mut found, choice)?;
+    }
+    Ok(())
+}
+
+// Marks the bases of candidates.
+fn mark_bases(kept: &[Signed], marked: &mut [bool])
+    requires inside { All (λ s. s.candidate.base < length marked.old) kept.now }
+    ensures bases { All (λ s. slice_index_or marked.new s.candidate.base false ≡ true) kept.now }
+    ensures count { length marked.new ≡ length marked.old }
+{
+    for signed in kept {
+        marked[signed.candidate.base.index()] = true;
+    }
+}
+
+// The bases of candidates, increasing.
+fn bases_of(alloc: Global, mesh: &HalfMesh, kept: &[Signed]) -> Result<Vec<VertexId>, NoMemory>
+    requires inside { All (λ s. s.candidate.base < mesh.now.vertices) kept.now }
+    ensures increasing { IfOk result (λ list. AreBases mesh.now list.items) }
+    ensures bases { IfOk result (λ list. HasBases list.items kept.now) }
+{
+    let mut marked = vec![in alloc; false; mesh.vertices() as usize]?;
+    mark_bases(kept, &mut marked);
+    list_marked(alloc, &marked)
+}
+
+/// Bases among which are those of the basis that is chosen, increasing.
+pub(crate) fn sufficient_bases(
+    alloc: Global,
+    surface: &Surface<'_>,
+    count: usize,
+) -> Result<Vec<VertexId>, NoMemory>
+    requires lengths { length surface.now.lengths.now ≡ edge_count surface.now.mesh.now }
+    requires signed { AreSigned surface.now.mesh.now surface.now.signatures.now count }
+    requires full { IsFullCount surface.now.mesh.now count }
+    requires few { count ≤ 1024 }
+    ensures increasing { IfOk result (λ list. AreBases surface.now.mesh.now list.items) }
+    ensures bases { IfOk result (λ list. HaveBasesOfBasis surface.now.mesh.now surface.now.lengths.now list.items) }
+{
+    let _surface = surface.mesh.faces();
+    let _lengths = surface.lengths.count();
+    let vertices = signed_ends(alloc, surface.mesh, surface.signatures)?;
+    let mut finder = Finder::make(alloc, surface)?;
+    let mut choice = Choice::make(alloc, count as u32)?;
+    keep_found(alloc, &mut finder, &vertices, &mut choice)?;
+    bases_of(alloc, surface.mesh, choice.kept())
+}
+
+// The first of some loops and of a candidate that they come before.
+fn first_from(first: Option<Candidate>, found: &[Signed]) -> Option<Candidate>
+    ensures first { result ≡ first_from first found.now }
+{
+    let mut first = first;
+    for signed in found {
+        first = match first {
+            Some(candidate) if comes_before(&candidate, &signed.candidate) => Some(candidate),
+            _ => Some(signed.candidate),
+        };
+    }
+    first
+}
+
+// The first of the loops at the vertices of a list.
+fn first_found(
+    alloc: Global,
+    finder: &mut Finder<'_>,
+    vertices: &[VertexId],
+) -> Result<Option<Candidate>, NoMemory>
+    requires signed { (count : ℕ) × AreSigned finder.old.mesh finder.old.signs count }
+    requires inside { All (λ v. v < finder.old.mesh.vertices) vertices.now }
+    requires positive { IsSurface finder.old.mesh × ArePositive finder.old.mesh finder.old.lengths }
+    ensures first { IfOk result (IsFirstAmong finder.old.mesh finder.old.lengths finder.old.signs vertices.now) }
+{
+    let mut found = Vec::new(alloc);
+    let mut first = None;
+    for v in vertices {
+        finder.find(*v, &first, &mut found)?;
+        first = first_from(first, &found);
+    }
+    Ok(first)
+}
+
+/// The length and the base of the first candidate, as those of the first loop that is found. None where each is null.
+pub(crate) fn first_place(
+    alloc: Global,
+    surface: &Surface<'_>,
+    count: usize,
+) -> Result<Option<Candidate>, NoMemory>
+    requires lengths { length surface.now.lengths.now ≡ edge_count surface.now.mesh.now }
+    requires signed { AreSigned surface.now.mesh.now surface.now.signatures.now count }
+    ensures first { IfOk result (IsFirstPlace surface.now.mesh.now surface.now.lengths.now) }
+{
+    let _surface = surface.mesh.faces();
+    let _lengths = surface.lengths.count();
+    let vertices = signed_ends(alloc, surface.mesh, surface.signatures)?;
+    let mut finder = Finder::make(alloc, surface)?;
+    first_found(alloc, &mut finder, &vertices)
+}

@@ -1,0 +1,156 @@
+//! The classes of the ways from the base of a search, by number.
+ghost use Rattle.std.specs.Prelude.{◌≡◌, ◌≢◌, ◌<◌, ◌≤◌, ℕ, IsTrue, bit_xor, length, slice_index, IfOk, OnOk};
+ghost use Rattle.surf_surfaces.specs.Surface.{edge_count};
+ghost use Rattle.surf_basis.specs.Ways.{class_at, AreWays, HasNone, HasParent, IsNumbered, IsReached};
+
+use crate::candidate::copy_signature;
+use crate::surface::Surface;
+use std::alloc::Global;
+use std::marker::Model;
+use surf_base::{EdgeId, NoMemory, VertexId};
+use surf_bits::Signature;
+use surf_cotree::CotreeDesk;
+use surf_mesh::HalfMesh;
+use surf_near::NearDesk;
+
+/// For each vertex that a search reached the number of a class: the sum of the signatures of the edges on its way up to
+/// the base. Few ways differ in class, so classes are kept once.
+#[derive(Drop)]
+pub(crate) struct Ways {
+    numbers: Vec<usize>,
+    classes: Vec<Signature>,
+}
+
+impl Model for Ways {
+    ghost use Rattle.surf_basis.specs.Ways.{WayTables};
+
+    ghost Value = { WayTables };
+
+    ghost view = { λ w. record { numbers = w.numbers.items; classes = w.classes.items } };
+}
+
+// Whether two sets are the same.
+fn is_same(first: &Signature, second: &Signature) -> bool
+    ensures same { IsTrue result → first.now ≡ second.now }
+{
+    let mut sum = copy_signature(first);
+    sum.add(second.bits());
+    sum.bits().is_empty()
+}
+
+// The number of a class, which is listed if it wasn't.
+fn number_of(classes: &mut Vec<Signature>, class: Signature) -> Result<usize, NoMemory>
+    ensures number { IfOk result (λ k. (k < length classes.new.items) × (slice_index classes.new.items k ≡ class)) }
+    ensures more { length classes.old.items ≤ length classes.new.items }
+    ensures same { (k : ℕ) → k < length classes.old.items → slice_index classes.new.items k ≡ slice_index classes.old.items k }
+{
+    for k in 0..classes.len() {
+        if is_same(&classes[k], &class) {
+            return Ok(k);
+        }
+    }
+    classes.push(class)?;
+    Ok(classes.len() - 1)
+}
+
+// The number of the class that differs from another by the signature of an edge.
+fn number_beyond(
+    classes: &mut Vec<Signature>,
+    above: usize,
+    signatures: &CotreeDesk,
+    edge: EdgeId,
+) -> Result<usize, NoMemory>
+    requires above { above < length classes.old.items }
+    requires edge { edge < length signatures.now.signatures }
+    ensures number { IfOk result (λ k. (k < length classes.new.items) × (slice_index classes.new.items k ≡ bit_xor (slice_index classes.old.items above) (slice_index signatures.now.signatures edge))) }
+    ensures more { length classes.old.items ≤ length classes.new.items }
+    ensures same { (k : ℕ) → k < length classes.old.items → slice_index classes.new.items k ≡ slice_index classes.old.items k }
+{
+    if signatures.signature(edge).is_empty() {
+        return Ok(above);
+    }
+    let mut class = copy_signature(&classes[above]);
+    class.add(signatures.signature(edge));
+    number_of(classes, class)
+}
+
+impl Ways {
+    /// Room for the vertices of a mesh.
+    pub fn make(alloc: Global, mesh: &HalfMesh) -> Result<Ways, NoMemory>
+        ensures made { IfOk result (λ ways. length ways.numbers ≡ mesh.now.vertices) }
+    {
+        Ok(Ways {
+            numbers: vec![in alloc; 0usize; mesh.vertices() as usize]?,
+            classes: Vec::new(alloc),
+        })
+    }
+
+    // Numbers the class of the way to a vertex, where that of its parent's is known.
+    fn number(
+        &mut self,
+        desk: &NearDesk,
+        signatures: &CotreeDesk,
+        base: VertexId,
+        v: VertexId,
+    ) -> Result<(), NoMemory>
+        requires vertex { v < length self.old.numbers }
+        requires parents { v < length desk.now.parents }
+        requires ups { v < length desk.now.ups }
+        requires none { HasNone self.old }
+        requires parent { v ≢ base → HasParent signatures.now desk.now self.old v }
+        ensures numbered { OnOk result (IsNumbered signatures.now desk.now base v self.old self.new) }
+        ensures none { OnOk result (HasNone self.new) }
+        ensures count { length self.new.numbers ≡ length self.old.numbers }
+    {
+        let mut number = 0;
+        if v != base {
+            let above = self.numbers[desk.parent(v).index()];
+            number = number_beyond(&mut self.classes, above, signatures, desk.up(v))?;
+        }
+        self.numbers[v.index()] = number;
+        Ok(())
+    }
+
+    /// Numbers the classes of the ways to all vertices that a search from a base has reached.
+    pub fn sum(
+        &mut self,
+        surface: &Surface<'_>,
+        desk: &NearDesk,
+        base: VertexId,
+    ) -> Result<(), NoMemory>
+        requires reached { IsReached surface.now.mesh.now surface.now.lengths.now base desk.now }
+        requires base { base < surface.now.mesh.now.vertices }
+        requires lengths { length surface.now.lengths.now ≡ edge_count surface.now.mesh.now }
+        requires signatures { length surface.now.signatures.now.signatures ≡ edge_count surface.now.mesh.now }
+        requires count { length self.old.numbers ≡ surface.now.mesh.now.vertices }
+        ensures ways { OnOk result (AreWays surface.now.mesh.now surface.now.lengths.now base surface.now.signatures.now desk.now self.new) }
+        ensures count { length self.new.numbers ≡ surface.now.mesh.now.vertices }
+    {
+        let _surface = surface.mesh.faces();
+        let _lengths = surface.lengths.count();
+        self.classes.clear();
+        self.classes.push(Signature::zero())?;
+        for v in desk.settled() {
+            self.number(desk, surface.signatures, base, *v)?;
+        }
+        Ok(())
+    }
+
+    /// The class of a way.
+    pub fn class(&self, v: VertexId) -> &Signature
+        requires vertex { v < length self.now.numbers }
+        requires number { slice_index self.now.numbers v < length self.now.classes }
+        ensures class { result.now ≡ class_at self.now v }
+    {
+        &self.classes[self.numbers[v.index()]]
+    }
+
+    /// Whether two ways have one class. A no may also mean that this wasn't found out.
+    pub fn are_alike(&self, u: VertexId, v: VertexId) -> bool
+        requires first { u < length self.now.numbers }
+        requires second { v < length self.now.numbers }
+        ensures alike { IsTrue result → class_at self.now u ≡ class_at self.now v }
+    {
+        self.numbers[u.index()] == self.numbers[v.index()]
+    }
+}

@@ -1,0 +1,14 @@
+use Rattle.std.proofs.Common.{◌-◌, ◌≡◌}
+use Rattle.surf_tree.specs.Searches.{at}
+use Rattle.surf_near.specs.Links.{graph_of, weight_of}
+use Rattle.surf_near.specs.Searching.{IsQueue}
+use Rattle.surf_near.proofs.even.settle_even.Given as goal
+
+abbrev pub invariant-loop-place : goal.invariant-loop-place
+invariant-loop-place l = record {
+  queue : IsQueue (graph_of l.links) (weight_of l.links) l.size l.radius l.tables l.place;
+  first : at l.tables.order.items 0 ≡ l.fn.base;
+}
+
+abbrev pub decreases-loop-place : goal.decreases-loop-place
+decreases-loop-place l = l.links.mesh.vertices - l.place
