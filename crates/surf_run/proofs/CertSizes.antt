@@ -52,7 +52,8 @@ parent_short : (p : Option ℕ) → IsParent p → length (parent_text p) ≤ 10
 parent_short None is = omega arith
 parent_short (Some u) is = number_short u is
 
-vertices_short : (ds : List ℕ) (ps : List (Option ℕ)) → AllByRecursion (λ d. d < 2 ^ 64) ds → AllByRecursion IsParent ps →
+vertices_short : (ds : List ℕ) (ps : List (Option ℕ)) → AllByRecursion (λ d. d < 2 ^ 64) ds →
+    AllByRecursion IsParent ps →
     length (flat_map vertex_line (zip ds ps)) ≤ 32 * length ds
 vertices_short [] ps whole parents = omega arith
 vertices_short (d ∷ ds) [] whole parents = omega arith
@@ -157,10 +158,12 @@ differ_few xs n differ below =
 simple_short : (mesh : Mesh) (walk : List ℕ) → IsSimpleCycle mesh walk → length walk ≤ mesh.vertices + 1
 simple_short mesh [] is = omega arith
 simple_short mesh (v ∷ walk) is =
-    let few = differ_few walk mesh.vertices is.distinct (All-tail (λ u. u < mesh.vertices) v walk is.closed.is_walk.vertices) in
+    let few = differ_few walk mesh.vertices is.distinct
+    (All-tail (λ u. u < mesh.vertices) v walk is.closed.is_walk.vertices) in
     omega (arith, few)
 
-cycle_short : (mesh : Mesh) (cycle : List ℕ) → mesh.vertices ≤ 1000 → IsSimpleCycle mesh cycle → length (cycle_line cycle) ≤ 11011
+cycle_short : (mesh : Mesh) (cycle : List ℕ) → mesh.vertices ≤ 1000 → IsSimpleCycle mesh cycle →
+    length (cycle_line cycle) ≤ 11011
 cycle_short mesh [] few is = omega arith
 cycle_short mesh (v ∷ vs) few is =
     let inside = recursion_from_All (λ u. u < mesh.vertices) (v ∷ vs) is.closed.is_walk.vertices in
@@ -174,7 +177,8 @@ cycle_short mesh (v ∷ vs) few is =
     below_numbers [] all = tt
     below_numbers (x ∷ xs) all = (let below = all.0 in omega (arith, below, few), below_numbers xs all.1)
 
-cycles_short : (mesh : Mesh) (cycles : List (List ℕ)) → mesh.vertices ≤ 1000 → AllByRecursion (IsSimpleCycle mesh) cycles →
+cycles_short : (mesh : Mesh) (cycles : List (List ℕ)) → mesh.vertices ≤ 1000 →
+    AllByRecursion (IsSimpleCycle mesh) cycles →
     length (flat_map cycle_line cycles) ≤ 11011 * length cycles
 cycles_short mesh [] few all = omega arith
 cycles_short mesh (c ∷ cs) few all =
@@ -185,38 +189,51 @@ cycles_short mesh (c ∷ cs) few all =
 
 -- ---- certificates
 
-head_short : (word : List ℕ) (v f k : ℕ) → length word ≤ 5 → IsNumber v → IsNumber f → IsNumber k → length (head_text word v f k) ≤ 60
+head_short : (word : List ℕ) (v f k : ℕ) → length word ≤ 5 → IsNumber v → IsNumber f → IsNumber k →
+    length (head_text word v f k) ≤ 60
 head_short word v f k small few_v few_f few_k =
-    let first = length-append (codes "SURFCERT 1 ") (word ++ (codes "\ncounts " ++ (decimal v ++ (codes " " ++ (decimal f ++ (codes " " ++ (decimal k ++ codes "\n"))))))) in
-    let second = length-append word (codes "\ncounts " ++ (decimal v ++ (codes " " ++ (decimal f ++ (codes " " ++ (decimal k ++ codes "\n")))))) in
-    let third = length_of_four (codes "\ncounts ") (decimal v) (codes " ") (decimal f ++ (codes " " ++ (decimal k ++ codes "\n"))) in
+    let first = length-append (codes "SURFCERT 1 ")
+    (word ++ (codes "\ncounts " ++ (decimal v ++
+    (codes " " ++ (decimal f ++ (codes " " ++ (decimal k ++ codes "\n"))))))) in
+    let second = length-append word (codes "\ncounts " ++
+    (decimal v ++ (codes " " ++ (decimal f ++ (codes " " ++ (decimal k ++ codes "\n")))))) in
+    let third = length_of_four (codes "\ncounts ") (decimal v) (codes " ")
+    (decimal f ++ (codes " " ++ (decimal k ++ codes "\n"))) in
     let fourth = length_of_four (decimal f) (codes " ") (decimal k) (codes "\n") in
     let v_short = number_short v few_v in
     let f_short = number_short f few_f in
     let k_short = number_short k few_k in
     omega (arith, first, second, third, fourth, v_short, f_short, k_short, small)
 
-pub loop_text_short : (cert : LoopCert) → LoopFits cert → length cert.tree.distance ≤ 1000000 → length cert.dual.depth ≤ 2000000 →
+pub loop_text_short : (cert : LoopCert) → LoopFits cert → length cert.tree.distance ≤ 1000000 →
+    length cert.dual.depth ≤ 2000000 →
     length cert.left ≤ 1024 → length (loop_text cert) ≤ 268435456
 loop_text_short cert fits few_v few_f few_k =
-    let head = head_short (codes "loops") (length cert.tree.distance) (length cert.dual.depth) (length cert.left) (omega arith) fits.vertices fits.faces fits.count in
+    let head = head_short (codes "loops") (length cert.tree.distance) (length cert.dual.depth) (length cert.left)
+    (omega arith) fits.vertices fits.faces fits.count in
     let all =
-    length_of_four (head_text (codes "loops") (length cert.tree.distance) (length cert.dual.depth) (length cert.left)) (tree_text cert.tree) (dual_text cert.dual)
+    length_of_four (head_text (codes "loops") (length cert.tree.distance) (length cert.dual.depth)
+    (length cert.left)) (tree_text cert.tree) (dual_text cert.dual)
     (left_text cert.left) in
     let tree = tree_short (length cert.tree.distance) cert.tree fits.tree in
     let dual = dual_short (length cert.dual.depth) cert.dual fits.dual in
     let left = left_short (length cert.left) cert.left fits.left in
     omega (arith, head, all, tree, dual, left, few_v, few_f, few_k)
 
-pub basis_text_short : (mesh : Mesh) (cert : BasisCert) → BasisFits cert → mesh.vertices ≤ 1000 → length cert.trees ≤ 1000 →
-    length cert.dual.depth ≤ 2000000 → length cert.left ≤ 1024 → All (IsSimpleCycle mesh) cert.cycles → length (basis_text cert) ≤ 268435456
+pub basis_text_short : (mesh : Mesh) (cert : BasisCert) → BasisFits cert → mesh.vertices ≤ 1000 →
+    length cert.trees ≤ 1000 →
+    length cert.dual.depth ≤ 2000000 → length cert.left ≤ 1024 → All (IsSimpleCycle mesh) cert.cycles →
+    length (basis_text cert) ≤ 268435456
 basis_text_short mesh cert fits few few_v few_f few_k simple =
-    let head = head_short (codes "basis") (length cert.trees) (length cert.dual.depth) (length cert.left) (omega arith) fits.vertices fits.faces fits.count in
+    let head = head_short (codes "basis") (length cert.trees) (length cert.dual.depth) (length cert.left)
+    (omega arith) fits.vertices fits.faces fits.count in
     let rest = dual_text cert.dual ++ (left_text cert.left ++ cycles_text cert.cycles) in
     let all =
-    length_of_three (head_text (codes "basis") (length cert.trees) (length cert.dual.depth) (length cert.left)) (flat_map tree_text cert.trees) rest in
+    length_of_three (head_text (codes "basis") (length cert.trees) (length cert.dual.depth) (length cert.left))
+    (flat_map tree_text cert.trees) rest in
     let parts = length_of_three (dual_text cert.dual) (left_text cert.left) (cycles_text cert.cycles) in
-    let trees = trees_short (length cert.trees) cert.trees few_v (recursion_from_All (TreeFits (length cert.trees)) cert.trees fits.trees) in
+    let trees = trees_short (length cert.trees) cert.trees few_v
+    (recursion_from_All (TreeFits (length cert.trees)) cert.trees fits.trees) in
     let dual = dual_short (length cert.dual.depth) cert.dual fits.dual in
     let left = left_short (length cert.left) cert.left fits.left in
     let whole = length-append (codes "cycles\n") (flat_map cycle_line cert.cycles) in

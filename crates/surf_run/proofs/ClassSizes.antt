@@ -38,13 +38,16 @@ few_below (x ∷ xs) n rises all =
 
 module _ (mesh : Mesh) (is_mesh : IsMesh mesh) where
   -- the number of an edge, by its pair
-  numbered : (p : ℕ × ℕ) → Contains (edges mesh) p → (edge_number mesh p < edge_count mesh) × (ends mesh (edge_number mesh p) ≡ p)
+  numbered : (p : ℕ × ℕ) → Contains (edges mesh) p →
+      (edge_number mesh p < edge_count mesh) × (ends mesh (edge_number mesh p) ≡ p)
   numbered p (k, l, is) =
       let at : ends mesh k ≡ p = get_or_default (edges mesh) k (0, 0) p l ∙ is in
-      let same : edge_number mesh p ≡ k = ap (edge_number mesh) (sym at) ∙ (edges_are_numbered mesh is_mesh).number_of_ends k l in
+      let same : edge_number mesh p ≡ k = ap (edge_number mesh) (sym at)
+      ∙ (edges_are_numbered mesh is_mesh).number_of_ends k l in
       (subst (λ (n : ℕ). n < edge_count mesh) (sym same) l, ap (ends mesh) same ∙ at)
 
-  in_order : (p q : ℕ × ℕ) → Contains (edges mesh) p → Contains (edges mesh) q → pair_lt p q ≡ true → edge_number mesh p < edge_number mesh q
+  in_order : (p q : ℕ × ℕ) → Contains (edges mesh) p → Contains (edges mesh) q → pair_lt p q ≡ true →
+      edge_number mesh p < edge_number mesh q
   in_order p q inp inq less =
       let (below_p, at_p) = numbered p inp in
       let (below_q, at_q) = numbered q inq in
@@ -52,24 +55,27 @@ module _ (mesh : Mesh) (is_mesh : IsMesh mesh) where
         | inl same ↦ absurd (pair_lt-irreflexive p q less (sym at_p ∙ ap (ends mesh) same ∙ at_q))
         | inr (inl first) ↦ first
         | inr (inr second) ↦ absurd (
-          let turned : pair_lt q p ≡ true =
-          subst (λ (r : ℕ × ℕ). pair_lt r p ≡ true) at_q
-          (subst (λ (r : ℕ × ℕ). pair_lt (ends mesh (edge_number mesh q)) r ≡ true) at_p
-          (rising_at (edges mesh) (edges-rise mesh) (edge_number mesh q) (edge_number mesh p) (0, 0) second below_p)) in
-          pair_lt-irreflexive p p (pair_lt-trans p q p less turned) refl)
+            let turned : pair_lt q p ≡ true =
+            subst (λ (r : ℕ × ℕ). pair_lt r p ≡ true) at_q
+            (subst (λ (r : ℕ × ℕ). pair_lt (ends mesh (edge_number mesh q)) r ≡ true) at_p
+            (rising_at (edges mesh) (edges-rise mesh) (edge_number mesh q) (edge_number mesh p) (0, 0) second below_p)) in
+            pair_lt-irreflexive p p (pair_lt-trans p q p less turned) refl)
       ]
 
-  few_edges : (ps : List (ℕ × ℕ)) → AllPairs (λ p q. pair_lt p q ≡ true) ps → All (Contains (edges mesh)) ps → length ps ≤ edge_count mesh
+  few_edges : (ps : List (ℕ × ℕ)) → AllPairs (λ p q. pair_lt p q ≡ true) ps → All (Contains (edges mesh)) ps →
+      length ps ≤ edge_count mesh
   few_edges ps rises all =
       let size : length (map (edge_number mesh) ps) ≡ length ps = length-map ps (edge_number mesh) in
-      let at : (k d : ℕ) → k < length ps → get_or (map (edge_number mesh) ps) k d ≡ edge_number mesh (get_or ps k (0, 0)) =
+      let at : (k d : ℕ) → k < length ps →
+      get_or (map (edge_number mesh) ps) k d ≡ edge_number mesh (get_or ps k (0, 0)) =
       λ k d l. get_or-map (edge_number mesh) ps k (0, 0) d l in
       let few = few_below (map (edge_number mesh) ps) (edge_count mesh)
       (λ i j d less l.
       let j_in : j < length ps = omega (arith, l, size) in
       let i_in : i < length ps = omega (arith, less, j_in) in
       rw (at i d i_in, at j d j_in)
-      (in_order (get_or ps i (0, 0)) (get_or ps j (0, 0)) (all i (0, 0) i_in) (all j (0, 0) j_in) (rises i j (0, 0) less j_in)))
+      (in_order (get_or ps i (0, 0)) (get_or ps j (0, 0)) (all i (0, 0) i_in) (all j (0, 0) j_in)
+      (rises i j (0, 0) less j_in)))
       (λ k d l.
       let k_in : k < length ps = omega (arith, l, size) in
       rw (at k d k_in) (numbered (get_or ps k (0, 0)) (all k (0, 0) k_in)).0) in
@@ -77,7 +83,8 @@ module _ (mesh : Mesh) (is_mesh : IsMesh mesh) where
 
   -- ---- it fits
 
-  module _ (few_vertices : mesh.vertices ≤ 1000000) (few_faces : face_count mesh ≤ 2000000) (few : edge_count mesh ≤ 3001022) where
+  module _ (few_vertices : mesh.vertices ≤ 1000000) (few_faces : face_count mesh ≤ 2000000)
+      (few : edge_count mesh ≤ 3001022) where
     pair_fits : (p : ℕ × ℕ) → Contains (edges mesh) p → IsPair p
     pair_fits p there =
         let below = edge_below mesh is_mesh p (among-contains p (edges mesh) there) in
@@ -125,7 +132,8 @@ module _ (mesh : Mesh) (is_mesh : IsMesh mesh) where
         length (evidence_text (codes "null") (codes "odd") evidence) ≤ 268435456
     evidence_short chain (null_faces faces) right =
         let fits = evidence_fits chain (null_faces faces) right in
-        let line = line_short (codes "null") (length faces) faces (omega arith) fits.count (recursion_from_All IsNumber faces fits.numbers) in
+        let line = line_short (codes "null") (length faces) faces (omega arith) fits.count
+        (recursion_from_All IsNumber faces fits.numbers) in
         let count = few_below faces (face_count mesh) right.rises right.are_faces in
         omega (arith, line, count, few_faces)
     evidence_short chain (odd_pairs pairs) right =

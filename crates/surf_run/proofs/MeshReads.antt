@@ -57,7 +57,8 @@ front_short : (xs : List ℕ) → length (trimmed_front xs) ≤ length xs
 front_short [] = omega arith
 front_short (b ∷ bs) = at (is_blank b) (front_short bs)
   where
-    at : (blank : Bool) → length (trimmed_front bs) ≤ length bs → length (if blank then trimmed_front bs else b ∷ bs) ≤ suc (length bs)
+    at : (blank : Bool) → length (trimmed_front bs) ≤ length bs →
+        length (if blank then trimmed_front bs else b ∷ bs) ≤ suc (length bs)
     at true rest = omega (arith, rest)
     at false rest = omega arith
 
@@ -108,14 +109,16 @@ rest_short n line =
     let kept = line_short line in
     omega (arith, rest, kept)
 
-onto_short : (line : TextLine) (tokens : List (List ℕ)) (lines : List TextLine) → bytes_in (onto_lines line tokens lines) ≤ length line.bytes + bytes_in lines
+onto_short : (line : TextLine) (tokens : List (List ℕ)) (lines : List TextLine) →
+    bytes_in (onto_lines line tokens lines) ≤ length line.bytes + bytes_in lines
 onto_short line [] lines = omega arith
 onto_short line (token ∷ tokens) lines = omega arith
 
 numbered_short : (n : ℕ) (parts : List (List ℕ)) → bytes_in (numbered_from n parts) ≤ sum_by length parts
 numbered_short n [] = omega arith
 numbered_short n (part ∷ parts) =
-    let here = onto_short (record { number = n; bytes = trimmed (uncommented part) }) (tokens_of part) (numbered_from (n + 1) parts) in
+    let here = onto_short (record { number = n; bytes = trimmed (uncommented part) }) (tokens_of part)
+    (numbered_from (n + 1) parts) in
     let line = line_short part in
     let rest = numbered_short (n + 1) parts in
     let more = sum_by-cons length part parts in
@@ -132,16 +135,19 @@ lines_short text =
 abbrev pub LinesWithin : ℕ → Head → Type 0
 LinesWithin most head = bytes_in head.lines ≤ most
 
-with_short : (header : Header) (n : ℕ) (words : List (List ℕ)) (lines : List TextLine) → Holds (LinesWithin (bytes_in lines)) (head_with header n words lines)
+with_short : (header : Header) (n : ℕ) (words : List (List ℕ)) (lines : List TextLine) →
+    Holds (LinesWithin (bytes_in lines)) (head_with header n words lines)
 with_short header n (w ∷ ws) lines = omega arith
 with_short header n [] [] = tt
 with_short header n [] (line ∷ lines) = omega arith
 
-if_short : (found : Option Header) (n : ℕ) (words : List (List ℕ)) (lines : List TextLine) → Holds (LinesWithin (bytes_in lines)) (head_if found n words lines)
+if_short : (found : Option Header) (n : ℕ) (words : List (List ℕ)) (lines : List TextLine) →
+    Holds (LinesWithin (bytes_in lines)) (head_if found n words lines)
 if_short None n words lines = tt
 if_short (Some header) n words lines = with_short header n words lines
 
-on_short : (n : ℕ) (words : List (List ℕ)) (lines : List TextLine) → Holds (LinesWithin (bytes_in lines)) (head_on n words lines)
+on_short : (n : ℕ) (words : List (List ℕ)) (lines : List TextLine) →
+    Holds (LinesWithin (bytes_in lines)) (head_on n words lines)
 on_short n [] lines = tt
 on_short n (w ∷ ws) lines = if_short (header_of w) n ws lines
 
@@ -153,7 +159,8 @@ head_short : (lines : List TextLine) → Holds (LinesWithin (bytes_in lines)) (h
 unfolding head_of
 head_short [] = tt
 head_short (line ∷ lines) =
-    holds_more (LinesWithin (bytes_in lines)) (LinesWithin (length line.bytes + bytes_in lines)) (head_on line.number (tokens_of line.bytes) lines)
+    holds_more (LinesWithin (bytes_in lines)) (LinesWithin (length line.bytes + bytes_in lines))
+    (head_on line.number (tokens_of line.bytes) lines)
     (λ head is. omega (arith, is)) (on_short line.number (tokens_of line.bytes) lines)
 
 -- ---- vertices
@@ -163,7 +170,8 @@ abbrev pub AreVertices : ℕ → ℕ → List (List ℕ) × List TextLine → Ty
 AreVertices v most x = (length x.0 ≡ v) × (sum_by length x.0 + bytes_in x.1 ≤ most)
 
 one_line : (v : ℕ) (line : TextLine) (lines : List TextLine) (r : Result (List (List ℕ) × List TextLine) OffFault) →
-    Holds (AreVertices v (bytes_in lines)) r → Holds (AreVertices (suc v) (length line.bytes + bytes_in lines)) (with_line line.bytes r)
+    Holds (AreVertices v (bytes_in lines)) r →
+    Holds (AreVertices (suc v) (length line.bytes + bytes_in lines)) (with_line line.bytes r)
 one_line v line lines (Ok x) is =
     let more = sum_by-cons length line.bytes x.0 in
     let rest = is.1 in
@@ -187,12 +195,15 @@ sides_few n sides k = elim (cases_lt 6000000 (sides + k)) [
   | inr few ↦ let t : nat_lt 6000000 (sides + k) ≡ false = le-ltb _ _ few in rw t few
 ]
 
-corners_count : (n v place : ℕ) (words : List (List ℕ)) → Holds (λ us. length us ≡ length words) (corners_at n v place words)
+corners_count : (n v place : ℕ) (words : List (List ℕ)) →
+    Holds (λ us. length us ≡ length words) (corners_at n v place words)
 unfolding corners_at
 corners_count n v place [] = refl
 corners_count n v place (w ∷ ws) =
-    then_holds (λ u. Unit {0}) (λ us. length us ≡ suc (length ws)) (corner_of n v place (whole w)) _ (anything (corner_of n v place (whole w)))
-    (λ u _. then_holds (λ us. length us ≡ length ws) (λ us. length us ≡ suc (length ws)) (corners_at n v (place + 1) ws) _ (corners_count n v (place + 1) ws)
+    then_holds (λ u. Unit {0}) (λ us. length us ≡ suc (length ws)) (corner_of n v place (whole w)) _
+    (anything (corner_of n v place (whole w)))
+    (λ u _. then_holds (λ us. length us ≡ length ws) (λ us. length us ≡ suc (length ws))
+    (corners_at n v (place + 1) ws) _ (corners_count n v (place + 1) ws)
     (λ us is. ap suc is))
 
 distinct_same : (n k : ℕ) (us : List ℕ) (o : Option ℕ) → length us ≤ k → Holds (λ x. length x ≤ k) (distinct n us o)
@@ -212,9 +223,12 @@ face_read : (v sides : ℕ) (line : TextLine) → Holds (IsFaceRead sides line) 
 unfolding face_of
 face_read v sides line =
     let words = tokens_of line.bytes in
-    then_holds (λ size. Unit {0}) (IsFaceRead sides line) (size_of line.number words) _ (anything (size_of line.number words)) (λ size _.
-    then_holds (λ k. sides + k ≤ 6000000) (IsFaceRead sides line) (few_sides true line.number sides size) _ (sides_few line.number sides size) (λ k few.
-    then_holds (λ us. length us ≡ length (take k (drop 1 words))) (IsFaceRead sides line) (corners_at line.number v 0 (take k (drop 1 words))) _
+    then_holds (λ size. Unit {0}) (IsFaceRead sides line) (size_of line.number words) _
+    (anything (size_of line.number words)) (λ size _.
+    then_holds (λ k. sides + k ≤ 6000000) (IsFaceRead sides line) (few_sides true line.number sides size) _
+    (sides_few line.number sides size) (λ k few.
+    then_holds (λ us. length us ≡ length (take k (drop 1 words))) (IsFaceRead sides line)
+    (corners_at line.number v 0 (take k (drop 1 words))) _
     (corners_count line.number v 0 (take k (drop 1 words))) (λ us count.
     let most = taken_few k (drop 1 words) in
     then_holds (λ x. length x ≤ k) (IsFaceRead sides line) (distinct line.number us (first_repeat [] us)) _
@@ -226,7 +240,8 @@ AreFaces f sides most x =
     (length x.faces ≡ f) × (length x.colours ≡ f) × (sides + sum_by length x.faces ≤ 6000000)
     × (sum_by length x.colours + bytes_in x.lines ≤ most)
 
-one_face : (f sides : ℕ) (line : TextLine) (lines : List TextLine) (face : Face) (r : Result FaceLines OffFault) → IsFaceRead sides line face →
+one_face : (f sides : ℕ) (line : TextLine) (lines : List TextLine) (face : Face) (r : Result FaceLines OffFault) →
+    IsFaceRead sides line face →
     Holds (AreFaces f (sides + length face.corners) (bytes_in lines)) r →
     Holds (AreFaces (suc f) sides (length line.bytes + bytes_in lines)) (with_face face r)
 one_face f sides line lines face (Ok x) here is =
@@ -238,12 +253,14 @@ one_face f sides line lines face (Ok x) here is =
     (ap suc is.0, ap suc is.1, omega (arith, corners, few), omega (arith, colours, short, colour))
 one_face f sides line lines face (Err e) here is = tt
 
-faces_read : (v f sides : ℕ) (lines : List TextLine) → sides ≤ 6000000 → Holds (AreFaces f sides (bytes_in lines)) (faces_at true v f sides lines)
+faces_read : (v f sides : ℕ) (lines : List TextLine) → sides ≤ 6000000 →
+    Holds (AreFaces f sides (bytes_in lines)) (faces_at true v f sides lines)
 unfolding faces_at
 faces_read v zero sides lines few = (refl, refl, omega (arith, few), omega arith)
 faces_read v (suc f) sides [] few = tt
 faces_read v (suc f) sides (line ∷ lines) few =
-    then_holds (IsFaceRead sides line) (AreFaces (suc f) sides (length line.bytes + bytes_in lines)) (face_of true v sides line)
+    then_holds (IsFaceRead sides line) (AreFaces (suc f) sides (length line.bytes + bytes_in lines))
+    (face_of true v sides line)
     (λ face. with_face face (faces_at true v f (sides + length face.corners) lines)) (face_read v sides line)
     (λ face here. one_face f sides line lines face (faces_at true v f (sides + length face.corners) lines) here
     (faces_read v f (sides + length face.corners) lines here.0))
@@ -262,7 +279,8 @@ found : {A : Type 0} (P : A → Type 0) (r : Result A OffFault) → Holds P r �
 found P (Ok x) is = (refl, is)
 found P (Err e) is = tt
 
-ends_so : (text : List ℕ) (read : OffParts × Mesh) (lines : List TextLine) → IsRead text read → Holds (IsRead text) (ended read lines)
+ends_so : (text : List ℕ) (read : OffParts × Mesh) (lines : List TextLine) → IsRead text read →
+    Holds (IsRead text) (ended read lines)
 ends_so text read [] is = is
 ends_so text read (line ∷ lines) is = tt
 
@@ -270,15 +288,21 @@ texts_read : (text : List ℕ) → Holds (IsRead text) (off_of text)
 unfolding off_in
 texts_read text =
     let all = lines_short text in
-    then_holds (λ head. (head_of (lines_of text) ≡ Ok head) × LinesWithin (bytes_in (lines_of text)) head) (IsRead text) (head_of (lines_of text)) _
+    then_holds (λ head. (head_of (lines_of text) ≡ Ok head) × LinesWithin (bytes_in (lines_of text)) head)
+    (IsRead text) (head_of (lines_of text)) _
     (found (LinesWithin (bytes_in (lines_of text))) (head_of (lines_of text)) (head_short (lines_of text)))
-    (λ head head_is. then_holds (λ counts. Unit {0}) (IsRead text) (counts_of true head.number head.counts) _ (anything (counts_of true head.number head.counts))
-    (λ counts _. then_holds (λ x. (vertices_at counts.0 counts.1 head.lines ≡ Ok x) × AreVertices counts.0 (bytes_in head.lines) x) (IsRead text)
+    (λ head head_is. then_holds (λ counts. Unit {0}) (IsRead text) (counts_of true head.number head.counts) _
+    (anything (counts_of true head.number head.counts))
+    (λ counts _. then_holds (λ x. (vertices_at counts.0 counts.1 head.lines ≡ Ok x) × AreVertices counts.0
+    (bytes_in head.lines) x) (IsRead text)
     (vertices_at counts.0 counts.1 head.lines) _
-    (found (AreVertices counts.0 (bytes_in head.lines)) (vertices_at counts.0 counts.1 head.lines) (vertices_read counts.0 counts.1 head.lines))
-    (λ vertices vs. then_holds (λ x. (faces_at true counts.0 counts.1 0 vertices.1 ≡ Ok x) × AreFaces counts.1 0 (bytes_in vertices.1) x) (IsRead text)
+    (found (AreVertices counts.0 (bytes_in head.lines)) (vertices_at counts.0 counts.1 head.lines)
+    (vertices_read counts.0 counts.1 head.lines))
+    (λ vertices vs. then_holds (λ x. (faces_at true counts.0 counts.1 0 vertices.1 ≡ Ok x) × AreFaces counts.1 0
+    (bytes_in vertices.1) x) (IsRead text)
     (faces_at true counts.0 counts.1 0 vertices.1) _
-    (found (AreFaces counts.1 0 (bytes_in vertices.1)) (faces_at true counts.0 counts.1 0 vertices.1) (faces_read counts.0 counts.1 0 vertices.1 (omega arith)))
+    (found (AreFaces counts.1 0 (bytes_in vertices.1)) (faces_at true counts.0 counts.1 0 vertices.1)
+    (faces_read counts.0 counts.1 0 vertices.1 (omega arith)))
     (λ faces fs.
     let within = head_is.1 in
     let lines = vs.1.1 in

@@ -69,19 +69,27 @@ module _ (mesh : Mesh) where
   least_face : (v f g : ℕ) → IsPinch mesh v f g → FailsFirst (face_count mesh) (λ h. HasCorner mesh h v → ⊥) f
   least_face v f g is = record { below = is.first.0; fails = λ none. none is.first; before = is.none_less }
 
-  least_other : (v f g : ℕ) → IsPinch mesh v f g → FailsFirst (face_count mesh) (λ h. HasCorner mesh h v → Joined (ShareAt mesh v) f h) g
-  least_other v f g is = record { below = is.second.0; fails = λ joined. is.apart (joined is.second); before = is.joined_before }
+  least_other : (v f g : ℕ) → IsPinch mesh v f g →
+      FailsFirst (face_count mesh) (λ h. HasCorner mesh h v → Joined (ShareAt mesh v) f h) g
+  least_other v f g is = record {
+    below = is.second.0;
+    fails = λ joined. is.apart (joined is.second);
+    before = is.joined_before;
+  }
 
-  pinch_same : {F : Type 0} (fault : ℕ → ℕ → ℕ → F) (v f g w h i : ℕ) → IsLeastPinch mesh v f g → IsLeastPinch mesh w h i →
+  pinch_same : {F : Type 0} (fault : ℕ → ℕ → ℕ → F) (v f g w h i : ℕ) → IsLeastPinch mesh v f g →
+      IsLeastPinch mesh w h i →
       fault v f g ≡ fault w h i
   pinch_same fault v f g w h i a b =
       let vertex : v ≡ w = first_same mesh.vertices (HasOneFan mesh) v w (pinch_first v f g a) (pinch_first w h i b) in
       let there : IsPinch mesh w f g = subst (λ n. IsPinch mesh n f g) vertex a.pinch in
       let face : f ≡ h =
-      first_same (face_count mesh) (λ k. HasCorner mesh k w → ⊥) f h (least_face w f g there) (least_face w h i b.pinch) in
+      first_same (face_count mesh) (λ k. HasCorner mesh k w → ⊥) f h (least_face w f g there)
+      (least_face w h i b.pinch) in
       let beside : IsPinch mesh w h g = subst (λ n. IsPinch mesh w n g) face there in
       let other : g ≡ i =
-      first_same (face_count mesh) (λ k. HasCorner mesh k w → Joined (ShareAt mesh w) h k) g i (least_other w h g beside) (least_other w h i b.pinch) in
+      first_same (face_count mesh) (λ k. HasCorner mesh k w → Joined (ShareAt mesh w) h k) g i
+      (least_other w h g beside) (least_other w h i b.pinch) in
       ap (λ n. fault n f g) vertex ∙ ap (λ n. fault w n g) face ∙ ap (fault w h) other
 
 -- ---- surfaces
@@ -173,32 +181,40 @@ module _ (mesh : Mesh) where
       (record { below = b.is_edge; fails = λ none. none (border_degree w z other d b); before = b.none_before }) in
       let pair : (u, v) ≡ (w, z) = ends_same mesh e d (u, v) (w, z) same a.its_ends b.its_ends in
       let row : face ∷ [] ≡ other ∷ [] = sym a.its_face ∙ ap (faces_with mesh) pair ∙ b.its_face in
-      ap (λ (p : ℕ × ℕ). surface.Border p.0 p.1 face) pair ∙ ap (λ (xs : List ℕ). surface.Border w z (get_or xs 0 0)) row
+      ap (λ (p : ℕ × ℕ). surface.Border p.0 p.1 face) pair
+      ∙ ap (λ (xs : List ℕ). surface.Border w z (get_or xs 0 0)) row
 
-  crowd_same : (p q : ℕ × ℕ) (faces others : List ℕ) (e d : ℕ) → IsLeastCrowd mesh p faces e → IsLeastCrowd mesh q others d →
+  crowd_same : (p q : ℕ × ℕ) (faces others : List ℕ) (e d : ℕ) → IsLeastCrowd mesh p faces e →
+      IsLeastCrowd mesh q others d →
       (p ≡ q) × (faces ≡ others)
   crowd_same p q faces others e d a b =
-      let many_a : 3 ≤ degree mesh e = let m = a.many in let same = degree_is mesh e p a.its_ends in omega (arith, m, same) in
-      let many_b : 3 ≤ degree mesh d = let m = b.many in let same = degree_is mesh d q b.its_ends in omega (arith, m, same) in
+      let many_a : 3 ≤ degree mesh e =
+      (let m = a.many in let same = degree_is mesh e p a.its_ends in omega (arith, m, same)) in
+      let many_b : 3 ≤ degree mesh d =
+      (let m = b.many in let same = degree_is mesh d q b.its_ends in omega (arith, m, same)) in
       let same : e ≡ d = first_same (edge_count mesh) (λ c. degree mesh c < 3) e d
       (record { below = a.is_edge; fails = λ few. absurd (omega (arith, few, many_a)); before = a.none_before })
       (record { below = b.is_edge; fails = λ few. absurd (omega (arith, few, many_b)); before = b.none_before }) in
       let pair : p ≡ q = ends_same mesh e d p q same a.its_ends b.its_ends in
       (pair, sym a.its_faces ∙ ap (λ r. take 3 (faces_with mesh r)) pair ∙ b.its_faces)
 
-  surface_same : (a b : SurfaceFault) → surface_kind a ≡ surface_kind b → IsSurfaceFault mesh a → IsSurfaceFault mesh b → a ≡ b
+  surface_same : (a b : SurfaceFault) → surface_kind a ≡ surface_kind b → IsSurfaceFault mesh a →
+      IsSurfaceFault mesh b → a ≡ b
   surface_same surface.Empty surface.Empty k a b = refl
-  surface_same (surface.Border u v face) (surface.Border w z other) k (some, (e, a)) (more, (d, b)) = border_same u v face w z other e d a b
+  surface_same (surface.Border u v face) (surface.Border w z other) k (some, (e, a)) (more, (d, b)) =
+      border_same u v face w z other e d a b
   surface_same (surface.Crowded u v faces) (surface.Crowded w z others) k (some, (e, a)) (more, (d, b)) =
       let same = crowd_same (u, v) (w, z) faces others e d a b in
       ap (λ (p : ℕ × ℕ). surface.Crowded p.0 p.1 faces) same.0 ∙ ap (λ (xs : List ℕ). surface.Crowded w z xs) same.1
   surface_same (surface.Isolated v) (surface.Isolated w) k (some, two, a) (more, too, b) =
       ap surface.Isolated
-      (first_same mesh.vertices (λ u. (f : ℕ) × HasCorner mesh f u) v w (isolated_first mesh v a) (isolated_first mesh w b))
+      (first_same mesh.vertices (λ u. (f : ℕ) × HasCorner mesh f u) v w (isolated_first mesh v a)
+      (isolated_first mesh w b))
   surface_same (surface.Pinched v f g) (surface.Pinched w h i) k (some, two, met, a) (more, too, all, b) =
       pinch_same mesh (λ x y z. surface.Pinched x y z) v f g w h i a b
   surface_same (surface.Apart f) (surface.Apart g) k (some, two, met, fans, a) (more, too, all, rounds, b) =
-      ap surface.Apart (first_same (face_count mesh) (Joined (Share mesh) 0) f g (apart_first mesh f a) (apart_first mesh g b))
+      ap surface.Apart (first_same (face_count mesh) (Joined (Share mesh) 0) f g (apart_first mesh f a)
+      (apart_first mesh g b))
   surface_same surface.Memory surface.Memory k a b = refl
   surface_same other another k a b = absurd (omega (arith, k))
 
@@ -206,7 +222,8 @@ module _ (mesh : Mesh) where
       IsSurfaceFault mesh b → a ≡ b
   surface_faults_are_one a b some_a some_b is_a is_b =
       surface_same a b
-      (first_same 6 SurfaceHolds (surface_kind a) (surface_kind b) (surface_first a some_a is_a) (surface_first b some_b is_b)) is_a is_b
+      (first_same 6 SurfaceHolds (surface_kind a) (surface_kind b) (surface_first a some_a is_a)
+      (surface_first b some_b is_b)) is_a is_b
 
 -- ---- discs
 
@@ -261,7 +278,8 @@ module _ (mesh : Mesh) where
   border_fails Nothing is border = is border.0.0 border.0.1
   border_fails (Two u v s t) (e, h, on, off, one, two) border = off.outside (border.1 e h on.on_border off.on_border)
 
-  disc_first : (fault : DiscFault) → fault ≢ disc.Memory → IsDiscFault mesh fault → FailsFirst 6 DiscHolds (disc_kind fault)
+  disc_first : (fault : DiscFault) → fault ≢ disc.Memory → IsDiscFault mesh fault →
+      FailsFirst 6 DiscHolds (disc_kind fault)
   disc_first (disc.Crowded u v faces) ne (e, is) = record {
     below = omega arith;
     fails = λ none. (crowded_first (u, v) faces e is).fails (none e is.is_edge);
@@ -291,11 +309,13 @@ module _ (mesh : Mesh) where
   }
   disc_first disc.Memory ne is = absurd (ne refl)
 
-  crowded_same : (p q : ℕ × ℕ) (faces others : List ℕ) (e d : ℕ) → IsLeastCrowded mesh p faces e → IsLeastCrowded mesh q others d →
+  crowded_same : (p q : ℕ × ℕ) (faces others : List ℕ) (e d : ℕ) → IsLeastCrowded mesh p faces e →
+      IsLeastCrowded mesh q others d →
       (p ≡ q) × (faces ≡ others)
   crowded_same p q faces others e d a b =
       let same : e ≡ d =
-      first_same (edge_count mesh) (λ c. degree mesh c ≤ 2) e d (crowded_first p faces e a) (crowded_first q others d b) in
+      first_same (edge_count mesh) (λ c. degree mesh c ≤ 2) e d (crowded_first p faces e a)
+      (crowded_first q others d b) in
       let pair : p ≡ q = ends_same mesh e d p q same a.its_ends b.its_ends in
       (pair, sym a.its_faces ∙ ap (λ r. take 3 (faces_with mesh r)) pair ∙ b.its_faces)
 
@@ -318,7 +338,8 @@ module _ (mesh : Mesh) where
       let same : e ≡ d = on_border_same e d on on_too in
       let there : IsLeastOutside mesh d h = subst (λ c. IsLeastOutside mesh c h) same off in
       let other : h ≡ g =
-      first_same (edge_count mesh) (λ c. IsBorderEdge mesh c → Joined (ShareOnBorder mesh) d c) h g (outside_first d h there) (outside_first d g off_too) in
+      first_same (edge_count mesh) (λ c. IsBorderEdge mesh c → Joined (ShareOnBorder mesh) d c) h g
+      (outside_first d h there) (outside_first d g off_too) in
       ap (λ (p : ℕ × ℕ). Two p.0 p.1 s t) (ends_same mesh e d (u, v) (w, x) same one first)
       ∙ ap (λ (p : ℕ × ℕ). Two w x p.0 p.1) (ends_same mesh h g (s, t) (y, z) other two second)
 
@@ -328,20 +349,26 @@ module _ (mesh : Mesh) where
       ap (λ (p : ℕ × ℕ). disc.Crowded p.0 p.1 faces) same.0 ∙ ap (λ (xs : List ℕ). disc.Crowded w z xs) same.1
   disc_same (disc.Isolated v) (disc.Isolated w) k (none, a) (too, b) =
       ap disc.Isolated
-      (first_same mesh.vertices (λ u. (f : ℕ) × HasCorner mesh f u) v w (isolated_first mesh v a) (isolated_first mesh w b))
+      (first_same mesh.vertices (λ u. (f : ℕ) × HasCorner mesh f u) v w (isolated_first mesh v a)
+      (isolated_first mesh w b))
   disc_same (disc.Pinched v f g) (disc.Pinched w h i) k (none, met, a) (too, all, b) =
       pinch_same mesh (λ x y z. disc.Pinched x y z) v f g w h i a b
   disc_same (disc.Apart f) (disc.Apart g) k (none, met, fans, a) (too, all, rounds, b) =
-      ap disc.Apart (first_same (face_count mesh) (Joined (Share mesh) 0) f g (apart_first mesh f a) (apart_first mesh g b))
+      ap disc.Apart (first_same (face_count mesh) (Joined (Share mesh) 0) f g (apart_first mesh f a)
+      (apart_first mesh g b))
   disc_same (disc.Border kind) (disc.Border other) k (is, a) (too, b) = ap disc.Border (border_kind_same kind other a b)
-  disc_same (disc.Count v e f) (disc.Count w d g) k (is, some, one, v_is, e_is, f_is, wrong) (too, more, single, w_is, d_is, g_is, none) =
-      ap (λ n. disc.Count n e f) (v_is ∙ sym w_is) ∙ ap (λ n. disc.Count w n f) (e_is ∙ sym d_is) ∙ ap (λ n. disc.Count w d n) (f_is ∙ sym g_is)
+  disc_same (disc.Count v e f) (disc.Count w d g) k (is, some, one, v_is, e_is, f_is, wrong)
+      (too, more, single, w_is, d_is, g_is, none) =
+      ap (λ n. disc.Count n e f) (v_is ∙ sym w_is) ∙ ap (λ n. disc.Count w n f) (e_is ∙ sym d_is)
+      ∙ ap (λ n. disc.Count w d n) (f_is ∙ sym g_is)
   disc_same disc.Memory disc.Memory k a b = refl
   disc_same other another k a b = absurd (omega (arith, k))
 
-  pub disc_faults_are_one : (a b : DiscFault) → a ≢ disc.Memory → b ≢ disc.Memory → IsDiscFault mesh a → IsDiscFault mesh b → a ≡ b
+  pub disc_faults_are_one : (a b : DiscFault) → a ≢ disc.Memory → b ≢ disc.Memory → IsDiscFault mesh a →
+      IsDiscFault mesh b → a ≡ b
   disc_faults_are_one a b some_a some_b is_a is_b =
-      disc_same a b (first_same 6 DiscHolds (disc_kind a) (disc_kind b) (disc_first a some_a is_a) (disc_first b some_b is_b)) is_a is_b
+      disc_same a b (first_same 6 DiscHolds (disc_kind a) (disc_kind b) (disc_first a some_a is_a)
+      (disc_first b some_b is_b)) is_a is_b
 
 -- ---- evidence
 
@@ -370,14 +397,18 @@ module _ (mesh : Mesh) (chain : Chain) where
       let outside = a.outside in
       absurd (omega (arith, is, inside, outside))
 
-  boundary_same : (faces : List ℕ) (u v w z : ℕ) → IsNoBoundary mesh chain faces u v → IsNoBoundary mesh chain faces w z →
+  boundary_same : (faces : List ℕ) (u v w z : ℕ) → IsNoBoundary mesh chain faces u v →
+      IsNoBoundary mesh chain faces w z →
       class.Boundary u v ≡ class.Boundary w z
   boundary_same faces u v w z a b =
-      let same : a.edge ≡ b.edge = first_same (edge_count mesh) (λ e. boundary mesh (is_listed faces) e ≡ chain e) a.edge b.edge
-      (record { below = a.is_edge; fails = a.differs; before = a.least }) (record { below = b.is_edge; fails = b.differs; before = b.least }) in
+      let same : a.edge ≡ b.edge = first_same (edge_count mesh)
+      (λ e. boundary mesh (is_listed faces) e ≡ chain e) a.edge b.edge
+      (record { below = a.is_edge; fails = a.differs; before = a.least })
+      (record { below = b.is_edge; fails = b.differs; before = b.least }) in
       ap (λ (p : ℕ × ℕ). class.Boundary p.0 p.1) (ends_same mesh a.edge b.edge (u, v) (w, z) same a.its_ends b.its_ends)
 
-  null_same : (faces : List ℕ) (a b : ClassFault) → a ≢ class.Memory → b ≢ class.Memory → IsClassFault mesh chain (null_faces faces) a →
+  null_same : (faces : List ℕ) (a b : ClassFault) → a ≢ class.Memory → b ≢ class.Memory →
+      IsClassFault mesh chain (null_faces faces) a →
       IsClassFault mesh chain (null_faces faces) b → a ≡ b
   null_same faces (class.Face f) (class.Face g) m n a b = ap class.Face (no_face_same faces f g a b)
   null_same faces (class.Face f) (class.Boundary u v) m n a b = absurd (no_face_wrong faces f u v a b)
@@ -407,7 +438,8 @@ module _ (mesh : Mesh) (chain : Chain) where
     | inl same ↦ ap (λ (p : ℕ × ℕ). class.Pair p.0 p.1) (pair_eq-true (u, v) (w, z) same)
     | inr differ ↦ elim (cases_Bool (pair_lt (u, v) (w, z))) [
       | inl less ↦ absurd (true≢false (sym (b.least (u, v) less a.listed) ∙ a.outside))
-      | inr more ↦ absurd (true≢false (sym (a.least (w, z) (pair_lt-total (u, v) (w, z) more differ) b.listed) ∙ b.outside))
+      | inr more ↦ absurd (true≢false (sym (a.least (w, z) (pair_lt-total (u, v) (w, z) more differ) b.listed)
+          ∙ b.outside))
     ]
   ]
 
@@ -416,7 +448,8 @@ module _ (mesh : Mesh) (chain : Chain) where
       (record { below = a.is_face; fails = λ even. true≢false (sym a.odd_sides ∙ even); before = a.least })
       (record { below = b.is_face; fails = λ even. true≢false (sym b.odd_sides ∙ even); before = b.least })
 
-  odd_same : (pairs : List (ℕ × ℕ)) (a b : ClassFault) → a ≢ class.Memory → b ≢ class.Memory → IsClassFault mesh chain (odd_pairs pairs) a →
+  odd_same : (pairs : List (ℕ × ℕ)) (a b : ClassFault) → a ≢ class.Memory → b ≢ class.Memory →
+      IsClassFault mesh chain (odd_pairs pairs) a →
       IsClassFault mesh chain (odd_pairs pairs) b → a ≡ b
   odd_same pairs (class.Pair u v) (class.Pair w z) m n a b = no_pair_same pairs u v w z a b
   odd_same pairs (class.Pair u v) (class.OddFace f) m n a b =

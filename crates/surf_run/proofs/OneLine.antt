@@ -61,10 +61,12 @@ glyph_is_none d = elim (cases_Bool (nat_lt d 10)) [
   | inr many ↦ rw many (ne_eqb (87 + d) 10 (λ is. absurd (omega (arith, is))))
 ]
 
-front_none : (b : ℕ) (bs : List ℕ) → is_line_end b ≡ false → list_any is_line_end bs ≡ false → list_any is_line_end (b ∷ bs) ≡ false
+front_none : (b : ℕ) (bs : List ℕ) → is_line_end b ≡ false → list_any is_line_end bs ≡ false →
+    list_any is_line_end (b ∷ bs) ≡ false
 front_none b bs here rest = rw (here, rest) refl
 
-digits_none : (k n : ℕ) (acc : List ℕ) → list_any is_line_end acc ≡ false → list_any is_line_end (digits_onto k 10 false n acc) ≡ false
+digits_none : (k n : ℕ) (acc : List ℕ) → list_any is_line_end acc ≡ false →
+    list_any is_line_end (digits_onto k 10 false n acc) ≡ false
 digits_none zero n acc none = none
 digits_none (suc k) n acc none =
     let more = front_none (digit_glyph false (n % 10)) acc (glyph_is_none (n % 10)) none in
@@ -72,7 +74,8 @@ digits_none (suc k) n acc none =
   where
     at : (last : Bool) → list_any is_line_end (digit_glyph false (n % 10) ∷ acc) ≡ false →
         list_any is_line_end (digits_onto k 10 false (n / 10) (digit_glyph false (n % 10) ∷ acc)) ≡ false →
-        list_any is_line_end (if last then digit_glyph false (n % 10) ∷ acc else digits_onto k 10 false (n / 10) (digit_glyph false (n % 10) ∷ acc)) ≡ false
+        list_any is_line_end (if last then digit_glyph false (n % 10) ∷ acc else digits_onto k 10 false (n / 10)
+        (digit_glyph false (n % 10) ∷ acc)) ≡ false
     at true here rest = here
     at false here rest = rest
 
@@ -83,7 +86,8 @@ decimal_none n = digits_none 64 n [] refl
 numbers_none : (ns : List ℕ) → list_any is_line_end (numbers_text ns) ≡ false
 numbers_none [] = refl
 numbers_none (n ∷ ns) =
-    none_append is_line_end (codes " " ++ decimal n) (numbers_text ns) (none_append is_line_end (codes " ") (decimal n) refl (decimal_none n)) (numbers_none ns)
+    none_append is_line_end (codes " " ++ decimal n) (numbers_text ns)
+    (none_append is_line_end (codes " ") (decimal n) refl (decimal_none n)) (numbers_none ns)
 
 -- ---- lines
 
@@ -105,13 +109,15 @@ numbered_is_one words numbers none = record {
 }
 
 -- words and a number, twice
-counted_is_one : (words between : List ℕ) (n m : ℕ) → list_any is_line_end words ≡ false → list_any is_line_end between ≡ false →
+counted_is_one : (words between : List ℕ) (n m : ℕ) → list_any is_line_end words ≡ false →
+    list_any is_line_end between ≡ false →
     IsOneLine (words ++ (decimal n ++ (between ++ (decimal m ++ codes "\n"))))
 counted_is_one words between n m first second = record {
   front = words ++ (decimal n ++ (between ++ decimal m));
   is = four_first words (decimal n) between (decimal m) (codes "\n");
   no_other = none_append is_line_end words (decimal n ++ (between ++ decimal m)) first
-      (none_append is_line_end (decimal n) (between ++ decimal m) (decimal_none n) (none_append is_line_end between (decimal m) second (decimal_none m)));
+      (none_append is_line_end (decimal n) (between ++ decimal m) (decimal_none n)
+      (none_append is_line_end between (decimal m) second (decimal_none m)));
 }
 
 limit_none : (kind : LimitKind) → list_any is_line_end (limit_name kind) ≡ false
@@ -137,7 +143,8 @@ file_none : (file : WalkFile) → list_any is_line_end (file_words file) ≡ fal
 file_none First = refl
 file_none Second = refl
 
-walk_is_one : (file : WalkFile) (words numbers : List ℕ) → list_any is_line_end words ≡ false → IsOneLine (walk_line file words numbers)
+walk_is_one : (file : WalkFile) (words numbers : List ℕ) → list_any is_line_end words ≡ false →
+    IsOneLine (walk_line file words numbers)
 walk_is_one file words numbers none = record {
   front = file_words file ++ (words ++ numbers_text numbers);
   is = three_first (file_words file) words (numbers_text numbers) (codes "\n");
@@ -148,7 +155,8 @@ walk_is_one file words numbers none = record {
 -- ---- the lines that name no number
 
 pub misused_is_one : IsOneLine (line_of (due misused))
-misused_is_one = record { front = codes "usage: the words are in no row of the command table"; is = refl; no_other = refl }
+misused_is_one =
+    record { front = codes "usage: the words are in no row of the command table"; is = refl; no_other = refl }
 
 pub read_fault_is_one : IsOneLine (codes "read fault\n")
 read_fault_is_one = record { front = codes "read fault"; is = refl; no_other = refl }
@@ -177,7 +185,8 @@ surface_said : (fault : SurfaceFault) → IsSaid (surface_cause fault)
 surface_said check.Empty = numbered_is_one (codes "surface: empty") [] refl
 surface_said (check.Border u v face) = numbered_is_one (codes "surface: border") (u ∷ v ∷ face ∷ []) refl
 surface_said (check.Crowded u v faces) =
-    numbered_is_one (codes "surface: crowded") (u ∷ v ∷ slice_index faces 0 ∷ slice_index faces 1 ∷ slice_index faces 2 ∷ []) refl
+    numbered_is_one (codes "surface: crowded")
+    (u ∷ v ∷ slice_index faces 0 ∷ slice_index faces 1 ∷ slice_index faces 2 ∷ []) refl
 surface_said (check.Isolated v) = numbered_is_one (codes "surface: isolated") (v ∷ []) refl
 surface_said (check.Pinched v first second) = numbered_is_one (codes "surface: pinched") (v ∷ first ∷ second ∷ []) refl
 surface_said (check.Apart face) = numbered_is_one (codes "surface: apart") (face ∷ []) refl
@@ -207,7 +216,8 @@ geom_said geom.Memory = tt
 
 copies_said : (vertices : ℕ) (fault : CopyFault) → IsSaid (copy_cause vertices fault)
 copies_said vertices (copies.CopyForm line) = numbered_is_one (codes "sew: copy-form") (line ∷ []) refl
-copies_said vertices (copies.CopyCount have) = counted_is_one (codes "sew: copy-count ") (codes " of ") have vertices refl refl
+copies_said vertices (copies.CopyCount have) =
+    counted_is_one (codes "sew: copy-count ") (codes " of ") have vertices refl refl
 copies_said vertices copies.Memory = tt
 
 sew_said : (fault : SewFault) → IsSaid (sew_cause fault)

@@ -29,6 +29,7 @@ use Rattle.surf_sew.proofs.Limits.{limits_are_kept}
 use Rattle.surf_surfaces.specs.Mesh.{Mesh, IsFace}
 use Rattle.surf_surfaces.specs.SideNumber.{side_count}
 use Rattle.surf_surfaces.specs.Surface.{face_count, edge_count, IsSurface}
+use Rattle.surf_run.specs.Cause.{misused}
 use Rattle.surf_run.specs.Cuts.{GivesCut, cut_text, is_trimmed}
 use Rattle.surf_run.specs.Given.{IsFewLoopedText, IsWeighted}
 use Rattle.surf_run.specs.Leads.{Answer, Leads, OnRequest}
@@ -67,10 +68,12 @@ keyword_short Stcnoff = omega arith
 count_short : (n : ℕ) → n ≤ 6000000 → length (decimal n) ≤ 7
 count_short n few = length-decimal-le 7 n (omega arith) (omega (arith, few)) (omega (arith, few))
 
-head_short : (header : Header) (v f e : ℕ) → v ≤ 6000000 → f ≤ 6000000 → e ≤ 6000000 → length (head_text header v f e) ≤ 40
+head_short : (header : Header) (v f e : ℕ) → v ≤ 6000000 → f ≤ 6000000 → e ≤ 6000000 →
+    length (head_text header v f e) ≤ 40
 head_short header v f e few_v few_f few_e =
     let word = keyword_short header in
-    let first = length_of_four (keyword header) (codes "\n") (decimal v) (codes " " ++ (decimal f ++ (codes " " ++ (decimal e ++ codes "\n")))) in
+    let first = length_of_four (keyword header) (codes "\n") (decimal v)
+    (codes " " ++ (decimal f ++ (codes " " ++ (decimal e ++ codes "\n")))) in
     let second = length_of_four (codes " ") (decimal f) (codes " ") (decimal e ++ codes "\n") in
     let third = length-append (decimal e) (codes "\n") in
     let v_short = count_short v few_v in
@@ -105,7 +108,8 @@ colour_short (b ∷ bs) = let whole = length-append (codes " ") (b ∷ bs) in om
 abbrev pub IsSmallFace : List ℕ → Type 0
 IsSmallFace face = AllByRecursion (λ n. n < 1000000) face × (length face ≤ 6000000)
 
-face_short : (face colour : List ℕ) → IsSmallFace face → length (face_text face colour) ≤ 9 + 8 * length face + length colour
+face_short : (face colour : List ℕ) → IsSmallFace face →
+    length (face_text face colour) ≤ 9 + 8 * length face + length colour
 face_short face colour small =
     let line = length_of_four (decimal (length face)) (numbers_text face) (colour_text colour) (codes "\n") in
     let size = count_short (length face) small.1 in
@@ -125,19 +129,23 @@ faces_short (face ∷ faces) (colour ∷ colours) all =
     let colours_more = sum_by-cons length colour colours in
     omega (arith, whole, here, rest, more, colours_more)
 
-small_faces : (v : ℕ) (faces : List (List ℕ)) → v ≤ 1000000 → sum_by length faces ≤ 6000000 → AllByRecursion (IsFace v) faces →
+small_faces : (v : ℕ) (faces : List (List ℕ)) → v ≤ 1000000 → sum_by length faces ≤ 6000000 →
+    AllByRecursion (IsFace v) faces →
     AllByRecursion IsSmallFace faces
 small_faces v [] few sides all = tt
 small_faces v (face ∷ faces) few sides all =
     let more = sum_by-cons length face faces in
-    ((inside face (recursion_from_All (λ n. n < v) face all.0.inside), omega (arith, more, sides)), small_faces v faces few (omega (arith, more, sides)) all.1)
+    let here : IsSmallFace face =
+    (inside face (recursion_from_All (λ n. n < v) face all.0.inside), omega (arith, more, sides)) in
+    (here, small_faces v faces few (omega (arith, more, sides)) all.1)
   where
     inside : (ns : List ℕ) → AllByRecursion (λ n. n < v) ns → AllByRecursion (λ n. n < 1000000) ns
     inside [] ok = tt
     inside (n ∷ ns) ok = (let below = ok.0 in omega (arith, below, few), inside ns ok.1)
 
 -- what is written of a mesh that was read isn't too long an answer
-mesh_text_short : (bytes : List ℕ) (read : OffParts × Mesh) → length bytes ≤ 268435456 → off_of bytes ≡ Ok read → IsSurface read.1 →
+mesh_text_short : (bytes : List ℕ) (read : OffParts × Mesh) → length bytes ≤ 268435456 → off_of bytes ≡ Ok read →
+    IsSurface read.1 →
     length (mesh_text read.0.header read.0.vertex_lines read.1.faces read.0.colours (edge_count read.1)) ≤ 1073741824
 mesh_text_short bytes read within is surface =
     let few = mesh_texts_are_few bytes read is in
@@ -150,17 +158,20 @@ mesh_text_short bytes read within is surface =
     let pieces = so.short in
     let head = head_text read.0.header (length read.0.vertex_lines) (length read.1.faces) (edge_count read.1) in
     let all = length_of_three head (lines_text read.0.vertex_lines) (faces_text (zip read.1.faces read.0.colours)) in
-    let front = head_short read.0.header (length read.0.vertex_lines) (length read.1.faces) (edge_count read.1) (omega (arith, count, few_v)) (omega (arith, few_f))
+    let front = head_short read.0.header (length read.0.vertex_lines) (length read.1.faces) (edge_count read.1)
+    (omega (arith, count, few_v)) (omega (arith, few_f))
     (omega (arith, few_e, few_s)) in
     let lines = lines_short read.0.vertex_lines in
-    let small = small_faces read.1.vertices read.1.faces few_v few_s (recursion_from_All (IsFace read.1.vertices) read.1.faces surface.is_mesh) in
+    let small = small_faces read.1.vertices read.1.faces few_v few_s
+    (recursion_from_All (IsFace read.1.vertices) read.1.faces surface.is_mesh) in
     let faces = faces_short read.1.faces read.0.colours small in
     omega (arith, all, front, lines, faces, count, pieces, few_v, few_f, few_s, within)
 
 -- ---- one cut
 
 -- what a file holds that was read
-held_is : (files : Files) (name bytes : List ℕ) → Reads name files (Ok bytes) → (bytes_of files name ≡ Some bytes) × (length bytes ≤ 268435456)
+held_is : (files : Files) (name bytes : List ℕ) → Reads name files (Ok bytes) →
+    (bytes_of files name ≡ Some bytes) × (length bytes ≤ 268435456)
 held_is files name bytes reads = at (bytes_of files name) reads
   where
     item : Result (List ℕ) Outcome → List ℕ
@@ -171,7 +182,8 @@ held_is files name bytes reads = at (bytes_of files name) reads
     goes (Ok b) = Unit {0}
     goes (Err o) = ⊥
 
-    kept : (long : Bool) (b : List ℕ) → long ≡ nat_lt 268435456 (length b) → Ok bytes ≡ (if long then Err (beyond Text) else Ok b) →
+    kept : (long : Bool) (b : List ℕ) → long ≡ nat_lt 268435456 (length b) →
+        Ok bytes ≡ (if long then Err (beyond Text) else Ok b) →
         (Some b ≡ Some bytes) × (length bytes ≤ 268435456)
     kept true b same is = absurd (subst goes is tt)
     kept false b same is =
@@ -183,7 +195,8 @@ held_is files name bytes reads = at (bytes_of files name) reads
     at (Some b) is = kept (nat_lt 268435456 (length b)) b refl is
 
 -- what was sewn had no fault
-unless_sewn : (fault : Option SewFault) (r : Result Mesh SewFault) (mesh : Mesh) → unless fault r ≡ Ok mesh → r ≡ Ok mesh
+unless_sewn : (fault : Option SewFault) (r : Result Mesh SewFault) (mesh : Mesh) → unless fault r ≡ Ok mesh →
+    r ≡ Ok mesh
 unless_sewn None r mesh is = is
 unless_sewn (Some fault) r mesh is = absurd cc
 
@@ -191,15 +204,19 @@ abbrev faces_in : Result Mesh SewFault → List (List ℕ)
 faces_in (Ok mesh) = mesh.faces
 faces_in (Err fault) = []
 
-sewn_are_faces : (lines : List (List ℕ)) (copies : Mesh) (origins : List ℕ) (mesh : Mesh) → sewn_of lines copies origins ≡ Ok mesh →
+sewn_are_faces : (lines : List (List ℕ)) (copies : Mesh) (origins : List ℕ) (mesh : Mesh) →
+    sewn_of lines copies origins ≡ Ok mesh →
     sewn_faces origins copies.faces ≡ mesh.faces
 sewn_are_faces lines copies origins mesh is =
-    let last : Result Mesh SewFault = unless (repeat_from 0 (sewn_faces origins copies.faces)) (Ok (sewn_mesh origins copies.faces)) in
+    let last : Result Mesh SewFault = unless (repeat_from 0 (sewn_faces origins copies.faces))
+    (Ok (sewn_mesh origins copies.faces)) in
     let middle = unless (line_fault lines origins) last in
-    ap faces_in (unless_sewn (repeat_from 0 (sewn_faces origins copies.faces)) (Ok (sewn_mesh origins copies.faces)) mesh
+    ap faces_in
+    (unless_sewn (repeat_from 0 (sewn_faces origins copies.faces)) (Ok (sewn_mesh origins copies.faces)) mesh
     (unless_sewn (line_fault lines origins) last mesh (unless_sewn (gap_fault origins) middle mesh is)))
 
-module _ (bytes : List ℕ) (read : OffParts × Mesh) (within : length bytes ≤ 268435456) (is_read : off_of bytes ≡ Ok read) (surface : IsSurface read.1)
+module _ (bytes : List ℕ) (read : OffParts × Mesh) (within : length bytes ≤ 268435456)
+    (is_read : off_of bytes ≡ Ok read) (surface : IsSurface read.1)
     (trim : Bool) (lengths : List ℕ) (base : ℕ) (o : Outcome) (gives : GivesCut trim read.0 read.1 lengths base o) where
   abbrev parts : OffParts
   parts = read.0
@@ -233,19 +250,23 @@ module _ (bytes : List ℕ) (read : OffParts × Mesh) (within : length bytes ≤
   opened_sides : side_count (opened origins faces) ≡ side_count mesh
   opened_sides =
       sym (sewn_sides origins faces)
-      ∙ ap (sum_by length) (sewn_are_faces (opened_parts parts origins).vertex_lines (opened origins faces) origins mesh (opened_are_sewn parts mesh origins faces cut).0)
+      ∙ ap (sum_by length)
+      (sewn_are_faces (opened_parts parts origins).vertex_lines (opened origins faces) origins mesh
+      (opened_are_sewn parts mesh origins faces cut).0)
 
   module _ (text : List ℕ) (text_is : text ≡ cut_text parts origins faces) (can : CanBeRead text) where
     opened_read : off_of text ≡ Ok (opened_parts parts origins, opened origins faces)
     opened_read =
         let again = opened_are_reread parts mesh origins faces cut in
-        let there : off_without_limits text ≡ Ok (opened_parts parts origins, opened origins faces) = ap off_without_limits text_is ∙ again in
+        let there : off_without_limits text ≡ Ok (opened_parts parts origins, opened origins faces) =
+        ap off_without_limits text_is ∙ again in
         let copies : length origins ≤ 1000000 = can.few (opened_parts parts origins, opened origins faces) there in
         let as_many : length faces ≡ face_count mesh = gives.is_cut.opening.same_faces in
         let few_faces : face_count mesh ≤ 2000000 = few.1 in
         let few_sides : side_count mesh ≤ 6000000 = few.2 in
         let sides = opened_sides in
-        limits_are_kept text (opened_parts parts origins) (opened origins faces) there copies (omega (arith, as_many, few_faces)) (omega (arith, sides, few_sides))
+        limits_are_kept text (opened_parts parts origins) (opened origins faces) there copies
+        (omega (arith, as_many, few_faces)) (omega (arith, sides, few_sides))
 
     abbrev sewn_back : List ℕ
     sewn_back = sewn_text (opened_parts parts origins) origins mesh
@@ -261,16 +282,20 @@ module _ (bytes : List ℕ) (read : OffParts × Mesh) (within : length bytes ≤
     sewn_rereads : RereadsSewn (opened_parts parts origins) origins mesh
     sewn_rereads =
         sewn_are_reread parts mesh origins faces cut
-        ∙ ap (λ (lines : List (List ℕ)). Ok (record parts { vertex_lines = lines }, mesh)) (sym (lines_are_sewn parts mesh origins faces cut).0)
+        ∙ ap (λ (lines : List (List ℕ)). Ok (record parts { vertex_lines = lines }, mesh))
+        (sym (lines_are_sewn parts mesh origins faces cut).0)
 
-    sews_back : (later : Files) (disc : List ℕ) → bytes_of later disc ≡ Some text → Answer (codes "sew" ∷ disc ∷ []) later 0 sewn_back []
+    sews_back : (later : Files) (disc : List ℕ) → bytes_of later disc ≡ Some text →
+        Answer (codes "sew" ∷ disc ∷ []) later 0 sewn_back []
     unfolding Leads
     sews_back later disc held =
-        let read_is : Ok (opened_parts parts origins, opened origins faces) ≡ read_outcome (off_of text) = sym (ap read_outcome opened_read) in
+        let read_is : Ok (opened_parts parts origins, opened origins faces) ≡ read_outcome (off_of text) =
+        sym (ap read_outcome opened_read) in
         let copies_are : Ok origins ≡ copied (length origins) (copies_in text (length origins)) =
         sym (ap (λ (t : List ℕ). copied (length origins) (copies_in t (length origins))) text_is
         ∙ ap (copied (length origins)) (copies_are_reread parts mesh origins faces cut)) in
-        let sewn_is : Ok mesh ≡ sewn (sewn_of (opened_parts parts origins).vertex_lines (opened origins faces) origins) =
+        let sewn_is :
+        Ok mesh ≡ sewn (sewn_of (opened_parts parts origins).vertex_lines (opened origins faces) origins) =
         sym (ap sewn (opened_are_sewn parts mesh origins faces cut).0) in (
           answers 0 sewn_back,
           inr (
@@ -287,7 +312,11 @@ module _ (bytes : List ℕ) (read : OffParts × Mesh) (within : length bytes ≤
                   sewn_is,
                   inr (
                     gives.is_cut.opening.is_disc,
-                    inr (mesh, (refl, surface), record { says = says_whole sewn_back sewn_back refl sewn_short; rereads = sewn_rereads }),
+                    inr (
+                      mesh,
+                      (refl, surface),
+                      record { says = says_whole sewn_back sewn_back refl sewn_short; rereads = sewn_rereads },
+                    ),
                   ),
                 ),
               ),
@@ -314,23 +343,31 @@ is_cut false false = tt
 pub cuts_are_sewn : CutsAreSewn
 unfolding Leads
 cuts_are_sewn files later mesh lengths base kind disc text (o, leads, shows) held can =
-    at (cut_task (codes "cut") kind) (number_of base) (is_cut (bytes_eq kind (codes "full")) (bytes_eq kind (codes "trim"))) leads
+    at (cut_task (codes "cut") kind) (number_of base)
+    (is_cut (bytes_eq kind (codes "full")) (bytes_eq kind (codes "trim"))) leads
   where
     low : status_of o ≤ 1
     low = shown_low o text [] shows
 
-    at : (t : Option Task) (x : Option ℕ) → IsCut t → OnRequest (weighted_request t mesh lengths x) files o → IsSewnBack files mesh later disc
-    at None x cut on = absurd (let low_status = low in let status = ap status_of on in omega (arith, low_status, status))
+    refuses : o ≡ misused → IsSewnBack files mesh later disc
+    refuses is = absurd (let low_status = low in let status = ap status_of is in omega (arith, low_status, status))
+
+    at : (t : Option Task) (x : Option ℕ) → IsCut t → OnRequest (weighted_request t mesh lengths x) files o →
+        IsSewnBack files mesh later disc
+    at None x cut on = refuses on
     at (Some Distances) x cut on = absurd cut
     at (Some LeastLoops) x cut on = absurd cut
     at (Some LoopCertificate) x cut on = absurd cut
-    at (Some (Cut k)) None cut on = absurd (let low_status = low in let status = ap status_of on in omega (arith, low_status, status))
+    at (Some (Cut k)) None cut on = refuses on
     at (Some (Cut k)) (Some b) cut on =
-        let (bytes, reads, on_text) = goes_on (Reads mesh files) (λ x. OnText (Cut k) x lengths b files) o (reads_refuses mesh files) low on in
+        let (bytes, reads, on_text) = goes_on (Reads mesh files) (λ x. OnText (Cut k) x lengths b files) o
+        (reads_refuses mesh files) low on in
         let (read, looped, on_surface) =
-        goes_on (IsFewLoopedText true bytes) (λ x. OnSurface (Cut k) x lengths b files) o (looped_refuses true bytes) low on_text in
+        goes_on (IsFewLoopedText true bytes) (λ x. OnSurface (Cut k) x lengths b files) o
+        (looped_refuses true bytes) low on_text in
         let (given, weighted, gives) =
-        goes_on (IsWeighted lengths b read.1 files) (Performs (Cut k) read) o (weighted_refuses lengths b read.1 files) low on_surface in
+        goes_on (IsWeighted lengths b read.1 files) (Performs (Cut k) read) o
+        (weighted_refuses lengths b read.1 files) low on_surface in
         let text_is = shown_text (cut_text read.0 gives.origins gives.faces) o text gives.says shows in
         let is_read = read_back read (off_of bytes) looped.0.0 in
         let here = held_is files mesh bytes reads in
@@ -341,6 +378,8 @@ cuts_are_sewn files later mesh lengths base kind disc text (o, leads, shows) hel
           read = read;
           is_read = is_read;
           text = sewn_back bytes read here.1 is_read surface (is_trimmed k) given.0 given.1 o gives text text_is can;
-          sews = sews_back bytes read here.1 is_read surface (is_trimmed k) given.0 given.1 o gives text text_is can later disc held;
-          reads_so = sewn_read bytes read here.1 is_read surface (is_trimmed k) given.0 given.1 o gives text text_is can;
+          sews = sews_back bytes read here.1 is_read surface
+              (is_trimmed k) given.0 given.1 o gives text text_is can later disc held;
+          reads_so = sewn_read bytes read here.1 is_read surface
+              (is_trimmed k) given.0 given.1 o gives text text_is can;
         }

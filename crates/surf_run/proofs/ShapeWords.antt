@@ -54,7 +54,12 @@ chain_shaped g a b = elim (cases_Bool (nat_le 1 g && (nat_le 4 a && nat_le 4 b))
       let some = leb-true 1 g parts.0 in
       let rows = leb-true 4 a sizes.0 in
       let columns = leb-true 4 b sizes.1 in
-      rw good (record { some = some; rows = omega (arith, rows); columns = omega (arith, columns); longer = inr (rows, columns) })
+      rw good (record {
+        some = some;
+        rows = omega (arith, rows);
+        columns = omega (arith, columns);
+        longer = inr (rows, columns);
+      })
   | inr bad ↦ rw bad tt
 ]
 
@@ -88,7 +93,8 @@ cycles_is : (t : Option CycleTask) (mesh lengths : List ℕ) → IsWellShaped (c
 cycles_is None mesh lengths = tt
 cycles_is (Some t) mesh lengths = tt
 
-weighted_is : (t : Option Task) (mesh lengths : List ℕ) (base : Option ℕ) → IsWellShaped (weighted_request t mesh lengths base)
+weighted_is : (t : Option Task) (mesh lengths : List ℕ) (base : Option ℕ) →
+    IsWellShaped (weighted_request t mesh lengths base)
 weighted_is None mesh lengths base = tt
 weighted_is (Some t) mesh lengths None = tt
 weighted_is (Some t) mesh lengths (Some b) = tt
@@ -99,12 +105,14 @@ measures_is mesh (Some k) = tt
 
 three_is : (word mesh third : List ℕ) → IsWellShaped (three_words word mesh third)
 three_is word mesh third =
-    either (bytes_eq word (codes "lengths")) (measures_request mesh (decimals_of third)) _ (measures_is mesh (decimals_of third))
+    either (bytes_eq word (codes "lengths")) (measures_request mesh (decimals_of third)) _
+    (measures_is mesh (decimals_of third))
     (either (bytes_eq word (codes "class")) (Some (classes mesh third)) _ tt (cycles_is (cycle_task word) mesh third))
 
 four_is : (word second third fourth : List ℕ) → IsWellShaped (four_words word second third fourth)
 four_is word second third fourth =
-    either (bytes_eq word (codes "gen")) (shape_request (torus_words second third fourth)) _ (made_is (torus_words second third fourth))
+    either (bytes_eq word (codes "gen")) (shape_request (torus_words second third fourth)) _
+    (made_is (torus_words second third fourth))
     (either (bytes_eq word (codes "check")) (Some (checks second third fourth)) _ tt
     (either (bytes_eq word (codes "same")) (Some (compares second third fourth)) _ tt
     (either (bytes_eq word (codes "confirm")) (Some (confirms second third fourth)) _ tt
@@ -113,10 +121,12 @@ four_is word second third fourth =
 
 five_is : (word second third fourth fifth : List ℕ) → IsWellShaped (five_words word second third fourth fifth)
 five_is word second third fourth fifth =
-    either (bytes_eq word (codes "gen")) (shape_request (chain_words second third fourth fifth)) _ (made_is (chain_words second third fourth fifth))
+    either (bytes_eq word (codes "gen")) (shape_request (chain_words second third fourth fifth)) _
+    (made_is (chain_words second third fourth fifth))
     (either (bytes_eq word (codes "try")) (tried_request (torus_words second third fourth) (number_of fifth)) _
     (tried_is (torus_words second third fourth) (number_of fifth)
-    (if_shape (bytes_eq second (codes "torus")) (torus_named (number_of third) (number_of fourth)) (torus_is (number_of third) (number_of fourth))))
+    (if_shape (bytes_eq second (codes "torus")) (torus_named (number_of third) (number_of fourth))
+    (torus_is (number_of third) (number_of fourth))))
     (weighted_is (cut_task word fifth) second third (number_of fourth)))
 
 six_is : (word second third fourth fifth sixth : List ℕ) → IsWellShaped (six_words word second third fourth fifth sixth)
@@ -130,21 +140,25 @@ six_is word second third fourth fifth sixth =
 pub words_are_well_shaped : (words : List (List ℕ)) → IsWellShaped (request_of words)
 words_are_well_shaped [] = tt
 words_are_well_shaped (word ∷ []) =
-    either (bytes_eq word (codes "--help")) (Some help) _ tt (either (bytes_eq word (codes "--version")) (Some version) None tt tt)
+    either (bytes_eq word (codes "--help")) (Some help) _ tt
+    (either (bytes_eq word (codes "--version")) (Some version) None tt tt)
 words_are_well_shaped (word ∷ mesh ∷ []) =
     either (bytes_eq word (codes "info")) (Some (info mesh)) _ tt
-    (either (bytes_eq word (codes "disc")) (Some (disc mesh)) _ tt (either (bytes_eq word (codes "sew")) (Some (sews mesh)) None tt tt))
+    (either (bytes_eq word (codes "disc")) (Some (disc mesh)) _ tt
+    (either (bytes_eq word (codes "sew")) (Some (sews mesh)) None tt tt))
 words_are_well_shaped (word ∷ mesh ∷ third ∷ []) = three_is word mesh third
 words_are_well_shaped (word ∷ second ∷ third ∷ fourth ∷ []) = four_is word second third fourth
 words_are_well_shaped (word ∷ second ∷ third ∷ fourth ∷ fifth ∷ []) = five_is word second third fourth fifth
-words_are_well_shaped (word ∷ second ∷ third ∷ fourth ∷ fifth ∷ sixth ∷ []) = six_is word second third fourth fifth sixth
+words_are_well_shaped (word ∷ second ∷ third ∷ fourth ∷ fifth ∷ sixth ∷ []) =
+    six_is word second third fourth fifth sixth
 words_are_well_shaped (word ∷ second ∷ third ∷ fourth ∷ fifth ∷ sixth ∷ seventh ∷ more) = tt
 
 -- ---- their meshes
 
 shape_is_surface : (s : Shape) → IsShape s → IsSurface (mesh_of s)
 shape_is_surface s is = elim is.longer [
-  | inl one ↦ subst (λ g. IsSurface (chain g s.rows s.columns)) (sym one) (tori_are_surfaces s.rows s.columns is.rows is.columns)
+  | inl one ↦ subst (λ g. IsSurface (chain g s.rows s.columns)) (sym one)
+      (tori_are_surfaces s.rows s.columns is.rows is.columns)
   | inr four ↦ chains_are_surfaces s.tori s.rows s.columns is.some four.0 four.1
 ]
 
@@ -153,7 +167,8 @@ abbrev pub IsMeshIn : Mesh → Result Mesh Outcome → Type 0
 IsMeshIn mesh (Ok m) = m ≡ mesh
 IsMeshIn mesh (Err o) = Unit {0}
 
-if_mesh : (b : Bool) (o : Outcome) (mesh : Mesh) (r : Result Mesh Outcome) → IsMeshIn mesh r → IsMeshIn mesh (if b then Err o else r)
+if_mesh : (b : Bool) (o : Outcome) (mesh : Mesh) (r : Result Mesh Outcome) → IsMeshIn mesh r →
+    IsMeshIn mesh (if b then Err o else r)
 if_mesh true o mesh r is = tt
 if_mesh false o mesh r is = is
 
@@ -171,7 +186,8 @@ tried_mesh shape mesh is =
     subst (IsMeshIn (mesh_of shape)) (sym is)
     (then_is (mesh_of shape) (made (mesh_of shape))
     (if_mesh (nat_lt 1000000 (mesh_of shape).vertices) (beyond limits.Vertices) (mesh_of shape) _
-    (if_mesh (nat_lt 2000000 (face_count (mesh_of shape))) (beyond limits.Faces) (mesh_of shape) (Ok (mesh_of shape)) refl)))
+    (if_mesh (nat_lt 2000000 (face_count (mesh_of shape))) (beyond limits.Faces) (mesh_of shape)
+    (Ok (mesh_of shape)) refl)))
 
 pub tried_is_surface : (shape : Shape) (mesh : Mesh) → IsShape shape → IsTried shape (Ok mesh) → IsSurface mesh
 tried_is_surface shape mesh shaped is = subst IsSurface (sym (tried_mesh shape mesh is)) (shape_is_surface shape shaped)

@@ -7,7 +7,8 @@ use Rattle.surf_run.specs.Outcome.{Outcome}
 -- One outcome comes of words over files.
 abbrev pub OutcomesAreOne : Type 0
 OutcomesAreOne =
-    (words : List (List ℕ)) (files : Files) (outcome other : Outcome) → Leads words files outcome → Leads words files other →
+    (words : List (List ℕ)) (files : Files) (outcome other : Outcome) → Leads words files outcome →
+    Leads words files other →
     outcome ≡ other
 
 -- So the program answers one status, one text and one line.

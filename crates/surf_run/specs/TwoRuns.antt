@@ -20,7 +20,8 @@ use Rattle.surf_run.specs.Verdicts.{loops_line, basis_line}
 abbrev pub LoopsPass : Files → List ℕ → List ℕ → List ℕ → List ℕ → Type 0
 LoopsPass files mesh lengths base cert =
     (loops : List Loop)
-    × ((outcome : Outcome) → Says (loops_text loops) outcome → Leads (codes "loops" ∷ mesh ∷ lengths ∷ base ∷ []) files outcome)
+    × ((outcome : Outcome) → Says (loops_text loops) outcome →
+    Leads (codes "loops" ∷ mesh ∷ lengths ∷ base ∷ []) files outcome)
     × Answer (codes "check" ∷ mesh ∷ lengths ∷ cert ∷ []) files 0 (loops_line (total_size loops)) []
 
 -- So it is, over files that have the same mesh and lengths, where the file holds what `certify` answered of them at the
@@ -29,13 +30,15 @@ abbrev pub CertifiedLoopsPass : Type 0
 CertifiedLoopsPass =
     (files later : Files) (mesh lengths base cert text : List ℕ) →
     Answer (codes "certify" ∷ mesh ∷ lengths ∷ base ∷ []) files 0 text [] →
-    AgreeOn (mesh ∷ length_file lengths) files later → bytes_of later cert ≡ Some text → LoopsPass later mesh lengths base cert
+    AgreeOn (mesh ∷ length_file lengths) files later → bytes_of later cert ≡ Some text →
+    LoopsPass later mesh lengths base cert
 
 -- `check` of a file answers that its certificate of a basis is valid, with the total of the cycles that `basis` says.
 abbrev pub BasisPasses : Files → List ℕ → List ℕ → List ℕ → Type 0
 BasisPasses files mesh lengths cert =
     (basis : List Loop)
-    × ((outcome : Outcome) → Says (cycles_text basis) outcome → Leads (codes "basis" ∷ mesh ∷ lengths ∷ []) files outcome)
+    × ((outcome : Outcome) → Says (cycles_text basis) outcome →
+    Leads (codes "basis" ∷ mesh ∷ lengths ∷ []) files outcome)
     × Answer (codes "check" ∷ mesh ∷ lengths ∷ cert ∷ []) files 0 (basis_line (total_size basis)) []
 
 -- So it is, over files that have the same mesh and lengths, where the file holds what `certify` answered of them.
@@ -43,10 +46,11 @@ abbrev pub CertifiedBasesPass : Type 0
 CertifiedBasesPass =
     (files later : Files) (mesh lengths cert text : List ℕ) →
     Answer (codes "certify" ∷ mesh ∷ lengths ∷ []) files 0 text [] →
-    AgreeOn (mesh ∷ length_file lengths) files later → bytes_of later cert ≡ Some text → BasisPasses later mesh lengths cert
+    AgreeOn (mesh ∷ length_file lengths) files later → bytes_of later cert ≡ Some text →
+    BasisPasses later mesh lengths cert
 
--- `confirm` of a file says that its evidence is right, over files that have the same mesh and walk, where the file holds
--- what `class` answered of them.
+-- `confirm` of a file says that its evidence is right, over files that have the same mesh and walk, where the file
+-- holds what `class` answered of them.
 abbrev pub ClassesAreConfirmed : Type 0
 ClassesAreConfirmed =
     (files later : Files) (mesh walk cert text : List ℕ) →
@@ -55,13 +59,13 @@ ClassesAreConfirmed =
     (evidence : Evidence) × (text ≡ evidence_text (codes "null") (codes "odd") evidence)
     × Answer (codes "confirm" ∷ mesh ∷ walk ∷ cert ∷ []) later 0 (right_line evidence) []
 
--- The text isn't too long to be read, and has no more vertices than are read.
+-- The text isn't too long to be read, and has no more vertices than may be read.
 pub record CanBeRead (text : List ℕ) : Type 0 where
   pub short : length text ≤ 268435456
   pub few : (read : OffParts × Mesh) → off_without_limits text ≡ Ok read → read.1.vertices ≤ 1000000
 
--- `sew` of a file answers a text that is read as the file of a mesh is: with its keyword, its vertex lines, its faces and
--- its colours.
+-- `sew` of a file answers a text that is read as the file of a mesh is: with its keyword, its vertex lines, its faces
+-- and its colours.
 pub record IsSewnBack (files : Files) (mesh : List ℕ) (later : Files) (disc : List ℕ) : Type 0 where
   pub bytes : List ℕ
   pub held : bytes_of files mesh ≡ Some bytes
@@ -71,8 +75,8 @@ pub record IsSewnBack (files : Files) (mesh : List ℕ) (later : Files) (disc : 
   pub sews : Answer (codes "sew" ∷ disc ∷ []) later 0 text []
   pub reads_so : off_of text ≡ Ok read
 
--- So it is, where the file holds what `cut`, full or trimmed, answered of the mesh with any lengths at any base, if that
--- can be read.
+-- So it is, where the file holds what `cut`, full or trimmed, answered of the mesh with any lengths at any base, if
+-- that can be read.
 abbrev pub CutsAreSewn : Type 0
 CutsAreSewn =
     (files later : Files) (mesh lengths base kind disc text : List ℕ) →
