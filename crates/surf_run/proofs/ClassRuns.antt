@@ -1,29 +1,22 @@
 -- What `class` writes is confirmed.
-use Rattle.std.proofs.Common.{◌≡◌, ◌<◌, ◌≤◌, ◌+◌, ◌*◌, ◌++◌, ℕ, true, List, [], ◌∷◌, length, Option, Some, None, Result, Ok, Err, refl, sym, ap, ◌∙◌, subst, arith, inl, inr}
-use Rattle.std.specs.Prelude.{codes, decimal, flat_map}
-use Rattle.std.proofs.lemmas.List.{length-append}
-use Rattle.std.proofs.lemmas.List.Elements.{recursion_from_All}
+use Rattle.std.proofs.Common.{◌≡◌, ◌≤◌, ℕ, true, List, [], ◌∷◌, length, Some, None, Ok, refl, sym, ap, ◌∙◌, subst, arith, inl, inr}
+use Rattle.std.specs.Prelude.{codes}
 use Rattle.surf_base.specs.Outside.{Files, bytes_of}
-use Rattle.surf_cert.specs.Written.{numbers_text}
 use Rattle.surf_class.proofs.Rereading.{evidence_again}
 use Rattle.surf_class.specs.Evidences.{evidence_in}
-use Rattle.surf_class.specs.Texts.{head_text, both_ends, evidence_text, EvidenceFits}
-use Rattle.surf_classes.specs.Evidence.{Evidence, null_faces, odd_pairs, IsEvidence}
-use Rattle.surf_surfaces.proofs.EdgeLaws.{among-contains}
-use Rattle.surf_surfaces.proofs.SurfaceLaws.{edge_below}
-use Rattle.surf_surfaces.specs.Mesh.{Mesh, IsMesh, edges}
+use Rattle.surf_class.specs.Texts.{evidence_text}
+use Rattle.surf_classes.specs.Evidence.{Evidence}
+use Rattle.surf_surfaces.specs.Mesh.{Mesh}
 use Rattle.surf_surfaces.specs.Surface.{face_count, edge_count}
 use Rattle.surf_off.specs.Off.{OffParts, off_of}
-use Rattle.surf_z2.specs.Space.{Chain}
 use Rattle.surf_run.specs.Classes.{GivesClass, OnClassMesh, OnClassText}
 use Rattle.surf_run.specs.Confirming.{evident, right_line}
 use Rattle.surf_run.specs.Given.{IsFewLoopedText}
 use Rattle.surf_run.specs.Leads.{Answer, Leads}
-use Rattle.surf_run.specs.Named.{AgreeOn}
-use Rattle.surf_run.specs.Outcome.{Outcome, answers, status_of}
+use Rattle.surf_run.specs.Outcome.{Outcome, answers}
 use Rattle.surf_run.specs.Reading.{Reads}
 use Rattle.surf_run.specs.TwoRuns.{ClassesAreConfirmed}
-use Rattle.surf_run.specs.Walks.{walk_cause, walk_named, walked, walked_by, HasWalk}
+use Rattle.surf_run.specs.Walks.{HasWalk}
 use Rattle.surf_run.specs.declared.walks.WalkFile.TheVariants.{First}
 use Rattle.surf_run.proofs.ClassSizes.{evidence_fits, evidence_short}
 use Rattle.surf_run.proofs.CycleLaws.{few_loops}

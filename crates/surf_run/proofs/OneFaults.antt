@@ -11,7 +11,7 @@ use Rattle.surf_class.specs.Faults.{IsClassFault}
 use Rattle.surf_class.specs.declared.fault.ClassFault.{ClassFault}
 use Rattle.surf_class.specs.declared.fault.ClassFault.TheVariants as class
 use Rattle.surf_classes.specs.Evidence.{is_listed, has_odd_sides, Evidence, null_faces, odd_pairs}
-use Rattle.surf_classes.specs.Faults.{IsNoFace, IsNoBoundary, IsNoPair, IsOddFace, IsEvenNumber}
+use Rattle.surf_classes.specs.Faults.{IsNoFace, IsNoBoundary, IsNoPair, IsOddFace}
 use Rattle.surf_disc.specs.Across.{NoneCrowded}
 use Rattle.surf_disc.specs.Border.{IsLeastOnBorder, IsLeastOutside, HasOneBorder}
 use Rattle.surf_disc.specs.Fault.{IsLeastCrowded, IsPatch, IsBorderFault, AllFans, IsDiscFault}

@@ -36,10 +36,10 @@ use Rattle.surf_run.specs.MeshTexts.{off_cause}
 use Rattle.surf_run.specs.Outcome.{answers, refuses, misses}
 use Rattle.surf_run.specs.Refusals.{cause_of}
 use Rattle.surf_run.specs.Run.{IsOneLine}
-use Rattle.surf_run.specs.Sewing.{copy_cause, copy_count_line, sew_cause}
+use Rattle.surf_run.specs.Sewing.{copy_cause, sew_cause}
 use Rattle.surf_run.specs.Surfaces.{surface_cause}
 use Rattle.surf_run.specs.Walks.{file_words, walk_line, walk_cause}
-use Rattle.surf_run.specs.Weights.{length_cause, base_line}
+use Rattle.surf_run.specs.Weights.{length_cause}
 use Rattle.surf_run.specs.declared.refusal.Refused.{Refused}
 use Rattle.surf_run.specs.declared.refusal.Refused.TheVariants.{MeshText, Surface, Lengths, Base, Certificate, Coordinates, Copies, Sewing, Walk, Evidence, Limit, Read, Memory}
 use Rattle.surf_run.specs.declared.walks.WalkFile.{WalkFile}

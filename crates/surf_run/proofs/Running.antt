@@ -1,5 +1,5 @@
 -- What a run leaves, by what its command answered.
-use Rattle.std.proofs.Common.{◌≡◌, ◌⊎◌, ◌<◌, ◌≤◌, inl, inr, ℕ, List, [], Option, Some, None, refl, sym, ◌∙◌, subst, arith}
+use Rattle.std.proofs.Common.{◌≡◌, ◌⊎◌, ◌<◌, ◌≤◌, inl, inr, ℕ, List, Option, Some, None, refl, sym, ◌∙◌, subst, arith}
 use Rattle.std.specs.Prelude.{IfSome, codes}
 use Rattle.surf_base.specs.Outside.{Files, HasRisen, GrowsBy}
 use Rattle.surf_base.specs.Transfer.{GrowsByShorter}
@@ -33,7 +33,7 @@ use Rattle.surf_run.specs.Weights.{length_cause}
 use Rattle.surf_run.specs.Outcome.{Outcome, answers, refuses, misses}
 use Rattle.surf_run.specs.Cause.{Cause, due, unread, starved, misused, line_of}
 use Rattle.surf_run.specs.Refusals.{cause_of}
-use Rattle.surf_run.specs.Leads.{Leads, Answer, OnRequest}
+use Rattle.surf_run.specs.Leads.{Leads, OnRequest}
 use Rattle.surf_run.specs.Tells.{IsTold, Why, WhyOver, verdict_status}
 use Rattle.surf_run.specs.Words.{Request, request_of}
 use Rattle.surf_run.specs.Run.{AreTheFiles, NamesFile, PutsLine, IsDecided, IsLineOf, Refuses, WritesAnswer, WritesFront}

@@ -1,7 +1,7 @@
 -- What `sew` writes of what `cut` wrote is read as the mesh that was cut.
-use Rattle.std.proofs.Common.{◌≡◌, ◌<◌, ◌≤◌, ◌+◌, ◌*◌, ◌^◌, ◌++◌, ℕ, Bool, true, false, List, [], ◌∷◌, length, map, Option, Some, None, Result, Ok, Err, refl, sym, ap, ◌∙◌, subst, arith, inl, inr}
+use Rattle.std.proofs.Common.{◌≡◌, ◌<◌, ◌≤◌, ◌+◌, ◌*◌, ◌++◌, ℕ, Bool, true, false, List, [], ◌∷◌, length, Option, Some, None, Result, Ok, Err, refl, sym, ap, ◌∙◌, subst, arith, inr}
 use Rattle.std.specs.Prelude.{nat_lt, if◌then◌else◌, codes, decimal}
-use Rattle.std.specs.List.{All, AllByRecursion, sum_by, zip}
+use Rattle.std.specs.List.{AllByRecursion, sum_by, zip}
 use Rattle.std.specs.Str.{bytes_eq}
 use Rattle.std.proofs.lemmas.Bool.{ltb-false}
 use Rattle.std.proofs.lemmas.Fmt.{length-decimal-le}
@@ -14,14 +14,12 @@ use Rattle.surf_disc.proofs.TableLaws.{edges_within}
 use Rattle.surf_off.specs.Off.{OffParts, off_of, off_without_limits}
 use Rattle.surf_off.specs.Keywords.{keyword}
 use Rattle.surf_off.specs.Written.{head_text, lines_text, numbers_text, colour_text, face_text, faces_text, mesh_text}
-use Rattle.surf_off.specs.declared.fault.OffFault.{OffFault}
 use Rattle.surf_off.specs.declared.header.Header.{Header}
 use Rattle.surf_off.specs.declared.header.Header.TheVariants.{Off, Coff, Noff, Cnoff, Stoff, Stcoff, Stnoff, Stcnoff}
 use Rattle.surf_sew.specs.Copies.{copies_in}
-use Rattle.surf_sew.specs.Laws.{WasCut, opened, opened_parts, text_cut}
+use Rattle.surf_sew.specs.Laws.{WasCut, opened, opened_parts}
 use Rattle.surf_sew.specs.Sewing.{gap_fault, line_fault, repeat_from, sewn_faces, unless, sewn_mesh, sewn_of}
-use Rattle.surf_sew.specs.Texts.{sewn_text, sewn_parts, RereadsSewn}
-use Rattle.surf_sew.specs.declared.copies.CopyFault.{CopyFault}
+use Rattle.surf_sew.specs.Texts.{sewn_text, RereadsSewn}
 use Rattle.surf_sew.specs.declared.fault.SewFault.{SewFault}
 use Rattle.surf_sew.proofs.CutLaws.{opened_are_reread, copies_are_reread, opened_are_sewn, lines_are_sewn, sewn_are_reread}
 use Rattle.surf_sew.proofs.Faults.{sewn_sides}
@@ -35,14 +33,12 @@ use Rattle.surf_run.specs.Given.{IsFewLoopedText, IsWeighted}
 use Rattle.surf_run.specs.Leads.{Answer, Leads, OnRequest}
 use Rattle.surf_run.specs.Limits.{beyond}
 use Rattle.surf_run.specs.MeshTexts.{read_outcome}
-use Rattle.surf_run.specs.Outcome.{Outcome, answers, status_of, Shows}
+use Rattle.surf_run.specs.Outcome.{Outcome, answers, status_of}
 use Rattle.surf_run.specs.Reading.{Reads, within_text}
-use Rattle.surf_run.specs.Says.{Says}
 use Rattle.surf_run.specs.Sewing.{copied, sewn}
 use Rattle.surf_run.specs.Tasks.{Performs, OnSurface, OnText}
 use Rattle.surf_run.specs.TwoRuns.{CanBeRead, IsSewnBack, CutsAreSewn}
 use Rattle.surf_run.specs.Words.{number_of, cut_task, weighted_request}
-use Rattle.surf_run.specs.declared.cut_command.CutKind.{CutKind}
 use Rattle.surf_run.specs.declared.cut_command.CutKind.TheVariants.{Full, Trimmed}
 use Rattle.surf_run.specs.declared.weighted.Task.{Task}
 use Rattle.surf_run.specs.declared.weighted.Task.TheVariants.{Distances, LeastLoops, LoopCertificate, Cut}

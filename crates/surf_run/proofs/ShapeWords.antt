@@ -1,7 +1,6 @@
 -- The shapes that words name have surfaces as meshes, and the lengths that a scatter makes are positive.
-use Rattle.std.proofs.Common.{◌≡◌, ℕ, ◌≤◌, ◌<◌, Bool, true, false, List, [], ◌∷◌, Option, Some, None, Result, Ok, Err, refl, sym, subst, arith, inl, inr}
+use Rattle.std.proofs.Common.{◌≡◌, ℕ, Bool, true, false, List, [], ◌∷◌, Option, Some, None, Result, Ok, Err, refl, sym, subst, arith, inl, inr}
 use Rattle.std.specs.Prelude.{nat_lt, nat_le, ◌&&◌, if◌then◌else◌, IfSome, codes}
-use Rattle.std.specs.List.{range_with_len}
 use Rattle.std.specs.Str.{bytes_eq}
 use Rattle.std.proofs.lemmas.Bool.{cases_Bool, and_parts, leb-true}
 use Rattle.std.proofs.lemmas.List.FromFn.{get_or-map-range_with_len}
@@ -13,14 +12,13 @@ use Rattle.surf_surfaces.specs.Walk.{ArePositive}
 use Rattle.surf_tori.specs.Chain.{chain}
 use Rattle.surf_tori.proofs.ChainLaws.{chains_are_surfaces}
 use Rattle.surf_tori.proofs.TorusLaws.{tori_are_surfaces}
-use Rattle.surf_run.specs.Coordinates.{few_decimals}
 use Rattle.surf_run.specs.Given.{loop_count, searchable}
 use Rattle.surf_run.specs.Limits.{beyond}
 use Rattle.surf_run.specs.Making.{made}
 use Rattle.surf_run.specs.Outcome.{Outcome}
 use Rattle.surf_run.specs.Shapes.{Shape, IsShape, mesh_of, torus_shape, chain_shape, torus_named, chain_named}
 use Rattle.surf_run.specs.Trying.{searched, then_searched, IsTried}
-use Rattle.surf_run.specs.Words.{Request, help, version, info, disc, cycles, weighted, makes, tries, checks, measures, sews, classes, compares, confirms, tightens, lone_request, mesh_request, number_of, task_of, cut_task, weighted_request, cycle_task, cycles_request, shape_request, measures_request, decimals_of, tried_request, torus_words, chain_words, three_words, four_words, five_words, six_words, request_of}
+use Rattle.surf_run.specs.Words.{Request, help, version, info, disc, tries, checks, sews, classes, compares, confirms, tightens, number_of, task_of, cut_task, weighted_request, cycle_task, cycles_request, shape_request, measures_request, decimals_of, tried_request, torus_words, chain_words, three_words, four_words, five_words, six_words, request_of}
 use Rattle.surf_run.specs.declared.cycles.CycleTask.{CycleTask}
 use Rattle.surf_run.specs.declared.weighted.Task.{Task}
 

@@ -1,5 +1,5 @@
 -- Words and files have one outcome, and where nothing failed it is the answer.
-use Rattle.std.proofs.Common.{◌≡◌, ◌≢◌, ◌⊎◌, ◌<◌, ◌≤◌, inl, inr, ℕ, ◌*◌, ◌^◌, ◌++◌, Bool, true, false, List, [], Option, Some, None, Result, Ok, Err, refl, sym, ◌∙◌, ap, subst, arith, length}
+use Rattle.std.proofs.Common.{◌≡◌, ◌⊎◌, ◌≤◌, inl, inr, ℕ, ◌*◌, ◌^◌, ◌++◌, Bool, true, false, List, [], Option, Some, None, Result, Ok, Err, refl, sym, ◌∙◌, ap, subst, arith, length}
 use Rattle.std.specs.Prelude.{nat_lt, if◌then◌else◌, codes}
 use Rattle.std.proofs.lemmas.Bool.{cases_eq, cases_lt}
 use Rattle.surf_base.specs.Outside.{Files, bytes_of}
@@ -80,7 +80,6 @@ use Rattle.surf_run.specs.Confirming.{evident, wrong_line, IsEvidenceText, Judge
 use Rattle.surf_run.specs.Walks.{walk_named, HasWalk}
 use Rattle.surf_run.specs.declared.walks.WalkFile.{WalkFile}
 use Rattle.surf_run.specs.declared.walks.WalkFile.TheVariants.{First, Second}
-use Rattle.surf_classes.specs.Shortest.{IsChosenWalk}
 use Rattle.surf_classes.proofs.ChosenWalks.{chosen_walk_is_one}
 use Rattle.surf_run.specs.Tightening.{covered, HasSmallCover, shortest_line, GivesShortestWalk, OnTightLengths, OnTightMesh, OnCovered, OnTightText}
 use Rattle.surf_run.specs.Leads.{Leads, Answer, OnRequest, OnInfoText, OnDiscText}

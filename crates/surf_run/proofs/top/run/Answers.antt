@@ -1,8 +1,3 @@
-use Rattle.std.proofs.Common.{[], Option, inl, inr, subst, ⊎_elim}
-use Rattle.surf_base.specs.Outside.{Files}
-use Rattle.surf_run.specs.Leads.{Leads}
-use Rattle.surf_run.specs.Outcome.{misses}
-use Rattle.surf_run.specs.Tells.{IsTold}
 use Rattle.surf_run.specs.Words.{texts}
 use Rattle.surf_run.proofs.Running.{missing_file}
 use Rattle.surf_run.proofs.Unique.{completes}
