@@ -37,7 +37,7 @@ mod words;
 pub use answered::{Answered, Verdict};
 pub use cut_command::CutKind;
 pub use cycles::CycleTask;
-pub use laws::{law_of_named_files, law_of_two_runs};
+pub use laws::{law_of_named_files, law_of_one_answer, law_of_two_runs};
 pub use lengths_command::Decimals;
 pub use refusal::Refused;
 pub use shape::Shape;
