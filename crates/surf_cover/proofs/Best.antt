@@ -35,10 +35,11 @@ closed_sets mesh d t signed set other l m =
     (xor_set d set other (is_set mesh d t.sets t.signs signed set l) (is_set mesh d t.sets t.signs signed other m))
 
 -- distances are short
-pub short_at : (t : CoverTables) → AreShort t → (v set : ℕ) → v < t.vertices → set < t.sets → distance_at t v set < 2 ^ 62
+pub short_at : (t : CoverTables) → AreShort t → (v set : ℕ) → v < t.vertices → set < t.sets →
+    distance_at t v set < 2 ^ 62
 short_at t short v set v_in set_in =
-    short (v * t.sets + set)
-    (let fits : v * t.sets + t.sets ≤ t.vertices * t.sets = row_fits v t.sets t.vertices t.sets v_in (omega arith) in omega arith)
+    let fits : v * t.sets + t.sets ≤ t.vertices * t.sets = row_fits v t.sets t.vertices t.sets v_in (omega arith) in
+    short (v * t.sets + set) (omega arith)
 
 -- where no edge at a vertex is such, the vertex is the lesser end of none
 pub no_lesser_end : (mesh : Mesh) (v : ℕ) (items signatures : List ℕ) (number : ℕ) →
@@ -47,7 +48,8 @@ pub no_lesser_end : (mesh : Mesh) (v : ℕ) (items signatures : List ℕ) (numbe
     has (slice_index signatures (get_or items k 0)) number ≡ true → ⊥) → IsLesserEnd mesh signatures number v → ⊥
 no_lesser_end mesh v items signatures number row none (e, e_in, at, on) =
     let g = primal (cells_of mesh) in
-    let (k, l, link) = row.whole e (ends mesh e).1 e_in (subst (λ a. joins g a (ends mesh e).1 e ≡ true) at (joins_ends g e)) in
+    let joined = subst (λ a. joins g a (ends mesh e).1 e ≡ true) at (joins_ends g e) in
+    let (k, l, link) = row.whole e (ends mesh e).1 e_in joined in
     let k_in : k < length items = omega (arith, l, length-map items (edge_link mesh v)) in
     let same : get_or items k 0 ≡ e =
     ap (λ p. p.1) (sym (get_or-map (edge_link mesh v) items k 0 (0, 0) k_in) ∙ link) in
@@ -56,9 +58,9 @@ no_lesser_end mesh v items signatures number row none (e, e_in, at, on) =
 
 -- ---- the start by way of one base
 
-module _ (mesh : Mesh) (lengths : List ℕ) (d : Split) (surface : IsSurface mesh) (base set : ℕ) (base_in : base < mesh.vertices)
-    (set_in : IsSet d set) (t : CoverTables) (grown : IsGrownBy mesh lengths d base t) (count : t.vertices ≡ mesh.vertices)
-    (start : Start) (is : IsStartBy t base set start) where
+module _ (mesh : Mesh) (lengths : List ℕ) (d : Split) (surface : IsSurface mesh) (base set : ℕ)
+    (base_in : base < mesh.vertices) (set_in : IsSet d set) (t : CoverTables) (grown : IsGrownBy mesh lengths d base t)
+    (count : t.vertices ≡ mesh.vertices) (start : Start) (is : IsStartBy t base set start) where
   -- a round is as long there
   pub starts_round : (start.vertex < mesh.vertices) × HasRound mesh lengths d start.vertex start.length set
   starts_round =
@@ -67,13 +69,15 @@ module _ (mesh : Mesh) (lengths : List ℕ) (d : Split) (surface : IsSurface mes
       let part_set = is_set mesh d t.sets t.signs grown.certified.signed part part_in in (
         inside,
         subst (λ n. HasRound mesh lengths d start.vertex n set) sum
-            (round_here mesh lengths d surface base base_in (distance_at t) grown.distances start.vertex inside set set_in part part_set),
+            (round_here mesh lengths d surface base base_in (distance_at t) grown.distances start.vertex inside set set_in
+            part part_set),
       )
 
   -- and no round by way of the base is before it
   pub starts_before : (y n : ℕ) → y < mesh.vertices → HasRoundBy mesh lengths d base y n set → IsUpTo start y n
   starts_before y n y_in by =
-      let (part, part_set, most) = round_least mesh lengths d surface base base_in (distance_at t) grown.distances y y_in set set_in n by in
+      let (part, part_set, most) =
+      round_least mesh lengths d surface base base_in (distance_at t) grown.distances y y_in set set_in n by in
       let two : distance_at t y part + distance_at t y (bit_xor set part) ≤ n = most in
       let there : distance_at t base set ≤ distance_at t y part + distance_at t y (bit_xor set part) =
       round_there mesh lengths d surface base base_in (distance_at t) grown.distances y y_in set set_in part part_set in
@@ -95,7 +99,8 @@ up_to_trans r s y n (short, low) (less, down) =
     )
 
 -- of the rounds by way of lesser ends below a bound it is the first
-pub record IsBestBelow (mesh : Mesh) (lengths : List ℕ) (d : Split) (signatures : List ℕ) (set number bound : ℕ) (best : Option Start) : Type 0 where
+pub record IsBestBelow (mesh : Mesh) (lengths : List ℕ) (d : Split) (signatures : List ℕ) (set number bound : ℕ)
+    (best : Option Start) : Type 0 where
   pub round : (start : Start) → best ≡ Some start →
       (start.vertex < mesh.vertices) × HasRound mesh lengths d start.vertex start.length set
   pub least : (m y n : ℕ) → m < bound → IsLesserEnd mesh signatures number m → y < mesh.vertices →
@@ -120,7 +125,8 @@ module _ (mesh : Mesh) (lengths : List ℕ) (d : Split) (signatures : List ℕ) 
   }
 
   -- one that is
-  pub taken_in : (v : ℕ) (best : Option Start) (other new : Start) → IsBestBelow mesh lengths d signatures set number v best →
+  pub taken_in : (v : ℕ) (best : Option Start) (other new : Start) →
+      IsBestBelow mesh lengths d signatures set number v best →
       (other.vertex < mesh.vertices) × HasRound mesh lengths d other.vertex other.length set →
       ((y n : ℕ) → y < mesh.vertices → HasRoundBy mesh lengths d v y n set → IsUpTo other y n) →
       (new ≡ other) ⊎ (best ≡ Some new) → IsUpTo new other.vertex other.length →
@@ -131,7 +137,8 @@ module _ (mesh : Mesh) (lengths : List ℕ) (d : Split) (signatures : List ℕ) 
         let same = same_Some new start is in
         subst (λ s. (s.vertex < mesh.vertices) × HasRound mesh lengths d s.vertex s.length set) same
         (elim one [
-          | inl is_other ↦ subst (λ s. (s.vertex < mesh.vertices) × HasRound mesh lengths d s.vertex s.length set) (sym is_other) round
+          | inl is_other ↦
+              subst (λ s. (s.vertex < mesh.vertices) × HasRound mesh lengths d s.vertex s.length set) (sym is_other) round
           | inr is_best ↦ so_far.round new is_best
         ]);
     least = λ m y n l end y_in by. (
@@ -152,7 +159,8 @@ module _ (mesh : Mesh) (lengths : List ℕ) (d : Split) (signatures : List ℕ) 
 
 module _ (mesh : Mesh) (lengths : List ℕ) (surface : IsSurface mesh) (t : CotreeTables) (signed : IsSigned mesh t)
     (tree : Tree) (split : IsSplit (cells_of mesh) (split_with tree t)) (set number : ℕ) (on : has set number ≡ true)
-    (best : Option Start) (all : IsBestBelow mesh lengths (split_with tree t) t.signatures set number mesh.vertices best) where
+    (best : Option Start)
+    (all : IsBestBelow mesh lengths (split_with tree t) t.signatures set number mesh.vertices best) where
   found : (y n : ℕ) → y < mesh.vertices → HasRound mesh lengths (split_with tree t) y n set →
       (start : Start) × (best ≡ Some start) × IsUpTo start y n
   found y n y_in round =
@@ -185,7 +193,8 @@ module _ (mesh : Mesh) (lengths : List ℕ) (surface : IsSurface mesh) (t : Cotr
   least_of_all start same =
       let d = split_with tree t in
       let own = all.round start same in
-      let before : (y n : ℕ) → y < mesh.vertices → HasRound mesh lengths d y n set → IsUpTo start y n = λ y n y_in round.
+      let before : (y n : ℕ) → y < mesh.vertices → HasRound mesh lengths d y n set → IsUpTo start y n =
+      λ y n y_in round.
       let (other, is, up_to) = found y n y_in round in
       subst (λ s. IsUpTo s y n) (same_Some other start (sym is ∙ same)) up_to in
       record {

@@ -74,7 +74,8 @@ module _ (g : Graph) (len sig : ℕ → ℕ) (k : ℕ) where
           }
         ]
         | inr out ↦
-            let still : has (bit_xor s (sig e)) k ≡ true = has-xor s (sig e) k ∙ ap (λ x. xor (has s k) x) out ∙ ap (λ x. xor x false) on in
+            let still : has (bit_xor s (sig e)) k ≡ true =
+            has-xor s (sig e) k ∙ ap (λ x. xor (has s k) x) out ∙ ap (λ x. xor x false) on in
             let r = passes c w b (n - len e) (bit_xor s (sig e)) next.rest still in
             let parts : r.first_size + r.last_size ≡ n - len e = r.size in
             record {

@@ -51,12 +51,15 @@ module _ (mesh : Mesh) (lengths : List ℕ) (d : Split) (surface : IsSurface mes
 
     -- and what is read back from there is that walk
     pub chosen_at : (walk : List ℕ) → IsClosed mesh walk → walk_signature mesh d walk ≡ set → (table : ℕ → ℕ → ℕ) →
-        AreSignedDistances mesh lengths d start.vertex table → (before : List ℕ) → IsReadBack mesh lengths d start.vertex table start.vertex set before →
-        IsChosenWalk mesh lengths walk (reverse (start.vertex ∷ before)) × (walk_length mesh lengths (reverse (start.vertex ∷ before)) ≡ start.length)
+        AreSignedDistances mesh lengths d start.vertex table → (before : List ℕ) →
+        IsReadBack mesh lengths d start.vertex table start.vertex set before →
+        IsChosenWalk mesh lengths walk (reverse (start.vertex ∷ before))
+        × (walk_length mesh lengths (reverse (start.vertex ∷ before)) ≡ start.length)
     chosen_at walk closed own table distances before read =
         let base : IsLeastBase mesh lengths d (walk_signature mesh d walk) (λ y. (all_rounds y).0) start.vertex =
         subst (λ s. IsLeastBase mesh lengths d s (λ y. (all_rounds y).0) start.vertex) (sym own) least_base in
         let back : IsReadBack mesh lengths d start.vertex table start.vertex (walk_signature mesh d walk) before =
         subst (λ s. IsReadBack mesh lengths d start.vertex table start.vertex s before) (sym own) read in
-        let read_back = read_back_is_chosen mesh lengths d walk surface positive split closed (λ y. (all_rounds y).0) start.vertex table before base distances back in
+        let read_back = read_back_is_chosen mesh lengths d walk surface positive split closed (λ y. (all_rounds y).0)
+        start.vertex table before base distances back in
         (read_back.0, read_back.1 ∙ first_round)

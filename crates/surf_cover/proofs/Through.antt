@@ -54,8 +54,9 @@ module _ (mesh : Mesh) (lengths : List ℕ) (d : Split) (surface : IsSurface mes
         },
       )
 
-  module _ (m : ℕ) (m_in : m < mesh.vertices) (table : ℕ → ℕ → ℕ) (distances : AreSignedDistances mesh lengths d m table)
-      (y : ℕ) (y_in : y < mesh.vertices) (set : ℕ) (set_in : IsSet d set) where
+  module _ (m : ℕ) (m_in : m < mesh.vertices) (table : ℕ → ℕ → ℕ)
+      (distances : AreSignedDistances mesh lengths d m table) (y : ℕ) (y_in : y < mesh.vertices)
+      (set : ℕ) (set_in : IsSet d set) where
     near : (v s : ℕ) → v < mesh.vertices → IsSet d s → Nearest mesh lengths d m v s (table v s)
     near v s v_in s_in = nearest_from mesh lengths d surface m v s (table v s) m_in (distances v s v_in s_in)
 
@@ -63,9 +64,11 @@ module _ (mesh : Mesh) (lengths : List ℕ) (d : Split) (surface : IsSurface mes
     pub round_least : (n : ℕ) → HasRoundBy mesh lengths d m y n set →
         (s : ℕ) × IsSet d s × (table y s + table y (bit_xor set s) ≤ n)
     round_least n r =
-        let first : table y r.middle ≤ r.first_size = (near y r.middle y_in r.is_set).least r.first r.first_size r.goes_to in
+        let first : table y r.middle ≤ r.first_size =
+        (near y r.middle y_in r.is_set).least r.first r.first_size r.goes_to in
+        let rest_set = xor_set d set r.middle set_in r.is_set in
         let last : table y (bit_xor set r.middle) ≤ r.last_size =
-        (near y (bit_xor set r.middle) y_in (xor_set d set r.middle set_in r.is_set)).least r.last r.last_size r.goes_on in
+        (near y (bit_xor set r.middle) y_in rest_set).least r.last r.last_size r.goes_on in
         let size : r.first_size + r.last_size ≡ n = r.size in
         (r.middle, r.is_set, omega arith)
 
@@ -76,18 +79,19 @@ module _ (mesh : Mesh) (lengths : List ℕ) (d : Split) (surface : IsSurface mes
           let one = near y s y_in s_in in
           let two = near y (bit_xor set s) y_in (xor_set d set s set_in s_in) in
           let back = turn mesh lengths d surface y two.walk m (table y (bit_xor set s)) (bit_xor set s) two.goes in
-          let whole = goes-append (primal (cells_of mesh)) (edge_length lengths) (edge_signature mesh d) y one.walk m (turned y two.walk) y
-          (table y s) (table y (bit_xor set s)) s (bit_xor set s) one.goes back in (
-            one.walk ++ turned y two.walk,
-            subst (λ x. Signed mesh lengths d y (one.walk ++ turned y two.walk) y (table y s + table y (bit_xor set s)) x) (xor_on s set) whole,
-          )
+          let whole = goes-append (primal (cells_of mesh)) (edge_length lengths) (edge_signature mesh d)
+          y one.walk m (turned y two.walk) y (table y s) (table y (bit_xor set s)) s (bit_xor set s) one.goes back in
+          let walk = one.walk ++ turned y two.walk in
+          let n = table y s + table y (bit_xor set s) in
+          (walk, subst (λ x. Signed mesh lengths d y walk y n x) (xor_on s set) whole)
 
       pub round_there : table m set ≤ table y s + table y (bit_xor set s)
       round_there =
           let one = near y s y_in s_in in
           let two = near y (bit_xor set s) y_in (xor_set d set s set_in s_in) in
           let back = turn mesh lengths d surface y one.walk m (table y s) s one.goes in
-          let whole = goes-append (primal (cells_of mesh)) (edge_length lengths) (edge_signature mesh d) m (turned y one.walk) y two.walk m
-          (table y s) (table y (bit_xor set s)) s (bit_xor set s) back two.goes in
-          (near m set m_in set_in).least (turned y one.walk ++ two.walk) (table y s + table y (bit_xor set s))
-          (subst (λ x. Signed mesh lengths d m (turned y one.walk ++ two.walk) m (table y s + table y (bit_xor set s)) x) (xor_on s set) whole)
+          let whole = goes-append (primal (cells_of mesh)) (edge_length lengths) (edge_signature mesh d)
+          m (turned y one.walk) y two.walk m (table y s) (table y (bit_xor set s)) s (bit_xor set s) back two.goes in
+          let walk = turned y one.walk ++ two.walk in
+          let n = table y s + table y (bit_xor set s) in
+          (near m set m_in set_in).least walk n (subst (λ x. Signed mesh lengths d m walk m n x) (xor_on s set) whole)

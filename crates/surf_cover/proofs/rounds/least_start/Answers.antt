@@ -13,7 +13,8 @@ pub start_by-requires-clause-closed : goal.start_by-requires-clause-closed
 start_by-requires-clause-closed c =
     let t = c.args.cotree.now in
     let g = c.requires.signed.grown in
-    closed_sets c.args.mesh.now (split_with g.tree t) c.grow.new.self (c.grow.ensures.grown.grown g.tree g.split).certified.signed
+    closed_sets c.args.mesh.now (split_with g.tree t) c.grow.new.self
+    (c.grow.ensures.grown.grown g.tree g.split).certified.signed
 
 pub start_by-requires-clause-none : goal.start_by-requires-clause-none
 start_by-requires-clause-none c =
@@ -43,7 +44,8 @@ loop-v-preserved c =
                 let d = split_with tree t in
                 let by = b.grow.ensures.grown.grown tree split in
                 let desk = b.grow.new.self in
-                let set_in : IsSet d set = subst (λ n. set < n) (sets_are mesh t c.requires.signed tree split) c.requires.set in
+                let set_in : IsSet d set =
+                subst (λ n. set < n) (sets_are mesh t c.requires.signed tree split) c.requires.set in
                 let count : desk.vertices ≡ mesh.vertices = b.grow.ensures.grown.made.vertices in
                 let start = b.start_by.ensures.start in
                 taken_in mesh lengths d t.signatures set number v c.loop-v.best other new (so_far.best tree split)
@@ -68,11 +70,15 @@ unreachable-requires c =
     let t = c.args.cotree.now in
     let g = c.requires.signed.grown in
     let d = split_with g.tree t in
-    let all : c.loop-v.v ≡ mesh.vertices = omega (arith, c.loop-v-test.false, c.loop-v.auto.v-end, c.vertices-v-end.ensures.count) in
-    let set_in : IsSet d c.args.set = subst (λ n. c.args.set < n) (sets_are mesh t c.requires.signed g.tree g.split) c.requires.set in
-    let (start, is) = some_best mesh c.args.lengths.now c.faces-surface.ensures.surface t c.requires.signed g.tree g.split
-    c.args.set c.least_number-number.result c.least_number-number.ensures.has c.loop-v.best
-    (subst (λ n. IsBestBelow mesh c.args.lengths.now d t.signatures c.args.set c.least_number-number.result n c.loop-v.best) all
+    let all : c.loop-v.v ≡ mesh.vertices =
+    omega (arith, c.loop-v-test.false, c.loop-v.auto.v-end, c.vertices-v-end.ensures.count) in
+    let set = c.args.set in
+    let number = c.least_number-number.result in
+    let set_in : IsSet d set = subst (λ n. set < n) (sets_are mesh t c.requires.signed g.tree g.split) c.requires.set in
+    let (start, is) =
+    some_best mesh c.args.lengths.now c.faces-surface.ensures.surface t c.requires.signed g.tree g.split
+    set number c.least_number-number.ensures.has c.loop-v.best
+    (subst (λ n. IsBestBelow mesh c.args.lengths.now d t.signatures set number n c.loop-v.best) all
     (c.loop-v.invariant.best g.tree g.split)) set_in in
     none-some start (sym c.in-None.is ∙ is)
 
@@ -80,10 +86,13 @@ pub returns-clause-least : goal.returns-clause-least
 returns-clause-least c =
     let mesh = c.args.mesh.now in
     let t = c.args.cotree.now in
-    let all : c.loop-v.v ≡ mesh.vertices = omega (arith, c.loop-v-test.false, c.loop-v.auto.v-end, c.vertices-v-end.ensures.count) in
+    let all : c.loop-v.v ≡ mesh.vertices =
+    omega (arith, c.loop-v-test.false, c.loop-v.auto.v-end, c.vertices-v-end.ensures.count) in
+    let set = c.args.set in
+    let number = c.least_number-number.result in
     λ tree split.
     let d = split_with tree t in
     least_of_all mesh c.args.lengths.now c.faces-surface.ensures.surface t c.requires.signed tree split
-    c.args.set c.least_number-number.result c.least_number-number.ensures.has c.loop-v.best
-    (subst (λ n. IsBestBelow mesh c.args.lengths.now d t.signatures c.args.set c.least_number-number.result n c.loop-v.best) all
+    set number c.least_number-number.ensures.has c.loop-v.best
+    (subst (λ n. IsBestBelow mesh c.args.lengths.now d t.signatures set number n c.loop-v.best) all
     (c.loop-v.invariant.best tree split)) c.in-Some.start c.in-Some.is

@@ -45,7 +45,8 @@ returns c =
     let own : n ≡ distance_at t base set = c.distance-length.ensures.distance in
     let some : 0 < t.sets = omega (arith, c.requires.set) in
     let none : distance_at t base 0 ≡ 0 = c.requires.none in
-    let rest : distance_at t base (bit_xor set 0) ≡ distance_at t base set = ap (distance_at t base) (add_zero numbers set) in
+    let rest : distance_at t base (bit_xor set 0) ≡ distance_at t base set =
+    ap (distance_at t base) (add_zero numbers set) in
     record {
       start = record {
         length_is = own;
