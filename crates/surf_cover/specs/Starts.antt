@@ -1,18 +1,46 @@
 -- Where a shortest walk of a class may begin.
-use Rattle.std.specs.Prelude.{◌≡◌, ℕ, ◌<◌, ◌≤◌, List}
+use Rattle.std.specs.Prelude.{◌≡◌, ℕ, ◌+◌, ◌<◌, ◌≤◌, true, List, slice_index, bit_xor}
+use Rattle.surf_z2.specs.Sieve.{has}
 use Rattle.surf_graphs.specs.Cells.{Split}
 use Rattle.surf_surfaces.specs.Mesh.{Mesh}
+use Rattle.surf_surfaces.specs.Surface.{edge_count, ends}
 use Rattle.surf_surfaces.specs.Walk.{walk_length}
 use Rattle.surf_classes.specs.Cover.{IsSignedDistance}
 use Rattle.surf_classes.specs.Shortest.{IsChosenWalk}
+use Rattle.surf_cover.specs.Tables.{CoverTables, distance_at}
 use Rattle.surf_cover.specs.declared.choice.ClassWalk.{ClassWalk}
+use Rattle.surf_cover.specs.declared.rounds.Start.{Start}
 
--- among the vertices below a bound, x is the least at which a round with the set is shortest, and n is its length
-pub record IsLeastStart (mesh : Mesh) (lengths : List ℕ) (d : Split) (set bound x n : ℕ) : Type 0 where
-  pub start_in : x < mesh.vertices
-  pub round : IsSignedDistance mesh lengths d x x set n
-  pub shortest : (y m : ℕ) → y < bound → IsSignedDistance mesh lengths d y y set m → n ≤ m
-  pub least : (y m : ℕ) → y < bound → IsSignedDistance mesh lengths d y y set m → m ≡ n → x ≤ y
+-- the vertex is the lesser end of an edge whose signature has the number
+abbrev pub IsLesserEnd : Mesh → List ℕ → ℕ → ℕ → Type 0
+IsLesserEnd mesh signatures number v = (e : ℕ) × (e < edge_count mesh) × ((ends mesh e).0 ≡ v)
+    × (has (slice_index signatures e) number ≡ true)
+
+-- the ways from the base to v with some set, and with what it leaves of the set of a round, are so long together: so a
+-- round of that length goes by way of the base and v
+abbrev pub IsOnRound : CoverTables → ℕ → ℕ → ℕ → Type 0
+IsOnRound t set n v = (part : ℕ) × (part < t.sets) × (distance_at t v part + distance_at t v (bit_xor set part) ≡ n)
+
+-- sums of sets are sets
+abbrev pub AreClosedSets : CoverTables → Type 0
+AreClosedSets t = (set other : ℕ) → set < t.sets → other < t.sets → bit_xor set other < t.sets
+
+-- of the vertices on shortest rounds with the set at the base, it is the least
+pub record IsStartBy (t : CoverTables) (base set : ℕ) (start : Start) : Type 0 where
+  pub length_is : start.length ≡ distance_at t base set
+  pub on_round : IsOnRound t set start.length start.vertex
+  pub start_in : start.vertex < t.vertices
+  pub least : (y : ℕ) → IsOnRound t set start.length y → start.vertex ≤ y
+
+-- no round of length n at y is shorter, and none at a lesser vertex is as short
+abbrev pub IsUpTo : Start → ℕ → ℕ → Type 0
+IsUpTo start y n = (start.length ≤ n) × (n ≡ start.length → start.vertex ≤ y)
+
+-- it begins at the least vertex at which a round with the set is shortest, and has its length
+pub record IsLeastStart (mesh : Mesh) (lengths : List ℕ) (d : Split) (set : ℕ) (start : Start) : Type 0 where
+  pub start_in : start.vertex < mesh.vertices
+  pub round : IsSignedDistance mesh lengths d start.vertex start.vertex set start.length
+  pub least : (y n : ℕ) → y < mesh.vertices → IsSignedDistance mesh lengths d y y set n → IsUpTo start y n
 
 -- the walk that is chosen in the class of a walk, and its length
 pub record IsLeastInClass (mesh : Mesh) (lengths walk : List ℕ) (c : ClassWalk) : Type 0 where

@@ -1,16 +1,13 @@
 //! The shortest walk that is chosen in a class.
 ghost use Rattle.std.specs.Prelude.{◌≡◌, ◌<◌, [], ◌∷◌, length, IfOk};
-ghost use Rattle.surf_graphs.specs.Cells.{IsSplit};
-ghost use Rattle.surf_graphs.specs.Trees.{Tree};
-ghost use Rattle.surf_surfaces.specs.Cells.{cells_of};
 ghost use Rattle.surf_surfaces.specs.Surface.{edge_count};
 ghost use Rattle.surf_surfaces.specs.Walk.{IsClosed};
-ghost use Rattle.surf_cotree.specs.Tables.{split_with};
-ghost use Rattle.surf_cover.specs.Tables.{IsSmall, IsMadeFor, sets_of};
+ghost use Rattle.surf_cover.specs.Tables.{IsSmall};
 ghost use Rattle.surf_cover.specs.Grown.{IsSigned};
-ghost use Rattle.surf_cover.specs.Starts.{IsLeastStart, IsLeastInClass};
+ghost use Rattle.surf_cover.specs.Starts.{IsLeastInClass};
 
 use crate::desk::CoverDesk;
+use crate::rounds::least_start;
 use crate::signs::walk_sign;
 use std::alloc::Global;
 use surf_base::{NoMemory, VertexId};
@@ -32,38 +29,6 @@ fn vertex_alone(alloc: Global) -> Result<Walk, NoMemory>
     let mut list = Vec::new(alloc);
     list.push(VertexId::new(0))?;
     Ok(Walk::from_vertices(list))
-}
-
-// The least vertex at which a round with a set is shortest, and its length.
-fn least_start(
-    desk: &mut CoverDesk,
-    mesh: &HalfMesh,
-    lengths: &Lengths,
-    cotree: &CotreeDesk,
-    set: u32,
-) -> (VertexId, u64)
-    requires made { IsMadeFor mesh.now desk.old }
-    requires signed { IsSigned mesh.now cotree.now }
-    requires lengths { length lengths.now ≡ edge_count mesh.now }
-    requires set { set < sets_of mesh.now }
-    ensures made { IsMadeFor mesh.now desk.new }
-    ensures start { result.0 < mesh.now.vertices }
-    ensures least { (tree : Tree) → IsSplit (cells_of mesh.now) (split_with tree cotree.now) → IsLeastStart mesh.now lengths.now (split_with tree cotree.now) set mesh.now.vertices result.0 result.1 }
-{
-    let _surface = mesh.faces();
-    let mut start = VertexId::new(0);
-    desk.grow(mesh, lengths, cotree, start);
-    let mut least = desk.distance(start, set);
-    for v in 1..mesh.vertices() {
-        let v = VertexId::new(v);
-        desk.grow(mesh, lengths, cotree, v);
-        let round = desk.distance(v, set);
-        if round < least {
-            start = v;
-            least = round;
-        }
-    }
-    (start, least)
 }
 
 /// The walk that is chosen among the shortest closed walks in the class of a closed walk, and its length. It begins at the
@@ -91,10 +56,13 @@ pub fn least_in_class(
         return Ok(ClassWalk { length: 0, walk });
     }
     let mut desk = CoverDesk::make(alloc, mesh)?;
-    let (start, length) = least_start(&mut desk, mesh, lengths, cotree, set);
-    desk.grow(mesh, lengths, cotree, start);
-    let mut list = desk.round(alloc, mesh, lengths, start, set)?;
+    let start = least_start(&mut desk, mesh, lengths, cotree, set);
+    desk.grow(mesh, lengths, cotree, start.vertex);
+    let mut list = desk.round(alloc, mesh, lengths, start.vertex, set)?;
     list.reverse();
     let walk = Walk::from_vertices(list);
-    Ok(ClassWalk { length, walk })
+    Ok(ClassWalk {
+        length: start.length,
+        walk,
+    })
 }

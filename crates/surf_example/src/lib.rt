@@ -11,14 +11,13 @@ ghost use Rattle.std.specs.Prelude.{◌<◌, length, IfOk, IfErr};
 ghost use Rattle.surf_basis.specs.Cycles.{loops_of};
 ghost use Rattle.surf_example.specs.Answers.{IsBasisOf, IsRefusalOf};
 
+pub use refusal::Refusal;
 use std::alloc::Global;
 use surf_base::MAX_LOOPS;
 use surf_basis::{Cycle, least_basis};
 use surf_check::check;
 use surf_lengths::unit_lengths;
 use surf_off::read_off;
-
-pub use refusal::Refusal;
 
 /// A shortest basis of the surface in an OFF text, where each edge has the length 1.
 ///
@@ -45,7 +44,8 @@ mod tests {
     use std::alloc::Global;
 
     // The projective plane on six vertices: one cycle of three edges.
-    const PLANE: &[u8] = b"OFF\n6 10 15\n0 0 0\n1 0 0\n2 0 0\n3 0 0\n4 0 0\n5 0 0\n3 0 1 2\n3 0 2 3\n3 0 3 4\n3 0 4 5\n3 0 5 1\n3 1 2 4\n3 2 3 5\n3 3 4 1\n3 4 5 2\n3 5 1 3\n";
+    const PLANE: &[u8] =
+        b"OFF\n6 10 15\n0 0 0\n1 0 0\n2 0 0\n3 0 0\n4 0 0\n5 0 0\n3 0 1 2\n3 0 2 3\n3 0 3 4\n3 0 4 5\n3 0 5 1\n3 1 2 4\n3 2 3 5\n3 3 4 1\n3 4 5 2\n3 5 1 3\n";
 
     #[test]
     fn the_projective_plane_has_one_cycle_of_three_edges() {

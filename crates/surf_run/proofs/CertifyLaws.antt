@@ -3,7 +3,11 @@ use Rattle.std.proofs.Common.{◌≡◌, ℕ, ◌≤◌, ◌++◌, List, length,
 use Rattle.surf_base.specs.declared.limits.LimitKind.TheVariants.{Answer}
 use Rattle.surf_basis.specs.Certs.{IsTheCert}
 use Rattle.surf_cert.specs.Written.{loop_text, basis_text}
+use Rattle.surf_lengths.specs.Lengths.{AreLengths}
+use Rattle.surf_lengths.proofs.Positive.{lengths_positive}
 use Rattle.surf_surfaces.specs.Mesh.{Mesh}
+use Rattle.surf_surfaces.specs.Surface.{IsSurface, edge_count}
+use Rattle.surf_surfaces.proofs.BasisLaws.{basis_is_least}
 use Rattle.surf_loops.specs.Loops.{LoopTables, IsGreedy, trees_of}
 use Rattle.surf_text.specs.Pages.{PageState, grown, Stops}
 use Rattle.surf_text.specs.declared.page.PageFault.{PageFault}
@@ -25,17 +29,20 @@ pub gives_loop_cert : (mesh : Mesh) (lengths : List ℕ) (base : ℕ) (t : LoopT
 gives_loop_cert mesh lengths base t cert greedy is valid o says = record {
   trees = trees_of t;
   chosen = greedy.chosen;
+  least = greedy.least;
   valid = subst (λ (x : LoopCert). IsValidLoops mesh lengths x) is valid;
   says = subst (λ (x : LoopCert). Says (loop_text x) o) is says;
 }
 
-pub gives_basis_cert : (mesh : Mesh) (lengths : List ℕ) (cert : BasisCert) → IsTheCert mesh lengths cert → IsValidBasis mesh lengths cert →
-    (o : Outcome) → Says (basis_text cert) o → GivesBasisCert mesh lengths o
-gives_basis_cert mesh lengths cert is valid o says = record {
+pub gives_basis_cert : (mesh : Mesh) (lengths : List ℕ) (cert : BasisCert) → IsSurface mesh → AreLengths lengths →
+    length lengths ≡ edge_count mesh → IsTheCert mesh lengths cert → IsValidBasis mesh lengths cert → (o : Outcome) →
+    Says (basis_text cert) o → GivesBasisCert mesh lengths o
+gives_basis_cert mesh lengths cert surface are sized is valid o says = record {
   trees = is.trees;
   chosen = is.chosen;
   basis = is.basis;
   is_basis = is.is_basis;
+  least = basis_is_least mesh lengths is.trees is.basis surface (lengths_positive mesh lengths are sized) is.chosen is.is_basis;
   valid = subst (λ (x : BasisCert). IsValidBasis mesh lengths x) is.cert_is valid;
   says = subst (λ (x : BasisCert). Says (basis_text x) o) is.cert_is says;
 }

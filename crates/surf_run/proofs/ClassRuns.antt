@@ -1,86 +1,51 @@
 -- What `class` writes is confirmed.
-use Rattle.std.proofs.Common.{◌≡◌, ◌<◌, ◌≤◌, ◌+◌, ◌*◌, ◌++◌, ℕ, true, List, [], ◌∷◌, length, Option, Some, None, Result, Ok, Err, refl, sym, ap, ◌∙◌, subst, arith, inl, inr}
-use Rattle.std.specs.Prelude.{codes, decimal, flat_map}
-use Rattle.std.proofs.lemmas.List.{length-append}
-use Rattle.std.proofs.lemmas.List.Elements.{recursion_from_All}
+use Rattle.std.proofs.Common.{◌≡◌, ◌≤◌, ℕ, true, List, [], ◌∷◌, length, Some, None, Ok, refl, sym, ap, ◌∙◌, subst, arith, inl, inr}
+use Rattle.std.specs.Prelude.{codes}
 use Rattle.surf_base.specs.Outside.{Files, bytes_of}
-use Rattle.surf_cert.specs.Written.{numbers_text}
 use Rattle.surf_class.proofs.Rereading.{evidence_again}
 use Rattle.surf_class.specs.Evidences.{evidence_in}
-use Rattle.surf_class.specs.Texts.{head_text, both_ends, evidence_text, EvidenceFits}
-use Rattle.surf_classes.specs.Evidence.{Evidence, null_faces, odd_pairs, IsEvidence}
-use Rattle.surf_surfaces.proofs.EdgeLaws.{among-contains}
-use Rattle.surf_surfaces.proofs.SurfaceLaws.{edge_below}
-use Rattle.surf_surfaces.specs.Mesh.{Mesh, IsMesh, edges}
-use Rattle.surf_surfaces.specs.Surface.{face_count}
+use Rattle.surf_class.specs.Texts.{evidence_text}
+use Rattle.surf_classes.specs.Evidence.{Evidence}
+use Rattle.surf_surfaces.specs.Mesh.{Mesh}
+use Rattle.surf_surfaces.specs.Surface.{face_count, edge_count}
 use Rattle.surf_off.specs.Off.{OffParts, off_of}
-use Rattle.surf_z2.specs.Space.{Chain}
 use Rattle.surf_run.specs.Classes.{GivesClass, OnClassMesh, OnClassText}
 use Rattle.surf_run.specs.Confirming.{evident, right_line}
 use Rattle.surf_run.specs.Given.{IsFewLoopedText}
 use Rattle.surf_run.specs.Leads.{Answer, Leads}
-use Rattle.surf_run.specs.Named.{AgreeOn}
-use Rattle.surf_run.specs.Outcome.{Outcome, answers, status_of}
+use Rattle.surf_run.specs.Outcome.{Outcome, answers}
 use Rattle.surf_run.specs.Reading.{Reads}
 use Rattle.surf_run.specs.TwoRuns.{ClassesAreConfirmed}
-use Rattle.surf_run.specs.Walks.{walk_cause, walk_named, walked, walked_by, HasWalk}
+use Rattle.surf_run.specs.Walks.{HasWalk}
 use Rattle.surf_run.specs.declared.walks.WalkFile.TheVariants.{First}
+use Rattle.surf_run.proofs.ClassSizes.{evidence_fits, evidence_short}
+use Rattle.surf_run.proofs.CycleLaws.{few_loops}
 use Rattle.surf_run.proofs.Refusing.{reads_refuses, looped_refuses, walk_refuses, goes_on, shown_low, shown_text}
 use Rattle.surf_run.proofs.TextLaws.{mesh_texts_are_few}
 use Rattle.surf_run.proofs.TwoRuns.{read_back, read_again, answered_there}
 
--- ---- texts of evidence that are short list few
-
-as_many : (xs : List ℕ) → length xs ≤ length (numbers_text xs)
-as_many [] = omega arith
-as_many (x ∷ xs) =
-    let rest = as_many xs in
-    let size = length-append (codes " " ++ decimal x) (numbers_text xs) in
-    let front = length-append (codes " ") (decimal x) in
-    omega (arith, rest, size, front)
-
-two_each : (ps : List (ℕ × ℕ)) → length (both_ends ps) ≡ 2 * length ps
-two_each [] = refl
-two_each (p ∷ ps) = let rest = two_each ps in omega (arith, rest)
-
--- a line of a word, a count and numbers is longer than there are numbers
-longer : (word : List ℕ) (n : ℕ) (xs : List ℕ) → length xs ≤ length (head_text word n ++ (numbers_text xs ++ codes "\n"))
-longer word n xs =
-    let whole = length-append (head_text word n) (numbers_text xs ++ codes "\n") in
-    let rest = length-append (numbers_text xs) (codes "\n") in
-    let many = as_many xs in
-    omega (arith, whole, rest, many)
-
-fits : (mesh : Mesh) → IsMesh mesh → mesh.vertices ≤ 1000000 → face_count mesh ≤ 2000000 → (chain : Chain) (evidence : Evidence) →
-    IsEvidence mesh chain evidence → length (evidence_text (codes "null") (codes "odd") evidence) ≤ 268435456 → EvidenceFits evidence
-fits mesh is_mesh vertices faces chain (null_faces listed) right short =
-    let many = longer (codes "null") (length listed) listed in
-    record {
-      count = omega (arith, many, short);
-      numbers = λ k d l. let below = right.are_faces k d l in omega (arith, below, faces);
-      rises = right.rises;
-    }
-fits mesh is_mesh vertices faces chain (odd_pairs pairs) right short =
-    let many = longer (codes "odd") (length pairs) (both_ends pairs) in
-    let two = two_each pairs in
-    record {
-      count = omega (arith, many, two, short);
-      ends = λ k d l.
-          let below = edge_below mesh is_mesh _ (among-contains _ (edges mesh) (right.are_edges k d l)) in
-          record { ordered = below.0; number = let last = below.1 in omega (arith, last, vertices) };
-      rises = right.rises;
-    }
-
 -- ---- the law
 
-module _ (files : Files) (mesh walk cert text : List ℕ) (held : bytes_of files cert ≡ Some text) (short : length text ≤ 268435456)
+module _ (files : Files) (mesh walk cert text : List ℕ) (held : bytes_of files cert ≡ Some text)
     (o : Outcome) (bytes : List ℕ) (reads : Reads mesh files (Ok bytes)) (read : OffParts × Mesh)
     (looped : IsFewLoopedText true bytes (Ok read)) (w : List ℕ) (has : HasWalk First walk read.1 files (Ok w))
     (gives : GivesClass read.1 w None o) (text_is : text ≡ evidence_text (codes "null") (codes "odd") gives.evidence) where
+  few : (read.1.vertices ≤ 1000000) × (face_count read.1 ≤ 2000000) × (edge_count read.1 ≤ 3001022)
+  few =
+      let counts = mesh_texts_are_few bytes read (read_back read (off_of bytes) looped.0.0) in
+      let vertices : read.1.vertices ≤ 1000000 = counts.0 in
+      let faces : face_count read.1 ≤ 2000000 = counts.1 in
+      let loops = few_loops read.1 looped.1 in
+      (vertices, faces, omega (arith, vertices, faces, loops))
+
+  -- the evidence isn't too long to be read
+  short : length text ≤ 268435456
+  short = subst (λ (t : List ℕ). length t ≤ 268435456) (sym text_is)
+      (evidence_short read.1 looped.0.1.is_mesh few.0 few.1 few.2 _ gives.evidence gives.right)
+
   evidence_is : Ok gives.evidence ≡ evident (evidence_in text)
   evidence_is =
-      let few = mesh_texts_are_few bytes read (read_back read (off_of bytes) looped.0.0) in
-      let fit = fits read.1 looped.0.1.is_mesh few.0 few.1 _ gives.evidence gives.right (subst (λ (t : List ℕ). length t ≤ 268435456) text_is short) in
+      let fit = evidence_fits read.1 looped.0.1.is_mesh few.0 few.1 few.2 _ gives.evidence gives.right in
       sym (ap (λ (t : List ℕ). evident (evidence_in t)) text_is ∙ ap evident (evidence_again gives.evidence fit))
 
   confirmed : Answer (codes "confirm" ∷ mesh ∷ walk ∷ cert ∷ []) files 0 (right_line gives.evidence) []
@@ -98,7 +63,7 @@ module _ (files : Files) (mesh walk cert text : List ℕ) (held : bytes_of files
           has,
           inr (
             text,
-            read_again files mesh walk cert text held short,
+            read_again files cert text held short,
             inr (gives.evidence, evidence_is, inl (record { right = gives.right; text = refl })),
           ),
         ),
@@ -109,11 +74,11 @@ module _ (files : Files) (mesh walk cert text : List ℕ) (held : bytes_of files
 
 -- over the files that were read
 confirmed_there : (files : Files) (mesh walk cert text : List ℕ) → Answer (codes "class" ∷ mesh ∷ walk ∷ []) files 0 text [] →
-    bytes_of files cert ≡ Some text → length text ≤ 268435456 →
+    bytes_of files cert ≡ Some text →
     (evidence : Evidence) × (text ≡ evidence_text (codes "null") (codes "odd") evidence)
     × Answer (codes "confirm" ∷ mesh ∷ walk ∷ cert ∷ []) files 0 (right_line evidence) []
 unfolding Leads
-confirmed_there files mesh walk cert text (o, leads, shows) held short =
+confirmed_there files mesh walk cert text (o, leads, shows) held =
     let low = shown_low o text [] shows in
     let (bytes, reads, on_text) = goes_on (Reads mesh files) (λ x. OnClassText walk x files) o (reads_refuses mesh files) low leads in
     let (read, looped, on_mesh) =
@@ -121,8 +86,8 @@ confirmed_there files mesh walk cert text (o, leads, shows) held short =
     let (w, has, gives) =
     goes_on (HasWalk First walk read.1 files) (λ x. GivesClass read.1 x None) o (walk_refuses First walk read.1 files) low on_mesh in
     let text_is = shown_text (evidence_text (codes "null") (codes "odd") gives.evidence) o text gives.says shows in
-    (gives.evidence, text_is, confirmed files mesh walk cert text held short o bytes reads read looped w has gives text_is)
+    (gives.evidence, text_is, confirmed files mesh walk cert text held o bytes reads read looped w has gives text_is)
 
 pub classes_are_confirmed : ClassesAreConfirmed
-classes_are_confirmed files later mesh walk cert text answer same held short =
-    confirmed_there later mesh walk cert text (answered_there (codes "class" ∷ mesh ∷ walk ∷ []) files later text answer same) held short
+classes_are_confirmed files later mesh walk cert text answer same held =
+    confirmed_there later mesh walk cert text (answered_there (codes "class" ∷ mesh ∷ walk ∷ []) files later text answer same) held

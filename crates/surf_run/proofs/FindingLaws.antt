@@ -1,11 +1,13 @@
 -- What is found of the cycles of a surface, as answers.
-use Rattle.std.proofs.Common.{◌≡◌, ℕ, List, length, Option, Some, None, inl, inr, refl}
+use Rattle.std.proofs.Common.{◌≡◌, ℕ, List, length, Option, Some, None, inl, inr, refl, subst}
 use Rattle.std.specs.Prelude.{IfSome, ◌↔◌}
 use Rattle.surf_surfaces.specs.Mesh.{Mesh}
 use Rattle.surf_surfaces.specs.Surface.{IsSurface, edge_count}
-use Rattle.surf_surfaces.specs.Choice.{Trees, AreChosen, Loop, candidates}
+use Rattle.surf_surfaces.specs.Choice.{Trees, AreChosen, Loop, candidates, IsChosenBasis}
+use Rattle.surf_surfaces.specs.Walk.{ArePositive}
 use Rattle.surf_surfaces.specs.ChoiceLaws.{LeastSimpleBasis}
 use Rattle.surf_surfaces.proofs.ChoiceExists.{choice_exists}
+use Rattle.surf_surfaces.proofs.ShortestWalkLaws.{first_of_basis_is_shortest_not_null, shortest_not_null_is_nonseparating}
 use Rattle.surf_lengths.specs.Lengths.{AreLengths}
 use Rattle.surf_lengths.proofs.Positive.{lengths_positive}
 use Rattle.surf_basis.specs.Cycles.{loop_of, IsTheBasis, IsFirstCandidate, IsShortestCycle, AllSeparate}
@@ -19,13 +21,26 @@ use Rattle.surf_run.specs.ShortestCycle.{GivesCycle}
 use Rattle.surf_basis.proofs.First.{first_listed}
 
 module _ (mesh : Mesh) (lengths : List ℕ) (surface : IsSurface mesh) (are : AreLengths lengths) (sized : length lengths ≡ edge_count mesh) where
+  long : ArePositive mesh lengths
+  long = lengths_positive mesh lengths are sized
+
   some : (trees : ℕ → Trees) × AreChosen mesh lengths trees
-  some = choice_exists mesh lengths surface (lengths_positive mesh lengths are sized)
+  some = choice_exists mesh lengths surface long
 
   -- a basis that is chosen whichever trees show the choice
   pub gives_basis : (basis : List Loop) → IsTheBasis mesh lengths basis → LeastSimpleBasis mesh lengths basis → (o : Outcome) → Says (cycles_text basis) o →
       GivesBasis mesh lengths o
-  gives_basis basis is least o says = record { trees = some.0; chosen = some.1; basis = basis; is_basis = is some.0 some.1; least = least; says = says }
+  gives_basis basis is least o says = record {
+    trees = some.0;
+    chosen = some.1;
+    basis = basis;
+    is_basis = is some.0 some.1;
+    least = least;
+    shortest = λ first rest same.
+        first_of_basis_is_shortest_not_null mesh lengths some.0 first rest surface long some.1
+        (subst (IsChosenBasis mesh lengths some.0) same (is some.0 some.1));
+    says = says;
+  }
 
   -- a first candidate that was found, or none
   pub gives_cycle : (found : Option Cycle) → IsFirstCandidate mesh lengths found → IfSome found (λ c. IsShortestCycle mesh lengths c) →
@@ -40,6 +55,7 @@ module _ (mesh : Mesh) (lengths : List ℕ) (surface : IsSurface mesh) (are : Ar
         rest = b.0;
         is_first = b.1;
         shortest = shortest.shortest;
+        not_null = (shortest_not_null_is_nonseparating mesh lengths (loop_of c).walk surface long).1 shortest.shortest;
         size = shortest.size;
         says = says;
       })

@@ -1,4 +1,7 @@
+mod OneLine
 mod Running
+mod OneFaults
+mod ShapeWords
 mod Unique
 mod LengthLaws
 mod Composing
@@ -17,3 +20,7 @@ mod TextLaws
 mod Named
 mod TwoRuns
 mod ClassRuns
+mod MeshReads
+mod CertSizes
+mod ClassSizes
+mod SewnRuns

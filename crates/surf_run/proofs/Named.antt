@@ -14,7 +14,7 @@ use Rattle.surf_run.specs.Coordinates.{OnLengthsText}
 use Rattle.surf_run.specs.CycleTasks.{Finds, OnMesh, OnMeshText, vertex_limit}
 use Rattle.surf_run.specs.Given.{IsFewLoopedText, IsSearchableText, IsMeasured, IsWeighted}
 use Rattle.surf_run.specs.Leads.{Leads, OnRequest, OnInfoText, OnDiscText}
-use Rattle.surf_run.specs.Named.{length_file, named, AgreeOn, AnswersDependOnNamedFiles}
+use Rattle.surf_run.specs.Named.{length_file, named, AnswersDependOnNamedFiles}
 use Rattle.surf_run.specs.Outcome.{Outcome}
 use Rattle.surf_run.specs.Reading.{Reads, within_text}
 use Rattle.surf_run.specs.Sewing.{OnSewText}

@@ -1,5 +1,5 @@
 -- What a run leaves, by what its command answered.
-use Rattle.std.proofs.Common.{◌≡◌, ◌⊎◌, ◌<◌, ◌≤◌, inl, inr, ℕ, List, [], Option, Some, None, refl, sym, ◌∙◌, subst, arith}
+use Rattle.std.proofs.Common.{◌≡◌, ◌⊎◌, ◌<◌, ◌≤◌, inl, inr, ℕ, List, Option, Some, None, refl, sym, ◌∙◌, subst, arith}
 use Rattle.std.specs.Prelude.{IfSome, codes}
 use Rattle.surf_base.specs.Outside.{Files, HasRisen, GrowsBy}
 use Rattle.surf_base.specs.Transfer.{GrowsByShorter}
@@ -33,10 +33,11 @@ use Rattle.surf_run.specs.Weights.{length_cause}
 use Rattle.surf_run.specs.Outcome.{Outcome, answers, refuses, misses}
 use Rattle.surf_run.specs.Cause.{Cause, due, unread, starved, misused, line_of}
 use Rattle.surf_run.specs.Refusals.{cause_of}
-use Rattle.surf_run.specs.Leads.{Leads, Answer, OnRequest}
-use Rattle.surf_run.specs.Tells.{IsTold, WhyOver, verdict_status}
+use Rattle.surf_run.specs.Leads.{Leads, OnRequest}
+use Rattle.surf_run.specs.Tells.{IsTold, Why, WhyOver, verdict_status}
 use Rattle.surf_run.specs.Words.{Request, request_of}
-use Rattle.surf_run.specs.Run.{PutsLine, IsDecided, IsLineOf, Refuses, WritesAnswer, WritesFront}
+use Rattle.surf_run.specs.Run.{AreTheFiles, NamesFile, PutsLine, IsDecided, IsLineOf, Refuses, WritesAnswer, WritesFront}
+use Rattle.surf_run.proofs.OneLine.{IsSaid, misused_is_one, read_fault_is_one, write_fault_is_one, memory_is_one}
 use Rattle.surf_run.specs.declared.answered.Verdict.{Verdict}
 use Rattle.surf_run.specs.declared.answered.Verdict.TheVariants.{Yes, No}
 use Rattle.surf_run.specs.declared.refusal.Refused.{Refused}
@@ -144,11 +145,6 @@ pub verdicts_are_low : (v : Verdict) → verdict_status v ≤ 1
 verdicts_are_low Yes = omega arith
 verdicts_are_low No = omega arith
 
--- a fact of what is held that follows from another
-pub told_map : (holds : Option Files) (P Q : Files → Type 0) → ((files : Files) → P files → Q files) → IfSome holds P → IfSome holds Q
-told_map None P Q f told = tt
-told_map (Some files) P Q f told = f files told
-
 module _ (words : List (List ℕ)) where
   pub leads : (r : Option Request) (files : Files) (o : Outcome) → request_of words ≡ r → OnRequest r files o → Leads words files o
   unfolding Leads
@@ -157,77 +153,115 @@ module _ (words : List (List ℕ)) where
   -- the words are in no row
   pub no_row : (holds : Option Files) → request_of words ≡ None → IsLineOf words holds 2 (line_of (due misused))
   no_row holds none = record {
-    related = λ _. told holds;
+    related = λ _ files _. (misused, leads None files misused none refl, (refl, refl, refl));
     read = λ wrong. absurd (omega (arith, wrong));
     write = λ wrong. absurd (omega (arith, wrong));
     memory = λ wrong. absurd (omega (arith, wrong));
+    one = misused_is_one;
   }
-    where
-      told : (holds : Option Files) → IfSome holds (λ files. Answer words files 2 [] (line_of (due misused)))
-      told None = tt
-      told (Some files) = (misused, leads None files misused none refl, (refl, refl, refl))
+
+  -- the output failed
+  pub write_fault_said : (holds : Option Files) → IsLineOf words holds 10 (codes "write fault\n")
+  write_fault_said holds = record {
+    related = λ decided. absurd (undecided 10 10 refl (omega arith) (omega arith) decided);
+    read = λ wrong. absurd (omega (arith, wrong));
+    write = λ _. refl;
+    memory = λ wrong. absurd (omega (arith, wrong));
+    one = write_fault_is_one;
+  }
+
+  -- a file is missing, where the shelf has no fault
+  pub missing_file : (holds : Option Files) (files : Files) → AreTheFiles (request_of words) holds files → NamesFile (request_of words) →
+      (old new : ℕ) → (HasRisen old new → ⊥) → HasRisen old new ⊎ IsTold holds (λ f. Leads words f misses) → Leads words files misses
+  missing_file holds files are names old new none (inl rose) = absurd (none rose)
+  missing_file holds files (inl held) names old new none (inr told) = subst (λ (h : Option Files). IsTold h (λ f. Leads words f misses)) held told
+  missing_file holds files (inr nameless) names old new none (inr told) = absurd (nameless names)
 
   module _ (r : Request) (is : request_of words ≡ Some r) (holds : Option Files) where
+    -- what is so of what is held, and of any files where the request names none, is so of the files
+    over : (P : Files → Type 0) → IfSome holds P → NamesFile (Some r) ⊎ ((files : Files) → P files) → (files : Files) →
+        AreTheFiles (request_of words) holds files → P files
+    over P told alone files (inl held) = subst (λ (h : Option Files). IfSome h P) held told
+    over P told (inl names) files (inr none) = absurd (none (subst NamesFile (sym is) names))
+    over P told (inr any) files (inr none) = any files
+
     -- the answer was written
     pub written : (v : Verdict) (text : List ℕ) (old new : Option (List ℕ)) →
-        IfSome holds (λ files. OnRequest (Some r) files (answers (verdict_status v) text)) → GrowsBy old new text →
-        IfSome holds (WritesAnswer words (verdict_status v) old new)
-    written v text old new ends grows =
-        told_map holds (λ files. OnRequest (Some r) files (answers (verdict_status v) text)) (WritesAnswer words (verdict_status v) old new)
-        (λ files on. (text, (answers (verdict_status v) text, leads (Some r) files (answers (verdict_status v) text) is on, (refl, refl, refl)), grows)) ends
+        IfSome holds (λ files. OnRequest (Some r) files (answers (verdict_status v) text)) →
+        NamesFile (Some r) ⊎ ((files : Files) → OnRequest (Some r) files (answers (verdict_status v) text)) → GrowsBy old new text →
+        (files : Files) → AreTheFiles (request_of words) holds files → WritesAnswer words (verdict_status v) old new files
+    written v text old new told alone grows files are =
+        let o = answers (verdict_status v) text in
+        (text, (o, leads (Some r) files o is (over (λ f. OnRequest (Some r) f o) told alone files are), (refl, refl, refl)), grows)
 
     -- a front of it was written
     pub cut_off : (v : Verdict) (text : List ℕ) (old new : Option (List ℕ)) →
-        IfSome holds (λ files. OnRequest (Some r) files (answers (verdict_status v) text)) → GrowsByShorter old new text →
-        IfSome holds (WritesFront words old new)
-    cut_off v text old new ends grows =
-        told_map holds (λ files. OnRequest (Some r) files (answers (verdict_status v) text)) (WritesFront words old new)
-        (λ files on. (verdict_status v, (text, verdicts_are_low v, (answers (verdict_status v) text, leads (Some r) files (answers (verdict_status v) text) is on, (refl, refl, refl)), grows))) ends
+        IfSome holds (λ files. OnRequest (Some r) files (answers (verdict_status v) text)) →
+        NamesFile (Some r) ⊎ ((files : Files) → OnRequest (Some r) files (answers (verdict_status v) text)) → GrowsByShorter old new text →
+        (files : Files) → AreTheFiles (request_of words) holds files → WritesFront words old new files
+    cut_off v text old new told alone grows files are =
+        let o = answers (verdict_status v) text in (
+          verdict_status v,
+          (
+            text,
+            verdicts_are_low v,
+            (o, leads (Some r) files o is (over (λ f. OnRequest (Some r) f o) told alone files are), (refl, refl, refl)),
+            grows,
+          ),
+        )
 
     -- it was said why there is no answer
-    pub told_why : (c : Cause) (status faults faults_new : ℕ) (old new : Option (List ℕ)) (before after : ℕ) → IsDue c →
-        WhyOver holds faults faults_new (OnRequest (Some r)) c → Refuses c status old new before after →
+    pub told_why : (c : Cause) (status faults faults_new : ℕ) (old new : Option (List ℕ)) (before after : ℕ) → IsDue c → IsSaid c →
+        WhyOver holds faults faults_new (OnRequest (Some r)) c →
+        NamesFile (Some r) ⊎ ((files : Files) → Why (OnRequest (Some r) files) c) → Refuses c status old new before after →
         (line : List ℕ) × IsLineOf words holds status line × PutsLine old new before after line
-    told_why (due (refuses s l)) status faults faults_new old new before after is_due why (inl said) = (
+    told_why (due (refuses s l)) status faults faults_new old new before after is_due is_said why alone (inl said) = (
       l,
       record {
-        related = λ _. told_map holds (λ files. OnRequest (Some r) files (refuses s l)) (λ files. Answer words files status [] l)
-            (λ files on. (refuses s l, leads (Some r) files (refuses s l) is on, (said.0, refl, refl))) why;
+        related = λ _ files are. (
+          refuses s l,
+          leads (Some r) files (refuses s l) is (over (λ f. OnRequest (Some r) f (refuses s l)) why alone files are),
+          (said.0, refl, refl),
+        );
         read = λ wrong. absurd (undecided s 9 (sym said.0 ∙ wrong) (omega arith) (omega arith) is_due);
         write = λ wrong. absurd (undecided s 10 (sym said.0 ∙ wrong) (omega arith) (omega arith) is_due);
         memory = λ wrong. absurd (undecided s 11 (sym said.0 ∙ wrong) (omega arith) (omega arith) is_due);
+        one = is_said;
       },
       said.1,
     )
-    told_why (due (answers s t)) status faults faults_new old new before after is_due why (inl said) = absurd is_due
-    told_why (due misses) status faults faults_new old new before after is_due why (inl said) = absurd is_due
-    told_why unread status faults faults_new old new before after is_due why (inl said) = (
+    told_why (due (answers s t)) status faults faults_new old new before after is_due is_said why alone (inl said) = absurd is_due
+    told_why (due misses) status faults faults_new old new before after is_due is_said why alone (inl said) = absurd is_due
+    told_why unread status faults faults_new old new before after is_due is_said why alone (inl said) = (
       codes "read fault\n",
       record {
         related = λ decided. absurd (undecided status 9 said.0 (omega arith) (omega arith) decided);
         read = λ _. refl;
         write = λ wrong. absurd (omega (arith, wrong, said.0));
         memory = λ wrong. absurd (omega (arith, wrong, said.0));
+        one = read_fault_is_one;
       },
       said.1,
     )
-    told_why starved status faults faults_new old new before after is_due why (inl said) = (
+    told_why starved status faults faults_new old new before after is_due is_said why alone (inl said) = (
       codes "memory\n",
       record {
         related = λ decided. absurd (undecided status 11 said.0 (omega arith) (omega arith) decided);
         read = λ wrong. absurd (omega (arith, wrong, said.0));
         write = λ wrong. absurd (omega (arith, wrong, said.0));
         memory = λ _. refl;
+        one = memory_is_one;
       },
       said.1,
     )
-    told_why c status faults faults_new old new before after is_due why (inr said) = (
+    told_why c status faults faults_new old new before after is_due is_said why alone (inr said) = (
       codes "memory\n",
       record {
         related = λ decided. absurd (undecided status 11 said.0 (omega arith) (omega arith) decided);
         read = λ wrong. absurd (omega (arith, wrong, said.0));
         write = λ wrong. absurd (omega (arith, wrong, said.0));
         memory = λ _. refl;
+        one = memory_is_one;
       },
       said.1,
     )

@@ -1,8 +1,7 @@
 -- What is known of a desk that was signed.
-use Rattle.std.proofs.Common.{◌≡◌, ℕ, ◌+◌, ◌≤◌, List, length, map, None, Result, Ok, Err, sym, ap, ◌∙◌, subst, arith}
+use Rattle.std.proofs.Common.{◌≡◌, ℕ, ◌+◌, ◌≤◌, List, length, map, None, sym, ap, ◌∙◌, subst, arith}
 use Rattle.std.specs.List.{range_with_len}
-use Rattle.std.specs.Prelude.{replicate, Option}
-use Rattle.surf_class.specs.Desk.{IsSigned}
+use Rattle.std.specs.Prelude.{replicate}
 use Rattle.surf_classes.specs.Evidence.{Evidence, IsChosen, IsClassEvidence}
 use Rattle.surf_surfaces.specs.Cells.{cells_of}
 use Rattle.surf_surfaces.specs.Choice.{AreChosenAt}
@@ -12,7 +11,6 @@ use Rattle.surf_surfaces.specs.Signature.{edge_signature}
 use Rattle.surf_surfaces.specs.Surface.{edge_count, face_count}
 use Rattle.surf_cotree.specs.Grown.{IsMarked}
 use Rattle.surf_cotree.specs.Tables.{CotreeTables, IsMadeFor, parent_edge_of, split_with, tree_of as cotree_of}
-use Rattle.surf_cover.specs.Grown.{IsSigned as IsSignedForCover}
 use Rattle.surf_graphs.specs.Cells.{IsSplit, Split}
 use Rattle.surf_graphs.specs.Trees.{Tree}
 use Rattle.surf_loops.specs.Loops.{LoopTables, IsGreedy, trees_of}

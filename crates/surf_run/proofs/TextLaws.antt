@@ -13,12 +13,12 @@ abbrev pub Holds : {A : Type 0} → (A → Type 0) → Result A OffFault → Typ
 Holds P (Ok x) = P x
 Holds P (Err e) = Unit {0}
 
-then_holds : {A B : Type 0} (P : A → Type 0) (Q : B → Type 0) (r : Result A OffFault) (f : A → Result B OffFault) → Holds P r →
+pub then_holds : {A B : Type 0} (P : A → Type 0) (Q : B → Type 0) (r : Result A OffFault) (f : A → Result B OffFault) → Holds P r →
     ((x : A) → P x → Holds Q (f x)) → Holds Q (r >>= f)
 then_holds P Q (Ok x) f here next = next x here
 then_holds P Q (Err e) f here next = tt
 
-anything : {A : Type 0} (r : Result A OffFault) → Holds (λ x. Unit {0}) r
+pub anything : {A : Type 0} (r : Result A OffFault) → Holds (λ x. Unit {0}) r
 anything (Ok x) = tt
 anything (Err e) = tt
 

@@ -11,16 +11,16 @@ use Rattle.surf_cert.specs.Written.{loop_text, basis_text}
 use Rattle.surf_cert.specs.declared.cert.Cert.{Cert}
 use Rattle.surf_cert.specs.declared.cert.Cert.TheVariants.{Loops, Basis}
 use Rattle.surf_cert.specs.declared.fault.CertText.{CertText}
-use Rattle.surf_cert.proofs.ChosenFits.{AreNumbers}
+use Rattle.surf_cert.proofs.ChosenFits.{AreNumbers, chosen_loops_fit, chosen_basis_fits}
 use Rattle.surf_cert.proofs.ChosenReread.{chosen_loops_again, chosen_basis_again}
 use Rattle.surf_surfaces.specs.Mesh.{Mesh}
 use Rattle.surf_surfaces.specs.Surface.{IsSurface, face_count, edge_count}
 use Rattle.surf_surfaces.specs.Walk.{ArePositive}
 use Rattle.surf_print.specs.CycleTexts.{cycles_text}
 use Rattle.surf_print.specs.LoopTexts.{loops_text}
-use Rattle.surf_surfaces.specs.Choice.{Loop, loops_at}
-use Rattle.surf_surfaces.proofs.BasisLaws.{basis_is_least}
-use Rattle.surf_surfaces.proofs.LoopsAtLaws.{loops_are_least}
+use Rattle.surf_surfaces.specs.Choice.{Loop, loops_at, IsChosenBasis}
+use Rattle.surf_surfaces.specs.Homology.{IsFullCount}
+use Rattle.surf_surfaces.proofs.ShortestWalkLaws.{first_of_basis_is_shortest_not_null}
 use Rattle.surf_lengths.specs.Lengths.{IsLength, AreLengths}
 use Rattle.surf_lengths.proofs.Positive.{lengths_positive}
 use Rattle.surf_off.specs.Off.{OffParts, off_of}
@@ -29,6 +29,7 @@ use Rattle.surf_validity.specs.Chosen.{cert_of, basis_cert_of}
 use Rattle.surf_validity.proofs.BasisLaws.{valid_bases_are_least}
 use Rattle.surf_validity.proofs.ChosenTotals.{chosen_loops_total, chosen_basis_total}
 use Rattle.surf_validity.proofs.LoopLaws.{valid_loops_are_least}
+use Rattle.surf_validity.proofs.PlaceLaws.{valid_loops_are_least_in_order, valid_bases_are_least_in_order, valid_bases_measure_shortest}
 use Rattle.surf_run.specs.CertTexts.{bounded, certified, then_bounded}
 use Rattle.surf_run.specs.Certificates.{GivesLoopCert, GivesBasisCert}
 use Rattle.surf_run.specs.CycleTasks.{Finds, OnMesh, OnMeshText}
@@ -47,6 +48,7 @@ use Rattle.surf_run.specs.Verdicts.{loops_line, basis_line}
 use Rattle.surf_run.specs.Words.{number_of, weighted_request, request_of}
 use Rattle.surf_run.specs.declared.cycles.CycleTask.TheVariants.{BasisCertificate}
 use Rattle.surf_run.specs.declared.weighted.Task.TheVariants.{LeastLoops, LoopCertificate}
+use Rattle.surf_run.proofs.CertSizes.{loop_text_short, basis_text_short}
 use Rattle.surf_run.proofs.CycleLaws.{few_loops, few_vertices}
 use Rattle.surf_run.proofs.Named.{answers_depend_on_named_files}
 use Rattle.surf_run.proofs.Refusing.{reads_refuses, looped_refuses, searchable_refuses, measured_refuses, weighted_refuses, goes_on, shown_low, shown_text}
@@ -98,13 +100,13 @@ few_from limit mesh is = elim (cases_lt limit.1 mesh.vertices) [
 
 -- ---- a file that holds a text
 
-module _ (files : Files) (mesh lengths cert text : List ℕ) (held : bytes_of files cert ≡ Some text) (short : length text ≤ 268435456) where
-  pub read_again : Reads cert files (Ok text)
-  read_again =
-      let t : nat_lt 268435456 (length text) ≡ false = le-ltb _ _ short in
-      let within : within_text (Some text) ≡ Ok text = rw t refl in
-      sym (ap within_text held ∙ within)
+pub read_again : (files : Files) (cert text : List ℕ) → bytes_of files cert ≡ Some text → length text ≤ 268435456 → Reads cert files (Ok text)
+read_again files cert text held short =
+    let t : nat_lt 268435456 (length text) ≡ false = le-ltb _ _ short in
+    let within : within_text (Some text) ≡ Ok text = rw t refl in
+    sym (ap within_text held ∙ within)
 
+module _ (files : Files) (mesh lengths cert text : List ℕ) (held : bytes_of files cert ≡ Some text) where
   -- ---- loops
 
   module _ (base : List ℕ) (o : Outcome) (b : ℕ) (is_base : number_of base ≡ Some b) (bytes : List ℕ) (reads : Reads mesh files (Ok bytes))
@@ -112,6 +114,23 @@ module _ (files : Files) (mesh lengths cert text : List ℕ) (held : bytes_of fi
       (gives : GivesLoopCert read.1 given.0 given.1 o) (text_is : text ≡ loop_text (cert_of read.1 gives.trees)) where
     loops_long : ArePositive read.1 given.0
     loops_long = lengths_positive read.1 given.0 weighted.2 weighted.3
+
+    -- the certificate isn't too long to be read
+    loops_short : length text ≤ 268435456
+    loops_short =
+        let c = cert_of read.1 gives.trees in
+        let few = mesh_texts_are_few bytes read (read_back read (off_of bytes) looped.0.0) in
+        let shape = gives.valid.shape in
+        let distances : length c.tree.distance ≡ read.1.vertices = shape.distances in
+        let depths : length c.dual.depth ≡ face_count read.1 = shape.depths in
+        let full : IsFullCount read.1 (length c.left) = shape.loops in
+        let loops = few_loops read.1 looped.1 in
+        let vertices : read.1.vertices ≤ 1000000 = few.0 in
+        let faces : face_count read.1 ≤ 2000000 = few.1 in
+        subst (λ (t : List ℕ). length t ≤ 268435456) (sym text_is)
+        (loop_text_short c
+        (chosen_loops_fit read.1 given.0 looped.0.1 loops_long (numbers_of bytes read given.0 looped weighted.2 weighted.3) given.1 gives.trees gives.chosen)
+        (omega (arith, distances, vertices)) (omega (arith, depths, faces)) (omega (arith, full, loops)))
 
     abbrev the_loops : List Loop
     the_loops = loops_at read.1 given.0 given.1 gives.trees
@@ -132,7 +151,7 @@ module _ (files : Files) (mesh lengths cert text : List ℕ) (held : bytes_of fi
               record {
                 trees = gives.trees;
                 chosen = gives.chosen;
-                least = loops_are_least read.1 given.0 given.1 gives.trees looped.0.1 loops_long gives.chosen;
+                least = gives.least;
                 says = says;
               },
             ),
@@ -161,13 +180,14 @@ module _ (files : Files) (mesh lengths cert text : List ℕ) (held : bytes_of fi
                 (weighted.0, weighted.2, weighted.3),
                 inr (
                   text,
-                  read_again,
+                  read_again files cert text held loops_short,
                   inr (
                     Loops c,
                     cert_is,
                     inl (record {
                       valid = again.1;
                       least = least.0;
+                      least_in_order = valid_loops_are_least_in_order read.1 given.0 c looped.0.1 loops_long again.1;
                       text = ap (λ n. answers 0 (loops_line n)) (sym (least.1 ∙ chosen_loops_total read.1 given.0 given.1 gives.trees looped.0.1 loops_long gives.chosen));
                     }),
                   ),
@@ -192,6 +212,24 @@ module _ (files : Files) (mesh lengths cert text : List ℕ) (held : bytes_of fi
     few : m.vertices ≤ 1000
     few = few_from (CertificateVertices, 1000) m given.2
 
+    -- the certificate isn't too long to be read
+    basis_short : length text ≤ 268435456
+    basis_short =
+        let c = basis_cert_of m gives.trees gives.basis in
+        let mesh_few = mesh_texts_are_few bytes (given.0, m) (read_back (given.0, m) (off_of bytes) given.1.0.0) in
+        let shape = gives.valid.shape in
+        let trees : length c.trees ≡ m.vertices = shape.trees in
+        let depths : length c.dual.depth ≡ face_count m = shape.depths in
+        let full : IsFullCount m (length c.left) = shape.loops in
+        let loops = few_loops m given.1.1 in
+        let vertices = few in
+        let faces : face_count m ≤ 2000000 = mesh_few.1 in
+        subst (λ (t : List ℕ). length t ≤ 268435456) (sym text_is)
+        (basis_text_short m c
+        (chosen_basis_fits m values surface basis_long (numbers_of bytes (given.0, m) values given.1 measured.1 measured.2) gives.trees gives.basis gives.chosen
+        gives.is_basis)
+        few (omega (arith, trees, vertices)) (omega (arith, depths, faces)) (omega (arith, full, loops)) gives.least.simple)
+
     basis_said : (outcome : Outcome) → Says (cycles_text gives.basis) outcome → Leads (codes "basis" ∷ mesh ∷ lengths ∷ []) files outcome
     unfolding Leads
     basis_said outcome says =
@@ -209,7 +247,10 @@ module _ (files : Files) (mesh lengths cert text : List ℕ) (held : bytes_of fi
                 chosen = gives.chosen;
                 basis = gives.basis;
                 is_basis = gives.is_basis;
-                least = basis_is_least m values gives.trees gives.basis surface basis_long gives.chosen gives.is_basis;
+                least = gives.least;
+                shortest = λ first rest same.
+                    first_of_basis_is_shortest_not_null m values gives.trees first rest surface basis_long gives.chosen
+                    (subst (IsChosenBasis m values gives.trees) same gives.is_basis);
                 says = says;
               },
             ),
@@ -240,13 +281,15 @@ module _ (files : Files) (mesh lengths cert text : List ℕ) (held : bytes_of fi
                 measured,
                 inr (
                   text,
-                  read_again,
+                  read_again files cert text held basis_short,
                   inr (
                     Basis c,
                     cert_is,
                     inl (record {
                       valid = again.1;
                       least = valid_bases_are_least m values c surface basis_long again.1;
+                      least_in_order = valid_bases_are_least_in_order m values c surface basis_long again.1;
+                      shortest = valid_bases_measure_shortest m values c surface basis_long again.1;
                       text = ap (λ n. answers 0 (basis_line n)) (sym (chosen_basis_total m values gives.trees gives.basis surface basis_long gives.chosen gives.is_basis));
                     }),
                   ),
@@ -261,9 +304,9 @@ module _ (files : Files) (mesh lengths cert text : List ℕ) (held : bytes_of fi
 
 loops_pass_there : (files : Files) (mesh lengths base cert text : List ℕ) →
     Answer (codes "certify" ∷ mesh ∷ lengths ∷ base ∷ []) files 0 text [] → bytes_of files cert ≡ Some text →
-    length text ≤ 268435456 → LoopsPass files mesh lengths base cert
+    LoopsPass files mesh lengths base cert
 unfolding Leads
-loops_pass_there files mesh lengths base cert text (o, leads, shows) held short = at (number_of base) refl leads
+loops_pass_there files mesh lengths base cert text (o, leads, shows) held = at (number_of base) refl leads
   where
     low : status_of o ≤ 1
     low = shown_low o text [] shows
@@ -277,16 +320,16 @@ loops_pass_there files mesh lengths base cert text (o, leads, shows) held short 
         let (given, weighted, gives) =
         goes_on (IsWeighted lengths b read.1 files) (Performs LoopCertificate read) o (weighted_refuses lengths b read.1 files) low on_surface in
         let text_is = shown_text (loop_text (cert_of read.1 gives.trees)) o text gives.says shows in (
-          the_loops files mesh lengths cert text held short base o b is bytes reads read looped given weighted gives text_is,
-          loops_said files mesh lengths cert text held short base o b is bytes reads read looped given weighted gives text_is,
-          loops_pass files mesh lengths cert text held short base o b is bytes reads read looped given weighted gives text_is,
+          the_loops files mesh lengths cert text held base o b is bytes reads read looped given weighted gives text_is,
+          loops_said files mesh lengths cert text held base o b is bytes reads read looped given weighted gives text_is,
+          loops_pass files mesh lengths cert text held base o b is bytes reads read looped given weighted gives text_is,
         )
 
 basis_passes_there : (files : Files) (mesh lengths cert text : List ℕ) →
     Answer (codes "certify" ∷ mesh ∷ lengths ∷ []) files 0 text [] → bytes_of files cert ≡ Some text →
-    length text ≤ 268435456 → BasisPasses files mesh lengths cert
+    BasisPasses files mesh lengths cert
 unfolding Leads
-basis_passes_there files mesh lengths cert text (o, leads, shows) held short =
+basis_passes_there files mesh lengths cert text (o, leads, shows) held =
     let low = shown_low o text [] shows in
     let (bytes, reads, on_text) = goes_on (Reads mesh files) (λ x. OnMeshText BasisCertificate x lengths files) o (reads_refuses mesh files) low leads in
     let (m, given, on_mesh) =
@@ -295,8 +338,8 @@ basis_passes_there files mesh lengths cert text (o, leads, shows) held short =
     let (values, measured, gives) = goes_on (IsMeasured lengths m files) (Finds BasisCertificate m) o (measured_refuses lengths m files) low on_mesh in
     let text_is = shown_text (basis_text (basis_cert_of m gives.trees gives.basis)) o text gives.says shows in (
       gives.basis,
-      basis_said files mesh lengths cert text held short o bytes reads m given values measured gives text_is,
-      basis_pass files mesh lengths cert text held short o bytes reads m given values measured gives text_is,
+      basis_said files mesh lengths cert text held o bytes reads m given values measured gives text_is,
+      basis_pass files mesh lengths cert text held o bytes reads m given values measured gives text_is,
     )
 
 -- ---- over other files
@@ -308,16 +351,16 @@ answered_there words files later text (o, leads, shows) same =
     (o, answers_depend_on_named_files words files later same o leads, shows)
 
 pub certified_loops_pass : CertifiedLoopsPass
-certified_loops_pass files later mesh lengths base cert text answer same held short =
+certified_loops_pass files later mesh lengths base cert text answer same held =
     loops_pass_there later mesh lengths base cert text
     (answered_there (codes "certify" ∷ mesh ∷ lengths ∷ base ∷ []) files later text answer (at (number_of base)))
-    held short
+    held
   where
     at : (x : Option ℕ) → AgreeOn (named (weighted_request (Some LoopCertificate) mesh lengths x)) files later
     at None = All-nil (λ name. bytes_of files name ≡ bytes_of later name)
     at (Some b) = same
 
 pub certified_bases_pass : CertifiedBasesPass
-certified_bases_pass files later mesh lengths cert text answer same held short =
+certified_bases_pass files later mesh lengths cert text answer same held =
     basis_passes_there later mesh lengths cert text
-    (answered_there (codes "certify" ∷ mesh ∷ lengths ∷ []) files later text answer same) held short
+    (answered_there (codes "certify" ∷ mesh ∷ lengths ∷ []) files later text answer same) held

@@ -1,21 +1,19 @@
--- Words and files have one status, and where nothing failed it is the answer.
-use Rattle.std.proofs.Common.{◌≡◌, ◌≢◌, ◌⊎◌, ◌<◌, ◌≤◌, inl, inr, ℕ, ◌*◌, ◌^◌, Bool, true, false, List, [], Option, Some, None, Result, Ok, Err, refl, sym, ◌∙◌, ap, subst, arith, length}
+-- Words and files have one outcome, and where nothing failed it is the answer.
+use Rattle.std.proofs.Common.{◌≡◌, ◌⊎◌, ◌≤◌, inl, inr, ℕ, ◌*◌, ◌^◌, ◌++◌, Bool, true, false, List, [], Option, Some, None, Result, Ok, Err, refl, sym, ◌∙◌, ap, subst, arith, length}
 use Rattle.std.specs.Prelude.{nat_lt, if◌then◌else◌, codes}
 use Rattle.std.proofs.lemmas.Bool.{cases_eq, cases_lt}
 use Rattle.surf_base.specs.Outside.{Files, bytes_of}
 use Rattle.surf_run.specs.Outcome.{Outcome, answers, refuses, misses, Shows, status_of}
 use Rattle.surf_run.specs.Steps.{Ends}
 use Rattle.surf_run.specs.Reading.{Reads, within_text}
-use Rattle.surf_surfaces.specs.Mesh.{Mesh}
+use Rattle.surf_surfaces.specs.Mesh.{Mesh, characteristic}
 use Rattle.surf_surfaces.specs.Surface.{edge_count, IsSurface}
 use Rattle.surf_off.specs.Written.{soup_text}
 use Rattle.surf_run.specs.Making.{made, IsMade, GivesMesh}
 use Rattle.surf_run.specs.Shapes.{mesh_of}
 use Rattle.surf_gen.specs.Made.{made_values}
-use Rattle.surf_run.specs.Summaries.{GivesSummary}
+use Rattle.surf_run.specs.Summaries.{total_size, LoopsTotal, BasisTotals, CycleMeasures, measures_text, GivesSummary}
 use Rattle.surf_run.specs.Trying.{IsTried, then_searched}
-use Rattle.surf_check.specs.declared.checking.SurfaceFault.{SurfaceFault}
-use Rattle.surf_check.specs.declared.checking.SurfaceFault.TheVariants.{Empty, Border, Crowded, Isolated, Pinched, Apart, Memory}
 use Rattle.surf_check.proofs.FaultLaws.{fault_only}
 use Rattle.surf_disc.proofs.FaultLaws.{fault_only as disc_fault_only}
 use Rattle.surf_off.specs.Off.{OffParts, off_of}
@@ -24,8 +22,8 @@ use Rattle.surf_geom.specs.Measures.{measures_in}
 use Rattle.surf_geom.specs.Texts.{lengths_text}
 use Rattle.surf_run.specs.Coordinates.{measured, Measures, GivesMeasures, OnCoordinates, OnLengthsText}
 use Rattle.surf_run.specs.Cuts.{is_trimmed, cut_text}
-use Rattle.surf_run.specs.Discs.{JudgesDisc}
-use Rattle.surf_run.specs.Info.{Informs}
+use Rattle.surf_run.specs.Discs.{JudgesDisc, SaysNoDisc, no_line}
+use Rattle.surf_run.specs.Info.{Informs, mesh_counts, genus_text, crosscaps_text}
 use Rattle.surf_run.specs.Given.{loop_count, looped, searchable, HasFewLoops, HasFewVertices, IsFewLoopedText, IsSearchableText, IsMeasured, IsWeighted}
 use Rattle.surf_run.specs.Weights.{HasLengths, HasBase, weighed_for, based}
 use Rattle.surf_run.specs.Says.{Says}
@@ -35,15 +33,19 @@ use Rattle.surf_cert.specs.declared.cert.Cert.{Cert}
 use Rattle.surf_cert.specs.declared.cert.Cert.TheVariants.{Loops}
 use Rattle.surf_cert.specs.declared.cert.Cert.TheVariants as certs
 use Rattle.surf_certcheck.proofs.LoopFaults.{no_loop_fault}
-use Rattle.surf_certcheck.proofs.OneBasisFault.{no_basis_fault}
+use Rattle.surf_certcheck.proofs.OneBasisFault.{one_basis_fault, no_basis_fault}
+use Rattle.surf_certcheck.proofs.OneFault.{one_loop_fault}
 use Rattle.surf_run.specs.CertTexts.{IsCertText, certified, then_bounded}
 use Rattle.surf_run.specs.Checking.{OnCheckedText, OnCheckedMesh, OnCertFile, OnCertText}
-use Rattle.surf_run.specs.Verdicts.{JudgesCert}
+use Rattle.surf_run.specs.Verdicts.{fault_line, JudgesCert}
 use Rattle.surf_run.specs.CycleTasks.{Finds, OnMesh, OnMeshText, vertex_limit}
 use Rattle.surf_run.specs.Tasks.{Performs, OnSurface, OnText, is_limited}
 use Rattle.surf_run.specs.declared.cycles.CycleTask.{CycleTask}
 use Rattle.surf_run.specs.declared.cycles.CycleTask.TheVariants.{Basis, Shortest, BasisCertificate}
+use Rattle.surf_run.specs.OneAnswer.{OutcomesAreOne, AnswersAreOne}
 use Rattle.surf_run.proofs.CycleLaws.{firsts_are_one}
+use Rattle.surf_run.proofs.OneFaults.{surface_faults_are_one, disc_faults_are_one, class_faults_are_one}
+use Rattle.surf_run.proofs.ShapeWords.{IsWellShaped, words_are_well_shaped, tried_is_surface, made_are_positive}
 use Rattle.surf_run.specs.declared.weighted.Task.{Task}
 use Rattle.surf_run.specs.declared.weighted.Task.TheVariants.{Distances, LeastLoops, LoopCertificate, Cut}
 use Rattle.surf_base.specs.declared.limits.LimitKind.{LimitKind}
@@ -52,7 +54,7 @@ use Rattle.surf_cert.specs.Written.{loop_text, basis_text}
 use Rattle.surf_validity.specs.Chosen.{cert_of, basis_cert_of}
 use Rattle.surf_validity.proofs.OneCert.{chosen_certs_are_one}
 use Rattle.surf_validity.proofs.OneBasis.{bases_are_one, chosen_basis_certs_are_one}
-use Rattle.surf_surfaces.specs.Walk.{ArePositive, IsClosed, walk_length}
+use Rattle.surf_surfaces.specs.Walk.{ArePositive, IsClosed, parity, walk_length}
 use Rattle.surf_surfaces.specs.Choice.{Loop, loops_at}
 use Rattle.surf_surfaces.proofs.ShortestTreeLaws.{shortest_trees_are_one}
 use Rattle.surf_surfaces.proofs.LoopsOne.{loops_are_one}
@@ -74,28 +76,27 @@ use Rattle.surf_class.specs.Texts.{evidence_text}
 use Rattle.surf_classes.specs.Evidence.{Evidence, AreClosed}
 use Rattle.surf_classes.proofs.ChosenEvidence.{class_evidence_is_one}
 use Rattle.surf_run.specs.Classes.{null_word, odd_word, GivesClass, OnClassMesh, OnClassText, OnSecond, OnSameMesh, OnSameText}
-use Rattle.surf_run.specs.Confirming.{evident, IsEvidenceText, JudgesEvidence, OnEvidenceText, OnEvidenceFile, OnConfirmMesh, OnConfirmText}
+use Rattle.surf_run.specs.Confirming.{evident, wrong_line, IsEvidenceText, JudgesEvidence, OnEvidenceText, OnEvidenceFile, OnConfirmMesh, OnConfirmText}
 use Rattle.surf_run.specs.Walks.{walk_named, HasWalk}
 use Rattle.surf_run.specs.declared.walks.WalkFile.{WalkFile}
 use Rattle.surf_run.specs.declared.walks.WalkFile.TheVariants.{First, Second}
-use Rattle.surf_classes.specs.Shortest.{IsChosenWalk}
 use Rattle.surf_classes.proofs.ChosenWalks.{chosen_walk_is_one}
 use Rattle.surf_run.specs.Tightening.{covered, HasSmallCover, shortest_line, GivesShortestWalk, OnTightLengths, OnTightMesh, OnCovered, OnTightText}
 use Rattle.surf_run.specs.Leads.{Leads, Answer, OnRequest, OnInfoText, OnDiscText}
 use Rattle.surf_run.specs.Words.{Request, help, version, info, disc, cycles, weighted, makes, tries, checks, measures, sews, classes, compares, confirms, tightens, request_of}
 
--- two results of a step go on with one value, or end with one status
+-- two results of a step go on with one value, or end in one outcome
 abbrev pub Agree : {A : Type 0} → Result A Outcome → Result A Outcome → Type 0
 Agree (Ok a) (Ok b) = a ≡ b
 Agree (Ok a) (Err p) = ⊥
 Agree (Err o) (Ok b) = ⊥
-Agree (Err o) (Err p) = status_of o ≡ status_of p
+Agree (Err o) (Err p) = o ≡ p
 
 abbrev pub IsOne : {A : Type 0} → (Result A Outcome → Type 0) → Type 0
 IsOne {A} step = (r s : Result A Outcome) → step r → step s → Agree r s
 
-abbrev pub HasOneStatus : (Outcome → Type 0) → Type 0
-HasOneStatus end = (o p : Outcome) → end o → end p → status_of o ≡ status_of p
+abbrev pub HasOneOutcome : (Outcome → Type 0) → Type 0
+HasOneOutcome end = (o p : Outcome) → end o → end p → o ≡ p
 
 agree_same : {A : Type 0} (r : Result A Outcome) → Agree r r
 agree_same (Ok a) = refl
@@ -105,16 +106,16 @@ agree_same (Err o) = refl
 pub one_result : {A : Type 0} (x : Result A Outcome) → IsOne (λ r. r ≡ x)
 one_result {A} x = λ r s first second. subst (λ (t : Result A Outcome). Agree r t) (first ∙ sym second) (agree_same r)
 
--- an end with a stated outcome has one status
-pub one_outcome : (x : Outcome) → HasOneStatus (λ o. o ≡ x)
-one_outcome x = λ o p first second. ap status_of (first ∙ sym second)
+-- an end with a stated outcome has one
+pub one_outcome : (x : Outcome) → HasOneOutcome (λ o. o ≡ x)
+one_outcome x = λ o p first second. first ∙ sym second
 
 -- where each step has one result, so has what comes of them
 pub one_end : {A : Type 0} (first : Result A Outcome → Type 0) (second : A → Outcome → Type 0) →
-    IsOne first → ((a : A) → first (Ok a) → HasOneStatus (second a)) → HasOneStatus (Ends first second)
+    IsOne first → ((a : A) → first (Ok a) → HasOneOutcome (second a)) → HasOneOutcome (Ends first second)
 one_end {A} first second one rest = at
   where
-    at : (o p : Outcome) → Ends first second o → Ends first second p → status_of o ≡ status_of p
+    at : (o p : Outcome) → Ends first second o → Ends first second p → o ≡ p
     at o p (inl x) (inl y) = one (Err o) (Err p) x y
     at o p (inl x) (inr y) = absurd (one (Err o) (Ok y.0) x y.1)
     at o p (inr x) (inl y) = absurd (one (Ok x.0) (Err p) x.1 y)
@@ -124,18 +125,11 @@ one_end {A} first second one rest = at
 pub one_mesh_text : (bytes : List ℕ) → IsOne (IsMeshText bytes)
 one_mesh_text bytes = one_result (read_outcome (off_of bytes))
 
--- each fault of a surface has status 4
-fault_status : (fault : SurfaceFault) → fault ≢ Memory → status_of (outcome_of (surface_cause fault)) ≡ 4
-fault_status Empty ne = refl
-fault_status (Border u v face) ne = refl
-fault_status (Crowded u v faces) ne = refl
-fault_status (Isolated v) ne = refl
-fault_status (Pinched v first second) ne = refl
-fault_status (Apart face) ne = refl
-fault_status Memory ne = absurd (ne refl)
-
-ends_with_four : (mesh : Mesh) (o : Outcome) → EndsInFault mesh o → status_of o ≡ 4
-ends_with_four mesh o ends = ap status_of ends.is ∙ fault_status ends.fault ends.isnt_memory
+-- a surface that isn't one has one first fault
+one_fault_of : (mesh : Mesh) (o p : Outcome) → EndsInFault mesh o → EndsInFault mesh p → o ≡ p
+one_fault_of mesh o p x y =
+    x.is ∙ ap (λ fault. outcome_of (surface_cause fault)) (surface_faults_are_one mesh x.fault y.fault x.isnt_memory y.isnt_memory x.is_fault y.is_fault)
+    ∙ sym y.is
 
 -- a surface has no fault
 no_fault : (mesh : Mesh) (o : Outcome) → IsSurface mesh → EndsInFault mesh o → ⊥
@@ -152,21 +146,33 @@ one_surface_text bytes (Err o) (Ok b) (inr x) y =
 one_surface_text bytes (Err o) (Err p) (inl x) (inl y) = one_mesh_text bytes (Err o) (Err p) x y
 one_surface_text bytes (Err o) (Err p) (inl x) (inr y) = absurd (one_mesh_text bytes (Err o) (Ok y.0) x y.1)
 one_surface_text bytes (Err o) (Err p) (inr x) (inl y) = absurd (one_mesh_text bytes (Ok x.0) (Err p) x.1 y)
-one_surface_text bytes (Err o) (Err p) (inr x) (inr y) = ends_with_four x.0.1 o x.2 ∙ sym (ends_with_four y.0.1 p y.2)
+one_surface_text bytes (Err o) (Err p) (inr x) (inr y) =
+    one_fault_of y.0.1 o p
+    (subst (λ (read : OffParts × Mesh). EndsInFault read.1 o) (one_mesh_text bytes (Ok x.0) (Ok y.0) x.1 y.1) x.2) y.2
 
-informs_with_zero : (mesh : Mesh) (o : Outcome) → Informs mesh o → status_of o ≡ 0
-informs_with_zero mesh o (inl x) = ap status_of x.text
-informs_with_zero mesh o (inr x) = ap status_of x.text
+-- a surface is of one genus, or of one number of crosscaps
+one_info : (mesh : Mesh) → HasOneOutcome (Informs mesh)
+one_info mesh o p (inl x) (inl y) =
+    let same : x.genus ≡ y.genus = omega (arith, x.twice, y.twice) in
+    x.text ∙ ap (λ n. answers 0 (mesh_counts mesh ++ genus_text (characteristic mesh) n)) same ∙ sym y.text
+one_info mesh o p (inl x) (inr y) = absurd (y.one_sided x.two_sided)
+one_info mesh o p (inr x) (inl y) = absurd (x.one_sided y.two_sided)
+one_info mesh o p (inr x) (inr y) =
+    let same : x.crosscaps ≡ y.crosscaps = omega (arith, x.count, y.count) in
+    x.text ∙ ap (λ n. answers 0 (mesh_counts mesh ++ crosscaps_text (characteristic mesh) n)) same ∙ sym y.text
 
-one_info : (mesh : Mesh) → HasOneStatus (Informs mesh)
-one_info mesh o p x y = informs_with_zero mesh o x ∙ sym (informs_with_zero mesh p y)
+-- a mesh that is no disc has one first fault
+one_no_disc : (mesh : Mesh) → HasOneOutcome (SaysNoDisc mesh)
+one_no_disc mesh o p x y =
+    x.text ∙ ap (λ fault. answers 1 (no_line fault)) (disc_faults_are_one mesh x.fault y.fault x.isnt_memory y.isnt_memory x.is_fault y.is_fault)
+    ∙ sym y.text
 
 -- a disc has no fault
-one_judgement : (mesh : Mesh) → HasOneStatus (JudgesDisc mesh)
-one_judgement mesh o p (inl x) (inl y) = ap status_of x.text ∙ sym (ap status_of y.text)
+one_judgement : (mesh : Mesh) → HasOneOutcome (JudgesDisc mesh)
+one_judgement mesh o p (inl x) (inl y) = x.text ∙ sym y.text
 one_judgement mesh o p (inl x) (inr y) = absurd (y.isnt_memory (disc_fault_only mesh y.fault y.is_fault x.is_disc))
 one_judgement mesh o p (inr x) (inl y) = absurd (x.isnt_memory (disc_fault_only mesh x.fault x.is_fault y.is_disc))
-one_judgement mesh o p (inr x) (inr y) = ap status_of x.text ∙ sym (ap status_of y.text)
+one_judgement mesh o p (inr x) (inr y) = one_no_disc mesh o p x y
 
 one_looped_text : (limited : Bool) (bytes : List ℕ) → IsOne (IsFewLoopedText limited bytes)
 one_looped_text limited bytes (Ok a) (Ok b) x y = one_surface_text bytes (Ok a) (Ok b) x.0 y.0
@@ -206,11 +212,11 @@ module _ (word : List ℕ) (base : ℕ) (mesh : Mesh) (files : Files) where
   one_weighted (Err o) (Err p) (inr x) (inl y) = absurd (lengths_agree (Ok x.0) (Err p) x.1 y)
   one_weighted (Err o) (Err p) (inr x) (inr y) = base_agrees (Err o) (Err p) x.2 y.2
 
--- one text is said with one status
-says_same : (t u : List ℕ) (o p : Outcome) → t ≡ u → Says t o → Says u p → status_of o ≡ status_of p
-says_same t u o p same x y = ap status_of (x ∙ ap (λ s. if nat_lt 1073741824 (length s) then beyond limits.Answer else answers 0 s) same ∙ sym y)
+-- one text is said in one way
+says_same : (t u : List ℕ) (o p : Outcome) → t ≡ u → Says t o → Says u p → o ≡ p
+says_same t u o p same x y = x ∙ ap (λ s. if nat_lt 1073741824 (length s) then beyond limits.Answer else answers 0 s) same ∙ sym y
 
-one_performance : (task : Task) (read : OffParts × Mesh) (given : List ℕ × ℕ) → IsSurface read.1 → ArePositive read.1 given.0 → HasOneStatus (Performs task read given)
+one_performance : (task : Task) (read : OffParts × Mesh) (given : List ℕ × ℕ) → IsSurface read.1 → ArePositive read.1 given.0 → HasOneOutcome (Performs task read given)
 one_performance Distances read given surface lengths o p x y =
     says_same (distances_text read.1.vertices x.tree) (distances_text read.1.vertices y.tree) o p
     (texts_same read.1 given.1 x.tree y.tree (shortest_trees_are_one read.1 given.0 given.1 x.tree y.tree surface lengths x.shortest y.shortest) x.shortest.root y.shortest.root)
@@ -228,7 +234,7 @@ one_performance (Cut kind) read given surface lengths o p x y =
     (ap (λ (origins : List ℕ). cut_text read.0 origins x.faces) same.0 ∙ ap (λ (faces : List (List ℕ)). cut_text read.0 y.origins faces) same.1)
     x.says y.says
 
-one_text : (task : Task) (bytes word : List ℕ) (base : ℕ) (files : Files) → HasOneStatus (OnText task bytes word base files)
+one_text : (task : Task) (bytes word : List ℕ) (base : ℕ) (files : Files) → HasOneOutcome (OnText task bytes word base files)
 one_text task bytes word base files =
     one_end (IsFewLoopedText (is_limited task) bytes) (λ read. OnSurface task read word base files) (one_looped_text (is_limited task) bytes)
     (λ read looped. one_end (IsWeighted word base read.1 files) (Performs task read) (one_weighted word base read.1 files)
@@ -257,7 +263,7 @@ one_measured word mesh files (Ok a) (Err p) x y = one_result (weighed_for word m
 one_measured word mesh files (Err o) (Ok b) x y = one_result (weighed_for word mesh files) (Err o) (Ok b) x y.0
 one_measured word mesh files (Err o) (Err p) x y = one_result (weighed_for word mesh files) (Err o) (Err p) x y
 
-one_finding : (task : CycleTask) (mesh : Mesh) (lengths : List ℕ) → IsSurface mesh → ArePositive mesh lengths → HasOneStatus (Finds task mesh lengths)
+one_finding : (task : CycleTask) (mesh : Mesh) (lengths : List ℕ) → IsSurface mesh → ArePositive mesh lengths → HasOneOutcome (Finds task mesh lengths)
 one_finding Basis mesh lengths surface long o p x y =
     says_same (cycles_text x.basis) (cycles_text y.basis) o p
     (ap cycles_text (bases_are_one mesh lengths x.trees y.trees surface long x.chosen y.chosen x.basis y.basis x.is_basis y.is_basis)) x.says y.says
@@ -274,24 +280,26 @@ one_finding BasisCertificate mesh lengths surface long o p x y =
     says_same (basis_text (basis_cert_of mesh x.trees x.basis)) (basis_text (basis_cert_of mesh y.trees y.basis)) o p
     (ap basis_text (chosen_basis_certs_are_one mesh lengths x.trees y.trees x.basis y.basis surface long x.chosen y.chosen x.is_basis y.is_basis)) x.says y.says
 
-one_cycles : (task : CycleTask) (bytes word : List ℕ) (files : Files) → HasOneStatus (OnMeshText task bytes word files)
+one_cycles : (task : CycleTask) (bytes word : List ℕ) (files : Files) → HasOneOutcome (OnMeshText task bytes word files)
 one_cycles task bytes word files =
     one_end (IsSearchableText (vertex_limit task) bytes) (λ mesh. OnMesh task mesh word files) (one_searchable (vertex_limit task) bytes)
     (λ mesh given. one_end (IsMeasured word mesh files) (Finds task mesh) (one_measured word mesh files)
     (λ lengths is. one_finding task mesh lengths given.1.0.1 (lengths_positive mesh lengths is.1 is.2)))
 
 -- no certificate is valid and has a fault
-one_verdict : (mesh : Mesh) (lengths : List ℕ) (cert : Cert) → HasOneStatus (JudgesCert mesh lengths cert)
-one_verdict mesh lengths (Loops cert) o p (inl x) (inl y) = ap status_of x.text ∙ sym (ap status_of y.text)
+one_verdict : (mesh : Mesh) (lengths : List ℕ) (cert : Cert) → HasOneOutcome (JudgesCert mesh lengths cert)
+one_verdict mesh lengths (Loops cert) o p (inl x) (inl y) = x.text ∙ sym y.text
 one_verdict mesh lengths (Loops cert) o p (inl x) (inr y) = absurd (no_loop_fault mesh lengths cert x.valid y.fault y.isnt_memory y.is_fault)
 one_verdict mesh lengths (Loops cert) o p (inr x) (inl y) = absurd (no_loop_fault mesh lengths cert y.valid x.fault x.isnt_memory x.is_fault)
-one_verdict mesh lengths (Loops cert) o p (inr x) (inr y) = ap status_of x.text ∙ sym (ap status_of y.text)
-one_verdict mesh lengths (certs.Basis cert) o p (inl x) (inl y) = ap status_of x.text ∙ sym (ap status_of y.text)
+one_verdict mesh lengths (Loops cert) o p (inr x) (inr y) =
+    x.text ∙ ap (λ fault. answers 1 (fault_line fault)) (one_loop_fault mesh lengths cert x.fault y.fault x.is_fault y.is_fault x.isnt_memory y.isnt_memory) ∙ sym y.text
+one_verdict mesh lengths (certs.Basis cert) o p (inl x) (inl y) = x.text ∙ sym y.text
 one_verdict mesh lengths (certs.Basis cert) o p (inl x) (inr y) = absurd (no_basis_fault mesh lengths cert x.valid y.fault y.isnt_memory y.is_fault)
 one_verdict mesh lengths (certs.Basis cert) o p (inr x) (inl y) = absurd (no_basis_fault mesh lengths cert y.valid x.fault x.isnt_memory x.is_fault)
-one_verdict mesh lengths (certs.Basis cert) o p (inr x) (inr y) = ap status_of x.text ∙ sym (ap status_of y.text)
+one_verdict mesh lengths (certs.Basis cert) o p (inr x) (inr y) =
+    x.text ∙ ap (λ fault. answers 1 (fault_line fault)) (one_basis_fault mesh lengths cert x.fault y.fault x.is_fault y.is_fault x.isnt_memory y.isnt_memory) ∙ sym y.text
 
-one_check : (bytes word cert : List ℕ) (files : Files) → HasOneStatus (OnCheckedText bytes word cert files)
+one_check : (bytes word cert : List ℕ) (files : Files) → HasOneOutcome (OnCheckedText bytes word cert files)
 one_check bytes word cert files =
     one_end (IsFewLoopedText true bytes) (λ read. OnCheckedMesh read.1 word cert files) (one_looped_text true bytes)
     (λ read _. one_end (IsMeasured word read.1 files) (λ lengths. OnCertFile read.1 lengths cert files) (one_measured word read.1 files)
@@ -303,17 +311,17 @@ pub one_surface_of : (mesh : Mesh) → IsOne (IsSurfaceOf mesh)
 one_surface_of mesh (Ok a) (Ok b) x y = x.0 ∙ sym y.0
 one_surface_of mesh (Ok a) (Err p) x y = no_fault mesh p x.1 y
 one_surface_of mesh (Err o) (Ok b) x y = no_fault mesh o y.1 x
-one_surface_of mesh (Err o) (Err p) x y = ends_with_four mesh o x ∙ sym (ends_with_four mesh p y)
+one_surface_of mesh (Err o) (Err p) x y = one_fault_of mesh o p x y
 
 -- a disc has no fault, and neither has a surface
-one_sewing : (read : OffParts × Mesh) (origins : List ℕ) (mesh : Mesh) → HasOneStatus (OnSewnMesh read origins mesh)
-one_sewing read origins mesh o p (inl x) (inl y) = ap status_of x.text ∙ sym (ap status_of y.text)
+one_sewing : (read : OffParts × Mesh) (origins : List ℕ) (mesh : Mesh) → HasOneOutcome (OnSewnMesh read origins mesh)
+one_sewing read origins mesh o p (inl x) (inl y) = one_no_disc read.1 o p x y
 one_sewing read origins mesh o p (inl x) (inr y) = absurd (x.isnt_memory (disc_fault_only read.1 x.fault x.is_fault y.0))
 one_sewing read origins mesh o p (inr x) (inl y) = absurd (y.isnt_memory (disc_fault_only read.1 y.fault y.is_fault x.0))
 one_sewing read origins mesh o p (inr x) (inr y) = one_end (IsSurfaceOf mesh) (GivesSewn read.0 origins) (one_surface_of mesh)
     (λ sewn _ s t a b. says_same (sewn_text read.0 origins sewn) (sewn_text read.0 origins sewn) s t refl a.says b.says) o p x.1 y.1
 
-one_copies : (bytes : List ℕ) (read : OffParts × Mesh) → HasOneStatus (OnCopies bytes read)
+one_copies : (bytes : List ℕ) (read : OffParts × Mesh) → HasOneOutcome (OnCopies bytes read)
 one_copies bytes read = one_end (HasOrigins bytes read.1.vertices) (OnOrigins read)
     (one_result (copied read.1.vertices (copies_in bytes read.1.vertices)))
     (λ origins _. one_end (IsSewn read origins) (OnSewnMesh read origins)
@@ -327,18 +335,18 @@ one_walk file name mesh files (Err o) (Err p) x y = one_result (walk_named file 
 
 -- there is one evidence that is chosen
 one_class : (mesh : Mesh) (walk : List ℕ) (other : Option (List ℕ)) → IsSurface mesh → AreClosed mesh walk other →
-    HasOneStatus (GivesClass mesh walk other)
+    HasOneOutcome (GivesClass mesh walk other)
 one_class mesh walk other surface closed o p x y =
     let one = class_evidence_is_one mesh surface walk other closed in
     says_same (evidence_text (null_word other) (odd_word other) x.evidence) (evidence_text (null_word other) (odd_word other) y.evidence) o p
     (ap (evidence_text (null_word other) (odd_word other)) (one.2 x.evidence x.chosen ∙ sym (one.2 y.evidence y.chosen))) x.says y.says
 
-one_class_text : (walk bytes : List ℕ) (files : Files) → HasOneStatus (OnClassText walk bytes files)
+one_class_text : (walk bytes : List ℕ) (files : Files) → HasOneOutcome (OnClassText walk bytes files)
 one_class_text walk bytes files = one_end (IsFewLoopedText true bytes) (λ read. OnClassMesh walk read.1 files) (one_looped_text true bytes)
     (λ read is. one_end (HasWalk First walk read.1 files) (λ w. GivesClass read.1 w None) (one_walk First walk read.1 files)
     (λ w has. one_class read.1 w None is.0.1 has.1))
 
-one_same_text : (first second bytes : List ℕ) (files : Files) → HasOneStatus (OnSameText first second bytes files)
+one_same_text : (first second bytes : List ℕ) (files : Files) → HasOneOutcome (OnSameText first second bytes files)
 one_same_text first second bytes files = one_end (IsFewLoopedText true bytes) (λ read. OnSameMesh first second read.1 files) (one_looped_text true bytes)
     (λ read is. one_end (HasWalk First first read.1 files) (λ w. OnSecond second read.1 w files) (one_walk First first read.1 files)
     (λ w has. one_end (HasWalk Second second read.1 files) (λ v. GivesClass read.1 w (Some v)) (one_walk Second second read.1 files)
@@ -348,13 +356,17 @@ one_evidence_text : (bytes : List ℕ) → IsOne (IsEvidenceText bytes)
 one_evidence_text bytes = one_result (evident (evidence_in bytes))
 
 -- right evidence has no fault
-one_judged_evidence : (mesh : Mesh) (walk : List ℕ) (evidence : Evidence) → HasOneStatus (JudgesEvidence mesh walk evidence)
-one_judged_evidence mesh walk evidence o p (inl x) (inl y) = ap status_of x.text ∙ sym (ap status_of y.text)
+one_judged_evidence : (mesh : Mesh) (walk : List ℕ) (evidence : Evidence) → HasOneOutcome (JudgesEvidence mesh walk evidence)
+one_judged_evidence mesh walk evidence o p (inl x) (inl y) = x.text ∙ sym y.text
 one_judged_evidence mesh walk evidence o p (inl x) (inr y) = absurd (y.excludes x.right)
 one_judged_evidence mesh walk evidence o p (inr x) (inl y) = absurd (x.excludes y.right)
-one_judged_evidence mesh walk evidence o p (inr x) (inr y) = ap status_of x.text ∙ sym (ap status_of y.text)
+one_judged_evidence mesh walk evidence o p (inr x) (inr y) =
+    x.text
+    ∙ ap (λ fault. answers 1 (wrong_line fault))
+    (class_faults_are_one mesh (parity mesh walk) evidence x.fault y.fault x.isnt_memory y.isnt_memory x.is_fault y.is_fault)
+    ∙ sym y.text
 
-one_confirm_text : (walk cert bytes : List ℕ) (files : Files) → HasOneStatus (OnConfirmText walk cert bytes files)
+one_confirm_text : (walk cert bytes : List ℕ) (files : Files) → HasOneOutcome (OnConfirmText walk cert bytes files)
 one_confirm_text walk cert bytes files = one_end (IsSurfaceText bytes) (λ read. OnConfirmMesh walk cert read.1 files) (one_surface_text bytes)
     (λ read _. one_end (HasWalk First walk read.1 files) (λ w. OnEvidenceFile cert read.1 w files) (one_walk First walk read.1 files)
     (λ w _. one_end (Reads cert files) (OnEvidenceText read.1 w) (one_result (within_text (bytes_of files cert)))
@@ -371,69 +383,115 @@ small_same mesh small is = at (nat_lt 8 (loop_count mesh)) (nat_lt 65536 (mesh.v
 
 -- there is one walk that is chosen
 one_shortest : (mesh : Mesh) (lengths walk : List ℕ) → IsSurface mesh → ArePositive mesh lengths → IsClosed mesh walk →
-    HasOneStatus (GivesShortestWalk mesh lengths walk)
+    HasOneOutcome (GivesShortestWalk mesh lengths walk)
 one_shortest mesh lengths walk surface positive closed o p x y =
     let one = chosen_walk_is_one mesh lengths walk surface positive closed in
     says_same (shortest_line (walk_length mesh lengths x.found) x.found) (shortest_line (walk_length mesh lengths y.found) y.found) o p
     (ap (λ (w : List ℕ). shortest_line (walk_length mesh lengths w) w) (one.2 x.found x.chosen ∙ sym (one.2 y.found y.chosen))) x.says y.says
 
-one_covered : (word walk : List ℕ) (mesh : Mesh) (files : Files) → IsSurface mesh → HasOneStatus (OnCovered word walk mesh files)
+one_covered : (word walk : List ℕ) (mesh : Mesh) (files : Files) → IsSurface mesh → HasOneOutcome (OnCovered word walk mesh files)
 one_covered word walk mesh files surface = one_end (HasSmallCover mesh) (λ small. OnTightMesh word walk small files) (one_result (covered mesh))
     (λ small is. let same : small ≡ mesh = small_same mesh small is in
     one_end (IsMeasured word small files) (λ lengths. OnTightLengths walk small lengths files) (one_measured word small files)
     (λ lengths given. one_end (HasWalk First walk small files) (GivesShortestWalk small lengths) (one_walk First walk small files)
     (λ w has. one_shortest small lengths w (subst IsSurface (sym same) surface) (lengths_positive small lengths given.1 given.2) has.1)))
 
-one_measure : (decimals : ℕ) (read : OffParts × Mesh) → HasOneStatus (OnCoordinates decimals read)
+one_measure : (decimals : ℕ) (read : OffParts × Mesh) → HasOneOutcome (OnCoordinates decimals read)
 one_measure decimals read = one_end (Measures decimals read) (GivesMeasures read.1)
     (one_result (measured (measures_in read.1 read.0.vertex_lines decimals)))
     (λ lengths _ o p x y. says_same (lengths_text read.1 lengths) (lengths_text read.1 lengths) o p refl x.says y.says)
 
-one_request : (r : Option Request) (files : Files) → HasOneStatus (OnRequest r files)
-one_request None files = one_outcome _
-one_request (Some help) files = one_outcome _
-one_request (Some version) files = one_outcome _
-one_request (Some (info mesh)) files = one_end (Reads mesh files) OnInfoText (one_result (within_text (bytes_of files mesh)))
+-- ---- what is found on a surface that is made
+
+abbrev text_in : Outcome → List ℕ
+text_in (answers s t) = t
+text_in (refuses s l) = l
+text_in misses = []
+
+one_loops_total : (mesh : Mesh) (lengths : List ℕ) (n m : ℕ) → IsSurface mesh → ArePositive mesh lengths → LoopsTotal mesh lengths n →
+    LoopsTotal mesh lengths m → n ≡ m
+one_loops_total mesh lengths n m surface long x y =
+    x.is ∙ ap total_size (loops_are_one mesh lengths 0 x.trees y.trees surface long x.chosen y.chosen) ∙ sym y.is
+
+one_basis_total : (mesh : Mesh) (lengths : List ℕ) (n m : ℕ) → IsSurface mesh → ArePositive mesh lengths → BasisTotals mesh lengths n →
+    BasisTotals mesh lengths m → n ≡ m
+one_basis_total mesh lengths n m surface long x y =
+    x.is ∙ ap total_size (bases_are_one mesh lengths x.trees y.trees surface long x.chosen y.chosen x.basis y.basis x.is_basis y.is_basis) ∙ sym y.is
+
+one_cycle_measure : (mesh : Mesh) (lengths : List ℕ) (n m : ℕ) → IsSurface mesh → ArePositive mesh lengths → CycleMeasures mesh lengths n →
+    CycleMeasures mesh lengths m → n ≡ m
+one_cycle_measure mesh lengths n m surface long x y =
+    x.is
+    ∙ ap (λ (c : Loop). walk_length mesh lengths c.walk)
+    (firsts_are_one mesh lengths x.trees y.trees surface long x.chosen y.chosen x.first y.first x.rest y.rest x.is_first y.is_first)
+    ∙ sym y.is
+
+one_summary : (mesh : Mesh) (lengths : List ℕ) → IsSurface mesh → ArePositive mesh lengths → HasOneOutcome (GivesSummary mesh lengths)
+one_summary mesh lengths surface long o p x y =
+    let facts : x.facts ≡ y.facts = ap text_in (one_info mesh (answers 0 x.facts) (answers 0 y.facts) x.informs y.informs) in
+    x.text
+    ∙ ap (λ (t : List ℕ). answers 0 (t ++ measures_text x.loops x.basis x.cycle)) facts
+    ∙ ap (λ n. answers 0 (y.facts ++ measures_text n x.basis x.cycle)) (one_loops_total mesh lengths x.loops y.loops surface long x.loops_total y.loops_total)
+    ∙ ap (λ n. answers 0 (y.facts ++ measures_text y.loops n x.cycle)) (one_basis_total mesh lengths x.basis y.basis surface long x.basis_totals y.basis_totals)
+    ∙ ap (λ n. answers 0 (y.facts ++ measures_text y.loops y.basis n)) (one_cycle_measure mesh lengths x.cycle y.cycle surface long x.cycle_measures y.cycle_measures)
+    ∙ sym y.text
+
+one_request : (r : Option Request) (files : Files) → IsWellShaped r → HasOneOutcome (OnRequest r files)
+one_request None files shaped = one_outcome _
+one_request (Some help) files shaped = one_outcome _
+one_request (Some version) files shaped = one_outcome _
+one_request (Some (info mesh)) files shaped = one_end (Reads mesh files) OnInfoText (one_result (within_text (bytes_of files mesh)))
     (λ bytes _. one_end (IsSurfaceText bytes) (λ read. Informs read.1) (one_surface_text bytes) (λ read _. one_info read.1))
-one_request (Some (disc mesh)) files = one_end (Reads mesh files) OnDiscText (one_result (within_text (bytes_of files mesh)))
+one_request (Some (disc mesh)) files shaped = one_end (Reads mesh files) OnDiscText (one_result (within_text (bytes_of files mesh)))
     (λ bytes _. one_end (IsMeshText bytes) (λ read. JudgesDisc read.1) (one_mesh_text bytes) (λ read _. one_judgement read.1))
-one_request (Some (cycles task mesh word)) files = one_end (Reads mesh files) (λ bytes. OnMeshText task bytes word files)
+one_request (Some (cycles task mesh word)) files shaped = one_end (Reads mesh files) (λ bytes. OnMeshText task bytes word files)
     (one_result (within_text (bytes_of files mesh))) (λ bytes _. one_cycles task bytes word files)
-one_request (Some (weighted task mesh word base)) files = one_end (Reads mesh files) (λ bytes. OnText task bytes word base files)
+one_request (Some (weighted task mesh word base)) files shaped = one_end (Reads mesh files) (λ bytes. OnText task bytes word base files)
     (one_result (within_text (bytes_of files mesh))) (λ bytes _. one_text task bytes word base files)
-one_request (Some (makes shape)) files = one_end (IsMade shape) GivesMesh (one_result (made (mesh_of shape)))
-    (λ mesh _ o p x y. says_same (soup_text mesh (edge_count mesh)) (soup_text mesh (edge_count mesh)) o p refl x y)
-one_request (Some (tries shape scatter)) files = one_end (IsTried shape) (λ mesh. GivesSummary mesh (made_values mesh scatter))
-    (one_result (then_searched (made (mesh_of shape)))) (λ mesh _ o p x y. ap status_of x.text ∙ sym (ap status_of y.text))
-one_request (Some (checks mesh word cert)) files = one_end (Reads mesh files) (λ bytes. OnCheckedText bytes word cert files)
+one_request (Some (makes shape)) files shaped = one_end (IsMade shape) GivesMesh (one_result (made (mesh_of shape)))
+    (λ mesh _ o p x y. says_same (soup_text mesh (edge_count mesh)) (soup_text mesh (edge_count mesh)) o p refl x.says y.says)
+one_request (Some (tries shape scatter)) files shaped = one_end (IsTried shape) (λ mesh. GivesSummary mesh (made_values mesh scatter))
+    (one_result (then_searched (made (mesh_of shape)))) (λ mesh is. one_summary mesh (made_values mesh scatter) (tried_is_surface shape mesh shaped is) (made_are_positive mesh scatter))
+one_request (Some (checks mesh word cert)) files shaped = one_end (Reads mesh files) (λ bytes. OnCheckedText bytes word cert files)
     (one_result (within_text (bytes_of files mesh))) (λ bytes _. one_check bytes word cert files)
-one_request (Some (measures mesh decimals)) files = one_end (Reads mesh files) (OnLengthsText decimals) (one_result (within_text (bytes_of files mesh)))
+one_request (Some (measures mesh decimals)) files shaped = one_end (Reads mesh files) (OnLengthsText decimals) (one_result (within_text (bytes_of files mesh)))
     (λ bytes _. one_end (IsSurfaceText bytes) (OnCoordinates decimals) (one_surface_text bytes) (λ read _. one_measure decimals read))
-one_request (Some (sews mesh)) files = one_end (Reads mesh files) OnSewText (one_result (within_text (bytes_of files mesh)))
+one_request (Some (sews mesh)) files shaped = one_end (Reads mesh files) OnSewText (one_result (within_text (bytes_of files mesh)))
     (λ bytes _. one_end (IsMeshText bytes) (OnCopies bytes) (one_mesh_text bytes) (λ read _. one_copies bytes read))
-one_request (Some (classes mesh walk)) files = one_end (Reads mesh files) (λ bytes. OnClassText walk bytes files)
+one_request (Some (classes mesh walk)) files shaped = one_end (Reads mesh files) (λ bytes. OnClassText walk bytes files)
     (one_result (within_text (bytes_of files mesh))) (λ bytes _. one_class_text walk bytes files)
-one_request (Some (compares mesh first second)) files = one_end (Reads mesh files) (λ bytes. OnSameText first second bytes files)
+one_request (Some (compares mesh first second)) files shaped = one_end (Reads mesh files) (λ bytes. OnSameText first second bytes files)
     (one_result (within_text (bytes_of files mesh))) (λ bytes _. one_same_text first second bytes files)
-one_request (Some (confirms mesh walk cert)) files = one_end (Reads mesh files) (λ bytes. OnConfirmText walk cert bytes files)
+one_request (Some (confirms mesh walk cert)) files shaped = one_end (Reads mesh files) (λ bytes. OnConfirmText walk cert bytes files)
     (one_result (within_text (bytes_of files mesh))) (λ bytes _. one_confirm_text walk cert bytes files)
-one_request (Some (tightens mesh word walk)) files = one_end (Reads mesh files) (λ bytes. OnTightText word walk bytes files)
+one_request (Some (tightens mesh word walk)) files shaped = one_end (Reads mesh files) (λ bytes. OnTightText word walk bytes files)
     (one_result (within_text (bytes_of files mesh))) (λ bytes _. one_end (IsFewLoopedText true bytes) (λ read. OnCovered word walk read.1 files)
     (one_looped_text true bytes) (λ read is. one_covered word walk read.1 files is.0.1))
 
 module _ (words : List (List ℕ)) (files : Files) where
-  pub one_lead : HasOneStatus (Leads words files)
+  pub one_lead : HasOneOutcome (Leads words files)
   unfolding Leads
-  one_lead = one_request (request_of words) files
+  one_lead = one_request (request_of words) files (words_are_well_shaped words)
 
   shown : (o : Outcome) (status : ℕ) (text line : List ℕ) → Shows o status text line → status ≡ status_of o
   shown (answers s t) status text line shows = shows.0
   shown (refuses s l) status text line shows = shows.0
   shown misses status text line shows = absurd shows
 
-  pub one_status : (s t : ℕ) (text line other_text other_line : List ℕ) → Answer words files s text line → Answer words files t other_text other_line → s ≡ t
-  one_status s t text line other_text other_line a b =
-      shown a.0 s text line a.2 ∙ one_lead a.0 b.0 a.1 b.1 ∙ sym (shown b.0 t other_text other_line b.2)
+  -- an outcome shows one status, text and line
+  shows_one : (o : Outcome) (s t : ℕ) (text line other_text other_line : List ℕ) → Shows o s text line → Shows o t other_text other_line →
+      (s ≡ t) × (text ≡ other_text) × (line ≡ other_line)
+  shows_one (answers d x) s t text line other_text other_line a b = (a.0 ∙ sym b.0, a.1 ∙ sym b.1, a.2 ∙ sym b.2)
+  shows_one (refuses d x) s t text line other_text other_line a b = (a.0 ∙ sym b.0, a.1 ∙ sym b.1, a.2 ∙ sym b.2)
+  shows_one misses s t text line other_text other_line a b = absurd a
+
+  pub one_answer : (s t : ℕ) (text line other_text other_line : List ℕ) → Answer words files s text line → Answer words files t other_text other_line →
+      (s ≡ t) × (text ≡ other_text) × (line ≡ other_line)
+  one_answer s t text line other_text other_line a b =
+      shows_one b.0 s t text line other_text other_line (subst (λ (o : Outcome). Shows o s text line) (one_lead a.0 b.0 a.1 b.1) a.2) b.2
+
+  one_status : (s t : ℕ) (text line other_text other_line : List ℕ) → Answer words files s text line → Answer words files t other_text other_line → s ≡ t
+  one_status s t text line other_text other_line a b = (one_answer s t text line other_text other_line a b).0
 
   -- where nothing failed, what is due is the status, unless memory ran out
   pub completes : (result due : ℕ) (text line : List ℕ) → Answer words files due text line →
@@ -447,9 +505,17 @@ module _ (words : List (List ℕ)) (files : Files) where
       | inr ge ↦ elim (cases_lt 11 result) [
         | inl gt ↦ let a = refused (high, inr gt) in inl (one_status result due [] a.0 text line a.1 is)
         | inr few ↦ elim (cases_eq result 9) [
-          | inl nine ↦ inl (nine ∙ one_lead misses is.0 (unread nine) is.1 ∙ sym (shown is.0 due text line is.2))
+          | inl nine ↦ inl (nine ∙ ap status_of (one_lead misses is.0 (unread nine) is.1) ∙ sym (shown is.0 due text line is.2))
           | inr ne ↦ inr (omega (arith, write, ne, few, ge))
         ]
       ]
     ]
   ]
+
+-- ---- the law
+
+pub outcomes_are_one : OutcomesAreOne
+outcomes_are_one words files o p x y = one_lead words files o p x y
+
+pub answers_are_one : AnswersAreOne
+answers_are_one words files s t text line other_text other_line a b = one_answer words files s t text line other_text other_line a b

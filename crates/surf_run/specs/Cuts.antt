@@ -5,7 +5,7 @@ use Rattle.surf_surfaces.specs.Disc.{IsOpening}
 use Rattle.surf_surfaces.specs.Mesh.{Mesh}
 use Rattle.surf_surfaces.specs.Surface.{edge_count}
 use Rattle.surf_off.specs.Off.{OffParts}
-use Rattle.surf_off.specs.Written.{opened_text}
+use Rattle.surf_off.specs.Written.{opened_text, RereadsOpened}
 use Rattle.surf_opening.specs.ChosenCut.{IsChosenOpening}
 use Rattle.surf_run.specs.Outcome.{Outcome}
 use Rattle.surf_run.specs.Says.{Says}
@@ -30,9 +30,11 @@ pub record IsCutAt (mesh : Mesh) (lengths : List ℕ) (base : ℕ) (trim : Bool)
 abbrev pub cut_text : OffParts → List ℕ → List (List ℕ) → List ℕ
 cut_text parts origins faces = opened_text parts origins faces (edge_count (record { vertices = length origins; faces = faces }))
 
--- The surface is cut open at the base, and the text of the disc is the answer.
+-- The surface is cut open at the base, and the text of the disc is the answer. Read again without limits, it has the
+-- keyword and the colours that were read, the line of each copy's vertex, and the faces over the copies.
 pub record GivesCut (trim : Bool) (parts : OffParts) (mesh : Mesh) (lengths : List ℕ) (base : ℕ) (outcome : Outcome) : Type 0 where
   pub origins : List ℕ
   pub faces : List (List ℕ)
   pub is_cut : IsCutAt mesh lengths base trim origins faces
   pub says : Says (cut_text parts origins faces) outcome
+  pub rereads : RereadsOpened parts origins faces (edge_count (record { vertices = length origins; faces = faces }))

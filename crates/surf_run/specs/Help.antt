@@ -1,9 +1,46 @@
 -- The fixed texts.
-use Rattle.std.specs.Prelude.{ℕ, List, codes}
+use Rattle.std.specs.Prelude.{ℕ, List, ◌++◌, codes}
 
 abbrev pub version_text : List ℕ
 version_text = codes "surf 0.1.0\n"
 
--- how the program is called
+-- how the program is called, line by line
 abbrev pub help_text : List ℕ
-help_text = codes "usage: surf info M\n       surf dist M L x\n       surf loops M L x\n       surf basis M L\n       surf cycle M L\n       surf cut M L x full | trim\n       surf sew M\n       surf certify M L x\n       surf certify M L\n       surf check M L C\n       surf disc M\n       surf class M W\n       surf same M W W2\n       surf confirm M W C\n       surf shortest M L W\n       surf lengths M k\n       surf gen torus a b\n       surf gen chain g a b\n       surf try torus a b s\n       surf try chain g a b s\n       surf --help | --version\nM is an OFF mesh, L a length file or the word unit, x a vertex, C a certificate or evidence.\nW and W2 are files of a closed walk: its vertices on a line, the first at the end again.\nk is from 0 to 9, for lengths in units of 10^-k from coordinates.\na and b are rows and columns of squares, g tori, s any number.\n"
+help_text =
+    codes "surf: shortest loops, least bases and cuts of closed surface meshes\n"
+    ++ codes "\n"
+    ++ codes "usage: surf info M             counts, Euler characteristic, genus or crosscaps\n"
+    ++ codes "       surf dist M L x         the distance of each vertex from vertex x\n"
+    ++ codes "       surf loops M L x        a shortest system of independent loops at vertex x\n"
+    ++ codes "       surf basis M L          a shortest basis: independent cycles of least total length\n"
+    ++ codes "       surf cycle M L          a shortest cycle that doesn't separate the surface\n"
+    ++ codes "       surf cut M L x full     the mesh cut into one disc\n"
+    ++ codes "       surf cut M L x trim     the same with the cut's loose ends left uncut\n"
+    ++ codes "       surf sew M              the mesh that was cut, from what cut wrote\n"
+    ++ codes "       surf disc M             whether a mesh is a disc\n"
+    ++ codes "       surf class M W          whether a closed walk is a boundary, with evidence\n"
+    ++ codes "       surf same M W W2        whether two closed walks go round the same way\n"
+    ++ codes "       surf confirm M W C      whether the evidence that class wrote is right\n"
+    ++ codes "       surf shortest M L W     a shortest closed walk that goes round as W does\n"
+    ++ codes "       surf certify M L x      a certificate of loops at vertex x\n"
+    ++ codes "       surf certify M L        a certificate of a basis\n"
+    ++ codes "       surf check M L C        whether a certificate is valid, and its total\n"
+    ++ codes "       surf lengths M k        the lengths of the edges from coordinates, in units of 10^-k\n"
+    ++ codes "       surf gen torus a b      a torus of a by b squares\n"
+    ++ codes "       surf gen chain g a b    a chain of g such tori\n"
+    ++ codes "       surf try torus a b s    a summary of a torus with lengths scattered by s\n"
+    ++ codes "       surf try chain g a b s  the same of a chain\n"
+    ++ codes "       surf --help | --version\n"
+    ++ codes "\n"
+    ++ codes "files: M  a mesh in OFF, one vertex or face a line\n"
+    ++ codes "       L  the word unit, or a file with a line u v n for each edge: its ends and its length\n"
+    ++ codes "       C  what certify or class wrote\n"
+    ++ codes "       W  a closed walk: its vertices on one line, the first at the end again\n"
+    ++ codes "numbers: x a vertex from 0; k from 0 to 9; lengths whole, from 1 to 4294967295\n"
+    ++ codes "\n"
+    ++ codes "status: 0 done, 1 no, 2 words, 3 mesh text, 4 no surface, 5 lengths, 6 limit, 7 vertex,\n"
+    ++ codes "        8 certificate or evidence text, 9 file, 10 output, 11 memory, 12 coordinates,\n"
+    ++ codes "        13 walk, 14 copies; from 2 on with a line on standard error\n"
+    ++ codes "limits: 1000000 vertices, 2000000 faces, 1024 loops; 20000 vertices for basis and cycle\n"
+    ++ codes "example: surf lengths eight.off 6 > eight.len; surf basis eight.off eight.len\n"
+    ++ codes "manual: docs/guide.md of the repository\n"

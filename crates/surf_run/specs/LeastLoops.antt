@@ -7,8 +7,9 @@ use Rattle.surf_print.specs.LoopTexts.{loops_text}
 use Rattle.surf_run.specs.Outcome.{Outcome}
 use Rattle.surf_run.specs.Says.{Says}
 
--- The loops that are chosen at the base. They are a least loop system there, each with its length, in their order: 2 − χ closed walks at the
--- base, independent, and no such walks total less.
+-- The loops that are chosen at the base. They are a least loop system there, each with its length, in their order:
+-- 2 − χ closed walks at the base, independent, and no independent closed walks there are shorter, in total and place by
+-- place.
 pub record GivesLoops (mesh : Mesh) (lengths : List ℕ) (base : ℕ) (outcome : Outcome) : Type 0 where
   pub trees : Trees
   pub chosen : AreChosenAt mesh lengths base trees

@@ -43,3 +43,4 @@ pub mod Verdicts
 pub mod Checking
 pub mod Named
 pub mod TwoRuns
+pub mod OneAnswer

@@ -3,7 +3,7 @@ use Rattle.std.specs.Prelude.{◌≡◌, nat_lt, if◌then◌else◌, Result, Ok
 use Rattle.surf_base.specs.declared.limits.LimitKind.TheVariants.{Vertices, Faces}
 use Rattle.surf_surfaces.specs.Mesh.{Mesh}
 use Rattle.surf_surfaces.specs.Surface.{face_count, edge_count}
-use Rattle.surf_off.specs.Written.{soup_text}
+use Rattle.surf_off.specs.Written.{soup_text, RereadsSoup}
 use Rattle.surf_run.specs.Limits.{beyond}
 use Rattle.surf_run.specs.Outcome.{Outcome}
 use Rattle.surf_run.specs.Says.{Says}
@@ -20,9 +20,10 @@ made mesh =
 abbrev pub IsMade : Shape → Result Mesh Outcome → Type 0
 IsMade shape result = result ≡ made (mesh_of shape)
 
--- the text of the mesh is the answer
-abbrev pub GivesMesh : Mesh → Outcome → Type 0
-GivesMesh mesh outcome = Says (soup_text mesh (edge_count mesh)) outcome
+-- The text of the mesh is the answer. Read again without limits, it is that mesh.
+pub record GivesMesh (mesh : Mesh) (outcome : Outcome) : Type 0 where
+  pub says : Says (soup_text mesh (edge_count mesh)) outcome
+  pub rereads : RereadsSoup mesh (edge_count mesh)
 
 -- `gen`
 abbrev pub OnGen : Shape → Outcome → Type 0

@@ -1,10 +1,12 @@
 -- What a run leaves of its sinks.
-use Rattle.std.specs.Prelude.{◌≡◌, ◌<◌, ◌≤◌, ◌⊎◌, ℕ, List, [], Option, Some, None, IfSome, codes}
+use Rattle.std.specs.Prelude.{◌≡◌, ◌<◌, ◌≤◌, ◌⊎◌, ℕ, false, List, [], ◌++◌, Option, Some, None, codes}
+use Rattle.std.specs.List.{list_any}
 use Rattle.surf_base.specs.Outside.{Files, HasRisen, GrowsBy}
 use Rattle.surf_base.specs.Transfer.{GrowsByShorter}
+use Rattle.surf_text.specs.Text.{is_line_end}
 use Rattle.surf_run.specs.Cause.{Cause, line_of, status_of_cause}
 use Rattle.surf_run.specs.Leads.{Answer}
-use Rattle.surf_run.specs.Words.{Request, help, version, info, disc, cycles, weighted, makes, tries, checks, measures, sews, classes, compares, confirms, tightens}
+use Rattle.surf_run.specs.Words.{Request, help, version, info, disc, cycles, weighted, makes, tries, checks, measures, sews, classes, compares, confirms, tightens, request_of}
 
 -- The words are a row of the command table that names a file.
 abbrev pub NamesFile : Option Request → Type 0
@@ -25,6 +27,10 @@ NamesFile (Some (compares mesh first second)) = Unit {0}
 NamesFile (Some (confirms mesh walk cert)) = Unit {0}
 NamesFile (Some (tightens mesh lengths walk)) = Unit {0}
 
+-- The shelf tells that it holds these files; or the request names no file, and then these may be any.
+abbrev pub AreTheFiles : Option Request → Option Files → Files → Type 0
+AreTheFiles request holds files = (holds ≡ Some files) ⊎ (NamesFile request → ⊥)
+
 -- The whole text of an answer with status 0 or 1 was written.
 abbrev pub WritesAnswer : List (List ℕ) → ℕ → Option (List ℕ) → Option (List ℕ) → Files → Type 0
 WritesAnswer words status old new files = (text : List ℕ) × Answer words files status text [] × GrowsBy old new text
@@ -41,12 +47,19 @@ PutsLine old new faults_old faults_new line = GrowsBy old new line ⊎ (HasRisen
 abbrev pub IsDecided : ℕ → Type 0
 IsDecided status = (1 < status) × ((status < 9) ⊎ (11 < status))
 
--- The line of a status above 1. Where the words and the files decide, they give it, wherever it is told what is held.
+-- A line feed ends the line, and it has no other.
+pub record IsOneLine (line : List ℕ) : Type 0 where
+  pub front : List ℕ
+  pub is : line ≡ front ++ codes "\n"
+  pub no_other : list_any is_line_end front ≡ false
+
+-- The line of a status above 1. Where the words and the files decide, they give it.
 pub record IsLineOf (words : List (List ℕ)) (holds : Option Files) (status : ℕ) (line : List ℕ) : Type 0 where
-  pub related : IsDecided status → IfSome holds (λ files. Answer words files status [] line)
+  pub related : IsDecided status → (files : Files) → AreTheFiles (request_of words) holds files → Answer words files status [] line
   pub read : status ≡ 9 → line ≡ codes "read fault\n"
   pub write : status ≡ 10 → line ≡ codes "write fault\n"
   pub memory : status ≡ 11 → line ≡ codes "memory\n"
+  pub one : IsOneLine line
 
 -- The status and the line of a cause, or those of want of memory.
 abbrev pub Refuses : Cause → ℕ → Option (List ℕ) → Option (List ℕ) → ℕ → ℕ → Type 0

@@ -4,12 +4,13 @@ use Rattle.surf_surfaces.specs.Mesh.{Mesh}
 use Rattle.surf_surfaces.specs.Walk.{walk_length}
 use Rattle.surf_surfaces.specs.Cycle.{IsSimpleCycle, Separation, IsShortestNonseparating}
 use Rattle.surf_surfaces.specs.Choice.{Trees, AreChosen, Loop, candidates}
+use Rattle.surf_surfaces.specs.Places.{IsShortestNotNull}
 use Rattle.surf_print.specs.CycleTexts.{cycle_line}
 use Rattle.surf_run.specs.Outcome.{Outcome}
 use Rattle.surf_run.specs.Says.{Says}
 
 -- The first candidate for the basis, with its length: a simple cycle that doesn't separate the surface, and no such
--- cycle is shorter.
+-- cycle is shorter. Nor is any closed walk that isn't null.
 pub record GivesShortest (mesh : Mesh) (lengths : List ℕ) (outcome : Outcome) : Type 0 where
   pub trees : ℕ → Trees
   pub chosen : AreChosen mesh lengths trees
@@ -17,6 +18,7 @@ pub record GivesShortest (mesh : Mesh) (lengths : List ℕ) (outcome : Outcome) 
   pub rest : List Loop
   pub is_first : candidates mesh lengths trees ≡ first ∷ rest
   pub shortest : IsShortestNonseparating mesh lengths first.walk
+  pub not_null : IsShortestNotNull mesh lengths first.walk
   pub size : walk_length mesh lengths first.walk ≡ first.size
   pub says : Says (cycle_line first.size first.walk) outcome
 

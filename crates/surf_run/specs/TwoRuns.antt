@@ -1,9 +1,11 @@
--- What `certify` writes passes `check`, and what `class` writes is confirmed.
-use Rattle.std.specs.Prelude.{◌≡◌, ℕ, ◌≤◌, List, [], ◌∷◌, length, Some, codes}
+-- What `certify` writes passes `check`, what `class` writes is confirmed, and what `cut` writes is sewn.
+use Rattle.std.specs.Prelude.{◌≡◌, ℕ, ◌≤◌, List, [], ◌∷◌, length, Some, Ok, codes}
 use Rattle.surf_base.specs.Outside.{Files, bytes_of}
 use Rattle.surf_class.specs.Texts.{evidence_text}
 use Rattle.surf_classes.specs.Evidence.{Evidence}
+use Rattle.surf_off.specs.Off.{OffParts, off_of, off_without_limits}
 use Rattle.surf_surfaces.specs.Choice.{Loop}
+use Rattle.surf_surfaces.specs.Mesh.{Mesh}
 use Rattle.surf_print.specs.CycleTexts.{cycles_text}
 use Rattle.surf_print.specs.LoopTexts.{loops_text}
 use Rattle.surf_run.specs.Confirming.{right_line}
@@ -18,40 +20,65 @@ use Rattle.surf_run.specs.Verdicts.{loops_line, basis_line}
 abbrev pub LoopsPass : Files → List ℕ → List ℕ → List ℕ → List ℕ → Type 0
 LoopsPass files mesh lengths base cert =
     (loops : List Loop)
-    × ((outcome : Outcome) → Says (loops_text loops) outcome → Leads (codes "loops" ∷ mesh ∷ lengths ∷ base ∷ []) files outcome)
+    × ((outcome : Outcome) → Says (loops_text loops) outcome →
+    Leads (codes "loops" ∷ mesh ∷ lengths ∷ base ∷ []) files outcome)
     × Answer (codes "check" ∷ mesh ∷ lengths ∷ cert ∷ []) files 0 (loops_line (total_size loops)) []
 
 -- So it is, over files that have the same mesh and lengths, where the file holds what `certify` answered of them at the
--- base, and isn't too long to be read.
+-- base.
 abbrev pub CertifiedLoopsPass : Type 0
 CertifiedLoopsPass =
     (files later : Files) (mesh lengths base cert text : List ℕ) →
     Answer (codes "certify" ∷ mesh ∷ lengths ∷ base ∷ []) files 0 text [] →
-    AgreeOn (mesh ∷ length_file lengths) files later → bytes_of later cert ≡ Some text → length text ≤ 268435456 →
+    AgreeOn (mesh ∷ length_file lengths) files later → bytes_of later cert ≡ Some text →
     LoopsPass later mesh lengths base cert
 
 -- `check` of a file answers that its certificate of a basis is valid, with the total of the cycles that `basis` says.
 abbrev pub BasisPasses : Files → List ℕ → List ℕ → List ℕ → Type 0
 BasisPasses files mesh lengths cert =
     (basis : List Loop)
-    × ((outcome : Outcome) → Says (cycles_text basis) outcome → Leads (codes "basis" ∷ mesh ∷ lengths ∷ []) files outcome)
+    × ((outcome : Outcome) → Says (cycles_text basis) outcome →
+    Leads (codes "basis" ∷ mesh ∷ lengths ∷ []) files outcome)
     × Answer (codes "check" ∷ mesh ∷ lengths ∷ cert ∷ []) files 0 (basis_line (total_size basis)) []
 
--- So it is, over files that have the same mesh and lengths, where the file holds what `certify` answered of them, and
--- isn't too long to be read.
+-- So it is, over files that have the same mesh and lengths, where the file holds what `certify` answered of them.
 abbrev pub CertifiedBasesPass : Type 0
 CertifiedBasesPass =
     (files later : Files) (mesh lengths cert text : List ℕ) →
     Answer (codes "certify" ∷ mesh ∷ lengths ∷ []) files 0 text [] →
-    AgreeOn (mesh ∷ length_file lengths) files later → bytes_of later cert ≡ Some text → length text ≤ 268435456 →
+    AgreeOn (mesh ∷ length_file lengths) files later → bytes_of later cert ≡ Some text →
     BasisPasses later mesh lengths cert
 
--- `confirm` of a file says that its evidence is right, over files that have the same mesh and walk, where the file holds
--- what `class` answered of them, and isn't too long to be read.
+-- `confirm` of a file says that its evidence is right, over files that have the same mesh and walk, where the file
+-- holds what `class` answered of them.
 abbrev pub ClassesAreConfirmed : Type 0
 ClassesAreConfirmed =
     (files later : Files) (mesh walk cert text : List ℕ) →
     Answer (codes "class" ∷ mesh ∷ walk ∷ []) files 0 text [] →
-    AgreeOn (mesh ∷ walk ∷ []) files later → bytes_of later cert ≡ Some text → length text ≤ 268435456 →
+    AgreeOn (mesh ∷ walk ∷ []) files later → bytes_of later cert ≡ Some text →
     (evidence : Evidence) × (text ≡ evidence_text (codes "null") (codes "odd") evidence)
     × Answer (codes "confirm" ∷ mesh ∷ walk ∷ cert ∷ []) later 0 (right_line evidence) []
+
+-- The text isn't too long to be read, and has no more vertices than may be read.
+pub record CanBeRead (text : List ℕ) : Type 0 where
+  pub short : length text ≤ 268435456
+  pub few : (read : OffParts × Mesh) → off_without_limits text ≡ Ok read → read.1.vertices ≤ 1000000
+
+-- `sew` of a file answers a text that is read as the file of a mesh is: with its keyword, its vertex lines, its faces
+-- and its colours.
+pub record IsSewnBack (files : Files) (mesh : List ℕ) (later : Files) (disc : List ℕ) : Type 0 where
+  pub bytes : List ℕ
+  pub held : bytes_of files mesh ≡ Some bytes
+  pub read : OffParts × Mesh
+  pub is_read : off_of bytes ≡ Ok read
+  pub text : List ℕ
+  pub sews : Answer (codes "sew" ∷ disc ∷ []) later 0 text []
+  pub reads_so : off_of text ≡ Ok read
+
+-- So it is, where the file holds what `cut`, full or trimmed, answered of the mesh with any lengths at any base, if
+-- that can be read.
+abbrev pub CutsAreSewn : Type 0
+CutsAreSewn =
+    (files later : Files) (mesh lengths base kind disc text : List ℕ) →
+    Answer (codes "cut" ∷ mesh ∷ lengths ∷ base ∷ kind ∷ []) files 0 text [] → bytes_of later disc ≡ Some text →
+    CanBeRead text → IsSewnBack files mesh later disc

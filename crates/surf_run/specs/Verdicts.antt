@@ -2,6 +2,7 @@
 use Rattle.std.specs.Prelude.{◌≡◌, ◌≢◌, ◌⊎◌, ℕ, List, [], ◌∷◌, ◌++◌, codes, decimal}
 use Rattle.surf_surfaces.specs.Mesh.{Mesh}
 use Rattle.surf_surfaces.specs.Homology.{total, IsLeastLoopSystem, IsLeastBasis}
+use Rattle.surf_surfaces.specs.Places.{IsLeastLoopSystemInOrder, IsLeastBasisInOrder, MeasureShortest}
 use Rattle.surf_cert.specs.declared.cert.Cert.{Cert}
 use Rattle.surf_cert.specs.declared.cert.Cert.TheVariants.{Loops, Basis}
 use Rattle.surf_certcheck.specs.BasisFaults.{IsBasisFault}
@@ -48,16 +49,20 @@ loops_line total = codes "valid loops " ++ (decimal total ++ codes "\n")
 abbrev pub basis_line : ℕ → List ℕ
 basis_line total = codes "valid basis " ++ (decimal total ++ codes "\n")
 
--- The certificate is valid: its loops are a least loop system at its base.
+-- The certificate is valid: its loops are a least loop system at its base, in total and place by place.
 pub record SaysLoops (mesh : Mesh) (lengths : List ℕ) (cert : LoopCert) (outcome : Outcome) : Type 0 where
   pub valid : IsValidLoops mesh lengths cert
   pub least : IsLeastLoopSystem mesh lengths cert.tree.base (loops_of mesh cert)
+  pub least_in_order : IsLeastLoopSystemInOrder mesh lengths cert.tree.base (loops_of mesh cert)
   pub text : outcome ≡ answers 0 (loops_line (total mesh lengths (loops_of mesh cert)))
 
--- The certificate is valid: its cycles are a least basis.
+-- The certificate is valid: its cycles are a least basis, in total and place by place. The least of their lengths is
+-- that of each shortest cycle that doesn't separate the surface.
 pub record SaysBasis (mesh : Mesh) (lengths : List ℕ) (cert : BasisCert) (outcome : Outcome) : Type 0 where
   pub valid : IsValidBasis mesh lengths cert
   pub least : IsLeastBasis mesh lengths cert.cycles
+  pub least_in_order : IsLeastBasisInOrder mesh lengths cert.cycles
+  pub shortest : MeasureShortest mesh lengths cert.cycles
   pub text : outcome ≡ answers 0 (basis_line (total mesh lengths cert.cycles))
 
 -- It isn't, for its first fault.

@@ -2,6 +2,7 @@
 ghost use Rattle.std.specs.Prelude.{◌≡◌, ◌<◌, All, length, IfOk};
 ghost use Rattle.surf_surfaces.specs.Surface.{edge_count, face_count};
 ghost use Rattle.surf_cutter.specs.Opened.{IsHeld, IsChosenFor};
+ghost use Rattle.surf_off.specs.Written.{RereadsOpened};
 ghost use Rattle.surf_run.specs.Cuts.{GivesCut, IsCutAt, cut_text, is_trimmed};
 ghost use Rattle.surf_run.specs.Tells.{Concludes};
 ghost use Rattle.surf_text.specs.Pages.{Puts};
@@ -91,7 +92,8 @@ fn opened_outside(
 fn put_opened(page: &mut Page, text: &OffText<'_>, opened: &Opened) -> Result<(), PageFault>
     requires lines { All (λ v. v < length text.now.vertex_lines) opened.now.origins }
     requires colours { length opened.now.faces ≡ length text.now.colours }
-    ensures { Puts page.old page.new (cut_text text.now opened.now.origins opened.now.faces) result }
+    ensures puts { Puts page.old page.new (cut_text text.now opened.now.origins opened.now.faces) result }
+    ensures reread { RereadsOpened text.now opened.now.origins opened.now.faces (edge_count (record { vertices = length opened.now.origins; faces = opened.now.faces })) }
 {
     write_off(
         page,

@@ -1,9 +1,10 @@
 //! What each command answers.
-ghost use Rattle.std.specs.Prelude.{◌≡◌, ◌≤◌, Some, IsErrOf};
+ghost use Rattle.std.specs.Prelude.{◌≡◌, ◌≤◌, ◌⊎◌, Some, IsErrOf};
+ghost use Rattle.surf_base.specs.Outside.{Files};
 ghost use Rattle.surf_run.specs.Leads.{OnRequest};
 ghost use Rattle.surf_run.specs.Run.{NamesFile};
 ghost use Rattle.surf_run.specs.Seen.{request};
-ghost use Rattle.surf_run.specs.Tells.{ConcludesOver};
+ghost use Rattle.surf_run.specs.Tells.{Concludes, ConcludesOver};
 
 use crate::answered::{Answered, help, version};
 use crate::check_command::checked;
@@ -29,6 +30,8 @@ pub fn answer<S: Shelf>(alloc: Global, command: Command, shelf: &mut S) -> Resul
     ensures later { S.faults shelf.old ≤ S.faults shelf.new }
     ensures tells { ConcludesOver (S.holds shelf.old) (S.faults shelf.old) (S.faults shelf.new) (OnRequest (Some (request command.entry))) result }
     ensures reached { IsErrOf result Refused.Read → NamesFile (Some (request command.entry)) }
+    ensures untouched { NamesFile (Some (request command.entry)) ⊎ (shelf.new ≡ shelf.old) }
+    ensures alone { NamesFile (Some (request command.entry)) ⊎ ((files : Files) → Concludes (OnRequest (Some (request command.entry)) files) result) }
 {
     match command {
         Command::Help => help(alloc),

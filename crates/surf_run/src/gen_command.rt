@@ -1,5 +1,6 @@
 //! The command `gen`.
-ghost use Rattle.std.specs.Prelude.{◌≡◌};
+ghost use Rattle.std.specs.Prelude.{◌≡◌, ◌<◌, ◌^◌};
+ghost use Rattle.surf_surfaces.specs.SideNumber.{side_count};
 ghost use Rattle.surf_surfaces.specs.Surface.{edge_count, IsSurface};
 ghost use Rattle.surf_run.specs.Making.{OnGen, GivesMesh};
 ghost use Rattle.surf_run.specs.Tells.{Concludes};
@@ -24,7 +25,8 @@ pub fn generate(alloc: Global, shape: Shape) -> Result<Answered, Refused>
 // How many edges a surface has: each is two sides.
 fn edges_of(soup: &Soup) -> u32
     requires { IsSurface soup.now }
-    ensures { result ≡ edge_count soup.now }
+    ensures edges { result ≡ edge_count soup.now }
+    ensures few { side_count soup.now < 2 ^ 30 }
 {
     soup.side_count() / 2
 }

@@ -1,10 +1,10 @@
 //! The top call.
-ghost use Rattle.std.specs.Prelude.{◌≡◌, ◌≢◌, ◌⊎◌, ◌↔◌, ◌≤◌, ◌<◌, ℕ, List, [], None, Some, IfSome};
+ghost use Rattle.std.specs.Prelude.{◌≡◌, ◌≢◌, ◌⊎◌, ◌↔◌, ◌≤◌, ◌<◌, ℕ, List, [], None};
 ghost use Rattle.surf_base.specs.Outside.{Files, HasRisen};
 ghost use Rattle.surf_run.specs.Refusals.{cause_of};
 ghost use Rattle.surf_run.specs.Leads.{Answer, Leads};
 ghost use Rattle.surf_run.specs.Outcome.{misses};
-ghost use Rattle.surf_run.specs.Run.{NamesFile, PutsLine, IsLineOf, Refuses, WritesAnswer, WritesFront};
+ghost use Rattle.surf_run.specs.Run.{AreTheFiles, NamesFile, PutsLine, IsLineOf, Refuses, WritesAnswer, WritesFront};
 ghost use Rattle.surf_run.specs.Tells.{IsTold};
 ghost use Rattle.surf_run.specs.Words.{texts, request_of};
 
@@ -14,10 +14,14 @@ use crate::words::parse;
 use std::alloc::Global;
 use surf_base::{Shelf, Sink, put_all};
 
-const USAGE: &str = "usage: the words are in no row of the command table\n";
+/// The line for words that are in no row of the table of commands.
+pub const USAGE: &str = "usage: the words are in no row of the command table\n";
 
-// Says a line, whatever the sink answers.
-fn say<D: Sink>(diag: &mut D, line: &str)
+/// The line for want of memory.
+pub const MEMORY: &str = "memory\n";
+
+/// Says a line, whatever the sink answers.
+pub fn say<D: Sink>(diag: &mut D, line: &str)
     ensures { PutsLine (D.written diag.old) (D.written diag.new) (D.faults diag.old) (D.faults diag.new) line.now }
 {
     let _ = put_all(diag, line.as_bytes());
@@ -33,7 +37,7 @@ fn refuse<D: Sink>(alloc: Global, refused: &Refused, diag: &mut D) -> u8
             refused.status()
         }
         Err(_) => {
-            say(diag, "memory\n");
+            say(diag, MEMORY);
             11
         }
     }
@@ -48,13 +52,16 @@ fn run_words<S: Shelf, O: Sink, D: Sink>(
 ) -> u8
     ensures holds { S.holds shelf.new ≡ S.holds shelf.old }
 
+    // Words that name no file leave the shelf as it was.
+    ensures untouched { ¬ NamesFile (request_of (texts words.now)) → shelf.new ≡ shelf.old }
+
     // The answer is written whole.
-    ensures answered { result ≤ 1 → IfSome (S.holds shelf.old) (WritesAnswer (texts words.now) result (O.written out.old) (O.written out.new)) }
+    ensures answered { result ≤ 1 → (files : Files) → AreTheFiles (request_of (texts words.now)) (S.holds shelf.old) files → WritesAnswer (texts words.now) result (O.written out.old) (O.written out.new) files }
     ensures quiet { result ≤ 1 → D.written diag.new ≡ D.written diag.old }
 
     // Or nothing of it, or a front where the output failed.
     ensures unchanged { 1 < result → result ≢ 10 → O.written out.new ≡ O.written out.old }
-    ensures write { result ≡ 10 → HasRisen (O.faults out.old) (O.faults out.new) × IfSome (S.holds shelf.old) (WritesFront (texts words.now) (O.written out.old) (O.written out.new)) }
+    ensures write { result ≡ 10 → HasRisen (O.faults out.old) (O.faults out.new) × ((files : Files) → AreTheFiles (request_of (texts words.now)) (S.holds shelf.old) files → WritesFront (texts words.now) (O.written out.old) (O.written out.new) files) }
 
     // And then why.
     ensures line { 1 < result → (line : List ℕ) × IsLineOf (texts words.now) (S.holds shelf.old) result line × PutsLine (D.written diag.old) (D.written diag.new) (D.faults diag.old) (D.faults diag.new) line }
@@ -90,13 +97,16 @@ pub fn run<S: Shelf, O: Sink, D: Sink>(
 ) -> u8
     ensures holds { S.holds shelf.new ≡ S.holds shelf.old }
 
+    // Words that name no file leave the shelf as it was.
+    ensures untouched { ¬ NamesFile (request_of (texts words.now)) → shelf.new ≡ shelf.old }
+
     // The answer is written whole.
-    ensures answered { result ≤ 1 → IfSome (S.holds shelf.old) (WritesAnswer (texts words.now) result (O.written out.old) (O.written out.new)) }
+    ensures answered { result ≤ 1 → (files : Files) → AreTheFiles (request_of (texts words.now)) (S.holds shelf.old) files → WritesAnswer (texts words.now) result (O.written out.old) (O.written out.new) files }
     ensures quiet { result ≤ 1 → D.written diag.new ≡ D.written diag.old }
 
     // Or nothing of it, or a front where the output failed.
     ensures unchanged { 1 < result → result ≢ 10 → O.written out.new ≡ O.written out.old }
-    ensures write { result ≡ 10 → HasRisen (O.faults out.old) (O.faults out.new) × IfSome (S.holds shelf.old) (WritesFront (texts words.now) (O.written out.old) (O.written out.new)) }
+    ensures write { result ≡ 10 → HasRisen (O.faults out.old) (O.faults out.new) × ((files : Files) → AreTheFiles (request_of (texts words.now)) (S.holds shelf.old) files → WritesFront (texts words.now) (O.written out.old) (O.written out.new) files) }
 
     // And then why.
     ensures line { 1 < result → (line : List ℕ) × IsLineOf (texts words.now) (S.holds shelf.old) result line × PutsLine (D.written diag.old) (D.written diag.new) (D.faults diag.old) (D.faults diag.new) line }
@@ -106,9 +116,10 @@ pub fn run<S: Shelf, O: Sink, D: Sink>(
     ensures read { result ≡ 9 → HasRisen (S.faults shelf.old) (S.faults shelf.new) ⊎ IsTold (S.holds shelf.old) (λ files. Leads (texts words.now) files misses) }
     ensures statuses { result ≤ 14 }
 
-    // Where nothing failed, the words and the files decide.
-    ensures complete { (files : Files) → S.holds shelf.old ≡ Some files → (status : ℕ) (text line : List ℕ)
-        → Answer (texts words.now) files status text line → ¬ HasRisen (S.faults shelf.old) (S.faults shelf.new)
+    // Where nothing failed, the words and the files decide; where the words name no file, the words alone.
+    ensures complete { (files : Files) → AreTheFiles (request_of (texts words.now)) (S.holds shelf.old) files → (status : ℕ) (text line : List ℕ)
+        → Answer (texts words.now) files status text line
+        → (NamesFile (request_of (texts words.now)) → ¬ HasRisen (S.faults shelf.old) (S.faults shelf.new))
         → ¬ HasRisen (O.faults out.old) (O.faults out.new) → result ≡ status ⊎ result ≡ 11 }
 {
     run_words(alloc, words, shelf, out, diag)

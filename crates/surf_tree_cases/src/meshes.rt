@@ -1,4 +1,4 @@
-//! A tetrahedron, and two of them joined at a face.
+//! A tetrahedron.
 use std::alloc::Global;
 use std::test::Fail;
 use surf_base::{NoMemory, VertexId};
@@ -18,23 +18,6 @@ fn push(soup: &mut Soup, a: u32, b: u32, c: u32) -> Result<(), NoMemory> {
 pub(crate) fn tetrahedron(alloc: Global) -> Result<HalfMesh, Fail> {
     let mut soup = Soup::start(alloc, 4);
     for (a, b, c) in [(0, 1, 2), (0, 3, 1), (0, 2, 3), (1, 3, 2)] {
-        push(&mut soup, a, b, c).ok().ok_or("room")?;
-    }
-    Ok(check(alloc, soup).ok().ok_or("a surface")?)
-}
-
-/// The surface of six triangles: the vertices 0, 1 and 2 go round, and 3 and 4 are joined to each
-/// of them.
-pub(crate) fn two_tetrahedra(alloc: Global) -> Result<HalfMesh, Fail> {
-    let mut soup = Soup::start(alloc, 5);
-    for (a, b, c) in [
-        (0, 1, 3),
-        (1, 2, 3),
-        (2, 0, 3),
-        (1, 0, 4),
-        (2, 1, 4),
-        (0, 2, 4),
-    ] {
         push(&mut soup, a, b, c).ok().ok_or("room")?;
     }
     Ok(check(alloc, soup).ok().ok_or("a surface")?)

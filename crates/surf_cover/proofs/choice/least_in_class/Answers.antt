@@ -69,15 +69,15 @@ returns c =
     let surface = c.faces-surface.ensures.surface in
     let g = c.requires.signed.grown in
     let d = split_with g.tree t in
-    let start = c.least_start-start.result.0 in
+    let start = c.least_start-start.result in
     let own : walk_signature mesh d walk ≡ set =
     ap (walk_signature mesh d) (sym c.vertices.ensures) ∙ sym (c.walk_sign-set.ensures.sum g.tree g.split) in
     let inside : set < set_count d = subst (λ s. s < set_count d) own (walk_set mesh d walk surface c.requires.closed) in
     let there = c.grow.ensures.grown.grown g.tree g.split in
     let (before, items, read) = c.in_ok-list.ensures.read d there.certified in
     let chosen = chosen_at mesh lengths d surface (positive mesh lengths c.requires.lengths c.count-lengths.ensures.lengths) g.split set inside
-    start c.least_start-start.result.1 (c.least_start-start.ensures.least g.tree g.split) walk c.requires.closed own
+    start (c.least_start-start.ensures.least g.tree g.split) walk c.requires.closed own
     (distance_at c.grow.new.self) there.distances before read in
-    let is : c.from_vertices-walk.result ≡ reverse (start ∷ before) =
+    let is : c.from_vertices-walk.result ≡ reverse (start.vertex ∷ before) =
     c.from_vertices-walk.ensures ∙ c.reverse.ensures.items ∙ ap (λ (xs : List ℕ). reverse xs) items in
     record { least = rw is (record { chosen = chosen.0; length_is = chosen.1 }) }

@@ -1,4 +1,3 @@
-use Rattle.std.proofs.Common.{true}
 use Rattle.surf_surfaces.specs.Mesh.{Mesh}
 use Rattle.surf_off.specs.Off.{OffParts}
 use Rattle.surf_run.specs.Confirming.{OnConfirmMesh}

@@ -14,6 +14,6 @@ returns-in_err-put_opened c =
     let fault = c.in_err-put_opened.field-0.0 in
     let p = err_from_is_err_and c.from_residual-in_err-put_opened.result c.from_residual-in_err-put_opened.ensures.1 in
     rw (p.1, p.2) (why_overfilled (GivesCut (is_trimmed c.args.kind) parts c.args.mesh.now c.args.lengths.now c.args.base) text fault
-    (λ long. record { origins = opened.origins; faces = opened.faces; is_cut = c.in_ok-opened.ensures.cut; says = says_beyond text long })
+    (λ long. record { origins = opened.origins; faces = opened.faces; is_cut = c.in_ok-opened.ensures.cut; says = says_beyond text long; rereads = c.put_opened.ensures.reread })
     (overfills_from_stops blank text fault
-    (subst (λ (page : PageState). Stops page text fault) c.make-page.ensures.empty c.in_err-put_opened.ensures.1)))
+    (subst (λ (page : PageState). Stops page text fault) c.make-page.ensures.empty c.in_err-put_opened.ensures.puts.1)))

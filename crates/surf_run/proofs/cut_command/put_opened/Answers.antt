@@ -2,7 +2,7 @@ use Rattle.std.proofs.Common.{◌≡◌, ℕ, List, length, sym, ap, ◌∙◌, 
 use Rattle.std.specs.Prelude.{All}
 use Rattle.surf_surfaces.specs.Mesh.{IsFace}
 use Rattle.surf_text.specs.Pages.{Puts}
-use Rattle.surf_off.specs.Written.{AreStarts, opened_text, rows_at}
+use Rattle.surf_off.specs.Written.{AreStarts, opened_text, rows_at, RereadsOpened}
 use Rattle.surf_off.proofs.StartsOf.{tables_of}
 use Rattle.surf_run.specs.Cuts.{cut_text}
 use Rattle.surf_run.proofs.cut_command.put_opened.Goals as goal
@@ -21,8 +21,8 @@ write_off-requires-clause-faces c =
     subst (λ (xs : List ℕ). All (IsFace (length xs)) (rows_at starts c.corners.result.now)) (sym c.origins.ensures.origins)
     (subst (λ (fs : List (List ℕ)). All (IsFace (length c.args.opened.now.origins)) fs) (sym rows) c.origins.ensures.disc.is_mesh)
 
-pub returns : goal.returns
-returns c =
+pub returns-clause-puts : goal.returns-clause-puts
+returns-clause-puts c =
     let opened = c.args.opened.now in
     let text = c.args.text.now in
     let starts = c.starts.result.now in
@@ -33,3 +33,14 @@ returns c =
     ∙ ap (λ (fs : List (List ℕ)). opened_text text opened.origins fs c.edges.result) rows
     ∙ ap (λ (n : ℕ). opened_text text opened.origins opened.faces n) c.edges.ensures in
     subst (λ (t : List ℕ). Puts c.args.page.now c.write_off.new.page t c.write_off.result) is c.write_off.ensures.puts
+
+pub returns-clause-reread : goal.returns-clause-reread
+returns-clause-reread c =
+    let opened = c.args.opened.now in
+    let text = c.args.text.now in
+    let starts = c.starts.result.now in
+    let rows : rows_at starts c.corners.result.now ≡ opened.faces =
+    ap (λ (xs : List ℕ). rows_at starts xs) c.corners.ensures ∙ (tables_of opened.faces starts c.starts.ensures.size c.starts.ensures.at).rows in
+    subst (λ (n : ℕ). RereadsOpened text opened.origins opened.faces n) c.edges.ensures
+    (subst (λ (fs : List (List ℕ)). RereadsOpened text opened.origins fs c.edges.result) rows
+    (subst (λ (xs : List ℕ). RereadsOpened text xs (rows_at starts c.corners.result.now) c.edges.result) c.origins.ensures.origins c.write_off.ensures.reread))

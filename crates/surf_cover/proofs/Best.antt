@@ -1,0 +1,208 @@
+-- The least vertex at which a round is shortest, found by searches from the lesser ends of some edges.
+use Rattle.std.proofs.Common.{◌≡◌, ℕ, ◌+◌, ◌*◌, ◌^◌, ◌<◌, ◌≤◌, ◌⊎◌, true, refl, List, Option, None, Some, length, map, get_or, slice_index, bit_xor, sym, ap, ◌∙◌, subst, arith, inl, inr}
+use Rattle.std.proofs.lemmas.Bool.{cases_eq}
+use Rattle.std.proofs.lemmas.List.{length-map, get_or-map}
+use Rattle.std.proofs.lemmas.Nat.{row_fits}
+use Rattle.std.proofs.lemmas.Option.{none-some, same_Some}
+use Rattle.surf_z2.specs.Sieve.{has}
+use Rattle.surf_graphs.specs.Cells.{Split, IsSplit, primal}
+use Rattle.surf_graphs.specs.Graphs.{joins}
+use Rattle.surf_graphs.specs.Trees.{Tree}
+use Rattle.surf_graphs.proofs.Loops.{joins_ends}
+use Rattle.surf_surfaces.specs.Mesh.{Mesh}
+use Rattle.surf_surfaces.specs.Surface.{IsSurface, ends}
+use Rattle.surf_surfaces.specs.Cells.{cells_of}
+use Rattle.surf_surfaces.proofs.CellLaws.{ends_below}
+use Rattle.surf_surfaces.proofs.ClassLaws.{some_vertex}
+use Rattle.surf_classes.specs.Cover.{IsSet, IsSignedDistance}
+use Rattle.surf_classes.proofs.Reached.{way_to}
+use Rattle.surf_classes.proofs.SignedSteps.{xor_set, nearest_from, nearest_to}
+use Rattle.surf_net.specs.Rows.{IsRow, edge_link}
+use Rattle.surf_cotree.specs.Tables.{CotreeTables, split_with}
+use Rattle.surf_cover.specs.Grown.{IsSigned, IsGrownBy}
+use Rattle.surf_cover.specs.Networks.{IsSignedBy}
+use Rattle.surf_cover.specs.Tables.{CoverTables, AreShort, distance_at}
+use Rattle.surf_cover.specs.Starts.{IsLesserEnd, AreClosedSets, IsStartBy, IsUpTo, IsLeastStart}
+use Rattle.surf_cover.specs.declared.rounds.Start.{Start}
+use Rattle.surf_cover.proofs.Covering.{is_set}
+use Rattle.surf_cover.proofs.Signed.{sign_is}
+use Rattle.surf_cover.proofs.Through.{HasRound, HasRoundBy, round_by, round_least, round_here, round_there}
+
+-- sums of sets are sets
+pub closed_sets : (mesh : Mesh) (d : Split) (t : CoverTables) → IsSignedBy mesh d t.sets t.signs → AreClosedSets t
+closed_sets mesh d t signed set other l m =
+    subst (λ n. bit_xor set other < n) (sym signed.sets_are)
+    (xor_set d set other (is_set mesh d t.sets t.signs signed set l) (is_set mesh d t.sets t.signs signed other m))
+
+-- distances are short
+pub short_at : (t : CoverTables) → AreShort t → (v set : ℕ) → v < t.vertices → set < t.sets →
+    distance_at t v set < 2 ^ 62
+short_at t short v set v_in set_in =
+    let fits : v * t.sets + t.sets ≤ t.vertices * t.sets = row_fits v t.sets t.vertices t.sets v_in (omega arith) in
+    short (v * t.sets + set) (omega arith)
+
+-- where no edge at a vertex is such, the vertex is the lesser end of none
+pub no_lesser_end : (mesh : Mesh) (v : ℕ) (items signatures : List ℕ) (number : ℕ) →
+    IsRow (primal (cells_of mesh)) v (map (edge_link mesh v) items) →
+    ((k : ℕ) → k < length items → (ends mesh (get_or items k 0)).0 ≡ v →
+    has (slice_index signatures (get_or items k 0)) number ≡ true → ⊥) → IsLesserEnd mesh signatures number v → ⊥
+no_lesser_end mesh v items signatures number row none (e, e_in, at, on) =
+    let g = primal (cells_of mesh) in
+    let joined = subst (λ a. joins g a (ends mesh e).1 e ≡ true) at (joins_ends g e) in
+    let (k, l, link) = row.whole e (ends mesh e).1 e_in joined in
+    let k_in : k < length items = omega (arith, l, length-map items (edge_link mesh v)) in
+    let same : get_or items k 0 ≡ e =
+    ap (λ p. p.1) (sym (get_or-map (edge_link mesh v) items k 0 (0, 0) k_in) ∙ link) in
+    none k k_in (subst (λ x. (ends mesh x).0 ≡ v) (sym same) at)
+    (subst (λ x. has (slice_index signatures x) number ≡ true) (sym same) on)
+
+-- ---- the start by way of one base
+
+module _ (mesh : Mesh) (lengths : List ℕ) (d : Split) (surface : IsSurface mesh) (base set : ℕ)
+    (base_in : base < mesh.vertices) (set_in : IsSet d set) (t : CoverTables) (grown : IsGrownBy mesh lengths d base t)
+    (count : t.vertices ≡ mesh.vertices) (start : Start) (is : IsStartBy t base set start) where
+  -- a round is as long there
+  pub starts_round : (start.vertex < mesh.vertices) × HasRound mesh lengths d start.vertex start.length set
+  starts_round =
+      let inside : start.vertex < mesh.vertices = subst (λ n. start.vertex < n) count is.start_in in
+      let (part, part_in, sum) = is.on_round in
+      let part_set = is_set mesh d t.sets t.signs grown.certified.signed part part_in in (
+        inside,
+        subst (λ n. HasRound mesh lengths d start.vertex n set) sum
+            (round_here mesh lengths d surface base base_in (distance_at t) grown.distances start.vertex inside set set_in
+            part part_set),
+      )
+
+  -- and no round by way of the base is before it
+  pub starts_before : (y n : ℕ) → y < mesh.vertices → HasRoundBy mesh lengths d base y n set → IsUpTo start y n
+  starts_before y n y_in by =
+      let (part, part_set, most) =
+      round_least mesh lengths d surface base base_in (distance_at t) grown.distances y y_in set set_in n by in
+      let two : distance_at t y part + distance_at t y (bit_xor set part) ≤ n = most in
+      let there : distance_at t base set ≤ distance_at t y part + distance_at t y (bit_xor set part) =
+      round_there mesh lengths d surface base base_in (distance_at t) grown.distances y y_in set set_in part part_set in
+      let own : start.length ≡ distance_at t base set = is.length_is in
+      let part_in : part < t.sets = subst (λ k. part < k) (sym grown.certified.signed.sets_are) part_set in
+      (omega arith, λ same. is.least y (part, part_in, omega arith))
+
+-- ---- the best of them
+
+pub up_to_trans : (r s : Start) (y n : ℕ) → IsUpTo r s.vertex s.length → IsUpTo s y n → IsUpTo r y n
+up_to_trans r s y n (short, low) (less, down) =
+    let one : r.length ≤ s.length = short in
+    let two : s.length ≤ n = less in (
+      omega arith,
+      (λ same.
+          let first : r.vertex ≤ s.vertex = low (omega arith) in
+          let second : s.vertex ≤ y = down (omega arith) in
+          omega arith),
+    )
+
+-- of the rounds by way of lesser ends below a bound it is the first
+pub record IsBestBelow (mesh : Mesh) (lengths : List ℕ) (d : Split) (signatures : List ℕ) (set number bound : ℕ)
+    (best : Option Start) : Type 0 where
+  pub round : (start : Start) → best ≡ Some start →
+      (start.vertex < mesh.vertices) × HasRound mesh lengths d start.vertex start.length set
+  pub least : (m y n : ℕ) → m < bound → IsLesserEnd mesh signatures number m → y < mesh.vertices →
+      HasRoundBy mesh lengths d m y n set → (start : Start) × (best ≡ Some start) × IsUpTo start y n
+
+module _ (mesh : Mesh) (lengths : List ℕ) (d : Split) (signatures : List ℕ) (set number : ℕ) where
+  pub none_below : IsBestBelow mesh lengths d signatures set number 0 None
+  none_below = record {
+    round = λ start is. absurd (none-some start is);
+    least = λ m y n l. absurd (omega arith);
+  }
+
+  -- a vertex that is no lesser end is passed over
+  pub passed_over : (v : ℕ) (best : Option Start) → IsBestBelow mesh lengths d signatures set number v best →
+      (IsLesserEnd mesh signatures number v → ⊥) → IsBestBelow mesh lengths d signatures set number (v + 1) best
+  passed_over v best so_far none = record {
+    round = so_far.round;
+    least = λ m y n l end y_in by. elim (cases_eq m v) [
+      | inl same ↦ absurd (none (subst (IsLesserEnd mesh signatures number) same end))
+      | inr ne ↦ so_far.least m y n (omega arith) end y_in by
+    ];
+  }
+
+  -- one that is
+  pub taken_in : (v : ℕ) (best : Option Start) (other new : Start) →
+      IsBestBelow mesh lengths d signatures set number v best →
+      (other.vertex < mesh.vertices) × HasRound mesh lengths d other.vertex other.length set →
+      ((y n : ℕ) → y < mesh.vertices → HasRoundBy mesh lengths d v y n set → IsUpTo other y n) →
+      (new ≡ other) ⊎ (best ≡ Some new) → IsUpTo new other.vertex other.length →
+      ((start : Start) → best ≡ Some start → IsUpTo new start.vertex start.length) →
+      IsBestBelow mesh lengths d signatures set number (v + 1) (Some new)
+  taken_in v best other new so_far round before one up_to_other up_to_best = record {
+    round = λ start is.
+        let same = same_Some new start is in
+        subst (λ s. (s.vertex < mesh.vertices) × HasRound mesh lengths d s.vertex s.length set) same
+        (elim one [
+          | inl is_other ↦
+              subst (λ s. (s.vertex < mesh.vertices) × HasRound mesh lengths d s.vertex s.length set) (sym is_other) round
+          | inr is_best ↦ so_far.round new is_best
+        ]);
+    least = λ m y n l end y_in by. (
+      new,
+      refl,
+      elim (cases_eq m v) [
+        | inl same ↦
+            up_to_trans new other y n up_to_other
+            (before y n y_in (subst (λ x. HasRoundBy mesh lengths d x y n set) same by))
+        | inr ne ↦
+            let (start, is, up_to) = so_far.least m y n (omega arith) end y_in by in
+            up_to_trans new start y n (up_to_best start is) up_to
+      ],
+    );
+  }
+
+-- ---- once all are taken in
+
+module _ (mesh : Mesh) (lengths : List ℕ) (surface : IsSurface mesh) (t : CotreeTables) (signed : IsSigned mesh t)
+    (tree : Tree) (split : IsSplit (cells_of mesh) (split_with tree t)) (set number : ℕ) (on : has set number ≡ true)
+    (best : Option Start)
+    (all : IsBestBelow mesh lengths (split_with tree t) t.signatures set number mesh.vertices best) where
+  found : (y n : ℕ) → y < mesh.vertices → HasRound mesh lengths (split_with tree t) y n set →
+      (start : Start) × (best ≡ Some start) × IsUpTo start y n
+  found y n y_in round =
+      let d = split_with tree t in
+      let (m, begins, by) = round_by mesh lengths d surface number y n set round on in
+      let (e, e_in, at, has_it) = begins in
+      let both = ends_below mesh surface.is_mesh e e_in in
+      let low : (ends mesh e).0 < mesh.vertices = omega (arith, both.0, both.1) in
+      let m_in : m < mesh.vertices = subst (λ x. x < mesh.vertices) at low in
+      let end : IsLesserEnd mesh t.signatures number m =
+      (e, e_in, at, subst (λ x. has x number ≡ true) (sym (sign_is mesh t signed tree split e e_in)) has_it) in
+      all.least m y n m_in end y_in by
+
+  round_of : (y n : ℕ) → y < mesh.vertices → IsSignedDistance mesh lengths (split_with tree t) y y set n →
+      HasRound mesh lengths (split_with tree t) y n set
+  round_of y n y_in there =
+      let near = nearest_from mesh lengths (split_with tree t) surface y y set n y_in there in
+      (near.walk, near.goes)
+
+  -- there is one
+  pub some_best : IsSet (split_with tree t) set → (start : Start) × (best ≡ Some start)
+  some_best is =
+      let some = some_vertex mesh surface in
+      let way = way_to mesh lengths (split_with tree t) surface split 0 0 set some some is in
+      let (start, same, up_to) = found 0 way.size some (way.walk, way.goes) in
+      (start, same)
+
+  -- and it is the least start
+  pub least_of_all : (start : Start) → best ≡ Some start → IsLeastStart mesh lengths (split_with tree t) set start
+  least_of_all start same =
+      let d = split_with tree t in
+      let own = all.round start same in
+      let before : (y n : ℕ) → y < mesh.vertices → HasRound mesh lengths d y n set → IsUpTo start y n =
+      λ y n y_in round.
+      let (other, is, up_to) = found y n y_in round in
+      subst (λ s. IsUpTo s y n) (same_Some other start (sym is ∙ same)) up_to in
+      record {
+        start_in = own.0;
+        round = nearest_to mesh lengths d surface start.vertex start.vertex set start.length own.0 (record {
+          walk = own.1.0;
+          goes = own.1.1;
+          least = λ w m goes. (before start.vertex m own.0 (w, goes)).0;
+        });
+        least = λ y n y_in there. before y n y_in (round_of y n y_in there);
+      }
