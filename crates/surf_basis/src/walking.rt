@@ -12,7 +12,7 @@ use surf_lengths::Lengths;
 use surf_loops::LoopDesk;
 use surf_mesh::HalfMesh;
 
-// The cycle of a candidate. The desk has the loops at its base afterwards.
+// The cycle of a candidate. The desk has the tree at its base afterwards.
 pub(crate) fn cycle_of(
     alloc: Global,
     mesh: &HalfMesh,
@@ -28,7 +28,7 @@ pub(crate) fn cycle_of(
 {
     let _surface = mesh.faces();
     let _lengths = lengths.count();
-    desk.greedy(mesh, lengths, candidate.base);
+    desk.grow_tree(mesh, lengths, candidate.base);
     let walk = desk.walk(alloc, mesh, candidate.edge)?;
     Ok(Cycle {
         base: candidate.base,

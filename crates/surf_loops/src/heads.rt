@@ -12,9 +12,9 @@ use surf_lengths::Lengths;
 use surf_mesh::HalfMesh;
 use surf_tree::TreeDesk;
 
-/// The length of the loop of an edge: the distances of its ends from the base of a tree of shortest walks and its own
-/// length.
-pub fn loop_length(mesh: &HalfMesh, lengths: &Lengths, tree: &TreeDesk, edge: EdgeId) -> u64
+// The length of the loop of an edge: the distances of its ends from the base of a tree of shortest walks and its own
+// length.
+fn loop_length(mesh: &HalfMesh, lengths: &Lengths, tree: &TreeDesk, edge: EdgeId) -> u64
     requires edge { edge < edge_count mesh.now }
     requires tables { IsMadeFor mesh.now tree.now }
     requires lengths { length lengths.now ≡ edge_count mesh.now }

@@ -19,4 +19,3 @@ mod ways;
 pub use cert::{dual_rows, left_pairs, tree_rows};
 pub use desk::LoopDesk;
 pub use head::LoopHead;
-pub use heads::loop_length;
