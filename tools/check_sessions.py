@@ -7,7 +7,8 @@ Each block that is fenced by ``` says what it is by the word behind the fence:
 
     console TOOL ..   a session: a line that begins with `$ ` is a command for a shell at the top of the repository, with
                       `surf` on the path, and the lines up to the next such line are what it prints, on either stream. A
-                      line `..` stands for any number of lines. Where a named tool isn't here, the session is passed over
+                      line `..` stands for any number of lines, and a line that begins with `> ` right behind a command
+                      goes on with it. Where a named tool isn't here, the session is passed over
     sh                commands that aren't run here, such as those of the toolchain
     text, and others  no commands
 
@@ -44,6 +45,8 @@ class Block:
         for line in self.lines:
             if line.startswith("$ "):
                 steps.append((line[2:], []))
+            elif line.startswith("> ") and steps and not steps[-1][1]:
+                steps[-1] = (f"{steps[-1][0]}\n{line[2:]}", [])
             elif steps:
                 steps[-1][1].append(line)
         return steps

@@ -54,6 +54,34 @@ class Conversions(unittest.TestCase):
             self.assertEqual(run("to_off.py", path, "--merge", "1e-6"), TET)
 
 
+    def test_the_largest_part(self):
+        text = OBJ + "v 9 9 9\nv 9 8 9\nv 9 9 8\nf 5 6 7\n"
+        with tempfile.TemporaryDirectory() as room:
+            path = pathlib.Path(room, "a.obj")
+            path.write_text(text)
+            self.assertEqual(run("to_off.py", path, "--largest"), TET)
+
+
+class Unfolding(unittest.TestCase):
+    CUT = "OFF\n6 4 9\n" + "0 0 0\n" * 3 + "1 0 0\n0 1 0\n0 0 1\n3 0 3 4\n3 1 5 3\n3 2 4 5\n3 3 5 4\n"
+    CUT += "".join("# copy %d from %d\n" % pair for pair in enumerate([0, 0, 0, 1, 2, 3]))
+
+    def test_a_cut_mesh_is_laid_into_the_plane(self):
+        with tempfile.TemporaryDirectory() as room:
+            cut, flat, skin = (pathlib.Path(room, name) for name in ("cut.off", "flat.off", "skin.obj"))
+            cut.write_text(self.CUT)
+            run("unfold.py", cut, "--off", flat, "--obj", skin)
+            rows = [row.split() for row in flat.read_text().splitlines()]
+            self.assertEqual(rows[8:], [row.split() for row in self.CUT.splitlines()[8:12]])
+            points = [(float(row[0]), float(row[1])) for row in rows[2:8]]
+            sides = [(points[b][0] - points[a][0]) * (points[c][1] - points[a][1]) - (points[b][1] - points[a][1]) * (points[c][0] - points[a][0])
+                     for a, b, c in [(0, 3, 4), (1, 5, 3), (2, 4, 5), (3, 5, 4)]]
+            self.assertTrue(all(side > 0.01 for side in sides) or all(side < -0.01 for side in sides))
+            text = skin.read_text().splitlines()
+            self.assertEqual([row for row in text if row.startswith("f ")], ["f 1/1 2/4 3/5", "f 1/2 4/6 2/4", "f 1/3 3/5 4/6", "f 2/4 4/6 3/5"])
+            self.assertEqual(text[:4], ["v 0 0 0", "v 1 0 0", "v 0 1 0", "v 0 0 1"])
+
+
 class Pictures(unittest.TestCase):
     def shown(self, answer, kind, mesh=TET):
         with tempfile.TemporaryDirectory() as room:

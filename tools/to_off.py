@@ -3,6 +3,7 @@
 
     to_off.py MESH > mesh.off
     to_off.py MESH --merge 1e-6 > mesh.off     points that agree after rounding to steps of 1e-6 become one
+    to_off.py MESH --largest > mesh.off        only the connected part that has the most faces
 
 Equal points are always merged for STL, whose triangles share none, and for the others with --merge. Faces that
 lose a corner so are left out. Vertices that no face has are left out, since `surf` refuses them.
@@ -130,6 +131,26 @@ def tidy(mesh):
     return Mesh([mesh.points[c] for c in used], [[names[c] for c in face] for face in faces])
 
 
+def largest(mesh):
+    """The part of the mesh, connected by shared vertices, that has the most faces."""
+    parts = list(range(len(mesh.points)))
+
+    def part_of(vertex):
+        while parts[vertex] != vertex:
+            parts[vertex] = parts[parts[vertex]]
+            vertex = parts[vertex]
+        return vertex
+
+    for face in mesh.faces:
+        for corner in face[1:]:
+            parts[part_of(corner)] = part_of(face[0])
+    counts = {}
+    for face in mesh.faces:
+        counts[part_of(face[0])] = counts.get(part_of(face[0]), 0) + 1
+    most = max(counts, key=lambda part: counts[part], default=None)
+    return Mesh(mesh.points, [face for face in mesh.faces if part_of(face[0]) == most])
+
+
 def read_any(path):
     data = path.read_bytes()
     kind = path.suffix.lower()
@@ -145,10 +166,13 @@ def main():
     parser = argparse.ArgumentParser(description=__doc__, formatter_class=argparse.RawDescriptionHelpFormatter)
     parser.add_argument("mesh", type=pathlib.Path)
     parser.add_argument("--merge", type=float, metavar="STEP")
+    parser.add_argument("--largest", action="store_true")
     words = parser.parse_args()
     mesh = read_any(words.mesh)
     if words.merge:
         mesh = merged(mesh, words.merge)
+    if words.largest:
+        mesh = largest(tidy(mesh))
     sys.stdout.write(write_off(tidy(mesh)))
 
 
