@@ -7,8 +7,8 @@
     show.py MESH [ANSWER] --vect out.vect    the walks alone, for Geomview
     show.py MESH [ANSWER] --coff out.off     the mesh with colours on the faces along the walks or in the evidence
 
-ANSWER is the output of `loops`, `basis`, `cycle`, `shortest`, `class` or `same` on MESH, or a text that `cut` wrote
-of MESH, whose border is drawn as the cut. Without it the mesh alone is shown. Pictures look along a line that --turn
+ANSWER is the output of `loops`, `basis`, `cycle`, `shortest`, `class` or `same` on MESH, or several of these one after
+another, or a text that `cut` wrote of MESH, whose border is drawn as the cut. Without it the mesh alone is shown. Pictures look along a line that --turn
 (degrees about the upright axis) and --tilt (degrees from above the horizon) give.
 """
 
@@ -28,18 +28,23 @@ MARKED = (255, 209, 102)
 
 
 class Answer:
-    """Walks to be drawn as lines, each a list of vertices, and faces to be coloured."""
+    """Walks to be drawn as lines, each a list of vertices, single edges, all of one colour, and faces to be coloured."""
 
-    def __init__(self, walks=(), faces=()):
-        self.walks = list(walks)
-        self.faces = set(faces)
+    def __init__(self, edges=()):
+        self.walks, self.edges, self.faces = [], list(edges), set()
+
+    def lines(self):
+        """Each walk and each single edge, with its colour."""
+        first = 1 if self.edges else 0
+        walks = [(walk, PALETTE[(first + k) % len(PALETTE)]) for k, walk in enumerate(self.walks) if len(walk) > 1]
+        return [([u, v], PALETTE[0]) for u, v in self.edges] + walks
 
 
 def cut_answer(text):
     """The border of an opened mesh, as edges between the vertices that its copies are of."""
     opened = read_off(text)
     border = [edge for edge, faces in opened.edges().items() if len(faces) == 1]
-    return Answer(sorted({tuple(sorted(opened.origins[c] for c in edge)) for edge in border}))
+    return Answer(edges=sorted({tuple(sorted(opened.origins[c] for c in edge)) for edge in border}))
 
 
 def read_answer(text):
@@ -53,24 +58,18 @@ def read_answer(text):
             answer.faces |= {int(f) for f in row[2:]}
         elif row[:1] in (["odd"], ["different"]):
             ends = [int(v) for v in row[2:]]
-            answer.walks += [[u, v] for u, v in zip(ends[::2], ends[1::2])]
+            answer.edges += zip(ends[::2], ends[1::2])
     return answer
 
 
-def colour_of(answer, number):
-    """The colour of a walk. Edges of evidence and of cuts are all of one colour."""
-    longest = max((len(walk) for walk in answer.walks), default=0)
-    return PALETTE[0] if longest == 2 else PALETTE[number % len(PALETTE)]
-
-
 def marked_faces(mesh, answer):
-    """The faces in the evidence, and those along the walks, each with the number of the walk."""
-    found = {face: None for face in answer.faces}
+    """The faces in the evidence, and those along the lines, each with its colour."""
+    found = {face: MARKED for face in answer.faces}
     edges = mesh.edges()
-    for number, walk in enumerate(answer.walks):
+    for walk, colour in answer.lines():
         for u, v in zip(walk, walk[1:]):
             for face in edges.get((min(u, v), max(u, v)), []):
-                found.setdefault(face, number)
+                found.setdefault(face, colour)
     return found
 
 
@@ -80,17 +79,16 @@ def marked_faces(mesh, answer):
 def obj_text(mesh, answer):
     rows = ["v " + " ".join(f"{x:g}" for x in point) for point in mesh.points]
     rows += ["f " + " ".join(str(c + 1) for c in face) for face in mesh.faces]
-    rows += ["l " + " ".join(str(v + 1) for v in walk) for walk in answer.walks if len(walk) > 1]
+    rows += ["l " + " ".join(str(v + 1) for v in walk) for walk, _ in answer.lines()]
     return "\n".join(rows) + "\n"
 
 
 def vect_text(mesh, answer):
-    walks = [walk for walk in answer.walks if len(walk) > 1]
+    walks = [walk for walk, _ in answer.lines()]
     rows = ["VECT", f"{len(walks)} {sum(map(len, walks))} {len(walks)}"]
     rows += [" ".join(str(len(walk)) for walk in walks), " ".join("1" for _ in walks)]
     rows += [" ".join(f"{x:g}" for x in mesh.points[v]) for walk in walks for v in walk]
-    for number in range(len(walks)):
-        rows.append(" ".join(f"{c / 255:.3f}" for c in colour_of(answer, number)) + " 1")
+    rows += [" ".join(f"{c / 255:.3f}" for c in colour) + " 1" for _, colour in answer.lines()]
     return "\n".join(rows) + "\n"
 
 
@@ -99,10 +97,7 @@ def coff_text(mesh, answer):
     rows = ["OFF", f"{len(mesh.points)} {len(mesh.faces)} {len(mesh.edges())}"]
     rows += [" ".join(f"{x:g}" for x in point) for point in mesh.points]
     for number, face in enumerate(mesh.faces):
-        colour = PLAIN
-        if number in marked:
-            colour = MARKED if marked[number] is None else colour_of(answer, marked[number])
-        rows.append(" ".join(str(n) for n in [len(face), *face, *colour]))
+        rows.append(" ".join(str(n) for n in [len(face), *face, *marked.get(number, PLAIN)]))
     return "\n".join(rows) + "\n"
 
 
@@ -155,8 +150,8 @@ def svg_text(mesh, answer, view):
         places = " ".join(f"{x:.1f},{y:.1f}" for x, y, _ in corners)
         shape = f'<polygon points="{places}" fill="{fill}" stroke="#888" stroke-width="0.3"/>'
         shapes.append((sum(p[2] for p in corners) / len(corners), shape))
-    for number, walk in enumerate(answer.walks):
-        colour = "#%02x%02x%02x" % colour_of(answer, number)
+    for walk, paint in answer.lines():
+        colour = "#%02x%02x%02x" % paint
         for u, v in zip(walk, walk[1:]):
             (a, b, near), (c, d, far) = view.points[u], view.points[v]
             shape = f'<line x1="{a:.1f}" y1="{b:.1f}" x2="{c:.1f}" y2="{d:.1f}" stroke="{colour}" stroke-width="3"/>'
@@ -232,9 +227,9 @@ def draw(mesh, answer, view):
             canvas.triangle(view.points[face[0]], view.points[q], view.points[r], colour)
     for u, v in mesh.edges():
         canvas.line(view.points[u], view.points[v], (150, 150, 146), 0)
-    for number, walk in enumerate(answer.walks):
+    for walk, colour in answer.lines():
         for u, v in zip(walk, walk[1:]):
-            canvas.line(view.points[u], view.points[v], colour_of(answer, number), max(2, view.size // 300))
+            canvas.line(view.points[u], view.points[v], colour, max(2, view.size // 300))
     return png_bytes(*canvas.halved())
 
 

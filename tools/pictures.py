@@ -1,0 +1,84 @@
+#!/usr/bin/env python3
+"""Makes the pictures in docs/pictures again, from what the built program prints.
+
+    pictures.py [PROGRAM]      crates/surf/out/surf where none is named
+
+All are of meshes/eight.off, a surface of genus 2, with the lengths of its edges in space.
+"""
+
+import pathlib
+import subprocess
+import sys
+import tempfile
+
+import show
+import unfold
+from off import Mesh, read_off
+
+TOP = pathlib.Path(__file__).resolve().parent.parent
+PICTURES = TOP / "docs" / "pictures"
+MESH = TOP / "meshes" / "eight.off"
+# A vertex on top, where the two circles touch, from which the loops are seen.
+BASE = 353
+
+
+def neck(mesh):
+    """The walk round the neck between the two circles: the boundary of the faces on the one side."""
+    middle = lambda face: sum(mesh.points[c][0] for c in face) / len(face)
+    beside = {}
+    for (u, v), faces in mesh.edges().items():
+        if len({middle(mesh.faces[face]) < 1 for face in faces}) == 2:
+            beside.setdefault(u, []).append(v)
+            beside.setdefault(v, []).append(u)
+    start = min(beside)
+    walk, before, at = [start], None, start
+    while True:
+        at, before = next(w for w in beside[at] if w != before), at
+        walk.append(at)
+        if at == start:
+            return walk
+
+
+def main():
+    program = pathlib.Path(sys.argv[1] if len(sys.argv) > 1 else TOP / "crates/surf/out/surf").resolve()
+    if not program.is_file():
+        print(f"{program.name} isn't built: no picture is made")
+        return 1
+    mesh = read_off(MESH.read_text())
+    with tempfile.TemporaryDirectory() as name:
+        room = pathlib.Path(name)
+
+        def answer(*words):
+            return subprocess.run([program, *words], cwd=room, capture_output=True, text=True, check=True).stdout
+
+        (room / "eight.len").write_text(answer("lengths", str(MESH), "6"))
+        given = [str(MESH), "eight.len"]
+        basis = answer("basis", *given)
+        round_neck, round_hole = neck(mesh), [int(v) for v in basis.splitlines()[4].split()[2:]]
+        for file, walk in {"neck": round_neck, "hole": round_hole}.items():
+            (room / file).write_text(" ".join(map(str, walk)) + "\n")
+        trimmed = answer("cut", *given, str(BASE), "trim")
+        texts = {
+            "loops": answer("loops", *given, str(BASE)),
+            "basis": basis,
+            "cut-full": answer("cut", *given, str(BASE), "full"),
+            "cut-trim": trimmed,
+            "null": answer("class", str(MESH), "neck") + "cycle 0 " + " ".join(map(str, round_neck)) + "\n",
+            "odd": answer("class", str(MESH), "hole") + "cycle 0 " + " ".join(map(str, round_hole)) + "\n",
+        }
+    for name, text in texts.items():
+        draw(name, mesh, show.read_answer(text), 15, 55)
+    opened = read_off(trimmed)
+    flat = Mesh([(x, y, 0) for x, y in unfold.unfolded(opened)], opened.faces)
+    draw("flat", flat, show.Answer(), 0, 90)
+    return 0
+
+
+def draw(name, mesh, answer, turn, tilt):
+    PICTURES.mkdir(exist_ok=True)
+    (PICTURES / f"{name}.png").write_bytes(show.draw(mesh, answer, show.View(mesh, turn, tilt, 960)))
+    print(f"docs/pictures/{name}.png")
+
+
+if __name__ == "__main__":
+    sys.exit(main())
