@@ -1,13 +1,12 @@
 #!/usr/bin/env python3
-"""Two misuses of the libraries that must not compile, their right use, which must, and the caller in docs/calling.md.
+"""Two misuses of the libraries that must not compile, and their right use, which must.
 
     misuses.py             tries them with `rt try --test`, which compiles and proves nothing
     misuses.py --check     tries them with `rt check`
 
 A must-fail edit has to compile, so it can't show these. Each misuse is a crate of its own in a copy of the repository in
 a temporary folder. The compiler has to name the borrow error at the line of the misuse. The third crate does the same
-without the misuse, and the compiler has to pass it. The fourth is the caller that docs/calling.md shows, whose test has
-to pass. Where there is no `rt`, nothing is tried.
+without the misuse, and the compiler has to pass it. Where there is no `rt`, nothing is tried.
 """
 
 import pathlib
@@ -91,14 +90,6 @@ fn runs(rt: HostRuntime) -> Result<(), std::test::Fail> {
 
 LIBRARIES = "surf_base surf_mesh surf_off surf_lengths surf_loops"
 
-
-def shown_caller():
-    """The caller that the page shows, and the libraries that it lists."""
-    page = (TOP / "docs" / "calling.md").read_text()
-    listed = re.search(r"^example: (.*)$", page, re.M)[1]
-    return re.search(r"^```rust\n(.*?)^```", page, re.M | re.S)[1], listed
-
-
 # The crate, its text, the error that is wanted, and what stands in the line of the error.
 TRIALS = [
     ("misuse_line", LINE, "borrow-e0505", "drop(source);"),
@@ -130,15 +121,13 @@ def main():
     with tempfile.TemporaryDirectory() as room:
         top = pathlib.Path(room)
         shutil.copytree(TOP / "crates", top / "crates", ignore=shutil.ignore_patterns("out"))
-        caller, listed = shown_caller()
         crates = (TOP / "crates.txt").read_text() + "".join(f"{name}: {LIBRARIES}\n" for name, *_ in TRIALS)
-        crates += f"example: {listed}\n"
         (top / "crates.txt").write_text(crates)
         shutil.copyfile(TOP / "HANDLES", top / "HANDLES")
-        for name, text in [*((name, text + TEST) for name, text, _, _ in TRIALS), ("example", caller)]:
+        for name, text, _, _ in TRIALS:
             source = top / "crates" / name / "src" / "lib.rt"
             source.parent.mkdir(parents=True)
-            source.write_text(text)
+            source.write_text(text + TEST)
         for name, text, error, line in TRIALS:
             said = tried(top, name, words)
             fault = fault_of(said, text, error, line)
@@ -146,11 +135,6 @@ def main():
                 fault = said[-400:]
             faults += bool(fault)
             print(f"{name}: {fault or (error or 'compiles')}")
-        if words[0] == "try":
-            said = tried(top, "example", words)
-            passed = "test result: ok" in said
-            faults += not passed
-            print(f"the caller in docs/calling.md: {'its test passes' if passed else said[-400:]}")
     return 1 if faults else 0
 
 
