@@ -1,5 +1,5 @@
 #!/usr/bin/env python3
-"""Tests of tools/reach.py, tools/crate_graph.py and tools/check_definitions.py: python3 tools/test_reach.py"""
+"""Tests of tools/reach.py: python3 tools/test_reach.py"""
 
 import pathlib
 import sys
@@ -9,8 +9,6 @@ import unittest
 sys.path.insert(0, str(pathlib.Path(__file__).resolve().parent))
 sys.dont_write_bytecode = True
 
-import check_definitions  # noqa: E402
-import crate_graph  # noqa: E402
 import reach  # noqa: E402
 
 WORDS = """-- Colours.
@@ -97,29 +95,6 @@ class Reach(unittest.TestCase):
 
     def test_clauses(self):
         self.assertEqual(list(reach.clauses_of("ensures a { x { y } }\nghost view = { z };\n// ensures { no }\n")), [" x { y } ", " z "])
-
-
-class Graph(unittest.TestCase):
-    CRATES = "a:\nb: a kit  # on a alone\nc: a b\n"
-
-    def test_the_reduction(self):
-        crates = crate_graph.read_crates(self.CRATES)
-        self.assertEqual(crates, {"a": [], "b": ["a", "kit"], "c": ["a", "b"]})
-        self.assertEqual(crate_graph.reduced(crates), {"a": [], "b": ["a"], "c": ["b"]})
-        self.assertEqual(crate_graph.drawing(crates), " 3  c - b\n 2  b - a; of the kit kit\n 1  a\n")
-
-
-class Definitions(unittest.TestCase):
-    ROWS = "### Colours: `surf_a`\n\n| Law | Says | Function, clause |\n|---|---|---|\n| `Red` | it is red | `law_of_red`, `red` |\n"
-    CLAUSES = {"surf_a": {"law_of_red": {"red": "Red"}, "law_of_green": {"": "Green"}}}
-
-    def test_rows(self):
-        rows = list(check_definitions.rows_of(self.ROWS))
-        self.assertEqual(rows, [(["surf_a"], "Red", "law_of_red", ["red"])])
-        self.assertEqual(list(check_definitions.row_faults(rows, self.CLAUSES)), [])
-        self.assertEqual(len(list(check_definitions.missing_rows(rows, self.CLAUSES))), 1)
-        wrong = list(check_definitions.rows_of(self.ROWS.replace("`Red`", "`Blue`")))
-        self.assertEqual(len(list(check_definitions.row_faults(wrong, self.CLAUSES))), 1)
 
 
 if __name__ == "__main__":

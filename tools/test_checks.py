@@ -1,0 +1,83 @@
+#!/usr/bin/env python3
+"""Tests of the other checks beside the gate: python3 tools/test_checks.py"""
+
+import pathlib
+import sys
+import unittest
+
+sys.path.insert(0, str(pathlib.Path(__file__).resolve().parent))
+sys.dont_write_bytecode = True
+
+import check_definitions  # noqa: E402
+import check_sessions  # noqa: E402
+import crate_graph  # noqa: E402
+import hostile  # noqa: E402
+import misuses  # noqa: E402
+
+class Graph(unittest.TestCase):
+    CRATES = "a:\nb: a kit  # on a alone\nc: a b\n"
+
+    def test_the_reduction(self):
+        crates = crate_graph.read_crates(self.CRATES)
+        self.assertEqual(crates, {"a": [], "b": ["a", "kit"], "c": ["a", "b"]})
+        self.assertEqual(crate_graph.reduced(crates), {"a": [], "b": ["a"], "c": ["b"]})
+        self.assertEqual(crate_graph.drawing(crates), " 3  c - b\n 2  b - a; of the kit kit\n 1  a\n")
+
+
+class Definitions(unittest.TestCase):
+    ROWS = "### Colours: `surf_a`\n\n| Law | Says | Function, clause |\n|---|---|---|\n| `Red` | it is red | `law_of_red`, `red` |\n"
+    CLAUSES = {"surf_a": {"law_of_red": {"red": "Red"}, "law_of_green": {"": "Green"}}}
+
+    def test_rows(self):
+        rows = list(check_definitions.rows_of(self.ROWS))
+        self.assertEqual(rows, [(["surf_a"], "Red", "law_of_red", ["red"])])
+        self.assertEqual(list(check_definitions.row_faults(rows, self.CLAUSES)), [])
+        self.assertEqual(len(list(check_definitions.missing_rows(rows, self.CLAUSES))), 1)
+        wrong = list(check_definitions.rows_of(self.ROWS.replace("`Red`", "`Blue`")))
+        self.assertEqual(len(list(check_definitions.row_faults(wrong, self.CLAUSES))), 1)
+
+
+class Sessions(unittest.TestCase):
+    def test_blocks(self):
+        text = "```console tool\n$ a\n> b\nout\n..\n$ c\n```\n```\nx\n```\n```text\n$ d\n```\n"
+        session, bare, commands = check_sessions.blocks(text)
+        self.assertEqual(session.steps(), [("a\nb", ["out", ".."]), ("c", [])])
+        self.assertEqual((session.words, session.number, session.fault()), (["console", "tool"], 1, None))
+        self.assertIn("doesn't say", bare.fault())
+        self.assertIn("isn't a session", commands.fault())
+
+    def test_lines_that_are_left_out(self):
+        self.assertTrue(check_sessions.matches(["a", "..", "d"], ["a", "b", "c", "d"]))
+        self.assertTrue(check_sessions.matches(["a", ".."], ["a"]))
+        self.assertFalse(check_sessions.matches(["a", "..", "d"], ["a", "b"]))
+        self.assertFalse(check_sessions.matches(["a"], ["a", "b"]))
+
+
+class Hostile(unittest.TestCase):
+    def test_what_a_run_may_do(self):
+        for good in [(0, b"x", b""), (1, b"no even\n", b""), (4, b"", b"surface: apart 4\n"), (10, b"x", b"write fault\n")]:
+            self.assertIsNone(hostile.fault_of(*good), good)
+        for bad in [(-11, b"", b""), (None, b"", b""), (0, b"x", b"y\n"), (4, b"x", b"surface: empty\n"), (4, b"", b""),
+                    (4, b"", b"surface: empty\nmore\n"), (15, b"", b""), (3, b"", b"surface: empty\n")]:
+            self.assertIsNotNone(hostile.fault_of(*bad), bad)
+
+    def test_want_of_memory(self):
+        right = (0, b"answer\n", b"")
+        self.assertIsNone(hostile.memory_fault(right, *right))
+        self.assertIsNone(hostile.memory_fault(right, 11, b"", b"memory\n"))
+        for bad in [(11, b"ans", b"memory\n"), (0, b"other\n", b""), (9, b"", b"read fault\n")]:
+            self.assertIsNotNone(hostile.memory_fault(right, *bad), bad)
+        self.assertIsNotNone(hostile.memory_fault(right, 11, b"", b"memory\n", may_fail=False))
+
+
+class Misuses(unittest.TestCase):
+    def test_the_error_at_its_line(self):
+        said = "src/lib.rt:2:5: error[borrow-e0505]: cannot move out"
+        self.assertIsNone(misuses.fault_of(said, "a\n    b;\n", "borrow-e0505", "b;"))
+        self.assertIsNotNone(misuses.fault_of(said, "    b;\na\n", "borrow-e0505", "b;"))
+        self.assertIsNotNone(misuses.fault_of("", "a\n    b;\n", "borrow-e0505", "b;"))
+        self.assertIsNotNone(misuses.fault_of(said, "", None, None))
+
+
+if __name__ == "__main__":
+    unittest.main()
