@@ -14,6 +14,7 @@ import crate_graph  # noqa: E402
 import hostile  # noqa: E402
 import misuses  # noqa: E402
 
+
 class Graph(unittest.TestCase):
     CRATES = "a:\nb: a kit  # on a alone\nc: a b\n"
 
