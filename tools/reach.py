@@ -22,6 +22,8 @@ PAGE = TOP / "docs" / "believe.md"
 
 # Definitions that no clause reaches and that stay in specs/, each with the reason.
 EXCUSED = {
+    "surf_surfaces.Mesh.tetrahedron-edges": "an example that is computed where it stands",
+    "surf_surfaces.Mesh.tetrahedron-characteristic": "an example that is computed where it stands",
 }
 
 # What each command answers, by the definition that says so, and the names of the cases that lead there. A case of
