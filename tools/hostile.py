@@ -474,7 +474,10 @@ def main():
     with tempfile.TemporaryDirectory() as name:
         room = pathlib.Path(name)
         room.chmod(0o755)
-        program = Program(words.program.resolve(), room)
+        # A copy, since its own folder may be closed to nobody.
+        shutil.copy(words.program, room / "surf")
+        (room / "surf").chmod(0o755)
+        program = Program(room / "surf", room)
         files = sample_files(program, room)
         trials = tried(program, files, room, words.quick)
         if words.only:
