@@ -283,7 +283,7 @@ def stream_runs(program, files, room):
         status, _, line = program.run(words, out=writer)
         os.close(writer)
         tally.add(f"{command.name}, a pipe without a reader", status, fault_of(status, b"", line, allowed=(10,)))
-    long = ["gen", "torus", "300", "300"]
+    long = ["gen", "torus", "100", "100"]
     for size in (0, 1, 4096, 100000):
         status, line = read_partly(program, long, size)
         tally.add(f"gen, read up to {size} bytes", status, fault_of(status, b"", line, allowed=(10,)))
@@ -291,12 +291,19 @@ def stream_runs(program, files, room):
 
 
 def read_partly(program, words, size):
-    ran = subprocess.Popen([program.path, *words], stdout=subprocess.PIPE, stderr=subprocess.PIPE, cwd=program.room)
-    ran.stdout.read(size)
-    ran.stdout.close()
-    line = ran.stderr.read()
-    ran.stderr.close()
-    return ran.wait(SECONDS), line
+    reader, writer = os.pipe()
+    ran = subprocess.Popen([program.path, *words], stdout=writer, stderr=subprocess.PIPE, cwd=program.room)
+    os.close(writer)
+    while size > 0 and (piece := os.read(reader, size)):
+        size -= len(piece)
+    os.close(reader)
+    try:
+        _, line = ran.communicate(timeout=SECONDS)
+    except subprocess.TimeoutExpired:
+        ran.kill()
+        ran.communicate()
+        return None, b""
+    return ran.returncode, line
 
 
 def diag_runs(program, files):
