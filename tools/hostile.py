@@ -272,7 +272,7 @@ def stream_runs(program, files, room):
     for command in COMMANDS + MAKERS:
         words = command.with_files(files)
         right = program.run(words)
-        tally.add(f"{command.name}, as it should be", right[0], fault_of(*right, allowed=(0,)))
+        tally.add(f"{command.name}, as it should be", right[0], fault_of(*right, allowed=(0, 1)))
         with open("/dev/full", "wb") as full:
             status, _, line = program.run(words, out=full)
         tally.add(f"{command.name}, full", status, fault_of(status, b"", line, allowed=(10,)))
