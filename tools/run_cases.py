@@ -100,6 +100,11 @@ def came(program, case, files):
     return (done.returncode, done.stdout.decode(), done.stderr.decode()), opened
 
 
+def told(names):
+    """The names as the system tells them: a file that is opened twice in a row is told of once."""
+    return [name for at, name in enumerate(names) if at == 0 or names[at - 1] != name]
+
+
 def run_sheet(program, path):
     """How many cases pass and fail."""
     shared, cases = cases_of(path.read_bytes().decode())
@@ -113,7 +118,7 @@ def run_sheet(program, path):
         if got != (case["status"], out, case["diag"]):
             failed += 1
             print(f"{path.name}: {' '.join(case['words'])}: {got!r}")
-        elif "begins" in case and opened != [name for name in case["begins"] if name in files]:
+        elif "begins" in case and opened != told([name for name in case["begins"] if name in files]):
             failed += 1
             print(f"{path.name}: {' '.join(case['words'])}: opened {opened}")
     return len(cases) - failed, failed
