@@ -21,15 +21,7 @@ TOP = pathlib.Path(__file__).resolve().parent.parent
 PAGE = TOP / "docs" / "believe.md"
 
 # Definitions that no clause reaches and that stay in specs/, each with the reason.
-INVARIANT = "a word of loop invariants, which stand in proofs/: to be moved there with the next change of its crate"
-UNUSED = "used nowhere: to be dropped with the next change of its crate"
 EXCUSED = {
-    "surf_basis.Ways.AreWaysTo": INVARIANT,
-    "surf_mesh.Reach.Reaches": INVARIANT,
-    "surf_mesh.Ring.Rounds": INVARIANT,
-    "surf_near.Links.link_over": INVARIANT,
-    "surf_certcheck.Frames.weighed_by": UNUSED,
-    "surf_run.Steps.Then": UNUSED,
     "surf_surfaces.Mesh.tetrahedron-edges": "an example that is computed where it stands",
     "surf_surfaces.Mesh.tetrahedron-characteristic": "an example that is computed where it stands",
 }

@@ -17,8 +17,13 @@ use Rattle.surf_signatures.specs.Ways.{way_class}
 use Rattle.surf_signatures.proofs.WayLaws.{way_none, way_more}
 use Rattle.surf_cotree.specs.Tables.{CotreeTables}
 use Rattle.surf_near.specs.Near.{NearTables, IsNear, IsNearTo}
-use Rattle.surf_basis.specs.Ways.{WayTables, class_at, IsWayAt, AreWays, AreWaysTo, IsNumbered, HasParent}
+use Rattle.surf_basis.specs.Ways.{WayTables, class_at, IsWayAt, AreWays, IsNumbered, HasParent}
 use Rattle.surf_basis.proofs.Climbed.{at_edge}
+
+-- the first of those that were settled have it
+abbrev pub AreWaysTo : Mesh → List ℕ → ℕ → CotreeTables → NearTables → WayTables → ℕ → Type 0
+AreWaysTo mesh lengths base s t w count =
+    (j : ℕ) → j < count → IsWayAt mesh lengths base s w (slice_index t.settled j)
 
 -- one of those that were settled
 pub item_settled : (xs settled : List ℕ) (i v : ℕ) → xs ≡ settled → i < length xs → v ≡ get_or xs i v →

@@ -29,11 +29,6 @@ pub record IsWayAt (mesh : Mesh) (lengths : List ℕ) (base : ℕ) (s : CotreeTa
 abbrev pub AreWays : Mesh → List ℕ → ℕ → CotreeTables → NearTables → WayTables → Type 0
 AreWays mesh lengths base s t w = (v : ℕ) → v < mesh.vertices → IsTrue (is_near t v) → IsWayAt mesh lengths base s w v
 
--- the first of those that were settled have it
-abbrev pub AreWaysTo : Mesh → List ℕ → ℕ → CotreeTables → NearTables → WayTables → ℕ → Type 0
-AreWaysTo mesh lengths base s t w count =
-    (j : ℕ) → j < count → IsWayAt mesh lengths base s w (slice_index t.settled j)
-
 -- a class for the way to one more vertex: none at the base, elsewhere that of the parent and the signature of the edge to it
 pub record IsNumbered (s : CotreeTables) (t : NearTables) (base v : ℕ) (old new : WayTables) : Type 0 where
   pub numbered : slice_index new.numbers v < length new.classes

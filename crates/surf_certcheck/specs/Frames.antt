@@ -7,7 +7,6 @@ use Rattle.surf_surfaces.specs.Loop.{loop_walk}
 use Rattle.surf_surfaces.specs.Mesh.{Mesh}
 use Rattle.surf_surfaces.specs.Signature.{edge_signature, walk_signature}
 use Rattle.surf_surfaces.specs.Surface.{edge_count}
-use Rattle.surf_surfaces.specs.Walk.{walk_length}
 use Rattle.surf_signatures.specs.Tables.{Signed}
 use Rattle.surf_validity.specs.Bases.{tree_at, split_in, weighed_cycle}
 use Rattle.surf_validity.specs.Rows.{TreeRows, BasisCert}
@@ -16,12 +15,7 @@ use Rattle.surf_surfaces.specs.Cotree.{is_left}
 use Rattle.surf_validity.specs.Valid.{dual_tree}
 use Rattle.surf_certcheck.specs.Rows.{HasDualRows}
 
--- a walk's signature with its length
-abbrev pub weighed_by : Mesh → List ℕ → Split → List ℕ → Weighed ℕ
-weighed_by mesh lengths d walk =
-    record { weight = walk_length mesh lengths walk; vector = walk_signature mesh d walk }
-
--- that of the loop of an edge through a tree
+-- the signature of the loop of an edge through a tree, with the length of the loop
 abbrev pub weighed_through : Mesh → List ℕ → Split → TreeRows → ℕ → Weighed ℕ
 weighed_through mesh lengths d rows e = record {
   weight = loop_size mesh lengths rows e;

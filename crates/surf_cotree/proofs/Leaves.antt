@@ -5,7 +5,7 @@ use Rattle.std.specs.Option.{IfSome, is_some}
 use Rattle.std.proofs.lemmas.Bool.{cases_eq, false≢true}
 use Rattle.std.proofs.lemmas.List.{get_or_default}
 use Rattle.surf_graphs.specs.Graphs.{Graph, joins}
-use Rattle.surf_net.specs.Rows.{link_at, IsRow}
+use Rattle.surf_mesh.specs.Links.{link_at, IsRow}
 use Rattle.surf_cotree.specs.Searches.{outside}
 use Rattle.surf_cotree.specs.Peeling.{leaf_at, left_after, IsOnlyEdge, IsLeaf, IsPeeled}
 use Rattle.surf_cotree.specs.declared.peeling.Leaf.{Leaf}

@@ -1,6 +1,6 @@
 -- The link of a side of a face, in a list of sides.
 use Rattle.std.proofs.Common.{ℕ, ◌<◌, ◌≡◌, sym, ap, ◌∙◌, List, length}
-use Rattle.surf_net.specs.Rows.{link_at, side_link}
+use Rattle.surf_mesh.specs.Links.{link_at, side_link}
 use Rattle.std.proofs.lemmas.List.{get_or-map}
 use Rattle.std.proofs.Common.{get_or, map}
 use Rattle.surf_surfaces.specs.Mesh.{Mesh}

@@ -9,7 +9,6 @@ ghost use Rattle.surf_cotree.specs.Peeling.{IsOnlyEdge, IsPeeled, IsHung};
 use crate::search::{NOBODY, face_across};
 use surf_base::{EdgeId, FaceId};
 use surf_mesh::HalfMesh;
-use surf_net::{across, sides_of};
 
 /// A face and the one edge by which it hangs on the faces that are left.
 #[derive(Clone, Copy)]
@@ -26,8 +25,8 @@ fn only_edge(mesh: &HalfMesh, marks: &[bool], face: FaceId) -> Option<EdgeId>
 {
     let _edges = mesh.edges();
     let mut found = None;
-    for s in sides_of(mesh, face) {
-        let (_, edge) = across(mesh, *s);
+    for s in mesh.sides_of(face) {
+        let (_, edge) = mesh.across(*s);
         if !marks[edge.index()] {
             if found.is_some() {
                 return None;

@@ -12,7 +12,6 @@ ghost use Rattle.surf_cotree.specs.Searches.{at, heaviest, reached, outside, IsO
 use surf_base::{EdgeId, FaceId};
 use surf_heap::Heap;
 use surf_mesh::HalfMesh;
-use surf_net::{across, sides_of};
 
 /// Stands for no edge, and for the depth of a face that isn't reached.
 pub(crate) const NOBODY: u32 = u32::MAX;
@@ -58,8 +57,8 @@ fn offer_neighbours(
     ensures offered { IsOffered (dual (cells_of mesh.now)) (outside marks.now) (at weight.now) (reached depth.now) face heap.old heap.new }
 {
     let _edges = mesh.edges();
-    for s in sides_of(mesh, FaceId::new(face)) {
-        let (next, edge) = across(mesh, *s);
+    for s in mesh.sides_of(FaceId::new(face)) {
+        let (next, edge) = mesh.across(*s);
         if leads_on(marks, depth, edge, next) {
             offer_by(heap, weight, edge, next);
         }

@@ -17,7 +17,7 @@ use Rattle.surf_surfaces.proofs.ClassLaws.{some_vertex}
 use Rattle.surf_classes.specs.Cover.{IsSet, IsSignedDistance}
 use Rattle.surf_classes.proofs.Reached.{way_to}
 use Rattle.surf_classes.proofs.SignedSteps.{xor_set, nearest_from, nearest_to}
-use Rattle.surf_net.specs.Rows.{IsRow, edge_link}
+use Rattle.surf_mesh.specs.Links.{IsRow, edge_link}
 use Rattle.surf_cotree.specs.Tables.{CotreeTables, split_with}
 use Rattle.surf_cover.specs.Grown.{IsSigned, IsGrownBy}
 use Rattle.surf_cover.specs.Networks.{IsSignedBy}

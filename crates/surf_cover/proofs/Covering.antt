@@ -19,7 +19,7 @@ use Rattle.surf_classes.specs.CoverGraph.{set_count, cover, cover_node, cover_ed
 use Rattle.surf_classes.proofs.Covers.{is_cover, searches_certify}
 use Rattle.surf_classes.proofs.SignedSteps.{edge_set, xor_set, none_set}
 use Rattle.surf_lengths.specs.Lengths.{AreLengths}
-use Rattle.surf_net.specs.Rows.{link_at, IsRow, other_of, edge_link}
+use Rattle.surf_mesh.specs.Links.{link_at, IsRow, other_of, edge_link}
 use Rattle.surf_tree.specs.Searches.{IsSettled, IsSearchable}
 use Rattle.surf_tree.proofs.LengthLaws.{short_lengths}
 use Rattle.surf_cover.specs.Networks.{node_of, cover_by, length_by, link_by, IsSignedBy}

@@ -9,7 +9,7 @@ use Rattle.surf_surfaces.specs.Cells.{cells_of}
 use Rattle.surf_surfaces.specs.Signature.{edge_signature}
 use Rattle.surf_classes.specs.Cover.{IsCertified, IsReadBack}
 use Rattle.surf_classes.specs.CoverGraph.{set_count}
-use Rattle.surf_net.specs.Rows.{other_of}
+use Rattle.surf_mesh.specs.Links.{other_of}
 
 -- the node of a vertex with a set, where there are so many sets
 abbrev pub node_of : ℕ → ℕ → ℕ → ℕ

@@ -6,7 +6,6 @@ ghost use Rattle.surf_cover.specs.Networks.{cover_by, length_by, link_by, IsCove
 use surf_base::{EdgeId, VertexId};
 use surf_lengths::Lengths;
 use surf_mesh::HalfMesh;
-use surf_net::{edges_at, other_end};
 use surf_tree::Network;
 
 /// The vertices of a mesh with each of so many sets, where a table has the signatures of the edges. The node of a vertex
@@ -32,12 +31,12 @@ impl Network for CoverNetwork<'_> {
 
     #[inline]
     fn edges_at(&self, node: u32) -> &[EdgeId] {
-        edges_at(self.mesh, VertexId::new(node / self.sets))
+        self.mesh.edges_at(VertexId::new(node / self.sets))
     }
 
     #[inline]
     fn across(&self, node: u32, edge: EdgeId) -> (u32, u32) {
-        let end = other_end(self.mesh, VertexId::new(node / self.sets), edge);
+        let end = self.mesh.other_end(VertexId::new(node / self.sets), edge);
         let set = (node % self.sets) ^ self.signs[edge.index()];
         (end.number() * self.sets + set, self.lengths.of(edge))
     }

@@ -15,7 +15,6 @@ use surf_base::VertexId;
 use surf_cotree::CotreeDesk;
 use surf_lengths::Lengths;
 use surf_mesh::HalfMesh;
-use surf_net::edges_at;
 
 /// Where a round begins, and its length.
 #[derive(Clone, Copy)]
@@ -41,7 +40,7 @@ fn is_lesser_end(mesh: &HalfMesh, cotree: &CotreeDesk, v: VertexId, number: u32)
     requires signatures { length cotree.now.signatures ≡ edge_count mesh.now }
     ensures end { MatchBool result (IsLesserEnd mesh.now cotree.now.signatures number v) (IsLesserEnd mesh.now cotree.now.signatures number v → ⊥) }
 {
-    for edge in edges_at(mesh, v) {
+    for edge in mesh.edges_at(v) {
         let (end, _) = mesh.ends(*edge);
         if end == v && cotree.signature(*edge).bit(number) {
             return true;

@@ -5,7 +5,18 @@ use Rattle.std.proofs.lemmas.List.{length-replicate, get_or-replicate, length-se
 use Rattle.std.proofs.lemmas.List.Sums.{sum_by-set, sum_by-cons}
 use Rattle.surf_surfaces.specs.Joined.{Joined, here, over}
 use Rattle.surf_surfaces.proofs.JoinedLaws.{joined_trans, joined_closed}
-use Rattle.surf_mesh.specs.Reach.{Leads, marked, unmarked, Visits, Reaches, IsReach}
+use Rattle.surf_mesh.specs.Reach.{Leads, marked, unmarked, Visits, IsReach}
+
+-- a walk so far: the rows of the first k listed numbers are done
+pub record Reaches (rows : List (List ℕ)) (from k : ℕ) (seen : List Bool) (listed : List ℕ) : Type 0 where
+  pub size : length seen ≡ length rows
+  pub start : marked seen from ≡ true
+  pub sound : (j : ℕ) → marked seen j ≡ true → Joined (Leads rows) from j
+  pub is_listed : (j : ℕ) → marked seen j ≡ true → (i : ℕ) × (i < length listed) × (get_or listed i 0 ≡ j)
+  pub listed_marked : (i : ℕ) → i < length listed → marked seen (get_or listed i 0) ≡ true
+  pub done : (i : ℕ) → i < k → (m : ℕ) → m < length (get_or rows (get_or listed i 0) []) → marked seen (get_or (get_or rows (get_or listed i 0) []) m 0) ≡ true
+  pub counted : length listed + unmarked seen ≡ length rows
+  pub within : k ≤ length listed
 
 pub marked-inside : (seen : List Bool) (j : ℕ) → marked seen j ≡ true → j < length seen
 marked-inside seen j h = elim (cases_lt j (length seen)) [ inl lt ↦ lt | inr ge ↦ absurd (true≢false (sym h ∙ get_or_past seen j false ge)) ]

@@ -4,7 +4,19 @@ use Rattle.std.proofs.lemmas.Bool.{true≢false, cases_eq, eq-eqb, ne_eqb}
 use Rattle.std.proofs.lemmas.List.{length-set, get_or-set_same, get_or-set_other, length_push, get_or_push, get_or_append_left}
 use Rattle.std.proofs.lemmas.List.Sums.{sum_by-set}
 use Rattle.surf_mesh.specs.Reach.{marked, unmarked}
-use Rattle.surf_mesh.specs.Ring.{corner_of, flip_of, cross_of, turn_of, turns, AreDarts, Rounds, IsRound, IsTrail}
+use Rattle.surf_mesh.specs.Ring.{corner_of, flip_of, cross_of, turn_of, turns, AreDarts, IsRound, IsTrail}
+
+-- a walk round a vertex so far
+pub record Rounds (next prev mate tails : List ℕ) (d : ℕ × Bool) (seen_before : List Bool) (side : ℕ) (head : Bool) (at : ℕ) (seen : List Bool) (ring : List ℕ) : Type 0 where
+  pub size : length seen ≡ length next
+  pub here : (side, head) ≡ turns next prev mate tails (length ring) d
+  pub stands : at ≡ corner_of next (side, head)
+  pub entries : (k : ℕ) → k < length ring → get_or ring k 0 ≡ corner_of next (turns next prev mate tails k d)
+  pub are_marked : (k : ℕ) → k < length ring → marked seen (get_or ring k 0) ≡ true
+  pub stay : (s : ℕ) → marked seen_before s ≡ true → marked seen s ≡ true
+  pub only : (s : ℕ) → marked seen s ≡ true → (marked seen_before s ≡ true) ⊎ ((k : ℕ) × (k < length ring) × (get_or ring k 0 ≡ s))
+  pub differ : (i k : ℕ) → i < k → k < length ring → get_or ring i 0 ≢ get_or ring k 0
+  pub counted : length ring + unmarked seen ≡ unmarked seen_before
 
 pub marks_one : (seen : List Bool) (at : ℕ) → at < length seen → marked seen at ≡ false → unmarked (set seen at true) + 1 ≡ unmarked seen
 marks_one seen at lt new =

@@ -23,17 +23,6 @@ pub record Visits (row : List ℕ) (k : ℕ) (seen_before : List Bool) (listed_b
   pub only : (j : ℕ) → marked seen j ≡ true → (marked seen_before j ≡ true) ⊎ (((i : ℕ) × (i < k) × (get_or row i 0 ≡ j)) × ((i : ℕ) × (i < length listed) × (get_or listed i 0 ≡ j)))
   pub listed_marked : ((i : ℕ) → i < length listed_before → marked seen_before (get_or listed_before i 0) ≡ true) → (i : ℕ) → i < length listed → marked seen (get_or listed i 0) ≡ true
 
--- a walk so far: the rows of the first k listed numbers are done
-pub record Reaches (rows : List (List ℕ)) (from k : ℕ) (seen : List Bool) (listed : List ℕ) : Type 0 where
-  pub size : length seen ≡ length rows
-  pub start : marked seen from ≡ true
-  pub sound : (j : ℕ) → marked seen j ≡ true → Joined (Leads rows) from j
-  pub is_listed : (j : ℕ) → marked seen j ≡ true → (i : ℕ) × (i < length listed) × (get_or listed i 0 ≡ j)
-  pub listed_marked : (i : ℕ) → i < length listed → marked seen (get_or listed i 0) ≡ true
-  pub done : (i : ℕ) → i < k → (m : ℕ) → m < length (get_or rows (get_or listed i 0) []) → marked seen (get_or (get_or rows (get_or listed i 0) []) m 0) ≡ true
-  pub counted : length listed + unmarked seen ≡ length rows
-  pub within : k ≤ length listed
-
 -- exactly what a chain leads to is marked
 pub record IsReach (rows : List (List ℕ)) (from : ℕ) (seen : List Bool) : Type 0 where
   pub size : length seen ≡ length rows

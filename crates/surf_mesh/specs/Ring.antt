@@ -44,18 +44,6 @@ pub record AreDarts (next prev mate tails : List ℕ) : Type 0 where
   pub ends_differ : (s : ℕ) → s < length next → get_or tails (get_or next s 0) 0 ≢ get_or tails s 0
   pub ends_same : (s : ℕ) → s < length next → ((get_or tails (get_or mate s 0) 0 ≡ get_or tails s 0) × (get_or tails (get_or next (get_or mate s 0) 0) 0 ≡ get_or tails (get_or next s 0) 0)) ⊎ ((get_or tails (get_or mate s 0) 0 ≡ get_or tails (get_or next s 0) 0) × (get_or tails (get_or next (get_or mate s 0) 0) 0 ≡ get_or tails s 0))
 
--- a walk so far
-pub record Rounds (next prev mate tails : List ℕ) (d : ℕ × Bool) (seen_before : List Bool) (side : ℕ) (head : Bool) (at : ℕ) (seen : List Bool) (ring : List ℕ) : Type 0 where
-  pub size : length seen ≡ length next
-  pub here : (side, head) ≡ turns next prev mate tails (length ring) d
-  pub stands : at ≡ corner_of next (side, head)
-  pub entries : (k : ℕ) → k < length ring → get_or ring k 0 ≡ corner_of next (turns next prev mate tails k d)
-  pub are_marked : (k : ℕ) → k < length ring → marked seen (get_or ring k 0) ≡ true
-  pub stay : (s : ℕ) → marked seen_before s ≡ true → marked seen s ≡ true
-  pub only : (s : ℕ) → marked seen s ≡ true → (marked seen_before s ≡ true) ⊎ ((k : ℕ) × (k < length ring) × (get_or ring k 0 ≡ s))
-  pub differ : (i k : ℕ) → i < k → k < length ring → get_or ring i 0 ≢ get_or ring k 0
-  pub counted : length ring + unmarked seen ≡ unmarked seen_before
-
 -- a whole round
 pub record IsRound (next prev mate tails : List ℕ) (d : ℕ × Bool) (seen_before seen : List Bool) (ring : List ℕ) : Type 0 where
   pub size : length seen ≡ length next

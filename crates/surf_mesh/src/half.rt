@@ -282,10 +282,12 @@ impl HalfMesh {
         part(&self.table.numbers, start, end)
     }
 
-    /// The sides that begin at a vertex, one a face there, in the order round it from the least face on.
+    /// The sides that begin at a vertex, one a face there, in the order round it from the least face on: the
+    /// next one lies across the edge that stands before the corner.
     pub fn ring(&self, v: VertexId) -> &[SideId]
         requires { v < self.now.vertices }
-        ensures { IsRing self.now v result.now }
+        ensures ring { IsRing self.now v result.now }
+        ensures goes_round { (edges : List ℕ) × AreEdgesAt self.now v edges × GoBetween self.now result.now edges }
     {
         self.rings.row(v.index())
     }

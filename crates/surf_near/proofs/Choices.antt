@@ -2,7 +2,7 @@
 use Rattle.std.proofs.Common.{ℕ, ◌<◌, ◌≤◌, ◌≡◌, ◌≢◌, ◌+◌, ◌⊎◌, min, refl, sym, ap, ◌∙◌, subst, arith, inl, inr, List, length, set, get_or-set_same, get_or-set_other}
 use Rattle.std.proofs.lemmas.Bool.{cases_eq, cases_lt}
 use Rattle.surf_graphs.specs.Graphs.{Graph}
-use Rattle.surf_net.specs.Rows.{link_at, IsRow}
+use Rattle.surf_mesh.specs.Links.{link_at, IsRow}
 use Rattle.surf_tree.specs.Tables.{nobody}
 use Rattle.surf_tree.specs.Searches.{at, IsTight}
 use Rattle.surf_tree.proofs.Choosing.{chosen_tight}

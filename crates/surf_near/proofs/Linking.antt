@@ -11,12 +11,16 @@ use Rattle.surf_surfaces.specs.Walk.{edge_length}
 use Rattle.surf_surfaces.specs.Cells.{cells_of}
 use Rattle.surf_surfaces.proofs.PairLaws.{pair_same}
 use Rattle.surf_mesh.specs.Ring.{AreEdgesAt}
-use Rattle.surf_net.specs.Rows.{link_at, IsRow, edge_link}
-use Rattle.surf_net.proofs.RowLaws.{edge_row, cells_few}
+use Rattle.surf_mesh.specs.Links.{link_at, IsRow, other_of, edge_link}
+use Rattle.surf_mesh.proofs.LinkLaws.{edge_row, cells_few}
 use Rattle.surf_lengths.specs.Lengths.{longest}
 use Rattle.surf_tree.proofs.LengthLaws.{short_lengths}
 use Rattle.surf_near.specs.declared.links.Link.{Link}
-use Rattle.surf_near.specs.Links.{LinkTables, weight_of, ends_of, link_in, link_over, AreLinksAt, AreLinks, AreEven}
+use Rattle.surf_near.specs.Links.{LinkTables, weight_of, ends_of, link_in, AreLinksAt, AreLinks, AreEven}
+
+-- an edge as a link of one of its ends
+abbrev pub link_over : Mesh → List ℕ → ℕ → ℕ → Link
+link_over mesh lengths v e = record { to = other_of (ends mesh e) v; length = edge_length lengths e; edge = e }
 
 -- a pair that joins two numbers is of these
 either_way : (p : ℕ × ℕ) (a b : ℕ) → ((eqb p.0 a && eqb p.1 b) || (eqb p.0 b && eqb p.1 a)) ≡ true →

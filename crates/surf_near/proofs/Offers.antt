@@ -2,7 +2,7 @@
 use Rattle.std.proofs.Common.{ℕ, ◌<◌, ◌≤◌, ◌≡◌, ◌≢◌, ◌+◌, arith, List, length, set, Some, refl}
 use Rattle.surf_graphs.specs.Graphs.{Graph}
 use Rattle.surf_heap.specs.Entries.{Entries, entry_of, lesser}
-use Rattle.surf_net.specs.Rows.{link_at, IsRow}
+use Rattle.surf_mesh.specs.Links.{link_at, IsRow}
 use Rattle.surf_tree.proofs.SearchWords.{IsOfferedSome}
 use Rattle.surf_tree.proofs.Offering.{offered_none, link_skip, link_more, offered_all}
 use Rattle.surf_near.specs.Near.{never}

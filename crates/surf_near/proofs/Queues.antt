@@ -6,7 +6,7 @@ use Rattle.surf_z2.specs.Parity.{count_below}
 use Rattle.surf_graphs.specs.Graphs.{Graph, joins}
 use Rattle.surf_graphs.proofs.Loops.{joins_turned}
 use Rattle.surf_lengths.specs.Lengths.{longest}
-use Rattle.surf_net.specs.Rows.{link_at, IsRow}
+use Rattle.surf_mesh.specs.Links.{link_at, IsRow}
 use Rattle.surf_tree.specs.Searches.{at, IsReached}
 use Rattle.surf_tree.proofs.Choosing.{chosen_in}
 use Rattle.surf_tree.proofs.Offering.{one_less, all_free}

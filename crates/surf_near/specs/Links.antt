@@ -9,7 +9,7 @@ use Rattle.surf_surfaces.specs.Walk.{edge_length}
 use Rattle.surf_surfaces.specs.Cells.{cells_of}
 use Rattle.surf_surfaces.specs.SideNumber.{side_count}
 use Rattle.surf_lengths.specs.Lengths.{AreLengths}
-use Rattle.surf_net.specs.Rows.{IsRow, other_of}
+use Rattle.surf_mesh.specs.Links.{IsRow}
 use Rattle.surf_near.specs.declared.links.Link.{Link}
 
 -- a mesh with its lengths, and the links of each vertex
@@ -37,10 +37,6 @@ pub record AreLinksAt (mesh : Mesh) (lengths : List ℕ) (v : ℕ) (links : List
   pub row : IsRow (primal (cells_of mesh)) v (map ends_of links)
   pub measured : (k : ℕ) → k < length links →
       (link_in links k).length ≡ edge_length lengths (link_in links k).edge
-
--- an edge as a link of one of its ends
-abbrev pub link_over : Mesh → List ℕ → ℕ → ℕ → Link
-link_over mesh lengths v e = record { to = other_of (ends mesh e) v; length = edge_length lengths e; edge = e }
 
 -- how many edges there are at a vertex
 abbrev pub degree : Mesh → ℕ → ℕ

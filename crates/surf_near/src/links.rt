@@ -10,7 +10,6 @@ use std::marker::Model;
 use surf_base::{EdgeId, NoMemory, VertexId};
 use surf_lengths::Lengths;
 use surf_mesh::HalfMesh;
-use surf_net::other_end;
 use surf_rows::Rows;
 
 /// A neighbour of a vertex, and the length and the number of the edge to it.
@@ -74,7 +73,7 @@ fn links_of(
     let mut row = Vec::with_capacity(alloc, edges.len())?;
     for e in edges {
         row.push(Link {
-            to: other_end(mesh, v, *e),
+            to: mesh.other_end(v, *e),
             length: lengths.of(*e),
             edge: *e,
         })?;

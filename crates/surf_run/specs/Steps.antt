@@ -5,8 +5,3 @@ use Rattle.surf_run.specs.Outcome.{Outcome}
 -- The first step ends so, or it goes on and the second ends so.
 abbrev pub Ends : {A : Type 0} → (Result A Outcome → Type 0) → (A → Outcome → Type 0) → Outcome → Type 0
 Ends {A} first second outcome = first (Err outcome) ⊎ ((a : A) × first (Ok a) × second a outcome)
-
--- The first step and then the second, which go on with the second's value.
-abbrev pub Then : {A B : Type 0} → (Result A Outcome → Type 0) → (A → Result B Outcome → Type 0) → Result B Outcome → Type 0
-Then {A} first second (Err outcome) = first (Err outcome) ⊎ ((a : A) × first (Ok a) × second a (Err outcome))
-Then {A} first second (Ok b) = (a : A) × first (Ok a) × second a (Ok b)

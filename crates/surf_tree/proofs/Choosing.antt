@@ -2,7 +2,7 @@
 use Rattle.std.proofs.Common.{ℕ, ◌<◌, ◌≤◌, ◌≡◌, ◌+◌, ap, ◌∙◌, subst, sym, arith, inl, inr, List, length, true}
 use Rattle.std.proofs.lemmas.Bool.{cases_eq}
 use Rattle.surf_graphs.specs.Graphs.{Graph, joins}
-use Rattle.surf_net.specs.Rows.{link_at, IsRow}
+use Rattle.surf_mesh.specs.Links.{link_at, IsRow}
 use Rattle.surf_tree.specs.Searches.{IsTight}
 
 module _ (g : Graph) (len dist : ℕ → ℕ) (v : ℕ) (links : List (ℕ × ℕ)) (row : IsRow g v links) (n w e : ℕ) (in_row : n < length links) (is : link_at links n ≡ (w, e)) where

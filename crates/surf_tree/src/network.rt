@@ -5,12 +5,11 @@ ghost use Rattle.surf_graphs.specs.Cells.{primal};
 ghost use Rattle.surf_surfaces.specs.Surface.{edge_count};
 ghost use Rattle.surf_surfaces.specs.Walk.{edge_length};
 ghost use Rattle.surf_surfaces.specs.Cells.{cells_of};
-ghost use Rattle.surf_net.specs.Rows.{IsRow, edge_link};
+ghost use Rattle.surf_mesh.specs.Links.{IsRow, edge_link};
 
 use surf_base::{EdgeId, VertexId};
 use surf_lengths::Lengths;
 use surf_mesh::HalfMesh;
-use surf_net::{edges_at, other_end};
 
 /// A graph whose edges have lengths and lie over the edges of a mesh. Nodes are numbers.
 pub trait Network {
@@ -64,12 +63,12 @@ impl Network for MeshNetwork<'_> {
 
     #[inline]
     fn edges_at(&self, node: u32) -> &[EdgeId] {
-        edges_at(self.mesh, VertexId::new(node))
+        self.mesh.edges_at(VertexId::new(node))
     }
 
     #[inline]
     fn across(&self, node: u32, edge: EdgeId) -> (u32, u32) {
-        let end = other_end(self.mesh, VertexId::new(node), edge);
+        let end = self.mesh.other_end(VertexId::new(node), edge);
         (end.number(), self.lengths.of(edge))
     }
 }

@@ -2,7 +2,7 @@ use Rattle.std.proofs.Common.{◌≡◌, ◌<◌, ◌∙◌, ℕ, not, true, fal
 use Rattle.std.proofs.lemmas.List.{length-map}
 use Rattle.surf_graphs.specs.Cells.{dual}
 use Rattle.surf_surfaces.specs.Cells.{cells_of}
-use Rattle.surf_net.specs.Rows.{link_at, side_link}
+use Rattle.surf_mesh.specs.Links.{link_at, side_link}
 use Rattle.surf_cotree.specs.Searches.{outside}
 use Rattle.surf_cotree.proofs.Passing.{link_of_side}
 use Rattle.surf_cotree.proofs.Leaves.{only_skip, only_second, found_only}

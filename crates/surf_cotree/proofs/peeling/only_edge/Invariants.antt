@@ -1,5 +1,5 @@
 use Rattle.std.proofs.Common.{map}
-use Rattle.surf_net.specs.Rows.{link_at, side_link}
+use Rattle.surf_mesh.specs.Links.{link_at, side_link}
 use Rattle.surf_cotree.specs.Searches.{outside}
 use Rattle.surf_cotree.proofs.Leaves.{IsOnlySoFar}
 use Rattle.surf_cotree.proofs.peeling.only_edge.Given as goal

@@ -1,7 +1,6 @@
 use Rattle.std.proofs.Common.{◌≡◌, ◌∙◌, take, arith}
 use Rattle.std.proofs.lemmas.List.{take_all, length-map}
-use Rattle.surf_near.specs.Links.{link_over}
-use Rattle.surf_near.proofs.Linking.{links_over}
+use Rattle.surf_near.proofs.Linking.{link_over, links_over}
 use Rattle.surf_near.proofs.RowCounts.{row_length}
 use Rattle.surf_near.proofs.links.links_of.Goals as goal
 

@@ -1,5 +1,5 @@
 use Rattle.std.proofs.Common.{◌≡◌, map, take}
-use Rattle.surf_near.specs.Links.{link_over}
+use Rattle.surf_near.proofs.Linking.{link_over}
 use Rattle.surf_near.proofs.links.links_of.Given as goal
 
 abbrev pub invariant-loop-e : goal.invariant-loop-e

@@ -1,5 +1,5 @@
 use Rattle.std.proofs.Common.{◌≡◌, ◌≢◌, ℕ, ◌<◌, ◌≤◌, ◌+◌, map}
-use Rattle.surf_net.specs.Rows.{link_at}
+use Rattle.surf_mesh.specs.Links.{link_at}
 use Rattle.surf_tree.specs.Tables.{nobody}
 use Rattle.surf_tree.specs.Searches.{at, IsTight}
 use Rattle.surf_tree.proofs.parents.least_tight.Given as goal

@@ -1,5 +1,5 @@
 use Rattle.std.proofs.Common.{map}
-use Rattle.surf_net.specs.Rows.{link_at}
+use Rattle.surf_mesh.specs.Links.{link_at}
 use Rattle.surf_tree.specs.Searches.{at}
 use Rattle.surf_tree.proofs.SearchWords.{IsOfferedSome}
 use Rattle.surf_tree.proofs.search.offer_neighbours.Given as goal

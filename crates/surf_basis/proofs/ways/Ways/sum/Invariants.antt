@@ -1,5 +1,6 @@
 use Rattle.std.proofs.Common.{◌≡◌, length}
-use Rattle.surf_basis.specs.Ways.{AreWaysTo, HasNone}
+use Rattle.surf_basis.specs.Ways.{HasNone}
+use Rattle.surf_basis.proofs.Numbered.{AreWaysTo}
 use Rattle.surf_basis.proofs.ways.Ways.sum.Given as goal
 
 abbrev pub invariant-loop-v : goal.invariant-loop-v

@@ -3,7 +3,7 @@ use Rattle.std.specs.List.{sum_by}
 use Rattle.std.proofs.lemmas.Bool.{cases_eq}
 use Rattle.std.proofs.lemmas.List.{get_or_push, get_or_append_left}
 use Rattle.std.proofs.lemmas.List.Sums.{sum_by_push}
-use Rattle.surf_net.proofs.RowLaws.{cells_few}
+use Rattle.surf_mesh.proofs.LinkLaws.{cells_few}
 use Rattle.surf_near.specs.declared.links.Link.{Link}
 use Rattle.surf_near.specs.Links.{AreLinksAt, degree}
 use Rattle.surf_near.proofs.RowCounts.{rows_before, rows_next}

@@ -7,7 +7,7 @@ use Rattle.surf_surfaces.specs.Cells.{cells_of}
 use Rattle.surf_surfaces.specs.Surface.{edge_count}
 use Rattle.surf_surfaces.specs.Walk.{edge_length}
 use Rattle.surf_surfaces.proofs.CellLaws.{surfaces_are_cells}
-use Rattle.surf_net.proofs.RowLaws.{cells_few}
+use Rattle.surf_mesh.proofs.LinkLaws.{cells_few}
 use Rattle.surf_lengths.specs.Lengths.{longest}
 use Rattle.surf_tree.specs.Tables.{TreeTables, nobody, IsMadeFor}
 use Rattle.surf_tree.specs.Searches.{at, IsSettled, IsLeastTight}

@@ -21,7 +21,7 @@ use Rattle.surf_surfaces.specs.SideNumber.{side_count, pair_at, owners, first_si
 use Rattle.surf_mesh.proofs.EdgeTables.{pair_at-edge}
 use Rattle.surf_mesh.proofs.HalfLaws.{face_of_side, spans}
 use Rattle.surf_mesh.proofs.SideNumbers.{pair_at_place, side_of_face, face_has_side, one_face}
-use Rattle.surf_net.specs.Rows.{link_at, IsRow, other_of, edge_link, side_face, side_edge, side_link}
+use Rattle.surf_mesh.specs.Links.{link_at, IsRow, other_of, edge_link, side_face, side_edge, side_link}
 
 -- a pair joins each of its two to the other one
 other_joins : (a b v : ℕ) → (eqb v a || eqb v b) ≡ true → ((eqb a v && eqb b (other_of (a, b) v)) || (eqb a (other_of (a, b) v) && eqb b v)) ≡ true
