@@ -8,7 +8,7 @@ use Rattle.surf_surfaces.proofs.ChoiceExists.{choice_exists, heaviest_exists}
 use Rattle.surf_surfaces.proofs.ClassLaws.{some_vertex}
 use Rattle.surf_surfaces.proofs.ShortestTreeLaws.{shortest_is_tree}
 use Rattle.surf_validity.specs.Rows.{TreeRows, DualRows, LoopCert, BasisCert}
-use Rattle.surf_validity.specs.Chosen.{rows_of, dual_rows_of, cert_of, basis_cert_of}
+use Rattle.surf_validity.specs.Chosen.{rows_for, dual_rows_of, chosen_cert, basis_cert_of}
 use Rattle.surf_validity.specs.Bases.{IsValidBasis}
 use Rattle.surf_validity.proofs.OneCert.{chosen_certs_are_one}
 use Rattle.surf_validity.proofs.ChosenBases.{chosen_bases_are_valid}
@@ -25,7 +25,7 @@ use Rattle.surf_basis.specs.Cycles.{IsTheBasis}
 module _ (mesh : Mesh) (lengths : List ℕ) (surface : IsSurface mesh) (positive : ArePositive mesh lengths) where
   -- the rows of a grown tree are those of each tree that is chosen at its base
   rows_are_one : (base : ℕ) (t : TreeTables) (trees : Trees) → IsTreeGrown mesh lengths base t → AreChosenAt mesh lengths base trees →
-      rows_of mesh (tree_of t) ≡ rows_of mesh trees.tree
+      rows_for mesh (tree_of t) ≡ rows_for mesh trees.tree
   rows_are_one base t trees grown chosen =
       let spans = shortest_is_tree mesh lengths base (tree_of t) surface positive grown.shortest in
       let (cotree, heaviest) = heaviest_exists mesh lengths (tree_of t) surface spans in
@@ -34,9 +34,9 @@ module _ (mesh : Mesh) (lengths : List ℕ) (surface : IsSurface mesh) (positive
 
   -- one more tree
   pub rows_more : (base : ℕ) (t : TreeTables) (old new : List TreeRows) (row : TreeRows) → base < mesh.vertices → IsTreeGrown mesh lengths base t →
-      AreTreeRowsBelow mesh lengths base old → row ≡ rows_of mesh (tree_of t) → new ≡ old ++ row ∷ [] → AreTreeRowsBelow mesh lengths (base + 1) new
+      AreTreeRowsBelow mesh lengths base old → row ≡ rows_for mesh (tree_of t) → new ≡ old ++ row ∷ [] → AreTreeRowsBelow mesh lengths (base + 1) new
   rows_more base t old new row l grown are is added trees chosen =
-      listed_more (λ x. rows_of mesh (trees x).tree) base old new row (are trees chosen) added (is ∙ rows_are_one base t (trees base) grown (chosen base l))
+      listed_more (λ x. rows_for mesh (trees x).tree) base old new row (are trees chosen) added (is ∙ rows_are_one base t (trees base) grown (chosen base l))
 
   -- the parts together
   pub the_cert : (t : LoopTables) (basis : List Loop) (cert : BasisCert) (rows : List TreeRows) (dual : DualRows) (left : List (ℕ × ℕ)) (cycles : List (List ℕ)) →
@@ -45,10 +45,10 @@ module _ (mesh : Mesh) (lengths : List ℕ) (surface : IsSurface mesh) (positive
       IsTheCert mesh lengths cert
   the_cert t basis cert rows dual left cycles g is_basis is trees_are dual_is left_is cycles_are =
       let (trees, chosen) = choice_exists mesh lengths surface positive in
-      let one : cert_of mesh (trees_of t) ≡ cert_of mesh (trees 0) =
+      let one : chosen_cert mesh (trees_of t) ≡ chosen_cert mesh (trees 0) =
       chosen_certs_are_one mesh lengths 0 (trees_of t) (trees 0) surface positive g.chosen (chosen 0 (some_vertex mesh surface)) in
-      let parts : record { tree = rows_of mesh (tree_of t.tree); dual = dual; left = left } ≡ cert_of mesh (trees_of t) =
-      cert_shown mesh lengths 0 t (record { tree = rows_of mesh (tree_of t.tree); dual = dual; left = left }) (rows_of mesh (tree_of t.tree)) dual left surface positive g refl refl dual_is left_is in
+      let parts : record { tree = rows_for mesh (tree_of t.tree); dual = dual; left = left } ≡ chosen_cert mesh (trees_of t) =
+      cert_shown mesh lengths 0 t (record { tree = rows_for mesh (tree_of t.tree); dual = dual; left = left }) (rows_for mesh (tree_of t.tree)) dual left surface positive g refl refl dual_is left_is in
       let of : List TreeRows → DualRows → List (ℕ × ℕ) → List (List ℕ) → BasisCert = λ rows dual left cycles. record { trees = rows; dual = dual; left = left; cycles = cycles } in
       record {
         trees = trees;

@@ -14,12 +14,12 @@ use Rattle.surf_surfaces.proofs.ChoiceExists.{choice_exists}
 use Rattle.surf_surfaces.proofs.FirstCycleLaws.{first_is_shortest, candidates_below_two, simple_cycles_separate}
 use Rattle.surf_surfaces.proofs.LoopsAtLaws.{IsLoopAt, loops_are_least}
 use Rattle.surf_surfaces.proofs.CandidateLaws.{IsLoopBelow, below_each}
-use Rattle.surf_loops.specs.Loops.{LoopTables, loop_of as head_loop, IsGreedy}
+use Rattle.surf_loops.specs.Loops.{LoopTables, as_loop as head_loop, IsGreedy}
 use Rattle.surf_loops.specs.declared.head.LoopHead.{LoopHead}
 use Rattle.surf_basis.specs.declared.candidate.Candidate.{Candidate}
 use Rattle.surf_basis.specs.declared.cycle.Cycle.{Cycle}
 use Rattle.surf_basis.specs.Candidates.{candidate_of, first_head, loop_in, IsInside, IsCycleOf}
-use Rattle.surf_basis.specs.Cycles.{first_of, loop_of, IsFirstCandidate, IsShortestCycle, AllSeparate}
+use Rattle.surf_basis.specs.Cycles.{first_of, as_loop, IsFirstCandidate, IsShortestCycle, AllSeparate}
 use Rattle.surf_basis.proofs.Looped.{heads_chosen, each_head, head_in, none_on_sphere}
 
 -- a list with its first loop
@@ -60,7 +60,7 @@ module _ (mesh : Mesh) (lengths : List ℕ) (trees : ℕ → Trees) (surface : I
       each.0
 
   pub first_cycle : (c : Candidate) (cycle : Cycle) → Some (loop_in mesh trees c) ≡ first_of (candidates mesh lengths trees) →
-      IsCycleOf mesh lengths c cycle → loop_of cycle ≡ loop_in mesh trees c
+      IsCycleOf mesh lengths c cycle → as_loop cycle ≡ loop_in mesh trees c
   first_cycle c cycle e is =
       let placed = first_placed c e in
       let walk = is.walk (trees c.base) (chosen c.base placed.base_in) placed.of.left in
@@ -103,8 +103,8 @@ module _ (mesh : Mesh) (lengths : List ℕ) (surface : IsSurface mesh) (positive
   first_shortest None is = tt
   first_shortest (Some cycle) is =
       let (trees, chosen) = choice_exists mesh lengths surface positive in
-      let (rest, listed) = first_listed (loop_of cycle) (candidates mesh lengths trees) (is trees chosen) in
-      let good = first_is_shortest mesh lengths trees (loop_of cycle) rest surface positive chosen listed in
+      let (rest, listed) = first_listed (as_loop cycle) (candidates mesh lengths trees) (is trees chosen) in
+      let good = first_is_shortest mesh lengths trees (as_loop cycle) rest surface positive chosen listed in
       record { shortest = good.0; size = good.1 }
 
   pub found_some : (c : Candidate) → IsFound mesh lengths (Some c) → IsFullCount mesh 0 → ⊥

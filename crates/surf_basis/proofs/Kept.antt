@@ -22,7 +22,7 @@ use Rattle.surf_loops.specs.Loops.{LoopTables, IsGreedy}
 use Rattle.surf_basis.specs.declared.candidate.Signed.{Signed}
 use Rattle.surf_basis.specs.declared.cycle.Cycle.{Cycle}
 use Rattle.surf_basis.specs.Candidates.{signed_earlier, independent_of, loop_in, loops_in, signed_heads, IsSigned, AreKept, IsInside, IsCycleOf, AreCyclesOf}
-use Rattle.surf_basis.specs.Cycles.{loop_of, loops_of}
+use Rattle.surf_basis.specs.Cycles.{as_loop, as_loops}
 use Rattle.surf_basis.specs.Found.{HaveBasesOfBasis}
 use Rattle.surf_basis.proofs.Sifted.{all_merged, all_kept}
 use Rattle.surf_basis.proofs.Looped.{offered_loops, offered_signed, signed_loop}
@@ -150,23 +150,23 @@ module _ (mesh : Mesh) (lengths : List ℕ) (trees : ℕ → Trees) (surface : I
 
   -- and their cycles are its loops
   cycle_loop : (c : Signed) (cycle : Cycle) → IsSigned mesh lengths trees d c →
-      IsCycleOf mesh lengths c.candidate cycle → loop_of cycle ≡ loop_in mesh trees c.candidate
+      IsCycleOf mesh lengths c.candidate cycle → as_loop cycle ≡ loop_in mesh trees c.candidate
   cycle_loop c cycle s is =
       let walk = is.walk (trees c.candidate.base) (chosen c.candidate.base s.base_in) s.left in
       λ i. record { size = is.size i; base = is.base i; edge = is.edge i; walk = walk i }
 
   all_cycles : (cs : List Signed) (cycles : List Cycle) → AllByRecursion (IsSigned mesh lengths trees d) cs →
-      AreCyclesOf mesh lengths cs cycles → loops_of cycles ≡ loops_in mesh trees cs
+      AreCyclesOf mesh lengths cs cycles → as_loops cycles ≡ loops_in mesh trees cs
   all_cycles [] [] h are = refl
   all_cycles [] (y ∷ ys) h are = absurd are
   all_cycles (c ∷ cs) [] h are = absurd are
   all_cycles (c ∷ cs) (y ∷ ys) h are =
-      ap (λ (k : Loop). k ∷ loops_of ys) (cycle_loop c y h.0 are.0)
+      ap (λ (k : Loop). k ∷ as_loops ys) (cycle_loop c y h.0 are.0)
       ∙ ap (λ ks. loop_in mesh trees c.candidate ∷ ks) (all_cycles cs ys h.1 are.1)
 
   pub cycles_basis : (bases : List ℕ) (kept : List Signed) (cycles : List Cycle) → AreBases mesh bases →
       HaveBasesOfBasis mesh lengths bases → AreKept mesh lengths trees d bases (length bases) kept →
-      AreCyclesOf mesh lengths kept cycles → IsChosenBasis mesh lengths trees (loops_of cycles)
+      AreCyclesOf mesh lengths kept cycles → IsChosenBasis mesh lengths trees (as_loops cycles)
   cycles_basis bases kept cycles rise have k are =
       let (basis, is, one) = basis_is_one mesh lengths trees surface positive chosen in
       subst (IsChosenBasis mesh lengths trees)

@@ -12,7 +12,7 @@ use Rattle.surf_surfaces.specs.Choice.{Trees, AreChosen, Loop, candidates, Depen
 use Rattle.surf_surfaces.proofs.CycleLaws.{null_cycles_separate}
 use Rattle.surf_surfaces.proofs.FirstCycleLaws.{first_is_shortest}
 use Rattle.surf_basis.specs.declared.cycle.Cycle.{Cycle}
-use Rattle.surf_basis.specs.Cycles.{first_of, loop_of, loops_of, IsTheBasis, IsFirstCandidate}
+use Rattle.surf_basis.specs.Cycles.{first_of, as_loop, as_loops, IsTheBasis, IsFirstCandidate}
 
 -- a walk that depends on no other is null
 alone_null : (mesh : Mesh) (walk : List ℕ) (choice : List Bool) →
@@ -24,7 +24,7 @@ none_chosen : (keep : List Bool) → ◌≡◌ {A = List Loop} (chosen keep []) 
 none_chosen [] = refl
 none_chosen (b ∷ bs) = refl
 
-mapped_first : (cycles : List Cycle) → option_map loop_of (first_of cycles) ≡ first_of (loops_of cycles)
+mapped_first : (cycles : List Cycle) → option_map as_loop (first_of cycles) ≡ first_of (as_loops cycles)
 mapped_first [] = refl
 mapped_first (c ∷ cs) = refl
 
@@ -52,8 +52,8 @@ module _ (mesh : Mesh) (lengths : List ℕ) (surface : IsSurface mesh) (positive
         of_keep (false ∷ bs) k = absurd (first_stands c cs e (stands (false ∷ bs) k))
         of_keep (true ∷ bs) k = ap first_of (g.are_kept ∙ ap (λ keep. chosen keep (c ∷ cs)) k)
 
-  pub basis_first : (cycles : List Cycle) → IsTheBasis mesh lengths (loops_of cycles) →
+  pub basis_first : (cycles : List Cycle) → IsTheBasis mesh lengths (as_loops cycles) →
       IsFirstCandidate mesh lengths (first_of cycles)
   basis_first cycles is trees chosen_trees =
       mapped_first cycles
-      ∙ first_kept trees chosen_trees (loops_of cycles) (candidates mesh lengths trees) refl (is trees chosen_trees)
+      ∙ first_kept trees chosen_trees (as_loops cycles) (candidates mesh lengths trees) refl (is trees chosen_trees)

@@ -20,7 +20,7 @@ use Rattle.surf_basis.specs.declared.cycle.Cycle.{Cycle}
 use Rattle.surf_basis.specs.Candidates.{AreKeptOver, IsInside, AreCyclesOf}
 use Rattle.surf_basis.specs.Found.{HaveBasesOfBasis}
 use Rattle.surf_surfaces.specs.FewBases.{AreBases}
-use Rattle.surf_basis.specs.Cycles.{loops_of, IsTheBasis}
+use Rattle.surf_basis.specs.Cycles.{as_loops, IsTheBasis}
 use Rattle.surf_basis.specs.Signing.{AreSigned}
 use Rattle.surf_basis.proofs.Looped.{empty_basis}
 use Rattle.surf_basis.proofs.Kept.{cycles_basis, kept_inside}
@@ -72,9 +72,9 @@ module _ (mesh : Mesh) (lengths : List ℕ) (surface : IsSurface mesh) (positive
       let (trees, chosen) = choice_exists mesh lengths surface positive in
       basis_is_least mesh lengths trees basis surface positive chosen (is trees chosen)
 
-  pub none_basis : (cycles : List Cycle) → cycles ≡ [] → IsFullCount mesh 0 → IsTheBasis mesh lengths (loops_of cycles)
+  pub none_basis : (cycles : List Cycle) → cycles ≡ [] → IsFullCount mesh 0 → IsTheBasis mesh lengths (as_loops cycles)
   none_basis cycles none full trees chosen =
-      subst (λ ys. IsChosenBasis mesh lengths trees (loops_of ys)) (sym none) (empty_basis mesh lengths trees surface positive chosen full)
+      subst (λ ys. IsChosenBasis mesh lengths trees (as_loops ys)) (sym none) (empty_basis mesh lengths trees surface positive chosen full)
 
   module _ (s : CotreeTables) (width : ℕ) (signed : AreSigned mesh s width) where
     pub all_inside : (bases : List ℕ) (kept list : List Signed) → AreKeptOver mesh lengths s bases (length bases) kept → list ≡ kept →
@@ -87,7 +87,7 @@ module _ (mesh : Mesh) (lengths : List ℕ) (surface : IsSurface mesh) (positive
 
     pub the_basis : (bases : List ℕ) (kept list : List Signed) (cycles : List Cycle) → AreBases mesh bases →
         HaveBasesOfBasis mesh lengths bases → AreKeptOver mesh lengths s bases (length bases) kept → list ≡ kept →
-        AreCyclesOf mesh lengths list cycles → IsTheBasis mesh lengths (loops_of cycles)
+        AreCyclesOf mesh lengths list cycles → IsTheBasis mesh lengths (as_loops cycles)
     the_basis bases kept list cycles rise have k same are trees chosen =
         cycles_basis mesh lengths trees surface positive chosen signed.split signed.is_split bases kept cycles rise have
         (k trees chosen signed.split signed.is_split signed.signatures)

@@ -4,13 +4,13 @@ use Rattle.std.specs.List.{range_with_len}
 use Rattle.surf_surfaces.specs.Mesh.{Mesh}
 use Rattle.surf_surfaces.specs.Choice.{Trees, AreChosen, Loop, IsChosenBasis}
 use Rattle.surf_validity.specs.Rows.{TreeRows, BasisCert}
-use Rattle.surf_validity.specs.Chosen.{rows_of, basis_cert_of}
+use Rattle.surf_validity.specs.Chosen.{rows_for, basis_cert_of}
 
 -- the rows are those of the trees of shortest walks from the first bases, whichever trees show the choice
 abbrev pub AreTreeRowsBelow : Mesh → List ℕ → ℕ → List TreeRows → Type 0
 AreTreeRowsBelow mesh lengths bases rows =
     (trees : ℕ → Trees) → AreChosen mesh lengths trees →
-    rows ≡ map (λ x. rows_of mesh (trees x).tree) (range_with_len 0 bases)
+    rows ≡ map (λ x. rows_for mesh (trees x).tree) (range_with_len 0 bases)
 
 -- those from all vertices
 abbrev pub AreTreeRows : Mesh → List ℕ → List TreeRows → Type 0

@@ -8,12 +8,12 @@ use Rattle.surf_surfaces.specs.Choice.{Trees, AreChosen, Loop, candidates, IsCho
 use Rattle.surf_basis.specs.declared.cycle.Cycle.{Cycle}
 
 -- a cycle as a loop of the choice
-abbrev pub loop_of : Cycle → Loop
-loop_of c = record { size = c.length; base = c.base; edge = c.edge; walk = c.walk }
+abbrev pub as_loop : Cycle → Loop
+as_loop c = record { size = c.length; base = c.base; edge = c.edge; walk = c.walk }
 
 -- cycles as loops
-abbrev pub loops_of : List Cycle → List Loop
-loops_of cycles = map loop_of cycles
+abbrev pub as_loops : List Cycle → List Loop
+as_loops cycles = map as_loop cycles
 
 -- the loops are the basis that is chosen, whichever trees show the choice
 abbrev pub IsTheBasis : Mesh → List ℕ → List Loop → Type 0
@@ -29,7 +29,7 @@ first_of (x ∷ rest) = Some x
 abbrev pub IsFirstCandidate : Mesh → List ℕ → Option Cycle → Type 0
 IsFirstCandidate mesh lengths found =
     (trees : ℕ → Trees) → AreChosen mesh lengths trees →
-    option_map loop_of found ≡ first_of (candidates mesh lengths trees)
+    option_map as_loop found ≡ first_of (candidates mesh lengths trees)
 
 -- a simple cycle that doesn't separate the surface, such that none is shorter, with its length
 pub record IsShortestCycle (mesh : Mesh) (lengths : List ℕ) (cycle : Cycle) : Type 0 where

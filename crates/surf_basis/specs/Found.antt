@@ -16,7 +16,7 @@ use Rattle.surf_surfaces.specs.Loop.{loop_walk, loop_length}
 use Rattle.surf_surfaces.specs.Choice.{Trees, AreChosen, Loop, IsChosenBasis, candidates, loops_at}
 use Rattle.surf_surfaces.specs.FewBases.{is_no_later, place_at, least_base, Found, AreEnoughOf, HasBaseIn, IsFirstFound}
 use Rattle.surf_cotree.specs.Tables.{CotreeTables}
-use Rattle.surf_near.specs.Near.{NearTables, IsMadeFor, is_near}
+use Rattle.surf_near.specs.Near.{NearTables, AreNearTables, is_near}
 use Rattle.surf_basis.specs.declared.candidate.Candidate.{Candidate}
 use Rattle.surf_basis.specs.declared.candidate.Signed.{Signed}
 use Rattle.surf_basis.specs.declared.surface.Surface.{Surface}
@@ -58,7 +58,7 @@ search_of s t w base = record {
 
 -- there is an entry for each vertex and for each edge, and a class for each vertex that was reached
 pub record IsReady (x : Search) : Type 0 where
-  pub made : IsMadeFor x.mesh x.near
+  pub made : AreNearTables x.mesh x.near
   pub numbers : length x.ways.numbers ≡ x.mesh.vertices
   pub lengths : length x.lengths ≡ edge_count x.mesh
   pub signs : length x.signs.signatures ≡ edge_count x.mesh

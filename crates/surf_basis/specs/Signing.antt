@@ -8,7 +8,7 @@ use Rattle.surf_surfaces.specs.Surface.{edge_count}
 use Rattle.surf_surfaces.specs.Walk.{edge_length}
 use Rattle.surf_surfaces.specs.Cells.{cells_of}
 use Rattle.surf_surfaces.specs.Signature.{edge_signature}
-use Rattle.surf_tree.specs.Tables.{TreeTables, IsMadeFor, parent_of, parent_edge_of, tree_of}
+use Rattle.surf_tree.specs.Tables.{TreeTables, AreTreeTables, parent_of, parent_edge_of, tree_of}
 use Rattle.surf_cotree.specs.Tables.{CotreeTables}
 
 -- the table has the signatures of all edges by two trees and the edges in neither
@@ -18,7 +18,7 @@ AreSignatures mesh d t = t.signatures ≡ map (edge_signature mesh d) (range_wit
 -- the tables hold a tree of shortest walks by some lengths, in which each vertex but the base has a parent and an edge
 -- to it
 pub record IsClimbed (mesh : Mesh) (t : TreeTables) : Type 0 where
-  pub made : IsMadeFor mesh t
+  pub made : AreTreeTables mesh t
   pub lengths : List ℕ
   pub spans : IsTree (primal (cells_of mesh)) (tree_of t)
   pub short : IsShortest (primal (cells_of mesh)) (edge_length lengths) (tree_of t)

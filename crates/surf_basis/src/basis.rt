@@ -4,8 +4,8 @@ ghost use Rattle.surf_graphs.specs.Cells.{Split};
 ghost use Rattle.surf_surfaces.specs.Surface.{edge_count, face_count};
 ghost use Rattle.surf_surfaces.specs.FewBases.{AreBases};
 ghost use Rattle.surf_surfaces.specs.ChoiceLaws.{LeastSimpleBasis};
-ghost use Rattle.surf_loops.specs.Loops.{IsMadeFor};
-ghost use Rattle.surf_basis.specs.Cycles.{first_of, IsFirstCandidate, IsShortestCycle, IsTheBasis, loops_of};
+ghost use Rattle.surf_loops.specs.Loops.{AreLoopTables};
+ghost use Rattle.surf_basis.specs.Cycles.{first_of, IsFirstCandidate, IsShortestCycle, IsTheBasis, as_loops};
 ghost use Rattle.surf_basis.specs.Candidates.{signed_heads, AreKeptOver};
 ghost use Rattle.surf_basis.specs.Signing.{AreSignatures, AreSigned, IsClimbed};
 
@@ -61,13 +61,13 @@ fn choose(
     desk: &mut LoopDesk,
     choice: &mut Choice,
 ) -> Result<(), NoMemory>
-    requires made { IsMadeFor surface.now.mesh.now desk.old }
+    requires made { AreLoopTables surface.now.mesh.now desk.old }
     requires lengths { length surface.now.lengths.now ≡ edge_count surface.now.mesh.now }
     requires signed { AreSigned surface.now.mesh.now surface.now.signatures.now choice.old.width }
     requires bases { AreBases surface.now.mesh.now bases.now }
     requires none { choice.old.kept ≡ [] }
     ensures kept { OnOk result (AreKeptOver surface.now.mesh.now surface.now.lengths.now surface.now.signatures.now bases.now (length bases.now) choice.new.kept) }
-    ensures made { IsMadeFor surface.now.mesh.now desk.new }
+    ensures made { AreLoopTables surface.now.mesh.now desk.new }
 {
     let _surface = surface.mesh.faces();
     let _lengths = surface.lengths.count();
@@ -89,8 +89,8 @@ pub fn least_basis(
 ) -> Result<Vec<Cycle>, NoMemory>
     requires lengths { length lengths.now ≡ edge_count mesh.now }
     requires few { edge_count mesh.now + 2 ≤ mesh.now.vertices + face_count mesh.now + 1024 }
-    ensures chosen { IfOk result (λ cycles. IsTheBasis mesh.now lengths.now (loops_of cycles.items)) }
-    ensures least { IfOk result (λ cycles. LeastSimpleBasis mesh.now lengths.now (loops_of cycles.items)) }
+    ensures chosen { IfOk result (λ cycles. IsTheBasis mesh.now lengths.now (as_loops cycles.items)) }
+    ensures least { IfOk result (λ cycles. LeastSimpleBasis mesh.now lengths.now (as_loops cycles.items)) }
     ensures first { IfOk result (λ cycles. IsFirstCandidate mesh.now lengths.now (first_of cycles.items)) }
     ensures shortest { IfOk result (λ cycles. IfSome (first_of cycles.items) (λ cycle. IsShortestCycle mesh.now lengths.now cycle)) }
 {

@@ -5,7 +5,7 @@ ghost use Rattle.surf_surfaces.specs.Surface.{edge_count, face_count};
 ghost use Rattle.surf_validity.specs.Bases.{IsValidBasis};
 ghost use Rattle.surf_cert.specs.Fits.{BasisFits};
 ghost use Rattle.surf_basis.specs.Certs.{AreTreeRows, IsTheCert};
-ghost use Rattle.surf_basis.specs.Cycles.{loops_of};
+ghost use Rattle.surf_basis.specs.Cycles.{as_loops};
 
 use crate::basis::least_basis;
 use crate::cycle::Cycle;
@@ -40,7 +40,7 @@ fn all_tree_rows(
 
 // The walks of cycles, in their order.
 fn walks_of(alloc: Global, cycles: Vec<Cycle>) -> Result<Vec<Walk>, NoMemory>
-    ensures walks { IfOk result (λ list. list.items ≡ walks (loops_of cycles.items)) }
+    ensures walks { IfOk result (λ list. list.items ≡ walks (as_loops cycles.items)) }
 {
     Ok(cycles.into_iter().map(|cycle| cycle.walk).collect(alloc)?)
 }

@@ -1,7 +1,7 @@
 //! The loops that a search from one vertex finds.
 ghost use Rattle.std.specs.Prelude.{◌≡◌, ◌<◌, ◌&&◌, IsTrue, bit_xor, min, length, IfOk, OnOk};
 ghost use Rattle.surf_surfaces.specs.Surface.{edge_count, ends};
-ghost use Rattle.surf_near.specs.Near.{IsMadeFor, is_near};
+ghost use Rattle.surf_near.specs.Near.{AreNearTables, is_near};
 ghost use Rattle.surf_basis.specs.Found.{surface_of, search_of, IsReady, is_between, told_loop, told_loops, wanted_loop, AreFound};
 ghost use Rattle.surf_basis.specs.Places.{place_of, is_sought, radius_of};
 
@@ -25,7 +25,7 @@ pub(crate) struct Finder<'a> {
 impl<'a> Model for Finder<'a> {
     ghost use Rattle.std.specs.Prelude.{◌≡◌, length};
     ghost use Rattle.surf_surfaces.specs.Surface.{edge_count};
-    ghost use Rattle.surf_near.specs.Near.{IsMadeFor};
+    ghost use Rattle.surf_near.specs.Near.{AreNearTables};
     ghost use Rattle.surf_basis.specs.Found.{SurfaceTables, surface_of};
 
     ghost Value = { SurfaceTables };
@@ -33,7 +33,7 @@ impl<'a> Model for Finder<'a> {
     ghost view = { λ f. surface_of f.surface };
 
     ghost invariant = { λ f. (f.links.mesh ≡ f.surface.mesh.now) × (f.links.lengths ≡ f.surface.lengths.now)
-        × IsMadeFor f.surface.mesh.now f.desk × (length f.ways.numbers ≡ f.surface.mesh.now.vertices)
+        × AreNearTables f.surface.mesh.now f.desk × (length f.ways.numbers ≡ f.surface.mesh.now.vertices)
         × (length f.surface.lengths.now ≡ edge_count f.surface.mesh.now)
         × (length f.surface.signatures.now.signatures ≡ edge_count f.surface.mesh.now) };
 }
@@ -77,7 +77,7 @@ fn loop_of(
 
 // Whether both ends of an edge were reached.
 fn is_between(surface: &Surface<'_>, desk: &NearDesk, edge: EdgeId) -> bool
-    requires made { IsMadeFor surface.now.mesh.now desk.now }
+    requires made { AreNearTables surface.now.mesh.now desk.now }
     requires edge { edge < edge_count surface.now.mesh.now }
     ensures between { (is_near desk.now (ends surface.now.mesh.now edge).0 && is_near desk.now (ends surface.now.mesh.now edge).1) ≡ result }
 {

@@ -4,7 +4,7 @@ ghost use Rattle.std.specs.Option.{option_map};
 ghost use Rattle.surf_surfaces.specs.Surface.{edge_count, face_count};
 ghost use Rattle.surf_surfaces.specs.Homology.{IsFullCount};
 ghost use Rattle.surf_surfaces.specs.Choice.{Trees, AreChosen, candidates, loops_at};
-ghost use Rattle.surf_loops.specs.Loops.{IsMadeFor};
+ghost use Rattle.surf_loops.specs.Loops.{AreLoopTables};
 ghost use Rattle.surf_basis.specs.Candidates.{first_head, loop_in};
 ghost use Rattle.surf_basis.specs.Signing.{AreSigned};
 ghost use Rattle.surf_basis.specs.Cycles.{first_of, IsFirstCandidate, IsShortestCycle, AllSeparate};
@@ -37,11 +37,11 @@ fn first_of(desk: &LoopDesk) -> Option<Candidate>
 
 // The first loop at a base.
 fn first_at(surface: &Surface<'_>, base: VertexId, desk: &mut LoopDesk) -> Option<Candidate>
-    requires made { IsMadeFor surface.now.mesh.now desk.old }
+    requires made { AreLoopTables surface.now.mesh.now desk.old }
     requires base { base < surface.now.mesh.now.vertices }
     requires lengths { length surface.now.lengths.now ≡ edge_count surface.now.mesh.now }
     ensures first { (trees : ℕ → Trees) → AreChosen surface.now.mesh.now surface.now.lengths.now trees → option_map (loop_in surface.now.mesh.now trees) result ≡ first_of (loops_at surface.now.mesh.now surface.now.lengths.now base (trees base)) }
-    ensures made { IsMadeFor surface.now.mesh.now desk.new }
+    ensures made { AreLoopTables surface.now.mesh.now desk.new }
 {
     let _surface = surface.mesh.faces();
     let _lengths = surface.lengths.count();
@@ -56,11 +56,11 @@ fn first_candidate(
     count: usize,
     desk: &mut LoopDesk,
 ) -> Result<Option<Candidate>, NoMemory>
-    requires made { IsMadeFor surface.now.mesh.now desk.old }
+    requires made { AreLoopTables surface.now.mesh.now desk.old }
     requires lengths { length surface.now.lengths.now ≡ edge_count surface.now.mesh.now }
     requires signed { AreSigned surface.now.mesh.now surface.now.signatures.now count }
     ensures first { IfOk result (λ found. (trees : ℕ → Trees) → AreChosen surface.now.mesh.now surface.now.lengths.now trees → option_map (loop_in surface.now.mesh.now trees) found ≡ first_of (candidates surface.now.mesh.now surface.now.lengths.now trees)) }
-    ensures made { IsMadeFor surface.now.mesh.now desk.new }
+    ensures made { AreLoopTables surface.now.mesh.now desk.new }
 {
     let _surface = surface.mesh.faces();
     let _lengths = surface.lengths.count();

@@ -9,7 +9,7 @@ ghost use Rattle.surf_surfaces.specs.Loop.{loop_walk};
 ghost use Rattle.surf_surfaces.specs.Homology.{IsFullCount};
 ghost use Rattle.surf_surfaces.specs.Surface.{edge_count, face_count};
 ghost use Rattle.surf_tree.specs.Tables.{tree_of};
-ghost use Rattle.surf_cotree.specs.Tables.{IsMadeFor};
+ghost use Rattle.surf_cotree.specs.Tables.{AreCotreeTables};
 ghost use Rattle.surf_basis.specs.Signing.{AreSignatures, AreSigned, IsClimbed};
 
 use std::alloc::Global;

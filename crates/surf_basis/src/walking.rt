@@ -1,7 +1,7 @@
 //! The walks of candidates.
 ghost use Rattle.std.specs.Prelude.{◌≡◌, ◌<◌, All, IfOk, length, map};
 ghost use Rattle.surf_surfaces.specs.Surface.{edge_count};
-ghost use Rattle.surf_loops.specs.Loops.{IsMadeFor};
+ghost use Rattle.surf_loops.specs.Loops.{AreLoopTables};
 ghost use Rattle.surf_basis.specs.Candidates.{IsInside, IsCycleOf, AreCyclesOf};
 
 use crate::candidate::{Candidate, Signed};
@@ -20,11 +20,11 @@ pub(crate) fn cycle_of(
     desk: &mut LoopDesk,
     candidate: Candidate,
 ) -> Result<Cycle, NoMemory>
-    requires made { IsMadeFor mesh.now desk.old }
+    requires made { AreLoopTables mesh.now desk.old }
     requires lengths { length lengths.now ≡ edge_count mesh.now }
     requires inside { IsInside mesh.now candidate }
     ensures cycle { IfOk result (λ cycle. IsCycleOf mesh.now lengths.now candidate cycle) }
-    ensures made { IsMadeFor mesh.now desk.new }
+    ensures made { AreLoopTables mesh.now desk.new }
 {
     let _surface = mesh.faces();
     let _lengths = lengths.count();
@@ -46,7 +46,7 @@ pub(crate) fn cycles_of(
     desk: &mut LoopDesk,
     kept: &[Signed],
 ) -> Result<Vec<Cycle>, NoMemory>
-    requires made { IsMadeFor mesh.now desk.old }
+    requires made { AreLoopTables mesh.now desk.old }
     requires lengths { length lengths.now ≡ edge_count mesh.now }
     requires inside { All (λ s. IsInside mesh.now s.candidate) kept.now }
     ensures cycles { IfOk result (λ cycles. AreCyclesOf mesh.now lengths.now kept.now cycles.items) }

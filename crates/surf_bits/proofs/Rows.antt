@@ -16,7 +16,7 @@ use Rattle.surf_z2.proofs.Numbers.{has-xor}
 use Rattle.surf_z2.proofs.Sieve.{sieve_law}
 use Rattle.surf_z2.proofs.Basics.{independence_law}
 use Rattle.surf_z2.proofs.Width.{width_law}
-use Rattle.surf_bits.specs.Rows.{rows_of, originals_of, left_of, IsTold, AreRows}
+use Rattle.surf_bits.specs.Rows.{sieve_rows, originals_of, left_of, TellSums, AreRows}
 
 law : SieveLaw numbers has (λ (r : Row ℕ). r.pivot) (λ (r : Row ℕ). r.reduced) (λ (r : Row ℕ). r.original)
 law = sieve_law numbers has has-xor (λ (r : Row ℕ). r.pivot) (λ (r : Row ℕ). r.reduced) (λ (r : Row ℕ). r.original)
@@ -24,18 +24,18 @@ law = sieve_law numbers has has-xor (λ (r : Row ℕ). r.pivot) (λ (r : Row ℕ
 pub take_whole : (n : ℕ) (xs : List ℕ) → length xs ≡ n → take n xs ≡ xs
 take_whole n xs e = take_all n xs (omega arith)
 
-pub rows-length : (stride : ℕ) (pivots reduced originals : List ℕ) → length (rows_of stride pivots reduced originals) ≡ length pivots
+pub rows-length : (stride : ℕ) (pivots reduced originals : List ℕ) → length (sieve_rows stride pivots reduced originals) ≡ length pivots
 rows-length stride [] rs os = refl
 rows-length stride (p ∷ ps) rs os = ap suc (rows-length stride ps (drop stride rs) (drop stride os))
 
-pub originals-length : (stride : ℕ) (pivots reduced originals : List ℕ) → length (originals_of (rows_of stride pivots reduced originals)) ≡ length pivots
+pub originals-length : (stride : ℕ) (pivots reduced originals : List ℕ) → length (originals_of (sieve_rows stride pivots reduced originals)) ≡ length pivots
 originals-length stride [] rs os = refl
 originals-length stride (p ∷ ps) rs os = ap suc (originals-length stride ps (drop stride rs) (drop stride os))
 
 -- one row more at the end of each table
 pub rows-push : (stride : ℕ) (ps rs os : List ℕ) (p : ℕ) (r o : List ℕ) → length rs ≡ length ps * stride → length os ≡ length ps * stride →
     length r ≡ stride → length o ≡ stride →
-    rows_of stride (ps ++ p ∷ []) (rs ++ r) (os ++ o) ≡ rows_of stride ps rs os ++ record { pivot = p; reduced = number r; original = number o } ∷ []
+    sieve_rows stride (ps ++ p ∷ []) (rs ++ r) (os ++ o) ≡ sieve_rows stride ps rs os ++ record { pivot = p; reduced = number r; original = number o } ∷ []
 rows-push stride [] [] [] p r o e f g h = rw (take_whole stride r g, take_whole stride o h) refl
 rows-push stride [] (x ∷ rs) os p r o e f g h = absurd (omega arith)
 rows-push stride [] rs (x ∷ os) p r o e f g h = absurd (omega arith)
@@ -51,7 +51,7 @@ rows-push stride (q ∷ ps) rs os p r o e f g h =
 
 -- a row of the tables
 pub rows-at : (stride : ℕ) (ps rs os : List ℕ) (i : ℕ) (d : Row ℕ) → i < length ps →
-    get_or (rows_of stride ps rs os) i d ≡ record { pivot = get_or ps i 0; reduced = number (take stride (drop (i * stride) rs)); original = number (take stride (drop (i * stride) os)) }
+    get_or (sieve_rows stride ps rs os) i d ≡ record { pivot = get_or ps i 0; reduced = number (take stride (drop (i * stride) rs)); original = number (take stride (drop (i * stride) os)) }
 rows-at stride [] rs os i d l = absurd (omega arith)
 rows-at stride (p ∷ ps) rs os zero d l = let z : 0 * stride ≡ 0 = omega arith in rw z refl
 rows-at stride (p ∷ ps) rs os (suc i) d l =
@@ -60,13 +60,13 @@ rows-at stride (p ∷ ps) rs os (suc i) d l =
 
 -- a row that is added to what is left of a set, or not
 pub left_of_more : (stride : ℕ) (ps rs os : List ℕ) (i left : ℕ) → i < length ps →
-    left_of (drop i (rows_of stride ps rs os)) left ≡
-    left_of (drop (i + 1) (rows_of stride ps rs os)) (cond (has left (get_or ps i 0)) (bit_xor (number (take stride (drop (i * stride) rs))) left) left)
+    left_of (drop i (sieve_rows stride ps rs os)) left ≡
+    left_of (drop (i + 1) (sieve_rows stride ps rs os)) (cond (has left (get_or ps i 0)) (bit_xor (number (take stride (drop (i * stride) rs))) left) left)
 left_of_more stride ps rs os i left l =
     let r : Row ℕ = record { pivot = get_or ps i 0; reduced = number (take stride (drop (i * stride) rs)); original = number (take stride (drop (i * stride) os)) } in
     let at_i = rows-at stride ps rs os i r l in
-    at_drop_more (λ rows. left_of rows left) (rows_of stride ps rs os) i r (subst (λ n. i < n) (sym (rows-length stride ps rs os)) l)
-    ∙ ap (λ s. left_of (s ∷ drop (i + 1) (rows_of stride ps rs os)) left) at_i
+    at_drop_more (λ rows. left_of rows left) (sieve_rows stride ps rs os) i r (subst (λ n. i < n) (sym (rows-length stride ps rs os)) l)
+    ∙ ap (λ s. left_of (s ∷ drop (i + 1) (sieve_rows stride ps rs os)) left) at_i
 
 -- so many words write a number below two to the number of their bits
 pub front_small : (n : ℕ) (ws : List ℕ) → ((k : ℕ) → get_or ws k 0 < 2 ^ 64) → number (take n ws) < 2 ^ (64 * n)
@@ -102,7 +102,7 @@ number_most m n ws e l = elim (cases_lt m (length ws)) [
 ]
 
 -- what rows of as many words leave of a set of as many
-pub left_small : (stride : ℕ) (ps rs os : List ℕ) (v : ℕ) → ((k : ℕ) → get_or rs k 0 < 2 ^ 64) → v < 2 ^ (64 * stride) → left_of (rows_of stride ps rs os) v < 2 ^ (64 * stride)
+pub left_small : (stride : ℕ) (ps rs os : List ℕ) (v : ℕ) → ((k : ℕ) → get_or rs k 0 < 2 ^ 64) → v < 2 ^ (64 * stride) → left_of (sieve_rows stride ps rs os) v < 2 ^ (64 * stride)
 left_small stride [] rs os v f l = l
 left_small stride (p ∷ ps) rs os v f l =
     left_small stride ps (drop stride rs) (drop stride os) (cond (has v p) (bit_xor (number (take stride rs)) v) v)
@@ -130,22 +130,22 @@ are_rows-none width stride most e = record {
 -- there are no more rows than the width
 pub rows_few : (width stride : ℕ) (ps rs os : List ℕ) → AreRows width stride ps rs os → length ps ≤ width
 rows_few width stride ps rs os a =
-    let us = originals_of (rows_of stride ps rs os) in
+    let us = originals_of (sieve_rows stride ps rs os) in
     let most : length us ≤ width = width_law width us a.within a.told.independent in
     subst (λ n. n ≤ width) (originals-length stride ps rs os) most
 
 -- there is room for one more, where it is no sum of those that stand
 pub room_for : (width stride : ℕ) (ps rs os : List ℕ) (set : ℕ) → AreRows width stride ps rs os → set < 2 ^ width →
-    (Spanned numbers (originals_of (rows_of stride ps rs os)) set → ⊥) → length ps + 1 ≤ width
+    (Spanned numbers (originals_of (sieve_rows stride ps rs os)) set → ⊥) → length ps + 1 ≤ width
 room_for width stride ps rs os set a l out =
-    let us = originals_of (rows_of stride ps rs os) in
+    let us = originals_of (sieve_rows stride ps rs os) in
     let most : length (us ++ set ∷ []) ≤ width = width_law width (us ++ set ∷ []) (All-push (λ x. x < 2 ^ width) us set a.within l) ((independence_law numbers).push us set a.told.independent out) in
     let e : length (us ++ set ∷ []) ≡ length us + 1 = length-append us (set ∷ []) in
     let f : length us ≡ length ps = originals-length stride ps rs os in
     omega (arith, most, e, f)
 
 pub are_rows-push : (width stride : ℕ) (ps rs os : List ℕ) (p : ℕ) (r o : List ℕ) → AreRows width stride ps rs os → p < 1024 →
-    length r ≡ stride → length o ≡ stride → number o < 2 ^ width → number r ≡ left_of (rows_of stride ps rs os) (number o) → IsTrue (has (number r) p) →
+    length r ≡ stride → length o ≡ stride → number o < 2 ^ width → number r ≡ left_of (sieve_rows stride ps rs os) (number o) → IsTrue (has (number r) p) →
     AreRows width stride (ps ++ p ∷ []) (rs ++ r) (os ++ o)
 are_rows-push width stride ps rs os p r o a l g h small left member =
     let row : Row ℕ = record { pivot = p; reduced = number r; original = number o } in
@@ -156,11 +156,11 @@ are_rows-push width stride ps rs os p r o a l g h small left member =
       reduced_length = length-append rs r ∙ rw (length-append ps (p ∷ []), a.reduced_length, g) (omega arith);
       originals_length = length-append os o ∙ rw (length-append ps (p ∷ []), a.originals_length, h) (omega arith);
       pivots_in = All-push (λ p. p < 1024) ps p a.pivots_in l;
-      within = rw (e, map-append (λ (r : Row ℕ). r.original) (rows_of stride ps rs os) (row ∷ [])) (All-push (λ x. x < 2 ^ width) (originals_of (rows_of stride ps rs os)) (number o) a.within small);
-      told = rw e (law.admitted (rows_of stride ps rs os) row a.told left member);
+      within = rw (e, map-append (λ (r : Row ℕ). r.original) (sieve_rows stride ps rs os) (row ∷ [])) (All-push (λ x. x < 2 ^ width) (originals_of (sieve_rows stride ps rs os)) (number o) a.within small);
+      told = rw e (law.admitted (sieve_rows stride ps rs os) row a.told left member);
     }
 
-pub spanned_by_rows : (rows : List (Row ℕ)) (set : ℕ) → IsTold rows → (left_of rows set ≡ 0) ↔ Spanned numbers (originals_of rows) set
+pub spanned_by_rows : (rows : List (Row ℕ)) (set : ℕ) → TellSums rows → (left_of rows set ≡ 0) ↔ Spanned numbers (originals_of rows) set
 spanned_by_rows rows set h = law.spanned rows set h
 
 -- a set with a member is not nothing
@@ -173,20 +173,20 @@ two_fits : (width stride : ℕ) → stride ≡ (width + 63) / 64 → 2 ^ width �
 two_fits width stride e = let l : width ≤ 64 * stride = omega (arith, e) in pow-le-pow_right (lit< tt) l
 
 -- a set that leaves something is no sum of those admitted
-pub left_tells : (width stride : ℕ) (ps rs os : List ℕ) (set left p : ℕ) → AreRows width stride ps rs os → left ≡ left_of (rows_of stride ps rs os) set → IsTrue (has left p) →
-    Spanned numbers (originals_of (rows_of stride ps rs os)) set → ⊥
+pub left_tells : (width stride : ℕ) (ps rs os : List ℕ) (set left p : ℕ) → AreRows width stride ps rs os → left ≡ left_of (sieve_rows stride ps rs os) set → IsTrue (has left p) →
+    Spanned numbers (originals_of (sieve_rows stride ps rs os)) set → ⊥
 left_tells width stride ps rs os set left p a e m sum =
-    not_nothing left p m (e ∙ (spanned_by_rows (rows_of stride ps rs os) set a.told).1 sum)
+    not_nothing left p m (e ∙ (spanned_by_rows (sieve_rows stride ps rs os) set a.told).1 sum)
 
 -- a set that leaves nothing is one
-pub none_left : (width stride : ℕ) (ps rs os : List ℕ) (set left : ℕ) → AreRows width stride ps rs os → left ≡ left_of (rows_of stride ps rs os) set → left ≡ 0 →
-    Spanned numbers (originals_of (rows_of stride ps rs os)) set
-none_left width stride ps rs os set left a e z = (spanned_by_rows (rows_of stride ps rs os) set a.told).0 (sym e ∙ z)
+pub none_left : (width stride : ℕ) (ps rs os : List ℕ) (set left : ℕ) → AreRows width stride ps rs os → left ≡ left_of (sieve_rows stride ps rs os) set → left ≡ 0 →
+    Spanned numbers (originals_of (sieve_rows stride ps rs os)) set
+none_left width stride ps rs os set left a e z = (spanned_by_rows (sieve_rows stride ps rs os) set a.told).0 (sym e ∙ z)
 
 -- what a search for a member says of it
-pub spans_tells : (width stride : ℕ) (ps rs os : List ℕ) (set left : ℕ) (found : Option ℕ) (none : Bool) (most : ℕ) → AreRows width stride ps rs os → left ≡ left_of (rows_of stride ps rs os) set →
+pub spans_tells : (width stride : ℕ) (ps rs os : List ℕ) (set left : ℕ) (found : Option ℕ) (none : Bool) (most : ℕ) → AreRows width stride ps rs os → left ≡ left_of (sieve_rows stride ps rs os) set →
     MatchOption found (left ≡ 0) (λ k. (k < most) × IsTrue (has left k)) → is_some found ≡ not none →
-    MatchBool none (Spanned numbers (originals_of (rows_of stride ps rs os)) set) (Spanned numbers (originals_of (rows_of stride ps rs os)) set → ⊥)
+    MatchBool none (Spanned numbers (originals_of (sieve_rows stride ps rs os)) set) (Spanned numbers (originals_of (sieve_rows stride ps rs os)) set → ⊥)
 spans_tells width stride ps rs os set left None true most a e m h = none_left width stride ps rs os set left a e m
 spans_tells width stride ps rs os set left None false most a e m h = cc
 spans_tells width stride ps rs os set left (Some k) true most a e m h = cc
@@ -200,7 +200,7 @@ pub record AreAdmitted (width stride : ℕ) (ps rs os ls ms : List ℕ) (set lef
   pub left_words : number ls ≡ left
   pub set_length : length ms ≡ 16
   pub set_words : number ms ≡ set
-  pub left_is : left ≡ left_of (rows_of stride ps rs os) set
+  pub left_is : left ≡ left_of (sieve_rows stride ps rs os) set
   pub left_small : set < 2 ^ (64 * stride) → left < 2 ^ (64 * stride)
   pub pivot_in : p < 1024
   pub member : IsTrue (has left p)
@@ -225,14 +225,14 @@ module _ (width stride : ℕ) (ps rs os ls ms : List ℕ) (set left p : ℕ) (a 
   admitted_rows =
       are_rows-push width stride ps rs os p (take stride ls) (take stride ms) a.rows a.pivot_in (front_length ls a.left_length) (front_length ms a.set_length)
       (subst (λ n. n < 2 ^ width) (sym set_front) a.small)
-      (left_front ∙ a.left_is ∙ ap (left_of (rows_of stride ps rs os)) (sym set_front))
+      (left_front ∙ a.left_is ∙ ap (left_of (sieve_rows stride ps rs os)) (sym set_front))
       (subst (λ n. IsTrue (has n p)) (sym left_front) a.member)
 
-  pub admitted_list : originals_of (rows_of stride (ps ++ p ∷ []) (rs ++ take stride ls) (os ++ take stride ms)) ≡ originals_of (rows_of stride ps rs os) ++ set ∷ []
+  pub admitted_list : originals_of (sieve_rows stride (ps ++ p ∷ []) (rs ++ take stride ls) (os ++ take stride ms)) ≡ originals_of (sieve_rows stride ps rs os) ++ set ∷ []
   admitted_list =
       ap originals_of (rows-push stride ps rs os p (take stride ls) (take stride ms) a.rows.reduced_length a.rows.originals_length (front_length ls a.left_length) (front_length ms a.set_length))
-      ∙ map-append (λ (r : Row ℕ). r.original) (rows_of stride ps rs os) (record { pivot = p; reduced = number (take stride ls); original = number (take stride ms) } ∷ [])
-      ∙ ap (λ x. originals_of (rows_of stride ps rs os) ++ x ∷ []) set_front
+      ∙ map-append (λ (r : Row ℕ). r.original) (sieve_rows stride ps rs os) (record { pivot = p; reduced = number (take stride ls); original = number (take stride ms) } ∷ [])
+      ∙ ap (λ x. originals_of (sieve_rows stride ps rs os) ++ x ∷ []) set_front
 
   pub admitted_room : length ps + 1 ≤ width
   admitted_room = room_for width stride ps rs os set a.rows a.small (left_tells width stride ps rs os set left p a.rows a.left_is a.member)

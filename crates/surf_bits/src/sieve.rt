@@ -2,7 +2,7 @@
 
 ghost use Rattle.std.specs.Prelude.{ℕ, ◌≡◌, ◌<◌, ◌≤◌, ◌*◌, ◌^◌, ◌++◌, ◌∷◌, List, [], All, IfOk, MatchBool, length, vec_len, vec_capacity, ◌+◌, if◌then◌else◌};
 ghost use Rattle.surf_z2.specs.Space.{Independent, Spanned, numbers};
-ghost use Rattle.surf_bits.specs.Rows.{left_of, rows_of};
+ghost use Rattle.surf_bits.specs.Rows.{left_of, sieve_rows};
 
 use crate::bits::Bits;
 use crate::signature::Signature;
@@ -31,11 +31,11 @@ impl Model for Sieve {
 
     ghost Value = { Sifted };
 
-    ghost use Rattle.surf_bits.specs.Rows.{AreRows, originals_of, rows_of};
+    ghost use Rattle.surf_bits.specs.Rows.{AreRows, originals_of, sieve_rows};
 
     ghost view = { λ s. record {
       width = s.width;
-      admitted = originals_of (rows_of s.stride s.pivots.items s.reduced.items s.originals.items);
+      admitted = originals_of (sieve_rows s.stride s.pivots.items s.reduced.items s.originals.items);
     } };
 
     ghost invariant = { λ s. AreRows s.width s.stride s.pivots.items s.reduced.items s.originals.items
@@ -68,7 +68,7 @@ fn left_of(pivots: &[u32], reduced: &[u64], stride: usize, set: &Bits<'_>) -> Si
     requires rows { length reduced.now ≡ length pivots.now * stride }
     requires stride { stride ≤ 16 }
     requires few { length pivots.now ≤ 1024 }
-    ensures left { (originals : List ℕ) → result ≡ left_of (rows_of stride pivots.now reduced.now originals) set.now }
+    ensures left { (originals : List ℕ) → result ≡ left_of (sieve_rows stride pivots.now reduced.now originals) set.now }
     ensures small { set.now < 2 ^ (64 * stride) → result < 2 ^ (64 * stride) }
 {
     let mut left = Signature::zero();

@@ -21,7 +21,7 @@ use Rattle.surf_surfaces.proofs.CotreeLaws.{is_split}
 use Rattle.surf_surfaces.proofs.LawProofs.{edges_are_in_order}
 use Rattle.surf_surfaces.proofs.ShortestTreeLaws.{shortest_is_tree, shortest_is_shortest}
 use Rattle.surf_validity.specs.Rows.{TreeRows}
-use Rattle.surf_validity.specs.Chosen.{parent_in, side_in, rows_of, dual_rows_of, cert_of, basis_cert_of}
+use Rattle.surf_validity.specs.Chosen.{parent_in, side_in, rows_for, dual_rows_of, chosen_cert, basis_cert_of}
 use Rattle.surf_validity.proofs.RankLaws.{ranks_fit}
 use Rattle.surf_cert.specs.Lines.{greatest}
 use Rattle.surf_cert.specs.Fits.{IsNumber, IsParent, TreeFits, IsPair, IsFaceRow, DualFits, LeftFits, CycleFits, LoopFits, BasisFits}
@@ -96,7 +96,7 @@ module _ (mesh : Mesh) (lengths : List ℕ) (surface : IsSurface mesh) (positive
           rw (ne_eqb v tree.root ne) (omega (arith, inside, most))
     ]
 
-    tree_fits : TreeFits mesh.vertices (rows_of mesh tree)
+    tree_fits : TreeFits mesh.vertices (rows_for mesh tree)
     tree_fits = record {
       base = let inside = spans.root_in in let most = numbers.vertices in omega (arith, inside, most);
       distances = size tree.rank mesh.vertices;
@@ -180,7 +180,7 @@ module _ (mesh : Mesh) (lengths : List ℕ) (surface : IsSurface mesh) (positive
         let vertex = some_vertex mesh surface in
         omega (arith, full, most, some, vertex)
 
-    pub chosen_loops_fit : LoopFits (cert_of mesh trees)
+    pub chosen_loops_fit : LoopFits (chosen_cert mesh trees)
     chosen_loops_fit =
         let long = size tree.rank mesh.vertices in
         let deep = size cotree.rank (face_count mesh) in
@@ -199,7 +199,7 @@ module _ (mesh : Mesh) (lengths : List ℕ) (surface : IsSurface mesh) (positive
     rows = (basis_cert_of mesh trees basis).trees
 
     abbrev rows_at : ℕ → TreeRows
-    rows_at x = rows_of mesh (trees x).tree
+    rows_at x = rows_for mesh (trees x).tree
 
     all_long : length rows ≡ mesh.vertices
     all_long = size rows_at mesh.vertices

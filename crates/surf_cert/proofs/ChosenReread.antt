@@ -6,7 +6,7 @@ use Rattle.surf_surfaces.specs.Walk.{ArePositive}
 use Rattle.surf_surfaces.specs.Choice.{Trees, Loop, AreChosenAt, AreChosen, IsChosenBasis}
 use Rattle.surf_validity.specs.Valid.{IsValidLoops}
 use Rattle.surf_validity.specs.Bases.{IsValidBasis}
-use Rattle.surf_validity.specs.Chosen.{cert_of, basis_cert_of}
+use Rattle.surf_validity.specs.Chosen.{chosen_cert, basis_cert_of}
 use Rattle.surf_validity.proofs.ChosenLaws.{chosen_loops_are_valid}
 use Rattle.surf_validity.proofs.ChosenBases.{chosen_bases_are_valid}
 use Rattle.surf_cert.specs.Written.{RereadsLoops, RereadsBasis}
@@ -15,9 +15,9 @@ use Rattle.surf_cert.proofs.ChosenFits.{AreNumbers, chosen_loops_fit, chosen_bas
 
 pub chosen_loops_again : (mesh : Mesh) (lengths : List ℕ) (base : ℕ) (trees : Trees) → IsSurface mesh →
     ArePositive mesh lengths → AreNumbers mesh lengths → AreChosenAt mesh lengths base trees →
-    RereadsLoops (cert_of mesh trees) × IsValidLoops mesh lengths (cert_of mesh trees)
+    RereadsLoops (chosen_cert mesh trees) × IsValidLoops mesh lengths (chosen_cert mesh trees)
 chosen_loops_again mesh lengths base trees surface positive numbers chosen = (
-  loops_again (cert_of mesh trees) (chosen_loops_fit mesh lengths surface positive numbers base trees chosen),
+  loops_again (chosen_cert mesh trees) (chosen_loops_fit mesh lengths surface positive numbers base trees chosen),
   chosen_loops_are_valid mesh lengths base trees surface positive chosen,
 )
 

@@ -9,17 +9,18 @@ use Rattle.std.proofs.lemmas.Slice.Eq.{bytes_eq-Decides}
 use Rattle.surf_text.specs.Text.{whole}
 use Rattle.surf_off.proofs.Decimals.{IsWord, word_decimal, whole_decimal}
 use Rattle.surf_off.proofs.Reread.{lines_from}
-use Rattle.surf_cert.specs.Lines.{greatest, number_of, the_word, base_of, base_at, parent_of, tree_row, dual_row, is_next, pair_behind, numbers_of, cycle_of}
+use Rattle.surf_cert.specs.Lines.{greatest, cert_number, the_word, base_of, base_at, parent_of, tree_row, dual_row, is_next, pair_behind, numbers_of, cycle_of}
 use Rattle.surf_cert.specs.Fits.{IsNumber, IsParent, IsPair, IsFaceRow, CycleFits}
 use Rattle.surf_cert.specs.Grammar.{next_of}
-use Rattle.surf_cert.specs.Written.{base_line, parent_text, vertex_line, face_line, pair_line, numbers_text, cycle_line}
+use Rattle.surf_text.specs.Numbers.{numbers_text}
+use Rattle.surf_cert.specs.Written.{base_line, parent_text, vertex_line, face_line, pair_line, cycle_line}
 use Rattle.surf_cert.proofs.WordLines.{spaced, line_of, AllWords, line_again}
 
 small : (n : ℕ) → IsNumber n → n < 2 ^ 64
 small n fits = omega (arith, fits)
 
 -- a number of a text is read
-pub number_again : (n : ℕ) → IsNumber n → number_of (decimal n) ≡ Some n
+pub number_again : (n : ℕ) → IsNumber n → cert_number (decimal n) ≡ Some n
 number_again n fits =
     let low : nat_le n greatest ≡ true = le-leb n greatest fits in
     rw (whole_decimal n (small n fits), low) refl

@@ -2,7 +2,7 @@
 use Rattle.std.proofs.Common.{◌≡◌, ◌≢◌, ℕ, suc, List, [], ◌∷◌, ◌++◌, length, Option, Some, None, Result, Ok, Err, refl, sym, ◌∙◌, ap, append_assoc, append-nil, arith}
 use Rattle.surf_cert.specs.declared.fault.CertText.{CertText}
 use Rattle.surf_cert.specs.Grammar.{formed}
-use Rattle.surf_cert.specs.Lines.{number_of, onto_numbers, numbers_of, cycle_of}
+use Rattle.surf_cert.specs.Lines.{cert_number, onto_numbers, numbers_of, cycle_of}
 
 -- the numbers that were read before, and those that are still read
 abbrev pub with_numbers : List ℕ → Option (List ℕ) → Option (List ℕ)
@@ -15,14 +15,14 @@ regroup front n None = refl
 regroup front n (Some ns) = ap (λ (xs : List ℕ). Some xs) (sym (append_assoc front (n ∷ []) ns))
 
 module _ (front : List ℕ) (tokens : List (List ℕ)) (total : Option (List ℕ)) (so_far : with_numbers front (numbers_of tokens) ≡ total) where
-  pub number_more : (token : List ℕ) (rest : List (List ℕ)) (n : ℕ) → tokens ≡ token ∷ rest → number_of token ≡ Some n
+  pub number_more : (token : List ℕ) (rest : List (List ℕ)) (n : ℕ) → tokens ≡ token ∷ rest → cert_number token ≡ Some n
       → with_numbers (front ++ n ∷ []) (numbers_of rest) ≡ total
   unfolding numbers_of
   number_more token rest n is good =
       let one : with_numbers front (numbers_of tokens) ≡ with_numbers (front ++ n ∷ []) (numbers_of rest) = rw (is, good) (regroup front n (numbers_of rest)) in
       sym one ∙ so_far
 
-  pub number_bad : (token : List ℕ) (rest : List (List ℕ)) → tokens ≡ token ∷ rest → number_of token ≡ None
+  pub number_bad : (token : List ℕ) (rest : List (List ℕ)) → tokens ≡ token ∷ rest → cert_number token ≡ None
       → total ≡ None
   unfolding numbers_of
   number_bad token rest is bad =
@@ -44,7 +44,7 @@ pub cycle_none : (tokens : List (List ℕ)) (ns : List ℕ) → numbers_of token
     → cycle_of tokens ≡ None
 unfolding numbers_of size
 cycle_none [] ns is none = refl
-cycle_none (token ∷ tokens) ns is none = at (number_of token) (numbers_of tokens) is
+cycle_none (token ∷ tokens) ns is none = at (cert_number token) (numbers_of tokens) is
   where
     at : (n : Option ℕ) (more : Option (List ℕ)) → onto_numbers n more ≡ Some ns → onto_numbers n more ≡ None
     at None more e = refl

@@ -8,12 +8,12 @@ use Rattle.std.proofs.lemmas.Bool.{cases_Bool, leb-true, ltb-true, eqb-true}
 use Rattle.std.proofs.lemmas.List.Elements.{All-nil, All-cons}
 use Rattle.surf_text.specs.Text.{is_nonempty, value_of, whole}
 use Rattle.surf_cert.specs.declared.line.Counts.{Counts}
-use Rattle.surf_cert.specs.Lines.{greatest, at_most_greatest, number_of, three_counts, counts_of, if_same, base_of, base_at, some_parent, parent_of, with_parent, tree_row, below_root, dual_row, increasing, pair_of, is_next, if_next, pair_behind, onto_numbers, numbers_of, cycle_of}
+use Rattle.surf_cert.specs.Lines.{greatest, at_most_greatest, cert_number, three_counts, counts_of, if_same, base_of, base_at, some_parent, parent_of, with_parent, tree_row, below_root, dual_row, increasing, pair_of, is_next, if_next, pair_behind, onto_numbers, numbers_of, cycle_of}
 use Rattle.surf_cert.specs.Fits.{IsNumber, IsParent, IsPair, IsFaceRow, CycleFits}
 
 -- numbers
 
-pub number_fits : (token : List ℕ) → IfSome (number_of token) IsNumber
+pub number_fits : (token : List ℕ) → IfSome (cert_number token) IsNumber
 number_fits token = at (whole token)
   where
     at : (n : Option ℕ) → IfSome (at_most_greatest n) IsNumber
@@ -33,7 +33,7 @@ whole_fits token = elim (cases_Bool (is_nonempty token && list_all is_ascii_digi
 -- forms of lines
 
 parent_fits : (token : List ℕ) → IfSome (parent_of token) IsParent
-parent_fits token = elim (cases_Bool (bytes_eq token (codes "-"))) [ inl is ↦ rw is tt | inr other ↦ rw other (at (number_of token) (number_fits token)) ]
+parent_fits token = elim (cases_Bool (bytes_eq token (codes "-"))) [ inl is ↦ rw is tt | inr other ↦ rw other (at (cert_number token) (number_fits token)) ]
   where
     at : (n : Option ℕ) → IfSome n IsNumber → IfSome (some_parent n) IsParent
     at None fits = tt
@@ -71,13 +71,13 @@ pub face_fits : (tokens : List (List ℕ)) → IfSome (dual_row tokens) IsFaceRo
 face_fits [] = tt
 face_fits (d ∷ []) = tt
 face_fits (d ∷ u ∷ []) = elim (cases_Bool (bytes_eq d (codes "0") && bytes_eq u (codes "-"))) [ inl is ↦ rw is refl | inr other ↦ rw other tt ]
-face_fits (d ∷ u ∷ v ∷ []) = side_fits (number_of d) (number_of u) (number_of v) (number_fits d) (number_fits u) (number_fits v)
+face_fits (d ∷ u ∷ v ∷ []) = side_fits (cert_number d) (cert_number u) (cert_number v) (number_fits d) (number_fits u) (number_fits v)
 face_fits (d ∷ u ∷ v ∷ t ∷ ts) = tt
 
 pair_fits : (tokens : List (List ℕ)) → IfSome (pair_of tokens) IsPair
 pair_fits [] = tt
 pair_fits (u ∷ []) = tt
-pair_fits (u ∷ v ∷ []) = at (number_of u) (number_of v) (number_fits v)
+pair_fits (u ∷ v ∷ []) = at (cert_number u) (cert_number v) (number_fits v)
   where
     at : (u v : Option ℕ) → IfSome v IsNumber → IfSome (increasing u v) IsPair
     at None v fits = tt
@@ -96,7 +96,7 @@ behind_fits before tokens = at (pair_of tokens) (pair_fits tokens)
 all_fit : (tokens : List (List ℕ)) → IfSome (numbers_of tokens) (λ ns. (length ns ≡ length tokens) × All IsNumber ns)
 unfolding numbers_of
 all_fit [] = (refl, All-nil IsNumber)
-all_fit (token ∷ tokens) = at (number_of token) (numbers_of tokens) (number_fits token) (all_fit tokens)
+all_fit (token ∷ tokens) = at (cert_number token) (numbers_of tokens) (number_fits token) (all_fit tokens)
   where
     at : (n : Option ℕ) (ns : Option (List ℕ)) → IfSome n IsNumber
         → IfSome ns (λ ns. (length ns ≡ length tokens) × All IsNumber ns)
@@ -138,7 +138,7 @@ counts_fit (w ∷ []) = tt
 counts_fit (w ∷ v ∷ []) = tt
 counts_fit (w ∷ v ∷ f ∷ []) = tt
 counts_fit (w ∷ v ∷ f ∷ k ∷ []) = elim (cases_Bool (bytes_eq w (codes "counts"))) [
-  | inl is ↦ rw is (at (number_of v) (number_of f) (number_of k) (number_fits v) (number_fits f) (number_fits k))
+  | inl is ↦ rw is (at (cert_number v) (cert_number f) (cert_number k) (number_fits v) (number_fits f) (number_fits k))
   | inr other ↦ rw other tt
 ]
   where

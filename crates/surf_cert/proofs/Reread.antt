@@ -14,7 +14,7 @@ use Rattle.surf_validity.specs.Rows.{TreeRows, DualRows, LoopCert, BasisCert}
 use Rattle.surf_cert.specs.Lines.{counts_of, base_of, base_at, tree_row, dual_row, is_next, cycle_of}
 use Rattle.surf_cert.specs.Fits.{IsNumber, IsParent, IsPair, IsFaceRow, TreeFits, DualFits, LeftFits, CycleFits, LoopFits, BasisFits}
 use Rattle.surf_cert.specs.Grammar.{next_of, rows_of, pairs_of, tree_of, based_tree, trees_of, dual_rows_of, dual_of, left_of, cycles_of, loops_in, basis_in, cert_in}
-use Rattle.surf_cert.specs.Written.{head_text, base_line, vertex_line, face_line, pair_line, cycle_line, tree_text, dual_text, left_text, cycles_text, RereadsLoops, RereadsBasis}
+use Rattle.surf_cert.specs.Written.{cert_head_text, base_line, vertex_line, face_line, pair_line, cycle_line, tree_text, dual_text, left_text, cycles_text, RereadsLoops, RereadsBasis}
 use Rattle.surf_cert.proofs.WordLines.{line_of, AllWords, line_first, kept_is, line_again}
 use Rattle.surf_cert.proofs.LineTexts.{Reads, number_again, dual_again, left_again, cycles_again, base_again, base_at_again, vertex_again, face_again, pair_again, cycle_again}
 
@@ -137,7 +137,7 @@ module _ (kind : List ℕ) (v f k : ℕ) (is_word : IsWord kind) (few_v : IsNumb
   counts : List (List ℕ)
   counts = decimal v ∷ decimal f ∷ decimal k ∷ []
 
-  two_lines : head_text kind v f k ++ rest ≡ line_of (codes "SURFCERT") header ++ 10 ∷ (line_of (codes "counts") counts ++ 10 ∷ rest)
+  two_lines : cert_head_text kind v f k ++ rest ≡ line_of (codes "SURFCERT") header ++ 10 ∷ (line_of (codes "counts") counts ++ 10 ∷ rest)
   unfolding header counts
   two_lines = simp (append_assoc, append-nil)
 
@@ -160,7 +160,7 @@ module _ (kind : List ℕ) (v f k : ℕ) (is_word : IsWord kind) (few_v : IsNumb
   counts_again = line_again (codes "counts") counts (record { some = refl; dark = refl; one_line = refl; uncommented = refl }) counts_words counts_of (record { vertices = v; faces = f; left = k }) counts_given 2 rest
 
   -- the first line names the kind, the second gives the counts, and the rest follows
-  pub header_again : (line : TextLine) × (lines : List TextLine) × (lines_from 1 (head_text kind v f k ++ rest) ≡ line ∷ lines) × (tokens_of line.bytes ≡ codes "SURFCERT" ∷ codes "1" ∷ kind ∷ [])
+  pub header_again : (line : TextLine) × (lines : List TextLine) × (lines_from 1 (cert_head_text kind v f k ++ rest) ≡ line ∷ lines) × (tokens_of line.bytes ≡ codes "SURFCERT" ∷ codes "1" ∷ kind ∷ [])
       × (next_of counts_of lines ≡ Ok (record { vertices = v; faces = f; left = k }, lines_from 3 rest))
   unfolding header
   header_again = (_, _, ap (lines_from 1) two_lines ∙ line_first (codes "SURFCERT") header name header_words 1 (line_of (codes "counts") counts ++ 10 ∷ rest), kept_is (codes "SURFCERT") header name header_words, counts_again)

@@ -3,7 +3,8 @@ use Rattle.std.proofs.Common.{◌≡◌, ◌<◌, ◌≤◌, ℕ, List, [], ◌�
 use Rattle.std.specs.Prelude.{codes, decimal}
 use Rattle.std.specs.List.{zip}
 use Rattle.std.proofs.lemmas.Slice.Zip.{length-zip, get_or-zip}
-use Rattle.surf_cert.specs.Written.{numbers_text, cycle_line}
+use Rattle.surf_text.specs.Numbers.{numbers_text}
+use Rattle.surf_cert.specs.Written.{cycle_line}
 
 -- The two columns of some rows are as long as the rows.
 module _ {X : Type 0} (ns : List ℕ) (xs : List X) (same : length ns ≡ length xs) where

@@ -83,9 +83,9 @@ unfoldable pub cycles_of : ℕ → List TextLine → Read (List (List ℕ))
 cycles_of k lines = next_of (the_word (codes "cycles")) lines >>= λ word. rows_of cycle_of k word.1
 
 -- No line stands behind.
-abbrev pub ended : {A : Type 0} → A → List TextLine → Result A CertText
-ended x [] = Ok x
-ended x (line ∷ lines) = Err (Trailing line.number)
+abbrev pub cert_ended : {A : Type 0} → A → List TextLine → Result A CertText
+cert_ended x [] = Ok x
+cert_ended x (line ∷ lines) = Err (Trailing line.number)
 
 -- a loop certificate, behind its first line
 unfoldable pub loops_in : List TextLine → Result LoopCert CertText
@@ -94,7 +94,7 @@ loops_in lines = do
   tree ← based_tree base_of counts.0.vertices counts.1
   dual ← dual_of counts.0.faces tree.1
   left ← left_of counts.0.left dual.1
-  ended (record { tree = tree.0; dual = dual.0; left = left.0 }) left.1
+  cert_ended (record { tree = tree.0; dual = dual.0; left = left.0 }) left.1
 
 -- a basis certificate, behind its first line
 unfoldable pub basis_in : List TextLine → Result BasisCert CertText
@@ -104,7 +104,7 @@ basis_in lines = do
   dual ← dual_of counts.0.faces trees.1
   left ← left_of counts.0.left dual.1
   cycles ← cycles_of counts.0.left left.1
-  ended (record { trees = trees.0; dual = dual.0; left = left.0; cycles = cycles.0 }) cycles.1
+  cert_ended (record { trees = trees.0; dual = dual.0; left = left.0; cycles = cycles.0 }) cycles.1
 
 abbrev pub as_loops : Result LoopCert CertText → Result Cert CertText
 as_loops (Ok cert) = Ok (Loops cert)
@@ -123,5 +123,5 @@ cert_in (line ∷ lines) =
     else Err (Header line.number))
 
 -- the certificate that a text is, or its first fault
-abbrev pub cert_of : List ℕ → Result Cert CertText
-cert_of text = cert_in (lines_of text)
+abbrev pub parsed_cert : List ℕ → Result Cert CertText
+parsed_cert text = cert_in (lines_of text)

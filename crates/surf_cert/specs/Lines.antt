@@ -14,8 +14,8 @@ at_most_greatest None = None
 at_most_greatest (Some n) = if nat_le n greatest then Some n else None
 
 -- a number is whole and at most 4,294,967,295
-abbrev pub number_of : List ℕ → Option ℕ
-number_of token = at_most_greatest (whole token)
+abbrev pub cert_number : List ℕ → Option ℕ
+cert_number token = at_most_greatest (whole token)
 
 -- exactly this word
 abbrev pub is_word : List ℕ → List (List ℕ) → Bool
@@ -39,12 +39,12 @@ three_counts _ _ _ = None
 -- a line `counts V F k`
 abbrev pub counts_of : List (List ℕ) → Option Counts
 counts_of (word ∷ v ∷ f ∷ k ∷ []) =
-    if bytes_eq word (codes "counts") then three_counts (number_of v) (number_of f) (number_of k) else None
+    if bytes_eq word (codes "counts") then three_counts (cert_number v) (cert_number f) (cert_number k) else None
 counts_of _ = None
 
 -- a line `tree x`
 abbrev pub base_of : List (List ℕ) → Option ℕ
-base_of (word ∷ x ∷ []) = if bytes_eq word (codes "tree") then number_of x else None
+base_of (word ∷ x ∷ []) = if bytes_eq word (codes "tree") then cert_number x else None
 base_of _ = None
 
 abbrev pub if_same : ℕ → Option ℕ → Option ℕ
@@ -61,7 +61,7 @@ some_parent (Some u) = Some (Some u)
 
 -- a parent: a number, or `-` for none
 abbrev pub parent_of : List ℕ → Option (Option ℕ)
-parent_of token = if bytes_eq token (codes "-") then Some None else some_parent (number_of token)
+parent_of token = if bytes_eq token (codes "-") then Some None else some_parent (cert_number token)
 
 abbrev pub with_parent : Option ℕ → Option (Option ℕ) → Option (ℕ × Option ℕ)
 with_parent (Some d) (Some p) = Some (d, p)
@@ -79,7 +79,7 @@ below_root _ _ _ = None
 -- a line `depth u v` of a face, with a depth of at least 1 and u < v, or exactly `0 -`
 abbrev pub dual_row : List (List ℕ) → Option (ℕ × Option (ℕ × ℕ))
 dual_row (d ∷ u ∷ []) = if bytes_eq d (codes "0") && bytes_eq u (codes "-") then Some (0, None) else None
-dual_row (d ∷ u ∷ v ∷ []) = below_root (number_of d) (number_of u) (number_of v)
+dual_row (d ∷ u ∷ v ∷ []) = below_root (cert_number d) (cert_number u) (cert_number v)
 dual_row _ = None
 
 abbrev pub increasing : Option ℕ → Option ℕ → Option (ℕ × ℕ)
@@ -88,7 +88,7 @@ increasing _ _ = None
 
 -- a line `u v` with u < v
 abbrev pub pair_of : List (List ℕ) → Option (ℕ × ℕ)
-pair_of (u ∷ v ∷ []) = increasing (number_of u) (number_of v)
+pair_of (u ∷ v ∷ []) = increasing (cert_number u) (cert_number v)
 pair_of _ = None
 
 -- whether a pair stands behind the one before, if there is one
@@ -111,7 +111,7 @@ onto_numbers _ _ = None
 -- the numbers that all tokens are
 unfoldable pub numbers_of : List (List ℕ) → Option (List ℕ)
 numbers_of [] = Some []
-numbers_of (token ∷ tokens) = onto_numbers (number_of token) (numbers_of tokens)
+numbers_of (token ∷ tokens) = onto_numbers (cert_number token) (numbers_of tokens)
 
 -- a line of at least one number
 abbrev pub cycle_of : List (List ℕ) → Option (List ℕ)

@@ -2,12 +2,13 @@
 use Rattle.std.specs.Prelude.{◌≡◌, ℕ, List, [], ◌∷◌, ◌++◌, length, flat_map, codes, decimal, Option, Some, None, Ok}
 use Rattle.std.specs.List.{zip}
 use Rattle.surf_validity.specs.Rows.{TreeRows, DualRows, LoopCert, BasisCert}
-use Rattle.surf_cert.specs.Grammar.{cert_of}
+use Rattle.surf_cert.specs.Grammar.{parsed_cert}
 use Rattle.surf_cert.specs.declared.cert.Cert.TheVariants.{Loops, Basis}
+use Rattle.surf_text.specs.Numbers.{numbers_text}
 
 -- the first line, with the word for what is certified, and the counts of vertices, faces and left edges
-abbrev pub head_text : List ℕ → ℕ → ℕ → ℕ → List ℕ
-head_text word v f k =
+abbrev pub cert_head_text : List ℕ → ℕ → ℕ → ℕ → List ℕ
+cert_head_text word v f k =
     codes "SURFCERT 1 " ++ (word ++ (codes "\ncounts "
     ++ (decimal v ++ (codes " " ++ (decimal f ++ (codes " " ++ (decimal k ++ codes "\n")))))))
 
@@ -38,10 +39,6 @@ face_line row = decimal row.0 ++ (codes " " ++ (side_text row.1 ++ codes "\n"))
 abbrev pub pair_line : ℕ × ℕ → List ℕ
 pair_line pair = decimal pair.0 ++ (codes " " ++ (decimal pair.1 ++ codes "\n"))
 
--- each number behind a space
-abbrev pub numbers_text : List ℕ → List ℕ
-numbers_text numbers = flat_map (λ n. codes " " ++ decimal n) numbers
-
 -- the vertices of a cycle
 abbrev pub cycle_line : List ℕ → List ℕ
 cycle_line [] = codes "\n"
@@ -63,18 +60,18 @@ cycles_text cycles = codes "cycles\n" ++ flat_map cycle_line cycles
 -- the text of a certificate of loops
 abbrev pub loop_text : LoopCert → List ℕ
 loop_text cert =
-    head_text (codes "loops") (length cert.tree.distance) (length cert.dual.depth) (length cert.left)
+    cert_head_text (codes "loops") (length cert.tree.distance) (length cert.dual.depth) (length cert.left)
     ++ (tree_text cert.tree ++ (dual_text cert.dual ++ left_text cert.left))
 
 -- the text of a certificate of a basis
 abbrev pub basis_text : BasisCert → List ℕ
 basis_text cert =
-    head_text (codes "basis") (length cert.trees) (length cert.dual.depth) (length cert.left)
+    cert_head_text (codes "basis") (length cert.trees) (length cert.dual.depth) (length cert.left)
     ++ (flat_map tree_text cert.trees ++ (dual_text cert.dual ++ (left_text cert.left ++ cycles_text cert.cycles)))
 
 -- The text is read as the certificate that it was written of.
 abbrev pub RereadsLoops : LoopCert → Type 0
-RereadsLoops cert = cert_of (loop_text cert) ≡ Ok (Loops cert)
+RereadsLoops cert = parsed_cert (loop_text cert) ≡ Ok (Loops cert)
 
 abbrev pub RereadsBasis : BasisCert → Type 0
-RereadsBasis cert = cert_of (basis_text cert) ≡ Ok (Basis cert)
+RereadsBasis cert = parsed_cert (basis_text cert) ≡ Ok (Basis cert)

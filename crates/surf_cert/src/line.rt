@@ -2,7 +2,7 @@
 ghost use Rattle.std.specs.Prelude.{◌≡◌};
 ghost use Rattle.std.specs.Str.{bytes_eq};
 ghost use Rattle.surf_text.specs.Text.{tokens_of};
-ghost use Rattle.surf_cert.specs.Lines.{number_of, is_word, is_header, counts_of, base_of, base_at, parent_of, tree_row, below_root, dual_row, pair_of, is_next, pair_behind};
+ghost use Rattle.surf_cert.specs.Lines.{cert_number, is_word, is_header, counts_of, base_of, base_at, parent_of, tree_row, below_root, dual_row, pair_of, is_next, pair_behind};
 
 use surf_base::VertexId;
 use surf_text::{Tokens, read_whole};
@@ -17,7 +17,7 @@ pub(crate) struct Counts {
 
 /// The number that a token is.
 pub(crate) fn read_number(token: &[u8]) -> Option<u32>
-    ensures number { result ≡ number_of token.now }
+    ensures number { result ≡ cert_number token.now }
 {
     match read_whole(token) {
         Some(n) if n <= 4_294_967_295 => Some(n as u32),
@@ -27,7 +27,7 @@ pub(crate) fn read_number(token: &[u8]) -> Option<u32>
 
 // The number that a token is, as a vertex.
 fn read_vertex(token: &[u8]) -> Option<VertexId>
-    ensures vertex { result ≡ number_of token.now }
+    ensures vertex { result ≡ cert_number token.now }
 {
     match read_number(token) {
         Some(n) => Some(VertexId::new(n)),
@@ -148,7 +148,7 @@ pub(crate) fn read_tree_row(line: &[u8]) -> Option<(u64, Option<VertexId>)>
 
 // A depth of at least 1, and a side with its lesser end first.
 fn read_below_root(depth: &[u8], u: &[u8], v: &[u8]) -> Option<(u32, Option<(VertexId, VertexId)>)>
-    ensures row { result ≡ below_root (number_of depth.now) (number_of u.now) (number_of v.now) }
+    ensures row { result ≡ below_root (cert_number depth.now) (cert_number u.now) (cert_number v.now) }
 {
     let depth = read_number(depth)?;
     let u = read_number(u)?;

@@ -1,7 +1,7 @@
 //! Reads the text of a certificate.
 ghost use Rattle.std.specs.Prelude.{◌≡◌, ◌<◌, length, IfOk};
 ghost use Rattle.surf_cert.specs.Fits.{CertFits};
-ghost use Rattle.surf_cert.specs.Grammar.{loops_in, basis_in, ended, cert_of};
+ghost use Rattle.surf_cert.specs.Grammar.{loops_in, basis_in, cert_ended, parsed_cert};
 ghost use Rattle.surf_cert.specs.Gives.{Gives};
 
 use crate::cert::{BasisCert, Cert, LoopCert};
@@ -14,7 +14,7 @@ use surf_text::Lines;
 
 // No line stands behind.
 fn read_end(lines: &mut Lines<'_>) -> Result<(), CertText>
-    ensures end { Gives (λ x. x) result (ended tt lines.old) }
+    ensures end { Gives (λ x. x) result (cert_ended tt lines.old) }
 {
     match lines.next_line() {
         Some(line) => Err(CertText::Trailing { line: line.number }),
@@ -50,7 +50,7 @@ fn read_basis(alloc: Global, lines: &mut Lines<'_>) -> Result<BasisCert, CertTex
 #[tactic(auto, unfolding(crate::specs::Grammar::cert_in))]
 fn read_text(alloc: Global, text: &[u8]) -> Result<Cert, CertText>
     requires short { length text.now < 4294967295 }
-    ensures cert { Gives (λ x. x) result (cert_of text.now) }
+    ensures cert { Gives (λ x. x) result (parsed_cert text.now) }
 {
     let mut lines = Lines::over(text);
     let Some(line) = lines.next_line() else {
@@ -75,7 +75,7 @@ fn read_text(alloc: Global, text: &[u8]) -> Result<Cert, CertText>
 /// that a text merely states. A certificate that was read fits the lines of a text, so it can be written.
 pub fn read_cert(alloc: Global, text: &[u8]) -> Result<Cert, CertText>
     requires short { length text.now < 4294967295 }
-    ensures cert { Gives (λ x. x) result (cert_of text.now) }
+    ensures cert { Gives (λ x. x) result (parsed_cert text.now) }
     ensures fits { IfOk result CertFits }
 {
     read_text(alloc, text)

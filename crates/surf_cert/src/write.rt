@@ -3,7 +3,8 @@ ghost use Rattle.std.specs.Prelude.{◌≡◌, ◌<◌, ◌≤◌, length, flat_
 ghost use Rattle.std.specs.List.{All, zip};
 ghost use Rattle.surf_text.specs.Pages.{Puts};
 ghost use Rattle.surf_cert.specs.Fits.{LoopFits, BasisFits};
-ghost use Rattle.surf_cert.specs.Written.{head_text, vertex_line, face_line, pair_line, numbers_text, cycle_line, tree_text, dual_text, left_text, cycles_text, loop_text, basis_text, RereadsLoops, RereadsBasis};
+ghost use Rattle.surf_text.specs.Numbers.{numbers_text};
+ghost use Rattle.surf_cert.specs.Written.{cert_head_text, vertex_line, face_line, pair_line, cycle_line, tree_text, dual_text, left_text, cycles_text, loop_text, basis_text, RereadsLoops, RereadsBasis};
 
 use crate::cert::{BasisCert, LoopCert};
 use crate::rows::{DualRows, TreeRows};
@@ -18,7 +19,7 @@ fn write_head(
     faces: usize,
     left: usize,
 ) -> Result<(), PageFault>
-    ensures puts { Puts page.old page.new (head_text word.now vertices faces left) result }
+    ensures puts { Puts page.old page.new (cert_head_text word.now vertices faces left) result }
 {
     page.push_pieces(&[
         Piece::Bytes(b"SURFCERT 1 "),

@@ -16,7 +16,7 @@ use Rattle.surf_validity.specs.Bases.{tree_at, IsClosedList, IsValidBasis, basis
 use Rattle.surf_validity.proofs.BasisLaws.{valid_bases_are_least}
 use Rattle.surf_certcheck.specs.First.{HoldsBelow}
 use Rattle.surf_certcheck.specs.Split.{IsBadPair}
-use Rattle.surf_certcheck.specs.BasisFaults.{IsClosedAt, IsIndependentAt, AreCovered, AreTreesDivided, IsBasisShapeFault, IsBasisFault}
+use Rattle.surf_certcheck.specs.BasisFaults.{IsCycleClosed, IsIndependentAt, AreCovered, AreTreesDivided, IsBasisShapeFault, IsBasisFault}
 use Rattle.surf_certcheck.specs.declared.fault.CertPart.{CertPart}
 use Rattle.surf_certcheck.specs.declared.fault.CertPart.TheVariants.{Vertices, Faces, Loops, Base}
 use Rattle.surf_certcheck.specs.declared.fault.CertFault.{CertFault}
@@ -25,7 +25,7 @@ use Rattle.surf_certcheck.proofs.Validity.{has_trees}
 
 -- all conditions together
 pub basis_valid : (mesh : Mesh) (lengths : List ℕ) (cert : BasisCert) → AreTreesDivided mesh lengths cert →
-    HoldsBelow (length cert.cycles) (IsClosedAt mesh cert) →
+    HoldsBelow (length cert.cycles) (IsCycleClosed mesh cert) →
     HoldsBelow (length cert.cycles) (IsIndependentAt mesh cert) →
     HoldsBelow mesh.vertices (AreCovered mesh lengths cert) → IsValidBasis mesh lengths cert
 basis_valid mesh lengths cert a closed independent covered = record {

@@ -14,7 +14,7 @@ use Rattle.surf_surfaces.proofs.SignatureLaws.{signatures_are_classes}
 use Rattle.surf_signatures.specs.Ways.{way_class}
 use Rattle.surf_signatures.proofs.WayLaws.{way_none, way_more, loop_class}
 use Rattle.surf_validity.specs.Rows.{TreeRows}
-use Rattle.surf_validity.specs.Valid.{tree_of, distance_at, parent_at, or_zero, IsParent}
+use Rattle.surf_validity.specs.Valid.{certified_tree, distance_at, parent_at, or_zero, IsParent}
 use Rattle.surf_certcheck.specs.Frames.{AreTaken}
 use Rattle.surf_certcheck.specs.Climbs.{IsClimbed}
 
@@ -37,14 +37,14 @@ pub record IsStep (mesh : Mesh) (rows : TreeRows) (at parent : ℕ) : Type 0 whe
   pub apart : at ≢ rows.base
   pub within : parent < mesh.vertices
   pub nearer : distance_at rows parent < distance_at rows at
-  pub parent_is : (tree_of mesh rows).parent at ≡ parent
-  pub edge_in : (tree_of mesh rows).up at < edge_count mesh
+  pub parent_is : (certified_tree mesh rows).parent at ≡ parent
+  pub edge_in : (certified_tree mesh rows).up at < edge_count mesh
 
 pub step_up : (mesh : Mesh) (rows : TreeRows) (at parent : ℕ) → IsClimbed mesh rows → at < mesh.vertices →
     parent_at rows at ≡ Some parent → IsStep mesh rows at parent
 step_up mesh rows at parent climbed l is =
     let ne : at ≢ rows.base = (subst (IsParent mesh rows.base at) is (climbed.valid.parents at l)).0 in
-    let same : (tree_of mesh rows).parent at ≡ parent = ap or_zero is in
+    let same : (certified_tree mesh rows).parent at ≡ parent = ap or_zero is in
     record {
       apart = ne;
       within = subst (λ p. p < mesh.vertices) same (climbed.tree.parent_in at l ne);
@@ -62,10 +62,10 @@ module _ (mesh : Mesh) (d : Split) (to : ℕ → ℕ) (sets : List ℕ) (taken :
     (climbed : IsClimbed mesh rows) where
   -- the way of the parent and the edge to it
   pub way_summed : (at edge parent above added sum : ℕ) → at < mesh.vertices → IsStep mesh rows at parent →
-      edge ≡ (tree_of mesh rows).up at → added ≡ slice_index sets edge → above ≡ to (way_class mesh d (tree_of mesh rows) parent) →
-      sum ≡ bit_xor (bit_xor 0 above) added → sum ≡ to (way_class mesh d (tree_of mesh rows) at)
+      edge ≡ (certified_tree mesh rows).up at → added ≡ slice_index sets edge → above ≡ to (way_class mesh d (certified_tree mesh rows) parent) →
+      sum ≡ bit_xor (bit_xor 0 above) added → sum ≡ to (way_class mesh d (certified_tree mesh rows) at)
   way_summed at edge parent above added sum l step is_edge is before summed =
-      let t = tree_of mesh rows in
+      let t = certified_tree mesh rows in
       let way = way_class mesh d t in
       let own = edge_signature mesh d (t.up at) in
       let one : added ≡ to own = is ∙ ap (slice_index sets) is_edge ∙ taken.each (t.up at) step.edge_in in
@@ -76,19 +76,19 @@ module _ (mesh : Mesh) (d : Split) (to : ℕ → ℕ) (sets : List ℕ) (taken :
       ∙ xor_comm (to (way parent)) (to own) ∙ sym more
 
   -- that of the base is empty
-  pub way_empty : (at sum : ℕ) → at ≡ rows.base → sum ≡ 0 → sum ≡ to (way_class mesh d (tree_of mesh rows) at)
+  pub way_empty : (at sum : ℕ) → at ≡ rows.base → sum ≡ 0 → sum ≡ to (way_class mesh d (certified_tree mesh rows) at)
   way_empty at sum same none =
-      none ∙ sym (ap (λ n. to (way_class mesh d (tree_of mesh rows) n)) same
-      ∙ ap to (way_none mesh d (tree_of mesh rows)) ∙ taken.linear.zero)
+      none ∙ sym (ap (λ n. to (way_class mesh d (certified_tree mesh rows) n)) same
+      ∙ ap to (way_none mesh d (certified_tree mesh rows)) ∙ taken.linear.zero)
 
   -- the way to one end, the edge, and the way to the other
   pub loop_summed : (surface : IsSurface mesh) (e u v near far added all : ℕ) → e < edge_count mesh →
-      u ≡ (ends mesh e).0 → v ≡ (ends mesh e).1 → near ≡ to (way_class mesh d (tree_of mesh rows) u) →
-      far ≡ to (way_class mesh d (tree_of mesh rows) v) → added ≡ slice_index sets e →
+      u ≡ (ends mesh e).0 → v ≡ (ends mesh e).1 → near ≡ to (way_class mesh d (certified_tree mesh rows) u) →
+      far ≡ to (way_class mesh d (certified_tree mesh rows) v) → added ≡ slice_index sets e →
       all ≡ bit_xor (bit_xor (bit_xor 0 near) added) far →
-      all ≡ to (walk_signature mesh d (loop_walk mesh (tree_of mesh rows) e))
+      all ≡ to (walk_signature mesh d (loop_walk mesh (certified_tree mesh rows) e))
   loop_summed surface e u v near far added all l is_u is_v one two is summed =
-      let t = tree_of mesh rows in
+      let t = certified_tree mesh rows in
       let way = way_class mesh d t in
       let a = way (ends mesh e).0 in
       let b = way (ends mesh e).1 in

@@ -4,10 +4,10 @@ use Rattle.surf_surfaces.specs.Mesh.{Mesh}
 use Rattle.surf_surfaces.specs.Surface.{face_count, edge_count, ends}
 use Rattle.surf_validity.specs.Rows.{BasisCert}
 use Rattle.surf_validity.specs.Valid.{IsDualValid, IsDivided}
-use Rattle.surf_validity.specs.Bases.{tree_at, HasShape, IsCovered, IsValidBasis}
+use Rattle.surf_validity.specs.Bases.{tree_at, HasBasisShape, IsCovered, IsValidBasis}
 use Rattle.surf_certcheck.specs.First.{HoldsBelow, FailsFirst}
 use Rattle.surf_certcheck.specs.Rows.{HasDualRows, HasDual}
-use Rattle.surf_certcheck.specs.BasisFaults.{HasTrees, HasCounts, HasBase, IsBasisShapeFault, IsFirstAt, HasParentAt, HasDistanceAt, IsNoShortCutAt, HasParents, HasDistances, HasNoShortCut, IsClosedAt, IsIndependentAt, DependsFirst, AreCovered, AreTreesDivided, IsBasisFault}
+use Rattle.surf_certcheck.specs.BasisFaults.{HasTrees, HasCounts, HasBase, IsBasisShapeFault, IsFirstAt, HasParentAt, HasDistanceAt, IsNoShortCutAt, HasParents, HasDistances, HasNoShortCut, IsCycleClosed, IsIndependentAt, DependsFirst, AreCovered, AreTreesDivided, IsBasisFault}
 use Rattle.surf_certcheck.specs.declared.fault.CertPart.{CertPart}
 use Rattle.surf_certcheck.specs.declared.fault.CertPart.TheVariants.{Vertices, Faces, Loops, Base}
 use Rattle.surf_certcheck.specs.declared.fault.CertFault.{CertFault}
@@ -40,7 +40,7 @@ module _ (mesh : Mesh) (lengths : List ℕ) (cert : BasisCert) where
   part_is Loops is = is
   part_is Base is = is
 
-  shape_fails : (part : CertPart) → IsBasisShapeFault mesh cert part → HasShape mesh cert → ⊥
+  shape_fails : (part : CertPart) → IsBasisShapeFault mesh cert part → HasBasisShape mesh cert → ⊥
   shape_fails Vertices is shape = is (record {
     trees = shape.trees;
     rows = λ x l. record { distances = shape.distances x l; parents = shape.parents x l };
@@ -53,14 +53,14 @@ module _ (mesh : Mesh) (lengths : List ℕ) (cert : BasisCert) where
 
   -- the condition of each kind
   abbrev Holds : ℕ → Type 0
-  Holds zero = HasShape mesh cert
+  Holds zero = HasBasisShape mesh cert
   Holds (suc zero) = HoldsBelow mesh.vertices (HasParents mesh cert)
   Holds (suc (suc zero)) = HoldsBelow mesh.vertices (HasDistances mesh lengths cert)
   Holds (suc (suc (suc zero))) = HoldsBelow mesh.vertices (HasNoShortCut mesh lengths cert)
   Holds (suc (suc (suc (suc zero)))) = IsDualValid mesh cert.dual
   Holds (suc (suc (suc (suc (suc zero))))) = IsDivided mesh (tree_at cert 0) cert.dual cert.left
   Holds (suc (suc (suc (suc (suc (suc zero)))))) = Unit {0}
-  Holds (suc (suc (suc (suc (suc (suc (suc zero))))))) = HoldsBelow (length cert.cycles) (IsClosedAt mesh cert)
+  Holds (suc (suc (suc (suc (suc (suc (suc zero))))))) = HoldsBelow (length cert.cycles) (IsCycleClosed mesh cert)
   Holds (suc (suc (suc (suc (suc (suc (suc (suc zero)))))))) = HoldsBelow (length cert.cycles) (IsIndependentAt mesh cert)
   Holds (suc (suc (suc (suc (suc (suc (suc (suc (suc zero))))))))) = HoldsBelow mesh.vertices (AreCovered mesh lengths cert)
   Holds (suc (suc (suc (suc (suc (suc (suc (suc (suc (suc k)))))))))) = Unit {0}
@@ -151,7 +151,7 @@ module _ (mesh : Mesh) (lengths : List ℕ) (cert : BasisCert) where
     splits = λ u v w z a b. ap (λ (p : ℕ × ℕ). Split p.0 p.1)
         (bad_pair_same mesh (tree_at cert 0) cert.dual cert.left (u, v) (w, z) a.3 b.3);
     heavier = λ l c m d a b. absurd a;
-    not_closed = λ j k a b. ap NotClosed (first_same (length cert.cycles) (IsClosedAt mesh cert) j k a.1 b.1);
+    not_closed = λ j k a b. ap NotClosed (first_same (length cert.cycles) (IsCycleClosed mesh cert) j k a.1 b.1);
     dependent = λ j k a b. ap Dependent (first_same (length cert.cycles) (IsIndependentAt mesh cert) j k
         (depends_fails j a.2) (depends_fails k b.2));
     uncovered = λ x u v y w z a b. edge_same x u v y w z (IsCovered mesh lengths cert) Uncovered a.3 b.3;

@@ -8,14 +8,14 @@ use Rattle.surf_surfaces.specs.Surface.{IsSurface}
 use Rattle.surf_surfaces.specs.Walk.{ArePositive}
 use Rattle.surf_surfaces.specs.Places.{IsLeastLoopSystemInOrder, IsLeastBasisInOrder, MeasureShortest}
 use Rattle.surf_validity.specs.Rows.{LoopCert, BasisCert}
-use Rattle.surf_validity.specs.Valid.{IsValidLoops, loops_of, loops_total}
+use Rattle.surf_validity.specs.Valid.{IsValidLoops, certified_loops, loops_total}
 use Rattle.surf_validity.specs.Bases.{IsValidBasis, basis_total}
 use Rattle.surf_validity.proofs.PlaceLaws.{valid_loops_are_least_in_order, valid_bases_are_least_in_order, valid_bases_measure_shortest}
 use Rattle.surf_certcheck.specs.declared.fault.CertFault.{CertFault}
 
 pub loops_in_order : (mesh : Mesh) (lengths : List ℕ) (cert : LoopCert) → IsSurface mesh → ArePositive mesh lengths →
     (r : Result ℕ CertFault) → IfOk r (λ t. IsValidLoops mesh lengths cert × (t ≡ loops_total mesh lengths cert)) →
-    IfOk r (λ t. IsLeastLoopSystemInOrder mesh lengths cert.tree.base (loops_of mesh cert))
+    IfOk r (λ t. IsLeastLoopSystemInOrder mesh lengths cert.tree.base (certified_loops mesh cert))
 loops_in_order mesh lengths cert surface positive (Ok t) is =
     valid_loops_are_least_in_order mesh lengths cert surface positive is.0
 loops_in_order mesh lengths cert surface positive (Err e) is = tt

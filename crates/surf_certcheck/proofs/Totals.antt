@@ -8,7 +8,7 @@ use Rattle.surf_surfaces.specs.Surface.{IsSurface}
 use Rattle.surf_surfaces.specs.Walk.{ArePositive}
 use Rattle.surf_surfaces.specs.Homology.{total, IsLeastLoopSystem}
 use Rattle.surf_validity.specs.Rows.{LoopCert}
-use Rattle.surf_validity.specs.Valid.{IsValidLoops, loops_of, loops_total}
+use Rattle.surf_validity.specs.Valid.{IsValidLoops, certified_loops, loops_total}
 use Rattle.surf_validity.proofs.LoopLaws.{valid_loops_are_least}
 use Rattle.surf_certcheck.specs.LoopFaults.{IsLoopFault}
 use Rattle.surf_certcheck.specs.declared.fault.CertFault.{CertFault}
@@ -18,8 +18,8 @@ use Rattle.surf_certcheck.proofs.LoopFaults.{no_loop_fault}
 pub least_where_ok : (mesh : Mesh) (lengths : List ℕ) (cert : LoopCert) → IsSurface mesh → ArePositive mesh lengths →
     (r : Result ℕ CertFault) →
     IfOk r (λ t. IsValidLoops mesh lengths cert × (t ≡ loops_total mesh lengths cert)) →
-    IfOk r (λ t. IsLeastLoopSystem mesh lengths cert.tree.base (loops_of mesh cert)
-    × (t ≡ total mesh lengths (loops_of mesh cert)))
+    IfOk r (λ t. IsLeastLoopSystem mesh lengths cert.tree.base (certified_loops mesh cert)
+    × (t ≡ total mesh lengths (certified_loops mesh cert)))
 least_where_ok mesh lengths cert surface positive (Ok t) is =
     let shown = valid_loops_are_least mesh lengths cert surface positive is.0 in
     (shown.0, is.1 ∙ sym shown.1)

@@ -14,9 +14,9 @@ use Rattle.surf_surfaces.specs.Walk.{ArePositive}
 use Rattle.surf_surfaces.proofs.ClassLaws.{some_vertex}
 use Rattle.surf_signatures.proofs.Passing.{passing_same}
 use Rattle.surf_signatures.specs.Tables.{face_tree, HangsBy}
-use Rattle.surf_validity.specs.Bases.{tree_at, split_in, HasShape}
+use Rattle.surf_validity.specs.Bases.{tree_at, split_in, HasBasisShape}
 use Rattle.surf_validity.specs.Rows.{BasisCert}
-use Rattle.surf_validity.specs.Valid.{tree_of, dual_tree, is_listed, just_one}
+use Rattle.surf_validity.specs.Valid.{certified_tree, dual_tree, is_listed, just_one}
 use Rattle.surf_validity.proofs.DualLaws.{dual_rows_are_tree, dual_rows_in_tree}
 use Rattle.surf_validity.proofs.SplitLaws.{is_split}
 use Rattle.surf_validity.proofs.TreeLaws.{rows_are_tree, rows_are_shortest, rows_in_tree}
@@ -52,7 +52,7 @@ has_split mesh lengths cert surface positive a =
     let tree = rows_are_tree mesh lengths rows surface positive base_in (a.trees 0 some) in
     let cotree = dual_rows_are_tree mesh cert.dual surface a.dual in
     let one_of : (e : ℕ) → e < edge_count mesh →
-    just_one (tree_edges mesh (tree_of mesh rows) e) (cotree_edges mesh (dual_tree mesh cert.dual) e)
+    just_one (tree_edges mesh (certified_tree mesh rows) e) (cotree_edges mesh (dual_tree mesh cert.dual) e)
     (is_listed mesh cert.left e) ≡ true = λ e l.
     rw (
       rows_in_tree mesh lengths rows surface positive base_in (a.trees 0 some) e l,
@@ -61,9 +61,9 @@ has_split mesh lengths cert surface positive a =
     record {
       faces = record { depths = a.shape.depths; sides = a.shape.sides };
       dual = a.dual;
-      split = is_split mesh (tree_of mesh rows) (dual_tree mesh cert.dual) cert.left (record { one_of = one_of }) tree cotree;
+      split = is_split mesh (certified_tree mesh rows) (dual_tree mesh cert.dual) cert.left (record { one_of = one_of }) tree cotree;
       listed = λ e l.
-          third (tree_edges mesh (tree_of mesh rows) e) (cotree_edges mesh (dual_tree mesh cert.dual) e)
+          third (tree_edges mesh (certified_tree mesh rows) e) (cotree_edges mesh (dual_tree mesh cert.dual) e)
           (is_listed mesh cert.left e) (one_of e l);
     }
   where
@@ -81,7 +81,7 @@ pub left_is : (mesh : Mesh) (cert : BasisCert) (flags : List Bool) → HasSplit 
     AreFlags (edge_count mesh) (is_listed mesh cert.left) flags →
     filter (is_flagged flags) (range_with_len 0 (edge_count mesh)) ≡ (split_in mesh cert).left
 left_is mesh cert flags has are =
-    passing_same (is_flagged flags) (is_left mesh (tree_of mesh (tree_at cert 0)) (dual_tree mesh cert.dual)) 0
+    passing_same (is_flagged flags) (is_left mesh (certified_tree mesh (tree_at cert 0)) (dual_tree mesh cert.dual)) 0
     (edge_count mesh) (λ e l. let below : e < edge_count mesh = omega (arith, l) in are.each e below ∙ has.listed e below)
 
 -- there are two less the characteristic of them
@@ -127,14 +127,14 @@ signed_count mesh d sets is = ap length is ∙ length-map-range_with_len (edge_s
 
 -- ---- sizes
 
-pub has_trees : (mesh : Mesh) (cert : BasisCert) → HasShape mesh cert → HasTrees mesh cert
+pub has_trees : (mesh : Mesh) (cert : BasisCert) → HasBasisShape mesh cert → HasTrees mesh cert
 has_trees mesh cert shape = record {
   trees = shape.trees;
   rows = λ x l. record { distances = shape.distances x l; parents = shape.parents x l };
 }
 
 -- there are as many cycles as left edges
-pub cycles_size : (mesh : Mesh) (cert : BasisCert) → HasShape mesh cert → HasSplit mesh cert →
+pub cycles_size : (mesh : Mesh) (cert : BasisCert) → HasBasisShape mesh cert → HasSplit mesh cert →
     length cert.cycles ≡ length (split_in mesh cert).left
 cycles_size mesh cert shape has =
     let left = left_size mesh cert has in

@@ -5,7 +5,7 @@ use Rattle.surf_surfaces.specs.Surface.{face_count, edge_count, ends}
 use Rattle.surf_surfaces.specs.Homology.{IsFullCount}
 use Rattle.surf_validity.specs.Rows.{BasisCert}
 use Rattle.surf_validity.specs.Valid.{IsNoShortCut, IsTreeValid, IsDualValid, IsDivided}
-use Rattle.surf_validity.specs.Bases.{tree_at, HasShape, IsClosedList, IsDependent, IsCovered}
+use Rattle.surf_validity.specs.Bases.{tree_at, HasBasisShape, IsClosedList, IsDependent, IsCovered}
 use Rattle.surf_certcheck.specs.First.{HoldsBelow, FailsFirst}
 use Rattle.surf_certcheck.specs.Rows.{HasTreeRows, HasDualRows, HasParent, HasDistance, HasDual}
 use Rattle.surf_certcheck.specs.Split.{IsLeastBadPair}
@@ -93,8 +93,8 @@ abbrev pub IsAlong : Mesh → List ℕ → ℕ → Type 0
 IsAlong mesh list k = Contains (edges mesh) (pair (slice_index list k) (slice_index list (k + 1)))
 
 -- the cycle at a place is a closed list of neighbours
-abbrev pub IsClosedAt : Mesh → BasisCert → ℕ → Type 0
-IsClosedAt mesh cert k = IsClosedList mesh (cycle_at cert k)
+abbrev pub IsCycleClosed : Mesh → BasisCert → ℕ → Type 0
+IsCycleClosed mesh cert k = IsClosedList mesh (cycle_at cert k)
 
 -- its signature is no sum of those before it
 abbrev pub IsIndependentAt : Mesh → BasisCert → ℕ → Type 0
@@ -125,7 +125,7 @@ IsUncovered mesh lengths cert base p =
 
 -- the conditions before those on the cycles
 pub record AreTreesDivided (mesh : Mesh) (lengths : List ℕ) (cert : BasisCert) : Type 0 where
-  pub shape : HasShape mesh cert
+  pub shape : HasBasisShape mesh cert
   pub trees : AreTreesValid mesh lengths cert
   pub dual : IsDualValid mesh cert.dual
   pub divided : IsDivided mesh (tree_at cert 0) cert.dual cert.left
@@ -134,23 +134,23 @@ pub record AreTreesDivided (mesh : Mesh) (lengths : List ℕ) (cert : BasisCert)
 abbrev pub IsBasisFault : Mesh → List ℕ → BasisCert → CertFault → Type 0
 IsBasisFault mesh lengths cert (Shape part) = IsBasisShapeFault mesh cert part
 IsBasisFault mesh lengths cert (Parent base v) =
-    HasShape mesh cert × IsTreesFault mesh lengths cert (Parent base v)
+    HasBasisShape mesh cert × IsTreesFault mesh lengths cert (Parent base v)
 IsBasisFault mesh lengths cert (Distance base v) =
-    HasShape mesh cert × IsTreesFault mesh lengths cert (Distance base v)
+    HasBasisShape mesh cert × IsTreesFault mesh lengths cert (Distance base v)
 IsBasisFault mesh lengths cert (Slack base u v) =
-    HasShape mesh cert × IsTreesFault mesh lengths cert (Slack base u v)
+    HasBasisShape mesh cert × IsTreesFault mesh lengths cert (Slack base u v)
 IsBasisFault mesh lengths cert (Dual face) =
-    HasShape mesh cert × AreTreesValid mesh lengths cert × FailsFirst (face_count mesh) (HasDual mesh cert.dual) face
+    HasBasisShape mesh cert × AreTreesValid mesh lengths cert × FailsFirst (face_count mesh) (HasDual mesh cert.dual) face
 IsBasisFault mesh lengths cert (Split u v) =
-    HasShape mesh cert × AreTreesValid mesh lengths cert × IsDualValid mesh cert.dual
+    HasBasisShape mesh cert × AreTreesValid mesh lengths cert × IsDualValid mesh cert.dual
     × IsLeastBadPair mesh (tree_at cert 0) cert.dual cert.left (u, v)
 IsBasisFault mesh lengths cert (Heavier left cotree) = ⊥
 IsBasisFault mesh lengths cert (NotClosed place) =
-    AreTreesDivided mesh lengths cert × FailsFirst (length cert.cycles) (IsClosedAt mesh cert) place
+    AreTreesDivided mesh lengths cert × FailsFirst (length cert.cycles) (IsCycleClosed mesh cert) place
 IsBasisFault mesh lengths cert (Dependent place) =
-    AreTreesDivided mesh lengths cert × HoldsBelow (length cert.cycles) (IsClosedAt mesh cert)
+    AreTreesDivided mesh lengths cert × HoldsBelow (length cert.cycles) (IsCycleClosed mesh cert)
     × DependsFirst mesh cert place
 IsBasisFault mesh lengths cert (Uncovered base u v) =
-    AreTreesDivided mesh lengths cert × HoldsBelow (length cert.cycles) (IsClosedAt mesh cert)
+    AreTreesDivided mesh lengths cert × HoldsBelow (length cert.cycles) (IsCycleClosed mesh cert)
     × HoldsBelow (length cert.cycles) (IsIndependentAt mesh cert) × IsUncovered mesh lengths cert base (u, v)
 IsBasisFault mesh lengths cert Memory = Unit {0}

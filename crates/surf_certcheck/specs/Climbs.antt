@@ -7,7 +7,7 @@ use Rattle.surf_surfaces.specs.Mesh.{Mesh}
 use Rattle.surf_surfaces.specs.Walk.{edge_length}
 use Rattle.surf_signatures.specs.Ways.{way_class}
 use Rattle.surf_validity.specs.Rows.{TreeRows}
-use Rattle.surf_validity.specs.Valid.{tree_of, IsTreeValid}
+use Rattle.surf_validity.specs.Valid.{certified_tree, IsTreeValid}
 use Rattle.surf_certcheck.specs.Rows.{HasTreeRows}
 use Rattle.surf_certcheck.specs.Frames.{AreTaken}
 
@@ -16,10 +16,10 @@ pub record IsClimbed (mesh : Mesh) (rows : TreeRows) : Type 0 where
   pub rows_are : HasTreeRows mesh rows
   pub lengths : List ℕ
   pub valid : IsTreeValid mesh lengths rows
-  pub tree : IsTree (primal (cells_of mesh)) (tree_of mesh rows)
-  pub short : IsShortest (primal (cells_of mesh)) (edge_length lengths) (tree_of mesh rows)
+  pub tree : IsTree (primal (cells_of mesh)) (certified_tree mesh rows)
+  pub short : IsShortest (primal (cells_of mesh)) (edge_length lengths) (certified_tree mesh rows)
 
 -- a table has for each vertex the sum over its way up to the base of what a map makes of the signatures of edges
 abbrev pub AreSummed : Mesh → TreeRows → List ℕ → List ℕ → Type 0
 AreSummed mesh rows sets sums = (d : Split) (to : ℕ → ℕ) → AreTaken mesh d to sets → (v : ℕ) → v < mesh.vertices →
-    slice_index sums v ≡ to (way_class mesh d (tree_of mesh rows) v)
+    slice_index sums v ≡ to (way_class mesh d (certified_tree mesh rows) v)

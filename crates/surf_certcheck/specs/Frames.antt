@@ -10,7 +10,7 @@ use Rattle.surf_surfaces.specs.Surface.{edge_count}
 use Rattle.surf_signatures.specs.Tables.{Signed}
 use Rattle.surf_validity.specs.Bases.{tree_at, split_in, weighed_cycle}
 use Rattle.surf_validity.specs.Rows.{TreeRows, BasisCert}
-use Rattle.surf_validity.specs.Valid.{tree_of, loop_size, is_listed, IsDualValid}
+use Rattle.surf_validity.specs.Valid.{certified_tree, loop_size, is_listed, IsDualValid}
 use Rattle.surf_surfaces.specs.Cotree.{is_left}
 use Rattle.surf_validity.specs.Valid.{dual_tree}
 use Rattle.surf_certcheck.specs.Rows.{HasDualRows}
@@ -19,7 +19,7 @@ use Rattle.surf_certcheck.specs.Rows.{HasDualRows}
 abbrev pub weighed_through : Mesh → List ℕ → Split → TreeRows → ℕ → Weighed ℕ
 weighed_through mesh lengths d rows e = record {
   weight = loop_size mesh lengths rows e;
-  vector = walk_signature mesh d (loop_walk mesh (tree_of mesh rows) e);
+  vector = walk_signature mesh d (loop_walk mesh (certified_tree mesh rows) e);
 }
 
 -- the signature of that loop is a sum of those of cycles that are no longer
@@ -78,4 +78,4 @@ pub record HasSplit (mesh : Mesh) (cert : BasisCert) : Type 0 where
   pub dual : IsDualValid mesh cert.dual
   pub split : IsSplit (cells_of mesh) (split_in mesh cert)
   pub listed : (e : ℕ) → e < edge_count mesh →
-      is_listed mesh cert.left e ≡ is_left mesh (tree_of mesh (tree_at cert 0)) (dual_tree mesh cert.dual) e
+      is_listed mesh cert.left e ≡ is_left mesh (certified_tree mesh (tree_at cert 0)) (dual_tree mesh cert.dual) e

@@ -3,11 +3,11 @@ ghost use Rattle.std.specs.Prelude.{◌≡◌, ◌≢◌, ◌≤◌, ◌+◌, �
 ghost use Rattle.surf_surfaces.specs.Homology.{total, IsLeastBasis};
 ghost use Rattle.surf_surfaces.specs.Places.{IsLeastBasisInOrder, MeasureShortest};
 ghost use Rattle.surf_surfaces.specs.Surface.{edge_count, face_count};
-ghost use Rattle.surf_validity.specs.Bases.{IsValidBasis, HasShape, basis_total};
+ghost use Rattle.surf_validity.specs.Bases.{IsValidBasis, HasBasisShape, basis_total};
 ghost use Rattle.surf_validity.specs.Valid.{is_listed, IsDualValid};
 ghost use Rattle.surf_certcheck.specs.First.{HoldsBelow};
 ghost use Rattle.surf_certcheck.specs.Split.{AreFlags};
-ghost use Rattle.surf_certcheck.specs.BasisFaults.{AreTreesDivided, AreTreesValid, IsClosedAt, IsBasisFault};
+ghost use Rattle.surf_certcheck.specs.BasisFaults.{AreTreesDivided, AreTreesValid, IsCycleClosed, IsBasisFault};
 ghost use Rattle.surf_certcheck.specs.declared.fault.CertFault.TheVariants.{Memory};
 
 use crate::cover::first_uncovered;
@@ -37,7 +37,7 @@ fn check_cycles(
     left: &[bool],
 ) -> Result<u128, CertFault>
     requires divided { AreTreesDivided mesh.now lengths.now cert.now }
-    requires closed { HoldsBelow (length cert.now.cycles) (IsClosedAt mesh.now cert.now) }
+    requires closed { HoldsBelow (length cert.now.cycles) (IsCycleClosed mesh.now cert.now) }
     requires lengths { length lengths.now ≡ edge_count mesh.now }
     requires few { edge_count mesh.now + 2 ≤ mesh.now.vertices + face_count mesh.now + 1024 }
     requires left { AreFlags (edge_count mesh.now) (is_listed mesh.now cert.now.left) left.now }
@@ -66,7 +66,7 @@ fn check_edges(
     lengths: &Lengths,
     cert: &BasisCert,
 ) -> Result<u128, CertFault>
-    requires shape { HasShape mesh.now cert.now }
+    requires shape { HasBasisShape mesh.now cert.now }
     requires trees { AreTreesValid mesh.now lengths.now cert.now }
     requires dual { IsDualValid mesh.now cert.now.dual }
     requires lengths { length lengths.now ≡ edge_count mesh.now }

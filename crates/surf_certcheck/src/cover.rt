@@ -8,7 +8,7 @@ ghost use Rattle.surf_surfaces.specs.Signature.{walk_signature};
 ghost use Rattle.surf_surfaces.specs.Loop.{loop_walk};
 ghost use Rattle.surf_validity.specs.Rows.{TreeRows};
 ghost use Rattle.surf_validity.specs.Bases.{IsCovered};
-ghost use Rattle.surf_validity.specs.Valid.{tree_of};
+ghost use Rattle.surf_validity.specs.Valid.{certified_tree};
 ghost use Rattle.surf_certcheck.specs.First.{HoldsBelow, FailsFirst};
 ghost use Rattle.surf_certcheck.specs.BasisFaults.{HasTrees, HasBase, AreTreesValid, AreCovered, IsFirstAt};
 ghost use Rattle.surf_certcheck.specs.Frames.{IsFrame, IsFrameOf, AreTaken, IsCoveredBy};
@@ -31,7 +31,7 @@ fn loop_set(mesh: &HalfMesh, signs: &Signs, sums: &VertexSets, e: EdgeId) -> Sig
     requires count { length signs.now.sets ≡ edge_count mesh.now }
     requires room { length sums.now.sets ≡ mesh.now.vertices }
     requires edge { e < edge_count mesh.now }
-    ensures sum { (rows : TreeRows) → IsClimbed mesh.now rows → AreSummed mesh.now rows signs.now.sets sums.now.sets → (d : Split) (to : ℕ → ℕ) → AreTaken mesh.now d to signs.now.sets → result ≡ to (walk_signature mesh.now d (loop_walk mesh.now (tree_of mesh.now rows) e)) }
+    ensures sum { (rows : TreeRows) → IsClimbed mesh.now rows → AreSummed mesh.now rows signs.now.sets sums.now.sets → (d : Split) (to : ℕ → ℕ) → AreTaken mesh.now d to signs.now.sets → result ≡ to (walk_signature mesh.now d (loop_walk mesh.now (certified_tree mesh.now rows) e)) }
 {
     let _surface = mesh.faces();
     let (u, v) = ends_inside(mesh, e);

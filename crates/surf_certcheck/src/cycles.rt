@@ -5,7 +5,7 @@ ghost use Rattle.surf_surfaces.specs.Surface.{edge_count};
 ghost use Rattle.surf_surfaces.specs.Walk.{edge_number, first, last, walk_length};
 ghost use Rattle.surf_validity.specs.Bases.{IsClosedList, basis_total};
 ghost use Rattle.surf_certcheck.specs.First.{HoldsBelow, FailsFirst};
-ghost use Rattle.surf_certcheck.specs.BasisFaults.{cycle_at, IsClosedAt, IsAlong};
+ghost use Rattle.surf_certcheck.specs.BasisFaults.{cycle_at, IsCycleClosed, IsAlong};
 
 use crate::edges::edge_up;
 use surf_base::{EdgeId, VertexId};
@@ -62,7 +62,7 @@ fn is_closed(mesh: &HalfMesh, list: &[VertexId]) -> bool
 
 /// The least place of a cycle that isn't a closed list of neighbours.
 pub(crate) fn first_open(mesh: &HalfMesh, cert: &BasisCert) -> Option<usize>
-    ensures first { MatchOption result (HoldsBelow (length cert.now.cycles) (IsClosedAt mesh.now cert.now)) (FailsFirst (length cert.now.cycles) (IsClosedAt mesh.now cert.now)) }
+    ensures first { MatchOption result (HoldsBelow (length cert.now.cycles) (IsCycleClosed mesh.now cert.now)) (FailsFirst (length cert.now.cycles) (IsCycleClosed mesh.now cert.now)) }
 {
     for place in 0..cert.cycles().len() {
         if !is_closed(mesh, cycle_from(cert, place)) {
@@ -101,7 +101,7 @@ pub(crate) fn length_of(mesh: &HalfMesh, lengths: &Lengths, list: &[VertexId]) -
 
 /// The sum of the lengths of the cycles.
 pub(crate) fn total_length(mesh: &HalfMesh, lengths: &Lengths, cert: &BasisCert) -> u128
-    requires closed { HoldsBelow (length cert.now.cycles) (IsClosedAt mesh.now cert.now) }
+    requires closed { HoldsBelow (length cert.now.cycles) (IsCycleClosed mesh.now cert.now) }
     requires lengths { length lengths.now ≡ edge_count mesh.now }
     requires few { length cert.now.cycles ≤ 1024 }
     ensures total { result ≡ basis_total mesh.now lengths.now cert.now }

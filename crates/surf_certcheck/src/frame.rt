@@ -7,7 +7,7 @@ ghost use Rattle.surf_surfaces.specs.Signature.{edge_signature, walk_signature};
 ghost use Rattle.surf_surfaces.specs.Surface.{edge_count};
 ghost use Rattle.surf_validity.specs.Bases.{IsClosedList, IsDependent, split_in};
 ghost use Rattle.surf_certcheck.specs.First.{HoldsBelow};
-ghost use Rattle.surf_certcheck.specs.BasisFaults.{IsClosedAt, IsIndependentAt, DependsFirst, IsDependentFault};
+ghost use Rattle.surf_certcheck.specs.BasisFaults.{IsCycleClosed, IsIndependentAt, DependsFirst, IsDependentFault};
 ghost use Rattle.surf_certcheck.specs.Frames.{AreTaken, IsPlacedUpTo, weight_at, IsFrameOf};
 
 use crate::cycles::{cycle_from, length_of, step_edge};
@@ -94,7 +94,7 @@ fn admit(
     weights: &mut [Option<u128>],
 ) -> bool
     requires place { place < length cert.now.cycles }
-    requires closed { IsClosedAt mesh.now cert.now place }
+    requires closed { IsCycleClosed mesh.now cert.now place }
     requires lengths { length lengths.now ≡ edge_count mesh.now }
     requires count { length signs.old.sets ≡ edge_count mesh.now }
     requires places { length weights.old ≡ signs.old.width }
@@ -126,7 +126,7 @@ fn admit_all(
     signs: &mut Signs,
     weights: &mut [Option<u128>],
 ) -> Option<usize>
-    requires closed { HoldsBelow (length cert.now.cycles) (IsClosedAt mesh.now cert.now) }
+    requires closed { HoldsBelow (length cert.now.cycles) (IsCycleClosed mesh.now cert.now) }
     requires lengths { length lengths.now ≡ edge_count mesh.now }
     requires count { length signs.old.sets ≡ edge_count mesh.now }
     requires places { length weights.old ≡ signs.old.width }
@@ -162,7 +162,7 @@ pub(crate) fn frame_cycles(
     cert: &BasisCert,
     signs: Signs,
 ) -> Result<Frame, CertFault>
-    requires closed { HoldsBelow (length cert.now.cycles) (IsClosedAt mesh.now cert.now) }
+    requires closed { HoldsBelow (length cert.now.cycles) (IsCycleClosed mesh.now cert.now) }
     requires lengths { length lengths.now ≡ edge_count mesh.now }
     requires places { length cert.now.cycles ≡ length (split_in mesh.now cert.now).left }
     requires width { signs.width ≡ length cert.now.cycles }

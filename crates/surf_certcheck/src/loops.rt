@@ -6,7 +6,7 @@ ghost use Rattle.surf_surfaces.specs.Walk.{edge_number};
 ghost use Rattle.surf_surfaces.specs.Homology.{total, IsLeastLoopSystem};
 ghost use Rattle.surf_surfaces.specs.Places.{IsLeastLoopSystemInOrder};
 ghost use Rattle.surf_validity.specs.Valid.{HasShape, IsTreeValid, IsDualValid, IsValidLoops, HasNoShorter};
-ghost use Rattle.surf_validity.specs.Valid.{is_listed, loop_size, loops_of, loops_total};
+ghost use Rattle.surf_validity.specs.Valid.{is_listed, loop_size, certified_loops, loops_total};
 ghost use Rattle.surf_certcheck.specs.First.{HoldsBelow};
 ghost use Rattle.surf_certcheck.specs.Split.{AreFlags};
 ghost use Rattle.surf_certcheck.specs.Rows.{HasTreeRows, HasDualRows, HasDual};
@@ -150,8 +150,8 @@ pub fn check_loops(
 ) -> Result<u128, CertFault>
     requires lengths { length lengths.now ≡ edge_count mesh.now }
     ensures valid { IfOk result (λ t. IsValidLoops mesh.now lengths.now cert.now × (t ≡ loops_total mesh.now lengths.now cert.now)) }
-    ensures least { IfOk result (λ t. IsLeastLoopSystem mesh.now lengths.now cert.now.tree.base (loops_of mesh.now cert.now) × (t ≡ total mesh.now lengths.now (loops_of mesh.now cert.now))) }
-    ensures in_order { IfOk result (λ t. IsLeastLoopSystemInOrder mesh.now lengths.now cert.now.tree.base (loops_of mesh.now cert.now)) }
+    ensures least { IfOk result (λ t. IsLeastLoopSystem mesh.now lengths.now cert.now.tree.base (certified_loops mesh.now cert.now) × (t ≡ total mesh.now lengths.now (certified_loops mesh.now cert.now))) }
+    ensures in_order { IfOk result (λ t. IsLeastLoopSystemInOrder mesh.now lengths.now cert.now.tree.base (certified_loops mesh.now cert.now)) }
     ensures fault { IfErr result (IsLoopFault mesh.now lengths.now cert.now) }
     ensures excludes { IfErr result (λ e. e ≢ Memory → IsValidLoops mesh.now lengths.now cert.now → ⊥) }
 {

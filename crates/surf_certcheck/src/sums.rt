@@ -7,7 +7,7 @@ ghost use Rattle.surf_surfaces.specs.Mesh.{edges, pair};
 ghost use Rattle.surf_surfaces.specs.Surface.{edge_count};
 ghost use Rattle.surf_surfaces.specs.Walk.{edge_number};
 ghost use Rattle.surf_signatures.specs.Ways.{way_class};
-ghost use Rattle.surf_validity.specs.Valid.{tree_of, distance_at, parent_at};
+ghost use Rattle.surf_validity.specs.Valid.{certified_tree, distance_at, parent_at};
 ghost use Rattle.surf_certcheck.specs.Frames.{AreTaken};
 ghost use Rattle.surf_certcheck.specs.Climbs.{IsClimbed, AreSummed};
 
@@ -73,7 +73,7 @@ fn sum_way(mesh: &HalfMesh, rows: &TreeRows, signs: &Signs, v: VertexId, sums: &
     requires vertex { v < mesh.now.vertices }
     requires room { length sums.old.sets ≡ mesh.now.vertices }
     requires width { sums.old.width ≡ signs.now.width }
-    ensures summed { (d : Split) (to : ℕ → ℕ) → AreTaken mesh.now d to signs.now.sets → ((p : ℕ) → parent_at rows.now v ≡ Some p → slice_index sums.old.sets p ≡ to (way_class mesh.now d (tree_of mesh.now rows.now) p)) → slice_index sums.new.sets v ≡ to (way_class mesh.now d (tree_of mesh.now rows.now) v) }
+    ensures summed { (d : Split) (to : ℕ → ℕ) → AreTaken mesh.now d to signs.now.sets → ((p : ℕ) → parent_at rows.now v ≡ Some p → slice_index sums.old.sets p ≡ to (way_class mesh.now d (certified_tree mesh.now rows.now) p)) → slice_index sums.new.sets v ≡ to (way_class mesh.now d (certified_tree mesh.now rows.now) v) }
     ensures rest { (u : ℕ) → u ≢ v → slice_index sums.new.sets u ≡ slice_index sums.old.sets u }
     ensures room { length sums.new.sets ≡ mesh.now.vertices }
     ensures width { sums.new.width ≡ signs.now.width }

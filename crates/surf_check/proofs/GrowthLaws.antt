@@ -18,7 +18,7 @@ use Rattle.surf_mesh.proofs.HalfLaws.{spans}
 use Rattle.surf_mesh.specs.Reach.{marked}
 use Rattle.surf_mesh.proofs.ReachSteps.{marked-inside, unmarked-fresh, none_marked}
 use Rattle.surf_mesh.proofs.RoundSteps.{marks_one}
-use Rattle.surf_check.specs.Growth.{flag_of, tree_of, Hangs, Grows, GrowsOn, IsCrossed}
+use Rattle.surf_check.specs.Growth.{flag_of, grown_tree, Hangs, Grows, GrowsOn, IsCrossed}
 use Rattle.surf_check.proofs.SideWays.{crossed_closed}
 
 pub grows_start : (mesh : Mesh) → 0 < face_count mesh → (parent up rank : List ℕ) (flags : List Bool) →
@@ -244,7 +244,7 @@ module _ (mesh : Mesh) (surface : IsSurface mesh) (parent up rank : List ℕ) (f
         crossed_closed mesh surface seen x y (subst P o.2 (done o.0 o.1)) share)
         (surface.connected 0 f surface.some_face lt) t.root
 
-    pub whole_tree : IsTree (dual (cells_of mesh)) (tree_of parent up rank)
+    pub whole_tree : IsTree (dual (cells_of mesh)) (grown_tree parent up rank)
     whole_tree = record {
       root_in = surface.some_face;
       parent_in = λ f lt ne. let n = t.seen_count in let h = t.hangs f (all_marked f lt) ne in
@@ -254,5 +254,5 @@ module _ (mesh : Mesh) (surface : IsSurface mesh) (parent up rank : List ℕ) (f
       rank_falls = λ f lt ne. (t.hangs f (all_marked f lt) ne).rank_falls;
     }
 
-    pub flags_follow : FollowTree mesh (tree_of parent up rank) (flag_of flags)
+    pub flags_follow : FollowTree mesh (grown_tree parent up rank) (flag_of flags)
     flags_follow f lt ne = (t.hangs f (all_marked f lt) ne).its_flag

@@ -17,8 +17,8 @@ abbrev pub flag_of : List Bool → ℕ → Bool
 flag_of flags f = get_or flags f false
 
 -- the tree that tables by face say
-abbrev pub tree_of : List ℕ → List ℕ → List ℕ → Tree
-tree_of parent up rank =
+abbrev pub grown_tree : List ℕ → List ℕ → List ℕ → Tree
+grown_tree parent up rank =
     record { root = 0; parent = λ f. get_or parent f 0; up = λ f. get_or up f 0; rank = λ f. get_or rank f 0 }
 
 -- a face hangs on a face of the tree by an edge of both, and has the flag that the edge asks for
@@ -65,5 +65,5 @@ pub record IsFlagTree (mesh : Mesh) (t : FaceTree) : Type 0 where
   pub parents : length t.parent.items ≡ face_count mesh
   pub ups : length t.up.items ≡ face_count mesh
   pub flag_count : length t.flags.items ≡ face_count mesh
-  pub is_tree : IsTree (dual (cells_of mesh)) (tree_of t.parent.items t.up.items t.rank.items)
-  pub follows : FollowTree mesh (tree_of t.parent.items t.up.items t.rank.items) (flag_of t.flags.items)
+  pub is_tree : IsTree (dual (cells_of mesh)) (grown_tree t.parent.items t.up.items t.rank.items)
+  pub follows : FollowTree mesh (grown_tree t.parent.items t.up.items t.rank.items) (flag_of t.flags.items)

@@ -4,14 +4,14 @@ use Rattle.surf_graphs.specs.Trees.{Tree}
 use Rattle.surf_surfaces.specs.Mesh.{Mesh}
 use Rattle.surf_surfaces.specs.Surface.{face_count, IsTurning, IsTwoSided}
 use Rattle.surf_surfaces.specs.Turning.{IsOneSided}
-use Rattle.surf_check.specs.Growth.{flag_of, tree_of}
+use Rattle.surf_check.specs.Growth.{flag_of, grown_tree}
 use Rattle.surf_check.specs.declared.growth.FaceTree.{FaceTree}
 use Rattle.surf_check.specs.declared.answers.Sides.{Sides}
 use Rattle.surf_check.specs.declared.answers.Sides.TheVariants.{Two, One}
 
 -- the tree of its tables
 abbrev pub tree_in : FaceTree → Tree
-tree_in t = tree_of t.parent.items t.up.items t.rank.items
+tree_in t = grown_tree t.parent.items t.up.items t.rank.items
 
 -- the flags are a turning, or else the chain is one-sided and there is no turning
 abbrev pub AreSides : Mesh → Sides → Type 0

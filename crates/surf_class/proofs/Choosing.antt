@@ -15,7 +15,7 @@ use Rattle.surf_surfaces.specs.Homology.{IsBoundary}
 use Rattle.surf_surfaces.specs.Cells.{cells_of}
 use Rattle.surf_surfaces.specs.Signature.{edge_signature}
 use Rattle.surf_surfaces.proofs.CellLaws.{surfaces_are_cells}
-use Rattle.surf_cotree.specs.Tables.{CotreeTables, split_with, tree_of}
+use Rattle.surf_cotree.specs.Tables.{CotreeTables, split_with, cotree_of}
 use Rattle.surf_certcheck.specs.Split.{AreFlags}
 use Rattle.surf_signatures.proofs.Passing.{passing_same}
 use Rattle.surf_classes.specs.Evidence.{joint_parity, AreClosed, IsChosenNull, IsChosenOdd, is_listed}
@@ -68,7 +68,7 @@ module _ (mesh : Mesh) (surface : IsSurface mesh) (tree : Tree) (t : CotreeTable
   pub is_parted : IsParted mesh t flags inside
   unfolding inside
   is_parted =
-      let cotree = tree_of t in
+      let cotree = cotree_of t in
       let is_tree = signed.split.cotree_is in
       record {
         without_first = chosen.without_first;

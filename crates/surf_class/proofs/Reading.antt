@@ -1,6 +1,6 @@
 -- The numbers of tokens, one after the other.
 use Rattle.std.proofs.Common.{◌≡◌, ℕ, ◌+◌, List, [], ◌∷◌, ◌++◌, length, Some, None, Result, Ok, Err, refl, sym, ◌∙◌, ap, append_assoc, append-nil, length-append}
-use Rattle.surf_cert.specs.Lines.{number_of}
+use Rattle.surf_cert.specs.Lines.{cert_number}
 use Rattle.surf_class.specs.declared.numbers.NumberFault.{NumberFault}
 use Rattle.surf_class.specs.declared.numbers.NumberFault.TheVariants.{Bad}
 use Rattle.surf_class.specs.Numbers.{onto_numbers, numbers_from}
@@ -17,7 +17,7 @@ regroup front place n (Err fault) = refl
 
 module _ (front : List ℕ) (tokens : List (List ℕ)) (total : Result (List ℕ) NumberFault)
     (so_far : with_front front (numbers_from (length front) tokens) ≡ total) where
-  pub number_more : (token : List ℕ) (rest : List (List ℕ)) (n : ℕ) → tokens ≡ token ∷ rest → number_of token ≡ Some n →
+  pub number_more : (token : List ℕ) (rest : List (List ℕ)) (n : ℕ) → tokens ≡ token ∷ rest → cert_number token ≡ Some n →
       with_front (front ++ n ∷ []) (numbers_from (length (front ++ n ∷ [])) rest) ≡ total
   unfolding numbers_from
   number_more token rest n is good =
@@ -27,7 +27,7 @@ module _ (front : List ℕ) (tokens : List (List ℕ)) (total : Result (List ℕ
       rw (is, good, long) (regroup front (length front) n (numbers_from (length front + 1) rest)) in
       sym one ∙ so_far
 
-  pub number_bad : (token : List ℕ) (rest : List (List ℕ)) → tokens ≡ token ∷ rest → number_of token ≡ None →
+  pub number_bad : (token : List ℕ) (rest : List (List ℕ)) → tokens ≡ token ∷ rest → cert_number token ≡ None →
       total ≡ Err (Bad (length front))
   unfolding numbers_from
   number_bad token rest is bad =

@@ -4,7 +4,7 @@ use Rattle.std.proofs.lemmas.Bool.{lt-ltb, eq-eqb}
 use Rattle.surf_surfaces.specs.Mesh.{pair_lt}
 use Rattle.surf_off.proofs.Decimals.{IsWord, word_decimal}
 use Rattle.surf_cert.specs.Fits.{IsNumber, IsPair}
-use Rattle.surf_cert.specs.Written.{numbers_text}
+use Rattle.surf_text.specs.Numbers.{numbers_text}
 use Rattle.surf_cert.proofs.LineTexts.{number_again}
 use Rattle.surf_cert.proofs.WordLines.{spaced, line_of, AllWords, line_first, kept_is}
 use Rattle.surf_classes.specs.Evidence.{null_faces, odd_pairs}

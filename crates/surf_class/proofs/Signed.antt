@@ -1,6 +1,6 @@
 -- A desk that has signed the edges.
 use Rattle.std.proofs.Common.{sym, subst}
-use Rattle.surf_cotree.specs.Tables.{CotreeTables, IsMadeFor}
+use Rattle.surf_cotree.specs.Tables.{CotreeTables, AreCotreeTables}
 use Rattle.surf_class.specs.Desk.{IsSignedOn, HasSignatures, GrownDesksSign}
 
 pub grown_desks_sign : GrownDesksSign
@@ -10,7 +10,7 @@ grown_desks_sign mesh grown signed is few made rest has =
     let done : IsSignedOn mesh t = (
       is.tree,
       record {
-        made = subst (IsMadeFor mesh) rest made;
+        made = subst (AreCotreeTables mesh) rest made;
         root = is.root;
         split = is.split;
         few = few;

@@ -7,7 +7,7 @@ use Rattle.surf_text.specs.Text.{TextLine, tokens_of, lines_of}
 use Rattle.surf_surfaces.specs.Mesh.{Mesh, pair_of, among, steps, edges}
 use Rattle.surf_surfaces.specs.Walk.{first, last, IsClosed}
 use Rattle.surf_surfaces.proofs.EdgeLaws.{contains_from_among}
-use Rattle.surf_cert.specs.Lines.{number_of}
+use Rattle.surf_cert.specs.Lines.{cert_number}
 use Rattle.surf_class.specs.Numbers.{onto_numbers, numbers_from}
 use Rattle.surf_class.specs.Walks.{walk_of, walk_in, if_joined, if_closed, if_alone, ◌>>=◌}
 use Rattle.surf_class.specs.declared.numbers.NumberFault.{NumberFault}
@@ -31,7 +31,7 @@ numbers_length : (place : ℕ) (tokens : List (List ℕ)) (ns : List ℕ) → nu
 unfolding numbers_from size
 numbers_length place [] ns is = sym (ap size is)
 numbers_length place (token ∷ tokens) ns is =
-    let (ms, read, more) = onto_size place (number_of token) (numbers_from (place + 1) tokens) ns is in
+    let (ms, read, more) = onto_size place (cert_number token) (numbers_from (place + 1) tokens) ns is in
     more ∙ ap suc (numbers_length (place + 1) tokens ms read)
 
 module _ (mesh : Mesh) (text : List ℕ) (line : TextLine) (lines : List TextLine) (is : lines_of text ≡ line ∷ lines)

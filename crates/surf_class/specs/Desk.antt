@@ -7,13 +7,13 @@ use Rattle.surf_surfaces.specs.Mesh.{Mesh}
 use Rattle.surf_surfaces.specs.Surface.{edge_count}
 use Rattle.surf_surfaces.specs.Cells.{cells_of}
 use Rattle.surf_surfaces.specs.Signature.{edge_signature}
-use Rattle.surf_cotree.specs.Tables.{CotreeTables, IsMadeFor, parent_edge_of, split_with}
+use Rattle.surf_cotree.specs.Tables.{CotreeTables, AreCotreeTables, parent_edge_of, split_with}
 use Rattle.surf_cotree.specs.Grown.{IsGrownOn}
 
 -- The tables hold a tree of the faces, rooted at face 0, the edges that are neither in it nor in a tree of the
 -- vertices, at most 1,024, and the signatures of all edges by these.
 pub record IsSigned (mesh : Mesh) (tree : Tree) (t : CotreeTables) : Type 0 where
-  pub made : IsMadeFor mesh t
+  pub made : AreCotreeTables mesh t
   pub root : parent_edge_of t 0 ≡ None
   pub split : IsSplit (cells_of mesh) (split_with tree t)
   pub few : length t.left ≤ 1024
@@ -32,5 +32,5 @@ HasSignatures mesh t = (tree : Tree) → IsSplit (cells_of mesh) (split_with tre
 -- are those by the tree.
 abbrev pub GrownDesksSign : Type 0
 GrownDesksSign = (mesh : Mesh) (grown signed : CotreeTables) → IsGrownOn mesh grown → length grown.left ≤ 1024 →
-    IsMadeFor mesh signed → signed ≡ record grown { signatures = signed.signatures } → HasSignatures mesh signed →
+    AreCotreeTables mesh signed → signed ≡ record grown { signatures = signed.signatures } → HasSignatures mesh signed →
     IsSignedOn mesh signed

@@ -1,6 +1,6 @@
 -- The numbers that tokens are.
 use Rattle.std.specs.Prelude.{ℕ, ◌+◌, List, [], ◌∷◌, Option, Some, None, Result, Ok, Err}
-use Rattle.surf_cert.specs.Lines.{number_of}
+use Rattle.surf_cert.specs.Lines.{cert_number}
 use Rattle.surf_class.specs.declared.numbers.NumberFault.{NumberFault}
 use Rattle.surf_class.specs.declared.numbers.NumberFault.TheVariants.{Bad}
 
@@ -14,4 +14,4 @@ onto_numbers place (Some n) (Err fault) = Err fault
 -- number of at most 4,294,967,295
 unfoldable pub numbers_from : ℕ → List (List ℕ) → Result (List ℕ) NumberFault
 numbers_from place [] = Ok []
-numbers_from place (token ∷ tokens) = onto_numbers place (number_of token) (numbers_from (place + 1) tokens)
+numbers_from place (token ∷ tokens) = onto_numbers place (cert_number token) (numbers_from (place + 1) tokens)

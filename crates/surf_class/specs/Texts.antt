@@ -2,17 +2,17 @@
 use Rattle.std.specs.Prelude.{◌≡◌, ◌<◌, ℕ, true, List, [], ◌∷◌, ◌++◌, length, flat_map, codes, decimal, All, AllPairs, Ok}
 use Rattle.surf_surfaces.specs.Mesh.{pair_lt}
 use Rattle.surf_cert.specs.Fits.{IsNumber, IsPair}
-use Rattle.surf_cert.specs.Written.{numbers_text}
+use Rattle.surf_text.specs.Numbers.{numbers_text}
 use Rattle.surf_classes.specs.Evidence.{Evidence, null_faces, odd_pairs}
 use Rattle.surf_class.specs.Evidences.{evidence_in}
 
 -- a word, and how many there are
-abbrev pub head_text : List ℕ → ℕ → List ℕ
-head_text word count = word ++ (codes " " ++ decimal count)
+abbrev pub evidence_head_text : List ℕ → ℕ → List ℕ
+evidence_head_text word count = word ++ (codes " " ++ decimal count)
 
 -- a line that begins so and goes on with numbers
 abbrev pub counted_text : List ℕ → ℕ → List ℕ → List ℕ
-counted_text word count numbers = head_text word count ++ (numbers_text numbers ++ codes "\n")
+counted_text word count numbers = evidence_head_text word count ++ (numbers_text numbers ++ codes "\n")
 
 -- both numbers of each pair
 abbrev pub both_ends : List (ℕ × ℕ) → List ℕ

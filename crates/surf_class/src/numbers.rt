@@ -1,6 +1,6 @@
 //! The numbers of a line.
 ghost use Rattle.std.specs.Prelude.{◌≡◌, ◌<◌, ◌^◌, IfOk, length};
-ghost use Rattle.surf_cert.specs.Lines.{number_of};
+ghost use Rattle.surf_cert.specs.Lines.{cert_number};
 ghost use Rattle.surf_class.specs.Gives.{Gives};
 ghost use Rattle.surf_class.specs.Numbers.{numbers_from};
 ghost use Rattle.surf_class.specs.declared.numbers.NumberFault.TheVariants.{Memory};
@@ -27,7 +27,7 @@ impl<T: Drop> From<AllocFailed<T>> for NumberFault {
 
 // The number that a token is.
 fn read_number(token: &[u8]) -> Option<u32>
-    ensures number { result ≡ number_of token.now }
+    ensures number { result ≡ cert_number token.now }
 {
     match read_whole(token) {
         Some(n) if n <= 4_294_967_295 => Some(n as u32),

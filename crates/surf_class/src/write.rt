@@ -1,9 +1,9 @@
 //! Writes evidence.
 ghost use Rattle.std.specs.Prelude.{◌≡◌, ◌≤◌, ◌∷◌, [], length};
 ghost use Rattle.surf_text.specs.Pages.{Puts};
-ghost use Rattle.surf_cert.specs.Written.{numbers_text};
+ghost use Rattle.surf_text.specs.Numbers.{numbers_text};
 ghost use Rattle.surf_class.specs.Seen.{seen};
-ghost use Rattle.surf_class.specs.Texts.{head_text, both_ends, counted_text, evidence_text};
+ghost use Rattle.surf_class.specs.Texts.{evidence_head_text, both_ends, counted_text, evidence_text};
 
 use crate::evidence::Evidence;
 use surf_base::{FaceId, VertexId};
@@ -45,7 +45,7 @@ fn write_pairs(page: &mut Page, pairs: &[(VertexId, VertexId)]) -> Result<(), Pa
 
 // A word, and a count behind a space.
 fn write_head(page: &mut Page, word: &[u8], count: usize) -> Result<(), PageFault>
-    ensures puts { Puts page.old page.new (head_text word.now count) result }
+    ensures puts { Puts page.old page.new (evidence_head_text word.now count) result }
 {
     page.push_pieces(&[
         Piece::Bytes(word),

@@ -11,8 +11,8 @@ use Rattle.surf_z2.proofs.Sums.{count_below-without, count_below-same, count_bel
 use Rattle.surf_graphs.proofs.Growth.{grow_one, old_node}
 use Rattle.surf_graphs.proofs.Heavy.{grow_heavy}
 use Rattle.surf_heap.specs.Entries.{Entries, entry_of, IsLeastEntry, IsEmpty}
-use Rattle.surf_cotree.specs.Searches.{at, heaviest, IsPairUpTo, lighter, reached, HasPair, IsOffered, IsWaiting, IsPrim, tree_of, IsHeaviestTree}
-use Rattle.surf_cotree.specs.Tables.{nobody}
+use Rattle.surf_base.specs.Tables.{at, nobody}
+use Rattle.surf_cotree.specs.Searches.{heaviest, IsPairUpTo, lighter, reached, HasPair, IsOffered, IsWaiting, IsPrim, spanned_tree, IsHeaviestTree}
 use Rattle.surf_cotree.proofs.Pairs.{no_entry, pair_trans, pair_from}
 
 -- the allowed edges join all nodes
@@ -230,7 +230,7 @@ at_set xs b x n l = elim (cases_eq n b) [
 
 -- a new edge in the tables
 pub tree_set : (root : ℕ) (parent up depth : List ℕ) (a b e d : ℕ) → b < length parent → b < length up → b < length depth →
-    with_edge (tree_of root parent up depth) a b e d ≡ tree_of root (set parent b a) (set up b e) (set depth b d)
+    with_edge (spanned_tree root parent up depth) a b e d ≡ spanned_tree root (set parent b a) (set up b e) (set depth b d)
 tree_set root parent up depth a b e d lp lu ld =
     λ i. record { root = root; parent = λ n. at_set parent b a n lp i; up = λ n. at_set up b e n lu i; rank = λ n. at_set depth b d n ld i }
 
@@ -270,7 +270,7 @@ not_reached depth v h = elim (cases_eq (at depth v) nobody) [
 -- one turn of the search, over the tables
 module _ (g : Graph) (allowed : ℕ → Bool) (weight : ℕ → ℕ) (graph : IsGraph g) (few : g.edges ≤ nobody) (light : (e : ℕ) → weight e ≤ heaviest) (small : g.nodes ≤ nobody)
     (root : ℕ) (parent up depth : List ℕ) (heap : Entries) (f k t : ℕ) (lp : length parent ≡ g.nodes) (lu : length up ≡ g.nodes) (ld : length depth ≡ g.nodes)
-    (s : IsPrim g allowed weight (reached depth) (tree_of root parent up depth) heap (count_below g.nodes (λ v. eqb (at depth v) nobody))) (least : IsLeastEntry heap f k t) where
+    (s : IsPrim g allowed weight (reached depth) (spanned_tree root parent up depth) heap (count_below g.nodes (λ v. eqb (at depth v) nobody))) (least : IsLeastEntry heap f k t) where
   abbrev pub taken : IsWaiting g allowed weight (reached depth) f k t
   taken = s.waiting f k t least.holds
 
@@ -287,7 +287,7 @@ module _ (g : Graph) (allowed : ℕ → Bool) (weight : ℕ → ℕ) (graph : Is
   turn_count d is = let fits = depth_fits in let ne : d ≢ nobody = omega arith in one_less nobody g.nodes f d depth taken.within (sym ld) (not_reached depth f taken.free) ne
 
   pub turn_keeps : (a e d : ℕ) (mid new : Entries) → a ≡ taken.before → e ≡ taken.edge → d ≡ at depth a + 1 → mid ≡ set heap f None → IsOffered g allowed weight (reached (set depth f d)) f mid new →
-      IsPrim g allowed weight (reached (set depth f d)) (tree_of root (set parent f a) (set up f e) (set depth f d)) new (count_below g.nodes (λ v. eqb (at (set depth f d) v) nobody))
+      IsPrim g allowed weight (reached (set depth f d)) (spanned_tree root (set parent f a) (set up f e) (set depth f d)) new (count_below g.nodes (λ v. eqb (at (set depth f d) v) nobody))
   turn_keeps a e d mid new is_a is_e is_d took done =
       let lf : f < g.nodes = taken.within in
       let d_is : d ≡ at depth taken.before + 1 = is_d ∙ ap (λ x. at depth x + 1) is_a in
@@ -296,15 +296,15 @@ module _ (g : Graph) (allowed : ℕ → Bool) (weight : ℕ → ℕ) (graph : Is
       let nodes = reached_set depth f d (omega arith) ne in
       let rank_is : suc (at depth taken.before) ≡ d = omega arith in
       let trees = tree_set root parent up depth taken.before f taken.edge d (omega arith) (omega arith) (omega arith) in
-      let old : IsPrim g allowed weight (reached depth) (tree_of root parent up depth) heap (suc (count_below g.nodes (λ v. eqb (at (set depth f d) v) nobody))) =
-      subst (λ n. IsPrim g allowed weight (reached depth) (tree_of root parent up depth) heap n) (turn_count d d_is) s in
+      let old : IsPrim g allowed weight (reached depth) (spanned_tree root parent up depth) heap (suc (count_below g.nodes (λ v. eqb (at (set depth f d) v) nobody))) =
+      subst (λ n. IsPrim g allowed weight (reached depth) (spanned_tree root parent up depth) heap n) (turn_count d d_is) s in
       let left = count_below g.nodes (λ v. eqb (at (set depth f d) v) nobody) in
-      let step = prim_step g allowed weight graph few light (reached depth) (tree_of root parent up depth) heap mid new left f k t old least taken took (subst (λ r. IsOffered g allowed weight r f mid new) (sym nodes) done) in
-      subst (λ x. IsPrim g allowed weight (reached (set depth f d)) (tree_of root (set parent f x) (set up f e) (set depth f d)) new left) (sym is_a)
-      (subst (λ x. IsPrim g allowed weight (reached (set depth f d)) (tree_of root (set parent f taken.before) (set up f x) (set depth f d)) new left) (sym is_e)
-      (subst (λ r. IsPrim g allowed weight r (tree_of root (set parent f taken.before) (set up f taken.edge) (set depth f d)) new left) nodes
+      let step = prim_step g allowed weight graph few light (reached depth) (spanned_tree root parent up depth) heap mid new left f k t old least taken took (subst (λ r. IsOffered g allowed weight r f mid new) (sym nodes) done) in
+      subst (λ x. IsPrim g allowed weight (reached (set depth f d)) (spanned_tree root (set parent f x) (set up f e) (set depth f d)) new left) (sym is_a)
+      (subst (λ x. IsPrim g allowed weight (reached (set depth f d)) (spanned_tree root (set parent f taken.before) (set up f x) (set depth f d)) new left) (sym is_e)
+      (subst (λ r. IsPrim g allowed weight r (spanned_tree root (set parent f taken.before) (set up f taken.edge) (set depth f d)) new left) nodes
       (subst (λ x. IsPrim g allowed weight (with_node (reached depth) f) x new left) trees
-      (subst (λ x. IsPrim g allowed weight (with_node (reached depth) f) (with_edge (tree_of root parent up depth) taken.before f taken.edge x) new left) rank_is step))))
+      (subst (λ x. IsPrim g allowed weight (with_node (reached depth) f) (with_edge (spanned_tree root parent up depth) taken.before f taken.edge x) new left) rank_is step))))
 
 -- face 0 alone is reached
 pub first_count : (n : ℕ) (fresh : List ℕ) → 0 < n → n ≡ length fresh → ((u : ℕ) → u < n → at fresh u ≡ nobody) → count_below n (λ v. eqb (at (set fresh 0 0) v) nobody) < n

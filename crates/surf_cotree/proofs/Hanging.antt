@@ -10,8 +10,8 @@ use Rattle.surf_graphs.specs.Growth.{Grown, IsHeavy, inner_end}
 use Rattle.surf_graphs.proofs.Trees.{one_of}
 use Rattle.surf_graphs.proofs.Loops.{joins_ends, joins_turned}
 use Rattle.surf_heap.specs.Entries.{Entries, entry_of, IsEmpty, IsLeastEntry}
-use Rattle.surf_cotree.specs.Tables.{nobody}
-use Rattle.surf_cotree.specs.Searches.{at, heaviest, reached, lighter, tree_of, HasPair, IsOffered, IsWaiting, IsPrim, IsHeaviestTree}
+use Rattle.surf_base.specs.Tables.{nobody, at}
+use Rattle.surf_cotree.specs.Searches.{heaviest, reached, lighter, spanned_tree, HasPair, IsOffered, IsWaiting, IsPrim, IsHeaviestTree}
 use Rattle.surf_cotree.proofs.Growing.{Connects, turn_keeps, depth_fits, prim_ends}
 use Rattle.surf_cotree.specs.Peeling.{leaf_at, left_after, IsLeaf, IsPeeled, IsHung}
 use Rattle.surf_cotree.specs.declared.peeling.Leaf.{Leaf}
@@ -92,7 +92,7 @@ module _ (g : Graph) (allowed : ℕ → Bool) (weight : ℕ → ℕ) (graph : Is
         absurd (no_way u w l lu lw ll old join ru rw_)
   ]
 
-  grown : Grown g rest (reached depth) (tree_of 0 parent up depth)
+  grown : Grown g rest (reached depth) (spanned_tree 0 parent up depth)
   grown =
       let old = h.prim.grown in
       record {
@@ -104,7 +104,7 @@ module _ (g : Graph) (allowed : ℕ → Bool) (weight : ℕ → ℕ) (graph : Is
         falls = old.falls;
       }
 
-  heavy : IsHeavy g rest (reached depth) (tree_of 0 parent up depth) (lighter weight)
+  heavy : IsHeavy g rest (reached depth) (spanned_tree 0 parent up depth) (lighter weight)
   heavy = record {
     inside = λ l c ll is_left rf rt between. elim (came_back l is_left) [
       | inl same ↦ elim (other_end g f on (g.from l) (g.to l) l (subst (λ x. joins g f on x ≡ true) (sym same) leaf.hangs.joined) (joins_ends g l)) [
@@ -115,13 +115,13 @@ module _ (g : Graph) (allowed : ℕ → Bool) (weight : ℕ → ℕ) (graph : Is
     ];
     leaving = λ l m c ll lm is_left m_left out_l out_m between.
         let same : l ≡ m = leaving_is l ll is_left out_l ∙ sym (leaving_is m lm m_left out_m) in
-        absurd (false≢true (sym (xor-same (on_path (tree_of 0 parent up depth) (inner_end g (reached depth) m) c)) ∙ subst (λ x. xor (on_path (tree_of 0 parent up depth) (inner_end g (reached depth) x) c) (on_path (tree_of 0 parent up depth) (inner_end g (reached depth) m) c) ≡ true) same between));
+        absurd (false≢true (sym (xor-same (on_path (spanned_tree 0 parent up depth) (inner_end g (reached depth) m) c)) ∙ subst (λ x. xor (on_path (spanned_tree 0 parent up depth) (inner_end g (reached depth) x) c) (on_path (spanned_tree 0 parent up depth) (inner_end g (reached depth) m) c) ≡ true) same between));
   }
 
   -- a heap in which the leaf alone may wait, by its edge
   module _ (heap : Entries) (waits : (w x t : ℕ) → entry_of heap w ≡ Some (x, t) → IsWaiting g rest weight (reached depth) w x t)
       (has : reached depth on ≡ true → HasPair heap f (heaviest - weight e) (nobody - e)) where
-    widened : IsPrim g rest weight (reached depth) (tree_of 0 parent up depth) heap (count_below g.nodes (λ v. eqb (at depth v) nobody))
+    widened : IsPrim g rest weight (reached depth) (spanned_tree 0 parent up depth) heap (count_below g.nodes (λ v. eqb (at depth v) nobody))
     widened = record {
       grown = grown;
       heavy = heavy;
@@ -202,7 +202,7 @@ module _ (g : Graph) (allowed : ℕ → Bool) (weight : ℕ → ℕ) (graph : Is
           };
         }
 
-    search : IsPrim g rest weight (reached depth) (tree_of 0 parent up depth) offered (count_below g.nodes (λ v. eqb (at depth v) nobody))
+    search : IsPrim g rest weight (reached depth) (spanned_tree 0 parent up depth) offered (count_below g.nodes (λ v. eqb (at depth v) nobody))
     search = widened offered waits (λ _. record { key = key; tie = tie; entry = at_leaf; bound = inr (refl, omega arith) })
 
     least : IsLeastEntry offered f key tie
@@ -311,7 +311,7 @@ module _ (g : Graph) (allowed : ℕ → Bool) (weight : ℕ → ℕ) (graph : Is
 
 -- before the first turn
 pub hung_first : (g : Graph) (allowed : ℕ → Bool) (weight : ℕ → ℕ) → ((e : ℕ) → weight e ≤ heaviest) → (list : List Leaf) (n : ℕ) (rest : ℕ → Bool) → IsPeeled g allowed list n rest → (parent up depth : List ℕ) (heap : Entries) → length heap ≡ g.nodes → IsEmpty heap → at up 0 ≡ nobody →
-    IsPrim g rest weight (reached depth) (tree_of 0 parent up depth) heap (count_below g.nodes (λ v. eqb (at depth v) nobody)) → IsHung g allowed weight list n parent up depth
+    IsPrim g rest weight (reached depth) (spanned_tree 0 parent up depth) heap (count_below g.nodes (λ v. eqb (at depth v) nobody)) → IsHung g allowed weight list n parent up depth
 hung_first g allowed weight light list n rest peeled parent up depth heap places empty root prim =
     let same : rest ≡ left_after allowed list n = λ i. λ e. peeled.rest_is e i in
     record {
@@ -322,10 +322,10 @@ hung_first g allowed weight light list n rest peeled parent up depth heap places
       heap = heap;
       places = places;
       empty = empty;
-      prim = subst (λ r. IsPrim g r weight (reached depth) (tree_of 0 parent up depth) heap (count_below g.nodes (λ v. eqb (at depth v) nobody))) same prim;
+      prim = subst (λ r. IsPrim g r weight (reached depth) (spanned_tree 0 parent up depth) heap (count_below g.nodes (λ v. eqb (at depth v) nobody))) same prim;
     }
 
 -- when all leaves have been hung, the tree is heaviest
-pub hung_all : (g : Graph) (allowed : ℕ → Bool) (weight : ℕ → ℕ) → IsGraph g → g.edges ≤ nobody → (list : List Leaf) (parent up depth : List ℕ) → IsHung g allowed weight list 0 parent up depth → Connects g allowed → IsHeaviestTree g allowed weight (tree_of 0 parent up depth)
+pub hung_all : (g : Graph) (allowed : ℕ → Bool) (weight : ℕ → ℕ) → IsGraph g → g.edges ≤ nobody → (list : List Leaf) (parent up depth : List ℕ) → IsHung g allowed weight list 0 parent up depth → Connects g allowed → IsHeaviestTree g allowed weight (spanned_tree 0 parent up depth)
 hung_all g allowed weight graph few list parent up depth h joined =
-    prim_ends g allowed weight graph few h.light (reached depth) (tree_of 0 parent up depth) h.heap _ h.prim joined h.empty
+    prim_ends g allowed weight graph few h.light (reached depth) (spanned_tree 0 parent up depth) h.heap _ h.prim joined h.empty

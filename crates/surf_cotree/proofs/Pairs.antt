@@ -6,7 +6,7 @@ use Rattle.surf_graphs.specs.Graphs.{Graph}
 use Rattle.surf_graphs.proofs.Loops.{joins_turned}
 use Rattle.surf_heap.specs.Entries.{Entries, entry_of, lesser, precedes, IsUpTo}
 use Rattle.surf_mesh.specs.Links.{link_at, IsRow}
-use Rattle.surf_cotree.specs.Tables.{nobody}
+use Rattle.surf_base.specs.Tables.{nobody}
 use Rattle.surf_cotree.specs.Searches.{heaviest, IsPairUpTo, HasPair, IsOffered, IsBridge}
 
 -- what the first n edges of a node's row offer (IsOffered is of all its edges)

@@ -12,14 +12,15 @@ use Rattle.surf_graphs.proofs.CellLaws.{outside_joins}
 use Rattle.surf_graphs.proofs.Counting.{left_edges as left_count}
 use Rattle.surf_signatures.proofs.Passing.{passing_same}
 use Rattle.surf_surfaces.specs.Mesh.{Mesh}
-use Rattle.surf_surfaces.specs.Surface.{edge_count, face_count, faces_of, IsSurface}
+use Rattle.surf_surfaces.specs.Surface.{edge_count, face_count, faces_of, IsSurface, loop_count}
 use Rattle.surf_surfaces.specs.Cells.{cells_of}
 use Rattle.surf_surfaces.specs.Loop.{loop_length}
 use Rattle.surf_surfaces.specs.Cotree.{tree_edges, cotree_edges, is_left, left_edges, split_of, precedes, IsHeaviestCotree}
 use Rattle.surf_surfaces.proofs.CellLaws.{surfaces_are_cells}
 use Rattle.surf_surfaces.proofs.CotreeLaws.{passing_climb, climbs_order, passing_each, passing_found, not-false_is, between_inside}
-use Rattle.surf_cotree.specs.Tables.{CotreeTables, nobody, tree_of, IsMadeFor, split_with, loop_count, width_for}
-use Rattle.surf_cotree.specs.Searches.{at, outside, is_unmarked, IsHeaviestTree}
+use Rattle.surf_base.specs.Tables.{nobody, at}
+use Rattle.surf_cotree.specs.Tables.{CotreeTables, cotree_of, AreCotreeTables, split_with, width_for}
+use Rattle.surf_cotree.specs.Searches.{outside, is_unmarked, IsHeaviestTree}
 use Rattle.surf_cotree.proofs.Growing.{Connects}
 use Rattle.surf_cotree.specs.Grown.{IsMarked, MarkTree, AreLoopLengths, IsGrown, IsGrownOn}
 
@@ -48,9 +49,9 @@ before_from weight loops a b wa wb h = elim h [
 pub record AreWritten (mesh : Mesh) (marks : List Bool) (weight : ℕ → ℕ) (t : CotreeTables) : Type 0 where
   pub surface : IsSurface mesh
   pub few : edge_count mesh ≤ nobody
-  pub made : IsMadeFor mesh t
+  pub made : AreCotreeTables mesh t
   pub some_tree : MarkTree mesh marks
-  pub heavy : IsHeaviestTree (dual (cells_of mesh)) (outside marks) weight (tree_of t)
+  pub heavy : IsHeaviestTree (dual (cells_of mesh)) (outside marks) weight (cotree_of t)
   pub root : at t.ups 0 ≡ nobody
   pub marked : (e : ℕ) → e < edge_count mesh → get_or t.held e false ≡ any_below (face_count mesh) (λ f. not (eqb (at t.ups f) nobody) && eqb (at t.ups f) e)
   pub listed : t.left ≡ filter (is_unmarked marks t.held) (range_with_len 0 (edge_count mesh))
@@ -65,52 +66,52 @@ module _ (mesh : Mesh) (marks : List Bool) (weight : ℕ → ℕ) (t : CotreeTab
     | inr ne ↦ rw (ne_eqb (at t.ups f) nobody (has_up f l ne), ne_eqb f 0 ne)
   ]
 
-  holds : (e : ℕ) → e < edge_count mesh → get_or t.held e false ≡ cotree_edges mesh (tree_of t) e
+  holds : (e : ℕ) → e < edge_count mesh → get_or t.held e false ≡ cotree_edges mesh (cotree_of t) e
   holds e l = w.marked e l ∙ any_below-same (face_count mesh) (λ f. not (eqb (at t.ups f) nobody) && eqb (at t.ups f) e) (λ f. not (eqb f 0) && eqb (at t.ups f) e) (λ f lf. rw (same_root f lf))
 
   module _ (tree : Tree) (m : IsMarked mesh tree marks) where
     unmarked : (e : ℕ) → e < edge_count mesh → outside marks e ≡ true → tree_edges mesh tree e ≡ false
     unmarked e l h = sym (m.marks_are e l) ∙ not-true (get_or marks e false) h
 
-    apart : (e : ℕ) → e < edge_count mesh → cotree_edges mesh (tree_of t) e ≡ true → tree_edges mesh tree e ≡ false
+    apart : (e : ℕ) → e < edge_count mesh → cotree_edges mesh (cotree_of t) e ≡ true → tree_edges mesh tree e ≡ false
     apart e l on =
-        let (f, f_in, ne, is) = tree_edge (dual (cells_of mesh)) (tree_of t) e on in
+        let (f, f_in, ne, is) = tree_edge (dual (cells_of mesh)) (cotree_of t) e on in
         unmarked e l (ap (outside marks) (sym is) ∙ w.heavy.over f f_in ne)
 
-    left_is : t.left ≡ left_edges mesh tree (tree_of t)
-    left_is = w.listed ∙ passing_same (is_unmarked marks t.held) (is_left mesh tree (tree_of t)) 0 (edge_count mesh)
+    left_is : t.left ≡ left_edges mesh tree (cotree_of t)
+    left_is = w.listed ∙ passing_same (is_unmarked marks t.held) (is_left mesh tree (cotree_of t)) 0 (edge_count mesh)
         (λ e l. let le : e < edge_count mesh = omega arith in rw (m.marks_are e le, holds e le))
 
-    left_each : (k : ℕ) → k < length (left_edges mesh tree (tree_of t)) →
-        (get_or (left_edges mesh tree (tree_of t)) k 0 < edge_count mesh)
-        × (tree_edges mesh tree (get_or (left_edges mesh tree (tree_of t)) k 0) ≡ false)
-        × (cotree_edges mesh (tree_of t) (get_or (left_edges mesh tree (tree_of t)) k 0) ≡ false)
+    left_each : (k : ℕ) → k < length (left_edges mesh tree (cotree_of t)) →
+        (get_or (left_edges mesh tree (cotree_of t)) k 0 < edge_count mesh)
+        × (tree_edges mesh tree (get_or (left_edges mesh tree (cotree_of t)) k 0) ≡ false)
+        × (cotree_edges mesh (cotree_of t) (get_or (left_edges mesh tree (cotree_of t)) k 0) ≡ false)
     left_each k l =
-        let e = get_or (left_edges mesh tree (tree_of t)) k 0 in
-        let is = all_at (λ x. (x < 0 + edge_count mesh) × (is_left mesh tree (tree_of t) x ≡ true))
-        (left_edges mesh tree (tree_of t)) k (passing_each (is_left mesh tree (tree_of t)) 0 (edge_count mesh)) l in
-        let both = and_parts (not (tree_edges mesh tree e)) (not (cotree_edges mesh (tree_of t) e)) is.1 in (
+        let e = get_or (left_edges mesh tree (cotree_of t)) k 0 in
+        let is = all_at (λ x. (x < 0 + edge_count mesh) × (is_left mesh tree (cotree_of t) x ≡ true))
+        (left_edges mesh tree (cotree_of t)) k (passing_each (is_left mesh tree (cotree_of t)) 0 (edge_count mesh)) l in
+        let both = and_parts (not (tree_edges mesh tree e)) (not (cotree_edges mesh (cotree_of t) e)) is.1 in (
           omega (arith, is.0),
           not-false_is (tree_edges mesh tree e) both.0,
-          not-false_is (cotree_edges mesh (tree_of t) e) both.1,
+          not-false_is (cotree_edges mesh (cotree_of t) e) both.1,
         )
 
-    split_is : IsSplit (cells_of mesh) (split_of mesh tree (tree_of t))
+    split_is : IsSplit (cells_of mesh) (split_of mesh tree (cotree_of t))
     split_is = record {
       tree_is = m.spans;
       cotree_is = w.heavy.tree;
-      apart = λ e l on. elim (cases_Bool (cotree_edges mesh (tree_of t) e)) [
+      apart = λ e l on. elim (cases_Bool (cotree_edges mesh (cotree_of t) e)) [
         | inl other ↦ absurd (false≢true (sym (apart e l other) ∙ on))
         | inr none ↦ none
       ];
-      left_rises = λ i j h l. climbs_order 0 (left_edges mesh tree (tree_of t)) (passing_climb (is_left mesh tree (tree_of t)) 0 (edge_count mesh)) i j h l;
+      left_rises = λ i j h l. climbs_order 0 (left_edges mesh tree (cotree_of t)) (passing_climb (is_left mesh tree (cotree_of t)) 0 (edge_count mesh)) i j h l;
       left_in = λ k l. (left_each k l).0;
       left_outside = λ k l. (left_each k l).1;
       left_outside_dual = λ k l. (left_each k l).2;
-      left_whole = λ e l no_tree no_cotree. passing_found (is_left mesh tree (tree_of t)) 0 (edge_count mesh) e (omega arith) (omega arith) (rw (no_tree, no_cotree) refl);
+      left_whole = λ e l no_tree no_cotree. passing_found (is_left mesh tree (cotree_of t)) 0 (edge_count mesh) e (omega arith) (omega arith) (rw (no_tree, no_cotree) refl);
     }
 
-    heaviest_is : (lengths : List ℕ) → AreLoopLengths mesh lengths tree weight → IsHeaviestCotree mesh lengths tree (tree_of t)
+    heaviest_is : (lengths : List ℕ) → AreLoopLengths mesh lengths tree weight → IsHeaviestCotree mesh lengths tree (cotree_of t)
     heaviest_is lengths loops = record {
       root = refl;
       joins_faces = w.heavy.tree;
@@ -120,13 +121,13 @@ module _ (mesh : Mesh) (marks : List Bool) (weight : ℕ → ℕ) (t : CotreeTab
       heaviest = λ l k l_in left on.
           let g = dual (cells_of mesh) in
           let faces = (surfaces_are_cells mesh w.surface).complex.dual_ends l l_in in
-          let both = and_parts (not (tree_edges mesh tree l)) (not (cotree_edges mesh (tree_of t) l)) left in
-          let k_on : in_tree g (tree_of t) k ≡ true = between_inside g (tree_of t) w.heavy.tree (faces_of mesh l).0 (faces_of mesh l).1 k faces.0 faces.1 on in
-          let (f, f_in, ne, is) = tree_edge g (tree_of t) k k_on in
+          let both = and_parts (not (tree_edges mesh tree l)) (not (cotree_edges mesh (cotree_of t) l)) left in
+          let k_on : in_tree g (cotree_of t) k ≡ true = between_inside g (cotree_of t) w.heavy.tree (faces_of mesh l).0 (faces_of mesh l).1 k faces.0 faces.1 on in
+          let (f, f_in, ne, is) = tree_edge g (cotree_of t) k k_on in
           let k_in : k < edge_count mesh = subst (λ e. e < edge_count mesh) is (w.heavy.tree.up_in f f_in ne) in
           let free : outside marks l ≡ true = ap not (m.marks_are l l_in) ∙ both.0 in
           before_from weight (loop_length mesh lengths tree) l k (loops l l_in) (loops k k_in)
-          (w.heavy.greater l k l_in free (not-false_is (cotree_edges mesh (tree_of t) l) both.1) on);
+          (w.heavy.greater l k l_in free (not-false_is (cotree_edges mesh (cotree_of t) l) both.1) on);
     }
 
   pub grown_tables : IsGrown mesh marks weight t
@@ -140,7 +141,7 @@ module _ (mesh : Mesh) (marks : List Bool) (weight : ℕ → ℕ) (t : CotreeTab
         held = holds;
         left = left_is;
         split = split_is;
-        count = ap (λ (xs : List ℕ). length xs + (mesh.vertices + face_count mesh)) (left_is tree m) ∙ left_count (cells_of mesh) (split_of mesh tree (tree_of t)) (split_is tree m);
+        count = ap (λ (xs : List ℕ). length xs + (mesh.vertices + face_count mesh)) (left_is tree m) ∙ left_count (cells_of mesh) (split_of mesh tree (cotree_of t)) (split_is tree m);
         chosen = λ lengths tree m loops. heaviest_is tree m lengths loops;
       }
 

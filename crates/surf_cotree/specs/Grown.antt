@@ -7,7 +7,7 @@ use Rattle.surf_surfaces.specs.Surface.{edge_count, face_count}
 use Rattle.surf_surfaces.specs.Cells.{cells_of}
 use Rattle.surf_surfaces.specs.Loop.{loop_length}
 use Rattle.surf_surfaces.specs.Cotree.{tree_edges, cotree_edges, left_edges, split_of, IsHeaviestCotree}
-use Rattle.surf_cotree.specs.Tables.{CotreeTables, IsMadeFor, parent_edge_of, tree_of, split_with}
+use Rattle.surf_cotree.specs.Tables.{CotreeTables, AreCotreeTables, parent_edge_of, cotree_of, split_with}
 use Rattle.surf_cotree.specs.Searches.{outside, IsHeaviestTree}
 
 -- the flags are on exactly at the edges of a spanning tree of the vertices
@@ -28,21 +28,21 @@ AreLoopLengths mesh lengths tree weight = (e : ℕ) → e < edge_count mesh → 
 -- its edges. The left edges are those in neither tree, increasing, and there are two less the characteristic of them.
 -- Where the weights are the lengths of loops, it is the heaviest tree of the choice among ties.
 pub record IsGrown (mesh : Mesh) (marks : List Bool) (weight : ℕ → ℕ) (t : CotreeTables) : Type 0 where
-  pub made : IsMadeFor mesh t
-  pub heaviest : IsHeaviestTree (dual (cells_of mesh)) (outside marks) weight (tree_of t)
+  pub made : AreCotreeTables mesh t
+  pub heaviest : IsHeaviestTree (dual (cells_of mesh)) (outside marks) weight (cotree_of t)
   pub root : parent_edge_of t 0 ≡ None
   pub parent_edges : (f : ℕ) → f < face_count mesh → f ≢ 0 → parent_edge_of t f ≡ Some (slice_index t.ups f)
-  pub held : (e : ℕ) → e < edge_count mesh → slice_index_or t.held e false ≡ cotree_edges mesh (tree_of t) e
-  pub left : (tree : Tree) → IsMarked mesh tree marks → t.left ≡ left_edges mesh tree (tree_of t)
-  pub split : (tree : Tree) → IsMarked mesh tree marks → IsSplit (cells_of mesh) (split_of mesh tree (tree_of t))
+  pub held : (e : ℕ) → e < edge_count mesh → slice_index_or t.held e false ≡ cotree_edges mesh (cotree_of t) e
+  pub left : (tree : Tree) → IsMarked mesh tree marks → t.left ≡ left_edges mesh tree (cotree_of t)
+  pub split : (tree : Tree) → IsMarked mesh tree marks → IsSplit (cells_of mesh) (split_of mesh tree (cotree_of t))
   pub count : length t.left + (mesh.vertices + face_count mesh) ≡ edge_count mesh + 2
   pub chosen : (lengths : List ℕ) (tree : Tree) → IsMarked mesh tree marks → AreLoopLengths mesh lengths tree weight →
-      IsHeaviestCotree mesh lengths tree (tree_of t)
+      IsHeaviestCotree mesh lengths tree (cotree_of t)
 
 -- The tables have the size for the mesh, and hold a tree of its faces, rooted at face 0, and the edges that are
 -- neither in it nor in some spanning tree of the vertices, increasing.
 pub record IsGrownOn (mesh : Mesh) (t : CotreeTables) : Type 0 where
-  pub made : IsMadeFor mesh t
+  pub made : AreCotreeTables mesh t
   pub root : parent_edge_of t 0 ≡ None
   pub tree : Tree
   pub split : IsSplit (cells_of mesh) (split_with tree t)

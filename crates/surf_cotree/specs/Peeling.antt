@@ -3,8 +3,8 @@ use Rattle.std.specs.Prelude.{ℕ, zero, suc, ◌≡◌, ◌≢◌, ◌<◌, ◌
 use Rattle.surf_z2.specs.Parity.{count_below}
 use Rattle.surf_graphs.specs.Graphs.{Graph, joins}
 use Rattle.surf_heap.specs.Entries.{Entries, IsEmpty}
-use Rattle.surf_cotree.specs.Tables.{nobody}
-use Rattle.surf_cotree.specs.Searches.{at, heaviest, reached, tree_of, IsPrim}
+use Rattle.surf_base.specs.Tables.{nobody, at}
+use Rattle.surf_cotree.specs.Searches.{heaviest, reached, spanned_tree, IsPrim}
 use Rattle.surf_cotree.specs.declared.peeling.Leaf.{Leaf}
 
 abbrev pub leaf_at : List Leaf → ℕ → Leaf
@@ -45,4 +45,4 @@ pub record IsHung (g : Graph) (allowed : ℕ → Bool) (weight : ℕ → ℕ) (l
   pub heap : Entries
   pub places : length heap ≡ g.nodes
   pub empty : IsEmpty heap
-  pub prim : IsPrim g (left_after allowed leaves n) weight (reached depth) (tree_of 0 parent up depth) heap (count_below g.nodes (λ v. at depth v == nobody))
+  pub prim : IsPrim g (left_after allowed leaves n) weight (reached depth) (spanned_tree 0 parent up depth) heap (count_below g.nodes (λ v. at depth v == nobody))

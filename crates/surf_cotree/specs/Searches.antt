@@ -4,11 +4,7 @@ use Rattle.surf_graphs.specs.Graphs.{Graph, joins}
 use Rattle.surf_graphs.specs.Trees.{Tree, IsTree, in_tree}
 use Rattle.surf_graphs.specs.Growth.{Grown, IsHeavy, between}
 use Rattle.surf_heap.specs.Entries.{Entries, entry_of}
-use Rattle.surf_cotree.specs.Tables.{nobody}
-
--- the entry of a table
-abbrev pub at : List ℕ → ℕ → ℕ
-at table n = slice_index table n
+use Rattle.surf_base.specs.Tables.{nobody, at}
 
 -- the greatest weight
 abbrev pub heaviest : ℕ
@@ -70,8 +66,8 @@ pub record IsPrim (g : Graph) (allowed : ℕ → Bool) (weight : ℕ → ℕ) (i
   pub root_rank : tree.rank tree.root ≡ 0
   pub deep : (u : ℕ) → u < g.nodes → in_tree u ≡ true → u ≢ tree.root → tree.rank u ≡ suc (tree.rank (tree.parent u))
 
-abbrev pub tree_of : ℕ → List ℕ → List ℕ → List ℕ → Tree
-tree_of root parent up depth = record { root = root; parent = at parent; up = at up; rank = at depth }
+abbrev pub spanned_tree : ℕ → List ℕ → List ℕ → List ℕ → Tree
+spanned_tree root parent up depth = record { root = root; parent = at parent; up = at up; rank = at depth }
 
 -- a spanning tree over allowed edges, such that each edge on its path between the ends of an allowed edge outside it is greater, by weight and number
 pub record IsHeaviestTree (g : Graph) (allowed : ℕ → Bool) (weight : ℕ → ℕ) (t : Tree) : Type 0 where

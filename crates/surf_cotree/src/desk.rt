@@ -4,10 +4,10 @@ ghost use Rattle.std.specs.List.{range_with_len};
 ghost use Rattle.surf_graphs.specs.Cells.{Split, IsSplit};
 ghost use Rattle.surf_graphs.specs.Trees.{Tree};
 ghost use Rattle.surf_surfaces.specs.Cells.{cells_of};
-ghost use Rattle.surf_surfaces.specs.Surface.{edge_count};
+ghost use Rattle.surf_surfaces.specs.Surface.{edge_count, loop_count};
 ghost use Rattle.surf_surfaces.specs.Signature.{edge_signature};
-ghost use Rattle.surf_cotree.specs.Tables.{CotreeTables, IsMadeFor, parent_edge_of, loop_count, width_for, split_with};
-ghost use Rattle.surf_cotree.specs.Searches.{at};
+ghost use Rattle.surf_cotree.specs.Tables.{CotreeTables, AreCotreeTables, parent_edge_of, width_for, split_with};
+ghost use Rattle.surf_base.specs.Tables.{at};
 ghost use Rattle.surf_cotree.specs.Grown.{MarkTree, IsGrown, IsGrownOn};
 
 use crate::listing::{list_left, mark_edges};
@@ -78,7 +78,7 @@ impl CotreeDesk {
     /// memory. Signatures have as many words as two less the characteristic needs; where that is more than 1,024, which
     /// `sign` doesn't take, there is no room for them.
     pub fn make(alloc: Global, mesh: &HalfMesh) -> Result<CotreeDesk, NoMemory>
-        ensures made { IfOk result (λ desk. IsMadeFor mesh.now desk) }
+        ensures made { IfOk result (λ desk. AreCotreeTables mesh.now desk) }
     {
         let faces = mesh.faces() as usize;
         let edges = mesh.edges() as usize;
@@ -110,7 +110,7 @@ impl CotreeDesk {
     /// Grows the heaviest tree of the faces outside a tree of the vertices, of which `in_tree` has a flag for each edge.
     /// It takes no memory and can't be refused.
     pub fn grow(&mut self, mesh: &HalfMesh, in_tree: &[bool], weight: &[u64])
-        requires made { IsMadeFor mesh.now self.old }
+        requires made { AreCotreeTables mesh.now self.old }
         requires marks { length in_tree.now ≡ edge_count mesh.now }
         requires weights { length weight.now ≡ edge_count mesh.now }
         requires tree { MarkTree mesh.now in_tree.now }
@@ -183,7 +183,7 @@ impl CotreeDesk {
         requires few { length self.old.left ≤ 1024 }
         ensures signed { (tree : Tree) → IsSplit (cells_of mesh.now) (split_with tree self.new) → self.new.signatures ≡ map (edge_signature mesh.now (split_with tree self.new)) (range_with_len 0 (edge_count mesh.now)) }
         ensures rest { self.new ≡ record self.old { signatures = self.new.signatures } }
-        ensures made { IsMadeFor mesh.now self.new }
+        ensures made { AreCotreeTables mesh.now self.new }
     {
         let _surface = mesh.faces();
         self.signs

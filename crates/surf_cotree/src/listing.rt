@@ -2,8 +2,8 @@
 ghost use Rattle.std.specs.Prelude.{◌≡◌, ◌≢◌, ◌<◌, ◌≤◌, ◌^◌, ◌&&◌, ◌==◌, ℕ, false, not, length, slice_index_or, vec_capacity, vec_len, filter, ◌++◌, ◌∷◌, []};
 ghost use Rattle.std.specs.List.{range_with_len};
 ghost use Rattle.surf_z2.specs.Parity.{any_below};
-ghost use Rattle.surf_cotree.specs.Tables.{nobody};
-ghost use Rattle.surf_cotree.specs.Searches.{at, is_unmarked as unmarked};
+ghost use Rattle.surf_base.specs.Tables.{nobody, at};
+ghost use Rattle.surf_cotree.specs.Searches.{is_unmarked as unmarked};
 
 use crate::search::NOBODY;
 use surf_base::EdgeId;

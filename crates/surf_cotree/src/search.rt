@@ -6,8 +6,8 @@ ghost use Rattle.surf_graphs.specs.Cells.{dual};
 ghost use Rattle.surf_surfaces.specs.Surface.{face_count, edge_count};
 ghost use Rattle.surf_surfaces.specs.Cells.{cells_of};
 ghost use Rattle.surf_heap.specs.Entries.{entry_of, lesser, IsEmpty};
-ghost use Rattle.surf_cotree.specs.Tables.{nobody};
-ghost use Rattle.surf_cotree.specs.Searches.{at, heaviest, reached, outside, IsOffered, IsPrim, tree_of};
+ghost use Rattle.surf_base.specs.Tables.{nobody, at};
+ghost use Rattle.surf_cotree.specs.Searches.{heaviest, reached, outside, IsOffered, IsPrim, spanned_tree};
 
 use surf_base::{EdgeId, FaceId};
 use surf_heap::Heap;
@@ -91,7 +91,7 @@ pub(crate) fn span(
     requires marks { length marks.now ≡ edge_count mesh.now }
     requires weights { length weight.now ≡ edge_count mesh.now }
     requires places { length heap.old ≡ face_count mesh.now }
-    ensures grown { IsPrim (dual (cells_of mesh.now)) (outside marks.now) (at weight.now) (reached depth.new) (tree_of 0 parent.new up.new depth.new) heap.new (count_below (face_count mesh.now) (λ f. at depth.new f == nobody)) }
+    ensures grown { IsPrim (dual (cells_of mesh.now)) (outside marks.now) (at weight.now) (reached depth.new) (spanned_tree 0 parent.new up.new depth.new) heap.new (count_below (face_count mesh.now) (λ f. at depth.new f == nobody)) }
     ensures empty { IsEmpty heap.new }
     ensures root { at up.new 0 ≡ nobody }
     ensures places { length heap.new ≡ face_count mesh.now }

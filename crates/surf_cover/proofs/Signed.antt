@@ -8,13 +8,13 @@ use Rattle.surf_graphs.specs.Cells.{IsSplit}
 use Rattle.surf_graphs.specs.Trees.{Tree}
 use Rattle.surf_graphs.proofs.Counting.{left_edges}
 use Rattle.surf_surfaces.specs.Mesh.{Mesh, steps}
-use Rattle.surf_surfaces.specs.Surface.{edge_count, face_count}
+use Rattle.surf_surfaces.specs.Surface.{edge_count, face_count, loop_count}
 use Rattle.surf_surfaces.specs.Cells.{cells_of}
 use Rattle.surf_surfaces.specs.Signature.{edge_signature}
 use Rattle.surf_classes.specs.CoverGraph.{set_count}
 use Rattle.surf_classes.proofs.SignedSteps.{edge_set}
 use Rattle.surf_cotree.specs.Grown.{IsGrownOn}
-use Rattle.surf_cotree.specs.Tables.{IsMadeFor as CotreeMade, parent_edge_of, CotreeTables, loop_count, split_with}
+use Rattle.surf_cotree.specs.Tables.{IsMadeFor as CotreeMade, parent_edge_of, CotreeTables, split_with}
 use Rattle.surf_cover.specs.Tables.{sets_of}
 use Rattle.surf_cover.specs.Grown.{IsSigned}
 

@@ -11,7 +11,7 @@ use Rattle.surf_classes.specs.Cover.{AreSignedDistances}
 use Rattle.surf_cotree.specs.Tables.{CotreeTables, split_with}
 use Rattle.surf_cotree.specs.Grown.{IsGrownOn}
 use Rattle.surf_cover.specs.Networks.{IsCertifiedBy}
-use Rattle.surf_cover.specs.Tables.{CoverTables, IsMadeFor, AreShort, distance_at}
+use Rattle.surf_cover.specs.Tables.{CoverTables, AreCoverTables, AreShort, distance_at}
 
 -- the tables of a tree of faces were grown on the mesh, and have the signatures of its edges
 pub record IsSigned (mesh : Mesh) (t : CotreeTables) : Type 0 where
@@ -26,7 +26,7 @@ pub record IsGrownBy (mesh : Mesh) (lengths : List ℕ) (d : Split) (base : ℕ)
 
 -- They have these for the tree of faces and the left edges of other tables, whatever the tree of the vertices beside them
 pub record IsGrown (mesh : Mesh) (lengths : List ℕ) (cotree : CotreeTables) (base : ℕ) (t : CoverTables) : Type 0 where
-  pub made : IsMadeFor mesh t
+  pub made : AreCoverTables mesh t
   pub short : AreShort t
   pub grown : (tree : Tree) → IsSplit (cells_of mesh) (split_with tree cotree) →
       IsGrownBy mesh lengths (split_with tree cotree) base t

@@ -1,8 +1,7 @@
 -- What a cover desk shows: for each vertex with each set of left edges a distance.
 use Rattle.std.specs.Prelude.{◌≡◌, ℕ, ◌*◌, ◌^◌, ◌<◌, ◌≤◌, List, length, slice_index}
 use Rattle.surf_surfaces.specs.Mesh.{Mesh}
-use Rattle.surf_surfaces.specs.Surface.{edge_count}
-use Rattle.surf_cotree.specs.Tables.{loop_count}
+use Rattle.surf_surfaces.specs.Surface.{edge_count, loop_count}
 use Rattle.surf_cover.specs.Networks.{table_of}
 
 -- how many vertices and how many sets there are, for each edge its signature, and for each vertex the distances with
@@ -27,7 +26,7 @@ pub record IsSmall (mesh : Mesh) : Type 0 where
   pub nodes : mesh.vertices * sets_of mesh ≤ 65536
 
 -- there is an entry for each edge, and for each vertex with each set
-pub record IsMadeFor (mesh : Mesh) (t : CoverTables) : Type 0 where
+pub record AreCoverTables (mesh : Mesh) (t : CoverTables) : Type 0 where
   pub vertices : t.vertices ≡ mesh.vertices
   pub sets : t.sets ≡ sets_of mesh
   pub signs : length t.signs ≡ edge_count mesh

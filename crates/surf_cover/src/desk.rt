@@ -3,7 +3,7 @@ ghost use Rattle.std.specs.Prelude.{◌≡◌, ◌<◌, length, IfOk};
 ghost use Rattle.surf_graphs.specs.Cells.{Split};
 ghost use Rattle.surf_surfaces.specs.Surface.{edge_count};
 ghost use Rattle.surf_cover.specs.Networks.{IsCertifiedBy, IsReadOff};
-ghost use Rattle.surf_cover.specs.Tables.{IsSmall, IsMadeFor, AreShort, distance_at};
+ghost use Rattle.surf_cover.specs.Tables.{IsSmall, AreCoverTables, AreShort, distance_at};
 ghost use Rattle.surf_cover.specs.Grown.{IsSigned, IsGrown};
 
 use crate::network::CoverNetwork;
@@ -51,7 +51,7 @@ impl CoverDesk {
     /// sets of left edges. No later call takes memory.
     pub fn make(alloc: Global, mesh: &HalfMesh) -> Result<CoverDesk, NoMemory>
         requires small { IsSmall mesh.now }
-        ensures made { IfOk result (λ desk. IsMadeFor mesh.now desk) }
+        ensures made { IfOk result (λ desk. AreCoverTables mesh.now desk) }
     {
         let vertices = mesh.vertices();
         let sets = count_sets(mesh);
@@ -71,7 +71,7 @@ impl CoverDesk {
     /// Finds the distances from a base with no left edge, by the signatures of a tree of faces that was grown on the mesh
     /// and signed. It takes no memory and can't be refused.
     pub fn grow(&mut self, mesh: &HalfMesh, lengths: &Lengths, cotree: &CotreeDesk, base: VertexId)
-        requires made { IsMadeFor mesh.now self.old }
+        requires made { AreCoverTables mesh.now self.old }
         requires signed { IsSigned mesh.now cotree.now }
         requires base { base < mesh.now.vertices }
         requires lengths { length lengths.now ≡ edge_count mesh.now }
@@ -116,7 +116,7 @@ impl CoverDesk {
         base: VertexId,
         set: u32,
     ) -> Result<Vec<VertexId>, NoMemory>
-        requires made { IsMadeFor mesh.now self.now }
+        requires made { AreCoverTables mesh.now self.now }
         requires fits { AreShort self.now }
         requires certified { (d : Split) × IsCertifiedBy mesh.now lengths.now d self.now.sets self.now.signs self.now.distances base }
         requires base { base < mesh.now.vertices }

@@ -6,7 +6,7 @@ ghost use Rattle.surf_graphs.specs.Trees.{Tree};
 ghost use Rattle.surf_surfaces.specs.Cells.{cells_of};
 ghost use Rattle.surf_surfaces.specs.Surface.{edge_count};
 ghost use Rattle.surf_cotree.specs.Tables.{split_with};
-ghost use Rattle.surf_cover.specs.Tables.{AreShort, IsMadeFor, distance_at, sets_of};
+ghost use Rattle.surf_cover.specs.Tables.{AreShort, AreCoverTables, distance_at, sets_of};
 ghost use Rattle.surf_cover.specs.Grown.{IsSigned};
 ghost use Rattle.surf_cover.specs.Starts.{IsLesserEnd, IsOnRound, AreClosedSets, IsStartBy, IsUpTo, IsLeastStart};
 
@@ -113,12 +113,12 @@ pub(crate) fn least_start(
     cotree: &CotreeDesk,
     set: u32,
 ) -> Start
-    requires made { IsMadeFor mesh.now desk.old }
+    requires made { AreCoverTables mesh.now desk.old }
     requires signed { IsSigned mesh.now cotree.now }
     requires lengths { length lengths.now ≡ edge_count mesh.now }
     requires set { set < sets_of mesh.now }
     requires some { set ≢ 0 }
-    ensures made { IsMadeFor mesh.now desk.new }
+    ensures made { AreCoverTables mesh.now desk.new }
     ensures least { (tree : Tree) → IsSplit (cells_of mesh.now) (split_with tree cotree.now) → IsLeastStart mesh.now lengths.now (split_with tree cotree.now) set result }
 {
     let _surface = mesh.faces();

@@ -5,9 +5,9 @@ ghost use Rattle.surf_graphs.specs.Trees.{Tree};
 ghost use Rattle.surf_surfaces.specs.Cells.{cells_of};
 ghost use Rattle.surf_surfaces.specs.Mesh.{edges, pair};
 ghost use Rattle.surf_surfaces.specs.Signature.{walk_signature};
-ghost use Rattle.surf_surfaces.specs.Surface.{edge_count};
+ghost use Rattle.surf_surfaces.specs.Surface.{edge_count, loop_count};
 ghost use Rattle.surf_surfaces.specs.Walk.{edge_number, IsWalk};
-ghost use Rattle.surf_cotree.specs.Tables.{loop_count, split_with};
+ghost use Rattle.surf_cotree.specs.Tables.{split_with};
 ghost use Rattle.surf_cover.specs.Tables.{sets_of};
 ghost use Rattle.surf_cover.specs.Grown.{IsSigned};
 

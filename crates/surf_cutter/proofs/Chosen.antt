@@ -14,7 +14,7 @@ use Rattle.surf_opening.proofs.CutCounts.{full_told}
 use Rattle.surf_opening.proofs.NamedEdges.{forget}
 use Rattle.surf_slit.specs.Labels.{IsUncut}
 use Rattle.surf_cotree.specs.Grown.{IsMarked, IsGrown}
-use Rattle.surf_cotree.specs.Tables.{CotreeTables, tree_of}
+use Rattle.surf_cotree.specs.Tables.{CotreeTables, cotree_of}
 use Rattle.surf_cutter.specs.Boundary.{IsFullCut, OpensToDisc}
 use Rattle.surf_cutter.specs.Opened.{MarksCotree, IsHeld, IsChosenFor, AreTurnedOver}
 use Rattle.surf_cutter.specs.Trimming.{is_cut, IsTrimmedFrom, HasEndedBy}
@@ -58,4 +58,4 @@ full_counted {mesh} surface held is origins faces chosen = full_openings_are_cou
 
 -- a tree that a desk has grown is one that its flags mark
 pub grown_is_held : {mesh : Mesh} (marks : List Bool) (weight : ℕ → ℕ) (tree : Tree) (t : CotreeTables) → IsMarked mesh tree marks → IsGrown mesh marks weight t → IsHeld mesh t.held
-grown_is_held {mesh} marks weight tree t marked grown = (tree, tree_of t, grown.split tree marked, grown.held)
+grown_is_held {mesh} marks weight tree t marked grown = (tree, cotree_of t, grown.split tree marked, grown.held)

@@ -3,7 +3,8 @@ use Rattle.std.proofs.Common.{◌≡◌, ◌≢◌, ℕ, zero, suc, ◌+◌, ◌
 use Rattle.std.proofs.Math.ListN.{set}
 use Rattle.std.proofs.lemmas.Bool.{cases_eq}
 use Rattle.std.proofs.lemmas.List.{length-set, get_or-set_same, get_or-set_other, length_push, get_or_push, get_or_append_left}
-use Rattle.surf_cutter.specs.Copies.{nobody, label_at, AreCounted}
+use Rattle.surf_base.specs.Tables.{nobody}
+use Rattle.surf_cutter.specs.Copies.{label_at, AreCounted}
 
 pub counted_none : (order labels tails numbers : List ℕ) → ((l : ℕ) → l < length numbers → get_or numbers l 0 ≡ nobody) → AreCounted order labels tails 0 numbers []
 counted_none order labels tails numbers none = record {

@@ -4,10 +4,7 @@ use Rattle.surf_surfaces.specs.Mesh.{Mesh}
 use Rattle.surf_surfaces.specs.Surface.{face_at}
 use Rattle.surf_surfaces.specs.SideNumber.{first_side, side_count}
 use Rattle.surf_slit.specs.Labels.{corner_at}
-
--- what stands for no number yet
-abbrev pub nobody : ℕ
-nobody = 4294967295
+use Rattle.surf_base.specs.Tables.{nobody}
 
 -- the label of the side at a place of a list
 abbrev pub label_at : List ℕ → List ℕ → ℕ → ℕ

@@ -12,7 +12,7 @@ use Rattle.surf_text.specs.Text.{TextLine, lines_of}
 use Rattle.surf_off.proofs.Reread.{lines_from}
 use Rattle.surf_lengths.specs.Lengths.{AreLengths}
 use Rattle.surf_lengths.specs.Lines.{entry_of}
-use Rattle.surf_lengths.specs.Files.{Named, none_named, name_edge, name_line, head_of, when_read, behind_head, lengths_in}
+use Rattle.surf_lengths.specs.Files.{Named, none_named, name_edge, name_line, length_head, when_read, behind_head, lengths_in}
 use Rattle.surf_lengths.specs.declared.fault.LengthFault.{LengthFault}
 use Rattle.surf_geom.specs.Texts.{entries_text, lengths_text}
 use Rattle.surf_geom.proofs.Entries.{IsEntry, line_of, entry_first, entry_is, no_version}
@@ -95,7 +95,7 @@ entries_of mesh e (p ∷ ps) (n ∷ ns) edges lengths =
     )
 
 -- a text without the head of version 2
-plain_head : (mesh : Mesh) (xs : List ((ℕ × ℕ) × ℕ)) → AreEntries mesh 0 xs → head_of (text_lines 1 xs) ≡ Ok (record { default = None; entries = text_lines 1 xs })
+plain_head : (mesh : Mesh) (xs : List ((ℕ × ℕ) × ℕ)) → AreEntries mesh 0 xs → length_head (text_lines 1 xs) ≡ Ok (record { default = None; entries = text_lines 1 xs })
 unfolding AreEntries text_lines
 plain_head mesh [] all = refl
 plain_head mesh (x ∷ xs) all = rw (no_version mesh 0 x all.0) refl
@@ -112,4 +112,4 @@ reread mesh lengths is_mesh small are count =
     let start : fold (name_line mesh) (Ok (none_named mesh None)) (text_lines 1 xs) ≡ Ok (record { lengths = lengths; lines = range_with_len 1 m }) =
     ap (λ (n : ℕ). fold (name_line mesh) (Ok (before_lines [] [] n)) (text_lines 1 xs)) (sym long) ∙ names
     ∙ ap (λ (ns : List ℕ). Ok (record { lengths = ns; lines = range_with_len 1 (length xs) })) seconds ∙ ap (λ (n : ℕ). Ok (record { lengths = lengths; lines = range_with_len 1 n })) long in
-    ap (λ (ls : List TextLine). behind_head mesh (head_of ls)) lines ∙ ap (behind_head mesh) (plain_head mesh xs all) ∙ ap (when_read mesh None) start ∙ rw (none_missing m) refl
+    ap (λ (ls : List TextLine). behind_head mesh (length_head ls)) lines ∙ ap (behind_head mesh) (plain_head mesh xs all) ∙ ap (when_read mesh None) start ∙ rw (none_missing m) refl

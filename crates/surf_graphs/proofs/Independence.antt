@@ -16,7 +16,7 @@ use Rattle.surf_z2.proofs.Width.{width_law}
 use Rattle.surf_graphs.specs.Graphs.{Graph, IsEven, IsWalk, walk_chain, walk_length}
 use Rattle.surf_graphs.specs.Trees.{Tree, loop, IsShortest, loop_length}
 use Rattle.surf_graphs.specs.Cells.{Cells, primal, IsCellComplex, IsNull, Split, IsSplit, IsHeaviest, signature, chain_signature}
-use Rattle.surf_graphs.specs.Independence.{IsIndependent, signature_of, signed, loop_of, left_loops, IsCovering, IsClosedWalk, closed_walk}
+use Rattle.surf_graphs.specs.Independence.{IsIndependent, signature_of, signed, loop_chain, left_loops, IsCovering, IsClosedWalk, closed_walk}
 use Rattle.surf_graphs.proofs.Graphs.{walk_even, even-xor}
 use Rattle.surf_graphs.proofs.CellLaws.{null_signature, signature_null}
 use Rattle.surf_graphs.proofs.Lengths.{loop_bound, loop_signature, sum_of_left, shorter_left}
@@ -196,7 +196,7 @@ walk_sums s d cells t a w walk =
 pub walk_spanned : (s : Cells) (len : ℕ → ℕ) (d : Split) → IsCellComplex s → (t : Tree) → IsShortest (primal s) len t →
     (cycles : List (Weighed Chain)) →
     ((e : ℕ) → e < s.edges →
-    SpannedUpToWeight numbers (map (signed s d) cycles) (signed s d (loop_of (primal s) len t e))) →
+    SpannedUpToWeight numbers (map (signed s d) cycles) (signed s d (loop_chain (primal s) len t e))) →
     (a : ℕ) → t.rank a ≡ 0 → (w : List ℕ) → IsWalk (primal s) a w a →
     SpannedUpToWeight numbers (map (signed s d) cycles)
     (signed s d (record { weight = walk_length (primal s) len a w; vector = walk_chain (primal s) a w }))
@@ -216,7 +216,7 @@ walk_spanned s len d cells t short cycles each a at_base w walk =
 -- the loop of each edge is a sum of left loops that are no longer, where the cotree is heaviest
 pub loop_spanned : (s : Cells) (len : ℕ → ℕ) (d : Split) → IsCellComplex s → IsSplit s d → IsHeaviest s len d →
     (e : ℕ) → e < s.edges →
-    SpannedUpToWeight numbers (map (signed s d) (left_loops s len d)) (signed s d (loop_of (primal s) len d.tree e))
+    SpannedUpToWeight numbers (map (signed s d) (left_loops s len d)) (signed s d (loop_chain (primal s) len d.tree e))
 loop_spanned s len d cells ok heavy e l =
     let m = length d.left in
     let limit = loop_length (primal s) len d.tree e in
@@ -233,11 +233,11 @@ loop_spanned s len d cells ok heavy e l =
     (over_in numbers (vectors (up_to limit xs)) m (signature s d e) (λ k. signature_of s d (left k)) (λ k lk on.
     let none : Weighed ℕ = record { weight = 0; vector = 0 } in
     let n : length xs ≡ m =
-    length-map (left_loops s len d) (signed s d) ∙ length-map d.left (loop_of (primal s) len d.tree) in
-    let is : get_or xs k none ≡ signed s d (loop_of (primal s) len d.tree (get_or d.left k 0)) =
-    get_or-map (signed s d) (left_loops s len d) k (loop_of (primal s) len d.tree 0) none
-    (omega (arith, length-map d.left (loop_of (primal s) len d.tree))) ∙ ap (signed s d)
-    (get_or-map (loop_of (primal s) len d.tree) d.left k 0 (loop_of (primal s) len d.tree 0) lk) in
+    length-map (left_loops s len d) (signed s d) ∙ length-map d.left (loop_chain (primal s) len d.tree) in
+    let is : get_or xs k none ≡ signed s d (loop_chain (primal s) len d.tree (get_or d.left k 0)) =
+    get_or-map (signed s d) (left_loops s len d) k (loop_chain (primal s) len d.tree 0) none
+    (omega (arith, length-map d.left (loop_chain (primal s) len d.tree))) ∙ ap (signed s d)
+    (get_or-map (loop_chain (primal s) len d.tree) d.left k 0 (loop_chain (primal s) len d.tree 0) lk) in
     let fits : leb (get_or xs k none).weight limit ≡ true =
     ap (λ x. leb x.weight limit) is ∙ le-leb (loop_length (primal s) len d.tree (get_or d.left k 0)) limit
     (shorter_left s len d ok heavy e k l lk on) in
@@ -351,7 +351,7 @@ module _ (s : Cells) (len : ℕ → ℕ) (d : Split) (cells : IsCellComplex s) (
       let ws = map at walks in
       let each = recursion_from_All (λ w. IsWalk (primal s) d.tree.root w d.tree.root) walks closed in
       let bound = spanned_least s d cells ok (left_loops s len d) ws
-      (length-map walks at ∙ count ∙ sym (length-map d.left (loop_of (primal s) len d.tree)))
+      (length-map walks at ∙ count ∙ sym (length-map d.left (loop_chain (primal s) len d.tree)))
       (All-from_recursion (λ w. IsEven (primal s) w.vector) ws (evens walks each))
       (All-from_recursion (λ w. SpannedUpToWeight numbers (map (signed s d) (left_loops s len d)) (signed s d w)) ws
       (spanned walks each))

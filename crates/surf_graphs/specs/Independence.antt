@@ -20,12 +20,12 @@ abbrev pub signed : Cells → Split → Weighed Chain → Weighed ℕ
 signed s d x = record { weight = x.weight; vector = signature_of s d x.vector }
 
 -- the loop of an edge with its length
-abbrev pub loop_of : Graph → (ℕ → ℕ) → Tree → ℕ → Weighed Chain
-loop_of g len t l = record { weight = loop_length g len t l; vector = loop g t l }
+abbrev pub loop_chain : Graph → (ℕ → ℕ) → Tree → ℕ → Weighed Chain
+loop_chain g len t l = record { weight = loop_length g len t l; vector = loop g t l }
 
 -- the loops of the left edges
 abbrev pub left_loops : Cells → (ℕ → ℕ) → Split → List (Weighed Chain)
-left_loops s len d = map (loop_of (primal s) len d.tree) d.left
+left_loops s len d = map (loop_chain (primal s) len d.tree) d.left
 
 -- a closed walk from a vertex, as the vertex and what comes after it
 abbrev pub IsClosedWalk : Cells → ℕ × List ℕ → Type 0
@@ -39,4 +39,4 @@ closed_walk g len w = record { weight = walk_length g len w.0 w.1; vector = walk
 -- longer than it
 abbrev pub IsCovering : Cells → (ℕ → ℕ) → Split → (ℕ → Tree) → List (Weighed Chain) → Type 0
 IsCovering s len d trees cycles = (x e : ℕ) → x < s.vertices → e < s.edges →
-    SpannedUpToWeight numbers (map (signed s d) cycles) (signed s d (loop_of (primal s) len (trees x) e))
+    SpannedUpToWeight numbers (map (signed s d) cycles) (signed s d (loop_chain (primal s) len (trees x) e))

@@ -4,7 +4,7 @@ use Rattle.surf_graphs.specs.Rounds.{IsTurn, Rounds}
 use Rattle.surf_graphs.specs.Sides.{Sides, IsSides}
 use Rattle.surf_graphs.specs.Cycles.{runs, IsSimpleCycle, Separates, TwoWalks}
 use Rattle.surf_graphs.specs.Loops.{IsSimple, way_down, way_up, loop_walk}
-use Rattle.surf_graphs.specs.Independence.{IsIndependent, signature_of, signed, loop_of, left_loops, IsCovering, IsClosedWalk, closed_walk}
+use Rattle.surf_graphs.specs.Independence.{IsIndependent, signature_of, signed, loop_chain, left_loops, IsCovering, IsClosedWalk, closed_walk}
 use Rattle.surf_z2.specs.Space.{Chain, numbers, Independent, Weighed, weights, vectors, SpannedUpToWeight}
 use Rattle.surf_graphs.specs.Growth.{Grown, with_node, with_edge, inner_end, IsHeavy}
 use Rattle.surf_z2.specs.Parity.{odd_below, count_below}
@@ -77,7 +77,7 @@ abbrev pub ShortLeftLoopsSpan : Type 0
 ShortLeftLoopsSpan = (s : Cells) (len : ℕ → ℕ) (d : Split) → IsCellComplex s → IsSplit s d →
     IsHeaviest s len d → (e : ℕ) → e < s.edges →
     SpannedUpToWeight numbers (map (signed s d) (left_loops s len d))
-    (signed s d (loop_of (primal s) len d.tree e))
+    (signed s d (loop_chain (primal s) len d.tree e))
 
 -- even chains are independent exactly where their signatures are
 abbrev pub IndependentChains : Type 0

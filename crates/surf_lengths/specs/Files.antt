@@ -27,9 +27,9 @@ behind_version (line ∷ rest) =
 
 -- A file whose first line begins with SURFLEN is of version 2, and that line is then exactly SURFLEN 2. Every
 -- other file is of version 1.
-abbrev pub head_of : List TextLine → Result Head LengthFault
-head_of [] = Ok (record { default = None; entries = [] })
-head_of (line ∷ rest) =
+abbrev pub length_head : List TextLine → Result Head LengthFault
+length_head [] = Ok (record { default = None; entries = [] })
+length_head (line ∷ rest) =
     if begins_with (codes "SURFLEN") (tokens_of line.bytes)
     then (if is_version (tokens_of line.bytes) then behind_version rest else Err (Form line.number))
     else Ok (record { default = None; entries = line ∷ rest })
@@ -78,7 +78,7 @@ behind_head mesh (Ok head) =
 
 -- the lengths that a text gives to the edges of a mesh, or the first fault
 abbrev pub lengths_in : Mesh → List ℕ → Result (List ℕ) LengthFault
-lengths_in mesh text = behind_head mesh (head_of (lines_of text))
+lengths_in mesh text = behind_head mesh (length_head (lines_of text))
 
 -- what a call answers, up to want of memory
 abbrev pub Gives : {X : Type 0} → Result X LengthFault → Result X LengthFault → Type 0

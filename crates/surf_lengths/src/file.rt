@@ -4,7 +4,7 @@ ghost use Rattle.std.specs.List.{fold, position};
 ghost use Rattle.surf_text.specs.Walks.{text_line};
 ghost use Rattle.surf_surfaces.specs.Surface.{edge_count};
 ghost use Rattle.surf_lengths.specs.Lines.{entry_of};
-ghost use Rattle.surf_lengths.specs.Files.{Head, Named, behind_version, head_of, name_edge, name_line, missing_edge, lengths_in, Gives};
+ghost use Rattle.surf_lengths.specs.Files.{Head, Named, behind_version, length_head, name_edge, name_line, missing_edge, lengths_in, Gives};
 ghost use Rattle.surf_lengths.specs.Walks.{with_next};
 
 use crate::line::{begins_with, is_version, read_default, read_entry};
@@ -36,7 +36,7 @@ fn read_behind_version<'a>(
 
 // The default, if there is one, and the first line that names an edge.
 fn read_head<'a>(lines: &mut Lines<'a>) -> Result<(Option<u32>, Option<Line<'a>>), LengthFault>
-    ensures head { MatchResult result (λ x. head_of lines.old ≡ Ok (record { default = x.0; entries = with_next x.1 lines.new })) (λ e. head_of lines.old ≡ Err e) }
+    ensures head { MatchResult result (λ x. length_head lines.old ≡ Ok (record { default = x.0; entries = with_next x.1 lines.new })) (λ e. length_head lines.old ≡ Err e) }
     ensures positive { IfOk result (λ x. IfSome x.0 (λ n. 1 ≤ n)) }
 {
     match lines.next_line() {

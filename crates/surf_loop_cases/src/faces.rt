@@ -1,6 +1,6 @@
 //! The tree of faces beside the shortest walks from vertex 0, each edge of length 1, and the signatures by it.
 ghost use Rattle.std.specs.Prelude.{◌<◌};
-ghost use Rattle.surf_cotree.specs.Tables.{IsMadeFor};
+ghost use Rattle.surf_cotree.specs.Tables.{AreCotreeTables};
 
 use crate::loops::loops_at;
 use crate::meshes::{TORUS, surface};
@@ -30,7 +30,7 @@ fn left_are(mesh: &HalfMesh, cotree: &CotreeDesk, want: &[(u32, u32)]) -> bool {
 
 // Whether each face has the depth and the edge to its parent that are wanted.
 fn rows_are(mesh: &HalfMesh, cotree: &CotreeDesk, want: &[(u32, Option<(u32, u32)>)]) -> bool
-    requires made { IsMadeFor mesh.now cotree.now }
+    requires made { AreCotreeTables mesh.now cotree.now }
 {
     let mut same = want.len() == mesh.faces() as usize;
     for f in 0..mesh.faces() {
@@ -46,7 +46,7 @@ fn rows_are(mesh: &HalfMesh, cotree: &CotreeDesk, want: &[(u32, Option<(u32, u32
 
 // Whether just these edges have place 0 in their signatures.
 fn first_is_in(mesh: &HalfMesh, cotree: &CotreeDesk, want: &[(u32, u32)]) -> bool
-    requires made { IsMadeFor mesh.now cotree.now }
+    requires made { AreCotreeTables mesh.now cotree.now }
 {
     let mut same = true;
     for e in 0..mesh.edges() {

@@ -9,7 +9,7 @@ use Rattle.surf_surfaces.specs.Walk.{ArePositive}
 use Rattle.surf_surfaces.specs.Cotree.{left_edges}
 use Rattle.surf_surfaces.proofs.ShortestTreeLaws.{shortest_is_tree}
 use Rattle.surf_validity.specs.Rows.{TreeRows, DualRows, LoopCert}
-use Rattle.surf_validity.specs.Chosen.{parent_in, rows_of, dual_rows_of, cert_of}
+use Rattle.surf_validity.specs.Chosen.{parent_in, rows_for, dual_rows_of, chosen_cert}
 use Rattle.surf_lengths.specs.Lengths.{AreLengths}
 use Rattle.surf_cert.proofs.ChosenFits.{AreNumbers}
 use Rattle.surf_tree.specs.Tables.{TreeTables, parent_of, tree_of}
@@ -45,14 +45,14 @@ parent_shown mesh t v rooted l = elim (cases_eq v t.base) [
 -- the certificate of the two trees, by its parts
 pub cert_shown : (mesh : Mesh) (lengths : List ℕ) (base : ℕ) (t : LoopTables) (cert : LoopCert) (tree : TreeRows) (dual : DualRows) (left : List (ℕ × ℕ)) →
     IsSurface mesh → ArePositive mesh lengths → IsGreedy mesh lengths base t →
-    cert ≡ record { tree = tree; dual = dual; left = left } → tree ≡ rows_of mesh (tree_of t.tree) → dual ≡ dual_rows_of mesh (cotree_of t.cotree) →
-    left ≡ map (ends mesh) t.cotree.left → cert ≡ cert_of mesh (trees_of t)
+    cert ≡ record { tree = tree; dual = dual; left = left } → tree ≡ rows_for mesh (tree_of t.tree) → dual ≡ dual_rows_of mesh (cotree_of t.cotree) →
+    left ≡ map (ends mesh) t.cotree.left → cert ≡ chosen_cert mesh (trees_of t)
 cert_shown mesh lengths base t cert tree dual left surface positive g is rows faces pairs =
     let of : TreeRows → DualRows → List (ℕ × ℕ) → LoopCert = λ tree dual left. record { tree = tree; dual = dual; left = left } in
     let edges : t.cotree.left ≡ left_edges mesh (tree_of t.tree) (cotree_of t.cotree) =
     g.cotree.left (tree_of t.tree) (tree_marks mesh lengths base t.tree surface positive g.tree) in
-    is ∙ ap (λ r. of r dual left) rows ∙ ap (λ d. of (rows_of mesh (tree_of t.tree)) d left) faces
-    ∙ ap (of (rows_of mesh (tree_of t.tree)) (dual_rows_of mesh (cotree_of t.cotree))) (pairs ∙ ap (map (ends mesh)) edges)
+    is ∙ ap (λ r. of r dual left) rows ∙ ap (λ d. of (rows_for mesh (tree_of t.tree)) d left) faces
+    ∙ ap (of (rows_for mesh (tree_of t.tree)) (dual_rows_of mesh (cotree_of t.cotree))) (pairs ∙ ap (map (ends mesh)) edges)
 
 -- the counts of a mesh and its lengths are numbers of 32 bits
 pub numbers_fit : (mesh : Mesh) (lengths : List ℕ) → mesh.vertices < 2 ^ 32 → face_count mesh < 2 ^ 32 → length lengths < 2 ^ 32 →

@@ -9,9 +9,9 @@ use Rattle.surf_surfaces.specs.Homology.{IsIndependent}
 use Rattle.surf_surfaces.specs.Loop.{loop_walk}
 use Rattle.surf_surfaces.specs.Choice.{Trees, AreChosenAt, Loop, loops_at}
 use Rattle.surf_surfaces.specs.ChoiceLaws.{LoopsAtBase}
-use Rattle.surf_tree.specs.Tables.{TreeTables, parent_of, tree_of, IsMadeFor as TreeMade}
+use Rattle.surf_tree.specs.Tables.{TreeTables, parent_of, tree_of, AreLoopTables as TreeMade}
 use Rattle.surf_tree.specs.Grown.{IsGrown as IsTreeGrown}
-use Rattle.surf_cotree.specs.Tables.{CotreeTables, tree_of as cotree_of, IsMadeFor as CotreeMade}
+use Rattle.surf_cotree.specs.Tables.{CotreeTables, tree_of as cotree_of, AreLoopTables as CotreeMade}
 use Rattle.surf_cotree.specs.Grown.{IsGrown as IsCotreeGrown, IsGrownOn, AreLoopLengths}
 use Rattle.surf_loops.specs.declared.head.LoopHead.{LoopHead}
 
@@ -22,7 +22,7 @@ pub record LoopTables : Type 0 where
   pub heads : List LoopHead
 
 -- there is an entry for each vertex, face and edge
-pub record IsMadeFor (mesh : Mesh) (t : LoopTables) : Type 0 where
+pub record AreLoopTables (mesh : Mesh) (t : LoopTables) : Type 0 where
   pub tree : TreeMade mesh t.tree
   pub cotree : CotreeMade mesh t.cotree
 
@@ -44,7 +44,7 @@ pub record IsRooted (mesh : Mesh) (t : TreeTables) : Type 0 where
 -- The tables hold the two trees that are chosen at a base, and the heads are of the loops that are chosen there, in
 -- order. These are a least loop system at the base, and no independent closed walks are more than they.
 pub record IsGreedy (mesh : Mesh) (lengths : List ℕ) (base : ℕ) (t : LoopTables) : Type 0 where
-  pub made : IsMadeFor mesh t
+  pub made : AreLoopTables mesh t
   pub tree : IsTreeGrown mesh lengths base t.tree
   pub weight : ℕ → ℕ
   pub weighs : AreLoopLengths mesh lengths (tree_of t.tree) weight

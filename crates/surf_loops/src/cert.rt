@@ -1,7 +1,7 @@
 //! The certificate of the loops at a base, and its parts.
 ghost use Rattle.std.specs.Prelude.{◌≡◌, ◌<◌, IfOk, length, map};
 ghost use Rattle.surf_surfaces.specs.Surface.{edge_count, face_count, ends};
-ghost use Rattle.surf_validity.specs.Chosen.{cert_of, dual_rows_of, rows_of, side_in};
+ghost use Rattle.surf_validity.specs.Chosen.{chosen_cert, dual_rows_of, rows_for, side_in};
 ghost use Rattle.surf_validity.specs.Valid.{IsValidLoops};
 ghost use Rattle.surf_cert.specs.Fits.{LoopFits};
 ghost use Rattle.surf_tree.specs.Tables.{tree_of};
@@ -21,7 +21,7 @@ use surf_tree::TreeDesk;
 /// The rows of a tree of vertices: for each vertex its distance from the base and its parent, which the base has not.
 pub fn tree_rows(alloc: Global, mesh: &HalfMesh, tree: &TreeDesk) -> Result<TreeRows, NoMemory>
     requires rooted { IsRooted mesh.now tree.now }
-    ensures rows { IfOk result (λ rows. rows ≡ rows_of mesh.now (tree_of tree.now)) }
+    ensures rows { IfOk result (λ rows. rows ≡ rows_for mesh.now (tree_of tree.now)) }
 {
     let vertices = mesh.vertices();
     let mut distance = Vec::with_capacity(alloc, vertices as usize)?;
@@ -90,7 +90,7 @@ impl LoopDesk {
     ) -> Result<LoopCert, NoMemory>
         requires greedy { IsGreedy mesh.now lengths.now self.now.tree.base self.now }
         requires lengths { length lengths.now ≡ edge_count mesh.now }
-        ensures cert { IfOk result (λ cert. cert ≡ cert_of mesh.now (trees_of self.now)) }
+        ensures cert { IfOk result (λ cert. cert ≡ chosen_cert mesh.now (trees_of self.now)) }
         ensures valid { IfOk result (IsValidLoops mesh.now lengths.now) }
         ensures fits { IfOk result LoopFits }
     {

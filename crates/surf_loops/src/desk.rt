@@ -10,9 +10,9 @@ ghost use Rattle.surf_surfaces.specs.Walk.{IsClosedAt};
 ghost use Rattle.surf_surfaces.specs.Signature.{edge_signature};
 ghost use Rattle.surf_tree.specs.Tables.{tree_of};
 ghost use Rattle.surf_tree.specs.Grown.{IsGrown as IsTreeGrown};
-ghost use Rattle.surf_cotree.specs.Tables.{split_with, IsMadeFor as CotreeMade};
+ghost use Rattle.surf_cotree.specs.Tables.{split_with, AreLoopTables as CotreeMade};
 ghost use Rattle.surf_cotree.specs.Grown.{IsGrownOn};
-ghost use Rattle.surf_loops.specs.Loops.{LoopTables, IsMadeFor, IsRooted, IsGreedy};
+ghost use Rattle.surf_loops.specs.Loops.{LoopTables, AreLoopTables, IsRooted, IsGreedy};
 
 use crate::head::LoopHead;
 use crate::heads::{list_heads, set_weights};
@@ -51,7 +51,7 @@ impl LoopDesk {
     /// A desk for the loops of a mesh, and of every mesh with as many vertices, edges and faces. No later call but `walk`
     /// takes memory.
     pub fn make(alloc: Global, mesh: &HalfMesh) -> Result<LoopDesk, NoMemory>
-        ensures made { IfOk result (λ desk. IsMadeFor mesh.now desk) }
+        ensures made { IfOk result (λ desk. AreLoopTables mesh.now desk) }
     {
         let edges = mesh.edges() as usize;
         let tree = TreeDesk::make(alloc, mesh)?;
@@ -69,11 +69,11 @@ impl LoopDesk {
     /// Grows the tree of shortest walks from a base alone. The loops of another base stay until `find_loops`. It takes no
     /// memory and can't be refused.
     pub fn grow_tree(&mut self, mesh: &HalfMesh, lengths: &Lengths, base: VertexId)
-        requires made { IsMadeFor mesh.now self.old }
+        requires made { AreLoopTables mesh.now self.old }
         requires base { base < mesh.now.vertices }
         requires lengths { length lengths.now ≡ edge_count mesh.now }
         ensures tree { IsTreeGrown mesh.now lengths.now base self.new.tree }
-        ensures made { IsMadeFor mesh.now self.new }
+        ensures made { AreLoopTables mesh.now self.new }
         ensures rest { self.new ≡ record self.old { tree = self.new.tree } }
     {
         self.tree.grow(mesh, lengths, base);
@@ -82,7 +82,7 @@ impl LoopDesk {
     /// Finds the loops at the base of the tree that was grown last, those that are chosen, a least loop system there. It
     /// takes no memory and can't be refused.
     pub fn find_loops(&mut self, mesh: &HalfMesh, lengths: &Lengths)
-        requires made { IsMadeFor mesh.now self.old }
+        requires made { AreLoopTables mesh.now self.old }
         requires lengths { length lengths.now ≡ edge_count mesh.now }
         requires tree { IsTreeGrown mesh.now lengths.now self.old.tree.base self.old.tree }
         ensures greedy { IsGreedy mesh.now lengths.now self.old.tree.base self.new }
@@ -96,7 +96,7 @@ impl LoopDesk {
 
     /// Finds the loops at a base that are chosen, a least loop system there. It takes no memory and can't be refused.
     pub fn greedy(&mut self, mesh: &HalfMesh, lengths: &Lengths, base: VertexId)
-        requires made { IsMadeFor mesh.now self.old }
+        requires made { AreLoopTables mesh.now self.old }
         requires base { base < mesh.now.vertices }
         requires lengths { length lengths.now ≡ edge_count mesh.now }
         ensures greedy { IsGreedy mesh.now lengths.now base self.new }

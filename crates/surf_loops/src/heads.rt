@@ -3,7 +3,7 @@ ghost use Rattle.std.specs.Prelude.{◌≡◌, ◌<◌, ◌≤◌, ◌+◌, ◌*
 ghost use Rattle.std.specs.List.Sorted.{IsNonDecreasingBy};
 ghost use Rattle.surf_surfaces.specs.Surface.{edge_count};
 ghost use Rattle.surf_surfaces.specs.Loop.{loop_length};
-ghost use Rattle.surf_tree.specs.Tables.{IsMadeFor, tree_of};
+ghost use Rattle.surf_tree.specs.Tables.{AreTreeTables, tree_of};
 ghost use Rattle.surf_loops.specs.Heads.{head_of, order_of};
 
 use crate::head::LoopHead;
@@ -16,7 +16,7 @@ use surf_tree::TreeDesk;
 // length.
 fn loop_length(mesh: &HalfMesh, lengths: &Lengths, tree: &TreeDesk, edge: EdgeId) -> u64
     requires edge { edge < edge_count mesh.now }
-    requires tables { IsMadeFor mesh.now tree.now }
+    requires tables { AreTreeTables mesh.now tree.now }
     requires lengths { length lengths.now ≡ edge_count mesh.now }
     requires fits { (v : ℕ) → v < mesh.now.vertices → slice_index tree.now.distances v < 2 ^ 62 }
     ensures length { result ≡ loop_length mesh.now lengths.now (tree_of tree.now) edge }
@@ -28,7 +28,7 @@ fn loop_length(mesh: &HalfMesh, lengths: &Lengths, tree: &TreeDesk, edge: EdgeId
 
 // Writes the lengths of the loops of all edges.
 pub(crate) fn set_weights(mesh: &HalfMesh, lengths: &Lengths, tree: &TreeDesk, weight: &mut [u64])
-    requires tables { IsMadeFor mesh.now tree.now }
+    requires tables { AreTreeTables mesh.now tree.now }
     requires lengths { length lengths.now ≡ edge_count mesh.now }
     requires fits { (v : ℕ) → v < mesh.now.vertices → slice_index tree.now.distances v < 2 ^ 62 }
     requires weights { length weight.old ≡ edge_count mesh.now }

@@ -22,7 +22,7 @@ use Rattle.surf_mesh.specs.EdgeTable.{AreEdgeNumbers}
 use Rattle.surf_mesh.specs.Pairs.{HasTwoFaces}
 use Rattle.surf_mesh.specs.Vertices.{all_corners, sides_at}
 use Rattle.surf_mesh.specs.Reach.{marked}
-use Rattle.surf_mesh.specs.Ring.{corner_of, cross_of, turn_of, turns, AreDarts, IsRound, IsTrail, AreTurned, BeginsAt, IsEdgeAt, side_before, GoBetween, IsWholeRing, IsPinch, AreAllRings}
+use Rattle.surf_mesh.specs.Ring.{dart_corner, cross_of, turn_of, turns, AreDarts, IsRound, IsTrail, AreTurned, BeginsAt, IsEdgeAt, side_before, GoBetween, IsWholeRing, IsPinch, AreAllRings}
 use Rattle.surf_mesh.proofs.Order.{Ordered, all_filter, passing, range_below}
 use Rattle.surf_mesh.proofs.HalfLaws.{face_of_side, spans}
 use Rattle.surf_mesh.proofs.Mates.{member_filter, with_pair, with_all, ordered_filter, range_ordered}
@@ -228,10 +228,10 @@ module _ (mesh : Mesh) (is_mesh : IsMesh mesh) (two : HasTwoFaces mesh) (mate : 
   across d = cross_of mate (all_corners mesh) d
 
   abbrev vertex : ℕ × Bool → ℕ
-  vertex d = tail (corner_of next d)
+  vertex d = tail (dart_corner next d)
 
   -- a dart's side and its corner are of one face
-  dart_face : (d : ℕ × Bool) (f : ℕ) → IsFaceOf mesh d.0 f → IsFaceOf mesh (corner_of next d) f
+  dart_face : (d : ℕ × Bool) (f : ℕ) → IsFaceOf mesh d.0 f → IsFaceOf mesh (dart_corner next d) f
   dart_face (s, true) f h = let k = s - first_side mesh f in placed_face mesh (get_or next s 0) f (after (length (face_at mesh f)) k) (next_place s f k (face_placed mesh s f h))
   dart_face (s, false) f h = h
 
@@ -240,15 +240,15 @@ module _ (mesh : Mesh) (is_mesh : IsMesh mesh) (two : HasTwoFaces mesh) (mate : 
   dart_edge (s, true) v lt e = (tail s, pair_tails s lt ∙ pair_comm (tail s) (tail (get_or next s 0)) ∙ ap (λ x. pair x (tail s)) e)
   dart_edge (s, false) v lt e = (tail (get_or next s 0), pair_tails s lt ∙ ap (λ x. pair x (tail (get_or next s 0))) e)
 
-  has_edge : (d : ℕ × Bool) (f : ℕ) → d.0 < side_count mesh → IsFaceOf mesh (corner_of next d) f → HasEdge mesh f (pair_at mesh d.0)
+  has_edge : (d : ℕ × Bool) (f : ℕ) → d.0 < side_count mesh → IsFaceOf mesh (dart_corner next d) f → HasEdge mesh f (pair_at mesh d.0)
   has_edge d f lt h =
       let own = face_of_side mesh (owners 0 mesh.faces) d.0 0 refl lt in
       let g = get_or (owners 0 mesh.faces) d.0 0 in
-      let same = one_face mesh (corner_of next d) g f (dart_face d g own) h in
+      let same = one_face mesh (dart_corner next d) g f (dart_face d g own) h in
       (h.is_face, ap (λ x. has_side (pair_at mesh d.0) (face_at mesh x)) (sym same) ∙ side_of_face mesh d.0 g own)
 
   -- the faces of a dart and of the next one share an edge at the vertex
-  pub turn_shares : (d : ℕ × Bool) (v f g : ℕ) → d.0 < side_count mesh → vertex d ≡ v → IsFaceOf mesh (corner_of next d) f → IsFaceOf mesh (corner_of next (step d)) g → ShareAt mesh v f g
+  pub turn_shares : (d : ℕ × Bool) (v f g : ℕ) → d.0 < side_count mesh → vertex d ≡ v → IsFaceOf mesh (dart_corner next d) f → IsFaceOf mesh (dart_corner next (step d)) g → ShareAt mesh v f g
   turn_shares d v f g lt at p q =
       let n = turned_size after mesh next nexts in
       let in' : d.0 < length next = omega arith in
@@ -301,7 +301,7 @@ module _ (mesh : Mesh) (is_mesh : IsMesh mesh) (two : HasTwoFaces mesh) (mate : 
       sizes : length next ≡ side_count mesh
       sizes = turned_size after mesh next nexts
 
-      start_corner : corner_of next start ≡ home
+      start_corner : dart_corner next start ≡ home
       start_corner = begin_corner v some from from_is
 
       pub start_in : from < length next
@@ -329,17 +329,17 @@ module _ (mesh : Mesh) (is_mesh : IsMesh mesh) (two : HasTwoFaces mesh) (mate : 
       pub ring_first : get_or ring 0 0 ≡ home
       ring_first = round.entries 0 round.some ∙ start_corner
 
-      share_next : (k f g : ℕ) → k < length ring → IsFaceOf mesh (get_or ring k 0) f → IsFaceOf mesh (corner_of next (dart (suc k))) g → ShareAt mesh v f g
+      share_next : (k f g : ℕ) → k < length ring → IsFaceOf mesh (get_or ring k 0) f → IsFaceOf mesh (dart_corner next (dart (suc k))) g → ShareAt mesh v f g
       share_next k f g lt p q =
           let P : ℕ → Type 0 = λ x. IsFaceOf mesh x f in
           let i = dart_in k in
           let z = sizes in
           turn_shares (dart k) v f g (omega arith) (dart_vertex k) (subst P (round.entries k lt) p) q
 
-      next_entry : (k : ℕ) → k < length ring → corner_of next (dart (suc k)) ≡ get_or ring (after (length ring) k) 0
+      next_entry : (k : ℕ) → k < length ring → dart_corner next (dart (suc k)) ≡ get_or ring (after (length ring) k) 0
       next_entry k lt = elim (cases_lt (k + 1) (length ring)) [
-        | inl a ↦ rw (Rattle.std.proofs.lemmas.Bool.lt-ltb (k + 1) (length ring) a) (let e : suc k ≡ k + 1 = omega arith in ap (λ n. corner_of next (dart n)) e ∙ sym (round.entries (k + 1) a))
-        | inr a ↦ rw (Rattle.std.proofs.lemmas.Bool.le-ltb (k + 1) (length ring) a) (let e : suc k ≡ length ring = omega arith in ap (λ n. corner_of next (dart n)) e ∙ ap (corner_of next) round.closes ∙ sym (round.entries 0 round.some))
+        | inl a ↦ rw (Rattle.std.proofs.lemmas.Bool.lt-ltb (k + 1) (length ring) a) (let e : suc k ≡ k + 1 = omega arith in ap (λ n. dart_corner next (dart n)) e ∙ sym (round.entries (k + 1) a))
+        | inr a ↦ rw (Rattle.std.proofs.lemmas.Bool.le-ltb (k + 1) (length ring) a) (let e : suc k ≡ length ring = omega arith in ap (λ n. dart_corner next (dart n)) e ∙ ap (dart_corner next) round.closes ∙ sym (round.entries 0 round.some))
       ]
 
       pub ring_shares : (k f g : ℕ) → k < length ring → IsFaceOf mesh (get_or ring k 0) f → IsFaceOf mesh (get_or ring (after (length ring) k) 0) g → ShareAt mesh v f g
@@ -379,12 +379,12 @@ module _ (mesh : Mesh) (is_mesh : IsMesh mesh) (two : HasTwoFaces mesh) (mate : 
             let P : ℕ → Type 0 = λ x. IsFaceOf mesh x g in
             let differ : d.0 ≢ d'.0 = λ e. ne (one_face mesh d.0 f g is.its_face (subst P (sym e) is'.its_face)) in
             let other : get_or mate d.0 0 ≡ d'.0 = of_edge d.0 d'.0 (get_or mate d.0 0) is.is_side is'.is_side m.is_side (is'.its_pair ∙ sym is.its_pair) m.same_edge differ m.other in
-            let c = corner_of next d in
+            let c = dart_corner next d in
             let c_in : c < side_count mesh = let i = corner_in next prev mate (all_corners mesh) are_darts d in' in omega arith in
             let k = met c (c_in, is.its_vertex) (dart_face d f is.its_face) in
             let start_ok = start_in in
             let j = round_closed next prev mate (all_corners mesh) are_darts start seen_before seen ring start_ok round k.0 k.1 d in' (sym k.2) in
-            let y = corner_of next (across d) in
+            let y = dart_corner next (across d) in
             let y_vertex : tail y ≡ v = cross_vertex next prev mate (all_corners mesh) are_darts d in' ∙ is.its_vertex in
             let y_face : IsFaceOf mesh y g = dart_face (across d) g (subst P (sym other) is'.its_face) in
             (j.0, j.1, j.2 ∙ one_corner mesh is_mesh y t g y_face q (y_vertex ∙ sym b.1))
@@ -444,7 +444,7 @@ module _ (mesh : Mesh) (is_mesh : IsMesh mesh) (two : HasTwoFaces mesh) (mate : 
         dart_listed met e d lt side at p =
             let z = sizes in
             let in' : d.0 < length next = omega arith in
-            let c = corner_of next d in
+            let c = dart_corner next d in
             let c_in : c < side_count mesh = let i = corner_in next prev mate (all_corners mesh) are_darts d in' in omega arith in
             let k = met c (c_in, at) in
             let j = round_sides next prev mate (all_corners mesh) are_darts start seen_before seen ring start_in round k.0 k.1 d in' (sym k.2) in

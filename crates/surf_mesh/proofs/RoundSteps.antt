@@ -4,14 +4,14 @@ use Rattle.std.proofs.lemmas.Bool.{true≢false, cases_eq, eq-eqb, ne_eqb}
 use Rattle.std.proofs.lemmas.List.{length-set, get_or-set_same, get_or-set_other, length_push, get_or_push, get_or_append_left}
 use Rattle.std.proofs.lemmas.List.Sums.{sum_by-set}
 use Rattle.surf_mesh.specs.Reach.{marked, unmarked}
-use Rattle.surf_mesh.specs.Ring.{corner_of, flip_of, cross_of, turn_of, turns, AreDarts, IsRound, IsTrail}
+use Rattle.surf_mesh.specs.Ring.{dart_corner, flip_of, cross_of, turn_of, turns, AreDarts, IsRound, IsTrail}
 
 -- a walk round a vertex so far
 pub record Rounds (next prev mate tails : List ℕ) (d : ℕ × Bool) (seen_before : List Bool) (side : ℕ) (head : Bool) (at : ℕ) (seen : List Bool) (ring : List ℕ) : Type 0 where
   pub size : length seen ≡ length next
   pub here : (side, head) ≡ turns next prev mate tails (length ring) d
-  pub stands : at ≡ corner_of next (side, head)
-  pub entries : (k : ℕ) → k < length ring → get_or ring k 0 ≡ corner_of next (turns next prev mate tails k d)
+  pub stands : at ≡ dart_corner next (side, head)
+  pub entries : (k : ℕ) → k < length ring → get_or ring k 0 ≡ dart_corner next (turns next prev mate tails k d)
   pub are_marked : (k : ℕ) → k < length ring → marked seen (get_or ring k 0) ≡ true
   pub stay : (s : ℕ) → marked seen_before s ≡ true → marked seen s ≡ true
   pub only : (s : ℕ) → marked seen s ≡ true → (marked seen_before s ≡ true) ⊎ ((k : ℕ) × (k < length ring) × (get_or ring k 0 ≡ s))
@@ -41,7 +41,7 @@ module _ (next prev mate tails : List ℕ) (are : AreDarts next prev mate tails)
   walk n d = turns next prev mate tails n d
 
   abbrev vertex : ℕ × Bool → ℕ
-  vertex d = get_or tails (corner_of next d) 0
+  vertex d = get_or tails (dart_corner next d) 0
 
   pub flip_in : (d : ℕ × Bool) → In d → In (flip d)
   flip_in (s, true) h = are.next_in s h
@@ -50,7 +50,7 @@ module _ (next prev mate tails : List ℕ) (are : AreDarts next prev mate tails)
   pub cross_in : (d : ℕ × Bool) → In d → In (cross d)
   cross_in (s, b) h = are.mate_in s h
 
-  pub corner_in : (d : ℕ × Bool) → In d → corner_of next d < length next
+  pub corner_in : (d : ℕ × Bool) → In d → dart_corner next d < length next
   corner_in (s, true) h = are.next_in s h
   corner_in (s, false) h = h
 
@@ -62,7 +62,7 @@ module _ (next prev mate tails : List ℕ) (are : AreDarts next prev mate tails)
   flip_moves (s, true) e = true≢false (sym (ap (λ (x : ℕ × Bool). x.1) e))
   flip_moves (s, false) e = true≢false (ap (λ (x : ℕ × Bool). x.1) e)
 
-  pub flip_corner : (d : ℕ × Bool) → In d → corner_of next (flip d) ≡ corner_of next d
+  pub flip_corner : (d : ℕ × Bool) → In d → dart_corner next (flip d) ≡ dart_corner next d
   flip_corner (s, true) h = refl
   flip_corner (s, false) h = are.next_prev s h
 
@@ -109,7 +109,7 @@ module _ (next prev mate tails : List ℕ) (are : AreDarts next prev mate tails)
       let hx = walk_in n d h in
       ap (λ s. get_or tails s 0) (flip_corner (cross x) (cross_in x hx)) ∙ cross_vertex x hx ∙ walk_vertex n d h
 
-  pub same_corner : (d e : ℕ × Bool) → In d → In e → corner_of next d ≡ corner_of next e → (d ≡ e) ⊎ (d ≡ flip e)
+  pub same_corner : (d e : ℕ × Bool) → In d → In e → dart_corner next d ≡ dart_corner next e → (d ≡ e) ⊎ (d ≡ flip e)
   same_corner (s, true) (t, true) h i q = inl (ap (λ x. (x, true)) (sym (are.prev_next s h) ∙ ap (λ x. get_or prev x 0) q ∙ are.prev_next t i))
   same_corner (s, true) (t, false) h i q = inr (ap (λ x. (x, true)) (sym (are.prev_next s h) ∙ ap (λ x. get_or prev x 0) q))
   same_corner (s, false) (t, true) h i q = inr (ap (λ x. (x, false)) q)
@@ -144,7 +144,7 @@ module _ (next prev mate tails : List ℕ) (are : AreDarts next prev mate tails)
       never_flipped n y hy there
 
   -- The corner that is met again is the first of all.
-  pub met_again : (i j : ℕ) (d : ℕ × Bool) → In d → i < j → ((k l : ℕ) → k < l → l < j → corner_of next (walk k d) ≢ corner_of next (walk l d)) → corner_of next (walk j d) ≡ corner_of next (walk i d) → walk j d ≡ d
+  pub met_again : (i j : ℕ) (d : ℕ × Bool) → In d → i < j → ((k l : ℕ) → k < l → l < j → dart_corner next (walk k d) ≢ dart_corner next (walk l d)) → dart_corner next (walk j d) ≡ dart_corner next (walk i d) → walk j d ≡ d
   met_again i j d h lt differ e =
       let x = walk i d in
       let hx = walk_in i d h in
@@ -154,34 +154,34 @@ module _ (next prev mate tails : List ℕ) (are : AreDarts next prev mate tails)
       ] in
       back i j lt differ same
     where
-      back : (i j : ℕ) → i < j → ((k l : ℕ) → k < l → l < j → corner_of next (walk k d) ≢ corner_of next (walk l d)) → walk j d ≡ walk i d → walk j d ≡ d
+      back : (i j : ℕ) → i < j → ((k l : ℕ) → k < l → l < j → dart_corner next (walk k d) ≢ dart_corner next (walk l d)) → walk j d ≡ walk i d → walk j d ≡ d
       back zero j lt differ q = q
       back (suc i) zero lt differ q = absurd (omega arith)
-      back (suc i) (suc j) lt differ q = absurd (differ i j (omega arith) (omega arith) (ap (corner_of next) (sym (turn_back (walk j d) (walk i d) (walk_in j d h) (walk_in i d h) q))))
+      back (suc i) (suc j) lt differ q = absurd (differ i j (omega arith) (omega arith) (ap (dart_corner next) (sym (turn_back (walk j d) (walk i d) (walk_in j d h) (walk_in i d h) q))))
 
   -- across each side of a corner of a whole round there is another corner of it
-  pub round_closed : (d : ℕ × Bool) (before seen : List Bool) (ring : List ℕ) → In d → IsRound next prev mate tails d before seen ring → (k : ℕ) → k < length ring → (e : ℕ × Bool) → In e → corner_of next e ≡ get_or ring k 0 → (j : ℕ) × (j < length ring) × (get_or ring j 0 ≡ corner_of next (cross e))
+  pub round_closed : (d : ℕ × Bool) (before seen : List Bool) (ring : List ℕ) → In d → IsRound next prev mate tails d before seen ring → (k : ℕ) → k < length ring → (e : ℕ × Bool) → In e → dart_corner next e ≡ get_or ring k 0 → (j : ℕ) × (j < length ring) × (get_or ring j 0 ≡ dart_corner next (cross e))
   round_closed d before seen ring h r k lt e he q =
       let x = walk k d in
       let hx = walk_in k d h in
       elim (same_corner e x he hx (q ∙ r.entries k lt)) [
         | inl is ↦
-            let to : corner_of next (walk (suc k) d) ≡ corner_of next (cross e) = flip_corner (cross x) (cross_in x hx) ∙ ap (λ y. corner_of next (cross y)) (sym is) in
+            let to : dart_corner next (walk (suc k) d) ≡ dart_corner next (cross e) = flip_corner (cross x) (cross_in x hx) ∙ ap (λ y. dart_corner next (cross y)) (sym is) in
             elim (cases_eq (suc k) (length ring)) [
-              | inl last ↦ (0, r.some, r.entries 0 r.some ∙ ap (corner_of next) (sym r.closes) ∙ ap (λ n. corner_of next (walk n d)) (sym last) ∙ to)
+              | inl last ↦ (0, r.some, r.entries 0 r.some ∙ ap (dart_corner next) (sym r.closes) ∙ ap (λ n. dart_corner next (walk n d)) (sym last) ∙ to)
               | inr ne ↦ let b : suc k < length ring = omega arith in (suc k, b, r.entries (suc k) b ∙ to)
             ]
         | inr is ↦ back k lt e is
       ]
     where
-      behind : (m : ℕ) (e : ℕ × Bool) → m < length ring → e ≡ flip (walk (suc m) d) → (j : ℕ) × (j < length ring) × (get_or ring j 0 ≡ corner_of next (cross e))
+      behind : (m : ℕ) (e : ℕ × Bool) → m < length ring → e ≡ flip (walk (suc m) d) → (j : ℕ) × (j < length ring) × (get_or ring j 0 ≡ dart_corner next (cross e))
       behind m e lt is =
           let y = walk m d in
           let hy = walk_in m d h in
           let c : e ≡ cross y = is ∙ flip_twice (cross y) (cross_in y hy) in
-          (m, lt, r.entries m lt ∙ ap (corner_of next) (sym (cross_twice y hy)) ∙ ap (λ z. corner_of next (cross z)) (sym c))
+          (m, lt, r.entries m lt ∙ ap (dart_corner next) (sym (cross_twice y hy)) ∙ ap (λ z. dart_corner next (cross z)) (sym c))
 
-      back : (k : ℕ) → k < length ring → (e : ℕ × Bool) → e ≡ flip (walk k d) → (j : ℕ) × (j < length ring) × (get_or ring j 0 ≡ corner_of next (cross e))
+      back : (k : ℕ) → k < length ring → (e : ℕ × Bool) → e ≡ flip (walk k d) → (j : ℕ) × (j < length ring) × (get_or ring j 0 ≡ dart_corner next (cross e))
       back zero lt e is =
           let some = r.some in
           let m = length ring - 1 in
@@ -206,7 +206,7 @@ module _ (next prev mate tails : List ℕ) (are : AreDarts next prev mate tails)
       let hy = walk_in k d h in
       let at : vertex y ≡ vertex x = walk_vertex k d h ∙ sym (walk_vertex i d h) in
       elim e [
-        | inl q ↦ r.differ i k lt below (r.entries i (omega arith) ∙ ap (corner_of next) (sym (same_end y x hy hx q at)) ∙ sym (r.entries k below))
+        | inl q ↦ r.differ i k lt below (r.entries i (omega arith) ∙ ap (dart_corner next) (sym (same_end y x hy hx q at)) ∙ sym (r.entries k below))
         | inr q ↦
             let c : y ≡ cross x = same_end y (cross x) hy (cross_in x hx) q (at ∙ sym (cross_vertex x hx)) in
             let back : y ≡ flip (walk (suc i) d) = c ∙ sym (flip_twice (cross x) (cross_in x hx)) in
@@ -216,7 +216,7 @@ module _ (next prev mate tails : List ℕ) (are : AreDarts next prev mate tails)
 
   -- each side of a corner of a whole round is the side of one of its darts, or the mate of one
   pub round_sides : (d : ℕ × Bool) (before seen : List Bool) (ring : List ℕ) → In d → IsRound next prev mate tails d before seen ring →
-      (k : ℕ) → k < length ring → (e : ℕ × Bool) → In e → corner_of next e ≡ get_or ring k 0 → (j : ℕ) × (j < length ring) × ((e.0 ≡ (walk j d).0) ⊎ (e.0 ≡ get_or mate (walk j d).0 0))
+      (k : ℕ) → k < length ring → (e : ℕ × Bool) → In e → dart_corner next e ≡ get_or ring k 0 → (j : ℕ) × (j < length ring) × ((e.0 ≡ (walk j d).0) ⊎ (e.0 ≡ get_or mate (walk j d).0 0))
   round_sides d before seen ring h r k lt e he q = elim (same_corner e (walk k d) he (walk_in k d h) (q ∙ r.entries k lt)) [
     | inl is ↦ (k, lt, inl (ap (λ (x : ℕ × Bool). x.0) is))
     | inr is ↦ back k lt e is
@@ -249,7 +249,7 @@ module _ (next prev mate tails : List ℕ) (are : AreDarts next prev mate tails)
         ];
       }
 
-  pub round_start : (d : ℕ × Bool) (seen : List Bool) → length seen ≡ length next → Rounds next prev mate tails d seen d.0 d.1 (corner_of next d) seen []
+  pub round_start : (d : ℕ × Bool) (seen : List Bool) → length seen ≡ length next → Rounds next prev mate tails d seen d.0 d.1 (dart_corner next d) seen []
   round_start d seen size = record {
     size = size;
     here = refl;
@@ -263,12 +263,12 @@ module _ (next prev mate tails : List ℕ) (are : AreDarts next prev mate tails)
   }
 
   pub round_more : (d : ℕ × Bool) (before seen : List Bool) (side at : ℕ) (head : Bool) (ring : List ℕ) → In d → Rounds next prev mate tails d before side head at seen ring → marked seen at ≡ false →
-      (side' at' : ℕ) (head' : Bool) → (side', head') ≡ turn_of next prev mate tails (side, head) → at' ≡ corner_of next (side', head') → Rounds next prev mate tails d before side' head' at' (set seen at true) (ring ++ at ∷ [])
+      (side' at' : ℕ) (head' : Bool) → (side', head') ≡ turn_of next prev mate tails (side, head) → at' ≡ dart_corner next (side', head') → Rounds next prev mate tails d before side' head' at' (set seen at true) (ring ++ at ∷ [])
   round_more d before seen side at head ring h r new side' at' head' is stands' =
       let n = length_push ring at in
       let last : get_or (ring ++ at ∷ []) (length ring) 0 ≡ at = get_or_push ring at 0 (length ring) refl in
       let early : (k : ℕ) → k < length ring → get_or (ring ++ at ∷ []) k 0 ≡ get_or ring k 0 = λ k lt. get_or_append_left ring (at ∷ []) 0 k lt in
-      let own : at ≡ corner_of next (walk (length ring) d) = r.stands ∙ ap (corner_of next) r.here in
+      let own : at ≡ dart_corner next (walk (length ring) d) = r.stands ∙ ap (dart_corner next) r.here in
       let inside : at < length seen = let c = corner_in (walk (length ring) d) (walk_in (length ring) d h) in let z = r.size in omega arith in
       let mark : marked (set seen at true) at ≡ true = get_or-set_same seen at true false inside in
       let still : (j : ℕ) → marked seen j ≡ true → marked (set seen at true) j ≡ true = λ j m. elim (cases_eq j at) [ inl e ↦ ap (marked (set seen at true)) e ∙ mark | inr ne ↦ get_or-set_other seen at j true false ne ∙ m ] in
@@ -279,7 +279,7 @@ module _ (next prev mate tails : List ℕ) (are : AreDarts next prev mate tails)
         here = is ∙ ap (turn_of next prev mate tails) r.here ∙ ap (λ n. walk n d) one;
         stands = stands';
         entries = λ k lt. elim (cases_eq k (length ring)) [
-          | inl e ↦ ap (λ m. get_or (ring ++ at ∷ []) m 0) e ∙ last ∙ own ∙ ap (λ m. corner_of next (walk m d)) (sym e)
+          | inl e ↦ ap (λ m. get_or (ring ++ at ∷ []) m 0) e ∙ last ∙ own ∙ ap (λ m. dart_corner next (walk m d)) (sym e)
           | inr ne ↦ let b : k < length ring = omega (arith, n) in early k b ∙ r.entries k b
         ];
         are_marked = λ k lt. elim (cases_eq k (length ring)) [
@@ -304,9 +304,9 @@ module _ (next prev mate tails : List ℕ) (are : AreDarts next prev mate tails)
   pub round_end : (d : ℕ × Bool) (before seen : List Bool) (side at : ℕ) (head : Bool) (ring : List ℕ) → In d → ((s : ℕ) → s < length next → get_or tails s 0 ≡ vertex d → marked before s ≡ false) → Rounds next prev mate tails d before side head at seen ring → marked seen at ≡ true → IsRound next prev mate tails d before seen ring
   round_end d before seen side at head ring h fresh r m =
       let j = length ring in
-      let own : at ≡ corner_of next (walk j d) = r.stands ∙ ap (corner_of next) r.here in
+      let own : at ≡ dart_corner next (walk j d) = r.stands ∙ ap (dart_corner next) r.here in
       elim (r.only at m) [
-        | inl old ↦ absurd (true≢false (sym old ∙ ap (marked before) own ∙ fresh (corner_of next (walk j d)) (corner_in (walk j d) (walk_in j d h)) (walk_vertex j d h)))
+        | inl old ↦ absurd (true≢false (sym old ∙ ap (marked before) own ∙ fresh (dart_corner next (walk j d)) (corner_in (walk j d) (walk_in j d h)) (walk_vertex j d h)))
         | inr k ↦ record {
           size = r.size;
           some = let lt = k.1 in omega arith;

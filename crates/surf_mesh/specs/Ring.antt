@@ -11,8 +11,8 @@ use Rattle.surf_mesh.specs.declared.rings.Rings.{Rings}
 use Rattle.surf_mesh.specs.declared.rings.Rings.TheVariants.{All, Pinched}
 
 -- A dart is a side with one of its ends: its head where the flag is true. It stands at the corner there.
-abbrev pub corner_of : List ℕ → ℕ × Bool → ℕ
-corner_of next d = cond d.1 (get_or next d.0 0) d.0
+abbrev pub dart_corner : List ℕ → ℕ × Bool → ℕ
+dart_corner next d = cond d.1 (get_or next d.0 0) d.0
 
 -- the other side of the corner
 abbrev pub flip_of : List ℕ → List ℕ → ℕ × Bool → ℕ × Bool
@@ -49,7 +49,7 @@ pub record IsRound (next prev mate tails : List ℕ) (d : ℕ × Bool) (seen_bef
   pub size : length seen ≡ length next
   pub some : 0 < length ring
   pub closes : turns next prev mate tails (length ring) d ≡ d
-  pub entries : (k : ℕ) → k < length ring → get_or ring k 0 ≡ corner_of next (turns next prev mate tails k d)
+  pub entries : (k : ℕ) → k < length ring → get_or ring k 0 ≡ dart_corner next (turns next prev mate tails k d)
   pub are_marked : (k : ℕ) → k < length ring → marked seen (get_or ring k 0) ≡ true
   pub only : (s : ℕ) → marked seen s ≡ true → (marked seen_before s ≡ true) ⊎ ((k : ℕ) × (k < length ring) × (get_or ring k 0 ≡ s))
   pub differ : (i k : ℕ) → i < k → k < length ring → get_or ring i 0 ≢ get_or ring k 0

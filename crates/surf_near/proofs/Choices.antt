@@ -3,8 +3,8 @@ use Rattle.std.proofs.Common.{ℕ, ◌<◌, ◌≤◌, ◌≡◌, ◌≢◌, ◌
 use Rattle.std.proofs.lemmas.Bool.{cases_eq, cases_lt}
 use Rattle.surf_graphs.specs.Graphs.{Graph}
 use Rattle.surf_mesh.specs.Links.{link_at, IsRow}
-use Rattle.surf_tree.specs.Tables.{nobody}
-use Rattle.surf_tree.specs.Searches.{at, IsTight}
+use Rattle.surf_base.specs.Tables.{nobody, at}
+use Rattle.surf_tree.specs.Searches.{IsTight}
 use Rattle.surf_tree.proofs.Choosing.{chosen_tight}
 use Rattle.surf_near.specs.Near.{never}
 use Rattle.surf_near.specs.Searching.{IsChoice}

@@ -17,7 +17,8 @@ use Rattle.surf_surfaces.proofs.CellLaws.{surfaces_are_cells, ends_below, joins_
 use Rattle.surf_surfaces.proofs.GraphWalkLaws.{joined, from_joined}
 use Rattle.surf_surfaces.proofs.ShortestTreeLaws.{shortest_is_tree, shortest_is_shortest}
 use Rattle.surf_lengths.specs.Lengths.{longest}
-use Rattle.surf_tree.specs.Searches.{at, IsTight}
+use Rattle.surf_base.specs.Tables.{at}
+use Rattle.surf_tree.specs.Searches.{IsTight}
 use Rattle.surf_near.specs.declared.tables.Tables.{Tables}
 use Rattle.surf_near.specs.Near.{NearTables, never, IsNearTo, IsNear}
 use Rattle.surf_near.specs.Searching.{IsFound}

@@ -7,7 +7,8 @@ use Rattle.surf_graphs.specs.Graphs.{Graph, joins}
 use Rattle.surf_graphs.proofs.Loops.{joins_turned}
 use Rattle.surf_lengths.specs.Lengths.{longest}
 use Rattle.surf_mesh.specs.Links.{link_at, IsRow}
-use Rattle.surf_tree.specs.Searches.{at, IsReached}
+use Rattle.surf_base.specs.Tables.{at}
+use Rattle.surf_tree.specs.Searches.{IsReached}
 use Rattle.surf_tree.proofs.Choosing.{chosen_in}
 use Rattle.surf_tree.proofs.Offering.{one_less, all_free}
 use Rattle.surf_near.specs.declared.tables.Tables.{Tables}

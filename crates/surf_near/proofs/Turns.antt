@@ -6,7 +6,8 @@ use Rattle.surf_z2.specs.Parity.{count_below}
 use Rattle.surf_graphs.specs.Graphs.{Graph}
 use Rattle.surf_heap.specs.Entries.{Entries, entry_of, IsLeastEntry, IsEmpty}
 use Rattle.surf_lengths.specs.Lengths.{longest}
-use Rattle.surf_tree.specs.Searches.{at, HasKey, IsOffered}
+use Rattle.surf_base.specs.Tables.{at}
+use Rattle.surf_tree.specs.Searches.{HasKey, IsOffered}
 use Rattle.surf_tree.proofs.SearchWords.{IsSearch}
 use Rattle.surf_tree.proofs.Settling.{no_entry, same_key, search_begins}
 use Rattle.surf_tree.proofs.Offering.{one_less, all_free, turn_inside, turn_smaller, turn_keeps}

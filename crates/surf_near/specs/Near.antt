@@ -33,7 +33,7 @@ near_tree t = record {
 }
 
 -- there is an entry for each vertex
-pub record IsMadeFor (mesh : Mesh) (t : NearTables) : Type 0 where
+pub record AreNearTables (mesh : Mesh) (t : NearTables) : Type 0 where
   pub distances : length t.distances ≡ mesh.vertices
   pub parents : length t.parents ≡ mesh.vertices
   pub ups : length t.ups ≡ mesh.vertices
@@ -55,7 +55,7 @@ pub record IsNearTo (mesh : Mesh) (lengths : List ℕ) (base far : ℕ) (tree : 
 
 -- so they do with the tree of shortest walks from the base
 pub record IsNear (mesh : Mesh) (lengths : List ℕ) (base far : ℕ) (t : NearTables) : Type 0 where
-  pub made : IsMadeFor mesh t
+  pub made : AreNearTables mesh t
   pub base_is : t.base ≡ base
   pub fits : (v : ℕ) → v < mesh.vertices → IsTrue (is_near t v) → slice_index t.distances v < 2 ^ 62
   pub near : (tree : Tree) → IsShortestTree mesh lengths base tree → IsNearTo mesh lengths base far tree t

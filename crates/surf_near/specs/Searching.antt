@@ -4,7 +4,8 @@ use Rattle.surf_z2.specs.Parity.{count_below}
 use Rattle.surf_graphs.specs.Graphs.{Graph, joins}
 use Rattle.surf_heap.specs.Entries.{Entries, entry_of}
 use Rattle.surf_lengths.specs.Lengths.{longest}
-use Rattle.surf_tree.specs.Searches.{at, IsReached, IsOffered, IsTight, IsLeastTight}
+use Rattle.surf_base.specs.Tables.{at}
+use Rattle.surf_tree.specs.Searches.{IsReached, IsOffered, IsTight, IsLeastTight}
 use Rattle.surf_near.specs.Near.{never}
 use Rattle.surf_near.specs.Links.{LinkTables, graph_of, weight_of}
 use Rattle.surf_near.specs.declared.tables.Tables.{Tables}

@@ -2,7 +2,7 @@
 ghost use Rattle.std.specs.Prelude.{◌≡◌, ◌<◌, length, slice_index, IfOk};
 ghost use Rattle.surf_near.specs.Links.{AreLinks, graph_of, weight_of};
 ghost use Rattle.surf_near.specs.Searching.{IsBlank, IsFound};
-ghost use Rattle.surf_near.specs.Near.{NearTables, IsMadeFor, IsNear, is_near};
+ghost use Rattle.surf_near.specs.Near.{NearTables, AreNearTables, IsNear, is_near};
 
 use crate::even::settle_even;
 use crate::links::Links;
@@ -64,7 +64,7 @@ impl NearDesk {
     /// A desk for searches of a mesh, and of every mesh with as many vertices. No later call takes
     /// memory.
     pub fn make(alloc: Global, mesh: &HalfMesh) -> Result<NearDesk, NoMemory>
-        ensures made { IfOk result (λ desk. IsMadeFor mesh.now desk) }
+        ensures made { IfOk result (λ desk. AreNearTables mesh.now desk) }
     {
         let vertices = mesh.vertices() as usize;
         let heap = Heap::make(alloc, mesh.vertices())?;
@@ -88,7 +88,7 @@ impl NearDesk {
     /// Settles the vertices at distance at most `radius` from a base. It takes no memory and can't
     /// be refused.
     pub fn grow(&mut self, links: &Links<'_>, base: VertexId, radius: u64)
-        requires made { IsMadeFor links.now.mesh self.old }
+        requires made { AreNearTables links.now.mesh self.old }
         requires base { base < links.now.mesh.vertices }
         ensures near { IsNear links.now.mesh links.now.lengths base radius self.new }
     {

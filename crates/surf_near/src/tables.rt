@@ -1,6 +1,6 @@
 //! The tables of a search.
 ghost use Rattle.std.specs.Prelude.{◌≡◌, ◌≢◌, ◌<◌, ◌≤◌, ◌+◌, ℕ, length, slice_set};
-ghost use Rattle.surf_tree.specs.Searches.{at};
+ghost use Rattle.surf_base.specs.Tables.{at};
 ghost use Rattle.surf_near.specs.Near.{never};
 ghost use Rattle.surf_near.specs.Searching.{ListsSettled};
 

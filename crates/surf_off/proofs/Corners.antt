@@ -3,7 +3,7 @@ use Rattle.std.proofs.Common.{◌≡◌, ◌<◌, ◌≤◌, ◌+◌, ◌-◌, �
 use Rattle.std.proofs.lemmas.List.{append-nil}
 use Rattle.surf_off.specs.declared.fault.OffFault.{OffFault}
 use Rattle.surf_text.specs.Text.{whole, behind_word, behind_words}
-use Rattle.surf_off.specs.Off.{◌>>=◌, corner_of, corners_at}
+use Rattle.surf_off.specs.Off.{◌>>=◌, corner_read, corners_at}
 
 -- what was read before, and what is still read
 abbrev pub with_front : List ℕ → Result (List ℕ) OffFault → Result (List ℕ) OffFault
@@ -14,7 +14,7 @@ regroup front u (Ok us) = ap (λ (xs : List ℕ). Ok xs) (simp append_assoc)
 regroup front u (Err e) = refl
 
 module _ (n v size : ℕ) (total : Result (List ℕ) OffFault) where
-  pub corner_more : (front : List ℕ) (place : ℕ) (tokens : List (List ℕ)) (token : List ℕ) (rest : List (List ℕ)) (u : ℕ) → place < size → tokens ≡ token ∷ rest → corner_of n v place (whole token) ≡ Ok u
+  pub corner_more : (front : List ℕ) (place : ℕ) (tokens : List (List ℕ)) (token : List ℕ) (rest : List (List ℕ)) (u : ℕ) → place < size → tokens ≡ token ∷ rest → corner_read n v place (whole token) ≡ Ok u
       → with_front front (corners_at n v place (take (size - place) tokens)) ≡ total → with_front (front ++ u ∷ []) (corners_at n v (place + 1) (take (size - (place + 1)) rest)) ≡ total
   unfolding corners_at
   corner_more front place tokens token rest u lt is good so_far =
@@ -23,7 +23,7 @@ module _ (n v size : ℕ) (total : Result (List ℕ) OffFault) where
       rw (k, is, good) (regroup front u (corners_at n v (place + 1) (take (size - (place + 1)) rest))) in
       sym one ∙ so_far
 
-  pub corner_bad : (front : List ℕ) (place : ℕ) (tokens : List (List ℕ)) (token : List ℕ) (rest : List (List ℕ)) (e : OffFault) → place < size → tokens ≡ token ∷ rest → corner_of n v place (whole token) ≡ Err e
+  pub corner_bad : (front : List ℕ) (place : ℕ) (tokens : List (List ℕ)) (token : List ℕ) (rest : List (List ℕ)) (e : OffFault) → place < size → tokens ≡ token ∷ rest → corner_read n v place (whole token) ≡ Err e
       → with_front front (corners_at n v place (take (size - place) tokens)) ≡ total → total ≡ Err e
   unfolding corners_at
   corner_bad front place tokens token rest e lt is bad so_far =

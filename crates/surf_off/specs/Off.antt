@@ -88,14 +88,14 @@ size_of n (word ∷ words) = sized n (whole word) words
 abbrev pub few_sides : Bool → ℕ → ℕ → ℕ → Result ℕ OffFault
 few_sides limited n sides k = if limited && nat_lt 6000000 (sides + k) then Err (Limit n Sides) else Ok k
 
-abbrev pub corner_of : ℕ → ℕ → ℕ → Option ℕ → Result ℕ OffFault
-corner_of n v place None = Err (FaceIndex n place)
-corner_of n v place (Some u) = if nat_lt u v then Ok u else Err (FaceIndex n place)
+abbrev pub corner_read : ℕ → ℕ → ℕ → Option ℕ → Result ℕ OffFault
+corner_read n v place None = Err (FaceIndex n place)
+corner_read n v place (Some u) = if nat_lt u v then Ok u else Err (FaceIndex n place)
 
 -- the vertices that the words are, the first of them at a place
 unfoldable pub corners_at : ℕ → ℕ → ℕ → List (List ℕ) → Result (List ℕ) OffFault
 corners_at n v place [] = Ok []
-corners_at n v place (word ∷ words) = corner_of n v place (whole word) >>= λ u. corners_at n v (place + 1) words >>= λ us. Ok (u ∷ us)
+corners_at n v place (word ∷ words) = corner_read n v place (whole word) >>= λ u. corners_at n v (place + 1) words >>= λ us. Ok (u ∷ us)
 
 -- the first that stands before, in the list or among those seen
 unfoldable pub first_repeat : List ℕ → List ℕ → Option ℕ

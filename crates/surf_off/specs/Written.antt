@@ -18,9 +18,9 @@ lines_text [] = []
 lines_text (line ∷ lines) = (line ++ codes "\n") ++ lines_text lines
 
 -- each number behind a space
-abbrev pub numbers_text : List ℕ → List ℕ
-numbers_text [] = []
-numbers_text (n ∷ ns) = (codes " " ++ decimal n) ++ numbers_text ns
+abbrev pub spaced_text : List ℕ → List ℕ
+spaced_text [] = []
+spaced_text (n ∷ ns) = (codes " " ++ decimal n) ++ spaced_text ns
 
 -- a colour behind a space, if there is one
 abbrev pub colour_text : List ℕ → List ℕ
@@ -29,7 +29,7 @@ colour_text (b ∷ bs) = codes " " ++ (b ∷ bs)
 
 -- a face line: its size, its corners and its colour
 abbrev pub face_text : List ℕ → List ℕ → List ℕ
-face_text corners colour = decimal (length corners) ++ (numbers_text corners ++ (colour_text colour ++ codes "\n"))
+face_text corners colour = decimal (length corners) ++ (spaced_text corners ++ (colour_text colour ++ codes "\n"))
 
 -- faces beside their colours
 abbrev pub faces_text : List (List ℕ × List ℕ) → List ℕ

@@ -5,7 +5,7 @@ ghost use Rattle.surf_surfaces.specs.Mesh.{IsFace};
 ghost use Rattle.surf_surfaces.specs.SideNumber.{side_count};
 ghost use Rattle.surf_text.specs.Text.{whole, behind_word, behind_words};
 ghost use Rattle.surf_text.specs.Walks.{text_line};
-ghost use Rattle.surf_off.specs.Off.{size_of, corner_of, corners_at, first_repeat, face_of, faces_at};
+ghost use Rattle.surf_off.specs.Off.{size_of, corner_read, corners_at, first_repeat, face_of, faces_at};
 ghost use Rattle.surf_off.specs.Gives.{Gives};
 ghost use Rattle.surf_off.specs.Seen.{lent};
 
@@ -33,7 +33,7 @@ fn read_size(line: u32, tokens: &mut Tokens) -> Result<u64, OffFault>
 }
 
 fn read_corner(line: u32, vertices: u32, place: u32, token: &[u8]) -> Result<VertexId, OffFault>
-    ensures corner { Gives (λ u. u) result (corner_of line vertices place (whole token.now)) }
+    ensures corner { Gives (λ u. u) result (corner_read line vertices place (whole token.now)) }
     ensures within { IfOk result (λ u. u < vertices) }
 {
     match read_whole(token) {

@@ -3,7 +3,7 @@ ghost use Rattle.std.specs.Prelude.{◌≡◌, ◌<◌, ◌≤◌, ◌^◌, [], 
 ghost use Rattle.std.specs.List.{zip, range_with_len};
 ghost use Rattle.surf_surfaces.specs.SideNumber.{side_count};
 ghost use Rattle.surf_text.specs.Pages.{Puts};
-ghost use Rattle.surf_off.specs.Written.{lines_text, numbers_text, face_text, faces_text, points, no_colours, soup_text, RereadsSoup};
+ghost use Rattle.surf_off.specs.Written.{lines_text, spaced_text, face_text, faces_text, points, no_colours, soup_text, RereadsSoup};
 
 use crate::header::Header;
 use crate::write::write_head;
@@ -23,7 +23,7 @@ fn write_points(page: &mut Page, vertices: u32) -> Result<(), PageFault>
 
 fn write_numbers(page: &mut Page, corners: &[VertexId]) -> Result<(), PageFault>
     requires fits { length page.old.bytes ≤ page.old.most }
-    ensures puts { Puts page.old page.new (numbers_text corners.now) result }
+    ensures puts { Puts page.old page.new (spaced_text corners.now) result }
 {
     for c in corners {
         page.push_pieces(&[Piece::Bytes(b" "), Piece::Whole(c.index() as u128)])?;

@@ -3,7 +3,7 @@ ghost use Rattle.std.specs.Prelude.{◌≡◌, ◌<◌, ◌≤◌, ◌+◌, [], 
 ghost use Rattle.std.specs.List.{All, zip, range_with_len};
 ghost use Rattle.surf_surfaces.specs.Mesh.{IsFace};
 ghost use Rattle.surf_text.specs.Pages.{Puts};
-ghost use Rattle.surf_off.specs.Written.{head_text, lines_text, numbers_text, colour_text, face_text, faces_text, copy_text, copies_text, lines_at, rows_at, AreStarts, opened_text, RereadsOpened};
+ghost use Rattle.surf_off.specs.Written.{head_text, lines_text, spaced_text, colour_text, face_text, faces_text, copy_text, copies_text, lines_at, rows_at, AreStarts, opened_text, RereadsOpened};
 
 use crate::header::Header;
 use crate::text::OffText;
@@ -45,7 +45,7 @@ fn write_lines(page: &mut Page, text: &OffText<'_>, origins: &[VertexId]) -> Res
 
 fn write_corners(page: &mut Page, corners: &[CopyId]) -> Result<(), PageFault>
     requires fits { length page.old.bytes ≤ page.old.most }
-    ensures puts { Puts page.old page.new (numbers_text corners.now) result }
+    ensures puts { Puts page.old page.new (spaced_text corners.now) result }
 {
     for c in corners {
         page.push_pieces(&[Piece::Bytes(b" "), Piece::Whole(c.index() as u128)])?;

@@ -1,9 +1,6 @@
 -- Lines of a few words and numbers.
 use Rattle.std.specs.Prelude.{ℕ, List, ◌++◌, flat_map, codes, decimal}
-
--- each number behind a space
-abbrev pub numbers_text : List ℕ → List ℕ
-numbers_text numbers = flat_map (λ n. codes " " ++ decimal n) numbers
+use Rattle.surf_text.specs.Numbers.{numbers_text}
 
 -- a line that begins with these words and goes on with these numbers
 abbrev pub numbered : List ℕ → List ℕ → List ℕ

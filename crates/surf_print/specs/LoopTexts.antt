@@ -1,7 +1,7 @@
 -- The texts of loops.
 use Rattle.std.specs.Prelude.{ℕ, List, ◌++◌, length, map, sum, flat_map, codes, decimal}
 use Rattle.surf_surfaces.specs.Choice.{Loop}
-use Rattle.surf_print.specs.Lines.{numbers_text}
+use Rattle.surf_text.specs.Numbers.{numbers_text}
 
 -- a length and a walk
 abbrev pub walk_line : ℕ → List ℕ → List ℕ

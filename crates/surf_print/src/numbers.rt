@@ -1,7 +1,7 @@
 //! Texts of answers, put on a page.
 ghost use Rattle.std.specs.Prelude.{◌≡◌, ◌++◌, codes, decimal, List, ℕ, length};
 ghost use Rattle.surf_print.specs.Fills.{Fills};
-ghost use Rattle.surf_print.specs.Lines.{numbers_text};
+ghost use Rattle.surf_text.specs.Numbers.{numbers_text};
 
 use surf_base::VertexId;
 use surf_text::{Page, PageFault};

@@ -10,7 +10,8 @@ use Rattle.std.proofs.lemmas.List.Elements.{recursion_from_All, All-tail}
 use Rattle.std.proofs.lemmas.Map.Made.{IsDistinct-from_AllPairs}
 use Rattle.std.proofs.lemmas.Map.Steps.{length-le_from_distinct_below}
 use Rattle.surf_cert.specs.Fits.{IsNumber, IsParent, TreeFits, IsPair, IsFaceRow, DualFits, LeftFits, LoopFits, BasisFits}
-use Rattle.surf_cert.specs.Written.{head_text, base_line, parent_text, vertex_line, pair_text, face_line, pair_line, numbers_text, cycle_line, tree_text, dual_text, left_text, cycles_text, loop_text, basis_text}
+use Rattle.surf_text.specs.Numbers.{numbers_text}
+use Rattle.surf_cert.specs.Written.{cert_head_text, base_line, parent_text, vertex_line, pair_text, face_line, pair_line, cycle_line, tree_text, dual_text, left_text, cycles_text, loop_text, basis_text}
 use Rattle.surf_surfaces.specs.Cycle.{IsSimpleCycle}
 use Rattle.surf_surfaces.specs.Mesh.{Mesh}
 use Rattle.surf_surfaces.proofs.EdgeLaws.{list_any_at}
@@ -190,7 +191,7 @@ cycles_short mesh (c ∷ cs) few all =
 -- ---- certificates
 
 head_short : (word : List ℕ) (v f k : ℕ) → length word ≤ 5 → IsNumber v → IsNumber f → IsNumber k →
-    length (head_text word v f k) ≤ 60
+    length (cert_head_text word v f k) ≤ 60
 head_short word v f k small few_v few_f few_k =
     let first = length-append (codes "SURFCERT 1 ")
     (word ++ (codes "\ncounts " ++ (decimal v ++
@@ -212,7 +213,7 @@ loop_text_short cert fits few_v few_f few_k =
     let head = head_short (codes "loops") (length cert.tree.distance) (length cert.dual.depth) (length cert.left)
     (omega arith) fits.vertices fits.faces fits.count in
     let all =
-    length_of_four (head_text (codes "loops") (length cert.tree.distance) (length cert.dual.depth)
+    length_of_four (cert_head_text (codes "loops") (length cert.tree.distance) (length cert.dual.depth)
     (length cert.left)) (tree_text cert.tree) (dual_text cert.dual)
     (left_text cert.left) in
     let tree = tree_short (length cert.tree.distance) cert.tree fits.tree in
@@ -229,7 +230,7 @@ basis_text_short mesh cert fits few few_v few_f few_k simple =
     (omega arith) fits.vertices fits.faces fits.count in
     let rest = dual_text cert.dual ++ (left_text cert.left ++ cycles_text cert.cycles) in
     let all =
-    length_of_three (head_text (codes "basis") (length cert.trees) (length cert.dual.depth) (length cert.left))
+    length_of_three (cert_head_text (codes "basis") (length cert.trees) (length cert.dual.depth) (length cert.left))
     (flat_map tree_text cert.trees) rest in
     let parts = length_of_three (dual_text cert.dual) (left_text cert.left) (cycles_text cert.cycles) in
     let trees = trees_short (length cert.trees) cert.trees few_v

@@ -13,7 +13,7 @@ use Rattle.surf_text.specs.Pages.{PageState, grown, Stops}
 use Rattle.surf_text.specs.declared.page.PageFault.{PageFault}
 use Rattle.surf_validity.specs.Rows.{LoopCert, BasisCert}
 use Rattle.surf_validity.specs.Bases.{IsValidBasis}
-use Rattle.surf_validity.specs.Chosen.{cert_of}
+use Rattle.surf_validity.specs.Chosen.{chosen_cert}
 use Rattle.surf_validity.specs.Valid.{IsValidLoops}
 use Rattle.surf_run.specs.Certificates.{GivesLoopCert, GivesBasisCert}
 use Rattle.surf_run.specs.Limits.{beyond}
@@ -25,7 +25,7 @@ use Rattle.surf_run.proofs.CutLaws.{overfills_from_stops}
 use Rattle.surf_run.proofs.Saying.{blank, says_whole, says_beyond, why_overfilled}
 
 pub gives_loop_cert : (mesh : Mesh) (lengths : List ℕ) (base : ℕ) (t : LoopTables) (cert : LoopCert) → IsGreedy mesh lengths base t →
-    cert ≡ cert_of mesh (trees_of t) → IsValidLoops mesh lengths cert → (o : Outcome) → Says (loop_text cert) o → GivesLoopCert mesh lengths base o
+    cert ≡ chosen_cert mesh (trees_of t) → IsValidLoops mesh lengths cert → (o : Outcome) → Says (loop_text cert) o → GivesLoopCert mesh lengths base o
 gives_loop_cert mesh lengths base t cert greedy is valid o says = record {
   trees = trees_of t;
   chosen = greedy.chosen;

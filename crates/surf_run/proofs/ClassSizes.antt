@@ -6,8 +6,8 @@ use Rattle.std.proofs.lemmas.Bool.{cases_order}
 use Rattle.std.proofs.lemmas.List.{get_or_default, get_or-map, length-map}
 use Rattle.std.proofs.lemmas.List.Elements.{recursion_from_All}
 use Rattle.surf_cert.specs.Fits.{IsNumber, IsPair}
-use Rattle.surf_cert.specs.Written.{numbers_text}
-use Rattle.surf_class.specs.Texts.{head_text, both_ends, evidence_text, EvidenceFits}
+use Rattle.surf_text.specs.Numbers.{numbers_text}
+use Rattle.surf_class.specs.Texts.{evidence_head_text, both_ends, evidence_text, EvidenceFits}
 use Rattle.surf_classes.specs.Evidence.{Evidence, null_faces, odd_pairs, IsEvidence}
 use Rattle.surf_surfaces.proofs.EdgeLaws.{edges-rise, rising_at, among-contains}
 use Rattle.surf_surfaces.proofs.LawProofs.{edges_are_numbered}
@@ -109,9 +109,9 @@ module _ (mesh : Mesh) (is_mesh : IsMesh mesh) where
     -- ---- its line is short
 
     line_short : (word : List ℕ) (n : ℕ) (ns : List ℕ) → length word ≤ 4 → IsNumber n → AllByRecursion IsNumber ns →
-        length (head_text word n ++ (numbers_text ns ++ codes "\n")) ≤ 16 + 11 * length ns
+        length (evidence_head_text word n ++ (numbers_text ns ++ codes "\n")) ≤ 16 + 11 * length ns
     line_short word n ns small count all =
-        let whole = length_of_three (head_text word n) (numbers_text ns) (codes "\n") in
+        let whole = length_of_three (evidence_head_text word n) (numbers_text ns) (codes "\n") in
         let head = length_of_three word (codes " ") (decimal n) in
         let digits = number_short n count in
         let numbers = numbers_short ns all in

@@ -4,17 +4,17 @@ use Rattle.std.specs.Prelude.{nat_lt, sum}
 use Rattle.std.specs.List.{flat_map}
 use Rattle.std.proofs.lemmas.Bool.{cases_lt, lt-ltb, le-ltb}
 use Rattle.surf_surfaces.specs.Mesh.{Mesh}
-use Rattle.surf_surfaces.specs.Surface.{IsSurface, face_count, edge_count}
+use Rattle.surf_surfaces.specs.Surface.{IsSurface, face_count, edge_count, loop_count}
 use Rattle.surf_surfaces.specs.Walk.{ArePositive}
 use Rattle.surf_surfaces.specs.Choice.{Trees, AreChosen, Loop, candidates}
 use Rattle.surf_validity.proofs.OneBasis.{candidates_are_one}
 use Rattle.surf_base.specs.declared.limits.LimitKind.{LimitKind}
 use Rattle.surf_base.specs.declared.limits.LimitKind.TheVariants.{Loops}
-use Rattle.surf_basis.specs.Cycles.{loops_of}
+use Rattle.surf_basis.specs.Cycles.{as_loops}
 use Rattle.surf_basis.specs.declared.cycle.Cycle.{Cycle}
 use Rattle.surf_print.specs.CycleTexts.{cycle_line, cycles_head, cycles_text}
-use Rattle.surf_run.specs.CycleTexts.{line_of}
-use Rattle.surf_run.specs.Given.{loop_count, looped, HasFewLoops, HasFewVertices}
+use Rattle.surf_run.specs.CycleTexts.{cycle_found_line}
+use Rattle.surf_run.specs.Given.{looped, HasFewLoops, HasFewVertices}
 use Rattle.surf_run.specs.Limits.{beyond}
 use Rattle.surf_run.specs.Outcome.{Outcome}
 
@@ -51,20 +51,20 @@ few_vertices limit mesh few = let t : nat_lt limit.1 mesh.vertices ≡ false = l
 
 -- ---- texts
 
-pub as_long : (cs : List Cycle) → map (λ c. c.size) (loops_of cs) ≡ map (λ c. c.length) cs
+pub as_long : (cs : List Cycle) → map (λ c. c.size) (as_loops cs) ≡ map (λ c. c.length) cs
 as_long [] = refl
 as_long (c ∷ cs) = ap (λ xs. c.length ∷ xs) (as_long cs)
 
-as_many : (cs : List Cycle) → length (loops_of cs) ≡ length cs
+as_many : (cs : List Cycle) → length (as_loops cs) ≡ length cs
 as_many [] = refl
 as_many (c ∷ cs) = let rest = as_many cs in omega (arith, rest)
 
-same_lines : (cs : List Cycle) → flat_map (λ c. cycle_line c.size c.walk) (loops_of cs) ≡ flat_map line_of cs
+same_lines : (cs : List Cycle) → flat_map (λ c. cycle_line c.size c.walk) (as_loops cs) ≡ flat_map cycle_found_line cs
 same_lines [] = refl
-same_lines (c ∷ cs) = ap (λ xs. line_of c ++ xs) (same_lines cs)
+same_lines (c ∷ cs) = ap (λ xs. cycle_found_line c ++ xs) (same_lines cs)
 
-pub text_of_cycles : (cs : List Cycle) → cycles_text (loops_of cs) ≡ cycles_head (length cs) (sum (map (λ c. c.length) cs)) ++ flat_map line_of cs
+pub text_of_cycles : (cs : List Cycle) → cycles_text (as_loops cs) ≡ cycles_head (length cs) (sum (map (λ c. c.length) cs)) ++ flat_map cycle_found_line cs
 text_of_cycles cs =
-    ap (λ n. cycles_head n (sum (map (λ c. c.size) (loops_of cs))) ++ flat_map (λ c. cycle_line c.size c.walk) (loops_of cs)) (as_many cs)
-    ∙ ap (λ xs. cycles_head (length cs) (sum xs) ++ flat_map (λ c. cycle_line c.size c.walk) (loops_of cs)) (as_long cs)
+    ap (λ n. cycles_head n (sum (map (λ c. c.size) (as_loops cs))) ++ flat_map (λ c. cycle_line c.size c.walk) (as_loops cs)) (as_many cs)
+    ∙ ap (λ xs. cycles_head (length cs) (sum xs) ++ flat_map (λ c. cycle_line c.size c.walk) (as_loops cs)) (as_long cs)
     ∙ ap (λ xs. cycles_head (length cs) (sum (map (λ c. c.length) cs)) ++ xs) (same_lines cs)

@@ -10,7 +10,7 @@ use Rattle.surf_surfaces.proofs.ChoiceExists.{choice_exists}
 use Rattle.surf_surfaces.proofs.ShortestWalkLaws.{first_of_basis_is_shortest_not_null, shortest_not_null_is_nonseparating}
 use Rattle.surf_lengths.specs.Lengths.{AreLengths}
 use Rattle.surf_lengths.proofs.Positive.{lengths_positive}
-use Rattle.surf_basis.specs.Cycles.{loop_of, IsTheBasis, IsFirstCandidate, IsShortestCycle, AllSeparate}
+use Rattle.surf_basis.specs.Cycles.{as_loop, IsTheBasis, IsFirstCandidate, IsShortestCycle, AllSeparate}
 use Rattle.surf_basis.specs.declared.cycle.Cycle.{Cycle}
 use Rattle.surf_print.specs.CycleTexts.{cycles_text}
 use Rattle.surf_run.specs.CycleTexts.{found_text}
@@ -47,15 +47,15 @@ module _ (mesh : Mesh) (lengths : List ℕ) (surface : IsSurface mesh) (are : Ar
       (found ≡ None) ↔ AllSeparate mesh → (o : Outcome) → Says (found_text found) o → GivesCycle mesh lengths o
   gives_cycle None first shortest separate o says = inr (record { separate = separate.0 refl; says = says })
   gives_cycle (Some c) first shortest separate o says =
-      let b = first_listed (loop_of c) (candidates mesh lengths some.0) (first some.0 some.1) in
+      let b = first_listed (as_loop c) (candidates mesh lengths some.0) (first some.0 some.1) in
       inl (record {
         trees = some.0;
         chosen = some.1;
-        first = loop_of c;
+        first = as_loop c;
         rest = b.0;
         is_first = b.1;
         shortest = shortest.shortest;
-        not_null = (shortest_not_null_is_nonseparating mesh lengths (loop_of c).walk surface long).1 shortest.shortest;
+        not_null = (shortest_not_null_is_nonseparating mesh lengths (as_loop c).walk surface long).1 shortest.shortest;
         size = shortest.size;
         says = says;
       })

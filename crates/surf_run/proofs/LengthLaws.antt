@@ -6,7 +6,7 @@ use Rattle.std.specs.Prelude.{unwrap_or}
 use Rattle.surf_text.specs.Text.{TextLine, lines_of}
 use Rattle.surf_surfaces.specs.Mesh.{Mesh}
 use Rattle.surf_surfaces.specs.Surface.{edge_count}
-use Rattle.surf_lengths.specs.Files.{Named, none_named, name_edge, name_line, all_named, missing_edge, when_read, behind_head, Head, head_of, lengths_in}
+use Rattle.surf_lengths.specs.Files.{Named, none_named, name_edge, name_line, all_named, missing_edge, when_read, behind_head, Head, length_head, lengths_in}
 use Rattle.surf_lengths.specs.Lines.{entry_of}
 use Rattle.surf_lengths.specs.declared.fault.LengthFault.{LengthFault}
 use Rattle.surf_lengths.specs.declared.fault.LengthFault.TheVariants.{Twice}
@@ -47,7 +47,7 @@ read_sized mesh default (Ok named) sized = pick (missing_edge default named.line
     pick (Some e) = tt
 
 pub lengths_sized : (mesh : Mesh) (text : List ℕ) → IsSized mesh (lengths_in mesh text)
-lengths_sized mesh text = at (head_of (lines_of text))
+lengths_sized mesh text = at (length_head (lines_of text))
   where
     at : (r : Result Head LengthFault) → IsSized mesh (behind_head mesh r)
     at (Err fault) = tt

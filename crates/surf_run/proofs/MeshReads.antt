@@ -12,7 +12,7 @@ use Rattle.surf_surfaces.specs.SideNumber.{side_count}
 use Rattle.surf_surfaces.specs.Surface.{face_count}
 use Rattle.surf_text.specs.Text.{TextLine, is_blank, is_line_end, uncommented, trimmed_front, before_some, trimmed_back, trimmed, behind_word, behind_words, rest_after, tokens_of, onto_lines, numbered_from, lines_of, whole}
 use Rattle.surf_off.specs.Clean.{IsOffParts}
-use Rattle.surf_off.specs.Off.{Head, head_with, head_if, head_on, head_of, counts_of, with_line, vertices_at, size_of, few_sides, corner_of, corners_at, first_repeat, distinct, Face, face_of, FaceLines, with_face, faces_at, OffParts, ended, off_in, off_of}
+use Rattle.surf_off.specs.Off.{Head, head_with, head_if, head_on, head_of, counts_of, with_line, vertices_at, size_of, few_sides, corner_read, corners_at, first_repeat, distinct, Face, face_of, FaceLines, with_face, faces_at, OffParts, ended, off_in, off_of}
 use Rattle.surf_off.specs.Keywords.{header_of}
 use Rattle.surf_off.specs.declared.fault.OffFault.{OffFault}
 use Rattle.surf_off.specs.declared.header.Header.{Header}
@@ -200,8 +200,8 @@ corners_count : (n v place : ℕ) (words : List (List ℕ)) →
 unfolding corners_at
 corners_count n v place [] = refl
 corners_count n v place (w ∷ ws) =
-    then_holds (λ u. Unit {0}) (λ us. length us ≡ suc (length ws)) (corner_of n v place (whole w)) _
-    (anything (corner_of n v place (whole w)))
+    then_holds (λ u. Unit {0}) (λ us. length us ≡ suc (length ws)) (corner_read n v place (whole w)) _
+    (anything (corner_read n v place (whole w)))
     (λ u _. then_holds (λ us. length us ≡ length ws) (λ us. length us ≡ suc (length ws))
     (corners_at n v (place + 1) ws) _ (corners_count n v (place + 1) ws)
     (λ us is. ap suc is))

@@ -21,7 +21,8 @@ use Rattle.surf_lengths.specs.declared.fault.LengthFault.TheVariants as lengths
 use Rattle.surf_off.specs.declared.fault.OffFault.{OffFault}
 use Rattle.surf_off.specs.declared.fault.OffFault.TheVariants as off
 use Rattle.surf_off.proofs.NumberLines.{none_append}
-use Rattle.surf_print.specs.Lines.{numbers_text, numbered}
+use Rattle.surf_text.specs.Numbers.{numbers_text}
+use Rattle.surf_print.specs.Lines.{numbered}
 use Rattle.surf_sew.specs.declared.copies.CopyFault.{CopyFault}
 use Rattle.surf_sew.specs.declared.copies.CopyFault.TheVariants as copies
 use Rattle.surf_sew.specs.declared.fault.SewFault.{SewFault}

@@ -6,13 +6,13 @@ use Rattle.surf_base.specs.Outside.{Files, bytes_of}
 use Rattle.surf_base.specs.declared.limits.LimitKind.{LimitKind}
 use Rattle.surf_base.specs.declared.limits.LimitKind.TheVariants as limits
 use Rattle.surf_surfaces.specs.Mesh.{Mesh}
-use Rattle.surf_surfaces.specs.Surface.{edge_count}
+use Rattle.surf_surfaces.specs.Surface.{edge_count, loop_count}
 use Rattle.surf_lengths.specs.Files.{lengths_in}
 use Rattle.surf_lengths.specs.declared.fault.LengthFault.{LengthFault}
 use Rattle.surf_off.specs.Off.{OffParts, off_of}
 use Rattle.surf_off.specs.declared.fault.OffFault.{OffFault}
 use Rattle.surf_run.specs.Cause.{Cause, due, unread, starved, outcome_of}
-use Rattle.surf_run.specs.Given.{loop_count, looped, searchable, IsFewLoopedText, IsSearchableText, IsMeasured, IsWeighted}
+use Rattle.surf_run.specs.Given.{looped, searchable, IsFewLoopedText, IsSearchableText, IsMeasured, IsWeighted}
 use Rattle.surf_run.specs.Limits.{beyond}
 use Rattle.surf_run.specs.MeshTexts.{read_outcome, off_cause}
 use Rattle.surf_run.specs.Outcome.{Outcome, answers, refuses, misses, status_of, Shows}

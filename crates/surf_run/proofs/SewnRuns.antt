@@ -13,7 +13,7 @@ use Rattle.surf_base.specs.declared.limits.LimitKind.TheVariants.{Text}
 use Rattle.surf_disc.proofs.TableLaws.{edges_within}
 use Rattle.surf_off.specs.Off.{OffParts, off_of, off_without_limits}
 use Rattle.surf_off.specs.Keywords.{keyword}
-use Rattle.surf_off.specs.Written.{head_text, lines_text, numbers_text, colour_text, face_text, faces_text, mesh_text}
+use Rattle.surf_off.specs.Written.{head_text, lines_text, spaced_text, colour_text, face_text, faces_text, mesh_text}
 use Rattle.surf_off.specs.declared.header.Header.{Header}
 use Rattle.surf_off.specs.declared.header.Header.TheVariants.{Off, Coff, Noff, Cnoff, Stoff, Stcoff, Stnoff, Stcnoff}
 use Rattle.surf_sew.specs.Copies.{copies_in}
@@ -38,7 +38,7 @@ use Rattle.surf_run.specs.Reading.{Reads, within_text}
 use Rattle.surf_run.specs.Sewing.{copied, sewn}
 use Rattle.surf_run.specs.Tasks.{Performs, OnSurface, OnText}
 use Rattle.surf_run.specs.TwoRuns.{CanBeRead, IsSewnBack, CutsAreSewn}
-use Rattle.surf_run.specs.Words.{number_of, cut_task, weighted_request}
+use Rattle.surf_run.specs.Words.{word_number, cut_task, weighted_request}
 use Rattle.surf_run.specs.declared.cut_command.CutKind.TheVariants.{Full, Trimmed}
 use Rattle.surf_run.specs.declared.weighted.Task.{Task}
 use Rattle.surf_run.specs.declared.weighted.Task.TheVariants.{Distances, LeastLoops, LoopCertificate, Cut}
@@ -86,10 +86,10 @@ lines_short (line ∷ lines) =
     let rest = lines_short lines in
     omega (arith, whole, here, more, rest)
 
-numbers_short : (ns : List ℕ) → AllByRecursion (λ n. n < 1000000) ns → length (numbers_text ns) ≤ 8 * length ns
+numbers_short : (ns : List ℕ) → AllByRecursion (λ n. n < 1000000) ns → length (spaced_text ns) ≤ 8 * length ns
 numbers_short [] all = omega arith
 numbers_short (n ∷ ns) all =
-    let whole = length-append (codes " " ++ decimal n) (numbers_text ns) in
+    let whole = length-append (codes " " ++ decimal n) (spaced_text ns) in
     let front = length-append (codes " ") (decimal n) in
     let below = all.0 in
     let here = count_short n (omega (arith, below)) in
@@ -107,7 +107,7 @@ IsSmallFace face = AllByRecursion (λ n. n < 1000000) face × (length face ≤ 6
 face_short : (face colour : List ℕ) → IsSmallFace face →
     length (face_text face colour) ≤ 9 + 8 * length face + length colour
 face_short face colour small =
-    let line = length_of_four (decimal (length face)) (numbers_text face) (colour_text colour) (codes "\n") in
+    let line = length_of_four (decimal (length face)) (spaced_text face) (colour_text colour) (codes "\n") in
     let size = count_short (length face) small.1 in
     let numbers = numbers_short face small.0 in
     let last = colour_short colour in
@@ -339,7 +339,7 @@ is_cut false false = tt
 pub cuts_are_sewn : CutsAreSewn
 unfolding Leads
 cuts_are_sewn files later mesh lengths base kind disc text (o, leads, shows) held can =
-    at (cut_task (codes "cut") kind) (number_of base)
+    at (cut_task (codes "cut") kind) (word_number base)
     (is_cut (bytes_eq kind (codes "full")) (bytes_eq kind (codes "trim"))) leads
   where
     low : status_of o ≤ 1

@@ -2,13 +2,12 @@
 use Rattle.std.proofs.Common.{◌≡◌, ℕ, ◌-◌, ◌*◌, ◌/◌, ◌≤◌, sym, subst, arith, inl, inr}
 use Rattle.std.proofs.lemmas.Nat.{mul-le}
 use Rattle.surf_surfaces.specs.Mesh.{Mesh}
-use Rattle.surf_surfaces.specs.Surface.{face_count, edge_count, IsSurface}
+use Rattle.surf_surfaces.specs.Surface.{face_count, edge_count, IsSurface, loop_count}
 use Rattle.surf_surfaces.proofs.CountLaws.{sizes_twice}
 use Rattle.surf_surfaces.specs.SideNumber.{side_count}
 use Rattle.surf_tori.specs.Chain.{chain}
 use Rattle.surf_tori.proofs.TorusLaws.{tori_have_counts}
 use Rattle.surf_tori.proofs.ChainLaws.{chains_have_counts}
-use Rattle.surf_run.specs.Given.{loop_count}
 use Rattle.surf_run.specs.Shapes.{Shape, IsShape, mesh_of}
 
 -- the counts of a chain of g tori of a rows and b columns

@@ -7,18 +7,18 @@ use Rattle.std.proofs.lemmas.List.FromFn.{get_or-map-range_with_len}
 use Rattle.surf_base.specs.declared.limits.LimitKind.TheVariants as limits
 use Rattle.surf_gen.specs.Made.{made_length, made_values}
 use Rattle.surf_surfaces.specs.Mesh.{Mesh}
-use Rattle.surf_surfaces.specs.Surface.{face_count, edge_count, IsSurface}
+use Rattle.surf_surfaces.specs.Surface.{face_count, edge_count, IsSurface, loop_count}
 use Rattle.surf_surfaces.specs.Walk.{ArePositive}
 use Rattle.surf_tori.specs.Chain.{chain}
 use Rattle.surf_tori.proofs.ChainLaws.{chains_are_surfaces}
 use Rattle.surf_tori.proofs.TorusLaws.{tori_are_surfaces}
-use Rattle.surf_run.specs.Given.{loop_count, searchable}
+use Rattle.surf_run.specs.Given.{searchable}
 use Rattle.surf_run.specs.Limits.{beyond}
 use Rattle.surf_run.specs.Making.{made}
 use Rattle.surf_run.specs.Outcome.{Outcome}
 use Rattle.surf_run.specs.Shapes.{Shape, IsShape, mesh_of, torus_shape, chain_shape, torus_named, chain_named}
 use Rattle.surf_run.specs.Trying.{searched, then_searched, IsTried}
-use Rattle.surf_run.specs.Words.{Request, help, version, info, disc, tries, checks, sews, classes, compares, confirms, tightens, number_of, task_of, cut_task, weighted_request, cycle_task, cycles_request, shape_request, measures_request, decimals_of, tried_request, torus_words, chain_words, three_words, four_words, five_words, six_words, request_of}
+use Rattle.surf_run.specs.Words.{Request, help, version, info, disc, tries, checks, sews, classes, compares, confirms, tightens, word_number, task_of, cut_task, weighted_request, cycle_task, cycles_request, shape_request, measures_request, decimals_of, tried_request, torus_words, chain_words, three_words, four_words, five_words, six_words, request_of}
 use Rattle.surf_run.specs.declared.cycles.CycleTask.{CycleTask}
 use Rattle.surf_run.specs.declared.weighted.Task.{Task}
 
@@ -115,24 +115,24 @@ four_is word second third fourth =
     (either (bytes_eq word (codes "same")) (Some (compares second third fourth)) _ tt
     (either (bytes_eq word (codes "confirm")) (Some (confirms second third fourth)) _ tt
     (either (bytes_eq word (codes "shortest")) (Some (tightens second third fourth)) _ tt
-    (weighted_is (task_of word) second third (number_of fourth))))))
+    (weighted_is (task_of word) second third (word_number fourth))))))
 
 five_is : (word second third fourth fifth : List ℕ) → IsWellShaped (five_words word second third fourth fifth)
 five_is word second third fourth fifth =
     either (bytes_eq word (codes "gen")) (shape_request (chain_words second third fourth fifth)) _
     (made_is (chain_words second third fourth fifth))
-    (either (bytes_eq word (codes "try")) (tried_request (torus_words second third fourth) (number_of fifth)) _
-    (tried_is (torus_words second third fourth) (number_of fifth)
-    (if_shape (bytes_eq second (codes "torus")) (torus_named (number_of third) (number_of fourth))
-    (torus_is (number_of third) (number_of fourth))))
-    (weighted_is (cut_task word fifth) second third (number_of fourth)))
+    (either (bytes_eq word (codes "try")) (tried_request (torus_words second third fourth) (word_number fifth)) _
+    (tried_is (torus_words second third fourth) (word_number fifth)
+    (if_shape (bytes_eq second (codes "torus")) (torus_named (word_number third) (word_number fourth))
+    (torus_is (word_number third) (word_number fourth))))
+    (weighted_is (cut_task word fifth) second third (word_number fourth)))
 
 six_is : (word second third fourth fifth sixth : List ℕ) → IsWellShaped (six_words word second third fourth fifth sixth)
 six_is word second third fourth fifth sixth =
-    either (bytes_eq word (codes "try")) (tried_request (chain_words second third fourth fifth) (number_of sixth)) None
-    (tried_is (chain_words second third fourth fifth) (number_of sixth)
-    (if_shape (bytes_eq second (codes "chain")) (chain_named (number_of third) (number_of fourth) (number_of fifth))
-    (chain_is (number_of third) (number_of fourth) (number_of fifth))))
+    either (bytes_eq word (codes "try")) (tried_request (chain_words second third fourth fifth) (word_number sixth)) None
+    (tried_is (chain_words second third fourth fifth) (word_number sixth)
+    (if_shape (bytes_eq second (codes "chain")) (chain_named (word_number third) (word_number fourth) (word_number fifth))
+    (chain_is (word_number third) (word_number fourth) (word_number fifth))))
     tt
 
 pub words_are_well_shaped : (words : List (List ℕ)) → IsWellShaped (request_of words)

@@ -10,7 +10,7 @@ use Rattle.surf_surfaces.specs.Mesh.{Mesh}
 use Rattle.surf_surfaces.specs.Signature.{edge_signature}
 use Rattle.surf_surfaces.specs.Surface.{edge_count, face_count}
 use Rattle.surf_cotree.specs.Grown.{IsMarked}
-use Rattle.surf_cotree.specs.Tables.{CotreeTables, IsMadeFor, parent_edge_of, split_with, tree_of as cotree_of}
+use Rattle.surf_cotree.specs.Tables.{CotreeTables, AreCotreeTables, parent_edge_of, split_with, tree_of as cotree_of}
 use Rattle.surf_graphs.specs.Cells.{IsSplit, Split}
 use Rattle.surf_graphs.specs.Trees.{Tree}
 use Rattle.surf_loops.specs.Loops.{LoopTables, IsGreedy, trees_of}
@@ -19,7 +19,7 @@ use Rattle.surf_z2.specs.Space.{Chain}
 use Rattle.surf_run.specs.SignedDesks.{IsChosenDesk}
 
 module _ (mesh : Mesh) (lengths : List ℕ) (t new : LoopTables) (greedy : IsGreedy mesh lengths 0 t)
-    (rest : new ≡ record t { cotree = record t.cotree { signatures = new.cotree.signatures } }) (made : IsMadeFor mesh new.cotree)
+    (rest : new ≡ record t { cotree = record t.cotree { signatures = new.cotree.signatures } }) (made : AreCotreeTables mesh new.cotree)
     (signed : (tree : Tree) → IsSplit (cells_of mesh) (split_with tree new.cotree) →
     new.cotree.signatures ≡ map (edge_signature mesh (split_with tree new.cotree)) (range_with_len 0 (edge_count mesh)))
     (few : edge_count mesh + 2 ≤ mesh.vertices + face_count mesh + 1024) where

@@ -7,7 +7,7 @@ use Rattle.surf_surfaces.specs.ChoiceLaws.{LeastSimpleBasis}
 use Rattle.surf_surfaces.proofs.ChoiceExists.{choice_exists}
 use Rattle.surf_lengths.specs.Lengths.{AreLengths}
 use Rattle.surf_lengths.proofs.Positive.{lengths_positive}
-use Rattle.surf_basis.specs.Cycles.{loop_of, IsTheBasis, IsFirstCandidate, IsShortestCycle}
+use Rattle.surf_basis.specs.Cycles.{as_loop, IsTheBasis, IsFirstCandidate, IsShortestCycle}
 use Rattle.surf_basis.specs.declared.cycle.Cycle.{Cycle}
 use Rattle.surf_run.specs.Cause.{Cause, due, unread, starved}
 use Rattle.surf_run.specs.Info.{Informs}
@@ -38,11 +38,11 @@ module _ (mesh : Mesh) (lengths : List ℕ) (surface : IsSurface mesh) (are : Ar
   -- a first candidate that was found
   pub measures_so : (c : Cycle) → IsFirstCandidate mesh lengths (Some c) → IsShortestCycle mesh lengths c → CycleMeasures mesh lengths c.length
   measures_so c first shortest =
-      let b = first_listed (loop_of c) (candidates mesh lengths some.0) (first some.0 some.1) in
+      let b = first_listed (as_loop c) (candidates mesh lengths some.0) (first some.0 some.1) in
       record {
         trees = some.0;
         chosen = some.1;
-        first = loop_of c;
+        first = as_loop c;
         rest = b.0;
         is_first = b.1;
         shortest = shortest.shortest;

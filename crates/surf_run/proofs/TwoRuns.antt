@@ -6,7 +6,7 @@ use Rattle.std.proofs.lemmas.List.Elements.{All-get_or, All-nil}
 use Rattle.surf_base.specs.Outside.{Files, bytes_of}
 use Rattle.surf_base.specs.declared.limits.LimitKind.{LimitKind}
 use Rattle.surf_base.specs.declared.limits.LimitKind.TheVariants.{BasisVertices, CertificateVertices}
-use Rattle.surf_cert.specs.Grammar.{cert_of as cert_in}
+use Rattle.surf_cert.specs.Grammar.{chosen_cert as cert_in}
 use Rattle.surf_cert.specs.Written.{loop_text, basis_text}
 use Rattle.surf_cert.specs.declared.cert.Cert.{Cert}
 use Rattle.surf_cert.specs.declared.cert.Cert.TheVariants.{Loops, Basis}
@@ -25,7 +25,7 @@ use Rattle.surf_lengths.specs.Lengths.{IsLength, AreLengths}
 use Rattle.surf_lengths.proofs.Positive.{lengths_positive}
 use Rattle.surf_off.specs.Off.{OffParts, off_of}
 use Rattle.surf_off.specs.declared.fault.OffFault.{OffFault}
-use Rattle.surf_validity.specs.Chosen.{cert_of, basis_cert_of}
+use Rattle.surf_validity.specs.Chosen.{chosen_cert, basis_cert_of}
 use Rattle.surf_validity.proofs.BasisLaws.{valid_bases_are_least}
 use Rattle.surf_validity.proofs.ChosenTotals.{chosen_loops_total, chosen_basis_total}
 use Rattle.surf_validity.proofs.LoopLaws.{valid_loops_are_least}
@@ -45,7 +45,7 @@ use Rattle.surf_run.specs.Summaries.{total_size}
 use Rattle.surf_run.specs.Tasks.{Performs, OnSurface, OnText}
 use Rattle.surf_run.specs.TwoRuns.{LoopsPass, BasisPasses, CertifiedLoopsPass, CertifiedBasesPass}
 use Rattle.surf_run.specs.Verdicts.{loops_line, basis_line}
-use Rattle.surf_run.specs.Words.{number_of, weighted_request, request_of}
+use Rattle.surf_run.specs.Words.{word_number, weighted_request, request_of}
 use Rattle.surf_run.specs.declared.cycles.CycleTask.TheVariants.{BasisCertificate}
 use Rattle.surf_run.specs.declared.weighted.Task.TheVariants.{LeastLoops, LoopCertificate}
 use Rattle.surf_run.proofs.CertSizes.{loop_text_short, basis_text_short}
@@ -109,16 +109,16 @@ read_again files cert text held short =
 module _ (files : Files) (mesh lengths cert text : List ℕ) (held : bytes_of files cert ≡ Some text) where
   -- ---- loops
 
-  module _ (base : List ℕ) (o : Outcome) (b : ℕ) (is_base : number_of base ≡ Some b) (bytes : List ℕ) (reads : Reads mesh files (Ok bytes))
+  module _ (base : List ℕ) (o : Outcome) (b : ℕ) (is_base : word_number base ≡ Some b) (bytes : List ℕ) (reads : Reads mesh files (Ok bytes))
       (read : OffParts × Mesh) (looped : IsFewLoopedText true bytes (Ok read)) (given : List ℕ × ℕ) (weighted : IsWeighted lengths b read.1 files (Ok given))
-      (gives : GivesLoopCert read.1 given.0 given.1 o) (text_is : text ≡ loop_text (cert_of read.1 gives.trees)) where
+      (gives : GivesLoopCert read.1 given.0 given.1 o) (text_is : text ≡ loop_text (chosen_cert read.1 gives.trees)) where
     loops_long : ArePositive read.1 given.0
     loops_long = lengths_positive read.1 given.0 weighted.2 weighted.3
 
     -- the certificate isn't too long to be read
     loops_short : length text ≤ 268435456
     loops_short =
-        let c = cert_of read.1 gives.trees in
+        let c = chosen_cert read.1 gives.trees in
         let few = mesh_texts_are_few bytes read (read_back read (off_of bytes) looped.0.0) in
         let shape = gives.valid.shape in
         let distances : length c.tree.distance ≡ read.1.vertices = shape.distances in
@@ -161,7 +161,7 @@ module _ (files : Files) (mesh lengths cert text : List ℕ) (held : bytes_of fi
     loops_pass : Answer (codes "check" ∷ mesh ∷ lengths ∷ cert ∷ []) files 0 (loops_line (total_size the_loops)) []
     unfolding Leads
     loops_pass =
-        let c = cert_of read.1 gives.trees in
+        let c = chosen_cert read.1 gives.trees in
         let again =
         chosen_loops_again read.1 given.0 given.1 gives.trees looped.0.1 loops_long (numbers_of bytes read given.0 looped weighted.2 weighted.3) gives.chosen in
         let least = valid_loops_are_least read.1 given.0 c looped.0.1 loops_long again.1 in
@@ -306,12 +306,12 @@ loops_pass_there : (files : Files) (mesh lengths base cert text : List ℕ) →
     Answer (codes "certify" ∷ mesh ∷ lengths ∷ base ∷ []) files 0 text [] → bytes_of files cert ≡ Some text →
     LoopsPass files mesh lengths base cert
 unfolding Leads
-loops_pass_there files mesh lengths base cert text (o, leads, shows) held = at (number_of base) refl leads
+loops_pass_there files mesh lengths base cert text (o, leads, shows) held = at (word_number base) refl leads
   where
     low : status_of o ≤ 1
     low = shown_low o text [] shows
 
-    at : (x : Option ℕ) → number_of base ≡ x → OnRequest (weighted_request (Some LoopCertificate) mesh lengths x) files o → LoopsPass files mesh lengths base cert
+    at : (x : Option ℕ) → word_number base ≡ x → OnRequest (weighted_request (Some LoopCertificate) mesh lengths x) files o → LoopsPass files mesh lengths base cert
     at None is on = absurd (let low_status = low in let status = ap status_of on in omega (arith, low_status, status))
     at (Some b) is on =
         let (bytes, reads, on_text) = goes_on (Reads mesh files) (λ x. OnText LoopCertificate x lengths b files) o (reads_refuses mesh files) low on in
@@ -319,7 +319,7 @@ loops_pass_there files mesh lengths base cert text (o, leads, shows) held = at (
         goes_on (IsFewLoopedText true bytes) (λ x. OnSurface LoopCertificate x lengths b files) o (looped_refuses true bytes) low on_text in
         let (given, weighted, gives) =
         goes_on (IsWeighted lengths b read.1 files) (Performs LoopCertificate read) o (weighted_refuses lengths b read.1 files) low on_surface in
-        let text_is = shown_text (loop_text (cert_of read.1 gives.trees)) o text gives.says shows in (
+        let text_is = shown_text (loop_text (chosen_cert read.1 gives.trees)) o text gives.says shows in (
           the_loops files mesh lengths cert text held base o b is bytes reads read looped given weighted gives text_is,
           loops_said files mesh lengths cert text held base o b is bytes reads read looped given weighted gives text_is,
           loops_pass files mesh lengths cert text held base o b is bytes reads read looped given weighted gives text_is,
@@ -353,7 +353,7 @@ answered_there words files later text (o, leads, shows) same =
 pub certified_loops_pass : CertifiedLoopsPass
 certified_loops_pass files later mesh lengths base cert text answer same held =
     loops_pass_there later mesh lengths base cert text
-    (answered_there (codes "certify" ∷ mesh ∷ lengths ∷ base ∷ []) files later text answer (at (number_of base)))
+    (answered_there (codes "certify" ∷ mesh ∷ lengths ∷ base ∷ []) files later text answer (at (word_number base)))
     held
   where
     at : (x : Option ℕ) → AgreeOn (named (weighted_request (Some LoopCertificate) mesh lengths x)) files later

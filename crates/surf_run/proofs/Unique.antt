@@ -7,7 +7,7 @@ use Rattle.surf_run.specs.Outcome.{Outcome, answers, refuses, misses, Shows, sta
 use Rattle.surf_run.specs.Steps.{Ends}
 use Rattle.surf_run.specs.Reading.{Reads, within_text}
 use Rattle.surf_surfaces.specs.Mesh.{Mesh, characteristic}
-use Rattle.surf_surfaces.specs.Surface.{edge_count, IsSurface}
+use Rattle.surf_surfaces.specs.Surface.{edge_count, IsSurface, loop_count}
 use Rattle.surf_off.specs.Written.{soup_text}
 use Rattle.surf_run.specs.Making.{made, IsMade, GivesMesh}
 use Rattle.surf_run.specs.Shapes.{mesh_of}
@@ -24,11 +24,11 @@ use Rattle.surf_run.specs.Coordinates.{measured, Measures, GivesMeasures, OnCoor
 use Rattle.surf_run.specs.Cuts.{is_trimmed, cut_text}
 use Rattle.surf_run.specs.Discs.{JudgesDisc, SaysNoDisc, no_line}
 use Rattle.surf_run.specs.Info.{Informs, mesh_counts, genus_text, crosscaps_text}
-use Rattle.surf_run.specs.Given.{loop_count, looped, searchable, HasFewLoops, HasFewVertices, IsFewLoopedText, IsSearchableText, IsMeasured, IsWeighted}
+use Rattle.surf_run.specs.Given.{looped, searchable, HasFewLoops, HasFewVertices, IsFewLoopedText, IsSearchableText, IsMeasured, IsWeighted}
 use Rattle.surf_run.specs.Weights.{HasLengths, HasBase, weighed_for, based}
 use Rattle.surf_run.specs.Says.{Says}
 use Rattle.surf_run.specs.Limits.{beyond}
-use Rattle.surf_cert.specs.Grammar.{cert_of as cert_in}
+use Rattle.surf_cert.specs.Grammar.{chosen_cert as cert_in}
 use Rattle.surf_cert.specs.declared.cert.Cert.{Cert}
 use Rattle.surf_cert.specs.declared.cert.Cert.TheVariants.{Loops}
 use Rattle.surf_cert.specs.declared.cert.Cert.TheVariants as certs
@@ -51,7 +51,7 @@ use Rattle.surf_run.specs.declared.weighted.Task.TheVariants.{Distances, LeastLo
 use Rattle.surf_base.specs.declared.limits.LimitKind.{LimitKind}
 use Rattle.surf_base.specs.declared.limits.LimitKind.TheVariants as limits
 use Rattle.surf_cert.specs.Written.{loop_text, basis_text}
-use Rattle.surf_validity.specs.Chosen.{cert_of, basis_cert_of}
+use Rattle.surf_validity.specs.Chosen.{chosen_cert, basis_cert_of}
 use Rattle.surf_validity.proofs.OneCert.{chosen_certs_are_one}
 use Rattle.surf_validity.proofs.OneBasis.{bases_are_one, chosen_basis_certs_are_one}
 use Rattle.surf_surfaces.specs.Walk.{ArePositive, IsClosed, parity, walk_length}
@@ -225,7 +225,7 @@ one_performance LeastLoops read given surface lengths o p x y =
     says_same (loops_text (loops_at read.1 given.0 given.1 x.trees)) (loops_text (loops_at read.1 given.0 given.1 y.trees)) o p
     (ap loops_text (loops_are_one read.1 given.0 given.1 x.trees y.trees surface lengths x.chosen y.chosen)) x.says y.says
 one_performance LoopCertificate read given surface lengths o p x y =
-    says_same (loop_text (cert_of read.1 x.trees)) (loop_text (cert_of read.1 y.trees)) o p
+    says_same (loop_text (chosen_cert read.1 x.trees)) (loop_text (chosen_cert read.1 y.trees)) o p
     (ap loop_text (chosen_certs_are_one read.1 given.0 given.1 x.trees y.trees surface lengths x.chosen y.chosen)) x.says y.says
 one_performance (Cut kind) read given surface lengths o p x y =
     let same = openings_at_are_one read.1 given.0 given.1 x.is_cut.trees y.is_cut.trees (is_trimmed kind) x.origins y.origins x.faces y.faces surface lengths

@@ -2,7 +2,7 @@
 use Rattle.std.specs.Prelude.{◌≡◌, ℕ, nat_lt, List, [], ◌∷◌, Result, Ok, Err, if◌then◌else◌, codes}
 use Rattle.surf_base.specs.declared.limits.LimitKind.TheVariants.{CertificateVertices}
 use Rattle.surf_surfaces.specs.Mesh.{Mesh}
-use Rattle.surf_cert.specs.Grammar.{cert_of}
+use Rattle.surf_cert.specs.Grammar.{parsed_cert}
 use Rattle.surf_cert.specs.declared.cert.Cert.{Cert}
 use Rattle.surf_cert.specs.declared.cert.Cert.TheVariants.{Loops, Basis}
 use Rattle.surf_cert.specs.declared.fault.CertText.{CertText}
@@ -35,4 +35,4 @@ then_bounded mesh (Err outcome) = Err outcome
 
 -- The bytes are read as the text of a certificate, and then its vertices are few where they are limited.
 abbrev pub IsCertText : Mesh → List ℕ → Result Cert Outcome → Type 0
-IsCertText mesh bytes result = result ≡ then_bounded mesh (certified (cert_of bytes))
+IsCertText mesh bytes result = result ≡ then_bounded mesh (certified (parsed_cert bytes))

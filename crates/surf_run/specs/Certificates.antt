@@ -5,7 +5,7 @@ use Rattle.surf_surfaces.specs.Mesh.{Mesh}
 use Rattle.surf_surfaces.specs.Choice.{Trees, AreChosenAt, AreChosen, Loop, IsChosenBasis}
 use Rattle.surf_surfaces.specs.ChoiceLaws.{LoopsAtBase, LeastSimpleBasis}
 use Rattle.surf_validity.specs.Bases.{IsValidBasis}
-use Rattle.surf_validity.specs.Chosen.{cert_of, basis_cert_of}
+use Rattle.surf_validity.specs.Chosen.{chosen_cert, basis_cert_of}
 use Rattle.surf_validity.specs.Valid.{IsValidLoops}
 use Rattle.surf_run.specs.Outcome.{Outcome}
 use Rattle.surf_run.specs.Says.{Says}
@@ -16,8 +16,8 @@ pub record GivesLoopCert (mesh : Mesh) (lengths : List ℕ) (base : ℕ) (outcom
   pub trees : Trees
   pub chosen : AreChosenAt mesh lengths base trees
   pub least : LoopsAtBase mesh lengths base trees
-  pub valid : IsValidLoops mesh lengths (cert_of mesh trees)
-  pub says : Says (loop_text (cert_of mesh trees)) outcome
+  pub valid : IsValidLoops mesh lengths (chosen_cert mesh trees)
+  pub says : Says (loop_text (chosen_cert mesh trees)) outcome
 
 -- The certificate of the basis that is chosen from the loops at all vertices. It is valid, and the basis is least, in
 -- total and place by place.

@@ -4,17 +4,13 @@ use Rattle.surf_base.specs.Outside.{Files}
 use Rattle.surf_base.specs.declared.limits.LimitKind.{LimitKind}
 use Rattle.surf_base.specs.declared.limits.LimitKind.TheVariants.{Loops}
 use Rattle.surf_surfaces.specs.Mesh.{Mesh}
-use Rattle.surf_surfaces.specs.Surface.{face_count, edge_count}
+use Rattle.surf_surfaces.specs.Surface.{face_count, edge_count, loop_count}
 use Rattle.surf_lengths.specs.Lengths.{AreLengths}
 use Rattle.surf_off.specs.Off.{OffParts}
 use Rattle.surf_run.specs.Limits.{beyond}
 use Rattle.surf_run.specs.Outcome.{Outcome}
 use Rattle.surf_run.specs.Surfaces.{IsSurfaceText}
 use Rattle.surf_run.specs.Weights.{HasLengths, HasBase}
-
--- how many independent loops a surface has: two less its characteristic
-abbrev pub loop_count : Mesh → ℕ
-loop_count mesh = edge_count mesh + 2 - (mesh.vertices + face_count mesh)
 
 -- Where loops are limited, there are at most 1,024 of them.
 abbrev pub looped : Bool → Mesh → Result Mesh Outcome

@@ -12,9 +12,9 @@ abbrev pub head_line : Mesh → TreeTables → LoopHead → List ℕ
 head_line mesh tree head = walk_line head.length (loop_walk mesh (tree_of tree) head.edge)
 
 -- how many loops there are and what they total
-abbrev pub head_text : List LoopHead → List ℕ
-head_text heads = loops_head (length heads) (sum (map (λ h. h.length) heads))
+abbrev pub loop_heads_text : List LoopHead → List ℕ
+loop_heads_text heads = loops_head (length heads) (sum (map (λ h. h.length) heads))
 
 -- that, and the line of each loop of a desk
 abbrev pub heads_text : Mesh → LoopTables → List ℕ
-heads_text mesh t = head_text t.heads ++ flat_map (head_line mesh t.tree) t.heads
+heads_text mesh t = loop_heads_text t.heads ++ flat_map (head_line mesh t.tree) t.heads

@@ -5,8 +5,9 @@ use Rattle.surf_base.specs.declared.limits.LimitKind.TheVariants.{CoverLoops, Co
 use Rattle.surf_classes.specs.Shortest.{IsChosenWalk}
 use Rattle.surf_surfaces.specs.Mesh.{Mesh}
 use Rattle.surf_surfaces.specs.Walk.{walk_length}
-use Rattle.surf_print.specs.Lines.{numbers_text}
-use Rattle.surf_run.specs.Given.{loop_count, IsFewLoopedText, IsMeasured}
+use Rattle.surf_text.specs.Numbers.{numbers_text}
+use Rattle.surf_surfaces.specs.Surface.{loop_count}
+use Rattle.surf_run.specs.Given.{IsFewLoopedText, IsMeasured}
 use Rattle.surf_run.specs.Limits.{beyond}
 use Rattle.surf_run.specs.Outcome.{Outcome}
 use Rattle.surf_run.specs.Reading.{Reads}

@@ -3,7 +3,8 @@ use Rattle.std.specs.Prelude.{◌≡◌, ℕ, nat_lt, if◌then◌else◌, Resul
 use Rattle.surf_base.specs.declared.limits.LimitKind.TheVariants.{Loops, BasisVertices}
 use Rattle.surf_surfaces.specs.Mesh.{Mesh}
 use Rattle.surf_gen.specs.Made.{made_values}
-use Rattle.surf_run.specs.Given.{loop_count, searchable}
+use Rattle.surf_surfaces.specs.Surface.{loop_count}
+use Rattle.surf_run.specs.Given.{searchable}
 use Rattle.surf_run.specs.Limits.{beyond}
 use Rattle.surf_run.specs.Making.{made}
 use Rattle.surf_run.specs.Outcome.{Outcome}

@@ -14,7 +14,7 @@ use Rattle.surf_certcheck.specs.declared.fault.CertFault.TheVariants.{Shape, Par
 use Rattle.surf_print.specs.Lines.{numbered}
 use Rattle.surf_validity.specs.Rows.{LoopCert, BasisCert}
 use Rattle.surf_validity.specs.Bases.{IsValidBasis}
-use Rattle.surf_validity.specs.Valid.{IsValidLoops, loops_of}
+use Rattle.surf_validity.specs.Valid.{IsValidLoops, certified_loops}
 use Rattle.surf_run.specs.Outcome.{Outcome, answers}
 
 -- the part that doesn't fit the mesh
@@ -52,9 +52,9 @@ basis_line total = codes "valid basis " ++ (decimal total ++ codes "\n")
 -- The certificate is valid: its loops are a least loop system at its base, in total and place by place.
 pub record SaysLoops (mesh : Mesh) (lengths : List ℕ) (cert : LoopCert) (outcome : Outcome) : Type 0 where
   pub valid : IsValidLoops mesh lengths cert
-  pub least : IsLeastLoopSystem mesh lengths cert.tree.base (loops_of mesh cert)
-  pub least_in_order : IsLeastLoopSystemInOrder mesh lengths cert.tree.base (loops_of mesh cert)
-  pub text : outcome ≡ answers 0 (loops_line (total mesh lengths (loops_of mesh cert)))
+  pub least : IsLeastLoopSystem mesh lengths cert.tree.base (certified_loops mesh cert)
+  pub least_in_order : IsLeastLoopSystemInOrder mesh lengths cert.tree.base (certified_loops mesh cert)
+  pub text : outcome ≡ answers 0 (loops_line (total mesh lengths (certified_loops mesh cert)))
 
 -- The certificate is valid: its cycles are a least basis, in total and place by place. The least of their lengths is
 -- that of each shortest cycle that doesn't separate the surface.

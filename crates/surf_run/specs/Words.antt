@@ -56,8 +56,8 @@ mesh_request word mesh =
     else (if bytes_eq word (codes "sew") then Some (sews mesh) else None))
 
 -- a number word: digits of a value at most 4,294,967,295
-abbrev pub number_of : List ℕ → Option ℕ
-number_of word = option_and_then (λ n. if nat_lt 4294967295 n then None else Some n) (whole word)
+abbrev pub word_number : List ℕ → Option ℕ
+word_number word = option_and_then (λ n. if nat_lt 4294967295 n then None else Some n) (whole word)
 
 -- the task of a command with four words
 abbrev pub task_of : List ℕ → Option Task
@@ -99,7 +99,7 @@ measures_request mesh None = None
 measures_request mesh (Some decimals) = Some (measures mesh decimals)
 
 abbrev pub decimals_of : List ℕ → Option ℕ
-decimals_of word = option_and_then few_decimals (number_of word)
+decimals_of word = option_and_then few_decimals (word_number word)
 
 -- a shape with a scatter
 abbrev pub tried_request : Option Shape → Option ℕ → Option Request
@@ -109,11 +109,11 @@ tried_request (Some shape) (Some scatter) = Some (tries shape scatter)
 
 -- the shape that a word names with two numbers, and with three
 abbrev pub torus_words : List ℕ → List ℕ → List ℕ → Option Shape
-torus_words kind rows columns = if bytes_eq kind (codes "torus") then torus_named (number_of rows) (number_of columns) else None
+torus_words kind rows columns = if bytes_eq kind (codes "torus") then torus_named (word_number rows) (word_number columns) else None
 
 abbrev pub chain_words : List ℕ → List ℕ → List ℕ → List ℕ → Option Shape
 chain_words kind tori rows columns =
-    if bytes_eq kind (codes "chain") then chain_named (number_of tori) (number_of rows) (number_of columns) else None
+    if bytes_eq kind (codes "chain") then chain_named (word_number tori) (word_number rows) (word_number columns) else None
 
 -- the row of three words, that of four, that of five and that of six
 abbrev pub three_words : List ℕ → List ℕ → List ℕ → Option Request
@@ -129,17 +129,17 @@ four_words word second third fourth =
     else (if bytes_eq word (codes "same") then Some (compares second third fourth)
     else (if bytes_eq word (codes "confirm") then Some (confirms second third fourth)
     else (if bytes_eq word (codes "shortest") then Some (tightens second third fourth)
-    else weighted_request (task_of word) second third (number_of fourth)))))
+    else weighted_request (task_of word) second third (word_number fourth)))))
 
 abbrev pub five_words : List ℕ → List ℕ → List ℕ → List ℕ → List ℕ → Option Request
 five_words word second third fourth fifth =
     if bytes_eq word (codes "gen") then shape_request (chain_words second third fourth fifth)
-    else (if bytes_eq word (codes "try") then tried_request (torus_words second third fourth) (number_of fifth)
-    else weighted_request (cut_task word fifth) second third (number_of fourth))
+    else (if bytes_eq word (codes "try") then tried_request (torus_words second third fourth) (word_number fifth)
+    else weighted_request (cut_task word fifth) second third (word_number fourth))
 
 abbrev pub six_words : List ℕ → List ℕ → List ℕ → List ℕ → List ℕ → List ℕ → Option Request
 six_words word second third fourth fifth sixth =
-    if bytes_eq word (codes "try") then tried_request (chain_words second third fourth fifth) (number_of sixth) else None
+    if bytes_eq word (codes "try") then tried_request (chain_words second third fourth fifth) (word_number sixth) else None
 
 -- the row of the command table that the words are in
 abbrev pub request_of : List (List ℕ) → Option Request

@@ -1,10 +1,10 @@
 //! The task of the command `basis`.
 ghost use Rattle.std.specs.Prelude.{◌≡◌, ◌+◌, ◌≤◌, length, map, sum, flat_map};
-ghost use Rattle.surf_basis.specs.Cycles.{loops_of};
+ghost use Rattle.surf_basis.specs.Cycles.{as_loops};
 ghost use Rattle.surf_surfaces.specs.Surface.{edge_count, face_count};
 ghost use Rattle.surf_print.specs.CycleTexts.{cycles_text};
 ghost use Rattle.surf_print.specs.Fills.{Fills};
-ghost use Rattle.surf_run.specs.CycleTexts.{line_of};
+ghost use Rattle.surf_run.specs.CycleTexts.{cycle_found_line};
 ghost use Rattle.surf_run.specs.LeastBasis.{GivesBasis};
 ghost use Rattle.surf_run.specs.Tells.{Concludes};
 
@@ -37,7 +37,7 @@ pub fn basis_of(alloc: Global, mesh: &HalfMesh, lengths: &Lengths) -> Result<Ans
 
 // Puts how many cycles there are and what they total, and the line of each.
 fn put_basis(page: &mut Page, basis: &[Cycle]) -> Result<(), PageFault>
-    ensures { Fills page.old page.new (cycles_text (loops_of basis.now)) result }
+    ensures { Fills page.old page.new (cycles_text (as_loops basis.now)) result }
 {
     put_cycles_head(page, basis.len(), total_of(basis))?;
     put_cycles(page, basis)
@@ -56,7 +56,7 @@ pub fn total_of(cycles: &[Cycle]) -> u128
 
 // Puts the line of each cycle.
 fn put_cycles(page: &mut Page, cycles: &[Cycle]) -> Result<(), PageFault>
-    ensures { Fills page.old page.new (flat_map line_of cycles.now) result }
+    ensures { Fills page.old page.new (flat_map cycle_found_line cycles.now) result }
 {
     for cycle in cycles {
         put_cycle(page, cycle.length, cycle.walk.vertices())?;

@@ -3,7 +3,7 @@ ghost use Rattle.std.specs.Prelude.{◌≡◌, ◌<◌, All, length, map, sum, f
 ghost use Rattle.surf_surfaces.specs.Surface.{edge_count};
 ghost use Rattle.surf_loops.specs.Loops.{IsRooted};
 ghost use Rattle.surf_print.specs.Fills.{Fills};
-ghost use Rattle.surf_run.specs.HeadTexts.{head_line, head_text, heads_text};
+ghost use Rattle.surf_run.specs.HeadTexts.{head_line, loop_heads_text, heads_text};
 ghost use Rattle.surf_run.specs.LeastLoops.{GivesLoops};
 ghost use Rattle.surf_run.specs.Tells.{Concludes};
 
@@ -55,7 +55,7 @@ fn put_answer(
 
 // Puts how many loops there are and what they total.
 fn put_head(page: &mut Page, heads: &[LoopHead]) -> Result<(), PageFault>
-    ensures { Fills page.old page.new (head_text heads.now) result }
+    ensures { Fills page.old page.new (loop_heads_text heads.now) result }
 {
     put_loops_head(page, heads.len(), total_of(heads))
 }

@@ -1,7 +1,7 @@
 //! Files that are reached.
 ghost use Rattle.std.specs.Prelude.{◌≡◌, ◌≤◌, length, IfOk};
-ghost use Rattle.surf_surfaces.specs.Surface.{face_count};
-ghost use Rattle.surf_run.specs.Given.{IsFewLoopedText, loop_count};
+ghost use Rattle.surf_surfaces.specs.Surface.{face_count, loop_count};
+ghost use Rattle.surf_run.specs.Given.{IsFewLoopedText};
 ghost use Rattle.surf_run.specs.MeshTexts.{IsMeshText};
 ghost use Rattle.surf_run.specs.Reading.{Reads};
 ghost use Rattle.surf_run.specs.Surfaces.{IsSurfaceOf, IsSurfaceText};

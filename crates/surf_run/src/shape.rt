@@ -1,7 +1,6 @@
 //! Meshes that are made from numbers.
 ghost use Rattle.std.specs.Prelude.{◌≡◌, ◌<◌, ◌≤◌, ◌+◌, length, IfOk};
-ghost use Rattle.surf_surfaces.specs.Surface.{edge_count, face_count, IsSurface};
-ghost use Rattle.surf_run.specs.Given.{loop_count};
+ghost use Rattle.surf_surfaces.specs.Surface.{edge_count, face_count, IsSurface, loop_count};
 ghost use Rattle.surf_run.specs.Making.{IsMade};
 ghost use Rattle.surf_run.specs.Shapes.{mesh_of, torus_shape, chain_shape};
 ghost use Rattle.surf_run.specs.Tells.{Takes};

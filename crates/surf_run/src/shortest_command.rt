@@ -1,10 +1,9 @@
 //! The command `shortest`.
 ghost use Rattle.std.specs.Prelude.{◌≡◌, ◌≤◌, ◌+◌, ◌*◌, ◌^◌, length, IfOk};
-ghost use Rattle.surf_surfaces.specs.Surface.{edge_count, face_count};
+ghost use Rattle.surf_surfaces.specs.Surface.{edge_count, face_count, loop_count};
 ghost use Rattle.surf_surfaces.specs.Walk.{IsClosed};
 ghost use Rattle.surf_cover.specs.Starts.{IsLeastInClass};
 ghost use Rattle.surf_print.specs.Fills.{Fills};
-ghost use Rattle.surf_run.specs.Given.{loop_count};
 ghost use Rattle.surf_run.specs.Tells.{Concludes, ConcludesOver, Takes};
 ghost use Rattle.surf_run.specs.Tightening.{GivesShortestWalk, HasSmallCover, OnCovered, OnShortest, OnTightLengths, OnTightMesh, OnTightText, shortest_line};
 

@@ -1,7 +1,6 @@
 //! The command `try`.
 ghost use Rattle.std.specs.Prelude.{◌≡◌, ◌<◌, ◌≤◌, ◌+◌, length, string_bytes, IfOk};
-ghost use Rattle.surf_surfaces.specs.Surface.{edge_count, face_count};
-ghost use Rattle.surf_run.specs.Given.{loop_count};
+ghost use Rattle.surf_surfaces.specs.Surface.{edge_count, face_count, loop_count};
 ghost use Rattle.surf_run.specs.Summaries.{BasisTotals, CycleMeasures, GivesSummary, LoopsTotal, measures_text};
 ghost use Rattle.surf_run.specs.Tells.{Concludes};
 ghost use Rattle.surf_run.specs.Trying.{OnTry};

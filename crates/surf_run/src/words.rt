@@ -1,6 +1,6 @@
 //! The words of the command line.
 ghost use Rattle.std.specs.Prelude.{◌≡◌, None, Some, MatchOption};
-ghost use Rattle.surf_run.specs.Words.{texts, request_of, lone_request, mesh_request, number_of, cycle_task, task_of, cut_task, cycles_request, weighted_request, shape_request, tried_request, torus_words, chain_words, measures_request, decimals_of, three_words, four_words, five_words, six_words};
+ghost use Rattle.surf_run.specs.Words.{texts, request_of, lone_request, mesh_request, word_number, cycle_task, task_of, cut_task, cycles_request, weighted_request, shape_request, tried_request, torus_words, chain_words, measures_request, decimals_of, three_words, four_words, five_words, six_words};
 ghost use Rattle.surf_run.specs.Seen.{request};
 
 use crate::cut_command::CutKind;
@@ -74,7 +74,7 @@ pub enum Command<'w> {
 
 // A number word: digits of a value at most 4,294,967,295.
 fn number_of(word: &str) -> Option<u32>
-    ensures { result ≡ number_of word.now }
+    ensures { result ≡ word_number word.now }
 {
     match read_whole(word.as_bytes()) {
         Some(n) if n <= u32::MAX as u64 => Some(n as u32),

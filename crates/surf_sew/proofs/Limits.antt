@@ -8,7 +8,7 @@ use Rattle.std.proofs.lemmas.List.Sums.{sum_by-cons}
 use Rattle.surf_surfaces.specs.Mesh.{Mesh}
 use Rattle.surf_text.specs.Text.{TextLine, tokens_of, whole, lines_of, rest_after}
 use Rattle.surf_off.specs.declared.fault.OffFault.{OffFault}
-use Rattle.surf_off.specs.Off.{◌>>=◌, Head, head_of, both, counts_of, vertices_at, sized, size_of, few_sides, corner_of, corners_at, first_repeat, distinct, Face, face_of, FaceLines, with_face, faces_at, OffParts, ended, off_in}
+use Rattle.surf_off.specs.Off.{◌>>=◌, Head, head_of, both, counts_of, vertices_at, sized, size_of, few_sides, corner_read, corners_at, first_repeat, distinct, Face, face_of, FaceLines, with_face, faces_at, OffParts, ended, off_in}
 use Rattle.surf_sew.specs.Laws.{LimitsAreKept}
 
 -- What was bound was read.
@@ -44,7 +44,7 @@ corners_count : (n v place : ℕ) (words : List (List ℕ)) (us : List ℕ) → 
 unfolding corners_at
 corners_count n v place [] us is = ap length (sym (ok_same [] us is))
 corners_count n v place (w ∷ ws) us is =
-    let first = bound (corner_of n v place (whole w)) (λ u. corners_at n v (place + 1) ws >>= λ us. Ok (u ∷ us)) us is in
+    let first = bound (corner_read n v place (whole w)) (λ u. corners_at n v (place + 1) ws >>= λ us. Ok (u ∷ us)) us is in
     let later = bound (corners_at n v (place + 1) ws) (λ us. Ok (first.0 ∷ us)) us first.2 in
     let count = corners_count n v (place + 1) ws later.0 later.1 in
     omega (arith, ap length (sym (ok_same (first.0 ∷ later.0) us later.2)), count)

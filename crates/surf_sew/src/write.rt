@@ -2,7 +2,7 @@
 ghost use Rattle.std.specs.Prelude.{◌≡◌, ◌<◌, ◌≤◌, ◌^◌, length};
 ghost use Rattle.std.specs.List.{All, zip};
 ghost use Rattle.surf_text.specs.Pages.{Puts};
-ghost use Rattle.surf_off.specs.Written.{head_text, lines_text, numbers_text, colour_text, face_text, faces_text, lines_at};
+ghost use Rattle.surf_off.specs.Written.{head_text, lines_text, spaced_text, colour_text, face_text, faces_text, lines_at};
 ghost use Rattle.surf_sew.specs.Sewing.{HaveCopies};
 ghost use Rattle.surf_sew.specs.Texts.{sewn_lines, sewn_text, RereadsSewn};
 
@@ -76,7 +76,7 @@ fn write_lines(
 
 fn write_corners(page: &mut Page, corners: &[VertexId]) -> Result<(), PageFault>
     requires fits { length page.old.bytes ≤ page.old.most }
-    ensures puts { Puts page.old page.new (numbers_text corners.now) result }
+    ensures puts { Puts page.old page.new (spaced_text corners.now) result }
 {
     for v in corners {
         page.push_pieces(&[Piece::Bytes(b" "), Piece::Whole(v.index() as u128)])?;

@@ -9,7 +9,7 @@ use borrow.Rule.Slice.PartMut.{put_mid}
 use Rattle.surf_z2.specs.Words.{number}
 use Rattle.surf_z2.proofs.Words.{number_zero}
 use Rattle.surf_z2.specs.Sieve.{has}
-use Rattle.surf_signatures.specs.Tables.{row_of, rows_of, added_where}
+use Rattle.surf_signatures.specs.Tables.{row_of, sets_in, added_where}
 use Rattle.surf_signatures.proofs.Toggling.{below_more}
 use Rattle.surf_signatures.proofs.Written.{row_word, row_past, rows-length, rows-at}
 
@@ -113,27 +113,27 @@ rows_more words k other n first old new before step e =
 
 pub rows_whole : (words k other n : ℕ) (first new : List ℕ) →
     ((e : ℕ) → row_of words new e ≡ cond (ltb e n) (added_where k other (row_of words first e)) (row_of words first e)) →
-    rows_of words n new ≡ map (added_where k other) (rows_of words n first)
+    sets_in words n new ≡ map (added_where k other) (sets_in words n first)
 rows_whole words k other n first new is =
     let size = rows-length words n new in
     let size_first = rows-length words n first in
-    same_number_lists (rows_of words n new) (map (added_where k other) (rows_of words n first))
-    (size ∙ sym (length-map (rows_of words n first) (added_where k other) ∙ size_first)) (λ e l.
+    same_number_lists (sets_in words n new) (map (added_where k other) (sets_in words n first))
+    (size ∙ sym (length-map (sets_in words n first) (added_where k other) ∙ size_first)) (λ e l.
     let below : e < n = omega (arith, l, size) in
     let here = is e in
     rows-at words n new e below ∙ rw (lt-ltb e n below) at here
     ∙ ap (added_where k other) (sym (rows-at words n first e below))
-    ∙ sym (get_or-map (added_where k other) (rows_of words n first) e 0 0 (omega (arith, below, size_first))))
+    ∙ sym (get_or-map (added_where k other) (sets_in words n first) e 0 0 (omega (arith, below, size_first))))
 
 -- one row is made anew
 pub rows_set : (words n at written : ℕ) (old new : List ℕ) → at < n →
     ((e : ℕ) → row_of words new e ≡ cond (eqb at e) written (row_of words old e)) →
-    rows_of words n new ≡ set (rows_of words n old) at written
+    sets_in words n new ≡ set (sets_in words n old) at written
 rows_set words n at written old new inside is =
     let size = rows-length words n new in
     let size_old = rows-length words n old in
-    let rows = rows_of words n old in
-    same_number_lists (rows_of words n new) (set rows at written) (size ∙ sym (length-set rows at written ∙ size_old)) (λ e l.
+    let rows = sets_in words n old in
+    same_number_lists (sets_in words n new) (set rows at written) (size ∙ sym (length-set rows at written ∙ size_old)) (λ e l.
     let below : e < n = omega (arith, l, size) in
     rows-at words n new e below ∙ is e ∙ elim (cases_eq at e) [
       | inl same ↦ rw (eq-eqb at e same, ← same) (sym (get_or-set_same rows at written 0 (omega (arith, inside, size_old))))

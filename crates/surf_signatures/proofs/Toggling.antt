@@ -6,7 +6,8 @@ use Rattle.std.proofs.lemmas.Nat.{mul-add-lt}
 use Rattle.std.proofs.lemmas.Nat.Bits.{bit_at_xor, bit_at-pow_same, bit_at-pow_other, bit_at-lt}
 use Rattle.surf_z2.specs.Parity.{xor}
 use Rattle.surf_z2.proofs.ParityLaws.{xor-false}
-use Rattle.surf_signatures.specs.Signs.{at, cell, sign_bit}
+use Rattle.surf_base.specs.Tables.{at}
+use Rattle.surf_signatures.specs.Signs.{cell, sign_bit}
 
 -- a cell is that of one edge and one word
 one_cell : (w e a f b : ℕ) → a < w → b < w → e * w + a ≡ f * w + b → (e ≡ f) × (a ≡ b)

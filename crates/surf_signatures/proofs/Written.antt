@@ -24,15 +24,15 @@ use Rattle.surf_surfaces.specs.Surface.{edge_count, IsSurface}
 use Rattle.surf_surfaces.specs.Cells.{cells_of}
 use Rattle.surf_surfaces.specs.Signature.{edge_signature}
 use Rattle.surf_surfaces.proofs.CellLaws.{surfaces_are_cells}
-use Rattle.surf_signatures.specs.Tables.{Signed, words_for, row_of, rows_of, face_tree, HangsBy}
+use Rattle.surf_signatures.specs.Tables.{Signed, words_for, row_of, sets_in, face_tree, HangsBy}
 use Rattle.surf_signatures.specs.Signs.{sign_bit, has_left}
 
 -- ---- rows of a flat table
 
-pub rows-length : (words count : ℕ) (signs : List ℕ) → length (rows_of words count signs) ≡ count
+pub rows-length : (words count : ℕ) (signs : List ℕ) → length (sets_in words count signs) ≡ count
 rows-length words count signs = length-map-range_with_len (λ e. number (take words (drop (e * words) signs))) 0 count
 
-pub rows-at : (words count : ℕ) (signs : List ℕ) (e : ℕ) → e < count → get_or (rows_of words count signs) e 0 ≡ row_of words signs e
+pub rows-at : (words count : ℕ) (signs : List ℕ) (e : ℕ) → e < count → get_or (sets_in words count signs) e 0 ≡ row_of words signs e
 rows-at words count signs e l = get_or-map-range_with_len (λ e. number (take words (drop (e * words) signs))) 0 count e e 0 l (omega arith)
 
 pub cell_room : (count words e len : ℕ) → e < count → len ≡ count * words → e * words + words ≤ len
@@ -113,9 +113,9 @@ module _ (mesh : Mesh) (d : Split) (surface : IsSurface mesh) (split : IsSplit (
         | inr past ↦ row_none e i past ∙ sym (signature_none e i (omega arith))
       ])
 
-  rows_are_signatures : rows_of words (edge_count mesh) signs ≡ map (edge_signature mesh d) (range_with_len 0 (edge_count mesh))
+  rows_are_signatures : sets_in words (edge_count mesh) signs ≡ map (edge_signature mesh d) (range_with_len 0 (edge_count mesh))
   rows_are_signatures =
-      fill_by_all (edge_signature mesh d) (rows_of words (edge_count mesh) signs) (edge_count mesh) 0 (rows-length words (edge_count mesh) signs)
+      fill_by_all (edge_signature mesh d) (sets_in words (edge_count mesh) signs) (edge_count mesh) 0 (rows-length words (edge_count mesh) signs)
       (λ e l. rows-at words (edge_count mesh) signs e l ∙ row_is e l)
 
 -- what is written by three tables of a tree of faces and a list of the left edges
@@ -131,7 +131,7 @@ pub record AreWritten (mesh : Mesh) (parents ups depths left : List ℕ) (words 
 pub signatures_written : (mesh : Mesh) (parents ups depths left : List ℕ) (words : ℕ) (signs : List ℕ) →
     AreWritten mesh parents ups depths left words signs → (d : Split) → IsSplit (cells_of mesh) d →
     HangsBy mesh d.cotree parents ups → d.left ≡ left →
-    rows_of words (edge_count mesh) signs ≡ map (edge_signature mesh d) (range_with_len 0 (edge_count mesh))
+    sets_in words (edge_count mesh) signs ≡ map (edge_signature mesh d) (range_with_len 0 (edge_count mesh))
 signatures_written mesh parents ups depths left words signs w d split hangs same =
     let g = dual (cells_of mesh) in
     let t = face_tree parents ups depths in
@@ -162,10 +162,10 @@ zeros_at n k = elim (cases_lt k n) [
 ]
 
 -- its sets are empty
-pub rows_none : (words count n : ℕ) → rows_of words count (zeros n) ≡ zeros count
+pub rows_none : (words count n : ℕ) → sets_in words count (zeros n) ≡ zeros count
 rows_none words count n =
     let size : length (zeros count) ≡ count = length-replicate count 0 in
-    same_number_lists (rows_of words count (zeros n)) (zeros count)
+    same_number_lists (sets_in words count (zeros n)) (zeros count)
     (rows-length words count (zeros n) ∙ sym size) (λ e l.
     let inside : e < count = omega (arith, l, rows-length words count (zeros n)) in
     rows-at words count (zeros n) e inside
@@ -181,7 +181,7 @@ rows_none words count n =
 -- ---- one row, lent
 
 module _ (s : Signed) (width count e : ℕ) (table : List ℕ)
-    (view : record { width = width; sets = rows_of (words_for width) count table } ≡ s) (inside : e < length s.sets) where
+    (view : record { width = width; sets = sets_in (words_for width) count table } ≡ s) (inside : e < length s.sets) where
   below : e < count
   below = subst (λ n. e < n) (ap (λ (t : Signed). length t.sets) (sym view) ∙ rows-length (words_for width) count table) inside
 

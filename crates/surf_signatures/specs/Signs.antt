@@ -4,10 +4,7 @@ use Rattle.std.specs.Int.{bit_at}
 use Rattle.surf_z2.specs.Parity.{xor}
 use Rattle.surf_graphs.specs.Graphs.{Graph}
 use Rattle.surf_graphs.specs.Trees.{Tree, on_path}
-
--- the entry of a table
-abbrev pub at : List ℕ → ℕ → ℕ
-at table n = slice_index table n
+use Rattle.surf_base.specs.Tables.{at}
 
 -- the cell of bit k of edge e in a flat table with as many words for each edge
 abbrev pub cell : ℕ → ℕ → ℕ → ℕ

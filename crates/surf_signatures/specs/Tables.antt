@@ -21,8 +21,8 @@ abbrev pub row_of : ℕ → List ℕ → ℕ → ℕ
 row_of words table e = number (take words (drop (e * words) table))
 
 -- the sets of such a table
-abbrev pub rows_of : ℕ → ℕ → List ℕ → List ℕ
-rows_of words count table = map (row_of words table) (range_with_len 0 count)
+abbrev pub sets_in : ℕ → ℕ → List ℕ → List ℕ
+sets_in words count table = map (row_of words table) (range_with_len 0 count)
 
 -- a set, to which another one is added where it has a number
 abbrev pub added_where : ℕ → ℕ → ℕ → ℕ

@@ -5,7 +5,8 @@ ghost use Rattle.surf_graphs.specs.Cells.{dual};
 ghost use Rattle.surf_graphs.specs.Trees.{IsTree, on_path};
 ghost use Rattle.surf_surfaces.specs.Surface.{face_count, edge_count};
 ghost use Rattle.surf_surfaces.specs.Cells.{cells_of};
-ghost use Rattle.surf_signatures.specs.Signs.{at, cell, sign_bit, has_left};
+ghost use Rattle.surf_base.specs.Tables.{at};
+ghost use Rattle.surf_signatures.specs.Signs.{cell, sign_bit, has_left};
 ghost use Rattle.surf_signatures.specs.Tables.{face_tree};
 
 use surf_base::EdgeId;

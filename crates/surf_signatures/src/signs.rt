@@ -6,7 +6,7 @@ ghost use Rattle.surf_graphs.specs.Trees.{IsTree};
 ghost use Rattle.surf_surfaces.specs.Cells.{cells_of};
 ghost use Rattle.surf_surfaces.specs.Signature.{edge_signature};
 ghost use Rattle.surf_surfaces.specs.Surface.{edge_count, face_count};
-ghost use Rattle.surf_signatures.specs.Tables.{added_where, row_of, rows_of, words_for, face_tree, HangsBy};
+ghost use Rattle.surf_signatures.specs.Tables.{added_where, row_of, sets_in, words_for, face_tree, HangsBy};
 
 use crate::rows::{words_at, words_of};
 use crate::signing::write_signs;
@@ -27,13 +27,13 @@ pub struct Signs {
 
 impl Model for Signs {
     ghost use Rattle.std.specs.Prelude.{◌≡◌, ◌≤◌, ◌*◌, length};
-    ghost use Rattle.surf_signatures.specs.Tables.{Signed, words_for, rows_of};
+    ghost use Rattle.surf_signatures.specs.Tables.{Signed, words_for, sets_in};
 
     ghost Value = { Signed };
 
     ghost view = { λ s. record {
       width = s.width;
-      sets = rows_of (words_for s.width) s.edges s.table.items;
+      sets = sets_in (words_for s.width) s.edges s.table.items;
     } };
 
     ghost invariant = { λ s. (s.width ≤ 1024) × (length s.table.items ≡ s.edges * words_for s.width) };
@@ -62,7 +62,7 @@ fn add_to_rows(table: &mut [u64], words: usize, edges: usize, k: u32, other: &Bi
     requires fits { other.now < 2 ^ (64 * words) }
     requires room { length table.old ≡ edges * words }
     ensures count { length table.new ≡ length table.old }
-    ensures added { rows_of words edges table.new ≡ map (added_where k other.now) (rows_of words edges table.old) }
+    ensures added { sets_in words edges table.new ≡ map (added_where k other.now) (sets_in words edges table.old) }
 {
     for edge in 0..edges {
         add_at(table, words, edge, k, other);

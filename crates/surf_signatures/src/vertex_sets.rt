@@ -18,13 +18,13 @@ pub struct VertexSets {
 
 impl Model for VertexSets {
     ghost use Rattle.std.specs.Prelude.{◌≡◌, ◌≤◌, ◌*◌, length};
-    ghost use Rattle.surf_signatures.specs.Tables.{Signed, words_for, rows_of};
+    ghost use Rattle.surf_signatures.specs.Tables.{Signed, words_for, sets_in};
 
     ghost Value = { Signed };
 
     ghost view = { λ s. record {
       width = s.width;
-      sets = rows_of (words_for s.width) s.vertices s.table.items;
+      sets = sets_in (words_for s.width) s.vertices s.table.items;
     } };
 
     ghost invariant = { λ s. (s.width ≤ 1024) × (length s.table.items ≡ s.vertices * words_for s.width) };

@@ -20,7 +20,7 @@ use Rattle.surf_z2.proofs.Ranks.{spanned_among}
 use Rattle.surf_z2.proofs.Span.{InSpan, add_in, in_from_spanned, spanned_from_in}
 use Rattle.surf_graphs.specs.Cells.{primal, Split, IsSplit}
 use Rattle.surf_graphs.specs.Graphs.{IsEven, IsWalk as IsGraphWalk, walk_chain, walk_length as graph_length}
-use Rattle.surf_graphs.specs.Independence.{signature_of, signed, loop_of}
+use Rattle.surf_graphs.specs.Independence.{signature_of, signed, loop_chain}
 use Rattle.surf_graphs.proofs.Graphs.{even_same}
 use Rattle.surf_graphs.proofs.Independence.{signature_of-same, signature_of-linear, spanned_other, walk_spanned}
 use Rattle.surf_graphs.proofs.Splitting.{simple_or_two}
@@ -109,7 +109,7 @@ module _ (mesh : Mesh) (lengths : List ℕ) (trees : ℕ → Trees) (surface : I
     pub loops_covered_at : (x e : ℕ) → x < mesh.vertices → e < edge_count mesh →
         SpannedUpToWeight numbers
         (map (signed (cells_of mesh) d) (map (weighed_walk mesh lengths) (walks (loops_at mesh lengths x (trees x)))))
-        (signed (cells_of mesh) d (loop_of (primal (cells_of mesh)) (edge_length lengths) (trees x).tree e))
+        (signed (cells_of mesh) d (loop_chain (primal (cells_of mesh)) (edge_length lengths) (trees x).tree e))
     loops_covered_at x e x_in e_in =
         let s = cells_of mesh in
         let at = chosen_trees x x_in in
@@ -119,7 +119,7 @@ module _ (mesh : Mesh) (lengths : List ℕ) (trees : ℕ → Trees) (surface : I
         let short = tree_short mesh lengths x (trees x) surface positive at in
         let here_split = split_is mesh lengths x (trees x) surface positive at in
         let loops = loops_at mesh lengths x (trees x) in
-        let y = loop_of (primal s) (edge_length lengths) tree e in
+        let y = loop_chain (primal s) (edge_length lengths) tree e in
         let one = left_spans mesh lengths here (map (λ c. c.edge) loops) surface here_split short
         (edges_permute mesh lengths x (trees x)) (heaviest_is mesh lengths x (trees x) surface positive at) e e_in in
         let two : SpannedUpToWeight numbers (map (signed s here) (map (weighed_walk mesh lengths) (walks loops)))
@@ -144,11 +144,11 @@ module _ (mesh : Mesh) (lengths : List ℕ) (trees : ℕ → Trees) (surface : I
     pub loops_covered : (x e : ℕ) → x < mesh.vertices → e < edge_count mesh →
         SpannedUpToWeight numbers
         (map (signed (cells_of mesh) d) (map (weighed_walk mesh lengths) (walks (candidates mesh lengths trees))))
-        (signed (cells_of mesh) d (loop_of (primal (cells_of mesh)) (edge_length lengths) (trees x).tree e))
+        (signed (cells_of mesh) d (loop_chain (primal (cells_of mesh)) (edge_length lengths) (trees x).tree e))
     loops_covered x e x_in e_in =
         let s = cells_of mesh in
         let loops = loops_at mesh lengths x (trees x) in
-        let y = loop_of (primal s) (edge_length lengths) (trees x).tree e in
+        let y = loop_chain (primal s) (edge_length lengths) (trees x).tree e in
         spanned_among numbers (map (signed s d) (map (weighed_walk mesh lengths) (walks loops)))
         (map (signed s d) (map (weighed_walk mesh lengths) (walks (candidates mesh lengths trees)))) (signed s d y)
         (contained loops (λ c h. below_contains mesh lengths trees mesh.vertices x x_in c h))

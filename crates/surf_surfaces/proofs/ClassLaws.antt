@@ -7,7 +7,7 @@ use Rattle.std.proofs.lemmas.List.Elements.{recursion_from_All, All-from_recursi
 use Rattle.surf_z2.specs.Space.{Chain, chains, numbers, chosen, sum_of, Independent, Weighed, weights, SpannedUpToWeight}
 use Rattle.surf_z2.proofs.Below.{chosen-map, map_nil}
 use Rattle.surf_graphs.specs.Graphs.{IsEven, walk_chain}
-use Rattle.surf_graphs.specs.Independence.{signature_of, signed, loop_of, IsIndependent as AreIndependent}
+use Rattle.surf_graphs.specs.Independence.{signature_of, signed, loop_chain, IsIndependent as AreIndependent}
 use Rattle.surf_graphs.specs.Trees.{Tree, IsTree, IsShortest, loop}
 use Rattle.surf_graphs.specs.Cells.{primal, Split, IsSplit, IsNull as IsNullChain}
 use Rattle.surf_graphs.proofs.Counting.{left_edges}
@@ -134,7 +134,7 @@ pub closed_walk_spanned : (mesh : Mesh) (lengths : List ℕ) (d : Split) → IsS
     IsShortest (primal (cells_of mesh)) (edge_length lengths) tree → (cycles : List (Weighed Chain)) →
     ((e : ℕ) → e < edge_count mesh →
     SpannedUpToWeight numbers (map (signed (cells_of mesh) d) cycles)
-    (signed (cells_of mesh) d (loop_of (primal (cells_of mesh)) (edge_length lengths) tree e))) →
+    (signed (cells_of mesh) d (loop_chain (primal (cells_of mesh)) (edge_length lengths) tree e))) →
     (walk : List ℕ) → IsClosed mesh walk → first walk ≡ tree.root →
     SpannedUpToWeight numbers (map (signed (cells_of mesh) d) cycles)
     (signed (cells_of mesh) d (weighed_walk mesh lengths walk))

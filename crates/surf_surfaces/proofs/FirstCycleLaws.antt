@@ -11,7 +11,7 @@ use Rattle.surf_z2.proofs.Numbers.{Decides-is_nothing}
 use Rattle.surf_z2.proofs.Span.{in_from_spanned}
 use Rattle.surf_graphs.specs.Cells.{primal, signature, Split, IsSplit}
 use Rattle.surf_graphs.specs.Graphs.{IsEven}
-use Rattle.surf_graphs.specs.Independence.{signature_of, signed, loop_of}
+use Rattle.surf_graphs.specs.Independence.{signature_of, signed, loop_chain}
 use Rattle.surf_graphs.specs.Trees.{loop}
 use Rattle.surf_graphs.proofs.CellLaws.{null_signature}
 use Rattle.surf_graphs.proofs.Counting.{left_edges as left_edges_count}
@@ -110,8 +110,8 @@ module _ (mesh : Mesh) (lengths : List ℕ) (surface : IsSurface mesh) (positive
               let v = signature_of s d (loop (primal s) tree e) in
               let covered : SpannedUpToWeight numbers
               (weighed (λ c. c.size) (λ c. class_of mesh d c.walk) (candidates mesh lengths trees))
-              (signed s d (loop_of (primal s) (edge_length lengths) tree e)) =
-              subst (λ xs. SpannedUpToWeight numbers xs (signed s d (loop_of (primal s) (edge_length lengths) tree e)))
+              (signed s d (loop_chain (primal s) (edge_length lengths) tree e)) =
+              subst (λ xs. SpannedUpToWeight numbers xs (signed s d (loop_chain (primal s) (edge_length lengths) tree e)))
               (weighed_loops mesh lengths trees surface positive chosen d split (candidates mesh lengths trees)
               (below_sized mesh lengths trees surface positive chosen mesh.vertices (omega arith)))
               (loops_covered mesh lengths trees surface positive chosen d split y e y_in e_in) in

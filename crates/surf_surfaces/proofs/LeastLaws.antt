@@ -9,7 +9,7 @@ use Rattle.surf_z2.specs.Space.{numbers, Independent, Weighed, SpannedUpToWeight
 use Rattle.surf_z2.proofs.Basics.{independence_law}
 use Rattle.surf_z2.proofs.Ranks.{spanned_among}
 use Rattle.surf_graphs.specs.Graphs.{IsEven}
-use Rattle.surf_graphs.specs.Independence.{signature_of, signed, loop_of}
+use Rattle.surf_graphs.specs.Independence.{signature_of, signed, loop_chain}
 use Rattle.surf_graphs.specs.Trees.{IsShortest, loop}
 use Rattle.surf_graphs.specs.Cells.{primal, Split, IsSplit, IsHeaviest}
 use Rattle.surf_graphs.proofs.Counting.{left_edges}
@@ -130,29 +130,29 @@ module _ (mesh : Mesh) (lengths : List ℕ) (d : Split) (left : List ℕ) (surfa
 
   -- the left loops with their classes and lengths, whichever way they are seen
   pub weighed_left : map (signed (cells_of mesh) d) (map (weighed_walk mesh lengths) (map (loop_walk mesh d.tree) left))
-      ≡ map (λ l. signed (cells_of mesh) d (loop_of (primal (cells_of mesh)) (edge_length lengths) d.tree l)) left
+      ≡ map (λ l. signed (cells_of mesh) d (loop_chain (primal (cells_of mesh)) (edge_length lengths) d.tree l)) left
   weighed_left =
       map-map (signed (cells_of mesh) d) (weighed_walk mesh lengths) (map (loop_walk mesh d.tree) left)
       ∙ map-map (λ w. signed (cells_of mesh) d (weighed_walk mesh lengths w)) (loop_walk mesh d.tree) left
       ∙ map-same (λ l. signed (cells_of mesh) d (weighed_walk mesh lengths (loop_walk mesh d.tree l)))
-      (λ l. signed (cells_of mesh) d (loop_of (primal (cells_of mesh)) (edge_length lengths) d.tree l)) left
+      (λ l. signed (cells_of mesh) d (loop_chain (primal (cells_of mesh)) (edge_length lengths) d.tree l)) left
       (all_each (λ l. l < edge_count mesh)
       (λ l. signed (cells_of mesh) d (weighed_walk mesh lengths (loop_walk mesh d.tree l))
-      ≡ signed (cells_of mesh) d (loop_of (primal (cells_of mesh)) (edge_length lengths) d.tree l)) left
+      ≡ signed (cells_of mesh) d (loop_chain (primal (cells_of mesh)) (edge_length lengths) d.tree l)) left
       (λ l h. weighed_same _ _ (runs l h).size (loop_class l h)) left_below)
 
   -- where the cotree is heaviest, they span each loop by no longer ones
   pub left_spans : IsHeaviest (cells_of mesh) (edge_length lengths) d → (e : ℕ) → e < edge_count mesh →
       SpannedUpToWeight numbers
       (map (signed (cells_of mesh) d) (map (weighed_walk mesh lengths) (map (loop_walk mesh d.tree) left)))
-      (signed (cells_of mesh) d (loop_of (primal (cells_of mesh)) (edge_length lengths) d.tree e))
+      (signed (cells_of mesh) d (loop_chain (primal (cells_of mesh)) (edge_length lengths) d.tree e))
   left_spans heavy e l =
       let s = cells_of mesh in
-      let at : ℕ → Weighed ℕ = λ h. signed s d (loop_of (primal s) (edge_length lengths) d.tree h) in
+      let at : ℕ → Weighed ℕ = λ h. signed s d (loop_chain (primal s) (edge_length lengths) d.tree h) in
       let y = at e in
       let one : SpannedUpToWeight numbers (map at d.left) y =
       subst (λ xs. SpannedUpToWeight numbers xs y)
-      (map-map (signed s d) (loop_of (primal s) (edge_length lengths) d.tree) d.left)
+      (map-map (signed s d) (loop_chain (primal s) (edge_length lengths) d.tree) d.left)
       (loop_spanned s (edge_length lengths) d (surfaces_are_cells mesh surface).complex split heavy e l) in
       subst (λ xs. SpannedUpToWeight numbers xs y) (sym weighed_left)
       (spanned_permuted (map at d.left) (map at left) y (IsPermutation-map at d.left left same) one)

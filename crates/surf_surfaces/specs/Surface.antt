@@ -1,5 +1,5 @@
 -- Closed surfaces: where a mesh is one, and its turnings.
-use Rattle.std.specs.Prelude.{◌≡◌, ℕ, ◌+◌, ◌<◌, ◌==◌, Bool, true, ◌||◌, not, if◌then◌else◌, List, [], ◌∷◌, length, Contains, slice_index, slice_index_or}
+use Rattle.std.specs.Prelude.{◌≡◌, ℕ, ◌+◌, ◌-◌, ◌<◌, ◌==◌, Bool, true, ◌||◌, not, if◌then◌else◌, List, [], ◌∷◌, length, Contains, slice_index, slice_index_or}
 use Rattle.std.specs.List.{list_any}
 use Rattle.surf_surfaces.specs.Joined.{Joined}
 use Rattle.surf_surfaces.specs.Mesh.{Mesh, IsMesh, sides, pair, pair_of, pair_eq, edges}
@@ -100,3 +100,7 @@ IsTurning mesh turned =
 -- the surface has a turning
 abbrev pub IsTwoSided : Mesh → Type 0
 IsTwoSided mesh = (turned : ℕ → Bool) × IsTurning mesh turned
+
+-- how many independent loops a surface has: two less its characteristic
+abbrev pub loop_count : Mesh → ℕ
+loop_count mesh = edge_count mesh + 2 - (mesh.vertices + face_count mesh)

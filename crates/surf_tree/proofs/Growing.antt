@@ -8,8 +8,9 @@ use Rattle.surf_graphs.specs.Trees.{IsTree, IsShortest}
 use Rattle.surf_graphs.proofs.Loops.{joins_turned, joins_ends}
 use Rattle.surf_graphs.proofs.Distances.{ranks_least}
 use Rattle.surf_lengths.specs.Lengths.{longest}
-use Rattle.surf_tree.specs.Tables.{TreeTables, nobody, tree_of}
-use Rattle.surf_tree.specs.Searches.{at, IsSettled, IsTight, IsLeastTight}
+use Rattle.surf_base.specs.Tables.{nobody, at}
+use Rattle.surf_tree.specs.Tables.{TreeTables, tree_of}
+use Rattle.surf_tree.specs.Searches.{IsSettled, IsTight, IsLeastTight}
 use Rattle.surf_tree.proofs.SearchWords.{IsGrownIn}
 
 abbrev tables : ℕ → List ℕ → List ℕ → List ℕ → List Bool → TreeTables

@@ -13,7 +13,8 @@ use Rattle.surf_surfaces.proofs.EdgeLaws.{place_of-among, place_of-ends, among-c
 use Rattle.surf_surfaces.proofs.CellLaws.{surfaces_are_cells, ends_below, joins_from, joins_is}
 use Rattle.surf_surfaces.proofs.GraphWalkLaws.{walks_are_graph_walks, from_joined}
 use Rattle.surf_lengths.specs.Lengths.{longest}
-use Rattle.surf_tree.specs.Tables.{TreeTables, IsMadeFor, nobody, tree_of}
+use Rattle.surf_base.specs.Tables.{nobody}
+use Rattle.surf_tree.specs.Tables.{TreeTables, AreTreeTables, tree_of}
 use Rattle.surf_tree.specs.Grown.{IsGrown}
 use Rattle.surf_tree.proofs.SearchWords.{IsGrownIn}
 
@@ -77,7 +78,7 @@ module _ (mesh : Mesh) (lengths : List ℕ) (t : TreeTables) (surface : IsSurfac
     up = up_is;
   }
 
-  pub grown_here : IsMadeFor mesh t → mesh.vertices ≤ 2 ^ 29 → IsGrown mesh lengths t.base t
+  pub grown_here : AreTreeTables mesh t → mesh.vertices ≤ 2 ^ 29 → IsGrown mesh lengths t.base t
   grown_here made few = record {
     made = made;
     base_is = refl;

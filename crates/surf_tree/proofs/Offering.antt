@@ -9,7 +9,8 @@ use Rattle.surf_z2.proofs.Sums.{count_below-without, count_below-same, count_bel
 use Rattle.surf_graphs.proofs.Loops.{joins_turned}
 use Rattle.surf_heap.specs.Entries.{Entries, entry_of, lesser, precedes, IsLeastEntry}
 use Rattle.surf_mesh.specs.Links.{link_at, IsRow}
-use Rattle.surf_tree.specs.Searches.{at, far, HasKey, IsOffered}
+use Rattle.surf_base.specs.Tables.{at}
+use Rattle.surf_tree.specs.Searches.{far, HasKey, IsOffered}
 use Rattle.surf_lengths.specs.Lengths.{longest}
 use Rattle.surf_tree.proofs.SearchWords.{IsSearch, IsOfferedSome}
 use Rattle.surf_tree.proofs.Settling.{settle_one}

@@ -6,7 +6,8 @@ use Rattle.surf_lengths.specs.Lengths.{longest}
 use Rattle.surf_tree.specs.Searches.{far, HasKey, IsReached, IsLeastTight}
 use Rattle.surf_graphs.specs.Loops.{IsSimple}
 use Rattle.surf_graphs.specs.Trees.{IsTree, IsShortest, in_tree}
-use Rattle.surf_tree.specs.Tables.{TreeTables, nobody, tree_of}
+use Rattle.surf_base.specs.Tables.{nobody}
+use Rattle.surf_tree.specs.Tables.{TreeTables, tree_of}
 
 -- a node in the heap, with its key
 pub record IsOutside (g : Graph) (len : ℕ → ℕ) (base : ℕ) (dist : ℕ → ℕ) (last left w k : ℕ) : Type 0 where

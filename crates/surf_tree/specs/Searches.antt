@@ -3,11 +3,7 @@ use Rattle.std.specs.Prelude.{ℕ, ◌≡◌, ◌≢◌, ◌<◌, ◌≤◌, ◌
 use Rattle.surf_graphs.specs.Graphs.{Graph, IsGraph, IsConnected, joins}
 use Rattle.surf_heap.specs.Entries.{Entries, entry_of}
 use Rattle.surf_lengths.specs.Lengths.{longest}
-use Rattle.surf_tree.specs.Tables.{nobody}
-
--- the entry of a table
-abbrev pub at : List ℕ → ℕ → ℕ
-at table n = slice_index table n
+use Rattle.surf_base.specs.Tables.{nobody, at}
 
 -- the distance of a node that isn't settled
 abbrev pub far : ℕ

@@ -3,6 +3,7 @@ use Rattle.std.specs.Prelude.{◌≡◌, ℕ, ◌==◌, Bool, List, length, slic
 use Rattle.surf_graphs.specs.Trees.{Tree}
 use Rattle.surf_surfaces.specs.Mesh.{Mesh}
 use Rattle.surf_surfaces.specs.Surface.{edge_count}
+use Rattle.surf_base.specs.Tables.{nobody}
 
 -- the base, for each vertex its distance, its parent and the edge to it, and for each edge whether the tree has it
 pub record TreeTables : Type 0 where
@@ -11,10 +12,6 @@ pub record TreeTables : Type 0 where
   pub parents : List ℕ
   pub ups : List ℕ
   pub flags : List Bool
-
--- stands for no parent
-abbrev pub nobody : ℕ
-nobody = 4294967295
 
 -- what a table of parents or of edges to them has for a vertex
 abbrev pub one_above : List ℕ → TreeTables → ℕ → Option ℕ
@@ -32,7 +29,7 @@ abbrev pub tree_of : TreeTables → Tree
 tree_of t = record { root = t.base; parent = slice_index t.parents; up = slice_index t.ups; rank = slice_index t.distances }
 
 -- there is an entry for each vertex and for each edge
-pub record IsMadeFor (mesh : Mesh) (t : TreeTables) : Type 0 where
+pub record AreTreeTables (mesh : Mesh) (t : TreeTables) : Type 0 where
   pub distances : length t.distances ≡ mesh.vertices
   pub parents : length t.parents ≡ mesh.vertices
   pub ups : length t.ups ≡ mesh.vertices

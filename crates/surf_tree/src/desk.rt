@@ -1,7 +1,7 @@
 //! The tables of one tree.
 ghost use Rattle.std.specs.Prelude.{◌≡◌, ◌<◌, length, slice_index, IfOk};
 ghost use Rattle.surf_surfaces.specs.Surface.{edge_count};
-ghost use Rattle.surf_tree.specs.Tables.{TreeTables, IsMadeFor, parent_of, parent_edge_of};
+ghost use Rattle.surf_tree.specs.Tables.{TreeTables, AreTreeTables, parent_of, parent_edge_of};
 ghost use Rattle.surf_tree.specs.Grown.{IsGrown};
 
 use crate::network::MeshNetwork;
@@ -47,7 +47,7 @@ impl TreeDesk {
     /// A desk for the trees of a mesh, and of every mesh with as many vertices and edges. No
     /// later call takes memory.
     pub fn make(alloc: Global, mesh: &HalfMesh) -> Result<TreeDesk, NoMemory>
-        ensures made { IfOk result (λ desk. IsMadeFor mesh.now desk) }
+        ensures made { IfOk result (λ desk. AreTreeTables mesh.now desk) }
     {
         let vertices = mesh.vertices() as usize;
         let heap = Heap::make(alloc, mesh.vertices())?;
@@ -68,7 +68,7 @@ impl TreeDesk {
 
     /// Grows the tree of shortest walks from a base. It takes no memory and can't be refused.
     pub fn grow(&mut self, mesh: &HalfMesh, lengths: &Lengths, base: VertexId)
-        requires made { IsMadeFor mesh.now self.old }
+        requires made { AreTreeTables mesh.now self.old }
         requires base { base < mesh.now.vertices }
         requires lengths { length lengths.now ≡ edge_count mesh.now }
         ensures grown { IsGrown mesh.now lengths.now base self.new }

@@ -6,8 +6,8 @@ ghost use Rattle.surf_surfaces.specs.Surface.{edge_count};
 ghost use Rattle.surf_surfaces.specs.Walk.{edge_length};
 ghost use Rattle.surf_surfaces.specs.Cells.{cells_of};
 ghost use Rattle.surf_lengths.specs.Lengths.{longest};
-ghost use Rattle.surf_tree.specs.Tables.{nobody};
-ghost use Rattle.surf_tree.specs.Searches.{at, IsLeastTight};
+ghost use Rattle.surf_base.specs.Tables.{nobody, at};
+ghost use Rattle.surf_tree.specs.Searches.{IsLeastTight};
 
 use crate::network::{MeshNetwork, Network};
 

@@ -1,7 +1,8 @@
 //! Settles the nodes of a network from a base on, the nearest first.
 ghost use Rattle.std.specs.Prelude.{◌≡◌, ◌<◌, ◌≤◌, ◌+◌, ◌^◌, length};
 ghost use Rattle.surf_lengths.specs.Lengths.{longest};
-ghost use Rattle.surf_tree.specs.Searches.{at, IsOffered, IsSearchable, IsSettled};
+ghost use Rattle.surf_base.specs.Tables.{at};
+ghost use Rattle.surf_tree.specs.Searches.{IsOffered, IsSearchable, IsSettled};
 
 use crate::network::Network;
 use surf_heap::Heap;

@@ -9,7 +9,7 @@ use Rattle.surf_z2.specs.Space.{numbers, chosen, Independent, Spanned, SpannedUp
 use Rattle.surf_z2.proofs.Basics.{independence_law, span_law}
 use Rattle.surf_graphs.specs.Cells.{primal, Split, IsSplit}
 use Rattle.surf_graphs.specs.Trees.{Tree, IsTree, IsShortest, loop}
-use Rattle.surf_graphs.specs.Independence.{signature_of, signed, loop_of, IsCovering}
+use Rattle.surf_graphs.specs.Independence.{signature_of, signed, loop_chain, IsCovering}
 use Rattle.surf_graphs.proofs.Independence.{signature_of-same}
 use Rattle.surf_surfaces.specs.Mesh.{Mesh, pair, pair_of, edges, steps, steps_from}
 use Rattle.surf_surfaces.specs.Surface.{edge_count, IsSurface}
@@ -27,7 +27,7 @@ use Rattle.surf_surfaces.proofs.SignatureLaws.{signatures_are_classes}
 use Rattle.surf_graphs.proofs.Loops.{joins_turned}
 use Rattle.surf_graphs.proofs.Trees.{joined_below}
 use Rattle.surf_validity.specs.Rows.{BasisCert}
-use Rattle.surf_validity.specs.Valid.{tree_of, dual_tree, IsTreeValid, IsDualValid, IsDivided}
+use Rattle.surf_validity.specs.Valid.{certified_tree, dual_tree, IsTreeValid, IsDualValid, IsDivided}
 use Rattle.surf_validity.specs.Bases.{tree_at, split_in, signatures, IsClosedList, weighed_cycle, weighed_loop, IsValidBasis}
 use Rattle.surf_validity.specs.Laws.{ValidBasesAreLeast}
 use Rattle.surf_validity.proofs.TreeLaws.{rows_are_tree, rows_are_shortest, rows_in_tree}
@@ -94,7 +94,7 @@ module _ (mesh : Mesh) (lengths : List ℕ) (cert : BasisCert) (surface : IsSurf
       IsTreeValid mesh lengths (tree_at cert 0) → IsDualValid mesh cert.dual →
       IsDivided mesh (tree_at cert 0) cert.dual cert.left → IsSplit (cells_of mesh) (split_in mesh cert)
   split_is positive base_in tree faces divided =
-      is_split mesh (tree_of mesh (tree_at cert 0)) (dual_tree mesh cert.dual) cert.left (record {
+      is_split mesh (certified_tree mesh (tree_at cert 0)) (dual_tree mesh cert.dual) cert.left (record {
         one_of = λ e l. rw (
           rows_in_tree mesh lengths (tree_at cert 0) surface positive base_in tree e l,
           dual_rows_in_tree mesh cert.dual surface faces e l,
@@ -135,14 +135,14 @@ module _ (mesh : Mesh) (lengths : List ℕ) (cert : BasisCert) (surface : IsSurf
     base_in : (x : ℕ) → x < mesh.vertices → (tree_at cert x).base < mesh.vertices
     base_in x l = subst (λ b. b < mesh.vertices) (sym (valid.shape.bases x l)) l
 
-    tree_is : (x : ℕ) → x < mesh.vertices → IsTree (primal (cells_of mesh)) (tree_of mesh (tree_at cert x))
+    tree_is : (x : ℕ) → x < mesh.vertices → IsTree (primal (cells_of mesh)) (certified_tree mesh (tree_at cert x))
     tree_is x l = rows_are_tree mesh lengths (tree_at cert x) surface positive (base_in x l) (valid.trees x l)
 
     short : (x : ℕ) → x < mesh.vertices →
-        IsShortest (primal (cells_of mesh)) (edge_length lengths) (tree_of mesh (tree_at cert x))
+        IsShortest (primal (cells_of mesh)) (edge_length lengths) (certified_tree mesh (tree_at cert x))
     short x l = rows_are_shortest mesh lengths (tree_at cert x) surface positive (base_in x l) (valid.trees x l)
 
-    trees : AreShortestTrees mesh lengths (λ x. tree_of mesh (tree_at cert x))
+    trees : AreShortestTrees mesh lengths (λ x. certified_tree mesh (tree_at cert x))
     trees = record { root = valid.shape.bases; is_tree = tree_is; shortest = short }
 
     split : IsSplit (cells_of mesh) d
@@ -189,12 +189,12 @@ module _ (mesh : Mesh) (lengths : List ℕ) (cert : BasisCert) (surface : IsSurf
           (subst (Independent numbers) (sym classes) independent);
     }
 
-    covers : IsCovering (cells_of mesh) (edge_length lengths) d (λ x. tree_of mesh (tree_at cert x))
+    covers : IsCovering (cells_of mesh) (edge_length lengths) d (λ x. certified_tree mesh (tree_at cert x))
         (map (weighed_walk mesh lengths) cert.cycles)
     covers x e x_in e_in =
-        let tree = tree_of mesh (tree_at cert x) in
+        let tree = certified_tree mesh (tree_at cert x) in
         let target : weighed_loop mesh lengths cert x e
-        ≡ signed (cells_of mesh) d (loop_of (primal (cells_of mesh)) (edge_length lengths) tree e) =
+        ≡ signed (cells_of mesh) d (loop_chain (primal (cells_of mesh)) (edge_length lengths) tree e) =
         weighed_same _ _ refl (loop_signature tree (tree_is x x_in) (short x x_in) e e_in) in
         subst (SpannedUpToWeight numbers (map (signed (cells_of mesh) d) (map (weighed_walk mesh lengths) cert.cycles)))
         target
@@ -203,6 +203,6 @@ module _ (mesh : Mesh) (lengths : List ℕ) (cert : BasisCert) (surface : IsSurf
 
 pub valid_bases_are_least : ValidBasesAreLeast
 valid_bases_are_least mesh lengths cert surface positive valid =
-    covering_bases_are_least mesh lengths (split_in mesh cert) (λ x. tree_of mesh (tree_at cert x)) cert.cycles surface
+    covering_bases_are_least mesh lengths (split_in mesh cert) (λ x. certified_tree mesh (tree_at cert x)) cert.cycles surface
     (split mesh lengths cert surface positive valid) (trees mesh lengths cert surface positive valid)
     (basis mesh lengths cert surface positive valid) (covers mesh lengths cert surface positive valid)

@@ -10,7 +10,7 @@ use Rattle.surf_z2.proofs.Least.{least_law}
 use Rattle.surf_z2.proofs.Numbers.{Decides-is_nothing}
 use Rattle.surf_graphs.specs.Cells.{primal, Split, IsSplit}
 use Rattle.surf_graphs.specs.Trees.{loop}
-use Rattle.surf_graphs.specs.Independence.{signed, loop_of}
+use Rattle.surf_graphs.specs.Independence.{signed, loop_chain}
 use Rattle.surf_graphs.proofs.Independence.{signature_of-same}
 use Rattle.surf_surfaces.specs.Mesh.{Mesh}
 use Rattle.surf_surfaces.specs.Surface.{edge_count, IsSurface}
@@ -26,9 +26,9 @@ use Rattle.surf_surfaces.proofs.ClassLaws.{independent_by_classes, some_vertex}
 use Rattle.surf_surfaces.proofs.GreedyChoiceLaws.{choice_is_greedy}
 use Rattle.surf_surfaces.proofs.LeastLaws.{weighed_same}
 use Rattle.surf_validity.specs.Rows.{TreeRows, BasisCert}
-use Rattle.surf_validity.specs.Valid.{tree_of, loop_size, IsTreeValid, IsDivided, IsValidLoops}
-use Rattle.surf_validity.specs.Bases.{no_rows, tree_at, split_in, signatures, weighed_cycle, weighed_loop, IsClosedList, IsCovered, HasShape, IsValidBasis}
-use Rattle.surf_validity.specs.Chosen.{rows_of, cert_of, basis_cert_of}
+use Rattle.surf_validity.specs.Valid.{certified_tree, loop_size, IsTreeValid, IsDivided, IsValidLoops}
+use Rattle.surf_validity.specs.Bases.{no_rows, tree_at, split_in, signatures, weighed_cycle, weighed_loop, IsClosedList, IsCovered, HasBasisShape, IsValidBasis}
+use Rattle.surf_validity.specs.Chosen.{rows_for, chosen_cert, basis_cert_of}
 use Rattle.surf_validity.specs.Laws.{ChosenBasesAreValid}
 use Rattle.surf_validity.proofs.TreeLaws.{rows_are_tree, rows_are_shortest}
 use Rattle.surf_validity.proofs.BasisLaws.{in_no_sum_before, split_is, classes_are, weighed_are, loop_signature}
@@ -56,10 +56,10 @@ module _ (mesh : Mesh) (lengths : List ℕ) (trees : ℕ → Trees) (basis : Lis
   some : 0 < mesh.vertices
   some = some_vertex mesh surface
 
-  rows_are : (x : ℕ) → x < mesh.vertices → tree_at cert x ≡ rows_of mesh (trees x).tree
-  rows_are x l = at (λ y. rows_of mesh (trees y).tree) mesh.vertices x no_rows l
+  rows_are : (x : ℕ) → x < mesh.vertices → tree_at cert x ≡ rows_for mesh (trees x).tree
+  rows_are x l = at (λ y. rows_for mesh (trees y).tree) mesh.vertices x no_rows l
 
-  loops_valid : (x : ℕ) → x < mesh.vertices → IsValidLoops mesh lengths (cert_of mesh (trees x))
+  loops_valid : (x : ℕ) → x < mesh.vertices → IsValidLoops mesh lengths (chosen_cert mesh (trees x))
   loops_valid x l = valid_at mesh lengths x (trees x) surface positive (chosen x l)
 
   base_is : (x : ℕ) → x < mesh.vertices → (tree_at cert x).base ≡ x
@@ -105,17 +105,17 @@ module _ (mesh : Mesh) (lengths : List ℕ) (trees : ℕ → Trees) (basis : Lis
       ∙ weighed_are mesh lengths cert surface (walks basis) closed_each
 
   loop_weighed : (x e : ℕ) → x < mesh.vertices → e < edge_count mesh → weighed_loop mesh lengths cert x e
-      ≡ signed (cells_of mesh) d (loop_of (primal (cells_of mesh)) (edge_length lengths) (trees x).tree e)
+      ≡ signed (cells_of mesh) d (loop_chain (primal (cells_of mesh)) (edge_length lengths) (trees x).tree e)
   loop_weighed x e x_in e_in =
       let g = primal (cells_of mesh) in
-      let rows = rows_of mesh (trees x).tree in
+      let rows = rows_for mesh (trees x).tree in
       let base_in = (loops_valid x x_in).shape.base in
       let valid = (loops_valid x x_in).tree in
-      let signature = ap (λ (r : TreeRows). walk_signature mesh d (loop_walk mesh (tree_of mesh r) e)) (rows_are x x_in)
-      ∙ loop_signature mesh lengths cert surface (tree_of mesh rows)
+      let signature = ap (λ (r : TreeRows). walk_signature mesh d (loop_walk mesh (certified_tree mesh r) e)) (rows_are x x_in)
+      ∙ loop_signature mesh lengths cert surface (certified_tree mesh rows)
       (rows_are_tree mesh lengths rows surface positive base_in valid)
       (rows_are_shortest mesh lengths rows surface positive base_in valid) e e_in
-      ∙ signature_of-same (cells_of mesh) d (loop g (tree_of mesh rows) e) (loop g (trees x).tree e)
+      ∙ signature_of-same (cells_of mesh) d (loop g (certified_tree mesh rows) e) (loop g (trees x).tree e)
       (λ h l. loop_is mesh lengths x (trees x) surface positive (chosen x x_in) e h e_in) in
       let weight = ap (λ (r : TreeRows). loop_size mesh lengths r e) (rows_are x x_in)
       ∙ size_is mesh lengths x (trees x) surface positive (chosen x x_in) e e_in in
@@ -125,7 +125,7 @@ module _ (mesh : Mesh) (lengths : List ℕ) (trees : ℕ → Trees) (basis : Lis
   covered x e x_in e_in =
       let vector : Loop → ℕ = λ c. class_of mesh d c.walk in
       let all = candidates mesh lengths trees in
-      let target = signed (cells_of mesh) d (loop_of (primal (cells_of mesh)) (edge_length lengths) (trees x).tree e) in
+      let target = signed (cells_of mesh) d (loop_chain (primal (cells_of mesh)) (edge_length lengths) (trees x).tree e) in
       let sized = below_sized mesh lengths trees surface positive chosen mesh.vertices (omega arith) in
       let by_all : SpannedUpToWeight numbers (weighed (λ c. c.size) vector all) target =
       subst (λ xs. SpannedUpToWeight numbers xs target)
@@ -143,11 +143,11 @@ module _ (mesh : Mesh) (lengths : List ℕ) (trees : ℕ → Trees) (basis : Lis
 
   -- ---- all of it
 
-  shape : HasShape mesh cert
+  shape : HasBasisShape mesh cert
   shape =
       let first = (loops_valid 0 some).shape in
       record {
-        trees = size (λ x. rows_of mesh (trees x).tree) mesh.vertices;
+        trees = size (λ x. rows_for mesh (trees x).tree) mesh.vertices;
         distances = λ x l.
             ap (λ (rows : TreeRows). length rows.distance) (rows_are x l) ∙ (loops_valid x l).shape.distances;
         parents = λ x l. ap (λ (rows : TreeRows). length rows.parent) (rows_are x l) ∙ (loops_valid x l).shape.parents;

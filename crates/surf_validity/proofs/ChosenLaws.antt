@@ -25,8 +25,8 @@ use Rattle.surf_surfaces.proofs.CellLaws.{surfaces_are_cells, ends_below}
 use Rattle.surf_surfaces.proofs.ShortestTreeLaws.{shortest_is_tree, shortest_is_shortest}
 use Rattle.surf_surfaces.proofs.CotreeLaws.{passing_each, passing_found, is_split}
 use Rattle.surf_validity.specs.Rows.{LoopCert}
-use Rattle.surf_validity.specs.Valid.{distance_at, parent_at, depth_at, side_at, or_zero, tree_of, dual_tree, across, IsParent, AddsUp, IsNoShortCut, IsTreeValid, IsDualRow, is_parent_edge, is_dual_edge, is_listed, just_one, IsDivided, loop_size, HasNoShorter, HasShape, IsValidLoops}
-use Rattle.surf_validity.specs.Chosen.{parent_in, side_in, cert_of}
+use Rattle.surf_validity.specs.Valid.{distance_at, parent_at, depth_at, side_at, or_zero, certified_tree, dual_tree, across, IsParent, AddsUp, IsNoShortCut, IsTreeValid, IsDualRow, is_parent_edge, is_dual_edge, is_listed, just_one, IsDivided, loop_size, HasNoShorter, HasShape, IsValidLoops}
+use Rattle.surf_validity.specs.Chosen.{parent_in, side_in, chosen_cert}
 use Rattle.surf_validity.specs.Laws.{ChosenLoopsAreValid}
 use Rattle.surf_validity.proofs.TreeLaws.{rows_in_tree}
 use Rattle.surf_validity.proofs.DualLaws.{dual_rows_in_tree}
@@ -62,7 +62,7 @@ module _ (mesh : Mesh) (lengths : List ℕ) (base : ℕ) (trees : Trees) (surfac
   cotree = trees.cotree
 
   abbrev cert : LoopCert
-  cert = cert_of mesh trees
+  cert = chosen_cert mesh trees
 
   spans : IsTree (primal (cells_of mesh)) tree
   spans = shortest_is_tree mesh lengths base tree surface positive chosen.shortest
@@ -165,7 +165,7 @@ module _ (mesh : Mesh) (lengths : List ℕ) (base : ℕ) (trees : Trees) (surfac
   -- ---- each edge is in one of three sets
 
   vertex_up : (v : ℕ) → v < mesh.vertices → v ≢ tree.root →
-      ((tree_of mesh cert.tree).parent v ≡ tree.parent v) × ((tree_of mesh cert.tree).up v ≡ tree.up v)
+      ((certified_tree mesh cert.tree).parent v ≡ tree.parent v) × ((certified_tree mesh cert.tree).up v ≡ tree.up v)
   vertex_up v l ne =
       let parent : parent_at cert.tree v ≡ Some (tree.parent v) = parent_is v l ∙ rw (ne_eqb v tree.root ne) refl in
       rw parent (refl, sym (chosen.shortest.up v l (not_base v ne)))
@@ -289,9 +289,9 @@ module _ (mesh : Mesh) (lengths : List ℕ) (base : ℕ) (trees : Trees) (surfac
       (depth_at cert.dual f) f e l
       ∙ ap (λ k. on_way cotree k f e) (depth_is f l)
 
-  way_is : (v e : ℕ) → v < mesh.vertices → on_path (tree_of mesh cert.tree) v e ≡ on_path tree v e
+  way_is : (v e : ℕ) → v < mesh.vertices → on_path (certified_tree mesh cert.tree) v e ≡ on_path tree v e
   way_is v e l =
-      ways_same mesh.vertices (tree_of mesh cert.tree) tree refl
+      ways_same mesh.vertices (certified_tree mesh cert.tree) tree refl
       (λ n n_in ne.
       let it = vertex_up n n_in ne in
       (subst (λ p. p < mesh.vertices) (sym it.0) (spans.parent_in n n_in ne), it.0, it.1))
@@ -300,17 +300,17 @@ module _ (mesh : Mesh) (lengths : List ℕ) (base : ℕ) (trees : Trees) (surfac
 
   -- the loops through the tree that the rows say are those through the tree
   pub loop_is : (e h : ℕ) → e < edge_count mesh →
-      loop (primal (cells_of mesh)) (tree_of mesh (cert_of mesh trees).tree) e h
+      loop (primal (cells_of mesh)) (certified_tree mesh (chosen_cert mesh trees).tree) e h
       ≡ loop (primal (cells_of mesh)) trees.tree e h
   loop_is e h l =
       let inside = (surfaces_are_cells mesh surface).complex.primal_ends e l in
       let u = (ends mesh e).0 in
       let v = (ends mesh e).1 in
-      ap (λ b. xor (eqb e h) (xor b (on_path (tree_of mesh cert.tree) v h))) (way_is u h inside.0)
+      ap (λ b. xor (eqb e h) (xor b (on_path (certified_tree mesh cert.tree) v h))) (way_is u h inside.0)
       ∙ ap (λ b. xor (eqb e h) (xor (on_path tree u h) b)) (way_is v h inside.1)
 
   pub size_is : (e : ℕ) → e < edge_count mesh →
-      loop_size mesh lengths (cert_of mesh trees).tree e
+      loop_size mesh lengths (chosen_cert mesh trees).tree e
       ≡ loop_length (primal (cells_of mesh)) (edge_length lengths) trees.tree e
   size_is e l =
       let inside = (surfaces_are_cells mesh surface).complex.primal_ends e l in
@@ -347,7 +347,7 @@ module _ (mesh : Mesh) (lengths : List ℕ) (base : ℕ) (trees : Trees) (surfac
     base = spans.root_in;
   }
 
-  pub valid_at : IsValidLoops mesh lengths (cert_of mesh trees)
+  pub valid_at : IsValidLoops mesh lengths (chosen_cert mesh trees)
   valid_at = record {
     shape = shape;
     tree = tree_valid;

@@ -10,8 +10,8 @@ use Rattle.surf_surfaces.specs.Choice.{Loop, walks, loops_at}
 use Rattle.surf_surfaces.proofs.BasisLaws.{basis_is_least}
 use Rattle.surf_surfaces.proofs.LeastLaws.{map-same}
 use Rattle.surf_surfaces.proofs.LoopsAtLaws.{loops_are_least}
-use Rattle.surf_validity.specs.Valid.{loops_of}
-use Rattle.surf_validity.specs.Chosen.{cert_of}
+use Rattle.surf_validity.specs.Valid.{certified_loops}
+use Rattle.surf_validity.specs.Chosen.{chosen_cert}
 use Rattle.surf_validity.specs.Laws.{ChosenLoopsTotal, ChosenBasisTotal}
 use Rattle.surf_validity.proofs.LoopLaws.{valid_loops_are_least}
 use Rattle.surf_validity.proofs.ChosenLaws.{chosen_loops_are_valid}
@@ -28,13 +28,13 @@ sized_total mesh lengths loops sizes =
 -- two least loop systems have one total
 pub chosen_loops_total : ChosenLoopsTotal
 chosen_loops_total mesh lengths base trees surface positive chosen =
-    let cert = cert_of mesh trees in
+    let cert = chosen_cert mesh trees in
     let (certified, counted) = valid_loops_are_least mesh lengths cert surface positive
     (chosen_loops_are_valid mesh lengths base trees surface positive chosen) in
-    let ours = subst (λ x. IsLeastLoopSystem mesh lengths x (loops_of mesh cert)) chosen.shortest.root certified in
+    let ours = subst (λ x. IsLeastLoopSystem mesh lengths x (certified_loops mesh cert)) chosen.shortest.root certified in
     let loops = loops_are_least mesh lengths base trees surface positive chosen in
     let below = ours.least (walks (loops_at mesh lengths base trees)) loops.least.is_system in
-    let above = loops.least.least (loops_of mesh cert) ours.is_system in
+    let above = loops.least.least (certified_loops mesh cert) ours.is_system in
     let sized = sized_total mesh lengths (loops_at mesh lengths base trees) loops.sizes in
     omega (arith, counted, below, above, sized)
 

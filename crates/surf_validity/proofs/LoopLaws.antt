@@ -17,7 +17,7 @@ use Rattle.surf_surfaces.proofs.EdgeLaws.{place_of-among, among-contains}
 use Rattle.surf_surfaces.proofs.ClassLaws.{runs_loop}
 use Rattle.surf_surfaces.proofs.LeastLaws.{left_loops_are_least}
 use Rattle.surf_validity.specs.Rows.{LoopCert}
-use Rattle.surf_validity.specs.Valid.{tree_of, dual_tree, loop_size, loops_of, loops_total, IsValidLoops}
+use Rattle.surf_validity.specs.Valid.{certified_tree, dual_tree, loop_size, certified_loops, loops_total, IsValidLoops}
 use Rattle.surf_validity.specs.Laws.{ValidLoopsAreLeast}
 use Rattle.surf_validity.proofs.TreeLaws.{rows_are_tree, rows_are_shortest, rows_in_tree}
 use Rattle.surf_validity.proofs.DualLaws.{dual_rows_are_tree, dual_rows_in_tree}
@@ -26,7 +26,7 @@ use Rattle.surf_validity.proofs.SplitLaws.{AreApart, is_split, listed_permute, l
 module _ (mesh : Mesh) (lengths : List ℕ) (cert : LoopCert) (surface : IsSurface mesh)
     (positive : ArePositive mesh lengths) (valid : IsValidLoops mesh lengths cert) where
   abbrev tree : Tree
-  tree = tree_of mesh cert.tree
+  tree = certified_tree mesh cert.tree
 
   abbrev cotree : Tree
   cotree = dual_tree mesh cert.dual
@@ -71,18 +71,18 @@ module _ (mesh : Mesh) (lengths : List ℕ) (cert : LoopCert) (surface : IsSurfa
       front ∙ ap (λ n. n + sum (map (walk_length mesh lengths) loops)) one
       ∙ ap (λ n. size p + n) (sizes ps h.1) ∙ sym back
 
-  least : IsLeastLoopSystem mesh lengths cert.tree.base (loops_of mesh cert)
+  least : IsLeastLoopSystem mesh lengths cert.tree.base (certified_loops mesh cert)
   least =
       let numbers = map (edge_number mesh) cert.left in
-      let same : map (loop_walk mesh tree) numbers ≡ loops_of mesh cert =
+      let same : map (loop_walk mesh tree) numbers ≡ certified_loops mesh cert =
       map-map (loop_walk mesh tree) (edge_number mesh) cert.left in
       subst (IsLeastLoopSystem mesh lengths cert.tree.base) same
       (left_loops_are_least mesh lengths (split_of mesh tree cotree) numbers surface
       (is_split mesh tree cotree cert.left apart tree_is cotree_is) short heaviest
       (listed_permute mesh tree cotree cert.left apart tree_is cotree_is valid.shape.loops))
 
-  both : IsLeastLoopSystem mesh lengths cert.tree.base (loops_of mesh cert)
-      × (total mesh lengths (loops_of mesh cert) ≡ loops_total mesh lengths cert)
+  both : IsLeastLoopSystem mesh lengths cert.tree.base (certified_loops mesh cert)
+      × (total mesh lengths (certified_loops mesh cert) ≡ loops_total mesh lengths cert)
   both = (
     least,
     sizes cert.left

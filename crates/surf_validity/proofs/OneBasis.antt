@@ -10,7 +10,7 @@ use Rattle.surf_surfaces.proofs.BasisLaws.{basis_is_one}
 use Rattle.surf_surfaces.proofs.ClassLaws.{some_vertex}
 use Rattle.surf_surfaces.proofs.LoopsOne.{loops_are_one}
 use Rattle.surf_validity.specs.Rows.{TreeRows, DualRows, LoopCert, BasisCert}
-use Rattle.surf_validity.specs.Chosen.{rows_of, cert_of, basis_cert_of}
+use Rattle.surf_validity.specs.Chosen.{rows_for, chosen_cert, basis_cert_of}
 use Rattle.surf_validity.specs.Laws.{ChosenBasisCertsAreOne}
 use Rattle.surf_validity.proofs.OneCert.{tables_same, chosen_certs_are_one}
 
@@ -37,7 +37,7 @@ module _ (mesh : Mesh) (lengths : List ℕ) (a b : ℕ → Trees) (surface : IsS
       one.2 basis (subst (λ (loops : List Loop). IsGreedyChoice mesh loops basis) candidates_are_one p)
       ∙ sym (one.2 other q)
 
-  certs_same : (v : ℕ) → v < mesh.vertices → cert_of mesh (a v) ≡ cert_of mesh (b v)
+  certs_same : (v : ℕ) → v < mesh.vertices → chosen_cert mesh (a v) ≡ chosen_cert mesh (b v)
   certs_same v l = chosen_certs_are_one mesh lengths v (a v) (b v) surface positive (x v l) (y v l)
 
   pub basis_certs_same : (basis other : List Loop) → IsChosenBasis mesh lengths a basis →
@@ -49,7 +49,7 @@ module _ (mesh : Mesh) (lengths : List ℕ) (a b : ℕ → Trees) (surface : IsS
       let one = basis_cert_of mesh a basis in
       let two = basis_cert_of mesh b other in
       let trees : one.trees ≡ two.trees =
-      tables_same (λ v. rows_of mesh (a v).tree) (λ v. rows_of mesh (b v).tree) 0 mesh.vertices
+      tables_same (λ v. rows_for mesh (a v).tree) (λ v. rows_for mesh (b v).tree) 0 mesh.vertices
       (λ v l. ap (λ (cert : LoopCert). cert.tree) (certs_same v (omega (arith, l)))) in
       ap (λ (t : List TreeRows). all t one.dual one.left one.cycles) trees
       ∙ ap (λ (cert : LoopCert). all two.trees cert.dual cert.left one.cycles) first

@@ -9,7 +9,7 @@ use Rattle.surf_surfaces.specs.Cotree.{is_left, left_edges}
 use Rattle.surf_surfaces.specs.Choice.{Trees, AreChosenAt}
 use Rattle.surf_surfaces.proofs.LoopsOne.{trees_same, edges_same, cotrees_same}
 use Rattle.surf_validity.specs.Rows.{TreeRows, DualRows, LoopCert}
-use Rattle.surf_validity.specs.Chosen.{parent_in, side_in, rows_of, dual_rows_of, cert_of}
+use Rattle.surf_validity.specs.Chosen.{parent_in, side_in, rows_for, dual_rows_of, chosen_cert}
 use Rattle.surf_validity.specs.Laws.{ChosenCertsAreOne}
 
 pub tables_same : {X : Type 0} (f g : ℕ → X) (a n : ℕ) → ((k : ℕ) → k < a + n → f k ≡ g k) →
@@ -57,7 +57,7 @@ module _ (mesh : Mesh) (lengths : List ℕ) (base : ℕ) (a b : Trees) (surface 
         (cotrees_same mesh lengths base a b surface positive x y).edges e (omega (arith, l)),
       ) refl)
 
-  one_cert : cert_of mesh a ≡ cert_of mesh b
+  one_cert : chosen_cert mesh a ≡ chosen_cert mesh b
   one_cert =
       let ranks = tables_same a.tree.rank b.tree.rank 0 mesh.vertices
       (λ v l. (trees_same mesh lengths base a b surface positive x y).ranks v (omega (arith, l))) in
@@ -71,15 +71,15 @@ module _ (mesh : Mesh) (lengths : List ℕ) (base : ℕ) (a b : Trees) (surface 
       let faces : List ℕ → List (Option (ℕ × ℕ)) → DualRows = λ depth side. record { depth = depth; side = side } in
       let all : TreeRows → DualRows → List ℕ → LoopCert =
       λ tree dual left. record { tree = tree; dual = dual; left = map (ends mesh) left } in
-      let rows : rows_of mesh a.tree ≡ rows_of mesh b.tree =
-      ap (λ r. tables r (rows_of mesh a.tree).distance (rows_of mesh a.tree).parent) roots
-      ∙ ap (λ d. tables b.tree.root d (rows_of mesh a.tree).parent) ranks
-      ∙ ap (tables b.tree.root (rows_of mesh b.tree).distance) ups in
+      let rows : rows_for mesh a.tree ≡ rows_for mesh b.tree =
+      ap (λ r. tables r (rows_for mesh a.tree).distance (rows_for mesh a.tree).parent) roots
+      ∙ ap (λ d. tables b.tree.root d (rows_for mesh a.tree).parent) ranks
+      ∙ ap (tables b.tree.root (rows_for mesh b.tree).distance) ups in
       let duals : dual_rows_of mesh a.cotree ≡ dual_rows_of mesh b.cotree =
       ap (λ d. faces d (dual_rows_of mesh a.cotree).side) depths ∙ ap (faces (dual_rows_of mesh b.cotree).depth) over in
       ap (λ t. all t (dual_rows_of mesh a.cotree) (left_edges mesh a.tree a.cotree)) rows
-      ∙ ap (λ d. all (rows_of mesh b.tree) d (left_edges mesh a.tree a.cotree)) duals
-      ∙ ap (all (rows_of mesh b.tree) (dual_rows_of mesh b.cotree)) lefts
+      ∙ ap (λ d. all (rows_for mesh b.tree) d (left_edges mesh a.tree a.cotree)) duals
+      ∙ ap (all (rows_for mesh b.tree) (dual_rows_of mesh b.cotree)) lefts
 
 pub chosen_certs_are_one : ChosenCertsAreOne
 chosen_certs_are_one mesh lengths base a b surface positive x y = one_cert mesh lengths base a b surface positive x y

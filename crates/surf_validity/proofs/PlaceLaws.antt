@@ -2,18 +2,18 @@
 use Rattle.surf_surfaces.proofs.PlaceLaws.{loop_systems_are_least_in_order, bases_are_least_in_order}
 use Rattle.surf_surfaces.proofs.ShortestWalkLaws.{shortest_loops_are_shortest_not_null, shortest_of_bases_are_shortest_not_null, shortest_not_null_is_nonseparating, least_bases_measure_shortest, bases_have_shortest}
 use Rattle.surf_validity.specs.PlaceLaws.{ValidLoopsAreLeastInOrder, ShortestOfValidLoops, ValidBasesAreLeastInOrder, ShortestOfValidBases, ValidBasesHaveShortest, ValidBasesMeasureShortest}
-use Rattle.surf_validity.specs.Valid.{loops_of}
+use Rattle.surf_validity.specs.Valid.{certified_loops}
 use Rattle.surf_validity.proofs.LoopLaws.{valid_loops_are_least}
 use Rattle.surf_validity.proofs.BasisLaws.{valid_bases_are_least}
 
 pub valid_loops_are_least_in_order : ValidLoopsAreLeastInOrder
 valid_loops_are_least_in_order mesh lengths cert surface positive valid =
-    (loop_systems_are_least_in_order mesh lengths cert.tree.base (loops_of mesh cert) surface positive).0
+    (loop_systems_are_least_in_order mesh lengths cert.tree.base (certified_loops mesh cert) surface positive).0
     (valid_loops_are_least mesh lengths cert surface positive valid).0
 
 pub shortest_of_valid_loops : ShortestOfValidLoops
 shortest_of_valid_loops mesh lengths cert walk surface positive valid is =
-    shortest_loops_are_shortest_not_null mesh lengths cert.tree.base (loops_of mesh cert) walk surface positive
+    shortest_loops_are_shortest_not_null mesh lengths cert.tree.base (certified_loops mesh cert) walk surface positive
     (valid_loops_are_least mesh lengths cert surface positive valid).0 is
 
 pub valid_bases_are_least_in_order : ValidBasesAreLeastInOrder

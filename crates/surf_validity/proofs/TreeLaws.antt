@@ -15,7 +15,7 @@ use Rattle.surf_surfaces.proofs.EdgeLaws.{place_of-among, among-contains, ends-e
 use Rattle.surf_surfaces.proofs.CellLaws.{surfaces_are_cells, joins_from}
 use Rattle.surf_surfaces.proofs.GraphWalkLaws.{joined}
 use Rattle.surf_validity.specs.Rows.{TreeRows}
-use Rattle.surf_validity.specs.Valid.{distance_at, parent_at, or_zero, tree_of, IsParent, AddsUp, IsTreeValid, leads_up, is_parent_edge}
+use Rattle.surf_validity.specs.Valid.{distance_at, parent_at, or_zero, certified_tree, IsParent, AddsUp, IsTreeValid, leads_up, is_parent_edge}
 
 module _ (mesh : Mesh) (lengths : List ℕ) (rows : TreeRows) (surface : IsSurface mesh) where
   -- the edge between a vertex and the parent that is given
@@ -44,7 +44,7 @@ module _ (mesh : Mesh) (lengths : List ℕ) (rows : TreeRows) (surface : IsSurfa
     up : (v : ℕ) → v < mesh.vertices → v ≢ rows.base → LeadsUp v (or_zero (parent_at rows v))
     up v l ne = leads v (parent_at rows v) ne (valid.parents v l) (valid.distances v l)
 
-    pub rows_are_tree : IsTree (primal (cells_of mesh)) (tree_of mesh rows)
+    pub rows_are_tree : IsTree (primal (cells_of mesh)) (certified_tree mesh rows)
     rows_are_tree = record {
       root_in = base_in;
       parent_in = λ v l ne. (up v l ne).parent_in;
@@ -62,7 +62,7 @@ module _ (mesh : Mesh) (lengths : List ℕ) (rows : TreeRows) (surface : IsSurfa
     none_at_base None is adds = adds
     none_at_base (Some p) is adds = absurd (is.0 refl)
 
-    pub rows_are_shortest : IsShortest (primal (cells_of mesh)) (edge_length lengths) (tree_of mesh rows)
+    pub rows_are_shortest : IsShortest (primal (cells_of mesh)) (edge_length lengths) (certified_tree mesh rows)
     rows_are_shortest = record {
       none_at_root = none_at_base (parent_at rows rows.base) (valid.parents rows.base base_in)
           (valid.distances rows.base base_in);
@@ -80,7 +80,7 @@ module _ (mesh : Mesh) (lengths : List ℕ) (rows : TreeRows) (surface : IsSurfa
 
     -- the edges of the tree are those between a vertex and its parent
     pub rows_in_tree : (e : ℕ) → e < edge_count mesh →
-        in_tree (primal (cells_of mesh)) (tree_of mesh rows) e ≡ is_parent_edge mesh rows e
+        in_tree (primal (cells_of mesh)) (certified_tree mesh rows) e ≡ is_parent_edge mesh rows e
     rows_in_tree e e_in =
         any_below-same mesh.vertices
         (λ v. not (eqb v rows.base) && eqb (edge_number mesh (or_zero (parent_at rows v), v)) e)

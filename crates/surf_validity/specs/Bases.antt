@@ -10,7 +10,7 @@ use Rattle.surf_surfaces.specs.Loop.{loop_walk}
 use Rattle.surf_surfaces.specs.Cotree.{split_of}
 use Rattle.surf_surfaces.specs.Signature.{walk_signature}
 use Rattle.surf_validity.specs.Rows.{TreeRows, BasisCert}
-use Rattle.surf_validity.specs.Valid.{tree_of, dual_tree, loop_size, IsTreeValid, IsDualValid, IsDivided}
+use Rattle.surf_validity.specs.Valid.{certified_tree, dual_tree, loop_size, IsTreeValid, IsDualValid, IsDivided}
 
 -- no rows
 abbrev pub no_rows : TreeRows
@@ -22,7 +22,7 @@ tree_at cert x = slice_index_or cert.trees x no_rows
 
 -- the tree at vertex 0, the tree of faces, and the edges in neither, increasing
 abbrev pub split_in : Mesh → BasisCert → Split
-split_in mesh cert = split_of mesh (tree_of mesh (tree_at cert 0)) (dual_tree mesh cert.dual)
+split_in mesh cert = split_of mesh (certified_tree mesh (tree_at cert 0)) (dual_tree mesh cert.dual)
 
 -- a closed list of neighbours, not empty
 pub record IsClosedList (mesh : Mesh) (walk : List ℕ) : Type 0 where
@@ -48,7 +48,7 @@ weighed_cycle mesh lengths cert walk =
 abbrev pub weighed_loop : Mesh → List ℕ → BasisCert → ℕ → ℕ → Weighed ℕ
 weighed_loop mesh lengths cert x e = record {
   weight = loop_size mesh lengths (tree_at cert x) e;
-  vector = walk_signature mesh (split_in mesh cert) (loop_walk mesh (tree_of mesh (tree_at cert x)) e);
+  vector = walk_signature mesh (split_in mesh cert) (loop_walk mesh (certified_tree mesh (tree_at cert x)) e);
 }
 
 -- the signature of the loop is a sum of those of cycles that are no longer
@@ -57,7 +57,7 @@ IsCovered mesh lengths cert x e =
     SpannedUpToWeight numbers (map (weighed_cycle mesh lengths cert) cert.cycles) (weighed_loop mesh lengths cert x e)
 
 -- the lists are as long as the mesh asks for, and the tree at each place has that place as its base
-pub record HasShape (mesh : Mesh) (cert : BasisCert) : Type 0 where
+pub record HasBasisShape (mesh : Mesh) (cert : BasisCert) : Type 0 where
   pub trees : length cert.trees ≡ mesh.vertices
   pub distances : (x : ℕ) → x < mesh.vertices → length (tree_at cert x).distance ≡ mesh.vertices
   pub parents : (x : ℕ) → x < mesh.vertices → length (tree_at cert x).parent ≡ mesh.vertices
@@ -69,7 +69,7 @@ pub record HasShape (mesh : Mesh) (cert : BasisCert) : Type 0 where
 
 -- a certificate of a basis is valid
 pub record IsValidBasis (mesh : Mesh) (lengths : List ℕ) (cert : BasisCert) : Type 0 where
-  pub shape : HasShape mesh cert
+  pub shape : HasBasisShape mesh cert
   pub trees : (x : ℕ) → x < mesh.vertices → IsTreeValid mesh lengths (tree_at cert x)
   pub dual : IsDualValid mesh cert.dual
   pub divided : IsDivided mesh (tree_at cert 0) cert.dual cert.left

@@ -17,8 +17,8 @@ abbrev pub side_in : Mesh → Tree → ℕ → Option (ℕ × ℕ)
 side_in mesh cotree f = if f == cotree.root then None else Some (ends mesh (cotree.up f))
 
 -- the rows of a tree of vertices
-abbrev pub rows_of : Mesh → Tree → TreeRows
-rows_of mesh tree = record {
+abbrev pub rows_for : Mesh → Tree → TreeRows
+rows_for mesh tree = record {
   base = tree.root;
   distance = map tree.rank (range_with_len 0 mesh.vertices);
   parent = map (parent_in tree) (range_with_len 0 mesh.vertices);
@@ -32,9 +32,9 @@ dual_rows_of mesh cotree = record {
 }
 
 -- the certificate of two trees: their rows, and the edges in neither, increasing
-abbrev pub cert_of : Mesh → Trees → LoopCert
-cert_of mesh trees = record {
-  tree = rows_of mesh trees.tree;
+abbrev pub chosen_cert : Mesh → Trees → LoopCert
+chosen_cert mesh trees = record {
+  tree = rows_for mesh trees.tree;
   dual = dual_rows_of mesh trees.cotree;
   left = map (ends mesh) (left_edges mesh trees.tree trees.cotree);
 }
@@ -42,7 +42,7 @@ cert_of mesh trees = record {
 -- the certificate of a basis: the trees at all vertices, the tree of faces and the left edges at vertex 0, and the walks
 abbrev pub basis_cert_of : Mesh → (ℕ → Trees) → List Loop → BasisCert
 basis_cert_of mesh trees basis = record {
-  trees = map (λ x. rows_of mesh (trees x).tree) (range_with_len 0 mesh.vertices);
+  trees = map (λ x. rows_for mesh (trees x).tree) (range_with_len 0 mesh.vertices);
   dual = dual_rows_of mesh (trees 0).cotree;
   left = map (ends mesh) (left_edges mesh (trees 0).tree (trees 0).cotree);
   cycles = walks basis;

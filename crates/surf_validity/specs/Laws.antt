@@ -6,8 +6,8 @@ use Rattle.surf_surfaces.specs.Walk.{ArePositive}
 use Rattle.surf_surfaces.specs.Homology.{total, IsLeastLoopSystem, IsLeastBasis}
 use Rattle.surf_surfaces.specs.Choice.{Trees, Loop, AreChosenAt, AreChosen, loops_at, IsChosenBasis}
 use Rattle.surf_validity.specs.Rows.{LoopCert, BasisCert}
-use Rattle.surf_validity.specs.Chosen.{cert_of, basis_cert_of}
-use Rattle.surf_validity.specs.Valid.{IsValidLoops, loops_of, loops_total}
+use Rattle.surf_validity.specs.Chosen.{chosen_cert, basis_cert_of}
+use Rattle.surf_validity.specs.Valid.{IsValidLoops, certified_loops, loops_total}
 use Rattle.surf_validity.specs.Bases.{IsValidBasis, basis_total}
 
 -- the loops of a valid certificate are a least loop system at its base, and its total is theirs
@@ -15,8 +15,8 @@ abbrev pub ValidLoopsAreLeast : Type 0
 ValidLoopsAreLeast =
     (mesh : Mesh) (lengths : List ℕ) (cert : LoopCert) → IsSurface mesh → ArePositive mesh lengths →
     IsValidLoops mesh lengths cert →
-    IsLeastLoopSystem mesh lengths cert.tree.base (loops_of mesh cert)
-    × (total mesh lengths (loops_of mesh cert) ≡ loops_total mesh lengths cert)
+    IsLeastLoopSystem mesh lengths cert.tree.base (certified_loops mesh cert)
+    × (total mesh lengths (certified_loops mesh cert) ≡ loops_total mesh lengths cert)
 
 -- the cycles of a valid certificate are a least basis
 abbrev pub ValidBasesAreLeast : Type 0
@@ -28,13 +28,13 @@ ValidBasesAreLeast =
 abbrev pub ChosenLoopsAreValid : Type 0
 ChosenLoopsAreValid =
     (mesh : Mesh) (lengths : List ℕ) (base : ℕ) (trees : Trees) → IsSurface mesh → ArePositive mesh lengths →
-    AreChosenAt mesh lengths base trees → IsValidLoops mesh lengths (cert_of mesh trees)
+    AreChosenAt mesh lengths base trees → IsValidLoops mesh lengths (chosen_cert mesh trees)
 
 -- there is one, whichever trees show it
 abbrev pub ChosenCertsAreOne : Type 0
 ChosenCertsAreOne =
     (mesh : Mesh) (lengths : List ℕ) (base : ℕ) (a b : Trees) → IsSurface mesh → ArePositive mesh lengths →
-    AreChosenAt mesh lengths base a → AreChosenAt mesh lengths base b → cert_of mesh a ≡ cert_of mesh b
+    AreChosenAt mesh lengths base a → AreChosenAt mesh lengths base b → chosen_cert mesh a ≡ chosen_cert mesh b
 
 -- the certificate of the basis that is chosen from the loops at all bases is valid
 abbrev pub ChosenBasesAreValid : Type 0
@@ -56,7 +56,7 @@ abbrev pub ChosenLoopsTotal : Type 0
 ChosenLoopsTotal =
     (mesh : Mesh) (lengths : List ℕ) (base : ℕ) (trees : Trees) → IsSurface mesh → ArePositive mesh lengths →
     AreChosenAt mesh lengths base trees →
-    loops_total mesh lengths (cert_of mesh trees) ≡ sum (map (λ c. c.size) (loops_at mesh lengths base trees))
+    loops_total mesh lengths (chosen_cert mesh trees) ≡ sum (map (λ c. c.size) (loops_at mesh lengths base trees))
 
 -- and so for the basis
 abbrev pub ChosenBasisTotal : Type 0

@@ -6,20 +6,20 @@ use Rattle.surf_surfaces.specs.Walk.{ArePositive}
 use Rattle.surf_surfaces.specs.Cycle.{IsShortestNonseparating}
 use Rattle.surf_surfaces.specs.Places.{IsLeastLoopSystemInOrder, IsLeastBasisInOrder, IsShortestOf, IsShortestNotNull, IsShortestNotNullAt, MeasureShortest}
 use Rattle.surf_validity.specs.Rows.{LoopCert, BasisCert}
-use Rattle.surf_validity.specs.Valid.{IsValidLoops, loops_of}
+use Rattle.surf_validity.specs.Valid.{IsValidLoops, certified_loops}
 use Rattle.surf_validity.specs.Bases.{IsValidBasis}
 
 -- the loops of a valid certificate are least place by place
 abbrev pub ValidLoopsAreLeastInOrder : Type 0
 ValidLoopsAreLeastInOrder =
     (mesh : Mesh) (lengths : List ℕ) (cert : LoopCert) → IsSurface mesh → ArePositive mesh lengths →
-    IsValidLoops mesh lengths cert → IsLeastLoopSystemInOrder mesh lengths cert.tree.base (loops_of mesh cert)
+    IsValidLoops mesh lengths cert → IsLeastLoopSystemInOrder mesh lengths cert.tree.base (certified_loops mesh cert)
 
 -- and a shortest of them is a shortest of all closed walks at the base that are not null
 abbrev pub ShortestOfValidLoops : Type 0
 ShortestOfValidLoops =
     (mesh : Mesh) (lengths : List ℕ) (cert : LoopCert) (walk : List ℕ) → IsSurface mesh → ArePositive mesh lengths →
-    IsValidLoops mesh lengths cert → IsShortestOf mesh lengths (loops_of mesh cert) walk →
+    IsValidLoops mesh lengths cert → IsShortestOf mesh lengths (certified_loops mesh cert) walk →
     IsShortestNotNullAt mesh lengths cert.tree.base walk
 
 -- the cycles of a valid certificate are least place by place

@@ -36,8 +36,8 @@ or_zeros None = (0, 0)
 or_zeros (Some p) = p
 
 -- the tree of vertices that the rows say
-abbrev pub tree_of : Mesh → TreeRows → Tree
-tree_of mesh rows = record {
+abbrev pub certified_tree : Mesh → TreeRows → Tree
+certified_tree mesh rows = record {
   root = rows.base;
   parent = λ v. or_zero (parent_at rows v);
   up = λ v. edge_number mesh (or_zero (parent_at rows v), v);
@@ -166,8 +166,8 @@ pub record IsValidLoops (mesh : Mesh) (lengths : List ℕ) (cert : LoopCert) : T
   pub heaviest : (l : ℕ) → l < edge_count mesh → HasNoShorter mesh lengths cert l
 
 -- the loops of the left edges through the tree, in their order
-abbrev pub loops_of : Mesh → LoopCert → List (List ℕ)
-loops_of mesh cert = map (λ p. loop_walk mesh (tree_of mesh cert.tree) (edge_number mesh p)) cert.left
+abbrev pub certified_loops : Mesh → LoopCert → List (List ℕ)
+certified_loops mesh cert = map (λ p. loop_walk mesh (certified_tree mesh cert.tree) (edge_number mesh p)) cert.left
 
 -- the sum of their lengths
 abbrev pub loops_total : Mesh → List ℕ → LoopCert → ℕ

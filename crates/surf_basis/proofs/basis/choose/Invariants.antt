@@ -1,11 +1,11 @@
 use Rattle.std.proofs.Common.{◌≡◌}
-use Rattle.surf_loops.specs.Loops.{IsMadeFor}
+use Rattle.surf_loops.specs.Loops.{AreLoopTables}
 use Rattle.surf_basis.specs.Candidates.{AreKeptOver}
 use Rattle.surf_basis.proofs.basis.choose.Given as goal
 
 abbrev pub invariant-loop-base : goal.invariant-loop-base
 invariant-loop-base l = record {
-  made : IsMadeFor l.surface.mesh.now l.desk;
+  made : AreLoopTables l.surface.mesh.now l.desk;
   width : l.choice.width ≡ l.fn.choice.width;
   kept : AreKeptOver l.surface.mesh.now l.surface.lengths.now l.surface.signatures.now l.bases l.base-index l.choice.kept;
 }

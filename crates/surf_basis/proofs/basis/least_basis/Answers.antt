@@ -8,7 +8,7 @@ use Rattle.surf_surfaces.specs.FewBases.{AreBases}
 use Rattle.surf_basis.specs.Candidates.{Chosen, AreCyclesOf}
 use Rattle.surf_basis.specs.Signing.{AreSigned}
 use Rattle.surf_basis.specs.Found.{HaveBasesOfBasis}
-use Rattle.surf_basis.specs.Cycles.{first_of, loops_of, IsTheBasis, IsFirstCandidate, IsShortestCycle}
+use Rattle.surf_basis.specs.Cycles.{first_of, as_loops, IsTheBasis, IsFirstCandidate, IsShortestCycle}
 use Rattle.surf_basis.proofs.First.{first_shortest}
 use Rattle.surf_basis.proofs.Leading.{basis_first}
 use Rattle.surf_basis.proofs.Whole.{left_count, still_signed, least_of, none_basis, all_inside, the_basis}
@@ -27,7 +27,7 @@ returns-then-count-eq0-clause-least c =
     let mesh = c.args.mesh.now in
     let lengths = c.args.lengths.now in
     let positive = lengths_positive mesh lengths c.count-lengths.ensures.lengths c.requires.lengths in
-    least_of mesh lengths c.faces-surface.ensures.surface positive (loops_of c.new.result.items) (returns-then-count-eq0-clause-chosen c)
+    least_of mesh lengths c.faces-surface.ensures.surface positive (as_loops c.new.result.items) (returns-then-count-eq0-clause-chosen c)
 
 pub sufficient_bases-requires-clause-signed : goal.sufficient_bases-requires-clause-signed
 sufficient_bases-requires-clause-signed c =
@@ -69,7 +69,7 @@ returns-clause-chosen c =
     c.cotree.ensures.cotree c.left-count.ensures.left c.cotree-2.ensures.cotree in
     let rise = subst (AreBases mesh) (sym c.deref.ensures.value) c.in_ok-bases.ensures.increasing in
     let have = subst (HaveBasesOfBasis mesh lengths) (sym c.deref.ensures.value) c.in_ok-bases.ensures.bases in
-    IfOk-weaker c.cycles_of.result (λ cycles. AreCyclesOf mesh lengths kept cycles.items) (λ cycles. IsTheBasis mesh lengths (loops_of cycles.items))
+    IfOk-weaker c.cycles_of.result (λ cycles. AreCyclesOf mesh lengths kept cycles.items) (λ cycles. IsTheBasis mesh lengths (as_loops cycles.items))
     (λ cycles are. the_basis mesh lengths surface positive c.cotree-2.result.now (length c.left-count.result.now) signed c.deref.result.now
     c.choose.new.choice.kept kept cycles.items rise have c.in_ok-choose.ensures.kept c.kept.ensures.kept are)
     c.cycles_of.ensures.cycles
@@ -79,8 +79,8 @@ returns-clause-least c =
     let mesh = c.args.mesh.now in
     let lengths = c.args.lengths.now in
     let positive = lengths_positive mesh lengths c.count-lengths.ensures.lengths c.requires.lengths in
-    IfOk-weaker c.cycles_of.result (λ cycles. IsTheBasis mesh lengths (loops_of cycles.items)) (λ cycles. LeastSimpleBasis mesh lengths (loops_of cycles.items))
-    (λ cycles is. least_of mesh lengths c.faces-surface.ensures.surface positive (loops_of cycles.items) is) (returns-clause-chosen c)
+    IfOk-weaker c.cycles_of.result (λ cycles. IsTheBasis mesh lengths (as_loops cycles.items)) (λ cycles. LeastSimpleBasis mesh lengths (as_loops cycles.items))
+    (λ cycles is. least_of mesh lengths c.faces-surface.ensures.surface positive (as_loops cycles.items) is) (returns-clause-chosen c)
 
 pub returns-then-count-eq0-clause-first : goal.returns-then-count-eq0-clause-first
 returns-then-count-eq0-clause-first c =
@@ -101,7 +101,7 @@ returns-clause-first c =
     let mesh = c.args.mesh.now in
     let lengths = c.args.lengths.now in
     let positive = lengths_positive mesh lengths c.count-lengths.ensures.lengths c.requires.lengths in
-    IfOk-weaker c.cycles_of.result (λ cycles. IsTheBasis mesh lengths (loops_of cycles.items)) (λ cycles. IsFirstCandidate mesh lengths (first_of cycles.items))
+    IfOk-weaker c.cycles_of.result (λ cycles. IsTheBasis mesh lengths (as_loops cycles.items)) (λ cycles. IsFirstCandidate mesh lengths (first_of cycles.items))
     (λ cycles is. basis_first mesh lengths c.faces-surface.ensures.surface positive cycles.items is) (returns-clause-chosen c)
 
 pub returns-clause-shortest : goal.returns-clause-shortest

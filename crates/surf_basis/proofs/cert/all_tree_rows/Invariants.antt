@@ -1,9 +1,9 @@
-use Rattle.surf_tree.specs.Tables.{IsMadeFor}
+use Rattle.surf_tree.specs.Tables.{AreTreeTables}
 use Rattle.surf_basis.specs.Certs.{AreTreeRowsBelow}
 use Rattle.surf_basis.proofs.cert.all_tree_rows.Given as goal
 
 abbrev pub invariant-loop-base : goal.invariant-loop-base
 invariant-loop-base l = record {
-  made : IsMadeFor l.mesh l.tree;
+  made : AreTreeTables l.mesh l.tree;
   rows : AreTreeRowsBelow l.mesh l.lengths l.base l.rows.items;
 }

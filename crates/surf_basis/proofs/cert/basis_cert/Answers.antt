@@ -2,11 +2,11 @@ use Rattle.std.proofs.Common.{◌<◌, ◌∙◌, map, sym, ap, subst, arith}
 use Rattle.surf_surfaces.specs.Surface.{ends}
 use Rattle.surf_surfaces.proofs.ClassLaws.{some_vertex}
 use Rattle.surf_validity.specs.Chosen.{dual_rows_of}
-use Rattle.surf_cotree.specs.Tables.{CotreeTables, tree_of}
+use Rattle.surf_cotree.specs.Tables.{CotreeTables, cotree_of}
 use Rattle.surf_loops.specs.Loops.{IsGreedy}
 use Rattle.surf_lengths.proofs.Positive.{lengths_positive}
 use Rattle.surf_loops.proofs.Rows.{numbers_fit}
-use Rattle.surf_basis.specs.Cycles.{loops_of}
+use Rattle.surf_basis.specs.Cycles.{as_loops}
 use Rattle.surf_basis.proofs.Certified.{the_cert, valid_cert, fitting_cert}
 use Rattle.surf_basis.proofs.cert.basis_cert.Goals as goal
 
@@ -23,9 +23,9 @@ returns c =
     (omega (arith, c.count-lengths.type_inv, c.count-lengths.ensures.count)) c.requires.lengths c.count-lengths.ensures.lengths in
     let t = c.greedy.new.self in
     let g = subst (λ b. IsGreedy mesh lengths b t) c.new.ensures c.greedy.ensures.greedy in
-    let is = the_cert mesh lengths surface positive t (loops_of c.in_ok-basis.basis.items) c.make-2.result c.in_ok-trees.trees.items c.in_ok-dual.dual c.in_ok-left.left.items
+    let is = the_cert mesh lengths surface positive t (as_loops c.in_ok-basis.basis.items) c.make-2.result c.in_ok-trees.trees.items c.in_ok-dual.dual c.in_ok-left.left.items
     c.in_ok-cycles.cycles.items g c.in_ok-basis.ensures.chosen c.make-2.ensures.parts c.in_ok-trees.ensures.rows
-    (c.in_ok-dual.ensures.rows ∙ ap (λ (x : CotreeTables). dual_rows_of mesh (tree_of x)) c.cotree.ensures.cotree)
+    (c.in_ok-dual.ensures.rows ∙ ap (λ (x : CotreeTables). dual_rows_of mesh (cotree_of x)) c.cotree.ensures.cotree)
     (c.in_ok-left.ensures.pairs ∙ ap (λ (x : CotreeTables). map (ends mesh) x.left) c.cotree-2.ensures.cotree) c.in_ok-cycles.ensures.walks in
     record {
       chosen = is;

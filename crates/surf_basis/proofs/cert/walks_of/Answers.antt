@@ -3,7 +3,7 @@ use Rattle.std.proofs.lemmas.Iterator.{items_from_collect, YieldsList-from_map}
 use Rattle.std.proofs.lemmas.Iterator.Adapters.{YieldsList-from_vec}
 use Rattle.std.proofs.lemmas.Simd.{map-map}
 use Rattle.surf_surfaces.specs.Choice.{Loop}
-use Rattle.surf_basis.specs.Cycles.{loop_of}
+use Rattle.surf_basis.specs.Cycles.{as_loop}
 use Rattle.surf_basis.specs.declared.cycle.Cycle.{Cycle}
 use Rattle.surf_basis.proofs.cert.walks_of.Goals as goal
 
@@ -12,4 +12,4 @@ returns c =
     let all = items_from_collect c.collect.result c.collect.ensures.ran
     (YieldsList-from_map _ (λ (x : Cycle). x.walk) (YieldsList-from_vec c.args.cycles.items (cc) (cc)) c.map.ensures.closure (λ x r q k. search rules)) in
     let here = rw c.in_ok-collect.was at all in
-    record { walks = here ∙ sym (map-map (λ (x : Loop). x.walk) loop_of c.args.cycles.items) }
+    record { walks = here ∙ sym (map-map (λ (x : Loop). x.walk) as_loop c.args.cycles.items) }

@@ -3,7 +3,7 @@ use Rattle.std.specs.Int.Bits.{xor_comm}
 use Rattle.std.proofs.Math.ListN.{drop_of_length-le}
 use Rattle.surf_z2.specs.Sieve.{has}
 use Rattle.surf_z2.specs.Words.{number}
-use Rattle.surf_bits.specs.Rows.{left_of, rows_of}
+use Rattle.surf_bits.specs.Rows.{left_of, sieve_rows}
 use Rattle.surf_bits.proofs.Rows.{left_of_more, left_small, rows-length}
 use Rattle.surf_bits.proofs.sieve.left_of.Goals as goal
 use Rattle.surf_bits.proofs.sieve.left_of.Goals.{then-bit, else-bit}
@@ -13,7 +13,7 @@ loop-i-preserved c os =
     let s = c.args.stride in
     let i = c.loop-i.i in
     let left = c.loop-i.left in
-    let rows = rows_of s c.args.pivots.now c.args.reduced.now os in
+    let rows = sieve_rows s c.args.pivots.now c.args.reduced.now os in
     let row = number (take s (drop (i * s) c.args.reduced.now)) in
     let p = get_or c.args.pivots.now i 0 in
     let e : c.if-bit.left ≡ cond (has left p) (bit_xor row left) left =
@@ -32,7 +32,7 @@ loop-i-preserved c os =
 pub returns-clause-left : goal.returns-clause-left
 returns-clause-left c os =
     let s = c.args.stride in
-    let rows = rows_of s c.args.pivots.now c.args.reduced.now os in
+    let rows = sieve_rows s c.args.pivots.now c.args.reduced.now os in
     let past : drop c.loop-i.i rows ≡ [] = drop_of_length-le rows (subst (λ n. n ≤ c.loop-i.i) (sym (rows-length s c.args.pivots.now c.args.reduced.now os)) c.loop-i-test.false) in
     sym (ap (λ rs. left_of rs c.loop-i.left) past) ∙ c.loop-i.invariant os
 

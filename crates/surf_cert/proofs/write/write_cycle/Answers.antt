@@ -4,7 +4,8 @@ use Rattle.surf_text.specs.Pages.{Puts}
 use Rattle.std.proofs.lemmas.List.{take_rest}
 use Rattle.surf_cert.proofs.WrittenRows.{cycle_first}
 use Rattle.surf_text.proofs.Writing.{puts_more, puts_stop}
-use Rattle.surf_cert.specs.Written.{cycle_line, numbers_text}
+use Rattle.surf_text.specs.Numbers.{numbers_text}
+use Rattle.surf_cert.specs.Written.{cycle_line}
 use Rattle.surf_cert.proofs.write.write_cycle.Goals as goal
 
 pub returns-in_err-push_whole : goal.returns-in_err-push_whole

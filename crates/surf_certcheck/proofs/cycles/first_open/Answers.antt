@@ -1,11 +1,11 @@
 use Rattle.std.proofs.Common.{subst}
 use Rattle.surf_validity.specs.Bases.{IsClosedList}
-use Rattle.surf_certcheck.specs.BasisFaults.{IsClosedAt}
+use Rattle.surf_certcheck.specs.BasisFaults.{IsCycleClosed}
 use Rattle.surf_certcheck.proofs.Bases.{holds_more}
 use Rattle.surf_certcheck.proofs.cycles.first_open.Goals as goal
 
 pub loop-place-preserved : goal.loop-place-preserved
 loop-place-preserved c =
     let mesh = c.args.mesh.now in
-    holds_more c.loop-place.place (IsClosedAt mesh c.args.cert.now) c.loop-place.invariant
+    holds_more c.loop-place.place (IsCycleClosed mesh c.args.cert.now) c.loop-place.invariant
     (subst (IsClosedList mesh) c.cycle_from.ensures.cycle c.if-not-is_closed.ensures.closed)

@@ -3,7 +3,7 @@ use Rattle.std.proofs.lemmas.Nat.{xor_lt, pow_pos}
 use Rattle.surf_signatures.specs.Tables.{Signed, words_for}
 use Rattle.surf_signatures.specs.Ways.{way_class}
 use Rattle.surf_surfaces.specs.Walk.{edge_number}
-use Rattle.surf_validity.specs.Valid.{tree_of, parent_at, or_zero, IsParent}
+use Rattle.surf_validity.specs.Valid.{certified_tree, parent_at, or_zero, IsParent}
 use Rattle.surf_certcheck.proofs.Climbing.{step_up, at_base, way_summed, way_empty}
 use Rattle.surf_certcheck.proofs.sums.sum_way.Goals as goal
 use Rattle.surf_certcheck.proofs.sums.sum_way.Goals.{in-Some, in_default}
@@ -29,7 +29,7 @@ returns-clause-summed c d to taken before =
     let rows = c.args.rows.now in
     let v = c.args.v in
     let sets = c.args.sums.now.sets in
-    let way = way_class mesh d (tree_of mesh rows) in
+    let way = way_class mesh d (certified_tree mesh rows) in
     let put : slice_index c.put.new.self.sets v ≡ c.match-parent_of.sum =
     ap (λ (t : Signed). slice_index t.sets v) c.put.ensures.put
     ∙ get_or-set_same sets v c.bits.result 0 (omega (arith, c.requires.vertex, c.requires.room)) ∙ c.bits.ensures in
@@ -41,7 +41,7 @@ returns-clause-summed c d to taken before =
           let is : parent_at rows v ≡ Some p = sym c.parent_of.ensures.parent ∙ x.in-Some.is in
           let step = step_up mesh rows v p c.requires.climbed c.requires.vertex is in
           let beside = (subst (IsParent mesh rows.base v) is (c.requires.climbed.valid.parents v c.requires.vertex)).1 in
-          let edge : x.edge_to.result ≡ (tree_of mesh rows).up v =
+          let edge : x.edge_to.result ≡ (certified_tree mesh rows).up v =
           x.edge_to.ensures.edge beside ∙ ap (λ o. edge_number mesh (or_zero o, v)) (sym is) in
           let sum : c.match-parent_of.sum ≡ bit_xor (bit_xor 0 above) added =
           x.sum-is ∙ x.add-in-Some.ensures ∙ ap (λ n. bit_xor n added) (x.add.ensures ∙ ap (λ z. bit_xor z above) c.zero-sum.ensures) in

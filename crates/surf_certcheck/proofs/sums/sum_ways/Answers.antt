@@ -4,7 +4,7 @@ use Rattle.std.proofs.lemmas.Bool.{cases_eq, cases_lt}
 use Rattle.std.proofs.lemmas.List.{get_or_default}
 use Rattle.std.proofs.lemmas.List.Sorted.{IsPermutation-trans}
 use Rattle.surf_signatures.specs.Ways.{way_class}
-use Rattle.surf_validity.specs.Valid.{tree_of, distance_at}
+use Rattle.surf_validity.specs.Valid.{certified_tree, distance_at}
 use Rattle.surf_certcheck.proofs.Climbing.{order_in, listed, step_up}
 use Rattle.surf_certcheck.proofs.sums.sum_ways.Goals as goal
 
@@ -30,7 +30,7 @@ loop-k-preserved c =
     let at : slice_index order k ≡ v = get_or_default order k 0 v inside ∙ sym c.index-order-k.is in
     record {
       summed = λ d to taken j lj.
-          let way = way_class mesh d (tree_of mesh rows) in
+          let way = way_class mesh d (certified_tree mesh rows) in
           let old = c.loop-k.sums.sets in
           let new = c.sum_way.new.sums.sets in
           let here : slice_index new v ≡ to (way v) = c.sum_way.ensures.summed d to taken (λ p is.
@@ -73,4 +73,4 @@ returns-clause-summed c d to taken v l =
     let place : slice_index order i ≡ v = get_or_default order i 0 v il ∙ v_at in
     let before : i < c.loop-k.k = omega (arith, il, c.loop-k-test.false, c.loop-k.auto.k-end) in
     ap (slice_index c.loop-k.sums.sets) (sym place) ∙ c.loop-k.invariant.summed d to taken i before
-    ∙ ap (λ u. to (way_class mesh d (tree_of mesh c.args.rows.now) u)) place
+    ∙ ap (λ u. to (way_class mesh d (certified_tree mesh c.args.rows.now) u)) place

@@ -1,7 +1,7 @@
 use Rattle.std.proofs.Common.{◌≡◌, ◌<◌, ℕ, length, slice_index}
 use Rattle.surf_graphs.specs.Cells.{Split}
 use Rattle.surf_signatures.specs.Ways.{way_class}
-use Rattle.surf_validity.specs.Valid.{tree_of}
+use Rattle.surf_validity.specs.Valid.{certified_tree}
 use Rattle.surf_certcheck.specs.Frames.{AreTaken}
 use Rattle.surf_certcheck.proofs.sums.sum_ways.Given as goal
 
@@ -9,7 +9,7 @@ use Rattle.surf_certcheck.proofs.sums.sum_ways.Given as goal
 abbrev pub invariant-loop-k : goal.invariant-loop-k
 invariant-loop-k l = record {
   summed : (d : Split) (to : ℕ → ℕ) → AreTaken l.mesh d to l.signs.sets → (j : ℕ) → j < l.k →
-      slice_index l.sums.sets (slice_index l.order j) ≡ to (way_class l.mesh d (tree_of l.mesh l.rows) (slice_index l.order j));
+      slice_index l.sums.sets (slice_index l.order j) ≡ to (way_class l.mesh d (certified_tree l.mesh l.rows) (slice_index l.order j));
   room : length l.sums.sets ≡ l.mesh.vertices;
   width : l.sums.width ≡ l.signs.width;
 }

@@ -1,14 +1,14 @@
 use Rattle.std.proofs.Common.{◌++◌, refl, codes, length}
 use Rattle.std.proofs.lemmas.Result.{err_from_is_err_and}
 use Rattle.surf_text.proofs.Writing.{puts_more, puts_stop}
-use Rattle.surf_cert.specs.Written.{numbers_text}
-use Rattle.surf_class.specs.Texts.{head_text, both_ends}
+use Rattle.surf_text.specs.Numbers.{numbers_text}
+use Rattle.surf_class.specs.Texts.{evidence_head_text, both_ends}
 use Rattle.surf_class.proofs.write.write_odd.Goals as goal
 
 pub returns-in_err-write_head : goal.returns-in_err-write_head
 returns-in_err-write_head c =
     let xs = c.args.pairs.now in
-    let head = head_text c.args.word.now (length xs) in
+    let head = evidence_head_text c.args.word.now (length xs) in
     let rest = numbers_text (both_ends c.args.pairs.now) ++ codes "\n" in
     let r = c.from_residual.result in
     let p = err_from_is_err_and r c.from_residual.ensures.1 in
@@ -17,7 +17,7 @@ returns-in_err-write_head c =
 pub returns-in_err-write_pairs : goal.returns-in_err-write_pairs
 returns-in_err-write_pairs c =
     let xs = c.args.pairs.now in
-    let head = head_text c.args.word.now (length xs) in
+    let head = evidence_head_text c.args.word.now (length xs) in
     let r = c.from_residual-in_err-write_pairs.result in
     let p = err_from_is_err_and r c.from_residual-in_err-write_pairs.ensures.1 in
     record {
@@ -28,7 +28,7 @@ returns-in_err-write_pairs c =
 pub returns : goal.returns
 returns c =
     let xs = c.args.pairs.now in
-    let head = head_text c.args.word.now (length xs) in
+    let head = evidence_head_text c.args.word.now (length xs) in
     let r = c.push_bytes.result in
     record {
       puts = puts_more c.args.page.now c.write_head.new.page c.push_bytes.new.self head (numbers_text (both_ends c.args.pairs.now) ++ codes "\n") c.write_head.result c.in_ok-write_head.field-0 r c.in_ok-write_head.was c.write_head.ensures.puts

@@ -3,8 +3,8 @@ use Rattle.std.proofs.lemmas.List.{get_or_default}
 use Rattle.surf_graphs.specs.Graphs.{Graph, joins}
 use Rattle.surf_graphs.specs.Cells.{dual}
 use Rattle.surf_surfaces.specs.Cells.{cells_of}
-use Rattle.surf_cotree.specs.Tables.{nobody}
-use Rattle.surf_cotree.specs.Searches.{at, reached}
+use Rattle.surf_base.specs.Tables.{nobody, at}
+use Rattle.surf_cotree.specs.Searches.{reached}
 use Rattle.surf_cotree.specs.Peeling.{IsHung, leaf_at}
 use Rattle.surf_cotree.specs.declared.peeling.Leaf.{Leaf}
 use Rattle.surf_cotree.proofs.Faces.{graph_is}

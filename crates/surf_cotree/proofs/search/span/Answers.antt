@@ -6,8 +6,8 @@ use Rattle.surf_graphs.specs.Cells.{dual}
 use Rattle.surf_z2.specs.Parity.{count_below}
 use Rattle.surf_surfaces.specs.Surface.{face_count}
 use Rattle.surf_surfaces.specs.Cells.{cells_of}
-use Rattle.surf_cotree.specs.Tables.{nobody}
-use Rattle.surf_cotree.specs.Searches.{at, reached, outside, tree_of, IsWaiting}
+use Rattle.surf_base.specs.Tables.{nobody, at}
+use Rattle.surf_cotree.specs.Searches.{reached, outside, spanned_tree, IsWaiting}
 use Rattle.surf_cotree.proofs.Pairs.{none_there}
 use Rattle.surf_cotree.proofs.Faces.{graph_is}
 use Rattle.surf_cotree.proofs.Growing.{first_count, first_only, prim_begins, depth_fits, turn_count, turn_keeps}
@@ -30,7 +30,7 @@ loop-face-init c =
     record {
       places = c.offer_neighbours.ensures.offered.same_length ∙ (ap length c.clear.ensures.empty ∙ (length-replicate {A = Option (ℕ × ℕ)} (length c.args.heap.now) None ∙ c.requires.places));
       root = get_or-set_same c.args.up.now 0 nobody 0 lu;
-      prim = prim_begins g (outside c.args.marks.now) (at c.args.weight.now) (graph_is c.args.mesh.now c.faces-surface.ensures.surface) few c.weights_fit.ensures.fit (reached (set fresh 0 0)) (tree_of 0 c.args.parent.now (set c.args.up.now 0 nobody) (set fresh 0 0))
+      prim = prim_begins g (outside c.args.marks.now) (at c.args.weight.now) (graph_is c.args.mesh.now c.faces-surface.ensures.surface) few c.weights_fit.ensures.fit (reached (set fresh 0 0)) (spanned_tree 0 c.args.parent.now (set c.args.up.now 0 nobody) (set fresh 0 0))
           c.clear.new.self c.offer_neighbours.new.heap _ some root_reached (first_only g.nodes fresh free) zero_depth shallow (none_there (length c.args.heap.now) c.clear.new.self c.clear.ensures.empty)
           c.offer_neighbours.ensures.offered;
     }

@@ -3,15 +3,15 @@ use Rattle.surf_z2.specs.Parity.{count_below}
 use Rattle.surf_graphs.specs.Cells.{dual}
 use Rattle.surf_surfaces.specs.Surface.{face_count}
 use Rattle.surf_surfaces.specs.Cells.{cells_of}
-use Rattle.surf_cotree.specs.Tables.{nobody}
-use Rattle.surf_cotree.specs.Searches.{at, reached, outside, tree_of, IsPrim}
+use Rattle.surf_base.specs.Tables.{nobody, at}
+use Rattle.surf_cotree.specs.Searches.{reached, outside, spanned_tree, IsPrim}
 use Rattle.surf_cotree.proofs.search.span.Given as goal
 
 abbrev pub invariant-loop-face : goal.invariant-loop-face
 invariant-loop-face l = record {
   places : length l.heap ≡ face_count l.mesh;
   root : at l.up 0 ≡ nobody;
-  prim : IsPrim (dual (cells_of l.mesh)) (outside l.marks) (at l.weight) (reached l.depth) (tree_of 0 l.parent l.up l.depth) l.heap (count_below (face_count l.mesh) (λ v. eqb (at l.depth v) nobody));
+  prim : IsPrim (dual (cells_of l.mesh)) (outside l.marks) (at l.weight) (reached l.depth) (spanned_tree 0 l.parent l.up l.depth) l.heap (count_below (face_count l.mesh) (λ v. eqb (at l.depth v) nobody));
 }
 
 abbrev pub decreases-loop-face : goal.decreases-loop-face

@@ -2,13 +2,13 @@ use Rattle.surf_graphs.specs.Cells.{IsSplit}
 use Rattle.surf_graphs.specs.Trees.{Tree}
 use Rattle.surf_surfaces.specs.Cells.{cells_of}
 use Rattle.surf_cotree.specs.Tables.{split_with}
-use Rattle.surf_cover.specs.Tables.{IsMadeFor}
+use Rattle.surf_cover.specs.Tables.{AreCoverTables}
 use Rattle.surf_cover.proofs.Best.{IsBestBelow}
 use Rattle.surf_cover.proofs.rounds.least_start.Given as goal
 
 abbrev pub invariant-loop-v : goal.invariant-loop-v
 invariant-loop-v l = record {
-  made : IsMadeFor l.mesh l.desk;
+  made : AreCoverTables l.mesh l.desk;
   best : (tree : Tree) → IsSplit (cells_of l.mesh) (split_with tree l.cotree) →
       IsBestBelow l.mesh l.lengths (split_with tree l.cotree) l.cotree.signatures l.set l.number l.v l.best;
 }

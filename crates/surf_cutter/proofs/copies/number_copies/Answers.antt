@@ -1,7 +1,8 @@
 use Rattle.std.proofs.Common.{◌≡◌, ◌≢◌, ◌+◌, ◌<◌, ◌∷◌, ◌++◌, [], ℕ, List, length, get_or, ap, sym, ◌∙◌, subst, arith, rules}
 use Rattle.std.proofs.Math.ListN.{set}
 use Rattle.std.proofs.lemmas.List.{get_or_default}
-use Rattle.surf_cutter.specs.Copies.{nobody, label_at, AreCounted}
+use Rattle.surf_base.specs.Tables.{nobody}
+use Rattle.surf_cutter.specs.Copies.{label_at, AreCounted}
 use Rattle.surf_cutter.proofs.Counted.{counted_again, counted_new}
 use Rattle.surf_cutter.proofs.copies.number_copies.Goals as goal
 use Rattle.surf_cutter.proofs.copies.number_copies.Goals.{then-numbers-label+in_ok-push, else-numbers-label}

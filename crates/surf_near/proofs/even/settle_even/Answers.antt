@@ -1,5 +1,5 @@
 use Rattle.std.proofs.Common.{◌≡◌, ◌∙◌, ap, arith, refl, sym}
-use Rattle.surf_tree.specs.Searches.{at}
+use Rattle.surf_base.specs.Tables.{at}
 use Rattle.surf_near.specs.Links.{graph_of, weight_of}
 use Rattle.surf_near.proofs.Linking.{links_small, links_positive, links_even, read_at}
 use Rattle.surf_near.proofs.Queues.{queue_begins, queue_next, queue_ends}

@@ -1,5 +1,5 @@
 use Rattle.std.proofs.Common.{◌-◌, ◌≡◌}
-use Rattle.surf_tree.specs.Searches.{at}
+use Rattle.surf_base.specs.Tables.{at}
 use Rattle.surf_near.specs.Links.{graph_of, weight_of}
 use Rattle.surf_near.specs.Searching.{IsQueue}
 use Rattle.surf_near.proofs.even.settle_even.Given as goal

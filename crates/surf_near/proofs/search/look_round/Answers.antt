@@ -3,7 +3,7 @@ use Rattle.std.proofs.Math.ListN.{length-set}
 use Rattle.std.proofs.lemmas.List.{length-map}
 use Rattle.surf_heap.specs.Entries.{entry_of, lesser}
 use Rattle.surf_lengths.specs.Lengths.{longest}
-use Rattle.surf_tree.specs.Searches.{at}
+use Rattle.surf_base.specs.Tables.{at}
 use Rattle.surf_near.specs.Near.{never}
 use Rattle.surf_near.specs.Links.{graph_of, weight_of, ends_of}
 use Rattle.surf_near.proofs.Linking.{item_link, item_in, item_measured}

@@ -1,7 +1,7 @@
 use Rattle.std.proofs.Common.{◌≡◌, ◌<◌, ◌∙◌, ℕ, List, length, arith, set, ap, sym, subst, None, get_or-set_same, eqb}
 use Rattle.std.proofs.Math.ListN.{length-set}
 use Rattle.surf_z2.specs.Parity.{count_below}
-use Rattle.surf_tree.specs.Searches.{at}
+use Rattle.surf_base.specs.Tables.{at}
 use Rattle.surf_tree.proofs.Offering.{first_offer}
 use Rattle.surf_near.specs.Near.{never}
 use Rattle.surf_near.specs.Links.{graph_of, weight_of}

@@ -1,6 +1,6 @@
 use Rattle.std.proofs.Common.{◌≡◌, length, eqb}
 use Rattle.surf_z2.specs.Parity.{count_below}
-use Rattle.surf_tree.specs.Searches.{at}
+use Rattle.surf_base.specs.Tables.{at}
 use Rattle.surf_near.specs.Links.{graph_of, weight_of}
 use Rattle.surf_near.specs.Near.{never}
 use Rattle.surf_near.proofs.Turns.{IsSearchNear}

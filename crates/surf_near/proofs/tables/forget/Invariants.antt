@@ -1,5 +1,5 @@
 use Rattle.std.proofs.Common.{◌≡◌, ◌≢◌, ◌<◌, ◌≤◌, ℕ, length}
-use Rattle.surf_tree.specs.Searches.{at}
+use Rattle.surf_base.specs.Tables.{at}
 use Rattle.surf_near.specs.Near.{never}
 use Rattle.surf_near.proofs.tables.forget.Given as goal
 

@@ -2,13 +2,13 @@ use Rattle.std.proofs.Common.{◌++◌, length, refl, codes}
 use Rattle.std.specs.Prelude.{decimal}
 use Rattle.std.proofs.lemmas.Result.{err_from_is_err_and}
 use Rattle.surf_text.proofs.Writing.{puts_more, puts_stop}
-use Rattle.surf_off.specs.Written.{numbers_text, colour_text}
+use Rattle.surf_off.specs.Written.{spaced_text, colour_text}
 use Rattle.surf_off.proofs.write.write_face.Goals as goal
 
 pub returns-in_err-push_whole : goal.returns-in_err-push_whole
 returns-in_err-push_whole c =
     let p = err_from_is_err_and c.from_residual.result c.from_residual.ensures.1 in
-    let rest = numbers_text c.args.corners.now ++ (colour_text c.args.colour.now ++ codes "\n") in
+    let rest = spaced_text c.args.corners.now ++ (colour_text c.args.colour.now ++ codes "\n") in
     record { puts = puts_stop c.args.page.now c.push_whole.new.self (decimal (length c.args.corners.now)) rest c.push_whole.result c.in_err-push_whole.field-0.0 c.from_residual.result c.in_err-push_whole.was (rw (p.1, p.2) refl) c.push_whole.ensures.puts }
 
 pub returns-in_err-write_corners : goal.returns-in_err-write_corners
@@ -16,7 +16,7 @@ returns-in_err-write_corners c =
     let r = c.from_residual-in_err-write_corners.result in
     let p = err_from_is_err_and r c.from_residual-in_err-write_corners.ensures.1 in
     let last = colour_text c.args.colour.now ++ codes "\n" in
-    let numbers = numbers_text c.args.corners.now in
+    let numbers = spaced_text c.args.corners.now in
     record {
       puts = puts_more c.args.page.now c.push_whole.new.self c.write_corners.new.page (decimal (length c.args.corners.now)) (numbers ++ last) c.push_whole.result c.in_ok-push_whole.field-0 r c.in_ok-push_whole.was c.push_whole.ensures.puts
           (puts_stop c.push_whole.new.self c.write_corners.new.page numbers last c.write_corners.result c.in_err-write_corners.field-0.0 r c.in_err-write_corners.was (rw (p.1, p.2) refl) c.write_corners.ensures.puts);
@@ -27,7 +27,7 @@ returns-in_err-write_colour c =
     let r = c.from_residual-in_err-write_colour.result in
     let p = err_from_is_err_and r c.from_residual-in_err-write_colour.ensures.1 in
     let colour = colour_text c.args.colour.now in
-    let numbers = numbers_text c.args.corners.now in
+    let numbers = spaced_text c.args.corners.now in
     record {
       puts = puts_more c.args.page.now c.push_whole.new.self c.write_colour.new.page (decimal (length c.args.corners.now)) (numbers ++ (colour ++ codes "\n")) c.push_whole.result c.in_ok-push_whole.field-0 r c.in_ok-push_whole.was c.push_whole.ensures.puts
           (puts_more c.push_whole.new.self c.write_corners.new.page c.write_colour.new.page numbers (colour ++ codes "\n") c.write_corners.result c.in_ok-write_corners.field-0 r c.in_ok-write_corners.was c.write_corners.ensures.puts
@@ -38,7 +38,7 @@ pub returns : goal.returns
 returns c =
     let r = c.push_bytes.result in
     let colour = colour_text c.args.colour.now in
-    let numbers = numbers_text c.args.corners.now in
+    let numbers = spaced_text c.args.corners.now in
     record {
       puts = puts_more c.args.page.now c.push_whole.new.self c.push_bytes.new.self (decimal (length c.args.corners.now)) (numbers ++ (colour ++ codes "\n")) c.push_whole.result c.in_ok-push_whole.field-0 r c.in_ok-push_whole.was c.push_whole.ensures.puts
           (puts_more c.push_whole.new.self c.write_corners.new.page c.push_bytes.new.self numbers (colour ++ codes "\n") c.write_corners.result c.in_ok-write_corners.field-0 r c.in_ok-write_corners.was c.write_corners.ensures.puts

@@ -1,7 +1,7 @@
 use Rattle.std.proofs.Common.{◌≡◌, ◌≤◌, ◌∙◌, ◌++◌, ℕ, List, length, ap, subst}
 use Rattle.std.proofs.lemmas.Result.{err_from_is_err_and}
 use Rattle.surf_base.specs.declared.limits.LimitKind.TheVariants.{Answer}
-use Rattle.surf_basis.specs.Cycles.{loops_of}
+use Rattle.surf_basis.specs.Cycles.{as_loops}
 use Rattle.surf_basis.specs.declared.cycle.Cycle.{Cycle}
 use Rattle.surf_text.specs.Pages.{PageState, grown}
 use Rattle.surf_print.specs.CycleTexts.{cycles_text}
@@ -17,23 +17,23 @@ pub returns-in_err-put_basis : goal.returns-in_err-put_basis
 returns-in_err-put_basis c =
     let mesh = c.args.mesh.now in
     let lengths = c.args.lengths.now in
-    let basis = loops_of c.in_ok-basis.basis.items in
+    let basis = as_loops c.in_ok-basis.basis.items in
     let e = c.in_ok-basis.ensures in
     let fault = c.in_err-put_basis.field-0.0 in
     let p = err_from_is_err_and c.from_residual-in_err-put_basis.result c.from_residual-in_err-put_basis.ensures.1 in
     rw (p.1, p.2) (why_overfilled (GivesBasis mesh lengths) (cycles_text basis) fault
     (λ long. gives_basis mesh lengths c.faces-surface.ensures.surface c.count-positive.ensures.lengths c.requires.lengths basis e.chosen e.least (beyond Answer) (says_beyond (cycles_text basis) long))
-    (subst (λ (cycles : List Cycle). Overfills blank (cycles_text (loops_of cycles)) fault) c.deref.ensures.value
-    (subst (λ (page : PageState). Overfills page (cycles_text (loops_of c.deref.result.now)) fault) c.make-page.ensures.empty c.in_err-put_basis.ensures)))
+    (subst (λ (cycles : List Cycle). Overfills blank (cycles_text (as_loops cycles)) fault) c.deref.ensures.value
+    (subst (λ (page : PageState). Overfills page (cycles_text (as_loops c.deref.result.now)) fault) c.make-page.ensures.empty c.in_err-put_basis.ensures)))
 
 pub returns : goal.returns
 returns c =
     let mesh = c.args.mesh.now in
     let lengths = c.args.lengths.now in
-    let basis = loops_of c.in_ok-basis.basis.items in
+    let basis = as_loops c.in_ok-basis.basis.items in
     let e = c.in_ok-basis.ensures in
     let filled : c.put_basis.new.page ≡ grown c.make-page.result (cycles_text basis) =
-    subst (λ (cycles : List Cycle). c.put_basis.new.page ≡ grown c.make-page.result (cycles_text (loops_of cycles))) c.deref.ensures.value c.in_ok-put_basis.ensures in
+    subst (λ (cycles : List Cycle). c.put_basis.new.page ≡ grown c.make-page.result (cycles_text (as_loops cycles))) c.deref.ensures.value c.in_ok-put_basis.ensures in
     let most : c.put_basis.new.page.most ≡ 1073741824 = ap (λ (page : PageState). page.most) filled ∙ ap (λ (page : PageState). page.most) c.make-page.ensures.empty in
     gives_basis mesh lengths c.faces-surface.ensures.surface c.count-positive.ensures.lengths c.requires.lengths basis e.chosen e.least
     (answers 0 c.into_bytes.result.items)

@@ -5,7 +5,7 @@ use Rattle.surf_text.specs.Pages.{grown}
 use Rattle.surf_print.specs.CycleTexts.{cycles_head}
 use Rattle.surf_print.specs.Fills.{Fills}
 use Rattle.surf_print.proofs.Filling.{fills_both}
-use Rattle.surf_run.specs.CycleTexts.{line_of}
+use Rattle.surf_run.specs.CycleTexts.{cycle_found_line}
 use Rattle.surf_run.proofs.CycleLaws.{text_of_cycles}
 use Rattle.surf_run.proofs.basis_command.put_basis.Goals as goal
 
@@ -16,6 +16,6 @@ returns c =
     let mid = c.put_cycles_head.new.page in
     let new = c.put_cycles.new.page in
     subst (λ (text : List ℕ). Fills page new text c.put_cycles.result) (sym (text_of_cycles cs))
-    (fills_both page mid new (cycles_head (length cs) (sum (map (λ x. x.length) cs))) (flat_map line_of cs) c.put_cycles.result
+    (fills_both page mid new (cycles_head (length cs) (sum (map (λ x. x.length) cs))) (flat_map cycle_found_line cs) c.put_cycles.result
     (subst (λ (n : ℕ). mid ≡ grown page (cycles_head (length cs) n)) c.total_of.ensures c.in_ok-put_cycles_head.ensures.fills)
     c.put_cycles.ensures)

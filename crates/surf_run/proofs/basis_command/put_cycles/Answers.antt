@@ -4,7 +4,7 @@ use Rattle.surf_basis.specs.declared.cycle.Cycle.{Cycle}
 use Rattle.surf_print.specs.CycleTexts.{cycle_line}
 use Rattle.surf_print.specs.Fills.{Overfills}
 use Rattle.surf_print.proofs.Filling.{overfilled}
-use Rattle.surf_run.specs.CycleTexts.{line_of}
+use Rattle.surf_run.specs.CycleTexts.{cycle_found_line}
 use Rattle.surf_run.proofs.basis_command.put_cycles.Goals as goal
 
 pub returns-in_err-put_cycle : goal.returns-in_err-put_cycle
@@ -14,6 +14,6 @@ returns-in_err-put_cycle c =
     let fault = c.in_err-put_cycle.field-0.0 in
     let here : cycle ≡ get_or c.args.cycles.now i cycle = c.cycle-item.is in
     let p = err_from_is_err_and c.from_residual.result c.from_residual.ensures.1 in
-    rw (p.1, p.2) (overfilled c.args.page.now c.loop-cycle.page line_of c.args.cycles.now i cycle fault c.loop-cycle-test.true c.loop-cycle.invariant
-    (subst (λ (x : Cycle). Overfills c.loop-cycle.page (line_of x) fault) here
+    rw (p.1, p.2) (overfilled c.args.page.now c.loop-cycle.page cycle_found_line c.args.cycles.now i cycle fault c.loop-cycle-test.true c.loop-cycle.invariant
+    (subst (λ (x : Cycle). Overfills c.loop-cycle.page (cycle_found_line x) fault) here
     (subst (λ (walk : List ℕ). Overfills c.loop-cycle.page (cycle_line cycle.length walk) fault) c.vertices.ensures c.in_err-put_cycle.ensures.fills)))

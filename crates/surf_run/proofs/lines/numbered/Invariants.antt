@@ -1,5 +1,5 @@
 use Rattle.std.proofs.Common.{◌≡◌, ◌++◌, take, string_bytes}
-use Rattle.surf_print.specs.Lines.{numbers_text}
+use Rattle.surf_text.specs.Numbers.{numbers_text}
 use Rattle.surf_run.proofs.lines.numbered.Given as goal
 
 abbrev pub invariant-loop-n : goal.invariant-loop-n

@@ -1,6 +1,6 @@
 use Rattle.std.proofs.Common.{◌≡◌, ◌∙◌, List, [], ◌∷◌, map, ap, refl, sym, Option, Some, subst}
 use Rattle.std.specs.Prelude.{sum, IfSome, slice_get}
-use Rattle.surf_basis.specs.Cycles.{first_of, loops_of, IsFirstCandidate, IsShortestCycle}
+use Rattle.surf_basis.specs.Cycles.{first_of, as_loops, IsFirstCandidate, IsShortestCycle}
 use Rattle.surf_basis.specs.declared.cycle.Cycle.{Cycle}
 use Rattle.surf_run.proofs.CycleLaws.{as_long}
 use Rattle.surf_run.proofs.TryLaws.{totals_so, measures_so}
@@ -10,7 +10,7 @@ pub returns-clause-total : goal.returns-clause-total
 returns-clause-total c =
     let cycles = c.in_ok-basis.basis.items in
     totals_so c.args.mesh.now c.args.lengths.now c.faces-surface.ensures.surface c.count-positive.ensures.lengths c.requires.lengths
-    (loops_of cycles) c.total_of-total.result c.in_ok-basis.ensures.chosen c.in_ok-basis.ensures.least
+    (as_loops cycles) c.total_of-total.result c.in_ok-basis.ensures.chosen c.in_ok-basis.ensures.least
     (c.total_of-total.ensures ∙ ap (λ (cs : List Cycle). sum (map (λ x. x.length) cs)) c.deref.ensures.value ∙ sym (ap sum (as_long cycles)))
 
 first_got : (cycles : List Cycle) → first_of cycles ≡ slice_get cycles 0

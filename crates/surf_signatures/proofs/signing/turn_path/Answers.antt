@@ -6,7 +6,8 @@ use Rattle.surf_graphs.proofs.Trees.{path_root, path_step}
 use Rattle.surf_z2.proofs.ParityLaws.{xor-false}
 use Rattle.surf_graphs.specs.Cells.{dual}
 use Rattle.surf_surfaces.specs.Cells.{cells_of}
-use Rattle.surf_signatures.specs.Signs.{at, sign_bit}
+use Rattle.surf_base.specs.Tables.{at}
+use Rattle.surf_signatures.specs.Signs.{sign_bit}
 use Rattle.surf_signatures.specs.Tables.{face_tree}
 use Rattle.surf_signatures.proofs.Toggling.{two_turns}
 use Rattle.surf_signatures.proofs.signing.turn_path.Goals as goal

@@ -2,7 +2,8 @@ use Rattle.std.proofs.Common.{◌≡◌, ◌<◌, ◌*◌, ◌&&◌, ℕ, eqb}
 use Rattle.surf_z2.specs.Parity.{xor}
 use Rattle.surf_graphs.specs.Trees.{on_path}
 use Rattle.surf_surfaces.specs.Surface.{face_count}
-use Rattle.surf_signatures.specs.Signs.{at, sign_bit}
+use Rattle.surf_base.specs.Tables.{at}
+use Rattle.surf_signatures.specs.Signs.{sign_bit}
 use Rattle.surf_signatures.specs.Tables.{face_tree}
 use Rattle.surf_signatures.proofs.signing.turn_path.Given as goal
 

@@ -5,7 +5,8 @@ use Rattle.surf_z2.specs.Parity.{xor}
 use Rattle.surf_graphs.specs.Trees.{on_path}
 use Rattle.surf_graphs.specs.Cells.{dual}
 use Rattle.surf_surfaces.specs.Cells.{cells_of}
-use Rattle.surf_signatures.specs.Signs.{at, sign_bit, has_left}
+use Rattle.surf_base.specs.Tables.{at}
+use Rattle.surf_signatures.specs.Signs.{sign_bit, has_left}
 use Rattle.surf_signatures.specs.Tables.{face_tree}
 use Rattle.surf_signatures.proofs.Toggling.{three_turns, no_turns, below_more}
 use Rattle.surf_signatures.proofs.signing.write_signs.Goals as goal

@@ -1,6 +1,6 @@
 use Rattle.std.proofs.Common.{◌≡◌, ◌≢◌, ◌<◌, ◌≤◌, ◌+◌, length, arith, map}
 use Rattle.std.proofs.lemmas.List.{length-map}
-use Rattle.surf_tree.specs.Searches.{at}
+use Rattle.surf_base.specs.Tables.{at}
 use Rattle.surf_tree.proofs.Offering.{link_of}
 use Rattle.surf_tree.proofs.Choosing.{chosen_in, chosen_tight, chosen_least}
 use Rattle.surf_tree.proofs.parents.least_tight.Goals as goal

@@ -1,7 +1,7 @@
 use Rattle.std.proofs.Common.{◌≡◌, ◌≢◌, ℕ, ◌<◌, ◌≤◌, ◌+◌, map}
 use Rattle.surf_mesh.specs.Links.{link_at}
-use Rattle.surf_tree.specs.Tables.{nobody}
-use Rattle.surf_tree.specs.Searches.{at, IsTight}
+use Rattle.surf_base.specs.Tables.{nobody, at}
+use Rattle.surf_tree.specs.Searches.{IsTight}
 use Rattle.surf_tree.proofs.parents.least_tight.Given as goal
 
 abbrev pub invariant-loop-e : goal.invariant-loop-e

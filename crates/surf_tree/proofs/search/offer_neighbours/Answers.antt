@@ -1,7 +1,8 @@
 use Rattle.std.proofs.Common.{◌≡◌, ◌≢◌, ◌<◌, ◌+◌, length, arith, set, Some, map}
 use Rattle.std.proofs.lemmas.List.{length-map}
 use Rattle.surf_heap.specs.Entries.{entry_of, lesser}
-use Rattle.surf_tree.specs.Searches.{at, far}
+use Rattle.surf_base.specs.Tables.{at}
+use Rattle.surf_tree.specs.Searches.{far}
 use Rattle.surf_tree.proofs.Offering.{link_of, link_in, link_more, link_skip}
 use Rattle.surf_tree.proofs.search.offer_neighbours.Goals as goal
 use Rattle.surf_tree.proofs.search.offer_neighbours.Goals.{then-distance-w, else-distance-w}

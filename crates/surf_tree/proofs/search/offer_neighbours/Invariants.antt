@@ -1,6 +1,6 @@
 use Rattle.std.proofs.Common.{map}
 use Rattle.surf_mesh.specs.Links.{link_at}
-use Rattle.surf_tree.specs.Searches.{at}
+use Rattle.surf_base.specs.Tables.{at}
 use Rattle.surf_tree.proofs.SearchWords.{IsOfferedSome}
 use Rattle.surf_tree.proofs.search.offer_neighbours.Given as goal
 

@@ -1,7 +1,8 @@
 use Rattle.std.proofs.Common.{◌≡◌, ◌<◌, ◌≤◌, ◌∙◌, ℕ, length, arith, ap, refl, None, ◌+◌, ◌*◌}
 use Rattle.std.proofs.Math.ListN.{length-set}
 use Rattle.surf_lengths.specs.Lengths.{longest}
-use Rattle.surf_tree.specs.Searches.{at, far}
+use Rattle.surf_base.specs.Tables.{at}
+use Rattle.surf_tree.specs.Searches.{far}
 use Rattle.surf_tree.proofs.Settling.{search_begins, search_ends}
 use Rattle.surf_tree.proofs.Offering.{all_free, first_offer, turn_inside, turn_smaller, turn_keeps}
 use Rattle.surf_tree.proofs.search.settle.Goals as goal

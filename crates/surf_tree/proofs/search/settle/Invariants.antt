@@ -1,6 +1,7 @@
 use Rattle.std.proofs.Common.{◌≡◌, ℕ, length, eqb}
 use Rattle.surf_z2.specs.Parity.{count_below}
-use Rattle.surf_tree.specs.Searches.{at, far}
+use Rattle.surf_base.specs.Tables.{at}
+use Rattle.surf_tree.specs.Searches.{far}
 use Rattle.surf_tree.proofs.SearchWords.{IsSearch}
 use Rattle.surf_tree.proofs.search.settle.Given as goal
 

@@ -3,7 +3,7 @@ use Rattle.surf_bits.proofs.Rows.{take_most}
 use Rattle.std.specs.Int.Bits.{xor_zero_l, bit_xor}
 use Rattle.surf_z2.specs.Space.{Spanned, numbers}
 use Rattle.surf_z2.specs.Sieve.{has}
-use Rattle.surf_bits.specs.Rows.{left_of, rows_of}
+use Rattle.surf_bits.specs.Rows.{left_of, sieve_rows}
 use Rattle.surf_bits.proofs.Rows.{rows_few, none_left, left_tells, AreAdmitted, admitted_rows, admitted_list, room_for, row_room}
 use Rattle.surf_bits.proofs.sieve.Sieve.admit.Goals as goal
 
@@ -13,8 +13,8 @@ left_of-left-requires-clause-few c =
     let few : length t.pivots.items ≤ t.width = rows_few t.width t.stride t.pivots.items t.reduced.items t.originals.items c.self.invariant.0 in
     omega (arith, few, c.deref.ensures.value, c.self.invariant.0.width_most)
 
-left_is : (stride : ℕ) (ps rs os qs ts : List ℕ) (set left : ℕ) → left ≡ left_of (rows_of stride qs ts os) set → qs ≡ ps → ts ≡ rs → left ≡ left_of (rows_of stride ps rs os) set
-left_is stride ps rs os qs ts set left e f g = e ∙ ap (λ xs. left_of (rows_of stride xs ts os) set) f ∙ ap (λ xs. left_of (rows_of stride ps xs os) set) g
+left_is : (stride : ℕ) (ps rs os qs ts : List ℕ) (set left : ℕ) → left ≡ left_of (sieve_rows stride qs ts os) set → qs ≡ ps → ts ≡ rs → left ≡ left_of (sieve_rows stride ps rs os) set
+left_is stride ps rs os qs ts set left e f g = e ∙ ap (λ xs. left_of (sieve_rows stride xs ts os) set) f ∙ ap (λ xs. left_of (sieve_rows stride ps xs os) set) g
 
 pub add_number-requires : goal.add_number-requires
 add_number-requires c =

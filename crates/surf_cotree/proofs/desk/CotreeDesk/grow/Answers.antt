@@ -10,8 +10,9 @@ use Rattle.surf_surfaces.specs.Surface.{edge_count, face_count}
 use Rattle.surf_surfaces.specs.Cells.{cells_of}
 use Rattle.surf_surfaces.proofs.CellLaws.{surfaces_are_cells}
 use Rattle.surf_cotree.specs.declared.peeling.Leaf.{Leaf}
-use Rattle.surf_cotree.specs.Tables.{CotreeTables, nobody, IsMadeFor}
-use Rattle.surf_cotree.specs.Searches.{at, outside, heaviest, tree_of, is_unmarked, IsHeaviestTree}
+use Rattle.surf_base.specs.Tables.{nobody, at}
+use Rattle.surf_cotree.specs.Tables.{CotreeTables, AreCotreeTables}
+use Rattle.surf_cotree.specs.Searches.{outside, heaviest, spanned_tree, is_unmarked, IsHeaviestTree}
 use Rattle.surf_cotree.specs.Peeling.{IsPeeled, IsHung}
 use Rattle.surf_cotree.proofs.Hanging.{hung_first, hung_all}
 use Rattle.surf_cotree.proofs.Tabled.{unmarked_join, grown_tables}
@@ -59,7 +60,7 @@ module _ (c : After-deref_mut-8) (parent up depth : List ℕ)
   end : IsHung (dual_of c) (outside c.args.in_tree.now) (at c.args.weight.now) c.deref-2.result.now 0 parent up depth
   end = hung (outside c.args.in_tree.now) (at c.args.weight.now) (start c)
 
-  heavy : IsHeaviestTree (dual_of c) (outside c.args.in_tree.now) (at c.args.weight.now) (tree_of 0 parent up depth)
+  heavy : IsHeaviestTree (dual_of c) (outside c.args.in_tree.now) (at c.args.weight.now) (spanned_tree 0 parent up depth)
   heavy = hung_all (dual_of c) (outside c.args.in_tree.now) (at c.args.weight.now) (surfaces_are_cells c.args.mesh.now c.faces-surface.ensures.surface).complex.dual_ends (omega (arith, c.edges-edges.type_inv, c.edges-edges.ensures.count)) c.deref-2.result.now parent up depth end
       (unmarked_join c.args.mesh.now c.args.in_tree.now c.faces-surface.ensures.surface c.requires.tree)
 
@@ -76,7 +77,7 @@ pub mark_edges-requires : goal.mark_edges-requires
 mark_edges-requires c =
     let i = (goal.at.mark_edges-requires c).After-deref_mut-8 in
     let mesh = c.args.mesh.now in
-    let here = subst (IsMadeFor mesh) (sym c.self.view_is) c.requires.made in
+    let here = subst (AreCotreeTables mesh) (sym c.self.view_is) c.requires.made in
     let up = c.hang.new.up in
     let up_is : c.deref-3.result.now ≡ up = c.deref-3.ensures.value ∙ with_items_is (with_items c.self.inside.up c.span.new.up) up (omega (arith, c.deref_mut-8.ensures.len)) in
     let wide : length c.deref_mut-9.result.now ≡ edge_count mesh = omega (arith, c.deref_mut-9.ensures.len, c.deref_mut.ensures.len, c.copy_from_slice.ensures.len, here.held) in
@@ -93,8 +94,8 @@ returns c =
     let i = (goal.at.returns c).After-deref_mut-8 in
     let mesh = c.args.mesh.now in
     let d = c.self.inside in
-    let made : IsMadeFor mesh c.args.self.now = c.requires.made in
-    let here = subst (IsMadeFor mesh) (sym c.self.view_is) made in
+    let made : AreCotreeTables mesh c.args.self.now = c.requires.made in
+    let here = subst (AreCotreeTables mesh) (sym c.self.view_is) made in
     let marks = c.args.in_tree.now in
     let depth = c.hang.new.depth in
     let parent = c.hang.new.parent in

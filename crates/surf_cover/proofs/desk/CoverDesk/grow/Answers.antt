@@ -4,7 +4,7 @@ use Rattle.std.specs.Vec.{with_items}
 use Rattle.surf_surfaces.specs.Surface.{edge_count}
 use Rattle.surf_cotree.specs.Tables.{split_with}
 use Rattle.surf_tree.specs.Searches.{IsSettled}
-use Rattle.surf_cover.specs.Tables.{CoverTables, IsMadeFor, sets_of}
+use Rattle.surf_cover.specs.Tables.{CoverTables, AreCoverTables, sets_of}
 use Rattle.surf_cover.specs.Networks.{node_of, cover_by, length_by}
 use Rattle.surf_cover.proofs.Covering.{searchable}
 use Rattle.surf_cover.proofs.Grown.{sign_below, signed_by, coverable, grown}
@@ -14,7 +14,7 @@ pub copy_signs-requires-clause-small : goal.copy_signs-requires-clause-small
 copy_signs-requires-clause-small c =
     let mesh = c.args.mesh.now in
     let t = c.self.inside in
-    let made : IsMadeFor mesh c.args.self.now = c.requires.made in
+    let made : AreCoverTables mesh c.args.self.now = c.requires.made in
     let vertices : t.vertices ≡ mesh.vertices = ap (λ (x : CoverTables). x.vertices) c.self.view_is ∙ made.vertices in
     let sets : t.sets ≡ sets_of mesh = ap (λ (x : CoverTables). x.sets) c.self.view_is ∙ made.sets in
     let count : length t.signs.items ≡ edge_count mesh = ap (λ (x : CoverTables). length x.signs) c.self.view_is ∙ made.signs in
@@ -25,7 +25,7 @@ pub settle-requires-clause-valid : goal.settle-requires-clause-valid
 settle-requires-clause-valid c =
     let mesh = c.args.mesh.now in
     let t = c.self.inside in
-    let made : IsMadeFor mesh c.args.self.now = c.requires.made in
+    let made : AreCoverTables mesh c.args.self.now = c.requires.made in
     let vertices : t.vertices ≡ mesh.vertices = ap (λ (x : CoverTables). x.vertices) c.self.view_is ∙ made.vertices in
     let sets : t.sets ≡ sets_of mesh = ap (λ (x : CoverTables). x.sets) c.self.view_is ∙ made.sets in
     let kept : length t.signs.items ≡ edge_count mesh = ap (λ (x : CoverTables). length x.signs) c.self.view_is ∙ made.signs in
@@ -42,7 +42,7 @@ pub settle-requires-clause-searchable : goal.settle-requires-clause-searchable
 settle-requires-clause-searchable c =
     let mesh = c.args.mesh.now in
     let t = c.self.inside in
-    let made : IsMadeFor mesh c.args.self.now = c.requires.made in
+    let made : AreCoverTables mesh c.args.self.now = c.requires.made in
     let vertices : t.vertices ≡ mesh.vertices = ap (λ (x : CoverTables). x.vertices) c.self.view_is ∙ made.vertices in
     let sets : t.sets ≡ sets_of mesh = ap (λ (x : CoverTables). x.sets) c.self.view_is ∙ made.sets in
     let kept : length t.signs.items ≡ edge_count mesh = ap (λ (x : CoverTables). length x.signs) c.self.view_is ∙ made.signs in
@@ -62,7 +62,7 @@ pub returns : goal.returns
 returns c =
     let mesh = c.args.mesh.now in
     let t = c.self.inside in
-    let made : IsMadeFor mesh c.args.self.now = c.requires.made in
+    let made : AreCoverTables mesh c.args.self.now = c.requires.made in
     let vertices : t.vertices ≡ mesh.vertices = ap (λ (x : CoverTables). x.vertices) c.self.view_is ∙ made.vertices in
     let sets : t.sets ≡ sets_of mesh = ap (λ (x : CoverTables). x.sets) c.self.view_is ∙ made.sets in
     let kept : length t.signs.items ≡ edge_count mesh = ap (λ (x : CoverTables). length x.signs) c.self.view_is ∙ made.signs in

@@ -1,7 +1,7 @@
 use Rattle.std.proofs.Common.{◌≡◌, ◌∙◌, map, sym, ap, subst, arith}
 use Rattle.surf_surfaces.specs.Surface.{ends}
 use Rattle.surf_validity.specs.Valid.{IsValidLoops}
-use Rattle.surf_validity.specs.Chosen.{cert_of, rows_of, dual_rows_of}
+use Rattle.surf_validity.specs.Chosen.{chosen_cert, rows_for, dual_rows_of}
 use Rattle.surf_validity.proofs.ChosenLaws.{chosen_loops_are_valid}
 use Rattle.surf_cert.specs.Fits.{LoopFits}
 use Rattle.surf_cert.proofs.ChosenFits.{chosen_loops_fit}
@@ -22,9 +22,9 @@ returns c =
     let positive = lengths_positive mesh lengths c.count-lengths.ensures.lengths c.requires.lengths in
     let numbers = numbers_fit mesh lengths (omega (arith, c.vertices-vertices.type_inv, c.vertices-vertices.ensures.count)) (omega (arith, c.faces-faces.type_inv, c.faces-faces.ensures.count))
     (omega (arith, c.count-lengths.type_inv, c.count-lengths.ensures.count)) c.requires.lengths c.count-lengths.ensures.lengths in
-    let is : c.make.result ≡ cert_of mesh (trees_of t) =
+    let is : c.make.result ≡ chosen_cert mesh (trees_of t) =
     cert_shown mesh lengths t.tree.base t c.make.result c.in_ok-tree.tree c.in_ok-dual.dual c.in_ok-left.left.items surface positive g c.make.ensures.parts
-    (c.in_ok-tree.ensures.rows ∙ ap (λ (x : TreeTables). rows_of mesh (tree_of x)) c.tree.ensures.tree)
+    (c.in_ok-tree.ensures.rows ∙ ap (λ (x : TreeTables). rows_for mesh (tree_of x)) c.tree.ensures.tree)
     (c.in_ok-dual.ensures.rows ∙ ap (λ (x : CotreeTables). dual_rows_of mesh (cotree_of x)) c.cotree.ensures.cotree)
     (c.in_ok-left.ensures.pairs ∙ ap (λ (x : CotreeTables). map (ends mesh) x.left) c.cotree-2.ensures.cotree) in
     record {

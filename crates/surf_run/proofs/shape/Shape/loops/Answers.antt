@@ -1,5 +1,5 @@
 use Rattle.std.proofs.Common.{◌≡◌, ◌*◌, sym, subst}
-use Rattle.surf_run.specs.Given.{loop_count}
+use Rattle.surf_surfaces.specs.Surface.{loop_count}
 use Rattle.surf_run.specs.Shapes.{Shape, mesh_of}
 use Rattle.surf_run.proofs.ShapeLaws.{shape_loops}
 use Rattle.surf_run.proofs.shape.Shape.loops.Goals as goal

@@ -1,7 +1,7 @@
 use Rattle.std.proofs.Common.{◌≡◌, ◌<◌, ◌∙◌, ℕ, List, cond, eqb, ap, sym, subst, length, set, arith}
 use Rattle.std.specs.Vec.{with_items}
 use Rattle.std.proofs.lemmas.List.{with_items_is}
-use Rattle.surf_signatures.specs.Tables.{words_for, row_of, rows_of, Signed}
+use Rattle.surf_signatures.specs.Tables.{words_for, row_of, sets_in, Signed}
 use Rattle.surf_signatures.proofs.Written.{rows-length, row_room}
 use Rattle.surf_signatures.proofs.Rewritten.{rows_set}
 use Rattle.surf_signatures.proofs.vertex_sets.VertexSets.put.Goals as goal
@@ -27,7 +27,7 @@ returns c =
     let kept : (with_items s.table new).items ≡ new = with_items_is s.table new (omega (arith, c.deref_mut.ensures.len, c.put_at.ensures.count)) in
     let table : List ℕ → Signed = λ sets. record { width = s.width; sets = sets } in
     record {
-      put = ap (λ xs. table (rows_of w s.vertices xs)) kept
+      put = ap (λ xs. table (sets_in w s.vertices xs)) kept
           ∙ ap table (rows_set w s.vertices v numbers s.table.items new in_table each)
           ∙ ap (λ (t : Signed). record t { sets = set t.sets v numbers }) c.self.view_is;
     }

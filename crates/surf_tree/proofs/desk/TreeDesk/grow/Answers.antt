@@ -9,8 +9,9 @@ use Rattle.surf_surfaces.specs.Walk.{edge_length}
 use Rattle.surf_surfaces.proofs.CellLaws.{surfaces_are_cells}
 use Rattle.surf_mesh.proofs.LinkLaws.{cells_few}
 use Rattle.surf_lengths.specs.Lengths.{longest}
-use Rattle.surf_tree.specs.Tables.{TreeTables, nobody, IsMadeFor}
-use Rattle.surf_tree.specs.Searches.{at, IsSettled, IsLeastTight}
+use Rattle.surf_base.specs.Tables.{nobody, at}
+use Rattle.surf_tree.specs.Tables.{TreeTables, AreTreeTables}
+use Rattle.surf_tree.specs.Searches.{IsSettled, IsLeastTight}
 use Rattle.surf_tree.proofs.Growing.{grown_tree}
 use Rattle.surf_tree.proofs.LengthLaws.{short_lengths}
 use Rattle.surf_tree.proofs.MeshTrees.{grown_here}
@@ -34,7 +35,7 @@ set_parents-requires-clause-fits c =
     let few = (cells_few mesh c.faces-surface.ensures.surface c.faces-surface.ensures.few).0 in
     let distance = c.settle.new.distance in
     let t = c.self.inside in
-    let made : IsMadeFor mesh c.args.self.now = c.requires.made in
+    let made : AreTreeTables mesh c.args.self.now = c.requires.made in
     let distance_is : (with_items t.distance distance).items ≡ distance = with_items_is t.distance distance (omega arith) in
     rw (c.deref.ensures.value, distance_is) (λ u l. let f : at distance u + longest ≤ mesh.vertices * longest = c.settle.ensures.settled.fits u l in omega (arith, f, few))
 
@@ -42,7 +43,7 @@ pub mark_edges-requires-clause-ups : goal.mark_edges-requires-clause-ups
 mark_edges-requires-clause-ups c =
     let mesh = c.args.mesh.now in
     let t = c.self.inside in
-    let made : IsMadeFor mesh c.args.self.now = c.requires.made in
+    let made : AreTreeTables mesh c.args.self.now = c.requires.made in
     let parent = c.set_parents.new.parent in
     let up = c.set_parents.new.up in
     let parent_is : (with_items t.parent parent).items ≡ parent = with_items_is t.parent parent (omega arith) in
@@ -61,7 +62,7 @@ returns c =
     let surface = c.faces-surface.ensures.surface in
     let few = (cells_few mesh surface c.faces-surface.ensures.few).0 in
     let t = c.self.inside in
-    let made : IsMadeFor mesh c.args.self.now = c.requires.made in
+    let made : AreTreeTables mesh c.args.self.now = c.requires.made in
     let distances_kept = ap (λ (x : TreeTables). length x.distances) c.self.view_is in
     let parents_kept = ap (λ (x : TreeTables). length x.parents) c.self.view_is in
     let ups_kept = ap (λ (x : TreeTables). length x.ups) c.self.view_is in
@@ -85,5 +86,5 @@ returns c =
     in
     let positive : (e : ℕ) → e < g.edges → 1 ≤ len e = λ e l. (c.count-lengths.ensures.lengths e 0 (omega (arith, c.requires.lengths))).positive in
     let grown = grown_tree g len c.args.base distance parent up flags (surfaces_are_cells mesh surface).complex.primal_ends small positive c.requires.base settled chosen marked in
-    let tables : IsMadeFor mesh (record { base = c.args.base; distances = distance; parents = parent; ups = up; flags = flags }) = record { distances = omega arith; parents = long; ups = omega arith; flags = omega arith } in
+    let tables : AreTreeTables mesh (record { base = c.args.base; distances = distance; parents = parent; ups = up; flags = flags }) = record { distances = omega arith; parents = long; ups = omega arith; flags = omega arith } in
     record { grown = rw (distance_is, parent_is, up_is, flags_is) (grown_here mesh c.args.lengths.now (record { base = c.args.base; distances = distance; parents = parent; ups = up; flags = flags }) surface grown tables few) }
