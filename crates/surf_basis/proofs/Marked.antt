@@ -13,7 +13,7 @@ use Rattle.surf_surfaces.specs.FewBases.{AreBases}
 use Rattle.surf_loops.proofs.Turned.{ends_in}
 use Rattle.surf_cotree.specs.Tables.{CotreeTables}
 use Rattle.surf_basis.specs.declared.candidate.Signed.{Signed}
-use Rattle.surf_basis.specs.Marks.{AreMarkedIn, HasBases, HasSignedEnds}
+use Rattle.surf_basis.specs.Marks.{AreMarkedIn, HasMarkedEnd, HasBases, HasSignedEnds}
 
 pub marked_none : (marked : List Bool) (list : List ℕ) → list ≡ [] → AreMarkedIn marked 0 list
 marked_none marked list is = subst (AreMarkedIn marked 0) (sym is) (record {
@@ -83,6 +83,15 @@ set_stays marked u v on l = elim (cases_eq v u) [
   | inr ne ↦ get_or-set_other marked u v true false ne ∙ on
 ]
 
+-- where what is marked stays so, so does an end of an edge
+pub end_stays : (mesh : Mesh) (old new : List Bool) (e : ℕ) →
+    ((v : ℕ) → slice_index_or old v false ≡ true → slice_index_or new v false ≡ true) → HasMarkedEnd mesh old e →
+    HasMarkedEnd mesh new e
+end_stays mesh old new e stay h = elim h [
+  | inl low ↦ inl (stay (ends mesh e).0 low)
+  | inr high ↦ inr (stay (ends mesh e).1 high)
+]
+
 pub set_there : (marked : List Bool) (u : ℕ) → u < length marked → slice_index_or (set marked u true) u false ≡ true
 set_there marked u l = get_or-set_same marked u true false l
 
@@ -103,17 +112,23 @@ bases_marked marked list kept h inside on k s l = h.all (get_or kept k s).candid
 pub written_back : {X : Type 0} (xs rest : List X) (n : ℕ) → length xs ≡ n → take n (xs ++ rest) ≡ xs
 written_back xs rest n is = ap (λ (k : ℕ). take k (xs ++ rest)) (sym is) ∙ take-append_seam xs rest
 
--- the lesser ends that are marked are listed, in whatever order
+-- the ends that are marked are listed, in whatever order
 pub ends_listed : (mesh : Mesh) → IsSurface mesh → (s : CotreeTables) (marked table : List Bool) (list old new items : List ℕ) →
     table ≡ marked → length marked ≡ mesh.vertices →
-    ((e : ℕ) → e < edge_count mesh → slice_index s.signatures e ≢ 0 → slice_index_or marked (ends mesh e).0 false ≡ true) →
+    ((e : ℕ) → e < edge_count mesh → slice_index s.signatures e ≢ 0 → HasMarkedEnd mesh marked e) →
     AreMarkedIn table (length table) list → old ≡ list → IsPermutation old new → items ≡ new → HasSignedEnds mesh s items
 ends_listed mesh surface s marked table list old new items same n on h is permuted last e e_in some =
-    let u = (ends mesh e).0 in
-    let u_in = (ends_in mesh surface e e_in).0 in
-    let m : length table ≡ length marked = ap length same in
-    let marks : slice_index_or table (ends mesh e).0 false ≡ true =
-    subst (λ (ms : List Bool). slice_index_or ms (ends mesh e).0 false ≡ true) (sym same) (on e e_in some) in
-    let listed : Contains list (ends mesh e).0 = h.all (ends mesh e).0 (omega (arith, u_in, m, n)) marks in
-    subst (λ (xs : List ℕ). Contains xs (ends mesh e).0) (sym last)
-    (Contains-permutation old new (ends mesh e).0 permuted (subst (λ (xs : List ℕ). Contains xs (ends mesh e).0) (sym is) listed))
+    let inside = ends_in mesh surface e e_in in
+    elim (on e e_in some) [
+      | inl low ↦ inl (listed (ends mesh e).0 inside.0 low)
+      | inr high ↦ inr (listed (ends mesh e).1 inside.1 high)
+    ]
+  where
+    listed : (u : ℕ) → u < mesh.vertices → slice_index_or marked u false ≡ true → Contains items u
+    listed u u_in on_u =
+        let m : length table ≡ length marked = ap length same in
+        let marks : slice_index_or table u false ≡ true =
+        subst (λ (ms : List Bool). slice_index_or ms u false ≡ true) (sym same) on_u in
+        let there : Contains list u = h.all u (omega (arith, u_in, m, n)) marks in
+        subst (λ (xs : List ℕ). Contains xs u) (sym last)
+        (Contains-permutation old new u permuted (subst (λ (xs : List ℕ). Contains xs u) (sym is) there))

@@ -354,10 +354,13 @@ module _ (mesh : Mesh) (lengths : List ℕ) (trees : ℕ → Tree) (surface : Is
           (subst (λ o. AreEnoughOf mesh lengths trees (is_sought o) set (map (found_of mesh trees) choice.kept))
           (limit_last choice.width choice.kept on ∙ e) k.enough)
 
-  -- the lesser ends of edges with signatures are met
+  -- a list with an end of each edge with a signature is met
   pub ends_met : (s : CotreeTables) (vs : List ℕ) → AreSignatures mesh d s → HasSignedEnds mesh s vs → MeetsAll mesh (is_among vs)
   ends_met s vs are has = signed_ends_meet_all mesh d (is_among vs) surface split
-      (λ e e_in some. inl (among_contained vs (ends mesh e).0 (has e e_in (λ none. some (sym (at_edge mesh d s e are e_in) ∙ none)))))
+      (λ e e_in some. elim (has e e_in (λ none. some (sym (at_edge mesh d s e are e_in) ∙ none))) [
+        | inl low ↦ inl (among_contained vs (ends mesh e).0 low)
+        | inr high ↦ inr (among_contained vs (ends mesh e).1 high)
+      ])
 
 -- their signatures are as small as there are left edges
 pub found_small : (mesh : Mesh) (lengths : List ℕ) → IsSurface mesh → ArePositive mesh lengths → (s : CotreeTables) (width : ℕ) →

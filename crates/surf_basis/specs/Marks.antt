@@ -1,5 +1,5 @@
 -- Vertices that are marked in a table.
-use Rattle.std.specs.Prelude.{ℕ, ◌≡◌, ◌≢◌, ◌<◌, true, false, Bool, List, All, Contains, length, slice_index, slice_index_or}
+use Rattle.std.specs.Prelude.{ℕ, ◌≡◌, ◌≢◌, ◌<◌, ◌⊎◌, true, false, Bool, List, All, Contains, length, slice_index, slice_index_or}
 use Rattle.surf_surfaces.specs.Mesh.{Mesh}
 use Rattle.surf_surfaces.specs.Surface.{edge_count, ends}
 use Rattle.surf_cotree.specs.Tables.{CotreeTables}
@@ -15,7 +15,13 @@ pub record AreMarkedIn (marked : List Bool) (bound : ℕ) (list : List ℕ) : Ty
 abbrev pub HasBases : List ℕ → List Signed → Type 0
 HasBases list kept = All (λ s. Contains list s.candidate.base) kept
 
--- a list has the lesser end of each edge whose signature isn't empty
+-- an end of the edge is marked
+abbrev pub HasMarkedEnd : Mesh → List Bool → ℕ → Type 0
+HasMarkedEnd mesh marked e =
+    (slice_index_or marked (ends mesh e).0 false ≡ true) ⊎ (slice_index_or marked (ends mesh e).1 false ≡ true)
+
+-- a list has an end of each edge whose signature isn't empty
 abbrev pub HasSignedEnds : Mesh → CotreeTables → List ℕ → Type 0
 HasSignedEnds mesh s list =
-    (e : ℕ) → e < edge_count mesh → slice_index s.signatures e ≢ 0 → Contains list (ends mesh e).0
+    (e : ℕ) → e < edge_count mesh → slice_index s.signatures e ≢ 0 →
+    Contains list (ends mesh e).0 ⊎ Contains list (ends mesh e).1
