@@ -22,6 +22,3 @@ pub use limits::{
 pub use memory::{MemShelf, MemSink};
 pub use outside::{Failed, NoMemory, Shelf, Sink};
 pub use transfer::{FetchFault, fetch, put_all};
-
-#[cfg(test)]
-mod tests;

@@ -16,6 +16,3 @@ mod words;
 pub use bits::Bits;
 pub use sieve::Sieve;
 pub use signature::Signature;
-
-#[cfg(test)]
-mod tests;

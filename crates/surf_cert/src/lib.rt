@@ -29,6 +29,3 @@ pub use fault::CertText;
 pub use read::read_cert;
 pub use rows::{DualRows, TreeRows};
 pub use write::{write_basis_cert, write_loop_cert};
-
-#[cfg(test)]
-mod tests;

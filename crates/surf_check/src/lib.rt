@@ -23,6 +23,3 @@ pub use answers::{Chain, ChainLink, Sides, Turning};
 pub use checking::{SurfaceFault, check};
 pub use counts::{characteristic, genus};
 pub use orienting::orient;
-
-#[cfg(test)]
-mod tests;

@@ -23,6 +23,3 @@ mod faults;
 
 pub use check::check_disc;
 pub use faults::{BorderKind, DiscFault};
-
-#[cfg(test)]
-mod tests;

@@ -14,6 +14,3 @@ mod tori;
 pub use chains::chain;
 pub use made::made_lengths;
 pub use tori::torus;
-
-#[cfg(test)]
-mod tests;

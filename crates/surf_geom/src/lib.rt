@@ -22,6 +22,3 @@ pub use measures::measure;
 pub use roots::root;
 pub use values::fixed;
 pub use write::write_lengths;
-
-#[cfg(test)]
-mod tests;

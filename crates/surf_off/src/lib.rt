@@ -23,6 +23,3 @@ pub use made::write_soup;
 pub use read::read_off;
 pub use text::OffText;
 pub use write::write_off;
-
-#[cfg(test)]
-mod tests;

@@ -19,6 +19,3 @@ pub use fault::SewFault;
 pub use laws::law_of_sewing;
 pub use sewing::sew;
 pub use write::write_sewn;
-
-#[cfg(test)]
-mod tests;

@@ -16,6 +16,3 @@ mod slit;
 mod splitting;
 
 pub use slit::Slit;
-
-#[cfg(test)]
-mod tests;

@@ -19,6 +19,3 @@ pub use number::read_whole;
 pub use page::{Page, PageFault};
 pub use pieces::Piece;
 pub use tokens::Tokens;
-
-#[cfg(test)]
-mod tests;

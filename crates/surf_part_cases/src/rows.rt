@@ -1,6 +1,7 @@
-use super::*;
+//! Sides that are grouped by a key.
 use std::test::Fail;
 use surf_base::SideId;
+use surf_rows::group_sides;
 
 // Four sides by three keys.
 #[test]

@@ -1,12 +1,5 @@
-use super::*;
-use std::test::Fail;
-use surf_base::{EdgeId, VertexId};
-use surf_lengths::read_lengths;
-use surf_mesh::HalfMesh;
-use surf_off::read_off;
-use surf_text::Page;
-
-const TET: &[u8] = b"OFF\n4 4 6\n0 0 0\n1 0 0\n0 1 0\n0 0 1\n3 0 1 2\n3 0 3 1\n3 0 2 3\n3 1 3 2\n";
+//! Values of coordinates, and whole square roots.
+use surf_geom::{FixedFault, fixed, root};
 
 #[test]
 fn fixed_values(rt: HostRuntime) {

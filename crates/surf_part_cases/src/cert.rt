@@ -1,7 +1,8 @@
-use super::*;
+//! Texts of certificates, read, edited and written again.
 use std::alloc::Global;
 use std::test::Fail;
 use surf_base::VertexId;
+use surf_cert::{Cert, CertText, read_cert, write_basis_cert, write_loop_cert};
 use surf_text::{Lines, Page, PageFault};
 
 // The loops at vertex 0 of a torus of 3 by 3 vertices, each edge of length 1.

@@ -1,6 +1,7 @@
-use super::*;
+//! OFF texts, and their faults.
 use std::test::Fail;
 use surf_base::{FaceId, LimitKind, VertexId};
+use surf_off::{Header, OffFault, read_off};
 
 const TET: &[u8] = b"OFF\n4 4 6\n0 0 0\n1 0 0\n0 1 0\n0 0 1\n3 0 1 2\n3 0 3 1\n3 0 2 3\n3 1 3 2\n";
 

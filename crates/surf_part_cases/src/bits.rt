@@ -1,7 +1,7 @@
 //! A sieve of width 2 at work, and sets that reach past the first word.
 
-use crate::{Bits, Sieve, Signature};
 use surf_base::NoMemory;
+use surf_bits::{Bits, Sieve, Signature};
 
 #[test]
 fn sieve_tells_sums(rt: HostRuntime) -> Result<(), NoMemory> {

@@ -1,5 +1,6 @@
-use super::*;
+//! Lines, tokens, numbers and pages.
 use std::test::Fail;
+use surf_text::{Lines, Page, PageFault, Tokens, read_whole};
 
 #[test]
 fn lines_and_tokens(rt: HostRuntime) -> Result<(), Fail> {

@@ -1,25 +1,10 @@
-use super::*;
+//! Which meshes are surfaces, of which kind they are, and their rings.
 use std::alloc::Global;
 use std::test::Fail;
-use surf_base::{FaceId, NoMemory, SideId, VertexId};
-use surf_mesh::{HalfMesh, Soup};
-
-fn push(soup: &mut Soup, a: u32, b: u32, c: u32) -> Result<(), NoMemory> {
-    let n = soup.vertices();
-    let few = soup.side_count() < 1_000_000;
-    if few && a < n && b < n && c < n && a != b && b != c && a != c {
-        soup.push_face(&[VertexId::new(a), VertexId::new(b), VertexId::new(c)])?;
-    }
-    Ok(())
-}
-
-fn soup(alloc: Global, vertices: u32, faces: &[(u32, u32, u32)]) -> Result<Soup, NoMemory> {
-    let mut soup = Soup::start(alloc, vertices);
-    for (a, b, c) in faces {
-        push(&mut soup, *a, *b, *c)?;
-    }
-    Ok(soup)
-}
+use surf_base::{FaceId, SideId, VertexId};
+use surf_check::{Sides, SurfaceFault, characteristic, check, genus, orient};
+use surf_mesh::HalfMesh;
+use surf_samples::{CROWDED, OPEN, PILLOW, PROJECTIVE, TETRAHEDRON, soup};
 
 // The fault that is found, or none.
 fn fault(
@@ -52,15 +37,13 @@ fn kind(
     Ok((characteristic(&mesh), genus))
 }
 
-const TETRAHEDRON: [(u32, u32, u32); 4] = [(0, 1, 2), (0, 3, 1), (0, 2, 3), (1, 3, 2)];
-
 // A tetrahedron, two triangles back to back, the torus of seven vertices with each odd face turned
 // over, and the projective plane of six vertices.
 #[test]
 fn surfaces_have_their_kinds(rt: HostRuntime) -> Result<(), Fail> {
     let alloc = rt.alloc();
     assert_eq!(rt; kind(alloc, 4, &TETRAHEDRON)?, (2, Some(0)));
-    assert_eq!(rt; kind(alloc, 3, &[(0, 1, 2), (0, 2, 1)])?, (2, Some(0)));
+    assert_eq!(rt; kind(alloc, 3, &PILLOW)?, (2, Some(0)));
     let torus = [
         (0, 1, 3),
         (2, 3, 0),
@@ -78,19 +61,7 @@ fn surfaces_have_their_kinds(rt: HostRuntime) -> Result<(), Fail> {
         (1, 2, 6),
     ];
     assert_eq!(rt; kind(alloc, 7, &torus)?, (0, Some(1)));
-    let plane = [
-        (0, 1, 2),
-        (0, 2, 3),
-        (0, 3, 4),
-        (0, 4, 5),
-        (0, 1, 5),
-        (1, 2, 4),
-        (2, 3, 5),
-        (1, 3, 4),
-        (2, 4, 5),
-        (1, 3, 5),
-    ];
-    assert_eq!(rt; kind(alloc, 6, &plane)?, (1, None));
+    assert_eq!(rt; kind(alloc, 6, &PROJECTIVE)?, (1, None));
     Ok(())
 }
 
@@ -100,25 +71,14 @@ fn edges_have_two_faces(rt: HostRuntime) -> Result<(), Fail> {
     assert_eq!(rt; fault(alloc, 0, &[])?, Some(SurfaceFault::Empty));
     let (u, v) = (VertexId::new(1), VertexId::new(2));
     let face = FaceId::new(0);
-    let open = [(0, 1, 2), (0, 3, 1), (0, 2, 3)];
     assert_eq!(rt;
-        fault(alloc, 4, &open)?,
+        fault(alloc, 4, &OPEN)?,
         Some(SurfaceFault::Border { u, v, face })
     );
-    let crowded = [
-        (0, 1, 2),
-        (0, 3, 1),
-        (0, 2, 3),
-        (1, 3, 2),
-        (0, 1, 4),
-        (0, 5, 1),
-        (0, 4, 5),
-        (1, 5, 4),
-    ];
     let (u, v) = (VertexId::new(0), VertexId::new(1));
     let faces = [FaceId::new(0), FaceId::new(1), FaceId::new(4)];
     assert_eq!(rt;
-        fault(alloc, 6, &crowded)?,
+        fault(alloc, 6, &CROWDED)?,
         Some(SurfaceFault::Crowded { u, v, faces })
     );
     Ok(())

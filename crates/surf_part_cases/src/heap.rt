@@ -1,5 +1,6 @@
-use super::*;
+//! What comes out of a heap, and in which order.
 use std::test::Fail;
+use surf_heap::Heap;
 
 #[test]
 fn the_least_comes_out_first(rt: HostRuntime) -> Result<(), Fail> {

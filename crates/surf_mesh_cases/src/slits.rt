@@ -1,28 +1,12 @@
+//! A tetrahedron that is slit along its edges.
 ghost use Rattle.std.specs.Prelude.{◌≡◌};
 
-use super::*;
-use std::alloc::Global;
 use std::test::Fail;
-use surf_base::{NoMemory, SideId, VertexId};
+use surf_base::{SideId, VertexId};
 use surf_check::check;
-use surf_mesh::{HalfMesh, Soup};
-
-fn push(soup: &mut Soup, a: u32, b: u32, c: u32) -> Result<(), NoMemory> {
-    let n = soup.vertices();
-    let few = soup.side_count() < 1_000_000;
-    if few && a < n && b < n && c < n && a != b && b != c && a != c {
-        soup.push_face(&[VertexId::new(a), VertexId::new(b), VertexId::new(c)])?;
-    }
-    Ok(())
-}
-
-fn tetrahedron(alloc: Global) -> Result<Soup, NoMemory> {
-    let mut soup = Soup::start(alloc, 4);
-    for (a, b, c) in [(0, 1, 2), (0, 3, 1), (0, 2, 3), (1, 3, 2)] {
-        push(&mut soup, a, b, c)?;
-    }
-    Ok(soup)
-}
+use surf_mesh::HalfMesh;
+use surf_samples::{TETRAHEDRON, soup};
+use surf_slit::Slit;
 
 // Cuts the edge between vertex 0 and another one, and says whether that was new.
 fn cut_from_zero(mesh: &HalfMesh, slit: &mut Slit, v: u32) -> Result<bool, Fail>
@@ -41,7 +25,7 @@ fn cut_from_zero(mesh: &HalfMesh, slit: &mut Slit, v: u32) -> Result<bool, Fail>
 
 #[test]
 fn each_cut_after_the_first_at_a_vertex_splits_it(rt: HostRuntime) -> Result<(), Fail> {
-    let soup = tetrahedron(rt.alloc()).ok().ok_or("room")?;
+    let soup = soup(rt.alloc(), 4, &TETRAHEDRON).ok().ok_or("room")?;
     let mesh = check(rt.alloc(), soup).ok().ok_or("a surface")?;
     let mut slit = Slit::start(rt.alloc(), &mesh).ok().ok_or("room")?;
     assert_eq!(rt; slit.labels(), 4);
@@ -56,7 +40,7 @@ fn each_cut_after_the_first_at_a_vertex_splits_it(rt: HostRuntime) -> Result<(),
 
 #[test]
 fn all_edges_at_a_vertex_cut_at_once(rt: HostRuntime) -> Result<(), Fail> {
-    let soup = tetrahedron(rt.alloc()).ok().ok_or("room")?;
+    let soup = soup(rt.alloc(), 4, &TETRAHEDRON).ok().ok_or("room")?;
     let mesh = check(rt.alloc(), soup).ok().ok_or("a surface")?;
     assert_eq!(rt; mesh.edges(), 6);
     assert_eq!(rt; mesh.side_count(), 12);

@@ -1,11 +1,12 @@
+//! Cuts that are sewn, and faults of their copies.
 ghost use Rattle.std.specs.Prelude.{◌≤◌, length};
 
-use super::*;
 use std::alloc::Global;
 use std::test::Fail;
 use surf_base::{CopyId, FaceId, VertexId};
 use surf_check::check;
 use surf_off::read_off;
+use surf_sew::{CopyFault, SewFault, read_copies, sew, write_sewn};
 use surf_text::Page;
 
 // Two triangles glued along their three edges, and their cut.

@@ -1,9 +1,10 @@
 //! Tori and lengths by their tables.
-use crate::{chain, made_lengths, torus};
 use std::alloc::Global;
 use std::test::Fail;
 use surf_base::{EdgeId, FaceId};
+use surf_gen::{chain, made_lengths, torus};
 use surf_mesh::{HalfMesh, Soup};
+use surf_samples::TORUS;
 
 // Whether a face has these corners.
 fn has_corners(soup: &Soup, f: u32, want: [u32; 3]) -> bool {
@@ -23,28 +24,8 @@ fn torus_has_its_faces(rt: HostRuntime) -> Result<(), Fail> {
     let soup = torus(rt.alloc(), 3, 3)?;
     assert_eq!(rt; soup.vertices(), 9);
     assert_eq!(rt; soup.faces(), 18);
-    let want = [
-        [0, 3, 4],
-        [0, 4, 1],
-        [1, 4, 5],
-        [1, 5, 2],
-        [2, 5, 3],
-        [2, 3, 0],
-        [3, 6, 7],
-        [3, 7, 4],
-        [4, 7, 8],
-        [4, 8, 5],
-        [5, 8, 6],
-        [5, 6, 3],
-        [6, 0, 1],
-        [6, 1, 7],
-        [7, 1, 2],
-        [7, 2, 8],
-        [8, 2, 0],
-        [8, 0, 6],
-    ];
-    for (f, corners) in (0u32..18).zip(want) {
-        assert!(rt; has_corners(&soup, f, corners));
+    for (f, (a, b, c)) in (0u32..18).zip(TORUS) {
+        assert!(rt; has_corners(&soup, f, [a, b, c]));
     }
     Ok(())
 }
