@@ -2,7 +2,7 @@
 ghost use Rattle.std.specs.Prelude.{◌<◌};
 
 use crate::faces::{LEFT, ROWS};
-use crate::meshes::{TETRAHEDRON, TORUS, surface};
+use crate::meshes::surface;
 use std::alloc::Global;
 use std::test::Fail;
 use surf_base::{NoMemory, VertexId};
@@ -10,6 +10,7 @@ use surf_cert::{DualRows, LoopCert, TreeRows};
 use surf_lengths::unit_lengths;
 use surf_loops::LoopDesk;
 use surf_mesh::HalfMesh;
+use surf_samples::{TETRAHEDRON, TORUS};
 
 // The certificate of the loops at a vertex.
 fn cert_at(alloc: Global, mesh: &HalfMesh, base: VertexId) -> Result<LoopCert, NoMemory>

@@ -3,13 +3,14 @@ ghost use Rattle.std.specs.Prelude.{◌<◌, replicate, IfOk};
 ghost use Rattle.surf_surfaces.specs.Surface.{edge_count};
 ghost use Rattle.surf_loops.specs.Loops.{IsGreedy};
 
-use crate::meshes::{PROJECTIVE, TETRAHEDRON, TORUS, surface};
+use crate::meshes::surface;
 use std::alloc::Global;
 use std::test::Fail;
 use surf_base::{NoMemory, VertexId};
 use surf_lengths::unit_lengths;
 use surf_loops::LoopDesk;
 use surf_mesh::HalfMesh;
+use surf_samples::{PROJECTIVE, TETRAHEDRON, TORUS};
 
 /// A desk with the loops at a vertex.
 pub(crate) fn loops_at(alloc: Global, mesh: &HalfMesh, base: VertexId) -> Result<LoopDesk, NoMemory>

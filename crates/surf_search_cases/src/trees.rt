@@ -1,9 +1,10 @@
 //! Trees of a tetrahedron.
-use crate::meshes::tetrahedron;
+use crate::meshes::surface;
 use std::alloc::Global;
 use std::test::Fail;
 use surf_base::VertexId;
 use surf_lengths::read_lengths;
+use surf_samples::TETRAHEDRON;
 use surf_tree::TreeDesk;
 
 // The distance and the parent of a vertex in the tree at a base.
@@ -13,7 +14,7 @@ fn place(
     base: u32,
     vertex: u32,
 ) -> Result<(u64, Option<VertexId>), Fail> {
-    let mesh = tetrahedron(alloc)?;
+    let mesh = surface(alloc, 4, &TETRAHEDRON)?;
     if text.len() > 1_000 || base >= mesh.vertices() || vertex >= mesh.vertices() {
         return Ok((0, None));
     }

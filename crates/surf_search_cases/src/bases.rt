@@ -2,70 +2,13 @@
 ghost use Rattle.std.specs.Prelude.{◌≡◌, ◌≤◌, ◌+◌, IsTrue, length};
 ghost use Rattle.surf_surfaces.specs.Surface.{edge_count, face_count};
 
+use crate::meshes::surface;
 use std::alloc::Global;
 use std::test::Fail;
-use surf_base::{NoMemory, VertexId};
 use surf_basis::{Cycle, least_basis, least_nonseparating};
-use surf_check::check;
 use surf_lengths::{Lengths, read_lengths};
-use surf_mesh::{HalfMesh, Soup};
-
-/// Four triangles.
-pub(crate) const TETRAHEDRON: [(u32, u32, u32); 4] = [(0, 1, 2), (0, 3, 1), (0, 2, 3), (1, 3, 2)];
-
-// The projective plane of six vertices.
-const SIX: [(u32, u32, u32); 10] = [
-    (0, 1, 2),
-    (0, 2, 3),
-    (0, 3, 4),
-    (0, 4, 5),
-    (0, 1, 5),
-    (1, 2, 4),
-    (2, 3, 5),
-    (1, 3, 4),
-    (2, 4, 5),
-    (1, 3, 5),
-];
-
-// The torus of Möbius and Császár, of seven vertices.
-const SEVEN: [(u32, u32, u32); 14] = [
-    (0, 1, 3),
-    (0, 3, 2),
-    (1, 2, 4),
-    (1, 4, 3),
-    (2, 3, 5),
-    (2, 5, 4),
-    (3, 4, 6),
-    (3, 6, 5),
-    (4, 5, 0),
-    (4, 0, 6),
-    (5, 6, 1),
-    (5, 1, 0),
-    (6, 0, 2),
-    (6, 2, 1),
-];
-
-/// The torus of three by three squares, each of two triangles.
-pub(crate) const TORUS: [(u32, u32, u32); 18] = [
-    (0, 3, 4),
-    (0, 4, 1),
-    (1, 4, 5),
-    (1, 5, 2),
-    (2, 5, 3),
-    (2, 3, 0),
-    (3, 6, 7),
-    (3, 7, 4),
-    (4, 7, 8),
-    (4, 8, 5),
-    (5, 8, 6),
-    (5, 6, 3),
-    (6, 0, 1),
-    (6, 1, 7),
-    (7, 1, 2),
-    (7, 2, 8),
-    (8, 2, 0),
-    (8, 0, 6),
-];
+use surf_mesh::HalfMesh;
+use surf_samples::{PROJECTIVE, SEVEN, TETRAHEDRON, TORUS};
 
 /// Length 1 for each edge.
 pub(crate) const UNIT: &[u8] = b"SURFLEN 2\ndefault 1\n";
@@ -86,7 +29,7 @@ type Case = (
 
 const CASES: [Case; 5] = [
     (4, &TETRAHEDRON, UNIT, &[]),
-    (6, &SIX, UNIT, &[(3, &[0, 1, 3, 0])]),
+    (6, &PROJECTIVE, UNIT, &[(3, &[0, 1, 3, 0])]),
     (7, &SEVEN, UNIT, &[(3, &[0, 1, 2, 0]), (3, &[0, 1, 4, 0])]),
     (9, &TORUS, UNIT, &[(3, &[0, 1, 2, 0]), (3, &[0, 3, 6, 0])]),
     (
@@ -96,28 +39,6 @@ const CASES: [Case; 5] = [
         &[(81, &[2, 5, 3, 7, 2]), (89, &[2, 5, 8, 7, 2])],
     ),
 ];
-
-fn push(soup: &mut Soup, a: u32, b: u32, c: u32) -> Result<(), NoMemory> {
-    let n = soup.vertices();
-    let few = soup.side_count() < 1_000_000;
-    if few && a < n && b < n && c < n && a != b && b != c && a != c {
-        soup.push_face(&[VertexId::new(a), VertexId::new(b), VertexId::new(c)])?;
-    }
-    Ok(())
-}
-
-/// The surface of some triangles.
-pub(crate) fn surface(
-    alloc: Global,
-    vertices: u32,
-    faces: &[(u32, u32, u32)],
-) -> Result<HalfMesh, Fail> {
-    let mut soup = Soup::start(alloc, vertices);
-    for (a, b, c) in faces {
-        push(&mut soup, *a, *b, *c).ok().ok_or("room")?;
-    }
-    Ok(check(alloc, soup).ok().ok_or("a surface")?)
-}
 
 // Whether a cycle has a length and some vertices, the first of which is its base.
 fn is_cycle(cycle: &Cycle, length: u64, walk: &[u32]) -> bool {

@@ -1,13 +1,14 @@
 //! Length files for a tetrahedron.
-use crate::meshes::tetrahedron;
+use crate::meshes::surface;
 use std::alloc::Global;
 use std::test::Fail;
 use surf_base::{EdgeId, VertexId};
 use surf_lengths::{LengthFault, read_lengths, unit_lengths};
+use surf_samples::TETRAHEDRON;
 
 // The lengths of the six edges, in order, or the fault.
 fn lengths_of(alloc: Global, text: &[u8]) -> Result<Result<[u32; 6], LengthFault>, Fail> {
-    let mesh = tetrahedron(alloc)?;
+    let mesh = surface(alloc, 4, &TETRAHEDRON)?;
     if text.len() > 1_000 {
         return Ok(Err(LengthFault::Memory));
     }
@@ -113,7 +114,7 @@ fn the_first_fault_decides(rt: HostRuntime) -> Result<(), Fail> {
 #[test]
 fn unit_lengths_are_one(rt: HostRuntime) -> Result<(), Fail> {
     let alloc = rt.alloc();
-    let mesh = tetrahedron(alloc)?;
+    let mesh = surface(alloc, 4, &TETRAHEDRON)?;
     let lengths = unit_lengths(alloc, &mesh).ok().ok_or("room")?;
     assert_eq!(rt; lengths.count(), 6);
     assert_eq!(rt; lengths.of(EdgeId::new(5)), 1);

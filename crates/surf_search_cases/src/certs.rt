@@ -1,6 +1,7 @@
 //! Certificates of the bases of small surfaces.
 
-use crate::cases::{SCATTERED, TETRAHEDRON, TORUS, UNIT, fit, surface};
+use crate::bases::{SCATTERED, UNIT, fit};
+use crate::meshes::surface;
 use std::alloc::Global;
 use std::test::Fail;
 use surf_base::VertexId;
@@ -8,6 +9,7 @@ use surf_basis::basis_cert;
 use surf_cert::{BasisCert, DualRows, TreeRows};
 use surf_lengths::read_lengths;
 use surf_mesh::Walk;
+use surf_samples::{TETRAHEDRON, TORUS};
 
 fn pair_of(pair: (u32, u32)) -> (VertexId, VertexId) {
     (VertexId::new(pair.0), VertexId::new(pair.1))

@@ -1,0 +1,178 @@
+//! Which meshes are surfaces, of which kind they are, and their rings.
+use std::alloc::Global;
+use std::test::Fail;
+use surf_base::{FaceId, SideId, VertexId};
+use surf_check::{Sides, SurfaceFault, characteristic, check, genus, orient};
+use surf_mesh::HalfMesh;
+use surf_samples::{CROWDED, OPEN, PILLOW, PROJECTIVE, TETRAHEDRON, soup};
+
+// The fault that is found, or none.
+fn fault(
+    alloc: Global,
+    vertices: u32,
+    faces: &[(u32, u32, u32)],
+) -> Result<Option<SurfaceFault>, Fail> {
+    let soup = soup(alloc, vertices, faces).ok().ok_or("room")?;
+    Ok(check(alloc, soup).err())
+}
+
+// The genus, or none where the surface has one side.
+fn sides(alloc: Global, mesh: &HalfMesh) -> Result<Option<u32>, Fail> {
+    match orient(alloc, mesh) {
+        Ok(Sides::Two(turning)) => Ok(Some(genus(mesh, &turning))),
+        Ok(Sides::One(_)) => Ok(None),
+        Err(_) => Err(Fail::from("room")),
+    }
+}
+
+// The characteristic, and the genus or none.
+fn kind(
+    alloc: Global,
+    vertices: u32,
+    faces: &[(u32, u32, u32)],
+) -> Result<(i64, Option<u32>), Fail> {
+    let soup = soup(alloc, vertices, faces).ok().ok_or("room")?;
+    let mesh = check(alloc, soup).ok().ok_or("no surface")?;
+    let genus = sides(alloc, &mesh)?;
+    Ok((characteristic(&mesh), genus))
+}
+
+// A tetrahedron, two triangles back to back, the torus of seven vertices with each odd face turned
+// over, and the projective plane of six vertices.
+#[test]
+fn surfaces_have_their_kinds(rt: HostRuntime) -> Result<(), Fail> {
+    let alloc = rt.alloc();
+    assert_eq!(rt; kind(alloc, 4, &TETRAHEDRON)?, (2, Some(0)));
+    assert_eq!(rt; kind(alloc, 3, &PILLOW)?, (2, Some(0)));
+    let torus = [
+        (0, 1, 3),
+        (2, 3, 0),
+        (1, 2, 4),
+        (3, 4, 1),
+        (2, 3, 5),
+        (4, 5, 2),
+        (3, 4, 6),
+        (5, 6, 3),
+        (4, 5, 0),
+        (6, 0, 4),
+        (5, 6, 1),
+        (0, 1, 5),
+        (6, 0, 2),
+        (1, 2, 6),
+    ];
+    assert_eq!(rt; kind(alloc, 7, &torus)?, (0, Some(1)));
+    assert_eq!(rt; kind(alloc, 6, &PROJECTIVE)?, (1, None));
+    Ok(())
+}
+
+#[test]
+fn edges_have_two_faces(rt: HostRuntime) -> Result<(), Fail> {
+    let alloc = rt.alloc();
+    assert_eq!(rt; fault(alloc, 0, &[])?, Some(SurfaceFault::Empty));
+    let (u, v) = (VertexId::new(1), VertexId::new(2));
+    let face = FaceId::new(0);
+    assert_eq!(rt;
+        fault(alloc, 4, &OPEN)?,
+        Some(SurfaceFault::Border { u, v, face })
+    );
+    let (u, v) = (VertexId::new(0), VertexId::new(1));
+    let faces = [FaceId::new(0), FaceId::new(1), FaceId::new(4)];
+    assert_eq!(rt;
+        fault(alloc, 6, &CROWDED)?,
+        Some(SurfaceFault::Crowded { u, v, faces })
+    );
+    Ok(())
+}
+
+#[test]
+fn vertices_have_one_fan(rt: HostRuntime) -> Result<(), Fail> {
+    let alloc = rt.alloc();
+    let v = VertexId::new(4);
+    assert_eq!(rt;
+        fault(alloc, 5, &TETRAHEDRON)?,
+        Some(SurfaceFault::Isolated { v })
+    );
+    let pinched = [
+        (0, 1, 2),
+        (0, 3, 1),
+        (0, 2, 3),
+        (1, 3, 2),
+        (0, 4, 5),
+        (0, 6, 4),
+        (0, 5, 6),
+        (4, 6, 5),
+    ];
+    let v = VertexId::new(0);
+    let (first, second) = (FaceId::new(0), FaceId::new(4));
+    assert_eq!(rt;
+        fault(alloc, 7, &pinched)?,
+        Some(SurfaceFault::Pinched { v, first, second })
+    );
+    let apart = [
+        (0, 1, 2),
+        (0, 3, 1),
+        (0, 2, 3),
+        (1, 3, 2),
+        (4, 5, 6),
+        (4, 7, 5),
+        (4, 6, 7),
+        (5, 7, 6),
+    ];
+    let face = FaceId::new(4);
+    assert_eq!(rt;
+        fault(alloc, 8, &apart)?,
+        Some(SurfaceFault::Apart { face })
+    );
+    Ok(())
+}
+
+// The sides at a vertex that has three, in the order round it.
+fn ring(mesh: &HalfMesh, v: u32) -> Option<[u32; 3]> {
+    if v >= mesh.vertices() {
+        return None;
+    }
+    match mesh.ring(VertexId::new(v)) {
+        [a, b, c] => Some([a.number(), b.number(), c.number()]),
+        _ => None,
+    }
+}
+
+// The edges that go with them.
+fn ring_edges(mesh: &HalfMesh, v: u32) -> Option<[u32; 3]> {
+    if v >= mesh.vertices() {
+        return None;
+    }
+    match mesh.ring_edges(VertexId::new(v)) {
+        [a, b, c] => Some([a.number(), b.number(), c.number()]),
+        _ => None,
+    }
+}
+
+// The edge between two vertices.
+fn edge(mesh: &HalfMesh, u: u32, v: u32) -> Option<u32> {
+    let found = mesh.find_edge(VertexId::new(u), VertexId::new(v))?;
+    Some(found.number())
+}
+
+// The mate of a side.
+fn mate(mesh: &HalfMesh, s: u32) -> Option<u32> {
+    if s >= mesh.side_count() {
+        return None;
+    }
+    Some(mesh.mate(SideId::new(s)).number())
+}
+
+// The corner of vertex 0 in face 0 has the edge to 2 before it, which leads to face 2.
+#[test]
+fn a_tetrahedron_has_rings(rt: HostRuntime) -> Result<(), Fail> {
+    let alloc = rt.alloc();
+    let soup = soup(alloc, 4, &TETRAHEDRON).ok().ok_or("room")?;
+    let mesh = check(alloc, soup).ok().ok_or("no surface")?;
+    assert_eq!(rt; ring(&mesh, 0), Some([0, 6, 3]));
+    assert_eq!(rt; ring_edges(&mesh, 0), Some([1, 2, 0]));
+    assert_eq!(rt; edge(&mesh, 0, 1), Some(0));
+    assert_eq!(rt; edge(&mesh, 3, 2), Some(5));
+    assert_eq!(rt; edge(&mesh, 2, 2), None);
+    assert_eq!(rt; mate(&mesh, 7), Some(10));
+    Ok(())
+}

@@ -1,0 +1,23 @@
+//! The soup of a table of faces.
+use std::alloc::Global;
+use surf_base::{NoMemory, VertexId};
+use surf_mesh::Soup;
+
+fn push(soup: &mut Soup, a: u32, b: u32, c: u32) -> Result<(), NoMemory> {
+    let n = soup.vertices();
+    let few = soup.side_count() < 1_000_000;
+    if few && a < n && b < n && c < n && a != b && b != c && a != c {
+        soup.push_face(&[VertexId::new(a), VertexId::new(b), VertexId::new(c)])?;
+    }
+    Ok(())
+}
+
+/// The soup of so many vertices with the triangles of a table, in its order. A triple that is no face of these vertices
+/// is left out.
+pub fn soup(alloc: Global, vertices: u32, faces: &[(u32, u32, u32)]) -> Result<Soup, NoMemory> {
+    let mut soup = Soup::start(alloc, vertices);
+    for (a, b, c) in faces {
+        push(&mut soup, *a, *b, *c)?;
+    }
+    Ok(soup)
+}
