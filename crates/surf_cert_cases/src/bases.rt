@@ -3,7 +3,7 @@ ghost use Rattle.std.specs.Prelude.{◌≡◌, ◌≤◌, ◌+◌, IsTrue, IfOk,
 ghost use Rattle.surf_surfaces.specs.Surface.{edge_count, face_count};
 
 use crate::edit::edited;
-use crate::texts::{SCATTERED, SCATTERED_TREES, TORUS, TREES};
+use crate::texts::{SCATTERED_TREES, TREES};
 use std::alloc::Global;
 use std::test::Fail;
 use surf_base::{FaceId, VertexId};
@@ -13,13 +13,14 @@ use surf_check::check;
 use surf_lengths::{Lengths, read_lengths, unit_lengths};
 use surf_mesh::{HalfMesh, Walk};
 use surf_off::read_off;
+use surf_samples::{SCATTERED, TORUS_TEXT};
 
 // The torus.
 fn torus(alloc: Global) -> Result<HalfMesh, Fail> {
-    if TORUS.len() > 10_000 {
+    if TORUS_TEXT.len() > 10_000 {
         return Err("a long text")?;
     }
-    let Ok((_, soup)) = read_off(alloc, TORUS.as_bytes()) else {
+    let Ok((_, soup)) = read_off(alloc, TORUS_TEXT.as_bytes()) else {
         return Err("a mesh")?;
     };
     match check(alloc, soup) {

@@ -1,6 +1,6 @@
 //! Certificates of loops, with a line edited.
 use crate::edit::edited;
-use crate::texts::{CHOSEN, LIGHTER, TORUS};
+use crate::texts::{CHOSEN, LIGHTER};
 use std::alloc::Global;
 use std::test::Fail;
 use surf_base::{FaceId, VertexId};
@@ -9,13 +9,14 @@ use surf_certcheck::{CertFault, CertPart, check_loops};
 use surf_check::check;
 use surf_lengths::unit_lengths;
 use surf_off::read_off;
+use surf_samples::TORUS_TEXT;
 
 // What the checker says of the certificate of a text.
 fn judged(alloc: Global, text: &[u8]) -> Result<Result<u128, CertFault>, Fail> {
-    if text.len() > 10_000 || TORUS.len() > 10_000 {
+    if text.len() > 10_000 || TORUS_TEXT.len() > 10_000 {
         return Err("a long text")?;
     }
-    let Ok((_, soup)) = read_off(alloc, TORUS.as_bytes()) else {
+    let Ok((_, soup)) = read_off(alloc, TORUS_TEXT.as_bytes()) else {
         return Err("a mesh")?;
     };
     let Ok(mesh) = check(alloc, soup) else {

@@ -1,8 +1,4 @@
-//! The texts of a mesh and of certificates for it.
-
-/// The torus.
-pub const TORUS: &str =
-    "OFF\n9 18 27\n0 0 0\n1 0 0\n2 0 0\n3 0 0\n4 0 0\n5 0 0\n6 0 0\n7 0 0\n8 0 0\n3 0 3 4\n3 0 4 1\n3 1 4 5\n3 1 5 2\n3 2 5 3\n3 2 3 0\n3 3 6 7\n3 3 7 4\n3 4 7 8\n3 4 8 5\n3 5 8 6\n3 5 6 3\n3 6 0 1\n3 6 1 7\n3 7 1 2\n3 7 2 8\n3 8 2 0\n3 8 0 6\n";
+//! The texts of certificates for the torus of three by three.
 
 /// The certificate of the choice at vertex 0.
 pub const CHOSEN: &str =
@@ -16,10 +12,6 @@ pub const LIGHTER: &str =
 pub const TREES: &str =
     "SURFCERT 1 basis\ncounts 9 18 2\ntree 0\n0 -\n1 0\n1 0\n1 0\n1 0\n2 1\n1 0\n2 1\n1 0\ntree 1\n1 1\n0 -\n1 1\n2 0\n1 1\n1 1\n1 1\n1 1\n2 0\ntree 2\n1 2\n1 2\n0 -\n1 2\n2 0\n1 2\n2 0\n1 2\n1 2\ntree 3\n1 3\n2 0\n1 3\n0 -\n1 3\n1 3\n1 3\n1 3\n2 0\ntree 4\n1 4\n1 4\n2 0\n1 4\n0 -\n1 4\n2 0\n1 4\n1 4\ntree 5\n2 1\n1 5\n1 5\n1 5\n1 5\n0 -\n1 5\n2 1\n1 5\ntree 6\n1 6\n1 6\n2 0\n1 6\n2 0\n1 6\n0 -\n1 6\n1 6\ntree 7\n2 1\n1 7\n1 7\n1 7\n1 7\n2 1\n1 7\n0 -\n1 7\ntree 8\n1 8\n2 0\n1 8\n2 0\n1 8\n1 8\n1 8\n1 8\n0 -\ndual\n0 -\n5 1 4\n4 4 5\n5 2 5\n4 3 5\n5 2 3\n2 3 7\n1 3 4\n2 4 7\n3 4 8\n4 5 6\n3 3 6\n4 1 6\n3 6 7\n4 2 7\n3 7 8\n4 2 8\n5 6 8\nleft\n1 2\n5 8\n";
 
-/// The same for the lengths of `SCATTERED`.
+/// The same for the lengths `SCATTERED`.
 pub const SCATTERED_TREES: &str =
     "SURFCERT 1 basis\ncounts 9 18 2\ntree 0\n0 -\n14 0\n21 0\n28 0\n35 0\n22 2\n42 0\n29 2\n31 7\ntree 1\n14 1\n0 -\n35 0\n42 0\n49 0\n36 2\n56 0\n43 2\n45 7\ntree 2\n21 2\n35 0\n0 -\n30 5\n51 5\n1 2\n63 0\n8 2\n10 7\ntree 3\n28 3\n42 0\n30 5\n0 -\n22 3\n29 3\n36 3\n38 2\n40 7\ntree 4\n35 4\n49 0\n51 5\n22 4\n0 -\n50 4\n58 3\n57 4\n59 7\ntree 5\n22 2\n36 0\n1 5\n29 5\n50 5\n0 -\n64 0\n9 2\n11 7\ntree 6\n42 6\n56 0\n63 0\n36 6\n58 3\n64 2\n0 -\n71 2\n73 7\ntree 7\n29 2\n43 0\n8 7\n38 5\n57 7\n9 2\n71 0\n0 -\n2 7\ntree 8\n31 2\n45 0\n10 7\n40 5\n59 7\n11 2\n73 0\n2 8\n0 -\ndual\n0 -\n5 1 4\n4 4 5\n5 1 2\n4 3 5\n5 2 3\n2 3 7\n1 3 4\n2 4 7\n3 4 8\n4 5 6\n3 3 6\n4 1 6\n3 6 7\n4 1 7\n7 2 8\n6 0 8\n5 6 8\nleft\n1 5\n5 8\n";
-
-/// A length for each edge: one more than `7 k + 13` modulo 97 for edge `k`.
-pub const SCATTERED: &str =
-    "0 1 14\n0 2 21\n0 3 28\n0 4 35\n0 6 42\n0 8 49\n1 2 56\n1 4 63\n1 5 70\n1 6 77\n1 7 84\n2 3 91\n2 5 1\n2 7 8\n2 8 15\n3 4 22\n3 5 29\n3 6 36\n3 7 43\n4 5 50\n4 7 57\n4 8 64\n5 6 71\n5 8 78\n6 7 85\n6 8 92\n7 8 2\n";

@@ -6,6 +6,7 @@ use std::test::Fail;
 use surf_base::{CopyId, FaceId, VertexId};
 use surf_check::check;
 use surf_off::read_off;
+use surf_samples::TORUS_TEXT;
 use surf_sew::{CopyFault, SewFault, read_copies, sew, write_sewn};
 use surf_text::Page;
 
@@ -15,10 +16,7 @@ const PILLOW: &[u8] = b"OFF\n3 2 3\n0 0 0\n1 0 0\n0 1 0\n3 0 1 2\n3 0 2 1\n";
 const PILLOW_CUT: &[u8] =
     b"OFF\n4 2 5\n0 0 0\n0 0 0\n1 0 0\n0 1 0\n3 0 2 3\n3 1 3 2\n# copy 0 from 0\n# copy 1 from 0\n# copy 2 from 1\n# copy 3 from 2\n";
 
-// A torus of 3 by 3 cells, and its trimmed cut.
-const TORUS: &[u8] =
-    b"OFF\n9 18 27\n0 0 0\n1 0 0\n2 0 0\n3 0 0\n4 0 0\n5 0 0\n6 0 0\n7 0 0\n8 0 0\n3 0 3 4\n3 0 4 1\n3 1 4 5\n3 1 5 2\n3 2 5 3\n3 2 3 0\n3 3 6 7\n3 3 7 4\n3 4 7 8\n3 4 8 5\n3 5 8 6\n3 5 6 3\n3 6 0 1\n3 6 1 7\n3 7 1 2\n3 7 2 8\n3 8 2 0\n3 8 0 6\n";
-
+// The trimmed cut of a torus of 3 by 3 cells.
 const TORUS_CUT: &[u8] =
     b"OFF\n16 18 33\n0 0 0\n0 0 0\n0 0 0\n0 0 0\n1 0 0\n1 0 0\n2 0 0\n2 0 0\n3 0 0\n3 0 0\n4 0 0\n5 0 0\n6 0 0\n6 0 0\n7 0 0\n8 0 0\n3 0 8 10\n3 0 10 4\n3 4 10 11\n3 4 11 6\n3 6 11 9\n3 6 9 1\n3 8 12 14\n3 8 14 10\n3 10 14 15\n3 10 15 11\n3 11 15 13\n3 11 13 9\n3 12 2 5\n3 12 5 14\n3 14 5 7\n3 14 7 15\n3 15 7 3\n3 15 3 13\n# copy 0 from 0\n# copy 1 from 0\n# copy 2 from 0\n# copy 3 from 0\n# copy 4 from 1\n# copy 5 from 1\n# copy 6 from 2\n# copy 7 from 2\n# copy 8 from 3\n# copy 9 from 3\n# copy 10 from 4\n# copy 11 from 5\n# copy 12 from 6\n# copy 13 from 6\n# copy 14 from 7\n# copy 15 from 8\n";
 
@@ -61,7 +59,7 @@ fn sewn(alloc: Global, text: &[u8]) -> Result<Vec<u8>, Fail> {
 fn cuts_are_sewn(rt: HostRuntime) -> Result<(), Fail> {
     for (cut, mesh) in [
         (PILLOW_CUT, PILLOW),
-        (TORUS_CUT, TORUS),
+        (TORUS_CUT, TORUS_TEXT.as_bytes()),
         (COLOURED_CUT, COLOURED),
         (MIXED_CUT, PILLOW),
     ] {

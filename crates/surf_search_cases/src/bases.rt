@@ -8,22 +8,16 @@ use std::test::Fail;
 use surf_basis::{Cycle, least_basis, least_nonseparating};
 use surf_lengths::{Lengths, read_lengths};
 use surf_mesh::HalfMesh;
-use surf_samples::{PROJECTIVE, SEVEN, TETRAHEDRON, TORUS};
+use surf_samples::{PROJECTIVE, SCATTERED, SEVEN, TETRAHEDRON, TORUS};
 
 /// Length 1 for each edge.
-pub(crate) const UNIT: &[u8] = b"SURFLEN 2\ndefault 1\n";
-
-/// Lengths on the torus of three by three squares, all different.
-pub(crate) const SCATTERED: &[u8] =
-    b"0 1 14\n0 2 21\n0 3 28\n0 4 35\n0 6 42\n0 8 49\n1 2 56\n1 4 63\n1 5 70
-1 6 77\n1 7 84\n2 3 91\n2 5 1\n2 7 8\n2 8 15\n3 4 22\n3 5 29\n3 6 36
-3 7 43\n4 5 50\n4 7 57\n4 8 64\n5 6 71\n5 8 78\n6 7 85\n6 8 92\n7 8 2\n";
+pub(crate) const UNIT: &str = "SURFLEN 2\ndefault 1\n";
 
 // The vertices and faces of a surface, the text of its lengths, and the lengths and walks of its basis.
 type Case = (
     u32,
     &'static [(u32, u32, u32)],
-    &'static [u8],
+    &'static str,
     &'static [(u64, &'static [u32])],
 );
 
@@ -96,7 +90,9 @@ fn answers(alloc: Global, case: &Case) -> Result<bool, Fail> {
         return Ok(false);
     }
     let mesh = surface(alloc, vertices, faces)?;
-    let lengths = read_lengths(alloc, text, &mesh).ok().ok_or("lengths")?;
+    let lengths = read_lengths(alloc, text.as_bytes(), &mesh)
+        .ok()
+        .ok_or("lengths")?;
     Ok(has_basis(alloc, &mesh, &lengths, wanted) && has_first(alloc, &mesh, &lengths, wanted))
 }
 

@@ -1,6 +1,6 @@
 //! Certificates of the bases of small surfaces.
 
-use crate::bases::{SCATTERED, UNIT, fit};
+use crate::bases::{UNIT, fit};
 use crate::meshes::surface;
 use std::alloc::Global;
 use std::test::Fail;
@@ -9,7 +9,7 @@ use surf_basis::basis_cert;
 use surf_cert::{BasisCert, DualRows, TreeRows};
 use surf_lengths::read_lengths;
 use surf_mesh::Walk;
-use surf_samples::{TETRAHEDRON, TORUS};
+use surf_samples::{SCATTERED, TETRAHEDRON, TORUS};
 
 fn pair_of(pair: (u32, u32)) -> (VertexId, VertexId) {
     (VertexId::new(pair.0), VertexId::new(pair.1))
@@ -98,13 +98,15 @@ fn cert_of(
     alloc: Global,
     vertices: u32,
     faces: &[(u32, u32, u32)],
-    text: &[u8],
+    text: &str,
 ) -> Result<BasisCert, Fail> {
     if text.len() > 1_000 {
         return Err("a long text")?;
     }
     let mesh = surface(alloc, vertices, faces)?;
-    let lengths = read_lengths(alloc, text, &mesh).ok().ok_or("lengths")?;
+    let lengths = read_lengths(alloc, text.as_bytes(), &mesh)
+        .ok()
+        .ok_or("lengths")?;
     if !fit(&mesh, &lengths) {
         return Err("lengths of another mesh")?;
     }
