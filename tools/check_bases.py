@@ -246,21 +246,29 @@ def known(program, folder):
     return well
 
 
-def main():
+def given_words(tool, surfaces):
+    """The words of the command line, or none where there is no program yet."""
     parser = argparse.ArgumentParser()
     parser.add_argument("--program", default=TOP / "crates/surf/out/surf", type=pathlib.Path)
-    parser.add_argument("--surfaces", default=300, type=int)
+    parser.add_argument("--surfaces", default=surfaces, type=int)
     parser.add_argument("--seed", default=1, type=int)
     given = parser.parse_args()
     if not given.program.exists():
-        print("check_bases: there is no program yet")
+        print(f"{tool}: there is no program yet")
+        return None
+    given.program = given.program.resolve()
+    return given
+
+
+def main():
+    given = given_words("check_bases", 300)
+    if given is None:
         return 0
-    program = given.program.resolve()
     with tempfile.TemporaryDirectory() as name:
         folder = pathlib.Path(name)
         chance = random.Random(given.seed)
-        wrong = sum(not compared(program, folder, chance) for _ in range(given.surfaces))
-        well = known(program, folder)
+        wrong = sum(not compared(given.program, folder, chance) for _ in range(given.surfaces))
+        well = known(given.program, folder)
     print(f"{given.surfaces - wrong} surfaces as the plain method has them, {wrong} otherwise")
     return 1 if wrong or not well else 0
 
