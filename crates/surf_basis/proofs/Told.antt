@@ -1,34 +1,30 @@
 -- What the tables of a search tell of the loops at its base.
-use Rattle.std.proofs.Common.{◌≡◌, ◌≢◌, ℕ, zero, suc, ◌<◌, ◌≤◌, ◌+◌, ◌*◌, ◌/◌, ◌^◌, ◌++◌, ◌∷◌, [], Bool, true, false, not, cond, List, length, get_or, slice_index, map, filter, bit_xor, min, Contains, Option, Some, None, refl, sym, ap, ◌∙◌, subst, arith, inl, inr}
+use Rattle.std.proofs.Common.{◌≡◌, ◌≢◌, ℕ, zero, suc, ◌<◌, ◌≤◌, ◌+◌, ◌*◌, ◌/◌, ◌^◌, ◌++◌, ◌∷◌, [], true, false, not, List, length, get_or, slice_index, bit_xor, min, All, Contains, Option, Some, None, refl, sym, ap, ◌∙◌, subst, arith, inl, inr}
 use Rattle.std.specs.Prelude.{IsTrue, ◌==◌}
-use Rattle.std.specs.List.{AllByRecursion, range_with_len}
 use Rattle.std.specs.Int.Bits.{xor_assoc, xor_comm}
-use Rattle.std.proofs.lemmas.Bool.{cases_Bool, cases_eq, and_parts, and_from, leb-true, le-leb}
+use Rattle.std.proofs.lemmas.Bool.{cases_Bool, cases_eq, cases_lt, and_parts, and_from, leb-true, le-leb}
 use Rattle.std.proofs.lemmas.Bool.Decides.{nat_tests}
-use Rattle.std.proofs.lemmas.List.{map-id, map-append, append-nil, get_or_default}
-use Rattle.std.proofs.lemmas.List.FromFn.{map-range_with_len_more}
-use Rattle.std.proofs.lemmas.List.Elements.{All-from_recursion}
+use Rattle.std.proofs.lemmas.List.{get_or_default, get_or_read}
+use Rattle.std.proofs.lemmas.List.Elements.{All-push, Contains-append_left, Contains-append_right}
 use Rattle.surf_graphs.specs.Cells.{Split}
 use Rattle.surf_graphs.specs.Trees.{Tree}
 use Rattle.surf_surfaces.specs.Mesh.{Mesh}
-use Rattle.surf_surfaces.specs.Surface.{edge_count, ends, IsSurface}
+use Rattle.surf_surfaces.specs.Surface.{edge_count, ends, touches, IsSurface}
 use Rattle.surf_surfaces.specs.Walk.{ArePositive, edge_length, edge_number}
 use Rattle.surf_surfaces.specs.Class.{AreShortestTrees}
 use Rattle.surf_surfaces.specs.Loop.{loop_length}
 use Rattle.surf_surfaces.specs.Choice.{Trees, AreChosen}
 use Rattle.surf_surfaces.specs.Signature.{edge_signature}
 use Rattle.surf_surfaces.specs.FewBases.{place_at, comes_sooner, least_base, least_on_way}
-use Rattle.surf_surfaces.proofs.BasisLaws.{contains-map}
-use Rattle.surf_surfaces.proofs.CotreeLaws.{passing_each, passing_found}
 use Rattle.surf_surfaces.proofs.FirstCycleLaws.{shortest_trees}
 use Rattle.surf_surfaces.proofs.FirstFoundLaws.{ends_are_near}
-use Rattle.surf_surfaces.proofs.LeastLaws.{all_each, all_mapped}
 use Rattle.surf_surfaces.proofs.OnTheWayLaws.{zero_distance, least_tables_are_least}
 use Rattle.surf_surfaces.proofs.ShortestTreeLaws.{shortest_is_tree, shortest_is_shortest}
 use Rattle.surf_signatures.specs.Ways.{way_class}
 use Rattle.surf_signatures.proofs.WayLaws.{loop_class}
 use Rattle.surf_lengths.specs.Lengths.{longest, AreLengths}
 use Rattle.surf_tree.proofs.LengthLaws.{short_lengths}
+use Rattle.surf_mesh.specs.Ring.{AreEdgesAt}
 use Rattle.surf_loops.proofs.Turned.{ends_in}
 use Rattle.surf_cotree.specs.Tables.{CotreeTables}
 use Rattle.surf_near.specs.Near.{NearTables, IsNear, IsNearTo, is_near}
@@ -37,7 +33,7 @@ use Rattle.surf_basis.specs.declared.candidate.Signed.{Signed}
 use Rattle.surf_basis.specs.Places.{place_of, is_sought, radius_of}
 use Rattle.surf_basis.specs.Signing.{AreSignatures}
 use Rattle.surf_basis.specs.Ways.{WayTables, class_at, AreWays}
-use Rattle.surf_basis.specs.Found.{Search, IsReady, is_between, told_loop, is_wanted, wanted_loop, told_loops, IsFound, AreFoundBy}
+use Rattle.surf_basis.specs.Found.{Search, IsReady, is_between, told_loop, is_wanted, wanted_loop, IsTold, ListsAt, AreTold, IsFound, AreFoundBy}
 use Rattle.surf_basis.proofs.Climbed.{at_edge}
 
 -- ---- the ends of an edge in the tables
@@ -75,37 +71,19 @@ half_below n m le = omega arith
 
 -- ---- lists of them
 
-range_more : (n : ℕ) → range_with_len 0 (n + 1) ≡ range_with_len 0 n ++ n ∷ []
-range_more n = sym (map-id (range_with_len 0 (n + 1))) ∙ map-range_with_len_more (λ k. k) 0 n n (omega arith)
-    ∙ ap (λ xs. xs ++ n ∷ []) (map-id (range_with_len 0 n))
-
-filter_push : (p : ℕ → Bool) (xs : List ℕ) (x : ℕ) → filter p (xs ++ x ∷ []) ≡ filter p xs ++ cond (p x) (x ∷ []) []
-filter_push p [] x = split (p x)
-  where
-    split : (b : Bool) → cond b (x ∷ []) [] ≡ cond b (x ∷ []) []
-    split b = refl
-filter_push p (y ∷ ys) x = split (p y) (filter_push p ys x)
-  where
-    split : (b : Bool) → filter p (ys ++ x ∷ []) ≡ filter p ys ++ cond (p x) (x ∷ []) [] →
-        cond b (y ∷ filter p (ys ++ x ∷ [])) (filter p (ys ++ x ∷ [])) ≡ cond b (y ∷ filter p ys) (filter p ys) ++ cond (p x) (x ∷ []) []
-    split true h = ap (λ zs. y ∷ zs) h
-    split false h = h
-
-told_push : (x : Search) (limit : Option Candidate) (e : ℕ) →
-    told_loops x limit (e + 1) ≡ told_loops x limit e ++ map (told_loop x) (cond (is_wanted x limit e) (e ∷ []) [])
-told_push x limit e =
-    ap (λ xs. map (told_loop x) (filter (is_wanted x limit) xs)) (range_more e)
-    ∙ ap (map (told_loop x)) (filter_push (is_wanted x limit) (range_with_len 0 e) e)
-    ∙ map-append (told_loop x) (filter (is_wanted x limit) (range_with_len 0 e)) (cond (is_wanted x limit e) (e ∷ []) [])
-
-pub told_some : (x : Search) (limit : Option Candidate) (e : ℕ) (s : Signed) (old new : List Signed) →
-    wanted_loop x limit e ≡ Some s → old ≡ told_loops x limit e → new ≡ old ++ s ∷ [] → new ≡ told_loops x limit (e + 1)
-told_some x limit e s old new is was push = elim (cases_Bool (is_wanted x limit e)) [
+-- a loop that is wanted is told
+pub told_wanted : (x : Search) (limit : Option Candidate) (e : ℕ) (s : Signed) → e < edge_count x.mesh →
+    wanted_loop x limit e ≡ Some s → IsTold x limit s
+told_wanted x limit e s e_in is = elim (cases_Bool (is_wanted x limit e)) [
   | inl on ↦
       let same : Some (told_loop x e) ≡ Some s = sym (wanted_on on) ∙ is in
       let one : told_loop x e ≡ s = cc in
-      push ∙ ap (λ xs. xs ++ s ∷ []) was ∙ ap (λ y. told_loops x limit e ++ y ∷ []) (sym one)
-      ∙ sym (told_push x limit e ∙ ap (λ b. told_loops x limit e ++ map (told_loop x) (cond b (e ∷ []) [])) on)
+      let edge : e ≡ s.candidate.edge = ap (λ (c : Signed). c.candidate.edge) one in
+      record {
+        edge_in = subst (λ n. n < edge_count x.mesh) edge e_in;
+        wanted = subst (λ n. is_wanted x limit n ≡ true) edge on;
+        told = sym one ∙ ap (told_loop x) edge;
+      }
   | inr off ↦ let none : None ≡ Some s = sym (wanted_off off) ∙ is in cc
 ]
   where
@@ -115,16 +93,106 @@ told_some x limit e s old new is was push = elim (cases_Bool (is_wanted x limit 
     wanted_off : is_wanted x limit e ≡ false → wanted_loop x limit e ≡ None
     wanted_off off = rw off refl
 
-pub told_none : (x : Search) (limit : Option Candidate) (e : ℕ) (old new : List Signed) →
-    wanted_loop x limit e ≡ None → old ≡ told_loops x limit e → new ≡ old → new ≡ told_loops x limit (e + 1)
-told_none x limit e old new is was same = elim (cases_Bool (is_wanted x limit e)) [
-  | inr off ↦ same ∙ was ∙ sym (append-nil (told_loops x limit e))
-      ∙ sym (told_push x limit e ∙ ap (λ b. told_loops x limit e ++ map (told_loop x) (cond b (e ∷ []) [])) off)
-  | inl on ↦ let some : Some (told_loop x e) ≡ None = sym (wanted_on on) ∙ is in cc
+-- it is the loop of the edge
+pub told_same : (x : Search) (limit : Option Candidate) (e : ℕ) (s : Signed) → wanted_loop x limit e ≡ Some s →
+    told_loop x e ≡ s
+told_same x limit e s is = elim (cases_Bool (is_wanted x limit e)) [
+  | inl on ↦ let same : Some (told_loop x e) ≡ Some s = sym (wanted_on on) ∙ is in cc
+  | inr off ↦ let none : None ≡ Some s = sym (wanted_off off) ∙ is in cc
 ]
   where
     wanted_on : is_wanted x limit e ≡ true → wanted_loop x limit e ≡ Some (told_loop x e)
     wanted_on on = rw on refl
+
+    wanted_off : is_wanted x limit e ≡ false → wanted_loop x limit e ≡ None
+    wanted_off off = rw off refl
+
+-- where none is given the loop isn't wanted
+pub told_off : (x : Search) (limit : Option Candidate) (e : ℕ) → wanted_loop x limit e ≡ None →
+    is_wanted x limit e ≡ true → ⊥
+told_off x limit e is on =
+    let some : Some (told_loop x e) ≡ None = sym (wanted_on on) ∙ is in cc
+  where
+    wanted_on : is_wanted x limit e ≡ true → wanted_loop x limit e ≡ Some (told_loop x e)
+    wanted_on on = rw on refl
+
+-- ---- the edges at a vertex, one after the other
+
+-- what a list has after the first edges at a vertex, and what it had before
+pub record IsListedAt (x : Search) (limit : Option Candidate) (v : ℕ) (edges : List ℕ) (old found : List Signed) (k : ℕ) : Type 0 where
+  pub each : All (IsTold x limit) found
+  pub kept : All (Contains found) old
+  pub here : (j : ℕ) → j < k → (ends x.mesh (slice_index edges j)).0 ≡ v → is_wanted x limit (slice_index edges j) ≡ true →
+      Contains found (told_loop x (slice_index edges j))
+
+pub listed_first : (x : Search) (limit : Option Candidate) (v : ℕ) (edges : List ℕ) (old : List Signed) →
+    All (IsTold x limit) old → IsListedAt x limit v edges old old 0
+listed_first x limit v edges old told = record {
+  each = told;
+  kept = λ k d l. (k, l, get_or_default old k (get_or old k d) d l);
+  here = λ j l. absurd (omega arith);
+}
+
+-- what one list has another has too
+pub contained : (old new : List Signed) (c : Signed) → All (Contains new) old → Contains old c → Contains new c
+contained old new c kept (k, l, is) = subst (Contains new) is (kept k c l)
+
+module _ (x : Search) (limit : Option Candidate) (v : ℕ) (edges : List ℕ) (old : List Signed) where
+  -- one more loop
+  pub listed_push : (found new : List Signed) (k e : ℕ) (s : Signed) → IsListedAt x limit v edges old found k →
+      slice_index edges k ≡ e → e < edge_count x.mesh → wanted_loop x limit e ≡ Some s → new ≡ found ++ s ∷ [] →
+      IsListedAt x limit v edges old new (k + 1)
+  listed_push found new k e s h at e_in is push = subst (λ ys. IsListedAt x limit v edges old ys (k + 1)) (sym push) (record {
+    each = All-push (IsTold x limit) found s h.each (told_wanted x limit e s e_in is);
+    kept = λ i d l. Contains-append_left found (s ∷ []) (get_or old i d) (h.kept i d l);
+    here = λ j l low on. elim (cases_lt j k) [
+      | inl less ↦ Contains-append_left found (s ∷ []) (told_loop x (slice_index edges j)) (h.here j less low on)
+      | inr more ↦
+          let same : j ≡ k = omega arith in
+          let one : told_loop x (slice_index edges j) ≡ s =
+          ap (told_loop x) (ap (slice_index edges) same ∙ at) ∙ told_same x limit e s is in
+          Contains-append_right found (s ∷ []) (told_loop x (slice_index edges j)) (subst (Contains (s ∷ [])) (sym one) (0, omega arith, refl))
+    ];
+  })
+
+  -- no more
+  pub listed_same : (found new : List Signed) (k : ℕ) → IsListedAt x limit v edges old found k → new ≡ found →
+      ((ends x.mesh (slice_index edges k)).0 ≡ v → is_wanted x limit (slice_index edges k) ≡ true → ⊥) →
+      IsListedAt x limit v edges old new (k + 1)
+  listed_same found new k h same off = subst (λ ys. IsListedAt x limit v edges old ys (k + 1)) (sym same) (record {
+    each = h.each;
+    kept = h.kept;
+    here = λ j l low on. elim (cases_lt j k) [
+      | inl less ↦ h.here j less low on
+      | inr more ↦
+          let is : j ≡ k = omega arith in
+          absurd (off (ap (λ n. (ends x.mesh (slice_index edges n)).0) (sym is) ∙ low)
+          (ap (λ n. is_wanted x limit (slice_index edges n)) (sym is) ∙ on))
+    ];
+  })
+
+  -- all of them
+  pub listed_all : (found : List Signed) (k : ℕ) → IsListedAt x limit v edges old found k → length edges ≤ k →
+      AreEdgesAt x.mesh v edges → ListsAt x limit v found
+  listed_all found k h past at e e_in low on =
+      let touched : touches v (ends x.mesh e) ≡ true = touch (ends x.mesh e) low in
+      let (j, l, is) = at.all e (e_in, touched) in
+      subst (λ n. Contains found (told_loop x n)) is
+      (h.here j (omega arith) (ap (λ n. (ends x.mesh n).0) is ∙ low) (ap (is_wanted x limit) is ∙ on))
+    where
+      touch : (p : ℕ × ℕ) → p.0 ≡ v → touches v p ≡ true
+      touch p at_v = grind (arith, nat_tests)
+
+-- the edges at one more vertex
+pub lists_more : (x : Search) (limit : Option Candidate) (settled : List ℕ) (i v : ℕ) (old new : List Signed) →
+    ((j : ℕ) → j < i → ListsAt x limit (slice_index settled j) old) → All (Contains new) old → ListsAt x limit v new →
+    v ≡ slice_index settled i → (j : ℕ) → j < i + 1 → ListsAt x limit (slice_index settled j) new
+lists_more x limit settled i v old new was kept here is j l e e_in low on = elim (cases_lt j i) [
+  | inl less ↦ contained old new (told_loop x e) kept (was j less e e_in low on)
+  | inr more ↦
+      let same : j ≡ i = omega arith in
+      here e e_in (low ∙ ap (slice_index settled) same ∙ sym is) on
+]
 
 -- what a search was made for, as it was asked
 pub near_there : (mesh m : Mesh) (lengths l : List ℕ) (z far r : ℕ) (t : NearTables) → m ≡ mesh → l ≡ lengths → r ≡ far →
@@ -234,36 +302,39 @@ module _ (mesh : Mesh) (lengths : List ℕ) (surface : IsSurface mesh) (positive
             sooner_size c.length c.base (loop_length mesh lengths (trees z).tree e) (least_base mesh searched z e) before in
             subst (λ o. (trees z).tree.rank v ≤ radius_of o) (sym is) (half_below ((trees z).tree.rank v) c.length (omega arith))
 
-    -- the list has all that are sought, and no others
-    pub told_are_found : AreFoundBy mesh lengths searched d limit z (told_loops told limit (edge_count mesh))
-    told_are_found =
-        let wanted = filter (is_wanted told limit) (range_with_len 0 (edge_count mesh)) in
-        let Wanted : ℕ → Type 0 = λ e. (e < 0 + edge_count mesh) × (is_wanted told limit e ≡ true) in
-        let each : AllByRecursion Wanted wanted = passing_each (is_wanted told limit) 0 (edge_count mesh) in
-        record {
-          each = All-from_recursion (IsFound mesh lengths searched d) (map (told_loop told) wanted)
-              (all_mapped (IsFound mesh lengths searched d) (told_loop told) wanted
-              (all_each Wanted (λ e. IsFound mesh lengths searched d (told_loop told e)) wanted
-              (λ e h. told_found e (omega (arith, h.0)) (and_parts (is_between told e) _ h.1).0) each));
-          sooner = All-from_recursion (λ c. IsTrue (is_sought limit (place_of c.candidate))) (map (told_loop told) wanted)
-              (all_mapped (λ c. IsTrue (is_sought limit (place_of c.candidate))) (told_loop told) wanted
-              (all_each Wanted (λ e. IsTrue (is_sought limit (place_of (told_loop told e).candidate))) wanted
-              (λ e h. (parts e h.1).0) each));
-          some = All-from_recursion (λ c. c.signature ≢ 0) (map (told_loop told) wanted)
-              (all_mapped (λ c. c.signature ≢ 0) (told_loop told) wanted
-              (all_each Wanted (λ e. (told_loop told e).signature ≢ 0) wanted
-              (λ e h. not_zero (told_loop told e).signature (parts e h.1).1) each));
-          all = λ e e_in some sought.
-              (let between = sought_near e e_in sought in
-              let f = told_found e e_in between in
-              let on : is_wanted told limit e ≡ true = and_from (is_between told e) _ between
-              (and_from (is_sought limit (place_of (told_loop told e).candidate)) (not ((told_loop told e).signature == 0))
-              (subst (λ p. is_sought limit p ≡ true)
-              (sym (ap (λ n. (n, (told_loop told e).candidate.base)) f.size ∙ ap (λ n. (loop_length mesh lengths (trees z).tree e, n)) f.base)) sought)
-              (zero_not (told_loop told e).signature (λ zero_is. some (sym f.signature ∙ zero_is)))) in
-              let (k, l, is) = passing_found (is_wanted told limit) 0 (edge_count mesh) e (omega arith) (omega arith) on in
-              (told_loop told e, contains-map (told_loop told) wanted e (member wanted k e l is), refl, refl));
-        }
+    -- the lesser end of an edge whose ends were reached was settled
+    low_settled : (e : ℕ) → e < edge_count mesh → is_between told e ≡ true →
+        (k : ℕ) × (k < length t.settled) × (slice_index t.settled k ≡ (ends mesh e).0)
+    low_settled e e_in between =
+        let u = (ends mesh e).0 in
+        let (u_in, v_in) = ends_in mesh surface e e_in in
+        let (near_u, near_v) = and_parts (is_near t u) (is_near t (ends mesh e).1) between in
+        let (k, l, is) = agrees.all u u_in (within u u_in near_u) in
+        (k, l, sym (get_or_read t.settled k u l (sym is) 0))
+
+    -- what is told has all that are sought, and no others
+    pub told_are_found : (found : List Signed) → AreTold told limit found → AreFoundBy mesh lengths searched d limit z found
+    told_are_found found h = record {
+      each = λ k c l.
+          (let i = h.each k c l in
+          subst (IsFound mesh lengths searched d) (sym i.told) (told_found _ i.edge_in (and_parts (is_between told _) _ i.wanted).0));
+      sooner = λ k c l.
+          (let i = h.each k c l in
+          subst (λ (x : Signed). IsTrue (is_sought limit (place_of x.candidate))) (sym i.told) (parts _ i.wanted).0);
+      some = λ k c l.
+          (let i = h.each k c l in
+          subst (λ (x : Signed). x.signature ≢ 0) (sym i.told) (not_zero _ (parts _ i.wanted).1));
+      all = λ e e_in some sought.
+          (let between = sought_near e e_in sought in
+          let f = told_found e e_in between in
+          let on : is_wanted told limit e ≡ true = and_from (is_between told e) _ between
+          (and_from (is_sought limit (place_of (told_loop told e).candidate)) (not ((told_loop told e).signature == 0))
+          (subst (λ p. is_sought limit p ≡ true)
+          (sym (ap (λ n. (n, (told_loop told e).candidate.base)) f.size ∙ ap (λ n. (loop_length mesh lengths (trees z).tree e, n)) f.base)) sought)
+          (zero_not (told_loop told e).signature (λ zero_is. some (sym f.signature ∙ zero_is)))) in
+          let (k, l, is) = low_settled e e_in between in
+          (told_loop told e, h.all k l e e_in (sym is) on, refl, refl));
+    }
       where
         parts : (e : ℕ) → is_wanted told limit e ≡ true →
             (is_sought limit (place_of (told_loop told e).candidate) ≡ true) × (not ((told_loop told e).signature == 0) ≡ true)
@@ -275,6 +346,3 @@ module _ (mesh : Mesh) (lengths : List ℕ) (surface : IsSurface mesh) (positive
 
         zero_not : (n : ℕ) → n ≢ 0 → not (n == 0) ≡ true
         zero_not n h = grind (arith, nat_tests)
-
-        member : (xs : List ℕ) (k e : ℕ) → k < length xs → get_or xs k 0 ≡ e → Contains xs e
-        member xs k e l is = (k, l, get_or_default xs k e 0 l ∙ is)

@@ -1,6 +1,5 @@
 -- Loops that searches find, as signed candidates.
-use Rattle.std.specs.Prelude.{ℕ, ◌≡◌, ◌≢◌, ◌<◌, ◌+◌, ◌^◌, ◌==◌, ◌&&◌, ◌||◌, false, ◌⊎◌, fold, IsPermutation, not, min, Bool, IsTrue, bit_xor, List, [], ◌∷◌, map, filter, All, Contains, length, slice_index, Option, Some, None, if◌then◌else◌}
-use Rattle.std.specs.List.{range_with_len}
+use Rattle.std.specs.Prelude.{ℕ, ◌≡◌, ◌≢◌, ◌<◌, ◌+◌, ◌^◌, ◌==◌, ◌&&◌, ◌||◌, true, false, ◌⊎◌, fold, IsPermutation, not, min, Bool, IsTrue, bit_xor, List, [], ◌∷◌, map, All, Contains, length, slice_index, Option, Some, None, if◌then◌else◌}
 use Rattle.std.specs.List.Sorted.{IsNonDecreasingBy}
 use Rattle.surf_z2.specs.Order.{merge, IsInOrder}
 use Rattle.surf_z2.specs.Space.{numbers, Independent}
@@ -56,6 +55,10 @@ search_of s t w base = record {
   base = base;
 }
 
+-- the search from the base of its tables
+abbrev pub search_at : Surface → NearTables → WayTables → Search
+search_at s t w = search_of s t w t.base
+
 -- there is an entry for each vertex and for each edge, and a class for each vertex that was reached
 pub record IsReady (x : Search) : Type 0 where
   pub made : AreNearTables x.mesh x.near
@@ -90,9 +93,21 @@ abbrev pub is_wanted : Search → Option Candidate → ℕ → Bool
 is_wanted x limit e =
     is_between x e && (is_sought limit (place_of (told_loop x e).candidate) && not ((told_loop x e).signature == 0))
 
--- the loops of such edges among the first
-abbrev pub told_loops : Search → Option Candidate → ℕ → List Signed
-told_loops x limit count = map (told_loop x) (filter (is_wanted x limit) (range_with_len 0 count))
+-- a candidate is what is told of an edge whose loop is wanted
+pub record IsTold (x : Search) (limit : Option Candidate) (c : Signed) : Type 0 where
+  pub edge_in : c.candidate.edge < edge_count x.mesh
+  pub wanted : is_wanted x limit c.candidate.edge ≡ true
+  pub told : c ≡ told_loop x c.candidate.edge
+
+-- the loops of the edges with a lesser end are listed
+abbrev pub ListsAt : Search → Option Candidate → ℕ → List Signed → Type 0
+ListsAt x limit v found = (e : ℕ) → e < edge_count x.mesh → (ends x.mesh e).0 ≡ v → is_wanted x limit e ≡ true →
+    Contains found (told_loop x e)
+
+-- candidates are told, and those of the edges whose lesser ends were settled are among them
+pub record AreTold (x : Search) (limit : Option Candidate) (found : List Signed) : Type 0 where
+  pub each : All (IsTold x limit) found
+  pub all : (i : ℕ) → i < length x.near.settled → ListsAt x limit (slice_index x.near.settled i) found
 
 -- the loop of an edge, if it is wanted
 abbrev pub wanted_loop : Search → Option Candidate → ℕ → Option Signed

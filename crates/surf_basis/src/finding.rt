@@ -1,8 +1,8 @@
 //! The loops that a search from one vertex finds.
-ghost use Rattle.std.specs.Prelude.{◌≡◌, ◌<◌, ◌&&◌, IsTrue, bit_xor, min, length, IfOk, OnOk};
+ghost use Rattle.std.specs.Prelude.{◌≡◌, ◌<◌, ◌&&◌, IsTrue, bit_xor, min, All, Contains, length, IfOk, OnOk};
 ghost use Rattle.surf_surfaces.specs.Surface.{edge_count, ends};
 ghost use Rattle.surf_near.specs.Near.{AreNearTables, is_near};
-ghost use Rattle.surf_basis.specs.Found.{surface_of, search_of, IsReady, is_between, told_loop, told_loops, wanted_loop, AreFound};
+ghost use Rattle.surf_basis.specs.Found.{surface_of, search_of, IsReady, is_between, told_loop, wanted_loop, search_at, IsTold, ListsAt, AreTold, AreFound};
 ghost use Rattle.surf_basis.specs.Places.{place_of, is_sought, radius_of};
 
 use crate::candidate::{Candidate, Signed, copy_signature};
@@ -152,23 +152,50 @@ fn wanted_loop(
     }
 }
 
-// Lists the loops that aren't null and come before a limit.
+// Adds the loops of the edges at a vertex of which it is the lesser end, where they aren't null and come before a limit.
+fn list_at(
+    surface: &Surface<'_>,
+    desk: &NearDesk,
+    ways: &Ways,
+    limit: &Option<Candidate>,
+    v: VertexId,
+    found: &mut Vec<Signed>,
+) -> Result<(), NoMemory>
+    requires ready { IsReady (search_at surface.now desk.now ways.now) }
+    requires vertex { v < surface.now.mesh.now.vertices }
+    requires each { All (IsTold (search_at surface.now desk.now ways.now) limit.now) found.old.items }
+    ensures each { OnOk result (All (IsTold (search_at surface.now desk.now ways.now) limit.now) found.new.items) }
+    ensures kept { OnOk result (All (Contains found.new.items) found.old.items) }
+    ensures here { OnOk result (ListsAt (search_at surface.now desk.now ways.now) limit.now v found.new.items) }
+{
+    let _surface = surface.mesh.faces();
+    let edges = surface.mesh.ring_edges(v);
+    for e in edges {
+        let (low, _) = surface.mesh.ends(*e);
+        if low == v {
+            if let Some(signed) = wanted_loop(surface, desk, ways, desk.base(), limit, *e) {
+                found.push(signed)?;
+            }
+        }
+    }
+    Ok(())
+}
+
+// Lists the loops that aren't null and come before a limit, of edges between vertices that were settled.
 fn list_loops(
     surface: &Surface<'_>,
     desk: &NearDesk,
     ways: &Ways,
-    base: VertexId,
     limit: &Option<Candidate>,
     found: &mut Vec<Signed>,
 ) -> Result<(), NoMemory>
-    requires ready { IsReady (search_of surface.now desk.now ways.now base) }
-    ensures told { OnOk result (found.new.items ≡ told_loops (search_of surface.now desk.now ways.now base) limit.now (edge_count surface.now.mesh.now)) }
+    requires ready { IsReady (search_at surface.now desk.now ways.now) }
+    requires settled { All (λ v. v < surface.now.mesh.now.vertices) desk.now.settled }
+    ensures told { OnOk result (AreTold (search_at surface.now desk.now ways.now) limit.now found.new.items) }
 {
     found.clear();
-    for e in 0..surface.mesh.edges() {
-        if let Some(signed) = wanted_loop(surface, desk, ways, base, limit, EdgeId::new(e)) {
-            found.push(signed)?;
-        }
+    for v in desk.settled() {
+        list_at(surface, desk, ways, limit, *v, found)?;
     }
     Ok(())
 }
@@ -211,6 +238,6 @@ impl<'a> Finder<'a> {
         let _lengths = self.surface.lengths.count();
         self.desk.grow(&self.links, base, radius(limit));
         self.ways.sum(&self.surface, &self.desk, base)?;
-        list_loops(&self.surface, &self.desk, &self.ways, base, limit, found)
+        list_loops(&self.surface, &self.desk, &self.ways, limit, found)
     }
 }

@@ -1,22 +1,20 @@
-use Rattle.std.proofs.Common.{◌≡◌, ◌++◌, ◌∷◌, [], refl, sym, ap, ◌∙◌}
-use Rattle.surf_basis.specs.Found.{search_of, wanted_loop}
-use Rattle.surf_basis.proofs.Told.{told_some, told_none}
+use Rattle.std.proofs.Common.{◌<◌, sym, subst}
+use Rattle.surf_basis.specs.Found.{search_at}
+use Rattle.surf_basis.proofs.Numbered.{item_settled}
+use Rattle.surf_basis.proofs.Told.{lists_more}
 use Rattle.surf_basis.proofs.finding.list_loops.Goals as goal
-use Rattle.surf_basis.proofs.finding.list_loops.Goals.{in-Some+in_ok-push, in_default}
 
-pub loop-e-preserved : goal.loop-e-preserved
-loop-e-preserved c =
-    let x = search_of c.args.surface.now c.args.desk.now c.args.ways.now c.args.base in
-    let limit = c.args.limit.now in
-    let e = c.loop-e.e in
-    let old = c.loop-e.found.items in
-    let was : wanted_loop x limit e ≡ c.wanted_loop.result = ap (wanted_loop x limit) (sym c.new.ensures) ∙ sym c.wanted_loop.ensures.wanted in
-    elim c.match-wanted_loop.branch [
-      | in-Some+in_ok-push w ↦
-          let s = w.in-Some.signed in
-          let items : c.match-wanted_loop.found.items ≡ old ++ s ∷ [] = rw w.found-is w.in_ok-push.ensures.items in
-          told_some x limit e s old c.match-wanted_loop.found.items (was ∙ w.in-Some.is) c.loop-e.invariant items
-      | in_default w ↦
-          let items : c.match-wanted_loop.found.items ≡ old = rw w.found-is refl in
-          told_none x limit e old c.match-wanted_loop.found.items (was ∙ w.in_default.is) c.loop-e.invariant items
-    ]
+pub list_at-requires-clause-vertex : goal.list_at-requires-clause-vertex
+list_at-requires-clause-vertex c =
+    let it = item_settled c.settled-v-items.result.now c.args.desk.now.settled c.loop-v.v-index c.v-item.result c.settled-v-items.ensures.settled c.loop-v-test.true c.v-item.is in
+    subst (λ n. n < c.args.surface.now.mesh.now.vertices) (sym it.1) (c.requires.settled c.loop-v.v-index 0 it.0)
+
+pub loop-v-preserved : goal.loop-v-preserved
+loop-v-preserved c =
+    let x = search_at c.args.surface.now c.args.desk.now c.args.ways.now in
+    let it = item_settled c.settled-v-items.result.now c.args.desk.now.settled c.loop-v.v-index c.v-item.result c.settled-v-items.ensures.settled c.loop-v-test.true c.v-item.is in
+    record {
+      each = c.in_ok-list_at.ensures.each;
+      all = lists_more x c.args.limit.now c.args.desk.now.settled c.loop-v.v-index c.v-item.result c.loop-v.found.items c.list_at.new.found.items c.loop-v.invariant.all
+          c.in_ok-list_at.ensures.kept c.in_ok-list_at.ensures.here it.1;
+    }

@@ -1,6 +1,9 @@
-use Rattle.std.proofs.Common.{◌≡◌}
-use Rattle.surf_basis.specs.Found.{search_of, told_loops}
+use Rattle.std.proofs.Common.{All, ℕ, ◌<◌, slice_index}
+use Rattle.surf_basis.specs.Found.{search_at, IsTold, ListsAt}
 use Rattle.surf_basis.proofs.finding.list_loops.Given as goal
 
-abbrev pub invariant-loop-e : goal.invariant-loop-e
-invariant-loop-e l = l.found.items ≡ told_loops (search_of l.surface l.desk l.ways l.base) l.limit l.e
+abbrev pub invariant-loop-v : goal.invariant-loop-v
+invariant-loop-v l = record {
+  each : All (IsTold (search_at l.surface l.desk l.ways) l.limit) l.found.items;
+  all : (i : ℕ) → i < l.v-index → ListsAt (search_at l.surface l.desk l.ways) l.limit (slice_index l.desk.settled i) l.found.items;
+}
