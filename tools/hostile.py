@@ -468,10 +468,8 @@ def call_runs(program, files, room):
     pieces = Tally("reads and writes of one byte")
     for name, words in words_that_answer(program, files, room):
         right = program.run(words)
-        named = sum(word in map(str, files.values()) or word.startswith("/") for word in words)
         counted = failing.calls(words, PIECE=16)[1]
-        if counted < 3 * named:
-            reads.add(name, right[0], f"{counted} calls for {named} files")
+        reads.add(f"{' '.join(words)}, in pieces", right[0], miscounted(words, room, counted, 16))
         for number in range(1, counted + 2):
             got = failing.run(words, FAIL_READ=number, PIECE=16)
             wanted = (9, b"", b"read fault\n") if number <= counted else right
@@ -484,7 +482,17 @@ def call_runs(program, files, room):
             writes.add(f"{' '.join(words)}, write {number} of {last}", got[0], None if got == wanted else f"{got[0]}, {len(got[1])} bytes, {got[2][:60]!r}")
         got = failing.run(words, PIECE=1)
         pieces.add(" ".join(words), got[0], None if got == right else f"{got[0]}, {got[1][:60]!r}, {got[2][:60]!r}")
+    for mesh in ("eight.off", "three.off"):
+        words = ["info", str(TOP / "meshes" / mesh)]
+        reads.add(mesh, program.run(words)[0], miscounted(words, room, failing.calls(words)[1], 4096))
     return [reads, writes, pieces]
+
+
+def miscounted(words, room, counted, piece):
+    """What is wrong with a number of calls: one that opens each file, its pieces, and one at its end are due."""
+    sizes = [(room / word).stat().st_size for word in words[1:] if (room / word).is_file()]
+    due = sum(2 + (size + piece - 1) // piece for size in sizes)
+    return None if counted == due else f"{counted} calls, not {due}"
 
 
 # ---- memory
