@@ -143,17 +143,20 @@ class Tally:
 
 def sample_files(program, room):
     """A file of each kind over the torus of 7 vertices, as the program itself writes them."""
-    top = TOP / "meshes"
-    files = {"M": room / "mesh", "L": room / "lengths", "W": room / "walk", "V": room / "walk2"}
-    shutil.copyfile(top / "torus7.off", files["M"])
     edges = [(u, v) for u in range(7) for v in range(u + 1, 7)]
-    files["L"].write_text("SURFLEN 2\ndefault 5 # all but two\n" + "".join(f"{u} {v} {3 + u + v}\n" for u, v in edges[::9]))
-    files["W"].write_text("0 1 2 0\n")
-    files["V"].write_text("0 1 4 0\n")
+    lengths = "SURFLEN 2\ndefault 5 # all but two\n" + "".join(f"{u} {v} {3 + u + v}\n" for u, v in edges[::9])
+    return files_over(program, room, (TOP / "meshes" / "torus7.off").read_bytes(), lengths, "0 1 2 0\n", "0 1 4 0\n")
+
+
+def files_over(program, room, mesh, lengths, walk, other):
+    room.mkdir(exist_ok=True)
+    files = {kind: room / name for kind, name in SAMPLES.items()}
+    files["M"].write_bytes(mesh)
+    for kind, text in (("L", lengths), ("W", walk), ("V", other)):
+        files[kind].write_text(text)
     mesh, lengths, walk = (str(files[kind]) for kind in "MLW")
     for kind, words in {"C": ["certify", mesh, lengths, "0"], "B": ["certify", mesh, lengths], "E": ["class", mesh, walk],
                         "O": ["cut", mesh, lengths, "0", "trim"]}.items():
-        files[kind] = room / SAMPLES[kind]
         files[kind].write_bytes(program.run(words)[1])
     return files
 
@@ -506,22 +509,33 @@ def memory_fault(right, status, out, line, may_fail=True):
 
 def room_runs(program, files, room):
     """Under a limit on the space of addresses, from the least that the program starts in up to where it answers."""
-    tally = Tally("a limit on the space of addresses")
-    least = None
-    for pages in range(64, 1 << 16, 64):
-        if program.run(["--version"], before=limited(pages))[0] == 0:
-            least = pages
-            break
-    if least is None:
-        return []
-    for name, words in words_that_answer(program, files, room):
+    tally = Tally("a limit on the space of addresses, on 400 vertices")
+    made = program.run(["gen", "torus", "20", "20"])[1]
+    larger = files_over(program, room / "larger", made, "SURFLEN 2\ndefault 7\n0 1 9\n", "0 20 21 0\n", "0 1 21 0\n")
+    least = least_pages(program)
+    for command in COMMANDS + MAKERS:
+        words = command.with_files(larger)
         right = program.run(words)
-        for extra in range(0, 4096, 16):
+        extra = 0
+        while True:
             status, out, line = program.run(words, before=limited(least + extra))
             tally.add(f"{' '.join(words)}, {4 * (least + extra)} kB", status, memory_fault(right, status, out, line))
-            if (status, out, line) == right:
+            if (status, out, line) == right or extra > 1 << 18:
                 break
+            extra += max(4, extra // 16)
     return [tally]
+
+
+def least_pages(program):
+    """The least number of pages in which the program starts and says its version."""
+    below, enough = 0, 1 << 16
+    while enough - below > 1:
+        middle = (below + enough) // 2
+        if program.run(["--version"], before=limited(middle))[0] == 0:
+            enough = middle
+        else:
+            below = middle
+    return enough
 
 
 def limited(pages):
