@@ -516,13 +516,13 @@ def room_runs(program, files, room):
     for command in COMMANDS + MAKERS:
         words = command.with_files(larger)
         right = program.run(words)
-        extra = 0
-        while True:
-            status, out, line = program.run(words, before=limited(least + extra))
-            tally.add(f"{' '.join(words)}, {4 * (least + extra)} kB", status, memory_fault(right, status, out, line))
-            if (status, out, line) == right or extra > 1 << 18:
+        pages = 4
+        while pages < 1 << 18:
+            status, out, line = program.run(words, before=limited(least + pages))
+            tally.add(f"{' '.join(words)}, {4 * (least + pages)} kB", status, memory_fault(right, status, out, line))
+            if (status, out, line) == right:
                 break
-            extra += max(4, extra // 16)
+            pages += max(4, pages // 16)
     return [tally]
 
 
@@ -582,10 +582,10 @@ def tried(program, files, room, only, copies):
             print(f"  {trial.__name__}: {time.monotonic() - started:.0f} s", flush=True)
 
 
-def write_page(tallies):
+def write_page(tallies, total):
     text = PAGE.read_text()
     start = text.index(BEGIN) + len(BEGIN)
-    rows = ["| What was tried | Runs | Runs by status | Faults |", "|---|---|---|---|", *(tally.row() for tally in tallies)]
+    rows = ["| What was tried | Runs | Runs by status | Faults |", "|---|---|---|---|", *(tally.row() for tally in tallies), "", total]
     PAGE.write_text(text[:start] + "\n".join(rows) + "\n" + text[text.index(END, start) :])
 
 
@@ -613,10 +613,11 @@ def main():
             print(tally.row(), flush=True)
             for fault in tally.faults[:10]:
                 print(f"  {fault}")
-    if words.page and not words.only:
-        write_page(tallies)
     faults = sum(len(tally.faults) for tally in tallies)
-    print(f"{sum(sum(tally.statuses.values()) for tally in tallies):,} runs, {faults} faults")
+    total = f"{sum(sum(tally.statuses.values()) for tally in tallies):,} runs, {faults} faults"
+    print(total)
+    if words.page and not words.only:
+        write_page(tallies, f"{total}.")
     return 1 if faults else 0
 
 
