@@ -16,7 +16,7 @@ use Rattle.surf_cert.specs.Fits.{BasisFits}
 use Rattle.surf_cert.proofs.ChosenFits.{AreNumbers, chosen_basis_fits}
 use Rattle.surf_tree.specs.Tables.{TreeTables, tree_of}
 use Rattle.surf_tree.specs.Grown.{IsGrown as IsTreeGrown}
-use Rattle.surf_cotree.specs.Tables.{tree_of as cotree_of}
+use Rattle.surf_cotree.specs.Tables.{cotree_of}
 use Rattle.surf_loops.specs.Loops.{LoopTables, trees_of, IsGreedy}
 use Rattle.surf_loops.proofs.Rows.{listed_more, cert_shown}
 use Rattle.surf_basis.specs.Certs.{AreTreeRowsBelow, AreTreeRows, IsTheCert}

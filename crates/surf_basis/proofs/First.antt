@@ -14,7 +14,7 @@ use Rattle.surf_surfaces.proofs.ChoiceExists.{choice_exists}
 use Rattle.surf_surfaces.proofs.FirstCycleLaws.{first_is_shortest, candidates_below_two, simple_cycles_separate}
 use Rattle.surf_surfaces.proofs.LoopsAtLaws.{IsLoopAt, loops_are_least}
 use Rattle.surf_surfaces.proofs.CandidateLaws.{IsLoopBelow, below_each}
-use Rattle.surf_loops.specs.Loops.{LoopTables, as_loop as head_loop, IsGreedy}
+use Rattle.surf_loops.specs.Loops.{LoopTables, loop_of as head_loop, IsGreedy}
 use Rattle.surf_loops.specs.declared.head.LoopHead.{LoopHead}
 use Rattle.surf_basis.specs.declared.candidate.Candidate.{Candidate}
 use Rattle.surf_basis.specs.declared.cycle.Cycle.{Cycle}

@@ -2,7 +2,7 @@
 ghost use Rattle.std.specs.Prelude.{◌≡◌, ◌<◌, MatchOption, MatchBool, length};
 ghost use Rattle.surf_surfaces.specs.Homology.{IsFullCount};
 ghost use Rattle.surf_validity.specs.Bases.{tree_at};
-ghost use Rattle.surf_validity.specs.Bases.{HasShape as HasBasisShape};
+ghost use Rattle.surf_validity.specs.Bases.{HasBasisShape};
 ghost use Rattle.surf_validity.specs.Valid.{HasShape};
 ghost use Rattle.surf_certcheck.specs.First.{HoldsBelow};
 ghost use Rattle.surf_certcheck.specs.Rows.{HasTreeRows, HasDualRows};

@@ -14,7 +14,7 @@ use Rattle.surf_surfaces.specs.Signature.{edge_signature}
 use Rattle.surf_classes.specs.CoverGraph.{set_count}
 use Rattle.surf_classes.proofs.SignedSteps.{edge_set}
 use Rattle.surf_cotree.specs.Grown.{IsGrownOn}
-use Rattle.surf_cotree.specs.Tables.{IsMadeFor as CotreeMade, parent_edge_of, CotreeTables, split_with}
+use Rattle.surf_cotree.specs.Tables.{AreCotreeTables, parent_edge_of, CotreeTables, split_with}
 use Rattle.surf_cover.specs.Tables.{sets_of}
 use Rattle.surf_cover.specs.Grown.{IsSigned}
 
@@ -68,7 +68,7 @@ all_others P x xs h k d l = h (suc k) d (omega arith)
 
 -- tables that were grown on the mesh and then signed
 pub signed_after : (mesh : Mesh) (old new : CotreeTables) → IsGrownOn mesh old →
-    new ≡ record old { signatures = new.signatures } → CotreeMade mesh new →
+    new ≡ record old { signatures = new.signatures } → AreCotreeTables mesh new →
     ((tree : Tree) → IsSplit (cells_of mesh) (split_with tree new) →
     new.signatures ≡ map (edge_signature mesh (split_with tree new)) (range_with_len 0 (edge_count mesh))) → IsSigned mesh new
 signed_after mesh old new grown rest made signed = record {

@@ -26,7 +26,7 @@ use Rattle.surf_surfaces.proofs.LoopsAtLaws.{comes_before-trans, comes_before-st
 use Rattle.surf_lengths.specs.Lengths.{AreLengths}
 use Rattle.surf_tree.specs.Tables.{tree_of}
 use Rattle.surf_tree.specs.Grown.{IsGrown as IsTreeGrown}
-use Rattle.surf_cotree.specs.Tables.{tree_of as cotree_of, split_with}
+use Rattle.surf_cotree.specs.Tables.{cotree_of, split_with}
 use Rattle.surf_cotree.specs.Grown.{IsGrown as IsCotreeGrown, IsMarked}
 use Rattle.surf_loops.specs.Heads.{head_of, order_of}
 use Rattle.surf_loops.specs.Loops.{LoopTables, trees_of, loop_of, IsRooted, IsGreedy}

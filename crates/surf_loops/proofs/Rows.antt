@@ -14,7 +14,7 @@ use Rattle.surf_lengths.specs.Lengths.{AreLengths}
 use Rattle.surf_cert.proofs.ChosenFits.{AreNumbers}
 use Rattle.surf_tree.specs.Tables.{TreeTables, parent_of, tree_of}
 use Rattle.surf_tree.specs.Grown.{IsGrown as IsTreeGrown}
-use Rattle.surf_cotree.specs.Tables.{tree_of as cotree_of}
+use Rattle.surf_cotree.specs.Tables.{cotree_of}
 use Rattle.surf_loops.specs.Loops.{LoopTables, IsRooted, IsGreedy, trees_of}
 use Rattle.surf_loops.proofs.Turned.{tree_marks}
 

@@ -9,9 +9,9 @@ use Rattle.surf_surfaces.specs.Homology.{IsIndependent}
 use Rattle.surf_surfaces.specs.Loop.{loop_walk}
 use Rattle.surf_surfaces.specs.Choice.{Trees, AreChosenAt, Loop, loops_at}
 use Rattle.surf_surfaces.specs.ChoiceLaws.{LoopsAtBase}
-use Rattle.surf_tree.specs.Tables.{TreeTables, parent_of, tree_of, AreLoopTables as TreeMade}
+use Rattle.surf_tree.specs.Tables.{TreeTables, parent_of, tree_of, AreTreeTables}
 use Rattle.surf_tree.specs.Grown.{IsGrown as IsTreeGrown}
-use Rattle.surf_cotree.specs.Tables.{CotreeTables, tree_of as cotree_of, AreLoopTables as CotreeMade}
+use Rattle.surf_cotree.specs.Tables.{CotreeTables, cotree_of, AreCotreeTables}
 use Rattle.surf_cotree.specs.Grown.{IsGrown as IsCotreeGrown, IsGrownOn, AreLoopLengths}
 use Rattle.surf_loops.specs.declared.head.LoopHead.{LoopHead}
 
@@ -23,8 +23,8 @@ pub record LoopTables : Type 0 where
 
 -- there is an entry for each vertex, face and edge
 pub record AreLoopTables (mesh : Mesh) (t : LoopTables) : Type 0 where
-  pub tree : TreeMade mesh t.tree
-  pub cotree : CotreeMade mesh t.cotree
+  pub tree : AreTreeTables mesh t.tree
+  pub cotree : AreCotreeTables mesh t.cotree
 
 -- the two trees
 abbrev pub trees_of : LoopTables → Trees
@@ -36,7 +36,7 @@ loop_of mesh t h = record { size = h.length; base = t.tree.base; edge = h.edge; 
 
 -- the tables hold a spanning tree of the vertices, in which each but the base has a parent
 pub record IsRooted (mesh : Mesh) (t : TreeTables) : Type 0 where
-  pub made : TreeMade mesh t
+  pub made : AreTreeTables mesh t
   pub spans : IsTree (primal (cells_of mesh)) (tree_of t)
   pub base_alone : parent_of t t.base ≡ None
   pub parents : (v : ℕ) → v < mesh.vertices → v ≢ t.base → parent_of t v ≡ Some (slice_index t.parents v)

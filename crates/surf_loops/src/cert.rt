@@ -5,7 +5,7 @@ ghost use Rattle.surf_validity.specs.Chosen.{chosen_cert, dual_rows_of, rows_for
 ghost use Rattle.surf_validity.specs.Valid.{IsValidLoops};
 ghost use Rattle.surf_cert.specs.Fits.{LoopFits};
 ghost use Rattle.surf_tree.specs.Tables.{tree_of};
-ghost use Rattle.surf_cotree.specs.Tables.{tree_of as cotree_of};
+ghost use Rattle.surf_cotree.specs.Tables.{cotree_of};
 ghost use Rattle.surf_cotree.specs.Grown.{IsGrownOn};
 ghost use Rattle.surf_loops.specs.Loops.{IsGreedy, IsRooted, trees_of};
 

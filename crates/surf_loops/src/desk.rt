@@ -10,7 +10,7 @@ ghost use Rattle.surf_surfaces.specs.Walk.{IsClosedAt};
 ghost use Rattle.surf_surfaces.specs.Signature.{edge_signature};
 ghost use Rattle.surf_tree.specs.Tables.{tree_of};
 ghost use Rattle.surf_tree.specs.Grown.{IsGrown as IsTreeGrown};
-ghost use Rattle.surf_cotree.specs.Tables.{split_with, AreLoopTables as CotreeMade};
+ghost use Rattle.surf_cotree.specs.Tables.{split_with, AreCotreeTables};
 ghost use Rattle.surf_cotree.specs.Grown.{IsGrownOn};
 ghost use Rattle.surf_loops.specs.Loops.{LoopTables, AreLoopTables, IsRooted, IsGreedy};
 
@@ -111,7 +111,7 @@ impl LoopDesk {
         requires few { length self.old.cotree.left ≤ 1024 }
         ensures signed { (tree : Tree) → IsSplit (cells_of mesh.now) (split_with tree self.new.cotree) → self.new.cotree.signatures ≡ map (edge_signature mesh.now (split_with tree self.new.cotree)) (range_with_len 0 (edge_count mesh.now)) }
         ensures rest { self.new ≡ record self.old { cotree = record self.old.cotree { signatures = self.new.cotree.signatures } } }
-        ensures made { CotreeMade mesh.now self.new.cotree }
+        ensures made { AreCotreeTables mesh.now self.new.cotree }
     {
         self.cotree.sign(mesh);
     }

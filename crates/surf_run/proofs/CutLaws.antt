@@ -13,7 +13,7 @@ use Rattle.surf_text.specs.declared.page.PageFault.{PageFault}
 use Rattle.surf_text.specs.declared.page.PageFault.TheVariants.{Full, Memory}
 use Rattle.surf_tree.specs.Tables.{tree_of}
 use Rattle.surf_cotree.specs.Grown.{IsMarked}
-use Rattle.surf_cotree.specs.Tables.{tree_of as cotree_of}
+use Rattle.surf_cotree.specs.Tables.{cotree_of}
 use Rattle.surf_loops.specs.Loops.{LoopTables, IsGreedy, trees_of}
 use Rattle.surf_cutter.specs.Opened.{OpenMesh, IsHeld, IsChosenFor}
 use Rattle.surf_cutter.proofs.Chosen.{grown_is_held}

@@ -10,7 +10,7 @@ use Rattle.surf_surfaces.specs.Mesh.{Mesh}
 use Rattle.surf_surfaces.specs.Signature.{edge_signature}
 use Rattle.surf_surfaces.specs.Surface.{edge_count, face_count}
 use Rattle.surf_cotree.specs.Grown.{IsMarked}
-use Rattle.surf_cotree.specs.Tables.{CotreeTables, AreCotreeTables, parent_edge_of, split_with, tree_of as cotree_of}
+use Rattle.surf_cotree.specs.Tables.{CotreeTables, AreCotreeTables, parent_edge_of, split_with, cotree_of}
 use Rattle.surf_graphs.specs.Cells.{IsSplit, Split}
 use Rattle.surf_graphs.specs.Trees.{Tree}
 use Rattle.surf_loops.specs.Loops.{LoopTables, IsGreedy, trees_of}

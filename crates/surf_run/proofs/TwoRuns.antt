@@ -6,7 +6,7 @@ use Rattle.std.proofs.lemmas.List.Elements.{All-get_or, All-nil}
 use Rattle.surf_base.specs.Outside.{Files, bytes_of}
 use Rattle.surf_base.specs.declared.limits.LimitKind.{LimitKind}
 use Rattle.surf_base.specs.declared.limits.LimitKind.TheVariants.{BasisVertices, CertificateVertices}
-use Rattle.surf_cert.specs.Grammar.{chosen_cert as cert_in}
+use Rattle.surf_cert.specs.Grammar.{parsed_cert}
 use Rattle.surf_cert.specs.Written.{loop_text, basis_text}
 use Rattle.surf_cert.specs.declared.cert.Cert.{Cert}
 use Rattle.surf_cert.specs.declared.cert.Cert.TheVariants.{Loops, Basis}
@@ -165,8 +165,8 @@ module _ (files : Files) (mesh lengths cert text : List ℕ) (held : bytes_of fi
         let again =
         chosen_loops_again read.1 given.0 given.1 gives.trees looped.0.1 loops_long (numbers_of bytes read given.0 looped weighted.2 weighted.3) gives.chosen in
         let least = valid_loops_are_least read.1 given.0 c looped.0.1 loops_long again.1 in
-        let cert_is : Ok (Loops c) ≡ then_bounded read.1 (certified (cert_in text)) =
-        sym (ap (λ (t : List ℕ). then_bounded read.1 (certified (cert_in t))) text_is
+        let cert_is : Ok (Loops c) ≡ then_bounded read.1 (certified (parsed_cert text)) =
+        sym (ap (λ (t : List ℕ). then_bounded read.1 (certified (parsed_cert t))) text_is
         ∙ ap (λ (r : Result Cert CertText). then_bounded read.1 (certified r)) again.0) in (
           answers 0 (loops_line (total_size the_loops)),
           inr (
@@ -266,8 +266,8 @@ module _ (files : Files) (mesh lengths cert text : List ℕ) (held : bytes_of fi
         gives.is_basis in
         let within : nat_lt 1000 m.vertices ≡ false = le-ltb _ _ few in
         let goes : bounded m (Basis c) ≡ Ok (Basis c) = rw within refl in
-        let cert_is : Ok (Basis c) ≡ then_bounded m (certified (cert_in text)) =
-        sym (ap (λ (t : List ℕ). then_bounded m (certified (cert_in t))) text_is
+        let cert_is : Ok (Basis c) ≡ then_bounded m (certified (parsed_cert text)) =
+        sym (ap (λ (t : List ℕ). then_bounded m (certified (parsed_cert t))) text_is
         ∙ ap (λ (r : Result Cert CertText). then_bounded m (certified r)) again.0 ∙ goes) in (
           answers 0 (basis_line (total_size gives.basis)),
           inr (

@@ -28,7 +28,7 @@ use Rattle.surf_run.specs.Given.{looped, searchable, HasFewLoops, HasFewVertices
 use Rattle.surf_run.specs.Weights.{HasLengths, HasBase, weighed_for, based}
 use Rattle.surf_run.specs.Says.{Says}
 use Rattle.surf_run.specs.Limits.{beyond}
-use Rattle.surf_cert.specs.Grammar.{chosen_cert as cert_in}
+use Rattle.surf_cert.specs.Grammar.{parsed_cert}
 use Rattle.surf_cert.specs.declared.cert.Cert.{Cert}
 use Rattle.surf_cert.specs.declared.cert.Cert.TheVariants.{Loops}
 use Rattle.surf_cert.specs.declared.cert.Cert.TheVariants as certs
@@ -304,7 +304,7 @@ one_check bytes word cert files =
     one_end (IsFewLoopedText true bytes) (λ read. OnCheckedMesh read.1 word cert files) (one_looped_text true bytes)
     (λ read _. one_end (IsMeasured word read.1 files) (λ lengths. OnCertFile read.1 lengths cert files) (one_measured word read.1 files)
     (λ lengths _. one_end (Reads cert files) (OnCertText read.1 lengths) (one_result (within_text (bytes_of files cert)))
-    (λ text _. one_end (IsCertText read.1 text) (JudgesCert read.1 lengths) (one_result (then_bounded read.1 (certified (cert_in text))))
+    (λ text _. one_end (IsCertText read.1 text) (JudgesCert read.1 lengths) (one_result (then_bounded read.1 (certified (parsed_cert text))))
     (λ c _. one_verdict read.1 lengths c))))
 
 pub one_surface_of : (mesh : Mesh) → IsOne (IsSurfaceOf mesh)

@@ -6,7 +6,7 @@ use Rattle.surf_validity.proofs.ChosenLaws.{chosen_loops_are_valid}
 use Rattle.surf_cert.specs.Fits.{LoopFits}
 use Rattle.surf_cert.proofs.ChosenFits.{chosen_loops_fit}
 use Rattle.surf_tree.specs.Tables.{TreeTables, tree_of}
-use Rattle.surf_cotree.specs.Tables.{CotreeTables, tree_of as cotree_of}
+use Rattle.surf_cotree.specs.Tables.{CotreeTables, cotree_of}
 use Rattle.surf_loops.specs.Loops.{trees_of}
 use Rattle.surf_lengths.proofs.Positive.{lengths_positive}
 use Rattle.surf_loops.proofs.Rows.{numbers_fit, cert_shown}

@@ -4,7 +4,7 @@ use Rattle.surf_surfaces.specs.Cells.{cells_of}
 use Rattle.surf_surfaces.specs.SideNumber.{side_count}
 use Rattle.surf_mesh.specs.Links.{IsRow, side_link}
 use Rattle.surf_mesh.proofs.LinkLaws.{sides_inside, side_row}
-use Rattle.surf_mesh.proofs.links.HalfMesh.sides_of.Goals as goal
+use Rattle.surf_mesh.proofs.half.HalfMesh.sides_of.Goals as goal
 
 pub returns-clause-inside : goal.returns-clause-inside
 returns-clause-inside c = subst (λ (xs : List ℕ). All (λ s. s < side_count c.args.self.now) xs) (sym c.sides.ensures) (sides_inside c.args.self.now c.faces-surface.ensures.surface c.args.f c.requires.face)
