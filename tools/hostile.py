@@ -1,13 +1,15 @@
 #!/usr/bin/env python3
 """Tries the built program on hostile files, streams and memory.
 
-    hostile.py [PROGRAM] [--quick]     tries; ends with 1 where the program did what it may not
-    hostile.py [PROGRAM] --page        tries all, and puts the table of counts into docs/reliability.md
+    hostile.py [PROGRAM] [--copies N]     tries; ends with 1 where the program did what it may not
+    hostile.py [PROGRAM] --page           tries all, and puts the table of counts into docs/reliability.md
+    hostile.py [PROGRAM] --only WORD      only the trials of WORD_runs
 
 PROGRAM is crates/surf/out/surf where none is named. Wanted of every run: a status of the table of docs/formats.md;
 standard output only with 0 and 1; nothing on standard error with these, and else one line that the status allows; no
 signal; an end within a minute. Which answer is right is not asked here, but where the answer of a run without faults is
-known. With --quick fewer copies are spoiled, and the great texts are left out. What is random has a fixed seed.
+known. N is how many random texts and spoiled copies of each file of each command there are, 1,000 where nothing is
+said; of other meshes there are a tenth as many. What is random has a fixed seed.
 """
 
 import argparse
@@ -22,6 +24,7 @@ import shutil
 import subprocess
 import sys
 import tempfile
+import time
 
 TOP = pathlib.Path(__file__).resolve().parent.parent
 PAGE = TOP / "docs" / "reliability.md"
@@ -93,11 +96,11 @@ class Program:
     def __init__(self, path, room):
         self.path, self.room = str(path), room
 
-    def run(self, words, out=subprocess.PIPE, env=None, before=None, seconds=SECONDS, **more):
+    def run(self, words, out=subprocess.PIPE, env=None, before=None, seconds=SECONDS):
         """The status, standard output and standard error of a run; a status below 0 is a signal, None too long a run."""
         try:
             ran = subprocess.run([self.path, *words], cwd=self.room, stdin=subprocess.DEVNULL, stdout=out,
-                                 stderr=subprocess.PIPE, env=env, preexec_fn=before, timeout=seconds, **more)
+                                 stderr=subprocess.PIPE, env=env, preexec_fn=before, timeout=seconds, close_fds=False)
         except subprocess.TimeoutExpired:
             return None, b"", b""
         return ran.returncode, ran.stdout or b"", ran.stderr
@@ -140,17 +143,20 @@ class Tally:
 
 def sample_files(program, room):
     """A file of each kind over the torus of 7 vertices, as the program itself writes them."""
-    top = TOP / "meshes"
-    files = {"M": room / "mesh", "L": room / "lengths", "W": room / "walk", "V": room / "walk2"}
-    shutil.copyfile(top / "torus7.off", files["M"])
     edges = [(u, v) for u in range(7) for v in range(u + 1, 7)]
-    files["L"].write_text("SURFLEN 2\ndefault 5 # all but two\n" + "".join(f"{u} {v} {3 + u + v}\n" for u, v in edges[::9]))
-    files["W"].write_text("0 1 2 0\n")
-    files["V"].write_text("0 1 4 0\n")
+    lengths = "SURFLEN 2\ndefault 5 # all but two\n" + "".join(f"{u} {v} {3 + u + v}\n" for u, v in edges[::9])
+    return files_over(program, room, (TOP / "meshes" / "torus7.off").read_bytes(), lengths, "0 1 2 0\n", "0 1 4 0\n")
+
+
+def files_over(program, room, mesh, lengths, walk, other):
+    room.mkdir(exist_ok=True)
+    files = {kind: room / name for kind, name in SAMPLES.items()}
+    files["M"].write_bytes(mesh)
+    for kind, text in (("L", lengths), ("W", walk), ("V", other)):
+        files[kind].write_text(text)
     mesh, lengths, walk = (str(files[kind]) for kind in "MLW")
     for kind, words in {"C": ["certify", mesh, lengths, "0"], "B": ["certify", mesh, lengths], "E": ["class", mesh, walk],
                         "O": ["cut", mesh, lengths, "0", "trim"]}.items():
-        files[kind] = room / SAMPLES[kind]
         files[kind].write_bytes(program.run(words)[1])
     return files
 
@@ -215,7 +221,7 @@ def spoil_runs(program, files, room, count):
                 jobs.append((command, kind, whole[kind], number))
             if kind in "MO":
                 jobs += [(command, kind, (TOP / "meshes" / name).read_bytes(), number)
-                         for name in small_meshes() for number in range(count)]
+                         for name in small_meshes() for number in range(tenth(count))]
 
     def one(job):
         command, kind, text, number = job
@@ -235,6 +241,10 @@ def spoil_runs(program, files, room, count):
     return [random_tally, spoiled_tally]
 
 
+def tenth(count):
+    return max(1, count // 10)
+
+
 def small_meshes():
     return ["tet.off", "tet-colour.off", "pillow.off", "torus33.off", "plane6.off"]
 
@@ -248,7 +258,7 @@ def large_mesh_runs(program, files, room, count):
         for command in COMMANDS:
             if command.words[1] in "MO" and not {"C", "B", "E", "W"} & set(command.words):
                 slow = command.name in ("basis", "cycle", "certify a basis")
-                jobs += [(name, text, command, number) for number in range(max(1, count // 20) if slow else count)]
+                jobs += [(name, text, command, number) for number in range(tenth(tenth(count)) if slow else tenth(count))]
 
     def one(job):
         name, text, command, number = job
@@ -287,7 +297,7 @@ def stream_runs(program, files, room):
     for size in (0, 1, 4096, 100000):
         status, line = read_partly(program, long, size)
         tally.add(f"gen, read up to {size} bytes", status, fault_of(status, b"", line, allowed=(10,)))
-    return [tally, diag_runs(program, files)]
+    return [tally]
 
 
 def read_partly(program, words, size):
@@ -306,18 +316,48 @@ def read_partly(program, words, size):
     return ran.returncode, line
 
 
-def diag_runs(program, files):
+def refusals(program, room):
+    """Words that are refused for each reason but a file or a stream that fails, and the status."""
+    texts = {
+        "pinched": "OFF\n7 8 12\n" + "0 0 0\n" * 7 + "3 0 1 2\n3 0 3 1\n3 0 2 3\n3 1 3 2\n3 0 4 5\n3 0 6 4\n3 0 5 6\n3 4 6 5\n",
+        "apart": "OFF\n8 8 12\n" + "0 0 0\n" * 8 + "3 0 1 2\n3 0 3 1\n3 0 2 3\n3 1 3 2\n3 4 5 6\n3 4 7 5\n3 4 6 7\n3 5 7 6\n",
+        "no-mesh": "OFF\n", "many": "OFF\n1000001 1 0\n", "no-lengths": "0 1\n", "no-cert": "\n", "no-walk": "0 1\n",
+    }
+    for name, text in texts.items():
+        (room / name).write_text(text)
+    made = {"long": ["chain", "513", "4", "4"], "wide": ["torus", "100", "201"], "middling": ["torus", "7", "143"]}
+    for name, words in made.items():
+        (room / name).write_bytes(program.run(["gen", *words])[1])
+    tet = str(TOP / "meshes" / "tet.off")
+    rows = {
+        2: [["gen", "torus", "2", "3"], ["loops", tet, "unit"], []],
+        3: [["info", "no-mesh"]],
+        4: [["info", "pinched"], ["info", "apart"]],
+        5: [["dist", tet, "no-lengths", "0"]],
+        6: [["gen", "torus", "1000", "1001"], ["info", "many"], ["loops", "long", "unit", "0"], ["cycle", "wide", "unit"],
+            ["certify", "middling", "unit"]],
+        7: [["loops", tet, "unit", "4"]],
+        8: [["check", tet, "unit", "no-cert"]],
+        12: [["lengths", "pillow", "0"]],
+        13: [["class", tet, "no-walk"]],
+        14: [["sew", tet]],
+    }
+    (room / "pillow").write_text("OFF\n3 2 3\n0 0 0\n0 0 0\n0 1 0\n3 0 1 2\n3 0 2 1\n")
+    return [(status, words) for status, words_of_it in rows.items() for words in words_of_it]
+
+
+def diag_runs(program, files, room):
     tally = Tally("standard error closed or full")
     missing = {**files, "M": "nowhere", "O": "nowhere"}
-    for command in COMMANDS + MAKERS:
-        for given in (files, missing):
-            words = command.with_files(given)
-            status, out, _ = program.run(words)
-            for name, close in (("closed", lambda: os.close(2)), ("full", lambda: os.dup2(os.open("/dev/full", os.O_WRONLY), 2))):
-                got, text, _ = program.run(words, before=close)
-                wrong = None if (got, text) == (status, out) else f"status {got} with standard error {name}, else {status}"
-                tally.add(f"{command.name}, {name}", got, wrong)
-    return tally
+    trials = [(None, command.with_files(given)) for command in COMMANDS + MAKERS for given in (files, missing)]
+    for wanted, words in trials + refusals(program, room):
+        status, out, line = program.run(words)
+        tally.add(" ".join(words), status, fault_of(status, out, line, allowed=(0, 1, 9) if wanted is None else (wanted,)))
+        for name, close in (("closed", lambda: os.close(2)), ("full", lambda: os.dup2(os.open("/dev/full", os.O_WRONLY), 2))):
+            got, text, _ = program.run(words, before=close)
+            wrong = None if (got, text) == (status, out) else f"status {got} with standard error {name}, else {status}"
+            tally.add(f"{' '.join(words)}, {name}", got, wrong)
+    return [tally]
 
 
 def as_nobody():
@@ -358,37 +398,107 @@ def word_runs(program, files, room):
     return [tally]
 
 
-# ---- memory
+# ---- calls that fail
+
+class Failing:
+    """The library that lets calls of a program fail, built for this machine; the program is run under it."""
+
+    def __init__(self, program, room):
+        self.program, self.library, self.file = program, room / "failing.so", room / "calls"
+        subprocess.run(["cc", "-O2", "-shared", "-fPIC", "-o", str(self.library), str(TOP / "tools/failing.c"), "-ldl"], check=True)
+
+    def run(self, words, **settings):
+        told = {name: str(value) for name, value in settings.items()}
+        return self.program.run(words, env={**os.environ, "LD_PRELOAD": str(self.library), **told})
+
+    def calls(self, words, **settings):
+        """How many allocations, opens and reads, and writes to standard output a run makes; none where that isn't told."""
+        self.file.unlink(missing_ok=True)
+        self.run(words, CALLS=self.file, **settings)
+        text = self.file.read_text() if self.file.exists() else "0 0 0"
+        return tuple(map(int, text.split()))
+
+
+def without_cc():
+    if shutil.which("cc"):
+        return False
+    print("cc isn't here: no call of the program is made to fail")
+    return True
+
+
+def worked_rows(program, room):
+    """Words of worked rows on other meshes than the torus of 7 vertices."""
+    meshes = TOP / "meshes"
+    tet, torus = str(meshes / "tet.off"), str(meshes / "torus33.off")
+    chain, loops, basis = (room / name for name in ("chain", "chain.loops", "chain.basis"))
+    for path, words in ((chain, ["gen", "chain", "2", "4", "4"]), (loops, ["certify", chain, "unit", "0"]), (basis, ["certify", chain, "unit"])):
+        path.write_bytes(program.run([str(word) for word in words])[1])
+    rows = [["info", tet], ["loops", torus, "unit", "0"], ["cycle", torus, "unit"], ["basis", torus, "unit"],
+            ["certify", chain, "unit", "0"], ["check", chain, "unit", loops], ["certify", chain, "unit"], ["check", chain, "unit", basis],
+            ["cut", torus, "unit", "0", "trim"], ["shortest", torus, "unit", "W"]]
+    (room / "W").write_text("0 1 2 0\n")
+    return [("a worked row", [str(word) for word in row]) for row in rows]
+
+
+def words_that_answer(program, files, room):
+    return [(command.name, command.with_files(files)) for command in COMMANDS + MAKERS] + worked_rows(program, room)
+
 
 def allocation_runs(program, files, room):
     """Each allocation of each command fails once, and then it and all after it."""
-    if not shutil.which("cc"):
-        print("cc isn't here: no allocation is made to fail")
+    if without_cc():
         return []
-    library, count_file = room / "fail_alloc.so", room / "count"
-    subprocess.run(["cc", "-O2", "-shared", "-fPIC", "-o", str(library), str(TOP / "tools/fail_alloc.c"), "-ldl"], check=True)
+    failing = Failing(program, room)
     once, onwards = Tally("the N-th allocation fails, for each N"), Tally("the N-th allocation and all after it fail")
-    for command in COMMANDS + MAKERS:
-        words = command.with_files(files)
+    for name, words in words_that_answer(program, files, room):
         right = program.run(words)
-        counted = allocations(program, words, library, count_file)
-        if counted is None:
-            once.add(command.name, right[0], "the allocations couldn't be counted: is the program linked to the C library's?")
-            continue
-        for tally, name in ((once, "FAIL_ALLOC"), (onwards, "FAIL_ALLOC_FROM")):
+        counted = failing.calls(words)[0]
+        if not counted and name != "help":
+            once.add(name, right[0], "no allocation was counted: is the program linked to the C library's?")
+        for tally, setting in ((once, "FAIL_ALLOC"), (onwards, "FAIL_ALLOC_FROM")):
             for number in range(1, counted + 2):
-                env = {**os.environ, "LD_PRELOAD": str(library), name: str(number)}
-                status, out, line = program.run(words, env=env)
-                tally.add(f"{command.name}, allocation {number} of {counted}", status, memory_fault(right, status, out, line, number <= counted))
+                status, out, line = failing.run(words, **{setting: number})
+                tally.add(f"{' '.join(words)}, allocation {number} of {counted}", status, memory_fault(right, status, out, line, number <= counted))
     return [once, onwards]
 
 
-def allocations(program, words, library, count_file):
-    count_file.unlink(missing_ok=True)
-    program.run(words, env={**os.environ, "LD_PRELOAD": str(library), "FAIL_ALLOC_COUNT": str(count_file)})
-    text = count_file.read_text() if count_file.exists() else ""
-    return int(text) if text else None
+def call_runs(program, files, room):
+    """Each call for a file and each write fails once, and all move one byte or a few."""
+    if without_cc():
+        return []
+    failing = Failing(program, room)
+    reads, writes = Tally("the N-th call that opens or reads a file fails, for each N"), Tally("the N-th write of 7 bytes fails, for each N")
+    pieces = Tally("reads and writes of one byte")
+    for name, words in words_that_answer(program, files, room):
+        right = program.run(words)
+        counted = failing.calls(words, PIECE=16)[1]
+        reads.add(f"{' '.join(words)}, in pieces", right[0], miscounted(words, room, counted, 16))
+        for number in range(1, counted + 2):
+            got = failing.run(words, FAIL_READ=number, PIECE=16)
+            wanted = (9, b"", b"read fault\n") if number <= counted else right
+            reads.add(f"{' '.join(words)}, call {number} of {counted}", got[0], None if got == wanted else f"{got[0]}, {got[1][:60]!r}, {got[2][:60]!r}")
+        text = right[1]
+        last = (len(text) + 6) // 7
+        for number in [*range(1, min(last, 60)), last, last + 1]:
+            got = failing.run(words, FAIL_WRITE=number, PIECE=7)
+            wanted = (10, text[: 7 * (number - 1)], b"write fault\n") if number <= last else right
+            writes.add(f"{' '.join(words)}, write {number} of {last}", got[0], None if got == wanted else f"{got[0]}, {len(got[1])} bytes, {got[2][:60]!r}")
+        got = failing.run(words, PIECE=1)
+        pieces.add(" ".join(words), got[0], None if got == right else f"{got[0]}, {got[1][:60]!r}, {got[2][:60]!r}")
+    for mesh in ("eight.off", "three.off"):
+        words = ["info", str(TOP / "meshes" / mesh)]
+        reads.add(mesh, program.run(words)[0], miscounted(words, room, failing.calls(words)[1], 4096))
+    return [reads, writes, pieces]
 
+
+def miscounted(words, room, counted, piece):
+    """What is wrong with a number of calls: one that opens each file, its pieces, and one at its end are due."""
+    sizes = [(room / word).stat().st_size for word in words[1:] if (room / word).is_file()]
+    due = sum(2 + (size + piece - 1) // piece for size in sizes)
+    return None if counted == due else f"{counted} calls, not {due}"
+
+
+# ---- memory
 
 def memory_fault(right, status, out, line, may_fail=True):
     """The answer of the run without faults, or `memory` and nothing else."""
@@ -399,23 +509,33 @@ def memory_fault(right, status, out, line, may_fail=True):
 
 def room_runs(program, files, room):
     """Under a limit on the space of addresses, from the least that the program starts in up to where it answers."""
-    tally = Tally("a limit on the space of addresses")
-    least = None
-    for pages in range(64, 1 << 16, 64):
-        if program.run(["--version"], before=limited(pages))[0] == 0:
-            least = pages
-            break
-    if least is None:
-        return []
+    tally = Tally("a limit on the space of addresses, on 400 vertices")
+    made = program.run(["gen", "torus", "20", "20"])[1]
+    larger = files_over(program, room / "larger", made, "SURFLEN 2\ndefault 7\n0 1 9\n", "0 20 21 0\n", "0 1 21 0\n")
+    least = least_pages(program)
     for command in COMMANDS + MAKERS:
-        words = command.with_files(files)
+        words = command.with_files(larger)
         right = program.run(words)
-        for extra in range(0, 4096, 16):
-            status, out, line = program.run(words, before=limited(least + extra))
-            tally.add(f"{command.name}, {4 * (least + extra)} kB", status, memory_fault(right, status, out, line))
+        pages = 4
+        while pages < 1 << 18:
+            status, out, line = program.run(words, before=limited(least + pages))
+            tally.add(f"{' '.join(words)}, {4 * (least + pages)} kB", status, memory_fault(right, status, out, line))
             if (status, out, line) == right:
                 break
+            pages += max(4, pages // 16)
     return [tally]
+
+
+def least_pages(program):
+    """The least number of pages in which the program starts and says its version."""
+    below, enough = 0, 1 << 16
+    while enough - below > 1:
+        middle = (below + enough) // 2
+        if program.run(["--version"], before=limited(middle))[0] == 0:
+            enough = middle
+        else:
+            below = middle
+    return enough
 
 
 def limited(pages):
@@ -448,31 +568,33 @@ def great_runs(program, files, room):
     return [tally]
 
 
-def tried(program, files, room, quick):
-    yield from word_runs(program, files, room)
-    yield from file_runs(program, files, room)
-    yield from stream_runs(program, files, room)
-    yield from allocation_runs(program, files, room)
-    yield from room_runs(program, files, room)
-    yield from spoil_runs(program, files, room, 20 if quick else 1000)
-    yield from large_mesh_runs(program, files, room, 2 if quick else 1000)
-    if not quick:
-        yield from great_runs(program, files, room)
+# All trials, in order: those that take a number of copies come last.
+TRIALS = [word_runs, file_runs, stream_runs, diag_runs, call_runs, allocation_runs, room_runs, great_runs]
+COPIES = [spoil_runs, large_mesh_runs]
 
 
-def write_page(tallies):
+def tried(program, files, room, only, copies):
+    for trial in TRIALS + COPIES:
+        if only in (None, trial.__name__.removesuffix("_runs")):
+            started = time.monotonic()
+            for tally in trial(program, files, room, *([copies] if trial in COPIES else [])):
+                yield tally
+            print(f"  {trial.__name__}: {time.monotonic() - started:.0f} s", flush=True)
+
+
+def write_page(tallies, total):
     text = PAGE.read_text()
     start = text.index(BEGIN) + len(BEGIN)
-    rows = ["| What was tried | Runs | Runs by status | Faults |", "|---|---|---|---|", *(tally.row() for tally in tallies)]
+    rows = ["| What was tried | Runs | Runs by status | Faults |", "|---|---|---|---|", *(tally.row() for tally in tallies), "", total]
     PAGE.write_text(text[:start] + "\n".join(rows) + "\n" + text[text.index(END, start) :])
 
 
 def main():
     parser = argparse.ArgumentParser(description=__doc__, formatter_class=argparse.RawDescriptionHelpFormatter)
     parser.add_argument("program", nargs="?", type=pathlib.Path, default=TOP / "crates/surf/out/surf")
-    parser.add_argument("--quick", action="store_true")
+    parser.add_argument("--copies", metavar="N", type=int, default=1000)
+    parser.add_argument("--only", metavar="WORD")
     parser.add_argument("--page", action="store_true")
-    parser.add_argument("--only", metavar="WORD", help="only trials whose function has this word in its name")
     words = parser.parse_args()
     if not words.program.is_file():
         print("the program isn't built: hostile files, streams and memory are not tried")
@@ -486,19 +608,16 @@ def main():
         (room / "surf").chmod(0o755)
         program = Program(room / "surf", room)
         files = sample_files(program, room)
-        trials = tried(program, files, room, words.quick)
-        if words.only:
-            found = globals()[f"{words.only}_runs"]
-            trials = iter(found(program, files, room, 20 if words.quick else 1000) if words.only in ("spoil", "large_mesh") else found(program, files, room))
-        for tally in trials:
+        for tally in tried(program, files, room, words.only, words.copies):
             tallies.append(tally)
-            print(tally.row())
+            print(tally.row(), flush=True)
             for fault in tally.faults[:10]:
                 print(f"  {fault}")
-    if words.page:
-        write_page(tallies)
     faults = sum(len(tally.faults) for tally in tallies)
-    print(f"{sum(sum(tally.statuses.values()) for tally in tallies):,} runs, {faults} faults")
+    total = f"{sum(sum(tally.statuses.values()) for tally in tallies):,} runs, {faults} faults"
+    print(total)
+    if words.page and not words.only:
+        write_page(tallies, f"{total}.")
     return 1 if faults else 0
 
 

@@ -48,7 +48,7 @@ class Sheet:
     def file(self, name, text):
         self.parts.append(f"file {name}\n{shown(text)}")
 
-    def case(self, words, files=(), status=0, out="", diag="", out_of=None, begins=None, fails=False, keep=None):
+    def case(self, words, files=(), status=0, out="", diag="", out_of=None, begins=None, keep=None):
         self.parts.append(f"\ncase {words}\n")
         for name, text in dict(files).items():
             self.file(name, text)
@@ -62,8 +62,6 @@ class Sheet:
             self.parts.append(f"diag\n{shown(diag)}")
         if begins is not None:
             self.parts.append(f"begins {begins}\n")
-        if fails:
-            self.parts.append("every call fails\n")
         if keep:
             self.parts.append(f"keep {keep}\n")
 
@@ -231,11 +229,11 @@ def lengths_sheet():
                   "lengths tet 3.0", "lengths tet x", "lengths", "lengths tet 4294967296",
                   "lengths tet 00000000000000000000000000000000010"):
         sheet.case(words, status=2, diag=USAGE, begins="")
-    sheet.case("lengths tet 003", out=lengths_of(TET_LINES, TET_FACES, 3)[1], begins="tet", fails=True)
+    sheet.case("lengths tet 003", out=lengths_of(TET_LINES, TET_FACES, 3)[1], begins="tet")
     sheet.case("lengths M 3", status=9, diag="read fault\n", begins="M")
     sheet.case("lengths M 3", {"M": "OFF\n4 4 6\nx 0 0\n"}, 3, diag="mesh text: early 7\n")
     sheet.case("lengths M 3", {"M": "OFF\n3 1 3\nx 0 0\n1 0 0\n0 1 0\n3 0 1 2\n"}, 4, diag="surface: border 0 1 0\n")
-    sheet.case("lengths torus33 9", status=12, diag="coordinates: great 0 6\n", begins="torus33", fails=True)
+    sheet.case("lengths torus33 9", status=12, diag="coordinates: great 0 6\n", begins="torus33")
     return sheet
 
 
@@ -821,7 +819,7 @@ def fault_cases(sheet, tet, torus):
 def order_cases(sheet, tet):
     sheet.note("Then M is no disc, or what is sewn is no surface.")
     rows = ["".join(f"# copy {i} from {i}\n" for i in range(count)) for count in range(10)]
-    sheet.case("sew M", {"M": TET + rows[4]}, 1, "no border none\n", fails=True)
+    sheet.case("sew M", {"M": TET + rows[4]}, 1, "no border none\n")
     sheet.case("sew M", {"M": TORUS + rows[9]}, 1, "no border none\n")
     sheet.case("sew M", {"M": "OFF\n0 0 0\n"}, 1, "no border none\n")
     sheet.case("sew M", {"M": "OFF\n1 0 0\n0 0 0\n" + rows[1]}, 1, "no isolated 0\n")
@@ -832,7 +830,7 @@ def order_cases(sheet, tet):
     fins = [[0, 1, 2], [0, 1, 3], [0, 1, 4]]
     sheet.case("sew M", {"M": off(["0 0 0"] * 5, fins) + rows[5]}, 1, "no crowded 0 1 0 1 2\n")
     one = [[0, 1, 2]]
-    sheet.case("sew M", {"M": off(["0 0 0"] * 3, one) + rows[3]}, 4, diag="surface: border 0 1 0\n", fails=True)
+    sheet.case("sew M", {"M": off(["0 0 0"] * 3, one) + rows[3]}, 4, diag="surface: border 0 1 0\n")
     text = tet.made(copies=[f"# copy {i} from {i}" for i in range(5)])
     sheet.case("sew M", {"M": text}, 4, diag="surface: border 0 2 0\n")
     square = [[0, 1, 2], [0, 2, 3]]
@@ -896,7 +894,7 @@ def begun_sheet():
         shorter = words.removesuffix(words.split()[-1]).strip()
         for spoiled in (f"{words} 0 0", shorter, words.upper()):
             if spoiled not in COMMANDS:
-                sheet.case(spoiled, status=2, diag=USAGE, begins="", fails=True)
+                sheet.case(spoiled, status=2, diag=USAGE, begins="")
         refused(sheet, words, {}, 9, "read fault\n", "M")
         refused(sheet, words, {"M": BROKEN}, 3, "mesh text: early 7\n", "M")
         refused(sheet, words, {"M": "OFF\n1000001 1 0\n"}, 6, "limit: vertices\n", "M")
@@ -906,14 +904,14 @@ def begun_sheet():
     limits(sheet)
     sheet.note("Words that name no file.")
     for words in ("gen torus 1000 1001", "gen torus 4294967295 4294967295", "try torus 1000 1001 0"):
-        sheet.case(words, status=6, diag="limit: vertices\n", begins="", fails=True)
+        sheet.case(words, status=6, diag="limit: vertices\n", begins="")
     for words in ("gen chain 76922 4 4", "try chain 76922 4 4 0", "gen chain 4 6 41667"):
-        sheet.case(words, status=6, diag="limit: faces\n", begins="", fails=True)
-    sheet.case("try chain 513 4 4 0", status=6, diag="limit: loops\n", begins="", fails=True)
-    sheet.case("try torus 100 201 0", status=6, diag="limit: basis-vertices\n", begins="", fails=True)
+        sheet.case(words, status=6, diag="limit: faces\n", begins="")
+    sheet.case("try chain 513 4 4 0", status=6, diag="limit: loops\n", begins="")
+    sheet.case("try torus 100 201 0", status=6, diag="limit: basis-vertices\n", begins="")
     for words in ("gen torus 2 3", "gen torus 3 2", "gen chain 0 4 4", "gen chain 1 3 4", "gen torus 3",
                   "try torus 3 3", "gen sphere 3 3", "gen torus 4294967296 3", "try torus 3 3 x", ""):
-        sheet.case(words, status=2, diag=USAGE, begins="", fails=True)
+        sheet.case(words, status=2, diag=USAGE, begins="")
     return sheet
 
 

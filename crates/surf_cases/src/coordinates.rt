@@ -3,7 +3,8 @@ use crate::meshes::{TET, TORUS33};
 use crate::rows::{Case, answers};
 use std::test::Fail;
 
-const TET_LENGTHS: &str = "0 1 1000\n0 2 1000\n0 3 1000\n1 2 1414\n1 3 1414\n2 3 1414\n";
+/// The lengths of its edges in units of 10^-3.
+pub const TET_LENGTHS: &str = "0 1 1000\n0 2 1000\n0 3 1000\n1 2 1414\n1 3 1414\n2 3 1414\n";
 
 #[test]
 fn measures_of_edges(rt: HostRuntime) -> Result<(), Fail> {

@@ -118,11 +118,25 @@ pub fn output_of(
 
 /// Runs a case, and compares what came of it with what is due.
 pub fn answers(rt: &(impl Abort + AllocGlobal), case: &Case) -> Result<(), Fail> {
+    answers_over(rt, case, 4096, 10_000, &[])
+}
+
+/// The same over a shelf and streams that move at most `piece` bytes a call, with `room` for the diagnostics, where
+/// the calls of the shelf that are numbered in `fails` fail.
+pub fn answers_over(
+    rt: &(impl Abort + AllocGlobal),
+    case: &Case,
+    piece: usize,
+    room: usize,
+    fails: &[u64],
+) -> Result<(), Fail>
+    requires { 0 < piece }
+{
     let alloc = rt.alloc();
     let words = words_of(alloc, case.words)?;
-    let mut shelf = shelf_of(alloc, case.files, 4096, &[])?;
-    let mut out = sink_of(alloc, 10_000, 4096, &[])?;
-    let mut diag = sink_of(alloc, 10_000, 4096, &[])?;
+    let mut shelf = shelf_of(alloc, case.files, piece, fails)?;
+    let mut out = sink_of(alloc, 10_000, piece, &[])?;
+    let mut diag = sink_of(alloc, room, piece, &[])?;
     let status = run(alloc, &words, &mut shelf, &mut out, &mut diag);
     let name = case.words.last().copied().unwrap_or("no word");
     assert_eq!(rt; out.written(), case.out.as_bytes(), "the output of {name}");
@@ -600,6 +614,13 @@ fn least_loops(rt: HostRuntime) -> Result<(), Fail> {
             files: &[("torus33", TORUS33)],
             status: 0,
             out: "loops 2\ntotal 6\nloop 3 0 1 2 0\nloop 3 0 3 6 0\n",
+            diag: "",
+        },
+        Case {
+            words: &["loops", "seven", "unit", "0"],
+            files: &[("seven", SEVEN_TURNED)],
+            status: 0,
+            out: "loops 2\ntotal 6\nloop 3 0 1 2 0\nloop 3 0 1 4 0\n",
             diag: "",
         },
         Case {

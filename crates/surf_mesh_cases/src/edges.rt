@@ -5,31 +5,39 @@ use surf_base::{FaceId, VertexId};
 use surf_mesh::{PairFault, pair_edges};
 use surf_samples::{OPEN, PILLOW, TETRAHEDRON, soup};
 
-// The number of edges, or the fault.
+// The edges, or the fault.
 fn pairs(
     alloc: Global,
     vertices: u32,
     faces: &[(u32, u32, u32)],
-) -> Result<Result<usize, PairFault>, Fail> {
+) -> Result<Result<Vec<(VertexId, VertexId)>, PairFault>, Fail> {
     let soup = soup(alloc, vertices, faces).ok().ok_or("room")?;
-    match pair_edges(alloc, &soup) {
-        Ok(edges) => Ok(Ok(edges.len())),
-        Err(fault) => Ok(Err(fault)),
+    Ok(pair_edges(alloc, &soup))
+}
+
+// Whether the edges have these ends.
+fn have_ends(edges: &[(VertexId, VertexId)], want: &[(u32, u32)]) -> bool {
+    let mut same = edges.len() == want.len();
+    for (edge, ends) in edges.iter().zip(want) {
+        same = same && (edge.0.number(), edge.1.number()) == *ends;
     }
+    same
 }
 
 // A tetrahedron, two triangles back to back, no face, and a tetrahedron without its last face.
 #[test]
 fn edges_are_paired(rt: HostRuntime) -> Result<(), Fail> {
     let alloc = rt.alloc();
-    assert_eq!(rt; pairs(alloc, 4, &TETRAHEDRON)?, Ok(6));
-    assert_eq!(rt; pairs(alloc, 3, &PILLOW)?, Ok(3));
-    assert_eq!(rt; pairs(alloc, 0, &[])?, Err(PairFault::Empty));
+    let edges = pairs(alloc, 4, &TETRAHEDRON)?.ok().ok_or("no pairs")?;
+    assert!(rt; have_ends(&edges, &[(0, 1), (0, 2), (0, 3), (1, 2), (1, 3), (2, 3)]));
+    let edges = pairs(alloc, 3, &PILLOW)?.ok().ok_or("no pairs")?;
+    assert!(rt; have_ends(&edges, &[(0, 1), (0, 2), (1, 2)]));
+    assert_eq!(rt; pairs(alloc, 0, &[])?.err(), Some(PairFault::Empty));
     let (u, v) = (VertexId::new(1), VertexId::new(2));
     let face = FaceId::new(0);
     assert_eq!(rt;
-        pairs(alloc, 4, &OPEN)?,
-        Err(PairFault::Border { u, v, face })
+        pairs(alloc, 4, &OPEN)?.err(),
+        Some(PairFault::Border { u, v, face })
     );
     Ok(())
 }

@@ -2,7 +2,7 @@
 use std::alloc::Global;
 use std::test::Fail;
 use surf_base::{FaceId, SideId, VertexId};
-use surf_check::{Sides, SurfaceFault, characteristic, check, genus, orient};
+use surf_check::{ChainLink, Sides, SurfaceFault, characteristic, check, genus, orient};
 use surf_mesh::HalfMesh;
 use surf_samples::{CROWDED, OPEN, PILLOW, PROJECTIVE, TETRAHEDRON, soup};
 
@@ -62,6 +62,64 @@ fn surfaces_have_their_kinds(rt: HostRuntime) -> Result<(), Fail> {
     ];
     assert_eq!(rt; kind(alloc, 7, &torus)?, (0, Some(1)));
     assert_eq!(rt; kind(alloc, 6, &PROJECTIVE)?, (1, None));
+    Ok(())
+}
+
+// Whether a triangle runs from `u` to `v`; none where it has no such side.
+fn runs(face: (u32, u32, u32), u: u32, v: u32) -> Option<bool> {
+    let (a, b, c) = face;
+    let sides = [(a, b), (b, c), (c, a)];
+    if sides.contains(&(u, v)) {
+        Some(true)
+    } else if sides.contains(&(v, u)) {
+        Some(false)
+    } else {
+        None
+    }
+}
+
+// Whether the face of a link and the next one run the edge between them the same way; none where they don't share it.
+fn runs_as(link: ChainLink, next: FaceId) -> Option<bool> {
+    let (u, v) = (link.u.number(), link.v.number());
+    let here = runs(*PROJECTIVE.get(link.face.index())?, u, v)?;
+    let there = runs(*PROJECTIVE.get(next.index())?, u, v)?;
+    Some(here == there)
+}
+
+// An odd number of links of the chain are run the same way.
+#[test]
+fn a_chain_shows_that_there_is_one_side(rt: HostRuntime) -> Result<(), Fail> {
+    let alloc = rt.alloc();
+    let soup = soup(alloc, 6, &PROJECTIVE).ok().ok_or("room")?;
+    let mesh = check(alloc, soup).ok().ok_or("no surface")?;
+    let chain = match orient(alloc, &mesh) {
+        Ok(Sides::One(chain)) => chain,
+        _ => return Err("two sides")?,
+    };
+    let mut odd = false;
+    let mut before = chain.links().last().copied();
+    for link in chain.links() {
+        let from = before.ok_or("no link")?;
+        let same = runs_as(from, link.face).ok_or("no edge of both faces")?;
+        odd = odd != same;
+        before = Some(*link);
+    }
+    assert!(rt; odd);
+    Ok(())
+}
+
+// No face of the tetrahedron is to be turned over, or all are.
+#[test]
+fn a_turning_has_a_flag_for_each_face(rt: HostRuntime) -> Result<(), Fail> {
+    let alloc = rt.alloc();
+    let soup = soup(alloc, 4, &TETRAHEDRON).ok().ok_or("room")?;
+    let mesh = check(alloc, soup).ok().ok_or("no surface")?;
+    let turning = match orient(alloc, &mesh) {
+        Ok(Sides::Two(turning)) => turning,
+        _ => return Err("one side")?,
+    };
+    let first = turning.flags().first().copied().ok_or("no flag")?;
+    assert_eq!(rt; turning.flags(), [first; 4].as_slice());
     Ok(())
 }
 
