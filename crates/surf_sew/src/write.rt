@@ -1,5 +1,5 @@
 //! Writes a sewn mesh as an OFF text.
-ghost use Rattle.std.specs.Prelude.{◌≡◌, ◌<◌, ◌≤◌, ◌^◌, length};
+ghost use Rattle.std.specs.Prelude.{◌≡◌, ◌<◌, ◌≤◌, ◌^◌, ◌++◌, codes, decimal, length};
 ghost use Rattle.std.specs.List.{All, zip};
 ghost use Rattle.surf_text.specs.Pages.{Puts};
 ghost use Rattle.surf_off.specs.Written.{head_text, lines_text, spaced_text, colour_text, face_text, faces_text, lines_at};
@@ -7,6 +7,7 @@ ghost use Rattle.surf_sew.specs.Sewing.{HaveCopies};
 ghost use Rattle.surf_sew.specs.Texts.{sewn_lines, sewn_text, RereadsSewn};
 
 use crate::first::list_first;
+use itoa::Buffer;
 use surf_base::{FaceId, VertexId};
 use surf_mesh::HalfMesh;
 use surf_off::{Header, OffText};
@@ -74,12 +75,26 @@ fn write_lines(
     Ok(())
 }
 
+fn write_number(page: &mut Page, n: u64) -> Result<(), PageFault>
+    ensures puts { Puts page.old page.new (decimal n) result }
+{
+    let mut digits = Buffer::new();
+    page.push_bytes(digits.format(n).as_bytes())
+}
+
+fn write_corner(page: &mut Page, v: VertexId) -> Result<(), PageFault>
+    ensures puts { Puts page.old page.new (codes " " ++ decimal v) result }
+{
+    page.push_bytes(b" ")?;
+    write_number(page, v.index() as u64)
+}
+
 fn write_corners(page: &mut Page, corners: &[VertexId]) -> Result<(), PageFault>
     requires fits { length page.old.bytes ≤ page.old.most }
     ensures puts { Puts page.old page.new (spaced_text corners.now) result }
 {
     for v in corners {
-        page.push_pieces(&[Piece::Bytes(b" "), Piece::Whole(v.index() as u128)])?;
+        write_corner(page, *v)?;
     }
     Ok(())
 }
@@ -97,7 +112,7 @@ fn write_colour(page: &mut Page, colour: &[u8]) -> Result<(), PageFault>
 fn write_face(page: &mut Page, corners: &[VertexId], colour: &[u8]) -> Result<(), PageFault>
     ensures puts { Puts page.old page.new (face_text corners.now colour.now) result }
 {
-    page.push_whole(corners.len() as u128)?;
+    write_number(page, corners.len() as u64)?;
     write_corners(page, corners)?;
     write_colour(page, colour)?;
     page.push_bytes(b"\n")
