@@ -1,5 +1,5 @@
 //! Writes a sewn mesh as an OFF text.
-ghost use Rattle.std.specs.Prelude.{◌≡◌, ◌<◌, ◌≤◌, ◌^◌, ◌++◌, codes, decimal, length};
+ghost use Rattle.std.specs.Prelude.{◌≡◌, ◌<◌, ◌≤◌, ◌^◌, ◌++◌, IfOk, MatchResult, codes, decimal, length};
 ghost use Rattle.std.specs.List.{All, zip};
 ghost use Rattle.surf_text.specs.Pages.{Puts};
 ghost use Rattle.surf_off.specs.Written.{head_text, lines_text, spaced_text, colour_text, face_text, faces_text, lines_at};
@@ -50,6 +50,35 @@ fn write_copies(page: &mut Page, text: &OffText<'_>, copies: &[u32]) -> Result<(
     Ok(())
 }
 
+// The vertex lines of the first vertices, as far as the least copies of vertices stand in the order of these. Gives how
+// many vertices that are.
+fn write_ordered(
+    page: &mut Page,
+    text: &OffText<'_>,
+    origins: &[VertexId],
+    vertices: usize,
+) -> Result<usize, PageFault>
+    requires fits { length page.old.bytes ≤ page.old.most }
+    requires countable { length origins.now < 2 ^ 32 }
+    requires origins { length origins.now ≡ length text.now.vertex_lines }
+    ensures few { IfOk result (λ n. n ≤ vertices) }
+    ensures puts { MatchResult result (λ n. Puts page.old page.new (lines_text (sewn_lines text.now.vertex_lines origins.now n)) result)
+        (λ _. Puts page.old page.new (lines_text (sewn_lines text.now.vertex_lines origins.now vertices)) result) }
+{
+    let mut next = 0;
+    for c in 0..origins.len() {
+        let v = origins[c].index();
+        if next == vertices || v > next {
+            return Ok(next);
+        }
+        if v == next {
+            write_copies(page, text, &[c as u32])?;
+            next += 1;
+        }
+    }
+    Ok(next)
+}
+
 // The vertex line of the least copy of each vertex.
 fn write_lines(
     page: &mut Page,
@@ -65,7 +94,7 @@ fn write_lines(
 {
     let vertices = vertices as usize;
     let mut first = [0u32; WINDOW];
-    let mut from = 0;
+    let mut from = write_ordered(page, text, origins, vertices)?;
     while from < vertices {
         let count = WINDOW.min(vertices - from);
         list_first(origins, from, &mut first[..count]);
@@ -138,8 +167,9 @@ fn write_faces(page: &mut Page, text: &OffText<'_>, mesh: &HalfMesh) -> Result<(
 /// whole text, and with `Memory` where there is none. After a refusal the page holds a front of the text behind its
 /// bytes. Read again without limits, the text has the keyword, these vertex lines, the colours and the mesh.
 ///
-/// It takes no memory but the page's: the least copies are found for some thousands of vertices at a time, by one turn
-/// over the origins.
+/// It takes no memory but the page's. Where the least copies stand in the order of their vertices, as `cut` writes them,
+/// one turn over the origins finds them all; else those from the first that doesn't on are found for some thousands of
+/// vertices at a time, by one turn each.
 pub fn write_sewn(
     page: &mut Page,
     text: &OffText<'_>,
