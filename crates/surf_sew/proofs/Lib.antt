@@ -1,4 +1,7 @@
 pub mod CopyLines
+pub mod FirstByte
+pub mod Skips
+pub mod PlainLines
 pub mod Gaps
 pub mod Firsts
 pub mod Faults

@@ -1,8 +1,11 @@
 -- The vertex lines of least copies, some vertices at a time.
-use Rattle.std.proofs.Common.{◌≡◌, ◌<◌, ◌+◌, ℕ, zero, suc, List, [], ◌∷◌, ◌++◌, length, get_or, map, refl, sym, ◌∙◌, ap, append_assoc, codes, arith}
+use Rattle.std.proofs.Common.{◌≡◌, ◌<◌, ◌+◌, ℕ, zero, suc, List, [], ◌∷◌, ◌++◌, length, get_or, map, refl, sym, ◌∙◌, ap, append_assoc, codes, arith, inl, inr}
+use Rattle.std.specs.Prelude.{◌≤◌, ◌==◌}
 use Rattle.std.specs.List.{All, range_with_len}
+use Rattle.std.proofs.lemmas.Bool.{cases_lt, eq-eqb, ne_eqb}
 use Rattle.std.proofs.lemmas.List.{map-append}
 use Rattle.std.proofs.lemmas.List.FromFn.{get_or-map-range_with_len, length-map-range_with_len}
+use Rattle.std.proofs.lemmas.List.Sums.{position_or_len_is}
 use Rattle.surf_text.proofs.Writing.{text_append}
 use Rattle.surf_off.specs.Written.{lines_text, lines_at}
 use Rattle.surf_sew.specs.Sewing.{first_copy, first_copies, HaveCopies}
@@ -23,6 +26,19 @@ range_append a (suc m) n =
     let e : suc m + n ≡ suc (m + n) = omega arith in
     let f : a + 1 + m ≡ a + suc m = omega arith in
     ap (range_with_len a) e ∙ ap (λ (xs : List ℕ). a ∷ xs) (range_append (a + 1) m n ∙ ap (λ (b : ℕ). range_with_len (a + 1) m ++ range_with_len b n) f)
+
+-- The first copy of a vertex, where those before it are of lesser vertices, is its least.
+pub one_copy : (vs : List ℕ) (c n : ℕ) → c < length vs → ((k : ℕ) → k < c → get_or vs k 0 < n) → get_or vs c 0 ≡ n → first_copies vs n 1 ≡ c ∷ []
+one_copy vs c n lt before here =
+    let first : first_copy vs n ≡ c = position_or_len_is (λ o. o == n) vs c 0 (omega arith) (λ k l. ne_eqb (get_or vs k 0) n (λ e. absurd (omega (arith, before k l, e)))) (λ l. eq-eqb (get_or vs c 0) n here) in
+    ap (λ (k : ℕ). k ∷ []) first
+
+-- with one copy more
+pub below_more : (vs : List ℕ) (c n m : ℕ) → ((k : ℕ) → k < c → get_or vs k 0 < n) → n ≤ m → get_or vs c 0 < m → (k : ℕ) → k < c + 1 → get_or vs k 0 < m
+below_more vs c n m before le here k lt = elim (cases_lt k c) [
+  | inl l ↦ omega (arith, before k l)
+  | inr ge ↦ let e : k ≡ c = omega arith in omega (arith, ap (λ (i : ℕ). get_or vs i 0) e, here)
+]
 
 module _ (lines : List (List ℕ)) (vs : List ℕ) where
   pub more_lines : (from n : ℕ) → lines_text (lines_at lines (first_copies vs 0 (from + n))) ≡ lines_text (lines_at lines (first_copies vs 0 from)) ++ lines_text (lines_at lines (first_copies vs from n))

@@ -1,5 +1,5 @@
 //! Writes a sewn mesh as an OFF text.
-ghost use Rattle.std.specs.Prelude.{◌≡◌, ◌<◌, ◌≤◌, ◌^◌, length};
+ghost use Rattle.std.specs.Prelude.{◌≡◌, ◌<◌, ◌≤◌, ◌^◌, ◌++◌, IfOk, MatchResult, codes, decimal, length};
 ghost use Rattle.std.specs.List.{All, zip};
 ghost use Rattle.surf_text.specs.Pages.{Puts};
 ghost use Rattle.surf_off.specs.Written.{head_text, lines_text, spaced_text, colour_text, face_text, faces_text, lines_at};
@@ -7,6 +7,7 @@ ghost use Rattle.surf_sew.specs.Sewing.{HaveCopies};
 ghost use Rattle.surf_sew.specs.Texts.{sewn_lines, sewn_text, RereadsSewn};
 
 use crate::first::list_first;
+use itoa::Buffer;
 use surf_base::{FaceId, VertexId};
 use surf_mesh::HalfMesh;
 use surf_off::{Header, OffText};
@@ -49,6 +50,35 @@ fn write_copies(page: &mut Page, text: &OffText<'_>, copies: &[u32]) -> Result<(
     Ok(())
 }
 
+// The vertex lines of the first vertices, as far as the least copies of vertices stand in the order of these. Gives how
+// many vertices that are.
+fn write_ordered(
+    page: &mut Page,
+    text: &OffText<'_>,
+    origins: &[VertexId],
+    vertices: usize,
+) -> Result<usize, PageFault>
+    requires fits { length page.old.bytes ≤ page.old.most }
+    requires countable { length origins.now < 2 ^ 32 }
+    requires origins { length origins.now ≡ length text.now.vertex_lines }
+    ensures few { IfOk result (λ n. n ≤ vertices) }
+    ensures puts { MatchResult result (λ n. Puts page.old page.new (lines_text (sewn_lines text.now.vertex_lines origins.now n)) result)
+        (λ _. Puts page.old page.new (lines_text (sewn_lines text.now.vertex_lines origins.now vertices)) result) }
+{
+    let mut next = 0;
+    for c in 0..origins.len() {
+        let v = origins[c].index();
+        if next == vertices || v > next {
+            return Ok(next);
+        }
+        if v == next {
+            write_copies(page, text, &[c as u32])?;
+            next += 1;
+        }
+    }
+    Ok(next)
+}
+
 // The vertex line of the least copy of each vertex.
 fn write_lines(
     page: &mut Page,
@@ -64,7 +94,7 @@ fn write_lines(
 {
     let vertices = vertices as usize;
     let mut first = [0u32; WINDOW];
-    let mut from = 0;
+    let mut from = write_ordered(page, text, origins, vertices)?;
     while from < vertices {
         let count = WINDOW.min(vertices - from);
         list_first(origins, from, &mut first[..count]);
@@ -74,12 +104,26 @@ fn write_lines(
     Ok(())
 }
 
+fn write_number(page: &mut Page, n: u64) -> Result<(), PageFault>
+    ensures puts { Puts page.old page.new (decimal n) result }
+{
+    let mut digits = Buffer::new();
+    page.push_bytes(digits.format(n).as_bytes())
+}
+
+fn write_corner(page: &mut Page, v: VertexId) -> Result<(), PageFault>
+    ensures puts { Puts page.old page.new (codes " " ++ decimal v) result }
+{
+    page.push_bytes(b" ")?;
+    write_number(page, v.index() as u64)
+}
+
 fn write_corners(page: &mut Page, corners: &[VertexId]) -> Result<(), PageFault>
     requires fits { length page.old.bytes ≤ page.old.most }
     ensures puts { Puts page.old page.new (spaced_text corners.now) result }
 {
     for v in corners {
-        page.push_pieces(&[Piece::Bytes(b" "), Piece::Whole(v.index() as u128)])?;
+        write_corner(page, *v)?;
     }
     Ok(())
 }
@@ -97,7 +141,7 @@ fn write_colour(page: &mut Page, colour: &[u8]) -> Result<(), PageFault>
 fn write_face(page: &mut Page, corners: &[VertexId], colour: &[u8]) -> Result<(), PageFault>
     ensures puts { Puts page.old page.new (face_text corners.now colour.now) result }
 {
-    page.push_whole(corners.len() as u128)?;
+    write_number(page, corners.len() as u64)?;
     write_corners(page, corners)?;
     write_colour(page, colour)?;
     page.push_bytes(b"\n")
@@ -123,8 +167,9 @@ fn write_faces(page: &mut Page, text: &OffText<'_>, mesh: &HalfMesh) -> Result<(
 /// whole text, and with `Memory` where there is none. After a refusal the page holds a front of the text behind its
 /// bytes. Read again without limits, the text has the keyword, these vertex lines, the colours and the mesh.
 ///
-/// It takes no memory but the page's: the least copies are found for some thousands of vertices at a time, by one turn
-/// over the origins.
+/// It takes no memory but the page's. Where the least copies stand in the order of their vertices, as `cut` writes them,
+/// one turn over the origins finds them all; else those from the first that doesn't on are found for some thousands of
+/// vertices at a time, by one turn each.
 pub fn write_sewn(
     page: &mut Page,
     text: &OffText<'_>,

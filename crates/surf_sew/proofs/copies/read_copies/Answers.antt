@@ -7,12 +7,12 @@ use Rattle.std.proofs.lemmas.List.Sums.{count_by-le-length}
 use Rattle.surf_text.specs.Text.{is_line_end, words_of}
 use Rattle.surf_text.specs.Walks.{parts_of}
 use Rattle.surf_sew.specs.declared.copies.CopyFault.TheVariants.{CopyCount}
-use Rattle.surf_sew.specs.Copies.{word_lines_from, copies_among, copy_lines, origins_from, is_copy, origin_of, counted}
+use Rattle.surf_sew.specs.Copies.{WordLine, word_lines_from, copies_among, copy_lines, origins_from, is_copy, origin_of, counted}
 use Rattle.surf_sew.proofs.CopyLines.{with_origins, with_none, copy_line, bad_line, no_line}
 use Rattle.surf_sew.proofs.copies.read_copies.Goals as goal
 
-pub loop-rest-init : goal.loop-rest-init
-loop-rest-init c =
+pub loop-marked-init : goal.loop-marked-init
+loop-marked-init c =
     let none : c.new-origins.result.items ≡ [] = c.new-origins.ensures.items in
     let text = c.args.text.now in
     record {
@@ -23,53 +23,54 @@ loop-rest-init c =
 
 pub returns-in_default-read_origin-clause-copies : goal.returns-in_default-read_origin-clause-copies
 returns-in_default-read_origin-clause-copies c =
-    let front = c.loop-rest.origins.items in
-    let n = c.loop-rest.number + 1 in
-    let line = c.split_line.result.0.now in
-    let parts = parts_of is_line_end c.split_line.result.1 in
-    let whole : parts_of is_line_end c.loop-rest.rest ≡ line ∷ parts = ap (parts_of is_line_end) c.in-Some.is ∙ c.split_line.ensures.parts in
+    let front = c.loop-marked.origins.items in
+    let n : ℕ = c.loop-marked.number + (c.in-Some.marked.skipped + 1) in
+    let line = c.in-Some.marked.line.now in
+    let parts = parts_of is_line_end c.in-Some.marked.behind in
+    let at : c.loop-marked.number + 1 + c.in-Some.marked.skipped ≡ n = omega arith in
+    let left = c.in-Some.ensures.copies (c.loop-marked.number + 1) ∙ ap (λ (k : ℕ). copies_among (word_lines_from k (line ∷ parts))) at in
     let copy : is_copy (words_of line) ≡ true = sym c.is_copy_line.ensures.copy ∙ c.if-is_copy_line.true in
-    let place : c.len.result ≡ length front = omega (arith, c.len.ensures, c.loop-rest.origins.ok.0) in
+    let place : c.len.result ≡ length front = omega (arith, c.len.ensures, c.loop-marked.origins.ok.0) in
     let origin : origin_of (length front) (words_of line) ≡ None = ap (λ (k : ℕ). origin_of k (words_of line)) (sym place) ∙ sym c.read_origin.ensures.origin ∙ c.in_default-read_origin.is in
-    let bad = sym c.loop-rest.invariant.so_far ∙ ap (λ (ls : List (List ℕ)). with_origins front (origins_from (length front) (copies_among (word_lines_from n ls)))) whole ∙ bad_line n front line parts copy origin in
+    let bad = sym c.loop-marked.invariant.so_far ∙ ap (λ (ls : List WordLine). with_origins front (origins_from (length front) ls)) left ∙ bad_line n front line parts copy origin in
     λ other. ap (counted c.args.count) bad
 
-pub loop-rest-preserved-in-Continue-1 : goal.loop-rest-preserved-in-Continue-1
-loop-rest-preserved-in-Continue-1 c =
-    let front = c.loop-rest.origins.items in
-    let n = c.loop-rest.number + 1 in
+pub loop-marked-preserved-in-Continue-1 : goal.loop-marked-preserved-in-Continue-1
+loop-marked-preserved-in-Continue-1 c =
+    let front = c.loop-marked.origins.items in
+    let n : ℕ = c.loop-marked.number + (c.in-Some.marked.skipped + 1) in
     let v : ℕ = c.in-Some-read_origin.origin in
-    let line = c.split_line.result.0.now in
-    let parts = parts_of is_line_end c.split_line.result.1 in
-    let whole : parts_of is_line_end c.loop-rest.rest ≡ line ∷ parts = ap (parts_of is_line_end) c.in-Some.is ∙ c.split_line.ensures.parts in
+    let line = c.in-Some.marked.line.now in
+    let parts = parts_of is_line_end c.in-Some.marked.behind in
+    let at : c.loop-marked.number + 1 + c.in-Some.marked.skipped ≡ n = omega arith in
+    let left = c.in-Some.ensures.copies (c.loop-marked.number + 1) ∙ ap (λ (k : ℕ). copies_among (word_lines_from k (line ∷ parts))) at in
     let copy : is_copy (words_of line) ≡ true = sym c.is_copy_line.ensures.copy ∙ c.if-is_copy_line.true in
-    let place : c.len.result ≡ length front = omega (arith, c.len.ensures, c.loop-rest.origins.ok.0) in
+    let place : c.len.result ≡ length front = omega (arith, c.len.ensures, c.loop-marked.origins.ok.0) in
     let origin : origin_of (length front) (words_of line) ≡ Some v = ap (λ (k : ℕ). origin_of k (words_of line)) (sym place) ∙ sym c.read_origin.ensures.origin ∙ c.in-Some-read_origin.is in
-    let more = sym (ap (λ (ls : List (List ℕ)). with_origins front (origins_from (length front) (copies_among (word_lines_from n ls)))) whole ∙ copy_line n front line parts v copy origin) ∙ c.loop-rest.invariant.so_far in
+    let more = sym (ap (λ (ls : List WordLine). with_origins front (origins_from (length front) ls)) left ∙ copy_line n front line parts v copy origin) ∙ c.loop-marked.invariant.so_far in
     let items : c.push.new.self.items ≡ front ++ v ∷ [] = c.in_ok-push.ensures.items in
     let count : length (front ++ v ∷ []) ≡ length front + 1 = length_push front v in
-    let lines = ap length whole in
     record {
-      fits = omega (arith, lines, c.loop-rest.invariant.fits);
-      few = omega (arith, ap length items, count, c.loop-rest.invariant.few);
+      fits = omega (arith, c.in-Some.ensures.lines, c.loop-marked.invariant.fits);
+      few = omega (arith, ap length items, count, c.loop-marked.invariant.few);
       so_far = rw (items, count) more;
     }
 
 pub returns-then-len-count-clause-copies : goal.returns-then-len-count-clause-copies
 returns-then-len-count-clause-copies c =
-    let front = c.loop-rest.origins.items in
-    let n = c.loop-rest.number + 1 in
-    let all = sym c.loop-rest.invariant.so_far ∙ ap (λ (ls : List (List ℕ)). with_origins front (origins_from (length front) (copies_among (word_lines_from n ls)))) (ap (parts_of is_line_end) c.in_default.is) ∙ no_line n front in
-    let place : c.len-2.result ≡ length front = omega (arith, c.len-2.ensures, c.loop-rest.origins.ok.0) in
-    let have : c.len-then-len-count.result ≡ length front = omega (arith, c.len-then-len-count.ensures, c.loop-rest.origins.ok.0) in
+    let front = c.loop-marked.origins.items in
+    let n = c.loop-marked.number + 1 in
+    let all = sym c.loop-marked.invariant.so_far ∙ ap (λ (ls : List WordLine). with_origins front (origins_from (length front) ls)) (c.in_default.ensures.copies n) ∙ no_line n front in
+    let place : c.len-2.result ≡ length front = omega (arith, c.len-2.ensures, c.loop-marked.origins.ok.0) in
+    let have : c.len-then-len-count.result ≡ length front = omega (arith, c.len-then-len-count.ensures, c.loop-marked.origins.ok.0) in
     let other : (length front == c.args.count) ≡ false = ne_eqb _ _ (λ e. c.if-len-count.true (place ∙ e)) in
     λ m. ap (counted c.args.count) all ∙ ap (λ (b : Bool). cond b (Ok front) (Err (CopyCount (length front)))) other ∙ ap (λ (k : ℕ). Err (CopyCount k)) (sym have)
 
 pub returns-clause-copies : goal.returns-clause-copies
 returns-clause-copies c =
-    let front = c.loop-rest.origins.items in
-    let n = c.loop-rest.number + 1 in
-    let all = sym c.loop-rest.invariant.so_far ∙ ap (λ (ls : List (List ℕ)). with_origins front (origins_from (length front) (copies_among (word_lines_from n ls)))) (ap (parts_of is_line_end) c.in_default.is) ∙ no_line n front in
-    let place : c.len-2.result ≡ length front = omega (arith, c.len-2.ensures, c.loop-rest.origins.ok.0) in
+    let front = c.loop-marked.origins.items in
+    let n = c.loop-marked.number + 1 in
+    let all = sym c.loop-marked.invariant.so_far ∙ ap (λ (ls : List WordLine). with_origins front (origins_from (length front) ls)) (c.in_default.ensures.copies n) ∙ no_line n front in
+    let place : c.len-2.result ≡ length front = omega (arith, c.len-2.ensures, c.loop-marked.origins.ok.0) in
     let same : (length front == c.args.count) ≡ true = eq-eqb _ _ (omega (arith, place, c.if-len-count.false)) in
     ap (counted c.args.count) all ∙ ap (λ (b : Bool). cond b (Ok front) (Err (CopyCount (length front)))) same

@@ -1,6 +1,5 @@
-use Rattle.std.proofs.Common.{ℕ, List, ◌++◌, get_or, refl, ◌∙◌, ap, subst, codes}
+use Rattle.std.proofs.Common.{ℕ, List, ◌++◌, get_or, refl, subst, codes}
 use Rattle.std.specs.Prelude.{decimal}
-use Rattle.std.proofs.lemmas.List.{append-nil}
 use Rattle.std.proofs.lemmas.Result.{err_from_is_err_and}
 use Rattle.surf_text.specs.Pages.{Puts}
 use Rattle.surf_text.proofs.Writing.{loop_more, loop_stop, loop_done}
@@ -10,20 +9,20 @@ use Rattle.surf_sew.proofs.write.write_corners.Goals as goal
 piece : ℕ → List ℕ
 piece n = codes " " ++ decimal n
 
-pub returns-in_err-push_pieces : goal.returns-in_err-push_pieces
+pub returns-in_err-write_corner : goal.returns-in_err-write_corner
 unfolding piece
-returns-in_err-push_pieces c =
+returns-in_err-write_corner c =
     let p = err_from_is_err_and c.from_residual.result c.from_residual.ensures.1 in
-    let one : Puts c.loop-v.page c.push_pieces.new.self (piece (get_or c.args.corners.now c.loop-v.v-index c.v-item.result)) c.push_pieces.result =
-    subst (λ (t : List ℕ). Puts c.loop-v.page c.push_pieces.new.self (codes " " ++ t) c.push_pieces.result) (append-nil (decimal c.index.result) ∙ ap decimal (c.index.ensures ∙ c.v-item.is)) c.push_pieces.ensures.puts in
-    record { puts = loop_stop spaced_text piece refl (λ x xs. refl) c.args.corners.now c.loop-v.v-index c.v-item.result c.loop-v-test.true c.args.page.now c.loop-v.page c.push_pieces.new.self (tt {0}) c.loop-v.invariant c.push_pieces.result c.in_err-push_pieces.field-0.0 c.from_residual.result c.in_err-push_pieces.was (rw (p.1, p.2) refl) one }
+    let one : Puts c.loop-v.page c.write_corner.new.page (piece (get_or c.args.corners.now c.loop-v.v-index c.v-item.result)) c.write_corner.result =
+    subst (λ (n : ℕ). Puts c.loop-v.page c.write_corner.new.page (piece n) c.write_corner.result) c.v-item.is c.write_corner.ensures.puts in
+    record { puts = loop_stop spaced_text piece refl (λ x xs. refl) c.args.corners.now c.loop-v.v-index c.v-item.result c.loop-v-test.true c.args.page.now c.loop-v.page c.write_corner.new.page (tt {0}) c.loop-v.invariant c.write_corner.result c.in_err-write_corner.field-0.0 c.from_residual.result c.in_err-write_corner.was (rw (p.1, p.2) refl) one }
 
 pub loop-v-preserved : goal.loop-v-preserved
 unfolding piece
 loop-v-preserved c =
-    let one : Puts c.loop-v.page c.push_pieces.new.self (piece (get_or c.args.corners.now c.loop-v.v-index c.v-item.result)) c.push_pieces.result =
-    subst (λ (t : List ℕ). Puts c.loop-v.page c.push_pieces.new.self (codes " " ++ t) c.push_pieces.result) (append-nil (decimal c.index.result) ∙ ap decimal (c.index.ensures ∙ c.v-item.is)) c.push_pieces.ensures.puts in
-    loop_more spaced_text piece refl (λ x xs. refl) c.args.corners.now c.loop-v.v-index c.v-item.result c.loop-v-test.true c.args.page.now c.loop-v.page c.push_pieces.new.self (tt {0}) c.loop-v.invariant c.push_pieces.result c.in_ok-push_pieces.field-0 c.in_ok-push_pieces.was one
+    let one : Puts c.loop-v.page c.write_corner.new.page (piece (get_or c.args.corners.now c.loop-v.v-index c.v-item.result)) c.write_corner.result =
+    subst (λ (n : ℕ). Puts c.loop-v.page c.write_corner.new.page (piece n) c.write_corner.result) c.v-item.is c.write_corner.ensures.puts in
+    loop_more spaced_text piece refl (λ x xs. refl) c.args.corners.now c.loop-v.v-index c.v-item.result c.loop-v-test.true c.args.page.now c.loop-v.page c.write_corner.new.page (tt {0}) c.loop-v.invariant c.write_corner.result c.in_ok-write_corner.field-0 c.in_ok-write_corner.was one
 
 pub returns : goal.returns
 unfolding piece

@@ -5,11 +5,11 @@ use Rattle.surf_text.proofs.Writing.{puts_more, puts_stop}
 use Rattle.surf_off.specs.Written.{spaced_text, colour_text}
 use Rattle.surf_sew.proofs.write.write_face.Goals as goal
 
-pub returns-in_err-push_whole : goal.returns-in_err-push_whole
-returns-in_err-push_whole c =
+pub returns-in_err-write_number : goal.returns-in_err-write_number
+returns-in_err-write_number c =
     let p = err_from_is_err_and c.from_residual.result c.from_residual.ensures.1 in
     let rest = spaced_text c.args.corners.now ++ (colour_text c.args.colour.now ++ codes "\n") in
-    record { puts = puts_stop c.args.page.now c.push_whole.new.self (decimal (length c.args.corners.now)) rest c.push_whole.result c.in_err-push_whole.field-0.0 c.from_residual.result c.in_err-push_whole.was (rw (p.1, p.2) refl) c.push_whole.ensures.puts }
+    record { puts = puts_stop c.args.page.now c.write_number.new.page (decimal (length c.args.corners.now)) rest c.write_number.result c.in_err-write_number.field-0.0 c.from_residual.result c.in_err-write_number.was (rw (p.1, p.2) refl) c.write_number.ensures.puts }
 
 pub returns-in_err-write_corners : goal.returns-in_err-write_corners
 returns-in_err-write_corners c =
@@ -18,8 +18,8 @@ returns-in_err-write_corners c =
     let last = colour_text c.args.colour.now ++ codes "\n" in
     let numbers = spaced_text c.args.corners.now in
     record {
-      puts = puts_more c.args.page.now c.push_whole.new.self c.write_corners.new.page (decimal (length c.args.corners.now)) (numbers ++ last) c.push_whole.result c.in_ok-push_whole.field-0 r c.in_ok-push_whole.was c.push_whole.ensures.puts
-          (puts_stop c.push_whole.new.self c.write_corners.new.page numbers last c.write_corners.result c.in_err-write_corners.field-0.0 r c.in_err-write_corners.was (rw (p.1, p.2) refl) c.write_corners.ensures.puts);
+      puts = puts_more c.args.page.now c.write_number.new.page c.write_corners.new.page (decimal (length c.args.corners.now)) (numbers ++ last) c.write_number.result c.in_ok-write_number.field-0 r c.in_ok-write_number.was c.write_number.ensures.puts
+          (puts_stop c.write_number.new.page c.write_corners.new.page numbers last c.write_corners.result c.in_err-write_corners.field-0.0 r c.in_err-write_corners.was (rw (p.1, p.2) refl) c.write_corners.ensures.puts);
     }
 
 pub returns-in_err-write_colour : goal.returns-in_err-write_colour
@@ -29,8 +29,8 @@ returns-in_err-write_colour c =
     let colour = colour_text c.args.colour.now in
     let numbers = spaced_text c.args.corners.now in
     record {
-      puts = puts_more c.args.page.now c.push_whole.new.self c.write_colour.new.page (decimal (length c.args.corners.now)) (numbers ++ (colour ++ codes "\n")) c.push_whole.result c.in_ok-push_whole.field-0 r c.in_ok-push_whole.was c.push_whole.ensures.puts
-          (puts_more c.push_whole.new.self c.write_corners.new.page c.write_colour.new.page numbers (colour ++ codes "\n") c.write_corners.result c.in_ok-write_corners.field-0 r c.in_ok-write_corners.was c.write_corners.ensures.puts
+      puts = puts_more c.args.page.now c.write_number.new.page c.write_colour.new.page (decimal (length c.args.corners.now)) (numbers ++ (colour ++ codes "\n")) c.write_number.result c.in_ok-write_number.field-0 r c.in_ok-write_number.was c.write_number.ensures.puts
+          (puts_more c.write_number.new.page c.write_corners.new.page c.write_colour.new.page numbers (colour ++ codes "\n") c.write_corners.result c.in_ok-write_corners.field-0 r c.in_ok-write_corners.was c.write_corners.ensures.puts
           (puts_stop c.write_corners.new.page c.write_colour.new.page colour (codes "\n") c.write_colour.result c.in_err-write_colour.field-0.0 r c.in_err-write_colour.was (rw (p.1, p.2) refl) c.write_colour.ensures.puts));
     }
 
@@ -40,7 +40,7 @@ returns c =
     let colour = colour_text c.args.colour.now in
     let numbers = spaced_text c.args.corners.now in
     record {
-      puts = puts_more c.args.page.now c.push_whole.new.self c.push_bytes.new.self (decimal (length c.args.corners.now)) (numbers ++ (colour ++ codes "\n")) c.push_whole.result c.in_ok-push_whole.field-0 r c.in_ok-push_whole.was c.push_whole.ensures.puts
-          (puts_more c.push_whole.new.self c.write_corners.new.page c.push_bytes.new.self numbers (colour ++ codes "\n") c.write_corners.result c.in_ok-write_corners.field-0 r c.in_ok-write_corners.was c.write_corners.ensures.puts
+      puts = puts_more c.args.page.now c.write_number.new.page c.push_bytes.new.self (decimal (length c.args.corners.now)) (numbers ++ (colour ++ codes "\n")) c.write_number.result c.in_ok-write_number.field-0 r c.in_ok-write_number.was c.write_number.ensures.puts
+          (puts_more c.write_number.new.page c.write_corners.new.page c.push_bytes.new.self numbers (colour ++ codes "\n") c.write_corners.result c.in_ok-write_corners.field-0 r c.in_ok-write_corners.was c.write_corners.ensures.puts
           (puts_more c.write_corners.new.page c.write_colour.new.page c.push_bytes.new.self colour (codes "\n") c.write_colour.result c.in_ok-write_colour.field-0 r c.in_ok-write_colour.was c.write_colour.ensures.puts c.push_bytes.ensures.puts));
     }

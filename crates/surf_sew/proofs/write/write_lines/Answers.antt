@@ -17,6 +17,11 @@ front_is vs table rest first from n le is =
     let all : table ≡ first_copies vs from n = is ∙ ap (first_copies vs from) short in
     take_at table rest n (ap length all ∙ length-map-range_with_len (first_copy vs) from n) ∙ all
 
+pub returns-in_err-from : goal.returns-in_err-from
+returns-in_err-from c =
+    let e = err_from_is_err_and c.from_residual.result c.from_residual.ensures.1 in
+    record { puts = rw (e.1, e.2) c.in_err-from.ensures.puts }
+
 pub write_copies-requires-clause-within : goal.write_copies-requires-clause-within
 write_copies-requires-clause-within c =
     let vs = c.args.origins.now in
@@ -41,8 +46,8 @@ returns-in_err-write_copies c =
     let p0 = c.args.page.now in
     let p1 = c.loop-from.page in
     let p2 = c.write_copies.new.page in
-    let r = c.from_residual.result in
-    let e = err_from_is_err_and r c.from_residual.ensures.1 in
+    let r = c.from_residual-in_err-write_copies.result in
+    let e = err_from_is_err_and r c.from_residual-in_err-write_copies.ensures.1 in
     let one : Puts p1 p2 some c.write_copies.result = subst (λ (cs : List ℕ). Puts p1 p2 (lines_text (lines_at lines cs)) c.write_copies.result) is c.write_copies.ensures.puts in
     record {
       puts = subst (λ (t : List ℕ). Puts p0 p2 t r) (all_lines lines vs from n (c.args.vertices - (from + n)) c.args.vertices (omega arith))

@@ -3,7 +3,7 @@ use Rattle.surf_text.specs.Text.{whole}
 use Rattle.surf_text.specs.Walks.{TokenWalk}
 use Rattle.surf_sew.specs.Copies.{origin_at}
 use Rattle.surf_sew.proofs.CopyLines.{five_words}
-use Rattle.surf_sew.proofs.copies.read_origin.Goals as goal
+use Rattle.surf_sew.proofs.copies.read_words.Goals as goal
 
 pub returns : goal.returns
 returns c =

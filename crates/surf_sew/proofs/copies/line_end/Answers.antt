@@ -1,0 +1,5 @@
+use Rattle.surf_sew.proofs.FirstByte.{first_is}
+use Rattle.surf_sew.proofs.copies.line_end.Goals as goal
+
+pub returns : goal.returns
+returns c = record { place = first_is _ c.args.bytes.now c.memchr.result c.memchr.ensures }
