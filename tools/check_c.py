@@ -150,8 +150,11 @@ def main():
     parser.add_argument("--library", type=pathlib.Path, default=CRATE / "out/libsurf_c.a")
     given = parser.parse_args()
     given.program, given.library = given.program.resolve(), given.library.resolve()
-    if given.build:
-        subprocess.run(["rt", "lib"], cwd=CRATE, check=True)
+    if given.build and compiler() and shutil.which("rt"):
+        made = subprocess.run(["rt", "lib"], cwd=CRATE, capture_output=True, text=True)
+        if made.returncode:
+            print(f"rt lib doesn't make the library of crates/surf_c:\n{(made.stdout + made.stderr)[-2000:]}")
+            return 1
     lack = missing(given)
     if lack:
         print(f"calls from C are not tried, since {lack} isn't here")
