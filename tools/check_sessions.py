@@ -9,7 +9,7 @@ Each block that is fenced by ``` says what it is by the word behind the fence:
                       `surf` on the path, and the lines up to the next such line are what it prints, on either stream. A
                       line `..` stands for any number of lines, and a line that begins with `> ` right behind a command
                       goes on with it. Where a named tool isn't here, the session is passed over
-    rust FILE         lines that stand so in that file of the repository
+    rust FILE, c FILE lines that stand so in that file of the repository
     sh                commands that aren't run here, such as those of the toolchain
     text, and others  no commands
 
@@ -58,7 +58,7 @@ class Block:
             return None if self.lines and self.lines[0].startswith("$ ") else "a session begins with a command"
         if not self.words:
             return "the fence doesn't say what the block is"
-        if self.words[0] == "rust" and "\n".join(self.lines) not in (TOP / self.words[-1]).read_text():
+        if self.words[0] in ("rust", "c") and "\n".join(self.lines) not in (TOP / self.words[-1]).read_text():
             return f"these lines don't stand in {self.words[-1]}"
         return "commands stand in a block that isn't a session" if has_command else None
 
