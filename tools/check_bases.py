@@ -8,7 +8,7 @@ for each, all loops in order of length, base and edge, and of these what is inde
 nothing with the program and takes a search at every vertex. `loops`, `basis` and `cycle` have to print the same bytes.
 Surfaces of both kinds are made from tori, bottles and planes, glued to each other, by turning edges over; their lengths
 are equal, or few, or many. At the end come two meshes that are too large for the plain method, of which the answer is
-known otherwise: 1,024 loops of length 3, and a torus at the limit of 20,000 vertices.
+known otherwise: 1,024 loops of length 4, and a torus at the limit of 20,000 vertices.
 """
 
 import argparse
@@ -236,7 +236,7 @@ def compared(program, folder, chance):
 def known(program, folder):
     """Two great meshes of which the answer is known."""
     well = True
-    for words, head in ((("chain", "512", "3", "3"), "cycles 1024\ntotal 3072\n"),
+    for words, head in ((("chain", "512", "4", "4"), "cycles 1024\ntotal 4096\n"),
                         (("torus", "100", "200"), "cycles 2\ntotal 300\n")):
         (folder / "m").write_text(run(program, folder, "gen", *words))
         came = run(program, folder, "basis", "m", "unit")
