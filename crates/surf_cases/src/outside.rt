@@ -44,44 +44,46 @@ fn each_call_fails_once(
 
 #[test]
 fn each_read_fails_once(rt: HostRuntime) -> Result<(), Fail> {
-    let torus = ("torus33", TORUS33);
-    let round = ("W", "3 6 7 3\n");
     let cases: [Reads; 9] = [
         (&["info", "tet"], &[("tet", TET)], INFO, 7),
         (
             &["loops", "torus33", "L", "0"],
-            &[torus, ("L", SCATTERED_LENGTHS)],
+            &[("torus33", TORUS33), ("L", SCATTERED_LENGTHS)],
             "loops 2\ntotal 191\nloop 91 0 1 2 0\nloop 100 0 3 7 2 0\n",
             30,
         ),
         (
             &["check", "torus33", "unit", "C"],
-            &[torus, ("C", TORUS33_CERT)],
+            &[("torus33", TORUS33), ("C", TORUS33_CERT)],
             "valid loops 6\n",
             31,
         ),
         (&["lengths", "tet", "3"], &[("tet", TET)], TET_LENGTHS, 7),
         (
             &["class", "torus33", "W"],
-            &[torus, round],
+            &[("torus33", TORUS33), ("W", "3 6 7 3\n")],
             "null 1 6\n",
             19,
         ),
         (
             &["same", "torus33", "W", "V"],
-            &[torus, ("W", "0 1 2 0\n"), ("V", "3 4 5 3\n")],
+            &[("torus33", TORUS33), ("W", "0 1 2 0\n"), ("V", "3 4 5 3\n")],
             "same 12 6 7 8 9 10 11 12 13 14 15 16 17\n",
             22,
         ),
         (
             &["confirm", "torus33", "W", "C"],
-            &[torus, round, ("C", "null 1 6\n")],
+            &[
+                ("torus33", TORUS33),
+                ("W", "3 6 7 3\n"),
+                ("C", "null 1 6\n"),
+            ],
             "valid null\n",
             22,
         ),
         (
             &["shortest", "torus33", "unit", "W"],
-            &[torus, ("W", "0 1 2 0\n")],
+            &[("torus33", TORUS33), ("W", "0 1 2 0\n")],
             "shortest 3 0 2 1 0\n",
             19,
         ),
