@@ -142,7 +142,7 @@ class Inputs:
         loops = Path(self.answer_of(["loops", mesh, "unit", "0"], "loops")).read_text()
         path = self.work / f"{len(self.made)}.walk"
         self.made[("walk", mesh)] = str(path)
-        path.write_text(" ".join(loops.splitlines()[1].split()[2:]) + "\n")
+        path.write_text(" ".join(loops.splitlines()[2].split()[2:]) + "\n")
         return str(path)
 
 
