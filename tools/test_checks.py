@@ -8,11 +8,14 @@ import unittest
 sys.path.insert(0, str(pathlib.Path(__file__).resolve().parent))
 sys.dont_write_bytecode = True
 
+import check_bases  # noqa: E402
 import check_definitions  # noqa: E402
 import check_sessions  # noqa: E402
+import check_walks  # noqa: E402
 import crate_graph  # noqa: E402
 import hostile  # noqa: E402
 import misuses  # noqa: E402
+from worked_cases import PLANE_FACES, TORUS_FACES, edges_of  # noqa: E402
 
 
 class Graph(unittest.TestCase):
@@ -78,6 +81,34 @@ class Misuses(unittest.TestCase):
         self.assertIsNotNone(misuses.fault_of(said, "    b;\na\n", "borrow-e0505", "b;"))
         self.assertIsNotNone(misuses.fault_of("", "a\n    b;\n", "borrow-e0505", "b;"))
         self.assertIsNotNone(misuses.fault_of(said, "", None, None))
+
+
+class PlainMethod(unittest.TestCase):
+    """The torus of 3 by 3, with equal lengths, and the projective plane of 6 vertices."""
+
+    TORUS = check_bases.Plain(9, TORUS_FACES, [1] * 27)
+
+    def test_loops_basis_and_cycle(self):
+        loops, basis, cycle = self.TORUS.answers(0)
+        self.assertEqual(loops, "loops 2\ntotal 6\nloop 3 0 1 2 0\nloop 3 0 3 6 0\n")
+        self.assertEqual(basis, "cycles 2\ntotal 6\ncycle 3 0 1 2 0\ncycle 3 0 3 6 0\n")
+        self.assertEqual(cycle, "cycle 3 0 1 2 0\n")
+
+    def test_shortest_walks(self):
+        cover = check_walks.Cover(self.TORUS)
+        self.assertEqual(cover.shortest([0, 1, 2, 0]), "shortest 3 0 2 1 0\n")
+        self.assertEqual(cover.shortest([0, 1, 2, 0, 3, 6, 0]), "shortest 3 0 8 4 0\n")
+        self.assertEqual(cover.shortest([0, 1, 0]), "shortest 0 0\n")
+        plane = check_walks.Cover(check_bases.Plain(6, PLANE_FACES, [1] * 15))
+        self.assertEqual(plane.shortest([0, 2, 4, 0]), "shortest 3 0 3 1 0\n")
+
+    def test_sums_and_edges_turned_over(self):
+        faces = check_bases.glued(TORUS_FACES, PLANE_FACES)
+        self.assertEqual(len(faces), 18 + 10 - 2)
+        turned = check_bases.turned_over(faces, check_bases.random.Random(3), 20)
+        for each in (faces, turned):
+            count = 1 + max(max(f) for f in each)
+            self.assertEqual(count - len(edges_of(each)) + len(each), -1)
 
 
 if __name__ == "__main__":
