@@ -69,8 +69,8 @@ fn choose(
     ensures kept { OnOk result (AreKeptOver surface.now.mesh.now surface.now.lengths.now surface.now.signatures.now bases.now (length bases.now) choice.new.kept) }
     ensures made { AreLoopTables surface.now.mesh.now desk.new }
 {
-    let _surface = surface.mesh.faces();
-    let _lengths = surface.lengths.count();
+    surface.mesh.law_of_surface();
+    surface.lengths.law_of_lengths();
     for base in bases {
         desk.greedy(surface.mesh, surface.lengths, *base);
         let loops = signed_loops(alloc, surface.mesh, surface.signatures, desk)?;
@@ -94,8 +94,8 @@ pub fn least_basis(
     ensures first { IfOk result (λ cycles. IsFirstCandidate mesh.now lengths.now (first_of cycles.items)) }
     ensures shortest { IfOk result (λ cycles. IfSome (first_of cycles.items) (λ cycle. IsShortestCycle mesh.now lengths.now cycle)) }
 {
-    let _surface = mesh.faces();
-    let _lengths = lengths.count();
+    mesh.law_of_surface();
+    lengths.law_of_lengths();
     let signed = signed_desk(alloc, mesh, lengths)?;
     let count = signed.cotree().left().len();
     if count == 0 {

@@ -26,8 +26,8 @@ fn all_tree_rows(
     requires lengths { length lengths.now ≡ edge_count mesh.now }
     ensures rows { IfOk result (λ rows. AreTreeRows mesh.now lengths.now rows.items) }
 {
-    let _surface = mesh.faces();
-    let _lengths = lengths.count();
+    mesh.law_of_surface();
+    lengths.law_of_lengths();
     let vertices = mesh.vertices();
     let mut tree = TreeDesk::make(alloc, mesh)?;
     let mut rows = Vec::with_capacity(alloc, vertices as usize)?;
@@ -55,9 +55,8 @@ pub fn basis_cert(alloc: Global, mesh: &HalfMesh, lengths: &Lengths) -> Result<B
     ensures valid { IfOk result (IsValidBasis mesh.now lengths.now) }
     ensures fits { IfOk result BasisFits }
 {
-    let _vertices = mesh.vertices();
-    let _faces = mesh.faces();
-    let _lengths = lengths.count();
+    mesh.law_of_surface();
+    lengths.law_of_lengths();
     let trees = all_tree_rows(alloc, mesh, lengths)?;
     let mut first = LoopDesk::make(alloc, mesh)?;
     first.greedy(mesh, lengths, VertexId::new(0));

@@ -58,7 +58,7 @@ fn loop_of(
     requires between { IsTrue (is_between (search_of surface.now desk.now ways.now base) edge) }
     ensures told { result ≡ told_loop (search_of surface.now desk.now ways.now base) edge }
 {
-    let _surface = surface.mesh.faces();
+    surface.mesh.law_of_surface();
     let (u, v) = surface.mesh.ends(edge);
     let length = desk.distance(u) + u64::from(surface.lengths.of(edge)) + desk.distance(v);
     let mut signature = copy_signature(ways.class(u));
@@ -81,7 +81,7 @@ fn is_between(surface: &Surface<'_>, desk: &NearDesk, edge: EdgeId) -> bool
     requires edge { edge < edge_count surface.now.mesh.now }
     ensures between { (is_near desk.now (ends surface.now.mesh.now edge).0 && is_near desk.now (ends surface.now.mesh.now edge).1) ≡ result }
 {
-    let _surface = surface.mesh.faces();
+    surface.mesh.law_of_surface();
     let (u, v) = surface.mesh.ends(edge);
     desk.is_near(u) && desk.is_near(v)
 }
@@ -99,7 +99,7 @@ fn is_plain(
     requires edge { edge < edge_count surface.now.mesh.now }
     ensures plain { IsTrue result → (told_loop (search_of surface.now desk.now ways.now base) edge).signature ≡ 0 }
 {
-    let _surface = surface.mesh.faces();
+    surface.mesh.law_of_surface();
     let (u, v) = surface.mesh.ends(edge);
     ways.are_alike(u, v) && surface.signatures.signature(edge).is_empty()
 }
@@ -168,7 +168,7 @@ fn list_at(
     ensures kept { OnOk result (All (Contains found.new.items) found.old.items) }
     ensures here { OnOk result (ListsAt (search_at surface.now desk.now ways.now) limit.now v found.new.items) }
 {
-    let _surface = surface.mesh.faces();
+    surface.mesh.law_of_surface();
     let edges = surface.mesh.ring_edges(v);
     for e in edges {
         let (low, _) = surface.mesh.ends(*e);
@@ -234,8 +234,8 @@ impl<'a> Finder<'a> {
         ensures found { OnOk result (AreFound self.old.mesh self.old.lengths self.old.signs limit.now base found.new.items) }
         ensures same { self.new ≡ self.old }
     {
-        let _surface = self.surface.mesh.faces();
-        let _lengths = self.surface.lengths.count();
+        self.surface.mesh.law_of_surface();
+        self.surface.lengths.law_of_lengths();
         self.desk.grow(&self.links, base, radius(limit));
         self.ways.sum(&self.surface, &self.desk, base)?;
         list_loops(&self.surface, &self.desk, &self.ways, limit, found)

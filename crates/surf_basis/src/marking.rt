@@ -29,7 +29,7 @@ fn mark_ends(mesh: &HalfMesh, signatures: &CotreeDesk, marked: &mut [bool])
     ensures marks { length marked.new ≡ mesh.now.vertices }
     ensures ends { (e : ℕ) → e < edge_count mesh.now → slice_index signatures.now.signatures e ≢ 0 → HasMarkedEnd mesh.now marked.new e }
 {
-    let _surface = mesh.faces();
+    mesh.law_of_surface();
     for e in 0..mesh.edges() {
         let edge = EdgeId::new(e);
         if !signatures.signature(edge).is_empty() {

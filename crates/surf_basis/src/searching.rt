@@ -109,8 +109,8 @@ pub(crate) fn sufficient_bases(
     ensures increasing { IfOk result (λ list. AreBases surface.now.mesh.now list.items) }
     ensures bases { IfOk result (λ list. HaveBasesOfBasis surface.now.mesh.now surface.now.lengths.now list.items) }
 {
-    let _surface = surface.mesh.faces();
-    let _lengths = surface.lengths.count();
+    surface.mesh.law_of_surface();
+    surface.lengths.law_of_lengths();
     let vertices = signed_ends(alloc, surface.mesh, surface.signatures)?;
     let mut finder = Finder::make(alloc, surface)?;
     let mut choice = Choice::make(alloc, count as u32)?;
@@ -162,8 +162,8 @@ pub(crate) fn first_place(
     requires signed { AreSigned surface.now.mesh.now surface.now.signatures.now count }
     ensures first { IfOk result (IsFirstPlace surface.now.mesh.now surface.now.lengths.now) }
 {
-    let _surface = surface.mesh.faces();
-    let _lengths = surface.lengths.count();
+    surface.mesh.law_of_surface();
+    surface.lengths.law_of_lengths();
     let vertices = signed_ends(alloc, surface.mesh, surface.signatures)?;
     let mut finder = Finder::make(alloc, surface)?;
     first_found(alloc, &mut finder, &vertices)

@@ -43,8 +43,8 @@ fn first_at(surface: &Surface<'_>, base: VertexId, desk: &mut LoopDesk) -> Optio
     ensures first { (trees : ℕ → Trees) → AreChosen surface.now.mesh.now surface.now.lengths.now trees → option_map (loop_in surface.now.mesh.now trees) result ≡ first_of (loops_at surface.now.mesh.now surface.now.lengths.now base (trees base)) }
     ensures made { AreLoopTables surface.now.mesh.now desk.new }
 {
-    let _surface = surface.mesh.faces();
-    let _lengths = surface.lengths.count();
+    surface.mesh.law_of_surface();
+    surface.lengths.law_of_lengths();
     desk.greedy(surface.mesh, surface.lengths, base);
     first_of(desk)
 }
@@ -62,8 +62,8 @@ fn first_candidate(
     ensures first { IfOk result (λ found. (trees : ℕ → Trees) → AreChosen surface.now.mesh.now surface.now.lengths.now trees → option_map (loop_in surface.now.mesh.now trees) found ≡ first_of (candidates surface.now.mesh.now surface.now.lengths.now trees)) }
     ensures made { AreLoopTables surface.now.mesh.now desk.new }
 {
-    let _surface = surface.mesh.faces();
-    let _lengths = surface.lengths.count();
+    surface.mesh.law_of_surface();
+    surface.lengths.law_of_lengths();
     let Some(place) = first_place(alloc, surface, count)? else {
         return Ok(None);
     };
@@ -84,8 +84,8 @@ pub fn least_nonseparating(
     ensures none { IfOk result (λ found. (found ≡ None) ↔ IsFullCount mesh.now 0) }
     ensures separate { IfOk result (λ found. (found ≡ None) ↔ AllSeparate mesh.now) }
 {
-    let _surface = mesh.faces();
-    let _lengths = lengths.count();
+    mesh.law_of_surface();
+    lengths.law_of_lengths();
     let signed = signed_desk(alloc, mesh, lengths)?;
     let count = signed.cotree().left().len();
     let surface = Surface {

@@ -34,7 +34,7 @@ fn add_way(
     requires table { length signatures.now.signatures ≡ edge_count mesh.now }
     ensures added { (d : Split) → AreSignatures mesh.now d signatures.now → signature.new ≡ bit_xor signature.old (signature_of (cells_of mesh.now) d (on_path (tree_of tree.now) from)) }
 {
-    let _surface = mesh.faces();
+    mesh.law_of_surface();
     let mut at = from;
     while let (Some(edge), Some(parent)) = (tree.parent_edge(at), tree.parent(at)) {
         signature.add(signatures.signature(edge));
@@ -54,7 +54,7 @@ pub(crate) fn loop_signature(
     requires table { length signatures.now.signatures ≡ edge_count mesh.now }
     ensures class { (d : Split) → AreSignatures mesh.now d signatures.now → result ≡ class_of mesh.now d (loop_walk mesh.now (tree_of tree.now) edge) }
 {
-    let _surface = mesh.faces();
+    mesh.law_of_surface();
     let (u, v) = mesh.ends(edge);
     let mut signature = Signature::zero();
     add_way(mesh, signatures, tree, u, &mut signature);
@@ -74,8 +74,8 @@ pub(crate) fn signed_desk(
     ensures signed { IfOk result (λ desk. AreSigned mesh.now desk.cotree (length desk.cotree.left)) }
     ensures full { IfOk result (λ desk. IsFullCount mesh.now (length desk.cotree.left)) }
 {
-    let _surface = mesh.faces();
-    let _lengths = lengths.count();
+    mesh.law_of_surface();
+    lengths.law_of_lengths();
     let mut desk = LoopDesk::make(alloc, mesh)?;
     desk.greedy(mesh, lengths, VertexId::new(0));
     desk.sign(mesh);

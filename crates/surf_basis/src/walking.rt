@@ -26,8 +26,8 @@ pub(crate) fn cycle_of(
     ensures cycle { IfOk result (λ cycle. IsCycleOf mesh.now lengths.now candidate cycle) }
     ensures made { AreLoopTables mesh.now desk.new }
 {
-    let _surface = mesh.faces();
-    let _lengths = lengths.count();
+    mesh.law_of_surface();
+    lengths.law_of_lengths();
     desk.grow_tree(mesh, lengths, candidate.base);
     let walk = desk.walk(alloc, mesh, candidate.edge)?;
     Ok(Cycle {

@@ -126,8 +126,8 @@ impl Ways {
         ensures ways { OnOk result (AreWays surface.now.mesh.now surface.now.lengths.now base surface.now.signatures.now desk.now self.new) }
         ensures count { length self.new.numbers ≡ surface.now.mesh.now.vertices }
     {
-        let _surface = surface.mesh.faces();
-        let _lengths = surface.lengths.count();
+        surface.mesh.law_of_surface();
+        surface.lengths.law_of_lengths();
         self.classes.clear();
         self.classes.push(Signature::zero())?;
         for v in desk.settled() {

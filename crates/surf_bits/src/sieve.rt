@@ -129,6 +129,12 @@ impl Sieve {
         first_bit(left.words()).is_none()
     }
 
+    /// What a sieve keeps: it admits no more sets than there are numbers. A caller whose proof rests
+    /// on that calls it; it does nothing.
+    pub fn law_of_sieve(&self)
+        ensures few { length self.now.admitted ≤ self.now.width }
+    {}
+
     /// How many sets are admitted.
     pub fn rank(&self) -> u32
         ensures rank { result ≡ length self.now.admitted }

@@ -44,8 +44,8 @@ fn check_cycles(
     ensures valid { IfOk result (λ t. IsValidBasis mesh.now lengths.now cert.now × (t ≡ basis_total mesh.now lengths.now cert.now)) }
     ensures fault { IfErr result (IsBasisFault mesh.now lengths.now cert.now) }
 {
-    let _surface = mesh.edges();
-    let _positive = lengths.count();
+    mesh.law_of_surface();
+    lengths.law_of_lengths();
     let signs = sign_edges(alloc, mesh, cert, left)?;
     let frame = frame_cycles(alloc, mesh, lengths, cert, signs)?;
     let mut order = all_vertices(alloc, mesh)?;
@@ -74,7 +74,7 @@ fn check_edges(
     ensures valid { IfOk result (λ t. IsValidBasis mesh.now lengths.now cert.now × (t ≡ basis_total mesh.now lengths.now cert.now)) }
     ensures fault { IfErr result (IsBasisFault mesh.now lengths.now cert.now) }
 {
-    let _surface = mesh.edges();
+    mesh.law_of_surface();
     let rows = tree_from(cert, VertexId::new(0));
     let marks = mark_edges(alloc, mesh, rows, cert.dual(), cert.left())?;
     if let Some((u, v)) = first_split(mesh, rows, cert.dual(), cert.left(), &marks) {
@@ -105,8 +105,8 @@ pub fn check_basis(
     ensures fault { IfErr result (IsBasisFault mesh.now lengths.now cert.now) }
     ensures excludes { IfErr result (λ e. e ≢ Memory → IsValidBasis mesh.now lengths.now cert.now → ⊥) }
 {
-    let _surface = mesh.edges();
-    let _positive = lengths.count();
+    mesh.law_of_surface();
+    lengths.law_of_lengths();
     if let Some(part) = basis_shape(mesh, cert) {
         return Err(CertFault::Shape { part });
     }

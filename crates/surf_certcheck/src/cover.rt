@@ -33,7 +33,7 @@ fn loop_set(mesh: &HalfMesh, signs: &Signs, sums: &VertexSets, e: EdgeId) -> Sig
     requires edge { e < edge_count mesh.now }
     ensures sum { (rows : TreeRows) → IsClimbed mesh.now rows → AreSummed mesh.now rows signs.now.sets sums.now.sets → (d : Split) (to : ℕ → ℕ) → AreTaken mesh.now d to signs.now.sets → result ≡ to (walk_signature mesh.now d (loop_walk mesh.now (certified_tree mesh.now rows) e)) }
 {
-    let _surface = mesh.faces();
+    mesh.law_of_surface();
     let (u, v) = ends_inside(mesh, e);
     let mut sum = Signature::zero();
     sum.add(sums.of(u));
@@ -110,7 +110,7 @@ pub(crate) fn first_uncovered(
     requires width { sums.old.width ≡ frame.now.signs.width }
     ensures first { MatchOption result (HoldsBelow mesh.now.vertices (AreCovered mesh.now lengths.now cert.now)) (λ p. IsFirstAt mesh.now.vertices (edge_count mesh.now) (IsCovered mesh.now lengths.now cert.now) p.0 p.1) }
 {
-    let _positive = lengths.count();
+    lengths.law_of_lengths();
     for x in 0..mesh.vertices() {
         let base = VertexId::new(x);
         let rows = tree_from(cert, base);

@@ -26,7 +26,7 @@ pub(crate) fn edge_of_face(mesh: &HalfMesh, f: FaceId, u: VertexId, v: VertexId)
     requires face { f < face_count mesh.now }
     ensures edge { MatchOption result (has_side (pair u v) (face_at mesh.now f) ≡ true → ⊥) (λ e. (has_side (pair u v) (face_at mesh.now f) ≡ true) × (e < edge_count mesh.now) × (edge_number mesh.now (u, v) ≡ e)) }
 {
-    let _surface = mesh.faces();
+    mesh.law_of_surface();
     match mesh.find_edge(u, v) {
         None => None,
         Some(e) => { if is_beside(mesh, f, e) { Some(e) } else { None } }

@@ -11,7 +11,7 @@ use surf_mesh::HalfMesh;
 pub(crate) fn edge_up(mesh: &HalfMesh, p: VertexId, v: VertexId) -> Option<EdgeId>
     ensures edge { MatchOption result (Contains (edges mesh.now) (pair p v) → ⊥) (λ e. Contains (edges mesh.now) (pair p v) × (e < edge_count mesh.now) × (edge_number mesh.now (p, v) ≡ e) × (p < mesh.now.vertices)) }
 {
-    let _surface = mesh.faces();
+    mesh.law_of_surface();
     mesh.find_edge(p, v)
 }
 
@@ -21,7 +21,7 @@ pub(crate) fn ends_inside(mesh: &HalfMesh, e: EdgeId) -> (VertexId, VertexId)
     ensures ends { result ≡ ends mesh.now e }
     ensures inside { (result.0 < mesh.now.vertices) × (result.1 < mesh.now.vertices) }
 {
-    let _surface = mesh.faces();
+    mesh.law_of_surface();
     mesh.ends(e)
 }
 
@@ -31,6 +31,6 @@ pub(crate) fn faces_inside(mesh: &HalfMesh, e: EdgeId) -> (FaceId, FaceId)
     ensures faces { result ≡ faces_of mesh.now e }
     ensures inside { (result.0 < face_count mesh.now) × (result.1 < face_count mesh.now) }
 {
-    let _surface = mesh.edges();
+    mesh.law_of_surface();
     mesh.faces_of(e)
 }

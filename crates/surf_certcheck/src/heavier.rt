@@ -102,7 +102,7 @@ fn least_on_path(
     requires face { face < face_count mesh.now }
     ensures least { IsLeastIn (IsShort mesh.now lengths.now rows.now flags.now limit) (OnWay mesh.now dual.now face) result }
 {
-    let _surface = mesh.faces();
+    mesh.law_of_surface();
     let mut least = None;
     let mut at = face;
     while at.index() != 0 {

@@ -45,7 +45,6 @@ fn link_over(
     requires row { IsDualRow mesh.now dual.now f side }
     ensures link { HasLink mesh.now f side result.0 result.1 }
 {
-    let _rows = dual;
     match side {
         None => (FaceId::new(0), EdgeId::new(0)),
         Some((u, v)) => link_by(mesh, f, u, v),
@@ -82,8 +81,7 @@ pub(crate) fn step_up(
     requires below { at ≢ 0 }
     ensures step { IsStepUp mesh.now dual.now at result.0 result.1 }
 {
-    let _surface = mesh.faces();
-    let _rows = dual;
+    mesh.law_of_surface();
     let (face, edge) = (links.parent[at.index()], links.up[at.index()]);
     (FaceId::new(face), EdgeId::new(edge))
 }
@@ -103,7 +101,7 @@ pub(crate) fn turn_path(
     ensures count { length flags.new ≡ edge_count mesh.now }
     ensures turned { (e : ℕ) → get_or flags.new e false ≡ xor (get_or flags.old e false) (on_path (dual_tree mesh.now dual.now) face e) }
 {
-    let _surface = mesh.faces();
+    mesh.law_of_surface();
     let mut at = face;
     while at.index() != 0 {
         let (above, edge) = step_up(mesh, dual, links, at);

@@ -155,8 +155,8 @@ pub fn check_loops(
     ensures fault { IfErr result (IsLoopFault mesh.now lengths.now cert.now) }
     ensures excludes { IfErr result (λ e. e ≢ Memory → IsValidLoops mesh.now lengths.now cert.now → ⊥) }
 {
-    let _surface = mesh.edges();
-    let _positive = lengths.count();
+    mesh.law_of_surface();
+    lengths.law_of_lengths();
     if let Some(part) = loop_shape(mesh, cert) {
         return Err(CertFault::Shape { part });
     }

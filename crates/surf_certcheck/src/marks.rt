@@ -17,7 +17,7 @@ fn flag_edge(mesh: &HalfMesh, flags: &mut [bool], u: VertexId, v: VertexId)
     ensures count { length flags.new ≡ edge_count mesh.now }
     ensures flagged { (e : ℕ) → e < edge_count mesh.now → get_or flags.new e false ≡ (pair_eq (ends mesh.now e) (pair u v) || get_or flags.old e false) }
 {
-    let _surface = mesh.faces();
+    mesh.law_of_surface();
     if let Some(edge) = mesh.find_edge(u, v) {
         flags[edge.index()] = true;
     }
@@ -58,7 +58,7 @@ fn flag_parents(mesh: &HalfMesh, flags: &mut [bool], rows: &TreeRows)
     requires none { AreFlags (edge_count mesh.now) none flags.old }
     ensures flags { AreFlags (edge_count mesh.now) (is_parent_edge mesh.now rows.now) flags.new }
 {
-    let _edges = mesh.edges();
+    mesh.law_of_surface();
     for v in 0..mesh.vertices() {
         flag_parent(mesh, flags, rows, v);
     }
@@ -70,7 +70,7 @@ fn flag_sides(mesh: &HalfMesh, flags: &mut [bool], dual: &DualRows)
     requires none { AreFlags (edge_count mesh.now) none flags.old }
     ensures flags { AreFlags (edge_count mesh.now) (is_dual_edge mesh.now dual.now) flags.new }
 {
-    let _edges = mesh.edges();
+    mesh.law_of_surface();
     for f in 0..mesh.faces() {
         flag_side(mesh, flags, dual, f);
     }
@@ -81,7 +81,7 @@ fn flag_listed(mesh: &HalfMesh, flags: &mut [bool], left: &[(VertexId, VertexId)
     requires none { AreFlags (edge_count mesh.now) none flags.old }
     ensures flags { AreFlags (edge_count mesh.now) (is_listed mesh.now left.now) flags.new }
 {
-    let _edges = mesh.edges();
+    mesh.law_of_surface();
     for i in 0..left.len() {
         let (u, v) = left[i];
         flag_edge(mesh, flags, u, v);

@@ -47,7 +47,7 @@ fn least_of(u: VertexId, v: VertexId, other: Option<(VertexId, VertexId)>) -> (V
 fn is_edge(mesh: &HalfMesh, u: VertexId, v: VertexId) -> bool
     ensures edge { result ≡ among (pair u v) (edges mesh.now) }
 {
-    let _surface = mesh.faces();
+    mesh.law_of_surface();
     mesh.find_edge(u, v).is_some()
 }
 
@@ -127,7 +127,7 @@ fn first_undivided(mesh: &HalfMesh, marks: &Marks) -> Option<EdgeId>
     ensures first { MatchOption result (HoldsBelow (edge_count mesh.now) (AreOne marks.now.tree.items marks.now.dual.items marks.now.left.items)) (FailsFirst (edge_count mesh.now) (AreOne marks.now.tree.items marks.now.dual.items marks.now.left.items)) }
     ensures surface { IsSurface mesh.now }
 {
-    let _surface = mesh.faces();
+    mesh.law_of_surface();
     for e in 0..mesh.edges() {
         let at = EdgeId::new(e).index();
         if !is_just_one(marks.tree[at], marks.dual[at], marks.left[at]) {
@@ -149,8 +149,6 @@ pub(crate) fn first_split(
     requires marks { AreMarks mesh.now rows.now dual.now left.now marks.now.tree.items marks.now.dual.items marks.now.left.items }
     ensures split { MatchOption result (IsDivided mesh.now rows.now dual.now left.now) (IsLeastBadPair mesh.now rows.now dual.now left.now) }
 {
-    let _rows = rows;
-    let _dual = dual;
     let stray = first_stray(mesh, left);
     match first_undivided(mesh, marks) {
         None => stray,

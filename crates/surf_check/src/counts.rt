@@ -24,7 +24,6 @@ pub fn genus(mesh: &HalfMesh, turning: &Turning) -> u32
     ensures is { result ≡ genus_of mesh.now }
     ensures twice { pos (2 * result) ≡ pos 2 -ℤ characteristic mesh.now }
 {
-    let _flags = turning.flags();
     let most = mesh.edges() as u64 + 2;
     let taken = mesh.vertices() as u64 + mesh.faces() as u64;
     ((most - taken) / 2) as u32

@@ -88,7 +88,7 @@ fn cross(mesh: &HalfMesh, side: SideId, tree: &mut FaceTree) -> Result<(), NoMem
     ensures on { OnOk result (TreeGrowsOn tree.old tree.new) }
     ensures crossed { OnOk result (IsCrossed mesh.now tree.new.seen.items side) }
 {
-    let _count = mesh.faces();
+    mesh.law_of_surface();
     let across = mesh.mate(side);
     let face = mesh.face_of(across);
     let parent = mesh.face_of(side);
@@ -121,7 +121,7 @@ fn go_over(mesh: &HalfMesh, face: FaceId, tree: &mut FaceTree) -> Result<(), NoM
 pub(crate) fn grow(alloc: Global, mesh: &HalfMesh) -> Result<FaceTree, NoMemory>
     ensures { IfOk result (λ t. IsFlagTree mesh.now t) }
 {
-    let _count = mesh.faces();
+    mesh.law_of_surface();
     let mut tree = start(alloc, mesh)?;
     let mut k = 0;
     while k < tree.listed.len() {

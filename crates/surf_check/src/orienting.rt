@@ -19,7 +19,7 @@ fn fits(mesh: &HalfMesh, flags: &[bool], side: SideId) -> bool
     requires flags { length flags.now ≡ face_count mesh.now }
     ensures { (e : ℕ) → IsEdgeOf mesh.now side e → result ≡ not (misfit mesh.now (flag_of flags.now) e) }
 {
-    let _count = mesh.faces();
+    mesh.law_of_surface();
     let across = mesh.mate(side);
     let first = mesh.face_of(side);
     let second = mesh.face_of(across);
@@ -33,7 +33,7 @@ fn first_misfit(mesh: &HalfMesh, flags: &[bool]) -> Option<EdgeId>
     requires { length flags.now ≡ face_count mesh.now }
     ensures { MatchOption result (IsTurning mesh.now (flag_of flags.now)) (λ e. (e < edge_count mesh.now) × (Fits mesh.now (flag_of flags.now) e → ⊥)) }
 {
-    let _count = mesh.faces();
+    mesh.law_of_surface();
     for s in 0..mesh.side_count() {
         let side = SideId::new(s);
         if !fits(mesh, flags, side) {
@@ -103,7 +103,7 @@ fn close(alloc: Global, mesh: &HalfMesh, tree: &FaceTree, edge: EdgeId) -> Resul
     requires edge { edge < edge_count mesh.now }
     ensures { IfOk result (λ c. c ≡ tree_chain mesh.now (tree_in tree.now) edge) }
 {
-    let _count = mesh.faces();
+    mesh.law_of_surface();
     let (first, second) = mesh.faces_of(edge);
     let mut links = descend(alloc, mesh, tree, first)?;
     links.push(link(mesh, first, edge))?;
@@ -116,7 +116,7 @@ fn close(alloc: Global, mesh: &HalfMesh, tree: &FaceTree, edge: EdgeId) -> Resul
 pub fn orient(alloc: Global, mesh: &HalfMesh) -> Result<Sides, NoMemory>
     ensures { IfOk result (λ s. AreSides mesh.now s) }
 {
-    let _count = mesh.faces();
+    mesh.law_of_surface();
     let tree = grow(alloc, mesh)?;
     match first_misfit(mesh, &tree.flags) {
         None => Ok(Sides::Two(Turning::from_flags(tree.flags))),

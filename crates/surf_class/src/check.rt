@@ -85,7 +85,7 @@ fn check_faces(
     ensures right { (chain : Chain) → AreFlags (edge_count mesh.now) chain flags.now → OnOk result (IsNullEvidence mesh.now chain faces.now) }
     ensures fault { (chain : Chain) → AreFlags (edge_count mesh.now) chain flags.now → IfErr result (IsClassFault mesh.now chain (null_faces faces.now)) }
 {
-    let _surface = mesh.faces();
+    mesh.law_of_surface();
     if let Some(face) = first_outside(mesh, faces) {
         return Err(ClassFault::Face { face });
     }
@@ -117,7 +117,7 @@ fn turn_faces(mesh: &HalfMesh, edge: EdgeId, odd: &mut [bool])
     requires count { length odd.old ≡ face_count mesh.now }
     ensures turned { (f : ℕ) → f < face_count mesh.now → slice_index_or odd.new f false ≡ xor (slice_index_or odd.old f false) (borders mesh.now f edge) }
 {
-    let _surface = mesh.faces();
+    mesh.law_of_surface();
     let (near, far) = faces_beside(mesh, edge);
     turn(odd, near.index());
     turn(odd, far.index());
@@ -185,7 +185,7 @@ fn check_pairs(
     ensures right { (chain : Chain) → AreFlags (edge_count mesh.now) chain flags.now → OnOk result (IsOddEvidence mesh.now chain pairs.now) }
     ensures fault { (chain : Chain) → AreFlags (edge_count mesh.now) chain flags.now → IfErr result (IsClassFault mesh.now chain (odd_pairs pairs.now)) }
 {
-    let _surface = mesh.faces();
+    mesh.law_of_surface();
     if let Some((u, v)) = first_stranger(mesh, pairs) {
         return Err(ClassFault::Pair { u, v });
     }

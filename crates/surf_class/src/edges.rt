@@ -42,7 +42,7 @@ pub(crate) fn faces_beside(mesh: &HalfMesh, edge: EdgeId) -> (FaceId, FaceId)
     ensures faces { result ≡ faces_of mesh.now edge }
     ensures inside { (result.0 < face_count mesh.now) × (result.1 < face_count mesh.now) }
 {
-    let _surface = mesh.faces();
+    mesh.law_of_surface();
     mesh.faces_of(edge)
 }
 

@@ -113,7 +113,7 @@ pub fn classify(
     ensures chosen { (tree : Tree) → IsSigned mesh.now tree cotree.now → IfOk result (λ e. IsChosen mesh.now (split_with tree cotree.now) (joint_parity mesh.now first.now (option_copied second.entry)) (seen e)) }
     ensures right { IfOk result (λ e. IsEvidence mesh.now (joint_parity mesh.now first.now (option_copied second.entry)) (seen e)) }
 {
-    let _surface = mesh.faces();
+    mesh.law_of_surface();
     match least_number(&joint_sum(mesh, cotree, first, second)) {
         Some(k) => Ok(Evidence::Odd(list_signed(alloc, mesh, cotree, k)?)),
         None => {

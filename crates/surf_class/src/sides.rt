@@ -17,7 +17,7 @@ fn above(mesh: &HalfMesh, cotree: &CotreeDesk, face: FaceId) -> Option<(FaceId, 
     ensures above { MatchOption result (face ≡ 0) (λ x. (face ≢ 0) × (x.0 ≡ slice_index cotree.now.parents face) × (x.1 ≡ slice_index cotree.now.ups face)) }
     ensures inside { IfSome result (λ x. (x.0 < face_count mesh.now) × (x.1 < edge_count mesh.now) × (slice_index cotree.now.depths x.0 < slice_index cotree.now.depths face)) }
 {
-    let _edges = mesh.edges();
+    mesh.law_of_surface();
     let edge = cotree.parent_edge(face)?;
     let (near, far) = faces_beside(mesh, edge);
     let other = if near == face { far } else { near };

@@ -116,8 +116,7 @@ impl CotreeDesk {
         requires tree { MarkTree mesh.now in_tree.now }
         ensures grown { IsGrown mesh.now in_tree.now (at weight.now) self.new }
     {
-        let _surface = mesh.faces();
-        let _edges = mesh.edges();
+        mesh.law_of_surface();
         self.held.copy_from_slice(in_tree);
         let count = peel(mesh, &mut self.held, &mut self.leaves);
         span(
@@ -185,7 +184,7 @@ impl CotreeDesk {
         ensures rest { self.new ≡ record self.old { signatures = self.new.signatures } }
         ensures made { AreCotreeTables mesh.now self.new }
     {
-        let _surface = mesh.faces();
+        mesh.law_of_surface();
         self.signs
             .write(mesh, &self.parent, &self.up, &self.depth, &self.left);
     }

@@ -23,7 +23,7 @@ fn only_edge(mesh: &HalfMesh, marks: &[bool], face: FaceId) -> Option<EdgeId>
     requires marks { length marks.now ≡ edge_count mesh.now }
     ensures only { IfSome result (λ edge. IsOnlyEdge (dual (cells_of mesh.now)) (outside marks.now) face edge) }
 {
-    let _edges = mesh.edges();
+    mesh.law_of_surface();
     let mut found = None;
     for s in mesh.sides_of(face) {
         let (_, edge) = mesh.across(*s);
@@ -49,7 +49,7 @@ fn take_leaf(
     requires marks { length marks.old ≡ edge_count mesh.now }
     ensures peeled { (allowed : ℕ → Bool) → IsPeeled (dual (cells_of mesh.now)) allowed leaves.old count (outside marks.old) → IsPeeled (dual (cells_of mesh.now)) allowed leaves.new result (outside marks.new) }
 {
-    let _edges = mesh.edges();
+    mesh.law_of_surface();
     if face == 0 || count >= leaves.len() {
         return count;
     }
@@ -118,8 +118,7 @@ pub(crate) fn hang(
     requires some { (allowed : ℕ → Bool) × (weight : ℕ → ℕ) × IsHung (dual (cells_of mesh.now)) allowed weight leaves.now count parent.old up.old depth.old }
     ensures hung { (allowed : ℕ → Bool) (weight : ℕ → ℕ) → IsHung (dual (cells_of mesh.now)) allowed weight leaves.now count parent.old up.old depth.old → IsHung (dual (cells_of mesh.now)) allowed weight leaves.now 0 parent.new up.new depth.new }
 {
-    let _surface = mesh.faces();
-    let _edges = mesh.edges();
+    mesh.law_of_surface();
     for k in (0..count).rev() {
         let leaf = leaves[k];
         let (face, edge) = (leaf.face.number(), leaf.edge.number());

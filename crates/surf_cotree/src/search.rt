@@ -56,7 +56,7 @@ fn offer_neighbours(
     requires places { length heap.old ≡ face_count mesh.now }
     ensures offered { IsOffered (dual (cells_of mesh.now)) (outside marks.now) (at weight.now) (reached depth.now) face heap.old heap.new }
 {
-    let _edges = mesh.edges();
+    mesh.law_of_surface();
     for s in mesh.sides_of(FaceId::new(face)) {
         let (next, edge) = mesh.across(*s);
         if leads_on(marks, depth, edge, next) {
@@ -96,8 +96,7 @@ pub(crate) fn span(
     ensures root { at up.new 0 ≡ nobody }
     ensures places { length heap.new ≡ face_count mesh.now }
 {
-    let _surface = mesh.faces();
-    let _edges = mesh.edges();
+    mesh.law_of_surface();
     weights_fit(weight);
     depth.fill(NOBODY);
     depth[0] = 0;

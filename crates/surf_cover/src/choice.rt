@@ -48,8 +48,8 @@ pub fn least_in_class(
     requires closed { IsClosed mesh.now walk.now }
     ensures least { IfOk result (IsLeastInClass mesh.now lengths.now walk.now) }
 {
-    let _surface = mesh.faces();
-    let _lengths = lengths.count();
+    mesh.law_of_surface();
+    lengths.law_of_lengths();
     let set = walk_sign(mesh, cotree, walk.vertices());
     if set == 0 {
         let walk = vertex_alone(alloc)?;

@@ -77,8 +77,8 @@ impl CoverDesk {
         requires lengths { length lengths.now ≡ edge_count mesh.now }
         ensures grown { IsGrown mesh.now lengths.now cotree.now base self.new }
     {
-        let _surface = mesh.faces();
-        let _lengths = lengths.count();
+        mesh.law_of_surface();
+        lengths.law_of_lengths();
         copy_signs(cotree, &mut self.signs);
         let network = CoverNetwork {
             mesh,
@@ -124,8 +124,8 @@ impl CoverDesk {
         requires lengths { length lengths.now ≡ edge_count mesh.now }
         ensures read { IfOk result (λ list. IsReadOff mesh.now lengths.now self.now.sets self.now.signs self.now.distances base set list.items) }
     {
-        let _surface = mesh.faces();
-        let _lengths = lengths.count();
+        mesh.law_of_surface();
+        lengths.law_of_lengths();
         let network = CoverNetwork {
             mesh,
             lengths,

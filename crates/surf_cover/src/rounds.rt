@@ -121,7 +121,7 @@ pub(crate) fn least_start(
     ensures made { AreCoverTables mesh.now desk.new }
     ensures least { (tree : Tree) → IsSplit (cells_of mesh.now) (split_with tree cotree.now) → IsLeastStart mesh.now lengths.now (split_with tree cotree.now) set result }
 {
-    let _surface = mesh.faces();
+    mesh.law_of_surface();
     let number = least_number(set);
     let mut best = None;
     for v in 0..mesh.vertices() {

@@ -167,7 +167,7 @@ fn cut_sides(alloc: Global, mesh: &HalfMesh, cut: &[bool]) -> Result<Vec<SideId>
     requires { length cut.now ≡ edge_count mesh.now }
     ensures { IfOk result (λ v. AreCutSides mesh.now cut.now (side_count mesh.now) v.items) }
 {
-    let _surface = mesh.faces();
+    mesh.law_of_surface();
     let mut sides = Vec::new(alloc);
     for s in 0..mesh.side_count() {
         let side = SideId::new(s);
@@ -194,7 +194,7 @@ pub(crate) fn boundary_along(
         × IsOpenedBy mesh.now (IsUncut mesh.now cut.now) origins faces.now }
     ensures { IfOk result (λ v. IsBoundary (over copies faces.now) v.items) }
 {
-    let _surface = mesh.faces();
+    mesh.law_of_surface();
     let border = cut_sides(alloc, mesh, cut)?;
     round_of(alloc, copies, faces, &border)
 }

@@ -46,7 +46,7 @@ fn list_corners(corners: &[VertexId], tails: &mut Vec<u32>) -> Result<(), NoMemo
 fn corner_vertices(alloc: Global, mesh: &HalfMesh) -> Result<Vec<u32>, NoMemory>
     ensures { IfOk result (λ v. v.items ≡ all_corners mesh.now) }
 {
-    let _few = mesh.faces();
+    mesh.law_of_surface();
     let mut tails = Vec::with_capacity(alloc, mesh.side_count() as usize)?;
     for f in 0..mesh.faces() {
         list_corners(mesh.face(FaceId::new(f)), &mut tails)?;
@@ -59,7 +59,7 @@ fn sides_by_vertex(alloc: Global, mesh: &HalfMesh, tails: &[u32]) -> Result<Rows
     requires { tails.now ≡ all_corners mesh.now }
     ensures { IfOk result (λ rows. AreSorted mesh.now (flat_map (λ row. row) rows)) }
 {
-    let _few = mesh.faces();
+    mesh.law_of_surface();
     let numbers = side_numbers(alloc, mesh.side_count())?;
     Ok(group_sides(alloc, &numbers, tails, mesh.vertices())?)
 }
@@ -146,7 +146,7 @@ fn open_by(
     ensures few { IfOk result (λ r. length r.0.items < 2 ^ 30) }
     ensures corners { IfOk result (λ r. sum_by length r.1 ≡ side_count mesh.now) }
 {
-    let _few = mesh.faces();
+    mesh.law_of_surface();
     let mut origins = Vec::new(alloc);
     let tails = corner_vertices(alloc, mesh)?;
     let order = sides_by_vertex(alloc, mesh, &tails)?;

@@ -31,7 +31,7 @@ fn open_cut(alloc: Global, mesh: &HalfMesh, cut: &[bool]) -> Result<Opened, NoMe
     requires opens { OpensToDisc mesh.now cut.now }
     ensures { IfOk result (λ o. IsOpenedInOrder mesh.now cut.now o) }
 {
-    let _surface = mesh.faces();
+    mesh.law_of_surface();
     let (origins, faces) = open_along(alloc, mesh, cut)?;
     let boundary = boundary_along(alloc, mesh, cut, origins.len() as u32, &faces)?;
     Opened::from_parts(alloc, origins, faces, boundary)
@@ -65,7 +65,7 @@ pub fn open_full(alloc: Global, mesh: &HalfMesh, held: &[bool]) -> Result<Opened
     ensures opening { IfOk result (λ o. IsOpening mesh.now o.origins o.faces) }
     ensures copies { IfOk result (λ o. length o.origins + (face_count mesh.now + face_count mesh.now) ≡ edge_count mesh.now + edge_count mesh.now + 2) }
 {
-    let _surface = mesh.faces();
+    mesh.law_of_surface();
     let cut = turned_over(alloc, held)?;
     open_cut(alloc, mesh, &cut)
 }
@@ -78,7 +78,7 @@ pub fn open_trimmed(alloc: Global, mesh: &HalfMesh, held: &[bool]) -> Result<Ope
     ensures chosen { IfOk result (λ o. IsChosenFor mesh.now held.now true o) }
     ensures opening { IfOk result (λ o. IsOpening mesh.now o.origins o.faces) }
 {
-    let _surface = mesh.faces();
+    mesh.law_of_surface();
     let mut cut = turned_over(alloc, held)?;
     let mut degree = vec![in alloc; 0u32; mesh.vertices() as usize]?;
     open_by_trim(alloc, mesh, &mut cut, &mut degree)

@@ -47,7 +47,7 @@ fn count_edge(mesh: &HalfMesh, cut: &[bool], degree: &mut [u32], e: u32)
     requires so_far { AreDegreesTo mesh.now cut.now e degree.old }
     ensures { AreDegreesTo mesh.now cut.now (e + 1) degree.new }
 {
-    let _surface = mesh.faces();
+    mesh.law_of_surface();
     if cut[e as usize] {
         let (u, v) = mesh.ends(EdgeId::new(e));
         count_at(degree, u, v);
@@ -103,7 +103,7 @@ fn take_back(mesh: &HalfMesh, cut: &mut [bool], degree: &mut [u32], leaf: Vertex
     requires one { slice_index degree.old leaf ≡ 1 }
     ensures { IsTakenBack mesh.now leaf result cut.old cut.new degree.old degree.new }
 {
-    let _surface = mesh.faces();
+    mesh.law_of_surface();
     let edges = mesh.ring_edges(leaf);
     let e = edges[first_cut(edges, cut)];
     let (u, v) = mesh.ends(e);
@@ -130,7 +130,7 @@ fn trim_from(
     ensures trimmed { IsTrimmedFrom mesh.now cut.old cut.new }
     ensures ended { HasNoLeafFrom mesh.now low degree.new result }
 {
-    let _surface = mesh.faces();
+    mesh.law_of_surface();
     let mut left = count;
     let mut leaf = low;
     while left > 2 && degree[leaf.index()] == 1 {
@@ -152,7 +152,7 @@ pub(crate) fn trim(mesh: &HalfMesh, cut: &mut [bool], degree: &mut [u32])
     ensures trimmed { IsTrimmedFrom mesh.now cut.old cut.new }
     ensures ended { HasEndedBy mesh.now cut.new }
 {
-    let _surface = mesh.faces();
+    mesh.law_of_surface();
     let mut left = count_cut(cut);
     for low in (0..mesh.vertices()).rev() {
         left = trim_from(mesh, cut, degree, left, VertexId::new(low));

@@ -31,7 +31,7 @@ pub(crate) fn all_across(
     requires few { NoneCrowded soup.now }
     ensures across { IfOk result (λ v. AreAcrossUpTo soup.now (side_count soup.now) v.items) }
 {
-    let _mesh = soup.vertices();
+    soup.law_of_soup();
     let count = soup.side_count();
     let mut across = Vec::with_capacity(alloc, count as usize)?;
     for s in 0..count {

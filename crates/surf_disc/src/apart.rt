@@ -47,7 +47,7 @@ fn faces_over(
     requires faces { face_of.now ≡ owners 0 soup.now.faces }
     ensures rows { IfOk result (λ rows. AreAcross soup.now across.now (face_count soup.now) rows) }
 {
-    let _few = soup.side_count();
+    soup.law_of_soup();
     let mut rows = Rows::new(alloc);
     let mut row = Vec::new(alloc);
     let mut first = 0;

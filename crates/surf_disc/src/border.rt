@@ -69,8 +69,7 @@ fn border_rows(
     ensures rows { IfOk result (λ rows. AreNeighbours soup.now
         next.now prev.now across.now (all_corners soup.now) soup.now.vertices rows) }
 {
-    let _mesh = soup.faces();
-    let _few = soup.side_count();
+    soup.law_of_soup();
     let tails = soup.corners();
     let mut rows = Rows::new(alloc);
     let mut row = Vec::new(alloc);
@@ -95,7 +94,7 @@ pub(crate) fn least_border(soup: &Soup, table: &EdgeTable) -> Option<usize>
     ensures least { MatchOption result ((e : ℕ) → IsBorderEdge soup.now e → ⊥)
         (λ e. IsLeastOnBorder soup.now e) }
 {
-    let _mesh = soup.faces();
+    soup.law_of_soup();
     first_row(&table.sides, 1, 1)
 }
 
@@ -117,7 +116,7 @@ pub(crate) fn mark_border(
     requires least { IsLeastOnBorder soup.now least }
     ensures marks { IfOk result (λ seen. IsBorderMarked soup.now least seen.items) }
 {
-    let _mesh = soup.vertices();
+    soup.law_of_soup();
     let (low, _) = table.edges[least];
     let rows = border_rows(alloc, soup, next, prev, across, at_vertex)?;
     let seen = reach(alloc, &rows, low.number())?;
@@ -162,7 +161,7 @@ pub(crate) fn refuse_second(
     ensures one { OnOk result (HasOneBorder soup.now) }
     ensures fault { IfErr result (λ e. IsDiscFault soup.now e) }
 {
-    let _mesh = soup.vertices();
+    soup.law_of_soup();
     if let Some(h) = first_outside(&table.sides, &table.edges, seen) {
         let (u, v) = table.edges[e];
         let (s, t) = table.edges[h];

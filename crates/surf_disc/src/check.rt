@@ -31,8 +31,7 @@ fn crowd_at(soup: &Soup, table: &EdgeTable, e: usize) -> DiscFault
     requires first { IsFirstWithin 3 usize.MAX table.now.sides e }
     ensures fault { IsDiscFault soup.now result }
 {
-    let _mesh = soup.faces();
-    let _few = soup.side_count();
+    soup.law_of_soup();
     let (u, v) = table.edges[e];
     let row = table.sides.row(e);
     let first = face_in(row, 0, &table.face_of);
@@ -52,8 +51,7 @@ fn refuse_crowded(soup: &Soup, table: &EdgeTable) -> Result<(), DiscFault>
     ensures ok { OnOk result (NoneCrowded soup.now) }
     ensures fault { IfErr result (λ e. IsDiscFault soup.now e) }
 {
-    let _mesh = soup.faces();
-    let _few = soup.side_count();
+    soup.law_of_soup();
     if let Some(e) = first_row(&table.sides, 3, usize::MAX) {
         return Err(crowd_at(soup, table, e));
     }
@@ -67,7 +65,7 @@ fn refuse_isolated(soup: &Soup, at_vertex: &Rows<SideId>) -> Result<(), DiscFaul
     ensures ok { OnOk result (AllMet soup.now) }
     ensures fault { IfErr result (λ e. IsDiscFault soup.now e) }
 {
-    let _mesh = soup.vertices();
+    soup.law_of_soup();
     match find_isolated(soup, at_vertex) {
         None => Ok(()),
         Some(v) => Err(DiscFault::Isolated {
@@ -86,7 +84,7 @@ fn refuse_count(soup: &Soup, table: &EdgeTable) -> Result<(), DiscFault>
     ensures ok { OnOk result (soup.now.vertices + face_count soup.now ≡ edge_count soup.now + 1) }
     ensures fault { IfErr result (λ e. IsDiscFault soup.now e) }
 {
-    let _few = soup.side_count();
+    soup.law_of_soup();
     let vertices = soup.vertices();
     let edges = table.edges.len() as u32;
     let faces = soup.faces();
@@ -106,8 +104,7 @@ fn find_fault(alloc: Global, soup: &Soup) -> Result<u32, DiscFault>
     ensures border { IfOk result (λ n. n ≡ border_count soup.now) }
     ensures fault { IfErr result (λ e. IsDiscFault soup.now e) }
 {
-    let _mesh = soup.vertices();
-    let _few = soup.side_count();
+    soup.law_of_soup();
     let table = edge_table(alloc, soup)?;
     refuse_crowded(soup, &table)?;
     let at_vertex = vertex_sides(alloc, soup, &table.numbers)?;

@@ -40,7 +40,7 @@ fn link_corners(
     ensures rows { IfOk result (λ rows. AreLinked
         next.now prev.now across.now (all_corners soup.now) (side_count soup.now) rows) }
 {
-    let _mesh = soup.vertices();
+    soup.law_of_soup();
     let tails = soup.corners();
     let mut rows = Rows::new(alloc);
     for s in 0..soup.side_count() {
@@ -82,7 +82,7 @@ fn mark_fans(
     requires met { AllMet soup.now }
     ensures fans { IfOk result (λ seen. AreFansMarked soup.now seen.items) }
 {
-    let _mesh = soup.vertices();
+    soup.law_of_soup();
     let start = soup.side_count();
     let mut rows = link_corners(alloc, soup, next, prev, across)?;
     let firsts = first_corners(alloc, at_vertex)?;
@@ -106,7 +106,7 @@ fn refuse_unmarked(
     ensures ok { OnOk result (AllFans soup.now) }
     ensures fault { IfErr result (λ e. IsDiscFault soup.now e) }
 {
-    let _few = soup.side_count();
+    soup.law_of_soup();
     for v in 0..soup.vertices() {
         let row = at_vertex.row(v as usize);
         if let Some(k) = first_left(row, seen) {

@@ -42,9 +42,9 @@ pub fn write_lengths(page: &mut Page, mesh: &HalfMesh, lengths: &Lengths) -> Res
     ensures puts { Puts page.old page.new (lengths_text mesh.now lengths.now) result }
     ensures reread { RereadsLengths mesh.now lengths.now }
 {
-    let _vertices = mesh.vertices();
-    let _lengths = lengths.count();
-    let _held = page.bytes();
+    mesh.law_of_surface();
+    lengths.law_of_lengths();
+    page.law_of_page();
     for e in 0..mesh.edges() {
         write_entry(page, mesh, lengths, EdgeId::new(e))?;
     }

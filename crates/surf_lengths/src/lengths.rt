@@ -42,6 +42,13 @@ impl Lengths {
         Lengths { values }
     }
 
+    /// What all lengths keep: each is a length, and their count fits its number. A caller whose
+    /// proof rests on that calls it; it does nothing.
+    pub fn law_of_lengths(&self)
+        ensures lengths { AreLengths self.now }
+        ensures few { length self.now < 2 ^ 32 }
+    {}
+
     /// How many edges it has lengths for.
     pub fn count(&self) -> u32
         ensures count { result ≡ length self.now }

@@ -48,7 +48,7 @@ fn open_along(
 fn open_at(alloc: Global, mesh: &HalfMesh, base: VertexId, cut: Cut) -> Result<Opened, NoMemory>
     requires { base < mesh.now.vertices }
 {
-    let _surface = mesh.faces();
+    mesh.law_of_surface();
     let desk = loops_at(alloc, mesh, base)?;
     open_along(alloc, mesh, desk.cotree(), cut)
 }

@@ -40,7 +40,7 @@ fn side_of(mesh: &HalfMesh, cotree: &CotreeDesk, face: FaceId) -> Option<(Vertex
     requires face { face < face_count mesh.now }
     ensures side { result ≡ side_in mesh.now (cotree_of cotree.now) face }
 {
-    let _edges = mesh.edges();
+    mesh.law_of_surface();
     let edge = cotree.parent_edge(face)?;
     Some(mesh.ends(edge))
 }
@@ -94,9 +94,8 @@ impl LoopDesk {
         ensures valid { IfOk result (IsValidLoops mesh.now lengths.now) }
         ensures fits { IfOk result LoopFits }
     {
-        let _vertices = mesh.vertices();
-        let _faces = mesh.faces();
-        let _lengths = lengths.count();
+        mesh.law_of_surface();
+        lengths.law_of_lengths();
         let tree = tree_rows(alloc, mesh, self.tree())?;
         let dual = dual_rows(alloc, mesh, self.cotree())?;
         let left = left_pairs(alloc, mesh, self.cotree())?;

@@ -87,8 +87,8 @@ impl LoopDesk {
         requires tree { IsTreeGrown mesh.now lengths.now self.old.tree.base self.old.tree }
         ensures greedy { IsGreedy mesh.now lengths.now self.old.tree.base self.new }
     {
-        let _edges = mesh.edges();
-        let _lengths = lengths.count();
+        mesh.law_of_surface();
+        lengths.law_of_lengths();
         set_weights(mesh, lengths, &self.tree, &mut self.weight);
         self.cotree.grow(mesh, self.tree.tree_edges(), &self.weight);
         list_heads(self.cotree.left(), &self.weight, &mut self.heads);
@@ -146,7 +146,7 @@ impl LoopDesk {
         ensures closed { IfOk result (λ walk. IsClosedAt mesh.now self.now.tree.base walk) }
     {
         surf_surfaces::law_of_loop_walks();
-        let _surface = mesh.faces();
+        mesh.law_of_surface();
         let (u, v) = mesh.ends(edge);
         let mut list = Vec::new(alloc);
         push_way(mesh, &self.tree, u, &mut list)?;

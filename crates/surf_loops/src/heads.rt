@@ -21,7 +21,7 @@ fn loop_length(mesh: &HalfMesh, lengths: &Lengths, tree: &TreeDesk, edge: EdgeId
     requires fits { (v : ℕ) → v < mesh.now.vertices → slice_index tree.now.distances v < 2 ^ 62 }
     ensures length { result ≡ loop_length mesh.now lengths.now (tree_of tree.now) edge }
 {
-    let _surface = mesh.faces();
+    mesh.law_of_surface();
     let (u, v) = mesh.ends(edge);
     tree.distance(u) + u64::from(lengths.of(edge)) + tree.distance(v)
 }

@@ -19,7 +19,7 @@ pub(crate) fn push_way(
     requires vertex { from < mesh.now.vertices }
     ensures way { OnOk result (list.new.items ≡ list.old.items ++ from ∷ way_up (tree_of tree.now) (slice_index tree.now.distances from) from) }
 {
-    let _surface = mesh.faces();
+    mesh.law_of_surface();
     list.push(from)?;
     let mut at = from;
     while let Some(parent) = tree.parent(at) {

@@ -66,7 +66,7 @@ pub fn all_mates(alloc: Global, soup: &Soup, table: &EdgeTable) -> Result<Vec<Si
     requires two { HasTwoFaces soup.now }
     ensures { IfOk result (λ v. AreAllMates soup.now v.items) }
 {
-    let _mesh = soup.faces();
+    soup.law_of_soup();
     let mut mate = table.numbers.to_vec(alloc)?;
     join_rows(&table.sides, &table.edge_of, &mut mate);
     Ok(mate)
@@ -152,7 +152,7 @@ impl HalfMesh {
         requires rings { AreAllRings soup soup.vertices rings ring_edges }
         ensures { result ≡ soup }
     {
-        let _few = soup.side_count();
+        soup.law_of_soup();
         let (vertices, faces) = soup.into_parts();
         HalfMesh {
             vertices,
@@ -163,6 +163,16 @@ impl HalfMesh {
             ring_edges,
         }
     }
+
+    /// What every mesh of this type keeps: it is a surface, and its counts fit their numbers. A
+    /// caller whose proof rests on that calls it; it does nothing.
+    pub fn law_of_surface(&self)
+        ensures surface { IsSurface self.now }
+        ensures few { side_count self.now < 2 ^ 30 }
+        ensures vertices { self.now.vertices < 2 ^ 32 }
+        ensures faces { face_count self.now < 2 ^ 30 }
+        ensures edges { edge_count self.now < 2 ^ 30 }
+    {}
 
     /// How many vertices there are.
     pub fn vertices(&self) -> u32

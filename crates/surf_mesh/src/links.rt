@@ -21,7 +21,7 @@ impl HalfMesh {
         ensures inside { All (λ e. e < edge_count self.now) result.now }
         ensures row { IsRow (primal (cells_of self.now)) v (map (edge_link self.now v) result.now) }
     {
-        let _surface = self.faces();
+        self.law_of_surface();
         self.ring_edges(v)
     }
 
@@ -40,7 +40,7 @@ impl HalfMesh {
         ensures inside { All (λ s. s < side_count self.now) result.now }
         ensures row { IsRow (dual (cells_of self.now)) f (map (side_link self.now) result.now) }
     {
-        let _surface = self.faces();
+        self.law_of_surface();
         self.sides(f)
     }
 
@@ -49,7 +49,7 @@ impl HalfMesh {
         requires side { s < side_count self.now }
         ensures link { result ≡ side_link self.now s }
     {
-        let _surface = self.faces();
+        self.law_of_surface();
         let e = self.edge_of(s);
         let t = self.mate(s);
         (self.face_of(t), e)

@@ -12,4 +12,4 @@ mod numbers;
 pub use cycles::{put_cycle, put_cycles_head};
 pub use distances::put_distances;
 pub use loops::{put_loop, put_loops_head};
-pub use numbers::{put_named, put_number, put_walk};
+pub use numbers::put_walk;

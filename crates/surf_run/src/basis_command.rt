@@ -24,8 +24,8 @@ pub fn basis_of(alloc: Global, mesh: &HalfMesh, lengths: &Lengths) -> Result<Ans
     requires few { edge_count mesh.now + 2 ≤ mesh.now.vertices + face_count mesh.now + 1024 }
     ensures { Concludes (GivesBasis mesh.now lengths.now) result }
 {
-    let _surface = mesh.faces();
-    let _positive = lengths.count();
+    mesh.law_of_surface();
+    lengths.law_of_lengths();
     let basis = least_basis(alloc, mesh, lengths)?;
     let mut page = Page::make(alloc, MAX_ANSWER);
     put_basis(&mut page, &basis)?;

@@ -43,8 +43,8 @@ pub fn basis_cert_of(alloc: Global, mesh: &HalfMesh, lengths: &Lengths) -> Resul
     requires few { edge_count mesh.now + 2 ≤ mesh.now.vertices + face_count mesh.now + 1024 }
     ensures { Concludes (GivesBasisCert mesh.now lengths.now) result }
 {
-    let _surface = mesh.faces();
-    let _positive = lengths.count();
+    mesh.law_of_surface();
+    lengths.law_of_lengths();
     let cert = basis_cert(alloc, mesh, lengths)?;
     let mut page = Page::make(alloc, MAX_ANSWER);
     write_basis_cert(&mut page, &cert)?;

@@ -65,7 +65,7 @@ fn opened_at(
     ensures cut { IfOk result (λ o. IsCutAt mesh.now lengths.now base (is_trimmed kind) o.origins o.faces) }
     ensures origins { IfOk result (λ o. All (λ v. v < mesh.now.vertices) o.origins) }
 {
-    let _surface = mesh.faces();
+    mesh.law_of_surface();
     let mut desk = LoopDesk::make(alloc, mesh)?;
     desk.greedy(mesh, lengths, base);
     opened_outside(alloc, mesh, desk.cotree(), kind)

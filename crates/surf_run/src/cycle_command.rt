@@ -22,8 +22,8 @@ pub fn cycle_of(alloc: Global, mesh: &HalfMesh, lengths: &Lengths) -> Result<Ans
     requires few { edge_count mesh.now + 2 ≤ mesh.now.vertices + face_count mesh.now + 1024 }
     ensures { Concludes (GivesCycle mesh.now lengths.now) result }
 {
-    let _surface = mesh.faces();
-    let _positive = lengths.count();
+    mesh.law_of_surface();
+    lengths.law_of_lengths();
     let found = least_nonseparating(alloc, mesh, lengths)?;
     let mut page = Page::make(alloc, MAX_ANSWER);
     put_found(&mut page, &found)?;

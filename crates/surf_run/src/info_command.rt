@@ -48,7 +48,7 @@ fn two_sided(alloc: Global, mesh: &HalfMesh, turning: &Turning) -> Result<Answer
     requires { IsTurning mesh.now (flag_of turning.now) }
     ensures { Concludes (HasGenus mesh.now) result }
 {
-    let _surface = mesh.faces();
+    mesh.law_of_surface();
     let mut text = counts_text(alloc, mesh)?;
     let shape = genus_text(alloc, characteristic(mesh), genus(mesh, turning))?;
     text.push_str(shape.as_str())?;

@@ -15,7 +15,7 @@ pub fn signed_desk(alloc: Global, mesh: &HalfMesh, lengths: &Lengths) -> Result<
     requires few { edge_count mesh.now + 2 ≤ mesh.now.vertices + face_count mesh.now + 1024 }
     ensures chosen { IfOk result (λ desk. IsChosenDesk mesh.now lengths.now desk.cotree) }
 {
-    let _surface = mesh.faces();
+    mesh.law_of_surface();
     let mut desk = LoopDesk::make(alloc, mesh)?;
     desk.greedy(mesh, lengths, VertexId::new(0));
     desk.sign(mesh);

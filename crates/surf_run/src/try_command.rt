@@ -47,7 +47,7 @@ fn loops_total(alloc: Global, mesh: &HalfMesh, lengths: &Lengths) -> Result<u128
     requires { length lengths.now ≡ edge_count mesh.now }
     ensures { IfOk result (LoopsTotal mesh.now lengths.now) }
 {
-    let _surface = mesh.faces();
+    mesh.law_of_surface();
     let mut desk = LoopDesk::make(alloc, mesh)?;
     desk.greedy(mesh, lengths, VertexId::new(0));
     Ok(loops_command::total_of(desk.heads()))
@@ -66,8 +66,8 @@ fn basis_measures(
     ensures total { IfOk result (λ measures. BasisTotals mesh.now lengths.now measures.0) }
     ensures cycle { IfOk result (λ measures. CycleMeasures mesh.now lengths.now measures.1) }
 {
-    let _surface = mesh.faces();
-    let _positive = lengths.count();
+    mesh.law_of_surface();
+    lengths.law_of_lengths();
     let basis = least_basis(alloc, mesh, lengths)?;
     let total = basis_command::total_of(&basis);
     match basis.first() {

@@ -132,7 +132,7 @@ fn read_weighted<S: Shelf>(
     ensures base { IfOk result (λ given. given.1 < mesh.now.vertices) }
 {
     let lengths = read_weights(alloc, shelf, mesh, lengths)?;
-    let _lengths = lengths.count();
+    lengths.law_of_lengths();
     let base = base_of(mesh, base)?;
     Ok((lengths, base))
 }

@@ -47,7 +47,7 @@ pub fn read_measures<S: Shelf>(
     ensures count { IfOk result (λ lengths. length lengths ≡ edge_count mesh.now) }
 {
     let lengths = read_weights(alloc, shelf, mesh, lengths)?;
-    let _lengths = lengths.count();
+    lengths.law_of_lengths();
     Ok(lengths)
 }
 

@@ -1,5 +1,4 @@
 pub mod CopyLines
-pub mod FirstByte
 pub mod Skips
 pub mod PlainLines
 pub mod Gaps

@@ -122,7 +122,7 @@ fn sew_faces(
     let mut sewn = Soup::start(alloc, vertices);
     let mut corners = Vec::new(alloc);
     let mut marks = vec![in alloc; 0u32; vertices as usize]?;
-    let _sides = soup.side_count();
+    soup.law_of_soup();
     for f in 0..soup.faces() {
         let face = FaceId::new(f);
         match sew_face(soup.face(face), origins, &mut marks, f + 1, &mut corners)? {

@@ -49,8 +49,7 @@ fn turn_path(
     requires room { length signs.old ≡ edge_count mesh.now * words }
     ensures turned { (e j : ℕ) → j < 64 * words → sign_bit signs.new words e j ≡ xor (sign_bit signs.old words e j) (on_path (face_tree parent.now up.now depth.now) face e && eqb k j) }
 {
-    let _edges = mesh.edges();
-    let _depths = depth;
+    mesh.law_of_surface();
     let mut at = face as usize;
     while at != 0 {
         toggle(signs, words, up[at] as usize, k);
@@ -65,7 +64,7 @@ fn faces_beside(mesh: &HalfMesh, edge: EdgeId) -> (u32, u32)
     ensures far { result.1 ≡ (dual (cells_of mesh.now)).to edge }
     ensures inside { (result.0 < face_count mesh.now) × (result.1 < face_count mesh.now) }
 {
-    let _surface = mesh.faces();
+    mesh.law_of_surface();
     let (near, far) = mesh.faces_of(edge);
     (near.number(), far.number())
 }
@@ -92,8 +91,7 @@ pub(crate) fn write_signs(
     ensures rest { (e k : ℕ) → length left.now ≤ k → k < 64 * words → sign_bit signs.new words e k ≡ false }
     ensures signature { (e k : ℕ) → k < length left.now → sign_bit signs.new words e k ≡ has_left (dual (cells_of mesh.now)) (face_tree parent.now up.now depth.now) (at left.now k) e }
 {
-    let _surface = mesh.faces();
-    let _edges = mesh.edges();
+    mesh.law_of_surface();
     signs.fill(0);
     for k in 0..left.len() {
         let edge = left[k];

@@ -104,7 +104,7 @@ impl Signs {
         ensures width { self.new.width ≡ self.old.width }
         ensures count { length self.new.sets ≡ edge_count mesh.now }
     {
-        let _surface = mesh.faces();
+        mesh.law_of_surface();
         let words = words_of(self.width);
         write_signs(mesh, parent, up, depth, left, &mut self.table, words);
     }

@@ -71,7 +71,7 @@ pub(crate) fn label_vertex(
     ensures labelled { IsLabelledAt mesh.now cut.now labels.new v first result }
     ensures others { (s : ℕ) → s < side_count mesh.now → corner_at mesh.now s ≢ v → slice_index labels.new s ≡ slice_index labels.old s }
 {
-    let _few = mesh.faces();
+    mesh.law_of_surface();
     let (ring, edges) = mesh.round(v);
     let cuts = count_cut(edges, cut);
     label_runs(ring, edges, cut, cuts, first, labels);

@@ -37,7 +37,7 @@ fn label_all(mesh: &HalfMesh, cut: &[bool], labels: &mut [u32]) -> u32
     requires size { length labels.old ≡ side_count mesh.now }
     ensures { AreLabels mesh.now cut.now labels.new result }
 {
-    let _few = mesh.faces();
+    mesh.law_of_surface();
     let mut count = 0;
     for v in 0..mesh.vertices() {
         count += label_vertex(mesh, cut, labels, count, VertexId::new(v));
@@ -50,7 +50,7 @@ impl<'m> Slit<'m> {
     pub fn start(alloc: Global, mesh: &'m HalfMesh) -> Result<Slit<'m>, NoMemory>
         ensures { IfOk result (λ s. IsUncutSlit mesh.now s) }
     {
-        let _surface = mesh.faces();
+        mesh.law_of_surface();
         let mut labels = vec![in alloc; 0u32; mesh.side_count() as usize]?;
         let cut = vec![in alloc; false; mesh.edges() as usize]?;
         for v in 0..mesh.vertices() {

@@ -84,7 +84,7 @@ pub(crate) fn split_at(
     ensures agree { AgreeAt mesh.now cut.now labels.new v }
     ensures others { (s : ℕ) → s < side_count mesh.now → corner_at mesh.now s ≢ v → slice_index labels.new s ≡ slice_index labels.old s }
 {
-    let _few = mesh.faces();
+    mesh.law_of_surface();
     let (ring, edges) = mesh.round(v);
     let from = place_of(edges, e);
     match next_cut(edges, cut, from) {
@@ -110,7 +110,7 @@ pub(crate) fn split_ends(
     requires labels { AreLabels mesh.now (slice_set cut.now e false) labels.old count }
     ensures { AreLabels mesh.now cut.now labels.new result }
 {
-    let _surface = mesh.faces();
+    mesh.law_of_surface();
     let (u, v) = mesh.ends(e);
     let more = split_at(mesh, cut, labels, count, u, e);
     split_at(mesh, cut, labels, more, v, e)

@@ -7,29 +7,13 @@ use Rattle.surf_surfaces.specs.Mesh.{IsMesh, IsFace, pair}
 use Rattle.surf_surfaces.specs.Pillow.{pillow}
 use Rattle.surf_surfaces.specs.Surface.{ends, faces_with, HasCorner, HasEdge, ShareAt, HasOneFan, IsConnected, IsSurface, IsTurning, IsTwoSided}
 use Rattle.surf_surfaces.specs.Homology.{IsFullCount}
-
-three_differ : (a b c : ℕ) → a ≢ b → a ≢ c → b ≢ c → AllPairs (λ u v. u ≢ v) (a ∷ b ∷ c ∷ [])
-three_differ a b c x y z i zero d lt in' = absurd (omega arith)
-three_differ a b c x y z zero (suc zero) d lt in' = x
-three_differ a b c x y z zero (suc (suc zero)) d lt in' = y
-three_differ a b c x y z (suc zero) (suc zero) d lt in' = absurd (omega arith)
-three_differ a b c x y z (suc zero) (suc (suc zero)) d lt in' = z
-three_differ a b c x y z (suc (suc i)) (suc zero) d lt in' = absurd (omega arith)
-three_differ a b c x y z (suc (suc i)) (suc (suc zero)) d lt in' = absurd (omega arith)
-three_differ a b c x y z i (suc (suc (suc j))) d lt in' = absurd (omega arith)
-
-triangle : (a b c : ℕ) → a ≢ b → a ≢ c → b ≢ c → a < 3 → b < 3 → c < 3 → IsFace 3 (a ∷ b ∷ c ∷ [])
-triangle a b c x y z i j k = record {
-  large = omega arith;
-  distinct = three_differ a b c x y z;
-  inside = All-from_recursion (λ v. v < 3) (a ∷ b ∷ c ∷ []) (i, (j, (k, tt)));
-}
+use Rattle.surf_surfaces.proofs.SmallFaces.{triangle}
 
 pillow_is_mesh : IsMesh pillow
 pillow_is_mesh = All-from_recursion (IsFace 3) pillow.faces (
-  triangle 0 1 2 (λ e. omega arith) (λ e. omega arith) (λ e. omega arith) (omega arith) (omega arith) (omega arith),
+  triangle 3 0 1 2 (λ e. omega arith) (λ e. omega arith) (λ e. omega arith) (omega arith) (omega arith) (omega arith),
   (
-    triangle 0 2 1 (λ e. omega arith) (λ e. omega arith) (λ e. omega arith) (omega arith) (omega arith) (omega arith),
+    triangle 3 0 2 1 (λ e. omega arith) (λ e. omega arith) (λ e. omega arith) (omega arith) (omega arith) (omega arith),
     tt,
   ),
 )

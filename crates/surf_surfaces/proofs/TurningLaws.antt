@@ -11,59 +11,14 @@ use Rattle.surf_surfaces.proofs.PairLaws.{pair_eq-true, pair_eq-same, pair_same}
 use Rattle.surf_surfaces.proofs.EdgeLaws.{list_any_at, list_any_from, among-edges, place_of-among}
 use Rattle.surf_surfaces.proofs.FaceLaws.{pair_comm}
 use Rattle.surf_surfaces.proofs.SurfaceLaws.{two_faces_of, edge_below}
-use Rattle.surf_surfaces.proofs.LawProofs.{sides_differ}
-
--- a run of a face is a side of it
-runs_side : (p : ℕ × ℕ) (face : List ℕ) → runs p face ≡ true → has_side (pair_of p) face ≡ true
-runs_side p face h =
-    let r = list_any_at (pair_eq p) (sides face) (0, 0) h in
-    list_any_from (λ s. pair_eq (pair_of p) (pair_of s)) (sides face) (0, 0) r.0 r.1
-    (pair_eq-same (pair_of p) (pair_of (get_or (sides face) r.0 (0, 0)))
-    (ap pair_of (pair_eq-true p (get_or (sides face) r.0 (0, 0)) r.2)))
-
--- a face does not run an edge in both directions
-one_way : (n : ℕ) (face : List ℕ) → IsFace n face → (u v : ℕ) → u ≢ v → runs (u, v) face ≡ true →
-    runs (v, u) face ≡ true → ⊥
-one_way n face h u v apart a b =
-    let i = list_any_at (pair_eq (u, v)) (sides face) (0, 0) a in
-    let j = list_any_at (pair_eq (v, u)) (sides face) (0, 0) b in
-    let first : (u, v) ≡ get_or (sides face) i.0 (0, 0) = pair_eq-true (u, v) (get_or (sides face) i.0 (0, 0)) i.2 in
-    let second : (v, u) ≡ get_or (sides face) j.0 (0, 0) = pair_eq-true (v, u) (get_or (sides face) j.0 (0, 0)) j.2 in
-    let same : pair_of (get_or (sides face) i.0 (0, 0)) ≡ pair_of (get_or (sides face) j.0 (0, 0)) =
-    sym (ap pair_of first) ∙ pair_comm u v ∙ ap pair_of second in
-    elim (cases_order i.0 j.0) [
-      | inl is ↦
-          let turned : (u, v) ≡ (v, u) = first ∙ ap (λ k. get_or (sides face) k (0, 0)) is ∙ sym second in
-          apart (ap (λ (q : ℕ × ℕ). q.0) turned)
-      | inr o ↦ elim o [
-        | inl lt ↦ sides_differ n face h i.0 j.0 (0, 0) lt j.1 same
-        | inr gt ↦ sides_differ n face h j.0 i.0 (0, 0) gt i.1 (sym same)
-      ]
-    ]
-
--- a side is run in one direction or the other
-some_way : (u v : ℕ) (face : List ℕ) → u < v → has_side (u, v) face ≡ true →
-    (runs (u, v) face ≡ true) ⊎ (runs (v, u) face ≡ true)
-some_way u v face lt h =
-    let r = list_any_at (λ s. pair_eq (u, v) (pair_of s)) (sides face) (0, 0) h in
-    let s = get_or (sides face) r.0 (0, 0) in
-    let is : (u, v) ≡ pair_of s = pair_eq-true (u, v) (pair_of s) r.2 in
-    elim (cases_lt s.0 s.1) [
-      | inl x ↦ let as_is : (u, v) ≡ s = rw (lt-ltb s.0 s.1 x) at is in
-          inl (list_any_from (pair_eq (u, v)) (sides face) (0, 0) r.0 r.1 (pair_eq-same (u, v) s as_is))
-      | inr x ↦
-          let turned : (u, v) ≡ (s.1, s.0) = rw (le-ltb s.0 s.1 x) at is in
-          inr (list_any_from (pair_eq (v, u)) (sides face) (0, 0) r.0 r.1
-          (pair_eq-same (v, u) s
-          (pair_same (v, u) s (ap (λ (q : ℕ × ℕ). q.1) turned) (ap (λ (q : ℕ × ℕ). q.0) turned))))
-    ]
+use Rattle.surf_surfaces.proofs.RunLaws.{runs_side, one_way, some_way}
 
 runs_back : (n : ℕ) (face : List ℕ) → IsFace n face → (p : ℕ × ℕ) → p.0 < p.1 → has_side p face ≡ true →
     runs (p.1, p.0) face ≡ not (runs p face)
 runs_back n face h p lt has = elim (cases_Bool (runs p face)) [
   | inl e ↦ false_from_ne_true (runs (p.1, p.0) face) (λ back. one_way n face h p.0 p.1 (λ same. omega arith) e back) ∙
       ap not (sym e)
-  | inr e ↦ elim (some_way p.0 p.1 face lt has) [ inl x ↦ absurd (true≢false (sym x ∙ e)) | inr x ↦ x ∙ ap not (sym e) ]
+  | inr e ↦ elim (some_way p.0 p.1 face (rw (lt-ltb p.0 p.1 lt) has)) [ inl x ↦ absurd (true≢false (sym x ∙ e)) | inr x ↦ x ∙ ap not (sym e) ]
 ]
 
 pub turned_is : (mesh : Mesh) (n : ℕ) (turned : ℕ → Bool) (f : ℕ) → IsFace n (face_at mesh f) → (p : ℕ × ℕ) →

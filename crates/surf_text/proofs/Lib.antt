@@ -1,4 +1,4 @@
-mod First
+pub mod First
 pub mod Cuts
 mod Digits
 pub mod Words

@@ -107,6 +107,12 @@ impl Page {
         Ok(())
     }
 
+    /// What a page keeps: it holds no more than its bound. A caller whose proof rests on that calls
+    /// it; it does nothing.
+    pub fn law_of_page(&self)
+        ensures fits { length self.now.bytes ≤ self.now.most }
+    {}
+
     /// What it holds.
     pub fn bytes(&self) -> &[u8]
         ensures bytes { result.now ≡ self.now.bytes }

@@ -7,7 +7,8 @@ use Rattle.surf_surfaces.specs.Mesh.{Mesh, pair}
 use Rattle.surf_surfaces.specs.Surface.{face_count, face_at, has_side, HasCorner, HasEdge, Share, ShareAt, IsConnected, IsSurface}
 use Rattle.surf_surfaces.proofs.JoinedLaws.{joined_trans, joined_sym, joined_lift}
 use Rattle.surf_tori.specs.Coherent.{Runs, IsCoherent}
-use Rattle.surf_tori.proofs.CoherentLaws.{some_way, coherent_edges_have_two_faces}
+use Rattle.surf_surfaces.proofs.RunLaws.{some_way}
+use Rattle.surf_tori.proofs.CoherentLaws.{coherent_edges_have_two_faces}
 use Rattle.surf_tori.proofs.LinkLaws.{KeptShareAt, KeptShare, HasKeptFans, kept_share_at_turned, edge_out, edge_back, share_in_out}
 use Rattle.surf_tori.proofs.RenamedLaws.{joined_map, corner_of_renamed, corner_renamed, run_corners, run_face, across}
 use Rattle.surf_tori.proofs.TriangleLaws.{corner_of}

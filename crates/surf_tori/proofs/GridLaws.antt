@@ -8,8 +8,9 @@ use Rattle.surf_surfaces.specs.Mesh.{Mesh, IsFace, pair_of}
 use Rattle.surf_surfaces.specs.Surface.{face_count, face_at}
 use Rattle.surf_surfaces.proofs.SurfaceLaws.{has_side-face}
 use Rattle.surf_tori.specs.Coherent.{Runs, IsCoherent}
-use Rattle.surf_tori.proofs.CoherentLaws.{runs_side}
-use Rattle.surf_tori.proofs.TriangleLaws.{triangle, run_of, runs_first, runs_second, runs_third}
+use Rattle.surf_surfaces.proofs.RunLaws.{runs_side}
+use Rattle.surf_surfaces.proofs.SmallFaces.{triangle}
+use Rattle.surf_tori.proofs.TriangleLaws.{run_of, runs_first, runs_second, runs_third}
 
 -- going round n places, at least three, forwards and backwards
 pub record IsRound (n : ℕ) (next prev : ℕ → ℕ) : Type 0 where

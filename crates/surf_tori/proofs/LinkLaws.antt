@@ -7,7 +7,7 @@ use Rattle.surf_surfaces.proofs.FaceLaws.{pair_comm}
 use Rattle.surf_surfaces.proofs.JoinedLaws.{joined_trans, joined_sym}
 use Rattle.surf_surfaces.proofs.SurfaceLaws.{has_side-face}
 use Rattle.surf_tori.specs.Coherent.{Runs}
-use Rattle.surf_tori.proofs.CoherentLaws.{runs_side}
+use Rattle.surf_surfaces.proofs.RunLaws.{runs_side}
 
 abbrev pub Linked : (ℕ → ℕ → Type 0) → List ℕ → Type 0
 Linked R [] = Unit {0}

@@ -14,7 +14,7 @@ use Rattle.surf_surfaces.proofs.FaceLaws.{IsStepBelow, face_steps}
 use Rattle.surf_surfaces.proofs.SideLaws.{sides_are_by_place, after-below}
 use Rattle.surf_surfaces.proofs.SurfaceLaws.{has_side-face}
 use Rattle.surf_tori.specs.Coherent.{Runs, IsCoherent}
-use Rattle.surf_tori.proofs.CoherentLaws.{runs_side, one_way, some_way}
+use Rattle.surf_surfaces.proofs.RunLaws.{runs_side, one_way, some_way}
 
 pub joined_map : {R S : ℕ → ℕ → Type 0} (f : ℕ → ℕ) {a b : ℕ} → ((x y : ℕ) → R x y → S (f x) (f y)) → Joined R a b →
     Joined S (f a) (f b)

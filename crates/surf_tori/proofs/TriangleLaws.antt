@@ -6,24 +6,6 @@ use Rattle.surf_surfaces.specs.Mesh.{IsFace, pair_eq}
 use Rattle.surf_surfaces.specs.Surface.{runs}
 use Rattle.surf_surfaces.proofs.PairLaws.{pair_eq-true, pair_eq-self}
 
--- three different vertices are a face
-three_differ : (a b c : ℕ) → a ≢ b → a ≢ c → b ≢ c → AllPairs (λ u v. u ≢ v) (a ∷ b ∷ c ∷ [])
-three_differ a b c x y z i zero d lt in' = absurd (omega arith)
-three_differ a b c x y z zero (suc zero) d lt in' = x
-three_differ a b c x y z zero (suc (suc zero)) d lt in' = y
-three_differ a b c x y z (suc zero) (suc zero) d lt in' = absurd (omega arith)
-three_differ a b c x y z (suc zero) (suc (suc zero)) d lt in' = z
-three_differ a b c x y z (suc (suc i)) (suc zero) d lt in' = absurd (omega arith)
-three_differ a b c x y z (suc (suc i)) (suc (suc zero)) d lt in' = absurd (omega arith)
-three_differ a b c x y z i (suc (suc (suc j))) d lt in' = absurd (omega arith)
-
-pub triangle : (n a b c : ℕ) → a ≢ b → a ≢ c → b ≢ c → a < n → b < n → c < n → IsFace n (a ∷ b ∷ c ∷ [])
-triangle n a b c x y z i j k = record {
-  large = omega arith;
-  distinct = three_differ a b c x y z;
-  inside = All-from_recursion (λ v. v < n) (a ∷ b ∷ c ∷ []) (i, (j, (k, tt)));
-}
-
 -- one of three
 abbrev pub OneOf : ℕ → ℕ → ℕ → ℕ → Type 0
 OneOf v x y z = (v ≡ x) ⊎ ((v ≡ y) ⊎ (v ≡ z))

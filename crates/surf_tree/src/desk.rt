@@ -73,8 +73,8 @@ impl TreeDesk {
         requires lengths { length lengths.now ≡ edge_count mesh.now }
         ensures grown { IsGrown mesh.now lengths.now base self.new }
     {
-        let _surface = mesh.faces();
-        let _lengths = lengths.count();
+        mesh.law_of_surface();
+        lengths.law_of_lengths();
         let network = MeshNetwork { mesh, lengths };
         settle(&network, &mut self.distance, &mut self.heap, base.number());
         set_parents(&network, &self.distance, &mut self.parent, &mut self.up);

@@ -6,35 +6,20 @@ use Rattle.surf_surfaces.specs.Joined.{Joined, here, over}
 use Rattle.surf_surfaces.specs.Mesh.{IsMesh, IsFace, pair, steps, characteristic}
 use Rattle.surf_surfaces.specs.Surface.{ends, faces_with, HasCorner, HasEdge, ShareAt, Share, HasOneFan, IsSurface, IsTurning}
 use Rattle.surf_surfaces.specs.Turning.{IsOneSided}
-use Rattle.surf_surfaces.proofs.FaceLaws.{Distinct}
+use Rattle.surf_surfaces.proofs.SmallFaces.{square}
 use Rattle.surf_surfaces.proofs.FanLaws.{listed_faces_are_fan}
 use Rattle.surf_turnings.specs.Examples.{half_cube, half_cube_chain, five_torus}
 use Rattle.surf_turnings.specs.Statements.{genus_of}
 
-pub pairs_differ : (xs : List ℕ) → Distinct xs → AllPairs (λ u v. u ≢ v) xs
-pairs_differ [] h i j d lt in' = absurd (omega arith)
-pairs_differ (x ∷ xs) h i zero d lt in' = absurd (omega arith)
-pairs_differ (x ∷ xs) h zero (suc j) d lt in' = All-from_recursion (λ w. x ≢ w) xs h.0 j d (omega arith)
-pairs_differ (x ∷ xs) h (suc i) (suc j) d lt in' = pairs_differ xs h.1 i j d (omega arith) (omega arith)
-
--- a square through all of four vertices
-square : (a b c d : ℕ) → a ≢ b → a ≢ c → a ≢ d → b ≢ c → b ≢ d → c ≢ d → a < 4 → b < 4 → c < 4 → d < 4 →
-    IsFace 4 (a ∷ b ∷ c ∷ d ∷ [])
-square a b c d ab ac ad bc bd cd la lb lc ld = record {
-  large = omega arith;
-  distinct = pairs_differ (a ∷ b ∷ c ∷ d ∷ []) ((ab, (ac, (ad, tt))), ((bc, (bd, tt)), ((cd, tt), (tt, tt))));
-  inside = All-from_recursion (λ v. v < 4) (a ∷ b ∷ c ∷ d ∷ []) (la, (lb, (lc, (ld, tt))));
-}
-
 is_mesh : IsMesh half_cube
 is_mesh = All-from_recursion (IsFace 4) half_cube.faces (
-  square 0 1 2 3 (omega arith) (omega arith) (omega arith) (omega arith) (omega arith) (omega arith) (omega arith)
+  square 4 0 1 2 3 (omega arith) (omega arith) (omega arith) (omega arith) (omega arith) (omega arith) (omega arith)
       (omega arith) (omega arith) (omega arith),
   (
-    square 0 1 3 2 (omega arith) (omega arith) (omega arith) (omega arith) (omega arith) (omega arith) (omega arith)
+    square 4 0 1 3 2 (omega arith) (omega arith) (omega arith) (omega arith) (omega arith) (omega arith) (omega arith)
         (omega arith) (omega arith) (omega arith),
     (
-      square 0 2 1 3 (omega arith) (omega arith) (omega arith) (omega arith) (omega arith) (omega arith) (omega arith)
+      square 4 0 2 1 3 (omega arith) (omega arith) (omega arith) (omega arith) (omega arith) (omega arith) (omega arith)
           (omega arith) (omega arith) (omega arith),
       tt,
     ),

@@ -9,6 +9,7 @@ use Rattle.surf_surfaces.specs.Mesh.{Mesh, characteristic}
 use Rattle.surf_surfaces.specs.Surface.{face_count, edge_count, IsSurface}
 use Rattle.surf_surfaces.specs.Cells.{cells_of}
 use Rattle.surf_surfaces.proofs.ClassLaws.{some_split}
+use Rattle.surf_surfaces.proofs.EulerSums.{less_two}
 use Rattle.surf_turnings.specs.Statements.{CountsAreEven, SurfacesHaveSplits, CharacteristicsAreAtMostTwo, CountsAreAtMostTwoMore, genus_of, GenusIsHalf, GenusIsFullCount, LeftEdgesAreTwiceGenus, ConnectedGraphsHaveTrees}
 use Rattle.surf_turnings.proofs.VertexLaws.{total_even}
 
@@ -24,18 +25,6 @@ counts_are_at_most_two_more mesh surface =
     let count : length d.left + (mesh.vertices + face_count mesh) ≡ edge_count mesh + 2 =
     left_edges (cells_of mesh) d split in
     omega arith
-
--- vertices less edges and more faces, where these are d less than edges and 2
-less_two : (v e f d : ℕ) → d + (v + f) ≡ e + 2 → ((pos v -ℤ pos e) +ℤ pos f) +ℤ pos d ≡ pos 2
-less_two v e f d count =
-    let all : v + (f + d) ≡ 2 + e = omega arith in
-    +ℤ_assoc (pos v -ℤ pos e) (pos f) (pos d)
-    ∙ ap (λ x. (pos v -ℤ pos e) +ℤ x) (pos-+ℤ-pos f d)
-    ∙ +ℤ_assoc (pos v) (neg_ℤ (pos e)) (pos (f + d))
-    ∙ ap (λ x. pos v +ℤ x) (+ℤ_comm (neg_ℤ (pos e)) (pos (f + d)))
-    ∙ sym (+ℤ_assoc (pos v) (pos (f + d)) (neg_ℤ (pos e)))
-    ∙ ap (λ x. x -ℤ pos e) (pos-+ℤ-pos v (f + d) ∙ ap pos all ∙ sym (pos-+ℤ-pos 2 e))
-    ∙ +ℤ-neg_ℤ_cancel (pos 2) (pos e)
 
 -- 2 less more than 2
 below_zero : (d : ℕ) → pos 2 -ℤ pos (suc (suc (suc d))) ≡ negsuc (suc (suc (suc d)) - 3)

@@ -7,32 +7,24 @@ use Rattle.surf_surfaces.specs.Joined.{here, over}
 use Rattle.surf_surfaces.specs.Mesh.{IsMesh, IsFace, steps}
 use Rattle.surf_surfaces.specs.Surface.{ends, face_at, faces_with, HasCorner, ShareAt, HasOneFan, IsConnected, IsSurface}
 use Rattle.surf_surfaces.proofs.FanLaws.{listed_faces_are_fan}
+use Rattle.surf_surfaces.proofs.SmallFaces.{square}
 use Rattle.surf_turnings.specs.Examples.{five_torus}
-use Rattle.surf_turnings.proofs.ExampleLaws.{pairs_differ}
-
-square : (a b c d : ℕ) → a ≢ b → a ≢ c → a ≢ d → b ≢ c → b ≢ d → c ≢ d → a < 5 → b < 5 → c < 5 → d < 5 →
-    IsFace 5 (a ∷ b ∷ c ∷ d ∷ [])
-square a b c d ab ac ad bc bd cd la lb lc ld = record {
-  large = omega arith;
-  distinct = pairs_differ (a ∷ b ∷ c ∷ d ∷ []) ((ab, (ac, (ad, tt))), ((bc, (bd, tt)), ((cd, tt), (tt, tt))));
-  inside = All-from_recursion (λ v. v < 5) (a ∷ b ∷ c ∷ d ∷ []) (la, (lb, (lc, (ld, tt))));
-}
 
 is_mesh : IsMesh five_torus
 is_mesh = All-from_recursion (IsFace 5) five_torus.faces (
-  square 0 1 3 2 (omega arith) (omega arith) (omega arith) (omega arith) (omega arith) (omega arith) (omega arith)
+  square 5 0 1 3 2 (omega arith) (omega arith) (omega arith) (omega arith) (omega arith) (omega arith) (omega arith)
       (omega arith) (omega arith) (omega arith),
   (
-    square 1 2 4 3 (omega arith) (omega arith) (omega arith) (omega arith) (omega arith) (omega arith) (omega arith)
+    square 5 1 2 4 3 (omega arith) (omega arith) (omega arith) (omega arith) (omega arith) (omega arith) (omega arith)
         (omega arith) (omega arith) (omega arith),
     (
-      square 2 3 0 4 (omega arith) (omega arith) (omega arith) (omega arith) (omega arith) (omega arith) (omega arith)
+      square 5 2 3 0 4 (omega arith) (omega arith) (omega arith) (omega arith) (omega arith) (omega arith) (omega arith)
           (omega arith) (omega arith) (omega arith),
       (
-        square 3 4 1 0 (omega arith) (omega arith) (omega arith) (omega arith) (omega arith) (omega arith) (omega arith)
+        square 5 3 4 1 0 (omega arith) (omega arith) (omega arith) (omega arith) (omega arith) (omega arith) (omega arith)
             (omega arith) (omega arith) (omega arith),
         (
-          square 4 0 2 1 (omega arith) (omega arith) (omega arith) (omega arith) (omega arith) (omega arith) (omega arith)
+          square 5 4 0 2 1 (omega arith) (omega arith) (omega arith) (omega arith) (omega arith) (omega arith) (omega arith)
               (omega arith) (omega arith) (omega arith),
           tt,
         ),

@@ -13,12 +13,12 @@ pub loop-base-init : goal.loop-base-init
 loop-base-init c =
     let mesh = c.args.surface.now.mesh.now in
     let lengths = c.args.surface.now.lengths.now in
-    let positive = lengths_positive mesh lengths c.count-lengths.ensures.lengths c.requires.lengths in
+    let positive = lengths_positive mesh lengths c.law_of_lengths.ensures.lengths c.requires.lengths in
     record {
       made = c.requires.made;
       width = refl;
       kept = λ trees chosen d split are.
-          none_kept mesh lengths trees c.faces-surface.ensures.surface positive chosen d split c.args.bases.now c.args.choice.now.kept c.requires.none;
+          none_kept mesh lengths trees c.law_of_surface.ensures.surface positive chosen d split c.args.bases.now c.args.choice.now.kept c.requires.none;
     }
 
 pub greedy-requires-clause-base : goal.greedy-requires-clause-base
@@ -31,8 +31,8 @@ pub signed_loops-requires-clause-climbed : goal.signed_loops-requires-clause-cli
 signed_loops-requires-clause-climbed c =
     let mesh = c.args.surface.now.mesh.now in
     let lengths = c.args.surface.now.lengths.now in
-    let positive = lengths_positive mesh lengths c.count-lengths.ensures.lengths c.requires.lengths in
-    greedy_climbed mesh lengths c.base-item.result c.greedy.new.self c.faces-surface.ensures.surface positive c.greedy.ensures.greedy
+    let positive = lengths_positive mesh lengths c.law_of_lengths.ensures.lengths c.requires.lengths in
+    greedy_climbed mesh lengths c.base-item.result c.greedy.new.self c.law_of_surface.ensures.surface positive c.greedy.ensures.greedy
 
 pub signed_loops-requires-clause-edges : goal.signed_loops-requires-clause-edges
 signed_loops-requires-clause-edges c =
@@ -58,8 +58,8 @@ pub loop-base-preserved : goal.loop-base-preserved
 loop-base-preserved c =
     let mesh = c.args.surface.now.mesh.now in
     let lengths = c.args.surface.now.lengths.now in
-    let surface = c.faces-surface.ensures.surface in
-    let positive = lengths_positive mesh lengths c.count-lengths.ensures.lengths c.requires.lengths in
+    let surface = c.law_of_surface.ensures.surface in
+    let positive = lengths_positive mesh lengths c.law_of_lengths.ensures.lengths c.requires.lengths in
     let t = c.greedy.new.self in
     let g = c.greedy.ensures.greedy in
     let x = c.base-item.result in

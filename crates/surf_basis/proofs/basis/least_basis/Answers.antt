@@ -18,16 +18,16 @@ pub returns-then-count-eq0-clause-chosen : goal.returns-then-count-eq0-clause-ch
 returns-then-count-eq0-clause-chosen c =
     let mesh = c.args.mesh.now in
     let lengths = c.args.lengths.now in
-    let positive = lengths_positive mesh lengths c.count-lengths.ensures.lengths c.requires.lengths in
+    let positive = lengths_positive mesh lengths c.law_of_lengths.ensures.lengths c.requires.lengths in
     let full = left_count mesh c.in_ok-signed.signed.cotree c.cotree.result.now c.left-count.result.now c.in_ok-signed.ensures.full c.cotree.ensures.cotree c.left-count.ensures.left in
-    none_basis mesh lengths c.faces-surface.ensures.surface positive c.new.result.items c.new.ensures.items (subst (IsFullCount mesh) c.if-count-eq0.true full)
+    none_basis mesh lengths c.law_of_surface.ensures.surface positive c.new.result.items c.new.ensures.items (subst (IsFullCount mesh) c.if-count-eq0.true full)
 
 pub returns-then-count-eq0-clause-least : goal.returns-then-count-eq0-clause-least
 returns-then-count-eq0-clause-least c =
     let mesh = c.args.mesh.now in
     let lengths = c.args.lengths.now in
-    let positive = lengths_positive mesh lengths c.count-lengths.ensures.lengths c.requires.lengths in
-    least_of mesh lengths c.faces-surface.ensures.surface positive (as_loops c.new.result.items) (returns-then-count-eq0-clause-chosen c)
+    let positive = lengths_positive mesh lengths c.law_of_lengths.ensures.lengths c.requires.lengths in
+    least_of mesh lengths c.law_of_surface.ensures.surface positive (as_loops c.new.result.items) (returns-then-count-eq0-clause-chosen c)
 
 pub sufficient_bases-requires-clause-signed : goal.sufficient_bases-requires-clause-signed
 sufficient_bases-requires-clause-signed c =
@@ -52,18 +52,18 @@ pub cycles_of-requires-clause-inside : goal.cycles_of-requires-clause-inside
 cycles_of-requires-clause-inside c =
     let mesh = c.args.mesh.now in
     let lengths = c.args.lengths.now in
-    let positive = lengths_positive mesh lengths c.count-lengths.ensures.lengths c.requires.lengths in
+    let positive = lengths_positive mesh lengths c.law_of_lengths.ensures.lengths c.requires.lengths in
     let signed = still_signed mesh c.in_ok-signed.signed.cotree c.cotree.result.now c.cotree-2.result.now c.left-count.result.now c.in_ok-signed.ensures.signed
     c.cotree.ensures.cotree c.left-count.ensures.left c.cotree-2.ensures.cotree in
-    all_inside mesh lengths c.faces-surface.ensures.surface positive c.cotree-2.result.now (length c.left-count.result.now) signed c.deref.result.now
+    all_inside mesh lengths c.law_of_surface.ensures.surface positive c.cotree-2.result.now (length c.left-count.result.now) signed c.deref.result.now
     c.choose.new.choice.kept c.kept.result.now c.in_ok-choose.ensures.kept c.kept.ensures.kept
 
 pub returns-clause-chosen : goal.returns-clause-chosen
 returns-clause-chosen c =
     let mesh = c.args.mesh.now in
     let lengths = c.args.lengths.now in
-    let surface = c.faces-surface.ensures.surface in
-    let positive = lengths_positive mesh lengths c.count-lengths.ensures.lengths c.requires.lengths in
+    let surface = c.law_of_surface.ensures.surface in
+    let positive = lengths_positive mesh lengths c.law_of_lengths.ensures.lengths c.requires.lengths in
     let kept = c.kept.result.now in
     let signed = still_signed mesh c.in_ok-signed.signed.cotree c.cotree.result.now c.cotree-2.result.now c.left-count.result.now c.in_ok-signed.ensures.signed
     c.cotree.ensures.cotree c.left-count.ensures.left c.cotree-2.ensures.cotree in
@@ -78,37 +78,37 @@ pub returns-clause-least : goal.returns-clause-least
 returns-clause-least c =
     let mesh = c.args.mesh.now in
     let lengths = c.args.lengths.now in
-    let positive = lengths_positive mesh lengths c.count-lengths.ensures.lengths c.requires.lengths in
+    let positive = lengths_positive mesh lengths c.law_of_lengths.ensures.lengths c.requires.lengths in
     IfOk-weaker c.cycles_of.result (λ cycles. IsTheBasis mesh lengths (as_loops cycles.items)) (λ cycles. LeastSimpleBasis mesh lengths (as_loops cycles.items))
-    (λ cycles is. least_of mesh lengths c.faces-surface.ensures.surface positive (as_loops cycles.items) is) (returns-clause-chosen c)
+    (λ cycles is. least_of mesh lengths c.law_of_surface.ensures.surface positive (as_loops cycles.items) is) (returns-clause-chosen c)
 
 pub returns-then-count-eq0-clause-first : goal.returns-then-count-eq0-clause-first
 returns-then-count-eq0-clause-first c =
     let mesh = c.args.mesh.now in
     let lengths = c.args.lengths.now in
-    let positive = lengths_positive mesh lengths c.count-lengths.ensures.lengths c.requires.lengths in
-    basis_first mesh lengths c.faces-surface.ensures.surface positive c.new.result.items (returns-then-count-eq0-clause-chosen c)
+    let positive = lengths_positive mesh lengths c.law_of_lengths.ensures.lengths c.requires.lengths in
+    basis_first mesh lengths c.law_of_surface.ensures.surface positive c.new.result.items (returns-then-count-eq0-clause-chosen c)
 
 pub returns-then-count-eq0-clause-shortest : goal.returns-then-count-eq0-clause-shortest
 returns-then-count-eq0-clause-shortest c =
     let mesh = c.args.mesh.now in
     let lengths = c.args.lengths.now in
-    let positive = lengths_positive mesh lengths c.count-lengths.ensures.lengths c.requires.lengths in
-    first_shortest mesh lengths c.faces-surface.ensures.surface positive (first_of c.new.result.items) (returns-then-count-eq0-clause-first c)
+    let positive = lengths_positive mesh lengths c.law_of_lengths.ensures.lengths c.requires.lengths in
+    first_shortest mesh lengths c.law_of_surface.ensures.surface positive (first_of c.new.result.items) (returns-then-count-eq0-clause-first c)
 
 pub returns-clause-first : goal.returns-clause-first
 returns-clause-first c =
     let mesh = c.args.mesh.now in
     let lengths = c.args.lengths.now in
-    let positive = lengths_positive mesh lengths c.count-lengths.ensures.lengths c.requires.lengths in
+    let positive = lengths_positive mesh lengths c.law_of_lengths.ensures.lengths c.requires.lengths in
     IfOk-weaker c.cycles_of.result (λ cycles. IsTheBasis mesh lengths (as_loops cycles.items)) (λ cycles. IsFirstCandidate mesh lengths (first_of cycles.items))
-    (λ cycles is. basis_first mesh lengths c.faces-surface.ensures.surface positive cycles.items is) (returns-clause-chosen c)
+    (λ cycles is. basis_first mesh lengths c.law_of_surface.ensures.surface positive cycles.items is) (returns-clause-chosen c)
 
 pub returns-clause-shortest : goal.returns-clause-shortest
 returns-clause-shortest c =
     let mesh = c.args.mesh.now in
     let lengths = c.args.lengths.now in
-    let positive = lengths_positive mesh lengths c.count-lengths.ensures.lengths c.requires.lengths in
+    let positive = lengths_positive mesh lengths c.law_of_lengths.ensures.lengths c.requires.lengths in
     IfOk-weaker c.cycles_of.result (λ cycles. IsFirstCandidate mesh lengths (first_of cycles.items))
     (λ cycles. IfSome (first_of cycles.items) (λ cycle. IsShortestCycle mesh lengths cycle))
-    (λ cycles is. first_shortest mesh lengths c.faces-surface.ensures.surface positive (first_of cycles.items) is) (returns-clause-first c)
+    (λ cycles is. first_shortest mesh lengths c.law_of_surface.ensures.surface positive (first_of cycles.items) is) (returns-clause-first c)

@@ -11,16 +11,16 @@ use Rattle.surf_basis.proofs.Certified.{the_cert, valid_cert, fitting_cert}
 use Rattle.surf_basis.proofs.cert.basis_cert.Goals as goal
 
 pub greedy-requires-clause-base : goal.greedy-requires-clause-base
-greedy-requires-clause-base c = subst (λ n. n < c.args.mesh.now.vertices) (sym c.new.ensures) (some_vertex c.args.mesh.now c.faces-faces.ensures.surface)
+greedy-requires-clause-base c = subst (λ n. n < c.args.mesh.now.vertices) (sym c.new.ensures) (some_vertex c.args.mesh.now c.law_of_surface.ensures.surface)
 
 pub returns : goal.returns
 returns c =
     let mesh = c.args.mesh.now in
     let lengths = c.args.lengths.now in
-    let surface = c.faces-faces.ensures.surface in
-    let positive = lengths_positive mesh lengths c.count-lengths.ensures.lengths c.requires.lengths in
-    let numbers = numbers_fit mesh lengths (omega (arith, c.vertices-vertices.type_inv, c.vertices-vertices.ensures.count)) (omega (arith, c.faces-faces.type_inv, c.faces-faces.ensures.count))
-    (omega (arith, c.count-lengths.type_inv, c.count-lengths.ensures.count)) c.requires.lengths c.count-lengths.ensures.lengths in
+    let surface = c.law_of_surface.ensures.surface in
+    let positive = lengths_positive mesh lengths c.law_of_lengths.ensures.lengths c.requires.lengths in
+    let numbers = numbers_fit mesh lengths (omega (arith, c.law_of_surface.ensures.vertices)) (omega (arith, c.law_of_surface.ensures.faces))
+    (omega (arith, c.law_of_lengths.ensures.few)) c.requires.lengths c.law_of_lengths.ensures.lengths in
     let t = c.greedy.new.self in
     let g = subst (λ b. IsGreedy mesh lengths b t) c.new.ensures c.greedy.ensures.greedy in
     let is = the_cert mesh lengths surface positive t (as_loops c.in_ok-basis.basis.items) c.make-2.result c.in_ok-trees.trees.items c.in_ok-dual.dual c.in_ok-left.left.items

@@ -13,7 +13,7 @@ pub mark_one-requires : goal.mark_one-requires
 mark_one-requires c =
     let mesh = c.args.mesh.now in
     let e_in : c.new-edge.result < edge_count mesh = omega (arith, c.new-edge.ensures, c.loop-e-test.true, c.edges-e-end.ensures.count) in
-    let inside = ends_in mesh c.faces-surface.ensures.surface c.new-edge.result e_in in
+    let inside = ends_in mesh c.law_of_surface.ensures.surface c.new-edge.result e_in in
     let low = subst (λ (p : ℕ × ℕ). p.0 < mesh.vertices) (sym c.ends-low.ensures) inside.0 in
     let high = subst (λ (p : ℕ × ℕ). p.1 < mesh.vertices) (sym c.ends-low.ensures) inside.1 in
     record { inside = (omega (arith, low, c.loop-e.invariant.count), omega (arith, high, c.loop-e.invariant.count)) }

@@ -21,13 +21,13 @@ returns c =
     let mesh = c.args.surface.now.mesh.now in
     let lengths = c.args.surface.now.lengths.now in
     let s = c.args.surface.now.signatures.now in
-    let positive = lengths_positive mesh lengths c.count-lengths.ensures.lengths c.requires.lengths in
+    let positive = lengths_positive mesh lengths c.law_of_lengths.ensures.lengths c.requires.lengths in
     let ends : HasSignedEnds mesh s c.deref.result.now =
     subst (λ (xs : List ℕ). HasSignedEnds mesh s xs) (sym c.deref.ensures.value) c.in_ok-vertices.ensures.ends in
     record {
       first = IfOk-weaker c.first_found.result
           (IsFirstAmong c.in_ok-finder.finder.mesh c.in_ok-finder.finder.lengths c.in_ok-finder.finder.signs c.deref.result.now) (IsFirstPlace mesh lengths)
-          (λ first h. first_placed mesh lengths c.faces-surface.ensures.surface positive s c.args.count c.requires.signed c.deref.result.now ends first
+          (λ first h. first_placed mesh lengths c.law_of_surface.ensures.surface positive s c.args.count c.requires.signed c.deref.result.now ends first
           (subst (λ (f : SurfaceTables). IsFirstAmong f.mesh f.lengths f.signs c.deref.result.now first) c.in_ok-finder.ensures.made h))
           c.first_found.ensures.first;
     }

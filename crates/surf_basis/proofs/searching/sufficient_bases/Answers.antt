@@ -23,13 +23,13 @@ bases_of-requires c =
     let mesh = c.args.surface.now.mesh.now in
     let lengths = c.args.surface.now.lengths.now in
     let s = c.args.surface.now.signatures.now in
-    let positive = lengths_positive mesh lengths c.count-lengths.ensures.lengths c.requires.lengths in
+    let positive = lengths_positive mesh lengths c.law_of_lengths.ensures.lengths c.requires.lengths in
     let kept : AreKeptFrom mesh lengths s c.deref.result.now c.keep_found.new.choice =
     subst (λ (f : SurfaceTables). AreKeptFrom f.mesh f.lengths f.signs c.deref.result.now c.keep_found.new.choice) c.in_ok-finder.ensures.made
     c.in_ok-keep_found.ensures.kept in
     record {
       inside = subst (λ ks. All (λ k. k.candidate.base < mesh.vertices) ks) (sym c.kept.ensures.kept)
-          (bases_inside mesh lengths c.faces-surface.ensures.surface positive s c.args.count c.requires.signed c.deref.result.now c.keep_found.new.choice kept);
+          (bases_inside mesh lengths c.law_of_surface.ensures.surface positive s c.args.count c.requires.signed c.deref.result.now c.keep_found.new.choice kept);
     }
 
 pub returns-clause-bases : goal.returns-clause-bases
@@ -37,7 +37,7 @@ returns-clause-bases c =
     let mesh = c.args.surface.now.mesh.now in
     let lengths = c.args.surface.now.lengths.now in
     let s = c.args.surface.now.signatures.now in
-    let positive = lengths_positive mesh lengths c.count-lengths.ensures.lengths c.requires.lengths in
+    let positive = lengths_positive mesh lengths c.law_of_lengths.ensures.lengths c.requires.lengths in
     let choice = c.keep_found.new.choice in
     let kept : AreKeptFrom mesh lengths s c.deref.result.now choice =
     subst (λ (f : SurfaceTables). AreKeptFrom f.mesh f.lengths f.signs c.deref.result.now choice) c.in_ok-finder.ensures.made
@@ -47,6 +47,6 @@ returns-clause-bases c =
     let wide : choice.width ≡ c.args.count = omega (arith, c.keep_found.ensures.width, ap (λ (k : Chosen). k.width) c.in_ok-choice.ensures) in
     let full : IsFullCount mesh choice.width = subst (IsFullCount mesh) (sym wide) c.requires.full in
     IfOk-weaker c.bases_of.result (λ list. HasBases list.items c.kept.result.now) (λ list. HaveBasesOfBasis mesh lengths list.items)
-    (λ list has. bases_enough mesh lengths c.faces-surface.ensures.surface positive s c.args.count c.requires.signed c.deref.result.now choice ends kept
+    (λ list has. bases_enough mesh lengths c.law_of_surface.ensures.surface positive s c.args.count c.requires.signed c.deref.result.now choice ends kept
     c.kept.ensures.few full list.items (subst (HasBases list.items) c.kept.ensures.kept has))
     c.bases_of.ensures.bases

@@ -9,8 +9,8 @@ pub first_at-requires-clause-base : goal.first_at-requires-clause-base
 first_at-requires-clause-base c =
     let mesh = c.args.surface.now.mesh.now in
     let lengths = c.args.surface.now.lengths.now in
-    let positive = lengths_positive mesh lengths c.count-lengths.ensures.lengths c.requires.lengths in
-    place_inside mesh lengths c.faces-surface.ensures.surface positive c.in-Some.place
+    let positive = lengths_positive mesh lengths c.law_of_lengths.ensures.lengths c.requires.lengths in
+    place_inside mesh lengths c.law_of_surface.ensures.surface positive c.in-Some.place
     (subst (IsFirstPlace mesh lengths) c.in-Some.is c.in_ok-place.ensures.first)
 
 pub returns-clause-first : goal.returns-clause-first

@@ -6,7 +6,7 @@ use Rattle.surf_basis.proofs.Whole.{left_full, desk_signed}
 use Rattle.surf_basis.proofs.signing.signed_desk.Goals as goal
 
 pub greedy-requires-clause-base : goal.greedy-requires-clause-base
-greedy-requires-clause-base c = subst (λ n. n < c.args.mesh.now.vertices) (sym c.new.ensures) (some_vertex c.args.mesh.now c.faces-surface.ensures.surface)
+greedy-requires-clause-base c = subst (λ n. n < c.args.mesh.now.vertices) (sym c.new.ensures) (some_vertex c.args.mesh.now c.law_of_surface.ensures.surface)
 
 pub returns-clause-signed : goal.returns-clause-signed
 returns-clause-signed c =

@@ -12,15 +12,15 @@ pub walk-requires-clause-rooted : goal.walk-requires-clause-rooted
 walk-requires-clause-rooted c =
     let mesh = c.args.mesh.now in
     let lengths = c.args.lengths.now in
-    let positive = lengths_positive mesh lengths c.count-lengths.ensures.lengths c.requires.lengths in
-    grown_rooted mesh lengths c.args.candidate.base c.grow_tree.new.self.tree c.faces-surface.ensures.surface positive c.grow_tree.ensures.tree
+    let positive = lengths_positive mesh lengths c.law_of_lengths.ensures.lengths c.requires.lengths in
+    grown_rooted mesh lengths c.args.candidate.base c.grow_tree.new.self.tree c.law_of_surface.ensures.surface positive c.grow_tree.ensures.tree
 
 pub returns-clause-cycle : goal.returns-clause-cycle
 returns-clause-cycle c =
     let mesh = c.args.mesh.now in
     let lengths = c.args.lengths.now in
-    let surface = c.faces-surface.ensures.surface in
-    let positive = lengths_positive mesh lengths c.count-lengths.ensures.lengths c.requires.lengths in
+    let surface = c.law_of_surface.ensures.surface in
+    let positive = lengths_positive mesh lengths c.law_of_lengths.ensures.lengths c.requires.lengths in
     let base = c.args.candidate.base in
     let tree = tree_of c.grow_tree.new.self.tree in
     let short = c.grow_tree.ensures.tree.shortest in

@@ -7,19 +7,19 @@ pub returns-clause-least : goal.returns-clause-least
 returns-clause-least c =
     let mesh = c.args.mesh.now in
     let lengths = c.args.lengths.now in
-    least_where_ok mesh lengths c.args.cert.now c.edges-surface.ensures.surface
-    (lengths_positive mesh lengths c.count-positive.ensures.lengths c.requires.lengths) c.check_edges.result
+    least_where_ok mesh lengths c.args.cert.now c.law_of_surface.ensures.surface
+    (lengths_positive mesh lengths c.law_of_lengths.ensures.lengths c.requires.lengths) c.check_edges.result
     c.check_edges.ensures.valid
 
 pub returns-clause-excludes : goal.returns-clause-excludes
 returns-clause-excludes c =
-    none_where_err c.args.mesh.now c.args.lengths.now c.args.cert.now c.edges-surface.ensures.surface
+    none_where_err c.args.mesh.now c.args.lengths.now c.args.cert.now c.law_of_surface.ensures.surface
     c.check_edges.result c.check_edges.ensures.fault
 
 pub returns-clause-in_order : goal.returns-clause-in_order
 returns-clause-in_order c =
     let mesh = c.args.mesh.now in
     let lengths = c.args.lengths.now in
-    basis_in_order mesh lengths c.args.cert.now c.edges-surface.ensures.surface
-    (lengths_positive mesh lengths c.count-positive.ensures.lengths c.requires.lengths) c.check_edges.result
+    basis_in_order mesh lengths c.args.cert.now c.law_of_surface.ensures.surface
+    (lengths_positive mesh lengths c.law_of_lengths.ensures.lengths c.requires.lengths) c.check_edges.result
     c.check_edges.ensures.valid

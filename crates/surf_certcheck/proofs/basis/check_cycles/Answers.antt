@@ -6,23 +6,23 @@ use Rattle.surf_certcheck.proofs.basis.check_cycles.Goals as goal
 
 pub sign_edges-requires-clause-split : goal.sign_edges-requires-clause-split
 sign_edges-requires-clause-split c =
-    has_split c.args.mesh.now c.args.lengths.now c.args.cert.now c.edges-surface.ensures.surface
-    (lengths_positive c.args.mesh.now c.args.lengths.now c.count-positive.ensures.lengths c.requires.lengths)
+    has_split c.args.mesh.now c.args.lengths.now c.args.cert.now c.law_of_surface.ensures.surface
+    (lengths_positive c.args.mesh.now c.args.lengths.now c.law_of_lengths.ensures.lengths c.requires.lengths)
     c.requires.divided
 
 pub frame_cycles-requires-clause-places : goal.frame_cycles-requires-clause-places
 frame_cycles-requires-clause-places c =
     cycles_size c.args.mesh.now c.args.cert.now c.requires.divided.shape
-    (has_split c.args.mesh.now c.args.lengths.now c.args.cert.now c.edges-surface.ensures.surface
-    (lengths_positive c.args.mesh.now c.args.lengths.now c.count-positive.ensures.lengths c.requires.lengths)
+    (has_split c.args.mesh.now c.args.lengths.now c.args.cert.now c.law_of_surface.ensures.surface
+    (lengths_positive c.args.mesh.now c.args.lengths.now c.law_of_lengths.ensures.lengths c.requires.lengths)
     c.requires.divided)
 
 pub frame_cycles-requires-clause-width : goal.frame_cycles-requires-clause-width
 frame_cycles-requires-clause-width c =
     c.in_ok-signs.ensures.width
     ∙ sym (cycles_size c.args.mesh.now c.args.cert.now c.requires.divided.shape
-    (has_split c.args.mesh.now c.args.lengths.now c.args.cert.now c.edges-surface.ensures.surface
-    (lengths_positive c.args.mesh.now c.args.lengths.now c.count-positive.ensures.lengths c.requires.lengths)
+    (has_split c.args.mesh.now c.args.lengths.now c.args.cert.now c.law_of_surface.ensures.surface
+    (lengths_positive c.args.mesh.now c.args.lengths.now c.law_of_lengths.ensures.lengths c.requires.lengths)
     c.requires.divided))
 
 pub returns-in-None-clause-valid : goal.returns-in-None-clause-valid

@@ -19,7 +19,7 @@ sum_ways-requires-clause-climbed c =
     c.tree_from-rows.ensures.tree ∙ ap (tree_at cert) c.new-base.ensures in
     subst (IsClimbed mesh) (sym is)
     (climbed_at mesh c.args.lengths.now cert c.vertices-x-end.ensures.surface
-    (lengths_positive mesh c.args.lengths.now c.count-positive.ensures.lengths c.requires.lengths) c.requires.trees
+    (lengths_positive mesh c.args.lengths.now c.law_of_lengths.ensures.lengths c.requires.lengths) c.requires.trees
     c.requires.bases c.requires.valid c.loop-x.x (omega (arith, c.loop-x-test.true, c.vertices-x-end.ensures.count)))
 
 pub first_at-requires-clause-climbed : goal.first_at-requires-clause-climbed
@@ -30,7 +30,7 @@ first_at-requires-clause-climbed c =
     c.tree_from-rows.ensures.tree ∙ ap (tree_at cert) c.new-base.ensures in
     subst (IsClimbed mesh) (sym is)
     (climbed_at mesh c.args.lengths.now cert c.vertices-x-end.ensures.surface
-    (lengths_positive mesh c.args.lengths.now c.count-positive.ensures.lengths c.requires.lengths) c.requires.trees
+    (lengths_positive mesh c.args.lengths.now c.law_of_lengths.ensures.lengths c.requires.lengths) c.requires.trees
     c.requires.bases c.requires.valid c.loop-x.x (omega (arith, c.loop-x-test.true, c.vertices-x-end.ensures.count)))
 
 pub returns-in-Some : goal.returns-in-Some

@@ -8,7 +8,7 @@ returns c = record {
       let near = c.of.result in
       let own = c.signature.result in
       let far = c.of-2.result in
-      loop_summed c.args.mesh.now d to c.args.signs.now.sets taken rows climbed c.faces-surface.ensures.surface c.args.e
+      loop_summed c.args.mesh.now d to c.args.signs.now.sets taken rows climbed c.law_of_surface.ensures.surface c.args.e
       c.ends_inside-u.result.0 c.ends_inside-u.result.1 near far own c.add-3.new.self c.requires.edge
       (ap (λ (p : ℕ × ℕ). p.0) c.ends_inside-u.ensures.ends) (ap (λ (p : ℕ × ℕ). p.1) c.ends_inside-u.ensures.ends)
       (c.of.ensures.set ∙ are d to taken c.ends_inside-u.result.0 c.ends_inside-u.ensures.inside.0)

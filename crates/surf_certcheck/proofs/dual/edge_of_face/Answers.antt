@@ -13,7 +13,7 @@ pub returns-then-is_beside : goal.returns-then-is_beside
 returns-then-is_beside c =
     let mesh = c.args.mesh.now in
     let e = c.in-Some.e in
-    let is = side_of mesh c.args.f c.args.u c.args.v e c.faces-surface.ensures.surface c.in-Some.ensures.0
+    let is = side_of mesh c.args.f c.args.u c.args.v e c.law_of_surface.ensures.surface c.in-Some.ensures.0
     c.in-Some.ensures.1 in
     record {
       edge = (
@@ -26,6 +26,6 @@ returns-then-is_beside c =
 pub returns-else-is_beside : goal.returns-else-is_beside
 returns-else-is_beside c =
     let mesh = c.args.mesh.now in
-    let is = side_of mesh c.args.f c.args.u c.args.v c.in-Some.e c.faces-surface.ensures.surface c.in-Some.ensures.0
+    let is = side_of mesh c.args.f c.args.u c.args.v c.in-Some.e c.law_of_surface.ensures.surface c.in-Some.ensures.0
     c.in-Some.ensures.1 in
     record { edge = λ has. true≢false (sym has ∙ is ∙ sym c.if-is_beside.ensures.beside) }

@@ -20,7 +20,7 @@ returns c =
     ∙ get_or_default links.up.items at c.index-4.result.now 0 (omega (arith, c.requires.links.ups, c.requires.face)) in
     record {
       step = step_is mesh c.args.dual.now at c.new.result c.new-2.result
-          c.faces-surface.ensures.surface c.requires.tree c.requires.face c.requires.below
+          c.law_of_surface.ensures.surface c.requires.tree c.requires.face c.requires.below
           (subst (λ f. HasLink mesh at (side_at c.args.dual.now at) f c.new-2.result) (sym face)
           (subst (HasLink mesh at (side_at c.args.dual.now at) (get_or links.parent.items at 0)) (sym edge) is));
     }

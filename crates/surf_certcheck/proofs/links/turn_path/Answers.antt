@@ -14,7 +14,7 @@ loop-at-preserved c =
     let mesh = c.args.mesh.now in
     let t = dual_tree mesh c.args.dual.now in
     let g = faces (cells_of mesh) in
-    let tree : IsTree g t = dual_rows_are_tree mesh c.args.dual.now c.faces-surface.ensures.surface c.requires.tree in
+    let tree : IsTree g t = dual_rows_are_tree mesh c.args.dual.now c.law_of_surface.ensures.surface c.requires.tree in
     let step = c.step_up-above.ensures.step in
     let n = c.loop-at.at in
     record {

@@ -7,8 +7,8 @@ pub returns-clause-least : goal.returns-clause-least
 returns-clause-least c =
     let mesh = c.args.mesh.now in
     let lengths = c.args.lengths.now in
-    least_where_ok mesh lengths c.args.cert.now c.edges-surface.ensures.surface
-    (lengths_positive mesh lengths c.count-positive.ensures.lengths c.requires.lengths) c.check_edges.result
+    least_where_ok mesh lengths c.args.cert.now c.law_of_surface.ensures.surface
+    (lengths_positive mesh lengths c.law_of_lengths.ensures.lengths c.requires.lengths) c.check_edges.result
     c.check_edges.ensures.valid
 
 pub returns-clause-excludes : goal.returns-clause-excludes
@@ -19,6 +19,6 @@ pub returns-clause-in_order : goal.returns-clause-in_order
 returns-clause-in_order c =
     let mesh = c.args.mesh.now in
     let lengths = c.args.lengths.now in
-    loops_in_order mesh lengths c.args.cert.now c.edges-surface.ensures.surface
-    (lengths_positive mesh lengths c.count-positive.ensures.lengths c.requires.lengths) c.check_edges.result
+    loops_in_order mesh lengths c.args.cert.now c.law_of_surface.ensures.surface
+    (lengths_positive mesh lengths c.law_of_lengths.ensures.lengths c.requires.lengths) c.check_edges.result
     c.check_edges.ensures.valid

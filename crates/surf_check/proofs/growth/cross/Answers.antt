@@ -15,7 +15,7 @@ returns-then-index-clause-crossed c =
     c.requires.grows.seen_count in omega (arith, c.index.ensures, c.face_of-face.ensures.is_face, n) in
     let read = get_or_read seen c.index.result c.index-2.result.now inside c.index-2.ensures false
     ∙ ap (λ i. get_or seen i false) c.index.ensures in
-    is_crossed mesh c.faces-count.ensures.surface c.args.side c.mate-across.result c.face_of-parent.result
+    is_crossed mesh c.law_of_surface.ensures.surface c.args.side c.mate-across.result c.face_of-parent.result
     c.face_of-face.result seen c.mate-across.ensures c.face_of-parent.ensures c.face_of-face.ensures
     (c.requires.from c.face_of-parent.result c.face_of-parent.ensures) (sym read ∙ c.if-index.true)
 
@@ -25,7 +25,7 @@ returns-clause-grows c =
     let t = c.args.tree.now in
     let seen = t.seen.items in
     let g = c.requires.grows in
-    let surface = c.faces-count.ensures.surface in
+    let surface = c.law_of_surface.ensures.surface in
     let side = c.args.side in
     let across = c.mate-across.result in
     let face = c.face_of-face.result in
@@ -82,7 +82,7 @@ returns-clause-crossed c =
     c.requires.grows.seen_count in omega (arith, c.face_of-face.ensures.is_face, n) in
     let P : List Bool → Type 0 = λ xs. IsCrossed mesh xs c.args.side in
     subst P (sym c.in_ok-hang.ensures.seen)
-    (is_crossed mesh c.faces-count.ensures.surface c.args.side c.mate-across.result parent face
+    (is_crossed mesh c.law_of_surface.ensures.surface c.args.side c.mate-across.result parent face
     (set seen face true) c.mate-across.ensures c.face_of-parent.ensures c.face_of-face.ensures
     (still_marked seen face parent inside (c.requires.from parent c.face_of-parent.ensures))
     (get_or-set_same seen face true false inside))

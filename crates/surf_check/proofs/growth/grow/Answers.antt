@@ -33,7 +33,7 @@ returns c =
     let mesh = c.args.mesh.now in
     let t = c.loop-k.tree in
     let g = c.loop-k.invariant.grows in
-    let surface = c.faces-count.ensures.surface in
+    let surface = c.law_of_surface.ensures.surface in
     let done : (i : ℕ) → i < length t.listed.items → (s : ℕ) → IsFaceOf mesh s (get_or t.listed.items i 0) →
     Rattle.surf_check.specs.Growth.IsCrossed mesh t.seen.items s =
     λ i lt. c.loop-k.invariant.done i (omega (arith, c.loop-k-test.false, c.len.ensures)) in

@@ -11,12 +11,12 @@ use Rattle.surf_check.proofs.orienting.close.Goals as goal
 
 pub descend-requires-clause-to : goal.descend-requires-clause-to
 descend-requires-clause-to c =
-    let two = two_faces_of c.args.mesh.now c.faces-count.ensures.surface c.args.edge c.requires.edge in
+    let two = two_faces_of c.args.mesh.now c.law_of_surface.ensures.surface c.args.edge c.requires.edge in
     omega (arith, two.lesser_first, two.second_is_face, ap (λ (x : ℕ × ℕ). x.0) c.faces_of-first.ensures)
 
 pub climb-requires-clause-from : goal.climb-requires-clause-from
 climb-requires-clause-from c =
-    let two = two_faces_of c.args.mesh.now c.faces-count.ensures.surface c.args.edge c.requires.edge in
+    let two = two_faces_of c.args.mesh.now c.law_of_surface.ensures.surface c.args.edge c.requires.edge in
     omega (arith, two.second_is_face, ap (λ (x : ℕ × ℕ). x.1) c.faces_of-first.ensures)
 
 pub returns : goal.returns

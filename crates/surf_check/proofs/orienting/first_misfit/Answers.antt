@@ -4,5 +4,5 @@ use Rattle.surf_check.proofs.Misfits.{all_fit}
 use Rattle.surf_check.proofs.orienting.first_misfit.Goals as goal
 
 pub returns : goal.returns
-returns c = all_fit c.args.mesh.now c.faces-count.ensures.surface (flag_of c.args.flags.now)
+returns c = all_fit c.args.mesh.now c.law_of_surface.ensures.surface (flag_of c.args.flags.now)
     (λ s e lt is. c.loop-s.invariant s e (omega (arith, c.loop-s-test.false)) is)

@@ -21,7 +21,7 @@ returns-in-None c =
 pub returns-in_ok-close-in-Some : goal.returns-in_ok-close-in-Some
 returns-in_ok-close-in-Some c =
     let mesh = c.args.mesh.now in
-    let surface = c.faces-count.ensures.surface in
+    let surface = c.law_of_surface.ensures.surface in
     let tree = c.in_ok-tree.tree in
     let is = c.in_ok-tree.ensures in
     let t = tree_in tree in

@@ -19,5 +19,5 @@ returns c =
           ∙ xor_assoc (get_or old f false) (eqb f c.index.result) (eqb f c.index-2.result)
           ∙ ap (λ n. xor (get_or old f false) (xor (eqb f n) (eqb f c.index-2.result))) near
           ∙ ap (λ n. xor (get_or old f false) (xor (eqb f (faces_of mesh c.args.edge).0) (eqb f n))) far
-          ∙ ap (xor (get_or old f false)) (both_faces mesh c.faces-surface.ensures.surface c.args.edge f c.requires.edge);
+          ∙ ap (xor (get_or old f false)) (both_faces mesh c.law_of_surface.ensures.surface c.args.edge f c.requires.edge);
     }

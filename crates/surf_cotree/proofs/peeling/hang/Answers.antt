@@ -16,10 +16,10 @@ abbrev dual_of : After-number-edge → Graph
 dual_of c = dual (cells_of c.args.mesh.now)
 
 few : (c : After-number-edge) → (dual_of c).edges ≤ nobody
-few c = omega (arith, c.edges-edges.type_inv, c.edges-edges.ensures.count)
+few c = omega (arith, c.law_of_surface.ensures.edges)
 
 small : (c : After-number-edge) → (dual_of c).nodes ≤ nobody
-small c = omega (arith, c.faces-surface.type_inv, c.faces-surface.ensures.count)
+small c = omega (arith, c.law_of_surface.ensures.faces)
 
 abbrev last : After-number-edge → Leaf
 last c = record { face = c.number-face.result; edge = c.number-edge.result }
@@ -35,13 +35,13 @@ last_is c =
     subst (λ (x : Leaf). x ≡ leaf_at c.args.leaves.now (c.loop-k.k - 1)) (λ i. record { face = sym c.number-face.ensures i; edge = sym c.number-edge.ensures i }) there
 
 face_of : (c : After-number-edge) → c.number-face.result < (dual_of c).nodes
-face_of c = face_in (dual_of c) c.requires.some.0 c.requires.some.1 (graph_is c.args.mesh.now c.faces-surface.ensures.surface) (few c) (small c) c.args.leaves.now c.loop-k.k c.loop-k.parent c.loop-k.up c.loop-k.depth (state c) c.loop-k-test.true (last c) (last_is c)
+face_of c = face_in (dual_of c) c.requires.some.0 c.requires.some.1 (graph_is c.args.mesh.now c.law_of_surface.ensures.surface) (few c) (small c) c.args.leaves.now c.loop-k.k c.loop-k.parent c.loop-k.up c.loop-k.depth (state c) c.loop-k-test.true (last c) (last_is c)
 
 next_of : (c : After-number-edge) (next : ℕ) → ((a : ℕ) → joins (dual_of c) c.number-face.result a c.number-edge.result ≡ true → next ≡ a) → next < (dual_of c).nodes
-next_of c next across = next_in (dual_of c) c.requires.some.0 c.requires.some.1 (graph_is c.args.mesh.now c.faces-surface.ensures.surface) (few c) (small c) c.args.leaves.now c.loop-k.k c.loop-k.parent c.loop-k.up c.loop-k.depth (state c) c.loop-k-test.true (last c) (last_is c) next across
+next_of c next across = next_in (dual_of c) c.requires.some.0 c.requires.some.1 (graph_is c.args.mesh.now c.law_of_surface.ensures.surface) (few c) (small c) c.args.leaves.now c.loop-k.k c.loop-k.parent c.loop-k.up c.loop-k.depth (state c) c.loop-k-test.true (last c) (last_is c) next across
 
 pub face_across-on-requires : goal.face_across-on-requires
-face_across-on-requires c = record { edge = edge_in (dual_of c) c.requires.some.0 c.requires.some.1 (graph_is c.args.mesh.now c.faces-surface.ensures.surface) (few c) (small c) c.args.leaves.now c.loop-k.k c.loop-k.parent c.loop-k.up c.loop-k.depth (state c) c.loop-k-test.true (last c) (last_is c) }
+face_across-on-requires c = record { edge = edge_in (dual_of c) c.requires.some.0 c.requires.some.1 (graph_is c.args.mesh.now c.law_of_surface.ensures.surface) (few c) (small c) c.args.leaves.now c.loop-k.k c.loop-k.parent c.loop-k.up c.loop-k.depth (state c) c.loop-k-test.true (last c) (last_is c) }
 
 pub bounds-depth-on : goal.bounds-depth-on
 bounds-depth-on c =
@@ -80,7 +80,7 @@ overflow_add-depth c =
     let lp : length c.loop-k.parent ≡ (dual_of i).nodes = omega (arith, c.loop-k.auto.parent, c.requires.parents) in
     let lu : length c.loop-k.up ≡ (dual_of i).nodes = omega (arith, c.loop-k.auto.up, c.requires.ups) in
     let ld : length c.loop-k.depth ≡ (dual_of i).nodes = omega (arith, c.loop-k.auto.depth, c.requires.depths) in
-    let l = turn_fits (dual_of i) c.requires.some.0 c.requires.some.1 (graph_is c.args.mesh.now c.faces-surface.ensures.surface) (few i) (small i) c.args.leaves.now c.loop-k.k c.loop-k.parent c.loop-k.up c.loop-k.depth (state i) c.loop-k-test.true (last i) (last_is i) c.face_across-on.result c.face_across-on.ensures.across lp lu ld there in
+    let l = turn_fits (dual_of i) c.requires.some.0 c.requires.some.1 (graph_is c.args.mesh.now c.law_of_surface.ensures.surface) (few i) (small i) c.args.leaves.now c.loop-k.k c.loop-k.parent c.loop-k.up c.loop-k.depth (state i) c.loop-k-test.true (last i) (last_is i) c.face_across-on.result c.face_across-on.ensures.across lp lu ld there in
     let most = small i in
     omega (arith, l, most)
 
@@ -88,11 +88,11 @@ pub loop-k-preserved : goal.loop-k-preserved
 loop-k-preserved c allowed weight start =
     let i = (goal.at.loop-k-preserved c).After-number-edge in
     let away : reached c.loop-k.depth c.face_across-on.result ≡ false = rw (eq-eqb (at c.loop-k.depth c.face_across-on.result) nobody c.if-depth-on.false) in
-    turn_none (dual_of i) allowed weight (graph_is c.args.mesh.now c.faces-surface.ensures.surface) (few i) (small i) c.args.leaves.now c.loop-k.k c.loop-k.parent c.loop-k.up c.loop-k.depth (c.loop-k.invariant allowed weight start) c.loop-k-test.true (last i) (last_is i) c.face_across-on.result c.face_across-on.ensures.across away
+    turn_none (dual_of i) allowed weight (graph_is c.args.mesh.now c.law_of_surface.ensures.surface) (few i) (small i) c.args.leaves.now c.loop-k.k c.loop-k.parent c.loop-k.up c.loop-k.depth (c.loop-k.invariant allowed weight start) c.loop-k-test.true (last i) (last_is i) c.face_across-on.result c.face_across-on.ensures.across away
 
 pub loop-k-preserved-then-depth-on : goal.loop-k-preserved-then-depth-on
 loop-k-preserved-then-depth-on c allowed weight start =
     let i = (goal.at.loop-k-preserved-then-depth-on c).After-number-edge in
     let there : reached c.loop-k.depth c.face_across-on.result ≡ true = rw (ne_eqb (at c.loop-k.depth c.face_across-on.result) nobody c.if-depth-on.true) in
-    turn_one (dual_of i) allowed weight (graph_is c.args.mesh.now c.faces-surface.ensures.surface) (few i) (small i) c.args.leaves.now c.loop-k.k c.loop-k.parent c.loop-k.up c.loop-k.depth (c.loop-k.invariant allowed weight start) c.loop-k-test.true (last i) (last_is i) c.face_across-on.result c.face_across-on.ensures.across
+    turn_one (dual_of i) allowed weight (graph_is c.args.mesh.now c.law_of_surface.ensures.surface) (few i) (small i) c.args.leaves.now c.loop-k.k c.loop-k.parent c.loop-k.up c.loop-k.depth (c.loop-k.invariant allowed weight start) c.loop-k-test.true (last i) (last_is i) c.face_across-on.result c.face_across-on.ensures.across
     (omega (arith, c.loop-k.auto.parent, c.requires.parents)) (omega (arith, c.loop-k.auto.up, c.requires.ups)) (omega (arith, c.loop-k.auto.depth, c.requires.depths)) there

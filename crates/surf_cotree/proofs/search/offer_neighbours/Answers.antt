@@ -68,7 +68,7 @@ loop-s-preserved c =
           let open_is : (allowed p.1 && not (there p.0)) ≡ true = sym c.leads_on.ensures.leads ∙ b.if-leads_on.true in
           let both : (allowed p.1 ≡ true) × (not (there p.0) ≡ true) = and_parts (allowed p.1) (not (there p.0)) open_is in
           let light : weight p.1 ≤ heaviest = omega (arith, c.type_inv.weight p.1) in
-          let few : g.edges ≤ nobody = omega (arith, c.edges-edges.ensures.count, c.edges-edges.type_inv) in
+          let few : g.edges ≤ nobody = omega (arith, c.law_of_surface.ensures.edges) in
           rw b.heap-is (link_more g allowed weight there c.args.face links row c.args.heap.now c.loop-s.heap n some ln p is b.offer_by.new.heap both.0 (not-true (there p.0) both.1) in_heap light few b.offer_by.ensures.entry)
       | else-leads_on b ↦
           let shut : (allowed p.1 && not (there p.0)) ≡ false = sym c.leads_on.ensures.leads ∙ b.if-leads_on.false in

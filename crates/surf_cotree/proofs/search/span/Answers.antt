@@ -18,8 +18,8 @@ pub loop-face-init : goal.loop-face-init
 loop-face-init c =
     let g = dual (cells_of c.args.mesh.now) in
     let fresh = c.fill.new.self in
-    let some : 0 < face_count c.args.mesh.now = c.faces-surface.ensures.surface.some_face in
-    let few : g.edges ≤ nobody = omega (arith, c.edges-edges.type_inv, c.edges-edges.ensures.count) in
+    let some : 0 < face_count c.args.mesh.now = c.law_of_surface.ensures.surface.some_face in
+    let few : g.edges ≤ nobody = omega (arith, c.law_of_surface.ensures.edges) in
     let free : (u : ℕ) → u < g.nodes → at fresh u ≡ nobody = λ u l. c.fill.ensures.clones u 0 (omega arith) refl in
     let long : g.nodes ≡ length fresh = omega arith in
     let lf : 0 < length fresh = omega arith in
@@ -30,7 +30,7 @@ loop-face-init c =
     record {
       places = c.offer_neighbours.ensures.offered.same_length ∙ (ap length c.clear.ensures.empty ∙ (length-replicate {A = Option (ℕ × ℕ)} (length c.args.heap.now) None ∙ c.requires.places));
       root = get_or-set_same c.args.up.now 0 nobody 0 lu;
-      prim = prim_begins g (outside c.args.marks.now) (at c.args.weight.now) (graph_is c.args.mesh.now c.faces-surface.ensures.surface) few c.weights_fit.ensures.fit (reached (set fresh 0 0)) (spanned_tree 0 c.args.parent.now (set c.args.up.now 0 nobody) (set fresh 0 0))
+      prim = prim_begins g (outside c.args.marks.now) (at c.args.weight.now) (graph_is c.args.mesh.now c.law_of_surface.ensures.surface) few c.weights_fit.ensures.fit (reached (set fresh 0 0)) (spanned_tree 0 c.args.parent.now (set c.args.up.now 0 nobody) (set fresh 0 0))
           c.clear.new.self c.offer_neighbours.new.heap _ some root_reached (first_only g.nodes fresh free) zero_depth shallow (none_there (length c.args.heap.now) c.clear.new.self c.clear.ensures.empty)
           c.offer_neighbours.ensures.offered;
     }
@@ -64,16 +64,16 @@ bounds-depth-from c =
 fits : (c : In-Some) → at c.loop-face.depth (waiting c).before + 1 < face_count c.args.mesh.now
 fits c =
     let g = dual (cells_of c.args.mesh.now) in
-    let few : g.edges ≤ nobody = omega (arith, c.edges-edges.type_inv, c.edges-edges.ensures.count) in
-    let small : g.nodes ≤ nobody = omega (arith, c.faces-surface.type_inv, c.faces-surface.ensures.count) in
-    depth_fits g (outside c.args.marks.now) (at c.args.weight.now) (graph_is c.args.mesh.now c.faces-surface.ensures.surface) few c.weights_fit.ensures.fit small 0 c.loop-face.parent c.loop-face.up c.loop-face.depth c.loop-face.heap c.in-Some.face c.in-Some.field-0-1 c.in-Some.tie
+    let few : g.edges ≤ nobody = omega (arith, c.law_of_surface.ensures.edges) in
+    let small : g.nodes ≤ nobody = omega (arith, c.law_of_surface.ensures.faces) in
+    depth_fits g (outside c.args.marks.now) (at c.args.weight.now) (graph_is c.args.mesh.now c.law_of_surface.ensures.surface) few c.weights_fit.ensures.fit small 0 c.loop-face.parent c.loop-face.up c.loop-face.depth c.loop-face.heap c.in-Some.face c.in-Some.field-0-1 c.in-Some.tie
     (omega (arith, length-set {A = ℕ})) (omega (arith, length-set {A = ℕ})) (omega (arith, length-set {A = ℕ})) c.loop-face.invariant.prim c.in-Some.ensures.taken.0
 
 pub overflow_add-depth : goal.overflow_add-depth
 overflow_add-depth c =
     let i = (goal.at.overflow_add-depth c).In-Some in
     let e = from_is i c.face_across-from.result c.face_across-from.ensures.across in
-    let small : face_count c.args.mesh.now ≤ nobody = omega (arith, c.faces-surface.type_inv, c.faces-surface.ensures.count) in
+    let small : face_count c.args.mesh.now ≤ nobody = omega (arith, c.law_of_surface.ensures.faces) in
     let f : at c.loop-face.depth c.face_across-from.result + 1 < face_count c.args.mesh.now = rw e (fits i) in
     omega arith
 
@@ -81,12 +81,12 @@ pub loop-face-smaller : goal.loop-face-smaller
 loop-face-smaller c =
     let g = dual (cells_of c.args.mesh.now) in
     let i = (goal.at.loop-face-smaller c).In-Some in
-    let few : g.edges ≤ nobody = omega (arith, c.edges-edges.type_inv, c.edges-edges.ensures.count) in
-    let small : g.nodes ≤ nobody = omega (arith, c.faces-surface.type_inv, c.faces-surface.ensures.count) in
+    let few : g.edges ≤ nobody = omega (arith, c.law_of_surface.ensures.edges) in
+    let small : g.nodes ≤ nobody = omega (arith, c.law_of_surface.ensures.faces) in
     let from : c.face_across-from.result ≡ (waiting i).before = from_is i c.face_across-from.result c.face_across-from.ensures.across in
     let d = at c.loop-face.depth c.face_across-from.result + 1 in
     let less : count_below g.nodes (λ v. eqb (at c.loop-face.depth v) nobody) ≡ suc (count_below g.nodes (λ v. eqb (at (set c.loop-face.depth c.in-Some.face d) v) nobody)) =
-    turn_count g (outside c.args.marks.now) (at c.args.weight.now) (graph_is c.args.mesh.now c.faces-surface.ensures.surface) few c.weights_fit.ensures.fit small 0 c.loop-face.parent c.loop-face.up c.loop-face.depth c.loop-face.heap c.in-Some.face c.in-Some.field-0-1 c.in-Some.tie
+    turn_count g (outside c.args.marks.now) (at c.args.weight.now) (graph_is c.args.mesh.now c.law_of_surface.ensures.surface) few c.weights_fit.ensures.fit small 0 c.loop-face.parent c.loop-face.up c.loop-face.depth c.loop-face.heap c.in-Some.face c.in-Some.field-0-1 c.in-Some.tie
     (omega (arith, length-set {A = ℕ})) (omega (arith, length-set {A = ℕ})) (omega (arith, length-set {A = ℕ})) c.loop-face.invariant.prim c.in-Some.ensures.taken.0 d (ap (λ x. at c.loop-face.depth x + 1) from)
     in
     below_suc _ _ less
@@ -95,15 +95,15 @@ pub loop-face-preserved : goal.loop-face-preserved
 loop-face-preserved c =
     let g = dual (cells_of c.args.mesh.now) in
     let i = (goal.at.loop-face-preserved c).In-Some in
-    let few : g.edges ≤ nobody = omega (arith, c.edges-edges.type_inv, c.edges-edges.ensures.count) in
-    let small : g.nodes ≤ nobody = omega (arith, c.faces-surface.type_inv, c.faces-surface.ensures.count) in
+    let few : g.edges ≤ nobody = omega (arith, c.law_of_surface.ensures.edges) in
+    let small : g.nodes ≤ nobody = omega (arith, c.law_of_surface.ensures.faces) in
     let from : c.face_across-from.result ≡ (waiting i).before = from_is i c.face_across-from.result c.face_across-from.ensures.across in
     let prim = c.loop-face.invariant.prim in
     let apart : 0 ≢ c.in-Some.face = λ same. false≢true (sym (waiting i).free ∙ (ap (reached c.loop-face.depth) (sym same) ∙ prim.grown.root_reached)) in
     record {
       places = c.offer_neighbours-in-Some.ensures.offered.same_length ∙ (ap length c.in-Some.ensures.taken.1 ∙ (length-set c.loop-face.heap c.in-Some.face None ∙ c.loop-face.invariant.places));
       root = get_or-set_other c.loop-face.up c.in-Some.face 0 (nobody - c.in-Some.tie) 0 apart ∙ c.loop-face.invariant.root;
-      prim = turn_keeps g (outside c.args.marks.now) (at c.args.weight.now) (graph_is c.args.mesh.now c.faces-surface.ensures.surface) few c.weights_fit.ensures.fit small 0 c.loop-face.parent c.loop-face.up c.loop-face.depth c.loop-face.heap c.in-Some.face c.in-Some.field-0-1 c.in-Some.tie
+      prim = turn_keeps g (outside c.args.marks.now) (at c.args.weight.now) (graph_is c.args.mesh.now c.law_of_surface.ensures.surface) few c.weights_fit.ensures.fit small 0 c.loop-face.parent c.loop-face.up c.loop-face.depth c.loop-face.heap c.in-Some.face c.in-Some.field-0-1 c.in-Some.tie
           (omega (arith, length-set {A = ℕ})) (omega (arith, length-set {A = ℕ})) (omega (arith, length-set {A = ℕ})) prim c.in-Some.ensures.taken.0 c.face_across-from.result (nobody - c.in-Some.tie) (at c.loop-face.depth c.face_across-from.result + 1) c.take_least.new.self c.offer_neighbours-in-Some.new.heap
           from (edge_is i) refl c.in-Some.ensures.taken.1 c.offer_neighbours-in-Some.ensures.offered;
     }

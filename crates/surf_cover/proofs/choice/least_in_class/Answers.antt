@@ -16,13 +16,13 @@ returns-then-set-eq0 c =
     let mesh = c.args.mesh.now in
     let walk = c.args.walk.now in
     let t = c.args.cotree.now in
-    let surface = c.faces-surface.ensures.surface in
+    let surface = c.law_of_surface.ensures.surface in
     let g = c.requires.signed.grown in
     let d = split_with g.tree t in
     let none : walk_signature mesh d walk ≡ 0 =
     ap (walk_signature mesh d) (sym c.vertices.ensures) ∙ sym (c.walk_sign-set.ensures.sum g.tree g.split) ∙ c.if-set-eq0.true in
     let chosen = null_choice_is_vertex mesh c.args.lengths.now walk surface
-    (positive mesh c.args.lengths.now c.requires.lengths c.count-lengths.ensures.lengths) c.requires.closed
+    (positive mesh c.args.lengths.now c.requires.lengths c.law_of_lengths.ensures.lengths) c.requires.closed
     ((null_by_signature mesh d surface g.split walk c.requires.closed).1 none) in
     record {
       least = rw c.in_ok-walk.ensures.alone (record { chosen = chosen; length_is = refl });
@@ -37,7 +37,7 @@ least_start-start-requires-clause-set c =
     let d = split_with g.tree t in
     let own : c.walk_sign-set.result ≡ walk_signature mesh d walk =
     c.walk_sign-set.ensures.sum g.tree g.split ∙ ap (walk_signature mesh d) c.vertices.ensures in
-    let inside : walk_signature mesh d walk < set_count d = walk_set mesh d walk c.faces-surface.ensures.surface c.requires.closed in
+    let inside : walk_signature mesh d walk < set_count d = walk_set mesh d walk c.law_of_surface.ensures.surface c.requires.closed in
     let same = sets_are mesh t c.requires.signed g.tree g.split in
     omega (arith, own, inside, same)
 
@@ -55,7 +55,7 @@ round-requires-clause-set c =
     let d = split_with g.tree t in
     let own : c.walk_sign-set.result ≡ walk_signature mesh d walk =
     c.walk_sign-set.ensures.sum g.tree g.split ∙ ap (walk_signature mesh d) c.vertices.ensures in
-    let inside : walk_signature mesh d walk < set_count d = walk_set mesh d walk c.faces-surface.ensures.surface c.requires.closed in
+    let inside : walk_signature mesh d walk < set_count d = walk_set mesh d walk c.law_of_surface.ensures.surface c.requires.closed in
     let same = sets_are mesh t c.requires.signed g.tree g.split in
     omega (arith, own, inside, same, c.grow.ensures.grown.made.sets)
 
@@ -66,7 +66,7 @@ returns c =
     let walk = c.args.walk.now in
     let t = c.args.cotree.now in
     let set = c.walk_sign-set.result in
-    let surface = c.faces-surface.ensures.surface in
+    let surface = c.law_of_surface.ensures.surface in
     let g = c.requires.signed.grown in
     let d = split_with g.tree t in
     let start = c.least_start-start.result in
@@ -75,7 +75,7 @@ returns c =
     let inside : set < set_count d = subst (λ s. s < set_count d) own (walk_set mesh d walk surface c.requires.closed) in
     let there = c.grow.ensures.grown.grown g.tree g.split in
     let (before, items, read) = c.in_ok-list.ensures.read d there.certified in
-    let chosen = chosen_at mesh lengths d surface (positive mesh lengths c.requires.lengths c.count-lengths.ensures.lengths) g.split set inside
+    let chosen = chosen_at mesh lengths d surface (positive mesh lengths c.requires.lengths c.law_of_lengths.ensures.lengths) g.split set inside
     start (c.least_start-start.ensures.least g.tree g.split) walk c.requires.closed own
     (distance_at c.grow.new.self) there.distances before read in
     let is : c.from_vertices-walk.result ≡ reverse (start.vertex ∷ before) =

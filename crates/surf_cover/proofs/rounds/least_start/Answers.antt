@@ -31,7 +31,7 @@ loop-v-preserved c =
     let v = c.loop-v.v in
     let base = c.new-base.result in
     let at : base ≡ v = c.new-base.ensures in
-    let surface = c.faces-surface.ensures.surface in
+    let surface = c.law_of_surface.ensures.surface in
     let base_in : base < mesh.vertices = omega (arith, at, c.loop-v-test.true, c.vertices-v-end.ensures.count) in
     let so_far = c.loop-v.invariant in
     elim c.if-is_lesser_end.branch [
@@ -76,7 +76,7 @@ unreachable-requires c =
     let number = c.least_number-number.result in
     let set_in : IsSet d set = subst (λ n. set < n) (sets_are mesh t c.requires.signed g.tree g.split) c.requires.set in
     let (start, is) =
-    some_best mesh c.args.lengths.now c.faces-surface.ensures.surface t c.requires.signed g.tree g.split
+    some_best mesh c.args.lengths.now c.law_of_surface.ensures.surface t c.requires.signed g.tree g.split
     set number c.least_number-number.ensures.has c.loop-v.best
     (subst (λ n. IsBestBelow mesh c.args.lengths.now d t.signatures set number n c.loop-v.best) all
     (c.loop-v.invariant.best g.tree g.split)) set_in in
@@ -92,7 +92,7 @@ returns-clause-least c =
     let number = c.least_number-number.result in
     λ tree split.
     let d = split_with tree t in
-    least_of_all mesh c.args.lengths.now c.faces-surface.ensures.surface t c.requires.signed tree split
+    least_of_all mesh c.args.lengths.now c.law_of_surface.ensures.surface t c.requires.signed tree split
     set number c.least_number-number.ensures.has c.loop-v.best
     (subst (λ n. IsBestBelow mesh c.args.lengths.now d t.signatures set number n c.loop-v.best) all
     (c.loop-v.invariant.best tree split)) c.in-Some.start c.in-Some.is

@@ -24,7 +24,7 @@ returns-clause-opened c =
     let counted : AreCounted order labels (all_corners mesh) (length order) numbers origins =
     subst (λ tails. AreCounted order labels tails (length order) numbers origins) own c.in_ok-number_copies.ensures in
     let copied : AreCopied mesh labels numbers (face_count mesh) c.in_ok-faces.faces = c.in_ok-faces.ensures.copied in
-    opened_by c.faces-few.ensures.surface c.requires.labels sorted counted copied
+    opened_by c.law_of_surface.ensures.surface c.requires.labels sorted counted copied
 
 pub returns-clause-order : goal.returns-clause-order
 returns-clause-order c =
@@ -38,4 +38,4 @@ returns-clause-order c =
     let counted : AreCounted order labels (all_corners mesh) (length order) numbers origins =
     subst (λ tails. AreCounted order labels tails (length order) numbers origins) own c.in_ok-number_copies.ensures in
     let copied : AreCopied mesh labels numbers (face_count mesh) c.in_ok-faces.faces = c.in_ok-faces.ensures.copied in
-    in_order c.faces-few.ensures.surface c.requires.labels sorted counted copied
+    in_order c.law_of_surface.ensures.surface c.requires.labels sorted counted copied

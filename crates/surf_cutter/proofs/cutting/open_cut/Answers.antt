@@ -6,12 +6,12 @@ use Rattle.surf_cutter.proofs.PairedBorders.{opens_to_disc}
 use Rattle.surf_cutter.proofs.cutting.open_cut.Goals as goal
 
 pub from_parts-requires-clause-disc : goal.from_parts-requires-clause-disc
-from_parts-requires-clause-disc c = opens_to_disc c.faces-surface.ensures.surface c.args.cut.now c.requires.opens c.in_ok-origins.ensures.opened
+from_parts-requires-clause-disc c = opens_to_disc c.law_of_surface.ensures.surface c.args.cut.now c.requires.opens c.in_ok-origins.ensures.opened
 
 pub from_parts-requires-clause-few_faces : goal.from_parts-requires-clause-few_faces
 from_parts-requires-clause-few_faces c =
     let mesh = c.args.mesh.now in
-    let s = c.faces-surface.ensures in
+    let s = c.law_of_surface.ensures in
     omega (arith, c.in_ok-origins.ensures.opened.same_faces, three_each mesh.vertices mesh.faces s.surface.is_mesh, s.few)
 
 pub returns : goal.returns

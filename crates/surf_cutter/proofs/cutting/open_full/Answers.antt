@@ -11,7 +11,7 @@ open_cut-requires-clause-opens c =
     let held = c.args.held.now in
     let cut = c.deref.result.now in
     let over : AreTurnedOver held cut = subst (AreTurnedOver held) (sym c.deref.ensures.value) c.in_ok-cut.ensures in
-    full_opens cut (is_full c.faces-surface.ensures.surface held cut c.requires.flags over c.requires.held)
+    full_opens cut (is_full c.law_of_surface.ensures.surface held cut c.requires.flags over c.requires.held)
 
 pub returns-clause-chosen : goal.returns-clause-chosen
 returns-clause-chosen c =
@@ -20,13 +20,13 @@ returns-clause-chosen c =
     let cut = c.deref.result.now in
     let over : AreTurnedOver held cut = subst (AreTurnedOver held) (sym c.deref.ensures.value) c.in_ok-cut.ensures in
     let P : OpenMesh → Type 0 = λ o. IsChosenFor mesh held false o in
-    IfOk-weaker c.open_cut.result (λ o. IsOpenedInOrder mesh cut o) P (λ o is. full_chosen c.faces-surface.ensures.surface held cut c.requires.flags over is.0 is.1) c.open_cut.ensures
+    IfOk-weaker c.open_cut.result (λ o. IsOpenedInOrder mesh cut o) P (λ o is. full_chosen c.law_of_surface.ensures.surface held cut c.requires.flags over is.0 is.1) c.open_cut.ensures
 
 pub returns-clause-opening : goal.returns-clause-opening
 returns-clause-opening c =
     let mesh = c.args.mesh.now in
     let held = c.args.held.now in
-    let surface = c.faces-surface.ensures.surface in
+    let surface = c.law_of_surface.ensures.surface in
     let cut = c.deref.result.now in
     let over : AreTurnedOver held cut = subst (AreTurnedOver held) (sym c.deref.ensures.value) c.in_ok-cut.ensures in
     let P : OpenMesh → Type 0 = λ o. IsOpening mesh o.origins o.faces in
@@ -37,7 +37,7 @@ pub returns-clause-copies : goal.returns-clause-copies
 returns-clause-copies c =
     let mesh = c.args.mesh.now in
     let held = c.args.held.now in
-    let surface = c.faces-surface.ensures.surface in
+    let surface = c.law_of_surface.ensures.surface in
     let cut = c.deref.result.now in
     let over : AreTurnedOver held cut = subst (AreTurnedOver held) (sym c.deref.ensures.value) c.in_ok-cut.ensures in
     let P : OpenMesh → Type 0 = λ o. length o.origins + (face_count mesh + face_count mesh) ≡ edge_count mesh + edge_count mesh + 2 in

@@ -10,13 +10,13 @@ open_by_trim-requires-clause-full c =
     let held = c.args.held.now in
     let cut = c.deref_mut.result.now in
     let over : AreTurnedOver held cut = subst (AreTurnedOver held) (sym c.deref_mut.ensures.value) c.in_ok-cut.ensures in
-    is_full c.faces-surface.ensures.surface held cut c.requires.flags over c.requires.held
+    is_full c.law_of_surface.ensures.surface held cut c.requires.flags over c.requires.held
 
 pub returns-clause-chosen : goal.returns-clause-chosen
 returns-clause-chosen c =
     let mesh = c.args.mesh.now in
     let held = c.args.held.now in
-    let surface = c.faces-surface.ensures.surface in
+    let surface = c.law_of_surface.ensures.surface in
     let cut = c.deref_mut.result.now in
     let over : AreTurnedOver held cut = subst (AreTurnedOver held) (sym c.deref_mut.ensures.value) c.in_ok-cut.ensures in
     let less = c.open_by_trim.new.cut in
@@ -28,7 +28,7 @@ pub returns-clause-opening : goal.returns-clause-opening
 returns-clause-opening c =
     let mesh = c.args.mesh.now in
     let held = c.args.held.now in
-    let surface = c.faces-surface.ensures.surface in
+    let surface = c.law_of_surface.ensures.surface in
     let cut = c.deref_mut.result.now in
     let over : AreTurnedOver held cut = subst (AreTurnedOver held) (sym c.deref_mut.ensures.value) c.in_ok-cut.ensures in
     let less = c.open_by_trim.new.cut in

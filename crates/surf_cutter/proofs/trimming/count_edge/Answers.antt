@@ -7,7 +7,7 @@ use Rattle.surf_cutter.proofs.trimming.count_edge.Goals as goal
 
 pub count_at-requires-clause-first : goal.count_at-requires-clause-first
 count_at-requires-clause-first c =
-    let b = ends_below c.args.mesh.now c.faces-surface.ensures.surface.is_mesh c.args.e c.requires.edge in
+    let b = ends_below c.args.mesh.now c.law_of_surface.ensures.surface.is_mesh c.args.e c.requires.edge in
     let is = ap (λ (p : ℕ × ℕ). p.0) c.ends-u.ensures in
     let n = c.new.ensures in
     let m = ap (λ e. (ends c.args.mesh.now e).0) n in
@@ -15,14 +15,14 @@ count_at-requires-clause-first c =
 
 pub count_at-requires-clause-second : goal.count_at-requires-clause-second
 count_at-requires-clause-second c =
-    let b = ends_below c.args.mesh.now c.faces-surface.ensures.surface.is_mesh c.args.e c.requires.edge in
+    let b = ends_below c.args.mesh.now c.law_of_surface.ensures.surface.is_mesh c.args.e c.requires.edge in
     let is = ap (λ (p : ℕ × ℕ). p.1) c.ends-u.ensures in
     let m = ap (λ e. (ends c.args.mesh.now e).1) c.new.ensures in
     omega (arith, b.1, is, m, c.requires.size)
 
 pub count_at-requires-clause-differ : goal.count_at-requires-clause-differ
 count_at-requires-clause-differ c same =
-    let b = ends_below c.args.mesh.now c.faces-surface.ensures.surface.is_mesh c.args.e c.requires.edge in
+    let b = ends_below c.args.mesh.now c.law_of_surface.ensures.surface.is_mesh c.args.e c.requires.edge in
     let first = ap (λ (p : ℕ × ℕ). p.0) c.ends-u.ensures in
     let second = ap (λ (p : ℕ × ℕ). p.1) c.ends-u.ensures in
     let m = ap (λ e. (ends c.args.mesh.now e).0) c.new.ensures in
@@ -32,7 +32,7 @@ count_at-requires-clause-differ c same =
 pub count_at-requires-clause-few_first : goal.count_at-requires-clause-few_first
 count_at-requires-clause-few_first c =
     let mesh = c.args.mesh.now in
-    let s = c.faces-surface.ensures in
+    let s = c.law_of_surface.ensures in
     let b = ends_below mesh s.surface.is_mesh c.args.e c.requires.edge in
     let is : c.ends-u.result.0 ≡ (ends mesh c.args.e).0 = ap (λ (p : ℕ × ℕ). p.0) c.ends-u.ensures ∙ ap (λ e. (ends mesh e).0) c.new.ensures in
     let few = degree_few mesh c.args.cut.now c.args.e c.ends-u.result.0 c.args.degree.now c.requires.so_far (omega (arith, is, b.0, b.1)) in
@@ -41,7 +41,7 @@ count_at-requires-clause-few_first c =
 pub count_at-requires-clause-few_second : goal.count_at-requires-clause-few_second
 count_at-requires-clause-few_second c =
     let mesh = c.args.mesh.now in
-    let s = c.faces-surface.ensures in
+    let s = c.law_of_surface.ensures in
     let b = ends_below mesh s.surface.is_mesh c.args.e c.requires.edge in
     let is : c.ends-u.result.1 ≡ (ends mesh c.args.e).1 = ap (λ (p : ℕ × ℕ). p.1) c.ends-u.ensures ∙ ap (λ e. (ends mesh e).1) c.new.ensures in
     let few = degree_few mesh c.args.cut.now c.args.e c.ends-u.result.1 c.args.degree.now c.requires.so_far (omega (arith, is, b.1)) in

@@ -15,7 +15,7 @@ first_cut-requires-clause-some c = leaf_edge c.args.mesh.now c.args.cut.now c.ar
 pub uncount_at-requires-clause-first : goal.uncount_at-requires-clause-first
 uncount_at-requires-clause-first c =
     let mesh = c.args.mesh.now in
-    let surface = c.faces-surface.ensures.surface in
+    let surface = c.law_of_surface.ensures.surface in
     let edges = c.ring_edges-edges.result.now in
     let k = c.first_cut.result in
     let e = c.index-edges-first_cut.result in
@@ -32,7 +32,7 @@ uncount_at-requires-clause-first c =
 pub uncount_at-requires-clause-second : goal.uncount_at-requires-clause-second
 uncount_at-requires-clause-second c =
     let mesh = c.args.mesh.now in
-    let surface = c.faces-surface.ensures.surface in
+    let surface = c.law_of_surface.ensures.surface in
     let edges = c.ring_edges-edges.result.now in
     let k = c.first_cut.result in
     let e = c.index-edges-first_cut.result in
@@ -49,7 +49,7 @@ uncount_at-requires-clause-second c =
 pub uncount_at-requires-clause-differ : goal.uncount_at-requires-clause-differ
 uncount_at-requires-clause-differ c same =
     let mesh = c.args.mesh.now in
-    let surface = c.faces-surface.ensures.surface in
+    let surface = c.law_of_surface.ensures.surface in
     let edges = c.ring_edges-edges.result.now in
     let k = c.first_cut.result in
     let e = c.index-edges-first_cut.result in
@@ -66,7 +66,7 @@ uncount_at-requires-clause-differ c same =
 pub uncount_at-requires-clause-some_first : goal.uncount_at-requires-clause-some_first
 uncount_at-requires-clause-some_first c =
     let mesh = c.args.mesh.now in
-    let surface = c.faces-surface.ensures.surface in
+    let surface = c.law_of_surface.ensures.surface in
     let edges = c.ring_edges-edges.result.now in
     let k = c.first_cut.result in
     let e = c.index-edges-first_cut.result in
@@ -84,7 +84,7 @@ uncount_at-requires-clause-some_first c =
 pub uncount_at-requires-clause-some_second : goal.uncount_at-requires-clause-some_second
 uncount_at-requires-clause-some_second c =
     let mesh = c.args.mesh.now in
-    let surface = c.faces-surface.ensures.surface in
+    let surface = c.law_of_surface.ensures.surface in
     let edges = c.ring_edges-edges.result.now in
     let k = c.first_cut.result in
     let e = c.index-edges-first_cut.result in
@@ -102,7 +102,7 @@ uncount_at-requires-clause-some_second c =
 pub returns-then-eq : goal.returns-then-eq
 returns-then-eq c =
     let mesh = c.args.mesh.now in
-    let surface = c.faces-surface.ensures.surface in
+    let surface = c.law_of_surface.ensures.surface in
     let edges = c.ring_edges-edges.result.now in
     let k = c.first_cut.result in
     let e = c.index-edges-first_cut.result in
@@ -127,7 +127,7 @@ returns-then-eq c =
 pub returns-else-eq : goal.returns-else-eq
 returns-else-eq c =
     let mesh = c.args.mesh.now in
-    let surface = c.faces-surface.ensures.surface in
+    let surface = c.law_of_surface.ensures.surface in
     let edges = c.ring_edges-edges.result.now in
     let k = c.first_cut.result in
     let e = c.index-edges-first_cut.result in

@@ -27,7 +27,7 @@ loop-left-preserved c =
       counted = omega (arith, counted, i.counted);
       vertex = t.other_end;
       from = at_least next c.args.low (sym c.lt.ensures ∙ c.if-lt.false);
-      trimmed = trimmed_more c.faces-surface.ensures.surface c.args.cut.now old new degree less leaf next i.trimmed i.degrees i.flags i.vertex one many (λ v gt v_in. i.above c.loop-left-test.true v (omega (arith, i.from)) v_in (λ e. omega arith)) t;
+      trimmed = trimmed_more c.law_of_surface.ensures.surface c.args.cut.now old new degree less leaf next i.trimmed i.degrees i.flags i.vertex one many (λ v gt v_in. i.above c.loop-left-test.true v (omega (arith, i.from)) v_in (λ e. omega arith)) t;
       above = no_other_left leaf next c.args.low old new degree less c.loop-left.left c.loop-left-test.true i.above t;
     }
 
@@ -46,5 +46,5 @@ returns-then-lt-clause-trimmed c =
     let degree = c.loop-left.degree in
     let one : get_or degree leaf 0 ≡ 1 = ap (λ k. get_or degree k 0) (sym c.index.ensures) ∙ c.if-degree-index-eq1.true in
     let many : 2 < cut_count c.args.mesh.now (is_cut old) = omega (arith, c.loop-left-test.true, i.counted) in
-    trimmed_more c.faces-surface.ensures.surface c.args.cut.now old c.take_back-next.new.cut degree c.take_back-next.new.degree leaf next i.trimmed i.degrees i.flags i.vertex one many
+    trimmed_more c.law_of_surface.ensures.surface c.args.cut.now old c.take_back-next.new.cut degree c.take_back-next.new.degree leaf next i.trimmed i.degrees i.flags i.vertex one many
     (λ v gt v_in. i.above c.loop-left-test.true v (omega (arith, i.from)) v_in (λ e. omega arith)) t

@@ -11,7 +11,7 @@ other_side-requires c =
     let lt : s < side_count mesh = omega (arith, c.loop-s-test.true, c.side_count-count.ensures.count) in
     record {
       some = row_has mesh s c.row-row.result.now
-          (row_read mesh c.vertices-mesh.ensures.mesh _ _ _ _ _ c.requires.table c.requires.few s lt
+          (row_read mesh c.law_of_soup.ensures.mesh _ _ _ _ _ c.requires.table c.requires.few s lt
           c.index-edge.result.now c.row-row.result.now c.index-edge.ensures c.row-row.ensures) lt;
     }
 
@@ -21,7 +21,7 @@ loop-s-preserved c =
     let s = c.loop-s.s in
     let row = c.row-row.result.now in
     let lt : s < side_count mesh = omega (arith, c.loop-s-test.true, c.side_count-count.ensures.count) in
-    let own = row_read mesh c.vertices-mesh.ensures.mesh _ _ _ _ _ c.requires.table c.requires.few s lt
+    let own = row_read mesh c.law_of_soup.ensures.mesh _ _ _ _ _ c.requires.table c.requires.few s lt
     c.index-edge.result.now row c.index-edge.ensures c.row-row.ensures in
     let is = row_across mesh s row own lt in
     let items : c.push.new.self.items ≡ c.loop-s.across.items ++ c.other_side.result ∷ [] = search rules in

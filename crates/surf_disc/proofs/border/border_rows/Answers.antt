@@ -40,7 +40,7 @@ list_ends-requires-clause-nexts c = λ k d in'.
     omega (
       arith,
       get_or_default c.args.next.now k d 0 in',
-      next_in mesh c.faces-mesh.ensures.mesh c.args.next.now c.args.prev.now c.args.across.now c.requires.tables k lt,
+      next_in mesh c.law_of_soup.ensures.mesh c.args.next.now c.args.prev.now c.args.across.now c.requires.tables k lt,
     )
 
 pub list_ends-requires-clause-prevs : goal.list_ends-requires-clause-prevs
@@ -52,7 +52,7 @@ list_ends-requires-clause-prevs c = λ k d in'.
     omega (
       arith,
       get_or_default c.args.prev.now k d 0 in',
-      prev_in mesh c.faces-mesh.ensures.mesh c.args.next.now c.args.prev.now c.args.across.now c.requires.tables k lt,
+      prev_in mesh c.law_of_soup.ensures.mesh c.args.next.now c.args.prev.now c.args.across.now c.requires.tables k lt,
     )
 
 pub list_ends-requires-clause-tails_size : goal.list_ends-requires-clause-tails_size
@@ -73,8 +73,7 @@ push-requires c =
       t.0,
       t.1,
       at_vertex_total mesh c.args.at_vertex.now c.requires.rows,
-      c.side_count-few.ensures.count,
-      c.side_count-few.ensures.few,
+      c.law_of_soup.ensures.few,
     )
 
 pub loop-v-preserved : goal.loop-v-preserved

@@ -18,6 +18,6 @@ returns c =
     record {
       least = each_case c.first_row.result (NoneWithin 1 1 rows) ((e : ℕ) → IsBorderEdge mesh e → ⊥)
           (λ e. IsFirstWithin 1 1 rows e) (λ e. IsLeastOnBorder mesh e)
-          (no_border mesh c.faces-mesh.ensures.mesh _ _ _ _ _ c.requires.table)
-          (first_border mesh c.faces-mesh.ensures.mesh _ _ _ _ _ c.requires.table) c.first_row.ensures;
+          (no_border mesh c.law_of_soup.ensures.mesh _ _ _ _ _ c.requires.table)
+          (first_border mesh c.law_of_soup.ensures.mesh _ _ _ _ _ c.requires.table) c.first_row.ensures;
     }

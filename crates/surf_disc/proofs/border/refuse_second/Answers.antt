@@ -11,13 +11,13 @@ first_outside-requires-clause-ends c = λ e in'.
     let mesh = c.args.soup.now in
     let same = c.deref.ensures.value ∙ c.requires.table.edge_list_is in
     let lt : e < edge_count mesh = omega (arith, in', ap length same) in
-    let low = ends_below mesh c.vertices-mesh.ensures.mesh e lt in
+    let low = ends_below mesh c.law_of_soup.ensures.mesh e lt in
     omega (arith, low.0, low.1, ap (λ (xs : List (ℕ × ℕ)). (get_or xs e (0, 0)).0) same, c.requires.marks.size)
 
 pub returns-in-Some-clause-fault : goal.returns-in-Some-clause-fault
 returns-in-Some-clause-fault c =
     let mesh = c.args.soup.now in
-    let is_mesh = c.vertices-mesh.ensures.mesh in
+    let is_mesh = c.law_of_soup.ensures.mesh in
     let t = c.requires.table in
     let list = c.args.table.now.edges.items in
     let e = c.args.e in
@@ -39,5 +39,5 @@ pub returns-clause-one : goal.returns-clause-one
 returns-clause-one c =
     let F : List (ℕ × ℕ) → Type 0 = λ ps. AllInside c.args.table.now.sides ps c.args.seen.now
     (length c.args.table.now.sides) in
-    one_border c.args.soup.now c.vertices-mesh.ensures.mesh _ _ _ _ _ c.requires.table c.args.e c.args.seen.now
+    one_border c.args.soup.now c.law_of_soup.ensures.mesh _ _ _ _ _ c.requires.table c.args.e c.args.seen.now
     c.requires.marks (subst F c.deref.ensures.value c.in_default.ensures.first)

@@ -8,13 +8,12 @@ count_single-requires c =
     record {
       few = omega (
         arith,
-        table_len mesh c.vertices-mesh.ensures.mesh _ _ _ _ _ c.in_ok-table.ensures,
+        table_len mesh c.law_of_soup.ensures.mesh _ _ _ _ _ c.in_ok-table.ensures,
         edges_within mesh,
-        c.side_count-few.ensures.count,
-        c.side_count-few.ensures.few,
+          c.law_of_soup.ensures.few,
       );
     }
 
 pub returns-clause-border : goal.returns-clause-border
 returns-clause-border c = c.count_single.ensures.count
-    ∙ sym (rows_counted c.args.soup.now c.vertices-mesh.ensures.mesh _ _ _ _ _ c.in_ok-table.ensures)
+    ∙ sym (rows_counted c.args.soup.now c.law_of_soup.ensures.mesh _ _ _ _ _ c.in_ok-table.ensures)

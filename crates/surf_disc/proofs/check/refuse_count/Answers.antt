@@ -8,7 +8,6 @@ overflow_cast-edges c =
       arith,
       edges_within c.args.soup.now,
       ap length c.requires.table.edge_list_is,
-      c.side_count-few.ensures.count,
-      c.side_count-few.ensures.few,
+      c.law_of_soup.ensures.few,
     ) in
     omega (arith, few, c.len-edges.ensures)

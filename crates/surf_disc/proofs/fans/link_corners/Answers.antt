@@ -20,7 +20,7 @@ bounds-tails-s c = omega (
 )
 
 pub corner_across-over_this-requires-clause-across : goal.corner_across-over_this-requires-clause-across
-corner_across-over_this-requires-clause-across c = across_inside c.args.soup.now c.vertices-mesh.ensures.mesh
+corner_across-over_this-requires-clause-across c = across_inside c.args.soup.now c.law_of_soup.ensures.mesh
     c.args.next.now c.args.prev.now c.args.across.now c.requires.tables
 
 pub corner_across-over_this-requires-clause-tails : goal.corner_across-over_this-requires-clause-tails
@@ -33,13 +33,13 @@ corner_across-over_that-requires-clause-side c =
     (arith, c.loop-s-test.true, c.side_count-s-end.ensures.count) in
     omega (
       arith,
-      prev_in c.args.soup.now c.vertices-mesh.ensures.mesh c.args.next.now c.args.prev.now
+      prev_in c.args.soup.now c.law_of_soup.ensures.mesh c.args.next.now c.args.prev.now
           c.args.across.now c.requires.tables c.loop-s.s lt,
       c.requires.tables.acrosses.size,
     )
 
 pub corner_across-over_that-requires-clause-across : goal.corner_across-over_that-requires-clause-across
-corner_across-over_that-requires-clause-across c = across_inside c.args.soup.now c.vertices-mesh.ensures.mesh
+corner_across-over_that-requires-clause-across c = across_inside c.args.soup.now c.law_of_soup.ensures.mesh
     c.args.next.now c.args.prev.now c.args.across.now c.requires.tables
 
 pub corner_across-over_that-requires-clause-tails : goal.corner_across-over_that-requires-clause-tails

@@ -29,7 +29,7 @@ push-requires c =
 pub reach-requires-clause-inside : goal.reach-requires-clause-inside
 reach-requires-clause-inside c =
     let F : List ℕ → Type 0 = λ xs. AreFirsts c.args.at_vertex.now (length c.args.at_vertex.now) xs in
-    links_inside c.args.soup.now c.vertices-mesh.ensures.mesh c.args.next.now c.args.prev.now c.args.across.now
+    links_inside c.args.soup.now c.law_of_soup.ensures.mesh c.args.next.now c.args.prev.now c.args.across.now
     c.requires.tables c.in_ok-rows.rows c.push.new.self c.in_ok-rows.ensures.rows
     c.args.at_vertex.now c.deref.result.now c.requires.rows
     (subst F (sym c.deref.ensures.value) c.in_ok-firsts.ensures.firsts) c.requires.met c.in_ok-push.ensures.ok
@@ -40,7 +40,7 @@ returns c =
     let R : ℕ → Type 0 = λ n. IsReach c.push.new.self n c.in_ok-seen.seen.items in
     record {
       fans =
-          fans_marked c.args.soup.now c.vertices-mesh.ensures.mesh c.args.next.now c.args.prev.now c.args.across.now
+          fans_marked c.args.soup.now c.law_of_soup.ensures.mesh c.args.next.now c.args.prev.now c.args.across.now
           c.requires.tables c.in_ok-rows.rows c.push.new.self c.in_ok-rows.ensures.rows
           c.args.at_vertex.now c.deref.result.now c.requires.rows
           (subst F (sym c.deref.ensures.value) c.in_ok-firsts.ensures.firsts) c.requires.met c.in_ok-push.ensures.ok

@@ -13,8 +13,8 @@ use Rattle.surf_geom.proofs.write.write_lengths.Goals as goal
 
 pub returns-in_err-write_entry-clause-reread : goal.returns-in_err-write_entry-clause-reread
 returns-in_err-write_entry-clause-reread c =
-    let vertices = c.vertices-vertices.ensures.count in
-    reread c.args.mesh.now c.args.lengths.now c.vertices-vertices.ensures.surface.is_mesh (omega arith) c.count-lengths.ensures.lengths c.requires.count
+    let vertices = c.law_of_surface.ensures.vertices in
+    reread c.args.mesh.now c.args.lengths.now c.law_of_surface.ensures.surface.is_mesh (omega arith) c.law_of_lengths.ensures.lengths c.requires.count
 
 pub returns-in_err-write_entry-clause-puts : goal.returns-in_err-write_entry-clause-puts
 returns-in_err-write_entry-clause-puts c =
@@ -49,8 +49,8 @@ returns c =
     let lengths = c.args.lengths.now in
     let xs = zip (edges mesh) lengths in
     let piece : (ℕ × ℕ) × ℕ → List ℕ = λ entry. entry_text entry.0 entry.1 in
-    let vertices = c.vertices-vertices.ensures.count in
+    let vertices = c.law_of_surface.ensures.vertices in
     record {
       puts = loop_done entries_text piece refl (λ x xs. refl) xs c.loop-e.e c.args.page.now c.loop-e.page (tt {0}) (omega (arith, length-zip (edges mesh) lengths)) c.loop-e.invariant.puts;
-      reread = reread mesh lengths c.vertices-vertices.ensures.surface.is_mesh (omega arith) c.count-lengths.ensures.lengths c.requires.count;
+      reread = reread mesh lengths c.law_of_surface.ensures.surface.is_mesh (omega arith) c.law_of_lengths.ensures.lengths c.requires.count;
     }

@@ -23,9 +23,8 @@ offset_bounds-prev-index c =
     let some : 0 < length (sides_at mesh c.args.v) = omega (arith, c.requires.some, ap length c.requires.row) in
     let b = at_begins mesh c.args.v 0 some in
     let e = first_read c.args.row.now (sides_at mesh c.args.v) c.index-row-0.result c.index.result c.index.ensures c.index-row-0.is c.requires.some c.requires.row in
-    let few = c.side_count-few.ensures.few in
-    let count = c.side_count-few.ensures.count in
-    omega (arith, b.0, e, few, count)
+    let few = c.law_of_soup.ensures.few in
+    omega (arith, b.0, e, few)
 
 pub bounds-prev-index : goal.bounds-prev-index
 bounds-prev-index c =
@@ -38,14 +37,14 @@ bounds-prev-index c =
 pub go_round-requires-clause-darts : goal.go_round-requires-clause-darts
 go_round-requires-clause-darts c =
     let D : List ℕ → Type 0 = AreDarts c.args.next.now c.args.prev.now c.args.mate.now in
-    subst D (sym c.corners.ensures) (are_darts c.args.soup.now c.vertices-mesh.ensures.mesh c.requires.two c.args.mate.now c.requires.mates c.args.next.now c.args.prev.now c.requires.next c.requires.prev)
+    subst D (sym c.corners.ensures) (are_darts c.args.soup.now c.law_of_soup.ensures.mesh c.requires.two c.args.mate.now c.requires.mates c.args.next.now c.args.prev.now c.requires.next c.requires.prev)
 
 pub go_round-requires-clause-start : goal.go_round-requires-clause-start
 go_round-requires-clause-start c =
     let mesh = c.args.soup.now in
     let some : 0 < length (sides_at mesh c.args.v) = omega (arith, c.requires.some, ap length c.requires.row) in
     let e = first_read c.args.row.now (sides_at mesh c.args.v) c.index-row-0.result c.index.result c.index.ensures c.index-row-0.is c.requires.some c.requires.row in
-    begin_in mesh c.vertices-mesh.ensures.mesh c.requires.two c.args.mate.now c.requires.mates c.args.next.now c.args.prev.now c.requires.next c.requires.prev c.args.v some (get_or c.args.prev.now c.index.result 0) (ap (λ t. get_or c.args.prev.now t 0) e)
+    begin_in mesh c.law_of_soup.ensures.mesh c.requires.two c.args.mate.now c.requires.mates c.args.next.now c.args.prev.now c.requires.next c.requires.prev c.args.v some (get_or c.args.prev.now c.index.result 0) (ap (λ t. get_or c.args.prev.now t 0) e)
 
 pub go_round-requires-clause-fresh : goal.go_round-requires-clause-fresh
 go_round-requires-clause-fresh c =
@@ -54,7 +53,7 @@ go_round-requires-clause-fresh c =
     let e = first_read c.args.row.now (sides_at mesh c.args.v) c.index-row-0.result c.index.result c.index.ensures c.index-row-0.is c.requires.some c.requires.row in
     let from = get_or c.args.prev.now c.index.result 0 in
     let T : List ℕ → Type 0 = λ tails. (s : ℕ) → s < length c.args.next.now → get_or tails s 0 ≡ get_or tails (get_or c.args.next.now from 0) 0 → marked c.args.seen.now s ≡ false in
-    subst T (sym c.corners.ensures) (begin_fresh mesh c.vertices-mesh.ensures.mesh c.requires.two c.args.mate.now c.requires.mates c.args.next.now c.args.prev.now c.requires.next c.requires.prev c.args.v some from (ap (λ t. get_or c.args.prev.now t 0) e) c.args.seen.now c.requires.fresh)
+    subst T (sym c.corners.ensures) (begin_fresh mesh c.law_of_soup.ensures.mesh c.requires.two c.args.mate.now c.requires.mates c.args.next.now c.args.prev.now c.requires.next c.requires.prev c.args.v some from (ap (λ t. get_or c.args.prev.now t 0) e) c.args.seen.now c.requires.fresh)
 
 pub first_left-left-requires : goal.first_left-left-requires
 first_left-left-requires c = λ k lt.
@@ -70,7 +69,7 @@ returns-clause-others c =
     let e = first_read c.args.row.now (sides_at mesh c.args.v) c.index-row-0.result c.index.result c.index.ensures c.index-row-0.is c.requires.some c.requires.row in
     let from = get_or c.args.prev.now c.index.result 0 in
     let R : List ℕ → Type 0 = λ tails. IsRound c.args.next.now c.args.prev.now c.args.mate.now tails (from, true) c.args.seen.now c.go_round.new.seen c.go_round.new.ring.items in
-    ring_others mesh c.vertices-mesh.ensures.mesh c.requires.two c.args.mate.now c.requires.mates c.args.next.now c.args.prev.now c.requires.next c.requires.prev c.args.v some from (ap (λ t. get_or c.args.prev.now t 0) e) c.args.seen.now c.go_round.new.seen c.go_round.new.ring.items c.requires.fresh (subst R c.corners.ensures c.in_ok-go_round.ensures.round)
+    ring_others mesh c.law_of_soup.ensures.mesh c.requires.two c.args.mate.now c.requires.mates c.args.next.now c.args.prev.now c.requires.next c.requires.prev c.args.v some from (ap (λ t. get_or c.args.prev.now t 0) e) c.args.seen.now c.go_round.new.seen c.go_round.new.ring.items c.requires.fresh (subst R c.corners.ensures c.in_ok-go_round.ensures.round)
 
 pub returns-clause-found : goal.returns-clause-found
 returns-clause-found c =
@@ -95,6 +94,6 @@ returns-clause-found c =
     let T : List ℕ → Type 0 = λ sides. MatchOption o (All sides) (Left sides) in
     let G : List ℕ → Type 0 = λ sides. MatchOption o Whole (Pinch sides) in
     subst G (sym c.requires.row) (each_case o (All at) Whole (Left at) (Pinch at)
-    (whole_ring mesh c.vertices-mesh.ensures.mesh c.requires.two c.args.mate.now c.requires.mates c.args.next.now c.args.prev.now c.requires.next c.requires.prev v some from (ap (λ t. get_or c.args.prev.now t 0) e) c.args.seen.now seen ring c.requires.fresh round c.args.edge_of.now edges c.requires.edges trail)
-    (λ k h. (h.0, ring_pinch mesh c.vertices-mesh.ensures.mesh c.requires.two c.args.mate.now c.requires.mates c.args.next.now c.args.prev.now c.requires.next c.requires.prev v some from (ap (λ t. get_or c.args.prev.now t 0) e) c.args.seen.now seen ring c.requires.fresh round k h.0 h.1 h.2))
+    (whole_ring mesh c.law_of_soup.ensures.mesh c.requires.two c.args.mate.now c.requires.mates c.args.next.now c.args.prev.now c.requires.next c.requires.prev v some from (ap (λ t. get_or c.args.prev.now t 0) e) c.args.seen.now seen ring c.requires.fresh round c.args.edge_of.now edges c.requires.edges trail)
+    (λ k h. (h.0, ring_pinch mesh c.law_of_soup.ensures.mesh c.requires.two c.args.mate.now c.requires.mates c.args.next.now c.args.prev.now c.requires.next c.requires.prev v some from (ap (λ t. get_or c.args.prev.now t 0) e) c.args.seen.now seen ring c.requires.fresh round k h.0 h.1 h.2))
     (subst T c.requires.row c.first_left-left.ensures))

@@ -22,7 +22,7 @@ returns-in_err-put_basis c =
     let fault = c.in_err-put_basis.field-0.0 in
     let p = err_from_is_err_and c.from_residual-in_err-put_basis.result c.from_residual-in_err-put_basis.ensures.1 in
     rw (p.1, p.2) (why_overfilled (GivesBasis mesh lengths) (cycles_text basis) fault
-    (λ long. gives_basis mesh lengths c.faces-surface.ensures.surface c.count-positive.ensures.lengths c.requires.lengths basis e.chosen e.least (beyond Answer) (says_beyond (cycles_text basis) long))
+    (λ long. gives_basis mesh lengths c.law_of_surface.ensures.surface c.law_of_lengths.ensures.lengths c.requires.lengths basis e.chosen e.least (beyond Answer) (says_beyond (cycles_text basis) long))
     (subst (λ (cycles : List Cycle). Overfills blank (cycles_text (as_loops cycles)) fault) c.deref.ensures.value
     (subst (λ (page : PageState). Overfills page (cycles_text (as_loops c.deref.result.now)) fault) c.make-page.ensures.empty c.in_err-put_basis.ensures)))
 
@@ -35,7 +35,7 @@ returns c =
     let filled : c.put_basis.new.page ≡ grown c.make-page.result (cycles_text basis) =
     subst (λ (cycles : List Cycle). c.put_basis.new.page ≡ grown c.make-page.result (cycles_text (as_loops cycles))) c.deref.ensures.value c.in_ok-put_basis.ensures in
     let most : c.put_basis.new.page.most ≡ 1073741824 = ap (λ (page : PageState). page.most) filled ∙ ap (λ (page : PageState). page.most) c.make-page.ensures.empty in
-    gives_basis mesh lengths c.faces-surface.ensures.surface c.count-positive.ensures.lengths c.requires.lengths basis e.chosen e.least
+    gives_basis mesh lengths c.law_of_surface.ensures.surface c.law_of_lengths.ensures.lengths c.requires.lengths basis e.chosen e.least
     (answers 0 c.into_bytes.result.items)
     (says_whole (cycles_text basis) c.into_bytes.result.items
     (c.into_bytes.ensures.bytes ∙ ap (λ (page : PageState). page.bytes) filled ∙ ap (λ (page : PageState). page.bytes ++ cycles_text basis) c.make-page.ensures.empty)

@@ -15,13 +15,13 @@ returns-in_err-write_basis_cert c =
     let fault = c.in_err-write_basis_cert.field-0.0 in
     let p = err_from_is_err_and c.from_residual-in_err-write_basis_cert.result c.from_residual-in_err-write_basis_cert.ensures.1 in
     rw (p.1, p.2) (why_stopped (basis_text cert) c.make-page.result c.make-page.ensures.empty (GivesBasisCert mesh lengths) fault
-    (gives_basis_cert mesh lengths cert c.faces-surface.ensures.surface c.count-positive.ensures.lengths c.requires.lengths c.in_ok-cert.ensures.chosen c.in_ok-cert.ensures.valid (beyond Answer))
+    (gives_basis_cert mesh lengths cert c.law_of_surface.ensures.surface c.law_of_lengths.ensures.lengths c.requires.lengths c.in_ok-cert.ensures.chosen c.in_ok-cert.ensures.valid (beyond Answer))
     c.in_err-write_basis_cert.ensures.puts.1)
 
 pub returns : goal.returns
 returns c =
     let cert = c.in_ok-cert.cert in
-    gives_basis_cert c.args.mesh.now c.args.lengths.now cert c.faces-surface.ensures.surface c.count-positive.ensures.lengths c.requires.lengths c.in_ok-cert.ensures.chosen c.in_ok-cert.ensures.valid
+    gives_basis_cert c.args.mesh.now c.args.lengths.now cert c.law_of_surface.ensures.surface c.law_of_lengths.ensures.lengths c.requires.lengths c.in_ok-cert.ensures.chosen c.in_ok-cert.ensures.valid
     (answers 0 c.into_bytes.result.items)
     (says_page (basis_text cert) c.make-page.result c.make-page.ensures.empty c.write_basis_cert.new.page c.into_bytes.result.items
     c.in_ok-write_basis_cert.ensures.puts.0 c.into_bytes.ensures.bytes c.into_bytes.ensures.within)

@@ -20,7 +20,7 @@ returns-in_err-put_found c =
     let fault = c.in_err-put_found.field-0.0 in
     let p = err_from_is_err_and c.from_residual-in_err-put_found.result c.from_residual-in_err-put_found.ensures.1 in
     rw (p.1, p.2) (why_overfilled (GivesCycle mesh lengths) (found_text found) fault
-    (λ long. gives_cycle mesh lengths c.faces-surface.ensures.surface c.count-positive.ensures.lengths c.requires.lengths found e.first e.shortest e.separate (beyond Answer) (says_beyond (found_text found) long))
+    (λ long. gives_cycle mesh lengths c.law_of_surface.ensures.surface c.law_of_lengths.ensures.lengths c.requires.lengths found e.first e.shortest e.separate (beyond Answer) (says_beyond (found_text found) long))
     (subst (λ (page : PageState). Overfills page (found_text found) fault) c.make-page.ensures.empty c.in_err-put_found.ensures))
 
 pub returns : goal.returns
@@ -31,7 +31,7 @@ returns c =
     let e = c.in_ok-found.ensures in
     let most : c.put_found.new.page.most ≡ 1073741824 =
     ap (λ (page : PageState). page.most) c.in_ok-put_found.ensures ∙ ap (λ (page : PageState). page.most) c.make-page.ensures.empty in
-    gives_cycle mesh lengths c.faces-surface.ensures.surface c.count-positive.ensures.lengths c.requires.lengths found e.first e.shortest e.separate
+    gives_cycle mesh lengths c.law_of_surface.ensures.surface c.law_of_lengths.ensures.lengths c.requires.lengths found e.first e.shortest e.separate
     (answers 0 c.into_bytes.result.items)
     (says_whole (found_text found) c.into_bytes.result.items
     (c.into_bytes.ensures.bytes ∙ ap (λ (page : PageState). page.bytes) c.in_ok-put_found.ensures ∙ ap (λ (page : PageState). page.bytes ++ found_text found) c.make-page.ensures.empty)

@@ -7,7 +7,7 @@ use Rattle.surf_run.proofs.HeadLaws.{heads_total}
 use Rattle.surf_run.proofs.try_command.loops_total.Goals as goal
 
 pub greedy-requires-clause-base : goal.greedy-requires-clause-base
-greedy-requires-clause-base c = subst (λ n. n < c.args.mesh.now.vertices) (sym c.new.ensures) (some_vertex c.args.mesh.now c.faces-surface.ensures.surface)
+greedy-requires-clause-base c = subst (λ n. n < c.args.mesh.now.vertices) (sym c.new.ensures) (some_vertex c.args.mesh.now c.law_of_surface.ensures.surface)
 
 pub returns : goal.returns
 returns c =

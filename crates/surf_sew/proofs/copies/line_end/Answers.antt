@@ -1,4 +1,4 @@
-use Rattle.surf_sew.proofs.FirstByte.{first_is}
+use Rattle.surf_text.proofs.First.{first_is}
 use Rattle.surf_sew.proofs.copies.line_end.Goals as goal
 
 pub returns : goal.returns

@@ -55,7 +55,7 @@ push_face-requires-clause-few c =
     let most = sum_by_more_le length fs f [] lt in
     let all = sewn_sides origins faces in
     let count : length c.deref.result.now ≡ length (get_or fs f []) = ap length (corners ∙ sym sewn) in
-    rw c.loop-f.invariant.faces (omega (arith, most, all, count, c.side_count-sides.ensures.count, c.side_count-sides.ensures.few))
+    rw c.loop-f.invariant.faces (omega (arith, most, all, count, c.law_of_soup.ensures.few))
 
 pub loop-f-preserved : goal.loop-f-preserved
 loop-f-preserved c =

@@ -7,7 +7,7 @@ pub label_vertex-count-requires-clause-first : goal.label_vertex-count-requires-
 label_vertex-count-requires-clause-first c = below_few c.loop-v.invariant
 
 pub overflow_add-count : goal.overflow_add-count
-overflow_add-count c = omega (arith, below_few c.loop-v.invariant, c.label_vertex-count.ensures.few, c.faces-few.ensures.few)
+overflow_add-count c = omega (arith, below_few c.loop-v.invariant, c.label_vertex-count.ensures.few, c.law_of_surface.ensures.few)
 
 pub loop-v-preserved : goal.loop-v-preserved
 loop-v-preserved c =
@@ -18,4 +18,4 @@ loop-v-preserved c =
 pub returns : goal.returns
 returns c =
     let all : c.loop-v.v ≡ c.args.mesh.now.vertices = omega (arith, c.vertices-v-end.ensures.count) in
-    labelled_all c.faces-few.ensures.surface all c.loop-v.invariant
+    labelled_all c.law_of_surface.ensures.surface all c.loop-v.invariant

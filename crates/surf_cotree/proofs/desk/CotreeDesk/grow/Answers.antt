@@ -61,8 +61,8 @@ module _ (c : After-deref_mut-8) (parent up depth : List ℕ)
   end = hung (outside c.args.in_tree.now) (at c.args.weight.now) (start c)
 
   heavy : IsHeaviestTree (dual_of c) (outside c.args.in_tree.now) (at c.args.weight.now) (spanned_tree 0 parent up depth)
-  heavy = hung_all (dual_of c) (outside c.args.in_tree.now) (at c.args.weight.now) (surfaces_are_cells c.args.mesh.now c.faces-surface.ensures.surface).complex.dual_ends (omega (arith, c.edges-edges.type_inv, c.edges-edges.ensures.count)) c.deref-2.result.now parent up depth end
-      (unmarked_join c.args.mesh.now c.args.in_tree.now c.faces-surface.ensures.surface c.requires.tree)
+  heavy = hung_all (dual_of c) (outside c.args.in_tree.now) (at c.args.weight.now) (surfaces_are_cells c.args.mesh.now c.law_of_surface.ensures.surface).complex.dual_ends (omega (arith, c.law_of_surface.ensures.edges)) c.deref-2.result.now parent up depth end
+      (unmarked_join c.args.mesh.now c.args.in_tree.now c.law_of_surface.ensures.surface c.requires.tree)
 
   root : at up 0 ≡ nobody
   root = end.root
@@ -117,8 +117,8 @@ returns c =
     let t : CotreeTables = record { held = held; left = c.list_left.new.left.items; parents = parent; ups = up; depths = depth; width = d.signs.width; signatures = d.signs.sets } in
     rw (depth_is, parent_is, up_is, held_is) (record {
       grown = grown_tables mesh marks (at c.args.weight.now) t (record {
-        surface = c.faces-surface.ensures.surface;
-        few = omega (arith, c.edges-edges.type_inv, c.edges-edges.ensures.count);
+        surface = c.law_of_surface.ensures.surface;
+        few = omega (arith, c.law_of_surface.ensures.edges);
         made = record {
           held = wide;
           parents = omega (arith, c.deref_mut-7.ensures.len, c.deref_mut-4.ensures.len, here.parents);

@@ -36,7 +36,7 @@ settle-requires-clause-valid c =
     let copied : (e : ℕ) → e < length signs → slice_index signs e ≡ slice_index c.args.cotree.now.signatures e =
     λ e l. c.copy_signs.ensures.signs e (omega (arith, l, count, kept, c.deref_mut.ensures.len, ap (λ (xs : List ℕ). length xs) c.deref_mut.ensures.value)) in
     let seen : c.deref.result.now ≡ signs = c.deref.ensures.value ∙ signs_is in
-    rw seen (coverable mesh c.args.cotree.now c.requires.signed t.sets sets signs count copied c.faces-surface.ensures.surface c.args.lengths.now c.requires.lengths few)
+    rw seen (coverable mesh c.args.cotree.now c.requires.signed t.sets sets signs count copied c.law_of_surface.ensures.surface c.args.lengths.now c.requires.lengths few)
 
 pub settle-requires-clause-searchable : goal.settle-requires-clause-searchable
 settle-requires-clause-searchable c =
@@ -56,7 +56,7 @@ settle-requires-clause-searchable c =
     let tree = c.requires.signed.grown.tree in
     let split = c.requires.signed.grown.split in
     rw seen (searchable mesh (split_with tree c.args.cotree.now) t.sets signs (signed_by mesh c.args.cotree.now c.requires.signed t.sets sets signs count copied tree split)
-    c.faces-surface.ensures.surface c.args.lengths.now c.count-lengths.ensures.lengths few)
+    c.law_of_surface.ensures.surface c.args.lengths.now c.law_of_lengths.ensures.lengths few)
 
 pub returns : goal.returns
 returns c =
@@ -82,5 +82,5 @@ returns c =
     let settled = subst (λ n. IsSettled (cover_by mesh t.sets (slice_index signs)) (length_by lengths t.sets) n (slice_index distances)) at first in
     record {
       grown = rw (distances_is, signs_is) (grown mesh c.args.cotree.now c.requires.signed t.sets sets signs count copied
-          c.faces-surface.ensures.surface few lengths c.requires.lengths c.count-lengths.ensures.lengths c.args.base c.requires.base t.vertices vertices distances settled);
+          c.law_of_surface.ensures.surface few lengths c.requires.lengths c.law_of_lengths.ensures.lengths c.args.base c.requires.base t.vertices vertices distances settled);
     }

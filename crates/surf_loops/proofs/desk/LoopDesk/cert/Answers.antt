@@ -18,10 +18,10 @@ returns c =
     let lengths = c.args.lengths.now in
     let t = c.args.self.now in
     let g = c.requires.greedy in
-    let surface = c.faces-faces.ensures.surface in
-    let positive = lengths_positive mesh lengths c.count-lengths.ensures.lengths c.requires.lengths in
-    let numbers = numbers_fit mesh lengths (omega (arith, c.vertices-vertices.type_inv, c.vertices-vertices.ensures.count)) (omega (arith, c.faces-faces.type_inv, c.faces-faces.ensures.count))
-    (omega (arith, c.count-lengths.type_inv, c.count-lengths.ensures.count)) c.requires.lengths c.count-lengths.ensures.lengths in
+    let surface = c.law_of_surface.ensures.surface in
+    let positive = lengths_positive mesh lengths c.law_of_lengths.ensures.lengths c.requires.lengths in
+    let numbers = numbers_fit mesh lengths (omega (arith, c.law_of_surface.ensures.vertices)) (omega (arith, c.law_of_surface.ensures.faces))
+    (omega (arith, c.law_of_lengths.ensures.few)) c.requires.lengths c.law_of_lengths.ensures.lengths in
     let is : c.make.result ≡ chosen_cert mesh (trees_of t) =
     cert_shown mesh lengths t.tree.base t c.make.result c.in_ok-tree.tree c.in_ok-dual.dual c.in_ok-left.left.items surface positive g c.make.ensures.parts
     (c.in_ok-tree.ensures.rows ∙ ap (λ (x : TreeTables). rows_for mesh (tree_of x)) c.tree.ensures.tree)

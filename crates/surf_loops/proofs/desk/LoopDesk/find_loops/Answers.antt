@@ -22,8 +22,8 @@ grow-requires-clause-tree c =
     let mesh = c.args.mesh.now in
     let base = c.args.self.now.tree.base in
     let tree = grown_inside mesh c.args.lengths.now _ c.args.self.now c.self.view_is c.requires.tree in
-    let positive = lengths_positive mesh c.args.lengths.now c.count-lengths.ensures.lengths c.requires.lengths in
-    let marked = tree_marks mesh c.args.lengths.now base c.self.inside.tree c.edges-edges.ensures.surface positive tree in
+    let positive = lengths_positive mesh c.args.lengths.now c.law_of_lengths.ensures.lengths c.requires.lengths in
+    let marked = tree_marks mesh c.args.lengths.now base c.self.inside.tree c.law_of_surface.ensures.surface positive tree in
     (tree_of c.self.inside.tree, subst (λ (flags : List Bool). IsMarked mesh (tree_of c.self.inside.tree) flags) (sym c.tree_edges.ensures.flags) marked)
 
 pub list_heads-requires-clause-inside : goal.list_heads-requires-clause-inside
@@ -31,8 +31,8 @@ list_heads-requires-clause-inside c k d l =
     let mesh = c.args.mesh.now in
     let base = c.args.self.now.tree.base in
     let tree = grown_inside mesh c.args.lengths.now _ c.args.self.now c.self.view_is c.requires.tree in
-    let positive = lengths_positive mesh c.args.lengths.now c.count-lengths.ensures.lengths c.requires.lengths in
-    let marked = tree_marks mesh c.args.lengths.now base c.self.inside.tree c.edges-edges.ensures.surface positive tree in
+    let positive = lengths_positive mesh c.args.lengths.now c.law_of_lengths.ensures.lengths c.requires.lengths in
+    let marked = tree_marks mesh c.args.lengths.now base c.self.inside.tree c.law_of_surface.ensures.surface positive tree in
     let here = subst (λ (flags : List Bool). IsMarked mesh (tree_of c.self.inside.tree) flags) (sym c.tree_edges.ensures.flags) marked in
     let all = left_inside mesh c.tree_edges.result.now (slice_index c.deref.result.now) (tree_of c.self.inside.tree) c.grow.new.self here c.grow.ensures.grown in
     let made : length c.self.inside.cotree.held ≡ edge_count mesh = ap (λ (s : LoopTables). length s.cotree.held) c.self.view_is ∙ c.requires.made.cotree.held in
@@ -59,6 +59,6 @@ returns c =
     let same = subst (λ (xs : List ℕ). IsPermutation (map (head_of sw) xs) heads) c.left.ensures.left
     (subst (λ (xs : List ℕ). IsPermutation (map (head_of xs) c.left.result.now) heads) d2 c.list_heads.ensures.same) in
     record {
-      greedy = greedy_tables mesh c.args.lengths.now base t sw c.edges-edges.ensures.surface (omega (arith, c.edges-edges.type_inv, c.edges-edges.ensures.count))
-          c.count-lengths.ensures.lengths c.requires.lengths tree c.set_weights.ensures.lengths grown same c.list_heads.ensures.sorted;
+      greedy = greedy_tables mesh c.args.lengths.now base t sw c.law_of_surface.ensures.surface (omega (arith, c.law_of_surface.ensures.edges))
+          c.law_of_lengths.ensures.lengths c.requires.lengths tree c.set_weights.ensures.lengths grown same c.list_heads.ensures.sorted;
     }

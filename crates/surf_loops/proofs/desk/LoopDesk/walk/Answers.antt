@@ -9,19 +9,19 @@ use Rattle.surf_loops.proofs.desk.LoopDesk.walk.Goals as goal
 pub push_way-requires-clause-vertex : goal.push_way-requires-clause-vertex
 push_way-requires-clause-vertex c =
     let mesh = c.args.mesh.now in
-    let both = ends_in mesh c.faces-surface.ensures.surface c.args.edge c.requires.edge in
+    let both = ends_in mesh c.law_of_surface.ensures.surface c.args.edge c.requires.edge in
     subst (λ (p : ℕ × ℕ). p.0 < mesh.vertices) (sym c.ends-u.ensures) both.0
 
 pub push_way-requires-2-clause-vertex : goal.push_way-requires-2-clause-vertex
 push_way-requires-2-clause-vertex c =
     let mesh = c.args.mesh.now in
-    let both = ends_in mesh c.faces-surface.ensures.surface c.args.edge c.requires.edge in
+    let both = ends_in mesh c.law_of_surface.ensures.surface c.args.edge c.requires.edge in
     subst (λ (p : ℕ × ℕ). p.1 < mesh.vertices) (sym c.ends-u.ensures) both.1
 
 pub returns : goal.returns
 returns c =
     let mesh = c.args.mesh.now in
-    let both = ends_in mesh c.faces-surface.ensures.surface c.args.edge c.requires.edge in
+    let both = ends_in mesh c.law_of_surface.ensures.surface c.args.edge c.requires.edge in
     let tree_is : c.self.inside.tree ≡ c.args.self.now.tree = ap (λ (s : LoopTables). s.tree) c.self.view_is in
     let rooted = subst (IsRooted mesh) (sym tree_is) c.requires.rooted in
     let is_u : c.ends-u.result.0 ≡ _ = ap (λ (p : ℕ × ℕ). p.0) c.ends-u.ensures in
@@ -32,6 +32,6 @@ returns c =
     record {
       walk = whole;
       closed = subst (IsClosedAt mesh c.args.self.now.tree.base) (sym whole)
-          (c.law_of_loop_walks.ensures mesh (tree_of c.args.self.now.tree) c.faces-surface.ensures.surface
+          (c.law_of_loop_walks.ensures mesh (tree_of c.args.self.now.tree) c.law_of_surface.ensures.surface
           c.requires.rooted.spans c.args.edge c.requires.edge);
     }

@@ -28,7 +28,7 @@ returns-clause-signed c = λ d split hangs same.
     let kept : (with_items s.table signs).items ≡ signs =
     with_items_is s.table signs (omega (arith, c.deref_mut.ensures.len)) in
     rw (kept, count) (signatures_written mesh c.args.parent.now c.args.up.now c.args.depth.now left w signs (record {
-      surface = c.faces-surface.ensures.surface;
+      surface = c.law_of_surface.ensures.surface;
       tree = c.requires.tree;
       enough = omega (arith, few);
       fit = c.write_signs.ensures.fit;

@@ -10,14 +10,14 @@ use Rattle.surf_slit.proofs.slit.Slit.start.Goals as goal
 pub invariant_of-result : goal.invariant_of-result
 invariant_of-result c =
     let mesh = c.args.mesh.now in
-    let surface = c.faces-surface.ensures.surface in
+    let surface = c.law_of_surface.ensures.surface in
     let none : c.in_ok-cut.cut.items ≡ replicate (edge_count mesh) false = search rules in
     let many : c.vertices-count.result ≡ mesh.vertices = c.vertices-count.ensures.count in
     let low : (s : ℕ) → s < side_count mesh → corner_at mesh s < c.loop-v.v = λ s h. let b = corner_below surface s h in let n = c.vertices-v-end.ensures.count in let e = c.loop-v-test.false in omega arith in
     let are = vertices_are_labels surface c.loop-v.labels.items c.loop-v.invariant.size (λ s h. c.loop-v.invariant.by_vertex s h (low s h)) in
     record {
       surface = surface;
-      few = c.faces-surface.ensures.few;
+      few = c.law_of_surface.ensures.few;
       flags = ap length none ∙ length-replicate (edge_count mesh) false;
       are_labels = rw (none, many) are;
     }
@@ -25,7 +25,7 @@ invariant_of-result c =
 pub returns : goal.returns
 returns c =
     let mesh = c.args.mesh.now in
-    let surface = c.faces-surface.ensures.surface in
+    let surface = c.law_of_surface.ensures.surface in
     let none : c.in_ok-cut.cut.items ≡ replicate (edge_count mesh) false = search rules in
     let low : (s : ℕ) → s < side_count mesh → corner_at mesh s < c.loop-v.v = λ s h. let b = corner_below surface s h in let n = c.vertices-v-end.ensures.count in let e = c.loop-v-test.false in omega arith in
     record {

@@ -20,19 +20,19 @@ use Rattle.surf_tree.proofs.desk.TreeDesk.grow.Goals as goal
 pub settle-requires-clause-searchable : goal.settle-requires-clause-searchable
 settle-requires-clause-searchable c =
     let mesh = c.args.mesh.now in
-    let complex = (surfaces_are_cells mesh c.faces-surface.ensures.surface).complex in
-    let few = (cells_few mesh c.faces-surface.ensures.surface c.faces-surface.ensures.few).0 in
+    let complex = (surfaces_are_cells mesh c.law_of_surface.ensures.surface).complex in
+    let few = (cells_few mesh c.law_of_surface.ensures.surface c.law_of_surface.ensures.few).0 in
     record {
       is_graph = complex.primal_ends;
       connected = complex.primal_connected;
       few = omega (arith, few);
-      short = short_lengths c.args.lengths.now c.count-lengths.ensures.lengths;
+      short = short_lengths c.args.lengths.now c.law_of_lengths.ensures.lengths;
     }
 
 pub set_parents-requires-clause-fits : goal.set_parents-requires-clause-fits
 set_parents-requires-clause-fits c =
     let mesh = c.args.mesh.now in
-    let few = (cells_few mesh c.faces-surface.ensures.surface c.faces-surface.ensures.few).0 in
+    let few = (cells_few mesh c.law_of_surface.ensures.surface c.law_of_surface.ensures.few).0 in
     let distance = c.settle.new.distance in
     let t = c.self.inside in
     let made : AreTreeTables mesh c.args.self.now = c.requires.made in
@@ -59,8 +59,8 @@ returns c =
     let mesh = c.args.mesh.now in
     let g = primal (cells_of mesh) in
     let len = edge_length c.args.lengths.now in
-    let surface = c.faces-surface.ensures.surface in
-    let few = (cells_few mesh surface c.faces-surface.ensures.few).0 in
+    let surface = c.law_of_surface.ensures.surface in
+    let few = (cells_few mesh surface c.law_of_surface.ensures.few).0 in
     let t = c.self.inside in
     let made : AreTreeTables mesh c.args.self.now = c.requires.made in
     let distances_kept = ap (λ (x : TreeTables). length x.distances) c.self.view_is in
@@ -84,7 +84,7 @@ returns c =
     subst (λ n. get_or flags e false ≡ any_below n (λ v. not (eqb (at parent v) nobody) && eqb (at up v) e)) long
     (rw (c.deref-2.ensures.value, parent_is, c.deref-3.ensures.value, up_is) at (c.mark_edges.ensures.flags e (omega arith)))
     in
-    let positive : (e : ℕ) → e < g.edges → 1 ≤ len e = λ e l. (c.count-lengths.ensures.lengths e 0 (omega (arith, c.requires.lengths))).positive in
+    let positive : (e : ℕ) → e < g.edges → 1 ≤ len e = λ e l. (c.law_of_lengths.ensures.lengths e 0 (omega (arith, c.requires.lengths))).positive in
     let grown = grown_tree g len c.args.base distance parent up flags (surfaces_are_cells mesh surface).complex.primal_ends small positive c.requires.base settled chosen marked in
     let tables : AreTreeTables mesh (record { base = c.args.base; distances = distance; parents = parent; ups = up; flags = flags }) = record { distances = omega arith; parents = long; ups = omega arith; flags = omega arith } in
     record { grown = rw (distance_is, parent_is, up_is, flags_is) (grown_here mesh c.args.lengths.now (record { base = c.args.base; distances = distance; parents = parent; ups = up; flags = flags }) surface grown tables few) }
