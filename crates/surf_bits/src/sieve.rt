@@ -133,7 +133,10 @@ impl Sieve {
     /// on that calls it; it does nothing.
     pub fn law_of_sieve(&self)
         ensures few { length self.now.admitted ≤ self.now.width }
-    {}
+    {
+        // (what a type keeps is known where one of its fields is used)
+        let _ = &self.pivots;
+    }
 
     /// How many sets are admitted.
     pub fn rank(&self) -> u32

@@ -47,7 +47,10 @@ impl Lengths {
     pub fn law_of_lengths(&self)
         ensures lengths { AreLengths self.now }
         ensures few { length self.now < 2 ^ 32 }
-    {}
+    {
+        // (what a type keeps is known where one of its fields is used)
+        let _ = &self.values;
+    }
 
     /// How many edges it has lengths for.
     pub fn count(&self) -> u32

@@ -172,7 +172,10 @@ impl HalfMesh {
         ensures vertices { self.now.vertices < 2 ^ 32 }
         ensures faces { face_count self.now < 2 ^ 30 }
         ensures edges { edge_count self.now < 2 ^ 30 }
-    {}
+    {
+        // (what a type keeps is known where one of its fields is used)
+        let _ = &self.faces;
+    }
 
     /// How many vertices there are.
     pub fn vertices(&self) -> u32

@@ -111,7 +111,10 @@ impl Page {
     /// it; it does nothing.
     pub fn law_of_page(&self)
         ensures fits { length self.now.bytes ≤ self.now.most }
-    {}
+    {
+        // (what a type keeps is known where one of its fields is used)
+        let _ = &self.bytes;
+    }
 
     /// What it holds.
     pub fn bytes(&self) -> &[u8]
