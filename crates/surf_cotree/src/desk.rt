@@ -12,7 +12,7 @@ ghost use Rattle.surf_cotree.specs.Grown.{MarkTree, IsGrown, IsGrownOn};
 
 use crate::listing::{list_left, mark_edges};
 use crate::peeling::{Leaf, hang, peel};
-use crate::search::{NOBODY, span};
+use crate::search::{FaceNetwork, NOBODY, span};
 use std::alloc::Global;
 use std::marker::Model;
 use surf_base::{EdgeId, FaceId, NoMemory};
@@ -119,10 +119,13 @@ impl CotreeDesk {
         mesh.law_of_surface();
         self.held.copy_from_slice(in_tree);
         let count = peel(mesh, &mut self.held, &mut self.leaves);
-        span(
+        let network = FaceNetwork {
             mesh,
-            &self.held,
+            marks: &self.held,
             weight,
+        };
+        span(
+            &network,
             &mut self.heap,
             &mut self.depth,
             &mut self.parent,
@@ -146,6 +149,13 @@ impl CotreeDesk {
         ensures held { result ≡ slice_index_or self.now.held e false }
     {
         self.held[e.index()]
+    }
+
+    /// Whether the tree has each edge.
+    pub fn held(&self) -> &[bool]
+        ensures held { result.now ≡ self.now.held }
+    {
+        &self.held
     }
 
     /// The edges in neither tree, increasing.

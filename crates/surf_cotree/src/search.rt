@@ -16,6 +16,14 @@ use surf_mesh::HalfMesh;
 /// Stands for no edge, and for the depth of a face that isn't reached.
 pub(crate) const NOBODY: u32 = u32::MAX;
 
+/// What a search over the faces sees: a mesh, whose edges join faces where they have no mark, and the weight of each edge.
+#[derive(Drop)]
+pub(crate) struct FaceNetwork<'a> {
+    pub mesh: &'a HalfMesh,
+    pub marks: &'a [bool],
+    pub weight: &'a [u64],
+}
+
 // Tells proofs the range of the weights.
 fn weights_fit(weight: &[u64])
     ensures fit { (e : ℕ) → at weight.now e ≤ heaviest }
@@ -41,26 +49,20 @@ fn offer_by(heap: &mut Heap, weight: &[u64], edge: EdgeId, face: FaceId)
 }
 
 // Offers the unreached neighbours of a face to the heap.
-fn offer_neighbours(
-    mesh: &HalfMesh,
-    marks: &[bool],
-    weight: &[u64],
-    depth: &[u32],
-    heap: &mut Heap,
-    face: u32,
-)
-    requires face { face < face_count mesh.now }
-    requires depths { length depth.now ≡ face_count mesh.now }
-    requires marks { length marks.now ≡ edge_count mesh.now }
-    requires weights { length weight.now ≡ edge_count mesh.now }
-    requires places { length heap.old ≡ face_count mesh.now }
-    ensures offered { IsOffered (dual (cells_of mesh.now)) (outside marks.now) (at weight.now) (reached depth.now) face heap.old heap.new }
+fn offer_neighbours(network: &FaceNetwork<'_>, depth: &[u32], heap: &mut Heap, face: u32)
+    requires face { face < face_count network.now.mesh.now }
+    requires depths { length depth.now ≡ face_count network.now.mesh.now }
+    requires marks { length network.now.marks.now ≡ edge_count network.now.mesh.now }
+    requires weights { length network.now.weight.now ≡ edge_count network.now.mesh.now }
+    requires places { length heap.old ≡ face_count network.now.mesh.now }
+    ensures offered { IsOffered (dual (cells_of network.now.mesh.now)) (outside network.now.marks.now) (at network.now.weight.now) (reached depth.now) face heap.old heap.new }
 {
-    mesh.law_of_surface();
-    for s in mesh.sides_of(FaceId::new(face)) {
-        let (next, edge) = mesh.across(*s);
-        if leads_on(marks, depth, edge, next) {
-            offer_by(heap, weight, edge, next);
+    network.mesh.law_of_surface();
+    weights_fit(network.weight);
+    for s in network.mesh.sides_of(FaceId::new(face)) {
+        let (next, edge) = network.mesh.across(*s);
+        if leads_on(network.marks, depth, edge, next) {
+            offer_by(heap, network.weight, edge, next);
         }
     }
 }
@@ -77,38 +79,36 @@ pub(crate) fn face_across(mesh: &HalfMesh, edge: u32, face: u32) -> u32
 
 // Grows the heaviest tree of the faces that edges without a mark join to face 0.
 pub(crate) fn span(
-    mesh: &HalfMesh,
-    marks: &[bool],
-    weight: &[u64],
+    network: &FaceNetwork<'_>,
     heap: &mut Heap,
     depth: &mut [u32],
     parent: &mut [u32],
     up: &mut [u32],
 )
-    requires depths { length depth.old ≡ face_count mesh.now }
-    requires parents { length parent.old ≡ face_count mesh.now }
-    requires ups { length up.old ≡ face_count mesh.now }
-    requires marks { length marks.now ≡ edge_count mesh.now }
-    requires weights { length weight.now ≡ edge_count mesh.now }
-    requires places { length heap.old ≡ face_count mesh.now }
-    ensures grown { IsPrim (dual (cells_of mesh.now)) (outside marks.now) (at weight.now) (reached depth.new) (spanned_tree 0 parent.new up.new depth.new) heap.new (count_below (face_count mesh.now) (λ f. at depth.new f == nobody)) }
+    requires depths { length depth.old ≡ face_count network.now.mesh.now }
+    requires parents { length parent.old ≡ face_count network.now.mesh.now }
+    requires ups { length up.old ≡ face_count network.now.mesh.now }
+    requires marks { length network.now.marks.now ≡ edge_count network.now.mesh.now }
+    requires weights { length network.now.weight.now ≡ edge_count network.now.mesh.now }
+    requires places { length heap.old ≡ face_count network.now.mesh.now }
+    ensures grown { IsPrim (dual (cells_of network.now.mesh.now)) (outside network.now.marks.now) (at network.now.weight.now) (reached depth.new) (spanned_tree 0 parent.new up.new depth.new) heap.new (count_below (face_count network.now.mesh.now) (λ f. at depth.new f == nobody)) }
     ensures empty { IsEmpty heap.new }
     ensures root { at up.new 0 ≡ nobody }
-    ensures places { length heap.new ≡ face_count mesh.now }
+    ensures places { length heap.new ≡ face_count network.now.mesh.now }
 {
-    mesh.law_of_surface();
-    weights_fit(weight);
+    network.mesh.law_of_surface();
+    weights_fit(network.weight);
     depth.fill(NOBODY);
     depth[0] = 0;
     up[0] = NOBODY;
     heap.clear();
-    offer_neighbours(mesh, marks, weight, depth, heap, 0);
+    offer_neighbours(network, depth, heap, 0);
     while let Some((face, _, tie)) = heap.take_least() {
         let edge = NOBODY - tie;
-        let from = face_across(mesh, edge, face);
+        let from = face_across(network.mesh, edge, face);
         depth[face as usize] = depth[from as usize] + 1;
         parent[face as usize] = from;
         up[face as usize] = edge;
-        offer_neighbours(mesh, marks, weight, depth, heap, face);
+        offer_neighbours(network, depth, heap, face);
     }
 }

@@ -1,26 +1,15 @@
 //! Cutting along the edges that a desk's tree of the faces doesn't hold.
-ghost use Rattle.std.specs.Prelude.{◌≡◌, ◌+◌, ◌<◌, ℕ, true, false, length, IfOk, slice_index_or};
+ghost use Rattle.std.specs.Prelude.{◌≡◌, ◌+◌, true, false, length, IfOk};
 ghost use Rattle.surf_surfaces.specs.Disc.{IsOpening};
 ghost use Rattle.surf_surfaces.specs.Surface.{edge_count, face_count};
 ghost use Rattle.surf_cutter.specs.Opened.{IsHeld, IsChosenFor};
 
-use crate::{Opened, open_full, open_trimmed};
+use crate::Opened;
+use crate::cutting::{open_full, open_trimmed};
 use std::alloc::Global;
-use surf_base::{EdgeId, NoMemory};
+use surf_base::NoMemory;
 use surf_cotree::CotreeDesk;
 use surf_mesh::HalfMesh;
-
-// Whether the tree has each edge.
-fn held_edges(alloc: Global, cotree: &CotreeDesk, edges: u32) -> Result<Vec<bool>, NoMemory>
-    requires { length cotree.now.held ≡ edges }
-    ensures { IfOk result (λ v. v.items ≡ cotree.now.held) }
-{
-    let mut held = Vec::with_capacity(alloc, edges as usize)?;
-    for e in 0..edges {
-        held.push(cotree.holds(EdgeId::new(e)))?;
-    }
-    Ok(held)
-}
 
 /// The surface cut along all edges that the tree of the faces doesn't hold.
 pub fn cut_full(alloc: Global, mesh: &HalfMesh, cotree: &CotreeDesk) -> Result<Opened, NoMemory>
@@ -30,8 +19,7 @@ pub fn cut_full(alloc: Global, mesh: &HalfMesh, cotree: &CotreeDesk) -> Result<O
     ensures opening { IfOk result (λ o. IsOpening mesh.now o.origins o.faces) }
     ensures copies { IfOk result (λ o. length o.origins + (face_count mesh.now + face_count mesh.now) ≡ edge_count mesh.now + edge_count mesh.now + 2) }
 {
-    let held = held_edges(alloc, cotree, mesh.edges())?;
-    open_full(alloc, mesh, &held)
+    open_full(alloc, mesh, cotree.held())
 }
 
 /// The same with the cut trimmed: while more than two edges are cut and a vertex has exactly one of them,
@@ -42,6 +30,5 @@ pub fn cut_trim(alloc: Global, mesh: &HalfMesh, cotree: &CotreeDesk) -> Result<O
     ensures chosen { IfOk result (λ o. IsChosenFor mesh.now cotree.now.held true o) }
     ensures opening { IfOk result (λ o. IsOpening mesh.now o.origins o.faces) }
 {
-    let held = held_edges(alloc, cotree, mesh.edges())?;
-    open_trimmed(alloc, mesh, &held)
+    open_trimmed(alloc, mesh, cotree.held())
 }

@@ -58,7 +58,7 @@ fn open_by_trim(
 }
 
 /// The surface cut along all edges that a tree of its faces doesn't hold, by a flag for each edge.
-pub fn open_full(alloc: Global, mesh: &HalfMesh, held: &[bool]) -> Result<Opened, NoMemory>
+pub(crate) fn open_full(alloc: Global, mesh: &HalfMesh, held: &[bool]) -> Result<Opened, NoMemory>
     requires flags { length held.now ≡ edge_count mesh.now }
     requires held { IsHeld mesh.now held.now }
     ensures chosen { IfOk result (λ o. IsChosenFor mesh.now held.now false o) }
@@ -72,7 +72,11 @@ pub fn open_full(alloc: Global, mesh: &HalfMesh, held: &[bool]) -> Result<Opened
 
 /// The same with the cut trimmed: while more than two edges are cut and a vertex has exactly one of them,
 /// the greatest such vertex loses it.
-pub fn open_trimmed(alloc: Global, mesh: &HalfMesh, held: &[bool]) -> Result<Opened, NoMemory>
+pub(crate) fn open_trimmed(
+    alloc: Global,
+    mesh: &HalfMesh,
+    held: &[bool],
+) -> Result<Opened, NoMemory>
     requires flags { length held.now ≡ edge_count mesh.now }
     requires held { IsHeld mesh.now held.now }
     ensures chosen { IfOk result (λ o. IsChosenFor mesh.now held.now true o) }

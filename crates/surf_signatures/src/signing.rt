@@ -12,6 +12,15 @@ ghost use Rattle.surf_signatures.specs.Tables.{face_tree};
 use surf_base::EdgeId;
 use surf_mesh::HalfMesh;
 
+/// A tree of the faces by three tables: for each face but face 0 the face that it hangs on and the edge between them, and
+/// for each face its depth.
+#[derive(Drop)]
+pub(crate) struct FaceTree<'t> {
+    pub parent: &'t [u32],
+    pub up: &'t [u32],
+    pub depth: &'t [u32],
+}
+
 // Tells proofs the range of the words.
 fn words_fit(signs: &[u64])
     ensures fit { (k : ℕ) → at signs.now k < 2 ^ 64 }
@@ -32,28 +41,26 @@ fn toggle(signs: &mut [u64], words: usize, edge: usize, k: usize)
 // Turns bit `k` of the edges on the way from a face to face 0.
 fn turn_path(
     mesh: &HalfMesh,
-    parent: &[u32],
-    up: &[u32],
-    depth: &[u32],
+    tree: &FaceTree<'_>,
     signs: &mut [u64],
     words: usize,
     face: u32,
     k: usize,
 )
-    requires tree { IsTree (dual (cells_of mesh.now)) (face_tree parent.now up.now depth.now) }
-    requires ups { length up.now ≡ face_count mesh.now }
-    requires parents { length parent.now ≡ face_count mesh.now }
+    requires tree { IsTree (dual (cells_of mesh.now)) (face_tree tree.now.parent.now tree.now.up.now tree.now.depth.now) }
+    requires ups { length tree.now.up.now ≡ face_count mesh.now }
+    requires parents { length tree.now.parent.now ≡ face_count mesh.now }
     requires face { face < face_count mesh.now }
     requires bit { k < 64 * words }
     requires few { words ≤ 16 }
     requires room { length signs.old ≡ edge_count mesh.now * words }
-    ensures turned { (e j : ℕ) → j < 64 * words → sign_bit signs.new words e j ≡ xor (sign_bit signs.old words e j) (on_path (face_tree parent.now up.now depth.now) face e && eqb k j) }
+    ensures turned { (e j : ℕ) → j < 64 * words → sign_bit signs.new words e j ≡ xor (sign_bit signs.old words e j) (on_path (face_tree tree.now.parent.now tree.now.up.now tree.now.depth.now) face e && eqb k j) }
 {
     mesh.law_of_surface();
     let mut at = face as usize;
     while at != 0 {
-        toggle(signs, words, up[at] as usize, k);
-        at = parent[at] as usize;
+        toggle(signs, words, tree.up[at] as usize, k);
+        at = tree.parent[at] as usize;
     }
 }
 
@@ -73,23 +80,21 @@ fn faces_beside(mesh: &HalfMesh, edge: EdgeId) -> (u32, u32)
 // from its two faces to face 0, where the two ways differ.
 pub(crate) fn write_signs(
     mesh: &HalfMesh,
-    parent: &[u32],
-    up: &[u32],
-    depth: &[u32],
+    tree: &FaceTree<'_>,
     left: &[EdgeId],
     signs: &mut [u64],
     words: usize,
 )
-    requires tree { IsTree (dual (cells_of mesh.now)) (face_tree parent.now up.now depth.now) }
-    requires ups { length up.now ≡ face_count mesh.now }
-    requires parents { length parent.now ≡ face_count mesh.now }
+    requires tree { IsTree (dual (cells_of mesh.now)) (face_tree tree.now.parent.now tree.now.up.now tree.now.depth.now) }
+    requires ups { length tree.now.up.now ≡ face_count mesh.now }
+    requires parents { length tree.now.parent.now ≡ face_count mesh.now }
     requires left { (k : ℕ) → k < length left.now → at left.now k < edge_count mesh.now }
     requires bits { length left.now ≤ 64 * words }
     requires few { words ≤ 16 }
     requires room { length signs.old ≡ edge_count mesh.now * words }
     ensures fit { (k : ℕ) → at signs.new k < 2 ^ 64 }
     ensures rest { (e k : ℕ) → length left.now ≤ k → k < 64 * words → sign_bit signs.new words e k ≡ false }
-    ensures signature { (e k : ℕ) → k < length left.now → sign_bit signs.new words e k ≡ has_left (dual (cells_of mesh.now)) (face_tree parent.now up.now depth.now) (at left.now k) e }
+    ensures signature { (e k : ℕ) → k < length left.now → sign_bit signs.new words e k ≡ has_left (dual (cells_of mesh.now)) (face_tree tree.now.parent.now tree.now.up.now tree.now.depth.now) (at left.now k) e }
 {
     mesh.law_of_surface();
     signs.fill(0);
@@ -97,8 +102,8 @@ pub(crate) fn write_signs(
         let edge = left[k];
         let (near, far) = faces_beside(mesh, edge);
         toggle(signs, words, edge.index(), k);
-        turn_path(mesh, parent, up, depth, signs, words, near, k);
-        turn_path(mesh, parent, up, depth, signs, words, far, k);
+        turn_path(mesh, tree, signs, words, near, k);
+        turn_path(mesh, tree, signs, words, far, k);
     }
     words_fit(signs);
 }

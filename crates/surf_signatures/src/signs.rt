@@ -9,7 +9,7 @@ ghost use Rattle.surf_surfaces.specs.Surface.{edge_count, face_count};
 ghost use Rattle.surf_signatures.specs.Tables.{added_where, row_of, sets_in, words_for, face_tree, HangsBy};
 
 use crate::rows::{words_at, words_of};
-use crate::signing::write_signs;
+use crate::signing::{FaceTree, write_signs};
 use std::alloc::Global;
 use std::marker::Model;
 use surf_base::{EdgeId, NoMemory};
@@ -106,7 +106,13 @@ impl Signs {
     {
         mesh.law_of_surface();
         let words = words_of(self.width);
-        write_signs(mesh, parent, up, depth, left, &mut self.table, words);
+        write_signs(
+            mesh,
+            &FaceTree { parent, up, depth },
+            left,
+            &mut self.table,
+            words,
+        );
     }
 
     /// The set of an edge, lent.

@@ -16,9 +16,9 @@ use Rattle.surf_cotree.proofs.search.span.Goals.{In-Some}
 
 pub loop-face-init : goal.loop-face-init
 loop-face-init c =
-    let g = dual (cells_of c.args.mesh.now) in
+    let g = dual (cells_of c.args.network.now.mesh.now) in
     let fresh = c.fill.new.self in
-    let some : 0 < face_count c.args.mesh.now = c.law_of_surface.ensures.surface.some_face in
+    let some : 0 < face_count c.args.network.now.mesh.now = c.law_of_surface.ensures.surface.some_face in
     let few : g.edges ≤ nobody = omega (arith, c.law_of_surface.ensures.edges) in
     let free : (u : ℕ) → u < g.nodes → at fresh u ≡ nobody = λ u l. c.fill.ensures.clones u 0 (omega arith) refl in
     let long : g.nodes ≡ length fresh = omega arith in
@@ -30,7 +30,7 @@ loop-face-init c =
     record {
       places = c.offer_neighbours.ensures.offered.same_length ∙ (ap length c.clear.ensures.empty ∙ (length-replicate {A = Option (ℕ × ℕ)} (length c.args.heap.now) None ∙ c.requires.places));
       root = get_or-set_same c.args.up.now 0 nobody 0 lu;
-      prim = prim_begins g (outside c.args.marks.now) (at c.args.weight.now) (graph_is c.args.mesh.now c.law_of_surface.ensures.surface) few c.weights_fit.ensures.fit (reached (set fresh 0 0)) (spanned_tree 0 c.args.parent.now (set c.args.up.now 0 nobody) (set fresh 0 0))
+      prim = prim_begins g (outside c.args.network.now.marks.now) (at c.args.network.now.weight.now) (graph_is c.args.network.now.mesh.now c.law_of_surface.ensures.surface) few c.weights_fit.ensures.fit (reached (set fresh 0 0)) (spanned_tree 0 c.args.parent.now (set c.args.up.now 0 nobody) (set fresh 0 0))
           c.clear.new.self c.offer_neighbours.new.heap _ some root_reached (first_only g.nodes fresh free) zero_depth shallow (none_there (length c.args.heap.now) c.clear.new.self c.clear.ensures.empty)
           c.offer_neighbours.ensures.offered;
     }
@@ -38,7 +38,7 @@ loop-face-init c =
 below_suc : (a b : ℕ) → b ≡ suc a → a < b
 below_suc a b e = omega arith
 
-abbrev waiting : (c : In-Some) → IsWaiting (dual (cells_of c.args.mesh.now)) (outside c.args.marks.now) (at c.args.weight.now) (reached c.loop-face.depth) c.in-Some.face c.in-Some.field-0-1 c.in-Some.tie
+abbrev waiting : (c : In-Some) → IsWaiting (dual (cells_of c.args.network.now.mesh.now)) (outside c.args.network.now.marks.now) (at c.args.network.now.weight.now) (reached c.loop-face.depth) c.in-Some.face c.in-Some.field-0-1 c.in-Some.tie
 waiting c = c.loop-face.invariant.prim.waiting c.in-Some.face c.in-Some.field-0-1 c.in-Some.tie c.in-Some.ensures.taken.0.holds
 
 edge_is : (c : In-Some) → nobody - c.in-Some.tie ≡ (waiting c).edge
@@ -51,8 +51,8 @@ face_across-from-requires c =
     let l = w.bridge.edge_in in
     record { edge = omega arith }
 
-from_is : (c : In-Some) (a : ℕ) → ((x : ℕ) → joins (dual (cells_of c.args.mesh.now)) c.in-Some.face x (nobody - c.in-Some.tie) ≡ true → a ≡ x) → a ≡ (waiting c).before
-from_is c a h = h (waiting c).before (subst (λ e. joins (dual (cells_of c.args.mesh.now)) c.in-Some.face (waiting c).before e ≡ true) (sym (edge_is c)) (waiting c).bridge.joined)
+from_is : (c : In-Some) (a : ℕ) → ((x : ℕ) → joins (dual (cells_of c.args.network.now.mesh.now)) c.in-Some.face x (nobody - c.in-Some.tie) ≡ true → a ≡ x) → a ≡ (waiting c).before
+from_is c a h = h (waiting c).before (subst (λ e. joins (dual (cells_of c.args.network.now.mesh.now)) c.in-Some.face (waiting c).before e ≡ true) (sym (edge_is c)) (waiting c).bridge.joined)
 
 pub bounds-depth-from : goal.bounds-depth-from
 bounds-depth-from c =
@@ -61,39 +61,39 @@ bounds-depth-from c =
     let l = (waiting i).before_in in
     omega (arith, length-set {A = ℕ})
 
-fits : (c : In-Some) → at c.loop-face.depth (waiting c).before + 1 < face_count c.args.mesh.now
+fits : (c : In-Some) → at c.loop-face.depth (waiting c).before + 1 < face_count c.args.network.now.mesh.now
 fits c =
-    let g = dual (cells_of c.args.mesh.now) in
+    let g = dual (cells_of c.args.network.now.mesh.now) in
     let few : g.edges ≤ nobody = omega (arith, c.law_of_surface.ensures.edges) in
     let small : g.nodes ≤ nobody = omega (arith, c.law_of_surface.ensures.faces) in
-    depth_fits g (outside c.args.marks.now) (at c.args.weight.now) (graph_is c.args.mesh.now c.law_of_surface.ensures.surface) few c.weights_fit.ensures.fit small 0 c.loop-face.parent c.loop-face.up c.loop-face.depth c.loop-face.heap c.in-Some.face c.in-Some.field-0-1 c.in-Some.tie
+    depth_fits g (outside c.args.network.now.marks.now) (at c.args.network.now.weight.now) (graph_is c.args.network.now.mesh.now c.law_of_surface.ensures.surface) few c.weights_fit.ensures.fit small 0 c.loop-face.parent c.loop-face.up c.loop-face.depth c.loop-face.heap c.in-Some.face c.in-Some.field-0-1 c.in-Some.tie
     (omega (arith, length-set {A = ℕ})) (omega (arith, length-set {A = ℕ})) (omega (arith, length-set {A = ℕ})) c.loop-face.invariant.prim c.in-Some.ensures.taken.0
 
 pub overflow_add-depth : goal.overflow_add-depth
 overflow_add-depth c =
     let i = (goal.at.overflow_add-depth c).In-Some in
     let e = from_is i c.face_across-from.result c.face_across-from.ensures.across in
-    let small : face_count c.args.mesh.now ≤ nobody = omega (arith, c.law_of_surface.ensures.faces) in
-    let f : at c.loop-face.depth c.face_across-from.result + 1 < face_count c.args.mesh.now = rw e (fits i) in
+    let small : face_count c.args.network.now.mesh.now ≤ nobody = omega (arith, c.law_of_surface.ensures.faces) in
+    let f : at c.loop-face.depth c.face_across-from.result + 1 < face_count c.args.network.now.mesh.now = rw e (fits i) in
     omega arith
 
 pub loop-face-smaller : goal.loop-face-smaller
 loop-face-smaller c =
-    let g = dual (cells_of c.args.mesh.now) in
+    let g = dual (cells_of c.args.network.now.mesh.now) in
     let i = (goal.at.loop-face-smaller c).In-Some in
     let few : g.edges ≤ nobody = omega (arith, c.law_of_surface.ensures.edges) in
     let small : g.nodes ≤ nobody = omega (arith, c.law_of_surface.ensures.faces) in
     let from : c.face_across-from.result ≡ (waiting i).before = from_is i c.face_across-from.result c.face_across-from.ensures.across in
     let d = at c.loop-face.depth c.face_across-from.result + 1 in
     let less : count_below g.nodes (λ v. eqb (at c.loop-face.depth v) nobody) ≡ suc (count_below g.nodes (λ v. eqb (at (set c.loop-face.depth c.in-Some.face d) v) nobody)) =
-    turn_count g (outside c.args.marks.now) (at c.args.weight.now) (graph_is c.args.mesh.now c.law_of_surface.ensures.surface) few c.weights_fit.ensures.fit small 0 c.loop-face.parent c.loop-face.up c.loop-face.depth c.loop-face.heap c.in-Some.face c.in-Some.field-0-1 c.in-Some.tie
+    turn_count g (outside c.args.network.now.marks.now) (at c.args.network.now.weight.now) (graph_is c.args.network.now.mesh.now c.law_of_surface.ensures.surface) few c.weights_fit.ensures.fit small 0 c.loop-face.parent c.loop-face.up c.loop-face.depth c.loop-face.heap c.in-Some.face c.in-Some.field-0-1 c.in-Some.tie
     (omega (arith, length-set {A = ℕ})) (omega (arith, length-set {A = ℕ})) (omega (arith, length-set {A = ℕ})) c.loop-face.invariant.prim c.in-Some.ensures.taken.0 d (ap (λ x. at c.loop-face.depth x + 1) from)
     in
     below_suc _ _ less
 
 pub loop-face-preserved : goal.loop-face-preserved
 loop-face-preserved c =
-    let g = dual (cells_of c.args.mesh.now) in
+    let g = dual (cells_of c.args.network.now.mesh.now) in
     let i = (goal.at.loop-face-preserved c).In-Some in
     let few : g.edges ≤ nobody = omega (arith, c.law_of_surface.ensures.edges) in
     let small : g.nodes ≤ nobody = omega (arith, c.law_of_surface.ensures.faces) in
@@ -103,7 +103,7 @@ loop-face-preserved c =
     record {
       places = c.offer_neighbours-in-Some.ensures.offered.same_length ∙ (ap length c.in-Some.ensures.taken.1 ∙ (length-set c.loop-face.heap c.in-Some.face None ∙ c.loop-face.invariant.places));
       root = get_or-set_other c.loop-face.up c.in-Some.face 0 (nobody - c.in-Some.tie) 0 apart ∙ c.loop-face.invariant.root;
-      prim = turn_keeps g (outside c.args.marks.now) (at c.args.weight.now) (graph_is c.args.mesh.now c.law_of_surface.ensures.surface) few c.weights_fit.ensures.fit small 0 c.loop-face.parent c.loop-face.up c.loop-face.depth c.loop-face.heap c.in-Some.face c.in-Some.field-0-1 c.in-Some.tie
+      prim = turn_keeps g (outside c.args.network.now.marks.now) (at c.args.network.now.weight.now) (graph_is c.args.network.now.mesh.now c.law_of_surface.ensures.surface) few c.weights_fit.ensures.fit small 0 c.loop-face.parent c.loop-face.up c.loop-face.depth c.loop-face.heap c.in-Some.face c.in-Some.field-0-1 c.in-Some.tie
           (omega (arith, length-set {A = ℕ})) (omega (arith, length-set {A = ℕ})) (omega (arith, length-set {A = ℕ})) prim c.in-Some.ensures.taken.0 c.face_across-from.result (nobody - c.in-Some.tie) (at c.loop-face.depth c.face_across-from.result + 1) c.take_least.new.self c.offer_neighbours-in-Some.new.heap
           from (edge_is i) refl c.in-Some.ensures.taken.1 c.offer_neighbours-in-Some.ensures.offered;
     }

@@ -15,17 +15,17 @@ use Rattle.surf_signatures.proofs.signing.turn_path.Goals as goal
 pub toggle-requires-clause-cell : goal.toggle-requires-clause-cell
 toggle-requires-clause-cell c =
     let g = dual (cells_of c.args.mesh.now) in
-    let t = face_tree c.args.parent.now c.args.up.now c.args.depth.now in
+    let t = face_tree c.args.tree.now.parent.now c.args.tree.now.up.now c.args.tree.now.depth.now in
     let tree : IsTree g t = c.requires.tree in
     let ne : c.loop-at.at ≢ 0 = c.loop-at-test.true in
-    let e : at c.args.up.now c.loop-at.at < g.edges = tree.up_in c.loop-at.at c.loop-at.invariant.within ne in
+    let e : at c.args.tree.now.up.now c.loop-at.at < g.edges = tree.up_in c.loop-at.at c.loop-at.invariant.within ne in
     let w : c.args.k / 64 < c.args.words = omega arith in
-    omega (arith, mul-add-lt (at c.args.up.now c.loop-at.at) c.args.words (c.args.k / 64) g.edges e w)
+    omega (arith, mul-add-lt (at c.args.tree.now.up.now c.loop-at.at) c.args.words (c.args.k / 64) g.edges e w)
 
 pub loop-at-preserved : goal.loop-at-preserved
 loop-at-preserved c =
     let g = dual (cells_of c.args.mesh.now) in
-    let t = face_tree c.args.parent.now c.args.up.now c.args.depth.now in
+    let t = face_tree c.args.tree.now.parent.now c.args.tree.now.up.now c.args.tree.now.depth.now in
     let tree : IsTree g t = c.requires.tree in
     let n = c.loop-at.at in
     let ne : n ≢ 0 = c.loop-at-test.true in
@@ -33,14 +33,14 @@ loop-at-preserved c =
       within = tree.parent_in n c.loop-at.invariant.within ne;
       path = λ e j l.
           rw (c.toggle.ensures.turned e j l)
-          (two_turns (sign_bit c.loop-at.signs c.args.words e j) (eqb (at c.args.up.now n) e) (on_path t (at c.args.parent.now n) e) (eqb c.args.k j)
+          (two_turns (sign_bit c.loop-at.signs c.args.words e j) (eqb (at c.args.tree.now.up.now n) e) (on_path t (at c.args.tree.now.parent.now n) e) (eqb c.args.k j)
           ∙ (ap (λ p. xor (sign_bit c.loop-at.signs c.args.words e j) (p && eqb c.args.k j)) (sym (path_step g t tree n e c.loop-at.invariant.within ne))
           ∙ c.loop-at.invariant.path e j l));
     }
 
 pub returns : goal.returns
 returns c =
-    let t = face_tree c.args.parent.now c.args.up.now c.args.depth.now in
+    let t = face_tree c.args.tree.now.parent.now c.args.tree.now.up.now c.args.tree.now.depth.now in
     let n = c.loop-at.at in
     let here : n ≡ 0 = c.loop-at-test.false in
     record {

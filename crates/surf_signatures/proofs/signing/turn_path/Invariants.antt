@@ -12,8 +12,8 @@ abbrev pub invariant-loop-at : goal.invariant-loop-at
 invariant-loop-at l = record {
   within : l.at < face_count l.mesh;
   path : (e j : ℕ) → j < 64 * l.words →
-      xor (sign_bit l.signs l.words e j) (on_path (face_tree l.parent l.up l.depth) l.at e && eqb l.k j) ≡ xor (sign_bit l.initial.signs l.words e j) (on_path (face_tree l.parent l.up l.depth) l.face e && eqb l.k j);
+      xor (sign_bit l.signs l.words e j) (on_path (face_tree l.tree.parent.now l.tree.up.now l.tree.depth.now) l.at e && eqb l.k j) ≡ xor (sign_bit l.initial.signs l.words e j) (on_path (face_tree l.tree.parent.now l.tree.up.now l.tree.depth.now) l.face e && eqb l.k j);
 }
 
 abbrev pub decreases-loop-at : goal.decreases-loop-at
-decreases-loop-at l = at l.depth l.at
+decreases-loop-at l = at l.tree.depth.now l.at
