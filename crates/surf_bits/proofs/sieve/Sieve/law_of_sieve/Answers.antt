@@ -8,4 +8,5 @@ returns c =
     let few = rows_few kept.width kept.stride kept.pivots.items kept.reduced.items kept.originals.items c.self.invariant.0 in
     let count : length kept.pivots.items ≡ length c.args.self.now.admitted =
     sym (originals-length kept.stride kept.pivots.items kept.reduced.items kept.originals.items) ∙ ap (λ s. length s.admitted) c.self.view_is in
-    subst (λ s. length c.args.self.now.admitted ≤ s.width) c.self.view_is (rw at count (omega (arith, few, count)))
+    let most : length c.args.self.now.admitted ≤ kept.width = omega (arith, few, count) in
+    record { few = subst (λ s. length c.args.self.now.admitted ≤ s.width) c.self.view_is most }
