@@ -1,4 +1,5 @@
-//! Numbers of the parts of a mesh: five types, so that no number of one kind is taken for one of another.
+//! Numbers of the parts of a mesh: five types, so that no number of one kind is taken for one of
+//! another.
 ghost use Rattle.std.specs.Prelude.{◌≡◌};
 
 use std::marker::Model;
@@ -120,7 +121,8 @@ impl FaceId {
     }
 }
 
-/// The number of a side. Sides are counted from 0 face by face, each face's in the order of its corners.
+/// The number of a side. Sides are counted from 0 face by face, each face's in the order of its
+/// corners.
 #[derive(Clone, Copy, Debug, PartialEq, Eq, PartialOrd, Ord, Hash)]
 pub struct SideId {
     number: u32,

@@ -1,11 +1,11 @@
-//! What every other crate stands on: the numbers of the parts of a mesh, the greatest numbers that are read or
-//! written, and the outside.
+//! What every other crate stands on: the numbers of the parts of a mesh, the greatest numbers that
+//! are read or written, and the outside.
 //!
-//! The outside is two traits. A [`Shelf`] has named files that are read one at a time, and a [`Sink`] takes
-//! bytes. Each counts its own failures, so that a refusal always has a cause that a caller can see: the count
-//! rose, or a name isn't held. What a shelf holds and what a sink was given may be told or not; [`MemShelf`]
-//! and [`MemSink`] tell both, and a disk or a terminal tells neither. [`fetch`] reads a whole file and
-//! [`put_all`] writes a whole text over any of them.
+//! The outside is two traits. A [`Shelf`] has named files that are read one at a time, and a
+//! [`Sink`] takes bytes. Each counts its own failures, so that a refusal always has a cause that a
+//! caller can see: the count rose, or a name isn't held. What a shelf holds and what a sink was
+//! given may be told or not; [`MemShelf`] and [`MemSink`] tell both, and a disk or a terminal tells
+//! neither. [`fetch`] reads a whole file and [`put_all`] writes a whole text over any of them.
 #![tactic(auto)]
 
 mod ids;

@@ -1,4 +1,5 @@
-//! The greatest numbers that are read and written. A count is refused exactly where it is greater than its limit.
+//! The greatest numbers that are read and written. A count is refused exactly where it is greater
+//! than its limit.
 
 /// Bytes of one file that is read.
 pub const MAX_TEXT: u64 = 268_435_456;

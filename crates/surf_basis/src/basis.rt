@@ -33,7 +33,8 @@ fn signed_loops(
     requires climbed { IsClimbed mesh.now desk.now.tree }
     requires edges { All (λ h. h.edge < edge_count mesh.now) desk.now.heads }
     requires table { length signatures.now.signatures ≡ edge_count mesh.now }
-    ensures loops { IfOk result (λ loops. (d : Split) → AreSignatures mesh.now d signatures.now → loops.items ≡ signed_heads mesh.now d desk.now.tree desk.now.heads) }
+    ensures loops { IfOk result (λ loops. (d : Split) → AreSignatures mesh.now d signatures.now →
+        loops.items ≡ signed_heads mesh.now d desk.now.tree desk.now.heads) }
 {
     let base = desk.tree().base();
     let mut loops = Vec::with_capacity(alloc, desk.heads().len())?;
@@ -66,7 +67,8 @@ fn choose(
     requires signed { AreSigned surface.now.mesh.now surface.now.signatures.now choice.old.width }
     requires bases { AreBases surface.now.mesh.now bases.now }
     requires none { choice.old.kept ≡ [] }
-    ensures kept { OnOk result (AreKeptOver surface.now.mesh.now surface.now.lengths.now surface.now.signatures.now bases.now (length bases.now) choice.new.kept) }
+    ensures kept { OnOk result (AreKeptOver surface.now.mesh.now surface.now.lengths.now
+        surface.now.signatures.now bases.now (length bases.now) choice.new.kept) }
     ensures made { AreLoopTables surface.now.mesh.now desk.new }
 {
     surface.mesh.law_of_surface();
@@ -79,9 +81,10 @@ fn choose(
     Ok(())
 }
 
-/// The basis that is chosen: two less the characteristic independent closed walks, each a simple cycle, and no such
-/// walks total less. They are in the order of length, base and edge, so the first is a shortest cycle that doesn't
-/// separate the surface, the one that `least_nonseparating` gives. On a sphere it has none.
+/// The basis that is chosen: two less the characteristic independent closed walks, each a simple
+/// cycle, and no such walks total less. They are in the order of length, base and edge, so the
+/// first is a shortest cycle that doesn't separate the surface, the one that `least_nonseparating`
+/// gives. On a sphere it has none.
 pub fn least_basis(
     alloc: Global,
     mesh: &HalfMesh,
@@ -89,10 +92,14 @@ pub fn least_basis(
 ) -> Result<Vec<Cycle>, NoMemory>
     requires lengths { length lengths.now ≡ edge_count mesh.now }
     requires few { edge_count mesh.now + 2 ≤ mesh.now.vertices + face_count mesh.now + 1024 }
-    ensures chosen { IfOk result (λ cycles. IsTheBasis mesh.now lengths.now (as_loops cycles.items)) }
-    ensures least { IfOk result (λ cycles. LeastSimpleBasis mesh.now lengths.now (as_loops cycles.items)) }
-    ensures first { IfOk result (λ cycles. IsFirstCandidate mesh.now lengths.now (first_of cycles.items)) }
-    ensures shortest { IfOk result (λ cycles. IfSome (first_of cycles.items) (λ cycle. IsShortestCycle mesh.now lengths.now cycle)) }
+    ensures chosen { IfOk result (λ cycles. IsTheBasis mesh.now lengths.now
+        (as_loops cycles.items)) }
+    ensures least { IfOk result (λ cycles. LeastSimpleBasis mesh.now lengths.now
+        (as_loops cycles.items)) }
+    ensures first { IfOk result (λ cycles. IsFirstCandidate mesh.now lengths.now
+        (first_of cycles.items)) }
+    ensures shortest { IfOk result (λ cycles. IfSome (first_of cycles.items)
+        (λ cycle. IsShortestCycle mesh.now lengths.now cycle)) }
 {
     mesh.law_of_surface();
     lengths.law_of_lengths();

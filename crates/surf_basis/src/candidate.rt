@@ -13,9 +13,9 @@ pub(crate) struct Candidate {
     pub edge: EdgeId,
 }
 
-/// A candidate with the vertex at which its loop was found, and the signature of the loop. The loops that are chosen at a
-/// base are found there. A loop that a search found has as its base the least vertex on a shortest walk from where the
-/// search began to an end of the edge.
+/// A candidate with the vertex at which its loop was found, and the signature of the loop. The
+/// loops that are chosen at a base are found there. A loop that a search found has as its base the
+/// least vertex on a shortest walk from where the search began to an end of the edge.
 #[derive(Drop)]
 pub(crate) struct Signed {
     pub candidate: Candidate,

@@ -45,9 +45,9 @@ fn walks_of(alloc: Global, cycles: Vec<Cycle>) -> Result<Vec<Walk>, NoMemory>
     Ok(cycles.into_iter().map(|cycle| cycle.walk).collect(alloc)?)
 }
 
-/// A certificate that the cycles of `least_basis` are a least basis: the trees of shortest walks from all vertices, the
-/// tree of faces and the left edges at vertex 0, and the cycles in their order. It is valid for the mesh and the lengths,
-/// and its lists fit the lines of a text.
+/// A certificate that the cycles of `least_basis` are a least basis: the trees of shortest walks
+/// from all vertices, the tree of faces and the left edges at vertex 0, and the cycles in their
+/// order. It is valid for the mesh and the lengths, and its lists fit the lines of a text.
 pub fn basis_cert(alloc: Global, mesh: &HalfMesh, lengths: &Lengths) -> Result<BasisCert, NoMemory>
     requires lengths { length lengths.now ≡ edge_count mesh.now }
     requires few { edge_count mesh.now + 2 ≤ mesh.now.vertices + face_count mesh.now + 1024 }

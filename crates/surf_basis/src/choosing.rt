@@ -11,7 +11,8 @@ use std::marker::Model;
 use surf_base::NoMemory;
 use surf_bits::Sieve;
 
-/// The candidates that are kept, in order. Its width is how many may be independent, and there is room for as many.
+/// The candidates that are kept, in order. Its width is how many may be independent, and there is
+/// room for as many.
 #[derive(Drop)]
 pub(crate) struct Choice {
     kept: Vec<Signed>,
@@ -54,7 +55,8 @@ impl Choice {
         &self.kept
     }
 
-    /// The last candidate that is kept, where as many are kept as may be independent: no later one can be kept.
+    /// The last candidate that is kept, where as many are kept as may be independent: no later one
+    /// can be kept.
     pub fn limit(&self) -> Option<Candidate>
         ensures limit { result ≡ limit_of self.now }
     {
@@ -70,7 +72,10 @@ impl Choice {
     /// Makes the choice again from what is kept and other candidates in order.
     pub fn keep(&mut self, offered: &[Signed]) -> Result<(), NoMemory>
         requires small { All (λ s. s.signature < 2 ^ self.old.width) offered.now }
-        ensures kept { OnOk result (self.new ≡ record self.old { kept = independent_of (merge signed_earlier self.old.kept offered.now) }) }
+        ensures kept { OnOk result (self.new ≡ record self.old {
+          kept = independent_of
+              (merge signed_earlier self.old.kept offered.now);
+        }) }
         ensures width { self.new.width ≡ self.old.width }
     {
         self.merged.clear();

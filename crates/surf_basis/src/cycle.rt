@@ -3,8 +3,8 @@
 use surf_base::{EdgeId, VertexId};
 use surf_mesh::Walk;
 
-/// The loop that an edge closes with the tree of shortest walks from a base, where no vertex stands twice but the base,
-/// first and last.
+/// The loop that an edge closes with the tree of shortest walks from a base, where no vertex stands
+/// twice but the base, first and last.
 #[derive(Drop)]
 pub struct Cycle {
     pub base: VertexId,

@@ -45,7 +45,8 @@ fn lesser(u: VertexId, v: VertexId) -> VertexId
     if u.number() <= v.number() { u } else { v }
 }
 
-// The loop of an edge between vertices that a search from a base has reached, with its least base and its class.
+// The loop of an edge between vertices that a search from a base has reached, with its least base
+// and its class.
 fn loop_of(
     surface: &Surface<'_>,
     desk: &NearDesk,
@@ -79,15 +80,16 @@ fn loop_of(
 fn is_between(surface: &Surface<'_>, desk: &NearDesk, edge: EdgeId) -> bool
     requires made { AreNearTables surface.now.mesh.now desk.now }
     requires edge { edge < edge_count surface.now.mesh.now }
-    ensures between { (is_near desk.now (ends surface.now.mesh.now edge).0 && is_near desk.now (ends surface.now.mesh.now edge).1) ≡ result }
+    ensures between { (is_near desk.now (ends surface.now.mesh.now edge).0 && is_near desk.now
+        (ends surface.now.mesh.now edge).1) ≡ result }
 {
     surface.mesh.law_of_surface();
     let (u, v) = surface.mesh.ends(edge);
     desk.is_near(u) && desk.is_near(v)
 }
 
-// Whether the loop of an edge between vertices that were reached is null as far as two numbers tell: those of its ends are
-// the same, and its own signature is empty.
+// Whether the loop of an edge between vertices that were reached is null as far as two numbers
+// tell: those of its ends are the same, and its own signature is empty.
 fn is_plain(
     surface: &Surface<'_>,
     desk: &NearDesk,
@@ -97,7 +99,8 @@ fn is_plain(
 ) -> bool
     requires ready { IsReady (search_of surface.now desk.now ways.now base) }
     requires edge { edge < edge_count surface.now.mesh.now }
-    ensures plain { IsTrue result → (told_loop (search_of surface.now desk.now ways.now base) edge).signature ≡ 0 }
+    ensures plain { IsTrue result → (told_loop (search_of surface.now desk.now ways.now base)
+        edge).signature ≡ 0 }
 {
     surface.mesh.law_of_surface();
     let (u, v) = surface.mesh.ends(edge);
@@ -117,8 +120,8 @@ fn is_sought(candidate: &Candidate, limit: &Option<Candidate>) -> bool
     }
 }
 
-// How far a search has to go that finds the loops before a limit: the ends of an edge are within half the length of its
-// loop.
+// How far a search has to go that finds the loops before a limit: the ends of an edge are within
+// half the length of its loop.
 fn radius(limit: &Option<Candidate>) -> u64
     ensures radius { result ≡ radius_of limit.now }
 {
@@ -139,7 +142,8 @@ fn wanted_loop(
 ) -> Option<Signed>
     requires ready { IsReady (search_of surface.now desk.now ways.now base) }
     requires edge { edge < edge_count surface.now.mesh.now }
-    ensures wanted { result ≡ wanted_loop (search_of surface.now desk.now ways.now base) limit.now edge }
+    ensures wanted { result ≡ wanted_loop (search_of surface.now desk.now ways.now base)
+        limit.now edge }
 {
     if !is_between(surface, desk, edge) || is_plain(surface, desk, ways, base, edge) {
         return None;
@@ -152,7 +156,8 @@ fn wanted_loop(
     }
 }
 
-// Adds the loops of the edges at a vertex of which it is the lesser end, where they aren't null and come before a limit.
+// Adds the loops of the edges at a vertex of which it is the lesser end, where they aren't null and
+// come before a limit.
 fn list_at(
     surface: &Surface<'_>,
     desk: &NearDesk,
@@ -163,10 +168,13 @@ fn list_at(
 ) -> Result<(), NoMemory>
     requires ready { IsReady (search_at surface.now desk.now ways.now) }
     requires vertex { v < surface.now.mesh.now.vertices }
-    requires each { All (IsTold (search_at surface.now desk.now ways.now) limit.now) found.old.items }
-    ensures each { OnOk result (All (IsTold (search_at surface.now desk.now ways.now) limit.now) found.new.items) }
+    requires each { All (IsTold (search_at surface.now desk.now ways.now) limit.now)
+        found.old.items }
+    ensures each { OnOk result (All (IsTold (search_at surface.now desk.now ways.now) limit.now)
+        found.new.items) }
     ensures kept { OnOk result (All (Contains found.new.items) found.old.items) }
-    ensures here { OnOk result (ListsAt (search_at surface.now desk.now ways.now) limit.now v found.new.items) }
+    ensures here { OnOk result (ListsAt (search_at surface.now desk.now ways.now)
+        limit.now v found.new.items) }
 {
     surface.mesh.law_of_surface();
     let edges = surface.mesh.ring_edges(v);
@@ -181,7 +189,8 @@ fn list_at(
     Ok(())
 }
 
-// Lists the loops that aren't null and come before a limit, of edges between vertices that were settled.
+// Lists the loops that aren't null and come before a limit, of edges between vertices that were
+// settled.
 fn list_loops(
     surface: &Surface<'_>,
     desk: &NearDesk,
@@ -191,7 +200,8 @@ fn list_loops(
 ) -> Result<(), NoMemory>
     requires ready { IsReady (search_at surface.now desk.now ways.now) }
     requires settled { All (λ v. v < surface.now.mesh.now.vertices) desk.now.settled }
-    ensures told { OnOk result (AreTold (search_at surface.now desk.now ways.now) limit.now found.new.items) }
+    ensures told { OnOk result (AreTold (search_at surface.now desk.now ways.now)
+        limit.now found.new.items) }
 {
     found.clear();
     for v in desk.settled() {
@@ -204,7 +214,8 @@ impl<'a> Finder<'a> {
     /// A finder of loops on a surface.
     pub fn make(alloc: Global, surface: &Surface<'a>) -> Result<Finder<'a>, NoMemory>
         requires lengths { length surface.now.lengths.now ≡ edge_count surface.now.mesh.now }
-        requires signatures { length surface.now.signatures.now.signatures ≡ edge_count surface.now.mesh.now }
+        requires signatures { length surface.now.signatures.now.signatures
+            ≡ edge_count surface.now.mesh.now }
         ensures made { IfOk result (λ finder. finder ≡ surface_of surface.now) }
     {
         let surface = Surface {
@@ -231,7 +242,8 @@ impl<'a> Finder<'a> {
         found: &mut Vec<Signed>,
     ) -> Result<(), NoMemory>
         requires base { base < self.old.mesh.vertices }
-        ensures found { OnOk result (AreFound self.old.mesh self.old.lengths self.old.signs limit.now base found.new.items) }
+        ensures found { OnOk result (AreFound self.old.mesh self.old.lengths self.old.signs
+            limit.now base found.new.items) }
         ensures same { self.new ≡ self.old }
     {
         self.surface.mesh.law_of_surface();

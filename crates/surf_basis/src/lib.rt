@@ -1,24 +1,27 @@
 //! Shortest bases of the closed walks of a surface, and its shortest cycles that don't separate it.
 //!
-//! The candidates for a basis are the least systems of loops at all vertices, in the order of length, base and edge.
-//! A basis of least total keeps each candidate that is independent of those before it
-//! (J. Erickson and K. Whittlesey, "Greedy Optimal Homotopy and Homology Generators", SODA 2005), and the first candidate
-//! is a shortest cycle that doesn't separate the surface.
+//! The candidates for a basis are the least systems of loops at all vertices, in the order of
+//! length, base and edge. A basis of least total keeps each candidate that is independent of those
+//! before it (J. Erickson and K. Whittlesey, "Greedy Optimal Homotopy and Homology Generators",
+//! SODA 2005), and the first candidate is a shortest cycle that doesn't separate the surface.
 //!
-//! The bases that the basis needs are found first. Every closed walk that isn't null has an edge whose signature isn't
-//! empty, so it meets one of few vertices. From each of these a search finds the loops of edges, with the least vertex on a
-//! shortest way to them, and the shortest independent ones of all are kept: the loops of the basis have their lengths and
-//! their least vertices as bases. Once as many are kept as there may be, a search goes no farther than half the length of
-//! the last, since the ends of an edge are within half the length of its loop. The vertices are taken in an order that
-//! scatters them, so that short loops of all parts are found soon.
+//! The bases that the basis needs are found first. Every closed walk that isn't null has an edge
+//! whose signature isn't empty, so it meets one of few vertices. From each of these a search finds
+//! the loops of edges, with the least vertex on a shortest way to them, and the shortest
+//! independent ones of all are kept: the loops of the basis have their lengths and their least
+//! vertices as bases. Once as many are kept as there may be, a search goes no farther than half the
+//! length of the last, since the ends of an edge are within half the length of its loop. The
+//! vertices are taken in an order that scatters them, so that short loops of all parts are found
+//! soon.
 //!
-//! Then the bases so found are gone through one by one, and no more candidates are held than a basis has: what was kept so
-//! far and the loops at the next base are merged, and from these the choice is made again. Whether a loop is independent
-//! of others is told by its signature, a sum over its edges of signatures that one base gives for all. The first cycle
-//! needs the first of the loops that searches find, and then the loops at its base alone.
+//! Then the bases so found are gone through one by one, and no more candidates are held than a
+//! basis has: what was kept so far and the loops at the next base are merged, and from these the
+//! choice is made again. Whether a loop is independent of others is told by its signature, a sum
+//! over its edges of signatures that one base gives for all. The first cycle needs the first of the
+//! loops that searches find, and then the loops at its base alone.
 //!
-//! A certificate of the basis has the trees at all vertices, which are grown again for it one after the other, and shows
-//! that the basis is least to a checker that searches nothing.
+//! A certificate of the basis has the trees at all vertices, which are grown again for it one after
+//! the other, and shows that the basis is least to a checker that searches nothing.
 #![tactic(auto)]
 
 mod basis;

@@ -11,8 +11,10 @@ use surf_mesh::HalfMesh;
 // Marks the second of two vertices, unless the first is marked.
 fn mark_one(first: VertexId, second: VertexId, marked: &mut [bool])
     requires inside { (first < length marked.old) × (second < length marked.old) }
-    ensures one { (slice_index_or marked.new first false ≡ true) ⊎ (slice_index_or marked.new second false ≡ true) }
-    ensures stay { (v : ℕ) → slice_index_or marked.old v false ≡ true → slice_index_or marked.new v false ≡ true }
+    ensures one { (slice_index_or marked.new first false ≡ true)
+        ⊎ (slice_index_or marked.new second false ≡ true) }
+    ensures stay { (v : ℕ) → slice_index_or marked.old v false ≡ true →
+        slice_index_or marked.new v false ≡ true }
     ensures count { length marked.new ≡ length marked.old }
 {
     if !marked[first.index()] {
@@ -20,14 +22,15 @@ fn mark_one(first: VertexId, second: VertexId, marked: &mut [bool])
     }
 }
 
-// Marks an end of each edge whose signature isn't empty: the greater one, unless the lesser one is marked. As edges come in
-// the order of their lesser ends, a vertex stays unmarked only where each neighbour over such an edge is marked, so that
-// few are.
+// Marks an end of each edge whose signature isn't empty: the greater one, unless the lesser one is
+// marked. As edges come in the order of their lesser ends, a vertex stays unmarked only where each
+// neighbour over such an edge is marked, so that few are.
 fn mark_ends(mesh: &HalfMesh, signatures: &CotreeDesk, marked: &mut [bool])
     requires table { length signatures.now.signatures ≡ edge_count mesh.now }
     requires marks { length marked.old ≡ mesh.now.vertices }
     ensures marks { length marked.new ≡ mesh.now.vertices }
-    ensures ends { (e : ℕ) → e < edge_count mesh.now → slice_index signatures.now.signatures e ≢ 0 → HasMarkedEnd mesh.now marked.new e }
+    ensures ends { (e : ℕ) → e < edge_count mesh.now → slice_index signatures.now.signatures e ≢ 0 →
+        HasMarkedEnd mesh.now marked.new e }
 {
     mesh.law_of_surface();
     for e in 0..mesh.edges() {
@@ -53,15 +56,16 @@ pub(crate) fn list_marked(alloc: Global, marked: &[bool]) -> Result<Vec<VertexId
     Ok(list)
 }
 
-// Puts vertices into an order that scatters them: those whose numbers agree in the last bits lie apart.
+// Puts vertices into an order that scatters them: those whose numbers agree in the last bits lie
+// apart.
 fn scatter(vertices: &mut [VertexId])
     ensures same { IsPermutation vertices.old vertices.new }
 {
     vertices.sort_unstable_by_key(|v| v.number().reverse_bits());
 }
 
-// Vertices among which is an end of each edge whose signature isn't empty, each once, in an order that scatters them. Every
-// closed walk that isn't null has such an edge, and so meets one of them.
+// Vertices among which is an end of each edge whose signature isn't empty, each once, in an order
+// that scatters them. Every closed walk that isn't null has such an edge, and so meets one of them.
 pub(crate) fn signed_ends(
     alloc: Global,
     mesh: &HalfMesh,

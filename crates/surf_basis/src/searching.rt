@@ -63,7 +63,8 @@ fn keep_found(
     requires positive { IsSurface finder.old.mesh × ArePositive finder.old.mesh finder.old.lengths }
     requires few { (finder.old.mesh.vertices ≤ 2 ^ 32) × (edge_count finder.old.mesh ≤ 2 ^ 32) }
     requires none { choice.old.kept ≡ [] }
-    ensures kept { OnOk result (AreKeptFrom finder.old.mesh finder.old.lengths finder.old.signs vertices.now choice.new) }
+    ensures kept { OnOk result (AreKeptFrom finder.old.mesh finder.old.lengths finder.old.signs
+        vertices.now choice.new) }
     ensures width { choice.new.width ≡ choice.old.width }
 {
     let mut found = Vec::new(alloc);
@@ -107,7 +108,8 @@ pub(crate) fn sufficient_bases(
     requires full { IsFullCount surface.now.mesh.now count }
     requires few { count ≤ 1024 }
     ensures increasing { IfOk result (λ list. AreBases surface.now.mesh.now list.items) }
-    ensures bases { IfOk result (λ list. HaveBasesOfBasis surface.now.mesh.now surface.now.lengths.now list.items) }
+    ensures bases { IfOk result
+        (λ list. HaveBasesOfBasis surface.now.mesh.now surface.now.lengths.now list.items) }
 {
     surface.mesh.law_of_surface();
     surface.lengths.law_of_lengths();
@@ -141,7 +143,8 @@ fn first_found(
     requires signed { (count : ℕ) × AreSigned finder.old.mesh finder.old.signs count }
     requires inside { All (λ v. v < finder.old.mesh.vertices) vertices.now }
     requires positive { IsSurface finder.old.mesh × ArePositive finder.old.mesh finder.old.lengths }
-    ensures first { IfOk result (IsFirstAmong finder.old.mesh finder.old.lengths finder.old.signs vertices.now) }
+    ensures first { IfOk result (IsFirstAmong finder.old.mesh finder.old.lengths finder.old.signs
+        vertices.now) }
 {
     let mut found = Vec::new(alloc);
     let mut first = None;
@@ -152,7 +155,8 @@ fn first_found(
     Ok(first)
 }
 
-/// The length and the base of the first candidate, as those of the first loop that is found. None where each is null.
+/// The length and the base of the first candidate, as those of the first loop that is found. None
+/// where each is null.
 pub(crate) fn first_place(
     alloc: Global,
     surface: &Surface<'_>,

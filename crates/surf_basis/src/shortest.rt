@@ -40,7 +40,10 @@ fn first_at(surface: &Surface<'_>, base: VertexId, desk: &mut LoopDesk) -> Optio
     requires made { AreLoopTables surface.now.mesh.now desk.old }
     requires base { base < surface.now.mesh.now.vertices }
     requires lengths { length surface.now.lengths.now ≡ edge_count surface.now.mesh.now }
-    ensures first { (trees : ℕ → Trees) → AreChosen surface.now.mesh.now surface.now.lengths.now trees → option_map (loop_in surface.now.mesh.now trees) result ≡ first_of (loops_at surface.now.mesh.now surface.now.lengths.now base (trees base)) }
+    ensures first { (trees : ℕ → Trees) →
+        AreChosen surface.now.mesh.now surface.now.lengths.now trees →
+        option_map (loop_in surface.now.mesh.now trees) result
+        ≡ first_of (loops_at surface.now.mesh.now surface.now.lengths.now base (trees base)) }
     ensures made { AreLoopTables surface.now.mesh.now desk.new }
 {
     surface.mesh.law_of_surface();
@@ -59,7 +62,10 @@ fn first_candidate(
     requires made { AreLoopTables surface.now.mesh.now desk.old }
     requires lengths { length surface.now.lengths.now ≡ edge_count surface.now.mesh.now }
     requires signed { AreSigned surface.now.mesh.now surface.now.signatures.now count }
-    ensures first { IfOk result (λ found. (trees : ℕ → Trees) → AreChosen surface.now.mesh.now surface.now.lengths.now trees → option_map (loop_in surface.now.mesh.now trees) found ≡ first_of (candidates surface.now.mesh.now surface.now.lengths.now trees)) }
+    ensures first { IfOk result (λ found. (trees : ℕ → Trees) →
+        AreChosen surface.now.mesh.now surface.now.lengths.now trees →
+        option_map (loop_in surface.now.mesh.now trees) found
+        ≡ first_of (candidates surface.now.mesh.now surface.now.lengths.now trees)) }
     ensures made { AreLoopTables surface.now.mesh.now desk.new }
 {
     surface.mesh.law_of_surface();
@@ -70,8 +76,9 @@ fn first_candidate(
     Ok(first_at(surface, place.base, desk))
 }
 
-/// The first candidate for a basis, a simple cycle that doesn't separate the surface, such that none is shorter. None
-/// exactly where the characteristic is 2: on a sphere every simple cycle separates.
+/// The first candidate for a basis, a simple cycle that doesn't separate the surface, such that
+/// none is shorter. None exactly where the characteristic is 2: on a sphere every simple cycle
+/// separates.
 pub fn least_nonseparating(
     alloc: Global,
     mesh: &HalfMesh,
@@ -80,7 +87,8 @@ pub fn least_nonseparating(
     requires lengths { length lengths.now ≡ edge_count mesh.now }
     requires few { edge_count mesh.now + 2 ≤ mesh.now.vertices + face_count mesh.now + 1024 }
     ensures first { IfOk result (λ found. IsFirstCandidate mesh.now lengths.now found) }
-    ensures shortest { IfOk result (λ found. IfSome found (λ cycle. IsShortestCycle mesh.now lengths.now cycle)) }
+    ensures shortest { IfOk result (λ found. IfSome found
+        (λ cycle. IsShortestCycle mesh.now lengths.now cycle)) }
     ensures none { IfOk result (λ found. (found ≡ None) ↔ IsFullCount mesh.now 0) }
     ensures separate { IfOk result (λ found. (found ≡ None) ↔ AllSeparate mesh.now) }
 {

@@ -32,7 +32,9 @@ fn add_way(
     requires climbed { IsClimbed mesh.now tree.now }
     requires vertex { from < mesh.now.vertices }
     requires table { length signatures.now.signatures ≡ edge_count mesh.now }
-    ensures added { (d : Split) → AreSignatures mesh.now d signatures.now → signature.new ≡ bit_xor signature.old (signature_of (cells_of mesh.now) d (on_path (tree_of tree.now) from)) }
+    ensures added { (d : Split) → AreSignatures mesh.now d signatures.now →
+        signature.new ≡ bit_xor signature.old (signature_of (cells_of mesh.now) d
+        (on_path (tree_of tree.now) from)) }
 {
     mesh.law_of_surface();
     let mut at = from;
@@ -52,7 +54,8 @@ pub(crate) fn loop_signature(
     requires climbed { IsClimbed mesh.now tree.now }
     requires edge { edge < edge_count mesh.now }
     requires table { length signatures.now.signatures ≡ edge_count mesh.now }
-    ensures class { (d : Split) → AreSignatures mesh.now d signatures.now → result ≡ class_of mesh.now d (loop_walk mesh.now (tree_of tree.now) edge) }
+    ensures class { (d : Split) → AreSignatures mesh.now d signatures.now →
+        result ≡ class_of mesh.now d (loop_walk mesh.now (tree_of tree.now) edge) }
 {
     mesh.law_of_surface();
     let (u, v) = mesh.ends(edge);
@@ -71,7 +74,8 @@ pub(crate) fn signed_desk(
 ) -> Result<LoopDesk, NoMemory>
     requires lengths { length lengths.now ≡ edge_count mesh.now }
     requires few { edge_count mesh.now + 2 ≤ mesh.now.vertices + face_count mesh.now + 1024 }
-    ensures signed { IfOk result (λ desk. AreSigned mesh.now desk.cotree (length desk.cotree.left)) }
+    ensures signed { IfOk result (λ desk. AreSigned mesh.now desk.cotree
+        (length desk.cotree.left)) }
     ensures full { IfOk result (λ desk. IsFullCount mesh.now (length desk.cotree.left)) }
 {
     mesh.law_of_surface();

@@ -49,7 +49,8 @@ pub(crate) fn cycles_of(
     requires made { AreLoopTables mesh.now desk.old }
     requires lengths { length lengths.now ≡ edge_count mesh.now }
     requires inside { All (λ s. IsInside mesh.now s.candidate) kept.now }
-    ensures cycles { IfOk result (λ cycles. AreCyclesOf mesh.now lengths.now kept.now cycles.items) }
+    ensures cycles { IfOk result (λ cycles. AreCyclesOf mesh.now lengths.now kept.now
+        cycles.items) }
 {
     let mut cycles = Vec::with_capacity(alloc, kept.len())?;
     for signed in kept {

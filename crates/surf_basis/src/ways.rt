@@ -13,8 +13,8 @@ use surf_cotree::CotreeDesk;
 use surf_mesh::HalfMesh;
 use surf_near::NearDesk;
 
-/// For each vertex that a search reached the number of a class: the sum of the signatures of the edges on its way up to
-/// the base. Few ways differ in class, so classes are kept once.
+/// For each vertex that a search reached the number of a class: the sum of the signatures of the
+/// edges on its way up to the base. Few ways differ in class, so classes are kept once.
 #[derive(Drop)]
 pub(crate) struct Ways {
     numbers: Vec<usize>,
@@ -40,9 +40,11 @@ fn is_same(first: &Signature, second: &Signature) -> bool
 
 // The number of a class, which is listed if it wasn't.
 fn number_of(classes: &mut Vec<Signature>, class: Signature) -> Result<usize, NoMemory>
-    ensures number { IfOk result (λ k. (k < length classes.new.items) × (slice_index classes.new.items k ≡ class)) }
+    ensures number { IfOk result (λ k. (k < length classes.new.items)
+        × (slice_index classes.new.items k ≡ class)) }
     ensures more { length classes.old.items ≤ length classes.new.items }
-    ensures same { (k : ℕ) → k < length classes.old.items → slice_index classes.new.items k ≡ slice_index classes.old.items k }
+    ensures same { (k : ℕ) → k < length classes.old.items → slice_index classes.new.items k
+        ≡ slice_index classes.old.items k }
 {
     for k in 0..classes.len() {
         if is_same(&classes[k], &class) {
@@ -62,9 +64,12 @@ fn number_beyond(
 ) -> Result<usize, NoMemory>
     requires above { above < length classes.old.items }
     requires edge { edge < length signatures.now.signatures }
-    ensures number { IfOk result (λ k. (k < length classes.new.items) × (slice_index classes.new.items k ≡ bit_xor (slice_index classes.old.items above) (slice_index signatures.now.signatures edge))) }
+    ensures number { IfOk result (λ k. (k < length classes.new.items)
+        × (slice_index classes.new.items k ≡ bit_xor (slice_index classes.old.items above)
+        (slice_index signatures.now.signatures edge))) }
     ensures more { length classes.old.items ≤ length classes.new.items }
-    ensures same { (k : ℕ) → k < length classes.old.items → slice_index classes.new.items k ≡ slice_index classes.old.items k }
+    ensures same { (k : ℕ) → k < length classes.old.items → slice_index classes.new.items k
+        ≡ slice_index classes.old.items k }
 {
     if signatures.signature(edge).is_empty() {
         return Ok(above);
@@ -98,7 +103,8 @@ impl Ways {
         requires ups { v < length desk.now.ups }
         requires none { HasNone self.old }
         requires parent { v ≢ base → HasParent signatures.now desk.now self.old v }
-        ensures numbered { OnOk result (IsNumbered signatures.now desk.now base v self.old self.new) }
+        ensures numbered { OnOk result (IsNumbered signatures.now desk.now base v
+            self.old self.new) }
         ensures none { OnOk result (HasNone self.new) }
         ensures count { length self.new.numbers ≡ length self.old.numbers }
     {
@@ -121,9 +127,11 @@ impl Ways {
         requires reached { IsReached surface.now.mesh.now surface.now.lengths.now base desk.now }
         requires base { base < surface.now.mesh.now.vertices }
         requires lengths { length surface.now.lengths.now ≡ edge_count surface.now.mesh.now }
-        requires signatures { length surface.now.signatures.now.signatures ≡ edge_count surface.now.mesh.now }
+        requires signatures { length surface.now.signatures.now.signatures
+            ≡ edge_count surface.now.mesh.now }
         requires count { length self.old.numbers ≡ surface.now.mesh.now.vertices }
-        ensures ways { OnOk result (AreWays surface.now.mesh.now surface.now.lengths.now base surface.now.signatures.now desk.now self.new) }
+        ensures ways { OnOk result (AreWays surface.now.mesh.now surface.now.lengths.now base
+            surface.now.signatures.now desk.now self.new) }
         ensures count { length self.new.numbers ≡ surface.now.mesh.now.vertices }
     {
         surface.mesh.law_of_surface();

@@ -7,8 +7,8 @@ ghost use Rattle.surf_z2.specs.Words.{number};
 use crate::words::{add_words, first_bit, has_bit};
 use std::marker::Model;
 
-/// A set of numbers below 1,024, lent as at most sixteen words: number `64 j + i` is in it exactly where the bit of value
-/// `2^i` of word `j` is on. Words that aren't there count as zero.
+/// A set of numbers below 1,024, lent as at most sixteen words: number `64 j + i` is in it exactly
+/// where the bit of value `2^i` of word `j` is on. Words that aren't there count as zero.
 #[derive(Drop)]
 pub struct Bits<'a> {
     words: &'a [u64],

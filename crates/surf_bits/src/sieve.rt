@@ -11,11 +11,12 @@ use std::alloc::Global;
 use std::marker::Model;
 use surf_base::NoMemory;
 
-/// A list of independent sets of numbers below a width, by which to tell which sets are sums of them.
+/// A list of independent sets of numbers below a width, by which to tell which sets are sums of
+/// them.
 ///
-/// Gauss's elimination: of each admitted set it keeps what the rows before it left of it, with a number of that, the
-/// pivot, which no later row has. What is left of a set once each row was added where the set has its pivot is empty
-/// exactly where the set is a sum of those admitted.
+/// Gauss's elimination: of each admitted set it keeps what the rows before it left of it, with a
+/// number of that, the pivot, which no later row has. What is left of a set once each row was added
+/// where the set has its pivot is empty exactly where the set is a sum of those admitted.
 #[derive(Drop)]
 pub struct Sieve {
     width: u32,
@@ -68,7 +69,8 @@ fn left_of(pivots: &[u32], reduced: &[u64], stride: usize, set: &Bits<'_>) -> Si
     requires rows { length reduced.now ≡ length pivots.now * stride }
     requires stride { stride ≤ 16 }
     requires few { length pivots.now ≤ 1024 }
-    ensures left { (originals : List ℕ) → result ≡ left_of (sieve_rows stride pivots.now reduced.now originals) set.now }
+    ensures left { (originals : List ℕ) → result
+        ≡ left_of (sieve_rows stride pivots.now reduced.now originals) set.now }
     ensures small { set.now < 2 ^ (64 * stride) → result < 2 ^ (64 * stride) }
 {
     let mut left = Signature::zero();
@@ -82,7 +84,8 @@ fn left_of(pivots: &[u32], reduced: &[u64], stride: usize, set: &Bits<'_>) -> Si
 }
 
 impl Sieve {
-    /// A sieve for sets of numbers below `width` that has admitted nothing. No later call takes memory.
+    /// A sieve for sets of numbers below `width` that has admitted nothing. No later call takes
+    /// memory.
     pub fn make(alloc: Global, width: u32) -> Result<Sieve, NoMemory>
         requires { width ≤ 1024 }
         ensures { IfOk result (λ s. s ≡ record { width = width; admitted = [] }) }
@@ -98,11 +101,14 @@ impl Sieve {
         })
     }
 
-    /// Admits the set if it is no sum of sets admitted before, the sum of none included, and says whether it did.
+    /// Admits the set if it is no sum of sets admitted before, the sum of none included, and says
+    /// whether it did.
     pub fn admit(&mut self, s: Bits<'_>) -> bool
         requires { s < 2 ^ self.old.width }
-        ensures answer { MatchBool result (Spanned numbers self.old.admitted s.entry → ⊥) (Spanned numbers self.old.admitted s.entry) }
-        ensures list { self.new.admitted ≡ (if result then (self.old.admitted ++ s.entry ∷ []) else self.old.admitted) }
+        ensures answer { MatchBool result (Spanned numbers self.old.admitted s.entry →
+            ⊥) (Spanned numbers self.old.admitted s.entry) }
+        ensures list { self.new.admitted ≡ (if result then (self.old.admitted ++ s.entry ∷ [])
+            else self.old.admitted) }
         ensures width { self.new.width ≡ self.old.width }
     {
         let left = left_of(&self.pivots, &self.reduced, self.stride, &s);
@@ -123,14 +129,15 @@ impl Sieve {
     /// Whether the set is a sum of some of those admitted, the sum of none included.
     pub fn spans(&self, s: Bits<'_>) -> bool
         requires { s < 2 ^ self.now.width }
-        ensures { MatchBool result (Spanned numbers self.now.admitted s.entry) (Spanned numbers self.now.admitted s.entry → ⊥) }
+        ensures { MatchBool result (Spanned numbers self.now.admitted s.entry)
+            (Spanned numbers self.now.admitted s.entry → ⊥) }
     {
         let left = left_of(&self.pivots, &self.reduced, self.stride, &s);
         first_bit(left.words()).is_none()
     }
 
-    /// What a sieve keeps: it admits no more sets than there are numbers. A caller whose proof rests
-    /// on that calls it; it does nothing.
+    /// What a sieve keeps: it admits no more sets than there are numbers. A caller whose proof
+    /// rests on that calls it; it does nothing.
     pub fn law_of_sieve(&self)
         ensures few { length self.now.admitted ≤ self.now.width }
     {

@@ -22,7 +22,8 @@ pub(crate) fn has_bit(words: &[u64], k: usize) -> bool
     i < words.len() && (words[i] >> (k % 64)) & 1 == 1
 }
 
-/// Each word has 64 bits. A proof knows this of a slice that is read, and no more of what it held before a write.
+/// Each word has 64 bits. A proof knows this of a slice that is read, and no more of what it held
+/// before a write.
 fn words_fit(words: &[u64])
     ensures { (k : ℕ) → slice_index words.now k < 2 ^ 64 }
 {}
@@ -39,7 +40,8 @@ pub(crate) fn toggle_bit(words: &mut [u64], k: usize)
 /// A bit of the words, if they have one.
 pub(crate) fn first_bit(words: &[u64]) -> Option<usize>
     requires { length words.now ≤ 1024 }
-    ensures { MatchOption result (number words.now ≡ 0) (λ k. (k < 64 * length words.now) × IsTrue (has (number words.now) k)) }
+    ensures { MatchOption result (number words.now ≡ 0) (λ k. (k < 64 * length words.now)
+        × IsTrue (has (number words.now) k)) }
 {
     for i in 0..words.len() {
         let word = words[i];

@@ -1,7 +1,7 @@
 //! The program as a function for C, and for all that can call C.
 //!
-//! A call is what `surf` does with words and files, but the files are bytes of the caller's and so is the room for what
-//! is said. `surf.h` in this crate's folder declares it.
+//! A call is what `surf` does with words and files, but the files are bytes of the caller's and so
+//! is the room for what is said. `surf.h` in this crate's folder declares it.
 #![tactic(auto)]
 
 mod memory;
@@ -40,7 +40,8 @@ fn answer(
     second: &[u8],
     third: &[u8],
 ) -> Result<Said, NoMemory>
-    ensures said { IfOk result (λ said. IsSaid (texts words.now) (three first.now second.now third.now) said.status said.text.items) }
+    ensures said { IfOk result (λ said. IsSaid (texts words.now)
+        (three first.now second.now third.now) said.status said.text.items) }
 {
     let mut shelf = ThreeFiles::new(first, second, third);
     let mut out = GrowingSink::new(alloc);
@@ -76,10 +77,11 @@ fn put(status: u8, text: &[u8], room: &mut [u8]) -> SurfSaid
     SurfSaid { size, status }
 }
 
-/// Does what the program does with the words between the blanks of a text. They name three files by `1`, `2` and `3`.
+/// Does what the program does with the words between the blanks of a text. They name three files by
+/// `1`, `2` and `3`.
 ///
-/// What is said is the answer where the status is 0 or 1, and else the line that tells why there is none. It is put at
-/// the front of the room where it fits; its size is told in any case.
+/// What is said is the answer where the status is 0 or 1, and else the line that tells why there is
+/// none. It is put at the front of the room where it fits; its size is told in any case.
 #[unsafe(no_mangle)]
 pub extern "C" fn surf_call(
     alloc: Global,
@@ -89,7 +91,8 @@ pub extern "C" fn surf_call(
     third: &[u8],
     room: &mut [u8],
 ) -> SurfSaid
-    ensures said { IsSaidInto (words_of words.now) (three first.now second.now third.now) result.status result.size room.new }
+    ensures said { IsSaidInto (words_of words.now) (three first.now second.now third.now)
+        result.status result.size room.new }
 {
     let words = match read_words(alloc, words) {
         Ok(words) => words,

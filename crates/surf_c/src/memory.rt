@@ -36,7 +36,8 @@ impl<'a> ThreeFiles<'a> {
 }
 
 fn find<'a>(first: &'a [u8], second: &'a [u8], third: &'a [u8], name: &str) -> Option<&'a [u8]>
-    ensures found { MatchOption result (bytes_of (three first.now second.now third.now) name.now ≡ None) (λ file. bytes_of (three first.now second.now third.now) name.now ≡ Some file.now) }
+    ensures found { MatchOption result (bytes_of (three first.now second.now third.now) name.now
+        ≡ None) (λ file. bytes_of (three first.now second.now third.now) name.now ≡ Some file.now) }
 {
     if name == "1" {
         Some(first)

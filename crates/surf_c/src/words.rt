@@ -50,7 +50,8 @@ fn read_word(alloc: Global, token: &[u8]) -> Result<String, WordFault>
 /// The words between the blanks of a text.
 pub(crate) fn read_words(alloc: Global, text: &[u8]) -> Result<Vec<String>, WordFault>
     ensures words { IfOk result (λ words. texts words.items ≡ words_of text.now) }
-    ensures no_text { IfErr result (λ fault. fault ≡ WordFault.NoText → ¬ All IsUtf8 (words_of text.now)) }
+    ensures no_text { IfErr result (λ fault. fault ≡ WordFault.NoText →
+        ¬ All IsUtf8 (words_of text.now)) }
 {
     let mut tokens = Tokens::between_blanks(text);
     let mut words = Vec::new(alloc);

@@ -6,8 +6,8 @@ use std::marker::Model;
 use surf_base::VertexId;
 use surf_mesh::Walk;
 
-/// What shows that loops at a base are least: the tree of shortest walks from the base, the tree of faces across
-/// the other edges, and the edges that are left. Each of these closes a loop.
+/// What shows that loops at a base are least: the tree of shortest walks from the base, the tree of
+/// faces across the other edges, and the edges that are left. Each of these closes a loop.
 #[derive(Drop)]
 pub struct LoopCert {
     tree: TreeRows,
@@ -53,8 +53,8 @@ impl LoopCert {
     }
 }
 
-/// What shows that cycles are a least basis: a tree of shortest walks from each vertex, the tree of faces and the
-/// edges that are left for the first of these, and the cycles.
+/// What shows that cycles are a least basis: a tree of shortest walks from each vertex, the tree of
+/// faces and the edges that are left for the first of these, and the cycles.
 #[derive(Drop)]
 pub struct BasisCert {
     trees: Vec<TreeRows>,
@@ -79,7 +79,12 @@ impl BasisCert {
         left: Vec<(VertexId, VertexId)>,
         cycles: Vec<Walk>,
     ) -> BasisCert
-        ensures parts { result ≡ record { trees = trees.items; dual = dual; left = left.items; cycles = cycles.items } }
+        ensures parts { result ≡ record {
+          trees = trees.items;
+          dual = dual;
+          left = left.items;
+          cycles = cycles.items;
+        } }
     {
         BasisCert {
             trees,

@@ -1,18 +1,20 @@
 //! Certificates that a system of loops or a basis of cycles is least, and their texts.
 //!
-//! A certificate is plain data: trees of shortest walks with distances and parents, a tree of faces with depths and
-//! sides, the edges that are left, and the cycles of a basis. Nothing of it is trusted here: whether a certificate is
-//! valid for a mesh is asked elsewhere. Contracts see each record as the record of its plain lists, so two
-//! certificates are the same where these lists are.
+//! A certificate is plain data: trees of shortest walks with distances and parents, a tree of faces
+//! with depths and sides, the edges that are left, and the cycles of a basis. Nothing of it is
+//! trusted here: whether a certificate is valid for a mesh is asked elsewhere. Contracts see each
+//! record as the record of its plain lists, so two certificates are the same where these lists are.
 //!
-//! The text of a certificate of loops has the lines `SURFCERT 1 loops`, `counts V F k` and `tree x`; a line `d p` for
-//! each of the V vertices, with its distance and its parent, or `-` in place of the parent; `dual`; a line `depth u v`
-//! for each of the F faces, with a depth of at least 1 and a side of the face, the lesser end first, or `0 -`; `left`;
-//! and a line `u v` for each of the k left edges, each pair greater than the one before. That of a basis begins with
-//! `SURFCERT 1 basis`, has V trees, that from vertex `x` at place `x`, and ends with `cycles` and k lines of at least
-//! one vertex. A line has exactly these tokens. A distance is any whole number of 64 bits, all other numbers have 32.
-//! Lines, tokens and comments are those of `surf_text`. What a text is, or its first fault, is one definition over the
-//! list of its lines, and [`read_cert`] answers it, fault by fault. What is written is read as what it was written of.
+//! The text of a certificate of loops has the lines `SURFCERT 1 loops`, `counts V F k` and `tree
+//! x`; a line `d p` for each of the V vertices, with its distance and its parent, or `-` in place
+//! of the parent; `dual`; a line `depth u v` for each of the F faces, with a depth of at least 1
+//! and a side of the face, the lesser end first, or `0 -`; `left`; and a line `u v` for each of the
+//! k left edges, each pair greater than the one before. That of a basis begins with `SURFCERT 1
+//! basis`, has V trees, that from vertex `x` at place `x`, and ends with `cycles` and k lines of at
+//! least one vertex. A line has exactly these tokens. A distance is any whole number of 64 bits,
+//! all other numbers have 32. Lines, tokens and comments are those of `surf_text`. What a text is,
+//! or its first fault, is one definition over the list of its lines, and [`read_cert`] answers it,
+//! fault by fault. What is written is read as what it was written of.
 #![tactic(auto)]
 
 mod cert;

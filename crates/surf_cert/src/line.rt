@@ -148,7 +148,8 @@ pub(crate) fn read_tree_row(line: &[u8]) -> Option<(u64, Option<VertexId>)>
 
 // A depth of at least 1, and a side with its lesser end first.
 fn read_below_root(depth: &[u8], u: &[u8], v: &[u8]) -> Option<(u32, Option<(VertexId, VertexId)>)>
-    ensures row { result ≡ below_root (cert_number depth.now) (cert_number u.now) (cert_number v.now) }
+    ensures row { result ≡ below_root (cert_number depth.now) (cert_number u.now)
+        (cert_number v.now) }
 {
     let depth = read_number(depth)?;
     let u = read_number(u)?;

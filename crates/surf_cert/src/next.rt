@@ -90,7 +90,8 @@ pub(crate) fn next_pair(
 
 // The numbers of a line, as vertices.
 fn read_vertices(alloc: Global, line: &Line<'_>) -> Result<Vec<VertexId>, CertText>
-    ensures vertices { Gives (λ x. x.items) result (formed (text_line line.now).number (numbers_of (tokens_of (text_line line.now).bytes))) }
+    ensures vertices { Gives (λ x. x.items) result (formed (text_line line.now).number
+        (numbers_of (tokens_of (text_line line.now).bytes))) }
 {
     let mut vertices = Vec::new(alloc);
     let mut tokens = Tokens::over(line.bytes);
@@ -105,7 +106,8 @@ fn read_vertices(alloc: Global, line: &Line<'_>) -> Result<Vec<VertexId>, CertTe
 
 // The vertices of a line, which has at least one.
 fn read_cycle(alloc: Global, line: &Line<'_>) -> Result<Walk, CertText>
-    ensures cycle { Gives (λ x. x) result (formed (text_line line.now).number (cycle_of (tokens_of (text_line line.now).bytes))) }
+    ensures cycle { Gives (λ x. x) result (formed (text_line line.now).number
+        (cycle_of (tokens_of (text_line line.now).bytes))) }
 {
     let vertices = read_vertices(alloc, line)?;
     if vertices.is_empty() {

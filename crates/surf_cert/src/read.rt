@@ -67,12 +67,13 @@ fn read_text(alloc: Global, text: &[u8]) -> Result<Cert, CertText>
     Err(CertText::Header { line: line.number })
 }
 
-/// Reads the text of a certificate. Refuses with the first fault of the text, or with `Memory` where there is none.
-/// The text is shorter than 2^32 − 1 bytes.
+/// Reads the text of a certificate. Refuses with the first fault of the text, or with `Memory`
+/// where there is none. The text is shorter than 2^32 − 1 bytes.
 ///
-/// The first line says whether it is a certificate of loops or of a basis, and the second how many vertices, faces
-/// and left edges there are. So many lines follow for each part, and none after them. No room is taken for counts
-/// that a text merely states. A certificate that was read fits the lines of a text, so it can be written.
+/// The first line says whether it is a certificate of loops or of a basis, and the second how many
+/// vertices, faces and left edges there are. So many lines follow for each part, and none after
+/// them. No room is taken for counts that a text merely states. A certificate that was read fits
+/// the lines of a text, so it can be written.
 pub fn read_cert(alloc: Global, text: &[u8]) -> Result<Cert, CertText>
     requires short { length text.now < 4294967295 }
     ensures cert { Gives (λ x. x) result (parsed_cert text.now) }

@@ -4,8 +4,8 @@ ghost use Rattle.std.specs.Prelude.{◌≡◌};
 use std::marker::Model;
 use surf_base::VertexId;
 
-/// A tree of shortest walks from a base: for each vertex, by its number, its distance from the base and its
-/// parent, which the base has not.
+/// A tree of shortest walks from a base: for each vertex, by its number, its distance from the base
+/// and its parent, which the base has not.
 #[derive(Drop)]
 pub struct TreeRows {
     base: VertexId,
@@ -24,7 +24,11 @@ impl Model for TreeRows {
 impl TreeRows {
     /// The rows of these lists. It takes no memory.
     pub fn make(base: VertexId, distance: Vec<u64>, parent: Vec<Option<VertexId>>) -> TreeRows
-        ensures rows { result ≡ record { base = base; distance = distance.items; parent = parent.items } }
+        ensures rows { result ≡ record {
+          base = base;
+          distance = distance.items;
+          parent = parent.items;
+        } }
     {
         TreeRows {
             base,
@@ -55,8 +59,8 @@ impl TreeRows {
     }
 }
 
-/// A tree of faces whose root is face 0: for each face, by its number, its depth below the root and the side that
-/// it shares with its parent, as the pair of that side's ends. The root has no side.
+/// A tree of faces whose root is face 0: for each face, by its number, its depth below the root and
+/// the side that it shares with its parent, as the pair of that side's ends. The root has no side.
 #[derive(Drop)]
 pub struct DualRows {
     depth: Vec<u32>,

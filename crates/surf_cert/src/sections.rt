@@ -54,7 +54,8 @@ fn read_tree_at(
     base: u32,
     vertices: u32,
 ) -> Result<TreeRows, CertText>
-    ensures tree { Gives (λ x. (x, lines.new)) result (based_tree (base_at base) vertices lines.old) }
+    ensures tree { Gives (λ x. (x, lines.new)) result (based_tree (base_at base)
+        vertices lines.old) }
 {
     let base = next_base_at(lines, base)?;
     read_tree_rows(alloc, lines, base, vertices)
@@ -66,7 +67,8 @@ pub(crate) fn read_trees(
     lines: &mut Lines<'_>,
     vertices: u32,
 ) -> Result<Vec<TreeRows>, CertText>
-    ensures trees { Gives (λ x. (x.items, lines.new)) result (trees_of 0 vertices vertices lines.old) }
+    ensures trees { Gives (λ x. (x.items, lines.new)) result
+        (trees_of 0 vertices vertices lines.old) }
 {
     let mut trees = Vec::new(alloc);
     for base in 0..vertices {

@@ -51,7 +51,8 @@ fn write_vertex(page: &mut Page, distance: u64, parent: Option<VertexId>) -> Res
 fn write_vertices(page: &mut Page, tree: &TreeRows) -> Result<(), PageFault>
     requires fits { length page.old.bytes ≤ page.old.most }
     requires same { length tree.now.distance ≡ length tree.now.parent }
-    ensures puts { Puts page.old page.new (flat_map vertex_line (zip tree.now.distance tree.now.parent)) result }
+    ensures puts { Puts page.old page.new (flat_map vertex_line
+        (zip tree.now.distance tree.now.parent)) result }
 {
     let distance = tree.distance();
     let parent = tree.parent();
@@ -96,7 +97,8 @@ fn write_face(
 fn write_faces(page: &mut Page, dual: &DualRows) -> Result<(), PageFault>
     requires fits { length page.old.bytes ≤ page.old.most }
     requires same { length dual.now.depth ≡ length dual.now.side }
-    ensures puts { Puts page.old page.new (flat_map face_line (zip dual.now.depth dual.now.side)) result }
+    ensures puts { Puts page.old page.new (flat_map face_line (zip dual.now.depth dual.now.side))
+        result }
 {
     let depth = dual.depth();
     let side = dual.side();
@@ -136,12 +138,12 @@ fn write_left(page: &mut Page, left: &[(VertexId, VertexId)]) -> Result<(), Page
     write_pairs(page, left)
 }
 
-/// Puts the text of a certificate of loops on a page. Its lists fit the lines of a text: as many parents as
-/// distances, as many sides as depths, and the left edges increasing.
+/// Puts the text of a certificate of loops on a page. Its lists fit the lines of a text: as many
+/// parents as distances, as many sides as depths, and the left edges increasing.
 ///
-/// Refuses with `Full` where the page would hold more than its bound with the whole text, and with `Memory` where
-/// there is none. After a refusal the page holds a front of the text behind its bytes. Read again, the text is
-/// this certificate.
+/// Refuses with `Full` where the page would hold more than its bound with the whole text, and with
+/// `Memory` where there is none. After a refusal the page holds a front of the text behind its
+/// bytes. Read again, the text is this certificate.
 pub fn write_loop_cert(page: &mut Page, cert: &LoopCert) -> Result<(), PageFault>
     requires fits { LoopFits cert.now }
     ensures puts { Puts page.old page.new (loop_text cert.now) result }
@@ -204,9 +206,10 @@ fn write_cycles(page: &mut Page, cycles: &[Walk]) -> Result<(), PageFault>
     write_walks(page, cycles)
 }
 
-/// Puts the text of a certificate of a basis on a page, and refuses as `write_loop_cert` does. Its lists fit the
-/// lines of a text: a tree for each vertex, that from vertex `x` at place `x`, with as many rows as there are trees,
-/// the left edges increasing, and as many cycles as left edges. Read again, the text is this certificate.
+/// Puts the text of a certificate of a basis on a page, and refuses as `write_loop_cert` does. Its
+/// lists fit the lines of a text: a tree for each vertex, that from vertex `x` at place `x`, with
+/// as many rows as there are trees, the left edges increasing, and as many cycles as left edges.
+/// Read again, the text is this certificate.
 pub fn write_basis_cert(page: &mut Page, cert: &BasisCert) -> Result<(), PageFault>
     requires fits { BasisFits cert.now }
     ensures puts { Puts page.old page.new (basis_text cert.now) result }

@@ -62,9 +62,11 @@ fn hang(
     requires flags { face < length tree.old.flags.items }
     requires seen { face < length tree.old.seen.items }
     requires few { length tree.old.listed.items < 2 ^ 32 }
-    ensures parents { OnOk result (tree.new.parent.items ≡ slice_set tree.old.parent.items face parent) }
+    ensures parents { OnOk result (tree.new.parent.items
+        ≡ slice_set tree.old.parent.items face parent) }
     ensures ups { OnOk result (tree.new.up.items ≡ slice_set tree.old.up.items face up) }
-    ensures ranks { OnOk result (tree.new.rank.items ≡ slice_set tree.old.rank.items face (length tree.old.listed.items)) }
+    ensures ranks { OnOk result (tree.new.rank.items ≡ slice_set tree.old.rank.items face
+        (length tree.old.listed.items)) }
     ensures flags { OnOk result (tree.new.flags.items ≡ slice_set tree.old.flags.items face flag) }
     ensures seen { OnOk result (tree.new.seen.items ≡ slice_set tree.old.seen.items face true) }
     ensures listed { OnOk result (tree.new.listed.items ≡ tree.old.listed.items ++ face ∷ []) }
@@ -108,7 +110,8 @@ fn go_over(mesh: &HalfMesh, face: FaceId, tree: &mut FaceTree) -> Result<(), NoM
     requires grows { TreeGrows mesh.now tree.old }
     ensures grows { OnOk result (TreeGrows mesh.now tree.new) }
     ensures on { OnOk result (TreeGrowsOn tree.old tree.new) }
-    ensures crossed { OnOk result ((s : ℕ) → IsFaceOf mesh.now s face → IsCrossed mesh.now tree.new.seen.items s) }
+    ensures crossed { OnOk result ((s : ℕ) → IsFaceOf mesh.now s face →
+        IsCrossed mesh.now tree.new.seen.items s) }
 {
     let row = mesh.sides(face);
     for side in row {

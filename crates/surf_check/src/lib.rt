@@ -1,16 +1,17 @@
 //! Whether a mesh is a closed connected surface, and of which kind.
 //!
 //! `check` takes a soup of faces and gives the surface, or the first of six faults with its least
-//! witness. It decides one property after another: that there is a face, that each edge is a side of
-//! exactly two faces, that each vertex is in a face, that the faces at each vertex form one cycle,
-//! and that the faces are connected through edges. Each takes time linear in the number of sides.
+//! witness. It decides one property after another: that there is a face, that each edge is a side
+//! of exactly two faces, that each vertex is in a face, that the faces at each vertex form one
+//! cycle, and that the faces are connected through edges. Each takes time linear in the number of
+//! sides.
 //!
-//! `characteristic` is the number of vertices minus that of edges plus that of faces. `orient` finds
-//! a turning, a flag for each face by which the two faces of each edge run it in opposite ways, or
-//! else a chain of faces that shows that there is none. It grows a tree of the faces from face 0
-//! and gives each face the flag that its edge to the tree asks for; then either all edges fit the
-//! flags, or one doesn't, and the ways from its two faces to face 0 close a one-sided chain. Where
-//! there is a turning, `genus` is half of 2 minus the characteristic.
+//! `characteristic` is the number of vertices minus that of edges plus that of faces. `orient`
+//! finds a turning, a flag for each face by which the two faces of each edge run it in opposite
+//! ways, or else a chain of faces that shows that there is none. It grows a tree of the faces from
+//! face 0 and gives each face the flag that its edge to the tree asks for; then either all edges
+//! fit the flags, or one doesn't, and the ways from its two faces to face 0 close a one-sided
+//! chain. Where there is a turning, `genus` is half of 2 minus the characteristic.
 #![tactic(auto)]
 
 mod answers;

@@ -17,7 +17,8 @@ use surf_mesh::HalfMesh;
 fn fits(mesh: &HalfMesh, flags: &[bool], side: SideId) -> bool
     requires side { side < side_count mesh.now }
     requires flags { length flags.now ≡ face_count mesh.now }
-    ensures { (e : ℕ) → IsEdgeOf mesh.now side e → result ≡ not (misfit mesh.now (flag_of flags.now) e) }
+    ensures { (e : ℕ) → IsEdgeOf mesh.now side e →
+        result ≡ not (misfit mesh.now (flag_of flags.now) e) }
 {
     mesh.law_of_surface();
     let across = mesh.mate(side);
@@ -31,7 +32,8 @@ fn fits(mesh: &HalfMesh, flags: &[bool], side: SideId) -> bool
 // The edge of the first side whose edge the flags don't fit.
 fn first_misfit(mesh: &HalfMesh, flags: &[bool]) -> Option<EdgeId>
     requires { length flags.now ≡ face_count mesh.now }
-    ensures { MatchOption result (IsTurning mesh.now (flag_of flags.now)) (λ e. (e < edge_count mesh.now) × (Fits mesh.now (flag_of flags.now) e → ⊥)) }
+    ensures { MatchOption result (IsTurning mesh.now (flag_of flags.now))
+        (λ e. (e < edge_count mesh.now) × (Fits mesh.now (flag_of flags.now) e → ⊥)) }
 {
     mesh.law_of_surface();
     for s in 0..mesh.side_count() {
@@ -61,7 +63,9 @@ fn climb(
 ) -> Result<(), NoMemory>
     requires tree { IsFlagTree mesh.now tree.now }
     requires from { from < face_count mesh.now }
-    ensures { OnOk result (map link_of chain.new.items ≡ map link_of chain.old.items ++ links_up mesh.now (tree_in tree.now) (get_or tree.now.rank.items from 0) from) }
+    ensures { OnOk result (map link_of chain.new.items
+        ≡ map link_of chain.old.items ++ links_up mesh.now (tree_in tree.now)
+        (get_or tree.now.rank.items from 0) from) }
 {
     let mut at = from.number();
     while at != 0 {
@@ -82,7 +86,8 @@ fn descend(
 ) -> Result<Vec<ChainLink>, NoMemory>
     requires tree { IsFlagTree mesh.now tree.now }
     requires to { to < face_count mesh.now }
-    ensures { IfOk result (λ v. map link_of v.items ≡ links_down mesh.now (tree_in tree.now) (get_or tree.now.rank.items to 0) to []) }
+    ensures { IfOk result (λ v. map link_of v.items ≡ links_down mesh.now (tree_in tree.now)
+        (get_or tree.now.rank.items to 0) to []) }
 {
     let mut chain = Vec::new(alloc);
     let mut at = to.number();

@@ -26,7 +26,8 @@ use surf_mesh::{HalfMesh, Walk};
 // The least listed number that is no face.
 fn first_outside(mesh: &HalfMesh, faces: &[FaceId]) -> Option<FaceId>
     requires rises { AllPairs (λ a b. a < b) faces.now }
-    ensures face { MatchOption result (All (λ f. f < face_count mesh.now) faces.now) (λ f. IsNoFace mesh.now faces.now f) }
+    ensures face { MatchOption result (All (λ f. f < face_count mesh.now) faces.now)
+        (λ f. IsNoFace mesh.now faces.now f) }
 {
     for face in faces {
         if mesh.faces() <= face.number() {
@@ -39,7 +40,8 @@ fn first_outside(mesh: &HalfMesh, faces: &[FaceId]) -> Option<FaceId>
 // Flags of the listed faces.
 fn face_flags(alloc: Global, mesh: &HalfMesh, faces: &[FaceId]) -> Result<Vec<bool>, NoMemory>
     requires faces { All (λ f. f < face_count mesh.now) faces.now }
-    ensures flags { IfOk result (λ v. AreFlags (face_count mesh.now) (is_listed faces.now) v.items) }
+    ensures flags { IfOk result (λ v. AreFlags (face_count mesh.now)
+        (is_listed faces.now) v.items) }
 {
     let mut flags = vec![in alloc; false; mesh.faces() as usize]?;
     for i in 0..faces.len() {
@@ -62,7 +64,9 @@ fn is_between(mesh: &HalfMesh, faces: &[bool], edge: EdgeId) -> bool
 fn first_differing(mesh: &HalfMesh, faces: &[bool], flags: &[bool]) -> Option<EdgeId>
     requires faces { length faces.now ≡ face_count mesh.now }
     requires flags { length flags.now ≡ edge_count mesh.now }
-    ensures edge { MatchOption result (HoldsBelow (edge_count mesh.now) (AgreesAt mesh.now faces.now flags.now)) (FailsFirst (edge_count mesh.now) (AgreesAt mesh.now faces.now flags.now)) }
+    ensures edge { MatchOption result (HoldsBelow (edge_count mesh.now)
+        (AgreesAt mesh.now faces.now flags.now)) (FailsFirst (edge_count mesh.now)
+        (AgreesAt mesh.now faces.now flags.now)) }
 {
     for e in 0..mesh.edges() {
         let edge = EdgeId::new(e);
@@ -82,8 +86,10 @@ fn check_faces(
 ) -> Result<(), ClassFault>
     requires flags { length flags.now ≡ edge_count mesh.now }
     requires rises { AllPairs (λ a b. a < b) faces.now }
-    ensures right { (chain : Chain) → AreFlags (edge_count mesh.now) chain flags.now → OnOk result (IsNullEvidence mesh.now chain faces.now) }
-    ensures fault { (chain : Chain) → AreFlags (edge_count mesh.now) chain flags.now → IfErr result (IsClassFault mesh.now chain (null_faces faces.now)) }
+    ensures right { (chain : Chain) → AreFlags (edge_count mesh.now) chain flags.now →
+        OnOk result (IsNullEvidence mesh.now chain faces.now) }
+    ensures fault { (chain : Chain) → AreFlags (edge_count mesh.now) chain flags.now →
+        IfErr result (IsClassFault mesh.now chain (null_faces faces.now)) }
 {
     mesh.law_of_surface();
     if let Some(face) = first_outside(mesh, faces) {
@@ -101,7 +107,8 @@ fn check_faces(
 fn first_stranger(mesh: &HalfMesh, pairs: &[(VertexId, VertexId)]) -> Option<(VertexId, VertexId)>
     requires rises { AllPairs (λ a b. pair_lt a b ≡ true) pairs.now }
     requires ordered { All (λ a. a.0 < a.1) pairs.now }
-    ensures pair { MatchOption result (All (Contains (edges mesh.now)) pairs.now) (λ p. IsNoPair mesh.now pairs.now p.0 p.1) }
+    ensures pair { MatchOption result (All (Contains (edges mesh.now)) pairs.now)
+        (λ p. IsNoPair mesh.now pairs.now p.0 p.1) }
 {
     for (u, v) in pairs {
         if mesh.find_edge(*u, *v).is_none() {
@@ -115,7 +122,8 @@ fn first_stranger(mesh: &HalfMesh, pairs: &[(VertexId, VertexId)]) -> Option<(Ve
 fn turn_faces(mesh: &HalfMesh, edge: EdgeId, odd: &mut [bool])
     requires edge { edge < edge_count mesh.now }
     requires count { length odd.old ≡ face_count mesh.now }
-    ensures turned { (f : ℕ) → f < face_count mesh.now → slice_index_or odd.new f false ≡ xor (slice_index_or odd.old f false) (borders mesh.now f edge) }
+    ensures turned { (f : ℕ) → f < face_count mesh.now → slice_index_or odd.new f false
+        ≡ xor (slice_index_or odd.old f false) (borders mesh.now f edge) }
 {
     mesh.law_of_surface();
     let (near, far) = faces_beside(mesh, edge);
@@ -128,7 +136,9 @@ fn turn_pairs(mesh: &HalfMesh, pairs: &[(VertexId, VertexId)], flags: &mut [bool
     requires edges { All (Contains (edges mesh.now)) pairs.now }
     requires ordered { All (λ a. a.0 < a.1) pairs.now }
     requires count { length flags.old ≡ face_count mesh.now }
-    ensures turned { (f : ℕ) → f < face_count mesh.now → slice_index_or flags.new f false ≡ xor (slice_index_or flags.old f false) (odd (map (λ p. borders mesh.now f (edge_number mesh.now p)) pairs.now)) }
+    ensures turned { (f : ℕ) → f < face_count mesh.now → slice_index_or flags.new f false
+        ≡ xor (slice_index_or flags.old f false)
+        (odd (map (λ p. borders mesh.now f (edge_number mesh.now p)) pairs.now)) }
 {
     for i in 0..pairs.len() {
         turn_faces(mesh, pair_edge(mesh, pairs[i]), flags);
@@ -144,7 +154,8 @@ fn odd_faces(
     requires edges { All (Contains (edges mesh.now)) pairs.now }
     requires rises { AllPairs (λ a b. pair_lt a b ≡ true) pairs.now }
     requires ordered { All (λ a. a.0 < a.1) pairs.now }
-    ensures flags { IfOk result (λ v. AreFlags (face_count mesh.now) (has_odd_sides mesh.now pairs.now) v.items) }
+    ensures flags { IfOk result (λ v. AreFlags (face_count mesh.now)
+        (has_odd_sides mesh.now pairs.now) v.items) }
 {
     let mut odd = vec![in alloc; false; mesh.faces() as usize]?;
     turn_pairs(mesh, pairs, &mut odd);
@@ -172,7 +183,8 @@ fn is_odd(mesh: &HalfMesh, flags: &[bool], pairs: &[(VertexId, VertexId)]) -> bo
     odd
 }
 
-// Whether each face has an even number of the pairs as sides, and an odd number of them are flagged.
+// Whether each face has an even number of the pairs as sides, and an odd number of them are
+// flagged.
 fn check_pairs(
     alloc: Global,
     mesh: &HalfMesh,
@@ -182,8 +194,10 @@ fn check_pairs(
     requires flags { length flags.now ≡ edge_count mesh.now }
     requires rises { AllPairs (λ a b. pair_lt a b ≡ true) pairs.now }
     requires ordered { All (λ a. a.0 < a.1) pairs.now }
-    ensures right { (chain : Chain) → AreFlags (edge_count mesh.now) chain flags.now → OnOk result (IsOddEvidence mesh.now chain pairs.now) }
-    ensures fault { (chain : Chain) → AreFlags (edge_count mesh.now) chain flags.now → IfErr result (IsClassFault mesh.now chain (odd_pairs pairs.now)) }
+    ensures right { (chain : Chain) → AreFlags (edge_count mesh.now) chain flags.now →
+        OnOk result (IsOddEvidence mesh.now chain pairs.now) }
+    ensures fault { (chain : Chain) → AreFlags (edge_count mesh.now) chain flags.now →
+        IfErr result (IsClassFault mesh.now chain (odd_pairs pairs.now)) }
 {
     mesh.law_of_surface();
     if let Some((u, v)) = first_stranger(mesh, pairs) {
@@ -202,9 +216,10 @@ fn check_pairs(
     }
 }
 
-/// Whether evidence is right for a closed walk: its faces have the parity of the walk as their boundary, or of its edges
-/// each face has an even number as sides and the parity an odd number. Refuses with the first fault in the order of
-/// [`ClassFault`], each with its least witness, or with `Memory` where there is none.
+/// Whether evidence is right for a closed walk: its faces have the parity of the walk as their
+/// boundary, or of its edges each face has an even number as sides and the parity an odd number.
+/// Refuses with the first fault in the order of [`ClassFault`], each with its least witness, or
+/// with `Memory` where there is none.
 pub fn check_class(
     alloc: Global,
     mesh: &HalfMesh,
@@ -212,9 +227,12 @@ pub fn check_class(
     evidence: &Evidence,
 ) -> Result<(), ClassFault>
     requires closed { IsClosed mesh.now walk.now }
-    ensures right { OnOk result (IsEvidence mesh.now (parity mesh.now walk.now) (seen evidence.now)) }
-    ensures fault { IfErr result (IsClassFault mesh.now (parity mesh.now walk.now) (seen evidence.now)) }
-    ensures excludes { IfErr result (λ e. e ≢ ClassFault.Memory → IsEvidence mesh.now (parity mesh.now walk.now) (seen evidence.now) → ⊥) }
+    ensures right { OnOk result (IsEvidence mesh.now (parity mesh.now walk.now)
+        (seen evidence.now)) }
+    ensures fault { IfErr result (IsClassFault mesh.now (parity mesh.now walk.now)
+        (seen evidence.now)) }
+    ensures excludes { IfErr result (λ e. e ≢ ClassFault.Memory →
+        IsEvidence mesh.now (parity mesh.now walk.now) (seen evidence.now) → ⊥) }
 {
     let flags = joint_flags(alloc, mesh, walk, None)?;
     match evidence {

@@ -49,7 +49,8 @@ pub(crate) fn faces_beside(mesh: &HalfMesh, edge: EdgeId) -> (FaceId, FaceId)
 /// Turns a flag.
 pub(crate) fn turn(flags: &mut [bool], place: usize)
     requires place { place < length flags.old }
-    ensures turned { (k : ℕ) → slice_index_or flags.new k false ≡ xor (slice_index_or flags.old k false) (k == place) }
+    ensures turned { (k : ℕ) → slice_index_or flags.new k false
+        ≡ xor (slice_index_or flags.old k false) (k == place) }
 {
     flags[place] = !flags[place];
 }

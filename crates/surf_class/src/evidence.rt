@@ -81,6 +81,7 @@ impl PairList {
 pub enum Evidence {
     /// Faces whose boundary is the parity of the walk.
     Null(FaceList),
-    /// Edges of which each face has an even number as sides, while the parity of the walk has an odd number of them.
+    /// Edges of which each face has an even number as sides, while the parity of the walk has an
+    /// odd number of them.
     Odd(PairList),
 }

@@ -9,8 +9,8 @@ use crate::numbers::NumberFault;
 use std::alloc::{AllocError, AllocFailed};
 use surf_base::{FaceId, NoMemory, VertexId};
 
-/// Why a text gives no closed walk of a mesh. The first kind decides, in the order of this list, and of that kind the
-/// least place. Places are counted from 0 and lines from 1.
+/// Why a text gives no closed walk of a mesh. The first kind decides, in the order of this list,
+/// and of that kind the least place. Places are counted from 0 and lines from 1.
 #[derive(Clone, Copy, Debug, PartialEq, Eq)]
 pub enum WalkFault {
     /// No line has a token.
@@ -85,7 +85,8 @@ impl<T: Drop> From<AllocFailed<T>> for EvidenceFault {
     }
 }
 
-/// Why evidence isn't right for a walk, each with its least witness. The kinds come in the order in which they are tested.
+/// Why evidence isn't right for a walk, each with its least witness. The kinds come in the order in
+/// which they are tested.
 #[derive(Clone, Copy, Debug, PartialEq, Eq)]
 pub enum ClassFault {
     /// A listed face is none of the mesh.

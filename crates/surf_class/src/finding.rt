@@ -28,7 +28,8 @@ use surf_mesh::{HalfMesh, Walk};
 fn add_steps(mesh: &HalfMesh, cotree: &CotreeDesk, walk: &[VertexId], sum: &mut Signature)
     requires table { length cotree.now.signatures ≡ edge_count mesh.now }
     requires closed { IsClosed mesh.now walk.now }
-    ensures added { (tree : Tree) → IsSigned mesh.now tree cotree.now → sum.new ≡ bit_xor sum.old (walk_signature mesh.now (split_with tree cotree.now) walk.now) }
+    ensures added { (tree : Tree) → IsSigned mesh.now tree cotree.now →
+        sum.new ≡ bit_xor sum.old (walk_signature mesh.now (split_with tree cotree.now) walk.now) }
 {
     for i in 0..walk.len() - 1 {
         sum.add(cotree.signature(step_edge(mesh, walk, i)));
@@ -39,7 +40,9 @@ fn add_steps(mesh: &HalfMesh, cotree: &CotreeDesk, walk: &[VertexId], sum: &mut 
 fn joint_sum(mesh: &HalfMesh, cotree: &CotreeDesk, first: &Walk, second: Option<&Walk>) -> Signature
     requires table { length cotree.now.signatures ≡ edge_count mesh.now }
     requires closed { AreClosed mesh.now first.now (option_copied second) }
-    ensures sum { (tree : Tree) → IsSigned mesh.now tree cotree.now → result ≡ joint_signature mesh.now (split_with tree cotree.now) first.now (option_copied second.entry) }
+    ensures sum { (tree : Tree) → IsSigned mesh.now tree cotree.now →
+        result ≡ joint_signature mesh.now (split_with tree cotree.now) first.now
+        (option_copied second.entry) }
 {
     let mut sum = Signature::zero();
     add_steps(mesh, cotree, first.vertices(), &mut sum);
@@ -51,7 +54,8 @@ fn joint_sum(mesh: &HalfMesh, cotree: &CotreeDesk, first: &Walk, second: Option<
 
 // The least number below 1,024 of a set.
 fn least_number(set: &Signature) -> Option<u32>
-    ensures least { MatchOption result ((k : ℕ) → k < 1024 → has set.now k ≡ false) (λ n. (n < 1024) × (has set.now n ≡ true) × ((k : ℕ) → k < n → has set.now k ≡ false)) }
+    ensures least { MatchOption result ((k : ℕ) → k < 1024 → has set.now k ≡ false) (λ n. (n < 1024)
+        × (has set.now n ≡ true) × ((k : ℕ) → k < n → has set.now k ≡ false)) }
 {
     for k in 0..1024 {
         if set.bits().bit(k) {
@@ -64,7 +68,8 @@ fn least_number(set: &Signature) -> Option<u32>
 // The faces that are known to be in a set.
 fn list_inside(alloc: Global, mesh: &HalfMesh, sides: &[Option<bool>]) -> Result<FaceList, NoMemory>
     requires count { length sides.now ≡ face_count mesh.now }
-    ensures list { IfOk result (λ l. l ≡ filter (is_inside sides.now) (range_with_len 0 (face_count mesh.now))) }
+    ensures list { IfOk result (λ l. l ≡ filter (is_inside sides.now)
+        (range_with_len 0 (face_count mesh.now))) }
 {
     let mut faces = Vec::new(alloc);
     for f in 0..mesh.faces() {
@@ -84,7 +89,9 @@ fn list_signed(
 ) -> Result<PairList, NoMemory>
     requires table { length cotree.now.signatures ≡ edge_count mesh.now }
     requires number { k < 1024 }
-    ensures list { IfOk result (λ l. l ≡ map (ends mesh.now) (filter (λ e. has (slice_index cotree.now.signatures e) k) (range_with_len 0 (edge_count mesh.now)))) }
+    ensures list { IfOk result (λ l. l ≡ map (ends mesh.now) (filter
+        (λ e. has (slice_index cotree.now.signatures e) k)
+        (range_with_len 0 (edge_count mesh.now)))) }
 {
     let mut pairs = Vec::new(alloc);
     for e in 0..mesh.edges() {
@@ -98,9 +105,10 @@ fn list_signed(
 
 /// The chosen evidence of the class of a closed walk, or of how the classes of two differ.
 ///
-/// Where the edges that the walk runs an odd number of times, or exactly one of the two does, are the boundary of some
-/// set of faces, it is the faces of that set without face 0. Else it is the edges whose signature has the least number of
-/// the sum of the signatures of the walks. The desk has grown a tree of the faces of this mesh and signed the edges.
+/// Where the edges that the walk runs an odd number of times, or exactly one of the two does, are
+/// the boundary of some set of faces, it is the faces of that set without face 0. Else it is the
+/// edges whose signature has the least number of the sum of the signatures of the walks. The desk
+/// has grown a tree of the faces of this mesh and signed the edges.
 pub fn classify(
     alloc: Global,
     mesh: &HalfMesh,
@@ -110,8 +118,11 @@ pub fn classify(
 ) -> Result<Evidence, NoMemory>
     requires signed { IsSignedOn mesh.now cotree.now }
     requires closed { AreClosed mesh.now first.now (option_copied second) }
-    ensures chosen { (tree : Tree) → IsSigned mesh.now tree cotree.now → IfOk result (λ e. IsChosen mesh.now (split_with tree cotree.now) (joint_parity mesh.now first.now (option_copied second.entry)) (seen e)) }
-    ensures right { IfOk result (λ e. IsEvidence mesh.now (joint_parity mesh.now first.now (option_copied second.entry)) (seen e)) }
+    ensures chosen { (tree : Tree) → IsSigned mesh.now tree cotree.now →
+        IfOk result (λ e. IsChosen mesh.now (split_with tree cotree.now)
+        (joint_parity mesh.now first.now (option_copied second.entry)) (seen e)) }
+    ensures right { IfOk result (λ e. IsEvidence mesh.now (joint_parity mesh.now first.now
+        (option_copied second.entry)) (seen e)) }
 {
     mesh.law_of_surface();
     match least_number(&joint_sum(mesh, cotree, first, second)) {

@@ -7,7 +7,8 @@ pub fn law_of_reread()
     ensures reread { EvidenceIsReread }
 {}
 
-/// A desk that has grown a tree of the faces and then signed the edges is one that evidence is found by.
+/// A desk that has grown a tree of the faces and then signed the edges is one that evidence is
+/// found by.
 pub fn law_of_signing()
     ensures signed { GrownDesksSign }
 {}

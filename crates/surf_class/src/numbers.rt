@@ -11,7 +11,8 @@ use surf_text::{Tokens, read_whole};
 /// Why tokens aren't numbers.
 #[derive(Clone, Copy, Debug)]
 pub(crate) enum NumberFault {
-    /// The token at this place isn't a whole number of at most 4,294,967,295. Places are counted from 0.
+    /// The token at this place isn't a whole number of at most 4,294,967,295. Places are counted
+    /// from 0.
     Bad { place: u32 },
     /// There was no memory.
     Memory,
@@ -38,7 +39,8 @@ fn read_number(token: &[u8]) -> Option<u32>
 /// The numbers that the tokens to come are.
 pub(crate) fn read_numbers(alloc: Global, mut tokens: Tokens<'_>) -> Result<Vec<u32>, NumberFault>
     requires few { length tokens.tokens < 2 ^ 32 }
-    ensures numbers { Gives NumberFault.Memory (λ v. v.items) result (numbers_from 0 tokens.entry.tokens) }
+    ensures numbers { Gives NumberFault.Memory (λ v. v.items) result
+        (numbers_from 0 tokens.entry.tokens) }
     ensures few { IfOk result (λ v. length v.items < 2 ^ 32) }
 {
     let mut numbers = Vec::new(alloc);

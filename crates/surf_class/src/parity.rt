@@ -16,15 +16,16 @@ use surf_mesh::{HalfMesh, Walk};
 fn turn_steps(mesh: &HalfMesh, walk: &[VertexId], flags: &mut [bool])
     requires closed { IsClosed mesh.now walk.now }
     requires count { length flags.old ≡ edge_count mesh.now }
-    ensures turned { (e : ℕ) → e < edge_count mesh.now → slice_index_or flags.new e false ≡ xor (slice_index_or flags.old e false) (parity mesh.now walk.now e) }
+    ensures turned { (e : ℕ) → e < edge_count mesh.now → slice_index_or flags.new e false
+        ≡ xor (slice_index_or flags.old e false) (parity mesh.now walk.now e) }
 {
     for i in 0..walk.len() - 1 {
         turn(flags, step_edge(mesh, walk, i).index());
     }
 }
 
-/// For each edge whether a closed walk runs it an odd number of times; with a second one, whether exactly one of the two
-/// does.
+/// For each edge whether a closed walk runs it an odd number of times; with a second one, whether
+/// exactly one of the two does.
 pub(crate) fn joint_flags(
     alloc: Global,
     mesh: &HalfMesh,
@@ -32,7 +33,8 @@ pub(crate) fn joint_flags(
     second: Option<&Walk>,
 ) -> Result<Vec<bool>, NoMemory>
     requires closed { AreClosed mesh.now first.now (option_copied second) }
-    ensures flags { IfOk result (λ v. AreFlags (edge_count mesh.now) (joint_parity mesh.now first.now (option_copied second.entry)) v.items) }
+    ensures flags { IfOk result (λ v. AreFlags (edge_count mesh.now)
+        (joint_parity mesh.now first.now (option_copied second.entry)) v.items) }
 {
     let mut flags = vec![in alloc; false; mesh.edges() as usize]?;
     turn_steps(mesh, first.vertices(), &mut flags);

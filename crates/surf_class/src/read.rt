@@ -81,7 +81,8 @@ fn as_pairs(alloc: Global, numbers: &[u32]) -> Result<Vec<(VertexId, VertexId)>,
 
 // So many faces, increasing.
 fn read_faces(alloc: Global, line: u32, numbers: &[u32]) -> Result<Evidence, EvidenceFault>
-    ensures faces { Gives EvidenceFault.Memory seen result (if_formed line (counted face_numbers (Ok numbers.now))) }
+    ensures faces { Gives EvidenceFault.Memory seen result (if_formed line (counted face_numbers
+        (Ok numbers.now))) }
 {
     let [count, faces @ ..] = numbers else {
         return Err(EvidenceFault::Form { line });
@@ -95,7 +96,8 @@ fn read_faces(alloc: Global, line: u32, numbers: &[u32]) -> Result<Evidence, Evi
 
 // So many edges, increasing.
 fn read_pairs(alloc: Global, line: u32, numbers: &[u32]) -> Result<Evidence, EvidenceFault>
-    ensures pairs { Gives EvidenceFault.Memory seen result (if_formed line (counted pair_numbers (Ok numbers.now))) }
+    ensures pairs { Gives EvidenceFault.Memory seen result (if_formed line (counted pair_numbers
+        (Ok numbers.now))) }
 {
     let [count, ends @ ..] = numbers else {
         return Err(EvidenceFault::Form { line });
@@ -113,7 +115,8 @@ fn read_pairs(alloc: Global, line: u32, numbers: &[u32]) -> Result<Evidence, Evi
 // The numbers of the tokens to come on a line.
 fn numbers_behind(alloc: Global, line: u32, tokens: Tokens<'_>) -> Result<Vec<u32>, EvidenceFault>
     requires few { length tokens.tokens < 2 ^ 32 }
-    ensures numbers { Gives EvidenceFault.Memory (λ v. v.items) result (as_formed line (numbers_from 0 tokens.entry.tokens)) }
+    ensures numbers { Gives EvidenceFault.Memory (λ v. v.items) result
+        (as_formed line (numbers_from 0 tokens.entry.tokens)) }
 {
     match read_numbers(alloc, tokens) {
         Ok(numbers) => Ok(numbers),
@@ -132,7 +135,8 @@ fn is_word(token: &[u8], word: &[u8]) -> bool
 // The evidence of a line.
 fn read_line(alloc: Global, line: &Line<'_>) -> Result<Evidence, EvidenceFault>
     requires few { length (tokens_of line.now.bytes.now) < 2 ^ 32 }
-    ensures evidence { Gives EvidenceFault.Memory seen result (evidence_of line.now.number (tokens_of line.now.bytes.now)) }
+    ensures evidence { Gives EvidenceFault.Memory seen result (evidence_of line.now.number
+        (tokens_of line.now.bytes.now)) }
 {
     let mut tokens = Tokens::over(line.bytes);
     let Some(word) = tokens.next_token() else {
@@ -149,12 +153,14 @@ fn read_line(alloc: Global, line: &Line<'_>) -> Result<Evidence, EvidenceFault>
     Err(EvidenceFault::Header { line: line.number })
 }
 
-/// Reads evidence: one line `null n f0 f1 ..` with n faces, or `odd n u v u v ..` with n edges, increasing, each by its
-/// lesser end and its greater. Numbers are whole and at most 4,294,967,295. The text is shorter than 2^32 − 1 bytes.
+/// Reads evidence: one line `null n f0 f1 ..` with n faces, or `odd n u v u v ..` with n edges,
+/// increasing, each by its lesser end and its greater. Numbers are whole and at most 4,294,967,295.
+/// The text is shorter than 2^32 − 1 bytes.
 ///
-/// Refuses with `Header` where the first token is another word, with line 0 where no line has a token; then with `Form`
-/// where that line has another form; then with `Trailing` for a second line with a token; or with `Memory` where there is
-/// none. No room is taken for a count that a text merely states.
+/// Refuses with `Header` where the first token is another word, with line 0 where no line has a
+/// token; then with `Form` where that line has another form; then with `Trailing` for a second line
+/// with a token; or with `Memory` where there is none. No room is taken for a count that a text
+/// merely states.
 pub fn read_evidence(alloc: Global, text: &[u8]) -> Result<Evidence, EvidenceFault>
     requires short { length text.now < 4294967295 }
     ensures evidence { Gives EvidenceFault.Memory seen result (evidence_in text.now) }

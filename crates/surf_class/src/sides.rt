@@ -14,8 +14,10 @@ use surf_mesh::HalfMesh;
 fn above(mesh: &HalfMesh, cotree: &CotreeDesk, face: FaceId) -> Option<(FaceId, EdgeId)>
     requires signed { IsSignedOn mesh.now cotree.now }
     requires face { face < face_count mesh.now }
-    ensures above { MatchOption result (face ≡ 0) (λ x. (face ≢ 0) × (x.0 ≡ slice_index cotree.now.parents face) × (x.1 ≡ slice_index cotree.now.ups face)) }
-    ensures inside { IfSome result (λ x. (x.0 < face_count mesh.now) × (x.1 < edge_count mesh.now) × (slice_index cotree.now.depths x.0 < slice_index cotree.now.depths face)) }
+    ensures above { MatchOption result (face ≡ 0) (λ x. (face ≢ 0)
+        × (x.0 ≡ slice_index cotree.now.parents face) × (x.1 ≡ slice_index cotree.now.ups face)) }
+    ensures inside { IfSome result (λ x. (x.0 < face_count mesh.now) × (x.1 < edge_count mesh.now)
+        × (slice_index cotree.now.depths x.0 < slice_index cotree.now.depths face)) }
 {
     mesh.law_of_surface();
     let edge = cotree.parent_edge(face)?;
@@ -36,7 +38,8 @@ fn find_side(
     requires flags { length flags.now ≡ edge_count mesh.now }
     requires sides { length sides.now ≡ face_count mesh.now }
     requires face { face < face_count mesh.now }
-    ensures side { (set : ℕ → Bool) → IsParted mesh.now cotree.now flags.now set → AreSidesOf set sides.now → result ≡ set face }
+    ensures side { (set : ℕ → Bool) → IsParted mesh.now cotree.now flags.now set →
+        AreSidesOf set sides.now → result ≡ set face }
 {
     let mut at = face;
     let mut side = false;
@@ -52,7 +55,8 @@ fn find_side(
     }
 }
 
-// Notes the side of a face, and those of the faces on its way to face 0 up to the first that is known.
+// Notes the side of a face, and those of the faces on its way to face 0 up to the first that is
+// known.
 fn note_sides(
     mesh: &HalfMesh,
     cotree: &CotreeDesk,
@@ -65,7 +69,8 @@ fn note_sides(
     requires flags { length flags.now ≡ edge_count mesh.now }
     requires sides { length sides.old ≡ face_count mesh.now }
     requires face { face < face_count mesh.now }
-    ensures right { (set : ℕ → Bool) → IsParted mesh.now cotree.now flags.now set → side ≡ set face → AreSidesOf set sides.old → AreSidesOf set sides.new }
+    ensures right { (set : ℕ → Bool) → IsParted mesh.now cotree.now flags.now set →
+        side ≡ set face → AreSidesOf set sides.old → AreSidesOf set sides.new }
     ensures known { IsSome (side_at sides.new face) }
     ensures kept { (f : ℕ) → IsSome (side_at sides.old f) → IsSome (side_at sides.new f) }
 {
@@ -86,7 +91,8 @@ fn note_all(mesh: &HalfMesh, cotree: &CotreeDesk, flags: &[bool], sides: &mut [O
     requires signed { IsSignedOn mesh.now cotree.now }
     requires flags { length flags.now ≡ edge_count mesh.now }
     requires sides { length sides.old ≡ face_count mesh.now }
-    ensures right { (set : ℕ → Bool) → IsParted mesh.now cotree.now flags.now set → AreSidesOf set sides.old → AreSidesOf set sides.new }
+    ensures right { (set : ℕ → Bool) → IsParted mesh.now cotree.now flags.now set →
+        AreSidesOf set sides.old → AreSidesOf set sides.new }
     ensures known { (f : ℕ) → f < face_count mesh.now → IsSome (side_at sides.new f) }
 {
     for f in 0..mesh.faces() {
@@ -104,8 +110,8 @@ fn no_sides(alloc: Global, count: usize) -> Result<Vec<Option<bool>>, NoMemory>
     Ok(vec![in alloc; None; count]?)
 }
 
-/// On which side of the flagged edges each face is, where they are the boundary of a set of faces: whether it is in the
-/// set without face 0. Each face is climbed over twice at most.
+/// On which side of the flagged edges each face is, where they are the boundary of a set of faces:
+/// whether it is in the set without face 0. Each face is climbed over twice at most.
 pub(crate) fn all_sides(
     alloc: Global,
     mesh: &HalfMesh,
@@ -115,7 +121,8 @@ pub(crate) fn all_sides(
     requires signed { IsSignedOn mesh.now cotree.now }
     requires flags { length flags.now ≡ edge_count mesh.now }
     ensures count { IfOk result (λ v. length v.items ≡ face_count mesh.now) }
-    ensures sides { IfOk result (λ v. (set : ℕ → Bool) → IsParted mesh.now cotree.now flags.now set → AreAllSidesOf set v.items) }
+    ensures sides { IfOk result (λ v. (set : ℕ → Bool) →
+        IsParted mesh.now cotree.now flags.now set → AreAllSidesOf set v.items) }
 {
     let mut sides = no_sides(alloc, mesh.faces() as usize)?;
     note_all(mesh, cotree, flags, &mut sides);

@@ -41,7 +41,8 @@ fn as_vertices(alloc: Global, numbers: &[u32]) -> Result<Vec<VertexId>, AllocErr
 // The least place of a vertex that no edge joins with the next one.
 fn first_gap(mesh: &HalfMesh, list: &[VertexId]) -> Option<u32>
     requires few { length list.now < 2 ^ 32 }
-    ensures place { result ≡ position (λ s. not (among (pair_of s) (edges mesh.now))) (steps list.now) }
+    ensures place { result ≡ position (λ s. not (among (pair_of s) (edges mesh.now)))
+        (steps list.now) }
 {
     for i in 1..list.len() {
         if mesh.find_edge(list[i - 1], list[i]).is_none() {
@@ -61,11 +62,11 @@ fn is_round(list: &[VertexId]) -> bool
     }
 }
 
-/// Reads a closed walk of a mesh: its vertices, the first and the last included, on one line. The text is shorter than
-/// 2^32 − 1 bytes.
+/// Reads a closed walk of a mesh: its vertices, the first and the last included, on one line. The
+/// text is shorter than 2^32 − 1 bytes.
 ///
-/// Refuses with the first kind of fault, in the order of [`WalkFault`], at its least place, or with `Memory` where there
-/// is none. A vertex alone is a closed walk.
+/// Refuses with the first kind of fault, in the order of [`WalkFault`], at its least place, or with
+/// `Memory` where there is none. A vertex alone is a closed walk.
 pub fn read_walk(alloc: Global, text: &[u8], mesh: &HalfMesh) -> Result<Walk, WalkFault>
     requires short { length text.now < 4294967295 }
     ensures walk { Gives WalkFault.Memory (λ w. w) result (walk_in mesh.now text.now) }

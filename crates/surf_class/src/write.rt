@@ -56,7 +56,8 @@ fn write_head(page: &mut Page, word: &[u8], count: usize) -> Result<(), PageFaul
 
 // The line of faces.
 fn write_null(page: &mut Page, word: &[u8], faces: &[FaceId]) -> Result<(), PageFault>
-    ensures puts { Puts page.old page.new (counted_text word.now (length faces.now) faces.now) result }
+    ensures puts { Puts page.old page.new (counted_text word.now (length faces.now) faces.now)
+        result }
 {
     write_head(page, word, faces.len())?;
     write_faces(page, faces)?;
@@ -65,24 +66,28 @@ fn write_null(page: &mut Page, word: &[u8], faces: &[FaceId]) -> Result<(), Page
 
 // The line of edges.
 fn write_odd(page: &mut Page, word: &[u8], pairs: &[(VertexId, VertexId)]) -> Result<(), PageFault>
-    ensures puts { Puts page.old page.new (counted_text word.now (length pairs.now) (both_ends pairs.now)) result }
+    ensures puts { Puts page.old page.new (counted_text word.now (length pairs.now)
+        (both_ends pairs.now)) result }
 {
     write_head(page, word, pairs.len())?;
     write_pairs(page, pairs)?;
     page.push_bytes(b"\n")
 }
 
-/// Puts the line of evidence on a page: a word, one for each kind, the count of its faces or edges, and these.
+/// Puts the line of evidence on a page: a word, one for each kind, the count of its faces or edges,
+/// and these.
 ///
-/// Refuses with `Full` where the page would hold more than its bound with the whole line, and with `Memory` where there
-/// is none. After a refusal the page holds a front of the line behind its bytes.
+/// Refuses with `Full` where the page would hold more than its bound with the whole line, and with
+/// `Memory` where there is none. After a refusal the page holds a front of the line behind its
+/// bytes.
 pub fn write_evidence(
     page: &mut Page,
     null_word: &[u8],
     odd_word: &[u8],
     evidence: &Evidence,
 ) -> Result<(), PageFault>
-    ensures puts { Puts page.old page.new (evidence_text null_word.now odd_word.now (seen evidence.now)) result }
+    ensures puts { Puts page.old page.new (evidence_text null_word.now odd_word.now
+        (seen evidence.now)) result }
 {
     match evidence {
         Evidence::Null(list) => write_null(page, null_word, list.faces()),

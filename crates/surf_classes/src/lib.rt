@@ -1,18 +1,20 @@
 //! The class of a closed walk: evidence of it, and the shortest walks in it, as laws.
 //!
-//! Closed walks are in one class where the edges that exactly one of them runs an odd number of times are the boundary of
-//! a set of faces.
+//! Closed walks are in one class where the edges that exactly one of them runs an odd number of
+//! times are the boundary of a set of faces.
 //!
-//! - The class of a walk, or how those of two walks differ, is shown by a set of faces whose boundary is the chain of the
-//!   walks, or by a set of edges that has an even number of each face's sides and an odd number of the chain's members
-//!   (specs/Evidence.antt). Each chain of closed walks has evidence of one kind, and never of both (`law_of_evidence`,
-//!   `law_of_odd_choice`), and of this kind one is chosen (`law_of_choice`). What is wrong with evidence is its first
-//!   fault (specs/Faults.antt, `law_of_faults`).
-//! - Of the shortest walks in a class one is chosen, in words that speak of no tree and no signature
-//!   (specs/Shortest.antt), and there is one (`law_of_chosen_walks`). It is read back from the least lengths of walks with
-//!   a signature (specs/Cover.antt, `law_of_read_back`), and a table is seen to have these by its neighbours alone
-//!   (`law_of_tables`). Walks with signatures are the walks of one graph (specs/CoverGraph.antt), which a program can
-//!   search (`law_of_cover`).
+//! - The class of a walk, or how those of two walks differ, is shown by a set of faces whose
+//!   boundary is the chain of the walks, or by a set of edges that has an even number of each
+//!   face's sides and an odd number of the chain's members (specs/Evidence.antt). Each chain of
+//!   closed walks has evidence of one kind, and never of both (`law_of_evidence`,
+//!   `law_of_odd_choice`), and of this kind one is chosen (`law_of_choice`). What is wrong with
+//!   evidence is its first fault (specs/Faults.antt, `law_of_faults`).
+//! - Of the shortest walks in a class one is chosen, in words that speak of no tree and no
+//!   signature (specs/Shortest.antt), and there is one (`law_of_chosen_walks`). It is read back
+//!   from the least lengths of walks with a signature (specs/Cover.antt, `law_of_read_back`), and a
+//!   table is seen to have these by its neighbours alone (`law_of_tables`). Walks with signatures
+//!   are the walks of one graph (specs/CoverGraph.antt), which a program can search
+//!   (`law_of_cover`).
 //!
 //! Each law is the contract of a function that does nothing.
 #![tactic(auto)]
@@ -37,8 +39,8 @@ ghost use Rattle.surf_classes.specs.ShortestLaws.{SignedDistancesExist};
 ghost use Rattle.surf_classes.specs.CoverGraph.{CoversAreGraphs, SearchesCertify};
 ghost use Rattle.surf_classes.specs.SmallCases.{torus_pairs};
 
-/// No chain has evidence of both kinds. Boundaries have null evidence, and one that is chosen, which
-/// grows along any tree of the faces.
+/// No chain has evidence of both kinds. Boundaries have null evidence, and one that is chosen,
+/// which grows along any tree of the faces.
 pub fn law_of_evidence()
     ensures one_kind { EvidenceIsOfOneKind }
     ensures boundaries { BoundariesHaveEvidence }
@@ -100,8 +102,10 @@ pub fn law_of_cover()
 
 /// Evidence on the torus of 3 by 3 squares and on two triangles with the same corners.
 pub fn small_cases()
-    ensures torus_odd { IsOddEvidence three_torus (parity three_torus (0 ∷ 1 ∷ 2 ∷ 0 ∷ [])) torus_pairs }
-    ensures torus_null { IsChosenNull three_torus (parity three_torus (3 ∷ 6 ∷ 7 ∷ 3 ∷ [])) (6 ∷ []) }
+    ensures torus_odd { IsOddEvidence three_torus (parity three_torus (0 ∷ 1 ∷ 2 ∷ 0 ∷ []))
+        torus_pairs }
+    ensures torus_null { IsChosenNull three_torus (parity three_torus (3 ∷ 6 ∷ 7 ∷ 3 ∷ []))
+        (6 ∷ []) }
     ensures pillow_null { IsChosenNull pillow (parity pillow (0 ∷ 1 ∷ 2 ∷ 0 ∷ [])) (1 ∷ []) }
     ensures pillow_empty { IsChosenNull pillow (parity pillow (0 ∷ 1 ∷ 0 ∷ [])) [] }
 {}

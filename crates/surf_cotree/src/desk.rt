@@ -21,8 +21,9 @@ use surf_heap::Heap;
 use surf_mesh::HalfMesh;
 use surf_signatures::Signs;
 
-/// The heaviest tree of the faces outside a tree of the vertices: for each face the edge to its parent and the number of
-/// edges to face 0, for each edge whether the tree has it, the edges that are left, and the signatures of all edges.
+/// The heaviest tree of the faces outside a tree of the vertices: for each face the edge to its
+/// parent and the number of edges to face 0, for each edge whether the tree has it, the edges that
+/// are left, and the signatures of all edges.
 #[derive(Drop)]
 pub struct CotreeDesk {
     heap: Heap,
@@ -74,9 +75,9 @@ fn width_of(loops: usize) -> u32
 }
 
 impl CotreeDesk {
-    /// A desk for the trees of a mesh, and of every mesh with as many vertices, edges and faces. No later call takes
-    /// memory. Signatures have as many words as two less the characteristic needs; where that is more than 1,024, which
-    /// `sign` doesn't take, there is no room for them.
+    /// A desk for the trees of a mesh, and of every mesh with as many vertices, edges and faces. No
+    /// later call takes memory. Signatures have as many words as two less the characteristic needs;
+    /// where that is more than 1,024, which `sign` doesn't take, there is no room for them.
     pub fn make(alloc: Global, mesh: &HalfMesh) -> Result<CotreeDesk, NoMemory>
         ensures made { IfOk result (λ desk. AreCotreeTables mesh.now desk) }
     {
@@ -107,8 +108,8 @@ impl CotreeDesk {
         })
     }
 
-    /// Grows the heaviest tree of the faces outside a tree of the vertices, of which `in_tree` has a flag for each edge.
-    /// It takes no memory and can't be refused.
+    /// Grows the heaviest tree of the faces outside a tree of the vertices, of which `in_tree` has
+    /// a flag for each edge. It takes no memory and can't be refused.
     pub fn grow(&mut self, mesh: &HalfMesh, in_tree: &[bool], weight: &[u64])
         requires made { AreCotreeTables mesh.now self.old }
         requires marks { length in_tree.now ≡ edge_count mesh.now }
@@ -186,11 +187,14 @@ impl CotreeDesk {
         self.depth[f.index()]
     }
 
-    /// Gives each edge its signature, until the next `grow`. It takes no memory and can't be refused.
+    /// Gives each edge its signature, until the next `grow`. It takes no memory and can't be
+    /// refused.
     pub fn sign(&mut self, mesh: &HalfMesh)
         requires grown { IsGrownOn mesh.now self.old }
         requires few { length self.old.left ≤ 1024 }
-        ensures signed { (tree : Tree) → IsSplit (cells_of mesh.now) (split_with tree self.new) → self.new.signatures ≡ map (edge_signature mesh.now (split_with tree self.new)) (range_with_len 0 (edge_count mesh.now)) }
+        ensures signed { (tree : Tree) → IsSplit (cells_of mesh.now) (split_with tree self.new) →
+            self.new.signatures ≡ map (edge_signature mesh.now (split_with tree self.new))
+            (range_with_len 0 (edge_count mesh.now)) }
         ensures rest { self.new ≡ record self.old { signatures = self.new.signatures } }
         ensures made { AreCotreeTables mesh.now self.new }
     {

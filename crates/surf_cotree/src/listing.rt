@@ -10,8 +10,10 @@ use surf_base::EdgeId;
 
 // Marks the edges from the faces to their parents.
 pub(crate) fn mark_edges(up: &[u32], marks: &mut [bool])
-    requires ups { (f : ℕ) → f < length up.now → at up.now f ≢ nobody → at up.now f < length marks.old }
-    ensures marks { (e : ℕ) → e < length marks.old → slice_index_or marks.new e false ≡ any_below (length up.now) (λ f. not (at up.now f == nobody) && (at up.now f == e)) }
+    requires ups { (f : ℕ) → f < length up.now → at up.now f ≢ nobody →
+        at up.now f < length marks.old }
+    ensures marks { (e : ℕ) → e < length marks.old → slice_index_or marks.new e false
+        ≡ any_below (length up.now) (λ f. not (at up.now f == nobody) && (at up.now f == e)) }
 {
     marks.fill(false);
     for f in 0..up.len() {
@@ -44,7 +46,8 @@ pub(crate) fn list_left(first: &[bool], second: &[bool], left: &mut Vec<EdgeId>)
     requires same { length second.now ≡ length first.now }
     requires room { length first.now ≤ vec_capacity left.old }
     requires few { length first.now < 2 ^ 32 }
-    ensures listed { left.new.items ≡ filter (unmarked first.now second.now) (range_with_len 0 (length first.now)) }
+    ensures listed { left.new.items ≡ filter (unmarked first.now second.now)
+        (range_with_len 0 (length first.now)) }
     ensures room { vec_capacity left.old ≤ vec_capacity left.new }
 {
     left.clear();

@@ -21,7 +21,8 @@ pub(crate) struct Leaf {
 fn only_edge(mesh: &HalfMesh, marks: &[bool], face: FaceId) -> Option<EdgeId>
     requires face { face < face_count mesh.now }
     requires marks { length marks.now ≡ edge_count mesh.now }
-    ensures only { IfSome result (λ edge. IsOnlyEdge (dual (cells_of mesh.now)) (outside marks.now) face edge) }
+    ensures only { IfSome result (λ edge. IsOnlyEdge (dual (cells_of mesh.now))
+        (outside marks.now) face edge) }
 {
     mesh.law_of_surface();
     let mut found = None;
@@ -37,7 +38,8 @@ fn only_edge(mesh: &HalfMesh, marks: &[bool], face: FaceId) -> Option<EdgeId>
     found
 }
 
-// Takes a face off that hangs on the others by one edge without a mark, and marks the edge. Face 0 stays.
+// Takes a face off that hangs on the others by one edge without a mark, and marks the edge. Face 0
+// stays.
 fn take_leaf(
     mesh: &HalfMesh,
     marks: &mut [bool],
@@ -47,7 +49,9 @@ fn take_leaf(
 ) -> usize
     requires face { face < face_count mesh.now }
     requires marks { length marks.old ≡ edge_count mesh.now }
-    ensures peeled { (allowed : ℕ → Bool) → IsPeeled (dual (cells_of mesh.now)) allowed leaves.old count (outside marks.old) → IsPeeled (dual (cells_of mesh.now)) allowed leaves.new result (outside marks.new) }
+    ensures peeled { (allowed : ℕ → Bool) → IsPeeled (dual (cells_of mesh.now))
+        allowed leaves.old count (outside marks.old) →
+        IsPeeled (dual (cells_of mesh.now)) allowed leaves.new result (outside marks.new) }
 {
     mesh.law_of_surface();
     if face == 0 || count >= leaves.len() {
@@ -67,7 +71,8 @@ fn take_leaf(
 // Takes off what hangs by one edge when its turn comes, in the order of the faces.
 fn take_in_order(mesh: &HalfMesh, marks: &mut [bool], leaves: &mut [Leaf]) -> usize
     requires marks { length marks.old ≡ edge_count mesh.now }
-    ensures peeled { IsPeeled (dual (cells_of mesh.now)) (outside marks.old) leaves.new result (outside marks.new) }
+    ensures peeled { IsPeeled (dual (cells_of mesh.now)) (outside marks.old) leaves.new result
+        (outside marks.new) }
 {
     let mut count = 0;
     for face in 0..mesh.faces() {
@@ -79,8 +84,11 @@ fn take_in_order(mesh: &HalfMesh, marks: &mut [bool], leaves: &mut [Leaf]) -> us
 // Takes off each face that hangs by one edge when the one beside it has gone.
 fn take_beside(mesh: &HalfMesh, marks: &mut [bool], leaves: &mut [Leaf], taken: usize) -> usize
     requires marks { length marks.old ≡ edge_count mesh.now }
-    requires some { (allowed : ℕ → Bool) × IsPeeled (dual (cells_of mesh.now)) allowed leaves.old taken (outside marks.old) }
-    ensures peeled { (allowed : ℕ → Bool) → IsPeeled (dual (cells_of mesh.now)) allowed leaves.old taken (outside marks.old) → IsPeeled (dual (cells_of mesh.now)) allowed leaves.new result (outside marks.new) }
+    requires some { (allowed : ℕ → Bool) × IsPeeled (dual (cells_of mesh.now))
+        allowed leaves.old taken (outside marks.old) }
+    ensures peeled { (allowed : ℕ → Bool) → IsPeeled (dual (cells_of mesh.now))
+        allowed leaves.old taken (outside marks.old) →
+        IsPeeled (dual (cells_of mesh.now)) allowed leaves.new result (outside marks.new) }
 {
     let mut count = taken;
     let mut next = 0;
@@ -93,11 +101,12 @@ fn take_beside(mesh: &HalfMesh, marks: &mut [bool], leaves: &mut [Leaf], taken: 
     count
 }
 
-/// Takes the faces off that hang on the others by one edge without a mark, one after the other, and marks these edges.
-/// It gives their number.
+/// Takes the faces off that hang on the others by one edge without a mark, one after the other, and
+/// marks these edges. It gives their number.
 pub(crate) fn peel(mesh: &HalfMesh, marks: &mut [bool], leaves: &mut [Leaf]) -> usize
     requires marks { length marks.old ≡ edge_count mesh.now }
-    ensures peeled { IsPeeled (dual (cells_of mesh.now)) (outside marks.old) leaves.new result (outside marks.new) }
+    ensures peeled { IsPeeled (dual (cells_of mesh.now)) (outside marks.old) leaves.new result
+        (outside marks.new) }
 {
     let first = take_in_order(mesh, marks, leaves);
     take_beside(mesh, marks, leaves, first)
@@ -115,8 +124,13 @@ pub(crate) fn hang(
     requires depths { length depth.old ≡ face_count mesh.now }
     requires parents { length parent.old ≡ face_count mesh.now }
     requires ups { length up.old ≡ face_count mesh.now }
-    requires some { (allowed : ℕ → Bool) × (weight : ℕ → ℕ) × IsHung (dual (cells_of mesh.now)) allowed weight leaves.now count parent.old up.old depth.old }
-    ensures hung { (allowed : ℕ → Bool) (weight : ℕ → ℕ) → IsHung (dual (cells_of mesh.now)) allowed weight leaves.now count parent.old up.old depth.old → IsHung (dual (cells_of mesh.now)) allowed weight leaves.now 0 parent.new up.new depth.new }
+    requires some { (allowed : ℕ → Bool) × (weight : ℕ → ℕ)
+        × IsHung (dual (cells_of mesh.now)) allowed weight leaves.now count parent.old
+        up.old depth.old }
+    ensures hung { (allowed : ℕ → Bool) (weight : ℕ → ℕ) →
+        IsHung (dual (cells_of mesh.now)) allowed weight leaves.now count parent.old up.old
+        depth.old → IsHung (dual (cells_of mesh.now))
+        allowed weight leaves.now 0 parent.new up.new depth.new }
 {
     mesh.law_of_surface();
     for k in (0..count).rev() {

@@ -16,7 +16,8 @@ use surf_mesh::HalfMesh;
 /// Stands for no edge, and for the depth of a face that isn't reached.
 pub(crate) const NOBODY: u32 = u32::MAX;
 
-/// What a search over the faces sees: a mesh, whose edges join faces where they have no mark, and the weight of each edge.
+/// What a search over the faces sees: a mesh, whose edges join faces where they have no mark, and
+/// the weight of each edge.
 #[derive(Drop)]
 pub(crate) struct FaceNetwork<'a> {
     pub mesh: &'a HalfMesh,
@@ -38,11 +39,13 @@ fn leads_on(marks: &[bool], depth: &[u32], edge: EdgeId, face: FaceId) -> bool
     !marks[edge.index()] && depth[face.index()] == NOBODY
 }
 
-// Offers a face to the heap by an edge that leads to it: the heavier the edge, the lesser the entry.
+// Offers a face to the heap by an edge that leads to it: the heavier the edge, the lesser the
+// entry.
 fn offer_by(heap: &mut Heap, weight: &[u64], edge: EdgeId, face: FaceId)
     requires face { face < length heap.old }
     requires edge { edge < length weight.now }
-    ensures entry { heap.new ≡ slice_set heap.old face (Some (lesser (entry_of heap.old face) (heaviest - at weight.now edge) (nobody - edge))) }
+    ensures entry { heap.new ≡ slice_set heap.old face (Some (lesser (entry_of heap.old face)
+        (heaviest - at weight.now edge) (nobody - edge))) }
 {
     let key = u64::MAX - weight[edge.index()];
     heap.offer(face.number(), key, NOBODY - edge.number());
@@ -55,7 +58,9 @@ fn offer_neighbours(network: &FaceNetwork<'_>, depth: &[u32], heap: &mut Heap, f
     requires marks { length network.now.marks.now ≡ edge_count network.now.mesh.now }
     requires weights { length network.now.weight.now ≡ edge_count network.now.mesh.now }
     requires places { length heap.old ≡ face_count network.now.mesh.now }
-    ensures offered { IsOffered (dual (cells_of network.now.mesh.now)) (outside network.now.marks.now) (at network.now.weight.now) (reached depth.now) face heap.old heap.new }
+    ensures offered { IsOffered (dual (cells_of network.now.mesh.now))
+        (outside network.now.marks.now) (at network.now.weight.now) (reached depth.now)
+        face heap.old heap.new }
 {
     network.mesh.law_of_surface();
     weights_fit(network.weight);
@@ -91,7 +96,9 @@ pub(crate) fn span(
     requires marks { length network.now.marks.now ≡ edge_count network.now.mesh.now }
     requires weights { length network.now.weight.now ≡ edge_count network.now.mesh.now }
     requires places { length heap.old ≡ face_count network.now.mesh.now }
-    ensures grown { IsPrim (dual (cells_of network.now.mesh.now)) (outside network.now.marks.now) (at network.now.weight.now) (reached depth.new) (spanned_tree 0 parent.new up.new depth.new) heap.new (count_below (face_count network.now.mesh.now) (λ f. at depth.new f == nobody)) }
+    ensures grown { IsPrim (dual (cells_of network.now.mesh.now)) (outside network.now.marks.now)
+        (at network.now.weight.now) (reached depth.new) (spanned_tree 0 parent.new up.new depth.new)
+        heap.new (count_below (face_count network.now.mesh.now) (λ f. at depth.new f == nobody)) }
     ensures empty { IsEmpty heap.new }
     ensures root { at up.new 0 ≡ nobody }
     ensures places { length heap.new ≡ face_count network.now.mesh.now }

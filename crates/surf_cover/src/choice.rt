@@ -31,10 +31,11 @@ fn vertex_alone(alloc: Global) -> Result<Walk, NoMemory>
     Ok(Walk::from_vertices(list))
 }
 
-/// The walk that is chosen among the shortest closed walks in the class of a closed walk, and its length. It begins at the
-/// least vertex at which a shortest one begins. Its other vertices are chosen from the end backwards: each is the least
-/// that stands just before the part after it on a shortest one that begins there and ends with that part. The tree of faces
-/// must have been grown on the mesh and signed; the answer is the same for each.
+/// The walk that is chosen among the shortest closed walks in the class of a closed walk, and its
+/// length. It begins at the least vertex at which a shortest one begins. Its other vertices are
+/// chosen from the end backwards: each is the least that stands just before the part after it on a
+/// shortest one that begins there and ends with that part. The tree of faces must have been grown
+/// on the mesh and signed; the answer is the same for each.
 pub fn least_in_class(
     alloc: Global,
     mesh: &HalfMesh,

@@ -18,7 +18,8 @@ use surf_lengths::Lengths;
 use surf_mesh::HalfMesh;
 use surf_tree::settle;
 
-/// For each vertex with each set of left edges the least length of a walk from a base to it with that signature.
+/// For each vertex with each set of left edges the least length of a walk from a base to it with
+/// that signature.
 #[derive(Drop)]
 pub struct CoverDesk {
     heap: Heap,
@@ -47,8 +48,8 @@ impl Model for CoverDesk {
 }
 
 impl CoverDesk {
-    /// A desk for the cover of a mesh with at most 8 loops, two less the characteristic, and at most 65,536 vertices with
-    /// sets of left edges. No later call takes memory.
+    /// A desk for the cover of a mesh with at most 8 loops, two less the characteristic, and at
+    /// most 65,536 vertices with sets of left edges. No later call takes memory.
     pub fn make(alloc: Global, mesh: &HalfMesh) -> Result<CoverDesk, NoMemory>
         requires small { IsSmall mesh.now }
         ensures made { IfOk result (λ desk. AreCoverTables mesh.now desk) }
@@ -68,8 +69,8 @@ impl CoverDesk {
         })
     }
 
-    /// Finds the distances from a base with no left edge, by the signatures of a tree of faces that was grown on the mesh
-    /// and signed. It takes no memory and can't be refused.
+    /// Finds the distances from a base with no left edge, by the signatures of a tree of faces that
+    /// was grown on the mesh and signed. It takes no memory and can't be refused.
     pub fn grow(&mut self, mesh: &HalfMesh, lengths: &Lengths, cotree: &CotreeDesk, base: VertexId)
         requires made { AreCoverTables mesh.now self.old }
         requires signed { IsSigned mesh.now cotree.now }
@@ -106,8 +107,8 @@ impl CoverDesk {
         self.distance[(v.number() * self.sets + set) as usize]
     }
 
-    /// The base, and the vertices of a shortest round with a set from there, last first, as they are read off the
-    /// distances.
+    /// The base, and the vertices of a shortest round with a set from there, last first, as they
+    /// are read off the distances.
     pub(crate) fn round(
         &self,
         alloc: Global,
@@ -118,11 +119,14 @@ impl CoverDesk {
     ) -> Result<Vec<VertexId>, NoMemory>
         requires made { AreCoverTables mesh.now self.now }
         requires fits { AreShort self.now }
-        requires certified { (d : Split) × IsCertifiedBy mesh.now lengths.now d self.now.sets self.now.signs self.now.distances base }
+        requires certified { (d : Split)
+            × IsCertifiedBy mesh.now lengths.now d self.now.sets self.now.signs
+            self.now.distances base }
         requires base { base < mesh.now.vertices }
         requires set { set < self.now.sets }
         requires lengths { length lengths.now ≡ edge_count mesh.now }
-        ensures read { IfOk result (λ list. IsReadOff mesh.now lengths.now self.now.sets self.now.signs self.now.distances base set list.items) }
+        ensures read { IfOk result (λ list. IsReadOff mesh.now lengths.now self.now.sets
+            self.now.signs self.now.distances base set list.items) }
     {
         mesh.law_of_surface();
         lengths.law_of_lengths();

@@ -8,8 +8,8 @@ use surf_lengths::Lengths;
 use surf_mesh::HalfMesh;
 use surf_tree::Network;
 
-/// The vertices of a mesh with each of so many sets, where a table has the signatures of the edges. The node of a vertex
-/// with a set is the number of the vertex times that of sets, and the set.
+/// The vertices of a mesh with each of so many sets, where a table has the signatures of the edges.
+/// The node of a vertex with a set is the number of the vertex times that of sets, and the set.
 #[derive(Drop)]
 pub(crate) struct CoverNetwork<'a> {
     pub(crate) mesh: &'a HalfMesh,

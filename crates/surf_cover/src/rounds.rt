@@ -38,7 +38,8 @@ fn is_lesser_end(mesh: &HalfMesh, cotree: &CotreeDesk, v: VertexId, number: u32)
     requires vertex { v < mesh.now.vertices }
     requires number { number < 32 }
     requires signatures { length cotree.now.signatures ≡ edge_count mesh.now }
-    ensures end { MatchBool result (IsLesserEnd mesh.now cotree.now.signatures number v) (IsLesserEnd mesh.now cotree.now.signatures number v → ⊥) }
+    ensures end { MatchBool result (IsLesserEnd mesh.now cotree.now.signatures number v)
+        (IsLesserEnd mesh.now cotree.now.signatures number v → ⊥) }
 {
     for edge in mesh.edges_at(v) {
         let (end, _) = mesh.ends(*edge);
@@ -55,7 +56,8 @@ fn is_on_round(desk: &CoverDesk, v: VertexId, set: u32, length: u64) -> bool
     requires set { set < desk.now.sets }
     requires short { AreShort desk.now }
     requires closed { AreClosedSets desk.now }
-    ensures on_round { MatchBool result (IsOnRound desk.now set length v) (IsOnRound desk.now set length v → ⊥) }
+    ensures on_round { MatchBool result (IsOnRound desk.now set length v)
+        (IsOnRound desk.now set length v → ⊥) }
 {
     for part in 0..desk.sets() {
         if desk.distance(v, part) + desk.distance(v, set ^ part) == length {
@@ -87,7 +89,8 @@ fn start_by(desk: &CoverDesk, base: VertexId, set: u32) -> Start
     }
 }
 
-// The shorter of the best start so far, if there is one, and another: of two as short the one at the lesser vertex.
+// The shorter of the best start so far, if there is one, and another: of two as short the one at
+// the lesser vertex.
 fn better(best: Option<Start>, other: Start) -> Start
     ensures one { (result ≡ other) ⊎ (best ≡ Some result) }
     ensures other { IsUpTo result other.vertex other.length }
@@ -104,8 +107,9 @@ fn better(best: Option<Start>, other: Start) -> Start
     }
 }
 
-/// The least vertex at which a round with a set is shortest, and its length. Such a round goes by way of the lesser end of
-/// an edge whose signature has the least number of the set, so searches begin at these vertices alone.
+/// The least vertex at which a round with a set is shortest, and its length. Such a round goes by
+/// way of the lesser end of an edge whose signature has the least number of the set, so searches
+/// begin at these vertices alone.
 pub(crate) fn least_start(
     desk: &mut CoverDesk,
     mesh: &HalfMesh,
@@ -119,7 +123,8 @@ pub(crate) fn least_start(
     requires set { set < sets_of mesh.now }
     requires some { set ≢ 0 }
     ensures made { AreCoverTables mesh.now desk.new }
-    ensures least { (tree : Tree) → IsSplit (cells_of mesh.now) (split_with tree cotree.now) → IsLeastStart mesh.now lengths.now (split_with tree cotree.now) set result }
+    ensures least { (tree : Tree) → IsSplit (cells_of mesh.now) (split_with tree cotree.now) →
+        IsLeastStart mesh.now lengths.now (split_with tree cotree.now) set result }
 {
     mesh.law_of_surface();
     let number = least_number(set);

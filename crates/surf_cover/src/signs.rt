@@ -41,7 +41,8 @@ pub(crate) fn copy_signs(cotree: &CotreeDesk, signs: &mut [u32])
     requires count { length signs.old ≡ length cotree.now.signatures }
     requires few { length signs.old < 2 ^ 32 }
     requires small { (e : ℕ) → e < length signs.old → slice_index cotree.now.signatures e < 2 ^ 32 }
-    ensures signs { (e : ℕ) → e < length signs.old → slice_index signs.new e ≡ slice_index cotree.now.signatures e }
+    ensures signs { (e : ℕ) → e < length signs.old →
+        slice_index signs.new e ≡ slice_index cotree.now.signatures e }
 {
     for e in 0..signs.len() {
         signs[e] = sign_of(cotree, EdgeId::new(e as u32));
@@ -65,7 +66,8 @@ pub(crate) fn walk_sign(mesh: &HalfMesh, cotree: &CotreeDesk, walk: &[VertexId])
     requires small { loop_count mesh.now ≤ 8 }
     requires signed { IsSigned mesh.now cotree.now }
     requires walk { IsWalk mesh.now walk.now }
-    ensures sum { (tree : Tree) → IsSplit (cells_of mesh.now) (split_with tree cotree.now) → result ≡ walk_signature mesh.now (split_with tree cotree.now) walk.now }
+    ensures sum { (tree : Tree) → IsSplit (cells_of mesh.now) (split_with tree cotree.now) →
+        result ≡ walk_signature mesh.now (split_with tree cotree.now) walk.now }
 {
     let mut sum = 0;
     for i in 0..walk.len() - 1 {

@@ -17,13 +17,15 @@ pub fn cut_full(alloc: Global, mesh: &HalfMesh, cotree: &CotreeDesk) -> Result<O
     requires held { IsHeld mesh.now cotree.now.held }
     ensures chosen { IfOk result (λ o. IsChosenFor mesh.now cotree.now.held false o) }
     ensures opening { IfOk result (λ o. IsOpening mesh.now o.origins o.faces) }
-    ensures copies { IfOk result (λ o. length o.origins + (face_count mesh.now + face_count mesh.now) ≡ edge_count mesh.now + edge_count mesh.now + 2) }
+    ensures copies { IfOk result (λ o. length o.origins +
+        (face_count mesh.now + face_count mesh.now)
+        ≡ edge_count mesh.now + edge_count mesh.now + 2) }
 {
     open_full(alloc, mesh, cotree.held())
 }
 
-/// The same with the cut trimmed: while more than two edges are cut and a vertex has exactly one of them,
-/// the greatest such vertex loses it.
+/// The same with the cut trimmed: while more than two edges are cut and a vertex has exactly one of
+/// them, the greatest such vertex loses it.
 pub fn cut_trim(alloc: Global, mesh: &HalfMesh, cotree: &CotreeDesk) -> Result<Opened, NoMemory>
     requires size { length cotree.now.held ≡ edge_count mesh.now }
     requires held { IsHeld mesh.now cotree.now.held }

@@ -30,8 +30,10 @@ fn list_corners(
     heads: &mut Vec<u32>,
 ) -> Result<(), NoMemory>
     requires few { length corners.now < 2 ^ 32 }
-    ensures tails_size { OnOk result (length tails.new.items ≡ length tails.old.items + length corners.now) }
-    ensures heads_size { OnOk result (length heads.new.items ≡ length heads.old.items + length corners.now) }
+    ensures tails_size { OnOk result (length tails.new.items
+        ≡ length tails.old.items + length corners.now) }
+    ensures heads_size { OnOk result (length heads.new.items
+        ≡ length heads.old.items + length corners.now) }
     ensures tails_kept { OnOk result ((s : ℕ) → s < length tails.old.items →
         slice_index tails.new.items s ≡ slice_index tails.old.items s) }
     ensures heads_kept { OnOk result ((s : ℕ) → s < length heads.old.items →
@@ -53,7 +55,8 @@ fn list_corners(
 // Where each side begins and where it ends.
 fn side_corners(alloc: Global, faces: &Rows<CopyId>) -> Result<(Vec<u32>, Vec<u32>), NoMemory>
     requires few { sum_by length faces.now < 2 ^ 32 }
-    ensures { IfOk result (λ r. AreCorners faces.now (sum_by length faces.now) r.0.items r.1.items) }
+    ensures { IfOk result (λ r. AreCorners faces.now (sum_by length faces.now)
+        r.0.items r.1.items) }
 {
     let mut tails = Vec::with_capacity(alloc, faces.total())?;
     let mut heads = Vec::with_capacity(alloc, faces.total())?;
@@ -178,8 +181,8 @@ fn cut_sides(alloc: Global, mesh: &HalfMesh, cut: &[bool]) -> Result<Vec<SideId>
     Ok(sides)
 }
 
-/// The border sides of a surface that is opened to a disc along the edges with a flag, in one round: its
-/// border sides are the sides of the surface that are cut.
+/// The border sides of a surface that is opened to a disc along the edges with a flag, in one
+/// round: its border sides are the sides of the surface that are cut.
 pub(crate) fn boundary_along(
     alloc: Global,
     mesh: &HalfMesh,

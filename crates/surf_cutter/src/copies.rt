@@ -1,4 +1,5 @@
-//! The copies of the vertices in an opening, numbered by vertex and by the least face that has them.
+//! The copies of the vertices in an opening, numbered by vertex and by the least face that has
+//! them.
 ghost use Rattle.std.specs.Prelude.{◌≡◌, ◌<◌, ◌≤◌, ◌+◌, ◌^◌, ℕ, [], length, map, IfOk, OnOk, slice_index, slice_index_or};
 ghost use Rattle.std.specs.List.{range_with_len, sum_by, flat_map};
 ghost use Rattle.surf_surfaces.specs.Surface.{face_count, edge_count};
@@ -32,9 +33,12 @@ fn side_numbers(alloc: Global, count: u32) -> Result<Vec<SideId>, NoMemory>
 
 // Adds the numbers of some vertices to a list.
 fn list_corners(corners: &[VertexId], tails: &mut Vec<u32>) -> Result<(), NoMemory>
-    ensures size { OnOk result (length tails.new.items ≡ length tails.old.items + length corners.now) }
-    ensures kept { OnOk result ((s : ℕ) → s < length tails.old.items → slice_index tails.new.items s ≡ slice_index tails.old.items s) }
-    ensures here { OnOk result ((k : ℕ) → k < length corners.now → slice_index tails.new.items (length tails.old.items + k) ≡ slice_index corners.now k) }
+    ensures size { OnOk result (length tails.new.items
+        ≡ length tails.old.items + length corners.now) }
+    ensures kept { OnOk result ((s : ℕ) → s < length tails.old.items →
+        slice_index tails.new.items s ≡ slice_index tails.old.items s) }
+    ensures here { OnOk result ((k : ℕ) → k < length corners.now →
+        slice_index tails.new.items (length tails.old.items + k) ≡ slice_index corners.now k) }
 {
     for corner in corners {
         tails.push(corner.number())?;
@@ -73,12 +77,15 @@ fn number_copies(
     origins: &mut Vec<VertexId>,
 ) -> Result<(), NoMemory>
     requires few { length order.now < 2 ^ 30 }
-    requires sides { (i : ℕ) → i < length order.now → slice_index order.now i < side_count slit.now.mesh }
+    requires sides { (i : ℕ) → i < length order.now →
+        slice_index order.now i < side_count slit.now.mesh }
     requires tails { length tails.now ≡ side_count slit.now.mesh }
-    requires labels { (i : ℕ) → i < length order.now → label_at order.now slit.now.labels i < length numbers.old }
+    requires labels { (i : ℕ) → i < length order.now →
+        label_at order.now slit.now.labels i < length numbers.old }
     requires unset { (l : ℕ) → l < length numbers.old → slice_index numbers.old l ≡ nobody }
     requires empty { origins.old.items ≡ [] }
-    ensures { OnOk result (AreCounted order.now slit.now.labels tails.now (length order.now) numbers.new origins.new.items) }
+    ensures { OnOk result (AreCounted order.now slit.now.labels tails.now (length order.now)
+        numbers.new origins.new.items) }
 {
     for side in order {
         let label = slit.label(*side) as usize;
@@ -97,9 +104,12 @@ fn list_copies(
     numbers: &[u32],
     row: &mut Vec<CopyId>,
 ) -> Result<(), NoMemory>
-    requires sides { (k : ℕ) → k < length sides.now → slice_index sides.now k < side_count slit.now.mesh }
-    requires labels { (s : ℕ) → s < side_count slit.now.mesh → slice_index slit.now.labels s < length numbers.now }
-    ensures { OnOk result (AreNumbersOf sides.now slit.now.labels numbers.now (length sides.now) row.new.items) }
+    requires sides { (k : ℕ) → k < length sides.now →
+        slice_index sides.now k < side_count slit.now.mesh }
+    requires labels { (s : ℕ) → s < side_count slit.now.mesh →
+        slice_index slit.now.labels s < length numbers.now }
+    ensures { OnOk result (AreNumbersOf sides.now slit.now.labels numbers.now (length sides.now)
+        row.new.items) }
 {
     row.clear();
     for side in sides {
@@ -116,8 +126,10 @@ fn copy_faces(
     numbers: &[u32],
 ) -> Result<Rows<CopyId>, NoMemory>
     requires mesh { slit.now.mesh ≡ mesh.now }
-    requires labels { (s : ℕ) → s < side_count slit.now.mesh → slice_index slit.now.labels s < length numbers.now }
-    ensures copied { IfOk result (λ rows. AreCopied mesh.now slit.now.labels numbers.now (face_count mesh.now) rows) }
+    requires labels { (s : ℕ) → s < side_count slit.now.mesh →
+        slice_index slit.now.labels s < length numbers.now }
+    ensures copied { IfOk result (λ rows. AreCopied mesh.now slit.now.labels numbers.now
+        (face_count mesh.now) rows) }
     ensures corners { IfOk result (λ rows. sum_by length rows ≡ side_count mesh.now) }
 {
     let count = mesh.faces();
@@ -141,7 +153,8 @@ fn open_by(
     requires labels { AreLabels mesh.now slit.now.cut slit.now.labels slit.now.count }
     requires size { length numbers.old ≡ slit.now.count }
     requires unset { (l : ℕ) → l < length numbers.old → slice_index numbers.old l ≡ nobody }
-    ensures opened { IfOk result (λ r. IsOpenedBy mesh.now (IsUncut mesh.now slit.now.cut) r.0.items r.1) }
+    ensures opened { IfOk result (λ r. IsOpenedBy mesh.now (IsUncut mesh.now slit.now.cut)
+        r.0.items r.1) }
     ensures order { IfOk result (λ r. AreInOrder mesh.now r.0.items r.1) }
     ensures few { IfOk result (λ r. length r.0.items < 2 ^ 30) }
     ensures corners { IfOk result (λ r. sum_by length r.1 ≡ side_count mesh.now) }
@@ -155,15 +168,16 @@ fn open_by(
     Ok((origins, faces))
 }
 
-/// The surface opened along the edges with a flag: the vertex of each copy, and the faces with copies for
-/// corners.
+/// The surface opened along the edges with a flag: the vertex of each copy, and the faces with
+/// copies for corners.
 pub(crate) fn open_along(
     alloc: Global,
     mesh: &HalfMesh,
     cut: &[bool],
 ) -> Result<(Vec<VertexId>, Rows<CopyId>), NoMemory>
     requires { length cut.now ≡ edge_count mesh.now }
-    ensures opened { IfOk result (λ r. IsOpenedBy mesh.now (IsUncut mesh.now cut.now) r.0.items r.1) }
+    ensures opened { IfOk result (λ r. IsOpenedBy mesh.now (IsUncut mesh.now cut.now)
+        r.0.items r.1) }
     ensures order { IfOk result (λ r. AreInOrder mesh.now r.0.items r.1) }
     ensures few { IfOk result (λ r. length r.0.items < 2 ^ 30) }
     ensures corners { IfOk result (λ r. sum_by length r.1 ≡ side_count mesh.now) }

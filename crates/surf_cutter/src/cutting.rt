@@ -63,15 +63,17 @@ pub(crate) fn open_full(alloc: Global, mesh: &HalfMesh, held: &[bool]) -> Result
     requires held { IsHeld mesh.now held.now }
     ensures chosen { IfOk result (λ o. IsChosenFor mesh.now held.now false o) }
     ensures opening { IfOk result (λ o. IsOpening mesh.now o.origins o.faces) }
-    ensures copies { IfOk result (λ o. length o.origins + (face_count mesh.now + face_count mesh.now) ≡ edge_count mesh.now + edge_count mesh.now + 2) }
+    ensures copies { IfOk result (λ o. length o.origins +
+        (face_count mesh.now + face_count mesh.now)
+        ≡ edge_count mesh.now + edge_count mesh.now + 2) }
 {
     mesh.law_of_surface();
     let cut = turned_over(alloc, held)?;
     open_cut(alloc, mesh, &cut)
 }
 
-/// The same with the cut trimmed: while more than two edges are cut and a vertex has exactly one of them,
-/// the greatest such vertex loses it.
+/// The same with the cut trimmed: while more than two edges are cut and a vertex has exactly one of
+/// them, the greatest such vertex loses it.
 pub(crate) fn open_trimmed(
     alloc: Global,
     mesh: &HalfMesh,

@@ -52,7 +52,8 @@ impl Opened {
         boundary: Vec<SideId>,
     ) -> Result<Opened, NoMemory>
         requires disc { IsDisc (record { vertices = length origins.items; faces = faces }) }
-        requires boundary { IsBoundary (record { vertices = length origins.items; faces = faces }) boundary.items }
+        requires boundary { IsBoundary (record { vertices = length origins.items; faces = faces })
+            boundary.items }
         requires few_copies { length origins.items < 2 ^ 30 }
         requires few_faces { length faces < 2 ^ 30 }
         requires few_corners { sum_by length faces < 2 ^ 32 }
@@ -114,10 +115,10 @@ impl Opened {
         copies + faces - 1
     }
 
-    /// The border sides, in one round along the border. Sides are numbered in the order of faces and
-    /// corners. The first is the least border side. The second is the other border side at the first
-    /// side's second corner in listed order. Each further one is the other border side at the copy that
-    /// the last side has and the side before it doesn't have.
+    /// The border sides, in one round along the border. Sides are numbered in the order of faces
+    /// and corners. The first is the least border side. The second is the other border side at the
+    /// first side's second corner in listed order. Each further one is the other border side at the
+    /// copy that the last side has and the side before it doesn't have.
     pub fn boundary(&self) -> &[SideId]
         ensures round { IsBoundary (mesh_of self.now) result.now }
         ensures only { (list : List ℕ) → IsBoundary (mesh_of self.now) list → list ≡ result.now }

@@ -83,7 +83,8 @@ pub(crate) fn count_cut(cut: &[bool]) -> u32
 // The place of the first cut edge of a list.
 fn first_cut(edges: &[EdgeId], cut: &[bool]) -> usize
     requires inside { (k : ℕ) → k < length edges.now → slice_index edges.now k < length cut.now }
-    requires some { (k : ℕ) × (k < length edges.now) × (slice_index_or cut.now (slice_index edges.now k) false ≡ true) }
+    requires some { (k : ℕ) × (k < length edges.now)
+        × (slice_index_or cut.now (slice_index edges.now k) false ≡ true) }
     ensures within { result < length edges.now }
     ensures found { slice_index_or cut.now (slice_index edges.now result) false ≡ true }
 {
@@ -112,7 +113,8 @@ fn take_back(mesh: &HalfMesh, cut: &mut [bool], degree: &mut [u32], leaf: Vertex
     if u == leaf { v } else { u }
 }
 
-// Takes edges back from a leaf on, as long as the other end is a greater leaf, and counts what is left.
+// Takes edges back from a leaf on, as long as the other end is a greater leaf, and counts what is
+// left.
 fn trim_from(
     mesh: &HalfMesh,
     cut: &mut [bool],
@@ -144,8 +146,8 @@ fn trim_from(
     left
 }
 
-/// Trims a cut: while more than two edges are cut and a vertex has exactly one of them, the greatest
-/// such vertex loses it.
+/// Trims a cut: while more than two edges are cut and a vertex has exactly one of them, the
+/// greatest such vertex loses it.
 pub(crate) fn trim(mesh: &HalfMesh, cut: &mut [bool], degree: &mut [u32])
     requires flags { length cut.old ≡ edge_count mesh.now }
     requires degrees { AreDegrees mesh.now cut.old degree.old }

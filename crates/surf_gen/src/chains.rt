@@ -31,7 +31,11 @@ fn push_faces(
     requires inside { All (λ v. v < soup.old.vertices) numbers.now }
     requires differ { AllPairs (λ u v. u ≢ v) numbers.now }
     requires few_sides { side_count soup.old + 3 * (to - from) < 2 ^ 30 }
-    ensures ok { OnOk result (soup.new ≡ record soup.old { faces = soup.old.faces ++ map (map (slice_index numbers.now)) (take (to - from) (drop from (torus_faces grid.rows grid.columns))) }) }
+    ensures ok { OnOk result (soup.new ≡ record soup.old {
+      faces = soup.old.faces ++ map
+          (map (slice_index numbers.now)) (take (to - from)
+          (drop from (torus_faces grid.rows grid.columns)));
+    }) }
     ensures sides { OnOk result (side_count soup.new ≡ side_count soup.old + 3 * (to - from)) }
 {
     for f in from..to {
@@ -57,8 +61,15 @@ fn push_but_joint(
     requires numbers { length numbers.now ≡ grid.rows * grid.columns }
     requires inside { All (λ v. v < soup.old.vertices) numbers.now }
     requires differ { AllPairs (λ u v. u ≢ v) numbers.now }
-    requires few_sides { side_count soup.old + 3 * (2 * (grid.rows * grid.columns) - from) < 2 ^ 30 }
-    ensures ok { OnOk result (soup.new ≡ record soup.old { faces = (soup.old.faces ++ map (map (slice_index numbers.now)) (take (joint grid.columns - from) (drop from (torus_faces grid.rows grid.columns)))) ++ map (map (slice_index numbers.now)) (take (2 * (grid.rows * grid.columns) - (joint grid.columns + 1)) (drop (joint grid.columns + 1) (torus_faces grid.rows grid.columns))) }) }
+    requires few_sides { side_count soup.old + 3 * (2 * (grid.rows * grid.columns) - from)
+        < 2 ^ 30 }
+    ensures ok { OnOk result (soup.new ≡ record soup.old {
+      faces = (soup.old.faces ++ map
+          (map (slice_index numbers.now)) (take (joint grid.columns - from)
+          (drop from (torus_faces grid.rows grid.columns)))) ++ map (map (slice_index numbers.now))
+          (take (2 * (grid.rows * grid.columns) - (joint grid.columns + 1))
+          (drop (joint grid.columns + 1) (torus_faces grid.rows grid.columns)));
+    }) }
 {
     let joint = 2 * (2 * grid.columns + 2);
     let end = 2 * (grid.rows * grid.columns);
@@ -72,7 +83,10 @@ fn renumber(numbers: &mut [VertexId], columns: u32, start: u32)
     requires columns { 1 ≤ columns }
     requires few { start + length numbers.old < 2 ^ 32 }
     requires corners { 3 * columns + 3 < length numbers.old }
-    ensures numbers { numbers.new ≡ map (sum_name start (slice_index numbers.old (2 * columns + 2) ∷ slice_index numbers.old (3 * columns + 2) ∷ slice_index numbers.old (3 * columns + 3) ∷ []) (0 ∷ columns ∷ (columns + 1) ∷ [])) (range_with_len 0 (length numbers.old)) }
+    ensures numbers { numbers.new ≡ map (sum_name start (slice_index numbers.old
+        (2 * columns + 2) ∷ slice_index numbers.old (3 * columns + 2) ∷ slice_index numbers.old
+        (3 * columns + 3) ∷ []) (0 ∷ columns ∷ (columns + 1) ∷ []))
+        (range_with_len 0 (length numbers.old)) }
 {
     let columns = columns as usize;
     let first = numbers[2 * columns + 2];
@@ -108,10 +122,11 @@ fn own_numbers(alloc: Global, count: u32) -> Result<Vec<VertexId>, NoMemory>
 /// "Algebraic Topology: An Introduction" (1967). Each is joined to the one before along a triangle
 /// that is left out of both.
 ///
-/// Of each torus but the last, the first face of the cell in the third row and the third column is left out, and of
-/// each but the first that of the cell in the first row and the first column. Of these two faces, the corners of
-/// the second are the first, the third and the second corner of the first. Vertices are numbered
-/// torus by torus, each when it is first met, and faces stand torus by torus in their order.
+/// Of each torus but the last, the first face of the cell in the third row and the third column is
+/// left out, and of each but the first that of the cell in the first row and the first column. Of
+/// these two faces, the corners of the second are the first, the third and the second corner of the
+/// first. Vertices are numbered torus by torus, each when it is first met, and faces stand torus by
+/// torus in their order.
 pub fn chain(alloc: Global, g: u32, a: u32, b: u32) -> Result<Soup, NoMemory>
     requires tori { 1 ≤ g }
     requires rows { 4 ≤ a }

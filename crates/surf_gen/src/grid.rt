@@ -30,7 +30,8 @@ impl Grid {
         requires columns { 3 ≤ self.columns }
         requires few { self.rows * self.columns ≤ 1000000 }
         requires cell { cell < self.rows * self.columns }
-        ensures corners { result ≡ first_face self.rows self.columns (cell / self.columns) (cell % self.columns) }
+        ensures corners { result ≡ first_face self.rows self.columns (cell / self.columns)
+            (cell % self.columns) }
         ensures face { IsFace (self.rows * self.columns) result }
     {
         surf_tori::law_of_tori();
@@ -49,7 +50,8 @@ impl Grid {
         requires columns { 3 ≤ self.columns }
         requires few { self.rows * self.columns ≤ 1000000 }
         requires cell { cell < self.rows * self.columns }
-        ensures corners { result ≡ second_face self.rows self.columns (cell / self.columns) (cell % self.columns) }
+        ensures corners { result ≡ second_face self.rows self.columns (cell / self.columns)
+            (cell % self.columns) }
         ensures face { IsFace (self.rows * self.columns) result }
     {
         surf_tori::law_of_tori();

@@ -18,7 +18,10 @@ fn push_cell(soup: &mut Soup, grid: Grid, cell: u32) -> Result<(), NoMemory>
     requires cell { cell < grid.rows * grid.columns }
     requires vertices { soup.old.vertices ≡ grid.rows * grid.columns }
     requires few_sides { side_count soup.old + 6 < 2 ^ 30 }
-    ensures ok { OnOk result (soup.new ≡ record soup.old { faces = soup.old.faces ++ cell_faces grid.rows grid.columns cell }) }
+    ensures ok { OnOk result (soup.new ≡ record soup.old {
+      faces = soup.old.faces ++ cell_faces
+          grid.rows grid.columns cell;
+    }) }
 {
     soup.push_face(&grid.first_face(cell))?;
     soup.push_face(&grid.second_face(cell))

@@ -14,8 +14,8 @@ pub enum FixedFault {
     Range,
 }
 
-/// Why coordinates give no lengths. The first faulty token decides, by vertex and place, and where none is faulty the
-/// least faulty edge. Places on a vertex line are counted from 0.
+/// Why coordinates give no lengths. The first faulty token decides, by vertex and place, and where
+/// none is faulty the least faulty edge. Places on a vertex line are counted from 0.
 #[derive(Clone, Copy, Debug, PartialEq, Eq)]
 pub enum GeomFault {
     /// The token isn't a decimal number.

@@ -114,7 +114,8 @@ fn edge_lengths(
     requires points { length points.now ≡ mesh.now.vertices }
     requires near { All IsNear points.now }
     requires some { 0 < unit }
-    ensures lengths { Gives (λ lengths. lengths.items) result (each (length_of points.now unit) (edges mesh.now)) }
+    ensures lengths { Gives (λ lengths. lengths.items) result (each (length_of points.now unit)
+        (edges mesh.now)) }
     ensures few { IfOk result (λ lengths. length lengths.items < 2 ^ 32) }
 {
     let edges = mesh.edges();
@@ -126,12 +127,13 @@ fn edge_lengths(
     Ok(lengths)
 }
 
-/// Gives each edge of a mesh its measure as length: the distance of its ends by the first three tokens of their vertex
-/// lines, in units of 10^-k, cut to a whole number.
+/// Gives each edge of a mesh its measure as length: the distance of its ends by the first three
+/// tokens of their vertex lines, in units of 10^-k, cut to a whole number.
 ///
-/// The coordinates are cut to their fixed values first, and the measure is the greatest whole number of units that is
-/// no longer than the distance of these. The first faulty token refuses with `Form` or `Range`, by vertex and place.
-/// Where none is faulty, the least edge whose measure isn't from 1 to 4,294,967,295 refuses with `Zero` or `Great`.
+/// The coordinates are cut to their fixed values first, and the measure is the greatest whole
+/// number of units that is no longer than the distance of these. The first faulty token refuses
+/// with `Form` or `Range`, by vertex and place. Where none is faulty, the least edge whose measure
+/// isn't from 1 to 4,294,967,295 refuses with `Zero` or `Great`.
 pub fn measure(
     alloc: Global,
     mesh: &HalfMesh,
@@ -140,7 +142,8 @@ pub fn measure(
 ) -> Result<Lengths, GeomFault>
     requires lines { length text.now.vertex_lines ≡ mesh.now.vertices }
     requires unit { k ≤ 9 }
-    ensures gives { Gives (λ lengths. lengths) result (measures_in mesh.now text.now.vertex_lines k) }
+    ensures gives { Gives (λ lengths. lengths) result
+        (measures_in mesh.now text.now.vertex_lines k) }
     ensures count { IfOk result (λ lengths. length lengths ≡ edge_count mesh.now) }
     ensures lengths { IfOk result AreLengths }
 {

@@ -7,8 +7,8 @@ ghost use Rattle.surf_geom.specs.Seen.{decimal_seen, seen};
 
 use surf_text::read_whole;
 
-/// A decimal number: its digits before and behind the point, and by how many powers of ten its exponent raises or
-/// lowers it.
+/// A decimal number: its digits before and behind the point, and by how many powers of ten its
+/// exponent raises or lowers it.
 #[derive(Clone, Copy)]
 pub(crate) struct Number<'a> {
     pub(crate) negative: bool,
@@ -114,7 +114,8 @@ fn are_mantissa(front: &[u8], behind: &[u8]) -> bool
 /// The number that a token has the form of.
 pub(crate) fn read_number(token: &[u8]) -> Option<Number<'_>>
     ensures number { option_map decimal_seen result ≡ decimal_in token.now }
-    ensures digits { IfSome result (λ n. list_all is_ascii_digit (n.front.now ++ n.behind.now) ≡ true) }
+    ensures digits { IfSome result (λ n. list_all is_ascii_digit (n.front.now ++ n.behind.now)
+        ≡ true) }
     ensures small { IfSome result (λ n. (n.raised ≤ 999) × (n.lowered ≤ 999)) }
 {
     let (negative, text) = split_sign(token);

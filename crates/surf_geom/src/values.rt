@@ -59,10 +59,12 @@ fn push_places(amount: u64, digits: &[u8], places: usize) -> Option<u64>
     push_zeros(push_digits(amount, digits)?, places - digits.len())
 }
 
-// The fixed amount of a number. Its value has the digits before and behind the point, and in units of 10^-9 the point
-// lies nine places farther to the right, and as many more as the exponent says. What lies behind it is cut.
+// The fixed amount of a number. Its value has the digits before and behind the point, and in units
+// of 10^-9 the point lies nine places farther to the right, and as many more as the exponent says.
+// What lies behind it is cut.
 fn amount(number: &Number<'_>) -> Option<u64>
-    requires digits { list_all is_ascii_digit (number.now.front.now ++ number.now.behind.now) ≡ true }
+    requires digits { list_all is_ascii_digit (number.now.front.now ++ number.now.behind.now)
+        ≡ true }
     requires raised { number.now.raised ≤ 999 }
     requires lowered { number.now.lowered ≤ 999 }
     ensures amount { result ≡ in_range (fixed_amount (decimal_seen number.now)) }
@@ -89,11 +91,13 @@ fn signed(negative: bool, amount: u64) -> i64
     }
 }
 
-/// The fixed value of a coordinate: its value times 10^9, cut to a whole number towards zero. It takes no memory.
+/// The fixed value of a coordinate: its value times 10^9, cut to a whole number towards zero. It
+/// takes no memory.
 ///
-/// A token has the form of a coordinate where it is an optional `+` or `-`, then digits with at most one `.` among,
-/// before or behind them and at least one digit, and then optionally `e` or `E`, an optional sign and one to three
-/// digits. Refuses another token with `Form`, and with `Range` one whose amount is 10^9 or more.
+/// A token has the form of a coordinate where it is an optional `+` or `-`, then digits with at
+/// most one `.` among, before or behind them and at least one digit, and then optionally `e` or
+/// `E`, an optional sign and one to three digits. Refuses another token with `Form`, and with
+/// `Range` one whose amount is 10^9 or more.
 pub fn fixed(token: &[u8]) -> Result<i64, FixedFault>
     ensures fixed { result ≡ fixed_of token.now }
 {

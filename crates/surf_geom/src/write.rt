@@ -18,7 +18,8 @@ fn write_entry(
 ) -> Result<(), PageFault>
     requires edge { edge < edge_count mesh.now }
     requires count { length lengths.now ≡ edge_count mesh.now }
-    ensures puts { Puts page.old page.new (entry_text (ends mesh.now edge) (slice_index lengths.now edge)) result }
+    ensures puts { Puts page.old page.new (entry_text (ends mesh.now edge)
+        (slice_index lengths.now edge)) result }
 {
     let (u, v) = mesh.ends(edge);
     page.push_pieces(&[
@@ -31,12 +32,12 @@ fn write_entry(
     ])
 }
 
-/// Puts lengths on a page as a length file of version 1: one line `u v n` for each edge in order, which gives the edge
-/// between `u` and `v` the length `n`.
+/// Puts lengths on a page as a length file of version 1: one line `u v n` for each edge in order,
+/// which gives the edge between `u` and `v` the length `n`.
 ///
-/// Refuses with `Full` where the page would hold more than its bound with the whole text, and with `Memory` where there
-/// is none. After a refusal the page holds a front of the text behind its bytes. Read for the same mesh, the text gives
-/// the same lengths.
+/// Refuses with `Full` where the page would hold more than its bound with the whole text, and with
+/// `Memory` where there is none. After a refusal the page holds a front of the text behind its
+/// bytes. Read for the same mesh, the text gives the same lengths.
 pub fn write_lengths(page: &mut Page, mesh: &HalfMesh, lengths: &Lengths) -> Result<(), PageFault>
     requires count { length lengths.now ≡ edge_count mesh.now }
     ensures puts { Puts page.old page.new (lengths_text mesh.now lengths.now) result }

@@ -19,7 +19,10 @@ use surf_text::{Line, Lines};
 fn read_behind_version<'a>(
     lines: &mut Lines<'a>,
 ) -> Result<(Option<u32>, Option<Line<'a>>), LengthFault>
-    ensures head { MatchResult result (λ x. behind_version lines.old ≡ Ok (record { default = x.0; entries = with_next x.1 lines.new })) (λ e. behind_version lines.old ≡ Err e) }
+    ensures head { MatchResult result (λ x. behind_version lines.old ≡ Ok (record {
+      default = x.0;
+      entries = with_next x.1 lines.new;
+    })) (λ e. behind_version lines.old ≡ Err e) }
     ensures positive { IfOk result (λ x. IfSome x.0 (λ n. 1 ≤ n)) }
 {
     match lines.next_line() {
@@ -36,7 +39,10 @@ fn read_behind_version<'a>(
 
 // The default, if there is one, and the first line that names an edge.
 fn read_head<'a>(lines: &mut Lines<'a>) -> Result<(Option<u32>, Option<Line<'a>>), LengthFault>
-    ensures head { MatchResult result (λ x. length_head lines.old ≡ Ok (record { default = x.0; entries = with_next x.1 lines.new })) (λ e. length_head lines.old ≡ Err e) }
+    ensures head { MatchResult result (λ x. length_head lines.old ≡ Ok (record {
+      default = x.0;
+      entries = with_next x.1 lines.new;
+    })) (λ e. length_head lines.old ≡ Err e) }
     ensures positive { IfOk result (λ x. IfSome x.0 (λ n. 1 ≤ n)) }
 {
     match lines.next_line() {
@@ -62,7 +68,13 @@ fn name_one(
 ) -> Result<(), LengthFault>
     requires lengths { length lengths.old ≡ edge_count mesh.now }
     requires lines { length named.old ≡ edge_count mesh.now }
-    ensures named { MatchResult result (λ _. name_edge (record { lengths = lengths.old; lines = named.old }) line.entry.number (entry_of mesh.now (text_line line.entry)) ≡ Ok (record { lengths = lengths.new; lines = named.new })) (λ e. name_edge (record { lengths = lengths.old; lines = named.old }) line.entry.number (entry_of mesh.now (text_line line.entry)) ≡ Err e) }
+    ensures named { MatchResult result (λ _. name_edge (record {
+      lengths = lengths.old;
+      lines = named.old;
+    }) line.entry.number (entry_of mesh.now (text_line line.entry))
+        ≡ Ok (record { lengths = lengths.new; lines = named.new }))
+        (λ e. name_edge (record { lengths = lengths.old; lines = named.old }) line.entry.number
+        (entry_of mesh.now (text_line line.entry)) ≡ Err e) }
 {
     let (edge, length) = read_entry(mesh, line)?;
     let e = edge.index();
@@ -87,7 +99,11 @@ fn name_all(
 ) -> Result<(), LengthFault>
     requires lengths { length lengths.old ≡ edge_count mesh.now }
     requires lines { length named.old ≡ edge_count mesh.now }
-    ensures named { MatchResult result (λ _. fold (name_line mesh.now) (Ok (record { lengths = lengths.old; lines = named.old })) (with_next first.entry lines.old) ≡ Ok (record { lengths = lengths.new; lines = named.new })) (λ e. fold (name_line mesh.now) (Ok (record { lengths = lengths.old; lines = named.old })) (with_next first.entry lines.old) ≡ Err e) }
+    ensures named { MatchResult result (λ _. fold (name_line mesh.now)
+        (Ok (record { lengths = lengths.old; lines = named.old })) (with_next first.entry lines.old)
+        ≡ Ok (record { lengths = lengths.new; lines = named.new }))
+        (λ e. fold (name_line mesh.now) (Ok (record { lengths = lengths.old; lines = named.old }))
+        (with_next first.entry lines.old) ≡ Err e) }
 {
     let mut next = first;
     while let Some(line) = next {

@@ -18,7 +18,8 @@ use surf_lengths::Lengths;
 use surf_mesh::HalfMesh;
 use surf_tree::TreeDesk;
 
-/// The rows of a tree of vertices: for each vertex its distance from the base and its parent, which the base has not.
+/// The rows of a tree of vertices: for each vertex its distance from the base and its parent, which
+/// the base has not.
 pub fn tree_rows(alloc: Global, mesh: &HalfMesh, tree: &TreeDesk) -> Result<TreeRows, NoMemory>
     requires rooted { IsRooted mesh.now tree.now }
     ensures rows { IfOk result (λ rows. rows ≡ rows_for mesh.now (tree_of tree.now)) }
@@ -45,8 +46,8 @@ fn side_of(mesh: &HalfMesh, cotree: &CotreeDesk, face: FaceId) -> Option<(Vertex
     Some(mesh.ends(edge))
 }
 
-/// The rows of a tree of faces: for each face the number of edges to face 0 and the side over which its parent lies,
-/// the lesser end first. Face 0 has none.
+/// The rows of a tree of faces: for each face the number of edges to face 0 and the side over which
+/// its parent lies, the lesser end first. Face 0 has none.
 pub fn dual_rows(alloc: Global, mesh: &HalfMesh, cotree: &CotreeDesk) -> Result<DualRows, NoMemory>
     requires grown { IsGrownOn mesh.now cotree.now }
     ensures rows { IfOk result (λ rows. rows ≡ dual_rows_of mesh.now (cotree_of cotree.now)) }
@@ -62,7 +63,8 @@ pub fn dual_rows(alloc: Global, mesh: &HalfMesh, cotree: &CotreeDesk) -> Result<
     Ok(DualRows::make(depth, side))
 }
 
-/// The edges in neither tree as the pairs of their ends, the lesser first, in the order of their numbers.
+/// The edges in neither tree as the pairs of their ends, the lesser first, in the order of their
+/// numbers.
 pub fn left_pairs(
     alloc: Global,
     mesh: &HalfMesh,
@@ -80,8 +82,9 @@ pub fn left_pairs(
 }
 
 impl LoopDesk {
-    /// A certificate that the loops are a least loop system at their base: the two trees, and the edges in neither. It
-    /// is valid for the mesh and the lengths, and its lists fit the lines of a text.
+    /// A certificate that the loops are a least loop system at their base: the two trees, and the
+    /// edges in neither. It is valid for the mesh and the lengths, and its lists fit the lines of a
+    /// text.
     pub fn cert(
         &self,
         alloc: Global,

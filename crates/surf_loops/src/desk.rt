@@ -25,8 +25,8 @@ use surf_lengths::Lengths;
 use surf_mesh::{HalfMesh, Walk};
 use surf_tree::TreeDesk;
 
-/// The loops at a base: the tree of shortest walks, the heaviest tree of faces outside it by the lengths of loops, and
-/// the edges in neither, in the order of their loops.
+/// The loops at a base: the tree of shortest walks, the heaviest tree of faces outside it by the
+/// lengths of loops, and the edges in neither, in the order of their loops.
 #[derive(Drop)]
 pub struct LoopDesk {
     tree: TreeDesk,
@@ -48,8 +48,8 @@ impl Model for LoopDesk {
 }
 
 impl LoopDesk {
-    /// A desk for the loops of a mesh, and of every mesh with as many vertices, edges and faces. No later call but `walk`
-    /// takes memory.
+    /// A desk for the loops of a mesh, and of every mesh with as many vertices, edges and faces. No
+    /// later call but `walk` takes memory.
     pub fn make(alloc: Global, mesh: &HalfMesh) -> Result<LoopDesk, NoMemory>
         ensures made { IfOk result (λ desk. AreLoopTables mesh.now desk) }
     {
@@ -66,8 +66,8 @@ impl LoopDesk {
         })
     }
 
-    /// Grows the tree of shortest walks from a base alone. The loops of another base stay until `find_loops`. It takes no
-    /// memory and can't be refused.
+    /// Grows the tree of shortest walks from a base alone. The loops of another base stay until
+    /// `find_loops`. It takes no memory and can't be refused.
     pub fn grow_tree(&mut self, mesh: &HalfMesh, lengths: &Lengths, base: VertexId)
         requires made { AreLoopTables mesh.now self.old }
         requires base { base < mesh.now.vertices }
@@ -79,8 +79,8 @@ impl LoopDesk {
         self.tree.grow(mesh, lengths, base);
     }
 
-    /// Finds the loops at the base of the tree that was grown last, those that are chosen, a least loop system there. It
-    /// takes no memory and can't be refused.
+    /// Finds the loops at the base of the tree that was grown last, those that are chosen, a least
+    /// loop system there. It takes no memory and can't be refused.
     pub fn find_loops(&mut self, mesh: &HalfMesh, lengths: &Lengths)
         requires made { AreLoopTables mesh.now self.old }
         requires lengths { length lengths.now ≡ edge_count mesh.now }
@@ -94,7 +94,8 @@ impl LoopDesk {
         list_heads(self.cotree.left(), &self.weight, &mut self.heads);
     }
 
-    /// Finds the loops at a base that are chosen, a least loop system there. It takes no memory and can't be refused.
+    /// Finds the loops at a base that are chosen, a least loop system there. It takes no memory and
+    /// can't be refused.
     pub fn greedy(&mut self, mesh: &HalfMesh, lengths: &Lengths, base: VertexId)
         requires made { AreLoopTables mesh.now self.old }
         requires base { base < mesh.now.vertices }
@@ -105,12 +106,21 @@ impl LoopDesk {
         self.find_loops(mesh, lengths);
     }
 
-    /// Gives each edge its signature, until loops are found again. It takes no memory and can't be refused.
+    /// Gives each edge its signature, until loops are found again. It takes no memory and can't be
+    /// refused.
     pub fn sign(&mut self, mesh: &HalfMesh)
         requires grown { IsGrownOn mesh.now self.old.cotree }
         requires few { length self.old.cotree.left ≤ 1024 }
-        ensures signed { (tree : Tree) → IsSplit (cells_of mesh.now) (split_with tree self.new.cotree) → self.new.cotree.signatures ≡ map (edge_signature mesh.now (split_with tree self.new.cotree)) (range_with_len 0 (edge_count mesh.now)) }
-        ensures rest { self.new ≡ record self.old { cotree = record self.old.cotree { signatures = self.new.cotree.signatures } } }
+        ensures signed { (tree : Tree) → IsSplit (cells_of mesh.now)
+            (split_with tree self.new.cotree) →
+            self.new.cotree.signatures ≡ map (edge_signature mesh.now
+            (split_with tree self.new.cotree)) (range_with_len 0 (edge_count mesh.now)) }
+        ensures rest { self.new ≡ record self.old {
+          cotree = record self.old.cotree {
+            signatures =
+                self.new.cotree.signatures;
+          };
+        } }
         ensures made { AreCotreeTables mesh.now self.new.cotree }
     {
         self.cotree.sign(mesh);
@@ -137,12 +147,13 @@ impl LoopDesk {
         &self.cotree
     }
 
-    /// The loop of an edge: down the tree from the base to the lesser end, over the edge, and up to the base again. It is a
-    /// closed walk at the base, whether the edge is left or not.
+    /// The loop of an edge: down the tree from the base to the lesser end, over the edge, and up to
+    /// the base again. It is a closed walk at the base, whether the edge is left or not.
     pub fn walk(&self, alloc: Global, mesh: &HalfMesh, edge: EdgeId) -> Result<Walk, NoMemory>
         requires rooted { IsRooted mesh.now self.now.tree }
         requires edge { edge < edge_count mesh.now }
-        ensures walk { IfOk result (λ walk. walk ≡ loop_walk mesh.now (tree_of self.now.tree) edge) }
+        ensures walk { IfOk result (λ walk. walk ≡ loop_walk mesh.now
+            (tree_of self.now.tree) edge) }
         ensures closed { IfOk result (λ walk. IsClosedAt mesh.now self.now.tree.base walk) }
     {
         surf_surfaces::law_of_loop_walks();

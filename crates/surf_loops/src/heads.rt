@@ -12,8 +12,8 @@ use surf_lengths::Lengths;
 use surf_mesh::HalfMesh;
 use surf_tree::TreeDesk;
 
-// The length of the loop of an edge: the distances of its ends from the base of a tree of shortest walks and its own
-// length.
+// The length of the loop of an edge: the distances of its ends from the base of a tree of shortest
+// walks and its own length.
 fn loop_length(mesh: &HalfMesh, lengths: &Lengths, tree: &TreeDesk, edge: EdgeId) -> u64
     requires edge { edge < edge_count mesh.now }
     requires tables { AreTreeTables mesh.now tree.now }
@@ -32,7 +32,8 @@ pub(crate) fn set_weights(mesh: &HalfMesh, lengths: &Lengths, tree: &TreeDesk, w
     requires lengths { length lengths.now ≡ edge_count mesh.now }
     requires fits { (v : ℕ) → v < mesh.now.vertices → slice_index tree.now.distances v < 2 ^ 62 }
     requires weights { length weight.old ≡ edge_count mesh.now }
-    ensures lengths { (e : ℕ) → e < edge_count mesh.now → slice_index weight.new e ≡ loop_length mesh.now lengths.now (tree_of tree.now) e }
+    ensures lengths { (e : ℕ) → e < edge_count mesh.now →
+        slice_index weight.new e ≡ loop_length mesh.now lengths.now (tree_of tree.now) e }
 {
     for e in 0..mesh.edges() {
         weight[e as usize] = loop_length(mesh, lengths, tree, EdgeId::new(e));

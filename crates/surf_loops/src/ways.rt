@@ -17,7 +17,8 @@ pub(crate) fn push_way(
 ) -> Result<(), NoMemory>
     requires rooted { IsRooted mesh.now tree.now }
     requires vertex { from < mesh.now.vertices }
-    ensures way { OnOk result (list.new.items ≡ list.old.items ++ from ∷ way_up (tree_of tree.now) (slice_index tree.now.distances from) from) }
+    ensures way { OnOk result (list.new.items ≡ list.old.items ++ from ∷ way_up (tree_of tree.now)
+        (slice_index tree.now.distances from) from) }
 {
     mesh.law_of_surface();
     list.push(from)?;

@@ -51,7 +51,8 @@ fn read_corners(
     corners: &mut Vec<VertexId>,
 ) -> Result<(), OffFault>
     requires enough { size ≤ length tokens.old.tokens }
-    ensures corners { Gives (λ _. corners.new.items) result (corners_at line vertices 0 (take size tokens.old.tokens)) }
+    ensures corners { Gives (λ _. corners.new.items) result (corners_at line vertices 0
+        (take size tokens.old.tokens)) }
     ensures rest { OnOk result (tokens.new.rest ≡ behind_words size tokens.old.rest) }
     ensures size { OnOk result (length corners.new.items ≡ size) }
     ensures within { OnOk result (All (λ u. u < vertices) corners.new.items) }
@@ -65,8 +66,8 @@ fn read_corners(
     Ok(())
 }
 
-// The first corner whose vertex stands before. Each vertex has the stamp of the last face that it was seen on,
-// so that a face of many corners takes one turn for each.
+// The first corner whose vertex stands before. Each vertex has the stamp of the last face that it
+// was seen on, so that a face of many corners takes one turn for each.
 fn repeated(marks: &mut [u32], stamp: u32, corners: &[VertexId]) -> Option<VertexId>
     requires within { All (λ u. u < length marks.old) corners.now }
     requires earlier { (k : ℕ) → k < length marks.old → slice_index marks.old k < stamp }
@@ -83,7 +84,8 @@ fn repeated(marks: &mut [u32], stamp: u32, corners: &[VertexId]) -> Option<Verte
     None
 }
 
-// The colour of a face line, behind faces of so many sides. Its corners are those that are kept then.
+// The colour of a face line, behind faces of so many sides. Its corners are those that are kept
+// then.
 #[tactic(auto, unfolding(crate::specs::Off::face_of))]
 fn read_face<'a>(
     line: &Line<'a>,
@@ -96,7 +98,8 @@ fn read_face<'a>(
     requires few { sides ≤ 6000000 }
     requires room { length marks.old ≡ vertices }
     requires earlier { (k : ℕ) → k < length marks.old → slice_index marks.old k < stamp }
-    ensures face { Gives (λ colour. record { corners = corners.new.items; colour = colour.now }) result (face_of true vertices sides (text_line line.now)) }
+    ensures face { Gives (λ colour. record { corners = corners.new.items; colour = colour.now })
+        result (face_of true vertices sides (text_line line.now)) }
     ensures corners { OnOk result (IsFace vertices corners.new.items) }
     ensures few { OnOk result (sides + length corners.new.items ≤ 6000000) }
     ensures marks { (k : ℕ) → k < length marks.new → slice_index marks.new k ≤ stamp }
@@ -129,7 +132,11 @@ pub(crate) fn read_faces<'a>(
 ) -> Result<Soup, OffFault>
     requires few { faces ≤ 2000000 }
     requires none { colours.old.items ≡ [] }
-    ensures faces { Gives (λ soup. record { faces = soup.faces; colours = lent colours.new.items; lines = lines.new }) result (faces_at true vertices faces 0 lines.old) }
+    ensures faces { Gives (λ soup. record {
+      faces = soup.faces;
+      colours = lent colours.new.items;
+      lines = lines.new;
+    }) result (faces_at true vertices faces 0 lines.old) }
     ensures vertices { IfOk result (λ soup. soup.vertices ≡ vertices) }
     ensures count { IfOk result (λ soup. length soup.faces ≡ faces) }
     ensures colours { OnOk result (length colours.new.items ≡ faces) }

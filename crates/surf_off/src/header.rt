@@ -2,8 +2,8 @@
 ghost use Rattle.std.specs.Prelude.{◌≡◌};
 ghost use Rattle.surf_off.specs.Keywords.{keyword, header_of};
 
-/// The keyword of an OFF text: `ST` for texture coordinates, `C` for colours and `N` for normals on the vertex
-/// lines, which are kept as text whatever the keyword says.
+/// The keyword of an OFF text: `ST` for texture coordinates, `C` for colours and `N` for normals on
+/// the vertex lines, which are kept as text whatever the keyword says.
 #[derive(Clone, Copy, Debug, PartialEq, Eq)]
 pub enum Header {
     Off,

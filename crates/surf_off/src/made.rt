@@ -41,7 +41,8 @@ fn write_plain_face(page: &mut Page, corners: &[VertexId]) -> Result<(), PageFau
 
 fn write_plain_faces(page: &mut Page, soup: &Soup) -> Result<(), PageFault>
     requires fits { length page.old.bytes ≤ page.old.most }
-    ensures puts { Puts page.old page.new (faces_text (zip soup.now.faces (no_colours soup.now.faces))) result }
+    ensures puts { Puts page.old page.new (faces_text (zip soup.now.faces
+        (no_colours soup.now.faces))) result }
 {
     for f in 0..soup.faces() {
         write_plain_face(page, soup.face(FaceId::new(f)))?;
@@ -49,10 +50,10 @@ fn write_plain_faces(page: &mut Page, soup: &Soup) -> Result<(), PageFault>
     Ok(())
 }
 
-/// Puts a made mesh on a page: the keyword `OFF`, the numbers of vertices, faces and edges, for each vertex a
-/// line with its number and two zeros, and the faces. Refuses with `Full` where the page would hold more than
-/// its bound with the whole text, and with `Memory` where there is none. After a refusal the page holds a front
-/// of the text behind its bytes.
+/// Puts a made mesh on a page: the keyword `OFF`, the numbers of vertices, faces and edges, for
+/// each vertex a line with its number and two zeros, and the faces. Refuses with `Full` where the
+/// page would hold more than its bound with the whole text, and with `Memory` where there is none.
+/// After a refusal the page holds a front of the text behind its bytes.
 pub fn write_soup(page: &mut Page, soup: &Soup, edges: u32) -> Result<(), PageFault>
     ensures puts { Puts page.old page.new (soup_text soup.now edges) result }
     ensures reread { side_count soup.now < 2 ^ 30 → RereadsSoup soup.now edges }

@@ -13,11 +13,12 @@ use std::alloc::Global;
 use surf_mesh::Soup;
 use surf_text::Lines;
 
-/// Reads an OFF text: its keyword, vertex lines and colours as slices of the text, and its mesh. Refuses with
-/// the first fault of the text, or with `Memory` where there is none. The text is shorter than 2^32 − 1 bytes.
+/// Reads an OFF text: its keyword, vertex lines and colours as slices of the text, and its mesh.
+/// Refuses with the first fault of the text, or with `Memory` where there is none. The text is
+/// shorter than 2^32 − 1 bytes.
 ///
-/// The format is that of the Geomview manual, "OFF Files", read by lines, with one vertex or one face a line;
-/// coordinates and colours aren't read as numbers.
+/// The format is that of the Geomview manual, "OFF Files", read by lines, with one vertex or one
+/// face a line; coordinates and colours aren't read as numbers.
 #[tactic(auto, unfolding(crate::specs::Off::off_in))]
 pub fn read_off<'a>(alloc: Global, text: &'a [u8]) -> Result<(OffText<'a>, Soup), OffFault>
     requires short { length text.now < 4294967295 }

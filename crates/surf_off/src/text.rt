@@ -7,9 +7,9 @@ use crate::header::Header;
 use std::marker::Model;
 use surf_base::{FaceId, VertexId};
 
-/// The keyword, the vertex lines and the colours of an OFF text, as slices of the text, from a first token's
-/// first byte to a last token's last byte. A text has one vertex line for each vertex and one colour, which may
-/// be empty, for each face.
+/// The keyword, the vertex lines and the colours of an OFF text, as slices of the text, from a
+/// first token's first byte to a last token's last byte. A text has one vertex line for each vertex
+/// and one colour, which may be empty, for each face.
 #[derive(Drop)]
 pub struct OffText<'a> {
     header: Header,
@@ -35,8 +35,16 @@ impl<'a> OffText<'a> {
         vertex_lines: Vec<&'a [u8]>,
         colours: Vec<&'a [u8]>,
     ) -> OffText<'a>
-        requires clean { IsOffParts (record { header = header; vertex_lines = lent vertex_lines.items; colours = lent colours.items }) }
-        ensures parts { result ≡ record { header = header; vertex_lines = lent vertex_lines.entry.items; colours = lent colours.entry.items } }
+        requires clean { IsOffParts (record {
+          header = header;
+          vertex_lines = lent vertex_lines.items;
+          colours = lent colours.items;
+        }) }
+        ensures parts { result ≡ record {
+          header = header;
+          vertex_lines = lent vertex_lines.entry.items;
+          colours = lent colours.entry.items;
+        } }
     {
         OffText {
             header,

@@ -16,7 +16,8 @@ pub(crate) fn read_vertices<'a>(
     faces: u32,
 ) -> Result<Vec<&'a [u8]>, OffFault>
     requires fits { vertices + faces < 2 ^ 32 }
-    ensures lines { Gives (λ kept. (lent kept.items, lines.new)) result (vertices_at vertices faces lines.old) }
+    ensures lines { Gives (λ kept. (lent kept.items, lines.new)) result
+        (vertices_at vertices faces lines.old) }
     ensures count { IfOk result (λ kept. length kept.items ≡ vertices) }
 {
     let mut kept = Vec::new(alloc);

@@ -35,7 +35,8 @@ pub(crate) fn write_head(
 fn write_lines(page: &mut Page, text: &OffText<'_>, origins: &[VertexId]) -> Result<(), PageFault>
     requires fits { length page.old.bytes ≤ page.old.most }
     requires within { All (λ v. v < length text.now.vertex_lines) origins.now }
-    ensures puts { Puts page.old page.new (lines_text (lines_at text.now.vertex_lines origins.now)) result }
+    ensures puts { Puts page.old page.new (lines_text (lines_at text.now.vertex_lines origins.now))
+        result }
 {
     for v in origins {
         page.push_pieces(&[Piece::Bytes(text.vertex_line(*v)), Piece::Bytes(b"\n")])?;
@@ -92,7 +93,8 @@ fn write_faces(
     requires fits { length page.old.bytes ≤ page.old.most }
     requires starts { AreStarts starts.now (length corners.now) }
     requires count { length starts.now ≡ length text.now.colours + 1 }
-    ensures puts { Puts page.old page.new (faces_text (zip (rows_at starts.now corners.now) text.now.colours)) result }
+    ensures puts { Puts page.old page.new (faces_text (zip (rows_at starts.now corners.now)
+        text.now.colours)) result }
 {
     for f in 0..starts.len() - 1 {
         write_face(page, face_at(corners, starts, f), text.colour_at(f))?;
@@ -103,7 +105,8 @@ fn write_faces(
 // A comment for each copy.
 fn write_copies(page: &mut Page, origins: &[VertexId]) -> Result<(), PageFault>
     requires fits { length page.old.bytes ≤ page.old.most }
-    ensures puts { Puts page.old page.new (copies_text origins.now (range_with_len 0 (length origins.now))) result }
+    ensures puts { Puts page.old page.new (copies_text origins.now
+        (range_with_len 0 (length origins.now))) result }
 {
     for i in 0..origins.len() {
         page.push_pieces(&[
@@ -117,13 +120,15 @@ fn write_copies(page: &mut Page, origins: &[VertexId]) -> Result<(), PageFault>
     Ok(())
 }
 
-/// Puts an opened mesh on a page: the keyword of `text`, the numbers of copies, faces and edges, the line of
-/// each copy's vertex, each face with its colour, and a comment for each copy that names its vertex.
+/// Puts an opened mesh on a page: the keyword of `text`, the numbers of copies, faces and edges,
+/// the line of each copy's vertex, each face with its colour, and a comment for each copy that
+/// names its vertex.
 ///
-/// `origins` has the vertex of each copy. The corners of face `f` are those from place `starts[f]` up to, but
-/// without, place `starts[f + 1]`. Refuses with `Full` where the page would hold more than its bound with the
-/// whole text, and with `Memory` where there is none. After a refusal the page holds a front of the text behind
-/// its bytes. Read again without limits, the text has the keyword, these vertex lines, faces and colours.
+/// `origins` has the vertex of each copy. The corners of face `f` are those from place `starts[f]`
+/// up to, but without, place `starts[f + 1]`. Refuses with `Full` where the page would hold more
+/// than its bound with the whole text, and with `Memory` where there is none. After a refusal the
+/// page holds a front of the text behind its bytes. Read again without limits, the text has the
+/// keyword, these vertex lines, faces and colours.
 pub fn write_off(
     page: &mut Page,
     text: &OffText<'_>,
@@ -136,7 +141,8 @@ pub fn write_off(
     requires starts { AreStarts starts.now (length corners.now) }
     requires count { length starts.now ≡ length text.now.colours + 1 }
     requires faces { All (IsFace (length origins.now)) (rows_at starts.now corners.now) }
-    ensures puts { Puts page.old page.new (opened_text text.now origins.now (rows_at starts.now corners.now) edges) result }
+    ensures puts { Puts page.old page.new (opened_text text.now origins.now
+        (rows_at starts.now corners.now) edges) result }
     ensures reread { RereadsOpened text.now origins.now (rows_at starts.now corners.now) edges }
 {
     write_head(page, text.header(), origins.len(), starts.len() - 1, edges)?;

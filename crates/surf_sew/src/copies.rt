@@ -16,7 +16,8 @@ use surf_text::{Tokens, read_whole};
 /// The first fault of the copy lines of a text. Lines are numbered from 1.
 #[derive(Clone, Copy, Debug, PartialEq, Eq)]
 pub enum CopyFault {
-    /// This copy line isn't `# copy i from v`, with its own place from 0 as `i` and a number of 32 bits as `v`.
+    /// This copy line isn't `# copy i from v`, with its own place from 0 as `i` and a number of 32
+    /// bits as `v`.
     CopyForm { line: u32 },
     /// So many copy lines there are, another number than that of the copies.
     CopyCount { have: u32 },
@@ -64,7 +65,8 @@ fn line_start(bytes: &[u8], place: usize) -> usize
 
 // A first line and what stands behind its end, if it has one.
 fn split_line(bytes: &[u8]) -> (&[u8], Option<&[u8]>)
-    ensures parts { slice_split is_line_end bytes.now ≡ result.0.now ∷ parts_of is_line_end result.1 }
+    ensures parts { slice_split is_line_end bytes.now
+        ≡ result.0.now ∷ parts_of is_line_end result.1 }
 {
     match line_end(bytes) {
         Some(end) => (&bytes[..end], Some(&bytes[end + 1..])),
@@ -72,7 +74,8 @@ fn split_line(bytes: &[u8]) -> (&[u8], Option<&[u8]>)
     }
 }
 
-// A line with a comment sign, how many lines without one stand before it, and what stands behind its end.
+// A line with a comment sign, how many lines without one stand before it, and what stands behind
+// its end.
 #[derive(Clone, Copy)]
 struct Marked<'a> {
     skipped: usize,
@@ -84,7 +87,8 @@ struct Marked<'a> {
 fn skip_lines(bytes: &[u8]) -> Option<(usize, &[u8])>
     ensures copies { MatchOption result ((n : ℕ) → copies_among (word_lines_from n (slice_split is_line_end bytes.now)) ≡ [])
         (λ r. (n : ℕ) → copies_among (word_lines_from n (slice_split is_line_end bytes.now)) ≡ copies_among (word_lines_from (n + r.0) (slice_split is_line_end r.1.now))) }
-    ensures lines { IfSome result (λ r. r.0 + length (slice_split is_line_end r.1.now) ≡ length (slice_split is_line_end bytes.now)) }
+    ensures lines { IfSome result (λ r. r.0 + length (slice_split is_line_end r.1.now)
+        ≡ length (slice_split is_line_end bytes.now)) }
 {
     let sign = comment_sign(bytes)?;
     let start = line_start(bytes, sign);
@@ -95,7 +99,8 @@ fn skip_lines(bytes: &[u8]) -> Option<(usize, &[u8])>
 fn next_marked(rest: Option<&[u8]>) -> Option<Marked<'_>>
     ensures copies { MatchOption result ((n : ℕ) → copies_among (word_lines_from n (parts_of is_line_end rest.entry)) ≡ [])
         (λ m. (n : ℕ) → copies_among (word_lines_from n (parts_of is_line_end rest.entry)) ≡ copies_among (word_lines_from (n + m.skipped) (m.line.now ∷ parts_of is_line_end m.behind))) }
-    ensures lines { IfSome result (λ m. m.skipped + (length (parts_of is_line_end m.behind) + 1) ≡ length (parts_of is_line_end rest.entry)) }
+    ensures lines { IfSome result (λ m. m.skipped + (length (parts_of is_line_end m.behind) + 1)
+        ≡ length (parts_of is_line_end rest.entry)) }
 {
     let (skipped, bytes) = skip_lines(rest?)?;
     let (line, behind) = split_line(bytes);
@@ -152,7 +157,8 @@ fn around_from(bytes: &[u8]) -> Option<(&[u8], &[u8])>
     Some((&bytes[..end], behind))
 }
 
-// The origin that a copy line names which has one space between its words. None says nothing of a line.
+// The origin that a copy line names which has one space between its words. None says nothing of a
+// line.
 fn read_plain(line: &[u8], place: u64) -> Option<VertexId>
     ensures origin { IfSome result (λ v. origin_of place (words_of line.now) ≡ Some v) }
 {
@@ -192,10 +198,10 @@ fn read_origin(line: &[u8], place: u64) -> Option<VertexId>
     }
 }
 
-/// Reads the origins of so many copies from the copy lines of a text: those whose first two tokens, between
-/// blanks alone, are `#` and `copy`. They may stand anywhere. Refuses with the first that isn't
-/// `# copy i from v`, then where there are more or fewer of them than `count`, and with `Memory` where there is
-/// none. The text has at most 268,435,456 bytes.
+/// Reads the origins of so many copies from the copy lines of a text: those whose first two tokens,
+/// between blanks alone, are `#` and `copy`. They may stand anywhere. Refuses with the first that
+/// isn't `# copy i from v`, then where there are more or fewer of them than `count`, and with
+/// `Memory` where there is none. The text has at most 268,435,456 bytes.
 pub fn read_copies(alloc: Global, text: &[u8], count: u32) -> Result<Vec<VertexId>, CopyFault>
     requires short { length text.now ≤ 268435456 }
     ensures copies { Gives (λ origins. origins.items) result (copies_in text.now count) }

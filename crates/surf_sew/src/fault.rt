@@ -12,7 +12,8 @@ pub enum SewFault {
     Gap { v: VertexId },
     /// The vertex line of this least copy differs from that of the least copy with its origin.
     Line { copy: CopyId, earlier: CopyId },
-    /// Two corners of this least face have this origin. It is the first on the face that stands before.
+    /// Two corners of this least face have this origin. It is the first on the face that stands
+    /// before.
     FaceRepeat { face: FaceId, v: VertexId },
     /// There was no memory.
     Memory,

@@ -4,8 +4,8 @@ ghost use Rattle.surf_sew.specs.Sewing.{first_copies};
 
 use surf_base::VertexId;
 
-/// The least copy of each vertex from one on, as far as the table reaches; the number of copies where a vertex
-/// has none.
+/// The least copy of each vertex from one on, as far as the table reaches; the number of copies
+/// where a vertex has none.
 pub(crate) fn list_first(origins: &[VertexId], from: usize, table: &mut [u32])
     requires countable { length origins.now < 2 ^ 32 }
     ensures first { table.new ≡ first_copies origins.now from (length table.old) }

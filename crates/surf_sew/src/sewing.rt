@@ -76,9 +76,9 @@ fn compare_lines(text: &OffText<'_>, first: &[u32], origins: &[VertexId]) -> Res
     Ok(())
 }
 
-// The origins of the corners of a face, in place of those that were kept. Gives the first that stands before, if
-// there is one. Each vertex has the stamp of the last face that it was seen on, so that a face of many corners takes
-// one turn for each.
+// The origins of the corners of a face, in place of those that were kept. Gives the first that
+// stands before, if there is one. Each vertex has the stamp of the last face that it was seen on,
+// so that a face of many corners takes one turn for each.
 fn sew_face(
     face: &[VertexId],
     origins: &[VertexId],
@@ -90,7 +90,8 @@ fn sew_face(
     requires within { All (λ v. v < length marks.old) origins.now }
     requires earlier { (k : ℕ) → k < length marks.old → slice_index marks.old k < stamp }
     ensures first { IfOk result (λ r. r ≡ first_repeat [] (sewn_face origins.now face.now)) }
-    ensures corners { IfOk result (λ r. IfNone r (corners.new.items ≡ sewn_face origins.now face.now)) }
+    ensures corners { IfOk result (λ r. IfNone r (corners.new.items
+        ≡ sewn_face origins.now face.now)) }
     ensures distinct { IfOk result (λ r. IfNone r (AllPairs (λ a b. a ≢ b) corners.new.items)) }
     ensures marks { (k : ℕ) → k < length marks.new → slice_index marks.new k ≤ stamp }
 {
@@ -133,11 +134,11 @@ fn sew_faces(
     Ok(sewn)
 }
 
-/// The mesh with each corner replaced by its origin, over as many vertices as there are different origins. `soup`
-/// has the vertices and faces of `text`, and `origins` has the vertex of each copy. Refuses with the first gap below
-/// the number of different origins; then with the least copy whose vertex line differs from that of the least copy
-/// with its origin; then with the least face that has an origin at two corners; then with `Memory` where there is
-/// none.
+/// The mesh with each corner replaced by its origin, over as many vertices as there are different
+/// origins. `soup` has the vertices and faces of `text`, and `origins` has the vertex of each copy.
+/// Refuses with the first gap below the number of different origins; then with the least copy whose
+/// vertex line differs from that of the least copy with its origin; then with the least face that
+/// has an origin at two corners; then with `Memory` where there is none.
 pub fn sew(
     alloc: Global,
     text: &OffText<'_>,

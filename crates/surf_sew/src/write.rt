@@ -13,7 +13,8 @@ use surf_mesh::HalfMesh;
 use surf_off::{Header, OffText};
 use surf_text::{Page, PageFault, Piece};
 
-// The least copies of so many vertices are found by one turn over the origins, so that no memory is taken.
+// The least copies of so many vertices are found by one turn over the origins, so that no memory is
+// taken.
 const WINDOW: usize = 16_384;
 
 fn write_head(
@@ -41,7 +42,8 @@ fn write_head(
 fn write_copies(page: &mut Page, text: &OffText<'_>, copies: &[u32]) -> Result<(), PageFault>
     requires fits { length page.old.bytes ≤ page.old.most }
     requires within { All (λ c. c < length text.now.vertex_lines) copies.now }
-    ensures puts { Puts page.old page.new (lines_text (lines_at text.now.vertex_lines copies.now)) result }
+    ensures puts { Puts page.old page.new (lines_text (lines_at text.now.vertex_lines copies.now))
+        result }
 {
     for c in copies {
         let line = text.vertex_line(VertexId::new(*c));
@@ -50,8 +52,8 @@ fn write_copies(page: &mut Page, text: &OffText<'_>, copies: &[u32]) -> Result<(
     Ok(())
 }
 
-// The vertex lines of the first vertices, as far as the least copies of vertices stand in the order of these. Gives how
-// many vertices that are.
+// The vertex lines of the first vertices, as far as the least copies of vertices stand in the order
+// of these. Gives how many vertices that are.
 fn write_ordered(
     page: &mut Page,
     text: &OffText<'_>,
@@ -90,7 +92,8 @@ fn write_lines(
     requires countable { length origins.now < 2 ^ 32 }
     requires origins { length origins.now ≡ length text.now.vertex_lines }
     requires copies { HaveCopies origins.now vertices }
-    ensures puts { Puts page.old page.new (lines_text (sewn_lines text.now.vertex_lines origins.now vertices)) result }
+    ensures puts { Puts page.old page.new (lines_text
+        (sewn_lines text.now.vertex_lines origins.now vertices)) result }
 {
     let vertices = vertices as usize;
     let mut first = [0u32; WINDOW];
@@ -150,7 +153,8 @@ fn write_face(page: &mut Page, corners: &[VertexId], colour: &[u8]) -> Result<()
 fn write_faces(page: &mut Page, text: &OffText<'_>, mesh: &HalfMesh) -> Result<(), PageFault>
     requires fits { length page.old.bytes ≤ page.old.most }
     requires faces { length mesh.now.faces ≡ length text.now.colours }
-    ensures puts { Puts page.old page.new (faces_text (zip mesh.now.faces text.now.colours)) result }
+    ensures puts { Puts page.old page.new (faces_text (zip mesh.now.faces text.now.colours))
+        result }
 {
     for f in 0..mesh.faces() {
         let face = FaceId::new(f);
@@ -159,17 +163,18 @@ fn write_faces(page: &mut Page, text: &OffText<'_>, mesh: &HalfMesh) -> Result<(
     Ok(())
 }
 
-/// Puts a sewn mesh on a page: the keyword of `text`, the numbers of vertices, faces and edges, for each vertex the
-/// line of its least copy, and each face with its colour.
+/// Puts a sewn mesh on a page: the keyword of `text`, the numbers of vertices, faces and edges, for
+/// each vertex the line of its least copy, and each face with its colour.
 ///
-/// `text` and `origins` are those of the copies, and `mesh` is what was sewn: it has a face for each face of `text`,
-/// and each of its vertices is an origin. Refuses with `Full` where the page would hold more than its bound with the
-/// whole text, and with `Memory` where there is none. After a refusal the page holds a front of the text behind its
-/// bytes. Read again without limits, the text has the keyword, these vertex lines, the colours and the mesh.
+/// `text` and `origins` are those of the copies, and `mesh` is what was sewn: it has a face for
+/// each face of `text`, and each of its vertices is an origin. Refuses with `Full` where the page
+/// would hold more than its bound with the whole text, and with `Memory` where there is none. After
+/// a refusal the page holds a front of the text behind its bytes. Read again without limits, the
+/// text has the keyword, these vertex lines, the colours and the mesh.
 ///
-/// It takes no memory but the page's. Where the least copies stand in the order of their vertices, as `cut` writes them,
-/// one turn over the origins finds them all; else those from the first that doesn't on are found for some thousands of
-/// vertices at a time, by one turn each.
+/// It takes no memory but the page's. Where the least copies stand in the order of their vertices,
+/// as `cut` writes them, one turn over the origins finds them all; else those from the first that
+/// doesn't on are found for some thousands of vertices at a time, by one turn each.
 pub fn write_sewn(
     page: &mut Page,
     text: &OffText<'_>,

@@ -12,8 +12,8 @@ ghost use Rattle.surf_signatures.specs.Tables.{face_tree};
 use surf_base::EdgeId;
 use surf_mesh::HalfMesh;
 
-/// A tree of the faces by three tables: for each face but face 0 the face that it hangs on and the edge between them, and
-/// for each face its depth.
+/// A tree of the faces by three tables: for each face but face 0 the face that it hangs on and the
+/// edge between them, and for each face its depth.
 #[derive(Drop)]
 pub(crate) struct FaceTree<'t> {
     pub parent: &'t [u32],
@@ -32,7 +32,8 @@ fn toggle(signs: &mut [u64], words: usize, edge: usize, k: usize)
     requires cell { cell words edge k < length signs.old }
     requires row { edge * words < 2 ^ 63 }
     requires words { words < 2 ^ 63 }
-    ensures turned { (e j : ℕ) → j < 64 * words → sign_bit signs.new words e j ≡ xor (sign_bit signs.old words e j) (eqb edge e && eqb k j) }
+    ensures turned { (e j : ℕ) → j < 64 * words →
+        sign_bit signs.new words e j ≡ xor (sign_bit signs.old words e j) (eqb edge e && eqb k j) }
 {
     words_fit(signs);
     signs[edge * words + k / 64] ^= 1 << (k % 64);
@@ -47,14 +48,18 @@ fn turn_path(
     face: u32,
     k: usize,
 )
-    requires tree { IsTree (dual (cells_of mesh.now)) (face_tree tree.now.parent.now tree.now.up.now tree.now.depth.now) }
+    requires tree { IsTree (dual (cells_of mesh.now))
+        (face_tree tree.now.parent.now tree.now.up.now tree.now.depth.now) }
     requires ups { length tree.now.up.now ≡ face_count mesh.now }
     requires parents { length tree.now.parent.now ≡ face_count mesh.now }
     requires face { face < face_count mesh.now }
     requires bit { k < 64 * words }
     requires few { words ≤ 16 }
     requires room { length signs.old ≡ edge_count mesh.now * words }
-    ensures turned { (e j : ℕ) → j < 64 * words → sign_bit signs.new words e j ≡ xor (sign_bit signs.old words e j) (on_path (face_tree tree.now.parent.now tree.now.up.now tree.now.depth.now) face e && eqb k j) }
+    ensures turned { (e j : ℕ) → j < 64 * words →
+        sign_bit signs.new words e j ≡ xor (sign_bit signs.old words e j)
+        (on_path (face_tree tree.now.parent.now tree.now.up.now tree.now.depth.now)
+        face e && eqb k j) }
 {
     mesh.law_of_surface();
     let mut at = face as usize;
@@ -76,8 +81,8 @@ fn faces_beside(mesh: &HalfMesh, edge: EdgeId) -> (u32, u32)
     (near.number(), far.number())
 }
 
-// Writes the signatures of all edges: each left edge has its own place, and so have the edges of the tree on the ways
-// from its two faces to face 0, where the two ways differ.
+// Writes the signatures of all edges: each left edge has its own place, and so have the edges of
+// the tree on the ways from its two faces to face 0, where the two ways differ.
 pub(crate) fn write_signs(
     mesh: &HalfMesh,
     tree: &FaceTree<'_>,
@@ -85,7 +90,8 @@ pub(crate) fn write_signs(
     signs: &mut [u64],
     words: usize,
 )
-    requires tree { IsTree (dual (cells_of mesh.now)) (face_tree tree.now.parent.now tree.now.up.now tree.now.depth.now) }
+    requires tree { IsTree (dual (cells_of mesh.now))
+        (face_tree tree.now.parent.now tree.now.up.now tree.now.depth.now) }
     requires ups { length tree.now.up.now ≡ face_count mesh.now }
     requires parents { length tree.now.parent.now ≡ face_count mesh.now }
     requires left { (k : ℕ) → k < length left.now → at left.now k < edge_count mesh.now }
@@ -93,8 +99,11 @@ pub(crate) fn write_signs(
     requires few { words ≤ 16 }
     requires room { length signs.old ≡ edge_count mesh.now * words }
     ensures fit { (k : ℕ) → at signs.new k < 2 ^ 64 }
-    ensures rest { (e k : ℕ) → length left.now ≤ k → k < 64 * words → sign_bit signs.new words e k ≡ false }
-    ensures signature { (e k : ℕ) → k < length left.now → sign_bit signs.new words e k ≡ has_left (dual (cells_of mesh.now)) (face_tree tree.now.parent.now tree.now.up.now tree.now.depth.now) (at left.now k) e }
+    ensures rest { (e k : ℕ) → length left.now ≤ k → k < 64 * words →
+        sign_bit signs.new words e k ≡ false }
+    ensures signature { (e k : ℕ) → k < length left.now →
+        sign_bit signs.new words e k ≡ has_left (dual (cells_of mesh.now))
+        (face_tree tree.now.parent.now tree.now.up.now tree.now.depth.now) (at left.now k) e }
 {
     mesh.law_of_surface();
     signs.fill(0);

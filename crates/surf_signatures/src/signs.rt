@@ -16,8 +16,8 @@ use surf_base::{EdgeId, NoMemory};
 use surf_bits::Bits;
 use surf_mesh::HalfMesh;
 
-/// For each edge a set of numbers below a width. It is filled with the signatures of edges, and may then be written over
-/// other numbers.
+/// For each edge a set of numbers below a width. It is filled with the signatures of edges, and may
+/// then be written over other numbers.
 #[derive(Drop)]
 pub struct Signs {
     edges: u32,
@@ -45,7 +45,8 @@ fn add_at(table: &mut [u64], words: usize, edge: usize, k: u32, other: &Bits<'_>
     requires few { words ≤ 16 }
     requires fits { other.now < 2 ^ (64 * words) }
     requires room { edge * words + words ≤ length table.old }
-    ensures added { (e : ℕ) → row_of words table.new e ≡ (if edge == e then added_where k other.now (row_of words table.old e) else row_of words table.old e) }
+    ensures added { (e : ℕ) → row_of words table.new e ≡ (if edge == e
+        then added_where k other.now (row_of words table.old e) else row_of words table.old e) }
     ensures count { length table.new ≡ length table.old }
 {
     let start = edge * words;
@@ -62,7 +63,8 @@ fn add_to_rows(table: &mut [u64], words: usize, edges: usize, k: u32, other: &Bi
     requires fits { other.now < 2 ^ (64 * words) }
     requires room { length table.old ≡ edges * words }
     ensures count { length table.new ≡ length table.old }
-    ensures added { sets_in words edges table.new ≡ map (added_where k other.now) (sets_in words edges table.old) }
+    ensures added { sets_in words edges table.new ≡ map (added_where k other.now)
+        (sets_in words edges table.old) }
 {
     for edge in 0..edges {
         add_at(table, words, edge, k, other);
@@ -70,7 +72,8 @@ fn add_to_rows(table: &mut [u64], words: usize, edges: usize, k: u32, other: &Bi
 }
 
 impl Signs {
-    /// A table for so many edges and sets of numbers below a width, which are all empty. No later call takes memory.
+    /// A table for so many edges and sets of numbers below a width, which are all empty. No later
+    /// call takes memory.
     pub fn make(alloc: Global, edges: u32, width: u32) -> Result<Signs, NoMemory>
         requires width { width ≤ 1024 }
         ensures made { IfOk result (λ s. s ≡ record { width = width; sets = replicate edges 0 }) }
@@ -83,9 +86,9 @@ impl Signs {
         })
     }
 
-    /// Gives each edge of a mesh its signature by a tree of the faces, of which the tables have for each face but face 0
-    /// the face that it hangs on, the edge between them and the depth, and by the edges that are in neither tree. It takes
-    /// no memory and can't be refused.
+    /// Gives each edge of a mesh its signature by a tree of the faces, of which the tables have for
+    /// each face but face 0 the face that it hangs on, the edge between them and the depth, and by
+    /// the edges that are in neither tree. It takes no memory and can't be refused.
     pub fn write(
         &mut self,
         mesh: &HalfMesh,
@@ -97,10 +100,14 @@ impl Signs {
         requires tree { IsTree (dual (cells_of mesh.now)) (face_tree parent.now up.now depth.now) }
         requires ups { length up.now ≡ face_count mesh.now }
         requires parents { length parent.now ≡ face_count mesh.now }
-        requires left { (k : ℕ) → k < length left.now → slice_index left.now k < edge_count mesh.now }
+        requires left { (k : ℕ) → k < length left.now →
+            slice_index left.now k < edge_count mesh.now }
         requires few { length left.now ≤ self.old.width }
         requires room { length self.old.sets ≡ edge_count mesh.now }
-        ensures signed { (d : Split) → IsSplit (cells_of mesh.now) d → HangsBy mesh.now d.cotree parent.now up.now → d.left ≡ left.now → self.new.sets ≡ map (edge_signature mesh.now d) (range_with_len 0 (edge_count mesh.now)) }
+        ensures signed { (d : Split) → IsSplit (cells_of mesh.now) d →
+            HangsBy mesh.now d.cotree parent.now up.now → d.left ≡ left.now →
+            self.new.sets ≡ map (edge_signature mesh.now d)
+            (range_with_len 0 (edge_count mesh.now)) }
         ensures width { self.new.width ≡ self.old.width }
         ensures count { length self.new.sets ≡ edge_count mesh.now }
     {

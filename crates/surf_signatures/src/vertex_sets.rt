@@ -35,7 +35,8 @@ fn put_at(table: &mut [u64], words: usize, vertex: usize, numbers: &Bits<'_>)
     requires few { words ≤ 16 }
     requires fits { numbers.now < 2 ^ (64 * words) }
     requires room { vertex * words + words ≤ length table.old }
-    ensures put { (v : ℕ) → row_of words table.new v ≡ (if vertex == v then numbers.now else row_of words table.old v) }
+    ensures put { (v : ℕ) → row_of words table.new v ≡ (if vertex == v then numbers.now
+        else row_of words table.old v) }
     ensures count { length table.new ≡ length table.old }
 {
     let start = vertex * words;
@@ -45,10 +46,14 @@ fn put_at(table: &mut [u64], words: usize, vertex: usize, numbers: &Bits<'_>)
 }
 
 impl VertexSets {
-    /// A table for so many vertices and sets of numbers below a width, which are all empty. No later call takes memory.
+    /// A table for so many vertices and sets of numbers below a width, which are all empty. No
+    /// later call takes memory.
     pub fn make(alloc: Global, vertices: u32, width: u32) -> Result<VertexSets, NoMemory>
         requires width { width ≤ 1024 }
-        ensures made { IfOk result (λ s. s ≡ record { width = width; sets = replicate vertices 0 }) }
+        ensures made { IfOk result (λ s. s ≡ record {
+          width = width;
+          sets = replicate vertices 0;
+        }) }
     {
         let table = vec![in alloc; 0u64; vertices as usize * words_of(width)]?;
         Ok(VertexSets {

@@ -41,9 +41,12 @@ fn label_runs(
     requires cuts { cuts ≡ count_below (length edges.now) (cut_behind edges.now cut.now) }
     requires edges { (k : ℕ) → k < length edges.now → slice_index edges.now k < length cut.now }
     requires sides { (k : ℕ) → k < length ring.now → slice_index ring.now k < length labels.old }
-    requires differ { (i k : ℕ) → i < k → k < length ring.now → slice_index ring.now i ≢ slice_index ring.now k }
-    ensures runs { (k : ℕ) → k < length ring.now → slice_index labels.new (slice_index ring.now k) ≡ first + run_of (length edges.now) (cut_behind edges.now cut.now) k }
-    ensures kept { (s : ℕ) → ((k : ℕ) → k < length ring.now → slice_index ring.now k ≢ s) → slice_index labels.new s ≡ slice_index labels.old s }
+    requires differ { (i k : ℕ) → i < k → k < length ring.now →
+        slice_index ring.now i ≢ slice_index ring.now k }
+    ensures runs { (k : ℕ) → k < length ring.now → slice_index labels.new (slice_index ring.now k)
+        ≡ first + run_of (length edges.now) (cut_behind edges.now cut.now) k }
+    ensures kept { (s : ℕ) → ((k : ℕ) → k < length ring.now → slice_index ring.now k ≢ s) →
+        slice_index labels.new s ≡ slice_index labels.old s }
 {
     let mut run = 0;
     for k in 0..ring.len() {
@@ -69,7 +72,8 @@ pub(crate) fn label_vertex(
     requires first { first ≤ side_count mesh.now }
     ensures few { result < 2 ^ 30 }
     ensures labelled { IsLabelledAt mesh.now cut.now labels.new v first result }
-    ensures others { (s : ℕ) → s < side_count mesh.now → corner_at mesh.now s ≢ v → slice_index labels.new s ≡ slice_index labels.old s }
+    ensures others { (s : ℕ) → s < side_count mesh.now → corner_at mesh.now s ≢ v →
+        slice_index labels.new s ≡ slice_index labels.old s }
 {
     mesh.law_of_surface();
     let (ring, edges) = mesh.round(v);
@@ -83,7 +87,8 @@ pub(crate) fn label_whole(mesh: &HalfMesh, labels: &mut [u32], v: VertexId)
     requires vertex { v < mesh.now.vertices }
     requires size { length labels.old ≡ side_count mesh.now }
     ensures here { (s : ℕ) → BeginsAt mesh.now v s → slice_index labels.new s ≡ v }
-    ensures others { (s : ℕ) → s < side_count mesh.now → corner_at mesh.now s ≢ v → slice_index labels.new s ≡ slice_index labels.old s }
+    ensures others { (s : ℕ) → s < side_count mesh.now → corner_at mesh.now s ≢ v →
+        slice_index labels.new s ≡ slice_index labels.old s }
 {
     for side in mesh.ring(v) {
         labels[side.index()] = v.number();

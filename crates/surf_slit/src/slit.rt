@@ -65,8 +65,8 @@ impl<'m> Slit<'m> {
         })
     }
 
-    /// The surface cut along the edges with a flag, one flag an edge. It takes time in proportion to
-    /// the surface, however many edges are cut.
+    /// The surface cut along the edges with a flag, one flag an edge. It takes time in proportion
+    /// to the surface, however many edges are cut.
     pub fn along(alloc: Global, mesh: &'m HalfMesh, cut: &[bool]) -> Result<Slit<'m>, NoMemory>
         requires { length cut.now ≡ edge_count mesh.now }
         ensures mesh { IfOk result (λ s. s.mesh ≡ mesh.now) }

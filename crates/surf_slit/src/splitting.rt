@@ -39,7 +39,8 @@ fn next_cut(edges: &[EdgeId], cut: &[bool], from: usize) -> Option<usize>
     requires few { length edges.now < 2 ^ 32 }
     requires from { from < length edges.now }
     requires inside { (k : ℕ) → k < length edges.now → slice_index edges.now k < length cut.now }
-    ensures { MatchOption result (NoneCut edges.now cut.now from) (λ q. IsNextCut edges.now cut.now from q) }
+    ensures { MatchOption result (NoneCut edges.now cut.now from)
+        (λ q. IsNextCut edges.now cut.now from q) }
 {
     for steps in 0..edges.len() - 1 {
         let k = step_from(edges.len(), from, steps);
@@ -56,8 +57,11 @@ fn relabel(ring: &[SideId], labels: &mut [u32], from: usize, count: usize, label
     requires from { from < length ring.now }
     requires count { count ≤ length ring.now }
     requires inside { (k : ℕ) → k < length ring.now → slice_index ring.now k < length labels.old }
-    ensures split { (d : ℕ) → d < count → slice_index labels.new (slice_index ring.now (place (length ring.now) from d)) ≡ label }
-    ensures kept { (s : ℕ) → ((d : ℕ) → d < count → slice_index ring.now (place (length ring.now) from d) ≢ s) → slice_index labels.new s ≡ slice_index labels.old s }
+    ensures split { (d : ℕ) → d < count → slice_index labels.new (slice_index ring.now
+        (place (length ring.now) from d)) ≡ label }
+    ensures kept { (s : ℕ) → ((d : ℕ) → d < count →
+        slice_index ring.now (place (length ring.now) from d) ≢ s) →
+        slice_index labels.new s ≡ slice_index labels.old s }
 {
     for steps in 0..count {
         let k = step_from(ring.len(), from, steps);
@@ -82,7 +86,8 @@ pub(crate) fn split_at(
     requires agree { AgreeAt mesh.now (slice_set cut.now e false) labels.old v }
     ensures numbers { AreNumbers mesh.now labels.new result }
     ensures agree { AgreeAt mesh.now cut.now labels.new v }
-    ensures others { (s : ℕ) → s < side_count mesh.now → corner_at mesh.now s ≢ v → slice_index labels.new s ≡ slice_index labels.old s }
+    ensures others { (s : ℕ) → s < side_count mesh.now → corner_at mesh.now s ≢ v →
+        slice_index labels.new s ≡ slice_index labels.old s }
 {
     mesh.law_of_surface();
     let (ring, edges) = mesh.round(v);

@@ -181,7 +181,8 @@ pub fn law_of_loop_walks()
     ensures { LoopsAreClosed }
 {}
 
-/// What is chosen is one, whichever trees show it: the loops at a base, the candidates and the basis.
+/// What is chosen is one, whichever trees show it: the loops at a base, the candidates and the
+/// basis.
 pub fn law_of_one_choice()
     ensures loops { LoopsAreOne }
     ensures candidates { CandidatesAreOne }
@@ -243,17 +244,19 @@ pub fn law_of_first_found()
     ensures { FirstIsAtLeastBase }
 {}
 
-/// A loop system or a basis is least in total exactly where it is least place by place, and then its lengths are those
-/// of each least one.
+/// A loop system or a basis is least in total exactly where it is least place by place, and then
+/// its lengths are those of each least one.
 pub fn law_of_places()
-    ensures no_longer { (mesh : Mesh) (lengths : List ℕ) (walks others : List (List ℕ)) → NoLongerLaw mesh lengths walks others }
+    ensures no_longer { (mesh : Mesh) (lengths : List ℕ) (walks others : List (List ℕ)) →
+        NoLongerLaw mesh lengths walks others }
     ensures loops { LoopSystemsAreLeastInOrder }
     ensures bases { BasesAreLeastInOrder }
     ensures loops_alike { LeastLoopSystemsAreAlike }
     ensures bases_alike { LeastBasesAreAlike }
 {}
 
-/// What is chosen stands in the order of length, and place by place no independent closed walks are shorter.
+/// What is chosen stands in the order of length, and place by place no independent closed walks are
+/// shorter.
 pub fn law_of_chosen_places()
     ensures loops { ChosenLoopsAreLeastInOrder }
     ensures loops_in_order { ChosenLoopsAreInOrder }
@@ -261,15 +264,16 @@ pub fn law_of_chosen_places()
     ensures basis_in_order { ChosenBasisIsInOrder }
 {}
 
-/// A loop system or a basis is least exactly where each closed walk is, up to a boundary, a sum of members that are no
-/// longer than it.
+/// A loop system or a basis is least exactly where each closed walk is, up to a boundary, a sum of
+/// members that are no longer than it.
 pub fn law_of_short_sums()
     ensures loops { LoopSystemsAreLeastByShortSums }
     ensures bases { BasesAreLeastByShortSums }
 {}
 
-/// The shortest of a least loop system is a shortest of all closed walks at its base that are not null, that of a least
-/// basis one of all such walks anywhere. These are the shortest nonseparating cycles.
+/// The shortest of a least loop system is a shortest of all closed walks at its base that are not
+/// null, that of a least basis one of all such walks anywhere. These are the shortest nonseparating
+/// cycles.
 pub fn law_of_shortest_walks()
     ensures loops { ShortestLoopsAreShortestNotNull }
     ensures bases { ShortestOfBasesAreShortestNotNull }
@@ -288,10 +292,11 @@ pub fn smallest_surface()
     ensures count { IsFullCount pillow 0 }
 {}
 
-/// The edges of four small meshes, faces of an edge, characteristics, the length and the parity of a walk,
-/// and walks by their lengths.
+/// The edges of four small meshes, faces of an edge, characteristics, the length and the parity of
+/// a walk, and walks by their lengths.
 pub fn small_meshes()
-    ensures tetrahedron_edges { edges tetrahedron ≡ (0, 1) ∷ (0, 2) ∷ (0, 3) ∷ (1, 2) ∷ (1, 3) ∷ (2, 3) ∷ [] }
+    ensures tetrahedron_edges { edges tetrahedron ≡ (0, 1) ∷ (0, 2) ∷ (0, 3) ∷ (1, 2) ∷
+        (1, 3) ∷ (2, 3) ∷ [] }
     ensures tetrahedron_faces { faces_of tetrahedron 1 ≡ (0, 2) }
     ensures tetrahedron_characteristic { characteristic tetrahedron ≡ pos 2 }
     ensures pillow_edges { edges pillow ≡ (0, 1) ∷ (0, 2) ∷ (1, 2) ∷ [] }
@@ -301,8 +306,10 @@ pub fn small_meshes()
     ensures torus_faces { faces_with three_torus (0, 1) ≡ 1 ∷ 12 ∷ [] }
     ensures torus_characteristic { characteristic three_torus ≡ pos 0 }
     ensures torus_walk { walk_length three_torus three_torus_lengths (2 ∷ 5 ∷ 3 ∷ 7 ∷ 2 ∷ []) ≡ 81 }
-    ensures torus_order { lengths_in_order three_torus three_torus_lengths ((2 ∷ 5 ∷ 3 ∷ 7 ∷ 2 ∷ []) ∷ (3 ∷ 5 ∷ 3 ∷ []) ∷ (4 ∷ 3 ∷ 4 ∷ []) ∷ []) ≡ 44 ∷ 58 ∷ 81 ∷ [] }
-    ensures torus_count { count_up_to three_torus three_torus_lengths 58 ((2 ∷ 5 ∷ 3 ∷ 7 ∷ 2 ∷ []) ∷ (3 ∷ 5 ∷ 3 ∷ []) ∷ (4 ∷ 3 ∷ 4 ∷ []) ∷ []) ≡ 2 }
+    ensures torus_order { lengths_in_order three_torus three_torus_lengths
+        ((2 ∷ 5 ∷ 3 ∷ 7 ∷ 2 ∷ []) ∷ (3 ∷ 5 ∷ 3 ∷ []) ∷ (4 ∷ 3 ∷ 4 ∷ []) ∷ []) ≡ 44 ∷ 58 ∷ 81 ∷ [] }
+    ensures torus_count { count_up_to three_torus three_torus_lengths 58 ((2 ∷ 5 ∷ 3 ∷ 7 ∷ 2 ∷ []) ∷
+        (3 ∷ 5 ∷ 3 ∷ []) ∷ (4 ∷ 3 ∷ 4 ∷ []) ∷ []) ≡ 2 }
     ensures torus_parity { parity three_torus (0 ∷ 1 ∷ 0 ∷ 1 ∷ []) 0 ≡ true }
     ensures plane_edges { edges six_plane ≡ six_plane_edges }
     ensures plane_faces { faces_with six_plane (4, 5) ≡ 3 ∷ 8 ∷ [] }

@@ -1,10 +1,10 @@
 //! Texts of bytes: their lines, tokens and whole numbers, and a page on which a text is made.
 //!
-//! Lines end at LF or at the end of the text and are numbered from 1. `#` and all after it to the line's end
-//! is a comment. Blanks are space, tab and carriage return, and no others. A token is a longest run of bytes
-//! that are neither blank nor part of a comment. [`Lines`] walks over the lines that have a token and
-//! [`Tokens`] over the tokens of a line; both lend slices of the text and copy nothing. A [`Page`] holds a text
-//! that grows up to a bound.
+//! Lines end at LF or at the end of the text and are numbered from 1. `#` and all after it to the
+//! line's end is a comment. Blanks are space, tab and carriage return, and no others. A token is a
+//! longest run of bytes that are neither blank nor part of a comment. [`Lines`] walks over the
+//! lines that have a token and [`Tokens`] over the tokens of a line; both lend slices of the text
+//! and copy nothing. A [`Page`] holds a text that grows up to a bound.
 #![tactic(auto)]
 
 mod lines;

@@ -6,8 +6,8 @@ ghost use Rattle.surf_text.specs.Walks.{text_line};
 use crate::places::{before_comment, split_line, trim};
 use std::marker::Model;
 
-/// A line that has a token: its number in the text, counted from 1, and the slice of the text from its first
-/// token's first byte to its last token's last byte.
+/// A line that has a token: its number in the text, counted from 1, and the slice of the text from
+/// its first token's first byte to its last token's last byte.
 #[derive(Clone, Copy, Debug)]
 pub struct Line<'a> {
     pub number: u32,
@@ -34,8 +34,8 @@ impl<'a> Model for Lines<'a> {
 }
 
 impl<'a> Lines<'a> {
-    /// A walk over all lines of a text that have a token. The text is shorter than 2^32 − 1 bytes, so that
-    /// line numbers fit.
+    /// A walk over all lines of a text that have a token. The text is shorter than 2^32 − 1 bytes,
+    /// so that line numbers fit.
     pub fn over(text: &'a [u8]) -> Lines<'a>
         requires short { length text.now < 4294967295 }
         ensures lines { result ≡ lines_of text.now }
@@ -48,7 +48,8 @@ impl<'a> Lines<'a> {
 
     /// The next line that has a token. None where no later line has one.
     pub fn next_line(&mut self) -> Option<Line<'a>>
-        ensures next { MatchOption result ((self.old ≡ []) × (self.new ≡ [])) (λ line. self.old ≡ text_line line ∷ self.new) }
+        ensures next { MatchOption result ((self.old ≡ []) × (self.new ≡ [])) (λ line. self.old
+            ≡ text_line line ∷ self.new) }
     {
         while let Some(rest) = self.rest {
             let (line, behind) = split_line(rest);

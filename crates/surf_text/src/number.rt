@@ -2,8 +2,8 @@
 ghost use Rattle.std.specs.Prelude.{◌≡◌};
 ghost use Rattle.surf_text.specs.Text.{whole};
 
-/// The whole number that a token is. None where the token is empty, has a byte that isn't a digit, or stands
-/// for more than 18,446,744,073,709,551,615. Leading zeros are allowed.
+/// The whole number that a token is. None where the token is empty, has a byte that isn't a digit,
+/// or stands for more than 18,446,744,073,709,551,615. Leading zeros are allowed.
 pub fn read_whole(token: &[u8]) -> Option<u64>
     ensures number { result ≡ whole token.now }
 {

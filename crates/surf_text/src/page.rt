@@ -60,11 +60,13 @@ impl Page {
         }
     }
 
-    /// Puts bytes at the end. Refuses with `Full` where the page would hold more than `most`, which is tested
-    /// first; then with `Memory` where there is none. After a refusal the page is unchanged.
+    /// Puts bytes at the end. Refuses with `Full` where the page would hold more than `most`, which
+    /// is tested first; then with `Memory` where there is none. After a refusal the page is
+    /// unchanged.
     pub fn push_bytes(&mut self, bytes: &[u8]) -> Result<(), PageFault>
         ensures puts { Puts self.old self.new bytes.now result }
-        ensures full { self.old.most < length self.old.bytes + length bytes.now → IsErrOf result PageFault.Full }
+        ensures full { self.old.most < length self.old.bytes + length bytes.now →
+            IsErrOf result PageFault.Full }
         ensures unchanged { OnErr result (self.new ≡ self.old) }
     {
         if bytes.len() as u64 > self.most - self.bytes.len() as u64 {
@@ -77,7 +79,8 @@ impl Page {
     /// Puts the decimal text of a number at the end, and refuses as `push_bytes` does.
     pub fn push_whole(&mut self, n: u128) -> Result<(), PageFault>
         ensures puts { Puts self.old self.new (decimal n) result }
-        ensures full { self.old.most < length self.old.bytes + length (decimal n) → IsErrOf result PageFault.Full }
+        ensures full { self.old.most < length self.old.bytes + length (decimal n) →
+            IsErrOf result PageFault.Full }
         ensures unchanged { OnErr result (self.new ≡ self.old) }
     {
         let mut buffer = Buffer::new();
@@ -93,9 +96,9 @@ impl Page {
         }
     }
 
-    /// Puts pieces at the end, one after the other. Refuses with `Full` where the page would hold more than
-    /// `most` with all of them, and with `Memory` where there is none. After a refusal the page holds a front
-    /// of their text behind its bytes.
+    /// Puts pieces at the end, one after the other. Refuses with `Full` where the page would hold
+    /// more than `most` with all of them, and with `Memory` where there is none. After a refusal
+    /// the page holds a front of their text behind its bytes.
     pub fn push_pieces(&mut self, pieces: &[Piece<'_>]) -> Result<(), PageFault>
         ensures puts { Puts self.old self.new (pieces_text pieces.now) result }
     {

@@ -26,7 +26,8 @@ fn comment_sign(bytes: &[u8]) -> Option<usize>
 
 /// A first line and what stands behind its end, if it has one.
 pub(crate) fn split_line(bytes: &[u8]) -> (&[u8], Option<&[u8]>)
-    ensures parts { slice_split is_line_end bytes.now ≡ result.0.now ∷ parts_of is_line_end result.1 }
+    ensures parts { slice_split is_line_end bytes.now
+        ≡ result.0.now ∷ parts_of is_line_end result.1 }
 {
     match line_end(bytes) {
         Some(end) => (&bytes[..end], Some(&bytes[end + 1..])),

@@ -6,8 +6,8 @@ ghost use Rattle.surf_text.specs.Walks.{walk_over, walk_between_blanks, has_some
 use crate::places::{before_comment, split_blank, trim, trim_front};
 use std::marker::Model;
 
-/// A walk over the tokens of a line, seen as the list of those to come and the bytes from the first of them to
-/// the last byte of the last.
+/// A walk over the tokens of a line, seen as the list of those to come and the bytes from the first
+/// of them to the last byte of the last.
 #[derive(Drop)]
 pub struct Tokens<'a> {
     rest: &'a [u8],
@@ -44,7 +44,8 @@ impl<'a> Tokens<'a> {
 
     /// The next token. None where none is left.
     pub fn next_token(&mut self) -> Option<&'a [u8]>
-        ensures next { MatchOption result ((self.old.tokens ≡ []) × (self.new.tokens ≡ [])) (λ token. self.old.tokens ≡ token.now ∷ self.new.tokens) }
+        ensures next { MatchOption result ((self.old.tokens ≡ []) × (self.new.tokens ≡ []))
+            (λ token. self.old.tokens ≡ token.now ∷ self.new.tokens) }
         ensures rest { self.new.rest ≡ behind_word self.old.rest }
     {
         if self.rest.is_empty() {
@@ -55,7 +56,8 @@ impl<'a> Tokens<'a> {
         Some(token)
     }
 
-    /// The slice from the next token's first byte to the last token's last byte; empty where none is left.
+    /// The slice from the next token's first byte to the last token's last byte; empty where none
+    /// is left.
     pub fn rest(&self) -> &'a [u8]
         ensures rest { result.now ≡ self.now.rest }
     {

@@ -17,7 +17,8 @@ fn offer_neighbours<N: Network>(network: &N, distance: &[u64], heap: &mut Heap, 
     requires distances { length distance.now ≡ (N.graph network.now).nodes }
     requires places { length heap.old ≡ (N.graph network.now).nodes }
     requires fits { d + longest < 2 ^ 64 }
-    ensures offered { IsOffered (N.graph network.now) (N.weight network.now) (at distance.now) node d heap.old heap.new }
+    ensures offered { IsOffered (N.graph network.now) (N.weight network.now) (at distance.now)
+        node d heap.old heap.new }
 {
     for e in network.edges_at(node) {
         let (w, length) = network.across(node, *e);
@@ -34,7 +35,8 @@ pub fn settle<N: Network>(network: &N, distance: &mut [u64], heap: &mut Heap, ba
     requires base { base < (N.graph network.now).nodes }
     requires distances { length distance.old ≡ (N.graph network.now).nodes }
     requires places { length heap.old ≡ (N.graph network.now).nodes }
-    ensures settled { IsSettled (N.graph network.now) (N.weight network.now) base (at distance.new) }
+    ensures settled { IsSettled (N.graph network.now) (N.weight network.now) base
+        (at distance.new) }
     ensures places { length heap.new ≡ (N.graph network.now).nodes }
 {
     distance.fill(FAR);
