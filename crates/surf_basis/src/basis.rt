@@ -8,6 +8,7 @@ ghost use Rattle.surf_loops.specs.Loops.{AreLoopTables};
 ghost use Rattle.surf_basis.specs.Cycles.{first_of, IsFirstCandidate, IsShortestCycle, IsTheBasis, as_loops};
 ghost use Rattle.surf_basis.specs.Candidates.{signed_heads, AreKeptOver};
 ghost use Rattle.surf_basis.specs.Signing.{AreSignatures, AreSigned, IsClimbed};
+ghost use Rattle.surf_base.specs.declared.limits.TheConstants.{MAX_LOOPS};
 
 use crate::candidate::{Candidate, Signed};
 use crate::choosing::Choice;
@@ -91,7 +92,7 @@ pub fn least_basis(
     lengths: &Lengths,
 ) -> Result<Vec<Cycle>, NoMemory>
     requires lengths { length lengths.now ≡ edge_count mesh.now }
-    requires few { edge_count mesh.now + 2 ≤ mesh.now.vertices + face_count mesh.now + 1024 }
+    requires few { edge_count mesh.now + 2 ≤ mesh.now.vertices + face_count mesh.now + MAX_LOOPS }
     ensures chosen { IfOk result (λ cycles. IsTheBasis mesh.now lengths.now
         (as_loops cycles.items)) }
     ensures least { IfOk result (λ cycles. LeastSimpleBasis mesh.now lengths.now

@@ -6,6 +6,7 @@ ghost use Rattle.surf_validity.specs.Bases.{IsValidBasis};
 ghost use Rattle.surf_cert.specs.Fits.{BasisFits};
 ghost use Rattle.surf_basis.specs.Certs.{AreTreeRows, IsTheCert};
 ghost use Rattle.surf_basis.specs.Cycles.{as_loops};
+ghost use Rattle.surf_base.specs.declared.limits.TheConstants.{MAX_LOOPS};
 
 use crate::basis::least_basis;
 use crate::cycle::Cycle;
@@ -50,7 +51,7 @@ fn walks_of(alloc: Global, cycles: Vec<Cycle>) -> Result<Vec<Walk>, NoMemory>
 /// order. It is valid for the mesh and the lengths, and its lists fit the lines of a text.
 pub fn basis_cert(alloc: Global, mesh: &HalfMesh, lengths: &Lengths) -> Result<BasisCert, NoMemory>
     requires lengths { length lengths.now ≡ edge_count mesh.now }
-    requires few { edge_count mesh.now + 2 ≤ mesh.now.vertices + face_count mesh.now + 1024 }
+    requires few { edge_count mesh.now + 2 ≤ mesh.now.vertices + face_count mesh.now + MAX_LOOPS }
     ensures chosen { IfOk result (IsTheCert mesh.now lengths.now) }
     ensures valid { IfOk result (IsValidBasis mesh.now lengths.now) }
     ensures fits { IfOk result BasisFits }

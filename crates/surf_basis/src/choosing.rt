@@ -3,6 +3,7 @@ ghost use Rattle.std.specs.Prelude.{◌≡◌, ◌<◌, ◌≤◌, ◌^◌, [], 
 ghost use Rattle.surf_z2.specs.Order.{merge};
 ghost use Rattle.surf_basis.specs.Candidates.{signed_earlier, independent_of};
 ghost use Rattle.surf_basis.specs.Places.{limit_of};
+ghost use Rattle.surf_base.specs.declared.limits.TheConstants.{MAX_LOOPS};
 
 use crate::candidate::{Candidate, Signed};
 use crate::merging::{merge, sift};
@@ -36,7 +37,7 @@ impl Model for Choice {
 impl Choice {
     /// Nothing kept.
     pub fn make(alloc: Global, width: u32) -> Result<Choice, NoMemory>
-        requires { width ≤ 1024 }
+        requires { width ≤ MAX_LOOPS }
         ensures { IfOk result (λ choice. choice ≡ record { width = width; kept = [] }) }
     {
         Ok(Choice {

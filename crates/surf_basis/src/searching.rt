@@ -9,6 +9,7 @@ ghost use Rattle.surf_basis.specs.Signing.{AreSigned};
 ghost use Rattle.surf_basis.specs.Places.{order_of};
 ghost use Rattle.surf_basis.specs.Marks.{HasBases};
 ghost use Rattle.surf_basis.specs.Found.{IsNext, AreKeptFrom, HaveBasesOfBasis, first_from, IsFirstAmong, IsFirstPlace};
+ghost use Rattle.surf_base.specs.declared.limits.TheConstants.{MAX_LOOPS};
 
 use crate::candidate::{Candidate, Signed, comes_before};
 use crate::choosing::Choice;
@@ -106,7 +107,7 @@ pub(crate) fn sufficient_bases(
     requires lengths { length surface.now.lengths.now ≡ edge_count surface.now.mesh.now }
     requires signed { AreSigned surface.now.mesh.now surface.now.signatures.now count }
     requires full { IsFullCount surface.now.mesh.now count }
-    requires few { count ≤ 1024 }
+    requires few { count ≤ MAX_LOOPS }
     ensures increasing { IfOk result (λ list. AreBases surface.now.mesh.now list.items) }
     ensures bases { IfOk result
         (λ list. HaveBasesOfBasis surface.now.mesh.now surface.now.lengths.now list.items) }

@@ -8,6 +8,7 @@ ghost use Rattle.surf_loops.specs.Loops.{AreLoopTables};
 ghost use Rattle.surf_basis.specs.Candidates.{first_head, loop_in};
 ghost use Rattle.surf_basis.specs.Signing.{AreSigned};
 ghost use Rattle.surf_basis.specs.Cycles.{first_of, IsFirstCandidate, IsShortestCycle, AllSeparate};
+ghost use Rattle.surf_base.specs.declared.limits.TheConstants.{MAX_LOOPS};
 
 use crate::candidate::Candidate;
 use crate::cycle::Cycle;
@@ -85,7 +86,7 @@ pub fn least_nonseparating(
     lengths: &Lengths,
 ) -> Result<Option<Cycle>, NoMemory>
     requires lengths { length lengths.now ≡ edge_count mesh.now }
-    requires few { edge_count mesh.now + 2 ≤ mesh.now.vertices + face_count mesh.now + 1024 }
+    requires few { edge_count mesh.now + 2 ≤ mesh.now.vertices + face_count mesh.now + MAX_LOOPS }
     ensures first { IfOk result (λ found. IsFirstCandidate mesh.now lengths.now found) }
     ensures shortest { IfOk result (λ found. IfSome found
         (λ cycle. IsShortestCycle mesh.now lengths.now cycle)) }

@@ -11,6 +11,7 @@ ghost use Rattle.surf_surfaces.specs.Surface.{edge_count, face_count};
 ghost use Rattle.surf_tree.specs.Tables.{tree_of};
 ghost use Rattle.surf_cotree.specs.Tables.{AreCotreeTables};
 ghost use Rattle.surf_basis.specs.Signing.{AreSignatures, AreSigned, IsClimbed};
+ghost use Rattle.surf_base.specs.declared.limits.TheConstants.{MAX_LOOPS};
 
 use std::alloc::Global;
 use surf_base::{EdgeId, NoMemory, VertexId};
@@ -73,7 +74,7 @@ pub(crate) fn signed_desk(
     lengths: &Lengths,
 ) -> Result<LoopDesk, NoMemory>
     requires lengths { length lengths.now ≡ edge_count mesh.now }
-    requires few { edge_count mesh.now + 2 ≤ mesh.now.vertices + face_count mesh.now + 1024 }
+    requires few { edge_count mesh.now + 2 ≤ mesh.now.vertices + face_count mesh.now + MAX_LOOPS }
     ensures signed { IfOk result (λ desk. AreSigned mesh.now desk.cotree
         (length desk.cotree.left)) }
     ensures full { IfOk result (λ desk. IsFullCount mesh.now (length desk.cotree.left)) }

@@ -3,6 +3,7 @@
 ghost use Rattle.std.specs.Prelude.{◌≡◌, ◌<◌, ◌≤◌, ◌*◌, ◌^◌, ◌==◌, bit_xor, length};
 ghost use Rattle.surf_z2.specs.Sieve.{has};
 ghost use Rattle.surf_z2.specs.Words.{number};
+ghost use Rattle.surf_base.specs.declared.limits.TheConstants.{MAX_LOOPS};
 
 use crate::words::{add_words, first_bit, has_bit};
 use std::marker::Model;
@@ -36,7 +37,7 @@ impl<'a> Bits<'a> {
 
     /// Whether `k` is in the set.
     pub fn bit(&self, k: u32) -> bool
-        requires { k < 1024 }
+        requires { k < MAX_LOOPS }
         ensures { result ≡ has self.now k }
     {
         has_bit(self.words, k as usize)

@@ -3,6 +3,7 @@
 ghost use Rattle.std.specs.Prelude.{ℕ, ◌≡◌, ◌<◌, ◌≤◌, ◌*◌, ◌^◌, ◌++◌, ◌∷◌, List, [], All, IfOk, MatchBool, length, vec_len, vec_capacity, ◌+◌, if◌then◌else◌};
 ghost use Rattle.surf_z2.specs.Space.{Independent, Spanned, numbers};
 ghost use Rattle.surf_bits.specs.Rows.{left_of, sieve_rows};
+ghost use Rattle.surf_base.specs.declared.limits.TheConstants.{MAX_LOOPS};
 
 use crate::bits::Bits;
 use crate::signature::Signature;
@@ -65,10 +66,10 @@ fn add_row(words: &mut Vec<u64>, row: &[u64])
 
 /// What the rows leave of a set.
 fn left_of(pivots: &[u32], reduced: &[u64], stride: usize, set: &Bits<'_>) -> Signature
-    requires pivots { All (λ p. p < 1024) pivots.now }
+    requires pivots { All (λ p. p < MAX_LOOPS) pivots.now }
     requires rows { length reduced.now ≡ length pivots.now * stride }
     requires stride { stride ≤ 16 }
-    requires few { length pivots.now ≤ 1024 }
+    requires few { length pivots.now ≤ MAX_LOOPS }
     ensures left { (originals : List ℕ) → result
         ≡ left_of (sieve_rows stride pivots.now reduced.now originals) set.now }
     ensures small { set.now < 2 ^ (64 * stride) → result < 2 ^ (64 * stride) }
@@ -87,7 +88,7 @@ impl Sieve {
     /// A sieve for sets of numbers below `width` that has admitted nothing. No later call takes
     /// memory.
     pub fn make(alloc: Global, width: u32) -> Result<Sieve, NoMemory>
-        requires { width ≤ 1024 }
+        requires { width ≤ MAX_LOOPS }
         ensures { IfOk result (λ s. s ≡ record { width = width; admitted = [] }) }
     {
         let rows = width as usize;

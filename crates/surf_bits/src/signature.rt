@@ -2,6 +2,7 @@
 
 ghost use Rattle.std.specs.Prelude.{◌≡◌, ◌<◌, ◌^◌, bit_xor, length};
 ghost use Rattle.surf_z2.specs.Words.{number};
+ghost use Rattle.surf_base.specs.declared.limits.TheConstants.{MAX_LOOPS};
 
 use crate::bits::Bits;
 use crate::words::{add_words, toggle_bit};
@@ -32,7 +33,7 @@ impl Signature {
 
     /// The set of `k` alone.
     pub fn unit(k: u32) -> Signature
-        requires { k < 1024 }
+        requires { k < MAX_LOOPS }
         ensures { result ≡ 2 ^ k }
     {
         let mut words = [0; 16];

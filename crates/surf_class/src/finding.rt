@@ -13,13 +13,14 @@ ghost use Rattle.surf_classes.specs.EvidenceLaws.{joint_signature};
 ghost use Rattle.surf_class.specs.Desk.{IsSigned, IsSignedOn};
 ghost use Rattle.surf_class.specs.Seen.{seen};
 ghost use Rattle.surf_class.specs.Sides.{is_inside};
+ghost use Rattle.surf_base.specs.declared.limits.TheConstants.{MAX_LOOPS};
 
 use crate::edges::step_edge;
 use crate::evidence::{Evidence, FaceList, PairList};
 use crate::parity::joint_flags;
 use crate::sides::all_sides;
 use std::alloc::Global;
-use surf_base::{EdgeId, FaceId, NoMemory, VertexId};
+use surf_base::{EdgeId, FaceId, MAX_LOOPS, NoMemory, VertexId};
 use surf_bits::Signature;
 use surf_cotree::CotreeDesk;
 use surf_mesh::{HalfMesh, Walk};
@@ -54,10 +55,10 @@ fn joint_sum(mesh: &HalfMesh, cotree: &CotreeDesk, first: &Walk, second: Option<
 
 // The least number below 1,024 of a set.
 fn least_number(set: &Signature) -> Option<u32>
-    ensures least { MatchOption result ((k : ℕ) → k < 1024 → has set.now k ≡ false) (λ n. (n < 1024)
+    ensures least { MatchOption result ((k : ℕ) → k < MAX_LOOPS → has set.now k ≡ false) (λ n. (n < MAX_LOOPS)
         × (has set.now n ≡ true) × ((k : ℕ) → k < n → has set.now k ≡ false)) }
 {
-    for k in 0..1024 {
+    for k in 0..MAX_LOOPS {
         if set.bits().bit(k) {
             return Some(k);
         }
@@ -88,7 +89,7 @@ fn list_signed(
     k: u32,
 ) -> Result<PairList, NoMemory>
     requires table { length cotree.now.signatures ≡ edge_count mesh.now }
-    requires number { k < 1024 }
+    requires number { k < MAX_LOOPS }
     ensures list { IfOk result (λ l. l ≡ map (ends mesh.now) (filter
         (λ e. has (slice_index cotree.now.signatures e) k)
         (range_with_len 0 (edge_count mesh.now)))) }

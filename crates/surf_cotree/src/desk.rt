@@ -9,13 +9,14 @@ ghost use Rattle.surf_surfaces.specs.Signature.{edge_signature};
 ghost use Rattle.surf_cotree.specs.Tables.{CotreeTables, AreCotreeTables, parent_edge_of, width_for, split_with};
 ghost use Rattle.surf_base.specs.Tables.{at};
 ghost use Rattle.surf_cotree.specs.Grown.{MarkTree, IsGrown, IsGrownOn};
+ghost use Rattle.surf_base.specs.declared.limits.TheConstants.{MAX_LOOPS};
 
 use crate::listing::{list_left, mark_edges};
 use crate::peeling::{Leaf, hang, peel};
 use crate::search::{FaceNetwork, NOBODY, span};
 use std::alloc::Global;
 use std::marker::Model;
-use surf_base::{EdgeId, FaceId, NoMemory};
+use surf_base::{EdgeId, FaceId, MAX_LOOPS, NoMemory};
 use surf_bits::Bits;
 use surf_heap::Heap;
 use surf_mesh::HalfMesh;
@@ -69,9 +70,13 @@ fn count_loops(mesh: &HalfMesh) -> usize
 // For how many left edges there is to be room.
 fn width_of(loops: usize) -> u32
     ensures width { result ≡ width_for loops }
-    ensures most { result ≤ 1024 }
+    ensures most { result ≤ MAX_LOOPS }
 {
-    if loops <= 1024 { loops as u32 } else { 0 }
+    if loops <= MAX_LOOPS as usize {
+        loops as u32
+    } else {
+        0
+    }
 }
 
 impl CotreeDesk {
@@ -191,7 +196,7 @@ impl CotreeDesk {
     /// refused.
     pub fn sign(&mut self, mesh: &HalfMesh)
         requires grown { IsGrownOn mesh.now self.old }
-        requires few { length self.old.left ≤ 1024 }
+        requires few { length self.old.left ≤ MAX_LOOPS }
         ensures signed { (tree : Tree) → IsSplit (cells_of mesh.now) (split_with tree self.new) →
             self.new.signatures ≡ map (edge_signature mesh.now (split_with tree self.new))
             (range_with_len 0 (edge_count mesh.now)) }

@@ -7,6 +7,7 @@ ghost use Rattle.surf_surfaces.specs.SideNumber.{side_count};
 ghost use Rattle.surf_tori.specs.Torus.{torus_faces};
 ghost use Rattle.surf_tori.specs.ConnectedSum.{sum_name};
 ghost use Rattle.surf_tori.specs.Chain.{joint, chain};
+ghost use Rattle.surf_base.specs.declared.limits.TheConstants.{MAX_FACES, MAX_VERTICES};
 
 use crate::grid::Grid;
 use std::alloc::Global;
@@ -24,7 +25,7 @@ fn push_faces(
 ) -> Result<(), NoMemory>
     requires rows { 3 ≤ grid.rows }
     requires columns { 3 ≤ grid.columns }
-    requires few { grid.rows * grid.columns ≤ 1000000 }
+    requires few { grid.rows * grid.columns ≤ MAX_VERTICES }
     requires ordered { from ≤ to }
     requires faces { to ≤ 2 * (grid.rows * grid.columns) }
     requires numbers { length numbers.now ≡ grid.rows * grid.columns }
@@ -56,7 +57,7 @@ fn push_but_joint(
 ) -> Result<(), NoMemory>
     requires rows { 4 ≤ grid.rows }
     requires columns { 4 ≤ grid.columns }
-    requires few { grid.rows * grid.columns ≤ 1000000 }
+    requires few { grid.rows * grid.columns ≤ MAX_VERTICES }
     requires from { from ≤ 1 }
     requires numbers { length numbers.now ≡ grid.rows * grid.columns }
     requires inside { All (λ v. v < soup.old.vertices) numbers.now }
@@ -131,8 +132,8 @@ pub fn chain(alloc: Global, g: u32, a: u32, b: u32) -> Result<Soup, NoMemory>
     requires tori { 1 ≤ g }
     requires rows { 4 ≤ a }
     requires columns { 4 ≤ b }
-    requires few_vertices { g * (a * b) - 3 * (g - 1) ≤ 1000000 }
-    requires few_faces { 2 * (g * (a * b)) - 2 * (g - 1) ≤ 2000000 }
+    requires few_vertices { g * (a * b) - 3 * (g - 1) ≤ MAX_VERTICES }
+    requires few_faces { 2 * (g * (a * b)) - 2 * (g - 1) ≤ MAX_FACES }
     ensures mesh { IfOk result (λ soup. soup ≡ chain g a b) }
     ensures surface { IsSurface (chain g a b) }
     ensures characteristic { characteristic (chain g a b) ≡ pos 2 -ℤ pos (2 * g) }

@@ -3,6 +3,7 @@ ghost use Rattle.std.specs.Prelude.{◌≡◌, ◌<◌, ◌≤◌, ◌*◌, ◌/
 ghost use Rattle.surf_surfaces.specs.Mesh.{IsFace};
 ghost use Rattle.surf_surfaces.specs.Surface.{face_at};
 ghost use Rattle.surf_tori.specs.Torus.{grid_vertex, first_face, second_face, torus};
+ghost use Rattle.surf_base.specs.declared.limits.TheConstants.{MAX_VERTICES};
 
 use surf_base::VertexId;
 
@@ -18,7 +19,7 @@ impl Grid {
     fn vertex(self, row: u32, column: u32) -> VertexId
         requires rows { 3 ≤ self.rows }
         requires columns { 3 ≤ self.columns }
-        requires few { self.rows * self.columns ≤ 1000000 }
+        requires few { self.rows * self.columns ≤ MAX_VERTICES }
         ensures vertex { result ≡ grid_vertex self.rows self.columns row column }
     {
         VertexId::new(row % self.rows * self.columns + column % self.columns)
@@ -28,7 +29,7 @@ impl Grid {
     pub fn first_face(self, cell: u32) -> [VertexId; 3]
         requires rows { 3 ≤ self.rows }
         requires columns { 3 ≤ self.columns }
-        requires few { self.rows * self.columns ≤ 1000000 }
+        requires few { self.rows * self.columns ≤ MAX_VERTICES }
         requires cell { cell < self.rows * self.columns }
         ensures corners { result ≡ first_face self.rows self.columns (cell / self.columns)
             (cell % self.columns) }
@@ -48,7 +49,7 @@ impl Grid {
     pub fn second_face(self, cell: u32) -> [VertexId; 3]
         requires rows { 3 ≤ self.rows }
         requires columns { 3 ≤ self.columns }
-        requires few { self.rows * self.columns ≤ 1000000 }
+        requires few { self.rows * self.columns ≤ MAX_VERTICES }
         requires cell { cell < self.rows * self.columns }
         ensures corners { result ≡ second_face self.rows self.columns (cell / self.columns)
             (cell % self.columns) }
@@ -68,7 +69,7 @@ impl Grid {
     pub fn face(self, f: u32) -> [VertexId; 3]
         requires rows { 3 ≤ self.rows }
         requires columns { 3 ≤ self.columns }
-        requires few { self.rows * self.columns ≤ 1000000 }
+        requires few { self.rows * self.columns ≤ MAX_VERTICES }
         requires face { f < 2 * (self.rows * self.columns) }
         ensures corners { result ≡ face_at (torus self.rows self.columns) f }
         ensures face { IsFace (self.rows * self.columns) result }

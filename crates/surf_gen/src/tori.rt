@@ -4,6 +4,7 @@ ghost use Rattle.surf_surfaces.specs.Mesh.{characteristic};
 ghost use Rattle.surf_surfaces.specs.Surface.{IsSurface};
 ghost use Rattle.surf_surfaces.specs.SideNumber.{side_count};
 ghost use Rattle.surf_tori.specs.Torus.{cell_faces, torus};
+ghost use Rattle.surf_base.specs.declared.limits.TheConstants.{MAX_FACES, MAX_VERTICES};
 
 use crate::grid::Grid;
 use std::alloc::Global;
@@ -14,7 +15,7 @@ use surf_mesh::Soup;
 fn push_cell(soup: &mut Soup, grid: Grid, cell: u32) -> Result<(), NoMemory>
     requires rows { 3 ≤ grid.rows }
     requires columns { 3 ≤ grid.columns }
-    requires few_vertices { grid.rows * grid.columns ≤ 1000000 }
+    requires few_vertices { grid.rows * grid.columns ≤ MAX_VERTICES }
     requires cell { cell < grid.rows * grid.columns }
     requires vertices { soup.old.vertices ≡ grid.rows * grid.columns }
     requires few_sides { side_count soup.old + 6 < 2 ^ 30 }
@@ -35,8 +36,8 @@ fn push_cell(soup: &mut Soup, grid: Grid, cell: u32) -> Result<(), NoMemory>
 pub fn torus(alloc: Global, a: u32, b: u32) -> Result<Soup, NoMemory>
     requires rows { 3 ≤ a }
     requires columns { 3 ≤ b }
-    requires few_vertices { a * b ≤ 1000000 }
-    requires few_faces { 2 * (a * b) ≤ 2000000 }
+    requires few_vertices { a * b ≤ MAX_VERTICES }
+    requires few_faces { 2 * (a * b) ≤ MAX_FACES }
     ensures mesh { IfOk result (λ soup. soup ≡ torus a b) }
     ensures surface { IsSurface (torus a b) }
     ensures characteristic { characteristic (torus a b) ≡ pos 0 }

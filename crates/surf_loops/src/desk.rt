@@ -13,6 +13,7 @@ ghost use Rattle.surf_tree.specs.Grown.{IsGrown as IsTreeGrown};
 ghost use Rattle.surf_cotree.specs.Tables.{split_with, AreCotreeTables};
 ghost use Rattle.surf_cotree.specs.Grown.{IsGrownOn};
 ghost use Rattle.surf_loops.specs.Loops.{LoopTables, AreLoopTables, IsRooted, IsGreedy};
+ghost use Rattle.surf_base.specs.declared.limits.TheConstants.{MAX_LOOPS};
 
 use crate::head::LoopHead;
 use crate::heads::{list_heads, set_weights};
@@ -110,7 +111,7 @@ impl LoopDesk {
     /// refused.
     pub fn sign(&mut self, mesh: &HalfMesh)
         requires grown { IsGrownOn mesh.now self.old.cotree }
-        requires few { length self.old.cotree.left ≤ 1024 }
+        requires few { length self.old.cotree.left ≤ MAX_LOOPS }
         ensures signed { (tree : Tree) → IsSplit (cells_of mesh.now)
             (split_with tree self.new.cotree) →
             self.new.cotree.signatures ≡ map (edge_signature mesh.now

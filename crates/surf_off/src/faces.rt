@@ -8,6 +8,7 @@ ghost use Rattle.surf_text.specs.Walks.{text_line};
 ghost use Rattle.surf_off.specs.Off.{size_of, corner_read, corners_at, first_repeat, face_of, faces_at};
 ghost use Rattle.surf_off.specs.Gives.{Gives};
 ghost use Rattle.surf_off.specs.Seen.{lent};
+ghost use Rattle.surf_base.specs.declared.limits.TheConstants.{MAX_FACES, MAX_SIDES};
 
 use crate::fault::OffFault;
 use std::alloc::Global;
@@ -95,13 +96,13 @@ fn read_face<'a>(
     stamp: u32,
     corners: &mut Vec<VertexId>,
 ) -> Result<&'a [u8], OffFault>
-    requires few { sides ≤ 6000000 }
+    requires few { sides ≤ MAX_SIDES }
     requires room { length marks.old ≡ vertices }
     requires earlier { (k : ℕ) → k < length marks.old → slice_index marks.old k < stamp }
     ensures face { Gives (λ colour. record { corners = corners.new.items; colour = colour.now })
         result (face_of true vertices sides (text_line line.now)) }
     ensures corners { OnOk result (IsFace vertices corners.new.items) }
-    ensures few { OnOk result (sides + length corners.new.items ≤ 6000000) }
+    ensures few { OnOk result (sides + length corners.new.items ≤ MAX_SIDES) }
     ensures marks { (k : ℕ) → k < length marks.new → slice_index marks.new k ≤ stamp }
 {
     let mut tokens = Tokens::over(line.bytes);
@@ -130,7 +131,7 @@ pub(crate) fn read_faces<'a>(
     faces: u32,
     colours: &mut Vec<&'a [u8]>,
 ) -> Result<Soup, OffFault>
-    requires few { faces ≤ 2000000 }
+    requires few { faces ≤ MAX_FACES }
     requires none { colours.old.items ≡ [] }
     ensures faces { Gives (λ soup. record {
       faces = soup.faces;
@@ -140,7 +141,7 @@ pub(crate) fn read_faces<'a>(
     ensures vertices { IfOk result (λ soup. soup.vertices ≡ vertices) }
     ensures count { IfOk result (λ soup. length soup.faces ≡ faces) }
     ensures colours { OnOk result (length colours.new.items ≡ faces) }
-    ensures sides { IfOk result (λ soup. side_count soup ≤ 6000000) }
+    ensures sides { IfOk result (λ soup. side_count soup ≤ MAX_SIDES) }
 {
     let mut soup = Soup::start(alloc, vertices);
     let mut corners = Vec::new(alloc);

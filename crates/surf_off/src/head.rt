@@ -3,6 +3,7 @@ ghost use Rattle.std.specs.Prelude.{◌≡◌, ◌≤◌, true, IfOk};
 ghost use Rattle.surf_off.specs.Off.{head_of, counts_of};
 ghost use Rattle.surf_off.specs.Gives.{Gives};
 ghost use Rattle.surf_off.specs.Seen.{head_seen};
+ghost use Rattle.surf_base.specs.declared.limits.TheConstants.{MAX_FACES, MAX_VERTICES};
 
 use crate::fault::OffFault;
 use crate::header::{Header, read_header};
@@ -52,7 +53,7 @@ pub(crate) fn read_head<'a>(lines: &mut Lines<'a>) -> Result<Head<'a>, OffFault>
 #[tactic(auto, unfolding(crate::specs::Off::counts_of))]
 pub(crate) fn read_counts(line: u32, tokens: &mut Tokens) -> Result<(u32, u32), OffFault>
     ensures counts { Gives (λ x. x) result (counts_of true line tokens.old.tokens) }
-    ensures limits { IfOk result (λ x. (x.0 ≤ 1000000) × (x.1 ≤ 2000000)) }
+    ensures limits { IfOk result (λ x. (x.0 ≤ MAX_VERTICES) × (x.1 ≤ MAX_FACES)) }
 {
     let (Some(v), Some(f)) = (tokens.next_token(), tokens.next_token()) else {
         return Err(OffFault::Counts { line });

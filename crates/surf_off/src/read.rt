@@ -3,6 +3,7 @@ ghost use Rattle.std.specs.Prelude.{◌≡◌, ◌<◌, ◌≤◌, length, IfOk}
 ghost use Rattle.surf_surfaces.specs.SideNumber.{side_count};
 ghost use Rattle.surf_off.specs.Off.{off_of};
 ghost use Rattle.surf_off.specs.Gives.{Gives};
+ghost use Rattle.surf_base.specs.declared.limits.TheConstants.{MAX_FACES, MAX_SIDES, MAX_VERTICES};
 
 use crate::faces::read_faces;
 use crate::fault::OffFault;
@@ -25,9 +26,9 @@ pub fn read_off<'a>(alloc: Global, text: &'a [u8]) -> Result<(OffText<'a>, Soup)
     ensures off { Gives (λ x. x) result (off_of text.now) }
     ensures lines { IfOk result (λ x. length x.0.vertex_lines ≡ x.1.vertices) }
     ensures colours { IfOk result (λ x. length x.0.colours ≡ length x.1.faces) }
-    ensures vertices { IfOk result (λ x. x.1.vertices ≤ 1000000) }
-    ensures faces { IfOk result (λ x. length x.1.faces ≤ 2000000) }
-    ensures sides { IfOk result (λ x. side_count x.1 ≤ 6000000) }
+    ensures vertices { IfOk result (λ x. x.1.vertices ≤ MAX_VERTICES) }
+    ensures faces { IfOk result (λ x. length x.1.faces ≤ MAX_FACES) }
+    ensures sides { IfOk result (λ x. side_count x.1 ≤ MAX_SIDES) }
 {
     let mut lines = Lines::over(text);
     let mut head = read_head(&mut lines)?;

@@ -1,9 +1,10 @@
 //! Rows of words.
 ghost use Rattle.std.specs.Prelude.{◌≡◌, ◌≤◌, ◌+◌, ◌/◌, ◌<◌, ◌^◌, ℕ, length, take, drop, slice_index};
+ghost use Rattle.surf_base.specs.declared.limits.TheConstants.{MAX_LOOPS};
 
 /// How many words a set has.
 pub(crate) fn words_of(width: u32) -> usize
-    requires width { width ≤ 1024 }
+    requires width { width ≤ MAX_LOOPS }
     ensures words { result ≡ (width + 63) / 64 }
 {
     (width as usize + 63) / 64

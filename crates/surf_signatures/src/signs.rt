@@ -7,6 +7,7 @@ ghost use Rattle.surf_surfaces.specs.Cells.{cells_of};
 ghost use Rattle.surf_surfaces.specs.Signature.{edge_signature};
 ghost use Rattle.surf_surfaces.specs.Surface.{edge_count, face_count};
 ghost use Rattle.surf_signatures.specs.Tables.{added_where, row_of, sets_in, words_for, face_tree, HangsBy};
+ghost use Rattle.surf_base.specs.declared.limits.TheConstants.{MAX_LOOPS};
 
 use crate::rows::{words_at, words_of};
 use crate::signing::{FaceTree, write_signs};
@@ -41,7 +42,7 @@ impl Model for Signs {
 
 // Adds a set to the row of an edge where that has a number.
 fn add_at(table: &mut [u64], words: usize, edge: usize, k: u32, other: &Bits<'_>)
-    requires number { k < 1024 }
+    requires number { k < MAX_LOOPS }
     requires few { words ≤ 16 }
     requires fits { other.now < 2 ^ (64 * words) }
     requires room { edge * words + words ≤ length table.old }
@@ -58,7 +59,7 @@ fn add_at(table: &mut [u64], words: usize, edge: usize, k: u32, other: &Bits<'_>
 
 // Adds a set to each row that has a number.
 fn add_to_rows(table: &mut [u64], words: usize, edges: usize, k: u32, other: &Bits<'_>)
-    requires number { k < 1024 }
+    requires number { k < MAX_LOOPS }
     requires few { words ≤ 16 }
     requires fits { other.now < 2 ^ (64 * words) }
     requires room { length table.old ≡ edges * words }
@@ -75,7 +76,7 @@ impl Signs {
     /// A table for so many edges and sets of numbers below a width, which are all empty. No later
     /// call takes memory.
     pub fn make(alloc: Global, edges: u32, width: u32) -> Result<Signs, NoMemory>
-        requires width { width ≤ 1024 }
+        requires width { width ≤ MAX_LOOPS }
         ensures made { IfOk result (λ s. s ≡ record { width = width; sets = replicate edges 0 }) }
     {
         let table = vec![in alloc; 0u64; edges as usize * words_of(width)]?;

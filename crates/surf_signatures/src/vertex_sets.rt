@@ -1,6 +1,7 @@
 //! A table of sets by vertex.
 ghost use Rattle.std.specs.Prelude.{◌≡◌, ◌<◌, ◌≤◌, ◌+◌, ◌*◌, ◌^◌, ◌==◌, ℕ, if◌then◌else◌, length, replicate, set, slice_index, IfOk};
 ghost use Rattle.surf_signatures.specs.Tables.{row_of, words_for};
+ghost use Rattle.surf_base.specs.declared.limits.TheConstants.{MAX_LOOPS};
 
 use crate::rows::{words_at, words_of};
 use std::alloc::Global;
@@ -49,7 +50,7 @@ impl VertexSets {
     /// A table for so many vertices and sets of numbers below a width, which are all empty. No
     /// later call takes memory.
     pub fn make(alloc: Global, vertices: u32, width: u32) -> Result<VertexSets, NoMemory>
-        requires width { width ≤ 1024 }
+        requires width { width ≤ MAX_LOOPS }
         ensures made { IfOk result (λ s. s ≡ record {
           width = width;
           sets = replicate vertices 0;
