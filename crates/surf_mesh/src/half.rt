@@ -174,7 +174,7 @@ impl HalfMesh {
         ensures edges { edge_count self.now < 2 ^ 30 }
     {
         // (what a type keeps is known where one of its fields is used)
-        let _ = &self.faces;
+        let _vertices = self.vertices;
     }
 
     /// How many vertices there are.

@@ -5,7 +5,7 @@ use Rattle.surf_surfaces.specs.Side.{before}
 use Rattle.surf_mesh.specs.Reach.{marked}
 use Rattle.surf_surfaces.specs.SideNumber.{owners}
 use Rattle.surf_mesh.specs.Vertices.{sides_at}
-use Rattle.surf_mesh.specs.Ring.{AreDarts, IsRound, IsTrail, IsWholeRing, IsPinch}
+use Rattle.surf_mesh.specs.Ring.{IsWholeRing, IsPinch}
 use Rattle.surf_mesh.proofs.RingLaws.{turned_size, at_begins, are_darts, begin_in, begin_fresh, whole_ring, ring_pinch, ring_others}
 use Rattle.surf_mesh.proofs.rings.ring_at.Goals as goal
 
@@ -17,76 +17,71 @@ each_case : (o : Option ℕ) (P Q : Type 0) (R S : ℕ → Type 0) → (P → Q)
 each_case None P Q R S f g h = f h
 each_case (Some x) P Q R S f g h = g x h
 
-pub offset_bounds-prev-index : goal.offset_bounds-prev-index
-offset_bounds-prev-index c =
-    let mesh = c.args.soup.now in
+pub offset_bounds-darts-index : goal.offset_bounds-darts-index
+offset_bounds-darts-index c =
+    let mesh = c.args.darts.now.soup.now in
     let some : 0 < length (sides_at mesh c.args.v) = omega (arith, c.requires.some, ap length c.requires.row) in
     let b = at_begins mesh c.args.v 0 some in
     let e = first_read c.args.row.now (sides_at mesh c.args.v) c.index-row-0.result c.index.result c.index.ensures c.index-row-0.is c.requires.some c.requires.row in
     let few = c.law_of_soup.ensures.few in
     omega (arith, b.0, e, few)
 
-pub bounds-prev-index : goal.bounds-prev-index
-bounds-prev-index c =
-    let mesh = c.args.soup.now in
+pub bounds-darts-index : goal.bounds-darts-index
+bounds-darts-index c =
+    let mesh = c.args.darts.now.soup.now in
     let some : 0 < length (sides_at mesh c.args.v) = omega (arith, c.requires.some, ap length c.requires.row) in
     let b = at_begins mesh c.args.v 0 some in
     let e = first_read c.args.row.now (sides_at mesh c.args.v) c.index-row-0.result c.index.result c.index.ensures c.index-row-0.is c.requires.some c.requires.row in
-    omega (arith, b.0, e, turned_size before mesh c.args.prev.now c.requires.prev)
+    omega (arith, b.0, e, turned_size before mesh c.args.darts.now.prev.now c.requires.prev)
 
 pub go_round-requires-clause-darts : goal.go_round-requires-clause-darts
 go_round-requires-clause-darts c =
-    let D : List ℕ → Type 0 = AreDarts c.args.next.now c.args.prev.now c.args.mate.now in
-    subst D (sym c.corners.ensures) (are_darts c.args.soup.now c.law_of_soup.ensures.mesh c.requires.two c.args.mate.now c.requires.mates c.args.next.now c.args.prev.now c.requires.next c.requires.prev)
+    are_darts c.args.darts.now.soup.now c.law_of_soup.ensures.mesh c.requires.two c.args.darts.now.mate.now c.requires.mates c.args.darts.now.next.now c.args.darts.now.prev.now c.requires.next c.requires.prev
 
 pub go_round-requires-clause-start : goal.go_round-requires-clause-start
 go_round-requires-clause-start c =
-    let mesh = c.args.soup.now in
+    let mesh = c.args.darts.now.soup.now in
     let some : 0 < length (sides_at mesh c.args.v) = omega (arith, c.requires.some, ap length c.requires.row) in
     let e = first_read c.args.row.now (sides_at mesh c.args.v) c.index-row-0.result c.index.result c.index.ensures c.index-row-0.is c.requires.some c.requires.row in
-    begin_in mesh c.law_of_soup.ensures.mesh c.requires.two c.args.mate.now c.requires.mates c.args.next.now c.args.prev.now c.requires.next c.requires.prev c.args.v some (get_or c.args.prev.now c.index.result 0) (ap (λ t. get_or c.args.prev.now t 0) e)
+    begin_in mesh c.law_of_soup.ensures.mesh c.requires.two c.args.darts.now.mate.now c.requires.mates c.args.darts.now.next.now c.args.darts.now.prev.now c.requires.next c.requires.prev c.args.v some (get_or c.args.darts.now.prev.now c.index.result 0) (ap (λ t. get_or c.args.darts.now.prev.now t 0) e)
 
 pub go_round-requires-clause-fresh : goal.go_round-requires-clause-fresh
 go_round-requires-clause-fresh c =
-    let mesh = c.args.soup.now in
+    let mesh = c.args.darts.now.soup.now in
     let some : 0 < length (sides_at mesh c.args.v) = omega (arith, c.requires.some, ap length c.requires.row) in
     let e = first_read c.args.row.now (sides_at mesh c.args.v) c.index-row-0.result c.index.result c.index.ensures c.index-row-0.is c.requires.some c.requires.row in
-    let from = get_or c.args.prev.now c.index.result 0 in
-    let T : List ℕ → Type 0 = λ tails. (s : ℕ) → s < length c.args.next.now → get_or tails s 0 ≡ get_or tails (get_or c.args.next.now from 0) 0 → marked c.args.seen.now s ≡ false in
-    subst T (sym c.corners.ensures) (begin_fresh mesh c.law_of_soup.ensures.mesh c.requires.two c.args.mate.now c.requires.mates c.args.next.now c.args.prev.now c.requires.next c.requires.prev c.args.v some from (ap (λ t. get_or c.args.prev.now t 0) e) c.args.seen.now c.requires.fresh)
+    let from = get_or c.args.darts.now.prev.now c.index.result 0 in
+    begin_fresh mesh c.law_of_soup.ensures.mesh c.requires.two c.args.darts.now.mate.now c.requires.mates c.args.darts.now.next.now c.args.darts.now.prev.now c.requires.next c.requires.prev c.args.v some from (ap (λ t. get_or c.args.darts.now.prev.now t 0) e) c.args.seen.now c.requires.fresh
 
 pub first_left-left-requires : goal.first_left-left-requires
 first_left-left-requires c = λ k lt.
-    let mesh = c.args.soup.now in
+    let mesh = c.args.darts.now.soup.now in
     let e = ap length c.requires.row in
     let b = at_begins mesh c.args.v k (omega arith) in
     omega (arith, b.0, ap (λ (xs : List ℕ). get_or xs k 0) c.requires.row, c.go_round.auto.seen, c.requires.size)
 
 pub returns-clause-others : goal.returns-clause-others
 returns-clause-others c =
-    let mesh = c.args.soup.now in
+    let mesh = c.args.darts.now.soup.now in
     let some : 0 < length (sides_at mesh c.args.v) = omega (arith, c.requires.some, ap length c.requires.row) in
     let e = first_read c.args.row.now (sides_at mesh c.args.v) c.index-row-0.result c.index.result c.index.ensures c.index-row-0.is c.requires.some c.requires.row in
-    let from = get_or c.args.prev.now c.index.result 0 in
-    let R : List ℕ → Type 0 = λ tails. IsRound c.args.next.now c.args.prev.now c.args.mate.now tails (from, true) c.args.seen.now c.go_round.new.seen c.go_round.new.ring.items in
-    ring_others mesh c.law_of_soup.ensures.mesh c.requires.two c.args.mate.now c.requires.mates c.args.next.now c.args.prev.now c.requires.next c.requires.prev c.args.v some from (ap (λ t. get_or c.args.prev.now t 0) e) c.args.seen.now c.go_round.new.seen c.go_round.new.ring.items c.requires.fresh (subst R c.corners.ensures c.in_ok-go_round.ensures.round)
+    let from = get_or c.args.darts.now.prev.now c.index.result 0 in
+    ring_others mesh c.law_of_soup.ensures.mesh c.requires.two c.args.darts.now.mate.now c.requires.mates c.args.darts.now.next.now c.args.darts.now.prev.now c.requires.next c.requires.prev c.args.v some from (ap (λ t. get_or c.args.darts.now.prev.now t 0) e) c.args.seen.now c.go_round.new.seen c.go_round.new.ring.items c.requires.fresh c.in_ok-go_round.ensures.round
 
 pub returns-clause-found : goal.returns-clause-found
 returns-clause-found c =
-    let mesh = c.args.soup.now in
+    let mesh = c.args.darts.now.soup.now in
     let v = c.args.v in
     let at = sides_at mesh v in
     let some : 0 < length at = omega (arith, c.requires.some, ap length c.requires.row) in
     let e = first_read c.args.row.now at c.index-row-0.result c.index.result c.index.ensures c.index-row-0.is c.requires.some c.requires.row in
-    let from = get_or c.args.prev.now c.index.result 0 in
+    let from = get_or c.args.darts.now.prev.now c.index.result 0 in
     let seen = c.go_round.new.seen in
     let ring = c.go_round.new.ring.items in
     let o = c.first_left-left.result in
-    let R : List ℕ → Type 0 = λ tails. IsRound c.args.next.now c.args.prev.now c.args.mate.now tails (from, true) c.args.seen.now seen ring in
-    let round = subst R c.corners.ensures c.in_ok-go_round.ensures.round in
+    let round = c.in_ok-go_round.ensures.round in
     let edges = c.go_round.new.edges.items in
-    let Tr : List ℕ → Type 0 = λ tails. IsTrail c.args.next.now c.args.prev.now c.args.mate.now tails c.args.edge_of.now (from, true) (length ring) edges in
-    let trail = subst Tr c.corners.ensures c.in_ok-go_round.ensures.trail in
+    let trail = c.in_ok-go_round.ensures.trail in
     let All : List ℕ → Type 0 = λ sides. (k : ℕ) → k < length sides → marked seen (get_or sides k 0) ≡ true in
     let Left : List ℕ → ℕ → Type 0 = λ sides f. (f < length sides) × (marked seen (get_or sides f 0) ≡ false) × ((j : ℕ) → j < f → marked seen (get_or sides j 0) ≡ true) in
     let Pinch : List ℕ → ℕ → Type 0 = λ sides k. (k < length sides) × IsPinch mesh v (get_or (owners 0 mesh.faces) (get_or sides 0 0) 0) (get_or (owners 0 mesh.faces) (get_or sides k 0) 0) in
@@ -94,6 +89,6 @@ returns-clause-found c =
     let T : List ℕ → Type 0 = λ sides. MatchOption o (All sides) (Left sides) in
     let G : List ℕ → Type 0 = λ sides. MatchOption o Whole (Pinch sides) in
     subst G (sym c.requires.row) (each_case o (All at) Whole (Left at) (Pinch at)
-    (whole_ring mesh c.law_of_soup.ensures.mesh c.requires.two c.args.mate.now c.requires.mates c.args.next.now c.args.prev.now c.requires.next c.requires.prev v some from (ap (λ t. get_or c.args.prev.now t 0) e) c.args.seen.now seen ring c.requires.fresh round c.args.edge_of.now edges c.requires.edges trail)
-    (λ k h. (h.0, ring_pinch mesh c.law_of_soup.ensures.mesh c.requires.two c.args.mate.now c.requires.mates c.args.next.now c.args.prev.now c.requires.next c.requires.prev v some from (ap (λ t. get_or c.args.prev.now t 0) e) c.args.seen.now seen ring c.requires.fresh round k h.0 h.1 h.2))
+    (whole_ring mesh c.law_of_soup.ensures.mesh c.requires.two c.args.darts.now.mate.now c.requires.mates c.args.darts.now.next.now c.args.darts.now.prev.now c.requires.next c.requires.prev v some from (ap (λ t. get_or c.args.darts.now.prev.now t 0) e) c.args.seen.now seen ring c.requires.fresh round c.args.darts.now.edge_of.now edges c.requires.edges trail)
+    (λ k h. (h.0, ring_pinch mesh c.law_of_soup.ensures.mesh c.requires.two c.args.darts.now.mate.now c.requires.mates c.args.darts.now.next.now c.args.darts.now.prev.now c.requires.next c.requires.prev v some from (ap (λ t. get_or c.args.darts.now.prev.now t 0) e) c.args.seen.now seen ring c.requires.fresh round k h.0 h.1 h.2))
     (subst T c.requires.row c.first_left-left.ensures))

@@ -1,10 +1,20 @@
-use Rattle.std.proofs.Common.{arith}
+use Rattle.std.proofs.Common.{ap, arith}
+use Rattle.surf_surfaces.specs.Surface.{face_count, edge_count}
 use Rattle.surf_mesh.proofs.SideTables.{three_each}
 use Rattle.surf_mesh.proofs.HalfLaws.{edges_few}
 use Rattle.surf_mesh.proofs.half.HalfMesh.law_of_surface.Goals as goal
 
 pub returns-clause-faces : goal.returns-clause-faces
-returns-clause-faces c = let h = c.self.invariant in omega (arith, three_each c.self.inside.vertices c.self.inside.faces h.surface.is_mesh, h.few)
+returns-clause-faces c =
+    let kept = c.self.invariant in
+    omega (
+      arith,
+      three_each c.self.inside.vertices c.self.inside.faces kept.surface.is_mesh,
+      kept.few,
+      ap face_count c.self.view_is,
+    )
 
 pub returns-clause-edges : goal.returns-clause-edges
-returns-clause-edges c = let h = c.self.invariant in omega (arith, edges_few _ h.surface, h.few)
+returns-clause-edges c =
+    let kept = c.self.invariant in
+    omega (arith, edges_few _ kept.surface, kept.few, ap edge_count c.self.view_is)
