@@ -10,7 +10,7 @@ count_single-requires c =
         arith,
         table_len mesh c.law_of_soup.ensures.mesh _ _ _ _ _ c.in_ok-table.ensures,
         edges_within mesh,
-          c.law_of_soup.ensures.few,
+        c.law_of_soup.ensures.few,
       );
     }
 
