@@ -9,6 +9,7 @@ ghost use Rattle.surf_disc.specs.Border.{with_end, border_ends, AreNeighbours, I
 ghost use Rattle.surf_disc.specs.Fault.{IsPatch, IsDiscFault};
 ghost use Rattle.surf_disc.specs.Links.{AreCornerTables};
 
+use crate::corners::CornerTables;
 use crate::{BorderKind, DiscFault};
 use std::alloc::Global;
 use surf_base::{NoMemory, SideId, VertexId};
@@ -71,7 +72,7 @@ fn border_rows(
 {
     soup.law_of_soup();
     let tails = soup.corners();
-    let mut rows = Rows::new(alloc);
+    let mut rows = Rows::with_room(alloc, at_vertex.len(), 0)?;
     let mut row = Vec::new(alloc);
     for v in 0..soup.vertices() {
         list_ends(
@@ -103,22 +104,28 @@ pub(crate) fn mark_border(
     alloc: Global,
     soup: &Soup,
     table: &EdgeTable,
-    next: &[u32],
-    prev: &[u32],
-    across: &[SideId],
-    at_vertex: &Rows<SideId>,
+    corners: &CornerTables<'_>,
     least: usize,
 ) -> Result<Vec<bool>, NoMemory>
     requires table { IsEdgeTable soup.now table.now.edges.items table.now.sides
         table.now.edge_of.items table.now.face_of.items table.now.numbers.items }
-    requires tables { AreCornerTables soup.now next.now prev.now across.now }
-    requires rows { at_vertex.now ≡ map (sides_at soup.now) (range_with_len 0 soup.now.vertices) }
+    requires tables { AreCornerTables soup.now
+        corners.now.next.now corners.now.prev.now corners.now.across.now }
+    requires rows { corners.now.at_vertex.now
+        ≡ map (sides_at soup.now) (range_with_len 0 soup.now.vertices) }
     requires least { IsLeastOnBorder soup.now least }
     ensures marks { IfOk result (λ seen. IsBorderMarked soup.now least seen.items) }
 {
     soup.law_of_soup();
     let (low, _) = table.edges[least];
-    let rows = border_rows(alloc, soup, next, prev, across, at_vertex)?;
+    let rows = border_rows(
+        alloc,
+        soup,
+        corners.next,
+        corners.prev,
+        corners.across,
+        corners.at_vertex,
+    )?;
     let seen = reach(alloc, &rows, low.number())?;
     Ok(seen)
 }

@@ -14,6 +14,7 @@ ghost use Rattle.surf_disc.specs.declared.faults.DiscFault.TheVariants.{Memory};
 use crate::across::all_across;
 use crate::apart::refuse_apart;
 use crate::border::{count_single, least_border, mark_border, refuse_second};
+use crate::corners::CornerTables;
 use crate::fans::refuse_pinched;
 use crate::{BorderKind, DiscFault};
 use std::alloc::Global;
@@ -112,24 +113,20 @@ fn find_fault(alloc: Global, soup: &Soup) -> Result<u32, DiscFault>
     let next = next_sides(alloc, soup)?;
     let prev = sides_before(alloc, soup)?;
     let across = all_across(alloc, soup, &table)?;
-    refuse_pinched(
-        alloc,
-        soup,
-        &next,
-        &prev,
-        &across,
-        &at_vertex,
-        &table.face_of,
-    )?;
+    let corners = CornerTables {
+        next: &next,
+        prev: &prev,
+        across: &across,
+        at_vertex: &at_vertex,
+    };
+    refuse_pinched(alloc, soup, &corners, &table.face_of)?;
     refuse_apart(alloc, soup, &across, &table.face_of)?;
     let Some(least) = least_border(soup, &table) else {
         return Err(DiscFault::Border {
             kind: BorderKind::Nothing,
         });
     };
-    let seen = mark_border(
-        alloc, soup, &table, &next, &prev, &across, &at_vertex, least,
-    )?;
+    let seen = mark_border(alloc, soup, &table, &corners, least)?;
     refuse_second(soup, &table, least, &seen)?;
     refuse_count(soup, &table)?;
     Ok(count_single(&table.sides))

@@ -8,6 +8,7 @@ ghost use Rattle.surf_disc.specs.Links.{AreCornerTables, AreLinked, AreFirsts, A
 ghost use Rattle.surf_disc.specs.Fault.{AllFans, IsDiscFault};
 
 use crate::DiscFault;
+use crate::corners::CornerTables;
 use std::alloc::Global;
 use surf_base::{FaceId, NoMemory, SideId, VertexId};
 use surf_mesh::{Soup, face_in, first_left, reach};
@@ -42,7 +43,10 @@ fn link_corners(
 {
     soup.law_of_soup();
     let tails = soup.corners();
-    let mut rows = Rows::new(alloc);
+    let count = soup.side_count() as usize;
+    let vertices = soup.vertices() as usize;
+    // (a further row has the first corner of each vertex)
+    let mut rows = Rows::with_room(alloc, count + 1, 2 * count + vertices)?;
     for s in 0..soup.side_count() {
         let v = tails[s as usize];
         let before = prev[s as usize];
@@ -60,7 +64,7 @@ fn first_corners(alloc: Global, at_vertex: &Rows<SideId>) -> Result<Vec<u32>, No
     ensures firsts { IfOk result (λ firsts.
         AreFirsts at_vertex.now (length at_vertex.now) firsts.items) }
 {
-    let mut firsts = Vec::new(alloc);
+    let mut firsts = Vec::with_capacity(alloc, at_vertex.len())?;
     for v in 0..at_vertex.len() {
         firsts.push(at_vertex.row(v)[0].number())?;
     }
@@ -126,20 +130,27 @@ fn refuse_unmarked(
 pub(crate) fn refuse_pinched(
     alloc: Global,
     soup: &Soup,
-    next: &[u32],
-    prev: &[u32],
-    across: &[SideId],
-    at_vertex: &Rows<SideId>,
+    corners: &CornerTables<'_>,
     face_of: &[FaceId],
 ) -> Result<(), DiscFault>
     requires none_crowded { NoneCrowded soup.now }
     requires met { AllMet soup.now }
-    requires tables { AreCornerTables soup.now next.now prev.now across.now }
-    requires rows { at_vertex.now ≡ map (sides_at soup.now) (range_with_len 0 soup.now.vertices) }
+    requires tables { AreCornerTables soup.now
+        corners.now.next.now corners.now.prev.now corners.now.across.now }
+    requires rows { corners.now.at_vertex.now
+        ≡ map (sides_at soup.now) (range_with_len 0 soup.now.vertices) }
     requires faces { face_of.now ≡ owners 0 soup.now.faces }
     ensures ok { OnOk result (AllFans soup.now) }
     ensures fault { IfErr result (λ e. IsDiscFault soup.now e) }
 {
-    let seen = mark_fans(alloc, soup, next, prev, across, at_vertex)?;
+    let at_vertex = corners.at_vertex;
+    let seen = mark_fans(
+        alloc,
+        soup,
+        corners.next,
+        corners.prev,
+        corners.across,
+        at_vertex,
+    )?;
     refuse_unmarked(soup, at_vertex, face_of, &seen)
 }

@@ -18,6 +18,7 @@ mod across;
 mod apart;
 mod border;
 mod check;
+mod corners;
 mod fans;
 mod faults;
 
