@@ -24,7 +24,7 @@ use Rattle.surf_signatures.specs.Ways.{way_class}
 use Rattle.surf_signatures.proofs.WayLaws.{loop_class}
 use Rattle.surf_lengths.specs.Lengths.{longest, AreLengths}
 use Rattle.surf_tree.proofs.LengthLaws.{short_lengths}
-use Rattle.surf_mesh.specs.Ring.{AreEdgesAt}
+use Rattle.surf_soup.specs.Ring.{AreEdgesAt}
 use Rattle.surf_loops.proofs.Turned.{ends_in}
 use Rattle.surf_cotree.specs.Tables.{CotreeTables}
 use Rattle.surf_near.specs.Near.{NearTables, IsNear, IsNearTo, is_near}

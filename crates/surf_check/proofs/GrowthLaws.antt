@@ -14,10 +14,10 @@ use Rattle.surf_surfaces.specs.Cells.{cells_of}
 use Rattle.surf_surfaces.proofs.JoinedLaws.{joined_closed}
 use Rattle.surf_turnings.specs.Chains.{same_way, FollowTree}
 use Rattle.surf_surfaces.specs.SideNumber.{side_count, first_side, IsFaceOf}
-use Rattle.surf_mesh.proofs.HalfLaws.{spans}
-use Rattle.surf_mesh.specs.Reach.{marked}
-use Rattle.surf_mesh.proofs.ReachSteps.{marked-inside, unmarked-fresh, none_marked}
-use Rattle.surf_mesh.proofs.RoundSteps.{marks_one}
+use Rattle.surf_soup.proofs.HalfLaws.{spans}
+use Rattle.surf_soup.specs.Reach.{marked}
+use Rattle.surf_soup.proofs.ReachSteps.{marked-inside, unmarked-fresh, none_marked}
+use Rattle.surf_soup.proofs.RoundSteps.{marks_one}
 use Rattle.surf_check.specs.Growth.{flag_of, grown_tree, Hangs, Grows, GrowsOn, IsCrossed}
 use Rattle.surf_check.proofs.SideWays.{crossed_closed}
 

@@ -11,9 +11,9 @@ use Rattle.surf_surfaces.specs.Turning.{Link}
 use Rattle.surf_turnings.specs.Chains.{same_way, Fits, misfit, links_down}
 use Rattle.surf_turnings.proofs.OneSidedLaws.{turnings_fit}
 use Rattle.surf_surfaces.specs.SideNumber.{side_count, sides_with, IsFaceOf, IsEdgeOf, IsMate}
-use Rattle.surf_mesh.specs.Ring.{BeginsAt}
-use Rattle.surf_mesh.proofs.Mates.{with_pair}
-use Rattle.surf_mesh.proofs.Paired.{side_below, row_some}
+use Rattle.surf_soup.specs.Ring.{BeginsAt}
+use Rattle.surf_soup.proofs.Mates.{with_pair}
+use Rattle.surf_soup.proofs.Paired.{side_below, row_some}
 use Rattle.surf_check.proofs.SideWays.{mates_faces, mates_ways}
 
 -- whether flags fit an edge is told at one of its sides

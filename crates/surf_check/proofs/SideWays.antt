@@ -17,12 +17,12 @@ use Rattle.surf_turnings.specs.Chains.{same_way}
 use Rattle.surf_turnings.proofs.SideNumbers.{ends_rise}
 use Rattle.surf_turnings.proofs.Turned.{runs_at}
 use Rattle.surf_surfaces.specs.SideNumber.{pair_at, first_side, IsFaceOf, IsEdgeOf, IsMate}
-use Rattle.surf_mesh.specs.Vertices.{all_corners}
-use Rattle.surf_mesh.specs.Ring.{BeginsAt}
-use Rattle.surf_mesh.specs.Reach.{marked}
-use Rattle.surf_mesh.proofs.VertexLaws.{corner_at_place}
-use Rattle.surf_mesh.proofs.EdgeTables.{pair_at-edge}
-use Rattle.surf_mesh.proofs.SideNumbers.{pair_at_place, side_of_face, face_has_side}
+use Rattle.surf_soup.specs.Vertices.{all_corners}
+use Rattle.surf_soup.specs.Ring.{BeginsAt}
+use Rattle.surf_soup.specs.Reach.{marked}
+use Rattle.surf_soup.proofs.VertexLaws.{corner_at_place}
+use Rattle.surf_soup.proofs.EdgeTables.{pair_at-edge}
+use Rattle.surf_soup.proofs.SideNumbers.{pair_at_place, side_of_face, face_has_side}
 use Rattle.surf_check.specs.Growth.{IsCrossed}
 
 -- a pair in order

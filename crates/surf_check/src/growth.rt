@@ -3,7 +3,7 @@ ghost use Rattle.std.specs.Prelude.{◌≡◌, ◌∷◌, ◌++◌, [], ◌<◌,
 ghost use Rattle.surf_z2.specs.Parity.{xor};
 ghost use Rattle.surf_surfaces.specs.Surface.{face_count, face_at};
 ghost use Rattle.surf_surfaces.specs.SideNumber.{side_count, first_side, IsFaceOf};
-ghost use Rattle.surf_mesh.specs.Reach.{marked};
+ghost use Rattle.surf_soup.specs.Reach.{marked};
 ghost use Rattle.surf_check.specs.Growth.{TreeGrows, TreeGrowsOn, IsCrossed, IsFlagTree};
 
 use std::alloc::Global;

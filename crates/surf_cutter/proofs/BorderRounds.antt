@@ -4,7 +4,7 @@ use Rattle.std.proofs.lemmas.Bool.{true≢false, cases_eq, cases_order}
 use Rattle.std.proofs.lemmas.List.{length-set, get_or-set_same, get_or-set_other, length_push, get_or_push, get_or_append_left}
 use Rattle.surf_surfaces.specs.Disc.{IsDisc}
 use Rattle.surf_surfaces.specs.Mesh.{Mesh}
-use Rattle.surf_mesh.specs.Reach.{marked}
+use Rattle.surf_soup.specs.Reach.{marked}
 use Rattle.surf_surfaces.specs.SideNumber.{side_count}
 use Rattle.surf_cutter.specs.Boundary.{corners_of, HasCopy, IsBorderSide, IsOtherAt, IsOnward, IsBoundary, HasPairedBorder}
 use Rattle.surf_cutter.proofs.BorderSides.{has_all}

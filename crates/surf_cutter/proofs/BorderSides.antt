@@ -14,9 +14,9 @@ use Rattle.surf_opening.proofs.Edges.{edge_of, face_of}
 use Rattle.surf_opening.proofs.MeshSides.{same_face}
 use Rattle.surf_opening.proofs.Polygons.{pair_is}
 use Rattle.surf_surfaces.specs.SideNumber.{first_side, IsFaceOf, side_count, pair_at, owners}
-use Rattle.surf_mesh.proofs.EdgeTables.{sizes, length-side_pairs}
-use Rattle.surf_mesh.proofs.HalfLaws.{face_of_side}
-use Rattle.surf_mesh.proofs.SideNumbers.{pair_at_place, side_of_face, face_has_side}
+use Rattle.surf_soup.proofs.EdgeTables.{sizes, length-side_pairs}
+use Rattle.surf_soup.proofs.HalfLaws.{face_of_side}
+use Rattle.surf_soup.proofs.SideNumbers.{pair_at_place, side_of_face, face_has_side}
 use Rattle.surf_cutter.specs.Boundary.{corners_of, HasCopy, IsBorderSide}
 
 -- the corners of the side that begins at a place of a face

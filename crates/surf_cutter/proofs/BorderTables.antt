@@ -15,11 +15,11 @@ use Rattle.surf_surfaces.proofs.SideLaws.{after-below}
 use Rattle.surf_opening.proofs.Edges.{edge_one}
 use Rattle.surf_rows.specs.Groups.{has_key, group_of}
 use Rattle.surf_surfaces.specs.SideNumber.{IsEdgeOf, side_count}
-use Rattle.surf_mesh.specs.Reach.{marked}
-use Rattle.surf_mesh.proofs.HalfLaws.{spans}
-use Rattle.surf_mesh.proofs.Mates.{member_filter}
-use Rattle.surf_mesh.proofs.Order.{all_filter, passing}
-use Rattle.surf_mesh.proofs.VertexLaws.{placed}
+use Rattle.surf_soup.specs.Reach.{marked}
+use Rattle.surf_soup.proofs.HalfLaws.{spans}
+use Rattle.surf_soup.proofs.Mates.{member_filter}
+use Rattle.surf_soup.proofs.Order.{all_filter, passing}
+use Rattle.surf_soup.proofs.VertexLaws.{placed}
 use Rattle.surf_cutter.specs.Boundary.{over, corners_of, HasCopy, IsBorderSide, AreBorderSides, IsLeastBorderSide, HasPairedBorder, AreCorners, AreSidesAt, AreRims, IsCutSide, AreCutSides}
 use Rattle.surf_cutter.proofs.BorderSides.{corners_at_place, side_of_edge}
 

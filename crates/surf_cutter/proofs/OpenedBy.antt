@@ -9,11 +9,11 @@ use Rattle.surf_surfaces.specs.Surface.{face_count, face_at, IsSurface}
 use Rattle.surf_opening.specs.ChosenCut.{AreInOrder}
 use Rattle.surf_opening.specs.Opening.{ShareUncutAt, IsOpenedBy}
 use Rattle.surf_surfaces.specs.SideNumber.{side_count, first_side, IsFaceOf}
-use Rattle.surf_mesh.specs.Vertices.{all_corners}
-use Rattle.surf_mesh.proofs.HalfLaws.{spans}
-use Rattle.surf_mesh.proofs.RingLaws.{one_corner}
-use Rattle.surf_mesh.proofs.SideNumbers.{first_mono}
-use Rattle.surf_mesh.proofs.VertexLaws.{IsPlaced, placed, corner_at_place}
+use Rattle.surf_soup.specs.Vertices.{all_corners}
+use Rattle.surf_soup.proofs.HalfLaws.{spans}
+use Rattle.surf_soup.proofs.RingLaws.{one_corner}
+use Rattle.surf_soup.proofs.SideNumbers.{first_mono}
+use Rattle.surf_soup.proofs.VertexLaws.{IsPlaced, placed, corner_at_place}
 use Rattle.surf_slit.specs.Labels.{corner_at, IsUncut, AreLabels}
 use Rattle.surf_cutter.specs.Copies.{AreCounted, AreCopied, AreSorted}
 

@@ -26,8 +26,8 @@ use Rattle.surf_opening.proofs.Polygons.{pair_is, pair_among, among_pair}
 use Rattle.surf_opening.proofs.Trim.{IsOpen, trimmed_is_open}
 use Rattle.surf_opening.proofs.TwoLeaves.{trimmed_are}
 use Rattle.surf_surfaces.specs.SideNumber.{first_side, IsFaceOf, IsEdgeOf, side_count, pair_at}
-use Rattle.surf_mesh.proofs.SideNumbers.{pair_at_place, face_has_side, one_face}
-use Rattle.surf_mesh.proofs.VertexLaws.{placed}
+use Rattle.surf_soup.proofs.SideNumbers.{pair_at_place, face_has_side, one_face}
+use Rattle.surf_soup.proofs.VertexLaws.{placed}
 use Rattle.surf_slit.specs.Labels.{IsUncut}
 use Rattle.surf_cutter.specs.Boundary.{corners_of, HasCopy, IsBorderSide, AreBorderSides, HasPairedBorder, IsCutSide, AreCutSides, OpensToDisc}
 use Rattle.surf_cutter.specs.Trimming.{is_cut}

@@ -10,13 +10,13 @@ use Rattle.surf_surfaces.specs.Mesh.{Mesh}
 use Rattle.surf_surfaces.specs.Surface.{face_count, face_at, IsSurface}
 use Rattle.surf_surfaces.proofs.EdgeLaws.{list_any_at, list_any_from}
 use Rattle.surf_rows.specs.Groups.{group_of}
-use Rattle.surf_mesh.specs.Order.{by_key}
+use Rattle.surf_soup.specs.Order.{by_key}
 use Rattle.surf_surfaces.specs.SideNumber.{side_count, first_side}
-use Rattle.surf_mesh.specs.Vertices.{all_corners}
-use Rattle.surf_mesh.proofs.HalfLaws.{spans}
-use Rattle.surf_mesh.proofs.Mates.{range_ordered}
-use Rattle.surf_mesh.proofs.Order.{Ordered, Before, flat_map_map, by_key-keeps, by_key-ordered, by_key-all, by_key-length, range_below, any_of_filter}
-use Rattle.surf_mesh.proofs.VertexLaws.{corners_len, corners_below, corner_at_place}
+use Rattle.surf_soup.specs.Vertices.{all_corners}
+use Rattle.surf_soup.proofs.HalfLaws.{spans}
+use Rattle.surf_soup.proofs.Mates.{range_ordered}
+use Rattle.surf_soup.proofs.Order.{Ordered, Before, flat_map_map, by_key-keeps, by_key-ordered, by_key-all, by_key-length, range_below, any_of_filter}
+use Rattle.surf_soup.proofs.VertexLaws.{corners_len, corners_below, corner_at_place}
 use Rattle.surf_slit.specs.Labels.{corner_at}
 use Rattle.surf_cutter.specs.Copies.{AreNumbersOf, AreCopied, AreSorted}
 

@@ -14,7 +14,7 @@ use Rattle.surf_opening.specs.Laws.{TellsCut, cut_count, without}
 use Rattle.surf_opening.specs.ChosenCut.{cut_degree}
 use Rattle.surf_opening.proofs.Cotrees.{ends_pair}
 use Rattle.surf_opening.proofs.CutCounts.{trimming_by_greatest_goes_on}
-use Rattle.surf_mesh.specs.Ring.{AreEdgesAt}
+use Rattle.surf_soup.specs.Ring.{AreEdgesAt}
 use Rattle.surf_cutter.specs.Trimming.{is_cut, is_cut_at, AreDegrees, AreDegreesTo, IsTakenBack, IsTrimmedFrom, HasNoLeafFrom, HasEndedBy}
 use Rattle.std.specs.Prelude.{slice_index}
 

@@ -6,7 +6,7 @@ ghost use Rattle.surf_surfaces.specs.Surface.{face_count, edge_count};
 ghost use Rattle.surf_opening.specs.ChosenCut.{AreInOrder};
 ghost use Rattle.surf_opening.specs.Opening.{IsOpenedBy};
 ghost use Rattle.surf_surfaces.specs.SideNumber.{side_count};
-ghost use Rattle.surf_mesh.specs.Vertices.{all_corners, sides_at};
+ghost use Rattle.surf_soup.specs.Vertices.{all_corners, sides_at};
 ghost use Rattle.surf_slit.specs.Labels.{corner_at, IsUncut, AreLabels};
 ghost use Rattle.surf_base.specs.Tables.{nobody};
 ghost use Rattle.surf_cutter.specs.Copies.{label_at, AreCounted, AreCopied, AreNumbersOf, AreSorted};

@@ -7,10 +7,10 @@ use Rattle.std.proofs.lemmas.List.FromFn.{length-range_with_len, get_or-range_wi
 use Rattle.surf_surfaces.specs.Mesh.{Mesh, IsMesh, pair_eq}
 use Rattle.surf_surfaces.proofs.PairLaws.{pair_eq-self}
 use Rattle.surf_surfaces.proofs.EdgeLaws.{list_any_at}
-use Rattle.surf_mesh.specs.EdgeTable.{IsEdgeTable}
+use Rattle.surf_soup.specs.EdgeTable.{IsEdgeTable}
 use Rattle.surf_surfaces.specs.SideNumber.{side_count, pair_at, sides_with}
-use Rattle.surf_mesh.proofs.Mates.{member_filter, with_pair}
-use Rattle.surf_mesh.proofs.Paired.{rows_len, row_is, row_degree, side_below}
+use Rattle.surf_soup.proofs.Mates.{member_filter, with_pair}
+use Rattle.surf_soup.proofs.Paired.{rows_len, row_is, row_degree, side_below}
 use Rattle.surf_disc.specs.Across.{NoneCrowded, other_of, IsAcross, AreAcrossUpTo}
 
 -- a side is listed with its pair

@@ -7,12 +7,12 @@ use Rattle.surf_surfaces.specs.Joined.{Joined, here, over}
 use Rattle.surf_surfaces.proofs.JoinedLaws.{joined_lift}
 use Rattle.surf_surfaces.specs.Mesh.{Mesh}
 use Rattle.surf_surfaces.specs.Surface.{face_count, face_at, has_side, Share, IsConnected}
-use Rattle.surf_mesh.specs.Apart.{AreAcross, IsLeastApart}
+use Rattle.surf_soup.specs.Apart.{AreAcross, IsLeastApart}
 use Rattle.surf_surfaces.specs.SideNumber.{first_side, IsFaceOf, side_count, pair_at}
-use Rattle.surf_mesh.specs.Reach.{Leads, marked, IsReach}
-use Rattle.surf_mesh.proofs.ApartLaws.{all_joined}
-use Rattle.surf_mesh.proofs.HalfLaws.{spans}
-use Rattle.surf_mesh.proofs.SideNumbers.{side_of_face, face_has_side, one_face}
+use Rattle.surf_soup.specs.Reach.{Leads, marked, IsReach}
+use Rattle.surf_soup.proofs.ApartLaws.{all_joined}
+use Rattle.surf_soup.proofs.HalfLaws.{spans}
+use Rattle.surf_soup.proofs.SideNumbers.{side_of_face, face_has_side, one_face}
 use Rattle.surf_disc.specs.Across.{AreAcrossUpTo}
 use Rattle.surf_disc.proofs.CornerLaws.{face_of, own_face}
 

@@ -13,17 +13,17 @@ use Rattle.surf_surfaces.specs.Walk.{place_of}
 use Rattle.surf_surfaces.proofs.EdgeLaws.{list_any_at, list_any_from, list_any-append, list_any-flat_map, place_of-among}
 use Rattle.surf_surfaces.proofs.FaceLaws.{pair_comm}
 use Rattle.surf_surfaces.proofs.JoinedLaws.{joined_trans, joined_closed}
-use Rattle.surf_mesh.specs.Reach.{Leads, marked, IsReach}
-use Rattle.surf_mesh.specs.Ring.{BeginsAt}
+use Rattle.surf_soup.specs.Reach.{Leads, marked, IsReach}
+use Rattle.surf_soup.specs.Ring.{BeginsAt}
 use Rattle.surf_surfaces.specs.SideNumber.{side_count, pair_at, sides_with, owners}
-use Rattle.surf_mesh.specs.Vertices.{all_corners, sides_at}
-use Rattle.surf_mesh.proofs.EdgeTables.{pair_at-edge}
-use Rattle.surf_mesh.proofs.HalfLaws.{spans}
-use Rattle.surf_mesh.proofs.Mates.{with_pair, with_rising}
-use Rattle.surf_mesh.proofs.Owners.{faces_with-sides}
-use Rattle.surf_mesh.proofs.Paired.{side_below}
-use Rattle.surf_mesh.proofs.RingLaws.{at_begins, begins_at}
-use Rattle.surf_mesh.proofs.VertexLaws.{corners_below, corners_len}
+use Rattle.surf_soup.specs.Vertices.{all_corners, sides_at}
+use Rattle.surf_soup.proofs.EdgeTables.{pair_at-edge}
+use Rattle.surf_soup.proofs.HalfLaws.{spans}
+use Rattle.surf_soup.proofs.Mates.{with_pair, with_rising}
+use Rattle.surf_soup.proofs.Owners.{faces_with-sides}
+use Rattle.surf_soup.proofs.Paired.{side_below}
+use Rattle.surf_soup.proofs.RingLaws.{at_begins, begins_at}
+use Rattle.surf_soup.proofs.VertexLaws.{corners_below, corners_len}
 use Rattle.surf_disc.specs.Border.{with_end, border_ends, AreNeighbours, IsBorderMarked}
 use Rattle.surf_disc.specs.Links.{AreCornerTables}
 use Rattle.surf_disc.proofs.AcrossLaws.{listed}

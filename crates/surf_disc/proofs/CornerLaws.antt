@@ -9,12 +9,12 @@ use Rattle.surf_surfaces.specs.Surface.{face_at, HasEdge, ShareAt}
 use Rattle.surf_surfaces.proofs.SideLaws.{pair_ends, after-below, before-below, after-before, before-after}
 use Rattle.surf_surfaces.proofs.FaceLaws.{pair_comm}
 use Rattle.surf_surfaces.specs.SideNumber.{side_count, pair_at, owners, first_side, IsFaceOf}
-use Rattle.surf_mesh.specs.Ring.{BeginsAt}
-use Rattle.surf_mesh.specs.Vertices.{all_corners}
-use Rattle.surf_mesh.proofs.HalfLaws.{face_of_side}
-use Rattle.surf_mesh.proofs.SideNumbers.{pair_at_place, side_of_face, face_has_side, one_face}
-use Rattle.surf_mesh.proofs.VertexLaws.{IsPlaced, placed}
-use Rattle.surf_mesh.proofs.RingLaws.{face_placed, placed_face, placed_side, tail_at, same_place, one_corner, turned_size}
+use Rattle.surf_soup.specs.Ring.{BeginsAt}
+use Rattle.surf_soup.specs.Vertices.{all_corners}
+use Rattle.surf_soup.proofs.HalfLaws.{face_of_side}
+use Rattle.surf_soup.proofs.SideNumbers.{pair_at_place, side_of_face, face_has_side, one_face}
+use Rattle.surf_soup.proofs.VertexLaws.{IsPlaced, placed}
+use Rattle.surf_soup.proofs.RingLaws.{face_placed, placed_face, placed_side, tail_at, same_place, one_corner, turned_size}
 use Rattle.surf_disc.specs.Links.{AreCornerTables, over_corner}
 
 -- the vertex where a side begins

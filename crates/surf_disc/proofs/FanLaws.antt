@@ -6,10 +6,10 @@ use Rattle.surf_surfaces.proofs.JoinedLaws.{joined_trans, joined_sym}
 use Rattle.surf_surfaces.specs.Mesh.{Mesh}
 use Rattle.surf_surfaces.specs.Surface.{HasCorner, ShareAt, HasOneFan}
 use Rattle.surf_surfaces.specs.SideNumber.{IsFaceOf, side_count}
-use Rattle.surf_mesh.specs.Reach.{marked}
-use Rattle.surf_mesh.specs.Ring.{IsPinch, IsLeastPinch}
-use Rattle.surf_mesh.specs.Vertices.{sides_at, AllMet}
-use Rattle.surf_mesh.proofs.RingLaws.{at_begins, begins_at, at_faces, corner_begins, begins_corner, row_some}
+use Rattle.surf_soup.specs.Reach.{marked}
+use Rattle.surf_soup.specs.Ring.{IsPinch, IsLeastPinch}
+use Rattle.surf_soup.specs.Vertices.{sides_at, AllMet}
+use Rattle.surf_soup.proofs.RingLaws.{at_begins, begins_at, at_faces, corner_begins, begins_corner, row_some}
 use Rattle.surf_disc.specs.Links.{AreFansMarked}
 use Rattle.surf_disc.proofs.CornerLaws.{face_of, own_face}
 

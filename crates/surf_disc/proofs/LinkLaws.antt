@@ -13,13 +13,13 @@ use Rattle.surf_surfaces.specs.Mesh.{Mesh, IsMesh}
 use Rattle.surf_surfaces.specs.Surface.{ShareAt}
 use Rattle.surf_rows.specs.Groups.{group_of}
 use Rattle.surf_surfaces.specs.SideNumber.{IsFaceOf, side_count}
-use Rattle.surf_mesh.specs.Reach.{Leads, marked, IsReach}
-use Rattle.surf_mesh.specs.Ring.{BeginsAt}
-use Rattle.surf_mesh.specs.Vertices.{all_corners, sides_at, AllMet}
-use Rattle.surf_mesh.proofs.Order.{by_key-length}
-use Rattle.surf_mesh.proofs.RingLaws.{at_begins, row_some}
-use Rattle.surf_mesh.proofs.SideNumbers.{one_face}
-use Rattle.surf_mesh.proofs.VertexLaws.{at_len, at_is}
+use Rattle.surf_soup.specs.Reach.{Leads, marked, IsReach}
+use Rattle.surf_soup.specs.Ring.{BeginsAt}
+use Rattle.surf_soup.specs.Vertices.{all_corners, sides_at, AllMet}
+use Rattle.surf_soup.proofs.Order.{by_key-length}
+use Rattle.surf_soup.proofs.RingLaws.{at_begins, row_some}
+use Rattle.surf_soup.proofs.SideNumbers.{one_face}
+use Rattle.surf_soup.proofs.VertexLaws.{at_len, at_is}
 use Rattle.surf_disc.specs.Links.{AreCornerTables, AreLinked, AreFirsts, AreFansMarked, over_corner}
 use Rattle.surf_disc.proofs.CornerLaws.{tail, face_of, own_face, IsCornerOf, same_corner, IsSideAt, side_in, side_pair_at, over_is, over_shares, shares_over, share_corner}
 

@@ -8,13 +8,13 @@ use Rattle.surf_surfaces.specs.Disc.{IsBorderEdge, ShareOnBorder}
 use Rattle.surf_surfaces.specs.Mesh.{Mesh, IsMesh, pair_lt, pair_eq, insert_pair, sorted_pairs, edges}
 use Rattle.surf_surfaces.specs.Surface.{edge_count, ends, faces_with}
 use Rattle.surf_surfaces.proofs.JoinedLaws.{joined_trans, joined_sym}
-use Rattle.surf_mesh.specs.EdgeTable.{IsEdgeTable}
-use Rattle.surf_mesh.specs.Pairs.{NoneWithin, IsFirstWithin, degree}
-use Rattle.surf_mesh.specs.Reach.{marked}
+use Rattle.surf_soup.specs.EdgeTable.{IsEdgeTable}
+use Rattle.surf_soup.specs.Pairs.{NoneWithin, IsFirstWithin, degree}
+use Rattle.surf_soup.specs.Reach.{marked}
 use Rattle.surf_surfaces.specs.SideNumber.{side_count, side_pairs, sides_with, owners}
-use Rattle.surf_mesh.proofs.EdgeTables.{length-side_pairs}
-use Rattle.surf_mesh.proofs.Owners.{faces_with-sides}
-use Rattle.surf_mesh.proofs.Paired.{rows_len, row_degree, no_crowds, face_at_place}
+use Rattle.surf_soup.proofs.EdgeTables.{length-side_pairs}
+use Rattle.surf_soup.proofs.Owners.{faces_with-sides}
+use Rattle.surf_soup.proofs.Paired.{rows_len, row_degree, no_crowds, face_at_place}
 use Rattle.surf_disc.specs.Across.{NoneCrowded}
 use Rattle.surf_disc.specs.Border.{border_count, IsLeastOnBorder, IsLeastOutside, IsBorderMarked, AllInside, IsFirstOutside, HasOneBorder}
 use Rattle.surf_disc.specs.Fault.{IsLeastCrowded}

@@ -2,7 +2,7 @@
 use Rattle.std.specs.Prelude.{◌≡◌, ℕ, ◌-◌, ◌<◌, ◌≤◌, ◌==◌, ◌⊎◌, if◌then◌else◌, List, length, get_or}
 use Rattle.surf_surfaces.specs.Mesh.{Mesh}
 use Rattle.surf_surfaces.specs.Surface.{edge_count}
-use Rattle.surf_mesh.specs.Pairs.{degree}
+use Rattle.surf_soup.specs.Pairs.{degree}
 use Rattle.surf_surfaces.specs.SideNumber.{side_count, pair_at}
 
 -- no edge is a side of three or more faces

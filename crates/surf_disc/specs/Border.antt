@@ -5,8 +5,8 @@ use Rattle.surf_surfaces.specs.Joined.{Joined}
 use Rattle.surf_surfaces.specs.Mesh.{Mesh, edges}
 use Rattle.surf_surfaces.specs.Surface.{ends, faces_with}
 use Rattle.surf_surfaces.specs.Disc.{IsBorderEdge, ShareOnBorder}
-use Rattle.surf_mesh.specs.Reach.{marked}
-use Rattle.surf_mesh.specs.Vertices.{sides_at}
+use Rattle.surf_soup.specs.Reach.{marked}
+use Rattle.surf_soup.specs.Vertices.{sides_at}
 
 -- how many edges are a side of exactly one face
 abbrev pub border_count : Mesh → ℕ

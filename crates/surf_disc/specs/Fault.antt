@@ -3,10 +3,10 @@ use Rattle.std.specs.Prelude.{◌≡◌, ◌≢◌, ℕ, ◌+◌, ◌<◌, ◌�
 use Rattle.surf_surfaces.specs.Disc.{IsBorderEdge}
 use Rattle.surf_surfaces.specs.Mesh.{Mesh}
 use Rattle.surf_surfaces.specs.Surface.{face_count, edge_count, ends, faces_with, HasOneFan, IsConnected}
-use Rattle.surf_mesh.specs.Pairs.{degree}
-use Rattle.surf_mesh.specs.Vertices.{AllMet, IsLeastIsolated}
-use Rattle.surf_mesh.specs.Ring.{IsLeastPinch}
-use Rattle.surf_mesh.specs.Apart.{IsLeastApart}
+use Rattle.surf_soup.specs.Pairs.{degree}
+use Rattle.surf_soup.specs.Vertices.{AllMet, IsLeastIsolated}
+use Rattle.surf_soup.specs.Ring.{IsLeastPinch}
+use Rattle.surf_soup.specs.Apart.{IsLeastApart}
 use Rattle.surf_disc.specs.Across.{NoneCrowded}
 use Rattle.surf_disc.specs.Border.{IsLeastOnBorder, IsLeastOutside, HasOneBorder}
 use Rattle.surf_disc.specs.declared.faults.BorderKind.{BorderKind}

@@ -6,9 +6,9 @@ use Rattle.surf_surfaces.specs.Mesh.{Mesh}
 use Rattle.surf_surfaces.specs.Side.{after, before}
 use Rattle.surf_surfaces.specs.Surface.{face_count, ShareAt}
 use Rattle.surf_surfaces.specs.SideNumber.{IsFaceOf, side_count}
-use Rattle.surf_mesh.specs.Reach.{marked}
-use Rattle.surf_mesh.specs.Ring.{AreTurned, BeginsAt}
-use Rattle.surf_mesh.specs.Vertices.{sides_at}
+use Rattle.surf_soup.specs.Reach.{marked}
+use Rattle.surf_soup.specs.Ring.{AreTurned, BeginsAt}
+use Rattle.surf_soup.specs.Vertices.{sides_at}
 use Rattle.surf_disc.specs.Across.{AreAcrossUpTo}
 
 -- for each side the next one of its face, the one before, and what lies across it

@@ -1,12 +1,12 @@
 //! What lies across each side.
 ghost use Rattle.std.specs.Prelude.{◌≡◌, ◌<◌, length, IfOk};
-ghost use Rattle.surf_mesh.specs.EdgeTable.{IsEdgeTable};
+ghost use Rattle.surf_soup.specs.EdgeTable.{IsTableOf};
 ghost use Rattle.surf_surfaces.specs.SideNumber.{side_count};
 ghost use Rattle.surf_disc.specs.Across.{NoneCrowded, AreAcrossUpTo, other_of};
 
 use std::alloc::Global;
 use surf_base::{NoMemory, SideId};
-use surf_mesh::{EdgeTable, Soup};
+use surf_soup::{EdgeTable, Soup};
 
 // The other one of a row of two sides, or the only one of a row of one.
 fn other_side(row: &[SideId], side: SideId) -> SideId
@@ -26,8 +26,7 @@ pub(crate) fn all_across(
     soup: &Soup,
     table: &EdgeTable,
 ) -> Result<Vec<SideId>, NoMemory>
-    requires table { IsEdgeTable soup.now table.now.edges.items table.now.sides
-        table.now.edge_of.items table.now.face_of.items table.now.numbers.items }
+    requires table { IsTableOf soup.now table.now }
     requires few { NoneCrowded soup.now }
     ensures across { IfOk result (λ v. AreAcrossUpTo soup.now (side_count soup.now) v.items) }
 {

@@ -1,17 +1,17 @@
 //! Whether the faces are connected across their sides.
 ghost use Rattle.std.specs.Prelude.{◌≡◌, ◌<◌, ◌≤◌, ◌+◌, ℕ, length, All, OnOk, IfOk, IfErr, slice_index};
 ghost use Rattle.surf_surfaces.specs.Surface.{face_count, IsConnected};
-ghost use Rattle.surf_mesh.specs.Apart.{AreAcross};
+ghost use Rattle.surf_soup.specs.Apart.{AreAcross};
 ghost use Rattle.surf_surfaces.specs.SideNumber.{side_count, owners};
-ghost use Rattle.surf_mesh.specs.Vertices.{AllMet};
+ghost use Rattle.surf_soup.specs.Vertices.{AllMet};
 ghost use Rattle.surf_disc.specs.Across.{NoneCrowded, AreAcrossUpTo};
 ghost use Rattle.surf_disc.specs.Fault.{AllFans, IsDiscFault};
 
 use crate::DiscFault;
 use std::alloc::Global;
 use surf_base::{FaceId, NoMemory, SideId};
-use surf_mesh::{Soup, first_unmarked, reach};
 use surf_rows::Rows;
+use surf_soup::{Soup, first_unmarked, reach};
 
 // Lists the faces across some sides that follow one another.
 fn list_over(

@@ -2,9 +2,9 @@
 ghost use Rattle.std.specs.Prelude.{◌≡◌, ◌<◌, ◌==◌, ◌^◌, ℕ, length, map, All, OnOk, IfOk, IfErr, MatchOption, slice_index, slice_index_or, [], true, false, count_by};
 ghost use Rattle.std.specs.List.{range_with_len, flat_map};
 ghost use Rattle.surf_surfaces.specs.Disc.{IsBorderEdge};
-ghost use Rattle.surf_mesh.specs.EdgeTable.{IsEdgeTable};
-ghost use Rattle.surf_mesh.specs.Reach.{marked};
-ghost use Rattle.surf_mesh.specs.Vertices.{all_corners, sides_at};
+ghost use Rattle.surf_soup.specs.EdgeTable.{IsTableOf};
+ghost use Rattle.surf_soup.specs.Reach.{marked};
+ghost use Rattle.surf_soup.specs.Vertices.{all_corners, sides_at};
 ghost use Rattle.surf_disc.specs.Border.{with_end, border_ends, AreNeighbours, IsLeastOnBorder, IsBorderMarked, HasOneBorder, AllInside, IsFirstOutside};
 ghost use Rattle.surf_disc.specs.Fault.{IsPatch, IsDiscFault};
 ghost use Rattle.surf_disc.specs.Links.{AreCornerTables};
@@ -13,8 +13,8 @@ use crate::corners::CornerTables;
 use crate::{BorderKind, DiscFault};
 use std::alloc::Global;
 use surf_base::{NoMemory, SideId, VertexId};
-use surf_mesh::{EdgeTable, Soup, first_row, reach};
 use surf_rows::Rows;
+use surf_soup::{EdgeTable, Soup, first_row, reach};
 
 // Adds the other end of a side that has nothing across it.
 fn push_end(row: &mut Vec<u32>, across: &[SideId], side: u32, end: VertexId) -> Result<(), NoMemory>
@@ -90,8 +90,7 @@ fn border_rows(
 
 /// The least border edge.
 pub(crate) fn least_border(soup: &Soup, table: &EdgeTable) -> Option<usize>
-    requires table { IsEdgeTable soup.now table.now.edges.items table.now.sides
-        table.now.edge_of.items table.now.face_of.items table.now.numbers.items }
+    requires table { IsTableOf soup.now table.now }
     ensures least { MatchOption result ((e : ℕ) → IsBorderEdge soup.now e → ⊥)
         (λ e. IsLeastOnBorder soup.now e) }
 {
@@ -107,8 +106,7 @@ pub(crate) fn mark_border(
     corners: &CornerTables<'_>,
     least: usize,
 ) -> Result<Vec<bool>, NoMemory>
-    requires table { IsEdgeTable soup.now table.now.edges.items table.now.sides
-        table.now.edge_of.items table.now.face_of.items table.now.numbers.items }
+    requires table { IsTableOf soup.now table.now }
     requires tables { AreCornerTables soup.now
         corners.now.next.now corners.now.prev.now corners.now.across.now }
     requires rows { corners.now.at_vertex.now
@@ -160,8 +158,7 @@ pub(crate) fn refuse_second(
     e: usize,
     seen: &[bool],
 ) -> Result<(), DiscFault>
-    requires table { IsEdgeTable soup.now table.now.edges.items table.now.sides
-        table.now.edge_of.items table.now.face_of.items table.now.numbers.items }
+    requires table { IsTableOf soup.now table.now }
     requires patch { IsPatch soup.now }
     requires least { IsLeastOnBorder soup.now e }
     requires marks { IsBorderMarked soup.now e seen.now }

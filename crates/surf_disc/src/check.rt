@@ -3,9 +3,9 @@ ghost use Rattle.std.specs.Prelude.{◌≡◌, ◌+◌, ◌<◌, ℕ, map, OnOk,
 ghost use Rattle.std.specs.List.{range_with_len};
 ghost use Rattle.surf_surfaces.specs.Disc.{IsDisc, IsBorderEdge};
 ghost use Rattle.surf_surfaces.specs.Surface.{face_count, edge_count};
-ghost use Rattle.surf_mesh.specs.EdgeTable.{IsEdgeTable};
-ghost use Rattle.surf_mesh.specs.Pairs.{IsFirstWithin};
-ghost use Rattle.surf_mesh.specs.Vertices.{sides_at, AllMet};
+ghost use Rattle.surf_soup.specs.EdgeTable.{IsTableOf};
+ghost use Rattle.surf_soup.specs.Pairs.{IsFirstWithin};
+ghost use Rattle.surf_soup.specs.Vertices.{sides_at, AllMet};
 ghost use Rattle.surf_disc.specs.Across.{NoneCrowded};
 ghost use Rattle.surf_disc.specs.Border.{border_count, HasOneBorder};
 ghost use Rattle.surf_disc.specs.Fault.{IsPatch, IsDiscFault};
@@ -19,16 +19,15 @@ use crate::fans::refuse_pinched;
 use crate::{BorderKind, DiscFault};
 use std::alloc::Global;
 use surf_base::{SideId, VertexId};
-use surf_mesh::{
+use surf_rows::Rows;
+use surf_soup::{
     EdgeTable, Soup, edge_table, face_in, find_isolated, first_row, next_sides, sides_before,
     vertex_sides,
 };
-use surf_rows::Rows;
 
 // The fault at an edge with many sides.
 fn crowd_at(soup: &Soup, table: &EdgeTable, e: usize) -> DiscFault
-    requires table { IsEdgeTable soup.now table.now.edges.items table.now.sides
-        table.now.edge_of.items table.now.face_of.items table.now.numbers.items }
+    requires table { IsTableOf soup.now table.now }
     requires first { IsFirstWithin 3 usize.MAX table.now.sides e }
     ensures fault { IsDiscFault soup.now result }
 {
@@ -47,8 +46,7 @@ fn crowd_at(soup: &Soup, table: &EdgeTable, e: usize) -> DiscFault
 
 // Refuses a soup where some edge is a side of three or more faces.
 fn refuse_crowded(soup: &Soup, table: &EdgeTable) -> Result<(), DiscFault>
-    requires table { IsEdgeTable soup.now table.now.edges.items table.now.sides
-        table.now.edge_of.items table.now.face_of.items table.now.numbers.items }
+    requires table { IsTableOf soup.now table.now }
     ensures ok { OnOk result (NoneCrowded soup.now) }
     ensures fault { IfErr result (λ e. IsDiscFault soup.now e) }
 {
@@ -77,8 +75,7 @@ fn refuse_isolated(soup: &Soup, at_vertex: &Rows<SideId>) -> Result<(), DiscFaul
 
 // Refuses a soup whose vertices minus edges plus faces aren't 1.
 fn refuse_count(soup: &Soup, table: &EdgeTable) -> Result<(), DiscFault>
-    requires table { IsEdgeTable soup.now table.now.edges.items table.now.sides
-        table.now.edge_of.items table.now.face_of.items table.now.numbers.items }
+    requires table { IsTableOf soup.now table.now }
     requires patch { IsPatch soup.now }
     requires border { (e : ℕ) × IsBorderEdge soup.now e }
     requires one { HasOneBorder soup.now }

@@ -2,7 +2,7 @@
 ghost use Rattle.std.specs.Prelude.{◌≡◌, ◌<◌, ◌^◌, ℕ, length, map, All, IfOk, OnOk, IfErr, slice_index, slice_index_or, []};
 ghost use Rattle.std.specs.List.{range_with_len};
 ghost use Rattle.surf_surfaces.specs.SideNumber.{side_count, owners};
-ghost use Rattle.surf_mesh.specs.Vertices.{all_corners, sides_at, AllMet};
+ghost use Rattle.surf_soup.specs.Vertices.{all_corners, sides_at, AllMet};
 ghost use Rattle.surf_disc.specs.Across.{NoneCrowded};
 ghost use Rattle.surf_disc.specs.Links.{AreCornerTables, AreLinked, AreFirsts, AreFansMarked, over_corner};
 ghost use Rattle.surf_disc.specs.Fault.{AllFans, IsDiscFault};
@@ -11,8 +11,8 @@ use crate::DiscFault;
 use crate::corners::CornerTables;
 use std::alloc::Global;
 use surf_base::{FaceId, NoMemory, SideId, VertexId};
-use surf_mesh::{Soup, face_in, first_left, reach};
 use surf_rows::Rows;
+use surf_soup::{Soup, face_in, first_left, reach};
 
 // The corner at a vertex across a side that ends there.
 fn corner_across(next: &[u32], across: &[SideId], tails: &[VertexId], side: u32, v: VertexId) -> u32

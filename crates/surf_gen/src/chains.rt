@@ -12,7 +12,7 @@ ghost use Rattle.surf_base.specs.declared.limits.TheConstants.{MAX_FACES, MAX_VE
 use crate::grid::Grid;
 use std::alloc::Global;
 use surf_base::{NoMemory, VertexId};
-use surf_mesh::Soup;
+use surf_soup::Soup;
 
 // Adds the faces of a torus from one number up to another, with the torus's vertices by their
 // numbers in the chain.

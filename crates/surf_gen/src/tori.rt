@@ -9,7 +9,7 @@ ghost use Rattle.surf_base.specs.declared.limits.TheConstants.{MAX_FACES, MAX_VE
 use crate::grid::Grid;
 use std::alloc::Global;
 use surf_base::NoMemory;
-use surf_mesh::Soup;
+use surf_soup::Soup;
 
 // Adds the two faces of a cell.
 fn push_cell(soup: &mut Soup, grid: Grid, cell: u32) -> Result<(), NoMemory>

@@ -18,9 +18,9 @@ use Rattle.surf_surfaces.proofs.CountLaws.{sizes_twice}
 use Rattle.surf_surfaces.proofs.ClassLaws.{independent_walks_are_few, some_vertex}
 use Rattle.surf_z2.proofs.Linear.{chosen_none}
 use Rattle.surf_surfaces.specs.SideNumber.{side_count, pair_at, owners, first_side, IsFaceOf, IsMate, IsEdgeOf}
-use Rattle.surf_mesh.proofs.EdgeTables.{pair_at-edge}
-use Rattle.surf_mesh.proofs.HalfLaws.{face_of_side, spans}
-use Rattle.surf_mesh.proofs.SideNumbers.{pair_at_place, side_of_face, face_has_side, one_face}
+use Rattle.surf_soup.proofs.EdgeTables.{pair_at-edge}
+use Rattle.surf_soup.proofs.HalfLaws.{face_of_side, spans}
+use Rattle.surf_soup.proofs.SideNumbers.{pair_at_place, side_of_face, face_has_side, one_face}
 use Rattle.surf_mesh.specs.Links.{link_at, IsRow, other_of, edge_link, side_face, side_edge, side_link}
 
 -- a pair joins each of its two to the other one

@@ -1,24 +1,19 @@
 //! Surfaces with their half-edges.
-ghost use Rattle.std.specs.Prelude.{◌≡◌, ◌≢◌, ◌<◌, ◌≤◌, ◌+◌, ◌^◌, ℕ, List, length, All, AllPairs, IfOk, MatchOption, slice_index, slice_index_or, [], false, true};
+ghost use Rattle.std.specs.Prelude.{◌≡◌, ◌<◌, ◌+◌, ◌^◌, ℕ, List, length, All, AllPairs, IfOk, MatchOption, slice_index_or, false, true};
 ghost use Rattle.std.specs.List.{range_with_len};
 ghost use Rattle.surf_surfaces.specs.Mesh.{IsFace, pair, pair_lt, among, edges};
 ghost use Rattle.surf_surfaces.specs.Surface.{face_count, face_at, edge_count, ends, faces_of, IsSurface};
 ghost use Rattle.surf_surfaces.specs.SideNumber.{side_count, first_side, IsFaceOf, IsEdgeOf};
 ghost use Rattle.surf_surfaces.specs.SideNumber.{IsMate};
-ghost use Rattle.surf_mesh.specs.EdgeTable.{IsEdgeTable};
-ghost use Rattle.surf_mesh.specs.Pairs.{HasTwoFaces};
-ghost use Rattle.surf_mesh.specs.Ring.{BeginsAt, IsRing, AreEdgesAt, GoBetween, AreAllRings};
-ghost use Rattle.surf_mesh.specs.Half.{AreAllMates};
+ghost use Rattle.surf_soup.specs.EdgeTable.{IsTableOf};
+ghost use Rattle.surf_soup.specs.Ring.{BeginsAt, IsRing, AreEdgesAt, GoBetween, AreAllRings};
+ghost use Rattle.surf_soup.specs.Half.{AreAllMates};
 
-use crate::Soup;
-use crate::pairs::face_in;
-use crate::rings::{Rings, find_rings};
-use crate::tables::{EdgeTable, edge_table};
-use crate::vertices::vertex_sides;
 use std::alloc::Global;
 use std::marker::Model;
 use surf_base::{EdgeId, FaceId, NoMemory, SideId, VertexId};
 use surf_rows::{Rows, part};
+use surf_soup::{EdgeTable, Rings, Soup, all_mates, edge_table, face_in, find_rings, vertex_sides};
 
 /// A surface, with the two sides of each edge joined.
 #[derive(Drop)]
@@ -42,36 +37,6 @@ impl Model for HalfMesh {
     ghost invariant = { λ h. IsHalfMesh (record { vertices = h.vertices; faces = h.faces }) h.table.edges.items h.table.sides h.table.edge_of.items h.table.face_of.items h.table.numbers.items h.mate.items h.rings h.ring_edges };
 }
 
-// Joins the two sides of each row. The second table says in which row each side is.
-fn join_rows(rows: &Rows<SideId>, row_of: &[u32], mate: &mut [SideId])
-    requires two { All (λ row. length row ≡ 2) rows.now }
-    requires inside { (e k : ℕ) → e < length rows.now → k < 2 → slice_index (slice_index_or rows.now e []) k < length mate.old }
-    requires differ { (e : ℕ) → e < length rows.now → slice_index (slice_index_or rows.now e []) 0 ≢ slice_index (slice_index_or rows.now e []) 1 }
-    requires keyed { (e k : ℕ) → e < length rows.now → k < 2 → slice_index row_of.now (slice_index (slice_index_or rows.now e []) k) ≡ e }
-    ensures first { (e : ℕ) → e < length rows.now → slice_index mate.new (slice_index (slice_index_or rows.now e []) 0) ≡ slice_index (slice_index_or rows.now e []) 1 }
-    ensures second { (e : ℕ) → e < length rows.now → slice_index mate.new (slice_index (slice_index_or rows.now e []) 1) ≡ slice_index (slice_index_or rows.now e []) 0 }
-{
-    for e in 0..rows.len() {
-        let row = rows.row(e);
-        let a = row[0];
-        let b = row[1];
-        mate[a.index()] = b;
-        mate[b.index()] = a;
-    }
-}
-
-/// The mate of each side, where each edge is a side of exactly two faces.
-pub fn all_mates(alloc: Global, soup: &Soup, table: &EdgeTable) -> Result<Vec<SideId>, NoMemory>
-    requires table { IsEdgeTable soup.now table.now.edges.items table.now.sides table.now.edge_of.items table.now.face_of.items table.now.numbers.items }
-    requires two { HasTwoFaces soup.now }
-    ensures { IfOk result (λ v. AreAllMates soup.now v.items) }
-{
-    soup.law_of_soup();
-    let mut mate = table.numbers.to_vec(alloc)?;
-    join_rows(&table.sides, &table.edge_of, &mut mate);
-    Ok(mate)
-}
-
 // The lesser vertex first.
 fn ordered(u: VertexId, v: VertexId) -> (VertexId, VertexId)
     ensures { result ≡ pair u v }
@@ -89,7 +54,8 @@ fn is_before(u: VertexId, v: VertexId, low: VertexId, high: VertexId) -> bool
 // The place of a pair in a list of pairs in order.
 fn find_pair(edges: &[(VertexId, VertexId)], low: VertexId, high: VertexId) -> Option<usize>
     requires { AllPairs (λ p q. pair_lt p q ≡ true) edges.now }
-    ensures { MatchOption result (among (low, high) edges.now ≡ false) (λ e. (e < length edges.now) × (slice_index_or edges.now e (0, 0) ≡ (low, high))) }
+    ensures { MatchOption result (among (low, high) edges.now ≡ false) (λ e. (e < length edges.now)
+        × (slice_index_or edges.now e (0, 0) ≡ (low, high))) }
 {
     let mut from = 0;
     let mut to = edges.len();
@@ -124,7 +90,7 @@ impl HalfMesh {
         table: EdgeTable,
     ) -> Result<HalfMesh, NoMemory>
         requires surface { IsSurface soup }
-        requires table { IsEdgeTable soup table.edges.items table.sides table.edge_of.items table.face_of.items table.numbers.items }
+        requires table { IsTableOf soup table }
         ensures { IfOk result (λ h. h ≡ soup) }
     {
         let mate = all_mates(alloc, &soup, &table)?;
@@ -147,7 +113,7 @@ impl HalfMesh {
         ring_edges: Rows<EdgeId>,
     ) -> HalfMesh
         requires surface { IsSurface soup }
-        requires table { IsEdgeTable soup table.edges.items table.sides table.edge_of.items table.face_of.items table.numbers.items }
+        requires table { IsTableOf soup table }
         requires mates { AreAllMates soup mate.items }
         requires rings { AreAllRings soup soup.vertices rings ring_edges }
         ensures { result ≡ soup }
@@ -276,7 +242,8 @@ impl HalfMesh {
 
     /// The edge between two vertices; none exactly where the pair is no edge.
     pub fn find_edge(&self, u: VertexId, v: VertexId) -> Option<EdgeId>
-        ensures { MatchOption result (among (pair u v) (edges self.now) ≡ false) (λ e. (e < edge_count self.now) × (ends self.now e ≡ pair u v)) }
+        ensures { MatchOption result (among (pair u v) (edges self.now) ≡ false)
+            (λ e. (e < edge_count self.now) × (ends self.now e ≡ pair u v)) }
     {
         let (low, high) = ordered(u, v);
         let found = find_pair(&self.table.edges, low, high);
@@ -289,18 +256,20 @@ impl HalfMesh {
     /// The sides of a face, in the order of its corners.
     pub fn sides(&self, f: FaceId) -> &[SideId]
         requires { f < face_count self.now }
-        ensures { result.now ≡ range_with_len (first_side self.now f) (length (face_at self.now f)) }
+        ensures { result.now ≡ range_with_len (first_side self.now f)
+            (length (face_at self.now f)) }
     {
         let (start, end) = self.faces.span(f.index());
         part(&self.table.numbers, start, end)
     }
 
-    /// The sides that begin at a vertex, one a face there, in the order round it from the least face on: the
-    /// next one lies across the edge that stands before the corner.
+    /// The sides that begin at a vertex, one a face there, in the order round it from the least
+    /// face on: the next one lies across the edge that stands before the corner.
     pub fn ring(&self, v: VertexId) -> &[SideId]
         requires { v < self.now.vertices }
         ensures ring { IsRing self.now v result.now }
-        ensures goes_round { (edges : List ℕ) × AreEdgesAt self.now v edges × GoBetween self.now result.now edges }
+        ensures goes_round { (edges : List ℕ) × AreEdgesAt self.now v edges
+            × GoBetween self.now result.now edges }
     {
         self.rings.row(v.index())
     }
@@ -311,7 +280,8 @@ impl HalfMesh {
     pub fn ring_edges(&self, v: VertexId) -> &[EdgeId]
         requires { v < self.now.vertices }
         ensures edges { AreEdgesAt self.now v result.now }
-        ensures goes_round { (ring : List ℕ) × IsRing self.now v ring × GoBetween self.now ring result.now }
+        ensures goes_round { (ring : List ℕ) × IsRing self.now v ring
+            × GoBetween self.now ring result.now }
     {
         self.ring_edges.row(v.index())
     }

@@ -2,8 +2,8 @@
 use std::alloc::Global;
 use std::test::Fail;
 use surf_base::{FaceId, VertexId};
-use surf_mesh::{PairFault, pair_edges};
 use surf_samples::{OPEN, PILLOW, TETRAHEDRON, soup};
+use surf_soup::{PairFault, pair_edges};
 
 // The edges, or the fault.
 fn pairs(

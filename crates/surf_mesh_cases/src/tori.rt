@@ -3,8 +3,9 @@ use std::alloc::Global;
 use std::test::Fail;
 use surf_base::{EdgeId, FaceId};
 use surf_gen::{chain, made_lengths, torus};
-use surf_mesh::{HalfMesh, Soup};
+use surf_mesh::HalfMesh;
 use surf_samples::TORUS;
+use surf_soup::Soup;
 
 // Whether a face has these corners.
 fn has_corners(soup: &Soup, f: u32, want: [u32; 3]) -> bool {

@@ -10,7 +10,7 @@ use Rattle.surf_surfaces.specs.Surface.{edge_count, ends}
 use Rattle.surf_surfaces.specs.Walk.{edge_length}
 use Rattle.surf_surfaces.specs.Cells.{cells_of}
 use Rattle.surf_surfaces.proofs.PairLaws.{pair_same}
-use Rattle.surf_mesh.specs.Ring.{AreEdgesAt}
+use Rattle.surf_soup.specs.Ring.{AreEdgesAt}
 use Rattle.surf_mesh.specs.Links.{link_at, IsRow, other_of, edge_link}
 use Rattle.surf_mesh.proofs.LinkLaws.{edge_row, cells_few}
 use Rattle.surf_lengths.specs.Lengths.{longest}

@@ -6,7 +6,7 @@ use Rattle.surf_z2.specs.Parity.{sum_below, count_below}
 use Rattle.surf_z2.proofs.Sums.{sum_below-swap, sum_below-const, count_below-all, count_below-paired}
 use Rattle.surf_surfaces.specs.Mesh.{Mesh}
 use Rattle.surf_surfaces.specs.Surface.{edge_count, ends, touches}
-use Rattle.surf_mesh.specs.Ring.{AreEdgesAt}
+use Rattle.surf_soup.specs.Ring.{AreEdgesAt}
 use Rattle.surf_near.specs.Links.{degree}
 
 -- a row is as long as there are edges at its vertex

@@ -13,7 +13,7 @@ ghost use Rattle.surf_base.specs.declared.limits.TheConstants.{MAX_FACES, MAX_SI
 use crate::fault::OffFault;
 use std::alloc::Global;
 use surf_base::{LimitKind, MAX_SIDES, VertexId};
-use surf_mesh::Soup;
+use surf_soup::Soup;
 use surf_text::{Line, Lines, Tokens, read_whole};
 
 // How many corners a face has.

@@ -8,7 +8,7 @@ ghost use Rattle.surf_off.specs.Written.{lines_text, spaced_text, face_text, fac
 use crate::header::Header;
 use crate::write::write_head;
 use surf_base::{FaceId, VertexId};
-use surf_mesh::Soup;
+use surf_soup::Soup;
 use surf_text::{Page, PageFault, Piece};
 
 fn write_points(page: &mut Page, vertices: u32) -> Result<(), PageFault>

@@ -11,7 +11,7 @@ use crate::head::{read_counts, read_head};
 use crate::text::OffText;
 use crate::vertices::read_vertices;
 use std::alloc::Global;
-use surf_mesh::Soup;
+use surf_soup::Soup;
 use surf_text::Lines;
 
 /// Reads an OFF text: its keyword, vertex lines and colours as slices of the text, and its mesh.

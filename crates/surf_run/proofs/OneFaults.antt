@@ -19,10 +19,10 @@ use Rattle.surf_disc.specs.declared.faults.BorderKind.{BorderKind}
 use Rattle.surf_disc.specs.declared.faults.BorderKind.TheVariants.{Nothing, Two}
 use Rattle.surf_disc.specs.declared.faults.DiscFault.{DiscFault}
 use Rattle.surf_disc.specs.declared.faults.DiscFault.TheVariants as disc
-use Rattle.surf_mesh.specs.Apart.{IsLeastApart}
-use Rattle.surf_mesh.specs.Pairs.{degree, HasTwoFaces, IsLeastBorder, IsLeastCrowd}
-use Rattle.surf_mesh.specs.Ring.{IsPinch, IsLeastPinch}
-use Rattle.surf_mesh.specs.Vertices.{AllMet, IsLeastIsolated}
+use Rattle.surf_soup.specs.Apart.{IsLeastApart}
+use Rattle.surf_soup.specs.Pairs.{degree, HasTwoFaces, IsLeastBorder, IsLeastCrowd}
+use Rattle.surf_soup.specs.Ring.{IsPinch, IsLeastPinch}
+use Rattle.surf_soup.specs.Vertices.{AllMet, IsLeastIsolated}
 use Rattle.surf_surfaces.specs.Disc.{IsBorderEdge, ShareOnBorder}
 use Rattle.surf_surfaces.specs.Homology.{boundary}
 use Rattle.surf_surfaces.specs.Joined.{Joined}

@@ -13,7 +13,7 @@ use crate::refusal::Refused;
 use std::alloc::{AllocError, Global};
 use surf_base::Shelf;
 use surf_disc::{BorderKind, DiscFault, check_disc};
-use surf_mesh::Soup;
+use surf_soup::Soup;
 
 /// What `disc` answers: whether a mesh is a disc, with its border, or what is wrong with it.
 pub fn disc<S: Shelf>(alloc: Global, shelf: &mut S, mesh: &str) -> Result<Answered, Refused>

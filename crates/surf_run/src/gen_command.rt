@@ -10,8 +10,8 @@ use crate::refusal::Refused;
 use crate::shape::{Shape, make_mesh};
 use std::alloc::Global;
 use surf_base::MAX_ANSWER;
-use surf_mesh::Soup;
 use surf_off::write_soup;
+use surf_soup::Soup;
 use surf_text::Page;
 
 /// What `gen` answers: the mesh of a shape.

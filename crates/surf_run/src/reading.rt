@@ -12,8 +12,9 @@ use crate::refusal::Refused;
 use std::alloc::Global;
 use surf_base::{FetchFault, LimitKind, MAX_LOOPS, MAX_TEXT, Shelf, fetch};
 use surf_check::check;
-use surf_mesh::{HalfMesh, Soup};
+use surf_mesh::HalfMesh;
 use surf_off::{OffText, read_off};
+use surf_soup::Soup;
 
 /// The bytes of the file of a name.
 pub fn read_file<S: Shelf>(alloc: Global, shelf: &mut S, name: &str) -> Result<Vec<u8>, Refused>

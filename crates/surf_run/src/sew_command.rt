@@ -16,9 +16,10 @@ use crate::refusal::Refused;
 use std::alloc::{AllocError, Global};
 use surf_base::{MAX_ANSWER, Shelf, VertexId};
 use surf_disc::{DiscFault, check_disc};
-use surf_mesh::{HalfMesh, Soup};
+use surf_mesh::HalfMesh;
 use surf_off::OffText;
 use surf_sew::{CopyFault, SewFault, read_copies, sew as sew_copies, write_sewn};
+use surf_soup::Soup;
 use surf_text::Page;
 
 /// What `sew` answers: the mesh that was cut, from the text that `cut` wrote.

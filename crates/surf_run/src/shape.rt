@@ -12,7 +12,8 @@ use std::marker::Model;
 use surf_base::{LimitKind, MAX_BASIS_VERTICES, MAX_FACES, MAX_LOOPS, MAX_VERTICES, NoMemory};
 use surf_check::check;
 use surf_gen::{chain, torus};
-use surf_mesh::{HalfMesh, Soup};
+use surf_mesh::HalfMesh;
+use surf_soup::Soup;
 
 /// A chain of tori, each of as many rows and columns of squares. One torus is a chain too.
 #[derive(Clone, Copy, Debug)]

@@ -1,7 +1,7 @@
 //! The soup of a table of faces.
 use std::alloc::Global;
 use surf_base::{NoMemory, VertexId};
-use surf_mesh::Soup;
+use surf_soup::Soup;
 
 fn push(soup: &mut Soup, a: u32, b: u32, c: u32) -> Result<(), NoMemory> {
     let n = soup.vertices();

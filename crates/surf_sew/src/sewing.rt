@@ -8,8 +8,8 @@ use crate::fault::SewFault;
 use crate::first::list_first;
 use std::alloc::{AllocError, Global};
 use surf_base::{CopyId, FaceId, VertexId};
-use surf_mesh::Soup;
 use surf_off::OffText;
+use surf_soup::Soup;
 
 // The first vertex without a copy.
 fn first_without(first: &[u32], copies: u32) -> Option<usize>

@@ -14,11 +14,11 @@ use Rattle.surf_opening.proofs.Cotrees.{ends_pair}
 use Rattle.surf_opening.proofs.MeshSides.{is_darts, no_third_face}
 use Rattle.surf_opening.proofs.Polygons.{after_cases}
 use Rattle.surf_surfaces.specs.SideNumber.{owners, first_side, IsFaceOf}
-use Rattle.surf_mesh.specs.Ring.{BeginsAt}
-use Rattle.surf_mesh.proofs.HalfLaws.{face_of_side, spans}
-use Rattle.surf_mesh.proofs.RingLaws.{one_corner}
-use Rattle.surf_mesh.proofs.SideNumbers.{one_face}
-use Rattle.surf_mesh.proofs.VertexLaws.{corner_at_place}
+use Rattle.surf_soup.specs.Ring.{BeginsAt}
+use Rattle.surf_soup.proofs.HalfLaws.{face_of_side, spans}
+use Rattle.surf_soup.proofs.RingLaws.{one_corner}
+use Rattle.surf_soup.proofs.SideNumbers.{one_face}
+use Rattle.surf_soup.proofs.VertexLaws.{corner_at_place}
 use Rattle.surf_slit.proofs.Runs.{Linked}
 use Rattle.surf_slit.specs.Labels.{IsUncut, AgreeAt}
 

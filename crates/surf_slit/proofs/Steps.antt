@@ -11,9 +11,9 @@ use Rattle.surf_surfaces.proofs.JoinedLaws.{joined_lift, joined_trans}
 use Rattle.surf_opening.specs.Opening.{ShareUncutAt}
 use Rattle.surf_opening.proofs.Counting.{pigeons}
 use Rattle.surf_surfaces.specs.SideNumber.{side_count, owners, IsFaceOf}
-use Rattle.surf_mesh.specs.Ring.{BeginsAt}
-use Rattle.surf_mesh.proofs.HalfLaws.{face_of_side}
-use Rattle.surf_mesh.proofs.VertexLaws.{corners_below, corners_len}
+use Rattle.surf_soup.specs.Ring.{BeginsAt}
+use Rattle.surf_soup.proofs.HalfLaws.{face_of_side}
+use Rattle.surf_soup.proofs.VertexLaws.{corners_below, corners_len}
 use Rattle.surf_slit.specs.Labels.{corner_at, IsUncut, AgreeAt, AreNumbers, AreLabels}
 use Rattle.surf_slit.specs.Link.{run_of}
 use Rattle.surf_slit.proofs.Runs.{Linked, run_below, run_used, runs_along, runs_join, closed_agree, split_agree, chain, chain_round}
@@ -43,7 +43,7 @@ all_labels {mesh} surface cut labels count numbers agree = record {
 }
   where
     side_in : (s f : ℕ) → IsFaceOf mesh s f → s < side_count mesh
-    side_in s f a = let sp = Rattle.surf_mesh.proofs.HalfLaws.spans mesh.faces f a.is_face in omega (arith, sp.0, sp.1, a.upto)
+    side_in s f a = let sp = Rattle.surf_soup.proofs.HalfLaws.spans mesh.faces f a.is_face in omega (arith, sp.0, sp.1, a.upto)
 
 pub their_numbers : {mesh : Mesh} {cut : List Bool} {labels : List ℕ} {count : ℕ} → AreLabels mesh cut labels count → AreNumbers mesh labels count
 their_numbers {mesh} {cut} {labels} {count} are = record {

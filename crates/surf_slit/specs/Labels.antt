@@ -5,8 +5,8 @@ use Rattle.surf_surfaces.specs.Mesh.{Mesh, pair}
 use Rattle.surf_surfaces.specs.Surface.{edge_count, ends}
 use Rattle.surf_opening.specs.Opening.{ShareUncutAt}
 use Rattle.surf_surfaces.specs.SideNumber.{side_count, IsFaceOf}
-use Rattle.surf_mesh.specs.Ring.{BeginsAt}
-use Rattle.surf_mesh.specs.Vertices.{all_corners}
+use Rattle.surf_soup.specs.Ring.{BeginsAt}
+use Rattle.surf_soup.specs.Vertices.{all_corners}
 
 -- the corner at which a side begins
 abbrev pub corner_at : Mesh → ℕ → ℕ

@@ -3,7 +3,7 @@ ghost use Rattle.std.specs.Prelude.{◌≡◌, ◌≢◌, ◌<◌, ◌≤◌, �
 ghost use Rattle.surf_z2.specs.Parity.{count_below};
 ghost use Rattle.surf_surfaces.specs.Surface.{edge_count};
 ghost use Rattle.surf_surfaces.specs.SideNumber.{side_count};
-ghost use Rattle.surf_mesh.specs.Ring.{BeginsAt};
+ghost use Rattle.surf_soup.specs.Ring.{BeginsAt};
 ghost use Rattle.surf_slit.specs.Labels.{corner_at, IsLabelledAt};
 ghost use Rattle.surf_slit.specs.Link.{run_of};
 ghost use Rattle.surf_slit.specs.Place.{cut_behind};

@@ -2,7 +2,7 @@
 ghost use Rattle.std.specs.Prelude.{◌≡◌, ◌≢◌, ◌<◌, ◌≤◌, ◌+◌, ◌^◌, ℕ, true, false, length, MatchOption, slice_index, slice_index_or, slice_set};
 ghost use Rattle.surf_surfaces.specs.Surface.{edge_count};
 ghost use Rattle.surf_surfaces.specs.SideNumber.{side_count};
-ghost use Rattle.surf_mesh.specs.Ring.{IsEdgeAt};
+ghost use Rattle.surf_soup.specs.Ring.{IsEdgeAt};
 ghost use Rattle.surf_slit.specs.Labels.{corner_at, AgreeAt, AreNumbers, AreLabels};
 ghost use Rattle.surf_slit.specs.Place.{place, NoneCut, IsNextCut};
 

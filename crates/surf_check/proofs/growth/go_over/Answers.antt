@@ -3,9 +3,9 @@ use Rattle.std.proofs.lemmas.Bool.{cases_eq}
 use Rattle.std.proofs.lemmas.List.{get_or_read}
 use Rattle.surf_surfaces.specs.Surface.{face_count}
 use Rattle.surf_surfaces.specs.SideNumber.{IsFaceOf}
-use Rattle.surf_mesh.specs.Reach.{marked}
-use Rattle.surf_mesh.proofs.ReachSteps.{marked-inside}
-use Rattle.surf_mesh.proofs.SideNumbers.{one_face}
+use Rattle.surf_soup.specs.Reach.{marked}
+use Rattle.surf_soup.proofs.ReachSteps.{marked-inside}
+use Rattle.surf_soup.proofs.SideNumbers.{one_face}
 use Rattle.surf_check.specs.Growth.{IsCrossed}
 use Rattle.surf_check.proofs.GrowthLaws.{grows_on_both, crossed_still, row_face, row_below, row_has}
 use Rattle.surf_check.proofs.growth.go_over.Goals as goal

@@ -2,8 +2,8 @@ use Rattle.std.proofs.Common.{◌≡◌, ◌<◌, ◌∷◌, ◌++◌, true, fal
 use Rattle.std.specs.List.{sum_by}
 use Rattle.std.proofs.Math.ListN.{set}
 use Rattle.std.proofs.lemmas.List.{length-replicate, get_or_default}
-use Rattle.surf_mesh.proofs.RoundSteps.{marks_one}
-use Rattle.surf_mesh.specs.Reach.{marked}
+use Rattle.surf_soup.proofs.RoundSteps.{marks_one}
+use Rattle.surf_soup.specs.Reach.{marked}
 use Rattle.surf_cutter.specs.Boundary.{over, corners_of, HasCopy, IsBorderSide}
 use Rattle.surf_cutter.proofs.BorderRounds.{IsGone, gone_start, gone_border, gone_leaves, gone_more, gone_round}
 use Rattle.surf_cutter.proofs.BorderTables.{none_marked, copy_in, another_in_rims, is_in_rims}

@@ -1,5 +1,5 @@
 use Rattle.std.proofs.Common.{length}
-use Rattle.surf_mesh.specs.Reach.{unmarked}
+use Rattle.surf_soup.specs.Reach.{unmarked}
 use Rattle.surf_cutter.specs.Boundary.{over}
 use Rattle.surf_cutter.proofs.BorderRounds.{IsGone}
 use Rattle.surf_cutter.proofs.border.go_round.Given as goal

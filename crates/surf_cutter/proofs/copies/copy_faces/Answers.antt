@@ -4,7 +4,7 @@ use Rattle.std.proofs.lemmas.List.FromFn.{length-range_with_len}
 use Rattle.std.proofs.lemmas.List.Sums.{sum_by_push}
 use Rattle.surf_surfaces.specs.Surface.{face_count, face_at}
 use Rattle.surf_surfaces.specs.SideNumber.{side_count, first_side}
-use Rattle.surf_mesh.proofs.HalfLaws.{spans}
+use Rattle.surf_soup.proofs.HalfLaws.{spans}
 use Rattle.surf_cutter.specs.Copies.{AreCopied}
 use Rattle.surf_cutter.proofs.Sorted.{copied_more, side_of_range}
 use Rattle.surf_cutter.proofs.copies.copy_faces.Goals as goal

@@ -1,8 +1,8 @@
 use Rattle.std.proofs.Common.{◌≡◌, length, ap, sym, ◌∙◌, subst, arith}
 use Rattle.surf_surfaces.specs.Surface.{face_count}
 use Rattle.surf_surfaces.specs.SideNumber.{side_count}
-use Rattle.surf_mesh.specs.Vertices.{all_corners}
-use Rattle.surf_mesh.proofs.VertexLaws.{corners_len}
+use Rattle.surf_soup.specs.Vertices.{all_corners}
+use Rattle.surf_soup.proofs.VertexLaws.{corners_len}
 use Rattle.surf_cutter.specs.Copies.{AreSorted, AreCounted, AreCopied}
 use Rattle.surf_cutter.proofs.OpenedBy.{opened_by, in_order}
 use Rattle.surf_cutter.proofs.copies.open_by.Goals as goal

@@ -3,8 +3,8 @@ use Rattle.std.specs.List.{range_with_len}
 use Rattle.std.proofs.lemmas.List.FromFn.{length-range_with_len, get_or-range_with_len}
 use Rattle.surf_rows.specs.Groups.{group_of}
 use Rattle.surf_surfaces.specs.SideNumber.{side_count}
-use Rattle.surf_mesh.specs.Vertices.{all_corners}
-use Rattle.surf_mesh.proofs.VertexLaws.{corners_len, corners_below}
+use Rattle.surf_soup.specs.Vertices.{all_corners}
+use Rattle.surf_soup.proofs.VertexLaws.{corners_len, corners_below}
 use Rattle.surf_cutter.proofs.Sorted.{sorted_sides}
 use Rattle.surf_cutter.proofs.copies.sides_by_vertex.Goals as goal
 

@@ -1,6 +1,6 @@
 use Rattle.std.proofs.Common.{◌≡◌, sym, subst, arith}
 use Rattle.std.proofs.lemmas.Result.{IfOk-weaker}
-use Rattle.surf_mesh.proofs.SideTables.{three_each}
+use Rattle.surf_soup.proofs.SideTables.{three_each}
 use Rattle.surf_cutter.specs.Opened.{OpenMesh, IsOpenedInOrder}
 use Rattle.surf_cutter.proofs.PairedBorders.{opens_to_disc}
 use Rattle.surf_cutter.proofs.cutting.open_cut.Goals as goal

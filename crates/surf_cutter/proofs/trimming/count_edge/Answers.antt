@@ -1,7 +1,7 @@
 use Rattle.std.proofs.Common.{◌≡◌, ◌+◌, ℕ, get_or, ap, ◌∙◌, subst, arith}
 use Rattle.surf_surfaces.specs.Surface.{ends}
 use Rattle.surf_surfaces.proofs.CellLaws.{ends_below}
-use Rattle.surf_mesh.proofs.HalfLaws.{edges_few}
+use Rattle.surf_soup.proofs.HalfLaws.{edges_few}
 use Rattle.surf_cutter.proofs.Trims.{degrees_more, degrees_none, degree_few}
 use Rattle.surf_cutter.proofs.trimming.count_edge.Goals as goal
 

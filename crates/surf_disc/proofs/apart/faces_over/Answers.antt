@@ -2,9 +2,9 @@ use Rattle.std.proofs.Common.{◌≡◌, ◌<◌, ◌+◌, ◌++◌, ◌∷◌, 
 use Rattle.std.proofs.lemmas.List.{get_or_default}
 use Rattle.surf_surfaces.specs.Surface.{face_at}
 use Rattle.surf_surfaces.specs.SideNumber.{owners, first_side}
-use Rattle.surf_mesh.proofs.Owners.{length-owners}
-use Rattle.surf_mesh.proofs.HalfLaws.{spans}
-use Rattle.surf_mesh.proofs.ApartLaws.{across_more}
+use Rattle.surf_soup.proofs.Owners.{length-owners}
+use Rattle.surf_soup.proofs.HalfLaws.{spans}
+use Rattle.surf_soup.proofs.ApartLaws.{across_more}
 use Rattle.surf_disc.proofs.apart.faces_over.Goals as goal
 
 pub list_over-requires-clause-across : goal.list_over-requires-clause-across

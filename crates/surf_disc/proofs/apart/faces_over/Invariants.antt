@@ -1,6 +1,6 @@
 use Rattle.std.proofs.Common.{◌≡◌}
 use Rattle.surf_surfaces.specs.SideNumber.{first_side}
-use Rattle.surf_mesh.specs.Apart.{AreAcross}
+use Rattle.surf_soup.specs.Apart.{AreAcross}
 use Rattle.surf_disc.proofs.apart.faces_over.Given as goal
 
 abbrev pub invariant-loop-f : goal.invariant-loop-f

@@ -1,6 +1,6 @@
 use Rattle.std.proofs.Common.{ℕ, List, Bool, sym, subst}
-use Rattle.surf_mesh.specs.Apart.{IsLeastApart}
-use Rattle.surf_mesh.specs.Reach.{IsReach}
+use Rattle.surf_soup.specs.Apart.{IsLeastApart}
+use Rattle.surf_soup.specs.Reach.{IsReach}
 use Rattle.surf_disc.proofs.ApartLaws.{over_inside, none_apart, least_apart}
 use Rattle.surf_disc.proofs.apart.refuse_apart.Goals as goal
 

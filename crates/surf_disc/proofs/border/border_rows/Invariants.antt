@@ -1,6 +1,6 @@
 use Rattle.std.proofs.Common.{◌≤◌, ◌*◌, take, length}
 use Rattle.std.specs.List.{sum_by}
-use Rattle.surf_mesh.specs.Vertices.{all_corners}
+use Rattle.surf_soup.specs.Vertices.{all_corners}
 use Rattle.surf_disc.specs.Border.{AreNeighbours}
 use Rattle.surf_disc.proofs.border.border_rows.Given as goal
 

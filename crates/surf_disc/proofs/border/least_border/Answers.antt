@@ -1,7 +1,7 @@
 use Rattle.std.proofs.Common.{ℕ, Option, Some, None}
 use Rattle.std.specs.Option.{MatchOption}
 use Rattle.surf_surfaces.specs.Disc.{IsBorderEdge}
-use Rattle.surf_mesh.specs.Pairs.{NoneWithin, IsFirstWithin}
+use Rattle.surf_soup.specs.Pairs.{NoneWithin, IsFirstWithin}
 use Rattle.surf_disc.specs.Border.{IsLeastOnBorder}
 use Rattle.surf_disc.proofs.TableLaws.{first_border, no_border}
 use Rattle.surf_disc.proofs.border.least_border.Goals as goal

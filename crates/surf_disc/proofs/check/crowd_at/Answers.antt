@@ -2,10 +2,10 @@ use Rattle.std.proofs.Common.{◌≡◌, ◌<◌, ℕ, List, [], ◌∷◌, get_
 use Rattle.std.proofs.lemmas.List.{get_or_read}
 use Rattle.surf_surfaces.specs.Mesh.{Mesh, IsMesh}
 use Rattle.surf_surfaces.specs.Surface.{ends}
-use Rattle.surf_mesh.specs.EdgeTable.{IsEdgeTable}
-use Rattle.surf_mesh.specs.Pairs.{IsFirstWithin}
-use Rattle.surf_mesh.proofs.Owners.{length-owners}
-use Rattle.surf_mesh.proofs.Paired.{row_side}
+use Rattle.surf_soup.specs.EdgeTable.{IsEdgeTable}
+use Rattle.surf_soup.specs.Pairs.{IsFirstWithin}
+use Rattle.surf_soup.proofs.Owners.{length-owners}
+use Rattle.surf_soup.proofs.Paired.{row_side}
 use Rattle.surf_disc.specs.Fault.{IsLeastCrowded}
 use Rattle.surf_disc.proofs.TableLaws.{table_len, first_crowded}
 use Rattle.surf_disc.proofs.check.crowd_at.Goals as goal

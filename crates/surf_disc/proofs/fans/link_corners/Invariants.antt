@@ -1,4 +1,4 @@
-use Rattle.surf_mesh.specs.Vertices.{all_corners}
+use Rattle.surf_soup.specs.Vertices.{all_corners}
 use Rattle.surf_disc.specs.Links.{AreLinked}
 use Rattle.surf_disc.proofs.fans.link_corners.Given as goal
 

@@ -1,6 +1,6 @@
 use Rattle.std.proofs.Common.{ℕ, List, length, sym, ap, subst, arith}
-use Rattle.surf_mesh.specs.Reach.{IsReach}
-use Rattle.surf_mesh.proofs.VertexLaws.{at_len}
+use Rattle.surf_soup.specs.Reach.{IsReach}
+use Rattle.surf_soup.proofs.VertexLaws.{at_len}
 use Rattle.surf_disc.specs.Links.{AreFirsts}
 use Rattle.surf_disc.proofs.LinkLaws.{some_rows, vertices_few, links_inside, fans_marked}
 use Rattle.surf_disc.proofs.fans.mark_fans.Goals as goal

@@ -1,7 +1,7 @@
 use Rattle.std.proofs.Common.{◌≡◌, ◌<◌, ℕ, List, length, get_or, sym, ap, subst, ◌∙◌, arith}
-use Rattle.surf_mesh.specs.Ring.{IsLeastPinch}
-use Rattle.surf_mesh.proofs.Owners.{length-owners}
-use Rattle.surf_mesh.proofs.VertexLaws.{at_len, at_is}
+use Rattle.surf_soup.specs.Ring.{IsLeastPinch}
+use Rattle.surf_soup.proofs.Owners.{length-owners}
+use Rattle.surf_soup.proofs.VertexLaws.{at_len, at_is}
 use Rattle.surf_disc.proofs.CornerLaws.{face_of}
 use Rattle.surf_disc.proofs.FanLaws.{least_pinch, fans_more, row_inside}
 use Rattle.surf_disc.proofs.fans.refuse_unmarked.Goals as goal

@@ -2,9 +2,9 @@ use Rattle.std.proofs.Common.{◌≡◌, ◌<◌, ℕ, List, get_or, length, sym
 use Rattle.std.proofs.lemmas.List.{get_or_read}
 use Rattle.surf_surfaces.specs.Mesh.{Mesh}
 use Rattle.surf_surfaces.specs.SideNumber.{side_count}
-use Rattle.surf_mesh.specs.Vertices.{all_corners}
-use Rattle.surf_mesh.specs.Ring.{BeginsAt}
-use Rattle.surf_mesh.proofs.VertexLaws.{corners_len}
+use Rattle.surf_soup.specs.Vertices.{all_corners}
+use Rattle.surf_soup.specs.Ring.{BeginsAt}
+use Rattle.surf_soup.proofs.VertexLaws.{corners_len}
 use Rattle.surf_mesh.proofs.half.HalfMesh.tail.Goals as goal
 
 pub bounds-items-index : goal.bounds-items-index

@@ -1,0 +1,120 @@
+-- The listed pairs are the edges, and the groups by edge are the sides of the edges.
+use Rattle.std.proofs.Common.{◌≡◌, ℕ, zero, suc, ◌+◌, ◌<◌, ◌≤◌, Bool, true, false, eqb, List, [], ◌∷◌, length, get_or, map, refl, sym, ap, ◌∙◌, arith, inl, inr}
+use Rattle.std.specs.List.{AllByRecursion, filter, flat_map, range_with_len, sum_by}
+use Rattle.std.proofs.lemmas.Bool.{true≢false, eq-eqb, ne_eqb, eqb-true, cases_eq}
+use Rattle.std.proofs.lemmas.List.{length-map, get_or-map, same_lists}
+use Rattle.std.proofs.lemmas.List.Concat.{length-flat_map}
+use Rattle.std.proofs.lemmas.List.Elements.{All-from_recursion}
+use Rattle.std.proofs.lemmas.List.Sums.{sum_by-cons}
+use Rattle.std.proofs.lemmas.List.FromFn.{length-map-range_with_len, get_or-map-range_with_len}
+use Rattle.surf_surfaces.specs.Mesh.{Mesh, IsMesh, sides, pair_of, pair_eq, among, edges}
+use Rattle.surf_surfaces.specs.Surface.{edge_count, ends}
+use Rattle.surf_surfaces.specs.Walk.{place_of}
+use Rattle.surf_surfaces.proofs.PairLaws.{pair_eq-true, pair_eq-self, pair_eq-same, pair_same}
+use Rattle.surf_surfaces.proofs.EdgeLaws.{among-sorted, list_any_at, list_any_from, rising_unique, rising_from_AllPairs, edges-rise, ends-eq, place_of-ends}
+use Rattle.surf_surfaces.proofs.SurfaceLaws.{edge_below}
+use Rattle.surf_surfaces.proofs.CountLaws.{length-sides}
+use Rattle.surf_rows.specs.Groups.{has_key, group_of}
+use Rattle.surf_surfaces.specs.SideNumber.{side_count, side_pairs, pair_at, sides_with}
+use Rattle.surf_soup.specs.Order.{side_order, pair_in, IsNumbered}
+use Rattle.surf_soup.proofs.Order.{side_order-below, side_order-has}
+
+same_Bool : (a b : Bool) → (a ≡ true → b ≡ true) → (b ≡ true → a ≡ true) → a ≡ b
+same_Bool true b f g = sym (f refl)
+same_Bool false true f g = absurd (true≢false (sym (g refl)))
+same_Bool false false f g = refl
+
+pub sizes : (faces : List (List ℕ)) → sum_by (λ f. length (sides f)) faces ≡ sum_by length faces
+sizes [] = refl
+sizes (face ∷ rest) = omega (arith, sum_by-cons {X = List ℕ} (λ f. length (sides f)) face rest, sum_by-cons {X = List ℕ} length face rest, length-sides face, sizes rest)
+
+pub length-side_pairs : (mesh : Mesh) → length (side_pairs mesh.faces) ≡ side_count mesh
+length-side_pairs mesh = length-map (flat_map sides mesh.faces) pair_of ∙ length-flat_map sides mesh.faces ∙ sizes mesh.faces
+
+-- the pair of each side is an edge
+pub pair_at-edge : (mesh : Mesh) (s : ℕ) → s < side_count mesh → among (pair_at mesh s) (edges mesh) ≡ true
+pair_at-edge mesh s lt =
+    let n = length-side_pairs mesh in
+    among-sorted (pair_at mesh s) (side_pairs mesh.faces) ∙ list_any_from (pair_eq (pair_at mesh s)) (side_pairs mesh.faces) (0, 0) s (omega arith) (pair_eq-self (pair_at mesh s))
+
+-- a table of ends
+pub end_at : (end : ℕ × ℕ → ℕ) (mesh : Mesh) (table : List ℕ) → table ≡ map end (side_pairs mesh.faces) → (s d : ℕ) → s < side_count mesh → get_or table s d ≡ end (pair_at mesh s)
+end_at end mesh table is s d lt = let n = length-side_pairs mesh in ap (λ xs. get_or xs s d) is ∙ get_or-map end (side_pairs mesh.faces) s (0, 0) d (omega arith)
+
+pub ends_len : (end : ℕ × ℕ → ℕ) (mesh : Mesh) (table : List ℕ) → table ≡ map end (side_pairs mesh.faces) → length table ≡ side_count mesh
+ends_len end mesh table is = ap length is ∙ length-map (side_pairs mesh.faces) end ∙ length-side_pairs mesh
+
+filter_same : (p q : ℕ → Bool) (xs : List ℕ) → AllByRecursion (λ x. p x ≡ q x) xs → filter p xs ≡ filter q xs
+filter_same p q [] h = refl
+filter_same p q (x ∷ xs) h = rw (h.0, filter_same p q xs h.1) refl
+
+all_range : (P : ℕ → Type 0) (a n : ℕ) → ((s : ℕ) → a ≤ s → s < a + n → P s) → AllByRecursion P (range_with_len a n)
+all_range P a zero f = tt
+all_range P a (suc n) f = (f a (omega arith) (omega arith), all_range P (a + 1) n (λ s l h. f s (omega arith) (omega arith)))
+
+module _ (mesh : Mesh) (is_mesh : IsMesh mesh) (lows highs : List ℕ) (low_is : lows ≡ map (λ p. p.0) (side_pairs mesh.faces)) (high_is : highs ≡ map (λ p. p.1) (side_pairs mesh.faces)) where
+  pub ends_below : (s : ℕ) → s < side_count mesh → (get_or lows s 0 < mesh.vertices) × (get_or highs s 0 < mesh.vertices)
+  ends_below s lt =
+      let b = edge_below mesh is_mesh (pair_at mesh s) (pair_at-edge mesh s lt) in
+      let l = end_at (λ p. p.0) mesh lows low_is s 0 lt in
+      let h = end_at (λ p. p.1) mesh highs high_is s 0 lt in
+      (omega (arith, b.0, b.1), omega (arith, b.1))
+
+  pub pair_in_is : (s : ℕ) → s < side_count mesh → pair_in lows highs s ≡ pair_at mesh s
+  pair_in_is s lt = pair_same (pair_in lows highs s) (pair_at mesh s) (end_at (λ p. p.0) mesh lows low_is s 0 lt) (end_at (λ p. p.1) mesh highs high_is s 0 lt)
+
+  module _ (edge_list : List (ℕ × ℕ)) (edge_of : List ℕ) (numbered : IsNumbered (pair_in lows highs) (side_order lows highs mesh.vertices) (length (side_order lows highs mesh.vertices)) edge_list edge_of) where
+    listed : (s : ℕ) → s < side_count mesh → (j : ℕ) × (j < length (side_order lows highs mesh.vertices)) × (get_or (side_order lows highs mesh.vertices) j 0 ≡ s)
+    listed s lt =
+        let n = ends_len (λ p. p.0) mesh lows low_is in
+        let b = ends_below s lt in
+        let r = list_any_at (eqb s) (side_order lows highs mesh.vertices) 0 (side_order-has lows highs mesh.vertices s (omega arith) b.0 b.1) in
+        (r.0, r.1, sym (eqb-true s (get_or (side_order lows highs mesh.vertices) r.0 0) r.2))
+
+    pub number_below : (s : ℕ) → s < side_count mesh → get_or edge_of s 0 < length edge_list
+    number_below s lt = let r = listed s lt in let b = numbered.below r.0 r.1 in rw r.2 at b
+
+    pub number_same : (s : ℕ) → s < side_count mesh → get_or edge_list (get_or edge_of s 0) (0, 0) ≡ pair_at mesh s
+    number_same s lt = let r = listed s lt in let b = numbered.same r.0 r.1 in (rw r.2 at b) ∙ pair_in_is s lt
+
+    pub edge_list_is : edge_list ≡ edges mesh
+    edge_list_is = rising_unique edge_list (edges mesh) (rising_from_AllPairs edge_list numbered.rises) (edges-rise mesh) (λ p. same_Bool (among p edge_list) (among p (edges mesh)) (to p) (from p))
+      where
+        order : List ℕ
+        order = side_order lows highs mesh.vertices
+
+        to : (p : ℕ × ℕ) → among p edge_list ≡ true → among p (edges mesh) ≡ true
+        to p has =
+            let r = list_any_at (pair_eq p) edge_list (0, 0) has in
+            let u = numbered.used r.0 r.1 in
+            let s = get_or (side_order lows highs mesh.vertices) u.0 0 in
+            let n = ends_len (λ q. q.0) mesh lows low_is in
+            let below : s < length lows = All-from_recursion (λ t. t < length lows) (side_order lows highs mesh.vertices) (side_order-below lows highs mesh.vertices) u.0 0 u.1 in
+            let is : p ≡ pair_at mesh s = pair_eq-true p (get_or edge_list r.0 (0, 0)) r.2 ∙ u.2 ∙ pair_in_is s (omega arith) in
+            rw is (pair_at-edge mesh s (omega arith))
+
+        from : (p : ℕ × ℕ) → among p (edges mesh) ≡ true → among p edge_list ≡ true
+        from p has =
+            let r = list_any_at (pair_eq p) (side_pairs mesh.faces) (0, 0) (sym (among-sorted p (side_pairs mesh.faces)) ∙ has) in
+            let n = length-side_pairs mesh in
+            let lt : r.0 < side_count mesh = omega (arith, r.1) in
+            list_any_from (pair_eq p) edge_list (0, 0) (get_or edge_of r.0 0) (number_below r.0 lt) (pair_eq-same p (get_or edge_list (get_or edge_of r.0 0) (0, 0)) (pair_eq-true p (pair_at mesh r.0) r.2 ∙ sym (number_same r.0 lt)))
+
+eqb_comm : (a b : ℕ) → eqb a b ≡ eqb b a
+eqb_comm a b = elim (cases_eq a b) [ inl e ↦ eq-eqb a b e ∙ sym (eq-eqb b a (sym e)) | inr n ↦ ne_eqb a b n ∙ sym (ne_eqb b a (λ e. n (sym e))) ]
+
+-- the sides by their edge
+pub sides_by_edge : (mesh : Mesh) (edge_of : List ℕ) → ((s : ℕ) → s < side_count mesh → get_or edge_of s 0 < edge_count mesh) → ((s : ℕ) → s < side_count mesh → ends mesh (get_or edge_of s 0) ≡ pair_at mesh s) →
+    map (group_of edge_of (range_with_len 0 (side_count mesh))) (range_with_len 0 (edge_count mesh)) ≡ map (sides_with mesh) (edges mesh)
+sides_by_edge mesh edge_of below same =
+    let all = range_with_len 0 (side_count mesh) in
+    let E = edge_count mesh in
+    same_lists (map (group_of edge_of all) (range_with_len 0 E)) (map (sides_with mesh) (edges mesh)) (length-map-range_with_len (group_of edge_of all) 0 E ∙ sym (length-map (edges mesh) (sides_with mesh))) (λ e d lt.
+    let l = length-map-range_with_len (group_of edge_of all) 0 E in
+    let in' : e < E = omega arith in
+    get_or-map-range_with_len (group_of edge_of all) 0 E e e d in' (omega arith)
+    ∙ filter_same (has_key edge_of e) (λ s. pair_eq (ends mesh e) (pair_at mesh s)) all (all_range (λ s. has_key edge_of e s ≡ pair_eq (ends mesh e) (pair_at mesh s)) 0 (side_count mesh) (λ s low high.
+    let lt_s : s < side_count mesh = omega arith in
+    let f = get_or edge_of s 0 in
+    eqb_comm f e ∙ ap (eqb e) (sym (place_of-ends mesh f (below s lt_s))) ∙ ap (λ p. eqb e (place_of p (edges mesh))) (same s lt_s) ∙ sym (ends-eq mesh (pair_at mesh s) e (pair_at-edge mesh s lt_s) in')))
+    ∙ sym (get_or-map (sides_with mesh) (edges mesh) e (0, 0) d in'))

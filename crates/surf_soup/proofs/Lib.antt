@@ -1,0 +1,15 @@
+pub mod SideTables
+pub mod Order
+pub mod Numbering
+pub mod EdgeTables
+pub mod Owners
+pub mod Paired
+pub mod Mates
+pub mod HalfLaws
+pub mod SideNumbers
+pub mod ReachSteps
+pub mod VertexLaws
+pub mod ApartLaws
+pub mod RoundSteps
+pub mod RingLaws
+pub mod PairFaults

@@ -1,0 +1,27 @@
+use Rattle.std.proofs.Common.{◌≡◌, ◌<◌, ◌+◌, length, ap, ◌∙◌, arith}
+use Rattle.surf_surfaces.specs.Side.{after}
+use Rattle.surf_surfaces.specs.Surface.{face_at, face_count}
+use Rattle.surf_soup.proofs.HalfLaws.{spans}
+use Rattle.surf_soup.proofs.RingLaws.{turned_more}
+use Rattle.surf_soup.proofs.rings.next_sides.Goals as goal
+
+pub list_nexts-requires : goal.list_nexts-requires
+list_nexts-requires c =
+    let mesh = c.args.soup.now in
+    let f = c.loop-f.f in
+    let own : length c.face.result.now ≡ length (face_at mesh f) = ap length (c.face.ensures.corners ∙ ap (face_at mesh) c.new.ensures) in
+    let sp = spans mesh.faces f (omega (arith, c.loop-f-test.true, c.faces-f-end.ensures.count)) in
+    omega (arith, own, sp.0, sp.1, c.loop-f.invariant.first, c.law_of_soup.ensures.few)
+
+pub loop-f-preserved : goal.loop-f-preserved
+loop-f-preserved c =
+    let mesh = c.args.soup.now in
+    let f = c.loop-f.f in
+    let lt : f < face_count mesh = omega (arith, c.loop-f-test.true, c.faces-f-end.ensures.count) in
+    let count = length c.face.result.now in
+    let own : count ≡ length (face_at mesh f) = ap length (c.face.ensures.corners ∙ ap (face_at mesh) c.new.ensures) in
+    let e = c.in_ok-list_nexts.ensures in
+    record {
+      turned = turned_more after mesh f count c.loop-f.table.items c.list_nexts.new.table.items c.loop-f.invariant.turned lt own e.size e.kept (λ k in'. e.here k in' ∙ ap (λ m. m + after count k) c.loop-f.invariant.first);
+      first = omega (arith, c.loop-f.invariant.first, own, (spans mesh.faces f lt).0);
+    }

@@ -1,0 +1,9 @@
+pub mod Order
+pub mod EdgeTable
+pub mod Pairs
+pub mod Half
+pub mod Reach
+pub mod Vertices
+pub mod Apart
+pub mod Ring
+pub mod Kept

@@ -1,0 +1,132 @@
+-- Rings: the sides that begin at a vertex, in the order round it.
+use Rattle.std.specs.Prelude.{◌≡◌, ◌≢◌, ℕ, zero, suc, ◌+◌, ◌-◌, ◌<◌, ◌==◌, ◌⊎◌, Bool, true, false, not, cond, List, [], length, get_or}
+use Rattle.surf_surfaces.specs.Joined.{Joined}
+use Rattle.surf_surfaces.specs.Mesh.{Mesh}
+use Rattle.surf_surfaces.specs.Side.{after, before}
+use Rattle.surf_surfaces.specs.Surface.{face_at, edge_count, ends, touches, HasCorner, HasEdge, ShareAt, HasOneFan}
+use Rattle.surf_surfaces.specs.SideNumber.{side_count, pair_at, first_side, IsFaceOf}
+use Rattle.surf_soup.specs.Vertices.{all_corners, sides_at}
+use Rattle.surf_soup.specs.Reach.{marked, unmarked}
+use Rattle.surf_soup.specs.declared.rings.Rings.{Rings}
+use Rattle.surf_soup.specs.declared.rings.Rings.TheVariants.{All, Pinched}
+
+-- A dart is a side with one of its ends: its head where the flag is true. It stands at the corner there.
+abbrev pub dart_corner : List ℕ → ℕ × Bool → ℕ
+dart_corner next d = cond d.1 (get_or next d.0 0) d.0
+
+-- the other side of the corner
+abbrev pub flip_of : List ℕ → List ℕ → ℕ × Bool → ℕ × Bool
+flip_of next prev d = cond d.1 (get_or next d.0 0, false) (get_or prev d.0 0, true)
+
+-- the same end of the mate
+abbrev pub cross_of : List ℕ → List ℕ → ℕ × Bool → ℕ × Bool
+cross_of mate tails d = (get_or mate d.0 0, cond (get_or tails (get_or mate d.0 0) 0 == get_or tails d.0 0) d.1 (not d.1))
+
+abbrev pub turn_of : List ℕ → List ℕ → List ℕ → List ℕ → ℕ × Bool → ℕ × Bool
+turn_of next prev mate tails d = flip_of next prev (cross_of mate tails d)
+
+abbrev pub turns : List ℕ → List ℕ → List ℕ → List ℕ → ℕ → ℕ × Bool → ℕ × Bool
+turns next prev mate tails zero d = d
+turns next prev mate tails (suc n) d = turn_of next prev mate tails (turns next prev mate tails n d)
+
+-- what the tables of darts keep
+pub record AreDarts (next prev mate tails : List ℕ) : Type 0 where
+  pub prev_size : length prev ≡ length next
+  pub mate_size : length mate ≡ length next
+  pub tails_size : length tails ≡ length next
+  pub next_in : (s : ℕ) → s < length next → get_or next s 0 < length next
+  pub prev_in : (s : ℕ) → s < length next → get_or prev s 0 < length next
+  pub next_prev : (s : ℕ) → s < length next → get_or next (get_or prev s 0) 0 ≡ s
+  pub prev_next : (s : ℕ) → s < length next → get_or prev (get_or next s 0) 0 ≡ s
+  pub mate_in : (s : ℕ) → s < length next → get_or mate s 0 < length next
+  pub mate_twice : (s : ℕ) → s < length next → get_or mate (get_or mate s 0) 0 ≡ s
+  pub mate_other : (s : ℕ) → s < length next → get_or mate s 0 ≢ s
+  pub ends_differ : (s : ℕ) → s < length next → get_or tails (get_or next s 0) 0 ≢ get_or tails s 0
+  pub ends_same : (s : ℕ) → s < length next → ((get_or tails (get_or mate s 0) 0 ≡ get_or tails s 0) × (get_or tails (get_or next (get_or mate s 0) 0) 0 ≡ get_or tails (get_or next s 0) 0)) ⊎ ((get_or tails (get_or mate s 0) 0 ≡ get_or tails (get_or next s 0) 0) × (get_or tails (get_or next (get_or mate s 0) 0) 0 ≡ get_or tails s 0))
+
+-- a whole round
+pub record IsRound (next prev mate tails : List ℕ) (d : ℕ × Bool) (seen_before seen : List Bool) (ring : List ℕ) : Type 0 where
+  pub size : length seen ≡ length next
+  pub some : 0 < length ring
+  pub closes : turns next prev mate tails (length ring) d ≡ d
+  pub entries : (k : ℕ) → k < length ring → get_or ring k 0 ≡ dart_corner next (turns next prev mate tails k d)
+  pub are_marked : (k : ℕ) → k < length ring → marked seen (get_or ring k 0) ≡ true
+  pub only : (s : ℕ) → marked seen s ≡ true → (marked seen_before s ≡ true) ⊎ ((k : ℕ) × (k < length ring) × (get_or ring k 0 ≡ s))
+  pub differ : (i k : ℕ) → i < k → k < length ring → get_or ring i 0 ≢ get_or ring k 0
+  pub counted : length ring + unmarked seen ≡ unmarked seen_before
+
+-- the edges of the darts of a walk, one after the other
+pub record IsTrail (next prev mate tails edge_of : List ℕ) (d : ℕ × Bool) (count : ℕ) (edges : List ℕ) : Type 0 where
+  pub size : length edges ≡ count
+  pub at : (k : ℕ) → k < count → get_or edges k 0 ≡ get_or edge_of (turns next prev mate tails k d).0 0
+
+-- for each side the side at another place of its face, for the first sides
+pub record AreTurned (turn : ℕ → ℕ → ℕ) (mesh : Mesh) (count : ℕ) (table : List ℕ) : Type 0 where
+  pub size : length table ≡ first_side mesh count
+  pub at : (f k : ℕ) → f < count → k < length (face_at mesh f) → get_or table (first_side mesh f + k) 0 ≡ first_side mesh f + turn (length (face_at mesh f)) k
+
+-- a side begins at a vertex
+abbrev pub BeginsAt : Mesh → ℕ → ℕ → Type 0
+BeginsAt mesh v s = (s < side_count mesh) × (get_or (all_corners mesh) s 0 ≡ v)
+
+-- the sides that begin at a vertex, one a face there, in the order round it
+pub record IsRing (mesh : Mesh) (v : ℕ) (ring : List ℕ) : Type 0 where
+  pub some : 0 < length ring
+  pub first : get_or ring 0 0 ≡ get_or (sides_at mesh v) 0 0
+  pub begin : (k : ℕ) → k < length ring → BeginsAt mesh v (get_or ring k 0)
+  pub differ : (i k : ℕ) → i < k → k < length ring → get_or ring i 0 ≢ get_or ring k 0
+  pub all : (s : ℕ) → BeginsAt mesh v s → (k : ℕ) × (k < length ring) × (get_or ring k 0 ≡ s)
+  pub share : (k f g : ℕ) → k < length ring → IsFaceOf mesh (get_or ring k 0) f → IsFaceOf mesh (get_or ring (after (length ring) k) 0) g → ShareAt mesh v f g
+
+-- an edge with an end at the vertex
+abbrev pub IsEdgeAt : Mesh → ℕ → ℕ → Type 0
+IsEdgeAt mesh v e = (e < edge_count mesh) × (touches v (ends mesh e) ≡ true)
+
+-- a list of exactly the edges at a vertex, each once
+pub record AreEdgesAt (mesh : Mesh) (v : ℕ) (list : List ℕ) : Type 0 where
+  pub at : (k : ℕ) → k < length list → IsEdgeAt mesh v (get_or list k 0)
+  pub differ : (i k : ℕ) → i < k → k < length list → get_or list i 0 ≢ get_or list k 0
+  pub all : (e : ℕ) → IsEdgeAt mesh v e → (k : ℕ) × (k < length list) × (get_or list k 0 ≡ e)
+
+-- the side that stands before a side in its face
+abbrev pub side_before : Mesh → ℕ → ℕ → ℕ
+side_before mesh f s = first_side mesh f + before (length (face_at mesh f)) (s - first_side mesh f)
+
+-- The edges between the faces of a ring. The first one stands before the first corner of the ring in its face; the faces of each entry and of the next one, the first after the last, have the edge at its place.
+pub record GoBetween (mesh : Mesh) (ring edges : List ℕ) : Type 0 where
+  pub size : length edges ≡ length ring
+  pub first : (f : ℕ) → IsFaceOf mesh (get_or ring 0 0) f → ends mesh (get_or edges 0 0) ≡ pair_at mesh (side_before mesh f (get_or ring 0 0))
+  pub behind : (k f : ℕ) → k < length ring → IsFaceOf mesh (get_or ring k 0) f → HasEdge mesh f (ends mesh (get_or edges k 0))
+  pub ahead : (k g : ℕ) → k < length ring → IsFaceOf mesh (get_or ring (after (length ring) k) 0) g → HasEdge mesh g (ends mesh (get_or edges k 0))
+
+-- a ring of all faces at a vertex, with the edges between them
+pub record IsWholeRing (mesh : Mesh) (v : ℕ) (ring edges : List ℕ) : Type 0 where
+  pub is_ring : IsRing mesh v ring
+  pub are_edges : AreEdgesAt mesh v edges
+  pub between : GoBetween mesh ring edges
+  pub fan : HasOneFan mesh v
+
+-- the least face at a vertex, and the least face there outside that face's cycle
+pub record IsPinch (mesh : Mesh) (v f g : ℕ) : Type 0 where
+  pub first : HasCorner mesh f v
+  pub none_less : (h : ℕ) → h < f → HasCorner mesh h v → ⊥
+  pub second : HasCorner mesh g v
+  pub apart : Joined (ShareAt mesh v) f g → ⊥
+  pub joined_before : (h : ℕ) → h < g → HasCorner mesh h v → Joined (ShareAt mesh v) f h
+
+-- the least vertex whose faces are more than one cycle
+pub record IsLeastPinch (mesh : Mesh) (v f g : ℕ) : Type 0 where
+  pub is_vertex : v < mesh.vertices
+  pub pinch : IsPinch mesh v f g
+  pub none_before : (u : ℕ) → u < v → HasOneFan mesh u
+
+-- rings of the first vertices
+pub record AreAllRings (mesh : Mesh) (count : ℕ) (rings edges : List (List ℕ)) : Type 0 where
+  pub size : length rings ≡ count
+  pub edges_size : length edges ≡ count
+  pub whole : (v : ℕ) → v < count → IsWholeRing mesh v (get_or rings v []) (get_or edges v [])
+  pub fans : (v : ℕ) → v < count → HasOneFan mesh v
+
+abbrev pub AreRings : Mesh → Rings → Type 0
+AreRings mesh (All rings edges) = AreAllRings mesh mesh.vertices rings edges
+AreRings mesh (Pinched v f g) = IsLeastPinch mesh v f g

@@ -1,0 +1,39 @@
+//! Soups of faces, and the tables that decide whether one is a surface.
+//!
+//! A [`Soup`] is a number of vertices and a list of faces over them, as a file gives it. It is seen
+//! as a mesh: the number of its vertices, and each face as the list of its corners.
+//!
+//! A side is a pair of neighbours around a face. Sides are numbered in the order of faces and
+//! corners, so those of a face follow one another. An edge is the unordered pair of a side's ends;
+//! edges are numbered in the order of (lesser end, greater end). On a surface each edge has exactly
+//! two sides, and each is the other's mate. The ring of a vertex has the sides that begin there,
+//! one a face, in the order round it; the list of its edges goes with it.
+//!
+//! The edge table is built for any soup in linear time, by counting sorts. `pair_edges` finds the
+//! least edge that hasn't two faces. The functions behind it each decide one property of a surface
+//! and find the least place where it fails: `find_isolated`, `find_rings` and `find_apart`. A
+//! surface check calls them in turn and hands their tables to the mesh, so that nothing is built
+//! twice.
+//!
+//! The tables are those of half-edges, as in D. E. Muller and F. P. Preparata, "Finding the
+//! intersection of two convex polyhedra" (1978). A ring is found by turning from each side to the
+//! next one at the same vertex, which needs no orientation of the faces.
+#![tactic(auto)]
+
+mod apart;
+mod mate_table;
+mod pairs;
+mod reaching;
+mod rings;
+mod soup;
+mod tables;
+mod vertices;
+
+pub use apart::{find_apart, first_unmarked};
+pub use mate_table::all_mates;
+pub use pairs::{PairFault, face_in, first_row, pair_edges, paired_table};
+pub use reaching::reach;
+pub use rings::{Rings, find_rings, first_left, next_sides, sides_before};
+pub use soup::Soup;
+pub use tables::{EdgeTable, edge_table};
+pub use vertices::{find_isolated, vertex_sides};
