@@ -1,4 +1,5 @@
-//! The real files and streams: the edge of the program that is trusted to hold what it seems to hold.
+//! The real files and streams: the edge of the program that is trusted to hold what it seems to
+//! hold.
 ghost use Rattle.std.specs.Prelude.{is_some, None};
 
 use std::fs::File;

@@ -1,7 +1,8 @@
-//! Reads a closed polygon mesh and a length for each edge, and prints shortest loops, bases and cycles, or the mesh cut open.
+//! Reads a closed polygon mesh and a length for each edge, and prints shortest loops, bases and
+//! cycles, or the mesh cut open.
 //!
-//! All that the program does is one call, `surf_run::run`, whose contract says what it answers. Here stand only
-//! the real files and streams that it is given.
+//! All that the program does is one call, `surf_run::run`, whose contract says what it answers.
+//! Here stand only the real files and streams that it is given.
 #![tactic(auto)]
 
 mod disk;

@@ -3,7 +3,8 @@ use crate::meshes::{SCATTERED_LENGTHS, TORUS33};
 use crate::rows::{Case, answers};
 use std::test::Fail;
 
-// For the torus of 3 by 3 with lengths 1, the trees at all vertices, the tree of faces and the left edges.
+// For the torus of 3 by 3 with lengths 1, the trees at all vertices, the tree of faces and the left
+// edges.
 const UNIT: &str =
     "SURFCERT 1 basis\ncounts 9 18 2\ntree 0\n0 -\n1 0\n1 0\n1 0\n1 0\n2 1\n1 0\n2 1\n1 0\ntree 1\n1 1\n0 -\n1 1\n2 0\n1 1\n1 1\n1 1\n1 1\n2 0\ntree 2\n1 2\n1 2\n0 -\n1 2\n2 0\n1 2\n2 0\n1 2\n1 2\ntree 3\n1 3\n2 0\n1 3\n0 -\n1 3\n1 3\n1 3\n1 3\n2 0\ntree 4\n1 4\n1 4\n2 0\n1 4\n0 -\n1 4\n2 0\n1 4\n1 4\ntree 5\n2 1\n1 5\n1 5\n1 5\n1 5\n0 -\n1 5\n2 1\n1 5\ntree 6\n1 6\n1 6\n2 0\n1 6\n2 0\n1 6\n0 -\n1 6\n1 6\ntree 7\n2 1\n1 7\n1 7\n1 7\n1 7\n2 1\n1 7\n0 -\n1 7\ntree 8\n1 8\n2 0\n1 8\n2 0\n1 8\n1 8\n1 8\n1 8\n0 -\ndual\n0 -\n5 1 4\n4 4 5\n7 2 5\n6 3 5\n7 2 3\n2 3 7\n1 3 4\n2 4 7\n3 4 8\n4 5 8\n5 5 6\n4 1 6\n3 6 7\n4 2 7\n3 7 8\n4 2 8\n5 6 8\nleft\n1 2\n3 6\n";
 

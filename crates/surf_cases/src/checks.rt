@@ -47,7 +47,8 @@ fn checks(
 fn edited_certificates(rt: HostRuntime) -> Result<(), Fail> {
     let cases: [([&str; 5], &str); 13] = [
         ([COUNTS, "tree 0\n", ROWS, DUAL, LEFT], "valid loops 6\n"),
-        // Vertices 5 and 7 hang on vertex 2 as well as on 1, and then faces 3 and 14 hang on other faces.
+        // Vertices 5 and 7 hang on vertex 2 as well as on 1, and then faces 3 and 14 hang on other
+        // faces.
         (
             [
                 COUNTS,
@@ -217,7 +218,8 @@ fn checks_that_are_refused(rt: HostRuntime) -> Result<(), Fail> {
     Ok(())
 }
 
-// The limit is tested once the text is known to be a certificate of a basis, before it is compared with the mesh.
+// The limit is tested once the text is known to be a certificate of a basis, before it is compared
+// with the mesh.
 #[test]
 fn a_basis_for_1001_vertices(rt: HostRuntime) -> Result<(), Fail> {
     let mesh = output_of(&rt, &["gen", "torus", "7", "143"], &[])?;

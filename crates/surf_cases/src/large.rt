@@ -6,8 +6,8 @@ use std::test::Fail;
 use surf_base::MemShelf;
 use surf_run::run;
 
-// The words that make a mesh, the words of a command on the file `mesh`, and what is due: the status, what the
-// output begins with, and the diagnostics.
+// The words that make a mesh, the words of a command on the file `mesh`, and what is due: the
+// status, what the output begins with, and the diagnostics.
 #[derive(Clone, Copy)]
 struct Made<'a> {
     makes: &'a [&'a str],

@@ -1,7 +1,7 @@
 //! The program's worked cases, run against `surf_run::run` over files and streams in memory.
 //!
-//! No clause says that an answer is the one that was wanted; these tables do, with expected texts that were
-//! worked out by hand or by an independent program.
+//! No clause says that an answer is the one that was wanted; these tables do, with expected texts
+//! that were worked out by hand or by an independent program.
 #![tactic(auto)]
 
 #[cfg(test)]

@@ -11,8 +11,8 @@ const INFO: &str = "vertices 4\nedges 6\nfaces 4\ncharacteristic 2\ngenus 0\n";
 
 const LEAST_LOOPS: &str = "loops 2\ntotal 6\nloop 3 0 1 2 0\nloop 3 0 3 6 0\n";
 
-// Words and files, what is written, and how many calls that takes of a shelf that gives 16 bytes a read: for each
-// file one that begins it, its pieces, and one at its end.
+// Words and files, what is written, and how many calls that takes of a shelf that gives 16 bytes a
+// read: for each file one that begins it, its pieces, and one at its end.
 type Reads<'a> = (&'a [&'a str], &'a [(&'a str, &'a str)], &'a str, u64);
 
 // Each call of the shelf fails once. Then the same shelf answers.
@@ -149,7 +149,8 @@ fn one_byte_at_a_time(rt: HostRuntime) -> Result<(), Fail> {
     Ok(())
 }
 
-// Refusals of surfaces, of lengths, of a base, of words and by a limit, with no room for their line.
+// Refusals of surfaces, of lengths, of a base, of words and by a limit, with no room for their
+// line.
 #[test]
 fn diagnostics_that_nobody_hears(rt: HostRuntime) -> Result<(), Fail> {
     let pinched =

@@ -121,8 +121,8 @@ pub fn answers(rt: &(impl Abort + AllocGlobal), case: &Case) -> Result<(), Fail>
     answers_over(rt, case, 4096, 10_000, &[])
 }
 
-/// The same over a shelf and streams that move at most `piece` bytes a call, with `room` for the diagnostics, where
-/// the calls of the shelf that are numbered in `fails` fail.
+/// The same over a shelf and streams that move at most `piece` bytes a call, with `room` for the
+/// diagnostics, where the calls of the shelf that are numbered in `fails` fail.
 pub fn answers_over(
     rt: &(impl Abort + AllocGlobal),
     case: &Case,

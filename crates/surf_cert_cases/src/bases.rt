@@ -48,7 +48,8 @@ fn cert_of(alloc: Global, trees: &[u8], cycles: &str) -> Result<BasisCert, Fail>
 
 // Whether two less the characteristic is at most 1,024.
 fn has_few_loops(mesh: &HalfMesh) -> bool
-    ensures few { IsTrue result → edge_count mesh.now + 2 ≤ mesh.now.vertices + face_count mesh.now + 1024 }
+    ensures few { IsTrue result → edge_count mesh.now + 2
+        ≤ mesh.now.vertices + face_count mesh.now + 1024 }
 {
     let nodes = mesh.vertices() as u64 + mesh.faces() as u64;
     mesh.edges() as u64 + 2 <= nodes + 1024

@@ -1,4 +1,5 @@
-//! Tests of the checker of certificates, on a torus of 3 by 3 vertices whose edges have length 1, or lengths that differ.
+//! Tests of the checker of certificates, on a torus of 3 by 3 vertices whose edges have length 1,
+//! or lengths that differ.
 #![tactic(auto)]
 
 #[cfg(test)]

@@ -4,11 +4,13 @@
 pub const CHOSEN: &str =
     "SURFCERT 1 loops\ncounts 9 18 2\ntree 0\n0 -\n1 0\n1 0\n1 0\n1 0\n2 1\n1 0\n2 1\n1 0\ndual\n0 -\n5 1 4\n4 4 5\n7 2 5\n6 3 5\n7 2 3\n2 3 7\n1 3 4\n2 4 7\n3 4 8\n4 5 8\n5 5 6\n4 1 6\n3 6 7\n4 2 7\n3 7 8\n4 2 8\n5 6 8\nleft\n1 2\n3 6\n";
 
-/// The same tree of vertices with another tree of faces, which has the edge 3 6 in the place of 5 6.
+/// The same tree of vertices with another tree of faces, which has the edge 3 6 in the place of 5
+/// 6.
 pub const LIGHTER: &str =
     "SURFCERT 1 loops\ncounts 9 18 2\ntree 0\n0 -\n1 0\n1 0\n1 0\n1 0\n2 1\n1 0\n2 1\n1 0\ndual\n0 -\n5 1 4\n4 4 5\n5 2 5\n4 3 5\n5 2 3\n2 3 7\n1 3 4\n2 4 7\n3 4 8\n4 5 8\n3 3 6\n4 1 6\n3 6 7\n4 2 7\n3 7 8\n4 2 8\n5 6 8\nleft\n1 2\n5 6\n";
 
-/// A certificate of a basis up to its cycles: a tree at each vertex, and a tree of faces for that at vertex 0.
+/// A certificate of a basis up to its cycles: a tree at each vertex, and a tree of faces for that
+/// at vertex 0.
 pub const TREES: &str =
     "SURFCERT 1 basis\ncounts 9 18 2\ntree 0\n0 -\n1 0\n1 0\n1 0\n1 0\n2 1\n1 0\n2 1\n1 0\ntree 1\n1 1\n0 -\n1 1\n2 0\n1 1\n1 1\n1 1\n1 1\n2 0\ntree 2\n1 2\n1 2\n0 -\n1 2\n2 0\n1 2\n2 0\n1 2\n1 2\ntree 3\n1 3\n2 0\n1 3\n0 -\n1 3\n1 3\n1 3\n1 3\n2 0\ntree 4\n1 4\n1 4\n2 0\n1 4\n0 -\n1 4\n2 0\n1 4\n1 4\ntree 5\n2 1\n1 5\n1 5\n1 5\n1 5\n0 -\n1 5\n2 1\n1 5\ntree 6\n1 6\n1 6\n2 0\n1 6\n2 0\n1 6\n0 -\n1 6\n1 6\ntree 7\n2 1\n1 7\n1 7\n1 7\n1 7\n2 1\n1 7\n0 -\n1 7\ntree 8\n1 8\n2 0\n1 8\n2 0\n1 8\n1 8\n1 8\n1 8\n0 -\ndual\n0 -\n5 1 4\n4 4 5\n5 2 5\n4 3 5\n5 2 3\n2 3 7\n1 3 4\n2 4 7\n3 4 8\n4 5 6\n3 3 6\n4 1 6\n3 6 7\n4 2 7\n3 7 8\n4 2 8\n5 6 8\nleft\n1 2\n5 8\n";
 

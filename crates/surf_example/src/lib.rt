@@ -19,8 +19,8 @@ use surf_off::read_off;
 
 /// A shortest basis of the surface in an OFF text, where each edge has the length 1.
 ///
-/// Refuses with the first fault of the text, with the first fault of the surface, or where there are more than 1,024
-/// independent loops. The text is shorter than 2^32 − 1 bytes.
+/// Refuses with the first fault of the text, with the first fault of the surface, or where there
+/// are more than 1,024 independent loops. The text is shorter than 2^32 − 1 bytes.
 pub fn shortest_basis(alloc: Global, text: &[u8]) -> Result<Vec<Cycle>, Refusal>
     requires short { length text.now < 4294967295 }
     ensures basis { IfOk result (λ cycles. IsBasisOf text.now (as_loops cycles.items)) }

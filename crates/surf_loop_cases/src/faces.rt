@@ -1,4 +1,5 @@
-//! The tree of faces beside the shortest walks from vertex 0, each edge of length 1, and the signatures by it.
+//! The tree of faces beside the shortest walks from vertex 0, each edge of length 1, and the
+//! signatures by it.
 ghost use Rattle.std.specs.Prelude.{◌<◌};
 ghost use Rattle.surf_cotree.specs.Tables.{AreCotreeTables};
 

@@ -1,5 +1,5 @@
-//! Trees of faces, loops, certificates and openings of small surfaces, with answers that were worked out by hand. The crate
-//! has tests alone.
+//! Trees of faces, loops, certificates and openings of small surfaces, with answers that were
+//! worked out by hand. The crate has tests alone.
 #![tactic(auto)]
 
 #[cfg(test)]

@@ -15,7 +15,8 @@ use surf_samples::{PROJECTIVE, TETRAHEDRON, TORUS};
 /// A desk with the loops at a vertex.
 pub(crate) fn loops_at(alloc: Global, mesh: &HalfMesh, base: VertexId) -> Result<LoopDesk, NoMemory>
     requires { base < mesh.now.vertices }
-    ensures { IfOk result (λ desk. IsGreedy mesh.now (replicate (edge_count mesh.now) 1) base desk) }
+    ensures { IfOk result (λ desk. IsGreedy mesh.now (replicate (edge_count mesh.now) 1)
+        base desk) }
 {
     let lengths = unit_lengths(alloc, mesh)?;
     let mut desk = LoopDesk::make(alloc, mesh)?;

@@ -1,4 +1,5 @@
-//! Openings along what the tree of faces beside the shortest walks from vertex 0 leaves, each edge of length 1.
+//! Openings along what the tree of faces beside the shortest walks from vertex 0 leaves, each edge
+//! of length 1.
 ghost use Rattle.std.specs.Prelude.{◌≡◌, ◌<◌, length};
 ghost use Rattle.surf_surfaces.specs.Surface.{edge_count};
 ghost use Rattle.surf_cutter.specs.Opened.{IsHeld};

@@ -1,4 +1,5 @@
-//! Tests of meshes: edges, surfaces and their kinds, discs, slits, tori and chains of them. The crate has tests alone.
+//! Tests of meshes: edges, surfaces and their kinds, discs, slits, tori and chains of them. The
+//! crate has tests alone.
 #![tactic(auto)]
 
 #[cfg(test)]

@@ -78,7 +78,8 @@ fn runs(face: (u32, u32, u32), u: u32, v: u32) -> Option<bool> {
     }
 }
 
-// Whether the face of a link and the next one run the edge between them the same way; none where they don't share it.
+// Whether the face of a link and the next one run the edge between them the same way; none where
+// they don't share it.
 fn runs_as(link: ChainLink, next: FaceId) -> Option<bool> {
     let (u, v) = (link.u.number(), link.v.number());
     let here = runs(*PROJECTIVE.get(link.face.index())?, u, v)?;

@@ -1,4 +1,5 @@
-//! Tests of what reads and writes OFF texts: the texts, the numbers in them, and sewing. The crate has tests alone.
+//! Tests of what reads and writes OFF texts: the texts, the numbers in them, and sewing. The crate
+//! has tests alone.
 #![tactic(auto)]
 
 #[cfg(test)]

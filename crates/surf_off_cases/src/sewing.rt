@@ -27,7 +27,8 @@ const COLOURED: &[u8] =
 const COLOURED_CUT: &[u8] =
     b"COFF\n6 4 9\n0.000000 0.000000 0.000000 255 0 0 255\n0.000000 0.000000 0.000000 255 0 0 255\n0.000000 0.000000 0.000000 255 0 0 255\n1.000000 0.000000 0.000000 0 255 0 255\n0.000000 1.000000 0.000000 0 0 255 255\n0.000000 0.000000 1.000000 9 9 9 255\n3 0 3 4 200 200 200\n3 1 5 3\n3 2 4 5 200 200 200\n3 3 5 4\n# copy 0 from 0\n# copy 1 from 0\n# copy 2 from 0\n# copy 3 from 1\n# copy 4 from 2\n# copy 5 from 3\n";
 
-// The pillow's cut with its copies in another order, other comments, tabs, CR, leading zeros and copy lines anywhere.
+// The pillow's cut with its copies in another order, other comments, tabs, CR, leading zeros and
+// copy lines anywhere.
 const MIXED_CUT: &[u8] =
     b"# copy 0 from 2\r\nOFF # copy 1 from 9\n4 2 5\n0 1 0\n#\tcopy\t01  from 1\n1 0 0\n # copy 2 from 000\n0 0 0 # a copy\n#copy 3 from 3\n0 0 0\n3 2 1 0\n# copies\n3 3 0 1\n#  copy 3 from 0";
 

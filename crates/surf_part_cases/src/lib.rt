@@ -1,5 +1,5 @@
-//! Tests of the crates below the meshes, and of texts of certificates: files and sinks, rows, bits, heaps, texts. The crate
-//! has tests alone.
+//! Tests of the crates below the meshes, and of texts of certificates: files and sinks, rows, bits,
+//! heaps, texts. The crate has tests alone.
 #![tactic(auto)]
 
 #[cfg(test)]

@@ -53,7 +53,8 @@ pub const SEVEN: [(u32, u32, u32); 14] = [
     (6, 2, 1),
 ];
 
-/// The torus of three rows and three columns of vertices, numbered row by row, with two triangles in each cell.
+/// The torus of three rows and three columns of vertices, numbered row by row, with two triangles
+/// in each cell.
 pub const TORUS: [(u32, u32, u32); 18] = [
     (0, 3, 4),
     (0, 4, 1),

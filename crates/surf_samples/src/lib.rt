@@ -1,5 +1,5 @@
-//! Small surfaces and other meshes of triangles that tests try things on: tables of faces, the soup that a table
-//! makes, and texts.
+//! Small surfaces and other meshes of triangles that tests try things on: tables of faces, the soup
+//! that a table makes, and texts.
 #![tactic(auto)]
 
 mod faces;

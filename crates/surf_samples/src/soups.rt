@@ -12,8 +12,8 @@ fn push(soup: &mut Soup, a: u32, b: u32, c: u32) -> Result<(), NoMemory> {
     Ok(())
 }
 
-/// The soup of so many vertices with the triangles of a table, in its order. A triple that is no face of these vertices
-/// is left out.
+/// The soup of so many vertices with the triangles of a table, in its order. A triple that is no
+/// face of these vertices is left out.
 pub fn soup(alloc: Global, vertices: u32, faces: &[(u32, u32, u32)]) -> Result<Soup, NoMemory> {
     let mut soup = Soup::start(alloc, vertices);
     for (a, b, c) in faces {

@@ -13,7 +13,8 @@ use surf_samples::{PROJECTIVE, SCATTERED, SEVEN, TETRAHEDRON, TORUS};
 /// Length 1 for each edge.
 pub(crate) const UNIT: &str = "SURFLEN 2\ndefault 1\n";
 
-// The vertices and faces of a surface, the text of its lengths, and the lengths and walks of its basis.
+// The vertices and faces of a surface, the text of its lengths, and the lengths and walks of its
+// basis.
 type Case = (
     u32,
     &'static [(u32, u32, u32)],
@@ -55,7 +56,8 @@ fn are_cycles(cycles: &[Cycle], wanted: &[(u64, &[u32])]) -> bool {
 /// Whether the lengths are of the mesh, which isn't too wild for a basis.
 pub(crate) fn fit(mesh: &HalfMesh, lengths: &Lengths) -> bool
     ensures lengths { IsTrue result → length lengths.now ≡ edge_count mesh.now }
-    ensures few { IsTrue result → edge_count mesh.now + 2 ≤ mesh.now.vertices + face_count mesh.now + 1024 }
+    ensures few { IsTrue result → edge_count mesh.now + 2
+        ≤ mesh.now.vertices + face_count mesh.now + 1024 }
 {
     let nodes = mesh.vertices() as u64 + mesh.faces() as u64;
     lengths.count() == mesh.edges() && mesh.edges() as u64 + 2 <= nodes + 1024

@@ -63,8 +63,8 @@ fn are_walks(walks: &[Walk], want: &[&[u32]]) -> bool {
     same
 }
 
-/// What a certificate should have: the rows of one of its trees, those of the first faces, the left edges and the
-/// cycles.
+/// What a certificate should have: the rows of one of its trees, those of the first faces, the left
+/// edges and the cycles.
 #[derive(Clone, Copy)]
 struct Wanted {
     place: u32,

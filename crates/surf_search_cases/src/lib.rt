@@ -1,5 +1,5 @@
-//! Length files, trees of shortest walks, bases with their certificates and shortest cycles of small surfaces, with answers
-//! that were worked out by hand. The crate has tests alone.
+//! Length files, trees of shortest walks, bases with their certificates and shortest cycles of
+//! small surfaces, with answers that were worked out by hand. The crate has tests alone.
 #![tactic(auto)]
 
 #[cfg(test)]

@@ -8,8 +8,8 @@
 //! Two such surfaces are joined along a triangle that is left out of both: their connected sum. It
 //! is a surface where the faces at each vertex stay joined without the triangle, and its
 //! characteristic is 2 less than theirs together (`law_of_connected_sums`). A chain is a torus to
-//! which others are joined one after the other, so it is a surface too; its characteristic is 2 less
-//! twice the number of tori (`law_of_chains`).
+//! which others are joined one after the other, so it is a surface too; its characteristic is 2
+//! less twice the number of tori (`law_of_chains`).
 //!
 //! Each law is the contract of a function that does nothing.
 #![tactic(auto)]

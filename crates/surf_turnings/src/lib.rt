@@ -4,9 +4,9 @@
 //! of each edge run it in opposite ways. A one-sided chain is a chain of faces back to its
 //! beginning that passes an odd number of edges which both faces run the same way.
 //!
-//! - A surface has a turning or a one-sided chain (`law_of_turnings`), and `surf_surfaces` says that
-//!   it never has both. Flags that are carried along a tree of the faces decide it: they fit all
-//!   edges, or the chain of an edge that they don't fit is one-sided.
+//! - A surface has a turning or a one-sided chain (`law_of_turnings`), and `surf_surfaces` says
+//!   that it never has both. Flags that are carried along a tree of the faces decide it: they fit
+//!   all edges, or the chain of an edge that they don't fit is one-sided.
 //! - Where there is a turning, vertices, edges and faces are an even number in all, so 2 - χ is
 //!   twice the genus (`law_of_genus`). The reason is a law on permutations: of three turns, of
 //!   which one is the other two one after the other, the rounds and what is turned are an even
