@@ -30,8 +30,9 @@ impl Model for Choice {
 
     ghost view = { λ c. record { width = c.width; kept = c.kept.items } };
 
-    ghost invariant = { λ c. (c.sieve.width ≡ c.width) × (length c.kept.items ≤ c.width) × (c.width ≤ vec_capacity c.kept)
-        × (c.width ≤ 1024) × All (λ s. s.signature < 2 ^ c.width) c.kept.items };
+    ghost invariant = { λ c. (c.sieve.width ≡ c.width) × (length c.kept.items ≤ c.width)
+        × (c.width ≤ vec_capacity c.kept) × (c.width ≤ 1024)
+        × All (λ s. s.signature < 2 ^ c.width) c.kept.items };
 }
 
 impl Choice {

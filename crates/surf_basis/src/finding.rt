@@ -32,8 +32,9 @@ impl<'a> Model for Finder<'a> {
 
     ghost view = { λ f. surface_of f.surface };
 
-    ghost invariant = { λ f. (f.links.mesh ≡ f.surface.mesh.now) × (f.links.lengths ≡ f.surface.lengths.now)
-        × AreNearTables f.surface.mesh.now f.desk × (length f.ways.numbers ≡ f.surface.mesh.now.vertices)
+    ghost invariant = { λ f. (f.links.mesh ≡ f.surface.mesh.now)
+        × (f.links.lengths ≡ f.surface.lengths.now) × AreNearTables f.surface.mesh.now f.desk
+        × (length f.ways.numbers ≡ f.surface.mesh.now.vertices)
         × (length f.surface.lengths.now ≡ edge_count f.surface.mesh.now)
         × (length f.surface.signatures.now.signatures ≡ edge_count f.surface.mesh.now) };
 }

@@ -37,11 +37,12 @@ impl Model for Sieve {
 
     ghost view = { λ s. record {
       width = s.width;
-      admitted = originals_of (sieve_rows s.stride s.pivots.items s.reduced.items s.originals.items);
+      admitted = originals_of (sieve_rows s.stride s.pivots.items s.reduced.items
+          s.originals.items);
     } };
 
-    ghost invariant = { λ s. AreRows s.width s.stride s.pivots.items s.reduced.items s.originals.items
-        × (s.width ≤ vec_capacity s.pivots)
+    ghost invariant = { λ s. AreRows s.width s.stride s.pivots.items s.reduced.items
+        s.originals.items × (s.width ≤ vec_capacity s.pivots)
         × (s.width * s.stride ≤ vec_capacity s.reduced)
         × (s.width * s.stride ≤ vec_capacity s.originals) };
 }

@@ -68,7 +68,12 @@ impl Model for BasisCert {
 
     ghost Value = { BasisCert };
 
-    ghost view = { λ c. record { trees = c.trees.items; dual = c.dual; left = c.left.items; cycles = c.cycles.items } };
+    ghost view = { λ c. record {
+      trees = c.trees.items;
+      dual = c.dual;
+      left = c.left.items;
+      cycles = c.cycles.items;
+    } };
 }
 
 impl BasisCert {

@@ -18,7 +18,11 @@ impl Model for TreeRows {
 
     ghost Value = { TreeRows };
 
-    ghost view = { λ t. record { base = t.base; distance = t.distance.items; parent = t.parent.items } };
+    ghost view = { λ t. record {
+      base = t.base;
+      distance = t.distance.items;
+      parent = t.parent.items;
+    } };
 }
 
 impl TreeRows {

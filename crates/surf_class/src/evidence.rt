@@ -53,7 +53,8 @@ impl Model for PairList {
 
     ghost view = { λ p. p.list.items };
 
-    ghost invariant = { λ p. AllPairs (λ a b. pair_lt a b ≡ true) p.list.items × All (λ a. a.0 < a.1) p.list.items };
+    ghost invariant = { λ p. AllPairs (λ a b. pair_lt a b ≡ true) p.list.items
+        × All (λ a. a.0 < a.1) p.list.items };
 }
 
 impl PairList {

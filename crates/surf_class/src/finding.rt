@@ -55,8 +55,9 @@ fn joint_sum(mesh: &HalfMesh, cotree: &CotreeDesk, first: &Walk, second: Option<
 
 // The least number below 1,024 of a set.
 fn least_number(set: &Signature) -> Option<u32>
-    ensures least { MatchOption result ((k : ℕ) → k < MAX_LOOPS → has set.now k ≡ false) (λ n. (n < MAX_LOOPS)
-        × (has set.now n ≡ true) × ((k : ℕ) → k < n → has set.now k ≡ false)) }
+    ensures least { MatchOption result ((k : ℕ) → k < MAX_LOOPS → has set.now k ≡ false)
+        (λ n. (n < MAX_LOOPS) × (has set.now n ≡ true) × ((k : ℕ) → k < n →
+        has set.now k ≡ false)) }
 {
     for k in 0..MAX_LOOPS {
         if set.bits().bit(k) {

@@ -27,7 +27,8 @@ impl Model for Opened {
 
     ghost view = { λ o. record { origins = o.origins.items; faces = o.faces } };
 
-    ghost invariant = { λ o. IsOpened (record { origins = o.origins.items; faces = o.faces }) o.starts.items o.boundary.items };
+    ghost invariant = { λ o. IsOpened (record { origins = o.origins.items; faces = o.faces })
+        o.starts.items o.boundary.items };
 }
 
 // Where each row begins among the things of all rows, and the end.

@@ -34,7 +34,9 @@ impl Model for HalfMesh {
 
     ghost view = { λ h. record { vertices = h.vertices; faces = h.faces } };
 
-    ghost invariant = { λ h. IsHalfMesh (record { vertices = h.vertices; faces = h.faces }) h.table.edges.items h.table.sides h.table.edge_of.items h.table.face_of.items h.table.numbers.items h.mate.items h.rings h.ring_edges };
+    ghost invariant = { λ h. IsHalfMesh (record { vertices = h.vertices; faces = h.faces })
+        h.table.edges.items h.table.sides h.table.edge_of.items h.table.face_of.items
+        h.table.numbers.items h.mate.items h.rings h.ring_edges };
 }
 
 // The lesser vertex first.

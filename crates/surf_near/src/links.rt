@@ -36,7 +36,8 @@ impl<'m> Model for Links<'m> {
 
     ghost view = { λ l. record { mesh = l.mesh.now; lengths = l.lengths.now; rows = l.rows } };
 
-    ghost invariant = { λ l. AreLinks l.mesh.now l.lengths.now l.rows × IsEvenness l.lengths.now l.even };
+    ghost invariant = { λ l. AreLinks l.mesh.now l.lengths.now l.rows
+        × IsEvenness l.lengths.now l.even };
 }
 
 // The length that all edges have, where they have one.

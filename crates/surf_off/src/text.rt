@@ -24,9 +24,17 @@ impl<'a> Model for OffText<'a> {
 
     ghost Value = { OffParts };
 
-    ghost view = { λ s. record { header = s.header; vertex_lines = lent s.vertex_lines.items; colours = lent s.colours.items } };
+    ghost view = { λ s. record {
+      header = s.header;
+      vertex_lines = lent s.vertex_lines.items;
+      colours = lent s.colours.items;
+    } };
 
-    ghost invariant = { λ s. IsOffParts (record { header = s.header; vertex_lines = lent s.vertex_lines.items; colours = lent s.colours.items }) };
+    ghost invariant = { λ s. IsOffParts (record {
+      header = s.header;
+      vertex_lines = lent s.vertex_lines.items;
+      colours = lent s.colours.items;
+    }) };
 }
 
 impl<'a> OffText<'a> {

@@ -86,8 +86,10 @@ struct Marked<'a> {
 
 // How many lines have no comment sign before the first that has one, and what stands behind them.
 fn skip_lines(bytes: &[u8]) -> Option<(usize, &[u8])>
-    ensures copies { MatchOption result ((n : ℕ) → copies_among (word_lines_from n (slice_split is_line_end bytes.now)) ≡ [])
-        (λ r. (n : ℕ) → copies_among (word_lines_from n (slice_split is_line_end bytes.now)) ≡ copies_among (word_lines_from (n + r.0) (slice_split is_line_end r.1.now))) }
+    ensures copies { MatchOption result ((n : ℕ) →
+        copies_among (word_lines_from n (slice_split is_line_end bytes.now)) ≡ []) (λ r. (n : ℕ) →
+        copies_among (word_lines_from n (slice_split is_line_end bytes.now))
+        ≡ copies_among (word_lines_from (n + r.0) (slice_split is_line_end r.1.now))) }
     ensures lines { IfSome result (λ r. r.0 + length (slice_split is_line_end r.1.now)
         ≡ length (slice_split is_line_end bytes.now)) }
 {
@@ -98,8 +100,11 @@ fn skip_lines(bytes: &[u8]) -> Option<(usize, &[u8])>
 
 // The next line with a comment sign. No other is a copy line.
 fn next_marked(rest: Option<&[u8]>) -> Option<Marked<'_>>
-    ensures copies { MatchOption result ((n : ℕ) → copies_among (word_lines_from n (parts_of is_line_end rest.entry)) ≡ [])
-        (λ m. (n : ℕ) → copies_among (word_lines_from n (parts_of is_line_end rest.entry)) ≡ copies_among (word_lines_from (n + m.skipped) (m.line.now ∷ parts_of is_line_end m.behind))) }
+    ensures copies { MatchOption result ((n : ℕ) →
+        copies_among (word_lines_from n (parts_of is_line_end rest.entry)) ≡ []) (λ m. (n : ℕ) →
+        copies_among (word_lines_from n (parts_of is_line_end rest.entry))
+        ≡ copies_among (word_lines_from (n + m.skipped)
+        (m.line.now ∷ parts_of is_line_end m.behind))) }
     ensures lines { IfSome result (λ m. m.skipped + (length (parts_of is_line_end m.behind) + 1)
         ≡ length (parts_of is_line_end rest.entry)) }
 {

@@ -38,8 +38,8 @@ fn are_below(origins: &[VertexId], vertices: usize) -> bool
 fn count_origins(first: &[u32], origins: &[VertexId]) -> Result<u32, SewFault>
     requires countable { length origins.now < 2 ^ 32 }
     requires first { first.now ≡ first_copies origins.now 0 (length origins.now) }
-    ensures count { MatchResult result (λ n. (gap_fault origins.now ≡ None) × (n ≡ different origins.now))
-        (λ e. gap_fault origins.now ≡ Some e) }
+    ensures count { MatchResult result (λ n. (gap_fault origins.now ≡ None)
+        × (n ≡ different origins.now)) (λ e. gap_fault origins.now ≡ Some e) }
     ensures within { IfOk result (λ n. All (λ v. v < n) origins.now) }
     ensures copies { IfOk result (λ n. HaveCopies origins.now n) }
     ensures few { IfOk result (λ n. n ≤ length origins.now) }
@@ -116,8 +116,11 @@ fn sew_faces(
 ) -> Result<Soup, SewFault>
     requires copies { length origins.now ≡ soup.now.vertices }
     requires within { All (λ v. v < vertices) origins.now }
-    ensures faces { Gives (λ s. s) result (unless (repeat_from 0 (sewn_faces origins.now soup.now.faces))
-        (Ok (record { vertices = vertices; faces = sewn_faces origins.now soup.now.faces }))) }
+    ensures faces { Gives (λ s. s) result (unless
+        (repeat_from 0 (sewn_faces origins.now soup.now.faces)) (Ok (record {
+          vertices = vertices;
+          faces = sewn_faces origins.now soup.now.faces;
+        }))) }
     ensures count { IfOk result (λ s. length s.faces ≡ length soup.now.faces) }
 {
     let mut sewn = Soup::start(alloc, vertices);

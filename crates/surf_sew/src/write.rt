@@ -64,8 +64,10 @@ fn write_ordered(
     requires countable { length origins.now < 2 ^ 32 }
     requires origins { length origins.now ≡ length text.now.vertex_lines }
     ensures few { IfOk result (λ n. n ≤ vertices) }
-    ensures puts { MatchResult result (λ n. Puts page.old page.new (lines_text (sewn_lines text.now.vertex_lines origins.now n)) result)
-        (λ _. Puts page.old page.new (lines_text (sewn_lines text.now.vertex_lines origins.now vertices)) result) }
+    ensures puts { MatchResult result (λ n. Puts page.old page.new
+        (lines_text (sewn_lines text.now.vertex_lines origins.now n)) result)
+        (λ _. Puts page.old page.new (lines_text
+        (sewn_lines text.now.vertex_lines origins.now vertices)) result) }
 {
     let mut next = 0;
     for c in 0..origins.len() {

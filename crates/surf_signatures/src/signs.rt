@@ -37,7 +37,8 @@ impl Model for Signs {
       sets = sets_in (words_for s.width) s.edges s.table.items;
     } };
 
-    ghost invariant = { λ s. (s.width ≤ 1024) × (length s.table.items ≡ s.edges * words_for s.width) };
+    ghost invariant = { λ s. (s.width ≤ 1024)
+        × (length s.table.items ≡ s.edges * words_for s.width) };
 }
 
 // Adds a set to the row of an edge where that has a number.

@@ -28,7 +28,8 @@ impl Model for VertexSets {
       sets = sets_in (words_for s.width) s.vertices s.table.items;
     } };
 
-    ghost invariant = { λ s. (s.width ≤ 1024) × (length s.table.items ≡ s.vertices * words_for s.width) };
+    ghost invariant = { λ s. (s.width ≤ 1024)
+        × (length s.table.items ≡ s.vertices * words_for s.width) };
 }
 
 // Writes a set over that of a vertex.

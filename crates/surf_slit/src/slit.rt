@@ -26,7 +26,12 @@ impl<'m> Model for Slit<'m> {
 
     ghost Value = { CutMesh };
 
-    ghost view = { λ s. record { mesh = s.mesh.now; cut = s.cut.items; labels = s.labels.items; count = s.count } };
+    ghost view = { λ s. record {
+      mesh = s.mesh.now;
+      cut = s.cut.items;
+      labels = s.labels.items;
+      count = s.count;
+    } };
 
     ghost invariant = { λ s. IsSlit s.mesh.now s.cut.items s.labels.items s.count };
 }
