@@ -1,5 +1,5 @@
 //! The edges of the tree of faces, and those in neither tree.
-ghost use Rattle.std.specs.Prelude.{◌≡◌, ◌≢◌, ◌<◌, ◌≤◌, ◌^◌, ◌&&◌, ◌==◌, ℕ, false, not, length, slice_index_or, vec_capacity, vec_len, filter, ◌++◌, ◌∷◌, []};
+ghost use Rattle.std.specs.Prelude.{◌≡◌, ◌≢◌, ◌<◌, ◌≤◌, ◌^◌, ◌&&◌, ◌==◌, ℕ, false, not, length, slice_index_or, vec_capacity, filter};
 ghost use Rattle.std.specs.List.{range_with_len};
 ghost use Rattle.surf_z2.specs.Parity.{any_below};
 ghost use Rattle.surf_base.specs.Tables.{nobody, at};
@@ -32,15 +32,6 @@ fn is_unmarked(first: &[bool], second: &[bool], edge: usize) -> bool
     !first[edge] && !second[edge]
 }
 
-// Adds an edge to a list that has room for it.
-fn add_edge(edges: &mut Vec<EdgeId>, edge: EdgeId)
-    requires room { vec_len edges.old < vec_capacity edges.old }
-    ensures items { edges.new.items ≡ edges.old.items ++ edge ∷ [] }
-    ensures room { vec_capacity edges.old ≤ vec_capacity edges.new }
-{
-    edges.push(edge).unwrap();
-}
-
 // Lists the edges that neither table marks, in room that there is.
 pub(crate) fn list_left(first: &[bool], second: &[bool], left: &mut Vec<EdgeId>)
     requires same { length second.now ≡ length first.now }
@@ -53,7 +44,7 @@ pub(crate) fn list_left(first: &[bool], second: &[bool], left: &mut Vec<EdgeId>)
     left.clear();
     for edge in 0..first.len() {
         if is_unmarked(first, second, edge) {
-            add_edge(left, EdgeId::new(edge as u32));
+            left.push_reserved(EdgeId::new(edge as u32));
         }
     }
 }

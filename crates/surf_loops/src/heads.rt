@@ -1,5 +1,5 @@
 //! The lengths of loops, and the left edges in the order of them.
-ghost use Rattle.std.specs.Prelude.{◌≡◌, ◌<◌, ◌≤◌, ◌+◌, ◌*◌, ◌^◌, ◌++◌, ◌∷◌, [], ℕ, All, length, map, slice_index, vec_len, vec_capacity, IsPermutation};
+ghost use Rattle.std.specs.Prelude.{◌≡◌, ◌<◌, ◌≤◌, ◌+◌, ◌*◌, ◌^◌, ℕ, All, length, map, slice_index, vec_capacity, IsPermutation};
 ghost use Rattle.std.specs.List.Sorted.{IsNonDecreasingBy};
 ghost use Rattle.surf_surfaces.specs.Surface.{edge_count};
 ghost use Rattle.surf_surfaces.specs.Loop.{loop_length};
@@ -40,15 +40,6 @@ pub(crate) fn set_weights(mesh: &HalfMesh, lengths: &Lengths, tree: &TreeDesk, w
     }
 }
 
-// Adds a head to a list that has room for it.
-fn add_head(heads: &mut Vec<LoopHead>, head: LoopHead)
-    requires room { vec_len heads.old < vec_capacity heads.old }
-    ensures items { heads.new.items ≡ heads.old.items ++ head ∷ [] }
-    ensures room { vec_capacity heads.old ≤ vec_capacity heads.new }
-{
-    heads.push(head).unwrap();
-}
-
 // Lists the heads of edges, in room that there is.
 fn fill_heads(left: &[EdgeId], weight: &[u64], heads: &mut Vec<LoopHead>)
     requires inside { All (λ e. e < length weight.now) left.now }
@@ -62,7 +53,7 @@ fn fill_heads(left: &[EdgeId], weight: &[u64], heads: &mut Vec<LoopHead>)
             edge: *edge,
             length: weight[edge.index()],
         };
-        add_head(heads, head);
+        heads.push_reserved(head);
     }
 }
 
