@@ -1,18 +1,18 @@
 //! The top call.
-ghost use Rattle.std.specs.Prelude.{◌≡◌, ◌≢◌, ◌⊎◌, ◌↔◌, ◌≤◌, ◌<◌, ℕ, List, [], None};
+ghost use Rattle.std.specs.Prelude.{◌≡◌, ◌≢◌, ◌⊎◌, ◌↔◌, ◌≤◌, ◌<◌, ℕ, List, None};
 ghost use Rattle.surf_base.specs.Outside.{Files, HasRisen};
-ghost use Rattle.surf_run.specs.Refusals.{cause_of};
+ghost use Rattle.surf_texts.specs.Refusals.{cause_of};
 ghost use Rattle.surf_run.specs.Leads.{Answer, Leads};
-ghost use Rattle.surf_run.specs.Outcome.{misses};
+ghost use Rattle.surf_texts.specs.Outcome.{misses};
 ghost use Rattle.surf_run.specs.Run.{AreTheFiles, NamesFile, PutsLine, IsLineOf, Refuses, WritesAnswer, WritesFront};
-ghost use Rattle.surf_run.specs.Tells.{IsTold};
-ghost use Rattle.surf_run.specs.Words.{texts, request_of};
+ghost use Rattle.surf_answers.specs.Tells.{IsTold};
+ghost use Rattle.surf_words.specs.Words.{texts, request_of};
 
 use crate::dispatch::answer;
-use crate::refusal::Refused;
-use crate::words::parse;
 use std::alloc::Global;
 use surf_base::{Shelf, Sink, put_all};
+use surf_texts::Refused;
+use surf_words::parse;
 
 /// The line for words that are in no row of the table of commands.
 pub const USAGE: &str = "usage: the words are in no row of the command table\n";
