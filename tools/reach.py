@@ -29,25 +29,25 @@ EXCUSED = {
 # What each command answers, by the definition that says so, and the names of the cases that lead there. A case of
 # another command is passed over where definitions go by cases.
 COMMANDS = {
-    "info": ("Info.Informs", {"info"}),
-    "dist": ("Distances.GivesDistances", {"weighted", "Distances"}),
-    "loops": ("LeastLoops.GivesLoops", {"weighted", "LeastLoops"}),
-    "basis": ("LeastBasis.GivesBasis", {"cycles", "Basis"}),
-    "cycle": ("ShortestCycle.GivesCycle", {"cycles", "Shortest"}),
-    "cut": ("Cuts.GivesCut", {"weighted", "Cut"}),
-    "disc": ("Discs.JudgesDisc", {"disc"}),
-    "certify M L x": ("Certificates.GivesLoopCert", {"weighted", "LoopCertificate"}),
-    "certify M L": ("Certificates.GivesBasisCert", {"cycles", "BasisCertificate"}),
-    "check": ("Verdicts.JudgesCert", {"checks"}),
-    "lengths": ("Coordinates.GivesMeasures", {"measures"}),
-    "class": ("Classes.GivesClass", {"classes"}),
-    "same": ("Classes.GivesClass", {"compares"}),
-    "confirm": ("Confirming.JudgesEvidence", {"confirms"}),
-    "shortest": ("Tightening.GivesShortestWalk", {"tightens"}),
-    "sew": ("Sewing.GivesSewn", {"sews"}),
-    "gen": ("Making.OnGen", {"makes"}),
-    "try": ("Summaries.GivesSummary", {"tries"}),
-    "--help, --version": ("Help.help_text", {"help", "version"}),
+    "info": ("surf_answers.Info.Informs", {"info"}),
+    "dist": ("surf_answers.Distances.GivesDistances", {"weighted", "Distances"}),
+    "loops": ("surf_answers.LeastLoops.GivesLoops", {"weighted", "LeastLoops"}),
+    "basis": ("surf_answers.LeastBasis.GivesBasis", {"cycles", "Basis"}),
+    "cycle": ("surf_answers.ShortestCycle.GivesCycle", {"cycles", "Shortest"}),
+    "cut": ("surf_answers.Cuts.GivesCut", {"weighted", "Cut"}),
+    "disc": ("surf_answers.Discs.JudgesDisc", {"disc"}),
+    "certify M L x": ("surf_answers.Certificates.GivesLoopCert", {"weighted", "LoopCertificate"}),
+    "certify M L": ("surf_answers.Certificates.GivesBasisCert", {"cycles", "BasisCertificate"}),
+    "check": ("surf_answers.Verdicts.JudgesCert", {"checks"}),
+    "lengths": ("surf_answers.Coordinates.GivesMeasures", {"measures"}),
+    "class": ("surf_answers.Classes.GivesClass", {"classes"}),
+    "same": ("surf_answers.Classes.GivesClass", {"compares"}),
+    "confirm": ("surf_answers.Confirming.JudgesEvidence", {"confirms"}),
+    "shortest": ("surf_answers.Tightening.GivesShortestWalk", {"tightens"}),
+    "sew": ("surf_run.Sewing.GivesSewn", {"sews"}),
+    "gen": ("surf_run.Making.OnGen", {"makes"}),
+    "try": ("surf_answers.Summaries.GivesSummary", {"tries"}),
+    "--help, --version": ("surf_answers.Help.help_text", {"help", "version"}),
 }
 CASES = set().union(*(cases for _, cases in COMMANDS.values()))
 
@@ -209,9 +209,8 @@ def unreached(specs, top):
 def counts(specs, top):
     """For each command: definitions and lines under its answer, and under all that `run` says of its words."""
     run = roots_of(specs, top / "crates/surf_run/src/top.rt")
-    for command, (home, cases) in COMMANDS.items():
+    for command, (key, cases) in COMMANDS.items():
         passed_over = frozenset(CASES - cases)
-        key = f"surf_run.{home}"
         if key not in specs.definitions:
             sys.exit(f"tools/reach.py: what `{command}` answers, {key}, isn't there")
         answer, whole = specs.reached([key], passed_over), specs.reached(run, passed_over)
@@ -274,8 +273,8 @@ def main():
             return 1
         print("docs/believe.md has the counts of today")
     elif word in COMMANDS:
-        home, cases = COMMANDS[word]
-        for key in sorted(specs.reached([f"surf_run.{home}"], frozenset(CASES - cases))):
+        root, cases = COMMANDS[word]
+        for key in sorted(specs.reached([root], frozenset(CASES - cases))):
             found = specs.definitions[key]
             print(f"crates/{found.crate}/specs/{found.module.replace('.', '/')}.antt:{found.number}: {found.name}")
     else:

@@ -2,10 +2,10 @@
 use Rattle.std.proofs.Common.{◌≡◌, ◌≢◌, ◌<◌, ◌≤◌, ◌⊎◌, inl, inr, ℕ, List, [], ◌++◌, length, take, Some, refl, sym, ◌∙◌, arith, subst}
 use Rattle.std.proofs.lemmas.Bool.{cases_order}
 use Rattle.surf_base.specs.Outside.{Files, HasRisen}
-use Rattle.surf_run.specs.Outcome.{misses}
+use Rattle.surf_texts.specs.Outcome.{misses}
 use Rattle.surf_run.specs.Leads.{Answer, Leads}
 use Rattle.surf_run.specs.Run.{IsLineOf, PutsLine, WritesAnswer}
-use Rattle.surf_run.specs.Tells.{IsTold}
+use Rattle.surf_answers.specs.Tells.{IsTold}
 use Rattle.surf_c.specs.Calls.{IsSaid}
 
 pub unrisen : (old new : ℕ) → old ≡ 0 → new ≤ 0 → HasRisen old new → ⊥

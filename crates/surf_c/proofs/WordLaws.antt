@@ -5,7 +5,7 @@ use Rattle.std.proofs.lemmas.List.{map-append}
 use Rattle.std.specs.List.{AllByRecursion}
 use Rattle.std.specs.Str.{IsUtf8}
 use Rattle.std.specs.declared.alloc.Global.{Global}
-use Rattle.surf_run.specs.Words.{texts}
+use Rattle.surf_words.specs.Words.{texts}
 
 module _ (words : List (String Global)) (tokens all : List (List ℕ)) (so_far : texts words ++ tokens ≡ all) where
   pub word_more : (word : String Global) (token : List ℕ) (rest : List (List ℕ)) → tokens ≡ token ∷ rest → string_bytes word ≡ token →

@@ -2,7 +2,7 @@
 use Rattle.std.specs.Prelude.{◌≡◌, ◌≤◌, ◌⊎◌, ℕ, List, [], ◌∷◌, All, length, take, codes}
 use Rattle.std.specs.Str.{IsUtf8}
 use Rattle.surf_base.specs.Outside.{Files}
-use Rattle.surf_run.specs.Outcome.{misses}
+use Rattle.surf_texts.specs.Outcome.{misses}
 use Rattle.surf_run.specs.Leads.{Answer, Leads}
 use Rattle.surf_run.specs.Run.{IsDecided}
 

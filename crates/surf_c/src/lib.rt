@@ -9,7 +9,7 @@ mod words;
 
 ghost use Rattle.std.specs.Prelude.{◌≡◌, ◌≤◌, ◌<◌, length, take, IfOk};
 ghost use Rattle.surf_c.specs.Calls.{three, IsSaid, IsSaidInto};
-ghost use Rattle.surf_run.specs.Words.{texts};
+ghost use Rattle.surf_words.specs.Words.{texts};
 ghost use Rattle.surf_text.specs.Text.{words_of};
 
 use memory::{GrowingSink, ThreeFiles};

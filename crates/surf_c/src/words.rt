@@ -1,7 +1,7 @@
 //! The words of a call.
 ghost use Rattle.std.specs.Prelude.{◌≡◌, All, IfOk, IfErr, string_bytes};
 ghost use Rattle.std.specs.Str.{IsUtf8};
-ghost use Rattle.surf_run.specs.Words.{texts};
+ghost use Rattle.surf_words.specs.Words.{texts};
 ghost use Rattle.surf_text.specs.Text.{words_of};
 
 use std::alloc::{AllocError, AllocFailed, Global};

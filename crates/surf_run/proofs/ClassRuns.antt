@@ -9,15 +9,17 @@ use Rattle.surf_classes.specs.Evidence.{Evidence}
 use Rattle.surf_surfaces.specs.Mesh.{Mesh}
 use Rattle.surf_surfaces.specs.Surface.{face_count, edge_count}
 use Rattle.surf_off.specs.Off.{OffParts, off_of}
-use Rattle.surf_run.specs.Classes.{GivesClass, OnClassMesh, OnClassText}
-use Rattle.surf_run.specs.Confirming.{evident, right_line}
+use Rattle.surf_answers.specs.Classes.{GivesClass}
+use Rattle.surf_run.specs.Classes.{OnClassMesh, OnClassText}
+use Rattle.surf_run.specs.Confirming.{evident}
+use Rattle.surf_texts.specs.EvidenceLines.{right_line}
 use Rattle.surf_run.specs.Given.{IsFewLoopedText}
 use Rattle.surf_run.specs.Leads.{Answer, Leads}
-use Rattle.surf_run.specs.Outcome.{Outcome, answers}
+use Rattle.surf_texts.specs.Outcome.{Outcome, answers}
 use Rattle.surf_run.specs.Reading.{Reads}
 use Rattle.surf_run.specs.TwoRuns.{ClassesAreConfirmed}
 use Rattle.surf_run.specs.Walks.{HasWalk}
-use Rattle.surf_run.specs.declared.walks.WalkFile.TheVariants.{First}
+use Rattle.surf_texts.specs.declared.walks.WalkFile.TheVariants.{First}
 use Rattle.surf_run.proofs.ClassSizes.{evidence_fits, evidence_short}
 use Rattle.surf_run.proofs.CycleLaws.{few_loops}
 use Rattle.surf_run.proofs.Refusing.{reads_refuses, looped_refuses, walk_refuses, goes_on, shown_low, shown_text}

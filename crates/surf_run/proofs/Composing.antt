@@ -2,13 +2,13 @@
 use Rattle.std.proofs.Common.{ℕ, ◌≤◌, Option, Some, None, Result, Ok, Err, inl, inr, arith}
 use Rattle.std.specs.Prelude.{IfSome}
 use Rattle.surf_base.specs.Outside.{Files}
-use Rattle.surf_run.specs.Cause.{Cause, due, unread, starved}
-use Rattle.surf_run.specs.Outcome.{Outcome, answers, misses}
-use Rattle.surf_run.specs.Refusals.{cause_of}
+use Rattle.surf_texts.specs.Cause.{Cause, due, unread, starved}
+use Rattle.surf_texts.specs.Outcome.{Outcome, answers, misses}
+use Rattle.surf_texts.specs.Refusals.{cause_of}
 use Rattle.surf_run.specs.Steps.{Ends}
-use Rattle.surf_run.specs.Tells.{IsTold, Why, Concludes, WhyOver, ConcludesOver, verdict_status}
-use Rattle.surf_run.specs.declared.answered.Answered.{Answered}
-use Rattle.surf_run.specs.declared.refusal.Refused.{Refused}
+use Rattle.surf_answers.specs.Tells.{IsTold, Why, Concludes, WhyOver, ConcludesOver, verdict_status}
+use Rattle.surf_answers.specs.declared.answered.Answered.{Answered}
+use Rattle.surf_texts.specs.declared.refusal.Refused.{Refused}
 
 module _ {A : Type 0} (first : Result A Outcome → Type 0) (second : A → Outcome → Type 0) (a : A) (went : first (Ok a)) where
   why_alone : (c : Cause) → Why (second a) c → Why (Ends first second) c

@@ -1,7 +1,6 @@
--- Whichever trees show them, the candidates for a basis have one first loop; limits; and the texts of cycles.
-use Rattle.std.proofs.Common.{◌≡◌, inl, inr, ℕ, ◌+◌, ◌<◌, ◌≤◌, true, false, List, [], ◌∷◌, ◌++◌, length, map, Result, Ok, Err, refl, sym, ap, ◌∙◌, subst, arith}
-use Rattle.std.specs.Prelude.{nat_lt, sum}
-use Rattle.std.specs.List.{flat_map}
+-- Whichever trees show them, the candidates for a basis have one first loop; and limits.
+use Rattle.std.proofs.Common.{◌≡◌, inl, inr, ℕ, ◌+◌, ◌<◌, ◌≤◌, true, false, List, [], ◌∷◌, Result, Ok, Err, refl, sym, ap, ◌∙◌, subst, arith}
+use Rattle.std.specs.Prelude.{nat_lt}
 use Rattle.std.proofs.lemmas.Bool.{cases_lt, lt-ltb, le-ltb}
 use Rattle.surf_surfaces.specs.Mesh.{Mesh}
 use Rattle.surf_surfaces.specs.Surface.{IsSurface, face_count, edge_count, loop_count}
@@ -10,13 +9,9 @@ use Rattle.surf_surfaces.specs.Choice.{Trees, AreChosen, Loop, candidates}
 use Rattle.surf_validity.proofs.OneBasis.{candidates_are_one}
 use Rattle.surf_base.specs.declared.limits.LimitKind.{LimitKind}
 use Rattle.surf_base.specs.declared.limits.LimitKind.TheVariants.{Loops}
-use Rattle.surf_basis.specs.Cycles.{as_loops}
-use Rattle.surf_basis.specs.declared.cycle.Cycle.{Cycle}
-use Rattle.surf_print.specs.CycleTexts.{cycle_line, cycles_head, cycles_text}
-use Rattle.surf_run.specs.CycleTexts.{cycle_found_line}
 use Rattle.surf_run.specs.Given.{looped, HasFewLoops, HasFewVertices}
-use Rattle.surf_run.specs.Limits.{beyond}
-use Rattle.surf_run.specs.Outcome.{Outcome}
+use Rattle.surf_texts.specs.Limits.{beyond}
+use Rattle.surf_texts.specs.Outcome.{Outcome}
 
 module _ (mesh : Mesh) (lengths : List ℕ) (a b : ℕ → Trees) (surface : IsSurface mesh) (positive : ArePositive mesh lengths)
     (x : AreChosen mesh lengths a) (y : AreChosen mesh lengths b) where
@@ -48,23 +43,3 @@ many_vertices limit mesh many = let t : nat_lt limit.1 mesh.vertices ≡ true = 
 -- one with few goes on
 pub few_vertices : (limit : LimitKind × ℕ) (mesh : Mesh) → mesh.vertices ≤ limit.1 → HasFewVertices limit mesh (Ok mesh)
 few_vertices limit mesh few = let t : nat_lt limit.1 mesh.vertices ≡ false = le-ltb _ _ few in rw t refl
-
--- ---- texts
-
-pub as_long : (cs : List Cycle) → map (λ c. c.size) (as_loops cs) ≡ map (λ c. c.length) cs
-as_long [] = refl
-as_long (c ∷ cs) = ap (λ xs. c.length ∷ xs) (as_long cs)
-
-as_many : (cs : List Cycle) → length (as_loops cs) ≡ length cs
-as_many [] = refl
-as_many (c ∷ cs) = let rest = as_many cs in omega (arith, rest)
-
-same_lines : (cs : List Cycle) → flat_map (λ c. cycle_line c.size c.walk) (as_loops cs) ≡ flat_map cycle_found_line cs
-same_lines [] = refl
-same_lines (c ∷ cs) = ap (λ xs. cycle_found_line c ++ xs) (same_lines cs)
-
-pub text_of_cycles : (cs : List Cycle) → cycles_text (as_loops cs) ≡ cycles_head (length cs) (sum (map (λ c. c.length) cs)) ++ flat_map cycle_found_line cs
-text_of_cycles cs =
-    ap (λ n. cycles_head n (sum (map (λ c. c.size) (as_loops cs))) ++ flat_map (λ c. cycle_line c.size c.walk) (as_loops cs)) (as_many cs)
-    ∙ ap (λ xs. cycles_head (length cs) (sum xs) ++ flat_map (λ c. cycle_line c.size c.walk) (as_loops cs)) (as_long cs)
-    ∙ ap (λ xs. cycles_head (length cs) (sum (map (λ c. c.length) cs)) ++ xs) (same_lines cs)

@@ -8,27 +8,31 @@ use Rattle.surf_base.specs.Outside.{Files, bytes_of}
 use Rattle.surf_surfaces.specs.Mesh.{Mesh}
 use Rattle.surf_surfaces.specs.Surface.{edge_count}
 use Rattle.surf_run.specs.Checking.{OnCheckedText, OnCheckedMesh, OnCertFile, OnCertText}
-use Rattle.surf_run.specs.Classes.{GivesClass, OnClassMesh, OnClassText, OnSecond, OnSameMesh, OnSameText}
+use Rattle.surf_answers.specs.Classes.{GivesClass}
+use Rattle.surf_run.specs.Classes.{OnClassMesh, OnClassText, OnSecond, OnSameMesh, OnSameText}
 use Rattle.surf_run.specs.Confirming.{OnEvidenceText, OnEvidenceFile, OnConfirmMesh, OnConfirmText}
 use Rattle.surf_run.specs.Coordinates.{OnLengthsText}
-use Rattle.surf_run.specs.CycleTasks.{Finds, OnMesh, OnMeshText, vertex_limit}
+use Rattle.surf_run.specs.CycleTasks.{Finds, OnMesh, OnMeshText}
+use Rattle.surf_words.specs.TaskLimits.{vertex_limit}
 use Rattle.surf_run.specs.Given.{IsFewLoopedText, IsSearchableText, IsMeasured, IsWeighted}
 use Rattle.surf_run.specs.Leads.{Leads, OnRequest, OnInfoText, OnDiscText}
 use Rattle.surf_run.specs.Named.{length_file, named, AnswersDependOnNamedFiles}
-use Rattle.surf_run.specs.Outcome.{Outcome}
+use Rattle.surf_texts.specs.Outcome.{Outcome}
 use Rattle.surf_run.specs.Reading.{Reads, within_text}
 use Rattle.surf_run.specs.Sewing.{OnSewText}
 use Rattle.surf_run.specs.Steps.{Ends}
 use Rattle.surf_run.specs.Surfaces.{IsSurfaceText}
-use Rattle.surf_run.specs.Tightening.{HasSmallCover, GivesShortestWalk, OnTightLengths, OnTightMesh, OnCovered, OnTightText}
+use Rattle.surf_run.specs.Tightening.{HasSmallCover, OnTightLengths, OnTightMesh, OnCovered, OnTightText}
+use Rattle.surf_answers.specs.Tightening.{GivesShortestWalk}
 use Rattle.surf_run.specs.Walks.{walked_by, HasWalk}
-use Rattle.surf_run.specs.Tasks.{Performs, OnSurface, OnText, is_limited}
+use Rattle.surf_run.specs.Tasks.{Performs, OnSurface, OnText}
+use Rattle.surf_words.specs.TaskLimits.{is_limited}
 use Rattle.surf_run.specs.Weights.{weighed_by, weighed_for, HasLengths}
-use Rattle.surf_run.specs.Words.{Request, help, version, info, disc, cycles, weighted, makes, tries, checks, measures, sews, classes, compares, confirms, tightens, request_of}
-use Rattle.surf_run.specs.declared.cycles.CycleTask.{CycleTask}
-use Rattle.surf_run.specs.declared.walks.WalkFile.{WalkFile}
-use Rattle.surf_run.specs.declared.walks.WalkFile.TheVariants.{First, Second}
-use Rattle.surf_run.specs.declared.weighted.Task.{Task}
+use Rattle.surf_words.specs.Words.{Request, help, version, info, disc, cycles, weighted, makes, tries, checks, measures, sews, classes, compares, confirms, tightens, request_of}
+use Rattle.surf_words.specs.declared.tasks.CycleTask.{CycleTask}
+use Rattle.surf_texts.specs.declared.walks.WalkFile.{WalkFile}
+use Rattle.surf_texts.specs.declared.walks.WalkFile.TheVariants.{First, Second}
+use Rattle.surf_words.specs.declared.tasks.Task.{Task}
 
 -- what ends two steps ends two others that follow from them
 ends_map : {A : Type 0} (first other : Result A Outcome → Type 0) (second next : A → Outcome → Type 0) →

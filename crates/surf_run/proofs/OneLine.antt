@@ -22,29 +22,29 @@ use Rattle.surf_off.specs.declared.fault.OffFault.{OffFault}
 use Rattle.surf_off.specs.declared.fault.OffFault.TheVariants as off
 use Rattle.surf_off.proofs.NumberLines.{none_append}
 use Rattle.surf_text.specs.Numbers.{numbers_text}
-use Rattle.surf_print.specs.Lines.{numbered}
+use Rattle.surf_texts.specs.Lines.{numbered}
 use Rattle.surf_sew.specs.declared.copies.CopyFault.{CopyFault}
 use Rattle.surf_sew.specs.declared.copies.CopyFault.TheVariants as copies
 use Rattle.surf_sew.specs.declared.fault.SewFault.{SewFault}
 use Rattle.surf_sew.specs.declared.fault.SewFault.TheVariants as sewing
 use Rattle.surf_text.specs.Text.{is_line_end}
-use Rattle.surf_run.specs.Cause.{Cause, due, unread, starved, misused, line_of}
-use Rattle.surf_run.specs.CertTexts.{cert_cause}
-use Rattle.surf_run.specs.Confirming.{evidence_cause}
-use Rattle.surf_run.specs.Coordinates.{geom_cause}
-use Rattle.surf_run.specs.Limits.{limit_name}
-use Rattle.surf_run.specs.MeshTexts.{off_cause}
-use Rattle.surf_run.specs.Outcome.{answers, refuses, misses}
-use Rattle.surf_run.specs.Refusals.{cause_of}
+use Rattle.surf_texts.specs.Cause.{Cause, due, unread, starved, misused, line_of}
+use Rattle.surf_texts.specs.CertLines.{cert_cause}
+use Rattle.surf_texts.specs.EvidenceLines.{evidence_cause}
+use Rattle.surf_texts.specs.CoordinateLines.{geom_cause}
+use Rattle.surf_texts.specs.Limits.{limit_name}
+use Rattle.surf_texts.specs.MeshLines.{off_cause}
+use Rattle.surf_texts.specs.Outcome.{answers, refuses, misses}
+use Rattle.surf_texts.specs.Refusals.{cause_of}
 use Rattle.surf_run.specs.Run.{IsOneLine}
-use Rattle.surf_run.specs.Sewing.{copy_cause, sew_cause}
-use Rattle.surf_run.specs.Surfaces.{surface_cause}
-use Rattle.surf_run.specs.Walks.{file_words, walk_line, walk_cause}
-use Rattle.surf_run.specs.Weights.{length_cause}
-use Rattle.surf_run.specs.declared.refusal.Refused.{Refused}
-use Rattle.surf_run.specs.declared.refusal.Refused.TheVariants.{MeshText, Surface, Lengths, Base, Certificate, Coordinates, Copies, Sewing, Walk, Evidence, Limit, Read, Memory}
-use Rattle.surf_run.specs.declared.walks.WalkFile.{WalkFile}
-use Rattle.surf_run.specs.declared.walks.WalkFile.TheVariants.{First, Second}
+use Rattle.surf_texts.specs.SewingLines.{copy_cause, sew_cause}
+use Rattle.surf_texts.specs.SurfaceLines.{surface_cause}
+use Rattle.surf_texts.specs.WalkLines.{file_words, walk_line, walk_cause}
+use Rattle.surf_texts.specs.LengthLines.{length_cause}
+use Rattle.surf_texts.specs.declared.refusal.Refused.{Refused}
+use Rattle.surf_texts.specs.declared.refusal.Refused.TheVariants.{MeshText, Surface, Lengths, Base, Certificate, Coordinates, Copies, Sewing, Walk, Evidence, Limit, Read, Memory}
+use Rattle.surf_texts.specs.declared.walks.WalkFile.{WalkFile}
+use Rattle.surf_texts.specs.declared.walks.WalkFile.TheVariants.{First, Second}
 
 -- what is due has one line, if it has any
 abbrev pub IsSaid : Cause → Type 0

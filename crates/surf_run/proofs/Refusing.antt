@@ -11,20 +11,24 @@ use Rattle.surf_lengths.specs.Files.{lengths_in}
 use Rattle.surf_lengths.specs.declared.fault.LengthFault.{LengthFault}
 use Rattle.surf_off.specs.Off.{OffParts, off_of}
 use Rattle.surf_off.specs.declared.fault.OffFault.{OffFault}
-use Rattle.surf_run.specs.Cause.{Cause, due, unread, starved, outcome_of}
+use Rattle.surf_texts.specs.Cause.{Cause, due, unread, starved, outcome_of}
 use Rattle.surf_run.specs.Given.{looped, searchable, IsFewLoopedText, IsSearchableText, IsMeasured, IsWeighted}
-use Rattle.surf_run.specs.Limits.{beyond}
-use Rattle.surf_run.specs.MeshTexts.{read_outcome, off_cause}
-use Rattle.surf_run.specs.Outcome.{Outcome, answers, refuses, misses, status_of, Shows}
+use Rattle.surf_texts.specs.Limits.{beyond}
+use Rattle.surf_run.specs.MeshTexts.{read_outcome}
+use Rattle.surf_texts.specs.MeshLines.{off_cause}
+use Rattle.surf_texts.specs.Outcome.{Outcome, answers, refuses, misses, status_of, Shows}
 use Rattle.surf_run.specs.Reading.{Reads, within_text}
-use Rattle.surf_run.specs.Says.{Says}
+use Rattle.surf_answers.specs.Says.{Says}
 use Rattle.surf_run.specs.Steps.{Ends}
-use Rattle.surf_run.specs.Surfaces.{surface_cause, EndsInFault, IsSurfaceText}
-use Rattle.surf_run.specs.Weights.{weighed, weighed_by, weighed_for, length_cause, base_line, based, HasLengths}
+use Rattle.surf_texts.specs.SurfaceLines.{surface_cause}
+use Rattle.surf_run.specs.Surfaces.{EndsInFault, IsSurfaceText}
+use Rattle.surf_run.specs.Weights.{weighed, weighed_by, weighed_for, based, HasLengths}
+use Rattle.surf_texts.specs.LengthLines.{length_cause, base_line}
 use Rattle.surf_class.specs.Walks.{walk_in}
 use Rattle.surf_class.specs.declared.fault.WalkFault.{WalkFault}
-use Rattle.surf_run.specs.Walks.{walk_cause, walk_named, walked, walked_by, HasWalk}
-use Rattle.surf_run.specs.declared.walks.WalkFile.{WalkFile}
+use Rattle.surf_texts.specs.WalkLines.{walk_cause}
+use Rattle.surf_run.specs.Walks.{walk_named, walked, walked_by, HasWalk}
+use Rattle.surf_texts.specs.declared.walks.WalkFile.{WalkFile}
 use Rattle.surf_run.proofs.Running.{IsDue, off_due, surface_due, length_due, walk_due}
 
 -- where a step ends, its status is above 1

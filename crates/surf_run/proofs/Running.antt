@@ -11,37 +11,37 @@ use Rattle.surf_lengths.specs.declared.fault.LengthFault.{LengthFault}
 use Rattle.surf_lengths.specs.declared.fault.LengthFault.TheVariants as lengths
 use Rattle.surf_cert.specs.declared.fault.CertText.{CertText}
 use Rattle.surf_cert.specs.declared.fault.CertText.TheVariants as certs
-use Rattle.surf_run.specs.CertTexts.{cert_cause}
+use Rattle.surf_texts.specs.CertLines.{cert_cause}
 use Rattle.surf_geom.specs.declared.fault.GeomFault.{GeomFault}
 use Rattle.surf_geom.specs.declared.fault.GeomFault.TheVariants as geom
-use Rattle.surf_run.specs.Coordinates.{geom_cause}
+use Rattle.surf_texts.specs.CoordinateLines.{geom_cause}
 use Rattle.surf_sew.specs.declared.copies.CopyFault.{CopyFault}
 use Rattle.surf_sew.specs.declared.copies.CopyFault.TheVariants as copies
 use Rattle.surf_sew.specs.declared.fault.SewFault.{SewFault}
 use Rattle.surf_sew.specs.declared.fault.SewFault.TheVariants as sewing
-use Rattle.surf_run.specs.Sewing.{copy_cause, sew_cause}
+use Rattle.surf_texts.specs.SewingLines.{copy_cause, sew_cause}
 use Rattle.surf_class.specs.declared.fault.EvidenceFault.{EvidenceFault}
 use Rattle.surf_class.specs.declared.fault.EvidenceFault.TheVariants as evidence
 use Rattle.surf_class.specs.declared.fault.WalkFault.{WalkFault}
 use Rattle.surf_class.specs.declared.fault.WalkFault.TheVariants as walking
-use Rattle.surf_run.specs.Confirming.{evidence_cause}
-use Rattle.surf_run.specs.Walks.{walk_cause}
-use Rattle.surf_run.specs.declared.walks.WalkFile.{WalkFile}
-use Rattle.surf_run.specs.MeshTexts.{off_cause}
-use Rattle.surf_run.specs.Surfaces.{surface_cause}
-use Rattle.surf_run.specs.Weights.{length_cause}
-use Rattle.surf_run.specs.Outcome.{Outcome, answers, refuses, misses}
-use Rattle.surf_run.specs.Cause.{Cause, due, unread, starved, misused, line_of}
-use Rattle.surf_run.specs.Refusals.{cause_of}
+use Rattle.surf_texts.specs.EvidenceLines.{evidence_cause}
+use Rattle.surf_texts.specs.WalkLines.{walk_cause}
+use Rattle.surf_texts.specs.declared.walks.WalkFile.{WalkFile}
+use Rattle.surf_texts.specs.MeshLines.{off_cause}
+use Rattle.surf_texts.specs.SurfaceLines.{surface_cause}
+use Rattle.surf_texts.specs.LengthLines.{length_cause}
+use Rattle.surf_texts.specs.Outcome.{Outcome, answers, refuses, misses}
+use Rattle.surf_texts.specs.Cause.{Cause, due, unread, starved, misused, line_of}
+use Rattle.surf_texts.specs.Refusals.{cause_of}
 use Rattle.surf_run.specs.Leads.{Leads, OnRequest}
-use Rattle.surf_run.specs.Tells.{IsTold, Why, WhyOver, verdict_status}
-use Rattle.surf_run.specs.Words.{Request, request_of}
+use Rattle.surf_answers.specs.Tells.{IsTold, Why, WhyOver, verdict_status}
+use Rattle.surf_words.specs.Words.{Request, request_of}
 use Rattle.surf_run.specs.Run.{AreTheFiles, NamesFile, PutsLine, IsDecided, IsLineOf, Refuses, WritesAnswer, WritesFront}
 use Rattle.surf_run.proofs.OneLine.{IsSaid, misused_is_one, read_fault_is_one, write_fault_is_one, memory_is_one}
-use Rattle.surf_run.specs.declared.answered.Verdict.{Verdict}
-use Rattle.surf_run.specs.declared.answered.Verdict.TheVariants.{Yes, No}
-use Rattle.surf_run.specs.declared.refusal.Refused.{Refused}
-use Rattle.surf_run.specs.declared.refusal.Refused.TheVariants.{MeshText, Surface, Lengths, Base, Certificate, Coordinates, Copies, Sewing, Walk, Evidence, Limit, Read, Memory}
+use Rattle.surf_answers.specs.declared.answered.Verdict.{Verdict}
+use Rattle.surf_answers.specs.declared.answered.Verdict.TheVariants.{Yes, No}
+use Rattle.surf_texts.specs.declared.refusal.Refused.{Refused}
+use Rattle.surf_texts.specs.declared.refusal.Refused.TheVariants.{MeshText, Surface, Lengths, Base, Certificate, Coordinates, Copies, Sewing, Walk, Evidence, Limit, Read, Memory}
 
 -- what is due has a status from 2 to 8 or from 12 on, and a line
 abbrev pub IsDue : Cause → Type 0

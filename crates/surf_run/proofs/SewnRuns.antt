@@ -27,25 +27,25 @@ use Rattle.surf_sew.proofs.Limits.{limits_are_kept}
 use Rattle.surf_surfaces.specs.Mesh.{Mesh, IsFace}
 use Rattle.surf_surfaces.specs.SideNumber.{side_count}
 use Rattle.surf_surfaces.specs.Surface.{face_count, edge_count, IsSurface}
-use Rattle.surf_run.specs.Cause.{misused}
-use Rattle.surf_run.specs.Cuts.{GivesCut, cut_text, is_trimmed}
+use Rattle.surf_texts.specs.Cause.{misused}
+use Rattle.surf_answers.specs.Cuts.{GivesCut, cut_text, is_trimmed}
 use Rattle.surf_run.specs.Given.{IsFewLoopedText, IsWeighted}
 use Rattle.surf_run.specs.Leads.{Answer, Leads, OnRequest}
-use Rattle.surf_run.specs.Limits.{beyond}
+use Rattle.surf_texts.specs.Limits.{beyond}
 use Rattle.surf_run.specs.MeshTexts.{read_outcome}
-use Rattle.surf_run.specs.Outcome.{Outcome, answers, status_of}
+use Rattle.surf_texts.specs.Outcome.{Outcome, answers, status_of}
 use Rattle.surf_run.specs.Reading.{Reads, within_text}
 use Rattle.surf_run.specs.Sewing.{copied, sewn}
 use Rattle.surf_run.specs.Tasks.{Performs, OnSurface, OnText}
 use Rattle.surf_run.specs.TwoRuns.{CanBeRead, IsSewnBack, CutsAreSewn}
-use Rattle.surf_run.specs.Words.{word_number, cut_task, weighted_request}
-use Rattle.surf_run.specs.declared.cut_command.CutKind.TheVariants.{Full, Trimmed}
-use Rattle.surf_run.specs.declared.weighted.Task.{Task}
-use Rattle.surf_run.specs.declared.weighted.Task.TheVariants.{Distances, LeastLoops, LoopCertificate, Cut}
+use Rattle.surf_words.specs.Words.{word_number, cut_task, weighted_request}
+use Rattle.surf_words.specs.declared.tasks.CutKind.TheVariants.{Full, Trimmed}
+use Rattle.surf_words.specs.declared.tasks.Task.{Task}
+use Rattle.surf_words.specs.declared.tasks.Task.TheVariants.{Distances, LeastLoops, LoopCertificate, Cut}
 use Rattle.surf_run.proofs.CertSizes.{length_of_three, length_of_four}
 use Rattle.surf_run.proofs.MeshReads.{IsRead, mesh_texts_are_read}
 use Rattle.surf_run.proofs.Refusing.{reads_refuses, looped_refuses, weighted_refuses, goes_on, shown_low, shown_text}
-use Rattle.surf_run.proofs.Saying.{says_whole}
+use Rattle.surf_answers.proofs.Saying.{says_whole}
 use Rattle.surf_run.proofs.TextLaws.{mesh_texts_are_few}
 use Rattle.surf_run.proofs.TwoRuns.{read_back, read_again}
 

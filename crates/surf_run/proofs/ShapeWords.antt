@@ -13,14 +13,14 @@ use Rattle.surf_tori.specs.Chain.{chain}
 use Rattle.surf_tori.proofs.ChainLaws.{chains_are_surfaces}
 use Rattle.surf_tori.proofs.TorusLaws.{tori_are_surfaces}
 use Rattle.surf_run.specs.Given.{searchable}
-use Rattle.surf_run.specs.Limits.{beyond}
+use Rattle.surf_texts.specs.Limits.{beyond}
 use Rattle.surf_run.specs.Making.{made}
-use Rattle.surf_run.specs.Outcome.{Outcome}
-use Rattle.surf_run.specs.Shapes.{Shape, IsShape, mesh_of, torus_shape, chain_shape, torus_named, chain_named}
+use Rattle.surf_texts.specs.Outcome.{Outcome}
+use Rattle.surf_words.specs.Shapes.{Shape, IsShape, mesh_of, torus_shape, chain_shape, torus_named, chain_named}
 use Rattle.surf_run.specs.Trying.{searched, then_searched, IsTried}
-use Rattle.surf_run.specs.Words.{Request, help, version, info, disc, tries, checks, sews, classes, compares, confirms, tightens, word_number, task_of, cut_task, weighted_request, cycle_task, cycles_request, shape_request, measures_request, decimals_of, tried_request, torus_words, chain_words, three_words, four_words, five_words, six_words, request_of}
-use Rattle.surf_run.specs.declared.cycles.CycleTask.{CycleTask}
-use Rattle.surf_run.specs.declared.weighted.Task.{Task}
+use Rattle.surf_words.specs.Words.{Request, help, version, info, disc, tries, checks, sews, classes, compares, confirms, tightens, word_number, task_of, cut_task, weighted_request, cycle_task, cycles_request, shape_request, measures_request, decimals_of, tried_request, torus_words, chain_words, three_words, four_words, five_words, six_words, request_of}
+use Rattle.surf_words.specs.declared.tasks.CycleTask.{CycleTask}
+use Rattle.surf_words.specs.declared.tasks.Task.{Task}
 
 -- ---- the shapes of words
 

@@ -16,8 +16,8 @@ use Rattle.surf_cert.proofs.ChosenReread.{chosen_loops_again, chosen_basis_again
 use Rattle.surf_surfaces.specs.Mesh.{Mesh}
 use Rattle.surf_surfaces.specs.Surface.{IsSurface, face_count, edge_count}
 use Rattle.surf_surfaces.specs.Walk.{ArePositive}
-use Rattle.surf_print.specs.CycleTexts.{cycles_text}
-use Rattle.surf_print.specs.LoopTexts.{loops_text}
+use Rattle.surf_texts.specs.CycleTexts.{cycles_text}
+use Rattle.surf_texts.specs.LoopTexts.{loops_text}
 use Rattle.surf_surfaces.specs.Choice.{Loop, loops_at, IsChosenBasis}
 use Rattle.surf_surfaces.specs.Homology.{IsFullCount}
 use Rattle.surf_surfaces.proofs.ShortestWalkLaws.{first_of_basis_is_shortest_not_null}
@@ -31,23 +31,23 @@ use Rattle.surf_validity.proofs.ChosenTotals.{chosen_loops_total, chosen_basis_t
 use Rattle.surf_validity.proofs.LoopLaws.{valid_loops_are_least}
 use Rattle.surf_validity.proofs.PlaceLaws.{valid_loops_are_least_in_order, valid_bases_are_least_in_order, valid_bases_measure_shortest}
 use Rattle.surf_run.specs.CertTexts.{bounded, certified, then_bounded}
-use Rattle.surf_run.specs.Certificates.{GivesLoopCert, GivesBasisCert}
+use Rattle.surf_answers.specs.Certificates.{GivesLoopCert, GivesBasisCert}
 use Rattle.surf_run.specs.CycleTasks.{Finds, OnMesh, OnMeshText}
 use Rattle.surf_run.specs.Given.{searchable, HasFewVertices, IsFewLoopedText, IsSearchableText, IsMeasured, IsWeighted}
 use Rattle.surf_run.specs.Leads.{Answer, Leads, OnRequest}
-use Rattle.surf_run.specs.Limits.{beyond}
+use Rattle.surf_texts.specs.Limits.{beyond}
 use Rattle.surf_run.specs.MeshTexts.{read_outcome}
 use Rattle.surf_run.specs.Named.{AgreeOn, named}
-use Rattle.surf_run.specs.Outcome.{Outcome, answers, status_of}
+use Rattle.surf_texts.specs.Outcome.{Outcome, answers, status_of}
 use Rattle.surf_run.specs.Reading.{Reads, within_text}
-use Rattle.surf_run.specs.Says.{Says}
-use Rattle.surf_run.specs.Summaries.{total_size}
+use Rattle.surf_answers.specs.Says.{Says}
+use Rattle.surf_answers.specs.Summaries.{total_size}
 use Rattle.surf_run.specs.Tasks.{Performs, OnSurface, OnText}
 use Rattle.surf_run.specs.TwoRuns.{LoopsPass, BasisPasses, CertifiedLoopsPass, CertifiedBasesPass}
-use Rattle.surf_run.specs.Verdicts.{loops_line, basis_line}
-use Rattle.surf_run.specs.Words.{word_number, weighted_request, request_of}
-use Rattle.surf_run.specs.declared.cycles.CycleTask.TheVariants.{BasisCertificate}
-use Rattle.surf_run.specs.declared.weighted.Task.TheVariants.{LeastLoops, LoopCertificate}
+use Rattle.surf_texts.specs.VerdictLines.{loops_line, basis_line}
+use Rattle.surf_words.specs.Words.{word_number, weighted_request, request_of}
+use Rattle.surf_words.specs.declared.tasks.CycleTask.TheVariants.{BasisCertificate}
+use Rattle.surf_words.specs.declared.tasks.Task.TheVariants.{LeastLoops, LoopCertificate}
 use Rattle.surf_run.proofs.CertSizes.{loop_text_short, basis_text_short}
 use Rattle.surf_run.proofs.CycleLaws.{few_loops, few_vertices}
 use Rattle.surf_run.proofs.Named.{answers_depend_on_named_files}

@@ -3,31 +3,36 @@ use Rattle.std.proofs.Common.{◌≡◌, ◌⊎◌, ◌≤◌, inl, inr, ℕ, �
 use Rattle.std.specs.Prelude.{nat_lt, if◌then◌else◌, codes}
 use Rattle.std.proofs.lemmas.Bool.{cases_eq, cases_lt}
 use Rattle.surf_base.specs.Outside.{Files, bytes_of}
-use Rattle.surf_run.specs.Outcome.{Outcome, answers, refuses, misses, Shows, status_of}
+use Rattle.surf_texts.specs.Outcome.{Outcome, answers, refuses, misses, Shows, status_of}
 use Rattle.surf_run.specs.Steps.{Ends}
 use Rattle.surf_run.specs.Reading.{Reads, within_text}
 use Rattle.surf_surfaces.specs.Mesh.{Mesh, characteristic}
 use Rattle.surf_surfaces.specs.Surface.{edge_count, IsSurface, loop_count}
 use Rattle.surf_off.specs.Written.{soup_text}
-use Rattle.surf_run.specs.Making.{made, IsMade, GivesMesh}
-use Rattle.surf_run.specs.Shapes.{mesh_of}
+use Rattle.surf_run.specs.Making.{made, IsMade}
+use Rattle.surf_answers.specs.Making.{GivesMesh}
+use Rattle.surf_words.specs.Shapes.{mesh_of}
 use Rattle.surf_gen.specs.Made.{made_values}
-use Rattle.surf_run.specs.Summaries.{total_size, LoopsTotal, BasisTotals, CycleMeasures, measures_text, GivesSummary}
+use Rattle.surf_answers.specs.Summaries.{total_size, LoopsTotal, BasisTotals, CycleMeasures, GivesSummary}
+use Rattle.surf_texts.specs.SummaryTexts.{measures_text}
 use Rattle.surf_run.specs.Trying.{IsTried, then_searched}
 use Rattle.surf_check.proofs.FaultLaws.{fault_only}
 use Rattle.surf_disc.proofs.FaultLaws.{fault_only as disc_fault_only}
 use Rattle.surf_off.specs.Off.{OffParts, off_of}
-use Rattle.surf_run.specs.Cause.{outcome_of}
+use Rattle.surf_texts.specs.Cause.{outcome_of}
 use Rattle.surf_geom.specs.Measures.{measures_in}
 use Rattle.surf_geom.specs.Texts.{lengths_text}
-use Rattle.surf_run.specs.Coordinates.{measured, Measures, GivesMeasures, OnCoordinates, OnLengthsText}
-use Rattle.surf_run.specs.Cuts.{is_trimmed, cut_text}
-use Rattle.surf_run.specs.Discs.{JudgesDisc, SaysNoDisc, no_line}
-use Rattle.surf_run.specs.Info.{Informs, mesh_counts, genus_text, crosscaps_text}
+use Rattle.surf_run.specs.Coordinates.{measured, Measures, OnCoordinates, OnLengthsText}
+use Rattle.surf_answers.specs.Coordinates.{GivesMeasures}
+use Rattle.surf_answers.specs.Cuts.{is_trimmed, cut_text}
+use Rattle.surf_answers.specs.Discs.{JudgesDisc, SaysNoDisc}
+use Rattle.surf_texts.specs.DiscLines.{no_line}
+use Rattle.surf_answers.specs.Info.{Informs}
+use Rattle.surf_texts.specs.SummaryTexts.{mesh_counts, genus_text, crosscaps_text}
 use Rattle.surf_run.specs.Given.{looped, searchable, HasFewLoops, HasFewVertices, IsFewLoopedText, IsSearchableText, IsMeasured, IsWeighted}
 use Rattle.surf_run.specs.Weights.{HasLengths, HasBase, weighed_for, based}
-use Rattle.surf_run.specs.Says.{Says}
-use Rattle.surf_run.specs.Limits.{beyond}
+use Rattle.surf_answers.specs.Says.{Says}
+use Rattle.surf_texts.specs.Limits.{beyond}
 use Rattle.surf_cert.specs.Grammar.{parsed_cert}
 use Rattle.surf_cert.specs.declared.cert.Cert.{Cert}
 use Rattle.surf_cert.specs.declared.cert.Cert.TheVariants.{Loops}
@@ -37,17 +42,20 @@ use Rattle.surf_certcheck.proofs.OneBasisFault.{one_basis_fault, no_basis_fault}
 use Rattle.surf_certcheck.proofs.OneFault.{one_loop_fault}
 use Rattle.surf_run.specs.CertTexts.{IsCertText, certified, then_bounded}
 use Rattle.surf_run.specs.Checking.{OnCheckedText, OnCheckedMesh, OnCertFile, OnCertText}
-use Rattle.surf_run.specs.Verdicts.{fault_line, JudgesCert}
-use Rattle.surf_run.specs.CycleTasks.{Finds, OnMesh, OnMeshText, vertex_limit}
-use Rattle.surf_run.specs.Tasks.{Performs, OnSurface, OnText, is_limited}
-use Rattle.surf_run.specs.declared.cycles.CycleTask.{CycleTask}
-use Rattle.surf_run.specs.declared.cycles.CycleTask.TheVariants.{Basis, Shortest, BasisCertificate}
+use Rattle.surf_texts.specs.VerdictLines.{fault_line}
+use Rattle.surf_answers.specs.Verdicts.{JudgesCert}
+use Rattle.surf_run.specs.CycleTasks.{Finds, OnMesh, OnMeshText}
+use Rattle.surf_words.specs.TaskLimits.{vertex_limit}
+use Rattle.surf_run.specs.Tasks.{Performs, OnSurface, OnText}
+use Rattle.surf_words.specs.TaskLimits.{is_limited}
+use Rattle.surf_words.specs.declared.tasks.CycleTask.{CycleTask}
+use Rattle.surf_words.specs.declared.tasks.CycleTask.TheVariants.{Basis, Shortest, BasisCertificate}
 use Rattle.surf_run.specs.OneAnswer.{OutcomesAreOne, AnswersAreOne}
 use Rattle.surf_run.proofs.CycleLaws.{firsts_are_one}
 use Rattle.surf_run.proofs.OneFaults.{surface_faults_are_one, disc_faults_are_one, class_faults_are_one}
 use Rattle.surf_run.proofs.ShapeWords.{IsWellShaped, words_are_well_shaped, tried_is_surface, made_are_positive}
-use Rattle.surf_run.specs.declared.weighted.Task.{Task}
-use Rattle.surf_run.specs.declared.weighted.Task.TheVariants.{Distances, LeastLoops, LoopCertificate, Cut}
+use Rattle.surf_words.specs.declared.tasks.Task.{Task}
+use Rattle.surf_words.specs.declared.tasks.Task.TheVariants.{Distances, LeastLoops, LoopCertificate, Cut}
 use Rattle.surf_base.specs.declared.limits.LimitKind.{LimitKind}
 use Rattle.surf_base.specs.declared.limits.LimitKind.TheVariants as limits
 use Rattle.surf_cert.specs.Written.{loop_text, basis_text}
@@ -60,12 +68,13 @@ use Rattle.surf_surfaces.proofs.ShortestTreeLaws.{shortest_trees_are_one}
 use Rattle.surf_surfaces.proofs.LoopsOne.{loops_are_one}
 use Rattle.surf_lengths.proofs.Positive.{lengths_positive}
 use Rattle.surf_opening.proofs.ChosenTrees.{openings_at_are_one}
-use Rattle.surf_print.specs.CycleTexts.{cycle_line, cycles_text}
-use Rattle.surf_print.specs.DistanceTexts.{distances_text}
-use Rattle.surf_print.specs.LoopTexts.{loops_text}
-use Rattle.surf_print.proofs.TreeTextLaws.{texts_same}
+use Rattle.surf_texts.specs.CycleTexts.{cycle_line, cycles_text}
+use Rattle.surf_texts.specs.DistanceTexts.{distances_text}
+use Rattle.surf_texts.specs.LoopTexts.{loops_text}
+use Rattle.surf_texts.proofs.TreeTextLaws.{texts_same}
 use Rattle.surf_run.specs.MeshTexts.{IsMeshText, read_outcome}
-use Rattle.surf_run.specs.Surfaces.{surface_cause, EndsInFault, IsSurfaceOf, IsSurfaceText}
+use Rattle.surf_texts.specs.SurfaceLines.{surface_cause}
+use Rattle.surf_run.specs.Surfaces.{EndsInFault, IsSurfaceOf, IsSurfaceText}
 use Rattle.surf_run.specs.Run.{IsDecided}
 use Rattle.surf_sew.specs.Copies.{copies_in}
 use Rattle.surf_sew.specs.Sewing.{sewn_of}
@@ -75,15 +84,19 @@ use Rattle.surf_class.specs.Evidences.{evidence_in}
 use Rattle.surf_class.specs.Texts.{evidence_text}
 use Rattle.surf_classes.specs.Evidence.{Evidence, AreClosed}
 use Rattle.surf_classes.proofs.ChosenEvidence.{class_evidence_is_one}
-use Rattle.surf_run.specs.Classes.{null_word, odd_word, GivesClass, OnClassMesh, OnClassText, OnSecond, OnSameMesh, OnSameText}
-use Rattle.surf_run.specs.Confirming.{evident, wrong_line, IsEvidenceText, JudgesEvidence, OnEvidenceText, OnEvidenceFile, OnConfirmMesh, OnConfirmText}
+use Rattle.surf_answers.specs.Classes.{null_word, odd_word, GivesClass}
+use Rattle.surf_run.specs.Classes.{OnClassMesh, OnClassText, OnSecond, OnSameMesh, OnSameText}
+use Rattle.surf_run.specs.Confirming.{evident, IsEvidenceText, OnEvidenceText, OnEvidenceFile, OnConfirmMesh, OnConfirmText}
+use Rattle.surf_texts.specs.EvidenceLines.{wrong_line}
+use Rattle.surf_answers.specs.Confirming.{JudgesEvidence}
 use Rattle.surf_run.specs.Walks.{walk_named, HasWalk}
-use Rattle.surf_run.specs.declared.walks.WalkFile.{WalkFile}
-use Rattle.surf_run.specs.declared.walks.WalkFile.TheVariants.{First, Second}
+use Rattle.surf_texts.specs.declared.walks.WalkFile.{WalkFile}
+use Rattle.surf_texts.specs.declared.walks.WalkFile.TheVariants.{First, Second}
 use Rattle.surf_classes.proofs.ChosenWalks.{chosen_walk_is_one}
-use Rattle.surf_run.specs.Tightening.{covered, HasSmallCover, shortest_line, GivesShortestWalk, OnTightLengths, OnTightMesh, OnCovered, OnTightText}
+use Rattle.surf_run.specs.Tightening.{covered, HasSmallCover, OnTightLengths, OnTightMesh, OnCovered, OnTightText}
+use Rattle.surf_answers.specs.Tightening.{shortest_line, GivesShortestWalk}
 use Rattle.surf_run.specs.Leads.{Leads, Answer, OnRequest, OnInfoText, OnDiscText}
-use Rattle.surf_run.specs.Words.{Request, help, version, info, disc, cycles, weighted, makes, tries, checks, measures, sews, classes, compares, confirms, tightens, request_of}
+use Rattle.surf_words.specs.Words.{Request, help, version, info, disc, cycles, weighted, makes, tries, checks, measures, sews, classes, compares, confirms, tightens, request_of}
 
 -- two results of a step go on with one value, or end in one outcome
 abbrev pub Agree : {A : Type 0} → Result A Outcome → Result A Outcome → Type 0

@@ -1,24 +1,15 @@
--- What is read of the text of a certificate, and the line of its first fault.
-use Rattle.std.specs.Prelude.{◌≡◌, ℕ, nat_lt, List, [], ◌∷◌, Result, Ok, Err, if◌then◌else◌, codes}
+-- What is read of the text of a certificate.
+use Rattle.std.specs.Prelude.{◌≡◌, ℕ, nat_lt, List, Result, Ok, Err, if◌then◌else◌}
 use Rattle.surf_base.specs.declared.limits.LimitKind.TheVariants.{CertificateVertices}
 use Rattle.surf_surfaces.specs.Mesh.{Mesh}
 use Rattle.surf_cert.specs.Grammar.{parsed_cert}
 use Rattle.surf_cert.specs.declared.cert.Cert.{Cert}
 use Rattle.surf_cert.specs.declared.cert.Cert.TheVariants.{Loops, Basis}
 use Rattle.surf_cert.specs.declared.fault.CertText.{CertText}
-use Rattle.surf_cert.specs.declared.fault.CertText.TheVariants.{Header, Form, Early, Trailing, Memory}
-use Rattle.surf_print.specs.Lines.{numbered}
-use Rattle.surf_run.specs.Cause.{Cause, due, starved, outcome_of}
-use Rattle.surf_run.specs.Limits.{beyond}
-use Rattle.surf_run.specs.Outcome.{Outcome, refuses}
-
--- the cause that a fault is
-abbrev pub cert_cause : CertText → Cause
-cert_cause (Header line) = due (refuses 8 (numbered (codes "certificate text: header") (line ∷ [])))
-cert_cause (Form line) = due (refuses 8 (numbered (codes "certificate text: form") (line ∷ [])))
-cert_cause Early = due (refuses 8 (numbered (codes "certificate text: early") []))
-cert_cause (Trailing line) = due (refuses 8 (numbered (codes "certificate text: trailing") (line ∷ [])))
-cert_cause Memory = starved
+use Rattle.surf_texts.specs.Cause.{outcome_of}
+use Rattle.surf_texts.specs.Limits.{beyond}
+use Rattle.surf_texts.specs.Outcome.{Outcome}
+use Rattle.surf_texts.specs.CertLines.{cert_cause}
 
 abbrev pub certified : Result Cert CertText → Result Cert Outcome
 certified (Ok cert) = Ok cert

@@ -4,10 +4,10 @@ use Rattle.surf_base.specs.Outside.{Files}
 use Rattle.surf_surfaces.specs.Mesh.{Mesh}
 use Rattle.surf_run.specs.CertTexts.{IsCertText}
 use Rattle.surf_run.specs.Given.{IsFewLoopedText, IsMeasured}
-use Rattle.surf_run.specs.Outcome.{Outcome}
+use Rattle.surf_texts.specs.Outcome.{Outcome}
 use Rattle.surf_run.specs.Reading.{Reads}
 use Rattle.surf_run.specs.Steps.{Ends}
-use Rattle.surf_run.specs.Verdicts.{JudgesCert}
+use Rattle.surf_answers.specs.Verdicts.{JudgesCert}
 
 -- against a surface and lengths, of the text of a certificate
 abbrev pub OnCertText : Mesh → List ℕ → List ℕ → Outcome → Type 0

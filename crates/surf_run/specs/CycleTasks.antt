@@ -1,30 +1,23 @@
 -- What commands on the cycles of a surface with lengths answer.
 use Rattle.std.specs.Prelude.{ℕ, List}
 use Rattle.surf_base.specs.Outside.{Files}
-use Rattle.surf_base.specs.declared.limits.LimitKind.{LimitKind}
-use Rattle.surf_base.specs.declared.limits.LimitKind.TheVariants.{BasisVertices, CertificateVertices}
 use Rattle.surf_surfaces.specs.Mesh.{Mesh}
-use Rattle.surf_run.specs.Certificates.{GivesBasisCert}
+use Rattle.surf_answers.specs.Certificates.{GivesBasisCert}
 use Rattle.surf_run.specs.Given.{IsSearchableText, IsMeasured}
-use Rattle.surf_run.specs.LeastBasis.{GivesBasis}
-use Rattle.surf_run.specs.Outcome.{Outcome}
+use Rattle.surf_answers.specs.LeastBasis.{GivesBasis}
+use Rattle.surf_texts.specs.Outcome.{Outcome}
 use Rattle.surf_run.specs.Reading.{Reads}
-use Rattle.surf_run.specs.ShortestCycle.{GivesCycle}
+use Rattle.surf_answers.specs.ShortestCycle.{GivesCycle}
 use Rattle.surf_run.specs.Steps.{Ends}
-use Rattle.surf_run.specs.declared.cycles.CycleTask.{CycleTask}
-use Rattle.surf_run.specs.declared.cycles.CycleTask.TheVariants.{Basis, Shortest, BasisCertificate}
+use Rattle.surf_words.specs.declared.tasks.CycleTask.{CycleTask}
+use Rattle.surf_words.specs.declared.tasks.CycleTask.TheVariants.{Basis, Shortest, BasisCertificate}
+use Rattle.surf_words.specs.TaskLimits.{vertex_limit}
 
 -- what is done with a surface and lengths
 abbrev pub Finds : CycleTask → Mesh → List ℕ → Outcome → Type 0
 Finds Basis mesh lengths outcome = GivesBasis mesh lengths outcome
 Finds Shortest mesh lengths outcome = GivesCycle mesh lengths outcome
 Finds BasisCertificate mesh lengths outcome = GivesBasisCert mesh lengths outcome
-
--- how many vertices there may be: fewer where each has its tree in a certificate
-abbrev pub vertex_limit : CycleTask → LimitKind × ℕ
-vertex_limit Basis = (BasisVertices, 20000)
-vertex_limit Shortest = (BasisVertices, 20000)
-vertex_limit BasisCertificate = (CertificateVertices, 1000)
 
 -- a task on a surface
 abbrev pub OnMesh : CycleTask → Mesh → List ℕ → Files → Outcome → Type 0

@@ -7,8 +7,8 @@ use Rattle.surf_surfaces.specs.Mesh.{Mesh}
 use Rattle.surf_surfaces.specs.Surface.{face_count, edge_count, loop_count}
 use Rattle.surf_lengths.specs.Lengths.{AreLengths}
 use Rattle.surf_off.specs.Off.{OffParts}
-use Rattle.surf_run.specs.Limits.{beyond}
-use Rattle.surf_run.specs.Outcome.{Outcome}
+use Rattle.surf_texts.specs.Limits.{beyond}
+use Rattle.surf_texts.specs.Outcome.{Outcome}
 use Rattle.surf_run.specs.Surfaces.{IsSurfaceText}
 use Rattle.surf_run.specs.Weights.{HasLengths, HasBase}
 

@@ -1,16 +1,16 @@
 -- What comes of the words over named files, and with it what the program answers.
 use Rattle.std.specs.Prelude.{◌≡◌, ℕ, List, Option, Some, None}
 use Rattle.surf_base.specs.Outside.{Files}
-use Rattle.surf_run.specs.Cause.{misused}
-use Rattle.surf_run.specs.Help.{help_text, version_text}
+use Rattle.surf_texts.specs.Cause.{misused}
+use Rattle.surf_answers.specs.Help.{help_text, version_text}
 use Rattle.surf_run.specs.Checking.{OnCheck}
 use Rattle.surf_run.specs.Coordinates.{OnLengths}
 use Rattle.surf_run.specs.CycleTasks.{OnCycles}
-use Rattle.surf_run.specs.Discs.{JudgesDisc}
-use Rattle.surf_run.specs.Info.{Informs}
+use Rattle.surf_answers.specs.Discs.{JudgesDisc}
+use Rattle.surf_answers.specs.Info.{Informs}
 use Rattle.surf_run.specs.Making.{OnGen}
 use Rattle.surf_run.specs.MeshTexts.{IsMeshText}
-use Rattle.surf_run.specs.Outcome.{Outcome, answers, Shows}
+use Rattle.surf_texts.specs.Outcome.{Outcome, answers, Shows}
 use Rattle.surf_run.specs.Reading.{Reads}
 use Rattle.surf_run.specs.Steps.{Ends}
 use Rattle.surf_run.specs.Surfaces.{IsSurfaceText}
@@ -20,7 +20,7 @@ use Rattle.surf_run.specs.Sewing.{OnSew}
 use Rattle.surf_run.specs.Classes.{OnClass, OnSame}
 use Rattle.surf_run.specs.Confirming.{OnConfirm}
 use Rattle.surf_run.specs.Tightening.{OnShortest}
-use Rattle.surf_run.specs.Words.{Request, help, version, info, disc, cycles, weighted, makes, tries, checks, measures, sews, classes, compares, confirms, tightens, request_of}
+use Rattle.surf_words.specs.Words.{Request, help, version, info, disc, cycles, weighted, makes, tries, checks, measures, sews, classes, compares, confirms, tightens, request_of}
 
 -- `info` of the text of a mesh
 abbrev pub OnInfoText : List ℕ → Outcome → Type 0

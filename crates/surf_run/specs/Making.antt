@@ -2,13 +2,12 @@
 use Rattle.std.specs.Prelude.{◌≡◌, nat_lt, if◌then◌else◌, Result, Ok, Err}
 use Rattle.surf_base.specs.declared.limits.LimitKind.TheVariants.{Vertices, Faces}
 use Rattle.surf_surfaces.specs.Mesh.{Mesh}
-use Rattle.surf_surfaces.specs.Surface.{face_count, edge_count}
-use Rattle.surf_off.specs.Written.{soup_text, RereadsSoup}
-use Rattle.surf_run.specs.Limits.{beyond}
-use Rattle.surf_run.specs.Outcome.{Outcome}
-use Rattle.surf_run.specs.Says.{Says}
-use Rattle.surf_run.specs.Shapes.{Shape, mesh_of}
+use Rattle.surf_surfaces.specs.Surface.{face_count}
+use Rattle.surf_texts.specs.Limits.{beyond}
+use Rattle.surf_texts.specs.Outcome.{Outcome}
+use Rattle.surf_words.specs.Shapes.{Shape, mesh_of}
 use Rattle.surf_run.specs.Steps.{Ends}
+use Rattle.surf_answers.specs.Making.{GivesMesh}
 
 -- The mesh has at most 1,000,000 vertices and then at most 2,000,000 faces. These are triangles, so it has at most
 -- 6,000,000 sides too.
@@ -19,11 +18,6 @@ made mesh =
 
 abbrev pub IsMade : Shape → Result Mesh Outcome → Type 0
 IsMade shape result = result ≡ made (mesh_of shape)
-
--- The text of the mesh is the answer. Read again without limits, it is that mesh.
-pub record GivesMesh (mesh : Mesh) (outcome : Outcome) : Type 0 where
-  pub says : Says (soup_text mesh (edge_count mesh)) outcome
-  pub rereads : RereadsSoup mesh (edge_count mesh)
 
 -- `gen`
 abbrev pub OnGen : Shape → Outcome → Type 0

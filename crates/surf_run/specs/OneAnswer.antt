@@ -2,7 +2,7 @@
 use Rattle.std.specs.Prelude.{◌≡◌, ℕ, List}
 use Rattle.surf_base.specs.Outside.{Files}
 use Rattle.surf_run.specs.Leads.{Answer, Leads}
-use Rattle.surf_run.specs.Outcome.{Outcome}
+use Rattle.surf_texts.specs.Outcome.{Outcome}
 
 -- One outcome comes of words over files.
 abbrev pub OutcomesAreOne : Type 0

@@ -2,8 +2,8 @@
 use Rattle.std.specs.Prelude.{◌≡◌, ℕ, nat_lt, List, length, Option, Some, None, Result, Ok, Err, if◌then◌else◌}
 use Rattle.surf_base.specs.Outside.{Files, bytes_of}
 use Rattle.surf_base.specs.declared.limits.LimitKind.TheVariants.{Text}
-use Rattle.surf_run.specs.Outcome.{Outcome, misses}
-use Rattle.surf_run.specs.Limits.{beyond}
+use Rattle.surf_texts.specs.Outcome.{Outcome, misses}
+use Rattle.surf_texts.specs.Limits.{beyond}
 
 -- the bytes of a file, unless it isn't there or has more than 268,435,456 of them
 abbrev pub within_text : Option (List ℕ) → Result (List ℕ) Outcome

@@ -4,9 +4,9 @@ use Rattle.std.specs.List.{list_any}
 use Rattle.surf_base.specs.Outside.{Files, HasRisen, GrowsBy}
 use Rattle.surf_base.specs.Transfer.{GrowsByShorter}
 use Rattle.surf_text.specs.Text.{is_line_end}
-use Rattle.surf_run.specs.Cause.{Cause, line_of, status_of_cause}
+use Rattle.surf_texts.specs.Cause.{Cause, line_of, status_of_cause}
 use Rattle.surf_run.specs.Leads.{Answer}
-use Rattle.surf_run.specs.Words.{Request, help, version, info, disc, cycles, weighted, makes, tries, checks, measures, sews, classes, compares, confirms, tightens, request_of}
+use Rattle.surf_words.specs.Words.{Request, help, version, info, disc, cycles, weighted, makes, tries, checks, measures, sews, classes, compares, confirms, tightens, request_of}
 
 -- The words are a row of the command table that names a file.
 abbrev pub NamesFile : Option Request → Type 0

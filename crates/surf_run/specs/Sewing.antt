@@ -1,16 +1,15 @@
 -- Sewing: the mesh before the cut.
-use Rattle.std.specs.Prelude.{◌≡◌, ◌⊎◌, ℕ, List, [], ◌∷◌, ◌++◌, Result, Ok, Err, codes, decimal}
+use Rattle.std.specs.Prelude.{◌≡◌, ◌⊎◌, ℕ, List, Result, Ok, Err}
 use Rattle.surf_base.specs.Outside.{Files}
 use Rattle.surf_surfaces.specs.Disc.{IsDisc}
 use Rattle.surf_surfaces.specs.Mesh.{Mesh}
 use Rattle.surf_off.specs.Off.{OffParts}
-use Rattle.surf_print.specs.Lines.{numbered}
-use Rattle.surf_run.specs.Cause.{Cause, due, starved, outcome_of}
-use Rattle.surf_run.specs.Discs.{SaysNoDisc}
+use Rattle.surf_texts.specs.Cause.{outcome_of}
+use Rattle.surf_answers.specs.Discs.{SaysNoDisc}
 use Rattle.surf_run.specs.MeshTexts.{IsMeshText}
-use Rattle.surf_run.specs.Outcome.{Outcome, refuses}
+use Rattle.surf_texts.specs.Outcome.{Outcome}
 use Rattle.surf_run.specs.Reading.{Reads}
-use Rattle.surf_run.specs.Says.{Says}
+use Rattle.surf_answers.specs.Says.{Says}
 use Rattle.surf_run.specs.Steps.{Ends}
 use Rattle.surf_run.specs.Surfaces.{IsSurfaceOf}
 use Rattle.surf_sew.specs.Copies.{copies_in}
@@ -19,25 +18,7 @@ use Rattle.surf_sew.specs.Texts.{sewn_text, RereadsSewn}
 use Rattle.surf_sew.specs.declared.copies.CopyFault.{CopyFault}
 use Rattle.surf_sew.specs.declared.copies.CopyFault.TheVariants as copies
 use Rattle.surf_sew.specs.declared.fault.SewFault.{SewFault}
-use Rattle.surf_sew.specs.declared.fault.SewFault.TheVariants.{Gap, Line, FaceRepeat, Memory}
-
--- how many copies have lines, of how many there are
-abbrev pub copy_count_line : ℕ → ℕ → List ℕ
-copy_count_line have vertices =
-    codes "sew: copy-count " ++ (decimal have ++ (codes " of " ++ (decimal vertices ++ codes "\n")))
-
--- the cause that a fault of the copy lines is, where there are so many copies
-abbrev pub copy_cause : ℕ → CopyFault → Cause
-copy_cause vertices (copies.CopyForm line) = due (refuses 14 (numbered (codes "sew: copy-form") (line ∷ [])))
-copy_cause vertices (copies.CopyCount have) = due (refuses 14 (copy_count_line have vertices))
-copy_cause vertices copies.Memory = starved
-
--- the cause that a fault of sewing is
-abbrev pub sew_cause : SewFault → Cause
-sew_cause (Gap v) = due (refuses 14 (numbered (codes "sew: gap") (v ∷ [])))
-sew_cause (Line copy earlier) = due (refuses 14 (numbered (codes "sew: line") (copy ∷ earlier ∷ [])))
-sew_cause (FaceRepeat face v) = due (refuses 14 (numbered (codes "sew: face-repeat") (face ∷ v ∷ [])))
-sew_cause Memory = starved
+use Rattle.surf_texts.specs.SewingLines.{copy_cause, sew_cause}
 
 abbrev pub copied : ℕ → Result (List ℕ) CopyFault → Result (List ℕ) Outcome
 copied vertices (Ok origins) = Ok origins

@@ -1,26 +1,15 @@
--- Whether a mesh is a surface, and the line of its first fault.
-use Rattle.std.specs.Prelude.{◌≡◌, ◌≢◌, ◌⊎◌, ℕ, List, [], ◌∷◌, Result, Ok, Err, codes, slice_index}
+-- Whether a mesh is a surface.
+use Rattle.std.specs.Prelude.{◌≡◌, ◌≢◌, ◌⊎◌, ℕ, List, Result, Ok, Err}
 use Rattle.surf_surfaces.specs.Mesh.{Mesh}
 use Rattle.surf_surfaces.specs.Surface.{IsSurface}
 use Rattle.surf_check.specs.Fault.{IsSurfaceFault}
 use Rattle.surf_check.specs.declared.checking.SurfaceFault.{SurfaceFault}
-use Rattle.surf_check.specs.declared.checking.SurfaceFault.TheVariants.{Empty, Border, Crowded, Isolated, Pinched, Apart, Memory}
+use Rattle.surf_check.specs.declared.checking.SurfaceFault.TheVariants.{Memory}
 use Rattle.surf_off.specs.Off.{OffParts}
-use Rattle.surf_print.specs.Lines.{numbered}
-use Rattle.surf_run.specs.Cause.{Cause, due, starved, outcome_of}
+use Rattle.surf_texts.specs.Cause.{outcome_of}
 use Rattle.surf_run.specs.MeshTexts.{IsMeshText}
-use Rattle.surf_run.specs.Outcome.{Outcome, refuses}
-
--- the cause that a fault is
-abbrev pub surface_cause : SurfaceFault → Cause
-surface_cause Empty = due (refuses 4 (numbered (codes "surface: empty") []))
-surface_cause (Border u v face) = due (refuses 4 (numbered (codes "surface: border") (u ∷ v ∷ face ∷ [])))
-surface_cause (Crowded u v faces) =
-    due (refuses 4 (numbered (codes "surface: crowded") (u ∷ v ∷ slice_index faces 0 ∷ slice_index faces 1 ∷ slice_index faces 2 ∷ [])))
-surface_cause (Isolated v) = due (refuses 4 (numbered (codes "surface: isolated") (v ∷ [])))
-surface_cause (Pinched v first second) = due (refuses 4 (numbered (codes "surface: pinched") (v ∷ first ∷ second ∷ [])))
-surface_cause (Apart face) = due (refuses 4 (numbered (codes "surface: apart") (face ∷ [])))
-surface_cause Memory = starved
+use Rattle.surf_texts.specs.Outcome.{Outcome}
+use Rattle.surf_texts.specs.SurfaceLines.{surface_cause}
 
 -- A fault of the mesh comes out so.
 pub record EndsInFault (mesh : Mesh) (outcome : Outcome) : Type 0 where

@@ -1,25 +1,19 @@
 -- What commands on weighted surfaces answer.
-use Rattle.std.specs.Prelude.{ℕ, Bool, true, false, List}
+use Rattle.std.specs.Prelude.{ℕ, List}
 use Rattle.surf_base.specs.Outside.{Files}
 use Rattle.surf_surfaces.specs.Mesh.{Mesh}
 use Rattle.surf_off.specs.Off.{OffParts}
-use Rattle.surf_run.specs.Certificates.{GivesLoopCert}
-use Rattle.surf_run.specs.Cuts.{GivesCut, is_trimmed}
-use Rattle.surf_run.specs.Distances.{GivesDistances}
+use Rattle.surf_answers.specs.Certificates.{GivesLoopCert}
+use Rattle.surf_answers.specs.Cuts.{GivesCut, is_trimmed}
+use Rattle.surf_answers.specs.Distances.{GivesDistances}
 use Rattle.surf_run.specs.Given.{IsFewLoopedText, IsWeighted}
-use Rattle.surf_run.specs.LeastLoops.{GivesLoops}
-use Rattle.surf_run.specs.Outcome.{Outcome}
+use Rattle.surf_answers.specs.LeastLoops.{GivesLoops}
+use Rattle.surf_texts.specs.Outcome.{Outcome}
 use Rattle.surf_run.specs.Reading.{Reads}
 use Rattle.surf_run.specs.Steps.{Ends}
-use Rattle.surf_run.specs.declared.weighted.Task.{Task}
-use Rattle.surf_run.specs.declared.weighted.Task.TheVariants.{Distances, LeastLoops, LoopCertificate, Cut}
-
--- whether the limit on loops is tested
-abbrev pub is_limited : Task → Bool
-is_limited Distances = false
-is_limited LeastLoops = true
-is_limited LoopCertificate = true
-is_limited (Cut kind) = true
+use Rattle.surf_words.specs.declared.tasks.Task.{Task}
+use Rattle.surf_words.specs.declared.tasks.Task.TheVariants.{Distances, LeastLoops, LoopCertificate, Cut}
+use Rattle.surf_words.specs.TaskLimits.{is_limited}
 
 -- what is done with a surface, lengths and a base
 abbrev pub Performs : Task → OffParts × Mesh → List ℕ × ℕ → Outcome → Type 0

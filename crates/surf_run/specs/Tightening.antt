@@ -1,20 +1,17 @@
--- A shortest walk in the class of a walk.
-use Rattle.std.specs.Prelude.{◌≡◌, ◌*◌, ◌^◌, ℕ, true, nat_lt, List, ◌++◌, Result, Ok, Err, if◌then◌else◌, codes, decimal}
+-- A shortest walk in the class of the walk of a file.
+use Rattle.std.specs.Prelude.{◌≡◌, ◌*◌, ◌^◌, ℕ, true, nat_lt, List, Result, Ok, Err, if◌then◌else◌}
 use Rattle.surf_base.specs.Outside.{Files}
 use Rattle.surf_base.specs.declared.limits.LimitKind.TheVariants.{CoverLoops, CoverNodes}
-use Rattle.surf_classes.specs.Shortest.{IsChosenWalk}
 use Rattle.surf_surfaces.specs.Mesh.{Mesh}
-use Rattle.surf_surfaces.specs.Walk.{walk_length}
-use Rattle.surf_text.specs.Numbers.{numbers_text}
 use Rattle.surf_surfaces.specs.Surface.{loop_count}
 use Rattle.surf_run.specs.Given.{IsFewLoopedText, IsMeasured}
-use Rattle.surf_run.specs.Limits.{beyond}
-use Rattle.surf_run.specs.Outcome.{Outcome}
+use Rattle.surf_texts.specs.Limits.{beyond}
+use Rattle.surf_texts.specs.Outcome.{Outcome}
 use Rattle.surf_run.specs.Reading.{Reads}
-use Rattle.surf_run.specs.Says.{Says}
 use Rattle.surf_run.specs.Steps.{Ends}
 use Rattle.surf_run.specs.Walks.{HasWalk}
-use Rattle.surf_run.specs.declared.walks.WalkFile.TheVariants.{First}
+use Rattle.surf_texts.specs.declared.walks.WalkFile.TheVariants.{First}
+use Rattle.surf_answers.specs.Tightening.{GivesShortestWalk}
 
 -- There are at most 8 loops, and at most 65,536 pairs of a vertex and a set of loops.
 abbrev pub covered : Mesh → Result Mesh Outcome
@@ -24,16 +21,6 @@ covered mesh =
 
 abbrev pub HasSmallCover : Mesh → Result Mesh Outcome → Type 0
 HasSmallCover mesh result = result ≡ covered mesh
-
--- a length and a walk
-abbrev pub shortest_line : ℕ → List ℕ → List ℕ
-shortest_line size walk = codes "shortest " ++ decimal size ++ numbers_text walk ++ codes "\n"
-
--- The walk that is chosen of the shortest in the class of a walk, with its length.
-pub record GivesShortestWalk (mesh : Mesh) (lengths walk : List ℕ) (outcome : Outcome) : Type 0 where
-  pub found : List ℕ
-  pub chosen : IsChosenWalk mesh lengths walk found
-  pub says : Says (shortest_line (walk_length mesh lengths found) found) outcome
 
 -- `shortest` on a surface with lengths
 abbrev pub OnTightLengths : List ℕ → Mesh → List ℕ → Files → Outcome → Type 0

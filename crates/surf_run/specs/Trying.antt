@@ -5,12 +5,12 @@ use Rattle.surf_surfaces.specs.Mesh.{Mesh}
 use Rattle.surf_gen.specs.Made.{made_values}
 use Rattle.surf_surfaces.specs.Surface.{loop_count}
 use Rattle.surf_run.specs.Given.{searchable}
-use Rattle.surf_run.specs.Limits.{beyond}
+use Rattle.surf_texts.specs.Limits.{beyond}
 use Rattle.surf_run.specs.Making.{made}
-use Rattle.surf_run.specs.Outcome.{Outcome}
-use Rattle.surf_run.specs.Shapes.{Shape, mesh_of}
+use Rattle.surf_texts.specs.Outcome.{Outcome}
+use Rattle.surf_words.specs.Shapes.{Shape, mesh_of}
 use Rattle.surf_run.specs.Steps.{Ends}
-use Rattle.surf_run.specs.Summaries.{GivesSummary}
+use Rattle.surf_answers.specs.Summaries.{GivesSummary}
 
 -- The mesh has at most 1,024 loops and then at most 20,000 vertices.
 abbrev pub searched : Mesh → Result Mesh Outcome

@@ -6,15 +6,15 @@ use Rattle.surf_classes.specs.Evidence.{Evidence}
 use Rattle.surf_off.specs.Off.{OffParts, off_of, off_without_limits}
 use Rattle.surf_surfaces.specs.Choice.{Loop}
 use Rattle.surf_surfaces.specs.Mesh.{Mesh}
-use Rattle.surf_print.specs.CycleTexts.{cycles_text}
-use Rattle.surf_print.specs.LoopTexts.{loops_text}
-use Rattle.surf_run.specs.Confirming.{right_line}
+use Rattle.surf_texts.specs.CycleTexts.{cycles_text}
+use Rattle.surf_texts.specs.LoopTexts.{loops_text}
+use Rattle.surf_texts.specs.EvidenceLines.{right_line}
 use Rattle.surf_run.specs.Leads.{Answer, Leads}
 use Rattle.surf_run.specs.Named.{length_file, AgreeOn}
-use Rattle.surf_run.specs.Outcome.{Outcome}
-use Rattle.surf_run.specs.Says.{Says}
-use Rattle.surf_run.specs.Summaries.{total_size}
-use Rattle.surf_run.specs.Verdicts.{loops_line, basis_line}
+use Rattle.surf_texts.specs.Outcome.{Outcome}
+use Rattle.surf_answers.specs.Says.{Says}
+use Rattle.surf_answers.specs.Summaries.{total_size}
+use Rattle.surf_texts.specs.VerdictLines.{loops_line, basis_line}
 
 -- `check` of a file answers that its certificate of loops is valid, with the total of the loops that `loops` says.
 abbrev pub LoopsPass : Files → List ℕ → List ℕ → List ℕ → List ℕ → Type 0

@@ -1,35 +1,15 @@
--- Walk files, and the line of their first fault.
-use Rattle.std.specs.Prelude.{◌≡◌, ℕ, List, [], ◌∷◌, ◌++◌, Result, Ok, Err, codes}
+-- Walk files.
+use Rattle.std.specs.Prelude.{◌≡◌, ℕ, List, Result, Ok, Err}
 use Rattle.surf_base.specs.Outside.{Files, bytes_of}
 use Rattle.surf_class.specs.Walks.{walk_in}
 use Rattle.surf_class.specs.declared.fault.WalkFault.{WalkFault}
-use Rattle.surf_class.specs.declared.fault.WalkFault.TheVariants.{Empty, Form, NotVertex, NotEdge, Unclosed, Trailing, Memory}
 use Rattle.surf_surfaces.specs.Mesh.{Mesh}
 use Rattle.surf_surfaces.specs.Walk.{IsClosed}
-use Rattle.surf_print.specs.Lines.{numbered}
-use Rattle.surf_run.specs.Cause.{Cause, due, starved, outcome_of}
-use Rattle.surf_run.specs.Outcome.{Outcome, refuses}
+use Rattle.surf_texts.specs.Cause.{outcome_of}
+use Rattle.surf_texts.specs.Outcome.{Outcome}
 use Rattle.surf_run.specs.Reading.{within_text}
-use Rattle.surf_run.specs.declared.walks.WalkFile.{WalkFile}
-use Rattle.surf_run.specs.declared.walks.WalkFile.TheVariants.{First, Second}
-
--- which of the walk files it is
-abbrev pub file_words : WalkFile → List ℕ
-file_words First = codes "walk 1: "
-file_words Second = codes "walk 2: "
-
-abbrev pub walk_line : WalkFile → List ℕ → List ℕ → List ℕ
-walk_line file words numbers = file_words file ++ numbered words numbers
-
--- the cause that a fault of a walk file is
-abbrev pub walk_cause : WalkFile → WalkFault → Cause
-walk_cause file Empty = due (refuses 13 (walk_line file (codes "empty") []))
-walk_cause file (Form place) = due (refuses 13 (walk_line file (codes "form") (place ∷ [])))
-walk_cause file (NotVertex place) = due (refuses 13 (walk_line file (codes "not-vertex") (place ∷ [])))
-walk_cause file (NotEdge place) = due (refuses 13 (walk_line file (codes "not-edge") (place ∷ [])))
-walk_cause file Unclosed = due (refuses 13 (walk_line file (codes "open") []))
-walk_cause file (Trailing line) = due (refuses 13 (walk_line file (codes "trailing") (line ∷ [])))
-walk_cause file Memory = starved
+use Rattle.surf_texts.specs.declared.walks.WalkFile.{WalkFile}
+use Rattle.surf_texts.specs.WalkLines.{walk_cause}
 
 abbrev pub walked : WalkFile → Result (List ℕ) WalkFault → Result (List ℕ) Outcome
 walked file (Ok walk) = Ok walk

@@ -1,25 +1,15 @@
--- Lengths and a base for a surface, and the lines of their faults.
-use Rattle.std.specs.Prelude.{◌≡◌, ℕ, nat_lt, List, [], ◌∷◌, ◌++◌, replicate, Result, Ok, Err, if◌then◌else◌, codes, decimal}
+-- Lengths and a base for a surface.
+use Rattle.std.specs.Prelude.{◌≡◌, ℕ, nat_lt, List, replicate, Result, Ok, Err, if◌then◌else◌, codes}
 use Rattle.std.specs.Str.{bytes_eq}
 use Rattle.surf_base.specs.Outside.{Files, bytes_of}
 use Rattle.surf_surfaces.specs.Mesh.{Mesh}
 use Rattle.surf_surfaces.specs.Surface.{edge_count}
 use Rattle.surf_lengths.specs.Files.{lengths_in}
 use Rattle.surf_lengths.specs.declared.fault.LengthFault.{LengthFault}
-use Rattle.surf_lengths.specs.declared.fault.LengthFault.TheVariants.{Form, Range, NotEdge, Twice, Missing, Memory}
-use Rattle.surf_print.specs.Lines.{numbered}
-use Rattle.surf_run.specs.Cause.{Cause, due, starved, outcome_of}
-use Rattle.surf_run.specs.Outcome.{Outcome, refuses}
+use Rattle.surf_texts.specs.Cause.{outcome_of}
+use Rattle.surf_texts.specs.Outcome.{Outcome, refuses}
 use Rattle.surf_run.specs.Reading.{within_text}
-
--- the cause that a fault of a length file is
-abbrev pub length_cause : LengthFault → Cause
-length_cause (Form line) = due (refuses 5 (numbered (codes "lengths: form") (line ∷ [])))
-length_cause (Range line) = due (refuses 5 (numbered (codes "lengths: range") (line ∷ [])))
-length_cause (NotEdge line) = due (refuses 5 (numbered (codes "lengths: not-edge") (line ∷ [])))
-length_cause (Twice line earlier) = due (refuses 5 (numbered (codes "lengths: twice") (line ∷ earlier ∷ [])))
-length_cause (Missing u v) = due (refuses 5 (numbered (codes "lengths: missing") (u ∷ v ∷ [])))
-length_cause Memory = starved
+use Rattle.surf_texts.specs.LengthLines.{length_cause, base_line}
 
 abbrev pub weighed : Result (List ℕ) LengthFault → Result (List ℕ) Outcome
 weighed (Ok lengths) = Ok lengths
@@ -40,10 +30,6 @@ weighed_for word mesh files =
 
 abbrev pub HasLengths : List ℕ → Mesh → Files → Result (List ℕ) Outcome → Type 0
 HasLengths word mesh files result = result ≡ weighed_for word mesh files
-
--- a base and the number of vertices that it isn't below
-abbrev pub base_line : ℕ → ℕ → List ℕ
-base_line base vertices = codes "base: " ++ (decimal base ++ (codes " of " ++ (decimal vertices ++ codes "\n")))
 
 -- The base is a vertex.
 abbrev pub based : ℕ → Mesh → Result ℕ Outcome

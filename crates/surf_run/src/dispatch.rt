@@ -3,35 +3,41 @@ ghost use Rattle.std.specs.Prelude.{◌≡◌, ◌≤◌, ◌⊎◌, Some, IsErr
 ghost use Rattle.surf_base.specs.Outside.{Files};
 ghost use Rattle.surf_run.specs.Leads.{OnRequest};
 ghost use Rattle.surf_run.specs.Run.{NamesFile};
-ghost use Rattle.surf_run.specs.Seen.{request};
-ghost use Rattle.surf_run.specs.Tells.{Concludes, ConcludesOver};
+ghost use Rattle.surf_words.specs.Seen.{request};
+ghost use Rattle.surf_answers.specs.Tells.{Concludes, ConcludesOver};
 
-use crate::answered::{Answered, help, version};
-use crate::check_command::checked;
-use crate::class_command::{class, same};
-use crate::confirm_command::confirm;
-use crate::cycles::cycles;
-use crate::disc_command::disc;
-use crate::gen_command::generate;
-use crate::info_command::info;
-use crate::lengths_command::lengths;
-use crate::refusal::Refused;
-use crate::sew_command::sew;
-use crate::shortest_command::shortest;
-use crate::try_command::tried;
-use crate::weighted::weighted;
-use crate::words::Command;
+use crate::commands::check::checked;
+use crate::commands::class::{class, same};
+use crate::commands::confirmation::confirm;
+use crate::commands::cycles::cycles;
+use crate::commands::disc::disc;
+use crate::commands::generation::generate;
+use crate::commands::info::info;
+use crate::commands::lengths::lengths;
+use crate::commands::sewing::sew;
+use crate::commands::shortest_walk::shortest;
+use crate::commands::tasks::weighted;
+use crate::commands::trial::tried;
 use std::alloc::Global;
+use surf_answers::{Answered, help, version};
 use surf_base::Shelf;
+use surf_texts::Refused;
+use surf_words::Command;
 
 /// What a command answers.
-pub fn answer<S: Shelf>(alloc: Global, command: Command, shelf: &mut S) -> Result<Answered, Refused>
+pub(crate) fn answer<S: Shelf>(
+    alloc: Global,
+    command: Command,
+    shelf: &mut S,
+) -> Result<Answered, Refused>
     ensures holds { S.holds shelf.new ≡ S.holds shelf.old }
     ensures later { S.faults shelf.old ≤ S.faults shelf.new }
-    ensures tells { ConcludesOver (S.holds shelf.old) (S.faults shelf.old) (S.faults shelf.new) (OnRequest (Some (request command.entry))) result }
+    ensures tells { ConcludesOver (S.holds shelf.old) (S.faults shelf.old) (S.faults shelf.new)
+        (OnRequest (Some (request command.entry))) result }
     ensures reached { IsErrOf result Refused.Read → NamesFile (Some (request command.entry)) }
     ensures untouched { NamesFile (Some (request command.entry)) ⊎ (shelf.new ≡ shelf.old) }
-    ensures alone { NamesFile (Some (request command.entry)) ⊎ ((files : Files) → Concludes (OnRequest (Some (request command.entry)) files) result) }
+    ensures alone { NamesFile (Some (request command.entry)) ⊎ ((files : Files) →
+        Concludes (OnRequest (Some (request command.entry)) files) result) }
 {
     match command {
         Command::Help => help(alloc),

@@ -8,14 +8,16 @@ pub fn law_of_named_files()
     ensures { AnswersDependOnNamedFiles }
 {}
 
-/// One outcome comes of words over files, and so the program answers one status, one text and one line.
+/// One outcome comes of words over files, and so the program answers one status, one text and one
+/// line.
 pub fn law_of_one_answer()
     ensures outcomes { OutcomesAreOne }
     ensures answers { AnswersAreOne }
 {}
 
-/// What `certify` writes passes `check`, with the total of the loops or the basis that it is of; what `class` writes is
-/// confirmed; and what `sew` writes of what `cut` wrote is read as the mesh that was cut.
+/// What `certify` writes passes `check`, with the total of the loops or the basis that it is of;
+/// what `class` writes is confirmed; and what `sew` writes of what `cut` wrote is read as the mesh
+/// that was cut.
 pub fn law_of_two_runs()
     ensures loops { CertifiedLoopsPass }
     ensures bases { CertifiedBasesPass }

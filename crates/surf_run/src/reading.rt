@@ -1,27 +1,33 @@
 //! Files that are reached.
 ghost use Rattle.std.specs.Prelude.{◌≡◌, ◌≤◌, length, IfOk};
-ghost use Rattle.surf_surfaces.specs.Surface.{face_count, loop_count};
+ghost use Rattle.surf_surfaces.specs.Surface.{face_count};
 ghost use Rattle.surf_run.specs.Given.{IsFewLoopedText};
 ghost use Rattle.surf_run.specs.MeshTexts.{IsMeshText};
 ghost use Rattle.surf_run.specs.Reading.{Reads};
 ghost use Rattle.surf_run.specs.Surfaces.{IsSurfaceOf, IsSurfaceText};
-ghost use Rattle.surf_run.specs.Tells.{Takes, TakesOver};
+ghost use Rattle.surf_answers.specs.Tells.{Takes, TakesOver};
+ghost use Rattle.surf_base.specs.declared.limits.TheConstants.{MAX_TEXT};
 
-use crate::info_command::loop_count;
-use crate::refusal::Refused;
 use std::alloc::Global;
+use surf_answers::loop_count;
 use surf_base::{FetchFault, LimitKind, MAX_LOOPS, MAX_TEXT, Shelf, fetch};
 use surf_check::check;
 use surf_mesh::HalfMesh;
 use surf_off::{OffText, read_off};
 use surf_soup::Soup;
+use surf_texts::Refused;
 
 /// The bytes of the file of a name.
-pub fn read_file<S: Shelf>(alloc: Global, shelf: &mut S, name: &str) -> Result<Vec<u8>, Refused>
+pub(crate) fn read_file<S: Shelf>(
+    alloc: Global,
+    shelf: &mut S,
+    name: &str,
+) -> Result<Vec<u8>, Refused>
     ensures holds { S.holds shelf.new ≡ S.holds shelf.old }
     ensures later { S.faults shelf.old ≤ S.faults shelf.new }
-    ensures most { IfOk result (λ bytes. length bytes.items ≤ 268435456) }
-    ensures tells { TakesOver (S.holds shelf.old) (S.faults shelf.old) (S.faults shelf.new) (λ bytes. bytes.items) (Reads name.now) result }
+    ensures most { IfOk result (λ bytes. length bytes.items ≤ MAX_TEXT) }
+    ensures tells { TakesOver (S.holds shelf.old) (S.faults shelf.old) (S.faults shelf.new)
+        (λ bytes. bytes.items) (Reads name.now) result }
 {
     match fetch(alloc, shelf, name, MAX_TEXT) {
         Ok(bytes) => Ok(bytes),
@@ -32,8 +38,8 @@ pub fn read_file<S: Shelf>(alloc: Global, shelf: &mut S, name: &str) -> Result<V
 }
 
 /// The parts and the faces of the text of a mesh.
-pub fn read_mesh(alloc: Global, bytes: &[u8]) -> Result<(OffText<'_>, Soup), Refused>
-    requires { length bytes.now ≤ 268435456 }
+pub(crate) fn read_mesh(alloc: Global, bytes: &[u8]) -> Result<(OffText<'_>, Soup), Refused>
+    requires { length bytes.now ≤ MAX_TEXT }
     ensures tells { Takes (λ read. read) (IsMeshText bytes.now) result }
     ensures lines { IfOk result (λ read. length read.0.vertex_lines ≡ read.1.vertices) }
     ensures colours { IfOk result (λ read. length read.0.colours ≡ face_count read.1) }
@@ -43,7 +49,7 @@ pub fn read_mesh(alloc: Global, bytes: &[u8]) -> Result<(OffText<'_>, Soup), Ref
 }
 
 /// The surface that faces are.
-pub fn surface_of(alloc: Global, soup: Soup) -> Result<HalfMesh, Refused>
+pub(crate) fn surface_of(alloc: Global, soup: Soup) -> Result<HalfMesh, Refused>
     ensures { Takes (λ mesh. mesh) (IsSurfaceOf soup) result }
 {
     let mesh = check(alloc, soup)?;
@@ -51,8 +57,8 @@ pub fn surface_of(alloc: Global, soup: Soup) -> Result<HalfMesh, Refused>
 }
 
 /// The parts and the surface of the text of a mesh.
-pub fn read_surface(alloc: Global, bytes: &[u8]) -> Result<(OffText<'_>, HalfMesh), Refused>
-    requires { length bytes.now ≤ 268435456 }
+pub(crate) fn read_surface(alloc: Global, bytes: &[u8]) -> Result<(OffText<'_>, HalfMesh), Refused>
+    requires { length bytes.now ≤ MAX_TEXT }
     ensures tells { Takes (λ read. read) (IsSurfaceText bytes.now) result }
     ensures lines { IfOk result (λ read. length read.0.vertex_lines ≡ read.1.vertices) }
     ensures colours { IfOk result (λ read. length read.0.colours ≡ face_count read.1) }
@@ -63,12 +69,12 @@ pub fn read_surface(alloc: Global, bytes: &[u8]) -> Result<(OffText<'_>, HalfMes
 }
 
 /// The parts and the surface of the text of a mesh, with few loops where these are limited.
-pub fn read_looped(
+pub(crate) fn read_looped(
     alloc: Global,
     limited: bool,
     bytes: &[u8],
 ) -> Result<(OffText<'_>, HalfMesh), Refused>
-    requires { length bytes.now ≤ 268435456 }
+    requires { length bytes.now ≤ MAX_TEXT }
     ensures tells { Takes (λ read. read) (IsFewLoopedText limited bytes.now) result }
     ensures lines { IfOk result (λ read. length read.0.vertex_lines ≡ read.1.vertices) }
     ensures colours { IfOk result (λ read. length read.0.colours ≡ face_count read.1) }

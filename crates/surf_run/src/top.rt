@@ -1,18 +1,18 @@
 //! The top call.
-ghost use Rattle.std.specs.Prelude.{◌≡◌, ◌≢◌, ◌⊎◌, ◌↔◌, ◌≤◌, ◌<◌, ℕ, List, [], None};
+ghost use Rattle.std.specs.Prelude.{◌≡◌, ◌≢◌, ◌⊎◌, ◌↔◌, ◌≤◌, ◌<◌, ℕ, List, None};
 ghost use Rattle.surf_base.specs.Outside.{Files, HasRisen};
-ghost use Rattle.surf_run.specs.Refusals.{cause_of};
+ghost use Rattle.surf_texts.specs.Refusals.{cause_of};
 ghost use Rattle.surf_run.specs.Leads.{Answer, Leads};
-ghost use Rattle.surf_run.specs.Outcome.{misses};
+ghost use Rattle.surf_texts.specs.Outcome.{misses};
 ghost use Rattle.surf_run.specs.Run.{AreTheFiles, NamesFile, PutsLine, IsLineOf, Refuses, WritesAnswer, WritesFront};
-ghost use Rattle.surf_run.specs.Tells.{IsTold};
-ghost use Rattle.surf_run.specs.Words.{texts, request_of};
+ghost use Rattle.surf_answers.specs.Tells.{IsTold};
+ghost use Rattle.surf_words.specs.Words.{texts, request_of};
 
 use crate::dispatch::answer;
-use crate::refusal::Refused;
-use crate::words::parse;
 use std::alloc::Global;
 use surf_base::{Shelf, Sink, put_all};
+use surf_texts::Refused;
+use surf_words::parse;
 
 /// The line for words that are in no row of the table of commands.
 pub const USAGE: &str = "usage: the words are in no row of the command table\n";
@@ -22,14 +22,17 @@ pub const MEMORY: &str = "memory\n";
 
 /// Says a line, whatever the sink answers.
 pub fn say<D: Sink>(diag: &mut D, line: &str)
-    ensures { PutsLine (D.written diag.old) (D.written diag.new) (D.faults diag.old) (D.faults diag.new) line.now }
+    ensures { PutsLine (D.written diag.old) (D.written diag.new) (D.faults diag.old)
+        (D.faults diag.new) line.now }
 {
     let _ = put_all(diag, line.as_bytes());
 }
 
-// Says why there is no answer, and gives the status: that of a cause, or want of memory for its line.
+// Says why there is no answer, and gives the status: that of a cause, or want of memory for its
+// line.
 fn refuse<D: Sink>(alloc: Global, refused: &Refused, diag: &mut D) -> u8
-    ensures { Refuses (cause_of refused.now) result (D.written diag.old) (D.written diag.new) (D.faults diag.old) (D.faults diag.new) }
+    ensures { Refuses (cause_of refused.now) result (D.written diag.old) (D.written diag.new)
+        (D.faults diag.old) (D.faults diag.new) }
 {
     match refused.line(alloc) {
         Ok(line) => {
@@ -56,19 +59,26 @@ fn run_words<S: Shelf, O: Sink, D: Sink>(
     ensures untouched { ¬ NamesFile (request_of (texts words.now)) → shelf.new ≡ shelf.old }
 
     // The answer is written whole.
-    ensures answered { result ≤ 1 → (files : Files) → AreTheFiles (request_of (texts words.now)) (S.holds shelf.old) files → WritesAnswer (texts words.now) result (O.written out.old) (O.written out.new) files }
+    ensures answered { result ≤ 1 → (files : Files) →
+        AreTheFiles (request_of (texts words.now)) (S.holds shelf.old) files →
+        WritesAnswer (texts words.now) result (O.written out.old) (O.written out.new) files }
     ensures quiet { result ≤ 1 → D.written diag.new ≡ D.written diag.old }
 
     // Or nothing of it, or a front where the output failed.
     ensures unchanged { 1 < result → result ≢ 10 → O.written out.new ≡ O.written out.old }
-    ensures write { result ≡ 10 → HasRisen (O.faults out.old) (O.faults out.new) × ((files : Files) → AreTheFiles (request_of (texts words.now)) (S.holds shelf.old) files → WritesFront (texts words.now) (O.written out.old) (O.written out.new) files) }
+    ensures write { result ≡ 10 → HasRisen (O.faults out.old) (O.faults out.new)
+        × ((files : Files) → AreTheFiles (request_of (texts words.now)) (S.holds shelf.old) files →
+        WritesFront (texts words.now) (O.written out.old) (O.written out.new) files) }
 
     // And then why.
-    ensures line { 1 < result → (line : List ℕ) × IsLineOf (texts words.now) (S.holds shelf.old) result line × PutsLine (D.written diag.old) (D.written diag.new) (D.faults diag.old) (D.faults diag.new) line }
+    ensures line { 1 < result → (line : List ℕ) × IsLineOf (texts words.now) (S.holds shelf.old)
+        result line × PutsLine (D.written diag.old) (D.written diag.new) (D.faults diag.old)
+        (D.faults diag.new) line }
 
     ensures usage { result ≡ 2 ↔ request_of (texts words.now) ≡ None }
     ensures reached { result ≡ 9 → NamesFile (request_of (texts words.now)) }
-    ensures read { result ≡ 9 → HasRisen (S.faults shelf.old) (S.faults shelf.new) ⊎ IsTold (S.holds shelf.old) (λ files. Leads (texts words.now) files misses) }
+    ensures read { result ≡ 9 → HasRisen (S.faults shelf.old) (S.faults shelf.new)
+        ⊎ IsTold (S.holds shelf.old) (λ files. Leads (texts words.now) files misses) }
     ensures statuses { result ≤ 14 }
 {
     let Some(command) = parse(words) else {
@@ -101,26 +111,36 @@ pub fn run<S: Shelf, O: Sink, D: Sink>(
     ensures untouched { ¬ NamesFile (request_of (texts words.now)) → shelf.new ≡ shelf.old }
 
     // The answer is written whole.
-    ensures answered { result ≤ 1 → (files : Files) → AreTheFiles (request_of (texts words.now)) (S.holds shelf.old) files → WritesAnswer (texts words.now) result (O.written out.old) (O.written out.new) files }
+    ensures answered { result ≤ 1 → (files : Files) →
+        AreTheFiles (request_of (texts words.now)) (S.holds shelf.old) files →
+        WritesAnswer (texts words.now) result (O.written out.old) (O.written out.new) files }
     ensures quiet { result ≤ 1 → D.written diag.new ≡ D.written diag.old }
 
     // Or nothing of it, or a front where the output failed.
     ensures unchanged { 1 < result → result ≢ 10 → O.written out.new ≡ O.written out.old }
-    ensures write { result ≡ 10 → HasRisen (O.faults out.old) (O.faults out.new) × ((files : Files) → AreTheFiles (request_of (texts words.now)) (S.holds shelf.old) files → WritesFront (texts words.now) (O.written out.old) (O.written out.new) files) }
+    ensures write { result ≡ 10 → HasRisen (O.faults out.old) (O.faults out.new)
+        × ((files : Files) → AreTheFiles (request_of (texts words.now)) (S.holds shelf.old) files →
+        WritesFront (texts words.now) (O.written out.old) (O.written out.new) files) }
 
     // And then why.
-    ensures line { 1 < result → (line : List ℕ) × IsLineOf (texts words.now) (S.holds shelf.old) result line × PutsLine (D.written diag.old) (D.written diag.new) (D.faults diag.old) (D.faults diag.new) line }
+    ensures line { 1 < result → (line : List ℕ) × IsLineOf (texts words.now) (S.holds shelf.old)
+        result line × PutsLine (D.written diag.old) (D.written diag.new) (D.faults diag.old)
+        (D.faults diag.new) line }
 
     ensures usage { result ≡ 2 ↔ request_of (texts words.now) ≡ None }
     ensures reached { result ≡ 9 → NamesFile (request_of (texts words.now)) }
-    ensures read { result ≡ 9 → HasRisen (S.faults shelf.old) (S.faults shelf.new) ⊎ IsTold (S.holds shelf.old) (λ files. Leads (texts words.now) files misses) }
+    ensures read { result ≡ 9 → HasRisen (S.faults shelf.old) (S.faults shelf.new)
+        ⊎ IsTold (S.holds shelf.old) (λ files. Leads (texts words.now) files misses) }
     ensures statuses { result ≤ 14 }
 
-    // Where nothing failed, the words and the files decide; where the words name no file, the words alone.
-    ensures complete { (files : Files) → AreTheFiles (request_of (texts words.now)) (S.holds shelf.old) files → (status : ℕ) (text line : List ℕ)
-        → Answer (texts words.now) files status text line
-        → (NamesFile (request_of (texts words.now)) → ¬ HasRisen (S.faults shelf.old) (S.faults shelf.new))
-        → ¬ HasRisen (O.faults out.old) (O.faults out.new) → result ≡ status ⊎ result ≡ 11 }
+    // Where nothing failed, the words and the files decide; where the words name no file, the words
+    // alone.
+    ensures complete { (files : Files) → AreTheFiles (request_of (texts words.now))
+        (S.holds shelf.old) files → (status : ℕ) (text line : List ℕ) →
+        Answer (texts words.now) files status text line →
+        (NamesFile (request_of (texts words.now)) →
+        ¬ HasRisen (S.faults shelf.old) (S.faults shelf.new)) →
+        ¬ HasRisen (O.faults out.old) (O.faults out.new) → result ≡ status ⊎ result ≡ 11 }
 {
     run_words(alloc, words, shelf, out, diag)
 }

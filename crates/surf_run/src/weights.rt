@@ -1,21 +1,20 @@
 //! Lengths and a base for a surface.
-ghost use Rattle.std.specs.Prelude.{◌≡◌, ◌<◌, ◌≤◌, ◌++◌, codes, decimal, length, string_bytes, IfOk};
+ghost use Rattle.std.specs.Prelude.{◌≡◌, ◌<◌, ◌≤◌, length, IfOk};
 ghost use Rattle.surf_surfaces.specs.Surface.{edge_count};
-ghost use Rattle.surf_run.specs.Cause.{line_of};
 ghost use Rattle.surf_run.specs.Given.{IsMeasured};
-ghost use Rattle.surf_run.specs.Tells.{Takes, TakesOver};
-ghost use Rattle.surf_run.specs.Weights.{HasLengths, HasBase, WeighsText, base_line, length_cause};
+ghost use Rattle.surf_answers.specs.Tells.{Takes, TakesOver};
+ghost use Rattle.surf_run.specs.Weights.{HasLengths, HasBase, WeighsText};
+ghost use Rattle.surf_base.specs.declared.limits.TheConstants.{MAX_TEXT};
 
-use crate::lines::numbered;
 use crate::reading::read_file;
-use crate::refusal::Refused;
-use std::alloc::{AllocError, Global};
+use std::alloc::Global;
 use surf_base::{Shelf, VertexId};
-use surf_lengths::{LengthFault, Lengths, read_lengths, unit_lengths};
+use surf_lengths::{Lengths, read_lengths, unit_lengths};
 use surf_mesh::HalfMesh;
+use surf_texts::Refused;
 
 /// The lengths that a word gives: `unit`, or the name of a length file.
-pub fn read_weights<S: Shelf>(
+pub(crate) fn read_weights<S: Shelf>(
     alloc: Global,
     shelf: &mut S,
     mesh: &HalfMesh,
@@ -23,7 +22,8 @@ pub fn read_weights<S: Shelf>(
 ) -> Result<Lengths, Refused>
     ensures holds { S.holds shelf.new ≡ S.holds shelf.old }
     ensures later { S.faults shelf.old ≤ S.faults shelf.new }
-    ensures tells { TakesOver (S.holds shelf.old) (S.faults shelf.old) (S.faults shelf.new) (λ lengths. lengths) (HasLengths word.now mesh.now) result }
+    ensures tells { TakesOver (S.holds shelf.old) (S.faults shelf.old) (S.faults shelf.new)
+        (λ lengths. lengths) (HasLengths word.now mesh.now) result }
     ensures count { IfOk result (λ lengths. length lengths ≡ edge_count mesh.now) }
 {
     if word == "unit" {
@@ -35,7 +35,7 @@ pub fn read_weights<S: Shelf>(
 }
 
 /// The lengths that a word gives, each from 1 to 4,294,967,295.
-pub fn read_measures<S: Shelf>(
+pub(crate) fn read_measures<S: Shelf>(
     alloc: Global,
     shelf: &mut S,
     mesh: &HalfMesh,
@@ -43,7 +43,8 @@ pub fn read_measures<S: Shelf>(
 ) -> Result<Lengths, Refused>
     ensures holds { S.holds shelf.new ≡ S.holds shelf.old }
     ensures later { S.faults shelf.old ≤ S.faults shelf.new }
-    ensures tells { TakesOver (S.holds shelf.old) (S.faults shelf.old) (S.faults shelf.new) (λ lengths. lengths) (IsMeasured lengths.now mesh.now) result }
+    ensures tells { TakesOver (S.holds shelf.old) (S.faults shelf.old) (S.faults shelf.new)
+        (λ lengths. lengths) (IsMeasured lengths.now mesh.now) result }
     ensures count { IfOk result (λ lengths. length lengths ≡ edge_count mesh.now) }
 {
     let lengths = read_weights(alloc, shelf, mesh, lengths)?;
@@ -52,7 +53,7 @@ pub fn read_measures<S: Shelf>(
 }
 
 fn weights_of(alloc: Global, mesh: &HalfMesh, bytes: &[u8]) -> Result<Lengths, Refused>
-    requires { length bytes.now ≤ 268435456 }
+    requires { length bytes.now ≤ MAX_TEXT }
     ensures tells { Takes (λ lengths. lengths) (WeighsText bytes.now mesh.now) result }
     ensures count { IfOk result (λ lengths. length lengths ≡ edge_count mesh.now) }
 {
@@ -61,7 +62,7 @@ fn weights_of(alloc: Global, mesh: &HalfMesh, bytes: &[u8]) -> Result<Lengths, R
 }
 
 /// The vertex of a number, which is the base.
-pub fn base_of(mesh: &HalfMesh, base: u32) -> Result<VertexId, Refused>
+pub(crate) fn base_of(mesh: &HalfMesh, base: u32) -> Result<VertexId, Refused>
     ensures tells { Takes (λ vertex. vertex) (HasBase base mesh.now) result }
     ensures vertex { IfOk result (λ vertex. vertex < mesh.now.vertices) }
 {
@@ -71,29 +72,4 @@ pub fn base_of(mesh: &HalfMesh, base: u32) -> Result<VertexId, Refused>
     } else {
         Err(Refused::Base { base, vertices })
     }
-}
-
-/// The line of a fault in a length file.
-pub fn length_line(alloc: Global, fault: &LengthFault) -> Result<String, AllocError>
-    ensures { IfOk result (λ line. string_bytes line ≡ line_of (length_cause fault.now)) }
-{
-    match fault {
-        LengthFault::Form { line } => numbered(alloc, "lengths: form", &[*line]),
-        LengthFault::Range { line } => numbered(alloc, "lengths: range", &[*line]),
-        LengthFault::NotEdge { line } => numbered(alloc, "lengths: not-edge", &[*line]),
-        LengthFault::Twice { line, earlier } => {
-            numbered(alloc, "lengths: twice", &[*line, *earlier])
-        }
-        LengthFault::Missing { u, v } => {
-            numbered(alloc, "lengths: missing", &[u.number(), v.number()])
-        }
-        LengthFault::Memory => String::from_str(alloc, "memory\n"),
-    }
-}
-
-/// The line of a base that is no vertex.
-pub fn base_line(alloc: Global, base: u32, vertices: u32) -> Result<String, AllocError>
-    ensures { IfOk result (λ line. string_bytes line ≡ base_line base vertices) }
-{
-    format!(in alloc; "base: {base} of {vertices}\n")
 }

@@ -2,7 +2,7 @@ use Rattle.std.proofs.Common.{◌≡◌, ℕ, refl, subst, inl, inr}
 use Rattle.std.proofs.lemmas.Bool.{cases_lt}
 use Rattle.surf_base.specs.Outside.{Files}
 use Rattle.surf_c.specs.Calls.{three, IsSaid}
-use Rattle.surf_run.specs.Words.{texts}
+use Rattle.surf_words.specs.Words.{texts}
 use Rattle.surf_c.proofs.Telling.{unrisen, answer_said, line_said, misses_said}
 use Rattle.surf_c.proofs.answer.Goals as goal
 

@@ -1,6 +1,6 @@
 use Rattle.std.proofs.Common.{◌∙◌, ap, length}
 use Rattle.surf_c.specs.Calls.{three}
-use Rattle.surf_run.specs.Words.{texts}
+use Rattle.surf_words.specs.Words.{texts}
 use Rattle.surf_text.specs.Text.{words_of}
 use Rattle.surf_c.proofs.Telling.{said_of, put_of}
 use Rattle.surf_c.proofs.surf_call.Goals as goal

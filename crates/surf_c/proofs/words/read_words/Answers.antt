@@ -1,4 +1,4 @@
-use Rattle.surf_run.specs.Words.{texts}
+use Rattle.surf_words.specs.Words.{texts}
 use Rattle.surf_text.specs.Text.{words_of}
 use Rattle.surf_c.proofs.WordLaws.{bad_word}
 use Rattle.surf_c.proofs.words.read_words.Goals as goal

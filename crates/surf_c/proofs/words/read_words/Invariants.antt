@@ -1,5 +1,5 @@
 use Rattle.std.proofs.Common.{◌≡◌, ◌++◌, length}
-use Rattle.surf_run.specs.Words.{texts}
+use Rattle.surf_words.specs.Words.{texts}
 use Rattle.surf_text.specs.Text.{words_of}
 use Rattle.surf_c.proofs.words.read_words.Given as goal
 

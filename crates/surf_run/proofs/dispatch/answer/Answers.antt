@@ -1,8 +1,8 @@
 use Rattle.std.proofs.Common.{Some, sym, subst}
 use Rattle.surf_run.specs.Leads.{OnRequest}
-use Rattle.surf_run.specs.Seen.{request}
-use Rattle.surf_run.specs.Tells.{ConcludesOver}
-use Rattle.surf_run.specs.declared.words.Command.{Command}
+use Rattle.surf_words.specs.Seen.{request}
+use Rattle.surf_answers.specs.Tells.{ConcludesOver}
+use Rattle.surf_words.specs.declared.words.Command.{Command}
 use Rattle.surf_run.proofs.dispatch.answer.Goals as goal
 
 pub returns-in-Weighted-clause-tells : goal.returns-in-Weighted-clause-tells

@@ -1,4 +1,4 @@
-use Rattle.surf_run.specs.Words.{texts}
+use Rattle.surf_words.specs.Words.{texts}
 use Rattle.surf_run.proofs.Running.{missing_file}
 use Rattle.surf_run.proofs.Unique.{completes}
 use Rattle.surf_run.proofs.top.run.Goals as goal

@@ -1,0 +1,63 @@
+-- Certificates of the choice as answers.
+use Rattle.std.proofs.Common.{◌≡◌, ℕ, ◌≤◌, ◌++◌, List, length, ap, ◌∙◌, subst}
+use Rattle.surf_base.specs.declared.limits.LimitKind.TheVariants.{Answer}
+use Rattle.surf_basis.specs.Certs.{IsTheCert}
+use Rattle.surf_cert.specs.Written.{loop_text, basis_text}
+use Rattle.surf_lengths.specs.Lengths.{AreLengths}
+use Rattle.surf_lengths.proofs.Positive.{lengths_positive}
+use Rattle.surf_surfaces.specs.Mesh.{Mesh}
+use Rattle.surf_surfaces.specs.Surface.{IsSurface, edge_count}
+use Rattle.surf_surfaces.proofs.BasisLaws.{basis_is_least}
+use Rattle.surf_loops.specs.Loops.{LoopTables, IsGreedy, trees_of}
+use Rattle.surf_text.specs.Pages.{PageState, grown, Stops}
+use Rattle.surf_text.specs.declared.page.PageFault.{PageFault}
+use Rattle.surf_validity.specs.Rows.{LoopCert, BasisCert}
+use Rattle.surf_validity.specs.Bases.{IsValidBasis}
+use Rattle.surf_validity.specs.Chosen.{chosen_cert}
+use Rattle.surf_validity.specs.Valid.{IsValidLoops}
+use Rattle.surf_answers.specs.Certificates.{GivesLoopCert, GivesBasisCert}
+use Rattle.surf_texts.specs.Limits.{beyond}
+use Rattle.surf_texts.specs.Outcome.{Outcome, answers}
+use Rattle.surf_texts.specs.Refusals.{cause_of, of_page}
+use Rattle.surf_answers.specs.Says.{Says}
+use Rattle.surf_answers.specs.Tells.{Why}
+use Rattle.surf_answers.proofs.CutLaws.{overfills_from_stops}
+use Rattle.surf_answers.proofs.Saying.{blank, says_whole, says_beyond, why_overfilled}
+
+pub gives_loop_cert : (mesh : Mesh) (lengths : List ℕ) (base : ℕ) (t : LoopTables) (cert : LoopCert) → IsGreedy mesh lengths base t →
+    cert ≡ chosen_cert mesh (trees_of t) → IsValidLoops mesh lengths cert → (o : Outcome) → Says (loop_text cert) o → GivesLoopCert mesh lengths base o
+gives_loop_cert mesh lengths base t cert greedy is valid o says = record {
+  trees = trees_of t;
+  chosen = greedy.chosen;
+  least = greedy.least;
+  valid = subst (λ (x : LoopCert). IsValidLoops mesh lengths x) is valid;
+  says = subst (λ (x : LoopCert). Says (loop_text x) o) is says;
+}
+
+pub gives_basis_cert : (mesh : Mesh) (lengths : List ℕ) (cert : BasisCert) → IsSurface mesh → AreLengths lengths →
+    length lengths ≡ edge_count mesh → IsTheCert mesh lengths cert → IsValidBasis mesh lengths cert → (o : Outcome) →
+    Says (basis_text cert) o → GivesBasisCert mesh lengths o
+gives_basis_cert mesh lengths cert surface are sized is valid o says = record {
+  trees = is.trees;
+  chosen = is.chosen;
+  basis = is.basis;
+  is_basis = is.is_basis;
+  least = basis_is_least mesh lengths is.trees is.basis surface (lengths_positive mesh lengths are sized) is.chosen is.is_basis;
+  valid = subst (λ (x : BasisCert). IsValidBasis mesh lengths x) is.cert_is valid;
+  says = subst (λ (x : BasisCert). Says (basis_text x) o) is.cert_is says;
+}
+
+-- ---- a text on a blank page
+
+module _ (text : List ℕ) (page : PageState) (is_blank : page ≡ blank) where
+  pub says_page : (new : PageState) (bytes : List ℕ) → new ≡ grown page text → bytes ≡ new.bytes → length bytes ≤ new.most → Says text (answers 0 bytes)
+  says_page new bytes filled is within =
+      let most : new.most ≡ 1073741824 = ap (λ (p : PageState). p.most) filled ∙ ap (λ (p : PageState). p.most) is_blank in
+      says_whole text bytes (is ∙ ap (λ (p : PageState). p.bytes) filled ∙ ap (λ (p : PageState). p.bytes ++ text) is_blank)
+      (subst (λ (n : ℕ). length bytes ≤ n) most within)
+
+  pub why_stopped : (end : Outcome → Type 0) (fault : PageFault) → (Says text (beyond Answer) → end (beyond Answer)) → Stops page text fault →
+      Why end (cause_of (of_page fault))
+  why_stopped end fault ends stops =
+      why_overfilled end text fault (λ long. ends (says_beyond text long))
+      (overfills_from_stops blank text fault (subst (λ (p : PageState). Stops p text fault) is_blank stops))

@@ -1,0 +1,71 @@
+-- The trees of a loop desk, and what is opened along the cut that they give.
+use Rattle.std.proofs.Common.{◌≡◌, ℕ, ◌<◌, Bool, List, [], length, get_or, sym, ap, ◌∙◌, subst}
+use Rattle.std.specs.Prelude.{All}
+use Rattle.std.proofs.lemmas.List.{length-map, get_or-map, get_or_default}
+use Rattle.std.proofs.lemmas.List.Elements.{All-get_or, All-from_get_or}
+use Rattle.surf_surfaces.specs.Mesh.{Mesh, IsFace}
+use Rattle.surf_surfaces.specs.Surface.{face_at, IsSurface}
+use Rattle.surf_opening.specs.Opening.{IsOpenedBy}
+use Rattle.surf_opening.specs.ChosenCut.{AreDivided, IsChosenOpening}
+use Rattle.surf_opening.proofs.ChosenOpenings.{chosen_are_openings}
+use Rattle.surf_text.specs.Pages.{PageState, Stops}
+use Rattle.surf_text.specs.declared.page.PageFault.{PageFault}
+use Rattle.surf_text.specs.declared.page.PageFault.TheVariants.{Full, Memory}
+use Rattle.surf_tree.specs.Tables.{tree_of}
+use Rattle.surf_cotree.specs.Grown.{IsMarked}
+use Rattle.surf_cotree.specs.Tables.{cotree_of}
+use Rattle.surf_loops.specs.Loops.{LoopTables, IsGreedy, trees_of}
+use Rattle.surf_cutter.specs.Opened.{OpenMesh, IsHeld, IsChosenFor}
+use Rattle.surf_cutter.proofs.Chosen.{grown_is_held}
+use Rattle.surf_texts.specs.Fills.{Overfills}
+use Rattle.surf_answers.specs.Cuts.{IsCutAt}
+
+-- the vertex of each copy is one of the surface
+origins_inside : {mesh : Mesh} {IsUncut : ℕ → ℕ → Type 0} {origins : List ℕ} {faces : List (List ℕ)} → IsSurface mesh →
+    IsOpenedBy mesh IsUncut origins faces → All (λ v. v < mesh.vertices) origins
+origins_inside {mesh} {IsUncut} {origins} {faces} surface opened = All-from_get_or (λ v. v < mesh.vertices) origins 0 (λ c l.
+    let e = opened.every_copy c l in
+    let f : ℕ = e.0 in
+    let k : ℕ = e.2.0 in
+    let row : List ℕ = get_or faces f [] in
+    let k_in : k < length row = e.2.1 in
+    let is : get_or row k 0 ≡ c = get_or_default row k 0 c k_in ∙ e.2.2 in
+    let corner : get_or (face_at mesh f) k 0 ≡ get_or origins c 0 =
+    ap (λ (face : List ℕ). get_or face k 0) (sym (opened.same_corners f e.1)) ∙ get_or-map (λ copy. get_or origins copy 0) row k 0 0 k_in
+    ∙ ap (λ (x : ℕ). get_or origins x 0) is in
+    let long : length row ≡ length (face_at mesh f) = sym (length-map row (λ copy. get_or origins copy 0)) ∙ ap length (opened.same_corners f e.1) in
+    let face : IsFace mesh.vertices (face_at mesh f) = All-get_or (IsFace mesh.vertices) mesh.faces f [] e.1 surface.is_mesh in
+    subst (λ (v : ℕ). v < mesh.vertices) corner
+    (All-get_or (λ v. v < mesh.vertices) (face_at mesh f) k 0 (subst (λ (n : ℕ). k < n) long k_in) face.inside))
+
+module _ (mesh : Mesh) (lengths : List ℕ) (base : ℕ) (t : LoopTables) (surface : IsSurface mesh) (greedy : IsGreedy mesh lengths base t) where
+  marked : IsMarked mesh (tree_of t.tree) t.tree.flags
+  marked = record { spans = greedy.rooted.spans; marks_are = greedy.tree.flags }
+
+  divided : AreDivided mesh (tree_of t.tree) (cotree_of t.cotree)
+  divided = greedy.cotree.split (tree_of t.tree) marked
+
+  -- the edges that the desk holds are those of a tree of the faces that goes with its tree of the vertices
+  pub desk_is_held : IsHeld mesh t.cotree.held
+  desk_is_held = grown_is_held t.tree.flags greedy.weight (tree_of t.tree) t.cotree marked greedy.cotree
+
+  module _ (trim : Bool) (opened : OpenMesh) (chosen : IsChosenFor mesh t.cotree.held trim opened) where
+    opens : IsChosenOpening mesh (tree_of t.tree) (cotree_of t.cotree) trim opened.origins opened.faces
+    opens = chosen (tree_of t.tree) (cotree_of t.cotree) divided greedy.cotree.held
+
+    -- what is opened along the edges that the desk doesn't hold is the opening that is chosen at its base
+    pub desk_cuts : IsCutAt mesh lengths base trim opened.origins opened.faces
+    desk_cuts = record {
+      trees = trees_of t;
+      chosen = greedy.chosen;
+      opened = opens;
+      opening = chosen_are_openings mesh (tree_of t.tree) (cotree_of t.cotree) trim opened.origins opened.faces surface divided opens;
+    }
+
+    pub desk_origins : All (λ v. v < mesh.vertices) opened.origins
+    desk_origins = origins_inside surface opens.opened
+
+-- a text that stops is one that overfills the page
+pub overfills_from_stops : (old : PageState) (text : List ℕ) (fault : PageFault) → Stops old text fault → Overfills old text fault
+overfills_from_stops old text Full over = over
+overfills_from_stops old text Memory over = tt

@@ -1,0 +1,21 @@
+use Rattle.std.proofs.Common.{◌≡◌, ℕ, List, length, map, sym, subst}
+use Rattle.std.specs.Prelude.{sum}
+use Rattle.std.specs.List.{flat_map}
+use Rattle.surf_text.specs.Pages.{grown}
+use Rattle.surf_texts.specs.CycleTexts.{cycles_head}
+use Rattle.surf_texts.specs.Fills.{Fills}
+use Rattle.surf_texts.proofs.Filling.{fills_both}
+use Rattle.surf_answers.specs.CycleTexts.{cycle_found_line}
+use Rattle.surf_answers.proofs.CycleLaws.{text_of_cycles}
+use Rattle.surf_answers.proofs.basis.put_basis.Goals as goal
+
+pub returns : goal.returns
+returns c =
+    let cs = c.args.basis.now in
+    let page = c.args.page.now in
+    let mid = c.put_cycles_head.new.page in
+    let new = c.put_cycles.new.page in
+    subst (λ (text : List ℕ). Fills page new text c.put_cycles.result) (sym (text_of_cycles cs))
+    (fills_both page mid new (cycles_head (length cs) (sum (map (λ x. x.length) cs))) (flat_map cycle_found_line cs) c.put_cycles.result
+    (subst (λ (n : ℕ). mid ≡ grown page (cycles_head (length cs) n)) c.total_of.ensures c.in_ok-put_cycles_head.ensures.fills)
+    c.put_cycles.ensures)

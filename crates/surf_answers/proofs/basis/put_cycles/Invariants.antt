@@ -1,0 +1,8 @@
+use Rattle.std.proofs.Common.{◌≡◌, take}
+use Rattle.std.specs.List.{flat_map}
+use Rattle.surf_text.specs.Pages.{grown}
+use Rattle.surf_answers.specs.CycleTexts.{cycle_found_line}
+use Rattle.surf_answers.proofs.basis.put_cycles.Given as goal
+
+abbrev pub invariant-loop-cycle : goal.invariant-loop-cycle
+invariant-loop-cycle l = l.page ≡ grown l.initial.page (flat_map cycle_found_line (take l.cycle-index l.cycles))

@@ -1,0 +1,9 @@
+use Rattle.std.proofs.Common.{◌≡◌, ◌≤◌, ◌*◌, map, take}
+use Rattle.std.specs.Prelude.{sum}
+use Rattle.surf_answers.proofs.basis.total_of.Given as goal
+
+abbrev pub invariant-loop-cycle : goal.invariant-loop-cycle
+invariant-loop-cycle l = record {
+  sum_is : l.total ≡ sum (map (λ c. c.length) (take l.cycle-index l.cycles));
+  bound : l.total ≤ l.cycle-index * 18446744073709551615;
+}

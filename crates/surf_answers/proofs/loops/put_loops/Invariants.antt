@@ -1,0 +1,8 @@
+use Rattle.std.proofs.Common.{◌≡◌, take}
+use Rattle.std.specs.List.{flat_map}
+use Rattle.surf_text.specs.Pages.{grown}
+use Rattle.surf_answers.specs.HeadTexts.{head_line}
+use Rattle.surf_answers.proofs.loops.put_loops.Given as goal
+
+abbrev pub invariant-loop-head : goal.invariant-loop-head
+invariant-loop-head l = l.page ≡ grown l.initial.page (flat_map (head_line l.mesh l.desk.tree) (take l.head-index l.desk.heads))

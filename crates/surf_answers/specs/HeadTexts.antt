@@ -1,0 +1,20 @@
+-- The lines of the loops of a desk.
+use Rattle.std.specs.Prelude.{ℕ, List, ◌++◌, length, map, sum, flat_map}
+use Rattle.surf_surfaces.specs.Mesh.{Mesh}
+use Rattle.surf_surfaces.specs.Loop.{loop_walk}
+use Rattle.surf_tree.specs.Tables.{TreeTables, tree_of}
+use Rattle.surf_loops.specs.Loops.{LoopTables}
+use Rattle.surf_loops.specs.declared.head.LoopHead.{LoopHead}
+use Rattle.surf_texts.specs.LoopTexts.{walk_line, loops_head}
+
+-- the length of a head's loop, and its walk through the tree of some tables
+abbrev pub head_line : Mesh → TreeTables → LoopHead → List ℕ
+head_line mesh tree head = walk_line head.length (loop_walk mesh (tree_of tree) head.edge)
+
+-- how many loops there are and what they total
+abbrev pub loop_heads_text : List LoopHead → List ℕ
+loop_heads_text heads = loops_head (length heads) (sum (map (λ h. h.length) heads))
+
+-- that, and the line of each loop of a desk
+abbrev pub heads_text : Mesh → LoopTables → List ℕ
+heads_text mesh t = loop_heads_text t.heads ++ flat_map (head_line mesh t.tree) t.heads

@@ -1,0 +1,56 @@
+//! Certificates of what is least.
+ghost use Rattle.std.specs.Prelude.{◌≡◌, ◌<◌, ◌≤◌, ◌+◌, length};
+ghost use Rattle.surf_surfaces.specs.Surface.{edge_count, face_count};
+ghost use Rattle.surf_answers.specs.Certificates.{GivesLoopCert, GivesBasisCert};
+ghost use Rattle.surf_answers.specs.Tells.{Concludes};
+ghost use Rattle.surf_base.specs.declared.limits.TheConstants.{MAX_LOOPS};
+
+use crate::answered::{Answered, Verdict};
+use std::alloc::Global;
+use surf_base::{MAX_ANSWER, VertexId};
+use surf_basis::basis_cert;
+use surf_cert::{write_basis_cert, write_loop_cert};
+use surf_lengths::Lengths;
+use surf_loops::LoopDesk;
+use surf_mesh::HalfMesh;
+use surf_text::Page;
+use surf_texts::Refused;
+
+/// A certificate that the loops that are chosen at a base are least there.
+pub fn loop_cert_of(
+    alloc: Global,
+    mesh: &HalfMesh,
+    lengths: &Lengths,
+    base: VertexId,
+) -> Result<Answered, Refused>
+    requires lengths { length lengths.now ≡ edge_count mesh.now }
+    requires base { base < mesh.now.vertices }
+    ensures { Concludes (GivesLoopCert mesh.now lengths.now base) result }
+{
+    let mut desk = LoopDesk::make(alloc, mesh)?;
+    desk.greedy(mesh, lengths, base);
+    let cert = desk.cert(alloc, mesh, lengths)?;
+    let mut page = Page::make(alloc, MAX_ANSWER);
+    write_loop_cert(&mut page, &cert)?;
+    Ok(Answered {
+        verdict: Verdict::Yes,
+        text: page.into_bytes(),
+    })
+}
+
+/// A certificate that the cycles of the basis that is chosen are a least basis.
+pub fn basis_cert_of(alloc: Global, mesh: &HalfMesh, lengths: &Lengths) -> Result<Answered, Refused>
+    requires lengths { length lengths.now ≡ edge_count mesh.now }
+    requires few { edge_count mesh.now + 2 ≤ mesh.now.vertices + face_count mesh.now + MAX_LOOPS }
+    ensures { Concludes (GivesBasisCert mesh.now lengths.now) result }
+{
+    mesh.law_of_surface();
+    lengths.law_of_lengths();
+    let cert = basis_cert(alloc, mesh, lengths)?;
+    let mut page = Page::make(alloc, MAX_ANSWER);
+    write_basis_cert(&mut page, &cert)?;
+    Ok(Answered {
+        verdict: Verdict::Yes,
+        text: page.into_bytes(),
+    })
+}

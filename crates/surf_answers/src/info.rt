@@ -1,0 +1,60 @@
+//! The counts of a surface.
+ghost use Rattle.surf_check.specs.Growth.{flag_of};
+ghost use Rattle.surf_surfaces.specs.Homology.{IsFullCount};
+ghost use Rattle.surf_surfaces.specs.Surface.{IsTurning, IsTwoSided};
+ghost use Rattle.surf_answers.specs.Info.{Informs, HasGenus, HasCrosscaps};
+ghost use Rattle.surf_answers.specs.Tells.{Concludes};
+
+use crate::answered::{Answered, Verdict};
+use std::alloc::Global;
+use surf_check::{Sides, Turning, characteristic, genus, orient};
+use surf_mesh::HalfMesh;
+use surf_texts::{Refused, counts_text, crosscaps_text, genus_text};
+
+/// The counts of a surface, its characteristic, and its genus or its crosscaps.
+pub fn info_of(alloc: Global, mesh: &HalfMesh) -> Result<Answered, Refused>
+    ensures { Concludes (Informs mesh.now) result }
+{
+    match orient(alloc, mesh)? {
+        Sides::Two(turning) => two_sided(alloc, mesh, &turning),
+        Sides::One(_) => one_sided(alloc, mesh),
+    }
+}
+
+// The answer for a surface that a turning shows to be two-sided.
+fn two_sided(alloc: Global, mesh: &HalfMesh, turning: &Turning) -> Result<Answered, Refused>
+    requires { IsTurning mesh.now (flag_of turning.now) }
+    ensures { Concludes (HasGenus mesh.now) result }
+{
+    mesh.law_of_surface();
+    let mut text = counts_text(alloc, mesh)?;
+    let shape = genus_text(alloc, characteristic(mesh), genus(mesh, turning))?;
+    text.push_str(shape.as_str())?;
+    Ok(Answered {
+        verdict: Verdict::Yes,
+        text: text.into_bytes(),
+    })
+}
+
+// The answer for a one-sided surface.
+fn one_sided(alloc: Global, mesh: &HalfMesh) -> Result<Answered, Refused>
+    requires { IsTwoSided mesh.now → ⊥ }
+    ensures { Concludes (HasCrosscaps mesh.now) result }
+{
+    let mut text = counts_text(alloc, mesh)?;
+    let shape = crosscaps_text(alloc, characteristic(mesh), loop_count(mesh))?;
+    text.push_str(shape.as_str())?;
+    Ok(Answered {
+        verdict: Verdict::Yes,
+        text: text.into_bytes(),
+    })
+}
+
+/// How many independent loops a surface has: 2 minus its characteristic.
+pub fn loop_count(mesh: &HalfMesh) -> u64
+    ensures { IsFullCount mesh.now result }
+{
+    let edges = mesh.edges() as u64;
+    let cells = mesh.vertices() as u64 + mesh.faces() as u64;
+    edges + 2 - cells
+}

@@ -1,0 +1,39 @@
+//! What is answered of a surface, with lengths, a base or a walk. No call here reaches a file.
+#![tactic(auto)]
+
+mod answered;
+mod basis;
+mod certificates;
+mod classes;
+mod cut;
+mod cycle;
+mod desk;
+mod disc;
+mod distances;
+mod evidence;
+mod help;
+mod info;
+mod loops;
+mod measures;
+mod meshes;
+mod summary;
+mod verdicts;
+mod walk;
+
+pub use answered::{Answered, Verdict};
+pub use basis::basis_of;
+pub use certificates::{basis_cert_of, loop_cert_of};
+pub use classes::class_of;
+pub use cut::cut_of;
+pub use cycle::cycle_of;
+pub use disc::{disc_of, not_disc};
+pub use distances::dist_of;
+pub use evidence::judge_evidence;
+pub use help::{help, version};
+pub use info::{info_of, loop_count};
+pub use loops::loops_of;
+pub use measures::measures_of;
+pub use meshes::made_of;
+pub use summary::summary_of;
+pub use verdicts::judge;
+pub use walk::shortest_of;

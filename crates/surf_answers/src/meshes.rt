@@ -1,0 +1,36 @@
+//! Meshes as texts.
+ghost use Rattle.std.specs.Prelude.{◌≡◌, ◌<◌, ◌^◌};
+ghost use Rattle.surf_surfaces.specs.SideNumber.{side_count};
+ghost use Rattle.surf_surfaces.specs.Surface.{edge_count, IsSurface};
+ghost use Rattle.surf_answers.specs.Making.{GivesMesh};
+ghost use Rattle.surf_answers.specs.Tells.{Concludes};
+
+use crate::answered::{Answered, Verdict};
+use std::alloc::Global;
+use surf_base::MAX_ANSWER;
+use surf_off::write_soup;
+use surf_soup::Soup;
+use surf_text::Page;
+use surf_texts::Refused;
+
+// How many edges a surface has: each is two sides.
+fn edges_of(soup: &Soup) -> u32
+    requires { IsSurface soup.now }
+    ensures edges { result ≡ edge_count soup.now }
+    ensures few { side_count soup.now < 2 ^ 30 }
+{
+    soup.side_count() / 2
+}
+
+/// The text of a surface.
+pub fn made_of(alloc: Global, soup: &Soup) -> Result<Answered, Refused>
+    requires { IsSurface soup.now }
+    ensures { Concludes (GivesMesh soup.now) result }
+{
+    let mut page = Page::make(alloc, MAX_ANSWER);
+    write_soup(&mut page, soup, edges_of(soup))?;
+    Ok(Answered {
+        verdict: Verdict::Yes,
+        text: page.into_bytes(),
+    })
+}

@@ -1,5 +1,0 @@
-use Rattle.surf_run.proofs.WordLaws.{many_words}
-use Rattle.surf_run.proofs.words.parse.Goals as goal
-
-pub returns-in-len7-up : goal.returns-in-len7-up
-returns-in-len7-up c = many_words c.args.words.now c.in-len7-up.len_at_least

@@ -1,0 +1,69 @@
+//! The command `lengths`.
+ghost use Rattle.std.specs.Prelude.{◌≡◌, ◌≤◌, length, IfOk};
+ghost use Rattle.surf_surfaces.specs.Surface.{edge_count};
+ghost use Rattle.surf_run.specs.Coordinates.{Measures, OnCoordinates, OnLengths, OnLengthsText};
+ghost use Rattle.surf_answers.specs.Tells.{Concludes, ConcludesOver, Takes};
+ghost use Rattle.surf_base.specs.declared.limits.TheConstants.{MAX_TEXT};
+
+use crate::reading::{read_file, read_surface};
+use std::alloc::Global;
+use surf_answers::{Answered, measures_of};
+use surf_base::Shelf;
+use surf_geom::measure;
+use surf_lengths::Lengths;
+use surf_mesh::HalfMesh;
+use surf_off::OffText;
+use surf_texts::Refused;
+use surf_words::Decimals;
+
+/// What `lengths` answers: the measures of the edges of a surface as a length file.
+pub(crate) fn lengths<S: Shelf>(
+    alloc: Global,
+    shelf: &mut S,
+    mesh: &str,
+    decimals: Decimals,
+) -> Result<Answered, Refused>
+    ensures holds { S.holds shelf.new ≡ S.holds shelf.old }
+    ensures later { S.faults shelf.old ≤ S.faults shelf.new }
+    ensures tells { ConcludesOver (S.holds shelf.old) (S.faults shelf.old) (S.faults shelf.new)
+        (OnLengths mesh.now decimals) result }
+{
+    let bytes = read_file(alloc, shelf, mesh)?;
+    lengths_of_text(alloc, &bytes, decimals)
+}
+
+fn lengths_of_text(alloc: Global, bytes: &[u8], decimals: Decimals) -> Result<Answered, Refused>
+    requires { length bytes.now ≤ MAX_TEXT }
+    ensures { Concludes (OnLengthsText decimals bytes.now) result }
+{
+    let (text, mesh) = read_surface(alloc, bytes)?;
+    lengths_of(alloc, &text, &mesh, decimals)
+}
+
+fn lengths_of(
+    alloc: Global,
+    text: &OffText<'_>,
+    mesh: &HalfMesh,
+    decimals: Decimals,
+) -> Result<Answered, Refused>
+    requires lines { length text.now.vertex_lines ≡ mesh.now.vertices }
+    ensures { Concludes (OnCoordinates decimals (text.now, mesh.now)) result }
+{
+    let lengths = measures(alloc, text, mesh, decimals)?;
+    measures_of(alloc, mesh, &lengths)
+}
+
+// The measures of the edges.
+fn measures(
+    alloc: Global,
+    text: &OffText<'_>,
+    mesh: &HalfMesh,
+    decimals: Decimals,
+) -> Result<Lengths, Refused>
+    requires lines { length text.now.vertex_lines ≡ mesh.now.vertices }
+    ensures tells { Takes (λ lengths. lengths) (Measures decimals (text.now, mesh.now)) result }
+    ensures count { IfOk result (λ lengths. length lengths ≡ edge_count mesh.now) }
+{
+    let lengths = measure(alloc, mesh, text, decimals.count())?;
+    Ok(lengths)
+}

@@ -1,0 +1,37 @@
+-- Why there is no answer: what words and files decide, a read that failed, or want of memory.
+use Rattle.std.specs.Prelude.{ℕ, List, [], codes}
+use Rattle.surf_texts.specs.Outcome.{Outcome, answers, refuses, misses, status_of}
+
+pub data Cause : Type 0 where
+  -- the words and the files decide it
+  due : Outcome → Cause
+  -- a file could not be read
+  unread : Cause
+  -- there was no memory
+  starved : Cause
+
+-- what is due. No definition decides on a read that failed or on want of memory
+abbrev pub outcome_of : Cause → Outcome
+outcome_of (due outcome) = outcome
+outcome_of unread = misses
+outcome_of starved = misses
+
+-- the line of an outcome, if it has one
+abbrev pub said : Outcome → List ℕ
+said (answers status text) = []
+said (refuses status line) = line
+said misses = []
+
+abbrev pub line_of : Cause → List ℕ
+line_of (due outcome) = said outcome
+line_of unread = codes "read fault\n"
+line_of starved = codes "memory\n"
+
+abbrev pub status_of_cause : Cause → ℕ
+status_of_cause (due outcome) = status_of outcome
+status_of_cause unread = 9
+status_of_cause starved = 11
+
+-- the words are in no row of the command table
+abbrev pub misused : Outcome
+misused = refuses 2 (codes "usage: the words are in no row of the command table\n")

@@ -1,0 +1,63 @@
+//! Tasks: what words ask of a surface.
+ghost use Rattle.std.specs.Prelude.{◌≡◌};
+ghost use Rattle.surf_words.specs.TaskLimits.{vertex_limit, is_limited};
+
+use surf_base::{LimitKind, MAX_BASIS_VERTICES, MAX_CERTIFICATE_VERTICES};
+
+/// What is asked of the cycles of a surface with lengths.
+#[derive(Clone, Copy, Debug, PartialEq, Eq)]
+pub enum CycleTask {
+    /// A least basis.
+    Basis,
+    /// A shortest one that doesn't separate the surface.
+    Shortest,
+    /// A certificate that a basis is least.
+    BasisCertificate,
+}
+
+impl CycleTask {
+    /// How many vertices there may be, after the name of the limit.
+    pub fn vertex_limit(self) -> (LimitKind, u32)
+        ensures { result ≡ vertex_limit self }
+    {
+        match self {
+            CycleTask::Basis | CycleTask::Shortest => {
+                (LimitKind::BasisVertices, MAX_BASIS_VERTICES)
+            }
+            CycleTask::BasisCertificate => {
+                (LimitKind::CertificateVertices, MAX_CERTIFICATE_VERTICES)
+            }
+        }
+    }
+}
+
+/// What is asked of a surface with lengths and a base.
+#[derive(Clone, Copy, Debug, PartialEq, Eq)]
+pub enum Task {
+    Distances,
+    LeastLoops,
+    /// A certificate that the loops are least.
+    LoopCertificate,
+    Cut(CutKind),
+}
+
+impl Task {
+    /// Whether the limit on loops is tested.
+    pub fn is_limited(self) -> bool
+        ensures { result ≡ is_limited self }
+    {
+        match self {
+            Task::Distances => false,
+            Task::LeastLoops | Task::LoopCertificate | Task::Cut(_) => true,
+        }
+    }
+}
+
+/// How far a surface is cut.
+#[derive(Clone, Copy, Debug, PartialEq, Eq)]
+pub enum CutKind {
+    /// Along all edges of the tree of the vertices and all left edges.
+    Full,
+    /// Along those of them that are left when the cut is trimmed.
+    Trimmed,
+}
