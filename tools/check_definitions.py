@@ -17,8 +17,8 @@ import sys
 TOP = pathlib.Path(__file__).resolve().parent.parent
 PAGE = TOP / "docs" / "definitions.md"
 EXAMPLES = {"small_meshes", "small_surfaces", "small_cases"}
-FUNCTION = re.compile(r"^pub fn (\w+)\(\)\n((?:    ensures [^\n]*\n|    //[^\n]*\n|\n)+)\{\}", re.M)
-CLAUSE = re.compile(r"^    ensures (?:(\w+) )?\{ (.*) \}$", re.M)
+FUNCTION = re.compile(r"^pub fn (\w+)\(\)\n((?:    [^\n]*\n|\n)+)\{\}", re.M)
+CLAUSE = re.compile(r"^    ensures (?:(\w+) )?\{ (.*?) \}$", re.M | re.S)
 
 
 def law_functions(crate):
@@ -26,7 +26,7 @@ def law_functions(crate):
     found = {}
     for path in sorted((TOP / "crates" / crate / "src").glob("*.rt")):
         for name, clauses in FUNCTION.findall(path.read_text()):
-            found[name] = {clause: text for clause, text in CLAUSE.findall(clauses)}
+            found[name] = {clause: " ".join(text.split()) for clause, text in CLAUSE.findall(clauses)}
     return found
 
 
