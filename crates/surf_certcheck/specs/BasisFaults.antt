@@ -1,5 +1,5 @@
 -- Why a certificate of a basis isn't valid.
-use Rattle.std.specs.Prelude.{◌≡◌, ℕ, ◌<◌, ◌+◌, List, [], length, Contains, slice_index, slice_index_or}
+use Rattle.std.specs.Prelude.{◌≡◌, ℕ, ◌<◌, ◌+◌, List, [], length, Contains, slice_index, slice_index_or, Option, MatchOption}
 use Rattle.surf_surfaces.specs.Mesh.{Mesh, pair, edges}
 use Rattle.surf_surfaces.specs.Surface.{face_count, edge_count, ends}
 use Rattle.surf_surfaces.specs.Homology.{IsFullCount}
@@ -44,6 +44,11 @@ IsBasisShapeFault mesh cert Base = HasTrees mesh cert × HasDualRows mesh cert.d
 pub record IsFirstAt (bases n : ℕ) (P : ℕ → ℕ → Type 0) (x k : ℕ) : Type 0 where
   pub base : FailsFirst bases (λ y. HoldsBelow n (P y)) x
   pub number : FailsFirst n (P x) k
+
+-- a search finds it, or nothing where the condition holds at all bases
+abbrev pub FindsFirstAt : ℕ → ℕ → (ℕ → ℕ → Type 0) → Option (ℕ × ℕ) → Type 0
+FindsFirstAt bases n P o =
+    MatchOption o (HoldsBelow bases (λ x. HoldsBelow n (P x))) (λ p. IsFirstAt bases n P p.0 p.1)
 
 abbrev pub HasParentAt : Mesh → BasisCert → ℕ → ℕ → Type 0
 HasParentAt mesh cert x v = HasParent mesh (tree_at cert x) v

@@ -19,7 +19,11 @@ pub record IsClimbed (mesh : Mesh) (rows : TreeRows) : Type 0 where
   pub tree : IsTree (primal (cells_of mesh)) (certified_tree mesh rows)
   pub short : IsShortest (primal (cells_of mesh)) (edge_length lengths) (certified_tree mesh rows)
 
--- a table has for each vertex the sum over its way up to the base of what a map makes of the signatures of edges
+-- a table has for a vertex the sum over its way up to the base of what a map makes of the signatures of edges
+abbrev pub IsSummedAt : Mesh → TreeRows → Split → (ℕ → ℕ) → List ℕ → ℕ → Type 0
+IsSummedAt mesh rows d to sums v = slice_index sums v ≡ to (way_class mesh d (certified_tree mesh rows) v)
+
+-- the same for each vertex
 abbrev pub AreSummed : Mesh → TreeRows → List ℕ → List ℕ → Type 0
 AreSummed mesh rows sets sums = (d : Split) (to : ℕ → ℕ) → AreTaken mesh d to sets → (v : ℕ) → v < mesh.vertices →
-    slice_index sums v ≡ to (way_class mesh d (certified_tree mesh rows) v)
+    IsSummedAt mesh rows d to sums v

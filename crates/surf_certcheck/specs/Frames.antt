@@ -1,6 +1,8 @@
 -- Coordinates of signatures in which each of some cycles has a place of its own.
-use Rattle.std.specs.Prelude.{◌≡◌, ℕ, ◌<◌, ◌≤◌, ◌^◌, List, length, map, take, slice_index, slice_index_or, All, Contains, Option, Some, None}
+use Rattle.std.specs.List.{range_with_len}
+use Rattle.std.specs.Prelude.{◌≡◌, ℕ, ◌<◌, ◌≤◌, ◌^◌, true, List, length, map, take, slice_index, slice_index_or, All, Contains, Option, Some, None}
 use Rattle.surf_z2.specs.Space.{numbers, IsLinear, Weighed, SpannedUpToWeight}
+use Rattle.surf_z2.specs.Sieve.{has}
 use Rattle.surf_graphs.specs.Cells.{Split, IsSplit}
 use Rattle.surf_surfaces.specs.Cells.{cells_of}
 use Rattle.surf_surfaces.specs.Loop.{loop_walk}
@@ -14,6 +16,10 @@ use Rattle.surf_validity.specs.Valid.{certified_tree, loop_size, is_listed, IsDu
 use Rattle.surf_surfaces.specs.Cotree.{is_left}
 use Rattle.surf_validity.specs.Valid.{dual_tree}
 use Rattle.surf_certcheck.specs.Rows.{HasDualRows}
+
+-- the signatures of all edges
+abbrev pub edge_signatures : Mesh → Split → List ℕ
+edge_signatures mesh d = map (edge_signature mesh d) (range_with_len 0 (edge_count mesh))
 
 -- the signature of the loop of an edge through a tree, with the length of the loop
 abbrev pub weighed_through : Mesh → List ℕ → Split → TreeRows → ℕ → Weighed ℕ
@@ -39,6 +45,11 @@ weight_at weights k = slice_index_or weights k None
 abbrev pub IsPlacedUpTo : ℕ → Option ℕ → Type 0
 IsPlacedUpTo limit None = ⊥
 IsPlacedUpTo limit (Some weight) = weight ≤ limit
+
+-- the places of a set are those of cycles no heavier than a limit
+abbrev pub ArePlacedUpTo : ℕ → List (Option ℕ) → ℕ → Type 0
+ArePlacedUpTo limit weights set =
+    (k : ℕ) → k < length weights → has set k ≡ true → IsPlacedUpTo limit (weight_at weights k)
 
 -- a cycle is a place alone
 pub record HasPlace (to : ℕ → ℕ) (weights : List (Option ℕ)) (x : Weighed ℕ) : Type 0 where

@@ -3,6 +3,8 @@ pub mod Rows
 pub mod LoopFaults
 pub mod Split
 pub mod Paths
+pub mod Judging
 pub mod BasisFaults
 pub mod Frames
 pub mod Climbs
+pub mod Covering

@@ -1,10 +1,11 @@
 -- The ways through the tree of faces that a certificate says.
-use Rattle.std.specs.Prelude.{◌≡◌, ℕ, ◌<◌, ◌≤◌, Bool, true, false, List, length, get_or, Option, Some, None, MatchOption, if◌then◌else◌, nat_lt, ◌⊎◌}
+use Rattle.std.specs.Prelude.{◌≡◌, ℕ, ◌<◌, ◌≤◌, Bool, true, false, ◌||◌, List, length, get_or, Option, Some, None, MatchOption, if◌then◌else◌, nat_lt, ◌⊎◌}
 use Rattle.surf_graphs.specs.Trees.{on_path}
 use Rattle.surf_surfaces.specs.Mesh.{Mesh}
 use Rattle.surf_surfaces.specs.Surface.{face_count, edge_count}
 use Rattle.surf_surfaces.specs.Walk.{edge_number}
 use Rattle.surf_validity.specs.Rows.{TreeRows, DualRows}
+use Rattle.surf_certcheck.specs.declared.links.Links.{Links}
 use Rattle.surf_validity.specs.Valid.{side_at, across, depth_at, dual_tree, loop_size}
 
 -- a face hangs on the face across a side, by the edge that is the side
@@ -23,6 +24,11 @@ pub record AreLinks (mesh : Mesh) (dual : DualRows) (n : ℕ) (parent up : List 
   pub ups : length up ≡ n
   pub each : (f : ℕ) → f < n → HasLink mesh f (side_at dual f) (get_or parent f 0) (get_or up f 0)
 
+-- the tables have the links of all faces
+abbrev pub AreAllLinks : Mesh → DualRows → Links → Type 0
+AreAllLinks mesh dual links =
+    AreLinks mesh dual (face_count mesh) links.parent.items links.up.items
+
 -- a face other than face 0 hangs on a face by an edge, and is deeper
 pub record IsStepUp (mesh : Mesh) (dual : DualRows) (f face edge : ℕ) : Type 0 where
   pub face_in : face < face_count mesh
@@ -39,9 +45,18 @@ pub record IsShort (mesh : Mesh) (lengths : List ℕ) (rows : TreeRows) (flags :
   pub shorter : loop_size mesh lengths rows c < limit
 
 -- of the edges of a set none is short, or the least short one is this
-abbrev pub IsLeastIn : (ℕ → Type 0) → (ℕ → Type 0) → Option ℕ → Type 0
-IsLeastIn short set o =
-    MatchOption o ((c : ℕ) → set c → short c → ⊥) (λ b. short b × ((c : ℕ) → set c → short c → b ≤ c))
+abbrev pub IsLeastIn : (ℕ → Type 0) → (ℕ → Bool) → Option ℕ → Type 0
+IsLeastIn short set o = MatchOption o ((c : ℕ) → set c ≡ true → short c → ⊥)
+    (λ b. short b × ((c : ℕ) → set c ≡ true → short c → b ≤ c))
+
+-- the edges of one of two sets
+abbrev pub either : (ℕ → Bool) → (ℕ → Bool) → ℕ → Bool
+either a b e = a e || b e
+
+-- where the one is the least short edge of some, the other is that of these and of a set
+abbrev pub IsWidened : (ℕ → Type 0) → (ℕ → Bool) → Option ℕ → Option ℕ → Type 0
+IsWidened short set before after =
+    (seen : ℕ → Bool) → IsLeastIn short seen before → IsLeastIn short (either seen set) after
 
 -- the lesser of a number and another one that may be missing
 abbrev pub least_with : ℕ → Option ℕ → ℕ
@@ -52,16 +67,3 @@ least_with e (Some b) = if nat_lt b e then b else e
 abbrev pub IsLeastWith : (ℕ → Type 0) → ℕ → Option ℕ → Option ℕ → Type 0
 IsLeastWith short e before after =
     (short e × (after ≡ Some (least_with e before))) ⊎ ((short e → ⊥) × (after ≡ before))
-
--- the edge is on the way from the face to face 0
-abbrev pub OnWay : Mesh → DualRows → ℕ → ℕ → Type 0
-OnWay mesh dual face e = on_path (dual_tree mesh dual) face e ≡ true
-
--- the edge is on the way from one of two faces to face 0
-abbrev pub OnEither : Mesh → DualRows → ℕ → ℕ → ℕ → Type 0
-OnEither mesh dual near far e = OnWay mesh dual near e ⊎ OnWay mesh dual far e
-
--- the lesser of two numbers that may be missing
-abbrev pub lesser_of : Option ℕ → Option ℕ → Option ℕ
-lesser_of None second = second
-lesser_of (Some e) second = Some (least_with e second)

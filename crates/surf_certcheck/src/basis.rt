@@ -1,5 +1,6 @@
 //! Whether a certificate of a basis is valid.
-ghost use Rattle.std.specs.Prelude.{◌≡◌, ◌≢◌, ◌≤◌, ◌+◌, ℕ, IfOk, IfErr, length};
+ghost use Rattle.std.specs.Prelude.{◌≡◌, ◌≢◌, ◌≤◌, ◌+◌, ℕ, IfOk, IfErr};
+ghost use Rattle.std.specs.Prelude.{length};
 ghost use Rattle.surf_surfaces.specs.Homology.{total, IsLeastBasis};
 ghost use Rattle.surf_surfaces.specs.Places.{IsLeastBasisInOrder, MeasureShortest};
 ghost use Rattle.surf_surfaces.specs.Surface.{edge_count, face_count};
@@ -7,7 +8,8 @@ ghost use Rattle.surf_validity.specs.Bases.{IsValidBasis, HasBasisShape, basis_t
 ghost use Rattle.surf_validity.specs.Valid.{is_listed, IsDualValid};
 ghost use Rattle.surf_certcheck.specs.First.{HoldsBelow};
 ghost use Rattle.surf_certcheck.specs.Split.{AreFlags};
-ghost use Rattle.surf_certcheck.specs.BasisFaults.{AreTreesDivided, AreTreesValid, IsCycleClosed, IsBasisFault};
+ghost use Rattle.surf_certcheck.specs.BasisFaults.{AreTreesDivided, AreTreesValid, IsCycleClosed};
+ghost use Rattle.surf_certcheck.specs.BasisFaults.{IsBasisFault};
 ghost use Rattle.surf_certcheck.specs.declared.fault.CertFault.TheVariants.{Memory};
 
 use crate::cover::first_uncovered;
@@ -28,7 +30,8 @@ use surf_lengths::Lengths;
 use surf_mesh::HalfMesh;
 use surf_signatures::VertexSets;
 
-// The total of a certificate whose trees divide the edges and whose cycles are closed, or its first fault.
+// The total of a certificate whose trees divide the edges and whose cycles are closed, or its first
+// fault.
 fn check_cycles(
     alloc: Global,
     mesh: &HalfMesh,
@@ -41,7 +44,8 @@ fn check_cycles(
     requires lengths { length lengths.now ≡ edge_count mesh.now }
     requires few { edge_count mesh.now + 2 ≤ mesh.now.vertices + face_count mesh.now + 1024 }
     requires left { AreFlags (edge_count mesh.now) (is_listed mesh.now cert.now.left) left.now }
-    ensures valid { IfOk result (λ t. IsValidBasis mesh.now lengths.now cert.now × (t ≡ basis_total mesh.now lengths.now cert.now)) }
+    ensures valid { IfOk result (λ t. IsValidBasis mesh.now lengths.now cert.now
+        × (t ≡ basis_total mesh.now lengths.now cert.now)) }
     ensures fault { IfErr result (IsBasisFault mesh.now lengths.now cert.now) }
 {
     mesh.law_of_surface();
@@ -71,7 +75,8 @@ fn check_edges(
     requires dual { IsDualValid mesh.now cert.now.dual }
     requires lengths { length lengths.now ≡ edge_count mesh.now }
     requires few { edge_count mesh.now + 2 ≤ mesh.now.vertices + face_count mesh.now + 1024 }
-    ensures valid { IfOk result (λ t. IsValidBasis mesh.now lengths.now cert.now × (t ≡ basis_total mesh.now lengths.now cert.now)) }
+    ensures valid { IfOk result (λ t. IsValidBasis mesh.now lengths.now cert.now
+        × (t ≡ basis_total mesh.now lengths.now cert.now)) }
     ensures fault { IfErr result (IsBasisFault mesh.now lengths.now cert.now) }
 {
     mesh.law_of_surface();
@@ -88,9 +93,10 @@ fn check_edges(
     check_cycles(alloc, mesh, lengths, cert, &marks.left)
 }
 
-/// The total of the cycles of a valid certificate, which are then a least basis, place by place too, and the shortest of
-/// them a shortest cycle that doesn't separate the surface: see `surf_validity`. A certificate that isn't valid is refused
-/// with its first fault, in the order of [`CertFault`]. It asks nothing of the certificate.
+/// The total of the cycles of a valid certificate, which are then a least basis, place by place
+/// too, and the shortest of them a shortest cycle that doesn't separate the surface: see
+/// `surf_validity`. A certificate that isn't valid is refused with its first fault, in the order of
+/// [`CertFault`]. It asks nothing of the certificate.
 pub fn check_basis(
     alloc: Global,
     mesh: &HalfMesh,
@@ -99,11 +105,15 @@ pub fn check_basis(
 ) -> Result<u128, CertFault>
     requires lengths { length lengths.now ≡ edge_count mesh.now }
     requires few { edge_count mesh.now + 2 ≤ mesh.now.vertices + face_count mesh.now + 1024 }
-    ensures valid { IfOk result (λ t. IsValidBasis mesh.now lengths.now cert.now × (t ≡ basis_total mesh.now lengths.now cert.now)) }
-    ensures least { IfOk result (λ t. IsLeastBasis mesh.now lengths.now cert.now.cycles × (t ≡ total mesh.now lengths.now cert.now.cycles)) }
-    ensures in_order { IfOk result (λ t. IsLeastBasisInOrder mesh.now lengths.now cert.now.cycles × MeasureShortest mesh.now lengths.now cert.now.cycles) }
+    ensures valid { IfOk result (λ t. IsValidBasis mesh.now lengths.now cert.now
+        × (t ≡ basis_total mesh.now lengths.now cert.now)) }
+    ensures least { IfOk result (λ t. IsLeastBasis mesh.now lengths.now cert.now.cycles
+        × (t ≡ total mesh.now lengths.now cert.now.cycles)) }
+    ensures in_order { IfOk result (λ t. IsLeastBasisInOrder mesh.now lengths.now cert.now.cycles
+        × MeasureShortest mesh.now lengths.now cert.now.cycles) }
     ensures fault { IfErr result (IsBasisFault mesh.now lengths.now cert.now) }
-    ensures excludes { IfErr result (λ e. e ≢ Memory → IsValidBasis mesh.now lengths.now cert.now → ⊥) }
+    ensures excludes { IfErr result (λ e. e ≢ Memory
+        → IsValidBasis mesh.now lengths.now cert.now → ⊥) }
 {
     mesh.law_of_surface();
     lengths.law_of_lengths();

@@ -1,13 +1,14 @@
 //! The cycles of a certificate: whether they are closed, and their lengths.
-ghost use Rattle.std.specs.Prelude.{◌≡◌, ◌<◌, ◌≤◌, ◌+◌, ◌^◌, MatchOption, MatchBool, All, Contains, length, map, sum, slice_index_or};
+ghost use Rattle.std.specs.Prelude.{◌≡◌, ◌<◌, ◌≤◌, ◌+◌, ◌^◌, MatchOption};
+ghost use Rattle.std.specs.Prelude.{MatchBool, All, Contains, length, map, sum, slice_index_or};
 ghost use Rattle.surf_surfaces.specs.Mesh.{edges, pair_of, steps};
 ghost use Rattle.surf_surfaces.specs.Surface.{edge_count};
 ghost use Rattle.surf_surfaces.specs.Walk.{edge_number, first, last, walk_length};
 ghost use Rattle.surf_validity.specs.Bases.{IsClosedList, basis_total};
-ghost use Rattle.surf_certcheck.specs.First.{HoldsBelow, FailsFirst};
+ghost use Rattle.surf_certcheck.specs.First.{HoldsBelow, FailsFirst, FindsFirst, Tells};
 ghost use Rattle.surf_certcheck.specs.BasisFaults.{cycle_at, IsCycleClosed, IsAlong};
 
-use crate::edges::edge_up;
+use crate::edges::{edge_between, edge_up};
 use surf_base::{EdgeId, VertexId};
 use surf_cert::BasisCert;
 use surf_lengths::Lengths;
@@ -24,7 +25,7 @@ pub(crate) fn cycle_from(cert: &BasisCert, place: usize) -> &[VertexId]
 // Whether an edge joins the vertex at a place of a list with the next one.
 fn is_along(mesh: &HalfMesh, list: &[VertexId], i: usize) -> bool
     requires step { i + 1 < length list.now }
-    ensures along { MatchBool result (IsAlong mesh.now list.now i) (IsAlong mesh.now list.now i → ⊥) }
+    ensures along { Tells result (IsAlong mesh.now list.now i) }
 {
     edge_up(mesh, list[i], list[i + 1]).is_some()
 }
@@ -32,7 +33,8 @@ fn is_along(mesh: &HalfMesh, list: &[VertexId], i: usize) -> bool
 // Whether an edge joins each vertex of a list with the next one.
 fn is_along_edges(mesh: &HalfMesh, list: &[VertexId]) -> bool
     requires some { 0 < length list.now }
-    ensures along { MatchBool result (All (λ s. Contains (edges mesh.now) (pair_of s)) (steps list.now)) (All (λ s. Contains (edges mesh.now) (pair_of s)) (steps list.now) → ⊥) }
+    ensures along { Tells result
+        (All (λ s. Contains (edges mesh.now) (pair_of s)) (steps list.now)) }
 {
     for i in 0..list.len() - 1 {
         if !is_along(mesh, list, i) {
@@ -45,14 +47,14 @@ fn is_along_edges(mesh: &HalfMesh, list: &[VertexId]) -> bool
 // Whether a list ends where it begins.
 fn is_round(list: &[VertexId]) -> bool
     requires some { 0 < length list.now }
-    ensures round { MatchBool result (first list.now ≡ last list.now) (first list.now ≡ last list.now → ⊥) }
+    ensures round { Tells result (first list.now ≡ last list.now) }
 {
     list[0] == list[list.len() - 1]
 }
 
 // Whether a list is a closed list of neighbours.
 fn is_closed(mesh: &HalfMesh, list: &[VertexId]) -> bool
-    ensures closed { MatchBool result (IsClosedList mesh.now list.now) (IsClosedList mesh.now list.now → ⊥) }
+    ensures closed { Tells result (IsClosedList mesh.now list.now) }
 {
     if list.is_empty() {
         return false;
@@ -62,7 +64,7 @@ fn is_closed(mesh: &HalfMesh, list: &[VertexId]) -> bool
 
 /// The least place of a cycle that isn't a closed list of neighbours.
 pub(crate) fn first_open(mesh: &HalfMesh, cert: &BasisCert) -> Option<usize>
-    ensures first { MatchOption result (HoldsBelow (length cert.now.cycles) (IsCycleClosed mesh.now cert.now)) (FailsFirst (length cert.now.cycles) (IsCycleClosed mesh.now cert.now)) }
+    ensures first { FindsFirst (length cert.now.cycles) (IsCycleClosed mesh.now cert.now) result }
 {
     for place in 0..cert.cycles().len() {
         if !is_closed(mesh, cycle_from(cert, place)) {
@@ -79,10 +81,7 @@ pub(crate) fn step_edge(mesh: &HalfMesh, list: &[VertexId], i: usize) -> EdgeId
     ensures edge { result ≡ edge_number mesh.now (slice_index_or (steps list.now) i (0, 0)) }
     ensures inside { result < edge_count mesh.now }
 {
-    match edge_up(mesh, list[i], list[i + 1]) {
-        None => EdgeId::new(0),
-        Some(edge) => edge,
-    }
+    edge_between(mesh, list[i], list[i + 1])
 }
 
 /// How long a closed list of neighbours is.

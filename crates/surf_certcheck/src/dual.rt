@@ -1,10 +1,12 @@
 //! Whether rows are a tree of the faces.
-ghost use Rattle.std.specs.Prelude.{◌≡◌, ◌<◌, ◌==◌, if◌then◌else◌, true, MatchOption, MatchBool};
+ghost use Rattle.std.specs.Prelude.{◌≡◌, ◌<◌, ◌==◌, if◌then◌else◌, true};
+ghost use Rattle.std.specs.Prelude.{MatchOption, MatchBool};
 ghost use Rattle.surf_surfaces.specs.Mesh.{pair};
-ghost use Rattle.surf_surfaces.specs.Surface.{edge_count, face_count, face_at, faces_of, has_side, borders};
+ghost use Rattle.surf_surfaces.specs.Surface.{edge_count, face_count, face_at, faces_of, has_side};
+ghost use Rattle.surf_surfaces.specs.Surface.{borders};
 ghost use Rattle.surf_surfaces.specs.Walk.{edge_number};
 ghost use Rattle.surf_validity.specs.Valid.{IsDualRow};
-ghost use Rattle.surf_certcheck.specs.First.{HoldsBelow, FailsFirst};
+ghost use Rattle.surf_certcheck.specs.First.{HoldsBelow, FailsFirst, FindsFirst, Tells};
 ghost use Rattle.surf_certcheck.specs.Rows.{HasDualRows, HasDual};
 
 use crate::edges::faces_inside;
@@ -24,7 +26,9 @@ fn is_beside(mesh: &HalfMesh, f: FaceId, e: EdgeId) -> bool
 // The edge of a face between two vertices.
 pub(crate) fn edge_of_face(mesh: &HalfMesh, f: FaceId, u: VertexId, v: VertexId) -> Option<EdgeId>
     requires face { f < face_count mesh.now }
-    ensures edge { MatchOption result (has_side (pair u v) (face_at mesh.now f) ≡ true → ⊥) (λ e. (has_side (pair u v) (face_at mesh.now f) ≡ true) × (e < edge_count mesh.now) × (edge_number mesh.now (u, v) ≡ e)) }
+    ensures edge { MatchOption result (has_side (pair u v) (face_at mesh.now f) ≡ true → ⊥)
+        (λ e. (has_side (pair u v) (face_at mesh.now f) ≡ true) × (e < edge_count mesh.now)
+        × (edge_number mesh.now (u, v) ≡ e)) }
 {
     mesh.law_of_surface();
     match mesh.find_edge(u, v) {
@@ -36,7 +40,8 @@ pub(crate) fn edge_of_face(mesh: &HalfMesh, f: FaceId, u: VertexId, v: VertexId)
 // The face on the other side of an edge of a face.
 pub(crate) fn face_across(mesh: &HalfMesh, f: FaceId, e: EdgeId) -> FaceId
     requires edge { e < edge_count mesh.now }
-    ensures across { result ≡ (if f == (faces_of mesh.now e).0 then (faces_of mesh.now e).1 else (faces_of mesh.now e).0) }
+    ensures across { result ≡ (if f == (faces_of mesh.now e).0 then (faces_of mesh.now e).1
+        else (faces_of mesh.now e).0) }
     ensures inside { result < face_count mesh.now }
 {
     let (near, far) = faces_inside(mesh, e);
@@ -47,7 +52,7 @@ pub(crate) fn face_across(mesh: &HalfMesh, f: FaceId, e: EdgeId) -> FaceId
 fn has_dual(mesh: &HalfMesh, dual: &DualRows, f: FaceId, side: Option<(VertexId, VertexId)>) -> bool
     requires rows { HasDualRows mesh.now dual.now }
     requires face { f < face_count mesh.now }
-    ensures row { MatchBool result (IsDualRow mesh.now dual.now f side) (IsDualRow mesh.now dual.now f side → ⊥) }
+    ensures row { Tells result (IsDualRow mesh.now dual.now f side) }
 {
     let depth = dual.depth();
     match side {
@@ -65,7 +70,7 @@ fn has_dual(mesh: &HalfMesh, dual: &DualRows, f: FaceId, side: Option<(VertexId,
 /// The least face whose row isn't one of a tree of the faces.
 pub(crate) fn first_dual(mesh: &HalfMesh, dual: &DualRows) -> Option<FaceId>
     requires rows { HasDualRows mesh.now dual.now }
-    ensures first { MatchOption result (HoldsBelow (face_count mesh.now) (HasDual mesh.now dual.now)) (FailsFirst (face_count mesh.now) (HasDual mesh.now dual.now)) }
+    ensures first { FindsFirst (face_count mesh.now) (HasDual mesh.now dual.now) result }
 {
     for f in 0..mesh.faces() {
         let face = FaceId::new(f);

@@ -7,12 +7,26 @@ ghost use Rattle.surf_surfaces.specs.Walk.{edge_number};
 use surf_base::{EdgeId, FaceId, VertexId};
 use surf_mesh::HalfMesh;
 
-/// The edge between two vertices.
+/// The edge between two vertices, if there is one.
 pub(crate) fn edge_up(mesh: &HalfMesh, p: VertexId, v: VertexId) -> Option<EdgeId>
-    ensures edge { MatchOption result (Contains (edges mesh.now) (pair p v) → ⊥) (λ e. Contains (edges mesh.now) (pair p v) × (e < edge_count mesh.now) × (edge_number mesh.now (p, v) ≡ e) × (p < mesh.now.vertices)) }
+    ensures edge { MatchOption result (Contains (edges mesh.now) (pair p v) → ⊥)
+        (λ e. Contains (edges mesh.now) (pair p v) × (e < edge_count mesh.now)
+        × (edge_number mesh.now (p, v) ≡ e) × (p < mesh.now.vertices)) }
 {
     mesh.law_of_surface();
     mesh.find_edge(p, v)
+}
+
+/// The edge between two neighbours.
+pub(crate) fn edge_between(mesh: &HalfMesh, u: VertexId, v: VertexId) -> EdgeId
+    requires joined { Contains (edges mesh.now) (pair u v) }
+    ensures edge { result ≡ edge_number mesh.now (u, v) }
+    ensures inside { result < edge_count mesh.now }
+{
+    match edge_up(mesh, u, v) {
+        None => EdgeId::new(0),
+        Some(edge) => edge,
+    }
 }
 
 /// The ends of an edge, lesser end first, which are vertices.

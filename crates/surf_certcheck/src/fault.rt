@@ -18,7 +18,8 @@ pub enum CertPart {
     Base,
 }
 
-/// The first fault of a certificate, each with its least witness. The variants come in the order in which they are tested.
+/// The first fault of a certificate, each with its least witness. The variants come in the order in
+/// which they are tested.
 #[derive(Clone, Copy, Debug, PartialEq, Eq)]
 pub enum CertFault {
     /// The first part that doesn't fit the mesh.
@@ -30,7 +31,8 @@ pub enum CertFault {
         base: VertexId,
         vertex: VertexId,
     },
-    /// The base's distance isn't 0, or another vertex's isn't its parent's and the length of the edge to it.
+    /// The base's distance isn't 0, or another vertex's isn't its parent's and the length of the
+    /// edge to it.
     Distance {
         base: VertexId,
         vertex: VertexId,
@@ -41,22 +43,25 @@ pub enum CertFault {
         u: VertexId,
         v: VertexId,
     },
-    /// Face 0 has a side or a depth other than 0, or another face has no side, one that isn't its own, or a depth other
-    /// than one more than that of the face across.
+    /// Face 0 has a side or a depth other than 0, or another face has no side, one that isn't its
+    /// own, or a depth other than one more than that of the face across.
     Dual {
         face: FaceId,
     },
-    /// A pair that is listed as left isn't an edge, or an edge isn't in just one of the tree, the tree of faces and the list.
+    /// A pair that is listed as left isn't an edge, or an edge isn't in just one of the tree, the
+    /// tree of faces and the list.
     Split {
         u: VertexId,
         v: VertexId,
     },
-    /// Between the two faces of a left edge stands an edge of the tree of faces whose loop is shorter.
+    /// Between the two faces of a left edge stands an edge of the tree of faces whose loop is
+    /// shorter.
     Heavier {
         left: (VertexId, VertexId),
         cotree: (VertexId, VertexId),
     },
-    /// A cycle is empty, or has neighbours that no edge joins, or its ends differ. Cycles are counted from 0.
+    /// A cycle is empty, or has neighbours that no edge joins, or its ends differ. Cycles are
+    /// counted from 0.
     NotClosed {
         place: u32,
     },

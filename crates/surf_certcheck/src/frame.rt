@@ -1,14 +1,17 @@
 //! Coordinates in which each cycle of a certificate has a place of its own.
-ghost use Rattle.std.specs.Prelude.{◌≡◌, ◌≢◌, ◌<◌, ◌≤◌, ◌+◌, ℕ, IfOk, IfErr, MatchOption, MatchBool, All, length, true, None, map};
+ghost use Rattle.std.specs.Prelude.{◌≡◌, ◌≢◌, ◌<◌, ◌≤◌, ◌+◌, ℕ, IfOk};
+ghost use Rattle.std.specs.Prelude.{IfErr, MatchOption, MatchBool, All, length, true, None, map};
 ghost use Rattle.std.specs.List.{range_with_len};
 ghost use Rattle.surf_z2.specs.Sieve.{has};
 ghost use Rattle.surf_graphs.specs.Cells.{Split};
 ghost use Rattle.surf_surfaces.specs.Signature.{edge_signature, walk_signature};
 ghost use Rattle.surf_surfaces.specs.Surface.{edge_count};
 ghost use Rattle.surf_validity.specs.Bases.{IsClosedList, IsDependent, split_in};
-ghost use Rattle.surf_certcheck.specs.First.{HoldsBelow};
-ghost use Rattle.surf_certcheck.specs.BasisFaults.{IsCycleClosed, IsIndependentAt, DependsFirst, IsDependentFault};
+ghost use Rattle.surf_certcheck.specs.First.{HoldsBelow, Tells};
+ghost use Rattle.surf_certcheck.specs.BasisFaults.{IsCycleClosed, IsIndependentAt, DependsFirst};
+ghost use Rattle.surf_certcheck.specs.BasisFaults.{IsDependentFault};
 ghost use Rattle.surf_certcheck.specs.Frames.{AreTaken, IsPlacedUpTo, weight_at, IsFrameOf};
+ghost use Rattle.surf_certcheck.specs.Frames.{ArePlacedUpTo, edge_signatures};
 
 use crate::cycles::{cycle_from, length_of, step_edge};
 use crate::fault::CertFault;
@@ -20,12 +23,14 @@ use surf_lengths::Lengths;
 use surf_mesh::HalfMesh;
 use surf_signatures::Signs;
 
-/// The coordinates of all edges in which each cycle is a place alone, and for each place the length of its cycle.
+/// The coordinates of all edges in which each cycle is a place alone, and for each place the length
+/// of its cycle.
 ///
-/// This is C. Jordan's elimination. The coordinates are first the signatures. One cycle after the other gets a place
-/// that it has and no earlier one got: where an edge has that place, the rest of the cycle is added. The map of signatures
-/// to coordinates takes sums to sums and can be undone, so a signature is a sum of those of some of the cycles exactly
-/// where its coordinates are among their places.
+/// This is C. Jordan's elimination. The coordinates are first the signatures. One cycle after the
+/// other gets a place that it has and no earlier one got: where an edge has that place, the rest of
+/// the cycle is added. The map of signatures to coordinates takes sums to sums and can be undone,
+/// so a signature is a sum of those of some of the cycles exactly where its coordinates are among
+/// their places.
 #[derive(Drop)]
 pub(crate) struct Frame {
     pub(crate) signs: Signs,
@@ -36,7 +41,8 @@ pub(crate) struct Frame {
 fn cycle_set(mesh: &HalfMesh, signs: &Signs, list: &[VertexId]) -> Signature
     requires closed { IsClosedList mesh.now list.now }
     requires count { length signs.now.sets ≡ edge_count mesh.now }
-    ensures sum { (d : Split) (to : ℕ → ℕ) → AreTaken mesh.now d to signs.now.sets → result ≡ to (walk_signature mesh.now d list.now) }
+    ensures sum { (d : Split) (to : ℕ → ℕ) → AreTaken mesh.now d to signs.now.sets
+        → result ≡ to (walk_signature mesh.now d list.now) }
 {
     let mut sum = Signature::zero();
     for i in 0..list.len() - 1 {
@@ -48,7 +54,10 @@ fn cycle_set(mesh: &HalfMesh, signs: &Signs, list: &[VertexId]) -> Signature
 // A place of a set that no cycle has got.
 fn free_place(set: &Signature, weights: &[Option<u128>]) -> Option<usize>
     requires few { length weights.now ≤ 1024 }
-    ensures free { MatchOption result ((k : ℕ) → k < length weights.now → has set.now k ≡ true → weight_at weights.now k ≢ None) (λ k. (k < length weights.now) × (has set.now k ≡ true) × (weight_at weights.now k ≡ None)) }
+    ensures free { MatchOption result
+        ((k : ℕ) → k < length weights.now → has set.now k ≡ true → weight_at weights.now k ≢ None)
+        (λ k. (k < length weights.now) × (has set.now k ≡ true)
+        × (weight_at weights.now k ≡ None)) }
 {
     for k in 0..weights.len() {
         if weights[k].is_none() && set.bits().bit(k as u32) {
@@ -61,7 +70,7 @@ fn free_place(set: &Signature, weights: &[Option<u128>]) -> Option<usize>
 // Whether all places of a set are those of cycles no longer than a limit.
 pub(crate) fn is_placed(set: &Signature, weights: &[Option<u128>], limit: u128) -> bool
     requires few { length weights.now ≤ 1024 }
-    ensures placed { MatchBool result ((k : ℕ) → k < length weights.now → has set.now k ≡ true → IsPlacedUpTo limit (weight_at weights.now k)) (((k : ℕ) → k < length weights.now → has set.now k ≡ true → IsPlacedUpTo limit (weight_at weights.now k)) → ⊥) }
+    ensures placed { Tells result (ArePlacedUpTo limit weights.now set.now) }
 {
     if set.bits().is_empty() {
         return true;
@@ -76,7 +85,7 @@ pub(crate) fn is_placed(set: &Signature, weights: &[Option<u128>], limit: u128) 
 
 // Whether a cycle has the place and is no longer than a limit.
 fn is_up_to(weight: Option<u128>, limit: u128) -> bool
-    ensures up_to { MatchBool result (IsPlacedUpTo limit weight) (IsPlacedUpTo limit weight → ⊥) }
+    ensures up_to { Tells result (IsPlacedUpTo limit weight) }
 {
     match weight {
         None => false,
@@ -84,7 +93,8 @@ fn is_up_to(weight: Option<u128>, limit: u128) -> bool
     }
 }
 
-// Gives the cycle at a place of the list a coordinate of its own, or none where its signature is a sum of those before it.
+// Gives the cycle at a place of the list a coordinate of its own, or none where its signature is a
+// sum of those before it.
 fn admit(
     mesh: &HalfMesh,
     lengths: &Lengths,
@@ -103,7 +113,10 @@ fn admit(
     ensures width { signs.new.width ≡ signs.old.width }
     ensures count { length signs.new.sets ≡ edge_count mesh.now }
     ensures places { length weights.new ≡ signs.new.width }
-    ensures admitted { MatchBool result (IsIndependentAt mesh.now cert.now place × IsFrameOf mesh.now lengths.now cert.now (place + 1) signs.new weights.new) (IsDependent mesh.now cert.now place) }
+    ensures admitted { MatchBool result
+        (IsIndependentAt mesh.now cert.now place
+        × IsFrameOf mesh.now lengths.now cert.now (place + 1) signs.new weights.new)
+        (IsDependent mesh.now cert.now place) }
 {
     let list = cycle_from(cert, place);
     let mut rest = cycle_set(mesh, signs, list);
@@ -118,7 +131,8 @@ fn admit(
     }
 }
 
-// Gives one cycle after the other a place of its own, up to the first whose signature is a sum of those before it.
+// Gives one cycle after the other a place of its own, up to the first whose signature is a sum of
+// those before it.
 fn admit_all(
     mesh: &HalfMesh,
     lengths: &Lengths,
@@ -135,7 +149,10 @@ fn admit_all(
     ensures count { length signs.new.sets ≡ edge_count mesh.now }
     ensures width { signs.new.width ≡ signs.old.width }
     ensures places { length weights.new ≡ signs.old.width }
-    ensures frame { MatchOption result (HoldsBelow (length cert.now.cycles) (IsIndependentAt mesh.now cert.now) × IsFrameOf mesh.now lengths.now cert.now (length cert.now.cycles) signs.new weights.new) (DependsFirst mesh.now cert.now) }
+    ensures frame { MatchOption result
+        (HoldsBelow (length cert.now.cycles) (IsIndependentAt mesh.now cert.now)
+        × IsFrameOf mesh.now lengths.now cert.now (length cert.now.cycles) signs.new weights.new)
+        (DependsFirst mesh.now cert.now) }
 {
     for place in 0..cert.cycles().len() {
         if !admit(mesh, lengths, cert, place, signs, weights) {
@@ -153,8 +170,8 @@ fn no_weights(alloc: Global, count: usize) -> Result<Vec<Option<u128>>, NoMemory
     Ok(vec![in alloc; None; count]?)
 }
 
-/// The frame of the cycles over the signatures of the edges, or the least place of a cycle whose signature is a sum of
-/// those before it.
+/// The frame of the cycles over the signatures of the edges, or the least place of a cycle whose
+/// signature is a sum of those before it.
 pub(crate) fn frame_cycles(
     alloc: Global,
     mesh: &HalfMesh,
@@ -167,9 +184,11 @@ pub(crate) fn frame_cycles(
     requires places { length cert.now.cycles ≡ length (split_in mesh.now cert.now).left }
     requires width { signs.width ≡ length cert.now.cycles }
     requires few { signs.width ≤ 1024 }
-    requires signed { signs.sets ≡ map (edge_signature mesh.now (split_in mesh.now cert.now)) (range_with_len 0 (edge_count mesh.now)) }
-    ensures independent { IfOk result (λ f. HoldsBelow (length cert.now.cycles) (IsIndependentAt mesh.now cert.now)) }
-    ensures frame { IfOk result (λ f. IsFrameOf mesh.now lengths.now cert.now (length cert.now.cycles) f.signs f.weights.items) }
+    requires signed { signs.sets ≡ edge_signatures mesh.now (split_in mesh.now cert.now) }
+    ensures independent { IfOk result (λ f.
+        HoldsBelow (length cert.now.cycles) (IsIndependentAt mesh.now cert.now)) }
+    ensures frame { IfOk result (λ f. IsFrameOf mesh.now lengths.now cert.now
+        (length cert.now.cycles) f.signs f.weights.items) }
     ensures count { IfOk result (λ f. length f.signs.sets ≡ edge_count mesh.now) }
     ensures width { IfOk result (λ f. f.signs.width ≡ length cert.now.cycles) }
     ensures places { IfOk result (λ f. length f.weights.items ≡ length cert.now.cycles) }

@@ -1,5 +1,6 @@
 //! The tree of faces that a certificate says, as tables of edges and faces.
-ghost use Rattle.std.specs.Prelude.{◌≡◌, ◌≢◌, ◌<◌, ◌==◌, ℕ, IfOk, length, get_or, false, true};
+ghost use Rattle.std.specs.Prelude.{◌≡◌, ◌≢◌, ◌<◌, ◌==◌, ℕ, IfOk, length};
+ghost use Rattle.std.specs.Prelude.{get_or, false, true};
 ghost use Rattle.surf_z2.specs.Parity.{xor};
 ghost use Rattle.surf_graphs.specs.Trees.{on_path};
 ghost use Rattle.surf_surfaces.specs.Mesh.{pair};
@@ -7,7 +8,8 @@ ghost use Rattle.surf_surfaces.specs.Surface.{edge_count, face_count, face_at, h
 ghost use Rattle.surf_validity.specs.Valid.{dual_tree, IsDualRow};
 ghost use Rattle.surf_certcheck.specs.First.{HoldsBelow};
 ghost use Rattle.surf_certcheck.specs.Rows.{HasDualRows, HasDual};
-ghost use Rattle.surf_certcheck.specs.Paths.{AreLinks, IsLinkOver, HasLink, IsStepUp};
+ghost use Rattle.surf_certcheck.specs.Paths.{AreLinks, IsLinkOver, HasLink, IsStepUp, AreAllLinks};
+ghost use Rattle.surf_certcheck.specs.Split.{AreTurned};
 
 use crate::dual::{edge_of_face, face_across};
 use std::alloc::Global;
@@ -15,7 +17,8 @@ use surf_base::{EdgeId, FaceId, NoMemory, VertexId};
 use surf_cert::DualRows;
 use surf_mesh::HalfMesh;
 
-/// For each face but face 0, the number of the face that it hangs on and that of the edge between them.
+/// For each face but face 0, the number of the face that it hangs on and that of the edge between
+/// them.
 #[derive(Drop)]
 pub(crate) struct Links {
     pub(crate) parent: Vec<u32>,
@@ -55,7 +58,7 @@ fn link_over(
 pub(crate) fn link_faces(alloc: Global, mesh: &HalfMesh, dual: &DualRows) -> Result<Links, NoMemory>
     requires rows { HasDualRows mesh.now dual.now }
     requires tree { HoldsBelow (face_count mesh.now) (HasDual mesh.now dual.now) }
-    ensures links { IfOk result (λ l. AreLinks mesh.now dual.now (face_count mesh.now) l.parent.items l.up.items) }
+    ensures links { IfOk result (AreAllLinks mesh.now dual.now) }
 {
     let count = mesh.faces();
     let mut parent = Vec::with_capacity(alloc, count as usize)?;
@@ -76,7 +79,7 @@ pub(crate) fn step_up(
     at: FaceId,
 ) -> (FaceId, EdgeId)
     requires tree { HoldsBelow (face_count mesh.now) (HasDual mesh.now dual.now) }
-    requires links { AreLinks mesh.now dual.now (face_count mesh.now) links.now.parent.items links.now.up.items }
+    requires links { AreAllLinks mesh.now dual.now links.now }
     requires face { at < face_count mesh.now }
     requires below { at ≢ 0 }
     ensures step { IsStepUp mesh.now dual.now at result.0 result.1 }
@@ -95,11 +98,11 @@ pub(crate) fn turn_path(
     face: FaceId,
 )
     requires tree { HoldsBelow (face_count mesh.now) (HasDual mesh.now dual.now) }
-    requires links { AreLinks mesh.now dual.now (face_count mesh.now) links.now.parent.items links.now.up.items }
+    requires links { AreAllLinks mesh.now dual.now links.now }
     requires face { face < face_count mesh.now }
     requires count { length flags.old ≡ edge_count mesh.now }
     ensures count { length flags.new ≡ edge_count mesh.now }
-    ensures turned { (e : ℕ) → get_or flags.new e false ≡ xor (get_or flags.old e false) (on_path (dual_tree mesh.now dual.now) face e) }
+    ensures turned { AreTurned flags.old flags.new (on_path (dual_tree mesh.now dual.now) face) }
 {
     mesh.law_of_surface();
     let mut at = face;
@@ -114,7 +117,7 @@ pub(crate) fn turn_path(
 fn turn(flags: &mut [bool], edge: EdgeId)
     requires edge { edge < length flags.old }
     ensures count { length flags.new ≡ length flags.old }
-    ensures turned { (e : ℕ) → get_or flags.new e false ≡ xor (get_or flags.old e false) (edge == e) }
+    ensures turned { AreTurned flags.old flags.new (λ e. edge == e) }
 {
     flags[edge.index()] = !flags[edge.index()];
 }

@@ -1,11 +1,13 @@
 //! Whether a certificate of loops is valid.
-ghost use Rattle.std.specs.Prelude.{◌≡◌, ◌≢◌, ◌<◌, ℕ, ◌^◌, IfOk, IfErr, MatchOption, length, map, sum, All, Contains};
+ghost use Rattle.std.specs.Prelude.{◌≡◌, ◌≢◌, ◌<◌, ℕ, ◌^◌, IfOk, IfErr};
+ghost use Rattle.std.specs.Prelude.{MatchOption, length, map, sum, All, Contains};
 ghost use Rattle.surf_surfaces.specs.Mesh.{edges, pair, pair_of};
 ghost use Rattle.surf_surfaces.specs.Surface.{edge_count, face_count};
 ghost use Rattle.surf_surfaces.specs.Walk.{edge_number};
 ghost use Rattle.surf_surfaces.specs.Homology.{total, IsLeastLoopSystem};
 ghost use Rattle.surf_surfaces.specs.Places.{IsLeastLoopSystemInOrder};
-ghost use Rattle.surf_validity.specs.Valid.{HasShape, IsTreeValid, IsDualValid, IsValidLoops, HasNoShorter};
+ghost use Rattle.surf_validity.specs.Valid.{HasShape, IsTreeValid, IsDualValid, IsValidLoops};
+ghost use Rattle.surf_validity.specs.Valid.{HasNoShorter};
 ghost use Rattle.surf_validity.specs.Valid.{is_listed, loop_size, certified_loops, loops_total};
 ghost use Rattle.surf_certcheck.specs.First.{HoldsBelow};
 ghost use Rattle.surf_certcheck.specs.Split.{AreFlags};
@@ -14,9 +16,9 @@ ghost use Rattle.surf_certcheck.specs.LoopFaults.{IsTreeFault, IsHeavierFault, I
 ghost use Rattle.surf_certcheck.specs.declared.fault.CertFault.TheVariants.{Memory};
 
 use crate::dual::first_dual;
-use crate::edges::{edge_up, ends_inside};
+use crate::edges::{edge_between, ends_inside};
 use crate::fault::CertFault;
-use crate::heavier::{first_heavier, size_of};
+use crate::heavier::{Judge, size_of};
 use crate::links::link_faces;
 use crate::marks::no_flags;
 use crate::shape::loop_shape;
@@ -32,7 +34,8 @@ use surf_mesh::HalfMesh;
 fn tree_fault(mesh: &HalfMesh, lengths: &Lengths, rows: &TreeRows) -> Option<CertFault>
     requires rows { HasTreeRows mesh.now rows.now }
     requires lengths { length lengths.now ≡ edge_count mesh.now }
-    ensures fault { MatchOption result (IsTreeValid mesh.now lengths.now rows.now) (IsTreeFault mesh.now lengths.now rows.now) }
+    ensures fault { MatchOption result (IsTreeValid mesh.now lengths.now rows.now)
+        (IsTreeFault mesh.now lengths.now rows.now) }
 {
     let base = rows.base();
     if let Some(vertex) = first_parent(mesh, rows) {
@@ -48,26 +51,6 @@ fn tree_fault(mesh: &HalfMesh, lengths: &Lengths, rows: &TreeRows) -> Option<Cer
     None
 }
 
-// How long the loop of the edge between two vertices is.
-fn size_between(
-    mesh: &HalfMesh,
-    lengths: &Lengths,
-    rows: &TreeRows,
-    u: VertexId,
-    v: VertexId,
-) -> u128
-    requires rows { HasTreeRows mesh.now rows.now }
-    requires lengths { length lengths.now ≡ edge_count mesh.now }
-    requires edge { Contains (edges mesh.now) (pair u v) }
-    ensures size { result ≡ loop_size mesh.now lengths.now rows.now (edge_number mesh.now (u, v)) }
-    ensures small { result < 2 ^ 66 }
-{
-    match edge_up(mesh, u, v) {
-        None => 0,
-        Some(e) => size_of(mesh, lengths, rows, e),
-    }
-}
-
 // The sum of the lengths of the loops of the left edges.
 fn total_of(
     mesh: &HalfMesh,
@@ -78,12 +61,13 @@ fn total_of(
     requires rows { HasTreeRows mesh.now rows.now }
     requires lengths { length lengths.now ≡ edge_count mesh.now }
     requires edges { All (λ p. Contains (edges mesh.now) (pair_of p)) left.now }
-    ensures total { result ≡ sum (map (λ p. loop_size mesh.now lengths.now rows.now (edge_number mesh.now p)) left.now) }
+    ensures total { result
+        ≡ sum (map (λ p. loop_size mesh.now lengths.now rows.now (edge_number mesh.now p)) left.now) }
 {
     let mut total = 0u128;
     for i in 0..left.len() {
         let (u, v) = left[i];
-        total += size_between(mesh, lengths, rows, u, v);
+        total += size_of(mesh, lengths, rows, edge_between(mesh, u, v));
     }
     total
 }
@@ -100,12 +84,21 @@ fn heavier_fault(
     requires faces { HasDualRows mesh.now cert.now.dual }
     requires lengths { length lengths.now ≡ edge_count mesh.now }
     requires tree { HoldsBelow (face_count mesh.now) (HasDual mesh.now cert.now.dual) }
-    requires marks { AreFlags (edge_count mesh.now) (is_listed mesh.now cert.now.left) marks.now.left.items }
-    ensures fault { IfOk result (λ o. MatchOption o (HoldsBelow (edge_count mesh.now) (HasNoShorter mesh.now lengths.now cert.now)) (IsHeavierFault mesh.now lengths.now cert.now)) }
+    requires marks { AreFlags (edge_count mesh.now) (is_listed mesh.now cert.now.left)
+        marks.now.left.items }
+    ensures fault { IfOk result (λ o. MatchOption o
+        (HoldsBelow (edge_count mesh.now) (HasNoShorter mesh.now lengths.now cert.now))
+        (IsHeavierFault mesh.now lengths.now cert.now)) }
 {
     let links = link_faces(alloc, mesh, cert.dual())?;
     let mut flags = no_flags(alloc, mesh)?;
-    match first_heavier(mesh, lengths, cert, &links, &marks.left, &mut flags) {
+    let judge = Judge {
+        mesh,
+        lengths,
+        cert,
+        links: &links,
+    };
+    match judge.first_heavier(&marks.left, &mut flags) {
         None => Ok(None),
         Some((l, c)) => Ok(Some(CertFault::Heavier {
             left: ends_inside(mesh, l),
@@ -125,7 +118,8 @@ fn check_edges(
     requires lengths { length lengths.now ≡ edge_count mesh.now }
     requires tree { IsTreeValid mesh.now lengths.now cert.now.tree }
     requires dual { IsDualValid mesh.now cert.now.dual }
-    ensures valid { IfOk result (λ t. IsValidLoops mesh.now lengths.now cert.now × (t ≡ loops_total mesh.now lengths.now cert.now)) }
+    ensures valid { IfOk result (λ t. IsValidLoops mesh.now lengths.now cert.now
+        × (t ≡ loops_total mesh.now lengths.now cert.now)) }
     ensures fault { IfErr result (IsLoopFault mesh.now lengths.now cert.now) }
 {
     let (rows, dual, left) = (cert.tree(), cert.dual(), cert.left());
@@ -139,9 +133,10 @@ fn check_edges(
     }
 }
 
-/// The total of the loops of a valid certificate, which is then the least of all loop systems at its base, and they are
-/// least place by place too: see `surf_validity`. A certificate that isn't valid is refused with its first fault, in the
-/// order of [`CertFault`]. It asks nothing of the certificate.
+/// The total of the loops of a valid certificate, which is then the least of all loop systems at
+/// its base, and they are least place by place too: see `surf_validity`. A certificate that isn't
+/// valid is refused with its first fault, in the order of [`CertFault`]. It asks nothing of the
+/// certificate.
 pub fn check_loops(
     alloc: Global,
     mesh: &HalfMesh,
@@ -149,11 +144,16 @@ pub fn check_loops(
     cert: &LoopCert,
 ) -> Result<u128, CertFault>
     requires lengths { length lengths.now ≡ edge_count mesh.now }
-    ensures valid { IfOk result (λ t. IsValidLoops mesh.now lengths.now cert.now × (t ≡ loops_total mesh.now lengths.now cert.now)) }
-    ensures least { IfOk result (λ t. IsLeastLoopSystem mesh.now lengths.now cert.now.tree.base (certified_loops mesh.now cert.now) × (t ≡ total mesh.now lengths.now (certified_loops mesh.now cert.now))) }
-    ensures in_order { IfOk result (λ t. IsLeastLoopSystemInOrder mesh.now lengths.now cert.now.tree.base (certified_loops mesh.now cert.now)) }
+    ensures valid { IfOk result (λ t. IsValidLoops mesh.now lengths.now cert.now
+        × (t ≡ loops_total mesh.now lengths.now cert.now)) }
+    ensures least { IfOk result (λ t.
+        IsLeastLoopSystem mesh.now lengths.now cert.now.tree.base (certified_loops mesh.now cert.now)
+        × (t ≡ total mesh.now lengths.now (certified_loops mesh.now cert.now))) }
+    ensures in_order { IfOk result (λ t. IsLeastLoopSystemInOrder mesh.now lengths.now
+        cert.now.tree.base (certified_loops mesh.now cert.now)) }
     ensures fault { IfErr result (IsLoopFault mesh.now lengths.now cert.now) }
-    ensures excludes { IfErr result (λ e. e ≢ Memory → IsValidLoops mesh.now lengths.now cert.now → ⊥) }
+    ensures excludes { IfErr result (λ e. e ≢ Memory
+        → IsValidLoops mesh.now lengths.now cert.now → ⊥) }
 {
     mesh.law_of_surface();
     lengths.law_of_lengths();

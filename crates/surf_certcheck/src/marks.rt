@@ -1,8 +1,10 @@
-//! Flags by edge number: which edges lead to a parent, which are sides of the rows of faces, and which are listed.
+//! Flags by edge number: which edges lead to a parent, which are sides of the rows of faces, and
+//! which are listed.
 ghost use Rattle.std.specs.Prelude.{◌≡◌, ◌<◌, ◌||◌, ℕ, IfOk, length, get_or, false};
 ghost use Rattle.surf_surfaces.specs.Mesh.{pair, pair_eq};
 ghost use Rattle.surf_surfaces.specs.Surface.{edge_count, face_count, ends};
-ghost use Rattle.surf_validity.specs.Valid.{parent_at, side_at, leads_up, is_side, is_parent_edge, is_dual_edge, is_listed};
+ghost use Rattle.surf_validity.specs.Valid.{parent_at, side_at, leads_up, is_side, is_parent_edge};
+ghost use Rattle.surf_validity.specs.Valid.{is_dual_edge, is_listed};
 ghost use Rattle.surf_certcheck.specs.Rows.{HasTreeRows, HasDualRows};
 ghost use Rattle.surf_certcheck.specs.Split.{AreFlags, none};
 
@@ -15,7 +17,8 @@ use surf_mesh::HalfMesh;
 fn flag_edge(mesh: &HalfMesh, flags: &mut [bool], u: VertexId, v: VertexId)
     requires count { length flags.old ≡ edge_count mesh.now }
     ensures count { length flags.new ≡ edge_count mesh.now }
-    ensures flagged { (e : ℕ) → e < edge_count mesh.now → get_or flags.new e false ≡ (pair_eq (ends mesh.now e) (pair u v) || get_or flags.old e false) }
+    ensures flagged { (e : ℕ) → e < edge_count mesh.now → get_or flags.new e false
+        ≡ (pair_eq (ends mesh.now e) (pair u v) || get_or flags.old e false) }
 {
     mesh.law_of_surface();
     if let Some(edge) = mesh.find_edge(u, v) {
@@ -29,7 +32,8 @@ fn flag_parent(mesh: &HalfMesh, flags: &mut [bool], rows: &TreeRows, v: u32)
     requires rows { HasTreeRows mesh.now rows.now }
     requires vertex { v < mesh.now.vertices }
     ensures count { length flags.new ≡ edge_count mesh.now }
-    ensures flagged { (e : ℕ) → e < edge_count mesh.now → get_or flags.new e false ≡ (leads_up mesh.now e v (parent_at rows.now v) || get_or flags.old e false) }
+    ensures flagged { (e : ℕ) → e < edge_count mesh.now → get_or flags.new e false
+        ≡ (leads_up mesh.now e v (parent_at rows.now v) || get_or flags.old e false) }
 {
     let vertex = VertexId::new(v);
     match rows.parent()[vertex.index()] {
@@ -44,7 +48,8 @@ fn flag_side(mesh: &HalfMesh, flags: &mut [bool], dual: &DualRows, f: u32)
     requires rows { HasDualRows mesh.now dual.now }
     requires face { f < face_count mesh.now }
     ensures count { length flags.new ≡ edge_count mesh.now }
-    ensures flagged { (e : ℕ) → e < edge_count mesh.now → get_or flags.new e false ≡ (is_side mesh.now e (side_at dual.now f) || get_or flags.old e false) }
+    ensures flagged { (e : ℕ) → e < edge_count mesh.now → get_or flags.new e false
+        ≡ (is_side mesh.now e (side_at dual.now f) || get_or flags.old e false) }
 {
     match dual.side()[FaceId::new(f).index()] {
         None => {}
@@ -52,8 +57,8 @@ fn flag_side(mesh: &HalfMesh, flags: &mut [bool], dual: &DualRows, f: u32)
     }
 }
 
-// Flags the edges from all vertices to their parents.
-fn flag_parents(mesh: &HalfMesh, flags: &mut [bool], rows: &TreeRows)
+/// Flags the edges from all vertices to their parents.
+pub(crate) fn flag_parents(mesh: &HalfMesh, flags: &mut [bool], rows: &TreeRows)
     requires rows { HasTreeRows mesh.now rows.now }
     requires none { AreFlags (edge_count mesh.now) none flags.old }
     ensures flags { AreFlags (edge_count mesh.now) (is_parent_edge mesh.now rows.now) flags.new }
@@ -64,8 +69,8 @@ fn flag_parents(mesh: &HalfMesh, flags: &mut [bool], rows: &TreeRows)
     }
 }
 
-// Flags the edges that are sides of the rows of all faces.
-fn flag_sides(mesh: &HalfMesh, flags: &mut [bool], dual: &DualRows)
+/// Flags the edges that are sides of the rows of all faces.
+pub(crate) fn flag_sides(mesh: &HalfMesh, flags: &mut [bool], dual: &DualRows)
     requires rows { HasDualRows mesh.now dual.now }
     requires none { AreFlags (edge_count mesh.now) none flags.old }
     ensures flags { AreFlags (edge_count mesh.now) (is_dual_edge mesh.now dual.now) flags.new }
@@ -76,8 +81,8 @@ fn flag_sides(mesh: &HalfMesh, flags: &mut [bool], dual: &DualRows)
     }
 }
 
-// Flags the edges that are listed.
-fn flag_listed(mesh: &HalfMesh, flags: &mut [bool], left: &[(VertexId, VertexId)])
+/// Flags the edges that are listed.
+pub(crate) fn flag_listed(mesh: &HalfMesh, flags: &mut [bool], left: &[(VertexId, VertexId)])
     requires none { AreFlags (edge_count mesh.now) none flags.old }
     ensures flags { AreFlags (edge_count mesh.now) (is_listed mesh.now left.now) flags.new }
 {
@@ -88,50 +93,9 @@ fn flag_listed(mesh: &HalfMesh, flags: &mut [bool], left: &[(VertexId, VertexId)
     }
 }
 
-// No edge is flagged yet.
+/// No edge is flagged yet.
 pub(crate) fn no_flags(alloc: Global, mesh: &HalfMesh) -> Result<Vec<bool>, NoMemory>
     ensures none { IfOk result (λ v. AreFlags (edge_count mesh.now) none v.items) }
 {
     Ok(vec![in alloc; false; mesh.edges() as usize]?)
-}
-
-/// Which edges lead from a vertex to its parent.
-pub(crate) fn parent_flags(
-    alloc: Global,
-    mesh: &HalfMesh,
-    rows: &TreeRows,
-) -> Result<Vec<bool>, NoMemory>
-    requires rows { HasTreeRows mesh.now rows.now }
-    ensures flags { IfOk result (λ v. AreFlags (edge_count mesh.now) (is_parent_edge mesh.now rows.now) v.items) }
-{
-    let mut flags = no_flags(alloc, mesh)?;
-    flag_parents(mesh, &mut flags, rows);
-    Ok(flags)
-}
-
-/// Which edges are sides of the rows of faces.
-pub(crate) fn dual_flags(
-    alloc: Global,
-    mesh: &HalfMesh,
-    dual: &DualRows,
-) -> Result<Vec<bool>, NoMemory>
-    requires rows { HasDualRows mesh.now dual.now }
-    ensures flags { IfOk result (λ v. AreFlags (edge_count mesh.now) (is_dual_edge mesh.now dual.now) v.items) }
-{
-    let mut flags = no_flags(alloc, mesh)?;
-    flag_sides(mesh, &mut flags, dual);
-    Ok(flags)
-}
-
-/// Which edges are listed.
-pub(crate) fn left_flags(
-    alloc: Global,
-    mesh: &HalfMesh,
-    left: &[(VertexId, VertexId)],
-) -> Result<Vec<bool>, NoMemory>
-    ensures flags { IfOk result (λ v. AreFlags (edge_count mesh.now) (is_listed mesh.now left.now) v.items) }
-{
-    let mut flags = no_flags(alloc, mesh)?;
-    flag_listed(mesh, &mut flags, left);
-    Ok(flags)
 }

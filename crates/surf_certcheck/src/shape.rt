@@ -4,7 +4,7 @@ ghost use Rattle.surf_surfaces.specs.Homology.{IsFullCount};
 ghost use Rattle.surf_validity.specs.Bases.{tree_at};
 ghost use Rattle.surf_validity.specs.Bases.{HasBasisShape};
 ghost use Rattle.surf_validity.specs.Valid.{HasShape};
-ghost use Rattle.surf_certcheck.specs.First.{HoldsBelow};
+ghost use Rattle.surf_certcheck.specs.First.{HoldsBelow, Tells};
 ghost use Rattle.surf_certcheck.specs.Rows.{HasTreeRows, HasDualRows};
 ghost use Rattle.surf_certcheck.specs.LoopFaults.{IsShapeFault};
 ghost use Rattle.surf_certcheck.specs.BasisFaults.{HasBase, HasTrees, HasCounts, IsBasisShapeFault};
@@ -16,7 +16,7 @@ use surf_mesh::HalfMesh;
 
 /// Whether there is a row for each vertex.
 pub(crate) fn fits_vertices(mesh: &HalfMesh, rows: &TreeRows) -> bool
-    ensures fits { MatchBool result (HasTreeRows mesh.now rows.now) (HasTreeRows mesh.now rows.now → ⊥) }
+    ensures fits { Tells result (HasTreeRows mesh.now rows.now) }
 {
     let count = mesh.vertices() as usize;
     rows.distance().len() == count && rows.parent().len() == count
@@ -24,7 +24,7 @@ pub(crate) fn fits_vertices(mesh: &HalfMesh, rows: &TreeRows) -> bool
 
 /// Whether there is a row for each face.
 pub(crate) fn fits_faces(mesh: &HalfMesh, dual: &DualRows) -> bool
-    ensures fits { MatchBool result (HasDualRows mesh.now dual.now) (HasDualRows mesh.now dual.now → ⊥) }
+    ensures fits { Tells result (HasDualRows mesh.now dual.now) }
 {
     let count = mesh.faces() as usize;
     dual.depth().len() == count && dual.side().len() == count
@@ -32,7 +32,7 @@ pub(crate) fn fits_faces(mesh: &HalfMesh, dual: &DualRows) -> bool
 
 /// Whether a number is two less the characteristic.
 pub(crate) fn is_full_count(mesh: &HalfMesh, count: usize) -> bool
-    ensures full { MatchBool result (IsFullCount mesh.now count) (IsFullCount mesh.now count → ⊥) }
+    ensures full { Tells result (IsFullCount mesh.now count) }
 {
     let most = u128::from(mesh.edges()) + 2;
     count as u128 + u128::from(mesh.vertices()) + u128::from(mesh.faces()) == most
@@ -40,7 +40,8 @@ pub(crate) fn is_full_count(mesh: &HalfMesh, count: usize) -> bool
 
 /// The first part of a loop certificate that doesn't fit the mesh.
 pub(crate) fn loop_shape(mesh: &HalfMesh, cert: &LoopCert) -> Option<CertPart>
-    ensures shape { MatchOption result (HasShape mesh.now cert.now) (IsShapeFault mesh.now cert.now) }
+    ensures shape { MatchOption result (HasShape mesh.now cert.now)
+        (IsShapeFault mesh.now cert.now) }
 {
     if !fits_vertices(mesh, cert.tree()) {
         return Some(CertPart::Vertices);
@@ -67,7 +68,7 @@ pub(crate) fn tree_from(cert: &BasisCert, x: VertexId) -> &TreeRows
 
 // Whether there is a tree for each vertex, with a row for each vertex.
 fn fits_trees(mesh: &HalfMesh, cert: &BasisCert) -> bool
-    ensures fits { MatchBool result (HasTrees mesh.now cert.now) (HasTrees mesh.now cert.now → ⊥) }
+    ensures fits { Tells result (HasTrees mesh.now cert.now) }
 {
     if cert.trees().len() != mesh.vertices() as usize {
         return false;
@@ -82,7 +83,7 @@ fn fits_trees(mesh: &HalfMesh, cert: &BasisCert) -> bool
 
 // Whether there are as many left pairs and as many cycles as two less the characteristic.
 fn fits_counts(mesh: &HalfMesh, cert: &BasisCert) -> bool
-    ensures fits { MatchBool result (HasCounts mesh.now cert.now) (HasCounts mesh.now cert.now → ⊥) }
+    ensures fits { Tells result (HasCounts mesh.now cert.now) }
 {
     is_full_count(mesh, cert.left().len()) && is_full_count(mesh, cert.cycles().len())
 }
@@ -90,7 +91,7 @@ fn fits_counts(mesh: &HalfMesh, cert: &BasisCert) -> bool
 // Whether the base of each tree is its place.
 fn fits_bases(mesh: &HalfMesh, cert: &BasisCert) -> bool
     requires trees { HasTrees mesh.now cert.now }
-    ensures fits { MatchBool result (HoldsBelow mesh.now.vertices (HasBase cert.now)) (HoldsBelow mesh.now.vertices (HasBase cert.now) → ⊥) }
+    ensures fits { Tells result (HoldsBelow mesh.now.vertices (HasBase cert.now)) }
 {
     for x in 0..mesh.vertices() {
         let place = VertexId::new(x);
@@ -103,7 +104,8 @@ fn fits_bases(mesh: &HalfMesh, cert: &BasisCert) -> bool
 
 /// The first part of a basis certificate that doesn't fit the mesh.
 pub(crate) fn basis_shape(mesh: &HalfMesh, cert: &BasisCert) -> Option<CertPart>
-    ensures shape { MatchOption result (HasBasisShape mesh.now cert.now) (IsBasisShapeFault mesh.now cert.now) }
+    ensures shape { MatchOption result (HasBasisShape mesh.now cert.now)
+        (IsBasisShapeFault mesh.now cert.now) }
 {
     if !fits_trees(mesh, cert) {
         return Some(CertPart::Vertices);

@@ -6,7 +6,7 @@ ghost use Rattle.surf_surfaces.specs.Surface.{edge_count, face_count};
 ghost use Rattle.surf_validity.specs.Bases.{split_in};
 ghost use Rattle.surf_validity.specs.Valid.{is_listed};
 ghost use Rattle.surf_certcheck.specs.Split.{AreFlags, is_flagged};
-ghost use Rattle.surf_certcheck.specs.Frames.{HasSplit};
+ghost use Rattle.surf_certcheck.specs.Frames.{HasSplit, edge_signatures};
 
 use crate::links::link_faces;
 use std::alloc::Global;
@@ -18,7 +18,8 @@ use surf_signatures::Signs;
 // The edges that are flagged, increasing.
 fn list_flagged(alloc: Global, mesh: &HalfMesh, flags: &[bool]) -> Result<Vec<EdgeId>, NoMemory>
     requires count { length flags.now ≡ edge_count mesh.now }
-    ensures listed { IfOk result (λ v. v.items ≡ filter (is_flagged flags.now) (range_with_len 0 (edge_count mesh.now))) }
+    ensures listed { IfOk result (λ v. v.items
+        ≡ filter (is_flagged flags.now) (range_with_len 0 (edge_count mesh.now))) }
 {
     let mut listed = Vec::new(alloc);
     for e in 0..mesh.edges() {
@@ -29,7 +30,8 @@ fn list_flagged(alloc: Global, mesh: &HalfMesh, flags: &[bool]) -> Result<Vec<Ed
     Ok(listed)
 }
 
-/// The signatures of all edges by the tree at vertex 0, the tree of faces and the left edges, which are flagged.
+/// The signatures of all edges by the tree at vertex 0, the tree of faces and the left edges, which
+/// are flagged.
 pub(crate) fn sign_edges(
     alloc: Global,
     mesh: &HalfMesh,
@@ -41,7 +43,8 @@ pub(crate) fn sign_edges(
     requires left { AreFlags (edge_count mesh.now) (is_listed mesh.now cert.now.left) left.now }
     ensures width { IfOk result (λ s. s.width ≡ length (split_in mesh.now cert.now).left) }
     ensures few { IfOk result (λ s. s.width ≤ 1024) }
-    ensures signed { IfOk result (λ s. s.sets ≡ map (edge_signature mesh.now (split_in mesh.now cert.now)) (range_with_len 0 (edge_count mesh.now))) }
+    ensures signed { IfOk result (λ s.
+        s.sets ≡ edge_signatures mesh.now (split_in mesh.now cert.now)) }
 {
     let edges = list_flagged(alloc, mesh, left)?;
     let links = link_faces(alloc, mesh, cert.dual())?;

@@ -1,14 +1,16 @@
 //! Whether the two trees and the list of left pairs divide the edges.
-ghost use Rattle.std.specs.Prelude.{◌≡◌, ◌<◌, if◌then◌else◌, IfOk, MatchOption, MatchBool, length, take};
+ghost use Rattle.std.specs.Prelude.{◌≡◌, ◌<◌, if◌then◌else◌, IfOk, MatchOption};
+ghost use Rattle.std.specs.Prelude.{MatchBool, length, take};
 ghost use Rattle.surf_surfaces.specs.Mesh.{pair, pair_lt, edges, among};
 ghost use Rattle.surf_surfaces.specs.Surface.{edge_count, IsSurface};
 ghost use Rattle.surf_validity.specs.Valid.{just_one, IsDivided};
-ghost use Rattle.surf_certcheck.specs.First.{HoldsBelow, FailsFirst};
+ghost use Rattle.surf_certcheck.specs.First.{HoldsBelow, FailsFirst, FindsFirst};
 ghost use Rattle.surf_certcheck.specs.Rows.{HasTreeRows, HasDualRows};
-ghost use Rattle.surf_certcheck.specs.Split.{AreOne, AreMarks, IsLeastStray, lesser_of, least_with, IsLeastBadPair};
+ghost use Rattle.surf_certcheck.specs.Split.{AreOne, AreMarks, IsLeastStray, lesser_of, least_with};
+ghost use Rattle.surf_certcheck.specs.Split.{IsLeastBadPair};
 
 use crate::edges::ends_inside;
-use crate::marks::{dual_flags, left_flags, parent_flags};
+use crate::marks::{flag_listed, flag_parents, flag_sides, no_flags};
 use std::alloc::Global;
 use surf_base::{EdgeId, NoMemory, VertexId};
 use surf_cert::{DualRows, TreeRows};
@@ -110,12 +112,19 @@ pub(crate) fn mark_edges(
 ) -> Result<Marks, NoMemory>
     requires rows { HasTreeRows mesh.now rows.now }
     requires dual { HasDualRows mesh.now dual.now }
-    ensures marks { IfOk result (λ m. AreMarks mesh.now rows.now dual.now left.now m.tree.items m.dual.items m.left.items) }
+    ensures marks { IfOk result (λ m. AreMarks mesh.now rows.now dual.now left.now
+        m.tree.items m.dual.items m.left.items) }
 {
+    let mut in_tree = no_flags(alloc, mesh)?;
+    flag_parents(mesh, &mut in_tree, rows);
+    let mut in_dual = no_flags(alloc, mesh)?;
+    flag_sides(mesh, &mut in_dual, dual);
+    let mut in_left = no_flags(alloc, mesh)?;
+    flag_listed(mesh, &mut in_left, left);
     Ok(Marks {
-        tree: parent_flags(alloc, mesh, rows)?,
-        dual: dual_flags(alloc, mesh, dual)?,
-        left: left_flags(alloc, mesh, left)?,
+        tree: in_tree,
+        dual: in_dual,
+        left: in_left,
     })
 }
 
@@ -124,7 +133,8 @@ fn first_undivided(mesh: &HalfMesh, marks: &Marks) -> Option<EdgeId>
     requires tree { length marks.now.tree.items ≡ edge_count mesh.now }
     requires dual { length marks.now.dual.items ≡ edge_count mesh.now }
     requires left { length marks.now.left.items ≡ edge_count mesh.now }
-    ensures first { MatchOption result (HoldsBelow (edge_count mesh.now) (AreOne marks.now.tree.items marks.now.dual.items marks.now.left.items)) (FailsFirst (edge_count mesh.now) (AreOne marks.now.tree.items marks.now.dual.items marks.now.left.items)) }
+    ensures first { FindsFirst (edge_count mesh.now)
+        (AreOne marks.now.tree.items marks.now.dual.items marks.now.left.items) result }
     ensures surface { IsSurface mesh.now }
 {
     mesh.law_of_surface();
@@ -137,8 +147,9 @@ fn first_undivided(mesh: &HalfMesh, marks: &Marks) -> Option<EdgeId>
     None
 }
 
-/// The least pair that keeps the two trees and the list from dividing the edges: one that is listed and isn't an edge,
-/// or an edge that isn't in just one of the three. The lesser vertex comes first.
+/// The least pair that keeps the two trees and the list from dividing the edges: one that is listed
+/// and isn't an edge, or an edge that isn't in just one of the three. The lesser vertex comes
+/// first.
 pub(crate) fn first_split(
     mesh: &HalfMesh,
     rows: &TreeRows,
@@ -146,8 +157,10 @@ pub(crate) fn first_split(
     left: &[(VertexId, VertexId)],
     marks: &Marks,
 ) -> Option<(VertexId, VertexId)>
-    requires marks { AreMarks mesh.now rows.now dual.now left.now marks.now.tree.items marks.now.dual.items marks.now.left.items }
-    ensures split { MatchOption result (IsDivided mesh.now rows.now dual.now left.now) (IsLeastBadPair mesh.now rows.now dual.now left.now) }
+    requires marks { AreMarks mesh.now rows.now dual.now left.now
+        marks.now.tree.items marks.now.dual.items marks.now.left.items }
+    ensures split { MatchOption result (IsDivided mesh.now rows.now dual.now left.now)
+        (IsLeastBadPair mesh.now rows.now dual.now left.now) }
 {
     let stray = first_stray(mesh, left);
     match first_undivided(mesh, marks) {

@@ -1,5 +1,6 @@
 //! The coordinates of the ways up a tree, summed up from its base on.
-ghost use Rattle.std.specs.Prelude.{◌≡◌, ◌≢◌, ◌<◌, ◌≤◌, ℕ, length, slice_index, Some, Contains, IsPermutation, IfOk};
+ghost use Rattle.std.specs.Prelude.{◌≡◌, ◌≢◌, ◌<◌, ◌≤◌, ℕ, length};
+ghost use Rattle.std.specs.Prelude.{slice_index, Some, Contains, IsPermutation, IfOk};
 ghost use Rattle.std.specs.List.{range_with_len};
 ghost use Rattle.std.specs.List.Sorted.{IsNonDecreasingBy};
 ghost use Rattle.surf_graphs.specs.Cells.{Split};
@@ -9,9 +10,9 @@ ghost use Rattle.surf_surfaces.specs.Walk.{edge_number};
 ghost use Rattle.surf_signatures.specs.Ways.{way_class};
 ghost use Rattle.surf_validity.specs.Valid.{certified_tree, distance_at, parent_at};
 ghost use Rattle.surf_certcheck.specs.Frames.{AreTaken};
-ghost use Rattle.surf_certcheck.specs.Climbs.{IsClimbed, AreSummed};
+ghost use Rattle.surf_certcheck.specs.Climbs.{IsClimbed, AreSummed, IsSummedAt};
 
-use crate::edges::edge_up;
+use crate::edges::edge_between;
 use std::alloc::Global;
 use surf_base::{EdgeId, NoMemory, VertexId};
 use surf_bits::Signature;
@@ -56,16 +57,6 @@ fn parent_of(rows: &TreeRows, v: VertexId) -> Option<VertexId>
     rows.parent()[v.index()]
 }
 
-// The edge between a vertex and its parent.
-fn edge_to(mesh: &HalfMesh, parent: VertexId, v: VertexId) -> EdgeId
-    ensures edge { Contains (edges mesh.now) (pair parent v) → result ≡ edge_number mesh.now (parent, v) }
-{
-    match edge_up(mesh, parent, v) {
-        None => EdgeId::new(0),
-        Some(edge) => edge,
-    }
-}
-
 // Gives a vertex the sum of its parent and the edge between them, or the empty set at the base.
 fn sum_way(mesh: &HalfMesh, rows: &TreeRows, signs: &Signs, v: VertexId, sums: &mut VertexSets)
     requires climbed { IsClimbed mesh.now rows.now }
@@ -73,21 +64,24 @@ fn sum_way(mesh: &HalfMesh, rows: &TreeRows, signs: &Signs, v: VertexId, sums: &
     requires vertex { v < mesh.now.vertices }
     requires room { length sums.old.sets ≡ mesh.now.vertices }
     requires width { sums.old.width ≡ signs.now.width }
-    ensures summed { (d : Split) (to : ℕ → ℕ) → AreTaken mesh.now d to signs.now.sets → ((p : ℕ) → parent_at rows.now v ≡ Some p → slice_index sums.old.sets p ≡ to (way_class mesh.now d (certified_tree mesh.now rows.now) p)) → slice_index sums.new.sets v ≡ to (way_class mesh.now d (certified_tree mesh.now rows.now) v) }
-    ensures rest { (u : ℕ) → u ≢ v → slice_index sums.new.sets u ≡ slice_index sums.old.sets u }
+    ensures summed { (d : Split) (to : ℕ → ℕ) → AreTaken mesh.now d to signs.now.sets
+        → ((p : ℕ) → parent_at rows.now v ≡ Some p → IsSummedAt mesh.now rows.now d to sums.old.sets p)
+        → IsSummedAt mesh.now rows.now d to sums.new.sets v }
+    ensures rest { (u : ℕ) → u ≢ v
+        → slice_index sums.new.sets u ≡ slice_index sums.old.sets u }
     ensures room { length sums.new.sets ≡ mesh.now.vertices }
     ensures width { sums.new.width ≡ signs.now.width }
 {
     let mut sum = Signature::zero();
     if let Some(parent) = parent_of(rows, v) {
         sum.add(sums.of(parent));
-        sum.add(signs.signature(edge_to(mesh, parent, v)));
+        sum.add(signs.signature(edge_between(mesh, parent, v)));
     }
     sums.put(v, &sum.bits());
 }
 
-/// Gives each vertex the sum of the coordinates of the edges on its way up to the base, the nearest vertices first. The
-/// list has all vertices, before and after.
+/// Gives each vertex the sum of the coordinates of the edges on its way up to the base, the nearest
+/// vertices first. The list has all vertices, before and after.
 pub(crate) fn sum_ways(
     mesh: &HalfMesh,
     rows: &TreeRows,

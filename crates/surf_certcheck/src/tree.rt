@@ -4,7 +4,7 @@ ghost use Rattle.surf_surfaces.specs.Mesh.{edges, pair};
 ghost use Rattle.surf_surfaces.specs.Surface.{edge_count};
 ghost use Rattle.surf_surfaces.specs.Walk.{edge_number};
 ghost use Rattle.surf_validity.specs.Valid.{IsParent, AddsUp, IsNoShortCut};
-ghost use Rattle.surf_certcheck.specs.First.{HoldsBelow, FailsFirst};
+ghost use Rattle.surf_certcheck.specs.First.{HoldsBelow, FailsFirst, FindsFirst, Tells};
 ghost use Rattle.surf_certcheck.specs.Rows.{HasTreeRows, HasParent, HasDistance};
 
 use crate::edges::{edge_up, ends_inside};
@@ -15,7 +15,7 @@ use surf_mesh::HalfMesh;
 
 // Whether a vertex has a parent that is its neighbour, or is the base and has none.
 fn has_parent(mesh: &HalfMesh, base: VertexId, v: VertexId, parent: Option<VertexId>) -> bool
-    ensures parent { MatchBool result (IsParent mesh.now base v parent) (IsParent mesh.now base v parent → ⊥) }
+    ensures parent { Tells result (IsParent mesh.now base v parent) }
 {
     match parent {
         None => v == base,
@@ -26,7 +26,7 @@ fn has_parent(mesh: &HalfMesh, base: VertexId, v: VertexId, parent: Option<Verte
 /// The least vertex whose parent isn't one.
 pub(crate) fn first_parent(mesh: &HalfMesh, rows: &TreeRows) -> Option<VertexId>
     requires rows { HasTreeRows mesh.now rows.now }
-    ensures first { MatchOption result (HoldsBelow mesh.now.vertices (HasParent mesh.now rows.now)) (FailsFirst mesh.now.vertices (HasParent mesh.now rows.now)) }
+    ensures first { FindsFirst mesh.now.vertices (HasParent mesh.now rows.now) result }
 {
     for v in 0..mesh.vertices() {
         let vertex = VertexId::new(v);
@@ -37,7 +37,8 @@ pub(crate) fn first_parent(mesh: &HalfMesh, rows: &TreeRows) -> Option<VertexId>
     None
 }
 
-// Whether the distance of a vertex is its parent's and the length of the edge to it, or 0 at the base.
+// Whether the distance of a vertex is its parent's and the length of the edge to it, or 0 at the
+// base.
 fn adds_up(
     mesh: &HalfMesh,
     lengths: &Lengths,
@@ -49,7 +50,7 @@ fn adds_up(
     requires lengths { length lengths.now ≡ edge_count mesh.now }
     requires vertex { v < mesh.now.vertices }
     requires parent { IsParent mesh.now rows.now.base v parent }
-    ensures sum { MatchBool result (AddsUp mesh.now lengths.now rows.now v parent) (AddsUp mesh.now lengths.now rows.now v parent → ⊥) }
+    ensures sum { Tells result (AddsUp mesh.now lengths.now rows.now v parent) }
 {
     let distance = rows.distance();
     match parent {
@@ -73,7 +74,8 @@ pub(crate) fn first_distance(
     requires rows { HasTreeRows mesh.now rows.now }
     requires lengths { length lengths.now ≡ edge_count mesh.now }
     requires parents { HoldsBelow mesh.now.vertices (HasParent mesh.now rows.now) }
-    ensures first { MatchOption result (HoldsBelow mesh.now.vertices (HasDistance mesh.now lengths.now rows.now)) (FailsFirst mesh.now.vertices (HasDistance mesh.now lengths.now rows.now)) }
+    ensures first { FindsFirst mesh.now.vertices
+        (HasDistance mesh.now lengths.now rows.now) result }
 {
     for v in 0..mesh.vertices() {
         let vertex = VertexId::new(v);
@@ -89,7 +91,7 @@ fn is_no_short_cut(mesh: &HalfMesh, lengths: &Lengths, rows: &TreeRows, e: EdgeI
     requires rows { HasTreeRows mesh.now rows.now }
     requires lengths { length lengths.now ≡ edge_count mesh.now }
     requires edge { e < edge_count mesh.now }
-    ensures slack { MatchBool result (IsNoShortCut mesh.now lengths.now rows.now e) (IsNoShortCut mesh.now lengths.now rows.now e → ⊥) }
+    ensures slack { Tells result (IsNoShortCut mesh.now lengths.now rows.now e) }
 {
     let (near, far) = ends_inside(mesh, e);
     let u = rows.distance()[near.index()];
@@ -101,7 +103,8 @@ fn is_no_short_cut(mesh: &HalfMesh, lengths: &Lengths, rows: &TreeRows, e: EdgeI
 pub(crate) fn first_short_cut(mesh: &HalfMesh, lengths: &Lengths, rows: &TreeRows) -> Option<EdgeId>
     requires rows { HasTreeRows mesh.now rows.now }
     requires lengths { length lengths.now ≡ edge_count mesh.now }
-    ensures first { MatchOption result (HoldsBelow (edge_count mesh.now) (IsNoShortCut mesh.now lengths.now rows.now)) (FailsFirst (edge_count mesh.now) (IsNoShortCut mesh.now lengths.now rows.now)) }
+    ensures first { FindsFirst (edge_count mesh.now)
+        (IsNoShortCut mesh.now lengths.now rows.now) result }
 {
     for e in 0..mesh.edges() {
         let edge = EdgeId::new(e);

@@ -2,7 +2,10 @@
 ghost use Rattle.std.specs.Prelude.{◌≡◌, MatchOption, length};
 ghost use Rattle.surf_surfaces.specs.Surface.{edge_count};
 ghost use Rattle.surf_certcheck.specs.First.{HoldsBelow};
-ghost use Rattle.surf_certcheck.specs.BasisFaults.{HasTrees, HasParentAt, HasDistanceAt, IsNoShortCutAt, HasParents, HasDistances, HasNoShortCut, AreTreesValid, IsTreesFault, IsFirstAt};
+ghost use Rattle.surf_certcheck.specs.BasisFaults.{HasTrees, HasParentAt, HasDistanceAt};
+ghost use Rattle.surf_certcheck.specs.BasisFaults.{IsNoShortCutAt, HasParents, HasDistances};
+ghost use Rattle.surf_certcheck.specs.BasisFaults.{HasNoShortCut, AreTreesValid, IsTreesFault};
+ghost use Rattle.surf_certcheck.specs.BasisFaults.{IsFirstAt, FindsFirstAt};
 
 use crate::edges::ends_inside;
 use crate::fault::CertFault;
@@ -16,7 +19,8 @@ use surf_mesh::HalfMesh;
 // The least base whose tree has a vertex with a parent that isn't one, and the least such vertex.
 fn first_orphan(mesh: &HalfMesh, cert: &BasisCert) -> Option<(VertexId, VertexId)>
     requires trees { HasTrees mesh.now cert.now }
-    ensures first { MatchOption result (HoldsBelow mesh.now.vertices (HasParents mesh.now cert.now)) (λ p. IsFirstAt mesh.now.vertices mesh.now.vertices (HasParentAt mesh.now cert.now) p.0 p.1) }
+    ensures first { FindsFirstAt mesh.now.vertices mesh.now.vertices
+        (HasParentAt mesh.now cert.now) result }
 {
     for x in 0..mesh.vertices() {
         let base = VertexId::new(x);
@@ -27,7 +31,8 @@ fn first_orphan(mesh: &HalfMesh, cert: &BasisCert) -> Option<(VertexId, VertexId
     None
 }
 
-// The least base whose tree has a vertex with a distance that isn't that by its parent, and the least such vertex.
+// The least base whose tree has a vertex with a distance that isn't that by its parent, and the
+// least such vertex.
 fn first_astray(
     mesh: &HalfMesh,
     lengths: &Lengths,
@@ -36,7 +41,8 @@ fn first_astray(
     requires trees { HasTrees mesh.now cert.now }
     requires lengths { length lengths.now ≡ edge_count mesh.now }
     requires parents { HoldsBelow mesh.now.vertices (HasParents mesh.now cert.now) }
-    ensures first { MatchOption result (HoldsBelow mesh.now.vertices (HasDistances mesh.now lengths.now cert.now)) (λ p. IsFirstAt mesh.now.vertices mesh.now.vertices (HasDistanceAt mesh.now lengths.now cert.now) p.0 p.1) }
+    ensures first { FindsFirstAt mesh.now.vertices mesh.now.vertices
+        (HasDistanceAt mesh.now lengths.now cert.now) result }
 {
     for x in 0..mesh.vertices() {
         let base = VertexId::new(x);
@@ -47,11 +53,13 @@ fn first_astray(
     None
 }
 
-// The least base with an edge whose ends are farther apart than it is long, and the least such edge.
+// The least base with an edge whose ends are farther apart than it is long, and the least such
+// edge.
 fn first_slack(mesh: &HalfMesh, lengths: &Lengths, cert: &BasisCert) -> Option<(VertexId, EdgeId)>
     requires trees { HasTrees mesh.now cert.now }
     requires lengths { length lengths.now ≡ edge_count mesh.now }
-    ensures first { MatchOption result (HoldsBelow mesh.now.vertices (HasNoShortCut mesh.now lengths.now cert.now)) (λ p. IsFirstAt mesh.now.vertices (edge_count mesh.now) (IsNoShortCutAt mesh.now lengths.now cert.now) p.0 p.1) }
+    ensures first { FindsFirstAt mesh.now.vertices (edge_count mesh.now)
+        (IsNoShortCutAt mesh.now lengths.now cert.now) result }
 {
     for x in 0..mesh.vertices() {
         let base = VertexId::new(x);
@@ -66,7 +74,8 @@ fn first_slack(mesh: &HalfMesh, lengths: &Lengths, cert: &BasisCert) -> Option<(
 pub(crate) fn trees_fault(mesh: &HalfMesh, lengths: &Lengths, cert: &BasisCert) -> Option<CertFault>
     requires trees { HasTrees mesh.now cert.now }
     requires lengths { length lengths.now ≡ edge_count mesh.now }
-    ensures fault { MatchOption result (AreTreesValid mesh.now lengths.now cert.now) (IsTreesFault mesh.now lengths.now cert.now) }
+    ensures fault { MatchOption result (AreTreesValid mesh.now lengths.now cert.now)
+        (IsTreesFault mesh.now lengths.now cert.now) }
 {
     if let Some((base, vertex)) = first_orphan(mesh, cert) {
         return Some(CertFault::Parent { base, vertex });

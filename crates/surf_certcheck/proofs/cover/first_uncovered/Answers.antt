@@ -22,16 +22,26 @@ sum_ways-requires-clause-climbed c =
     (lengths_positive mesh c.args.lengths.now c.law_of_lengths.ensures.lengths c.requires.lengths) c.requires.trees
     c.requires.bases c.requires.valid c.loop-x.x (omega (arith, c.loop-x-test.true, c.vertices-x-end.ensures.count)))
 
-pub first_at-requires-clause-climbed : goal.first_at-requires-clause-climbed
-first_at-requires-clause-climbed c =
+pub first_uncovered-requires : goal.first_uncovered-requires
+first_uncovered-requires c =
     let mesh = c.args.mesh.now in
     let cert = c.args.cert.now in
     let is : c.tree_from-rows.result.now ≡ tree_at cert c.loop-x.x =
     c.tree_from-rows.ensures.tree ∙ ap (tree_at cert) c.new-base.ensures in
-    subst (IsClimbed mesh) (sym is)
-    (climbed_at mesh c.args.lengths.now cert c.vertices-x-end.ensures.surface
-    (lengths_positive mesh c.args.lengths.now c.law_of_lengths.ensures.lengths c.requires.lengths) c.requires.trees
-    c.requires.bases c.requires.valid c.loop-x.x (omega (arith, c.loop-x-test.true, c.vertices-x-end.ensures.count)))
+    record {
+      ready = record {
+        climbed = subst (IsClimbed mesh) (sym is)
+            (climbed_at mesh c.args.lengths.now cert c.vertices-x-end.ensures.surface
+            (lengths_positive mesh c.args.lengths.now c.law_of_lengths.ensures.lengths c.requires.lengths)
+            c.requires.trees c.requires.bases c.requires.valid c.loop-x.x
+            (omega (arith, c.loop-x-test.true, c.vertices-x-end.ensures.count)));
+        room = c.sum_ways.ensures.room;
+        summed = c.sum_ways.ensures.summed;
+        lengths = c.requires.lengths;
+        count = c.requires.count;
+        few = c.requires.few;
+      };
+    }
 
 pub returns-in-Some : goal.returns-in-Some
 returns-in-Some c =

@@ -3,11 +3,13 @@ use Rattle.std.proofs.lemmas.List.{get_or_default}
 use Rattle.surf_surfaces.specs.Mesh.{pair, edges}
 use Rattle.surf_certcheck.proofs.loops.total_of.Goals as goal
 
-pub size_between-total-requires-clause-edge : goal.size_between-total-requires-clause-edge
-size_between-total-requires-clause-edge c =
+pub edge_between-requires : goal.edge_between-requires
+edge_between-requires c =
     let left = c.args.left.now in
     let i = c.loop-i.i in
     let a = c.index-left-i.result in
     let b = c.index-left-i-in-loop-i.result in
-    subst (λ (z : ℕ × ℕ). Contains (edges c.args.mesh.now) (pair (get_or left i a).0 z.1))
-    (get_or_default left i a b c.loop-i-test.true) (c.requires.edges i a c.loop-i-test.true)
+    record {
+      joined = subst (λ (z : ℕ × ℕ). Contains (edges c.args.mesh.now) (pair (get_or left i a).0 z.1))
+          (get_or_default left i a b c.loop-i-test.true) (c.requires.edges i a c.loop-i-test.true);
+    }

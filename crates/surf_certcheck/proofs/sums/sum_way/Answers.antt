@@ -23,6 +23,13 @@ put-requires-clause-fits c =
       | in_default x ↦ subst (λ n. n < 2 ^ w) (sym (x.sum-is ∙ c.zero-sum.ensures)) none
     ])
 
+pub edge_between-requires : goal.edge_between-requires
+edge_between-requires c =
+    let rows = c.args.rows.now in
+    let v = c.args.v in
+    let is : parent_at rows v ≡ Some c.in-Some.parent = sym c.parent_of.ensures.parent ∙ c.in-Some.is in
+    record { joined = (subst (IsParent c.args.mesh.now rows.base v) is (c.requires.climbed.valid.parents v c.requires.vertex)).1 }
+
 pub returns-clause-summed : goal.returns-clause-summed
 returns-clause-summed c d to taken before =
     let mesh = c.args.mesh.now in
@@ -40,12 +47,11 @@ returns-clause-summed c d to taken before =
           let added = x.signature.result in
           let is : parent_at rows v ≡ Some p = sym c.parent_of.ensures.parent ∙ x.in-Some.is in
           let step = step_up mesh rows v p c.requires.climbed c.requires.vertex is in
-          let beside = (subst (IsParent mesh rows.base v) is (c.requires.climbed.valid.parents v c.requires.vertex)).1 in
-          let edge : x.edge_to.result ≡ (certified_tree mesh rows).up v =
-          x.edge_to.ensures.edge beside ∙ ap (λ o. edge_number mesh (or_zero o, v)) (sym is) in
+          let edge : x.edge_between.result ≡ (certified_tree mesh rows).up v =
+          x.edge_between.ensures.edge ∙ ap (λ o. edge_number mesh (or_zero o, v)) (sym is) in
           let sum : c.match-parent_of.sum ≡ bit_xor (bit_xor 0 above) added =
           x.sum-is ∙ x.add-in-Some.ensures ∙ ap (λ n. bit_xor n added) (x.add.ensures ∙ ap (λ z. bit_xor z above) c.zero-sum.ensures) in
-          way_summed mesh d to c.args.signs.now.sets taken rows c.requires.climbed v x.edge_to.result p above added c.match-parent_of.sum
+          way_summed mesh d to c.args.signs.now.sets taken rows c.requires.climbed v x.edge_between.result p above added c.match-parent_of.sum
           c.requires.vertex step edge x.signature.ensures.set (x.of.ensures.set ∙ before p is) sum
       | in_default x ↦
           let none : parent_at rows v ≡ None = sym c.parent_of.ensures.parent ∙ x.in_default.is in

@@ -2,11 +2,11 @@ use Rattle.surf_surfaces.specs.Surface.{edge_count}
 use Rattle.surf_validity.specs.Valid.{HasNoShorter}
 use Rattle.surf_certcheck.specs.First.{HoldsBelow}
 use Rattle.surf_certcheck.specs.Split.{AreFlags, none}
-use Rattle.surf_certcheck.proofs.heavier.first_heavier.Given as goal
+use Rattle.surf_certcheck.proofs.heavier.Judge.first_heavier.Given as goal
 
 -- no left edge before could be exchanged
 abbrev pub invariant-loop-e : goal.invariant-loop-e
 invariant-loop-e l = record {
-  before : HoldsBelow l.e (HasNoShorter l.mesh l.lengths l.cert);
-  off : AreFlags (edge_count l.mesh) none l.flags;
+  before : HoldsBelow l.e (HasNoShorter l.self.mesh.now l.self.lengths.now l.self.cert.now);
+  off : AreFlags (edge_count l.self.mesh.now) none l.flags;
 }

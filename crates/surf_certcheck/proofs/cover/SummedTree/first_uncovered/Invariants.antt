@@ -1,0 +1,11 @@
+use Rattle.std.proofs.Common.{ℕ, List}
+use Rattle.surf_z2.specs.Space.{Weighed}
+use Rattle.surf_graphs.specs.Cells.{Split}
+use Rattle.surf_certcheck.specs.Covering.{HasFrame, IsCoveredIn}
+use Rattle.surf_certcheck.specs.First.{HoldsBelow}
+use Rattle.surf_certcheck.proofs.cover.SummedTree.first_uncovered.Given as goal
+
+-- the loops of the edges before are covered
+abbrev pub invariant-loop-e : goal.invariant-loop-e
+invariant-loop-e l = (d : Split) (cycles : List (Weighed ℕ)) → HasFrame l.self d cycles →
+    HoldsBelow l.e (IsCoveredIn l.self d cycles)
