@@ -44,7 +44,7 @@ COMMANDS = {
     "same": ("surf_answers.Classes.GivesClass", {"compares"}),
     "confirm": ("surf_answers.Confirming.JudgesEvidence", {"confirms"}),
     "shortest": ("surf_answers.Tightening.GivesShortestWalk", {"tightens"}),
-    "sew": ("surf_run.Sewing.GivesSewn", {"sews"}),
+    "sew": ("surf_answers.Sewing.GivesSewn", {"sews"}),
     "gen": ("surf_run.Making.OnGen", {"makes"}),
     "try": ("surf_answers.Summaries.GivesSummary", {"tries"}),
     "--help, --version": ("surf_answers.Help.help_text", {"help", "version"}),

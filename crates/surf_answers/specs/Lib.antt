@@ -13,6 +13,7 @@ pub mod LeastBasis
 pub mod LeastLoops
 pub mod Making
 pub mod Says
+pub mod Sewing
 pub mod ShortestCycle
 pub mod SignedDesks
 pub mod Summaries

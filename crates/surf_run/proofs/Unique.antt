@@ -79,7 +79,8 @@ use Rattle.surf_run.specs.Run.{IsDecided}
 use Rattle.surf_sew.specs.Copies.{copies_in}
 use Rattle.surf_sew.specs.Sewing.{sewn_of}
 use Rattle.surf_sew.specs.Texts.{sewn_text}
-use Rattle.surf_run.specs.Sewing.{copied, sewn, HasOrigins, IsSewn, GivesSewn, OnSewnMesh, OnOrigins, OnCopies, OnSewText}
+use Rattle.surf_run.specs.Sewing.{copied, sewn, HasOrigins, IsSewn, OnSewnMesh, OnOrigins, OnCopies, OnSewText}
+use Rattle.surf_answers.specs.Sewing.{GivesSewn}
 use Rattle.surf_class.specs.Evidences.{evidence_in}
 use Rattle.surf_class.specs.Texts.{evidence_text}
 use Rattle.surf_classes.specs.Evidence.{Evidence, AreClosed}

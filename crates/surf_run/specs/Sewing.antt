@@ -9,12 +9,11 @@ use Rattle.surf_answers.specs.Discs.{SaysNoDisc}
 use Rattle.surf_run.specs.MeshTexts.{IsMeshText}
 use Rattle.surf_texts.specs.Outcome.{Outcome}
 use Rattle.surf_run.specs.Reading.{Reads}
-use Rattle.surf_answers.specs.Says.{Says}
+use Rattle.surf_answers.specs.Sewing.{GivesSewn}
 use Rattle.surf_run.specs.Steps.{Ends}
 use Rattle.surf_run.specs.Surfaces.{IsSurfaceOf}
 use Rattle.surf_sew.specs.Copies.{copies_in}
 use Rattle.surf_sew.specs.Sewing.{sewn_of}
-use Rattle.surf_sew.specs.Texts.{sewn_text, RereadsSewn}
 use Rattle.surf_sew.specs.declared.copies.CopyFault.{CopyFault}
 use Rattle.surf_sew.specs.declared.copies.CopyFault.TheVariants as copies
 use Rattle.surf_sew.specs.declared.fault.SewFault.{SewFault}
@@ -35,12 +34,6 @@ HasOrigins bytes vertices result = result ≡ copied vertices (copies_in bytes v
 -- Copies of one vertex become that vertex again.
 abbrev pub IsSewn : OffParts × Mesh → List ℕ → Result Mesh Outcome → Type 0
 IsSewn read origins result = result ≡ sewn (sewn_of read.0.vertex_lines read.1 origins)
-
--- The sewn surface is written with the keyword, the colours and the vertex lines of its copies. Read again, the text has
--- them and the surface.
-pub record GivesSewn (parts : OffParts) (origins : List ℕ) (mesh : Mesh) (outcome : Outcome) : Type 0 where
-  pub says : Says (sewn_text parts origins mesh) outcome
-  pub rereads : RereadsSewn parts origins mesh
 
 -- The mesh of copies isn't a disc; or it is, and what was sewn is a surface, or has a fault.
 abbrev pub OnSewnMesh : OffParts × Mesh → List ℕ → Mesh → Outcome → Type 0

@@ -54,10 +54,11 @@ fn build(alloc: Global, shape: Shape) -> Result<Soup, NoMemory>
     ensures surface { IfOk result IsSurface }
 {
     shape.law_of_shape();
-    if shape.tori() == 1 {
-        torus(alloc, shape.rows(), shape.columns())
+    let (tori, rows, columns) = (shape.tori(), shape.rows(), shape.columns());
+    if tori == 1 {
+        torus(alloc, rows, columns)
     } else {
-        chain(alloc, shape.tori(), shape.rows(), shape.columns())
+        chain(alloc, tori, rows, columns)
     }
 }
 

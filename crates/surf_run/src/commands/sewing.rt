@@ -1,7 +1,8 @@
 //! The command `sew`.
 ghost use Rattle.std.specs.Prelude.{◌≡◌, ◌<◌, ◌≤◌, ◌^◌, length, IfOk};
 ghost use Rattle.surf_surfaces.specs.Surface.{face_count};
-ghost use Rattle.surf_run.specs.Sewing.{GivesSewn, HasOrigins, IsSewn, OnCopies, OnOrigins, OnSew, OnSewText, OnSewnMesh};
+ghost use Rattle.surf_run.specs.Sewing.{HasOrigins, IsSewn, OnCopies, OnOrigins, OnSew, OnSewText, OnSewnMesh};
+ghost use Rattle.surf_answers.specs.Sewing.{GivesSewn};
 ghost use Rattle.surf_run.specs.Steps.{Ends};
 ghost use Rattle.surf_run.specs.Surfaces.{IsSurfaceOf};
 ghost use Rattle.surf_answers.specs.Tells.{Concludes, ConcludesOver, Takes};
@@ -10,14 +11,13 @@ ghost use Rattle.surf_base.specs.declared.limits.TheConstants.{MAX_TEXT};
 
 use crate::reading::{read_file, read_mesh, surface_of};
 use std::alloc::Global;
-use surf_answers::{Answered, Verdict, not_disc};
-use surf_base::{MAX_ANSWER, Shelf, VertexId};
+use surf_answers::{Answered, not_disc, sewn_text};
+use surf_base::{Shelf, VertexId};
 use surf_disc::{DiscFault, check_disc};
 use surf_mesh::HalfMesh;
 use surf_off::OffText;
-use surf_sew::{read_copies, sew as sew_copies, write_sewn};
+use surf_sew::{read_copies, sew as sew_copies};
 use surf_soup::Soup;
-use surf_text::Page;
 use surf_texts::Refused;
 
 /// What `sew` answers: the mesh that was cut, from the text that `cut` wrote.
@@ -137,26 +137,5 @@ fn sewn_surface(
         outcome) result }
 {
     let mesh = surface_of(alloc, sewn)?;
-    text_of(alloc, text, origins, &mesh)
-}
-
-// The text of the sewn surface.
-fn text_of(
-    alloc: Global,
-    text: &OffText<'_>,
-    origins: &[VertexId],
-    mesh: &HalfMesh,
-) -> Result<Answered, Refused>
-    requires lines { length origins.now ≡ length text.now.vertex_lines }
-    requires colours { face_count mesh.now ≡ length text.now.colours }
-    requires countable { length origins.now < 2 ^ 32 }
-    requires copies { HaveCopies origins.now mesh.now.vertices }
-    ensures { Concludes (GivesSewn text.now origins.now mesh.now) result }
-{
-    let mut page = Page::make(alloc, MAX_ANSWER);
-    write_sewn(&mut page, text, origins, mesh)?;
-    Ok(Answered {
-        verdict: Verdict::Yes,
-        text: page.into_bytes(),
-    })
+    sewn_text(alloc, text, origins, &mesh)
 }

@@ -1,6 +1,7 @@
 use Rattle.std.proofs.Common.{inr}
 use Rattle.surf_texts.specs.Outcome.{Outcome}
-use Rattle.surf_run.specs.Sewing.{GivesSewn, OnSewnMesh}
+use Rattle.surf_run.specs.Sewing.{OnSewnMesh}
+use Rattle.surf_answers.specs.Sewing.{GivesSewn}
 use Rattle.surf_run.specs.Steps.{Ends}
 use Rattle.surf_run.specs.Surfaces.{IsSurfaceOf}
 use Rattle.surf_run.proofs.Composing.{concludes_so}
