@@ -11,6 +11,7 @@ ghost use Rattle.surf_certcheck.specs.Split.{AreFlags};
 ghost use Rattle.surf_certcheck.specs.BasisFaults.{AreTreesDivided, AreTreesValid, IsCycleClosed};
 ghost use Rattle.surf_certcheck.specs.BasisFaults.{IsBasisFault};
 ghost use Rattle.surf_certcheck.specs.declared.fault.CertFault.TheVariants.{Memory};
+ghost use Rattle.surf_base.specs.declared.limits.TheConstants.{MAX_LOOPS};
 
 use crate::cover::first_uncovered;
 use crate::cycles::{first_open, total_length};
@@ -42,7 +43,7 @@ fn check_cycles(
     requires divided { AreTreesDivided mesh.now lengths.now cert.now }
     requires closed { HoldsBelow (length cert.now.cycles) (IsCycleClosed mesh.now cert.now) }
     requires lengths { length lengths.now ≡ edge_count mesh.now }
-    requires few { edge_count mesh.now + 2 ≤ mesh.now.vertices + face_count mesh.now + 1024 }
+    requires few { edge_count mesh.now + 2 ≤ mesh.now.vertices + face_count mesh.now + MAX_LOOPS }
     requires left { AreFlags (edge_count mesh.now) (is_listed mesh.now cert.now.left) left.now }
     ensures valid { IfOk result (λ t. IsValidBasis mesh.now lengths.now cert.now
         × (t ≡ basis_total mesh.now lengths.now cert.now)) }
@@ -74,7 +75,7 @@ fn check_edges(
     requires trees { AreTreesValid mesh.now lengths.now cert.now }
     requires dual { IsDualValid mesh.now cert.now.dual }
     requires lengths { length lengths.now ≡ edge_count mesh.now }
-    requires few { edge_count mesh.now + 2 ≤ mesh.now.vertices + face_count mesh.now + 1024 }
+    requires few { edge_count mesh.now + 2 ≤ mesh.now.vertices + face_count mesh.now + MAX_LOOPS }
     ensures valid { IfOk result (λ t. IsValidBasis mesh.now lengths.now cert.now
         × (t ≡ basis_total mesh.now lengths.now cert.now)) }
     ensures fault { IfErr result (IsBasisFault mesh.now lengths.now cert.now) }
@@ -104,7 +105,7 @@ pub fn check_basis(
     cert: &BasisCert,
 ) -> Result<u128, CertFault>
     requires lengths { length lengths.now ≡ edge_count mesh.now }
-    requires few { edge_count mesh.now + 2 ≤ mesh.now.vertices + face_count mesh.now + 1024 }
+    requires few { edge_count mesh.now + 2 ≤ mesh.now.vertices + face_count mesh.now + MAX_LOOPS }
     ensures valid { IfOk result (λ t. IsValidBasis mesh.now lengths.now cert.now
         × (t ≡ basis_total mesh.now lengths.now cert.now)) }
     ensures least { IfOk result (λ t. IsLeastBasis mesh.now lengths.now cert.now.cycles

@@ -16,6 +16,7 @@ ghost use Rattle.surf_certcheck.specs.BasisFaults.{IsFirstAt, FindsFirstAt};
 ghost use Rattle.surf_certcheck.specs.Frames.{IsFrame, IsFrameOf, AreTaken, IsCoveredBy};
 ghost use Rattle.surf_certcheck.specs.Climbs.{IsClimbed, AreSummed};
 ghost use Rattle.surf_certcheck.specs.Covering.{IsSummedUp, HasFrame, IsCoveredIn};
+ghost use Rattle.surf_base.specs.declared.limits.TheConstants.{MAX_LOOPS};
 
 use crate::edges::ends_inside;
 use crate::frame::{Frame, is_placed};
@@ -104,7 +105,7 @@ pub(crate) fn first_uncovered(
     requires frame { IsFrameOf mesh.now lengths.now cert.now (length cert.now.cycles)
         frame.now.signs frame.now.weights.items }
     requires count { length frame.now.signs.sets ≡ edge_count mesh.now }
-    requires few { length frame.now.weights.items ≤ 1024 }
+    requires few { length frame.now.weights.items ≤ MAX_LOOPS }
     requires all { IsPermutation (range_with_len 0 mesh.now.vertices) order.old }
     requires room { length sums.old.sets ≡ mesh.now.vertices }
     requires width { sums.old.width ≡ frame.now.signs.width }

@@ -7,6 +7,7 @@ ghost use Rattle.surf_surfaces.specs.Walk.{edge_number, first, last, walk_length
 ghost use Rattle.surf_validity.specs.Bases.{IsClosedList, basis_total};
 ghost use Rattle.surf_certcheck.specs.First.{HoldsBelow, FailsFirst, FindsFirst, Tells};
 ghost use Rattle.surf_certcheck.specs.BasisFaults.{cycle_at, IsCycleClosed, IsAlong};
+ghost use Rattle.surf_base.specs.declared.limits.TheConstants.{MAX_LOOPS};
 
 use crate::edges::{edge_between, edge_up};
 use surf_base::{EdgeId, VertexId};
@@ -102,7 +103,7 @@ pub(crate) fn length_of(mesh: &HalfMesh, lengths: &Lengths, list: &[VertexId]) -
 pub(crate) fn total_length(mesh: &HalfMesh, lengths: &Lengths, cert: &BasisCert) -> u128
     requires closed { HoldsBelow (length cert.now.cycles) (IsCycleClosed mesh.now cert.now) }
     requires lengths { length lengths.now ≡ edge_count mesh.now }
-    requires few { length cert.now.cycles ≤ 1024 }
+    requires few { length cert.now.cycles ≤ MAX_LOOPS }
     ensures total { result ≡ basis_total mesh.now lengths.now cert.now }
 {
     let mut total = 0u128;

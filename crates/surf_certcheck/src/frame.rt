@@ -12,6 +12,7 @@ ghost use Rattle.surf_certcheck.specs.BasisFaults.{IsCycleClosed, IsIndependentA
 ghost use Rattle.surf_certcheck.specs.BasisFaults.{IsDependentFault};
 ghost use Rattle.surf_certcheck.specs.Frames.{AreTaken, IsPlacedUpTo, weight_at, IsFrameOf};
 ghost use Rattle.surf_certcheck.specs.Frames.{ArePlacedUpTo, edge_signatures};
+ghost use Rattle.surf_base.specs.declared.limits.TheConstants.{MAX_LOOPS};
 
 use crate::cycles::{cycle_from, length_of, step_edge};
 use crate::fault::CertFault;
@@ -53,7 +54,7 @@ fn cycle_set(mesh: &HalfMesh, signs: &Signs, list: &[VertexId]) -> Signature
 
 // A place of a set that no cycle has got.
 fn free_place(set: &Signature, weights: &[Option<u128>]) -> Option<usize>
-    requires few { length weights.now ≤ 1024 }
+    requires few { length weights.now ≤ MAX_LOOPS }
     ensures free { MatchOption result
         ((k : ℕ) → k < length weights.now → has set.now k ≡ true → weight_at weights.now k ≢ None)
         (λ k. (k < length weights.now) × (has set.now k ≡ true)
@@ -69,7 +70,7 @@ fn free_place(set: &Signature, weights: &[Option<u128>]) -> Option<usize>
 
 // Whether all places of a set are those of cycles no longer than a limit.
 pub(crate) fn is_placed(set: &Signature, weights: &[Option<u128>], limit: u128) -> bool
-    requires few { length weights.now ≤ 1024 }
+    requires few { length weights.now ≤ MAX_LOOPS }
     ensures placed { Tells result (ArePlacedUpTo limit weights.now set.now) }
 {
     if set.bits().is_empty() {
@@ -108,7 +109,7 @@ fn admit(
     requires lengths { length lengths.now ≡ edge_count mesh.now }
     requires count { length signs.old.sets ≡ edge_count mesh.now }
     requires places { length weights.old ≡ signs.old.width }
-    requires few { signs.old.width ≤ 1024 }
+    requires few { signs.old.width ≤ MAX_LOOPS }
     requires frame { IsFrameOf mesh.now lengths.now cert.now place signs.old weights.old }
     ensures width { signs.new.width ≡ signs.old.width }
     ensures count { length signs.new.sets ≡ edge_count mesh.now }
@@ -144,7 +145,7 @@ fn admit_all(
     requires lengths { length lengths.now ≡ edge_count mesh.now }
     requires count { length signs.old.sets ≡ edge_count mesh.now }
     requires places { length weights.old ≡ signs.old.width }
-    requires few { signs.old.width ≤ 1024 }
+    requires few { signs.old.width ≤ MAX_LOOPS }
     requires frame { IsFrameOf mesh.now lengths.now cert.now 0 signs.old weights.old }
     ensures count { length signs.new.sets ≡ edge_count mesh.now }
     ensures width { signs.new.width ≡ signs.old.width }
@@ -183,7 +184,7 @@ pub(crate) fn frame_cycles(
     requires lengths { length lengths.now ≡ edge_count mesh.now }
     requires places { length cert.now.cycles ≡ length (split_in mesh.now cert.now).left }
     requires width { signs.width ≡ length cert.now.cycles }
-    requires few { signs.width ≤ 1024 }
+    requires few { signs.width ≤ MAX_LOOPS }
     requires signed { signs.sets ≡ edge_signatures mesh.now (split_in mesh.now cert.now) }
     ensures independent { IfOk result (λ f.
         HoldsBelow (length cert.now.cycles) (IsIndependentAt mesh.now cert.now)) }

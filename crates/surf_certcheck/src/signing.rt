@@ -7,6 +7,7 @@ ghost use Rattle.surf_validity.specs.Bases.{split_in};
 ghost use Rattle.surf_validity.specs.Valid.{is_listed};
 ghost use Rattle.surf_certcheck.specs.Split.{AreFlags, is_flagged};
 ghost use Rattle.surf_certcheck.specs.Frames.{HasSplit, edge_signatures};
+ghost use Rattle.surf_base.specs.declared.limits.TheConstants.{MAX_LOOPS};
 
 use crate::links::link_faces;
 use std::alloc::Global;
@@ -39,10 +40,10 @@ pub(crate) fn sign_edges(
     left: &[bool],
 ) -> Result<Signs, NoMemory>
     requires split { HasSplit mesh.now cert.now }
-    requires few { edge_count mesh.now + 2 ≤ mesh.now.vertices + face_count mesh.now + 1024 }
+    requires few { edge_count mesh.now + 2 ≤ mesh.now.vertices + face_count mesh.now + MAX_LOOPS }
     requires left { AreFlags (edge_count mesh.now) (is_listed mesh.now cert.now.left) left.now }
     ensures width { IfOk result (λ s. s.width ≡ length (split_in mesh.now cert.now).left) }
-    ensures few { IfOk result (λ s. s.width ≤ 1024) }
+    ensures few { IfOk result (λ s. s.width ≤ MAX_LOOPS) }
     ensures signed { IfOk result (λ s.
         s.sets ≡ edge_signatures mesh.now (split_in mesh.now cert.now)) }
 {
