@@ -1,6 +1,7 @@
 //! What is answered of a surface, with lengths, a base or a walk. No call here reaches a file.
 #![tactic(auto)]
 
+mod about;
 mod answered;
 mod basis;
 mod certificates;
@@ -11,7 +12,6 @@ mod desk;
 mod disc;
 mod distances;
 mod evidence;
-mod help;
 mod info;
 mod loops;
 mod measures;
@@ -21,6 +21,7 @@ mod summary;
 mod verdicts;
 mod walk;
 
+pub use about::{help, version};
 pub use answered::{Answered, Verdict};
 pub use basis::basis_of;
 pub use certificates::{basis_cert_of, loop_cert_of};
@@ -30,7 +31,6 @@ pub use cycle::cycle_of;
 pub use disc::{disc_of, not_disc};
 pub use distances::dist_of;
 pub use evidence::judge_evidence;
-pub use help::{help, version};
 pub use info::{info_of, loop_count};
 pub use loops::loops_of;
 pub use measures::measures_of;
