@@ -37,7 +37,8 @@ fn loop_set(mesh: &HalfMesh, signs: &Signs, sums: &VertexSets, e: EdgeId) -> Sig
     ensures sum { (rows : TreeRows) → IsClimbed mesh.now rows
         → AreSummed mesh.now rows signs.now.sets sums.now.sets
         → (d : Split) (to : ℕ → ℕ) → AreTaken mesh.now d to signs.now.sets
-        → result ≡ to (walk_signature mesh.now d (loop_walk mesh.now (certified_tree mesh.now rows) e)) }
+        → result
+        ≡ to (walk_signature mesh.now d (loop_walk mesh.now (certified_tree mesh.now rows) e)) }
 {
     mesh.law_of_surface();
     let (u, v) = ends_inside(mesh, e);

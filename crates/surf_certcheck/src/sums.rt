@@ -65,7 +65,8 @@ fn sum_way(mesh: &HalfMesh, rows: &TreeRows, signs: &Signs, v: VertexId, sums: &
     requires room { length sums.old.sets ≡ mesh.now.vertices }
     requires width { sums.old.width ≡ signs.now.width }
     ensures summed { (d : Split) (to : ℕ → ℕ) → AreTaken mesh.now d to signs.now.sets
-        → ((p : ℕ) → parent_at rows.now v ≡ Some p → IsSummedAt mesh.now rows.now d to sums.old.sets p)
+        → ((p : ℕ) → parent_at rows.now v ≡ Some p
+        → IsSummedAt mesh.now rows.now d to sums.old.sets p)
         → IsSummedAt mesh.now rows.now d to sums.new.sets v }
     ensures rest { (u : ℕ) → u ≢ v
         → slice_index sums.new.sets u ≡ slice_index sums.old.sets u }
