@@ -1,10 +1,9 @@
 //! Coordinates in which each cycle of a certificate has a place of its own.
 ghost use Rattle.std.specs.Prelude.{◌≡◌, ◌≢◌, ◌<◌, ◌≤◌, ◌+◌, ℕ, IfOk};
-ghost use Rattle.std.specs.Prelude.{IfErr, MatchOption, MatchBool, All, length, true, None, map};
-ghost use Rattle.std.specs.List.{range_with_len};
+ghost use Rattle.std.specs.Prelude.{IfErr, MatchOption, MatchBool, All, length, true, None};
 ghost use Rattle.surf_z2.specs.Sieve.{has};
 ghost use Rattle.surf_graphs.specs.Cells.{Split};
-ghost use Rattle.surf_surfaces.specs.Signature.{edge_signature, walk_signature};
+ghost use Rattle.surf_surfaces.specs.Signature.{walk_signature};
 ghost use Rattle.surf_surfaces.specs.Surface.{edge_count};
 ghost use Rattle.surf_validity.specs.Bases.{IsClosedList, IsDependent, split_in};
 ghost use Rattle.surf_certcheck.specs.First.{HoldsBelow, Tells};

@@ -1,7 +1,7 @@
 //! Whether a certificate of loops is valid.
 ghost use Rattle.std.specs.Prelude.{◌≡◌, ◌≢◌, ◌<◌, ℕ, ◌^◌, IfOk, IfErr};
 ghost use Rattle.std.specs.Prelude.{MatchOption, length, map, sum, All, Contains};
-ghost use Rattle.surf_surfaces.specs.Mesh.{edges, pair, pair_of};
+ghost use Rattle.surf_surfaces.specs.Mesh.{edges, pair_of};
 ghost use Rattle.surf_surfaces.specs.Surface.{edge_count, face_count};
 ghost use Rattle.surf_surfaces.specs.Walk.{edge_number};
 ghost use Rattle.surf_surfaces.specs.Homology.{total, IsLeastLoopSystem};
