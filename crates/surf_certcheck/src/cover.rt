@@ -1,6 +1,6 @@
 //! Whether the loops through the trees of all bases are sums of cycles that are no longer.
-ghost use Rattle.std.specs.Prelude.{◌≡◌, ◌<◌, ◌≤◌, ℕ, List, MatchOption};
-ghost use Rattle.std.specs.Prelude.{MatchBool, IsPermutation, length};
+ghost use Rattle.std.specs.Prelude.{◌≡◌, ◌<◌, ◌≤◌, ℕ, List};
+ghost use Rattle.std.specs.Prelude.{IsPermutation, length};
 ghost use Rattle.std.specs.List.{range_with_len};
 ghost use Rattle.surf_z2.specs.Space.{Weighed};
 ghost use Rattle.surf_graphs.specs.Cells.{Split};
@@ -10,10 +10,9 @@ ghost use Rattle.surf_surfaces.specs.Loop.{loop_walk};
 ghost use Rattle.surf_validity.specs.Rows.{TreeRows};
 ghost use Rattle.surf_validity.specs.Bases.{IsCovered};
 ghost use Rattle.surf_validity.specs.Valid.{certified_tree};
-ghost use Rattle.surf_certcheck.specs.First.{HoldsBelow, FailsFirst, FindsFirst, Tells};
-ghost use Rattle.surf_certcheck.specs.BasisFaults.{HasTrees, HasBase, AreTreesValid, AreCovered};
-ghost use Rattle.surf_certcheck.specs.BasisFaults.{IsFirstAt, FindsFirstAt};
-ghost use Rattle.surf_certcheck.specs.Frames.{IsFrame, IsFrameOf, AreTaken, IsCoveredBy};
+ghost use Rattle.surf_certcheck.specs.First.{HoldsBelow, FindsFirst, Tells};
+ghost use Rattle.surf_certcheck.specs.BasisFaults.{HasTrees, HasBase, AreTreesValid, FindsFirstAt};
+ghost use Rattle.surf_certcheck.specs.Frames.{IsFrameOf, AreTaken};
 ghost use Rattle.surf_certcheck.specs.Climbs.{IsClimbed, AreSummed};
 ghost use Rattle.surf_certcheck.specs.Covering.{IsSummedUp, HasFrame, IsCoveredIn};
 ghost use Rattle.surf_base.specs.declared.limits.TheConstants.{MAX_LOOPS};
@@ -38,7 +37,8 @@ fn loop_set(mesh: &HalfMesh, signs: &Signs, sums: &VertexSets, e: EdgeId) -> Sig
     ensures sum { (rows : TreeRows) → IsClimbed mesh.now rows
         → AreSummed mesh.now rows signs.now.sets sums.now.sets
         → (d : Split) (to : ℕ → ℕ) → AreTaken mesh.now d to signs.now.sets
-        → result ≡ to (walk_signature mesh.now d (loop_walk mesh.now (certified_tree mesh.now rows) e)) }
+        → result
+        ≡ to (walk_signature mesh.now d (loop_walk mesh.now (certified_tree mesh.now rows) e)) }
 {
     mesh.law_of_surface();
     let (u, v) = ends_inside(mesh, e);

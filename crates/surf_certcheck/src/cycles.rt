@@ -1,11 +1,11 @@
 //! The cycles of a certificate: whether they are closed, and their lengths.
-ghost use Rattle.std.specs.Prelude.{◌≡◌, ◌<◌, ◌≤◌, ◌+◌, ◌^◌, MatchOption};
-ghost use Rattle.std.specs.Prelude.{MatchBool, All, Contains, length, map, sum, slice_index_or};
+ghost use Rattle.std.specs.Prelude.{◌≡◌, ◌<◌, ◌≤◌, ◌+◌, ◌^◌};
+ghost use Rattle.std.specs.Prelude.{All, Contains, length, map, sum, slice_index_or};
 ghost use Rattle.surf_surfaces.specs.Mesh.{edges, pair_of, steps};
 ghost use Rattle.surf_surfaces.specs.Surface.{edge_count};
 ghost use Rattle.surf_surfaces.specs.Walk.{edge_number, first, last, walk_length};
 ghost use Rattle.surf_validity.specs.Bases.{IsClosedList, basis_total};
-ghost use Rattle.surf_certcheck.specs.First.{HoldsBelow, FailsFirst, FindsFirst, Tells};
+ghost use Rattle.surf_certcheck.specs.First.{HoldsBelow, FindsFirst, Tells};
 ghost use Rattle.surf_certcheck.specs.BasisFaults.{cycle_at, IsCycleClosed, IsAlong};
 ghost use Rattle.surf_base.specs.declared.limits.TheConstants.{MAX_LOOPS};
 

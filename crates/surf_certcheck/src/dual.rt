@@ -1,12 +1,12 @@
 //! Whether rows are a tree of the faces.
 ghost use Rattle.std.specs.Prelude.{◌≡◌, ◌<◌, ◌==◌, if◌then◌else◌, true};
-ghost use Rattle.std.specs.Prelude.{MatchOption, MatchBool};
+ghost use Rattle.std.specs.Prelude.{MatchOption};
 ghost use Rattle.surf_surfaces.specs.Mesh.{pair};
 ghost use Rattle.surf_surfaces.specs.Surface.{edge_count, face_count, face_at, faces_of, has_side};
 ghost use Rattle.surf_surfaces.specs.Surface.{borders};
 ghost use Rattle.surf_surfaces.specs.Walk.{edge_number};
 ghost use Rattle.surf_validity.specs.Valid.{IsDualRow};
-ghost use Rattle.surf_certcheck.specs.First.{HoldsBelow, FailsFirst, FindsFirst, Tells};
+ghost use Rattle.surf_certcheck.specs.First.{FindsFirst, Tells};
 ghost use Rattle.surf_certcheck.specs.Rows.{HasDualRows, HasDual};
 
 use crate::edges::faces_inside;

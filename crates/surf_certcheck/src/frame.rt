@@ -1,10 +1,9 @@
 //! Coordinates in which each cycle of a certificate has a place of its own.
 ghost use Rattle.std.specs.Prelude.{◌≡◌, ◌≢◌, ◌<◌, ◌≤◌, ◌+◌, ℕ, IfOk};
-ghost use Rattle.std.specs.Prelude.{IfErr, MatchOption, MatchBool, All, length, true, None, map};
-ghost use Rattle.std.specs.List.{range_with_len};
+ghost use Rattle.std.specs.Prelude.{IfErr, MatchOption, MatchBool, All, length, true, None};
 ghost use Rattle.surf_z2.specs.Sieve.{has};
 ghost use Rattle.surf_graphs.specs.Cells.{Split};
-ghost use Rattle.surf_surfaces.specs.Signature.{edge_signature, walk_signature};
+ghost use Rattle.surf_surfaces.specs.Signature.{walk_signature};
 ghost use Rattle.surf_surfaces.specs.Surface.{edge_count};
 ghost use Rattle.surf_validity.specs.Bases.{IsClosedList, IsDependent, split_in};
 ghost use Rattle.surf_certcheck.specs.First.{HoldsBelow, Tells};
@@ -56,7 +55,8 @@ fn cycle_set(mesh: &HalfMesh, signs: &Signs, list: &[VertexId]) -> Signature
 fn free_place(set: &Signature, weights: &[Option<u128>]) -> Option<usize>
     requires few { length weights.now ≤ MAX_LOOPS }
     ensures free { MatchOption result
-        ((k : ℕ) → k < length weights.now → has set.now k ≡ true → weight_at weights.now k ≢ None)
+        ((k : ℕ) → k < length weights.now → has set.now k ≡ true
+        → weight_at weights.now k ≢ None)
         (λ k. (k < length weights.now) × (has set.now k ≡ true)
         × (weight_at weights.now k ≡ None)) }
 {
@@ -101,32 +101,33 @@ fn admit(
     lengths: &Lengths,
     cert: &BasisCert,
     place: usize,
-    signs: &mut Signs,
-    weights: &mut [Option<u128>],
+    frame: &mut Frame,
 ) -> bool
     requires place { place < length cert.now.cycles }
     requires closed { IsCycleClosed mesh.now cert.now place }
     requires lengths { length lengths.now ≡ edge_count mesh.now }
-    requires count { length signs.old.sets ≡ edge_count mesh.now }
-    requires places { length weights.old ≡ signs.old.width }
-    requires few { signs.old.width ≤ MAX_LOOPS }
-    requires frame { IsFrameOf mesh.now lengths.now cert.now place signs.old weights.old }
-    ensures width { signs.new.width ≡ signs.old.width }
-    ensures count { length signs.new.sets ≡ edge_count mesh.now }
-    ensures places { length weights.new ≡ signs.new.width }
+    requires count { length frame.old.signs.sets ≡ edge_count mesh.now }
+    requires places { length frame.old.weights.items ≡ frame.old.signs.width }
+    requires few { frame.old.signs.width ≤ MAX_LOOPS }
+    requires frame { IsFrameOf mesh.now lengths.now cert.now place
+        frame.old.signs frame.old.weights.items }
+    ensures width { frame.new.signs.width ≡ frame.old.signs.width }
+    ensures count { length frame.new.signs.sets ≡ edge_count mesh.now }
+    ensures places { length frame.new.weights.items ≡ frame.new.signs.width }
     ensures admitted { MatchBool result
         (IsIndependentAt mesh.now cert.now place
-        × IsFrameOf mesh.now lengths.now cert.now (place + 1) signs.new weights.new)
+        × IsFrameOf mesh.now lengths.now cert.now (place + 1)
+        frame.new.signs frame.new.weights.items)
         (IsDependent mesh.now cert.now place) }
 {
     let list = cycle_from(cert, place);
-    let mut rest = cycle_set(mesh, signs, list);
-    match free_place(&rest, weights) {
+    let mut rest = cycle_set(mesh, &frame.signs, list);
+    match free_place(&rest, &frame.weights) {
         None => false,
         Some(free) => {
             rest.add(Signature::unit(free as u32).bits());
-            signs.add_where(free as u32, &rest.bits());
-            weights[free] = Some(length_of(mesh, lengths, list));
+            frame.signs.add_where(free as u32, &rest.bits());
+            frame.weights[free] = Some(length_of(mesh, lengths, list));
             true
         }
     }
@@ -138,25 +139,26 @@ fn admit_all(
     mesh: &HalfMesh,
     lengths: &Lengths,
     cert: &BasisCert,
-    signs: &mut Signs,
-    weights: &mut [Option<u128>],
+    frame: &mut Frame,
 ) -> Option<usize>
     requires closed { HoldsBelow (length cert.now.cycles) (IsCycleClosed mesh.now cert.now) }
     requires lengths { length lengths.now ≡ edge_count mesh.now }
-    requires count { length signs.old.sets ≡ edge_count mesh.now }
-    requires places { length weights.old ≡ signs.old.width }
-    requires few { signs.old.width ≤ MAX_LOOPS }
-    requires frame { IsFrameOf mesh.now lengths.now cert.now 0 signs.old weights.old }
-    ensures count { length signs.new.sets ≡ edge_count mesh.now }
-    ensures width { signs.new.width ≡ signs.old.width }
-    ensures places { length weights.new ≡ signs.old.width }
+    requires count { length frame.old.signs.sets ≡ edge_count mesh.now }
+    requires places { length frame.old.weights.items ≡ frame.old.signs.width }
+    requires few { frame.old.signs.width ≤ MAX_LOOPS }
+    requires frame { IsFrameOf mesh.now lengths.now cert.now 0
+        frame.old.signs frame.old.weights.items }
+    ensures count { length frame.new.signs.sets ≡ edge_count mesh.now }
+    ensures width { frame.new.signs.width ≡ frame.old.signs.width }
+    ensures places { length frame.new.weights.items ≡ frame.old.signs.width }
     ensures frame { MatchOption result
         (HoldsBelow (length cert.now.cycles) (IsIndependentAt mesh.now cert.now)
-        × IsFrameOf mesh.now lengths.now cert.now (length cert.now.cycles) signs.new weights.new)
+        × IsFrameOf mesh.now lengths.now cert.now (length cert.now.cycles)
+        frame.new.signs frame.new.weights.items)
         (DependsFirst mesh.now cert.now) }
 {
     for place in 0..cert.cycles().len() {
-        if !admit(mesh, lengths, cert, place, signs, weights) {
+        if !admit(mesh, lengths, cert, place, frame) {
             return Some(place);
         }
     }
@@ -195,10 +197,10 @@ pub(crate) fn frame_cycles(
     ensures places { IfOk result (λ f. length f.weights.items ≡ length cert.now.cycles) }
     ensures fault { IfErr result (IsDependentFault mesh.now cert.now) }
 {
-    let mut signs = signs;
-    let mut weights = no_weights(alloc, cert.cycles().len())?;
-    match admit_all(mesh, lengths, cert, &mut signs, &mut weights) {
-        None => Ok(Frame { signs, weights }),
+    let weights = no_weights(alloc, cert.cycles().len())?;
+    let mut frame = Frame { signs, weights };
+    match admit_all(mesh, lengths, cert, &mut frame) {
+        None => Ok(frame),
         Some(place) => Err(CertFault::Dependent {
             place: place as u32,
         }),

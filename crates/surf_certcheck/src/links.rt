@@ -1,14 +1,13 @@
 //! The tree of faces that a certificate says, as tables of edges and faces.
 ghost use Rattle.std.specs.Prelude.{◌≡◌, ◌≢◌, ◌<◌, ◌==◌, ℕ, IfOk, length};
-ghost use Rattle.std.specs.Prelude.{get_or, false, true};
-ghost use Rattle.surf_z2.specs.Parity.{xor};
+ghost use Rattle.std.specs.Prelude.{true};
 ghost use Rattle.surf_graphs.specs.Trees.{on_path};
 ghost use Rattle.surf_surfaces.specs.Mesh.{pair};
 ghost use Rattle.surf_surfaces.specs.Surface.{edge_count, face_count, face_at, has_side};
 ghost use Rattle.surf_validity.specs.Valid.{dual_tree, IsDualRow};
 ghost use Rattle.surf_certcheck.specs.First.{HoldsBelow};
 ghost use Rattle.surf_certcheck.specs.Rows.{HasDualRows, HasDual};
-ghost use Rattle.surf_certcheck.specs.Paths.{AreLinks, IsLinkOver, HasLink, IsStepUp, AreAllLinks};
+ghost use Rattle.surf_certcheck.specs.Paths.{IsLinkOver, HasLink, IsStepUp, AreAllLinks};
 ghost use Rattle.surf_certcheck.specs.Split.{AreTurned};
 
 use crate::dual::{edge_of_face, face_across};

@@ -1,7 +1,7 @@
 //! Whether a certificate of loops is valid.
 ghost use Rattle.std.specs.Prelude.{◌≡◌, ◌≢◌, ◌<◌, ℕ, ◌^◌, IfOk, IfErr};
 ghost use Rattle.std.specs.Prelude.{MatchOption, length, map, sum, All, Contains};
-ghost use Rattle.surf_surfaces.specs.Mesh.{edges, pair, pair_of};
+ghost use Rattle.surf_surfaces.specs.Mesh.{edges, pair_of};
 ghost use Rattle.surf_surfaces.specs.Surface.{edge_count, face_count};
 ghost use Rattle.surf_surfaces.specs.Walk.{edge_number};
 ghost use Rattle.surf_surfaces.specs.Homology.{total, IsLeastLoopSystem};
@@ -62,7 +62,8 @@ fn total_of(
     requires lengths { length lengths.now ≡ edge_count mesh.now }
     requires edges { All (λ p. Contains (edges mesh.now) (pair_of p)) left.now }
     ensures total { result
-        ≡ sum (map (λ p. loop_size mesh.now lengths.now rows.now (edge_number mesh.now p)) left.now) }
+        ≡ sum (map (λ p. loop_size mesh.now lengths.now rows.now (edge_number mesh.now p))
+        left.now) }
 {
     let mut total = 0u128;
     for i in 0..left.len() {
@@ -147,7 +148,8 @@ pub fn check_loops(
     ensures valid { IfOk result (λ t. IsValidLoops mesh.now lengths.now cert.now
         × (t ≡ loops_total mesh.now lengths.now cert.now)) }
     ensures least { IfOk result (λ t.
-        IsLeastLoopSystem mesh.now lengths.now cert.now.tree.base (certified_loops mesh.now cert.now)
+        IsLeastLoopSystem mesh.now lengths.now cert.now.tree.base
+        (certified_loops mesh.now cert.now)
         × (t ≡ total mesh.now lengths.now (certified_loops mesh.now cert.now))) }
     ensures in_order { IfOk result (λ t. IsLeastLoopSystemInOrder mesh.now lengths.now
         cert.now.tree.base (certified_loops mesh.now cert.now)) }

@@ -1,8 +1,7 @@
 //! Whether the parts of a certificate have the sizes that the mesh asks for.
-ghost use Rattle.std.specs.Prelude.{◌≡◌, ◌<◌, MatchOption, MatchBool, length};
+ghost use Rattle.std.specs.Prelude.{◌≡◌, ◌<◌, MatchOption, length};
 ghost use Rattle.surf_surfaces.specs.Homology.{IsFullCount};
-ghost use Rattle.surf_validity.specs.Bases.{tree_at};
-ghost use Rattle.surf_validity.specs.Bases.{HasBasisShape};
+ghost use Rattle.surf_validity.specs.Bases.{tree_at, HasBasisShape};
 ghost use Rattle.surf_validity.specs.Valid.{HasShape};
 ghost use Rattle.surf_certcheck.specs.First.{HoldsBelow, Tells};
 ghost use Rattle.surf_certcheck.specs.Rows.{HasTreeRows, HasDualRows};

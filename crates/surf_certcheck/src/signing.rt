@@ -1,7 +1,6 @@
 //! The signatures of edges by the trees and the left edges of a certificate.
-ghost use Rattle.std.specs.Prelude.{◌≡◌, ◌≤◌, ◌+◌, IfOk, length, map, filter};
+ghost use Rattle.std.specs.Prelude.{◌≡◌, ◌≤◌, ◌+◌, IfOk, length, filter};
 ghost use Rattle.std.specs.List.{range_with_len};
-ghost use Rattle.surf_surfaces.specs.Signature.{edge_signature};
 ghost use Rattle.surf_surfaces.specs.Surface.{edge_count, face_count};
 ghost use Rattle.surf_validity.specs.Bases.{split_in};
 ghost use Rattle.surf_validity.specs.Valid.{is_listed};

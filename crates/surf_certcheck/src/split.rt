@@ -4,7 +4,7 @@ ghost use Rattle.std.specs.Prelude.{MatchBool, length, take};
 ghost use Rattle.surf_surfaces.specs.Mesh.{pair, pair_lt, edges, among};
 ghost use Rattle.surf_surfaces.specs.Surface.{edge_count, IsSurface};
 ghost use Rattle.surf_validity.specs.Valid.{just_one, IsDivided};
-ghost use Rattle.surf_certcheck.specs.First.{HoldsBelow, FailsFirst, FindsFirst};
+ghost use Rattle.surf_certcheck.specs.First.{FindsFirst};
 ghost use Rattle.surf_certcheck.specs.Rows.{HasTreeRows, HasDualRows};
 ghost use Rattle.surf_certcheck.specs.Split.{AreOne, AreMarks, IsLeastStray, lesser_of, least_with};
 ghost use Rattle.surf_certcheck.specs.Split.{IsLeastBadPair};

@@ -1,14 +1,11 @@
 //! The coordinates of the ways up a tree, summed up from its base on.
 ghost use Rattle.std.specs.Prelude.{◌≡◌, ◌≢◌, ◌<◌, ◌≤◌, ℕ, length};
-ghost use Rattle.std.specs.Prelude.{slice_index, Some, Contains, IsPermutation, IfOk};
+ghost use Rattle.std.specs.Prelude.{slice_index, Some, IsPermutation, IfOk};
 ghost use Rattle.std.specs.List.{range_with_len};
 ghost use Rattle.std.specs.List.Sorted.{IsNonDecreasingBy};
 ghost use Rattle.surf_graphs.specs.Cells.{Split};
-ghost use Rattle.surf_surfaces.specs.Mesh.{edges, pair};
 ghost use Rattle.surf_surfaces.specs.Surface.{edge_count};
-ghost use Rattle.surf_surfaces.specs.Walk.{edge_number};
-ghost use Rattle.surf_signatures.specs.Ways.{way_class};
-ghost use Rattle.surf_validity.specs.Valid.{certified_tree, distance_at, parent_at};
+ghost use Rattle.surf_validity.specs.Valid.{distance_at, parent_at};
 ghost use Rattle.surf_certcheck.specs.Frames.{AreTaken};
 ghost use Rattle.surf_certcheck.specs.Climbs.{IsClimbed, AreSummed, IsSummedAt};
 
@@ -65,7 +62,8 @@ fn sum_way(mesh: &HalfMesh, rows: &TreeRows, signs: &Signs, v: VertexId, sums: &
     requires room { length sums.old.sets ≡ mesh.now.vertices }
     requires width { sums.old.width ≡ signs.now.width }
     ensures summed { (d : Split) (to : ℕ → ℕ) → AreTaken mesh.now d to signs.now.sets
-        → ((p : ℕ) → parent_at rows.now v ≡ Some p → IsSummedAt mesh.now rows.now d to sums.old.sets p)
+        → ((p : ℕ) → parent_at rows.now v ≡ Some p
+        → IsSummedAt mesh.now rows.now d to sums.old.sets p)
         → IsSummedAt mesh.now rows.now d to sums.new.sets v }
     ensures rest { (u : ℕ) → u ≢ v
         → slice_index sums.new.sets u ≡ slice_index sums.old.sets u }

@@ -3,9 +3,8 @@ ghost use Rattle.std.specs.Prelude.{◌≡◌, MatchOption, length};
 ghost use Rattle.surf_surfaces.specs.Surface.{edge_count};
 ghost use Rattle.surf_certcheck.specs.First.{HoldsBelow};
 ghost use Rattle.surf_certcheck.specs.BasisFaults.{HasTrees, HasParentAt, HasDistanceAt};
-ghost use Rattle.surf_certcheck.specs.BasisFaults.{IsNoShortCutAt, HasParents, HasDistances};
-ghost use Rattle.surf_certcheck.specs.BasisFaults.{HasNoShortCut, AreTreesValid, IsTreesFault};
-ghost use Rattle.surf_certcheck.specs.BasisFaults.{IsFirstAt, FindsFirstAt};
+ghost use Rattle.surf_certcheck.specs.BasisFaults.{IsNoShortCutAt, HasParents};
+ghost use Rattle.surf_certcheck.specs.BasisFaults.{AreTreesValid, IsTreesFault, FindsFirstAt};
 
 use crate::edges::ends_inside;
 use crate::fault::CertFault;

@@ -11,13 +11,13 @@ add_where-requires-clause-fits c =
     let cert = c.args.cert.now in
     let f = c.requires.frame in
     let sum = c.cycle_set-rest.result in
-    let n = c.args.signs.now.width in
-    let is = set_is mesh c.args.lengths.now cert c.args.place c.requires.place c.args.signs.now c.args.weights.now f
+    let n = c.args.frame.now.signs.width in
+    let is = set_is mesh c.args.lengths.now cert c.args.place c.requires.place c.args.frame.now.signs c.args.frame.now.weights.items f
     c.cycle_from-list.result.now sum c.cycle_from-list.ensures.cycle
     (c.cycle_set-rest.ensures.sum (split_in mesh cert) f.to f.taken) in
     let small : sum < 2 ^ n =
     subst (λ k. sum < 2 ^ k) c.requires.places
-    (set_small mesh c.args.lengths.now cert c.args.place c.requires.place c.args.signs.now c.args.weights.now f sum is) in
+    (set_small mesh c.args.lengths.now cert c.args.place c.requires.place c.args.frame.now.signs c.args.frame.now.weights.items f sum is) in
     let inside : c.in-Some.free < n = omega (arith, c.in-Some.ensures.free.0, c.requires.places) in
     let rest : c.bits-in-Some.result ≡ bit_xor sum (2 ^ c.in-Some.free) =
     c.bits-in-Some.ensures ∙ c.add.ensures ∙ ap (bit_xor sum) (c.bits.ensures ∙ c.unit.ensures) in
@@ -29,11 +29,11 @@ returns-in-None-clause-admitted c =
     let cert = c.args.cert.now in
     let f = c.requires.frame in
     let sum = c.cycle_set-rest.result in
-    let is = set_is mesh c.args.lengths.now cert c.args.place c.requires.place c.args.signs.now c.args.weights.now f
+    let is = set_is mesh c.args.lengths.now cert c.args.place c.requires.place c.args.frame.now.signs c.args.frame.now.weights.items f
     c.cycle_from-list.result.now sum c.cycle_from-list.ensures.cycle
     (c.cycle_set-rest.ensures.sum (split_in mesh cert) f.to f.taken) in
-    none_free mesh c.args.lengths.now cert c.args.place c.requires.place c.args.signs.now c.args.weights.now f sum is
-    c.in-None.ensures.free
+    none_free mesh c.args.lengths.now cert c.args.place c.requires.place c.args.frame.now.signs c.args.frame.now.weights.items f sum is
+    (rw c.deref.ensures.value at c.in-None.ensures.free)
 
 pub returns-in-Some-clause-admitted : goal.returns-in-Some-clause-admitted
 returns-in-Some-clause-admitted c =
@@ -42,15 +42,16 @@ returns-in-Some-clause-admitted c =
     let cert = c.args.cert.now in
     let f = c.requires.frame in
     let sum = c.cycle_set-rest.result in
-    let is = set_is mesh lengths cert c.args.place c.requires.place c.args.signs.now c.args.weights.now f
+    let is = set_is mesh lengths cert c.args.place c.requires.place c.args.frame.now.signs c.args.frame.now.weights.items f
     c.cycle_from-list.result.now sum c.cycle_from-list.ensures.cycle
     (c.cycle_set-rest.ensures.sum (split_in mesh cert) f.to f.taken) in
-    one_free mesh lengths cert c.args.place c.requires.place c.args.signs.now c.args.weights.now f sum c.in-Some.free
+    let free = rw c.deref.ensures.value at c.in-Some.ensures.free in
+    one_free mesh lengths cert c.args.place c.requires.place c.args.frame.now.signs c.args.frame.now.weights.items f sum c.in-Some.free
     c.bits-in-Some.result c.length_of.result c.add_where.new.self _ (record {
       sum_is = is;
-      within = c.in-Some.ensures.free.0;
-      on = c.in-Some.ensures.free.1;
-      free = c.in-Some.ensures.free.2;
+      within = free.0;
+      on = free.1;
+      free = free.2;
       rest_is = c.bits-in-Some.ensures ∙ c.add.ensures ∙ ap (bit_xor sum) (c.bits.ensures ∙ c.unit.ensures);
       weight_is = c.length_of.ensures.length ∙ ap (walk_length mesh lengths) c.cycle_from-list.ensures.cycle;
       count = c.requires.count;

@@ -26,6 +26,6 @@ returns-clause-frame c =
     let cert = c.args.cert.now in
     let end : c.loop-place.place ≡ length cert.cycles = search rules in (
       subst (λ n. HoldsBelow n (IsIndependentAt mesh cert)) end c.loop-place.invariant.before,
-      subst (λ n. IsFrameOf mesh c.args.lengths.now cert n c.loop-place.signs c.loop-place.weights) end
+      subst (λ n. IsFrameOf mesh c.args.lengths.now cert n c.loop-place.frame.signs c.loop-place.frame.weights.items) end
           c.loop-place.invariant.frame,
     )

@@ -8,9 +8,9 @@ use Rattle.surf_certcheck.proofs.frame.admit_all.Given as goal
 -- each cycle before has a place
 abbrev pub invariant-loop-place : goal.invariant-loop-place
 invariant-loop-place l = record {
-  count : length l.signs.sets ≡ edge_count l.mesh;
-  width : l.signs.width ≡ l.initial.signs.width;
-  places : length l.weights ≡ l.signs.width;
+  count : length l.frame.signs.sets ≡ edge_count l.mesh;
+  width : l.frame.signs.width ≡ l.initial.frame.signs.width;
+  places : length l.frame.weights.items ≡ l.frame.signs.width;
   before : HoldsBelow l.place (IsIndependentAt l.mesh l.cert);
-  frame : IsFrameOf l.mesh l.lengths l.cert l.place l.signs l.weights;
+  frame : IsFrameOf l.mesh l.lengths l.cert l.place l.frame.signs l.frame.weights.items;
 }

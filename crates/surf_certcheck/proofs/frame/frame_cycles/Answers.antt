@@ -16,5 +16,5 @@ admit_all-requires-clause-frame c =
     let cycles = ap length c.cycles.ensures.cycles in
     let count : length weights ≡ length d.left =
     omega (arith, c.in_ok-weights.ensures.count, cycles, c.requires.places) in
-    rw c.deref_mut.ensures.value (frame_none mesh d c.args.signs weights
+    (frame_none mesh d c.args.signs weights
     (signed_at mesh d c.args.signs.sets c.requires.signed) count (no_weight weights c.in_ok-weights.ensures.none))
