@@ -24,8 +24,6 @@ PAGE = TOP / "docs" / "believe.md"
 EXCUSED = {
     "surf_surfaces.Mesh.tetrahedron-edges": "an example that is computed where it stands",
     "surf_surfaces.Mesh.tetrahedron-characteristic": "an example that is computed where it stands",
-    "surf_certcheck.BasisFaults.HasNoShortCut": "the checker's loops over bases cite it; it goes to proofs/ with the next change there",
-    "surf_certcheck.BasisFaults.AreCovered": "the checker's loops over bases cite it; it goes to proofs/ with the next change there",
 }
 
 # What each command answers, by the definition that says so, and the names of the cases that lead there. A case of

@@ -1,5 +1,6 @@
 //! A shortest walk in the class of a walk.
 ghost use Rattle.std.specs.Prelude.{◌≡◌, ◌≤◌, ◌*◌, ◌^◌, length, IfOk};
+ghost use Rattle.surf_base.specs.declared.limits.TheConstants.{MAX_COVER_NODES};
 ghost use Rattle.surf_surfaces.specs.Surface.{edge_count, loop_count};
 ghost use Rattle.surf_surfaces.specs.Walk.{IsClosed};
 ghost use Rattle.surf_cover.specs.Starts.{IsLeastInClass};
@@ -25,7 +26,7 @@ pub fn shortest_of(
     walk: &Walk,
 ) -> Result<Answered, Refused>
     requires loops { loop_count mesh.now ≤ 8 }
-    requires nodes { mesh.now.vertices * 2 ^ loop_count mesh.now ≤ 65536 }
+    requires nodes { mesh.now.vertices * 2 ^ loop_count mesh.now ≤ MAX_COVER_NODES }
     requires lengths { length lengths.now ≡ edge_count mesh.now }
     requires closed { IsClosed mesh.now walk.now }
     ensures { Concludes (GivesShortestWalk mesh.now lengths.now walk.now) result }
@@ -47,7 +48,7 @@ fn found_walk(
     walk: &Walk,
 ) -> Result<ClassWalk, NoMemory>
     requires loops { loop_count mesh.now ≤ 8 }
-    requires nodes { mesh.now.vertices * 2 ^ loop_count mesh.now ≤ 65536 }
+    requires nodes { mesh.now.vertices * 2 ^ loop_count mesh.now ≤ MAX_COVER_NODES }
     requires lengths { length lengths.now ≡ edge_count mesh.now }
     requires closed { IsClosed mesh.now walk.now }
     ensures { IfOk result (IsLeastInClass mesh.now lengths.now walk.now) }

@@ -31,7 +31,7 @@ impl Model for Choice {
     ghost view = { λ c. record { width = c.width; kept = c.kept.items } };
 
     ghost invariant = { λ c. (c.sieve.width ≡ c.width) × (length c.kept.items ≤ c.width)
-        × (c.width ≤ vec_capacity c.kept) × (c.width ≤ 1024)
+        × (c.width ≤ vec_capacity c.kept) × (c.width ≤ MAX_LOOPS)
         × All (λ s. s.signature < 2 ^ c.width) c.kept.items };
 }
 

@@ -1,6 +1,7 @@
 //! Sets of numbers in words of 64 bits, the word of the least numbers first.
 
 ghost use Rattle.std.specs.Prelude.{ℕ, ◌≡◌, ◌<◌, ◌≤◌, ◌*◌, ◌^◌, IsTrue, MatchOption, bit_xor, length, slice_index};
+ghost use Rattle.surf_base.specs.declared.limits.TheConstants.{MAX_LOOPS};
 ghost use Rattle.surf_z2.specs.Sieve.{has};
 ghost use Rattle.surf_z2.specs.Words.{number};
 
@@ -39,7 +40,7 @@ pub(crate) fn toggle_bit(words: &mut [u64], k: usize)
 
 /// A bit of the words, if they have one.
 pub(crate) fn first_bit(words: &[u64]) -> Option<usize>
-    requires { length words.now ≤ 1024 }
+    requires { length words.now ≤ MAX_LOOPS }
     ensures { MatchOption result (number words.now ≡ 0) (λ k. (k < 64 * length words.now)
         × IsTrue (has (number words.now) k)) }
 {

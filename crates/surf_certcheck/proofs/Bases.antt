@@ -1,9 +1,21 @@
 -- Conditions that hold below a bound, and the first fault over all bases.
-use Rattle.std.proofs.Common.{◌≡◌, ℕ, ◌<◌, ◌+◌, Bool, true, false, eqb, eq-eqb, sym, ◌∙◌, subst, arith, inl, inr}
+use Rattle.std.proofs.Common.{◌≡◌, ℕ, ◌<◌, ◌+◌, List, Bool, true, false, eqb, eq-eqb, sym, ◌∙◌, subst, arith, inl, inr}
 use Rattle.std.specs.Bool.{MatchBool}
 use Rattle.std.proofs.lemmas.Bool.{cases_eq, eqb-true, false≢true}
+use Rattle.surf_surfaces.specs.Mesh.{Mesh}
+use Rattle.surf_surfaces.specs.Surface.{edge_count}
+use Rattle.surf_validity.specs.Rows.{BasisCert}
+use Rattle.surf_validity.specs.Bases.{IsCovered}
 use Rattle.surf_certcheck.specs.First.{HoldsBelow, FailsFirst}
-use Rattle.surf_certcheck.specs.BasisFaults.{IsFirstAt}
+use Rattle.surf_certcheck.specs.BasisFaults.{IsFirstAt, IsNoShortCutAt}
+
+-- no edge is a short cut in the tree at a base
+abbrev pub HasNoShortCut : Mesh → List ℕ → BasisCert → ℕ → Type 0
+HasNoShortCut mesh lengths cert x = HoldsBelow (edge_count mesh) (IsNoShortCutAt mesh lengths cert x)
+
+-- the loops of all edges through the tree at a base are sums of cycles that are no longer
+abbrev pub AreCovered : Mesh → List ℕ → BasisCert → ℕ → Type 0
+AreCovered mesh lengths cert x = HoldsBelow (edge_count mesh) (IsCovered mesh lengths cert x)
 
 -- where it holds at all bases before
 pub first_at : (bases n : ℕ) (P : ℕ → ℕ → Type 0) (x k : ℕ) → x < bases → HoldsBelow x (λ y. HoldsBelow n (P y)) →

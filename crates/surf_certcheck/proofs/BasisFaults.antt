@@ -16,11 +16,12 @@ use Rattle.surf_validity.specs.Bases.{tree_at, IsClosedList, IsValidBasis, basis
 use Rattle.surf_validity.proofs.BasisLaws.{valid_bases_are_least}
 use Rattle.surf_certcheck.specs.First.{HoldsBelow}
 use Rattle.surf_certcheck.specs.Split.{IsBadPair}
-use Rattle.surf_certcheck.specs.BasisFaults.{IsCycleClosed, IsIndependentAt, AreCovered, AreTreesDivided, IsBasisShapeFault, IsBasisFault}
+use Rattle.surf_certcheck.specs.BasisFaults.{IsCycleClosed, IsIndependentAt, AreTreesDivided, IsBasisShapeFault, IsBasisFault}
 use Rattle.surf_certcheck.specs.declared.fault.CertPart.{CertPart}
 use Rattle.surf_certcheck.specs.declared.fault.CertPart.TheVariants.{Vertices, Faces, Loops, Base}
 use Rattle.surf_certcheck.specs.declared.fault.CertFault.{CertFault}
 use Rattle.surf_certcheck.specs.declared.fault.CertFault.TheVariants.{Shape, Parent, Distance, Slack, Dual, Split, Heavier, NotClosed, Dependent, Uncovered, Memory}
+use Rattle.surf_certcheck.proofs.Bases.{AreCovered}
 use Rattle.surf_certcheck.proofs.Validity.{has_trees}
 
 -- all conditions together

@@ -67,10 +67,6 @@ HasParents mesh cert x = HoldsBelow mesh.vertices (HasParentAt mesh cert x)
 abbrev pub HasDistances : Mesh → List ℕ → BasisCert → ℕ → Type 0
 HasDistances mesh lengths cert x = HoldsBelow mesh.vertices (HasDistanceAt mesh lengths cert x)
 
--- no edge is a short cut in it
-abbrev pub HasNoShortCut : Mesh → List ℕ → BasisCert → ℕ → Type 0
-HasNoShortCut mesh lengths cert x = HoldsBelow (edge_count mesh) (IsNoShortCutAt mesh lengths cert x)
-
 -- the trees at all bases are ones of shortest walks
 abbrev pub AreTreesValid : Mesh → List ℕ → BasisCert → Type 0
 AreTreesValid mesh lengths cert = (x : ℕ) → x < mesh.vertices → IsTreeValid mesh lengths (tree_at cert x)
@@ -117,11 +113,8 @@ IsDependentFault mesh cert (Dependent place) = DependsFirst mesh cert place
 IsDependentFault mesh cert Memory = Unit {0}
 IsDependentFault mesh cert fault = ⊥
 
--- the loops of all edges through the tree at a base are sums of cycles that are no longer
-abbrev pub AreCovered : Mesh → List ℕ → BasisCert → ℕ → Type 0
-AreCovered mesh lengths cert x = HoldsBelow (edge_count mesh) (IsCovered mesh lengths cert x)
-
--- the least base with an edge whose loop isn't, and the least such edge by its ends
+-- the least base with an edge whose loop through the tree there is no sum of cycles that are no longer, and the least
+-- such edge by its ends
 abbrev pub IsUncovered : Mesh → List ℕ → BasisCert → ℕ → ℕ × ℕ → Type 0
 IsUncovered mesh lengths cert base p =
     (e : ℕ) × (ends mesh e ≡ p) × IsFirstAt mesh.vertices (edge_count mesh) (IsCovered mesh lengths cert) base e

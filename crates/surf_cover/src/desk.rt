@@ -1,5 +1,6 @@
 //! The distances over the cover from one base.
 ghost use Rattle.std.specs.Prelude.{◌≡◌, ◌<◌, length, IfOk};
+ghost use Rattle.surf_base.specs.declared.limits.TheConstants.{MAX_COVER_NODES};
 ghost use Rattle.surf_graphs.specs.Cells.{Split};
 ghost use Rattle.surf_surfaces.specs.Surface.{edge_count};
 ghost use Rattle.surf_cover.specs.Networks.{IsCertifiedBy, IsReadOff};
@@ -44,7 +45,7 @@ impl Model for CoverDesk {
 
     ghost invariant = { λ d. (length d.heap ≡ length d.distance.items)
         × (length d.distance.items ≡ d.vertices * d.sets)
-        × (d.vertices * d.sets ≤ 65536) };
+        × (d.vertices * d.sets ≤ MAX_COVER_NODES) };
 }
 
 impl CoverDesk {

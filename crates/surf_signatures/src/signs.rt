@@ -37,7 +37,7 @@ impl Model for Signs {
       sets = sets_in (words_for s.width) s.edges s.table.items;
     } };
 
-    ghost invariant = { λ s. (s.width ≤ 1024)
+    ghost invariant = { λ s. (s.width ≤ MAX_LOOPS)
         × (length s.table.items ≡ s.edges * words_for s.width) };
 }
 

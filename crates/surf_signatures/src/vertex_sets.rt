@@ -28,7 +28,7 @@ impl Model for VertexSets {
       sets = sets_in (words_for s.width) s.vertices s.table.items;
     } };
 
-    ghost invariant = { λ s. (s.width ≤ 1024)
+    ghost invariant = { λ s. (s.width ≤ MAX_LOOPS)
         × (length s.table.items ≡ s.vertices * words_for s.width) };
 }
 

@@ -3,7 +3,7 @@ ghost use Rattle.std.specs.Prelude.{◌≡◌, ◌≤◌, ◌*◌, ◌^◌, leng
 ghost use Rattle.surf_surfaces.specs.Surface.{edge_count, loop_count};
 ghost use Rattle.surf_answers.specs.Tells.{ConcludesOver, Takes};
 ghost use Rattle.surf_run.specs.Tightening.{HasSmallCover, OnCovered, OnShortest, OnTightLengths, OnTightMesh, OnTightText};
-ghost use Rattle.surf_base.specs.declared.limits.TheConstants.{MAX_TEXT};
+ghost use Rattle.surf_base.specs.declared.limits.TheConstants.{MAX_COVER_NODES, MAX_TEXT};
 
 use crate::reading::{read_file, read_looped};
 use crate::walks::walk_named;
@@ -53,7 +53,7 @@ fn on_text<S: Shelf>(
 fn test_cover(mesh: &HalfMesh) -> Result<(), Refused>
     ensures tells { Takes (λ _. mesh.now) (HasSmallCover mesh.now) result }
     ensures loops { IfOk result (λ _. loop_count mesh.now ≤ 8) }
-    ensures nodes { IfOk result (λ _. mesh.now.vertices * 2 ^ loop_count mesh.now ≤ 65536) }
+    ensures nodes { IfOk result (λ _. mesh.now.vertices * 2 ^ loop_count mesh.now ≤ MAX_COVER_NODES) }
 {
     let loops = loop_count(mesh);
     if loops > MAX_COVER_LOOPS as u64 {
@@ -89,7 +89,7 @@ fn on_mesh<S: Shelf>(
     walk: &str,
 ) -> Result<Answered, Refused>
     requires loops { loop_count mesh.now ≤ 8 }
-    requires nodes { mesh.now.vertices * 2 ^ loop_count mesh.now ≤ 65536 }
+    requires nodes { mesh.now.vertices * 2 ^ loop_count mesh.now ≤ MAX_COVER_NODES }
     ensures holds { S.holds shelf.new ≡ S.holds shelf.old }
     ensures later { S.faults shelf.old ≤ S.faults shelf.new }
     ensures tells { ConcludesOver (S.holds shelf.old) (S.faults shelf.old) (S.faults shelf.new)
@@ -107,7 +107,7 @@ fn on_lengths<S: Shelf>(
     walk: &str,
 ) -> Result<Answered, Refused>
     requires loops { loop_count mesh.now ≤ 8 }
-    requires nodes { mesh.now.vertices * 2 ^ loop_count mesh.now ≤ 65536 }
+    requires nodes { mesh.now.vertices * 2 ^ loop_count mesh.now ≤ MAX_COVER_NODES }
     requires lengths { length lengths.now ≡ edge_count mesh.now }
     ensures holds { S.holds shelf.new ≡ S.holds shelf.old }
     ensures later { S.faults shelf.old ≤ S.faults shelf.new }

@@ -1,7 +1,7 @@
 use Rattle.std.proofs.Common.{◌≡◌, length, IsPermutation}
 use Rattle.std.specs.List.{range_with_len}
 use Rattle.surf_certcheck.specs.First.{HoldsBelow}
-use Rattle.surf_certcheck.specs.BasisFaults.{AreCovered}
+use Rattle.surf_certcheck.proofs.Bases.{AreCovered}
 use Rattle.surf_certcheck.proofs.cover.first_uncovered.Given as goal
 
 -- the loops at the bases before are covered

@@ -1,5 +1,5 @@
 use Rattle.surf_certcheck.specs.First.{HoldsBelow}
-use Rattle.surf_certcheck.specs.BasisFaults.{HasNoShortCut}
+use Rattle.surf_certcheck.proofs.Bases.{HasNoShortCut}
 use Rattle.surf_certcheck.proofs.trees.first_slack.Given as goal
 
 -- no edge is a short cut in the trees before
