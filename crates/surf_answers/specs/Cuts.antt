@@ -19,7 +19,8 @@ is_trimmed Trimmed = true
 
 -- The faces over copies of the vertices are the surface opened along the cut that is chosen at the base, full or
 -- trimmed, with the copies in order. That is an opening: a disc with every face once.
-pub record IsCutAt (mesh : Mesh) (lengths : List ℕ) (base : ℕ) (trim : Bool) (origins : List ℕ) (faces : List (List ℕ)) : Type 0 where
+pub record IsCutAt (mesh : Mesh) (lengths : List ℕ) (base : ℕ) (trim : Bool) (origins : List ℕ)
+    (faces : List (List ℕ)) : Type 0 where
   pub trees : Trees
   pub chosen : AreChosenAt mesh lengths base trees
   pub opened : IsChosenOpening mesh trees.tree trees.cotree trim origins faces
@@ -28,11 +29,13 @@ pub record IsCutAt (mesh : Mesh) (lengths : List ℕ) (base : ℕ) (trim : Bool)
 -- An opened surface as an OFF text: the keyword and the colours that were read, the line of each copy's vertex, and a
 -- comment for each copy that says of which vertex it is.
 abbrev pub cut_text : OffParts → List ℕ → List (List ℕ) → List ℕ
-cut_text parts origins faces = opened_text parts origins faces (edge_count (record { vertices = length origins; faces = faces }))
+cut_text parts origins faces =
+    opened_text parts origins faces (edge_count (record { vertices = length origins; faces = faces }))
 
 -- The surface is cut open at the base, and the text of the disc is the answer. Read again without limits, it has the
 -- keyword and the colours that were read, the line of each copy's vertex, and the faces over the copies.
-pub record GivesCut (trim : Bool) (parts : OffParts) (mesh : Mesh) (lengths : List ℕ) (base : ℕ) (outcome : Outcome) : Type 0 where
+pub record GivesCut (trim : Bool) (parts : OffParts) (mesh : Mesh) (lengths : List ℕ) (base : ℕ)
+    (outcome : Outcome) : Type 0 where
   pub origins : List ℕ
   pub faces : List (List ℕ)
   pub is_cut : IsCutAt mesh lengths base trim origins faces

@@ -6,8 +6,8 @@ use Rattle.surf_sew.specs.Texts.{sewn_text, RereadsSewn}
 use Rattle.surf_texts.specs.Outcome.{Outcome}
 use Rattle.surf_answers.specs.Says.{Says}
 
--- The sewn surface is written with the keyword, the colours and the vertex lines of its copies. Read again, the text has
--- them and the surface.
+-- The sewn surface is written with the keyword, the colours and the vertex lines of its copies. Read again, the text
+-- has them and the surface.
 pub record GivesSewn (parts : OffParts) (origins : List ℕ) (mesh : Mesh) (outcome : Outcome) : Type 0 where
   pub says : Says (sewn_text parts origins mesh) outcome
   pub rereads : RereadsSewn parts origins mesh

@@ -1,4 +1,5 @@
--- What is found on a surface in short: its counts, and what its least loops, its least basis and its shortest cycle measure.
+-- What is found on a surface in short: its counts, and what its least loops, its least basis and its shortest cycle
+-- measure.
 use Rattle.std.specs.Prelude.{◌≡◌, ℕ, List, ◌∷◌, ◌++◌, map, sum}
 use Rattle.surf_surfaces.specs.Mesh.{Mesh}
 use Rattle.surf_surfaces.specs.Walk.{walk_length}
@@ -29,8 +30,8 @@ pub record BasisTotals (mesh : Mesh) (lengths : List ℕ) (total : ℕ) : Type 0
   pub least : LeastSimpleBasis mesh lengths basis
   pub is : total ≡ total_size basis
 
--- The first candidate for the basis, a simple cycle that doesn't separate the surface such that none is shorter, has this
--- length.
+-- The first candidate for the basis, a simple cycle that doesn't separate the surface such that none is shorter, has
+-- this length.
 pub record CycleMeasures (mesh : Mesh) (lengths : List ℕ) (size : ℕ) : Type 0 where
   pub trees : ℕ → Trees
   pub chosen : AreChosen mesh lengths trees

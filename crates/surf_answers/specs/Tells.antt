@@ -35,16 +35,20 @@ abbrev pub Concludes : (Outcome → Type 0) → Result Answered Refused → Type
 Concludes end (Ok a) = end (answers (verdict_status a.verdict) a.text.items)
 Concludes end (Err e) = Why end (cause_of e)
 
--- A function that reads files refuses so, wherever it is told what they hold. A read that failed is a fault that was counted, or a file that isn't there.
+-- A function that reads files refuses so, wherever it is told what they hold. A read that failed is a fault that was
+-- counted, or a file that isn't there.
 abbrev pub WhyOver : Option Files → ℕ → ℕ → (Files → Outcome → Type 0) → Cause → Type 0
 WhyOver holds old new ended (due outcome) = IfSome holds (λ files. ended files outcome)
 WhyOver holds old new ended unread = HasRisen old new ⊎ IsTold holds (λ files. ended files misses)
 WhyOver holds old new ended starved = Unit {0}
 
-abbrev pub TakesOver : {T A : Type 0} → Option Files → ℕ → ℕ → (T → A) → (Files → Result A Outcome → Type 0) → Result T Refused → Type 0
+abbrev pub TakesOver : {T A : Type 0} → Option Files → ℕ → ℕ → (T → A) → (Files → Result A Outcome → Type 0) →
+    Result T Refused → Type 0
 TakesOver holds old new view step (Ok x) = IfSome holds (λ files. step files (Ok (view x)))
-TakesOver holds old new view step (Err e) = WhyOver holds old new (λ files outcome. step files (Err outcome)) (cause_of e)
+TakesOver holds old new view step (Err e) =
+    WhyOver holds old new (λ files outcome. step files (Err outcome)) (cause_of e)
 
 abbrev pub ConcludesOver : Option Files → ℕ → ℕ → (Files → Outcome → Type 0) → Result Answered Refused → Type 0
-ConcludesOver holds old new end (Ok a) = IfSome holds (λ files. end files (answers (verdict_status a.verdict) a.text.items))
+ConcludesOver holds old new end (Ok a) =
+    IfSome holds (λ files. end files (answers (verdict_status a.verdict) a.text.items))
 ConcludesOver holds old new end (Err e) = WhyOver holds old new end (cause_of e)

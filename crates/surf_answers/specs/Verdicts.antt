@@ -39,10 +39,12 @@ pub record SaysFault (IsFault : CertFault → Type 0) (outcome : Outcome) : Type
   pub text : outcome ≡ answers 1 (fault_line fault)
 
 abbrev pub JudgesLoops : Mesh → List ℕ → LoopCert → Outcome → Type 0
-JudgesLoops mesh lengths cert outcome = SaysLoops mesh lengths cert outcome ⊎ SaysFault (IsLoopFault mesh lengths cert) outcome
+JudgesLoops mesh lengths cert outcome =
+    SaysLoops mesh lengths cert outcome ⊎ SaysFault (IsLoopFault mesh lengths cert) outcome
 
 abbrev pub JudgesBasis : Mesh → List ℕ → BasisCert → Outcome → Type 0
-JudgesBasis mesh lengths cert outcome = SaysBasis mesh lengths cert outcome ⊎ SaysFault (IsBasisFault mesh lengths cert) outcome
+JudgesBasis mesh lengths cert outcome =
+    SaysBasis mesh lengths cert outcome ⊎ SaysFault (IsBasisFault mesh lengths cert) outcome
 
 abbrev pub JudgesCert : Mesh → List ℕ → Cert → Outcome → Type 0
 JudgesCert mesh lengths (Loops cert) outcome = JudgesLoops mesh lengths cert outcome

@@ -1,5 +1,6 @@
 -- Candidates for a basis: their order, which are independent, and what is kept of them.
-use Rattle.std.specs.Prelude.{ℕ, ◌≡◌, ◌<◌, Bool, true, false, IsTrue, ◌&&◌, ◌||◌, ◌==◌, nat_lt, List, [], ◌∷◌, map, All, Option}
+use Rattle.std.specs.Prelude.{ℕ, ◌≡◌, ◌<◌, Bool, true, false, IsTrue, ◌&&◌, ◌||◌, ◌==◌, nat_lt, List, [], ◌∷◌, map}
+use Rattle.std.specs.Prelude.{All, Option}
 use Rattle.std.specs.Option.{option_map}
 use Rattle.surf_z2.specs.Greedy.{greedy}
 use Rattle.surf_z2.specs.Space.{numbers, is_nothing}

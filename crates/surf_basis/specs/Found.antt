@@ -1,5 +1,7 @@
 -- Loops that searches find, as signed candidates.
-use Rattle.std.specs.Prelude.{ℕ, ◌≡◌, ◌≢◌, ◌<◌, ◌+◌, ◌^◌, ◌==◌, ◌&&◌, ◌||◌, true, false, ◌⊎◌, fold, IsPermutation, not, min, Bool, IsTrue, bit_xor, List, [], ◌∷◌, map, All, Contains, length, slice_index, Option, Some, None, if◌then◌else◌}
+use Rattle.std.specs.Prelude.{ℕ, ◌≡◌, ◌≢◌, ◌<◌, ◌+◌, ◌^◌, ◌==◌, ◌&&◌, ◌||◌, true, false, ◌⊎◌, fold, IsPermutation}
+use Rattle.std.specs.Prelude.{not, min, Bool, IsTrue, bit_xor, List, [], ◌∷◌, map, All, Contains, length, slice_index}
+use Rattle.std.specs.Prelude.{Option, Some, None, if◌then◌else◌}
 use Rattle.std.specs.List.Sorted.{IsNonDecreasingBy}
 use Rattle.surf_z2.specs.Order.{merge, IsInOrder}
 use Rattle.surf_z2.specs.Space.{numbers, Independent}
@@ -194,8 +196,8 @@ abbrev pub earlier_of : Option Candidate → Signed → Option Candidate
 earlier_of None s = Some s.candidate
 earlier_of (Some c) s = if earlier c s.candidate then Some c else Some s.candidate
 
--- of the loops at the vertices of a set that aren't null one comes first, and it has the candidate's length and base; or
--- all are null
+-- of the loops at the vertices of a set that aren't null one comes first, and it has the candidate's length and base;
+-- or all are null
 abbrev pub IsFirstOf : Mesh → List ℕ → (ℕ → Tree) → (ℕ → Bool) → Option Candidate → Type 0
 IsFirstOf mesh lengths trees set None = (z e : ℕ) → z < mesh.vertices → IsTrue (set z) → e < edge_count mesh →
     IsNull mesh (loop_walk mesh (trees z) e)
@@ -208,8 +210,8 @@ IsFirstAmong mesh lengths s vertices first = (trees : ℕ → Trees) → AreChos
     IsSplit (cells_of mesh) d → AreSignatures mesh d s →
     IsFirstOf mesh lengths (λ x. (trees x).tree) (is_among vertices) first
 
--- the first candidate has the length and the base, and is the first loop there, whichever trees show the choice; or there
--- is no candidate
+-- the first candidate has the length and the base, and is the first loop there, whichever trees show the choice; or
+-- there is no candidate
 abbrev pub IsFirstPlace : Mesh → List ℕ → Option Candidate → Type 0
 IsFirstPlace mesh lengths None = (trees : ℕ → Trees) → AreChosen mesh lengths trees → candidates mesh lengths trees ≡ []
 IsFirstPlace mesh lengths (Some c) = (trees : ℕ → Trees) → AreChosen mesh lengths trees → (c.base < mesh.vertices)

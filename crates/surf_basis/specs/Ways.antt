@@ -29,7 +29,8 @@ pub record IsWayAt (mesh : Mesh) (lengths : List ℕ) (base : ℕ) (s : CotreeTa
 abbrev pub AreWays : Mesh → List ℕ → ℕ → CotreeTables → NearTables → WayTables → Type 0
 AreWays mesh lengths base s t w = (v : ℕ) → v < mesh.vertices → IsTrue (is_near t v) → IsWayAt mesh lengths base s w v
 
--- a class for the way to one more vertex: none at the base, elsewhere that of the parent and the signature of the edge to it
+-- a class for the way to one more vertex: none at the base, elsewhere that of the parent and the signature of the
+-- edge to it
 pub record IsNumbered (s : CotreeTables) (t : NearTables) (base v : ℕ) (old new : WayTables) : Type 0 where
   pub numbered : slice_index new.numbers v < length new.classes
   pub class : class_at new v ≡ (if v == base then 0

@@ -2,7 +2,8 @@
 ghost use Rattle.std.specs.Prelude.{◌≡◌, ◌<◌, ◌&&◌, IsTrue, bit_xor, min, All, Contains, length, IfOk, OnOk};
 ghost use Rattle.surf_surfaces.specs.Surface.{edge_count, ends};
 ghost use Rattle.surf_near.specs.Near.{AreNearTables, is_near};
-ghost use Rattle.surf_basis.specs.Found.{surface_of, search_of, IsReady, is_between, told_loop, wanted_loop, search_at, IsTold, ListsAt, AreTold, AreFound};
+ghost use Rattle.surf_basis.specs.Found.{surface_of, search_of, IsReady, is_between, told_loop, wanted_loop};
+ghost use Rattle.surf_basis.specs.Found.{search_at, IsTold, ListsAt, AreTold, AreFound};
 ghost use Rattle.surf_basis.specs.Places.{place_of, is_sought, radius_of};
 
 use crate::candidate::{Candidate, Signed, copy_signature};

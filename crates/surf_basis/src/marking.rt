@@ -1,5 +1,6 @@
 //! Vertices that every closed walk meets which isn't null.
-ghost use Rattle.std.specs.Prelude.{◌≡◌, ◌≢◌, ◌<◌, ◌⊎◌, ◌^◌, ℕ, false, true, All, Contains, IsPermutation, IfOk, length, slice_index, slice_index_or};
+ghost use Rattle.std.specs.Prelude.{◌≡◌, ◌≢◌, ◌<◌, ◌⊎◌, ◌^◌, ℕ, false, true, All, Contains, IsPermutation, IfOk};
+ghost use Rattle.std.specs.Prelude.{length, slice_index, slice_index_or};
 ghost use Rattle.surf_surfaces.specs.Surface.{edge_count};
 ghost use Rattle.surf_basis.specs.Marks.{AreMarkedIn, HasMarkedEnd, HasSignedEnds};
 

@@ -1,6 +1,7 @@
 //! The sieve.
 
-ghost use Rattle.std.specs.Prelude.{ℕ, ◌≡◌, ◌<◌, ◌≤◌, ◌*◌, ◌^◌, ◌++◌, ◌∷◌, List, [], All, IfOk, MatchBool, length, vec_len, vec_capacity, ◌+◌, if◌then◌else◌};
+ghost use Rattle.std.specs.Prelude.{ℕ, ◌≡◌, ◌<◌, ◌≤◌, ◌*◌, ◌^◌, ◌++◌, ◌∷◌, List, [], All, IfOk, MatchBool, length};
+ghost use Rattle.std.specs.Prelude.{vec_len, vec_capacity, ◌+◌, if◌then◌else◌};
 ghost use Rattle.surf_z2.specs.Space.{Independent, Spanned, numbers};
 ghost use Rattle.surf_bits.specs.Rows.{left_of, sieve_rows};
 ghost use Rattle.surf_base.specs.declared.limits.TheConstants.{MAX_LOOPS};

@@ -2,7 +2,8 @@
 ghost use Rattle.std.specs.Prelude.{◌≡◌};
 ghost use Rattle.std.specs.Str.{bytes_eq};
 ghost use Rattle.surf_text.specs.Text.{tokens_of};
-ghost use Rattle.surf_cert.specs.Lines.{cert_number, is_word, is_header, counts_of, base_of, base_at, parent_of, tree_row, below_root, dual_row, pair_of, is_next, pair_behind};
+ghost use Rattle.surf_cert.specs.Lines.{cert_number, is_word, is_header, counts_of, base_of, base_at, parent_of};
+ghost use Rattle.surf_cert.specs.Lines.{tree_row, below_root, dual_row, pair_of, is_next, pair_behind};
 
 use surf_base::VertexId;
 use surf_text::{Tokens, read_whole};

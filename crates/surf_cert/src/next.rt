@@ -2,7 +2,8 @@
 ghost use Rattle.std.specs.Prelude.{◌≡◌, OnOk};
 ghost use Rattle.surf_text.specs.Text.{tokens_of};
 ghost use Rattle.surf_text.specs.Walks.{text_line};
-ghost use Rattle.surf_cert.specs.Lines.{counts_of, base_of, base_at, tree_row, dual_row, pair_behind, the_word, numbers_of, cycle_of};
+ghost use Rattle.surf_cert.specs.Lines.{counts_of, base_of, base_at, tree_row, dual_row, pair_behind, the_word};
+ghost use Rattle.surf_cert.specs.Lines.{numbers_of, cycle_of};
 ghost use Rattle.surf_cert.specs.Grammar.{next_of, formed};
 ghost use Rattle.surf_cert.specs.Gives.{Gives};
 

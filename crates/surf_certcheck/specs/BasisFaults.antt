@@ -1,5 +1,6 @@
 -- Why a certificate of a basis isn't valid.
-use Rattle.std.specs.Prelude.{◌≡◌, ℕ, ◌<◌, ◌+◌, List, [], length, Contains, slice_index, slice_index_or, Option, MatchOption}
+use Rattle.std.specs.Prelude.{◌≡◌, ℕ, ◌<◌, ◌+◌, List, [], length, Contains, slice_index, slice_index_or, Option}
+use Rattle.std.specs.Prelude.{MatchOption}
 use Rattle.surf_surfaces.specs.Mesh.{Mesh, pair, edges}
 use Rattle.surf_surfaces.specs.Surface.{face_count, edge_count, ends}
 use Rattle.surf_surfaces.specs.Homology.{IsFullCount}
@@ -12,7 +13,9 @@ use Rattle.surf_certcheck.specs.Split.{IsLeastBadPair}
 use Rattle.surf_certcheck.specs.declared.fault.CertPart.{CertPart}
 use Rattle.surf_certcheck.specs.declared.fault.CertPart.TheVariants.{Vertices, Faces, Loops, Base}
 use Rattle.surf_certcheck.specs.declared.fault.CertFault.{CertFault}
-use Rattle.surf_certcheck.specs.declared.fault.CertFault.TheVariants.{Shape, Parent, Distance, Slack, Dual, Split, Heavier, NotClosed, Dependent, Uncovered, Memory}
+use Rattle.surf_certcheck.specs.declared.fault.CertFault.TheVariants.{Shape, Parent, Distance, Slack, Dual, Split}
+use Rattle.surf_certcheck.specs.declared.fault.CertFault.TheVariants.{Heavier, NotClosed, Dependent, Uncovered}
+use Rattle.surf_certcheck.specs.declared.fault.CertFault.TheVariants.{Memory}
 
 -- ---- sizes
 
@@ -138,7 +141,8 @@ IsBasisFault mesh lengths cert (Distance base v) =
 IsBasisFault mesh lengths cert (Slack base u v) =
     HasBasisShape mesh cert × IsTreesFault mesh lengths cert (Slack base u v)
 IsBasisFault mesh lengths cert (Dual face) =
-    HasBasisShape mesh cert × AreTreesValid mesh lengths cert × FailsFirst (face_count mesh) (HasDual mesh cert.dual) face
+    HasBasisShape mesh cert × AreTreesValid mesh lengths cert
+    × FailsFirst (face_count mesh) (HasDual mesh cert.dual) face
 IsBasisFault mesh lengths cert (Split u v) =
     HasBasisShape mesh cert × AreTreesValid mesh lengths cert × IsDualValid mesh cert.dual
     × IsLeastBadPair mesh (tree_at cert 0) cert.dual cert.left (u, v)

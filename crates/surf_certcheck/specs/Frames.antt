@@ -1,6 +1,7 @@
 -- Coordinates of signatures in which each of some cycles has a place of its own.
 use Rattle.std.specs.List.{range_with_len}
-use Rattle.std.specs.Prelude.{◌≡◌, ℕ, ◌<◌, ◌≤◌, ◌^◌, true, List, length, map, take, slice_index, slice_index_or, All, Contains, Option, Some, None}
+use Rattle.std.specs.Prelude.{◌≡◌, ℕ, ◌<◌, ◌≤◌, ◌^◌, true, List, length, map, take, slice_index, slice_index_or, All}
+use Rattle.std.specs.Prelude.{Contains, Option, Some, None}
 use Rattle.surf_z2.specs.Space.{numbers, IsLinear, Weighed, SpannedUpToWeight}
 use Rattle.surf_z2.specs.Sieve.{has}
 use Rattle.surf_graphs.specs.Cells.{Split, IsSplit}

@@ -4,14 +4,17 @@ use Rattle.surf_surfaces.specs.Mesh.{Mesh}
 use Rattle.surf_surfaces.specs.Surface.{face_count, edge_count, ends}
 use Rattle.surf_surfaces.specs.Homology.{IsFullCount}
 use Rattle.surf_validity.specs.Rows.{TreeRows, LoopCert}
-use Rattle.surf_validity.specs.Valid.{HasShape, IsNoShortCut, IsTreeValid, IsDualValid, IsDivided, IsNotHeavier, HasNoShorter}
+use Rattle.surf_validity.specs.Valid.{HasShape, IsNoShortCut, IsTreeValid, IsDualValid, IsDivided, IsNotHeavier}
+use Rattle.surf_validity.specs.Valid.{HasNoShorter}
 use Rattle.surf_certcheck.specs.First.{HoldsBelow, FailsFirst}
 use Rattle.surf_certcheck.specs.Rows.{HasTreeRows, HasDualRows, HasParent, HasDistance, HasDual}
 use Rattle.surf_certcheck.specs.Split.{IsLeastBadPair}
 use Rattle.surf_certcheck.specs.declared.fault.CertPart.{CertPart}
 use Rattle.surf_certcheck.specs.declared.fault.CertPart.TheVariants.{Vertices, Faces, Loops, Base}
 use Rattle.surf_certcheck.specs.declared.fault.CertFault.{CertFault}
-use Rattle.surf_certcheck.specs.declared.fault.CertFault.TheVariants.{Shape, Parent, Distance, Slack, Dual, Split, Heavier, NotClosed, Dependent, Uncovered, Memory}
+use Rattle.surf_certcheck.specs.declared.fault.CertFault.TheVariants.{Shape, Parent, Distance, Slack, Dual, Split}
+use Rattle.surf_certcheck.specs.declared.fault.CertFault.TheVariants.{Heavier, NotClosed, Dependent, Uncovered}
+use Rattle.surf_certcheck.specs.declared.fault.CertFault.TheVariants.{Memory}
 
 -- the part doesn't fit the mesh, and those before it do
 abbrev pub IsShapeFault : Mesh → LoopCert → CertPart → Type 0

@@ -1,5 +1,6 @@
 -- The ways through the tree of faces that a certificate says.
-use Rattle.std.specs.Prelude.{◌≡◌, ℕ, ◌<◌, ◌≤◌, Bool, true, false, ◌||◌, List, length, get_or, Option, Some, None, MatchOption, if◌then◌else◌, nat_lt, ◌⊎◌}
+use Rattle.std.specs.Prelude.{◌≡◌, ℕ, ◌<◌, ◌≤◌, Bool, true, false, ◌||◌, List, length, get_or, Option, Some, None}
+use Rattle.std.specs.Prelude.{MatchOption, if◌then◌else◌, nat_lt, ◌⊎◌}
 use Rattle.surf_surfaces.specs.Mesh.{Mesh}
 use Rattle.surf_surfaces.specs.Surface.{face_count, edge_count}
 use Rattle.surf_surfaces.specs.Walk.{edge_number}

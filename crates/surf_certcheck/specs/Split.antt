@@ -1,6 +1,7 @@
 -- Which pairs keep the trees and the list of left pairs from dividing the edges.
 use Rattle.std.specs.List.{list_any}
-use Rattle.std.specs.Prelude.{◌≡◌, ℕ, ◌<◌, ◌⊎◌, Bool, true, false, List, length, get_or, if◌then◌else◌, Option, Some, None, MatchOption}
+use Rattle.std.specs.Prelude.{◌≡◌, ℕ, ◌<◌, ◌⊎◌, Bool, true, false, List, length, get_or, if◌then◌else◌, Option, Some}
+use Rattle.std.specs.Prelude.{None, MatchOption}
 use Rattle.surf_z2.specs.Parity.{xor}
 use Rattle.surf_surfaces.specs.Mesh.{Mesh, pair_of, pair_eq, pair_lt, edges, among}
 use Rattle.surf_surfaces.specs.Surface.{edge_count, ends}

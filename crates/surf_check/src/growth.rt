@@ -1,5 +1,6 @@
 //! A tree of the faces of a surface, with a flag for each face.
-ghost use Rattle.std.specs.Prelude.{◌≡◌, ◌∷◌, ◌++◌, [], ◌<◌, ◌+◌, ◌^◌, ℕ, length, get_or, OnOk, IfOk, true, false, slice_set, Bool};
+ghost use Rattle.std.specs.Prelude.{◌≡◌, ◌∷◌, ◌++◌, [], ◌<◌, ◌+◌, ◌^◌, ℕ, length, get_or, OnOk, IfOk, true, false};
+ghost use Rattle.std.specs.Prelude.{slice_set, Bool};
 ghost use Rattle.surf_z2.specs.Parity.{xor};
 ghost use Rattle.surf_surfaces.specs.Surface.{face_count, face_at};
 ghost use Rattle.surf_surfaces.specs.SideNumber.{side_count, first_side, IsFaceOf};

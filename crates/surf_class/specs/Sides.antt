@@ -1,5 +1,6 @@
 -- Sets of faces that a chain of edges parts, along a tree of the faces.
-use Rattle.std.specs.Prelude.{◌≡◌, ◌≢◌, ℕ, ◌<◌, Bool, false, List, length, slice_index, slice_index_or, Option, Some, None, unwrap_or}
+use Rattle.std.specs.Prelude.{◌≡◌, ◌≢◌, ℕ, ◌<◌, Bool, false, List, length, slice_index, slice_index_or, Option, Some}
+use Rattle.std.specs.Prelude.{None, unwrap_or}
 use Rattle.surf_z2.specs.Parity.{xor}
 use Rattle.surf_surfaces.specs.Mesh.{Mesh}
 use Rattle.surf_surfaces.specs.Surface.{face_count}

@@ -1,5 +1,6 @@
 -- The texts of evidence.
-use Rattle.std.specs.Prelude.{◌≡◌, ◌<◌, ℕ, true, List, [], ◌∷◌, ◌++◌, length, flat_map, codes, decimal, All, AllPairs, Ok}
+use Rattle.std.specs.Prelude.{◌≡◌, ◌<◌, ℕ, true, List, [], ◌∷◌, ◌++◌, length, flat_map, codes, decimal, All, AllPairs}
+use Rattle.std.specs.Prelude.{Ok}
 use Rattle.surf_surfaces.specs.Mesh.{pair_lt}
 use Rattle.surf_cert.specs.Fits.{IsNumber, IsPair}
 use Rattle.surf_text.specs.Numbers.{numbers_text}

@@ -8,7 +8,8 @@ use Rattle.surf_class.specs.Numbers.{numbers_from}
 use Rattle.surf_class.specs.declared.numbers.NumberFault.{NumberFault}
 use Rattle.surf_class.specs.declared.numbers.NumberFault.TheVariants.{Bad, Memory as NoRoom}
 use Rattle.surf_class.specs.declared.fault.WalkFault.{WalkFault}
-use Rattle.surf_class.specs.declared.fault.WalkFault.TheVariants.{Empty, Form, NotVertex, NotEdge, Unclosed, Trailing, Memory}
+use Rattle.surf_class.specs.declared.fault.WalkFault.TheVariants.{Empty, Form, NotVertex, NotEdge, Unclosed, Trailing}
+use Rattle.surf_class.specs.declared.fault.WalkFault.TheVariants.{Memory}
 
 infixl 10 ◌>>=◌
 abbrev pub ◌>>=◌ : {A B : Type 0} → Result A WalkFault → (A → Result B WalkFault) → Result B WalkFault
@@ -49,7 +50,8 @@ if_alone (line ∷ lines) list = Err (Trailing line.number)
 abbrev pub walk_of : Mesh → List TextLine → Result (List ℕ) WalkFault
 walk_of mesh [] = Err Empty
 walk_of mesh (line ∷ lines) =
-    as_numbers (numbers_from 0 (tokens_of line.bytes)) >>= if_vertices mesh >>= if_joined mesh >>= if_closed >>= if_alone lines
+    as_numbers (numbers_from 0 (tokens_of line.bytes)) >>= if_vertices mesh >>= if_joined mesh
+    >>= if_closed >>= if_alone lines
 
 -- the closed walk that a text gives on a mesh, or the first fault
 abbrev pub walk_in : Mesh → List ℕ → Result (List ℕ) WalkFault

@@ -1,5 +1,6 @@
 //! Checks evidence.
-ghost use Rattle.std.specs.Prelude.{◌≡◌, ◌≢◌, ◌<◌, ◌≤◌, ℕ, true, false, All, AllPairs, Contains, IfErr, OnOk, IfOk, MatchOption, length, map, slice_index_or};
+ghost use Rattle.std.specs.Prelude.{◌≡◌, ◌≢◌, ◌<◌, ◌≤◌, ℕ, true, false, All, AllPairs, Contains, IfErr, OnOk, IfOk};
+ghost use Rattle.std.specs.Prelude.{MatchOption, length, map, slice_index_or};
 ghost use Rattle.std.specs.List.{position};
 ghost use Rattle.surf_z2.specs.Parity.{xor, odd};
 ghost use Rattle.surf_z2.specs.Space.{Chain};
@@ -9,7 +10,8 @@ ghost use Rattle.surf_surfaces.specs.Surface.{borders, edge_count, face_count, e
 ghost use Rattle.surf_surfaces.specs.Walk.{IsClosed, edge_number, parity};
 ghost use Rattle.surf_certcheck.specs.First.{HoldsBelow, FailsFirst};
 ghost use Rattle.surf_certcheck.specs.Split.{AreFlags, is_flagged};
-ghost use Rattle.surf_classes.specs.Evidence.{IsEvidence, IsNullEvidence, IsOddEvidence, null_faces, odd_pairs, is_listed, has_odd_sides, is_odd_in};
+ghost use Rattle.surf_classes.specs.Evidence.{IsEvidence, IsNullEvidence, IsOddEvidence, null_faces, odd_pairs};
+ghost use Rattle.surf_classes.specs.Evidence.{is_listed, has_odd_sides, is_odd_in};
 ghost use Rattle.surf_classes.specs.Faults.{IsNoFace, IsNoPair};
 ghost use Rattle.surf_class.specs.Agreement.{AgreesAt};
 ghost use Rattle.surf_class.specs.Faults.{IsClassFault};

@@ -1,5 +1,6 @@
 //! On which side of a boundary each face is.
-ghost use Rattle.std.specs.Prelude.{◌≡◌, ◌≢◌, ◌<◌, ℕ, Bool, All, None, IsSome, IfOk, IfSome, MatchOption, length, slice_index};
+ghost use Rattle.std.specs.Prelude.{◌≡◌, ◌≢◌, ◌<◌, ℕ, Bool, All, None, IsSome, IfOk, IfSome, MatchOption, length};
+ghost use Rattle.std.specs.Prelude.{slice_index};
 ghost use Rattle.surf_surfaces.specs.Surface.{edge_count, face_count};
 ghost use Rattle.surf_class.specs.Desk.{IsSignedOn};
 ghost use Rattle.surf_class.specs.Sides.{IsParted, AreSidesOf, AreAllSidesOf, side_at};

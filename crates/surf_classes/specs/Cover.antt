@@ -53,8 +53,10 @@ pub record IsCertified (mesh : Mesh) (lengths : List ℕ) (d : Split) (x : ℕ) 
   pub tight : (v set : ℕ) → v < mesh.vertices → IsSet d set → (v ≡ x → set ≡ 0 → ⊥) →
       (u : ℕ) × IsTightFor mesh lengths d table u v set
   pub no_short_cut : (e set : ℕ) → e < edge_count mesh → IsSet d set →
-      (table (ends mesh e).1 (bit_xor set (edge_signature mesh d e)) ≤ table (ends mesh e).0 set + edge_length lengths e)
-      × (table (ends mesh e).0 (bit_xor set (edge_signature mesh d e)) ≤ table (ends mesh e).1 set + edge_length lengths e)
+      (table (ends mesh e).1 (bit_xor set (edge_signature mesh d e))
+      ≤ table (ends mesh e).0 set + edge_length lengths e)
+      × (table (ends mesh e).0 (bit_xor set (edge_signature mesh d e))
+      ≤ table (ends mesh e).1 set + edge_length lengths e)
 
 -- the vertices before v, last first, as they are read off a table: each is the least tight neighbour of
 -- the one after it, with the set that is left, until x is reached with the empty set

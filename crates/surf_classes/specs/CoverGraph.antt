@@ -1,5 +1,6 @@
 -- The cover: a graph with a node for each vertex with each set, whose walks are the walks with their signatures.
-use Rattle.std.specs.Prelude.{◌≡◌, ◌≢◌, ℕ, ◌+◌, ◌*◌, ◌/◌, ◌%◌, ◌<◌, ◌≤◌, ◌^◌, ◌==◌, true, List, length, bit_xor, if◌then◌else◌}
+use Rattle.std.specs.Prelude.{◌≡◌, ◌≢◌, ℕ, ◌+◌, ◌*◌, ◌/◌, ◌%◌, ◌<◌, ◌≤◌, ◌^◌, ◌==◌, true, List, length, bit_xor}
+use Rattle.std.specs.Prelude.{if◌then◌else◌}
 use Rattle.surf_graphs.specs.Cells.{Split, IsSplit, primal}
 use Rattle.surf_graphs.specs.Graphs.{Graph, IsGraph, IsConnected, joins}
 use Rattle.surf_surfaces.specs.Mesh.{Mesh}
@@ -17,8 +18,8 @@ set_count d = 2 ^ length d.left
 abbrev pub cover_node : Split → ℕ → ℕ → ℕ
 cover_node d v set = v * set_count d + set
 
--- the nodes, and for each edge with each set an edge from the lesser end with the set to the greater end with the sum of
--- the set and the edge's signature
+-- the nodes, and for each edge with each set an edge from the lesser end with the set to the greater end with the sum
+-- of the set and the edge's signature
 abbrev pub cover : Mesh → Split → Graph
 cover mesh d = record {
   nodes = mesh.vertices * set_count d;
@@ -37,8 +38,8 @@ abbrev pub cover_edge : Mesh → Split → ℕ → ℕ → ℕ → ℕ
 cover_edge mesh d v set e =
     e * set_count d + (if (ends mesh e).0 == v then set else bit_xor set (edge_signature mesh d e))
 
--- It is a graph and connected. From a vertex with a set, each edge leads to its other end with the sum, and nothing else
--- does
+-- It is a graph and connected. From a vertex with a set, each edge leads to its other end with the sum, and nothing
+-- else does
 pub record IsCover (mesh : Mesh) (d : Split) : Type 0 where
   pub is_graph : IsGraph (cover mesh d)
   pub connected : IsConnected (cover mesh d)

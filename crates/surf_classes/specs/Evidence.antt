@@ -1,6 +1,7 @@
 -- Evidence of the class of a closed walk, or of how the classes of two differ: a set of faces, or a set of edges.
 use Rattle.std.specs.List.{list_any}
-use Rattle.std.specs.Prelude.{◌≡◌, ℕ, ◌<◌, ◌==◌, Bool, true, false, List, map, All, AllPairs, Contains, Option, Some, None, replicate}
+use Rattle.std.specs.Prelude.{◌≡◌, ℕ, ◌<◌, ◌==◌, Bool, true, false, List, map, All, AllPairs, Contains, Option, Some}
+use Rattle.std.specs.Prelude.{None, replicate}
 use Rattle.surf_z2.specs.Parity.{odd}
 use Rattle.surf_z2.specs.Space.{Chain, difference}
 use Rattle.surf_z2.specs.Sieve.{has}

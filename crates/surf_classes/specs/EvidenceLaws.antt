@@ -1,5 +1,6 @@
 -- What holds of evidence, of the choice of it, and of its faults.
-use Rattle.std.specs.Prelude.{◌≡◌, ◌≢◌, ℕ, ◌<◌, ◌&&◌, ◌↔◌, ◌⊎◌, Bool, true, List, AllPairs, Option, Some, None, bit_xor, false, map, filter}
+use Rattle.std.specs.Prelude.{◌≡◌, ◌≢◌, ℕ, ◌<◌, ◌&&◌, ◌↔◌, ◌⊎◌, Bool, true, List, AllPairs, Option, Some, None}
+use Rattle.std.specs.Prelude.{bit_xor, false, map, filter}
 use Rattle.std.specs.List.{range_with_len}
 use Rattle.surf_z2.specs.Parity.{xor, odd_below}
 use Rattle.surf_z2.specs.Space.{Chain}
@@ -15,7 +16,9 @@ use Rattle.surf_surfaces.specs.Cells.{cells_of}
 use Rattle.surf_surfaces.specs.Cotree.{split_of}
 use Rattle.surf_surfaces.specs.Choice.{Trees, AreChosenAt}
 use Rattle.surf_surfaces.specs.Signature.{edge_signature, walk_signature}
-use Rattle.surf_classes.specs.Evidence.{joint_parity, AreClosed, has_odd_sides, is_odd_in, IsNullEvidence, IsOddEvidence, Evidence, IsEvidence, IsRising, IsChosenNull, IsChosenOdd, IsChosen, IsClassEvidence}
+use Rattle.surf_classes.specs.Evidence.{joint_parity, AreClosed, has_odd_sides, is_odd_in, IsNullEvidence}
+use Rattle.surf_classes.specs.Evidence.{IsOddEvidence, Evidence, IsEvidence, IsRising, IsChosenNull, IsChosenOdd}
+use Rattle.surf_classes.specs.Evidence.{IsChosen, IsClassEvidence}
 use Rattle.surf_classes.specs.Faults.{Fault, IsFirstFault}
 
 -- no chain has evidence of both kinds

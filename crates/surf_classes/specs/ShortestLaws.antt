@@ -8,7 +8,8 @@ use Rattle.surf_surfaces.specs.Homology.{IsNull}
 use Rattle.surf_surfaces.specs.Cells.{cells_of}
 use Rattle.surf_surfaces.specs.Signature.{walk_signature}
 use Rattle.surf_classes.specs.Shortest.{AreHomologous, IsChosenWalk}
-use Rattle.surf_classes.specs.Cover.{IsSet, IsSignedDistance, AreSignedDistances, IsCertified, IsLeastTight, IsReadBack, IsReadTo, IsLeastBase, step_signature}
+use Rattle.surf_classes.specs.Cover.{IsSet, IsSignedDistance, AreSignedDistances, IsCertified, IsLeastTight}
+use Rattle.surf_classes.specs.Cover.{IsReadBack, IsReadTo, IsLeastBase, step_signature}
 
 -- closed walks are homologous exactly where their signatures are the same
 abbrev pub HomologousBySignature : Type 0

@@ -1,5 +1,6 @@
 -- Faces that hang on the others by one edge, taken off and hung on again.
-use Rattle.std.specs.Prelude.{ℕ, zero, suc, ◌≡◌, ◌≢◌, ◌<◌, ◌≤◌, ◌&&◌, ◌==◌, Bool, true, not, List, length, slice_index_or}
+use Rattle.std.specs.Prelude.{ℕ, zero, suc, ◌≡◌, ◌≢◌, ◌<◌, ◌≤◌, ◌&&◌, ◌==◌, Bool, true, not, List, length}
+use Rattle.std.specs.Prelude.{slice_index_or}
 use Rattle.surf_z2.specs.Parity.{count_below}
 use Rattle.surf_graphs.specs.Graphs.{Graph, joins}
 use Rattle.surf_heap.specs.Entries.{Entries, IsEmpty}
@@ -37,7 +38,8 @@ pub record IsPeeled (g : Graph) (allowed : ℕ → Bool) (leaves : List Leaf) (n
   pub rest_is : (e : ℕ) → rest e ≡ left_after allowed leaves n e
 
 -- A search over the edges that are left after n leaves is at its end: no node waits. The other leaves have been hung.
-pub record IsHung (g : Graph) (allowed : ℕ → Bool) (weight : ℕ → ℕ) (leaves : List Leaf) (n : ℕ) (parent up depth : List ℕ) : Type 0 where
+pub record IsHung (g : Graph) (allowed : ℕ → Bool) (weight : ℕ → ℕ) (leaves : List Leaf) (n : ℕ)
+    (parent up depth : List ℕ) : Type 0 where
   pub light : (e : ℕ) → weight e ≤ heaviest
   pub few : n ≤ length leaves
   pub leaf : (k : ℕ) → k < n → IsLeaf g allowed leaves k
@@ -45,4 +47,5 @@ pub record IsHung (g : Graph) (allowed : ℕ → Bool) (weight : ℕ → ℕ) (l
   pub heap : Entries
   pub places : length heap ≡ g.nodes
   pub empty : IsEmpty heap
-  pub prim : IsPrim g (left_after allowed leaves n) weight (reached depth) (spanned_tree 0 parent up depth) heap (count_below g.nodes (λ v. at depth v == nobody))
+  pub prim : IsPrim g (left_after allowed leaves n) weight (reached depth) (spanned_tree 0 parent up depth) heap
+      (count_below g.nodes (λ v. at depth v == nobody))

@@ -1,5 +1,6 @@
 -- A search for the heaviest tree of a graph from a root, over some of its edges.
-use Rattle.std.specs.Prelude.{slice_index, ℕ, suc, ◌≡◌, ◌≢◌, ◌<◌, ◌≤◌, ◌+◌, ◌-◌, ◌⊎◌, ◌&&◌, ◌||◌, Bool, true, false, not, eqb, nat_lt, nat_le, List, length, get_or, Some}
+use Rattle.std.specs.Prelude.{slice_index, ℕ, suc, ◌≡◌, ◌≢◌, ◌<◌, ◌≤◌, ◌+◌, ◌-◌, ◌⊎◌, ◌&&◌, ◌||◌, Bool, true, false}
+use Rattle.std.specs.Prelude.{not, eqb, nat_lt, nat_le, List, length, get_or, Some}
 use Rattle.surf_graphs.specs.Graphs.{Graph, joins}
 use Rattle.surf_graphs.specs.Trees.{Tree, IsTree, in_tree}
 use Rattle.surf_graphs.specs.Growth.{Grown, IsHeavy, between}
@@ -40,11 +41,15 @@ pub record IsBridge (g : Graph) (allowed : ℕ → Bool) (weight : ℕ → ℕ) 
   pub tie_is : t + e ≡ nobody
 
 -- the unreached neighbours of v have been offered to a heap
-pub record IsOffered (g : Graph) (allowed : ℕ → Bool) (weight : ℕ → ℕ) (in_tree : ℕ → Bool) (v : ℕ) (old new : Entries) : Type 0 where
+pub record IsOffered (g : Graph) (allowed : ℕ → Bool) (weight : ℕ → ℕ) (in_tree : ℕ → Bool) (v : ℕ)
+    (old new : Entries) : Type 0 where
   pub same_length : length new ≡ length old
-  pub came : (w k t : ℕ) → entry_of new w ≡ Some (k, t) → (entry_of old w ≡ Some (k, t)) ⊎ ((w < g.nodes) × (in_tree w ≡ false) × ((e : ℕ) × IsBridge g allowed weight v w k t e))
+  pub came : (w k t : ℕ) → entry_of new w ≡ Some (k, t) →
+      (entry_of old w ≡ Some (k, t)) ⊎
+      ((w < g.nodes) × (in_tree w ≡ false) × ((e : ℕ) × IsBridge g allowed weight v w k t e))
   pub kept : (w k t : ℕ) → entry_of old w ≡ Some (k, t) → HasPair new w k t
-  pub offered : (w e : ℕ) → e < g.edges → allowed e ≡ true → joins g v w e ≡ true → in_tree w ≡ false → HasPair new w (heaviest - weight e) (nobody - e)
+  pub offered : (w e : ℕ) → e < g.edges → allowed e ≡ true → joins g v w e ≡ true → in_tree w ≡ false →
+      HasPair new w (heaviest - weight e) (nobody - e)
 
 -- a node in the heap, with its pair
 pub record IsWaiting (g : Graph) (allowed : ℕ → Bool) (weight : ℕ → ℕ) (in_tree : ℕ → Bool) (w k t : ℕ) : Type 0 where
@@ -56,12 +61,15 @@ pub record IsWaiting (g : Graph) (allowed : ℕ → Bool) (weight : ℕ → ℕ)
   pub before_reached : in_tree before ≡ true
   pub bridge : IsBridge g allowed weight before w k t edge
 
--- the state of the search: a heavy tree of the reached nodes, and the heap has the nodes that they have allowed edges to
-pub record IsPrim (g : Graph) (allowed : ℕ → Bool) (weight : ℕ → ℕ) (in_tree : ℕ → Bool) (tree : Tree) (heap : Entries) (left : ℕ) : Type 0 where
+-- the state of the search: a heavy tree of the reached nodes, and the heap has the nodes that they have allowed edges
+-- to
+pub record IsPrim (g : Graph) (allowed : ℕ → Bool) (weight : ℕ → ℕ) (in_tree : ℕ → Bool) (tree : Tree)
+    (heap : Entries) (left : ℕ) : Type 0 where
   pub grown : Grown g allowed in_tree tree
   pub heavy : IsHeavy g allowed in_tree tree (lighter weight)
   pub waiting : (w k t : ℕ) → entry_of heap w ≡ Some (k, t) → IsWaiting g allowed weight in_tree w k t
-  pub offered : (u w e : ℕ) → u < g.nodes → w < g.nodes → e < g.edges → allowed e ≡ true → joins g u w e ≡ true → in_tree u ≡ true → in_tree w ≡ false → HasPair heap w (heaviest - weight e) (nobody - e)
+  pub offered : (u w e : ℕ) → u < g.nodes → w < g.nodes → e < g.edges → allowed e ≡ true → joins g u w e ≡ true →
+      in_tree u ≡ true → in_tree w ≡ false → HasPair heap w (heaviest - weight e) (nobody - e)
   pub shallow : (u : ℕ) → u < g.nodes → in_tree u ≡ true → tree.rank u + left < g.nodes
   pub root_rank : tree.rank tree.root ≡ 0
   pub deep : (u : ℕ) → u < g.nodes → in_tree u ≡ true → u ≢ tree.root → tree.rank u ≡ suc (tree.rank (tree.parent u))
@@ -69,14 +77,16 @@ pub record IsPrim (g : Graph) (allowed : ℕ → Bool) (weight : ℕ → ℕ) (i
 abbrev pub spanned_tree : ℕ → List ℕ → List ℕ → List ℕ → Tree
 spanned_tree root parent up depth = record { root = root; parent = at parent; up = at up; rank = at depth }
 
--- a spanning tree over allowed edges, such that each edge on its path between the ends of an allowed edge outside it is greater, by weight and number
+-- a spanning tree over allowed edges, such that each edge on its path between the ends of an allowed edge outside it
+-- is greater, by weight and number
 pub record IsHeaviestTree (g : Graph) (allowed : ℕ → Bool) (weight : ℕ → ℕ) (t : Tree) : Type 0 where
   pub tree : IsTree g t
   pub over : (n : ℕ) → n < g.nodes → n ≢ t.root → allowed (t.up n) ≡ true
   -- the rank is the number of edges to the root
   pub root_rank : t.rank t.root ≡ 0
   pub deep : (n : ℕ) → n < g.nodes → n ≢ t.root → t.rank n ≡ suc (t.rank (t.parent n))
-  pub greater : (l c : ℕ) → l < g.edges → allowed l ≡ true → in_tree g t l ≡ false → between t (g.from l) (g.to l) c ≡ true → (weight l < weight c) ⊎ ((weight l ≡ weight c) × (l < c))
+  pub greater : (l c : ℕ) → l < g.edges → allowed l ≡ true → in_tree g t l ≡ false →
+      between t (g.from l) (g.to l) c ≡ true → (weight l < weight c) ⊎ ((weight l ≡ weight c) × (l < c))
 
 -- an edge that neither table marks
 abbrev pub is_unmarked : List Bool → List Bool → ℕ → Bool

@@ -1,5 +1,6 @@
 //! The edges of the tree of faces, and those in neither tree.
-ghost use Rattle.std.specs.Prelude.{◌≡◌, ◌≢◌, ◌<◌, ◌≤◌, ◌^◌, ◌&&◌, ◌==◌, ℕ, false, not, length, slice_index_or, vec_capacity, filter};
+ghost use Rattle.std.specs.Prelude.{◌≡◌, ◌≢◌, ◌<◌, ◌≤◌, ◌^◌, ◌&&◌, ◌==◌, ℕ, false, not, length, slice_index_or};
+ghost use Rattle.std.specs.Prelude.{vec_capacity, filter};
 ghost use Rattle.std.specs.List.{range_with_len};
 ghost use Rattle.surf_z2.specs.Parity.{any_below};
 ghost use Rattle.surf_base.specs.Tables.{nobody, at};

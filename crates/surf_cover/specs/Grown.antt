@@ -24,7 +24,8 @@ pub record IsGrownBy (mesh : Mesh) (lengths : List ℕ) (d : Split) (base : ℕ)
   pub certified : IsCertifiedBy mesh lengths d t.sets t.signs t.distances base
   pub distances : AreSignedDistances mesh lengths d base (distance_at t)
 
--- They have these for the tree of faces and the left edges of other tables, whatever the tree of the vertices beside them
+-- They have these for the tree of faces and the left edges of other tables, whatever the tree of the vertices beside
+-- them
 pub record IsGrown (mesh : Mesh) (lengths : List ℕ) (cotree : CotreeTables) (base : ℕ) (t : CoverTables) : Type 0 where
   pub made : AreCoverTables mesh t
   pub short : AreShort t

@@ -1,5 +1,6 @@
 -- The cover as a search sees it: by a table that has the signatures of the edges.
-use Rattle.std.specs.Prelude.{◌≡◌, ℕ, ◌+◌, ◌*◌, ◌/◌, ◌%◌, ◌<◌, ◌≤◌, ◌==◌, List, ◌∷◌, length, slice_index, bit_xor, if◌then◌else◌}
+use Rattle.std.specs.Prelude.{◌≡◌, ℕ, ◌+◌, ◌*◌, ◌/◌, ◌%◌, ◌<◌, ◌≤◌, ◌==◌, List, ◌∷◌, length, slice_index, bit_xor}
+use Rattle.std.specs.Prelude.{if◌then◌else◌}
 use Rattle.surf_graphs.specs.Cells.{Split, IsSplit}
 use Rattle.surf_graphs.specs.Graphs.{Graph}
 use Rattle.surf_surfaces.specs.Mesh.{Mesh}
@@ -28,8 +29,8 @@ cover_by mesh sets sign = record {
 abbrev pub length_by : List ℕ → ℕ → ℕ → ℕ
 length_by lengths sets c = edge_length lengths (c / sets)
 
--- an edge as a link of a vertex with a set: the other end with the sum of the set and the edge's signature, and the edge
--- of the cover that leads there
+-- an edge as a link of a vertex with a set: the other end with the sum of the set and the edge's signature, and the
+-- edge of the cover that leads there
 abbrev pub link_by : Mesh → ℕ → (ℕ → ℕ) → ℕ → ℕ → ℕ → ℕ × ℕ
 link_by mesh sets sign v set e = (
   node_of sets (other_of (ends mesh e) v) (bit_xor set (sign e)),

@@ -16,13 +16,17 @@ pub record IsFirst (order labels tails numbers origins : List ℕ) (c p : ℕ) :
   pub lesser : (j : ℕ) → j < p → slice_index numbers (label_at order labels j) < c
   pub vertex : slice_index origins c ≡ slice_index tails (slice_index order p)
 
--- The labels of the first n sides of a list are numbered in the order in which they come, and each number has the vertex of its label.
+-- The labels of the first n sides of a list are numbered in the order in which they come, and each number has the
+-- vertex of its label.
 pub record AreCounted (order labels tails : List ℕ) (n : ℕ) (numbers origins : List ℕ) : Type 0 where
   pub few : length origins ≤ n
-  pub unset : (l : ℕ) → l < length numbers → ((j : ℕ) → j < n → label_at order labels j ≢ l) → slice_index numbers l ≡ nobody
+  pub unset : (l : ℕ) → l < length numbers → ((j : ℕ) → j < n → label_at order labels j ≢ l) →
+      slice_index numbers l ≡ nobody
   pub below : (j : ℕ) → j < n → slice_index numbers (label_at order labels j) < length origins
   pub first : (c : ℕ) → c < length origins → (p : ℕ) × (p < n) × IsFirst order labels tails numbers origins c p
-  pub apart : (j k : ℕ) → j < n → k < n → slice_index numbers (label_at order labels j) ≡ slice_index numbers (label_at order labels k) → label_at order labels j ≡ label_at order labels k
+  pub apart : (j k : ℕ) → j < n → k < n →
+      slice_index numbers (label_at order labels j) ≡ slice_index numbers (label_at order labels k) →
+      label_at order labels j ≡ label_at order labels k
 
 -- the numbers of the labels of the first n of some sides
 pub record AreNumbersOf (sides labels numbers : List ℕ) (n : ℕ) (row : List ℕ) : Type 0 where
@@ -33,7 +37,8 @@ pub record AreNumbersOf (sides labels numbers : List ℕ) (n : ℕ) (row : List 
 pub record AreCopied (mesh : Mesh) (labels numbers : List ℕ) (n : ℕ) (faces : List (List ℕ)) : Type 0 where
   pub size : length faces ≡ n
   pub row_sizes : (f : ℕ) → f < n → length (slice_index_or faces f []) ≡ length (face_at mesh f)
-  pub entries : (f k : ℕ) → f < n → k < length (face_at mesh f) → slice_index (slice_index_or faces f []) k ≡ slice_index numbers (slice_index labels (first_side mesh f + k))
+  pub entries : (f k : ℕ) → f < n → k < length (face_at mesh f) →
+      slice_index (slice_index_or faces f []) k ≡ slice_index numbers (slice_index labels (first_side mesh f + k))
 
 -- by vertex, and at one vertex by number
 abbrev pub IsBefore : Mesh → ℕ → ℕ → Type 0

@@ -1,5 +1,6 @@
 -- Opened surfaces, and which cuts open a surface.
-use Rattle.std.specs.Prelude.{◌≡◌, ℕ, ◌+◌, ◌<◌, ◌≤◌, ◌^◌, List, Bool, false, not, length, take, slice_index, slice_index_or}
+use Rattle.std.specs.Prelude.{◌≡◌, ℕ, ◌+◌, ◌<◌, ◌≤◌, ◌^◌, List, Bool, false, not, length, take, slice_index}
+use Rattle.std.specs.Prelude.{slice_index_or}
 use Rattle.std.specs.List.{sum_by}
 use Rattle.surf_graphs.specs.Trees.{Tree}
 use Rattle.surf_surfaces.specs.Cotree.{cotree_edges}
@@ -54,4 +55,5 @@ IsChosenFor mesh held trim opened =
 
 -- each edge is marked in exactly one of the two tables
 abbrev pub AreTurnedOver : List Bool → List Bool → Type 0
-AreTurnedOver held cut = (length cut ≡ length held) × ((e : ℕ) → e < length held → slice_index_or cut e false ≡ not (slice_index_or held e false))
+AreTurnedOver held cut = (length cut ≡ length held)
+    × ((e : ℕ) → e < length held → slice_index_or cut e false ≡ not (slice_index_or held e false))

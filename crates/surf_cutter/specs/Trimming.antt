@@ -1,5 +1,6 @@
 -- Cuts by a flag for each edge, and how they are trimmed.
-use Rattle.std.specs.Prelude.{◌≡◌, ◌≢◌, ℕ, ◌<◌, ◌≤◌, ◌⊎◌, ◌&&◌, Bool, true, false, List, length, slice_index, slice_index_or, slice_set}
+use Rattle.std.specs.Prelude.{◌≡◌, ◌≢◌, ℕ, ◌<◌, ◌≤◌, ◌⊎◌, ◌&&◌, Bool, true, false, List, length, slice_index}
+use Rattle.std.specs.Prelude.{slice_index_or, slice_set}
 use Rattle.surf_z2.specs.Parity.{count_below}
 use Rattle.surf_z2.specs.Space.{Chain}
 use Rattle.surf_surfaces.specs.Mesh.{Mesh, pair}
@@ -19,7 +20,8 @@ is_cut_at mesh cut v e = slice_index_or cut e false && touches v (ends mesh e)
 
 -- how many of the first n edges are cut at each vertex
 abbrev pub AreDegreesTo : Mesh → List Bool → ℕ → List ℕ → Type 0
-AreDegreesTo mesh cut n degree = (v : ℕ) → v < mesh.vertices → slice_index degree v ≡ count_below n (is_cut_at mesh cut v)
+AreDegreesTo mesh cut n degree =
+    (v : ℕ) → v < mesh.vertices → slice_index degree v ≡ count_below n (is_cut_at mesh cut v)
 
 -- how many cut edges each vertex has
 pub record AreDegrees (mesh : Mesh) (cut : List Bool) (degree : List ℕ) : Type 0 where
@@ -40,7 +42,8 @@ pub record IsTakenBack (mesh : Mesh) (p q : ℕ) (old new : List Bool) (degree l
   pub leaf_done : slice_index less p ≡ 0
   pub others : (v : ℕ) → v ≢ p → v ≢ q → slice_index less v ≡ slice_index degree v
 
--- one cut comes from the other by taking back, one by one, the edge of the greatest vertex with exactly one cut edge, while more than two are cut
+-- one cut comes from the other by taking back, one by one, the edge of the greatest vertex with exactly one cut edge,
+-- while more than two are cut
 abbrev pub IsTrimmedFrom : Mesh → List Bool → List Bool → Type 0
 IsTrimmedFrom mesh old new =
     (list uncut : List (ℕ × ℕ)) → IsTrimmedByGreatest (Side mesh) list uncut → TellsCut mesh uncut (is_cut old) →

@@ -1,5 +1,6 @@
 //! The border of an opened surface, in one round.
-ghost use Rattle.std.specs.Prelude.{◌≡◌, ◌≢◌, ◌<◌, ◌+◌, ◌^◌, ◌⊎◌, ℕ, List, length, IfOk, OnOk, MatchOption, slice_index};
+ghost use Rattle.std.specs.Prelude.{◌≡◌, ◌≢◌, ◌<◌, ◌+◌, ◌^◌, ◌⊎◌, ℕ, List, length, IfOk, OnOk, MatchOption};
+ghost use Rattle.std.specs.Prelude.{slice_index};
 ghost use Rattle.std.specs.List.{sum_by};
 ghost use Rattle.surf_surfaces.specs.Disc.{IsDisc};
 ghost use Rattle.surf_surfaces.specs.Side.{after};
@@ -7,7 +8,8 @@ ghost use Rattle.surf_surfaces.specs.Surface.{edge_count};
 ghost use Rattle.surf_opening.specs.Opening.{IsOpenedBy};
 ghost use Rattle.surf_surfaces.specs.SideNumber.{side_count};
 ghost use Rattle.surf_slit.specs.Labels.{IsUncut};
-ghost use Rattle.surf_cutter.specs.Boundary.{over, HasPairedBorder, IsLeastBorderSide, AreBorderSides, AreCorners, AreRims, AreCutSides, OpensToDisc, IsBoundary};
+ghost use Rattle.surf_cutter.specs.Boundary.{over, HasPairedBorder, IsLeastBorderSide, AreBorderSides, AreCorners};
+ghost use Rattle.surf_cutter.specs.Boundary.{AreRims, AreCutSides, OpensToDisc, IsBoundary};
 
 use std::alloc::Global;
 use surf_base::{CopyId, NoMemory, SideId};

@@ -1,5 +1,6 @@
 //! The opened surface.
-ghost use Rattle.std.specs.Prelude.{◌≡◌, ◌<◌, ◌≤◌, ◌+◌, ◌^◌, ℕ, List, [], length, take, IfOk, slice_index, slice_index_or};
+ghost use Rattle.std.specs.Prelude.{◌≡◌, ◌<◌, ◌≤◌, ◌+◌, ◌^◌, ℕ, List, [], length, take, IfOk, slice_index};
+ghost use Rattle.std.specs.Prelude.{slice_index_or};
 ghost use Rattle.std.specs.List.{flat_map, sum_by};
 ghost use Rattle.surf_surfaces.specs.Disc.{IsDisc};
 ghost use Rattle.surf_surfaces.specs.Surface.{edge_count};

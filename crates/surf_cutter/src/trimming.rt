@@ -4,7 +4,8 @@ ghost use Rattle.surf_z2.specs.Parity.{count_below};
 ghost use Rattle.surf_surfaces.specs.Surface.{edge_count};
 ghost use Rattle.surf_opening.specs.Laws.{cut_count};
 ghost use Rattle.surf_opening.specs.ChosenCut.{cut_degree};
-ghost use Rattle.surf_cutter.specs.Trimming.{is_cut, AreDegrees, AreDegreesTo, IsTakenBack, IsTrimmedFrom, HasNoLeafFrom, HasEndedBy};
+ghost use Rattle.surf_cutter.specs.Trimming.{is_cut, AreDegrees, AreDegreesTo, IsTakenBack, IsTrimmedFrom};
+ghost use Rattle.surf_cutter.specs.Trimming.{HasNoLeafFrom, HasEndedBy};
 
 use surf_base::{EdgeId, VertexId};
 use surf_mesh::HalfMesh;

@@ -1,5 +1,6 @@
 -- The border of a mesh: its edges with one face.
-use Rattle.std.specs.Prelude.{◌≡◌, ℕ, ◌<◌, ◌==◌, if◌then◌else◌, Bool, true, false, List, [], ◌∷◌, ◌++◌, length, get_or, count_by}
+use Rattle.std.specs.Prelude.{◌≡◌, ℕ, ◌<◌, ◌==◌, if◌then◌else◌, Bool, true, false, List, [], ◌∷◌, ◌++◌, length}
+use Rattle.std.specs.Prelude.{get_or, count_by}
 use Rattle.std.specs.List.{flat_map}
 use Rattle.surf_surfaces.specs.Joined.{Joined}
 use Rattle.surf_surfaces.specs.Mesh.{Mesh, edges}

@@ -12,7 +12,8 @@ use Rattle.surf_disc.specs.Border.{IsLeastOnBorder, IsLeastOutside, HasOneBorder
 use Rattle.surf_disc.specs.declared.faults.BorderKind.{BorderKind}
 use Rattle.surf_disc.specs.declared.faults.BorderKind.TheVariants.{Nothing, Two}
 use Rattle.surf_disc.specs.declared.faults.DiscFault.{DiscFault}
-use Rattle.surf_disc.specs.declared.faults.DiscFault.TheVariants.{Crowded, Isolated, Pinched, Apart, Border, Count, Memory}
+use Rattle.surf_disc.specs.declared.faults.DiscFault.TheVariants.{Crowded, Isolated, Pinched, Apart, Border, Count}
+use Rattle.surf_disc.specs.declared.faults.DiscFault.TheVariants.{Memory}
 
 -- the least edge that is a side of three or more faces, and its three least faces
 pub record IsLeastCrowded (mesh : Mesh) (p : ℕ × ℕ) (faces : List ℕ) (e : ℕ) : Type 0 where

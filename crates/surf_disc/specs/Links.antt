@@ -35,7 +35,8 @@ pub record AreFirsts (rows : List (List ℕ)) (count : ℕ) (firsts : List ℕ) 
   pub size : length firsts ≡ count
   pub first : (v : ℕ) → v < count → get_or firsts v 0 ≡ get_or (get_or rows v []) 0 0
 
--- A corner is marked exactly where its face is joined, by faces at its vertex that share edges there, with the vertex's first face.
+-- A corner is marked exactly where its face is joined, by faces at its vertex that share edges there, with the
+-- vertex's first face.
 pub record AreFansMarked (mesh : Mesh) (seen : List Bool) : Type 0 where
   pub size : side_count mesh < length seen
   pub sound : (v s f g : ℕ) → v < mesh.vertices → BeginsAt mesh v s → marked seen s ≡ true →

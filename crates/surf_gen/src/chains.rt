@@ -1,5 +1,6 @@
 //! Chains of tori.
-ghost use Rattle.std.specs.Prelude.{◌≡◌, ◌≢◌, ◌≤◌, ◌<◌, ◌+◌, ◌-◌, ◌*◌, ◌^◌, ◌++◌, [], ◌∷◌, All, AllPairs, pos, ◌-ℤ◌, length, map, take, drop, slice_index, IfOk, OnOk};
+ghost use Rattle.std.specs.Prelude.{◌≡◌, ◌≢◌, ◌≤◌, ◌<◌, ◌+◌, ◌-◌, ◌*◌, ◌^◌, ◌++◌, [], ◌∷◌, All, AllPairs, pos, ◌-ℤ◌};
+ghost use Rattle.std.specs.Prelude.{length, map, take, drop, slice_index, IfOk, OnOk};
 ghost use Rattle.std.specs.List.{range_with_len};
 ghost use Rattle.surf_surfaces.specs.Mesh.{characteristic};
 ghost use Rattle.surf_surfaces.specs.Surface.{IsSurface};

@@ -1,5 +1,7 @@
 -- A coordinate as a token writes it, and its fixed value: its value times 10^9, cut to a whole number towards zero.
-use Rattle.std.specs.Prelude.{ℕ, ◌+◌, ◌*◌, ◌/◌, ◌^◌, Bool, false, ◌==◌, ◌||◌, ◌&&◌, nat_le, List, [], ◌∷◌, ◌++◌, length, drop, Option, Some, None, option_map, Result, Ok, Err, if◌then◌else◌, ℤ, pos, neg_ℤ}
+use Rattle.std.specs.Prelude.{ℕ, ◌+◌, ◌*◌, ◌/◌, ◌^◌, Bool, false, ◌==◌, ◌||◌, ◌&&◌, nat_le, List, [], ◌∷◌, ◌++◌}
+use Rattle.std.specs.Prelude.{length, drop, Option, Some, None, option_map, Result, Ok, Err, if◌then◌else◌, ℤ, pos}
+use Rattle.std.specs.Prelude.{neg_ℤ}
 use Rattle.std.specs.Char.{is_ascii_digit}
 use Rattle.std.specs.List.{before_first, after_first, position, list_all}
 use Rattle.surf_text.specs.Text.{is_nonempty, value_of, whole}
@@ -80,7 +82,8 @@ decimal_of negative mantissa exponent =
 -- The number that a token has the form of: an optional sign, a mantissa, and optionally a letter and an exponent
 abbrev pub decimal_in : List ℕ → Option Decimal
 decimal_in token =
-    decimal_of (is_negative token) (before_first is_letter (unsigned token)) (exponent_of (behind_letter (unsigned token)))
+    decimal_of (is_negative token) (before_first is_letter (unsigned token))
+    (exponent_of (behind_letter (unsigned token)))
 
 -- The amount of a number is a fraction of whole numbers: all its digits, raised, ..
 abbrev pub numerator : Decimal → ℕ

@@ -1,5 +1,6 @@
 -- The lengths of edges, measured between the points of their ends.
-use Rattle.std.specs.Prelude.{ℕ, zero, suc, ◌-◌, ◌*◌, ◌^◌, Bool, ◌==◌, nat_lt, nat_le, List, Result, Ok, Err, if◌then◌else◌}
+use Rattle.std.specs.Prelude.{ℕ, zero, suc, ◌-◌, ◌*◌, ◌^◌, Bool, ◌==◌, nat_lt, nat_le, List, Result, Ok, Err}
+use Rattle.std.specs.Prelude.{if◌then◌else◌}
 use Rattle.surf_surfaces.specs.Mesh.{Mesh, edges}
 use Rattle.surf_lengths.specs.Lengths.{longest}
 use Rattle.surf_geom.specs.declared.fault.GeomFault.{GeomFault}

@@ -1,5 +1,6 @@
 -- The points of a mesh: the first three tokens of each vertex line, as fixed values.
-use Rattle.std.specs.Prelude.{ℕ, ◌+◌, ◌*◌, ◌^◌, ◌<◌, List, [], length, slice_get, slice_index_or, Option, Some, None, Result, Ok, Err, ℤ, pos, ◌-ℤ◌, unsigned_abs}
+use Rattle.std.specs.Prelude.{ℕ, ◌+◌, ◌*◌, ◌^◌, ◌<◌, List, [], length, slice_get, slice_index_or, Option, Some, None}
+use Rattle.std.specs.Prelude.{Result, Ok, Err, ℤ, pos, ◌-ℤ◌, unsigned_abs}
 use Rattle.std.specs.List.{range_with_len}
 use Rattle.surf_text.specs.Text.{tokens_of}
 use Rattle.surf_geom.specs.declared.fault.FixedFault.{FixedFault}

@@ -2,7 +2,8 @@
 ghost use Rattle.std.specs.Prelude.{◌≡◌, ◌≤◌, true, ◌++◌, option_map, IfSome};
 ghost use Rattle.std.specs.Char.{is_ascii_digit};
 ghost use Rattle.std.specs.List.{before_first, after_first, position, list_all};
-ghost use Rattle.surf_geom.specs.Fixed.{is_point, is_letter, is_negative, unsigned, exponent_in, behind_letter, exponent_of, are_digits, decimal_in};
+ghost use Rattle.surf_geom.specs.Fixed.{is_point, is_letter, is_negative, unsigned, exponent_in, behind_letter};
+ghost use Rattle.surf_geom.specs.Fixed.{exponent_of, are_digits, decimal_in};
 ghost use Rattle.surf_geom.specs.Seen.{decimal_seen, seen};
 
 use surf_text::read_whole;

@@ -1,5 +1,6 @@
 -- Cell complexes: vertices, edges and faces by their numbers, and the signatures of edges by two trees.
-use Rattle.std.specs.Prelude.{ℕ, ◌≡◌, ◌<◌, ◌≤◌, Bool, true, false, ◌&&◌, List, [], ◌∷◌, length, slice_index, if◌then◌else◌, ◌==◌}
+use Rattle.std.specs.Prelude.{ℕ, ◌≡◌, ◌<◌, ◌≤◌, Bool, true, false, ◌&&◌, List, [], ◌∷◌, length, slice_index}
+use Rattle.std.specs.Prelude.{if◌then◌else◌, ◌==◌}
 use Rattle.surf_z2.specs.Parity.{xor, odd_below}
 use Rattle.surf_graphs.specs.Graphs.{Graph, IsGraph, IsConnected, leaves, touches, edge_between}
 use Rattle.surf_graphs.specs.Trees.{Tree, IsTree, in_tree, on_path, loop_length}

@@ -1,16 +1,20 @@
 -- The laws, as statements.
-use Rattle.std.specs.Prelude.{ℕ, ◌≡◌, ◌<◌, ◌≤◌, ◌+◌, ◌*◌, suc, ◌↔◌, ◌≢◌, ◌⊎◌, Bool, true, false, ◌&&◌, List, [], ◌∷◌, ◌++◌, length, map, sum, All}
+use Rattle.std.specs.Prelude.{ℕ, ◌≡◌, ◌<◌, ◌≤◌, ◌+◌, ◌*◌, suc, ◌↔◌, ◌≢◌, ◌⊎◌, Bool, true, false, ◌&&◌, List, [], ◌∷◌}
+use Rattle.std.specs.Prelude.{◌++◌, length, map, sum, All}
 use Rattle.surf_graphs.specs.Rounds.{IsTurn, Rounds}
 use Rattle.surf_graphs.specs.Sides.{Sides, IsSides}
 use Rattle.surf_graphs.specs.Cycles.{runs, IsSimpleCycle, Separates, TwoWalks}
 use Rattle.surf_graphs.specs.Loops.{IsSimple, way_down, way_up, loop_walk}
-use Rattle.surf_graphs.specs.Independence.{IsIndependent, signature_of, signed, loop_chain, left_loops, IsCovering, IsClosedWalk, closed_walk}
+use Rattle.surf_graphs.specs.Independence.{IsIndependent, signature_of, signed, loop_chain, left_loops, IsCovering}
+use Rattle.surf_graphs.specs.Independence.{IsClosedWalk, closed_walk}
 use Rattle.surf_z2.specs.Space.{Chain, numbers, Independent, Weighed, weights, vectors, SpannedUpToWeight}
 use Rattle.surf_graphs.specs.Growth.{Grown, with_node, with_edge, inner_end, IsHeavy}
 use Rattle.surf_z2.specs.Parity.{odd_below, count_below}
-use Rattle.surf_graphs.specs.Graphs.{leaves, joins, Graph, IsGraph, IsConnected, IsEven, IsWalk, touches, walk_chain, walk_length}
+use Rattle.surf_graphs.specs.Graphs.{leaves, joins, Graph, IsGraph, IsConnected, IsEven, IsWalk, touches, walk_chain}
+use Rattle.surf_graphs.specs.Graphs.{walk_length}
 use Rattle.surf_graphs.specs.Trees.{Tree, IsTree, in_tree, loop, IsShortest, loop_length}
-use Rattle.surf_graphs.specs.Cells.{Cells, primal, dual, IsCellComplex, boundary, parts, IsNull, Split, IsSplit, IsHeaviest, chain_signature, walk_signature}
+use Rattle.surf_graphs.specs.Cells.{Cells, primal, dual, IsCellComplex, boundary, parts, IsNull, Split, IsSplit}
+use Rattle.surf_graphs.specs.Cells.{IsHeaviest, chain_signature, walk_signature}
 
 -- an even chain inside a spanning tree is empty
 abbrev pub EvenInTreeIsEmpty : Type 0

@@ -1,10 +1,12 @@
 //! Reads a length file.
-ghost use Rattle.std.specs.Prelude.{◌≡◌, ◌≢◌, ◌<◌, ◌≤◌, ◌==◌, ℕ, List, Result, Ok, Err, length, IfOk, IfSome, MatchResult};
+ghost use Rattle.std.specs.Prelude.{◌≡◌, ◌≢◌, ◌<◌, ◌≤◌, ◌==◌, ℕ, List, Result, Ok, Err, length, IfOk, IfSome};
+ghost use Rattle.std.specs.Prelude.{MatchResult};
 ghost use Rattle.std.specs.List.{fold, position};
 ghost use Rattle.surf_text.specs.Walks.{text_line};
 ghost use Rattle.surf_surfaces.specs.Surface.{edge_count};
 ghost use Rattle.surf_lengths.specs.Lines.{entry_of};
-ghost use Rattle.surf_lengths.specs.Files.{Head, Named, behind_version, length_head, name_edge, name_line, missing_edge, lengths_in, Gives};
+ghost use Rattle.surf_lengths.specs.Files.{Head, Named, behind_version, length_head, name_edge, name_line};
+ghost use Rattle.surf_lengths.specs.Files.{missing_edge, lengths_in, Gives};
 ghost use Rattle.surf_lengths.specs.Walks.{with_next};
 
 use crate::line::{begins_with, is_version, read_default, read_entry};

@@ -4,7 +4,8 @@ ghost use Rattle.std.specs.Str.{bytes_eq};
 ghost use Rattle.surf_text.specs.Text.{tokens_of};
 ghost use Rattle.surf_text.specs.Walks.{text_line};
 ghost use Rattle.surf_surfaces.specs.Surface.{edge_count};
-ghost use Rattle.surf_lengths.specs.Lines.{as_length, three_numbers, edge_named, entry_of, begins_with, is_version, second_number, default_of};
+ghost use Rattle.surf_lengths.specs.Lines.{as_length, three_numbers, edge_named, entry_of, begins_with, is_version};
+ghost use Rattle.surf_lengths.specs.Lines.{second_number, default_of};
 
 use crate::LengthFault;
 use surf_base::{EdgeId, VertexId};

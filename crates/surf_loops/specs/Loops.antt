@@ -32,7 +32,12 @@ trees_of t = record { tree = tree_of t.tree; cotree = cotree_of t.cotree }
 
 -- a head as the loop of its edge at a base
 abbrev pub loop_of : Mesh → LoopTables → LoopHead → Loop
-loop_of mesh t h = record { size = h.length; base = t.tree.base; edge = h.edge; walk = loop_walk mesh (tree_of t.tree) h.edge }
+loop_of mesh t h = record {
+  size = h.length;
+  base = t.tree.base;
+  edge = h.edge;
+  walk = loop_walk mesh (tree_of t.tree) h.edge;
+}
 
 -- the tables hold a spanning tree of the vertices, in which each but the base has a parent
 pub record IsRooted (mesh : Mesh) (t : TreeTables) : Type 0 where
@@ -54,4 +59,5 @@ pub record IsGreedy (mesh : Mesh) (lengths : List ℕ) (base : ℕ) (t : LoopTab
   pub chosen : AreChosenAt mesh lengths base (trees_of t)
   pub heads : map (loop_of mesh t) t.heads ≡ loops_at mesh lengths base (trees_of t)
   pub least : LoopsAtBase mesh lengths base (trees_of t)
-  pub most : (walks : List (List ℕ)) → All (IsClosed mesh) walks → IsIndependent mesh walks → length walks ≤ length t.heads
+  pub most : (walks : List (List ℕ)) → All (IsClosed mesh) walks → IsIndependent mesh walks →
+      length walks ≤ length t.heads

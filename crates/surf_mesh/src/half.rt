@@ -1,5 +1,6 @@
 //! Surfaces with their half-edges.
-ghost use Rattle.std.specs.Prelude.{◌≡◌, ◌<◌, ◌+◌, ◌^◌, ℕ, List, length, All, AllPairs, IfOk, MatchOption, slice_index_or, false, true};
+ghost use Rattle.std.specs.Prelude.{◌≡◌, ◌<◌, ◌+◌, ◌^◌, ℕ, List, length, All, AllPairs, IfOk, MatchOption};
+ghost use Rattle.std.specs.Prelude.{slice_index_or, false, true};
 ghost use Rattle.std.specs.List.{range_with_len};
 ghost use Rattle.surf_surfaces.specs.Mesh.{IsFace, pair, pair_lt, among, edges};
 ghost use Rattle.surf_surfaces.specs.Surface.{face_count, face_at, edge_count, ends, faces_of, IsSurface};

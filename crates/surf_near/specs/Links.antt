@@ -1,5 +1,6 @@
 -- The links of the vertices of a mesh, with the lengths of its edges.
-use Rattle.std.specs.Prelude.{◌≡◌, ◌≢◌, ℕ, ◌<◌, ◌⊎◌, ◌^◌, List, [], length, map, slice_index, slice_index_or, Option, MatchOption}
+use Rattle.std.specs.Prelude.{◌≡◌, ◌≢◌, ℕ, ◌<◌, ◌⊎◌, ◌^◌, List, [], length, map, slice_index, slice_index_or, Option}
+use Rattle.std.specs.Prelude.{MatchOption}
 use Rattle.surf_z2.specs.Parity.{count_below}
 use Rattle.surf_graphs.specs.Graphs.{Graph}
 use Rattle.surf_graphs.specs.Cells.{primal}

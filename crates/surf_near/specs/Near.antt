@@ -1,5 +1,6 @@
 -- What a search that goes no farther than a radius has found.
-use Rattle.std.specs.Prelude.{◌≡◌, ℕ, ◌<◌, ◌≤◌, ◌⊎◌, ◌^◌, ◌==◌, Bool, not, nat_le, IsTrue, List, length, Contains, slice_index}
+use Rattle.std.specs.Prelude.{◌≡◌, ℕ, ◌<◌, ◌≤◌, ◌⊎◌, ◌^◌, ◌==◌, Bool, not, nat_le, IsTrue, List, length, Contains}
+use Rattle.std.specs.Prelude.{slice_index}
 use Rattle.surf_graphs.specs.Trees.{Tree}
 use Rattle.surf_surfaces.specs.Mesh.{Mesh}
 use Rattle.surf_surfaces.specs.ShortestTree.{IsShortestTree}

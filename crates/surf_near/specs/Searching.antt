@@ -35,7 +35,8 @@ OffersNear g len dist v d radius old new = (wide : Entries) → IsTrimmed radius
 
 -- each settled node is listed
 abbrev pub ListsSettled : List ℕ → List ℕ → Type 0
-ListsSettled order dist = (v : ℕ) → v < length dist → at dist v ≢ never → (i : ℕ) × (i < length order) × (at order i ≡ v)
+ListsSettled order dist =
+    (v : ℕ) → v < length dist → at dist v ≢ never → (i : ℕ) × (i < length order) × (at order i ≡ v)
 
 -- the settled nodes stand in a list in order of distance
 pub record IsListed (nodes : ℕ) (dist order : ℕ → ℕ) (count : ℕ) : Type 0 where
@@ -56,7 +57,8 @@ pub record IsReachedNear (g : Graph) (len : ℕ → ℕ) (base radius : ℕ) (di
 -- what the tables have of a node has been chosen
 abbrev pub IsChosenAt : Graph → (ℕ → ℕ) → Tables → ℕ → Type 0
 IsChosenAt g len t v =
-    IsChoice g len (at t.distance.items) (at t.least.items) v (at t.parent.items v) (at t.up.items v) (at t.least.items v)
+    IsChoice g len (at t.distance.items) (at t.least.items) v
+    (at t.parent.items v) (at t.up.items v) (at t.least.items v)
 
 -- there is room for each node
 pub record HasRoom (nodes : ℕ) (t : Tables) : Type 0 where
@@ -125,7 +127,8 @@ Chooses links dist least v choice =
     IsChoice (graph_of links) (weight_of links) (at dist) (at least) v choice.parent choice.up choice.least
 
 abbrev pub Offers : LinkTables → List ℕ → ℕ → ℕ → Entries → Entries → Type 0
-Offers links dist v radius old new = OffersNear (graph_of links) (weight_of links) (at dist) v (at dist v) radius old new
+Offers links dist v radius old new =
+    OffersNear (graph_of links) (weight_of links) (at dist) v (at dist v) radius old new
 
 abbrev pub IsQueueOf : LinkTables → ℕ → ℕ → Tables → ℕ → Type 0
 IsQueueOf links size radius t place = IsQueue (graph_of links) (weight_of links) size radius t place

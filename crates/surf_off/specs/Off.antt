@@ -2,13 +2,15 @@
 -- The Geomview manual, "OFF Files", has the keyword, then the numbers of vertices, faces and edges, then the
 -- vertices, then each face as a size, that many vertex numbers from 0, and a colour. Here each vertex and each
 -- face is a line. The number of edges is unread.
-use Rattle.std.specs.Prelude.{◌+◌, ℕ, zero, suc, Bool, true, false, ◌==◌, ◌&&◌, nat_lt, nat_le, List, [], ◌∷◌, ◌++◌, length, take, drop, Option, Some, None, Result, Ok, Err, if◌then◌else◌}
+use Rattle.std.specs.Prelude.{◌+◌, ℕ, zero, suc, Bool, true, false, ◌==◌, ◌&&◌, nat_lt, nat_le, List, [], ◌∷◌, ◌++◌}
+use Rattle.std.specs.Prelude.{length, take, drop, Option, Some, None, Result, Ok, Err, if◌then◌else◌}
 use Rattle.std.specs.List.{list_any}
 use Rattle.surf_base.specs.declared.limits.LimitKind.TheVariants.{Vertices, Faces, Sides}
 use Rattle.surf_surfaces.specs.Mesh.{Mesh}
 use Rattle.surf_text.specs.Text.{TextLine, tokens_of, lines_of, whole, rest_after}
 use Rattle.surf_off.specs.declared.fault.OffFault.{OffFault}
-use Rattle.surf_off.specs.declared.fault.OffFault.TheVariants.{Header, Counts, VertexLine, FaceSize, FaceIndex, FaceRepeat, Early, Trailing, Limit}
+use Rattle.surf_off.specs.declared.fault.OffFault.TheVariants.{Header, Counts, VertexLine, FaceSize, FaceIndex}
+use Rattle.surf_off.specs.declared.fault.OffFault.TheVariants.{FaceRepeat, Early, Trailing, Limit}
 use Rattle.surf_off.specs.declared.header.Header.{Header as Keyword}
 use Rattle.surf_off.specs.Keywords.{header_of}
 
@@ -26,9 +28,11 @@ pub record Head : Type 0 where
 
 -- The counts stand on the keyword's line if it has a second token, or else on the next line.
 abbrev pub head_with : Keyword → ℕ → List (List ℕ) → List TextLine → Result Head OffFault
-head_with header n (count ∷ counts) lines = Ok (record { header = header; number = n; counts = count ∷ counts; lines = lines })
+head_with header n (count ∷ counts) lines =
+    Ok (record { header = header; number = n; counts = count ∷ counts; lines = lines })
 head_with header n [] [] = Err (Counts 0)
-head_with header n [] (line ∷ lines) = Ok (record { header = header; number = line.number; counts = tokens_of line.bytes; lines = lines })
+head_with header n [] (line ∷ lines) =
+    Ok (record { header = header; number = line.number; counts = tokens_of line.bytes; lines = lines })
 
 abbrev pub head_if : Option Keyword → ℕ → List (List ℕ) → List TextLine → Result Head OffFault
 head_if None n words lines = Err (Header n)
@@ -62,7 +66,8 @@ counts_of limited n (v ∷ []) = Err (Counts n)
 counts_of limited n (v ∷ f ∷ more) = both limited n (whole v) (whole f)
 
 -- a vertex line in front of those that are read behind it
-abbrev pub with_line : List ℕ → Result (List (List ℕ) × List TextLine) OffFault → Result (List (List ℕ) × List TextLine) OffFault
+abbrev pub with_line : List ℕ → Result (List (List ℕ) × List TextLine) OffFault →
+    Result (List (List ℕ) × List TextLine) OffFault
 with_line text (Ok rest) = Ok (text ∷ rest.0, rest.1)
 with_line text (Err e) = Err e
 
@@ -95,7 +100,8 @@ corner_read n v place (Some u) = if nat_lt u v then Ok u else Err (FaceIndex n p
 -- the vertices that the words are, the first of them at a place
 unfoldable pub corners_at : ℕ → ℕ → ℕ → List (List ℕ) → Result (List ℕ) OffFault
 corners_at n v place [] = Ok []
-corners_at n v place (word ∷ words) = corner_read n v place (whole word) >>= λ u. corners_at n v (place + 1) words >>= λ us. Ok (u ∷ us)
+corners_at n v place (word ∷ words) =
+    corner_read n v place (whole word) >>= λ u. corners_at n v (place + 1) words >>= λ us. Ok (u ∷ us)
 
 -- the first that stands before, in the list or among those seen
 unfoldable pub first_repeat : List ℕ → List ℕ → Option ℕ
@@ -128,7 +134,8 @@ pub record FaceLines : Type 0 where
 
 -- a face in front of those that are read behind it
 abbrev pub with_face : Face → Result FaceLines OffFault → Result FaceLines OffFault
-with_face face (Ok rest) = Ok (record { faces = face.corners ∷ rest.faces; colours = face.colour ∷ rest.colours; lines = rest.lines })
+with_face face (Ok rest) =
+    Ok (record { faces = face.corners ∷ rest.faces; colours = face.colour ∷ rest.colours; lines = rest.lines })
 with_face face (Err e) = Err e
 
 -- so many face lines, behind faces of so many sides
@@ -155,7 +162,10 @@ off_in limited lines = do
   counts ← counts_of limited head.number head.counts
   vertices ← vertices_at counts.0 counts.1 head.lines
   faces ← faces_at limited counts.0 counts.1 0 vertices.1
-  ended (record { header = head.header; vertex_lines = vertices.0; colours = faces.colours }, record { vertices = counts.0; faces = faces.faces }) faces.lines
+  ended (
+    record { header = head.header; vertex_lines = vertices.0; colours = faces.colours },
+    record { vertices = counts.0; faces = faces.faces },
+  ) faces.lines
 
 -- what a text is that is read, or its first fault
 abbrev pub off_of : List ℕ → Result (OffParts × Mesh) OffFault

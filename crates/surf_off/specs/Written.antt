@@ -10,7 +10,8 @@ use Rattle.surf_off.specs.Off.{OffParts, off_without_limits}
 
 -- the keyword's line, and that of the numbers of vertices, faces and edges
 abbrev pub head_text : Header → ℕ → ℕ → ℕ → List ℕ
-head_text header v f e = keyword header ++ (codes "\n" ++ (decimal v ++ (codes " " ++ (decimal f ++ (codes " " ++ (decimal e ++ codes "\n"))))))
+head_text header v f e = keyword header
+    ++ (codes "\n" ++ (decimal v ++ (codes " " ++ (decimal f ++ (codes " " ++ (decimal e ++ codes "\n"))))))
 
 -- each line and its end
 abbrev pub lines_text : List (List ℕ) → List ℕ
@@ -38,7 +39,8 @@ faces_text (face ∷ faces) = face_text face.0 face.1 ++ faces_text faces
 
 -- a mesh with its keyword, vertex lines and colours
 abbrev pub mesh_text : Header → List (List ℕ) → List (List ℕ) → List (List ℕ) → ℕ → List ℕ
-mesh_text header lines faces colours e = head_text header (length lines) (length faces) e ++ (lines_text lines ++ faces_text (zip faces colours))
+mesh_text header lines faces colours e =
+    head_text header (length lines) (length faces) e ++ (lines_text lines ++ faces_text (zip faces colours))
 
 -- a comment that says of which vertex a copy is
 abbrev pub copy_text : ℕ → ℕ → List ℕ
@@ -65,7 +67,8 @@ rows_at (first ∷ ends) items = cut 0 ends items
 
 -- an opened mesh: the vertex lines of its copies, its faces and their colours, and a comment for each copy
 abbrev pub opened_text : OffParts → List ℕ → List (List ℕ) → ℕ → List ℕ
-opened_text parts origins faces e = mesh_text parts.header (lines_at parts.vertex_lines origins) faces parts.colours e ++ copies_text origins (range_with_len 0 (length origins))
+opened_text parts origins faces e = mesh_text parts.header (lines_at parts.vertex_lines origins) faces parts.colours e
+    ++ copies_text origins (range_with_len 0 (length origins))
 
 -- the vertex lines of a made mesh: the number of the vertex and two zeros
 abbrev pub point_text : ℕ → List ℕ
@@ -86,10 +89,24 @@ soup_text mesh e = mesh_text Off (points (range_with_len 0 mesh.vertices)) mesh.
 abbrev pub RereadsOpened : OffParts → List ℕ → List (List ℕ) → ℕ → Type 0
 RereadsOpened parts origins faces e =
     off_without_limits (opened_text parts origins faces e)
-    ≡ Ok (record { header = parts.header; vertex_lines = lines_at parts.vertex_lines origins; colours = parts.colours }, record { vertices = length origins; faces = faces })
+    ≡ Ok (
+      record {
+        header = parts.header;
+        vertex_lines = lines_at parts.vertex_lines origins;
+        colours = parts.colours;
+      },
+      record { vertices = length origins; faces = faces },
+    )
 
 -- Read without limits, the text of a made mesh is that mesh.
 abbrev pub RereadsSoup : Mesh → ℕ → Type 0
 RereadsSoup mesh e =
     off_without_limits (soup_text mesh e)
-    ≡ Ok (record { header = Off; vertex_lines = points (range_with_len 0 mesh.vertices); colours = no_colours mesh.faces }, mesh)
+    ≡ Ok (
+      record {
+        header = Off;
+        vertex_lines = points (range_with_len 0 mesh.vertices);
+        colours = no_colours mesh.faces;
+      },
+      mesh,
+    )

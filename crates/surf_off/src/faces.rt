@@ -1,5 +1,6 @@
 //! The face lines.
-ghost use Rattle.std.specs.Prelude.{◌≡◌, ◌≢◌, ◌<◌, ◌≤◌, ◌+◌, ◌^◌, ℕ, true, [], length, slice_index, take, drop, IfOk, IfNone, OnOk};
+ghost use Rattle.std.specs.Prelude.{◌≡◌, ◌≢◌, ◌<◌, ◌≤◌, ◌+◌, ◌^◌, ℕ, true, [], length, slice_index, take, drop, IfOk};
+ghost use Rattle.std.specs.Prelude.{IfNone, OnOk};
 ghost use Rattle.std.specs.List.{All, AllPairs};
 ghost use Rattle.surf_surfaces.specs.Mesh.{IsFace};
 ghost use Rattle.surf_surfaces.specs.SideNumber.{side_count};

@@ -3,7 +3,8 @@ ghost use Rattle.std.specs.Prelude.{◌≡◌, ◌<◌, ◌≤◌, ◌^◌, [], 
 ghost use Rattle.std.specs.List.{zip, range_with_len};
 ghost use Rattle.surf_surfaces.specs.SideNumber.{side_count};
 ghost use Rattle.surf_text.specs.Pages.{Puts};
-ghost use Rattle.surf_off.specs.Written.{lines_text, spaced_text, face_text, faces_text, points, no_colours, soup_text, RereadsSoup};
+ghost use Rattle.surf_off.specs.Written.{lines_text, spaced_text, face_text, faces_text, points, no_colours};
+ghost use Rattle.surf_off.specs.Written.{soup_text, RereadsSoup};
 
 use crate::header::Header;
 use crate::write::write_head;

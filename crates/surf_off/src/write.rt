@@ -3,7 +3,9 @@ ghost use Rattle.std.specs.Prelude.{◌≡◌, ◌<◌, ◌≤◌, ◌+◌, [], 
 ghost use Rattle.std.specs.List.{All, zip, range_with_len};
 ghost use Rattle.surf_surfaces.specs.Mesh.{IsFace};
 ghost use Rattle.surf_text.specs.Pages.{Puts};
-ghost use Rattle.surf_off.specs.Written.{head_text, lines_text, spaced_text, colour_text, face_text, faces_text, copy_text, copies_text, lines_at, rows_at, AreStarts, opened_text, RereadsOpened};
+ghost use Rattle.surf_off.specs.Written.{head_text, lines_text, spaced_text, colour_text, face_text, faces_text};
+ghost use Rattle.surf_off.specs.Written.{copy_text, copies_text, lines_at, rows_at, AreStarts, opened_text};
+ghost use Rattle.surf_off.specs.Written.{RereadsOpened};
 
 use crate::header::Header;
 use crate::text::OffText;

@@ -7,7 +7,8 @@
 -- `TrimmedCutsAreChosen` says that the cut is the chosen one (for the full cut `FullCutsAreChosen`).
 -- With copies that are opened along the list (`LabelsAreCopies`) and in order (`AreInOrder`),
 -- `OpenedAreChosen` makes the whole an `IsChosenOpening`.
-use Rattle.std.specs.Prelude.{◌≡◌, ◌≢◌, ℕ, ◌+◌, ◌<◌, Bool, IsTrue, IsFalse, MatchBool, ◌||◌, ◌↔◌, ◌⊎◌, List, ◌∷◌, All, AllPairs, ◌&&◌, [], length, Contains, slice_index, slice_index_or}
+use Rattle.std.specs.Prelude.{◌≡◌, ◌≢◌, ℕ, ◌+◌, ◌<◌, Bool, IsTrue, IsFalse, MatchBool, ◌||◌, ◌↔◌, ◌⊎◌, List, ◌∷◌, All}
+use Rattle.std.specs.Prelude.{AllPairs, ◌&&◌, [], length, Contains, slice_index, slice_index_or}
 use Rattle.surf_z2.specs.Space.{Chain}
 use Rattle.surf_graphs.specs.Cells.{IsSplit}
 use Rattle.surf_graphs.specs.Trees.{Tree}

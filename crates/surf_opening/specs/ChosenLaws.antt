@@ -8,7 +8,8 @@ use Rattle.surf_surfaces.specs.Mesh.{Mesh}
 use Rattle.surf_surfaces.specs.Surface.{face_count, edge_count, IsSurface}
 use Rattle.surf_surfaces.specs.Walk.{ArePositive}
 use Rattle.surf_opening.specs.Laws.{TellsCut, cut_count}
-use Rattle.surf_opening.specs.ChosenCut.{cut_degree, AreInOrder, AreDivided, ListsCotree, SameEdges, IsChosenCut, IsChosenOpening}
+use Rattle.surf_opening.specs.ChosenCut.{cut_degree, AreInOrder, AreDivided, ListsCotree, SameEdges, IsChosenCut}
+use Rattle.surf_opening.specs.ChosenCut.{IsChosenOpening}
 use Rattle.surf_opening.specs.Named.{IsTrimmedByGreatest}
 use Rattle.surf_opening.specs.Opening.{IsOpenedBy}
 use Rattle.surf_opening.specs.Side.{Side}

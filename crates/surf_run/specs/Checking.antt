@@ -19,11 +19,13 @@ OnCertFile mesh lengths cert files outcome = Ends (Reads cert files) (OnCertText
 
 -- against a surface
 abbrev pub OnCheckedMesh : Mesh → List ℕ → List ℕ → Files → Outcome → Type 0
-OnCheckedMesh mesh word cert files outcome = Ends (IsMeasured word mesh files) (λ lengths. OnCertFile mesh lengths cert files) outcome
+OnCheckedMesh mesh word cert files outcome =
+    Ends (IsMeasured word mesh files) (λ lengths. OnCertFile mesh lengths cert files) outcome
 
 -- against the text of a mesh
 abbrev pub OnCheckedText : List ℕ → List ℕ → List ℕ → Files → Outcome → Type 0
-OnCheckedText bytes word cert files outcome = Ends (IsFewLoopedText true bytes) (λ read. OnCheckedMesh read.1 word cert files) outcome
+OnCheckedText bytes word cert files outcome =
+    Ends (IsFewLoopedText true bytes) (λ read. OnCheckedMesh read.1 word cert files) outcome
 
 -- `check`
 abbrev pub OnCheck : List ℕ → List ℕ → List ℕ → Files → Outcome → Type 0

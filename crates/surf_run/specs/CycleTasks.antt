@@ -25,7 +25,8 @@ OnMesh task mesh word files outcome = Ends (IsMeasured word mesh files) (Finds t
 
 -- a task on the text of a mesh
 abbrev pub OnMeshText : CycleTask → List ℕ → List ℕ → Files → Outcome → Type 0
-OnMeshText task bytes word files outcome = Ends (IsSearchableText (vertex_limit task) bytes) (λ mesh. OnMesh task mesh word files) outcome
+OnMeshText task bytes word files outcome =
+    Ends (IsSearchableText (vertex_limit task) bytes) (λ mesh. OnMesh task mesh word files) outcome
 
 -- a task on a file
 abbrev pub OnCycles : CycleTask → List ℕ → List ℕ → Files → Outcome → Type 0

@@ -1,5 +1,6 @@
 -- What commands on weighted surfaces work on: a surface, its lengths and a base.
-use Rattle.std.specs.Prelude.{◌≡◌, ◌+◌, ◌-◌, ◌⊎◌, ℕ, Bool, true, ◌&&◌, nat_lt, List, length, Result, Ok, Err, if◌then◌else◌}
+use Rattle.std.specs.Prelude.{◌≡◌, ◌+◌, ◌-◌, ◌⊎◌, ℕ, Bool, true, ◌&&◌, nat_lt, List, length, Result, Ok, Err}
+use Rattle.std.specs.Prelude.{if◌then◌else◌}
 use Rattle.surf_base.specs.Outside.{Files}
 use Rattle.surf_base.specs.declared.limits.LimitKind.{LimitKind}
 use Rattle.surf_base.specs.declared.limits.LimitKind.TheVariants.{Loops}
@@ -43,13 +44,15 @@ IsSearchableText limit bytes (Err outcome) =
 
 -- A word gives lengths to the edges, each from 1 to 4,294,967,295.
 abbrev pub IsMeasured : List ℕ → Mesh → Files → Result (List ℕ) Outcome → Type 0
-IsMeasured word mesh files (Ok lengths) = HasLengths word mesh files (Ok lengths) × AreLengths lengths × (length lengths ≡ edge_count mesh)
+IsMeasured word mesh files (Ok lengths) =
+    HasLengths word mesh files (Ok lengths) × AreLengths lengths × (length lengths ≡ edge_count mesh)
 IsMeasured word mesh files (Err outcome) = HasLengths word mesh files (Err outcome)
 
 -- A word gives lengths to the edges, each from 1 to 4,294,967,295, and then the base is a vertex.
 abbrev pub IsWeighted : List ℕ → ℕ → Mesh → Files → Result (List ℕ × ℕ) Outcome → Type 0
 IsWeighted word base mesh files (Ok given) =
-    HasLengths word mesh files (Ok given.0) × HasBase base mesh (Ok given.1) × AreLengths given.0 × (length given.0 ≡ edge_count mesh)
+    HasLengths word mesh files (Ok given.0) × HasBase base mesh (Ok given.1) × AreLengths given.0
+    × (length given.0 ≡ edge_count mesh)
 IsWeighted word base mesh files (Err outcome) =
     HasLengths word mesh files (Err outcome)
     ⊎ ((lengths : List ℕ) × HasLengths word mesh files (Ok lengths) × HasBase base mesh (Err outcome))

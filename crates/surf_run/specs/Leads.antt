@@ -20,7 +20,8 @@ use Rattle.surf_run.specs.Sewing.{OnSew}
 use Rattle.surf_run.specs.Classes.{OnClass, OnSame}
 use Rattle.surf_run.specs.Confirming.{OnConfirm}
 use Rattle.surf_run.specs.Tightening.{OnShortest}
-use Rattle.surf_words.specs.Words.{Request, help, version, info, disc, cycles, weighted, makes, tries, checks, measures, sews, classes, compares, confirms, tightens, request_of}
+use Rattle.surf_words.specs.Words.{Request, help, version, info, disc, cycles, weighted, makes, tries, checks}
+use Rattle.surf_words.specs.Words.{measures, sews, classes, compares, confirms, tightens, request_of}
 
 -- `info` of the text of a mesh
 abbrev pub OnInfoText : List ℕ → Outcome → Type 0

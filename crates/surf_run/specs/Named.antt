@@ -4,7 +4,8 @@ use Rattle.std.specs.Str.{bytes_eq}
 use Rattle.surf_base.specs.Outside.{Files, bytes_of}
 use Rattle.surf_run.specs.Leads.{Leads}
 use Rattle.surf_texts.specs.Outcome.{Outcome}
-use Rattle.surf_words.specs.Words.{Request, help, version, info, disc, cycles, weighted, makes, tries, checks, measures, sews, classes, compares, confirms, tightens, request_of}
+use Rattle.surf_words.specs.Words.{Request, help, version, info, disc, cycles, weighted, makes, tries, checks}
+use Rattle.surf_words.specs.Words.{measures, sews, classes, compares, confirms, tightens, request_of}
 
 -- the file of the lengths that a word gives, where it isn't `unit`
 abbrev pub length_file : List ℕ → List (List ℕ)

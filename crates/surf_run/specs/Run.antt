@@ -6,7 +6,8 @@ use Rattle.surf_base.specs.Transfer.{GrowsByShorter}
 use Rattle.surf_text.specs.Text.{is_line_end}
 use Rattle.surf_texts.specs.Cause.{Cause, line_of, status_of_cause}
 use Rattle.surf_run.specs.Leads.{Answer}
-use Rattle.surf_words.specs.Words.{Request, help, version, info, disc, cycles, weighted, makes, tries, checks, measures, sews, classes, compares, confirms, tightens, request_of}
+use Rattle.surf_words.specs.Words.{Request, help, version, info, disc, cycles, weighted, makes, tries, checks}
+use Rattle.surf_words.specs.Words.{measures, sews, classes, compares, confirms, tightens, request_of}
 
 -- The words are a row of the command table that names a file.
 abbrev pub NamesFile : Option Request → Type 0
@@ -37,11 +38,13 @@ WritesAnswer words status old new files = (text : List ℕ) × Answer words file
 
 -- A front of the text of an answer, shorter than the text, was written.
 abbrev pub WritesFront : List (List ℕ) → Option (List ℕ) → Option (List ℕ) → Files → Type 0
-WritesFront words old new files = (status : ℕ) × ((text : List ℕ) × (status ≤ 1) × Answer words files status text [] × GrowsByShorter old new text)
+WritesFront words old new files =
+    (status : ℕ) × ((text : List ℕ) × (status ≤ 1) × Answer words files status text [] × GrowsByShorter old new text)
 
 -- A line was written whole, or, where the sink's faults rose, a shorter front of it.
 abbrev pub PutsLine : Option (List ℕ) → Option (List ℕ) → ℕ → ℕ → List ℕ → Type 0
-PutsLine old new faults_old faults_new line = GrowsBy old new line ⊎ (HasRisen faults_old faults_new × GrowsByShorter old new line)
+PutsLine old new faults_old faults_new line =
+    GrowsBy old new line ⊎ (HasRisen faults_old faults_new × GrowsByShorter old new line)
 
 -- The status of a refusal that the words and the files decide: from 2 to 8, and from 12 on.
 abbrev pub IsDecided : ℕ → Type 0
@@ -55,7 +58,8 @@ pub record IsOneLine (line : List ℕ) : Type 0 where
 
 -- The line of a status above 1. Where the words and the files decide, they give it.
 pub record IsLineOf (words : List (List ℕ)) (holds : Option Files) (status : ℕ) (line : List ℕ) : Type 0 where
-  pub related : IsDecided status → (files : Files) → AreTheFiles (request_of words) holds files → Answer words files status [] line
+  pub related : IsDecided status → (files : Files) → AreTheFiles (request_of words) holds files →
+      Answer words files status [] line
   pub read : status ≡ 9 → line ≡ codes "read fault\n"
   pub write : status ≡ 10 → line ≡ codes "write fault\n"
   pub memory : status ≡ 11 → line ≡ codes "memory\n"

@@ -27,4 +27,5 @@ IsSurfaceOf mesh (Err outcome) = EndsInFault mesh outcome
 abbrev pub IsSurfaceText : List ℕ → Result (OffParts × Mesh) Outcome → Type 0
 IsSurfaceText bytes (Ok read) = IsMeshText bytes (Ok read) × IsSurface read.1
 IsSurfaceText bytes (Err outcome) =
-    IsMeshText bytes (Err outcome) ⊎ ((read : OffParts × Mesh) × IsMeshText bytes (Ok read) × EndsInFault read.1 outcome)
+    IsMeshText bytes (Err outcome)
+    ⊎ ((read : OffParts × Mesh) × IsMeshText bytes (Ok read) × EndsInFault read.1 outcome)

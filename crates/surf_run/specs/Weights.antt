@@ -26,7 +26,8 @@ WeighsText bytes mesh result = result ≡ weighed (lengths_in mesh bytes)
 -- The word `unit` gives each edge the length 1; any other word is the name of a length file.
 abbrev pub weighed_for : List ℕ → Mesh → Files → Result (List ℕ) Outcome
 weighed_for word mesh files =
-    if bytes_eq word (codes "unit") then Ok (replicate (edge_count mesh) 1) else weighed_by mesh (within_text (bytes_of files word))
+    if bytes_eq word (codes "unit") then Ok (replicate (edge_count mesh) 1)
+    else weighed_by mesh (within_text (bytes_of files word))
 
 abbrev pub HasLengths : List ℕ → Mesh → Files → Result (List ℕ) Outcome → Type 0
 HasLengths word mesh files result = result ≡ weighed_for word mesh files

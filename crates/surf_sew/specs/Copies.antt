@@ -1,5 +1,6 @@
 -- Copy lines of a text: comments `# copy i from v`, which say of which vertex each copy is.
-use Rattle.std.specs.Prelude.{◌≡◌, ◌≢◌, ◌+◌, ◌^◌, ℕ, Bool, false, ◌==◌, ◌&&◌, nat_lt, List, [], ◌∷◌, length, codes, Option, Some, None, Result, Ok, Err, if◌then◌else◌}
+use Rattle.std.specs.Prelude.{◌≡◌, ◌≢◌, ◌+◌, ◌^◌, ℕ, Bool, false, ◌==◌, ◌&&◌, nat_lt, List, [], ◌∷◌, length, codes}
+use Rattle.std.specs.Prelude.{Option, Some, None, Result, Ok, Err, if◌then◌else◌}
 use Rattle.std.specs.List.{slice_split, filter}
 use Rattle.std.specs.Str.{bytes_eq}
 use Rattle.surf_text.specs.Text.{is_line_end, words_of, whole}

@@ -1,5 +1,6 @@
 //! The copy lines of a text.
-ghost use Rattle.std.specs.Prelude.{◌≡◌, ◌<◌, ◌≤◌, ◌+◌, ◌-◌, ◌++◌, ◌∷◌, [], ℕ, true, Some, IfOk, MatchOption, codes, length, slice_index};
+ghost use Rattle.std.specs.Prelude.{◌≡◌, ◌<◌, ◌≤◌, ◌+◌, ◌-◌, ◌++◌, ◌∷◌, [], ℕ, true, Some, IfOk, MatchOption, codes};
+ghost use Rattle.std.specs.Prelude.{length, slice_index};
 ghost use Rattle.std.specs.List.{count_by, position, slice_split};
 ghost use Rattle.std.specs.Option.{IfSome};
 ghost use Rattle.std.specs.Str.{bytes_eq};

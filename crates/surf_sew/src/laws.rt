@@ -1,5 +1,6 @@
 //! The law of sewing what was cut.
-ghost use Rattle.surf_sew.specs.Laws.{OpenedAreReread, LimitsAreKept, CopiesAreReread, OpenedAreSewn, LinesAreSewn, SewnAreReread};
+ghost use Rattle.surf_sew.specs.Laws.{OpenedAreReread, LimitsAreKept, CopiesAreReread, OpenedAreSewn, LinesAreSewn};
+ghost use Rattle.surf_sew.specs.Laws.{SewnAreReread};
 
 /// Sewing undoes cutting. The text of an opened mesh, with the vertex of each copy in its copy
 /// lines, is read as the mesh of the copies; `read_copies` gives these vertices; what is sewn by

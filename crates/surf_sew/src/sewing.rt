@@ -1,8 +1,10 @@
 //! Sews copies together.
-ghost use Rattle.std.specs.Prelude.{◌≡◌, ◌≢◌, ◌==◌, nat_lt, ◌<◌, ◌≤◌, ◌^◌, ℕ, None, Some, Ok, [], length, slice_index, AllPairs, MatchResult, IfOk, IfNone};
+ghost use Rattle.std.specs.Prelude.{◌≡◌, ◌≢◌, ◌==◌, nat_lt, ◌<◌, ◌≤◌, ◌^◌, ℕ, None, Some, Ok, [], length};
+ghost use Rattle.std.specs.Prelude.{slice_index, AllPairs, MatchResult, IfOk, IfNone};
 ghost use Rattle.std.specs.List.{All, list_all, position, position_or_len};
 ghost use Rattle.surf_off.specs.Off.{first_repeat};
-ghost use Rattle.surf_sew.specs.Sewing.{different, first_copies, gap_fault, HaveCopies, line_fault, sewn_face, sewn_faces, repeat_from, unless, sewn_of, Gives};
+ghost use Rattle.surf_sew.specs.Sewing.{different, first_copies, gap_fault, HaveCopies, line_fault, sewn_face};
+ghost use Rattle.surf_sew.specs.Sewing.{sewn_faces, repeat_from, unless, sewn_of, Gives};
 
 use crate::fault::SewFault;
 use crate::first::list_first;

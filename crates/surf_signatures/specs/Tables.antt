@@ -1,5 +1,6 @@
 -- Tables of sets by the numbers of edges or vertices, and of a tree of faces.
-use Rattle.std.specs.Prelude.{◌≡◌, ◌≢◌, ℕ, ◌+◌, ◌*◌, ◌/◌, ◌<◌, if◌then◌else◌, bit_xor, map, take, drop, List, slice_index}
+use Rattle.std.specs.Prelude.{◌≡◌, ◌≢◌, ℕ, ◌+◌, ◌*◌, ◌/◌, ◌<◌, if◌then◌else◌, bit_xor, map, take, drop, List}
+use Rattle.std.specs.Prelude.{slice_index}
 use Rattle.std.specs.List.{range_with_len}
 use Rattle.surf_z2.specs.Sieve.{has}
 use Rattle.surf_z2.specs.Words.{number}

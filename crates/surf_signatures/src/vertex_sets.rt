@@ -1,5 +1,6 @@
 //! A table of sets by vertex.
-ghost use Rattle.std.specs.Prelude.{◌≡◌, ◌<◌, ◌≤◌, ◌+◌, ◌*◌, ◌^◌, ◌==◌, ℕ, if◌then◌else◌, length, replicate, set, slice_index, IfOk};
+ghost use Rattle.std.specs.Prelude.{◌≡◌, ◌<◌, ◌≤◌, ◌+◌, ◌*◌, ◌^◌, ◌==◌, ℕ, if◌then◌else◌, length, replicate, set};
+ghost use Rattle.std.specs.Prelude.{slice_index, IfOk};
 ghost use Rattle.surf_signatures.specs.Tables.{row_of, words_for};
 ghost use Rattle.surf_base.specs.declared.limits.TheConstants.{MAX_LOOPS};
 

@@ -1,5 +1,6 @@
 -- Places around a vertex, counted from behind one of them.
-use Rattle.std.specs.Prelude.{◌≡◌, ℕ, ◌+◌, ◌-◌, ◌<◌, nat_lt, if◌then◌else◌, Bool, true, false, List, length, slice_index, slice_index_or}
+use Rattle.std.specs.Prelude.{◌≡◌, ℕ, ◌+◌, ◌-◌, ◌<◌, nat_lt, if◌then◌else◌, Bool, true, false, List, length}
+use Rattle.std.specs.Prelude.{slice_index, slice_index_or}
 
 -- around n places, the one that is d + 1 steps after m
 abbrev pub place : ℕ → ℕ → ℕ → ℕ

@@ -16,5 +16,6 @@ pub record IsLeastApart (mesh : Mesh) (f : ℕ) : Type 0 where
 pub record AreAcross (mesh : Mesh) (mate : List ℕ) (count : ℕ) (rows : List (List ℕ)) : Type 0 where
   pub size : length rows ≡ count
   pub row_len : (f : ℕ) → f < count → length (get_or rows f []) ≡ length (face_at mesh f)
-  pub row_at : (f m : ℕ) → f < count → m < length (face_at mesh f) → get_or (get_or rows f []) m 0 ≡ get_or (owners 0 mesh.faces) (get_or mate (first_side mesh f + m) 0) 0
+  pub row_at : (f m : ℕ) → f < count → m < length (face_at mesh f) →
+      get_or (get_or rows f []) m 0 ≡ get_or (owners 0 mesh.faces) (get_or mate (first_side mesh f + m) 0) 0
   pub total : sum_by length rows ≡ first_side mesh count

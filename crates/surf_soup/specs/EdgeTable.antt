@@ -13,7 +13,8 @@ pub record AreEdgeNumbers (mesh : Mesh) (edge_of : List ℕ) : Type 0 where
   pub same : (s : ℕ) → s < side_count mesh → ends mesh (get_or edge_of s 0) ≡ pair_at mesh s
 
 -- the edges, the sides of each, and for each side its edge, its face and its number
-pub record IsEdgeTable (mesh : Mesh) (edge_list : List (ℕ × ℕ)) (sides : List (List ℕ)) (edge_of face_of numbers : List ℕ) : Type 0 where
+pub record IsEdgeTable (mesh : Mesh) (edge_list : List (ℕ × ℕ)) (sides : List (List ℕ))
+    (edge_of face_of numbers : List ℕ) : Type 0 where
   pub edge_list_is : edge_list ≡ edges mesh
   pub sides_are : sides ≡ map (sides_with mesh) (edges mesh)
   pub edge_numbers : AreEdgeNumbers mesh edge_of

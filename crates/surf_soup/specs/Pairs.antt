@@ -7,7 +7,8 @@ use Rattle.surf_soup.specs.declared.pairs.PairFault.TheVariants.{Empty, Border, 
 
 -- no row has a length within bounds
 abbrev pub NoneWithin : ℕ → ℕ → List (List ℕ) → Type 0
-NoneWithin least most rows = (e : ℕ) → e < length rows → (least ≤ length (get_or rows e []) → length (get_or rows e []) ≤ most → ⊥)
+NoneWithin least most rows =
+    (e : ℕ) → e < length rows → (least ≤ length (get_or rows e []) → length (get_or rows e []) ≤ most → ⊥)
 
 -- a row's length is within bounds, and that of no earlier row is
 pub record IsFirstWithin (least most : ℕ) (rows : List (List ℕ)) (e : ℕ) : Type 0 where
@@ -31,7 +32,8 @@ pub record IsLeastBorder (mesh : Mesh) (p : ℕ × ℕ) (face e : ℕ) : Type 0 
   pub its_face : faces_with mesh p ≡ face ∷ []
   pub none_before : (d : ℕ) → d < e → degree mesh d ≢ 1
 
--- the least edge that is a side of three or more faces, and its three least faces, where no edge is a side of one face only
+-- the least edge that is a side of three or more faces, and its three least faces, where no edge is a side of one
+-- face only
 pub record IsLeastCrowd (mesh : Mesh) (p : ℕ × ℕ) (faces : List ℕ) (e : ℕ) : Type 0 where
   pub is_edge : e < edge_count mesh
   pub its_ends : ends mesh e ≡ p

@@ -1,5 +1,6 @@
 -- Rings: the sides that begin at a vertex, in the order round it.
-use Rattle.std.specs.Prelude.{◌≡◌, ◌≢◌, ℕ, zero, suc, ◌+◌, ◌-◌, ◌<◌, ◌==◌, ◌⊎◌, Bool, true, false, not, cond, List, [], length, get_or}
+use Rattle.std.specs.Prelude.{◌≡◌, ◌≢◌, ℕ, zero, suc, ◌+◌, ◌-◌, ◌<◌, ◌==◌, ◌⊎◌, Bool, true, false, not, cond, List}
+use Rattle.std.specs.Prelude.{[], length, get_or}
 use Rattle.surf_surfaces.specs.Joined.{Joined}
 use Rattle.surf_surfaces.specs.Mesh.{Mesh}
 use Rattle.surf_surfaces.specs.Side.{after, before}
@@ -20,7 +21,8 @@ flip_of next prev d = cond d.1 (get_or next d.0 0, false) (get_or prev d.0 0, tr
 
 -- the same end of the mate
 abbrev pub cross_of : List ℕ → List ℕ → ℕ × Bool → ℕ × Bool
-cross_of mate tails d = (get_or mate d.0 0, cond (get_or tails (get_or mate d.0 0) 0 == get_or tails d.0 0) d.1 (not d.1))
+cross_of mate tails d =
+    (get_or mate d.0 0, cond (get_or tails (get_or mate d.0 0) 0 == get_or tails d.0 0) d.1 (not d.1))
 
 abbrev pub turn_of : List ℕ → List ℕ → List ℕ → List ℕ → ℕ × Bool → ℕ × Bool
 turn_of next prev mate tails d = flip_of next prev (cross_of mate tails d)
@@ -42,16 +44,22 @@ pub record AreDarts (next prev mate tails : List ℕ) : Type 0 where
   pub mate_twice : (s : ℕ) → s < length next → get_or mate (get_or mate s 0) 0 ≡ s
   pub mate_other : (s : ℕ) → s < length next → get_or mate s 0 ≢ s
   pub ends_differ : (s : ℕ) → s < length next → get_or tails (get_or next s 0) 0 ≢ get_or tails s 0
-  pub ends_same : (s : ℕ) → s < length next → ((get_or tails (get_or mate s 0) 0 ≡ get_or tails s 0) × (get_or tails (get_or next (get_or mate s 0) 0) 0 ≡ get_or tails (get_or next s 0) 0)) ⊎ ((get_or tails (get_or mate s 0) 0 ≡ get_or tails (get_or next s 0) 0) × (get_or tails (get_or next (get_or mate s 0) 0) 0 ≡ get_or tails s 0))
+  pub ends_same : (s : ℕ) → s < length next →
+      ((get_or tails (get_or mate s 0) 0 ≡ get_or tails s 0)
+      × (get_or tails (get_or next (get_or mate s 0) 0) 0 ≡ get_or tails (get_or next s 0) 0))
+      ⊎ ((get_or tails (get_or mate s 0) 0 ≡ get_or tails (get_or next s 0) 0)
+      × (get_or tails (get_or next (get_or mate s 0) 0) 0 ≡ get_or tails s 0))
 
 -- a whole round
-pub record IsRound (next prev mate tails : List ℕ) (d : ℕ × Bool) (seen_before seen : List Bool) (ring : List ℕ) : Type 0 where
+pub record IsRound (next prev mate tails : List ℕ) (d : ℕ × Bool) (seen_before seen : List Bool)
+    (ring : List ℕ) : Type 0 where
   pub size : length seen ≡ length next
   pub some : 0 < length ring
   pub closes : turns next prev mate tails (length ring) d ≡ d
   pub entries : (k : ℕ) → k < length ring → get_or ring k 0 ≡ dart_corner next (turns next prev mate tails k d)
   pub are_marked : (k : ℕ) → k < length ring → marked seen (get_or ring k 0) ≡ true
-  pub only : (s : ℕ) → marked seen s ≡ true → (marked seen_before s ≡ true) ⊎ ((k : ℕ) × (k < length ring) × (get_or ring k 0 ≡ s))
+  pub only : (s : ℕ) → marked seen s ≡ true →
+      (marked seen_before s ≡ true) ⊎ ((k : ℕ) × (k < length ring) × (get_or ring k 0 ≡ s))
   pub differ : (i k : ℕ) → i < k → k < length ring → get_or ring i 0 ≢ get_or ring k 0
   pub counted : length ring + unmarked seen ≡ unmarked seen_before
 
@@ -63,7 +71,8 @@ pub record IsTrail (next prev mate tails edge_of : List ℕ) (d : ℕ × Bool) (
 -- for each side the side at another place of its face, for the first sides
 pub record AreTurned (turn : ℕ → ℕ → ℕ) (mesh : Mesh) (count : ℕ) (table : List ℕ) : Type 0 where
   pub size : length table ≡ first_side mesh count
-  pub at : (f k : ℕ) → f < count → k < length (face_at mesh f) → get_or table (first_side mesh f + k) 0 ≡ first_side mesh f + turn (length (face_at mesh f)) k
+  pub at : (f k : ℕ) → f < count → k < length (face_at mesh f) →
+      get_or table (first_side mesh f + k) 0 ≡ first_side mesh f + turn (length (face_at mesh f)) k
 
 -- a side begins at a vertex
 abbrev pub BeginsAt : Mesh → ℕ → ℕ → Type 0
@@ -76,7 +85,8 @@ pub record IsRing (mesh : Mesh) (v : ℕ) (ring : List ℕ) : Type 0 where
   pub begin : (k : ℕ) → k < length ring → BeginsAt mesh v (get_or ring k 0)
   pub differ : (i k : ℕ) → i < k → k < length ring → get_or ring i 0 ≢ get_or ring k 0
   pub all : (s : ℕ) → BeginsAt mesh v s → (k : ℕ) × (k < length ring) × (get_or ring k 0 ≡ s)
-  pub share : (k f g : ℕ) → k < length ring → IsFaceOf mesh (get_or ring k 0) f → IsFaceOf mesh (get_or ring (after (length ring) k) 0) g → ShareAt mesh v f g
+  pub share : (k f g : ℕ) → k < length ring → IsFaceOf mesh (get_or ring k 0) f →
+      IsFaceOf mesh (get_or ring (after (length ring) k) 0) g → ShareAt mesh v f g
 
 -- an edge with an end at the vertex
 abbrev pub IsEdgeAt : Mesh → ℕ → ℕ → Type 0
@@ -92,12 +102,16 @@ pub record AreEdgesAt (mesh : Mesh) (v : ℕ) (list : List ℕ) : Type 0 where
 abbrev pub side_before : Mesh → ℕ → ℕ → ℕ
 side_before mesh f s = first_side mesh f + before (length (face_at mesh f)) (s - first_side mesh f)
 
--- The edges between the faces of a ring. The first one stands before the first corner of the ring in its face; the faces of each entry and of the next one, the first after the last, have the edge at its place.
+-- The edges between the faces of a ring. The first one stands before the first corner of the ring in its face; the
+-- faces of each entry and of the next one, the first after the last, have the edge at its place.
 pub record GoBetween (mesh : Mesh) (ring edges : List ℕ) : Type 0 where
   pub size : length edges ≡ length ring
-  pub first : (f : ℕ) → IsFaceOf mesh (get_or ring 0 0) f → ends mesh (get_or edges 0 0) ≡ pair_at mesh (side_before mesh f (get_or ring 0 0))
-  pub behind : (k f : ℕ) → k < length ring → IsFaceOf mesh (get_or ring k 0) f → HasEdge mesh f (ends mesh (get_or edges k 0))
-  pub ahead : (k g : ℕ) → k < length ring → IsFaceOf mesh (get_or ring (after (length ring) k) 0) g → HasEdge mesh g (ends mesh (get_or edges k 0))
+  pub first : (f : ℕ) → IsFaceOf mesh (get_or ring 0 0) f →
+      ends mesh (get_or edges 0 0) ≡ pair_at mesh (side_before mesh f (get_or ring 0 0))
+  pub behind : (k f : ℕ) → k < length ring → IsFaceOf mesh (get_or ring k 0) f →
+      HasEdge mesh f (ends mesh (get_or edges k 0))
+  pub ahead : (k g : ℕ) → k < length ring → IsFaceOf mesh (get_or ring (after (length ring) k) 0) g →
+      HasEdge mesh g (ends mesh (get_or edges k 0))
 
 -- a ring of all faces at a vertex, with the edges between them
 pub record IsWholeRing (mesh : Mesh) (v : ℕ) (ring edges : List ℕ) : Type 0 where

@@ -1,5 +1,6 @@
 //! The faces across the sides of each face.
-ghost use Rattle.std.specs.Prelude.{◌≡◌, ◌<◌, ◌≤◌, ◌+◌, ℕ, length, All, OnOk, IfOk, MatchOption, slice_index, true, false};
+ghost use Rattle.std.specs.Prelude.{◌≡◌, ◌<◌, ◌≤◌, ◌+◌, ℕ, length, All, OnOk, IfOk, MatchOption, slice_index, true};
+ghost use Rattle.std.specs.Prelude.{false};
 ghost use Rattle.surf_surfaces.specs.Surface.{face_count, IsConnected};
 ghost use Rattle.surf_soup.specs.Pairs.{HasTwoFaces};
 ghost use Rattle.surf_soup.specs.Reach.{marked};

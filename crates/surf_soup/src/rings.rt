@@ -1,5 +1,6 @@
 //! The rings of vertices.
-ghost use Rattle.std.specs.Prelude.{◌≡◌, ◌<◌, ◌≤◌, ◌+◌, ◌^◌, ◌⊎◌, ℕ, length, map, replicate, OnOk, IfOk, MatchOption, slice_index, true, false};
+ghost use Rattle.std.specs.Prelude.{◌≡◌, ◌<◌, ◌≤◌, ◌+◌, ◌^◌, ◌⊎◌, ℕ, length, map, replicate, OnOk, IfOk, MatchOption};
+ghost use Rattle.std.specs.Prelude.{slice_index, true, false};
 ghost use Rattle.std.specs.List.{range_with_len};
 ghost use Rattle.surf_surfaces.specs.Side.{after, before};
 ghost use Rattle.surf_surfaces.specs.Surface.{face_count, HasOneFan};
@@ -9,7 +10,8 @@ ghost use Rattle.surf_soup.specs.EdgeTable.{AreEdgeNumbers, IsTableOf};
 ghost use Rattle.surf_soup.specs.Half.{AreAllMates};
 ghost use Rattle.surf_soup.specs.Pairs.{HasTwoFaces};
 ghost use Rattle.surf_soup.specs.Vertices.{all_corners, sides_at, AllMet};
-ghost use Rattle.surf_soup.specs.Ring.{dart_corner, turn_of, AreDarts, IsRound, IsTrail, AreTurned, BeginsAt, IsWholeRing, IsPinch, AreRings};
+ghost use Rattle.surf_soup.specs.Ring.{dart_corner, turn_of, AreDarts, IsRound, IsTrail, AreTurned, BeginsAt};
+ghost use Rattle.surf_soup.specs.Ring.{IsWholeRing, IsPinch, AreRings};
 
 use crate::Soup;
 use crate::pairs::face_in;

@@ -1,5 +1,6 @@
 -- The one choice among ties: the loops at each base, and the basis and the cycle that are chosen from them.
-use Rattle.std.specs.Prelude.{◌≡◌, ℕ, suc, ◌<◌, Bool, false, MatchBool, ◌&&◌, ◌||◌, ◌==◌, nat_lt, List, [], length, map, take, flat_map, slice_index_or}
+use Rattle.std.specs.Prelude.{◌≡◌, ℕ, suc, ◌<◌, Bool, false, MatchBool, ◌&&◌, ◌||◌, ◌==◌, nat_lt, List, [], length}
+use Rattle.std.specs.Prelude.{map, take, flat_map, slice_index_or}
 use Rattle.std.specs.List.{range_with_len}
 use Rattle.surf_z2.specs.Order.{merge, sorted}
 use Rattle.surf_z2.specs.Space.{chains, chosen, difference, sum_of}

@@ -11,7 +11,8 @@ use Rattle.surf_surfaces.specs.Cycle.{IsSimpleCycle, Separation, IsShortestNonse
 use Rattle.surf_surfaces.specs.Places.{IsLeastLoopSystemInOrder, IsLeastBasisInOrder}
 use Rattle.surf_surfaces.specs.Cells.{cells_of}
 use Rattle.surf_surfaces.specs.Loop.{loop_walk}
-use Rattle.surf_surfaces.specs.Choice.{Trees, AreChosenAt, AreChosen, Loop, comes_before, walks, loops_at, candidates, IsChosenBasis, IsKeptFrom}
+use Rattle.surf_surfaces.specs.Choice.{Trees, AreChosenAt, AreChosen, Loop, comes_before, walks, loops_at, candidates}
+use Rattle.surf_surfaces.specs.Choice.{IsChosenBasis, IsKeptFrom}
 
 -- the loops at a base are a least loop system there, in total and place by place, each with its length, in order
 pub record LoopsAtBase (mesh : Mesh) (lengths : List ℕ) (base : ℕ) (trees : Trees) : Type 0 where

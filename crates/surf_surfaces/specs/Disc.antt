@@ -2,7 +2,8 @@
 use Rattle.std.specs.Prelude.{◌≡◌, ℕ, ◌+◌, ◌<◌, ◌≤◌, List, [], length, map, Contains, ◌⊎◌, slice_index, slice_index_or}
 use Rattle.surf_surfaces.specs.Joined.{Joined}
 use Rattle.surf_surfaces.specs.Mesh.{Mesh, IsMesh}
-use Rattle.surf_surfaces.specs.Surface.{face_count, edge_count, face_at, ends, faces_with, HasCorner, HasOneFan, IsConnected}
+use Rattle.surf_surfaces.specs.Surface.{face_count, edge_count, face_at, ends, faces_with, HasCorner, HasOneFan}
+use Rattle.surf_surfaces.specs.Surface.{IsConnected}
 
 -- an edge that is a side of exactly one face
 abbrev pub IsBorderEdge : Mesh → ℕ → Type 0

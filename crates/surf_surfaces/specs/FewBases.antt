@@ -1,6 +1,8 @@
--- The choice from few bases: searches at the vertices of a set that every closed walk meets which isn't null find the bases
--- that the choice needs. The searches may go by any trees of shortest walks.
-use Rattle.std.specs.Prelude.{◌≡◌, ◌≢◌, ℕ, suc, ◌+◌, ◌*◌, ◌<◌, ◌≤◌, ◌⊎◌, Bool, true, false, IsTrue, IsFalse, MatchBool, not, ◌&&◌, ◌||◌, ◌==◌, nat_lt, nat_le, min, List, [], ◌∷◌, ◌++◌, length, map, take, filter, All, Contains, IsPermutation, slice_index, slice_index_or}
+-- The choice from few bases: searches at the vertices of a set that every closed walk meets which isn't null find the
+-- bases that the choice needs. The searches may go by any trees of shortest walks.
+use Rattle.std.specs.Prelude.{◌≡◌, ◌≢◌, ℕ, suc, ◌+◌, ◌*◌, ◌<◌, ◌≤◌, ◌⊎◌, Bool, true, false, IsTrue, IsFalse}
+use Rattle.std.specs.Prelude.{MatchBool, not, ◌&&◌, ◌||◌, ◌==◌, nat_lt, nat_le, min, List, [], ◌∷◌, ◌++◌, length, map}
+use Rattle.std.specs.Prelude.{take, filter, All, Contains, IsPermutation, slice_index, slice_index_or}
 use Rattle.surf_z2.specs.Order.{merge, IsInOrder}
 use Rattle.surf_z2.specs.Parity.{least_below}
 use Rattle.surf_z2.specs.Space.{chosen, no_member}
@@ -15,7 +17,8 @@ use Rattle.surf_surfaces.specs.Class.{AreShortestTrees}
 use Rattle.surf_surfaces.specs.Loop.{loop_walk, loop_length}
 use Rattle.surf_surfaces.specs.ShortestTree.{IsTight, IsShortestTree}
 use Rattle.surf_surfaces.specs.Signature.{edge_signature}
-use Rattle.surf_surfaces.specs.Choice.{Trees, AreChosen, Loop, comes_before, loops_at, candidates, DependsOn, IsGreedyChoice, IsChosenBasis}
+use Rattle.surf_surfaces.specs.Choice.{Trees, AreChosen, Loop, comes_before, loops_at, candidates, DependsOn}
+use Rattle.surf_surfaces.specs.Choice.{IsGreedyChoice, IsChosenBasis}
 
 -- ---- the least base of a loop
 
@@ -121,7 +124,8 @@ DependsAtPlace mesh lengths trees found z e =
     DependsOn mesh (walks_within (place_at mesh lengths trees z e) found) (loop_walk mesh (trees z) e)
 
 -- loops of edges, on which all loops at the vertices of the set depend
-pub record AreEnough (mesh : Mesh) (lengths : List ℕ) (trees : ℕ → Tree) (set : ℕ → Bool) (found : List Found) : Type 0 where
+pub record AreEnough (mesh : Mesh) (lengths : List ℕ) (trees : ℕ → Tree) (set : ℕ → Bool)
+    (found : List Found) : Type 0 where
   pub loops : All (IsFoundLoop mesh lengths trees) found
   pub depend : (z e : ℕ) → z < mesh.vertices → IsTrue (set z) → e < edge_count mesh →
       DependsAtPlace mesh lengths trees found z e
@@ -147,7 +151,8 @@ ChosenTreesAreShortest =
 -- ---- the choice from some bases
 
 -- the choice made vertex by vertex, where vertices outside the set are passed over
-pub data IsKeptAmong (mesh : Mesh) (lengths : List ℕ) (trees : ℕ → Trees) (here : ℕ → Bool) : ℕ → List Loop → Type 0 where
+pub data IsKeptAmong (mesh : Mesh) (lengths : List ℕ) (trees : ℕ → Trees) (here : ℕ → Bool) : ℕ → List Loop →
+    Type 0 where
   none_yet : IsKeptAmong mesh lengths trees here 0 []
   passed_over : {bases : ℕ} {kept : List Loop} → IsKeptAmong mesh lengths trees here bases kept → IsFalse (here bases) →
       IsKeptAmong mesh lengths trees here (suc bases) kept
@@ -171,7 +176,8 @@ BasisIsKeptAmong =
 -- again the greedy choice
 pub data IsKeptOver (mesh : Mesh) (lengths : List ℕ) (trees : ℕ → Trees) (bases : List ℕ) : ℕ → List Loop → Type 0 where
   none_of_them : IsKeptOver mesh lengths trees bases 0 []
-  one_of_them : {done : ℕ} {kept next : List Loop} → IsKeptOver mesh lengths trees bases done kept → done < length bases →
+  one_of_them : {done : ℕ} {kept next : List Loop} → IsKeptOver mesh lengths trees bases done kept →
+      done < length bases →
       IsGreedyChoice mesh
       (merge comes_before kept (loops_at mesh lengths (slice_index bases done) (trees (slice_index bases done)))) next →
       IsKeptOver mesh lengths trees bases (suc done) next
@@ -268,12 +274,14 @@ every_place place = true
 abbrev pub with_vertex : ℕ → (ℕ → Bool) → ℕ → Bool
 with_vertex z set y = set y || (y == z)
 
--- no loops are enough for no vertices. Of those that were kept and those found at one more vertex, in order of place, the
--- greedy choice is enough for one vertex more, and independent. What is enough is so for fewer places and vertices
+-- no loops are enough for no vertices. Of those that were kept and those found at one more vertex, in order of place,
+-- the greedy choice is enough for one vertex more, and independent. What is enough is so for fewer places and
+-- vertices
 pub record EnoughGrow (mesh : Mesh) (lengths : List ℕ) (trees : ℕ → Tree) : Type 0 where
   pub none : (sought : Place → Bool) → AreEnoughOf mesh lengths trees sought no_member []
   pub more : (sought : Place → Bool) (set : ℕ → Bool) (z : ℕ) (kept loops all next : List Found) →
-      AreEnoughOf mesh lengths trees sought set kept → z < mesh.vertices → AreFoundAt mesh lengths trees sought z loops →
+      AreEnoughOf mesh lengths trees sought set kept → z < mesh.vertices →
+      AreFoundAt mesh lengths trees sought z loops →
       IsPermutation (kept ++ loops) all → IsInOrder comes_no_later all → IsFoundChoice mesh all next →
       AreEnoughOf mesh lengths trees sought (with_vertex z set) next × IsIndependent mesh (walks_found next)
   pub fewer : (sought fewer : Place → Bool) (set part : ℕ → Bool) (kept : List Found) →
@@ -345,8 +353,8 @@ NearTreesHaveLoops =
 abbrev pub comes_sooner : Place → Place → Bool
 comes_sooner limit place = not (is_no_later limit place)
 
--- as many independent loops as may be, none later than a place, are enough where they are enough of those loops that come
--- before that place
+-- as many independent loops as may be, none later than a place, are enough where they are enough of those loops that
+-- come before that place
 abbrev pub ShortSearchesSuffice : Type 0
 ShortSearchesSuffice =
     (mesh : Mesh) (lengths : List ℕ) (trees : ℕ → Tree) (set : ℕ → Bool) (limit : Place) (found : List Found) →

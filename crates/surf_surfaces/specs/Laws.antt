@@ -1,9 +1,11 @@
 -- What holds of every mesh, face and surface.
-use Rattle.std.specs.Prelude.{◌≡◌, ◌≢◌, ℕ, ◌*◌, ◌<◌, ◌↔◌, ◌==◌, Bool, true, false, ◌&&◌, List, ◌∷◌, ◌++◌, length, All, AllPairs, Contains, ◌⊎◌, count_by, sum_by}
+use Rattle.std.specs.Prelude.{◌≡◌, ◌≢◌, ℕ, ◌*◌, ◌<◌, ◌↔◌, ◌==◌, Bool, true, false, ◌&&◌, List, ◌∷◌, ◌++◌, length, All}
+use Rattle.std.specs.Prelude.{AllPairs, Contains, ◌⊎◌, count_by, sum_by}
 use Rattle.surf_z2.specs.Parity.{xor, odd_below, count_below, sum_below}
 use Rattle.surf_z2.specs.Space.{Chain, difference}
 use Rattle.surf_surfaces.specs.Mesh.{Mesh, IsMesh, IsFace, sides, pair_of, pair_lt, edges}
-use Rattle.surf_surfaces.specs.Surface.{face_count, edge_count, face_at, ends, touches, borders, faces_with, faces_of, HasCorner, HasEdge, IsSurface}
+use Rattle.surf_surfaces.specs.Surface.{face_count, edge_count, face_at, ends, touches, borders, faces_with, faces_of}
+use Rattle.surf_surfaces.specs.Surface.{HasCorner, HasEdge, IsSurface}
 use Rattle.surf_surfaces.specs.Walk.{IsClosed, edge_number, last, parity}
 use Rattle.surf_surfaces.specs.Homology.{boundary, IsBoundary}
 use Rattle.surf_surfaces.specs.Distance.{LeadsFrom}

@@ -6,7 +6,9 @@ use Rattle.surf_surfaces.specs.Walk.{IsClosed, IsClosedAt, walk_length, ArePosit
 use Rattle.surf_surfaces.specs.Homology.{total, IsIndependent, IsLoopSystem, IsBasis, IsLeastLoopSystem, IsLeastBasis}
 use Rattle.surf_surfaces.specs.Cycle.{IsShortestNonseparating}
 use Rattle.surf_surfaces.specs.Choice.{Trees, AreChosenAt, AreChosen, Loop, walks, loops_at, IsChosenBasis}
-use Rattle.surf_surfaces.specs.Places.{AreNoLonger, AreNoLongerInOrder, lengths_in_order, IsLeastLoopSystemInOrder, IsLeastBasisInOrder, IsShortSum, IsShortestOf, IsShortestNotNull, IsShortestNotNullAt, MeasureShortest}
+use Rattle.surf_surfaces.specs.Places.{AreNoLonger, AreNoLongerInOrder, lengths_in_order, IsLeastLoopSystemInOrder}
+use Rattle.surf_surfaces.specs.Places.{IsLeastBasisInOrder, IsShortSum, IsShortestOf, IsShortestNotNull}
+use Rattle.surf_surfaces.specs.Places.{IsShortestNotNullAt, MeasureShortest}
 
 -- What it is to be no longer, place by place, of any two lists of walks
 pub record NoLongerLaw (mesh : Mesh) (lengths : List ℕ) (walks others : List (List ℕ)) : Type 0 where

@@ -1,5 +1,6 @@
 -- Sides by their places in faces, and the two sides of an edge.
-use Rattle.std.specs.Prelude.{◌≡◌, ◌≢◌, ℕ, ◌+◌, ◌-◌, ◌<◌, ◌==◌, ◌↔◌, ◌⊎◌, true, nat_lt, if◌then◌else◌, List, length, slice_index, slice_index_or}
+use Rattle.std.specs.Prelude.{◌≡◌, ◌≢◌, ℕ, ◌+◌, ◌-◌, ◌<◌, ◌==◌, ◌↔◌, ◌⊎◌, true, nat_lt, if◌then◌else◌, List, length}
+use Rattle.std.specs.Prelude.{slice_index, slice_index_or}
 use Rattle.surf_surfaces.specs.Mesh.{Mesh, IsFace, sides, pair}
 use Rattle.surf_surfaces.specs.Surface.{face_count, face_at, has_side}
 

@@ -1,5 +1,6 @@
 -- Closed surfaces: where a mesh is one, and its turnings.
-use Rattle.std.specs.Prelude.{◌≡◌, ℕ, ◌+◌, ◌-◌, ◌<◌, ◌==◌, Bool, true, ◌||◌, not, if◌then◌else◌, List, [], ◌∷◌, length, Contains, slice_index, slice_index_or}
+use Rattle.std.specs.Prelude.{◌≡◌, ℕ, ◌+◌, ◌-◌, ◌<◌, ◌==◌, Bool, true, ◌||◌, not, if◌then◌else◌, List, [], ◌∷◌}
+use Rattle.std.specs.Prelude.{length, Contains, slice_index, slice_index_or}
 use Rattle.std.specs.List.{list_any}
 use Rattle.surf_surfaces.specs.Joined.{Joined}
 use Rattle.surf_surfaces.specs.Mesh.{Mesh, IsMesh, sides, pair, pair_of, pair_eq, edges}

@@ -1,5 +1,6 @@
 -- Lines, tokens and whole numbers of a text, as lists of bytes.
-use Rattle.std.specs.Prelude.{◌^◌, ◌+◌, ◌-◌, ◌*◌, ℕ, zero, suc, Bool, true, false, ◌==◌, ◌||◌, ◌&&◌, nat_lt, List, [], ◌∷◌, drop, Option, Some, None, if◌then◌else◌}
+use Rattle.std.specs.Prelude.{◌^◌, ◌+◌, ◌-◌, ◌*◌, ℕ, zero, suc, Bool, true, false, ◌==◌, ◌||◌, ◌&&◌, nat_lt, List, []}
+use Rattle.std.specs.Prelude.{◌∷◌, drop, Option, Some, None, if◌then◌else◌}
 use Rattle.std.specs.Char.{is_ascii_digit}
 use Rattle.std.specs.List.{slice_split, before_first, position_or_len, filter, list_all, fold}
 
@@ -74,7 +75,9 @@ onto_lines line (token ∷ tokens) lines = line ∷ lines
 -- the lines that have a token, the first of all numbered n
 abbrev pub numbered_from : ℕ → List (List ℕ) → List TextLine
 numbered_from n [] = []
-numbered_from n (line ∷ lines) = onto_lines (record { number = n; bytes = trimmed (uncommented line) }) (tokens_of line) (numbered_from (n + 1) lines)
+numbered_from n (line ∷ lines) =
+    onto_lines (record { number = n; bytes = trimmed (uncommented line) }) (tokens_of line)
+    (numbered_from (n + 1) lines)
 
 -- the lines of a text that have a token
 abbrev pub lines_of : List ℕ → List TextLine

@@ -1,7 +1,8 @@
 //! Where lines, comments and blanks begin and end.
 ghost use Rattle.std.specs.Prelude.{◌≡◌, ◌∷◌, not, take, drop};
 ghost use Rattle.std.specs.List.{slice_split, position, position_or_len};
-ghost use Rattle.surf_text.specs.Text.{is_blank, is_line_end, is_comment_sign, uncommented, trimmed_front, trimmed_back, trimmed};
+ghost use Rattle.surf_text.specs.Text.{is_blank, is_line_end, is_comment_sign, uncommented, trimmed_front};
+ghost use Rattle.surf_text.specs.Text.{trimmed_back, trimmed};
 ghost use Rattle.surf_text.specs.Walks.{parts_of};
 
 use memchr::memchr;

@@ -13,8 +13,10 @@ parent_text (Some u) = decimal u
 
 -- a vertex with its distance and its parent
 abbrev pub vertex_line : ℕ → ℕ → Option ℕ → List ℕ
-vertex_line v distance parent = decimal v ++ codes " " ++ decimal distance ++ codes " " ++ parent_text parent ++ codes "\n"
+vertex_line v distance parent =
+    decimal v ++ codes " " ++ decimal distance ++ codes " " ++ parent_text parent ++ codes "\n"
 
 -- a line for each vertex
 abbrev pub distances_text : ℕ → Tree → List ℕ
-distances_text vertices tree = flat_map (λ v. vertex_line v (tree.rank v) (parent_in tree v)) (range_with_len 0 vertices)
+distances_text vertices tree =
+    flat_map (λ v. vertex_line v (tree.rank v) (parent_in tree v)) (range_with_len 0 vertices)

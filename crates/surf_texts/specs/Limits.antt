@@ -1,7 +1,8 @@
 -- Counts that are greater than their limits.
 use Rattle.std.specs.Prelude.{ℕ, List, ◌++◌, codes}
 use Rattle.surf_base.specs.declared.limits.LimitKind.{LimitKind}
-use Rattle.surf_base.specs.declared.limits.LimitKind.TheVariants.{Text, Vertices, Faces, Sides, Loops, BasisVertices, CertificateVertices, Answer, CoverLoops, CoverNodes}
+use Rattle.surf_base.specs.declared.limits.LimitKind.TheVariants.{Text, Vertices, Faces, Sides, Loops, BasisVertices}
+use Rattle.surf_base.specs.declared.limits.LimitKind.TheVariants.{CertificateVertices, Answer, CoverLoops, CoverNodes}
 use Rattle.surf_texts.specs.Outcome.{Outcome, refuses}
 
 -- the name of a limit

@@ -1,7 +1,8 @@
 -- The line of the first fault in the text of a mesh.
 use Rattle.std.specs.Prelude.{[], ◌∷◌, codes}
 use Rattle.surf_off.specs.declared.fault.OffFault.{OffFault}
-use Rattle.surf_off.specs.declared.fault.OffFault.TheVariants.{Header, Counts, VertexLine, FaceSize, FaceIndex, FaceRepeat, Early, Trailing, Limit, Memory}
+use Rattle.surf_off.specs.declared.fault.OffFault.TheVariants.{Header, Counts, VertexLine, FaceSize, FaceIndex}
+use Rattle.surf_off.specs.declared.fault.OffFault.TheVariants.{FaceRepeat, Early, Trailing, Limit, Memory}
 use Rattle.surf_texts.specs.Lines.{numbered}
 use Rattle.surf_texts.specs.Cause.{Cause, due, starved}
 use Rattle.surf_texts.specs.Outcome.{refuses}

@@ -15,7 +15,9 @@ use Rattle.surf_texts.specs.Outcome.{refuses}
 use Rattle.surf_texts.specs.SurfaceLines.{surface_cause}
 use Rattle.surf_texts.specs.LengthLines.{length_cause, base_line}
 use Rattle.surf_texts.specs.declared.refusal.Refused.{Refused}
-use Rattle.surf_texts.specs.declared.refusal.Refused.TheVariants.{MeshText, Surface, Lengths, Base, Certificate, Coordinates, Copies, Sewing, Walk, Evidence, Limit, Read, Memory}
+use Rattle.surf_texts.specs.declared.refusal.Refused.TheVariants.{MeshText, Surface, Lengths, Base, Certificate}
+use Rattle.surf_texts.specs.declared.refusal.Refused.TheVariants.{Coordinates, Copies, Sewing, Walk, Evidence, Limit}
+use Rattle.surf_texts.specs.declared.refusal.Refused.TheVariants.{Read, Memory}
 
 abbrev pub cause_of : Refused → Cause
 cause_of (MeshText fault) = off_cause fault

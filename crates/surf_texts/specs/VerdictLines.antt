@@ -4,7 +4,9 @@ use Rattle.surf_surfaces.specs.Homology.{total}
 use Rattle.surf_certcheck.specs.declared.fault.CertPart.{CertPart}
 use Rattle.surf_certcheck.specs.declared.fault.CertPart.TheVariants as part
 use Rattle.surf_certcheck.specs.declared.fault.CertFault.{CertFault}
-use Rattle.surf_certcheck.specs.declared.fault.CertFault.TheVariants.{Shape, Parent, Distance, Slack, Dual, Split, Heavier, NotClosed, Dependent, Uncovered, Memory}
+use Rattle.surf_certcheck.specs.declared.fault.CertFault.TheVariants.{Shape, Parent, Distance, Slack, Dual, Split}
+use Rattle.surf_certcheck.specs.declared.fault.CertFault.TheVariants.{Heavier, NotClosed, Dependent, Uncovered}
+use Rattle.surf_certcheck.specs.declared.fault.CertFault.TheVariants.{Memory}
 use Rattle.surf_texts.specs.Lines.{numbered}
 
 -- the part that doesn't fit the mesh

@@ -2,7 +2,8 @@
 ghost use Rattle.std.specs.Prelude.{◌≡◌, IfOk, string_bytes};
 ghost use Rattle.surf_texts.specs.Cause.{line_of, status_of_cause};
 ghost use Rattle.surf_texts.specs.Refusals.{cause_of, of_page};
-ghost use Rattle.surf_texts.specs.declared.refusal.Refused.TheVariants.{MeshText, Surface, Lengths, Certificate, Coordinates, Sewing, Evidence, Memory};
+ghost use Rattle.surf_texts.specs.declared.refusal.Refused.TheVariants.{MeshText, Surface, Lengths, Certificate};
+ghost use Rattle.surf_texts.specs.declared.refusal.Refused.TheVariants.{Coordinates, Sewing, Evidence, Memory};
 
 use crate::certificates::cert_line;
 use crate::coordinates::geom_line;

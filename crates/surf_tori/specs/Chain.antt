@@ -13,8 +13,8 @@ joint b = 2 * (2 * b + 2)
 abbrev pub last_joint : Mesh → ℕ → ℕ → ℕ
 last_joint mesh a b = face_count mesh - (2 * (a * b) - joint b)
 
--- A torus to which k more are joined, each to the one before. The first face of its cell in the first row and the first column is left
--- out, and of the one before that of the cell in the third row and the third column.
+-- A torus to which k more are joined, each to the one before. The first face of its cell in the first row and the
+-- first column is left out, and of the one before that of the cell in the third row and the third column.
 abbrev pub longer_chain : ℕ → ℕ → ℕ → Mesh
 longer_chain zero a b = torus a b
 longer_chain (suc k) a b =

@@ -1,5 +1,6 @@
 -- Connected sums: two surfaces, joined along a triangle that is left out of both.
-use Rattle.std.specs.Prelude.{◌≡◌, ◌≢◌, ℕ, ◌+◌, ◌-◌, ◌<◌, ◌==◌, not, if◌then◌else◌, List, ◌++◌, length, map, take, drop, pos, ◌+ℤ◌, ◌-ℤ◌}
+use Rattle.std.specs.Prelude.{◌≡◌, ◌≢◌, ℕ, ◌+◌, ◌-◌, ◌<◌, ◌==◌, not, if◌then◌else◌, List, ◌++◌, length, map, take}
+use Rattle.std.specs.Prelude.{drop, pos, ◌+ℤ◌, ◌-ℤ◌}
 use Rattle.std.specs.List.{list_any}
 use Rattle.surf_z2.specs.Parity.{count_below}
 use Rattle.surf_surfaces.specs.Joined.{Joined}

@@ -36,7 +36,9 @@ pub record IsReached (g : Graph) (len dist : ℕ → ℕ) (w k : ℕ) : Type 0 w
 -- the unsettled neighbours of v, at distance d, have been offered to a heap
 pub record IsOffered (g : Graph) (len dist : ℕ → ℕ) (v d : ℕ) (old new : Entries) : Type 0 where
   pub same_length : length new ≡ length old
-  pub came : (w k t : ℕ) → entry_of new w ≡ Some (k, t) → (entry_of old w ≡ Some (k, t)) ⊎ ((e : ℕ) × (e < g.edges) × (w < g.nodes) × (joins g w v e ≡ true) × (dist w ≡ far) × (k ≡ d + len e))
+  pub came : (w k t : ℕ) → entry_of new w ≡ Some (k, t) →
+      (entry_of old w ≡ Some (k, t)) ⊎
+      ((e : ℕ) × (e < g.edges) × (w < g.nodes) × (joins g w v e ≡ true) × (dist w ≡ far) × (k ≡ d + len e))
   pub kept : (w k t : ℕ) → entry_of old w ≡ Some (k, t) → HasKey new w k
   pub offered : (w e : ℕ) → e < g.edges → joins g v w e ≡ true → dist w ≡ far → HasKey new w (d + len e)
 

@@ -26,7 +26,12 @@ parent_edge_of t v = one_above t.ups t v
 
 -- the tree of the tables
 abbrev pub tree_of : TreeTables → Tree
-tree_of t = record { root = t.base; parent = slice_index t.parents; up = slice_index t.ups; rank = slice_index t.distances }
+tree_of t = record {
+  root = t.base;
+  parent = slice_index t.parents;
+  up = slice_index t.ups;
+  rank = slice_index t.distances;
+}
 
 -- there is an entry for each vertex and for each edge
 pub record AreTreeTables (mesh : Mesh) (t : TreeTables) : Type 0 where

@@ -1,5 +1,6 @@
 -- What holds of a surface's turnings and of its Euler characteristic.
-use Rattle.std.specs.Prelude.{ℕ, ◌≡◌, ◌<◌, ◌≤◌, ◌+◌, ◌-◌, ◌*◌, ◌/◌, ◌⊎◌, ◌↔◌, ◌&&◌, Bool, false, List, length, pos, ◌-ℤ◌, ◌≤ℤ◌}
+use Rattle.std.specs.Prelude.{ℕ, ◌≡◌, ◌<◌, ◌≤◌, ◌+◌, ◌-◌, ◌*◌, ◌/◌, ◌⊎◌, ◌↔◌, ◌&&◌, Bool, false, List, length, pos}
+use Rattle.std.specs.Prelude.{◌-ℤ◌, ◌≤ℤ◌}
 use Rattle.surf_graphs.specs.Graphs.{Graph, IsGraph, IsConnected}
 use Rattle.surf_graphs.specs.Rounds.{IsTurn}
 use Rattle.surf_graphs.specs.Cells.{dual, Split, IsSplit}

@@ -39,7 +39,8 @@ chosen_cert mesh trees = record {
   left = map (ends mesh) (left_edges mesh trees.tree trees.cotree);
 }
 
--- the certificate of a basis: the trees at all vertices, the tree of faces and the left edges at vertex 0, and the walks
+-- the certificate of a basis: the trees at all vertices, the tree of faces and the left edges at vertex 0, and the
+-- walks
 abbrev pub basis_cert_of : Mesh → (ℕ → Trees) → List Loop → BasisCert
 basis_cert_of mesh trees basis = record {
   trees = map (λ x. rows_for mesh (trees x).tree) (range_with_len 0 mesh.vertices);

@@ -4,7 +4,8 @@ use Rattle.surf_surfaces.specs.Mesh.{Mesh}
 use Rattle.surf_surfaces.specs.Surface.{face_count, edge_count, IsSurface}
 use Rattle.surf_surfaces.specs.Walk.{ArePositive}
 use Rattle.surf_surfaces.specs.Cycle.{IsShortestNonseparating}
-use Rattle.surf_surfaces.specs.Places.{IsLeastLoopSystemInOrder, IsLeastBasisInOrder, IsShortestOf, IsShortestNotNull, IsShortestNotNullAt, MeasureShortest}
+use Rattle.surf_surfaces.specs.Places.{IsLeastLoopSystemInOrder, IsLeastBasisInOrder, IsShortestOf, IsShortestNotNull}
+use Rattle.surf_surfaces.specs.Places.{IsShortestNotNullAt, MeasureShortest}
 use Rattle.surf_validity.specs.Rows.{LoopCert, BasisCert}
 use Rattle.surf_validity.specs.Valid.{IsValidLoops, certified_loops}
 use Rattle.surf_validity.specs.Bases.{IsValidBasis}

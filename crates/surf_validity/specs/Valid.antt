@@ -1,6 +1,7 @@
 -- When a loop certificate is valid for a mesh and lengths. Each condition speaks of one row, edge or pair.
 use Rattle.std.specs.List.{list_any}
-use Rattle.std.specs.Prelude.{◌≡◌, ◌≢◌, ℕ, ◌+◌, ◌<◌, ◌≤◌, ◌==◌, Bool, true, false, not, ◌&&◌, if◌then◌else◌, List, length, map, sum, All, Contains, slice_index, slice_index_or, Option, Some, None}
+use Rattle.std.specs.Prelude.{◌≡◌, ◌≢◌, ℕ, ◌+◌, ◌<◌, ◌≤◌, ◌==◌, Bool, true, false, not, ◌&&◌, if◌then◌else◌, List}
+use Rattle.std.specs.Prelude.{length, map, sum, All, Contains, slice_index, slice_index_or, Option, Some, None}
 use Rattle.surf_z2.specs.Parity.{any_below}
 use Rattle.surf_graphs.specs.Growth.{between}
 use Rattle.surf_graphs.specs.Trees.{Tree}
@@ -134,8 +135,8 @@ abbrev pub loop_size : Mesh → List ℕ → TreeRows → ℕ → ℕ
 loop_size mesh lengths rows e =
     distance_at rows (ends mesh e).0 + edge_length lengths e + distance_at rows (ends mesh e).1
 
--- where edge c is on the way through the tree of faces between the two faces of edge l, its loop is no shorter than that
--- of l
+-- where edge c is on the way through the tree of faces between the two faces of edge l, its loop is no shorter than
+-- that of l
 abbrev pub IsNotHeavier : Mesh → List ℕ → LoopCert → ℕ → ℕ → Type 0
 IsNotHeavier mesh lengths cert l c =
     between (dual_tree mesh cert.dual) (faces_of mesh l).0 (faces_of mesh l).1 c ≡ true →

@@ -1,7 +1,10 @@
 -- A command of the code as a row of the command table.
 use Rattle.surf_words.specs.declared.words.Command.{Command}
-use Rattle.surf_words.specs.declared.words.Command.TheVariants.{Help, Version, Info, Disc, Cycles, Weighted, Generate, Try, Check, Measure, Sew, Class, Same, Confirm, Shortest}
-use Rattle.surf_words.specs.Words.{Request, help, version, info, disc, cycles, weighted, makes, tries, checks, measures, sews, classes, compares, confirms, tightens}
+use Rattle.surf_words.specs.declared.words.Command.TheVariants.{Help, Version, Info, Disc, Cycles, Weighted, Generate}
+use Rattle.surf_words.specs.declared.words.Command.TheVariants.{Try, Check, Measure, Sew, Class, Same, Confirm}
+use Rattle.surf_words.specs.declared.words.Command.TheVariants.{Shortest}
+use Rattle.surf_words.specs.Words.{Request, help, version, info, disc, cycles, weighted, makes, tries, checks}
+use Rattle.surf_words.specs.Words.{measures, sews, classes, compares, confirms, tightens}
 
 abbrev pub request : Command → Request
 request Help = help

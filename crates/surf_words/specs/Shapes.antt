@@ -28,7 +28,8 @@ torus_shape rows columns =
 -- the chain of as many tori of as many rows and columns, from 1 torus and from 4 rows and columns on
 abbrev pub chain_shape : ℕ → ℕ → ℕ → Option Shape
 chain_shape tori rows columns =
-    if nat_le 1 tori && (nat_le 4 rows && nat_le 4 columns) then Some (record { tori = tori; rows = rows; columns = columns })
+    if nat_le 1 tori && (nat_le 4 rows && nat_le 4 columns)
+    then Some (record { tori = tori; rows = rows; columns = columns })
     else None
 
 -- those of numbers that may be missing

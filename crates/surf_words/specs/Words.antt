@@ -1,5 +1,6 @@
 -- The words of a command line, and the command that they are.
-use Rattle.std.specs.Prelude.{ℕ, List, [], ◌∷◌, map, String, Option, Some, None, nat_lt, option_and_then, if◌then◌else◌, codes, string_bytes}
+use Rattle.std.specs.Prelude.{ℕ, List, [], ◌∷◌, map, String, Option, Some, None, nat_lt, option_and_then}
+use Rattle.std.specs.Prelude.{if◌then◌else◌, codes, string_bytes}
 use Rattle.std.specs.Str.{bytes_eq}
 use Rattle.surf_text.specs.Text.{whole}
 use Rattle.surf_words.specs.declared.tasks.CycleTask.{CycleTask}
@@ -70,7 +71,8 @@ task_of word =
 abbrev pub cut_task : List ℕ → List ℕ → Option Task
 cut_task word kind =
     if bytes_eq word (codes "cut")
-    then (if bytes_eq kind (codes "full") then Some (Cut Full) else (if bytes_eq kind (codes "trim") then Some (Cut Trimmed) else None))
+    then (if bytes_eq kind (codes "full") then Some (Cut Full)
+    else (if bytes_eq kind (codes "trim") then Some (Cut Trimmed) else None))
     else None
 
 abbrev pub weighted_request : Option Task → List ℕ → List ℕ → Option ℕ → Option Request
@@ -109,11 +111,13 @@ tried_request (Some shape) (Some scatter) = Some (tries shape scatter)
 
 -- the shape that a word names with two numbers, and with three
 abbrev pub torus_words : List ℕ → List ℕ → List ℕ → Option Shape
-torus_words kind rows columns = if bytes_eq kind (codes "torus") then torus_named (word_number rows) (word_number columns) else None
+torus_words kind rows columns = if bytes_eq kind (codes "torus")
+    then torus_named (word_number rows) (word_number columns) else None
 
 abbrev pub chain_words : List ℕ → List ℕ → List ℕ → List ℕ → Option Shape
 chain_words kind tori rows columns =
-    if bytes_eq kind (codes "chain") then chain_named (word_number tori) (word_number rows) (word_number columns) else None
+    if bytes_eq kind (codes "chain") then chain_named (word_number tori) (word_number rows) (word_number columns)
+    else None
 
 -- the row of three words, that of four, that of five and that of six
 abbrev pub three_words : List ℕ → List ℕ → List ℕ → Option Request
@@ -139,7 +143,8 @@ five_words word second third fourth fifth =
 
 abbrev pub six_words : List ℕ → List ℕ → List ℕ → List ℕ → List ℕ → List ℕ → Option Request
 six_words word second third fourth fifth sixth =
-    if bytes_eq word (codes "try") then tried_request (chain_words second third fourth fifth) (word_number sixth) else None
+    if bytes_eq word (codes "try") then tried_request (chain_words second third fourth fifth) (word_number sixth)
+    else None
 
 -- the row of the command table that the words are in
 abbrev pub request_of : List (List ℕ) → Option Request

@@ -1,6 +1,9 @@
 //! The words of the command line.
 ghost use Rattle.std.specs.Prelude.{◌≡◌, None, Some, MatchOption};
-ghost use Rattle.surf_words.specs.Words.{texts, request_of, lone_request, mesh_request, word_number, cycle_task, task_of, cut_task, cycles_request, weighted_request, shape_request, tried_request, torus_words, chain_words, measures_request, decimals_of, three_words, four_words, five_words, six_words};
+ghost use Rattle.surf_words.specs.Words.{texts, request_of, lone_request, mesh_request, word_number, cycle_task};
+ghost use Rattle.surf_words.specs.Words.{task_of, cut_task, cycles_request, weighted_request, shape_request};
+ghost use Rattle.surf_words.specs.Words.{tried_request, torus_words, chain_words, measures_request, decimals_of};
+ghost use Rattle.surf_words.specs.Words.{three_words, four_words, five_words, six_words};
 ghost use Rattle.surf_words.specs.Seen.{request};
 
 use crate::decimals::Decimals;

@@ -2,7 +2,8 @@
 ghost use Rattle.std.specs.Prelude.{◌≡◌, ◌≤◌, length};
 ghost use Rattle.surf_class.specs.Seen.{seen};
 ghost use Rattle.surf_surfaces.specs.Walk.{IsClosed};
-ghost use Rattle.surf_run.specs.Confirming.{IsEvidenceText, OnConfirm, OnConfirmMesh, OnConfirmText, OnEvidenceFile, OnEvidenceText};
+ghost use Rattle.surf_run.specs.Confirming.{IsEvidenceText, OnConfirm, OnConfirmMesh, OnConfirmText, OnEvidenceFile};
+ghost use Rattle.surf_run.specs.Confirming.{OnEvidenceText};
 ghost use Rattle.surf_answers.specs.Tells.{Concludes, ConcludesOver, Takes};
 ghost use Rattle.surf_base.specs.declared.limits.TheConstants.{MAX_TEXT};
 

@@ -2,7 +2,8 @@
 ghost use Rattle.std.specs.Prelude.{◌≡◌, ◌≤◌, ◌*◌, ◌^◌, length, IfOk};
 ghost use Rattle.surf_surfaces.specs.Surface.{edge_count, loop_count};
 ghost use Rattle.surf_answers.specs.Tells.{ConcludesOver, Takes};
-ghost use Rattle.surf_run.specs.Tightening.{HasSmallCover, OnCovered, OnShortest, OnTightLengths, OnTightMesh, OnTightText};
+ghost use Rattle.surf_run.specs.Tightening.{HasSmallCover, OnCovered, OnShortest, OnTightLengths, OnTightMesh};
+ghost use Rattle.surf_run.specs.Tightening.{OnTightText};
 ghost use Rattle.surf_base.specs.declared.limits.TheConstants.{MAX_COVER_NODES, MAX_TEXT};
 
 use crate::reading::{read_file, read_looped};
