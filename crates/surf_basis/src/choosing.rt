@@ -23,6 +23,7 @@ pub(crate) struct Choice {
 }
 
 impl Model for Choice {
+    ghost use Rattle.surf_base.specs.declared.limits.TheConstants.{MAX_LOOPS};
     ghost use Rattle.std.specs.Prelude.{◌≡◌, ◌≤◌, ◌<◌, ◌^◌, All, length, vec_capacity};
     ghost use Rattle.surf_basis.specs.Candidates.{Chosen};
 

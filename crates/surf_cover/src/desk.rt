@@ -1,6 +1,5 @@
 //! The distances over the cover from one base.
 ghost use Rattle.std.specs.Prelude.{◌≡◌, ◌<◌, length, IfOk};
-ghost use Rattle.surf_base.specs.declared.limits.TheConstants.{MAX_COVER_NODES};
 ghost use Rattle.surf_graphs.specs.Cells.{Split};
 ghost use Rattle.surf_surfaces.specs.Surface.{edge_count};
 ghost use Rattle.surf_cover.specs.Networks.{IsCertifiedBy, IsReadOff};
@@ -31,6 +30,7 @@ pub struct CoverDesk {
 }
 
 impl Model for CoverDesk {
+    ghost use Rattle.surf_base.specs.declared.limits.TheConstants.{MAX_COVER_NODES};
     ghost use Rattle.std.specs.Prelude.{◌≡◌, ◌≤◌, ◌*◌, length};
     ghost use Rattle.surf_cover.specs.Tables.{CoverTables};
 

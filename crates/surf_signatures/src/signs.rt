@@ -28,6 +28,7 @@ pub struct Signs {
 }
 
 impl Model for Signs {
+    ghost use Rattle.surf_base.specs.declared.limits.TheConstants.{MAX_LOOPS};
     ghost use Rattle.std.specs.Prelude.{◌≡◌, ◌≤◌, ◌*◌, length};
     ghost use Rattle.surf_signatures.specs.Tables.{Signed, words_for, sets_in};
 

@@ -19,6 +19,7 @@ pub struct VertexSets {
 }
 
 impl Model for VertexSets {
+    ghost use Rattle.surf_base.specs.declared.limits.TheConstants.{MAX_LOOPS};
     ghost use Rattle.std.specs.Prelude.{◌≡◌, ◌≤◌, ◌*◌, length};
     ghost use Rattle.surf_signatures.specs.Tables.{Signed, words_for, sets_in};
 
