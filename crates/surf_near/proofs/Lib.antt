@@ -4,6 +4,7 @@ pub mod Trimming
 pub mod Offers
 pub mod Choices
 pub mod Reaching
+pub mod Ties
 pub mod Turns
 pub mod Queues
 pub mod NearTrees

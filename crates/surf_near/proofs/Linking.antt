@@ -1,7 +1,7 @@
 -- The links of a vertex are the edges there.
 use Rattle.std.proofs.Common.{◌≡◌, ℕ, ◌<◌, ◌≤◌, ◌^◌, ◌⊎◌, true, ◌&&◌, ◌||◌, eqb, eq-eqb, List, length, map, get_or, refl, sym, ap, ◌∙◌, subst, arith, inl, inr}
-use Rattle.std.proofs.lemmas.Bool.{eqb-true, or_cases, or_left, or_right, and_parts, and_from}
-use Rattle.std.proofs.lemmas.List.{get_or-map, get_or_default, length-map}
+use Rattle.std.proofs.lemmas.Bool.{cases_lt, eqb-true, or_cases, or_left, or_right, and_parts, and_from}
+use Rattle.std.proofs.lemmas.List.{get_or-map, get_or_default, get_or_past, length-map}
 use Rattle.std.proofs.lemmas.Simd.{map-map}
 use Rattle.surf_graphs.specs.Graphs.{joins}
 use Rattle.surf_graphs.specs.Cells.{primal}
@@ -16,7 +16,7 @@ use Rattle.surf_mesh.proofs.LinkLaws.{edge_row, cells_few}
 use Rattle.surf_lengths.specs.Lengths.{longest}
 use Rattle.surf_tree.proofs.LengthLaws.{short_lengths}
 use Rattle.surf_near.specs.declared.links.Link.{Link}
-use Rattle.surf_near.specs.Links.{LinkTables, weight_of, ends_of, link_in, AreLinksAt, AreLinks, AreEven}
+use Rattle.surf_near.specs.Links.{LinkTables, weight_of, ends_of, link_in, AreLinksAt, AreLinks, AreEven, AreUpTo}
 
 -- an edge as a link of one of its ends
 abbrev pub link_over : Mesh → List ℕ → ℕ → ℕ → Link
@@ -131,6 +131,13 @@ module _ (net : LinkTables) (are : AreLinks net.mesh net.lengths net.rows) where
 
   pub links_even : (size : ℕ) → AreEven net.lengths size → (e : ℕ) → e < edge_count net.mesh → weight_of net e ≡ size
   links_even size even e l = even e (omega (arith, l, are.as_many))
+
+-- no length is greater than the greatest, also where there is no edge
+pub up_to_all : (lengths : List ℕ) (most : ℕ) → AreUpTo lengths most → (e : ℕ) → edge_length lengths e ≤ most
+up_to_all lengths most all e = elim (cases_lt e (length lengths)) [
+  | inl l ↦ all e l
+  | inr past ↦ let z = get_or_past lengths e 0 past in omega arith
+]
 
 -- a number that was read from a table
 pub read_at : (xs : List ℕ) (i v x : ℕ) → x ≡ get_or xs i x → i ≡ v → v < length xs → x ≡ get_or xs v 0

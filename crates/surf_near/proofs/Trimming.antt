@@ -1,9 +1,10 @@
--- A heap that has what a wider one has, as far as a radius.
+-- A fringe that has what a wider one has, as far as a radius.
 use Rattle.std.proofs.Common.{ℕ, ◌<◌, ◌≤◌, ◌≡◌, refl, sym, ap, ◌∙◌, arith, inl, inr, length, set, Option, Some, None, ◌&&◌, eqb, ltb, get_or-set_same, get_or-set_other, ne_eqb}
 use Rattle.std.proofs.Math.ListN.{length-set}
 use Rattle.std.proofs.lemmas.Bool.{cases_eq, cases_lt, cases_Bool, lt-ltb, le-ltb}
 use Rattle.std.proofs.lemmas.List.{get_or_past}
-use Rattle.surf_heap.specs.Entries.{Entries, entry_of, lesser, IsLeastEntry}
+use Rattle.surf_heap.specs.Entries.{Entries, entry_of, lesser}
+use Rattle.surf_buckets.specs.Buckets.{IsNearestEntry}
 use Rattle.surf_tree.proofs.Settling.{no_entry}
 use Rattle.surf_near.specs.Searching.{IsTrimmed}
 
@@ -87,18 +88,19 @@ module _ (radius : ℕ) (wide heap : Entries) (trimmed : IsTrimmed radius wide h
             (get_or_past (set entries v None) w None (let n = length-set entries v None in omega arith)) h
       ]
 
-  -- the least of the trimmed heap is the least of the wider one
-  pub trim_least : (v k t : ℕ) → IsLeastEntry heap v k t → (k ≤ radius) × IsLeastEntry wide v k t
-  trim_least v k t least =
-      let at = trimmed.here v k t least.holds in
+  -- what is nearest in the trimmed fringe is nearest in the wider one
+  pub trim_least : (v k : ℕ) → IsNearestEntry heap v k → (k ≤ radius) × IsNearestEntry wide v k
+  trim_least v k least =
+      let t = least.holds.0 in
+      let at = trimmed.here v k t least.holds.1 in
       let within : v < length heap = least.within in
       let same = trimmed.same_length in (
         at.1,
         record {
           within = omega arith;
-          holds = at.0;
+          holds = (t, at.0);
           least = λ p k2 t2 h. elim (cases_lt radius k2) [
-            | inl past ↦ inl (let le = at.1 in omega arith)
+            | inl past ↦ let le = at.1 in omega arith
             | inr inside ↦ least.least p k2 t2 (trimmed.there p k2 t2 h inside)
           ];
         },
@@ -167,6 +169,6 @@ module _ (radius : ℕ) (wide heap : Entries) (trimmed : IsTrimmed radius wide h
           ];
         }
 
--- a heap of entries within the radius is its own wider one
+-- a fringe of entries within the radius is its own wider one
 pub trim_all : (radius : ℕ) (heap : Entries) → ((w k t : ℕ) → entry_of heap w ≡ Some (k, t) → k ≤ radius) → IsTrimmed radius heap heap
 trim_all radius heap all = record { same_length = refl; here = λ w k t h. (h, all w k t h); there = λ w k t h le. h }

@@ -5,6 +5,7 @@ use Rattle.std.proofs.lemmas.Bool.{cases_eq}
 use Rattle.surf_z2.specs.Parity.{count_below}
 use Rattle.surf_graphs.specs.Graphs.{Graph}
 use Rattle.surf_heap.specs.Entries.{Entries, entry_of, IsLeastEntry, IsEmpty}
+use Rattle.surf_buckets.specs.Buckets.{IsNearestEntry}
 use Rattle.surf_lengths.specs.Lengths.{longest}
 use Rattle.surf_base.specs.Tables.{at}
 use Rattle.surf_tree.specs.Searches.{HasKey, IsOffered}
@@ -14,10 +15,11 @@ use Rattle.surf_tree.proofs.Offering.{one_less, all_free, turn_inside, turn_smal
 use Rattle.surf_near.specs.declared.tables.Tables.{Tables}
 use Rattle.surf_near.specs.Near.{never}
 use Rattle.surf_near.specs.Searching.{IsChoice, IsTrimmed, OffersNear, IsListed, IsChosenAt, HasRoom, IsBlank, IsFound}
+use Rattle.surf_near.proofs.Ties.{tied, tied_least, search_tied, search_untied, offered_tied}
 use Rattle.surf_near.proofs.Trimming.{trim_all, trim_taken, trim_least}
 use Rattle.surf_near.proofs.Choices.{choice_stays, chosen_kept}
 
--- the state of a search: a wider search, whose heap is trimmed
+-- the state of a search: a wider search, whose fringe is trimmed
 pub record IsSearchNear (g : Graph) (len : ℕ → ℕ) (base radius : ℕ) (t : Tables) (heap : Entries) : Type 0 where
   pub room : HasRoom g.nodes t
   pub wide : Entries
@@ -110,19 +112,32 @@ module _ (g : Graph) (len : ℕ → ℕ) (base radius : ℕ) (small : g.nodes �
       all_left : count_below g.nodes (λ u. eqb (at t.distance.items u) never) ≡ g.nodes
       all_left = all_free g.nodes t.distance.items blank.none
 
-  module _ (t : Tables) (heap : Entries) (s : IsSearchNear g len base radius t heap) (v k tie : ℕ) (least : IsLeastEntry heap v k tie) where
+  module _ (t : Tables) (heap : Entries) (s : IsSearchNear g len base radius t heap) (v k : ℕ) (least : IsNearestEntry heap v k) where
     abbrev dist : List ℕ
     dist = t.distance.items
 
-    wide_least : (k ≤ radius) × IsLeastEntry s.wide v k tie
-    wide_least = trim_least radius s.wide heap s.trimmed v k tie least
+    wide_least : (k ≤ radius) × IsNearestEntry s.wide v k
+    wide_least = trim_least radius s.wide heap s.trimmed v k least
+
+    abbrev left : ℕ
+    left = count_below g.nodes (λ u. eqb (at dist u) never)
+
+    -- the same search with ties by which the node is least
+    search2 : IsSearch g len base (at dist) (tied v s.wide) s.last left
+    search2 = search_tied v g len base (at dist) s.wide s.last left s.search
+
+    least2 : IsLeastEntry (tied v s.wide) v k 0
+    least2 = tied_least v s.wide k wide_least.1
+
+    holds : entry_of s.wide v ≡ Some (k, wide_least.1.holds.0)
+    holds = wide_least.1.holds.1
 
     -- the node is one, and its distance is short
     pub turn_in : (v < g.nodes) × (k + longest ≤ g.nodes * longest)
-    turn_in = turn_inside g len base small short dist s.wide s.last v k tie s.room.distance s.search wide_least.1
+    turn_in = turn_inside g len base small short dist (tied v s.wide) s.last v k 0 s.room.distance search2 least2
 
     pub turn_free : at dist v ≡ never
-    turn_free = (s.search.outside v k tie wide_least.1.holds).unsettled
+    turn_free = (s.search.outside v k wide_least.1.holds.0 holds).unsettled
 
     near_end : k ≢ never
     near_end = let f = turn_in.1 in λ e. absurd (omega (arith, f, e, small))
@@ -131,7 +146,7 @@ module _ (g : Graph) (len : ℕ → ℕ) (base radius : ℕ) (small : g.nodes �
     v_room = omega (arith, turn_in.0, s.room.distance)
 
     pub turn_fewer : count_below g.nodes (λ u. eqb (at (set dist v k) u) never) < count_below g.nodes (λ u. eqb (at dist u) never)
-    turn_fewer = turn_smaller g len base small short dist s.wide s.last v k tie s.room.distance s.search wide_least.1
+    turn_fewer = turn_smaller g len base small short dist (tied v s.wide) s.last v k 0 s.room.distance search2 least2
 
     pub turn_room : t.count < g.nodes
     turn_room = omega (arith, turn_fewer, s.counted)
@@ -146,7 +161,7 @@ module _ (g : Graph) (len : ℕ → ℕ) (base radius : ℕ) (small : g.nodes �
     last_up : (u : ℕ) → u < g.nodes → at dist u ≢ never → at dist u ≤ k
     last_up u l settled =
         let a : at dist u ≤ s.last = s.search.settled u l settled in
-        let b : s.last ≤ k = (s.search.outside v k tie wide_least.1.holds).later in
+        let b : s.last ≤ k = (s.search.outside v k wide_least.1.holds.0 holds).later in
         omega arith
 
     none_farther : (u : ℕ) → at (set dist v k) u ≢ never → u < g.nodes → at (set dist v k) u ≤ k
@@ -189,8 +204,10 @@ module _ (g : Graph) (len : ℕ → ℕ) (base radius : ℕ) (small : g.nodes �
         wide = offered.0;
         last = k;
         search = subst (λ (xs : List ℕ). IsSearch g len base (at xs) offered.0 k (count_below g.nodes (λ u. eqb (at xs u) never))) (sym distance_is)
-            (turn_keeps g len base small short dist s.wide s.last v k tie s.room.distance s.search wide_least.1
-            (set s.wide v None) offered.0 refl offered.1);
+            (search_untied v g len base (at (set dist v k)) offered.0 k (count_below g.nodes (λ u. eqb (at (set dist v k) u) never))
+            (turn_keeps g len base small short dist (tied v s.wide) s.last v k 0 s.room.distance search2 least2
+            (set (tied v s.wide) v None) (tied v offered.0) refl
+            (offered_tied v g len (at (set dist v k)) k s.wide offered.0 wide_least.1.within offered.1)));
         trimmed = offered.2;
         within = λ u l settled. elim (cases_eq u v) [
           | inl same ↦ rw (distance_is, same, get_or-set_same dist v k 0 v_room) wide_least.0

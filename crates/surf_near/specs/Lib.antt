@@ -1,3 +1,4 @@
+pub mod Fringe
 pub mod Links
 pub mod Near
 pub mod Searching

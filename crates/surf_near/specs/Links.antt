@@ -1,5 +1,5 @@
 -- The links of the vertices of a mesh, with the lengths of its edges.
-use Rattle.std.specs.Prelude.{◌≡◌, ◌≢◌, ℕ, ◌<◌, ◌⊎◌, ◌^◌, List, [], length, map, slice_index, slice_index_or, Option}
+use Rattle.std.specs.Prelude.{◌≡◌, ◌≢◌, ℕ, ◌<◌, ◌≤◌, ◌⊎◌, ◌^◌, List, [], length, map, slice_index, slice_index_or, Option}
 use Rattle.std.specs.Prelude.{MatchOption}
 use Rattle.surf_z2.specs.Parity.{count_below}
 use Rattle.surf_graphs.specs.Graphs.{Graph}
@@ -55,6 +55,10 @@ pub record AreLinks (mesh : Mesh) (lengths : List ℕ) (rows : List (List Link))
 -- all edges have one length
 abbrev pub AreEven : List ℕ → ℕ → Type 0
 AreEven lengths size = (e : ℕ) → e < length lengths → slice_index lengths e ≡ size
+
+-- no edge is longer
+abbrev pub AreUpTo : List ℕ → ℕ → Type 0
+AreUpTo lengths most = (e : ℕ) → e < length lengths → slice_index lengths e ≤ most
 
 -- there is no edge, or one has another length than the first
 abbrev pub AreUneven : List ℕ → Type 0

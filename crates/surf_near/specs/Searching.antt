@@ -22,13 +22,13 @@ pub record IsChoice (g : Graph) (len dist least : ℕ → ℕ) (v p e m : ℕ) :
   pub before : (u f : ℕ) → IsTight g len dist v u f → m ≤ least u
   pub one : (m ≡ v) ⊎ ((u f : ℕ) × (u < g.nodes) × IsTight g len dist v u f × (m ≡ least u))
 
--- a heap has what a wider one has, as far as a radius
+-- a fringe has what a wider one has, as far as a radius
 pub record IsTrimmed (radius : ℕ) (wide heap : Entries) : Type 0 where
   pub same_length : length heap ≡ length wide
   pub here : (w k t : ℕ) → entry_of heap w ≡ Some (k, t) → (entry_of wide w ≡ Some (k, t)) × (k ≤ radius)
   pub there : (w k t : ℕ) → entry_of wide w ≡ Some (k, t) → k ≤ radius → entry_of heap w ≡ Some (k, t)
 
--- the unsettled neighbours of v, at distance d, have been offered to a heap, as far as a radius
+-- the unsettled neighbours of v, at distance d, have been offered to a fringe, as far as a radius
 abbrev pub OffersNear : Graph → (ℕ → ℕ) → (ℕ → ℕ) → ℕ → ℕ → ℕ → Entries → Entries → Type 0
 OffersNear g len dist v d radius old new = (wide : Entries) → IsTrimmed radius wide old →
     (wider : Entries) × IsOffered g len dist v d wide wider × IsTrimmed radius wider new

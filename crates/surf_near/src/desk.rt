@@ -5,13 +5,13 @@ ghost use Rattle.surf_near.specs.Searching.{IsBlank, IsFound};
 ghost use Rattle.surf_near.specs.Near.{NearTables, AreNearTables, IsNear, is_near};
 
 use crate::even::settle_even;
+use crate::fringe::Fringe;
 use crate::links::Links;
 use crate::search::settle_near;
 use crate::tables::{NEVER, Tables, forget};
 use std::alloc::Global;
 use std::marker::Model;
 use surf_base::{EdgeId, NoMemory, VertexId};
-use surf_heap::Heap;
 use surf_mesh::HalfMesh;
 
 /// The vertices within a radius of a base, the nearest first, and for each of them its distance,
@@ -19,7 +19,7 @@ use surf_mesh::HalfMesh;
 /// shortest walk to it.
 #[derive(Drop)]
 pub struct NearDesk {
-    heap: Heap,
+    fringe: Fringe,
     tables: Tables,
     base: VertexId,
 }
@@ -42,21 +42,21 @@ impl Model for NearDesk {
       leasts = d.tables.least.items;
     } };
 
-    ghost invariant = { λ d. IsKept d.heap d.tables };
+    ghost invariant = { λ d. IsKept d.fringe.entries d.tables };
 }
 
 // Settles the vertices within a radius, by a queue where one will do.
-fn settle(links: &Links<'_>, tables: &mut Tables, heap: &mut Heap, base: VertexId, radius: u64)
+fn settle(links: &Links<'_>, tables: &mut Tables, fringe: &mut Fringe, base: VertexId, radius: u64)
     requires base { base < links.now.mesh.vertices }
     requires blank { IsBlank links.now.mesh.vertices tables.old }
-    requires places { length heap.old ≡ links.now.mesh.vertices }
+    requires places { length fringe.old.entries ≡ links.now.mesh.vertices }
     ensures links { AreLinks links.now.mesh links.now.lengths links.now.rows }
     ensures found { IsFound (graph_of links.now) (weight_of links.now) base radius tables.new }
-    ensures places { length heap.new ≡ links.now.mesh.vertices }
+    ensures places { length fringe.new.entries ≡ links.now.mesh.vertices }
 {
     match links.even() {
         Some(size) => settle_even(links, tables, size, base, radius),
-        None => settle_near(links, tables, heap, base, radius),
+        None => settle_near(links, tables, fringe, base, radius),
     }
 }
 
@@ -67,7 +67,7 @@ impl NearDesk {
         ensures made { IfOk result (λ desk. AreNearTables mesh.now desk) }
     {
         let vertices = mesh.vertices() as usize;
-        let heap = Heap::make(alloc, mesh.vertices())?;
+        let fringe = Fringe::make(alloc, mesh.vertices())?;
         let order = vec![in alloc; VertexId::new(0); vertices]?;
         let distance = vec![in alloc; NEVER; vertices]?;
         let parent = vec![in alloc; 0u32; vertices]?;
@@ -82,7 +82,11 @@ impl NearDesk {
             least,
         };
         let base = VertexId::new(0);
-        Ok(NearDesk { heap, tables, base })
+        Ok(NearDesk {
+            fringe,
+            tables,
+            base,
+        })
     }
 
     /// Settles the vertices at distance at most `radius` from a base. It takes no memory and can't
@@ -97,7 +101,7 @@ impl NearDesk {
             &mut self.tables.distance,
         );
         self.tables.count = 0;
-        settle(links, &mut self.tables, &mut self.heap, base, radius);
+        settle(links, &mut self.tables, &mut self.fringe, base, radius);
         self.base = base;
     }
 

@@ -3,7 +3,7 @@ ghost use Rattle.std.specs.Prelude.{◌≡◌, ◌<◌, ◌≤◌, ◌+◌, leng
 ghost use Rattle.surf_surfaces.specs.Mesh.{IsMesh};
 ghost use Rattle.surf_surfaces.specs.Surface.{edge_count};
 ghost use Rattle.surf_lengths.specs.Lengths.{AreLengths};
-ghost use Rattle.surf_near.specs.Links.{AreLinks, AreLinksAt, IsEvenness, degree};
+ghost use Rattle.surf_near.specs.Links.{AreLinks, AreLinksAt, AreUpTo, IsEvenness, degree};
 
 use std::alloc::Global;
 use std::marker::Model;
@@ -27,17 +27,19 @@ pub struct Links<'m> {
     lengths: &'m Lengths,
     rows: Rows<Link>,
     even: Option<u32>,
+    greatest: u32,
 }
 
 impl<'m> Model for Links<'m> {
-    ghost use Rattle.surf_near.specs.Links.{LinkTables, AreLinks, IsEvenness};
+    ghost use Rattle.surf_near.specs.Links.{LinkTables, AreLinks, AreUpTo, IsEvenness};
 
     ghost Value = { LinkTables };
 
     ghost view = { λ l. record { mesh = l.mesh.now; lengths = l.lengths.now; rows = l.rows } };
 
     ghost invariant = { λ l. AreLinks l.mesh.now l.lengths.now l.rows
-        × IsEvenness l.lengths.now l.even };
+        × IsEvenness l.lengths.now l.even
+        × AreUpTo l.lengths.now l.greatest };
 }
 
 // The length that all edges have, where they have one.
@@ -55,6 +57,17 @@ fn even_length(lengths: &Lengths) -> Option<u32>
         }
     }
     Some(first)
+}
+
+// The greatest of all lengths, and 0 where there is none.
+fn greatest_length(lengths: &Lengths) -> u32
+    ensures { AreUpTo lengths.now result }
+{
+    let mut greatest = 0;
+    for e in 0..lengths.count() {
+        greatest = greatest.max(lengths.of(EdgeId::new(e)));
+    }
+    greatest
 }
 
 // The links of one vertex.
@@ -99,11 +112,13 @@ impl<'m> Links<'m> {
             rows.push(&row)?;
         }
         let even = even_length(lengths);
+        let greatest = greatest_length(lengths);
         Ok(Links {
             mesh,
             lengths,
             rows,
             even,
+            greatest,
         })
     }
 
@@ -113,6 +128,13 @@ impl<'m> Links<'m> {
         ensures even { IsEvenness self.now.lengths result }
     {
         self.even
+    }
+
+    /// A length that no edge is longer than.
+    pub fn greatest(&self) -> u32
+        ensures greatest { AreUpTo self.now.lengths result }
+    {
+        self.greatest
     }
 
     /// The links of a vertex.

@@ -2,34 +2,37 @@
 ghost use Rattle.std.specs.Prelude.{◌≡◌, ◌<◌, ◌≤◌, ◌+◌, ◌^◌, ◌≢◌, length};
 ghost use Rattle.surf_lengths.specs.Lengths.{longest};
 ghost use Rattle.surf_base.specs.Tables.{at};
-ghost use Rattle.surf_near.specs.Links.{AreLinks, graph_of, weight_of};
+ghost use Rattle.surf_near.specs.Links.{AreLinks, AreUpTo, graph_of, weight_of};
 ghost use Rattle.surf_near.specs.Near.{never};
 ghost use Rattle.surf_near.specs.Searching.{IsShort, Chooses, Offers, IsBlank, IsFound};
 
+use crate::fringe::Fringe;
 use crate::links::Links;
 use crate::tables::{Choice, NEVER, Tables};
 use surf_base::VertexId;
-use surf_heap::Heap;
 
 // Looks at the links of a vertex that was just settled: chooses its parent and its least vertex
-// among the settled neighbours, and offers the others to the heap, as far as the radius.
+// among the settled neighbours, and offers the others to the fringe, as far as the radius.
 fn look_round(
     links: &Links<'_>,
     distance: &[u64],
     least: &[u32],
-    heap: &mut Heap,
+    fringe: &mut Fringe,
     v: VertexId,
     radius: u64,
 ) -> Choice
     requires vertex { v < links.now.mesh.vertices }
     requires distances { length distance.now ≡ links.now.mesh.vertices }
     requires leasts { length least.now ≡ links.now.mesh.vertices }
-    requires places { length heap.old ≡ links.now.mesh.vertices }
+    requires places { length fringe.old.entries ≡ links.now.mesh.vertices }
+    requires now { fringe.old.now ≡ at distance.now v }
+    requires step { AreUpTo links.now.lengths fringe.old.step }
     requires fits { IsShort links.now.mesh.vertices (at distance.now) }
     requires settled { at distance.now v ≢ never }
     ensures choice { Chooses links.now distance.now least.now v result }
-    ensures offers { Offers links.now distance.now v radius heap.old heap.new }
-    ensures places { length heap.new ≡ length heap.old }
+    ensures offers { Offers links.now distance.now v radius fringe.old.entries fringe.new.entries }
+    ensures places { length fringe.new.entries ≡ length fringe.old.entries }
+    ensures step { fringe.new.step ≡ fringe.old.step }
 {
     let d = distance[v.index()];
     let mut best = Choice {
@@ -43,7 +46,7 @@ fn look_round(
         if there == NEVER {
             let reached = d + u64::from(link.length);
             if reached <= radius {
-                heap.offer(to, reached, 0);
+                fringe.offer(to, reached);
             }
         } else if there + u64::from(link.length) == d {
             best.least = best.least.min(least[link.to.index()]);
@@ -60,26 +63,26 @@ fn look_round(
 pub(crate) fn settle_near(
     links: &Links<'_>,
     tables: &mut Tables,
-    heap: &mut Heap,
+    fringe: &mut Fringe,
     base: VertexId,
     radius: u64,
 )
     requires links { AreLinks links.now.mesh links.now.lengths links.now.rows }
     requires base { base < links.now.mesh.vertices }
     requires blank { IsBlank links.now.mesh.vertices tables.old }
-    requires places { length heap.old ≡ links.now.mesh.vertices }
+    requires places { length fringe.old.entries ≡ links.now.mesh.vertices }
     ensures found { IsFound (graph_of links.now) (weight_of links.now) base radius tables.new }
-    ensures places { length heap.new ≡ links.now.mesh.vertices }
+    ensures places { length fringe.new.entries ≡ links.now.mesh.vertices }
 {
-    heap.clear();
-    heap.offer(base.number(), 0, 0);
-    while let Some((v, d, _)) = heap.take_least() {
+    fringe.clear(links.greatest());
+    fringe.offer(base.number(), 0);
+    while let Some((v, d)) = fringe.take_least() {
         tables.list(v, d);
         let choice = look_round(
             links,
             &tables.distance,
             &tables.least,
-            heap,
+            fringe,
             VertexId::new(v),
             radius,
         );

@@ -1,11 +1,13 @@
 //! Tests of the crates below the meshes, and of texts of certificates: files and sinks, rows, bits,
-//! heaps, texts. The crate has tests alone.
+//! heaps, buckets, texts. The crate has tests alone.
 #![tactic(auto)]
 
 #[cfg(test)]
 mod base;
 #[cfg(test)]
 mod bits;
+#[cfg(test)]
+mod buckets;
 #[cfg(test)]
 mod cert;
 #[cfg(test)]

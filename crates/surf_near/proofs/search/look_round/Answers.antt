@@ -6,7 +6,7 @@ use Rattle.surf_lengths.specs.Lengths.{longest}
 use Rattle.surf_base.specs.Tables.{at}
 use Rattle.surf_near.specs.Near.{never}
 use Rattle.surf_near.specs.Links.{graph_of, weight_of, ends_of}
-use Rattle.surf_near.proofs.Linking.{item_link, item_in, item_measured}
+use Rattle.surf_near.proofs.Linking.{item_link, item_in, item_measured, up_to_all}
 use Rattle.surf_near.proofs.Offers.{offers_skip, offers_more, offers_passed, offers_all}
 use Rattle.surf_near.proofs.Choices.{min_parts, choice_skip, choice_take, choice_all}
 use Rattle.surf_near.proofs.search.look_round.Goals as goal
@@ -24,6 +24,15 @@ bounds-least-index c =
     let inside = item_in net.mesh net.lengths c.args.v c.at-link-items.result.now c.at-link-items.ensures.row c.loop-link.link-index (omega (arith, c.loop-link-test.true)) c.link-item.result c.link-item.is in
     omega (arith, inside, c.requires.leasts)
 
+pub offer-requires-clause-to : goal.offer-requires-clause-to
+offer-requires-clause-to c =
+    let net = c.args.links.now in
+    let n = c.loop-link.link-index in
+    let size = item_measured net.mesh net.lengths c.args.v c.at-link-items.result.now c.at-link-items.ensures.row n (omega (arith, c.loop-link-test.true)) c.link-item.result c.link-item.is in
+    let most = up_to_all net.lengths c.args.fringe.now.step c.requires.step c.link-item.result.edge in
+    let here = ap (at c.args.distance.now) c.index.ensures in
+    omega (arith, size, most, here, c.from.ensures, c.loop-link.invariant.now, c.loop-link.invariant.step)
+
 pub loop-link-preserved : goal.loop-link-preserved
 loop-link-preserved c =
     let net = c.args.links.now in
@@ -36,7 +45,7 @@ loop-link-preserved c =
     let links = map ends_of items in
     let row = c.at-link-items.ensures.row.row in
     let n = c.loop-link.link-index in
-    let heap = c.loop-link.heap in
+    let heap = c.loop-link.fringe.entries in
     let old = c.loop-link.best in
     let x = c.link-item.result in
     let w = x.to in
@@ -58,47 +67,57 @@ loop-link-preserved c =
           let free : dist w ≡ never = omega (arith, b.if-there.true, there) in
           let key : d + b.from.result ≡ d + len e = omega (arith, b.from.ensures, size) in
           let within : d + len e ≤ c.args.radius = omega (arith, b.if-reached-radius.true, key) in
-          let new : b.offer.new.self ≡ set heap w (Some (lesser (entry_of heap w) (d + len e) 0)) = rw (← key, ← c.number-to.ensures) b.offer.ensures.entry in
-          rw (b.heap-is, b.best-is, new) (record {
+          let new : b.offer.new.self.entries ≡ set heap w (Some (lesser (entry_of heap w) (d + len e) 0)) = rw (← key, ← c.number-to.ensures) b.offer.ensures.entry in
+          rw (b.fringe-is, b.best-is, new) (record {
+            now = b.offer.ensures.now ∙ inv.now;
+            step = b.offer.ensures.step ∙ inv.step;
             places = length-set heap w (Some (lesser (entry_of heap w) (d + len e) 0)) ∙ inv.places;
             choice = choice_skip graph len dist least v links row n w e ln is old.parent old.up old.least inv.choice (λ t. absurd (omega (arith, t, free, room)));
-            offers = offers_more graph len dist v d c.args.radius links row c.args.heap.now heap n w e ln is inv.offers free in_heap within;
+            offers = offers_more graph len dist v d c.args.radius links row c.args.fringe.now.entries heap n w e ln is inv.offers free in_heap within;
           })
       | then-there+else-reached-radius b ↦
           let free : dist w ≡ never = omega (arith, b.if-there.true, there) in
           let past : c.args.radius < d + len e = omega (arith, b.if-reached-radius.false, b.from.ensures, size) in
-          rw (b.heap-is, b.best-is) (record {
+          rw (b.fringe-is, b.best-is) (record {
             places = inv.places;
+            now = inv.now;
+            step = inv.step;
             choice = choice_skip graph len dist least v links row n w e ln is old.parent old.up old.least inv.choice (λ t. absurd (omega (arith, t, free, room)));
-            offers = offers_passed graph len dist v d c.args.radius links row c.args.heap.now heap n w e ln is inv.offers free in_heap past;
+            offers = offers_passed graph len dist v d c.args.radius links row c.args.fringe.now.entries heap n w e ln is inv.offers free in_heap past;
           })
       | else-there+then-there-from+then-to-best b ↦
           let settled : dist w ≢ never = λ t. absurd (b.if-there.false (there ∙ t)) in
           let tight : dist w + len e ≡ dist v = omega (arith, b.if-there-from.true, there, here, b.from-else-there.ensures, size) in
           let lower = min_parts old.least (least w) b.min.result (b.min.ensures ∙ ap (λ k. min old.least (least k)) b.index-then-there-from.ensures) in
-          rw (b.heap-is, b.best-is, c.number-to.ensures, b.number-then-to-best.ensures) (record {
+          rw (b.fringe-is, b.best-is, c.number-to.ensures, b.number-then-to-best.ensures) (record {
             places = inv.places;
+            now = inv.now;
+            step = inv.step;
             choice = choice_take graph len dist least v links row n w e ln is old.parent old.up old.least inv.choice w e b.min.result tight
                 (omega (arith, b.if-to-best.true, c.number-to.ensures)) (omega arith) (inr (refl, refl)) lower.0 lower.1 lower.2;
-            offers = offers_skip graph len dist v d c.args.radius links row c.args.heap.now heap n w e ln is inv.offers settled;
+            offers = offers_skip graph len dist v d c.args.radius links row c.args.fringe.now.entries heap n w e ln is inv.offers settled;
           })
       | else-there+then-there-from+else-to-best b ↦
           let settled : dist w ≢ never = λ t. absurd (b.if-there.false (there ∙ t)) in
           let tight : dist w + len e ≡ dist v = omega (arith, b.if-there-from.true, there, here, b.from-else-there.ensures, size) in
           let lower = min_parts old.least (least w) b.min.result (b.min.ensures ∙ ap (λ k. min old.least (least k)) b.index-then-there-from.ensures) in
-          rw (b.heap-is, b.best-is) (record {
+          rw (b.fringe-is, b.best-is) (record {
             places = inv.places;
+            now = inv.now;
+            step = inv.step;
             choice = choice_take graph len dist least v links row n w e ln is old.parent old.up old.least inv.choice old.parent old.up b.min.result tight
                 (omega arith) (omega (arith, b.if-to-best.false, c.number-to.ensures)) (inl (refl, refl)) lower.0 lower.1 lower.2;
-            offers = offers_skip graph len dist v d c.args.radius links row c.args.heap.now heap n w e ln is inv.offers settled;
+            offers = offers_skip graph len dist v d c.args.radius links row c.args.fringe.now.entries heap n w e ln is inv.offers settled;
           })
       | else-there+else-there-from b ↦
           let settled : dist w ≢ never = λ t. absurd (b.if-there.false (there ∙ t)) in
-          rw (b.heap-is, b.best-is) (record {
+          rw (b.fringe-is, b.best-is) (record {
             places = inv.places;
+            now = inv.now;
+            step = inv.step;
             choice = choice_skip graph len dist least v links row n w e ln is old.parent old.up old.least inv.choice
                 (λ t. absurd (b.if-there-from.false (omega (arith, t, there, here, b.from-else-there.ensures, size))));
-            offers = offers_skip graph len dist v d c.args.radius links row c.args.heap.now heap n w e ln is inv.offers settled;
+            offers = offers_skip graph len dist v d c.args.radius links row c.args.fringe.now.entries heap n w e ln is inv.offers settled;
           })
     ]
 
@@ -117,4 +136,4 @@ returns-clause-offers c =
     let long = length-map items ends_of in
     let d : at c.args.distance.now c.index.result ≡ at c.args.distance.now c.args.v = ap (at c.args.distance.now) c.index.ensures in
     rw d at (offers_all (graph_of net) (weight_of net) (at c.args.distance.now) c.args.v (at c.args.distance.now c.index.result) c.args.radius (map ends_of items)
-    c.at-link-items.ensures.row.row c.args.heap.now c.loop-link.heap c.loop-link.link-index (omega arith) c.loop-link.invariant.offers)
+    c.at-link-items.ensures.row.row c.args.fringe.now.entries c.loop-link.fringe.entries c.loop-link.link-index (omega arith) c.loop-link.invariant.offers)

@@ -53,4 +53,5 @@ invariant_of-result c =
         at = λ v l. inv.at v (omega (arith, end));
       },
       c.even_length-even.ensures.even,
+      c.greatest_length-greatest.ensures,
     )
