@@ -10,6 +10,7 @@ pub mod Limits
 pub mod Searched
 pub mod Numbered
 pub mod Told
+pub mod Passed
 pub mod Placed
 pub mod Marked
 pub mod Sufficient

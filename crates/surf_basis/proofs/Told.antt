@@ -24,10 +24,12 @@ use Rattle.surf_signatures.specs.Ways.{way_class}
 use Rattle.surf_signatures.proofs.WayLaws.{loop_class}
 use Rattle.surf_lengths.specs.Lengths.{longest, AreLengths}
 use Rattle.surf_tree.proofs.LengthLaws.{short_lengths}
-use Rattle.surf_soup.specs.Ring.{AreEdgesAt}
 use Rattle.surf_loops.proofs.Turned.{ends_in}
 use Rattle.surf_cotree.specs.Tables.{CotreeTables}
+use Rattle.surf_near.specs.declared.links.Link.{Link}
+use Rattle.surf_near.specs.Links.{AreLinksAt, link_in}
 use Rattle.surf_near.specs.Near.{NearTables, IsNear, IsNearTo, is_near}
+use Rattle.surf_near.proofs.Linking.{link_all}
 use Rattle.surf_basis.specs.declared.candidate.Candidate.{Candidate}
 use Rattle.surf_basis.specs.declared.candidate.Signed.{Signed}
 use Rattle.surf_basis.specs.Places.{place_of, is_sought, radius_of}
@@ -116,18 +118,18 @@ told_off x limit e is on =
     wanted_on : is_wanted x limit e ≡ true → wanted_loop x limit e ≡ Some (told_loop x e)
     wanted_on on = rw on refl
 
--- ---- the edges at a vertex, one after the other
+-- ---- the links of a vertex, one after the other
 
--- what a list has after the first edges at a vertex, and what it had before
-pub record IsListedAt (x : Search) (limit : Option Candidate) (v : ℕ) (edges : List ℕ) (old found : List Signed) (k : ℕ) : Type 0 where
+-- what a list has after the first links of a vertex, and what it had before
+pub record IsListedAt (x : Search) (limit : Option Candidate) (v : ℕ) (links : List Link) (old found : List Signed) (k : ℕ) : Type 0 where
   pub each : All (IsTold x limit) found
   pub kept : All (Contains found) old
-  pub here : (j : ℕ) → j < k → (ends x.mesh (slice_index edges j)).0 ≡ v → is_wanted x limit (slice_index edges j) ≡ true →
-      Contains found (told_loop x (slice_index edges j))
+  pub here : (j : ℕ) → j < k → (ends x.mesh (link_in links j).edge).0 ≡ v → is_wanted x limit (link_in links j).edge ≡ true →
+      Contains found (told_loop x (link_in links j).edge)
 
-pub listed_first : (x : Search) (limit : Option Candidate) (v : ℕ) (edges : List ℕ) (old : List Signed) →
-    All (IsTold x limit) old → IsListedAt x limit v edges old old 0
-listed_first x limit v edges old told = record {
+pub listed_first : (x : Search) (limit : Option Candidate) (v : ℕ) (links : List Link) (old : List Signed) →
+    All (IsTold x limit) old → IsListedAt x limit v links old old 0
+listed_first x limit v links old told = record {
   each = told;
   kept = λ k d l. (k, l, get_or_default old k (get_or old k d) d l);
   here = λ j l. absurd (omega arith);
@@ -137,51 +139,48 @@ listed_first x limit v edges old told = record {
 pub contained : (old new : List Signed) (c : Signed) → All (Contains new) old → Contains old c → Contains new c
 contained old new c kept (k, l, is) = subst (Contains new) is (kept k c l)
 
-module _ (x : Search) (limit : Option Candidate) (v : ℕ) (edges : List ℕ) (old : List Signed) where
+module _ (x : Search) (limit : Option Candidate) (v : ℕ) (links : List Link) (old : List Signed) where
   -- one more loop
-  pub listed_push : (found new : List Signed) (k e : ℕ) (s : Signed) → IsListedAt x limit v edges old found k →
-      slice_index edges k ≡ e → e < edge_count x.mesh → wanted_loop x limit e ≡ Some s → new ≡ found ++ s ∷ [] →
-      IsListedAt x limit v edges old new (k + 1)
-  listed_push found new k e s h at e_in is push = subst (λ ys. IsListedAt x limit v edges old ys (k + 1)) (sym push) (record {
+  pub listed_push : (found new : List Signed) (k e : ℕ) (s : Signed) → IsListedAt x limit v links old found k →
+      (link_in links k).edge ≡ e → e < edge_count x.mesh → wanted_loop x limit e ≡ Some s → new ≡ found ++ s ∷ [] →
+      IsListedAt x limit v links old new (k + 1)
+  listed_push found new k e s h at e_in is push = subst (λ ys. IsListedAt x limit v links old ys (k + 1)) (sym push) (record {
     each = All-push (IsTold x limit) found s h.each (told_wanted x limit e s e_in is);
     kept = λ i d l. Contains-append_left found (s ∷ []) (get_or old i d) (h.kept i d l);
     here = λ j l low on. elim (cases_lt j k) [
-      | inl less ↦ Contains-append_left found (s ∷ []) (told_loop x (slice_index edges j)) (h.here j less low on)
+      | inl less ↦ Contains-append_left found (s ∷ []) (told_loop x (link_in links j).edge) (h.here j less low on)
       | inr more ↦
           let same : j ≡ k = omega arith in
-          let one : told_loop x (slice_index edges j) ≡ s =
-          ap (told_loop x) (ap (slice_index edges) same ∙ at) ∙ told_same x limit e s is in
-          Contains-append_right found (s ∷ []) (told_loop x (slice_index edges j)) (subst (Contains (s ∷ [])) (sym one) (0, omega arith, refl))
+          let one : told_loop x (link_in links j).edge ≡ s =
+          ap (told_loop x) (ap (λ n. (link_in links n).edge) same ∙ at) ∙ told_same x limit e s is in
+          Contains-append_right found (s ∷ []) (told_loop x (link_in links j).edge)
+          (subst (Contains (s ∷ [])) (sym one) (0, omega arith, refl))
     ];
   })
 
   -- no more
-  pub listed_same : (found new : List Signed) (k : ℕ) → IsListedAt x limit v edges old found k → new ≡ found →
-      ((ends x.mesh (slice_index edges k)).0 ≡ v → is_wanted x limit (slice_index edges k) ≡ true → ⊥) →
-      IsListedAt x limit v edges old new (k + 1)
-  listed_same found new k h same off = subst (λ ys. IsListedAt x limit v edges old ys (k + 1)) (sym same) (record {
+  pub listed_same : (found new : List Signed) (k : ℕ) → IsListedAt x limit v links old found k → new ≡ found →
+      ((ends x.mesh (link_in links k).edge).0 ≡ v → is_wanted x limit (link_in links k).edge ≡ true → ⊥) →
+      IsListedAt x limit v links old new (k + 1)
+  listed_same found new k h same off = subst (λ ys. IsListedAt x limit v links old ys (k + 1)) (sym same) (record {
     each = h.each;
     kept = h.kept;
     here = λ j l low on. elim (cases_lt j k) [
       | inl less ↦ h.here j less low on
       | inr more ↦
           let is : j ≡ k = omega arith in
-          absurd (off (ap (λ n. (ends x.mesh (slice_index edges n)).0) (sym is) ∙ low)
-          (ap (λ n. is_wanted x limit (slice_index edges n)) (sym is) ∙ on))
+          absurd (off (ap (λ n. (ends x.mesh (link_in links n).edge).0) (sym is) ∙ low)
+          (ap (λ n. is_wanted x limit (link_in links n).edge) (sym is) ∙ on))
     ];
   })
 
   -- all of them
-  pub listed_all : (found : List Signed) (k : ℕ) → IsListedAt x limit v edges old found k → length edges ≤ k →
-      AreEdgesAt x.mesh v edges → ListsAt x limit v found
-  listed_all found k h past at e e_in low on =
-      let touched : touches v (ends x.mesh e) ≡ true = touch (ends x.mesh e) low in
-      let (j, l, is) = at.all e (e_in, touched) in
+  pub listed_all : (lengths : List ℕ) (found : List Signed) (k : ℕ) → IsListedAt x limit v links old found k →
+      length links ≤ k → AreLinksAt x.mesh lengths v links → ListsAt x limit v found
+  listed_all lengths found k h past are e e_in low on =
+      let (j, l, is) = link_all x.mesh lengths v links are e e_in (inl low) in
       subst (λ n. Contains found (told_loop x n)) is
       (h.here j (omega arith) (ap (λ n. (ends x.mesh n).0) is ∙ low) (ap (is_wanted x limit) is ∙ on))
-    where
-      touch : (p : ℕ × ℕ) → p.0 ≡ v → touches v p ≡ true
-      touch p at_v = grind (arith, nat_tests)
 
 -- the edges at one more vertex
 pub lists_more : (x : Search) (limit : Option Candidate) (settled : List ℕ) (i v : ℕ) (old new : List Signed) →

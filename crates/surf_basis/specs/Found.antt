@@ -18,8 +18,10 @@ use Rattle.surf_surfaces.specs.Choice.{Trees, AreChosen, Loop, IsChosenBasis, ca
 use Rattle.surf_surfaces.specs.FewBases.{is_no_later, place_at, least_base, Found, AreEnoughOf, HasBaseIn, IsFirstFound}
 use Rattle.surf_cotree.specs.Tables.{CotreeTables}
 use Rattle.surf_near.specs.Near.{NearTables, AreNearTables, is_near}
+use Rattle.surf_near.specs.declared.links.Link.{Link}
 use Rattle.surf_basis.specs.declared.candidate.Candidate.{Candidate}
 use Rattle.surf_basis.specs.declared.candidate.Signed.{Signed}
+use Rattle.surf_basis.specs.declared.finding.Reached.{Reached}
 use Rattle.surf_basis.specs.declared.surface.Surface.{Surface}
 use Rattle.surf_basis.specs.Candidates.{Chosen, earlier, signed_earlier, independent_of}
 use Rattle.surf_basis.specs.Cycles.{first_of}
@@ -61,6 +63,10 @@ search_of s t w base = record {
 abbrev pub search_at : Surface → NearTables → WayTables → Search
 search_at s t w = search_of s t w t.base
 
+-- the search that has reached so much
+abbrev pub reached_at : Reached → Search
+reached_at r = search_at r.surface.now r.desk.now r.ways.now
+
 -- there is an entry for each vertex and for each edge, and a class for each vertex that was reached
 pub record IsReady (x : Search) : Type 0 where
   pub made : AreNearTables x.mesh x.near
@@ -94,6 +100,17 @@ told_loop x e =
 abbrev pub is_wanted : Search → Option Candidate → ℕ → Bool
 is_wanted x limit e =
     is_between x e && (is_sought limit (place_of (told_loop x e).candidate) && not ((told_loop x e).signature == 0))
+
+-- a vertex isn't the lesser end of the edge, or no limit makes its loop wanted
+abbrev pub IsUnwantedAt : Search → ℕ → ℕ → Type 0
+IsUnwantedAt x v e = (limit : Option Candidate) → (ends x.mesh e).0 ≡ v → is_wanted x limit e ≡ true → ⊥
+
+-- a link is an edge of a vertex, with the other end
+pub record IsLinkOf (mesh : Mesh) (v : ℕ) (link : Link) : Type 0 where
+  pub edge_in : link.edge < edge_count mesh
+  pub to_in : link.to < mesh.vertices
+  pub ends_are : ((v < link.to) × (ends mesh link.edge ≡ (v, link.to)))
+      ⊎ ((link.to < v) × (ends mesh link.edge ≡ (link.to, v)))
 
 -- a candidate is what is told of an edge whose loop is wanted
 pub record IsTold (x : Search) (limit : Option Candidate) (c : Signed) : Type 0 where

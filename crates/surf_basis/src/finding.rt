@@ -1,9 +1,10 @@
 //! The loops that a search from one vertex finds.
-ghost use Rattle.std.specs.Prelude.{◌≡◌, ◌<◌, ◌&&◌, IsTrue, bit_xor, min, All, Contains, length, IfOk, OnOk};
+ghost use Rattle.std.specs.Prelude.{◌≡◌, ◌<◌, ◌&&◌, false, IsTrue, bit_xor, min, All, Contains, length, IfOk, OnOk};
 ghost use Rattle.surf_surfaces.specs.Surface.{edge_count, ends};
 ghost use Rattle.surf_near.specs.Near.{AreNearTables, is_near};
 ghost use Rattle.surf_basis.specs.Found.{surface_of, search_of, IsReady, is_between, told_loop, wanted_loop};
-ghost use Rattle.surf_basis.specs.Found.{search_at, IsTold, ListsAt, AreTold, AreFound};
+ghost use Rattle.surf_basis.specs.Found.{search_at, reached_at, IsTold, ListsAt, AreTold, AreFound};
+ghost use Rattle.surf_basis.specs.Found.{IsLinkOf, IsUnwantedAt};
 ghost use Rattle.surf_basis.specs.Places.{place_of, is_sought, radius_of};
 
 use crate::candidate::{Candidate, Signed, copy_signature};
@@ -12,7 +13,7 @@ use crate::ways::Ways;
 use std::alloc::Global;
 use std::marker::Model;
 use surf_base::{EdgeId, NoMemory, VertexId};
-use surf_near::{Links, NearDesk};
+use surf_near::{Link, Links, NearDesk};
 
 /// Finds the loops of edges at one vertex after the other.
 #[derive(Drop)]
@@ -90,25 +91,6 @@ fn is_between(surface: &Surface<'_>, desk: &NearDesk, edge: EdgeId) -> bool
     desk.is_near(u) && desk.is_near(v)
 }
 
-// Whether the loop of an edge between vertices that were reached is null as far as two numbers
-// tell: those of its ends are the same, and its own signature is empty.
-fn is_plain(
-    surface: &Surface<'_>,
-    desk: &NearDesk,
-    ways: &Ways,
-    base: VertexId,
-    edge: EdgeId,
-) -> bool
-    requires ready { IsReady (search_of surface.now desk.now ways.now base) }
-    requires edge { edge < edge_count surface.now.mesh.now }
-    ensures plain { IsTrue result → (told_loop (search_of surface.now desk.now ways.now base)
-        edge).signature ≡ 0 }
-{
-    surface.mesh.law_of_surface();
-    let (u, v) = surface.mesh.ends(edge);
-    ways.are_alike(u, v) && surface.signatures.signature(edge).is_empty()
-}
-
 // Whether a candidate comes before a limit, by length and then by base.
 fn is_sought(candidate: &Candidate, limit: &Option<Candidate>) -> bool
     ensures sought { result ≡ is_sought limit.now (place_of candidate.now) }
@@ -133,24 +115,26 @@ fn radius(limit: &Option<Candidate>) -> u64
     }
 }
 
+/// What a search from a base has reached, on a surface whose vertices have links.
+#[derive(Clone, Copy)]
+struct Reached<'r, 'a> {
+    surface: &'r Surface<'a>,
+    links: &'r Links<'a>,
+    desk: &'r NearDesk,
+    ways: &'r Ways,
+}
+
 // The loop of an edge, if its ends were reached, it isn't null and it comes before a limit.
-fn wanted_loop(
-    surface: &Surface<'_>,
-    desk: &NearDesk,
-    ways: &Ways,
-    base: VertexId,
-    limit: &Option<Candidate>,
-    edge: EdgeId,
-) -> Option<Signed>
-    requires ready { IsReady (search_of surface.now desk.now ways.now base) }
-    requires edge { edge < edge_count surface.now.mesh.now }
-    ensures wanted { result ≡ wanted_loop (search_of surface.now desk.now ways.now base)
-        limit.now edge }
+fn wanted_loop(reached: &Reached<'_, '_>, limit: &Option<Candidate>, edge: EdgeId) -> Option<Signed>
+    requires ready { IsReady (reached_at reached.now) }
+    requires edge { edge < edge_count reached.now.surface.now.mesh.now }
+    ensures wanted { result ≡ wanted_loop (reached_at reached.now) limit.now edge }
 {
-    if !is_between(surface, desk, edge) || is_plain(surface, desk, ways, base, edge) {
+    if !is_between(reached.surface, reached.desk, edge) {
         return None;
     }
-    let signed = loop_of(surface, desk, ways, base, edge);
+    let base = reached.desk.base();
+    let signed = loop_of(reached.surface, reached.desk, reached.ways, base, edge);
     if is_sought(&signed.candidate, limit) && !signed.signature.bits().is_empty() {
         Some(signed)
     } else {
@@ -158,32 +142,39 @@ fn wanted_loop(
     }
 }
 
+// Whether a link leads to a greater vertex that was reached too, and its loop may be other than
+// null. Most links are passed over here, by what stands at their two vertices.
+fn may_matter(reached: &Reached<'_, '_>, v: VertexId, link: &Link) -> bool
+    requires ready { IsReady (reached_at reached.now) }
+    requires ends { IsLinkOf reached.now.surface.now.mesh.now v link.now }
+    ensures off { result ≡ false → IsUnwantedAt (reached_at reached.now) v link.now.edge }
+{
+    v.number() < link.to.number()
+        && reached.desk.is_near(link.to)
+        && !(reached.ways.are_alike(v, link.to)
+            && reached.surface.signatures.signature(link.edge).is_empty())
+}
+
 // Adds the loops of the edges at a vertex of which it is the lesser end, where they aren't null and
 // come before a limit.
 fn list_at(
-    surface: &Surface<'_>,
-    desk: &NearDesk,
-    ways: &Ways,
+    reached: &Reached<'_, '_>,
     limit: &Option<Candidate>,
     v: VertexId,
     found: &mut Vec<Signed>,
 ) -> Result<(), NoMemory>
-    requires ready { IsReady (search_at surface.now desk.now ways.now) }
-    requires vertex { v < surface.now.mesh.now.vertices }
-    requires each { All (IsTold (search_at surface.now desk.now ways.now) limit.now)
-        found.old.items }
-    ensures each { OnOk result (All (IsTold (search_at surface.now desk.now ways.now) limit.now)
-        found.new.items) }
+    requires ready { IsReady (reached_at reached.now) }
+    requires links { reached.now.links.now.mesh ≡ reached.now.surface.now.mesh.now }
+    requires vertex { v < reached.now.surface.now.mesh.now.vertices }
+    requires each { All (IsTold (reached_at reached.now) limit.now) found.old.items }
+    ensures each { OnOk result (All (IsTold (reached_at reached.now) limit.now) found.new.items) }
     ensures kept { OnOk result (All (Contains found.new.items) found.old.items) }
-    ensures here { OnOk result (ListsAt (search_at surface.now desk.now ways.now)
-        limit.now v found.new.items) }
+    ensures here { OnOk result (ListsAt (reached_at reached.now) limit.now v found.new.items) }
 {
-    surface.mesh.law_of_surface();
-    let edges = surface.mesh.ring_edges(v);
-    for e in edges {
-        let (low, _) = surface.mesh.ends(*e);
-        if low == v {
-            if let Some(signed) = wanted_loop(surface, desk, ways, desk.base(), limit, *e) {
+    reached.surface.mesh.law_of_surface();
+    for link in reached.links.at(v) {
+        if may_matter(reached, v, link) {
+            if let Some(signed) = wanted_loop(reached, limit, link.edge) {
                 found.push(signed)?;
             }
         }
@@ -194,20 +185,19 @@ fn list_at(
 // Lists the loops that aren't null and come before a limit, of edges between vertices that were
 // settled.
 fn list_loops(
-    surface: &Surface<'_>,
-    desk: &NearDesk,
-    ways: &Ways,
+    reached: &Reached<'_, '_>,
     limit: &Option<Candidate>,
     found: &mut Vec<Signed>,
 ) -> Result<(), NoMemory>
-    requires ready { IsReady (search_at surface.now desk.now ways.now) }
-    requires settled { All (λ v. v < surface.now.mesh.now.vertices) desk.now.settled }
-    ensures told { OnOk result (AreTold (search_at surface.now desk.now ways.now)
-        limit.now found.new.items) }
+    requires ready { IsReady (reached_at reached.now) }
+    requires links { reached.now.links.now.mesh ≡ reached.now.surface.now.mesh.now }
+    requires settled { All (λ v. v < reached.now.surface.now.mesh.now.vertices)
+        reached.now.desk.now.settled }
+    ensures told { OnOk result (AreTold (reached_at reached.now) limit.now found.new.items) }
 {
     found.clear();
-    for v in desk.settled() {
-        list_at(surface, desk, ways, limit, *v, found)?;
+    for v in reached.desk.settled() {
+        list_at(reached, limit, *v, found)?;
     }
     Ok(())
 }
@@ -252,6 +242,12 @@ impl<'a> Finder<'a> {
         self.surface.lengths.law_of_lengths();
         self.desk.grow(&self.links, base, radius(limit));
         self.ways.sum(&self.surface, &self.desk, base)?;
-        list_loops(&self.surface, &self.desk, &self.ways, limit, found)
+        let reached = Reached {
+            surface: &self.surface,
+            links: &self.links,
+            desk: &self.desk,
+            ways: &self.ways,
+        };
+        list_loops(&reached, limit, found)
     }
 }

@@ -1,20 +1,20 @@
 use Rattle.std.proofs.Common.{◌<◌, sym, subst}
-use Rattle.surf_basis.specs.Found.{search_at}
+use Rattle.surf_basis.specs.Found.{reached_at}
 use Rattle.surf_basis.proofs.Numbered.{item_settled}
 use Rattle.surf_basis.proofs.Told.{lists_more}
 use Rattle.surf_basis.proofs.finding.list_loops.Goals as goal
 
 pub list_at-requires-clause-vertex : goal.list_at-requires-clause-vertex
 list_at-requires-clause-vertex c =
-    let it = item_settled c.settled-v-items.result.now c.args.desk.now.settled c.loop-v.v-index c.v-item.result c.settled-v-items.ensures.settled c.loop-v-test.true c.v-item.is in
-    subst (λ n. n < c.args.surface.now.mesh.now.vertices) (sym it.1) (c.requires.settled c.loop-v.v-index 0 it.0)
+    let it = item_settled c.settled-v-items.result.now c.args.reached.now.desk.now.settled c.loop-v.v-index c.v-item.result c.settled-v-items.ensures.settled c.loop-v-test.true c.v-item.is in
+    subst (λ n. n < c.args.reached.now.surface.now.mesh.now.vertices) (sym it.1) (c.requires.settled c.loop-v.v-index 0 it.0)
 
 pub loop-v-preserved : goal.loop-v-preserved
 loop-v-preserved c =
-    let x = search_at c.args.surface.now c.args.desk.now c.args.ways.now in
-    let it = item_settled c.settled-v-items.result.now c.args.desk.now.settled c.loop-v.v-index c.v-item.result c.settled-v-items.ensures.settled c.loop-v-test.true c.v-item.is in
+    let x = reached_at c.args.reached.now in
+    let it = item_settled c.settled-v-items.result.now c.args.reached.now.desk.now.settled c.loop-v.v-index c.v-item.result c.settled-v-items.ensures.settled c.loop-v-test.true c.v-item.is in
     record {
       each = c.in_ok-list_at.ensures.each;
-      all = lists_more x c.args.limit.now c.args.desk.now.settled c.loop-v.v-index c.v-item.result c.loop-v.found.items c.list_at.new.found.items c.loop-v.invariant.all
+      all = lists_more x c.args.limit.now c.args.reached.now.desk.now.settled c.loop-v.v-index c.v-item.result c.loop-v.found.items c.list_at.new.found.items c.loop-v.invariant.all
           c.in_ok-list_at.ensures.kept c.in_ok-list_at.ensures.here it.1;
     }
