@@ -4,8 +4,10 @@ use crate::rows::{Case, answers, output_of};
 use std::test::Fail;
 
 // The trees at all vertices are a vertex and its three neighbours.
-const TET_BASIS: &str =
-    "SURFCERT 1 basis\ncounts 4 4 0\ntree 0\n0 -\n1 0\n1 0\n1 0\ntree 1\n1 1\n0 -\n1 1\n1 1\ntree 2\n1 2\n1 2\n0 -\n1 2\ntree 3\n1 3\n1 3\n1 3\n0 -\ndual\n0 -\n2 1 3\n2 2 3\n1 1 2\nleft\ncycles\n";
+const TET_BASIS: &str = "\
+    SURFCERT 1 basis\ncounts 4 4 0\ntree 0\n0 -\n1 0\n1 0\n1 0\ntree 1\n1 1\n0 -\n1 1\n1 1\n\
+    tree 2\n1 2\n1 2\n0 -\n1 2\ntree 3\n1 3\n1 3\n1 3\n0 -\ndual\n0 -\n2 1 3\n2 2 3\n1 1 2\n\
+    left\ncycles\n";
 
 #[test]
 fn certificates_are_written(rt: HostRuntime) -> Result<(), Fail> {
@@ -21,7 +23,9 @@ fn certificates_are_written(rt: HostRuntime) -> Result<(), Fail> {
             words: &["certify", "tet", "unit", "0"],
             files: &[("tet", TET)],
             status: 0,
-            out: "SURFCERT 1 loops\ncounts 4 4 0\ntree 0\n0 -\n1 0\n1 0\n1 0\ndual\n0 -\n2 1 3\n2 2 3\n1 1 2\nleft\n",
+            out: "\
+                SURFCERT 1 loops\ncounts 4 4 0\ntree 0\n0 -\n1 0\n1 0\n1 0\ndual\n0 -\n2 1 3\n\
+                2 2 3\n1 1 2\nleft\n",
             diag: "",
         },
         Case {

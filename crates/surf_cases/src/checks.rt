@@ -11,17 +11,21 @@ const COUNTS: &str = "counts 9 18 2\n";
 
 const ROWS: &str = "0 -\n1 0\n1 0\n1 0\n1 0\n2 1\n1 0\n2 1\n1 0\n";
 
-const DUAL: &str =
-    "dual\n0 -\n5 1 4\n4 4 5\n7 2 5\n6 3 5\n7 2 3\n2 3 7\n1 3 4\n2 4 7\n3 4 8\n4 5 8\n5 5 6\n4 1 6\n3 6 7\n4 2 7\n3 7 8\n4 2 8\n5 6 8\n";
+const DUAL: &str = "\
+    dual\n0 -\n5 1 4\n4 4 5\n7 2 5\n6 3 5\n7 2 3\n2 3 7\n1 3 4\n2 4 7\n3 4 8\n4 5 8\n5 5 6\n\
+    4 1 6\n3 6 7\n4 2 7\n3 7 8\n4 2 8\n5 6 8\n";
 
-const OTHER_DUAL: &str =
-    "dual\n0 -\n5 1 4\n4 4 5\n5 1 5\n6 3 5\n7 2 3\n2 3 7\n1 3 4\n2 4 7\n3 4 8\n4 5 8\n5 5 6\n4 1 6\n3 6 7\n4 1 7\n3 7 8\n4 2 8\n5 6 8\n";
+const OTHER_DUAL: &str = "\
+    dual\n0 -\n5 1 4\n4 4 5\n5 1 5\n6 3 5\n7 2 3\n2 3 7\n1 3 4\n2 4 7\n3 4 8\n4 5 8\n5 5 6\n\
+    4 1 6\n3 6 7\n4 1 7\n3 7 8\n4 2 8\n5 6 8\n";
 
 const LEFT: &str = "left\n1 2\n3 6\n";
 
 // A certificate of a basis of the tetrahedron.
-const TET_BASIS: &str =
-    "SURFCERT 1 basis\ncounts 4 4 0\ntree 0\n0 -\n1 0\n1 0\n1 0\ntree 1\n1 1\n0 -\n1 1\n1 1\ntree 2\n1 2\n1 2\n0 -\n1 2\ntree 3\n1 3\n1 3\n1 3\n0 -\ndual\n0 -\n2 1 3\n2 2 3\n1 1 2\nleft\ncycles\n";
+const TET_BASIS: &str = "\
+    SURFCERT 1 basis\ncounts 4 4 0\ntree 0\n0 -\n1 0\n1 0\n1 0\ntree 1\n1 1\n0 -\n1 1\n1 1\n\
+    tree 2\n1 2\n1 2\n0 -\n1 2\ntree 3\n1 3\n1 3\n1 3\n0 -\ndual\n0 -\n2 1 3\n2 2 3\n1 1 2\n\
+    left\ncycles\n";
 
 // Checks a certificate of the torus of 3 by 3, where each edge has length 1.
 fn checks(
@@ -125,7 +129,9 @@ fn edited_certificates(rt: HostRuntime) -> Result<(), Fail> {
                 COUNTS,
                 "tree 0\n",
                 ROWS,
-                "dual\n0 -\n5 1 4\n4 4 5\n6 2 5\n6 3 5\n7 2 3\n2 3 7\n1 3 4\n2 4 7\n3 4 8\n4 5 8\n5 5 6\n4 1 6\n3 6 7\n4 2 7\n3 7 8\n4 2 8\n5 6 8\n",
+                "\
+                dual\n0 -\n5 1 4\n4 4 5\n6 2 5\n6 3 5\n7 2 3\n2 3 7\n1 3 4\n2 4 7\n3 4 8\n4 5 8\n\
+                5 5 6\n4 1 6\n3 6 7\n4 2 7\n3 7 8\n4 2 8\n5 6 8\n",
                 LEFT,
             ],
             "no dual 3\n",
@@ -135,7 +141,9 @@ fn edited_certificates(rt: HostRuntime) -> Result<(), Fail> {
                 COUNTS,
                 "tree 0\n",
                 ROWS,
-                "dual\n1 0 3\n5 1 4\n4 4 5\n7 2 5\n6 3 5\n7 2 3\n2 3 7\n1 3 4\n2 4 7\n3 4 8\n4 5 8\n5 5 6\n4 1 6\n3 6 7\n4 2 7\n3 7 8\n4 2 8\n5 6 8\n",
+                "\
+                dual\n1 0 3\n5 1 4\n4 4 5\n7 2 5\n6 3 5\n7 2 3\n2 3 7\n1 3 4\n2 4 7\n3 4 8\n\
+                4 5 8\n5 5 6\n4 1 6\n3 6 7\n4 2 7\n3 7 8\n4 2 8\n5 6 8\n",
                 LEFT,
             ],
             "no dual 0\n",
@@ -156,7 +164,9 @@ fn edited_certificates(rt: HostRuntime) -> Result<(), Fail> {
                 COUNTS,
                 "tree 0\n",
                 ROWS,
-                "dual\n0 -\n5 1 4\n4 4 5\n5 2 5\n4 3 5\n5 2 3\n2 3 7\n1 3 4\n2 4 7\n3 4 8\n4 5 8\n3 3 6\n4 1 6\n3 6 7\n4 2 7\n3 7 8\n4 2 8\n5 6 8\n",
+                "\
+                dual\n0 -\n5 1 4\n4 4 5\n5 2 5\n4 3 5\n5 2 3\n2 3 7\n1 3 4\n2 4 7\n3 4 8\n4 5 8\n\
+                3 3 6\n4 1 6\n3 6 7\n4 2 7\n3 7 8\n4 2 8\n5 6 8\n",
                 "left\n1 2\n5 6\n",
             ],
             "no heavier 5 6 3 6\n",

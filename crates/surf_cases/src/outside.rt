@@ -153,10 +153,12 @@ fn one_byte_at_a_time(rt: HostRuntime) -> Result<(), Fail> {
 // line.
 #[test]
 fn diagnostics_that_nobody_hears(rt: HostRuntime) -> Result<(), Fail> {
-    let pinched =
-        "OFF\n7 8 12\n0 0 0\n1 0 0\n2 0 0\n3 0 0\n4 0 0\n5 0 0\n6 0 0\n3 0 1 2\n3 0 3 1\n3 0 2 3\n3 1 3 2\n3 0 4 5\n3 0 6 4\n3 0 5 6\n3 4 6 5\n";
-    let apart =
-        "OFF\n8 8 12\n0 0 0\n1 0 0\n2 0 0\n3 0 0\n4 0 0\n5 0 0\n6 0 0\n7 0 0\n3 0 1 2\n3 0 3 1\n3 0 2 3\n3 1 3 2\n3 4 5 6\n3 4 7 5\n3 4 6 7\n3 5 7 6\n";
+    let pinched = "\
+        OFF\n7 8 12\n0 0 0\n1 0 0\n2 0 0\n3 0 0\n4 0 0\n5 0 0\n6 0 0\n3 0 1 2\n3 0 3 1\n3 0 2 3\n\
+        3 1 3 2\n3 0 4 5\n3 0 6 4\n3 0 5 6\n3 4 6 5\n";
+    let apart = "\
+        OFF\n8 8 12\n0 0 0\n1 0 0\n2 0 0\n3 0 0\n4 0 0\n5 0 0\n6 0 0\n7 0 0\n3 0 1 2\n3 0 3 1\n\
+        3 0 2 3\n3 1 3 2\n3 4 5 6\n3 4 7 5\n3 4 6 7\n3 5 7 6\n";
     let measured: &[&str] = &["dist", "tet", "file", "0"];
     let cases: [(&[&str], &str, u8); 14] = [
         (&["info", "file"], pinched, 4),

@@ -218,7 +218,9 @@ fn the_counts_of_meshes_and_their_refusals(rt: HostRuntime) -> Result<(), Fail> 
             words: &["info", "M"],
             files: &[(
                 "M",
-                "OFF\n7 8 12\n0 0 0\n1 0 0\n2 0 0\n3 0 0\n4 0 0\n5 0 0\n6 0 0\n3 0 1 2\n3 0 3 1\n3 0 2 3\n3 1 3 2\n3 0 4 5\n3 0 6 4\n3 0 5 6\n3 4 6 5\n",
+                "\
+                OFF\n7 8 12\n0 0 0\n1 0 0\n2 0 0\n3 0 0\n4 0 0\n5 0 0\n6 0 0\n3 0 1 2\n3 0 3 1\n\
+                3 0 2 3\n3 1 3 2\n3 0 4 5\n3 0 6 4\n3 0 5 6\n3 4 6 5\n",
             )],
             status: 4,
             out: "",
@@ -228,7 +230,9 @@ fn the_counts_of_meshes_and_their_refusals(rt: HostRuntime) -> Result<(), Fail> 
             words: &["info", "M"],
             files: &[(
                 "M",
-                "OFF\n8 8 12\n0 0 0\n1 0 0\n2 0 0\n3 0 0\n4 0 0\n5 0 0\n6 0 0\n7 0 0\n3 0 1 2\n3 0 3 1\n3 0 2 3\n3 1 3 2\n3 4 5 6\n3 4 7 5\n3 4 6 7\n3 5 7 6\n",
+                "\
+                OFF\n8 8 12\n0 0 0\n1 0 0\n2 0 0\n3 0 0\n4 0 0\n5 0 0\n6 0 0\n7 0 0\n3 0 1 2\n\
+                3 0 3 1\n3 0 2 3\n3 1 3 2\n3 4 5 6\n3 4 7 5\n3 4 6 7\n3 5 7 6\n",
             )],
             status: 4,
             out: "",
@@ -238,7 +242,9 @@ fn the_counts_of_meshes_and_their_refusals(rt: HostRuntime) -> Result<(), Fail> 
             words: &["info", "M"],
             files: &[(
                 "M",
-                "OFF\n6 8 11\n0 0 0\n1 0 0\n2 0 0\n3 0 0\n4 0 0\n5 0 0\n3 0 1 2\n3 0 3 1\n3 0 2 3\n3 1 3 2\n3 0 1 4\n3 0 5 1\n3 0 4 5\n3 1 5 4\n",
+                "\
+                OFF\n6 8 11\n0 0 0\n1 0 0\n2 0 0\n3 0 0\n4 0 0\n5 0 0\n3 0 1 2\n3 0 3 1\n\
+                3 0 2 3\n3 1 3 2\n3 0 1 4\n3 0 5 1\n3 0 4 5\n3 1 5 4\n",
             )],
             status: 4,
             out: "",
@@ -248,7 +254,9 @@ fn the_counts_of_meshes_and_their_refusals(rt: HostRuntime) -> Result<(), Fail> 
             words: &["info", "M"],
             files: &[(
                 "M",
-                "OFF\n5 4 6\n0 0 0\n1 0 0\n2 0 0\n3 0 0\n4 0 0\n3 0 1 2\n3 0 3 1\n3 0 2 3\n3 1 3 2\n",
+                "\
+                OFF\n5 4 6\n0 0 0\n1 0 0\n2 0 0\n3 0 0\n4 0 0\n3 0 1 2\n3 0 3 1\n3 0 2 3\n\
+                3 1 3 2\n",
             )],
             status: 4,
             out: "",
@@ -296,7 +304,9 @@ fn the_counts_of_meshes_and_their_refusals(rt: HostRuntime) -> Result<(), Fail> 
             words: &["info", "M"],
             files: &[(
                 "M",
-                "OFF\n4 4 6\n0 0 0\n1 0 0\n0 1 0\n0 0 1\n3 0 1 2\n3 0 3 1\n3 0 2 3\n3 1 3 2\n3 0 1 2\n",
+                "\
+                OFF\n4 4 6\n0 0 0\n1 0 0\n0 1 0\n0 0 1\n3 0 1 2\n3 0 3 1\n3 0 2 3\n3 1 3 2\n\
+                3 0 1 2\n",
             )],
             status: 3,
             out: "",
@@ -388,7 +398,9 @@ fn the_counts_of_meshes_and_their_refusals(rt: HostRuntime) -> Result<(), Fail> 
             words: &["info", "M"],
             files: &[(
                 "M",
-                "OFF\n4 4 6\n0 0 0\n1 0 0\n0 1 0\n0 0 1\n18446744073709551616 0 1 2\n3 0 3 1\n3 0 2 3\n3 1 3 2\n",
+                "\
+                OFF\n4 4 6\n0 0 0\n1 0 0\n0 1 0\n0 0 1\n18446744073709551616 0 1 2\n3 0 3 1\n\
+                3 0 2 3\n3 1 3 2\n",
             )],
             status: 3,
             out: "",
@@ -696,7 +708,9 @@ fn discs_and_their_refusals(rt: HostRuntime) -> Result<(), Fail> {
             words: &["disc", "M"],
             files: &[(
                 "M",
-                "OFF\n6 3 9\n0 0 0\n1 0 0\n2 0 0\n3 0 0\n4 0 0\n5 0 0\n4 0 1 4 3\n4 1 2 5 4\n4 2 0 3 5\n",
+                "\
+                OFF\n6 3 9\n0 0 0\n1 0 0\n2 0 0\n3 0 0\n4 0 0\n5 0 0\n4 0 1 4 3\n4 1 2 5 4\n\
+                4 2 0 3 5\n",
             )],
             status: 1,
             out: "no border 0 1 3 4\n",
@@ -706,7 +720,10 @@ fn discs_and_their_refusals(rt: HostRuntime) -> Result<(), Fail> {
             words: &["disc", "M"],
             files: &[(
                 "M",
-                "OFF\n9 17 27\n0 0 0\n1 0 0\n2 0 0\n3 0 0\n4 0 0\n5 0 0\n6 0 0\n7 0 0\n8 0 0\n3 0 3 4\n3 0 4 1\n3 1 4 5\n3 1 5 2\n3 2 5 3\n3 2 3 0\n3 3 6 7\n3 3 7 4\n3 4 7 8\n3 4 8 5\n3 5 8 6\n3 5 6 3\n3 6 0 1\n3 6 1 7\n3 7 1 2\n3 7 2 8\n3 8 2 0\n",
+                "\
+                OFF\n9 17 27\n0 0 0\n1 0 0\n2 0 0\n3 0 0\n4 0 0\n5 0 0\n6 0 0\n7 0 0\n8 0 0\n\
+                3 0 3 4\n3 0 4 1\n3 1 4 5\n3 1 5 2\n3 2 5 3\n3 2 3 0\n3 3 6 7\n3 3 7 4\n3 4 7 8\n\
+                3 4 8 5\n3 5 8 6\n3 5 6 3\n3 6 0 1\n3 6 1 7\n3 7 1 2\n3 7 2 8\n3 8 2 0\n",
             )],
             status: 1,
             out: "no count 9 27 17\n",

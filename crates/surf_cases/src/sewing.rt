@@ -5,8 +5,10 @@ use crate::rows::{Case, answers};
 use std::test::Fail;
 
 // The coloured tetrahedron with LF and the counts on a line of their own.
-const COLOURED_SEWN: &str =
-    "COFF\n4 4 6\n0.000000 0.000000 0.000000 255 0 0 255\n1.000000 0.000000 0.000000 0 255 0 255\n0.000000 1.000000 0.000000 0 0 255 255\n0.000000 0.000000 1.000000 9 9 9 255\n3 0 1 2 200 200 200\n3 0 3 1\n3 0 2 3 200 200 200\n3 1 3 2\n";
+const COLOURED_SEWN: &str = "\
+    COFF\n4 4 6\n0.000000 0.000000 0.000000 255 0 0 255\n1.000000 0.000000 0.000000 0 255 0 255\n\
+    0.000000 1.000000 0.000000 0 0 255 255\n0.000000 0.000000 1.000000 9 9 9 255\n\
+    3 0 1 2 200 200 200\n3 0 3 1\n3 0 2 3 200 200 200\n3 1 3 2\n";
 
 #[test]
 fn cuts_are_sewn(rt: HostRuntime) -> Result<(), Fail> {
@@ -48,7 +50,9 @@ fn copy_lines_that_are_refused(rt: HostRuntime) -> Result<(), Fail> {
     ];
     for (first, last, diag) in &cases {
         let mesh = format!(in alloc;
-            "OFF\n5 4 8\n0 0 0\n0 0 0\n1 0 0\n0 1 0\n0 0 1\n3 0 2 3\n3 1 4 2\n3 1 3 4\n3 2 4 3\n{first}\n# copy 1 from 0\n# copy 2 from 1\n# copy 3 from 2\n{last}\n"
+            "\
+            OFF\n5 4 8\n0 0 0\n0 0 0\n1 0 0\n0 1 0\n0 0 1\n3 0 2 3\n3 1 4 2\n3 1 3 4\n3 2 4 3\n\
+            {first}\n# copy 1 from 0\n# copy 2 from 1\n# copy 3 from 2\n{last}\n"
         )?;
         answers(
             &rt,

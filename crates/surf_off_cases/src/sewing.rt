@@ -13,24 +13,41 @@ use surf_text::Page;
 // Two triangles glued along their three edges, and their cut.
 const PILLOW: &[u8] = b"OFF\n3 2 3\n0 0 0\n1 0 0\n0 1 0\n3 0 1 2\n3 0 2 1\n";
 
-const PILLOW_CUT: &[u8] =
-    b"OFF\n4 2 5\n0 0 0\n0 0 0\n1 0 0\n0 1 0\n3 0 2 3\n3 1 3 2\n# copy 0 from 0\n# copy 1 from 0\n# copy 2 from 1\n# copy 3 from 2\n";
+const PILLOW_CUT: &[u8] = b"\
+        OFF\n4 2 5\n0 0 0\n0 0 0\n1 0 0\n0 1 0\n3 0 2 3\n3 1 3 2\n# copy 0 from 0\n\
+        # copy 1 from 0\n# copy 2 from 1\n# copy 3 from 2\n";
 
 // The trimmed cut of a torus of 3 by 3 cells.
-const TORUS_CUT: &[u8] =
-    b"OFF\n16 18 33\n0 0 0\n0 0 0\n0 0 0\n0 0 0\n1 0 0\n1 0 0\n2 0 0\n2 0 0\n3 0 0\n3 0 0\n4 0 0\n5 0 0\n6 0 0\n6 0 0\n7 0 0\n8 0 0\n3 0 8 10\n3 0 10 4\n3 4 10 11\n3 4 11 6\n3 6 11 9\n3 6 9 1\n3 8 12 14\n3 8 14 10\n3 10 14 15\n3 10 15 11\n3 11 15 13\n3 11 13 9\n3 12 2 5\n3 12 5 14\n3 14 5 7\n3 14 7 15\n3 15 7 3\n3 15 3 13\n# copy 0 from 0\n# copy 1 from 0\n# copy 2 from 0\n# copy 3 from 0\n# copy 4 from 1\n# copy 5 from 1\n# copy 6 from 2\n# copy 7 from 2\n# copy 8 from 3\n# copy 9 from 3\n# copy 10 from 4\n# copy 11 from 5\n# copy 12 from 6\n# copy 13 from 6\n# copy 14 from 7\n# copy 15 from 8\n";
+const TORUS_CUT: &[u8] = b"\
+        OFF\n16 18 33\n0 0 0\n0 0 0\n0 0 0\n0 0 0\n1 0 0\n1 0 0\n2 0 0\n2 0 0\n3 0 0\n3 0 0\n\
+        4 0 0\n5 0 0\n6 0 0\n6 0 0\n7 0 0\n8 0 0\n3 0 8 10\n3 0 10 4\n3 4 10 11\n3 4 11 6\n\
+        3 6 11 9\n3 6 9 1\n3 8 12 14\n3 8 14 10\n3 10 14 15\n3 10 15 11\n3 11 15 13\n3 11 13 9\n\
+        3 12 2 5\n3 12 5 14\n3 14 5 7\n3 14 7 15\n3 15 7 3\n3 15 3 13\n# copy 0 from 0\n\
+        # copy 1 from 0\n# copy 2 from 0\n# copy 3 from 0\n# copy 4 from 1\n# copy 5 from 1\n\
+        # copy 6 from 2\n# copy 7 from 2\n# copy 8 from 3\n# copy 9 from 3\n# copy 10 from 4\n\
+        # copy 11 from 5\n# copy 12 from 6\n# copy 13 from 6\n# copy 14 from 7\n\
+        # copy 15 from 8\n";
 
 // A tetrahedron with colours, and its full cut.
-const COLOURED: &[u8] =
-    b"COFF\n4 4 6\n0.000000 0.000000 0.000000 255 0 0 255\n1.000000 0.000000 0.000000 0 255 0 255\n0.000000 1.000000 0.000000 0 0 255 255\n0.000000 0.000000 1.000000 9 9 9 255\n3 0 1 2 200 200 200\n3 0 3 1\n3 0 2 3 200 200 200\n3 1 3 2\n";
+const COLOURED: &[u8] = b"\
+        COFF\n4 4 6\n0.000000 0.000000 0.000000 255 0 0 255\n\
+        1.000000 0.000000 0.000000 0 255 0 255\n0.000000 1.000000 0.000000 0 0 255 255\n\
+        0.000000 0.000000 1.000000 9 9 9 255\n3 0 1 2 200 200 200\n3 0 3 1\n3 0 2 3 200 200 200\n\
+        3 1 3 2\n";
 
-const COLOURED_CUT: &[u8] =
-    b"COFF\n6 4 9\n0.000000 0.000000 0.000000 255 0 0 255\n0.000000 0.000000 0.000000 255 0 0 255\n0.000000 0.000000 0.000000 255 0 0 255\n1.000000 0.000000 0.000000 0 255 0 255\n0.000000 1.000000 0.000000 0 0 255 255\n0.000000 0.000000 1.000000 9 9 9 255\n3 0 3 4 200 200 200\n3 1 5 3\n3 2 4 5 200 200 200\n3 3 5 4\n# copy 0 from 0\n# copy 1 from 0\n# copy 2 from 0\n# copy 3 from 1\n# copy 4 from 2\n# copy 5 from 3\n";
+const COLOURED_CUT: &[u8] = b"\
+        COFF\n6 4 9\n0.000000 0.000000 0.000000 255 0 0 255\n\
+        0.000000 0.000000 0.000000 255 0 0 255\n0.000000 0.000000 0.000000 255 0 0 255\n\
+        1.000000 0.000000 0.000000 0 255 0 255\n0.000000 1.000000 0.000000 0 0 255 255\n\
+        0.000000 0.000000 1.000000 9 9 9 255\n3 0 3 4 200 200 200\n3 1 5 3\n3 2 4 5 200 200 200\n\
+        3 3 5 4\n# copy 0 from 0\n# copy 1 from 0\n# copy 2 from 0\n# copy 3 from 1\n\
+        # copy 4 from 2\n# copy 5 from 3\n";
 
 // The pillow's cut with its copies in another order, other comments, tabs, CR, leading zeros and
 // copy lines anywhere.
-const MIXED_CUT: &[u8] =
-    b"# copy 0 from 2\r\nOFF # copy 1 from 9\n4 2 5\n0 1 0\n#\tcopy\t01  from 1\n1 0 0\n # copy 2 from 000\n0 0 0 # a copy\n#copy 3 from 3\n0 0 0\n3 2 1 0\n# copies\n3 3 0 1\n#  copy 3 from 0";
+const MIXED_CUT: &[u8] = b"\
+        # copy 0 from 2\r\nOFF # copy 1 from 9\n4 2 5\n0 1 0\n#\tcopy\t01  from 1\n1 0 0\n # copy 2 from 000\n\
+        0 0 0 # a copy\n#copy 3 from 3\n0 0 0\n3 2 1 0\n# copies\n3 3 0 1\n#  copy 3 from 0";
 
 // What is written of a text that is sewn.
 fn sewn(alloc: Global, text: &[u8]) -> Result<Vec<u8>, Fail> {
@@ -82,8 +99,10 @@ fn copies(
 
 #[test]
 fn copy_lines_are_read(rt: HostRuntime) -> Result<(), Fail> {
-    let text =
-        b"# copy 0 from 7\n0 0 0 # copy 1 from 1\n# copy# 1 from 1\n#copy\n# copy 1 from 4294967295".as_slice();
+    let text = b"\
+            # copy 0 from 7\n0 0 0 # copy 1 from 1\n# copy# 1 from 1\n#copy\n\
+            # copy 1 from 4294967295"
+        .as_slice();
     let read = copies(rt.alloc(), text, 2)?;
     let origins = read.ok().ok_or("copies")?;
     let want = [VertexId::new(7), VertexId::new(u32::MAX)];
@@ -142,20 +161,30 @@ fn fault(alloc: Global, text: &[u8]) -> Result<SewFault, Fail> {
 fn faults_of_copies(rt: HostRuntime) -> Result<(), Fail> {
     for (text, want) in [
         (
-            b"OFF\n5 4 8\n0 0 0\n0 0 0\n1 0 0\n0 1 0\n0 0 1\n3 0 2 3\n3 1 4 2\n3 1 3 4\n3 2 4 3\n# copy 0 from 1\n# copy 1 from 0\n# copy 2 from 1\n# copy 3 from 2\n# copy 4 from 3\n".as_slice(),
+            b"\
+                OFF\n5 4 8\n0 0 0\n0 0 0\n1 0 0\n0 1 0\n0 0 1\n3 0 2 3\n3 1 4 2\n3 1 3 4\n\
+                3 2 4 3\n# copy 0 from 1\n# copy 1 from 0\n# copy 2 from 1\n# copy 3 from 2\n\
+                # copy 4 from 3\n"
+                .as_slice(),
             SewFault::Line {
                 copy: CopyId::new(2),
                 earlier: CopyId::new(0),
             },
         ),
         (
-            b"OFF\n5 4 8\n0 0 0\n0 0 0\n1 0 0\n0 1 0\n0 0 1\n3 0 2 3\n3 1 4 2\n3 1 3 4\n3 2 4 3\n# copy 0 from 0\n# copy 1 from 0\n# copy 2 from 1\n# copy 3 from 2\n# copy 4 from 9\n",
+            b"\
+                OFF\n5 4 8\n0 0 0\n0 0 0\n1 0 0\n0 1 0\n0 0 1\n3 0 2 3\n3 1 4 2\n3 1 3 4\n\
+                3 2 4 3\n# copy 0 from 0\n# copy 1 from 0\n# copy 2 from 1\n# copy 3 from 2\n\
+                # copy 4 from 9\n",
             SewFault::Gap {
                 v: VertexId::new(3),
             },
         ),
         (
-            b"OFF\n5 2 0\n0 0 0\n1 0 0\n0 0 0\n1 0 0\n2 0 0\n3 0 1 4\n4 0 1 3 2\n# copy 0 from 0\n# copy 1 from 1\n# copy 2 from 0\n# copy 3 from 1\n# copy 4 from 2\n",
+            b"\
+                OFF\n5 2 0\n0 0 0\n1 0 0\n0 0 0\n1 0 0\n2 0 0\n3 0 1 4\n4 0 1 3 2\n\
+                # copy 0 from 0\n# copy 1 from 1\n# copy 2 from 0\n# copy 3 from 1\n\
+                # copy 4 from 2\n",
             SewFault::FaceRepeat {
                 face: FaceId::new(1),
                 v: VertexId::new(1),

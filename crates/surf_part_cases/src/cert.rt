@@ -7,8 +7,10 @@ use surf_text::{Lines, Page, PageFault};
 
 // The loops at vertex 0 of a torus of 3 by 3 vertices, each edge of length 1.
 fn torus() -> &'static [u8] {
-    b"SURFCERT 1 loops\ncounts 9 18 2\ntree 0\n0 -\n1 0\n1 0\n1 0\n1 0\n2 1\n1 0\n2 1\n1 0\ndual\n0 -\n5 1 4\n4 4 5\n\
-7 2 5\n6 3 5\n7 2 3\n2 3 7\n1 3 4\n2 4 7\n3 4 8\n4 5 8\n5 5 6\n4 1 6\n3 6 7\n4 2 7\n3 7 8\n4 2 8\n5 6 8\nleft\n1 2\n3 6\n"
+    b"\
+    SURFCERT 1 loops\ncounts 9 18 2\ntree 0\n0 -\n1 0\n1 0\n1 0\n1 0\n2 1\n1 0\n2 1\n1 0\ndual\n\
+    0 -\n5 1 4\n4 4 5\n7 2 5\n6 3 5\n7 2 3\n2 3 7\n1 3 4\n2 4 7\n3 4 8\n4 5 8\n5 5 6\n4 1 6\n\
+    3 6 7\n4 2 7\n3 7 8\n4 2 8\n5 6 8\nleft\n1 2\n3 6\n"
 }
 
 // A certificate of loops and one of a basis, which are those of no mesh.
@@ -17,8 +19,9 @@ fn loops() -> &'static [u8] {
 }
 
 fn basis() -> &'static [u8] {
-    b"SURFCERT 1 basis\ncounts 2 1 1\ntree 0\n0 -\n18446744073709551615 0\ntree 1\n7 1\n0 -\ndual\n0 -\nleft\n0 1\n\
-cycles\n4294967295 0\n"
+    b"\
+    SURFCERT 1 basis\ncounts 2 1 1\ntree 0\n0 -\n18446744073709551615 0\ntree 1\n7 1\n0 -\ndual\n\
+    0 -\nleft\n0 1\ncycles\n4294967295 0\n"
 }
 
 // A text with other lines in the place of one.
