@@ -24,20 +24,37 @@ fn have_ends(edges: &[(VertexId, VertexId)], want: &[(u32, u32)]) -> bool {
     same
 }
 
-// A tetrahedron, two triangles back to back, no face, and a tetrahedron without its last face.
+// A tetrahedron, and two triangles back to back.
 #[test]
 fn edges_are_paired(rt: HostRuntime) -> Result<(), Fail> {
     let alloc = rt.alloc();
-    let edges = pairs(alloc, 4, &TETRAHEDRON)?.ok().ok_or("no pairs")?;
-    assert!(rt; have_ends(&edges, &[(0, 1), (0, 2), (0, 3), (1, 2), (1, 3), (2, 3)]));
-    let edges = pairs(alloc, 3, &PILLOW)?.ok().ok_or("no pairs")?;
-    assert!(rt; have_ends(&edges, &[(0, 1), (0, 2), (1, 2)]));
-    assert_eq!(rt; pairs(alloc, 0, &[])?.err(), Some(PairFault::Empty));
+    let cases: [(u32, &[(u32, u32, u32)], &[(u32, u32)]); 2] = [
+        (
+            4,
+            &TETRAHEDRON,
+            &[(0, 1), (0, 2), (0, 3), (1, 2), (1, 3), (2, 3)],
+        ),
+        (3, &PILLOW, &[(0, 1), (0, 2), (1, 2)]),
+    ];
+    for (vertices, faces, want) in cases {
+        let edges = pairs(alloc, vertices, faces)?.ok().ok_or("no pairs")?;
+        assert!(rt; have_ends(&edges, want));
+    }
+    Ok(())
+}
+
+// No face, and a tetrahedron without its last face.
+#[test]
+fn faults_of_pairs(rt: HostRuntime) -> Result<(), Fail> {
+    let alloc = rt.alloc();
     let (u, v) = (VertexId::new(1), VertexId::new(2));
     let face = FaceId::new(0);
-    assert_eq!(rt;
-        pairs(alloc, 4, &OPEN)?.err(),
-        Some(PairFault::Border { u, v, face })
-    );
+    let cases: [(u32, &[(u32, u32, u32)], PairFault); 2] = [
+        (0, &[], PairFault::Empty),
+        (4, &OPEN, PairFault::Border { u, v, face }),
+    ];
+    for (vertices, faces, want) in cases {
+        assert_eq!(rt; pairs(alloc, vertices, faces)?.err(), Some(want));
+    }
     Ok(())
 }

@@ -28,13 +28,20 @@ fn each_cut_after_the_first_at_a_vertex_splits_it(rt: HostRuntime) -> Result<(),
     let soup = soup(rt.alloc(), 4, &TETRAHEDRON).ok().ok_or("room")?;
     let mesh = check(rt.alloc(), soup).ok().ok_or("a surface")?;
     let mut slit = Slit::start(rt.alloc(), &mesh).ok().ok_or("room")?;
-    assert_eq!(rt; slit.labels(), 4);
-    assert!(rt; cut_from_zero(&mesh, &mut slit, 1)?);
-    assert_eq!(rt; slit.labels(), 4);
-    assert!(rt; cut_from_zero(&mesh, &mut slit, 2)?);
-    assert_eq!(rt; slit.labels(), 5);
-    assert!(rt; cut_from_zero(&mesh, &mut slit, 3)?);
-    assert_eq!(rt; slit.labels(), 6);
+    for (v, labels) in [(1, 4), (2, 5), (3, 6)] {
+        let cut = cut_from_zero(&mesh, &mut slit, v)?;
+        assert_eq!(rt; (cut, slit.labels()), (true, labels));
+    }
+    Ok(())
+}
+
+#[test]
+fn nothing_is_cut_at_first(rt: HostRuntime) -> Result<(), Fail> {
+    let soup = soup(rt.alloc(), 4, &TETRAHEDRON).ok().ok_or("room")?;
+    let mesh = check(rt.alloc(), soup).ok().ok_or("a surface")?;
+    let slit = Slit::start(rt.alloc(), &mesh).ok().ok_or("room")?;
+    let counts = (mesh.edges(), mesh.side_count(), slit.labels());
+    assert_eq!(rt; counts, (6, 12, 4));
     Ok(())
 }
 
@@ -42,14 +49,15 @@ fn each_cut_after_the_first_at_a_vertex_splits_it(rt: HostRuntime) -> Result<(),
 fn all_edges_at_a_vertex_cut_at_once(rt: HostRuntime) -> Result<(), Fail> {
     let soup = soup(rt.alloc(), 4, &TETRAHEDRON).ok().ok_or("room")?;
     let mesh = check(rt.alloc(), soup).ok().ok_or("a surface")?;
-    assert_eq!(rt; mesh.edges(), 6);
-    assert_eq!(rt; mesh.side_count(), 12);
     let flags = [true, true, true, false, false, false];
+    if mesh.edges() != 6 || mesh.side_count() != 12 {
+        return Err("another mesh")?;
+    }
     let slit = Slit::along(rt.alloc(), &mesh, &flags).ok().ok_or("room")?;
-    assert_eq!(rt; slit.labels(), 6);
     let first = slit.label(SideId::new(0));
     let second = slit.label(SideId::new(3));
     let third = slit.label(SideId::new(6));
-    assert!(rt; first != second && first != third && second != third);
+    let differ = first != second && first != third && second != third;
+    assert_eq!(rt; (slit.labels(), differ), (6, true));
     Ok(())
 }

@@ -37,31 +37,38 @@ fn kind(
     Ok((characteristic(&mesh), genus))
 }
 
-// A tetrahedron, two triangles back to back, the torus of seven vertices with each odd face turned
-// over, and the projective plane of six vertices.
+// The torus of seven vertices with each odd face turned over.
+const TURNED: [(u32, u32, u32); 14] = [
+    (0, 1, 3),
+    (2, 3, 0),
+    (1, 2, 4),
+    (3, 4, 1),
+    (2, 3, 5),
+    (4, 5, 2),
+    (3, 4, 6),
+    (5, 6, 3),
+    (4, 5, 0),
+    (6, 0, 4),
+    (5, 6, 1),
+    (0, 1, 5),
+    (6, 0, 2),
+    (1, 2, 6),
+];
+
+// A tetrahedron, two triangles back to back, a torus whose faces are turned this way and that, and
+// the projective plane of six vertices.
 #[test]
 fn surfaces_have_their_kinds(rt: HostRuntime) -> Result<(), Fail> {
     let alloc = rt.alloc();
-    assert_eq!(rt; kind(alloc, 4, &TETRAHEDRON)?, (2, Some(0)));
-    assert_eq!(rt; kind(alloc, 3, &PILLOW)?, (2, Some(0)));
-    let torus = [
-        (0, 1, 3),
-        (2, 3, 0),
-        (1, 2, 4),
-        (3, 4, 1),
-        (2, 3, 5),
-        (4, 5, 2),
-        (3, 4, 6),
-        (5, 6, 3),
-        (4, 5, 0),
-        (6, 0, 4),
-        (5, 6, 1),
-        (0, 1, 5),
-        (6, 0, 2),
-        (1, 2, 6),
+    let cases: [(u32, &[(u32, u32, u32)], i64, Option<u32>); 4] = [
+        (4, &TETRAHEDRON, 2, Some(0)),
+        (3, &PILLOW, 2, Some(0)),
+        (7, &TURNED, 0, Some(1)),
+        (6, &PROJECTIVE, 1, None),
     ];
-    assert_eq!(rt; kind(alloc, 7, &torus)?, (0, Some(1)));
-    assert_eq!(rt; kind(alloc, 6, &PROJECTIVE)?, (1, None));
+    for (vertices, faces, characteristic, genus) in cases {
+        assert_eq!(rt; kind(alloc, vertices, faces)?, (characteristic, genus));
+    }
     Ok(())
 }
 
@@ -124,64 +131,77 @@ fn a_turning_has_a_flag_for_each_face(rt: HostRuntime) -> Result<(), Fail> {
     Ok(())
 }
 
-#[test]
-fn edges_have_two_faces(rt: HostRuntime) -> Result<(), Fail> {
-    let alloc = rt.alloc();
-    assert_eq!(rt; fault(alloc, 0, &[])?, Some(SurfaceFault::Empty));
-    let (u, v) = (VertexId::new(1), VertexId::new(2));
-    let face = FaceId::new(0);
-    assert_eq!(rt;
-        fault(alloc, 4, &OPEN)?,
-        Some(SurfaceFault::Border { u, v, face })
-    );
-    let (u, v) = (VertexId::new(0), VertexId::new(1));
-    let faces = [FaceId::new(0), FaceId::new(1), FaceId::new(4)];
-    assert_eq!(rt;
-        fault(alloc, 6, &CROWDED)?,
-        Some(SurfaceFault::Crowded { u, v, faces })
-    );
-    Ok(())
-}
+// Two tetrahedra that share a vertex, and two that share none.
+const PINCHED: [(u32, u32, u32); 8] = [
+    (0, 1, 2),
+    (0, 3, 1),
+    (0, 2, 3),
+    (1, 3, 2),
+    (0, 4, 5),
+    (0, 6, 4),
+    (0, 5, 6),
+    (4, 6, 5),
+];
 
+const APART: [(u32, u32, u32); 8] = [
+    (0, 1, 2),
+    (0, 3, 1),
+    (0, 2, 3),
+    (1, 3, 2),
+    (4, 5, 6),
+    (4, 7, 5),
+    (4, 6, 7),
+    (5, 7, 6),
+];
+
+// Edges have two faces, vertices one fan, and all faces hang together.
 #[test]
-fn vertices_have_one_fan(rt: HostRuntime) -> Result<(), Fail> {
+fn faults_name_the_least(rt: HostRuntime) -> Result<(), Fail> {
     let alloc = rt.alloc();
-    let v = VertexId::new(4);
-    assert_eq!(rt;
-        fault(alloc, 5, &TETRAHEDRON)?,
-        Some(SurfaceFault::Isolated { v })
-    );
-    let pinched = [
-        (0, 1, 2),
-        (0, 3, 1),
-        (0, 2, 3),
-        (1, 3, 2),
-        (0, 4, 5),
-        (0, 6, 4),
-        (0, 5, 6),
-        (4, 6, 5),
+    let (zero, one, two) = (VertexId::new(0), VertexId::new(1), VertexId::new(2));
+    let (face, fourth) = (FaceId::new(0), FaceId::new(4));
+    let faces = [face, FaceId::new(1), fourth];
+    let cases: [(u32, &[(u32, u32, u32)], SurfaceFault); 6] = [
+        (0, &[], SurfaceFault::Empty),
+        (
+            4,
+            &OPEN,
+            SurfaceFault::Border {
+                u: one,
+                v: two,
+                face,
+            },
+        ),
+        (
+            6,
+            &CROWDED,
+            SurfaceFault::Crowded {
+                u: zero,
+                v: one,
+                faces,
+            },
+        ),
+        (
+            5,
+            &TETRAHEDRON,
+            SurfaceFault::Isolated {
+                v: VertexId::new(4),
+            },
+        ),
+        (
+            7,
+            &PINCHED,
+            SurfaceFault::Pinched {
+                v: zero,
+                first: face,
+                second: fourth,
+            },
+        ),
+        (8, &APART, SurfaceFault::Apart { face: fourth }),
     ];
-    let v = VertexId::new(0);
-    let (first, second) = (FaceId::new(0), FaceId::new(4));
-    assert_eq!(rt;
-        fault(alloc, 7, &pinched)?,
-        Some(SurfaceFault::Pinched { v, first, second })
-    );
-    let apart = [
-        (0, 1, 2),
-        (0, 3, 1),
-        (0, 2, 3),
-        (1, 3, 2),
-        (4, 5, 6),
-        (4, 7, 5),
-        (4, 6, 7),
-        (5, 7, 6),
-    ];
-    let face = FaceId::new(4);
-    assert_eq!(rt;
-        fault(alloc, 8, &apart)?,
-        Some(SurfaceFault::Apart { face })
-    );
+    for (vertices, soup, want) in cases {
+        assert_eq!(rt; fault(alloc, vertices, soup)?, Some(want));
+    }
     Ok(())
 }
 
@@ -227,11 +247,29 @@ fn a_tetrahedron_has_rings(rt: HostRuntime) -> Result<(), Fail> {
     let alloc = rt.alloc();
     let soup = soup(alloc, 4, &TETRAHEDRON).ok().ok_or("room")?;
     let mesh = check(alloc, soup).ok().ok_or("no surface")?;
-    assert_eq!(rt; ring(&mesh, 0), Some([0, 6, 3]));
-    assert_eq!(rt; ring_edges(&mesh, 0), Some([1, 2, 0]));
-    assert_eq!(rt; edge(&mesh, 0, 1), Some(0));
-    assert_eq!(rt; edge(&mesh, 3, 2), Some(5));
-    assert_eq!(rt; edge(&mesh, 2, 2), None);
-    assert_eq!(rt; mate(&mesh, 7), Some(10));
+    let rings = [
+        (ring(&mesh, 0), [0, 6, 3]),
+        (ring_edges(&mesh, 0), [1, 2, 0]),
+    ];
+    for (found, want) in rings {
+        assert_eq!(rt; found, Some(want));
+    }
+    Ok(())
+}
+
+#[test]
+fn edges_and_mates_have_numbers(rt: HostRuntime) -> Result<(), Fail> {
+    let alloc = rt.alloc();
+    let soup = soup(alloc, 4, &TETRAHEDRON).ok().ok_or("room")?;
+    let mesh = check(alloc, soup).ok().ok_or("no surface")?;
+    let numbers = [
+        (edge(&mesh, 0, 1), Some(0)),
+        (edge(&mesh, 3, 2), Some(5)),
+        (edge(&mesh, 2, 2), None),
+        (mate(&mesh, 7), Some(10)),
+    ];
+    for (found, want) in numbers {
+        assert_eq!(rt; found, want);
+    }
     Ok(())
 }

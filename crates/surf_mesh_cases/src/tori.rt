@@ -23,8 +23,7 @@ fn has_corners(soup: &Soup, f: u32, want: [u32; 3]) -> bool {
 #[test]
 fn torus_has_its_faces(rt: HostRuntime) -> Result<(), Fail> {
     let soup = torus(rt.alloc(), 3, 3)?;
-    assert_eq!(rt; soup.vertices(), 9);
-    assert_eq!(rt; soup.faces(), 18);
+    assert_eq!(rt; (soup.vertices(), soup.faces()), (9, 18));
     for (f, (a, b, c)) in (0u32..18).zip(TORUS) {
         assert!(rt; has_corners(&soup, f, [a, b, c]));
     }
@@ -34,8 +33,7 @@ fn torus_has_its_faces(rt: HostRuntime) -> Result<(), Fail> {
 #[test]
 fn rows_and_columns_differ(rt: HostRuntime) -> Result<(), Fail> {
     let soup = torus(rt.alloc(), 3, 5)?;
-    assert_eq!(rt; soup.vertices(), 15);
-    assert_eq!(rt; soup.faces(), 30);
+    assert_eq!(rt; (soup.vertices(), soup.faces()), (15, 30));
     for (f, corners) in [
         (0, [0, 5, 6]),
         (8, [4, 9, 5]),
@@ -64,15 +62,16 @@ fn lengths_of_torus(alloc: Global, scatter: u32) -> Result<Vec<u32>, Fail> {
 #[test]
 fn lengths_are_scattered(rt: HostRuntime) -> Result<(), Fail> {
     let alloc = rt.alloc();
-    let want = [
+    let scattered = [
         14u32, 21, 28, 35, 42, 49, 56, 63, 70, 77, 84, 91, 1, 8, 15, 22, 29, 36, 43, 50, 57, 64,
         71, 78, 85, 92, 2,
     ];
-    assert_eq!(rt; lengths_of_torus(alloc, 1)?.as_slice(), want.as_slice());
-    assert_eq!(rt;
-        lengths_of_torus(alloc, 0)?.as_slice(),
-        [1u32; 27].as_slice()
-    );
+    for (scatter, want) in [(1, scattered), (0, [1u32; 27])] {
+        assert_eq!(rt;
+            lengths_of_torus(alloc, scatter)?.as_slice(),
+            want.as_slice()
+        );
+    }
     Ok(())
 }
 
@@ -94,8 +93,8 @@ fn a_chain_of_one_is_a_torus(rt: HostRuntime) -> Result<(), Fail> {
     let alloc = rt.alloc();
     let one = chain(alloc, 1, 4, 5)?;
     let same = torus(alloc, 4, 5)?;
-    assert_eq!(rt; one.vertices(), same.vertices());
-    assert_eq!(rt; one.faces(), same.faces());
+    let counts = (one.vertices(), one.faces());
+    assert_eq!(rt; counts, (same.vertices(), same.faces()));
     assert_eq!(rt; one.corners(), same.corners());
     Ok(())
 }
@@ -103,8 +102,7 @@ fn a_chain_of_one_is_a_torus(rt: HostRuntime) -> Result<(), Fail> {
 #[test]
 fn chains_are_joined_in_turn(rt: HostRuntime) -> Result<(), Fail> {
     let soup = chain(rt.alloc(), 3, 4, 5)?;
-    assert_eq!(rt; soup.vertices(), 54);
-    assert_eq!(rt; soup.faces(), 116);
+    assert_eq!(rt; (soup.vertices(), soup.faces()), (54, 116));
     for (f, corners) in [
         (0u32, [0, 5, 6]),
         (1, [0, 6, 1]),
