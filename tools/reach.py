@@ -45,9 +45,9 @@ COMMANDS = {
     "confirm": ("surf_answers.Confirming.JudgesEvidence", {"confirms"}),
     "shortest": ("surf_answers.Tightening.GivesShortestWalk", {"tightens"}),
     "sew": ("surf_answers.Sewing.GivesSewn", {"sews"}),
-    "gen": ("surf_run.Making.OnGen", {"makes"}),
+    "gen": ("surf_answers.Making.GivesMesh", {"makes"}),
     "try": ("surf_answers.Summaries.GivesSummary", {"tries"}),
-    "--help, --version": ("surf_answers.Help.help_text", {"help", "version"}),
+    "--help, --version": ("surf_words.Words.help_text", {"help", "version"}),
 }
 CASES = set().union(*(cases for _, cases in COMMANDS.values()))
 
@@ -74,8 +74,10 @@ def bare(name):
 
 
 def words_of(line):
-    """The names in a line, without those behind a point, which are fields."""
-    found = set()
+    """The names in a line, without those in texts and those behind a point, which are fields. A `do` is a use of `>>=`
+    and `>>`."""
+    line = re.sub(r'"[^"]*"', " ", line)
+    found = {">>=", ">>"} if re.search(r"\bdo\b", line) else set()
     for word in WORD.findall(line):
         for part in re.split(r"(?<=[^\d])\.", word)[:1]:
             found.add(part.strip("."))

@@ -27,9 +27,7 @@ use Rattle.surf_answers.proofs.Saying.{blank, says_whole, says_beyond, why_overf
 pub gives_loop_cert : (mesh : Mesh) (lengths : List ℕ) (base : ℕ) (t : LoopTables) (cert : LoopCert) → IsGreedy mesh lengths base t →
     cert ≡ chosen_cert mesh (trees_of t) → IsValidLoops mesh lengths cert → (o : Outcome) → Says (loop_text cert) o → GivesLoopCert mesh lengths base o
 gives_loop_cert mesh lengths base t cert greedy is valid o says = record {
-  trees = trees_of t;
-  chosen = greedy.chosen;
-  least = greedy.least;
+  found = record { trees = trees_of t; chosen = greedy.chosen; least = greedy.least };
   valid = subst (λ (x : LoopCert). IsValidLoops mesh lengths x) is valid;
   says = subst (λ (x : LoopCert). Says (loop_text x) o) is says;
 }
@@ -38,11 +36,13 @@ pub gives_basis_cert : (mesh : Mesh) (lengths : List ℕ) (cert : BasisCert) →
     length lengths ≡ edge_count mesh → IsTheCert mesh lengths cert → IsValidBasis mesh lengths cert → (o : Outcome) →
     Says (basis_text cert) o → GivesBasisCert mesh lengths o
 gives_basis_cert mesh lengths cert surface are sized is valid o says = record {
-  trees = is.trees;
-  chosen = is.chosen;
-  basis = is.basis;
-  is_basis = is.is_basis;
-  least = basis_is_least mesh lengths is.trees is.basis surface (lengths_positive mesh lengths are sized) is.chosen is.is_basis;
+  found = record {
+    trees = is.trees;
+    chosen = is.chosen;
+    basis = is.basis;
+    is_basis = is.is_basis;
+    least = basis_is_least mesh lengths is.trees is.basis surface (lengths_positive mesh lengths are sized) is.chosen is.is_basis;
+  };
   valid = subst (λ (x : BasisCert). IsValidBasis mesh lengths x) is.cert_is valid;
   says = subst (λ (x : BasisCert). Says (basis_text x) o) is.cert_is says;
 }

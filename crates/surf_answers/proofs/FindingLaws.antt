@@ -31,11 +31,7 @@ module _ (mesh : Mesh) (lengths : List ℕ) (surface : IsSurface mesh) (are : Ar
   pub gives_basis : (basis : List Loop) → IsTheBasis mesh lengths basis → LeastSimpleBasis mesh lengths basis → (o : Outcome) → Says (cycles_text basis) o →
       GivesBasis mesh lengths o
   gives_basis basis is least o says = record {
-    trees = some.0;
-    chosen = some.1;
-    basis = basis;
-    is_basis = is some.0 some.1;
-    least = least;
+    found = record { trees = some.0; chosen = some.1; basis = basis; is_basis = is some.0 some.1; least = least };
     shortest = λ first rest same.
         first_of_basis_is_shortest_not_null mesh lengths some.0 first rest surface long some.1
         (subst (IsChosenBasis mesh lengths some.0) same (is some.0 some.1));
@@ -49,12 +45,7 @@ module _ (mesh : Mesh) (lengths : List ℕ) (surface : IsSurface mesh) (are : Ar
   gives_cycle (Some c) first shortest separate o says =
       let b = first_listed (as_loop c) (candidates mesh lengths some.0) (first some.0 some.1) in
       inl (record {
-        trees = some.0;
-        chosen = some.1;
-        first = as_loop c;
-        rest = b.0;
-        is_first = b.1;
-        shortest = shortest.shortest;
+        found = record { trees = some.0; chosen = some.1; first = as_loop c; rest = b.0; is_first = b.1; shortest = shortest.shortest };
         not_null = (shortest_not_null_is_nonseparating mesh lengths (as_loop c).walk surface long).1 shortest.shortest;
         size = shortest.size;
         says = says;

@@ -1,5 +1,5 @@
 -- Texts on a page as answers.
-use Rattle.std.proofs.Common.{◌≡◌, ℕ, ◌<◌, ◌≤◌, true, false, List, [], length, refl, ap, subst, arith}
+use Rattle.std.proofs.Common.{◌≡◌, ℕ, ◌<◌, ◌≤◌, true, false, List, [], length, refl, sym, ap, subst, arith}
 use Rattle.std.specs.Prelude.{nat_lt}
 use Rattle.std.proofs.lemmas.Bool.{lt-ltb, le-ltb}
 use Rattle.surf_base.specs.declared.limits.LimitKind.TheVariants.{Answer}
@@ -11,7 +11,8 @@ use Rattle.surf_texts.specs.Limits.{beyond}
 use Rattle.surf_texts.specs.Outcome.{answers}
 use Rattle.surf_texts.specs.Refusals.{cause_of, of_page}
 use Rattle.surf_answers.specs.Says.{Says}
-use Rattle.surf_answers.specs.Tells.{Why}
+use Rattle.surf_answers.specs.Tells.{Why, verdict_status}
+use Rattle.surf_answers.specs.declared.answered.Answered.{Answered}
 use Rattle.surf_texts.specs.Outcome.{Outcome}
 
 -- an empty page for an answer
@@ -33,3 +34,8 @@ pub why_overfilled : (end : Outcome → Type 0) (text : List ℕ) (fault : PageF
     Overfills blank text fault → Why end (cause_of (of_page fault))
 why_overfilled end text Full long over = long (omega (arith, over))
 why_overfilled end text Memory long over = tt
+
+-- an answer that is another ends as that does
+pub ends_as : (end : Outcome → Type 0) (a b : Answered) → a ≡ b → end (answers (verdict_status b.verdict) b.text.items) →
+    end (answers (verdict_status a.verdict) a.text.items)
+ends_as end a b same said = subst (λ (x : Answered). end (answers (verdict_status x.verdict) x.text.items)) (sym same) said

@@ -29,18 +29,13 @@ module _ (mesh : Mesh) (lengths : List ℕ) (surface : IsSurface mesh) (are : Ar
   -- a basis that is chosen whichever trees show the choice
   pub totals_so : (basis : List Loop) (total : ℕ) → IsTheBasis mesh lengths basis → LeastSimpleBasis mesh lengths basis → total ≡ total_size basis →
       BasisTotals mesh lengths total
-  totals_so basis total is least same = record { trees = some.0; chosen = some.1; basis = basis; is_basis = is some.0 some.1; least = least; is = same }
+  totals_so basis total is least same = record { found = record { trees = some.0; chosen = some.1; basis = basis; is_basis = is some.0 some.1; least = least }; is = same }
 
   -- a first candidate that was found
   pub measures_so : (c : Cycle) → IsFirstCandidate mesh lengths (Some c) → IsShortestCycle mesh lengths c → CycleMeasures mesh lengths c.length
   measures_so c first shortest =
       let b = first_listed (as_loop c) (candidates mesh lengths some.0) (first some.0 some.1) in
       record {
-        trees = some.0;
-        chosen = some.1;
-        first = as_loop c;
-        rest = b.0;
-        is_first = b.1;
-        shortest = shortest.shortest;
+        found = record { trees = some.0; chosen = some.1; first = as_loop c; rest = b.0; is_first = b.1; shortest = shortest.shortest };
         is = sym shortest.size;
       }

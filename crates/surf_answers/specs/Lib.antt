@@ -7,7 +7,7 @@ pub mod CycleTexts
 pub mod Discs
 pub mod Distances
 pub mod HeadTexts
-pub mod Help
+pub mod Found
 pub mod Info
 pub mod LeastBasis
 pub mod LeastLoops

@@ -1,45 +1,32 @@
 -- What is found on a surface in short: its counts, and what its least loops, its least basis and its shortest cycle
 -- measure.
-use Rattle.std.specs.Prelude.{◌≡◌, ℕ, List, ◌∷◌, ◌++◌, map, sum}
+use Rattle.std.specs.Prelude.{◌≡◌, ℕ, List, ◌++◌, map, sum}
 use Rattle.surf_surfaces.specs.Mesh.{Mesh}
 use Rattle.surf_surfaces.specs.Walk.{walk_length}
-use Rattle.surf_surfaces.specs.Cycle.{IsShortestNonseparating}
-use Rattle.surf_surfaces.specs.Choice.{Trees, AreChosenAt, AreChosen, Loop, loops_at, candidates, IsChosenBasis}
-use Rattle.surf_surfaces.specs.ChoiceLaws.{LoopsAtBase, LeastSimpleBasis}
-use Rattle.surf_answers.specs.Info.{Informs}
+use Rattle.surf_surfaces.specs.Choice.{Loop, loops_at}
 use Rattle.surf_texts.specs.Outcome.{Outcome, answers}
 use Rattle.surf_texts.specs.SummaryTexts.{measures_text}
+use Rattle.surf_answers.specs.Found.{FoundLoops, FoundBasis, FoundCycle}
+use Rattle.surf_answers.specs.Info.{Informs}
 
 -- the lengths of loops together
 abbrev pub total_size : List Loop → ℕ
 total_size loops = sum (map (λ c. c.size) loops)
 
--- The loops that are chosen at vertex 0, a least loop system there, total so much.
+-- the loops at vertex 0 total so much
 pub record LoopsTotal (mesh : Mesh) (lengths : List ℕ) (total : ℕ) : Type 0 where
-  pub trees : Trees
-  pub chosen : AreChosenAt mesh lengths 0 trees
-  pub least : LoopsAtBase mesh lengths 0 trees
-  pub is : total ≡ total_size (loops_at mesh lengths 0 trees)
+  pub found : FoundLoops mesh lengths 0
+  pub is : total ≡ total_size (loops_at mesh lengths 0 found.trees)
 
--- The basis that is chosen from the loops at all vertices, a least basis, totals so much.
+-- the basis totals so much
 pub record BasisTotals (mesh : Mesh) (lengths : List ℕ) (total : ℕ) : Type 0 where
-  pub trees : ℕ → Trees
-  pub chosen : AreChosen mesh lengths trees
-  pub basis : List Loop
-  pub is_basis : IsChosenBasis mesh lengths trees basis
-  pub least : LeastSimpleBasis mesh lengths basis
-  pub is : total ≡ total_size basis
+  pub found : FoundBasis mesh lengths
+  pub is : total ≡ total_size found.basis
 
--- The first candidate for the basis, a simple cycle that doesn't separate the surface such that none is shorter, has
--- this length.
+-- the cycle has this length
 pub record CycleMeasures (mesh : Mesh) (lengths : List ℕ) (size : ℕ) : Type 0 where
-  pub trees : ℕ → Trees
-  pub chosen : AreChosen mesh lengths trees
-  pub first : Loop
-  pub rest : List Loop
-  pub is_first : candidates mesh lengths trees ≡ first ∷ rest
-  pub shortest : IsShortestNonseparating mesh lengths first.walk
-  pub is : size ≡ walk_length mesh lengths first.walk
+  pub found : FoundCycle mesh lengths
+  pub is : size ≡ walk_length mesh lengths found.first.walk
 
 -- What `info` answers of the surface, and then the three measures.
 pub record GivesSummary (mesh : Mesh) (lengths : List ℕ) (outcome : Outcome) : Type 0 where

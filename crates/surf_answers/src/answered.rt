@@ -1,6 +1,7 @@
 //! Answers.
 ghost use Rattle.std.specs.Prelude.{◌≡◌};
 ghost use Rattle.surf_answers.specs.Tells.{verdict_status};
+ghost use Rattle.surf_answers.specs.declared.answered.Verdict.TheVariants.{Yes};
 
 /// Whether what was asked about is as it should be. Only a check answers `No`.
 #[derive(Clone, Copy, Debug, PartialEq, Eq)]
@@ -26,4 +27,16 @@ impl Verdict {
 pub struct Answered {
     pub verdict: Verdict,
     pub text: Vec<u8>,
+}
+
+impl Answered {
+    /// The answer that it is as it should be.
+    pub fn yes(text: Vec<u8>) -> Answered
+        ensures { result ≡ record { verdict = Yes; text = text } }
+    {
+        Answered {
+            verdict: Verdict::Yes,
+            text,
+        }
+    }
 }

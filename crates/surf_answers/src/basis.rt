@@ -9,7 +9,7 @@ ghost use Rattle.surf_answers.specs.LeastBasis.{GivesBasis};
 ghost use Rattle.surf_answers.specs.Tells.{Concludes};
 ghost use Rattle.surf_base.specs.declared.limits.TheConstants.{MAX_LOOPS};
 
-use crate::answered::{Answered, Verdict};
+use crate::answered::Answered;
 use std::alloc::Global;
 use surf_base::MAX_ANSWER;
 use surf_basis::{Cycle, least_basis};
@@ -29,10 +29,7 @@ pub fn basis_of(alloc: Global, mesh: &HalfMesh, lengths: &Lengths) -> Result<Ans
     let basis = least_basis(alloc, mesh, lengths)?;
     let mut page = Page::make(alloc, MAX_ANSWER);
     put_basis(&mut page, &basis)?;
-    Ok(Answered {
-        verdict: Verdict::Yes,
-        text: page.into_bytes(),
-    })
+    Ok(Answered::yes(page.into_bytes()))
 }
 
 // Puts how many cycles there are and what they total, and the line of each.

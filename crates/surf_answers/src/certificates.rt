@@ -5,7 +5,7 @@ ghost use Rattle.surf_answers.specs.Certificates.{GivesLoopCert, GivesBasisCert}
 ghost use Rattle.surf_answers.specs.Tells.{Concludes};
 ghost use Rattle.surf_base.specs.declared.limits.TheConstants.{MAX_LOOPS};
 
-use crate::answered::{Answered, Verdict};
+use crate::answered::Answered;
 use std::alloc::Global;
 use surf_base::{MAX_ANSWER, VertexId};
 use surf_basis::basis_cert;
@@ -32,10 +32,7 @@ pub fn loop_cert_of(
     let cert = desk.cert(alloc, mesh, lengths)?;
     let mut page = Page::make(alloc, MAX_ANSWER);
     write_loop_cert(&mut page, &cert)?;
-    Ok(Answered {
-        verdict: Verdict::Yes,
-        text: page.into_bytes(),
-    })
+    Ok(Answered::yes(page.into_bytes()))
 }
 
 /// A certificate that the cycles of the basis that is chosen are a least basis.
@@ -49,8 +46,5 @@ pub fn basis_cert_of(alloc: Global, mesh: &HalfMesh, lengths: &Lengths) -> Resul
     let cert = basis_cert(alloc, mesh, lengths)?;
     let mut page = Page::make(alloc, MAX_ANSWER);
     write_basis_cert(&mut page, &cert)?;
-    Ok(Answered {
-        verdict: Verdict::Yes,
-        text: page.into_bytes(),
-    })
+    Ok(Answered::yes(page.into_bytes()))
 }

@@ -8,7 +8,7 @@ ghost use Rattle.surf_answers.specs.Classes.{null_word, odd_word, GivesClass};
 ghost use Rattle.surf_answers.specs.Tells.{Concludes};
 ghost use Rattle.surf_base.specs.declared.limits.TheConstants.{MAX_LOOPS};
 
-use crate::answered::{Answered, Verdict};
+use crate::answered::Answered;
 use crate::desk::signed_desk;
 use std::alloc::Global;
 use surf_base::{MAX_ANSWER, NoMemory};
@@ -44,10 +44,7 @@ pub fn class_of(
     let mut page = Page::make(alloc, MAX_ANSWER);
     let (null, odd) = kinds(second);
     write_evidence(&mut page, null, odd, &evidence)?;
-    Ok(Answered {
-        verdict: Verdict::Yes,
-        text: page.into_bytes(),
-    })
+    Ok(Answered::yes(page.into_bytes()))
 }
 
 // The evidence that is chosen, by the trees at vertex 0 where each edge has length 1.

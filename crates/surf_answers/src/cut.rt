@@ -7,7 +7,7 @@ ghost use Rattle.surf_answers.specs.Cuts.{GivesCut, IsCutAt, cut_text, is_trimme
 ghost use Rattle.surf_answers.specs.Tells.{Concludes};
 ghost use Rattle.surf_text.specs.Pages.{Puts};
 
-use crate::answered::{Answered, Verdict};
+use crate::answered::Answered;
 use std::alloc::Global;
 use surf_base::{MAX_ANSWER, NoMemory, VertexId};
 use surf_cotree::CotreeDesk;
@@ -38,10 +38,7 @@ pub fn cut_of(
     let opened = opened_at(alloc, mesh, lengths, base, kind)?;
     let mut page = Page::make(alloc, MAX_ANSWER);
     put_opened(&mut page, text, &opened)?;
-    Ok(Answered {
-        verdict: Verdict::Yes,
-        text: page.into_bytes(),
-    })
+    Ok(Answered::yes(page.into_bytes()))
 }
 
 // The surface opened along the cut that is chosen at a base.

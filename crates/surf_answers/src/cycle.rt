@@ -7,7 +7,7 @@ ghost use Rattle.surf_answers.specs.ShortestCycle.{GivesCycle};
 ghost use Rattle.surf_answers.specs.Tells.{Concludes};
 ghost use Rattle.surf_base.specs.declared.limits.TheConstants.{MAX_LOOPS};
 
-use crate::answered::{Answered, Verdict};
+use crate::answered::Answered;
 use std::alloc::Global;
 use surf_base::MAX_ANSWER;
 use surf_basis::{Cycle, least_nonseparating};
@@ -27,10 +27,7 @@ pub fn cycle_of(alloc: Global, mesh: &HalfMesh, lengths: &Lengths) -> Result<Ans
     let found = least_nonseparating(alloc, mesh, lengths)?;
     let mut page = Page::make(alloc, MAX_ANSWER);
     put_found(&mut page, &found)?;
-    Ok(Answered {
-        verdict: Verdict::Yes,
-        text: page.into_bytes(),
-    })
+    Ok(Answered::yes(page.into_bytes()))
 }
 
 // Puts the line of a cycle, or that there is none.

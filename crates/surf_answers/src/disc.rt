@@ -17,10 +17,10 @@ pub fn disc_of(alloc: Global, soup: &Soup) -> Result<Answered, Refused>
     ensures { Concludes (JudgesDisc soup.now) result }
 {
     match check_disc(alloc, soup) {
-        Ok(border) => Ok(Answered {
-            verdict: Verdict::Yes,
-            text: disc_text(alloc, border)?.into_bytes(),
-        }),
+        Ok(border) => {
+            let text = disc_text(alloc, border)?;
+            Ok(Answered::yes(text.into_bytes()))
+        }
         Err(DiscFault::Memory) => Err(Refused::Memory),
         Err(fault) => not_disc(alloc, &fault),
     }

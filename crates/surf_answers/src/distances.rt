@@ -4,7 +4,7 @@ ghost use Rattle.surf_surfaces.specs.Surface.{edge_count};
 ghost use Rattle.surf_answers.specs.Distances.{GivesDistances};
 ghost use Rattle.surf_answers.specs.Tells.{Concludes};
 
-use crate::answered::{Answered, Verdict};
+use crate::answered::Answered;
 use std::alloc::Global;
 use surf_base::{MAX_ANSWER, VertexId};
 use surf_lengths::Lengths;
@@ -28,8 +28,5 @@ pub fn dist_of(
     tree.grow(mesh, lengths, base);
     let mut page = Page::make(alloc, MAX_ANSWER);
     put_distances(&mut page, &tree, mesh.vertices())?;
-    Ok(Answered {
-        verdict: Verdict::Yes,
-        text: page.into_bytes(),
-    })
+    Ok(Answered::yes(page.into_bytes()))
 }

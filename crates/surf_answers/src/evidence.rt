@@ -21,10 +21,10 @@ pub fn judge_evidence(
     ensures { Concludes (JudgesEvidence mesh.now walk.now (seen evidence.now)) result }
 {
     match check_class(alloc, mesh, walk, evidence) {
-        Ok(()) => Ok(Answered {
-            verdict: Verdict::Yes,
-            text: right_line(evidence).as_bytes().to_vec(alloc)?,
-        }),
+        Ok(()) => {
+            let text = right_line(evidence).as_bytes().to_vec(alloc)?;
+            Ok(Answered::yes(text))
+        }
         Err(ClassFault::Memory) => Err(Refused::Memory),
         Err(fault) => Ok(Answered {
             verdict: Verdict::No,

@@ -5,7 +5,7 @@ ghost use Rattle.surf_surfaces.specs.Surface.{IsTurning, IsTwoSided};
 ghost use Rattle.surf_answers.specs.Info.{Informs, HasGenus, HasCrosscaps};
 ghost use Rattle.surf_answers.specs.Tells.{Concludes};
 
-use crate::answered::{Answered, Verdict};
+use crate::answered::Answered;
 use std::alloc::Global;
 use surf_check::{Sides, Turning, characteristic, genus, orient};
 use surf_mesh::HalfMesh;
@@ -30,10 +30,7 @@ fn two_sided(alloc: Global, mesh: &HalfMesh, turning: &Turning) -> Result<Answer
     let mut text = counts_text(alloc, mesh)?;
     let shape = genus_text(alloc, characteristic(mesh), genus(mesh, turning))?;
     text.push_str(shape.as_str())?;
-    Ok(Answered {
-        verdict: Verdict::Yes,
-        text: text.into_bytes(),
-    })
+    Ok(Answered::yes(text.into_bytes()))
 }
 
 // The answer for a one-sided surface.
@@ -44,10 +41,7 @@ fn one_sided(alloc: Global, mesh: &HalfMesh) -> Result<Answered, Refused>
     let mut text = counts_text(alloc, mesh)?;
     let shape = crosscaps_text(alloc, characteristic(mesh), loop_count(mesh))?;
     text.push_str(shape.as_str())?;
-    Ok(Answered {
-        verdict: Verdict::Yes,
-        text: text.into_bytes(),
-    })
+    Ok(Answered::yes(text.into_bytes()))
 }
 
 /// How many independent loops a surface has: 2 minus its characteristic.

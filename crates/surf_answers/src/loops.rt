@@ -7,7 +7,7 @@ ghost use Rattle.surf_answers.specs.HeadTexts.{head_line, loop_heads_text, heads
 ghost use Rattle.surf_answers.specs.LeastLoops.{GivesLoops};
 ghost use Rattle.surf_answers.specs.Tells.{Concludes};
 
-use crate::answered::{Answered, Verdict};
+use crate::answered::Answered;
 use std::alloc::Global;
 use surf_base::{MAX_ANSWER, VertexId};
 use surf_lengths::Lengths;
@@ -31,10 +31,7 @@ pub fn loops_of(
     desk.greedy(mesh, lengths, base);
     let mut page = Page::make(alloc, MAX_ANSWER);
     put_answer(alloc, &mut page, mesh, &desk)?;
-    Ok(Answered {
-        verdict: Verdict::Yes,
-        text: page.into_bytes(),
-    })
+    Ok(Answered::yes(page.into_bytes()))
 }
 
 // Puts how many loops a desk has and what they total, and the line of each.

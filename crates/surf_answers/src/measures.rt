@@ -4,7 +4,7 @@ ghost use Rattle.surf_surfaces.specs.Surface.{edge_count};
 ghost use Rattle.surf_answers.specs.Coordinates.{GivesMeasures};
 ghost use Rattle.surf_answers.specs.Tells.{Concludes};
 
-use crate::answered::{Answered, Verdict};
+use crate::answered::Answered;
 use std::alloc::Global;
 use surf_base::MAX_ANSWER;
 use surf_geom::write_lengths;
@@ -20,8 +20,5 @@ pub fn measures_of(alloc: Global, mesh: &HalfMesh, lengths: &Lengths) -> Result<
 {
     let mut page = Page::make(alloc, MAX_ANSWER);
     write_lengths(&mut page, mesh, lengths)?;
-    Ok(Answered {
-        verdict: Verdict::Yes,
-        text: page.into_bytes(),
-    })
+    Ok(Answered::yes(page.into_bytes()))
 }

@@ -5,7 +5,7 @@ ghost use Rattle.surf_surfaces.specs.Surface.{edge_count, IsSurface};
 ghost use Rattle.surf_answers.specs.Making.{GivesMesh};
 ghost use Rattle.surf_answers.specs.Tells.{Concludes};
 
-use crate::answered::{Answered, Verdict};
+use crate::answered::Answered;
 use std::alloc::Global;
 use surf_base::MAX_ANSWER;
 use surf_off::write_soup;
@@ -29,8 +29,5 @@ pub fn made_of(alloc: Global, soup: &Soup) -> Result<Answered, Refused>
 {
     let mut page = Page::make(alloc, MAX_ANSWER);
     write_soup(&mut page, soup, edges_of(soup))?;
-    Ok(Answered {
-        verdict: Verdict::Yes,
-        text: page.into_bytes(),
-    })
+    Ok(Answered::yes(page.into_bytes()))
 }

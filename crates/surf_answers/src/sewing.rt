@@ -5,7 +5,7 @@ ghost use Rattle.surf_answers.specs.Tells.{Concludes};
 ghost use Rattle.surf_sew.specs.Sewing.{HaveCopies};
 ghost use Rattle.surf_surfaces.specs.Surface.{face_count};
 
-use crate::answered::{Answered, Verdict};
+use crate::answered::Answered;
 use std::alloc::Global;
 use surf_base::{MAX_ANSWER, VertexId};
 use surf_mesh::HalfMesh;
@@ -29,8 +29,5 @@ pub fn sewn_text(
 {
     let mut page = Page::make(alloc, MAX_ANSWER);
     write_sewn(&mut page, text, origins, mesh)?;
-    Ok(Answered {
-        verdict: Verdict::Yes,
-        text: page.into_bytes(),
-    })
+    Ok(Answered::yes(page.into_bytes()))
 }

@@ -44,10 +44,10 @@ fn judge_loops(
     ensures { Concludes (JudgesLoops mesh.now lengths.now cert.now) result }
 {
     match check_loops(alloc, mesh, lengths, cert) {
-        Ok(total) => Ok(Answered {
-            verdict: Verdict::Yes,
-            text: loops_line(alloc, total)?.into_bytes(),
-        }),
+        Ok(total) => {
+            let text = loops_line(alloc, total)?;
+            Ok(Answered::yes(text.into_bytes()))
+        }
         Err(CertFault::Memory) => Err(Refused::Memory),
         Err(fault) => invalid(alloc, &fault),
     }
@@ -64,10 +64,10 @@ fn judge_basis(
     ensures { Concludes (JudgesBasis mesh.now lengths.now cert.now) result }
 {
     match check_basis(alloc, mesh, lengths, cert) {
-        Ok(total) => Ok(Answered {
-            verdict: Verdict::Yes,
-            text: basis_line(alloc, total)?.into_bytes(),
-        }),
+        Ok(total) => {
+            let text = basis_line(alloc, total)?;
+            Ok(Answered::yes(text.into_bytes()))
+        }
         Err(CertFault::Memory) => Err(Refused::Memory),
         Err(fault) => invalid(alloc, &fault),
     }

@@ -8,7 +8,7 @@ ghost use Rattle.surf_texts.specs.Fills.{Fills};
 ghost use Rattle.surf_answers.specs.Tells.{Concludes};
 ghost use Rattle.surf_answers.specs.Tightening.{GivesShortestWalk, shortest_line};
 
-use crate::answered::{Answered, Verdict};
+use crate::answered::Answered;
 use crate::desk::signed_desk;
 use std::alloc::Global;
 use surf_base::{MAX_ANSWER, NoMemory};
@@ -34,10 +34,7 @@ pub fn shortest_of(
     let found = found_walk(alloc, mesh, lengths, walk)?;
     let mut page = Page::make(alloc, MAX_ANSWER);
     put_shortest(&mut page, &found)?;
-    Ok(Answered {
-        verdict: Verdict::Yes,
-        text: page.into_bytes(),
-    })
+    Ok(Answered::yes(page.into_bytes()))
 }
 
 // The walk that is chosen, by the signatures of the trees at vertex 0.

@@ -13,6 +13,5 @@ mod Running
 mod SewnRuns
 mod ShapeWords
 mod TextLaws
-mod TryLaws
 mod TwoRuns
 mod Unique

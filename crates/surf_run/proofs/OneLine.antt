@@ -31,7 +31,6 @@ use Rattle.surf_text.specs.Text.{is_line_end}
 use Rattle.surf_texts.specs.Cause.{Cause, due, unread, starved, misused, line_of}
 use Rattle.surf_texts.specs.CertLines.{cert_cause}
 use Rattle.surf_texts.specs.EvidenceLines.{evidence_cause}
-use Rattle.surf_texts.specs.CoordinateLines.{geom_cause}
 use Rattle.surf_texts.specs.Limits.{limit_name}
 use Rattle.surf_texts.specs.MeshLines.{off_cause}
 use Rattle.surf_texts.specs.Outcome.{answers, refuses, misses}
@@ -40,7 +39,7 @@ use Rattle.surf_run.specs.Run.{IsOneLine}
 use Rattle.surf_texts.specs.SewingLines.{copy_cause, sew_cause}
 use Rattle.surf_texts.specs.SurfaceLines.{surface_cause}
 use Rattle.surf_texts.specs.WalkLines.{file_words, walk_line, walk_cause}
-use Rattle.surf_texts.specs.LengthLines.{length_cause}
+use Rattle.surf_texts.specs.LengthLines.{length_cause, geom_cause}
 use Rattle.surf_texts.specs.declared.refusal.Refused.{Refused}
 use Rattle.surf_texts.specs.declared.refusal.Refused.TheVariants.{MeshText, Surface, Lengths, Base, Certificate, Coordinates, Copies, Sewing, Walk, Evidence, Limit, Read, Memory}
 use Rattle.surf_texts.specs.declared.walks.WalkFile.{WalkFile}

@@ -1,33 +1,25 @@
 -- No test of words and files answers: where one ends, it refuses.
 use Rattle.std.proofs.Common.{◌≡◌, ◌<◌, ◌≤◌, inl, inr, ℕ, Bool, true, false, List, [], length, Option, Some, None, Result, Ok, Err, sym, ap, subst, arith}
-use Rattle.std.specs.Prelude.{nat_lt, ◌&&◌, if◌then◌else◌, codes, replicate}
+use Rattle.std.specs.Prelude.{nat_lt, if◌then◌else◌, codes, replicate}
 use Rattle.std.specs.Str.{bytes_eq}
 use Rattle.surf_base.specs.Outside.{Files, bytes_of}
 use Rattle.surf_base.specs.declared.limits.LimitKind.{LimitKind}
 use Rattle.surf_base.specs.declared.limits.LimitKind.TheVariants as limits
 use Rattle.surf_surfaces.specs.Mesh.{Mesh}
-use Rattle.surf_surfaces.specs.Surface.{edge_count, loop_count}
+use Rattle.surf_surfaces.specs.Surface.{edge_count}
 use Rattle.surf_lengths.specs.Files.{lengths_in}
-use Rattle.surf_lengths.specs.declared.fault.LengthFault.{LengthFault}
 use Rattle.surf_off.specs.Off.{OffParts, off_of}
-use Rattle.surf_off.specs.declared.fault.OffFault.{OffFault}
-use Rattle.surf_texts.specs.Cause.{Cause, due, unread, starved, outcome_of}
-use Rattle.surf_run.specs.Given.{looped, searchable, IsFewLoopedText, IsSearchableText, IsMeasured, IsWeighted}
+use Rattle.surf_texts.specs.Cause.{Cause, due, unread, starved, outcome_of, refused_by}
 use Rattle.surf_texts.specs.Limits.{beyond}
-use Rattle.surf_run.specs.MeshTexts.{read_outcome}
 use Rattle.surf_texts.specs.MeshLines.{off_cause}
 use Rattle.surf_texts.specs.Outcome.{Outcome, answers, refuses, misses, status_of, Shows}
-use Rattle.surf_run.specs.Reading.{Reads, within_text}
+use Rattle.surf_run.specs.Reading.{Reads, within_text, EndsInFault, IsSurfaceText, weighed_for, IsMeasured, HasBase, walk_named, HasWalk}
 use Rattle.surf_answers.specs.Says.{Says}
-use Rattle.surf_run.specs.Steps.{Ends}
+use Rattle.surf_run.specs.Steps.{Ends, stops, goes, AtMost, and_then}
 use Rattle.surf_texts.specs.SurfaceLines.{surface_cause}
-use Rattle.surf_run.specs.Surfaces.{EndsInFault, IsSurfaceText}
-use Rattle.surf_run.specs.Weights.{weighed, weighed_by, weighed_for, based, HasLengths}
-use Rattle.surf_texts.specs.LengthLines.{length_cause, base_line}
+use Rattle.surf_texts.specs.LengthLines.{length_cause}
 use Rattle.surf_class.specs.Walks.{walk_in}
-use Rattle.surf_class.specs.declared.fault.WalkFault.{WalkFault}
 use Rattle.surf_texts.specs.WalkLines.{walk_cause}
-use Rattle.surf_run.specs.Walks.{walk_named, walked, walked_by, HasWalk}
 use Rattle.surf_texts.specs.declared.walks.WalkFile.{WalkFile}
 use Rattle.surf_run.proofs.Running.{IsDue, off_due, surface_due, length_due, walk_due}
 
@@ -51,6 +43,16 @@ due_refuses (due misses) is = absurd is
 due_refuses unread is = omega arith
 due_refuses starved is = omega arith
 
+-- what is read, or the fault of it, whose cause is due
+refused_high : {A E : Type 0} (cause : E → Cause) → ((fault : E) → IsDue (cause fault)) → (r : Result A E) → 1 < end_status (refused_by cause r)
+refused_high cause all_due (Ok value) = omega arith
+refused_high cause all_due (Err fault) = due_refuses (cause fault) (all_due fault)
+
+then_high : {A B : Type 0} (next : A → Result B Outcome) → ((a : A) → 1 < end_status (next a)) → (r : Result A Outcome) → 1 < end_status r →
+    1 < end_status (and_then next r)
+then_high next all_high (Ok a) high = all_high a
+then_high next all_high (Err o) high = high
+
 limited : {A : Type 0} (b : Bool) (o : Outcome) (a : A) → 1 < status_of o → 1 < end_status (if b then Err o else Ok a)
 limited true o a high = high
 limited false o a high = omega arith
@@ -62,69 +64,41 @@ within_high (Some bytes) = limited (nat_lt 268435456 (length bytes)) (beyond lim
 pub reads_refuses : (name : List ℕ) (files : Files) → Refusing (Reads name files)
 reads_refuses name files = stated (within_text (bytes_of files name)) (within_high (bytes_of files name))
 
-read_high : (r : Result (OffParts × Mesh) OffFault) → 1 < end_status (read_outcome r)
-read_high (Ok read) = omega arith
-read_high (Err fault) = due_refuses (off_cause fault) (off_due fault)
-
 fault_refuses : (mesh : Mesh) (o : Outcome) → EndsInFault mesh o → 1 < status_of o
 fault_refuses mesh o ends = subst (λ (x : Outcome). 1 < status_of x) (sym ends.is) (due_refuses (surface_cause ends.fault) (surface_due ends.fault))
 
-surface_refuses : (bytes : List ℕ) → Refusing (IsSurfaceText bytes)
-surface_refuses bytes o (inl is) = stated (read_outcome (off_of bytes)) (read_high (off_of bytes)) o is
+pub surface_refuses : (bytes : List ℕ) → Refusing (IsSurfaceText bytes)
+surface_refuses bytes o (inl is) = stated (refused_by off_cause (off_of bytes)) (refused_high off_cause off_due (off_of bytes)) o is
 surface_refuses bytes o (inr (read, is, ends)) = fault_refuses read.1 o ends
 
-pub looped_refuses : (few : Bool) (bytes : List ℕ) → Refusing (IsFewLoopedText few bytes)
-looped_refuses few bytes o (inl is) = surface_refuses bytes o is
-looped_refuses few bytes o (inr (read, is, many)) = stated (looped few read.1) (limited (few && nat_lt 1024 (loop_count read.1)) (beyond limits.Loops) read.1 (omega arith)) o many
+pub limit_refuses : (kind : LimitKind) (most count : ℕ) → Refusing (AtMost kind most count)
+limit_refuses kind most count o is = subst (λ (x : Outcome). 1 < status_of x) (sym is.1) (omega arith)
 
-pub searchable_refuses : (limit : LimitKind × ℕ) (bytes : List ℕ) → Refusing (IsSearchableText limit bytes)
-searchable_refuses limit bytes o (inl is) = looped_refuses true bytes o is
-searchable_refuses limit bytes o (inr (read, is, many)) = stated (searchable limit read.1) (limited (nat_lt limit.1 read.1.vertices) (beyond limit.0) read.1 (omega arith)) o many
-
-weighed_high : (r : Result (List ℕ) LengthFault) → 1 < end_status (weighed r)
-weighed_high (Ok lengths) = omega arith
-weighed_high (Err fault) = due_refuses (length_cause fault) (length_due fault)
-
-by_high : (mesh : Mesh) (r : Result (List ℕ) Outcome) → 1 < end_status r → 1 < end_status (weighed_by mesh r)
-by_high mesh (Ok bytes) high = weighed_high (lengths_in mesh bytes)
-by_high mesh (Err o) high = high
-
-for_high : (b : Bool) (mesh : Mesh) (r : Result (List ℕ) Outcome) (lengths : List ℕ) → 1 < end_status r → 1 < end_status (if b then Ok lengths else weighed_by mesh r)
-for_high true mesh r lengths high = omega arith
-for_high false mesh r lengths high = by_high mesh r high
-
-lengths_refuse : (word : List ℕ) (mesh : Mesh) (files : Files) → Refusing (HasLengths word mesh files)
-lengths_refuse word mesh files =
-    stated (weighed_for word mesh files) (for_high (bytes_eq word (codes "unit")) mesh (within_text (bytes_of files word)) (replicate (edge_count mesh) 1) (within_high (bytes_of files word)))
-
-based_high : (b : Bool) (base : ℕ) (o : Outcome) → 1 < status_of o → 1 < end_status (if b then Ok base else Err o)
-based_high true base o high = omega arith
-based_high false base o high = high
+for_high : (b : Bool) (r : Result (List ℕ) Outcome) (lengths : List ℕ) → 1 < end_status r → 1 < end_status (if b then Ok lengths else r)
+for_high true r lengths high = omega arith
+for_high false r lengths high = high
 
 pub measured_refuses : (word : List ℕ) (mesh : Mesh) (files : Files) → Refusing (IsMeasured word mesh files)
-measured_refuses word mesh files o is = lengths_refuse word mesh files o is
+measured_refuses word mesh files o is =
+    stated (weighed_for word mesh files)
+    (for_high (bytes_eq word (codes "unit")) _ (replicate (edge_count mesh) 1)
+    (then_high (λ bytes. refused_by length_cause (lengths_in mesh bytes)) (λ bytes. refused_high length_cause length_due (lengths_in mesh bytes))
+    (within_text (bytes_of files word)) (within_high (bytes_of files word)))) o is
 
-pub weighted_refuses : (word : List ℕ) (base : ℕ) (mesh : Mesh) (files : Files) → Refusing (IsWeighted word base mesh files)
-weighted_refuses word base mesh files o (inl is) = lengths_refuse word mesh files o is
-weighted_refuses word base mesh files o (inr (lengths, is, off)) = stated (based base mesh) (based_high (nat_lt base mesh.vertices) base (refuses 7 (base_line base mesh.vertices)) (omega arith)) o off
-
-walked_high : (file : WalkFile) (r : Result (List ℕ) WalkFault) → 1 < end_status (walked file r)
-walked_high file (Ok walk) = omega arith
-walked_high file (Err fault) = due_refuses (walk_cause file fault) (walk_due file fault)
-
-walked_by_high : (file : WalkFile) (mesh : Mesh) (r : Result (List ℕ) Outcome) → 1 < end_status r → 1 < end_status (walked_by file mesh r)
-walked_by_high file mesh (Ok bytes) high = walked_high file (walk_in mesh bytes)
-walked_by_high file mesh (Err o) high = high
+pub base_refuses : (base : ℕ) (mesh : Mesh) → Refusing (HasBase base mesh)
+base_refuses base mesh o is = subst (λ (x : Outcome). 1 < status_of x) (sym is.1) (omega arith)
 
 pub walk_refuses : (file : WalkFile) (name : List ℕ) (mesh : Mesh) (files : Files) → Refusing (HasWalk file name mesh files)
 walk_refuses file name mesh files o is =
-    stated (walk_named file name mesh files) (walked_by_high file mesh (within_text (bytes_of files name)) (within_high (bytes_of files name))) o is
+    stated (walk_named file name mesh files)
+    (then_high (λ bytes. refused_by (walk_cause file) (walk_in mesh bytes)) (λ bytes. refused_high (walk_cause file) (walk_due file) (walk_in mesh bytes))
+    (within_text (bytes_of files name)) (within_high (bytes_of files name))) o is
 
 -- so what ends with status 0 or 1 ends in the second step
-pub goes_on : {A : Type 0} (first : Result A Outcome → Type 0) (second : A → Outcome → Type 0) (o : Outcome) → Refusing first → status_of o ≤ 1 →
-    Ends first second o → (a : A) × first (Ok a) × second a o
-goes_on first second o refusing low (inl ended) = absurd (let high = refusing o ended in omega (arith, low, high))
-goes_on first second o refusing low (inr went) = went
+pub goes_on : {A : Type 0} {first : Result A Outcome → Type 0} {second : A → Outcome → Type 0} (o : Outcome) → Ends first second o → Refusing first → status_of o ≤ 1 →
+    (a : A) × first (Ok a) × second a o
+goes_on o (stops ended) refusing low = absurd (let high = refusing o ended in omega (arith, low, high))
+goes_on o (goes a went end) refusing low = (a, went, end)
 
 -- ---- answers with status 0
 

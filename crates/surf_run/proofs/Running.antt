@@ -14,7 +14,6 @@ use Rattle.surf_cert.specs.declared.fault.CertText.TheVariants as certs
 use Rattle.surf_texts.specs.CertLines.{cert_cause}
 use Rattle.surf_geom.specs.declared.fault.GeomFault.{GeomFault}
 use Rattle.surf_geom.specs.declared.fault.GeomFault.TheVariants as geom
-use Rattle.surf_texts.specs.CoordinateLines.{geom_cause}
 use Rattle.surf_sew.specs.declared.copies.CopyFault.{CopyFault}
 use Rattle.surf_sew.specs.declared.copies.CopyFault.TheVariants as copies
 use Rattle.surf_sew.specs.declared.fault.SewFault.{SewFault}
@@ -29,11 +28,12 @@ use Rattle.surf_texts.specs.WalkLines.{walk_cause}
 use Rattle.surf_texts.specs.declared.walks.WalkFile.{WalkFile}
 use Rattle.surf_texts.specs.MeshLines.{off_cause}
 use Rattle.surf_texts.specs.SurfaceLines.{surface_cause}
-use Rattle.surf_texts.specs.LengthLines.{length_cause}
+use Rattle.surf_texts.specs.LengthLines.{length_cause, geom_cause}
 use Rattle.surf_texts.specs.Outcome.{Outcome, answers, refuses, misses}
 use Rattle.surf_texts.specs.Cause.{Cause, due, unread, starved, misused, line_of}
 use Rattle.surf_texts.specs.Refusals.{cause_of}
-use Rattle.surf_run.specs.Leads.{Leads, OnRequest}
+use Rattle.surf_run.specs.Commands.{OnRequest}
+use Rattle.surf_run.specs.Leads.{Leads}
 use Rattle.surf_answers.specs.Tells.{IsTold, Why, WhyOver, verdict_status}
 use Rattle.surf_words.specs.Words.{Request, request_of}
 use Rattle.surf_run.specs.Run.{AreTheFiles, NamesFile, PutsLine, IsDecided, IsLineOf, Refuses, WritesAnswer, WritesFront}

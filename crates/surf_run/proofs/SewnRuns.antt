@@ -9,7 +9,7 @@ use Rattle.std.proofs.lemmas.List.{length-append}
 use Rattle.std.proofs.lemmas.List.Elements.{recursion_from_All}
 use Rattle.std.proofs.lemmas.List.Sums.{sum_by-cons}
 use Rattle.surf_base.specs.Outside.{Files, bytes_of}
-use Rattle.surf_base.specs.declared.limits.LimitKind.TheVariants.{Text}
+use Rattle.surf_base.specs.declared.limits.LimitKind.TheVariants.{Text, Loops}
 use Rattle.surf_disc.proofs.TableLaws.{edges_within}
 use Rattle.surf_off.specs.Off.{OffParts, off_of, off_without_limits}
 use Rattle.surf_off.specs.Keywords.{keyword}
@@ -26,17 +26,17 @@ use Rattle.surf_sew.proofs.Faults.{sewn_sides}
 use Rattle.surf_sew.proofs.Limits.{limits_are_kept}
 use Rattle.surf_surfaces.specs.Mesh.{Mesh, IsFace}
 use Rattle.surf_surfaces.specs.SideNumber.{side_count}
-use Rattle.surf_surfaces.specs.Surface.{face_count, edge_count, IsSurface}
-use Rattle.surf_texts.specs.Cause.{misused}
+use Rattle.surf_surfaces.specs.Surface.{face_count, edge_count, loop_count, IsSurface}
+use Rattle.surf_texts.specs.Cause.{misused, refused_by}
 use Rattle.surf_answers.specs.Cuts.{GivesCut, cut_text, is_trimmed}
-use Rattle.surf_run.specs.Given.{IsFewLoopedText, IsWeighted}
-use Rattle.surf_run.specs.Leads.{Answer, Leads, OnRequest}
+use Rattle.surf_run.specs.Commands.{OnRequest}
+use Rattle.surf_run.specs.Leads.{Answer, Leads}
 use Rattle.surf_texts.specs.Limits.{beyond}
-use Rattle.surf_run.specs.MeshTexts.{read_outcome}
+use Rattle.surf_texts.specs.MeshLines.{off_cause}
+use Rattle.surf_texts.specs.SewingLines.{copy_cause, sew_cause}
 use Rattle.surf_texts.specs.Outcome.{Outcome, answers, status_of}
 use Rattle.surf_run.specs.Reading.{Reads, within_text}
-use Rattle.surf_run.specs.Sewing.{copied, sewn}
-use Rattle.surf_run.specs.Tasks.{Performs, OnSurface, OnText}
+use Rattle.surf_run.specs.Steps.{goes}
 use Rattle.surf_run.specs.TwoRuns.{CanBeRead, IsSewnBack, CutsAreSewn}
 use Rattle.surf_words.specs.Words.{word_number, cut_task, weighted_request}
 use Rattle.surf_words.specs.declared.tasks.CutKind.TheVariants.{Full, Trimmed}
@@ -44,7 +44,7 @@ use Rattle.surf_words.specs.declared.tasks.Task.{Task}
 use Rattle.surf_words.specs.declared.tasks.Task.TheVariants.{Distances, LeastLoops, LoopCertificate, Cut}
 use Rattle.surf_run.proofs.CertSizes.{length_of_three, length_of_four}
 use Rattle.surf_run.proofs.MeshReads.{IsRead, mesh_texts_are_read}
-use Rattle.surf_run.proofs.Refusing.{reads_refuses, looped_refuses, weighted_refuses, goes_on, shown_low, shown_text}
+use Rattle.surf_run.proofs.Refusing.{reads_refuses, surface_refuses, limit_refuses, measured_refuses, base_refuses, goes_on, shown_low, shown_text}
 use Rattle.surf_answers.proofs.Saying.{says_whole}
 use Rattle.surf_run.proofs.TextLaws.{mesh_texts_are_few}
 use Rattle.surf_run.proofs.TwoRuns.{read_back, read_again}
@@ -174,20 +174,20 @@ held_is files name bytes reads = at (bytes_of files name) reads
     item (Ok b) = b
     item (Err o) = []
 
-    goes : Result (List ℕ) Outcome → Type 0
-    goes (Ok b) = Unit {0}
-    goes (Err o) = ⊥
+    WasRead : Result (List ℕ) Outcome → Type 0
+    WasRead (Ok b) = Unit {0}
+    WasRead (Err o) = ⊥
 
     kept : (long : Bool) (b : List ℕ) → long ≡ nat_lt 268435456 (length b) →
         Ok bytes ≡ (if long then Err (beyond Text) else Ok b) →
         (Some b ≡ Some bytes) × (length bytes ≤ 268435456)
-    kept true b same is = absurd (subst goes is tt)
+    kept true b same is = absurd (subst WasRead is tt)
     kept false b same is =
         let back : b ≡ bytes = sym (ap item is) in
         (ap Some back, subst (λ (x : List ℕ). length x ≤ 268435456) back (ltb-false _ _ (sym same)))
 
     at : (found : Option (List ℕ)) → Ok bytes ≡ within_text found → (found ≡ Some bytes) × (length bytes ≤ 268435456)
-    at None is = absurd (subst goes is tt)
+    at None is = absurd (subst WasRead is tt)
     at (Some b) is = kept (nat_lt 268435456 (length b)) b refl is
 
 -- what was sewn had no fault
@@ -285,39 +285,22 @@ module _ (bytes : List ℕ) (read : OffParts × Mesh) (within : length bytes ≤
         Answer (codes "sew" ∷ disc ∷ []) later 0 sewn_back []
     unfolding Leads
     sews_back later disc held =
-        let read_is : Ok (opened_parts parts origins, opened origins faces) ≡ read_outcome (off_of text) =
-        sym (ap read_outcome opened_read) in
-        let copies_are : Ok origins ≡ copied (length origins) (copies_in text (length origins)) =
-        sym (ap (λ (t : List ℕ). copied (length origins) (copies_in t (length origins))) text_is
-        ∙ ap (copied (length origins)) (copies_are_reread parts mesh origins faces cut)) in
+        let read_is : Ok (opened_parts parts origins, opened origins faces) ≡ refused_by off_cause (off_of text) =
+        sym (ap (refused_by off_cause) opened_read) in
+        let copies_are : Ok origins ≡ refused_by (copy_cause (length origins)) (copies_in text (length origins)) =
+        sym (ap (λ (t : List ℕ). refused_by (copy_cause (length origins)) (copies_in t (length origins))) text_is
+        ∙ ap (refused_by (copy_cause (length origins))) (copies_are_reread parts mesh origins faces cut)) in
         let sewn_is :
-        Ok mesh ≡ sewn (sewn_of (opened_parts parts origins).vertex_lines (opened origins faces) origins) =
-        sym (ap sewn (opened_are_sewn parts mesh origins faces cut).0) in (
+        Ok mesh ≡ refused_by sew_cause (sewn_of (opened_parts parts origins).vertex_lines (opened origins faces) origins) =
+        sym (ap (refused_by sew_cause) (opened_are_sewn parts mesh origins faces cut).0) in (
           answers 0 sewn_back,
-          inr (
-            text,
-            read_again later disc text held can.short,
-            inr (
-              (opened_parts parts origins, opened origins faces),
-              read_is,
-              inr (
-                origins,
-                copies_are,
-                inr (
-                  mesh,
-                  sewn_is,
-                  inr (
-                    gives.is_cut.opening.is_disc,
-                    inr (
-                      mesh,
-                      (refl, surface),
-                      record { says = says_whole sewn_back sewn_back refl sewn_short; rereads = sewn_rereads },
-                    ),
-                  ),
-                ),
-              ),
-            ),
-          ),
+          goes text (read_again later disc text held can.short)
+              (goes (opened_parts parts origins, opened origins faces) read_is (goes origins copies_are (goes mesh sewn_is
+              (inr (
+                gives.is_cut.opening.is_disc,
+                goes mesh (refl, surface)
+                    (record { says = says_whole sewn_back sewn_back refl sewn_short; rereads = sewn_rereads }),
+              ))))),
           (refl, refl, refl),
         )
 
@@ -356,26 +339,23 @@ cuts_are_sewn files later mesh lengths base kind disc text (o, leads, shows) hel
     at (Some LoopCertificate) x cut on = absurd cut
     at (Some (Cut k)) None cut on = refuses on
     at (Some (Cut k)) (Some b) cut on =
-        let (bytes, reads, on_text) = goes_on (Reads mesh files) (λ x. OnText (Cut k) x lengths b files) o
-        (reads_refuses mesh files) low on in
-        let (read, looped, on_surface) =
-        goes_on (IsFewLoopedText true bytes) (λ x. OnSurface (Cut k) x lengths b files) o
-        (looped_refuses true bytes) low on_text in
-        let (given, weighted, gives) =
-        goes_on (IsWeighted lengths b read.1 files) (Performs (Cut k) read) o
-        (weighted_refuses lengths b read.1 files) low on_surface in
+        let (bytes, reads, on_text) = goes_on o on (reads_refuses mesh files) low in
+        let (read, is_surface, on_surface) = goes_on o on_text (surface_refuses bytes) low in
+        let (_, few, on_few) = goes_on o on_surface (limit_refuses Loops 1024 (loop_count read.1)) low in
+        let (values, measured, on_lengths) = goes_on o on_few (measured_refuses lengths read.1 files) low in
+        let (vertex, based, gives) = goes_on o on_lengths (base_refuses b read.1) low in
         let text_is = shown_text (cut_text read.0 gives.origins gives.faces) o text gives.says shows in
-        let is_read = read_back read (off_of bytes) looped.0.0 in
+        let is_read = read_back off_cause read (off_of bytes) is_surface.0 in
         let here = held_is files mesh bytes reads in
-        let surface : IsSurface read.1 = looped.0.1 in
+        let surface : IsSurface read.1 = is_surface.1 in
         record {
           bytes = bytes;
           held = here.0;
           read = read;
           is_read = is_read;
-          text = sewn_back bytes read here.1 is_read surface (is_trimmed k) given.0 given.1 o gives text text_is can;
+          text = sewn_back bytes read here.1 is_read surface (is_trimmed k) values vertex o gives text text_is can;
           sews = sews_back bytes read here.1 is_read surface
-              (is_trimmed k) given.0 given.1 o gives text text_is can later disc held;
+              (is_trimmed k) values vertex o gives text text_is can later disc held;
           reads_so = sewn_read bytes read here.1 is_read surface
-              (is_trimmed k) given.0 given.1 o gives text text_is can;
+              (is_trimmed k) values vertex o gives text text_is can;
         }

@@ -4,7 +4,6 @@ use Rattle.std.specs.Prelude.{nat_lt, nat_le, ◌&&◌, if◌then◌else◌, IfS
 use Rattle.std.specs.Str.{bytes_eq}
 use Rattle.std.proofs.lemmas.Bool.{cases_Bool, and_parts, leb-true}
 use Rattle.std.proofs.lemmas.List.FromFn.{get_or-map-range_with_len}
-use Rattle.surf_base.specs.declared.limits.LimitKind.TheVariants as limits
 use Rattle.surf_gen.specs.Made.{made_length, made_values}
 use Rattle.surf_surfaces.specs.Mesh.{Mesh}
 use Rattle.surf_surfaces.specs.Surface.{face_count, edge_count, IsSurface, loop_count}
@@ -12,12 +11,7 @@ use Rattle.surf_surfaces.specs.Walk.{ArePositive}
 use Rattle.surf_tori.specs.Chain.{chain}
 use Rattle.surf_tori.proofs.ChainLaws.{chains_are_surfaces}
 use Rattle.surf_tori.proofs.TorusLaws.{tori_are_surfaces}
-use Rattle.surf_run.specs.Given.{searchable}
-use Rattle.surf_texts.specs.Limits.{beyond}
-use Rattle.surf_run.specs.Making.{made}
-use Rattle.surf_texts.specs.Outcome.{Outcome}
 use Rattle.surf_words.specs.Shapes.{Shape, IsShape, mesh_of, torus_shape, chain_shape, torus_named, chain_named}
-use Rattle.surf_run.specs.Trying.{searched, then_searched, IsTried}
 use Rattle.surf_words.specs.Words.{Request, help, version, info, disc, tries, checks, sews, classes, compares, confirms, tightens, word_number, task_of, cut_task, weighted_request, cycle_task, cycles_request, shape_request, measures_request, decimals_of, tried_request, torus_words, chain_words, three_words, four_words, five_words, six_words, request_of}
 use Rattle.surf_words.specs.declared.tasks.CycleTask.{CycleTask}
 use Rattle.surf_words.specs.declared.tasks.Task.{Task}
@@ -153,42 +147,12 @@ words_are_well_shaped (word ∷ second ∷ third ∷ fourth ∷ fifth ∷ sixth 
 
 -- ---- their meshes
 
-shape_is_surface : (s : Shape) → IsShape s → IsSurface (mesh_of s)
+pub shape_is_surface : (s : Shape) → IsShape s → IsSurface (mesh_of s)
 shape_is_surface s is = elim is.longer [
   | inl one ↦ subst (λ g. IsSurface (chain g s.rows s.columns)) (sym one)
       (tori_are_surfaces s.rows s.columns is.rows is.columns)
   | inr four ↦ chains_are_surfaces s.tori s.rows s.columns is.some four.0 four.1
 ]
-
--- what goes on is the mesh that was tested
-abbrev pub IsMeshIn : Mesh → Result Mesh Outcome → Type 0
-IsMeshIn mesh (Ok m) = m ≡ mesh
-IsMeshIn mesh (Err o) = Unit {0}
-
-if_mesh : (b : Bool) (o : Outcome) (mesh : Mesh) (r : Result Mesh Outcome) → IsMeshIn mesh r →
-    IsMeshIn mesh (if b then Err o else r)
-if_mesh true o mesh r is = tt
-if_mesh false o mesh r is = is
-
-searched_is : (mesh m : Mesh) → m ≡ mesh → IsMeshIn mesh (searched m)
-searched_is mesh m is =
-    if_mesh (nat_lt 1024 (loop_count m)) (beyond limits.Loops) mesh (searchable (limits.BasisVertices, 20000) m)
-    (if_mesh (nat_lt 20000 m.vertices) (beyond limits.BasisVertices) mesh (Ok m) is)
-
-then_is : (mesh : Mesh) (r : Result Mesh Outcome) → IsMeshIn mesh r → IsMeshIn mesh (then_searched r)
-then_is mesh (Ok m) is = searched_is mesh m is
-then_is mesh (Err o) is = tt
-
-tried_mesh : (shape : Shape) (mesh : Mesh) → IsTried shape (Ok mesh) → mesh ≡ mesh_of shape
-tried_mesh shape mesh is =
-    subst (IsMeshIn (mesh_of shape)) (sym is)
-    (then_is (mesh_of shape) (made (mesh_of shape))
-    (if_mesh (nat_lt 1000000 (mesh_of shape).vertices) (beyond limits.Vertices) (mesh_of shape) _
-    (if_mesh (nat_lt 2000000 (face_count (mesh_of shape))) (beyond limits.Faces) (mesh_of shape)
-    (Ok (mesh_of shape)) refl)))
-
-pub tried_is_surface : (shape : Shape) (mesh : Mesh) → IsShape shape → IsTried shape (Ok mesh) → IsSurface mesh
-tried_is_surface shape mesh shaped is = subst IsSurface (sym (tried_mesh shape mesh is)) (shape_is_surface shape shaped)
 
 pub made_are_positive : (mesh : Mesh) (scatter : ℕ) → ArePositive mesh (made_values mesh scatter)
 made_are_positive mesh scatter e l =

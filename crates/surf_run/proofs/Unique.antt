@@ -3,34 +3,31 @@ use Rattle.std.proofs.Common.{◌≡◌, ◌⊎◌, ◌≤◌, inl, inr, ℕ, �
 use Rattle.std.specs.Prelude.{nat_lt, if◌then◌else◌, codes}
 use Rattle.std.proofs.lemmas.Bool.{cases_eq, cases_lt}
 use Rattle.surf_base.specs.Outside.{Files, bytes_of}
+use Rattle.surf_texts.specs.LengthLines.{geom_cause}
 use Rattle.surf_texts.specs.Outcome.{Outcome, answers, refuses, misses, Shows, status_of}
-use Rattle.surf_run.specs.Steps.{Ends}
-use Rattle.surf_run.specs.Reading.{Reads, within_text}
+use Rattle.surf_run.specs.Steps.{Ends, stops, goes, AtMost}
+use Rattle.surf_run.specs.Reading.{Reads, within_text, IsMeshText, EndsInFault, IsSurfaceOf, IsSurfaceText, weighed_for, IsMeasured, HasBase, walk_named, HasWalk, IsEvidenceText}
 use Rattle.surf_surfaces.specs.Mesh.{Mesh, characteristic}
 use Rattle.surf_surfaces.specs.Surface.{edge_count, IsSurface, loop_count}
 use Rattle.surf_off.specs.Written.{soup_text}
-use Rattle.surf_run.specs.Making.{made, IsMade}
-use Rattle.surf_answers.specs.Making.{GivesMesh}
 use Rattle.surf_words.specs.Shapes.{mesh_of}
 use Rattle.surf_gen.specs.Made.{made_values}
 use Rattle.surf_answers.specs.Summaries.{total_size, LoopsTotal, BasisTotals, CycleMeasures, GivesSummary}
 use Rattle.surf_texts.specs.SummaryTexts.{measures_text}
-use Rattle.surf_run.specs.Trying.{IsTried, then_searched}
 use Rattle.surf_check.proofs.FaultLaws.{fault_only}
 use Rattle.surf_disc.proofs.FaultLaws.{fault_only as disc_fault_only}
 use Rattle.surf_off.specs.Off.{OffParts, off_of}
-use Rattle.surf_texts.specs.Cause.{outcome_of}
+use Rattle.surf_texts.specs.Cause.{outcome_of, refused_by}
+use Rattle.surf_texts.specs.CertLines.{cert_cause}
+use Rattle.surf_texts.specs.MeshLines.{off_cause}
+use Rattle.surf_texts.specs.SewingLines.{copy_cause, sew_cause}
 use Rattle.surf_geom.specs.Measures.{measures_in}
 use Rattle.surf_geom.specs.Texts.{lengths_text}
-use Rattle.surf_run.specs.Coordinates.{measured, Measures, OnCoordinates, OnLengthsText}
-use Rattle.surf_answers.specs.Coordinates.{GivesMeasures}
 use Rattle.surf_answers.specs.Cuts.{is_trimmed, cut_text}
 use Rattle.surf_answers.specs.Discs.{JudgesDisc, SaysNoDisc}
 use Rattle.surf_texts.specs.DiscLines.{no_line}
 use Rattle.surf_answers.specs.Info.{Informs}
 use Rattle.surf_texts.specs.SummaryTexts.{mesh_counts, genus_text, crosscaps_text}
-use Rattle.surf_run.specs.Given.{looped, searchable, HasFewLoops, HasFewVertices, IsFewLoopedText, IsSearchableText, IsMeasured, IsWeighted}
-use Rattle.surf_run.specs.Weights.{HasLengths, HasBase, weighed_for, based}
 use Rattle.surf_answers.specs.Says.{Says}
 use Rattle.surf_texts.specs.Limits.{beyond}
 use Rattle.surf_cert.specs.Grammar.{parsed_cert}
@@ -40,20 +37,16 @@ use Rattle.surf_cert.specs.declared.cert.Cert.TheVariants as certs
 use Rattle.surf_certcheck.proofs.LoopFaults.{no_loop_fault}
 use Rattle.surf_certcheck.proofs.OneBasisFault.{one_basis_fault, no_basis_fault}
 use Rattle.surf_certcheck.proofs.OneFault.{one_loop_fault}
-use Rattle.surf_run.specs.CertTexts.{IsCertText, certified, then_bounded}
-use Rattle.surf_run.specs.Checking.{OnCheckedText, OnCheckedMesh, OnCertFile, OnCertText}
 use Rattle.surf_texts.specs.VerdictLines.{fault_line}
 use Rattle.surf_answers.specs.Verdicts.{JudgesCert}
-use Rattle.surf_run.specs.CycleTasks.{Finds, OnMesh, OnMeshText}
 use Rattle.surf_words.specs.TaskLimits.{vertex_limit}
-use Rattle.surf_run.specs.Tasks.{Performs, OnSurface, OnText}
 use Rattle.surf_words.specs.TaskLimits.{is_limited}
 use Rattle.surf_words.specs.declared.tasks.CycleTask.{CycleTask}
 use Rattle.surf_words.specs.declared.tasks.CycleTask.TheVariants.{Basis, Shortest, BasisCertificate}
 use Rattle.surf_run.specs.OneAnswer.{OutcomesAreOne, AnswersAreOne}
 use Rattle.surf_run.proofs.CycleLaws.{firsts_are_one}
 use Rattle.surf_run.proofs.OneFaults.{surface_faults_are_one, disc_faults_are_one, class_faults_are_one}
-use Rattle.surf_run.proofs.ShapeWords.{IsWellShaped, words_are_well_shaped, tried_is_surface, made_are_positive}
+use Rattle.surf_run.proofs.ShapeWords.{IsWellShaped, words_are_well_shaped, shape_is_surface, made_are_positive}
 use Rattle.surf_words.specs.declared.tasks.Task.{Task}
 use Rattle.surf_words.specs.declared.tasks.Task.TheVariants.{Distances, LeastLoops, LoopCertificate, Cut}
 use Rattle.surf_base.specs.declared.limits.LimitKind.{LimitKind}
@@ -72,31 +65,26 @@ use Rattle.surf_texts.specs.CycleTexts.{cycle_line, cycles_text}
 use Rattle.surf_texts.specs.DistanceTexts.{distances_text}
 use Rattle.surf_texts.specs.LoopTexts.{loops_text}
 use Rattle.surf_texts.proofs.TreeTextLaws.{texts_same}
-use Rattle.surf_run.specs.MeshTexts.{IsMeshText, read_outcome}
 use Rattle.surf_texts.specs.SurfaceLines.{surface_cause}
-use Rattle.surf_run.specs.Surfaces.{EndsInFault, IsSurfaceOf, IsSurfaceText}
 use Rattle.surf_run.specs.Run.{IsDecided}
 use Rattle.surf_sew.specs.Copies.{copies_in}
 use Rattle.surf_sew.specs.Sewing.{sewn_of}
 use Rattle.surf_sew.specs.Texts.{sewn_text}
-use Rattle.surf_run.specs.Sewing.{copied, sewn, HasOrigins, IsSewn, OnSewnMesh, OnOrigins, OnCopies, OnSewText}
+use Rattle.surf_run.specs.Sewing.{OnSewnMesh}
 use Rattle.surf_answers.specs.Sewing.{GivesSewn}
 use Rattle.surf_class.specs.Evidences.{evidence_in}
 use Rattle.surf_class.specs.Texts.{evidence_text}
 use Rattle.surf_classes.specs.Evidence.{Evidence, AreClosed}
 use Rattle.surf_classes.proofs.ChosenEvidence.{class_evidence_is_one}
 use Rattle.surf_answers.specs.Classes.{null_word, odd_word, GivesClass}
-use Rattle.surf_run.specs.Classes.{OnClassMesh, OnClassText, OnSecond, OnSameMesh, OnSameText}
-use Rattle.surf_run.specs.Confirming.{evident, IsEvidenceText, OnEvidenceText, OnEvidenceFile, OnConfirmMesh, OnConfirmText}
-use Rattle.surf_texts.specs.EvidenceLines.{wrong_line}
+use Rattle.surf_texts.specs.EvidenceLines.{wrong_line, evidence_cause}
 use Rattle.surf_answers.specs.Confirming.{JudgesEvidence}
-use Rattle.surf_run.specs.Walks.{walk_named, HasWalk}
 use Rattle.surf_texts.specs.declared.walks.WalkFile.{WalkFile}
 use Rattle.surf_texts.specs.declared.walks.WalkFile.TheVariants.{First, Second}
 use Rattle.surf_classes.proofs.ChosenWalks.{chosen_walk_is_one}
-use Rattle.surf_run.specs.Tightening.{covered, HasSmallCover, OnTightLengths, OnTightMesh, OnCovered, OnTightText}
 use Rattle.surf_answers.specs.Tightening.{shortest_line, GivesShortestWalk}
-use Rattle.surf_run.specs.Leads.{Leads, Answer, OnRequest, OnInfoText, OnDiscText}
+use Rattle.surf_run.specs.Commands.{Finds, OnRequest, Performs}
+use Rattle.surf_run.specs.Leads.{Leads, Answer}
 use Rattle.surf_words.specs.Words.{Request, help, version, info, disc, cycles, weighted, makes, tries, checks, measures, sews, classes, compares, confirms, tightens, request_of}
 
 -- two results of a step go on with one value, or end in one outcome
@@ -125,19 +113,23 @@ pub one_outcome : (x : Outcome) → HasOneOutcome (λ o. o ≡ x)
 one_outcome x = λ o p first second. first ∙ sym second
 
 -- where each step has one result, so has what comes of them
-pub one_end : {A : Type 0} (first : Result A Outcome → Type 0) (second : A → Outcome → Type 0) →
+pub one_end : {A : Type 0} {first : Result A Outcome → Type 0} {second : A → Outcome → Type 0} →
     IsOne first → ((a : A) → first (Ok a) → HasOneOutcome (second a)) → HasOneOutcome (Ends first second)
-one_end {A} first second one rest = at
+one_end {A} {first} {second} one rest = at
   where
     at : (o p : Outcome) → Ends first second o → Ends first second p → o ≡ p
-    at o p (inl x) (inl y) = one (Err o) (Err p) x y
-    at o p (inl x) (inr y) = absurd (one (Err o) (Ok y.0) x y.1)
-    at o p (inr x) (inl y) = absurd (one (Ok x.0) (Err p) x.1 y)
-    at o p (inr x) (inr y) = rest y.0 y.1 o p (subst (λ (a : A). second a o) (one (Ok x.0) (Ok y.0) x.1 y.1) x.2) y.2
+    at o p (stops x) (stops y) = one (Err o) (Err p) x y
+    at o p (stops x) (goes b went end) = absurd (one (Err o) (Ok b) x went)
+    at o p (goes a went end) (stops y) = absurd (one (Ok a) (Err p) went y)
+    at o p (goes a went end) (goes b too last) = rest b too o p (subst (λ (x : A). second x o) (one (Ok a) (Ok b) went too) end) last
+
+-- a file is read in one way
+one_file : (name : List ℕ) (files : Files) → IsOne (Reads name files)
+one_file name files = one_result (within_text (bytes_of files name))
 
 -- no step reads one text of a mesh as two things
 pub one_mesh_text : (bytes : List ℕ) → IsOne (IsMeshText bytes)
-one_mesh_text bytes = one_result (read_outcome (off_of bytes))
+one_mesh_text bytes = one_result (refused_by off_cause (off_of bytes))
 
 -- a surface that isn't one has one first fault
 one_fault_of : (mesh : Mesh) (o p : Outcome) → EndsInFault mesh o → EndsInFault mesh p → o ≡ p
@@ -188,88 +180,40 @@ one_judgement mesh o p (inl x) (inr y) = absurd (y.isnt_memory (disc_fault_only 
 one_judgement mesh o p (inr x) (inl y) = absurd (x.isnt_memory (disc_fault_only mesh x.fault x.is_fault y.is_disc))
 one_judgement mesh o p (inr x) (inr y) = one_no_disc mesh o p x y
 
-one_looped_text : (limited : Bool) (bytes : List ℕ) → IsOne (IsFewLoopedText limited bytes)
-one_looped_text limited bytes (Ok a) (Ok b) x y = one_surface_text bytes (Ok a) (Ok b) x.0 y.0
-one_looped_text limited bytes (Ok a) (Err p) x (inl y) = one_surface_text bytes (Ok a) (Err p) x.0 y
-one_looped_text limited bytes (Ok a) (Err p) x (inr y) =
-    one_result (looped limited a.1) (Ok a.1) (Err p) x.1
-    (subst (λ (read : OffParts × Mesh). HasFewLoops limited read.1 (Err p)) (one_surface_text bytes (Ok y.0) (Ok a) y.1 x.0) y.2)
-one_looped_text limited bytes (Err o) (Ok b) (inl x) y = one_surface_text bytes (Err o) (Ok b) x y.0
-one_looped_text limited bytes (Err o) (Ok b) (inr x) y =
-    one_result (looped limited b.1) (Err o) (Ok b.1)
-    (subst (λ (read : OffParts × Mesh). HasFewLoops limited read.1 (Err o)) (one_surface_text bytes (Ok x.0) (Ok b) x.1 y.0) x.2) y.1
-one_looped_text limited bytes (Err o) (Err p) (inl x) (inl y) = one_surface_text bytes (Err o) (Err p) x y
-one_looped_text limited bytes (Err o) (Err p) (inl x) (inr y) = absurd (one_surface_text bytes (Err o) (Ok y.0) x y.1)
-one_looped_text limited bytes (Err o) (Err p) (inr x) (inl y) = absurd (one_surface_text bytes (Ok x.0) (Err p) x.1 y)
-one_looped_text limited bytes (Err o) (Err p) (inr x) (inr y) =
-    one_result (looped limited y.0.1) (Err o) (Err p)
-    (subst (λ (read : OffParts × Mesh). HasFewLoops limited read.1 (Err o)) (one_surface_text bytes (Ok x.0) (Ok y.0) x.1 y.1) x.2) y.2
+-- a count is at most its limit, or greater
+one_at_most : (kind : LimitKind) (most count : ℕ) → IsOne (AtMost kind most count)
+one_at_most kind most count (Ok a) (Ok b) x y = refl
+one_at_most kind most count (Ok a) (Err p) x y = let over = y.0 in absurd (omega (arith, x, over))
+one_at_most kind most count (Err o) (Ok b) x y = let over = x.0 in absurd (omega (arith, over, y))
+one_at_most kind most count (Err o) (Err p) x y = x.1 ∙ sym y.1
 
-module _ (word : List ℕ) (base : ℕ) (mesh : Mesh) (files : Files) where
-  lengths_agree : IsOne (HasLengths word mesh files)
-  lengths_agree = one_result (weighed_for word mesh files)
-
-  base_agrees : IsOne (HasBase base mesh)
-  base_agrees = one_result (based base mesh)
-
-  one_weighted : IsOne (IsWeighted word base mesh files)
-  one_weighted (Ok a) (Ok b) x y = pair_same a b (lengths_agree (Ok a.0) (Ok b.0) x.0 y.0) (base_agrees (Ok a.1) (Ok b.1) x.1 y.1)
-    where
-      pair_same : (a b : List ℕ × ℕ) → a.0 ≡ b.0 → a.1 ≡ b.1 → a ≡ b
-      pair_same a b p q = ap (λ l. (l, a.1)) p ∙ ap (λ n. (b.0, n)) q
-  one_weighted (Ok a) (Err p) x (inl y) = lengths_agree (Ok a.0) (Err p) x.0 y
-  one_weighted (Ok a) (Err p) x (inr y) = base_agrees (Ok a.1) (Err p) x.1 y.2
-  one_weighted (Err o) (Ok b) (inl x) y = lengths_agree (Err o) (Ok b.0) x y.0
-  one_weighted (Err o) (Ok b) (inr x) y = base_agrees (Err o) (Ok b.1) x.2 y.1
-  one_weighted (Err o) (Err p) (inl x) (inl y) = lengths_agree (Err o) (Err p) x y
-  one_weighted (Err o) (Err p) (inl x) (inr y) = absurd (lengths_agree (Err o) (Ok y.0) x y.1)
-  one_weighted (Err o) (Err p) (inr x) (inl y) = absurd (lengths_agree (Ok x.0) (Err p) x.1 y)
-  one_weighted (Err o) (Err p) (inr x) (inr y) = base_agrees (Err o) (Err p) x.2 y.2
+one_base : (base : ℕ) (mesh : Mesh) → IsOne (HasBase base mesh)
+one_base base mesh (Ok a) (Ok b) x y = x.0 ∙ sym y.0
+one_base base mesh (Ok a) (Err p) x y = let under = x.1 in let over = y.0 in absurd (omega (arith, under, over))
+one_base base mesh (Err o) (Ok b) x y = let over = x.0 in let under = y.1 in absurd (omega (arith, over, under))
+one_base base mesh (Err o) (Err p) x y = x.1 ∙ sym y.1
 
 -- one text is said in one way
 says_same : (t u : List ℕ) (o p : Outcome) → t ≡ u → Says t o → Says u p → o ≡ p
 says_same t u o p same x y = x ∙ ap (λ s. if nat_lt 1073741824 (length s) then beyond limits.Answer else answers 0 s) same ∙ sym y
 
-one_performance : (task : Task) (read : OffParts × Mesh) (given : List ℕ × ℕ) → IsSurface read.1 → ArePositive read.1 given.0 → HasOneOutcome (Performs task read given)
-one_performance Distances read given surface lengths o p x y =
+one_performance : (task : Task) (read : OffParts × Mesh) (lengths : List ℕ) (base : ℕ) → IsSurface read.1 → ArePositive read.1 lengths → HasOneOutcome (Performs task read lengths base)
+one_performance Distances read lengths base surface long o p x y =
     says_same (distances_text read.1.vertices x.tree) (distances_text read.1.vertices y.tree) o p
-    (texts_same read.1 given.1 x.tree y.tree (shortest_trees_are_one read.1 given.0 given.1 x.tree y.tree surface lengths x.shortest y.shortest) x.shortest.root y.shortest.root)
+    (texts_same read.1 base x.tree y.tree (shortest_trees_are_one read.1 lengths base x.tree y.tree surface long x.shortest y.shortest) x.shortest.root y.shortest.root)
     x.says y.says
-one_performance LeastLoops read given surface lengths o p x y =
-    says_same (loops_text (loops_at read.1 given.0 given.1 x.trees)) (loops_text (loops_at read.1 given.0 given.1 y.trees)) o p
-    (ap loops_text (loops_are_one read.1 given.0 given.1 x.trees y.trees surface lengths x.chosen y.chosen)) x.says y.says
-one_performance LoopCertificate read given surface lengths o p x y =
-    says_same (loop_text (chosen_cert read.1 x.trees)) (loop_text (chosen_cert read.1 y.trees)) o p
-    (ap loop_text (chosen_certs_are_one read.1 given.0 given.1 x.trees y.trees surface lengths x.chosen y.chosen)) x.says y.says
-one_performance (Cut kind) read given surface lengths o p x y =
-    let same = openings_at_are_one read.1 given.0 given.1 x.is_cut.trees y.is_cut.trees (is_trimmed kind) x.origins y.origins x.faces y.faces surface lengths
+one_performance LeastLoops read lengths base surface long o p x y =
+    says_same (loops_text (loops_at read.1 lengths base x.found.trees)) (loops_text (loops_at read.1 lengths base y.found.trees)) o p
+    (ap loops_text (loops_are_one read.1 lengths base x.found.trees y.found.trees surface long x.found.chosen y.found.chosen)) x.says y.says
+one_performance LoopCertificate read lengths base surface long o p x y =
+    says_same (loop_text (chosen_cert read.1 x.found.trees)) (loop_text (chosen_cert read.1 y.found.trees)) o p
+    (ap loop_text (chosen_certs_are_one read.1 lengths base x.found.trees y.found.trees surface long x.found.chosen y.found.chosen)) x.says y.says
+one_performance (Cut kind) read lengths base surface long o p x y =
+    let same = openings_at_are_one read.1 lengths base x.is_cut.trees y.is_cut.trees (is_trimmed kind) x.origins y.origins x.faces y.faces surface long
     x.is_cut.chosen y.is_cut.chosen x.is_cut.opened y.is_cut.opened in
     says_same (cut_text read.0 x.origins x.faces) (cut_text read.0 y.origins y.faces) o p
     (ap (λ (origins : List ℕ). cut_text read.0 origins x.faces) same.0 ∙ ap (λ (faces : List (List ℕ)). cut_text read.0 y.origins faces) same.1)
     x.says y.says
-
-one_text : (task : Task) (bytes word : List ℕ) (base : ℕ) (files : Files) → HasOneOutcome (OnText task bytes word base files)
-one_text task bytes word base files =
-    one_end (IsFewLoopedText (is_limited task) bytes) (λ read. OnSurface task read word base files) (one_looped_text (is_limited task) bytes)
-    (λ read looped. one_end (IsWeighted word base read.1 files) (Performs task read) (one_weighted word base read.1 files)
-    (λ given is. one_performance task read given looped.0.1 (lengths_positive read.1 given.0 is.2 is.3)))
-
-one_searchable : (limit : LimitKind × ℕ) (bytes : List ℕ) → IsOne (IsSearchableText limit bytes)
-one_searchable limit bytes (Ok a) (Ok b) x y = ap (λ (read : OffParts × Mesh). read.1) (one_looped_text true bytes (Ok (x.0, a)) (Ok (y.0, b)) x.1 y.1)
-one_searchable limit bytes (Ok a) (Err p) x (inl y) = one_looped_text true bytes (Ok (x.0, a)) (Err p) x.1 y
-one_searchable limit bytes (Ok a) (Err p) x (inr y) =
-    one_result (searchable limit a) (Ok a) (Err p) x.2
-    (subst (λ (read : OffParts × Mesh). HasFewVertices limit read.1 (Err p)) (one_looped_text true bytes (Ok y.0) (Ok (x.0, a)) y.1 x.1) y.2)
-one_searchable limit bytes (Err o) (Ok b) (inl x) y = one_looped_text true bytes (Err o) (Ok (y.0, b)) x y.1
-one_searchable limit bytes (Err o) (Ok b) (inr x) y =
-    one_result (searchable limit b) (Err o) (Ok b)
-    (subst (λ (read : OffParts × Mesh). HasFewVertices limit read.1 (Err o)) (one_looped_text true bytes (Ok x.0) (Ok (y.0, b)) x.1 y.1) x.2) y.2
-one_searchable limit bytes (Err o) (Err p) (inl x) (inl y) = one_looped_text true bytes (Err o) (Err p) x y
-one_searchable limit bytes (Err o) (Err p) (inl x) (inr y) = absurd (one_looped_text true bytes (Err o) (Ok y.0) x y.1)
-one_searchable limit bytes (Err o) (Err p) (inr x) (inl y) = absurd (one_looped_text true bytes (Ok x.0) (Err p) x.1 y)
-one_searchable limit bytes (Err o) (Err p) (inr x) (inr y) =
-    one_result (searchable limit y.0.1) (Err o) (Err p)
-    (subst (λ (read : OffParts × Mesh). HasFewVertices limit read.1 (Err o)) (one_looped_text true bytes (Ok x.0) (Ok y.0) x.1 y.1) x.2) y.2
 
 one_measured : (word : List ℕ) (mesh : Mesh) (files : Files) → IsOne (IsMeasured word mesh files)
 one_measured word mesh files (Ok a) (Ok b) x y = one_result (weighed_for word mesh files) (Ok a) (Ok b) x.0 y.0
@@ -279,26 +223,20 @@ one_measured word mesh files (Err o) (Err p) x y = one_result (weighed_for word 
 
 one_finding : (task : CycleTask) (mesh : Mesh) (lengths : List ℕ) → IsSurface mesh → ArePositive mesh lengths → HasOneOutcome (Finds task mesh lengths)
 one_finding Basis mesh lengths surface long o p x y =
-    says_same (cycles_text x.basis) (cycles_text y.basis) o p
-    (ap cycles_text (bases_are_one mesh lengths x.trees y.trees surface long x.chosen y.chosen x.basis y.basis x.is_basis y.is_basis)) x.says y.says
+    says_same (cycles_text x.found.basis) (cycles_text y.found.basis) o p
+    (ap cycles_text (bases_are_one mesh lengths x.found.trees y.found.trees surface long x.found.chosen y.found.chosen x.found.basis y.found.basis x.found.is_basis y.found.is_basis)) x.says y.says
 one_finding Shortest mesh lengths surface long o p (inl x) (inl y) =
-    says_same (cycle_line x.first.size x.first.walk) (cycle_line y.first.size y.first.walk) o p
-    (ap (λ (c : Loop). cycle_line c.size c.walk) (firsts_are_one mesh lengths x.trees y.trees surface long x.chosen y.chosen x.first y.first x.rest y.rest x.is_first y.is_first))
+    says_same (cycle_line x.found.first.size x.found.first.walk) (cycle_line y.found.first.size y.found.first.walk) o p
+    (ap (λ (c : Loop). cycle_line c.size c.walk) (firsts_are_one mesh lengths x.found.trees y.found.trees surface long x.found.chosen y.found.chosen x.found.first y.found.first x.found.rest y.found.rest x.found.is_first y.found.is_first))
     x.says y.says
 one_finding Shortest mesh lengths surface long o p (inl x) (inr y) =
-    absurd (x.shortest.nonseparating.separates_not (y.separate x.first.walk x.shortest.nonseparating.simple))
+    absurd (x.found.shortest.nonseparating.separates_not (y.separate x.found.first.walk x.found.shortest.nonseparating.simple))
 one_finding Shortest mesh lengths surface long o p (inr x) (inl y) =
-    absurd (y.shortest.nonseparating.separates_not (x.separate y.first.walk y.shortest.nonseparating.simple))
+    absurd (y.found.shortest.nonseparating.separates_not (x.separate y.found.first.walk y.found.shortest.nonseparating.simple))
 one_finding Shortest mesh lengths surface long o p (inr x) (inr y) = says_same (codes "none\n") (codes "none\n") o p refl x.says y.says
 one_finding BasisCertificate mesh lengths surface long o p x y =
-    says_same (basis_text (basis_cert_of mesh x.trees x.basis)) (basis_text (basis_cert_of mesh y.trees y.basis)) o p
-    (ap basis_text (chosen_basis_certs_are_one mesh lengths x.trees y.trees x.basis y.basis surface long x.chosen y.chosen x.is_basis y.is_basis)) x.says y.says
-
-one_cycles : (task : CycleTask) (bytes word : List ℕ) (files : Files) → HasOneOutcome (OnMeshText task bytes word files)
-one_cycles task bytes word files =
-    one_end (IsSearchableText (vertex_limit task) bytes) (λ mesh. OnMesh task mesh word files) (one_searchable (vertex_limit task) bytes)
-    (λ mesh given. one_end (IsMeasured word mesh files) (Finds task mesh) (one_measured word mesh files)
-    (λ lengths is. one_finding task mesh lengths given.1.0.1 (lengths_positive mesh lengths is.1 is.2)))
+    says_same (basis_text (basis_cert_of mesh x.found.trees x.found.basis)) (basis_text (basis_cert_of mesh y.found.trees y.found.basis)) o p
+    (ap basis_text (chosen_basis_certs_are_one mesh lengths x.found.trees y.found.trees x.found.basis y.found.basis surface long x.found.chosen y.found.chosen x.found.is_basis y.found.is_basis)) x.says y.says
 
 -- no certificate is valid and has a fault
 one_verdict : (mesh : Mesh) (lengths : List ℕ) (cert : Cert) → HasOneOutcome (JudgesCert mesh lengths cert)
@@ -313,14 +251,6 @@ one_verdict mesh lengths (certs.Basis cert) o p (inr x) (inl y) = absurd (no_bas
 one_verdict mesh lengths (certs.Basis cert) o p (inr x) (inr y) =
     x.text ∙ ap (λ fault. answers 1 (fault_line fault)) (one_basis_fault mesh lengths cert x.fault y.fault x.is_fault y.is_fault x.isnt_memory y.isnt_memory) ∙ sym y.text
 
-one_check : (bytes word cert : List ℕ) (files : Files) → HasOneOutcome (OnCheckedText bytes word cert files)
-one_check bytes word cert files =
-    one_end (IsFewLoopedText true bytes) (λ read. OnCheckedMesh read.1 word cert files) (one_looped_text true bytes)
-    (λ read _. one_end (IsMeasured word read.1 files) (λ lengths. OnCertFile read.1 lengths cert files) (one_measured word read.1 files)
-    (λ lengths _. one_end (Reads cert files) (OnCertText read.1 lengths) (one_result (within_text (bytes_of files cert)))
-    (λ text _. one_end (IsCertText read.1 text) (JudgesCert read.1 lengths) (one_result (then_bounded read.1 (certified (parsed_cert text))))
-    (λ c _. one_verdict read.1 lengths c))))
-
 pub one_surface_of : (mesh : Mesh) → IsOne (IsSurfaceOf mesh)
 one_surface_of mesh (Ok a) (Ok b) x y = x.0 ∙ sym y.0
 one_surface_of mesh (Ok a) (Err p) x y = no_fault mesh p x.1 y
@@ -332,14 +262,8 @@ one_sewing : (read : OffParts × Mesh) (origins : List ℕ) (mesh : Mesh) → Ha
 one_sewing read origins mesh o p (inl x) (inl y) = one_no_disc read.1 o p x y
 one_sewing read origins mesh o p (inl x) (inr y) = absurd (x.isnt_memory (disc_fault_only read.1 x.fault x.is_fault y.0))
 one_sewing read origins mesh o p (inr x) (inl y) = absurd (y.isnt_memory (disc_fault_only read.1 y.fault y.is_fault x.0))
-one_sewing read origins mesh o p (inr x) (inr y) = one_end (IsSurfaceOf mesh) (GivesSewn read.0 origins) (one_surface_of mesh)
+one_sewing read origins mesh o p (inr x) (inr y) = one_end (one_surface_of mesh)
     (λ sewn _ s t a b. says_same (sewn_text read.0 origins sewn) (sewn_text read.0 origins sewn) s t refl a.says b.says) o p x.1 y.1
-
-one_copies : (bytes : List ℕ) (read : OffParts × Mesh) → HasOneOutcome (OnCopies bytes read)
-one_copies bytes read = one_end (HasOrigins bytes read.1.vertices) (OnOrigins read)
-    (one_result (copied read.1.vertices (copies_in bytes read.1.vertices)))
-    (λ origins _. one_end (IsSewn read origins) (OnSewnMesh read origins)
-    (one_result (sewn (sewn_of read.0.vertex_lines read.1 origins))) (λ mesh _. one_sewing read origins mesh))
 
 one_walk : (file : WalkFile) (name : List ℕ) (mesh : Mesh) (files : Files) → IsOne (HasWalk file name mesh files)
 one_walk file name mesh files (Ok a) (Ok b) x y = one_result (walk_named file name mesh files) (Ok a) (Ok b) x.0 y.0
@@ -355,19 +279,8 @@ one_class mesh walk other surface closed o p x y =
     says_same (evidence_text (null_word other) (odd_word other) x.evidence) (evidence_text (null_word other) (odd_word other) y.evidence) o p
     (ap (evidence_text (null_word other) (odd_word other)) (one.2 x.evidence x.chosen ∙ sym (one.2 y.evidence y.chosen))) x.says y.says
 
-one_class_text : (walk bytes : List ℕ) (files : Files) → HasOneOutcome (OnClassText walk bytes files)
-one_class_text walk bytes files = one_end (IsFewLoopedText true bytes) (λ read. OnClassMesh walk read.1 files) (one_looped_text true bytes)
-    (λ read is. one_end (HasWalk First walk read.1 files) (λ w. GivesClass read.1 w None) (one_walk First walk read.1 files)
-    (λ w has. one_class read.1 w None is.0.1 has.1))
-
-one_same_text : (first second bytes : List ℕ) (files : Files) → HasOneOutcome (OnSameText first second bytes files)
-one_same_text first second bytes files = one_end (IsFewLoopedText true bytes) (λ read. OnSameMesh first second read.1 files) (one_looped_text true bytes)
-    (λ read is. one_end (HasWalk First first read.1 files) (λ w. OnSecond second read.1 w files) (one_walk First first read.1 files)
-    (λ w has. one_end (HasWalk Second second read.1 files) (λ v. GivesClass read.1 w (Some v)) (one_walk Second second read.1 files)
-    (λ v too. one_class read.1 w (Some v) is.0.1 (has.1, too.1))))
-
 one_evidence_text : (bytes : List ℕ) → IsOne (IsEvidenceText bytes)
-one_evidence_text bytes = one_result (evident (evidence_in bytes))
+one_evidence_text bytes = one_result (refused_by evidence_cause (evidence_in bytes))
 
 -- right evidence has no fault
 one_judged_evidence : (mesh : Mesh) (walk : List ℕ) (evidence : Evidence) → HasOneOutcome (JudgesEvidence mesh walk evidence)
@@ -380,21 +293,6 @@ one_judged_evidence mesh walk evidence o p (inr x) (inr y) =
     (class_faults_are_one mesh (parity mesh walk) evidence x.fault y.fault x.isnt_memory y.isnt_memory x.is_fault y.is_fault)
     ∙ sym y.text
 
-one_confirm_text : (walk cert bytes : List ℕ) (files : Files) → HasOneOutcome (OnConfirmText walk cert bytes files)
-one_confirm_text walk cert bytes files = one_end (IsSurfaceText bytes) (λ read. OnConfirmMesh walk cert read.1 files) (one_surface_text bytes)
-    (λ read _. one_end (HasWalk First walk read.1 files) (λ w. OnEvidenceFile cert read.1 w files) (one_walk First walk read.1 files)
-    (λ w _. one_end (Reads cert files) (OnEvidenceText read.1 w) (one_result (within_text (bytes_of files cert)))
-    (λ text _. one_end (IsEvidenceText text) (JudgesEvidence read.1 w) (one_evidence_text text) (λ evidence _. one_judged_evidence read.1 w evidence))))
-
--- a mesh whose cover is small goes on
-small_same : (mesh small : Mesh) → HasSmallCover mesh (Ok small) → small ≡ mesh
-small_same mesh small is = at (nat_lt 8 (loop_count mesh)) (nat_lt 65536 (mesh.vertices * 2 ^ loop_count mesh)) is
-  where
-    at : (loops nodes : Bool) → Ok small ≡ (if loops then Err (beyond limits.CoverLoops) else (if nodes then Err (beyond limits.CoverNodes) else Ok mesh)) → small ≡ mesh
-    at true nodes same = absurd (one_result (Err (beyond limits.CoverLoops)) (Ok small) (Err (beyond limits.CoverLoops)) same refl)
-    at false true same = absurd (one_result (Err (beyond limits.CoverNodes)) (Ok small) (Err (beyond limits.CoverNodes)) same refl)
-    at false false same = one_result (Ok mesh) (Ok small) (Ok mesh) same refl
-
 -- there is one walk that is chosen
 one_shortest : (mesh : Mesh) (lengths walk : List ℕ) → IsSurface mesh → ArePositive mesh lengths → IsClosed mesh walk →
     HasOneOutcome (GivesShortestWalk mesh lengths walk)
@@ -402,18 +300,6 @@ one_shortest mesh lengths walk surface positive closed o p x y =
     let one = chosen_walk_is_one mesh lengths walk surface positive closed in
     says_same (shortest_line (walk_length mesh lengths x.found) x.found) (shortest_line (walk_length mesh lengths y.found) y.found) o p
     (ap (λ (w : List ℕ). shortest_line (walk_length mesh lengths w) w) (one.2 x.found x.chosen ∙ sym (one.2 y.found y.chosen))) x.says y.says
-
-one_covered : (word walk : List ℕ) (mesh : Mesh) (files : Files) → IsSurface mesh → HasOneOutcome (OnCovered word walk mesh files)
-one_covered word walk mesh files surface = one_end (HasSmallCover mesh) (λ small. OnTightMesh word walk small files) (one_result (covered mesh))
-    (λ small is. let same : small ≡ mesh = small_same mesh small is in
-    one_end (IsMeasured word small files) (λ lengths. OnTightLengths walk small lengths files) (one_measured word small files)
-    (λ lengths given. one_end (HasWalk First walk small files) (GivesShortestWalk small lengths) (one_walk First walk small files)
-    (λ w has. one_shortest small lengths w (subst IsSurface (sym same) surface) (lengths_positive small lengths given.1 given.2) has.1)))
-
-one_measure : (decimals : ℕ) (read : OffParts × Mesh) → HasOneOutcome (OnCoordinates decimals read)
-one_measure decimals read = one_end (Measures decimals read) (GivesMeasures read.1)
-    (one_result (measured (measures_in read.1 read.0.vertex_lines decimals)))
-    (λ lengths _ o p x y. says_same (lengths_text read.1 lengths) (lengths_text read.1 lengths) o p refl x.says y.says)
 
 -- ---- what is found on a surface that is made
 
@@ -425,19 +311,19 @@ text_in misses = []
 one_loops_total : (mesh : Mesh) (lengths : List ℕ) (n m : ℕ) → IsSurface mesh → ArePositive mesh lengths → LoopsTotal mesh lengths n →
     LoopsTotal mesh lengths m → n ≡ m
 one_loops_total mesh lengths n m surface long x y =
-    x.is ∙ ap total_size (loops_are_one mesh lengths 0 x.trees y.trees surface long x.chosen y.chosen) ∙ sym y.is
+    x.is ∙ ap total_size (loops_are_one mesh lengths 0 x.found.trees y.found.trees surface long x.found.chosen y.found.chosen) ∙ sym y.is
 
 one_basis_total : (mesh : Mesh) (lengths : List ℕ) (n m : ℕ) → IsSurface mesh → ArePositive mesh lengths → BasisTotals mesh lengths n →
     BasisTotals mesh lengths m → n ≡ m
 one_basis_total mesh lengths n m surface long x y =
-    x.is ∙ ap total_size (bases_are_one mesh lengths x.trees y.trees surface long x.chosen y.chosen x.basis y.basis x.is_basis y.is_basis) ∙ sym y.is
+    x.is ∙ ap total_size (bases_are_one mesh lengths x.found.trees y.found.trees surface long x.found.chosen y.found.chosen x.found.basis y.found.basis x.found.is_basis y.found.is_basis) ∙ sym y.is
 
 one_cycle_measure : (mesh : Mesh) (lengths : List ℕ) (n m : ℕ) → IsSurface mesh → ArePositive mesh lengths → CycleMeasures mesh lengths n →
     CycleMeasures mesh lengths m → n ≡ m
 one_cycle_measure mesh lengths n m surface long x y =
     x.is
     ∙ ap (λ (c : Loop). walk_length mesh lengths c.walk)
-    (firsts_are_one mesh lengths x.trees y.trees surface long x.chosen y.chosen x.first y.first x.rest y.rest x.is_first y.is_first)
+    (firsts_are_one mesh lengths x.found.trees y.found.trees surface long x.found.chosen y.found.chosen x.found.first y.found.first x.found.rest y.found.rest x.found.is_first y.found.is_first)
     ∙ sym y.is
 
 one_summary : (mesh : Mesh) (lengths : List ℕ) → IsSurface mesh → ArePositive mesh lengths → HasOneOutcome (GivesSummary mesh lengths)
@@ -454,33 +340,47 @@ one_request : (r : Option Request) (files : Files) → IsWellShaped r → HasOne
 one_request None files shaped = one_outcome _
 one_request (Some help) files shaped = one_outcome _
 one_request (Some version) files shaped = one_outcome _
-one_request (Some (info mesh)) files shaped = one_end (Reads mesh files) OnInfoText (one_result (within_text (bytes_of files mesh)))
-    (λ bytes _. one_end (IsSurfaceText bytes) (λ read. Informs read.1) (one_surface_text bytes) (λ read _. one_info read.1))
-one_request (Some (disc mesh)) files shaped = one_end (Reads mesh files) OnDiscText (one_result (within_text (bytes_of files mesh)))
-    (λ bytes _. one_end (IsMeshText bytes) (λ read. JudgesDisc read.1) (one_mesh_text bytes) (λ read _. one_judgement read.1))
-one_request (Some (cycles task mesh word)) files shaped = one_end (Reads mesh files) (λ bytes. OnMeshText task bytes word files)
-    (one_result (within_text (bytes_of files mesh))) (λ bytes _. one_cycles task bytes word files)
-one_request (Some (weighted task mesh word base)) files shaped = one_end (Reads mesh files) (λ bytes. OnText task bytes word base files)
-    (one_result (within_text (bytes_of files mesh))) (λ bytes _. one_text task bytes word base files)
-one_request (Some (makes shape)) files shaped = one_end (IsMade shape) GivesMesh (one_result (made (mesh_of shape)))
-    (λ mesh _ o p x y. says_same (soup_text mesh (edge_count mesh)) (soup_text mesh (edge_count mesh)) o p refl x.says y.says)
-one_request (Some (tries shape scatter)) files shaped = one_end (IsTried shape) (λ mesh. GivesSummary mesh (made_values mesh scatter))
-    (one_result (then_searched (made (mesh_of shape)))) (λ mesh is. one_summary mesh (made_values mesh scatter) (tried_is_surface shape mesh shaped is) (made_are_positive mesh scatter))
-one_request (Some (checks mesh word cert)) files shaped = one_end (Reads mesh files) (λ bytes. OnCheckedText bytes word cert files)
-    (one_result (within_text (bytes_of files mesh))) (λ bytes _. one_check bytes word cert files)
-one_request (Some (measures mesh decimals)) files shaped = one_end (Reads mesh files) (OnLengthsText decimals) (one_result (within_text (bytes_of files mesh)))
-    (λ bytes _. one_end (IsSurfaceText bytes) (OnCoordinates decimals) (one_surface_text bytes) (λ read _. one_measure decimals read))
-one_request (Some (sews mesh)) files shaped = one_end (Reads mesh files) OnSewText (one_result (within_text (bytes_of files mesh)))
-    (λ bytes _. one_end (IsMeshText bytes) (OnCopies bytes) (one_mesh_text bytes) (λ read _. one_copies bytes read))
-one_request (Some (classes mesh walk)) files shaped = one_end (Reads mesh files) (λ bytes. OnClassText walk bytes files)
-    (one_result (within_text (bytes_of files mesh))) (λ bytes _. one_class_text walk bytes files)
-one_request (Some (compares mesh first second)) files shaped = one_end (Reads mesh files) (λ bytes. OnSameText first second bytes files)
-    (one_result (within_text (bytes_of files mesh))) (λ bytes _. one_same_text first second bytes files)
-one_request (Some (confirms mesh walk cert)) files shaped = one_end (Reads mesh files) (λ bytes. OnConfirmText walk cert bytes files)
-    (one_result (within_text (bytes_of files mesh))) (λ bytes _. one_confirm_text walk cert bytes files)
-one_request (Some (tightens mesh word walk)) files shaped = one_end (Reads mesh files) (λ bytes. OnTightText word walk bytes files)
-    (one_result (within_text (bytes_of files mesh))) (λ bytes _. one_end (IsFewLoopedText true bytes) (λ read. OnCovered word walk read.1 files)
-    (one_looped_text true bytes) (λ read is. one_covered word walk read.1 files is.0.1))
+one_request (Some (info mesh)) files shaped = one_end (one_file mesh files) (λ bytes _. one_end (one_surface_text bytes) (λ read _. one_info read.1))
+one_request (Some (disc mesh)) files shaped = one_end (one_file mesh files) (λ bytes _. one_end (one_mesh_text bytes) (λ read _. one_judgement read.1))
+one_request (Some (cycles task mesh word)) files shaped =
+    one_end (one_file mesh files) (λ bytes _. one_end (one_surface_text bytes) (λ read is. one_end (one_at_most limits.Loops _ _) (λ _ _. one_end (one_at_most (vertex_limit task).0 _ _)
+    (λ _ _. one_end (one_measured word read.1 files) (λ values given. one_finding task read.1 values is.1 (lengths_positive read.1 values given.1 given.2))))))
+one_request (Some (weighted task mesh word base)) files shaped =
+    one_end (one_file mesh files) (λ bytes _. one_end (one_surface_text bytes) (λ read is. one_end (one_at_most limits.Loops _ _)
+    (λ _ _. one_end (one_measured word read.1 files) (λ values given. one_end (one_base base read.1)
+    (λ vertex _. one_performance task read values vertex is.1 (lengths_positive read.1 values given.1 given.2))))))
+one_request (Some (makes shape)) files shaped = one_end (one_at_most limits.Vertices _ _) (λ _ _. one_end (one_at_most limits.Faces _ _) (λ _ _ o p x y.
+    let mesh = mesh_of shape in says_same (soup_text mesh (edge_count mesh)) (soup_text mesh (edge_count mesh)) o p refl x.says y.says))
+one_request (Some (tries shape scatter)) files shaped =
+    one_end (one_at_most limits.Vertices _ _) (λ _ _. one_end (one_at_most limits.Faces _ _) (λ _ _. one_end (one_at_most limits.Loops _ _) (λ _ _. one_end (one_at_most limits.BasisVertices _ _)
+    (λ _ _. one_summary (mesh_of shape) (made_values (mesh_of shape) scatter) (shape_is_surface shape shaped) (made_are_positive (mesh_of shape) scatter)))))
+one_request (Some (checks mesh word cert)) files shaped =
+    one_end (one_file mesh files) (λ bytes _. one_end (one_surface_text bytes) (λ read _. one_end (one_at_most limits.Loops _ _)
+    (λ _ _. one_end (one_measured word read.1 files) (λ values _. one_end (one_file cert files)
+    (λ text _. one_end (one_result (refused_by cert_cause (parsed_cert text))) (λ certificate _. one_end (one_at_most limits.CertificateVertices _ _)
+    (λ _ _. one_verdict read.1 values certificate)))))))
+one_request (Some (measures mesh decimals)) files shaped =
+    one_end (one_file mesh files) (λ bytes _. one_end (one_surface_text bytes)
+    (λ read _. one_end (one_result (refused_by geom_cause (measures_in read.1 read.0.vertex_lines decimals)))
+    (λ lengths _ o p x y. says_same (lengths_text read.1 lengths) (lengths_text read.1 lengths) o p refl x.says y.says)))
+one_request (Some (sews mesh)) files shaped =
+    one_end (one_file mesh files) (λ bytes _. one_end (one_mesh_text bytes)
+    (λ read _. one_end (one_result (refused_by (copy_cause read.1.vertices) (copies_in bytes read.1.vertices)))
+    (λ origins _. one_end (one_result (refused_by sew_cause (sewn_of read.0.vertex_lines read.1 origins))) (λ faces _. one_sewing read origins faces))))
+one_request (Some (classes mesh walk)) files shaped =
+    one_end (one_file mesh files) (λ bytes _. one_end (one_surface_text bytes) (λ read is. one_end (one_at_most limits.Loops _ _)
+    (λ _ _. one_end (one_walk First walk read.1 files) (λ closed has. one_class read.1 closed None is.1 has.1))))
+one_request (Some (compares mesh first second)) files shaped =
+    one_end (one_file mesh files) (λ bytes _. one_end (one_surface_text bytes) (λ read is. one_end (one_at_most limits.Loops _ _)
+    (λ _ _. one_end (one_walk First first read.1 files) (λ closed has. one_end (one_walk Second second read.1 files)
+    (λ other too. one_class read.1 closed (Some other) is.1 (has.1, too.1))))))
+one_request (Some (confirms mesh walk cert)) files shaped =
+    one_end (one_file mesh files) (λ bytes _. one_end (one_surface_text bytes) (λ read _. one_end (one_walk First walk read.1 files)
+    (λ closed _. one_end (one_file cert files) (λ text _. one_end (one_evidence_text text) (λ evidence _. one_judged_evidence read.1 closed evidence)))))
+one_request (Some (tightens mesh word walk)) files shaped =
+    one_end (one_file mesh files) (λ bytes _. one_end (one_surface_text bytes) (λ read is. one_end (one_at_most limits.Loops _ _) (λ _ _. one_end (one_at_most limits.CoverLoops _ _)
+    (λ _ _. one_end (one_at_most limits.CoverNodes _ _) (λ _ _. one_end (one_measured word read.1 files) (λ values given. one_end (one_walk First walk read.1 files)
+    (λ closed has. one_shortest read.1 values closed is.1 (lengths_positive read.1 values given.1 given.2) has.1)))))))
 
 module _ (words : List (List ℕ)) (files : Files) where
   pub one_lead : HasOneOutcome (Leads words files)

@@ -1,9 +1,35 @@
--- Files that are reached and read.
-use Rattle.std.specs.Prelude.{◌≡◌, ℕ, nat_lt, List, length, Option, Some, None, Result, Ok, Err, if◌then◌else◌}
+-- What is read of files: bytes, meshes, lengths, walks, certificates and evidence.
+use Rattle.std.specs.Prelude.{◌≡◌, ◌≢◌, ◌<◌, ◌≤◌, ◌⊎◌, ℕ, nat_lt, List, length, replicate, Option, Some, None, codes}
+use Rattle.std.specs.Prelude.{Result, Ok, Err, if◌then◌else◌}
+use Rattle.std.specs.Str.{bytes_eq}
 use Rattle.surf_base.specs.Outside.{Files, bytes_of}
 use Rattle.surf_base.specs.declared.limits.LimitKind.TheVariants.{Text}
-use Rattle.surf_texts.specs.Outcome.{Outcome, misses}
+use Rattle.surf_surfaces.specs.Mesh.{Mesh}
+use Rattle.surf_surfaces.specs.Surface.{edge_count, IsSurface}
+use Rattle.surf_surfaces.specs.Walk.{IsClosed}
+use Rattle.surf_classes.specs.Evidence.{Evidence}
+use Rattle.surf_off.specs.Off.{OffParts, off_of}
+use Rattle.surf_check.specs.Fault.{IsSurfaceFault}
+use Rattle.surf_check.specs.declared.checking.SurfaceFault.{SurfaceFault}
+use Rattle.surf_check.specs.declared.checking.SurfaceFault.TheVariants.{Memory}
+use Rattle.surf_lengths.specs.Files.{lengths_in}
+use Rattle.surf_lengths.specs.Lengths.{AreLengths}
+use Rattle.surf_cert.specs.Grammar.{parsed_cert}
+use Rattle.surf_cert.specs.declared.cert.Cert.{Cert}
+use Rattle.surf_cert.specs.declared.cert.Cert.TheVariants.{Loops, Basis}
+use Rattle.surf_class.specs.Evidences.{evidence_in}
+use Rattle.surf_class.specs.Walks.{walk_in}
+use Rattle.surf_texts.specs.Cause.{outcome_of, refused_by}
+use Rattle.surf_texts.specs.CertLines.{cert_cause}
+use Rattle.surf_texts.specs.EvidenceLines.{evidence_cause}
+use Rattle.surf_texts.specs.LengthLines.{length_cause, base_line}
 use Rattle.surf_texts.specs.Limits.{beyond}
+use Rattle.surf_texts.specs.MeshLines.{off_cause}
+use Rattle.surf_texts.specs.Outcome.{Outcome, misses, refuses}
+use Rattle.surf_texts.specs.SurfaceLines.{surface_cause}
+use Rattle.surf_texts.specs.WalkLines.{walk_cause}
+use Rattle.surf_texts.specs.declared.walks.WalkFile.{WalkFile}
+use Rattle.surf_run.specs.Steps.{and_then}
 
 -- the bytes of a file, unless it isn't there or has more than 268,435,456 of them
 abbrev pub within_text : Option (List ℕ) → Result (List ℕ) Outcome
@@ -13,3 +39,85 @@ within_text (Some bytes) = if nat_lt 268435456 (length bytes) then Err (beyond T
 -- The file of a name is read.
 abbrev pub Reads : List ℕ → Files → Result (List ℕ) Outcome → Type 0
 Reads name files result = result ≡ within_text (bytes_of files name)
+
+-- ---- meshes
+
+-- The bytes are read as the text of a mesh.
+abbrev pub IsMeshText : List ℕ → Result (OffParts × Mesh) Outcome → Type 0
+IsMeshText bytes result = result ≡ refused_by off_cause (off_of bytes)
+
+-- A fault of the mesh comes out so.
+pub record EndsInFault (mesh : Mesh) (outcome : Outcome) : Type 0 where
+  pub fault : SurfaceFault
+  pub isnt_memory : fault ≢ Memory
+  pub is_fault : IsSurfaceFault mesh fault
+  pub is : outcome ≡ outcome_of (surface_cause fault)
+
+-- The mesh is a surface, and goes on; or it has a fault.
+abbrev pub IsSurfaceOf : Mesh → Result Mesh Outcome → Type 0
+IsSurfaceOf mesh (Ok same) = (same ≡ mesh) × IsSurface mesh
+IsSurfaceOf mesh (Err outcome) = EndsInFault mesh outcome
+
+-- The bytes are the text of a surface, and go on as its parts and its mesh.
+abbrev pub IsSurfaceText : List ℕ → Result (OffParts × Mesh) Outcome → Type 0
+IsSurfaceText bytes (Ok read) = IsMeshText bytes (Ok read) × IsSurface read.1
+IsSurfaceText bytes (Err outcome) =
+    IsMeshText bytes (Err outcome)
+    ⊎ ((read : OffParts × Mesh) × IsMeshText bytes (Ok read) × EndsInFault read.1 outcome)
+
+-- ---- lengths and a base
+
+-- The bytes are the text of a length file for the mesh.
+abbrev pub WeighsText : List ℕ → Mesh → Result (List ℕ) Outcome → Type 0
+WeighsText bytes mesh result = result ≡ refused_by length_cause (lengths_in mesh bytes)
+
+-- The word `unit` gives each edge the length 1; any other word is the name of a length file.
+abbrev pub weighed_for : List ℕ → Mesh → Files → Result (List ℕ) Outcome
+weighed_for word mesh files =
+    if bytes_eq word (codes "unit") then Ok (replicate (edge_count mesh) 1)
+    else and_then (λ bytes. refused_by length_cause (lengths_in mesh bytes)) (within_text (bytes_of files word))
+
+abbrev pub HasLengths : List ℕ → Mesh → Files → Result (List ℕ) Outcome → Type 0
+HasLengths word mesh files result = result ≡ weighed_for word mesh files
+
+-- A word gives lengths to the edges, each from 1 to 4,294,967,295.
+abbrev pub IsMeasured : List ℕ → Mesh → Files → Result (List ℕ) Outcome → Type 0
+IsMeasured word mesh files (Ok lengths) =
+    HasLengths word mesh files (Ok lengths) × AreLengths lengths × (length lengths ≡ edge_count mesh)
+IsMeasured word mesh files (Err outcome) = HasLengths word mesh files (Err outcome)
+
+-- The base is a vertex.
+abbrev pub HasBase : ℕ → Mesh → Result ℕ Outcome → Type 0
+HasBase base mesh (Ok vertex) = (vertex ≡ base) × (base < mesh.vertices)
+HasBase base mesh (Err outcome) = (mesh.vertices ≤ base) × (outcome ≡ refuses 7 (base_line base mesh.vertices))
+
+-- ---- walks
+
+-- The bytes are the text of a walk file for the mesh.
+abbrev pub WalksText : WalkFile → Mesh → List ℕ → Result (List ℕ) Outcome → Type 0
+WalksText file mesh bytes result = result ≡ refused_by (walk_cause file) (walk_in mesh bytes)
+
+-- the walk that the file of a name gives
+abbrev pub walk_named : WalkFile → List ℕ → Mesh → Files → Result (List ℕ) Outcome
+walk_named file name mesh files =
+    and_then (λ bytes. refused_by (walk_cause file) (walk_in mesh bytes)) (within_text (bytes_of files name))
+
+-- The file of a name gives a closed walk of the mesh.
+abbrev pub HasWalk : WalkFile → List ℕ → Mesh → Files → Result (List ℕ) Outcome → Type 0
+HasWalk file name mesh files (Ok walk) = (Ok walk ≡ walk_named file name mesh files) × IsClosed mesh walk
+HasWalk file name mesh files (Err outcome) = Err outcome ≡ walk_named file name mesh files
+
+-- ---- certificates and evidence
+
+-- The bytes are the text of a certificate.
+abbrev pub IsCertText : List ℕ → Result Cert Outcome → Type 0
+IsCertText bytes result = result ≡ refused_by cert_cause (parsed_cert bytes)
+
+-- how many trees of vertices a certificate has: one at its base, or one at each vertex
+abbrev pub tree_count : Mesh → Cert → ℕ
+tree_count mesh (Loops cert) = 1
+tree_count mesh (Basis cert) = mesh.vertices
+
+-- The bytes are the text of evidence.
+abbrev pub IsEvidenceText : List ℕ → Result Evidence Outcome → Type 0
+IsEvidenceText bytes result = result ≡ refused_by evidence_cause (evidence_in bytes)

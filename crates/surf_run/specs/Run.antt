@@ -1,32 +1,22 @@
 -- What a run leaves of its sinks.
-use Rattle.std.specs.Prelude.{◌≡◌, ◌<◌, ◌≤◌, ◌⊎◌, ℕ, false, List, [], ◌++◌, Option, Some, None, codes}
+use Rattle.std.specs.Prelude.{◌≡◌, ◌<◌, ◌≤◌, ◌⊎◌, ℕ, false, List, [], ◌∷◌, ◌++◌, Option, Some, codes}
 use Rattle.std.specs.List.{list_any}
 use Rattle.surf_base.specs.Outside.{Files, HasRisen, GrowsBy}
 use Rattle.surf_base.specs.Transfer.{GrowsByShorter}
 use Rattle.surf_text.specs.Text.{is_line_end}
 use Rattle.surf_texts.specs.Cause.{Cause, line_of, status_of_cause}
+use Rattle.surf_run.specs.Commands.{named}
 use Rattle.surf_run.specs.Leads.{Answer}
-use Rattle.surf_words.specs.Words.{Request, help, version, info, disc, cycles, weighted, makes, tries, checks}
-use Rattle.surf_words.specs.Words.{measures, sews, classes, compares, confirms, tightens, request_of}
+use Rattle.surf_words.specs.Words.{Request, request_of}
+
+-- There is a name.
+abbrev pub IsSomeName : List (List ℕ) → Type 0
+IsSomeName [] = ⊥
+IsSomeName (name ∷ names) = Unit {0}
 
 -- The words are a row of the command table that names a file.
 abbrev pub NamesFile : Option Request → Type 0
-NamesFile None = ⊥
-NamesFile (Some help) = ⊥
-NamesFile (Some version) = ⊥
-NamesFile (Some (info mesh)) = Unit {0}
-NamesFile (Some (disc mesh)) = Unit {0}
-NamesFile (Some (cycles task mesh lengths)) = Unit {0}
-NamesFile (Some (weighted task mesh lengths base)) = Unit {0}
-NamesFile (Some (makes shape)) = ⊥
-NamesFile (Some (tries shape scatter)) = ⊥
-NamesFile (Some (checks mesh lengths cert)) = Unit {0}
-NamesFile (Some (measures mesh decimals)) = Unit {0}
-NamesFile (Some (sews mesh)) = Unit {0}
-NamesFile (Some (classes mesh walk)) = Unit {0}
-NamesFile (Some (compares mesh first second)) = Unit {0}
-NamesFile (Some (confirms mesh walk cert)) = Unit {0}
-NamesFile (Some (tightens mesh lengths walk)) = Unit {0}
+NamesFile request = IsSomeName (named request)
 
 -- The shelf tells that it holds these files; or the request names no file, and then these may be any.
 abbrev pub AreTheFiles : Option Request → Option Files → Files → Type 0

@@ -9,8 +9,9 @@ use Rattle.surf_surfaces.specs.Mesh.{Mesh}
 use Rattle.surf_texts.specs.CycleTexts.{cycles_text}
 use Rattle.surf_texts.specs.LoopTexts.{loops_text}
 use Rattle.surf_texts.specs.EvidenceLines.{right_line}
+use Rattle.surf_run.specs.Commands.{length_file}
 use Rattle.surf_run.specs.Leads.{Answer, Leads}
-use Rattle.surf_run.specs.Named.{length_file, AgreeOn}
+use Rattle.surf_run.specs.Named.{AgreeOn}
 use Rattle.surf_texts.specs.Outcome.{Outcome}
 use Rattle.surf_answers.specs.Says.{Says}
 use Rattle.surf_answers.specs.Summaries.{total_size}

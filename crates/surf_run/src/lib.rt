@@ -1,10 +1,9 @@
 //! The program as one call.
 #![tactic(auto)]
 
-mod certificates;
 mod commands;
-mod dispatch;
 mod laws;
+mod limits;
 mod made;
 mod reading;
 mod top;

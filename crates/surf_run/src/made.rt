@@ -1,12 +1,13 @@
 //! Meshes that are made from numbers.
-ghost use Rattle.std.specs.Prelude.{◌≡◌, ◌<◌, ◌≤◌, ◌+◌, IfOk};
-ghost use Rattle.surf_surfaces.specs.Surface.{edge_count, face_count, IsSurface, loop_count};
-ghost use Rattle.surf_run.specs.Making.{IsMade};
+ghost use Rattle.std.specs.Prelude.{◌≡◌, ◌<◌, ◌≤◌, IfOk};
+ghost use Rattle.surf_base.specs.declared.limits.LimitKind.TheVariants.{Vertices, Faces, Loops, BasisVertices};
+ghost use Rattle.surf_base.specs.declared.limits.TheConstants.{MAX_BASIS_VERTICES, MAX_FACES, MAX_LOOPS, MAX_VERTICES};
+ghost use Rattle.surf_surfaces.specs.Surface.{face_count, IsSurface, loop_count};
 ghost use Rattle.surf_words.specs.Shapes.{mesh_of};
 ghost use Rattle.surf_answers.specs.Tells.{Takes};
-ghost use Rattle.surf_run.specs.Trying.{IsSearched, IsTried};
-ghost use Rattle.surf_base.specs.declared.limits.TheConstants.{MAX_FACES, MAX_LOOPS, MAX_VERTICES};
+ghost use Rattle.surf_run.specs.Steps.{AtMost};
 
+use crate::limits::at_most;
 use std::alloc::Global;
 use surf_base::{LimitKind, MAX_BASIS_VERTICES, MAX_FACES, MAX_LOOPS, MAX_VERTICES, NoMemory};
 use surf_check::check;
@@ -16,38 +17,53 @@ use surf_soup::Soup;
 use surf_texts::Refused;
 use surf_words::Shape;
 
-// Whether the mesh of a shape is within the limits on meshes.
-fn test_size(shape: Shape) -> Result<(), Refused>
-    ensures tells { Takes (λ _. mesh_of shape) (IsMade shape) result }
-    ensures vertices { IfOk result (λ _. (mesh_of shape).vertices ≤ MAX_VERTICES) }
-    ensures faces { IfOk result (λ _. face_count (mesh_of shape) ≤ MAX_FACES) }
+/// Whether the mesh of a shape has few vertices.
+pub(crate) fn test_vertices(shape: Shape) -> Result<(), Refused>
+    ensures tells { Takes (λ _. tt) (AtMost Vertices MAX_VERTICES (mesh_of shape).vertices) result }
+    ensures few { IfOk result (λ _. (mesh_of shape).vertices ≤ MAX_VERTICES) }
 {
-    if shape.vertices() > u128::from(MAX_VERTICES) {
-        return Err(Refused::Limit(LimitKind::Vertices));
-    }
-    if shape.faces() > u128::from(MAX_FACES) {
-        return Err(Refused::Limit(LimitKind::Faces));
-    }
-    Ok(())
+    at_most(
+        LimitKind::Vertices,
+        u128::from(MAX_VERTICES),
+        shape.vertices(),
+    )
 }
 
-// Whether the mesh of a shape has few loops, and then few vertices.
-fn test_search(shape: Shape) -> Result<(), Refused>
-    ensures tells { Takes (λ _. mesh_of shape) (IsSearched (mesh_of shape)) result }
-    ensures some { IfOk result (λ _. 0 < loop_count (mesh_of shape)) }
+/// Whether it has few faces.
+pub(crate) fn test_faces(shape: Shape) -> Result<(), Refused>
+    ensures tells { Takes (λ _. tt) (AtMost Faces MAX_FACES (face_count (mesh_of shape))) result }
+    ensures few { IfOk result (λ _. face_count (mesh_of shape) ≤ MAX_FACES) }
+{
+    at_most(LimitKind::Faces, u128::from(MAX_FACES), shape.faces())
+}
+
+/// Whether it has few loops.
+pub(crate) fn test_shape_loops(shape: Shape) -> Result<(), Refused>
+    ensures tells { Takes (λ _. tt) (AtMost Loops MAX_LOOPS (loop_count (mesh_of shape))) result }
     ensures few { IfOk result (λ _. loop_count (mesh_of shape) ≤ MAX_LOOPS) }
+    ensures some { IfOk result (λ _. 0 < loop_count (mesh_of shape)) }
 {
-    if shape.loops() > MAX_LOOPS as u64 {
-        return Err(Refused::Limit(LimitKind::Loops));
-    }
-    if shape.vertices() > u128::from(MAX_BASIS_VERTICES) {
-        return Err(Refused::Limit(LimitKind::BasisVertices));
-    }
-    Ok(())
+    at_most(
+        LimitKind::Loops,
+        MAX_LOOPS as u128,
+        u128::from(shape.loops()),
+    )
 }
 
-// The mesh of a shape that is within the limits on meshes.
-fn build(alloc: Global, shape: Shape) -> Result<Soup, NoMemory>
+/// Whether it has few vertices for a search.
+pub(crate) fn test_search(shape: Shape) -> Result<(), Refused>
+    ensures { Takes (λ _. tt) (AtMost BasisVertices MAX_BASIS_VERTICES
+        (mesh_of shape).vertices) result }
+{
+    at_most(
+        LimitKind::BasisVertices,
+        u128::from(MAX_BASIS_VERTICES),
+        shape.vertices(),
+    )
+}
+
+/// The mesh of a shape that is within the limits on meshes.
+pub(crate) fn build(alloc: Global, shape: Shape) -> Result<Soup, NoMemory>
     requires vertices { (mesh_of shape).vertices ≤ MAX_VERTICES }
     requires faces { face_count (mesh_of shape) ≤ MAX_FACES }
     ensures mesh { IfOk result (λ soup. soup ≡ mesh_of shape) }
@@ -62,30 +78,16 @@ fn build(alloc: Global, shape: Shape) -> Result<Soup, NoMemory>
     }
 }
 
-/// The mesh of a shape, within the limits on meshes. Nothing is made before they are tested.
-pub(crate) fn make_mesh(alloc: Global, shape: Shape) -> Result<Soup, Refused>
-    ensures tells { Takes (λ soup. soup) (IsMade shape) result }
-    ensures surface { IfOk result IsSurface }
+/// The surface of a shape that is within the limits on meshes.
+pub(crate) fn build_surface(alloc: Global, shape: Shape) -> Result<HalfMesh, NoMemory>
+    requires vertices { (mesh_of shape).vertices ≤ MAX_VERTICES }
+    requires faces { face_count (mesh_of shape) ≤ MAX_FACES }
+    ensures { IfOk result (λ mesh. mesh ≡ mesh_of shape) }
 {
-    test_size(shape)?;
-    let soup = build(alloc, shape)?;
-    Ok(soup)
-}
-
-/// The surface of a shape, within the limits on meshes and on searches. Nothing is made before they
-/// are tested.
-pub(crate) fn make_searchable(alloc: Global, shape: Shape) -> Result<HalfMesh, Refused>
-    ensures tells { Takes (λ mesh. mesh) (IsTried shape) result }
-    ensures some { IfOk result (λ mesh. 0 < loop_count mesh) }
-    ensures few { IfOk result (λ mesh. edge_count mesh + 2
-        ≤ mesh.vertices + face_count mesh + MAX_LOOPS) }
-{
-    test_size(shape)?;
-    test_search(shape)?;
     let soup = build(alloc, shape)?;
     match check(alloc, soup) {
         Ok(mesh) => Ok(mesh),
         // The mesh of a shape is a surface, so only memory can be wanting.
-        Err(_) => Err(Refused::Memory),
+        Err(_) => Err(NoMemory),
     }
 }

@@ -1,16 +1,12 @@
 //! Files that are reached.
 ghost use Rattle.std.specs.Prelude.{◌≡◌, ◌≤◌, length, IfOk};
 ghost use Rattle.surf_surfaces.specs.Surface.{face_count};
-ghost use Rattle.surf_run.specs.Given.{IsFewLoopedText};
-ghost use Rattle.surf_run.specs.MeshTexts.{IsMeshText};
-ghost use Rattle.surf_run.specs.Reading.{Reads};
-ghost use Rattle.surf_run.specs.Surfaces.{IsSurfaceOf, IsSurfaceText};
+ghost use Rattle.surf_run.specs.Reading.{Reads, IsMeshText, IsSurfaceOf, IsSurfaceText};
 ghost use Rattle.surf_answers.specs.Tells.{Takes, TakesOver};
 ghost use Rattle.surf_base.specs.declared.limits.TheConstants.{MAX_TEXT};
 
 use std::alloc::Global;
-use surf_answers::loop_count;
-use surf_base::{FetchFault, LimitKind, MAX_LOOPS, MAX_TEXT, Shelf, fetch};
+use surf_base::{FetchFault, LimitKind, MAX_TEXT, Shelf, fetch};
 use surf_check::check;
 use surf_mesh::HalfMesh;
 use surf_off::{OffText, read_off};
@@ -65,23 +61,5 @@ pub(crate) fn read_surface(alloc: Global, bytes: &[u8]) -> Result<(OffText<'_>, 
 {
     let (text, soup) = read_mesh(alloc, bytes)?;
     let mesh = surface_of(alloc, soup)?;
-    Ok((text, mesh))
-}
-
-/// The parts and the surface of the text of a mesh, with few loops where these are limited.
-pub(crate) fn read_looped(
-    alloc: Global,
-    limited: bool,
-    bytes: &[u8],
-) -> Result<(OffText<'_>, HalfMesh), Refused>
-    requires { length bytes.now ≤ MAX_TEXT }
-    ensures tells { Takes (λ read. read) (IsFewLoopedText limited bytes.now) result }
-    ensures lines { IfOk result (λ read. length read.0.vertex_lines ≡ read.1.vertices) }
-    ensures colours { IfOk result (λ read. length read.0.colours ≡ face_count read.1) }
-{
-    let (text, mesh) = read_surface(alloc, bytes)?;
-    if limited && loop_count(&mesh) > MAX_LOOPS as u64 {
-        return Err(Refused::Limit(LimitKind::Loops));
-    }
     Ok((text, mesh))
 }

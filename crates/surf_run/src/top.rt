@@ -8,7 +8,7 @@ ghost use Rattle.surf_run.specs.Run.{AreTheFiles, NamesFile, PutsLine, IsLineOf,
 ghost use Rattle.surf_answers.specs.Tells.{IsTold};
 ghost use Rattle.surf_words.specs.Words.{texts, request_of};
 
-use crate::dispatch::answer;
+use crate::commands::answer;
 use std::alloc::Global;
 use surf_base::{Shelf, Sink, put_all};
 use surf_texts::Refused;

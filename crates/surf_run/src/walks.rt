@@ -2,7 +2,7 @@
 ghost use Rattle.std.specs.Prelude.{◌≡◌, ◌≤◌, length, IfOk};
 ghost use Rattle.surf_surfaces.specs.Walk.{IsClosed};
 ghost use Rattle.surf_answers.specs.Tells.{Takes, TakesOver};
-ghost use Rattle.surf_run.specs.Walks.{HasWalk, WalksText};
+ghost use Rattle.surf_run.specs.Reading.{HasWalk, WalksText};
 ghost use Rattle.surf_base.specs.declared.limits.TheConstants.{MAX_TEXT};
 
 use crate::reading::read_file;

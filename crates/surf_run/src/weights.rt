@@ -1,9 +1,8 @@
 //! Lengths and a base for a surface.
 ghost use Rattle.std.specs.Prelude.{◌≡◌, ◌<◌, ◌≤◌, length, IfOk};
 ghost use Rattle.surf_surfaces.specs.Surface.{edge_count};
-ghost use Rattle.surf_run.specs.Given.{IsMeasured};
 ghost use Rattle.surf_answers.specs.Tells.{Takes, TakesOver};
-ghost use Rattle.surf_run.specs.Weights.{HasLengths, HasBase, WeighsText};
+ghost use Rattle.surf_run.specs.Reading.{IsMeasured, HasBase, HasLengths, WeighsText};
 ghost use Rattle.surf_base.specs.declared.limits.TheConstants.{MAX_TEXT};
 
 use crate::reading::read_file;

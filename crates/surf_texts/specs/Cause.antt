@@ -1,5 +1,5 @@
 -- Why there is no answer: what words and files decide, a read that failed, or want of memory.
-use Rattle.std.specs.Prelude.{ℕ, List, [], codes}
+use Rattle.std.specs.Prelude.{ℕ, List, [], Result, Ok, Err, codes}
 use Rattle.surf_texts.specs.Outcome.{Outcome, answers, refuses, misses, status_of}
 
 pub data Cause : Type 0 where
@@ -15,6 +15,11 @@ abbrev pub outcome_of : Cause → Outcome
 outcome_of (due outcome) = outcome
 outcome_of unread = misses
 outcome_of starved = misses
+
+-- what was read, or what comes of its fault
+abbrev pub refused_by : {A E : Type 0} → (E → Cause) → Result A E → Result A Outcome
+refused_by cause (Ok value) = Ok value
+refused_by cause (Err fault) = Err (outcome_of (cause fault))
 
 -- the line of an outcome, if it has one
 abbrev pub said : Outcome → List ℕ

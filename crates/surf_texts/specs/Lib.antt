@@ -1,6 +1,5 @@
 pub mod Cause
 pub mod CertLines
-pub mod CoordinateLines
 pub mod CycleTexts
 pub mod DiscLines
 pub mod DistanceTexts

@@ -5,7 +5,6 @@ use Rattle.surf_text.specs.declared.page.PageFault.TheVariants.{Full}
 use Rattle.surf_text.specs.declared.page.PageFault.TheVariants as page
 use Rattle.surf_texts.specs.Cause.{Cause, due, unread, starved}
 use Rattle.surf_texts.specs.CertLines.{cert_cause}
-use Rattle.surf_texts.specs.CoordinateLines.{geom_cause}
 use Rattle.surf_texts.specs.SewingLines.{copy_cause, sew_cause}
 use Rattle.surf_texts.specs.EvidenceLines.{evidence_cause}
 use Rattle.surf_texts.specs.WalkLines.{walk_cause}
@@ -13,7 +12,7 @@ use Rattle.surf_texts.specs.Limits.{beyond}
 use Rattle.surf_texts.specs.MeshLines.{off_cause}
 use Rattle.surf_texts.specs.Outcome.{refuses}
 use Rattle.surf_texts.specs.SurfaceLines.{surface_cause}
-use Rattle.surf_texts.specs.LengthLines.{length_cause, base_line}
+use Rattle.surf_texts.specs.LengthLines.{length_cause, geom_cause, base_line}
 use Rattle.surf_texts.specs.declared.refusal.Refused.{Refused}
 use Rattle.surf_texts.specs.declared.refusal.Refused.TheVariants.{MeshText, Surface, Lengths, Base, Certificate}
 use Rattle.surf_texts.specs.declared.refusal.Refused.TheVariants.{Coordinates, Copies, Sewing, Walk, Evidence, Limit}

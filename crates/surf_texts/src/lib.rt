@@ -5,7 +5,6 @@
 #![tactic(auto)]
 
 mod certificates;
-mod coordinates;
 mod cycles;
 mod discs;
 mod distances;

@@ -6,9 +6,8 @@ ghost use Rattle.surf_texts.specs.declared.refusal.Refused.TheVariants.{MeshText
 ghost use Rattle.surf_texts.specs.declared.refusal.Refused.TheVariants.{Coordinates, Sewing, Evidence, Memory};
 
 use crate::certificates::cert_line;
-use crate::coordinates::geom_line;
 use crate::evidence::evidence_line;
-use crate::lengths::{base_line, length_line};
+use crate::lengths::{base_line, geom_line, length_line};
 use crate::lines::limit_line;
 use crate::meshes::{off_line, surface_line};
 use crate::sewing::{copy_line, sew_line};

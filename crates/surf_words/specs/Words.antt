@@ -1,5 +1,5 @@
 -- The words of a command line, and the command that they are.
-use Rattle.std.specs.Prelude.{ℕ, List, [], ◌∷◌, map, String, Option, Some, None, nat_lt, option_and_then}
+use Rattle.std.specs.Prelude.{ℕ, List, [], ◌∷◌, ◌++◌, map, String, Option, Some, None, nat_le, nat_lt, option_and_then}
 use Rattle.std.specs.Prelude.{if◌then◌else◌, codes, string_bytes}
 use Rattle.std.specs.Str.{bytes_eq}
 use Rattle.surf_text.specs.Text.{whole}
@@ -8,8 +8,11 @@ use Rattle.surf_words.specs.declared.tasks.CycleTask.TheVariants.{Basis, Shortes
 use Rattle.surf_words.specs.declared.tasks.Task.{Task}
 use Rattle.surf_words.specs.declared.tasks.Task.TheVariants.{Distances, LeastLoops, LoopCertificate, Cut}
 use Rattle.surf_words.specs.declared.tasks.CutKind.TheVariants.{Full, Trimmed}
-use Rattle.surf_words.specs.Decimals.{few_decimals}
 use Rattle.surf_words.specs.Shapes.{Shape, torus_named, chain_named}
+use Rattle.surf_words.specs.declared.words.Command.{Command}
+use Rattle.surf_words.specs.declared.words.Command.TheVariants.{Help, Version, Info, Disc, Cycles, Weighted, Generate}
+use Rattle.surf_words.specs.declared.words.Command.TheVariants.{Try, Check, Measure, Sew, Class, Same, Confirm}
+use Rattle.surf_words.specs.declared.words.Command.TheVariants.{Shortest}
 use Rattle.std.specs.declared.alloc.Global.{Global}
 
 -- the bytes of each word
@@ -100,6 +103,10 @@ abbrev pub measures_request : List ℕ → Option ℕ → Option Request
 measures_request mesh None = None
 measures_request mesh (Some decimals) = Some (measures mesh decimals)
 
+-- a unit of length has at most 9 decimals
+abbrev pub few_decimals : ℕ → Option ℕ
+few_decimals n = if nat_le n 9 then Some n else None
+
 abbrev pub decimals_of : List ℕ → Option ℕ
 decimals_of word = option_and_then few_decimals (word_number word)
 
@@ -156,3 +163,67 @@ request_of (word ∷ second ∷ third ∷ fourth ∷ []) = four_words word secon
 request_of (word ∷ second ∷ third ∷ fourth ∷ fifth ∷ []) = five_words word second third fourth fifth
 request_of (word ∷ second ∷ third ∷ fourth ∷ fifth ∷ sixth ∷ []) = six_words word second third fourth fifth sixth
 request_of (word ∷ second ∷ third ∷ fourth ∷ fifth ∷ sixth ∷ seventh ∷ more) = None
+
+-- a command of the code as a row of the command table
+abbrev pub request : Command → Request
+request Help = help
+request Version = version
+request (Info mesh) = info mesh.now
+request (Disc mesh) = disc mesh.now
+request (Cycles task mesh lengths) = cycles task mesh.now lengths.now
+request (Weighted task mesh lengths base) = weighted task mesh.now lengths.now base
+request (Generate shape) = makes shape
+request (Try shape scatter) = tries shape scatter
+request (Check mesh lengths cert) = checks mesh.now lengths.now cert.now
+request (Measure mesh decimals) = measures mesh.now decimals
+request (Sew mesh) = sews mesh.now
+request (Class mesh walk) = classes mesh.now walk.now
+request (Same mesh first second) = compares mesh.now first.now second.now
+request (Confirm mesh walk cert) = confirms mesh.now walk.now cert.now
+request (Shortest mesh lengths walk) = tightens mesh.now lengths.now walk.now
+
+-- ---- the fixed texts
+
+abbrev pub version_text : List ℕ
+version_text = codes "surf 0.1.0\n"
+
+-- how the program is called, line by line
+abbrev pub help_text : List ℕ
+help_text =
+    codes "surf: shortest loops, least bases and cuts of closed surface meshes\n"
+    ++ codes "\n"
+    ++ codes "usage: surf info M             counts, Euler characteristic, genus or crosscaps\n"
+    ++ codes "       surf dist M L x         the distance of each vertex from vertex x\n"
+    ++ codes "       surf loops M L x        a shortest system of independent loops at vertex x\n"
+    ++ codes "       surf basis M L          a shortest basis: independent cycles of least total length\n"
+    ++ codes "       surf cycle M L          a shortest cycle that doesn't separate the surface\n"
+    ++ codes "       surf cut M L x full     the mesh cut into one disc\n"
+    ++ codes "       surf cut M L x trim     the same with the cut's loose ends left uncut\n"
+    ++ codes "       surf sew M              the mesh that was cut, from what cut wrote\n"
+    ++ codes "       surf disc M             whether a mesh is a disc\n"
+    ++ codes "       surf class M W          whether a closed walk is a boundary, with evidence\n"
+    ++ codes "       surf same M W W2        whether two closed walks go round the same way\n"
+    ++ codes "       surf confirm M W C      whether the evidence that class wrote is right\n"
+    ++ codes "       surf shortest M L W     a shortest closed walk that goes round as W does\n"
+    ++ codes "       surf certify M L x      a certificate of loops at vertex x\n"
+    ++ codes "       surf certify M L        a certificate of a basis\n"
+    ++ codes "       surf check M L C        whether a certificate is valid, and its total\n"
+    ++ codes "       surf lengths M k        the lengths of the edges from coordinates, in units of 10^-k\n"
+    ++ codes "       surf gen torus a b      a torus of a by b squares\n"
+    ++ codes "       surf gen chain g a b    a chain of g such tori\n"
+    ++ codes "       surf try torus a b s    a summary of a torus with lengths scattered by s\n"
+    ++ codes "       surf try chain g a b s  the same of a chain\n"
+    ++ codes "       surf --help | --version\n"
+    ++ codes "\n"
+    ++ codes "files: M  a mesh in OFF, one vertex or face a line\n"
+    ++ codes "       L  the word unit, or a file with a line u v n for each edge: its ends and its length\n"
+    ++ codes "       C  what certify or class wrote\n"
+    ++ codes "       W  a closed walk: its vertices on one line, the first at the end again\n"
+    ++ codes "numbers: x a vertex from 0; k from 0 to 9; lengths whole, from 1 to 4294967295\n"
+    ++ codes "\n"
+    ++ codes "status: 0 done, 1 no, 2 words, 3 mesh text, 4 no surface, 5 lengths, 6 limit, 7 vertex,\n"
+    ++ codes "        8 certificate or evidence text, 9 file, 10 output, 11 memory, 12 coordinates,\n"
+    ++ codes "        13 walk, 14 copies; from 2 on with a line on standard error\n"
+    ++ codes "limits: 1000000 vertices, 2000000 faces, 1024 loops; 20000 vertices for basis and cycle\n"
+    ++ codes "example: surf lengths eight.off 6 > eight.len; surf basis eight.off eight.len\n"
+    ++ codes "manual: docs/guide.md of the repository\n"

@@ -1,6 +1,6 @@
 //! The decimals of a unit of length.
 ghost use Rattle.std.specs.Prelude.{◌≡◌, ◌≤◌};
-ghost use Rattle.surf_words.specs.Decimals.{few_decimals};
+ghost use Rattle.surf_words.specs.Words.{few_decimals};
 
 use std::marker::Model;
 

@@ -9,4 +9,4 @@ mod words;
 pub use decimals::Decimals;
 pub use shape::Shape;
 pub use tasks::{CutKind, CycleTask, Task};
-pub use words::{Command, parse};
+pub use words::{Command, HELP, parse};

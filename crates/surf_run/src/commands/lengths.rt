@@ -1,9 +1,10 @@
 //! The command `lengths`.
-ghost use Rattle.std.specs.Prelude.{◌≡◌, ◌≤◌, length, IfOk};
+ghost use Rattle.std.specs.Prelude.{◌≡◌, ◌≤◌, length, IfOk, Some};
 ghost use Rattle.surf_surfaces.specs.Surface.{edge_count};
-ghost use Rattle.surf_run.specs.Coordinates.{Measures, OnCoordinates, OnLengths, OnLengthsText};
-ghost use Rattle.surf_answers.specs.Tells.{Concludes, ConcludesOver, Takes};
-ghost use Rattle.surf_base.specs.declared.limits.TheConstants.{MAX_TEXT};
+ghost use Rattle.surf_words.specs.Words.{measures};
+ghost use Rattle.surf_answers.specs.Tells.{ConcludesOver, Takes};
+ghost use Rattle.surf_run.specs.Commands.{OnRequest};
+ghost use Rattle.surf_answers.specs.Coordinates.{Measures};
 
 use crate::reading::{read_file, read_surface};
 use std::alloc::Global;
@@ -17,7 +18,7 @@ use surf_texts::Refused;
 use surf_words::Decimals;
 
 /// What `lengths` answers: the measures of the edges of a surface as a length file.
-pub(crate) fn lengths<S: Shelf>(
+pub(crate) fn measured<S: Shelf>(
     alloc: Global,
     shelf: &mut S,
     mesh: &str,
@@ -26,35 +27,16 @@ pub(crate) fn lengths<S: Shelf>(
     ensures holds { S.holds shelf.new ≡ S.holds shelf.old }
     ensures later { S.faults shelf.old ≤ S.faults shelf.new }
     ensures tells { ConcludesOver (S.holds shelf.old) (S.faults shelf.old) (S.faults shelf.new)
-        (OnLengths mesh.now decimals) result }
+        (OnRequest (Some (measures mesh.now decimals))) result }
 {
     let bytes = read_file(alloc, shelf, mesh)?;
-    lengths_of_text(alloc, &bytes, decimals)
-}
-
-fn lengths_of_text(alloc: Global, bytes: &[u8], decimals: Decimals) -> Result<Answered, Refused>
-    requires { length bytes.now ≤ MAX_TEXT }
-    ensures { Concludes (OnLengthsText decimals bytes.now) result }
-{
-    let (text, mesh) = read_surface(alloc, bytes)?;
-    lengths_of(alloc, &text, &mesh, decimals)
-}
-
-fn lengths_of(
-    alloc: Global,
-    text: &OffText<'_>,
-    mesh: &HalfMesh,
-    decimals: Decimals,
-) -> Result<Answered, Refused>
-    requires lines { length text.now.vertex_lines ≡ mesh.now.vertices }
-    ensures { Concludes (OnCoordinates decimals (text.now, mesh.now)) result }
-{
-    let lengths = measures(alloc, text, mesh, decimals)?;
-    measures_of(alloc, mesh, &lengths)
+    let (text, mesh) = read_surface(alloc, &bytes)?;
+    let lengths = measure_edges(alloc, &text, &mesh, decimals)?;
+    measures_of(alloc, &mesh, &lengths)
 }
 
 // The measures of the edges.
-fn measures(
+fn measure_edges(
     alloc: Global,
     text: &OffText<'_>,
     mesh: &HalfMesh,

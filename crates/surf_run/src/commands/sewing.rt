@@ -1,12 +1,14 @@
 //! The command `sew`.
-ghost use Rattle.std.specs.Prelude.{◌≡◌, ◌<◌, ◌≤◌, ◌^◌, length, IfOk};
+ghost use Rattle.std.specs.Prelude.{◌≡◌, ◌<◌, ◌≤◌, ◌^◌, length, IfOk, Some};
 ghost use Rattle.surf_surfaces.specs.Surface.{face_count};
-ghost use Rattle.surf_run.specs.Sewing.{HasOrigins, IsSewn, OnCopies, OnOrigins, OnSew, OnSewText, OnSewnMesh};
-ghost use Rattle.surf_answers.specs.Sewing.{GivesSewn};
-ghost use Rattle.surf_run.specs.Steps.{Ends};
-ghost use Rattle.surf_run.specs.Surfaces.{IsSurfaceOf};
-ghost use Rattle.surf_answers.specs.Tells.{Concludes, ConcludesOver, Takes};
 ghost use Rattle.surf_sew.specs.Sewing.{HaveCopies};
+ghost use Rattle.surf_words.specs.Words.{sews};
+ghost use Rattle.surf_answers.specs.Sewing.{GivesSewn};
+ghost use Rattle.surf_answers.specs.Tells.{Concludes, ConcludesOver, Takes};
+ghost use Rattle.surf_run.specs.Commands.{OnRequest};
+ghost use Rattle.surf_run.specs.Reading.{IsSurfaceOf};
+ghost use Rattle.surf_run.specs.Sewing.{HasOrigins, IsSewn, OnSewnMesh};
+ghost use Rattle.surf_run.specs.Steps.{Ends};
 ghost use Rattle.surf_base.specs.declared.limits.TheConstants.{MAX_TEXT};
 
 use crate::reading::{read_file, read_mesh, surface_of};
@@ -14,7 +16,6 @@ use std::alloc::Global;
 use surf_answers::{Answered, not_disc, sewn_text};
 use surf_base::{Shelf, VertexId};
 use surf_disc::{DiscFault, check_disc};
-use surf_mesh::HalfMesh;
 use surf_off::OffText;
 use surf_sew::{read_copies, sew as sew_copies};
 use surf_soup::Soup;
@@ -25,33 +26,13 @@ pub(crate) fn sew<S: Shelf>(alloc: Global, shelf: &mut S, mesh: &str) -> Result<
     ensures holds { S.holds shelf.new ≡ S.holds shelf.old }
     ensures later { S.faults shelf.old ≤ S.faults shelf.new }
     ensures tells { ConcludesOver (S.holds shelf.old) (S.faults shelf.old) (S.faults shelf.new)
-        (OnSew mesh.now) result }
+        (OnRequest (Some (sews mesh.now))) result }
 {
     let bytes = read_file(alloc, shelf, mesh)?;
-    sew_text(alloc, &bytes)
-}
-
-fn sew_text(alloc: Global, bytes: &[u8]) -> Result<Answered, Refused>
-    requires { length bytes.now ≤ MAX_TEXT }
-    ensures { Concludes (OnSewText bytes.now) result }
-{
-    let (text, copies) = read_mesh(alloc, bytes)?;
-    sew_of(alloc, bytes, &text, &copies)
-}
-
-fn sew_of(
-    alloc: Global,
-    bytes: &[u8],
-    text: &OffText<'_>,
-    copies: &Soup,
-) -> Result<Answered, Refused>
-    requires bytes { length bytes.now ≤ MAX_TEXT }
-    requires lines { length text.now.vertex_lines ≡ copies.now.vertices }
-    requires colours { length text.now.colours ≡ face_count copies.now }
-    ensures { Concludes (OnCopies bytes.now (text.now, copies.now)) result }
-{
-    let origins = origins_of(alloc, bytes, copies.vertices())?;
-    sew_origins(alloc, text, copies, &origins)
+    let (text, copies) = read_mesh(alloc, &bytes)?;
+    let origins = origins_of(alloc, &bytes, copies.vertices())?;
+    let sewn = sewn_of(alloc, &text, &copies, &origins)?;
+    sewn_disc(alloc, &text, &copies, &origins, sewn)
 }
 
 // The origins of the copies.
@@ -65,22 +46,6 @@ fn origins_of(alloc: Global, bytes: &[u8], vertices: u32) -> Result<Vec<VertexId
         Ok(origins) => Ok(origins),
         Err(fault) => Err(Refused::Copies { fault, vertices }),
     }
-}
-
-fn sew_origins(
-    alloc: Global,
-    text: &OffText<'_>,
-    copies: &Soup,
-    origins: &[VertexId],
-) -> Result<Answered, Refused>
-    requires lines { length text.now.vertex_lines ≡ copies.now.vertices }
-    requires colours { length text.now.colours ≡ face_count copies.now }
-    requires origins { length origins.now ≡ copies.now.vertices }
-    requires countable { length origins.now < 2 ^ 32 }
-    ensures { Concludes (OnOrigins (text.now, copies.now) origins.now) result }
-{
-    let sewn = sewn_of(alloc, text, copies, origins)?;
-    sewn_disc(alloc, text, copies, origins, sewn)
 }
 
 // The mesh of copies with each corner replaced by its origin.
@@ -133,8 +98,7 @@ fn sewn_surface(
     requires colours { face_count sewn ≡ length text.now.colours }
     requires countable { length origins.now < 2 ^ 32 }
     requires copies { HaveCopies origins.now sewn.vertices }
-    ensures { Concludes (λ outcome. Ends (IsSurfaceOf sewn) (GivesSewn text.now origins.now)
-        outcome) result }
+    ensures { Concludes (Ends (IsSurfaceOf sewn) (GivesSewn text.now origins.now)) result }
 {
     let mesh = surface_of(alloc, sewn)?;
     sewn_text(alloc, text, origins, &mesh)

@@ -10,7 +10,7 @@ use Rattle.surf_answers.specs.LeastBasis.{GivesBasis}
 use Rattle.surf_texts.specs.Limits.{beyond}
 use Rattle.surf_texts.specs.Outcome.{answers}
 use Rattle.surf_answers.proofs.FindingLaws.{gives_basis}
-use Rattle.surf_answers.proofs.Saying.{blank, says_whole, says_beyond, why_overfilled}
+use Rattle.surf_answers.proofs.Saying.{blank, says_whole, says_beyond, why_overfilled, ends_as}
 use Rattle.surf_answers.proofs.basis.basis_of.Goals as goal
 
 pub returns-in_err-put_basis : goal.returns-in_err-put_basis
@@ -35,8 +35,9 @@ returns c =
     let filled : c.put_basis.new.page ≡ grown c.make-page.result (cycles_text basis) =
     subst (λ (cycles : List Cycle). c.put_basis.new.page ≡ grown c.make-page.result (cycles_text (as_loops cycles))) c.deref.ensures.value c.in_ok-put_basis.ensures in
     let most : c.put_basis.new.page.most ≡ 1073741824 = ap (λ (page : PageState). page.most) filled ∙ ap (λ (page : PageState). page.most) c.make-page.ensures.empty in
-    gives_basis mesh lengths c.law_of_surface.ensures.surface c.law_of_lengths.ensures.lengths c.requires.lengths basis e.chosen e.least
+    ends_as (GivesBasis mesh lengths) c.yes.result _ c.yes.ensures
+    (gives_basis mesh lengths c.law_of_surface.ensures.surface c.law_of_lengths.ensures.lengths c.requires.lengths basis e.chosen e.least
     (answers 0 c.into_bytes.result.items)
     (says_whole (cycles_text basis) c.into_bytes.result.items
     (c.into_bytes.ensures.bytes ∙ ap (λ (page : PageState). page.bytes) filled ∙ ap (λ (page : PageState). page.bytes ++ cycles_text basis) c.make-page.ensures.empty)
-    (subst (λ (n : ℕ). length c.into_bytes.result.items ≤ n) most c.into_bytes.ensures.within))
+    (subst (λ (n : ℕ). length c.into_bytes.result.items ≤ n) most c.into_bytes.ensures.within)))

@@ -4,6 +4,7 @@ use Rattle.surf_cert.specs.Written.{basis_text}
 use Rattle.surf_answers.specs.Certificates.{GivesBasisCert}
 use Rattle.surf_texts.specs.Limits.{beyond}
 use Rattle.surf_texts.specs.Outcome.{answers}
+use Rattle.surf_answers.proofs.Saying.{ends_as}
 use Rattle.surf_answers.proofs.CertifyLaws.{gives_basis_cert, says_page, why_stopped}
 use Rattle.surf_answers.proofs.certificates.basis_cert_of.Goals as goal
 
@@ -21,7 +22,8 @@ returns-in_err-write_basis_cert c =
 pub returns : goal.returns
 returns c =
     let cert = c.in_ok-cert.cert in
-    gives_basis_cert c.args.mesh.now c.args.lengths.now cert c.law_of_surface.ensures.surface c.law_of_lengths.ensures.lengths c.requires.lengths c.in_ok-cert.ensures.chosen c.in_ok-cert.ensures.valid
+    ends_as (GivesBasisCert c.args.mesh.now c.args.lengths.now) c.yes.result _ c.yes.ensures
+    (gives_basis_cert c.args.mesh.now c.args.lengths.now cert c.law_of_surface.ensures.surface c.law_of_lengths.ensures.lengths c.requires.lengths c.in_ok-cert.ensures.chosen c.in_ok-cert.ensures.valid
     (answers 0 c.into_bytes.result.items)
     (says_page (basis_text cert) c.make-page.result c.make-page.ensures.empty c.write_basis_cert.new.page c.into_bytes.result.items
-    c.in_ok-write_basis_cert.ensures.puts.0 c.into_bytes.ensures.bytes c.into_bytes.ensures.within)
+    c.in_ok-write_basis_cert.ensures.puts.0 c.into_bytes.ensures.bytes c.into_bytes.ensures.within))

@@ -6,6 +6,7 @@ use Rattle.surf_loops.specs.Loops.{IsGreedy}
 use Rattle.surf_answers.specs.Certificates.{GivesLoopCert}
 use Rattle.surf_texts.specs.Limits.{beyond}
 use Rattle.surf_texts.specs.Outcome.{answers}
+use Rattle.surf_answers.proofs.Saying.{ends_as}
 use Rattle.surf_answers.proofs.CertifyLaws.{gives_loop_cert, says_page, why_stopped}
 use Rattle.surf_answers.proofs.certificates.loop_cert_of.Goals as goal
 
@@ -28,7 +29,8 @@ returns-in_err-write_loop_cert c =
 pub returns : goal.returns
 returns c =
     let cert = c.in_ok-cert.cert in
-    gives_loop_cert c.args.mesh.now c.args.lengths.now c.args.base c.greedy.new.self cert c.greedy.ensures.greedy c.in_ok-cert.ensures.cert c.in_ok-cert.ensures.valid
+    ends_as (GivesLoopCert c.args.mesh.now c.args.lengths.now c.args.base) c.yes.result _ c.yes.ensures
+    (gives_loop_cert c.args.mesh.now c.args.lengths.now c.args.base c.greedy.new.self cert c.greedy.ensures.greedy c.in_ok-cert.ensures.cert c.in_ok-cert.ensures.valid
     (answers 0 c.into_bytes.result.items)
     (says_page (loop_text cert) c.make-page.result c.make-page.ensures.empty c.write_loop_cert.new.page c.into_bytes.result.items
-    c.in_ok-write_loop_cert.ensures.puts.0 c.into_bytes.ensures.bytes c.into_bytes.ensures.within)
+    c.in_ok-write_loop_cert.ensures.puts.0 c.into_bytes.ensures.bytes c.into_bytes.ensures.within))

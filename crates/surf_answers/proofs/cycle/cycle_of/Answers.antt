@@ -8,7 +8,7 @@ use Rattle.surf_texts.specs.Limits.{beyond}
 use Rattle.surf_texts.specs.Outcome.{answers}
 use Rattle.surf_answers.specs.ShortestCycle.{GivesCycle}
 use Rattle.surf_answers.proofs.FindingLaws.{gives_cycle}
-use Rattle.surf_answers.proofs.Saying.{says_whole, says_beyond, why_overfilled}
+use Rattle.surf_answers.proofs.Saying.{says_whole, says_beyond, why_overfilled, ends_as}
 use Rattle.surf_answers.proofs.cycle.cycle_of.Goals as goal
 
 pub returns-in_err-put_found : goal.returns-in_err-put_found
@@ -31,8 +31,9 @@ returns c =
     let e = c.in_ok-found.ensures in
     let most : c.put_found.new.page.most ≡ 1073741824 =
     ap (λ (page : PageState). page.most) c.in_ok-put_found.ensures ∙ ap (λ (page : PageState). page.most) c.make-page.ensures.empty in
-    gives_cycle mesh lengths c.law_of_surface.ensures.surface c.law_of_lengths.ensures.lengths c.requires.lengths found e.first e.shortest e.separate
+    ends_as (GivesCycle mesh lengths) c.yes.result _ c.yes.ensures
+    (gives_cycle mesh lengths c.law_of_surface.ensures.surface c.law_of_lengths.ensures.lengths c.requires.lengths found e.first e.shortest e.separate
     (answers 0 c.into_bytes.result.items)
     (says_whole (found_text found) c.into_bytes.result.items
     (c.into_bytes.ensures.bytes ∙ ap (λ (page : PageState). page.bytes) c.in_ok-put_found.ensures ∙ ap (λ (page : PageState). page.bytes ++ found_text found) c.make-page.ensures.empty)
-    (subst (λ (n : ℕ). length c.into_bytes.result.items ≤ n) most c.into_bytes.ensures.within))
+    (subst (λ (n : ℕ). length c.into_bytes.result.items ≤ n) most c.into_bytes.ensures.within)))

@@ -7,7 +7,7 @@ use Rattle.surf_texts.specs.Fills.{Overfills}
 use Rattle.surf_texts.specs.TreeTexts.{tables_text}
 use Rattle.surf_texts.proofs.TreeTextLaws.{tables_are_texts}
 use Rattle.surf_answers.specs.Distances.{GivesDistances}
-use Rattle.surf_answers.proofs.Saying.{blank, says_whole, says_beyond, why_overfilled}
+use Rattle.surf_answers.proofs.Saying.{blank, says_whole, says_beyond, why_overfilled, ends_as}
 use Rattle.surf_answers.proofs.distances.dist_of.Goals as goal
 
 pub returns-in_err-put_distances : goal.returns-in_err-put_distances
@@ -32,11 +32,12 @@ returns c =
     ap (λ n. tables_text t n) c.vertices.ensures.count ∙ tables_are_texts mesh c.args.lengths.now c.args.base t c.grow.ensures.grown in
     let most : c.put_distances.new.page.most ≡ 1073741824 =
     ap (λ (page : PageState). page.most) c.in_ok-put_distances.ensures ∙ ap (λ (page : PageState). page.most) c.make-page.ensures.empty in
-    record {
+    ends_as (GivesDistances mesh c.args.lengths.now c.args.base) c.yes.result _ c.yes.ensures
+    (record {
       tree = tree_of t;
       shortest = c.grow.ensures.grown.shortest;
       says = says_whole (distances_text mesh.vertices (tree_of t)) c.into_bytes.result.items
           (c.into_bytes.ensures.bytes ∙ ap (λ (page : PageState). page.bytes) c.in_ok-put_distances.ensures
           ∙ ap (λ (page : PageState). page.bytes ++ tables_text t c.vertices.result) c.make-page.ensures.empty ∙ same)
           (subst (λ (n : ℕ). length c.into_bytes.result.items ≤ n) most c.into_bytes.ensures.within);
-    }
+    })

@@ -3,13 +3,17 @@ use Rattle.std.proofs.lemmas.Grind.{common_steps}
 use Rattle.surf_check.specs.Growth.{flag_of}
 use Rattle.surf_surfaces.specs.Homology.{IsFullCount}
 use Rattle.surf_turnings.proofs.GenusLaws.{genus_is_full_count}
+use Rattle.surf_answers.specs.Info.{HasGenus}
+use Rattle.surf_answers.proofs.Saying.{ends_as}
 use Rattle.surf_answers.proofs.info.two_sided.Goals as goal
 
 pub returns : goal.returns
-returns c = record {
-  two_sided = (flag_of c.args.turning.now, c.requires);
-  genus = c.genus.result;
-  twice = subst (λ (n : ℕ). IsFullCount c.args.mesh.now (2 * n)) (sym c.genus.ensures.is)
-      (genus_is_full_count c.args.mesh.now (flag_of c.args.turning.now) c.law_of_surface.ensures.surface c.requires);
-  text = grind (arith, common_steps);
-}
+returns c =
+    ends_as (HasGenus c.args.mesh.now) c.yes.result _ c.yes.ensures
+    (record {
+      two_sided = (flag_of c.args.turning.now, c.requires);
+      genus = c.genus.result;
+      twice = subst (λ (n : ℕ). IsFullCount c.args.mesh.now (2 * n)) (sym c.genus.ensures.is)
+          (genus_is_full_count c.args.mesh.now (flag_of c.args.turning.now) c.law_of_surface.ensures.surface c.requires);
+      text = grind (arith, common_steps);
+    })

@@ -8,7 +8,7 @@ use Rattle.surf_texts.specs.LoopTexts.{loops_text}
 use Rattle.surf_answers.specs.HeadTexts.{heads_text}
 use Rattle.surf_answers.specs.LeastLoops.{GivesLoops}
 use Rattle.surf_answers.proofs.HeadLaws.{heads_are_loops, heads_inside}
-use Rattle.surf_answers.proofs.Saying.{blank, says_whole, says_beyond, why_overfilled}
+use Rattle.surf_answers.proofs.Saying.{blank, says_whole, says_beyond, why_overfilled, ends_as}
 use Rattle.surf_answers.proofs.loops.loops_of.Goals as goal
 
 pub put_answer-requires-clause-edges : goal.put_answer-requires-clause-edges
@@ -23,7 +23,7 @@ returns-in_err-put_answer c =
     let fault = c.in_err-put_answer.field-0.0 in
     let p = err_from_is_err_and c.from_residual-in_err-put_answer.result c.from_residual-in_err-put_answer.ensures.1 in
     rw (p.1, p.2) (why_overfilled (GivesLoops mesh lengths c.args.base) text fault
-    (λ long. record { trees = trees_of t; chosen = c.greedy.ensures.greedy.chosen; least = c.greedy.ensures.greedy.least; says = says_beyond text long })
+    (λ long. record { found = record { trees = trees_of t; chosen = c.greedy.ensures.greedy.chosen; least = c.greedy.ensures.greedy.least }; says = says_beyond text long })
     (subst (λ (xs : List ℕ). Overfills blank xs fault) (heads_are_loops mesh lengths c.args.base t c.greedy.ensures.greedy)
     (subst (λ (page : PageState). Overfills page (heads_text mesh t) fault) c.make-page.ensures.empty c.in_err-put_answer.ensures)))
 
@@ -34,12 +34,11 @@ returns c =
     let t = c.greedy.new.self in
     let most : c.put_answer.new.page.most ≡ 1073741824 =
     ap (λ (page : PageState). page.most) c.in_ok-put_answer.ensures ∙ ap (λ (page : PageState). page.most) c.make-page.ensures.empty in
-    record {
-      trees = trees_of t;
-      chosen = c.greedy.ensures.greedy.chosen;
-      least = c.greedy.ensures.greedy.least;
+    ends_as (GivesLoops mesh lengths c.args.base) c.yes.result _ c.yes.ensures
+    (record {
+      found = record { trees = trees_of t; chosen = c.greedy.ensures.greedy.chosen; least = c.greedy.ensures.greedy.least };
       says = says_whole (loops_text (loops_at mesh lengths c.args.base (trees_of t))) c.into_bytes.result.items
           (c.into_bytes.ensures.bytes ∙ ap (λ (page : PageState). page.bytes) c.in_ok-put_answer.ensures
           ∙ ap (λ (page : PageState). page.bytes ++ heads_text mesh t) c.make-page.ensures.empty ∙ heads_are_loops mesh lengths c.args.base t c.greedy.ensures.greedy)
           (subst (λ (n : ℕ). length c.into_bytes.result.items ≤ n) most c.into_bytes.ensures.within);
-    }
+    })

@@ -16,8 +16,6 @@ returns c =
     let t = c.greedy.new.self in
     let greedy : IsGreedy mesh lengths 0 t = subst (λ x. IsGreedy mesh lengths x t) c.new.ensures c.greedy.ensures.greedy in
     record {
-      trees = trees_of t;
-      chosen = greedy.chosen;
-      least = greedy.least;
+      found = record { trees = trees_of t; chosen = greedy.chosen; least = greedy.least };
       is = c.total_of.ensures ∙ ap (λ (heads : List LoopHead). sum (map (λ h. h.length) heads)) c.heads.ensures.heads ∙ heads_total mesh lengths 0 t greedy;
     }

@@ -3,7 +3,7 @@ use Rattle.surf_base.specs.Outside.{GrowsBy}
 use Rattle.surf_base.specs.Transfer.{GrowsByShorter}
 use Rattle.surf_texts.specs.Refusals.{cause_of}
 use Rattle.surf_run.specs.Run.{WritesAnswer}
-use Rattle.surf_words.specs.Seen.{request}
+use Rattle.surf_words.specs.Words.{request}
 use Rattle.surf_words.specs.Words.{texts}
 use Rattle.surf_run.proofs.OneLine.{refusals_are_said}
 use Rattle.surf_run.proofs.Running.{no_row, written, cut_off, write_fault_said, told_why, told_unread, refusals_are_due}

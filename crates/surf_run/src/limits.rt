@@ -1,0 +1,35 @@
+//! Limits on counts.
+ghost use Rattle.std.specs.Prelude.{◌≤◌, IfOk};
+ghost use Rattle.surf_base.specs.declared.limits.LimitKind.TheVariants.{Loops};
+ghost use Rattle.surf_base.specs.declared.limits.TheConstants.{MAX_LOOPS};
+ghost use Rattle.surf_surfaces.specs.Surface.{loop_count};
+ghost use Rattle.surf_answers.specs.Tells.{Takes};
+ghost use Rattle.surf_run.specs.Steps.{AtMost};
+
+use surf_answers::loop_count;
+use surf_base::{LimitKind, MAX_LOOPS};
+use surf_mesh::HalfMesh;
+use surf_texts::Refused;
+
+/// Whether a count is at most its limit.
+pub(crate) fn at_most(kind: LimitKind, most: u128, count: u128) -> Result<(), Refused>
+    ensures tells { Takes (λ _. tt) (AtMost kind most count) result }
+    ensures few { IfOk result (λ _. count ≤ most) }
+{
+    if count > most {
+        return Err(Refused::Limit(kind));
+    }
+    Ok(())
+}
+
+/// Whether a surface has few loops.
+pub(crate) fn test_loops(mesh: &HalfMesh) -> Result<(), Refused>
+    ensures tells { Takes (λ _. tt) (AtMost Loops MAX_LOOPS (loop_count mesh.now)) result }
+    ensures few { IfOk result (λ _. loop_count mesh.now ≤ MAX_LOOPS) }
+{
+    at_most(
+        LimitKind::Loops,
+        MAX_LOOPS as u128,
+        u128::from(loop_count(mesh)),
+    )
+}
