@@ -28,10 +28,10 @@ fn each_cut_after_the_first_at_a_vertex_splits_it(rt: HostRuntime) -> Result<(),
     let soup = soup(rt.alloc(), 4, &TETRAHEDRON).ok().ok_or("room")?;
     let mesh = check(rt.alloc(), soup).ok().ok_or("a surface")?;
     let mut slit = Slit::start(rt.alloc(), &mesh).ok().ok_or("room")?;
-    for (v, labels) in [(1, 4), (2, 5), (3, 6)] {
-        let cut = cut_from_zero(&mesh, &mut slit, v)?;
-        assert_eq!(rt; (cut, slit.labels()), (true, labels));
-    }
+    let first = (cut_from_zero(&mesh, &mut slit, 1)?, slit.labels());
+    let second = (cut_from_zero(&mesh, &mut slit, 2)?, slit.labels());
+    let third = (cut_from_zero(&mesh, &mut slit, 3)?, slit.labels());
+    assert_eq!(rt; [first, second, third], [(true, 4), (true, 5), (true, 6)]);
     Ok(())
 }
 
