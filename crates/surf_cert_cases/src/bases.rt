@@ -3,47 +3,33 @@ ghost use Rattle.std.specs.Prelude.{◌≡◌, ◌≤◌, ◌+◌, IsTrue, IfOk,
 ghost use Rattle.surf_surfaces.specs.Surface.{edge_count, face_count};
 
 use crate::edit::edited;
-use crate::texts::{SCATTERED_TREES, TREES};
+use crate::kinds::{basis_of, read};
+use crate::surfaces::{scattered, torus};
+use crate::texts::{scattered_trees, trees};
 use std::alloc::Global;
 use std::test::Fail;
 use surf_base::{FaceId, VertexId};
-use surf_cert::{BasisCert, Cert, DualRows, TreeRows, read_cert};
+use surf_cert::{BasisCert, DualRows, TreeRows};
 use surf_certcheck::{CertFault, CertPart, check_basis};
-use surf_check::check;
 use surf_lengths::{Lengths, read_lengths, unit_lengths};
 use surf_mesh::{HalfMesh, Walk};
-use surf_off::read_off;
-use surf_samples::{SCATTERED, TORUS_TEXT};
 
-// The torus.
-fn torus(alloc: Global) -> Result<HalfMesh, Fail> {
-    if TORUS_TEXT.len() > 10_000 {
-        return Err("a long text")?;
-    }
-    let Ok((_, soup)) = read_off(alloc, TORUS_TEXT.as_bytes()) else {
-        return Err("a mesh")?;
-    };
-    match check(alloc, soup) {
-        Ok(mesh) => Ok(mesh),
-        Err(_) => Err("a surface")?,
-    }
-}
-
-// The certificate of a text, with these cycles, each on a line.
-fn cert_of(alloc: Global, trees: &[u8], cycles: &str) -> Result<BasisCert, Fail> {
+// The text of a certificate of these trees and of these cycles, each on a line.
+fn text_of(alloc: Global, trees: &[u8], cycles: &str) -> Result<Vec<u8>, Fail> {
     if trees.len() > 10_000 || cycles.len() > 1000 {
         return Err("a long text")?;
     }
     let mut text = trees.to_vec(alloc)?;
     text.extend_from_slice(b"cycles\n")?;
     text.extend_from_slice(cycles.as_bytes())?;
-    if text.len() > 20_000 {
-        return Err("a long text")?;
-    }
-    match read_cert(alloc, &text) {
-        Ok(Cert::Basis(cert)) => Ok(cert),
-        _ => Err("a certificate of a basis")?,
-    }
+    Ok(text)
+}
+
+// The certificate of these trees and of these cycles.
+fn cert_of(alloc: Global, trees: &[u8], cycles: &str) -> Result<BasisCert, Fail> {
+    let text = text_of(alloc, trees, cycles)?;
+    let cert = basis_of(read(alloc, &text)?);
+    Ok(cert.ok_or("a certificate of a basis")?)
 }
 
 // Whether two less the characteristic is at most 1,024.
@@ -106,7 +92,7 @@ fn cycles_and_their_faults(rt: HostRuntime) -> Result<(), Fail> {
         ),
     ];
     for (cycles, want) in cases {
-        let cert = cert_of(alloc, TREES.as_bytes(), cycles)?;
+        let cert = cert_of(alloc, trees().as_bytes(), cycles)?;
         assert_eq!(rt; judged(alloc, "", &cert)?, want);
     }
     Ok(())
@@ -160,7 +146,7 @@ fn trees_and_their_faults(rt: HostRuntime) -> Result<(), Fail> {
         ((113, "1 3"), (0, ""), CertFault::Split { u: v(1), v: v(2) }),
     ];
     for ((place, line), (other_place, other_line), want) in cases {
-        let text = edited(alloc, TREES.as_bytes(), place, line)?;
+        let text = edited(alloc, trees().as_bytes(), place, line)?;
         let text = edited(alloc, &text, other_place, other_line)?;
         let cert = cert_of(alloc, &text, "0 1 2 0\n0 1 2 0\n")?;
         assert_eq!(rt; judged(alloc, "", &cert)?, Err(want));
@@ -202,7 +188,7 @@ fn rebased(
 fn sizes_and_bases(rt: HostRuntime) -> Result<(), Fail> {
     let alloc = rt.alloc();
     let v = VertexId::new;
-    let cert = cert_of(alloc, TREES.as_bytes(), "0 1 2 0\n0 3 6 0\n")?;
+    let cert = cert_of(alloc, trees().as_bytes(), "0 1 2 0\n0 3 6 0\n")?;
     let cases = [
         (v(0), 9, Ok(6)),
         (
@@ -243,8 +229,8 @@ fn lengths_that_differ(rt: HostRuntime) -> Result<(), Fail> {
         ),
     ];
     for (cycles, want) in cases {
-        let cert = cert_of(alloc, SCATTERED_TREES.as_bytes(), cycles)?;
-        assert_eq!(rt; judged(alloc, SCATTERED, &cert)?, want);
+        let cert = cert_of(alloc, scattered_trees().as_bytes(), cycles)?;
+        assert_eq!(rt; judged(alloc, scattered(), &cert)?, want);
     }
     Ok(())
 }

@@ -7,6 +7,10 @@ mod bases;
 #[cfg(test)]
 mod edit;
 #[cfg(test)]
+mod kinds;
+#[cfg(test)]
 mod loops;
+#[cfg(test)]
+mod surfaces;
 #[cfg(test)]
 mod texts;

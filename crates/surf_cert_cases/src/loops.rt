@@ -1,33 +1,26 @@
 //! Certificates of loops, with a line edited.
 use crate::edit::edited;
-use crate::texts::{CHOSEN, LIGHTER};
+use crate::kinds::{loops_of, read};
+use crate::surfaces::torus;
+use crate::texts::{chosen, lighter};
 use std::alloc::Global;
 use std::test::Fail;
 use surf_base::{FaceId, VertexId};
-use surf_cert::{Cert, read_cert};
+use surf_cert::LoopCert;
 use surf_certcheck::{CertFault, CertPart, check_loops};
-use surf_check::check;
 use surf_lengths::unit_lengths;
-use surf_off::read_off;
-use surf_samples::TORUS_TEXT;
+
+// The certificate of a text.
+fn cert_of(alloc: Global, text: &[u8]) -> Result<LoopCert, Fail> {
+    let cert = loops_of(read(alloc, text)?);
+    Ok(cert.ok_or("a certificate of loops")?)
+}
 
 // What the checker says of the certificate of a text.
 fn judged(alloc: Global, text: &[u8]) -> Result<Result<u128, CertFault>, Fail> {
-    if text.len() > 10_000 || TORUS_TEXT.len() > 10_000 {
-        return Err("a long text")?;
-    }
-    let Ok((_, soup)) = read_off(alloc, TORUS_TEXT.as_bytes()) else {
-        return Err("a mesh")?;
-    };
-    let Ok(mesh) = check(alloc, soup) else {
-        return Err("a surface")?;
-    };
-    let Ok(lengths) = unit_lengths(alloc, &mesh) else {
-        return Err("memory")?;
-    };
-    let Ok(Cert::Loops(cert)) = read_cert(alloc, text) else {
-        return Err("a certificate of loops")?;
-    };
+    let cert = cert_of(alloc, text)?;
+    let mesh = torus(alloc)?;
+    let lengths = unit_lengths(alloc, &mesh).ok().ok_or("memory")?;
     Ok(check_loops(alloc, &mesh, &lengths, &cert))
 }
 
@@ -35,10 +28,11 @@ fn judged(alloc: Global, text: &[u8]) -> Result<Result<u128, CertFault>, Fail> {
 fn valid_ones_and_first_faults(rt: HostRuntime) -> Result<(), Fail> {
     let alloc = rt.alloc();
     let v = VertexId::new;
+    let (chosen, lighter) = (chosen(), lighter());
     let cases = [
-        (CHOSEN, 0, "", Ok(6)),
+        (chosen, 0, "", Ok(6)),
         (
-            CHOSEN,
+            chosen,
             3,
             "tree 9",
             Err(CertFault::Shape {
@@ -46,7 +40,7 @@ fn valid_ones_and_first_faults(rt: HostRuntime) -> Result<(), Fail> {
             }),
         ),
         (
-            CHOSEN,
+            chosen,
             4,
             "0 1",
             Err(CertFault::Parent {
@@ -55,7 +49,7 @@ fn valid_ones_and_first_faults(rt: HostRuntime) -> Result<(), Fail> {
             }),
         ),
         (
-            CHOSEN,
+            chosen,
             11,
             "3 1",
             Err(CertFault::Distance {
@@ -64,7 +58,7 @@ fn valid_ones_and_first_faults(rt: HostRuntime) -> Result<(), Fail> {
             }),
         ),
         (
-            CHOSEN,
+            chosen,
             12,
             "3 5",
             Err(CertFault::Slack {
@@ -74,7 +68,7 @@ fn valid_ones_and_first_faults(rt: HostRuntime) -> Result<(), Fail> {
             }),
         ),
         (
-            CHOSEN,
+            chosen,
             15,
             "4 1 4",
             Err(CertFault::Dual {
@@ -82,14 +76,14 @@ fn valid_ones_and_first_faults(rt: HostRuntime) -> Result<(), Fail> {
             }),
         ),
         (
-            CHOSEN,
+            chosen,
             33,
             "1 3",
             Err(CertFault::Split { u: v(1), v: v(2) }),
         ),
-        (CHOSEN, 9, "2 6", Err(CertFault::Split { u: v(1), v: v(5) })),
+        (chosen, 9, "2 6", Err(CertFault::Split { u: v(1), v: v(5) })),
         (
-            LIGHTER,
+            lighter,
             0,
             "",
             Err(CertFault::Heavier {

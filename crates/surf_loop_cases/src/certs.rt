@@ -1,8 +1,9 @@
 //! Certificates of the loops at vertex 0, each edge of length 1.
 ghost use Rattle.std.specs.Prelude.{◌<◌};
 
-use crate::faces::{LEFT, ROWS};
+use crate::faces::{Rows, left, rows};
 use crate::meshes::surface;
+use crate::samples::{Faces, tetrahedron, torus};
 use std::alloc::Global;
 use std::test::Fail;
 use surf_base::{NoMemory, VertexId};
@@ -10,7 +11,6 @@ use surf_cert::{DualRows, LoopCert, TreeRows};
 use surf_lengths::unit_lengths;
 use surf_loops::LoopDesk;
 use surf_mesh::HalfMesh;
-use surf_samples::{TETRAHEDRON, TORUS};
 
 // The certificate of the loops at a vertex.
 fn cert_at(alloc: Global, mesh: &HalfMesh, base: VertexId) -> Result<LoopCert, NoMemory>
@@ -57,75 +57,83 @@ fn left_are(left: &[(VertexId, VertexId)], want: &[(u32, u32)]) -> bool {
 
 /// The rows that a certificate should have.
 #[derive(Clone, Copy)]
-struct Wanted<'a> {
-    vertices: &'a [(u64, Option<u32>)],
-    faces: &'a [(u32, Option<(u32, u32)>)],
-    left: &'a [(u32, u32)],
+struct Wanted {
+    vertices: &'static [(u64, Option<u32>)],
+    faces: Rows,
+    left: &'static [(u32, u32)],
 }
 
-const TORUS_VERTICES: [(u64, Option<u32>); 9] = [
-    (0, None),
-    (1, Some(0)),
-    (1, Some(0)),
-    (1, Some(0)),
-    (1, Some(0)),
-    (2, Some(1)),
-    (1, Some(0)),
-    (2, Some(1)),
-    (1, Some(0)),
-];
-
-const TETRAHEDRON_VERTICES: [(u64, Option<u32>); 4] = [
-    (0, None),
-    (1, Some(0)),
-    (1, Some(0)),
-    (1, Some(0)),
-];
-
-const TETRAHEDRON_FACES: [(u32, Option<(u32, u32)>); 4] = [
-    (0, None),
-    (2, Some((1, 3))),
-    (2, Some((2, 3))),
-    (1, Some((1, 2))),
-];
-
-// What of the certificate of a surface isn't as wanted, or nothing.
-fn difference(
-    alloc: Global,
-    vertices: u32,
-    faces: &[(u32, u32, u32)],
-    want: &Wanted<'_>,
-) -> Result<&'static str, Fail> {
-    let mesh = surface(alloc, vertices, faces)?;
-    if mesh.vertices() == 0 {
-        return Err("no vertex")?;
+// The rows of the torus.
+fn of_torus() -> Wanted {
+    Wanted {
+        vertices: &[
+            (0, None),
+            (1, Some(0)),
+            (1, Some(0)),
+            (1, Some(0)),
+            (1, Some(0)),
+            (2, Some(1)),
+            (1, Some(0)),
+            (2, Some(1)),
+            (1, Some(0)),
+        ],
+        faces: rows(),
+        left: left(),
     }
-    let cert = cert_at(alloc, &mesh, VertexId::new(0)).ok().ok_or("room")?;
+}
+
+// The rows of the tetrahedron.
+fn of_tetrahedron() -> Wanted {
+    Wanted {
+        vertices: &[(0, None), (1, Some(0)), (1, Some(0)), (1, Some(0))],
+        faces: &[
+            (0, None),
+            (2, Some((1, 3))),
+            (2, Some((2, 3))),
+            (1, Some((1, 2))),
+        ],
+        left: &[],
+    }
+}
+
+// The certificate of the loops at vertex 0, where there is one and memory suffices.
+fn cert_at_zero(alloc: Global, mesh: &HalfMesh) -> Option<LoopCert> {
+    if mesh.vertices() == 0 {
+        return None;
+    }
+    cert_at(alloc, mesh, VertexId::new(0)).ok()
+}
+
+// The certificate of the loops at vertex 0 of a surface.
+fn cert_of(alloc: Global, vertices: u32, faces: Faces) -> Result<LoopCert, Fail> {
+    let mesh = surface(alloc, vertices, faces)?;
+    Ok(cert_at_zero(alloc, &mesh).ok_or("a certificate")?)
+}
+
+// What of a certificate isn't as wanted, or nothing.
+fn difference(cert: &LoopCert, want: &Wanted) -> &'static str {
     if cert.tree().base().number() != 0 || !vertices_are(cert.tree(), want.vertices) {
-        return Ok("vertices");
+        return "vertices";
     }
     if !faces_are(cert.dual(), want.faces) {
-        return Ok("faces");
+        return "faces";
     }
     if !left_are(cert.left(), want.left) {
-        return Ok("left");
+        return "left";
     }
-    Ok("")
+    ""
 }
 
 #[test]
-fn certificates_row_by_row(rt: HostRuntime) -> Result<(), Fail> {
-    let torus = Wanted {
-        vertices: &TORUS_VERTICES,
-        faces: &ROWS,
-        left: &LEFT,
-    };
-    assert_eq!(rt; difference(rt.alloc(), 9, &TORUS, &torus)?, "");
-    let tetrahedron = Wanted {
-        vertices: &TETRAHEDRON_VERTICES,
-        faces: &TETRAHEDRON_FACES,
-        left: &[],
-    };
-    assert_eq!(rt; difference(rt.alloc(), 4, &TETRAHEDRON, &tetrahedron)?, "");
+fn a_torus_row_by_row(rt: HostRuntime) -> Result<(), Fail> {
+    let cert = cert_of(rt.alloc(), 9, torus())?;
+    assert_eq!(rt; difference(&cert, &of_torus()), "");
+    Ok(())
+}
+
+#[test]
+fn a_tetrahedron_row_by_row(rt: HostRuntime) -> Result<(), Fail> {
+    let cert = cert_of(rt.alloc(), 4, tetrahedron())?;
+    assert_eq!(rt; difference(&cert, &of_tetrahedron()), "");
     Ok(())
 }

@@ -12,3 +12,5 @@ mod loops;
 mod meshes;
 #[cfg(test)]
 mod openings;
+#[cfg(test)]
+mod samples;

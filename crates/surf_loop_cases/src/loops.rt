@@ -4,13 +4,13 @@ ghost use Rattle.surf_surfaces.specs.Surface.{edge_count};
 ghost use Rattle.surf_loops.specs.Loops.{IsGreedy};
 
 use crate::meshes::surface;
+use crate::samples::{Faces, projective, tetrahedron, torus};
 use std::alloc::Global;
 use std::test::Fail;
 use surf_base::{NoMemory, VertexId};
 use surf_lengths::unit_lengths;
-use surf_loops::LoopDesk;
+use surf_loops::{LoopDesk, LoopHead};
 use surf_mesh::HalfMesh;
-use surf_samples::{PROJECTIVE, TETRAHEDRON, TORUS};
 
 /// A desk with the loops at a vertex.
 pub(crate) fn loops_at(alloc: Global, mesh: &HalfMesh, base: VertexId) -> Result<LoopDesk, NoMemory>
@@ -25,34 +25,38 @@ pub(crate) fn loops_at(alloc: Global, mesh: &HalfMesh, base: VertexId) -> Result
 }
 
 // Whether the loops are those of some edges with lengths, in this order.
-fn loops_are(
-    alloc: Global,
-    vertices: u32,
-    faces: &[(u32, u32, u32)],
-    want: &[(u32, u32, u64)],
-) -> Result<bool, Fail> {
-    let mesh = surface(alloc, vertices, faces)?;
-    if mesh.vertices() == 0 {
-        return Err("no vertex")?;
-    }
-    let desk = loops_at(alloc, &mesh, VertexId::new(0)).ok().ok_or("room")?;
-    let heads = desk.heads();
+fn heads_are(mesh: &HalfMesh, heads: &[LoopHead], want: &[(u32, u32, u64)]) -> bool {
     let mut same = heads.len() == want.len();
     for (head, (u, v, length)) in heads.iter().zip(want) {
         if head.edge.number() >= mesh.edges() {
-            return Ok(false);
+            return false;
         }
         let (low, high) = mesh.ends(head.edge);
         same = same && low.number() == *u && high.number() == *v && head.length == *length;
     }
-    Ok(same)
+    same
+}
+
+// The same of the loops at vertex 0, where there is one and memory suffices.
+fn loops_are(alloc: Global, mesh: &HalfMesh, want: &[(u32, u32, u64)]) -> Option<bool> {
+    if mesh.vertices() == 0 {
+        return None;
+    }
+    let desk = loops_at(alloc, mesh, VertexId::new(0)).ok()?;
+    Some(heads_are(mesh, desk.heads(), want))
 }
 
 #[test]
 fn loops_by_their_edges(rt: HostRuntime) -> Result<(), Fail> {
     let alloc = rt.alloc();
-    assert!(rt; loops_are(alloc, 4, &TETRAHEDRON, &[])?);
-    assert!(rt; loops_are(alloc, 6, &PROJECTIVE, &[(1, 3, 3)])?);
-    assert!(rt; loops_are(alloc, 9, &TORUS, &[(1, 2, 3), (3, 6, 3)])?);
+    let cases: [(u32, Faces, &[(u32, u32, u64)]); 3] = [
+        (4, tetrahedron(), &[]),
+        (6, projective(), &[(1, 3, 3)]),
+        (9, torus(), &[(1, 2, 3), (3, 6, 3)]),
+    ];
+    for (vertices, faces, wanted) in cases {
+        let mesh = surface(alloc, vertices, faces)?;
+        assert_eq!(rt; loops_are(alloc, &mesh, wanted), Some(true));
+    }
     Ok(())
 }

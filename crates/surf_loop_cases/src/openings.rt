@@ -6,13 +6,40 @@ ghost use Rattle.surf_cutter.specs.Opened.{IsHeld};
 
 use crate::loops::loops_at;
 use crate::meshes::surface;
+use crate::samples::{Faces, pillow, projective, tetrahedron, torus};
 use std::alloc::Global;
 use std::test::Fail;
 use surf_base::{CopyId, FaceId, NoMemory, SideId, VertexId};
 use surf_cotree::CotreeDesk;
 use surf_cutter::{Opened, cut_full, cut_trim};
 use surf_mesh::HalfMesh;
-use surf_samples::{PILLOW, PROJECTIVE, TETRAHEDRON, TORUS};
+
+// What is cut.
+#[derive(Clone, Copy, PartialEq, Eq)]
+enum Sample {
+    Pillow,
+    Tetrahedron,
+    Projective,
+    Torus,
+}
+
+fn vertices_of(sample: Sample) -> u32 {
+    match sample {
+        Sample::Pillow => 3,
+        Sample::Tetrahedron => 4,
+        Sample::Projective => 6,
+        Sample::Torus => 9,
+    }
+}
+
+fn faces_of(sample: Sample) -> Faces {
+    match sample {
+        Sample::Pillow => pillow(),
+        Sample::Tetrahedron => tetrahedron(),
+        Sample::Projective => projective(),
+        Sample::Torus => torus(),
+    }
+}
 
 // How far a surface is cut.
 #[derive(Clone, Copy, PartialEq, Eq)]
@@ -22,12 +49,12 @@ enum Cut {
 }
 
 // What an opened surface is to be.
-#[derive(Drop)]
-struct Want<'a> {
-    origins: &'a [u32],
-    faces: &'a [(u32, u32, u32)],
+#[derive(Clone, Copy)]
+struct Want {
+    origins: &'static [u32],
+    faces: &'static [(u32, u32, u32)],
     edges: u32,
-    boundary: &'a [u32],
+    boundary: &'static [u32],
 }
 
 fn open_along(
@@ -54,16 +81,17 @@ fn open_at(alloc: Global, mesh: &HalfMesh, base: VertexId, cut: Cut) -> Result<O
     open_along(alloc, mesh, desk.cotree(), cut)
 }
 
-fn open(alloc: Global, vertices: u32, faces: &[(u32, u32, u32)], cut: Cut) -> Result<Opened, Fail> {
-    let mesh = surface(alloc, vertices, faces)?;
+// The surface cut open at the loops at vertex 0, where there is one and memory suffices.
+fn open_at_zero(alloc: Global, mesh: &HalfMesh, cut: Cut) -> Option<Opened> {
     if mesh.vertices() == 0 {
-        return Err("no vertex")?;
+        return None;
     }
-    Ok(
-        open_at(alloc, &mesh, VertexId::new(0), cut)
-            .ok()
-            .ok_or("room")?,
-    )
+    open_at(alloc, mesh, VertexId::new(0), cut).ok()
+}
+
+fn open(alloc: Global, sample: Sample, cut: Cut) -> Result<Opened, Fail> {
+    let mesh = surface(alloc, vertices_of(sample), faces_of(sample))?;
+    Ok(open_at_zero(alloc, &mesh, cut).ok_or("an opening")?)
 }
 
 // Whether the copies are of the wanted vertices, one by one and in the table.
@@ -112,7 +140,7 @@ fn faces_are(opened: &Opened, want: &[(u32, u32, u32)]) -> bool {
 }
 
 // What differs from what is wanted, or nothing.
-fn difference(opened: &Opened, want: &Want<'_>) -> &'static str {
+fn difference(opened: &Opened, want: &Want) -> &'static str {
     if !origins_are(opened, want.origins) {
         return "origins";
     }
@@ -128,49 +156,39 @@ fn difference(opened: &Opened, want: &Want<'_>) -> &'static str {
     ""
 }
 
-#[test]
-fn a_tetrahedron_opens_along_a_star(rt: HostRuntime) -> Result<(), Fail> {
-    let alloc = rt.alloc();
-    let opened = open(alloc, 4, &TETRAHEDRON, Cut::Full)?;
-    let want = Want {
+// A tetrahedron along the star of its tree.
+fn star() -> Want {
+    Want {
         origins: &[0, 0, 0, 1, 2, 3],
         faces: &[(0, 3, 4), (1, 5, 3), (2, 4, 5), (3, 5, 4)],
         edges: 9,
         boundary: &[0, 5, 3, 8, 6, 2],
-    };
-    assert_eq!(rt; difference(&opened, &want), "");
-    // The greatest leaf, 3, loses its edge.
-    let opened = open(alloc, 4, &TETRAHEDRON, Cut::Trimmed)?;
-    let want = Want {
+    }
+}
+
+// The same, where the greatest leaf, 3, loses its edge.
+fn trimmed_star() -> Want {
+    Want {
         origins: &[0, 0, 1, 2, 3],
         faces: &[(0, 2, 3), (1, 4, 2), (1, 3, 4), (2, 4, 3)],
         edges: 8,
         boundary: &[0, 5, 6, 2],
-    };
-    assert_eq!(rt; difference(&opened, &want), "");
-    Ok(())
+    }
 }
 
-#[test]
-fn a_pillow_opens_along_two_edges(rt: HostRuntime) -> Result<(), Fail> {
-    let alloc = rt.alloc();
-    let want = Want {
+// A pillow along two edges.
+fn two_edges() -> Want {
+    Want {
         origins: &[0, 0, 1, 2],
         faces: &[(0, 2, 3), (1, 3, 2)],
         edges: 5,
         boundary: &[0, 5, 3, 2],
-    };
-    for cut in [Cut::Full, Cut::Trimmed] {
-        let opened = open(alloc, 3, &PILLOW, cut)?;
-        assert_eq!(rt; difference(&opened, &want), "");
     }
-    Ok(())
 }
 
-#[test]
-fn a_projective_plane_opens_along_one_loop(rt: HostRuntime) -> Result<(), Fail> {
-    let opened = open(rt.alloc(), 6, &PROJECTIVE, Cut::Trimmed)?;
-    let want = Want {
+// A projective plane along one loop.
+fn one_loop() -> Want {
+    Want {
         origins: &[0, 0, 1, 1, 2, 3, 3, 4, 5],
         faces: &[
             (0, 2, 4),
@@ -186,15 +204,12 @@ fn a_projective_plane_opens_along_one_loop(rt: HostRuntime) -> Result<(), Fail> 
         ],
         edges: 18,
         boundary: &[0, 21, 6, 12, 27, 5],
-    };
-    assert_eq!(rt; difference(&opened, &want), "");
-    Ok(())
+    }
 }
 
-#[test]
-fn a_torus_opens_along_two_loops(rt: HostRuntime) -> Result<(), Fail> {
-    let opened = open(rt.alloc(), 9, &TORUS, Cut::Trimmed)?;
-    let want = Want {
+// A torus along two loops.
+fn two_loops() -> Want {
+    Want {
         origins: &[0, 0, 0, 0, 1, 1, 2, 2, 3, 3, 4, 5, 6, 6, 7, 8],
         faces: &[
             (0, 8, 10),
@@ -218,7 +233,33 @@ fn a_torus_opens_along_two_loops(rt: HostRuntime) -> Result<(), Fail> {
         ],
         edges: 33,
         boundary: &[0, 18, 36, 37, 43, 49, 52, 34, 16, 17, 11, 5],
-    };
-    assert_eq!(rt; difference(&opened, &want), "");
+    }
+}
+
+// What is wanted of a sample that is cut so far.
+fn wanted(sample: Sample, cut: Cut) -> Want {
+    match (sample, cut) {
+        (Sample::Pillow, _) => two_edges(),
+        (Sample::Tetrahedron, Cut::Full) => star(),
+        (Sample::Tetrahedron, Cut::Trimmed) => trimmed_star(),
+        (Sample::Projective, _) => one_loop(),
+        (Sample::Torus, _) => two_loops(),
+    }
+}
+
+#[test]
+fn surfaces_open_along_trees_and_loops(rt: HostRuntime) -> Result<(), Fail> {
+    let alloc = rt.alloc();
+    for (sample, cut) in [
+        (Sample::Tetrahedron, Cut::Full),
+        (Sample::Tetrahedron, Cut::Trimmed),
+        (Sample::Pillow, Cut::Full),
+        (Sample::Pillow, Cut::Trimmed),
+        (Sample::Projective, Cut::Trimmed),
+        (Sample::Torus, Cut::Trimmed),
+    ] {
+        let opened = open(alloc, sample, cut)?;
+        assert_eq!(rt; difference(&opened, &wanted(sample, cut)), "");
+    }
     Ok(())
 }

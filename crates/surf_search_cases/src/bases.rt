@@ -3,37 +3,15 @@ ghost use Rattle.std.specs.Prelude.{◌≡◌, ◌≤◌, ◌+◌, IsTrue, lengt
 ghost use Rattle.surf_surfaces.specs.Surface.{edge_count, face_count};
 
 use crate::meshes::surface;
+use crate::samples::{Faces, projective, scattered, seven, tetrahedron, torus, unit};
 use std::alloc::Global;
 use std::test::Fail;
 use surf_basis::{Cycle, least_basis, least_nonseparating};
 use surf_lengths::{Lengths, read_lengths};
 use surf_mesh::HalfMesh;
-use surf_samples::{PROJECTIVE, SCATTERED, SEVEN, TETRAHEDRON, TORUS};
 
-/// Length 1 for each edge.
-pub(crate) const UNIT: &str = "SURFLEN 2\ndefault 1\n";
-
-// The vertices and faces of a surface, the text of its lengths, and the lengths and walks of its
-// basis.
-type Case = (
-    u32,
-    &'static [(u32, u32, u32)],
-    &'static str,
-    &'static [(u64, &'static [u32])],
-);
-
-const CASES: [Case; 5] = [
-    (4, &TETRAHEDRON, UNIT, &[]),
-    (6, &PROJECTIVE, UNIT, &[(3, &[0, 1, 3, 0])]),
-    (7, &SEVEN, UNIT, &[(3, &[0, 1, 2, 0]), (3, &[0, 1, 4, 0])]),
-    (9, &TORUS, UNIT, &[(3, &[0, 1, 2, 0]), (3, &[0, 3, 6, 0])]),
-    (
-        9,
-        &TORUS,
-        SCATTERED,
-        &[(81, &[2, 5, 3, 7, 2]), (89, &[2, 5, 8, 7, 2])],
-    ),
-];
+/// The lengths and walks of a basis.
+type Cycles = &'static [(u64, &'static [u32])];
 
 // Whether a cycle has a length and some vertices, the first of which is its base.
 fn is_cycle(cycle: &Cycle, length: u64, walk: &[u32]) -> bool {
@@ -85,9 +63,15 @@ fn has_first(alloc: Global, mesh: &HalfMesh, lengths: &Lengths, wanted: &[(u64, 
     }
 }
 
-// Whether a case is answered as it should be.
-fn answers(alloc: Global, case: &Case) -> Result<bool, Fail> {
-    let (vertices, faces, text, wanted) = *case;
+// Whether the basis and the shortest cycle of a surface, with the lengths of a text, are as they
+// should be.
+fn answers(
+    alloc: Global,
+    vertices: u32,
+    faces: Faces,
+    text: &str,
+    wanted: Cycles,
+) -> Result<bool, Fail> {
     if text.len() > 1_000 {
         return Ok(false);
     }
@@ -100,8 +84,31 @@ fn answers(alloc: Global, case: &Case) -> Result<bool, Fail> {
 
 #[test]
 fn bases_of_small_surfaces(rt: HostRuntime) -> Result<(), Fail> {
-    for case in &CASES {
-        assert!(rt; answers(rt.alloc(), case)?);
+    let alloc = rt.alloc();
+    let cases: [(u32, Faces, &str, Cycles); 5] = [
+        (4, tetrahedron(), unit(), &[]),
+        (6, projective(), unit(), &[(3, &[0, 1, 3, 0])]),
+        (
+            7,
+            seven(),
+            unit(),
+            &[(3, &[0, 1, 2, 0]), (3, &[0, 1, 4, 0])],
+        ),
+        (
+            9,
+            torus(),
+            unit(),
+            &[(3, &[0, 1, 2, 0]), (3, &[0, 3, 6, 0])],
+        ),
+        (
+            9,
+            torus(),
+            scattered(),
+            &[(81, &[2, 5, 3, 7, 2]), (89, &[2, 5, 8, 7, 2])],
+        ),
+    ];
+    for (vertices, faces, text, wanted) in cases {
+        assert!(rt; answers(alloc, vertices, faces, text, wanted)?);
     }
     Ok(())
 }

@@ -1,7 +1,8 @@
 //! Certificates of the bases of small surfaces.
 
-use crate::bases::{UNIT, fit};
+use crate::bases::fit;
 use crate::meshes::surface;
+use crate::samples::{Faces, scattered, tetrahedron, torus, unit};
 use std::alloc::Global;
 use std::test::Fail;
 use surf_base::VertexId;
@@ -9,7 +10,6 @@ use surf_basis::basis_cert;
 use surf_cert::{BasisCert, DualRows, TreeRows};
 use surf_lengths::read_lengths;
 use surf_mesh::Walk;
-use surf_samples::{SCATTERED, TETRAHEDRON, TORUS};
 
 fn pair_of(pair: (u32, u32)) -> (VertexId, VertexId) {
     (VertexId::new(pair.0), VertexId::new(pair.1))
@@ -63,43 +63,31 @@ fn are_walks(walks: &[Walk], want: &[&[u32]]) -> bool {
     same
 }
 
-/// What a certificate should have: the rows of one of its trees, those of the first faces, the left
-/// edges and the cycles.
+/// The rows that a certificate should have: those of one of its trees, and those of the first
+/// faces.
 #[derive(Clone, Copy)]
 struct Wanted {
     place: u32,
     vertices: &'static [(u64, Option<u32>)],
     faces: &'static [(u32, Option<(u32, u32)>)],
-    left: &'static [(u32, u32)],
-    cycles: &'static [&'static [u32]],
 }
 
-// What of the certificate isn't as wanted, or nothing.
+// What of the trees isn't as wanted, or nothing.
 fn difference(cert: &BasisCert, want: &Wanted) -> &'static str {
-    if cert.trees().len() != want.vertices.len()
-        || !tree_is(cert.trees(), want.place, want.vertices)
-    {
+    if cert.trees().len() != want.vertices.len() {
         return "trees";
+    }
+    if !tree_is(cert.trees(), want.place, want.vertices) {
+        return "vertices";
     }
     if !faces_begin(cert.dual(), want.faces) {
         return "faces";
-    }
-    if !left_are(cert.left(), want.left) {
-        return "left";
-    }
-    if !are_walks(cert.cycles(), want.cycles) {
-        return "cycles";
     }
     ""
 }
 
 // The certificate of the basis of a surface.
-fn cert_of(
-    alloc: Global,
-    vertices: u32,
-    faces: &[(u32, u32, u32)],
-    text: &str,
-) -> Result<BasisCert, Fail> {
+fn cert_of(alloc: Global, vertices: u32, faces: Faces, text: &str) -> Result<BasisCert, Fail> {
     if text.len() > 1_000 {
         return Err("a long text")?;
     }
@@ -114,34 +102,27 @@ fn cert_of(
 }
 
 // The tree at vertex 4 of the torus, each edge of length 1.
-const FROM_FOUR: [(u64, Option<u32>); 9] = [
-    (1, Some(4)),
-    (1, Some(4)),
-    (2, Some(0)),
-    (1, Some(4)),
-    (0, None),
-    (1, Some(4)),
-    (2, Some(0)),
-    (1, Some(4)),
-    (1, Some(4)),
-];
-
-#[test]
-fn certificates_of_bases(rt: HostRuntime) -> Result<(), Fail> {
-    let cert = cert_of(rt.alloc(), 9, &TORUS, UNIT)?;
-    let torus = Wanted {
+fn of_torus() -> Wanted {
+    Wanted {
         place: 4,
-        vertices: &FROM_FOUR,
+        vertices: &[
+            (1, Some(4)),
+            (1, Some(4)),
+            (2, Some(0)),
+            (1, Some(4)),
+            (0, None),
+            (1, Some(4)),
+            (2, Some(0)),
+            (1, Some(4)),
+            (1, Some(4)),
+        ],
         faces: &[(0, None), (5, Some((1, 4))), (4, Some((4, 5)))],
-        left: &[(1, 2), (3, 6)],
-        cycles: &[&[0, 1, 2, 0], &[0, 3, 6, 0]],
-    };
-    assert_eq!(rt; difference(&cert, &torus), "");
-    let cert = cert_of(rt.alloc(), 9, &TORUS, SCATTERED)?;
-    assert!(rt; left_are(cert.left(), &[(1, 2), (3, 7)]));
-    assert!(rt; are_walks(cert.cycles(), &[&[2, 5, 3, 7, 2], &[2, 5, 8, 7, 2]]));
-    let cert = cert_of(rt.alloc(), 4, &TETRAHEDRON, UNIT)?;
-    let tetrahedron = Wanted {
+    }
+}
+
+// The tree at vertex 3 of the tetrahedron, each edge of length 1.
+fn of_tetrahedron() -> Wanted {
+    Wanted {
         place: 3,
         vertices: &[(1, Some(3)), (1, Some(3)), (1, Some(3)), (0, None)],
         faces: &[
@@ -150,9 +131,56 @@ fn certificates_of_bases(rt: HostRuntime) -> Result<(), Fail> {
             (2, Some((2, 3))),
             (1, Some((1, 2))),
         ],
-        left: &[],
-        cycles: &[],
-    };
-    assert_eq!(rt; difference(&cert, &tetrahedron), "");
+    }
+}
+
+#[test]
+fn trees_of_vertices_and_faces(rt: HostRuntime) -> Result<(), Fail> {
+    let alloc = rt.alloc();
+    let cases = [
+        (9, torus(), of_torus()),
+        (4, tetrahedron(), of_tetrahedron()),
+    ];
+    for (vertices, faces, want) in cases {
+        let cert = cert_of(alloc, vertices, faces, unit())?;
+        assert_eq!(rt; difference(&cert, &want), "");
+    }
+    Ok(())
+}
+
+// The vertices and faces of a surface, the text of its lengths, and the left edges and cycles of
+// the certificate.
+type Case = (
+    u32,
+    Faces,
+    &'static str,
+    &'static [(u32, u32)],
+    &'static [&'static [u32]],
+);
+
+#[test]
+fn left_edges_and_cycles(rt: HostRuntime) -> Result<(), Fail> {
+    let alloc = rt.alloc();
+    let cases: [Case; 3] = [
+        (
+            9,
+            torus(),
+            unit(),
+            &[(1, 2), (3, 6)],
+            &[&[0, 1, 2, 0], &[0, 3, 6, 0]],
+        ),
+        (
+            9,
+            torus(),
+            scattered(),
+            &[(1, 2), (3, 7)],
+            &[&[2, 5, 3, 7, 2], &[2, 5, 8, 7, 2]],
+        ),
+        (4, tetrahedron(), unit(), &[], &[]),
+    ];
+    for (vertices, faces, text, left, cycles) in cases {
+        let cert = cert_of(alloc, vertices, faces, text)?;
+        assert!(rt; left_are(cert.left(), left) && are_walks(cert.cycles(), cycles));
+    }
     Ok(())
 }

@@ -1,111 +1,107 @@
 //! Length files for a tetrahedron.
 use crate::meshes::surface;
+use crate::samples::tetrahedron;
 use std::alloc::Global;
 use std::test::Fail;
 use surf_base::{EdgeId, VertexId};
-use surf_lengths::{LengthFault, read_lengths, unit_lengths};
-use surf_samples::TETRAHEDRON;
+use surf_lengths::{LengthFault, Lengths, read_lengths, unit_lengths};
 
-// The lengths of the six edges, in order, or the fault.
-fn lengths_of(alloc: Global, text: &[u8]) -> Result<Result<[u32; 6], LengthFault>, Fail> {
-    let mesh = surface(alloc, 4, &TETRAHEDRON)?;
-    if text.len() > 1_000 {
-        return Ok(Err(LengthFault::Memory));
-    }
-    let lengths = match read_lengths(alloc, text, &mesh) {
-        Ok(lengths) => lengths,
-        Err(fault) => return Ok(Err(fault)),
-    };
+// The lengths of the edges, in order, or nothing where there aren't six.
+fn six(lengths: &Lengths) -> Option<[u32; 6]> {
     if lengths.count() != 6 {
-        return Ok(Err(LengthFault::Memory));
+        return None;
     }
-    Ok(Ok([
+    Some([
         lengths.of(EdgeId::new(0)),
         lengths.of(EdgeId::new(1)),
         lengths.of(EdgeId::new(2)),
         lengths.of(EdgeId::new(3)),
         lengths.of(EdgeId::new(4)),
         lengths.of(EdgeId::new(5)),
-    ]))
+    ])
+}
+
+// What is read of a text, which is `Memory` for a long one.
+fn read(alloc: Global, text: &str) -> Result<Result<Lengths, LengthFault>, Fail> {
+    let mesh = surface(alloc, 4, tetrahedron())?;
+    if text.len() > 1_000 {
+        return Ok(Err(LengthFault::Memory));
+    }
+    Ok(read_lengths(alloc, text.as_bytes(), &mesh))
+}
+
+// The lengths of the six edges, in order, or the fault.
+fn lengths_of(alloc: Global, text: &str) -> Result<Result<[u32; 6], LengthFault>, Fail> {
+    match read(alloc, text)? {
+        Ok(lengths) => Ok(six(&lengths).ok_or(LengthFault::Memory)),
+        Err(fault) => Ok(Err(fault)),
+    }
 }
 
 #[test]
 fn lengths_are_read(rt: HostRuntime) -> Result<(), Fail> {
     let alloc = rt.alloc();
-    for (text, want) in [
+    let cases: [(&str, [u32; 6]); 3] = [
         (
-            b"0 1 1\n0 2 2\n3 0 3\n2 1 4\n1 3 5\n2 3 4294967295".as_slice(),
+            "0 1 1\n0 2 2\n3 0 3\n2 1 4\n1 3 5\n2 3 4294967295",
             [1, 2, 3, 4, 5, 4_294_967_295],
         ),
+        ("SURFLEN 2\ndefault 5\n0 1 2\n", [2, 5, 5, 5, 5, 5]),
         (
-            b"SURFLEN 2\ndefault 5\n0 1 2\n".as_slice(),
-            [2, 5, 5, 5, 5, 5],
-        ),
-        (
-            b"# c\n SURFLEN\t2 # 2\r\n\ndefault 007\n03 0002 1#\n".as_slice(),
+            "# c\n SURFLEN\t2 # 2\r\n\ndefault 007\n03 0002 1#\n",
             [7, 7, 7, 7, 7, 1],
         ),
-    ] {
+    ];
+    for (text, want) in cases {
         assert_eq!(rt; lengths_of(alloc, text)?, Ok(want));
     }
     Ok(())
 }
 
+fn missing(u: u32, v: u32) -> LengthFault {
+    LengthFault::Missing {
+        u: VertexId::new(u),
+        v: VertexId::new(v),
+    }
+}
+
 #[test]
 fn the_first_fault_decides(rt: HostRuntime) -> Result<(), Fail> {
     let alloc = rt.alloc();
-    let missing = |u, v| LengthFault::Missing {
-        u: VertexId::new(u),
-        v: VertexId::new(v),
-    };
-    for (text, want) in [
+    let cases: [(&str, LengthFault); 19] = [
+        ("0 1 1\n0 2 1\n0 3 1\n1 2 1\n1 3 1\n", missing(2, 3)),
+        ("", missing(0, 1)),
+        ("SURFLEN 2\n0 1 1\n", missing(0, 2)),
         (
-            b"0 1 1\n0 2 1\n0 3 1\n1 2 1\n1 3 1\n".as_slice(),
-            missing(2, 3),
-        ),
-        (b"".as_slice(), missing(0, 1)),
-        (b"SURFLEN 2\n0 1 1\n".as_slice(), missing(0, 2)),
-        (
-            b"0 1 1\n0 2 1\n1 0 4\n".as_slice(),
+            "0 1 1\n0 2 1\n1 0 4\n",
             LengthFault::Twice {
                 line: 3,
                 earlier: 1,
             },
         ),
-        (b"0 1 0\n".as_slice(), LengthFault::Range { line: 1 }),
+        ("0 1 0\n", LengthFault::Range { line: 1 }),
+        ("0 1 4294967296\n", LengthFault::Range { line: 1 }),
+        ("0 9 0\n", LengthFault::Range { line: 1 }),
+        ("SURFLEN 2\ndefault 0\n", LengthFault::Range { line: 2 }),
+        ("0 4 1\n", LengthFault::NotEdge { line: 1 }),
+        ("2 2 1\n", LengthFault::NotEdge { line: 1 }),
         (
-            b"0 1 4294967296\n".as_slice(),
-            LengthFault::Range { line: 1 },
-        ),
-        (b"0 9 0\n".as_slice(), LengthFault::Range { line: 1 }),
-        (
-            b"SURFLEN 2\ndefault 0\n".as_slice(),
-            LengthFault::Range { line: 2 },
-        ),
-        (b"0 4 1\n".as_slice(), LengthFault::NotEdge { line: 1 }),
-        (b"2 2 1\n".as_slice(), LengthFault::NotEdge { line: 1 }),
-        (
-            b"18446744073709551615 1 1\n".as_slice(),
+            "18446744073709551615 1 1\n",
             LengthFault::NotEdge { line: 1 },
         ),
+        ("18446744073709551616 1 1\n", LengthFault::Form { line: 1 }),
+        ("0 1\n", LengthFault::Form { line: 1 }),
+        ("\n0 1 1 1\n", LengthFault::Form { line: 2 }),
+        ("default 3\n", LengthFault::Form { line: 1 }),
+        ("SURFLEN 1\n", LengthFault::Form { line: 1 }),
+        ("SURFLEN 02\n", LengthFault::Form { line: 1 }),
+        ("SURFLEN 2\ndefault 3 4\n", LengthFault::Form { line: 2 }),
         (
-            b"18446744073709551616 1 1\n".as_slice(),
-            LengthFault::Form { line: 1 },
-        ),
-        (b"0 1\n".as_slice(), LengthFault::Form { line: 1 }),
-        (b"\n0 1 1 1\n".as_slice(), LengthFault::Form { line: 2 }),
-        (b"default 3\n".as_slice(), LengthFault::Form { line: 1 }),
-        (b"SURFLEN 1\n".as_slice(), LengthFault::Form { line: 1 }),
-        (b"SURFLEN 02\n".as_slice(), LengthFault::Form { line: 1 }),
-        (
-            b"SURFLEN 2\ndefault 3 4\n".as_slice(),
-            LengthFault::Form { line: 2 },
-        ),
-        (
-            b"SURFLEN 2\n0 1 1\ndefault 3\n".as_slice(),
+            "SURFLEN 2\n0 1 1\ndefault 3\n",
             LengthFault::Form { line: 3 },
         ),
-    ] {
+    ];
+    for (text, want) in cases {
         assert_eq!(rt; lengths_of(alloc, text)?, Err(want));
     }
     Ok(())
@@ -114,9 +110,8 @@ fn the_first_fault_decides(rt: HostRuntime) -> Result<(), Fail> {
 #[test]
 fn unit_lengths_are_one(rt: HostRuntime) -> Result<(), Fail> {
     let alloc = rt.alloc();
-    let mesh = surface(alloc, 4, &TETRAHEDRON)?;
+    let mesh = surface(alloc, 4, tetrahedron())?;
     let lengths = unit_lengths(alloc, &mesh).ok().ok_or("room")?;
-    assert_eq!(rt; lengths.count(), 6);
-    assert_eq!(rt; lengths.of(EdgeId::new(5)), 1);
+    assert_eq!(rt; six(&lengths), Some([1, 1, 1, 1, 1, 1]));
     Ok(())
 }

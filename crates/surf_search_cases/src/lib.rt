@@ -11,4 +11,6 @@ mod lengths;
 #[cfg(test)]
 mod meshes;
 #[cfg(test)]
+mod samples;
+#[cfg(test)]
 mod trees;

@@ -1,45 +1,41 @@
 //! Trees of a tetrahedron.
 use crate::meshes::surface;
+use crate::samples::{tetrahedron, unit};
 use std::alloc::Global;
 use std::test::Fail;
 use surf_base::VertexId;
 use surf_lengths::read_lengths;
-use surf_samples::TETRAHEDRON;
 use surf_tree::TreeDesk;
 
 // The distance and the parent of a vertex in the tree at a base.
-fn place(
-    alloc: Global,
-    text: &[u8],
-    base: u32,
-    vertex: u32,
-) -> Result<(u64, Option<VertexId>), Fail> {
-    let mesh = surface(alloc, 4, &TETRAHEDRON)?;
+fn place(alloc: Global, text: &str, base: u32, vertex: u32) -> Result<(u64, Option<u32>), Fail> {
+    let mesh = surface(alloc, 4, tetrahedron())?;
     if text.len() > 1_000 || base >= mesh.vertices() || vertex >= mesh.vertices() {
         return Ok((0, None));
     }
-    let lengths = read_lengths(alloc, text, &mesh).ok().ok_or("lengths")?;
+    let lengths = read_lengths(alloc, text.as_bytes(), &mesh)
+        .ok()
+        .ok_or("lengths")?;
     let mut desk = TreeDesk::make(alloc, &mesh).ok().ok_or("room")?;
     if lengths.count() != mesh.edges() {
         return Ok((0, None));
     }
     desk.grow(&mesh, &lengths, VertexId::new(base));
     let v = VertexId::new(vertex);
-    Ok((desk.distance(v), desk.parent(v)))
+    Ok((desk.distance(v), desk.parent(v).map(VertexId::number)))
 }
 
 #[test]
 fn trees_on_a_tetrahedron(rt: HostRuntime) -> Result<(), Fail> {
     let alloc = rt.alloc();
-    let unit = b"SURFLEN 2\ndefault 1\n".as_slice();
-    let short = b"SURFLEN 2\ndefault 5\n0 1 2\n".as_slice();
+    let short = "SURFLEN 2\ndefault 5\n0 1 2\n";
     // Both 1 and 2 lead to 3 with length 4, and 2 is settled before 1.
-    let tied = b"0 1 3\n0 2 1\n0 3 10\n1 2 5\n1 3 1\n2 3 3\n".as_slice();
-    for (text, base, vertex, distance, parent) in [
-        (unit, 3, 0, 1, Some(3)),
-        (unit, 3, 1, 1, Some(3)),
-        (unit, 3, 2, 1, Some(3)),
-        (unit, 3, 3, 0, None),
+    let tied = "0 1 3\n0 2 1\n0 3 10\n1 2 5\n1 3 1\n2 3 3\n";
+    let cases = [
+        (unit(), 3, 0, 1, Some(3)),
+        (unit(), 3, 1, 1, Some(3)),
+        (unit(), 3, 2, 1, Some(3)),
+        (unit(), 3, 3, 0, None),
         (short, 0, 0, 0, None),
         (short, 0, 1, 2, Some(0)),
         (short, 0, 2, 5, Some(0)),
@@ -47,9 +43,9 @@ fn trees_on_a_tetrahedron(rt: HostRuntime) -> Result<(), Fail> {
         (tied, 0, 1, 3, Some(0)),
         (tied, 0, 2, 1, Some(0)),
         (tied, 0, 3, 4, Some(1)),
-    ] {
-        let want = (distance, parent.map(VertexId::new));
-        assert_eq!(rt; place(alloc, text, base, vertex)?, want);
+    ];
+    for (text, base, vertex, distance, parent) in cases {
+        assert_eq!(rt; place(alloc, text, base, vertex)?, (distance, parent));
     }
     Ok(())
 }
