@@ -1,27 +1,27 @@
--- Rings as the nodes are written.
+-- Circles as the nodes are written.
 use Rattle.std.proofs.Common.{ℕ, ◌<◌, ◌≤◌, ◌≡◌, ◌≢◌, ◌+◌, refl, sym, ap, ◌∙◌, subst, arith, inl, inr, List, length, get_or, set, eqb, if◌then◌else◌, get_or-set_same, get_or-set_other}
 use Rattle.std.proofs.Math.ListN.{length-set}
 use Rattle.std.proofs.lemmas.Bool.{cases_eq}
 use Rattle.surf_buckets.specs.declared.Node.{Node}
-use Rattle.surf_buckets.specs.Rings.{nothing, blank, key_at, next_at, prev_at, bucket, AreRinged, AreRings, IsAlone}
-use Rattle.surf_buckets.proofs.Ringing.{when, unless, lone, removed, inserted, bucket_first, bucket_alone}
+use Rattle.surf_buckets.specs.Circles.{nothing, blank, key_at, next_at, prev_at, bucket, AreInCircles, AreCircles, IsAlone}
+use Rattle.surf_buckets.proofs.Circling.{when, unless, lone, removed, inserted, bucket_first, bucket_alone}
 
 -- a key that is less than one walk round the buckets away, and has the same bucket, is the same
 pub same_key : (places a b : ℕ) → a ≤ b → b < a + 4096 → bucket places b ≡ bucket places a → b ≡ a
 same_key places a b le less same = omega arith
 
-pub lone_rings : (places : ℕ) (nodes : List Node) → places < 2147483648 → IsAlone (places + 4096) nodes → AreRings places nodes
-lone_rings places nodes few (long, each) =
+pub lone_circles : (places : ℕ) (nodes : List Node) → places < 2147483648 → IsAlone (places + 4096) nodes → AreCircles places nodes
+lone_circles places nodes few (long, each) =
     let at : (i : ℕ) → i < length nodes → get_or nodes i blank ≡ record { key = nothing; next = i; prev = i } = λ i l. each i (omega arith) in
     record {
       count = long;
       few = few;
-      ringed = lone places (length nodes) (key_at nodes) (next_at nodes) (prev_at nodes)
+      linked = lone places (length nodes) (key_at nodes) (next_at nodes) (prev_at nodes)
           (λ i l. ap (λ (x : Node). x.next) (at i l)) (λ i l. ap (λ (x : Node). x.prev) (at i l))
           (λ i l. ap (λ (x : Node). x.key) (at i (omega arith))) (omega arith);
     }
 
-module _ (places : ℕ) (old : List Node) (rings : AreRings places old) (p : ℕ) (lp : p < places) where
+module _ (places : ℕ) (old : List Node) (circles : AreCircles places old) (p : ℕ) (lp : p < places) where
   -- a place is taken out
   module _ (mid : List Node) (long : length mid ≡ length old)
       (next_is : (i : ℕ) → next_at mid i ≡ (if eqb i (prev_at old p) then next_at old p else next_at old i))
@@ -35,7 +35,7 @@ module _ (places : ℕ) (old : List Node) (rings : AreRings places old) (p : ℕ
 
     at_p : get_or new p blank ≡ record { key = nothing; next = p; prev = p }
     unfolding new lone_node
-    at_p = let c = rings.count in get_or-set_same mid p lone_node blank (omega arith)
+    at_p = let c = circles.count in get_or-set_same mid p lone_node blank (omega arith)
 
     others : (i : ℕ) → i ≢ p → get_or new i blank ≡ get_or mid i blank
     unfolding new
@@ -51,12 +51,12 @@ module _ (places : ℕ) (old : List Node) (rings : AreRings places old) (p : ℕ
     prev_other : (i : ℕ) → i ≢ p → prev_at new i ≡ (if eqb i (next_at old p) then prev_at old p else prev_at old i)
     prev_other i ne = ap (λ (x : Node). x.prev) (others i ne) ∙ prev_is i
 
-    new_rings : AreRings places new
-    new_rings = record {
-      count = new_long ∙ rings.count;
-      few = rings.few;
-      ringed = subst (λ (n : ℕ). AreRinged places n (key_at new) (next_at new) (prev_at new)) (sym new_long)
-          (removed places (length old) (key_at old) (next_at old) (prev_at old) rings.ringed rings.count (key_at new) (next_at new) (prev_at new) p lp
+    new_circles : AreCircles places new
+    new_circles = record {
+      count = new_long ∙ circles.count;
+      few = circles.few;
+      linked = subst (λ (n : ℕ). AreInCircles places n (key_at new) (next_at new) (prev_at new)) (sym new_long)
+          (removed places (length old) (key_at old) (next_at old) (prev_at old) circles.linked circles.count (key_at new) (next_at new) (prev_at new) p lp
           (ap (λ (x : Node). x.key) at_p) (λ i ne. ap (λ (x : Node). x.key) (others i ne) ∙ key_is i)
           (ap (λ (x : Node). x.next) at_p)
           (λ ne. next_other (prev_at old p) ne ∙ when (prev_at old p) (prev_at old p) (next_at old p) (next_at old (prev_at old p)) refl)
@@ -72,9 +72,9 @@ module _ (places : ℕ) (old : List Node) (rings : AreRings places old) (p : ℕ
       | inr ne ↦ ap (λ (x : Node). x.key) (others i ne) ∙ key_is i ∙ sym (unless i p nothing (key_at old i) ne)
     ]
 
-    pub remove_rings : AreRings places (set mid p (record { key = nothing; next = p; prev = p }))
+    pub remove_circles : AreCircles places (set mid p (record { key = nothing; next = p; prev = p }))
     unfolding new lone_node
-    remove_rings = new_rings
+    remove_circles = new_circles
 
     pub remove_keys : (i : ℕ) → key_at (set mid p (record { key = nothing; next = p; prev = p })) i ≡ (if eqb i p then nothing else key_at old i)
     unfolding new lone_node
@@ -97,7 +97,7 @@ module _ (places : ℕ) (old : List Node) (rings : AreRings places old) (p : ℕ
 
       key_here : key_at two p ≡ key
       key_here =
-          let c = rings.count in
+          let c = circles.count in
           let e = get_or-set_same old p (record { key = key; next = next_at old p; prev = prev_at old p }) blank (omega arith) in
           key_two p ∙ key_one p ∙ ap (λ (x : Node). x.key) e
 
@@ -107,13 +107,13 @@ module _ (places : ℕ) (old : List Node) (rings : AreRings places old) (p : ℕ
       below : p ≢ s
       below = λ e. absurd (omega arith)
 
-      pub insert_rings : AreRings places two
-      insert_rings = record {
-        count = long_two ∙ rings.count;
-        few = rings.few;
-        ringed = subst (λ (n : ℕ). AreRinged places n (key_at two) (next_at two) (prev_at two)) (sym long_two)
-            (inserted places (length old) (key_at old) (next_at old) (prev_at old) rings.ringed rings.count (key_at two) (next_at two) (prev_at two) p lp
-            none s (omega arith) (let c = rings.count in omega arith) key key_in (sym is)
+      pub insert_circles : AreCircles places two
+      insert_circles = record {
+        count = long_two ∙ circles.count;
+        few = circles.few;
+        linked = subst (λ (n : ℕ). AreInCircles places n (key_at two) (next_at two) (prev_at two)) (sym long_two)
+            (inserted places (length old) (key_at old) (next_at old) (prev_at old) circles.linked circles.count (key_at two) (next_at two) (prev_at two) p lp
+            none s (omega arith) (let c = circles.count in omega arith) key key_in (sym is)
             key_here key_other
             (next_two s ∙ when s s p (next_at one s) refl)
             (next_two p ∙ unless p s p (next_at one p) below ∙ next_one p ∙ when p p (next_at old s) (next_at keyed p) refl)
@@ -132,16 +132,16 @@ module _ (places : ℕ) (old : List Node) (rings : AreRings places old) (p : ℕ
         | inr ne ↦ key_other i ne ∙ sym (unless i p key (key_at old i) ne)
       ]
 
-module _ (places : ℕ) (nodes : List Node) (rings : AreRings places nodes) (s key : ℕ) (is : s ≡ bucket places key) where
+module _ (places : ℕ) (nodes : List Node) (circles : AreCircles places nodes) (s key : ℕ) (is : s ≡ bucket places key) where
   s_in : s < length nodes
-  s_in = let c = rings.count in omega arith
+  s_in = let c = circles.count in omega arith
 
   -- the first place in the bucket of a key has that key, if it is near
   pub first_found : (window : (p : ℕ) → p < places → key_at nodes p ≢ nothing → key_at nodes p < key + 4096)
       → (from : (p : ℕ) → p < places → key_at nodes p ≢ nothing → key ≤ key_at nodes p) → next_at nodes s ≢ s →
       (next_at nodes s < places) × (key_at nodes (next_at nodes s) ≡ key)
   first_found window from ne =
-      let (l, some, home) = bucket_first places (length nodes) (key_at nodes) (next_at nodes) (prev_at nodes) rings.ringed rings.count s (omega arith) s_in ne in
+      let (l, some, home) = bucket_first places (length nodes) (key_at nodes) (next_at nodes) (prev_at nodes) circles.linked circles.count s (omega arith) s_in ne in
       (l, same_key places key (key_at nodes (next_at nodes s)) (from (next_at nodes s) l some) (window (next_at nodes s) l some) (home ∙ is))
 
   -- where the bucket has no place, each key is greater
@@ -149,7 +149,7 @@ module _ (places : ℕ) (nodes : List Node) (rings : AreRings places nodes) (s k
       (p : ℕ) → p < places → key_at nodes p ≢ nothing → key + 1 ≤ key_at nodes p
   none_found from stays p l some =
       let le : key ≤ key_at nodes p = from p l some in
-      let other = bucket_alone places (length nodes) (key_at nodes) (next_at nodes) (prev_at nodes) rings.ringed rings.count p s l some (omega arith) s_in stays in
+      let other = bucket_alone places (length nodes) (key_at nodes) (next_at nodes) (prev_at nodes) circles.linked circles.count p s l some (omega arith) s_in stays in
       elim (cases_eq (key_at nodes p) key) [
         | inl same ↦ absurd (other (ap (bucket places) same ∙ sym is))
         | inr ne ↦ omega arith

@@ -1,3 +1,3 @@
 pub mod Filing
-pub mod Ringing
+pub mod Circling
 pub mod Views

@@ -6,9 +6,9 @@ use Rattle.std.proofs.lemmas.List.{same_lists, get_or_past, get_or-replicate, se
 use Rattle.std.proofs.lemmas.List.FromFn.{get_or-map-range_with_len, length-map-range_with_len}
 use Rattle.surf_heap.specs.Entries.{entry_of, lesser, IsEmpty}
 use Rattle.surf_buckets.specs.declared.Node.{Node}
-use Rattle.surf_buckets.specs.Rings.{nothing, key_at, AreRings}
+use Rattle.surf_buckets.specs.Circles.{nothing, key_at, AreCircles}
 use Rattle.surf_buckets.specs.Buckets.{entry_at, entries_of, IsBuckets, IsNearest, IsNearestEntry}
-use Rattle.surf_buckets.proofs.Ringing.{when, unless}
+use Rattle.surf_buckets.proofs.Circling.{when, unless}
 
 pub entry_none : (nodes : List Node) (p : ℕ) → key_at nodes p ≡ nothing → entry_at nodes p ≡ None
 entry_none nodes p e = when (key_at nodes p) nothing None (Some (key_at nodes p, 0)) e
@@ -122,10 +122,10 @@ module _ (places : ℕ) (nodes : List Node) where
         stays_is k l = rw (le-ltb key k l, no_tie (eqb key k)) refl
 
 -- a queue that holds nothing
-pub buckets_empty : (places : ℕ) (nodes : List Node) → AreRings places nodes →
+pub buckets_empty : (places : ℕ) (nodes : List Node) → AreCircles places nodes →
     ((p : ℕ) → p < places → key_at nodes p ≡ nothing) → IsBuckets places nodes 0 0
-buckets_empty places nodes rings none = record {
-  rings = rings;
+buckets_empty places nodes circles none = record {
+  circles = circles;
   from = λ p l some. absurd (some (none p l));
   window = λ p l some. absurd (some (none p l));
   to = λ p l some. absurd (some (none p l));
@@ -134,7 +134,7 @@ buckets_empty places nodes rings none = record {
 
 -- queues after a change of one place
 module _ (places : ℕ) (nodes : List Node) (now last : ℕ) (b : IsBuckets places nodes now last) (new : List Node) where
-  module _ (rings : AreRings places new) (p key : ℕ) (keys : (i : ℕ) → key_at new i ≡ (if eqb i p then key else key_at nodes i)) where
+  module _ (circles : AreCircles places new) (p key : ℕ) (keys : (i : ℕ) → key_at new i ≡ (if eqb i p then key else key_at nodes i)) where
     same_elsewhere : (q : ℕ) → q ≢ p → key_at new q ≡ key_at nodes q
     same_elsewhere q ne = keys q ∙ unless q p key (key_at nodes q) ne
 
@@ -144,7 +144,7 @@ module _ (places : ℕ) (nodes : List Node) (now last : ℕ) (b : IsBuckets plac
     pub buckets_offered : now ≤ key → key < now + 4096 → key < nothing → (last2 : ℕ) → last ≤ last2 → key ≤ last2 → last2 < nothing →
         IsBuckets places new now last2
     buckets_offered from window fits last2 more up in_range = record {
-      rings = rings;
+      circles = circles;
       from = λ q l some. elim (cases_eq q p) [
         | inl e ↦ rw (e, here) from
         | inr ne ↦ rw (same_elsewhere q ne) (b.from q l (rw (same_elsewhere q ne) at some))
@@ -163,9 +163,9 @@ module _ (places : ℕ) (nodes : List Node) (now last : ℕ) (b : IsBuckets plac
     }
 
   -- and after a place with the least key was taken out
-  pub buckets_taken : AreRings places new → (p key : ℕ) → IsNearest places nodes p key →
+  pub buckets_taken : AreCircles places new → (p key : ℕ) → IsNearest places nodes p key →
       ((i : ℕ) → key_at new i ≡ (if eqb i p then nothing else key_at nodes i)) → IsBuckets places new key last
-  buckets_taken rings p key near keys =
+  buckets_taken circles p key near keys =
       let some : key_at nodes p ≢ nothing = λ e. absurd (omega (arith, near.holds, near.key_in, e)) in
       let up : now ≤ key_at nodes p = b.from p near.within some in
       let is : key_at nodes p ≡ key = near.holds in
@@ -174,7 +174,7 @@ module _ (places : ℕ) (nodes : List Node) (now last : ℕ) (b : IsBuckets plac
         | inr ne ↦ keys q ∙ unless q p nothing (key_at nodes q) ne
       ] in
       record {
-        rings = rings;
+        circles = circles;
         from = λ q l has. rw (was q has) (near.least q l (rw (was q has) at has));
         window = λ q l has.
             let less : key_at nodes q < now + 4096 = b.window q l (rw (was q has) at has) in

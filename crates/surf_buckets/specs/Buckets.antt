@@ -4,7 +4,7 @@ use Rattle.std.specs.Prelude.{slice_set as set}
 use Rattle.std.specs.List.{range_with_len}
 use Rattle.surf_heap.specs.Entries.{Entries, entry_of, IsEmpty}
 use Rattle.surf_buckets.specs.declared.Node.{Node}
-use Rattle.surf_buckets.specs.Rings.{nothing, key_at, AreRings}
+use Rattle.surf_buckets.specs.Circles.{nothing, key_at, AreCircles}
 
 -- for each place its key, with a tie of 0, or nothing; and the key that was taken last
 pub record BucketTables : Type 0 where
@@ -18,10 +18,10 @@ entry_at nodes p = if key_at nodes p == nothing then None else Some (key_at node
 abbrev pub entries_of : ℕ → List Node → Entries
 entries_of places nodes = map (entry_at nodes) (range_with_len 0 places)
 
--- the places are in the rings of their keys, which are no less than `now`, at most `last`, and less than one walk round
+-- the places are in the circles of their keys, which are no less than `now`, at most `last`, and less than one walk round
 -- the buckets away
 pub record IsBuckets (places : ℕ) (nodes : List Node) (now last : ℕ) : Type 0 where
-  pub rings : AreRings places nodes
+  pub circles : AreCircles places nodes
   pub from : (p : ℕ) → p < places → key_at nodes p ≢ nothing → now ≤ key_at nodes p
   pub window : (p : ℕ) → p < places → key_at nodes p ≢ nothing → key_at nodes p < now + 4096
   pub to : (p : ℕ) → p < places → key_at nodes p ≢ nothing → key_at nodes p ≤ last

@@ -1,2 +1,2 @@
 pub mod Buckets
-pub mod Rings
+pub mod Circles

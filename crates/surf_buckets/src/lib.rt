@@ -9,13 +9,14 @@
 //! It is the queue of R. Dial, "Algorithm 360: Shortest-Path Forest with Topological Ordering"
 //! (1969). A place waits in the bucket of its key, modulo the number of buckets, so that all places
 //! in a bucket have one key, and a walk over the buckets meets the keys in order. A bucket is a
-//! ring, linked both ways, from which a place is taken out wherever it stands.
+//! circle, linked both ways, from which a place is taken out wherever it stands.
 #![tactic(auto)]
 
 ghost use Rattle.std.specs.Prelude.{◌≡◌, ◌≢◌, ℕ, ◌+◌, ◌<◌, ◌≤◌, ◌^◌, ◌%◌, ◌==◌, if◌then◌else◌, length, replicate};
 ghost use Rattle.std.specs.Prelude.{slice_set, MatchOption, None, Some, IfOk};
 ghost use Rattle.surf_heap.specs.Entries.{entry_of, lesser};
-ghost use Rattle.surf_buckets.specs.Rings.{nothing, key_at, next_at, prev_at, bucket, AreRings, IsAlone};
+ghost use Rattle.surf_buckets.specs.declared.TheConstants.{BUCKETS};
+ghost use Rattle.surf_buckets.specs.Circles.{nothing, key_at, next_at, prev_at, bucket, AreCircles, IsAlone};
 ghost use Rattle.surf_buckets.specs.Buckets.{IsBuckets, IsNearest, TakesNearest};
 
 use std::alloc::{AllocError, Global};
@@ -29,7 +30,7 @@ pub const BUCKETS: u32 = 4096;
 const NOTHING: u64 = u64::MAX;
 
 // A place or, behind the places, a bucket: the key of the place, and the nodes behind and before it
-// in their ring.
+// in their circle.
 #[derive(Clone, Copy)]
 struct Node {
     key: u64,
@@ -50,12 +51,12 @@ fn join(nodes: &mut [Node], from: u32, to: u32)
     nodes[to as usize].prev = from;
 }
 
-// Takes a place out of its ring, and its key away.
+// Takes a place out of its circle, and its key away.
 #[inline]
 fn remove(nodes: &mut [Node], places: u32, place: u32)
-    requires rings { AreRings places nodes.old }
+    requires circles { AreCircles places nodes.old }
     requires place { place < places }
-    ensures rings { AreRings places nodes.new }
+    ensures circles { AreCircles places nodes.new }
     ensures key { (i : ℕ) → key_at nodes.new i ≡ (if i == place then nothing else key_at nodes.old i) }
 {
     let node = nodes[place as usize];
@@ -70,11 +71,11 @@ fn remove(nodes: &mut [Node], places: u32, place: u32)
 // Puts a place that has no key behind a bucket.
 #[inline]
 fn insert(nodes: &mut [Node], places: u32, place: u32, key: u64)
-    requires rings { AreRings places nodes.old }
+    requires circles { AreCircles places nodes.old }
     requires place { place < places }
     requires absent { key_at nodes.old place ≡ nothing }
     requires key { key < nothing }
-    ensures rings { AreRings places nodes.new }
+    ensures circles { AreCircles places nodes.new }
     ensures key { (i : ℕ) → key_at nodes.new i ≡ (if i == place then key else key_at nodes.old i) }
 {
     let bucket = bucket_of(places, key);
@@ -87,10 +88,10 @@ fn insert(nodes: &mut [Node], places: u32, place: u32, key: u64)
 // Puts a place into the bucket of a key, wherever it stands.
 #[inline]
 fn lower(nodes: &mut [Node], places: u32, place: u32, key: u64)
-    requires rings { AreRings places nodes.old }
+    requires circles { AreCircles places nodes.old }
     requires place { place < places }
     requires key { key < nothing }
-    ensures rings { AreRings places nodes.new }
+    ensures circles { AreCircles places nodes.new }
     ensures key { (i : ℕ) → key_at nodes.new i ≡ (if i == place then key else key_at nodes.old i) }
 {
     remove(nodes, places, place);
@@ -106,10 +107,10 @@ fn bucket_of(places: u32, key: u64) -> u32
     places + (key % u64::from(BUCKETS)) as u32
 }
 
-// Takes all places out of their rings.
+// Takes all places out of their circles.
 fn remove_all(nodes: &mut [Node], places: u32)
-    requires rings { AreRings places nodes.old }
-    ensures rings { AreRings places nodes.new }
+    requires circles { AreCircles places nodes.old }
+    ensures circles { AreCircles places nodes.new }
     ensures none { (p : ℕ) → p < places → key_at nodes.new p ≡ nothing }
 {
     for place in 0..places {
@@ -137,10 +138,10 @@ fn nearest(nodes: &[Node], places: u32, now: u64, last: u64) -> Option<(u32, u64
     None
 }
 
-// Takes all places out of their rings, where there is one in any.
+// Takes all places out of their circles, where there is one in any.
 fn drain(nodes: &mut [Node], places: u32, now: u64, last: u64)
     requires buckets { IsBuckets places nodes.old now last }
-    ensures rings { AreRings places nodes.new }
+    ensures circles { AreCircles places nodes.new }
     ensures none { (p : ℕ) → p < places → key_at nodes.new p ≡ nothing }
 {
     if let Some(_) = nearest(nodes, places, now, last) {
@@ -207,7 +208,7 @@ impl Buckets {
     pub fn offer(&mut self, place: u32, key: u64)
         requires place { place < length self.old.entries }
         requires from { self.old.now ≤ key }
-        requires window { key < self.old.now + 4096 }
+        requires window { key < self.old.now + BUCKETS }
         requires key { key < nothing }
         ensures entry { self.new.entries ≡ slice_set self.old.entries place
             (Some (lesser (entry_of self.old.entries place) key 0)) }

@@ -1,4 +1,4 @@
-use Rattle.surf_buckets.specs.Rings.{IsAlone}
+use Rattle.surf_buckets.specs.Circles.{IsAlone}
 use Rattle.surf_buckets.proofs.lone_nodes.Given as goal
 
 abbrev pub invariant-loop-i : goal.invariant-loop-i

@@ -7,6 +7,6 @@ loop-key-preserved c =
     let inv = c.loop-key.invariant in
     record {
       since = omega arith;
-      from = none_found c.args.places c.args.nodes.now c.requires.buckets.rings c.bucket_of-bucket.result c.loop-key.key c.bucket_of-bucket.ensures.bucket
+      from = none_found c.args.places c.args.nodes.now c.requires.buckets.circles c.bucket_of-bucket.result c.loop-key.key c.bucket_of-bucket.ensures.bucket
           inv.from c.if-first-bucket.false;
     }

@@ -1,5 +1,5 @@
 use Rattle.std.proofs.Common.{◌+◌, ◌-◌, ◌≢◌, ℕ, ◌<◌, ◌≤◌}
-use Rattle.surf_buckets.specs.Rings.{nothing, key_at}
+use Rattle.surf_buckets.specs.Circles.{nothing, key_at}
 use Rattle.surf_buckets.proofs.nearest.Given as goal
 
 abbrev pub invariant-loop-key : goal.invariant-loop-key

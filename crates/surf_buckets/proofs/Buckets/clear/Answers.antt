@@ -9,7 +9,7 @@ pub invariant_of-self : goal.invariant_of-self
 invariant_of-self c =
     let b = c.self.inside in
     let new_is : (with_items b.nodes c.drain.new.nodes).items ≡ c.drain.new.nodes = with_items_is b.nodes c.drain.new.nodes (omega arith) in
-    rw new_is (buckets_empty b.places c.drain.new.nodes c.drain.ensures.rings c.drain.ensures.none)
+    rw new_is (buckets_empty b.places c.drain.new.nodes c.drain.ensures.circles c.drain.ensures.none)
 
 pub returns-clause-empty : goal.returns-clause-empty
 returns-clause-empty c =

@@ -1,13 +1,13 @@
 use Rattle.std.proofs.Common.{ap, arith}
 use Rattle.surf_buckets.specs.declared.Node.{Node}
-use Rattle.surf_buckets.proofs.Filing.{lone_rings}
+use Rattle.surf_buckets.proofs.Filing.{lone_circles}
 use Rattle.surf_buckets.proofs.Views.{none_held, buckets_empty}
 use Rattle.surf_buckets.proofs.Buckets.make.Goals as goal
 
 pub invariant_of-result : goal.invariant_of-result
 invariant_of-result c =
     let nodes = c.in_ok-nodes.nodes.items in
-    buckets_empty c.args.places nodes (lone_rings c.args.places nodes c.requires.few c.in_ok-nodes.ensures)
+    buckets_empty c.args.places nodes (lone_circles c.args.places nodes c.requires.few c.in_ok-nodes.ensures)
     (λ p l. ap (λ (x : Node). x.key) (c.in_ok-nodes.ensures.1 p (omega arith)))
 
 pub returns-clause-empty : goal.returns-clause-empty

@@ -2,14 +2,14 @@ use Rattle.std.proofs.Common.{◌≡◌, ◌<◌, ◌∙◌, length, get_or, ap,
 use Rattle.std.proofs.lemmas.List.{with_items_is, get_or_default}
 use Rattle.std.specs.Vec.{with_items}
 use Rattle.surf_buckets.specs.Buckets.{BucketTables, entries_of}
-use Rattle.surf_buckets.specs.Rings.{blank}
+use Rattle.surf_buckets.specs.Circles.{blank}
 use Rattle.surf_buckets.proofs.Views.{entries_length, buckets_offered, offered_less, offered_more}
 use Rattle.surf_buckets.proofs.Buckets.offer.Goals as goal
 
 pub index-requires : goal.index-requires
 index-requires c =
     let b = c.self.inside in
-    omega (arith, entries_length b.places b.nodes.items, ap (λ (t : BucketTables). length t.entries) c.self.view_is, c.self.invariant.rings.count)
+    omega (arith, entries_length b.places b.nodes.items, ap (λ (t : BucketTables). length t.entries) c.self.view_is, c.self.invariant.circles.count)
 
 pub lower-requires-clause-place : goal.lower-requires-clause-place
 lower-requires-clause-place c =
@@ -23,7 +23,7 @@ invariant_of-self c =
     let now_is = ap (λ (t : BucketTables). t.now) c.self.view_is in
     let last_in = c.self.invariant.last_in in
     let new_is : (with_items b.nodes new).items ≡ new = with_items_is b.nodes new (omega arith) in
-    rw new_is (buckets_offered b.places b.nodes.items b.now b.last c.self.invariant new c.lower.ensures.rings c.args.place c.args.key (rw c.deref_mut.ensures.value at c.lower.ensures.key)
+    rw new_is (buckets_offered b.places b.nodes.items b.now b.last c.self.invariant new c.lower.ensures.circles c.args.place c.args.key (rw c.deref_mut.ensures.value at c.lower.ensures.key)
     (omega arith) (omega arith) c.requires.key c.max-self-inside.result (omega arith) (omega arith) (omega arith))
 
 pub returns-then-key-index-clause-entry : goal.returns-then-key-index-clause-entry
@@ -33,7 +33,7 @@ returns-then-key-index-clause-entry c =
     let is : entries_of b.places b.nodes.items ≡ c.args.self.now.entries = ap (λ (t : BucketTables). t.entries) c.self.view_is in
     let in_places : c.args.place < b.places = omega (arith, entries_length b.places b.nodes.items, ap (λ (t : BucketTables). length t.entries) c.self.view_is) in
     let new_is : (with_items b.nodes new).items ≡ new = with_items_is b.nodes new (omega arith) in
-    let read : c.index.result.now ≡ get_or b.nodes.items c.args.place blank = c.index.ensures ∙ get_or_default b.nodes.items c.args.place c.index.result.now blank (omega (arith, c.self.invariant.rings.count)) in
+    let read : c.index.result.now ≡ get_or b.nodes.items c.args.place blank = c.index.ensures ∙ get_or_default b.nodes.items c.args.place c.index.result.now blank (omega (arith, c.self.invariant.circles.count)) in
     rw (new_is, ← is) (offered_less b.places b.nodes.items c.args.place c.args.key in_places new (rw read at c.if-key-index.true) c.requires.key (rw c.deref_mut.ensures.value at c.lower.ensures.key))
 
 pub returns-else-key-index-clause-entry : goal.returns-else-key-index-clause-entry
@@ -41,5 +41,5 @@ returns-else-key-index-clause-entry c =
     let b = c.self.inside in
     let is : entries_of b.places b.nodes.items ≡ c.args.self.now.entries = ap (λ (t : BucketTables). t.entries) c.self.view_is in
     let in_places : c.args.place < b.places = omega (arith, entries_length b.places b.nodes.items, ap (λ (t : BucketTables). length t.entries) c.self.view_is) in
-    let read : c.index.result.now ≡ get_or b.nodes.items c.args.place blank = c.index.ensures ∙ get_or_default b.nodes.items c.args.place c.index.result.now blank (omega (arith, c.self.invariant.rings.count)) in
+    let read : c.index.result.now ≡ get_or b.nodes.items c.args.place blank = c.index.ensures ∙ get_or_default b.nodes.items c.args.place c.index.result.now blank (omega (arith, c.self.invariant.circles.count)) in
     rw (← is) (offered_more b.places b.nodes.items c.args.place c.args.key in_places (rw read at c.if-key-index.false) c.requires.key)

@@ -3,15 +3,15 @@ use Rattle.std.proofs.lemmas.List.{with_items_is}
 use Rattle.std.specs.Vec.{with_items}
 use Rattle.surf_buckets.specs.Buckets.{BucketTables, entries_of, IsNearest}
 use Rattle.surf_buckets.proofs.Views.{all_none, nearest_entry, buckets_taken, entries_set, entry_none}
-use Rattle.surf_buckets.proofs.Ringing.{when}
-use Rattle.surf_buckets.specs.Rings.{nothing, key_at}
+use Rattle.surf_buckets.proofs.Circling.{when}
+use Rattle.surf_buckets.specs.Circles.{nothing, key_at}
 use Rattle.surf_buckets.proofs.Buckets.take_least.Goals as goal
 
 pub invariant_of-self-in-Some : goal.invariant_of-self-in-Some
 invariant_of-self-in-Some c =
     let b = c.self.inside in
     let new_is : (with_items b.nodes c.remove.new.nodes).items ≡ c.remove.new.nodes = with_items_is b.nodes c.remove.new.nodes (omega arith) in
-    rw new_is (buckets_taken b.places b.nodes.items b.now b.last c.self.invariant c.remove.new.nodes c.remove.ensures.rings
+    rw new_is (buckets_taken b.places b.nodes.items b.now b.last c.self.invariant c.remove.new.nodes c.remove.ensures.circles
     c.in-Some.place c.in-Some.key (rw c.deref.ensures.value at c.in-Some.ensures) (rw c.deref_mut.ensures.value at c.remove.ensures.key))
 
 pub returns-in-None-clause-taken : goal.returns-in-None-clause-taken

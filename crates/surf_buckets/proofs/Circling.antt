@@ -1,7 +1,7 @@
--- Taking places out of rings and putting them in.
+-- Taking places out of circles and putting them in.
 use Rattle.std.proofs.Common.{ℕ, zero, suc, ◌<◌, ◌≤◌, ◌≡◌, ◌≢◌, ◌+◌, refl, sym, ap, ◌∙◌, arith, inl, inr, ltb, eqb, lt-ltb, eq-eqb, ne_eqb, if◌then◌else◌}
 use Rattle.std.proofs.lemmas.Bool.{cases_eq, cases_lt, le-ltb}
-use Rattle.surf_buckets.specs.Rings.{nothing, bucket, home, AreRinged}
+use Rattle.surf_buckets.specs.Circles.{nothing, bucket, home, AreInCircles}
 
 pub when : {A : Type 0} → (i j : ℕ) (x y : A) → i ≡ j → (if eqb i j then x else y) ≡ x
 when i j x y e = rw (eq-eqb i j e) refl
@@ -20,7 +20,7 @@ home_same places key key2 i e = ap (λ k. if ltb i places then bucket places k e
 
 -- nodes that stand alone
 pub lone : (places count : ℕ) (key next prev : ℕ → ℕ) → ((i : ℕ) → i < count → next i ≡ i) → ((i : ℕ) → i < count → prev i ≡ i) →
-    ((i : ℕ) → i < places → key i ≡ nothing) → places ≤ count → AreRinged places count key next prev
+    ((i : ℕ) → i < places → key i ≡ nothing) → places ≤ count → AreInCircles places count key next prev
 lone places count key next prev nexts prevs keys few = record {
   next_in = λ i l. rw (nexts i l) l;
   prev_in = λ i l. rw (prevs i l) l;
@@ -32,8 +32,8 @@ lone places count key next prev nexts prevs keys few = record {
   falls = λ i l some. absurd (some (keys i l));
 }
 
-module _ (places count : ℕ) (key next prev : ℕ → ℕ) (r : AreRinged places count key next prev) (all : count ≡ places + 4096) where
-  -- the first place in the ring of a bucket
+module _ (places count : ℕ) (key next prev : ℕ → ℕ) (r : AreInCircles places count key next prev) (all : count ≡ places + 4096) where
+  -- the first place in the circle of a bucket
   pub bucket_first : (s : ℕ) → places ≤ s → s < count → next s ≢ s →
       (next s < places) × (key (next s) ≢ nothing) × (bucket places (key (next s)) ≡ s)
   bucket_first s le ls ne =
@@ -111,7 +111,7 @@ module _ (places count : ℕ) (key next prev : ℕ → ℕ) (r : AreRinged place
         (λ e. ne (sym (r.forth i l) ∙ ap next e ∙ r.forth p lc)),
       )
 
-      pub removed : AreRinged places count key2 next2 prev2
+      pub removed : AreInCircles places count key2 next2 prev2
       removed = record {
         next_in = λ i l. elim (cases_eq i p) [
           | inl e ↦ rw (e, next_here) lc
@@ -240,7 +240,7 @@ module _ (places count : ℕ) (key next prev : ℕ → ℕ) (r : AreRinged place
       unfolding rank2
       rank_other i ne = unless i p 0 (suc (r.rank i)) ne
 
-      pub inserted : AreRinged places count key2 next2 prev2
+      pub inserted : AreInCircles places count key2 next2 prev2
       inserted = record {
         next_in = λ i l. elim (cases_eq i s) [
           | inl e ↦ rw (e, next_bucket) lc

@@ -1,4 +1,4 @@
--- Rings of places, one for each bucket.
+-- Circles of places, one for each bucket.
 use Rattle.std.specs.Prelude.{ℕ, ◌<◌, ◌≡◌, ◌≢◌, ◌+◌, ◌^◌, ◌%◌, nat_lt, if◌then◌else◌, List, length, get_or}
 use Rattle.surf_buckets.specs.declared.Node.{Node}
 
@@ -22,14 +22,14 @@ prev_at nodes i = (get_or nodes i blank).prev
 abbrev pub bucket : ℕ → ℕ → ℕ
 bucket places key = places + key % 4096
 
--- the bucket in whose ring a node stands, if it stands in one
+-- the bucket in whose circle a node stands, if it stands in one
 abbrev pub home : ℕ → (ℕ → ℕ) → ℕ → ℕ
 home places key i = if nat_lt i places then bucket places (key i) else i
 
--- Each node is followed by one and follows one, and stands in a ring of nodes that have one home. A place without a key
--- stands alone. Ranks fall from each place with a key to the place before it, so that each ring of such places leads to
+-- Each node is followed by one and follows one, and stands in a circle of nodes that have one home. A place without a key
+-- stands alone. Ranks fall from each place with a key to the place before it, so that each circle of such places leads to
 -- a bucket.
-pub record AreRinged (places count : ℕ) (key next prev : ℕ → ℕ) : Type 0 where
+pub record AreInCircles (places count : ℕ) (key next prev : ℕ → ℕ) : Type 0 where
   pub next_in : (i : ℕ) → i < count → next i < count
   pub prev_in : (i : ℕ) → i < count → prev i < count
   pub back : (i : ℕ) → i < count → prev (next i) ≡ i
@@ -40,10 +40,10 @@ pub record AreRinged (places count : ℕ) (key next prev : ℕ → ℕ) : Type 0
   pub falls : (i : ℕ) → i < places → key i ≢ nothing → prev i < places → rank (prev i) < rank i
 
 -- the nodes of the places and, behind them, of the buckets
-pub record AreRings (places : ℕ) (nodes : List Node) : Type 0 where
+pub record AreCircles (places : ℕ) (nodes : List Node) : Type 0 where
   pub count : length nodes ≡ places + 4096
   pub few : places < 2 ^ 31
-  pub ringed : AreRinged places (length nodes) (key_at nodes) (next_at nodes) (prev_at nodes)
+  pub linked : AreInCircles places (length nodes) (key_at nodes) (next_at nodes) (prev_at nodes)
 
 -- each node stands alone, and no place has a key
 abbrev pub IsAlone : ℕ → List Node → Type 0
