@@ -1,74 +1,28 @@
--- Rows of the faces across the sides of each face lead where shared edges do.
-use Rattle.std.proofs.Common.{◌≡◌, ◌≢◌, ℕ, ◌+◌, ◌-◌, ◌<◌, Bool, true, false, List, [], ◌∷◌, ◌++◌, length, get_or, refl, sym, ap, subst, ◌∙◌, arith, inl, inr}
-use Rattle.std.specs.List.{All}
-use Rattle.std.proofs.lemmas.Bool.{true≢false, cases_eq, cases_lt}
-use Rattle.std.proofs.lemmas.List.{get_or_default, length-map, get_or_past, get_or_push, get_or_append_left, length_push}
+-- The roots of faces tell which are joined by shared edges.
+use Rattle.std.proofs.Common.{◌≡◌, ◌≢◌, ℕ, zero, suc, ◌+◌, ◌<◌, ◌≤◌, cond, eqb, min, max, List, [], ◌∷◌, ◌++◌, length, get_or, refl, sym, ap, subst, ◌∙◌, arith, inl, inr}
+use Rattle.std.specs.List.{range_with_len}
+use Rattle.std.proofs.lemmas.Bool.{cases_eq, cases_lt, eq-eqb, ne_eqb}
+use Rattle.std.proofs.lemmas.List.{length-map, get_or_push, get_or_append_left, length_push}
 use Rattle.std.proofs.lemmas.List.Sums.{sum_by_push}
-use Rattle.surf_soup.specs.Apart.{AreAcross, IsLeastApart}
+use Rattle.std.proofs.lemmas.List.FromFn.{length-range_with_len, get_or-range_with_len}
+use Rattle.surf_soup.specs.Forest.{HasRoots, merged}
+use Rattle.surf_soup.specs.Apart.{AreAcross, AreFaceRoots, IsLeastApart}
 use Rattle.surf_surfaces.specs.Joined.{Joined, here, over}
-use Rattle.surf_surfaces.proofs.JoinedLaws.{joined_trans, joined_sym, joined_lift}
+use Rattle.surf_surfaces.proofs.JoinedLaws.{joined_trans, joined_sym, joined_closed}
 use Rattle.surf_surfaces.specs.Mesh.{Mesh, IsMesh, edges}
 use Rattle.surf_surfaces.specs.Surface.{face_count, face_at, faces_with, Share, IsConnected}
-use Rattle.surf_surfaces.specs.SideNumber.{side_count, pair_at, owners, sides_with, first_side, IsFaceOf}
+use Rattle.surf_surfaces.specs.SideNumber.{side_count, pair_at, owners, sides_with, first_side}
 use Rattle.surf_soup.specs.Half.{AreAllMates}
-use Rattle.surf_soup.specs.Reach.{Leads, marked, IsReach}
 use Rattle.surf_soup.specs.Pairs.{HasTwoFaces}
 use Rattle.surf_soup.proofs.Owners.{faces_with-sides}
 use Rattle.surf_soup.proofs.EdgeTables.{pair_at-edge}
 use Rattle.surf_surfaces.specs.Walk.{place_of}
 use Rattle.surf_surfaces.proofs.EdgeLaws.{place_of-among}
 use Rattle.surf_soup.proofs.HalfLaws.{face_of_side, spans}
-use Rattle.surf_soup.proofs.SideNumbers.{across_shares, shares_across, one_face}
+use Rattle.surf_soup.proofs.SideNumbers.{across_shares, shares_across, one_face, mate_back}
 
 share_sym : (mesh : Mesh) (f g : ℕ) → Share mesh f g → Share mesh g f
 share_sym mesh f g h = (h.0, h.2, h.1)
-
-module _ (mesh : Mesh) (two : (s : ℕ) → s < side_count mesh → length (sides_with mesh (pair_at mesh s)) ≡ 2) (mate : List ℕ) (mates : AreAllMates mesh mate) (rows : List (List ℕ))
-    (row_len : (f : ℕ) → f < face_count mesh → length (get_or rows f []) ≡ length (face_at mesh f))
-    (row_at : (f m : ℕ) → f < face_count mesh → m < length (face_at mesh f) → get_or (get_or rows f []) m 0 ≡ get_or (owners 0 mesh.faces) (get_or mate (first_side mesh f + m) 0) 0)
-    (rows_few : length rows ≡ face_count mesh)
-  where
-    leads_share : (f g : ℕ) → f < face_count mesh → Leads rows f g → Share mesh f g
-    leads_share f g lt h =
-        let m = h.0 in
-        let in' : m < length (face_at mesh f) = omega (arith, h.1, row_len f lt) in
-        let s = first_side mesh f + m in
-        let sp = spans mesh.faces f lt in
-        let below : s < side_count mesh = omega (arith, sp.0, sp.1) in
-        let is = mates.mates s below in
-        let own : IsFaceOf mesh s f = record { is_face = lt; from = omega arith; upto = omega arith } in
-        let there = face_of_side mesh (owners 0 mesh.faces) (get_or mate s 0) 0 refl is.is_side in
-        let P : ℕ → Type 0 = λ x. Share mesh f x in
-        subst P (sym (row_at f m lt in') ∙ h.2) (across_shares mesh s (get_or mate s 0) f (get_or (owners 0 mesh.faces) (get_or mate s 0) 0) own is there)
-
-    share_leads : (f g : ℕ) → f ≢ g → Share mesh f g → Leads rows f g
-    share_leads f g differ h =
-        let r = shares_across mesh two mate mates f g differ h in
-        let s = r.0 in
-        let own = r.2 in
-        let lt : f < face_count mesh = h.1.0 in
-        let m = s - first_side mesh f in
-        let number : first_side mesh f + m ≡ s = omega (arith, own.from) in
-        let in' : m < length (face_at mesh f) = omega (arith, own.from, own.upto) in
-        let is = mates.mates s r.1 in
-        let there = face_of_side mesh (owners 0 mesh.faces) (get_or mate s 0) 0 refl is.is_side in
-        (m, omega (arith, row_len f lt), row_at f m lt in' ∙ ap (λ t. get_or (owners 0 mesh.faces) (get_or mate t 0) 0) number ∙ one_face mesh (get_or mate s 0) (get_or (owners 0 mesh.faces) (get_or mate s 0) 0) g there r.3)
-
-    -- rows lead from faces alone
-    leads_face : (f g : ℕ) → Leads rows f g → f < face_count mesh
-    leads_face f g h = elim (cases_lt f (length rows)) [
-      | inl lt ↦ omega arith
-      | inr ge ↦ let e = ap length (get_or_past rows f [] ge) in absurd (omega (arith, h.1))
-    ]
-
-    pub reach_shares : (g : ℕ) → Joined (Leads rows) 0 g → Joined (Share mesh) 0 g
-    reach_shares g h = joined_lift (λ x y l. over (leads_share x y (leads_face x y l) l) here) h
-
-    pub shares_reach : (g : ℕ) → Joined (Share mesh) 0 g → Joined (Leads rows) 0 g
-    shares_reach g h = joined_lift (λ x y s. elim (cases_eq x y) [
-      | inl e ↦ let P : ℕ → Type 0 = λ z. Joined (Leads rows) x z in subst P e here
-      | inr ne ↦ over (share_leads x y ne s) here
-    ]) h
 
 pub all_joined : (mesh : Mesh) → ((g : ℕ) → g < face_count mesh → Joined (Share mesh) 0 g) → IsConnected mesh
 all_joined mesh h f g a b = joined_trans (joined_sym (share_sym mesh) (h f a)) (h g b)
@@ -102,29 +56,152 @@ two_sides mesh is_mesh two s lt =
     let deg = two (place_of p (edges mesh)) at.0 in
     sym (ap length (faces_with-sides mesh is_mesh p) ∙ length-map (sides_with mesh p) (λ t. get_or (owners 0 mesh.faces) t 0)) ∙ ap (λ q. length (faces_with mesh q)) (sym at.1) ∙ deg
 
-pub across_inside : (mesh : Mesh) (mate : List ℕ) (rows : List (List ℕ)) → AreAllMates mesh mate → AreAcross mesh mate (face_count mesh) rows → All (λ row. All (λ g. g < length rows) row) rows
-across_inside mesh mate rows mates a = λ f e lt m d in'.
-    let n = a.size in
-    let in_f : f < face_count mesh = omega arith in
-    let same : get_or rows f e ≡ get_or rows f [] = get_or_default rows f e [] lt in
-    let l = ap length same in
-    let place : m < length (face_at mesh f) = omega (arith, a.row_len f in_f) in
-    let sp = spans mesh.faces f in_f in
-    let is = mates.mates (first_side mesh f + m) (omega (arith, sp.0, sp.1)) in
-    let there = face_of_side mesh (owners 0 mesh.faces) (get_or mate (first_side mesh f + m) 0) 0 refl is.is_side in
-    let value : get_or (get_or rows f e) m d ≡ get_or (owners 0 mesh.faces) (get_or mate (first_side mesh f + m) 0) 0 = get_or_default (get_or rows f e) m d 0 in' ∙ ap (λ (xs : List ℕ). get_or xs m 0) same ∙ a.row_at f m in_f place in
-    omega (arith, value, there.is_face)
+-- the face of a side
+abbrev face_of : Mesh → ℕ → ℕ
+face_of mesh s = get_or (owners 0 mesh.faces) s 0
 
-module _ (mesh : Mesh) (is_mesh : IsMesh mesh) (two : HasTwoFaces mesh) (mate : List ℕ) (mates : AreAllMates mesh mate) (beside : List (List ℕ)) (a : AreAcross mesh mate (face_count mesh) beside) (seen : List Bool) (r : IsReach beside 0 seen) where
-  pub seen_joined : (g : ℕ) → marked seen g ≡ true → Joined (Share mesh) 0 g
-  seen_joined g h = reach_shares mesh (two_sides mesh is_mesh two) mate mates beside a.row_len a.row_at a.size g (r.sound g h)
+-- the faces of the first k sides and of their mates are joined
+pub record JoinsUpto (mesh : Mesh) (mate : List ℕ) (k : ℕ) (parents : List ℕ) (root : ℕ → ℕ) : Type 0 where
+  pub size : length parents ≡ face_count mesh
+  pub roots : HasRoots parents root
+  pub sound : (f : ℕ) → f < face_count mesh → Joined (Share mesh) (root f) f
+  pub done : (s : ℕ) → s < k → get_or mate s 0 < s → root (face_of mesh s) ≡ root (face_of mesh (get_or mate s 0))
 
-  pub none_apart : ((k : ℕ) → k < length seen → marked seen k ≡ true) → IsConnected mesh
-  none_apart all = all_joined mesh (λ g lt. seen_joined g (all g (let n = a.size in let m = r.size in omega arith)))
+pub joins_none : (mesh : Mesh) (mate parents : List ℕ) → parents ≡ range_with_len 0 (face_count mesh) → JoinsUpto mesh mate 0 parents (λ f. f)
+joins_none mesh mate parents lone =
+    let size = length-range_with_len 0 (face_count mesh) in
+    let long = ap length lone in
+    let at : (f : ℕ) → f < length parents → get_or parents f 0 ≡ f = λ f lt. ap (λ (xs : List ℕ). get_or xs f 0) lone ∙ get_or-range_with_len 0 (face_count mesh) f 0 (omega arith) ∙ (let z : 0 + f ≡ f = omega arith in z) in
+    record {
+      size = long ∙ size;
+      roots = record {
+        falls = λ f lt. omega (arith, at f lt);
+        low = λ f lt. omega arith;
+        same = at;
+        own = λ f lt is. refl;
+      };
+      sound = λ f lt. here;
+      done = λ s lt. absurd (omega arith);
+    }
 
-  pub least_apart : (f : ℕ) → f < length seen → marked seen f ≡ false → ((j : ℕ) → j < f → marked seen j ≡ true) → IsLeastApart mesh f
-  least_apart f lt unseen before = record {
-    is_face = let n = a.size in let m = r.size in omega arith;
-    apart = λ h. true≢false (sym (r.complete f (shares_reach mesh (two_sides mesh is_mesh two) mate mates beside a.row_len a.row_at a.size f h)) ∙ unseen);
-    joined_before = λ g below. seen_joined g (before g below);
+module _ (mesh : Mesh) (mate : List ℕ) (mates : AreAllMates mesh mate) (k : ℕ) (lt : k < side_count mesh) (parents : List ℕ) (root : ℕ → ℕ) (so_far : JoinsUpto mesh mate k parents root) where
+  pub joins_past : (get_or mate k 0 < k → ⊥) → JoinsUpto mesh mate (k + 1) parents root
+  joins_past late = record {
+    size = so_far.size;
+    roots = so_far.roots;
+    sound = so_far.sound;
+    done = λ s below before. elim (cases_eq s k) [
+      | inl e ↦ absurd (late (let same = ap (λ t. get_or mate t 0) e in omega arith))
+      | inr ne ↦ so_far.done s (omega arith) before
+    ];
+  }
+
+  -- the roots of the faces of a side and of its mate are joined
+  roots_joined : Joined (Share mesh) (root (face_of mesh k)) (root (face_of mesh (get_or mate k 0)))
+  roots_joined =
+      let m = get_or mate k 0 in
+      let is = mates.mates k lt in
+      let f = face_of_side mesh (owners 0 mesh.faces) k 0 refl lt in
+      let g = face_of_side mesh (owners 0 mesh.faces) m 0 refl is.is_side in
+      joined_trans (so_far.sound (face_of mesh k) f.is_face)
+      (joined_trans (over (across_shares mesh k m (face_of mesh k) (face_of mesh m) f is g) here) (joined_sym (share_sym mesh) (so_far.sound (face_of mesh m) g.is_face)))
+
+  pub joins_next : (now : List ℕ) → length now ≡ length parents → HasRoots now (merged root (face_of mesh k) (face_of mesh (get_or mate k 0))) → JoinsUpto mesh mate (k + 1) now (merged root (face_of mesh k) (face_of mesh (get_or mate k 0)))
+  joins_next now kept roots =
+      let a = root (face_of mesh k) in
+      let b = root (face_of mesh (get_or mate k 0)) in
+      let to : ℕ → ℕ = λ r. cond (eqb r (max a b)) (min a b) r in
+      let between : Joined (Share mesh) (min a b) (max a b) = elim (cases_lt a b) [
+        | inl less ↦
+            let low : a ≡ min a b = omega arith in
+            let high : b ≡ max a b = omega arith in
+            subst (λ h. Joined (Share mesh) (min a b) h) high (subst (λ l. Joined (Share mesh) l b) low roots_joined)
+        | inr more ↦
+            let low : b ≡ min a b = omega arith in
+            let high : a ≡ max a b = omega arith in
+            subst (λ h. Joined (Share mesh) (min a b) h) high (subst (λ l. Joined (Share mesh) l a) low (joined_sym (share_sym mesh) roots_joined))
+      ] in
+      let both : to a ≡ to b = elim (cases_lt a b) [
+        | inl less ↦ rw (ne_eqb a (max a b) (λ e. omega arith), eq-eqb b (max a b) (omega arith)) (omega arith)
+        | inr more ↦ elim (cases_eq a b) [
+          | inl e ↦ ap to e
+          | inr ne ↦ rw (eq-eqb a (max a b) (omega arith), ne_eqb b (max a b) (λ e. omega arith)) (omega arith)
+        ]
+      ] in
+      record {
+        size = kept ∙ so_far.size;
+        roots = roots;
+        sound = λ f in'. elim (cases_eq (root f) (max a b)) [
+          | inl e ↦
+              let old = so_far.sound f in' in
+              rw (eq-eqb (root f) (max a b) e) (joined_trans between (subst (λ r. Joined (Share mesh) r f) e old))
+          | inr ne ↦ rw (ne_eqb (root f) (max a b) ne) (so_far.sound f in')
+        ];
+        done = λ s below before. elim (cases_eq s k) [
+          | inl e ↦ rw e both
+          | inr ne ↦ ap to (so_far.done s (omega arith) before)
+        ];
+      }
+
+pub joins_all : (mesh : Mesh) → IsMesh mesh → HasTwoFaces mesh → (mate : List ℕ) → AreAllMates mesh mate → (k : ℕ) (parents : List ℕ) (root : ℕ → ℕ) → JoinsUpto mesh mate k parents root → side_count mesh ≤ k → AreFaceRoots mesh parents root
+joins_all mesh is_mesh two mate mates k parents root joins all = record {
+  size = joins.size;
+  roots = joins.roots;
+  sound = joins.sound;
+  complete = λ f g share. elim (cases_eq f g) [
+    | inl e ↦ ap root e
+    | inr ne ↦
+        let sides = two_sides mesh is_mesh two in
+        let r = shares_across mesh sides mate mates f g ne share in
+        let s = r.0 in
+        let m = get_or mate s 0 in
+        let is = mates.mates s r.1 in
+        let own : face_of mesh s ≡ f = one_face mesh s (face_of mesh s) f (face_of_side mesh (owners 0 mesh.faces) s 0 refl r.1) r.2 in
+        let across : face_of mesh m ≡ g = one_face mesh m (face_of mesh m) g (face_of_side mesh (owners 0 mesh.faces) m 0 refl is.is_side) r.3 in
+        let back : get_or mate m 0 ≡ s = mate_back mesh sides mate mates s r.1 in
+        elim (cases_lt m s) [
+          | inl before ↦ ap root (sym own) ∙ joins.done s (omega arith) before ∙ ap root across
+          | inr later ↦
+              let other = is.other in
+              let first : get_or mate m 0 < m = elim (cases_eq m s) [ inl e ↦ absurd (other e) | inr differ ↦ omega arith ] in
+              ap root (sym own) ∙ ap (λ t. root (face_of mesh t)) (sym back) ∙ sym (joins.done m (omega (arith, is.is_side)) first) ∙ ap root across
+        ]
+  ];
+}
+
+module _ (mesh : Mesh) (parents : List ℕ) (root : ℕ → ℕ) (are : AreFaceRoots mesh parents root) where
+  -- numbers below all roots but 0 have the root 0
+  first_root : (m n g : ℕ) → m ≤ length parents → ((h : ℕ) → 0 < h → h < m → get_or parents h 0 ≢ h) → g < n → g < m → root g ≡ 0
+  first_root m zero g within none lt below = absurd (omega arith)
+  first_root m (suc n) g within none lt below =
+      let r = are.roots in
+      let low = r.low g (omega arith) in
+      let falls = r.falls g (omega arith) in
+      elim (cases_eq g 0) [
+        | inl e ↦ omega arith
+        | inr some ↦
+            let other = none g (omega arith) below in
+            let p = get_or parents g 0 in
+            let less : p < g = elim (cases_eq p g) [ inl e ↦ absurd (other e) | inr ne ↦ omega arith ] in
+            sym (r.same g (omega arith)) ∙ first_root m n p within none (omega arith) (omega arith)
+      ]
+
+  joined_first : (m g : ℕ) → m ≤ length parents → ((h : ℕ) → 0 < h → h < m → get_or parents h 0 ≢ h) → g < m → Joined (Share mesh) 0 g
+  joined_first m g within none below =
+      let size = are.size in
+      subst (λ r. Joined (Share mesh) r g) (first_root m (suc g) g within none (omega arith) below) (are.sound g (omega arith))
+
+  pub none_apart : ((f : ℕ) → 0 < f → f < length parents → get_or parents f 0 ≢ f) → IsConnected mesh
+  none_apart none = all_joined mesh (λ g lt. joined_first (length parents) g (omega arith) none (let n = are.size in omega arith))
+
+  pub least_apart : (f : ℕ) → 0 < f → f < length parents → get_or parents f 0 ≡ f → ((g : ℕ) → 0 < g → g < f → get_or parents g 0 ≢ g) → IsLeastApart mesh f
+  least_apart f some lt own before = record {
+    is_face = let n = are.size in omega arith;
+    apart = λ chain.
+        let same : root 0 ≡ root f = joined_closed (λ x. root 0 ≡ root x) (λ x y share h. h ∙ are.complete x y share) chain refl in
+        let r = are.roots in
+        let low = r.low 0 (omega arith) in
+        let here' = r.own f lt own in
+        omega arith;
+    joined_before = λ g below. joined_first f g (omega arith) before below;
   }

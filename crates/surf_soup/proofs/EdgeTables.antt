@@ -1,23 +1,20 @@
 -- The listed pairs are the edges, and the groups by edge are the sides of the edges.
-use Rattle.std.proofs.Common.{◌≡◌, ℕ, zero, suc, ◌+◌, ◌<◌, ◌≤◌, Bool, true, false, eqb, List, [], ◌∷◌, length, get_or, map, refl, sym, ap, ◌∙◌, arith, inl, inr}
+use Rattle.std.proofs.Common.{◌≡◌, ℕ, zero, suc, ◌+◌, ◌<◌, ◌≤◌, Bool, true, false, eqb, List, [], ◌∷◌, length, get_or, map, take, refl, sym, ap, ◌∙◌, arith}
 use Rattle.std.specs.List.{AllByRecursion, filter, flat_map, range_with_len, sum_by}
-use Rattle.std.proofs.lemmas.Bool.{true≢false, eq-eqb, ne_eqb, eqb-true, cases_eq}
-use Rattle.std.proofs.lemmas.List.{length-map, get_or-map, same_lists}
+use Rattle.std.proofs.lemmas.Bool.{true≢false, eqb-true}
+use Rattle.std.proofs.lemmas.List.{length-map, get_or-map, same_lists, take_all}
 use Rattle.std.proofs.lemmas.List.Concat.{length-flat_map}
 use Rattle.std.proofs.lemmas.List.Elements.{All-from_recursion}
 use Rattle.std.proofs.lemmas.List.Sums.{sum_by-cons}
-use Rattle.std.proofs.lemmas.List.FromFn.{length-map-range_with_len, get_or-map-range_with_len}
 use Rattle.surf_surfaces.specs.Mesh.{Mesh, IsMesh, sides, pair_of, pair_eq, among, edges}
 use Rattle.surf_surfaces.specs.Surface.{edge_count, ends}
-use Rattle.surf_surfaces.specs.Walk.{place_of}
 use Rattle.surf_surfaces.proofs.PairLaws.{pair_eq-true, pair_eq-self, pair_eq-same, pair_same}
-use Rattle.surf_surfaces.proofs.EdgeLaws.{among-sorted, list_any_at, list_any_from, rising_unique, rising_from_AllPairs, edges-rise, ends-eq, place_of-ends}
+use Rattle.surf_surfaces.proofs.EdgeLaws.{among-sorted, list_any_at, list_any_from, rising_unique, rising_from_AllPairs, edges-rise}
 use Rattle.surf_surfaces.proofs.SurfaceLaws.{edge_below}
 use Rattle.surf_surfaces.proofs.CountLaws.{length-sides}
-use Rattle.surf_rows.specs.Groups.{has_key, group_of}
 use Rattle.surf_surfaces.specs.SideNumber.{side_count, side_pairs, pair_at, sides_with}
-use Rattle.surf_soup.specs.Order.{side_order, pair_in, IsNumbered}
-use Rattle.surf_soup.proofs.Order.{side_order-below, side_order-has}
+use Rattle.surf_soup.specs.Order.{by_key, side_order, pair_in, running, AreRowsOf, IsNumbered}
+use Rattle.surf_soup.proofs.Order.{by_key-keeps, side_order-below, side_order-has}
 
 same_Bool : (a b : Bool) → (a ≡ true → b ≡ true) → (b ≡ true → a ≡ true) → a ≡ b
 same_Bool true b f g = sym (f refl)
@@ -100,21 +97,33 @@ module _ (mesh : Mesh) (is_mesh : IsMesh mesh) (lows highs : List ℕ) (low_is :
             let lt : r.0 < side_count mesh = omega (arith, r.1) in
             list_any_from (pair_eq p) edge_list (0, 0) (get_or edge_of r.0 0) (number_below r.0 lt) (pair_eq-same p (get_or edge_list (get_or edge_of r.0 0) (0, 0)) (pair_eq-true p (pair_at mesh r.0) r.2 ∙ sym (number_same r.0 lt)))
 
-eqb_comm : (a b : ℕ) → eqb a b ≡ eqb b a
-eqb_comm a b = elim (cases_eq a b) [ inl e ↦ eq-eqb a b e ∙ sym (eq-eqb b a (sym e)) | inr n ↦ ne_eqb a b n ∙ sym (ne_eqb b a (λ e. n (sym e))) ]
+-- the sides of each edge in an order are those among all sides
+module _ (mesh : Mesh) (is_mesh : IsMesh mesh) (lows highs : List ℕ) (low_is : lows ≡ map (λ p. p.0) (side_pairs mesh.faces)) (high_is : highs ≡ map (λ p. p.1) (side_pairs mesh.faces)) where
+  order_keeps : (p : ℕ × ℕ) → p.0 < mesh.vertices → p.1 < mesh.vertices → running (pair_in lows highs) (side_order lows highs mesh.vertices) p ≡ sides_with mesh p
+  order_keeps p low high =
+      let all = range_with_len 0 (length lows) in
+      let test = λ (s : ℕ). pair_eq p (pair_in lows highs s) in
+      let is : (s : ℕ) → test s ≡ true → p ≡ pair_in lows highs s = λ s e. pair_eq-true p (pair_in lows highs s) e in
+      by_key-keeps lows (by_key highs mesh.vertices all) test p.0 (λ s e. sym (ap (λ (q : ℕ × ℕ). q.0) (is s e))) mesh.vertices low
+      ∙ by_key-keeps highs all test p.1 (λ s e. sym (ap (λ (q : ℕ × ℕ). q.1) (is s e))) mesh.vertices high
+      ∙ ap (λ n. filter test (range_with_len 0 n)) (ends_len (λ p. p.0) mesh lows low_is)
+      ∙ filter_same test (λ s. pair_eq p (pair_at mesh s)) (range_with_len 0 (side_count mesh)) (all_range (λ s. test s ≡ pair_eq p (pair_at mesh s)) 0 (side_count mesh) (λ s from upto. ap (pair_eq p) (pair_in_is mesh is_mesh lows highs low_is high_is s (omega arith))))
 
--- the sides by their edge
-pub sides_by_edge : (mesh : Mesh) (edge_of : List ℕ) → ((s : ℕ) → s < side_count mesh → get_or edge_of s 0 < edge_count mesh) → ((s : ℕ) → s < side_count mesh → ends mesh (get_or edge_of s 0) ≡ pair_at mesh s) →
-    map (group_of edge_of (range_with_len 0 (side_count mesh))) (range_with_len 0 (edge_count mesh)) ≡ map (sides_with mesh) (edges mesh)
-sides_by_edge mesh edge_of below same =
-    let all = range_with_len 0 (side_count mesh) in
-    let E = edge_count mesh in
-    same_lists (map (group_of edge_of all) (range_with_len 0 E)) (map (sides_with mesh) (edges mesh)) (length-map-range_with_len (group_of edge_of all) 0 E ∙ sym (length-map (edges mesh) (sides_with mesh))) (λ e d lt.
-    let l = length-map-range_with_len (group_of edge_of all) 0 E in
-    let in' : e < E = omega arith in
-    get_or-map-range_with_len (group_of edge_of all) 0 E e e d in' (omega arith)
-    ∙ filter_same (has_key edge_of e) (λ s. pair_eq (ends mesh e) (pair_at mesh s)) all (all_range (λ s. has_key edge_of e s ≡ pair_eq (ends mesh e) (pair_at mesh s)) 0 (side_count mesh) (λ s low high.
-    let lt_s : s < side_count mesh = omega arith in
-    let f = get_or edge_of s 0 in
-    eqb_comm f e ∙ ap (eqb e) (sym (place_of-ends mesh f (below s lt_s))) ∙ ap (λ p. eqb e (place_of p (edges mesh))) (same s lt_s) ∙ sym (ends-eq mesh (pair_at mesh s) e (pair_at-edge mesh s lt_s) in')))
-    ∙ sym (get_or-map (sides_with mesh) (edges mesh) e (0, 0) d in'))
+  pub rows_are_sides : (edge_list : List (ℕ × ℕ)) (rows : List (List ℕ)) → edge_list ≡ edges mesh → AreRowsOf (pair_in lows highs) (side_order lows highs mesh.vertices) (length (side_order lows highs mesh.vertices)) edge_list rows →
+      rows ≡ map (sides_with mesh) (edges mesh)
+  rows_are_sides edge_list rows is are =
+      let order = side_order lows highs mesh.vertices in
+      let in_rows = running (pair_in lows highs) (take (length order) order) in
+      are.rows_are ∙ ap (map in_rows) is
+      ∙ same_lists (map in_rows (edges mesh)) (map (sides_with mesh) (edges mesh)) (length-map (edges mesh) in_rows ∙ sym (length-map (edges mesh) (sides_with mesh))) (λ e d lt.
+      let size = length-map (edges mesh) in_rows in
+      let in' : e < edge_count mesh = omega arith in
+      let p = ends mesh e in
+      let below = edge_below mesh is_mesh p (among_at e in') in
+      get_or-map in_rows (edges mesh) e (0, 0) d in'
+      ∙ ap (λ o. running (pair_in lows highs) o p) (take_all (length order) order (omega arith))
+      ∙ order_keeps p (omega (arith, below.0, below.1)) below.1
+      ∙ sym (get_or-map (sides_with mesh) (edges mesh) e (0, 0) d in'))
+    where
+      among_at : (e : ℕ) → e < edge_count mesh → among (ends mesh e) (edges mesh) ≡ true
+      among_at e in' = list_any_from (pair_eq (ends mesh e)) (edges mesh) (0, 0) e in' (pair_eq-self (ends mesh e))

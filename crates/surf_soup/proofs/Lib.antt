@@ -1,5 +1,6 @@
 pub mod SideTables
 pub mod Order
+pub mod EdgeRows
 pub mod Numbering
 pub mod EdgeTables
 pub mod Owners
@@ -7,8 +8,12 @@ pub mod Paired
 pub mod Mates
 pub mod HalfLaws
 pub mod SideNumbers
+pub mod PutSteps
+pub mod SortedEntries
+pub mod ListSteps
 pub mod ReachSteps
 pub mod VertexLaws
+pub mod ForestSteps
 pub mod ApartLaws
 pub mod RoundSteps
 pub mod RingLaws

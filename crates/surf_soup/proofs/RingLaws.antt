@@ -25,9 +25,9 @@ use Rattle.surf_soup.specs.Reach.{marked}
 use Rattle.surf_soup.specs.Ring.{dart_corner, cross_of, turn_of, turns, AreDarts, IsRound, IsTrail, AreTurned, BeginsAt, IsEdgeAt, side_before, GoBetween, IsWholeRing, IsPinch, AreAllRings}
 use Rattle.surf_soup.proofs.Order.{Ordered, all_filter, passing, range_below}
 use Rattle.surf_soup.proofs.HalfLaws.{face_of_side, spans}
-use Rattle.surf_soup.proofs.Mates.{member_filter, with_pair, with_all, ordered_filter, range_ordered}
+use Rattle.surf_soup.proofs.Mates.{member_filter, with_pair, ordered_filter, range_ordered}
 use Rattle.surf_soup.proofs.Paired.{side_below}
-use Rattle.surf_soup.proofs.SideNumbers.{pair_at_place, side_of_face, face_has_side, one_face, first_mono, third}
+use Rattle.surf_soup.proofs.SideNumbers.{pair_at_place, side_of_face, face_has_side, one_face, first_mono, of_edge, mate_back}
 use Rattle.surf_soup.proofs.VertexLaws.{corners_len, corner_at_place, IsPlaced, placed}
 use Rattle.surf_soup.proofs.ApartLaws.{two_sides}
 use Rattle.surf_soup.proofs.RoundSteps.{cross_in, corner_in, flip_corner, cross_vertex, walk_in, walk_vertex, round_closed, round_differ, round_sides}
@@ -169,13 +169,6 @@ module _ (mesh : Mesh) (is_mesh : IsMesh mesh) (two : HasTwoFaces mesh) (mate : 
       ∙ ap (λ x. pair x (corner (face_at mesh f) (after n k))) (sym (tail_at mesh s f k p))
       ∙ ap (pair (tail s)) (sym (tail_at mesh (get_or next s 0) f (after n k) (next_place s f k p)))
 
-  -- of three sides of one edge two are the same
-  of_edge : (s t m : ℕ) → s < side_count mesh → t < side_count mesh → m < side_count mesh → pair_at mesh t ≡ pair_at mesh s → pair_at mesh m ≡ pair_at mesh s → s ≢ t → m ≢ s → m ≡ t
-  of_edge s t m a b c e f differ other =
-      let both = sides_with mesh (pair_at mesh s) in
-      let at : (u : ℕ) → u < side_count mesh → pair_at mesh u ≡ pair_at mesh s → (u ≡ get_or both 0 0) ⊎ (u ≡ get_or both 1 0) = λ u lt q. let w = with_all mesh u lt (two_sides mesh is_mesh two u lt) in rw q at w in
-      third s t m (get_or both 0 0) (get_or both 1 0) differ other (at s a refl) (at t b e) (at m c f)
-
   pub are_darts : AreDarts next prev mate (all_corners mesh)
   are_darts =
       let n = turned_size after mesh next nexts in
@@ -194,11 +187,7 @@ module _ (mesh : Mesh) (is_mesh : IsMesh mesh) (two : HasTwoFaces mesh) (mate : 
             let b = after m r.1.0 in
             same_place mesh (get_or prev (get_or next s 0) 0) s r.0 (before m b) r.1.0 (prev_place (get_or next s 0) r.0 b (next_place s r.0 r.1.0 r.1.1)) r.1.1 (before-after m r.1.0 r.1.1.is_place);
         mate_in = λ s lt. let is = mates.mates s (omega arith) in omega (arith, is.is_side);
-        mate_twice = λ s lt.
-            let is = mates.mates s (omega arith) in
-            let m = get_or mate s 0 in
-            let is' = mates.mates m is.is_side in
-            of_edge m s (get_or mate m 0) is.is_side (omega arith) is'.is_side (sym is.same_edge) is'.same_edge is.other is'.other;
+        mate_twice = λ s lt. mate_back mesh (two_sides mesh is_mesh two) mate mates s (omega arith);
         mate_other = λ s lt. (mates.mates s (omega arith)).other;
         ends_differ = λ s lt e.
             let r = placed mesh s (omega arith) in
@@ -378,7 +367,7 @@ module _ (mesh : Mesh) (is_mesh : IsMesh mesh) (two : HasTwoFaces mesh) (mate : 
             let m = mates.mates d.0 is.is_side in
             let P : ℕ → Type 0 = λ x. IsFaceOf mesh x g in
             let differ : d.0 ≢ d'.0 = λ e. ne (one_face mesh d.0 f g is.its_face (subst P (sym e) is'.its_face)) in
-            let other : get_or mate d.0 0 ≡ d'.0 = of_edge d.0 d'.0 (get_or mate d.0 0) is.is_side is'.is_side m.is_side (is'.its_pair ∙ sym is.its_pair) m.same_edge differ m.other in
+            let other : get_or mate d.0 0 ≡ d'.0 = of_edge mesh (two_sides mesh is_mesh two) d.0 d'.0 (get_or mate d.0 0) is.is_side is'.is_side m.is_side (is'.its_pair ∙ sym is.its_pair) m.same_edge differ m.other in
             let c = dart_corner next d in
             let c_in : c < side_count mesh = let i = corner_in next prev mate (all_corners mesh) are_darts d in' in omega arith in
             let k = met c (c_in, is.its_vertex) (dart_face d f is.its_face) in
@@ -436,7 +425,7 @@ module _ (mesh : Mesh) (is_mesh : IsMesh mesh) (two : HasTwoFaces mesh) (mate : 
             let p : pair_at mesh t ≡ pair_at mesh s = sym (between_is k b) ∙ ap (ends mesh) (sym e) ∙ between_is i a in
             round_differ next prev mate (all_corners mesh) are_darts start seen_before seen ring start_in round i k lt b (elim (cases_eq t s) [
               | inl q ↦ inl q
-              | inr ne ↦ inr (sym (of_edge s t (get_or mate s 0) (dart_side i) (dart_side k) is.is_side p is.same_edge (λ q. ne (sym q)) is.other))
+              | inr ne ↦ inr (sym (of_edge mesh (two_sides mesh is_mesh two) s t (get_or mate s 0) (dart_side i) (dart_side k) is.is_side p is.same_edge (λ q. ne (sym q)) is.other))
             ])
 
         -- an edge with a dart at the vertex is listed

@@ -1,5 +1,5 @@
 -- Sides by their numbers, and by their faces and places.
-use Rattle.std.proofs.Common.{◌≡◌, ◌≢◌, ℕ, ◌+◌, ◌-◌, ◌<◌, ◌≤◌, ◌⊎◌, true, List, [], length, get_or, take, sym, ap, ◌∙◌, arith, inl, inr}
+use Rattle.std.proofs.Common.{◌≡◌, ◌≢◌, ℕ, ◌+◌, ◌-◌, ◌<◌, ◌≤◌, ◌⊎◌, true, List, [], length, get_or, take, refl, sym, ap, ◌∙◌, arith, inl, inr}
 use Rattle.std.specs.List.{flat_map, sum_by}
 use Rattle.std.proofs.lemmas.Bool.{cases_order}
 use Rattle.std.proofs.lemmas.List.{get_or-map, take-take, length-map}
@@ -73,26 +73,39 @@ pub across_shares : (mesh : Mesh) (s t f g : ℕ) → IsFaceOf mesh s f → IsMa
 across_shares mesh s t f g a m b = (pair_at mesh s, (a.is_face, side_of_face mesh s f a), (b.is_face, ap (λ p. has_side p (face_at mesh g)) (sym m.same_edge) ∙ side_of_face mesh t g b))
 
 -- of three sides that are one of two each, two are the same
-pub third : (s t m x y : ℕ) → s ≢ t → m ≢ s → (s ≡ x) ⊎ (s ≡ y) → (t ≡ x) ⊎ (t ≡ y) → (m ≡ x) ⊎ (m ≡ y) → m ≡ t
+third : (s t m x y : ℕ) → s ≢ t → m ≢ s → (s ≡ x) ⊎ (s ≡ y) → (t ≡ x) ⊎ (t ≡ y) → (m ≡ x) ⊎ (m ≡ y) → m ≡ t
 third s t m x y a b p q r = elim p [
   | inl e ↦ elim q [ inl f ↦ absurd (a (e ∙ sym f)) | inr f ↦ elim r [ inl g ↦ absurd (b (g ∙ sym e)) | inr g ↦ g ∙ sym f ] ]
   | inr e ↦ elim q [ inl f ↦ elim r [ inl g ↦ g ∙ sym f | inr g ↦ absurd (b (g ∙ sym e)) ] | inr f ↦ absurd (a (e ∙ sym f)) ]
 ]
 
--- of two faces that share an edge one has a side whose mate is the other's
-pub shares_across : (mesh : Mesh) → ((s : ℕ) → s < side_count mesh → length (sides_with mesh (pair_at mesh s)) ≡ 2) → (mate : List ℕ) → AreAllMates mesh mate → (f g : ℕ) → f ≢ g → Share mesh f g →
-    (s : ℕ) × (s < side_count mesh) × IsFaceOf mesh s f × IsFaceOf mesh (get_or mate s 0) g
-shares_across mesh two mate mates f g differ h =
-    let p = h.0 in
-    let a = face_has_side mesh f p h.1.0 h.1.1 in
-    let b = face_has_side mesh g p h.2.0 h.2.1 in
-    let s = a.0 in
-    let t = b.0 in
-    let m = get_or mate s 0 in
-    let is = mates.mates s a.1.is_side in
-    let both = sides_with mesh p in
-    let at : (u : ℕ) → u < side_count mesh → pair_at mesh u ≡ p → (u ≡ get_or both 0 0) ⊎ (u ≡ get_or both 1 0) = λ u lt e. let w = with_all mesh u lt (two u lt) in rw e at w in
-    let apart : s ≢ t = λ same. differ (one_face mesh s f g a.1.its_face (rw (sym same) at b.1.its_face)) in
-    let other : m ≢ s = is.other in
-    let mt : m ≡ t = third s t m (get_or both 0 0) (get_or both 1 0) apart other (at s a.1.is_side a.1.its_pair) (at t b.1.is_side b.1.its_pair) (at m is.is_side (is.same_edge ∙ a.1.its_pair)) in
-    (s, a.1.is_side, a.1.its_face, rw mt b.1.its_face)
+module _ (mesh : Mesh) (two : (s : ℕ) → s < side_count mesh → length (sides_with mesh (pair_at mesh s)) ≡ 2) where
+  -- of three sides of one edge two are the same
+  pub of_edge : (s t m : ℕ) → s < side_count mesh → t < side_count mesh → m < side_count mesh → pair_at mesh t ≡ pair_at mesh s → pair_at mesh m ≡ pair_at mesh s → s ≢ t → m ≢ s → m ≡ t
+  of_edge s t m a b c e f differ other =
+      let both = sides_with mesh (pair_at mesh s) in
+      let at : (u : ℕ) → u < side_count mesh → pair_at mesh u ≡ pair_at mesh s → (u ≡ get_or both 0 0) ⊎ (u ≡ get_or both 1 0) = λ u lt q. let w = with_all mesh u lt (two u lt) in rw q at w in
+      third s t m (get_or both 0 0) (get_or both 1 0) differ other (at s a refl) (at t b e) (at m c f)
+
+  module _ (mate : List ℕ) (mates : AreAllMates mesh mate) where
+    -- a side is its mate's mate
+    pub mate_back : (s : ℕ) → s < side_count mesh → get_or mate (get_or mate s 0) 0 ≡ s
+    mate_back s lt =
+        let m = get_or mate s 0 in
+        let is = mates.mates s lt in
+        let back = mates.mates m is.is_side in
+        of_edge m s (get_or mate m 0) is.is_side lt back.is_side (sym is.same_edge) back.same_edge is.other back.other
+
+    -- of two faces that share an edge one has a side whose mate is the other's
+    pub shares_across : (f g : ℕ) → f ≢ g → Share mesh f g → (s : ℕ) × (s < side_count mesh) × IsFaceOf mesh s f × IsFaceOf mesh (get_or mate s 0) g
+    shares_across f g differ h =
+        let p = h.0 in
+        let a = face_has_side mesh f p h.1.0 h.1.1 in
+        let b = face_has_side mesh g p h.2.0 h.2.1 in
+        let s = a.0 in
+        let t = b.0 in
+        let m = get_or mate s 0 in
+        let is = mates.mates s a.1.is_side in
+        let apart : s ≢ t = λ same. differ (one_face mesh s f g a.1.its_face (rw (sym same) at b.1.its_face)) in
+        let mt : m ≡ t = of_edge s t m a.1.is_side b.1.is_side is.is_side (b.1.its_pair ∙ sym a.1.its_pair) is.same_edge apart is.other in
+        (s, a.1.is_side, a.1.its_face, rw mt b.1.its_face)

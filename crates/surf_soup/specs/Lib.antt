@@ -4,6 +4,7 @@ pub mod Pairs
 pub mod Half
 pub mod Reach
 pub mod Vertices
+pub mod Forest
 pub mod Apart
 pub mod Ring
 pub mod Kept

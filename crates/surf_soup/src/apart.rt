@@ -1,63 +1,35 @@
-//! The faces across the sides of each face.
-ghost use Rattle.std.specs.Prelude.{◌≡◌, ◌<◌, ◌≤◌, ◌+◌, ℕ, length, All, OnOk, IfOk, MatchOption, slice_index, true};
-ghost use Rattle.std.specs.Prelude.{false};
+//! The least face that isn't joined with the first.
+ghost use Rattle.std.specs.Prelude.{◌≡◌, ◌<◌, ℕ, length, IfOk, MatchOption, true, false};
+ghost use Rattle.std.specs.List.{range_with_len};
 ghost use Rattle.surf_surfaces.specs.Surface.{face_count, IsConnected};
 ghost use Rattle.surf_soup.specs.Pairs.{HasTwoFaces};
 ghost use Rattle.surf_soup.specs.Reach.{marked};
 ghost use Rattle.surf_surfaces.specs.SideNumber.{owners};
 ghost use Rattle.surf_soup.specs.Half.{AreAllMates};
-ghost use Rattle.surf_soup.specs.Apart.{AreAcross, IsLeastApart};
+ghost use Rattle.surf_soup.specs.Apart.{AreFaceRoots, IsLeastApart};
 
 use crate::Soup;
-use crate::reaching::reach;
+use crate::forest::{join, lone_numbers, second_root};
 use std::alloc::Global;
 use surf_base::{FaceId, NoMemory, SideId};
-use surf_rows::Rows;
 
-// Lists the faces across some sides that follow one another.
-fn list_across(
-    row: &mut Vec<u32>,
-    first: usize,
-    count: usize,
-    mate: &[SideId],
-    face_of: &[FaceId],
-) -> Result<(), NoMemory>
-    requires inside { first + count ≤ length mate.now }
-    requires mates { All (λ t. t < length face_of.now) mate.now }
-    ensures size { OnOk result (length row.new.items ≡ count) }
-    ensures faces { OnOk result ((m : ℕ) → m < count →
-        slice_index row.new.items m ≡ slice_index face_of.now (slice_index mate.now (first + m))) }
-{
-    row.clear();
-    for k in 0..count {
-        let across = mate[first + k].index();
-        row.push(face_of[across].number())?;
-    }
-    Ok(())
-}
-
-/// The faces across the sides of each face, in order.
-pub(crate) fn faces_across(
-    alloc: Global,
-    soup: &Soup,
-    mate: &[SideId],
-    face_of: &[FaceId],
-) -> Result<Rows<u32>, NoMemory>
+// Joins the faces of each side and of its mate.
+fn join_faces(soup: &Soup, mate: &[SideId], face_of: &[FaceId], parents: &mut [u32])
+    requires two { HasTwoFaces soup.now }
     requires mates { AreAllMates soup.now mate.now }
     requires faces { face_of.now ≡ owners 0 soup.now.faces }
-    ensures { IfOk result (λ rows. AreAcross soup.now mate.now (face_count soup.now) rows) }
+    requires lone { parents.old ≡ range_with_len 0 (face_count soup.now) }
+    ensures { (root : ℕ → ℕ) × AreFaceRoots soup.now parents.new root }
 {
     soup.law_of_soup();
-    let mut rows = Rows::with_room(alloc, soup.faces() as usize, mate.len())?;
-    let mut row = Vec::new(alloc);
-    let mut first = 0;
-    for f in 0..soup.faces() {
-        let count = soup.face(FaceId::new(f)).len();
-        list_across(&mut row, first, count, mate, face_of)?;
-        rows.push(&row)?;
-        first += count;
+    for side in 0..mate.len() {
+        let other = mate[side].index();
+        if other < side {
+            let own = face_of[side].number();
+            let across = face_of[other].number();
+            join(parents, own, across);
+        }
     }
-    Ok(rows)
 }
 
 /// The first mark that is false.
@@ -88,9 +60,8 @@ pub fn find_apart(
     ensures { IfOk result (λ r. MatchOption r (IsConnected soup.now)
         (λ f. IsLeastApart soup.now f)) }
 {
-    soup.law_of_soup();
-    let rows = faces_across(alloc, soup, mate, face_of)?;
-    let seen = reach(alloc, &rows, 0)?;
-    let found = first_unmarked(&seen);
+    let mut parents = lone_numbers(alloc, soup.faces())?;
+    join_faces(soup, mate, face_of, &mut parents);
+    let found = second_root(&parents);
     Ok(found)
 }

@@ -21,6 +21,8 @@
 #![tactic(auto)]
 
 mod apart;
+mod entries;
+mod forest;
 mod mate_table;
 mod pairs;
 mod reaching;
