@@ -1,3 +1,4 @@
 pub mod EdgeNames
 pub mod Naming
+mod PlainLines
 pub mod Positive

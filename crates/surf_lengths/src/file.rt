@@ -61,13 +61,14 @@ fn read_head<'a>(lines: &mut Lines<'a>) -> Result<(Option<u32>, Option<Line<'a>>
     }
 }
 
-// Gives the edge of a line its length, where no earlier line names it.
+// Gives the edge of a line its length, where no earlier line names it, and returns the edge.
 fn name_one(
     mesh: &HalfMesh,
     line: Line<'_>,
+    expected: usize,
     lengths: &mut [u32],
     named: &mut [u32],
-) -> Result<(), LengthFault>
+) -> Result<EdgeId, LengthFault>
     requires lengths { length lengths.old ≡ edge_count mesh.now }
     requires lines { length named.old ≡ edge_count mesh.now }
     ensures named { MatchResult result (λ _. name_edge (record {
@@ -77,8 +78,10 @@ fn name_one(
         ≡ Ok (record { lengths = lengths.new; lines = named.new }))
         (λ e. name_edge (record { lengths = lengths.old; lines = named.old }) line.entry.number
         (entry_of mesh.now (text_line line.entry)) ≡ Err e) }
+    ensures edge { IfOk result (λ e. IfOk (entry_of mesh.now (text_line line.entry))
+        (λ x. x.0 ≡ e)) }
 {
-    let (edge, length) = read_entry(mesh, line)?;
+    let (edge, length) = read_entry(mesh, line, expected)?;
     let e = edge.index();
     if named[e] != 0 {
         return Err(LengthFault::Twice {
@@ -88,7 +91,7 @@ fn name_one(
     }
     lengths[e] = length;
     named[e] = line.number;
-    Ok(())
+    Ok(edge)
 }
 
 // Gives the edges of all lines their lengths.
@@ -108,8 +111,10 @@ fn name_all(
         (with_next first.entry lines.old) ≡ Err e) }
 {
     let mut next = first;
+    let mut expected = 0;
     while let Some(line) = next {
-        name_one(mesh, line, lengths, named)?;
+        let edge = name_one(mesh, line, expected, lengths, named)?;
+        expected = edge.index() + 1;
         next = lines.next_line();
     }
     Ok(())

@@ -1,16 +1,18 @@
 //! What the lines of a length file say.
-ghost use Rattle.std.specs.Prelude.{◌≡◌, ◌<◌, ◌≤◌, ℕ, IfSome, IfOk};
+ghost use Rattle.std.specs.Prelude.{◌≡◌, ◌<◌, ◌≤◌, ℕ, false, IfSome, IfOk, MatchOption};
 ghost use Rattle.std.specs.Str.{bytes_eq};
-ghost use Rattle.surf_text.specs.Text.{tokens_of};
+ghost use Rattle.std.specs.List.{slice_split};
+ghost use Rattle.surf_text.specs.Text.{is_space, tokens_of};
 ghost use Rattle.surf_text.specs.Walks.{text_line};
-ghost use Rattle.surf_surfaces.specs.Surface.{edge_count};
-ghost use Rattle.surf_lengths.specs.Lines.{as_length, three_numbers, edge_named, entry_of, begins_with, is_version};
+ghost use Rattle.surf_surfaces.specs.Mesh.{pair, pair_eq, among, edges};
+ghost use Rattle.surf_surfaces.specs.Surface.{edge_count, ends};
+ghost use Rattle.surf_lengths.specs.Lines.{as_length, three_numbers, three_short, edge_named, entry_of, begins_with, is_version};
 ghost use Rattle.surf_lengths.specs.Lines.{second_number, default_of};
 
 use crate::LengthFault;
 use surf_base::{EdgeId, VertexId};
 use surf_mesh::HalfMesh;
-use surf_text::{Line, Tokens, read_whole};
+use surf_text::{Line, Tokens, read_whole, split_number};
 
 // A number as a length.
 fn as_length(n: u64) -> Option<u32>
@@ -24,8 +26,24 @@ fn as_length(n: u64) -> Option<u32>
     }
 }
 
+// The numbers of a plain line: three of 32 bits, a space between any two, and nothing else.
+#[inline(never)]
+fn plain_numbers(line: &[u8]) -> Option<(u64, u64, u64)>
+    ensures numbers { result ≡ three_short (slice_split is_space line.now) }
+{
+    let (u, behind) = split_number(line)?;
+    let second = behind?;
+    let (v, behind) = split_number(second)?;
+    let third = behind?;
+    let (n, behind) = split_number(third)?;
+    match behind {
+        None => Some((u64::from(u), u64::from(v), u64::from(n))),
+        Some(_) => None,
+    }
+}
+
 // The numbers of a line that has exactly three tokens, all whole.
-fn three_numbers(line: &[u8]) -> Option<(u64, u64, u64)>
+fn token_numbers(line: &[u8]) -> Option<(u64, u64, u64)>
     ensures numbers { result ≡ three_numbers (tokens_of line.now) }
 {
     let mut tokens = Tokens::over(line);
@@ -39,21 +57,68 @@ fn three_numbers(line: &[u8]) -> Option<(u64, u64, u64)>
     }
 }
 
-// The edge between two vertices that a text names.
-fn edge_named(mesh: &HalfMesh, u: u64, v: u64) -> Option<EdgeId>
+// The same, with plain lines in one pass.
+fn three_numbers(line: &[u8]) -> Option<(u64, u64, u64)>
+    ensures numbers { result ≡ three_numbers (tokens_of line.now) }
+{
+    match plain_numbers(line) {
+        Some(numbers) => Some(numbers),
+        None => token_numbers(line),
+    }
+}
+
+// Whether an edge is the one between two vertices, whichever of them comes first.
+fn joins(mesh: &HalfMesh, e: EdgeId, u: VertexId, v: VertexId) -> bool
+    requires inside { e < edge_count mesh.now }
+    ensures joins { result ≡ pair_eq (ends mesh.now e) (pair u v) }
+{
+    let (low, high) = mesh.ends(e);
+    if u < v {
+        low == u && high == v
+    } else {
+        low == v && high == u
+    }
+}
+
+// The edge between two vertices. Files name edges mostly in their order, so the one at `expected`
+// is tried before the search.
+fn find_edge(mesh: &HalfMesh, u: VertexId, v: VertexId, expected: usize) -> Option<EdgeId>
+    ensures edge { MatchOption result (among (pair u v) (edges mesh.now) ≡ false)
+        (λ e. (e < edge_count mesh.now) × (ends mesh.now e ≡ pair u v)) }
+{
+    if expected < mesh.edges() as usize {
+        let e = EdgeId::new(expected as u32);
+        if joins(mesh, e, u, v) {
+            return Some(e);
+        }
+    }
+    mesh.find_edge(u, v)
+}
+
+// The edge between two vertices that a text names, tried first at `expected`.
+fn edge_named(mesh: &HalfMesh, u: u64, v: u64, expected: usize) -> Option<EdgeId>
     ensures edge { result ≡ edge_named mesh.now u v }
     ensures inside { IfSome result (λ e. e < edge_count mesh.now) }
 {
     let vertices = u64::from(mesh.vertices());
     if u < vertices && v < vertices {
-        mesh.find_edge(VertexId::new(u as u32), VertexId::new(v as u32))
+        find_edge(
+            mesh,
+            VertexId::new(u as u32),
+            VertexId::new(v as u32),
+            expected,
+        )
     } else {
         None
     }
 }
 
-/// The edge and the length that a line gives.
-pub(crate) fn read_entry(mesh: &HalfMesh, line: Line<'_>) -> Result<(EdgeId, u32), LengthFault>
+/// The edge and the length that a line gives. The edge is tried first at `expected`.
+pub(crate) fn read_entry(
+    mesh: &HalfMesh,
+    line: Line<'_>,
+    expected: usize,
+) -> Result<(EdgeId, u32), LengthFault>
     ensures entry { result ≡ entry_of mesh.now (text_line line.entry) }
     ensures inside { IfOk result (λ x. x.0 < edge_count mesh.now) }
 {
@@ -62,7 +127,7 @@ pub(crate) fn read_entry(mesh: &HalfMesh, line: Line<'_>) -> Result<(EdgeId, u32
         None => Err(LengthFault::Form { line: number }),
         Some((u, v, n)) => match as_length(n) {
             None => Err(LengthFault::Range { line: number }),
-            Some(length) => match edge_named(mesh, u, v) {
+            Some(length) => match edge_named(mesh, u, v, expected) {
                 None => Err(LengthFault::NotEdge { line: number }),
                 Some(e) => Ok((e, length)),
             },

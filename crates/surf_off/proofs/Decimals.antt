@@ -3,9 +3,10 @@ use Rattle.std.proofs.Common.{◌≡◌, ◌<◌, ◌≤◌, ◌+◌, ◌-◌, �
 use Rattle.std.specs.Prelude.{◌&&◌, decimal, nat_lt, nat_le}
 use Rattle.std.specs.Char.{is_ascii_digit}
 use Rattle.std.specs.List.{list_all, list_any}
-use Rattle.std.proofs.lemmas.Bool.{cases_Bool, leb-true, le-leb, lt-ltb, ne_eqb}
+use Rattle.std.proofs.lemmas.Bool.{cases_Bool, le-leb, lt-ltb, ne_eqb}
 use Rattle.std.proofs.lemmas.Fmt.{decimal_by_steps}
 use Rattle.std.proofs.lemmas.List.Sums.{fold_push}
+use Rattle.surf_text.proofs.Digits.{blank_low, comment_low, digit_low}
 use Rattle.surf_text.specs.Text.{is_blank, is_line_end, is_comment_sign, is_nonempty, value_of, whole}
 
 -- digits that stand for a number
@@ -50,14 +51,7 @@ whole_decimal n lt =
     let small : nat_lt (value_of (decimal n)) (2 ^ 64) ≡ true = lt-ltb _ _ (omega (arith, d.value, lt)) in
     rw (d.some, d.digits, small) (ap (λ (v : ℕ). Some v) d.value)
 
--- no byte of a digit's kind is a blank, a comment sign or a line end
-digit_low : (b : ℕ) → is_ascii_digit b ≡ true → 48 ≤ b
-digit_low b digit = leb-true 48 b (first (nat_le 48 b) (nat_le b 57) digit)
-  where
-    first : (p q : Bool) → (p && q) ≡ true → p ≡ true
-    first true q e = refl
-    first false q e = e
-
+-- no digit is a blank, a comment sign or a line end
 none_digit : (p : ℕ → Bool) → ((b : ℕ) → 48 ≤ b → p b ≡ false) → (ds : List ℕ) → list_all is_ascii_digit ds ≡ true → list_any p ds ≡ false
 none_digit p low [] all = refl
 none_digit p low (d ∷ ds) all = elim (cases_Bool (is_ascii_digit d)) [
@@ -67,9 +61,6 @@ none_digit p low (d ∷ ds) all = elim (cases_Bool (is_ascii_digit d)) [
   where
     differ : false ≡ true → ⊥
     differ e = cc
-
-blank_low : (b : ℕ) → 48 ≤ b → is_blank b ≡ false
-blank_low b le = rw (ne_eqb b 32 (λ e. absurd (omega arith)), ne_eqb b 9 (λ e. absurd (omega arith)), ne_eqb b 13 (λ e. absurd (omega arith))) refl
 
 pub record IsWord (w : List ℕ) : Type 0 where
   pub some : is_nonempty w ≡ true
@@ -82,7 +73,7 @@ word_decimal n lt =
     let d = decimal_is n lt in
     record {
       some = d.some;
-      dark = none_digit is_blank blank_low (decimal n) d.digits;
+      dark = none_digit is_blank (λ b le. blank_low b (omega arith)) (decimal n) d.digits;
       one_line = none_digit is_line_end (λ b le. ne_eqb b 10 (λ e. absurd (omega arith))) (decimal n) d.digits;
-      uncommented = none_digit is_comment_sign (λ b le. ne_eqb b 35 (λ e. absurd (omega arith))) (decimal n) d.digits;
+      uncommented = none_digit is_comment_sign (λ b le. comment_low b (omega arith)) (decimal n) d.digits;
     }

@@ -11,3 +11,4 @@ pub mod NumberLines
 pub mod Reread
 pub mod RereadMesh
 pub mod StartsOf
+mod PlainFaces

@@ -4,3 +4,4 @@ pub mod Gives
 pub mod Clean
 pub mod Seen
 pub mod Written
+pub mod Plain

@@ -6,12 +6,13 @@ ghost use Rattle.surf_surfaces.specs.Mesh.{IsFace};
 ghost use Rattle.surf_surfaces.specs.SideNumber.{side_count};
 ghost use Rattle.surf_text.specs.Text.{whole, behind_word, behind_words};
 ghost use Rattle.surf_text.specs.Walks.{text_line};
-ghost use Rattle.surf_off.specs.Off.{size_of, corner_read, corners_at, first_repeat, face_of, faces_at};
+ghost use Rattle.surf_off.specs.Off.{size_of, corner_read, corners_at, first_repeat, distinct, face_of, faces_at};
 ghost use Rattle.surf_off.specs.Gives.{Gives};
 ghost use Rattle.surf_off.specs.Seen.{lent};
 ghost use Rattle.surf_base.specs.declared.limits.TheConstants.{MAX_FACES, MAX_SIDES};
 
 use crate::fault::OffFault;
+use crate::plain::read_plain;
 use std::alloc::Global;
 use surf_base::{LimitKind, MAX_SIDES, VertexId};
 use surf_soup::Soup;
@@ -86,10 +87,30 @@ fn repeated(marks: &mut [u32], stamp: u32, corners: &[VertexId]) -> Option<Verte
     None
 }
 
+// No corner may have a vertex that stands before.
+fn refuse_repeats(
+    line: u32,
+    marks: &mut [u32],
+    stamp: u32,
+    corners: &[VertexId],
+) -> Result<(), OffFault>
+    requires within { All (λ u. u < length marks.old) corners.now }
+    requires earlier { (k : ℕ) → k < length marks.old → slice_index marks.old k < stamp }
+    ensures distinct { Gives (λ _. corners.now) result
+        (distinct line corners.now (first_repeat [] corners.now)) }
+    ensures differ { OnOk result (AllPairs (λ a b. a ≢ b) corners.now) }
+    ensures marks { (k : ℕ) → k < length marks.new → slice_index marks.new k ≤ stamp }
+{
+    match repeated(marks, stamp, corners) {
+        Some(vertex) => Err(OffFault::FaceRepeat { line, vertex }),
+        None => Ok(()),
+    }
+}
+
 // The colour of a face line, behind faces of so many sides. Its corners are those that are kept
 // then.
 #[tactic(auto, unfolding(crate::specs::Off::face_of))]
-fn read_face<'a>(
+fn read_by_tokens<'a>(
     line: &Line<'a>,
     vertices: u32,
     sides: u32,
@@ -115,13 +136,34 @@ fn read_face<'a>(
         });
     }
     read_corners(line.number, vertices, size as u32, &mut tokens, corners)?;
-    match repeated(marks, stamp, corners) {
-        Some(vertex) => Err(OffFault::FaceRepeat {
-            line: line.number,
-            vertex,
-        }),
-        None => Ok(tokens.rest()),
+    refuse_repeats(line.number, marks, stamp, corners)?;
+    Ok(tokens.rest())
+}
+
+// The same, with plain lines in one pass. A line with a fault other than a repeated corner isn't
+// plain, so the order of faults is that of the tokens.
+fn read_face<'a>(
+    line: &Line<'a>,
+    vertices: u32,
+    sides: u32,
+    marks: &mut [u32],
+    stamp: u32,
+    corners: &mut Vec<VertexId>,
+) -> Result<&'a [u8], OffFault>
+    requires few { sides ≤ MAX_SIDES }
+    requires room { length marks.old ≡ vertices }
+    requires earlier { (k : ℕ) → k < length marks.old → slice_index marks.old k < stamp }
+    ensures face { Gives (λ colour. record { corners = corners.new.items; colour = colour.now })
+        result (face_of true vertices sides (text_line line.now)) }
+    ensures corners { OnOk result (IsFace vertices corners.new.items) }
+    ensures few { OnOk result (sides + length corners.new.items ≤ MAX_SIDES) }
+    ensures marks { (k : ℕ) → k < length marks.new → slice_index marks.new k ≤ stamp }
+{
+    if !read_plain(line.bytes, vertices, MAX_SIDES - sides, corners)? {
+        return read_by_tokens(line, vertices, sides, marks, stamp, corners);
     }
+    refuse_repeats(line.number, marks, stamp, corners)?;
+    Ok(&line.bytes[line.bytes.len()..])
 }
 
 /// So many face lines over so many vertices. Their colours are put to those that are kept.

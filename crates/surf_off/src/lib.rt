@@ -12,6 +12,7 @@ mod fault;
 mod head;
 mod header;
 mod made;
+mod plain;
 mod read;
 mod text;
 mod vertices;

@@ -6,7 +6,7 @@ ghost use Rattle.surf_off.specs.Seen.{lent};
 
 use crate::fault::OffFault;
 use std::alloc::Global;
-use surf_text::{Lines, Tokens};
+use surf_text::{Lines, has_tokens};
 
 /// So many vertex lines, which so many face lines are to follow.
 pub(crate) fn read_vertices<'a>(
@@ -27,7 +27,7 @@ pub(crate) fn read_vertices<'a>(
                 missing: vertices - done + faces,
             });
         };
-        if !Tokens::over(line.bytes).has(3) {
+        if !has_tokens(line.bytes, 3) {
             return Err(OffFault::VertexLine { line: line.number });
         }
         kept.push(line.bytes)?;

@@ -30,7 +30,7 @@ not_found p xs none = elim (cases_lt (position_or_len p xs) (length xs)) [
     none_some true e h = cc
     none_some false e h = cc
 
-whole_part : (p : ℕ → Bool) (xs : List ℕ) → length xs ≤ position_or_len p xs → slice_split p xs ≡ xs ∷ []
+pub whole_part : (p : ℕ → Bool) (xs : List ℕ) → length xs ≤ position_or_len p xs → slice_split p xs ≡ xs ∷ []
 whole_part p [] le = refl
 whole_part p (x ∷ xs) le =
     elim (p x) as (λ b. length (x ∷ xs) ≤ cond (not b) (1 + position_or_len p xs) 0 → cond b ([] ∷ slice_split p xs) (onto_first x (slice_split p xs)) ≡ (x ∷ xs) ∷ []) [
@@ -40,6 +40,13 @@ whole_part p (x ∷ xs) le =
 
 pub cut_none : (p : ℕ → Bool) (xs : List ℕ) → position p xs ≡ None → slice_split p xs ≡ xs ∷ []
 cut_none p xs none = whole_part p xs (not_found p xs none)
+
+-- The first part is what stands before the first that passes.
+pub first_cut : (p : ℕ → Bool) (xs : List ℕ) → (others : List (List ℕ)) × (slice_split p xs ≡ before_first p xs ∷ others)
+first_cut p xs = elim (cases_lt (position_or_len p xs) (length xs)) [
+  | inl lt ↦ (slice_split p (drop (position_or_len p xs + 1) xs), slice_split_first p xs 0 lt)
+  | inr le ↦ ([], whole_part p xs le ∙ ap (λ (part : List ℕ). part ∷ []) (sym (take_all (position_or_len p xs) xs le)))
+]
 
 pub before_at : (p : ℕ → Bool) (xs : List ℕ) (i : ℕ) → position p xs ≡ Some i → take i xs ≡ before_first p xs
 before_at p xs i found = ap (λ (k : ℕ). take k xs) (sym (found_is p xs i found).1)

@@ -1,11 +1,11 @@
 -- Reading a number from its first digit on.
-use Rattle.std.proofs.Common.{◌≡◌, ◌<◌, ◌≤◌, ◌^◌, ◌+◌, ◌-◌, ◌*◌, ℕ, Bool, true, false, cond, List, [], ◌∷◌, length, get_or, drop, Option, Some, None, refl, sym, ◌∙◌, ap, arith}
-use Rattle.std.proofs.lemmas.Bool.{le-ltb, lt-ltb}
+use Rattle.std.proofs.Common.{◌≡◌, ◌<◌, ◌≤◌, ◌^◌, ◌+◌, ◌-◌, ◌*◌, ℕ, Bool, true, false, cond, List, [], ◌∷◌, length, get_or, drop, Option, Some, None, refl, sym, ◌∙◌, ap, arith, inl, inr}
+use Rattle.std.proofs.lemmas.Bool.{and_parts, cases_Bool, le-ltb, leb-true, lt-ltb, ne_eqb}
 use Rattle.std.proofs.lemmas.List.{at_drop_more, at_drop_all}
-use Rattle.std.specs.Prelude.{nat_lt, ◌==◌, ◌&&◌, if◌then◌else◌}
+use Rattle.std.specs.Prelude.{nat_le, nat_lt, ◌==◌, ◌&&◌, if◌then◌else◌}
 use Rattle.std.specs.List.{list_all, fold}
 use Rattle.std.specs.Char.{is_ascii_digit}
-use Rattle.surf_text.specs.Text.{whole}
+use Rattle.surf_text.specs.Text.{is_blank, is_comment_sign, whole, below}
 
 abbrev step : ℕ → ℕ → ℕ
 step n b = n * 10 + (b - 48)
@@ -38,6 +38,16 @@ too_great n (b ∷ bs) le =
       | false ↦ refl
     ]
 
+-- the same for numbers of 32 bits
+pub too_long : (n : ℕ) (bs : List ℕ) → 2 ^ 32 ≤ n → below (2 ^ 32) (number_on n bs) ≡ None
+unfolding number_on
+too_long n [] le = elim (cases_Bool (nat_lt n (2 ^ 64))) [ inl fits ↦ rw (fits, le-ltb n (2 ^ 32) le) refl | inr great ↦ rw great refl ]
+too_long n (b ∷ bs) le =
+    elim (is_ascii_digit b) as (λ t. below (2 ^ 32) (cond t (number_on (step n b) bs) None) ≡ None) [
+      | true ↦ too_long (step n b) bs (omega arith)
+      | false ↦ refl
+    ]
+
 pub digit_more : (token : List ℕ) (i n b : ℕ) → i < length token → b ≡ get_or token i 0 → is_ascii_digit b ≡ true → number_on n (drop i token) ≡ number_on (step n b) (drop (i + 1) token)
 unfolding number_on
 digit_more token i n b lt is digit =
@@ -53,3 +63,13 @@ no_digit token i n b lt is digit =
 pub number_all : (token : List ℕ) (i n : ℕ) → length token ≤ i → n < 2 ^ 64 → number_on n (drop i token) ≡ Some n
 unfolding number_on
 number_all token i n le lt = at_drop_all (number_on n) token i le ∙ ap (λ (t : Bool). cond t (Some n) None) (lt-ltb _ _ lt)
+
+pub digit_low : (b : ℕ) → is_ascii_digit b ≡ true → 48 ≤ b
+digit_low b digit = leb-true 48 b (and_parts (nat_le 48 b) (nat_le b 57) digit).0
+
+-- no byte above the comment sign is a blank or a comment sign
+pub blank_low : (b : ℕ) → 35 < b → is_blank b ≡ false
+blank_low b lt = rw (ne_eqb b 32 (λ e. absurd (omega arith)), ne_eqb b 9 (λ e. absurd (omega arith)), ne_eqb b 13 (λ e. absurd (omega arith))) refl
+
+pub comment_low : (b : ℕ) → 35 < b → is_comment_sign b ≡ false
+comment_low b lt = ne_eqb b 35 (λ e. absurd (omega arith))

@@ -1,5 +1,9 @@
 pub mod First
 pub mod Cuts
-mod Digits
+mod Signs
+pub mod Digits
+mod Short
+mod Counting
+pub mod Plain
 pub mod Words
 pub mod Writing

@@ -8,6 +8,9 @@ use Rattle.std.specs.List.{slice_split, before_first, position_or_len, filter, l
 abbrev pub is_blank : ℕ → Bool
 is_blank b = b == 32 || b == 9 || b == 13
 
+abbrev pub is_space : ℕ → Bool
+is_space b = b == 32
+
 abbrev pub is_line_end : ℕ → Bool
 is_line_end b = b == 10
 
@@ -93,3 +96,12 @@ whole token =
     if is_nonempty token && list_all is_ascii_digit token && nat_lt (value_of token) (2 ^ 64)
     then Some (value_of token)
     else None
+
+-- a number, if it is below a bound
+abbrev pub below : ℕ → Option ℕ → Option ℕ
+below bound None = None
+below bound (Some n) = if nat_lt n bound then Some n else None
+
+-- the whole number of 32 bits that a token is, if it is one
+abbrev pub short_whole : List ℕ → Option ℕ
+short_whole token = below (2 ^ 32) (whole token)

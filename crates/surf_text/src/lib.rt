@@ -15,7 +15,7 @@ mod places;
 mod tokens;
 
 pub use lines::{Line, Lines};
-pub use number::read_whole;
+pub use number::{read_whole, split_number};
 pub use page::{Page, PageFault};
 pub use pieces::Piece;
-pub use tokens::Tokens;
+pub use tokens::{Tokens, has_tokens};

@@ -3,7 +3,7 @@ ghost use Rattle.std.specs.Prelude.{◌≡◌, ◌<◌, [], ◌∷◌, length, M
 ghost use Rattle.surf_text.specs.Text.{lines_of};
 ghost use Rattle.surf_text.specs.Walks.{text_line};
 
-use crate::places::{before_comment, split_line, trim};
+use crate::places::{split_uncommented, trim};
 use std::marker::Model;
 
 /// A line that has a token: its number in the text, counted from 1, and the slice of the text from
@@ -52,10 +52,10 @@ impl<'a> Lines<'a> {
             ≡ text_line line ∷ self.new) }
     {
         while let Some(rest) = self.rest {
-            let (line, behind) = split_line(rest);
+            let (line, behind) = split_uncommented(rest);
             self.rest = behind;
             self.number += 1;
-            let bytes = trim(before_comment(line));
+            let bytes = trim(line);
             if !bytes.is_empty() {
                 return Some(Line {
                     number: self.number,

@@ -1,6 +1,8 @@
 //! Whole numbers.
-ghost use Rattle.std.specs.Prelude.{◌≡◌};
-ghost use Rattle.surf_text.specs.Text.{whole};
+ghost use Rattle.std.specs.Prelude.{◌≡◌, ◌==◌, ◌∷◌, None, Some, IfSome, MatchOption, if◌then◌else◌};
+ghost use Rattle.std.specs.List.{slice_split, before_first, position_or_len};
+ghost use Rattle.surf_text.specs.Text.{whole, short_whole, is_space};
+ghost use Rattle.surf_text.specs.Walks.{parts_of};
 
 /// The whole number that a token is. None where the token is empty, has a byte that isn't a digit,
 /// or stands for more than 18,446,744,073,709,551,615. Leading zeros are allowed.
@@ -22,4 +24,56 @@ pub fn read_whole(token: &[u8]) -> Option<u64>
         number = next as u64;
     }
     Some(number)
+}
+
+// A number and how many digits it has, unless it has none.
+fn counted(number: u32, digits: usize) -> Option<(u32, usize)>
+    ensures counted { result ≡ (if digits == 0 then None else Some (number, digits)) }
+{
+    if digits == 0 {
+        None
+    } else {
+        Some((number, digits))
+    }
+}
+
+// The number before the first space, and how many digits it has.
+fn leading_number(bytes: &[u8]) -> Option<(u32, usize)>
+    ensures number { MatchOption result (short_whole (before_first is_space bytes.now) ≡ None)
+        (λ x. (short_whole (before_first is_space bytes.now) ≡ Some x.0)
+        × (position_or_len is_space bytes.now ≡ x.1)) }
+{
+    let mut number: u64 = 0;
+    for (i, b) in bytes.iter().enumerate() {
+        if !b.is_ascii_digit() {
+            return if *b == b' ' {
+                counted(number as u32, i)
+            } else {
+                None
+            };
+        }
+        number = number * 10 + (*b - b'0') as u64;
+        if number > u32::MAX as u64 {
+            return None;
+        }
+    }
+    counted(number as u32, bytes.len())
+}
+
+/// The whole number of 32 bits before the first space, and what stands behind that space, if there
+/// is one. None where what stands before it isn't such a number.
+///
+/// It goes over each byte once. A line that is split so to its end has these numbers as its tokens.
+pub fn split_number(bytes: &[u8]) -> Option<(u32, Option<&[u8]>)>
+    ensures number { MatchOption result (short_whole (before_first is_space bytes.now) ≡ None)
+        (λ x. short_whole (before_first is_space bytes.now) ≡ Some x.0) }
+    ensures behind { IfSome result (λ x. slice_split is_space bytes.now
+        ≡ before_first is_space bytes.now ∷ parts_of is_space x.1) }
+{
+    let (number, end) = leading_number(bytes)?;
+    if end < bytes.len() {
+        Some((number, Some(&bytes[end + 1..])))
+    } else {
+        Some((number, None))
+    }
 }

@@ -1,16 +1,24 @@
 //! Where lines, comments and blanks begin and end.
-ghost use Rattle.std.specs.Prelude.{◌≡◌, ◌∷◌, not, take, drop};
-ghost use Rattle.std.specs.List.{slice_split, position, position_or_len};
+ghost use Rattle.std.specs.Prelude.{◌≡◌, ◌<◌, ◌∷◌, ◌||◌, not, length, take, drop, IfSome};
+ghost use Rattle.std.specs.List.{slice_split, position, position_or_len, before_first};
 ghost use Rattle.surf_text.specs.Text.{is_blank, is_line_end, is_comment_sign, uncommented, trimmed_front};
 ghost use Rattle.surf_text.specs.Text.{trimmed_back, trimmed};
 ghost use Rattle.surf_text.specs.Walks.{parts_of};
 
-use memchr::memchr;
+use memchr::{memchr, memchr2};
 
-fn is_blank(b: u8) -> bool
+/// Whether it is a space, a tab or a carriage return.
+pub(crate) fn is_blank(b: u8) -> bool
     ensures blank { result ≡ is_blank b }
 {
     b == b' ' || b == b'\t' || b == b'\r'
+}
+
+/// Whether it is `#`.
+pub(crate) fn is_comment_sign(b: u8) -> bool
+    ensures sign { result ≡ is_comment_sign b }
+{
+    b == b'#'
 }
 
 fn line_end(bytes: &[u8]) -> Option<usize>
@@ -25,8 +33,17 @@ fn comment_sign(bytes: &[u8]) -> Option<usize>
     memchr(b'#', bytes)
 }
 
-/// A first line and what stands behind its end, if it has one.
-pub(crate) fn split_line(bytes: &[u8]) -> (&[u8], Option<&[u8]>)
+// The first line end or comment sign.
+fn first_sign(bytes: &[u8]) -> Option<usize>
+    ensures place { result ≡ position (λ b. is_line_end b || is_comment_sign b) bytes.now }
+    ensures within { IfSome result (λ i. i < length bytes.now) }
+{
+    memchr2(b'\n', b'#', bytes)
+}
+
+// A first line and what stands behind its end, if it has one.
+fn split_line(bytes: &[u8]) -> (&[u8], Option<&[u8]>)
+    ensures line { result.0.now ≡ before_first is_line_end bytes.now }
     ensures parts { slice_split is_line_end bytes.now
         ≡ result.0.now ∷ parts_of is_line_end result.1 }
 {
@@ -44,6 +61,24 @@ pub(crate) fn before_comment(line: &[u8]) -> &[u8]
         Some(end) => &line[..end],
         None => line,
     }
+}
+
+/// A first line up to its comment, and what stands behind the line's end, if it has one.
+///
+/// A line without a comment is gone over once.
+pub(crate) fn split_uncommented(bytes: &[u8]) -> (&[u8], Option<&[u8]>)
+    ensures line { result.0.now ≡ uncommented (before_first is_line_end bytes.now) }
+    ensures parts { slice_split is_line_end bytes.now
+        ≡ before_first is_line_end bytes.now ∷ parts_of is_line_end result.1 }
+{
+    let Some(sign) = first_sign(bytes) else {
+        return (bytes, None);
+    };
+    if bytes[sign] == b'\n' {
+        return (&bytes[..sign], Some(&bytes[sign + 1..]));
+    }
+    let (line, behind) = split_line(bytes);
+    (before_comment(line), behind)
 }
 
 fn first_blank(bytes: &[u8]) -> Option<usize>

@@ -1,9 +1,9 @@
 //! A walk over the tokens of a line.
 ghost use Rattle.std.specs.Prelude.{◌≡◌, ◌==◌, ◌<◌, [], ◌∷◌, length, not, nat_le, MatchOption};
-ghost use Rattle.surf_text.specs.Text.{behind_word};
+ghost use Rattle.surf_text.specs.Text.{behind_word, tokens_of};
 ghost use Rattle.surf_text.specs.Walks.{walk_over, walk_between_blanks, has_some};
 
-use crate::places::{before_comment, split_blank, trim, trim_front};
+use crate::places::{before_comment, is_blank, is_comment_sign, split_blank, trim, trim_front};
 use std::marker::Model;
 
 /// A walk over the tokens of a line, seen as the list of those to come and the bytes from the first
@@ -83,4 +83,32 @@ impl<'a> Tokens<'a> {
         }
         true
     }
+}
+
+/// Whether a line has at least so many tokens. It looks no further than the first byte of the last
+/// of them.
+#[inline(never)]
+pub fn has_tokens(line: &[u8], least: u64) -> bool
+    ensures count { result ≡ nat_le least (length (tokens_of line.now)) }
+{
+    let mut missing = least;
+    let mut inside = false;
+    for b in line {
+        if inside && *b > b'#' {
+            // (most bytes are so: neither a blank nor a comment sign, and not the first of a token)
+            continue;
+        }
+        if missing == 0 {
+            return true;
+        }
+        if is_comment_sign(*b) {
+            return false;
+        }
+        let dark = !is_blank(*b);
+        if dark && !inside {
+            missing -= 1;
+        }
+        inside = dark;
+    }
+    missing == 0
 }

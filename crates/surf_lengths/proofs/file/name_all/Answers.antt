@@ -8,13 +8,13 @@ use Rattle.surf_lengths.specs.Walks.{with_next}
 use Rattle.surf_lengths.proofs.Naming.{bad_line, good_line, next_is}
 use Rattle.surf_lengths.proofs.file.name_all.Goals as goal
 
-pub returns-in_err-name_one : goal.returns-in_err-name_one
-returns-in_err-name_one c =
+pub returns-in_err-edge : goal.returns-in_err-edge
+returns-in_err-edge c =
     let mesh = c.args.mesh.now in
     let p = err_from_is_err_and c.from_residual.result c.from_residual.ensures.1 in
     let named : Named = record { lengths = c.loop-next.lengths; lines = c.loop-next.named } in
     let whole = sym c.loop-next.invariant.ahead ∙ ap (λ next. fold (name_line mesh) (Ok named) (with_next next c.loop-next.lines)) c.in-Some.is
-    ∙ bad_line mesh named c.in_err-name_one.field-0.0 (text_line c.in-Some.line) c.loop-next.lines c.in_err-name_one.ensures.named in
+    ∙ bad_line mesh named c.in_err-edge.field-0.0 (text_line c.in-Some.line) c.loop-next.lines c.in_err-edge.ensures.named in
     rw (p.1, p.2) (record { named = whole })
 
 pub loop-next-preserved : goal.loop-next-preserved
@@ -26,7 +26,7 @@ loop-next-preserved c =
       sized = omega arith;
       listed = omega arith;
       ahead = ap (λ (rest : List TextLine). fold (name_line mesh) (Ok next) rest) (next_is c.loop-next.lines c.next_line-next.new.self c.next_line-next.result c.next_line-next.ensures.next)
-          ∙ sym (good_line mesh named next (text_line c.in-Some.line) c.loop-next.lines c.in_ok-name_one.ensures.named)
+          ∙ sym (good_line mesh named next (text_line c.in-Some.line) c.loop-next.lines c.in_ok-edge.ensures.named)
           ∙ sym (ap (λ next. fold (name_line mesh) (Ok named) (with_next next c.loop-next.lines)) c.in-Some.is)
           ∙ c.loop-next.invariant.ahead;
     }

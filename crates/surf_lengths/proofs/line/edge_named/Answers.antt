@@ -4,7 +4,7 @@ use Rattle.surf_lengths.proofs.line.edge_named.Goals as goal
 use Rattle.surf_lengths.proofs.line.edge_named.Goals.{else-u-vertices-via-then-u-vertices+else-v-vertices, else-u-vertices-via-else-u-vertices}
 
 pub returns-then-v-vertices : goal.returns-then-v-vertices
-returns-then-v-vertices c = record { edge = edge_found c.args.mesh.now c.args.u c.args.v c.find_edge.result (rw (c.new.ensures, c.new-then-v-vertices.ensures) at c.find_edge.ensures); inside = edge_inside c.args.mesh.now c.args.u c.args.v c.find_edge.result (rw (c.new.ensures, c.new-then-v-vertices.ensures) at c.find_edge.ensures) }
+returns-then-v-vertices c = record { edge = edge_found c.args.mesh.now c.args.u c.args.v c.find_edge.result (rw (c.new.ensures, c.new-then-v-vertices.ensures) at c.find_edge.ensures.edge); inside = edge_inside c.args.mesh.now c.args.u c.args.v c.find_edge.result (rw (c.new.ensures, c.new-then-v-vertices.ensures) at c.find_edge.ensures.edge) }
 
 pub returns-else-u-vertices : goal.returns-else-u-vertices
 returns-else-u-vertices c =
