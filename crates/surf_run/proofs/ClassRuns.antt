@@ -20,6 +20,7 @@ use Rattle.surf_texts.specs.Cause.{refused_by}
 use Rattle.surf_run.specs.Steps.{goes}
 use Rattle.surf_run.specs.TwoRuns.{ClassesAreConfirmed}
 use Rattle.surf_texts.specs.declared.walks.WalkFile.TheVariants.{First}
+use Rattle.surf_words.specs.Words.{request_of}
 use Rattle.surf_run.proofs.ClassSizes.{evidence_fits, evidence_short}
 use Rattle.surf_run.proofs.CycleLaws.{few_loops}
 use Rattle.surf_run.proofs.Refusing.{reads_refuses, surface_refuses, limit_refuses, walk_refuses, goes_on, shown_low, shown_text}
@@ -51,7 +52,7 @@ module _ (files : Files) (mesh walk cert text : List ℕ) (held : bytes_of files
       sym (ap (λ (t : List ℕ). refused_by evidence_cause (evidence_in t)) text_is ∙ ap (refused_by evidence_cause) (evidence_again gives.evidence fit))
 
   confirmed : Answer (codes "confirm" ∷ mesh ∷ walk ∷ cert ∷ []) files 0 (right_line gives.evidence) []
-  unfolding Leads
+  unfolding Leads request_of
   confirmed = (
     answers 0 (right_line gives.evidence),
     goes bytes reads (goes read surface (goes w has (goes text (read_again files cert text held short)
@@ -64,7 +65,7 @@ confirmed_there : (files : Files) (mesh walk cert text : List ℕ) → Answer (c
     bytes_of files cert ≡ Some text →
     (evidence : Evidence) × (text ≡ evidence_text (codes "null") (codes "odd") evidence)
     × Answer (codes "confirm" ∷ mesh ∷ walk ∷ cert ∷ []) files 0 (right_line evidence) []
-unfolding Leads
+unfolding Leads request_of
 confirmed_there files mesh walk cert text (o, leads, shows) held =
     let low = shown_low o text [] shows in
     let (bytes, reads, on_text) = goes_on o leads (reads_refuses mesh files) low in
@@ -75,5 +76,6 @@ confirmed_there files mesh walk cert text (o, leads, shows) held =
     (gives.evidence, text_is, confirmed files mesh walk cert text held o bytes reads read surface few w has gives text_is)
 
 pub classes_are_confirmed : ClassesAreConfirmed
+unfolding request_of
 classes_are_confirmed files later mesh walk cert text answer same held =
     confirmed_there later mesh walk cert text (answered_there (codes "class" ∷ mesh ∷ walk ∷ []) files later text answer same) held

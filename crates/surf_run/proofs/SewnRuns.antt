@@ -1,6 +1,6 @@
 -- What `sew` writes of what `cut` wrote is read as the mesh that was cut.
 use Rattle.std.proofs.Common.{◌≡◌, ◌<◌, ◌≤◌, ◌+◌, ◌*◌, ◌++◌, ℕ, Bool, true, false, List, [], ◌∷◌, length, Option, Some, None, Result, Ok, Err, refl, sym, ap, ◌∙◌, subst, arith, inr}
-use Rattle.std.specs.Prelude.{nat_lt, if◌then◌else◌, codes, decimal}
+use Rattle.std.specs.Prelude.{nat_lt, ◌&&◌, if◌then◌else◌, option_map, codes, decimal}
 use Rattle.std.specs.List.{AllByRecursion, sum_by, zip}
 use Rattle.std.specs.Str.{bytes_eq}
 use Rattle.std.proofs.lemmas.Bool.{ltb-false}
@@ -38,10 +38,10 @@ use Rattle.surf_texts.specs.Outcome.{Outcome, answers, status_of}
 use Rattle.surf_run.specs.Reading.{Reads, within_text}
 use Rattle.surf_run.specs.Steps.{goes}
 use Rattle.surf_run.specs.TwoRuns.{CanBeRead, IsSewnBack, CutsAreSewn}
-use Rattle.surf_words.specs.Words.{word_number, cut_task, weighted_request}
+use Rattle.surf_words.specs.Words.{word_number, weighted, request_of}
+use Rattle.surf_words.specs.declared.tasks.CutKind.{CutKind}
 use Rattle.surf_words.specs.declared.tasks.CutKind.TheVariants.{Full, Trimmed}
-use Rattle.surf_words.specs.declared.tasks.Task.{Task}
-use Rattle.surf_words.specs.declared.tasks.Task.TheVariants.{Distances, LeastLoops, LoopCertificate, Cut}
+use Rattle.surf_words.specs.declared.tasks.Task.TheVariants.{Cut}
 use Rattle.surf_run.proofs.CertSizes.{length_of_three, length_of_four}
 use Rattle.surf_run.proofs.MeshReads.{IsRead, mesh_texts_are_read}
 use Rattle.surf_run.proofs.Refusing.{reads_refuses, surface_refuses, limit_refuses, measured_refuses, base_refuses, goes_on, shown_low, shown_text}
@@ -283,7 +283,7 @@ module _ (bytes : List ℕ) (read : OffParts × Mesh) (within : length bytes ≤
 
     sews_back : (later : Files) (disc : List ℕ) → bytes_of later disc ≡ Some text →
         Answer (codes "sew" ∷ disc ∷ []) later 0 sewn_back []
-    unfolding Leads
+    unfolding Leads request_of
     sews_back later disc held =
         let read_is : Ok (opened_parts parts origins, opened origins faces) ≡ refused_by off_cause (off_of text) =
         sym (ap (refused_by off_cause) opened_read) in
@@ -306,24 +306,10 @@ module _ (bytes : List ℕ) (read : OffParts × Mesh) (within : length bytes ≤
 
 -- ---- the law
 
--- the words of `cut` are those of no other task
-abbrev pub IsCut : Option Task → Type 0
-IsCut None = Unit {0}
-IsCut (Some Distances) = ⊥
-IsCut (Some LeastLoops) = ⊥
-IsCut (Some LoopCertificate) = ⊥
-IsCut (Some (Cut kind)) = Unit {0}
-
-is_cut : (full trim : Bool) → IsCut (if full then Some (Cut Full) else (if trim then Some (Cut Trimmed) else None))
-is_cut true trim = tt
-is_cut false true = tt
-is_cut false false = tt
-
 pub cuts_are_sewn : CutsAreSewn
-unfolding Leads
+unfolding Leads request_of
 cuts_are_sewn files later mesh lengths base kind disc text (o, leads, shows) held can =
-    at (cut_task (codes "cut") kind) (word_number base)
-    (is_cut (bytes_eq kind (codes "full")) (bytes_eq kind (codes "trim"))) leads
+    of_kind (bytes_eq kind (codes "full")) (bytes_eq kind (codes "trim")) leads
   where
     low : status_of o ≤ 1
     low = shown_low o text [] shows
@@ -331,14 +317,10 @@ cuts_are_sewn files later mesh lengths base kind disc text (o, leads, shows) hel
     refuses : o ≡ misused → IsSewnBack files mesh later disc
     refuses is = absurd (let low_status = low in let status = ap status_of is in omega (arith, low_status, status))
 
-    at : (t : Option Task) (x : Option ℕ) → IsCut t → OnRequest (weighted_request t mesh lengths x) files o →
+    at : (cut : CutKind) (x : Option ℕ) → OnRequest (option_map (weighted (Cut cut) mesh lengths) x) files o →
         IsSewnBack files mesh later disc
-    at None x cut on = refuses on
-    at (Some Distances) x cut on = absurd cut
-    at (Some LeastLoops) x cut on = absurd cut
-    at (Some LoopCertificate) x cut on = absurd cut
-    at (Some (Cut k)) None cut on = refuses on
-    at (Some (Cut k)) (Some b) cut on =
+    at cut None on = refuses on
+    at cut (Some b) on =
         let (bytes, reads, on_text) = goes_on o on (reads_refuses mesh files) low in
         let (read, is_surface, on_surface) = goes_on o on_text (surface_refuses bytes) low in
         let (_, few, on_few) = goes_on o on_surface (limit_refuses Loops 1024 (loop_count read.1)) low in
@@ -353,9 +335,16 @@ cuts_are_sewn files later mesh lengths base kind disc text (o, leads, shows) hel
           held = here.0;
           read = read;
           is_read = is_read;
-          text = sewn_back bytes read here.1 is_read surface (is_trimmed k) values vertex o gives text text_is can;
+          text = sewn_back bytes read here.1 is_read surface (is_trimmed cut) values vertex o gives text text_is can;
           sews = sews_back bytes read here.1 is_read surface
-              (is_trimmed k) values vertex o gives text text_is can later disc held;
+              (is_trimmed cut) values vertex o gives text text_is can later disc held;
           reads_so = sewn_read bytes read here.1 is_read surface
-              (is_trimmed k) values vertex o gives text text_is can;
+              (is_trimmed cut) values vertex o gives text text_is can;
         }
+
+    of_kind : (full trim : Bool) → OnRequest (if full && true then option_map (weighted (Cut Full) mesh lengths) (word_number base)
+        else (if trim && true then option_map (weighted (Cut Trimmed) mesh lengths) (word_number base) else None)) files o →
+        IsSewnBack files mesh later disc
+    of_kind true trim on = at Full (word_number base) on
+    of_kind false true on = at Trimmed (word_number base) on
+    of_kind false false on = refuses on

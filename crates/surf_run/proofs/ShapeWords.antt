@@ -1,7 +1,7 @@
 -- The shapes that words name have surfaces as meshes, and the lengths that a scatter makes are positive.
 use Rattle.std.proofs.Common.{◌≡◌, ℕ, Bool, true, false, List, [], ◌∷◌, Option, Some, None, Result, Ok, Err, refl, sym, subst, arith, inl, inr}
-use Rattle.std.specs.Prelude.{nat_lt, nat_le, ◌&&◌, if◌then◌else◌, IfSome, codes}
-use Rattle.std.specs.Str.{bytes_eq}
+use Rattle.std.specs.Prelude.{nat_lt, nat_le, ◌&&◌, if◌then◌else◌, IfSome, codes, option_map, option_and_then}
+use Rattle.std.specs.List.{AllByRecursion}
 use Rattle.std.proofs.lemmas.Bool.{cases_Bool, and_parts, leb-true}
 use Rattle.std.proofs.lemmas.List.FromFn.{get_or-map-range_with_len}
 use Rattle.surf_gen.specs.Made.{made_length, made_values}
@@ -12,9 +12,12 @@ use Rattle.surf_tori.specs.Chain.{chain}
 use Rattle.surf_tori.proofs.ChainLaws.{chains_are_surfaces}
 use Rattle.surf_tori.proofs.TorusLaws.{tori_are_surfaces}
 use Rattle.surf_words.specs.Shapes.{Shape, IsShape, mesh_of, torus_shape, chain_shape, torus_named, chain_named}
-use Rattle.surf_words.specs.Words.{Request, help, version, info, disc, tries, checks, sews, classes, compares, confirms, tightens, word_number, task_of, cut_task, weighted_request, cycle_task, cycles_request, shape_request, measures_request, decimals_of, tried_request, torus_words, chain_words, three_words, four_words, five_words, six_words, request_of}
-use Rattle.surf_words.specs.declared.tasks.CycleTask.{CycleTask}
+use Rattle.surf_words.specs.Words.{Request, help, version, tries, makes, measures, weighted, word_number, few_decimals, tried, torus_of, chain_of, at_base, Row, row, command_table, fits, given_for, request_in, request_of}
 use Rattle.surf_words.specs.declared.tasks.Task.{Task}
+use Rattle.surf_words.specs.declared.tasks.Task.TheVariants.{Distances, LeastLoops, LoopCertificate, Cut}
+use Rattle.surf_words.specs.declared.tasks.CutKind.TheVariants.{Full, Trimmed}
+use Rattle.surf_text.specs.Text.{words_of}
+use Prim.Native.String.{String as Literal}
 
 -- ---- the shapes of words
 
@@ -66,84 +69,59 @@ chain_is (Some g) None columns = tt
 chain_is (Some g) (Some a) None = tt
 chain_is (Some g) (Some a) (Some b) = chain_shaped g a b
 
-if_shape : (b : Bool) (s : Option Shape) → IfSome s IsShape → IfSome (if b then s else None) IsShape
-if_shape true s is = is
-if_shape false s is = tt
-
-tried_is : (s : Option Shape) (n : Option ℕ) → IfSome s IsShape → IsWellShaped (tried_request s n)
+tried_is : (s : Option Shape) (n : Option ℕ) → IfSome s IsShape → IsWellShaped (tried s n)
 tried_is None n is = tt
 tried_is (Some s) None is = tt
 tried_is (Some s) (Some n) is = is
 
 -- ---- other requests have no shape, or don't try it
 
-made_is : (s : Option Shape) → IsWellShaped (shape_request s)
+made_is : (s : Option Shape) → IsWellShaped (option_map makes s)
 made_is None = tt
 made_is (Some s) = tt
 
-cycles_is : (t : Option CycleTask) (mesh lengths : List ℕ) → IsWellShaped (cycles_request t mesh lengths)
-cycles_is None mesh lengths = tt
-cycles_is (Some t) mesh lengths = tt
-
-weighted_is : (t : Option Task) (mesh lengths : List ℕ) (base : Option ℕ) →
-    IsWellShaped (weighted_request t mesh lengths base)
-weighted_is None mesh lengths base = tt
-weighted_is (Some t) mesh lengths None = tt
-weighted_is (Some t) mesh lengths (Some b) = tt
-
-measures_is : (mesh : List ℕ) (decimals : Option ℕ) → IsWellShaped (measures_request mesh decimals)
+measures_is : (mesh : List ℕ) (decimals : Option ℕ) → IsWellShaped (option_map (measures mesh) decimals)
 measures_is mesh None = tt
 measures_is mesh (Some k) = tt
 
-three_is : (word mesh third : List ℕ) → IsWellShaped (three_words word mesh third)
-three_is word mesh third =
-    either (bytes_eq word (codes "lengths")) (measures_request mesh (decimals_of third)) _
-    (measures_is mesh (decimals_of third))
-    (either (bytes_eq word (codes "class")) (Some (classes mesh third)) _ tt (cycles_is (cycle_task word) mesh third))
+weighted_is : (task : Task) (mesh lengths : List ℕ) (base : Option ℕ) →
+    IsWellShaped (option_map (weighted task mesh lengths) base)
+weighted_is task mesh lengths None = tt
+weighted_is task mesh lengths (Some x) = tt
 
-four_is : (word second third fourth : List ℕ) → IsWellShaped (four_words word second third fourth)
-four_is word second third fourth =
-    either (bytes_eq word (codes "gen")) (shape_request (torus_words second third fourth)) _
-    (made_is (torus_words second third fourth))
-    (either (bytes_eq word (codes "check")) (Some (checks second third fourth)) _ tt
-    (either (bytes_eq word (codes "same")) (Some (compares second third fourth)) _ tt
-    (either (bytes_eq word (codes "confirm")) (Some (confirms second third fourth)) _ tt
-    (either (bytes_eq word (codes "shortest")) (Some (tightens second third fourth)) _ tt
-    (weighted_is (task_of word) second third (word_number fourth))))))
+at_base_is : (task : Task) (w : Literal → List ℕ) → IsWellShaped (at_base task w)
+at_base_is task w = weighted_is task (w "M") (w "L") (word_number (w "x"))
 
-five_is : (word second third fourth fifth : List ℕ) → IsWellShaped (five_words word second third fourth fifth)
-five_is word second third fourth fifth =
-    either (bytes_eq word (codes "gen")) (shape_request (chain_words second third fourth fifth)) _
-    (made_is (chain_words second third fourth fifth))
-    (either (bytes_eq word (codes "try")) (tried_request (torus_words second third fourth) (word_number fifth)) _
-    (tried_is (torus_words second third fourth) (word_number fifth)
-    (if_shape (bytes_eq second (codes "torus")) (torus_named (word_number third) (word_number fourth))
-    (torus_is (word_number third) (word_number fourth))))
-    (weighted_is (cut_task word fifth) second third (word_number fourth)))
+-- ---- so is each row of the table
 
-six_is : (word second third fourth fifth sixth : List ℕ) → IsWellShaped (six_words word second third fourth fifth sixth)
-six_is word second third fourth fifth sixth =
-    either (bytes_eq word (codes "try")) (tried_request (chain_words second third fourth fifth) (word_number sixth)) None
-    (tried_is (chain_words second third fourth fifth) (word_number sixth)
-    (if_shape (bytes_eq second (codes "chain")) (chain_named (word_number third) (word_number fourth) (word_number fifth))
-    (chain_is (word_number third) (word_number fourth) (word_number fifth))))
-    tt
+abbrev IsShapedRow : Row → Type 0
+IsShapedRow (row call effect request) = (w : Literal → List ℕ) → IsWellShaped (request w)
+
+rows_are_well_shaped : (table : List Row) (words : List (List ℕ)) → AllByRecursion IsShapedRow table →
+    IsWellShaped (request_in table words)
+rows_are_well_shaped [] words shaped = tt
+rows_are_well_shaped (row call effect request ∷ others) words shaped =
+    either (fits (words_of (codes call)) words) (request (λ name. given_for (codes name) (words_of (codes call)) words))
+    (request_in others words) (shaped.0 _) (rows_are_well_shaped others words shaped.1)
+
+-- row by row
+table_is_well_shaped : AllByRecursion IsShapedRow command_table
+table_is_well_shaped =
+    (λ w. tt, (at_base_is Distances, (at_base_is LeastLoops, (λ w. tt, (λ w. tt,
+    (at_base_is (Cut Full), (at_base_is (Cut Trimmed), (λ w. tt, (λ w. tt, (λ w. tt, (λ w. tt,
+    (λ w. tt, (λ w. tt, (at_base_is LoopCertificate, (λ w. tt, (λ w. tt,
+    (λ w. measures_is (w "M") (option_and_then few_decimals (word_number (w "k"))),
+    (λ w. made_is (torus_of w), (λ w. made_is (chain_of w),
+    (λ w. tried_is (torus_of w) (word_number (w "s")) (torus_is (word_number (w "a")) (word_number (w "b"))),
+    (λ w. tried_is (chain_of w) (word_number (w "s"))
+        (chain_is (word_number (w "g")) (word_number (w "a")) (word_number (w "b"))),
+    tt)))))))))))))))))))))
 
 pub words_are_well_shaped : (words : List (List ℕ)) → IsWellShaped (request_of words)
-words_are_well_shaped [] = tt
-words_are_well_shaped (word ∷ []) =
-    either (bytes_eq word (codes "--help")) (Some help) _ tt
-    (either (bytes_eq word (codes "--version")) (Some version) None tt tt)
-words_are_well_shaped (word ∷ mesh ∷ []) =
-    either (bytes_eq word (codes "info")) (Some (info mesh)) _ tt
-    (either (bytes_eq word (codes "disc")) (Some (disc mesh)) _ tt
-    (either (bytes_eq word (codes "sew")) (Some (sews mesh)) None tt tt))
-words_are_well_shaped (word ∷ mesh ∷ third ∷ []) = three_is word mesh third
-words_are_well_shaped (word ∷ second ∷ third ∷ fourth ∷ []) = four_is word second third fourth
-words_are_well_shaped (word ∷ second ∷ third ∷ fourth ∷ fifth ∷ []) = five_is word second third fourth fifth
-words_are_well_shaped (word ∷ second ∷ third ∷ fourth ∷ fifth ∷ sixth ∷ []) =
-    six_is word second third fourth fifth sixth
-words_are_well_shaped (word ∷ second ∷ third ∷ fourth ∷ fifth ∷ sixth ∷ seventh ∷ more) = tt
+unfolding request_of
+words_are_well_shaped words =
+    rows_are_well_shaped (row "--help" "" (λ w. Some help) ∷ row "--version" "" (λ w. Some version) ∷ command_table) words
+    (λ w. tt, (λ w. tt, table_is_well_shaped))
 
 -- ---- their meshes
 

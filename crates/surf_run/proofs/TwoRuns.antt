@@ -1,6 +1,6 @@
 -- What `certify` writes passes `check`.
 use Rattle.std.proofs.Common.{◌≡◌, ◌<◌, ◌≤◌, ℕ, false, List, [], ◌∷◌, length, Option, Some, None, Result, Ok, Err, refl, sym, ap, ◌∙◌, subst, arith, inl}
-use Rattle.std.specs.Prelude.{nat_lt, codes}
+use Rattle.std.specs.Prelude.{nat_lt, option_map, codes}
 use Rattle.std.proofs.lemmas.Bool.{le-ltb}
 use Rattle.std.proofs.lemmas.List.Elements.{All-get_or, All-nil}
 use Rattle.surf_base.specs.Outside.{Files, bytes_of}
@@ -41,7 +41,7 @@ use Rattle.surf_answers.specs.Summaries.{total_size}
 use Rattle.surf_run.specs.Steps.{goes}
 use Rattle.surf_run.specs.TwoRuns.{LoopsPass, BasisPasses, CertifiedLoopsPass, CertifiedBasesPass}
 use Rattle.surf_texts.specs.VerdictLines.{loops_line, basis_line}
-use Rattle.surf_words.specs.Words.{word_number, weighted_request, request_of}
+use Rattle.surf_words.specs.Words.{word_number, weighted, request_of}
 use Rattle.surf_words.specs.declared.tasks.Task.TheVariants.{LeastLoops, LoopCertificate}
 use Rattle.surf_run.proofs.CertSizes.{loop_text_short, basis_text_short}
 use Rattle.surf_run.proofs.CycleLaws.{few_loops}
@@ -118,16 +118,16 @@ module _ (files : Files) (mesh lengths cert text : List ℕ) (held : bytes_of fi
     the_loops = loops_at read.1 values vertex gives.found.trees
 
     loops_said : (outcome : Outcome) → Says (loops_text the_loops) outcome → Leads (codes "loops" ∷ mesh ∷ lengths ∷ base ∷ []) files outcome
-    unfolding Leads
+    unfolding Leads request_of
     loops_said outcome says =
-        subst (λ (x : Option ℕ). OnRequest (weighted_request (Some LeastLoops) mesh lengths x) files outcome) (sym is_base)
+        subst (λ (x : Option ℕ). OnRequest (option_map (weighted LeastLoops mesh lengths) x) files outcome) (sym is_base)
         (goes bytes reads (goes read surface (goes tt few (goes values measured (goes vertex based (record {
           found = gives.found;
           says = says;
         }))))))
 
     loops_pass : Answer (codes "check" ∷ mesh ∷ lengths ∷ cert ∷ []) files 0 (loops_line (total_size the_loops)) []
-    unfolding Leads
+    unfolding Leads request_of
     loops_pass =
         let c = chosen_cert read.1 gives.found.trees in
         let again =
@@ -179,7 +179,7 @@ module _ (files : Files) (mesh lengths cert text : List ℕ) (held : bytes_of fi
         few (omega (arith, trees, vertices)) (omega (arith, depths, faces)) (omega (arith, full, loops)) gives.found.least.simple)
 
     basis_said : (outcome : Outcome) → Says (cycles_text gives.found.basis) outcome → Leads (codes "basis" ∷ mesh ∷ lengths ∷ []) files outcome
-    unfolding Leads
+    unfolding Leads request_of
     basis_said outcome says =
         goes bytes reads (goes read is_surface (goes tt few_loops_are (goes tt (let small = few in omega (arith, small)) (goes values measured (record {
           found = gives.found;
@@ -190,7 +190,7 @@ module _ (files : Files) (mesh lengths cert text : List ℕ) (held : bytes_of fi
         })))))
 
     basis_pass : Answer (codes "check" ∷ mesh ∷ lengths ∷ cert ∷ []) files 0 (basis_line (total_size gives.found.basis)) []
-    unfolding Leads
+    unfolding Leads request_of
     basis_pass =
         let c = basis_cert_of read.1 gives.found.trees gives.found.basis in
         let again =
@@ -215,13 +215,13 @@ module _ (files : Files) (mesh lengths cert text : List ℕ) (held : bytes_of fi
 loops_pass_there : (files : Files) (mesh lengths base cert text : List ℕ) →
     Answer (codes "certify" ∷ mesh ∷ lengths ∷ base ∷ []) files 0 text [] → bytes_of files cert ≡ Some text →
     LoopsPass files mesh lengths base cert
-unfolding Leads
+unfolding Leads request_of
 loops_pass_there files mesh lengths base cert text (o, leads, shows) held = at (word_number base) refl leads
   where
     low : status_of o ≤ 1
     low = shown_low o text [] shows
 
-    at : (x : Option ℕ) → word_number base ≡ x → OnRequest (weighted_request (Some LoopCertificate) mesh lengths x) files o → LoopsPass files mesh lengths base cert
+    at : (x : Option ℕ) → word_number base ≡ x → OnRequest (option_map (weighted LoopCertificate mesh lengths) x) files o → LoopsPass files mesh lengths base cert
     at None is on = absurd (let low_status = low in let status = ap status_of on in omega (arith, low_status, status))
     at (Some b) is on =
         let (bytes, reads, on_text) = goes_on o on (reads_refuses mesh files) low in
@@ -238,7 +238,7 @@ loops_pass_there files mesh lengths base cert text (o, leads, shows) held = at (
 basis_passes_there : (files : Files) (mesh lengths cert text : List ℕ) →
     Answer (codes "certify" ∷ mesh ∷ lengths ∷ []) files 0 text [] → bytes_of files cert ≡ Some text →
     BasisPasses files mesh lengths cert
-unfolding Leads
+unfolding Leads request_of
 basis_passes_there files mesh lengths cert text (o, leads, shows) held =
     let low = shown_low o text [] shows in
     let (bytes, reads, on_text) = goes_on o leads (reads_refuses mesh files) low in
@@ -261,16 +261,18 @@ answered_there words files later text (o, leads, shows) same =
     (o, answers_depend_on_named_files words files later same o leads, shows)
 
 pub certified_loops_pass : CertifiedLoopsPass
+unfolding request_of
 certified_loops_pass files later mesh lengths base cert text answer same held =
     loops_pass_there later mesh lengths base cert text
     (answered_there (codes "certify" ∷ mesh ∷ lengths ∷ base ∷ []) files later text answer (at (word_number base)))
     held
   where
-    at : (x : Option ℕ) → AgreeOn (named (weighted_request (Some LoopCertificate) mesh lengths x)) files later
+    at : (x : Option ℕ) → AgreeOn (named (option_map (weighted LoopCertificate mesh lengths) x)) files later
     at None = All-nil (λ name. bytes_of files name ≡ bytes_of later name)
     at (Some b) = same
 
 pub certified_bases_pass : CertifiedBasesPass
+unfolding request_of
 certified_bases_pass files later mesh lengths cert text answer same held =
     basis_passes_there later mesh lengths cert text
     (answered_there (codes "certify" ∷ mesh ∷ lengths ∷ []) files later text answer same) held

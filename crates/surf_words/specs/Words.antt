@@ -1,8 +1,11 @@
 -- The words of a command line, and the command that they are.
-use Rattle.std.specs.Prelude.{ℕ, List, [], ◌∷◌, ◌++◌, map, String, Option, Some, None, nat_le, nat_lt, option_and_then}
+use Rattle.std.specs.Prelude.{ℕ, ◌-◌, ◌==◌, ◌&&◌, ◌||◌, Bool, List, [], ◌∷◌, ◌++◌, length, map, flat_map, String}
+use Rattle.std.specs.Prelude.{Option, Some, None, option_map, option_and_then, nat_le, nat_lt, zip}
 use Rattle.std.specs.Prelude.{if◌then◌else◌, codes, string_bytes}
+use Rattle.std.specs.List.{list_all, repeat}
 use Rattle.std.specs.Str.{bytes_eq}
-use Rattle.surf_text.specs.Text.{whole}
+use Prim.Native.String.{String as Literal}
+use Rattle.surf_text.specs.Text.{whole, words_of}
 use Rattle.surf_words.specs.declared.tasks.CycleTask.{CycleTask}
 use Rattle.surf_words.specs.declared.tasks.CycleTask.TheVariants.{Basis, Shortest, BasisCertificate}
 use Rattle.surf_words.specs.declared.tasks.Task.{Task}
@@ -48,121 +51,93 @@ pub data Request : Type 0 where
   -- a shortest walk in the class of the walk of a file, with the lengths that a word gives
   tightens : List ℕ → List ℕ → List ℕ → Request
 
-abbrev pub lone_request : List ℕ → Option Request
-lone_request word =
-    if bytes_eq word (codes "--help") then Some help
-    else (if bytes_eq word (codes "--version") then Some version else None)
-
-abbrev pub mesh_request : List ℕ → List ℕ → Option Request
-mesh_request word mesh =
-    if bytes_eq word (codes "info") then Some (info mesh)
-    else (if bytes_eq word (codes "disc") then Some (disc mesh)
-    else (if bytes_eq word (codes "sew") then Some (sews mesh) else None))
+-- ---- the command table
 
 -- a number word: digits of a value at most 4,294,967,295
 abbrev pub word_number : List ℕ → Option ℕ
 word_number word = option_and_then (λ n. if nat_lt 4294967295 n then None else Some n) (whole word)
 
--- the task of a command with four words
-abbrev pub task_of : List ℕ → Option Task
-task_of word =
-    if bytes_eq word (codes "dist") then Some Distances
-    else (if bytes_eq word (codes "loops") then Some LeastLoops
-    else (if bytes_eq word (codes "certify") then Some LoopCertificate else None))
-
--- the task of a command with five words
-abbrev pub cut_task : List ℕ → List ℕ → Option Task
-cut_task word kind =
-    if bytes_eq word (codes "cut")
-    then (if bytes_eq kind (codes "full") then Some (Cut Full)
-    else (if bytes_eq kind (codes "trim") then Some (Cut Trimmed) else None))
-    else None
-
-abbrev pub weighted_request : Option Task → List ℕ → List ℕ → Option ℕ → Option Request
-weighted_request None mesh lengths base = None
-weighted_request (Some task) mesh lengths None = None
-weighted_request (Some task) mesh lengths (Some base) = Some (weighted task mesh lengths base)
-
--- the task of a command with three words
-abbrev pub cycle_task : List ℕ → Option CycleTask
-cycle_task word =
-    if bytes_eq word (codes "basis") then Some Basis
-    else (if bytes_eq word (codes "cycle") then Some Shortest
-    else (if bytes_eq word (codes "certify") then Some BasisCertificate else None))
-
-abbrev pub cycles_request : Option CycleTask → List ℕ → List ℕ → Option Request
-cycles_request None mesh lengths = None
-cycles_request (Some task) mesh lengths = Some (cycles task mesh lengths)
-
-abbrev pub shape_request : Option Shape → Option Request
-shape_request None = None
-shape_request (Some shape) = Some (makes shape)
-
--- the measures of a mesh, with the decimals of their unit
-abbrev pub measures_request : List ℕ → Option ℕ → Option Request
-measures_request mesh None = None
-measures_request mesh (Some decimals) = Some (measures mesh decimals)
-
 -- a unit of length has at most 9 decimals
 abbrev pub few_decimals : ℕ → Option ℕ
 few_decimals n = if nat_le n 9 then Some n else None
 
-abbrev pub decimals_of : List ℕ → Option ℕ
-decimals_of word = option_and_then few_decimals (word_number word)
+-- A row of the table: its words and what they ask for, as the help has them, and the request that they are with the
+-- words that are given for its names.
+pub data Row : Type 0 where
+  row : Literal → Literal → ((Literal → List ℕ) → Option Request) → Row
+
+-- a task with lengths, and one with lengths and a base
+abbrev pub on_cycles : CycleTask → (Literal → List ℕ) → Option Request
+on_cycles task w = Some (cycles task (w "M") (w "L"))
+
+abbrev pub at_base : Task → (Literal → List ℕ) → Option Request
+at_base task w = option_map (weighted task (w "M") (w "L")) (word_number (w "x"))
+
+-- the shapes of two numbers, and of three
+abbrev pub torus_of : (Literal → List ℕ) → Option Shape
+torus_of w = torus_named (word_number (w "a")) (word_number (w "b"))
+
+abbrev pub chain_of : (Literal → List ℕ) → Option Shape
+chain_of w = chain_named (word_number (w "g")) (word_number (w "a")) (word_number (w "b"))
 
 -- a shape with a scatter
-abbrev pub tried_request : Option Shape → Option ℕ → Option Request
-tried_request None scatter = None
-tried_request (Some shape) None = None
-tried_request (Some shape) (Some scatter) = Some (tries shape scatter)
+abbrev pub tried : Option Shape → Option ℕ → Option Request
+tried shape scatter = option_and_then (λ s. option_map (tries s) scatter) shape
 
--- the shape that a word names with two numbers, and with three
-abbrev pub torus_words : List ℕ → List ℕ → List ℕ → Option Shape
-torus_words kind rows columns = if bytes_eq kind (codes "torus")
-    then torus_named (word_number rows) (word_number columns) else None
+abbrev pub command_table : List Row
+command_table =
+    row "info M" "counts, Euler characteristic, genus or crosscaps" (λ w. Some (info (w "M")))
+    ∷ row "dist M L x" "the distance of each vertex from vertex x" (at_base Distances)
+    ∷ row "loops M L x" "a shortest system of independent loops at vertex x" (at_base LeastLoops)
+    ∷ row "basis M L" "a shortest basis: independent cycles of least total length" (on_cycles Basis)
+    ∷ row "cycle M L" "a shortest cycle that doesn't separate the surface" (on_cycles Shortest)
+    ∷ row "cut M L x full" "the mesh cut into one disc" (at_base (Cut Full))
+    ∷ row "cut M L x trim" "the same with the cut's loose ends left uncut" (at_base (Cut Trimmed))
+    ∷ row "sew M" "the mesh that was cut, from what cut wrote" (λ w. Some (sews (w "M")))
+    ∷ row "disc M" "whether a mesh is a disc" (λ w. Some (disc (w "M")))
+    ∷ row "class M W" "whether a closed walk is a boundary, with evidence" (λ w. Some (classes (w "M") (w "W")))
+    ∷ row "same M W W2" "whether two closed walks go round the same way"
+        (λ w. Some (compares (w "M") (w "W") (w "W2")))
+    ∷ row "confirm M W C" "whether the evidence that class wrote is right"
+        (λ w. Some (confirms (w "M") (w "W") (w "C")))
+    ∷ row "shortest M L W" "a shortest closed walk that goes round as W does"
+        (λ w. Some (tightens (w "M") (w "L") (w "W")))
+    ∷ row "certify M L x" "a certificate of loops at vertex x" (at_base LoopCertificate)
+    ∷ row "certify M L" "a certificate of a basis" (on_cycles BasisCertificate)
+    ∷ row "check M L C" "whether a certificate is valid, and its total"
+        (λ w. Some (checks (w "M") (w "L") (w "C")))
+    ∷ row "lengths M k" "the lengths of the edges from coordinates, in units of 10^-k"
+        (λ w. option_map (measures (w "M")) (option_and_then few_decimals (word_number (w "k"))))
+    ∷ row "gen torus a b" "a torus of a by b squares" (λ w. option_map makes (torus_of w))
+    ∷ row "gen chain g a b" "a chain of g such tori" (λ w. option_map makes (chain_of w))
+    ∷ row "try torus a b s" "a summary of a torus with lengths scattered by s"
+        (λ w. tried (torus_of w) (word_number (w "s")))
+    ∷ row "try chain g a b s" "the same of a chain" (λ w. tried (chain_of w) (word_number (w "s")))
+    ∷ []
 
-abbrev pub chain_words : List ℕ → List ℕ → List ℕ → List ℕ → Option Shape
-chain_words kind tori rows columns =
-    if bytes_eq kind (codes "chain") then chain_named (word_number tori) (word_number rows) (word_number columns)
-    else None
+-- Words fit those of a row if they are as many, and each is the row's own or stands where the row has a name: a word of
+-- one letter or two.
+abbrev pub fits : List (List ℕ) → List (List ℕ) → Bool
+fits names words =
+    length names == length words && list_all (λ p. nat_le (length p.0) 2 || bytes_eq p.1 p.0) (zip names words)
 
--- the row of three words, that of four, that of five and that of six
-abbrev pub three_words : List ℕ → List ℕ → List ℕ → Option Request
-three_words word mesh third =
-    if bytes_eq word (codes "lengths") then measures_request mesh (decimals_of third)
-    else (if bytes_eq word (codes "class") then Some (classes mesh third)
-    else cycles_request (cycle_task word) mesh third)
+-- the word that is given for a name
+abbrev pub given_for : List ℕ → List (List ℕ) → List (List ℕ) → List ℕ
+given_for sought (name ∷ names) (word ∷ words) = if bytes_eq name sought then word else given_for sought names words
+given_for sought names words = []
 
-abbrev pub four_words : List ℕ → List ℕ → List ℕ → List ℕ → Option Request
-four_words word second third fourth =
-    if bytes_eq word (codes "gen") then shape_request (torus_words second third fourth)
-    else (if bytes_eq word (codes "check") then Some (checks second third fourth)
-    else (if bytes_eq word (codes "same") then Some (compares second third fourth)
-    else (if bytes_eq word (codes "confirm") then Some (confirms second third fourth)
-    else (if bytes_eq word (codes "shortest") then Some (tightens second third fourth)
-    else weighted_request (task_of word) second third (word_number fourth)))))
+-- the request of the first row that words fit
+abbrev pub request_in : List Row → List (List ℕ) → Option Request
+request_in [] words = None
+request_in (row call effect request ∷ others) words =
+    if fits (words_of (codes call)) words
+    then request (λ name. given_for (codes name) (words_of (codes call)) words)
+    else request_in others words
 
-abbrev pub five_words : List ℕ → List ℕ → List ℕ → List ℕ → List ℕ → Option Request
-five_words word second third fourth fifth =
-    if bytes_eq word (codes "gen") then shape_request (chain_words second third fourth fifth)
-    else (if bytes_eq word (codes "try") then tried_request (torus_words second third fourth) (word_number fifth)
-    else weighted_request (cut_task word fifth) second third (word_number fourth))
-
-abbrev pub six_words : List ℕ → List ℕ → List ℕ → List ℕ → List ℕ → List ℕ → Option Request
-six_words word second third fourth fifth sixth =
-    if bytes_eq word (codes "try") then tried_request (chain_words second third fourth fifth) (word_number sixth)
-    else None
-
--- the row of the command table that the words are in
-abbrev pub request_of : List (List ℕ) → Option Request
-request_of [] = None
-request_of (word ∷ []) = lone_request word
-request_of (word ∷ mesh ∷ []) = mesh_request word mesh
-request_of (word ∷ mesh ∷ third ∷ []) = three_words word mesh third
-request_of (word ∷ second ∷ third ∷ fourth ∷ []) = four_words word second third fourth
-request_of (word ∷ second ∷ third ∷ fourth ∷ fifth ∷ []) = five_words word second third fourth fifth
-request_of (word ∷ second ∷ third ∷ fourth ∷ fifth ∷ sixth ∷ []) = six_words word second third fourth fifth sixth
-request_of (word ∷ second ∷ third ∷ fourth ∷ fifth ∷ sixth ∷ seventh ∷ more) = None
+-- the request that words are: one of the table, or of two more rows, which the help has on a line of their own
+unfoldable pub request_of : List (List ℕ) → Option Request
+request_of words =
+    request_in (row "--help" "" (λ w. Some help) ∷ row "--version" "" (λ w. Some version) ∷ command_table) words
 
 -- a command of the code as a row of the command table
 abbrev pub request : Command → Request
@@ -187,33 +162,19 @@ request (Shortest mesh lengths walk) = tightens mesh.now lengths.now walk.now
 abbrev pub version_text : List ℕ
 version_text = codes "surf 0.1.0\n"
 
+-- the line of a row in the help, and the blanks before the next
+abbrev pub usage_line : Row → List ℕ
+usage_line (row call effect request) =
+    codes "surf " ++ codes call ++ repeat (19 - length (codes call)) (codes " ") ++ codes effect ++ codes "\n       "
+
 -- how the program is called, line by line
 abbrev pub help_text : List ℕ
 help_text =
     codes "surf: shortest loops, least bases and cuts of closed surface meshes\n"
     ++ codes "\n"
-    ++ codes "usage: surf info M             counts, Euler characteristic, genus or crosscaps\n"
-    ++ codes "       surf dist M L x         the distance of each vertex from vertex x\n"
-    ++ codes "       surf loops M L x        a shortest system of independent loops at vertex x\n"
-    ++ codes "       surf basis M L          a shortest basis: independent cycles of least total length\n"
-    ++ codes "       surf cycle M L          a shortest cycle that doesn't separate the surface\n"
-    ++ codes "       surf cut M L x full     the mesh cut into one disc\n"
-    ++ codes "       surf cut M L x trim     the same with the cut's loose ends left uncut\n"
-    ++ codes "       surf sew M              the mesh that was cut, from what cut wrote\n"
-    ++ codes "       surf disc M             whether a mesh is a disc\n"
-    ++ codes "       surf class M W          whether a closed walk is a boundary, with evidence\n"
-    ++ codes "       surf same M W W2        whether two closed walks go round the same way\n"
-    ++ codes "       surf confirm M W C      whether the evidence that class wrote is right\n"
-    ++ codes "       surf shortest M L W     a shortest closed walk that goes round as W does\n"
-    ++ codes "       surf certify M L x      a certificate of loops at vertex x\n"
-    ++ codes "       surf certify M L        a certificate of a basis\n"
-    ++ codes "       surf check M L C        whether a certificate is valid, and its total\n"
-    ++ codes "       surf lengths M k        the lengths of the edges from coordinates, in units of 10^-k\n"
-    ++ codes "       surf gen torus a b      a torus of a by b squares\n"
-    ++ codes "       surf gen chain g a b    a chain of g such tori\n"
-    ++ codes "       surf try torus a b s    a summary of a torus with lengths scattered by s\n"
-    ++ codes "       surf try chain g a b s  the same of a chain\n"
-    ++ codes "       surf --help | --version\n"
+    ++ codes "usage: "
+    ++ flat_map usage_line command_table
+    ++ codes "surf --help | --version\n"
     ++ codes "\n"
     ++ codes "files: M  a mesh in OFF, one vertex or face a line\n"
     ++ codes "       L  the word unit, or a file with a line u v n for each edge: its ends and its length\n"

@@ -1,9 +1,8 @@
 //! The words of the command line.
-ghost use Rattle.std.specs.Prelude.{◌≡◌, None, Some, MatchOption};
-ghost use Rattle.surf_words.specs.Words.{texts, request_of, lone_request, mesh_request, word_number, cycle_task};
-ghost use Rattle.surf_words.specs.Words.{task_of, cut_task, cycles_request, weighted_request, shape_request};
-ghost use Rattle.surf_words.specs.Words.{tried_request, torus_words, chain_words, measures_request, decimals_of};
-ghost use Rattle.surf_words.specs.Words.{three_words, four_words, five_words, six_words, request};
+ghost use Rattle.std.specs.Prelude.{◌≡◌, [], ◌∷◌, None, Some, MatchOption, option_map, option_and_then};
+ghost use Rattle.surf_words.specs.Shapes.{torus_named, chain_named};
+ghost use Rattle.surf_words.specs.Words.{texts, request_of, word_number, few_decimals, request, tried};
+ghost use Rattle.surf_words.specs.Words.{cycles, weighted, makes, measures};
 
 use crate::decimals::Decimals;
 use crate::shape::Shape;
@@ -122,75 +121,79 @@ fn number_of(word: &str) -> Option<u32>
     }
 }
 
-// The task of a command with three words.
-fn cycle_task(word: &str) -> Option<CycleTask>
-    ensures { result ≡ cycle_task word.now }
-{
-    match word {
-        "basis" => Some(CycleTask::Basis),
-        "cycle" => Some(CycleTask::Shortest),
-        "certify" => Some(CycleTask::BasisCertificate),
-        _ => None,
-    }
-}
-
-// The task of a command with four words.
-fn task_of(word: &str) -> Option<Task>
-    ensures { result ≡ task_of word.now }
-{
-    match word {
-        "dist" => Some(Task::Distances),
-        "loops" => Some(Task::LeastLoops),
-        "certify" => Some(Task::LoopCertificate),
-        _ => None,
-    }
-}
-
-// The task of a command with five words.
-fn cut_task(word: &str, kind: &str) -> Option<Task>
-    ensures { result ≡ cut_task word.now kind.now }
-{
-    if word != "cut" {
-        return None;
-    }
-    match kind {
-        "full" => Some(Task::Cut(CutKind::Full)),
-        "trim" => Some(Task::Cut(CutKind::Trimmed)),
-        _ => None,
-    }
-}
-
-fn cycles<'w>(task: Option<CycleTask>, mesh: &'w str, lengths: &'w str) -> Option<Command<'w>>
-    ensures { MatchOption result (cycles_request task mesh.now lengths.now ≡ None)
-        (λ c. cycles_request task mesh.now lengths.now ≡ Some (request c)) }
-{
-    Some(Command::Cycles {
-        task: task?,
-        mesh,
-        lengths,
-    })
-}
-
+// A task at a base.
 fn weighted<'w>(
-    task: Option<Task>,
+    task: Task,
     mesh: &'w str,
     lengths: &'w str,
-    base: Option<u32>,
+    base: &str,
 ) -> Option<Command<'w>>
-    ensures { MatchOption result (weighted_request task mesh.now lengths.now base ≡ None)
-        (λ c. weighted_request task mesh.now lengths.now base ≡ Some (request c)) }
+    ensures { MatchOption result
+        (option_map (weighted task mesh.now lengths.now) (word_number base.now) ≡ None)
+        (λ c. option_map (weighted task mesh.now lengths.now) (word_number base.now)
+        ≡ Some (request c)) }
 {
     Some(Command::Weighted {
-        task: task?,
+        task,
         mesh,
         lengths,
-        base: base?,
+        base: number_of(base)?,
     })
 }
 
-fn lone<'w>(word: &str) -> Option<Command<'w>>
-    ensures { MatchOption result (lone_request word.now ≡ None) (λ c. lone_request word.now
+fn torus_of(rows: &str, columns: &str) -> Option<Shape>
+    ensures { result ≡ torus_named (word_number rows.now) (word_number columns.now) }
+{
+    Shape::torus(number_of(rows)?, number_of(columns)?)
+}
+
+fn chain_of(tori: &str, rows: &str, columns: &str) -> Option<Shape>
+    ensures { result ≡ chain_named (word_number tori.now) (word_number rows.now)
+        (word_number columns.now) }
+{
+    Shape::chain(number_of(tori)?, number_of(rows)?, number_of(columns)?)
+}
+
+fn generate<'w>(shape: Option<Shape>) -> Option<Command<'w>>
+    ensures { MatchOption result (option_map makes shape ≡ None) (λ c. option_map makes shape
         ≡ Some (request c)) }
+{
+    Some(Command::Generate { shape: shape? })
+}
+
+fn try_shape<'w>(shape: Option<Shape>, scatter: &str) -> Option<Command<'w>>
+    ensures { MatchOption result (tried shape (word_number scatter.now) ≡ None)
+        (λ c. tried shape (word_number scatter.now) ≡ Some (request c)) }
+{
+    Some(Command::Try {
+        shape: shape?,
+        scatter: number_of(scatter)?,
+    })
+}
+
+// The decimals of a unit of length.
+fn decimals_of(word: &str) -> Option<Decimals>
+    ensures { result ≡ option_and_then few_decimals (word_number word.now) }
+{
+    Decimals::new(number_of(word)?)
+}
+
+fn measure<'w>(mesh: &'w str, decimals: &str) -> Option<Command<'w>>
+    ensures { MatchOption result
+        (option_map (measures mesh.now) (option_and_then few_decimals (word_number decimals.now))
+        ≡ None) (λ c. option_map (measures mesh.now)
+        (option_and_then few_decimals (word_number decimals.now)) ≡ Some (request c)) }
+{
+    Some(Command::Measure {
+        mesh,
+        decimals: decimals_of(decimals)?,
+    })
+}
+
+#[tactic(auto, unfolding(crate::specs::Words::request_of))]
+fn on_one<'w>(word: &str) -> Option<Command<'w>>
+    ensures { MatchOption result (request_of (word.now ∷ []) ≡ None)
+        (λ c. request_of (word.now ∷ []) ≡ Some (request c)) }
 {
     match word {
         "--help" => Some(Command::Help),
@@ -199,126 +202,84 @@ fn lone<'w>(word: &str) -> Option<Command<'w>>
     }
 }
 
-fn on_mesh<'w>(word: &str, mesh: &'w str) -> Option<Command<'w>>
-    ensures { MatchOption result (mesh_request word.now mesh.now ≡ None)
-        (λ c. mesh_request word.now mesh.now ≡ Some (request c)) }
+#[tactic(auto, unfolding(crate::specs::Words::request_of))]
+fn on_two<'w>(word: &str, mesh: &'w str) -> Option<Command<'w>>
+    ensures { MatchOption result (request_of (word.now ∷ mesh.now ∷ []) ≡ None)
+        (λ c. request_of (word.now ∷ mesh.now ∷ []) ≡ Some (request c)) }
 {
     match word {
         "info" => Some(Command::Info { mesh }),
-        "disc" => Some(Command::Disc { mesh }),
         "sew" => Some(Command::Sew { mesh }),
+        "disc" => Some(Command::Disc { mesh }),
         _ => None,
     }
 }
 
-// The shape that a word names with two numbers.
-fn torus_of(kind: &str, rows: &str, columns: &str) -> Option<Shape>
-    ensures { result ≡ torus_words kind.now rows.now columns.now }
+fn cycles<'w>(task: CycleTask, mesh: &'w str, lengths: &'w str) -> Command<'w>
+    ensures { request result ≡ cycles task mesh.now lengths.now }
 {
-    if kind != "torus" {
-        return None;
-    }
-    Shape::torus(number_of(rows)?, number_of(columns)?)
-}
-
-// The shape that a word names with three numbers.
-fn chain_of(kind: &str, tori: &str, rows: &str, columns: &str) -> Option<Shape>
-    ensures { result ≡ chain_words kind.now tori.now rows.now columns.now }
-{
-    if kind != "chain" {
-        return None;
-    }
-    Shape::chain(number_of(tori)?, number_of(rows)?, number_of(columns)?)
-}
-
-fn generate<'w>(shape: Option<Shape>) -> Option<Command<'w>>
-    ensures { MatchOption result (shape_request shape ≡ None) (λ c. shape_request shape
-        ≡ Some (request c)) }
-{
-    Some(Command::Generate { shape: shape? })
-}
-
-fn tried<'w>(shape: Option<Shape>, scatter: Option<u32>) -> Option<Command<'w>>
-    ensures { MatchOption result (tried_request shape scatter ≡ None)
-        (λ c. tried_request shape scatter ≡ Some (request c)) }
-{
-    Some(Command::Try {
-        shape: shape?,
-        scatter: scatter?,
-    })
-}
-
-// The decimals of a unit of length.
-fn decimals_of(word: &str) -> Option<Decimals>
-    ensures { result ≡ decimals_of word.now }
-{
-    Decimals::new(number_of(word)?)
-}
-
-fn measured<'w>(mesh: &'w str, decimals: Option<Decimals>) -> Option<Command<'w>>
-    ensures { MatchOption result (measures_request mesh.now decimals ≡ None)
-        (λ c. measures_request mesh.now decimals ≡ Some (request c)) }
-{
-    Some(Command::Measure {
+    Command::Cycles {
+        task,
         mesh,
-        decimals: decimals?,
-    })
+        lengths,
+    }
 }
 
-// The row of three words.
+#[tactic(auto, unfolding(crate::specs::Words::request_of))]
 fn on_three<'w>(word: &str, mesh: &'w str, third: &'w str) -> Option<Command<'w>>
-    ensures { MatchOption result (three_words word.now mesh.now third.now ≡ None)
-        (λ c. three_words word.now mesh.now third.now ≡ Some (request c)) }
+    ensures { MatchOption result (request_of (word.now ∷ mesh.now ∷ third.now ∷ []) ≡ None)
+        (λ c. request_of (word.now ∷ mesh.now ∷ third.now ∷ []) ≡ Some (request c)) }
 {
-    if word == "lengths" {
-        return measured(mesh, decimals_of(third));
+    match word {
+        "basis" => Some(cycles(CycleTask::Basis, mesh, third)),
+        "cycle" => Some(cycles(CycleTask::Shortest, mesh, third)),
+        "class" => Some(Command::Class { mesh, walk: third }),
+        "certify" => Some(cycles(CycleTask::BasisCertificate, mesh, third)),
+        "lengths" => measure(mesh, third),
+        _ => None,
     }
-    if word == "class" {
-        return Some(Command::Class { mesh, walk: third });
-    }
-    cycles(cycle_task(word), mesh, third)
 }
 
-// The row of four words.
+#[tactic(auto, unfolding(crate::specs::Words::request_of))]
 fn on_four<'w>(word: &str, second: &'w str, third: &'w str, fourth: &'w str) -> Option<Command<'w>>
-    ensures { MatchOption result (four_words word.now second.now third.now fourth.now ≡ None)
-        (λ c. four_words word.now second.now third.now fourth.now ≡ Some (request c)) }
+    ensures { MatchOption result (request_of (word.now ∷ second.now ∷ third.now ∷ fourth.now ∷ []) ≡ None)
+        (λ c. request_of (word.now ∷ second.now ∷ third.now ∷ fourth.now ∷ []) ≡ Some (request c)) }
 {
-    if word == "gen" {
-        return generate(torus_of(second, third, fourth));
-    }
-    if word == "check" {
-        return Some(Command::Check {
-            mesh: second,
-            lengths: third,
-            cert: fourth,
-        });
-    }
-    if word == "same" {
-        return Some(Command::Same {
+    match word {
+        "dist" => weighted(Task::Distances, second, third, fourth),
+        "loops" => weighted(Task::LeastLoops, second, third, fourth),
+        "same" => Some(Command::Same {
             mesh: second,
             first: third,
             second: fourth,
-        });
-    }
-    if word == "confirm" {
-        return Some(Command::Confirm {
+        }),
+        "confirm" => Some(Command::Confirm {
             mesh: second,
             walk: third,
             cert: fourth,
-        });
-    }
-    if word == "shortest" {
-        return Some(Command::Shortest {
+        }),
+        "shortest" => Some(Command::Shortest {
             mesh: second,
             lengths: third,
             walk: fourth,
-        });
+        }),
+        "certify" => weighted(Task::LoopCertificate, second, third, fourth),
+        "check" => Some(Command::Check {
+            mesh: second,
+            lengths: third,
+            cert: fourth,
+        }),
+        "gen" => {
+            if second != "torus" {
+                return None;
+            }
+            generate(torus_of(third, fourth))
+        }
+        _ => None,
     }
-    weighted(task_of(word), second, third, number_of(fourth))
 }
 
-// The row of five words.
+#[tactic(auto, unfolding(crate::specs::Words::request_of))]
 fn on_five<'w>(
     word: &str,
     second: &'w str,
@@ -326,20 +287,26 @@ fn on_five<'w>(
     fourth: &str,
     fifth: &str,
 ) -> Option<Command<'w>>
-    ensures { MatchOption result (five_words word.now second.now third.now fourth.now fifth.now
-        ≡ None) (λ c. five_words word.now second.now third.now fourth.now fifth.now
-        ≡ Some (request c)) }
+    ensures { MatchOption result (request_of (word.now ∷ second.now ∷ third.now ∷ fourth.now ∷ fifth.now ∷ []) ≡ None)
+        (λ c. request_of (word.now ∷ second.now ∷ third.now ∷ fourth.now ∷ fifth.now ∷ []) ≡ Some (request c)) }
 {
-    if word == "gen" {
-        return generate(chain_of(second, third, fourth, fifth));
+    if word == "cut" {
+        return match fifth {
+            "full" => weighted(Task::Cut(CutKind::Full), second, third, fourth),
+            "trim" => weighted(Task::Cut(CutKind::Trimmed), second, third, fourth),
+            _ => None,
+        };
     }
-    if word == "try" {
-        return tried(torus_of(second, third, fourth), number_of(fifth));
+    if word == "gen" && second == "chain" {
+        return generate(chain_of(third, fourth, fifth));
     }
-    weighted(cut_task(word, fifth), second, third, number_of(fourth))
+    if word == "try" && second == "torus" {
+        return try_shape(torus_of(third, fourth), fifth);
+    }
+    None
 }
 
-// The row of six words.
+#[tactic(auto, unfolding(crate::specs::Words::request_of))]
 fn on_six<'w>(
     word: &str,
     second: &str,
@@ -348,14 +315,13 @@ fn on_six<'w>(
     fifth: &str,
     sixth: &str,
 ) -> Option<Command<'w>>
-    ensures { MatchOption result (six_words word.now second.now third.now fourth.now fifth.now
-        sixth.now ≡ None) (λ c. six_words word.now second.now third.now fourth.now fifth.now
-        sixth.now ≡ Some (request c)) }
+    ensures { MatchOption result (request_of (word.now ∷ second.now ∷ third.now ∷ fourth.now ∷ fifth.now ∷ sixth.now ∷ []) ≡ None)
+        (λ c. request_of (word.now ∷ second.now ∷ third.now ∷ fourth.now ∷ fifth.now ∷ sixth.now ∷ []) ≡ Some (request c)) }
 {
-    if word != "try" {
-        return None;
+    if word == "try" && second == "chain" {
+        return try_shape(chain_of(third, fourth, fifth), sixth);
     }
-    tried(chain_of(second, third, fourth, fifth), number_of(sixth))
+    None
 }
 
 /// The row of the command table that the words are in.
@@ -365,8 +331,8 @@ pub fn parse(words: &[String]) -> Option<Command<'_>>
 {
     match words {
         [] => None,
-        [word] => lone(word),
-        [word, mesh] => on_mesh(word, mesh),
+        [word] => on_one(word),
+        [word, mesh] => on_two(word, mesh),
         [word, mesh, third] => on_three(word, mesh, third),
         [word, second, third, fourth] => on_four(word, second, third, fourth),
         [word, second, third, fourth, fifth] => on_five(word, second, third, fourth, fifth),
