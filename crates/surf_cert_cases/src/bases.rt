@@ -4,7 +4,6 @@ ghost use Rattle.surf_surfaces.specs.Surface.{edge_count, face_count};
 
 use crate::edit::edited;
 use crate::kinds::{basis_of, read};
-use crate::surfaces::{scattered, torus};
 use crate::texts::{scattered_trees, trees};
 use std::alloc::Global;
 use std::test::Fail;
@@ -13,6 +12,7 @@ use surf_cert::{BasisCert, DualRows, TreeRows};
 use surf_certcheck::{CertFault, CertPart, check_basis};
 use surf_lengths::{Lengths, read_lengths, unit_lengths};
 use surf_mesh::{HalfMesh, Walk};
+use surf_samples::{scattered, surface, torus};
 
 // The text of a certificate of these trees and of these cycles, each on a line.
 fn text_of(alloc: Global, trees: &[u8], cycles: &str) -> Result<Vec<u8>, Fail> {
@@ -62,7 +62,7 @@ fn lengths_of(alloc: Global, mesh: &HalfMesh, text: &str) -> Result<Lengths, Fai
 
 // What the checker says of a certificate for the lengths of a text.
 fn judged(alloc: Global, lengths: &str, cert: &BasisCert) -> Result<Result<u128, CertFault>, Fail> {
-    let mesh = torus(alloc)?;
+    let mesh = surface(alloc, 9, torus())?;
     if !has_few_loops(&mesh) {
         return Err("few loops")?;
     }

@@ -11,6 +11,4 @@ mod kinds;
 #[cfg(test)]
 mod loops;
 #[cfg(test)]
-mod surfaces;
-#[cfg(test)]
 mod texts;

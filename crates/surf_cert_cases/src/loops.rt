@@ -1,7 +1,6 @@
 //! Certificates of loops, with a line edited.
 use crate::edit::edited;
 use crate::kinds::{loops_of, read};
-use crate::surfaces::torus;
 use crate::texts::{chosen, lighter};
 use std::alloc::Global;
 use std::test::Fail;
@@ -9,6 +8,7 @@ use surf_base::{FaceId, VertexId};
 use surf_cert::LoopCert;
 use surf_certcheck::{CertFault, CertPart, check_loops};
 use surf_lengths::unit_lengths;
+use surf_samples::{surface, torus};
 
 // The certificate of a text.
 fn cert_of(alloc: Global, text: &[u8]) -> Result<LoopCert, Fail> {
@@ -19,7 +19,7 @@ fn cert_of(alloc: Global, text: &[u8]) -> Result<LoopCert, Fail> {
 // What the checker says of the certificate of a text.
 fn judged(alloc: Global, text: &[u8]) -> Result<Result<u128, CertFault>, Fail> {
     let cert = cert_of(alloc, text)?;
-    let mesh = torus(alloc)?;
+    let mesh = surface(alloc, 9, torus())?;
     let lengths = unit_lengths(alloc, &mesh).ok().ok_or("memory")?;
     Ok(check_loops(alloc, &mesh, &lengths, &cert))
 }

@@ -1,5 +1,6 @@
 //! A turning of a surface, or a chain that shows that there is none.
 ghost use Rattle.std.specs.Prelude.{◌≡◌, ◌<◌, ◌++◌, [], ℕ, length, map, get_or, not, OnOk, IfOk, MatchOption};
+ghost use Rattle.std.specs.Prelude.{false, replicate};
 ghost use Rattle.surf_surfaces.specs.Surface.{face_count, edge_count, ends, IsTurning};
 ghost use Rattle.surf_surfaces.specs.SideNumber.{side_count, IsEdgeOf};
 ghost use Rattle.surf_turnings.specs.Chains.{Fits, misfit, links_up, links_down, tree_chain};
@@ -116,9 +117,30 @@ fn close(alloc: Global, mesh: &HalfMesh, tree: &FaceTree, edge: EdgeId) -> Resul
     Ok(Chain::from_links(links))
 }
 
-/// A turning exactly where the surface has one, and else a one-sided chain, which excludes every
-/// turning. The time is linear in the number of sides.
-pub fn orient(alloc: Global, mesh: &HalfMesh) -> Result<Sides, NoMemory>
+// A flag for each face, so that none is turned over.
+fn no_flags(alloc: Global, mesh: &HalfMesh) -> Result<Vec<bool>, NoMemory>
+    ensures { IfOk result (λ flags. flags.items ≡ replicate (face_count mesh.now) false) }
+{
+    let flags = vec![in alloc; false; mesh.faces() as usize]?;
+    Ok(flags)
+}
+
+// The turning that turns no face over, if it is one. Most meshes are so, and then need no tree.
+fn plain_turning(alloc: Global, mesh: &HalfMesh) -> Result<Option<Turning>, NoMemory>
+    ensures { IfOk result (λ found. let plain = replicate (face_count mesh.now) false in
+        MatchOption found (IsTurning mesh.now (flag_of plain) → ⊥)
+        (λ turning. (turning ≡ plain) × IsTurning mesh.now (flag_of plain))) }
+{
+    mesh.law_of_surface();
+    let flags = no_flags(alloc, mesh)?;
+    match first_misfit(mesh, &flags) {
+        None => Ok(Some(Turning::from_flags(flags))),
+        Some(_) => Ok(None),
+    }
+}
+
+// The same as `orient`, by a tree of the faces.
+fn orient_by_tree(alloc: Global, mesh: &HalfMesh) -> Result<Sides, NoMemory>
     ensures { IfOk result (λ s. AreSides mesh.now s) }
 {
     mesh.law_of_surface();
@@ -126,5 +148,16 @@ pub fn orient(alloc: Global, mesh: &HalfMesh) -> Result<Sides, NoMemory>
     match first_misfit(mesh, &tree.flags) {
         None => Ok(Sides::Two(Turning::from_flags(tree.flags))),
         Some(edge) => Ok(Sides::One(close(alloc, mesh, &tree, edge)?)),
+    }
+}
+
+/// A turning exactly where the surface has one, and else a one-sided chain, which excludes every
+/// turning. The time is linear in the number of sides.
+pub fn orient(alloc: Global, mesh: &HalfMesh) -> Result<Sides, NoMemory>
+    ensures { IfOk result (λ s. AreSides mesh.now s) }
+{
+    match plain_turning(alloc, mesh)? {
+        Some(turning) => Ok(Sides::Two(turning)),
+        None => orient_by_tree(alloc, mesh),
     }
 }

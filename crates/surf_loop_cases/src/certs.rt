@@ -2,8 +2,6 @@
 ghost use Rattle.std.specs.Prelude.{◌<◌};
 
 use crate::faces::{Rows, left, rows};
-use crate::meshes::surface;
-use crate::samples::{Faces, tetrahedron, torus};
 use std::alloc::Global;
 use std::test::Fail;
 use surf_base::{NoMemory, VertexId};
@@ -11,6 +9,7 @@ use surf_cert::{DualRows, LoopCert, TreeRows};
 use surf_lengths::unit_lengths;
 use surf_loops::LoopDesk;
 use surf_mesh::HalfMesh;
+use surf_samples::{Faces, surface, tetrahedron, torus};
 
 // The certificate of the loops at a vertex.
 fn cert_at(alloc: Global, mesh: &HalfMesh, base: VertexId) -> Result<LoopCert, NoMemory>

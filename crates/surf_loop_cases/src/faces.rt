@@ -4,13 +4,12 @@ ghost use Rattle.std.specs.Prelude.{◌<◌};
 ghost use Rattle.surf_cotree.specs.Tables.{AreCotreeTables};
 
 use crate::loops::loops_at;
-use crate::meshes::surface;
-use crate::samples::torus;
 use std::alloc::Global;
 use std::test::Fail;
 use surf_base::{EdgeId, FaceId, NoMemory, VertexId};
 use surf_cotree::CotreeDesk;
 use surf_mesh::HalfMesh;
+use surf_samples::{surface, torus};
 
 // The ends of an edge.
 fn ends(mesh: &HalfMesh, edge: EdgeId) -> Option<(u32, u32)> {

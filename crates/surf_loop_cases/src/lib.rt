@@ -9,8 +9,4 @@ mod faces;
 #[cfg(test)]
 mod loops;
 #[cfg(test)]
-mod meshes;
-#[cfg(test)]
 mod openings;
-#[cfg(test)]
-mod samples;

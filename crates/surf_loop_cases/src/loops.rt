@@ -3,14 +3,13 @@ ghost use Rattle.std.specs.Prelude.{◌<◌, replicate, IfOk};
 ghost use Rattle.surf_surfaces.specs.Surface.{edge_count};
 ghost use Rattle.surf_loops.specs.Loops.{IsGreedy};
 
-use crate::meshes::surface;
-use crate::samples::{Faces, projective, tetrahedron, torus};
 use std::alloc::Global;
 use std::test::Fail;
 use surf_base::{NoMemory, VertexId};
 use surf_lengths::unit_lengths;
 use surf_loops::{LoopDesk, LoopHead};
 use surf_mesh::HalfMesh;
+use surf_samples::{Faces, projective, surface, tetrahedron, torus};
 
 /// A desk with the loops at a vertex.
 pub(crate) fn loops_at(alloc: Global, mesh: &HalfMesh, base: VertexId) -> Result<LoopDesk, NoMemory>

@@ -5,14 +5,13 @@ ghost use Rattle.surf_surfaces.specs.Surface.{edge_count};
 ghost use Rattle.surf_cutter.specs.Opened.{IsHeld};
 
 use crate::loops::loops_at;
-use crate::meshes::surface;
-use crate::samples::{Faces, pillow, projective, tetrahedron, torus};
 use std::alloc::Global;
 use std::test::Fail;
 use surf_base::{CopyId, FaceId, NoMemory, SideId, VertexId};
 use surf_cotree::CotreeDesk;
 use surf_cutter::{Opened, cut_full, cut_trim};
 use surf_mesh::HalfMesh;
+use surf_samples::{Faces, pillow, projective, surface, tetrahedron, torus};
 
 // What is cut.
 #[derive(Clone, Copy, PartialEq, Eq)]

@@ -2,7 +2,7 @@
 use std::alloc::Global;
 use std::test::Fail;
 use surf_base::{FaceId, VertexId};
-use surf_samples::{OPEN, PILLOW, TETRAHEDRON, soup};
+use surf_samples::{Faces, open, pillow, soup, tetrahedron};
 use surf_soup::{PairFault, pair_edges};
 
 // The edges, or the fault.
@@ -28,13 +28,13 @@ fn have_ends(edges: &[(VertexId, VertexId)], want: &[(u32, u32)]) -> bool {
 #[test]
 fn edges_are_paired(rt: HostRuntime) -> Result<(), Fail> {
     let alloc = rt.alloc();
-    let cases: [(u32, &[(u32, u32, u32)], &[(u32, u32)]); 2] = [
+    let cases: [(u32, Faces, &[(u32, u32)]); 2] = [
         (
             4,
-            &TETRAHEDRON,
+            tetrahedron(),
             &[(0, 1), (0, 2), (0, 3), (1, 2), (1, 3), (2, 3)],
         ),
-        (3, &PILLOW, &[(0, 1), (0, 2), (1, 2)]),
+        (3, pillow(), &[(0, 1), (0, 2), (1, 2)]),
     ];
     for (vertices, faces, want) in cases {
         let edges = pairs(alloc, vertices, faces)?.ok().ok_or("no pairs")?;
@@ -49,9 +49,9 @@ fn faults_of_pairs(rt: HostRuntime) -> Result<(), Fail> {
     let alloc = rt.alloc();
     let (u, v) = (VertexId::new(1), VertexId::new(2));
     let face = FaceId::new(0);
-    let cases: [(u32, &[(u32, u32, u32)], PairFault); 2] = [
+    let cases: [(u32, Faces, PairFault); 2] = [
         (0, &[], PairFault::Empty),
-        (4, &OPEN, PairFault::Border { u, v, face }),
+        (4, open(), PairFault::Border { u, v, face }),
     ];
     for (vertices, faces, want) in cases {
         assert_eq!(rt; pairs(alloc, vertices, faces)?.err(), Some(want));

@@ -4,7 +4,7 @@ use std::test::Fail;
 use surf_base::{EdgeId, FaceId};
 use surf_gen::{chain, made_lengths, torus};
 use surf_mesh::HalfMesh;
-use surf_samples::TORUS;
+use surf_samples::torus as torus_of_nine;
 use surf_soup::Soup;
 
 // Whether a face has these corners.
@@ -24,8 +24,8 @@ fn has_corners(soup: &Soup, f: u32, want: [u32; 3]) -> bool {
 fn torus_has_its_faces(rt: HostRuntime) -> Result<(), Fail> {
     let soup = torus(rt.alloc(), 3, 3)?;
     assert_eq!(rt; (soup.vertices(), soup.faces()), (9, 18));
-    for (f, (a, b, c)) in (0u32..18).zip(TORUS) {
-        assert!(rt; has_corners(&soup, f, [a, b, c]));
+    for (f, (a, b, c)) in (0u32..18).zip(torus_of_nine()) {
+        assert!(rt; has_corners(&soup, f, [*a, *b, *c]));
     }
     Ok(())
 }

@@ -1,13 +1,16 @@
 //! Cuts that are sewn, and faults of their copies.
-ghost use Rattle.std.specs.Prelude.{◌≤◌, length};
+ghost use Rattle.std.specs.Prelude.{◌≡◌, ◌<◌, ◌≤◌, ◌^◌, length};
+ghost use Rattle.surf_sew.specs.Sewing.{HaveCopies};
 
 use std::alloc::Global;
 use std::test::Fail;
 use surf_base::{CopyId, FaceId, VertexId};
 use surf_check::check;
-use surf_off::read_off;
-use surf_samples::TORUS_TEXT;
+use surf_mesh::HalfMesh;
+use surf_off::{OffText, read_off};
+use surf_samples::torus_text;
 use surf_sew::{CopyFault, SewFault, read_copies, sew, write_sewn};
+use surf_soup::Soup;
 use surf_text::Page;
 
 // Two triangles glued along their three edges, and their cut.
@@ -49,39 +52,60 @@ const MIXED_CUT: &[u8] = b"\
         # copy 0 from 2\r\nOFF # copy 1 from 9\n4 2 5\n0 1 0\n#\tcopy\t01  from 1\n1 0 0\n # copy 2 from 000\n\
         0 0 0 # a copy\n#copy 3 from 3\n0 0 0\n3 2 1 0\n# copies\n3 3 0 1\n#  copy 3 from 0";
 
-// What is written of a text that is sewn.
-fn sewn(alloc: Global, text: &[u8]) -> Result<Vec<u8>, Fail> {
-    if text.len() > 10_000 {
-        return Err("a short text")?;
-    }
-    let Ok((off, soup)) = read_off(alloc, text) else {
-        return Err("a text")?;
-    };
-    let Ok(origins) = read_copies(alloc, text, soup.vertices()) else {
-        return Err("copies")?;
-    };
-    let Ok(sewn) = sew(alloc, &off, &soup, &origins) else {
-        return Err("a soup")?;
-    };
-    let Ok(mesh) = check(alloc, sewn) else {
-        return Err("a surface")?;
-    };
+// What is written of a surface that was sewn.
+fn written(
+    alloc: Global,
+    off: &OffText<'_>,
+    origins: &[VertexId],
+    mesh: &HalfMesh,
+) -> Option<Vec<u8>>
+    requires countable { length origins.now < 2 ^ 32 }
+    requires faces { length mesh.now.faces ≡ length off.now.colours }
+    requires origins { length origins.now ≡ length off.now.vertex_lines }
+    requires copies { HaveCopies origins.now mesh.now.vertices }
+{
     let mut page = Page::make(alloc, 10_000);
-    match write_sewn(&mut page, &off, &origins, &mesh) {
-        Ok(()) => Ok(page.into_bytes()),
-        Err(_) => Err("a page")?,
+    write_sewn(&mut page, off, origins, mesh).ok()?;
+    Some(page.into_bytes())
+}
+
+// The same of copies and their origins.
+fn written_of(
+    alloc: Global,
+    off: &OffText<'_>,
+    copies: &Soup,
+    origins: &[VertexId],
+) -> Option<Vec<u8>>
+    requires countable { length origins.now < 2 ^ 32 }
+    requires lines { length off.now.vertex_lines ≡ copies.now.vertices }
+    requires colours { length off.now.colours ≡ length copies.now.faces }
+    requires origins { length origins.now ≡ copies.now.vertices }
+{
+    let sewn = sew(alloc, off, copies, origins).ok()?;
+    let mesh = check(alloc, sewn).ok()?;
+    written(alloc, off, origins, &mesh)
+}
+
+// What is written of a text that is sewn.
+fn sewn(alloc: Global, text: &[u8]) -> Option<Vec<u8>> {
+    if text.len() > 10_000 {
+        return None;
     }
+    let (off, copies) = read_off(alloc, text).ok()?;
+    let origins = read_copies(alloc, text, copies.vertices()).ok()?;
+    written_of(alloc, &off, &copies, &origins)
 }
 
 #[test]
 fn cuts_are_sewn(rt: HostRuntime) -> Result<(), Fail> {
     for (cut, mesh) in [
         (PILLOW_CUT, PILLOW),
-        (TORUS_CUT, TORUS_TEXT.as_bytes()),
+        (TORUS_CUT, torus_text().as_bytes()),
         (COLOURED_CUT, COLOURED),
         (MIXED_CUT, PILLOW),
     ] {
-        assert_eq!(rt; sewn(rt.alloc(), cut)?.as_slice(), mesh);
+        let text = sewn(rt.alloc(), cut).ok_or("a surface")?;
+        assert_eq!(rt; text.as_slice(), mesh);
     }
     Ok(())
 }

@@ -2,7 +2,7 @@
 use std::alloc::Global;
 use std::test::Fail;
 use surf_base::VertexId;
-use surf_cert::{Cert, CertText, read_cert, write_basis_cert, write_loop_cert};
+use surf_cert::{Cert, CertText, LoopCert, read_cert, write_basis_cert, write_loop_cert};
 use surf_text::{Lines, Page, PageFault};
 
 // The loops at vertex 0 of a torus of 3 by 3 vertices, each edge of length 1.
@@ -54,6 +54,16 @@ fn fault(alloc: Global, text: &[u8], place: u32, new: &[u8]) -> Result<Option<Ce
     Ok(read_cert(alloc, &text).err())
 }
 
+// How a certificate is written on a page of so many bytes: the fault, if there is one, and whether
+// the whole text stands there; none where it isn't a front of the text.
+fn copies(alloc: Global, text: &[u8], most: u64) -> Result<(Option<PageFault>, bool), Fail> {
+    let (page, fault) = copied(alloc, text, most)?;
+    if !text.starts_with(page.bytes()) {
+        return Err("another text")?;
+    }
+    Ok((fault, page.bytes().len() == text.len()))
+}
+
 // Reads a certificate and writes it on a page of so many bytes.
 fn copied(alloc: Global, text: &[u8], most: u64) -> Result<(Page, Option<PageFault>), Fail> {
     if text.len() > 10_000 {
@@ -73,14 +83,20 @@ fn copied(alloc: Global, text: &[u8], most: u64) -> Result<(Page, Option<PageFau
 #[test]
 fn written_again(rt: HostRuntime) -> Result<(), Fail> {
     for text in [torus(), loops(), basis()] {
-        let (page, fault) = copied(rt.alloc(), text, 1000)?;
-        assert_eq!(rt; fault, None);
-        assert_eq!(rt; page.bytes(), text);
-        let (page, fault) = copied(rt.alloc(), text, 50)?;
-        assert_eq!(rt; fault, Some(PageFault::Full));
-        assert!(rt; text.starts_with(page.bytes()));
+        assert_eq!(rt; copies(rt.alloc(), text, 1000)?, (None, true));
+        assert_eq!(rt; copies(rt.alloc(), text, 50)?, (Some(PageFault::Full), false));
     }
     Ok(())
+}
+
+// Whether there are one vertex row at base 9, one face row and one left edge.
+fn has_one_of_each(cert: &LoopCert) -> bool {
+    cert.tree().base() == VertexId::new(9)
+        && cert.tree().distance() == [7].as_slice()
+        && cert.tree().parent().len() == 1
+        && cert.dual().depth() == [2].as_slice()
+        && cert.dual().side().len() == 1
+        && cert.left().len() == 1
 }
 
 #[test]
@@ -94,12 +110,7 @@ fn parts(rt: HostRuntime) -> Result<(), Fail> {
     let Cert::Loops(cert) = cert else {
         return Err("loops")?;
     };
-    assert_eq!(rt; cert.tree().base(), VertexId::new(9));
-    assert_eq!(rt; cert.tree().distance(), [7].as_slice());
-    assert_eq!(rt; cert.tree().parent().len(), 1);
-    assert_eq!(rt; cert.dual().depth(), [2].as_slice());
-    assert_eq!(rt; cert.dual().side().len(), 1);
-    assert_eq!(rt; cert.left().len(), 1);
+    assert!(rt; has_one_of_each(&cert));
     Ok(())
 }
 

@@ -1,16 +1,52 @@
-//! Tables of faces.
+//! Tables of faces. Each constant is named in one function alone, since a proof copies a constant
+//! wherever it is named.
+
+/// Triangles, by their corners.
+pub type Faces = &'static [(u32, u32, u32)];
 
 /// Two triangles with the same sides, on 3 vertices.
-pub const PILLOW: [(u32, u32, u32); 2] = [(0, 1, 2), (0, 2, 1)];
+pub fn pillow() -> Faces {
+    &PILLOW
+}
 
 /// The tetrahedron: four triangles, on 4 vertices.
-pub const TETRAHEDRON: [(u32, u32, u32); 4] = [(0, 1, 2), (0, 3, 1), (0, 2, 3), (1, 3, 2)];
+pub fn tetrahedron() -> Faces {
+    &TETRAHEDRON
+}
 
 /// The tetrahedron without its last face.
-pub const OPEN: [(u32, u32, u32); 3] = [(0, 1, 2), (0, 3, 1), (0, 2, 3)];
+pub fn open() -> Faces {
+    &OPEN
+}
 
 /// Two tetrahedra that share the edge of 0 and 1, so that it has four faces, on 6 vertices.
-pub const CROWDED: [(u32, u32, u32); 8] = [
+pub fn crowded() -> Faces {
+    &CROWDED
+}
+
+/// The projective plane of six vertices.
+pub fn projective() -> Faces {
+    &PROJECTIVE
+}
+
+/// The torus of Möbius and Császár, of seven vertices.
+pub fn seven() -> Faces {
+    &SEVEN
+}
+
+/// The torus of three rows and three columns of vertices, numbered row by row, with two triangles
+/// in each cell.
+pub fn torus() -> Faces {
+    &TORUS
+}
+
+const PILLOW: [(u32, u32, u32); 2] = [(0, 1, 2), (0, 2, 1)];
+
+const TETRAHEDRON: [(u32, u32, u32); 4] = [(0, 1, 2), (0, 3, 1), (0, 2, 3), (1, 3, 2)];
+
+const OPEN: [(u32, u32, u32); 3] = [(0, 1, 2), (0, 3, 1), (0, 2, 3)];
+
+const CROWDED: [(u32, u32, u32); 8] = [
     (0, 1, 2),
     (0, 3, 1),
     (0, 2, 3),
@@ -21,8 +57,7 @@ pub const CROWDED: [(u32, u32, u32); 8] = [
     (1, 5, 4),
 ];
 
-/// The projective plane of six vertices.
-pub const PROJECTIVE: [(u32, u32, u32); 10] = [
+const PROJECTIVE: [(u32, u32, u32); 10] = [
     (0, 1, 2),
     (0, 2, 3),
     (0, 3, 4),
@@ -35,8 +70,7 @@ pub const PROJECTIVE: [(u32, u32, u32); 10] = [
     (1, 3, 5),
 ];
 
-/// The torus of Möbius and Császár, of seven vertices.
-pub const SEVEN: [(u32, u32, u32); 14] = [
+const SEVEN: [(u32, u32, u32); 14] = [
     (0, 1, 3),
     (0, 3, 2),
     (1, 2, 4),
@@ -53,9 +87,7 @@ pub const SEVEN: [(u32, u32, u32); 14] = [
     (6, 2, 1),
 ];
 
-/// The torus of three rows and three columns of vertices, numbered row by row, with two triangles
-/// in each cell.
-pub const TORUS: [(u32, u32, u32); 18] = [
+const TORUS: [(u32, u32, u32); 18] = [
     (0, 3, 4),
     (0, 4, 1),
     (1, 4, 5),

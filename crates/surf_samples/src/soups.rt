@@ -1,6 +1,8 @@
-//! The soup of a table of faces.
+//! The soup and the surface of a table of faces.
 use std::alloc::Global;
 use surf_base::{NoMemory, VertexId};
+use surf_check::check;
+use surf_mesh::HalfMesh;
 use surf_soup::Soup;
 
 fn push(soup: &mut Soup, a: u32, b: u32, c: u32) -> Result<(), NoMemory> {
@@ -20,4 +22,19 @@ pub fn soup(alloc: Global, vertices: u32, faces: &[(u32, u32, u32)]) -> Result<S
         push(&mut soup, *a, *b, *c)?;
     }
     Ok(soup)
+}
+
+/// The surface that they are, or in a word why there is none.
+pub fn surface(
+    alloc: Global,
+    vertices: u32,
+    faces: &[(u32, u32, u32)],
+) -> Result<HalfMesh, &'static str> {
+    let Ok(soup) = soup(alloc, vertices, faces) else {
+        return Err("no room");
+    };
+    match check(alloc, soup) {
+        Ok(mesh) => Ok(mesh),
+        Err(_) => Err("no surface"),
+    }
 }

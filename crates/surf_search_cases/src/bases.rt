@@ -2,13 +2,12 @@
 ghost use Rattle.std.specs.Prelude.{◌≡◌, ◌≤◌, ◌+◌, IsTrue, length};
 ghost use Rattle.surf_surfaces.specs.Surface.{edge_count, face_count};
 
-use crate::meshes::surface;
-use crate::samples::{Faces, projective, scattered, seven, tetrahedron, torus, unit};
 use std::alloc::Global;
 use std::test::Fail;
 use surf_basis::{Cycle, least_basis, least_nonseparating};
 use surf_lengths::{Lengths, read_lengths};
 use surf_mesh::HalfMesh;
+use surf_samples::{Faces, projective, scattered, seven, surface, tetrahedron, torus, unit};
 
 /// The lengths and walks of a basis.
 type Cycles = &'static [(u64, &'static [u32])];
@@ -65,21 +64,12 @@ fn has_first(alloc: Global, mesh: &HalfMesh, lengths: &Lengths, wanted: &[(u64, 
 
 // Whether the basis and the shortest cycle of a surface, with the lengths of a text, are as they
 // should be.
-fn answers(
-    alloc: Global,
-    vertices: u32,
-    faces: Faces,
-    text: &str,
-    wanted: Cycles,
-) -> Result<bool, Fail> {
+fn answers(alloc: Global, mesh: &HalfMesh, text: &str, wanted: Cycles) -> Option<bool> {
     if text.len() > 1_000 {
-        return Ok(false);
+        return None;
     }
-    let mesh = surface(alloc, vertices, faces)?;
-    let lengths = read_lengths(alloc, text.as_bytes(), &mesh)
-        .ok()
-        .ok_or("lengths")?;
-    Ok(has_basis(alloc, &mesh, &lengths, wanted) && has_first(alloc, &mesh, &lengths, wanted))
+    let lengths = read_lengths(alloc, text.as_bytes(), mesh).ok()?;
+    Some(has_basis(alloc, mesh, &lengths, wanted) && has_first(alloc, mesh, &lengths, wanted))
 }
 
 #[test]
@@ -108,7 +98,8 @@ fn bases_of_small_surfaces(rt: HostRuntime) -> Result<(), Fail> {
         ),
     ];
     for (vertices, faces, text, wanted) in cases {
-        assert!(rt; answers(alloc, vertices, faces, text, wanted)?);
+        let mesh = surface(alloc, vertices, faces)?;
+        assert_eq!(rt; answers(alloc, &mesh, text, wanted), Some(true));
     }
     Ok(())
 }

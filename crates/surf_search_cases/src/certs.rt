@@ -1,15 +1,14 @@
 //! Certificates of the bases of small surfaces.
 
 use crate::bases::fit;
-use crate::meshes::surface;
-use crate::samples::{Faces, scattered, tetrahedron, torus, unit};
 use std::alloc::Global;
 use std::test::Fail;
 use surf_base::VertexId;
 use surf_basis::basis_cert;
 use surf_cert::{BasisCert, DualRows, TreeRows};
 use surf_lengths::read_lengths;
-use surf_mesh::Walk;
+use surf_mesh::{HalfMesh, Walk};
+use surf_samples::{Faces, scattered, surface, tetrahedron, torus, unit};
 
 fn pair_of(pair: (u32, u32)) -> (VertexId, VertexId) {
     (VertexId::new(pair.0), VertexId::new(pair.1))
@@ -72,33 +71,31 @@ struct Wanted {
     faces: &'static [(u32, Option<(u32, u32)>)],
 }
 
-// What of the trees isn't as wanted, or nothing.
-fn difference(cert: &BasisCert, want: &Wanted) -> &'static str {
-    if cert.trees().len() != want.vertices.len() {
-        return "trees";
+// The certificate of the basis of a surface, with the lengths of a text.
+fn cert_of(alloc: Global, mesh: &HalfMesh, text: &str) -> Option<BasisCert> {
+    if text.len() > 1_000 {
+        return None;
     }
-    if !tree_is(cert.trees(), want.place, want.vertices) {
-        return "vertices";
+    let lengths = read_lengths(alloc, text.as_bytes(), mesh).ok()?;
+    if !fit(mesh, &lengths) {
+        return None;
     }
-    if !faces_begin(cert.dual(), want.faces) {
-        return "faces";
-    }
-    ""
+    basis_cert(alloc, mesh, &lengths).ok()
 }
 
-// The certificate of the basis of a surface.
-fn cert_of(alloc: Global, vertices: u32, faces: Faces, text: &str) -> Result<BasisCert, Fail> {
-    if text.len() > 1_000 {
-        return Err("a long text")?;
+// What of the trees, each edge of length 1, isn't as wanted, or nothing.
+fn difference(alloc: Global, mesh: &HalfMesh, want: &Wanted) -> Option<&'static str> {
+    let cert = cert_of(alloc, mesh, unit())?;
+    if cert.trees().len() != want.vertices.len() {
+        return Some("trees");
     }
-    let mesh = surface(alloc, vertices, faces)?;
-    let lengths = read_lengths(alloc, text.as_bytes(), &mesh)
-        .ok()
-        .ok_or("lengths")?;
-    if !fit(&mesh, &lengths) {
-        return Err("lengths of another mesh")?;
+    if !tree_is(cert.trees(), want.place, want.vertices) {
+        return Some("vertices");
     }
-    Ok(basis_cert(alloc, &mesh, &lengths).ok().ok_or("room")?)
+    if !faces_begin(cert.dual(), want.faces) {
+        return Some("faces");
+    }
+    Some("")
 }
 
 // The tree at vertex 4 of the torus, each edge of length 1.
@@ -142,8 +139,8 @@ fn trees_of_vertices_and_faces(rt: HostRuntime) -> Result<(), Fail> {
         (4, tetrahedron(), of_tetrahedron()),
     ];
     for (vertices, faces, want) in cases {
-        let cert = cert_of(alloc, vertices, faces, unit())?;
-        assert_eq!(rt; difference(&cert, &want), "");
+        let mesh = surface(alloc, vertices, faces)?;
+        assert_eq!(rt; difference(alloc, &mesh, &want), Some(""));
     }
     Ok(())
 }
@@ -157,6 +154,18 @@ type Case = (
     &'static [(u32, u32)],
     &'static [&'static [u32]],
 );
+
+// Whether the certificate has these left edges and cycles.
+fn are_of(
+    alloc: Global,
+    mesh: &HalfMesh,
+    text: &str,
+    left: &[(u32, u32)],
+    cycles: &[&[u32]],
+) -> Option<bool> {
+    let cert = cert_of(alloc, mesh, text)?;
+    Some(left_are(cert.left(), left) && are_walks(cert.cycles(), cycles))
+}
 
 #[test]
 fn left_edges_and_cycles(rt: HostRuntime) -> Result<(), Fail> {
@@ -179,8 +188,8 @@ fn left_edges_and_cycles(rt: HostRuntime) -> Result<(), Fail> {
         (4, tetrahedron(), unit(), &[], &[]),
     ];
     for (vertices, faces, text, left, cycles) in cases {
-        let cert = cert_of(alloc, vertices, faces, text)?;
-        assert!(rt; left_are(cert.left(), left) && are_walks(cert.cycles(), cycles));
+        let mesh = surface(alloc, vertices, faces)?;
+        assert_eq!(rt; are_of(alloc, &mesh, text, left, cycles), Some(true));
     }
     Ok(())
 }

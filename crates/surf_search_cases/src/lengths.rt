@@ -1,10 +1,10 @@
 //! Length files for a tetrahedron.
-use crate::meshes::surface;
-use crate::samples::tetrahedron;
 use std::alloc::Global;
 use std::test::Fail;
 use surf_base::{EdgeId, VertexId};
 use surf_lengths::{LengthFault, Lengths, read_lengths, unit_lengths};
+use surf_mesh::HalfMesh;
+use surf_samples::{surface, tetrahedron};
 
 // The lengths of the edges, in order, or nothing where there aren't six.
 fn six(lengths: &Lengths) -> Option<[u32; 6]> {
@@ -21,21 +21,13 @@ fn six(lengths: &Lengths) -> Option<[u32; 6]> {
     ])
 }
 
-// What is read of a text, which is `Memory` for a long one.
-fn read(alloc: Global, text: &str) -> Result<Result<Lengths, LengthFault>, Fail> {
-    let mesh = surface(alloc, 4, tetrahedron())?;
+// The lengths of the six edges, in order, or the fault; `Memory` for a long text.
+fn lengths_of(alloc: Global, mesh: &HalfMesh, text: &str) -> Result<[u32; 6], LengthFault> {
     if text.len() > 1_000 {
-        return Ok(Err(LengthFault::Memory));
+        return Err(LengthFault::Memory);
     }
-    Ok(read_lengths(alloc, text.as_bytes(), &mesh))
-}
-
-// The lengths of the six edges, in order, or the fault.
-fn lengths_of(alloc: Global, text: &str) -> Result<Result<[u32; 6], LengthFault>, Fail> {
-    match read(alloc, text)? {
-        Ok(lengths) => Ok(six(&lengths).ok_or(LengthFault::Memory)),
-        Err(fault) => Ok(Err(fault)),
-    }
+    let lengths = read_lengths(alloc, text.as_bytes(), mesh)?;
+    six(&lengths).ok_or(LengthFault::Memory)
 }
 
 #[test]
@@ -52,8 +44,9 @@ fn lengths_are_read(rt: HostRuntime) -> Result<(), Fail> {
             [7, 7, 7, 7, 7, 1],
         ),
     ];
+    let mesh = surface(alloc, 4, tetrahedron())?;
     for (text, want) in cases {
-        assert_eq!(rt; lengths_of(alloc, text)?, Ok(want));
+        assert_eq!(rt; lengths_of(alloc, &mesh, text), Ok(want));
     }
     Ok(())
 }
@@ -101,17 +94,23 @@ fn the_first_fault_decides(rt: HostRuntime) -> Result<(), Fail> {
             LengthFault::Form { line: 3 },
         ),
     ];
+    let mesh = surface(alloc, 4, tetrahedron())?;
     for (text, want) in cases {
-        assert_eq!(rt; lengths_of(alloc, text)?, Err(want));
+        assert_eq!(rt; lengths_of(alloc, &mesh, text), Err(want));
     }
     Ok(())
+}
+
+// The lengths of the six edges where all are 1.
+fn all_one(alloc: Global, mesh: &HalfMesh) -> Option<[u32; 6]> {
+    let lengths = unit_lengths(alloc, mesh).ok()?;
+    six(&lengths)
 }
 
 #[test]
 fn unit_lengths_are_one(rt: HostRuntime) -> Result<(), Fail> {
     let alloc = rt.alloc();
     let mesh = surface(alloc, 4, tetrahedron())?;
-    let lengths = unit_lengths(alloc, &mesh).ok().ok_or("room")?;
-    assert_eq!(rt; six(&lengths), Some([1, 1, 1, 1, 1, 1]));
+    assert_eq!(rt; all_one(alloc, &mesh), Some([1; 6]));
     Ok(())
 }

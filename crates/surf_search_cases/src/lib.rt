@@ -9,8 +9,4 @@ mod certs;
 #[cfg(test)]
 mod lengths;
 #[cfg(test)]
-mod meshes;
-#[cfg(test)]
-mod samples;
-#[cfg(test)]
 mod trees;

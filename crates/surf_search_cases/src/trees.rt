@@ -1,28 +1,31 @@
 //! Trees of a tetrahedron.
-use crate::meshes::surface;
-use crate::samples::{tetrahedron, unit};
 use std::alloc::Global;
 use std::test::Fail;
 use surf_base::VertexId;
 use surf_lengths::read_lengths;
+use surf_mesh::HalfMesh;
+use surf_samples::{surface, tetrahedron, unit};
 use surf_tree::TreeDesk;
 
 // The distance and the parent of a vertex in the tree at a base.
-fn place(alloc: Global, text: &str, base: u32, vertex: u32) -> Result<(u64, Option<u32>), Fail> {
-    let mesh = surface(alloc, 4, tetrahedron())?;
+fn place(
+    alloc: Global,
+    mesh: &HalfMesh,
+    text: &str,
+    base: u32,
+    vertex: u32,
+) -> Option<(u64, Option<u32>)> {
     if text.len() > 1_000 || base >= mesh.vertices() || vertex >= mesh.vertices() {
-        return Ok((0, None));
+        return None;
     }
-    let lengths = read_lengths(alloc, text.as_bytes(), &mesh)
-        .ok()
-        .ok_or("lengths")?;
-    let mut desk = TreeDesk::make(alloc, &mesh).ok().ok_or("room")?;
+    let lengths = read_lengths(alloc, text.as_bytes(), mesh).ok()?;
+    let mut desk = TreeDesk::make(alloc, mesh).ok()?;
     if lengths.count() != mesh.edges() {
-        return Ok((0, None));
+        return None;
     }
-    desk.grow(&mesh, &lengths, VertexId::new(base));
+    desk.grow(mesh, &lengths, VertexId::new(base));
     let v = VertexId::new(vertex);
-    Ok((desk.distance(v), desk.parent(v).map(VertexId::number)))
+    Some((desk.distance(v), desk.parent(v).map(VertexId::number)))
 }
 
 #[test]
@@ -44,8 +47,10 @@ fn trees_on_a_tetrahedron(rt: HostRuntime) -> Result<(), Fail> {
         (tied, 0, 2, 1, Some(0)),
         (tied, 0, 3, 4, Some(1)),
     ];
+    let mesh = surface(alloc, 4, tetrahedron())?;
     for (text, base, vertex, distance, parent) in cases {
-        assert_eq!(rt; place(alloc, text, base, vertex)?, (distance, parent));
+        let found = place(alloc, &mesh, text, base, vertex);
+        assert_eq!(rt; found, Some((distance, parent)));
     }
     Ok(())
 }
