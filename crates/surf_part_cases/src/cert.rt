@@ -84,7 +84,10 @@ fn copied(alloc: Global, text: &[u8], most: u64) -> Result<(Page, Option<PageFau
 fn written_again(rt: HostRuntime) -> Result<(), Fail> {
     for text in [torus(), loops(), basis()] {
         assert_eq!(rt; copies(rt.alloc(), text, 1000)?, (None, true));
-        assert_eq!(rt; copies(rt.alloc(), text, 50)?, (Some(PageFault::Full), false));
+        assert_eq!(rt;
+            copies(rt.alloc(), text, 50)?,
+            (Some(PageFault::Full), false)
+        );
     }
     Ok(())
 }

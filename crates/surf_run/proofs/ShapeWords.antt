@@ -106,16 +106,71 @@ rows_are_well_shaped (row call effect request ∷ others) words shaped =
 
 -- row by row
 table_is_well_shaped : AllByRecursion IsShapedRow command_table
-table_is_well_shaped =
-    (λ w. tt, (at_base_is Distances, (at_base_is LeastLoops, (λ w. tt, (λ w. tt,
-    (at_base_is (Cut Full), (at_base_is (Cut Trimmed), (λ w. tt, (λ w. tt, (λ w. tt, (λ w. tt,
-    (λ w. tt, (λ w. tt, (at_base_is LoopCertificate, (λ w. tt, (λ w. tt,
-    (λ w. measures_is (w "M") (option_and_then few_decimals (word_number (w "k"))),
-    (λ w. made_is (torus_of w), (λ w. made_is (chain_of w),
-    (λ w. tried_is (torus_of w) (word_number (w "s")) (torus_is (word_number (w "a")) (word_number (w "b"))),
-    (λ w. tried_is (chain_of w) (word_number (w "s"))
-        (chain_is (word_number (w "g")) (word_number (w "a")) (word_number (w "b"))),
-    tt)))))))))))))))))))))
+table_is_well_shaped = (
+  λ w. tt,
+  (
+    at_base_is Distances,
+    (
+      at_base_is LeastLoops,
+      (
+        λ w. tt,
+        (
+          λ w. tt,
+          (
+            at_base_is (Cut Full),
+            (
+              at_base_is (Cut Trimmed),
+              (
+                λ w. tt,
+                (
+                  λ w. tt,
+                  (
+                    λ w. tt,
+                    (
+                      λ w. tt,
+                      (
+                        λ w. tt,
+                        (
+                          λ w. tt,
+                          (
+                            at_base_is LoopCertificate,
+                            (
+                              λ w. tt,
+                              (
+                                λ w. tt,
+                                (
+                                  λ w. measures_is (w "M") (option_and_then few_decimals (word_number (w "k"))),
+                                  (
+                                    λ w. made_is (torus_of w),
+                                    (
+                                      λ w. made_is (chain_of w),
+                                      (
+                                        λ w. tried_is (torus_of w) (word_number (w "s")) (torus_is (word_number (w "a")) (word_number (w "b"))),
+                                        (
+                                          λ w. tried_is (chain_of w) (word_number (w "s"))
+                                              (chain_is (word_number (w "g")) (word_number (w "a")) (word_number (w "b"))),
+                                          tt,
+                                        ),
+                                      ),
+                                    ),
+                                  ),
+                                ),
+                              ),
+                            ),
+                          ),
+                        ),
+                      ),
+                    ),
+                  ),
+                ),
+              ),
+            ),
+          ),
+        ),
+      ),
+    ),
+  ),
+)
 
 pub words_are_well_shaped : (words : List (List ℕ)) → IsWellShaped (request_of words)
 unfolding request_of

@@ -80,9 +80,9 @@ module _ (pair : ℕ → ℕ × ℕ) (order : List ℕ) (k : ℕ) (lt : k < leng
         let apart : (e : ℕ) → e < n → get_or edges e (0, 0) ≡ p → ⊥ = λ e below same. pair_lt-irreflexive (get_or (edges ++ p ∷ []) e (0, 0)) (get_or (edges ++ p ∷ []) n (0, 0)) (rises e n (0, 0) below (omega arith)) (get_or_append_left edges (p ∷ []) (0, 0) e below ∙ same ∙ sym last) in
         let few : length (take k order) ≡ k = length-take-le k order (omega arith) in
         let none : running pair (take k order) p ≡ [] = none_passes (λ t. pair_eq p (pair t)) (take k order) (λ j below.
-            let early : j < k = omega arith in
-            let r = known j early in
-            pair_eq-other p (pair (get_or (take k order) j 0)) (λ same. apart r.0 r.1 (r.2 ∙ ap pair (sym (get_or-take k order j 0 early)) ∙ sym same))) in
+        let early : j < k = omega arith in
+        let r = known j early in
+        pair_eq-other p (pair (get_or (take k order) j 0)) (λ same. apart r.0 r.1 (r.2 ∙ ap pair (sym (get_or-take k order j 0 early)) ∙ sym same))) in
         record {
           rows_are = same_lists (rows ++ (s ∷ []) ∷ []) (map after (edges ++ p ∷ [])) (length_push rows (s ∷ []) ∙ ap (λ m. m + 1) size ∙ sym long ∙ sym (length-map (edges ++ p ∷ []) after)) (λ e d below.
               let many = length_push rows (s ∷ []) in

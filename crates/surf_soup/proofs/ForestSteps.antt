@@ -25,22 +25,24 @@ module _ (parents : List ℕ) (x : ℕ) (inside : x < length parents) (falls : F
       let second : y ≤ p = twice_low in
       let size = length-set parents x y in
       let here : get_or (set parents x y) x 0 ≡ y = get_or-set_same parents x y 0 inside in
-      let up : root y ≡ root x = r.same p (omega arith) ∙ r.same x inside in
-      (record {
-        falls = falls_set parents x y falls inside (omega arith);
-        low = λ z in'. r.low z (omega arith);
-        same = λ z in'. elim (cases_eq z x) [
-          | inl e ↦ rw (e, here) up
-          | inr ne ↦ ap root (get_or-set_other parents x z y 0 ne) ∙ r.same z (omega arith)
-        ];
-        own = λ z in' is. elim (cases_eq z x) [
-          | inl e ↦
-              let back : y ≡ x = sym here ∙ (rw e at is) in
-              let stays : p ≡ x = omega arith in
-              rw e (r.own x inside stays)
-          | inr ne ↦ r.own z (omega arith) (sym (get_or-set_other parents x z y 0 ne) ∙ is)
-        ];
-      }, up)
+      let up : root y ≡ root x = r.same p (omega arith) ∙ r.same x inside in (
+        record {
+          falls = falls_set parents x y falls inside (omega arith);
+          low = λ z in'. r.low z (omega arith);
+          same = λ z in'. elim (cases_eq z x) [
+            | inl e ↦ rw (e, here) up
+            | inr ne ↦ ap root (get_or-set_other parents x z y 0 ne) ∙ r.same z (omega arith)
+          ];
+          own = λ z in' is. elim (cases_eq z x) [
+            | inl e ↦
+                let back : y ≡ x = sym here ∙ (rw e at is) in
+                let stays : p ≡ x = omega arith in
+                rw e (r.own x inside stays)
+            | inr ne ↦ r.own z (omega arith) (sym (get_or-set_other parents x z y 0 ne) ∙ is)
+          ];
+        },
+        up,
+      )
 
 module _ (parents : List ℕ) (root : ℕ → ℕ) (r : HasRoots parents root) where
   -- a root is its own parent
@@ -98,8 +100,7 @@ module _ (parents : List ℕ) (root : ℕ → ℕ) (r : HasRoots parents root) w
       let low_y = r.low y in_y in
       let own_a : get_or parents a 0 ≡ a = rw is_a (root_own x in_x) in
       let own_b : get_or parents b 0 ≡ b = rw is_b (root_own y in_y) in
-      let H : ℕ → ℕ → List ℕ → Type 0 = λ high low now. HasRoots now (λ z. cond (eqb (root z) high) low (root z)) in
-      (
+      let H : ℕ → ℕ → List ℕ → Type 0 = λ high low now. HasRoots now (λ z. cond (eqb (root z) high) low (root z)) in (
         λ lt.
             let high : b ≡ max (root x) (root y) = omega arith in
             let low : a ≡ min (root x) (root y) = omega arith in

@@ -26,8 +26,14 @@ six_texts (_ ∷ _ ∷ _ ∷ _ ∷ _ ∷ _ ∷ _ ∷ more) l m a b c d e f = abs
 
 many_texts : (words : List (List ℕ)) → 7 ≤ length words → request_of words ≡ None
 unfolding request_of
-many_texts words l = rw (other 1 (omega arith), other 2 (omega arith), other 3 (omega arith), other 4 (omega arith), other 5 (omega arith),
-    other 6 (omega arith)) refl
+many_texts words l = rw (
+  other 1 (omega arith),
+  other 2 (omega arith),
+  other 3 (omega arith),
+  other 4 (omega arith),
+  other 5 (omega arith),
+  other 6 (omega arith),
+) refl
   where
     other : (n : ℕ) → n < 7 → (n == length words) ≡ false
     other n few = ne_eqb n (length words) (λ is. omega (arith, is, few, l))

@@ -97,21 +97,21 @@ command_table =
     ∷ row "disc M" "whether a mesh is a disc" (λ w. Some (disc (w "M")))
     ∷ row "class M W" "whether a closed walk is a boundary, with evidence" (λ w. Some (classes (w "M") (w "W")))
     ∷ row "same M W W2" "whether two closed walks go round the same way"
-        (λ w. Some (compares (w "M") (w "W") (w "W2")))
+    (λ w. Some (compares (w "M") (w "W") (w "W2")))
     ∷ row "confirm M W C" "whether the evidence that class wrote is right"
-        (λ w. Some (confirms (w "M") (w "W") (w "C")))
+    (λ w. Some (confirms (w "M") (w "W") (w "C")))
     ∷ row "shortest M L W" "a shortest closed walk that goes round as W does"
-        (λ w. Some (tightens (w "M") (w "L") (w "W")))
+    (λ w. Some (tightens (w "M") (w "L") (w "W")))
     ∷ row "certify M L x" "a certificate of loops at vertex x" (at_base LoopCertificate)
     ∷ row "certify M L" "a certificate of a basis" (on_cycles BasisCertificate)
     ∷ row "check M L C" "whether a certificate is valid, and its total"
-        (λ w. Some (checks (w "M") (w "L") (w "C")))
+    (λ w. Some (checks (w "M") (w "L") (w "C")))
     ∷ row "lengths M k" "the lengths of the edges from coordinates, in units of 10^-k"
-        (λ w. option_map (measures (w "M")) (option_and_then few_decimals (word_number (w "k"))))
+    (λ w. option_map (measures (w "M")) (option_and_then few_decimals (word_number (w "k"))))
     ∷ row "gen torus a b" "a torus of a by b squares" (λ w. option_map makes (torus_of w))
     ∷ row "gen chain g a b" "a chain of g such tori" (λ w. option_map makes (chain_of w))
     ∷ row "try torus a b s" "a summary of a torus with lengths scattered by s"
-        (λ w. tried (torus_of w) (word_number (w "s")))
+    (λ w. tried (torus_of w) (word_number (w "s")))
     ∷ row "try chain g a b s" "the same of a chain" (λ w. tried (chain_of w) (word_number (w "s")))
     ∷ []
 

@@ -122,12 +122,7 @@ fn number_of(word: &str) -> Option<u32>
 }
 
 // A task at a base.
-fn weighted<'w>(
-    task: Task,
-    mesh: &'w str,
-    lengths: &'w str,
-    base: &str,
-) -> Option<Command<'w>>
+fn weighted<'w>(task: Task, mesh: &'w str, lengths: &'w str, base: &str) -> Option<Command<'w>>
     ensures { MatchOption result
         (option_map (weighted task mesh.now lengths.now) (word_number base.now) ≡ None)
         (λ c. option_map (weighted task mesh.now lengths.now) (word_number base.now)

@@ -10,6 +10,6 @@ returns-in-Some c =
     let mesh = c.args.mesh.now in
     let plain = replicate (face_count mesh) false in
     let told : (c.in-Some.turning ≡ plain) × IsTurning mesh (flag_of plain) =
-        rw c.in-Some.is at c.in_ok-turning.ensures in
+    rw c.in-Some.is at c.in_ok-turning.ensures in
     let P : List Bool → Type 0 = λ xs. (length xs ≡ face_count mesh) × IsTurning mesh (flag_of xs) in
     subst P (sym told.0) (length-replicate (face_count mesh) false, told.1)

@@ -10,8 +10,7 @@ returns-in-None c =
     let mesh = c.args.mesh.now in
     let plain = replicate (face_count mesh) false in
     let Q : List Bool → Type 0 = λ xs. IsTurning mesh (flag_of xs) in
-    let are : c.in_ok-flags.flags.items ≡ plain = c.in_ok-flags.ensures in
-    (
+    let are : c.in_ok-flags.flags.items ≡ plain = c.in_ok-flags.ensures in (
       c.from_flags.ensures ∙ are,
       subst Q (c.deref.ensures.value ∙ are) c.in-None.ensures,
     )
@@ -24,4 +23,4 @@ returns-in-Some c =
     let are : c.in_ok-flags.flags.items ≡ plain = c.in_ok-flags.ensures in
     let flags = c.deref.result.now in
     λ turning. c.in-Some.ensures.1 ((turnings_fit mesh (flag_of flags) c.law_of_surface.ensures.surface).0
-        (subst Q (sym (c.deref.ensures.value ∙ are)) turning) c.in-Some.field-0 c.in-Some.ensures.0)
+    (subst Q (sym (c.deref.ensures.value ∙ are)) turning) c.in-Some.field-0 c.in-Some.ensures.0)
