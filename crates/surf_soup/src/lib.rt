@@ -9,15 +9,18 @@
 //! two sides, and each is the other's mate. The ring of a vertex has the sides that begin there,
 //! one a face, in the order round it; the list of its edges goes with it.
 //!
-//! The edge table is built for any soup in linear time, by counting sorts. `pair_edges` finds the
-//! least edge that hasn't two faces. The functions behind it each decide one property of a surface
-//! and find the least place where it fails: `find_isolated`, `find_rings` and `find_apart`. A
+//! The edge table is built for any soup. Its sides are put into a row for each vertex that is their
+//! lesser end, in linear time, and each row is sorted by greater end and number; one pass over the
+//! rows lists the edges, the sides of each and the edge of each side. `pair_edges` finds the least
+//! edge that hasn't two faces. The functions behind it each decide one property of a surface and
+//! find the least place where it fails: `find_isolated`, `find_rings` and `find_apart`. A
 //! surface check calls them in turn and hands their tables to the mesh, so that nothing is built
 //! twice.
 //!
 //! The tables are those of half-edges, as in D. E. Muller and F. P. Preparata, "Finding the
 //! intersection of two convex polyhedra" (1978). A ring is found by turning from each side to the
-//! next one at the same vertex, which needs no orientation of the faces.
+//! next one at the same vertex, which needs no orientation of the faces. Whether all faces hang
+//! together is told by parents: one pass over the sides joins the faces of each edge.
 #![tactic(auto)]
 
 mod apart;
