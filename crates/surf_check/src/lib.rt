@@ -4,7 +4,8 @@
 //! witness. It decides one property after another: that there is a face, that each edge is a side
 //! of exactly two faces, that each vertex is in a face, that the faces at each vertex form one
 //! cycle, and that the faces are connected through edges. Each takes time linear in the number of
-//! sides.
+//! sides, but for the sides at each lesser end, which are sorted, and the parents by which faces
+//! are joined.
 //!
 //! `characteristic` is the number of vertices minus that of edges plus that of faces. `orient`
 //! finds a turning, a flag for each face by which the two faces of each edge run it in opposite

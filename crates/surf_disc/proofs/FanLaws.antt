@@ -1,5 +1,6 @@
 -- Where all corners of a vertex are marked it has one fan, and the first that isn't is a pinch.
-use Rattle.std.proofs.Common.{◌≡◌, ℕ, ◌+◌, ◌<◌, ◌≤◌, Bool, true, false, List, length, get_or, sym, ap, subst, ◌∙◌, arith, inl, inr}
+use Rattle.std.proofs.Common.{◌≡◌, ℕ, ◌+◌, ◌<◌, ◌≤◌, Bool, true, false, List, length, get_or, sym, ap, subst, ◌∙◌}
+use Rattle.std.proofs.Common.{arith, inl, inr}
 use Rattle.std.proofs.lemmas.Bool.{true≢false, cases_eq}
 use Rattle.surf_surfaces.specs.Joined.{Joined}
 use Rattle.surf_surfaces.proofs.JoinedLaws.{joined_trans, joined_sym}

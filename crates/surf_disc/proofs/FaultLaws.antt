@@ -6,7 +6,8 @@ use Rattle.surf_surfaces.specs.Surface.{faces_with}
 use Rattle.surf_disc.specs.Fault.{IsDiscFault}
 use Rattle.surf_disc.specs.declared.faults.BorderKind.TheVariants.{Nothing, Two}
 use Rattle.surf_disc.specs.declared.faults.DiscFault.{DiscFault}
-use Rattle.surf_disc.specs.declared.faults.DiscFault.TheVariants.{Crowded, Isolated, Pinched, Apart, Border, Count, Memory}
+use Rattle.surf_disc.specs.declared.faults.DiscFault.TheVariants.{Crowded, Isolated, Pinched, Apart, Border, Count}
+use Rattle.surf_disc.specs.declared.faults.DiscFault.TheVariants.{Memory}
 
 pub fault_only : (mesh : Mesh) (e : DiscFault) → IsDiscFault mesh e → IsDisc mesh → e ≡ Memory
 fault_only mesh (Crowded u v faces) h d =

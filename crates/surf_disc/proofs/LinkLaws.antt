@@ -1,5 +1,6 @@
 -- Rows of corners across sides, and a last row from which a walk starts at the first corner of each vertex.
-use Rattle.std.proofs.Common.{◌≡◌, ℕ, suc, ◌+◌, ◌<◌, ◌≤◌, Bool, true, List, [], ◌∷◌, ◌++◌, length, get_or, map, refl, sym, ap, subst, ◌∙◌, arith, inl, inr}
+use Rattle.std.proofs.Common.{◌≡◌, ℕ, suc, ◌+◌, ◌<◌, ◌≤◌, Bool, true, List, [], ◌∷◌, ◌++◌, length, get_or, map, refl}
+use Rattle.std.proofs.Common.{sym, ap, subst, ◌∙◌, arith, inl, inr}
 use Rattle.std.specs.List.{All, sum_by, flat_map, range_with_len}
 use Rattle.std.proofs.lemmas.Bool.{cases_eq, cases_lt}
 use Rattle.std.proofs.lemmas.List.{get_or_push, get_or_append_left, get_or_default, length_push}
@@ -21,7 +22,8 @@ use Rattle.surf_soup.proofs.RingLaws.{at_begins, row_some}
 use Rattle.surf_soup.proofs.SideNumbers.{one_face}
 use Rattle.surf_soup.proofs.VertexLaws.{at_len, at_is}
 use Rattle.surf_disc.specs.Links.{AreCornerTables, AreLinked, AreFirsts, AreFansMarked, over_corner}
-use Rattle.surf_disc.proofs.CornerLaws.{tail, face_of, own_face, IsCornerOf, same_corner, IsSideAt, side_in, side_pair_at, over_is, over_shares, shares_over, share_corner}
+use Rattle.surf_disc.proofs.CornerLaws.{tail, face_of, own_face, IsCornerOf, same_corner, IsSideAt, side_in}
+use Rattle.surf_disc.proofs.CornerLaws.{side_pair_at, over_is, over_shares, shares_over, share_corner}
 
 -- one row more
 pub linked_more : (next prev across tails : List ℕ) (k a b : ℕ) (rows : List (List ℕ)) →

@@ -1,5 +1,6 @@
 -- Border edges, their number and crowded edges, by the rows of an edge table.
-use Rattle.std.proofs.Common.{◌≡◌, ℕ, ◌+◌, ◌<◌, ◌≤◌, Bool, cond, eqb, List, [], ◌∷◌, length, get_or, map, take, refl, sym, ap, ◌∙◌, arith, inl, inr}
+use Rattle.std.proofs.Common.{◌≡◌, ℕ, ◌+◌, ◌<◌, ◌≤◌, Bool, cond, eqb, List, [], ◌∷◌, length, get_or, map, take, refl}
+use Rattle.std.proofs.Common.{sym, ap, ◌∙◌, arith, inl, inr}
 use Rattle.std.specs.List.{count_by}
 use Rattle.std.proofs.lemmas.Bool.{true≢false, cases_Bool}
 use Rattle.std.proofs.lemmas.List.{length-map}
@@ -16,7 +17,8 @@ use Rattle.surf_soup.proofs.EdgeTables.{length-side_pairs}
 use Rattle.surf_soup.proofs.Owners.{faces_with-sides}
 use Rattle.surf_soup.proofs.Paired.{rows_len, row_degree, no_crowds, face_at_place}
 use Rattle.surf_disc.specs.Across.{NoneCrowded}
-use Rattle.surf_disc.specs.Border.{border_count, IsLeastOnBorder, IsLeastOutside, IsBorderMarked, AllInside, IsFirstOutside, HasOneBorder}
+use Rattle.surf_disc.specs.Border.{border_count, IsLeastOnBorder, IsLeastOutside, IsBorderMarked, AllInside}
+use Rattle.surf_disc.specs.Border.{IsFirstOutside, HasOneBorder}
 use Rattle.surf_disc.specs.Fault.{IsLeastCrowded}
 use Rattle.surf_disc.proofs.BorderLaws.{share_sym}
 

@@ -1,11 +1,10 @@
 //! The check of a disc, by its faults in their order.
-ghost use Rattle.std.specs.Prelude.{◌≡◌, ◌+◌, ◌<◌, ℕ, map, OnOk, IfOk, IfErr};
-ghost use Rattle.std.specs.List.{range_with_len};
+ghost use Rattle.std.specs.Prelude.{◌≡◌, ◌+◌, ◌<◌, ℕ, OnOk, IfOk, IfErr};
 ghost use Rattle.surf_surfaces.specs.Disc.{IsDisc, IsBorderEdge};
 ghost use Rattle.surf_surfaces.specs.Surface.{face_count, edge_count};
 ghost use Rattle.surf_soup.specs.EdgeTable.{IsTableOf};
 ghost use Rattle.surf_soup.specs.Pairs.{IsFirstWithin};
-ghost use Rattle.surf_soup.specs.Vertices.{sides_at, AllMet};
+ghost use Rattle.surf_soup.specs.Vertices.{AllMet};
 ghost use Rattle.surf_disc.specs.Across.{NoneCrowded};
 ghost use Rattle.surf_disc.specs.Border.{border_count, HasOneBorder};
 ghost use Rattle.surf_disc.specs.Fault.{IsPatch, IsDiscFault};
@@ -18,11 +17,10 @@ use crate::corners::CornerTables;
 use crate::fans::refuse_pinched;
 use crate::{BorderKind, DiscFault};
 use std::alloc::Global;
-use surf_base::{SideId, VertexId};
-use surf_rows::Rows;
+use surf_base::VertexId;
 use surf_soup::{
-    EdgeTable, Soup, edge_table, face_in, find_isolated, first_row, next_sides, sides_before,
-    vertex_sides,
+    EdgeTable, Soup, edge_table, face_in, find_isolated, first_row, first_sides, next_sides,
+    sides_before, vertex_sides,
 };
 
 // The fault at an edge with many sides.
@@ -58,14 +56,14 @@ fn refuse_crowded(soup: &Soup, table: &EdgeTable) -> Result<(), DiscFault>
 }
 
 // Refuses a soup where some vertex is in no face.
-fn refuse_isolated(soup: &Soup, at_vertex: &Rows<SideId>) -> Result<(), DiscFault>
+fn refuse_isolated(alloc: Global, soup: &Soup) -> Result<(), DiscFault>
     requires none_crowded { NoneCrowded soup.now }
-    requires rows { at_vertex.now ≡ map (sides_at soup.now) (range_with_len 0 soup.now.vertices) }
     ensures ok { OnOk result (AllMet soup.now) }
     ensures fault { IfErr result (λ e. IsDiscFault soup.now e) }
 {
     soup.law_of_soup();
-    match find_isolated(soup, at_vertex) {
+    let first = first_sides(alloc, soup)?;
+    match find_isolated(soup, &first) {
         None => Ok(()),
         Some(v) => Err(DiscFault::Isolated {
             v: VertexId::new(v as u32),
@@ -105,8 +103,8 @@ fn find_fault(alloc: Global, soup: &Soup) -> Result<u32, DiscFault>
     soup.law_of_soup();
     let table = edge_table(alloc, soup)?;
     refuse_crowded(soup, &table)?;
+    refuse_isolated(alloc, soup)?;
     let at_vertex = vertex_sides(alloc, soup, &table.numbers)?;
-    refuse_isolated(soup, &at_vertex)?;
     let next = next_sides(alloc, soup)?;
     let prev = sides_before(alloc, soup)?;
     let across = all_across(alloc, soup, &table)?;

@@ -6,12 +6,12 @@
 //! whether a mesh is one, with the length of its border, or names the first thing that is wrong
 //! with it.
 //!
-//! All tests are searches in flat tables, in linear time. The rows of the edge table say which
-//! edges are crowded and which are on the border. For each side, a table says what lies across
-//! it: the other side of its edge, or the side itself where it is on the border. One walk over
-//! the corners, from the first corner of each vertex across the sides that end there, tells the
-//! fans; one over the faces, whether they are connected; and one over the vertices along border
-//! edges, whether the border is one cycle.
+//! All tests are searches in flat tables, in linear time; only the edge table sorts the sides with
+//! one lesser end. Its rows say which edges are crowded and which are on the border. For each side,
+//! a table says what lies across it: the other side of its edge, or the side itself where it is on
+//! the border. One walk over the corners, from the first corner of each vertex across the sides
+//! that end there, tells the fans; one over the faces, whether they are connected; and one over the
+//! vertices along border edges, whether the border is one cycle.
 #![tactic(auto)]
 
 mod across;

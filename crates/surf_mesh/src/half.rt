@@ -14,7 +14,7 @@ use std::alloc::Global;
 use std::marker::Model;
 use surf_base::{EdgeId, FaceId, NoMemory, SideId, VertexId};
 use surf_rows::{Rows, part};
-use surf_soup::{EdgeTable, Rings, Soup, all_mates, edge_table, face_in, find_rings, vertex_sides};
+use surf_soup::{EdgeTable, Rings, Soup, all_mates, edge_table, face_in, find_rings, first_sides};
 
 /// A surface, with the two sides of each edge joined.
 #[derive(Drop)]
@@ -97,8 +97,8 @@ impl HalfMesh {
         ensures { IfOk result (λ h. h ≡ soup) }
     {
         let mate = all_mates(alloc, &soup, &table)?;
-        let at_vertex = vertex_sides(alloc, &soup, &table.numbers)?;
-        match find_rings(alloc, &soup, &mate, &table, &at_vertex)? {
+        let first = first_sides(alloc, &soup)?;
+        match find_rings(alloc, &soup, &mate, &table, &first)? {
             Rings::All { sides, edges } => {
                 Ok(HalfMesh::from_parts(soup, table, mate, sides, edges))
             }

@@ -1,5 +1,6 @@
 -- The roots of faces tell which are joined by shared edges.
-use Rattle.std.proofs.Common.{◌≡◌, ◌≢◌, ℕ, zero, suc, ◌+◌, ◌<◌, ◌≤◌, cond, eqb, min, max, List, [], ◌∷◌, ◌++◌, length, get_or, refl, sym, ap, subst, ◌∙◌, arith, inl, inr}
+use Rattle.std.proofs.Common.{◌≡◌, ◌≢◌, ℕ, zero, suc, ◌+◌, ◌<◌, ◌≤◌, cond, eqb, min, max, List, [], ◌∷◌, ◌++◌, length}
+use Rattle.std.proofs.Common.{get_or, refl, sym, ap, subst, ◌∙◌, arith, inl, inr}
 use Rattle.std.specs.List.{range_with_len}
 use Rattle.std.proofs.lemmas.Bool.{cases_eq, cases_lt, eq-eqb, ne_eqb}
 use Rattle.std.proofs.lemmas.List.{length-map, get_or_push, get_or_append_left, length_push}
@@ -28,12 +29,16 @@ pub all_joined : (mesh : Mesh) → ((g : ℕ) → g < face_count mesh → Joined
 all_joined mesh h f g a b = joined_trans (joined_sym (share_sym mesh) (h f a)) (h g b)
 
 -- one row more
-pub across_more : (mesh : Mesh) (mate : List ℕ) (k : ℕ) (rows : List (List ℕ)) (row : List ℕ) → AreAcross mesh mate k rows → k < face_count mesh → length row ≡ length (face_at mesh k) →
-    ((m : ℕ) → m < length (face_at mesh k) → get_or row m 0 ≡ get_or (owners 0 mesh.faces) (get_or mate (first_side mesh k + m) 0) 0) → AreAcross mesh mate (k + 1) (rows ++ row ∷ [])
+pub across_more : (mesh : Mesh) (mate : List ℕ) (k : ℕ) (rows : List (List ℕ)) (row : List ℕ) →
+    AreAcross mesh mate k rows → k < face_count mesh → length row ≡ length (face_at mesh k) →
+    ((m : ℕ) → m < length (face_at mesh k) →
+    get_or row m 0 ≡ get_or (owners 0 mesh.faces) (get_or mate (first_side mesh k + m) 0) 0) →
+    AreAcross mesh mate (k + 1) (rows ++ row ∷ [])
 across_more mesh mate k rows row a lt size at =
     let n = a.size in
     let last : get_or (rows ++ row ∷ []) k [] ≡ row = get_or_push rows row [] k n in
-    let early : (f : ℕ) → f < k → get_or (rows ++ row ∷ []) f [] ≡ get_or rows f [] = λ f below. get_or_append_left rows (row ∷ []) [] f (omega arith) in
+    let early : (f : ℕ) → f < k → get_or (rows ++ row ∷ []) f [] ≡ get_or rows f [] =
+    λ f below. get_or_append_left rows (row ∷ []) [] f (omega arith) in
     record {
       size = omega (arith, length_push rows row, n);
       row_len = λ f below. elim (cases_eq f k) [
@@ -49,12 +54,15 @@ across_more mesh mate k rows row a lt size at =
       total = omega (arith, sum_by_push {X = List ℕ} length rows row, a.total, size, (spans mesh.faces k lt).0);
     }
 
-pub two_sides : (mesh : Mesh) → IsMesh mesh → HasTwoFaces mesh → (s : ℕ) → s < side_count mesh → length (sides_with mesh (pair_at mesh s)) ≡ 2
+pub two_sides : (mesh : Mesh) → IsMesh mesh → HasTwoFaces mesh → (s : ℕ) → s < side_count mesh →
+    length (sides_with mesh (pair_at mesh s)) ≡ 2
 two_sides mesh is_mesh two s lt =
     let p = pair_at mesh s in
     let at = place_of-among p (edges mesh) (0, 0) (pair_at-edge mesh s lt) in
     let deg = two (place_of p (edges mesh)) at.0 in
-    sym (ap length (faces_with-sides mesh is_mesh p) ∙ length-map (sides_with mesh p) (λ t. get_or (owners 0 mesh.faces) t 0)) ∙ ap (λ q. length (faces_with mesh q)) (sym at.1) ∙ deg
+    sym (ap length (faces_with-sides mesh is_mesh p)
+    ∙ length-map (sides_with mesh p) (λ t. get_or (owners 0 mesh.faces) t 0))
+    ∙ ap (λ q. length (faces_with mesh q)) (sym at.1) ∙ deg
 
 -- the face of a side
 abbrev face_of : Mesh → ℕ → ℕ
@@ -67,11 +75,13 @@ pub record JoinsUpto (mesh : Mesh) (mate : List ℕ) (k : ℕ) (parents : List �
   pub sound : (f : ℕ) → f < face_count mesh → Joined (Share mesh) (root f) f
   pub done : (s : ℕ) → s < k → get_or mate s 0 < s → root (face_of mesh s) ≡ root (face_of mesh (get_or mate s 0))
 
-pub joins_none : (mesh : Mesh) (mate parents : List ℕ) → parents ≡ range_with_len 0 (face_count mesh) → JoinsUpto mesh mate 0 parents (λ f. f)
+pub joins_none : (mesh : Mesh) (mate parents : List ℕ) → parents ≡ range_with_len 0 (face_count mesh) →
+    JoinsUpto mesh mate 0 parents (λ f. f)
 joins_none mesh mate parents lone =
     let size = length-range_with_len 0 (face_count mesh) in
     let long = ap length lone in
-    let at : (f : ℕ) → f < length parents → get_or parents f 0 ≡ f = λ f lt. ap (λ (xs : List ℕ). get_or xs f 0) lone ∙ get_or-range_with_len 0 (face_count mesh) f 0 (omega arith) ∙ (let z : 0 + f ≡ f = omega arith in z) in
+    let at : (f : ℕ) → f < length parents → get_or parents f 0 ≡ f = λ f lt. ap (λ (xs : List ℕ). get_or xs f 0) lone
+    ∙ get_or-range_with_len 0 (face_count mesh) f 0 (omega arith) ∙ (let z : 0 + f ≡ f = omega arith in z) in
     record {
       size = long ∙ size;
       roots = record {
@@ -84,7 +94,8 @@ joins_none mesh mate parents lone =
       done = λ s lt. absurd (omega arith);
     }
 
-module _ (mesh : Mesh) (mate : List ℕ) (mates : AreAllMates mesh mate) (k : ℕ) (lt : k < side_count mesh) (parents : List ℕ) (root : ℕ → ℕ) (so_far : JoinsUpto mesh mate k parents root) where
+module _ (mesh : Mesh) (mate : List ℕ) (mates : AreAllMates mesh mate) (k : ℕ) (lt : k < side_count mesh)
+    (parents : List ℕ) (root : ℕ → ℕ) (so_far : JoinsUpto mesh mate k parents root) where
   pub joins_past : (get_or mate k 0 < k → ⊥) → JoinsUpto mesh mate (k + 1) parents root
   joins_past late = record {
     size = so_far.size;
@@ -104,9 +115,12 @@ module _ (mesh : Mesh) (mate : List ℕ) (mates : AreAllMates mesh mate) (k : �
       let f = face_of_side mesh (owners 0 mesh.faces) k 0 refl lt in
       let g = face_of_side mesh (owners 0 mesh.faces) m 0 refl is.is_side in
       joined_trans (so_far.sound (face_of mesh k) f.is_face)
-      (joined_trans (over (across_shares mesh k m (face_of mesh k) (face_of mesh m) f is g) here) (joined_sym (share_sym mesh) (so_far.sound (face_of mesh m) g.is_face)))
+      (joined_trans (over (across_shares mesh k m (face_of mesh k) (face_of mesh m) f is g) here)
+      (joined_sym (share_sym mesh) (so_far.sound (face_of mesh m) g.is_face)))
 
-  pub joins_next : (now : List ℕ) → length now ≡ length parents → HasRoots now (merged root (face_of mesh k) (face_of mesh (get_or mate k 0))) → JoinsUpto mesh mate (k + 1) now (merged root (face_of mesh k) (face_of mesh (get_or mate k 0)))
+  pub joins_next : (now : List ℕ) → length now ≡ length parents →
+      HasRoots now (merged root (face_of mesh k) (face_of mesh (get_or mate k 0))) →
+      JoinsUpto mesh mate (k + 1) now (merged root (face_of mesh k) (face_of mesh (get_or mate k 0)))
   joins_next now kept roots =
       let a = root (face_of mesh k) in
       let b = root (face_of mesh (get_or mate k 0)) in
@@ -119,7 +133,8 @@ module _ (mesh : Mesh) (mate : List ℕ) (mates : AreAllMates mesh mate) (k : �
         | inr more ↦
             let low : b ≡ min a b = omega arith in
             let high : a ≡ max a b = omega arith in
-            subst (λ h. Joined (Share mesh) (min a b) h) high (subst (λ l. Joined (Share mesh) l a) low (joined_sym (share_sym mesh) roots_joined))
+            subst (λ h. Joined (Share mesh) (min a b) h) high
+            (subst (λ l. Joined (Share mesh) l a) low (joined_sym (share_sym mesh) roots_joined))
       ] in
       let both : to a ≡ to b = elim (cases_lt a b) [
         | inl less ↦ rw (ne_eqb a (max a b) (λ e. omega arith), eq-eqb b (max a b) (omega arith)) (omega arith)
@@ -143,7 +158,9 @@ module _ (mesh : Mesh) (mate : List ℕ) (mates : AreAllMates mesh mate) (k : �
         ];
       }
 
-pub joins_all : (mesh : Mesh) → IsMesh mesh → HasTwoFaces mesh → (mate : List ℕ) → AreAllMates mesh mate → (k : ℕ) (parents : List ℕ) (root : ℕ → ℕ) → JoinsUpto mesh mate k parents root → side_count mesh ≤ k → AreFaceRoots mesh parents root
+pub joins_all : (mesh : Mesh) → IsMesh mesh → HasTwoFaces mesh → (mate : List ℕ) → AreAllMates mesh mate →
+    (k : ℕ) (parents : List ℕ) (root : ℕ → ℕ) → JoinsUpto mesh mate k parents root → side_count mesh ≤ k →
+    AreFaceRoots mesh parents root
 joins_all mesh is_mesh two mate mates k parents root joins all = record {
   size = joins.size;
   roots = joins.roots;
@@ -156,22 +173,27 @@ joins_all mesh is_mesh two mate mates k parents root joins all = record {
         let s = r.0 in
         let m = get_or mate s 0 in
         let is = mates.mates s r.1 in
-        let own : face_of mesh s ≡ f = one_face mesh s (face_of mesh s) f (face_of_side mesh (owners 0 mesh.faces) s 0 refl r.1) r.2 in
-        let across : face_of mesh m ≡ g = one_face mesh m (face_of mesh m) g (face_of_side mesh (owners 0 mesh.faces) m 0 refl is.is_side) r.3 in
+        let own : face_of mesh s ≡ f =
+        one_face mesh s (face_of mesh s) f (face_of_side mesh (owners 0 mesh.faces) s 0 refl r.1) r.2 in
+        let across : face_of mesh m ≡ g =
+        one_face mesh m (face_of mesh m) g (face_of_side mesh (owners 0 mesh.faces) m 0 refl is.is_side) r.3 in
         let back : get_or mate m 0 ≡ s = mate_back mesh sides mate mates s r.1 in
         elim (cases_lt m s) [
           | inl before ↦ ap root (sym own) ∙ joins.done s (omega arith) before ∙ ap root across
           | inr later ↦
               let other = is.other in
-              let first : get_or mate m 0 < m = elim (cases_eq m s) [ inl e ↦ absurd (other e) | inr differ ↦ omega arith ] in
-              ap root (sym own) ∙ ap (λ t. root (face_of mesh t)) (sym back) ∙ sym (joins.done m (omega (arith, is.is_side)) first) ∙ ap root across
+              let first : get_or mate m 0 < m =
+              elim (cases_eq m s) [ inl e ↦ absurd (other e) | inr differ ↦ omega arith ] in
+              ap root (sym own) ∙ ap (λ t. root (face_of mesh t)) (sym back)
+              ∙ sym (joins.done m (omega (arith, is.is_side)) first) ∙ ap root across
         ]
   ];
 }
 
 module _ (mesh : Mesh) (parents : List ℕ) (root : ℕ → ℕ) (are : AreFaceRoots mesh parents root) where
   -- numbers below all roots but 0 have the root 0
-  first_root : (m n g : ℕ) → m ≤ length parents → ((h : ℕ) → 0 < h → h < m → get_or parents h 0 ≢ h) → g < n → g < m → root g ≡ 0
+  first_root : (m n g : ℕ) → m ≤ length parents → ((h : ℕ) → 0 < h → h < m → get_or parents h 0 ≢ h) → g < n → g < m →
+      root g ≡ 0
   first_root m zero g within none lt below = absurd (omega arith)
   first_root m (suc n) g within none lt below =
       let r = are.roots in
@@ -186,19 +208,24 @@ module _ (mesh : Mesh) (parents : List ℕ) (root : ℕ → ℕ) (are : AreFaceR
             sym (r.same g (omega arith)) ∙ first_root m n p within none (omega arith) (omega arith)
       ]
 
-  joined_first : (m g : ℕ) → m ≤ length parents → ((h : ℕ) → 0 < h → h < m → get_or parents h 0 ≢ h) → g < m → Joined (Share mesh) 0 g
+  joined_first : (m g : ℕ) → m ≤ length parents → ((h : ℕ) → 0 < h → h < m → get_or parents h 0 ≢ h) → g < m →
+      Joined (Share mesh) 0 g
   joined_first m g within none below =
       let size = are.size in
-      subst (λ r. Joined (Share mesh) r g) (first_root m (suc g) g within none (omega arith) below) (are.sound g (omega arith))
+      subst (λ r. Joined (Share mesh) r g) (first_root m (suc g) g within none (omega arith) below)
+      (are.sound g (omega arith))
 
   pub none_apart : ((f : ℕ) → 0 < f → f < length parents → get_or parents f 0 ≢ f) → IsConnected mesh
-  none_apart none = all_joined mesh (λ g lt. joined_first (length parents) g (omega arith) none (let n = are.size in omega arith))
+  none_apart none = all_joined mesh
+      (λ g lt. joined_first (length parents) g (omega arith) none (let n = are.size in omega arith))
 
-  pub least_apart : (f : ℕ) → 0 < f → f < length parents → get_or parents f 0 ≡ f → ((g : ℕ) → 0 < g → g < f → get_or parents g 0 ≢ g) → IsLeastApart mesh f
+  pub least_apart : (f : ℕ) → 0 < f → f < length parents → get_or parents f 0 ≡ f →
+      ((g : ℕ) → 0 < g → g < f → get_or parents g 0 ≢ g) → IsLeastApart mesh f
   least_apart f some lt own before = record {
     is_face = let n = are.size in omega arith;
     apart = λ chain.
-        let same : root 0 ≡ root f = joined_closed (λ x. root 0 ≡ root x) (λ x y share h. h ∙ are.complete x y share) chain refl in
+        let same : root 0 ≡ root f =
+        joined_closed (λ x. root 0 ≡ root x) (λ x y share h. h ∙ are.complete x y share) chain refl in
         let r = are.roots in
         let low = r.low 0 (omega arith) in
         let here' = r.own f lt own in

@@ -1,5 +1,6 @@
 -- Parents that are halved, and sets that become one.
-use Rattle.std.proofs.Common.{◌≡◌, ℕ, zero, suc, ◌<◌, ◌≤◌, cond, eqb, min, max, List, length, get_or, set, subst, refl, sym, ap, ◌∙◌, arith, inl, inr}
+use Rattle.std.proofs.Common.{◌≡◌, ℕ, zero, suc, ◌<◌, ◌≤◌, cond, eqb, min, max, List, length, get_or, set, subst, refl}
+use Rattle.std.proofs.Common.{sym, ap, ◌∙◌, arith, inl, inr}
 use Rattle.std.proofs.lemmas.Bool.{cases_eq, eq-eqb, ne_eqb}
 use Rattle.std.proofs.lemmas.List.{length-set, get_or-set_same, get_or-set_other}
 use Rattle.surf_soup.specs.Forest.{Falls, HasRoots, merged}
@@ -17,7 +18,9 @@ module _ (parents : List ℕ) (x : ℕ) (inside : x < length parents) (falls : F
   pub twice_low : get_or parents (get_or parents x 0) 0 ≤ get_or parents x 0
   twice_low = let first = falls x inside in falls (get_or parents x 0) (omega arith)
 
-  pub halved : (root : ℕ → ℕ) → HasRoots parents root → HasRoots (set parents x (get_or parents (get_or parents x 0) 0)) root × (root (get_or parents (get_or parents x 0) 0) ≡ root x)
+  pub halved : (root : ℕ → ℕ) → HasRoots parents root →
+      HasRoots (set parents x (get_or parents (get_or parents x 0) 0)) root
+      × (root (get_or parents (get_or parents x 0) 0) ≡ root x)
   halved root r =
       let p = get_or parents x 0 in
       let y = get_or parents p 0 in
@@ -63,7 +66,8 @@ module _ (parents : List ℕ) (root : ℕ → ℕ) (r : HasRoots parents root) w
   root_own x inside = root_own_upto (suc x) x (omega arith) inside
 
   -- a root gets another one as its parent
-  linked : (high low : ℕ) → high < length parents → low ≤ high → get_or parents high 0 ≡ high → get_or parents low 0 ≡ low → HasRoots (set parents high low) (λ z. cond (eqb (root z) high) low (root z))
+  linked : (high low : ℕ) → high < length parents → low ≤ high → get_or parents high 0 ≡ high →
+      get_or parents low 0 ≡ low → HasRoots (set parents high low) (λ z. cond (eqb (root z) high) low (root z))
   linked high low inside le own_high own_low =
       let size = length-set parents high low in
       let now = λ (a : ℕ). cond (eqb a high) low a in
@@ -71,7 +75,8 @@ module _ (parents : List ℕ) (root : ℕ → ℕ) (r : HasRoots parents root) w
       let root_high : root high ≡ high = r.own high inside own_high in
       let root_low : root low ≡ low = r.own low (omega arith) own_low in
       let at_high : now high ≡ low = rw (eq-eqb high high refl) refl in
-      let at_low : now low ≡ low = elim (cases_eq low high) [ inl e ↦ rw (eq-eqb low high e) refl | inr ne ↦ rw (ne_eqb low high ne) refl ] in
+      let at_low : now low ≡ low =
+      elim (cases_eq low high) [ inl e ↦ rw (eq-eqb low high e) refl | inr ne ↦ rw (ne_eqb low high ne) refl ] in
       record {
         falls = falls_set parents high low r.falls inside le;
         low = λ z in'.
@@ -94,7 +99,8 @@ module _ (parents : List ℕ) (root : ℕ → ℕ) (r : HasRoots parents root) w
         ];
       }
 
-  pub merged_roots : (x y a b : ℕ) → x < length parents → y < length parents → a ≡ root x → b ≡ root y → (a < b → HasRoots (set parents b a) (merged root x y)) × (b ≤ a → HasRoots (set parents a b) (merged root x y))
+  pub merged_roots : (x y a b : ℕ) → x < length parents → y < length parents → a ≡ root x → b ≡ root y →
+      (a < b → HasRoots (set parents b a) (merged root x y)) × (b ≤ a → HasRoots (set parents a b) (merged root x y))
   merged_roots x y a b in_x in_y is_a is_b =
       let low_x = r.low x in_x in
       let low_y = r.low y in_y in
@@ -104,9 +110,11 @@ module _ (parents : List ℕ) (root : ℕ → ℕ) (r : HasRoots parents root) w
         λ lt.
             let high : b ≡ max (root x) (root y) = omega arith in
             let low : a ≡ min (root x) (root y) = omega arith in
-            subst (λ n. H n (min (root x) (root y)) (set parents b a)) high (subst (λ n. H b n (set parents b a)) low (linked b a (omega arith) (omega arith) own_b own_a)),
+            subst (λ n. H n (min (root x) (root y)) (set parents b a)) high
+            (subst (λ n. H b n (set parents b a)) low (linked b a (omega arith) (omega arith) own_b own_a)),
         λ ge.
             let high : a ≡ max (root x) (root y) = omega arith in
             let low : b ≡ min (root x) (root y) = omega arith in
-            subst (λ n. H n (min (root x) (root y)) (set parents a b)) high (subst (λ n. H a n (set parents a b)) low (linked a b (omega arith) ge own_a own_b)),
+            subst (λ n. H n (min (root x) (root y)) (set parents a b)) high
+            (subst (λ n. H a n (set parents a b)) low (linked a b (omega arith) ge own_a own_b)),
       )

@@ -17,4 +17,6 @@ pub mod ForestSteps
 pub mod ApartLaws
 pub mod RoundSteps
 pub mod RingLaws
+pub mod FirstLaws
+pub mod RingMarks
 pub mod PairFaults

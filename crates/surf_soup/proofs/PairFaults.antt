@@ -6,7 +6,8 @@ use Rattle.surf_soup.specs.Pairs.{HasTwoFaces, IsPairFault}
 use Rattle.surf_soup.specs.declared.pairs.PairFault.{PairFault}
 use Rattle.surf_soup.specs.declared.pairs.PairFault.TheVariants.{Empty, Border, Crowded, Memory}
 
-pub pair_fault_only : (mesh : Mesh) (e : PairFault) → IsPairFault mesh e → 0 < face_count mesh → HasTwoFaces mesh → e ≡ Memory
+pub pair_fault_only : (mesh : Mesh) (e : PairFault) → IsPairFault mesh e → 0 < face_count mesh → HasTwoFaces mesh →
+    e ≡ Memory
 pair_fault_only mesh Empty h some two = absurd (omega (arith, h))
 pair_fault_only mesh (Border u v face) h some two =
     let b = h.1.1 in

@@ -1,5 +1,6 @@
 -- Rows of sides, read as the faces of edges.
-use Rattle.std.proofs.Common.{◌≡◌, ◌≢◌, ℕ, ◌+◌, ◌<◌, ◌≤◌, true, List, [], ◌∷◌, length, get_or, take, map, refl, sym, ap, ◌∙◌, arith, inl, inr}
+use Rattle.std.proofs.Common.{◌≡◌, ◌≢◌, ℕ, ◌+◌, ◌<◌, ◌≤◌, true, List, [], ◌∷◌, length, get_or, take, map, refl, sym, ap}
+use Rattle.std.proofs.Common.{◌∙◌, arith, inl, inr}
 use Rattle.std.specs.List.{list_any, range_with_len}
 use Rattle.std.proofs.lemmas.Bool.{true≢false, cases_eq, cases_lt}
 use Rattle.std.proofs.lemmas.List.{length-map, get_or-map, nil_from_length}
@@ -28,10 +29,13 @@ three_listed (x ∷ []) h = absurd (omega arith)
 three_listed (x ∷ y ∷ []) h = absurd (omega arith)
 three_listed (x ∷ y ∷ z ∷ xs) h = refl
 
-pub side_below : (mesh : Mesh) (p : ℕ × ℕ) (k d : ℕ) → k < length (sides_with mesh p) → get_or (sides_with mesh p) k d < side_count mesh
+pub side_below : (mesh : Mesh) (p : ℕ × ℕ) (k d : ℕ) → k < length (sides_with mesh p) →
+    get_or (sides_with mesh p) k d < side_count mesh
 side_below mesh p k d lt =
     let n = side_count mesh in
-    All-from_recursion (λ s. s < n) (sides_with mesh p) (all_filter (λ s. s < n) (λ s. pair_eq p (pair_at mesh s)) (range_with_len 0 n) (range_below 0 n n (omega arith))) k d lt
+    All-from_recursion (λ s. s < n) (sides_with mesh p)
+    (all_filter (λ s. s < n) (λ s. pair_eq p (pair_at mesh s)) (range_with_len 0 n)
+    (range_below 0 n n (omega arith))) k d lt
 
 pub row_short : (mesh : Mesh) (p : ℕ × ℕ) → length (sides_with mesh p) ≤ side_count mesh
 row_short mesh p =
@@ -47,22 +51,28 @@ row_some mesh e lt = elim (cases_eq (length (sides_with mesh (ends mesh e))) 0) 
       let n = length-side_pairs mesh in
       let all = range_with_len 0 (side_count mesh) in
       let test = λ (s : ℕ). pair_eq p (pair_at mesh s) in
-      let r = list_any_at (pair_eq p) (side_pairs mesh.faces) (0, 0) (sym (among-sorted p (side_pairs mesh.faces)) ∙ list_any_from (pair_eq p) (edges mesh) (0, 0) e lt (pair_eq-self p)) in
+      let r = list_any_at (pair_eq p) (side_pairs mesh.faces) (0, 0) (sym (among-sorted p (side_pairs mesh.faces))
+      ∙ list_any_from (pair_eq p) (edges mesh) (0, 0) e lt (pair_eq-self p)) in
       let here : get_or all r.0 0 ≡ 0 + r.0 = get_or-range_with_len 0 (side_count mesh) r.0 0 (omega (arith, r.1)) in
       let z : 0 + r.0 ≡ r.0 = omega arith in
-      let has = list_any_from test all 0 r.0 (omega (arith, r.1, length-range_with_len 0 (side_count mesh))) (ap test (here ∙ z) ∙ r.2) in
-      absurd (true≢false (sym has ∙ any_of_filter test all ∙ ap (list_any (λ x. true)) (nil_from_length (sides_with mesh p) none)))
+      let has = list_any_from test all 0 r.0 (omega (arith, r.1, length-range_with_len 0 (side_count mesh)))
+      (ap test (here ∙ z) ∙ r.2) in
+      absurd (true≢false (sym has ∙ any_of_filter test all
+      ∙ ap (list_any (λ x. true)) (nil_from_length (sides_with mesh p) none)))
   | inr some ↦ omega arith
 ]
 
-module _ (mesh : Mesh) (is_mesh : IsMesh mesh) (rows : List (List ℕ)) (face_of : List ℕ) (rows_are : rows ≡ map (sides_with mesh) (edges mesh)) (faces_are : face_of ≡ owners 0 mesh.faces) where
+module _ (mesh : Mesh) (is_mesh : IsMesh mesh) (rows : List (List ℕ)) (face_of : List ℕ)
+    (rows_are : rows ≡ map (sides_with mesh) (edges mesh)) (faces_are : face_of ≡ owners 0 mesh.faces) where
   pub rows_len : length rows ≡ edge_count mesh
   rows_len = ap length rows_are ∙ length-map (edges mesh) (sides_with mesh)
 
   pub row_is : (e : ℕ) → e < edge_count mesh → get_or rows e [] ≡ sides_with mesh (ends mesh e)
-  row_is e lt = ap (λ (r : List (List ℕ)). get_or r e []) rows_are ∙ get_or-map (sides_with mesh) (edges mesh) e (0, 0) [] lt
+  row_is e lt = ap (λ (r : List (List ℕ)). get_or r e []) rows_are
+      ∙ get_or-map (sides_with mesh) (edges mesh) e (0, 0) [] lt
 
-  pub row_faces : (e : ℕ) → e < edge_count mesh → faces_with mesh (ends mesh e) ≡ map (λ s. get_or face_of s 0) (get_or rows e [])
+  pub row_faces : (e : ℕ) → e < edge_count mesh →
+      faces_with mesh (ends mesh e) ≡ map (λ s. get_or face_of s 0) (get_or rows e [])
   row_faces e lt =
       faces_with-sides mesh is_mesh (ends mesh e)
       ∙ ap (λ (os : List ℕ). map (λ s. get_or os s 0) (sides_with mesh (ends mesh e))) (sym faces_are)
@@ -71,16 +81,20 @@ module _ (mesh : Mesh) (is_mesh : IsMesh mesh) (rows : List (List ℕ)) (face_of
   pub row_degree : (e : ℕ) → e < edge_count mesh → degree mesh e ≡ length (get_or rows e [])
   row_degree e lt = ap length (row_faces e lt) ∙ length-map (get_or rows e []) (λ s. get_or face_of s 0)
 
-  pub row_side : (e k : ℕ) → e < edge_count mesh → k < length (get_or rows e []) → get_or (get_or rows e []) k 0 < side_count mesh
+  pub row_side : (e k : ℕ) → e < edge_count mesh → k < length (get_or rows e []) →
+      get_or (get_or rows e []) k 0 < side_count mesh
   row_side e k lt in' =
       let is = row_is e lt in
       let at = side_below mesh (ends mesh e) k 0 (omega (arith, ap length is)) in
       omega (arith, at, ap (λ (r : List ℕ). get_or r k 0) is)
 
-  pub face_at_place : (e k : ℕ) → e < edge_count mesh → k < length (get_or rows e []) → get_or (faces_with mesh (ends mesh e)) k 0 ≡ get_or face_of (get_or (get_or rows e []) k 0) 0
-  face_at_place e k lt in' = ap (λ (xs : List ℕ). get_or xs k 0) (row_faces e lt) ∙ get_or-map (λ s. get_or face_of s 0) (get_or rows e []) k 0 0 in'
+  pub face_at_place : (e k : ℕ) → e < edge_count mesh → k < length (get_or rows e []) →
+      get_or (faces_with mesh (ends mesh e)) k 0 ≡ get_or face_of (get_or (get_or rows e []) k 0) 0
+  face_at_place e k lt in' = ap (λ (xs : List ℕ). get_or xs k 0) (row_faces e lt)
+      ∙ get_or-map (λ s. get_or face_of s 0) (get_or rows e []) k 0 0 in'
 
-  pub least_border : (e : ℕ) → IsFirstWithin 1 1 rows e → IsLeastBorder mesh (ends mesh e) (get_or face_of (get_or (get_or rows e []) 0 0) 0) e
+  pub least_border : (e : ℕ) → IsFirstWithin 1 1 rows e →
+      IsLeastBorder mesh (ends mesh e) (get_or face_of (get_or (get_or rows e []) 0 0) 0) e
   least_border e first =
       let n = rows_len in
       let row = first.is_row in
@@ -89,14 +103,18 @@ module _ (mesh : Mesh) (is_mesh : IsMesh mesh) (rows : List (List ℕ)) (face_of
       record {
         is_edge = lt;
         its_ends = refl;
-        its_face = one_listed (faces_with mesh (ends mesh e)) size ∙ ap (λ f. f ∷ []) (face_at_place e 0 lt (omega (arith, first.at_least)));
-        none_before = λ d below one. let s = row_degree d (omega arith) in first.none_before d below (omega arith) (omega arith);
+        its_face = one_listed (faces_with mesh (ends mesh e)) size
+            ∙ ap (λ f. f ∷ []) (face_at_place e 0 lt (omega (arith, first.at_least)));
+        none_before = λ d below one. let s = row_degree d (omega arith) in
+            first.none_before d below (omega arith) (omega arith);
       }
 
   pub no_borders : NoneWithin 1 1 rows → (d : ℕ) → d < edge_count mesh → degree mesh d ≢ 1
-  no_borders none d lt one = let n = rows_len in let s = row_degree d lt in none d (omega arith) (omega arith) (omega arith)
+  no_borders none d lt one = let n = rows_len in let s = row_degree d lt in
+      none d (omega arith) (omega arith) (omega arith)
 
-  pub no_crowds : (most : ℕ) → side_count mesh ≤ most → (d : ℕ) → d < edge_count mesh → (3 ≤ length (get_or rows d []) → length (get_or rows d []) ≤ most → ⊥) → degree mesh d < 3
+  pub no_crowds : (most : ℕ) → side_count mesh ≤ most → (d : ℕ) → d < edge_count mesh →
+      (3 ≤ length (get_or rows d []) → length (get_or rows d []) ≤ most → ⊥) → degree mesh d < 3
   no_crowds most room d lt none = elim (cases_lt (degree mesh d) 3) [
     | inl less ↦ less
     | inr many ↦
@@ -107,7 +125,9 @@ module _ (mesh : Mesh) (is_mesh : IsMesh mesh) (rows : List (List ℕ)) (face_of
   ]
 
   pub least_crowd : (most e : ℕ) → side_count mesh ≤ most → NoneWithin 1 1 rows → IsFirstWithin 3 most rows e →
-      IsLeastCrowd mesh (ends mesh e) (get_or face_of (get_or (get_or rows e []) 0 0) 0 ∷ get_or face_of (get_or (get_or rows e []) 1 0) 0 ∷ get_or face_of (get_or (get_or rows e []) 2 0) 0 ∷ []) e
+      IsLeastCrowd mesh (ends mesh e)
+      (get_or face_of (get_or (get_or rows e []) 0 0) 0 ∷ get_or face_of (get_or (get_or rows e []) 1 0) 0 ∷ get_or
+      face_of (get_or (get_or rows e []) 2 0) 0 ∷ []) e
   least_crowd most e room none first =
       let n = rows_len in
       let row = first.is_row in

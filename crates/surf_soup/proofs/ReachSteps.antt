@@ -1,7 +1,9 @@
 -- Steps of a walk over rows.
-use Rattle.std.proofs.Common.{◌≡◌, ℕ, zero, suc, ◌+◌, ◌<◌, ◌≤◌, Bool, true, false, not, cond, List, [], ◌∷◌, ◌++◌, length, get_or, set, replicate, subst, refl, sym, ap, ◌∙◌, arith, inl, inr}
+use Rattle.std.proofs.Common.{◌≡◌, ℕ, zero, suc, ◌+◌, ◌<◌, ◌≤◌, Bool, true, false, not, cond, List, [], ◌∷◌, ◌++◌}
+use Rattle.std.proofs.Common.{length, get_or, set, replicate, subst, refl, sym, ap, ◌∙◌, arith, inl, inr}
 use Rattle.std.proofs.lemmas.Bool.{true≢false, cases_eq, cases_lt}
-use Rattle.std.proofs.lemmas.List.{length-replicate, get_or-replicate, length-set, get_or-set_same, get_or-set_other, length_push, get_or_push, get_or_append_left, get_or_past}
+use Rattle.std.proofs.lemmas.List.{length-replicate, get_or-replicate, length-set, get_or-set_same, get_or-set_other}
+use Rattle.std.proofs.lemmas.List.{length_push, get_or_push, get_or_append_left, get_or_past}
 use Rattle.std.proofs.lemmas.List.Sums.{sum_by-set, sum_by-cons}
 use Rattle.surf_surfaces.specs.Joined.{Joined, here, over}
 use Rattle.surf_surfaces.proofs.JoinedLaws.{joined_trans, joined_closed}
@@ -14,14 +16,17 @@ pub record Reaches (rows : List (List ℕ)) (from k : ℕ) (seen : List Bool) (l
   pub sound : (j : ℕ) → marked seen j ≡ true → Joined (Leads rows) from j
   pub is_listed : (j : ℕ) → marked seen j ≡ true → (i : ℕ) × (i < length listed) × (get_or listed i 0 ≡ j)
   pub listed_marked : (i : ℕ) → i < length listed → marked seen (get_or listed i 0) ≡ true
-  pub done : (i : ℕ) → i < k → (m : ℕ) → m < length (get_or rows (get_or listed i 0) []) → marked seen (get_or (get_or rows (get_or listed i 0) []) m 0) ≡ true
+  pub done : (i : ℕ) → i < k → (m : ℕ) → m < length (get_or rows (get_or listed i 0) []) →
+      marked seen (get_or (get_or rows (get_or listed i 0) []) m 0) ≡ true
   pub counted : length listed + unmarked seen ≡ length rows
   pub within : k ≤ length listed
 
 pub marked-inside : (seen : List Bool) (j : ℕ) → marked seen j ≡ true → j < length seen
-marked-inside seen j h = elim (cases_lt j (length seen)) [ inl lt ↦ lt | inr ge ↦ absurd (true≢false (sym h ∙ get_or_past seen j false ge)) ]
+marked-inside seen j h =
+    elim (cases_lt j (length seen)) [ inl lt ↦ lt | inr ge ↦ absurd (true≢false (sym h ∙ get_or_past seen j false ge)) ]
 
-module _ (beside : List ℕ) (k : ℕ) (seen_before : List Bool) (listed_before : List ℕ) (seen : List Bool) (listed : List ℕ) (so_far : Visits beside k seen_before listed_before seen listed) where
+module _ (beside : List ℕ) (k : ℕ) (seen_before : List Bool) (listed_before : List ℕ) (seen : List Bool)
+    (listed : List ℕ) (so_far : Visits beside k seen_before listed_before seen listed) where
   pub visit_old : marked seen (get_or beside k 0) ≡ true → Visits beside (k + 1) seen_before listed_before seen listed
   visit_old old = record {
     size = so_far.size;
@@ -29,12 +34,17 @@ module _ (beside : List ℕ) (k : ℕ) (seen_before : List Bool) (listed_before 
     kept = so_far.kept;
     counted = so_far.counted;
     stay = so_far.stay;
-    all = λ i lt. elim (cases_eq i k) [ inl e ↦ ap (λ n. marked seen (get_or beside n 0)) e ∙ old | inr ne ↦ so_far.all i (omega arith) ];
+    all = λ i lt. elim (cases_eq i k) [
+      | inl e ↦ ap (λ n. marked seen (get_or beside n 0)) e
+          ∙ old
+      | inr ne ↦ so_far.all i (omega arith)
+    ];
     only = λ j h. elim (so_far.only j h) [ inl a ↦ inl a | inr b ↦ inr ((b.0.0, omega (arith, b.0.1), b.0.2), b.1) ];
     listed_marked = so_far.listed_marked;
   }
 
-  pub visit_new : (g : ℕ) → g ≡ get_or beside k 0 → g < length seen → marked seen g ≡ false → Visits beside (k + 1) seen_before listed_before (set seen g true) (listed ++ g ∷ [])
+  pub visit_new : (g : ℕ) → g ≡ get_or beside k 0 → g < length seen → marked seen g ≡ false →
+      Visits beside (k + 1) seen_before listed_before (set seen g true) (listed ++ g ∷ [])
   visit_new g is in' new = record {
     size = length-set seen g true ∙ so_far.size;
     longer = let a = so_far.longer in let b = length_push listed g in omega arith;
@@ -45,21 +55,35 @@ module _ (beside : List ℕ) (k : ℕ) (seen_before : List Bool) (listed_before 
         omega (arith, length_push listed g, one, was, so_far.counted);
     stay = λ j h. still j (so_far.stay j h);
     all = λ i lt. elim (cases_eq i k) [
-      | inl e ↦ ap (λ n. marked (set seen g true) (get_or beside n 0)) e ∙ ap (marked (set seen g true)) (sym is) ∙ get_or-set_same seen g true false in'
+      | inl e ↦ ap (λ n. marked (set seen g true) (get_or beside n 0)) e ∙ ap (marked (set seen g true)) (sym is)
+          ∙ get_or-set_same seen g true false in'
       | inr ne ↦ still (get_or beside i 0) (so_far.all i (omega arith))
     ];
     only = λ j h. elim (cases_eq j g) [
-      | inl e ↦ inr ((k, omega arith, sym is ∙ sym e), (length listed, omega (arith, length_push listed g), get_or_push listed g 0 (length listed) refl ∙ sym e))
+      | inl e ↦ inr (
+        (k, omega arith, sym is ∙ sym e),
+        (length listed, omega (arith, length_push listed g), get_or_push listed g 0 (length listed) refl ∙ sym e),
+      )
       | inr ne ↦ elim (so_far.only j (sym (get_or-set_other seen g j true false ne) ∙ h)) [
         | inl a ↦ inl a
-        | inr b ↦ inr ((b.0.0, omega (arith, b.0.1), b.0.2), (b.1.0, omega (arith, b.1.1, length_push listed g), get_or_append_left listed (g ∷ []) 0 b.1.0 b.1.1 ∙ b.1.2))
+        | inr b ↦ inr (
+          (b.0.0, omega (arith, b.0.1), b.0.2),
+          (
+            b.1.0,
+            omega (arith, b.1.1, length_push listed g),
+            get_or_append_left listed (g ∷ []) 0 b.1.0 b.1.1
+                ∙ b.1.2,
+          ),
+        )
       ]
     ];
     listed_marked = λ h i lt. elim (cases_eq i (length listed)) [
-      | inl e ↦ ap (marked (set seen g true)) (ap (λ n. get_or (listed ++ g ∷ []) n 0) e ∙ get_or_push listed g 0 (length listed) refl) ∙ get_or-set_same seen g true false in'
+      | inl e ↦ ap (marked (set seen g true)) (ap (λ n. get_or (listed ++ g ∷ []) n 0) e
+          ∙ get_or_push listed g 0 (length listed) refl) ∙ get_or-set_same seen g true false in'
       | inr ne ↦
           let low : i < length listed = omega (arith, length_push listed g) in
-          ap (marked (set seen g true)) (get_or_append_left listed (g ∷ []) 0 i low) ∙ still (get_or listed i 0) (so_far.listed_marked h i low)
+          ap (marked (set seen g true)) (get_or_append_left listed (g ∷ []) 0 i low)
+          ∙ still (get_or listed i 0) (so_far.listed_marked h i low)
     ];
   }
     where
@@ -67,7 +91,11 @@ module _ (beside : List ℕ) (k : ℕ) (seen_before : List Bool) (listed_before 
       at e = rw e refl
 
       still : (j : ℕ) → marked seen j ≡ true → marked (set seen g true) j ≡ true
-      still j h = elim (cases_eq j g) [ inl e ↦ ap (marked (set seen g true)) e ∙ get_or-set_same seen g true false in' | inr ne ↦ get_or-set_other seen g j true false ne ∙ h ]
+      still j h = elim (cases_eq j g) [
+        | inl e ↦ ap (marked (set seen g true)) e
+            ∙ get_or-set_same seen g true false in'
+        | inr ne ↦ get_or-set_other seen g j true false ne ∙ h
+      ]
 
 pub visit_none : (beside : List ℕ) (seen : List Bool) (listed : List ℕ) → Visits beside 0 seen listed seen listed
 visit_none beside seen listed = record {
@@ -81,7 +109,9 @@ visit_none beside seen listed = record {
   listed_marked = λ h. h;
 }
 
-pub reach_next : (rows : List (List ℕ)) (from k : ℕ) (seen : List Bool) (listed : List ℕ) (beside : List ℕ) (now : List Bool) (listed_now : List ℕ) → Reaches rows from k seen listed → k < length listed → beside ≡ get_or rows (get_or listed k 0) [] →
+pub reach_next : (rows : List (List ℕ)) (from k : ℕ) (seen : List Bool) (listed : List ℕ) (beside : List ℕ)
+    (now : List Bool) (listed_now : List ℕ) → Reaches rows from k seen listed → k < length listed →
+    beside ≡ get_or rows (get_or listed k 0) [] →
     Visits beside (length beside) seen listed now listed_now → Reaches rows from (k + 1) now listed_now
 reach_next rows from k seen listed beside now listed_now r lt is v =
     let f = get_or listed k 0 in
@@ -90,7 +120,13 @@ reach_next rows from k seen listed beside now listed_now r lt is v =
       start = v.stay from r.start;
       sound = λ j h. elim (v.only j h) [
         | inl old ↦ r.sound j old
-        | inr new ↦ joined_trans (r.sound f (r.listed_marked k lt)) (over (new.0.0, omega (arith, new.0.1, ap length is), ap (λ (xs : List ℕ). get_or xs new.0.0 0) (sym is) ∙ new.0.2) here)
+        | inr new ↦ joined_trans (r.sound f (r.listed_marked k lt))
+            (over (
+              new.0.0,
+              omega (arith, new.0.1, ap length is),
+              ap (λ (xs : List ℕ). get_or xs new.0.0 0) (sym is)
+                  ∙ new.0.2,
+            ) here)
       ];
       is_listed = λ j h. elim (v.only j h) [
         | inl old ↦ let o = r.is_listed j old in (o.0, omega (arith, o.1, v.longer), v.kept o.0 o.1 ∙ o.2)
@@ -104,21 +140,26 @@ reach_next rows from k seen listed beside now listed_now r lt is v =
             ap (λ (xs : List ℕ). marked now (get_or xs m 0)) own ∙ v.all m (omega (arith, ap length own))
         | inr ne ↦
             let same : get_or listed_now i 0 ≡ get_or listed i 0 = v.kept i (omega arith) in
-            let own : get_or rows (get_or listed_now i 0) [] ≡ get_or rows (get_or listed i 0) [] = ap (λ n. get_or rows n []) same in
-            ap (λ (xs : List ℕ). marked now (get_or xs m 0)) own ∙ v.stay (get_or (get_or rows (get_or listed i 0) []) m 0) (r.done i (omega arith) m (omega (arith, ap length own)))
+            let own : get_or rows (get_or listed_now i 0) [] ≡ get_or rows (get_or listed i 0) [] =
+            ap (λ n. get_or rows n []) same in
+            ap (λ (xs : List ℕ). marked now (get_or xs m 0)) own
+            ∙ v.stay (get_or (get_or rows (get_or listed i 0) []) m 0)
+            (r.done i (omega arith) m (omega (arith, ap length own)))
       ];
       counted = v.counted ∙ r.counted;
       within = omega (arith, v.longer);
     }
 
-pub reach_end : (rows : List (List ℕ)) (from k : ℕ) (seen : List Bool) (listed : List ℕ) → Reaches rows from k seen listed → length listed ≤ k → IsReach rows from seen
+pub reach_end : (rows : List (List ℕ)) (from k : ℕ) (seen : List Bool) (listed : List ℕ) →
+    Reaches rows from k seen listed → length listed ≤ k → IsReach rows from seen
 reach_end rows from k seen listed r all = record {
   size = r.size;
   sound = r.sound;
   complete = λ j chain. joined_closed (λ x. marked seen x ≡ true) (λ x y leads h.
       let o = r.is_listed x h in
       let same : get_or rows (get_or listed o.0 0) [] ≡ get_or rows x [] = ap (λ n. get_or rows n []) o.2 in
-      ap (marked seen) (sym leads.2) ∙ ap (λ (xs : List ℕ). marked seen (get_or xs leads.0 0)) (sym same) ∙ r.done o.0 (omega (arith, o.1)) leads.0 (omega (arith, leads.1, ap length same))) chain r.start;
+      ap (marked seen) (sym leads.2) ∙ ap (λ (xs : List ℕ). marked seen (get_or xs leads.0 0)) (sym same)
+      ∙ r.done o.0 (omega (arith, o.1)) leads.0 (omega (arith, leads.1, ap length same))) chain r.start;
 }
 
 pub unmarked-fresh : (n : ℕ) → unmarked (replicate n false) ≡ n
@@ -130,7 +171,8 @@ none_marked zero j h = true≢false (sym h)
 none_marked (suc n) zero h = true≢false (sym h)
 none_marked (suc n) (suc j) h = none_marked n j h
 
-pub reach_first : (rows : List (List ℕ)) (from : ℕ) → from < length rows → Reaches rows from 0 (set (replicate (length rows) false) from true) (from ∷ [])
+pub reach_first : (rows : List (List ℕ)) (from : ℕ) → from < length rows →
+    Reaches rows from 0 (set (replicate (length rows) false) from true) (from ∷ [])
 reach_first rows from lt =
     let fresh = replicate (length rows) false in
     let size : length fresh ≡ length rows = length-replicate (length rows) false in
@@ -144,11 +186,13 @@ reach_first rows from lt =
       start = start;
       sound = λ j h. joined_from j (only j h);
       is_listed = λ j h. (0, omega arith, sym (only j h));
-      listed_marked = λ i in'. let e : i ≡ 0 = omega arith in ap (λ n. marked (set fresh from true) (get_or (from ∷ []) n 0)) e ∙ start;
+      listed_marked = λ i in'. let e : i ≡ 0 = omega arith in
+          ap (λ n. marked (set fresh from true) (get_or (from ∷ []) n 0)) e ∙ start;
       done = λ i below m in'. absurd (omega arith);
       counted =
           let one = sum_by-set (λ b. cond (not b) 1 0) fresh from true false (omega arith) in
-          let was : ◌≡◌ {A = ℕ} (cond (not (get_or fresh from false)) 1 0) 1 = ap (λ b. cond (not b) 1 0) (get_or-replicate (length rows) from false false lt) in
+          let was : ◌≡◌ {A = ℕ} (cond (not (get_or fresh from false)) 1 0) 1 =
+          ap (λ b. cond (not b) 1 0) (get_or-replicate (length rows) from false false lt) in
           omega (arith, one, was, unmarked-fresh (length rows));
       within = omega arith;
     }

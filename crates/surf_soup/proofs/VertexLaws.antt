@@ -1,11 +1,13 @@
 -- A vertex has a side exactly where it is in a face.
-use Rattle.std.proofs.Common.{◌≡◌, ℕ, ◌+◌, ◌-◌, ◌<◌, ◌≤◌, true, eqb, List, [], length, get_or, take, map, refl, sym, ap, ◌∙◌, arith, inl, inr, All}
+use Rattle.std.proofs.Common.{◌≡◌, ℕ, ◌+◌, ◌-◌, ◌<◌, ◌≤◌, true, eqb, List, [], length, get_or, take, map, refl, sym, ap}
+use Rattle.std.proofs.Common.{◌∙◌, arith, inl, inr, All}
 use Rattle.std.specs.List.{list_any, range_with_len}
 use Rattle.std.proofs.lemmas.Bool.{true≢false, eq-eqb, eqb-true, cases_eq}
-use Rattle.std.proofs.lemmas.List.{get_or_default, nil_from_length}
+use Rattle.std.proofs.lemmas.List.{get_or_default, get_or_read, nil_from_length}
 use Rattle.std.proofs.lemmas.List.Concat.{length-flat_map, get_or-flat_map}
 use Rattle.std.proofs.lemmas.List.Elements.{All-from_recursion}
-use Rattle.std.proofs.lemmas.List.FromFn.{length-range_with_len, get_or-range_with_len, length-map-range_with_len, get_or-map-range_with_len}
+use Rattle.std.proofs.lemmas.List.FromFn.{length-range_with_len, get_or-range_with_len, length-map-range_with_len}
+use Rattle.std.proofs.lemmas.List.FromFn.{get_or-map-range_with_len}
 use Rattle.surf_surfaces.specs.Mesh.{Mesh, IsMesh}
 use Rattle.surf_surfaces.specs.Surface.{face_at, face_count, HasCorner}
 use Rattle.surf_rows.specs.Groups.{has_key}
@@ -20,9 +22,18 @@ pub corners_len : (mesh : Mesh) → length (all_corners mesh) ≡ side_count mes
 corners_len mesh = length-flat_map (λ (face : List ℕ). face) mesh.faces
 
 -- the corner at a place of a face
-pub corner_at_place : (mesh : Mesh) (f k d : ℕ) → f < face_count mesh → k < length (face_at mesh f) → get_or (all_corners mesh) (first_side mesh f + k) d ≡ get_or (face_at mesh f) k d
+pub corner_at_place : (mesh : Mesh) (f k d : ℕ) → f < face_count mesh → k < length (face_at mesh f) →
+    get_or (all_corners mesh) (first_side mesh f + k) d ≡ get_or (face_at mesh f) k d
 corner_at_place mesh f k d lt in' =
-    ap (λ n. get_or (all_corners mesh) (n + k) d) (sym (length-flat_map (λ (face : List ℕ). face) (take f mesh.faces))) ∙ get_or-flat_map (λ (face : List ℕ). face) mesh.faces f k [] d lt in'
+    ap (λ n. get_or (all_corners mesh) (n + k) d) (sym (length-flat_map (λ (face : List ℕ). face) (take f mesh.faces)))
+    ∙ get_or-flat_map (λ (face : List ℕ). face) mesh.faces f k [] d lt in'
+
+-- a corner as it is read from a table
+pub corner_read : (mesh : Mesh) (corners : List ℕ) (s x : ℕ) → corners ≡ all_corners mesh → s < side_count mesh →
+    x ≡ get_or corners s x → x ≡ get_or (all_corners mesh) s 0
+corner_read mesh corners s x are lt is =
+    let n = corners_len mesh in
+    get_or_read corners s x (omega (arith, lt, n, ap length are)) is 0 ∙ ap (λ (xs : List ℕ). get_or xs s 0) are
 
 -- a side's face and its place there
 pub record IsPlaced (mesh : Mesh) (s f k : ℕ) : Type 0 where
@@ -33,8 +44,13 @@ pub record IsPlaced (mesh : Mesh) (s f k : ℕ) : Type 0 where
 pub placed : (mesh : Mesh) (s : ℕ) → s < side_count mesh → (f : ℕ) × ((k : ℕ) × IsPlaced mesh s f k)
 placed mesh s lt =
     let f = get_or (owners 0 mesh.faces) s 0 in
-    let h = face_of_side mesh (owners 0 mesh.faces) s 0 refl lt in
-    (f, (s - first_side mesh f, record { is_face = h.is_face; is_place = omega (arith, h.from, h.upto); number = omega (arith, h.from) }))
+    let h = face_of_side mesh (owners 0 mesh.faces) s 0 refl lt in (
+      f,
+      (
+        s - first_side mesh f,
+        record { is_face = h.is_face; is_place = omega (arith, h.from, h.upto); number = omega (arith, h.from) },
+      ),
+    )
 
 pub corners_below : (mesh : Mesh) → IsMesh mesh → All (λ v. v < mesh.vertices) (all_corners mesh)
 corners_below mesh is_mesh = λ s d lt.
@@ -43,7 +59,8 @@ corners_below mesh is_mesh = λ s d lt.
     let f = r.0 in
     let k = r.1.0 in
     let p = r.1.1 in
-    let at : get_or (all_corners mesh) s d ≡ get_or (face_at mesh f) k d = ap (λ t. get_or (all_corners mesh) t d) p.number ∙ corner_at_place mesh f k d p.is_face p.is_place in
+    let at : get_or (all_corners mesh) s d ≡ get_or (face_at mesh f) k d =
+    ap (λ t. get_or (all_corners mesh) t d) p.number ∙ corner_at_place mesh f k d p.is_face p.is_place in
     let face = is_mesh f [] p.is_face in
     omega (arith, at, face.inside k d p.is_place)
 
@@ -52,14 +69,17 @@ met mesh v some =
     let n = side_count mesh in
     let all = range_with_len 0 n in
     let s = get_or (sides_at mesh v) 0 0 in
-    let key = All-from_recursion (λ t. has_key (all_corners mesh) v t ≡ true) (sides_at mesh v) (passing (has_key (all_corners mesh) v) all) 0 0 some in
-    let below : s < n = All-from_recursion (λ t. t < n) (sides_at mesh v) (all_filter (λ t. t < n) (has_key (all_corners mesh) v) all (range_below 0 n n (omega arith))) 0 0 some in
+    let key = All-from_recursion (λ t. has_key (all_corners mesh) v t ≡ true) (sides_at mesh v)
+    (passing (has_key (all_corners mesh) v) all) 0 0 some in
+    let below : s < n = All-from_recursion (λ t. t < n) (sides_at mesh v)
+    (all_filter (λ t. t < n) (has_key (all_corners mesh) v) all (range_below 0 n n (omega arith))) 0 0 some in
     let r = placed mesh s below in
     let f = r.0 in
     let k = r.1.0 in
     let p = r.1.1 in
     let corner : get_or (face_at mesh f) k v ≡ v =
-    get_or_default (face_at mesh f) k v 0 p.is_place ∙ sym (corner_at_place mesh f k 0 p.is_face p.is_place) ∙ ap (λ t. get_or (all_corners mesh) t 0) (sym p.number) ∙ eqb-true (get_or (all_corners mesh) s 0) v key in
+    get_or_default (face_at mesh f) k v 0 p.is_place ∙ sym (corner_at_place mesh f k 0 p.is_face p.is_place)
+    ∙ ap (λ t. get_or (all_corners mesh) t 0) (sym p.number) ∙ eqb-true (get_or (all_corners mesh) s 0) v key in
     (f, (p.is_face, (k, p.is_place, corner)))
 
 pub unmet : (mesh : Mesh) (v : ℕ) → length (sides_at mesh v) ≡ 0 → (f : ℕ) → HasCorner mesh f v → ⊥
@@ -72,8 +92,10 @@ unmet mesh v none f h =
     let below : s < n = omega (arith, sp.0, sp.1, h.1.1) in
     let z : 0 + s ≡ s = omega arith in
     let here : get_or all s 0 ≡ s = get_or-range_with_len 0 n s 0 below ∙ z in
-    let key : get_or (all_corners mesh) s 0 ≡ v = corner_at_place mesh f k 0 h.0 h.1.1 ∙ get_or_default (face_at mesh f) k 0 v h.1.1 ∙ h.1.2 in
-    let m = member_filter (has_key (all_corners mesh) v) all s (omega (arith, length-range_with_len 0 n)) (ap (has_key (all_corners mesh) v) here ∙ eq-eqb (get_or (all_corners mesh) s 0) v key) in
+    let key : get_or (all_corners mesh) s 0 ≡ v = corner_at_place mesh f k 0 h.0 h.1.1
+    ∙ get_or_default (face_at mesh f) k 0 v h.1.1 ∙ h.1.2 in
+    let m = member_filter (has_key (all_corners mesh) v) all s (omega (arith, length-range_with_len 0 n))
+    (ap (has_key (all_corners mesh) v) here ∙ eq-eqb (get_or (all_corners mesh) s 0) v key) in
     true≢false (sym m ∙ ap (list_any (eqb (get_or all s 0))) (nil_from_length (sides_at mesh v) none))
 
 module _ (mesh : Mesh) (rows : List (List ℕ)) (are : rows ≡ map (sides_at mesh) (range_with_len 0 mesh.vertices)) where
@@ -81,10 +103,13 @@ module _ (mesh : Mesh) (rows : List (List ℕ)) (are : rows ≡ map (sides_at me
   at_len = ap length are ∙ length-map-range_with_len (sides_at mesh) 0 mesh.vertices
 
   pub at_is : (v : ℕ) → v < mesh.vertices → get_or rows v [] ≡ sides_at mesh v
-  at_is v lt = ap (λ (r : List (List ℕ)). get_or r v []) are ∙ get_or-map-range_with_len (sides_at mesh) 0 mesh.vertices v v [] lt (omega arith)
+  at_is v lt = ap (λ (r : List (List ℕ)). get_or r v []) are
+      ∙ get_or-map-range_with_len (sides_at mesh) 0 mesh.vertices v v [] lt (omega arith)
 
-  pub met_if : (v : ℕ) → v < mesh.vertices → (0 ≤ length (get_or rows v []) → length (get_or rows v []) ≤ 0 → ⊥) → (f : ℕ) × HasCorner mesh f v
-  met_if v lt h = met mesh v (let e = ap length (at_is v lt) in positive (length (get_or rows v [])) (length (sides_at mesh v)) e h)
+  pub met_if : (v : ℕ) → v < mesh.vertices → (0 ≤ length (get_or rows v []) → length (get_or rows v []) ≤ 0 → ⊥) →
+      (f : ℕ) × HasCorner mesh f v
+  met_if v lt h = met mesh v (let e = ap length (at_is v lt) in
+      positive (length (get_or rows v [])) (length (sides_at mesh v)) e h)
     where
       positive : (a b : ℕ) → a ≡ b → (0 ≤ a → a ≤ 0 → ⊥) → 0 < b
       positive a b e h = elim (cases_eq a 0) [ inl z ↦ absurd (h (omega arith) (omega arith)) | inr ne ↦ omega arith ]

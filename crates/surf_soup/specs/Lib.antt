@@ -7,4 +7,5 @@ pub mod Vertices
 pub mod Forest
 pub mod Apart
 pub mod Ring
+pub mod First
 pub mod Kept

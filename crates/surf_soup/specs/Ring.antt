@@ -1,11 +1,15 @@
 -- Rings: the sides that begin at a vertex, in the order round it.
 use Rattle.std.specs.Prelude.{◌≡◌, ◌≢◌, ℕ, zero, suc, ◌+◌, ◌-◌, ◌<◌, ◌==◌, ◌⊎◌, Bool, true, false, not, cond, List}
-use Rattle.std.specs.Prelude.{[], length, get_or}
+use Rattle.std.specs.Prelude.{◌++◌, ◌^◌, [], length, get_or, map}
+use Rattle.std.specs.List.{range_with_len}
 use Rattle.surf_surfaces.specs.Joined.{Joined}
-use Rattle.surf_surfaces.specs.Mesh.{Mesh}
+use Rattle.surf_surfaces.specs.Mesh.{Mesh, IsMesh}
 use Rattle.surf_surfaces.specs.Side.{after, before}
 use Rattle.surf_surfaces.specs.Surface.{face_at, edge_count, ends, touches, HasCorner, HasEdge, ShareAt, HasOneFan}
-use Rattle.surf_surfaces.specs.SideNumber.{side_count, pair_at, first_side, IsFaceOf}
+use Rattle.surf_surfaces.specs.SideNumber.{side_count, pair_at, owners, first_side, IsFaceOf}
+use Rattle.surf_soup.specs.EdgeTable.{AreEdgeNumbers}
+use Rattle.surf_soup.specs.Half.{AreAllMates}
+use Rattle.surf_soup.specs.Pairs.{HasTwoFaces}
 use Rattle.surf_soup.specs.Vertices.{all_corners, sides_at}
 use Rattle.surf_soup.specs.Reach.{marked, unmarked}
 use Rattle.surf_soup.specs.declared.rings.Rings.{Rings}
@@ -31,25 +35,6 @@ abbrev pub turns : List ℕ → List ℕ → List ℕ → List ℕ → ℕ → �
 turns next prev mate tails zero d = d
 turns next prev mate tails (suc n) d = turn_of next prev mate tails (turns next prev mate tails n d)
 
--- what the tables of darts keep
-pub record AreDarts (next prev mate tails : List ℕ) : Type 0 where
-  pub prev_size : length prev ≡ length next
-  pub mate_size : length mate ≡ length next
-  pub tails_size : length tails ≡ length next
-  pub next_in : (s : ℕ) → s < length next → get_or next s 0 < length next
-  pub prev_in : (s : ℕ) → s < length next → get_or prev s 0 < length next
-  pub next_prev : (s : ℕ) → s < length next → get_or next (get_or prev s 0) 0 ≡ s
-  pub prev_next : (s : ℕ) → s < length next → get_or prev (get_or next s 0) 0 ≡ s
-  pub mate_in : (s : ℕ) → s < length next → get_or mate s 0 < length next
-  pub mate_twice : (s : ℕ) → s < length next → get_or mate (get_or mate s 0) 0 ≡ s
-  pub mate_other : (s : ℕ) → s < length next → get_or mate s 0 ≢ s
-  pub ends_differ : (s : ℕ) → s < length next → get_or tails (get_or next s 0) 0 ≢ get_or tails s 0
-  pub ends_same : (s : ℕ) → s < length next →
-      ((get_or tails (get_or mate s 0) 0 ≡ get_or tails s 0)
-      × (get_or tails (get_or next (get_or mate s 0) 0) 0 ≡ get_or tails (get_or next s 0) 0))
-      ⊎ ((get_or tails (get_or mate s 0) 0 ≡ get_or tails (get_or next s 0) 0)
-      × (get_or tails (get_or next (get_or mate s 0) 0) 0 ≡ get_or tails s 0))
-
 -- a whole round
 pub record IsRound (next prev mate tails : List ℕ) (d : ℕ × Bool) (seen_before seen : List Bool)
     (ring : List ℕ) : Type 0 where
@@ -58,6 +43,7 @@ pub record IsRound (next prev mate tails : List ℕ) (d : ℕ × Bool) (seen_bef
   pub closes : turns next prev mate tails (length ring) d ≡ d
   pub entries : (k : ℕ) → k < length ring → get_or ring k 0 ≡ dart_corner next (turns next prev mate tails k d)
   pub are_marked : (k : ℕ) → k < length ring → marked seen (get_or ring k 0) ≡ true
+  pub stay : (s : ℕ) → marked seen_before s ≡ true → marked seen s ≡ true
   pub only : (s : ℕ) → marked seen s ≡ true →
       (marked seen_before s ≡ true) ⊎ ((k : ℕ) × (k < length ring) × (get_or ring k 0 ≡ s))
   pub differ : (i k : ℕ) → i < k → k < length ring → get_or ring i 0 ≢ get_or ring k 0
@@ -73,6 +59,45 @@ pub record AreTurned (turn : ℕ → ℕ → ℕ) (mesh : Mesh) (count : ℕ) (t
   pub size : length table ≡ first_side mesh count
   pub at : (f k : ℕ) → f < count → k < length (face_at mesh f) →
       get_or table (first_side mesh f + k) 0 ≡ first_side mesh f + turn (length (face_at mesh f)) k
+
+-- for each side the side at another place of its face
+abbrev pub turned : (ℕ → ℕ → ℕ) → Mesh → List ℕ
+turned turn mesh =
+    map
+    (λ s. let f = get_or (owners 0 mesh.faces) s 0 in
+    first_side mesh f + turn (length (face_at mesh f)) (s - first_side mesh f))
+    (range_with_len 0 (side_count mesh))
+
+-- the next side of each side around its face, and the one before it
+abbrev pub nexts : Mesh → List ℕ
+nexts mesh = turned after mesh
+
+abbrev pub befores : Mesh → List ℕ
+befores mesh = turned before mesh
+
+-- tables of a soup whose edges have two faces each: for each side its face, its mate and its edge
+pub record AreDartTables (mesh : Mesh) (face_of mate edge_of : List ℕ) : Type 0 where
+  pub is_mesh : IsMesh mesh
+  pub few : side_count mesh < 2 ^ 30
+  pub two : HasTwoFaces mesh
+  pub faces : face_of ≡ owners 0 mesh.faces
+  pub mates : AreAllMates mesh mate
+  pub numbers : AreEdgeNumbers mesh edge_of
+
+-- the dart at the head of the side before a side
+abbrev pub dart_before : Mesh → ℕ → ℕ × Bool
+dart_before mesh s = (get_or (befores mesh) s 0, true)
+
+-- a whole round from a side is listed behind other sides, and the edges of its darts behind other edges
+pub record IsRoundListed (mesh : Mesh) (mate edge_of : List ℕ) (home : ℕ) (seen_before seen : List Bool)
+    (sides_before sides edges_before edges : List ℕ) : Type 0 where
+  pub ring : List ℕ
+  pub between : List ℕ
+  pub sides_are : sides ≡ sides_before ++ ring
+  pub edges_are : edges ≡ edges_before ++ between
+  pub round : IsRound (nexts mesh) (befores mesh) mate (all_corners mesh) (dart_before mesh home) seen_before seen ring
+  pub trail : IsTrail (nexts mesh) (befores mesh) mate (all_corners mesh) edge_of (dart_before mesh home) (length ring)
+      between
 
 -- a side begins at a vertex
 abbrev pub BeginsAt : Mesh → ℕ → ℕ → Type 0
@@ -133,6 +158,20 @@ pub record IsLeastPinch (mesh : Mesh) (v f g : ℕ) : Type 0 where
   pub is_vertex : v < mesh.vertices
   pub pinch : IsPinch mesh v f g
   pub none_before : (u : ℕ) → u < v → HasOneFan mesh u
+
+-- The ring of a vertex by marks of sides: it is whole where all sides at the vertex are marked; else the vertex is
+-- pinched, and the least side that isn't marked tells where.
+pub record IsMarkedRing (mesh : Mesh) (seen : List Bool) (v : ℕ) (ring edges : List ℕ) : Type 0 where
+  pub whole : ((s : ℕ) → BeginsAt mesh v s → marked seen s ≡ true) → IsWholeRing mesh v ring edges
+  pub pinch : (s : ℕ) → BeginsAt mesh v s → marked seen s ≡ false →
+      ((t : ℕ) → t < s → BeginsAt mesh v t → marked seen t ≡ true) →
+      IsPinch mesh v (get_or (owners 0 mesh.faces) (get_or (sides_at mesh v) 0 0) 0) (get_or (owners 0 mesh.faces) s 0)
+
+-- rings of the first vertices, by marks of sides
+pub record AreMarkedRings (mesh : Mesh) (seen : List Bool) (count : ℕ) (rings edges : List (List ℕ)) : Type 0 where
+  pub size : length rings ≡ count
+  pub edges_size : length edges ≡ count
+  pub rings_are : (v : ℕ) → v < count → IsMarkedRing mesh seen v (get_or rings v []) (get_or edges v [])
 
 -- rings of the first vertices
 pub record AreAllRings (mesh : Mesh) (count : ℕ) (rings edges : List (List ℕ)) : Type 0 where

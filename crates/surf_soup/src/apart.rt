@@ -1,9 +1,8 @@
 //! The least face that isn't joined with the first.
-ghost use Rattle.std.specs.Prelude.{◌≡◌, ◌<◌, ℕ, length, IfOk, MatchOption, true, false};
+ghost use Rattle.std.specs.Prelude.{◌≡◌, ◌<◌, ℕ, IfOk, MatchOption};
 ghost use Rattle.std.specs.List.{range_with_len};
 ghost use Rattle.surf_surfaces.specs.Surface.{face_count, IsConnected};
 ghost use Rattle.surf_soup.specs.Pairs.{HasTwoFaces};
-ghost use Rattle.surf_soup.specs.Reach.{marked};
 ghost use Rattle.surf_surfaces.specs.SideNumber.{owners};
 ghost use Rattle.surf_soup.specs.Half.{AreAllMates};
 ghost use Rattle.surf_soup.specs.Apart.{AreFaceRoots, IsLeastApart};
@@ -30,20 +29,6 @@ fn join_faces(soup: &Soup, mate: &[SideId], face_of: &[FaceId], parents: &mut [u
             join(parents, own, across);
         }
     }
-}
-
-/// The first mark that is false.
-pub fn first_unmarked(seen: &[bool]) -> Option<usize>
-    ensures { MatchOption result ((k : ℕ) → k < length seen.now → marked seen.now k ≡ true)
-        (λ f. (f < length seen.now) × (marked seen.now f ≡ false) × ((j : ℕ) → j < f →
-        marked seen.now j ≡ true)) }
-{
-    for (k, mark) in seen.iter().enumerate() {
-        if !*mark {
-            return Some(k);
-        }
-    }
-    None
 }
 
 /// The least face that isn't joined with face 0.

@@ -1,9 +1,9 @@
 //! Sets of numbers that are joined.
 //!
-//! Each number has a parent, which is no greater. A number that is its own parent is a root, and the
-//! least of its set; the others of the set lead to it. On the way to a root each second number gets
-//! a parent further up, as in R. E. Tarjan and J. van Leeuwen, "Worst-case analysis of set union
-//! algorithms" (1984).
+//! Each number has a parent, which is no greater. A number that is its own parent is a root, and
+//! the least of its set; the others of the set lead to it. On the way to a root each second number
+//! gets a parent further up, as in R. E. Tarjan and J. van Leeuwen, "Worst-case analysis of set
+//! union algorithms" (1984).
 ghost use Rattle.std.specs.Prelude.{◌≡◌, ◌≢◌, ◌<◌, ◌≤◌, ℕ, length, slice_index, IfOk, MatchOption};
 ghost use Rattle.std.specs.List.{range_with_len};
 ghost use Rattle.surf_soup.specs.Forest.{Falls, HasRoots, merged};

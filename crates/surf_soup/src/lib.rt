@@ -19,7 +19,8 @@
 //!
 //! The tables are those of half-edges, as in D. E. Muller and F. P. Preparata, "Finding the
 //! intersection of two convex polyhedra" (1978). A ring is found by turning from each side to the
-//! next one at the same vertex, which needs no orientation of the faces. Whether all faces hang
+//! next one at the same vertex, from the least side there, which needs no orientation of the faces.
+//! Where all rings together leave a side out, its vertex is pinched. Whether all faces hang
 //! together is told by parents: one pass over the sides joins the faces of each edge.
 #![tactic(auto)]
 
@@ -34,11 +35,11 @@ mod soup;
 mod tables;
 mod vertices;
 
-pub use apart::{find_apart, first_unmarked};
+pub use apart::find_apart;
 pub use mate_table::all_mates;
 pub use pairs::{PairFault, face_in, first_row, pair_edges, paired_table};
-pub use reaching::reach;
+pub use reaching::{first_unmarked, reach};
 pub use rings::{Rings, find_rings, first_left, next_sides, sides_before};
 pub use soup::Soup;
 pub use tables::{EdgeTable, edge_table};
-pub use vertices::{find_isolated, vertex_sides};
+pub use vertices::{find_isolated, first_sides, vertex_sides};

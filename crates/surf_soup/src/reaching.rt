@@ -1,6 +1,7 @@
 //! What a walk over rows of numbers reaches.
-ghost use Rattle.std.specs.Prelude.{◌≡◌, ◌<◌, length, replicate, false, [], All, OnOk, IfOk};
-ghost use Rattle.surf_soup.specs.Reach.{Visits, IsReach};
+ghost use Rattle.std.specs.Prelude.{◌≡◌, ◌<◌, ℕ, length, replicate, true, false, [], All, OnOk, IfOk};
+ghost use Rattle.std.specs.Prelude.{MatchOption};
+ghost use Rattle.surf_soup.specs.Reach.{Visits, IsReach, marked};
 
 use std::alloc::Global;
 use surf_base::NoMemory;
@@ -56,4 +57,18 @@ pub fn reach(alloc: Global, rows: &Rows<u32>, from: u32) -> Result<Vec<bool>, No
     let mut listed = Vec::with_capacity(alloc, rows.len())?;
     walk(rows, from, &mut seen, &mut listed)?;
     Ok(seen)
+}
+
+/// The first mark that is false.
+pub fn first_unmarked(seen: &[bool]) -> Option<usize>
+    ensures { MatchOption result ((k : ℕ) → k < length seen.now → marked seen.now k ≡ true)
+        (λ f. (f < length seen.now) × (marked seen.now f ≡ false) × ((j : ℕ) → j < f →
+        marked seen.now j ≡ true)) }
+{
+    for (k, mark) in seen.iter().enumerate() {
+        if !*mark {
+            return Some(k);
+        }
+    }
+    None
 }

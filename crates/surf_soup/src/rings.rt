@@ -1,20 +1,19 @@
 //! The rings of vertices.
-ghost use Rattle.std.specs.Prelude.{◌≡◌, ◌<◌, ◌≤◌, ◌+◌, ◌^◌, ◌⊎◌, ℕ, length, map, replicate, OnOk, IfOk, MatchOption};
+ghost use Rattle.std.specs.Prelude.{◌≡◌, ◌<◌, ◌+◌, ◌^◌, ℕ, length, replicate, OnOk, IfOk, MatchOption};
 ghost use Rattle.std.specs.Prelude.{slice_index, true, false};
-ghost use Rattle.std.specs.List.{range_with_len};
 ghost use Rattle.surf_surfaces.specs.Side.{after, before};
-ghost use Rattle.surf_surfaces.specs.Surface.{face_count, HasOneFan};
-ghost use Rattle.surf_soup.specs.Reach.{marked, unmarked};
-ghost use Rattle.surf_surfaces.specs.SideNumber.{side_count, owners};
-ghost use Rattle.surf_soup.specs.EdgeTable.{AreEdgeNumbers, IsTableOf};
+ghost use Rattle.surf_surfaces.specs.Surface.{face_count};
+ghost use Rattle.surf_soup.specs.Reach.{marked};
+ghost use Rattle.surf_surfaces.specs.SideNumber.{side_count};
+ghost use Rattle.surf_soup.specs.EdgeTable.{IsTableOf};
 ghost use Rattle.surf_soup.specs.Half.{AreAllMates};
 ghost use Rattle.surf_soup.specs.Pairs.{HasTwoFaces};
-ghost use Rattle.surf_soup.specs.Vertices.{all_corners, sides_at, AllMet};
-ghost use Rattle.surf_soup.specs.Ring.{dart_corner, turn_of, AreDarts, IsRound, IsTrail, AreTurned, BeginsAt};
-ghost use Rattle.surf_soup.specs.Ring.{IsWholeRing, IsPinch, AreRings};
+ghost use Rattle.surf_soup.specs.Vertices.{all_corners, AllMet};
+ghost use Rattle.surf_soup.specs.Ring.{dart_corner, turn_of, nexts, befores, AreDartTables, IsRoundListed};
+ghost use Rattle.surf_soup.specs.Ring.{AreTurned, BeginsAt, AreMarkedRings, AreRings};
+ghost use Rattle.surf_soup.specs.First.{AreFirstSides, IsFirstLeft};
 
 use crate::Soup;
-use crate::pairs::face_in;
 use crate::tables::EdgeTable;
 use std::alloc::Global;
 use surf_base::{EdgeId, FaceId, NoMemory, SideId, VertexId};
@@ -34,13 +33,11 @@ pub enum Rings {
     },
 }
 
-// For each side the next one and the one before it around its face, its mate and its edge; the soup
-// says at which vertex it begins.
+// The soup with the face, the mate and the edge of each side.
 #[derive(Drop)]
 struct Darts<'t> {
     soup: &'t Soup,
-    next: &'t [u32],
-    prev: &'t [u32],
+    face_of: &'t [FaceId],
     mate: &'t [SideId],
     edge_of: &'t [u32],
 }
@@ -92,67 +89,76 @@ fn list_befores(table: &mut Vec<u32>, first: u32, count: u32) -> Result<(), NoMe
     Ok(())
 }
 
-// The corner that a dart stands at.
-fn corner_at(next: &[u32], side: u32, head: bool) -> u32
-    requires { side < length next.now }
-    ensures { result ≡ dart_corner next.now (side, head) }
+// The next side of a side, around its face.
+fn next_side(darts: &Darts<'_>, side: u32) -> u32
+    requires darts { AreDartTables darts.now.soup.now
+        darts.now.face_of.now darts.now.mate.now darts.now.edge_of.now }
+    requires side { side < side_count darts.now.soup.now }
+    ensures { result ≡ slice_index (nexts darts.now.soup.now) side }
 {
-    if head { next[side as usize] } else { side }
+    let (start, end) = darts.soup.span(darts.face_of[side as usize]);
+    if side + 1 < end { side + 1 } else { start }
 }
 
-// Whether a side and its mate run the same way.
-fn turn_dart(darts: &Darts<'_>, side: u32, head: bool) -> (u32, bool)
-    requires darts { AreDarts darts.now.next.now darts.now.prev.now darts.now.mate.now
-        (all_corners darts.now.soup.now) }
-    requires side { side < length darts.now.next.now }
-    ensures { result ≡ turn_of darts.now.next.now darts.now.prev.now darts.now.mate.now
-        (all_corners darts.now.soup.now) (side, head) }
+// The side before a side, around its face.
+fn side_before(darts: &Darts<'_>, side: u32) -> u32
+    requires darts { AreDartTables darts.now.soup.now
+        darts.now.face_of.now darts.now.mate.now darts.now.edge_of.now }
+    requires side { side < side_count darts.now.soup.now }
+    ensures { result ≡ slice_index (befores darts.now.soup.now) side }
+{
+    let (start, end) = darts.soup.span(darts.face_of[side as usize]);
+    if side == start { end - 1 } else { side - 1 }
+}
+
+// Turns a dart to the next one at its vertex, and gives the corner at which that one stands.
+fn turn_dart(darts: &Darts<'_>, side: u32, head: bool) -> (u32, bool, u32)
+    requires darts { AreDartTables darts.now.soup.now
+        darts.now.face_of.now darts.now.mate.now darts.now.edge_of.now }
+    requires side { side < side_count darts.now.soup.now }
+    ensures dart { (result.0, result.1) ≡ turn_of (nexts darts.now.soup.now)
+        (befores darts.now.soup.now) darts.now.mate.now (all_corners darts.now.soup.now)
+        (side, head) }
+    ensures corner { result.2 ≡ dart_corner (nexts darts.now.soup.now) (result.0, result.1) }
 {
     let tails = darts.soup.corners();
     let across = darts.mate[side as usize];
     let same = tails[across.index()] == tails[side as usize];
     if same == head {
-        (darts.next[across.index()], false)
+        let corner = next_side(darts, across.number());
+        (corner, false, corner)
     } else {
-        (darts.prev[across.index()], true)
+        let before = side_before(darts, across.number());
+        (before, true, across.number())
     }
 }
 
-// Goes round a vertex from a dart at its head.
+// Goes round a vertex from one of its sides, and lists the sides and the edges that it meets.
 fn go_round(
     darts: &Darts<'_>,
-    from: u32,
+    home: SideId,
     seen: &mut [bool],
-    ring: &mut Vec<SideId>,
+    sides: &mut Vec<SideId>,
     edges: &mut Vec<EdgeId>,
 ) -> Result<(), NoMemory>
-    requires darts { AreDarts darts.now.next.now darts.now.prev.now darts.now.mate.now
-        (all_corners darts.now.soup.now) }
-    requires start { from < length darts.now.next.now }
-    requires edges { length darts.now.edge_of.now ≡ length darts.now.next.now }
-    requires size { length seen.old ≡ length darts.now.next.now }
-    requires fresh { (s : ℕ) → s < length darts.now.next.now
-        → slice_index (all_corners darts.now.soup.now) s
-        ≡ slice_index (all_corners darts.now.soup.now)
-        (dart_corner darts.now.next.now (from, true))
-        → marked seen.old s ≡ false }
-    ensures round { OnOk result (IsRound darts.now.next.now darts.now.prev.now darts.now.mate.now
-        (all_corners darts.now.soup.now) (from, true) seen.old seen.new ring.new.items) }
-    ensures trail { OnOk result (IsTrail darts.now.next.now darts.now.prev.now darts.now.mate.now
-        (all_corners darts.now.soup.now) darts.now.edge_of.now (from, true)
-        (length ring.new.items) edges.new.items) }
+    requires darts { AreDartTables darts.now.soup.now
+        darts.now.face_of.now darts.now.mate.now darts.now.edge_of.now }
+    requires home { home < side_count darts.now.soup.now }
+    requires size { length seen.old ≡ side_count darts.now.soup.now }
+    requires fresh { (s : ℕ) → BeginsAt darts.now.soup.now
+        (slice_index (all_corners darts.now.soup.now) home) s → marked seen.old s ≡ false }
+    ensures { OnOk result (IsRoundListed darts.now.soup.now darts.now.mate.now
+        darts.now.edge_of.now home seen.old seen.new
+        sides.old.items sides.new.items edges.old.items edges.new.items) }
 {
-    ring.clear();
-    edges.clear();
-    let mut side = from;
+    let mut side = side_before(darts, home.number());
     let mut head = true;
-    let mut corner = darts.next[side as usize];
+    let mut corner = home.number();
     while !seen[corner as usize] {
         seen[corner as usize] = true;
-        ring.push(SideId::new(corner))?;
+        sides.push(SideId::new(corner))?;
         edges.push(EdgeId::new(darts.edge_of[side as usize]))?;
-        (side, head) = turn_dart(darts, side, head);
-        corner = corner_at(darts.next, side, head);
+        (side, head, corner) = turn_dart(darts, side, head);
     }
     Ok(())
 }
@@ -203,115 +209,114 @@ pub fn first_left(row: &[SideId], seen: &[bool]) -> Option<usize>
     None
 }
 
-// Goes round a vertex from the first of its sides, and finds the first of them that isn't met.
-fn ring_at(
-    darts: &Darts<'_>,
-    row: &[SideId],
-    v: VertexId,
-    seen: &mut [bool],
-    ring: &mut Vec<SideId>,
-    edges: &mut Vec<EdgeId>,
-) -> Result<Option<usize>, NoMemory>
-    requires next { AreTurned after darts.now.soup.now (face_count darts.now.soup.now)
-        darts.now.next.now }
-    requires prev { AreTurned before darts.now.soup.now (face_count darts.now.soup.now)
-        darts.now.prev.now }
-    requires mates { AreAllMates darts.now.soup.now darts.now.mate.now }
-    requires two { HasTwoFaces darts.now.soup.now }
-    requires edges { AreEdgeNumbers darts.now.soup.now darts.now.edge_of.now }
-    requires row { row.now ≡ sides_at darts.now.soup.now v }
-    requires some { 0 < length row.now }
-    requires size { length seen.old ≡ side_count darts.now.soup.now }
-    requires fresh { (s : ℕ) → BeginsAt darts.now.soup.now v s → marked seen.old s ≡ false }
-    ensures count { OnOk result (length ring.new.items + unmarked seen.new ≡ unmarked seen.old) }
-    ensures long { OnOk result (length edges.new.items ≡ length ring.new.items) }
-    ensures others { OnOk result ((s : ℕ) → marked seen.new s ≡ true
-        → (marked seen.old s ≡ true) ⊎ BeginsAt darts.now.soup.now v s) }
-    ensures found { IfOk result (λ r. MatchOption r
-        (IsWholeRing darts.now.soup.now v ring.new.items edges.new.items)
-        (λ k. (k < length row.now) × IsPinch darts.now.soup.now v
-        (slice_index (owners 0 darts.now.soup.now.faces) (slice_index row.now 0))
-        (slice_index (owners 0 darts.now.soup.now.faces) (slice_index row.now k)))) }
-{
-    darts.soup.law_of_soup();
-    let from = darts.prev[row[0].index()];
-    go_round(darts, from, seen, ring, edges)?;
-    let left = first_left(row, seen);
-    Ok(left)
-}
-
-// Goes round each vertex in turn.
+// Goes round each vertex in turn, from the first of its sides.
 fn go_rings(
     alloc: Global,
     darts: &Darts<'_>,
-    face_of: &[FaceId],
-    at_vertex: &Rows<SideId>,
+    first: &[SideId],
+    seen: &mut [bool],
+) -> Result<(Rows<SideId>, Rows<EdgeId>), NoMemory>
+    requires darts { AreDartTables darts.now.soup.now
+        darts.now.face_of.now darts.now.mate.now darts.now.edge_of.now }
+    requires first { AreFirstSides darts.now.soup.now first.now }
+    requires met { AllMet darts.now.soup.now }
+    requires fresh { seen.old ≡ replicate (side_count darts.now.soup.now) false }
+    ensures { IfOk result (λ t. AreMarkedRings darts.now.soup.now seen.new
+        darts.now.soup.now.vertices t.0 t.1) }
+{
+    let room = darts.mate.len();
+    let mut sides = Vec::with_capacity(alloc, room)?;
+    let mut edges = Vec::with_capacity(alloc, room)?;
+    let mut ends = Vec::with_capacity(alloc, first.len())?;
+    for home in first {
+        go_round(darts, *home, seen, &mut sides, &mut edges)?;
+        ends.push(sides.len() as u32)?;
+    }
+    let edge_ends = ends.to_vec(alloc)?;
+    Ok((
+        Rows::from_parts(sides, ends),
+        Rows::from_parts(edges, edge_ends),
+    ))
+}
+
+// The least vertex with a side that isn't marked, and the least such side there.
+fn least_left(soup: &Soup, seen: &[bool]) -> Option<(VertexId, SideId)>
+    requires { length seen.now ≡ side_count soup.now }
+    ensures { MatchOption result ((s : ℕ) → s < side_count soup.now → marked seen.now s ≡ true)
+        (λ p. IsFirstLeft (all_corners soup.now) seen.now p.0 p.1) }
+{
+    soup.law_of_soup();
+    let corners = soup.corners();
+    let none = VertexId::new(soup.vertices());
+    let mut least = none;
+    let mut side = SideId::new(0);
+    for s in 0..corners.len() {
+        if !seen[s] && corners[s] < least {
+            least = corners[s];
+            side = SideId::new(s as u32);
+        }
+    }
+    if least == none {
+        return None;
+    }
+    Some((least, side))
+}
+
+// The rings of all vertices where no side is left, and else the pinch at the least vertex with one
+// that is.
+fn judge_rings(
+    alloc: Global,
+    darts: &Darts<'_>,
+    first: &[SideId],
     seen: &mut [bool],
 ) -> Result<Rings, NoMemory>
-    requires next { AreTurned after darts.now.soup.now (face_count darts.now.soup.now)
-        darts.now.next.now }
-    requires prev { AreTurned before darts.now.soup.now (face_count darts.now.soup.now)
-        darts.now.prev.now }
-    requires mates { AreAllMates darts.now.soup.now darts.now.mate.now }
-    requires two { HasTwoFaces darts.now.soup.now }
-    requires edges { AreEdgeNumbers darts.now.soup.now darts.now.edge_of.now }
-    requires faces { face_of.now ≡ owners 0 darts.now.soup.now.faces }
-    requires rows { at_vertex.now
-        ≡ map (sides_at darts.now.soup.now) (range_with_len 0 darts.now.soup.now.vertices) }
+    requires darts { AreDartTables darts.now.soup.now
+        darts.now.face_of.now darts.now.mate.now darts.now.edge_of.now }
+    requires first { AreFirstSides darts.now.soup.now first.now }
     requires met { AllMet darts.now.soup.now }
     requires fresh { seen.old ≡ replicate (side_count darts.now.soup.now) false }
     ensures { IfOk result (λ r. AreRings darts.now.soup.now r) }
 {
-    darts.soup.law_of_soup();
-    let mut ring = Vec::new(alloc);
-    let mut between = Vec::new(alloc);
-    let mut sides = Rows::with_room(alloc, at_vertex.len(), at_vertex.total())?;
-    let mut edges = Rows::with_room(alloc, at_vertex.len(), at_vertex.total())?;
-    for v in 0..darts.soup.vertices() {
-        let vertex = VertexId::new(v);
-        let row = at_vertex.row(v as usize);
-        let left = ring_at(darts, row, vertex, seen, &mut ring, &mut between)?;
-        if let Some(k) = left {
-            let first = face_in(row, 0, face_of);
-            let second = face_in(row, k, face_of);
-            return Ok(Rings::Pinched {
-                v: vertex,
-                first,
-                second,
-            });
+    let (sides, edges) = go_rings(alloc, darts, first, seen)?;
+    match least_left(darts.soup, seen) {
+        None => Ok(Rings::All { sides, edges }),
+        Some((v, left)) => {
+            let home = first[v.index()];
+            Ok(Rings::Pinched {
+                v,
+                first: darts.face_of[home.index()],
+                second: darts.face_of[left.index()],
+            })
         }
-        sides.push(&ring)?;
-        edges.push(&between)?;
     }
-    Ok(Rings::All { sides, edges })
 }
 
 /// The ring of each vertex, or the least vertex whose faces are more than one cycle.
+///
+/// A round from the first side of a vertex marks the sides that it meets. Where one side is left
+/// after all rounds, its vertex is pinched.
 pub fn find_rings(
     alloc: Global,
     soup: &Soup,
     mate: &[SideId],
     table: &EdgeTable,
-    at_vertex: &Rows<SideId>,
+    first: &[SideId],
 ) -> Result<Rings, NoMemory>
     requires mates { AreAllMates soup.now mate.now }
     requires two { HasTwoFaces soup.now }
     requires table { IsTableOf soup.now table.now }
-    requires rows { at_vertex.now ≡ map (sides_at soup.now) (range_with_len 0 soup.now.vertices) }
+    requires first { AreFirstSides soup.now first.now }
     requires met { AllMet soup.now }
     ensures { IfOk result (λ r. AreRings soup.now r) }
 {
-    let next = next_sides(alloc, soup)?;
-    let prev = sides_before(alloc, soup)?;
-    let count = soup.side_count();
-    let mut seen = vec![in alloc; false; count as usize]?;
+    soup.law_of_soup();
     let darts = Darts {
         soup,
-        next: &next,
-        prev: &prev,
+        face_of: &table.face_of,
         mate,
         edge_of: &table.edge_of,
     };
-    let rings = go_rings(alloc, &darts, &table.face_of, at_vertex, &mut seen)?;
+    let mut seen = vec![in alloc; false; mate.len()]?;
+    let rings = judge_rings(alloc, &darts, first, &mut seen)?;
     Ok(rings)
 }

@@ -2,7 +2,7 @@
 ghost use Rattle.std.specs.Prelude.{◌≡◌, ◌<◌, ◌+◌, ◌*◌, ◌^◌, [], ◌∷◌, ◌++◌, length, slice_index_or, OnOk, OnErr};
 ghost use Rattle.std.specs.List.{flat_map};
 ghost use Rattle.surf_surfaces.specs.Mesh.{IsFace, IsMesh};
-ghost use Rattle.surf_surfaces.specs.SideNumber.{side_count};
+ghost use Rattle.surf_surfaces.specs.SideNumber.{side_count, first_side};
 
 use std::alloc::Global;
 use std::marker::Model;
@@ -95,6 +95,17 @@ impl Soup {
         ensures few { length result.now < 2 ^ 30 }
     {
         self.faces.row(f.index())
+    }
+
+    /// The number of a face's first side, and of the side behind its last one.
+    pub(crate) fn span(&self, f: FaceId) -> (u32, u32)
+        requires { f < length self.now.faces }
+        ensures start { result.0 ≡ first_side self.now f }
+        ensures end { result.1 ≡ first_side self.now (f + 1) }
+        ensures few { result.1 < 2 ^ 30 }
+    {
+        let (start, end) = self.faces.span(f.index());
+        (start as u32, end as u32)
     }
 
     /// Its number of vertices and its faces.

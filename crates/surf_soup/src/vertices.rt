@@ -3,9 +3,9 @@ ghost use Rattle.std.specs.Prelude.{◌≡◌, ◌<◌, ◌^◌, length, map, If
 ghost use Rattle.std.specs.List.{range_with_len, flat_map};
 ghost use Rattle.surf_surfaces.specs.SideNumber.{side_count};
 ghost use Rattle.surf_soup.specs.Vertices.{sides_at, IsLeastIsolated, AllMet};
+ghost use Rattle.surf_soup.specs.First.{AreFirstSides};
 
 use crate::Soup;
-use crate::pairs::first_row;
 use std::alloc::Global;
 use surf_base::{NoMemory, SideId, VertexId};
 use surf_rows::{Rows, group_sides};
@@ -37,11 +37,31 @@ pub fn vertex_sides(
     Ok(group_sides(alloc, numbers, &tails, count)?)
 }
 
+/// The least side that begins at each vertex; the number of all sides where none begins there.
+pub fn first_sides(alloc: Global, soup: &Soup) -> Result<Vec<SideId>, NoMemory>
+    ensures { IfOk result (λ v. AreFirstSides soup.now v.items) }
+{
+    soup.law_of_soup();
+    let corners = soup.corners();
+    let none = SideId::new(soup.side_count());
+    let mut first = vec![in alloc; none; soup.vertices() as usize]?;
+    for s in (0..corners.len()).rev() {
+        first[corners[s].index()] = SideId::new(s as u32);
+    }
+    Ok(first)
+}
+
 /// The least vertex that is in no face.
-pub fn find_isolated(soup: &Soup, at_vertex: &Rows<SideId>) -> Option<usize>
-    requires { at_vertex.now ≡ map (sides_at soup.now) (range_with_len 0 soup.now.vertices) }
+pub fn find_isolated(soup: &Soup, first: &[SideId]) -> Option<usize>
+    requires { AreFirstSides soup.now first.now }
     ensures { MatchOption result (AllMet soup.now) (λ v. IsLeastIsolated soup.now v) }
 {
     soup.law_of_soup();
-    first_row(at_vertex, 0, 0)
+    let none = soup.side_count();
+    for v in 0..first.len() {
+        if first[v].number() == none {
+            return Some(v);
+        }
+    }
+    None
 }

@@ -7,7 +7,8 @@ use Rattle.surf_check.proofs.growth.grow.Given as goal
 abbrev pub invariant-loop-k : goal.invariant-loop-k
 invariant-loop-k l = record {
   grows : TreeGrows l.mesh l.tree;
-  done : (i : ℕ) → i < l.k → (s : ℕ) → IsFaceOf l.mesh s (get_or l.tree.listed.items i 0) → IsCrossed l.mesh l.tree.seen.items s;
+  done : (i : ℕ) → i < l.k → (s : ℕ) → IsFaceOf l.mesh s (get_or l.tree.listed.items i 0) →
+      IsCrossed l.mesh l.tree.seen.items s;
 }
 
 abbrev pub decreases-loop-k : goal.decreases-loop-k

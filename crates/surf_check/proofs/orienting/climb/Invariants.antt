@@ -9,7 +9,9 @@ use Rattle.surf_check.proofs.orienting.climb.Given as goal
 abbrev pub invariant-loop-at : goal.invariant-loop-at
 invariant-loop-at l = record {
   face : l.at < face_count l.mesh;
-  chain : map link_of l.chain.items ++ links_up l.mesh (tree_in l.tree) (get_or l.tree.rank.items l.at 0) l.at ≡ map link_of l.initial.chain.items ++ links_up l.mesh (tree_in l.tree) (get_or l.tree.rank.items l.fn.from 0) l.fn.from;
+  chain : map link_of l.chain.items ++ links_up l.mesh (tree_in l.tree) (get_or l.tree.rank.items l.at 0) l.at ≡ map
+      link_of l.initial.chain.items ++ links_up l.mesh (tree_in l.tree) (get_or l.tree.rank.items l.fn.from 0)
+      l.fn.from;
 }
 
 abbrev pub decreases-loop-at : goal.decreases-loop-at

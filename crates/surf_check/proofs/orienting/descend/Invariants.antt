@@ -9,7 +9,9 @@ use Rattle.surf_check.proofs.orienting.descend.Given as goal
 abbrev pub invariant-loop-at : goal.invariant-loop-at
 invariant-loop-at l = record {
   face : l.at < face_count l.mesh;
-  chain : links_down l.mesh (tree_in l.tree) (get_or l.tree.rank.items l.at 0) l.at (map link_of (reverse l.chain.items)) ≡ links_down l.mesh (tree_in l.tree) (get_or l.tree.rank.items l.fn.to 0) l.fn.to [];
+  chain : links_down l.mesh (tree_in l.tree) (get_or l.tree.rank.items l.at 0) l.at
+      (map link_of (reverse l.chain.items)) ≡ links_down l.mesh (tree_in l.tree) (get_or l.tree.rank.items l.fn.to 0)
+      l.fn.to [];
 }
 
 abbrev pub decreases-loop-at : goal.decreases-loop-at

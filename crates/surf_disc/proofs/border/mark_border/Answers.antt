@@ -14,13 +14,15 @@ reach-requires-clause-start c =
     let pair : c.index.result.now ≡ ends mesh e = get_or_read c.args.table.now.edges.items e c.index.result.now
     (omega (arith, ap length t.edge_list_is)) c.index.ensures (0, 0)
     ∙ ap (λ (xs : List (ℕ × ℕ)). get_or xs e (0, 0)) t.edge_list_is in
-    let low = border_start mesh c.law_of_soup.ensures.mesh c.args.corners.now.next.now c.args.corners.now.prev.now c.args.corners.now.across.now
+    let low = border_start mesh c.law_of_soup.ensures.mesh c.args.corners.now.next.now c.args.corners.now.prev.now
+    c.args.corners.now.across.now
     c.requires.tables c.in_ok-rows.rows c.in_ok-rows.ensures.rows e is in
     omega (arith, low, ap (λ (p : ℕ × ℕ). p.0) pair, c.number.ensures)
 
 pub reach-requires-clause-inside : goal.reach-requires-clause-inside
 reach-requires-clause-inside c = near_inside c.args.soup.now c.law_of_soup.ensures.mesh c.args.corners.now.next.now
-    c.args.corners.now.prev.now c.args.corners.now.across.now c.requires.tables c.in_ok-rows.rows c.in_ok-rows.ensures.rows
+    c.args.corners.now.prev.now c.args.corners.now.across.now c.requires.tables c.in_ok-rows.rows
+    c.in_ok-rows.ensures.rows
 
 pub returns : goal.returns
 returns c =
@@ -34,7 +36,8 @@ returns c =
     ∙ ap (λ (xs : List (ℕ × ℕ)). get_or xs e (0, 0)) t.edge_list_is in
     record {
       marks =
-          border_marked mesh c.law_of_soup.ensures.mesh c.args.corners.now.next.now c.args.corners.now.prev.now c.args.corners.now.across.now
+          border_marked mesh c.law_of_soup.ensures.mesh c.args.corners.now.next.now c.args.corners.now.prev.now
+          c.args.corners.now.across.now
           c.requires.tables c.in_ok-rows.rows c.in_ok-rows.ensures.rows
           c.number.result c.in_ok-seen.seen.items c.in_ok-seen.ensures e is
           (c.number.ensures ∙ ap (λ (p : ℕ × ℕ). p.0) pair);

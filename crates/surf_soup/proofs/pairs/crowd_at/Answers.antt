@@ -9,25 +9,35 @@ use Rattle.surf_soup.proofs.Paired.{rows_len, row_side, least_crowd}
 use Rattle.surf_soup.proofs.pairs.crowd_at.Goals as goal
 
 -- a side that is read from a row is in the table of faces
-inside : (mesh : Mesh) → IsMesh mesh → (es : List (ℕ × ℕ)) (rows : List (List ℕ)) (edge_of face_of numbers : List ℕ) → IsEdgeTable mesh es rows edge_of face_of numbers → (most e k : ℕ) → IsFirstWithin 3 most rows e → k < 3 →
+inside : (mesh : Mesh) → IsMesh mesh → (es : List (ℕ × ℕ)) (rows : List (List ℕ)) (edge_of face_of numbers : List ℕ) →
+    IsEdgeTable mesh es rows edge_of face_of numbers → (most e k : ℕ) → IsFirstWithin 3 most rows e → k < 3 →
     (row table : List ℕ) → row ≡ get_or rows e [] → table ≡ face_of → get_or row k 0 < length table
 inside mesh is_mesh es rows edge_of face_of numbers t most e k first few row table a b =
     let n = rows_len mesh is_mesh rows face_of t.sides_are t.face_of_is in
-    let lt = row_side mesh is_mesh rows face_of t.sides_are t.face_of_is e k (omega (arith, first.is_row)) (omega (arith, first.at_least)) in
+    let lt = row_side mesh is_mesh rows face_of t.sides_are t.face_of_is e k (omega (arith, first.is_row))
+    (omega (arith, first.at_least)) in
     omega (arith, lt, ap (λ (r : List ℕ). get_or r k 0) a, ap length (b ∙ t.face_of_is), length-owners 0 mesh.faces)
 
 -- a face that is read
-read : (rows : List (List ℕ)) (face_of row table : List ℕ) (e k face : ℕ) → face ≡ get_or table (get_or row k 0) 0 → table ≡ face_of → row ≡ get_or rows e [] → face ≡ get_or face_of (get_or (get_or rows e []) k 0) 0
-read rows face_of row table e k face h a b = h ∙ ap (λ (xs : List ℕ). get_or xs (get_or row k 0) 0) a ∙ ap (λ (r : List ℕ). get_or face_of (get_or r k 0) 0) b
+read : (rows : List (List ℕ)) (face_of row table : List ℕ) (e k face : ℕ) → face ≡ get_or table (get_or row k 0) 0 →
+    table ≡ face_of → row ≡ get_or rows e [] → face ≡ get_or face_of (get_or (get_or rows e []) k 0) 0
+read rows face_of row table e k face h a b = h ∙ ap (λ (xs : List ℕ). get_or xs (get_or row k 0) 0) a
+    ∙ ap (λ (r : List ℕ). get_or face_of (get_or r k 0) 0) b
 
 pub face_in-first-requires-clause-side : goal.face_in-first-requires-clause-side
-face_in-first-requires-clause-side c = inside c.args.soup.now c.law_of_soup.ensures.mesh _ _ _ _ _ c.requires.table _ c.args.e 0 c.requires.first (omega arith) c.row-row.result.now c.deref.result.now c.row-row.ensures c.deref.ensures.value
+face_in-first-requires-clause-side c =
+    inside c.args.soup.now c.law_of_soup.ensures.mesh _ _ _ _ _ c.requires.table _ c.args.e 0 c.requires.first
+    (omega arith) c.row-row.result.now c.deref.result.now c.row-row.ensures c.deref.ensures.value
 
 pub face_in-second-requires-clause-side : goal.face_in-second-requires-clause-side
-face_in-second-requires-clause-side c = inside c.args.soup.now c.law_of_soup.ensures.mesh _ _ _ _ _ c.requires.table _ c.args.e 1 c.requires.first (omega arith) c.row-row.result.now c.deref-2.result.now c.row-row.ensures c.deref-2.ensures.value
+face_in-second-requires-clause-side c =
+    inside c.args.soup.now c.law_of_soup.ensures.mesh _ _ _ _ _ c.requires.table _ c.args.e 1 c.requires.first
+    (omega arith) c.row-row.result.now c.deref-2.result.now c.row-row.ensures c.deref-2.ensures.value
 
 pub face_in-third-requires-clause-side : goal.face_in-third-requires-clause-side
-face_in-third-requires-clause-side c = inside c.args.soup.now c.law_of_soup.ensures.mesh _ _ _ _ _ c.requires.table _ c.args.e 2 c.requires.first (omega arith) c.row-row.result.now c.deref-3.result.now c.row-row.ensures c.deref-3.ensures.value
+face_in-third-requires-clause-side c =
+    inside c.args.soup.now c.law_of_soup.ensures.mesh _ _ _ _ _ c.requires.table _ c.args.e 2 c.requires.first
+    (omega arith) c.row-row.result.now c.deref-3.result.now c.row-row.ensures c.deref-3.ensures.value
 
 pub returns : goal.returns
 returns c =
@@ -38,12 +48,24 @@ returns c =
     let e = c.args.e in
     let first = c.requires.first in
     let n = rows_len mesh c.law_of_soup.ensures.mesh rows face_of t.sides_are t.face_of_is in
-    let crowd = least_crowd mesh c.law_of_soup.ensures.mesh rows face_of t.sides_are t.face_of_is _ e (omega (arith, c.law_of_soup.ensures.few)) c.requires.no_border first in
-    let pair : c.index.result.now ≡ ends mesh e = get_or_read c.args.table.now.edges.items e c.index.result.now (omega (arith, first.is_row, ap length t.edge_list_is)) c.index.ensures (0, 0) ∙ ap (λ (xs : List (ℕ × ℕ)). get_or xs e (0, 0)) t.edge_list_is in
-    let a = read rows face_of c.row-row.result.now c.deref.result.now e 0 c.face_in-first.result c.face_in-first.ensures c.deref.ensures.value c.row-row.ensures in
-    let b = read rows face_of c.row-row.result.now c.deref-2.result.now e 1 c.face_in-second.result c.face_in-second.ensures c.deref-2.ensures.value c.row-row.ensures in
-    let d = read rows face_of c.row-row.result.now c.deref-3.result.now e 2 c.face_in-third.result c.face_in-third.ensures c.deref-3.ensures.value c.row-row.ensures in
-    let faces : c.face_in-first.result ∷ c.face_in-second.result ∷ c.face_in-third.result ∷ [] ≡ get_or face_of (get_or (get_or rows e []) 0 0) 0 ∷ get_or face_of (get_or (get_or rows e []) 1 0) 0 ∷ get_or face_of (get_or (get_or rows e []) 2 0) 0 ∷ [] = rw (a, b, d) Rattle.std.proofs.Common.refl in
-    let P : ℕ × ℕ → Type 0 = λ p. IsLeastCrowd mesh p (get_or face_of (get_or (get_or rows e []) 0 0) 0 ∷ get_or face_of (get_or (get_or rows e []) 1 0) 0 ∷ get_or face_of (get_or (get_or rows e []) 2 0) 0 ∷ []) e in
+    let crowd = least_crowd mesh c.law_of_soup.ensures.mesh rows face_of t.sides_are t.face_of_is _ e
+    (omega (arith, c.law_of_soup.ensures.few)) c.requires.no_border first in
+    let pair : c.index.result.now ≡ ends mesh e =
+    get_or_read c.args.table.now.edges.items e c.index.result.now
+    (omega (arith, first.is_row, ap length t.edge_list_is)) c.index.ensures (0, 0)
+    ∙ ap (λ (xs : List (ℕ × ℕ)). get_or xs e (0, 0)) t.edge_list_is in
+    let a = read rows face_of c.row-row.result.now c.deref.result.now e 0 c.face_in-first.result c.face_in-first.ensures
+    c.deref.ensures.value c.row-row.ensures in
+    let b = read rows face_of c.row-row.result.now c.deref-2.result.now e 1 c.face_in-second.result
+    c.face_in-second.ensures c.deref-2.ensures.value c.row-row.ensures in
+    let d = read rows face_of c.row-row.result.now c.deref-3.result.now e 2 c.face_in-third.result
+    c.face_in-third.ensures c.deref-3.ensures.value c.row-row.ensures in
+    let faces : c.face_in-first.result ∷ c.face_in-second.result ∷ c.face_in-third.result ∷ [] ≡ get_or face_of
+    (get_or (get_or rows e []) 0 0) 0 ∷ get_or face_of (get_or (get_or rows e []) 1 0) 0 ∷ get_or face_of
+    (get_or (get_or rows e []) 2 0) 0 ∷ [] = rw (a, b, d) Rattle.std.proofs.Common.refl in
+    let P : ℕ × ℕ → Type 0 =
+    λ p. IsLeastCrowd mesh p
+    (get_or face_of (get_or (get_or rows e []) 0 0) 0 ∷ get_or face_of (get_or (get_or rows e []) 1 0) 0 ∷ get_or
+    face_of (get_or (get_or rows e []) 2 0) 0 ∷ []) e in
     let F : List ℕ → Type 0 = λ fs. IsLeastCrowd mesh c.index.result.now fs e in
     (c.requires.some, (e, subst F (sym faces) (subst P (sym pair) crowd)))

@@ -1,51 +1,73 @@
-use Rattle.std.proofs.Common.{◌≡◌, ◌∷◌, ◌++◌, [], true, arith, rules, ℕ, Bool, length, ap}
-use Rattle.std.proofs.lemmas.List.{length_push}
-use Rattle.surf_soup.specs.Vertices.{all_corners}
-use Rattle.surf_soup.proofs.RoundSteps.{round_start, round_more, round_end, round_side, round_at, marks_one, turn_in, trail_start, trail_more}
+use Rattle.std.proofs.Common.{◌≡◌, ◌∷◌, ◌++◌, [], true, arith, rules, ℕ, get_or, subst, ap, ◌∙◌, sym}
+use Rattle.surf_soup.specs.Ring.{befores}
+use Rattle.surf_soup.proofs.RoundSteps.{marks_one}
+use Rattle.surf_soup.proofs.RingMarks.{IsListedUpto, listed_start, listed_side, listed_at, listed_more, listed_end}
 use Rattle.surf_soup.proofs.rings.go_round.Goals as goal
 
 pub bounds-seen-corner : goal.bounds-seen-corner
-bounds-seen-corner c = round_at c.args.darts.now.next.now c.args.darts.now.prev.now c.args.darts.now.mate.now (all_corners c.args.darts.now.soup.now) c.requires.darts (c.args.from, true) c.args.seen.now c.loop-seen.seen c.loop-seen.side c.loop-seen.corner c.loop-seen.head c.loop-seen.ring.items c.requires.start c.loop-seen.invariant.round
+bounds-seen-corner c =
+    listed_at c.args.darts.now.soup.now c.args.darts.now.face_of.now c.args.darts.now.mate.now
+    c.args.darts.now.edge_of.now c.requires.darts c.args.home c.requires.home c.args.seen.now c.loop-seen.side
+    c.loop-seen.head c.loop-seen.corner c.loop-seen.seen c.args.sides.now.items c.loop-seen.sides.items
+    c.args.edges.now.items c.loop-seen.edges.items c.loop-seen.invariant
 
 pub bounds-seen-corner-in-loop-seen : goal.bounds-seen-corner-in-loop-seen
-bounds-seen-corner-in-loop-seen c = round_at c.args.darts.now.next.now c.args.darts.now.prev.now c.args.darts.now.mate.now (all_corners c.args.darts.now.soup.now) c.requires.darts (c.args.from, true) c.args.seen.now c.loop-seen.seen c.loop-seen.side c.loop-seen.corner c.loop-seen.head c.loop-seen.ring.items c.requires.start c.loop-seen.invariant.round
+bounds-seen-corner-in-loop-seen c =
+    listed_at c.args.darts.now.soup.now c.args.darts.now.face_of.now c.args.darts.now.mate.now
+    c.args.darts.now.edge_of.now c.requires.darts c.args.home c.requires.home c.args.seen.now c.loop-seen.side
+    c.loop-seen.head c.loop-seen.corner c.loop-seen.seen c.args.sides.now.items c.loop-seen.sides.items
+    c.args.edges.now.items c.loop-seen.edges.items c.loop-seen.invariant
 
 pub turn_dart-requires-clause-side : goal.turn_dart-requires-clause-side
-turn_dart-requires-clause-side c = round_side c.args.darts.now.next.now c.args.darts.now.prev.now c.args.darts.now.mate.now (all_corners c.args.darts.now.soup.now) c.requires.darts (c.args.from, true) c.args.seen.now c.loop-seen.seen c.loop-seen.side c.loop-seen.corner c.loop-seen.head c.loop-seen.ring.items c.requires.start c.loop-seen.invariant.round
+turn_dart-requires-clause-side c =
+    listed_side c.args.darts.now.soup.now c.args.darts.now.face_of.now c.args.darts.now.mate.now
+    c.args.darts.now.edge_of.now c.requires.darts c.args.home c.requires.home c.args.seen.now c.loop-seen.side
+    c.loop-seen.head c.loop-seen.corner c.loop-seen.seen c.args.sides.now.items c.loop-seen.sides.items
+    c.args.edges.now.items c.loop-seen.edges.items c.loop-seen.invariant
 
-pub corner_at-corner-requires : goal.corner_at-corner-requires
-corner_at-corner-requires c =
-    let side = round_side c.args.darts.now.next.now c.args.darts.now.prev.now c.args.darts.now.mate.now (all_corners c.args.darts.now.soup.now) c.requires.darts (c.args.from, true) c.args.seen.now c.loop-seen.seen c.loop-seen.side c.loop-seen.corner c.loop-seen.head c.loop-seen.ring.items c.requires.start c.loop-seen.invariant.round in
-    let inside = turn_in c.args.darts.now.next.now c.args.darts.now.prev.now c.args.darts.now.mate.now (all_corners c.args.darts.now.soup.now) c.requires.darts (c.loop-seen.side, c.loop-seen.head) side in
-    omega (arith, inside, ap (λ (x : ℕ × Bool). x.0) c.turn_dart.ensures)
-
-pub bounds-darts-side-in-loop-seen : goal.bounds-darts-side-in-loop-seen
-bounds-darts-side-in-loop-seen c = let side = round_side c.args.darts.now.next.now c.args.darts.now.prev.now c.args.darts.now.mate.now (all_corners c.args.darts.now.soup.now) c.requires.darts (c.args.from, true) c.args.seen.now c.loop-seen.seen c.loop-seen.side c.loop-seen.corner c.loop-seen.head c.loop-seen.ring.items c.requires.start c.loop-seen.invariant.round in omega (arith, side, c.requires.edges)
+pub bounds-darts-side : goal.bounds-darts-side
+bounds-darts-side c =
+    let side = listed_side c.args.darts.now.soup.now c.args.darts.now.face_of.now c.args.darts.now.mate.now
+    c.args.darts.now.edge_of.now c.requires.darts c.args.home c.requires.home c.args.seen.now c.loop-seen.side
+    c.loop-seen.head c.loop-seen.corner c.loop-seen.seen c.args.sides.now.items c.loop-seen.sides.items
+    c.args.edges.now.items c.loop-seen.edges.items c.loop-seen.invariant in
+    omega (arith, side, c.requires.darts.numbers.size)
 
 pub loop-seen-init : goal.loop-seen-init
-loop-seen-init c = record {
-  round = rw c.clear.ensures.items (round_start c.args.darts.now.next.now c.args.darts.now.prev.now c.args.darts.now.mate.now (all_corners c.args.darts.now.soup.now) c.requires.darts (c.args.from, true) c.args.seen.now c.requires.size);
-  trail = rw (c.clear.ensures.items, c.clear-2.ensures.items) (trail_start c.args.darts.now.next.now c.args.darts.now.prev.now c.args.darts.now.mate.now (all_corners c.args.darts.now.soup.now) c.requires.darts c.args.darts.now.edge_of.now (c.args.from, true));
-}
+loop-seen-init c =
+    let mesh = c.args.darts.now.soup.now in
+    let P : ℕ → Type 0 =
+    λ at. IsListedUpto mesh c.args.darts.now.mate.now c.args.darts.now.edge_of.now c.args.home c.args.seen.now
+    c.side_before-side.result true at c.args.seen.now c.args.sides.now.items c.args.sides.now.items
+    c.args.edges.now.items c.args.edges.now.items in
+    subst P (sym c.number-corner.ensures)
+    (listed_start c.args.darts.now.soup.now c.args.darts.now.face_of.now c.args.darts.now.mate.now
+    c.args.darts.now.edge_of.now c.requires.darts c.args.home c.requires.home c.args.seen.now
+    c.side_before-side.result c.args.sides.now.items c.args.edges.now.items c.requires.size
+    (c.side_before-side.ensures ∙ ap (λ s. get_or (befores mesh) s 0) c.number.ensures))
 
 pub loop-seen-smaller : goal.loop-seen-smaller
 loop-seen-smaller c =
-    let inside = round_at c.args.darts.now.next.now c.args.darts.now.prev.now c.args.darts.now.mate.now (all_corners c.args.darts.now.soup.now) c.requires.darts (c.args.from, true) c.args.seen.now c.loop-seen.seen c.loop-seen.side c.loop-seen.corner c.loop-seen.head c.loop-seen.ring.items c.requires.start c.loop-seen.invariant.round in
+    let inside = listed_at c.args.darts.now.soup.now c.args.darts.now.face_of.now c.args.darts.now.mate.now
+    c.args.darts.now.edge_of.now c.requires.darts c.args.home c.requires.home c.args.seen.now c.loop-seen.side
+    c.loop-seen.head c.loop-seen.corner c.loop-seen.seen c.args.sides.now.items c.loop-seen.sides.items
+    c.args.edges.now.items c.loop-seen.edges.items c.loop-seen.invariant in
     omega (arith, marks_one c.loop-seen.seen c.loop-seen.corner inside c.loop-seen-test.true)
+
+pub returns : goal.returns
+returns c = listed_end c.args.darts.now.soup.now c.args.darts.now.face_of.now c.args.darts.now.mate.now
+    c.args.darts.now.edge_of.now c.requires.darts c.args.home c.requires.home c.args.seen.now c.loop-seen.side
+    c.loop-seen.head c.loop-seen.corner c.loop-seen.seen c.args.sides.now.items c.loop-seen.sides.items
+    c.args.edges.now.items c.loop-seen.edges.items c.loop-seen.invariant c.requires.fresh c.loop-seen-test.false
 
 pub loop-seen-preserved : goal.loop-seen-preserved
 loop-seen-preserved c =
-    let ring : c.push.new.self.items ≡ c.loop-seen.ring.items ++ c.loop-seen.corner ∷ [] = search rules in
+    let sides : c.push.new.self.items ≡ c.loop-seen.sides.items ++ c.loop-seen.corner ∷ [] = search rules in
     let e = c.new-in-loop-seen.result in
     let edges : c.push-in-loop-seen.new.self.items ≡ c.loop-seen.edges.items ++ e ∷ [] = search rules in
-    let more = length_push c.loop-seen.ring.items c.loop-seen.corner in
-    record {
-      round = rw ring (round_more c.args.darts.now.next.now c.args.darts.now.prev.now c.args.darts.now.mate.now (all_corners c.args.darts.now.soup.now) c.requires.darts (c.args.from, true) c.args.seen.now c.loop-seen.seen c.loop-seen.side c.loop-seen.corner c.loop-seen.head c.loop-seen.ring.items c.requires.start c.loop-seen.invariant.round c.loop-seen-test.true c.turn_dart.result.0 c.corner_at-corner.result c.turn_dart.result.1 c.turn_dart.ensures c.corner_at-corner.ensures);
-      trail = rw (ring, edges) (trail_more c.args.darts.now.next.now c.args.darts.now.prev.now c.args.darts.now.mate.now (all_corners c.args.darts.now.soup.now) c.requires.darts c.args.darts.now.edge_of.now (c.args.from, true) c.args.seen.now c.loop-seen.seen c.loop-seen.side c.loop-seen.corner e (length (c.loop-seen.ring.items ++ c.loop-seen.corner ∷ [])) c.loop-seen.head c.loop-seen.ring.items c.loop-seen.edges.items c.loop-seen.invariant.round c.loop-seen.invariant.trail c.new-in-loop-seen.ensures more);
-    }
-
-pub returns-clause-round : goal.returns-clause-round
-returns-clause-round c = round_end c.args.darts.now.next.now c.args.darts.now.prev.now c.args.darts.now.mate.now (all_corners c.args.darts.now.soup.now) c.requires.darts (c.args.from, true) c.args.seen.now c.loop-seen.seen c.loop-seen.side c.loop-seen.corner c.loop-seen.head c.loop-seen.ring.items c.requires.start c.requires.fresh c.loop-seen.invariant.round c.loop-seen-test.false
-
-pub returns-clause-trail : goal.returns-clause-trail
-returns-clause-trail c = c.loop-seen.invariant.trail
+    rw (sides, edges) (listed_more c.args.darts.now.soup.now c.args.darts.now.face_of.now c.args.darts.now.mate.now
+    c.args.darts.now.edge_of.now c.requires.darts c.args.home c.requires.home c.args.seen.now c.loop-seen.side
+    c.loop-seen.head c.loop-seen.corner c.loop-seen.seen c.args.sides.now.items c.loop-seen.sides.items
+    c.args.edges.now.items c.loop-seen.edges.items c.loop-seen.invariant
+    c.loop-seen-test.true c.turn_dart.result.0 c.turn_dart.result.2 c.turn_dart.result.1 e c.new-in-loop-seen.ensures
+    c.turn_dart.ensures.dart c.turn_dart.ensures.corner)

@@ -9,7 +9,8 @@ pub list_nexts-requires : goal.list_nexts-requires
 list_nexts-requires c =
     let mesh = c.args.soup.now in
     let f = c.loop-f.f in
-    let own : length c.face.result.now ≡ length (face_at mesh f) = ap length (c.face.ensures.corners ∙ ap (face_at mesh) c.new.ensures) in
+    let own : length c.face.result.now ≡ length (face_at mesh f) =
+    ap length (c.face.ensures.corners ∙ ap (face_at mesh) c.new.ensures) in
     let sp = spans mesh.faces f (omega (arith, c.loop-f-test.true, c.faces-f-end.ensures.count)) in
     omega (arith, own, sp.0, sp.1, c.loop-f.invariant.first, c.law_of_soup.ensures.few)
 
@@ -22,6 +23,8 @@ loop-f-preserved c =
     let own : count ≡ length (face_at mesh f) = ap length (c.face.ensures.corners ∙ ap (face_at mesh) c.new.ensures) in
     let e = c.in_ok-list_nexts.ensures in
     record {
-      turned = turned_more after mesh f count c.loop-f.table.items c.list_nexts.new.table.items c.loop-f.invariant.turned lt own e.size e.kept (λ k in'. e.here k in' ∙ ap (λ m. m + after count k) c.loop-f.invariant.first);
+      turned = turned_more after mesh f count c.loop-f.table.items c.list_nexts.new.table.items
+          c.loop-f.invariant.turned lt own e.size e.kept (λ k in'. e.here k in'
+          ∙ ap (λ m. m + after count k) c.loop-f.invariant.first);
       first = omega (arith, c.loop-f.invariant.first, own, (spans mesh.faces f lt).0);
     }

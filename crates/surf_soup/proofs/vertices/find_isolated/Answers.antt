@@ -1,17 +1,51 @@
-use Rattle.std.proofs.Common.{ℕ, Option, Some, None}
-use Rattle.std.specs.Option.{MatchOption}
-use Rattle.surf_soup.specs.Pairs.{NoneWithin, IsFirstWithin}
-use Rattle.surf_soup.specs.Vertices.{AllMet, IsLeastIsolated}
-use Rattle.surf_soup.proofs.VertexLaws.{all_met, least_isolated}
+use Rattle.std.proofs.Common.{◌≡◌, ◌<◌, get_or, ap, arith, inl, inr}
+use Rattle.std.proofs.lemmas.List.{get_or_read}
+use Rattle.std.proofs.lemmas.Bool.{cases_eq}
+use Rattle.surf_surfaces.specs.SideNumber.{side_count}
+use Rattle.surf_soup.proofs.FirstLaws.{first_met, first_unmet}
 use Rattle.surf_soup.proofs.vertices.find_isolated.Goals as goal
 
--- each case of an answer leads to a case
-each_case : (o : Option ℕ) (P Q : Type 0) (R S : ℕ → Type 0) → (P → Q) → ((x : ℕ) → R x → S x) → MatchOption o P R → MatchOption o Q S
-each_case None P Q R S f g h = f h
-each_case (Some x) P Q R S f g h = g x h
-
-pub returns : goal.returns
-returns c =
+pub returns-then-number-none : goal.returns-then-number-none
+returns-then-number-none c =
     let mesh = c.args.soup.now in
-    let rows = c.args.at_vertex.now in
-    each_case c.first_row.result (NoneWithin 0 0 rows) (AllMet mesh) (IsFirstWithin 0 0 rows) (IsLeastIsolated mesh) (all_met mesh rows c.requires) (least_isolated mesh rows c.requires) c.first_row.ensures
+    let first = c.args.first.now in
+    let v = c.loop-v.v in
+    let lt : v < mesh.vertices = omega (arith, c.loop-v-test.true, c.requires.size) in
+    let at = get_or_read first v c.index-first-v.result c.loop-v-test.true c.index-first-v.is 0 in
+    let none : get_or first v 0 ≡ side_count mesh =
+    omega (
+      arith,
+      at,
+      c.index-first-v.is,
+      c.number.ensures,
+      c.if-number-none.true,
+      c.side_count-none.ensures.count,
+    ) in
+    record {
+      is_vertex = lt;
+      no_face = first_unmet mesh first c.requires v lt none;
+      met_before = c.loop-v.invariant;
+    }
+
+pub loop-v-preserved : goal.loop-v-preserved
+loop-v-preserved c = λ u below.
+    let mesh = c.args.soup.now in
+    let first = c.args.first.now in
+    let v = c.loop-v.v in
+    let at = get_or_read first v c.index-first-v.result c.loop-v-test.true c.index-first-v.is 0 in
+    elim (cases_eq u v) [
+      | inl e ↦
+          let lt : u < mesh.vertices = omega (arith, c.loop-v-test.true, c.requires.size) in
+          first_met mesh first c.requires u lt
+          (λ none. c.if-number-none.false
+          (omega (
+            arith,
+            at,
+            ap (λ w. get_or first w 0) e,
+            none,
+            c.index-first-v.is,
+            c.number.ensures,
+            c.side_count-none.ensures.count,
+          )))
+      | inr ne ↦ c.loop-v.invariant u (omega arith)
+    ]

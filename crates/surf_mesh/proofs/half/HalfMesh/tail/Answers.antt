@@ -18,7 +18,8 @@ returns c =
     let s = c.args.s in
     let lt : s < side_count m = omega (arith, c.requires, ap side_count c.self.view_is) in
     let read : get_or (all_corners m) s 0 ≡ c.index-items-index.result =
-    sym (get_or_read c.items.result.now c.index.result c.index-items-index.result (omega (arith, lt, c.index.ensures, ap length c.items.ensures, corners_len m)) c.index-items-index.is 0
+    sym (get_or_read c.items.result.now c.index.result c.index-items-index.result
+    (omega (arith, lt, c.index.ensures, ap length c.items.ensures, corners_len m)) c.index-items-index.is 0
     ∙ ap (λ i. get_or c.items.result.now i 0) c.index.ensures ∙ ap (λ (xs : List ℕ). get_or xs s 0) c.items.ensures) in
     let P : Mesh → Type 0 = λ mesh. BeginsAt mesh c.index-items-index.result s in
     subst P c.self.view_is (lt, read)

@@ -1,0 +1,6 @@
+use Rattle.std.proofs.Common.{◌<◌, ℕ}
+use Rattle.surf_surfaces.specs.Surface.{HasCorner}
+use Rattle.surf_soup.proofs.vertices.find_isolated.Given as goal
+
+abbrev pub invariant-loop-v : goal.invariant-loop-v
+invariant-loop-v l = (u : ℕ) → u < l.v → (f : ℕ) × HasCorner l.soup f u
