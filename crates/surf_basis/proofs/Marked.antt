@@ -1,6 +1,6 @@
 -- Vertices that are marked in a table, listed one after another.
 use Rattle.std.proofs.Common.{◌≡◌, ◌≢◌, ℕ, ◌<◌, ◌≤◌, ◌+◌, Bool, true, false, List, [], ◌∷◌, ◌++◌, length, get_or, set, slice_index, take, Contains, All, IsPermutation, refl, sym, ap, ◌∙◌, subst, arith, inl, inr, length-append}
-use Rattle.std.specs.Prelude.{slice_index_or}
+use Rattle.std.specs.Prelude.{slice_index_or, ◌⊎◌}
 use Rattle.std.proofs.lemmas.Bool.{cases_lt, cases_eq}
 use Rattle.std.proofs.Math.ListN.{get_or-append}
 use Rattle.std.proofs.Math.Seq.{get_or-append_seam, take-append_seam}
@@ -90,6 +90,29 @@ pub end_stays : (mesh : Mesh) (old new : List Bool) (e : ℕ) →
 end_stays mesh old new e stay h = elim h [
   | inl low ↦ inl (stay (ends mesh e).0 low)
   | inr high ↦ inr (stay (ends mesh e).1 high)
+]
+
+-- of a pair and the same pair turned, one is marked of both or of neither
+pub either_marked : (marked : List Bool) (low high : ℕ) (p : ℕ × ℕ) → (p ≡ (low, high)) ⊎ (p ≡ (high, low)) →
+    (slice_index_or marked p.0 false ≡ true) ⊎ (slice_index_or marked p.1 false ≡ true) →
+    (slice_index_or marked low false ≡ true) ⊎ (slice_index_or marked high false ≡ true)
+either_marked marked low high p or_turned one = elim or_turned [
+  | inl same ↦ subst (λ (q : ℕ × ℕ). (slice_index_or marked q.0 false ≡ true) ⊎ (slice_index_or marked q.1 false ≡ true)) same one
+  | inr turned ↦ elim (subst (λ (q : ℕ × ℕ). (slice_index_or marked q.0 false ≡ true) ⊎ (slice_index_or marked q.1 false ≡ true)) turned one) [
+    | inl first ↦ inr first
+    | inr second ↦ inl second
+  ]
+]
+
+-- the ends of an edge, as they were read, are vertices
+pub ends_inside : (mesh : Mesh) → IsSurface mesh → (e : ℕ) → e < edge_count mesh → (p : ℕ × ℕ) → p ≡ ends mesh e → (p.0 < mesh.vertices) × (p.1 < mesh.vertices)
+ends_inside mesh surface e e_in p is = subst (λ (q : ℕ × ℕ). (q.0 < mesh.vertices) × (q.1 < mesh.vertices)) (sym is) (ends_in mesh surface e e_in)
+
+-- both of them are below a bound
+pub either_below : (bound low high : ℕ) (p : ℕ × ℕ) → (p ≡ (low, high)) ⊎ (p ≡ (high, low)) → low < bound → high < bound → (p.0 < bound) × (p.1 < bound)
+either_below bound low high p or_turned a b = elim or_turned [
+  | inl same ↦ subst (λ (q : ℕ × ℕ). (q.0 < bound) × (q.1 < bound)) (sym same) (a, b)
+  | inr turned ↦ subst (λ (q : ℕ × ℕ). (q.0 < bound) × (q.1 < bound)) (sym turned) (b, a)
 ]
 
 pub set_there : (marked : List Bool) (u : ℕ) → u < length marked → slice_index_or (set marked u true) u false ≡ true

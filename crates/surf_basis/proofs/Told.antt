@@ -9,7 +9,7 @@ use Rattle.std.proofs.lemmas.List.Elements.{All-push, Contains-append_left, Cont
 use Rattle.surf_graphs.specs.Cells.{Split}
 use Rattle.surf_graphs.specs.Trees.{Tree}
 use Rattle.surf_surfaces.specs.Mesh.{Mesh}
-use Rattle.surf_surfaces.specs.Surface.{edge_count, ends, touches, IsSurface}
+use Rattle.surf_surfaces.specs.Surface.{edge_count, ends, IsSurface}
 use Rattle.surf_surfaces.specs.Walk.{ArePositive, edge_length, edge_number}
 use Rattle.surf_surfaces.specs.Class.{AreShortestTrees}
 use Rattle.surf_surfaces.specs.Loop.{loop_length}

@@ -2,6 +2,7 @@
 ghost use Rattle.std.specs.Prelude.{◌≡◌, ◌<◌, ◌≤◌, ◌+◌, [], All, IfOk, OnOk, IfSome, length};
 ghost use Rattle.surf_graphs.specs.Cells.{Split};
 ghost use Rattle.surf_surfaces.specs.Surface.{edge_count, face_count};
+ghost use Rattle.surf_surfaces.specs.Homology.{IsFullCount};
 ghost use Rattle.surf_surfaces.specs.FewBases.{AreBases};
 ghost use Rattle.surf_surfaces.specs.ChoiceLaws.{LeastSimpleBasis};
 ghost use Rattle.surf_loops.specs.Loops.{AreLoopTables};
@@ -82,6 +83,30 @@ fn choose(
     Ok(())
 }
 
+// The basis that is chosen, on a surface with signatures, where as many cycles as given make it.
+fn basis_over(alloc: Global, surface: &Surface<'_>, count: usize) -> Result<Vec<Cycle>, NoMemory>
+    requires lengths { length surface.now.lengths.now ≡ edge_count surface.now.mesh.now }
+    requires signed { AreSigned surface.now.mesh.now surface.now.signatures.now count }
+    requires full { IsFullCount surface.now.mesh.now count }
+    requires few { count ≤ MAX_LOOPS }
+    ensures chosen { IfOk result (λ cycles. IsTheBasis surface.now.mesh.now surface.now.lengths.now
+        (as_loops cycles.items)) }
+{
+    surface.mesh.law_of_surface();
+    surface.lengths.law_of_lengths();
+    let bases = sufficient_bases(alloc, surface, count)?;
+    let mut desk = LoopDesk::make(alloc, surface.mesh)?;
+    let mut choice = Choice::make(alloc, count as u32)?;
+    choose(alloc, surface, &bases, &mut desk, &mut choice)?;
+    cycles_of(
+        alloc,
+        surface.mesh,
+        surface.lengths,
+        &mut desk,
+        choice.kept(),
+    )
+}
+
 /// The basis that is chosen: two less the characteristic independent closed walks, each a simple
 /// cycle, and no such walks total less. They are in the order of length, base and edge, so the
 /// first is a shortest cycle that doesn't separate the surface, the one that `least_nonseparating`
@@ -114,9 +139,5 @@ pub fn least_basis(
         lengths,
         signatures: signed.cotree(),
     };
-    let bases = sufficient_bases(alloc, &surface, count)?;
-    let mut desk = LoopDesk::make(alloc, mesh)?;
-    let mut choice = Choice::make(alloc, count as u32)?;
-    choose(alloc, &surface, &bases, &mut desk, &mut choice)?;
-    cycles_of(alloc, mesh, lengths, &mut desk, choice.kept())
+    basis_over(alloc, &surface, count)
 }

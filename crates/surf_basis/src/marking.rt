@@ -23,11 +23,48 @@ fn mark_one(first: VertexId, second: VertexId, marked: &mut [bool])
     }
 }
 
-// Marks an end of each edge whose signature isn't empty: the greater one, unless the lesser one is
-// marked. As edges come in the order of their lesser ends, a vertex stays unmarked only where each
-// neighbour over such an edge is marked, so that few are.
-fn mark_ends(mesh: &HalfMesh, signatures: &CotreeDesk, marked: &mut [bool])
+// Counts one more at a vertex.
+fn count_at(counts: &mut [u32], v: VertexId)
+    requires vertex { v < length counts.old }
+{
+    let count = counts[v.index()];
+    counts[v.index()] = count.saturating_add(1);
+}
+
+// Counts at each vertex the edges there whose signatures aren't empty.
+fn count_signed(mesh: &HalfMesh, signatures: &CotreeDesk, counts: &mut [u32])
     requires table { length signatures.now.signatures ≡ edge_count mesh.now }
+    requires counts { length counts.old ≡ mesh.now.vertices }
+{
+    mesh.law_of_surface();
+    for number in 0..mesh.edges() {
+        let edge = EdgeId::new(number);
+        if !signatures.signature(edge).is_empty() {
+            let (low, high) = mesh.ends(edge);
+            count_at(counts, low);
+            count_at(counts, high);
+        }
+    }
+}
+
+// Two vertices, the one with the lesser count first, and as they are where they have as many.
+fn by_count(counts: &[u32], low: VertexId, high: VertexId) -> (VertexId, VertexId)
+    requires low { low < length counts.now }
+    requires high { high < length counts.now }
+    ensures { (result ≡ (low, high)) ⊎ (result ≡ (high, low)) }
+{
+    if counts[low.index()] > counts[high.index()] {
+        (high, low)
+    } else {
+        (low, high)
+    }
+}
+
+// Marks an end of each edge whose signature isn't empty: the one at which there are more such edges
+// in all, unless the other one is marked. So few vertices are marked.
+fn mark_ends(mesh: &HalfMesh, signatures: &CotreeDesk, counts: &[u32], marked: &mut [bool])
+    requires table { length signatures.now.signatures ≡ edge_count mesh.now }
+    requires counts { length counts.now ≡ mesh.now.vertices }
     requires marks { length marked.old ≡ mesh.now.vertices }
     ensures marks { length marked.new ≡ mesh.now.vertices }
     ensures ends { (e : ℕ) → e < edge_count mesh.now → slice_index signatures.now.signatures e ≢ 0 →
@@ -38,7 +75,8 @@ fn mark_ends(mesh: &HalfMesh, signatures: &CotreeDesk, marked: &mut [bool])
         let edge = EdgeId::new(e);
         if !signatures.signature(edge).is_empty() {
             let (low, high) = mesh.ends(edge);
-            mark_one(low, high, marked);
+            let (less, more) = by_count(counts, low, high);
+            mark_one(less, more, marked);
         }
     }
 }
@@ -76,8 +114,10 @@ pub(crate) fn signed_ends(
     ensures inside { IfOk result (λ list. All (λ v. v < mesh.now.vertices) list.items) }
     ensures ends { IfOk result (λ list. HasSignedEnds mesh.now signatures.now list.items) }
 {
+    let mut counts = vec![in alloc; 0u32; mesh.vertices() as usize]?;
+    count_signed(mesh, signatures, &mut counts);
     let mut marked = vec![in alloc; false; mesh.vertices() as usize]?;
-    mark_ends(mesh, signatures, &mut marked);
+    mark_ends(mesh, signatures, &counts, &mut marked);
     let mut list = list_marked(alloc, &marked)?;
     scatter(&mut list);
     Ok(list)

@@ -18,8 +18,8 @@ entry_at nodes p = if key_at nodes p == nothing then None else Some (key_at node
 abbrev pub entries_of : ℕ → List Node → Entries
 entries_of places nodes = map (entry_at nodes) (range_with_len 0 places)
 
--- the places are in the circles of their keys, which are no less than `now`, at most `last`, and less than one walk round
--- the buckets away
+-- the places are in the circles of their keys, which are no less than `now`, at most `last`, and less than one walk
+-- round the buckets away
 pub record IsBuckets (places : ℕ) (nodes : List Node) (now last : ℕ) : Type 0 where
   pub circles : AreCircles places nodes
   pub from : (p : ℕ) → p < places → key_at nodes p ≢ nothing → now ≤ key_at nodes p

@@ -26,9 +26,9 @@ bucket places key = places + key % 4096
 abbrev pub home : ℕ → (ℕ → ℕ) → ℕ → ℕ
 home places key i = if nat_lt i places then bucket places (key i) else i
 
--- Each node is followed by one and follows one, and stands in a circle of nodes that have one home. A place without a key
--- stands alone. Ranks fall from each place with a key to the place before it, so that each circle of such places leads to
--- a bucket.
+-- Each node is followed by one and follows one, and stands in a circle of nodes that have one home. A place without a
+-- key stands alone. Ranks fall from each place with a key to the place before it, so that each circle of such places
+-- leads to a bucket.
 pub record AreInCircles (places count : ℕ) (key next prev : ℕ → ℕ) : Type 0 where
   pub next_in : (i : ℕ) → i < count → next i < count
   pub prev_in : (i : ℕ) → i < count → prev i < count

@@ -57,7 +57,8 @@ fn remove(nodes: &mut [Node], places: u32, place: u32)
     requires circles { AreCircles places nodes.old }
     requires place { place < places }
     ensures circles { AreCircles places nodes.new }
-    ensures key { (i : ℕ) → key_at nodes.new i ≡ (if i == place then nothing else key_at nodes.old i) }
+    ensures key { (i : ℕ) → key_at nodes.new i
+        ≡ (if i == place then nothing else key_at nodes.old i) }
 {
     let node = nodes[place as usize];
     join(nodes, node.prev, node.next);

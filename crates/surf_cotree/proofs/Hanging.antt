@@ -59,7 +59,7 @@ module _ (g : Graph) (allowed : ℕ → Bool) (weight : ℕ → ℕ) (graph : Is
   leaf = h.leaf k (omega arith)
 
   abbrev pub on : ℕ
-  on = leaf.hangs.other
+  on = (leaf_at list k).on
 
   -- the edge of the leaf is the one that came back
   came_back : (l : ℕ) → rest l ≡ true → (l ≡ e) ⊎ (left_after allowed list (suc k) l ≡ true)
@@ -283,31 +283,21 @@ module _ (g : Graph) (allowed : ℕ → Bool) (weight : ℕ → ℕ) (graph : Is
   pub face_in : x.face < g.nodes
   face_in = subst (λ (y : Leaf). y.face < g.nodes) (sym is) last.node_in
 
-  pub edge_in : x.edge < g.edges
-  edge_in = subst (λ (y : Leaf). y.edge < g.edges) (sym is) last.hangs.edge_in
+  pub next_in : x.on < g.nodes
+  next_in = subst (λ (y : Leaf). y.on < g.nodes) (sym is) last.hangs.other_in
 
-  module _ (next : ℕ) (across : (a : ℕ) → joins g x.face a x.edge ≡ true → next ≡ a) where
-    next_is : next ≡ last.hangs.other
-    next_is = across last.hangs.other (subst (λ (y : Leaf). joins g y.face last.hangs.other y.edge ≡ true) (sym is) last.hangs.joined)
+  pub turn_none : reached depth x.on ≡ false → IsHung g allowed weight list (k - 1) parent up depth
+  turn_none away = hang_none g allowed weight graph few small list (k - 1) parent up depth before (subst (λ (y : Leaf). reached depth y.on ≡ false) is away)
 
-    pub next_in : next < g.nodes
-    next_in = subst (λ n. n < g.nodes) (sym next_is) last.hangs.other_in
+  module _ (lp : length parent ≡ g.nodes) (lu : length up ≡ g.nodes) (ld : length depth ≡ g.nodes) (there : reached depth x.on ≡ true) where
+    there_too : reached depth (leaf_at list (k - 1)).on ≡ true
+    there_too = subst (λ (y : Leaf). reached depth y.on ≡ true) is there
 
-    pub turn_none : reached depth next ≡ false → IsHung g allowed weight list (k - 1) parent up depth
-    turn_none away = hang_none g allowed weight graph few small list (k - 1) parent up depth before (ap (reached depth) (sym next_is) ∙ away)
+    pub turn_fits : at depth x.on + 1 < g.nodes
+    turn_fits = subst (λ (y : Leaf). at depth y.on + 1 < g.nodes) (sym is) (hang_fits g allowed weight graph few small list (k - 1) parent up depth before there_too lp lu ld)
 
-    module _ (lp : length parent ≡ g.nodes) (lu : length up ≡ g.nodes) (ld : length depth ≡ g.nodes) (there : reached depth next ≡ true) where
-      there_too : reached depth last.hangs.other ≡ true
-      there_too = ap (reached depth) (sym next_is) ∙ there
-
-      pub turn_fits : at depth next + 1 < g.nodes
-      turn_fits = subst (λ n. at depth n + 1 < g.nodes) (sym next_is) (hang_fits g allowed weight graph few small list (k - 1) parent up depth before there_too lp lu ld)
-
-      pub turn_one : IsHung g allowed weight list (k - 1) (set parent x.face next) (set up x.face x.edge) (set depth x.face (at depth next + 1))
-      turn_one =
-          let hung = hang_one g allowed weight graph few small list (k - 1) parent up depth before there_too lp lu ld in
-          subst (λ (y : Leaf). IsHung g allowed weight list (k - 1) (set parent y.face next) (set up y.face y.edge) (set depth y.face (at depth next + 1))) (sym is)
-          (subst (λ n. IsHung g allowed weight list (k - 1) (set parent (leaf_at list (k - 1)).face n) (set up (leaf_at list (k - 1)).face (leaf_at list (k - 1)).edge) (set depth (leaf_at list (k - 1)).face (at depth n + 1))) (sym next_is) hung)
+    pub turn_one : IsHung g allowed weight list (k - 1) (set parent x.face x.on) (set up x.face x.edge) (set depth x.face (at depth x.on + 1))
+    turn_one = subst (λ (y : Leaf). IsHung g allowed weight list (k - 1) (set parent y.face y.on) (set up y.face y.edge) (set depth y.face (at depth y.on + 1))) (sym is) (hang_one g allowed weight graph few small list (k - 1) parent up depth before there_too lp lu ld)
 
 -- before the first turn
 pub hung_first : (g : Graph) (allowed : ℕ → Bool) (weight : ℕ → ℕ) → ((e : ℕ) → weight e ≤ heaviest) → (list : List Leaf) (n : ℕ) (rest : ℕ → Bool) → IsPeeled g allowed list n rest → (parent up depth : List ℕ) (heap : Entries) → length heap ≡ g.nodes → IsEmpty heap → at up 0 ≡ nobody →

@@ -10,63 +10,62 @@ use Rattle.surf_cotree.specs.Searches.{outside}
 use Rattle.surf_cotree.specs.Peeling.{leaf_at, left_after, IsOnlyEdge, IsLeaf, IsPeeled}
 use Rattle.surf_cotree.specs.declared.peeling.Leaf.{Leaf}
 
--- of the first n edges of a row just this one is left (IsOnlyEdge is of all its edges), or none is
-abbrev pub IsOnlySoFar : (ℕ → Bool) → (ℕ → ℕ) → ℕ → Option ℕ → Type 0
-IsOnlySoFar rest number n None = (k : ℕ) → k < n → rest (number k) ≡ false
-IsOnlySoFar rest number n (Some e) = (rest e ≡ true) × ((k : ℕ) × (k < n) × (number k ≡ e)) × ((k : ℕ) → k < n → rest (number k) ≡ true → number k ≡ e)
+-- of the edges of the first n sides of a row just that of this side is left (IsOnlyEdge is of all its edges), or none is
+abbrev pub IsOnlySoFar : (ℕ → Bool) → (ℕ → ℕ × ℕ) → (ℕ → ℕ × ℕ) → ℕ → Option ℕ → Type 0
+IsOnlySoFar rest link of n None = (k : ℕ) → k < n → rest (link k).1 ≡ false
+IsOnlySoFar rest link of n (Some s) = (rest (of s).1 ≡ true) × ((k : ℕ) × (k < n) × (link k ≡ of s)) × ((k : ℕ) → k < n → rest (link k).1 ≡ true → (link k).1 ≡ (of s).1)
 
 -- ---- the only edge of a row
 
-pub only_none : (rest : ℕ → Bool) (number : ℕ → ℕ) → IsOnlySoFar rest number 0 None
-only_none rest number k l = absurd (omega arith)
+pub only_none : (rest : ℕ → Bool) (link of : ℕ → ℕ × ℕ) → IsOnlySoFar rest link of 0 None
+only_none rest link of k l = absurd (omega arith)
 
-pub only_skip : (rest : ℕ → Bool) (number : ℕ → ℕ) (n : ℕ) (found : Option ℕ) → rest (number n) ≡ false → IsOnlySoFar rest number n found → IsOnlySoFar rest number (n + 1) found
-only_skip rest number n None shut none = λ k l. elim (cases_eq k n) [
-  | inl same ↦ ap (λ j. rest (number j)) same ∙ shut
+pub only_skip : (rest : ℕ → Bool) (link of : ℕ → ℕ × ℕ) (n : ℕ) (found : Option ℕ) → rest (link n).1 ≡ false → IsOnlySoFar rest link of n found → IsOnlySoFar rest link of (n + 1) found
+only_skip rest link of n None shut none = λ k l. elim (cases_eq k n) [
+  | inl same ↦ ap (λ j. rest (link j).1) same ∙ shut
   | inr ne ↦ none k (omega arith)
 ]
-only_skip rest number n (Some e) shut (is_left, (at, at_in, is), only) = (
+only_skip rest link of n (Some s) shut (is_left, (at, at_in, is), only) = (
   is_left,
   (at, omega arith, is),
   λ k l on. elim (cases_eq k n) [
-    | inl same ↦ absurd (let clash : true ≡ false = sym on ∙ (ap (λ j. rest (number j)) same ∙ shut) in cc)
+    | inl same ↦ absurd (let clash : true ≡ false = sym on ∙ (ap (λ j. rest (link j).1) same ∙ shut) in cc)
     | inr ne ↦ only k (omega arith) on
   ],
 )
 
-only_first : (rest : ℕ → Bool) (number : ℕ → ℕ) (n : ℕ) → rest (number n) ≡ true → IsOnlySoFar rest number n None → IsOnlySoFar rest number (n + 1) (Some (number n))
-only_first rest number n free none = (
+only_first : (rest : ℕ → Bool) (link of : ℕ → ℕ × ℕ) (n s : ℕ) → link n ≡ of s → rest (of s).1 ≡ true → IsOnlySoFar rest link of n None → IsOnlySoFar rest link of (n + 1) (Some s)
+only_first rest link of n s is free none = (
   free,
-  (n, omega arith, refl),
+  (n, omega arith, is),
   λ k l on. elim (cases_eq k n) [
-    | inl same ↦ ap number same
+    | inl same ↦ ap (λ j. (link j).1) same ∙ ap (λ (p : ℕ × ℕ). p.1) is
     | inr ne ↦ absurd (let clash : true ≡ false = sym on ∙ none k (omega arith) in cc)
   ],
 )
 
-only_of_row : (g : Graph) (rest : ℕ → Bool) (f : ℕ) (links : List (ℕ × ℕ)) (n e : ℕ) → IsRow g f links → length links ≡ n → IsOnlySoFar rest (λ k. (link_at links k).1) n (Some e) → IsOnlyEdge g rest f e
-only_of_row g rest f links n e row long (is_left, (at, at_in, is), only) =
+only_of_row : (g : Graph) (rest : ℕ → Bool) (of : ℕ → ℕ × ℕ) (f : ℕ) (links : List (ℕ × ℕ)) (n s : ℕ) → IsRow g f links → length links ≡ n → IsOnlySoFar rest (link_at links) of n (Some s) → IsOnlyEdge g rest f (of s).0 (of s).1
+only_of_row g rest of f links n s row long (is_left, (at, at_in, is), only) =
     let la : at < length links = omega arith in
     record {
-      edge_in = subst (λ x. x < g.edges) is (row.edge_in at la);
+      edge_in = subst (λ (p : ℕ × ℕ). p.1 < g.edges) is (row.edge_in at la);
       is_left = is_left;
-      other = (link_at links at).0;
-      other_in = row.neighbour_in at la;
-      joined = subst (λ x. joins g f (link_at links at).0 x ≡ true) is (row.joined at la);
+      other_in = subst (λ (p : ℕ × ℕ). p.0 < g.nodes) is (row.neighbour_in at la);
+      joined = subst (λ (p : ℕ × ℕ). joins g f p.0 p.1 ≡ true) is (row.joined at la);
       only = λ l w ll on join.
           let (k, lk, here) = row.whole l w ll join in
           let number_is : (link_at links k).1 ≡ l = ap (λ (p : ℕ × ℕ). p.1) here in
           sym number_is ∙ only k (omega arith) (ap rest number_is ∙ on);
     }
 
-pub found_only : (g : Graph) (rest : ℕ → Bool) (f : ℕ) (links : List (ℕ × ℕ)) (n : ℕ) (found : Option ℕ) → IsRow g f links → length links ≡ n → IsOnlySoFar rest (λ k. (link_at links k).1) n found → IfSome found (λ e. IsOnlyEdge g rest f e)
-found_only g rest f links n None row long so = tt
-found_only g rest f links n (Some e) row long so = only_of_row g rest f links n e row long so
+pub found_only : (g : Graph) (rest : ℕ → Bool) (of : ℕ → ℕ × ℕ) (f : ℕ) (links : List (ℕ × ℕ)) (n : ℕ) (found : Option ℕ) → IsRow g f links → length links ≡ n → IsOnlySoFar rest (link_at links) of n found → IfSome found (λ s. IsOnlyEdge g rest f (of s).0 (of s).1)
+found_only g rest of f links n None row long so = tt
+found_only g rest of f links n (Some s) row long so = only_of_row g rest of f links n s row long so
 
 -- a second one would be found here
-pub only_second : (rest : ℕ → Bool) (number : ℕ → ℕ) (n e : ℕ) (found : Option ℕ) → false ≡ is_some found → number n ≡ e → rest (number n) ≡ true → IsOnlySoFar rest number n found → IsOnlySoFar rest number (n + 1) (Some e)
-only_second rest number n e None none is free so = subst (λ x. IsOnlySoFar rest number (n + 1) (Some x)) is (only_first rest number n free so)
-only_second rest number n e (Some x) none is free so = absurd (false≢true none)
+pub only_second : (rest : ℕ → Bool) (link of : ℕ → ℕ × ℕ) (n s : ℕ) (found : Option ℕ) → false ≡ is_some found → link n ≡ of s → rest (of s).1 ≡ true → IsOnlySoFar rest link of n found → IsOnlySoFar rest link of (n + 1) (Some s)
+only_second rest link of n s None none is free so = only_first rest link of n s is free so
+only_second rest link of n s (Some x) none is free so = absurd (false≢true none)
 
 -- ---- leaves that are taken off
 
@@ -98,19 +97,19 @@ leaf_same g allowed old new k same leaf =
     record {
       node_in = subst (λ (x : Leaf). x.face < g.nodes) (sym here) leaf.node_in;
       not_first = subst (λ (x : Leaf). x.face ≢ 0) (sym here) leaf.not_first;
-      hangs = subst (λ (x : Leaf). IsOnlyEdge g (left_after allowed new k) x.face x.edge) (sym here) (subst (λ r. IsOnlyEdge g r (leaf_at old k).face (leaf_at old k).edge) rest leaf.hangs);
+      hangs = subst (λ (x : Leaf). IsOnlyEdge g (left_after allowed new k) x.face x.on x.edge) (sym here) (subst (λ r. IsOnlyEdge g r (leaf_at old k).face (leaf_at old k).on (leaf_at old k).edge) rest leaf.hangs);
     }
 
 pub peeled_none : (g : Graph) (allowed : ℕ → Bool) (leaves : List Leaf) → IsPeeled g allowed leaves 0 allowed
 peeled_none g allowed leaves = record { few = omega arith; leaf = λ k l. absurd (omega arith); rest_is = λ e. refl }
 
-pub peeled_more : (g : Graph) (allowed : ℕ → Bool) (leaves : List Leaf) (n : ℕ) (rest later : ℕ → Bool) (f e : ℕ) → n < length leaves → f < g.nodes → f ≢ 0 → IsOnlyEdge g rest f e → ((x : ℕ) → later x ≡ (rest x && not (eqb x e))) →
-    IsPeeled g allowed leaves n rest → IsPeeled g allowed (set leaves n (record { face = f; edge = e })) (n + 1) later
-peeled_more g allowed leaves n rest later f e ln lf ne only less p =
-    let leaf : Leaf = record { face = f; edge = e } in
+pub peeled_more : (g : Graph) (allowed : ℕ → Bool) (leaves : List Leaf) (n : ℕ) (rest later : ℕ → Bool) (f a e : ℕ) → n < length leaves → f < g.nodes → f ≢ 0 → IsOnlyEdge g rest f a e → ((x : ℕ) → later x ≡ (rest x && not (eqb x e))) →
+    IsPeeled g allowed leaves n rest → IsPeeled g allowed (set leaves n (record { face = f; edge = e; on = a })) (n + 1) later
+peeled_more g allowed leaves n rest later f a e ln lf ne only less p =
+    let leaf : Leaf = record { face = f; edge = e; on = a } in
     let new = set leaves n leaf in
-    let here : leaf_at new n ≡ leaf = get_or-set_same leaves n leaf (record { face = 0; edge = 0 }) ln in
-    let there : (k : ℕ) → k < n → leaf_at new k ≡ leaf_at leaves k = λ k l. get_or-set_other leaves n k leaf (record { face = 0; edge = 0 }) (omega arith) in
+    let here : leaf_at new n ≡ leaf = get_or-set_same leaves n leaf (record { face = 0; edge = 0; on = 0 }) ln in
+    let there : (k : ℕ) → k < n → leaf_at new k ≡ leaf_at leaves k = λ k l. get_or-set_other leaves n k leaf (record { face = 0; edge = 0; on = 0 }) (omega arith) in
     let rest_new : (x : ℕ) → rest x ≡ left_after allowed new n x = λ x. p.rest_is x ∙ sym (left_same allowed leaves new n there x) in
     let as_rest : rest ≡ left_after allowed new n = λ i. λ x. rest_new x i in
     let long = length-set leaves n leaf in
@@ -120,7 +119,7 @@ peeled_more g allowed leaves n rest later f e ln lf ne only less p =
         | inl same ↦ subst (λ j. IsLeaf g allowed new j) (sym same) (record {
           node_in = subst (λ (x : Leaf). x.face < g.nodes) (sym here) lf;
           not_first = subst (λ (x : Leaf). x.face ≢ 0) (sym here) ne;
-          hangs = subst (λ (x : Leaf). IsOnlyEdge g (left_after allowed new n) x.face x.edge) (sym here) (subst (λ r. IsOnlyEdge g r f e) as_rest only);
+          hangs = subst (λ (x : Leaf). IsOnlyEdge g (left_after allowed new n) x.face x.on x.edge) (sym here) (subst (λ r. IsOnlyEdge g r f a e) as_rest only);
         })
         | inr other ↦ leaf_same g allowed leaves new k (λ j lj. there j (omega arith)) (p.leaf k (omega arith))
       ];
@@ -129,18 +128,3 @@ peeled_more g allowed leaves n rest later f e ln lf ne only less p =
           let next : suc n ≡ n + 1 = omega arith in
           subst (λ m. later x ≡ left_after allowed new m x) next after;
     }
-
--- the edge of a leaf, and the node that it hangs on
-pub leaf_ends : (g : Graph) (allowed : ℕ → Bool) (leaves : List Leaf) (n : ℕ) (rest : ℕ → Bool) → IsPeeled g allowed leaves n rest → (k : ℕ) → k < n → (x : Leaf) → x ≡ get_or leaves k x → (f e : ℕ) → f ≡ x.face → e ≡ x.edge →
-    (e < g.edges) × ((next : ℕ) → ((a : ℕ) → joins g f a e ≡ true → next ≡ a) → next < g.nodes)
-leaf_ends g allowed leaves n rest p k l x is f e f_is e_is =
-    let few = p.few in
-    let there : x ≡ leaf_at leaves k = is ∙ get_or_default leaves k x (record { face = 0; edge = 0 }) (omega arith) in
-    let hangs = (p.leaf k l).hangs in
-    let e_there : e ≡ (leaf_at leaves k).edge = e_is ∙ ap (λ (y : Leaf). y.edge) there in
-    let f_there : f ≡ (leaf_at leaves k).face = f_is ∙ ap (λ (y : Leaf). y.face) there in (
-      subst (λ y. y < g.edges) (sym e_there) hangs.edge_in,
-      λ next across.
-          let same : next ≡ hangs.other = across hangs.other (subst (λ y. joins g y hangs.other e ≡ true) (sym f_there) (subst (λ y. joins g (leaf_at leaves k).face hangs.other y ≡ true) (sym e_there) hangs.joined)) in
-          subst (λ y. y < g.nodes) (sym same) hangs.other_in,
-    )

@@ -9,27 +9,27 @@ use Rattle.surf_cotree.specs.Searches.{heaviest, reached, spanned_tree, IsPrim}
 use Rattle.surf_cotree.specs.declared.peeling.Leaf.{Leaf}
 
 abbrev pub leaf_at : List Leaf → ℕ → Leaf
-leaf_at leaves k = slice_index_or leaves k (record { face = 0; edge = 0 })
+leaf_at leaves k = slice_index_or leaves k (record { face = 0; edge = 0; on = 0 })
 
 -- the allowed edges that are left when the first n leaves have been taken off, each with its edge
 abbrev pub left_after : (ℕ → Bool) → List Leaf → ℕ → ℕ → Bool
 left_after allowed leaves zero e = allowed e
 left_after allowed leaves (suc n) e = left_after allowed leaves n e && not (e == (leaf_at leaves n).edge)
 
--- of the edges that are left, e alone is at node f
-pub record IsOnlyEdge (g : Graph) (rest : ℕ → Bool) (f e : ℕ) : Type 0 where
+-- of the edges that are left, e alone is at node f, and it leads to node a
+pub record IsOnlyEdge (g : Graph) (rest : ℕ → Bool) (f a e : ℕ) : Type 0 where
   pub edge_in : e < g.edges
   pub is_left : rest e ≡ true
-  pub other : ℕ
-  pub other_in : other < g.nodes
-  pub joined : joins g f other e ≡ true
+  pub other_in : a < g.nodes
+  pub joined : joins g f a e ≡ true
   pub only : (l w : ℕ) → l < g.edges → rest l ≡ true → joins g f w l ≡ true → l ≡ e
 
 -- when the leaves before it have been taken off, a leaf hangs on the other nodes by its edge alone. Node 0 stays
 pub record IsLeaf (g : Graph) (allowed : ℕ → Bool) (leaves : List Leaf) (k : ℕ) : Type 0 where
   pub node_in : (leaf_at leaves k).face < g.nodes
   pub not_first : (leaf_at leaves k).face ≢ 0
-  pub hangs : IsOnlyEdge g (left_after allowed leaves k) (leaf_at leaves k).face (leaf_at leaves k).edge
+  pub hangs : IsOnlyEdge g (left_after allowed leaves k) (leaf_at leaves k).face (leaf_at leaves k).on
+      (leaf_at leaves k).edge
 
 -- the first n leaves have been taken off one after the other, and the rest of the edges is left
 pub record IsPeeled (g : Graph) (allowed : ℕ → Bool) (leaves : List Leaf) (n : ℕ) (rest : ℕ → Bool) : Type 0 where

@@ -94,6 +94,7 @@ impl CotreeDesk {
         let none = Leaf {
             face: FaceId::new(0),
             edge: EdgeId::new(0),
+            on: FaceId::new(0),
         };
         let leaves = vec![in alloc; none; faces]?;
         let depth = vec![in alloc; 0u32; faces]?;

@@ -1,28 +1,32 @@
 //! Takes off the faces that hang on the others by one edge, and hangs them on again.
-ghost use Rattle.std.specs.Prelude.{◌≡◌, ◌<◌, ◌≤◌, ℕ, Bool, length, IfSome};
+ghost use Rattle.std.specs.Prelude.{◌≡◌, ◌<◌, ◌≤◌, ◌+◌, ℕ, Bool, length, IfSome, MatchOption};
 ghost use Rattle.surf_graphs.specs.Cells.{dual};
 ghost use Rattle.surf_surfaces.specs.Surface.{face_count, edge_count};
 ghost use Rattle.surf_surfaces.specs.Cells.{cells_of};
+ghost use Rattle.surf_surfaces.specs.SideNumber.{side_count};
+ghost use Rattle.surf_mesh.specs.Links.{side_link};
 ghost use Rattle.surf_cotree.specs.Searches.{outside};
 ghost use Rattle.surf_cotree.specs.Peeling.{IsOnlyEdge, IsPeeled, IsHung};
 
-use crate::search::{NOBODY, face_across};
-use surf_base::{EdgeId, FaceId};
+use crate::search::NOBODY;
+use surf_base::{EdgeId, FaceId, SideId};
 use surf_mesh::HalfMesh;
 
-/// A face and the one edge by which it hangs on the faces that are left.
+/// A face, the one edge by which it hangs on the faces that are left, and the face beyond it.
 #[derive(Clone, Copy)]
 pub(crate) struct Leaf {
     pub(crate) face: FaceId,
     pub(crate) edge: EdgeId,
+    pub(crate) on: FaceId,
 }
 
-// The edge of a face that isn't marked, where there is exactly one.
-fn only_edge(mesh: &HalfMesh, marks: &[bool], face: FaceId) -> Option<EdgeId>
+// The side of a face whose edge isn't marked, where there is exactly one.
+fn only_side(mesh: &HalfMesh, marks: &[bool], face: FaceId) -> Option<SideId>
     requires face { face < face_count mesh.now }
     requires marks { length marks.now ≡ edge_count mesh.now }
-    ensures only { IfSome result (λ edge. IsOnlyEdge (dual (cells_of mesh.now))
-        (outside marks.now) face edge) }
+    ensures side { IfSome result (λ s. s < side_count mesh.now) }
+    ensures only { IfSome result (λ s. IsOnlyEdge (dual (cells_of mesh.now))
+        (outside marks.now) face (side_link mesh.now s).0 (side_link mesh.now s).1) }
 {
     mesh.law_of_surface();
     let mut found = None;
@@ -32,71 +36,72 @@ fn only_edge(mesh: &HalfMesh, marks: &[bool], face: FaceId) -> Option<EdgeId>
             if found.is_some() {
                 return None;
             }
-            found = Some(edge);
+            found = Some(*s);
         }
     }
     found
 }
 
-// Takes a face off that hangs on the others by one edge without a mark, and marks the edge. Face 0
-// stays.
+// Takes a face off that hangs on the others by one edge without a mark, marks the edge, and gives
+// the face that it hung on. Face 0 stays.
 fn take_leaf(
     mesh: &HalfMesh,
     marks: &mut [bool],
     leaves: &mut [Leaf],
     count: usize,
     face: u32,
-) -> usize
+) -> Option<u32>
     requires face { face < face_count mesh.now }
     requires marks { length marks.old ≡ edge_count mesh.now }
+    ensures room { IfSome result (λ on. count < length leaves.old) }
+    ensures on { IfSome result (λ on. on < face_count mesh.now) }
     ensures peeled { (allowed : ℕ → Bool) → IsPeeled (dual (cells_of mesh.now))
         allowed leaves.old count (outside marks.old) →
-        IsPeeled (dual (cells_of mesh.now)) allowed leaves.new result (outside marks.new) }
+        MatchOption result
+        (IsPeeled (dual (cells_of mesh.now)) allowed leaves.new count (outside marks.new))
+        (λ on. IsPeeled (dual (cells_of mesh.now)) allowed leaves.new
+        (count + 1) (outside marks.new)) }
 {
     mesh.law_of_surface();
     if face == 0 || count >= leaves.len() {
-        return count;
+        return None;
     }
-    let Some(edge) = only_edge(mesh, marks, FaceId::new(face)) else {
-        return count;
+    let Some(side) = only_side(mesh, marks, FaceId::new(face)) else {
+        return None;
     };
+    let (on, edge) = mesh.across(side);
     marks[edge.index()] = true;
     leaves[count] = Leaf {
         face: FaceId::new(face),
         edge,
+        on,
     };
-    count + 1
+    Some(on.number())
 }
 
-// Takes off what hangs by one edge when its turn comes, in the order of the faces.
-fn take_in_order(mesh: &HalfMesh, marks: &mut [bool], leaves: &mut [Leaf]) -> usize
+// Takes a face off that hangs by one edge, and then each face that hangs by one edge when the one
+// before it has gone. A face past the first one waits for its turn.
+fn take_chain(
+    mesh: &HalfMesh,
+    marks: &mut [bool],
+    leaves: &mut [Leaf],
+    taken: usize,
+    from: u32,
+) -> usize
+    requires face { from < face_count mesh.now }
     requires marks { length marks.old ≡ edge_count mesh.now }
-    ensures peeled { IsPeeled (dual (cells_of mesh.now)) (outside marks.old) leaves.new result
-        (outside marks.new) }
-{
-    let mut count = 0;
-    for face in 0..mesh.faces() {
-        count = take_leaf(mesh, marks, leaves, count, face);
-    }
-    count
-}
-
-// Takes off each face that hangs by one edge when the one beside it has gone.
-fn take_beside(mesh: &HalfMesh, marks: &mut [bool], leaves: &mut [Leaf], taken: usize) -> usize
-    requires marks { length marks.old ≡ edge_count mesh.now }
-    requires some { (allowed : ℕ → Bool) × IsPeeled (dual (cells_of mesh.now))
-        allowed leaves.old taken (outside marks.old) }
     ensures peeled { (allowed : ℕ → Bool) → IsPeeled (dual (cells_of mesh.now))
         allowed leaves.old taken (outside marks.old) →
         IsPeeled (dual (cells_of mesh.now)) allowed leaves.new result (outside marks.new) }
 {
     let mut count = taken;
-    let mut next = 0;
-    while next < count {
-        let leaf = leaves[next];
-        let on = face_across(mesh, leaf.edge.number(), leaf.face.number());
-        count = take_leaf(mesh, marks, leaves, count, on);
-        next += 1;
+    let mut face = from;
+    while face <= from {
+        let Some(on) = take_leaf(mesh, marks, leaves, count, face) else {
+            break;
+        };
+        count += 1;
+        face = on;
     }
     count
 }
@@ -108,8 +113,11 @@ pub(crate) fn peel(mesh: &HalfMesh, marks: &mut [bool], leaves: &mut [Leaf]) -> 
     ensures peeled { IsPeeled (dual (cells_of mesh.now)) (outside marks.old) leaves.new result
         (outside marks.new) }
 {
-    let first = take_in_order(mesh, marks, leaves);
-    take_beside(mesh, marks, leaves, first)
+    let mut count = 0;
+    for face in 0..mesh.faces() {
+        count = take_chain(mesh, marks, leaves, count, face);
+    }
+    count
 }
 
 /// Hangs the faces that were taken off on the tree again, the last first.
@@ -135,8 +143,7 @@ pub(crate) fn hang(
     mesh.law_of_surface();
     for k in (0..count).rev() {
         let leaf = leaves[k];
-        let (face, edge) = (leaf.face.number(), leaf.edge.number());
-        let on = face_across(mesh, edge, face);
+        let (face, edge, on) = (leaf.face.number(), leaf.edge.number(), leaf.on.number());
         if depth[on as usize] != NOBODY {
             depth[face as usize] = depth[on as usize] + 1;
             parent[face as usize] = on;

@@ -16,7 +16,8 @@ use Rattle.surf_mesh.proofs.LinkLaws.{edge_row, cells_few}
 use Rattle.surf_lengths.specs.Lengths.{longest}
 use Rattle.surf_tree.proofs.LengthLaws.{short_lengths}
 use Rattle.surf_near.specs.declared.links.Link.{Link}
-use Rattle.surf_near.specs.Links.{LinkTables, weight_of, ends_of, link_in, AreLinksAt, AreLinks, AreEven, AreUpTo}
+use Rattle.surf_near.specs.Links.{LinkTables, weight_of, ends_of, link_in, AreLinksAt, AreLinks, AreUpTo}
+use Rattle.surf_tree.specs.Queues.{AreEven}
 
 -- an edge as a link of one of its ends
 abbrev pub link_over : Mesh → List ℕ → ℕ → ℕ → Link

@@ -1,6 +1,5 @@
 -- The links of the vertices of a mesh, with the lengths of its edges.
-use Rattle.std.specs.Prelude.{◌≡◌, ◌≢◌, ℕ, ◌<◌, ◌≤◌, ◌⊎◌, ◌^◌, List, [], length, map, slice_index, slice_index_or, Option}
-use Rattle.std.specs.Prelude.{MatchOption}
+use Rattle.std.specs.Prelude.{◌≡◌, ℕ, ◌<◌, ◌≤◌, ◌^◌, List, [], length, map, slice_index, slice_index_or}
 use Rattle.surf_z2.specs.Parity.{count_below}
 use Rattle.surf_graphs.specs.Graphs.{Graph}
 use Rattle.surf_graphs.specs.Cells.{primal}
@@ -52,19 +51,6 @@ pub record AreLinks (mesh : Mesh) (lengths : List ℕ) (rows : List (List Link))
   pub count : length rows ≡ mesh.vertices
   pub at : (v : ℕ) → v < mesh.vertices → AreLinksAt mesh lengths v (slice_index_or rows v [])
 
--- all edges have one length
-abbrev pub AreEven : List ℕ → ℕ → Type 0
-AreEven lengths size = (e : ℕ) → e < length lengths → slice_index lengths e ≡ size
-
 -- no edge is longer
 abbrev pub AreUpTo : List ℕ → ℕ → Type 0
 AreUpTo lengths most = (e : ℕ) → e < length lengths → slice_index lengths e ≤ most
-
--- there is no edge, or one has another length than the first
-abbrev pub AreUneven : List ℕ → Type 0
-AreUneven lengths = (length lengths ≡ 0)
-    ⊎ ((e : ℕ) × (e < length lengths) × (slice_index lengths e ≢ slice_index lengths 0))
-
--- the one length of all edges, where they have one
-abbrev pub IsEvenness : List ℕ → Option ℕ → Type 0
-IsEvenness lengths even = MatchOption even (AreUneven lengths) (AreEven lengths)

@@ -5,11 +5,11 @@
 //! memory when it is made. Before a search its tables are cleared only where the last one wrote.
 //!
 //! A search settles the vertices from a base on, the nearest first, as far as the radius
-//! (E. W. Dijkstra, "A note on two problems in connexion with graphs", 1959), with a fringe in place
-//! of his search for the nearest: buckets where no edge is as long as there are buckets, and else a
-//! heap. What lies past the radius never gets into the fringe. Where all edges have one length, the
-//! list of settled vertices itself is the queue of a breadth-first search (E. F. Moore, "The
-//! shortest path through a maze", 1959), and there is no fringe.
+//! (E. W. Dijkstra, "A note on two problems in connexion with graphs", 1959), with a fringe in
+//! place of his search for the nearest: buckets where no edge is as long as there are buckets, and
+//! else a heap. What lies past the radius never gets into the fringe. Where all edges have one
+//! length, the list of settled vertices itself is the queue of a breadth-first search (E. F. Moore,
+//! "The shortest path through a maze", 1959), and there is no fringe.
 //!
 //! Of each settled vertex the desk has the distance, the least neighbour from which an edge leads
 //! to this distance, that edge, and the least vertex on any shortest way from the base. These are

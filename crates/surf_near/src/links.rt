@@ -3,7 +3,8 @@ ghost use Rattle.std.specs.Prelude.{◌≡◌, ◌<◌, ◌≤◌, ◌+◌, leng
 ghost use Rattle.surf_surfaces.specs.Mesh.{IsMesh};
 ghost use Rattle.surf_surfaces.specs.Surface.{edge_count};
 ghost use Rattle.surf_lengths.specs.Lengths.{AreLengths};
-ghost use Rattle.surf_near.specs.Links.{AreLinks, AreLinksAt, AreUpTo, IsEvenness, degree};
+ghost use Rattle.surf_tree.specs.Queues.{IsEvenness};
+ghost use Rattle.surf_near.specs.Links.{AreLinks, AreLinksAt, AreUpTo, degree};
 
 use std::alloc::Global;
 use std::marker::Model;
@@ -11,6 +12,7 @@ use surf_base::{EdgeId, NoMemory, VertexId};
 use surf_lengths::Lengths;
 use surf_mesh::HalfMesh;
 use surf_rows::Rows;
+use surf_tree::even_length;
 
 /// A neighbour of a vertex, and the length and the number of the edge to it.
 #[derive(Clone, Copy)]
@@ -31,7 +33,8 @@ pub struct Links<'m> {
 }
 
 impl<'m> Model for Links<'m> {
-    ghost use Rattle.surf_near.specs.Links.{LinkTables, AreLinks, AreUpTo, IsEvenness};
+    ghost use Rattle.surf_tree.specs.Queues.{IsEvenness};
+    ghost use Rattle.surf_near.specs.Links.{LinkTables, AreLinks, AreUpTo};
 
     ghost Value = { LinkTables };
 
@@ -40,23 +43,6 @@ impl<'m> Model for Links<'m> {
     ghost invariant = { λ l. AreLinks l.mesh.now l.lengths.now l.rows
         × IsEvenness l.lengths.now l.even
         × AreUpTo l.lengths.now l.greatest };
-}
-
-// The length that all edges have, where they have one.
-fn even_length(lengths: &Lengths) -> Option<u32>
-    ensures lengths { AreLengths lengths.now }
-    ensures even { IsEvenness lengths.now result }
-{
-    if lengths.count() == 0 {
-        return None;
-    }
-    let first = lengths.of(EdgeId::new(0));
-    for e in 1..lengths.count() {
-        if lengths.of(EdgeId::new(e)) != first {
-            return None;
-        }
-    }
-    Some(first)
 }
 
 // The greatest of all lengths, and 0 where there is none.

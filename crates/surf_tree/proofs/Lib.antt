@@ -5,3 +5,4 @@ pub mod LengthLaws
 pub mod Choosing
 pub mod MeshTrees
 pub mod SearchWords
+pub mod Queues

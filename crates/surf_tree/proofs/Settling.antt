@@ -21,6 +21,29 @@ same_key o k t k2 t2 a b = ap key_of (sym a ∙ b)
 key_up : (k t p k2 t2 p2 : ℕ) → IsUpTo k t p k2 t2 p2 → k ≤ k2
 key_up k t p k2 t2 p2 h = elim h [ inl l ↦ omega arith | inr (e, _) ↦ omega arith ]
 
+-- where neighbours of settled nodes are settled and one node is, all are
+module _ (g : Graph) (dist : ℕ → ℕ) (base : ℕ) (graph : IsGraph g) (connected : IsConnected g) (in_range : base < g.nodes) (first : dist base ≢ far)
+    (goes_on : (u w e : ℕ) → u < g.nodes → w < g.nodes → e < g.edges → joins g u w e ≡ true → dist u ≢ far → dist w ≢ far) where
+  stays : (e : ℕ) → e < g.edges → leaves g (λ v. eqb (dist v) far) e ≡ false
+  stays e le =
+      let ends = graph e le in
+      let there = joins_ends g e in
+      elim (cases_eq (dist (g.from e)) far) [
+        | inl f ↦ elim (cases_eq (dist (g.to e)) far) [
+          | inl f2 ↦ rw (eq-eqb (dist (g.from e)) far f, eq-eqb (dist (g.to e)) far f2)
+          | inr n2 ↦ absurd (goes_on (g.to e) (g.from e) e ends.1 ends.0 le (joins_turned g (g.from e) (g.to e) e there) n2 f)
+        ]
+        | inr n ↦ elim (cases_eq (dist (g.to e)) far) [
+          | inl f2 ↦ absurd (goes_on (g.from e) (g.to e) e ends.0 ends.1 le there n f2)
+          | inr n2 ↦ rw (ne_eqb (dist (g.from e)) far n, ne_eqb (dist (g.to e)) far n2)
+        ]
+      ]
+
+  pub all_or_none : (u : ℕ) → u < g.nodes → dist u ≢ far
+  all_or_none u lu f =
+      let same : eqb (dist u) far ≡ eqb (dist base) far = connected (λ v. eqb (dist v) far) stays u base lu in_range in
+      false≢true (sym (sym (eq-eqb (dist u) far f) ∙ (same ∙ ne_eqb (dist base) far first)))
+
 module _ (g : Graph) (len : ℕ → ℕ) (base : ℕ) (small : g.nodes ≤ longest) (short : (e : ℕ) → len e ≤ longest) where
   moved : (dist dist2 : ℕ → ℕ) (w k : ℕ) → ((u : ℕ) → dist u ≢ far → dist2 u ≡ dist u) → IsReached g len dist w k → IsReached g len dist2 w k
   moved dist dist2 w k same r = record {
@@ -169,9 +192,6 @@ module _ (g : Graph) (len : ℕ → ℕ) (base : ℕ) (small : g.nodes ≤ longe
   }
 
   module _ (dist : ℕ → ℕ) (heap : Entries) (last left : ℕ) (s : IsSearch g len base dist heap last left) (graph : IsGraph g) (connected : IsConnected g) (in_range : base < g.nodes) (empty : IsEmpty heap) where
-    free : ℕ → Bool
-    free v = eqb (dist v) far
-
     base_zero : dist base ≡ 0
     base_zero = elim s.base_first [
       | inl is ↦ is
@@ -181,26 +201,8 @@ module _ (g : Graph) (len : ℕ → ℕ) (base : ℕ) (small : g.nodes ≤ longe
     not_free : (u w e : ℕ) → u < g.nodes → w < g.nodes → e < g.edges → joins g u w e ≡ true → dist u ≢ far → dist w ≢ far
     not_free u w e lu lw le join su fw = let key = s.offered u w e lu lw le join su fw in no_entry (entry_of heap w) key.key key.tie (empty w) key.entry
 
-    stays : (e : ℕ) → e < g.edges → leaves g (λ v. eqb (dist v) far) e ≡ false
-    stays e le =
-        let ends = graph e le in
-        let there = joins_ends g e in
-        elim (cases_eq (dist (g.from e)) far) [
-          | inl f ↦ elim (cases_eq (dist (g.to e)) far) [
-            | inl f2 ↦ rw (eq-eqb (dist (g.from e)) far f, eq-eqb (dist (g.to e)) far f2)
-            | inr n2 ↦ absurd (not_free (g.to e) (g.from e) e ends.1 ends.0 le (joins_turned g (g.from e) (g.to e) e there) n2 f)
-          ]
-          | inr n ↦ elim (cases_eq (dist (g.to e)) far) [
-            | inl f2 ↦ absurd (not_free (g.from e) (g.to e) e ends.0 ends.1 le there n f2)
-            | inr n2 ↦ rw (ne_eqb (dist (g.from e)) far n, ne_eqb (dist (g.to e)) far n2)
-          ]
-        ]
-
     all_settled : (u : ℕ) → u < g.nodes → dist u ≢ far
-    all_settled u lu f =
-        let n : dist base ≢ far = let z : dist base ≡ 0 = base_zero in omega arith in
-        let same : eqb (dist u) far ≡ eqb (dist base) far = connected (λ v. eqb (dist v) far) stays u base lu in_range in
-        false≢true (sym (sym (eq-eqb (dist u) far f) ∙ (same ∙ ne_eqb (dist base) far n)))
+    all_settled = all_or_none g dist base graph connected in_range (λ none. let z : dist base ≡ 0 = base_zero in absurd (omega arith)) not_free
 
     pub search_ends : IsSettled g len base dist
     search_ends = record {

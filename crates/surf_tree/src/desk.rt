@@ -1,9 +1,15 @@
 //! The tables of one tree.
 ghost use Rattle.std.specs.Prelude.{◌≡◌, ◌<◌, length, slice_index, IfOk};
+ghost use Rattle.surf_graphs.specs.Cells.{primal};
 ghost use Rattle.surf_surfaces.specs.Surface.{edge_count};
+ghost use Rattle.surf_surfaces.specs.Walk.{edge_length};
+ghost use Rattle.surf_surfaces.specs.Cells.{cells_of};
+ghost use Rattle.surf_base.specs.Tables.{at};
+ghost use Rattle.surf_tree.specs.Searches.{IsSearchable, IsSettled};
 ghost use Rattle.surf_tree.specs.Tables.{TreeTables, AreTreeTables, parent_of, parent_edge_of};
 ghost use Rattle.surf_tree.specs.Grown.{IsGrown};
 
+use crate::even::{even_length, settle_even};
 use crate::network::MeshNetwork;
 use crate::parents::{NOBODY, mark_edges, set_parents};
 use crate::search::settle;
@@ -43,6 +49,31 @@ impl Model for TreeDesk {
     ghost invariant = { λ d. length d.heap ≡ length d.distance.items };
 }
 
+// Settles all vertices, by a queue where one will do.
+fn settle_vertices(
+    network: &MeshNetwork<'_>,
+    distance: &mut [u64],
+    heap: &mut Heap,
+    order: &mut [u32],
+    base: u32,
+)
+    requires searchable { IsSearchable (primal (cells_of network.now.mesh.now))
+        (edge_length network.now.lengths.now) }
+    requires lengths { length network.now.lengths.now ≡ edge_count network.now.mesh.now }
+    requires base { base < network.now.mesh.now.vertices }
+    requires distances { length distance.old ≡ network.now.mesh.now.vertices }
+    requires places { length heap.old ≡ network.now.mesh.now.vertices }
+    requires order { length order.old ≡ network.now.mesh.now.vertices }
+    ensures settled { IsSettled (primal (cells_of network.now.mesh.now))
+        (edge_length network.now.lengths.now) base (at distance.new) }
+    ensures places { length heap.new ≡ network.now.mesh.now.vertices }
+{
+    match even_length(network.lengths) {
+        Some(size) => settle_even(network, distance, order, base, size),
+        None => settle(network, distance, heap, base),
+    }
+}
+
 impl TreeDesk {
     /// A desk for the trees of a mesh, and of every mesh with as many vertices and edges. No
     /// later call takes memory.
@@ -76,7 +107,13 @@ impl TreeDesk {
         mesh.law_of_surface();
         lengths.law_of_lengths();
         let network = MeshNetwork { mesh, lengths };
-        settle(&network, &mut self.distance, &mut self.heap, base.number());
+        settle_vertices(
+            &network,
+            &mut self.distance,
+            &mut self.heap,
+            &mut self.parent,
+            base.number(),
+        );
         set_parents(&network, &self.distance, &mut self.parent, &mut self.up);
         mark_edges(&self.parent, &self.up, &mut self.flags);
         self.base = base;

@@ -8,7 +8,7 @@ use crate::network::Network;
 use surf_heap::Heap;
 
 // The distance of a node that isn't settled.
-const FAR: u64 = u64::MAX;
+pub(crate) const FAR: u64 = u64::MAX;
 
 // Offers the unsettled neighbours of a node at distance `d` to the heap.
 fn offer_neighbours<N: Network>(network: &N, distance: &[u64], heap: &mut Heap, node: u32, d: u64)

@@ -3,20 +3,29 @@ use Rattle.std.specs.Prelude.{◌⊎◌, slice_index_or}
 use Rattle.std.proofs.lemmas.Bool.{cases_lt}
 use Rattle.std.proofs.lemmas.Bool.Decides.{nat_tests}
 use Rattle.surf_surfaces.specs.Surface.{ends, edge_count}
-use Rattle.surf_loops.proofs.Turned.{ends_in}
-use Rattle.surf_basis.specs.Marks.{HasMarkedEnd}
-use Rattle.surf_basis.proofs.Marked.{end_stays}
+use Rattle.surf_basis.proofs.Marked.{end_stays, ends_inside, either_marked, either_below}
 use Rattle.surf_basis.proofs.marking.mark_ends.Goals as goal
 use Rattle.surf_basis.proofs.marking.mark_ends.Goals.{then-not-is_empty, else-not-is_empty}
+
+pub by_count-less-requires-clause-low : goal.by_count-less-requires-clause-low
+by_count-less-requires-clause-low c =
+    let e_in : c.new-edge.result < edge_count c.args.mesh.now = omega (arith, c.new-edge.ensures, c.loop-e-test.true, c.edges-e-end.ensures.count) in
+    let inside = ends_inside c.args.mesh.now c.law_of_surface.ensures.surface c.new-edge.result e_in c.ends-low.result c.ends-low.ensures in
+    omega (arith, inside.0, c.requires.counts)
+
+pub by_count-less-requires-clause-high : goal.by_count-less-requires-clause-high
+by_count-less-requires-clause-high c =
+    let e_in : c.new-edge.result < edge_count c.args.mesh.now = omega (arith, c.new-edge.ensures, c.loop-e-test.true, c.edges-e-end.ensures.count) in
+    let inside = ends_inside c.args.mesh.now c.law_of_surface.ensures.surface c.new-edge.result e_in c.ends-low.result c.ends-low.ensures in
+    omega (arith, inside.1, c.requires.counts)
 
 pub mark_one-requires : goal.mark_one-requires
 mark_one-requires c =
     let mesh = c.args.mesh.now in
     let e_in : c.new-edge.result < edge_count mesh = omega (arith, c.new-edge.ensures, c.loop-e-test.true, c.edges-e-end.ensures.count) in
-    let inside = ends_in mesh c.law_of_surface.ensures.surface c.new-edge.result e_in in
-    let low = subst (λ (p : ℕ × ℕ). p.0 < mesh.vertices) (sym c.ends-low.ensures) inside.0 in
-    let high = subst (λ (p : ℕ × ℕ). p.1 < mesh.vertices) (sym c.ends-low.ensures) inside.1 in
-    record { inside = (omega (arith, low, c.loop-e.invariant.count), omega (arith, high, c.loop-e.invariant.count)) }
+    let inside = ends_inside mesh c.law_of_surface.ensures.surface c.new-edge.result e_in c.ends-low.result c.ends-low.ensures in
+    let both = either_below mesh.vertices c.ends-low.result.0 c.ends-low.result.1 c.by_count-less.result c.by_count-less.ensures inside.0 inside.1 in
+    record { inside = (omega (arith, both.0, c.loop-e.invariant.count), omega (arith, both.1, c.loop-e.invariant.count)) }
 
 pub loop-e-preserved : goal.loop-e-preserved
 loop-e-preserved c =
@@ -34,7 +43,7 @@ loop-e-preserved c =
               | inr more ↦
                   let same : n ≡ e = omega arith in
                   subst (λ (p : ℕ × ℕ). (slice_index_or w.mark_one.new.marked p.0 false ≡ true) ⊎ (slice_index_or w.mark_one.new.marked p.1 false ≡ true))
-                  (is ∙ ap (ends mesh) same) w.mark_one.ensures.one
+                  (is ∙ ap (ends mesh) same) (either_marked w.mark_one.new.marked w.ends-low.result.0 w.ends-low.result.1 w.by_count-less.result w.by_count-less.ensures w.mark_one.ensures.one)
             ];
           })
       | else-not-is_empty w ↦

@@ -17,8 +17,8 @@ use Rattle.surf_tree.proofs.LengthLaws.{short_lengths}
 use Rattle.surf_tree.proofs.MeshTrees.{grown_here}
 use Rattle.surf_tree.proofs.desk.TreeDesk.grow.Goals as goal
 
-pub settle-requires-clause-searchable : goal.settle-requires-clause-searchable
-settle-requires-clause-searchable c =
+pub settle_vertices-requires-clause-searchable : goal.settle_vertices-requires-clause-searchable
+settle_vertices-requires-clause-searchable c =
     let mesh = c.args.mesh.now in
     let complex = (surfaces_are_cells mesh c.law_of_surface.ensures.surface).complex in
     let few = (cells_few mesh c.law_of_surface.ensures.surface c.law_of_surface.ensures.few).0 in
@@ -33,11 +33,11 @@ pub set_parents-requires-clause-fits : goal.set_parents-requires-clause-fits
 set_parents-requires-clause-fits c =
     let mesh = c.args.mesh.now in
     let few = (cells_few mesh c.law_of_surface.ensures.surface c.law_of_surface.ensures.few).0 in
-    let distance = c.settle.new.distance in
+    let distance = c.settle_vertices.new.distance in
     let t = c.self.inside in
     let made : AreTreeTables mesh c.args.self.now = c.requires.made in
     let distance_is : (with_items t.distance distance).items ≡ distance = with_items_is t.distance distance (omega arith) in
-    rw (c.deref.ensures.value, distance_is) (λ u l. let f : at distance u + longest ≤ mesh.vertices * longest = c.settle.ensures.settled.fits u l in omega (arith, f, few))
+    rw (c.deref.ensures.value, distance_is) (λ u l. let f : at distance u + longest ≤ mesh.vertices * longest = c.settle_vertices.ensures.settled.fits u l in omega (arith, f, few))
 
 pub mark_edges-requires-clause-ups : goal.mark_edges-requires-clause-ups
 mark_edges-requires-clause-ups c =
@@ -46,12 +46,12 @@ mark_edges-requires-clause-ups c =
     let made : AreTreeTables mesh c.args.self.now = c.requires.made in
     let parent = c.set_parents.new.parent in
     let up = c.set_parents.new.up in
-    let parent_is : (with_items t.parent parent).items ≡ parent = with_items_is t.parent parent (omega arith) in
+    let parent_is : (with_items (with_items t.parent c.settle_vertices.new.order) parent).items ≡ parent = with_items_is (with_items t.parent c.settle_vertices.new.order) parent (omega arith) in
     let up_is : (with_items t.up up).items ≡ up = with_items_is t.up up (omega arith) in
     let parents_kept = ap (λ (x : TreeTables). length x.parents) c.self.view_is in
     let flags_kept = ap (λ (x : TreeTables). length x.flags) c.self.view_is in
     let long : length parent ≡ mesh.vertices = omega arith in
-    let wide : length c.deref_mut-4.result.now ≡ edge_count mesh = omega arith in
+    let wide : length c.deref_mut-5.result.now ≡ edge_count mesh = omega arith in
     rw (c.deref-2.ensures.value, parent_is, c.deref-3.ensures.value, up_is) (λ v l some. let e = ((c.set_parents.ensures.parents v (omega (arith, l, long))).tight some).1.edge_in in omega (arith, e, wide))
 
 pub returns : goal.returns
@@ -67,19 +67,19 @@ returns c =
     let parents_kept = ap (λ (x : TreeTables). length x.parents) c.self.view_is in
     let ups_kept = ap (λ (x : TreeTables). length x.ups) c.self.view_is in
     let flags_kept = ap (λ (x : TreeTables). length x.flags) c.self.view_is in
-    let distance = c.settle.new.distance in
+    let distance = c.settle_vertices.new.distance in
     let parent = c.set_parents.new.parent in
     let up = c.set_parents.new.up in
     let flags = c.mark_edges.new.flags in
     let small : g.nodes ≤ longest = omega (arith, few) in
     let distance_is : (with_items t.distance distance).items ≡ distance = with_items_is t.distance distance (omega arith) in
-    let parent_is : (with_items t.parent parent).items ≡ parent = with_items_is t.parent parent (omega arith) in
+    let parent_is : (with_items (with_items t.parent c.settle_vertices.new.order) parent).items ≡ parent = with_items_is (with_items t.parent c.settle_vertices.new.order) parent (omega arith) in
     let up_is : (with_items t.up up).items ≡ up = with_items_is t.up up (omega arith) in
     let flags_is : (with_items t.flags flags).items ≡ flags = with_items_is t.flags flags (omega arith) in
-    let settled : IsSettled g len c.args.base (at distance) = subst (λ b. IsSettled g len b (at distance)) c.number.ensures c.settle.ensures.settled in
+    let settled : IsSettled g len c.args.base (at distance) = subst (λ b. IsSettled g len b (at distance)) c.number.ensures c.settle_vertices.ensures.settled in
     let chosen : (v : ℕ) → v < g.nodes → IsLeastTight g len (at distance) v (at parent v) (at up v) = rw (c.deref.ensures.value, distance_is) at c.set_parents.ensures.parents in
     let long : length parent ≡ g.nodes = omega arith in
-    let wide : length c.deref_mut-4.result.now ≡ g.edges = omega arith in
+    let wide : length c.deref_mut-5.result.now ≡ g.edges = omega arith in
     let marked : (e : ℕ) → e < g.edges → get_or flags e false ≡ any_below g.nodes (λ v. not (eqb (at parent v) nobody) && eqb (at up v) e) = λ e l.
     subst (λ n. get_or flags e false ≡ any_below n (λ v. not (eqb (at parent v) nobody) && eqb (at up v) e)) long
     (rw (c.deref-2.ensures.value, parent_is, c.deref-3.ensures.value, up_is) at (c.mark_edges.ensures.flags e (omega arith)))

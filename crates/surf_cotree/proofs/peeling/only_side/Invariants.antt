@@ -1,0 +1,13 @@
+use Rattle.std.specs.Option.{IfSome}
+use Rattle.surf_surfaces.specs.SideNumber.{side_count}
+use Rattle.std.proofs.Common.{◌<◌, map}
+use Rattle.surf_mesh.specs.Links.{link_at, side_link}
+use Rattle.surf_cotree.specs.Searches.{outside}
+use Rattle.surf_cotree.proofs.Leaves.{IsOnlySoFar}
+use Rattle.surf_cotree.proofs.peeling.only_side.Given as goal
+
+abbrev pub invariant-loop-s : goal.invariant-loop-s
+invariant-loop-s l = record {
+  inside : IfSome l.found (λ s. s < side_count l.mesh);
+  only : IsOnlySoFar (outside l.marks) (link_at (map (side_link l.mesh) l.s-items)) (side_link l.mesh) l.s-index l.found;
+}
