@@ -8,10 +8,13 @@ mod MeshReads
 mod Named
 mod OneFaults
 mod OneLine
+mod Refusals
 mod Refusing
+mod Rows
 mod Running
 mod SewnRuns
 mod ShapeWords
+mod StepLaws
 mod TextLaws
 mod TwoRuns
 mod Unique

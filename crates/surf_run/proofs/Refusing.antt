@@ -8,7 +8,7 @@ use Rattle.surf_base.specs.declared.limits.LimitKind.TheVariants as limits
 use Rattle.surf_surfaces.specs.Mesh.{Mesh}
 use Rattle.surf_surfaces.specs.Surface.{edge_count}
 use Rattle.surf_lengths.specs.Files.{lengths_in}
-use Rattle.surf_off.specs.Off.{OffParts, off_of}
+use Rattle.surf_off.specs.Off.{off_of}
 use Rattle.surf_texts.specs.Cause.{Cause, due, unread, starved, outcome_of, refused_by}
 use Rattle.surf_texts.specs.Limits.{beyond}
 use Rattle.surf_texts.specs.MeshLines.{off_cause}
@@ -21,7 +21,8 @@ use Rattle.surf_texts.specs.LengthLines.{length_cause}
 use Rattle.surf_class.specs.Walks.{walk_in}
 use Rattle.surf_texts.specs.WalkLines.{walk_cause}
 use Rattle.surf_texts.specs.declared.walks.WalkFile.{WalkFile}
-use Rattle.surf_run.proofs.Running.{IsDue, off_due, surface_due, length_due, walk_due}
+use Rattle.surf_run.proofs.Refusals.{off_proper, surface_proper, length_proper, walk_proper}
+use Rattle.surf_run.proofs.Running.{IsDue}
 
 -- where a step ends, its status is above 1
 abbrev pub Refusing : {A : Type 0} → (Result A Outcome → Type 0) → Type 0
@@ -65,10 +66,10 @@ pub reads_refuses : (name : List ℕ) (files : Files) → Refusing (Reads name f
 reads_refuses name files = stated (within_text (bytes_of files name)) (within_high (bytes_of files name))
 
 fault_refuses : (mesh : Mesh) (o : Outcome) → EndsInFault mesh o → 1 < status_of o
-fault_refuses mesh o ends = subst (λ (x : Outcome). 1 < status_of x) (sym ends.is) (due_refuses (surface_cause ends.fault) (surface_due ends.fault))
+fault_refuses mesh o ends = subst (λ (x : Outcome). 1 < status_of x) (sym ends.is) (due_refuses (surface_cause ends.fault) (surface_proper ends.fault).0)
 
 pub surface_refuses : (bytes : List ℕ) → Refusing (IsSurfaceText bytes)
-surface_refuses bytes o (inl is) = stated (refused_by off_cause (off_of bytes)) (refused_high off_cause off_due (off_of bytes)) o is
+surface_refuses bytes o (inl is) = stated (refused_by off_cause (off_of bytes)) (refused_high off_cause (λ fault. (off_proper fault).0) (off_of bytes)) o is
 surface_refuses bytes o (inr (read, is, ends)) = fault_refuses read.1 o ends
 
 pub limit_refuses : (kind : LimitKind) (most count : ℕ) → Refusing (AtMost kind most count)
@@ -82,7 +83,7 @@ pub measured_refuses : (word : List ℕ) (mesh : Mesh) (files : Files) → Refus
 measured_refuses word mesh files o is =
     stated (weighed_for word mesh files)
     (for_high (bytes_eq word (codes "unit")) _ (replicate (edge_count mesh) 1)
-    (then_high (λ bytes. refused_by length_cause (lengths_in mesh bytes)) (λ bytes. refused_high length_cause length_due (lengths_in mesh bytes))
+    (then_high (λ bytes. refused_by length_cause (lengths_in mesh bytes)) (λ bytes. refused_high length_cause (λ fault. (length_proper fault).0) (lengths_in mesh bytes))
     (within_text (bytes_of files word)) (within_high (bytes_of files word)))) o is
 
 pub base_refuses : (base : ℕ) (mesh : Mesh) → Refusing (HasBase base mesh)
@@ -91,7 +92,7 @@ base_refuses base mesh o is = subst (λ (x : Outcome). 1 < status_of x) (sym is.
 pub walk_refuses : (file : WalkFile) (name : List ℕ) (mesh : Mesh) (files : Files) → Refusing (HasWalk file name mesh files)
 walk_refuses file name mesh files o is =
     stated (walk_named file name mesh files)
-    (then_high (λ bytes. refused_by (walk_cause file) (walk_in mesh bytes)) (λ bytes. refused_high (walk_cause file) (walk_due file) (walk_in mesh bytes))
+    (then_high (λ bytes. refused_by (walk_cause file) (walk_in mesh bytes)) (λ bytes. refused_high (walk_cause file) (λ fault. (walk_proper file fault).0) (walk_in mesh bytes))
     (within_text (bytes_of files name)) (within_high (bytes_of files name))) o is
 
 -- so what ends with status 0 or 1 ends in the second step

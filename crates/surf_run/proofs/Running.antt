@@ -3,35 +3,8 @@ use Rattle.std.proofs.Common.{◌≡◌, ◌⊎◌, ◌<◌, ◌≤◌, inl, inr
 use Rattle.std.specs.Prelude.{IfSome, codes}
 use Rattle.surf_base.specs.Outside.{Files, HasRisen, GrowsBy}
 use Rattle.surf_base.specs.Transfer.{GrowsByShorter}
-use Rattle.surf_off.specs.declared.fault.OffFault.{OffFault}
-use Rattle.surf_off.specs.declared.fault.OffFault.TheVariants as off
-use Rattle.surf_check.specs.declared.checking.SurfaceFault.{SurfaceFault}
-use Rattle.surf_check.specs.declared.checking.SurfaceFault.TheVariants as check
-use Rattle.surf_lengths.specs.declared.fault.LengthFault.{LengthFault}
-use Rattle.surf_lengths.specs.declared.fault.LengthFault.TheVariants as lengths
-use Rattle.surf_cert.specs.declared.fault.CertText.{CertText}
-use Rattle.surf_cert.specs.declared.fault.CertText.TheVariants as certs
-use Rattle.surf_texts.specs.CertLines.{cert_cause}
-use Rattle.surf_geom.specs.declared.fault.GeomFault.{GeomFault}
-use Rattle.surf_geom.specs.declared.fault.GeomFault.TheVariants as geom
-use Rattle.surf_sew.specs.declared.copies.CopyFault.{CopyFault}
-use Rattle.surf_sew.specs.declared.copies.CopyFault.TheVariants as copies
-use Rattle.surf_sew.specs.declared.fault.SewFault.{SewFault}
-use Rattle.surf_sew.specs.declared.fault.SewFault.TheVariants as sewing
-use Rattle.surf_texts.specs.SewingLines.{copy_cause, sew_cause}
-use Rattle.surf_class.specs.declared.fault.EvidenceFault.{EvidenceFault}
-use Rattle.surf_class.specs.declared.fault.EvidenceFault.TheVariants as evidence
-use Rattle.surf_class.specs.declared.fault.WalkFault.{WalkFault}
-use Rattle.surf_class.specs.declared.fault.WalkFault.TheVariants as walking
-use Rattle.surf_texts.specs.EvidenceLines.{evidence_cause}
-use Rattle.surf_texts.specs.WalkLines.{walk_cause}
-use Rattle.surf_texts.specs.declared.walks.WalkFile.{WalkFile}
-use Rattle.surf_texts.specs.MeshLines.{off_cause}
-use Rattle.surf_texts.specs.SurfaceLines.{surface_cause}
-use Rattle.surf_texts.specs.LengthLines.{length_cause, geom_cause}
 use Rattle.surf_texts.specs.Outcome.{Outcome, answers, refuses, misses}
 use Rattle.surf_texts.specs.Cause.{Cause, due, unread, starved, misused, line_of}
-use Rattle.surf_texts.specs.Refusals.{cause_of}
 use Rattle.surf_run.specs.Commands.{OnRequest}
 use Rattle.surf_run.specs.Leads.{Leads}
 use Rattle.surf_answers.specs.Tells.{IsTold, Why, WhyOver, verdict_status}
@@ -40,8 +13,6 @@ use Rattle.surf_run.specs.Run.{AreTheFiles, NamesFile, PutsLine, IsDecided, IsLi
 use Rattle.surf_run.proofs.OneLine.{IsSaid, misused_is_one, read_fault_is_one, write_fault_is_one, memory_is_one}
 use Rattle.surf_answers.specs.declared.answered.Verdict.{Verdict}
 use Rattle.surf_answers.specs.declared.answered.Verdict.TheVariants.{Yes, No}
-use Rattle.surf_texts.specs.declared.refusal.Refused.{Refused}
-use Rattle.surf_texts.specs.declared.refusal.Refused.TheVariants.{MeshText, Surface, Lengths, Base, Certificate, Coordinates, Copies, Sewing, Walk, Evidence, Limit, Read, Memory}
 
 -- what is due has a status from 2 to 8 or from 12 on, and a line
 abbrev pub IsDue : Cause → Type 0
@@ -50,90 +21,6 @@ IsDue (due (refuses status line)) = IsDecided status
 IsDue (due misses) = ⊥
 IsDue unread = Unit {0}
 IsDue starved = Unit {0}
-
-pub off_due : (fault : OffFault) → IsDue (off_cause fault)
-off_due (off.Header line) = (omega arith, inl (omega arith))
-off_due (off.Counts line) = (omega arith, inl (omega arith))
-off_due (off.VertexLine line) = (omega arith, inl (omega arith))
-off_due (off.FaceSize line) = (omega arith, inl (omega arith))
-off_due (off.FaceIndex line place) = (omega arith, inl (omega arith))
-off_due (off.FaceRepeat line vertex) = (omega arith, inl (omega arith))
-off_due (off.Early missing) = (omega arith, inl (omega arith))
-off_due (off.Trailing line) = (omega arith, inl (omega arith))
-off_due (off.Limit line kind) = (omega arith, inl (omega arith))
-off_due off.Memory = tt
-
-pub surface_due : (fault : SurfaceFault) → IsDue (surface_cause fault)
-surface_due check.Empty = (omega arith, inl (omega arith))
-surface_due (check.Border u v face) = (omega arith, inl (omega arith))
-surface_due (check.Crowded u v faces) = (omega arith, inl (omega arith))
-surface_due (check.Isolated v) = (omega arith, inl (omega arith))
-surface_due (check.Pinched v first second) = (omega arith, inl (omega arith))
-surface_due (check.Apart face) = (omega arith, inl (omega arith))
-surface_due check.Memory = tt
-
-pub length_due : (fault : LengthFault) → IsDue (length_cause fault)
-length_due (lengths.Form line) = (omega arith, inl (omega arith))
-length_due (lengths.Range line) = (omega arith, inl (omega arith))
-length_due (lengths.NotEdge line) = (omega arith, inl (omega arith))
-length_due (lengths.Twice line earlier) = (omega arith, inl (omega arith))
-length_due (lengths.Missing u v) = (omega arith, inl (omega arith))
-length_due lengths.Memory = tt
-
-cert_due : (fault : CertText) → IsDue (cert_cause fault)
-cert_due (certs.Header line) = (omega arith, inl (omega arith))
-cert_due (certs.Form line) = (omega arith, inl (omega arith))
-cert_due certs.Early = (omega arith, inl (omega arith))
-cert_due (certs.Trailing line) = (omega arith, inl (omega arith))
-cert_due certs.Memory = tt
-
-geom_due : (fault : GeomFault) → IsDue (geom_cause fault)
-geom_due (geom.Form vertex place) = (omega arith, inr (omega arith))
-geom_due (geom.Range vertex place) = (omega arith, inr (omega arith))
-geom_due (geom.Zero u v) = (omega arith, inr (omega arith))
-geom_due (geom.Great u v) = (omega arith, inr (omega arith))
-geom_due geom.Memory = tt
-
-copies_due : (vertices : ℕ) (fault : CopyFault) → IsDue (copy_cause vertices fault)
-copies_due vertices (copies.CopyForm line) = (omega arith, inr (omega arith))
-copies_due vertices (copies.CopyCount have) = (omega arith, inr (omega arith))
-copies_due vertices copies.Memory = tt
-
-sew_due : (fault : SewFault) → IsDue (sew_cause fault)
-sew_due (sewing.Gap v) = (omega arith, inr (omega arith))
-sew_due (sewing.Line copy earlier) = (omega arith, inr (omega arith))
-sew_due (sewing.FaceRepeat face v) = (omega arith, inr (omega arith))
-sew_due sewing.Memory = tt
-
-pub walk_due : (file : WalkFile) (fault : WalkFault) → IsDue (walk_cause file fault)
-walk_due file walking.Empty = (omega arith, inr (omega arith))
-walk_due file (walking.Form place) = (omega arith, inr (omega arith))
-walk_due file (walking.NotVertex place) = (omega arith, inr (omega arith))
-walk_due file (walking.NotEdge place) = (omega arith, inr (omega arith))
-walk_due file walking.Unclosed = (omega arith, inr (omega arith))
-walk_due file (walking.Trailing line) = (omega arith, inr (omega arith))
-walk_due file walking.Memory = tt
-
-evidence_due : (fault : EvidenceFault) → IsDue (evidence_cause fault)
-evidence_due (evidence.Header line) = (omega arith, inl (omega arith))
-evidence_due (evidence.Form line) = (omega arith, inl (omega arith))
-evidence_due (evidence.Trailing line) = (omega arith, inl (omega arith))
-evidence_due evidence.Memory = tt
-
-pub refusals_are_due : (e : Refused) → IsDue (cause_of e)
-refusals_are_due (MeshText fault) = off_due fault
-refusals_are_due (Surface fault) = surface_due fault
-refusals_are_due (Lengths fault) = length_due fault
-refusals_are_due (Base base vertices) = (omega arith, inl (omega arith))
-refusals_are_due (Certificate fault) = cert_due fault
-refusals_are_due (Coordinates fault) = geom_due fault
-refusals_are_due (Copies fault vertices) = copies_due vertices fault
-refusals_are_due (Sewing fault) = sew_due fault
-refusals_are_due (Walk file fault) = walk_due file fault
-refusals_are_due (Evidence fault) = evidence_due fault
-refusals_are_due (Limit kind) = (omega arith, inl (omega arith))
-refusals_are_due Read = tt
-refusals_are_due Memory = tt
 
 -- the words and the files decide no status from 9 to 11
 undecided : (status other : ℕ) → status ≡ other → 8 < other → other < 12 → IsDecided status → ⊥

@@ -1,21 +1,18 @@
 -- The shapes that words name have surfaces as meshes, and the lengths that a scatter makes are positive.
-use Rattle.std.proofs.Common.{◌≡◌, ℕ, Bool, true, false, List, [], ◌∷◌, Option, Some, None, Result, Ok, Err, refl, sym, subst, arith, inl, inr}
-use Rattle.std.specs.Prelude.{nat_lt, nat_le, ◌&&◌, if◌then◌else◌, IfSome, codes, option_map, option_and_then}
+use Rattle.std.proofs.Common.{rules, ℕ, Bool, true, false, List, [], ◌∷◌, Option, Some, None, refl, sym, subst, arith, inl, inr}
+use Rattle.std.specs.Prelude.{nat_le, ◌&&◌, if◌then◌else◌, IfSome, codes, option_map}
 use Rattle.std.specs.List.{AllByRecursion}
 use Rattle.std.proofs.lemmas.Bool.{cases_Bool, and_parts, leb-true}
 use Rattle.std.proofs.lemmas.List.FromFn.{get_or-map-range_with_len}
 use Rattle.surf_gen.specs.Made.{made_length, made_values}
 use Rattle.surf_surfaces.specs.Mesh.{Mesh}
-use Rattle.surf_surfaces.specs.Surface.{face_count, edge_count, IsSurface, loop_count}
+use Rattle.surf_surfaces.specs.Surface.{edge_count, IsSurface}
 use Rattle.surf_surfaces.specs.Walk.{ArePositive}
 use Rattle.surf_tori.specs.Chain.{chain}
 use Rattle.surf_tori.proofs.ChainLaws.{chains_are_surfaces}
 use Rattle.surf_tori.proofs.TorusLaws.{tori_are_surfaces}
 use Rattle.surf_words.specs.Shapes.{Shape, IsShape, mesh_of, torus_shape, chain_shape, torus_named, chain_named}
-use Rattle.surf_words.specs.Words.{Request, help, version, tries, makes, measures, weighted, word_number, few_decimals, tried, torus_of, chain_of, at_base, Row, row, command_table, fits, given_for, request_in, request_of}
-use Rattle.surf_words.specs.declared.tasks.Task.{Task}
-use Rattle.surf_words.specs.declared.tasks.Task.TheVariants.{Distances, LeastLoops, LoopCertificate, Cut}
-use Rattle.surf_words.specs.declared.tasks.CutKind.TheVariants.{Full, Trimmed}
+use Rattle.surf_words.specs.Words.{Request, help, version, tries, word_number, tried, torus_of, chain_of, Row, row, command_table, fits, given_for, request_in, request_of}
 use Rattle.surf_text.specs.Text.{words_of}
 use Prim.Native.String.{String as Literal}
 
@@ -74,23 +71,18 @@ tried_is None n is = tt
 tried_is (Some s) None is = tt
 tried_is (Some s) (Some n) is = is
 
--- ---- other requests have no shape, or don't try it
+torus_tried : (w : Literal → List ℕ) → IsWellShaped (tried (torus_of w) (word_number (w "s")))
+torus_tried w = tried_is (torus_of w) (word_number (w "s")) (torus_is (word_number (w "a")) (word_number (w "b")))
 
-made_is : (s : Option Shape) → IsWellShaped (option_map makes s)
-made_is None = tt
-made_is (Some s) = tt
+chain_tried : (w : Literal → List ℕ) → IsWellShaped (tried (chain_of w) (word_number (w "s")))
+chain_tried w =
+    tried_is (chain_of w) (word_number (w "s")) (chain_is (word_number (w "g")) (word_number (w "a")) (word_number (w "b")))
 
-measures_is : (mesh : List ℕ) (decimals : Option ℕ) → IsWellShaped (option_map (measures mesh) decimals)
-measures_is mesh None = tt
-measures_is mesh (Some k) = tt
+-- ---- other requests try no shape
 
-weighted_is : (task : Task) (mesh lengths : List ℕ) (base : Option ℕ) →
-    IsWellShaped (option_map (weighted task mesh lengths) base)
-weighted_is task mesh lengths None = tt
-weighted_is task mesh lengths (Some x) = tt
-
-at_base_is : (task : Task) (w : Literal → List ℕ) → IsWellShaped (at_base task w)
-at_base_is task w = weighted_is task (w "M") (w "L") (word_number (w "x"))
+mapped_is : {A : Type 0} (f : A → Request) (x : Option A) → ((a : A) → IsWellShaped (Some (f a))) → IsWellShaped (option_map f x)
+mapped_is f None all = tt
+mapped_is f (Some a) all = all a
 
 -- ---- so is each row of the table
 
@@ -104,73 +96,9 @@ rows_are_well_shaped (row call effect request ∷ others) words shaped =
     either (fits (words_of (codes call)) words) (request (λ name. given_for (codes name) (words_of (codes call)) words))
     (request_in others words) (shaped.0 _) (rows_are_well_shaped others words shaped.1)
 
--- row by row
+-- where a row tries no shape there is nothing to show
 table_is_well_shaped : AllByRecursion IsShapedRow command_table
-table_is_well_shaped = (
-  λ w. tt,
-  (
-    at_base_is Distances,
-    (
-      at_base_is LeastLoops,
-      (
-        λ w. tt,
-        (
-          λ w. tt,
-          (
-            at_base_is (Cut Full),
-            (
-              at_base_is (Cut Trimmed),
-              (
-                λ w. tt,
-                (
-                  λ w. tt,
-                  (
-                    λ w. tt,
-                    (
-                      λ w. tt,
-                      (
-                        λ w. tt,
-                        (
-                          λ w. tt,
-                          (
-                            at_base_is LoopCertificate,
-                            (
-                              λ w. tt,
-                              (
-                                λ w. tt,
-                                (
-                                  λ w. measures_is (w "M") (option_and_then few_decimals (word_number (w "k"))),
-                                  (
-                                    λ w. made_is (torus_of w),
-                                    (
-                                      λ w. made_is (chain_of w),
-                                      (
-                                        λ w. tried_is (torus_of w) (word_number (w "s")) (torus_is (word_number (w "a")) (word_number (w "b"))),
-                                        (
-                                          λ w. tried_is (chain_of w) (word_number (w "s"))
-                                              (chain_is (word_number (w "g")) (word_number (w "a")) (word_number (w "b"))),
-                                          tt,
-                                        ),
-                                      ),
-                                    ),
-                                  ),
-                                ),
-                              ),
-                            ),
-                          ),
-                        ),
-                      ),
-                    ),
-                  ),
-                ),
-              ),
-            ),
-          ),
-        ),
-      ),
-    ),
-  ),
-)
+table_is_well_shaped = search (rules, mapped_is, torus_tried, chain_tried)
 
 pub words_are_well_shaped : (words : List (List ℕ)) → IsWellShaped (request_of words)
 unfolding request_of

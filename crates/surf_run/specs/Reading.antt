@@ -1,6 +1,6 @@
 -- What is read of files: bytes, meshes, lengths, walks, certificates and evidence.
 use Rattle.std.specs.Prelude.{◌≡◌, ◌≢◌, ◌<◌, ◌≤◌, ◌⊎◌, ℕ, nat_lt, List, length, replicate, Option, Some, None, codes}
-use Rattle.std.specs.Prelude.{Result, Ok, Err, if◌then◌else◌}
+use Rattle.std.specs.Prelude.{Result, Ok, Err, IfSome, if◌then◌else◌}
 use Rattle.std.specs.Str.{bytes_eq}
 use Rattle.surf_base.specs.Outside.{Files, bytes_of}
 use Rattle.surf_base.specs.declared.limits.LimitKind.TheVariants.{Text}
@@ -64,6 +64,10 @@ IsSurfaceText bytes (Ok read) = IsMeshText bytes (Ok read) × IsSurface read.1
 IsSurfaceText bytes (Err outcome) =
     IsMeshText bytes (Err outcome)
     ⊎ ((read : OffParts × Mesh) × IsMeshText bytes (Ok read) × EndsInFault read.1 outcome)
+
+-- Wherever it is told what files hold, the file of a name has these bytes; and they are the text of a surface.
+abbrev pub HoldsSurface : Option Files → List ℕ → List ℕ → OffParts × Mesh → Type 0
+HoldsSurface holds name bytes read = IfSome holds (λ files. Reads name files (Ok bytes)) × IsSurfaceText bytes (Ok read)
 
 -- ---- lengths and a base
 

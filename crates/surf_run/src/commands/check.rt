@@ -1,12 +1,15 @@
 //! The command `check`.
-ghost use Rattle.std.specs.Prelude.{◌≡◌, ◌≤◌, length, Some};
+ghost use Rattle.std.specs.Prelude.{◌≡◌, ◌≤◌, ℕ, List, length, Some};
+ghost use Rattle.surf_surfaces.specs.Surface.{edge_count, loop_count};
+ghost use Rattle.surf_off.specs.Off.{OffParts};
 ghost use Rattle.surf_words.specs.Words.{checks};
-ghost use Rattle.surf_answers.specs.Tells.{ConcludesOver, Takes};
+ghost use Rattle.surf_answers.specs.Tells.{Concludes, ConcludesOver, Takes};
+ghost use Rattle.surf_answers.specs.Verdicts.{JudgesCert};
 ghost use Rattle.surf_run.specs.Commands.{OnRequest};
-ghost use Rattle.surf_run.specs.Reading.{IsCertText, tree_count};
-ghost use Rattle.surf_run.specs.Steps.{AtMost};
+ghost use Rattle.surf_run.specs.Reading.{HoldsSurface, IsCertText, tree_count};
+ghost use Rattle.surf_run.specs.Steps.{AtMost, Ends};
 ghost use Rattle.surf_base.specs.declared.limits.LimitKind.TheVariants.{CertificateVertices};
-ghost use Rattle.surf_base.specs.declared.limits.TheConstants.{MAX_CERTIFICATE_VERTICES, MAX_TEXT};
+ghost use Rattle.surf_base.specs.declared.limits.TheConstants.{MAX_CERTIFICATE_VERTICES, MAX_LOOPS, MAX_TEXT};
 
 use crate::limits::{at_most, test_loops};
 use crate::reading::{read_file, read_surface};
@@ -15,6 +18,7 @@ use std::alloc::Global;
 use surf_answers::{Answered, judge};
 use surf_base::{LimitKind, MAX_CERTIFICATE_VERTICES, Shelf};
 use surf_cert::{Cert, read_cert};
+use surf_lengths::Lengths;
 use surf_mesh::HalfMesh;
 use surf_texts::Refused;
 
@@ -34,12 +38,46 @@ pub(crate) fn checked<S: Shelf>(
 {
     let bytes = read_file(alloc, shelf, mesh)?;
     let (_, mesh) = read_surface(alloc, &bytes)?;
-    test_loops(&mesh)?;
-    let lengths = read_measures(alloc, shelf, &mesh, lengths)?;
+    check_on(alloc, shelf, &mesh, lengths, cert)
+}
+
+// What `check` answers of a surface.
+fn check_on<S: Shelf>(
+    alloc: Global,
+    shelf: &mut S,
+    mesh: &HalfMesh,
+    lengths: &str,
+    cert: &str,
+) -> Result<Answered, Refused>
+    ensures holds { S.holds shelf.new ≡ S.holds shelf.old }
+    ensures later { S.faults shelf.old ≤ S.faults shelf.new }
+    ensures tells { (name bytes : List ℕ) (parts : OffParts) → HoldsSurface (S.holds shelf.old) name
+        bytes (parts, mesh.now) → ConcludesOver (S.holds shelf.old) (S.faults shelf.old)
+        (S.faults shelf.new) (OnRequest (Some (checks name lengths.now cert.now))) result }
+{
+    test_loops(mesh)?;
+    let lengths = read_measures(alloc, shelf, mesh, lengths)?;
     let text = read_file(alloc, shelf, cert)?;
-    let cert = cert_of(alloc, &text)?;
-    test_trees(&mesh, &cert)?;
-    judge(alloc, &mesh, &lengths, &cert)
+    judge_text(alloc, mesh, &lengths, &text)
+}
+
+// What `check` answers of a surface with lengths and the text of a certificate.
+fn judge_text(
+    alloc: Global,
+    mesh: &HalfMesh,
+    lengths: &Lengths,
+    text: &[u8],
+) -> Result<Answered, Refused>
+    requires lengths { length lengths.now ≡ edge_count mesh.now }
+    requires few { loop_count mesh.now ≤ MAX_LOOPS }
+    requires short { length text.now ≤ MAX_TEXT }
+    ensures { Concludes (Ends (IsCertText text.now) (λ cert. Ends (AtMost CertificateVertices
+        MAX_CERTIFICATE_VERTICES (tree_count mesh.now cert)) (λ _. JudgesCert mesh.now lengths.now
+        cert))) result }
+{
+    let cert = cert_of(alloc, text)?;
+    test_trees(mesh, &cert)?;
+    judge(alloc, mesh, lengths, &cert)
 }
 
 // The certificate of a text.

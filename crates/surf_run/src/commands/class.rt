@@ -1,8 +1,10 @@
 //! The commands `class` and `same`.
-ghost use Rattle.std.specs.Prelude.{◌≡◌, ◌≤◌, Some};
+ghost use Rattle.std.specs.Prelude.{◌≡◌, ◌≤◌, ℕ, List, Some};
 ghost use Rattle.surf_words.specs.Words.{classes, compares};
 ghost use Rattle.surf_answers.specs.Tells.{ConcludesOver};
+ghost use Rattle.surf_off.specs.Off.{OffParts};
 ghost use Rattle.surf_run.specs.Commands.{OnRequest};
+ghost use Rattle.surf_run.specs.Reading.{HoldsSurface};
 
 use crate::limits::test_loops;
 use crate::reading::{read_file, read_surface};
@@ -10,6 +12,7 @@ use crate::walks::walk_named;
 use std::alloc::Global;
 use surf_answers::{Answered, class_of};
 use surf_base::Shelf;
+use surf_mesh::HalfMesh;
 use surf_texts::{Refused, WalkFile};
 
 /// What `class` answers: evidence of the class of a walk.
@@ -46,8 +49,25 @@ pub(crate) fn compare<S: Shelf>(
 {
     let bytes = read_file(alloc, shelf, mesh)?;
     let (_, mesh) = read_surface(alloc, &bytes)?;
-    test_loops(&mesh)?;
-    let walk = walk_named(alloc, shelf, &mesh, WalkFile::First, first)?;
-    let other = walk_named(alloc, shelf, &mesh, WalkFile::Second, second)?;
-    class_of(alloc, &mesh, &walk, Some(&other))
+    compare_on(alloc, shelf, &mesh, first, second)
+}
+
+// What `same` answers of a surface.
+fn compare_on<S: Shelf>(
+    alloc: Global,
+    shelf: &mut S,
+    mesh: &HalfMesh,
+    first: &str,
+    second: &str,
+) -> Result<Answered, Refused>
+    ensures holds { S.holds shelf.new ≡ S.holds shelf.old }
+    ensures later { S.faults shelf.old ≤ S.faults shelf.new }
+    ensures tells { (name bytes : List ℕ) (parts : OffParts) → HoldsSurface (S.holds shelf.old) name
+        bytes (parts, mesh.now) → ConcludesOver (S.holds shelf.old) (S.faults shelf.old)
+        (S.faults shelf.new) (OnRequest (Some (compares name first.now second.now))) result }
+{
+    test_loops(mesh)?;
+    let walk = walk_named(alloc, shelf, mesh, WalkFile::First, first)?;
+    let other = walk_named(alloc, shelf, mesh, WalkFile::Second, second)?;
+    class_of(alloc, mesh, &walk, Some(&other))
 }

@@ -1,10 +1,14 @@
 //! The command `confirm`.
-ghost use Rattle.std.specs.Prelude.{◌≡◌, ◌≤◌, length, Some};
+ghost use Rattle.std.specs.Prelude.{◌≡◌, ◌≤◌, ℕ, List, length, Some};
+ghost use Rattle.surf_surfaces.specs.Walk.{IsClosed};
+ghost use Rattle.surf_off.specs.Off.{OffParts};
 ghost use Rattle.surf_class.specs.Seen.{seen};
 ghost use Rattle.surf_words.specs.Words.{confirms};
-ghost use Rattle.surf_answers.specs.Tells.{ConcludesOver, Takes};
+ghost use Rattle.surf_answers.specs.Confirming.{JudgesEvidence};
+ghost use Rattle.surf_answers.specs.Tells.{Concludes, ConcludesOver, Takes};
 ghost use Rattle.surf_run.specs.Commands.{OnRequest};
-ghost use Rattle.surf_run.specs.Reading.{IsEvidenceText};
+ghost use Rattle.surf_run.specs.Reading.{HoldsSurface, IsEvidenceText};
+ghost use Rattle.surf_run.specs.Steps.{Ends};
 ghost use Rattle.surf_base.specs.declared.limits.TheConstants.{MAX_TEXT};
 
 use crate::reading::{read_file, read_surface};
@@ -13,6 +17,7 @@ use std::alloc::Global;
 use surf_answers::{Answered, judge_evidence};
 use surf_base::Shelf;
 use surf_class::{Evidence, read_evidence};
+use surf_mesh::{HalfMesh, Walk};
 use surf_texts::{Refused, WalkFile};
 
 /// What `confirm` answers: whether the evidence of a file is right for the class of a walk.
@@ -30,10 +35,37 @@ pub(crate) fn confirm<S: Shelf>(
 {
     let bytes = read_file(alloc, shelf, mesh)?;
     let (_, mesh) = read_surface(alloc, &bytes)?;
-    let walk = walk_named(alloc, shelf, &mesh, WalkFile::First, walk)?;
+    confirm_on(alloc, shelf, &mesh, walk, cert)
+}
+
+// What `confirm` answers of a surface.
+fn confirm_on<S: Shelf>(
+    alloc: Global,
+    shelf: &mut S,
+    mesh: &HalfMesh,
+    walk: &str,
+    cert: &str,
+) -> Result<Answered, Refused>
+    ensures holds { S.holds shelf.new ≡ S.holds shelf.old }
+    ensures later { S.faults shelf.old ≤ S.faults shelf.new }
+    ensures tells { (name bytes : List ℕ) (parts : OffParts) → HoldsSurface (S.holds shelf.old) name
+        bytes (parts, mesh.now) → ConcludesOver (S.holds shelf.old) (S.faults shelf.old)
+        (S.faults shelf.new) (OnRequest (Some (confirms name walk.now cert.now))) result }
+{
+    let walk = walk_named(alloc, shelf, mesh, WalkFile::First, walk)?;
     let text = read_file(alloc, shelf, cert)?;
-    let evidence = evidence_of(alloc, &text)?;
-    judge_evidence(alloc, &mesh, &walk, &evidence)
+    judge_text(alloc, mesh, &walk, &text)
+}
+
+// What `confirm` answers of a surface with a walk and the text of evidence.
+fn judge_text(alloc: Global, mesh: &HalfMesh, walk: &Walk, text: &[u8]) -> Result<Answered, Refused>
+    requires closed { IsClosed mesh.now walk.now }
+    requires short { length text.now ≤ MAX_TEXT }
+    ensures { Concludes (Ends (IsEvidenceText text.now) (λ evidence. JudgesEvidence mesh.now
+        walk.now evidence)) result }
+{
+    let evidence = evidence_of(alloc, text)?;
+    judge_evidence(alloc, mesh, walk, &evidence)
 }
 
 // The evidence of a text.

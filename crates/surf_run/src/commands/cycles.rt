@@ -1,12 +1,14 @@
 //! The commands on the cycles of a surface with lengths: `basis`, `cycle`, and `certify` without a
 //! base.
-ghost use Rattle.std.specs.Prelude.{◌≡◌, ◌+◌, ◌≤◌, length, Some};
+ghost use Rattle.std.specs.Prelude.{◌≡◌, ◌+◌, ◌≤◌, ℕ, List, length, Some};
 ghost use Rattle.surf_surfaces.specs.Surface.{edge_count, face_count};
 ghost use Rattle.surf_words.specs.TaskLimits.{vertex_limit};
 ghost use Rattle.surf_words.specs.Words.{cycles};
 ghost use Rattle.surf_answers.specs.Tells.{Concludes, ConcludesOver, Takes};
 ghost use Rattle.surf_run.specs.Commands.{Finds, OnRequest};
+ghost use Rattle.surf_run.specs.Reading.{HoldsSurface};
 ghost use Rattle.surf_run.specs.Steps.{AtMost};
+ghost use Rattle.surf_off.specs.Off.{OffParts};
 ghost use Rattle.surf_base.specs.declared.limits.TheConstants.{MAX_LOOPS};
 
 use crate::limits::{at_most, test_loops};
@@ -35,10 +37,27 @@ pub(crate) fn find_cycles<S: Shelf>(
 {
     let bytes = read_file(alloc, shelf, mesh)?;
     let (_, mesh) = read_surface(alloc, &bytes)?;
-    test_loops(&mesh)?;
-    test_vertices(task, &mesh)?;
-    let lengths = read_measures(alloc, shelf, &mesh, lengths)?;
-    find(alloc, task, &mesh, &lengths)
+    find_on(alloc, shelf, task, &mesh, lengths)
+}
+
+// What a task on a surface answers.
+fn find_on<S: Shelf>(
+    alloc: Global,
+    shelf: &mut S,
+    task: CycleTask,
+    mesh: &HalfMesh,
+    lengths: &str,
+) -> Result<Answered, Refused>
+    ensures holds { S.holds shelf.new ≡ S.holds shelf.old }
+    ensures later { S.faults shelf.old ≤ S.faults shelf.new }
+    ensures tells { (name bytes : List ℕ) (parts : OffParts) → HoldsSurface (S.holds shelf.old) name
+        bytes (parts, mesh.now) → ConcludesOver (S.holds shelf.old) (S.faults shelf.old)
+        (S.faults shelf.new) (OnRequest (Some (cycles task name lengths.now))) result }
+{
+    test_loops(mesh)?;
+    test_vertices(task, mesh)?;
+    let lengths = read_measures(alloc, shelf, mesh, lengths)?;
+    find(alloc, task, mesh, &lengths)
 }
 
 // The answer of a task.

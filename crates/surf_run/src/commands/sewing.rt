@@ -6,7 +6,7 @@ ghost use Rattle.surf_words.specs.Words.{sews};
 ghost use Rattle.surf_answers.specs.Sewing.{GivesSewn};
 ghost use Rattle.surf_answers.specs.Tells.{Concludes, ConcludesOver, Takes};
 ghost use Rattle.surf_run.specs.Commands.{OnRequest};
-ghost use Rattle.surf_run.specs.Reading.{IsSurfaceOf};
+ghost use Rattle.surf_run.specs.Reading.{IsMeshText, IsSurfaceOf};
 ghost use Rattle.surf_run.specs.Sewing.{HasOrigins, IsSewn, OnSewnMesh};
 ghost use Rattle.surf_run.specs.Steps.{Ends};
 ghost use Rattle.surf_base.specs.declared.limits.TheConstants.{MAX_TEXT};
@@ -29,10 +29,36 @@ pub(crate) fn sew<S: Shelf>(alloc: Global, shelf: &mut S, mesh: &str) -> Result<
         (OnRequest (Some (sews mesh.now))) result }
 {
     let bytes = read_file(alloc, shelf, mesh)?;
-    let (text, copies) = read_mesh(alloc, &bytes)?;
-    let origins = origins_of(alloc, &bytes, copies.vertices())?;
-    let sewn = sewn_of(alloc, &text, &copies, &origins)?;
-    sewn_disc(alloc, &text, &copies, &origins, sewn)
+    sew_text(alloc, &bytes)
+}
+
+// What `sew` answers of a text.
+fn sew_text(alloc: Global, bytes: &[u8]) -> Result<Answered, Refused>
+    requires { length bytes.now ≤ MAX_TEXT }
+    ensures { Concludes (Ends (IsMeshText bytes.now) (λ read. Ends (HasOrigins bytes.now
+        read.1.vertices) (λ origins. Ends (IsSewn read origins) (OnSewnMesh read origins)))) result }
+{
+    let (text, copies) = read_mesh(alloc, bytes)?;
+    sew_mesh(alloc, bytes, &text, &copies)
+}
+
+// What `sew` answers of the mesh of copies that a text is of.
+fn sew_mesh(
+    alloc: Global,
+    bytes: &[u8],
+    text: &OffText<'_>,
+    copies: &Soup,
+) -> Result<Answered, Refused>
+    requires short { length bytes.now ≤ MAX_TEXT }
+    requires lines { length text.now.vertex_lines ≡ copies.now.vertices }
+    requires colours { length text.now.colours ≡ face_count copies.now }
+    ensures { Concludes (Ends (HasOrigins bytes.now copies.now.vertices) (λ origins.
+        Ends (IsSewn (text.now, copies.now) origins) (OnSewnMesh (text.now, copies.now) origins)))
+        result }
+{
+    let origins = origins_of(alloc, bytes, copies.vertices())?;
+    let sewn = sewn_of(alloc, text, copies, &origins)?;
+    sewn_disc(alloc, text, copies, &origins, sewn)
 }
 
 // The origins of the copies.

@@ -1,9 +1,11 @@
 //! The command `shortest`.
-ghost use Rattle.std.specs.Prelude.{◌≡◌, ◌≤◌, ◌*◌, ◌^◌, IfOk, Some};
+ghost use Rattle.std.specs.Prelude.{◌≡◌, ◌≤◌, ◌*◌, ◌^◌, ℕ, List, IfOk, Some};
 ghost use Rattle.surf_surfaces.specs.Surface.{loop_count};
+ghost use Rattle.surf_off.specs.Off.{OffParts};
 ghost use Rattle.surf_words.specs.Words.{tightens};
 ghost use Rattle.surf_answers.specs.Tells.{ConcludesOver, Takes};
 ghost use Rattle.surf_run.specs.Commands.{OnRequest};
+ghost use Rattle.surf_run.specs.Reading.{HoldsSurface};
 ghost use Rattle.surf_run.specs.Steps.{AtMost};
 ghost use Rattle.surf_base.specs.declared.limits.LimitKind.TheVariants.{CoverLoops, CoverNodes};
 ghost use Rattle.surf_base.specs.declared.limits.TheConstants.{MAX_COVER_LOOPS, MAX_COVER_NODES};
@@ -33,17 +35,35 @@ pub(crate) fn shortest<S: Shelf>(
 {
     let bytes = read_file(alloc, shelf, mesh)?;
     let (_, mesh) = read_surface(alloc, &bytes)?;
-    test_loops(&mesh)?;
-    test_cover_loops(&mesh)?;
-    test_cover_nodes(&mesh)?;
-    let lengths = read_measures(alloc, shelf, &mesh, lengths)?;
-    let walk = walk_named(alloc, shelf, &mesh, WalkFile::First, walk)?;
-    shortest_of(alloc, &mesh, &lengths, &walk)
+    shortest_on(alloc, shelf, &mesh, lengths, walk)
+}
+
+// What `shortest` answers of a surface.
+fn shortest_on<S: Shelf>(
+    alloc: Global,
+    shelf: &mut S,
+    mesh: &HalfMesh,
+    lengths: &str,
+    walk: &str,
+) -> Result<Answered, Refused>
+    ensures holds { S.holds shelf.new ≡ S.holds shelf.old }
+    ensures later { S.faults shelf.old ≤ S.faults shelf.new }
+    ensures tells { (name bytes : List ℕ) (parts : OffParts) → HoldsSurface (S.holds shelf.old) name
+        bytes (parts, mesh.now) → ConcludesOver (S.holds shelf.old) (S.faults shelf.old)
+        (S.faults shelf.new) (OnRequest (Some (tightens name lengths.now walk.now))) result }
+{
+    test_loops(mesh)?;
+    test_cover_loops(mesh)?;
+    test_cover_nodes(mesh)?;
+    let lengths = read_measures(alloc, shelf, mesh, lengths)?;
+    let walk = walk_named(alloc, shelf, mesh, WalkFile::First, walk)?;
+    shortest_of(alloc, mesh, &lengths, &walk)
 }
 
 // Whether a surface has few loops for its cover.
 fn test_cover_loops(mesh: &HalfMesh) -> Result<(), Refused>
-    ensures tells { Takes (λ _. tt) (AtMost CoverLoops MAX_COVER_LOOPS (loop_count mesh.now)) result }
+    ensures tells { Takes (λ _. tt) (AtMost CoverLoops MAX_COVER_LOOPS (loop_count mesh.now))
+        result }
     ensures few { IfOk result (λ _. loop_count mesh.now ≤ MAX_COVER_LOOPS) }
 {
     at_most(

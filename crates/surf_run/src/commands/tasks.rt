@@ -1,10 +1,11 @@
 //! The commands on a surface with lengths and a base: `dist`, `loops`, `cut`, and `certify` at a
 //! base.
-ghost use Rattle.std.specs.Prelude.{◌≡◌, ◌<◌, ◌≤◌, length, Some};
+ghost use Rattle.std.specs.Prelude.{◌≡◌, ◌<◌, ◌≤◌, ℕ, List, length, Some};
 ghost use Rattle.surf_surfaces.specs.Surface.{edge_count, face_count};
 ghost use Rattle.surf_words.specs.Words.{weighted};
 ghost use Rattle.surf_answers.specs.Tells.{Concludes, ConcludesOver, Takes};
 ghost use Rattle.surf_run.specs.Commands.{OnRequest, Performs, loops_for};
+ghost use Rattle.surf_run.specs.Reading.{HoldsSurface};
 ghost use Rattle.surf_run.specs.Steps.{AtMost};
 ghost use Rattle.surf_base.specs.declared.limits.LimitKind.TheVariants.{Loops};
 ghost use Rattle.surf_base.specs.declared.limits.TheConstants.{MAX_LOOPS};
@@ -37,10 +38,31 @@ pub(crate) fn weighted<S: Shelf>(
 {
     let bytes = read_file(alloc, shelf, mesh)?;
     let (text, mesh) = read_surface(alloc, &bytes)?;
-    test_task_loops(task, &mesh)?;
-    let lengths = read_measures(alloc, shelf, &mesh, lengths)?;
-    let base = base_of(&mesh, base)?;
-    perform(alloc, task, &text, &mesh, &lengths, base)
+    perform_on(alloc, shelf, task, &text, &mesh, lengths, base)
+}
+
+// What a task on a surface answers.
+fn perform_on<S: Shelf>(
+    alloc: Global,
+    shelf: &mut S,
+    task: Task,
+    text: &OffText<'_>,
+    mesh: &HalfMesh,
+    lengths: &str,
+    base: u32,
+) -> Result<Answered, Refused>
+    requires lines { length text.now.vertex_lines ≡ mesh.now.vertices }
+    requires colours { length text.now.colours ≡ face_count mesh.now }
+    ensures holds { S.holds shelf.new ≡ S.holds shelf.old }
+    ensures later { S.faults shelf.old ≤ S.faults shelf.new }
+    ensures tells { (name bytes : List ℕ) → HoldsSurface (S.holds shelf.old) name bytes
+        (text.now, mesh.now) → ConcludesOver (S.holds shelf.old) (S.faults shelf.old)
+        (S.faults shelf.new) (OnRequest (Some (weighted task name lengths.now base))) result }
+{
+    test_task_loops(task, mesh)?;
+    let lengths = read_measures(alloc, shelf, mesh, lengths)?;
+    let base = base_of(mesh, base)?;
+    perform(alloc, task, text, mesh, &lengths, base)
 }
 
 // The answer of a task.

@@ -5,8 +5,8 @@ use Rattle.surf_texts.specs.Refusals.{cause_of}
 use Rattle.surf_run.specs.Run.{WritesAnswer}
 use Rattle.surf_words.specs.Words.{request}
 use Rattle.surf_words.specs.Words.{texts}
-use Rattle.surf_run.proofs.OneLine.{refusals_are_said}
-use Rattle.surf_run.proofs.Running.{no_row, written, cut_off, write_fault_said, told_why, told_unread, refusals_are_due}
+use Rattle.surf_run.proofs.Refusals.{refusals_are_proper}
+use Rattle.surf_run.proofs.Running.{no_row, written, cut_off, write_fault_said, told_why, told_unread}
 use Rattle.surf_run.proofs.top.run_words.Goals as goal
 
 pub returns-in_default-clause-line : goal.returns-in_default-clause-line
@@ -40,10 +40,10 @@ returns-in-Ok-clause-line g c = λ _.
 pub returns-clause-line : goal.returns-clause-line
 returns-clause-line g c = λ _.
     told_why (texts c.args.words.now) (request c.in-Some.command) c.in-Some.ensures (g.S.Shelf.holds c.args.shelf.now) (cause_of c.in-Err.refused) c.refuse.result
-    (g.S.Shelf.faults c.args.shelf.now) (g.S.Shelf.faults c.answer.new.shelf) _ _ _ _ (refusals_are_due c.in-Err.refused) (refusals_are_said c.in-Err.refused)
+    (g.S.Shelf.faults c.args.shelf.now) (g.S.Shelf.faults c.answer.new.shelf) _ _ _ _ (refusals_are_proper c.in-Err.refused).0 (refusals_are_proper c.in-Err.refused).1
     c.in-Err.ensures.tells c.in-Err.ensures.alone c.refuse.ensures
 
 pub returns-clause-read : goal.returns-clause-read
 returns-clause-read g c =
     told_unread (texts c.args.words.now) (request c.in-Some.command) c.in-Some.ensures (g.S.Shelf.holds c.args.shelf.now) (cause_of c.in-Err.refused) c.refuse.result
-    (g.S.Shelf.faults c.args.shelf.now) (g.S.Shelf.faults c.answer.new.shelf) _ _ _ _ (refusals_are_due c.in-Err.refused) c.in-Err.ensures.tells c.refuse.ensures
+    (g.S.Shelf.faults c.args.shelf.now) (g.S.Shelf.faults c.answer.new.shelf) _ _ _ _ (refusals_are_proper c.in-Err.refused).0 c.in-Err.ensures.tells c.refuse.ensures

@@ -1,5 +1,7 @@
-use Rattle.std.proofs.Common.{refl, ◌∙◌}
-use Rattle.surf_run.proofs.Composing.{begun, over, over_as, past, ended, stopped, stopped_over}
+use Rattle.std.proofs.Common.{Some, refl}
+use Rattle.surf_words.specs.Words.{compares}
+use Rattle.surf_run.specs.Commands.{OnRequest}
+use Rattle.surf_run.proofs.Composing.{begun, over_as, stopped, resumed, held_surface}
 use Rattle.surf_run.proofs.commands.class.compare.Goals as goal
 
 pub returns-in_err-mesh-clause-tells : goal.returns-in_err-mesh-clause-tells
@@ -9,45 +11,12 @@ returns-in_err-mesh-clause-tells g c =
     c.in_err-mesh.field-0.0 c.in_err-mesh.ensures.tells c.from_residual-in_err-mesh.result
     c.from_residual-in_err-mesh.ensures.1
 
-pub returns-in_err-test_loops-clause-tells : goal.returns-in_err-test_loops-clause-tells
-returns-in_err-test_loops-clause-tells g c =
-    let bytes = c.in_ok-bytes in
-    let read = c.in_ok-mesh in
-    stopped (past (over_as begun bytes.bytes.items refl bytes.ensures.tells bytes.ensures.later _
-    c.deref.ensures.value) (read.field-0-0, read.mesh) read.ensures.tells) c.in_err-test_loops.field-0.0
-    c.in_err-test_loops.ensures.tells c.from_residual-in_err-test_loops.result
-    c.from_residual-in_err-test_loops.ensures.1
-
-pub returns-in_err-walk-clause-tells : goal.returns-in_err-walk-clause-tells
-returns-in_err-walk-clause-tells g c =
-    let bytes = c.in_ok-bytes in
-    let read = c.in_ok-mesh in
-    let few = c.in_ok-test_loops in
-    stopped_over (past (past (over_as begun bytes.bytes.items refl bytes.ensures.tells bytes.ensures.later _
-    c.deref.ensures.value) (read.field-0-0, read.mesh) read.ensures.tells) tt few.ensures.tells) _
-    c.in_err-walk.field-0.0 bytes.ensures.holds c.in_err-walk.ensures.tells c.from_residual-in_err-walk.result
-    c.from_residual-in_err-walk.ensures.1
-
-pub returns-in_err-other-clause-tells : goal.returns-in_err-other-clause-tells
-returns-in_err-other-clause-tells g c =
-    let bytes = c.in_ok-bytes in
-    let read = c.in_ok-mesh in
-    let few = c.in_ok-test_loops in
-    let walk = c.in_ok-walk in
-    stopped_over (over (past (past (over_as begun bytes.bytes.items refl bytes.ensures.tells bytes.ensures.later _
-    c.deref.ensures.value) (read.field-0-0, read.mesh) read.ensures.tells) tt few.ensures.tells) walk.walk
-    bytes.ensures.holds walk.ensures.tells walk.ensures.later) _ c.in_err-other.field-0.0 (walk.ensures.holds ∙
-    bytes.ensures.holds) c.in_err-other.ensures.tells c.from_residual-in_err-other.result
-    c.from_residual-in_err-other.ensures.1
-
 pub returns-clause-tells : goal.returns-clause-tells
 returns-clause-tells g c =
     let bytes = c.in_ok-bytes in
     let read = c.in_ok-mesh in
-    let few = c.in_ok-test_loops in
-    let walk = c.in_ok-walk in
-    let other = c.in_ok-other in
-    ended (over (over (past (past (over_as begun bytes.bytes.items refl bytes.ensures.tells bytes.ensures.later _
-    c.deref.ensures.value) (read.field-0-0, read.mesh) read.ensures.tells) tt few.ensures.tells) walk.walk
-    bytes.ensures.holds walk.ensures.tells walk.ensures.later) other.other (walk.ensures.holds ∙ bytes.ensures.holds)
-    other.ensures.tells other.ensures.later) c.class_of.result c.class_of.ensures
+    resumed (g.S.Shelf.faults c.compare_on.new.shelf) (OnRequest (Some (compares c.args.mesh.now c.args.first.now
+    c.args.second.now))) bytes.ensures.holds bytes.ensures.later c.compare_on.result (c.compare_on.ensures.tells
+    c.args.mesh.now c.deref.result.now read.field-0-0 (held_surface (g.S.Shelf.holds c.args.shelf.now)
+    c.args.mesh.now bytes.bytes.items c.deref.result.now (read.field-0-0, read.mesh) c.deref.ensures.value
+    bytes.ensures.holds bytes.ensures.tells read.ensures.tells))

@@ -1,5 +1,7 @@
-use Rattle.std.proofs.Common.{refl}
-use Rattle.surf_run.proofs.Composing.{begun, over, over_as, past, ended, stopped, stopped_over}
+use Rattle.std.proofs.Common.{Some, refl}
+use Rattle.surf_words.specs.Words.{weighted}
+use Rattle.surf_run.specs.Commands.{OnRequest}
+use Rattle.surf_run.proofs.Composing.{begun, over_as, stopped, resumed, held_surface}
 use Rattle.surf_run.proofs.commands.tasks.weighted.Goals as goal
 
 pub returns-in_err-text-clause-tells : goal.returns-in_err-text-clause-tells
@@ -9,44 +11,12 @@ returns-in_err-text-clause-tells g c =
     c.in_err-text.field-0.0 c.in_err-text.ensures.tells c.from_residual-in_err-text.result
     c.from_residual-in_err-text.ensures.1
 
-pub returns-in_err-test_task_loops-clause-tells : goal.returns-in_err-test_task_loops-clause-tells
-returns-in_err-test_task_loops-clause-tells g c =
-    let bytes = c.in_ok-bytes in
-    let read = c.in_ok-text in
-    stopped (past (over_as begun bytes.bytes.items refl bytes.ensures.tells bytes.ensures.later _
-    c.deref.ensures.value) (read.text, read.mesh) read.ensures.tells) c.in_err-test_task_loops.field-0.0
-    c.in_err-test_task_loops.ensures c.from_residual-in_err-test_task_loops.result
-    c.from_residual-in_err-test_task_loops.ensures.1
-
-pub returns-in_err-lengths-clause-tells : goal.returns-in_err-lengths-clause-tells
-returns-in_err-lengths-clause-tells g c =
-    let bytes = c.in_ok-bytes in
-    let read = c.in_ok-text in
-    let few = c.in_ok-test_task_loops in
-    stopped_over (past (past (over_as begun bytes.bytes.items refl bytes.ensures.tells bytes.ensures.later _
-    c.deref.ensures.value) (read.text, read.mesh) read.ensures.tells) tt few.ensures) _ c.in_err-lengths.field-0.0
-    bytes.ensures.holds c.in_err-lengths.ensures.tells c.from_residual-in_err-lengths.result
-    c.from_residual-in_err-lengths.ensures.1
-
-pub returns-in_err-base-clause-tells : goal.returns-in_err-base-clause-tells
-returns-in_err-base-clause-tells g c =
-    let bytes = c.in_ok-bytes in
-    let read = c.in_ok-text in
-    let few = c.in_ok-test_task_loops in
-    let lengths = c.in_ok-lengths in
-    stopped (over (past (past (over_as begun bytes.bytes.items refl bytes.ensures.tells bytes.ensures.later _
-    c.deref.ensures.value) (read.text, read.mesh) read.ensures.tells) tt few.ensures) lengths.lengths
-    bytes.ensures.holds lengths.ensures.tells lengths.ensures.later) c.in_err-base.field-0.0
-    c.in_err-base.ensures.tells c.from_residual-in_err-base.result c.from_residual-in_err-base.ensures.1
-
 pub returns-clause-tells : goal.returns-clause-tells
 returns-clause-tells g c =
     let bytes = c.in_ok-bytes in
     let read = c.in_ok-text in
-    let few = c.in_ok-test_task_loops in
-    let lengths = c.in_ok-lengths in
-    let base = c.in_ok-base in
-    ended (past (over (past (past (over_as begun bytes.bytes.items refl bytes.ensures.tells bytes.ensures.later _
-    c.deref.ensures.value) (read.text, read.mesh) read.ensures.tells) tt few.ensures) lengths.lengths
-    bytes.ensures.holds lengths.ensures.tells lengths.ensures.later) base.base base.ensures.tells) c.perform.result
-    c.perform.ensures
+    resumed (g.S.Shelf.faults c.perform_on.new.shelf) (OnRequest (Some (weighted c.args.task c.args.mesh.now
+    c.args.lengths.now c.args.base))) bytes.ensures.holds bytes.ensures.later c.perform_on.result
+    (c.perform_on.ensures.tells c.args.mesh.now c.deref.result.now (held_surface (g.S.Shelf.holds c.args.shelf.now)
+    c.args.mesh.now bytes.bytes.items c.deref.result.now (read.text, read.mesh) c.deref.ensures.value
+    bytes.ensures.holds bytes.ensures.tells read.ensures.tells))
