@@ -6,8 +6,8 @@ use Rattle.surf_geom.specs.Texts.{lengths_text}
 use Rattle.surf_lengths.specs.Files.{lengths_in}
 use Rattle.surf_off.specs.Off.{OffParts}
 use Rattle.surf_texts.specs.Cause.{refused_by}
-use Rattle.surf_texts.specs.LengthLines.{geom_cause}
 use Rattle.surf_texts.specs.Outcome.{Outcome}
+use Rattle.surf_texts.specs.Refusals.{geom_cause}
 use Rattle.surf_answers.specs.Says.{Says}
 
 -- The coordinates of a surface measure its edges, in units of so many decimals.

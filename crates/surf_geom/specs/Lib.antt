@@ -7,3 +7,4 @@ pub mod Points
 pub mod Measures
 pub mod Texts
 pub mod Laws
+pub mod Lines

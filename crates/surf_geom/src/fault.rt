@@ -1,9 +1,11 @@
 //! Why coordinates give no lengths.
-ghost use Rattle.std.specs.Prelude.{◌≡◌};
+ghost use Rattle.std.specs.Prelude.{◌≡◌, option_map, string_bytes, IfOk};
+ghost use Rattle.surf_geom.specs.Lines.{fault_line};
 ghost use Rattle.surf_geom.specs.declared.fault.GeomFault.TheVariants.{Memory};
 
-use std::alloc::{AllocError, AllocFailed};
+use std::alloc::{AllocError, AllocFailed, Global};
 use surf_base::{NoMemory, VertexId};
+use surf_text::numbered;
 
 /// Why a token has no fixed value.
 #[derive(Clone, Copy, Debug, PartialEq, Eq)]
@@ -28,6 +30,22 @@ pub enum GeomFault {
     Great { u: VertexId, v: VertexId },
     /// There was no memory.
     Memory,
+}
+
+impl GeomFault {
+    /// The line that says it. None where there was no memory for lengths.
+    pub fn line(&self, alloc: Global) -> Result<Option<String>, AllocError>
+        ensures line { IfOk result (λ line. option_map string_bytes line ≡ fault_line self.now) }
+    {
+        let (words, numbers) = match self {
+            GeomFault::Form { vertex, place } => ("coordinates: form", [vertex.number(), *place]),
+            GeomFault::Range { vertex, place } => ("coordinates: range", [vertex.number(), *place]),
+            GeomFault::Zero { u, v } => ("coordinates: zero", [u.number(), v.number()]),
+            GeomFault::Great { u, v } => ("coordinates: great", [u.number(), v.number()]),
+            GeomFault::Memory => return Ok(None),
+        };
+        Ok(Some(numbered(alloc, words, &numbers)?))
+    }
 }
 
 impl From<AllocError> for GeomFault {

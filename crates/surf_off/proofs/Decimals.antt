@@ -68,12 +68,13 @@ pub record IsWord (w : List ℕ) : Type 0 where
   pub one_line : list_any is_line_end w ≡ false
   pub uncommented : list_any is_comment_sign w ≡ false
 
+pub word_digits : (ds : List ℕ) → is_nonempty ds ≡ true → list_all is_ascii_digit ds ≡ true → IsWord ds
+word_digits ds some digits = record {
+  some = some;
+  dark = none_digit is_blank (λ b le. blank_low b (omega arith)) ds digits;
+  one_line = none_digit is_line_end (λ b le. ne_eqb b 10 (λ e. absurd (omega arith))) ds digits;
+  uncommented = none_digit is_comment_sign (λ b le. comment_low b (omega arith)) ds digits;
+}
+
 pub word_decimal : (n : ℕ) → n < 2 ^ 64 → IsWord (decimal n)
-word_decimal n lt =
-    let d = decimal_is n lt in
-    record {
-      some = d.some;
-      dark = none_digit is_blank (λ b le. blank_low b (omega arith)) (decimal n) d.digits;
-      one_line = none_digit is_line_end (λ b le. ne_eqb b 10 (λ e. absurd (omega arith))) (decimal n) d.digits;
-      uncommented = none_digit is_comment_sign (λ b le. comment_low b (omega arith)) (decimal n) d.digits;
-    }
+word_decimal n lt = let d = decimal_is n lt in word_digits (decimal n) d.some d.digits

@@ -17,13 +17,16 @@ abbrev pub opens : List ℕ → Bool
 opens [] = true
 opens (b ∷ bs) = is_blank b
 
--- what has no comment sign is no comment
-pub uncommented_is : (bs : List ℕ) → list_any is_comment_sign bs ≡ false → uncommented bs ≡ bs
-uncommented_is [] none = refl
-uncommented_is (b ∷ bs) none =
-    let n = position_or_len is_comment_sign bs in
+-- What has no comment sign stands before a comment.
+pub uncommented_more : (xs ys : List ℕ) → list_any is_comment_sign xs ≡ false → uncommented (xs ++ ys) ≡ xs ++ uncommented ys
+uncommented_more [] ys none = refl
+uncommented_more (x ∷ xs) ys none =
+    let n = position_or_len is_comment_sign (xs ++ ys) in
     let k : 1 + n ≡ suc n = omega arith in
-    rw (none_head is_comment_sign b bs none, k) (ap (λ (t : List ℕ). b ∷ t) (uncommented_is bs (none_tail is_comment_sign b bs none)))
+    rw (none_head is_comment_sign x xs none, k) (ap (λ (t : List ℕ). x ∷ t) (uncommented_more xs ys (none_tail is_comment_sign x xs none)))
+
+pub uncommented_is : (bs : List ℕ) → list_any is_comment_sign bs ≡ false → uncommented bs ≡ bs
+uncommented_is bs none = ap uncommented (sym (append-nil bs)) ∙ uncommented_more bs [] none ∙ append-nil bs
 
 word_len : (w tail : List ℕ) → list_any is_blank w ≡ false → opens tail ≡ true → position_or_len is_blank (w ++ tail) ≡ length w
 word_len [] [] dark ahead = refl
@@ -43,34 +46,26 @@ words_word (x ∷ xs) tail some dark ahead =
     ∙ ap (λ (w : List ℕ). w ∷ words_of (drop (length (x ∷ xs)) ((x ∷ xs) ++ tail))) (take-append_seam (x ∷ xs) tail)
     ∙ ap (λ (t : List ℕ). (x ∷ xs) ∷ words_of t) (drop-append_seam (x ∷ xs) tail)
 
-behind_first : (w tail : List ℕ) → list_any is_blank w ≡ false → opens tail ≡ true → behind_word (w ++ tail) ≡ trimmed_front tail
+pub behind_first : (w tail : List ℕ) → list_any is_blank w ≡ false → opens tail ≡ true → behind_word (w ++ tail) ≡ trimmed_front tail
 behind_first w tail dark ahead =
     ap (λ (k : ℕ). trimmed_front (drop k (w ++ tail))) (word_len w tail dark ahead) ∙ ap trimmed_front (drop-append_seam w tail)
 
-front_word : (w tail : List ℕ) → is_nonempty w ≡ true → list_any is_blank w ≡ false → trimmed_front (w ++ tail) ≡ w ++ tail
+pub front_word : (w tail : List ℕ) → is_nonempty w ≡ true → list_any is_blank w ≡ false → trimmed_front (w ++ tail) ≡ w ++ tail
 front_word [] tail some dark = absurd cc
 front_word (x ∷ xs) tail some dark = rw (none_head is_blank x xs dark) refl
 
-back_word : (w : List ℕ) → list_any is_blank w ≡ false → trimmed_back w ≡ w
-back_word [] dark = refl
-back_word (x ∷ xs) dark = ap (before_some x) (back_word xs (none_tail is_blank x xs dark)) ∙ at xs
+-- a word and what stands behind it
+pub back_word : (w tail : List ℕ) → list_any is_blank w ≡ false → trimmed_back (w ++ tail) ≡ w ++ trimmed_back tail
+back_word [] tail dark = refl
+back_word (x ∷ xs) tail dark = ap (before_some x) (back_word xs tail (none_tail is_blank x xs dark)) ∙ at (xs ++ trimmed_back tail)
   where
-    at : (xs : List ℕ) → before_some x xs ≡ x ∷ xs
+    at : (bs : List ℕ) → before_some x bs ≡ x ∷ bs
     at [] = rw (none_head is_blank x xs dark) refl
     at (y ∷ ys) = refl
 
-back_append : (xs : List ℕ) (y : ℕ) (ys : List ℕ) → trimmed_back (y ∷ ys) ≡ y ∷ ys → trimmed_back (xs ++ y ∷ ys) ≡ xs ++ y ∷ ys
-back_append [] y ys same = same
-back_append (x ∷ xs) y ys same = ap (before_some x) (back_append xs y ys same) ∙ at xs
-  where
-    at : (xs : List ℕ) → before_some x (xs ++ y ∷ ys) ≡ x ∷ (xs ++ y ∷ ys)
-    at [] = refl
-    at (z ∷ zs) = refl
-
--- a word and what stands behind it, with no blank at the end
+-- the same with no blank at the end
 back_word_then : (w tail : List ℕ) → list_any is_blank w ≡ false → trimmed_back tail ≡ tail → trimmed_back (w ++ tail) ≡ w ++ tail
-back_word_then w [] dark same = ap trimmed_back (append-nil w) ∙ back_word w dark ∙ sym (append-nil w)
-back_word_then w (y ∷ ys) dark same = back_append w y ys same
+back_word_then w tail dark same = back_word w tail dark ∙ ap (λ (t : List ℕ). w ++ t) same
 
 -- the same behind a space
 back_space : (w tail : List ℕ) → is_nonempty w ≡ true → list_any is_blank w ≡ false → trimmed_back tail ≡ tail → trimmed_back (32 ∷ (w ++ tail)) ≡ 32 ∷ (w ++ tail)

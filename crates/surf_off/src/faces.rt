@@ -159,11 +159,11 @@ fn read_face<'a>(
     ensures few { OnOk result (sides + length corners.new.items ≤ MAX_SIDES) }
     ensures marks { (k : ℕ) → k < length marks.new → slice_index marks.new k ≤ stamp }
 {
-    if !read_plain(line.bytes, vertices, MAX_SIDES - sides, corners)? {
+    let Some(colour) = read_plain(line.bytes, vertices, MAX_SIDES - sides, corners)? else {
         return read_by_tokens(line, vertices, sides, marks, stamp, corners);
-    }
+    };
     refuse_repeats(line.number, marks, stamp, corners)?;
-    Ok(&line.bytes[line.bytes.len()..])
+    Ok(colour)
 }
 
 /// So many face lines over so many vertices. Their colours are put to those that are kept.

@@ -1,5 +1,5 @@
 //! Reads an OFF text.
-ghost use Rattle.std.specs.Prelude.{◌≡◌, ◌<◌, ◌≤◌, length, IfOk};
+ghost use Rattle.std.specs.Prelude.{◌≡◌, ◌<◌, ◌≤◌, ◌+◌, ◌/◌, min, length, IfOk};
 ghost use Rattle.surf_surfaces.specs.SideNumber.{side_count};
 ghost use Rattle.surf_off.specs.Off.{off_of};
 ghost use Rattle.surf_off.specs.Gives.{Gives};
@@ -13,6 +13,14 @@ use crate::vertices::read_vertices;
 use std::alloc::Global;
 use surf_soup::Soup;
 use surf_text::Lines;
+
+// Room for so many lines, but for no more than the text can have: each has three tokens at least,
+// so it takes six bytes with its end. A count of the head alone asks for no memory.
+fn room_for(text: &[u8], count: u32) -> usize
+    ensures room { result ≡ min count (length text.now / 6 + 1) }
+{
+    (count as usize).min(text.len() / 6 + 1)
+}
 
 /// Reads an OFF text: its keyword, vertex lines and colours as slices of the text, and its mesh.
 /// Refuses with the first fault of the text, or with `Memory` where there is none. The text is
@@ -33,8 +41,9 @@ pub fn read_off<'a>(alloc: Global, text: &'a [u8]) -> Result<(OffText<'a>, Soup)
     let mut lines = Lines::over(text);
     let mut head = read_head(&mut lines)?;
     let (vertices, faces) = read_counts(head.number, &mut head.counts)?;
-    let vertex_lines = read_vertices(alloc, &mut lines, vertices, faces)?;
-    let mut colours = Vec::new(alloc);
+    let room = room_for(text, vertices);
+    let vertex_lines = read_vertices(alloc, &mut lines, vertices, faces, room)?;
+    let mut colours = Vec::with_capacity(alloc, room_for(text, faces))?;
     let soup = read_faces(alloc, &mut lines, vertices, faces, &mut colours)?;
     match lines.next_line() {
         Some(line) => Err(OffFault::Trailing { line: line.number }),

@@ -7,8 +7,7 @@ use Rattle.std.proofs.lemmas.Bool.{cases_Bool, ne_eqb}
 use Rattle.surf_base.specs.declared.limits.LimitKind.{LimitKind}
 use Rattle.surf_base.specs.declared.limits.LimitKind.TheVariants as limits
 use Rattle.surf_off.proofs.NumberLines.{none_append}
-use Rattle.surf_text.specs.Numbers.{numbers_text}
-use Rattle.surf_texts.specs.Lines.{numbered}
+use Rattle.surf_text.specs.Numbers.{numbers_text, numbered}
 use Rattle.surf_text.specs.Text.{is_line_end}
 use Rattle.surf_texts.specs.Cause.{Cause, due, unread, starved, misused, line_of}
 use Rattle.surf_texts.specs.Limits.{limit_name}

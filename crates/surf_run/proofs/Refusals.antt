@@ -24,12 +24,12 @@ use Rattle.surf_texts.specs.CertLines.{cert_cause}
 use Rattle.surf_texts.specs.EvidenceLines.{evidence_cause}
 use Rattle.surf_texts.specs.MeshLines.{off_cause}
 use Rattle.surf_texts.specs.Outcome.{refuses}
-use Rattle.surf_texts.specs.Refusals.{cause_of}
+use Rattle.surf_texts.specs.Refusals.{cause_of, geom_cause}
 use Rattle.surf_run.specs.Run.{IsOneLine}
 use Rattle.surf_texts.specs.SewingLines.{copy_cause, sew_cause}
 use Rattle.surf_texts.specs.SurfaceLines.{surface_cause}
 use Rattle.surf_texts.specs.WalkLines.{walk_cause}
-use Rattle.surf_texts.specs.LengthLines.{length_cause, geom_cause}
+use Rattle.surf_texts.specs.LengthLines.{length_cause}
 use Rattle.surf_texts.specs.declared.refusal.Refused.{Refused}
 use Rattle.surf_texts.specs.declared.refusal.Refused.TheVariants.{MeshText, Surface, Lengths, Base, Certificate, Coordinates, Copies, Sewing, Walk, Evidence, Limit, Read, Memory}
 use Rattle.surf_texts.specs.declared.walks.WalkFile.{WalkFile}

@@ -2,7 +2,7 @@
 use Rattle.std.proofs.Common.{◌≡◌, inl, inr, ℕ, ◌++◌, List, [], Option, Some, None, refl, sym, ◌∙◌, ap, arith, length}
 use Rattle.std.specs.Prelude.{nat_lt, if◌then◌else◌, codes}
 use Rattle.surf_base.specs.Outside.{Files}
-use Rattle.surf_texts.specs.LengthLines.{geom_cause}
+use Rattle.surf_texts.specs.Refusals.{geom_cause}
 use Rattle.surf_texts.specs.Outcome.{Outcome, answers, refuses, misses}
 use Rattle.surf_run.specs.Reading.{IsEvidenceText}
 use Rattle.surf_surfaces.specs.Mesh.{Mesh, characteristic}

@@ -64,6 +64,14 @@ pub number_all : (token : List ℕ) (i n : ℕ) → length token ≤ i → n < 2
 unfolding number_on
 number_all token i n le lt = at_drop_all (number_on n) token i le ∙ ap (λ (t : Bool). cond t (Some n) None) (lt-ltb _ _ lt)
 
+-- a digit too many
+pub no_whole : (token : List ℕ) (i n : ℕ) → false ≡ (length token == 0) → i < length token → number_on n (drop i token) ≡ number_on 0 token → is_ascii_digit (get_or token i 0) ≡ true → 2 ^ 64 ≤ n * 10 + (get_or token i 0 - 48) → None ≡ whole token
+no_whole token i n some lt so_far digit le =
+    sym (too_great (step n (get_or token i 0)) (drop (i + 1) token) le)
+    ∙ sym (digit_more token i n (get_or token i 0) lt refl digit)
+    ∙ so_far
+    ∙ whole-is token some
+
 pub digit_low : (b : ℕ) → is_ascii_digit b ≡ true → 48 ≤ b
 digit_low b digit = leb-true 48 b (and_parts (nat_le 48 b) (nat_le b 57) digit).0
 

@@ -1,13 +1,11 @@
 -- Plain lines: numbers of 32 bits, a space between any two, and nothing else.
-use Rattle.std.proofs.Common.{◌≡◌, ◌<◌, ◌≤◌, ◌+◌, ◌^◌, ℕ, zero, suc, true, List, [], ◌∷◌, length, drop, Option, Some, None, refl, ◌∙◌, ap, arith, inl, inr}
+use Rattle.std.proofs.Common.{◌≡◌, ◌<◌, ◌+◌, ◌^◌, ℕ, suc, true, List, [], ◌∷◌, Option, Some, None, refl, ◌∙◌, ap, arith, inl, inr}
 use Rattle.std.specs.Prelude.{◌&&◌, nat_lt}
 use Rattle.std.specs.Char.{is_ascii_digit}
 use Rattle.std.specs.List.{list_all, slice_split, onto_first, position_or_len, filter}
-use Rattle.std.proofs.Math.Dec.{eqb-suc-zero}
 use Rattle.std.proofs.lemmas.Bool.{cases_Bool, and_parts, eqb-true, ltb-true}
-use Rattle.surf_text.specs.Text.{is_blank, is_space, is_comment_sign, is_nonempty, uncommented, words_of, tokens_of, value_of, whole, below, short_whole, trimmed_front, trimmed, behind_word, behind_words, rest_after}
+use Rattle.surf_text.specs.Text.{is_blank, is_space, is_comment_sign, is_nonempty, uncommented, tokens_of, value_of, whole, below, short_whole}
 use Rattle.surf_text.proofs.Digits.{blank_low, comment_low, digit_low}
-use Rattle.surf_text.proofs.Words.{front_twice, next_words, trimmed_begins, words_trimmed}
 
 pub below_some : (o : Option ℕ) (bound n : ℕ) → below bound o ≡ Some n → (o ≡ Some n) × (n < bound)
 below_some None bound n is = absurd cc
@@ -18,7 +16,7 @@ below_some (Some m) bound n is = elim (cases_Bool (nat_lt m bound)) [
   | inr ge ↦ let h = rw ge at is in absurd cc
 ]
 
-whole_some : (token : List ℕ) (n : ℕ) → whole token ≡ Some n → (is_nonempty token ≡ true) × (list_all is_ascii_digit token ≡ true)
+pub whole_some : (token : List ℕ) (n : ℕ) → whole token ≡ Some n → (is_nonempty token ≡ true) × (list_all is_ascii_digit token ≡ true)
 whole_some token n is = elim (cases_Bool (is_nonempty token && list_all is_ascii_digit token && nat_lt (value_of token) (2 ^ 64))) [
   | inl good ↦
       let front = (and_parts (is_nonempty token && list_all is_ascii_digit token) _ good).0 in
@@ -83,17 +81,3 @@ same_parts (b ∷ bs) are =
 -- The tokens of a plain line are its numbers.
 pub plain_tokens : (bytes : List ℕ) → AreShort (slice_split is_space bytes) → tokens_of bytes ≡ slice_split is_space bytes
 plain_tokens bytes are = ap (filter is_nonempty) (same_parts bytes (digits_from (slice_split is_space bytes) are)) ∙ all_some (slice_split is_space bytes) are
-
--- behind as many words as there are
-none_behind : (n : ℕ) (bytes : List ℕ) → trimmed_front bytes ≡ bytes → length (words_of bytes) ≤ n → behind_words n bytes ≡ []
-none_behind zero [] begins le = refl
-none_behind zero (b ∷ bs) begins le = absurd (omega (arith, ap length (next_words (b ∷ bs) begins (eqb-suc-zero (length bs)))))
-none_behind (suc n) [] begins le = none_behind n [] refl (omega arith)
-none_behind (suc n) (b ∷ bs) begins le =
-    let first = ap length (next_words (b ∷ bs) begins (eqb-suc-zero (length bs))) in
-    none_behind n (behind_word (b ∷ bs)) (front_twice (drop (position_or_len is_blank (b ∷ bs)) (b ∷ bs))) (omega (arith, le, first))
-
--- Behind as many tokens as a line has there is nothing.
-pub rest_none : (n : ℕ) (line : List ℕ) → length (tokens_of line) ≤ n → rest_after n line ≡ []
-rest_none n line le =
-    none_behind n (trimmed (uncommented line)) (trimmed_begins (uncommented line)) (omega (arith, le, ap length (words_trimmed (uncommented line))))

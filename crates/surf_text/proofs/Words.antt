@@ -37,12 +37,20 @@ back_keeps : (b : ℕ) (bs : List ℕ) → is_blank b ≡ false → trimmed_fron
 back_keeps b [] dark = rw (dark, dark) refl
 back_keeps b (c ∷ cs) dark = rw dark refl
 
-front_of_back : (bs : List ℕ) → trimmed_front bs ≡ bs → trimmed_front (trimmed_back bs) ≡ trimmed_back bs
-front_of_back [] is = refl
-front_of_back (b ∷ bs) is = back_keeps b (trimmed_back bs) (begins_dark b bs is)
+-- Blanks at both ends are cut off in either order.
+pub front_back : (bs : List ℕ) → trimmed_front (trimmed_back bs) ≡ trimmed bs
+front_back [] = refl
+front_back (b ∷ bs) = elim (cases_Bool (is_blank b)) [
+  | inl blank ↦ rw blank (at (trimmed_back bs) blank ∙ front_back bs)
+  | inr dark ↦ rw dark (back_keeps b (trimmed_back bs) dark)
+]
+  where
+    at : (back : List ℕ) → is_blank b ≡ true → trimmed_front (before_some b back) ≡ trimmed_front back
+    at [] blank = rw blank refl
+    at (c ∷ cs) blank = rw blank refl
 
 pub trimmed_begins : (bs : List ℕ) → trimmed_front (trimmed bs) ≡ trimmed bs
-trimmed_begins bs = front_of_back (trimmed_front bs) (front_twice bs)
+trimmed_begins bs = front_back (trimmed_front bs) ∙ ap trimmed_back (front_twice bs)
 
 -- one blank more at the end
 pub back_blank : (xs : List ℕ) (b : ℕ) → is_blank b ≡ true → trimmed_back (xs ++ b ∷ []) ≡ trimmed_back xs

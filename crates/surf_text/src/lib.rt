@@ -4,7 +4,8 @@
 //! line's end is a comment. Blanks are space, tab and carriage return, and no others. A token is a
 //! longest run of bytes that are neither blank nor part of a comment. [`Lines`] walks over the
 //! lines that have a token and [`Tokens`] over the tokens of a line; both lend slices of the text
-//! and copy nothing. A [`Page`] holds a text that grows up to a bound.
+//! and copy nothing. A [`Page`] holds a text that grows up to a bound. A line of words and numbers,
+//! as one that says a fault, is [`numbered`].
 #![tactic(auto)]
 
 mod lines;
@@ -12,10 +13,12 @@ mod number;
 mod page;
 mod pieces;
 mod places;
+mod telling;
 mod tokens;
 
 pub use lines::{Line, Lines};
 pub use number::{read_whole, split_number};
 pub use page::{Page, PageFault};
 pub use pieces::Piece;
+pub use telling::numbered;
 pub use tokens::{Tokens, has_tokens};

@@ -17,11 +17,8 @@ pub fn read_whole(token: &[u8]) -> Option<u64>
         if !b.is_ascii_digit() {
             return None;
         }
-        let next = number as u128 * 10 + (*b - b'0') as u128;
-        if next > u64::MAX as u128 {
-            return None;
-        }
-        number = next as u64;
+        let tens = number.checked_mul(10)?;
+        number = tens.checked_add((*b - b'0') as u64)?;
     }
     Some(number)
 }

@@ -2,7 +2,7 @@
 use Rattle.std.specs.Prelude.{[], ◌∷◌, codes}
 use Rattle.surf_cert.specs.declared.fault.CertText.{CertText}
 use Rattle.surf_cert.specs.declared.fault.CertText.TheVariants.{Header, Form, Early, Trailing, Memory}
-use Rattle.surf_texts.specs.Lines.{numbered}
+use Rattle.surf_text.specs.Numbers.{numbered}
 use Rattle.surf_texts.specs.Cause.{Cause, due, starved}
 use Rattle.surf_texts.specs.Outcome.{refuses}
 

@@ -5,7 +5,7 @@ use Rattle.surf_disc.specs.declared.faults.BorderKind.TheVariants.{Nothing, Two}
 use Rattle.surf_disc.specs.declared.faults.DiscFault.{DiscFault}
 use Rattle.surf_disc.specs.declared.faults.DiscFault.TheVariants.{Crowded, Isolated, Pinched, Apart, Border, Count}
 use Rattle.surf_disc.specs.declared.faults.DiscFault.TheVariants.{Memory}
-use Rattle.surf_texts.specs.Lines.{numbered}
+use Rattle.surf_text.specs.Numbers.{numbered}
 
 -- the number of border sides
 abbrev pub disc_text : ℕ → List ℕ

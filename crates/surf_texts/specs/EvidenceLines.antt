@@ -5,7 +5,7 @@ use Rattle.surf_class.specs.declared.fault.ClassFault.TheVariants.{Face, Boundar
 use Rattle.surf_class.specs.declared.fault.EvidenceFault.{EvidenceFault}
 use Rattle.surf_class.specs.declared.fault.EvidenceFault.TheVariants as text
 use Rattle.surf_classes.specs.Evidence.{Evidence, null_faces, odd_pairs}
-use Rattle.surf_texts.specs.Lines.{numbered}
+use Rattle.surf_text.specs.Numbers.{numbered}
 use Rattle.surf_texts.specs.Cause.{Cause, due, starved}
 use Rattle.surf_texts.specs.Outcome.{refuses}
 

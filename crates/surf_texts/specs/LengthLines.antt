@@ -1,10 +1,8 @@
--- The lines of the first fault in a length file, of the first fault of coordinates, and of a base.
+-- The lines of the first fault in a length file, and of a base.
 use Rattle.std.specs.Prelude.{ℕ, List, [], ◌∷◌, ◌++◌, codes, decimal}
-use Rattle.surf_geom.specs.declared.fault.GeomFault.{GeomFault}
-use Rattle.surf_geom.specs.declared.fault.GeomFault.TheVariants as geom
 use Rattle.surf_lengths.specs.declared.fault.LengthFault.{LengthFault}
 use Rattle.surf_lengths.specs.declared.fault.LengthFault.TheVariants.{Form, Range, NotEdge, Twice, Missing, Memory}
-use Rattle.surf_texts.specs.Lines.{numbered}
+use Rattle.surf_text.specs.Numbers.{numbered}
 use Rattle.surf_texts.specs.Cause.{Cause, due, starved}
 use Rattle.surf_texts.specs.Outcome.{refuses}
 
@@ -16,14 +14,6 @@ length_cause (NotEdge line) = due (refuses 5 (numbered (codes "lengths: not-edge
 length_cause (Twice line earlier) = due (refuses 5 (numbered (codes "lengths: twice") (line ∷ earlier ∷ [])))
 length_cause (Missing u v) = due (refuses 5 (numbered (codes "lengths: missing") (u ∷ v ∷ [])))
 length_cause Memory = starved
-
--- the cause that a fault of coordinates is
-abbrev pub geom_cause : GeomFault → Cause
-geom_cause (geom.Form vertex place) = due (refuses 12 (numbered (codes "coordinates: form") (vertex ∷ place ∷ [])))
-geom_cause (geom.Range vertex place) = due (refuses 12 (numbered (codes "coordinates: range") (vertex ∷ place ∷ [])))
-geom_cause (geom.Zero u v) = due (refuses 12 (numbered (codes "coordinates: zero") (u ∷ v ∷ [])))
-geom_cause (geom.Great u v) = due (refuses 12 (numbered (codes "coordinates: great") (u ∷ v ∷ [])))
-geom_cause geom.Memory = starved
 
 -- a base and the number of vertices that it isn't below
 abbrev pub base_line : ℕ → ℕ → List ℕ

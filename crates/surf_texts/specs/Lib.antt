@@ -7,7 +7,6 @@ pub mod EvidenceLines
 pub mod Fills
 pub mod LengthLines
 pub mod Limits
-pub mod Lines
 pub mod LoopTexts
 pub mod MeshLines
 pub mod Outcome

@@ -3,7 +3,7 @@ use Rattle.std.specs.Prelude.{[], ◌∷◌, codes}
 use Rattle.surf_off.specs.declared.fault.OffFault.{OffFault}
 use Rattle.surf_off.specs.declared.fault.OffFault.TheVariants.{Header, Counts, VertexLine, FaceSize, FaceIndex}
 use Rattle.surf_off.specs.declared.fault.OffFault.TheVariants.{FaceRepeat, Early, Trailing, Limit, Memory}
-use Rattle.surf_texts.specs.Lines.{numbered}
+use Rattle.surf_text.specs.Numbers.{numbered}
 use Rattle.surf_texts.specs.Cause.{Cause, due, starved}
 use Rattle.surf_texts.specs.Outcome.{refuses}
 use Rattle.surf_texts.specs.Limits.{beyond}

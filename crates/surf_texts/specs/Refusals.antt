@@ -3,7 +3,9 @@ use Rattle.surf_base.specs.declared.limits.LimitKind.TheVariants.{Answer}
 use Rattle.surf_text.specs.declared.page.PageFault.{PageFault}
 use Rattle.surf_text.specs.declared.page.PageFault.TheVariants.{Full}
 use Rattle.surf_text.specs.declared.page.PageFault.TheVariants as page
-use Rattle.surf_texts.specs.Cause.{Cause, due, unread, starved}
+use Rattle.surf_geom.specs.declared.fault.GeomFault.{GeomFault}
+use Rattle.surf_geom.specs.Lines.{fault_line}
+use Rattle.surf_texts.specs.Cause.{Cause, due, unread, starved, told_with}
 use Rattle.surf_texts.specs.CertLines.{cert_cause}
 use Rattle.surf_texts.specs.SewingLines.{copy_cause, sew_cause}
 use Rattle.surf_texts.specs.EvidenceLines.{evidence_cause}
@@ -12,11 +14,15 @@ use Rattle.surf_texts.specs.Limits.{beyond}
 use Rattle.surf_texts.specs.MeshLines.{off_cause}
 use Rattle.surf_texts.specs.Outcome.{refuses}
 use Rattle.surf_texts.specs.SurfaceLines.{surface_cause}
-use Rattle.surf_texts.specs.LengthLines.{length_cause, geom_cause, base_line}
+use Rattle.surf_texts.specs.LengthLines.{length_cause, base_line}
 use Rattle.surf_texts.specs.declared.refusal.Refused.{Refused}
 use Rattle.surf_texts.specs.declared.refusal.Refused.TheVariants.{MeshText, Surface, Lengths, Base, Certificate}
 use Rattle.surf_texts.specs.declared.refusal.Refused.TheVariants.{Coordinates, Copies, Sewing, Walk, Evidence, Limit}
 use Rattle.surf_texts.specs.declared.refusal.Refused.TheVariants.{Read, Memory}
+
+-- the cause that a fault of coordinates is
+abbrev pub geom_cause : GeomFault → Cause
+geom_cause fault = told_with 12 (fault_line fault)
 
 abbrev pub cause_of : Refused → Cause
 cause_of (MeshText fault) = off_cause fault

@@ -1,6 +1,6 @@
 -- The lines of the first fault of copies and of sewing.
 use Rattle.std.specs.Prelude.{ℕ, List, [], ◌∷◌, ◌++◌, codes, decimal}
-use Rattle.surf_texts.specs.Lines.{numbered}
+use Rattle.surf_text.specs.Numbers.{numbered}
 use Rattle.surf_texts.specs.Cause.{Cause, due, starved}
 use Rattle.surf_texts.specs.Outcome.{refuses}
 use Rattle.surf_sew.specs.declared.copies.CopyFault.{CopyFault}

@@ -3,7 +3,7 @@ use Rattle.std.specs.Prelude.{[], ◌∷◌, codes, slice_index}
 use Rattle.surf_check.specs.declared.checking.SurfaceFault.{SurfaceFault}
 use Rattle.surf_check.specs.declared.checking.SurfaceFault.TheVariants.{Empty, Border, Crowded, Isolated, Pinched}
 use Rattle.surf_check.specs.declared.checking.SurfaceFault.TheVariants.{Apart, Memory}
-use Rattle.surf_texts.specs.Lines.{numbered}
+use Rattle.surf_text.specs.Numbers.{numbered}
 use Rattle.surf_texts.specs.Cause.{Cause, due, starved}
 use Rattle.surf_texts.specs.Outcome.{refuses}
 

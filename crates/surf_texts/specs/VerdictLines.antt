@@ -7,7 +7,7 @@ use Rattle.surf_certcheck.specs.declared.fault.CertFault.{CertFault}
 use Rattle.surf_certcheck.specs.declared.fault.CertFault.TheVariants.{Shape, Parent, Distance, Slack, Dual, Split}
 use Rattle.surf_certcheck.specs.declared.fault.CertFault.TheVariants.{Heavier, NotClosed, Dependent, Uncovered}
 use Rattle.surf_certcheck.specs.declared.fault.CertFault.TheVariants.{Memory}
-use Rattle.surf_texts.specs.Lines.{numbered}
+use Rattle.surf_text.specs.Numbers.{numbered}
 
 -- the part that doesn't fit the mesh
 abbrev pub part_line : CertPart → List ℕ

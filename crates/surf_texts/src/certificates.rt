@@ -3,9 +3,9 @@ ghost use Rattle.std.specs.Prelude.{◌≡◌, string_bytes, IfOk};
 ghost use Rattle.surf_texts.specs.Cause.{line_of};
 ghost use Rattle.surf_texts.specs.CertLines.{cert_cause};
 
-use crate::lines::numbered;
 use std::alloc::{AllocError, Global};
 use surf_cert::CertText;
+use surf_text::numbered;
 
 /// The line of a fault in the text of a certificate.
 pub(crate) fn cert_line(alloc: Global, fault: &CertText) -> Result<String, AllocError>

@@ -3,9 +3,9 @@ ghost use Rattle.std.specs.Prelude.{◌≡◌, ◌≢◌, string_bytes, IfOk};
 ghost use Rattle.surf_disc.specs.declared.faults.DiscFault.TheVariants.{Memory};
 ghost use Rattle.surf_texts.specs.DiscLines.{disc_text, no_line, border_line};
 
-use crate::lines::numbered;
 use std::alloc::{AllocError, Global};
 use surf_disc::{BorderKind, DiscFault};
+use surf_text::numbered;
 
 /// The lines of a disc with this many border sides.
 pub fn disc_text(alloc: Global, border: u32) -> Result<String, AllocError>

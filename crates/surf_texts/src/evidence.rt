@@ -5,9 +5,9 @@ ghost use Rattle.surf_class.specs.declared.fault.ClassFault.TheVariants.{Memory}
 ghost use Rattle.surf_texts.specs.Cause.{line_of};
 ghost use Rattle.surf_texts.specs.EvidenceLines.{evidence_cause, right_line, wrong_line};
 
-use crate::lines::numbered;
 use std::alloc::{AllocError, Global};
 use surf_class::{ClassFault, Evidence, EvidenceFault};
+use surf_text::numbered;
 
 /// The line of a fault in the text of evidence.
 pub(crate) fn evidence_line(alloc: Global, fault: &EvidenceFault) -> Result<String, AllocError>

@@ -1,23 +1,10 @@
-//! Lines of words and numbers, and that of a limit.
-ghost use Rattle.std.specs.Prelude.{◌≡◌, ◌++◌, codes, string_bytes, IfOk};
+//! The lines of a limit, and of a fault that says its own.
+ghost use Rattle.std.specs.Prelude.{◌≡◌, ◌++◌, ℕ, codes, option_map, string_bytes, IfOk};
+ghost use Rattle.surf_texts.specs.Cause.{line_of, told_with};
 ghost use Rattle.surf_texts.specs.Limits.{limit_name};
-ghost use Rattle.surf_texts.specs.Lines.{numbered};
 
 use std::alloc::{AllocError, Global};
 use surf_base::LimitKind;
-
-/// A line that begins with these words and goes on with these numbers.
-pub(crate) fn numbered(alloc: Global, words: &str, numbers: &[u32]) -> Result<String, AllocError>
-    ensures { IfOk result (λ line. string_bytes line ≡ numbered words.now numbers.now) }
-{
-    let mut line = String::from_str(alloc, words)?;
-    for n in numbers {
-        let number = format!(in alloc; " {n}")?;
-        line.push_str(number.as_str())?;
-    }
-    line.push_str("\n")?;
-    Ok(line)
-}
 
 fn limit_name(kind: LimitKind) -> &'static str
     ensures { result.now ≡ limit_name kind }
@@ -42,4 +29,15 @@ pub(crate) fn limit_line(alloc: Global, kind: LimitKind) -> Result<String, Alloc
         ≡ codes "limit: " ++ limit_name kind ++ codes "\n") }
 {
     format!(in alloc; "limit: {}\n", limit_name(kind))
+}
+
+/// The line that a fault says of itself, or that of want of memory where it has none.
+pub(crate) fn told_line(alloc: Global, line: Option<String>) -> Result<String, AllocError>
+    ensures { IfOk result (λ said. (status : ℕ) → string_bytes said
+        ≡ line_of (told_with status (option_map string_bytes line))) }
+{
+    match line {
+        Some(line) => Ok(line),
+        None => String::from_str(alloc, "memory\n"),
+    }
 }

@@ -4,10 +4,11 @@ ghost use Rattle.surf_texts.specs.Cause.{line_of};
 ghost use Rattle.surf_texts.specs.MeshLines.{off_cause};
 ghost use Rattle.surf_texts.specs.SurfaceLines.{surface_cause};
 
-use crate::lines::{limit_line, numbered};
+use crate::lines::limit_line;
 use std::alloc::{AllocError, Global};
 use surf_check::SurfaceFault;
 use surf_off::OffFault;
+use surf_text::numbered;
 
 /// The line of a fault in the text of a mesh.
 pub(crate) fn off_line(alloc: Global, fault: &OffFault) -> Result<String, AllocError>

@@ -7,8 +7,8 @@ ghost use Rattle.surf_texts.specs.declared.refusal.Refused.TheVariants.{Coordina
 
 use crate::certificates::cert_line;
 use crate::evidence::evidence_line;
-use crate::lengths::{base_line, geom_line, length_line};
-use crate::lines::limit_line;
+use crate::lengths::{base_line, length_line};
+use crate::lines::{limit_line, told_line};
 use crate::meshes::{off_line, surface_line};
 use crate::sewing::{copy_line, sew_line};
 use crate::walks::{WalkFile, walk_line};
@@ -177,7 +177,7 @@ impl Refused {
             Refused::Lengths(fault) => length_line(alloc, fault),
             Refused::Base { base, vertices } => base_line(alloc, *base, *vertices),
             Refused::Certificate(fault) => cert_line(alloc, fault),
-            Refused::Coordinates(fault) => geom_line(alloc, fault),
+            Refused::Coordinates(fault) => told_line(alloc, fault.line(alloc)?),
             Refused::Copies { fault, vertices } => copy_line(alloc, fault, *vertices),
             Refused::Sewing(fault) => sew_line(alloc, fault),
             Refused::Walk { file, fault } => walk_line(alloc, *file, fault),

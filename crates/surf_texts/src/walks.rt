@@ -3,9 +3,9 @@ ghost use Rattle.std.specs.Prelude.{◌≡◌, string_bytes, IfOk};
 ghost use Rattle.surf_texts.specs.Cause.{line_of};
 ghost use Rattle.surf_texts.specs.WalkLines.{file_words, walk_cause, walk_line};
 
-use crate::lines::numbered;
 use std::alloc::{AllocError, Global};
 use surf_class::WalkFault;
+use surf_text::numbered;
 
 /// Which of the walk files of a command it is.
 #[derive(Clone, Copy, Debug, PartialEq, Eq)]

@@ -1,6 +1,6 @@
 -- The words of a command line, and the command that they are.
-use Rattle.std.specs.Prelude.{ℕ, ◌-◌, ◌==◌, ◌&&◌, ◌||◌, Bool, List, [], ◌∷◌, ◌++◌, length, map, flat_map, String}
-use Rattle.std.specs.Prelude.{Option, Some, None, option_map, option_and_then, nat_le, nat_lt, zip}
+use Rattle.std.specs.Prelude.{◌≡◌, ℕ, ◌-◌, ◌==◌, ◌&&◌, ◌||◌, Bool, List, [], ◌∷◌, ◌++◌, length, map, flat_map, String}
+use Rattle.std.specs.Prelude.{Option, Some, None, MatchOption, option_map, option_and_then, nat_le, nat_lt, zip}
 use Rattle.std.specs.Prelude.{if◌then◌else◌, codes, string_bytes}
 use Rattle.std.specs.List.{list_all, repeat}
 use Rattle.std.specs.Str.{bytes_eq}
@@ -96,16 +96,14 @@ command_table =
     ∷ row "sew M" "the mesh that was cut, from what cut wrote" (λ w. Some (sews (w "M")))
     ∷ row "disc M" "whether a mesh is a disc" (λ w. Some (disc (w "M")))
     ∷ row "class M W" "whether a closed walk is a boundary, with evidence" (λ w. Some (classes (w "M") (w "W")))
-    ∷ row "same M W W2" "whether two closed walks go round the same way"
-    (λ w. Some (compares (w "M") (w "W") (w "W2")))
+    ∷ row "same M W W2" "whether two closed walks go round the same way" (λ w. Some (compares (w "M") (w "W") (w "W2")))
     ∷ row "confirm M W C" "whether the evidence that class wrote is right"
     (λ w. Some (confirms (w "M") (w "W") (w "C")))
     ∷ row "shortest M L W" "a shortest closed walk that goes round as W does"
     (λ w. Some (tightens (w "M") (w "L") (w "W")))
     ∷ row "certify M L x" "a certificate of loops at vertex x" (at_base LoopCertificate)
     ∷ row "certify M L" "a certificate of a basis" (on_cycles BasisCertificate)
-    ∷ row "check M L C" "whether a certificate is valid, and its total"
-    (λ w. Some (checks (w "M") (w "L") (w "C")))
+    ∷ row "check M L C" "whether a certificate is valid, and its total" (λ w. Some (checks (w "M") (w "L") (w "C")))
     ∷ row "lengths M k" "the lengths of the edges from coordinates, in units of 10^-k"
     (λ w. option_map (measures (w "M")) (option_and_then few_decimals (word_number (w "k"))))
     ∷ row "gen torus a b" "a torus of a by b squares" (λ w. option_map makes (torus_of w))
@@ -156,6 +154,10 @@ request (Class mesh walk) = classes mesh.now walk.now
 request (Same mesh first second) = compares mesh.now first.now second.now
 request (Confirm mesh walk cert) = confirms mesh.now walk.now cert.now
 request (Shortest mesh lengths walk) = tightens mesh.now lengths.now walk.now
+
+-- The command that was found for words is their request. Where none was found, they have none.
+abbrev pub Asks : Option Command → List (List ℕ) → Type 0
+Asks found words = MatchOption found (request_of words ≡ None) (λ c. request_of words ≡ Some (request c))
 
 -- ---- the fixed texts
 

@@ -1,7 +1,7 @@
 //! The words of the command line.
 ghost use Rattle.std.specs.Prelude.{◌≡◌, [], ◌∷◌, None, Some, MatchOption, option_map, option_and_then};
 ghost use Rattle.surf_words.specs.Shapes.{torus_named, chain_named};
-ghost use Rattle.surf_words.specs.Words.{texts, request_of, word_number, few_decimals, request, tried};
+ghost use Rattle.surf_words.specs.Words.{texts, request_of, word_number, few_decimals, request, tried, Asks};
 ghost use Rattle.surf_words.specs.Words.{cycles, weighted, makes, measures};
 
 use crate::decimals::Decimals;
@@ -187,8 +187,7 @@ fn measure<'w>(mesh: &'w str, decimals: &str) -> Option<Command<'w>>
 
 #[tactic(auto, unfolding(crate::specs::Words::request_of))]
 fn on_one<'w>(word: &str) -> Option<Command<'w>>
-    ensures { MatchOption result (request_of (word.now ∷ []) ≡ None)
-        (λ c. request_of (word.now ∷ []) ≡ Some (request c)) }
+    ensures { Asks result (word.now ∷ []) }
 {
     match word {
         "--help" => Some(Command::Help),
@@ -199,8 +198,7 @@ fn on_one<'w>(word: &str) -> Option<Command<'w>>
 
 #[tactic(auto, unfolding(crate::specs::Words::request_of))]
 fn on_two<'w>(word: &str, mesh: &'w str) -> Option<Command<'w>>
-    ensures { MatchOption result (request_of (word.now ∷ mesh.now ∷ []) ≡ None)
-        (λ c. request_of (word.now ∷ mesh.now ∷ []) ≡ Some (request c)) }
+    ensures { Asks result (word.now ∷ mesh.now ∷ []) }
 {
     match word {
         "info" => Some(Command::Info { mesh }),
@@ -222,8 +220,7 @@ fn cycles<'w>(task: CycleTask, mesh: &'w str, lengths: &'w str) -> Command<'w>
 
 #[tactic(auto, unfolding(crate::specs::Words::request_of))]
 fn on_three<'w>(word: &str, mesh: &'w str, third: &'w str) -> Option<Command<'w>>
-    ensures { MatchOption result (request_of (word.now ∷ mesh.now ∷ third.now ∷ []) ≡ None)
-        (λ c. request_of (word.now ∷ mesh.now ∷ third.now ∷ []) ≡ Some (request c)) }
+    ensures { Asks result (word.now ∷ mesh.now ∷ third.now ∷ []) }
 {
     match word {
         "basis" => Some(cycles(CycleTask::Basis, mesh, third)),
@@ -237,8 +234,7 @@ fn on_three<'w>(word: &str, mesh: &'w str, third: &'w str) -> Option<Command<'w>
 
 #[tactic(auto, unfolding(crate::specs::Words::request_of))]
 fn on_four<'w>(word: &str, second: &'w str, third: &'w str, fourth: &'w str) -> Option<Command<'w>>
-    ensures { MatchOption result (request_of (word.now ∷ second.now ∷ third.now ∷ fourth.now ∷ []) ≡ None)
-        (λ c. request_of (word.now ∷ second.now ∷ third.now ∷ fourth.now ∷ []) ≡ Some (request c)) }
+    ensures { Asks result (word.now ∷ second.now ∷ third.now ∷ fourth.now ∷ []) }
 {
     match word {
         "dist" => weighted(Task::Distances, second, third, fourth),
@@ -282,8 +278,7 @@ fn on_five<'w>(
     fourth: &str,
     fifth: &str,
 ) -> Option<Command<'w>>
-    ensures { MatchOption result (request_of (word.now ∷ second.now ∷ third.now ∷ fourth.now ∷ fifth.now ∷ []) ≡ None)
-        (λ c. request_of (word.now ∷ second.now ∷ third.now ∷ fourth.now ∷ fifth.now ∷ []) ≡ Some (request c)) }
+    ensures { Asks result (word.now ∷ second.now ∷ third.now ∷ fourth.now ∷ fifth.now ∷ []) }
 {
     if word == "cut" {
         return match fifth {
@@ -310,8 +305,8 @@ fn on_six<'w>(
     fifth: &str,
     sixth: &str,
 ) -> Option<Command<'w>>
-    ensures { MatchOption result (request_of (word.now ∷ second.now ∷ third.now ∷ fourth.now ∷ fifth.now ∷ sixth.now ∷ []) ≡ None)
-        (λ c. request_of (word.now ∷ second.now ∷ third.now ∷ fourth.now ∷ fifth.now ∷ sixth.now ∷ []) ≡ Some (request c)) }
+    ensures { Asks result
+        (word.now ∷ second.now ∷ third.now ∷ fourth.now ∷ fifth.now ∷ sixth.now ∷ []) }
 {
     if word == "try" && second == "chain" {
         return try_shape(chain_of(third, fourth, fifth), sixth);
