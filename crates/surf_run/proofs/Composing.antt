@@ -18,7 +18,7 @@ use Rattle.surf_run.specs.Steps.{Ends, stops, goes}
 -- ---- functions that read no file
 
 -- a refusal that is handed on
-handed : (end : Result Answered Refused → Type 0) (e : Refused) (r : Result Answered Refused) → IsErrAnd r (λ x. x ≡ e) → end (Err e) → end r
+pub handed : {T : Type 0} (end : Result T Refused → Type 0) (e : Refused) (r : Result T Refused) → IsErrAnd r (λ x. x ≡ e) → end (Err e) → end r
 handed end e r is so = let (x, failed, was) = err_from_is_err_and r is in subst end (sym (failed ∙ ap Err was)) so
 
 -- A function that reads no file has come so far: where the rest of it comes to an end, so does the whole.

@@ -16,5 +16,6 @@ mod SewnRuns
 mod ShapeWords
 mod StepLaws
 mod TextLaws
+mod TextsAt
 mod TwoRuns
 mod Unique

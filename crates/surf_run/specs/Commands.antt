@@ -52,6 +52,13 @@ Performs LeastLoops read lengths base = GivesLoops read.1 lengths base
 Performs LoopCertificate read lengths base = GivesLoopCert read.1 lengths base
 Performs (Cut kind) read lengths base = GivesCut (is_trimmed kind) read.0 read.1 lengths base
 
+-- The task needs the surface alone, and not the text that it was read from.
+abbrev pub IsSearch : Task → Type 0
+IsSearch Distances = Unit {0}
+IsSearch LeastLoops = Unit {0}
+IsSearch LoopCertificate = Unit {0}
+IsSearch (Cut kind) = ⊥
+
 -- the loops of a surface that a task needs, and so limits
 abbrev pub loops_for : Task → Mesh → ℕ
 loops_for task mesh = if is_limited task then loop_count mesh else 0

@@ -29,7 +29,7 @@ use Rattle.surf_texts.specs.Outcome.{Outcome, misses, refuses}
 use Rattle.surf_texts.specs.SurfaceLines.{surface_cause}
 use Rattle.surf_texts.specs.WalkLines.{walk_cause}
 use Rattle.surf_texts.specs.declared.walks.WalkFile.{WalkFile}
-use Rattle.surf_run.specs.Steps.{and_then}
+use Rattle.surf_run.specs.Steps.{Ends, and_then}
 
 -- the bytes of a file, unless it isn't there or has more than 268,435,456 of them
 abbrev pub within_text : Option (List ℕ) → Result (List ℕ) Outcome
@@ -65,9 +65,21 @@ IsSurfaceText bytes (Err outcome) =
     IsMeshText bytes (Err outcome)
     ⊎ ((read : OffParts × Mesh) × IsMeshText bytes (Ok read) × EndsInFault read.1 outcome)
 
--- Wherever it is told what files hold, the file of a name has these bytes; and they are the text of a surface.
+-- Wherever it is told what files hold, the file of a name has these bytes; and they are read so.
+abbrev pub HoldsText : (List ℕ → Result (OffParts × Mesh) Outcome → Type 0) → Option Files → List ℕ → List ℕ →
+    OffParts × Mesh → Type 0
+HoldsText reads holds name bytes read = IfSome holds (λ files. Reads name files (Ok bytes)) × reads bytes (Ok read)
+
+-- .. and they are the text of a surface
 abbrev pub HoldsSurface : Option Files → List ℕ → List ℕ → OffParts × Mesh → Type 0
-HoldsSurface holds name bytes read = IfSome holds (λ files. Reads name files (Ok bytes)) × IsSurfaceText bytes (Ok read)
+HoldsSurface holds name bytes read = HoldsText IsSurfaceText holds name bytes read
+
+-- The file of a name is read, and its bytes are read so; of what they give, the mesh goes on.
+abbrev pub IsTextAt : (List ℕ → Result (OffParts × Mesh) Outcome → Type 0) → List ℕ → Files → Result Mesh Outcome →
+    Type 0
+IsTextAt reads name files (Ok mesh) =
+    (bytes : List ℕ) × (parts : OffParts) × Reads name files (Ok bytes) × reads bytes (Ok (parts, mesh))
+IsTextAt reads name files (Err outcome) = Ends (Reads name files) (λ bytes end. reads bytes (Err end)) outcome
 
 -- ---- lengths and a base
 

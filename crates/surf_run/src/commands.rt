@@ -9,6 +9,7 @@ ghost use Rattle.surf_answers.specs.Tells.{Concludes, ConcludesOver};
 mod check;
 mod class;
 mod confirmation;
+mod cut;
 mod cycles;
 mod disc;
 mod generation;

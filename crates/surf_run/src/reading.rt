@@ -1,7 +1,9 @@
 //! Files that are reached.
-ghost use Rattle.std.specs.Prelude.{◌≡◌, ◌≤◌, length, IfOk};
+ghost use Rattle.std.specs.Prelude.{◌≡◌, ◌≤◌, ℕ, List, length, IfOk};
 ghost use Rattle.surf_surfaces.specs.Surface.{face_count};
+ghost use Rattle.surf_off.specs.Off.{OffParts};
 ghost use Rattle.surf_run.specs.Reading.{Reads, IsMeshText, IsSurfaceOf, IsSurfaceText};
+ghost use Rattle.surf_run.specs.Reading.{HoldsText, IsTextAt};
 ghost use Rattle.surf_answers.specs.Tells.{Takes, TakesOver};
 ghost use Rattle.surf_base.specs.declared.limits.TheConstants.{MAX_TEXT};
 
@@ -62,4 +64,36 @@ pub(crate) fn read_surface(alloc: Global, bytes: &[u8]) -> Result<(OffText<'_>, 
     let (text, soup) = read_mesh(alloc, bytes)?;
     let mesh = surface_of(alloc, soup)?;
     Ok((text, mesh))
+}
+
+/// The faces in the text of the file of a name. The text is kept no longer.
+pub(crate) fn mesh_at<S: Shelf>(alloc: Global, shelf: &mut S, name: &str) -> Result<Soup, Refused>
+    ensures holds { S.holds shelf.new ≡ S.holds shelf.old }
+    ensures later { S.faults shelf.old ≤ S.faults shelf.new }
+    ensures tells { TakesOver (S.holds shelf.old) (S.faults shelf.old) (S.faults shelf.new)
+        (λ soup. soup) (IsTextAt IsMeshText name.now) result }
+    ensures held { IfOk result (λ soup. (bytes : List ℕ) × (parts : OffParts)
+        × HoldsText IsMeshText (S.holds shelf.new) name.now bytes (parts, soup)) }
+{
+    let bytes = read_file(alloc, shelf, name)?;
+    let (_, soup) = read_mesh(alloc, &bytes)?;
+    Ok(soup)
+}
+
+/// The surface in the text of the file of a name. The text is kept no longer than its faces are
+/// read.
+pub(crate) fn surface_at<S: Shelf>(
+    alloc: Global,
+    shelf: &mut S,
+    name: &str,
+) -> Result<HalfMesh, Refused>
+    ensures holds { S.holds shelf.new ≡ S.holds shelf.old }
+    ensures later { S.faults shelf.old ≤ S.faults shelf.new }
+    ensures tells { TakesOver (S.holds shelf.old) (S.faults shelf.old) (S.faults shelf.new)
+        (λ mesh. mesh) (IsTextAt IsSurfaceText name.now) result }
+    ensures held { IfOk result (λ mesh. (bytes : List ℕ) × (parts : OffParts)
+        × HoldsText IsSurfaceText (S.holds shelf.new) name.now bytes (parts, mesh)) }
+{
+    let soup = mesh_at(alloc, shelf, name)?;
+    surface_of(alloc, soup)
 }

@@ -12,7 +12,7 @@ ghost use Rattle.surf_base.specs.declared.limits.LimitKind.TheVariants.{Certific
 ghost use Rattle.surf_base.specs.declared.limits.TheConstants.{MAX_CERTIFICATE_VERTICES, MAX_LOOPS, MAX_TEXT};
 
 use crate::limits::{at_most, test_loops};
-use crate::reading::{read_file, read_surface};
+use crate::reading::{read_file, surface_at};
 use crate::weights::read_measures;
 use std::alloc::Global;
 use surf_answers::{Answered, judge};
@@ -36,8 +36,7 @@ pub(crate) fn checked<S: Shelf>(
     ensures tells { ConcludesOver (S.holds shelf.old) (S.faults shelf.old) (S.faults shelf.new)
         (OnRequest (Some (checks mesh.now lengths.now cert.now))) result }
 {
-    let bytes = read_file(alloc, shelf, mesh)?;
-    let (_, mesh) = read_surface(alloc, &bytes)?;
+    let mesh = surface_at(alloc, shelf, mesh)?;
     check_on(alloc, shelf, &mesh, lengths, cert)
 }
 

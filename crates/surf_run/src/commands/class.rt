@@ -7,7 +7,7 @@ ghost use Rattle.surf_run.specs.Commands.{OnRequest};
 ghost use Rattle.surf_run.specs.Reading.{HoldsSurface};
 
 use crate::limits::test_loops;
-use crate::reading::{read_file, read_surface};
+use crate::reading::surface_at;
 use crate::walks::walk_named;
 use std::alloc::Global;
 use surf_answers::{Answered, class_of};
@@ -27,8 +27,7 @@ pub(crate) fn classify<S: Shelf>(
     ensures tells { ConcludesOver (S.holds shelf.old) (S.faults shelf.old) (S.faults shelf.new)
         (OnRequest (Some (classes mesh.now walk.now))) result }
 {
-    let bytes = read_file(alloc, shelf, mesh)?;
-    let (_, mesh) = read_surface(alloc, &bytes)?;
+    let mesh = surface_at(alloc, shelf, mesh)?;
     test_loops(&mesh)?;
     let walk = walk_named(alloc, shelf, &mesh, WalkFile::First, walk)?;
     class_of(alloc, &mesh, &walk, None)
@@ -47,8 +46,7 @@ pub(crate) fn compare<S: Shelf>(
     ensures tells { ConcludesOver (S.holds shelf.old) (S.faults shelf.old) (S.faults shelf.new)
         (OnRequest (Some (compares mesh.now first.now second.now))) result }
 {
-    let bytes = read_file(alloc, shelf, mesh)?;
-    let (_, mesh) = read_surface(alloc, &bytes)?;
+    let mesh = surface_at(alloc, shelf, mesh)?;
     compare_on(alloc, shelf, &mesh, first, second)
 }
 

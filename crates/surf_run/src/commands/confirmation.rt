@@ -11,7 +11,7 @@ ghost use Rattle.surf_run.specs.Reading.{HoldsSurface, IsEvidenceText};
 ghost use Rattle.surf_run.specs.Steps.{Ends};
 ghost use Rattle.surf_base.specs.declared.limits.TheConstants.{MAX_TEXT};
 
-use crate::reading::{read_file, read_surface};
+use crate::reading::{read_file, surface_at};
 use crate::walks::walk_named;
 use std::alloc::Global;
 use surf_answers::{Answered, judge_evidence};
@@ -33,8 +33,7 @@ pub(crate) fn confirm<S: Shelf>(
     ensures tells { ConcludesOver (S.holds shelf.old) (S.faults shelf.old) (S.faults shelf.new)
         (OnRequest (Some (confirms mesh.now walk.now cert.now))) result }
 {
-    let bytes = read_file(alloc, shelf, mesh)?;
-    let (_, mesh) = read_surface(alloc, &bytes)?;
+    let mesh = surface_at(alloc, shelf, mesh)?;
     confirm_on(alloc, shelf, &mesh, walk, cert)
 }
 

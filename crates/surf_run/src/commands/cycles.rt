@@ -12,7 +12,7 @@ ghost use Rattle.surf_off.specs.Off.{OffParts};
 ghost use Rattle.surf_base.specs.declared.limits.TheConstants.{MAX_LOOPS};
 
 use crate::limits::{at_most, test_loops};
-use crate::reading::{read_file, read_surface};
+use crate::reading::surface_at;
 use crate::weights::read_measures;
 use std::alloc::Global;
 use surf_answers::{Answered, basis_cert_of, basis_of, cycle_of};
@@ -35,8 +35,7 @@ pub(crate) fn find_cycles<S: Shelf>(
     ensures tells { ConcludesOver (S.holds shelf.old) (S.faults shelf.old) (S.faults shelf.new)
         (OnRequest (Some (cycles task mesh.now lengths.now))) result }
 {
-    let bytes = read_file(alloc, shelf, mesh)?;
-    let (_, mesh) = read_surface(alloc, &bytes)?;
+    let mesh = surface_at(alloc, shelf, mesh)?;
     find_on(alloc, shelf, task, &mesh, lengths)
 }
 

@@ -4,7 +4,7 @@ ghost use Rattle.surf_words.specs.Words.{disc};
 ghost use Rattle.surf_answers.specs.Tells.{ConcludesOver};
 ghost use Rattle.surf_run.specs.Commands.{OnRequest};
 
-use crate::reading::{read_file, read_mesh};
+use crate::reading::mesh_at;
 use std::alloc::Global;
 use surf_answers::{Answered, disc_of};
 use surf_base::Shelf;
@@ -21,7 +21,6 @@ pub(crate) fn test_disc<S: Shelf>(
     ensures tells { ConcludesOver (S.holds shelf.old) (S.faults shelf.old) (S.faults shelf.new)
         (OnRequest (Some (disc mesh.now))) result }
 {
-    let bytes = read_file(alloc, shelf, mesh)?;
-    let (_, soup) = read_mesh(alloc, &bytes)?;
+    let soup = mesh_at(alloc, shelf, mesh)?;
     disc_of(alloc, &soup)
 }

@@ -11,7 +11,7 @@ ghost use Rattle.surf_base.specs.declared.limits.LimitKind.TheVariants.{CoverLoo
 ghost use Rattle.surf_base.specs.declared.limits.TheConstants.{MAX_COVER_LOOPS, MAX_COVER_NODES};
 
 use crate::limits::{at_most, test_loops};
-use crate::reading::{read_file, read_surface};
+use crate::reading::surface_at;
 use crate::walks::walk_named;
 use crate::weights::read_measures;
 use std::alloc::Global;
@@ -33,8 +33,7 @@ pub(crate) fn shortest<S: Shelf>(
     ensures tells { ConcludesOver (S.holds shelf.old) (S.faults shelf.old) (S.faults shelf.new)
         (OnRequest (Some (tightens mesh.now lengths.now walk.now))) result }
 {
-    let bytes = read_file(alloc, shelf, mesh)?;
-    let (_, mesh) = read_surface(alloc, &bytes)?;
+    let mesh = surface_at(alloc, shelf, mesh)?;
     shortest_on(alloc, shelf, &mesh, lengths, walk)
 }
 

@@ -1,0 +1,81 @@
+-- The text of a file, of which the mesh alone goes on.
+use Rattle.std.proofs.Common.{◌≡◌, ℕ, List, Option, Some, None, Result, Ok, Err, inl, inr, sym, subst}
+use Rattle.std.specs.Prelude.{IfSome, IsErrAnd}
+use Rattle.surf_base.specs.Outside.{Files}
+use Rattle.surf_off.specs.Off.{OffParts}
+use Rattle.surf_surfaces.specs.Mesh.{Mesh}
+use Rattle.surf_surfaces.specs.Surface.{IsSurface}
+use Rattle.surf_texts.specs.Outcome.{Outcome, misses}
+use Rattle.surf_texts.specs.Cause.{Cause, due, unread, starved}
+use Rattle.surf_texts.specs.Refusals.{cause_of}
+use Rattle.surf_texts.specs.declared.refusal.Refused.{Refused}
+use Rattle.surf_answers.specs.declared.answered.Answered.{Answered}
+use Rattle.surf_answers.specs.Tells.{IsTold, Why, Takes, WhyOver, TakesOver, ConcludesOver}
+use Rattle.surf_run.specs.Steps.{Ends, stops, goes}
+use Rattle.surf_run.specs.Reading.{Reads, IsMeshText, IsSurfaceOf, IsSurfaceText, IsTextAt}
+use Rattle.surf_run.proofs.Composing.{handed}
+
+some_so : {P Q : Files → Type 0} (holds : Option Files) → ((files : Files) → P files → Q files) → IfSome holds P → IfSome holds Q
+some_so None follows is = tt
+some_so (Some files) follows is = follows files is
+
+told_so : {P Q : Files → Type 0} (holds : Option Files) → ((files : Files) → P files → Q files) → IsTold holds P → IsTold holds Q
+told_so None follows is = is
+told_so (Some files) follows is = follows files is
+
+-- a cause that follows from another
+why_over_so : (old new : ℕ) {P Q : Files → Outcome → Type 0} (holds : Option Files) → ((files : Files) (o : Outcome) → P files o → Q files o) → (c : Cause) →
+    WhyOver holds old new P c → WhyOver holds old new Q c
+why_over_so old new holds follows (due o) is = some_so holds (λ files. follows files o) is
+why_over_so old new holds follows unread (inl rose) = inl rose
+why_over_so old new holds follows unread (inr missing) = inr (told_so holds (λ files. follows files misses) missing)
+why_over_so old new holds follows starved is = tt
+
+-- the cause of a step that reads no file
+why_here : (old new : ℕ) {P : Outcome → Type 0} (holds : Option Files) (Q : Files → Outcome → Type 0) → ((o : Outcome) → P o → IfSome holds (λ files. Q files o)) →
+    (c : Cause) → Why P c → WhyOver holds old new Q c
+why_here old new holds Q follows (due o) is = follows o is
+why_here old new holds Q follows unread is = absurd is
+why_here old new holds Q follows starved is = tt
+
+-- a fault of the text of a file whose bytes were read
+pub text_failed : (old new : ℕ) (holds : Option Files) (name bytes others : List ℕ) → others ≡ bytes → IfSome holds (λ files. Reads name files (Ok bytes)) →
+    (e : Refused) → Why (λ o. IsMeshText others (Err o)) (cause_of e) → (r : Result Mesh Refused) → IsErrAnd r (λ x. x ≡ e) →
+    TakesOver holds old new (λ mesh. mesh) (IsTextAt IsMeshText name) r
+text_failed old new holds name bytes others named read e why r is =
+    handed (TakesOver holds old new (λ mesh. mesh) (IsTextAt IsMeshText name)) e r is
+    (why_here old new holds (λ files o. IsTextAt IsMeshText name files (Err o))
+    (λ o ended. some_so holds (λ files reads. goes others (subst (λ (b : List ℕ). Reads name files (Ok b)) (sym named) reads) ended) read)
+    (cause_of e) why)
+
+-- no surface is read where no mesh is
+no_surface : (name : List ℕ) (files : Files) (o : Outcome) → IsTextAt IsMeshText name files (Err o) → IsTextAt IsSurfaceText name files (Err o)
+no_surface name files o (stops ended) = stops ended
+no_surface name files o (goes bytes read ended) = goes bytes read (inl ended)
+
+pub mesh_failed : (old new : ℕ) (holds : Option Files) (name : List ℕ) (e : Refused) → WhyOver holds old new (λ files o. IsTextAt IsMeshText name files (Err o)) (cause_of e) →
+    (r : Result Mesh Refused) → IsErrAnd r (λ x. x ≡ e) → TakesOver holds old new (λ mesh. mesh) (IsTextAt IsSurfaceText name) r
+mesh_failed old new holds name e why r is =
+    handed (TakesOver holds old new (λ mesh. mesh) (IsTextAt IsSurfaceText name)) e r is (why_over_so old new holds (no_surface name) (cause_of e) why)
+
+-- the mesh of a file that was read is a surface, or has a fault
+pub surface_taken : (old new : ℕ) (holds : Option Files) (name : List ℕ) (mesh : Mesh) → IfSome holds (λ files. IsTextAt IsMeshText name files (Ok mesh)) →
+    (r : Result Mesh Refused) → Takes (λ m. m) (IsSurfaceOf mesh) r → TakesOver holds old new (λ m. m) (IsTextAt IsSurfaceText name) r
+surface_taken old new holds name mesh read (Ok same) is =
+    some_so holds (λ files at. (at.0, at.1, at.2, (subst (λ (m : Mesh). IsMeshText at.0 (Ok (at.1, m))) (sym is.0) at.3, subst IsSurface (sym is.0) is.1))) read
+surface_taken old new holds name mesh read (Err e) is =
+    why_here old new holds (λ files o. IsTextAt IsSurfaceText name files (Err o))
+    (λ o fault. some_so holds (λ files at. goes at.0 at.2 (inr ((at.1, mesh), at.3, fault))) read) (cause_of e) is
+
+-- a command stops where the text of its file isn't read
+pub text_stopped : (old new : ℕ) (holds : Option Files) (reads : List ℕ → Result (OffParts × Mesh) Outcome → Type 0) (name : List ℕ)
+    (second : List ℕ → OffParts × Mesh → Files → Outcome → Type 0) (e : Refused) → WhyOver holds old new (λ files o. IsTextAt reads name files (Err o)) (cause_of e) →
+    (r : Result Answered Refused) → IsErrAnd r (λ x. x ≡ e) →
+    ConcludesOver holds old new (λ files. Ends (Reads name files) (λ bytes. Ends (reads bytes) (λ read. second bytes read files))) r
+text_stopped old new holds reads name second e why r is =
+    handed (ConcludesOver holds old new (λ files. Ends (Reads name files) (λ bytes. Ends (reads bytes) (λ read. second bytes read files)))) e r is
+    (why_over_so old new holds stopped (cause_of e) why)
+  where
+    stopped : (files : Files) (o : Outcome) → IsTextAt reads name files (Err o) → Ends (Reads name files) (λ bytes. Ends (reads bytes) (λ read. second bytes read files)) o
+    stopped files o (stops ended) = stops ended
+    stopped files o (goes bytes read ended) = goes bytes read (stops ended)
