@@ -2,18 +2,19 @@
 ghost use Rattle.std.specs.Prelude.{◌≡◌, ◌≤◌, length, IfOk, Some};
 ghost use Rattle.surf_surfaces.specs.Surface.{edge_count};
 ghost use Rattle.surf_words.specs.Words.{measures};
-ghost use Rattle.surf_answers.specs.Tells.{ConcludesOver, Takes};
+ghost use Rattle.surf_answers.specs.Coordinates.{GivesMeasures, Measures};
+ghost use Rattle.surf_answers.specs.Tells.{Concludes, ConcludesOver, Takes};
 ghost use Rattle.surf_run.specs.Commands.{OnRequest};
-ghost use Rattle.surf_answers.specs.Coordinates.{Measures};
 
 use crate::reading::{read_file, read_surface};
 use std::alloc::Global;
-use surf_answers::{Answered, measures_of};
-use surf_base::Shelf;
-use surf_geom::measure;
+use surf_answers::Answered;
+use surf_base::{MAX_ANSWER, Shelf};
+use surf_geom::{measure, write_lengths};
 use surf_lengths::Lengths;
 use surf_mesh::HalfMesh;
 use surf_off::OffText;
+use surf_text::Page;
 use surf_texts::Refused;
 use surf_words::Decimals;
 
@@ -48,4 +49,14 @@ fn measure_edges(
 {
     let lengths = measure(alloc, mesh, text, decimals.count())?;
     Ok(lengths)
+}
+
+// Lengths as a length file.
+fn measures_of(alloc: Global, mesh: &HalfMesh, lengths: &Lengths) -> Result<Answered, Refused>
+    requires count { length lengths.now ≡ edge_count mesh.now }
+    ensures { Concludes (GivesMeasures mesh.now lengths.now) result }
+{
+    let mut page = Page::make(alloc, MAX_ANSWER);
+    write_lengths(&mut page, mesh, lengths)?;
+    Ok(Answered::yes(page.into_bytes()))
 }
