@@ -15,6 +15,30 @@ counted_none order labels tails numbers none = record {
   apart = λ j k h. absurd (omega arith);
 }
 
+-- what has been counted stays so where more sides follow
+pub counted_on : (order row labels tails numbers origins : List ℕ) → AreCounted order labels tails (length order) numbers origins → AreCounted (order ++ row) labels tails (length order) numbers origins
+counted_on order row labels tails numbers origins are =
+    let number : ℕ → ℕ = λ s. get_or numbers (get_or labels s 0) 0 in
+    let same : (j : ℕ) → j < length order → get_or (order ++ row) j 0 ≡ get_or order j 0 = λ j h. get_or_append_left order row 0 j h in
+    record {
+      few = are.few;
+      unset = λ l h none. are.unset l h (λ j g. subst (λ s. get_or labels s 0 ≢ l) (same j g) (none j g));
+      below = λ j g. subst (λ s. number s < length origins) (sym (same j g)) (are.below j g);
+      first = λ c h.
+          let p = are.first c h in
+          let lt = p.1 in (
+            p.0,
+            p.1,
+            record {
+              has = ap number (same p.0 p.1) ∙ p.2.has;
+              lesser = λ j g. subst (λ s. number s < c) (sym (same j (omega arith))) (p.2.lesser j g);
+              vertex = p.2.vertex ∙ ap (λ s. get_or tails s 0) (sym (same p.0 p.1));
+            },
+          );
+      apart = λ j k g h e.
+          ap (λ s. get_or labels s 0) (same j g) ∙ are.apart j k g h (ap number (sym (same j g)) ∙ e ∙ ap number (same k h)) ∙ ap (λ s. get_or labels s 0) (sym (same k h));
+    }
+
 -- a label among the first ones, or not
 met : (order labels : List ℕ) (l n : ℕ) → ((j : ℕ) × (j < n) × (label_at order labels j ≡ l)) ⊎ ((j : ℕ) → j < n → label_at order labels j ≢ l)
 met order labels l zero = inr (λ j h e. absurd (omega arith))

@@ -4,7 +4,9 @@ pub mod BorderTables
 pub mod BoundaryOne
 pub mod Chosen
 pub mod Counted
+pub mod Numbered
 pub mod OpenedBy
 pub mod PairedBorders
+pub mod Rims
 pub mod Sorted
 pub mod Trims

@@ -1,80 +1,133 @@
--- Sides in the order of their vertices, and the tables by side.
-use Rattle.std.proofs.Common.{◌≡◌, ℕ, zero, suc, ◌+◌, ◌-◌, ◌<◌, inl, inr, sym, subst, ap, ◌∙◌, List, [], ◌∷◌, ◌++◌, length, get_or, map, eqb, true, arith, eqb-true}
-use Rattle.std.specs.List.{flat_map, list_any, range_with_len, sum_by}
-use Rattle.std.proofs.lemmas.Bool.{cases_eq, cases_lt, eq-eqb}
-use Rattle.std.proofs.lemmas.List.{get_or_default, same_lists, length_push, get_or_push, get_or_append_left}
-use Rattle.std.proofs.lemmas.List.Elements.{All-from_recursion}
+-- Sides in the order of their vertices, and the faces with numbers in place of corners.
+use Rattle.std.proofs.Common.{◌≡◌, ◌≢◌, ℕ, suc, ◌+◌, ◌-◌, ◌<◌, ◌≤◌, inl, inr, sym, subst, ap, ◌∙◌, List, [], ◌∷◌, ◌++◌, length, get_or, eqb, false, arith}
+use Rattle.std.specs.List.{IsDistinct, range_with_len}
+use Rattle.std.specs.List.Sorted.{IsPermutation, IsSorted}
+use Rattle.std.specs.Ordering.{nat_cmp}
+use Rattle.std.proofs.lemmas.Bool.{cases_eq, cases_lt, eqb-true, ne_eqb}
+use Rattle.surf_z2.proofs.ParityLaws.{eqb_comm}
+use Rattle.std.proofs.lemmas.List.{get_or_default, length_push, get_or_push, get_or_append_left, get_or-append-add, length-append}
+use Rattle.std.proofs.lemmas.List.Elements.{All-from_get_or, recursion_from_All}
 use Rattle.std.proofs.lemmas.List.FromFn.{length-range_with_len, get_or-range_with_len}
-use Rattle.std.proofs.Math.Seq.{take-length}
+use Rattle.std.proofs.lemmas.List.Sorted.{All-permutation, Contains-permutation, IsNonDecreasingBy-from_sort}
+use Rattle.std.proofs.lemmas.Map.Keys.{IsDistinct-IsPermutation, IsStrictlyIncreasing-from_distinct, below_from_sorted, sorted_from_strictly_increasing}
+use Rattle.std.proofs.lemmas.Map.Steps.{length-le_from_distinct_below}
 use Rattle.surf_surfaces.specs.Mesh.{Mesh}
 use Rattle.surf_surfaces.specs.Surface.{face_count, face_at, IsSurface}
-use Rattle.surf_surfaces.proofs.EdgeLaws.{list_any_at, list_any_from}
-use Rattle.surf_rows.specs.Groups.{group_of}
-use Rattle.surf_soup.specs.Order.{by_key}
+use Rattle.surf_surfaces.proofs.EdgeLaws.{list_any_at}
 use Rattle.surf_surfaces.specs.SideNumber.{side_count, first_side}
-use Rattle.surf_soup.specs.Vertices.{all_corners}
+use Rattle.surf_soup.specs.Ring.{BeginsAt, IsRing}
 use Rattle.surf_soup.proofs.HalfLaws.{spans}
-use Rattle.surf_soup.proofs.Mates.{range_ordered}
-use Rattle.surf_soup.proofs.Order.{Ordered, Before, flat_map_map, by_key-keeps, by_key-ordered, by_key-all, by_key-length, range_below, any_of_filter}
-use Rattle.surf_soup.proofs.VertexLaws.{corners_len, corners_below, corner_at_place}
+use Rattle.surf_soup.proofs.VertexLaws.{corners_len, corners_below}
 use Rattle.surf_slit.specs.Labels.{corner_at}
-use Rattle.surf_cutter.specs.Copies.{AreNumbersOf, AreCopied, AreSorted}
+use Rattle.surf_cutter.specs.Copies.{AreNumbersOf, AreCopied, AreSorted, AreSortedTo, IsRowAt, IsBefore}
 
-ordered_at : (R : ℕ → ℕ → Type 0) (xs : List ℕ) (i j : ℕ) → Ordered R xs → i < j → j < length xs → R (get_or xs i 0) (get_or xs j 0)
-ordered_at R [] i j h a b = absurd (omega arith)
-ordered_at R (x ∷ xs) i zero h a b = absurd (omega arith)
-ordered_at R (x ∷ xs) zero (suc j) h a b = All-from_recursion (R x) xs h.0 j 0 (omega arith)
-ordered_at R (x ∷ xs) (suc i) (suc j) h a b = ordered_at R xs i j h.1 (omega arith) (omega arith)
+-- numbers of which no two are equal
+distinct_from : (xs : List ℕ) → ((i k : ℕ) → i < k → k < length xs → get_or xs i 0 ≢ get_or xs k 0) → IsDistinct eqb xs
+unfolding IsDistinct
+distinct_from [] differ = tt
+distinct_from (x ∷ xs) differ = (
+  recursion_from_All (λ y. eqb x y ≡ false) xs (All-from_get_or (λ y. eqb x y ≡ false) xs 0 (λ k h. ne_eqb x (get_or xs k 0) (differ 0 (suc k) (omega arith) (omega arith)))),
+  distinct_from xs (λ i k a h. differ (suc i) (suc k) (omega arith) (omega arith)),
+)
 
-pub sorted_sides : {mesh : Mesh} → IsSurface mesh → (rows : List (List ℕ)) (tails order : List ℕ) → tails ≡ all_corners mesh → order ≡ range_with_len 0 (side_count mesh) →
-    rows ≡ map (group_of tails order) (range_with_len 0 mesh.vertices) → AreSorted mesh (flat_map (λ row. row) rows)
-sorted_sides {mesh} surface rows tails order tails_are order_is rows_are =
-    let n = side_count mesh in
-    let all = range_with_len 0 n in
-    let keys = all_corners mesh in
-    let own : flat_map (λ row. row) rows ≡ by_key keys mesh.vertices all =
-    ap (λ (rows : List (List ℕ)). flat_map (λ (row : List ℕ). row) rows) rows_are
-    ∙ flat_map_map (λ (row : List ℕ). row) (group_of tails order) (range_with_len 0 mesh.vertices)
-    ∙ ap (λ (tails : List ℕ). by_key tails mesh.vertices order) tails_are ∙ ap (λ (order : List ℕ). by_key keys mesh.vertices order) order_is in
-    let size = length-range_with_len 0 n in
-    subst (AreSorted mesh) (sym own) (record {
-      few = let f = by_key-length keys all mesh.vertices in omega arith;
-      inside = λ i h. All-from_recursion (λ s. s < n) (by_key keys mesh.vertices all) (by_key-all (λ s. s < n) keys all 0 mesh.vertices (range_below 0 n n (omega arith))) i 0 h;
-      has = λ s h.
-          let kept = by_key-keeps keys all (eqb s) (get_or keys s 0) (λ t e. ap (λ u. get_or keys u 0) (sym (eqb-true s t e))) mesh.vertices (corners_below mesh surface.is_mesh s 0 (let m = corners_len mesh in omega arith)) in
-          let z : 0 + s ≡ s = omega arith in
-          let found = any_of_filter (eqb s) (by_key keys mesh.vertices all) ∙ ap (list_any (λ x. true)) kept ∙ sym (any_of_filter (eqb s) all)
-          ∙ list_any_from (eqb s) all 0 s (omega arith) (eq-eqb s (get_or all s 0) (sym (get_or-range_with_len 0 n s 0 h ∙ z))) in
-          let r = list_any_at (eqb s) (by_key keys mesh.vertices all) 0 found in
-          (r.0, r.1, sym (eqb-true s (get_or (by_key keys mesh.vertices all) r.0 0) r.2));
-      rises = λ i j a b. ordered_at (Before keys (λ s t. s < t)) (by_key keys mesh.vertices all) i j (by_key-ordered keys (λ s t. s < t) all mesh.vertices (range_ordered 0 n)) a b;
-    })
+-- the ring of a vertex when it is sorted
+pub sorted_row : (mesh : Mesh) (v : ℕ) (ring row : List ℕ) → IsRing mesh v ring → IsPermutation ring row → IsSorted nat_cmp row → IsRowAt mesh v row
+sorted_row mesh v ring row is moved sorted =
+    let distinct : IsDistinct eqb row = IsDistinct-IsPermutation eqb eqb_comm ring row moved (distinct_from ring is.differ) in
+    let rising = sorted_from_strictly_increasing row (IsStrictlyIncreasing-from_distinct row (IsNonDecreasingBy-from_sort (λ x. x) row sorted) distinct) in
+    record {
+      begin = λ k h. All-permutation (BeginsAt mesh v) ring row moved (All-from_get_or (BeginsAt mesh v) ring 0 is.begin) k 0 h;
+      all = λ s b.
+          let k = is.all s b in
+          let found = Contains-permutation ring row s moved (k.0, k.1, get_or_default ring k.0 s 0 k.1 ∙ k.2) in
+          (found.0, found.1, get_or_default row found.0 0 s found.1 ∙ found.2);
+      rises = λ i k a h. below_from_sorted row i k 0 rising a h;
+    }
 
--- the corners of one more face are listed
-pub corners_more : (mesh : Mesh) (f : ℕ) (old new : List ℕ) → f < face_count mesh → length old ≡ first_side mesh f → ((s : ℕ) → s < first_side mesh f → get_or old s 0 ≡ corner_at mesh s) →
-    length new ≡ length old + length (face_at mesh f) → ((s : ℕ) → s < length old → get_or new s 0 ≡ get_or old s 0) → ((k : ℕ) → k < length (face_at mesh f) → get_or new (length old + k) 0 ≡ get_or (face_at mesh f) k 0) →
-    (length new ≡ first_side mesh (f + 1)) × ((s : ℕ) → s < first_side mesh (f + 1) → get_or new s 0 ≡ corner_at mesh s)
-corners_more mesh f old new lt size at more kept here =
-    let sp = spans mesh.faces f lt in (
-      omega (arith, sp.0),
-      λ s h. elim (cases_lt s (length old)) [
-        | inl low ↦ kept s low ∙ at s (omega arith)
-        | inr high ↦
-            let k = s - first_side mesh f in
-            let sum : first_side mesh f + k ≡ s = omega arith in
-            let in' : k < length (face_at mesh f) = omega (arith, sp.0) in
-            ap (λ s. get_or new s 0) (sym (ap (λ m. m + k) size ∙ sum)) ∙ here k in' ∙ sym (corner_at_place mesh f k 0 lt in') ∙ ap (corner_at mesh) sum
-      ],
-    )
+-- no sides are at no vertices
+pub sorted_none : (mesh : Mesh) → AreSortedTo mesh 0 []
+sorted_none mesh = record {
+  inside = λ i h. absurd (omega arith);
+  below = λ i h. absurd (omega arith);
+  has = λ s h b. absurd (omega arith);
+  rises = λ i j a h. absurd (omega arith);
+}
 
-first_all : (mesh : Mesh) (n : ℕ) → n ≡ face_count mesh → first_side mesh n ≡ side_count mesh
-first_all mesh n e = ap (first_side mesh) e ∙ ap (sum_by length) (take-length mesh.faces)
+-- the sides at one more vertex follow
+module _ (mesh : Mesh) (v : ℕ) (order row : List ℕ) (are : AreSortedTo mesh v order) (is : IsRowAt mesh v row) where
+  early : (i : ℕ) → i < length order → get_or (order ++ row) i 0 ≡ get_or order i 0
+  early i h = get_or_append_left order row 0 i h
 
-pub corners_done : (mesh : Mesh) (n : ℕ) (tails : List ℕ) → n ≡ face_count mesh → length tails ≡ first_side mesh n → ((s : ℕ) → s < first_side mesh n → get_or tails s 0 ≡ corner_at mesh s) → tails ≡ all_corners mesh
-corners_done mesh n tails e size at =
-    let all = first_all mesh n e in
-    let m = corners_len mesh in
-    same_lists tails (all_corners mesh) (omega arith) (λ k d h. get_or_default tails k d 0 h ∙ at k (omega arith) ∙ get_or_default (all_corners mesh) k 0 d (omega arith))
+  late : (i : ℕ) → i < length (order ++ row) → length order ≤ i → (k : ℕ) × (k < length row) × (get_or (order ++ row) i 0 ≡ get_or row k 0) × (length order + k ≡ i)
+  late i h ge =
+      let n = length-append order row in
+      let sum : length order + (i - length order) ≡ i = omega arith in
+      (i - length order, omega arith, ap (λ i. get_or (order ++ row) i 0) (sym sum) ∙ get_or-append-add order row (i - length order) 0, sum)
+
+  pub sorted_more : AreSortedTo mesh (v + 1) (order ++ row)
+  sorted_more =
+      let n = length-append order row in
+      record {
+        inside = λ i h. elim (cases_lt i (length order)) [
+          | inl low ↦ subst (λ s. s < side_count mesh) (sym (early i low)) (are.inside i low)
+          | inr high ↦ let k = late i h high in subst (λ s. s < side_count mesh) (sym k.2) (is.begin k.0 k.1).0
+        ];
+        below = λ i h. elim (cases_lt i (length order)) [
+          | inl low ↦ let e = ap (corner_at mesh) (early i low) in let b = are.below i low in omega arith
+          | inr high ↦ let k = late i h high in let e = ap (corner_at mesh) k.2 in let b = (is.begin k.0 k.1).1 in omega arith
+        ];
+        has = λ s h b. elim (cases_lt (corner_at mesh s) v) [
+          | inl low ↦ let i = are.has s h low in let lt = i.1 in (i.0, omega arith, early i.0 i.1 ∙ i.2)
+          | inr high ↦
+              let k = is.all s (h, omega arith) in
+              let lt = k.1 in
+              (length order + k.0, omega arith, get_or-append-add order row k.0 0 ∙ k.2)
+        ];
+        rises = λ i j a h. elim (cases_lt j (length order)) [
+          | inl low ↦
+              let lt : i < length order = omega arith in
+              subst (λ s. IsBefore mesh s (get_or (order ++ row) j 0)) (sym (early i lt)) (subst (IsBefore mesh (get_or order i 0)) (sym (early j low)) (are.rises i j a low))
+          | inr high ↦
+              let k = late j h high in
+              let at_k = (is.begin k.0 k.1).1 in
+              let e = ap (corner_at mesh) k.2 in
+              elim (cases_lt i (length order)) [
+                | inl low ↦ let f = ap (corner_at mesh) (early i low) in let b = are.below i low in inl (omega arith)
+                | inr not_low ↦
+                    let l = late i (omega arith) not_low in
+                    let at_l = (is.begin l.0 l.1).1 in
+                    let f = ap (corner_at mesh) l.2 in
+                    let k_is = k.3 in
+                    let l_is = l.3 in
+                    let lt : l.0 < k.0 = omega arith in
+                    let r = is.rises l.0 k.0 lt k.1 in
+                    let x = k.2 in
+                    let y = l.2 in
+                    inr (omega arith, omega arith)
+              ]
+        ];
+      }
+
+-- no two places have one side
+sides_differ : (mesh : Mesh) (n : ℕ) (order : List ℕ) → AreSortedTo mesh n order → (i j : ℕ) → i < j → j < length order → get_or order i 0 ≢ get_or order j 0
+sides_differ mesh n order are i j a h e = elim (are.rises i j a h) [
+  | inl less ↦ let z = ap (corner_at mesh) e in omega arith
+  | inr same ↦ let lt = same.1 in omega arith
+]
+
+-- there are no more than there are sides
+pub sorted_few : (mesh : Mesh) (n : ℕ) (order : List ℕ) → AreSortedTo mesh n order → length order ≤ side_count mesh
+sorted_few mesh n order are =
+    length-le_from_distinct_below order (side_count mesh) (distinct_from order (sides_differ mesh n order are))
+    (λ q found. let r = list_any_at (eqb q) order 0 found in let e = eqb-true q (get_or order r.0 0) r.2 in let b = are.inside r.0 r.1 in omega arith)
+
+-- those at all vertices are all
+pub sorted_all : {mesh : Mesh} → IsSurface mesh → (order : List ℕ) → AreSortedTo mesh mesh.vertices order → AreSorted mesh order
+sorted_all {mesh} surface order are = record {
+  inside = are.inside;
+  has = λ s h. are.has s h (corners_below mesh surface.is_mesh s 0 (let m = corners_len mesh in omega arith));
+  rises = are.rises;
+}
 
 -- one more face is copied
 pub copied_more : (mesh : Mesh) (labels numbers : List ℕ) (f : ℕ) (sides row : List ℕ) (old : List (List ℕ)) → f < face_count mesh → AreCopied mesh labels numbers f old → sides ≡ range_with_len (first_side mesh f) (length (face_at mesh f)) →

@@ -1,5 +1,5 @@
 -- The border of a disc, listed in one round.
-use Rattle.std.specs.Prelude.{◌≡◌, ◌≢◌, ℕ, ◌+◌, ◌-◌, ◌<◌, ◌≤◌, ◌⊎◌, Bool, true, false, List, [], length, slice_index}
+use Rattle.std.specs.Prelude.{◌≡◌, ◌≢◌, ℕ, ◌+◌, ◌-◌, ◌<◌, ◌≤◌, ◌⊎◌, Bool, true, false, List, length, slice_index}
 use Rattle.std.specs.Prelude.{slice_index_or}
 use Rattle.std.specs.List.{flat_map}
 use Rattle.surf_surfaces.specs.Mesh.{Mesh, sides}
@@ -71,27 +71,6 @@ pub record HasPairedBorder (mesh : Mesh) : Type 0 where
       × (t ≢ s)
   pub no_third : (s t u c : ℕ) → IsBorderSide mesh s → IsBorderSide mesh t → IsBorderSide mesh u →
       HasCopy mesh s c → HasCopy mesh t c → HasCopy mesh u c → (s ≡ t) ⊎ ((s ≡ u) ⊎ (t ≡ u))
-
--- the copies at which the first n sides begin, and those at which they end
-pub record AreCorners (faces : List (List ℕ)) (n : ℕ) (tails heads : List ℕ) : Type 0 where
-  pub tails_size : length tails ≡ n
-  pub heads_size : length heads ≡ n
-  pub tail : (s : ℕ) → s < n → slice_index tails s ≡ (slice_index_or (flat_map sides faces) s (0, 0)).0
-  pub head : (s : ℕ) → s < n → slice_index heads s ≡ (slice_index_or (flat_map sides faces) s (0, 0)).1
-
--- a list of border sides that have a copy as their corner
-pub record AreSidesAt (mesh : Mesh) (corner : ℕ × ℕ → ℕ) (c : ℕ) (row : List ℕ) : Type 0 where
-  pub border : (k : ℕ) → k < length row → IsBorderSide mesh (slice_index row k)
-  pub at : (k : ℕ) → k < length row → corner (corners_of mesh (slice_index row k)) ≡ c
-  pub all : (s : ℕ) → IsBorderSide mesh s → corner (corners_of mesh s) ≡ c → (k : ℕ) × (k < length row)
-      × (slice_index row k ≡ s)
-
--- for each copy the border sides that begin there, and those that end there
-pub record AreRims (mesh : Mesh) (begin end : List (List ℕ)) : Type 0 where
-  pub begin_size : length begin ≡ mesh.vertices
-  pub end_size : length end ≡ mesh.vertices
-  pub begins : (c : ℕ) → c < mesh.vertices → AreSidesAt mesh (λ p. p.0) c (slice_index_or begin c [])
-  pub ends : (c : ℕ) → c < mesh.vertices → AreSidesAt mesh (λ p. p.1) c (slice_index_or end c [])
 
 -- a side of the surface whose edge has a flag
 abbrev pub IsCutSide : Mesh → List Bool → ℕ → Type 0

@@ -3,6 +3,8 @@ use Rattle.std.specs.Prelude.{◌≡◌, ◌≢◌, ℕ, ◌+◌, ◌<◌, ◌�
 use Rattle.surf_surfaces.specs.Mesh.{Mesh}
 use Rattle.surf_surfaces.specs.Surface.{face_at}
 use Rattle.surf_surfaces.specs.SideNumber.{first_side, side_count}
+use Rattle.surf_soup.specs.Ring.{BeginsAt}
+use Rattle.surf_soup.specs.Vertices.{all_corners}
 use Rattle.surf_slit.specs.Labels.{corner_at}
 use Rattle.surf_base.specs.Tables.{nobody}
 
@@ -46,7 +48,27 @@ IsBefore mesh s t = (corner_at mesh s < corner_at mesh t) ⊎ ((corner_at mesh s
 
 -- a list of all sides, by the vertices at which they begin and at one vertex by number
 pub record AreSorted (mesh : Mesh) (order : List ℕ) : Type 0 where
-  pub few : length order ≤ side_count mesh
   pub inside : (i : ℕ) → i < length order → slice_index order i < side_count mesh
   pub has : (s : ℕ) → s < side_count mesh → (i : ℕ) × (i < length order) × (slice_index order i ≡ s)
   pub rises : (i j : ℕ) → i < j → j < length order → IsBefore mesh (slice_index order i) (slice_index order j)
+
+-- the same of the sides that begin at the first n vertices
+pub record AreSortedTo (mesh : Mesh) (n : ℕ) (order : List ℕ) : Type 0 where
+  pub inside : (i : ℕ) → i < length order → slice_index order i < side_count mesh
+  pub below : (i : ℕ) → i < length order → corner_at mesh (slice_index order i) < n
+  pub has : (s : ℕ) → s < side_count mesh → corner_at mesh s < n →
+      (i : ℕ) × (i < length order) × (slice_index order i ≡ s)
+  pub rises : (i j : ℕ) → i < j → j < length order → IsBefore mesh (slice_index order i) (slice_index order j)
+
+-- the sides that begin at a vertex, by number
+pub record IsRowAt (mesh : Mesh) (v : ℕ) (row : List ℕ) : Type 0 where
+  pub begin : (k : ℕ) → k < length row → BeginsAt mesh v (slice_index row k)
+  pub all : (s : ℕ) → BeginsAt mesh v s → (k : ℕ) × (k < length row) × (slice_index row k ≡ s)
+  pub rises : (i k : ℕ) → i < k → k < length row → slice_index row i < slice_index row k
+
+-- The labels of the sides that begin at the first n vertices are numbered in the order of the vertices and at one
+-- vertex of the sides, and each number has the vertex of its label.
+abbrev pub AreNumberedTo : Mesh → ℕ → List ℕ → List ℕ → List ℕ → Type 0
+AreNumberedTo mesh n labels numbers origins =
+    (order : List ℕ) × AreSortedTo mesh n order
+    × AreCounted order labels (all_corners mesh) (length order) numbers origins

@@ -1,4 +1,5 @@
 pub mod Boundary
 pub mod Copies
 pub mod Opened
+pub mod Rims
 pub mod Trimming

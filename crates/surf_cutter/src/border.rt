@@ -1,6 +1,6 @@
 //! The border of an opened surface, in one round.
-ghost use Rattle.std.specs.Prelude.{◌≡◌, ◌≢◌, ◌<◌, ◌+◌, ◌^◌, ◌⊎◌, ℕ, List, length, IfOk, OnOk, MatchOption};
-ghost use Rattle.std.specs.Prelude.{slice_index};
+ghost use Rattle.std.specs.Prelude.{◌≡◌, ◌≢◌, ◌<◌, ◌^◌, ◌⊎◌, ℕ, List, length, IfOk, slice_index};
+ghost use Rattle.std.specs.Prelude.{slice_index_or, slice_set};
 ghost use Rattle.std.specs.List.{sum_by};
 ghost use Rattle.surf_surfaces.specs.Disc.{IsDisc};
 ghost use Rattle.surf_surfaces.specs.Side.{after};
@@ -8,13 +8,17 @@ ghost use Rattle.surf_surfaces.specs.Surface.{edge_count};
 ghost use Rattle.surf_opening.specs.Opening.{IsOpenedBy};
 ghost use Rattle.surf_surfaces.specs.SideNumber.{side_count};
 ghost use Rattle.surf_slit.specs.Labels.{IsUncut};
-ghost use Rattle.surf_cutter.specs.Boundary.{over, HasPairedBorder, IsLeastBorderSide, AreBorderSides, AreCorners};
-ghost use Rattle.surf_cutter.specs.Boundary.{AreRims, AreCutSides, OpensToDisc, IsBoundary};
+ghost use Rattle.surf_cutter.specs.Boundary.{over, corners_of, HasPairedBorder, IsLeastBorderSide};
+ghost use Rattle.surf_cutter.specs.Boundary.{AreBorderSides, AreCutSides, OpensToDisc, IsBoundary};
+ghost use Rattle.surf_cutter.specs.Rims.{HaveSameSizes, AreRims, AreRimsTo, with_side, other_of};
 
 use std::alloc::Global;
 use surf_base::{CopyId, NoMemory, SideId};
 use surf_mesh::HalfMesh;
-use surf_rows::{Rows, group_sides};
+use surf_rows::Rows;
+
+// What stands for no side.
+const NOBODY: u32 = u32::MAX;
 
 // The place after one, around a face.
 fn after_place(count: usize, k: usize) -> usize
@@ -25,76 +29,63 @@ fn after_place(count: usize, k: usize) -> usize
     if k + 1 < count { k + 1 } else { 0 }
 }
 
-// Lists where the sides of a face begin and end.
-fn list_corners(
-    corners: &[CopyId],
-    tails: &mut Vec<u32>,
-    heads: &mut Vec<u32>,
-) -> Result<(), NoMemory>
-    requires few { length corners.now < 2 ^ 32 }
-    ensures tails_size { OnOk result (length tails.new.items
-        ≡ length tails.old.items + length corners.now) }
-    ensures heads_size { OnOk result (length heads.new.items
-        ≡ length heads.old.items + length corners.now) }
-    ensures tails_kept { OnOk result ((s : ℕ) → s < length tails.old.items →
-        slice_index tails.new.items s ≡ slice_index tails.old.items s) }
-    ensures heads_kept { OnOk result ((s : ℕ) → s < length heads.old.items →
-        slice_index heads.new.items s ≡ slice_index heads.old.items s) }
-    ensures tails { OnOk result ((k : ℕ) → k < length corners.now →
-        slice_index tails.new.items (length tails.old.items + k) ≡ slice_index corners.now k) }
-    ensures heads { OnOk result ((k : ℕ) → k < length corners.now →
-        slice_index heads.new.items (length heads.old.items + k)
-        ≡ slice_index corners.now (after (length corners.now) k)) }
+// Where a side begins and where it ends. The faces have as many corners as those of the surface.
+fn side_corners(mesh: &HalfMesh, faces: &Rows<CopyId>, side: SideId) -> (u32, u32)
+    requires sizes { HaveSameSizes mesh.now faces.now }
+    requires side { side < side_count mesh.now }
+    ensures { result ≡ corners_of (over 0 faces.now) side }
 {
-    for k in 0..corners.len() {
-        let next = after_place(corners.len(), k);
-        tails.push(corners[k].number())?;
-        heads.push(corners[next].number())?;
-    }
-    Ok(())
+    mesh.law_of_surface();
+    let f = mesh.face_of(side).index();
+    let (start, _) = faces.span(f);
+    let row = faces.row(f);
+    let k = side.index() - start;
+    let next = after_place(row.len(), k);
+    (row[k].number(), row[next].number())
 }
 
-// Where each side begins and where it ends.
-fn side_corners(alloc: Global, faces: &Rows<CopyId>) -> Result<(Vec<u32>, Vec<u32>), NoMemory>
-    requires few { sum_by length faces.now < 2 ^ 32 }
-    ensures { IfOk result (λ r. AreCorners faces.now (sum_by length faces.now)
-        r.0.items r.1.items) }
+// Adds a side to the two at a copy.
+fn add_at(rims: &mut [(u32, u32)], copy: u32, side: u32)
+    requires { copy < length rims.old }
+    ensures { rims.new ≡ slice_set rims.old copy
+        (with_side (slice_index_or rims.old copy (0, 0)) side) }
 {
-    let mut tails = Vec::with_capacity(alloc, faces.total())?;
-    let mut heads = Vec::with_capacity(alloc, faces.total())?;
-    for f in 0..faces.len() {
-        list_corners(faces.row(f), &mut tails, &mut heads)?;
-    }
-    Ok((tails, heads))
+    let (first, second) = rims[copy as usize];
+    rims[copy as usize] = if first == NOBODY {
+        (side, second)
+    } else {
+        (first, side)
+    };
 }
 
-// The first side of a list that isn't the given one.
-fn first_other(row: &[SideId], side: SideId) -> Option<SideId>
-    ensures { MatchOption result ((k : ℕ) → k < length row.now → slice_index row.now k ≡ side)
-        (λ t. (t ≢ side) × ((k : ℕ) × (k < length row.now) × (slice_index row.now k ≡ t))) }
+// Adds each border side to the two at either of its copies.
+fn fill_rims(mesh: &HalfMesh, faces: &Rows<CopyId>, border: &[SideId], rims: &mut [(u32, u32)])
+    requires sizes { HaveSameSizes mesh.now faces.now }
+    requires disc { IsDisc (over (length rims.old) faces.now) }
+    requires paired { HasPairedBorder (over (length rims.old) faces.now) }
+    requires border { AreBorderSides (over (length rims.old) faces.now) border.now }
+    requires none { AreRimsTo (over (length rims.old) faces.now) border.now 0 rims.old }
+    ensures size { length rims.new ≡ length rims.old }
+    ensures rims { AreRims (over (length rims.old) faces.now) rims.new }
 {
-    for other in row {
-        if *other != side {
-            return Some(*other);
-        }
+    mesh.law_of_surface();
+    for side in border {
+        let (tail, head) = side_corners(mesh, faces, *side);
+        add_at(rims, tail, side.number());
+        add_at(rims, head, side.number());
     }
-    None
 }
 
-// The other border side at a copy, by those that begin there and those that end there.
-fn other_at(begin: &[SideId], end: &[SideId], side: SideId) -> SideId
-    requires { ((k : ℕ) × (k < length begin.now) × (slice_index begin.now k ≢ side))
-        ⊎ ((k : ℕ) × (k < length end.now) × (slice_index end.now k ≢ side)) }
-    ensures other { result ≢ side }
-    ensures found { ((k : ℕ) × (k < length begin.now) × (slice_index begin.now k ≡ result))
-        ⊎ ((k : ℕ) × (k < length end.now) × (slice_index end.now k ≡ result)) }
+// Of the two border sides at a copy the one that isn't the given one.
+fn other_at(rims: &[(u32, u32)], copy: u32, side: SideId) -> SideId
+    requires { copy < length rims.now }
+    ensures { result ≡ other_of (slice_index_or rims.now copy (0, 0)) side }
 {
-    match first_other(begin, side) {
-        Some(other) => other,
-        None => match first_other(end, side) {
-            Some(other) => other,
-            None => unreachable!(),
-        },
+    let (first, second) = rims[copy as usize];
+    if first == side.number() {
+        SideId::new(second)
+    } else {
+        SideId::new(first)
     }
 }
 
@@ -111,29 +102,28 @@ fn far_corner(tail: u32, head: u32, copy: u32) -> u32
 // Goes round the border from its least side.
 fn go_round(
     alloc: Global,
+    mesh: &HalfMesh,
     faces: &Rows<CopyId>,
-    tails: &[u32],
-    heads: &[u32],
-    begin: &Rows<SideId>,
-    end: &Rows<SideId>,
+    rims: &[(u32, u32)],
     first: SideId,
 ) -> Result<Vec<SideId>, NoMemory>
-    requires disc { IsDisc (over (length begin.now) faces.now) }
-    requires paired { HasPairedBorder (over (length begin.now) faces.now) }
-    requires corners { AreCorners faces.now (sum_by length faces.now) tails.now heads.now }
-    requires rims { AreRims (over (length begin.now) faces.now) begin.now end.now }
-    requires first { IsLeastBorderSide (over (length begin.now) faces.now) first }
-    ensures { IfOk result (λ v. IsBoundary (over (length begin.now) faces.now) v.items) }
+    requires sizes { HaveSameSizes mesh.now faces.now }
+    requires disc { IsDisc (over (length rims.now) faces.now) }
+    requires paired { HasPairedBorder (over (length rims.now) faces.now) }
+    requires rims { AreRims (over (length rims.now) faces.now) rims.now }
+    requires first { IsLeastBorderSide (over (length rims.now) faces.now) first }
+    ensures { IfOk result (λ v. IsBoundary (over (length rims.now) faces.now) v.items) }
 {
     let mut seen = vec![in alloc; false; faces.total()]?;
     let mut round = Vec::new(alloc);
     let mut side = first;
-    let mut copy = heads[first.index()];
+    let (_, mut copy) = side_corners(mesh, faces, first);
     while !seen[side.index()] {
         seen[side.index()] = true;
         round.push(side)?;
-        side = other_at(begin.row(copy as usize), end.row(copy as usize), side);
-        copy = far_corner(tails[side.index()], heads[side.index()], copy);
+        side = other_at(rims, copy, side);
+        let (tail, head) = side_corners(mesh, faces, side);
+        copy = far_corner(tail, head, copy);
     }
     Ok(round)
 }
@@ -146,25 +136,43 @@ fn least_side(border: &[SideId]) -> SideId
     border[0]
 }
 
+// The border of a disc in one round, by the list of its border sides and a table for the copies.
+fn round_by(
+    alloc: Global,
+    mesh: &HalfMesh,
+    faces: &Rows<CopyId>,
+    border: &[SideId],
+    rims: &mut [(u32, u32)],
+) -> Result<Vec<SideId>, NoMemory>
+    requires sizes { HaveSameSizes mesh.now faces.now }
+    requires disc { IsDisc (over (length rims.old) faces.now) }
+    requires paired { HasPairedBorder (over (length rims.old) faces.now) }
+    requires border { AreBorderSides (over (length rims.old) faces.now) border.now }
+    requires some { 0 < length border.now }
+    requires none { AreRimsTo (over (length rims.old) faces.now) border.now 0 rims.old }
+    ensures { IfOk result (λ v. IsBoundary (over (length rims.old) faces.now) v.items) }
+{
+    fill_rims(mesh, faces, border, rims);
+    go_round(alloc, mesh, faces, rims, least_side(border))
+}
+
 // The border of a disc in one round, by the list of its border sides.
 fn round_of(
     alloc: Global,
+    mesh: &HalfMesh,
     copies: u32,
     faces: &Rows<CopyId>,
     border: &[SideId],
 ) -> Result<Vec<SideId>, NoMemory>
+    requires sizes { HaveSameSizes mesh.now faces.now }
     requires disc { IsDisc (over copies faces.now) }
     requires paired { HasPairedBorder (over copies faces.now) }
-    requires few { sum_by length faces.now < 2 ^ 30 }
     requires border { AreBorderSides (over copies faces.now) border.now }
     requires some { 0 < length border.now }
     ensures { IfOk result (λ v. IsBoundary (over copies faces.now) v.items) }
 {
-    let (tails, heads) = side_corners(alloc, faces)?;
-    let begin = group_sides(alloc, border, &tails, copies)?;
-    let end = group_sides(alloc, border, &heads, copies)?;
-    let first = least_side(border);
-    go_round(alloc, faces, &tails, &heads, &begin, &end, first)
+    let mut rims = vec![in alloc; (NOBODY, NOBODY); copies as usize]?;
+    round_by(alloc, mesh, faces, border, &mut rims)
 }
 
 // The sides of the surface that are cut.
@@ -201,5 +209,5 @@ pub(crate) fn boundary_along(
 {
     mesh.law_of_surface();
     let border = cut_sides(alloc, mesh, cut)?;
-    round_of(alloc, copies, faces, &border)
+    round_of(alloc, mesh, copies, faces, &border)
 }

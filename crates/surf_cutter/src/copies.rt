@@ -1,101 +1,86 @@
 //! The copies of the vertices in an opening, numbered by vertex and by the least face that has
 //! them.
-ghost use Rattle.std.specs.Prelude.{◌≡◌, ◌<◌, ◌≤◌, ◌+◌, ◌^◌, ℕ, [], length, map, IfOk, OnOk, slice_index};
-ghost use Rattle.std.specs.Prelude.{slice_index_or};
-ghost use Rattle.std.specs.List.{range_with_len, sum_by, flat_map};
+ghost use Rattle.std.specs.Prelude.{◌≡◌, ◌<◌, ◌+◌, ◌^◌, ℕ, length, IfOk, OnOk, slice_index};
+ghost use Rattle.std.specs.List.{sum_by};
 ghost use Rattle.surf_surfaces.specs.Surface.{face_count, edge_count};
 ghost use Rattle.surf_opening.specs.ChosenCut.{AreInOrder};
 ghost use Rattle.surf_opening.specs.Opening.{IsOpenedBy};
 ghost use Rattle.surf_surfaces.specs.SideNumber.{side_count};
-ghost use Rattle.surf_soup.specs.Vertices.{all_corners, sides_at};
-ghost use Rattle.surf_slit.specs.Labels.{corner_at, IsUncut, AreLabels};
+ghost use Rattle.surf_slit.specs.Labels.{IsUncut, AreLabels};
 ghost use Rattle.surf_base.specs.Tables.{nobody};
-ghost use Rattle.surf_cutter.specs.Copies.{label_at, AreCounted, AreCopied, AreNumbersOf, AreSorted};
+ghost use Rattle.surf_cutter.specs.Copies.{AreCopied, AreNumbersOf, AreNumberedTo, IsRowAt};
 
 use std::alloc::Global;
 use surf_base::{CopyId, FaceId, NoMemory, SideId, VertexId};
 use surf_mesh::HalfMesh;
-use surf_rows::{Rows, group_sides};
+use surf_rows::Rows;
 use surf_slit::Slit;
 
 // What stands for no number yet.
 const NOBODY: u32 = u32::MAX;
 
-// The numbers of all sides.
-fn side_numbers(alloc: Global, count: u32) -> Result<Vec<SideId>, NoMemory>
-    ensures { IfOk result (λ v. v.items ≡ range_with_len 0 count) }
+// Lists the sides that begin at a vertex in their order, in place of what the row has.
+fn list_sides(mesh: &HalfMesh, v: VertexId, row: &mut Vec<SideId>) -> Result<(), NoMemory>
+    requires { v < mesh.now.vertices }
+    ensures { OnOk result (IsRowAt mesh.now v row.new.items) }
 {
-    let mut all = Vec::with_capacity(alloc, count as usize)?;
-    for s in 0..count {
-        all.push(SideId::new(s))?;
-    }
-    Ok(all)
-}
-
-// Adds the numbers of some vertices to a list.
-fn list_corners(corners: &[VertexId], tails: &mut Vec<u32>) -> Result<(), NoMemory>
-    ensures size { OnOk result (length tails.new.items
-        ≡ length tails.old.items + length corners.now) }
-    ensures kept { OnOk result ((s : ℕ) → s < length tails.old.items →
-        slice_index tails.new.items s ≡ slice_index tails.old.items s) }
-    ensures here { OnOk result ((k : ℕ) → k < length corners.now →
-        slice_index tails.new.items (length tails.old.items + k) ≡ slice_index corners.now k) }
-{
-    for corner in corners {
-        tails.push(corner.number())?;
-    }
+    row.clear();
+    row.extend_from_slice(mesh.ring(v))?;
+    row.sort_unstable();
     Ok(())
 }
 
-// The vertex at which each side begins.
-fn corner_vertices(alloc: Global, mesh: &HalfMesh) -> Result<Vec<u32>, NoMemory>
-    ensures { IfOk result (λ v. v.items ≡ all_corners mesh.now) }
-{
-    mesh.law_of_surface();
-    let mut tails = Vec::with_capacity(alloc, mesh.side_count() as usize)?;
-    for f in 0..mesh.faces() {
-        list_corners(mesh.face(FaceId::new(f)), &mut tails)?;
-    }
-    Ok(tails)
-}
-
-// All sides, by the vertices at which they begin and at one vertex by number.
-fn sides_by_vertex(alloc: Global, mesh: &HalfMesh, tails: &[u32]) -> Result<Rows<SideId>, NoMemory>
-    requires { tails.now ≡ all_corners mesh.now }
-    ensures { IfOk result (λ rows. AreSorted mesh.now (flat_map (λ row. row) rows)) }
-{
-    mesh.law_of_surface();
-    let numbers = side_numbers(alloc, mesh.side_count())?;
-    Ok(group_sides(alloc, &numbers, tails, mesh.vertices())?)
-}
-
-// Numbers the labels in the order in which the listed sides have them, and lists their vertices.
-fn number_copies(
-    order: &[SideId],
+// Numbers the labels at the next vertex in the order of the sides that have them, and lists the
+// vertex once for each.
+fn number_row(
+    row: &[SideId],
+    v: VertexId,
     slit: &Slit,
-    tails: &[u32],
     numbers: &mut [u32],
     origins: &mut Vec<VertexId>,
 ) -> Result<(), NoMemory>
-    requires few { length order.now < 2 ^ 30 }
-    requires sides { (i : ℕ) → i < length order.now →
-        slice_index order.now i < side_count slit.now.mesh }
-    requires tails { length tails.now ≡ side_count slit.now.mesh }
-    requires labels { (i : ℕ) → i < length order.now →
-        label_at order.now slit.now.labels i < length numbers.old }
-    requires unset { (l : ℕ) → l < length numbers.old → slice_index numbers.old l ≡ nobody }
-    requires empty { origins.old.items ≡ [] }
-    ensures { OnOk result (AreCounted order.now slit.now.labels tails.now (length order.now)
-        numbers.new origins.new.items) }
+    requires few { side_count slit.now.mesh < 2 ^ 30 }
+    requires row { IsRowAt slit.now.mesh v row.now }
+    requires labels { (s : ℕ) → s < side_count slit.now.mesh →
+        slice_index slit.now.labels s < length numbers.old }
+    requires so_far { AreNumberedTo slit.now.mesh v slit.now.labels numbers.old origins.old.items }
+    ensures size { length numbers.new ≡ length numbers.old }
+    ensures numbered { OnOk result (AreNumberedTo slit.now.mesh (v + 1) slit.now.labels numbers.new
+        origins.new.items) }
 {
-    for side in order {
+    for side in row {
         let label = slit.label(*side) as usize;
         if numbers[label] == NOBODY {
             numbers[label] = origins.len() as u32;
-            origins.push(VertexId::new(tails[side.index()]))?;
+            origins.push(v)?;
         }
     }
     Ok(())
+}
+
+// Numbers all labels by vertex and by the least side that has them, and lists their vertices.
+fn number_copies(
+    alloc: Global,
+    mesh: &HalfMesh,
+    slit: &Slit,
+    numbers: &mut [u32],
+) -> Result<Vec<VertexId>, NoMemory>
+    requires mesh { slit.now.mesh ≡ mesh.now }
+    requires labels { (s : ℕ) → s < side_count mesh.now →
+        slice_index slit.now.labels s < length numbers.old }
+    requires unset { (l : ℕ) → l < length numbers.old → slice_index numbers.old l ≡ nobody }
+    ensures size { length numbers.new ≡ length numbers.old }
+    ensures numbered { IfOk result (λ origins. AreNumberedTo mesh.now mesh.now.vertices
+        slit.now.labels numbers.new origins.items) }
+{
+    mesh.law_of_surface();
+    let mut origins = Vec::new(alloc);
+    let mut row = Vec::new(alloc);
+    for v in 0..mesh.vertices() {
+        list_sides(mesh, VertexId::new(v), &mut row)?;
+        number_row(&row, VertexId::new(v), slit, numbers, &mut origins)?;
+    }
+    Ok(origins)
 }
 
 // The copies at some sides.
@@ -134,7 +119,7 @@ fn copy_faces(
     ensures corners { IfOk result (λ rows. sum_by length rows ≡ side_count mesh.now) }
 {
     let count = mesh.faces();
-    let mut rows = Rows::new(alloc);
+    let mut rows = Rows::with_room(alloc, count as usize, mesh.side_count() as usize)?;
     let mut row = Vec::new(alloc);
     for f in 0..count {
         list_copies(mesh.sides(FaceId::new(f)), slit, numbers, &mut row)?;
@@ -161,10 +146,7 @@ fn open_by(
     ensures corners { IfOk result (λ r. sum_by length r.1 ≡ side_count mesh.now) }
 {
     mesh.law_of_surface();
-    let mut origins = Vec::new(alloc);
-    let tails = corner_vertices(alloc, mesh)?;
-    let order = sides_by_vertex(alloc, mesh, &tails)?;
-    number_copies(order.items(), slit, &tails, numbers, &mut origins)?;
+    let origins = number_copies(alloc, mesh, slit, numbers)?;
     let faces = copy_faces(alloc, mesh, slit, numbers)?;
     Ok((origins, faces))
 }

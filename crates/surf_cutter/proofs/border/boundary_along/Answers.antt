@@ -4,7 +4,11 @@ use Rattle.surf_cutter.specs.Boundary.{over, HasPairedBorder, AreBorderSides}
 use Rattle.surf_surfaces.specs.SideNumber.{side_count}
 use Rattle.surf_cutter.proofs.BorderTables.{border_some}
 use Rattle.surf_cutter.proofs.PairedBorders.{opens_to_disc, has_paired, are_border_sides}
+use Rattle.surf_cutter.proofs.Rims.{same_sizes}
 use Rattle.surf_cutter.proofs.border.boundary_along.Goals as goal
+
+pub round_of-requires-clause-sizes : goal.round_of-requires-clause-sizes
+round_of-requires-clause-sizes c = same_sizes c.requires.opened.2
 
 pub round_of-requires-clause-disc : goal.round_of-requires-clause-disc
 round_of-requires-clause-disc c =

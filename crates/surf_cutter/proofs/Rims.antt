@@ -1,0 +1,224 @@
+-- The border sides at the copies, and the corners of a side by its face.
+use Rattle.std.proofs.Common.{◌≡◌, ◌≢◌, ℕ, zero, suc, ◌+◌, ◌-◌, ◌<◌, ◌≤◌, inl, inr, sym, refl, subst, ap, ◌∙◌, cond, List, [], length, get_or, take, replicate, eqb, arith, eqb-true}
+use Rattle.std.specs.List.{sum_by}
+use Rattle.std.proofs.Math.ListN.{set}
+use Rattle.std.proofs.Math.Seq.{take-length}
+use Rattle.std.proofs.lemmas.Bool.{cases_Bool, cases_eq, eqb-false}
+use Rattle.std.proofs.lemmas.List.{length-set, length-map, length-replicate, get_or-replicate, get_or-set_same, get_or-set_other}
+use Rattle.surf_surfaces.specs.Mesh.{Mesh, IsMesh}
+use Rattle.surf_surfaces.specs.Side.{after}
+use Rattle.surf_surfaces.specs.Surface.{face_count}
+use Rattle.surf_surfaces.specs.SideNumber.{side_count, first_side, IsFaceOf}
+use Rattle.surf_opening.specs.Opening.{IsOpenedBy}
+use Rattle.surf_soup.proofs.HalfLaws.{spans}
+use Rattle.surf_base.specs.Tables.{nobody}
+use Rattle.surf_cutter.specs.Boundary.{over, corners_of, HasCopy, IsBorderSide, AreBorderSides, HasPairedBorder}
+use Rattle.surf_cutter.specs.Rims.{HaveSameSizes, AreRims, AreRimsTo, IsRimTo, IsListedAt, IsOneOf, with_side, other_of}
+use Rattle.surf_cutter.proofs.BorderSides.{corners_at_place}
+use Rattle.surf_cutter.proofs.BorderTables.{copy_in}
+
+-- the faces of an opening have the sizes of those of the surface
+pub same_sizes : {mesh : Mesh} {Uncut : ℕ → ℕ → Type 0} {origins : List ℕ} {faces : List (List ℕ)} → IsOpenedBy mesh Uncut origins faces → HaveSameSizes mesh faces
+same_sizes {mesh} {Uncut} {origins} {faces} by = record {
+  count = by.same_faces;
+  sizes = λ f h. sym (length-map (get_or faces f []) (λ copy. get_or origins copy 0)) ∙ ap length (by.same_corners f h);
+}
+
+-- so the first sides of the faces are the same
+pub same_first : (mesh : Mesh) (faces : List (List ℕ)) → HaveSameSizes mesh faces → (f : ℕ) → f ≤ face_count mesh → sum_by length (take f faces) ≡ first_side mesh f
+same_first mesh faces same zero h = refl
+same_first mesh faces same (suc f) h =
+    let count = same.count in
+    let size = same.sizes f (omega arith) in
+    let a = spans faces f (omega arith) in
+    let b = spans mesh.faces f (omega arith) in
+    let before = same_first mesh faces same f (omega arith) in
+    let z : f + 1 ≡ suc f = omega arith in
+    subst (λ f. sum_by length (take f faces) ≡ first_side mesh f) z (omega (arith, a.0, b.0))
+
+pub same_total : (mesh : Mesh) (faces : List (List ℕ)) → HaveSameSizes mesh faces → sum_by length faces ≡ side_count mesh
+same_total mesh faces same =
+    let n = face_count mesh in
+    sym (ap (λ n. sum_by length (take n faces)) (sym same.count) ∙ ap (sum_by length) (take-length faces)) ∙ same_first mesh faces same (face_count mesh) (omega arith) ∙ ap (sum_by length) (take-length mesh.faces)
+
+-- the corners of a side by its place in its face
+pub corners_by_face : (mesh : Mesh) (faces : List (List ℕ)) → HaveSameSizes mesh faces → (s f k : ℕ) (row : List ℕ) → IsFaceOf mesh s f → row ≡ get_or faces f [] → s ≡ sum_by length (take f faces) + k →
+    (k < length row) × ((get_or row k 0, get_or row (after (length row) k) 0) ≡ corners_of (over 0 faces) s)
+corners_by_face mesh faces same s f k row of own is =
+    let count = same.count in
+    let size = same.sizes f of.is_face in
+    let first = same_first mesh faces same f (let h = of.is_face in omega arith) in
+    let long = ap length own in
+    let lt : k < length (get_or faces f []) = omega (arith, of.from, of.upto) in
+    let in' : f < length faces = let h = of.is_face in omega arith in (
+      omega arith,
+      ap (λ (row : List ℕ). (get_or row k 0, get_or row (after (length row) k) 0)) own ∙ sym (corners_at_place (over 0 faces) f k in' lt) ∙ ap (corners_of (over 0 faces)) (sym is),
+    )
+
+-- the same where the place comes from the number of the face's first side
+pub corners_from : (mesh : Mesh) (faces : List (List ℕ)) → HaveSameSizes mesh faces → (s f start t : ℕ) (row : List ℕ) → IsFaceOf mesh s f → start ≡ sum_by length (take f faces) → row ≡ get_or faces f [] → t ≡ s →
+    (start ≤ t) × (t - start < length row) × ((get_or row (t - start) 0, get_or row (after (length row) (t - start)) 0) ≡ corners_of (over 0 faces) s)
+corners_from mesh faces same s f start t row of start_is own t_is =
+    let first = same_first mesh faces same f (let h = of.is_face in omega arith) in
+    let le : start ≤ t = omega (arith, of.from) in
+    let is : s ≡ sum_by length (take f faces) + (t - start) = omega arith in
+    let r = corners_by_face mesh faces same s f (t - start) row of own is in
+    (le, r.0, r.1)
+
+-- at first there are no sides
+pub rims_none : (mesh : Mesh) (border : List ℕ) (n : ℕ) → n ≡ mesh.vertices → AreRimsTo mesh border 0 (replicate n (nobody, nobody))
+rims_none mesh border n e = record {
+  size = length-replicate n (nobody, nobody) ∙ e;
+  at = λ c h.
+      let is : get_or (replicate n (nobody, nobody)) c (0, 0) ≡ (nobody, nobody) = get_or-replicate n c (nobody, nobody) (0, 0) (omega arith) in
+      subst (IsRimTo mesh border 0 c) (sym is) (record {
+        all = λ k h. absurd (omega arith);
+        first = λ ne. absurd (ne refl);
+        second = λ ne. absurd (ne refl);
+        in_turn = λ ne. absurd (ne refl);
+      });
+}
+
+module _ (mesh : Mesh) (border : List ℕ) (paired : HasPairedBorder mesh) (are : AreBorderSides mesh border) (few : side_count mesh < nobody) (n : ℕ) (lt : n < length border) where
+  side : ℕ
+  side = get_or border n 0
+
+  is_known : (k : ℕ) → k < length border → get_or border k 0 ≢ nobody
+  is_known k h e = let b = (are.border k h).0 in absurd (omega arith)
+
+  more : (c s : ℕ) → IsListedAt mesh border n c s → IsListedAt mesh border (n + 1) c s
+  more c s at = let k = at.1 in (at.0, omega arith, at.2, at.3)
+
+  -- one listed before is another one
+  differs : (c s : ℕ) → IsListedAt mesh border n c s → s ≢ get_or border n 0
+  differs c s at e = let r = are.rises at.0 n at.1 lt in let i = at.2 in absurd (omega arith)
+
+  listed : (c s : ℕ) → IsListedAt mesh border n c s → IsBorderSide mesh s
+  listed c s at = let k = at.1 in subst (IsBorderSide mesh) at.2 (are.border at.0 (omega arith))
+
+  rim_kept : (c : ℕ) (rim : ℕ × ℕ) → IsRimTo mesh border n c rim → (HasCopy mesh (get_or border n 0) c → ⊥) → IsRimTo mesh border (n + 1) c rim
+  rim_kept c rim is off = record {
+    all = λ k h has. elim (cases_eq k n) [
+      | inl e ↦ absurd (off (subst (λ k. HasCopy mesh (get_or border k 0) c) e has))
+      | inr ne ↦ is.all k (omega arith) has
+    ];
+    first = λ ne. more c rim.0 (is.first ne);
+    second = λ ne. more c rim.1 (is.second ne);
+    in_turn = is.in_turn;
+  }
+
+  rim_first : (c : ℕ) (rim : ℕ × ℕ) → IsRimTo mesh border n c rim → HasCopy mesh (get_or border n 0) c → rim.0 ≡ nobody → IsRimTo mesh border (n + 1) c (get_or border n 0, rim.1)
+  rim_first c rim is has none =
+      let no_second : rim.1 ≢ nobody → ⊥ = λ ne. (is.in_turn ne).0 none in
+      record {
+        all = λ k h at. elim (cases_eq k n) [
+          | inl e ↦ inl (ap (λ k. get_or border k 0) (sym e))
+          | inr ne ↦ elim (is.all k (omega arith) at) [
+            | inl e ↦ absurd (is_known k (omega arith) (sym e ∙ none))
+            | inr e ↦ inr e
+          ]
+        ];
+        first = λ ne. (n, omega arith, refl, has);
+        second = λ ne. absurd (no_second ne);
+        in_turn = λ ne. absurd (no_second ne);
+      }
+
+  rim_second : (c : ℕ) (rim : ℕ × ℕ) → IsRimTo mesh border n c rim → HasCopy mesh (get_or border n 0) c → rim.0 ≢ nobody → IsRimTo mesh border (n + 1) c (rim.0, get_or border n 0)
+  rim_second c rim is has some =
+      let s = get_or border n 0 in
+      let first = is.first some in
+      let b : IsBorderSide mesh s = are.border n lt in
+      let no_second : rim.1 ≢ nobody → ⊥ = λ ne.
+      let second = is.second ne in
+      elim (paired.no_third rim.0 rim.1 s c (listed c rim.0 first) (listed c rim.1 second) b first.3 second.3 has) [
+        | inl e ↦ (is.in_turn ne).1 e
+        | inr o ↦ elim o [ inl e ↦ differs c rim.0 first e | inr e ↦ differs c rim.1 second e ]
+      ] in
+      record {
+        all = λ k h at. elim (cases_eq k n) [
+          | inl e ↦ inr (ap (λ k. get_or border k 0) (sym e))
+          | inr ne ↦ elim (is.all k (omega arith) at) [
+            | inl e ↦ inl e
+            | inr e ↦ absurd (no_second (λ z. is_known k (omega arith) (sym e ∙ z)))
+          ]
+        ];
+        first = λ ne. more c rim.0 first;
+        second = λ ne. (n, omega arith, refl, has);
+        in_turn = λ ne. (some, differs c rim.0 first);
+      }
+
+  rim_more : (c : ℕ) (rim : ℕ × ℕ) → IsRimTo mesh border n c rim → HasCopy mesh (get_or border n 0) c → IsRimTo mesh border (n + 1) c (with_side rim (get_or border n 0))
+  rim_more c rim is has = elim (cases_Bool (eqb rim.0 nobody)) [
+    | inl none ↦ subst (λ b. IsRimTo mesh border (n + 1) c (cond b (get_or border n 0, rim.1) (rim.0, get_or border n 0))) (sym none) (rim_first c rim is has (eqb-true rim.0 nobody none))
+    | inr some ↦ subst (λ b. IsRimTo mesh border (n + 1) c (cond b (get_or border n 0, rim.1) (rim.0, get_or border n 0))) (sym some) (rim_second c rim is has (eqb-false rim.0 nobody some))
+  ]
+
+  -- a side is added at both of its copies
+  pub rims_more : (rims : List (ℕ × ℕ)) (tail head : ℕ) → AreRimsTo mesh border n rims → (tail, head) ≡ corners_of mesh (get_or border n 0) → tail < mesh.vertices → head < mesh.vertices →
+      (middle new : List (ℕ × ℕ)) → middle ≡ set rims tail (with_side (get_or rims tail (0, 0)) (get_or border n 0)) → new ≡ set middle head (with_side (get_or middle head (0, 0)) (get_or border n 0)) →
+      AreRimsTo mesh border (n + 1) new
+  rims_more rims tail head rims_are corners tail_in head_in middle new middle_is new_is =
+      let s = get_or border n 0 in
+      let tail_is : tail ≡ (corners_of mesh s).0 = ap (λ (p : ℕ × ℕ). p.0) corners in
+      let head_is : head ≡ (corners_of mesh s).1 = ap (λ (p : ℕ × ℕ). p.1) corners in
+      let apart : tail ≢ head = λ e. paired.apart s (are.border n lt) (sym tail_is ∙ e ∙ head_is) in
+      let size = rims_are.size in
+      let add : ℕ → ℕ × ℕ = λ c. with_side (get_or rims c (0, 0)) s in
+      let size_middle : length middle ≡ length rims = ap length middle_is ∙ length-set rims tail (add tail) in
+      let at_head : get_or middle head (0, 0) ≡ get_or rims head (0, 0) = ap (λ (xs : List (ℕ × ℕ)). get_or xs head (0, 0)) middle_is ∙ get_or-set_other rims tail head (add tail) (0, 0) (λ e. apart (sym e)) in
+      let is_new : new ≡ set middle head (add head) = new_is ∙ ap (λ (r : ℕ × ℕ). set middle head (with_side r s)) at_head in
+      record {
+        size = ap length is_new ∙ length-set middle head (add head) ∙ size_middle ∙ size;
+        at = λ c h. elim (cases_eq c head) [
+          | inl e ↦
+              let is : get_or new head (0, 0) ≡ add head = ap (λ (xs : List (ℕ × ℕ)). get_or xs head (0, 0)) is_new ∙ get_or-set_same middle head (add head) (0, 0) (omega arith) in
+              subst (λ c. IsRimTo mesh border (n + 1) c (get_or new c (0, 0))) (sym e) (subst (IsRimTo mesh border (n + 1) head) (sym is) (rim_more head (get_or rims head (0, 0)) (rims_are.at head head_in) (inr head_is)))
+          | inr ne ↦
+              let is : get_or new c (0, 0) ≡ get_or middle c (0, 0) = ap (λ (xs : List (ℕ × ℕ)). get_or xs c (0, 0)) is_new ∙ get_or-set_other middle head c (add head) (0, 0) ne in
+              subst (IsRimTo mesh border (n + 1) c) (sym is) (elim (cases_eq c tail) [
+                | inl e ↦
+                    let was : get_or middle tail (0, 0) ≡ add tail = ap (λ (xs : List (ℕ × ℕ)). get_or xs tail (0, 0)) middle_is ∙ get_or-set_same rims tail (add tail) (0, 0) (omega arith) in
+                    subst (λ c. IsRimTo mesh border (n + 1) c (get_or middle c (0, 0))) (sym e) (subst (IsRimTo mesh border (n + 1) tail) (sym was) (rim_more tail (get_or rims tail (0, 0)) (rims_are.at tail tail_in) (inl tail_is)))
+                | inr off ↦
+                    let was : get_or middle c (0, 0) ≡ get_or rims c (0, 0) = ap (λ (xs : List (ℕ × ℕ)). get_or xs c (0, 0)) middle_is ∙ get_or-set_other rims tail c (add tail) (0, 0) off in
+                    subst (IsRimTo mesh border (n + 1) c) (sym was) (rim_kept c (get_or rims c (0, 0)) (rims_are.at c h) (λ has. elim has [
+                      | inl x ↦ off (x ∙ sym tail_is)
+                      | inr x ↦ ne (x ∙ sym head_is)
+                    ]))
+              ])
+        ];
+      }
+
+-- all border sides are added
+pub rims_done : (mesh : Mesh) (border : List ℕ) → IsMesh mesh → AreBorderSides mesh border → (n : ℕ) → n ≡ length border → (rims : List (ℕ × ℕ)) → AreRimsTo mesh border n rims → AreRims mesh rims
+rims_done mesh border is_mesh are n e rims to = record {
+  size = to.size;
+  all = λ s c b has.
+      let k = are.all s b in
+      let lt = k.1 in
+      subst (IsOneOf (get_or rims c (0, 0))) k.2 ((to.at c (copy_in mesh is_mesh s c b.0 has)).all k.0 (omega arith) (subst (λ s. HasCopy mesh s c) (sym k.2) has));
+}
+
+-- the other border side at a copy
+pub other_is : (mesh : Mesh) (rims : List (ℕ × ℕ)) → HasPairedBorder mesh → AreRims mesh rims → (s c : ℕ) → IsBorderSide mesh s → HasCopy mesh s c → (t : ℕ) → t ≡ other_of (get_or rims c (0, 0)) s →
+    IsBorderSide mesh t × HasCopy mesh t c × (t ≢ s)
+other_is mesh rims paired are s c b has t t_is =
+    let rim = get_or rims c (0, 0) in
+    let u = paired.another s c b has in
+    let at_u = are.all u.0 c u.1 u.2 in
+    let at_s = are.all s c b has in
+    let same : other_of rim s ≡ u.0 = elim (cases_Bool (eqb rim.0 s)) [
+      | inl e ↦ ap (λ b. cond b rim.1 rim.0) e ∙ elim at_u [
+        | inl x ↦ absurd (u.3 (sym x ∙ eqb-true rim.0 s e))
+        | inr x ↦ x
+      ]
+      | inr ne ↦ ap (λ b. cond b rim.1 rim.0) ne ∙ elim at_u [
+        | inl x ↦ x
+        | inr x ↦ elim at_s [
+          | inl y ↦ absurd (eqb-false rim.0 s ne y)
+          | inr y ↦ absurd (u.3 (sym x ∙ y))
+        ]
+      ]
+    ] in
+    let own : u.0 ≡ t = sym (t_is ∙ same) in
+    (subst (IsBorderSide mesh) own u.1, subst (λ t. HasCopy mesh t c) own u.2, λ e. u.3 (own ∙ e))

@@ -1,0 +1,44 @@
+-- The border sides at the copies of an opened surface.
+use Rattle.std.specs.Prelude.{◌≡◌, ◌≢◌, ℕ, ◌<◌, ◌==◌, ◌⊎◌, cond, List, [], length, slice_index, slice_index_or}
+use Rattle.surf_surfaces.specs.Mesh.{Mesh}
+use Rattle.surf_surfaces.specs.Surface.{face_count, face_at}
+use Rattle.surf_base.specs.Tables.{nobody}
+use Rattle.surf_cutter.specs.Boundary.{HasCopy, IsBorderSide}
+
+-- faces with as many corners as those of a surface
+pub record HaveSameSizes (mesh : Mesh) (faces : List (List ℕ)) : Type 0 where
+  pub count : length faces ≡ face_count mesh
+  pub sizes : (f : ℕ) → f < face_count mesh → length (slice_index_or faces f []) ≡ length (face_at mesh f)
+
+-- two sides, the first of which may still be missing, with one side more
+abbrev pub with_side : ℕ × ℕ → ℕ → ℕ × ℕ
+with_side rim s = cond (rim.0 == nobody) (s, rim.1) (rim.0, s)
+
+-- of two sides the one that isn't the given one
+abbrev pub other_of : ℕ × ℕ → ℕ → ℕ
+other_of rim s = cond (rim.0 == s) rim.1 rim.0
+
+-- a side is one of two
+abbrev pub IsOneOf : ℕ × ℕ → ℕ → Type 0
+IsOneOf rim s = (rim.0 ≡ s) ⊎ (rim.1 ≡ s)
+
+-- two sides for each copy, among which are the border sides that have it
+pub record AreRims (mesh : Mesh) (rims : List (ℕ × ℕ)) : Type 0 where
+  pub size : length rims ≡ mesh.vertices
+  pub all : (s c : ℕ) → IsBorderSide mesh s → HasCopy mesh s c → IsOneOf (slice_index_or rims c (0, 0)) s
+
+-- a side is one of the first n of a list and has a copy
+abbrev pub IsListedAt : Mesh → List ℕ → ℕ → ℕ → ℕ → Type 0
+IsListedAt mesh border n c s = (k : ℕ) × (k < n) × (slice_index border k ≡ s) × HasCopy mesh s c
+
+-- two sides at a copy, either of which may still be missing, among which are those of the first n of a list
+pub record IsRimTo (mesh : Mesh) (border : List ℕ) (n c : ℕ) (rim : ℕ × ℕ) : Type 0 where
+  pub all : (k : ℕ) → k < n → HasCopy mesh (slice_index border k) c → IsOneOf rim (slice_index border k)
+  pub first : rim.0 ≢ nobody → IsListedAt mesh border n c rim.0
+  pub second : rim.1 ≢ nobody → IsListedAt mesh border n c rim.1
+  pub in_turn : rim.1 ≢ nobody → (rim.0 ≢ nobody) × (rim.0 ≢ rim.1)
+
+-- the same for each copy
+pub record AreRimsTo (mesh : Mesh) (border : List ℕ) (n : ℕ) (rims : List (ℕ × ℕ)) : Type 0 where
+  pub size : length rims ≡ mesh.vertices
+  pub at : (c : ℕ) → c < mesh.vertices → IsRimTo mesh border n c (slice_index_or rims c (0, 0))
