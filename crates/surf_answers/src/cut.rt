@@ -58,7 +58,8 @@ fn opened_at(
     mesh.law_of_surface();
     let mut desk = LoopDesk::make(alloc, mesh)?;
     desk.greedy(mesh, lengths, base);
-    opened_outside(alloc, mesh, desk.cotree(), kind)
+    let cotree = desk.into_cotree();
+    opened_outside(alloc, mesh, &cotree, kind)
 }
 
 // The surface opened along the edges that a tree of its faces doesn't hold, all of them or trimmed.

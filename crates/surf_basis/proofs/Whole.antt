@@ -53,18 +53,13 @@ desk_signed mesh lengths base t new before after left width g old is_left wide r
       signatures = signed tree split;
     })
 
--- the edges that are left, as a view shows them, are as many
-pub left_count : (mesh : Mesh) (t view : CotreeTables) (left : List ℕ) → IsFullCount mesh (length t.left) → view ≡ t → left ≡ view.left →
-    IsFullCount mesh (length left)
-left_count mesh t view left full same is =
-    subst (λ (xs : List ℕ). IsFullCount mesh (length xs)) (sym (is ∙ ap (λ (c : CotreeTables). c.left) same)) full
+-- the edges that are left, as they are lent, are as many
+pub left_count : (mesh : Mesh) (t : CotreeTables) (left : List ℕ) → IsFullCount mesh (length t.left) → left ≡ t.left → IsFullCount mesh (length left)
+left_count mesh t left full is = subst (λ (xs : List ℕ). IsFullCount mesh (length xs)) (sym is) full
 
--- the signatures, as a view shows them, are so
-pub still_signed : (mesh : Mesh) (t view later : CotreeTables) (left : List ℕ) → AreSigned mesh t (length t.left) → view ≡ t → left ≡ view.left →
-    later ≡ t → AreSigned mesh later (length left)
-still_signed mesh t view later left signed same is last =
-    subst (λ (c : CotreeTables). AreSigned mesh c (length left)) (sym last)
-    (subst (λ (xs : List ℕ). AreSigned mesh t (length xs)) (sym (is ∙ ap (λ (c : CotreeTables). c.left) same)) signed)
+-- the signatures have room for as many
+pub still_signed : (mesh : Mesh) (t : CotreeTables) (left : List ℕ) → AreSigned mesh t (length t.left) → left ≡ t.left → AreSigned mesh t (length left)
+still_signed mesh t left signed is = subst (λ (xs : List ℕ). AreSigned mesh t (length xs)) (sym is) signed
 
 module _ (mesh : Mesh) (lengths : List ℕ) (surface : IsSurface mesh) (positive : ArePositive mesh lengths) where
   pub least_of : (basis : List Loop) → IsTheBasis mesh lengths basis → LeastSimpleBasis mesh lengths basis

@@ -15,7 +15,7 @@ use crate::candidate::{Candidate, Signed};
 use crate::choosing::Choice;
 use crate::cycle::Cycle;
 use crate::searching::sufficient_bases;
-use crate::signing::{loop_signature, signed_desk};
+use crate::signing::{loop_signature, signed_cotree};
 use crate::surface::Surface;
 use crate::walking::cycles_of;
 use std::alloc::Global;
@@ -25,21 +25,21 @@ use surf_lengths::Lengths;
 use surf_loops::LoopDesk;
 use surf_mesh::HalfMesh;
 
-// The loops of a desk as candidates, with their signatures.
+// Lists the loops of a desk as candidates, with their signatures.
 fn signed_loops(
-    alloc: Global,
     mesh: &HalfMesh,
     signatures: &CotreeDesk,
     desk: &LoopDesk,
-) -> Result<Vec<Signed>, NoMemory>
+    loops: &mut Vec<Signed>,
+) -> Result<(), NoMemory>
     requires climbed { IsClimbed mesh.now desk.now.tree }
     requires edges { All (λ h. h.edge < edge_count mesh.now) desk.now.heads }
     requires table { length signatures.now.signatures ≡ edge_count mesh.now }
-    ensures loops { IfOk result (λ loops. (d : Split) → AreSignatures mesh.now d signatures.now →
-        loops.items ≡ signed_heads mesh.now d desk.now.tree desk.now.heads) }
+    ensures loops { OnOk result ((d : Split) → AreSignatures mesh.now d signatures.now →
+        loops.new.items ≡ signed_heads mesh.now d desk.now.tree desk.now.heads) }
 {
     let base = desk.tree().base();
-    let mut loops = Vec::with_capacity(alloc, desk.heads().len())?;
+    loops.clear();
     for head in desk.heads() {
         let candidate = Candidate {
             length: head.length,
@@ -53,10 +53,11 @@ fn signed_loops(
             signature,
         })?;
     }
-    Ok(loops)
+    Ok(())
 }
 
-// Makes the choice from the loops at some bases.
+// Makes the choice from the loops at some bases. There are as many at each, so that only the first
+// base takes memory.
 fn choose(
     alloc: Global,
     surface: &Surface<'_>,
@@ -75,9 +76,10 @@ fn choose(
 {
     surface.mesh.law_of_surface();
     surface.lengths.law_of_lengths();
+    let mut loops = Vec::new(alloc);
     for base in bases {
         desk.greedy(surface.mesh, surface.lengths, *base);
-        let loops = signed_loops(alloc, surface.mesh, surface.signatures, desk)?;
+        signed_loops(surface.mesh, surface.signatures, desk, &mut loops)?;
         choice.keep(&loops)?;
     }
     Ok(())
@@ -129,15 +131,15 @@ pub fn least_basis(
 {
     mesh.law_of_surface();
     lengths.law_of_lengths();
-    let signed = signed_desk(alloc, mesh, lengths)?;
-    let count = signed.cotree().left().len();
+    let signed = signed_cotree(alloc, mesh, lengths)?;
+    let count = signed.left().len();
     if count == 0 {
         return Ok(Vec::new(alloc));
     }
     let surface = Surface {
         mesh,
         lengths,
-        signatures: signed.cotree(),
+        signatures: &signed,
     };
     basis_over(alloc, &surface, count)
 }

@@ -6,14 +6,14 @@ ghost use Rattle.surf_surfaces.specs.Homology.{IsFullCount};
 ghost use Rattle.surf_surfaces.specs.Choice.{Trees, AreChosen, candidates, loops_at};
 ghost use Rattle.surf_loops.specs.Loops.{AreLoopTables};
 ghost use Rattle.surf_basis.specs.Candidates.{first_head, loop_in};
-ghost use Rattle.surf_basis.specs.Signing.{AreSigned};
+ghost use Rattle.surf_basis.specs.Found.{IsFirstPlace};
 ghost use Rattle.surf_basis.specs.Cycles.{first_of, IsFirstCandidate, IsShortestCycle, AllSeparate};
 ghost use Rattle.surf_base.specs.declared.limits.TheConstants.{MAX_LOOPS};
 
 use crate::candidate::Candidate;
 use crate::cycle::Cycle;
 use crate::searching::first_place;
-use crate::signing::signed_desk;
+use crate::signing::signed_cotree;
 use crate::surface::Surface;
 use crate::walking::cycle_of;
 use std::alloc::Global;
@@ -36,45 +36,71 @@ fn first_of(desk: &LoopDesk) -> Option<Candidate>
     })
 }
 
-// The first loop at a base.
-fn first_at(surface: &Surface<'_>, base: VertexId, desk: &mut LoopDesk) -> Option<Candidate>
-    requires made { AreLoopTables surface.now.mesh.now desk.old }
-    requires base { base < surface.now.mesh.now.vertices }
-    requires lengths { length surface.now.lengths.now ≡ edge_count surface.now.mesh.now }
-    ensures first { (trees : ℕ → Trees) →
-        AreChosen surface.now.mesh.now surface.now.lengths.now trees →
-        option_map (loop_in surface.now.mesh.now trees) result
-        ≡ first_of (loops_at surface.now.mesh.now surface.now.lengths.now base (trees base)) }
-    ensures made { AreLoopTables surface.now.mesh.now desk.new }
+// The length and the base of the first candidate at any base. What it is found by isn't kept, so
+// that its memory is free for the desk of its loop.
+fn place_of_first(
+    alloc: Global,
+    mesh: &HalfMesh,
+    lengths: &Lengths,
+) -> Result<Option<Candidate>, NoMemory>
+    requires lengths { length lengths.now ≡ edge_count mesh.now }
+    requires few { edge_count mesh.now + 2 ≤ mesh.now.vertices + face_count mesh.now + MAX_LOOPS }
+    ensures first { IfOk result (IsFirstPlace mesh.now lengths.now) }
 {
-    surface.mesh.law_of_surface();
-    surface.lengths.law_of_lengths();
-    desk.greedy(surface.mesh, surface.lengths, base);
+    mesh.law_of_surface();
+    lengths.law_of_lengths();
+    let signed = signed_cotree(alloc, mesh, lengths)?;
+    let count = signed.left().len();
+    let surface = Surface {
+        mesh,
+        lengths,
+        signatures: &signed,
+    };
+    first_place(alloc, &surface, count)
+}
+
+// The first loop at a base.
+fn first_at(
+    mesh: &HalfMesh,
+    lengths: &Lengths,
+    base: VertexId,
+    desk: &mut LoopDesk,
+) -> Option<Candidate>
+    requires made { AreLoopTables mesh.now desk.old }
+    requires base { base < mesh.now.vertices }
+    requires lengths { length lengths.now ≡ edge_count mesh.now }
+    ensures first { (trees : ℕ → Trees) → AreChosen mesh.now lengths.now trees →
+        option_map (loop_in mesh.now trees) result
+        ≡ first_of (loops_at mesh.now lengths.now base (trees base)) }
+    ensures made { AreLoopTables mesh.now desk.new }
+{
+    mesh.law_of_surface();
+    lengths.law_of_lengths();
+    desk.greedy(mesh, lengths, base);
     first_of(desk)
 }
 
-// The first candidate at any base.
+// The first candidate at any base, by its place.
 fn first_candidate(
-    alloc: Global,
-    surface: &Surface<'_>,
-    count: usize,
+    mesh: &HalfMesh,
+    lengths: &Lengths,
+    place: Option<Candidate>,
     desk: &mut LoopDesk,
-) -> Result<Option<Candidate>, NoMemory>
-    requires made { AreLoopTables surface.now.mesh.now desk.old }
-    requires lengths { length surface.now.lengths.now ≡ edge_count surface.now.mesh.now }
-    requires signed { AreSigned surface.now.mesh.now surface.now.signatures.now count }
-    ensures first { IfOk result (λ found. (trees : ℕ → Trees) →
-        AreChosen surface.now.mesh.now surface.now.lengths.now trees →
-        option_map (loop_in surface.now.mesh.now trees) found
-        ≡ first_of (candidates surface.now.mesh.now surface.now.lengths.now trees)) }
-    ensures made { AreLoopTables surface.now.mesh.now desk.new }
+) -> Option<Candidate>
+    requires made { AreLoopTables mesh.now desk.old }
+    requires lengths { length lengths.now ≡ edge_count mesh.now }
+    requires place { IsFirstPlace mesh.now lengths.now place }
+    ensures first { (trees : ℕ → Trees) → AreChosen mesh.now lengths.now trees →
+        option_map (loop_in mesh.now trees) result
+        ≡ first_of (candidates mesh.now lengths.now trees) }
+    ensures made { AreLoopTables mesh.now desk.new }
 {
-    surface.mesh.law_of_surface();
-    surface.lengths.law_of_lengths();
-    let Some(place) = first_place(alloc, surface, count)? else {
-        return Ok(None);
+    mesh.law_of_surface();
+    lengths.law_of_lengths();
+    let Some(place) = place else {
+        return None;
     };
-    Ok(first_at(surface, place.base, desk))
+    first_at(mesh, lengths, place.base, desk)
 }
 
 /// The first candidate for a basis, a simple cycle that doesn't separate the surface, such that
@@ -95,15 +121,9 @@ pub fn least_nonseparating(
 {
     mesh.law_of_surface();
     lengths.law_of_lengths();
-    let signed = signed_desk(alloc, mesh, lengths)?;
-    let count = signed.cotree().left().len();
-    let surface = Surface {
-        mesh,
-        lengths,
-        signatures: signed.cotree(),
-    };
+    let place = place_of_first(alloc, mesh, lengths)?;
     let mut desk = LoopDesk::make(alloc, mesh)?;
-    let Some(candidate) = first_candidate(alloc, &surface, count, &mut desk)? else {
+    let Some(candidate) = first_candidate(mesh, lengths, place, &mut desk) else {
         return Ok(None);
     };
     let cycle = cycle_of(alloc, mesh, lengths, &mut desk, candidate)?;

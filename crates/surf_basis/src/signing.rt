@@ -9,7 +9,6 @@ ghost use Rattle.surf_surfaces.specs.Loop.{loop_walk};
 ghost use Rattle.surf_surfaces.specs.Homology.{IsFullCount};
 ghost use Rattle.surf_surfaces.specs.Surface.{edge_count, face_count};
 ghost use Rattle.surf_tree.specs.Tables.{tree_of};
-ghost use Rattle.surf_cotree.specs.Tables.{AreCotreeTables};
 ghost use Rattle.surf_basis.specs.Signing.{AreSignatures, AreSigned, IsClimbed};
 ghost use Rattle.surf_base.specs.declared.limits.TheConstants.{MAX_LOOPS};
 
@@ -67,22 +66,22 @@ pub(crate) fn loop_signature(
     signature
 }
 
-// A desk with the loops at vertex 0 and, by its trees, the signatures of all edges.
-pub(crate) fn signed_desk(
+// A tree of faces with the signatures of all edges, by the trees that are chosen at vertex 0. Of
+// the tree of vertices and the weights nothing is kept, so that their memory is free for searches.
+pub(crate) fn signed_cotree(
     alloc: Global,
     mesh: &HalfMesh,
     lengths: &Lengths,
-) -> Result<LoopDesk, NoMemory>
+) -> Result<CotreeDesk, NoMemory>
     requires lengths { length lengths.now ≡ edge_count mesh.now }
     requires few { edge_count mesh.now + 2 ≤ mesh.now.vertices + face_count mesh.now + MAX_LOOPS }
-    ensures signed { IfOk result (λ desk. AreSigned mesh.now desk.cotree
-        (length desk.cotree.left)) }
-    ensures full { IfOk result (λ desk. IsFullCount mesh.now (length desk.cotree.left)) }
+    ensures signed { IfOk result (λ cotree. AreSigned mesh.now cotree (length cotree.left)) }
+    ensures full { IfOk result (λ cotree. IsFullCount mesh.now (length cotree.left)) }
 {
     mesh.law_of_surface();
     lengths.law_of_lengths();
     let mut desk = LoopDesk::make(alloc, mesh)?;
     desk.greedy(mesh, lengths, VertexId::new(0));
     desk.sign(mesh);
-    Ok(desk)
+    Ok(desk.into_cotree())
 }

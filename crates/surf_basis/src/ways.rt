@@ -1,5 +1,5 @@
 //! The classes of the ways from the base of a search, by number.
-ghost use Rattle.std.specs.Prelude.{◌≡◌, ◌≢◌, ◌<◌, ◌≤◌, ℕ, IsTrue, bit_xor, length, slice_index, IfOk, OnOk};
+ghost use Rattle.std.specs.Prelude.{◌≡◌, ◌≢◌, ◌<◌, ◌≤◌, ◌==◌, ℕ, false, IsTrue, bit_xor, length, slice_index, IfOk, OnOk};
 ghost use Rattle.surf_surfaces.specs.Surface.{edge_count};
 ghost use Rattle.surf_basis.specs.Ways.{class_at, AreWays, HasNone, HasParent, IsNumbered, IsReached};
 
@@ -32,6 +32,7 @@ impl Model for Ways {
 // Whether two sets are the same.
 fn is_same(first: &Signature, second: &Signature) -> bool
     ensures same { IsTrue result → first.now ≡ second.now }
+    ensures other { result ≡ false → first.now ≢ second.now }
 {
     let mut sum = copy_signature(first);
     sum.add(second.bits());
@@ -158,6 +159,8 @@ impl Ways {
         requires first { u < length self.now.numbers }
         requires second { v < length self.now.numbers }
         ensures alike { IsTrue result → class_at self.now u ≡ class_at self.now v }
+        ensures numbers { result ≡ (slice_index self.now.numbers u
+            == slice_index self.now.numbers v) }
     {
         self.numbers[u.index()] == self.numbers[v.index()]
     }

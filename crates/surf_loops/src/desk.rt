@@ -148,6 +148,14 @@ impl LoopDesk {
         &self.cotree
     }
 
+    /// The tree of faces alone, with the left edges and the signatures. The memory of all else is
+    /// free from here on.
+    pub fn into_cotree(self) -> CotreeDesk
+        ensures cotree { result ≡ self.cotree }
+    {
+        self.cotree
+    }
+
     /// The loop of an edge: down the tree from the base to the lesser end, over the edge, and up to
     /// the base again. It is a closed walk at the base, whether the edge is left or not.
     pub fn walk(&self, alloc: Global, mesh: &HalfMesh, edge: EdgeId) -> Result<Walk, NoMemory>

@@ -92,7 +92,8 @@ impl<'m> Links<'m> {
         ensures mesh { IfOk result (λ links. links.mesh ≡ mesh.now) }
         ensures lengths { IfOk result (λ links. links.lengths ≡ lengths.now) }
     {
-        let mut rows = Rows::new(alloc);
+        let links = 2 * mesh.edges() as usize;
+        let mut rows = Rows::with_room(alloc, mesh.vertices() as usize, links)?;
         for v in 0..mesh.vertices() {
             let row = links_of(alloc, mesh, lengths, VertexId::new(v))?;
             rows.push(&row)?;

@@ -49,7 +49,7 @@ keep-requires c =
     let t = c.greedy.new.self in
     let Small : List Signed → Type 0 = λ xs. All (λ k. k.signature < 2 ^ c.loop-base.choice.width) xs in
     record {
-      small = subst Small (sym (c.deref.ensures.value ∙ c.in_ok-loops.ensures.loops s.split s.signatures))
+      small = subst Small (sym (c.deref.ensures.value ∙ c.in_ok-signed_loops.ensures.loops s.split s.signatures))
           (All-from_recursion (λ k. k.signature < 2 ^ c.loop-base.choice.width) (signed_heads mesh s.split t.tree t.heads)
           (heads_small mesh s.split t.tree c.loop-base.choice.width (s.count ∙ sym c.loop-base.invariant.width) t.heads));
     }
@@ -71,7 +71,7 @@ loop-base-preserved c =
       made = g.made;
       width = c.keep.ensures.width ∙ c.loop-base.invariant.width;
       kept = λ trees chosen d split are.
-          (let loops = c.deref.ensures.value ∙ c.in_ok-loops.ensures.loops d are in
+          (let loops = c.deref.ensures.value ∙ c.in_ok-signed_loops.ensures.loops d are in
           let next = ap (λ (k : Chosen). k.kept) c.in_ok-keep.ensures.kept
           ∙ ap (λ (xs : List Signed). independent_of (merge signed_earlier old.kept xs)) loops in
           kept_more mesh lengths trees surface positive chosen d split c.args.bases.now i x t old.kept c.keep.new.self.kept

@@ -15,7 +15,7 @@ returns-then-count-eq0-clause-chosen c =
     let mesh = c.args.mesh.now in
     let lengths = c.args.lengths.now in
     let positive = lengths_positive mesh lengths c.law_of_lengths.ensures.lengths c.requires.lengths in
-    let full = left_count mesh c.in_ok-signed.signed.cotree c.cotree.result.now c.left-count.result.now c.in_ok-signed.ensures.full c.cotree.ensures.cotree c.left-count.ensures.left in
+    let full = left_count mesh c.in_ok-signed.signed c.left-count.result.now c.in_ok-signed.ensures.full c.left-count.ensures.left in
     none_basis mesh lengths c.law_of_surface.ensures.surface positive c.new.result.items c.new.ensures.items (subst (IsFullCount mesh) c.if-count-eq0.true full)
 
 pub returns-then-count-eq0-clause-least : goal.returns-then-count-eq0-clause-least
@@ -27,12 +27,11 @@ returns-then-count-eq0-clause-least c =
 
 pub basis_over-requires-clause-signed : goal.basis_over-requires-clause-signed
 basis_over-requires-clause-signed c =
-    still_signed c.args.mesh.now c.in_ok-signed.signed.cotree c.cotree.result.now c.cotree-2.result.now c.left-count.result.now c.in_ok-signed.ensures.signed
-    c.cotree.ensures.cotree c.left-count.ensures.left c.cotree-2.ensures.cotree
+    still_signed c.args.mesh.now c.in_ok-signed.signed c.left-count.result.now c.in_ok-signed.ensures.signed c.left-count.ensures.left
 
 pub basis_over-requires-clause-full : goal.basis_over-requires-clause-full
 basis_over-requires-clause-full c =
-    left_count c.args.mesh.now c.in_ok-signed.signed.cotree c.cotree.result.now c.left-count.result.now c.in_ok-signed.ensures.full c.cotree.ensures.cotree c.left-count.ensures.left
+    left_count c.args.mesh.now c.in_ok-signed.signed c.left-count.result.now c.in_ok-signed.ensures.full c.left-count.ensures.left
 
 pub returns-clause-least : goal.returns-clause-least
 returns-clause-least c =

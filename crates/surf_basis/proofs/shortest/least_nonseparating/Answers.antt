@@ -9,21 +9,21 @@ returns-in_default-clause-none c =
     let mesh = c.args.mesh.now in
     let lengths = c.args.lengths.now in
     let positive = lengths_positive mesh lengths c.law_of_lengths.ensures.lengths c.requires.lengths in
-    (none_found mesh lengths c.law_of_surface.ensures.surface positive None refl (subst (IsFound mesh lengths) c.in_default.is c.in_ok-candidate.ensures.first)).0
+    (none_found mesh lengths c.law_of_surface.ensures.surface positive None refl (subst (IsFound mesh lengths) c.in_default.is c.first_candidate.ensures.first)).0
 
 pub returns-in_default-clause-separate : goal.returns-in_default-clause-separate
 returns-in_default-clause-separate c =
     let mesh = c.args.mesh.now in
     let lengths = c.args.lengths.now in
     let positive = lengths_positive mesh lengths c.law_of_lengths.ensures.lengths c.requires.lengths in
-    (none_found mesh lengths c.law_of_surface.ensures.surface positive None refl (subst (IsFound mesh lengths) c.in_default.is c.in_ok-candidate.ensures.first)).1
+    (none_found mesh lengths c.law_of_surface.ensures.surface positive None refl (subst (IsFound mesh lengths) c.in_default.is c.first_candidate.ensures.first)).1
 
 pub cycle_of-requires-clause-inside : goal.cycle_of-requires-clause-inside
 cycle_of-requires-clause-inside c =
     let mesh = c.args.mesh.now in
     let lengths = c.args.lengths.now in
     let positive = lengths_positive mesh lengths c.law_of_lengths.ensures.lengths c.requires.lengths in
-    found_inside mesh lengths c.law_of_surface.ensures.surface positive c.in-Some.candidate (subst (IsFound mesh lengths) c.in-Some.is c.in_ok-candidate.ensures.first)
+    found_inside mesh lengths c.law_of_surface.ensures.surface positive c.in-Some.candidate (subst (IsFound mesh lengths) c.in-Some.is c.first_candidate.ensures.first)
 
 pub returns-clause-first : goal.returns-clause-first
 returns-clause-first c =
@@ -31,7 +31,7 @@ returns-clause-first c =
     let lengths = c.args.lengths.now in
     let positive = lengths_positive mesh lengths c.law_of_lengths.ensures.lengths c.requires.lengths in
     found_first mesh lengths c.law_of_surface.ensures.surface positive c.in-Some.candidate c.in_ok-cycle.cycle
-    (subst (IsFound mesh lengths) c.in-Some.is c.in_ok-candidate.ensures.first) c.in_ok-cycle.ensures.cycle
+    (subst (IsFound mesh lengths) c.in-Some.is c.first_candidate.ensures.first) c.in_ok-cycle.ensures.cycle
 
 pub returns-clause-shortest : goal.returns-clause-shortest
 returns-clause-shortest c =
@@ -46,7 +46,7 @@ returns-clause-none c =
     let lengths = c.args.lengths.now in
     let positive = lengths_positive mesh lengths c.law_of_lengths.ensures.lengths c.requires.lengths in
     (some_found mesh lengths c.law_of_surface.ensures.surface positive c.in-Some.candidate c.in_ok-cycle.cycle
-    (subst (IsFound mesh lengths) c.in-Some.is c.in_ok-candidate.ensures.first)).0
+    (subst (IsFound mesh lengths) c.in-Some.is c.first_candidate.ensures.first)).0
 
 pub returns-clause-separate : goal.returns-clause-separate
 returns-clause-separate c =
@@ -54,8 +54,8 @@ returns-clause-separate c =
     let lengths = c.args.lengths.now in
     let positive = lengths_positive mesh lengths c.law_of_lengths.ensures.lengths c.requires.lengths in
     (some_found mesh lengths c.law_of_surface.ensures.surface positive c.in-Some.candidate c.in_ok-cycle.cycle
-    (subst (IsFound mesh lengths) c.in-Some.is c.in_ok-candidate.ensures.first)).1
+    (subst (IsFound mesh lengths) c.in-Some.is c.first_candidate.ensures.first)).1
 
 pub returns-in_default-clause-first : goal.returns-in_default-clause-first
 returns-in_default-clause-first c trees chosen =
-    subst (IsFound c.args.mesh.now c.args.lengths.now) c.in_default.is c.in_ok-candidate.ensures.first trees chosen
+    subst (IsFound c.args.mesh.now c.args.lengths.now) c.in_default.is c.first_candidate.ensures.first trees chosen
