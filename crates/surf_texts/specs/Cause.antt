@@ -1,5 +1,7 @@
 -- Why there is no answer: what words and files decide, a read that failed, or want of memory.
 use Rattle.std.specs.Prelude.{ℕ, List, [], Option, Some, None, Result, Ok, Err, codes}
+use Prim.Native.String.{String as Literal}
+use Rattle.surf_text.specs.Numbers.{numbered}
 use Rattle.surf_texts.specs.Outcome.{Outcome, answers, refuses, misses, status_of}
 
 pub data Cause : Type 0 where
@@ -20,6 +22,10 @@ outcome_of starved = misses
 abbrev pub refused_by : {A E : Type 0} → (E → Cause) → Result A E → Result A Outcome
 refused_by cause (Ok value) = Ok value
 refused_by cause (Err fault) = Err (outcome_of (cause fault))
+
+-- a fault that is told with a status in words and numbers
+abbrev pub told : ℕ → Literal → List ℕ → Cause
+told status words numbers = due (refuses status (numbered (codes words) numbers))
 
 -- a fault that has a status and a line of its own, or none of its own where there was no memory
 abbrev pub told_with : ℕ → Option (List ℕ) → Cause

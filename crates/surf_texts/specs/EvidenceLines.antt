@@ -6,14 +6,13 @@ use Rattle.surf_class.specs.declared.fault.EvidenceFault.{EvidenceFault}
 use Rattle.surf_class.specs.declared.fault.EvidenceFault.TheVariants as text
 use Rattle.surf_classes.specs.Evidence.{Evidence, null_faces, odd_pairs}
 use Rattle.surf_text.specs.Numbers.{numbered}
-use Rattle.surf_texts.specs.Cause.{Cause, due, starved}
-use Rattle.surf_texts.specs.Outcome.{refuses}
+use Rattle.surf_texts.specs.Cause.{Cause, starved, told}
 
 -- the cause that a fault in the text of evidence is
 abbrev pub evidence_cause : EvidenceFault → Cause
-evidence_cause (text.Header line) = due (refuses 8 (numbered (codes "certificate text: header") (line ∷ [])))
-evidence_cause (text.Form line) = due (refuses 8 (numbered (codes "certificate text: form") (line ∷ [])))
-evidence_cause (text.Trailing line) = due (refuses 8 (numbered (codes "certificate text: trailing") (line ∷ [])))
+evidence_cause (text.Header line) = told 8 "certificate text: header" (line ∷ [])
+evidence_cause (text.Form line) = told 8 "certificate text: form" (line ∷ [])
+evidence_cause (text.Trailing line) = told 8 "certificate text: trailing" (line ∷ [])
 evidence_cause text.Memory = starved
 
 -- which kind of evidence is right

@@ -1,7 +1,6 @@
 -- The lines of the first fault of copies and of sewing.
 use Rattle.std.specs.Prelude.{ℕ, List, [], ◌∷◌, ◌++◌, codes, decimal}
-use Rattle.surf_text.specs.Numbers.{numbered}
-use Rattle.surf_texts.specs.Cause.{Cause, due, starved}
+use Rattle.surf_texts.specs.Cause.{Cause, due, starved, told}
 use Rattle.surf_texts.specs.Outcome.{refuses}
 use Rattle.surf_sew.specs.declared.copies.CopyFault.{CopyFault}
 use Rattle.surf_sew.specs.declared.copies.CopyFault.TheVariants as copies
@@ -15,13 +14,13 @@ copy_count_line have vertices =
 
 -- the cause that a fault of the copy lines is, where there are so many copies
 abbrev pub copy_cause : ℕ → CopyFault → Cause
-copy_cause vertices (copies.CopyForm line) = due (refuses 14 (numbered (codes "sew: copy-form") (line ∷ [])))
+copy_cause vertices (copies.CopyForm line) = told 14 "sew: copy-form" (line ∷ [])
 copy_cause vertices (copies.CopyCount have) = due (refuses 14 (copy_count_line have vertices))
 copy_cause vertices copies.Memory = starved
 
 -- the cause that a fault of sewing is
 abbrev pub sew_cause : SewFault → Cause
-sew_cause (Gap v) = due (refuses 14 (numbered (codes "sew: gap") (v ∷ [])))
-sew_cause (Line copy earlier) = due (refuses 14 (numbered (codes "sew: line") (copy ∷ earlier ∷ [])))
-sew_cause (FaceRepeat face v) = due (refuses 14 (numbered (codes "sew: face-repeat") (face ∷ v ∷ [])))
+sew_cause (Gap v) = told 14 "sew: gap" (v ∷ [])
+sew_cause (Line copy earlier) = told 14 "sew: line" (copy ∷ earlier ∷ [])
+sew_cause (FaceRepeat face v) = told 14 "sew: face-repeat" (face ∷ v ∷ [])
 sew_cause Memory = starved

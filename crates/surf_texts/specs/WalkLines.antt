@@ -1,5 +1,6 @@
 -- The line of the first fault in a walk file.
 use Rattle.std.specs.Prelude.{ℕ, List, [], ◌∷◌, ◌++◌, codes}
+use Prim.Native.String.{String as Literal}
 use Rattle.surf_class.specs.declared.fault.WalkFault.{WalkFault}
 use Rattle.surf_class.specs.declared.fault.WalkFault.TheVariants.{Empty, Form, NotVertex, NotEdge, Unclosed, Trailing}
 use Rattle.surf_class.specs.declared.fault.WalkFault.TheVariants.{Memory}
@@ -17,12 +18,15 @@ file_words Second = codes "walk 2: "
 abbrev pub walk_line : WalkFile → List ℕ → List ℕ → List ℕ
 walk_line file words numbers = file_words file ++ numbered words numbers
 
+abbrev pub walk_told : WalkFile → Literal → List ℕ → Cause
+walk_told file words numbers = due (refuses 13 (walk_line file (codes words) numbers))
+
 -- the cause that a fault of a walk file is
 abbrev pub walk_cause : WalkFile → WalkFault → Cause
-walk_cause file Empty = due (refuses 13 (walk_line file (codes "empty") []))
-walk_cause file (Form place) = due (refuses 13 (walk_line file (codes "form") (place ∷ [])))
-walk_cause file (NotVertex place) = due (refuses 13 (walk_line file (codes "not-vertex") (place ∷ [])))
-walk_cause file (NotEdge place) = due (refuses 13 (walk_line file (codes "not-edge") (place ∷ [])))
-walk_cause file Unclosed = due (refuses 13 (walk_line file (codes "open") []))
-walk_cause file (Trailing line) = due (refuses 13 (walk_line file (codes "trailing") (line ∷ [])))
+walk_cause file Empty = walk_told file "empty" []
+walk_cause file (Form place) = walk_told file "form" (place ∷ [])
+walk_cause file (NotVertex place) = walk_told file "not-vertex" (place ∷ [])
+walk_cause file (NotEdge place) = walk_told file "not-edge" (place ∷ [])
+walk_cause file Unclosed = walk_told file "open" []
+walk_cause file (Trailing line) = walk_told file "trailing" (line ∷ [])
 walk_cause file Memory = starved

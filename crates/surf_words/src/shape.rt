@@ -86,10 +86,7 @@ impl Shape {
     /// called.
     pub fn law_of_shape(self)
         ensures shape { IsShape self }
-    {
-        // (what a type keeps is known where one of its fields is used)
-        let _ = self.tori;
-    }
+    {}
 
     /// How many vertices its mesh has.
     pub fn vertices(self) -> u128
