@@ -19,7 +19,13 @@ use Rattle.surf_soup.specs.Ring.{BeginsAt, IsRing}
 use Rattle.surf_soup.proofs.HalfLaws.{spans}
 use Rattle.surf_soup.proofs.VertexLaws.{corners_len, corners_below}
 use Rattle.surf_slit.specs.Labels.{corner_at}
-use Rattle.surf_cutter.specs.Copies.{AreNumbersOf, AreCopied, AreSorted, AreSortedTo, IsRowAt, IsBefore}
+use Rattle.surf_cutter.specs.Copies.{AreNumbersOf, AreCopied, AreSortedTo, IsRowAt, IsBefore}
+
+-- a list of all sides, by the vertices at which they begin and at one vertex by number
+pub record AreSorted (mesh : Mesh) (order : List ℕ) : Type 0 where
+  pub inside : (i : ℕ) → i < length order → get_or order i 0 < side_count mesh
+  pub has : (s : ℕ) → s < side_count mesh → (i : ℕ) × (i < length order) × (get_or order i 0 ≡ s)
+  pub rises : (i j : ℕ) → i < j → j < length order → IsBefore mesh (get_or order i 0) (get_or order j 0)
 
 -- numbers of which no two are equal
 distinct_from : (xs : List ℕ) → ((i k : ℕ) → i < k → k < length xs → get_or xs i 0 ≢ get_or xs k 0) → IsDistinct eqb xs

@@ -46,13 +46,7 @@ pub record AreCopied (mesh : Mesh) (labels numbers : List ℕ) (n : ℕ) (faces 
 abbrev pub IsBefore : Mesh → ℕ → ℕ → Type 0
 IsBefore mesh s t = (corner_at mesh s < corner_at mesh t) ⊎ ((corner_at mesh s ≡ corner_at mesh t) × (s < t))
 
--- a list of all sides, by the vertices at which they begin and at one vertex by number
-pub record AreSorted (mesh : Mesh) (order : List ℕ) : Type 0 where
-  pub inside : (i : ℕ) → i < length order → slice_index order i < side_count mesh
-  pub has : (s : ℕ) → s < side_count mesh → (i : ℕ) × (i < length order) × (slice_index order i ≡ s)
-  pub rises : (i j : ℕ) → i < j → j < length order → IsBefore mesh (slice_index order i) (slice_index order j)
-
--- the same of the sides that begin at the first n vertices
+-- a list of the sides that begin at the first n vertices, by these vertices and at one vertex by number
 pub record AreSortedTo (mesh : Mesh) (n : ℕ) (order : List ℕ) : Type 0 where
   pub inside : (i : ℕ) → i < length order → slice_index order i < side_count mesh
   pub below : (i : ℕ) → i < length order → corner_at mesh (slice_index order i) < n
