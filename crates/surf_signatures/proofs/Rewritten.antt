@@ -1,7 +1,8 @@
 -- Rows of a flat table of which one is written anew.
 use Rattle.std.proofs.Common.{ℕ, suc, ◌<◌, ◌≤◌, ◌≡◌, ◌+◌, ◌-◌, ◌*◌, ◌^◌, refl, sym, ap, ◌∙◌, arith, inl, inr, List, [], ◌∷◌, length, map, take, drop, set, get_or, get_or-set_same, get_or-set_other, cond, true, false, bit_xor, ltb, eqb, eq-eqb, ne_eqb}
 use Rattle.std.proofs.Math.Nat.{mul-le-mul_right}
-use Rattle.std.proofs.lemmas.Bool.{cases_eq, cases_lt, lt-ltb, le-ltb}
+use Rattle.std.proofs.lemmas.Bool.{cases_eq, cases_lt, cases_Bool, lt-ltb, le-ltb}
+use Rattle.std.proofs.lemmas.Nat.Bits.{bit_at-zero}
 use Rattle.std.proofs.lemmas.Grind.{same_number_lists}
 use Rattle.std.proofs.lemmas.List.{get_or-take, get_or-drop, get_or_past, get_or-append_right, get_or-map, length-map, length-set, length-take-le}
 use Rattle.std.proofs.lemmas.Slice.{take-put_mid, take-put_mid_below, drop-put_mid}
@@ -11,7 +12,7 @@ use Rattle.surf_z2.proofs.Words.{number_zero}
 use Rattle.surf_z2.specs.Sieve.{has}
 use Rattle.surf_signatures.specs.Tables.{row_of, sets_in, added_where}
 use Rattle.surf_signatures.proofs.Toggling.{below_more}
-use Rattle.surf_signatures.proofs.Written.{row_word, row_past, rows-length, rows-at}
+use Rattle.surf_signatures.proofs.Written.{row_word, row_past, row_zero, rows-length, rows-at}
 
 -- words that agree write the same number, whether those that are missing are written as zeros or not
 pub number_same : (us vs : List ℕ) → ((k : ℕ) → get_or us k 0 ≡ get_or vs k 0) → number us ≡ number vs
@@ -124,6 +125,16 @@ rows_whole words k other n first new is =
     rows-at words n new e below ∙ rw (lt-ltb e n below) at here
     ∙ ap (added_where k other) (sym (rows-at words n first e below))
     ∙ sym (get_or-map (added_where k other) (sets_in words n first) e 0 0 (omega (arith, below, size_first))))
+
+-- no set has the number where nothing is written
+pub rows_empty : (words k other n : ℕ) → sets_in words n [] ≡ map (added_where k other) (sets_in words n [])
+rows_empty words k other n =
+    rows_whole words k other n [] [] (λ e.
+    let none : has (row_of words [] e) k ≡ false = ap (λ s. has s k) (row_zero words [] (λ i. refl) e) ∙ ap (λ b. eqb b 1) (bit_at-zero k) in
+    elim (cases_Bool (ltb e n)) [
+      | inl inside ↦ rw (inside, none) refl
+      | inr out ↦ rw out refl
+    ])
 
 -- one row is made anew
 pub rows_set : (words n at written : ℕ) (old new : List ℕ) → at < n →

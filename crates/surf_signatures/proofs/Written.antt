@@ -1,5 +1,5 @@
 -- What a flat table of signatures holds.
-use Rattle.std.proofs.Common.{ℕ, ◌<◌, ◌≤◌, ◌≡◌, ◌≢◌, ◌+◌, ◌*◌, ◌/◌, ◌%◌, ◌^◌, sym, ap, ◌∙◌, subst, arith, inl, inr, List, length, map, take, drop, replicate, get_or, min, eqb, false}
+use Rattle.std.proofs.Common.{ℕ, ◌<◌, ◌≤◌, ◌≡◌, ◌≢◌, ◌+◌, ◌*◌, ◌/◌, ◌%◌, ◌^◌, refl, sym, ap, ◌∙◌, subst, arith, inl, inr, List, [], length, map, take, drop, replicate, get_or, min, eqb, false}
 use Rattle.std.specs.List.{range_with_len}
 use Rattle.std.specs.Int.{bit_at}
 use Rattle.std.proofs.lemmas.Bool.{cases_lt}
@@ -161,22 +161,27 @@ zeros_at n k = elim (cases_lt k n) [
   | inr past ↦ let size : length (zeros n) ≡ n = length-replicate n 0 in get_or_past (zeros n) k 0 (omega (arith, past, size))
 ]
 
--- its sets are empty
-pub rows_none : (words count n : ℕ) → sets_in words count (zeros n) ≡ zeros count
-rows_none words count n =
+-- where no word is more than zero, the sets are empty
+pub row_zero : (words : ℕ) (table : List ℕ) → ((k : ℕ) → get_or table k 0 ≡ 0) → (e : ℕ) → row_of words table e ≡ 0
+row_zero words table none e = number_zero (take words (drop (e * words) table)) (λ k below. elim (cases_lt k words) [
+  | inl l ↦ row_word words table e k l ∙ none (e * words + k)
+  | inr past ↦ row_past words table e k past
+])
+
+pub rows_zero : (words count : ℕ) (table : List ℕ) → ((k : ℕ) → get_or table k 0 ≡ 0) → sets_in words count table ≡ zeros count
+rows_zero words count table none =
     let size : length (zeros count) ≡ count = length-replicate count 0 in
-    same_number_lists (sets_in words count (zeros n)) (zeros count)
-    (rows-length words count (zeros n) ∙ sym size) (λ e l.
-    let inside : e < count = omega (arith, l, rows-length words count (zeros n)) in
-    rows-at words count (zeros n) e inside
-    ∙ number_zero (take words (drop (e * words) (zeros n))) (λ k below. zero_at e k)
-    ∙ sym (zeros_at count e))
-  where
-    zero_at : (e k : ℕ) → get_or (take words (drop (e * words) (zeros n))) k 0 ≡ 0
-    zero_at e k = elim (cases_lt k words) [
-      | inl l ↦ row_word words (zeros n) e k l ∙ zeros_at n (e * words + k)
-      | inr past ↦ row_past words (zeros n) e k past
-    ]
+    same_number_lists (sets_in words count table) (zeros count)
+    (rows-length words count table ∙ sym size) (λ e l.
+    let inside : e < count = omega (arith, l, rows-length words count table) in
+    rows-at words count table e inside ∙ (row_zero words table none e ∙ sym (zeros_at count e)))
+
+pub rows_none : (words count n : ℕ) → sets_in words count (zeros n) ≡ zeros count
+rows_none words count n = rows_zero words count (zeros n) (zeros_at n)
+
+-- so are those of a table in which nothing is written
+pub rows_unwritten : (words count : ℕ) → sets_in words count [] ≡ zeros count
+rows_unwritten words count = rows_zero words count [] (λ k. refl)
 
 -- ---- one row, lent
 

@@ -1,5 +1,5 @@
 -- The bits of edges in a flat table.
-use Rattle.std.specs.Prelude.{ℕ, ◌+◌, ◌*◌, ◌/◌, ◌%◌, Bool, eqb, List, slice_index}
+use Rattle.std.specs.Prelude.{ℕ, ◌+◌, ◌*◌, ◌/◌, ◌%◌, Bool, eqb, List}
 use Rattle.std.specs.Int.{bit_at}
 use Rattle.surf_z2.specs.Parity.{xor}
 use Rattle.surf_graphs.specs.Graphs.{Graph}

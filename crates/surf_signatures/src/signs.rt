@@ -1,6 +1,6 @@
 //! A table of signatures.
 ghost use Rattle.std.specs.Prelude.{◌≡◌, ◌<◌, ◌≤◌, ◌+◌, ◌*◌, ◌^◌, ◌==◌, ℕ, if◌then◌else◌, length, map, replicate};
-ghost use Rattle.std.specs.Prelude.{slice_index, IfOk};
+ghost use Rattle.std.specs.Prelude.{slice_index, vec_capacity, IfOk};
 ghost use Rattle.std.specs.List.{range_with_len};
 ghost use Rattle.surf_graphs.specs.Cells.{dual, Split, IsSplit};
 ghost use Rattle.surf_graphs.specs.Trees.{IsTree};
@@ -19,7 +19,7 @@ use surf_bits::Bits;
 use surf_mesh::HalfMesh;
 
 /// For each edge a set of numbers below a width. It is filled with the signatures of edges, and may
-/// then be written over other numbers.
+/// then be written over other numbers. All sets are empty until then, and their room isn't touched.
 #[derive(Drop)]
 pub struct Signs {
     edges: u32,
@@ -29,7 +29,7 @@ pub struct Signs {
 
 impl Model for Signs {
     ghost use Rattle.surf_base.specs.declared.limits.TheConstants.{MAX_LOOPS};
-    ghost use Rattle.std.specs.Prelude.{◌≡◌, ◌≤◌, ◌*◌, length};
+    ghost use Rattle.std.specs.Prelude.{◌≡◌, ◌≤◌, ◌<◌, ◌*◌, length, vec_capacity};
     ghost use Rattle.surf_signatures.specs.Tables.{Signed, words_for, sets_in};
 
     ghost Value = { Signed };
@@ -40,7 +40,8 @@ impl Model for Signs {
     } };
 
     ghost invariant = { λ s. (s.width ≤ MAX_LOOPS)
-        × (length s.table.items ≡ s.edges * words_for s.width) };
+        × (0 < length s.table.items → length s.table.items ≡ s.edges * words_for s.width)
+        × (s.edges * words_for s.width ≤ vec_capacity s.table) };
 }
 
 // Adds a set to the row of an edge where that has a number.
@@ -75,6 +76,18 @@ fn add_to_rows(table: &mut [u64], words: usize, edges: usize, k: u32, other: &Bi
     }
 }
 
+// Fills a table up with empty words, in room that there is.
+fn fill_up(table: &mut Vec<u64>, words: usize)
+    requires room { words ≤ vec_capacity table.old }
+    requires few { length table.old.items ≤ words }
+    ensures filled { length table.new.items ≡ words }
+    ensures room { words ≤ vec_capacity table.new }
+{
+    while table.len() < words {
+        table.push_reserved(0);
+    }
+}
+
 impl Signs {
     /// A table for so many edges and sets of numbers below a width, which are all empty. No later
     /// call takes memory.
@@ -82,7 +95,7 @@ impl Signs {
         requires width { width ≤ MAX_LOOPS }
         ensures made { IfOk result (λ s. s ≡ record { width = width; sets = replicate edges 0 }) }
     {
-        let table = vec![in alloc; 0u64; edges as usize * words_of(width)]?;
+        let table = Vec::with_capacity(alloc, edges as usize * words_of(width))?;
         Ok(Signs {
             edges,
             width,
@@ -117,6 +130,7 @@ impl Signs {
     {
         mesh.law_of_surface();
         let words = words_of(self.width);
+        fill_up(&mut self.table, self.edges as usize * words);
         write_signs(
             mesh,
             &FaceTree { parent, up, depth },
@@ -132,6 +146,9 @@ impl Signs {
         ensures set { result ≡ slice_index self.now.sets e }
         ensures within { result < 2 ^ (64 * words_for self.now.width) }
     {
+        if self.table.is_empty() {
+            return Bits::over(&self.table);
+        }
         let words = words_of(self.width);
         Bits::over(words_at(&self.table, e.index() * words, words))
     }
@@ -143,6 +160,9 @@ impl Signs {
         ensures sets { self.new.sets ≡ map (added_where k other.now) self.old.sets }
         ensures width { self.new.width ≡ self.old.width }
     {
+        if self.table.is_empty() {
+            return;
+        }
         let words = words_of(self.width);
         add_to_rows(&mut self.table, words, self.edges as usize, k, other);
     }

@@ -1,7 +1,21 @@
-use Rattle.std.proofs.Common.{◌≤◌, ◌<◌, ◌*◌, ◌^◌, lit<, sym, subst, arith}
+use Rattle.std.proofs.Common.{◌≤◌, ◌<◌, ◌*◌, ◌^◌, ◌≡◌, ◌∙◌, [], refl, lit<, sym, subst, arith}
 use Rattle.std.proofs.Math.Nat.{pow-le-pow_right}
-use Rattle.surf_signatures.specs.Tables.{Signed}
+use Rattle.std.specs.Vec.{vec_len}
+use Rattle.std.proofs.lemmas.Bool.{eqb-true}
+use Rattle.std.proofs.lemmas.List.{nil_from_length}
+use Rattle.surf_signatures.specs.Tables.{Signed, words_for}
+use Rattle.surf_signatures.proofs.Rewritten.{rows_empty}
 use Rattle.surf_signatures.proofs.signs.Signs.add_where.Goals as goal
+
+pub returns-then-is_empty : goal.returns-then-is_empty
+returns-then-is_empty c =
+    let s = c.self.inside in
+    let none : vec_len s.table ≡ 0 = eqb-true (vec_len s.table) 0 (sym c.is_empty.ensures ∙ c.if-is_empty.true) in
+    let empty : s.table.items ≡ [] = nil_from_length s.table.items (omega (arith, none)) in
+    record {
+      sets = rw (← c.self.view_is, empty) (rows_empty (words_for s.width) c.args.k c.args.other.now s.edges);
+      width = refl;
+    }
 
 pub add_to_rows-requires-clause-fits : goal.add_to_rows-requires-clause-fits
 add_to_rows-requires-clause-fits c =
