@@ -9,12 +9,14 @@ ghost use Rattle.surf_surfaces.specs.Surface.{edge_count, loop_count};
 ghost use Rattle.surf_surfaces.specs.Signature.{edge_signature};
 ghost use Rattle.surf_cotree.specs.Tables.{CotreeTables, AreCotreeTables, parent_edge_of, width_for, split_with};
 ghost use Rattle.surf_base.specs.Tables.{at};
+ghost use Rattle.surf_cotree.specs.Searches.{heaviest};
 ghost use Rattle.surf_cotree.specs.Grown.{MarkTree, IsGrown, IsGrownOn};
 ghost use Rattle.surf_base.specs.declared.limits.TheConstants.{MAX_LOOPS};
 
 use crate::listing::{list_left, mark_edges};
 use crate::peeling::{Leaf, hang, peel};
 use crate::search::{FaceNetwork, NOBODY, span};
+use crate::weights::{Listed, Weights, weights_fit};
 use std::alloc::Global;
 use std::marker::Model;
 use surf_base::{EdgeId, FaceId, MAX_LOOPS, NoMemory};
@@ -116,7 +118,7 @@ impl CotreeDesk {
     }
 
     /// Grows the heaviest tree of the faces outside a tree of the vertices, of which `in_tree` has
-    /// a flag for each edge. It takes no memory and can't be refused.
+    /// a flag for each edge, by a list of weights. It takes no memory and can't be refused.
     pub fn grow(&mut self, mesh: &HalfMesh, in_tree: &[bool], weight: &[u64])
         requires made { AreCotreeTables mesh.now self.old }
         requires marks { length in_tree.now ≡ edge_count mesh.now }
@@ -124,16 +126,31 @@ impl CotreeDesk {
         requires tree { MarkTree mesh.now in_tree.now }
         ensures grown { IsGrown mesh.now in_tree.now (at weight.now) self.new }
     {
+        weights_fit(weight);
+        self.grow_by(mesh, in_tree, &Listed { weights: weight });
+    }
+
+    /// Grows that tree by weights that are asked for where edges are met: of the faces that don't
+    /// hang on the others by one edge. It takes no memory and can't be refused.
+    pub fn grow_by<W: Weights>(&mut self, mesh: &HalfMesh, in_tree: &[bool], weight: &W)
+        requires made { AreCotreeTables mesh.now self.old }
+        requires marks { length in_tree.now ≡ edge_count mesh.now }
+        requires weights { W.count weight.now ≡ edge_count mesh.now }
+        requires valid { W.valid weight.now }
+        requires light { (e : ℕ) → W.weight weight.now e ≤ heaviest }
+        requires tree { MarkTree mesh.now in_tree.now }
+        ensures grown { IsGrown mesh.now in_tree.now (W.weight weight.now) self.new }
+    {
         mesh.law_of_surface();
         self.held.copy_from_slice(in_tree);
         let count = peel(mesh, &mut self.held, &mut self.leaves);
         let network = FaceNetwork {
             mesh,
             marks: &self.held,
-            weight,
         };
         span(
             &network,
+            weight,
             &mut self.heap,
             &mut self.depth,
             &mut self.parent,

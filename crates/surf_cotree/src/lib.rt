@@ -12,7 +12,8 @@
 //! generalizations", 1957), with a heap in place of his search, and hangs the others on again.
 //! Where the weights are the lengths of the loops that the edges close with the tree of vertices,
 //! the loops of the left edges are shortest (J. Erickson and K. Whittlesey, "Greedy Optimal
-//! Homotopy and Homology Generators", SODA 2005).
+//! Homotopy and Homology Generators", SODA 2005). Only the edges between the faces that stay are
+//! asked for their weights.
 //!
 //! `sign` gives each edge its signature, a set of places of left edges, by which the class of a
 //! walk is told.
@@ -22,5 +23,7 @@ mod desk;
 mod listing;
 mod peeling;
 mod search;
+mod weights;
 
 pub use desk::CotreeDesk;
+pub use weights::Weights;

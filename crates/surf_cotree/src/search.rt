@@ -9,6 +9,7 @@ ghost use Rattle.surf_heap.specs.Entries.{entry_of, lesser, IsEmpty};
 ghost use Rattle.surf_base.specs.Tables.{nobody, at};
 ghost use Rattle.surf_cotree.specs.Searches.{heaviest, reached, outside, IsOffered, IsPrim, spanned_tree};
 
+use crate::weights::Weights;
 use surf_base::{EdgeId, FaceId};
 use surf_heap::Heap;
 use surf_mesh::HalfMesh;
@@ -16,19 +17,12 @@ use surf_mesh::HalfMesh;
 /// Stands for no edge, and for the depth of a face that isn't reached.
 pub(crate) const NOBODY: u32 = u32::MAX;
 
-/// What a search over the faces sees: a mesh, whose edges join faces where they have no mark, and
-/// the weight of each edge.
+/// What a search over the faces sees: a mesh, whose edges join faces where they have no mark.
 #[derive(Drop)]
 pub(crate) struct FaceNetwork<'a> {
     pub mesh: &'a HalfMesh,
     pub marks: &'a [bool],
-    pub weight: &'a [u64],
 }
-
-// Tells proofs the range of the weights.
-fn weights_fit(weight: &[u64])
-    ensures fit { (e : ℕ) → at weight.now e ≤ heaviest }
-{}
 
 // Whether an edge isn't marked and leads to a face that isn't reached.
 fn leads_on(marks: &[bool], depth: &[u32], edge: EdgeId, face: FaceId) -> bool
@@ -41,33 +35,41 @@ fn leads_on(marks: &[bool], depth: &[u32], edge: EdgeId, face: FaceId) -> bool
 
 // Offers a face to the heap by an edge that leads to it: the heavier the edge, the lesser the
 // entry.
-fn offer_by(heap: &mut Heap, weight: &[u64], edge: EdgeId, face: FaceId)
+fn offer_by<W: Weights>(heap: &mut Heap, weight: &W, edge: EdgeId, face: FaceId)
     requires face { face < length heap.old }
-    requires edge { edge < length weight.now }
+    requires edge { edge < W.count weight.now }
+    requires valid { W.valid weight.now }
     ensures entry { heap.new ≡ slice_set heap.old face (Some (lesser (entry_of heap.old face)
-        (heaviest - at weight.now edge) (nobody - edge))) }
+        (heaviest - W.weight weight.now edge) (nobody - edge))) }
 {
-    let key = u64::MAX - weight[edge.index()];
+    let key = u64::MAX - weight.weight_of(edge);
     heap.offer(face.number(), key, NOBODY - edge.number());
 }
 
 // Offers the unreached neighbours of a face to the heap.
-fn offer_neighbours(network: &FaceNetwork<'_>, depth: &[u32], heap: &mut Heap, face: u32)
+fn offer_neighbours<W: Weights>(
+    network: &FaceNetwork<'_>,
+    weight: &W,
+    depth: &[u32],
+    heap: &mut Heap,
+    face: u32,
+)
     requires face { face < face_count network.now.mesh.now }
     requires depths { length depth.now ≡ face_count network.now.mesh.now }
     requires marks { length network.now.marks.now ≡ edge_count network.now.mesh.now }
-    requires weights { length network.now.weight.now ≡ edge_count network.now.mesh.now }
+    requires weights { W.count weight.now ≡ edge_count network.now.mesh.now }
+    requires valid { W.valid weight.now }
+    requires light { (e : ℕ) → W.weight weight.now e ≤ heaviest }
     requires places { length heap.old ≡ face_count network.now.mesh.now }
     ensures offered { IsOffered (dual (cells_of network.now.mesh.now))
-        (outside network.now.marks.now) (at network.now.weight.now) (reached depth.now)
+        (outside network.now.marks.now) (W.weight weight.now) (reached depth.now)
         face heap.old heap.new }
 {
     network.mesh.law_of_surface();
-    weights_fit(network.weight);
     for s in network.mesh.sides_of(FaceId::new(face)) {
         let (next, edge) = network.mesh.across(*s);
         if leads_on(network.marks, depth, edge, next) {
-            offer_by(heap, network.weight, edge, next);
+            offer_by(heap, weight, edge, next);
         }
     }
 }
@@ -83,8 +85,9 @@ pub(crate) fn face_across(mesh: &HalfMesh, edge: u32, face: u32) -> u32
 }
 
 // Grows the heaviest tree of the faces that edges without a mark join to face 0.
-pub(crate) fn span(
+pub(crate) fn span<W: Weights>(
     network: &FaceNetwork<'_>,
+    weight: &W,
     heap: &mut Heap,
     depth: &mut [u32],
     parent: &mut [u32],
@@ -94,28 +97,29 @@ pub(crate) fn span(
     requires parents { length parent.old ≡ face_count network.now.mesh.now }
     requires ups { length up.old ≡ face_count network.now.mesh.now }
     requires marks { length network.now.marks.now ≡ edge_count network.now.mesh.now }
-    requires weights { length network.now.weight.now ≡ edge_count network.now.mesh.now }
+    requires weights { W.count weight.now ≡ edge_count network.now.mesh.now }
+    requires valid { W.valid weight.now }
+    requires light { (e : ℕ) → W.weight weight.now e ≤ heaviest }
     requires places { length heap.old ≡ face_count network.now.mesh.now }
     ensures grown { IsPrim (dual (cells_of network.now.mesh.now)) (outside network.now.marks.now)
-        (at network.now.weight.now) (reached depth.new) (spanned_tree 0 parent.new up.new depth.new)
+        (W.weight weight.now) (reached depth.new) (spanned_tree 0 parent.new up.new depth.new)
         heap.new (count_below (face_count network.now.mesh.now) (λ f. at depth.new f == nobody)) }
     ensures empty { IsEmpty heap.new }
     ensures root { at up.new 0 ≡ nobody }
     ensures places { length heap.new ≡ face_count network.now.mesh.now }
 {
     network.mesh.law_of_surface();
-    weights_fit(network.weight);
     depth.fill(NOBODY);
     depth[0] = 0;
     up[0] = NOBODY;
     heap.clear();
-    offer_neighbours(network, depth, heap, 0);
+    offer_neighbours(network, weight, depth, heap, 0);
     while let Some((face, _, tie)) = heap.take_least() {
         let edge = NOBODY - tie;
         let from = face_across(network.mesh, edge, face);
         depth[face as usize] = depth[from as usize] + 1;
         parent[face as usize] = from;
         up[face as usize] = edge;
-        offer_neighbours(network, depth, heap, face);
+        offer_neighbours(network, weight, depth, heap, face);
     }
 }

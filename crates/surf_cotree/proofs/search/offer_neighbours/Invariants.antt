@@ -8,5 +8,5 @@ use Rattle.surf_cotree.proofs.Pairs.{IsOfferedSome}
 use Rattle.surf_cotree.proofs.search.offer_neighbours.Given as goal
 
 abbrev pub invariant-loop-s : goal.invariant-loop-s
-invariant-loop-s l = IsOfferedSome (dual (cells_of l.network.mesh.now)) (outside l.network.marks.now) (at l.network.weight.now) (reached l.depth) l.fn.face l.initial.heap l.heap
+invariant-loop-s gen l = IsOfferedSome (dual (cells_of l.network.mesh.now)) (outside l.network.marks.now) (gen.W.Weights.weight l.weight) (reached l.depth) l.fn.face l.initial.heap l.heap
     (λ k. (link_at (map (side_link l.network.mesh.now) l.s-items) k).0) (λ k. (link_at (map (side_link l.network.mesh.now) l.s-items) k).1) l.s-index

@@ -8,11 +8,11 @@ use Rattle.surf_cotree.specs.Searches.{reached, outside, spanned_tree, IsPrim}
 use Rattle.surf_cotree.proofs.search.span.Given as goal
 
 abbrev pub invariant-loop-face : goal.invariant-loop-face
-invariant-loop-face l = record {
+invariant-loop-face gen l = record {
   places : length l.heap ≡ face_count l.network.mesh.now;
   root : at l.up 0 ≡ nobody;
-  prim : IsPrim (dual (cells_of l.network.mesh.now)) (outside l.network.marks.now) (at l.network.weight.now) (reached l.depth) (spanned_tree 0 l.parent l.up l.depth) l.heap (count_below (face_count l.network.mesh.now) (λ v. eqb (at l.depth v) nobody));
+  prim : IsPrim (dual (cells_of l.network.mesh.now)) (outside l.network.marks.now) (gen.W.Weights.weight l.weight) (reached l.depth) (spanned_tree 0 l.parent l.up l.depth) l.heap (count_below (face_count l.network.mesh.now) (λ v. eqb (at l.depth v) nobody));
 }
 
 abbrev pub decreases-loop-face : goal.decreases-loop-face
-decreases-loop-face l = count_below (face_count l.network.mesh.now) (λ v. eqb (at l.depth v) nobody)
+decreases-loop-face gen l = count_below (face_count l.network.mesh.now) (λ v. eqb (at l.depth v) nobody)

@@ -12,56 +12,56 @@ use Rattle.surf_surfaces.proofs.CellLaws.{surfaces_are_cells}
 use Rattle.surf_cotree.specs.declared.peeling.Leaf.{Leaf}
 use Rattle.surf_base.specs.Tables.{nobody, at}
 use Rattle.surf_cotree.specs.Tables.{CotreeTables, AreCotreeTables}
-use Rattle.surf_cotree.specs.Searches.{outside, heaviest, spanned_tree, is_unmarked, IsHeaviestTree}
+use Rattle.surf_cotree.specs.Searches.{outside, spanned_tree, is_unmarked, IsHeaviestTree}
 use Rattle.surf_cotree.specs.Peeling.{IsPeeled, IsHung}
 use Rattle.surf_cotree.proofs.Hanging.{hung_first, hung_all}
 use Rattle.surf_cotree.proofs.Tabled.{unmarked_join, grown_tables}
-use Rattle.surf_cotree.proofs.desk.CotreeDesk.grow.Goals as goal
-use Rattle.surf_cotree.proofs.desk.CotreeDesk.grow.Goals.{After-deref_mut-8}
+use Rattle.surf_cotree.proofs.desk.CotreeDesk.grow_by.Given.{Over}
+use Rattle.surf_cotree.proofs.desk.CotreeDesk.grow_by.Goals as goal
+use Rattle.surf_cotree.proofs.desk.CotreeDesk.grow_by.Goals.{After-deref_mut-8}
 
-abbrev dual_of : After-deref_mut-8 → Graph
-dual_of c = dual (cells_of c.args.mesh.now)
+abbrev dual_of : (gen : Over) → After-deref_mut-8 gen → Graph
+dual_of gen c = dual (cells_of c.args.mesh.now)
 
 -- the tables that the hanging starts from
-leaves_are : (c : After-deref_mut-8) → c.deref-2.result.now ≡ c.peel-count.new.leaves
-leaves_are c = c.deref-2.ensures.value ∙ with_items_is c.self.inside.leaves c.peel-count.new.leaves (omega (arith, c.deref_mut-2.ensures.len))
+leaves_are : (gen : Over) (c : After-deref_mut-8 gen) → c.deref-2.result.now ≡ c.peel-count.new.leaves
+leaves_are gen c = c.deref-2.ensures.value ∙ with_items_is c.self.inside.leaves c.peel-count.new.leaves (omega (arith, c.deref_mut-2.ensures.len))
 
-depth_is : (c : After-deref_mut-8) → c.deref_mut-6.result.now ≡ c.span.new.depth
-depth_is c = c.deref_mut-6.ensures.value ∙ with_items_is c.self.inside.depth c.span.new.depth (omega (arith, c.deref_mut-3.ensures.len))
+depth_is : (gen : Over) (c : After-deref_mut-8 gen) → c.deref_mut-6.result.now ≡ c.span.new.depth
+depth_is gen c = c.deref_mut-6.ensures.value ∙ with_items_is c.self.inside.depth c.span.new.depth (omega (arith, c.deref_mut-3.ensures.len))
 
-parent_is : (c : After-deref_mut-8) → c.deref_mut-7.result.now ≡ c.span.new.parent
-parent_is c = c.deref_mut-7.ensures.value ∙ with_items_is c.self.inside.parent c.span.new.parent (omega (arith, c.deref_mut-4.ensures.len))
+parent_is : (gen : Over) (c : After-deref_mut-8 gen) → c.deref_mut-7.result.now ≡ c.span.new.parent
+parent_is gen c = c.deref_mut-7.ensures.value ∙ with_items_is c.self.inside.parent c.span.new.parent (omega (arith, c.deref_mut-4.ensures.len))
 
-up_is : (c : After-deref_mut-8) → c.deref_mut-8.result.now ≡ c.span.new.up
-up_is c = c.deref_mut-8.ensures.value ∙ with_items_is c.self.inside.up c.span.new.up (omega (arith, c.deref_mut-5.ensures.len))
+up_is : (gen : Over) (c : After-deref_mut-8 gen) → c.deref_mut-8.result.now ≡ c.span.new.up
+up_is gen c = c.deref_mut-8.ensures.value ∙ with_items_is c.self.inside.up c.span.new.up (omega (arith, c.deref_mut-5.ensures.len))
 
-peeled : (c : After-deref_mut-8) → IsPeeled (dual_of c) (outside c.args.in_tree.now) c.peel-count.new.leaves c.peel-count.result (outside c.deref.result.now)
-peeled c =
+peeled : (gen : Over) (c : After-deref_mut-8 gen) → IsPeeled (dual_of gen c) (outside c.args.in_tree.now) c.peel-count.new.leaves c.peel-count.result (outside c.deref.result.now)
+peeled gen c =
     let begin : c.deref_mut.result.now ≡ c.args.in_tree.now = c.deref_mut.ensures.value ∙ c.copy_from_slice.ensures.items in
     let held : c.deref.result.now ≡ c.peel-count.new.marks = c.deref.ensures.value ∙ with_items_is c.copy_from_slice.new.self c.peel-count.new.marks (omega (arith, c.deref_mut.ensures.len)) in
-    subst (λ (m : List Bool). IsPeeled (dual_of c) (outside m) c.peel-count.new.leaves c.peel-count.result (outside c.deref.result.now)) begin
-    (subst (λ (m : List Bool). IsPeeled (dual_of c) (outside c.deref_mut.result.now) c.peel-count.new.leaves c.peel-count.result (outside m)) (sym held) c.peel-count.ensures.peeled)
+    subst (λ (m : List Bool). IsPeeled (dual_of gen c) (outside m) c.peel-count.new.leaves c.peel-count.result (outside c.deref.result.now)) begin
+    (subst (λ (m : List Bool). IsPeeled (dual_of gen c) (outside c.deref_mut.result.now) c.peel-count.new.leaves c.peel-count.result (outside m)) (sym held) c.peel-count.ensures.peeled)
 
-start : (c : After-deref_mut-8) → IsHung (dual_of c) (outside c.args.in_tree.now) (at c.args.weight.now) c.deref-2.result.now c.peel-count.result c.deref_mut-7.result.now c.deref_mut-8.result.now c.deref_mut-6.result.now
-start c =
-    let light : (e : ℕ) → at c.args.weight.now e ≤ heaviest = λ e. omega (arith, c.type_inv.weight e) in
-    let hung = hung_first (dual_of c) (outside c.args.in_tree.now) (at c.args.weight.now) light c.peel-count.new.leaves c.peel-count.result (outside c.deref.result.now) (peeled c) c.span.new.parent c.span.new.up c.span.new.depth c.span.new.heap c.span.ensures.places c.span.ensures.empty c.span.ensures.root c.span.ensures.grown in
-    subst (λ (x : List Leaf). IsHung (dual_of c) (outside c.args.in_tree.now) (at c.args.weight.now) x c.peel-count.result c.deref_mut-7.result.now c.deref_mut-8.result.now c.deref_mut-6.result.now) (sym (leaves_are c))
-    (subst (λ (x : List ℕ). IsHung (dual_of c) (outside c.args.in_tree.now) (at c.args.weight.now) c.peel-count.new.leaves c.peel-count.result x c.deref_mut-8.result.now c.deref_mut-6.result.now) (sym (parent_is c))
-    (subst (λ (x : List ℕ). IsHung (dual_of c) (outside c.args.in_tree.now) (at c.args.weight.now) c.peel-count.new.leaves c.peel-count.result c.span.new.parent x c.deref_mut-6.result.now) (sym (up_is c))
-    (subst (λ (x : List ℕ). IsHung (dual_of c) (outside c.args.in_tree.now) (at c.args.weight.now) c.peel-count.new.leaves c.peel-count.result c.span.new.parent c.span.new.up x) (sym (depth_is c)) hung)))
+start : (gen : Over) (c : After-deref_mut-8 gen) → IsHung (dual_of gen c) (outside c.args.in_tree.now) (gen.W.Weights.weight c.args.weight.now) c.deref-2.result.now c.peel-count.result c.deref_mut-7.result.now c.deref_mut-8.result.now c.deref_mut-6.result.now
+start gen c =
+    let hung = hung_first (dual_of gen c) (outside c.args.in_tree.now) (gen.W.Weights.weight c.args.weight.now) c.requires.light c.peel-count.new.leaves c.peel-count.result (outside c.deref.result.now) (peeled gen c) c.span.new.parent c.span.new.up c.span.new.depth c.span.new.heap c.span.ensures.places c.span.ensures.empty c.span.ensures.root c.span.ensures.grown in
+    subst (λ (x : List Leaf). IsHung (dual_of gen c) (outside c.args.in_tree.now) (gen.W.Weights.weight c.args.weight.now) x c.peel-count.result c.deref_mut-7.result.now c.deref_mut-8.result.now c.deref_mut-6.result.now) (sym (leaves_are gen c))
+    (subst (λ (x : List ℕ). IsHung (dual_of gen c) (outside c.args.in_tree.now) (gen.W.Weights.weight c.args.weight.now) c.peel-count.new.leaves c.peel-count.result x c.deref_mut-8.result.now c.deref_mut-6.result.now) (sym (parent_is gen c))
+    (subst (λ (x : List ℕ). IsHung (dual_of gen c) (outside c.args.in_tree.now) (gen.W.Weights.weight c.args.weight.now) c.peel-count.new.leaves c.peel-count.result c.span.new.parent x c.deref_mut-6.result.now) (sym (up_is gen c))
+    (subst (λ (x : List ℕ). IsHung (dual_of gen c) (outside c.args.in_tree.now) (gen.W.Weights.weight c.args.weight.now) c.peel-count.new.leaves c.peel-count.result c.span.new.parent c.span.new.up x) (sym (depth_is gen c)) hung)))
 
 pub hang-requires-clause-some : goal.hang-requires-clause-some
-hang-requires-clause-some c = (outside c.args.in_tree.now, at c.args.weight.now, start c)
+hang-requires-clause-some gen c = (outside c.args.in_tree.now, gen.W.Weights.weight c.args.weight.now, start gen c)
 
 -- the tables that it ends with
-module _ (c : After-deref_mut-8) (parent up depth : List ℕ)
+module _ (gen : Over) (c : After-deref_mut-8 gen) (parent up depth : List ℕ)
     (hung : (allowed : ℕ → Bool) (weight : ℕ → ℕ) → IsHung (dual (cells_of c.args.mesh.now)) allowed weight c.deref-2.result.now c.peel-count.result c.deref_mut-7.result.now c.deref_mut-8.result.now c.deref_mut-6.result.now → IsHung (dual (cells_of c.args.mesh.now)) allowed weight c.deref-2.result.now 0 parent up depth) where
-  end : IsHung (dual_of c) (outside c.args.in_tree.now) (at c.args.weight.now) c.deref-2.result.now 0 parent up depth
-  end = hung (outside c.args.in_tree.now) (at c.args.weight.now) (start c)
+  end : IsHung (dual_of gen c) (outside c.args.in_tree.now) (gen.W.Weights.weight c.args.weight.now) c.deref-2.result.now 0 parent up depth
+  end = hung (outside c.args.in_tree.now) (gen.W.Weights.weight c.args.weight.now) (start gen c)
 
-  heavy : IsHeaviestTree (dual_of c) (outside c.args.in_tree.now) (at c.args.weight.now) (spanned_tree 0 parent up depth)
-  heavy = hung_all (dual_of c) (outside c.args.in_tree.now) (at c.args.weight.now) (surfaces_are_cells c.args.mesh.now c.law_of_surface.ensures.surface).complex.dual_ends (omega (arith, c.law_of_surface.ensures.edges)) c.deref-2.result.now parent up depth end
+  heavy : IsHeaviestTree (dual_of gen c) (outside c.args.in_tree.now) (gen.W.Weights.weight c.args.weight.now) (spanned_tree 0 parent up depth)
+  heavy = hung_all (dual_of gen c) (outside c.args.in_tree.now) (gen.W.Weights.weight c.args.weight.now) (surfaces_are_cells c.args.mesh.now c.law_of_surface.ensures.surface).complex.dual_ends (omega (arith, c.law_of_surface.ensures.edges)) c.deref-2.result.now parent up depth end
       (unmarked_join c.args.mesh.now c.args.in_tree.now c.law_of_surface.ensures.surface c.requires.tree)
 
   root : at up 0 ≡ nobody
@@ -74,8 +74,8 @@ module _ (c : After-deref_mut-8) (parent up depth : List ℕ)
   ]
 
 pub mark_edges-requires : goal.mark_edges-requires
-mark_edges-requires c =
-    let i = (goal.at.mark_edges-requires c).After-deref_mut-8 in
+mark_edges-requires gen c =
+    let i = (goal.at.mark_edges-requires gen c).After-deref_mut-8 in
     let mesh = c.args.mesh.now in
     let here = subst (AreCotreeTables mesh) (sym c.self.view_is) c.requires.made in
     let up = c.hang.new.up in
@@ -85,13 +85,13 @@ mark_edges-requires c =
     record {
       ups = λ f l some.
           let lf : f < face_count mesh = let same = ap length up_is in omega (arith, same) in
-          let inside = ups_in i c.hang.new.parent up c.hang.new.depth c.hang.ensures.hung f lf (subst (λ (x : List ℕ). at x f ≢ nobody) up_is some) in
+          let inside = ups_in gen i c.hang.new.parent up c.hang.new.depth c.hang.ensures.hung f lf (subst (λ (x : List ℕ). at x f ≢ nobody) up_is some) in
           subst (λ (x : List ℕ). at x f < length c.deref_mut-9.result.now) (sym up_is) (omega (arith, inside));
     }
 
 pub returns : goal.returns
-returns c =
-    let i = (goal.at.returns c).After-deref_mut-8 in
+returns gen c =
+    let i = (goal.at.returns gen c).After-deref_mut-8 in
     let mesh = c.args.mesh.now in
     let d = c.self.inside in
     let made : AreCotreeTables mesh c.args.self.now = c.requires.made in
@@ -116,7 +116,7 @@ returns c =
     in
     let t : CotreeTables = record { held = held; left = c.list_left.new.left.items; parents = parent; ups = up; depths = depth; width = d.signs.width; signatures = d.signs.sets } in
     rw (depth_is, parent_is, up_is, held_is) (record {
-      grown = grown_tables mesh marks (at c.args.weight.now) t (record {
+      grown = grown_tables mesh marks (gen.W.Weights.weight c.args.weight.now) t (record {
         surface = c.law_of_surface.ensures.surface;
         few = omega (arith, c.law_of_surface.ensures.edges);
         made = record {
@@ -128,8 +128,8 @@ returns c =
           signatures = here.signatures;
         };
         some_tree = c.requires.tree;
-        heavy = heavy i parent up depth c.hang.ensures.hung;
-        root = root i parent up depth c.hang.ensures.hung;
+        heavy = heavy gen i parent up depth c.hang.ensures.hung;
+        root = root gen i parent up depth c.hang.ensures.hung;
         marked = marked;
         listed = listed;
       });
