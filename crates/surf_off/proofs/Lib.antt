@@ -13,3 +13,4 @@ pub mod RereadMesh
 pub mod StartsOf
 mod Joined
 mod PlainFaces
+mod ShortFaces

@@ -7,10 +7,10 @@ ghost use Rattle.surf_off.specs.Written.{lines_text, spaced_text, face_text, fac
 ghost use Rattle.surf_off.specs.Written.{soup_text, RereadsSoup};
 
 use crate::header::Header;
-use crate::write::write_head;
+use crate::write::{FEW_CORNERS, write_head};
 use surf_base::{FaceId, VertexId};
 use surf_soup::Soup;
-use surf_text::{Page, PageFault, Piece};
+use surf_text::{Page, PageFault, Piece, Slip};
 
 fn write_points(page: &mut Page, vertices: u32) -> Result<(), PageFault>
     requires fits { length page.old.bytes ≤ page.old.most }
@@ -32,12 +32,37 @@ fn write_numbers(page: &mut Page, corners: &[VertexId]) -> Result<(), PageFault>
     Ok(())
 }
 
-fn write_plain_face(page: &mut Page, corners: &[VertexId]) -> Result<(), PageFault>
+// The line of a face of few corners.
+fn short_plain_face(corners: &[VertexId]) -> Slip
+    requires few { length corners.now ≤ 5 }
+    ensures face { result ≡ face_text corners.now [] }
+{
+    let mut slip = Slip::new();
+    slip.put_byte(b'\n');
+    for k in (0..corners.len()).rev() {
+        slip.put_whole(corners[k].number() as u64);
+        slip.put_byte(b' ');
+    }
+    slip.put_whole(corners.len() as u64);
+    slip
+}
+
+// The line of a face, however long it is.
+fn write_long_plain_face(page: &mut Page, corners: &[VertexId]) -> Result<(), PageFault>
     ensures puts { Puts page.old page.new (face_text corners.now []) result }
 {
     page.push_whole(corners.len() as u128)?;
     write_numbers(page, corners)?;
     page.push_bytes(b"\n")
+}
+
+fn write_plain_face(page: &mut Page, corners: &[VertexId]) -> Result<(), PageFault>
+    ensures puts { Puts page.old page.new (face_text corners.now []) result }
+{
+    if corners.len() > FEW_CORNERS {
+        return write_long_plain_face(page, corners);
+    }
+    page.push_bytes(short_plain_face(corners).bytes())
 }
 
 fn write_plain_faces(page: &mut Page, soup: &Soup) -> Result<(), PageFault>

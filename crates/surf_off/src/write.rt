@@ -10,7 +10,7 @@ ghost use Rattle.surf_off.specs.Written.{RereadsOpened};
 use crate::header::Header;
 use crate::text::OffText;
 use surf_base::{CopyId, VertexId};
-use surf_text::{Page, PageFault, Piece};
+use surf_text::{Page, PageFault, Piece, Slip};
 
 pub(crate) fn write_head(
     page: &mut Page,
@@ -66,13 +66,41 @@ pub(crate) fn write_colour(page: &mut Page, colour: &[u8]) -> Result<(), PageFau
     page.push_pieces(&[Piece::Bytes(b" "), Piece::Bytes(colour)])
 }
 
-fn write_face(page: &mut Page, corners: &[CopyId], colour: &[u8]) -> Result<(), PageFault>
+// How many corners fit on a slip, with how many they are and the end of the line.
+pub(crate) const FEW_CORNERS: usize = 5;
+
+// The line of a face of few corners without a colour.
+fn short_face(corners: &[CopyId]) -> Slip
+    requires few { length corners.now ≤ 5 }
+    ensures face { result ≡ face_text corners.now [] }
+{
+    let mut slip = Slip::new();
+    slip.put_byte(b'\n');
+    for k in (0..corners.len()).rev() {
+        slip.put_whole(corners[k].number() as u64);
+        slip.put_byte(b' ');
+    }
+    slip.put_whole(corners.len() as u64);
+    slip
+}
+
+// The line of a face, however long it is.
+fn write_long_face(page: &mut Page, corners: &[CopyId], colour: &[u8]) -> Result<(), PageFault>
     ensures puts { Puts page.old page.new (face_text corners.now colour.now) result }
 {
     page.push_whole(corners.len() as u128)?;
     write_corners(page, corners)?;
     write_colour(page, colour)?;
     page.push_bytes(b"\n")
+}
+
+fn write_face(page: &mut Page, corners: &[CopyId], colour: &[u8]) -> Result<(), PageFault>
+    ensures puts { Puts page.old page.new (face_text corners.now colour.now) result }
+{
+    if corners.len() > FEW_CORNERS || !colour.is_empty() {
+        return write_long_face(page, corners, colour);
+    }
+    page.push_bytes(short_face(corners).bytes())
 }
 
 // The corners of a face.

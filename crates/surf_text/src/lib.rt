@@ -4,8 +4,9 @@
 //! line's end is a comment. Blanks are space, tab and carriage return, and no others. A token is a
 //! longest run of bytes that are neither blank nor part of a comment. [`Lines`] walks over the
 //! lines that have a token and [`Tokens`] over the tokens of a line; both lend slices of the text
-//! and copy nothing. A [`Page`] holds a text that grows up to a bound. A line of words and numbers,
-//! as one that says a fault, is [`numbered`].
+//! and copy nothing. A [`Page`] holds a text that grows up to a bound, and a [`Slip`] a short one
+//! that goes on a page at once. A line of words and numbers, as one that says a fault, is
+//! [`numbered`].
 #![tactic(auto)]
 
 mod lines;
@@ -13,6 +14,7 @@ mod number;
 mod page;
 mod pieces;
 mod places;
+mod slip;
 mod telling;
 mod tokens;
 
@@ -20,5 +22,6 @@ pub use lines::{Line, Lines};
 pub use number::{read_whole, split_number};
 pub use page::{Page, PageFault};
 pub use pieces::Piece;
+pub use slip::Slip;
 pub use telling::numbered;
 pub use tokens::{Tokens, has_tokens};

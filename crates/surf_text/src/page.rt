@@ -1,9 +1,11 @@
 //! A page on which a text is made.
-ghost use Rattle.std.specs.Prelude.{◌≡◌, ◌<◌, ◌≤◌, ◌+◌, [], length, decimal, IsErrOf, OnErr};
+ghost use Rattle.std.specs.Prelude.{◌≡◌, ◌<◌, ◌≤◌, ◌+◌, ◌++◌, [], length, decimal, IsErrOf, IfSome, IsTrue};
+ghost use Rattle.std.specs.Prelude.{OnErr};
 ghost use Rattle.surf_text.specs.Pages.{Puts};
 ghost use Rattle.surf_text.specs.Pieces.{piece_text, pieces_text};
 
 use crate::pieces::Piece;
+use crate::slip::Slip;
 use itoa::Buffer;
 use std::alloc::{AllocError, Global};
 use std::marker::Model;
@@ -47,6 +49,45 @@ impl Model for Page {
     ghost view = { λ s. record { bytes = s.bytes.items; most = s.most } };
 
     ghost invariant = { λ s. length s.bytes.items ≤ s.most };
+}
+
+// Puts a piece before what a slip holds, where that is sure to have room for it, and says whether
+// it did.
+fn put_piece(slip: &mut Slip, piece: &Piece<'_>) -> bool
+    ensures before { IsTrue result → slip.new ≡ piece_text piece.now ++ slip.old }
+{
+    match piece {
+        Piece::Bytes(bytes) => {
+            if bytes.len() > slip.room() {
+                return false;
+            }
+            slip.put_bytes(bytes);
+            true
+        }
+        Piece::Whole(n) => {
+            if *n > u64::MAX as u128 {
+                return false;
+            }
+            if slip.room() < 20 {
+                return false;
+            }
+            slip.put_whole(*n as u64);
+            true
+        }
+    }
+}
+
+// Pieces one after the other on a slip, where that is sure to have room for them.
+fn slip_of(pieces: &[Piece<'_>]) -> Option<Slip>
+    ensures { IfSome result (λ slip. slip ≡ pieces_text pieces.now) }
+{
+    let mut slip = Slip::new();
+    for k in (0..pieces.len()).rev() {
+        if !put_piece(&mut slip, &pieces[k]) {
+            return None;
+        }
+    }
+    Some(slip)
 }
 
 impl Page {
@@ -96,10 +137,7 @@ impl Page {
         }
     }
 
-    /// Puts pieces at the end, one after the other. Refuses with `Full` where the page would hold
-    /// more than `most` with all of them, and with `Memory` where there is none. After a refusal
-    /// the page holds a front of their text behind its bytes.
-    pub fn push_pieces(&mut self, pieces: &[Piece<'_>]) -> Result<(), PageFault>
+    fn push_each(&mut self, pieces: &[Piece<'_>]) -> Result<(), PageFault>
         ensures puts { Puts self.old self.new (pieces_text pieces.now) result }
     {
         let held = self.bytes.len() as u64;
@@ -108,6 +146,18 @@ impl Page {
             self.push_piece(piece)?;
         }
         Ok(())
+    }
+
+    /// Puts pieces at the end, one after the other. Refuses with `Full` where the page would hold
+    /// more than `most` with all of them, and with `Memory` where there is none. After a refusal
+    /// the page holds a front of their text behind its bytes.
+    pub fn push_pieces(&mut self, pieces: &[Piece<'_>]) -> Result<(), PageFault>
+        ensures puts { Puts self.old self.new (pieces_text pieces.now) result }
+    {
+        match slip_of(pieces) {
+            Some(slip) => self.push_bytes(slip.bytes()),
+            None => self.push_each(pieces),
+        }
     }
 
     /// What a page keeps: it holds no more than its bound. A caller whose proof rests on that calls

@@ -2,7 +2,7 @@ use Rattle.std.proofs.Common.{refl}
 use Rattle.std.proofs.lemmas.Result.{err_from_is_err_and}
 use Rattle.surf_text.specs.Pieces.{piece_text, pieces_text}
 use Rattle.surf_text.proofs.Writing.{loop_more, loop_stop, loop_done}
-use Rattle.surf_text.proofs.page.Page.push_pieces.Goals as goal
+use Rattle.surf_text.proofs.page.Page.push_each.Goals as goal
 
 pub returns-in_err-push_piece : goal.returns-in_err-push_piece
 returns-in_err-push_piece c =

@@ -3,7 +3,7 @@ use Rattle.std.specs.Prelude.{decimal}
 use Rattle.std.proofs.lemmas.Result.{err_from_is_err_and}
 use Rattle.surf_text.proofs.Writing.{puts_more, puts_stop}
 use Rattle.surf_off.specs.Written.{spaced_text}
-use Rattle.surf_off.proofs.made.write_plain_face.Goals as goal
+use Rattle.surf_off.proofs.made.write_long_plain_face.Goals as goal
 
 pub returns-in_err-push_whole : goal.returns-in_err-push_whole
 returns-in_err-push_whole c =
