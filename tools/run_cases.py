@@ -3,9 +3,9 @@
 
     run_cases.py [--program PATH] [SHEET ..]
 
-The program is crates/surf/out/surf where none is named, and the sheets are tools/cases/*.cases. Where there is no
-program, nothing is run. Each case runs in a folder with its files. A case that goes otherwise than is due is printed,
-and the last line is 'N passed, M failed'.
+Where no program is named, the cases run on crates/surf/out/surf, as LLVM makes it, if it is there, and on surf.by-rattle
+beside it, as Rattle's own compiler does, if it was made no earlier. The sheets are tools/cases/*.cases. Each case runs in
+a folder with its files. A case that goes otherwise than is due is printed, and the last line is 'N passed, M failed'.
 
 A sheet is read by lines:
 
@@ -17,6 +17,7 @@ A sheet is read by lines:
     status N        the status that is due
     out, diag       begin the text that is due on standard output and on standard error
     out of NAME     what is due on standard output is the text of that file
+    front           begins what standard output begins with, in place of the whole text
     begins NAME ..  which files are opened, in order
     keep NAME       keeps the output, whatever it is, as a file for the cases below
     -- ..           for the reader, as are empty lines
@@ -32,6 +33,7 @@ import subprocess
 import tempfile
 
 TOP = pathlib.Path(__file__).resolve().parent.parent
+BUILT = TOP / "crates" / "surf" / "out" / "surf"
 SIGNS = {"t": "\t", "r": "\r", "0": "\0"}
 OPENED = 0x20
 
@@ -77,7 +79,7 @@ def cases_of(text):
             files[rest], part = "", (files, rest)
         elif key == "out" and rest:
             cases[-1]["of"] = rest.removeprefix("of ")
-        elif key in ("out", "diag"):
+        elif key in ("out", "diag", "front"):
             cases[-1][key], part = "", (cases[-1], key)
         elif key == "status":
             cases[-1]["status"] = int(rest)
@@ -100,6 +102,20 @@ def came(program, case, files):
     return (done.returncode, done.stdout.decode(), done.stderr.decode()), opened
 
 
+def is_due(got, case, out):
+    """Whether a run went as is due, where this is the text that is due on standard output."""
+    status, written, diag = got
+    right = written.startswith(case["front"]) if "front" in case else written == out
+    return right and (status, diag) == (case["status"], case["diag"])
+
+
+def newest(built):
+    """The program and the one by the second compiler, but for one that is older than the other."""
+    second = built.with_name(f"{built.name}.by-rattle")
+    are_both = built.exists() and second.exists() and second.stat().st_mtime >= built.stat().st_mtime
+    return [built, second] if are_both else [built]
+
+
 def told(names):
     """The names as the system tells them: a file that is opened twice in a row is told of once."""
     return [name for at, name in enumerate(names) if at == 0 or names[at - 1] != name]
@@ -115,26 +131,27 @@ def run_sheet(program, path):
         out = shared[case["of"]] if "of" in case else case["out"]
         if "keep" in case:
             shared[case["keep"]] = out = got[1]
-        if got != (case["status"], out, case["diag"]):
+        where = f"{program.name}: {path.name}: {' '.join(case['words'])}"
+        if not is_due(got, case, out):
             failed += 1
-            print(f"{path.name}: {' '.join(case['words'])}: {got!r}")
+            print(f"{where}: {got!r:.2000}")
         elif "begins" in case and opened != told([name for name in case["begins"] if name in files]):
             failed += 1
-            print(f"{path.name}: {' '.join(case['words'])}: opened {opened}")
+            print(f"{where}: opened {opened}")
     return len(cases) - failed, failed
 
 
 def main():
     args = argparse.ArgumentParser(description=__doc__, formatter_class=argparse.RawDescriptionHelpFormatter)
-    args.add_argument("--program", default=TOP / "crates" / "surf" / "out" / "surf")
+    args.add_argument("--program", type=pathlib.Path)
     args.add_argument("sheets", nargs="*", type=pathlib.Path)
     args = args.parse_args()
-    program = pathlib.Path(args.program).resolve()
-    if not program.exists():
+    programs = [path.resolve() for path in ([args.program] if args.program else newest(BUILT)) if path.exists()]
+    if not programs:
         print("surf isn't built: the worked cases are not run")
         return 0
     sheets = args.sheets or sorted((TOP / "tools" / "cases").glob("*.cases"))
-    passed, failed = map(sum, zip(*(run_sheet(program, path) for path in sheets)))
+    passed, failed = map(sum, zip(*(run_sheet(program, path) for program in programs for path in sheets)))
     print(f"{passed} passed, {failed} failed")
     return 1 if failed else 0
 

@@ -15,6 +15,7 @@ import check_walks  # noqa: E402
 import crate_graph  # noqa: E402
 import hostile  # noqa: E402
 import misuses  # noqa: E402
+import run_cases  # noqa: E402
 from worked_cases import PLANE_FACES, TORUS_FACES, edges_of  # noqa: E402
 
 
@@ -81,6 +82,22 @@ class Misuses(unittest.TestCase):
         self.assertIsNotNone(misuses.fault_of(said, "    b;\na\n", "borrow-e0505", "b;"))
         self.assertIsNotNone(misuses.fault_of("", "a\n    b;\n", "borrow-e0505", "b;"))
         self.assertIsNotNone(misuses.fault_of(said, "", None, None))
+
+
+class Cases(unittest.TestCase):
+    SHEET = "file m\n|a\ncase loops m\nfront\n|loops 2\\\ncase info n\nfile n\n|b\\t\\\nstatus 1\ndiag\n|no\n"
+
+    def test_what_a_sheet_says(self):
+        shared, cases = run_cases.cases_of(self.SHEET)
+        self.assertEqual((shared, [case["words"] for case in cases]), ({"m": "a\n"}, [["loops", "m"], ["info", "n"]]))
+        self.assertEqual((cases[0]["front"], cases[1]["files"], cases[1]["diag"]), ("loops 2", {"n": "b\t"}, "no\n"))
+
+    def test_what_is_due(self):
+        _, (front, whole) = run_cases.cases_of(self.SHEET)
+        self.assertTrue(run_cases.is_due((0, "loops 2\ntotal 6\n", ""), front, ""))
+        self.assertTrue(run_cases.is_due((1, "", "no\n"), whole, ""))
+        for case, got in ((front, (0, "loops 1\n", "")), (front, (1, "loops 2\n", "")), (whole, (1, "no\n", "no\n"))):
+            self.assertFalse(run_cases.is_due(got, case, ""), got)
 
 
 class PlainMethod(unittest.TestCase):
