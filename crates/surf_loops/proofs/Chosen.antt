@@ -1,5 +1,5 @@
 -- The loops that a desk holds are those that are chosen.
-use Rattle.std.proofs.Common.{ℕ, ◌<◌, ◌≤◌, ◌≡◌, ◌≢◌, ◌^◌, ◌||◌, ◌&&◌, refl, sym, ap, ◌∙◌, subst, arith, inl, inr, List, [], ◌∷◌, length, map, get_or, slice_index, true, false, eqb, ltb, All, IsPermutation}
+use Rattle.std.proofs.Common.{ℕ, ◌<◌, ◌≤◌, ◌≡◌, ◌≢◌, ◌^◌, ◌||◌, ◌&&◌, refl, sym, ap, ◌∙◌, subst, arith, inl, inr, List, [], ◌∷◌, length, map, get_or, true, false, eqb, ltb, All, IsPermutation}
 use Rattle.std.specs.List.{AllByRecursion, IsDistinct}
 use Rattle.std.specs.List.Sorted.{IsNonDecreasingBy}
 use Rattle.std.proofs.lemmas.Bool.{cases_lt, eq-eqb, ne_eqb, false≢true}
@@ -48,7 +48,7 @@ sorted_tables_are_loops mesh lengths base trees table permuted in_order =
 edge_of : LoopHead → ℕ
 edge_of h = h.edge
 
-edges_back : (weight xs : List ℕ) → map (λ (h : LoopHead). h.edge) (map (head_of weight) xs) ≡ xs
+edges_back : (weight : ℕ → ℕ) (xs : List ℕ) → map (λ (h : LoopHead). h.edge) (map (head_of weight) xs) ≡ xs
 edges_back weight [] = refl
 edges_back weight (x ∷ xs) = ap (λ ys. x ∷ ys) (edges_back weight xs)
 
@@ -63,10 +63,10 @@ head_order a b base la lb ne le = elim (cases_lt a.length b.length) [
       grind (arith, nat_tests)
 ]
 
-module _ (mesh : Mesh) (lengths : List ℕ) (base : ℕ) (t : LoopTables) (weight : List ℕ) (surface : IsSurface mesh) (few : edge_count mesh < 2 ^ 32)
+module _ (mesh : Mesh) (lengths : List ℕ) (base : ℕ) (t : LoopTables) (weight : ℕ → ℕ) (surface : IsSurface mesh) (few : edge_count mesh < 2 ^ 32)
     (are : AreLengths lengths) (long : length lengths ≡ edge_count mesh)
-    (tree : IsTreeGrown mesh lengths base t.tree) (loops : (e : ℕ) → e < edge_count mesh → slice_index weight e ≡ loop_length mesh lengths (tree_of t.tree) e)
-    (cotree : IsCotreeGrown mesh t.tree.flags (slice_index weight) t.cotree)
+    (tree : IsTreeGrown mesh lengths base t.tree) (loops : (e : ℕ) → e < edge_count mesh → weight e ≡ loop_length mesh lengths (tree_of t.tree) e)
+    (cotree : IsCotreeGrown mesh t.tree.flags weight t.cotree)
     (same : IsPermutation (map (head_of weight) t.cotree.left) t.heads) (order : IsNonDecreasingBy order_of t.heads) where
   positive : ArePositive mesh lengths
   positive e l = (are e 0 (omega (arith, long, l))).positive
@@ -167,7 +167,7 @@ module _ (mesh : Mesh) (lengths : List ℕ) (base : ℕ) (t : LoopTables) (weigh
   greedy_tables = record {
     made = record { tree = tree.made; cotree = cotree.made };
     tree = tree;
-    weight = slice_index weight;
+    weight = weight;
     weighs = loops;
     cotree = cotree;
     rooted = rooted;

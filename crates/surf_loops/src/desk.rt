@@ -16,7 +16,7 @@ ghost use Rattle.surf_loops.specs.Loops.{LoopTables, AreLoopTables, IsRooted, Is
 ghost use Rattle.surf_base.specs.declared.limits.TheConstants.{MAX_LOOPS};
 
 use crate::head::LoopHead;
-use crate::heads::{list_heads, set_weights};
+use crate::heads::{LoopLengths, list_heads};
 use crate::ways::push_way;
 use std::alloc::Global;
 use std::marker::Model;
@@ -32,20 +32,18 @@ use surf_tree::TreeDesk;
 pub struct LoopDesk {
     tree: TreeDesk,
     cotree: CotreeDesk,
-    weight: Vec<u64>,
     heads: Vec<LoopHead>,
 }
 
 impl Model for LoopDesk {
-    ghost use Rattle.std.specs.Prelude.{◌≡◌, ◌≤◌, length, vec_capacity};
+    ghost use Rattle.std.specs.Prelude.{◌≤◌, length, vec_capacity};
     ghost use Rattle.surf_loops.specs.Loops.{LoopTables};
 
     ghost Value = { LoopTables };
 
     ghost view = { λ d. record { tree = d.tree; cotree = d.cotree; heads = d.heads.items } };
 
-    ghost invariant = { λ d. (length d.weight.items ≡ length d.cotree.held)
-        × (length d.cotree.held ≤ vec_capacity d.heads) };
+    ghost invariant = { λ d. length d.cotree.held ≤ vec_capacity d.heads };
 }
 
 impl LoopDesk {
@@ -57,12 +55,10 @@ impl LoopDesk {
         let edges = mesh.edges() as usize;
         let tree = TreeDesk::make(alloc, mesh)?;
         let cotree = CotreeDesk::make(alloc, mesh)?;
-        let weight = vec![in alloc; 0u64; edges]?;
         let heads = Vec::with_capacity(alloc, edges)?;
         Ok(LoopDesk {
             tree,
             cotree,
-            weight,
             heads,
         })
     }
@@ -90,9 +86,13 @@ impl LoopDesk {
     {
         mesh.law_of_surface();
         lengths.law_of_lengths();
-        set_weights(mesh, lengths, &self.tree, &mut self.weight);
-        self.cotree.grow(mesh, self.tree.tree_edges(), &self.weight);
-        list_heads(self.cotree.left(), &self.weight, &mut self.heads);
+        let loops = LoopLengths {
+            mesh,
+            lengths,
+            tree: &self.tree,
+        };
+        self.cotree.grow_by(mesh, self.tree.tree_edges(), &loops);
+        list_heads(self.cotree.left(), &loops, &mut self.heads);
     }
 
     /// Finds the loops at a base that are chosen, a least loop system there. It takes no memory and

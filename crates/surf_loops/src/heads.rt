@@ -6,9 +6,11 @@ ghost use Rattle.surf_surfaces.specs.Surface.{edge_count};
 ghost use Rattle.surf_surfaces.specs.Loop.{loop_length};
 ghost use Rattle.surf_tree.specs.Tables.{AreTreeTables, tree_of};
 ghost use Rattle.surf_loops.specs.Heads.{head_of, order_of};
+ghost use Rattle.surf_loops.specs.Loops.{AreLoopParts};
 
 use crate::head::LoopHead;
 use surf_base::EdgeId;
+use surf_cotree::Weights;
 use surf_lengths::Lengths;
 use surf_mesh::HalfMesh;
 use surf_tree::TreeDesk;
@@ -27,32 +29,40 @@ fn loop_length(mesh: &HalfMesh, lengths: &Lengths, tree: &TreeDesk, edge: EdgeId
     tree.distance(u) + u64::from(lengths.of(edge)) + tree.distance(v)
 }
 
-// Writes the lengths of the loops of all edges.
-pub(crate) fn set_weights(mesh: &HalfMesh, lengths: &Lengths, tree: &TreeDesk, weight: &mut [u64])
-    requires tables { AreTreeTables mesh.now tree.now }
-    requires lengths { length lengths.now ≡ edge_count mesh.now }
-    requires fits { (v : ℕ) → v < mesh.now.vertices → slice_index tree.now.distances v < 2 ^ 62 }
-    requires weights { length weight.old ≡ edge_count mesh.now }
-    ensures lengths { (e : ℕ) → e < edge_count mesh.now →
-        slice_index weight.new e ≡ loop_length mesh.now lengths.now (tree_of tree.now) e }
-{
-    for e in 0..mesh.edges() {
-        weight[e as usize] = loop_length(mesh, lengths, tree, EdgeId::new(e));
+/// The length of the loop of each edge by a tree of shortest walks.
+#[derive(Drop)]
+pub(crate) struct LoopLengths<'a> {
+    pub mesh: &'a HalfMesh,
+    pub lengths: &'a Lengths,
+    pub tree: &'a TreeDesk,
+}
+
+impl Weights for LoopLengths<'_> {
+    ghost weight = { λ w. loop_length w.mesh.now w.lengths.now (tree_of w.tree.now) };
+
+    ghost count = { λ w. edge_count w.mesh.now };
+
+    ghost valid = { λ w. AreLoopParts w.mesh.now w.lengths.now w.tree.now };
+
+    fn weight_of(&self, edge: EdgeId) -> u64 {
+        loop_length(self.mesh, self.lengths, self.tree, edge)
     }
 }
 
 // Lists the heads of edges, in room that there is.
-fn fill_heads(left: &[EdgeId], weight: &[u64], heads: &mut Vec<LoopHead>)
-    requires inside { All (λ e. e < length weight.now) left.now }
+fn fill_heads(left: &[EdgeId], loops: &LoopLengths<'_>, heads: &mut Vec<LoopHead>)
+    requires inside { All (λ e. e < edge_count loops.now.mesh.now) left.now }
+    requires parts { AreLoopParts loops.now.mesh.now loops.now.lengths.now loops.now.tree.now }
     requires room { length left.now ≤ vec_capacity heads.old }
-    ensures heads { heads.new.items ≡ map (head_of weight.now) left.now }
+    ensures heads { heads.new.items ≡ map (head_of (loop_length loops.now.mesh.now
+        loops.now.lengths.now (tree_of loops.now.tree.now))) left.now }
     ensures room { vec_capacity heads.old ≤ vec_capacity heads.new }
 {
     heads.clear();
     for edge in left {
         let head = LoopHead {
             edge: *edge,
-            length: weight[edge.index()],
+            length: loops.weight_of(*edge),
         };
         heads.push_reserved(head);
     }
@@ -74,13 +84,15 @@ fn sort_heads(heads: &mut [LoopHead])
 }
 
 // Lists the heads of edges in their order.
-pub(crate) fn list_heads(left: &[EdgeId], weight: &[u64], heads: &mut Vec<LoopHead>)
-    requires inside { All (λ e. e < length weight.now) left.now }
+pub(crate) fn list_heads(left: &[EdgeId], loops: &LoopLengths<'_>, heads: &mut Vec<LoopHead>)
+    requires inside { All (λ e. e < edge_count loops.now.mesh.now) left.now }
+    requires parts { AreLoopParts loops.now.mesh.now loops.now.lengths.now loops.now.tree.now }
     requires room { length left.now ≤ vec_capacity heads.old }
-    ensures same { IsPermutation (map (head_of weight.now) left.now) heads.new.items }
+    ensures same { IsPermutation (map (head_of (loop_length loops.now.mesh.now
+        loops.now.lengths.now (tree_of loops.now.tree.now))) left.now) heads.new.items }
     ensures sorted { IsNonDecreasingBy order_of heads.new.items }
     ensures room { vec_capacity heads.old ≤ vec_capacity heads.new }
 {
-    fill_heads(left, weight, heads);
+    fill_heads(left, loops, heads);
     sort_heads(heads);
 }
