@@ -5,6 +5,7 @@ pub mod BoundaryOne
 pub mod Chosen
 pub mod Counted
 pub mod Numbered
+pub mod OneLabel
 pub mod OpenedBy
 pub mod PairedBorders
 pub mod Rims

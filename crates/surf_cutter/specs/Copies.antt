@@ -12,6 +12,10 @@ use Rattle.surf_base.specs.Tables.{nobody}
 abbrev pub label_at : List ℕ → List ℕ → ℕ → ℕ
 label_at order labels j = slice_index labels (slice_index order j)
 
+-- some sides all have the label of the first
+abbrev pub HaveOneLabel : List ℕ → List ℕ → Type 0
+HaveOneLabel sides labels = (k : ℕ) → k < length sides → label_at sides labels k ≡ label_at sides labels 0
+
 -- a place is the first one whose label has the number c: all places before have lesser numbers
 pub record IsFirst (order labels tails numbers origins : List ℕ) (c p : ℕ) : Type 0 where
   pub has : slice_index numbers (label_at order labels p) ≡ c

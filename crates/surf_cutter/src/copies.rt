@@ -1,6 +1,7 @@
 //! The copies of the vertices in an opening, numbered by vertex and by the least face that has
 //! them.
-ghost use Rattle.std.specs.Prelude.{◌≡◌, ◌<◌, ◌+◌, ◌^◌, ℕ, length, IfOk, OnOk, slice_index};
+ghost use Rattle.std.specs.Prelude.{◌≡◌, ◌≢◌, ◌<◌, ◌+◌, ◌^◌, [], ◌∷◌, ◌++◌, ℕ, length, IfOk, IsTrue};
+ghost use Rattle.std.specs.Prelude.{OnOk, slice_index, slice_set};
 ghost use Rattle.std.specs.List.{sum_by};
 ghost use Rattle.surf_surfaces.specs.Surface.{face_count, edge_count};
 ghost use Rattle.surf_opening.specs.ChosenCut.{AreInOrder};
@@ -8,7 +9,8 @@ ghost use Rattle.surf_opening.specs.Opening.{IsOpenedBy};
 ghost use Rattle.surf_surfaces.specs.SideNumber.{side_count};
 ghost use Rattle.surf_slit.specs.Labels.{IsUncut, AreLabels};
 ghost use Rattle.surf_base.specs.Tables.{nobody};
-ghost use Rattle.surf_cutter.specs.Copies.{AreCopied, AreNumbersOf, AreNumberedTo, IsRowAt};
+ghost use Rattle.surf_cutter.specs.Copies.{AreCopied, AreNumbersOf, AreNumberedTo, HaveOneLabel};
+ghost use Rattle.surf_cutter.specs.Copies.{IsRowAt};
 
 use std::alloc::Global;
 use surf_base::{CopyId, FaceId, NoMemory, SideId, VertexId};
@@ -27,6 +29,29 @@ fn list_sides(mesh: &HalfMesh, v: VertexId, row: &mut Vec<SideId>) -> Result<(),
     row.clear();
     row.extend_from_slice(mesh.ring(v))?;
     row.sort_unstable();
+    Ok(())
+}
+
+// Gives a label the next number, with a vertex, unless it has one.
+fn number_label(
+    label: usize,
+    v: VertexId,
+    numbers: &mut [u32],
+    origins: &mut Vec<VertexId>,
+) -> Result<(), NoMemory>
+    requires label { label < length numbers.old }
+    requires few { length origins.old.items < 2 ^ 32 }
+    ensures size { length numbers.new ≡ length numbers.old }
+    ensures again { OnOk result (slice_index numbers.old label ≢ nobody →
+        (numbers.new ≡ numbers.old) × (origins.new.items ≡ origins.old.items)) }
+    ensures first { OnOk result (slice_index numbers.old label ≡ nobody →
+        (numbers.new ≡ slice_set numbers.old label (length origins.old.items))
+        × (origins.new.items ≡ origins.old.items ++ v ∷ [])) }
+{
+    if numbers[label] == NOBODY {
+        numbers[label] = origins.len() as u32;
+        origins.push(v)?;
+    }
     Ok(())
 }
 
@@ -49,13 +74,52 @@ fn number_row(
         origins.new.items) }
 {
     for side in row {
-        let label = slit.label(*side) as usize;
-        if numbers[label] == NOBODY {
-            numbers[label] = origins.len() as u32;
-            origins.push(v)?;
-        }
+        number_label(slit.label(*side) as usize, v, numbers, origins)?;
     }
     Ok(())
+}
+
+// Whether some sides all have one label.
+fn have_one_label(sides: &[SideId], slit: &Slit) -> bool
+    requires some { 0 < length sides.now }
+    requires sides { (k : ℕ) → k < length sides.now →
+        slice_index sides.now k < side_count slit.now.mesh }
+    ensures { IsTrue result → HaveOneLabel sides.now slit.now.labels }
+{
+    let label = slit.label(sides[0]);
+    for side in sides {
+        if slit.label(*side) != label {
+            return false;
+        }
+    }
+    true
+}
+
+// Numbers the labels at the next vertex. Only where there are several are its sides put in order.
+fn number_vertex(
+    mesh: &HalfMesh,
+    v: VertexId,
+    slit: &Slit,
+    row: &mut Vec<SideId>,
+    numbers: &mut [u32],
+    origins: &mut Vec<VertexId>,
+) -> Result<(), NoMemory>
+    requires vertex { v < mesh.now.vertices }
+    requires mesh { slit.now.mesh ≡ mesh.now }
+    requires few { side_count mesh.now < 2 ^ 30 }
+    requires labels { (s : ℕ) → s < side_count mesh.now →
+        slice_index slit.now.labels s < length numbers.old }
+    requires so_far { AreNumberedTo mesh.now v slit.now.labels numbers.old origins.old.items }
+    ensures size { length numbers.new ≡ length numbers.old }
+    ensures numbered { OnOk result (AreNumberedTo mesh.now (v + 1) slit.now.labels numbers.new
+        origins.new.items) }
+{
+    let ring = mesh.ring(v);
+    if have_one_label(ring, slit) {
+        return number_label(slit.label(ring[0]) as usize, v, numbers, origins);
+    }
+    list_sides(mesh, v, row)?;
+    number_row(row, v, slit, numbers, origins)
 }
 
 // Numbers all labels by vertex and by the least side that has them, and lists their vertices.
@@ -77,8 +141,14 @@ fn number_copies(
     let mut origins = Vec::new(alloc);
     let mut row = Vec::new(alloc);
     for v in 0..mesh.vertices() {
-        list_sides(mesh, VertexId::new(v), &mut row)?;
-        number_row(&row, VertexId::new(v), slit, numbers, &mut origins)?;
+        number_vertex(
+            mesh,
+            VertexId::new(v),
+            slit,
+            &mut row,
+            numbers,
+            &mut origins,
+        )?;
     }
     Ok(origins)
 }

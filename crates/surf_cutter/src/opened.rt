@@ -34,10 +34,12 @@ impl Model for Opened {
 
 // Where each row begins among the things of all rows, and the end.
 fn starts_of(alloc: Global, faces: &Rows<CopyId>) -> Result<Vec<u32>, NoMemory>
-    requires { sum_by length faces.now < 2 ^ 32 }
+    requires few_faces { length faces.now < 2 ^ 30 }
+    requires few_corners { sum_by length faces.now < 2 ^ 32 }
     ensures { IfOk result (λ v. AreStarts faces.now v.items) }
 {
-    let mut starts = vec![in alloc; 0u32; 1]?;
+    let mut starts = Vec::with_capacity(alloc, faces.len() + 1)?;
+    starts.push(0)?;
     for f in 0..faces.len() {
         let (_, end) = faces.span(f);
         starts.push(end as u32)?;
