@@ -1,32 +1,14 @@
-//! The program's worked cases, run against `surf_run::run` over files and streams in memory.
+//! The program over files and streams in memory: reads and writes that fail or move few bytes, and
+//! diagnostics that nobody hears.
 //!
-//! No clause says that an answer is the one that was wanted; these tables do, with expected texts
-//! that were worked out by hand or by an independent program.
+//! That each command answers what was wanted is tried on the built program, by `tools/cases`.
 #![tactic(auto)]
 
 #[cfg(test)]
-mod bases;
+mod failing;
 #[cfg(test)]
-mod certs;
+mod files;
 #[cfg(test)]
-mod checks;
+mod moving;
 #[cfg(test)]
-mod classes;
-#[cfg(test)]
-mod coordinates;
-#[cfg(test)]
-mod cuts;
-#[cfg(test)]
-mod cycles;
-#[cfg(test)]
-mod large;
-#[cfg(test)]
-mod made;
-#[cfg(test)]
-mod meshes;
-#[cfg(test)]
-mod outside;
-#[cfg(test)]
-mod rows;
-#[cfg(test)]
-mod sewing;
+mod runs;

@@ -1,11 +1,9 @@
-//! Tests of the checker of certificates, on a torus of 3 by 3 vertices whose edges have length 1,
-//! or lengths that differ.
+//! Tests of the checker of certificates, on the pillow, whose edges have length 1. The other
+//! certificates that it judges are cases of the built program.
 #![tactic(auto)]
 
 #[cfg(test)]
 mod bases;
-#[cfg(test)]
-mod edit;
 #[cfg(test)]
 mod kinds;
 #[cfg(test)]

@@ -1,11 +1,7 @@
-//! Trees of faces, loops, certificates and openings of small surfaces, with answers that were
-//! worked out by hand. The crate has tests alone.
+//! Loops and openings of small surfaces, with answers that were worked out by hand. The crate has
+//! tests alone.
 #![tactic(auto)]
 
-#[cfg(test)]
-mod certs;
-#[cfg(test)]
-mod faces;
 #[cfg(test)]
 mod loops;
 #[cfg(test)]

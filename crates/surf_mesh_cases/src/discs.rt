@@ -1,9 +1,9 @@
 //! Which meshes are discs.
 use std::alloc::Global;
 use std::test::Fail;
-use surf_base::{FaceId, VertexId};
+use surf_base::VertexId;
 use surf_disc::{BorderKind, DiscFault, check_disc};
-use surf_samples::{Faces, crowded, open, projective, soup, tetrahedron, torus};
+use surf_samples::{Faces, open, projective, soup, tetrahedron};
 
 fn answer(alloc: Global, vertices: u32, faces: Faces) -> Result<Result<u32, DiscFault>, Fail> {
     let soup = soup(alloc, vertices, faces).ok().ok_or("room")?;
@@ -17,15 +17,6 @@ fn full() -> Faces {
 
 fn trimmed() -> Faces {
     &[(0, 2, 3), (1, 4, 2), (1, 3, 4), (2, 4, 3)]
-}
-
-// Two triangles that share a vertex, and two that share none.
-fn bow() -> Faces {
-    &[(0, 1, 2), (0, 3, 4)]
-}
-
-fn two() -> Faces {
-    &[(0, 1, 2), (3, 4, 5)]
 }
 
 // A ring of triangles, which has two borders.
@@ -66,48 +57,6 @@ fn discs_have_one_border(rt: HostRuntime) -> Result<(), Fail> {
     ];
     for (vertices, faces, want) in cases {
         assert_eq!(rt; answer(alloc, vertices, faces)?, want);
-    }
-    Ok(())
-}
-
-// All faces of a table but the last.
-fn all_but_last(faces: Faces) -> Faces {
-    match faces {
-        [front @ .., _] => front,
-        [] => faces,
-    }
-}
-
-#[test]
-fn faults_name_the_least(rt: HostRuntime) -> Result<(), Fail> {
-    let alloc = rt.alloc();
-    let (zero, one, four) = (VertexId::new(0), VertexId::new(1), VertexId::new(4));
-    let (first, second) = (FaceId::new(0), FaceId::new(1));
-    let crowd = DiscFault::Crowded {
-        u: zero,
-        v: one,
-        faces: [first, second, FaceId::new(4)],
-    };
-    let pinch = DiscFault::Pinched {
-        v: zero,
-        first,
-        second,
-    };
-    let count = DiscFault::Count {
-        vertices: 9,
-        edges: 27,
-        faces: 17,
-    };
-    let cases: [(u32, Faces, DiscFault); 6] = [
-        (6, crowded(), crowd),
-        (5, tetrahedron(), DiscFault::Isolated { v: four }),
-        (1, &[], DiscFault::Isolated { v: zero }),
-        (5, bow(), pinch),
-        (6, two(), DiscFault::Apart { face: second }),
-        (9, all_but_last(torus()), count),
-    ];
-    for (vertices, faces, fault) in cases {
-        assert_eq!(rt; answer(alloc, vertices, faces)?, Err(fault));
     }
     Ok(())
 }

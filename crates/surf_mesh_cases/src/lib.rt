@@ -1,5 +1,5 @@
-//! Tests of meshes: edges, surfaces and their kinds, discs, slits, tori and chains of them. The
-//! crate has tests alone.
+//! Tests of meshes: edges, turnings and rings of surfaces, discs, slits and lengths that are made.
+//! The crate has tests alone.
 #![tactic(auto)]
 
 #[cfg(test)]
@@ -7,8 +7,8 @@ mod discs;
 #[cfg(test)]
 mod edges;
 #[cfg(test)]
+mod made;
+#[cfg(test)]
 mod slits;
 #[cfg(test)]
 mod surfaces;
-#[cfg(test)]
-mod tori;

@@ -1,9 +1,9 @@
-//! Texts of certificates, read, edited and written again.
+//! Texts of certificates, read and written again. Their faults are cases of the built program.
 use std::alloc::Global;
 use std::test::Fail;
 use surf_base::VertexId;
-use surf_cert::{Cert, CertText, LoopCert, read_cert, write_basis_cert, write_loop_cert};
-use surf_text::{Lines, Page, PageFault};
+use surf_cert::{Cert, LoopCert, read_cert, write_basis_cert, write_loop_cert};
+use surf_text::{Page, PageFault};
 
 // The loops at vertex 0 of a torus of 3 by 3 vertices, each edge of length 1.
 fn torus() -> &'static [u8] {
@@ -22,36 +22,6 @@ fn basis() -> &'static [u8] {
     b"\
     SURFCERT 1 basis\ncounts 2 1 1\ntree 0\n0 -\n18446744073709551615 0\ntree 1\n7 1\n0 -\ndual\n\
     0 -\nleft\n0 1\ncycles\n4294967295 0\n"
-}
-
-// A text with other lines in the place of one.
-fn edited(alloc: Global, text: &[u8], place: u32, new: &[u8]) -> Result<Vec<u8>, Fail> {
-    if text.len() > 1000 || new.len() > 1000 {
-        return Err("a long text")?;
-    }
-    let mut lines = Lines::over(text);
-    let mut edited = Vec::new(alloc);
-    for _ in 0..100u32 {
-        let Some(line) = lines.next_line() else {
-            return Ok(edited);
-        };
-        if line.number == place {
-            edited.extend_from_slice(new)?;
-        } else {
-            edited.extend_from_slice(line.bytes)?;
-            edited.push(b'\n')?;
-        }
-    }
-    Err("many lines")?
-}
-
-// Why a text with other lines in the place of one is no certificate, if it isn't.
-fn fault(alloc: Global, text: &[u8], place: u32, new: &[u8]) -> Result<Option<CertText>, Fail> {
-    let text = edited(alloc, text, place, new)?;
-    if text.len() > 10_000 {
-        return Err("a long text")?;
-    }
-    Ok(read_cert(alloc, &text).err())
 }
 
 // How a certificate is written on a page of so many bytes: the fault, if there is one, and whether
@@ -114,87 +84,5 @@ fn parts(rt: HostRuntime) -> Result<(), Fail> {
         return Err("loops")?;
     };
     assert!(rt; has_one_of_each(&cert));
-    Ok(())
-}
-
-#[test]
-fn faults_of_heads(rt: HostRuntime) -> Result<(), Fail> {
-    for (place, new, line) in [
-        (1, b"SURFCERT 01 loops\n".as_slice(), 1),
-        (1, b"#\n\nSURFCERT 1 loop\n", 3),
-        (1, b"SURFCERT 1 loops 1\n", 1),
-    ] {
-        let fault = fault(rt.alloc(), loops(), place, new)?;
-        assert_eq!(rt; fault, Some(CertText::Header { line }));
-    }
-    for text in [b"".as_slice(), b"# SURFCERT 1 loops\n"] {
-        let fault = read_cert(rt.alloc(), text).err();
-        assert_eq!(rt; fault, Some(CertText::Header { line: 0 }));
-    }
-    Ok(())
-}
-
-#[test]
-fn faults_of_forms(rt: HostRuntime) -> Result<(), Fail> {
-    for (place, new) in [
-        (2, b"counts 2 2\n".as_slice()),
-        (2, b"counts 2 2 4294967296\n"),
-        (3, b"tree 0 0\n"),
-        (4, b"- -\n"),
-        (5, b"18446744073709551616 0\n"),
-        (5, b"1 4294967296\n"),
-        (6, b"duals\n"),
-    ] {
-        let fault = fault(rt.alloc(), loops(), place, new)?;
-        assert_eq!(rt; fault, Some(CertText::Form { line: place }));
-    }
-    for (place, new) in [
-        (7, b"00 -\n".as_slice()),
-        (7, b"0 1 3\n"),
-        (8, b"1 1 0\n"),
-        (8, b"1 0 1 1\n"),
-        (9, b""),
-        (10, b"2 1\n"),
-        (11, b"1 2\n"),
-    ] {
-        let fault = fault(rt.alloc(), loops(), place, new)?;
-        assert_eq!(rt; fault, Some(CertText::Form { line: place }));
-    }
-    Ok(())
-}
-
-#[test]
-fn faults_of_a_basis(rt: HostRuntime) -> Result<(), Fail> {
-    for (place, new, want) in [
-        (3, b"tree 1\n".as_slice(), Some(CertText::Form { line: 3 })),
-        (6, b"tree 0\n", Some(CertText::Form { line: 6 })),
-        (6, b"tree 01\n", None),
-        (13, b"cycle\n", Some(CertText::Form { line: 13 })),
-        (14, b"0 -\n", Some(CertText::Form { line: 14 })),
-        (14, b"", Some(CertText::Early)),
-        (14, b"0\n0\n", Some(CertText::Trailing { line: 15 })),
-    ] {
-        assert_eq!(rt; fault(rt.alloc(), basis(), place, new)?, want);
-    }
-    Ok(())
-}
-
-#[test]
-fn edits_of_the_torus(rt: HostRuntime) -> Result<(), Fail> {
-    for (place, new, want) in [
-        (
-            2,
-            b"counts 9 18\n".as_slice(),
-            Some(CertText::Form { line: 2 }),
-        ),
-        (34, b"", Some(CertText::Early)),
-        (34, b"3 6\n0 1\n", Some(CertText::Trailing { line: 35 })),
-        (3, b" tree\t09 # the base\r\n", None),
-        (4, b"0 1\n", None),
-        (9, b"2 5\n", None),
-        (14, b"1 0 3\n", None),
-    ] {
-        assert_eq!(rt; fault(rt.alloc(), torus(), place, new)?, want);
-    }
     Ok(())
 }

@@ -19,11 +19,6 @@ pub fn open() -> Faces {
     &OPEN
 }
 
-/// Two tetrahedra that share the edge of 0 and 1, so that it has four faces, on 6 vertices.
-pub fn crowded() -> Faces {
-    &CROWDED
-}
-
 /// The projective plane of six vertices.
 pub fn projective() -> Faces {
     &PROJECTIVE
@@ -45,17 +40,6 @@ const PILLOW: [(u32, u32, u32); 2] = [(0, 1, 2), (0, 2, 1)];
 const TETRAHEDRON: [(u32, u32, u32); 4] = [(0, 1, 2), (0, 3, 1), (0, 2, 3), (1, 3, 2)];
 
 const OPEN: [(u32, u32, u32); 3] = [(0, 1, 2), (0, 3, 1), (0, 2, 3)];
-
-const CROWDED: [(u32, u32, u32); 8] = [
-    (0, 1, 2),
-    (0, 3, 1),
-    (0, 2, 3),
-    (1, 3, 2),
-    (0, 1, 4),
-    (0, 5, 1),
-    (0, 4, 5),
-    (1, 5, 4),
-];
 
 const PROJECTIVE: [(u32, u32, u32); 10] = [
     (0, 1, 2),

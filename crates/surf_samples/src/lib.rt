@@ -6,6 +6,6 @@ mod faces;
 mod soups;
 mod texts;
 
-pub use faces::{Faces, crowded, open, pillow, projective, seven, tetrahedron, torus};
+pub use faces::{Faces, open, pillow, projective, seven, tetrahedron, torus};
 pub use soups::{soup, surface};
-pub use texts::{scattered, torus_text, unit};
+pub use texts::{scattered, unit};

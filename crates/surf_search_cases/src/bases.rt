@@ -30,8 +30,8 @@ fn are_cycles(cycles: &[Cycle], wanted: &[(u64, &[u32])]) -> bool {
     same
 }
 
-/// Whether the lengths are of the mesh, which isn't too wild for a basis.
-pub(crate) fn fit(mesh: &HalfMesh, lengths: &Lengths) -> bool
+// Whether the lengths are of the mesh, which isn't too wild for a basis.
+fn fit(mesh: &HalfMesh, lengths: &Lengths) -> bool
     ensures lengths { IsTrue result → length lengths.now ≡ edge_count mesh.now }
     ensures few { IsTrue result → edge_count mesh.now + 2
         ≤ mesh.now.vertices + face_count mesh.now + 1024 }

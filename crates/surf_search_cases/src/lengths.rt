@@ -1,7 +1,7 @@
 //! Length files for a tetrahedron.
 use std::alloc::Global;
 use std::test::Fail;
-use surf_base::{EdgeId, VertexId};
+use surf_base::EdgeId;
 use surf_lengths::{LengthFault, Lengths, read_lengths, unit_lengths};
 use surf_mesh::HalfMesh;
 use surf_samples::{surface, tetrahedron};
@@ -47,56 +47,6 @@ fn lengths_are_read(rt: HostRuntime) -> Result<(), Fail> {
     let mesh = surface(alloc, 4, tetrahedron())?;
     for (text, want) in cases {
         assert_eq!(rt; lengths_of(alloc, &mesh, text), Ok(want));
-    }
-    Ok(())
-}
-
-fn missing(u: u32, v: u32) -> LengthFault {
-    LengthFault::Missing {
-        u: VertexId::new(u),
-        v: VertexId::new(v),
-    }
-}
-
-#[test]
-fn the_first_fault_decides(rt: HostRuntime) -> Result<(), Fail> {
-    let alloc = rt.alloc();
-    let cases: [(&str, LengthFault); 19] = [
-        ("0 1 1\n0 2 1\n0 3 1\n1 2 1\n1 3 1\n", missing(2, 3)),
-        ("", missing(0, 1)),
-        ("SURFLEN 2\n0 1 1\n", missing(0, 2)),
-        (
-            "0 1 1\n0 2 1\n1 0 4\n",
-            LengthFault::Twice {
-                line: 3,
-                earlier: 1,
-            },
-        ),
-        ("0 1 0\n", LengthFault::Range { line: 1 }),
-        ("0 1 4294967296\n", LengthFault::Range { line: 1 }),
-        ("0 9 0\n", LengthFault::Range { line: 1 }),
-        ("SURFLEN 2\ndefault 0\n", LengthFault::Range { line: 2 }),
-        ("0 4 1\n", LengthFault::NotEdge { line: 1 }),
-        ("2 2 1\n", LengthFault::NotEdge { line: 1 }),
-        (
-            "18446744073709551615 1 1\n",
-            LengthFault::NotEdge { line: 1 },
-        ),
-        ("18446744073709551616 1 1\n", LengthFault::Form { line: 1 }),
-        ("0 1\n", LengthFault::Form { line: 1 }),
-        ("\n0 1 1 1\n", LengthFault::Form { line: 2 }),
-        ("default 3\n", LengthFault::Form { line: 1 }),
-        ("SURFLEN 1\n", LengthFault::Form { line: 1 }),
-        ("SURFLEN 02\n", LengthFault::Form { line: 1 }),
-        ("SURFLEN 2\ndefault 3 4\n", LengthFault::Form { line: 2 }),
-        (
-            "SURFLEN 2\n0 1 1\ndefault 3\n",
-            LengthFault::Form { line: 3 },
-        ),
-    ];
-    let mesh = surface(alloc, 4, tetrahedron())?;
-    for (text, want) in cases {
-        assert_eq!(rt; lengths_of(alloc, &mesh, text), Err(want));
     }
     Ok(())
 }
