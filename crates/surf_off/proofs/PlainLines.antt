@@ -6,11 +6,11 @@ use Rattle.std.specs.List.{list_any, before_first, position_or_len}
 use Rattle.std.proofs.lemmas.Bool.{both_ways, cases_Bool, le-leb, le-ltb, lt-ltb}
 use Rattle.std.proofs.Math.Seq.{take-append_seam}
 use Rattle.std.proofs.lemmas.List.{append-nil, take-append-drop, take_rest}
-use Rattle.surf_text.specs.Text.{TextLine, is_blank, is_line_end, is_comment_sign, is_nonempty, uncommented, words_of, tokens_of, trimmed_front, before_some, trimmed_back, trimmed, behind_words, rest_after, short_whole, is_no_digit, front_digits, onto_lines}
+use Rattle.surf_text.specs.Text.{TextLine, is_blank, is_line_end, is_comment_sign, is_nonempty, uncommented, words_of, tokens_of, before_some, trimmed_back, trimmed, behind_words, rest_after, short_whole, is_no_digit, front_digits, onto_lines}
 use Rattle.surf_text.proofs.Words.{front_back, words_trimmed}
 use Rattle.surf_text.proofs.Plain.{whole_some, short_is_whole}
 use Rattle.surf_off.specs.Clean.{IsClean}
-use Rattle.surf_off.specs.Off.{◌>>=◌, Face, size_of, corners_at, distinct, first_repeat, face_of}
+use Rattle.surf_off.specs.Off.{◌>>=◌, size_of, corners_at, distinct, first_repeat, face_of}
 use Rattle.surf_off.specs.Plain.{spaced, is_end, closes, AreVertices, BeginsWith, IsPlain, IsBehind, line_before}
 use Rattle.surf_off.specs.declared.fault.OffFault.{OffFault}
 use Rattle.surf_off.proofs.CleanLines.{none_before, clean_trimmed}

@@ -1,6 +1,6 @@
 //! The face lines.
-ghost use Rattle.std.specs.Prelude.{◌≡◌, ◌≢◌, ◌<◌, ◌≤◌, ◌+◌, ◌-◌, ℕ, List, true, [], length, slice_index, take, drop, IfOk};
-ghost use Rattle.std.specs.Prelude.{IfNone, IfSome, OnOk};
+ghost use Rattle.std.specs.Prelude.{◌≡◌, ◌≢◌, ◌<◌, ◌≤◌, ◌+◌, ℕ, true, [], length, slice_index};
+ghost use Rattle.std.specs.Prelude.{take, drop, IfOk, IfNone, IfSome, OnOk};
 ghost use Rattle.std.specs.List.{All, AllPairs, before_first};
 ghost use Rattle.surf_surfaces.specs.Mesh.{IsFace};
 ghost use Rattle.surf_surfaces.specs.SideNumber.{side_count};

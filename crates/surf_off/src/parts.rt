@@ -1,5 +1,6 @@
 //! Parts of a text, kept by their places.
-ghost use Rattle.std.specs.Prelude.{◌≡◌, ◌<◌, ◌≤◌, ◌+◌, ◌^◌, [], ◌∷◌, ◌++◌, length, slice_index_or, IfOk, OnOk};
+ghost use Rattle.std.specs.Prelude.{◌≡◌, ◌<◌, ◌≤◌, ◌+◌, ◌^◌, [], ◌∷◌, ◌++◌, length, slice_index_or};
+ghost use Rattle.std.specs.Prelude.{IfOk, OnOk};
 ghost use Rattle.surf_off.specs.Seen.{PartList, part_of};
 
 use std::alloc::{AllocError, Global};
@@ -26,9 +27,13 @@ impl<'a> Model for Parts<'a> {
 
     ghost Value = { PartList };
 
-    ghost view = { λ s. record { text = s.text.now; parts = map (part_of s.text.now) s.spans.items } };
+    ghost view = { λ s. record {
+      text = s.text.now;
+      parts = map (part_of s.text.now) s.spans.items;
+    } };
 
-    ghost invariant = { λ s. All (λ span. span.start + span.len ≤ length s.text.now) s.spans.items };
+    ghost invariant = { λ s. All (λ span. span.start + span.len ≤ length s.text.now)
+        s.spans.items };
 }
 
 impl<'a> Parts<'a> {

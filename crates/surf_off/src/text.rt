@@ -38,11 +38,7 @@ impl<'a> Model for OffText<'a> {
 }
 
 impl<'a> OffText<'a> {
-    pub(crate) fn make(
-        header: Header,
-        vertex_lines: Parts<'a>,
-        colours: Colours<'a>,
-    ) -> OffText<'a>
+    pub(crate) fn make(header: Header, vertex_lines: Parts<'a>, colours: Colours<'a>) -> OffText<'a>
         requires clean { IsOffParts (record {
           header = header;
           vertex_lines = vertex_lines.parts;

@@ -8,8 +8,8 @@ use crate::lines::Line;
 use crate::places::{split_uncommented, trim_back, trim_front};
 use std::marker::Model;
 
-/// What a first line has: how many bytes it is long, and the slice from its first token's first byte
-/// to its last token's last byte, which begins at byte `start` of the line.
+/// What a first line has: how many bytes it is long, and the slice from its first token's first
+/// byte to its last token's last byte, which begins at byte `start` of the line.
 #[derive(Clone, Copy, Debug)]
 pub struct FirstLine<'a> {
     pub len: usize,

@@ -1,6 +1,5 @@
-use Rattle.std.proofs.Common.{◌≡◌, ℕ, List, length, drop, ◌∙◌, ap, sym, Ok, arith}
+use Rattle.std.proofs.Common.{◌≡◌, ℕ, List, drop, ◌∙◌, ap, sym, Ok, arith}
 use Rattle.surf_text.specs.Walks.{text_line, lines_ahead}
-use Rattle.surf_off.specs.Off.{Face}
 use Rattle.surf_off.proofs.CleanParts.{face_colour}
 use Rattle.surf_off.proofs.Places.{clean_ahead, rest_drop, end_fits, end_place}
 use Rattle.surf_off.proofs.faces.next_by_tokens.Goals as goal

@@ -1,4 +1,4 @@
-use Rattle.std.proofs.Common.{◌≡◌, ◌≤◌, ◌-◌, ℕ, List, length, drop, Some, Ok, sym, ◌∙◌, ap, subst}
+use Rattle.std.proofs.Common.{◌≤◌, ◌-◌, ℕ, List, length, drop, Ok, sym, ◌∙◌, ap, subst}
 use Rattle.std.specs.Borrow.{Bor}
 use Rattle.std.specs.Prelude.{Option, IfSome}
 use Rattle.std.proofs.lemmas.Result.{err_from_is_err_and}
@@ -49,8 +49,7 @@ returns-clause-face c =
     let read : IsPlain v c.rest.result.now us behind = subst (λ (o : Option (Bor (List ℕ))). IfSome o (λ b. IsPlain v c.rest.result.now us b.now)) c.in-Some.is c.in_ok-behind.ensures.read in
     let plain = subst (λ (text : List ℕ). IsPlain v text us behind) c.rest.ensures.bytes read in
     let size : (3 ≤ length us) × (length us ≤ 6000000 - c.args.sides) = subst (λ (o : Option (Bor (List ℕ))). IfSome o (λ b. (3 ≤ length us) × (length us ≤ 6000000 - c.args.sides))) c.in-Some.is c.in_ok-behind.ensures.size in
-    let good = plain_good v rest us behind plain c.args.sides n c.requires.few size.0 size.1 (rw c.deref.ensures.value at c.in_ok-refuse_repeats.ensures.distinct) in
-    (
+    let good = plain_good v rest us behind plain c.args.sides n c.requires.few size.0 size.1 (rw c.deref.ensures.value at c.in_ok-refuse_repeats.ensures.distinct) in (
       record { number = n; bytes = trimmed (uncommented (line_before rest behind)) },
       c.pass_plain-line.ensures.ahead ∙ plain_ahead v rest us behind plain n lines,
       good ∙ ap (λ (colour : List ℕ). Ok (record { corners = us; colour = colour })) (sym c.pass_plain-line.ensures.colour),

@@ -1,4 +1,4 @@
-use Rattle.std.proofs.Common.{◌≡◌, ◌+◌, ℕ, List, [], ◌∷◌, ◌++◌, length, length-append, take, drop, ap, sym, ◌∙◌, arith}
+use Rattle.std.proofs.Common.{◌≡◌, ◌+◌, ℕ, List, [], ◌∷◌, ◌++◌, length, length-append, take, drop, ap, sym, ◌∙◌}
 use Rattle.surf_text.specs.Walks.{text_line, lines_ahead}
 use Rattle.surf_off.specs.Seen.{PartList}
 use Rattle.surf_off.proofs.VertexLines.{vertex_early, vertex_more, vertex_short, vertices_done}
