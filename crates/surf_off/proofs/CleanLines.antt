@@ -51,7 +51,7 @@ none_trimmed : (p : ℕ → Bool) (xs : List ℕ) → list_any p xs ≡ false �
 none_trimmed p xs none = none_back p (trimmed_front xs) (none_front p xs none)
 
 -- what stands before the first that passes
-none_before : (p : ℕ → Bool) (xs : List ℕ) → list_any p (before_first p xs) ≡ false
+pub none_before : (p : ℕ → Bool) (xs : List ℕ) → list_any p (before_first p xs) ≡ false
 none_before p [] = refl
 none_before p (x ∷ xs) =
     let n = position_or_len p xs in
@@ -59,7 +59,7 @@ none_before p (x ∷ xs) =
     elim (cases_Bool (p x)) [ inl good ↦ rw good refl | inr bad ↦ rw (bad, k) (none_cons p x (take n xs) bad (none_before p xs)) ]
 
 -- no part of a list that is cut where elements pass has one that passes
-NoneIn : (ℕ → Bool) → List (List ℕ) → Type 0
+pub NoneIn : (ℕ → Bool) → List (List ℕ) → Type 0
 NoneIn p [] = Unit {0}
 NoneIn p (part ∷ parts) = (list_any p part ≡ false) × NoneIn p parts
 
@@ -68,7 +68,7 @@ unfolding NoneIn
 none_onto p x [] bad none = (none_cons p x [] bad refl, tt)
 none_onto p x (part ∷ parts) bad none = (none_cons p x part bad none.0, none.1)
 
-none_split : (p : ℕ → Bool) (xs : List ℕ) → NoneIn p (slice_split p xs)
+pub none_split : (p : ℕ → Bool) (xs : List ℕ) → NoneIn p (slice_split p xs)
 unfolding NoneIn
 none_split p [] = (refl, tt)
 none_split p (x ∷ xs) = elim (cases_Bool (p x)) [ inl good ↦ rw good (refl, none_split p xs) | inr bad ↦ rw bad (none_onto p x (slice_split p xs) bad (none_split p xs)) ]
@@ -120,7 +120,7 @@ clean_line part none = record {
   trimmed = trimmed_twice (uncommented part);
 }
 
-clean_trimmed : (line : List ℕ) → list_any is_line_end line ≡ false → IsClean (trimmed (uncommented line))
+pub clean_trimmed : (line : List ℕ) → list_any is_line_end line ≡ false → IsClean (trimmed (uncommented line))
 clean_trimmed line none = clean_line line none
 
 clean_behind : (bytes : List ℕ) → IsClean bytes → IsClean (behind_word bytes)
@@ -148,7 +148,7 @@ clean_onto : (line : TextLine) (tokens : List (List ℕ)) (lines : List TextLine
 clean_onto line [] lines clean all = all
 clean_onto line (t ∷ ts) lines clean all = (clean, all)
 
-clean_numbered : (n : ℕ) (parts : List (List ℕ)) → NoneIn is_line_end parts → AllClean (numbered_from n parts)
+pub clean_numbered : (n : ℕ) (parts : List (List ℕ)) → NoneIn is_line_end parts → AllClean (numbered_from n parts)
 unfolding NoneIn
 clean_numbered n [] none = tt
 clean_numbered n (part ∷ parts) none = clean_onto (record { number = n; bytes = trimmed (uncommented part) }) (tokens_of part) (numbered_from (n + 1) parts) (clean_line part none.0) (clean_numbered (n + 1) parts none.1)

@@ -83,23 +83,24 @@ vertices_clean (suc v) f (line ∷ lines) all = elim (cases_Bool (nat_le 3 (leng
   | inr short ↦ rw short (clean_err _)
 ]
 
--- Face lines that are read have clean colours.
-record CleanColour (read : Result Face OffFault) : Type 0 where
-  colour : (face : Face) → read ≡ Ok face → IsClean face.colour
+-- The colour of a face that is read.
+pub record HasColour (P : List ℕ → Type 0) (read : Result Face OffFault) : Type 0 where
+  pub colour : (face : Face) → read ≡ Ok face → P face.colour
 
-bind_clean : {A : Type 0} (read : Result A OffFault) (f : A → Result Face OffFault) → ((x : A) → CleanColour (f x)) → CleanColour (read >>= f)
-bind_clean (Ok x) f clean = clean x
-bind_clean (Err e) f clean = record { colour = λ face is. absurd cc }
+bind_colour : {A : Type 0} (P : List ℕ → Type 0) (read : Result A OffFault) (f : A → Result Face OffFault) → ((x : A) → HasColour P (f x)) → HasColour P (read >>= f)
+bind_colour P (Ok x) f has = has x
+bind_colour P (Err e) f has = record { colour = λ face is. absurd cc }
 
-face_clean : (limited : Bool) (v sides : ℕ) (line : TextLine) → IsClean line.bytes → CleanColour (face_of limited v sides line)
+-- It is what stands behind so many tokens.
+pub face_colour : (P : List ℕ → Type 0) (limited : Bool) (v sides : ℕ) (line : TextLine) → ((k : ℕ) → P (rest_after k line.bytes)) → HasColour P (face_of limited v sides line)
 unfolding face_of colour_of
-face_clean limited v sides line clean =
+face_colour P limited v sides line has =
     let words = tokens_of line.bytes in
-    bind_clean (size_of line.number words) _ (λ size.
-    bind_clean (few_sides limited line.number sides size) _ (λ k.
-    bind_clean (corners_at line.number v 0 (take k (drop 1 words))) _ (λ us.
-    bind_clean (distinct line.number us (first_repeat [] us)) _ (λ corners.
-    record { colour = λ face is. let e : rest_after (suc k) line.bytes ≡ face.colour = ap colour_of is in subst IsClean e (clean_rest (suc k) line.bytes clean) }))))
+    bind_colour P (size_of line.number words) _ (λ size.
+    bind_colour P (few_sides limited line.number sides size) _ (λ k.
+    bind_colour P (corners_at line.number v 0 (take k (drop 1 words))) _ (λ us.
+    bind_colour P (distinct line.number us (first_repeat [] us)) _ (λ corners.
+    record { colour = λ face is. let e : rest_after (suc k) line.bytes ≡ face.colour = ap colour_of is in subst P e (has (suc k)) }))))
 
 record CleanFaces (read : Result FaceLines OffFault) : Type 0 where
   colours : (faces : FaceLines) → read ≡ Ok faces → All IsClean faces.colours
@@ -113,7 +114,7 @@ clean_face face (Ok x) good clean = record {
       subst (All IsClean) colours_is (All-cons IsClean face.colour x.colours good (clean.colours x refl));
 }
 
-after_face : (read : Result Face OffFault) (rest : Face → Result FaceLines OffFault) → CleanColour read → ((face : Face) → CleanFaces (rest face)) → CleanFaces (read >>= λ face. with_face face (rest face))
+after_face : (read : Result Face OffFault) (rest : Face → Result FaceLines OffFault) → HasColour IsClean read → ((face : Face) → CleanFaces (rest face)) → CleanFaces (read >>= λ face. with_face face (rest face))
 after_face (Ok face) rest good clean = clean_face face (rest face) (good.colour face refl) (clean face)
 after_face (Err e) rest good clean = record { colours = λ faces is. absurd cc }
 
@@ -122,7 +123,7 @@ unfolding faces_at colours_of
 faces_clean limited v zero sides lines all = record { colours = λ faces is. let none : [] ≡ faces.colours = ap colours_of is in subst (All IsClean) none (All-nil IsClean) }
 faces_clean limited v (suc f) sides [] all = record { colours = λ faces is. absurd cc }
 faces_clean limited v (suc f) sides (line ∷ lines) all =
-    after_face (face_of limited v sides line) (λ face. faces_at limited v f (sides + length face.corners) lines) (face_clean limited v sides line all.0) (λ face. faces_clean limited v f (sides + length face.corners) lines all.1)
+    after_face (face_of limited v sides line) (λ face. faces_at limited v f (sides + length face.corners) lines) (face_colour IsClean limited v sides line (λ k. clean_rest k line.bytes all.0)) (λ face. faces_clean limited v f (sides + length face.corners) lines all.1)
 
 pub parts_clean : (text : List ℕ) (head : Head) (v f : ℕ) (kept : List (List ℕ)) (behind : List TextLine) (faces : FaceLines)
     → head_of (lines_of text) ≡ Ok head → vertices_at v f head.lines ≡ Ok (kept, behind) → faces_at true v f 0 behind ≡ Ok faces

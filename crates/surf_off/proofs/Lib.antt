@@ -11,6 +11,6 @@ pub mod NumberLines
 pub mod Reread
 pub mod RereadMesh
 pub mod StartsOf
-mod Joined
-mod PlainFaces
+mod PlainLines
+mod Places
 mod ShortFaces

@@ -1,31 +1,51 @@
--- Face lines that begin plainly: with a size and as many vertices, all numbers of 32 bits, a space between any two.
-use Rattle.std.specs.Prelude.{ℕ, zero, suc, ◌&&◌, nat_le, List, [], ◌∷◌, Option, Some, None, if◌then◌else◌}
-use Rattle.std.specs.List.{join_with_byte}
-use Rattle.std.specs.Borrow.{Bor}
-use Rattle.surf_text.specs.Text.{below, short_whole, rest_after}
-use Rattle.surf_off.specs.Off.{Face}
+-- Texts that begin with a plain face: its size and as many vertices, all numbers of 32 bits, a space between any two.
+use Rattle.std.specs.Prelude.{◌≡◌, ◌<◌, ◌+◌, ◌-◌, ◌==◌, ◌||◌, ℕ, Bool, true, false, List, [], ◌∷◌, ◌++◌, length, take, Some}
+use Rattle.std.specs.List.{list_any, position_or_len}
+use Rattle.surf_text.specs.Text.{is_line_end, short_whole}
 
-abbrev pub with_corner : Option ℕ → Option Face → Option Face
-with_corner (Some u) (Some face) = Some (record face { corners = u ∷ face.corners })
-with_corner (Some u) None = None
-with_corner None face = None
+-- each word behind a space
+abbrev pub spaced : List (List ℕ) → List ℕ
+spaced [] = []
+spaced (word ∷ words) = (32 ∷ word) ++ spaced words
 
--- The first so many parts of a line are the corners, and the tokens of the others, with the spaces between, the colour.
-abbrev pub face_in : ℕ → ℕ → List (List ℕ) → Option Face
-face_in v zero parts = Some (record { corners = []; colour = rest_after 0 (join_with_byte 32 parts) })
-face_in v (suc size) [] = None
-face_in v (suc size) (part ∷ parts) = with_corner (below v (short_whole part)) (face_in v size parts)
+-- The words are these vertices.
+abbrev pub AreVertices : ℕ → List (List ℕ) → List ℕ → Type 0
+AreVertices v [] [] = Unit {0}
+AreVertices v [] (u ∷ us) = ⊥
+AreVertices v (word ∷ words) [] = ⊥
+AreVertices v (word ∷ words) (u ∷ us) = (short_whole word ≡ Some u) × (u < v) × AreVertices v words us
 
-abbrev pub face_sized : ℕ → ℕ → Option ℕ → List (List ℕ) → Option Face
-face_sized v most None parts = None
-face_sized v most (Some k) parts = if nat_le 3 k && nat_le k most then face_in v k parts else None
+-- a blank, a line end or a comment sign
+abbrev pub is_end : ℕ → Bool
+is_end b = b == 32 || b == 9 || b == 13 || b == 10 || b == 35
 
--- a face of at most so many sides, by the parts of its line
-abbrev pub plain_face : ℕ → ℕ → List (List ℕ) → Option Face
-plain_face v most [] = None
-plain_face v most (size ∷ parts) = face_sized v most (short_whole size) parts
+-- No token goes on here.
+abbrev pub closes : List ℕ → Bool
+closes [] = true
+closes (b ∷ bs) = is_end b
 
--- the face with a colour that was read, if one was
-abbrev pub coloured : List ℕ → Option (Bor (List ℕ)) → Option Face
-coloured corners None = None
-coloured corners (Some colour) = Some (record { corners = corners; colour = colour.now })
+-- The text begins with these vertices.
+pub record BeginsWith (v : ℕ) (text us behind : List ℕ) : Type 0 where
+  pub words : List (List ℕ)
+  pub vertices : AreVertices v words us
+  pub is : text ≡ spaced words ++ behind
+  pub closed : closes behind ≡ true
+
+-- The text begins with their number and these vertices.
+pub record IsPlain (v : ℕ) (text us behind : List ℕ) : Type 0 where
+  pub size : List ℕ
+  pub count : short_whole size ≡ Some (length us)
+  pub rest : List ℕ
+  pub is : text ≡ size ++ rest
+  pub corners : BeginsWith v rest us behind
+
+-- The second text is what stands behind a first part of the first line.
+pub record IsBehind (text behind : List ℕ) : Type 0 where
+  pub front : List ℕ
+  pub some : 0 < length front
+  pub one_line : list_any is_line_end front ≡ false
+  pub is : text ≡ front ++ behind
+
+-- the first line of a text, by what stands behind a first part of it
+abbrev pub line_before : List ℕ → List ℕ → List ℕ
+line_before text behind = take (length text - length behind + position_or_len is_line_end behind) text

@@ -1,22 +1,25 @@
 //! The face lines.
-ghost use Rattle.std.specs.Prelude.{◌≡◌, ◌≢◌, ◌<◌, ◌≤◌, ◌+◌, ◌^◌, ℕ, true, [], length, slice_index, take, drop, IfOk};
-ghost use Rattle.std.specs.Prelude.{IfNone, OnOk};
-ghost use Rattle.std.specs.List.{All, AllPairs};
+ghost use Rattle.std.specs.Prelude.{◌≡◌, ◌≢◌, ◌<◌, ◌≤◌, ◌+◌, ℕ, true, [], length, slice_index};
+ghost use Rattle.std.specs.Prelude.{take, drop, IfOk, IfNone, IfSome, OnOk};
+ghost use Rattle.std.specs.List.{All, AllPairs, before_first};
 ghost use Rattle.surf_surfaces.specs.Mesh.{IsFace};
 ghost use Rattle.surf_surfaces.specs.SideNumber.{side_count};
-ghost use Rattle.surf_text.specs.Text.{whole, behind_word, behind_words};
-ghost use Rattle.surf_text.specs.Walks.{text_line};
+ghost use Rattle.surf_text.specs.Text.{whole, behind_word, behind_words, is_line_end, tokens_of};
+ghost use Rattle.surf_text.specs.Text.{uncommented, trimmed, onto_lines};
+ghost use Rattle.surf_text.specs.Walks.{text_line, lines_ahead};
 ghost use Rattle.surf_off.specs.Off.{size_of, corner_read, corners_at, first_repeat, distinct, face_of, faces_at};
-ghost use Rattle.surf_off.specs.Gives.{Gives};
-ghost use Rattle.surf_off.specs.Seen.{lent};
+ghost use Rattle.surf_off.specs.Gives.{Gives, GivesFace};
+ghost use Rattle.surf_off.specs.Plain.{IsBehind, line_before};
+ghost use Rattle.surf_off.specs.Seen.{part_of};
 ghost use Rattle.surf_base.specs.declared.limits.TheConstants.{MAX_FACES, MAX_SIDES};
 
 use crate::fault::OffFault;
+use crate::parts::{Colours, Span};
 use crate::plain::read_plain;
 use std::alloc::Global;
 use surf_base::{LimitKind, MAX_SIDES, VertexId};
 use surf_soup::Soup;
-use surf_text::{Line, Lines, Tokens, read_whole};
+use surf_text::{Line, PlacedLines, Tokens, first_line, read_whole};
 
 // How many corners a face has.
 #[tactic(auto, unfolding(crate::specs::Off::size_of))]
@@ -140,69 +143,128 @@ fn read_by_tokens<'a>(
     Ok(tokens.rest())
 }
 
-// The same, with plain lines in one pass. A line with a fault other than a repeated corner isn't
-// plain, so the order of faults is that of the tokens.
-fn read_face<'a>(
-    line: &Line<'a>,
+// Passes over a line of which what stands behind the corners is known. Its number, and where its
+// colour stands.
+fn pass_plain(lines: &mut PlacedLines<'_>, behind: &[u8]) -> (u32, Span)
+    requires behind { IsBehind (drop lines.old.at lines.old.text) behind.now }
+    ensures text { lines.new.text ≡ lines.old.text }
+    ensures within { result.1.start + result.1.len ≤ length lines.old.text }
+    ensures colour { part_of lines.old.text result.1
+        ≡ trimmed (uncommented (before_first is_line_end behind.now)) }
+    ensures ahead { lines_ahead lines.old ≡ onto_lines (record {
+      number = result.0;
+      bytes = trimmed (uncommented (line_before (drop lines.old.at lines.old.text) behind.now));
+    }) (tokens_of (line_before (drop lines.old.at lines.old.text) behind.now))
+        (lines_ahead lines.new) }
+{
+    let from = lines.place();
+    let before = lines.rest().len() - behind.len();
+    let colour = first_line(behind);
+    let line = lines.pass_line(before + colour.len);
+    let span = Span {
+        start: from + (before + colour.start) as u32,
+        len: colour.bytes.len() as u32,
+    };
+    (line, span)
+}
+
+// The next face, behind faces of so many sides, by the tokens of its line.
+fn next_by_tokens(
+    lines: &mut PlacedLines<'_>,
     vertices: u32,
     sides: u32,
     marks: &mut [u32],
     stamp: u32,
     corners: &mut Vec<VertexId>,
-) -> Result<&'a [u8], OffFault>
+) -> Result<Option<Span>, OffFault>
     requires few { sides ≤ MAX_SIDES }
     requires room { length marks.old ≡ vertices }
     requires earlier { (k : ℕ) → k < length marks.old → slice_index marks.old k < stamp }
-    ensures face { Gives (λ colour. record { corners = corners.new.items; colour = colour.now })
-        result (face_of true vertices sides (text_line line.now)) }
-    ensures corners { OnOk result (IsFace vertices corners.new.items) }
-    ensures few { OnOk result (sides + length corners.new.items ≤ MAX_SIDES) }
+    ensures face { GivesFace vertices sides (lines_ahead lines.old) (lines_ahead lines.new)
+        lines.old.text corners.new.items result }
+    ensures text { lines.new.text ≡ lines.old.text }
+    ensures within { IfOk result (λ found. IfSome found (λ span.
+        span.start + span.len ≤ length lines.old.text)) }
+    ensures corners { IfOk result (λ found. IfSome found
+        (λ _. IsFace vertices corners.new.items)) }
+    ensures few { IfOk result (λ found. IfSome found
+        (λ _. sides + length corners.new.items ≤ MAX_SIDES)) }
     ensures marks { (k : ℕ) → k < length marks.new → slice_index marks.new k ≤ stamp }
 {
-    let Some(colour) = read_plain(line.bytes, vertices, MAX_SIDES - sides, corners)? else {
-        return read_by_tokens(line, vertices, sides, marks, stamp, corners);
+    let Some(line) = lines.next_line() else {
+        return Ok(None);
     };
-    refuse_repeats(line.number, marks, stamp, corners)?;
-    Ok(colour)
+    let colour = read_by_tokens(&line, vertices, sides, marks, stamp, corners)?;
+    Ok(Some(Span {
+        start: line.start + (line.bytes.len() - colour.len()) as u32,
+        len: colour.len() as u32,
+    }))
+}
+
+// The same, with plain lines in one pass. A line with a fault other than a repeated corner isn't
+// plain, so the order of faults is that of the tokens.
+fn next_face(
+    lines: &mut PlacedLines<'_>,
+    vertices: u32,
+    sides: u32,
+    marks: &mut [u32],
+    stamp: u32,
+    corners: &mut Vec<VertexId>,
+) -> Result<Option<Span>, OffFault>
+    requires few { sides ≤ MAX_SIDES }
+    requires room { length marks.old ≡ vertices }
+    requires earlier { (k : ℕ) → k < length marks.old → slice_index marks.old k < stamp }
+    ensures face { GivesFace vertices sides (lines_ahead lines.old) (lines_ahead lines.new)
+        lines.old.text corners.new.items result }
+    ensures text { lines.new.text ≡ lines.old.text }
+    ensures within { IfOk result (λ found. IfSome found (λ span.
+        span.start + span.len ≤ length lines.old.text)) }
+    ensures corners { IfOk result (λ found. IfSome found
+        (λ _. IsFace vertices corners.new.items)) }
+    ensures few { IfOk result (λ found. IfSome found
+        (λ _. sides + length corners.new.items ≤ MAX_SIDES)) }
+    ensures marks { (k : ℕ) → k < length marks.new → slice_index marks.new k ≤ stamp }
+{
+    let Some(behind) = read_plain(lines.rest(), vertices, MAX_SIDES - sides, corners)? else {
+        return next_by_tokens(lines, vertices, sides, marks, stamp, corners);
+    };
+    let (line, colour) = pass_plain(lines, behind);
+    refuse_repeats(line, marks, stamp, corners)?;
+    Ok(Some(colour))
 }
 
 /// So many face lines over so many vertices. Their colours are put to those that are kept.
-pub(crate) fn read_faces<'a>(
+pub(crate) fn read_faces(
     alloc: Global,
-    lines: &mut Lines<'a>,
+    lines: &mut PlacedLines<'_>,
     vertices: u32,
     faces: u32,
-    colours: &mut Vec<&'a [u8]>,
+    colours: &mut Colours<'_>,
 ) -> Result<Soup, OffFault>
     requires few { faces ≤ MAX_FACES }
-    requires none { colours.old.items ≡ [] }
+    requires text { colours.old.text ≡ lines.old.text }
+    requires none { colours.old.parts ≡ [] }
     ensures faces { Gives (λ soup. record {
       faces = soup.faces;
-      colours = lent colours.new.items;
-      lines = lines.new;
-    }) result (faces_at true vertices faces 0 lines.old) }
+      colours = colours.new.parts;
+      lines = lines_ahead lines.new;
+    }) result (faces_at true vertices faces 0 (lines_ahead lines.old)) }
     ensures vertices { IfOk result (λ soup. soup.vertices ≡ vertices) }
     ensures count { IfOk result (λ soup. length soup.faces ≡ faces) }
-    ensures colours { OnOk result (length colours.new.items ≡ faces) }
+    ensures colours { OnOk result (length colours.new.parts ≡ faces) }
     ensures sides { IfOk result (λ soup. side_count soup ≤ MAX_SIDES) }
 {
     let mut soup = Soup::start(alloc, vertices);
     let mut corners = Vec::new(alloc);
     let mut marks = vec![in alloc; 0u32; vertices as usize]?;
     for done in 0..faces {
-        let Some(line) = lines.next_line() else {
+        let sides = soup.side_count();
+        let found = next_face(lines, vertices, sides, &mut marks, done + 1, &mut corners)?;
+        let Some(colour) = found else {
             return Err(OffFault::Early {
                 missing: faces - done,
             });
         };
-        let colour = read_face(
-            &line,
-            vertices,
-            soup.side_count(),
-            &mut marks,
-            done + 1,
-            &mut corners,
-        )?;
         soup.push_face(&corners)?;
         colours.push(colour)?;
     }

@@ -1,5 +1,6 @@
 //! The lines before the vertices.
 ghost use Rattle.std.specs.Prelude.{◌≡◌, ◌≤◌, true, IfOk};
+ghost use Rattle.surf_text.specs.Walks.{lines_ahead};
 ghost use Rattle.surf_off.specs.Off.{head_of, counts_of};
 ghost use Rattle.surf_off.specs.Gives.{Gives};
 ghost use Rattle.surf_off.specs.Seen.{head_seen};
@@ -8,7 +9,7 @@ ghost use Rattle.surf_base.specs.declared.limits.TheConstants.{MAX_FACES, MAX_VE
 use crate::fault::OffFault;
 use crate::header::{Header, read_header};
 use surf_base::{LimitKind, MAX_FACES, MAX_VERTICES};
-use surf_text::{Lines, Tokens, read_whole};
+use surf_text::{PlacedLines, Tokens, read_whole};
 
 /// The keyword, and the tokens of the counts with the number of their line.
 #[derive(Drop)]
@@ -19,8 +20,10 @@ pub(crate) struct Head<'a> {
 }
 
 #[tactic(auto, unfolding(crate::specs::Off::head_of))]
-pub(crate) fn read_head<'a>(lines: &mut Lines<'a>) -> Result<Head<'a>, OffFault>
-    ensures head { Gives (λ h. head_seen h lines.new) result (head_of lines.old) }
+pub(crate) fn read_head<'a>(lines: &mut PlacedLines<'a>) -> Result<Head<'a>, OffFault>
+    ensures head { Gives (λ h. head_seen h (lines_ahead lines.new)) result
+        (head_of (lines_ahead lines.old)) }
+    ensures text { lines.new.text ≡ lines.old.text }
 {
     let Some(line) = lines.next_line() else {
         return Err(OffFault::Header { line: 0 });

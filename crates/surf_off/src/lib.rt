@@ -2,9 +2,10 @@
 //!
 //! The format is that of the Geomview manual, "OFF Files", read by lines: one vertex or one face a
 //! line, and comments and line ends as in `surf_text`. The eight keywords without `4` and `n` are
-//! read. Coordinates and colours stay text: an [`OffText`] lends them as slices of the source and
-//! copies nothing. The mesh itself is a `Soup` of `surf_mesh`. What a text is, or its first fault,
-//! is one definition over the list of its lines, and [`read_off`] answers it, fault by fault.
+//! read. Coordinates and colours stay text: an [`OffText`] keeps their places in the source, lends
+//! them as slices of it and copies nothing. The mesh itself is a `Soup` of `surf_mesh`. What a text
+//! is, or its first fault, is one definition over the list of its lines, and [`read_off`] answers
+//! it, fault by fault.
 #![tactic(auto)]
 
 mod faces;
@@ -12,6 +13,7 @@ mod fault;
 mod head;
 mod header;
 mod made;
+mod parts;
 mod plain;
 mod read;
 mod text;

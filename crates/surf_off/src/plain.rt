@@ -1,77 +1,98 @@
 //! Plain face lines: a size and as many corners, a space between any two numbers. What stands behind
 //! the last corner is the colour.
-ghost use Rattle.std.specs.Prelude.{◌≡◌, ◌<◌, ◌≤◌, Ok, length, IfOk, IfSome};
-ghost use Rattle.std.specs.List.{All, slice_split, join_with_byte};
-ghost use Rattle.surf_text.specs.Text.{is_space, rest_after};
-ghost use Rattle.surf_text.specs.Walks.{parts_of};
-ghost use Rattle.surf_off.specs.Plain.{coloured, face_in, plain_face};
-ghost use Rattle.surf_off.specs.Gives.{Gives};
+ghost use Rattle.std.specs.Prelude.{◌≡◌, ◌<◌, ◌≤◌, ◌∷◌, length, IfOk, IfErr, IfSome};
+ghost use Rattle.std.specs.List.{All};
+ghost use Rattle.surf_off.specs.Plain.{is_end, closes, BeginsWith, IsPlain};
+ghost use Rattle.surf_off.specs.declared.fault.OffFault.TheVariants.{Memory};
 
 use crate::fault::OffFault;
 use surf_base::VertexId;
-use surf_text::{Tokens, split_number};
+use surf_text::front_number;
 
-// The tokens of what is left of a line.
-fn colour_of(rest: Option<&[u8]>) -> &[u8]
-    ensures colour { result.now ≡ rest_after 0 (join_with_byte 32 (parts_of is_space rest.entry)) }
+// Whether a token ends before this byte.
+fn is_end(b: u8) -> bool
+    ensures end { result ≡ is_end b }
 {
-    match rest {
-        Some(bytes) => Tokens::over(bytes).rest(),
-        None => b"",
+    b == b' ' || b == b'\t' || b == b'\r' || b == b'\n' || b == b'#'
+}
+
+// Whether a token ends where these bytes begin.
+fn ends_token(bytes: &[u8]) -> bool
+    ensures ends { result ≡ closes bytes.now }
+{
+    match bytes {
+        [] => true,
+        [b, ..] => is_end(*b),
     }
 }
 
-// The colour of a face, if the parts of its line begin with so many vertices. These take the place
-// of the corners that were kept.
+// What stands behind a space.
+fn behind_space(bytes: &[u8]) -> Option<&[u8]>
+    ensures rest { IfSome result (λ rest. bytes.now ≡ 32 ∷ rest.now) }
+{
+    match bytes {
+        [b' ', rest @ ..] => Some(rest),
+        _ => None,
+    }
+}
+
+// What stands behind so many corners, if a text begins with them, a space before each. They take
+// the place of the corners that were kept.
 fn plain_corners<'a>(
-    parts: Option<&'a [u8]>,
+    text: &'a [u8],
     vertices: u32,
     size: u32,
     corners: &mut Vec<VertexId>,
 ) -> Result<Option<&'a [u8]>, OffFault>
-    ensures face { Gives (coloured corners.new.items) result
-        (Ok (face_in vertices size (parts_of is_space parts.entry))) }
+    ensures read { IfOk result (λ plain. IfSome plain (λ behind. BeginsWith vertices text.now
+        corners.new.items behind.now)) }
     ensures size { IfOk result (λ plain. IfSome plain (λ _. length corners.new.items ≡ size)) }
     ensures within { IfOk result (λ plain. IfSome plain
         (λ _. All (λ u. u < vertices) corners.new.items)) }
+    ensures fault { IfErr result (λ e. e ≡ Memory) }
 {
     corners.clear();
-    let mut next = parts;
+    let mut behind = text;
     for _ in 0..size {
-        let Some(rest) = next else {
+        let Some(number) = behind_space(behind) else {
             return Ok(None);
         };
-        let Some((u, behind)) = split_number(rest) else {
+        let Some((u, digits)) = front_number(number) else {
             return Ok(None);
         };
         if u >= vertices {
             return Ok(None);
         }
         corners.push(VertexId::new(u))?;
-        next = behind;
+        behind = &number[digits..];
     }
-    Ok(Some(colour_of(next)))
+    if ends_token(behind) {
+        Ok(Some(behind))
+    } else {
+        Ok(None)
+    }
 }
 
-/// The colour of a face line that begins as a plain face of at most so many sides. If it does, its
-/// corners take the place of those that were kept.
+/// What stands behind the corners of a face of at most so many sides, if a text begins with it
+/// plainly. If it does, its corners take the place of those that were kept.
 #[inline(never)]
 pub(crate) fn read_plain<'a>(
-    line: &'a [u8],
+    text: &'a [u8],
     vertices: u32,
     most: u32,
     corners: &mut Vec<VertexId>,
 ) -> Result<Option<&'a [u8]>, OffFault>
-    ensures face { Gives (coloured corners.new.items) result
-        (Ok (plain_face vertices most (slice_split is_space line.now))) }
+    ensures read { IfOk result (λ plain. IfSome plain (λ behind. IsPlain vertices text.now
+        corners.new.items behind.now)) }
     ensures size { IfOk result (λ plain. IfSome plain (λ _. (3 ≤ length corners.new.items)
         × (length corners.new.items ≤ most))) }
     ensures within { IfOk result (λ plain. IfSome plain
         (λ _. All (λ u. u < vertices) corners.new.items)) }
+    ensures fault { IfErr result (λ e. e ≡ Memory) }
 {
-    match split_number(line) {
-        Some((size, behind)) if size >= 3 && size <= most => {
-            plain_corners(behind, vertices, size, corners)
+    match front_number(text) {
+        Some((size, digits)) if size >= 3 && size <= most => {
+            plain_corners(&text[digits..], vertices, size, corners)
         }
         _ => Ok(None),
     }

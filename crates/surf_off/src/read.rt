@@ -8,11 +8,12 @@ ghost use Rattle.surf_base.specs.declared.limits.TheConstants.{MAX_FACES, MAX_SI
 use crate::faces::read_faces;
 use crate::fault::OffFault;
 use crate::head::{read_counts, read_head};
+use crate::parts::{Colours, Parts};
 use crate::text::OffText;
 use crate::vertices::read_vertices;
 use std::alloc::Global;
 use surf_soup::Soup;
-use surf_text::Lines;
+use surf_text::PlacedLines;
 
 // Room for so many lines, but for no more than the text can have: each has three tokens at least,
 // so it takes six bytes with its end. A count of the head alone asks for no memory.
@@ -38,12 +39,12 @@ pub fn read_off<'a>(alloc: Global, text: &'a [u8]) -> Result<(OffText<'a>, Soup)
     ensures faces { IfOk result (λ x. length x.1.faces ≤ MAX_FACES) }
     ensures sides { IfOk result (λ x. side_count x.1 ≤ MAX_SIDES) }
 {
-    let mut lines = Lines::over(text);
+    let mut lines = PlacedLines::over(text);
     let mut head = read_head(&mut lines)?;
     let (vertices, faces) = read_counts(head.number, &mut head.counts)?;
-    let room = room_for(text, vertices);
-    let vertex_lines = read_vertices(alloc, &mut lines, vertices, faces, room)?;
-    let mut colours = Vec::with_capacity(alloc, room_for(text, faces))?;
+    let mut vertex_lines = Parts::with_room(alloc, text, room_for(text, vertices))?;
+    read_vertices(&mut lines, vertices, faces, &mut vertex_lines)?;
+    let mut colours = Colours::none(alloc, text);
     let soup = read_faces(alloc, &mut lines, vertices, faces, &mut colours)?;
     match lines.next_line() {
         Some(line) => Err(OffFault::Trailing { line: line.number }),

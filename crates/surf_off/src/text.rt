@@ -1,9 +1,9 @@
 //! What an OFF text has beside its mesh.
 ghost use Rattle.std.specs.Prelude.{◌≡◌, ◌<◌, ◌^◌, [], length, slice_index_or};
 ghost use Rattle.surf_off.specs.Clean.{IsOffParts};
-ghost use Rattle.surf_off.specs.Seen.{lent};
 
 use crate::header::Header;
+use crate::parts::{Colours, Parts};
 use std::marker::Model;
 use surf_base::{FaceId, VertexId};
 
@@ -13,45 +13,42 @@ use surf_base::{FaceId, VertexId};
 #[derive(Drop)]
 pub struct OffText<'a> {
     header: Header,
-    vertex_lines: Vec<&'a [u8]>,
-    colours: Vec<&'a [u8]>,
+    vertex_lines: Parts<'a>,
+    colours: Colours<'a>,
 }
 
 impl<'a> Model for OffText<'a> {
+    ghost use Rattle.std.specs.Prelude.{◌<◌, ◌^◌, length};
     ghost use Rattle.surf_off.specs.Off.{OffParts};
     ghost use Rattle.surf_off.specs.Clean.{IsOffParts};
-    ghost use Rattle.surf_off.specs.Seen.{lent};
 
     ghost Value = { OffParts };
 
     ghost view = { λ s. record {
       header = s.header;
-      vertex_lines = lent s.vertex_lines.items;
-      colours = lent s.colours.items;
+      vertex_lines = s.vertex_lines.parts;
+      colours = s.colours.parts;
     } };
 
     ghost invariant = { λ s. IsOffParts (record {
       header = s.header;
-      vertex_lines = lent s.vertex_lines.items;
-      colours = lent s.colours.items;
-    }) };
+      vertex_lines = s.vertex_lines.parts;
+      colours = s.colours.parts;
+    }) × (length s.vertex_lines.parts < 2 ^ 64) };
 }
 
 impl<'a> OffText<'a> {
-    pub(crate) fn make(
-        header: Header,
-        vertex_lines: Vec<&'a [u8]>,
-        colours: Vec<&'a [u8]>,
-    ) -> OffText<'a>
+    pub(crate) fn make(header: Header, vertex_lines: Parts<'a>, colours: Colours<'a>) -> OffText<'a>
         requires clean { IsOffParts (record {
           header = header;
-          vertex_lines = lent vertex_lines.items;
-          colours = lent colours.items;
+          vertex_lines = vertex_lines.parts;
+          colours = colours.parts;
         }) }
+        requires countable { length vertex_lines.parts < 2 ^ 64 }
         ensures parts { result ≡ record {
           header = header;
-          vertex_lines = lent vertex_lines.entry.items;
-          colours = lent colours.entry.items;
+          vertex_lines = vertex_lines.entry.parts;
+          colours = colours.entry.parts;
         } }
     {
         OffText {
@@ -75,7 +72,7 @@ impl<'a> OffText<'a> {
         requires within { v < length self.now.vertex_lines }
         ensures line { result.now ≡ slice_index_or self.now.vertex_lines v [] }
     {
-        self.vertex_lines[v.index()]
+        self.vertex_lines.part(v.index())
     }
 
     /// The colour of a face, empty where none is given.
@@ -90,6 +87,6 @@ impl<'a> OffText<'a> {
         requires within { f < length self.now.colours }
         ensures colour { result.now ≡ slice_index_or self.now.colours f [] }
     {
-        self.colours[f]
+        self.colours.colour(f)
     }
 }

@@ -1,28 +1,29 @@
 //! The vertex lines.
-ghost use Rattle.std.specs.Prelude.{◌≡◌, ◌<◌, ◌+◌, ◌^◌, length, IfOk};
+ghost use Rattle.std.specs.Prelude.{◌≡◌, ◌<◌, ◌+◌, ◌^◌, [], length, OnOk};
+ghost use Rattle.surf_text.specs.Walks.{lines_ahead};
 ghost use Rattle.surf_off.specs.Off.{vertices_at};
 ghost use Rattle.surf_off.specs.Gives.{Gives};
-ghost use Rattle.surf_off.specs.Seen.{lent};
 
 use crate::fault::OffFault;
-use std::alloc::Global;
-use surf_text::{Lines, has_tokens};
+use crate::parts::{Parts, Span};
+use surf_text::{PlacedLines, has_tokens};
 
-/// So many vertex lines, which so many face lines are to follow. Room for `room` of them is made
-/// at once.
-pub(crate) fn read_vertices<'a>(
-    alloc: Global,
-    lines: &mut Lines<'a>,
+/// So many vertex lines, which so many face lines are to follow. They are put to those that are
+/// kept.
+pub(crate) fn read_vertices(
+    lines: &mut PlacedLines<'_>,
     vertices: u32,
     faces: u32,
-    room: usize,
-) -> Result<Vec<&'a [u8]>, OffFault>
+    kept: &mut Parts<'_>,
+) -> Result<(), OffFault>
     requires fits { vertices + faces < 2 ^ 32 }
-    ensures lines { Gives (λ kept. (lent kept.items, lines.new)) result
-        (vertices_at vertices faces lines.old) }
-    ensures count { IfOk result (λ kept. length kept.items ≡ vertices) }
+    requires text { kept.old.text ≡ lines.old.text }
+    requires none { kept.old.parts ≡ [] }
+    ensures lines { Gives (λ _. (kept.new.parts, lines_ahead lines.new)) result
+        (vertices_at vertices faces (lines_ahead lines.old)) }
+    ensures count { OnOk result (length kept.new.parts ≡ vertices) }
+    ensures text { OnOk result (lines.new.text ≡ lines.old.text) }
 {
-    let mut kept = Vec::with_capacity(alloc, room)?;
     for done in 0..vertices {
         let Some(line) = lines.next_line() else {
             return Err(OffFault::Early {
@@ -32,7 +33,10 @@ pub(crate) fn read_vertices<'a>(
         if !has_tokens(line.bytes, 3) {
             return Err(OffFault::VertexLine { line: line.number });
         }
-        kept.push(line.bytes)?;
+        kept.push(Span {
+            start: line.start,
+            len: line.bytes.len() as u32,
+        })?;
     }
-    Ok(kept)
+    Ok(())
 }

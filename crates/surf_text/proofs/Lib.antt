@@ -6,4 +6,6 @@ mod Short
 mod Counting
 pub mod Plain
 pub mod Words
+mod Ahead
+pub mod Spans
 pub mod Writing

@@ -1,15 +1,16 @@
 -- Reading a number of 32 bits that ends before a space.
-use Rattle.std.proofs.Common.{◌≡◌, ◌<◌, ◌≤◌, ◌^◌, ◌+◌, ◌-◌, ◌*◌, ℕ, Bool, true, false, cond, List, [], ◌∷◌, length, get_or, take, drop, Option, Some, None, MatchOption, sym, ◌∙◌, ap, arith, inl, inr, length-take, not}
-use Rattle.std.specs.Prelude.{◌==◌}
+use Rattle.std.proofs.Common.{◌≡◌, ◌<◌, ◌≤◌, ◌^◌, ◌+◌, ◌-◌, ◌*◌, ℕ, Bool, true, false, cond, List, [], ◌∷◌, length, get_or, take, drop, Option, Some, None, MatchOption, refl, sym, ◌∙◌, ap, arith, inl, inr, length-take, not}
+use Rattle.std.specs.Prelude.{◌==◌, ◌&&◌, nat_lt}
 use Rattle.std.specs.Char.{is_ascii_digit}
 use Rattle.std.specs.List.{before_first, position_or_len, slice_split}
-use Rattle.std.proofs.lemmas.Bool.{cases_Bool, cases_lt, eqb-true, ne_eqb, eq-eqb, both_ways, lt-ltb}
+use Rattle.std.proofs.lemmas.Bool.{cases_Bool, cases_lt, cases_eq, eqb-true, ne_eqb, eq-eqb, both_ways, lt-ltb}
 use Rattle.std.proofs.lemmas.List.{get_or-take, take_all, take_rest}
+use Rattle.std.proofs.lemmas.List.Folds.{list_all_at}
 use Rattle.std.proofs.lemmas.List.Splits.{slice_split_first}
 use Rattle.std.proofs.lemmas.List.Sums.{fails_before_first, passes_at_first, prefix_len-le-length}
-use Rattle.surf_text.specs.Text.{is_space, below, short_whole}
+use Rattle.surf_text.specs.Text.{is_space, is_no_digit, front_digits, is_nonempty, value_of, below, short_whole}
 use Rattle.surf_text.proofs.Cuts.{whole_part}
-use Rattle.surf_text.proofs.Digits.{digit_low, number_on, whole-is, too_long, digit_more, no_digit, number_all}
+use Rattle.surf_text.proofs.Digits.{number_on, whole-is, too_long, digit_more, number_all}
 
 -- a first part, with the place where it ends
 pub part_before : (p : ℕ → Bool) (xs : List ℕ) (i : ℕ) → position_or_len p xs ≡ i → i < length xs → slice_split p xs ≡ before_first p xs ∷ slice_split p (take (length xs - (i + 1)) (drop (i + 1) xs))
@@ -21,40 +22,80 @@ part_before p xs i at lt =
 pub part_alone : (p : ℕ → Bool) (xs : List ℕ) → length xs ≤ position_or_len p xs → slice_split p xs ≡ before_first p xs ∷ []
 part_alone p xs le = whole_part p xs le ∙ ap (λ (part : List ℕ). part ∷ []) (sym (take_all (position_or_len p xs) xs le))
 
+digits_before : (xs : List ℕ) → position_or_len is_no_digit xs ≤ position_or_len is_space xs
+digits_before xs =
+    let n = position_or_len is_no_digit xs in
+    let j = position_or_len is_space xs in
+    elim (cases_lt j n) [
+      | inr le ↦ le
+      | inl lt ↦
+          let inside : j < length xs = omega (arith, lt, prefix_len-le-length (λ b. not (is_no_digit b)) xs) in
+          let is : get_or xs j 0 ≡ 32 = eqb-true _ _ (passes_at_first is_space xs 0 inside) in
+          absurd (both_ways (is_no_digit (get_or xs j 0)) (fails_before_first is_no_digit xs j 0 lt) (ap is_no_digit is))
+    ]
+
+not_true : (b : Bool) → not b ≡ true → b ≡ false
+not_true true is = absurd cc
+not_true false is = refl
+
+no_number : (word : List ℕ) (i : ℕ) → i < length word → is_no_digit (get_or word i 0) ≡ true → short_whole word ≡ None
+no_number word i lt other = rw (list_all_at is_ascii_digit word i 0 lt (not_true _ other)) (at (is_nonempty word))
+  where
+    at : (b : Bool) → below (2 ^ 32) (cond (b && false && nat_lt (value_of word) (2 ^ 64)) (Some (value_of word)) None) ≡ None
+    at true = refl
+    at false = refl
+
+-- What stands before a space is the digits in front, or no number.
+pub before_space : (xs : List ℕ) → (position_or_len is_no_digit xs ≡ position_or_len is_space xs → ⊥) → short_whole (before_first is_space xs) ≡ None
+before_space xs differ =
+    let n = position_or_len is_no_digit xs in
+    let j = position_or_len is_space xs in
+    let lt : n < j = elim (cases_lt n j) [ inl lt ↦ lt | inr ge ↦ absurd (differ (omega (arith, digits_before xs, ge))) ] in
+    let most = prefix_len-le-length (λ b. not (is_space b)) xs in
+    let inside : n < length xs = omega (arith, lt, most) in
+    let size : length (before_first is_space xs) ≡ j = omega (arith, length-take j xs, most) in
+    no_number (before_first is_space xs) n (omega (arith, lt, size)) (ap is_no_digit (get_or-take j xs n 0 lt) ∙ passes_at_first is_no_digit xs 0 inside)
+
+pub digits_space : (xs : List ℕ) → position_or_len is_no_digit xs ≡ position_or_len is_space xs → before_first is_space xs ≡ front_digits xs
+digits_space xs same = ap (λ (k : ℕ). take k xs) (sym same)
+
+pub none_before_space : (xs : List ℕ) → short_whole (front_digits xs) ≡ None → short_whole (before_first is_space xs) ≡ None
+none_before_space xs none = elim (cases_eq (position_or_len is_no_digit xs) (position_or_len is_space xs)) [
+  | inl same ↦ ap short_whole (digits_space xs same) ∙ none
+  | inr differ ↦ before_space xs differ
+]
+
 module _ (xs : List ℕ) where
-  pub space_here : (i : ℕ) → i ≤ position_or_len is_space xs → get_or xs i 0 ≡ 32 → position_or_len is_space xs ≡ i
-  space_here i le is = elim (cases_lt i (position_or_len is_space xs)) [
-    | inl lt ↦ absurd (both_ways (is_space (get_or xs i 0)) (fails_before_first is_space xs i 0 lt) (eq-eqb _ _ is))
+  pub other_here : (i : ℕ) → i ≤ position_or_len is_no_digit xs → is_no_digit (get_or xs i 0) ≡ true → position_or_len is_no_digit xs ≡ i
+  other_here i le is = elim (cases_lt i (position_or_len is_no_digit xs)) [
+    | inl lt ↦ absurd (both_ways (is_no_digit (get_or xs i 0)) (fails_before_first is_no_digit xs i 0 lt) is)
     | inr ge ↦ omega arith
   ]
 
-  pub space_later : (i : ℕ) → i ≤ position_or_len is_space xs → i < length xs → (get_or xs i 0 ≡ 32 → ⊥) → i < position_or_len is_space xs
-  space_later i le lt other = elim (cases_lt i (position_or_len is_space xs)) [
+  pub digit_later : (i : ℕ) → i ≤ position_or_len is_no_digit xs → i < length xs → is_ascii_digit (get_or xs i 0) ≡ true → i < position_or_len is_no_digit xs
+  digit_later i le lt digit = elim (cases_lt i (position_or_len is_no_digit xs)) [
     | inl before ↦ before
     | inr ge ↦
-        let at : position_or_len is_space xs ≡ i = omega arith in
-        let passes : is_space (get_or xs (position_or_len is_space xs) 0) ≡ true = passes_at_first is_space xs 0 (omega (arith, at, lt)) in
-        absurd (other (eqb-true _ _ (ap (λ (k : ℕ). is_space (get_or xs k 0)) (sym at) ∙ passes)))
+        let at : position_or_len is_no_digit xs ≡ i = omega arith in
+        let passes : is_no_digit (get_or xs (position_or_len is_no_digit xs) 0) ≡ true = passes_at_first is_no_digit xs 0 (omega (arith, at, lt)) in
+        absurd (both_ways (is_no_digit (get_or xs i 0)) (ap not digit) (ap (λ (k : ℕ). is_no_digit (get_or xs k 0)) (sym at) ∙ passes))
   ]
 
-  pub digit_later : (i : ℕ) → i ≤ position_or_len is_space xs → i < length xs → is_ascii_digit (get_or xs i 0) ≡ true → i < position_or_len is_space xs
-  digit_later i le lt digit = space_later i le lt (λ is. omega (arith, is, digit_low (get_or xs i 0) digit))
-
-  pub space_at_end : (i : ℕ) → i ≤ position_or_len is_space xs → length xs ≤ i → (i ≡ position_or_len is_space xs) × (i ≡ length xs)
-  space_at_end i le end =
-      let most = prefix_len-le-length (λ b. not (is_space b)) xs in
+  pub digits_at_end : (i : ℕ) → i ≤ position_or_len is_no_digit xs → length xs ≤ i → (i ≡ position_or_len is_no_digit xs) × (i ≡ length xs)
+  digits_at_end i le end =
+      let most = prefix_len-le-length (λ b. not (is_no_digit b)) xs in
       (omega (arith, most), omega (arith, most))
 
   word : List ℕ
-  word = before_first is_space xs
+  word = front_digits xs
 
-  word_length : length word ≡ position_or_len is_space xs
+  word_length : length word ≡ position_or_len is_no_digit xs
   unfolding word
-  word_length = omega (arith, length-take (position_or_len is_space xs) xs, prefix_len-le-length (λ b. not (is_space b)) xs)
+  word_length = omega (arith, length-take (position_or_len is_no_digit xs) xs, prefix_len-le-length (λ b. not (is_no_digit b)) xs)
 
-  word_at : (i : ℕ) → i < position_or_len is_space xs → get_or xs i 0 ≡ get_or word i 0
+  word_at : (i : ℕ) → i < position_or_len is_no_digit xs → get_or xs i 0 ≡ get_or word i 0
   unfolding word
-  word_at i lt = sym (get_or-take (position_or_len is_space xs) xs i 0 lt)
+  word_at i lt = sym (get_or-take (position_or_len is_no_digit xs) xs i 0 lt)
 
   some : (i : ℕ) → i < length word → false ≡ (length word == 0)
   some i lt = sym (ne_eqb (length word) 0 (λ e. absurd (omega arith)))
@@ -63,24 +104,20 @@ module _ (xs : List ℕ) where
   short_word : (i : ℕ) → i < length word → short_whole word ≡ below (2 ^ 32) (number_on 0 word)
   short_word i lt = ap (below (2 ^ 32)) (sym (whole-is word (some i lt)))
 
-  module _ (i n : ℕ) (so_far : number_on n (drop i (before_first is_space xs)) ≡ number_on 0 (before_first is_space xs)) where
-    module _ (lt : i < position_or_len is_space xs) where
+  module _ (i n : ℕ) (so_far : number_on n (drop i (front_digits xs)) ≡ number_on 0 (front_digits xs)) where
+    module _ (lt : i < position_or_len is_no_digit xs) where
       inside : i < length word
       inside = omega (arith, word_length)
 
-      pub short_more : is_ascii_digit (get_or xs i 0) ≡ true → number_on (n * 10 + (get_or xs i 0 - 48)) (drop (i + 1) (before_first is_space xs)) ≡ number_on 0 (before_first is_space xs)
+      pub short_more : is_ascii_digit (get_or xs i 0) ≡ true → number_on (n * 10 + (get_or xs i 0 - 48)) (drop (i + 1) (front_digits xs)) ≡ number_on 0 (front_digits xs)
       unfolding word
       short_more digit = sym (digit_more word i n (get_or xs i 0) inside (word_at i lt) digit) ∙ so_far
 
-      pub short_stops : is_ascii_digit (get_or xs i 0) ≡ false → short_whole (before_first is_space xs) ≡ None
-      unfolding word
-      short_stops other = short_word i inside ∙ ap (below (2 ^ 32)) (sym so_far ∙ no_digit word i n (get_or xs i 0) inside (word_at i lt) other)
-
-      pub short_passes : is_ascii_digit (get_or xs i 0) ≡ true → 2 ^ 32 ≤ n * 10 + (get_or xs i 0 - 48) → short_whole (before_first is_space xs) ≡ None
+      pub short_passes : is_ascii_digit (get_or xs i 0) ≡ true → 2 ^ 32 ≤ n * 10 + (get_or xs i 0 - 48) → short_whole (front_digits xs) ≡ None
       unfolding word
       short_passes digit le = short_word i inside ∙ ap (below (2 ^ 32)) (sym (short_more digit)) ∙ too_long (n * 10 + (get_or xs i 0 - 48)) (drop (i + 1) word) le
 
-    short_whole_is : i ≡ position_or_len is_space xs → n < 2 ^ 32 → (i ≡ 0 → ⊥) → short_whole (before_first is_space xs) ≡ Some n
+    short_whole_is : i ≡ position_or_len is_no_digit xs → n < 2 ^ 32 → (i ≡ 0 → ⊥) → short_whole (front_digits xs) ≡ Some n
     unfolding word
     short_whole_is end fits digits =
         let last = word_length in
@@ -92,12 +129,31 @@ module _ (xs : List ℕ) where
         ne_zero i differ = elim (cases_lt 0 i) [ inl lt ↦ lt | inr le ↦ absurd (differ (omega arith)) ]
 
     -- The digits end here.
-    pub short_ends : i ≡ position_or_len is_space xs → n < 2 ^ 32 → (r : Option (ℕ × ℕ)) → r ≡ cond (i == 0) None (Some (n, i))
-        → MatchOption r (short_whole (before_first is_space xs) ≡ None) (λ x. (short_whole (before_first is_space xs) ≡ Some x.0) × (position_or_len is_space xs ≡ x.1))
+    pub short_ends : i ≡ position_or_len is_no_digit xs → n < 2 ^ 32 → (r : Option (ℕ × ℕ)) → r ≡ cond (i == 0) None (Some (n, i))
+        → MatchOption r (short_whole (front_digits xs) ≡ None) (λ x. (short_whole (front_digits xs) ≡ Some x.0) × (position_or_len is_no_digit xs ≡ x.1))
     short_ends end fits r is = elim (cases_Bool (i == 0)) [
       | inl none ↦
-          let start : position_or_len is_space xs ≡ 0 = omega (arith, end, eqb-true i 0 none) in
-          let nothing : short_whole (before_first is_space xs) ≡ None = ap (λ (k : ℕ). short_whole (take k xs)) start in
+          let start : position_or_len is_no_digit xs ≡ 0 = omega (arith, end, eqb-true i 0 none) in
+          let nothing : short_whole (front_digits xs) ≡ None = ap (λ (k : ℕ). short_whole (take k xs)) start in
           rw (is, none) nothing
       | inr digits ↦ rw (is, digits) (short_whole_is end fits (λ e. both_ways (i == 0) digits (eq-eqb i 0 e)), sym end)
     ]
+
+-- where the digits in front end
+module _ (xs : List ℕ) (end : ℕ) (at : position_or_len is_no_digit xs ≡ end) where
+  pub end_alone : length xs ≤ end → position_or_len is_no_digit xs ≡ position_or_len is_space xs
+  end_alone le =
+      let most = prefix_len-le-length (λ b. not (is_space b)) xs in
+      omega (arith, at, le, most, digits_before xs)
+
+  pub end_space : get_or xs end 0 ≡ 32 → position_or_len is_no_digit xs ≡ position_or_len is_space xs
+  end_space is = elim (cases_lt end (position_or_len is_space xs)) [
+    | inl lt ↦ absurd (both_ways (is_space (get_or xs end 0)) (fails_before_first is_space xs end 0 lt) (eq-eqb _ _ is))
+    | inr ge ↦ omega (arith, at, ge, digits_before xs)
+  ]
+
+  pub end_other : end < length xs → (get_or xs end 0 ≡ 32 → ⊥) → position_or_len is_no_digit xs ≡ position_or_len is_space xs → ⊥
+  end_other lt other same =
+      let place : position_or_len is_space xs ≡ end = omega (arith, at, same) in
+      let passes : is_space (get_or xs (position_or_len is_space xs) 0) ≡ true = passes_at_first is_space xs 0 (omega (arith, place, lt)) in
+      other (eqb-true _ _ (ap (λ (k : ℕ). is_space (get_or xs k 0)) (sym place) ∙ passes))

@@ -22,7 +22,7 @@ pub front_twice : (bs : List ℕ) → trimmed_front (trimmed_front bs) ≡ trimm
 front_twice [] = refl
 front_twice (b ∷ bs) = elim (cases_Bool (is_blank b)) [ inl blank ↦ rw blank (front_twice bs) | inr dark ↦ rw (dark, dark) refl ]
 
-front_le : (bs : List ℕ) → length (trimmed_front bs) ≤ length bs
+pub front_le : (bs : List ℕ) → length (trimmed_front bs) ≤ length bs
 front_le [] = omega arith
 front_le (b ∷ bs) = elim (is_blank b) as (λ t. length (cond t (trimmed_front bs) (b ∷ bs)) ≤ length (b ∷ bs)) [ true ↦ let h = front_le bs in omega arith | false ↦ omega arith ]
 

@@ -1,5 +1,5 @@
 -- Lines, tokens and whole numbers of a text, as lists of bytes.
-use Rattle.std.specs.Prelude.{◌^◌, ◌+◌, ◌-◌, ◌*◌, ℕ, zero, suc, Bool, true, false, ◌==◌, ◌||◌, ◌&&◌, nat_lt, List, []}
+use Rattle.std.specs.Prelude.{◌^◌, ◌+◌, ◌-◌, ◌*◌, ℕ, zero, suc, Bool, true, false, ◌==◌, ◌||◌, ◌&&◌, nat_lt, not, List, []}
 use Rattle.std.specs.Prelude.{◌∷◌, drop, Option, Some, None, if◌then◌else◌}
 use Rattle.std.specs.Char.{is_ascii_digit}
 use Rattle.std.specs.List.{slice_split, before_first, position_or_len, filter, list_all, fold}
@@ -96,6 +96,13 @@ whole token =
     if is_nonempty token && list_all is_ascii_digit token && nat_lt (value_of token) (2 ^ 64)
     then Some (value_of token)
     else None
+
+abbrev pub is_no_digit : ℕ → Bool
+is_no_digit b = not (is_ascii_digit b)
+
+-- the digits in front
+abbrev pub front_digits : List ℕ → List ℕ
+front_digits bytes = before_first is_no_digit bytes
 
 -- a number, if it is below a bound
 abbrev pub below : ℕ → Option ℕ → Option ℕ

@@ -1,13 +1,28 @@
 -- What a walk over lines or tokens is seen as.
-use Rattle.std.specs.Prelude.{ℕ, Bool, true, false, List, [], ◌∷◌, Option, Some, None}
+use Rattle.std.specs.Prelude.{◌≡◌, ◌≤◌, ◌+◌, ℕ, Bool, true, false, List, [], ◌∷◌, length, take, drop, Option, Some, None}
 use Rattle.std.specs.List.{slice_split}
 use Rattle.std.specs.Borrow.{Bor}
-use Rattle.surf_text.specs.Text.{TextLine, tokens_of, words_of, trimmed, uncommented}
+use Rattle.surf_text.specs.Text.{TextLine, tokens_of, words_of, trimmed, uncommented, is_line_end, numbered_from}
 use Rattle.surf_text.specs.declared.lines.Line.{Line}
 
 -- a line of the code as a line of the text
 abbrev pub text_line : Line → TextLine
 text_line line = record { number = line.number; bytes = line.bytes.now }
+
+-- a text, a place in it, and the number of the lines before that place
+pub record PlacedWalk : Type 0 where
+  pub text : List ℕ
+  pub at : ℕ
+  pub number : ℕ
+
+-- the lines from the place on that have a token
+abbrev pub lines_ahead : PlacedWalk → List TextLine
+lines_ahead walk = numbered_from (walk.number + 1) (slice_split is_line_end (drop walk.at walk.text))
+
+-- The second list stands in the first, from this place on.
+pub record StandsAt (text part : List ℕ) (start : ℕ) : Type 0 where
+  pub within : start + length part ≤ length text
+  pub same : take (length part) (drop start text) ≡ part
 
 -- the parts of what is left, if something is
 abbrev pub parts_of : (ℕ → Bool) → Option (Bor (List ℕ)) → List (List ℕ)

@@ -13,15 +13,17 @@ mod lines;
 mod number;
 mod page;
 mod pieces;
+mod placed;
 mod places;
 mod slip;
 mod telling;
 mod tokens;
 
 pub use lines::{Line, Lines};
-pub use number::{read_whole, split_number};
+pub use number::{front_number, read_whole, split_number};
 pub use page::{Page, PageFault};
 pub use pieces::Piece;
+pub use placed::{FirstLine, PlacedLines, first_line};
 pub use slip::Slip;
 pub use telling::numbered;
 pub use tokens::{Tokens, has_tokens};

@@ -3,34 +3,32 @@ ghost use Rattle.std.specs.Prelude.{◌≡◌, ◌<◌, [], ◌∷◌, length, M
 ghost use Rattle.surf_text.specs.Text.{lines_of};
 ghost use Rattle.surf_text.specs.Walks.{text_line};
 
-use crate::places::{split_uncommented, trim};
+use crate::placed::PlacedLines;
 use std::marker::Model;
 
-/// A line that has a token: its number in the text, counted from 1, and the slice of the text from
-/// its first token's first byte to its last token's last byte.
+/// A line that has a token: its number in the text, counted from 1, the place of its first token's
+/// first byte in the text, and the slice of the text from there to its last token's last byte.
 #[derive(Clone, Copy, Debug)]
 pub struct Line<'a> {
     pub number: u32,
+    pub start: u32,
     pub bytes: &'a [u8],
 }
 
 /// A walk over the lines that have a token, seen as the list of those to come.
 #[derive(Drop)]
 pub struct Lines<'a> {
-    rest: Option<&'a [u8]>,
-    number: u32,
+    placed: PlacedLines<'a>,
 }
 
 impl<'a> Model for Lines<'a> {
-    ghost use Rattle.std.specs.Prelude.{List, ◌+◌, ◌≤◌, length};
-    ghost use Rattle.surf_text.specs.Text.{TextLine, numbered_from, is_line_end};
-    ghost use Rattle.surf_text.specs.Walks.{parts_of};
+    ghost use Rattle.std.specs.Prelude.{List};
+    ghost use Rattle.surf_text.specs.Text.{TextLine};
+    ghost use Rattle.surf_text.specs.Walks.{lines_ahead};
 
     ghost Value = { List TextLine };
 
-    ghost view = { λ s. numbered_from (s.number + 1) (parts_of is_line_end s.rest) };
-
-    ghost invariant = { λ s. s.number + length (parts_of is_line_end s.rest) ≤ 4294967295 };
+    ghost view = { λ s. lines_ahead s.placed };
 }
 
 impl<'a> Lines<'a> {
@@ -41,8 +39,7 @@ impl<'a> Lines<'a> {
         ensures lines { result ≡ lines_of text.now }
     {
         Lines {
-            rest: Some(text),
-            number: 0,
+            placed: PlacedLines::over(text),
         }
     }
 
@@ -51,18 +48,6 @@ impl<'a> Lines<'a> {
         ensures next { MatchOption result ((self.old ≡ []) × (self.new ≡ [])) (λ line. self.old
             ≡ text_line line ∷ self.new) }
     {
-        while let Some(rest) = self.rest {
-            let (line, behind) = split_uncommented(rest);
-            self.rest = behind;
-            self.number += 1;
-            let bytes = trim(line);
-            if !bytes.is_empty() {
-                return Some(Line {
-                    number: self.number,
-                    bytes,
-                });
-            }
-        }
-        None
+        self.placed.next_line()
     }
 }

@@ -1,7 +1,7 @@
 //! Whole numbers.
 ghost use Rattle.std.specs.Prelude.{◌≡◌, ◌==◌, ◌∷◌, None, Some, IfSome, MatchOption, if◌then◌else◌};
 ghost use Rattle.std.specs.List.{slice_split, before_first, position_or_len};
-ghost use Rattle.surf_text.specs.Text.{whole, short_whole, is_space};
+ghost use Rattle.surf_text.specs.Text.{whole, short_whole, front_digits, is_no_digit, is_space};
 ghost use Rattle.surf_text.specs.Walks.{parts_of};
 
 /// The whole number that a token is. None where the token is empty, has a byte that isn't a digit,
@@ -34,20 +34,18 @@ fn counted(number: u32, digits: usize) -> Option<(u32, usize)>
     }
 }
 
-// The number before the first space, and how many digits it has.
-fn leading_number(bytes: &[u8]) -> Option<(u32, usize)>
-    ensures number { MatchOption result (short_whole (before_first is_space bytes.now) ≡ None)
-        (λ x. (short_whole (before_first is_space bytes.now) ≡ Some x.0)
-        × (position_or_len is_space bytes.now ≡ x.1)) }
+/// The whole number of 32 bits that the digits in front are, and how many they are. None where they
+/// aren't such a number.
+#[inline]
+pub fn front_number(bytes: &[u8]) -> Option<(u32, usize)>
+    ensures number { MatchOption result (short_whole (front_digits bytes.now) ≡ None)
+        (λ x. (short_whole (front_digits bytes.now) ≡ Some x.0)
+        × (position_or_len is_no_digit bytes.now ≡ x.1)) }
 {
     let mut number: u64 = 0;
     for (i, b) in bytes.iter().enumerate() {
         if !b.is_ascii_digit() {
-            return if *b == b' ' {
-                counted(number as u32, i)
-            } else {
-                None
-            };
+            return counted(number as u32, i);
         }
         number = number * 10 + (*b - b'0') as u64;
         if number > u32::MAX as u64 {
@@ -67,10 +65,13 @@ pub fn split_number(bytes: &[u8]) -> Option<(u32, Option<&[u8]>)>
     ensures behind { IfSome result (λ x. slice_split is_space bytes.now
         ≡ before_first is_space bytes.now ∷ parts_of is_space x.1) }
 {
-    let (number, end) = leading_number(bytes)?;
-    if end < bytes.len() {
+    let (number, end) = front_number(bytes)?;
+    if end >= bytes.len() {
+        return Some((number, None));
+    }
+    if bytes[end] == b' ' {
         Some((number, Some(&bytes[end + 1..])))
     } else {
-        Some((number, None))
+        None
     }
 }

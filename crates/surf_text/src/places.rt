@@ -1,9 +1,8 @@
 //! Where lines, comments and blanks begin and end.
-ghost use Rattle.std.specs.Prelude.{◌≡◌, ◌<◌, ◌∷◌, ◌||◌, not, length, take, drop, IfSome};
-ghost use Rattle.std.specs.List.{slice_split, position, position_or_len, before_first};
+ghost use Rattle.std.specs.Prelude.{◌≡◌, ◌<◌, ◌||◌, not, length, take, drop, IfSome};
+ghost use Rattle.std.specs.List.{position, position_or_len, before_first};
 ghost use Rattle.surf_text.specs.Text.{is_blank, is_line_end, is_comment_sign, uncommented, trimmed_front};
 ghost use Rattle.surf_text.specs.Text.{trimmed_back, trimmed};
-ghost use Rattle.surf_text.specs.Walks.{parts_of};
 
 use memchr::{memchr, memchr2};
 
@@ -41,15 +40,13 @@ fn first_sign(bytes: &[u8]) -> Option<usize>
     memchr2(b'\n', b'#', bytes)
 }
 
-// A first line and what stands behind its end, if it has one.
-fn split_line(bytes: &[u8]) -> (&[u8], Option<&[u8]>)
-    ensures line { result.0.now ≡ before_first is_line_end bytes.now }
-    ensures parts { slice_split is_line_end bytes.now
-        ≡ result.0.now ∷ parts_of is_line_end result.1 }
+// How many bytes a first line has.
+fn line_len(bytes: &[u8]) -> usize
+    ensures len { result ≡ position_or_len is_line_end bytes.now }
 {
     match line_end(bytes) {
-        Some(end) => (&bytes[..end], Some(&bytes[end + 1..])),
-        None => (bytes, None),
+        Some(end) => end,
+        None => bytes.len(),
     }
 }
 
@@ -63,22 +60,21 @@ pub(crate) fn before_comment(line: &[u8]) -> &[u8]
     }
 }
 
-/// A first line up to its comment, and what stands behind the line's end, if it has one.
+/// A first line up to its comment, and how many bytes the line has.
 ///
 /// A line without a comment is gone over once.
-pub(crate) fn split_uncommented(bytes: &[u8]) -> (&[u8], Option<&[u8]>)
+pub(crate) fn split_uncommented(bytes: &[u8]) -> (&[u8], usize)
     ensures line { result.0.now ≡ uncommented (before_first is_line_end bytes.now) }
-    ensures parts { slice_split is_line_end bytes.now
-        ≡ before_first is_line_end bytes.now ∷ parts_of is_line_end result.1 }
+    ensures len { result.1 ≡ position_or_len is_line_end bytes.now }
 {
     let Some(sign) = first_sign(bytes) else {
-        return (bytes, None);
+        return (bytes, bytes.len());
     };
     if bytes[sign] == b'\n' {
-        return (&bytes[..sign], Some(&bytes[sign + 1..]));
+        return (&bytes[..sign], sign);
     }
-    let (line, behind) = split_line(bytes);
-    (before_comment(line), behind)
+    let len = line_len(bytes);
+    (before_comment(&bytes[..len]), len)
 }
 
 fn first_blank(bytes: &[u8]) -> Option<usize>
@@ -114,7 +110,8 @@ pub(crate) fn trim_front(bytes: &[u8]) -> &[u8]
     }
 }
 
-fn trim_back(bytes: &[u8]) -> &[u8]
+/// The bytes up to the last that isn't blank.
+pub(crate) fn trim_back(bytes: &[u8]) -> &[u8]
     ensures bytes { result.now ≡ trimmed_back bytes.now }
 {
     let mut end = bytes.len();

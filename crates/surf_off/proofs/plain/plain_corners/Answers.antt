@@ -1,47 +1,20 @@
-use Rattle.std.proofs.Common.{◌≡◌, ◌-◌, ℕ, List, [], Option, Some, Ok, sym, ◌∙◌, ap, arith}
-use Rattle.std.specs.List.{before_first}
+use Rattle.std.proofs.Common.{sym, ◌∙◌, refl, arith}
 use Rattle.std.proofs.lemmas.Grind.{common_steps}
 use Rattle.std.proofs.lemmas.List.Elements.{All-nil}
-use Rattle.surf_text.specs.Text.{is_space}
-use Rattle.surf_text.specs.Walks.{parts_of}
-use Rattle.surf_text.proofs.Cuts.{first_cut}
-use Rattle.surf_off.specs.Off.{Face}
-use Rattle.surf_off.specs.Plain.{face_in}
-use Rattle.surf_off.proofs.PlainFaces.{onto, onto_none, face_early, corner_taken, corner_past, corner_none, face_end}
+use Rattle.surf_off.proofs.PlainLines.{none_so_far, one_more, begins}
 use Rattle.surf_off.proofs.plain.plain_corners.Goals as goal
 
 pub loop-init : goal.loop-init
-loop-init c =
-    let parts = parts_of is_space c.args.parts in
-    let none : c.args.size - 0 ≡ c.args.size = omega arith in
-    rw c.clear.ensures.items (record { count = omega arith; within = All-nil _; so_far = ap (λ (n : ℕ). onto [] (face_in c.args.vertices n parts)) none ∙ onto_none (face_in c.args.vertices c.args.size parts) })
-
-pub returns-in_default-clause-face : goal.returns-in_default-clause-face
-returns-in_default-clause-face c =
-    ap (λ (r : Option Face). Ok r) (sym (face_early c.args.vertices c.args.size c.loop.counter _ c.loop.corners.items (parts_of is_space c.loop.next) c.loop.invariant.so_far c.loop-test.true (ap (parts_of is_space) c.in_default.is)))
-
-pub returns-in_default-split_number-clause-face : goal.returns-in_default-split_number-clause-face
-returns-in_default-split_number-clause-face c =
-    let cut = first_cut is_space c.in-Some.rest.now in
-    let parts = ap (parts_of is_space) c.in-Some.is ∙ cut.1 in
-    ap (λ (r : Option Face). Ok r) (sym (corner_none c.args.vertices c.args.size c.loop.counter _ c.loop.corners.items (parts_of is_space c.loop.next) c.loop.invariant.so_far c.loop-test.true (before_first is_space c.in-Some.rest.now) cut.0 parts c.in_default-split_number.ensures.number))
-
-pub returns-then-u-vertices-clause-face : goal.returns-then-u-vertices-clause-face
-returns-then-u-vertices-clause-face c =
-    let parts = ap (parts_of is_space) c.in-Some.is ∙ c.in-Some-split_number.ensures.behind in
-    ap (λ (r : Option Face). Ok r) (sym (corner_past c.args.vertices c.args.size c.loop.counter _ c.loop.corners.items (parts_of is_space c.loop.next) c.loop.invariant.so_far c.loop-test.true (before_first is_space c.in-Some.rest.now) (parts_of is_space c.in-Some-split_number.behind) parts
-    c.in-Some-split_number.u c.in-Some-split_number.ensures.number c.if-u-vertices.true))
+loop-init c = rw c.clear.ensures.items (record { count = omega arith; within = All-nil _; so_far = none_so_far c.args.vertices c.args.text.now })
 
 pub loop-preserved : goal.loop-preserved
 loop-preserved c =
-    let parts = ap (parts_of is_space) c.in-Some.is ∙ c.in-Some-split_number.ensures.behind in
+    let n = c.in-Some-front_number.ensures.number in
     record {
       count = grind (arith, common_steps);
       within = grind (arith, common_steps);
-      so_far = rw (c.in_ok-push.ensures.items, c.new.ensures) (corner_taken c.args.vertices c.args.size c.loop.counter _ c.loop.corners.items (parts_of is_space c.loop.next) c.loop.invariant.so_far c.loop-test.true (before_first is_space c.in-Some.rest.now) (parts_of is_space c.in-Some-split_number.behind) parts
-          c.in-Some-split_number.u c.in-Some-split_number.ensures.number c.if-u-vertices.false);
+      so_far = rw (c.in_ok-push.ensures.items, c.new.ensures) (one_more c.args.vertices c.args.text.now c.loop.corners.items c.loop.behind.now c.in-Some.number.now _ c.in-Some-front_number.u c.in-Some-front_number.digits c.loop.invariant.so_far c.in-Some.ensures.rest n.0 n.1 c.if-u-vertices.false refl);
     }
 
-pub returns-clause-face : goal.returns-clause-face
-returns-clause-face c =
-    ap (λ (r : Option Face). Ok r) (sym (ap (λ (colour : List ℕ). Some (record { corners = c.loop.corners.items; colour = colour })) c.colour_of.ensures.colour ∙ face_end c.args.vertices c.args.size c.loop.counter _ c.loop.corners.items (parts_of is_space c.loop.next) c.loop.invariant.so_far c.loop-test.false))
+pub returns-then-ends_token-clause-read : goal.returns-then-ends_token-clause-read
+returns-then-ends_token-clause-read c = begins c.args.vertices c.args.text.now c.loop.corners.items c.loop.behind.now c.loop.invariant.so_far (sym c.ends_token.ensures.ends ∙ c.if-ends_token.true)

@@ -1,0 +1,148 @@
+//! Parts of a text, kept by their places.
+ghost use Rattle.std.specs.Prelude.{◌≡◌, ◌<◌, ◌≤◌, ◌+◌, ◌^◌, [], ◌∷◌, ◌++◌, length, slice_index_or};
+ghost use Rattle.std.specs.Prelude.{IfOk, OnOk};
+ghost use Rattle.surf_off.specs.Seen.{PartList, part_of};
+
+use std::alloc::{AllocError, Global};
+use std::marker::Model;
+
+/// Where a part of a text begins, and how many bytes it has.
+#[derive(Clone, Copy, Debug)]
+pub(crate) struct Span {
+    pub(crate) start: u32,
+    pub(crate) len: u32,
+}
+
+/// Parts of a text, eight bytes for each. They are seen as the text and the list of the parts.
+#[derive(Drop)]
+pub(crate) struct Parts<'a> {
+    text: &'a [u8],
+    spans: Vec<Span>,
+}
+
+impl<'a> Model for Parts<'a> {
+    ghost use Rattle.std.specs.Prelude.{◌≤◌, ◌+◌, length, map};
+    ghost use Rattle.std.specs.List.{All};
+    ghost use Rattle.surf_off.specs.Seen.{PartList, part_of};
+
+    ghost Value = { PartList };
+
+    ghost view = { λ s. record {
+      text = s.text.now;
+      parts = map (part_of s.text.now) s.spans.items;
+    } };
+
+    ghost invariant = { λ s. All (λ span. span.start + span.len ≤ length s.text.now)
+        s.spans.items };
+}
+
+impl<'a> Parts<'a> {
+    /// No parts. It takes no memory yet.
+    pub(crate) fn none(alloc: Global, text: &'a [u8]) -> Parts<'a>
+        ensures none { result ≡ record { text = text.now; parts = [] } }
+    {
+        Parts {
+            text,
+            spans: Vec::new(alloc),
+        }
+    }
+
+    /// No parts, with room for so many.
+    pub(crate) fn with_room(
+        alloc: Global,
+        text: &'a [u8],
+        room: usize,
+    ) -> Result<Parts<'a>, AllocError>
+        ensures none { IfOk result (λ made. made ≡ record { text = text.now; parts = [] }) }
+    {
+        let spans = Vec::with_capacity(alloc, room)?;
+        Ok(Parts { text, spans })
+    }
+
+    /// Adds a part at the end.
+    pub(crate) fn push(&mut self, span: Span) -> Result<(), AllocError>
+        requires within { span.start + span.len ≤ length self.old.text }
+        ensures ok { OnOk result (self.new ≡ record self.old {
+          parts = self.old.parts ++ part_of self.old.text span ∷ [];
+        }) }
+    {
+        self.spans.push(span)?;
+        Ok(())
+    }
+
+    /// How many parts there are.
+    pub(crate) fn len(&self) -> usize
+        ensures count { result ≡ length self.now.parts }
+    {
+        self.spans.len()
+    }
+
+    /// A part.
+    pub(crate) fn part(&self, k: usize) -> &'a [u8]
+        requires within { k < length self.now.parts }
+        ensures part { result.now ≡ slice_index_or self.now.parts k [] }
+    {
+        let span = self.spans[k];
+        let start = span.start as usize;
+        &self.text[start..start + span.len as usize]
+    }
+}
+
+/// The colours of faces, most of which may have none. Those of the faces before the first that has
+/// one take no memory. They are seen as the text and the list of all colours.
+#[derive(Drop)]
+pub(crate) struct Colours<'a> {
+    before: usize,
+    parts: Parts<'a>,
+}
+
+impl<'a> Model for Colours<'a> {
+    ghost use Rattle.std.specs.Prelude.{[], ◌++◌, replicate};
+    ghost use Rattle.surf_off.specs.Seen.{PartList};
+
+    ghost Value = { PartList };
+
+    ghost view = { λ s. record {
+      text = s.parts.text;
+      parts = replicate s.before [] ++ s.parts.parts;
+    } };
+}
+
+impl<'a> Colours<'a> {
+    /// The colours of no faces.
+    pub(crate) fn none(alloc: Global, text: &'a [u8]) -> Colours<'a>
+        ensures none { result ≡ record { text = text.now; parts = [] } }
+    {
+        Colours {
+            before: 0,
+            parts: Parts::none(alloc, text),
+        }
+    }
+
+    /// Adds the colour of a face, empty where it has none.
+    pub(crate) fn push(&mut self, span: Span) -> Result<(), AllocError>
+        requires within { span.start + span.len ≤ length self.old.text }
+        requires few { length self.old.parts < 2 ^ 32 }
+        ensures ok { OnOk result (self.new ≡ record self.old {
+          parts = self.old.parts ++ part_of self.old.text span ∷ [];
+        }) }
+    {
+        if span.len == 0 && self.parts.len() == 0 {
+            self.before += 1;
+            return Ok(());
+        }
+        self.parts.push(span)
+    }
+
+    /// The colour of a face.
+    pub(crate) fn colour(&self, f: usize) -> &'a [u8]
+        requires within { f < length self.now.parts }
+        ensures colour { result.now ≡ slice_index_or self.now.parts f [] }
+    {
+        if f < self.before {
+            b""
+        } else {
+            self.parts.part(f - self.before)
+        }
+    }
+}
