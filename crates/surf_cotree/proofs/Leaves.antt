@@ -1,9 +1,9 @@
 -- Faces that hang on the others by one edge are taken off.
-use Rattle.std.proofs.Common.{ℕ, zero, suc, ◌<◌, ◌≤◌, ◌≡◌, ◌≢◌, ◌+◌, refl, sym, ap, ◌∙◌, subst, arith, inl, inr, List, length, set, Option, Some, None, Bool, true, false, not, ◌&&◌, eqb, eq-eqb, ne_eqb, get_or, map, get_or-set_same, get_or-set_other}
+use Rattle.std.proofs.Common.{ℕ, zero, suc, ◌<◌, ◌≤◌, ◌≡◌, ◌≢◌, ◌+◌, refl, sym, ap, ◌∙◌, subst, arith, inl, inr, List, length, set, Option, Some, None, Bool, true, false, not, ◌&&◌, eqb, eq-eqb, ne_eqb, map, get_or-set_same, get_or-set_other}
 use Rattle.std.proofs.Math.ListN.{length-set}
 use Rattle.std.specs.Option.{IfSome, is_some}
 use Rattle.std.proofs.lemmas.Bool.{cases_eq, false≢true}
-use Rattle.std.proofs.lemmas.List.{get_or_default, length-map}
+use Rattle.std.proofs.lemmas.List.{length-map}
 use Rattle.surf_graphs.specs.Graphs.{Graph, joins}
 use Rattle.surf_mesh.specs.Links.{link_at, IsRow}
 use Rattle.surf_cotree.specs.Searches.{outside}

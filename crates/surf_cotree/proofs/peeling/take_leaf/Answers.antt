@@ -1,6 +1,6 @@
 use Rattle.surf_surfaces.specs.Surface.{face_count}
 use Rattle.surf_mesh.specs.Links.{side_link}
-use Rattle.std.proofs.Common.{◌≡◌, ◌<◌, ◌+◌, ◌&&◌, ℕ, true, not, set, eqb, sym, subst, arith}
+use Rattle.std.proofs.Common.{◌≡◌, ◌<◌, ◌&&◌, ℕ, true, not, set, eqb, sym, subst, arith}
 use Rattle.surf_graphs.specs.Cells.{dual}
 use Rattle.surf_surfaces.specs.Cells.{cells_of}
 use Rattle.surf_cotree.specs.Searches.{outside}
