@@ -13,8 +13,7 @@ use Rattle.surf_heap.specs.Entries.{Entries, entry_of, IsEmpty, IsLeastEntry}
 use Rattle.surf_base.specs.Tables.{nobody, at}
 use Rattle.surf_cotree.specs.Searches.{heaviest, reached, lighter, spanned_tree, HasPair, IsOffered, IsWaiting, IsPrim, IsHeaviestTree}
 use Rattle.surf_cotree.proofs.Growing.{Connects, turn_keeps, depth_fits, prim_ends}
-use Rattle.surf_cotree.specs.Peeling.{leaf_at, left_after, IsLeaf, IsPeeled, IsHung}
-use Rattle.surf_cotree.specs.declared.peeling.Leaf.{Leaf}
+use Rattle.surf_cotree.specs.Peeling.{Leaf, leaf_at, left_after, IsLeaf, IsPeeled, IsHung}
 use Rattle.surf_cotree.proofs.Pairs.{no_entry, same_pair}
 
 -- the ends of an edge by two nodes that it joins
@@ -68,7 +67,7 @@ module _ (g : Graph) (allowed : ℕ → Bool) (weight : ℕ → ℕ) (graph : Is
     | inr ne ↦ inr (rw (is_left, ne_eqb l e ne))
   ]
 
-  unreached : reached depth f ≡ false
+  pub unreached : reached depth f ≡ false
   unreached = elim (cases_Bool (reached depth f)) [
     | inl there ↦
         let above = h.prim.grown.edge f leaf.node_in there leaf.not_first in
@@ -285,6 +284,12 @@ module _ (g : Graph) (allowed : ℕ → Bool) (weight : ℕ → ℕ) (graph : Is
 
   pub next_in : x.on < g.nodes
   next_in = subst (λ (y : Leaf). y.on < g.nodes) (sym is) last.hangs.other_in
+
+  pub turn_free : reached depth x.face ≡ false
+  turn_free = subst (λ (y : Leaf). reached depth y.face ≡ false) (sym is) (unreached g allowed weight graph few small list (k - 1) parent up depth before)
+
+  pub turn_joined : joins g x.face x.on x.edge ≡ true
+  turn_joined = subst (λ (y : Leaf). joins g y.face y.on y.edge ≡ true) (sym is) last.hangs.joined
 
   pub turn_none : reached depth x.on ≡ false → IsHung g allowed weight list (k - 1) parent up depth
   turn_none away = hang_none g allowed weight graph few small list (k - 1) parent up depth before (subst (λ (y : Leaf). reached depth y.on ≡ false) is away)

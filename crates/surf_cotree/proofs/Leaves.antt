@@ -1,14 +1,13 @@
 -- Faces that hang on the others by one edge are taken off.
-use Rattle.std.proofs.Common.{ℕ, zero, suc, ◌<◌, ◌≤◌, ◌≡◌, ◌≢◌, ◌+◌, refl, sym, ap, ◌∙◌, subst, arith, inl, inr, List, length, set, Option, Some, None, Bool, true, false, not, ◌&&◌, eqb, eq-eqb, ne_eqb, get_or, get_or-set_same, get_or-set_other}
+use Rattle.std.proofs.Common.{ℕ, zero, suc, ◌<◌, ◌≤◌, ◌≡◌, ◌≢◌, ◌+◌, refl, sym, ap, ◌∙◌, subst, arith, inl, inr, List, length, set, Option, Some, None, Bool, true, false, not, ◌&&◌, eqb, eq-eqb, ne_eqb, map, get_or-set_same, get_or-set_other}
 use Rattle.std.proofs.Math.ListN.{length-set}
 use Rattle.std.specs.Option.{IfSome, is_some}
 use Rattle.std.proofs.lemmas.Bool.{cases_eq, false≢true}
-use Rattle.std.proofs.lemmas.List.{get_or_default}
+use Rattle.std.proofs.lemmas.List.{length-map}
 use Rattle.surf_graphs.specs.Graphs.{Graph, joins}
 use Rattle.surf_mesh.specs.Links.{link_at, IsRow}
 use Rattle.surf_cotree.specs.Searches.{outside}
-use Rattle.surf_cotree.specs.Peeling.{leaf_at, left_after, IsOnlyEdge, IsLeaf, IsPeeled}
-use Rattle.surf_cotree.specs.declared.peeling.Leaf.{Leaf}
+use Rattle.surf_cotree.specs.Peeling.{Leaf, leaf_at, left_after, IsOnlyEdge, IsLeaf, IsPeeled, IsPeeledBy}
 
 -- of the edges of the first n sides of a row just that of this side is left (IsOnlyEdge is of all its edges), or none is
 abbrev pub IsOnlySoFar : (ℕ → Bool) → (ℕ → ℕ × ℕ) → (ℕ → ℕ × ℕ) → ℕ → Option ℕ → Type 0
@@ -100,12 +99,17 @@ leaf_same g allowed old new k same leaf =
       hangs = subst (λ (x : Leaf). IsOnlyEdge g (left_after allowed new k) x.face x.on x.edge) (sym here) (subst (λ r. IsOnlyEdge g r (leaf_at old k).face (leaf_at old k).on (leaf_at old k).edge) rest leaf.hangs);
     }
 
-pub peeled_none : (g : Graph) (allowed : ℕ → Bool) (leaves : List Leaf) → IsPeeled g allowed leaves 0 allowed
-peeled_none g allowed leaves = record { few = omega arith; leaf = λ k l. absurd (omega arith); rest_is = λ e. refl }
+pub peeled_none : (g : Graph) (allowed : ℕ → Bool) (edges : List ℕ) → IsPeeledBy g allowed edges 0 allowed
+peeled_none g allowed edges = record {
+  leaves = map (λ e. record { face = 0; edge = e; on = 0 }) edges;
+  as_many = length-map edges (λ (e : ℕ). record { face = 0; edge = e; on = 0 });
+  by = λ k l. absurd (omega arith);
+  peeled = record { few = omega arith; leaf = λ k l. absurd (omega arith); rest_is = λ e. refl };
+}
 
-pub peeled_more : (g : Graph) (allowed : ℕ → Bool) (leaves : List Leaf) (n : ℕ) (rest later : ℕ → Bool) (f a e : ℕ) → n < length leaves → f < g.nodes → f ≢ 0 → IsOnlyEdge g rest f a e → ((x : ℕ) → later x ≡ (rest x && not (eqb x e))) →
+peeled_next : (g : Graph) (allowed : ℕ → Bool) (leaves : List Leaf) (n : ℕ) (rest later : ℕ → Bool) (f a e : ℕ) → n < length leaves → f < g.nodes → f ≢ 0 → IsOnlyEdge g rest f a e → ((x : ℕ) → later x ≡ (rest x && not (eqb x e))) →
     IsPeeled g allowed leaves n rest → IsPeeled g allowed (set leaves n (record { face = f; edge = e; on = a })) (n + 1) later
-peeled_more g allowed leaves n rest later f a e ln lf ne only less p =
+peeled_next g allowed leaves n rest later f a e ln lf ne only less p =
     let leaf : Leaf = record { face = f; edge = e; on = a } in
     let new = set leaves n leaf in
     let here : leaf_at new n ≡ leaf = get_or-set_same leaves n leaf (record { face = 0; edge = 0; on = 0 }) ln in
@@ -127,4 +131,22 @@ peeled_more g allowed leaves n rest later f a e ln lf ne only less p =
           let after : later x ≡ left_after allowed new (suc n) x = less x ∙ rw (rest_new x, here) refl in
           let next : suc n ≡ n + 1 = omega arith in
           subst (λ m. later x ≡ left_after allowed new m x) next after;
+    }
+
+-- a leaf more is taken off
+pub peeled_more : (g : Graph) (allowed : ℕ → Bool) (edges : List ℕ) (n : ℕ) (rest later : ℕ → Bool) (f a e : ℕ) → n < length edges → f < g.nodes → f ≢ 0 → IsOnlyEdge g rest f a e → ((x : ℕ) → later x ≡ (rest x && not (eqb x e))) →
+    IsPeeledBy g allowed edges n rest → IsPeeledBy g allowed (set edges n e) (n + 1) later
+peeled_more g allowed edges n rest later f a e ln lf ne only less p =
+    let none : Leaf = record { face = 0; edge = 0; on = 0 } in
+    let leaf : Leaf = record { face = f; edge = e; on = a } in
+    let as_many = p.as_many in
+    let room : n < length p.leaves = omega arith in
+    record {
+      leaves = set p.leaves n leaf;
+      as_many = length-set p.leaves n leaf ∙ (as_many ∙ sym (length-set edges n e));
+      by = λ k l. elim (cases_eq k n) [
+        | inl same ↦ rw (same, get_or-set_same edges n e 0 ln, get_or-set_same p.leaves n leaf none room) refl
+        | inr other ↦ rw (get_or-set_other edges n k e 0 other, get_or-set_other p.leaves n k leaf none other) (p.by k (omega arith))
+      ];
+      peeled = peeled_next g allowed p.leaves n rest later f a e room lf ne only less p.peeled;
     }

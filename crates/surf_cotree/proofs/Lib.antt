@@ -5,3 +5,4 @@ pub mod Leaves
 pub mod Hanging
 pub mod Passing
 pub mod Tabled
+pub mod HangingTurns

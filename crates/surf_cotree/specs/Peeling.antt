@@ -6,7 +6,12 @@ use Rattle.surf_graphs.specs.Graphs.{Graph, joins}
 use Rattle.surf_heap.specs.Entries.{Entries, IsEmpty}
 use Rattle.surf_base.specs.Tables.{nobody, at}
 use Rattle.surf_cotree.specs.Searches.{heaviest, reached, spanned_tree, IsPrim}
-use Rattle.surf_cotree.specs.declared.peeling.Leaf.{Leaf}
+
+-- a node that hangs on the others by one edge, that edge, and the node beyond it
+pub record Leaf : Type 0 where
+  pub face : ℕ
+  pub edge : ℕ
+  pub on : ℕ
 
 abbrev pub leaf_at : List Leaf → ℕ → Leaf
 leaf_at leaves k = slice_index_or leaves k (record { face = 0; edge = 0; on = 0 })
@@ -49,3 +54,18 @@ pub record IsHung (g : Graph) (allowed : ℕ → Bool) (weight : ℕ → ℕ) (l
   pub empty : IsEmpty heap
   pub prim : IsPrim g (left_after allowed leaves n) weight (reached depth) (spanned_tree 0 parent up depth) heap
       (count_below g.nodes (λ v. at depth v == nobody))
+
+-- the listed edges are those of n leaves that have been taken off one after the other
+pub record IsPeeledBy (g : Graph) (allowed : ℕ → Bool) (edges : List ℕ) (n : ℕ) (rest : ℕ → Bool) : Type 0 where
+  pub leaves : List Leaf
+  pub as_many : length leaves ≡ length edges
+  pub by : (k : ℕ) → k < n → at edges k ≡ (leaf_at leaves k).edge
+  pub peeled : IsPeeled g allowed leaves n rest
+
+-- the listed edges are those of n leaves that are still to be hung
+pub record IsHungBy (g : Graph) (allowed : ℕ → Bool) (weight : ℕ → ℕ) (edges : List ℕ) (n : ℕ)
+    (parent up depth : List ℕ) : Type 0 where
+  pub leaves : List Leaf
+  pub few : n ≤ length edges
+  pub by : (k : ℕ) → k < n → at edges k ≡ (leaf_at leaves k).edge
+  pub hung : IsHung g allowed weight leaves n parent up depth

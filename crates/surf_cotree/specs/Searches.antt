@@ -1,5 +1,5 @@
 -- A search for the heaviest tree of a graph from a root, over some of its edges.
-use Rattle.std.specs.Prelude.{slice_index, ℕ, suc, ◌≡◌, ◌≢◌, ◌<◌, ◌≤◌, ◌+◌, ◌-◌, ◌⊎◌, ◌&&◌, ◌||◌, Bool, true, false}
+use Rattle.std.specs.Prelude.{ℕ, suc, ◌≡◌, ◌≢◌, ◌<◌, ◌≤◌, ◌+◌, ◌-◌, ◌⊎◌, ◌&&◌, ◌||◌, Bool, true, false}
 use Rattle.std.specs.Prelude.{not, eqb, nat_lt, nat_le, List, length, get_or, Some}
 use Rattle.surf_graphs.specs.Graphs.{Graph, joins}
 use Rattle.surf_graphs.specs.Trees.{Tree, IsTree, in_tree}

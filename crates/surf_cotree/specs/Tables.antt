@@ -1,5 +1,5 @@
 -- What a cotree desk shows: the tables of one tree of faces.
-use Rattle.std.specs.Prelude.{◌≡◌, ℕ, ◌+◌, ◌-◌, ◌==◌, nat_le, Bool, List, length, slice_index, Option, Some, None}
+use Rattle.std.specs.Prelude.{◌≡◌, ℕ, ◌==◌, nat_le, Bool, List, length, slice_index, Option, Some, None}
 use Rattle.std.specs.Prelude.{if◌then◌else◌}
 use Rattle.surf_graphs.specs.Cells.{Split}
 use Rattle.surf_graphs.specs.Trees.{Tree}

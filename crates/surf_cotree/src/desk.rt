@@ -14,7 +14,7 @@ ghost use Rattle.surf_cotree.specs.Grown.{MarkTree, IsGrown, IsGrownOn};
 ghost use Rattle.surf_base.specs.declared.limits.TheConstants.{MAX_LOOPS};
 
 use crate::listing::{list_left, mark_edges};
-use crate::peeling::{Leaf, hang, peel};
+use crate::peeling::{hang, peel};
 use crate::search::{FaceNetwork, NOBODY, span};
 use crate::weights::{Listed, Weights, weights_fit};
 use std::alloc::Global;
@@ -31,7 +31,7 @@ use surf_signatures::Signs;
 #[derive(Drop)]
 pub struct CotreeDesk {
     heap: Heap,
-    leaves: Vec<Leaf>,
+    leaves: Vec<EdgeId>,
     depth: Vec<u32>,
     parent: Vec<u32>,
     up: Vec<u32>,
@@ -93,12 +93,7 @@ impl CotreeDesk {
         let edges = mesh.edges() as usize;
         let width = width_of(count_loops(mesh));
         let heap = Heap::make(alloc, mesh.faces())?;
-        let none = Leaf {
-            face: FaceId::new(0),
-            edge: EdgeId::new(0),
-            on: FaceId::new(0),
-        };
-        let leaves = vec![in alloc; none; faces]?;
+        let leaves = vec![in alloc; EdgeId::new(0); faces]?;
         let depth = vec![in alloc; 0u32; faces]?;
         let parent = vec![in alloc; 0u32; faces]?;
         let up = vec![in alloc; 0u32; faces]?;

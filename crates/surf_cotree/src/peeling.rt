@@ -1,24 +1,17 @@
 //! Takes off the faces that hang on the others by one edge, and hangs them on again.
-ghost use Rattle.std.specs.Prelude.{◌≡◌, ◌<◌, ◌≤◌, ◌+◌, ℕ, Bool, length, IfSome, MatchOption};
+ghost use Rattle.std.specs.Prelude.{◌≡◌, ◌<◌, ◌≤◌, ◌+◌, ◌⊎◌, ℕ, Bool, true, false, length, IfSome, MatchOption};
+ghost use Rattle.surf_graphs.specs.Graphs.{joins};
 ghost use Rattle.surf_graphs.specs.Cells.{dual};
 ghost use Rattle.surf_surfaces.specs.Surface.{face_count, edge_count};
 ghost use Rattle.surf_surfaces.specs.Cells.{cells_of};
 ghost use Rattle.surf_surfaces.specs.SideNumber.{side_count};
 ghost use Rattle.surf_mesh.specs.Links.{side_link};
-ghost use Rattle.surf_cotree.specs.Searches.{outside};
-ghost use Rattle.surf_cotree.specs.Peeling.{IsOnlyEdge, IsPeeled, IsHung};
+ghost use Rattle.surf_cotree.specs.Searches.{outside, reached};
+ghost use Rattle.surf_cotree.specs.Peeling.{IsOnlyEdge, IsPeeledBy, IsHungBy};
 
 use crate::search::NOBODY;
 use surf_base::{EdgeId, FaceId, SideId};
 use surf_mesh::HalfMesh;
-
-/// A face, the one edge by which it hangs on the faces that are left, and the face beyond it.
-#[derive(Clone, Copy)]
-pub(crate) struct Leaf {
-    pub(crate) face: FaceId,
-    pub(crate) edge: EdgeId,
-    pub(crate) on: FaceId,
-}
 
 // The side of a face whose edge isn't marked, where there is exactly one.
 fn only_side(mesh: &HalfMesh, marks: &[bool], face: FaceId) -> Option<SideId>
@@ -47,7 +40,7 @@ fn only_side(mesh: &HalfMesh, marks: &[bool], face: FaceId) -> Option<SideId>
 fn take_leaf(
     mesh: &HalfMesh,
     marks: &mut [bool],
-    leaves: &mut [Leaf],
+    leaves: &mut [EdgeId],
     count: usize,
     face: u32,
 ) -> Option<u32>
@@ -55,11 +48,11 @@ fn take_leaf(
     requires marks { length marks.old ≡ edge_count mesh.now }
     ensures room { IfSome result (λ on. count < length leaves.old) }
     ensures on { IfSome result (λ on. on < face_count mesh.now) }
-    ensures peeled { (allowed : ℕ → Bool) → IsPeeled (dual (cells_of mesh.now))
+    ensures peeled { (allowed : ℕ → Bool) → IsPeeledBy (dual (cells_of mesh.now))
         allowed leaves.old count (outside marks.old) →
         MatchOption result
-        (IsPeeled (dual (cells_of mesh.now)) allowed leaves.new count (outside marks.new))
-        (λ on. IsPeeled (dual (cells_of mesh.now)) allowed leaves.new
+        (IsPeeledBy (dual (cells_of mesh.now)) allowed leaves.new count (outside marks.new))
+        (λ on. IsPeeledBy (dual (cells_of mesh.now)) allowed leaves.new
         (count + 1) (outside marks.new)) }
 {
     mesh.law_of_surface();
@@ -71,11 +64,7 @@ fn take_leaf(
     };
     let (on, edge) = mesh.across(side);
     marks[edge.index()] = true;
-    leaves[count] = Leaf {
-        face: FaceId::new(face),
-        edge,
-        on,
-    };
+    leaves[count] = edge;
     Some(on.number())
 }
 
@@ -84,15 +73,15 @@ fn take_leaf(
 fn take_chain(
     mesh: &HalfMesh,
     marks: &mut [bool],
-    leaves: &mut [Leaf],
+    leaves: &mut [EdgeId],
     taken: usize,
     from: u32,
 ) -> usize
     requires face { from < face_count mesh.now }
     requires marks { length marks.old ≡ edge_count mesh.now }
-    ensures peeled { (allowed : ℕ → Bool) → IsPeeled (dual (cells_of mesh.now))
+    ensures peeled { (allowed : ℕ → Bool) → IsPeeledBy (dual (cells_of mesh.now))
         allowed leaves.old taken (outside marks.old) →
-        IsPeeled (dual (cells_of mesh.now)) allowed leaves.new result (outside marks.new) }
+        IsPeeledBy (dual (cells_of mesh.now)) allowed leaves.new result (outside marks.new) }
 {
     let mut count = taken;
     let mut face = from;
@@ -108,9 +97,9 @@ fn take_chain(
 
 /// Takes the faces off that hang on the others by one edge without a mark, one after the other, and
 /// marks these edges. It gives their number.
-pub(crate) fn peel(mesh: &HalfMesh, marks: &mut [bool], leaves: &mut [Leaf]) -> usize
+pub(crate) fn peel(mesh: &HalfMesh, marks: &mut [bool], leaves: &mut [EdgeId]) -> usize
     requires marks { length marks.old ≡ edge_count mesh.now }
-    ensures peeled { IsPeeled (dual (cells_of mesh.now)) (outside marks.old) leaves.new result
+    ensures peeled { IsPeeledBy (dual (cells_of mesh.now)) (outside marks.old) leaves.new result
         (outside marks.new) }
 {
     let mut count = 0;
@@ -120,10 +109,29 @@ pub(crate) fn peel(mesh: &HalfMesh, marks: &mut [bool], leaves: &mut [Leaf]) -> 
     count
 }
 
-/// Hangs the faces that were taken off on the tree again, the last first.
+// The face of an edge that isn't reached, and the face beyond it. Where neither is reached it may
+// be either.
+fn leaf_of(mesh: &HalfMesh, depth: &[u32], edge: EdgeId) -> (u32, u32)
+    requires edge { edge < edge_count mesh.now }
+    requires depths { length depth.now ≡ face_count mesh.now }
+    ensures leaf { (f a : ℕ) → joins (dual (cells_of mesh.now)) f a edge ≡ true →
+        reached depth.now f ≡ false → ((result.0 ≡ f) × (result.1 ≡ a)) ⊎
+        ((result.0 ≡ a) × (result.1 ≡ f) × (reached depth.now a ≡ false)) }
+{
+    mesh.law_of_surface();
+    let (near, far) = mesh.faces_of(edge);
+    if depth[near.index()] == NOBODY {
+        (near.number(), far.number())
+    } else {
+        (far.number(), near.number())
+    }
+}
+
+/// Hangs the faces that were taken off on the tree again, the last first. The edge by which each
+/// hangs tells it: that of the two faces of the edge which isn't reached yet.
 pub(crate) fn hang(
     mesh: &HalfMesh,
-    leaves: &[Leaf],
+    leaves: &[EdgeId],
     count: usize,
     depth: &mut [u32],
     parent: &mut [u32],
@@ -133,21 +141,21 @@ pub(crate) fn hang(
     requires parents { length parent.old ≡ face_count mesh.now }
     requires ups { length up.old ≡ face_count mesh.now }
     requires some { (allowed : ℕ → Bool) × (weight : ℕ → ℕ)
-        × IsHung (dual (cells_of mesh.now)) allowed weight leaves.now count parent.old
+        × IsHungBy (dual (cells_of mesh.now)) allowed weight leaves.now count parent.old
         up.old depth.old }
     ensures hung { (allowed : ℕ → Bool) (weight : ℕ → ℕ) →
-        IsHung (dual (cells_of mesh.now)) allowed weight leaves.now count parent.old up.old
-        depth.old → IsHung (dual (cells_of mesh.now))
+        IsHungBy (dual (cells_of mesh.now)) allowed weight leaves.now count parent.old up.old
+        depth.old → IsHungBy (dual (cells_of mesh.now))
         allowed weight leaves.now 0 parent.new up.new depth.new }
 {
     mesh.law_of_surface();
     for k in (0..count).rev() {
-        let leaf = leaves[k];
-        let (face, edge, on) = (leaf.face.number(), leaf.edge.number(), leaf.on.number());
+        let edge = leaves[k];
+        let (face, on) = leaf_of(mesh, depth, edge);
         if depth[on as usize] != NOBODY {
             depth[face as usize] = depth[on as usize] + 1;
             parent[face as usize] = on;
-            up[face as usize] = edge;
+            up[face as usize] = edge.number();
         }
     }
 }

@@ -1,8 +1,8 @@
 use Rattle.std.proofs.Common.{ℕ, Bool}
 use Rattle.surf_graphs.specs.Cells.{dual}
 use Rattle.surf_surfaces.specs.Cells.{cells_of}
-use Rattle.surf_cotree.specs.Peeling.{IsHung}
+use Rattle.surf_cotree.specs.Peeling.{IsHungBy}
 use Rattle.surf_cotree.proofs.peeling.hang.Given as goal
 
 abbrev pub invariant-loop-k : goal.invariant-loop-k
-invariant-loop-k l = (allowed : ℕ → Bool) (weight : ℕ → ℕ) → IsHung (dual (cells_of l.mesh)) allowed weight l.leaves l.fn.count l.initial.parent l.initial.up l.initial.depth → IsHung (dual (cells_of l.mesh)) allowed weight l.leaves l.k l.parent l.up l.depth
+invariant-loop-k l = (allowed : ℕ → Bool) (weight : ℕ → ℕ) → IsHungBy (dual (cells_of l.mesh)) allowed weight l.leaves l.fn.count l.initial.parent l.initial.up l.initial.depth → IsHungBy (dual (cells_of l.mesh)) allowed weight l.leaves l.k l.parent l.up l.depth

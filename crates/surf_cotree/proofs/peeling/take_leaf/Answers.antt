@@ -1,10 +1,10 @@
 use Rattle.surf_surfaces.specs.Surface.{face_count}
 use Rattle.surf_mesh.specs.Links.{side_link}
-use Rattle.std.proofs.Common.{◌≡◌, ◌<◌, ◌+◌, ◌&&◌, ℕ, true, not, set, eqb, sym, subst, arith}
+use Rattle.std.proofs.Common.{◌≡◌, ◌<◌, ◌&&◌, ℕ, true, not, set, eqb, sym, subst, arith}
 use Rattle.surf_graphs.specs.Cells.{dual}
 use Rattle.surf_surfaces.specs.Cells.{cells_of}
 use Rattle.surf_cotree.specs.Searches.{outside}
-use Rattle.surf_cotree.specs.Peeling.{IsOnlyEdge, IsPeeled}
+use Rattle.surf_cotree.specs.Peeling.{IsOnlyEdge}
 use Rattle.surf_cotree.proofs.Leaves.{peeled_more, outside_set}
 use Rattle.surf_cotree.proofs.peeling.take_leaf.Goals as goal
 
@@ -26,6 +26,5 @@ returns c =
       room = omega (arith, c.if-count-leaves.false);
       on = subst (λ x. x < face_count c.args.mesh.now) (sym c.number.ensures) only.other_in;
       peeled = λ allowed before.
-          subst (λ x. IsPeeled g allowed (set leaves c.args.count (record { face = x; edge = e; on = a })) (c.args.count + 1) later) (sym c.new-2.ensures)
           (peeled_more g allowed leaves c.args.count (outside marks) later f a e (omega (arith, c.if-count-leaves.false)) c.requires.face (omega (arith, c.if-face-eq0.false)) only less before);
     }

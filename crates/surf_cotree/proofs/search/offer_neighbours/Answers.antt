@@ -4,7 +4,7 @@ use Rattle.std.proofs.lemmas.List.{length-map}
 use Rattle.surf_graphs.specs.Cells.{dual}
 use Rattle.surf_surfaces.specs.Cells.{cells_of}
 use Rattle.surf_mesh.specs.Links.{link_at, side_link, IsRow}
-use Rattle.surf_base.specs.Tables.{nobody, at}
+use Rattle.surf_base.specs.Tables.{nobody}
 use Rattle.surf_cotree.specs.Searches.{reached, outside, heaviest}
 use Rattle.surf_cotree.proofs.Pairs.{link_in, link_more, link_skip, offered_none, offered_all}
 use Rattle.surf_cotree.proofs.Passing.{link_of_side}

@@ -2,7 +2,6 @@ use Rattle.std.proofs.Common.{map}
 use Rattle.surf_graphs.specs.Cells.{dual}
 use Rattle.surf_surfaces.specs.Cells.{cells_of}
 use Rattle.surf_mesh.specs.Links.{link_at, side_link}
-use Rattle.surf_base.specs.Tables.{at}
 use Rattle.surf_cotree.specs.Searches.{outside, reached}
 use Rattle.surf_cotree.proofs.Pairs.{IsOfferedSome}
 use Rattle.surf_cotree.proofs.search.offer_neighbours.Given as goal

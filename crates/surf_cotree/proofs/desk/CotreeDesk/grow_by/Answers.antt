@@ -1,4 +1,4 @@
-use Rattle.std.proofs.Common.{◌≡◌, ◌≢◌, ◌<◌, ◌≤◌, ◌&&◌, ◌∙◌, ℕ, List, Bool, not, eqb, false, filter, get_or, length, arith, ap, sym, subst, inl, inr}
+use Rattle.std.proofs.Common.{◌≡◌, ◌≢◌, ◌<◌, ◌&&◌, ◌∙◌, ℕ, List, Bool, not, eqb, false, filter, get_or, length, arith, ap, sym, subst, inl, inr}
 use Rattle.std.specs.List.{range_with_len}
 use Rattle.std.proofs.lemmas.Bool.{cases_eq}
 use Rattle.std.proofs.lemmas.List.{with_items_is}
@@ -9,11 +9,10 @@ use Rattle.surf_graphs.specs.Cells.{dual}
 use Rattle.surf_surfaces.specs.Surface.{edge_count, face_count}
 use Rattle.surf_surfaces.specs.Cells.{cells_of}
 use Rattle.surf_surfaces.proofs.CellLaws.{surfaces_are_cells}
-use Rattle.surf_cotree.specs.declared.peeling.Leaf.{Leaf}
 use Rattle.surf_base.specs.Tables.{nobody, at}
 use Rattle.surf_cotree.specs.Tables.{CotreeTables, AreCotreeTables}
 use Rattle.surf_cotree.specs.Searches.{outside, spanned_tree, is_unmarked, IsHeaviestTree}
-use Rattle.surf_cotree.specs.Peeling.{IsPeeled, IsHung}
+use Rattle.surf_cotree.specs.Peeling.{IsPeeledBy, IsHungBy}
 use Rattle.surf_cotree.proofs.Hanging.{hung_first, hung_all}
 use Rattle.surf_cotree.proofs.Tabled.{unmarked_join, grown_tables}
 use Rattle.surf_cotree.proofs.desk.CotreeDesk.grow_by.Given.{Over}
@@ -36,36 +35,44 @@ parent_is gen c = c.deref_mut-7.ensures.value ∙ with_items_is c.self.inside.pa
 up_is : (gen : Over) (c : After-deref_mut-8 gen) → c.deref_mut-8.result.now ≡ c.span.new.up
 up_is gen c = c.deref_mut-8.ensures.value ∙ with_items_is c.self.inside.up c.span.new.up (omega (arith, c.deref_mut-5.ensures.len))
 
-peeled : (gen : Over) (c : After-deref_mut-8 gen) → IsPeeled (dual_of gen c) (outside c.args.in_tree.now) c.peel-count.new.leaves c.peel-count.result (outside c.deref.result.now)
+peeled : (gen : Over) (c : After-deref_mut-8 gen) → IsPeeledBy (dual_of gen c) (outside c.args.in_tree.now) c.peel-count.new.leaves c.peel-count.result (outside c.deref.result.now)
 peeled gen c =
     let begin : c.deref_mut.result.now ≡ c.args.in_tree.now = c.deref_mut.ensures.value ∙ c.copy_from_slice.ensures.items in
     let held : c.deref.result.now ≡ c.peel-count.new.marks = c.deref.ensures.value ∙ with_items_is c.copy_from_slice.new.self c.peel-count.new.marks (omega (arith, c.deref_mut.ensures.len)) in
-    subst (λ (m : List Bool). IsPeeled (dual_of gen c) (outside m) c.peel-count.new.leaves c.peel-count.result (outside c.deref.result.now)) begin
-    (subst (λ (m : List Bool). IsPeeled (dual_of gen c) (outside c.deref_mut.result.now) c.peel-count.new.leaves c.peel-count.result (outside m)) (sym held) c.peel-count.ensures.peeled)
+    subst (λ (m : List Bool). IsPeeledBy (dual_of gen c) (outside m) c.peel-count.new.leaves c.peel-count.result (outside c.deref.result.now)) begin
+    (subst (λ (m : List Bool). IsPeeledBy (dual_of gen c) (outside c.deref_mut.result.now) c.peel-count.new.leaves c.peel-count.result (outside m)) (sym held) c.peel-count.ensures.peeled)
 
-start : (gen : Over) (c : After-deref_mut-8 gen) → IsHung (dual_of gen c) (outside c.args.in_tree.now) (gen.W.Weights.weight c.args.weight.now) c.deref-2.result.now c.peel-count.result c.deref_mut-7.result.now c.deref_mut-8.result.now c.deref_mut-6.result.now
+start : (gen : Over) (c : After-deref_mut-8 gen) → IsHungBy (dual_of gen c) (outside c.args.in_tree.now) (gen.W.Weights.weight c.args.weight.now) c.deref-2.result.now c.peel-count.result c.deref_mut-7.result.now c.deref_mut-8.result.now c.deref_mut-6.result.now
 start gen c =
-    let hung = hung_first (dual_of gen c) (outside c.args.in_tree.now) (gen.W.Weights.weight c.args.weight.now) c.requires.light c.peel-count.new.leaves c.peel-count.result (outside c.deref.result.now) (peeled gen c) c.span.new.parent c.span.new.up c.span.new.depth c.span.new.heap c.span.ensures.places c.span.ensures.empty c.span.ensures.root c.span.ensures.grown in
-    subst (λ (x : List Leaf). IsHung (dual_of gen c) (outside c.args.in_tree.now) (gen.W.Weights.weight c.args.weight.now) x c.peel-count.result c.deref_mut-7.result.now c.deref_mut-8.result.now c.deref_mut-6.result.now) (sym (leaves_are gen c))
-    (subst (λ (x : List ℕ). IsHung (dual_of gen c) (outside c.args.in_tree.now) (gen.W.Weights.weight c.args.weight.now) c.peel-count.new.leaves c.peel-count.result x c.deref_mut-8.result.now c.deref_mut-6.result.now) (sym (parent_is gen c))
-    (subst (λ (x : List ℕ). IsHung (dual_of gen c) (outside c.args.in_tree.now) (gen.W.Weights.weight c.args.weight.now) c.peel-count.new.leaves c.peel-count.result c.span.new.parent x c.deref_mut-6.result.now) (sym (up_is gen c))
-    (subst (λ (x : List ℕ). IsHung (dual_of gen c) (outside c.args.in_tree.now) (gen.W.Weights.weight c.args.weight.now) c.peel-count.new.leaves c.peel-count.result c.span.new.parent c.span.new.up x) (sym (depth_is gen c)) hung)))
+    let p = peeled gen c in
+    let as_many = p.as_many in
+    let few = p.peeled.few in
+    let hung : IsHungBy (dual_of gen c) (outside c.args.in_tree.now) (gen.W.Weights.weight c.args.weight.now) c.peel-count.new.leaves c.peel-count.result c.span.new.parent c.span.new.up c.span.new.depth = record {
+      leaves = p.leaves;
+      few = omega arith;
+      by = p.by;
+      hung = hung_first (dual_of gen c) (outside c.args.in_tree.now) (gen.W.Weights.weight c.args.weight.now) c.requires.light p.leaves c.peel-count.result (outside c.deref.result.now) p.peeled c.span.new.parent c.span.new.up c.span.new.depth c.span.new.heap c.span.ensures.places c.span.ensures.empty c.span.ensures.root c.span.ensures.grown;
+    } in
+    subst (λ (x : List ℕ). IsHungBy (dual_of gen c) (outside c.args.in_tree.now) (gen.W.Weights.weight c.args.weight.now) x c.peel-count.result c.deref_mut-7.result.now c.deref_mut-8.result.now c.deref_mut-6.result.now) (sym (leaves_are gen c))
+    (subst (λ (x : List ℕ). IsHungBy (dual_of gen c) (outside c.args.in_tree.now) (gen.W.Weights.weight c.args.weight.now) c.peel-count.new.leaves c.peel-count.result x c.deref_mut-8.result.now c.deref_mut-6.result.now) (sym (parent_is gen c))
+    (subst (λ (x : List ℕ). IsHungBy (dual_of gen c) (outside c.args.in_tree.now) (gen.W.Weights.weight c.args.weight.now) c.peel-count.new.leaves c.peel-count.result c.span.new.parent x c.deref_mut-6.result.now) (sym (up_is gen c))
+    (subst (λ (x : List ℕ). IsHungBy (dual_of gen c) (outside c.args.in_tree.now) (gen.W.Weights.weight c.args.weight.now) c.peel-count.new.leaves c.peel-count.result c.span.new.parent c.span.new.up x) (sym (depth_is gen c)) hung)))
 
 pub hang-requires-clause-some : goal.hang-requires-clause-some
 hang-requires-clause-some gen c = (outside c.args.in_tree.now, gen.W.Weights.weight c.args.weight.now, start gen c)
 
 -- the tables that it ends with
 module _ (gen : Over) (c : After-deref_mut-8 gen) (parent up depth : List ℕ)
-    (hung : (allowed : ℕ → Bool) (weight : ℕ → ℕ) → IsHung (dual (cells_of c.args.mesh.now)) allowed weight c.deref-2.result.now c.peel-count.result c.deref_mut-7.result.now c.deref_mut-8.result.now c.deref_mut-6.result.now → IsHung (dual (cells_of c.args.mesh.now)) allowed weight c.deref-2.result.now 0 parent up depth) where
-  end : IsHung (dual_of gen c) (outside c.args.in_tree.now) (gen.W.Weights.weight c.args.weight.now) c.deref-2.result.now 0 parent up depth
+    (hung : (allowed : ℕ → Bool) (weight : ℕ → ℕ) → IsHungBy (dual (cells_of c.args.mesh.now)) allowed weight c.deref-2.result.now c.peel-count.result c.deref_mut-7.result.now c.deref_mut-8.result.now c.deref_mut-6.result.now → IsHungBy (dual (cells_of c.args.mesh.now)) allowed weight c.deref-2.result.now 0 parent up depth) where
+  end : IsHungBy (dual_of gen c) (outside c.args.in_tree.now) (gen.W.Weights.weight c.args.weight.now) c.deref-2.result.now 0 parent up depth
   end = hung (outside c.args.in_tree.now) (gen.W.Weights.weight c.args.weight.now) (start gen c)
 
   heavy : IsHeaviestTree (dual_of gen c) (outside c.args.in_tree.now) (gen.W.Weights.weight c.args.weight.now) (spanned_tree 0 parent up depth)
-  heavy = hung_all (dual_of gen c) (outside c.args.in_tree.now) (gen.W.Weights.weight c.args.weight.now) (surfaces_are_cells c.args.mesh.now c.law_of_surface.ensures.surface).complex.dual_ends (omega (arith, c.law_of_surface.ensures.edges)) c.deref-2.result.now parent up depth end
+  heavy = hung_all (dual_of gen c) (outside c.args.in_tree.now) (gen.W.Weights.weight c.args.weight.now) (surfaces_are_cells c.args.mesh.now c.law_of_surface.ensures.surface).complex.dual_ends (omega (arith, c.law_of_surface.ensures.edges)) end.leaves parent up depth end.hung
       (unmarked_join c.args.mesh.now c.args.in_tree.now c.law_of_surface.ensures.surface c.requires.tree)
 
   root : at up 0 ≡ nobody
-  root = end.root
+  root = end.hung.root
 
   ups_in : (f : ℕ) → f < face_count c.args.mesh.now → at up f ≢ nobody → at up f < edge_count c.args.mesh.now
   ups_in f l some = elim (cases_eq f 0) [
