@@ -62,6 +62,9 @@ module _ (mesh : Mesh) (v i : ℕ) (ring_row labels numbers origins : List ℕ) 
       let order = are.0 ++ ring_row in
       let n = length are.0 + i in
       let own : v ≡ get_or (all_corners mesh) (get_or order n 0) 0 = sym (ap (λ s. get_or (all_corners mesh) s 0) (get_or-append-add are.0 ring_row i 0) ∙ (is.begin i lt).1) in
-      let next = counted_new order labels (all_corners mesh) numbers origins n are.2 small (subst (λ k. k < length numbers) (sym at) inside) (ap (λ k. get_or numbers k 0) at ∙ unknown) v own in
-      (are.0, are.1, subst (λ k. AreCounted order labels (all_corners mesh) k (set numbers (label_at ring_row labels i) (length origins)) (origins ++ v ∷ [])) more
-      (subst (λ l. AreCounted order labels (all_corners mesh) (n + 1) (set numbers l (length origins)) (origins ++ v ∷ [])) at next))
+      let next = counted_new order labels (all_corners mesh) numbers origins n are.2 small (subst (λ k. k < length numbers) (sym at) inside) (ap (λ k. get_or numbers k 0) at ∙ unknown) v own in (
+        are.0,
+        are.1,
+        subst (λ k. AreCounted order labels (all_corners mesh) k (set numbers (label_at ring_row labels i) (length origins)) (origins ++ v ∷ [])) more
+            (subst (λ l. AreCounted order labels (all_corners mesh) (n + 1) (set numbers l (length origins)) (origins ++ v ∷ [])) at next),
+      )
