@@ -1,5 +1,5 @@
-//! The texts of certificates for the pillow. Each stands in a function and is short, since a proof
-//! copies a constant wherever it is named, and takes the longer for it the longer it is.
+//! The texts of certificates for the pillow. Each stands in a function, since a proof copies a
+//! constant wherever it is named.
 
 /// A certificate of loops at vertex 0, of which there are none.
 pub fn loops() -> &'static str {
