@@ -1,4 +1,4 @@
-use Rattle.std.proofs.Common.{◌≡◌, ℕ, get_or, sym, ◌∙◌}
+use Rattle.std.proofs.Common.{sym, ◌∙◌}
 use Rattle.surf_off.proofs.Marks.{not_before}
 use Rattle.surf_off.proofs.Repeats.{repeats_here, repeats_later, distinct_more, no_repeat}
 use Rattle.surf_off.proofs.faces.repeated_of_few.Goals as goal
