@@ -1,7 +1,7 @@
 //! The face lines.
-ghost use Rattle.std.specs.Prelude.{◌≡◌, ◌≢◌, ◌<◌, ◌≤◌, ◌+◌, ℕ, true, [], length, slice_index};
+ghost use Rattle.std.specs.Prelude.{◌≡◌, ◌≢◌, ◌==◌, ◌<◌, ◌≤◌, ◌+◌, ℕ, true, [], length, slice_index};
 ghost use Rattle.std.specs.Prelude.{take, drop, IfOk, IfNone, IfSome, OnOk};
-ghost use Rattle.std.specs.List.{All, AllPairs, before_first};
+ghost use Rattle.std.specs.List.{All, AllPairs, before_first, list_any};
 ghost use Rattle.surf_surfaces.specs.Mesh.{IsFace};
 ghost use Rattle.surf_surfaces.specs.SideNumber.{side_count};
 ghost use Rattle.surf_text.specs.Text.{whole, behind_word, behind_words, is_line_end, tokens_of};
@@ -20,6 +20,9 @@ use std::alloc::Global;
 use surf_base::{LimitKind, MAX_SIDES, VertexId};
 use surf_soup::Soup;
 use surf_text::{Line, PlacedLines, Tokens, first_line, read_whole};
+
+// A face of so many corners is searched for repeated ones without marks.
+const FEW_CORNERS: usize = 8;
 
 // How many corners a face has.
 #[tactic(auto, unfolding(crate::specs::Off::size_of))]
@@ -72,6 +75,27 @@ fn read_corners(
     Ok(())
 }
 
+// Whether a vertex is among those that were seen.
+fn is_among(seen: &[VertexId], vertex: VertexId) -> bool
+    ensures among { result ≡ list_any (λ s. s == vertex) seen.now }
+{
+    seen.contains(&vertex)
+}
+
+// The first corner whose vertex stands before, for a face of few corners.
+fn repeated_of_few(corners: &[VertexId]) -> Option<VertexId>
+    ensures first { result ≡ first_repeat [] corners.now }
+    ensures distinct { IfNone result (AllPairs (λ a b. a ≢ b) corners.now) }
+{
+    for i in 0..corners.len() {
+        let vertex = corners[i];
+        if is_among(&corners[..i], vertex) {
+            return Some(vertex);
+        }
+    }
+    None
+}
+
 // The first corner whose vertex stands before. Each vertex has the stamp of the last face that it
 // was seen on, so that a face of many corners takes one turn for each.
 fn repeated(marks: &mut [u32], stamp: u32, corners: &[VertexId]) -> Option<VertexId>
@@ -104,7 +128,12 @@ fn refuse_repeats(
     ensures differ { OnOk result (AllPairs (λ a b. a ≢ b) corners.now) }
     ensures marks { (k : ℕ) → k < length marks.new → slice_index marks.new k ≤ stamp }
 {
-    match repeated(marks, stamp, corners) {
+    let repeat = if corners.len() <= FEW_CORNERS {
+        repeated_of_few(corners)
+    } else {
+        repeated(marks, stamp, corners)
+    };
+    match repeat {
         Some(vertex) => Err(OffFault::FaceRepeat { line, vertex }),
         None => Ok(()),
     }
