@@ -228,7 +228,10 @@ impl HalfMesh {
     {
         let side = self.pairing.first[e.index()];
         let other = self.pairing.mate[side.index()];
-        (self.pairing.face_of.at(side), self.pairing.face_of.at(other))
+        (
+            self.pairing.face_of.at(side),
+            self.pairing.face_of.at(other),
+        )
     }
 
     /// The edge between two vertices; none exactly where the pair is no edge.
