@@ -6,23 +6,21 @@ ghost use Rattle.surf_surfaces.specs.Mesh.{IsFace, pair, pair_lt, among, edges};
 ghost use Rattle.surf_surfaces.specs.Surface.{face_count, face_at, edge_count, ends, faces_of, IsSurface};
 ghost use Rattle.surf_surfaces.specs.SideNumber.{side_count, first_side, IsFaceOf, IsEdgeOf};
 ghost use Rattle.surf_surfaces.specs.SideNumber.{IsMate};
-ghost use Rattle.surf_soup.specs.EdgeTable.{IsTableOf};
+ghost use Rattle.surf_soup.specs.Pairing.{IsPairingOf};
 ghost use Rattle.surf_soup.specs.Ring.{BeginsAt, IsRing, AreEdgesAt, GoBetween, AreAllRings};
-ghost use Rattle.surf_soup.specs.Half.{AreAllMates};
 
 use std::alloc::Global;
 use std::marker::Model;
 use surf_base::{EdgeId, FaceId, NoMemory, SideId, VertexId};
 use surf_rows::{Rows, part};
-use surf_soup::{EdgeTable, Rings, Soup, all_mates, edge_table, face_in, find_rings, first_sides};
+use surf_soup::{Pairing, Rings, Soup, find_rings, first_sides, pair_sides};
 
 /// A surface, with the two sides of each edge joined.
 #[derive(Drop)]
 pub struct HalfMesh {
     vertices: u32,
     faces: Rows<VertexId>,
-    table: EdgeTable,
-    mate: Vec<SideId>,
+    pairing: Pairing,
     rings: Rows<SideId>,
     ring_edges: Rows<EdgeId>,
 }
@@ -36,8 +34,8 @@ impl Model for HalfMesh {
     ghost view = { λ h. record { vertices = h.vertices; faces = h.faces } };
 
     ghost invariant = { λ h. IsHalfMesh (record { vertices = h.vertices; faces = h.faces })
-        h.table.edges.items h.table.sides h.table.edge_of.items h.table.face_of.items
-        h.table.numbers.items h.mate.items h.rings h.ring_edges };
+        h.pairing.edges.items h.pairing.first.items h.pairing.mate.items h.pairing.edge_of.items
+        h.pairing.face_of h.pairing.numbers.items h.rings h.ring_edges };
 }
 
 // The lesser vertex first.
@@ -82,42 +80,35 @@ impl HalfMesh {
         requires { IsSurface soup }
         ensures { IfOk result (λ h. h ≡ soup) }
     {
-        let table = edge_table(alloc, &soup)?;
-        HalfMesh::from_table(alloc, soup, table)
+        match pair_sides(alloc, &soup)? {
+            Some(pairing) => HalfMesh::from_pairing(alloc, soup, pairing),
+            None => unreachable!(),
+        }
     }
 
-    /// The same, by the table of its edges.
-    pub(crate) fn from_table(
-        alloc: Global,
-        soup: Soup,
-        table: EdgeTable,
-    ) -> Result<HalfMesh, NoMemory>
+    // The same, by its sides in pairs.
+    fn from_pairing(alloc: Global, soup: Soup, pairing: Pairing) -> Result<HalfMesh, NoMemory>
         requires surface { IsSurface soup }
-        requires table { IsTableOf soup table }
+        requires pairing { IsPairingOf soup pairing }
         ensures { IfOk result (λ h. h ≡ soup) }
     {
-        let mate = all_mates(alloc, &soup, &table)?;
         let first = first_sides(alloc, &soup)?;
-        match find_rings(alloc, &soup, &mate, &table, &first)? {
-            Rings::All { sides, edges } => {
-                Ok(HalfMesh::from_parts(soup, table, mate, sides, edges))
-            }
+        match find_rings(alloc, &soup, &pairing, &first)? {
+            Rings::All { sides, edges } => Ok(HalfMesh::from_parts(soup, pairing, sides, edges)),
             Rings::Pinched { .. } => unreachable!(),
         }
     }
 
-    /// The same, by all its tables: those of the edges, the mate of each side, and for each vertex
-    /// its ring and the edges that go with it. It takes no memory.
+    /// The same, by all its tables: its sides in pairs, and for each vertex its ring and the edges
+    /// that go with it. It takes no memory.
     pub fn from_parts(
         soup: Soup,
-        table: EdgeTable,
-        mate: Vec<SideId>,
+        pairing: Pairing,
         rings: Rows<SideId>,
         ring_edges: Rows<EdgeId>,
     ) -> HalfMesh
         requires surface { IsSurface soup }
-        requires table { IsTableOf soup table }
-        requires mates { AreAllMates soup mate.items }
+        requires pairing { IsPairingOf soup pairing }
         requires rings { AreAllRings soup soup.vertices rings ring_edges }
         ensures { result ≡ soup }
     {
@@ -126,8 +117,7 @@ impl HalfMesh {
         HalfMesh {
             vertices,
             faces,
-            table,
-            mate,
+            pairing,
             rings,
             ring_edges,
         }
@@ -170,7 +160,7 @@ impl HalfMesh {
         ensures surface { IsSurface self.now }
         ensures few { side_count self.now < 2 ^ 30 }
     {
-        self.table.edges.len() as u32
+        self.pairing.edges.len() as u32
     }
 
     /// How many sides all faces have, two for each edge.
@@ -179,7 +169,7 @@ impl HalfMesh {
         ensures surface { IsSurface self.now }
         ensures few { side_count self.now < 2 ^ 30 }
     {
-        self.mate.len() as u32
+        self.pairing.mate.len() as u32
     }
 
     /// The corners of a face.
@@ -196,7 +186,7 @@ impl HalfMesh {
         requires { s < side_count self.now }
         ensures { IsMate self.now s result }
     {
-        self.mate[s.index()]
+        self.pairing.mate[s.index()]
     }
 
     /// The vertex at which a side begins.
@@ -212,7 +202,7 @@ impl HalfMesh {
         requires { s < side_count self.now }
         ensures { IsFaceOf self.now s result }
     {
-        self.table.face_of[s.index()]
+        self.pairing.face_of.at(s)
     }
 
     /// The edge of a side.
@@ -220,7 +210,7 @@ impl HalfMesh {
         requires { s < side_count self.now }
         ensures { IsEdgeOf self.now s result }
     {
-        EdgeId::new(self.table.edge_of[s.index()])
+        EdgeId::new(self.pairing.edge_of[s.index()])
     }
 
     /// The ends of an edge, the lesser first.
@@ -228,7 +218,7 @@ impl HalfMesh {
         requires { e < edge_count self.now }
         ensures { result ≡ ends self.now e }
     {
-        self.table.edges[e.index()]
+        self.pairing.edges[e.index()]
     }
 
     /// The faces of an edge, the lesser first.
@@ -236,10 +226,11 @@ impl HalfMesh {
         requires { e < edge_count self.now }
         ensures { result ≡ faces_of self.now e }
     {
-        let row = self.table.sides.row(e.index());
+        let side = self.pairing.first[e.index()];
+        let other = self.pairing.mate[side.index()];
         (
-            face_in(row, 0, &self.table.face_of),
-            face_in(row, 1, &self.table.face_of),
+            self.pairing.face_of.at(side),
+            self.pairing.face_of.at(other),
         )
     }
 
@@ -249,7 +240,7 @@ impl HalfMesh {
             (λ e. (e < edge_count self.now) × (ends self.now e ≡ pair u v)) }
     {
         let (low, high) = ordered(u, v);
-        let found = find_pair(&self.table.edges, low, high);
+        let found = find_pair(&self.pairing.edges, low, high);
         match found {
             None => None,
             Some(e) => Some(EdgeId::new(e as u32)),
@@ -263,7 +254,7 @@ impl HalfMesh {
             (length (face_at self.now f)) }
     {
         let (start, end) = self.faces.span(f.index());
-        part(&self.table.numbers, start, end)
+        part(&self.pairing.numbers, start, end)
     }
 
     /// The sides that begin at a vertex, one a face there, in the order round it from the least

@@ -29,7 +29,7 @@ pub rows_len : (pair : ℕ → ℕ × ℕ) (order : List ℕ) (k : ℕ) (edges :
 rows_len pair order k edges rows are = ap length are.rows_are ∙ length-map edges (running pair (take k order))
 
 module _ (pair : ℕ → ℕ × ℕ) (order : List ℕ) (k : ℕ) (lt : k < length order) where
-  running_yes : (p : ℕ × ℕ) → p ≡ pair (get_or order k 0) →
+  pub running_yes : (p : ℕ × ℕ) → p ≡ pair (get_or order k 0) →
       running pair (take (k + 1) order) p ≡ running pair (take k order) p ++ get_or order k 0 ∷ []
   running_yes p is =
       let s = get_or order k 0 in
@@ -39,7 +39,7 @@ module _ (pair : ℕ → ℕ × ℕ) (order : List ℕ) (k : ℕ) (lt : k < leng
       ap (filter test) (take_more order k 0 lt) ∙ filter-append test (take k order) (s ∷ [])
       ∙ ap (λ r. running pair (take k order) p ++ r) one
 
-  running_no : (p : ℕ × ℕ) → (p ≡ pair (get_or order k 0) → ⊥) →
+  pub running_no : (p : ℕ × ℕ) → (p ≡ pair (get_or order k 0) → ⊥) →
       running pair (take (k + 1) order) p ≡ running pair (take k order) p
   running_no p other =
       let s = get_or order k 0 in
@@ -50,7 +50,7 @@ module _ (pair : ℕ → ℕ × ℕ) (order : List ℕ) (k : ℕ) (lt : k < leng
       ∙ ap (λ r. running pair (take k order) p ++ r) none ∙ append-nil (running pair (take k order) p)
 
   module _ (edges : List (ℕ × ℕ)) (rows : List (List ℕ)) (are : AreRowsOf pair order k edges rows) where
-    row_at : (e : ℕ) (d : List ℕ) → e < length edges →
+    pub row_at : (e : ℕ) (d : List ℕ) → e < length edges →
         get_or rows e d ≡ running pair (take k order) (get_or edges e (0, 0))
     row_at e d in' = ap (λ (r : List (List ℕ)). get_or r e d) are.rows_are
         ∙ get_or-map (running pair (take k order)) edges e (0, 0) d in'

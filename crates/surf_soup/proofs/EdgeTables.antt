@@ -137,7 +137,7 @@ module _ (mesh : Mesh) (is_mesh : IsMesh mesh) (lows highs : List ℕ)
 module _ (mesh : Mesh) (is_mesh : IsMesh mesh) (lows highs : List ℕ)
     (low_is : lows ≡ map (λ p. p.0) (side_pairs mesh.faces)) (high_is : highs ≡ map (λ p. p.1) (side_pairs mesh.faces))
   where
-    order_keeps : (p : ℕ × ℕ) → p.0 < mesh.vertices → p.1 < mesh.vertices →
+    pub order_keeps : (p : ℕ × ℕ) → p.0 < mesh.vertices → p.1 < mesh.vertices →
         running (pair_in lows highs) (side_order lows highs mesh.vertices) p ≡ sides_with mesh p
     order_keeps p low high =
         let all = range_with_len 0 (length lows) in

@@ -20,3 +20,6 @@ pub mod RingLaws
 pub mod FirstLaws
 pub mod RingMarks
 pub mod PairFaults
+pub mod ThirdLaws
+pub mod PairSteps
+pub mod PairFails

@@ -9,3 +9,5 @@ pub mod Apart
 pub mod Ring
 pub mod First
 pub mod Kept
+pub mod FaceTables
+pub mod Pairing

@@ -9,11 +9,12 @@ ghost use Rattle.surf_soup.specs.Apart.{AreFaceRoots, IsLeastApart};
 
 use crate::Soup;
 use crate::forest::{join, lone_numbers, second_root};
+use crate::side_faces::SideFaces;
 use std::alloc::Global;
-use surf_base::{FaceId, NoMemory, SideId};
+use surf_base::{NoMemory, SideId};
 
 // Joins the faces of each side and of its mate.
-fn join_faces(soup: &Soup, mate: &[SideId], face_of: &[FaceId], parents: &mut [u32])
+fn join_faces(soup: &Soup, mate: &[SideId], face_of: &SideFaces, parents: &mut [u32])
     requires two { HasTwoFaces soup.now }
     requires mates { AreAllMates soup.now mate.now }
     requires faces { face_of.now ≡ owners 0 soup.now.faces }
@@ -24,8 +25,8 @@ fn join_faces(soup: &Soup, mate: &[SideId], face_of: &[FaceId], parents: &mut [u
     for side in 0..mate.len() {
         let other = mate[side].index();
         if other < side {
-            let own = face_of[side].number();
-            let across = face_of[other].number();
+            let own = face_of.at(SideId::new(side as u32)).number();
+            let across = face_of.at(mate[side]).number();
             join(parents, own, across);
         }
     }
@@ -36,7 +37,7 @@ pub fn find_apart(
     alloc: Global,
     soup: &Soup,
     mate: &[SideId],
-    face_of: &[FaceId],
+    face_of: &SideFaces,
 ) -> Result<Option<usize>, NoMemory>
     requires some { 0 < face_count soup.now }
     requires two { HasTwoFaces soup.now }

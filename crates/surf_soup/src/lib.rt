@@ -9,13 +9,17 @@
 //! two sides, and each is the other's mate. The ring of a vertex has the sides that begin there,
 //! one a face, in the order round it; the list of its edges goes with it.
 //!
-//! The edge table is built for any soup. Its sides are put into a row for each vertex that is their
-//! lesser end, in linear time, and each row is sorted by greater end and number; one pass over the
-//! rows lists the edges, the sides of each and the edge of each side. `pair_edges` finds the least
-//! edge that hasn't two faces. The functions behind it each decide one property of a surface and
-//! find the least place where it fails: `find_isolated`, `find_rings` and `find_apart`. A
-//! surface check calls them in turn and hands their tables to the mesh, so that nothing is built
-//! twice.
+//! The sides are put into a row for each vertex that is their lesser end, in linear time, and each
+//! row is sorted by greater end and number. Where each edge has two sides they stand side by side
+//! there, so `pair_sides` reads a [`Pairing`] off the rows in one pass: the edges, the lesser side
+//! of each, and the mate and the edge of each side. The edge table is built for any soup: one pass
+//! over the rows lists the edges, the sides of each and the edge of each side. `paired_sides` asks
+//! for it only where some edge hasn't two faces, to find the least. Where each face has three sides
+//! the face of a side is its number by three, and [`SideFaces`] keeps no table.
+//!
+//! The functions behind `paired_sides` each decide one property of a surface and find the least
+//! place where it fails: `find_isolated`, `find_rings` and `find_apart`. A surface check calls them
+//! in turn and hands their tables to the mesh, so that nothing is built twice.
 //!
 //! The tables are those of half-edges, as in D. E. Muller and F. P. Preparata, "Finding the
 //! intersection of two convex polyhedra" (1978). A ring is found by turning from each side to the
@@ -27,19 +31,21 @@
 mod apart;
 mod entries;
 mod forest;
-mod mate_table;
+mod pairing;
 mod pairs;
 mod reaching;
 mod rings;
+mod side_faces;
 mod soup;
 mod tables;
 mod vertices;
 
 pub use apart::find_apart;
-pub use mate_table::all_mates;
-pub use pairs::{PairFault, face_in, first_row, pair_edges, paired_table};
+pub use pairing::{Pairing, pair_sides};
+pub use pairs::{PairFault, face_in, first_row, pair_edges, paired_sides};
 pub use reaching::{first_unmarked, reach};
 pub use rings::{Rings, find_rings, first_left, next_sides, sides_before};
+pub use side_faces::SideFaces;
 pub use soup::Soup;
 pub use tables::{EdgeTable, edge_table};
 pub use vertices::{find_isolated, first_sides, vertex_sides};

@@ -2,12 +2,14 @@
 ghost use Rattle.std.specs.Prelude.{◌≡◌, ◌≢◌, ◌<◌, ◌≤◌, ℕ, length, MatchOption, MatchResult, IfOk, IfErr};
 ghost use Rattle.std.specs.Prelude.{slice_index, slice_index_or, []};
 ghost use Rattle.surf_soup.specs.EdgeTable.{IsTableOf};
+ghost use Rattle.surf_soup.specs.Pairing.{IsPairingOf};
 ghost use Rattle.surf_soup.specs.Pairs.{NoneWithin, IsFirstWithin, HasTwoFaces, IsPairFault};
 ghost use Rattle.surf_soup.specs.declared.pairs.PairFault.TheVariants.{Memory};
 ghost use Rattle.surf_surfaces.specs.Mesh.{edges};
 ghost use Rattle.surf_surfaces.specs.Surface.{face_count};
 
 use crate::Soup;
+use crate::pairing::{Pairing, pair_sides};
 use crate::tables::{EdgeTable, edge_table};
 use std::alloc::Global;
 use surf_base::{FaceId, NoMemory, SideId, VertexId};
@@ -99,26 +101,38 @@ fn crowd_at(soup: &Soup, table: &EdgeTable, e: usize) -> PairFault
     }
 }
 
-/// The table of the edges of a soup that has a face, where each edge is a side of exactly two
-/// faces.
-pub fn paired_table(alloc: Global, soup: &Soup) -> Result<EdgeTable, PairFault>
-    ensures some { IfOk result (λ _. 0 < face_count soup.now) }
-    ensures two { IfOk result (λ _. HasTwoFaces soup.now) }
-    ensures table { IfOk result (λ t. IsTableOf soup.now t) }
-    ensures fault { IfErr result (λ e. IsPairFault soup.now e) }
+// The fault of a soup with a face where some edge isn't a side of exactly two faces.
+fn find_fault(alloc: Global, soup: &Soup) -> Result<PairFault, NoMemory>
+    requires some { 0 < face_count soup.now }
+    requires unpaired { HasTwoFaces soup.now → ⊥ }
+    ensures { IfOk result (λ fault. IsPairFault soup.now fault) }
 {
     soup.law_of_soup();
+    let table = edge_table(alloc, soup)?;
+    if let Some(e) = first_row(&table.sides, 1, 1) {
+        return Ok(border_at(soup, &table, e));
+    }
+    match first_row(&table.sides, 3, usize::MAX) {
+        Some(e) => Ok(crowd_at(soup, &table, e)),
+        None => unreachable!(),
+    }
+}
+
+/// The sides of a soup in pairs, exactly where it has a face and each edge is a side of exactly two
+/// faces; else the first fault, in the order of `PairFault`.
+pub fn paired_sides(alloc: Global, soup: &Soup) -> Result<Pairing, PairFault>
+    ensures some { IfOk result (λ _. 0 < face_count soup.now) }
+    ensures two { IfOk result (λ _. HasTwoFaces soup.now) }
+    ensures pairing { IfOk result (λ p. IsPairingOf soup.now p) }
+    ensures fault { IfErr result (λ e. IsPairFault soup.now e) }
+{
     if soup.faces() == 0 {
         return Err(PairFault::Empty);
     }
-    let table = edge_table(alloc, soup)?;
-    if let Some(e) = first_row(&table.sides, 1, 1) {
-        return Err(border_at(soup, &table, e));
+    match pair_sides(alloc, soup)? {
+        Some(pairing) => Ok(pairing),
+        None => Err(find_fault(alloc, soup)?),
     }
-    if let Some(e) = first_row(&table.sides, 3, usize::MAX) {
-        return Err(crowd_at(soup, &table, e));
-    }
-    Ok(table)
 }
 
 /// The edges of a soup, increasing, exactly where it has a face and each edge is a side of exactly
@@ -130,8 +144,8 @@ pub fn pair_edges(alloc: Global, soup: &Soup) -> Result<Vec<(VertexId, VertexId)
     ensures excludes { IfErr result (λ e. e ≢ Memory → 0 < face_count soup.now →
         HasTwoFaces soup.now → ⊥) }
 {
-    match paired_table(alloc, soup) {
-        Ok(table) => Ok(table.edges),
+    match paired_sides(alloc, soup) {
+        Ok(pairing) => Ok(pairing.edges),
         Err(fault) => Err(fault),
     }
 }

@@ -5,8 +5,7 @@ ghost use Rattle.surf_surfaces.specs.Side.{after, before};
 ghost use Rattle.surf_surfaces.specs.Surface.{face_count};
 ghost use Rattle.surf_soup.specs.Reach.{marked};
 ghost use Rattle.surf_surfaces.specs.SideNumber.{side_count};
-ghost use Rattle.surf_soup.specs.EdgeTable.{IsTableOf};
-ghost use Rattle.surf_soup.specs.Half.{AreAllMates};
+ghost use Rattle.surf_soup.specs.Pairing.{IsPairingOf};
 ghost use Rattle.surf_soup.specs.Pairs.{HasTwoFaces};
 ghost use Rattle.surf_soup.specs.Vertices.{all_corners, AllMet};
 ghost use Rattle.surf_soup.specs.Ring.{dart_corner, turn_of, nexts, befores, AreDartTables, IsRoundListed};
@@ -14,7 +13,8 @@ ghost use Rattle.surf_soup.specs.Ring.{AreTurned, BeginsAt, AreMarkedRings, AreR
 ghost use Rattle.surf_soup.specs.First.{AreFirstSides, IsFirstLeft};
 
 use crate::Soup;
-use crate::tables::EdgeTable;
+use crate::pairing::Pairing;
+use crate::side_faces::SideFaces;
 use std::alloc::Global;
 use surf_base::{EdgeId, FaceId, NoMemory, SideId, VertexId};
 use surf_rows::Rows;
@@ -37,7 +37,7 @@ pub enum Rings {
 #[derive(Drop)]
 struct Darts<'t> {
     soup: &'t Soup,
-    face_of: &'t [FaceId],
+    face_of: &'t SideFaces,
     mate: &'t [SideId],
     edge_of: &'t [u32],
 }
@@ -96,7 +96,7 @@ fn next_side(darts: &Darts<'_>, side: u32) -> u32
     requires side { side < side_count darts.now.soup.now }
     ensures { result ≡ slice_index (nexts darts.now.soup.now) side }
 {
-    let (start, end) = darts.soup.span(darts.face_of[side as usize]);
+    let (start, end) = darts.soup.span(darts.face_of.at(SideId::new(side)));
     if side + 1 < end { side + 1 } else { start }
 }
 
@@ -107,7 +107,7 @@ fn side_before(darts: &Darts<'_>, side: u32) -> u32
     requires side { side < side_count darts.now.soup.now }
     ensures { result ≡ slice_index (befores darts.now.soup.now) side }
 {
-    let (start, end) = darts.soup.span(darts.face_of[side as usize]);
+    let (start, end) = darts.soup.span(darts.face_of.at(SideId::new(side)));
     if side == start { end - 1 } else { side - 1 }
 }
 
@@ -284,8 +284,8 @@ fn judge_rings(
             let home = first[v.index()];
             Ok(Rings::Pinched {
                 v,
-                first: darts.face_of[home.index()],
-                second: darts.face_of[left.index()],
+                first: darts.face_of.at(home),
+                second: darts.face_of.at(left),
             })
         }
     }
@@ -298,13 +298,11 @@ fn judge_rings(
 pub fn find_rings(
     alloc: Global,
     soup: &Soup,
-    mate: &[SideId],
-    table: &EdgeTable,
+    pairing: &Pairing,
     first: &[SideId],
 ) -> Result<Rings, NoMemory>
-    requires mates { AreAllMates soup.now mate.now }
     requires two { HasTwoFaces soup.now }
-    requires table { IsTableOf soup.now table.now }
+    requires pairing { IsPairingOf soup.now pairing.now }
     requires first { AreFirstSides soup.now first.now }
     requires met { AllMet soup.now }
     ensures { IfOk result (λ r. AreRings soup.now r) }
@@ -312,11 +310,11 @@ pub fn find_rings(
     soup.law_of_soup();
     let darts = Darts {
         soup,
-        face_of: &table.face_of,
-        mate,
-        edge_of: &table.edge_of,
+        face_of: &pairing.face_of,
+        mate: &pairing.mate,
+        edge_of: &pairing.edge_of,
     };
-    let mut seen = vec![in alloc; false; mate.len()]?;
+    let mut seen = vec![in alloc; false; soup.side_count() as usize]?;
     let rings = judge_rings(alloc, &darts, first, &mut seen)?;
     Ok(rings)
 }

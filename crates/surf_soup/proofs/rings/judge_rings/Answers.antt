@@ -1,4 +1,4 @@
-use Rattle.std.proofs.Common.{◌≡◌, ◌<◌, length, get_or, ap, ◌∙◌, arith}
+use Rattle.std.proofs.Common.{◌<◌, length, get_or, ap, refl, ◌∙◌, arith}
 use Rattle.std.proofs.lemmas.List.{get_or_read}
 use Rattle.surf_soup.proofs.Owners.{length-owners}
 use Rattle.surf_soup.proofs.VertexLaws.{corners_len}
@@ -13,8 +13,8 @@ bounds-first-index c =
     c.requires.darts.is_mesh c.in_ok-sides.ensures c.requires.first c.in-Some.ensures in
     omega (arith, pinch.is_vertex, c.index.ensures, c.requires.first.size)
 
-pub offset_bounds-darts-index : goal.offset_bounds-darts-index
-offset_bounds-darts-index c =
+pub at-requires : goal.at-requires
+at-requires c =
     let mesh = c.args.darts.now.soup.now in
     let first = c.args.first.now in
     let pinch = left_pinch mesh c.go_rings.new.seen c.in_ok-sides.sides c.in_ok-sides.edges first _ _
@@ -23,32 +23,16 @@ offset_bounds-darts-index c =
     let begin = first_side_at c.args.darts.now.soup.now c.args.darts.now.face_of.now c.args.darts.now.mate.now
     c.args.darts.now.edge_of.now c.requires.darts first c.index.result c.requires.first c.requires.met
     (omega (arith, pinch.is_vertex, c.index.ensures)) in
-    let home : c.index-in-Some.result ≡ get_or first c.index.result 0 = c.index-in-Some.ensures
-    ∙ get_or_read first c.index.result c.index-first-index.result lt c.index-first-index.is 0 in
-    omega (arith, home, begin.0, c.requires.darts.few)
-
-pub bounds-darts-index : goal.bounds-darts-index
-bounds-darts-index c =
-    let mesh = c.args.darts.now.soup.now in
-    let first = c.args.first.now in
-    let pinch = left_pinch mesh c.go_rings.new.seen c.in_ok-sides.sides c.in_ok-sides.edges first _ _
-    c.requires.darts.is_mesh c.in_ok-sides.ensures c.requires.first c.in-Some.ensures in
-    let lt : c.index.result < length first = omega (arith, pinch.is_vertex, c.index.ensures, c.requires.first.size) in
-    let begin = first_side_at c.args.darts.now.soup.now c.args.darts.now.face_of.now c.args.darts.now.mate.now
-    c.args.darts.now.edge_of.now c.requires.darts first c.index.result c.requires.first c.requires.met
-    (omega (arith, pinch.is_vertex, c.index.ensures)) in
-    let home : c.index-in-Some.result ≡ get_or first c.index.result 0 = c.index-in-Some.ensures
-    ∙ get_or_read first c.index.result c.index-first-index.result lt c.index-first-index.is 0 in
+    let home = get_or_read first c.index.result c.index-first-index.result lt c.index-first-index.is 0 in
     omega (arith, home, begin.0, length-owners 0 mesh.faces, ap length c.requires.darts.faces)
 
-pub bounds-darts-index-in-Some : goal.bounds-darts-index-in-Some
-bounds-darts-index-in-Some c =
+pub at-requires-in-Some : goal.at-requires-in-Some
+at-requires-in-Some c =
     let mesh = c.args.darts.now.soup.now in
     omega (
       arith,
       c.in-Some.ensures.is_side,
       corners_len mesh,
-      c.index-in-Some-2.ensures,
       length-owners 0 mesh.faces,
       ap length c.requires.darts.faces,
     )
@@ -64,13 +48,9 @@ returns-in-Some c =
     let pinch = left_pinch mesh c.go_rings.new.seen c.in_ok-sides.sides c.in_ok-sides.edges first _ _
     c.requires.darts.is_mesh c.in_ok-sides.ensures c.requires.first c.in-Some.ensures in
     let lt : c.index.result < length first = omega (arith, pinch.is_vertex, c.index.ensures, c.requires.first.size) in
-    let begin = first_side_at c.args.darts.now.soup.now c.args.darts.now.face_of.now c.args.darts.now.mate.now
-    c.args.darts.now.edge_of.now c.requires.darts first c.index.result c.requires.first c.requires.met
-    (omega (arith, pinch.is_vertex, c.index.ensures)) in
-    let home : c.index-in-Some.result ≡ get_or first c.index.result 0 = c.index-in-Some.ensures
-    ∙ get_or_read first c.index.result c.index-first-index.result lt c.index-first-index.is 0 in
-    read_pinch c.args.darts.now.soup.now c.args.darts.now.face_of.now c.args.darts.now.mate.now
+    let home = get_or_read first c.index.result c.index-first-index.result lt c.index-first-index.is 0 in
+    rw (c.at.ensures, c.at-in-Some.ensures)
+    (read_pinch c.args.darts.now.soup.now c.args.darts.now.face_of.now c.args.darts.now.mate.now
     c.args.darts.now.edge_of.now c.requires.darts c.go_rings.new.seen c.in_ok-sides.sides c.in_ok-sides.edges first
-    c.in_ok-sides.ensures c.requires.first c.requires.met _ _ c.index-in-Some.result c.index-in-Some-2.result
-    c.index-darts-index.result c.index-darts-index-in-Some.result c.in-Some.ensures (home
-    ∙ ap (λ u. get_or first u 0) c.index.ensures) c.index-in-Some-2.ensures
+    c.in_ok-sides.ensures c.requires.first c.requires.met _ _ c.index-first-index.result _ 0 0 c.in-Some.ensures (home
+    ∙ ap (λ u. get_or first u 0) c.index.ensures) refl)

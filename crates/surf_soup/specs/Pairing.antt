@@ -1,0 +1,63 @@
+-- Sides in pairs.
+use Rattle.std.specs.Prelude.{◌≡◌, ℕ, ◌<◌, List, [], ◌∷◌, length, get_or, map}
+use Rattle.std.specs.List.{range_with_len}
+use Rattle.surf_surfaces.specs.Mesh.{Mesh, edges}
+use Rattle.surf_surfaces.specs.SideNumber.{side_count, owners, sides_with}
+use Rattle.surf_soup.specs.EdgeTable.{AreEdgeNumbers}
+use Rattle.surf_soup.specs.Half.{AreAllMates}
+use Rattle.surf_soup.specs.Order.{AreListedUpto}
+use Rattle.surf_soup.specs.Pairs.{HasTwoFaces}
+use Rattle.surf_soup.specs.declared.pairing.Pairing.{Pairing}
+use Rattle.surf_soup.specs.declared.pairing.Pairs.{Pairs}
+
+-- the least side that runs a pair
+abbrev pub least_side : Mesh → ℕ × ℕ → ℕ
+least_side mesh p = get_or (sides_with mesh p) 0 0
+
+-- the edges, the least side of each, and for each side its mate, its edge, its face and its number
+pub record IsPairing (mesh : Mesh) (edge_list : List (ℕ × ℕ))
+    (first mate edge_of face_of numbers : List ℕ) : Type 0 where
+  pub edge_list_is : edge_list ≡ edges mesh
+  pub first_are : first ≡ map (least_side mesh) (edges mesh)
+  pub mates : AreAllMates mesh mate
+  pub edge_numbers : AreEdgeNumbers mesh edge_of
+  pub face_of_is : face_of ≡ owners 0 mesh.faces
+  pub numbers_are : numbers ≡ range_with_len 0 (side_count mesh)
+
+-- a table as the code has it
+abbrev pub IsPairingOf : Mesh → Pairing → Type 0
+IsPairingOf mesh p =
+    IsPairing mesh p.edges.items p.first.items p.mate.items p.edge_of.items p.face_of p.numbers.items
+
+-- for each edge a row of its first side and the mate of that
+abbrev pub pair_rows : List ℕ → List ℕ → List (List ℕ)
+pair_rows first mate = map (λ s. s ∷ get_or mate s 0 ∷ []) first
+
+-- The first k of the sides in the order of their pairs are paired: they are listed, two in the row of each edge, and
+-- the two are each other's mates.
+pub record ArePairedUpto (mesh : Mesh) (k : ℕ) (edge_list : List (ℕ × ℕ)) (first mate edge_of : List ℕ) : Type 0 where
+  pub mate_size : length mate ≡ side_count mesh
+  pub number_size : length edge_of ≡ side_count mesh
+  pub listed : AreListedUpto mesh k edge_list (pair_rows first mate) edge_of
+  pub back : (e : ℕ) → e < length first → get_or mate (get_or mate (get_or first e 0) 0) 0 ≡ get_or first e 0
+
+abbrev pub ArePaired : Mesh → ℕ → Pairs → Type 0
+ArePaired mesh k pairs = ArePairedUpto mesh k pairs.edges.items pairs.first.items pairs.mate.items pairs.edge_of.items
+
+-- no pairs, in tables for a number of sides
+pub record AreNoPairs (count : ℕ) (pairs : Pairs) : Type 0 where
+  pub none : pairs.edges.items ≡ []
+  pub no_first : pairs.first.items ≡ []
+  pub mate_size : length pairs.mate.items ≡ count
+  pub number_size : length pairs.edge_of.items ≡ count
+
+-- the tables once all sides are paired
+pub record AreAllPairs (mesh : Mesh) (edge_list : List (ℕ × ℕ)) (first mate edge_of : List ℕ) : Type 0 where
+  pub edges_are : edge_list ≡ edges mesh
+  pub first_are : first ≡ map (least_side mesh) (edges mesh)
+  pub mates : AreAllMates mesh mate
+  pub numbers : AreEdgeNumbers mesh edge_of
+  pub two : HasTwoFaces mesh
+
+abbrev pub HasAllPairs : Mesh → Pairs → Type 0
+HasAllPairs mesh pairs = AreAllPairs mesh pairs.edges.items pairs.first.items pairs.mate.items pairs.edge_of.items
