@@ -1,4 +1,8 @@
+pub mod Greatest
+pub mod Fronts
+pub mod Admitted
 pub mod Sifted
+pub mod Changed
 pub mod Climbed
 pub mod Looped
 pub mod Kept

@@ -1,8 +1,8 @@
 -- The choice of the independent candidates of a list, one after another.
-use Rattle.std.proofs.Common.{◌≡◌, ℕ, ◌+◌, ◌<◌, ◌≤◌, ◌^◌, true, false, Bool, List, [], ◌∷◌, ◌++◌, length, get_or, drop, map, All, refl, sym, ap, ◌∙◌, subst, append_assoc, MatchBool, inl, inr}
+use Rattle.std.proofs.Common.{◌≡◌, ℕ, ◌+◌, ◌<◌, ◌≤◌, ◌^◌, true, false, Bool, List, [], ◌∷◌, ◌++◌, length, get_or, drop, map, All, refl, sym, ap, ◌∙◌, subst, append_assoc, arith, take, ◌↔◌, inl, inr}
 use Rattle.std.specs.List.{AllByRecursion}
 use Rattle.std.proofs.lemmas.Bool.{cases_Bool}
-use Rattle.std.proofs.lemmas.List.{at_drop_more, at_drop_all, append-nil, map-append, length-map}
+use Rattle.std.proofs.lemmas.List.{at_drop_more, at_drop_all, append-nil, map-append, length-map, take_all}
 use Rattle.std.proofs.lemmas.List.Elements.{recursion_from_All, All-from_recursion}
 use Rattle.std.proofs.lemmas.List.Sorted.{All-permutation}
 use Rattle.surf_z2.specs.Greedy.{greedy_after, spans}
@@ -13,80 +13,85 @@ use Rattle.surf_z2.proofs.Merge.{same_members}
 use Rattle.surf_z2.proofs.Numbers.{Decides-is_nothing}
 use Rattle.surf_z2.proofs.Span.{spanned_from_in}
 use Rattle.surf_basis.specs.declared.candidate.Signed.{Signed}
-use Rattle.surf_basis.specs.Candidates.{signed_earlier, independent_of}
+use Rattle.surf_basis.specs.Candidates.{signed_earlier, independent_of, signatures, kept_after}
+use Rattle.surf_basis.specs.Echelons.{AreRowsOf, IsAdmitted}
+use Rattle.surf_basis.proofs.Fronts.{front_spanned, rows_count, rows_more}
 
--- the signatures of candidates
-abbrev pub signatures : List Signed → List ℕ
-signatures cs = map (λ c. c.signature) cs
+-- the choice has come to a place: what is kept, with what is kept of the candidates to come, is the whole, and the rows
+-- are those of what is kept
+pub record IsSifting (whole candidates kept : List Signed) (rows : List ℕ) (i : ℕ) : Type 0 where
+  pub rest : kept_after kept (drop i candidates) ≡ whole
+  pub are : AreRowsOf rows (signatures kept)
 
--- what is kept, and what is kept of the candidates to come
-abbrev pub in_all : List Signed → List Signed → List Signed
-in_all kept cs = kept ++ greedy_after numbers is_nothing (λ (c : Signed). c.signature) (signatures kept) cs
+-- what rows span, the signatures do
+pub rows_span : (rows : List ℕ) (kept : List Signed) (s : ℕ) → AreRowsOf rows (signatures kept) →
+    (Spanned numbers rows s ↔ Spanned numbers (signatures kept) s)
+rows_span rows kept s are =
+    let same = rows_count [] rows (signatures kept) are in
+    let front = front_spanned rows (signatures kept) (length rows) s are in
+    subst (λ xs. Spanned numbers xs s ↔ Spanned numbers (signatures kept) s) (take_all (length rows) rows (omega arith))
+    (subst (λ ys. Spanned numbers (take (length rows) rows) s ↔ Spanned numbers ys s) (take_all (length rows) (signatures kept) (omega (arith, same))) front)
 
--- the choice has come to a place: what is kept, with what is kept of the candidates to come, is all that is kept, and
--- the signatures of what is kept are admitted
-pub record IsSifting (candidates kept : List Signed) (admitted : List ℕ) (i : ℕ) : Type 0 where
-  pub rest : in_all kept (drop i candidates) ≡ independent_of candidates
-  pub admitted_are : admitted ≡ signatures kept
-
-pub was_free : (b : Bool) (old new : List ℕ) (s t : ℕ) → MatchBool b (Spanned numbers old s → ⊥) (Spanned numbers old s) →
-    b ≡ true → old ≡ new → s ≡ t → Spanned numbers new t → ⊥
-was_free b old new s t m on e f =
-    subst (λ x. Spanned numbers new x → ⊥) f (subst (λ v. Spanned numbers v s → ⊥) e
-    (subst (λ b. MatchBool b (Spanned numbers old s → ⊥) (Spanned numbers old s)) on m))
-
-pub was_sum : (b : Bool) (old new : List ℕ) (s t : ℕ) → MatchBool b (Spanned numbers old s → ⊥) (Spanned numbers old s) →
-    b ≡ false → old ≡ new → s ≡ t → Spanned numbers new t
-was_sum b old new s t m off e f =
-    subst (λ x. Spanned numbers new x) f (subst (λ v. Spanned numbers v s) e
-    (subst (λ b. MatchBool b (Spanned numbers old s → ⊥) (Spanned numbers old s)) off m))
-
--- a candidate that is independent of those kept
-pub sifted_kept : (cs kept next : List Signed) (admitted more : List ℕ) (i : ℕ) (c : Signed) → IsSifting cs kept admitted i →
-    i < length cs → c ≡ get_or cs i c → (Spanned numbers (signatures kept) c.signature → ⊥) →
-    next ≡ kept ++ c ∷ [] → more ≡ admitted ++ c.signature ∷ [] → IsSifting cs next more (i + 1)
-sifted_kept cs kept next admitted more i c s l same free e f =
+-- the next candidate is kept where it is no sum of those before it
+pub kept_turn : (kept cs : List Signed) (c : Signed) → (Spanned numbers (signatures kept) c.signature → ⊥) →
+    kept_after kept (c ∷ cs) ≡ kept_after (kept ++ c ∷ []) cs
+kept_turn kept cs c free =
     let fresh : spans numbers is_nothing (signatures kept) c.signature ≡ false =
     not_spans numbers is_nothing Decides-is_nothing (signatures kept) c.signature
     (λ h. free (spanned_from_in numbers (signatures kept) c.signature h)) in
-    let after = greedy_after numbers is_nothing (λ (c : Signed). c.signature) (signatures kept ++ c.signature ∷ []) (drop (i + 1) cs) in
-    let turn : greedy_after numbers is_nothing (λ (c : Signed). c.signature) (signatures kept) (c ∷ drop (i + 1) cs) ≡ c ∷ after = rw fresh refl in
-    let step : in_all kept (drop i cs) ≡ kept ++ c ∷ after =
-    at_drop_more (in_all kept) cs i c l ∙ ap (λ x. in_all kept (x ∷ drop (i + 1) cs)) (sym same) ∙ ap (λ rest. kept ++ rest) turn in
+    let after = greedy_after numbers is_nothing (λ (c : Signed). c.signature) (signatures kept ++ c.signature ∷ []) cs in
+    let turn : greedy_after numbers is_nothing (λ (c : Signed). c.signature) (signatures kept) (c ∷ cs) ≡ c ∷ after = rw fresh refl in
+    ap (λ rest. kept ++ rest) turn ∙ sym (append_assoc kept (c ∷ []) after)
+    ∙ ap (λ v. (kept ++ c ∷ []) ++ greedy_after numbers is_nothing (λ (c : Signed). c.signature) v cs)
+    (sym (map-append (λ (c : Signed). c.signature) kept (c ∷ [])))
+
+pub kept_over : (kept cs : List Signed) (c : Signed) → Spanned numbers (signatures kept) c.signature →
+    kept_after kept (c ∷ cs) ≡ kept_after kept cs
+kept_over kept cs c sum =
+    let old : spans numbers is_nothing (signatures kept) c.signature ≡ true =
+    (spans_law numbers is_nothing Decides-is_nothing (signatures kept) c.signature).1 sum in
+    let turn : greedy_after numbers is_nothing (λ (c : Signed). c.signature) (signatures kept) (c ∷ cs)
+    ≡ greedy_after numbers is_nothing (λ (c : Signed). c.signature) (signatures kept) cs = rw old refl in
+    ap (λ rest. kept ++ rest) turn
+
+-- a candidate that is independent of those kept
+pub sifted_kept : (whole cs kept next : List Signed) (rows more : List ℕ) (i : ℕ) (c : Signed) → IsSifting whole cs kept rows i →
+    i < length cs → c ≡ get_or cs i c → (Spanned numbers rows c.signature → ⊥) → next ≡ kept ++ c ∷ [] →
+    IsAdmitted rows c.signature more → IsSifting whole cs next more (i + 1)
+sifted_kept whole cs kept next rows more i c s l same free e a =
     let mapped = map-append (λ (c : Signed). c.signature) kept (c ∷ []) in
     record {
       rest =
-          ap (λ ks. in_all ks (drop (i + 1) cs)) e
-          ∙ ap (λ v. (kept ++ c ∷ []) ++ greedy_after numbers is_nothing (λ (c : Signed). c.signature) v (drop (i + 1) cs)) mapped
-          ∙ append_assoc kept (c ∷ []) after ∙ sym step ∙ s.rest;
-      admitted_are = f ∙ ap (λ v. v ++ c.signature ∷ []) s.admitted_are ∙ sym mapped ∙ ap signatures (sym e);
+          ap (λ ks. kept_after ks (drop (i + 1) cs)) e
+          ∙ sym (at_drop_more (kept_after kept) cs i c l ∙ ap (λ x. kept_after kept (x ∷ drop (i + 1) cs)) (sym same)
+          ∙ kept_turn kept (drop (i + 1) cs) c (λ sum. free ((rows_span rows kept c.signature s.are).1 sum)))
+          ∙ s.rest;
+      are = subst (AreRowsOf more) (sym (ap signatures e ∙ mapped))
+          (subst (λ xs. AreRowsOf xs (signatures kept ++ c.signature ∷ [])) (sym a.new_is)
+          (rows_more [] rows (signatures kept) a.row c.signature s.are a.differ));
     }
 
 -- a candidate that isn't
-pub sifted_out : (cs kept next : List Signed) (admitted more : List ℕ) (i : ℕ) (c : Signed) → IsSifting cs kept admitted i →
-    i < length cs → c ≡ get_or cs i c → Spanned numbers (signatures kept) c.signature → next ≡ kept → more ≡ admitted →
-    IsSifting cs next more (i + 1)
-sifted_out cs kept next admitted more i c s l same sum e f =
-    let old : spans numbers is_nothing (signatures kept) c.signature ≡ true =
-    (spans_law numbers is_nothing Decides-is_nothing (signatures kept) c.signature).1 sum in
-    let turn : greedy_after numbers is_nothing (λ (c : Signed). c.signature) (signatures kept) (c ∷ drop (i + 1) cs)
-    ≡ greedy_after numbers is_nothing (λ (c : Signed). c.signature) (signatures kept) (drop (i + 1) cs) = rw old refl in
-    let step : in_all kept (drop i cs) ≡ in_all kept (drop (i + 1) cs) =
-    at_drop_more (in_all kept) cs i c l ∙ ap (λ x. in_all kept (x ∷ drop (i + 1) cs)) (sym same) ∙ ap (λ rest. kept ++ rest) turn in
+pub sifted_out : (whole cs kept next : List Signed) (rows more : List ℕ) (i : ℕ) (c : Signed) → IsSifting whole cs kept rows i →
+    i < length cs → c ≡ get_or cs i c → Spanned numbers rows c.signature → next ≡ kept → more ≡ rows →
+    IsSifting whole cs next more (i + 1)
+sifted_out whole cs kept next rows more i c s l same sum e f =
     record {
-      rest = ap (λ ks. in_all ks (drop (i + 1) cs)) e ∙ sym step ∙ s.rest;
-      admitted_are = f ∙ s.admitted_are ∙ ap signatures (sym e);
+      rest =
+          ap (λ ks. kept_after ks (drop (i + 1) cs)) e
+          ∙ sym (at_drop_more (kept_after kept) cs i c l ∙ ap (λ x. kept_after kept (x ∷ drop (i + 1) cs)) (sym same)
+          ∙ kept_over kept (drop (i + 1) cs) c ((rows_span rows kept c.signature s.are).0 sum))
+          ∙ s.rest;
+      are = subst (AreRowsOf more) (ap signatures (sym e)) (subst (λ xs. AreRowsOf xs (signatures kept)) (sym f) s.are);
     }
 
 -- at the end
-pub sifted : (cs kept : List Signed) (admitted : List ℕ) (i : ℕ) → IsSifting cs kept admitted i → length cs ≤ i →
-    kept ≡ independent_of cs
-sifted cs kept admitted i s past =
-    sym (at_drop_all (in_all kept) cs i past ∙ append-nil kept) ∙ s.rest
+pub sifted : (whole cs kept : List Signed) (rows : List ℕ) (i : ℕ) → IsSifting whole cs kept rows i → length cs ≤ i → kept ≡ whole
+sifted whole cs kept rows i s past = sym (at_drop_all (kept_after kept) cs i past ∙ append-nil kept) ∙ s.rest
 
--- as many are kept as are admitted
-pub as_many : (kept : List Signed) (admitted : List ℕ) → admitted ≡ signatures kept → length kept ≡ length admitted
-as_many kept admitted e = sym (ap length e ∙ length-map kept (λ (c : Signed). c.signature))
+-- as many are kept as there are rows
+pub as_many : (kept : List Signed) (rows : List ℕ) → AreRowsOf rows (signatures kept) → length kept ≡ length rows
+as_many kept rows are = sym (rows_count [] rows (signatures kept) are ∙ length-map kept (λ (c : Signed). c.signature))
 
 -- ---- the choice among candidates is that among what they stand for
 

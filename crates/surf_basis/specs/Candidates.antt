@@ -1,9 +1,10 @@
 -- Candidates for a basis: their order, which are independent, and what is kept of them.
 use Rattle.std.specs.Prelude.{ℕ, ◌≡◌, ◌<◌, Bool, true, false, IsTrue, ◌&&◌, ◌||◌, ◌==◌, nat_lt, List, [], ◌∷◌, map}
-use Rattle.std.specs.Prelude.{All, Option}
+use Rattle.std.specs.Prelude.{All, Option, ◌≤◌, ◌++◌, length, take, drop, slice_index_or}
 use Rattle.std.specs.Option.{option_map}
-use Rattle.surf_z2.specs.Greedy.{greedy}
-use Rattle.surf_z2.specs.Space.{numbers, is_nothing}
+use Rattle.surf_z2.specs.Greedy.{greedy, greedy_after}
+use Rattle.surf_z2.specs.Order.{merge}
+use Rattle.surf_z2.specs.Space.{numbers, is_nothing, Spanned}
 use Rattle.surf_graphs.specs.Cells.{Split, IsSplit}
 use Rattle.surf_surfaces.specs.Mesh.{Mesh}
 use Rattle.surf_surfaces.specs.Surface.{edge_count}
@@ -40,6 +41,23 @@ has_next (c ∷ cs) (d ∷ ds) = signed_earlier c d
 -- of candidates in order, each whose signature is no sum of those of the candidates before it
 abbrev pub independent_of : List Signed → List Signed
 independent_of cs = greedy numbers is_nothing (λ c. c.signature) cs
+
+abbrev pub signatures : List Signed → List ℕ
+signatures cs = map (λ c. c.signature) cs
+
+-- some that are kept, and of candidates in order each that is independent of those and of the ones before it
+abbrev pub kept_after : List Signed → List Signed → List Signed
+kept_after kept cs = kept ++ greedy_after numbers is_nothing (λ c. c.signature) (signatures kept) cs
+
+-- of those kept, those before a place stay, and there the first of some in order comes in that is no sum of those
+-- before it
+pub record IsChange (kept offered : List Signed) (place fresh : ℕ) : Type 0 where
+  pub place_in : place ≤ length kept
+  pub fresh_in : fresh < length offered
+  pub next : has_next (drop place kept) (drop fresh offered) ≡ false
+  pub free : (d : Signed) → Spanned numbers (signatures (take place kept)) (slice_index_or offered fresh d).signature → ⊥
+  pub rest : kept_after (take place kept) (merge signed_earlier (drop place kept) (drop fresh offered))
+      ≡ independent_of (merge signed_earlier kept offered)
 
 -- how many candidates may be independent, and those that are kept
 pub record Chosen : Type 0 where

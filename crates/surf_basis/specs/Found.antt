@@ -1,6 +1,6 @@
 -- Loops that searches find, as signed candidates.
 use Rattle.std.specs.Prelude.{ℕ, ◌≡◌, ◌≢◌, ◌<◌, ◌+◌, ◌^◌, ◌==◌, ◌&&◌, ◌||◌, true, false, ◌⊎◌, fold, IsPermutation}
-use Rattle.std.specs.Prelude.{not, min, Bool, IsTrue, bit_xor, List, [], ◌∷◌, map, All, Contains, length, slice_index}
+use Rattle.std.specs.Prelude.{not, min, nat_lt, Bool, IsTrue, bit_xor, List, [], ◌∷◌, map, All, Contains, length, slice_index}
 use Rattle.std.specs.Prelude.{Option, Some, None, if◌then◌else◌}
 use Rattle.std.specs.List.Sorted.{IsNonDecreasingBy}
 use Rattle.surf_z2.specs.Order.{merge, IsInOrder}
@@ -111,6 +111,13 @@ pub record IsLinkOf (mesh : Mesh) (v : ℕ) (link : Link) : Type 0 where
   pub to_in : link.to < mesh.vertices
   pub ends_are : ((v < link.to) × (ends mesh link.edge ≡ (v, link.to)))
       ⊎ ((link.to < v) × (ends mesh link.edge ≡ (link.to, v)))
+
+-- a link leads to a greater vertex that was reached too, and the two differ in class by their numbers or the edge has a
+-- signature
+abbrev pub may_matter : Search → ℕ → Link → Bool
+may_matter x v link =
+    nat_lt v link.to && (is_near x.near link.to && not ((slice_index x.ways.numbers v == slice_index x.ways.numbers link.to)
+    && (slice_index x.signs.signatures link.edge == 0)))
 
 -- a candidate is what is told of an edge whose loop is wanted
 pub record IsTold (x : Search) (limit : Option Candidate) (c : Signed) : Type 0 where

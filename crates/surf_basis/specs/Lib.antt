@@ -1,6 +1,7 @@
 pub mod Cycles
 pub mod Candidates
 pub mod Signing
+pub mod Echelons
 pub mod Certs
 pub mod Marks
 pub mod Places

@@ -1,6 +1,7 @@
 -- Vertices that are marked in a table.
 use Rattle.std.specs.Prelude.{ℕ, ◌≡◌, ◌≢◌, ◌<◌, ◌⊎◌, true, false, Bool, List, All, Contains, length, slice_index}
 use Rattle.std.specs.Prelude.{slice_index_or}
+use Rattle.std.specs.Int.{w32, reverse_bits}
 use Rattle.surf_surfaces.specs.Mesh.{Mesh}
 use Rattle.surf_surfaces.specs.Surface.{edge_count, ends}
 use Rattle.surf_cotree.specs.Tables.{CotreeTables}
@@ -26,3 +27,7 @@ abbrev pub HasSignedEnds : Mesh → CotreeTables → List ℕ → Type 0
 HasSignedEnds mesh s list =
     (e : ℕ) → e < edge_count mesh → slice_index s.signatures e ≢ 0 →
     Contains list (ends mesh e).0 ⊎ Contains list (ends mesh e).1
+
+-- the number that the 32 bits of a number write when they are read backwards
+abbrev pub bits_backwards : ℕ → ℕ
+bits_backwards v = reverse_bits w32 v

@@ -6,11 +6,11 @@ ghost use Rattle.surf_basis.specs.Places.{limit_of};
 ghost use Rattle.surf_base.specs.declared.limits.TheConstants.{MAX_LOOPS};
 
 use crate::candidate::{Candidate, Signed};
-use crate::merging::{merge, sift};
+use crate::echelon::Echelon;
+use crate::merging::{first_change, merge, sift};
 use std::alloc::Global;
 use std::marker::Model;
 use surf_base::NoMemory;
-use surf_bits::Sieve;
 
 /// The candidates that are kept, in order. Its width is how many may be independent, and there is
 /// room for as many.
@@ -18,22 +18,24 @@ use surf_bits::Sieve;
 pub(crate) struct Choice {
     kept: Vec<Signed>,
     merged: Vec<Signed>,
-    sieve: Sieve,
+    rows: Echelon,
     width: usize,
 }
 
 impl Model for Choice {
     ghost use Rattle.surf_base.specs.declared.limits.TheConstants.{MAX_LOOPS};
     ghost use Rattle.std.specs.Prelude.{◌≡◌, ◌≤◌, ◌<◌, ◌^◌, All, length, vec_capacity};
-    ghost use Rattle.surf_basis.specs.Candidates.{Chosen};
+    ghost use Rattle.surf_basis.specs.Candidates.{Chosen, signatures};
+    ghost use Rattle.surf_basis.specs.Echelons.{AreRowsOf};
 
     ghost Value = { Chosen };
 
     ghost view = { λ c. record { width = c.width; kept = c.kept.items } };
 
-    ghost invariant = { λ c. (c.sieve.width ≡ c.width) × (length c.kept.items ≤ c.width)
+    ghost invariant = { λ c. (c.rows.width ≡ c.width) × (length c.kept.items ≤ c.width)
         × (c.width ≤ vec_capacity c.kept) × (c.width ≤ MAX_LOOPS)
-        × All (λ s. s.signature < 2 ^ c.width) c.kept.items };
+        × All (λ s. s.signature < 2 ^ c.width) c.kept.items
+        × AreRowsOf c.rows.rows (signatures c.kept.items) };
 }
 
 impl Choice {
@@ -45,7 +47,7 @@ impl Choice {
         Ok(Choice {
             kept: Vec::with_capacity(alloc, width as usize)?,
             merged: Vec::new(alloc),
-            sieve: Sieve::make(alloc, width)?,
+            rows: Echelon::make(alloc, width)?,
             width: width as usize,
         })
     }
@@ -72,7 +74,8 @@ impl Choice {
         Some(last.candidate)
     }
 
-    /// Makes the choice again from what is kept and other candidates in order.
+    /// Makes the choice again from what is kept and other candidates in order. Those kept stay as far
+    /// as it is the same.
     pub fn keep(&mut self, offered: &[Signed]) -> Result<(), NoMemory>
         requires small { All (λ s. s.signature < 2 ^ self.old.width) offered.now }
         ensures kept { OnOk result (self.new ≡ record self.old {
@@ -81,10 +84,18 @@ impl Choice {
         }) }
         ensures width { self.new.width ≡ self.old.width }
     {
+        let Some(change) = first_change(&self.kept, &self.rows, offered) else {
+            return Ok(());
+        };
+        let later = &self.kept[change.place..];
+        let fresh = &offered[change.fresh..];
         self.merged.clear();
-        self.merged.reserve(self.kept.len() + offered.len())?;
-        merge(&self.kept, offered, &mut self.merged);
-        sift(&self.merged, &mut self.sieve, &mut self.kept);
+        self.merged.reserve(later.len() + fresh.len())?;
+        merge(later, fresh, &mut self.merged);
+        self.kept.truncate(change.place);
+        self.rows.truncate(change.place);
+        sift(&self.merged, &mut self.rows, &mut self.kept);
+        self.rows.law_of_echelon();
         Ok(())
     }
 }

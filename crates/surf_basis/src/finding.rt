@@ -2,9 +2,9 @@
 ghost use Rattle.std.specs.Prelude.{◌≡◌, ◌<◌, ◌&&◌, false, IsTrue, bit_xor, min, All, Contains, length, IfOk, OnOk};
 ghost use Rattle.surf_surfaces.specs.Surface.{edge_count, ends};
 ghost use Rattle.surf_near.specs.Near.{AreNearTables, is_near};
-ghost use Rattle.surf_basis.specs.Found.{surface_of, search_of, IsReady, is_between, told_loop, wanted_loop};
-ghost use Rattle.surf_basis.specs.Found.{search_at, reached_at, IsTold, ListsAt, AreTold, AreFound};
-ghost use Rattle.surf_basis.specs.Found.{IsLinkOf, IsUnwantedAt};
+ghost use Rattle.surf_basis.specs.Found.{surface_of, IsReady, is_between, told_loop, wanted_loop};
+ghost use Rattle.surf_basis.specs.Found.{reached_at, IsTold, ListsAt, AreTold, AreFound};
+ghost use Rattle.surf_basis.specs.Found.{IsLinkOf, IsUnwantedAt, may_matter};
 ghost use Rattle.surf_basis.specs.Places.{place_of, is_sought, radius_of};
 
 use crate::candidate::{Candidate, Signed, copy_signature};
@@ -13,6 +13,7 @@ use crate::ways::Ways;
 use std::alloc::Global;
 use std::marker::Model;
 use surf_base::{EdgeId, NoMemory, VertexId};
+use surf_bits::Signature;
 use surf_near::{Link, Links, NearDesk};
 
 /// Finds the loops of edges at one vertex after the other.
@@ -46,37 +47,6 @@ fn lesser(u: VertexId, v: VertexId) -> VertexId
     ensures lesser { result ≡ min u v }
 {
     if u.number() <= v.number() { u } else { v }
-}
-
-// The loop of an edge between vertices that a search from a base has reached, with its least base
-// and its class.
-fn loop_of(
-    surface: &Surface<'_>,
-    desk: &NearDesk,
-    ways: &Ways,
-    base: VertexId,
-    edge: EdgeId,
-) -> Signed
-    requires ready { IsReady (search_of surface.now desk.now ways.now base) }
-    requires edge { edge < edge_count surface.now.mesh.now }
-    requires between { IsTrue (is_between (search_of surface.now desk.now ways.now base) edge) }
-    ensures told { result ≡ told_loop (search_of surface.now desk.now ways.now base) edge }
-{
-    surface.mesh.law_of_surface();
-    let (u, v) = surface.mesh.ends(edge);
-    let length = desk.distance(u) + u64::from(surface.lengths.of(edge)) + desk.distance(v);
-    let mut signature = copy_signature(ways.class(u));
-    signature.add(surface.signatures.signature(edge));
-    signature.add(ways.class(v).bits());
-    Signed {
-        candidate: Candidate {
-            length,
-            base: lesser(desk.least(u), desk.least(v)),
-            edge,
-        },
-        from: base,
-        signature,
-    }
 }
 
 // Whether both ends of an edge were reached.
@@ -124,7 +94,40 @@ struct Reached<'r, 'a> {
     ways: &'r Ways,
 }
 
-// The loop of an edge, if its ends were reached, it isn't null and it comes before a limit.
+// The length and the least base of the loop of an edge between vertices that were reached.
+fn candidate_of(reached: &Reached<'_, '_>, edge: EdgeId) -> Candidate
+    requires ready { IsReady (reached_at reached.now) }
+    requires edge { edge < edge_count reached.now.surface.now.mesh.now }
+    requires between { IsTrue (is_between (reached_at reached.now) edge) }
+    ensures told { result ≡ (told_loop (reached_at reached.now) edge).candidate }
+{
+    reached.surface.mesh.law_of_surface();
+    let (u, v) = reached.surface.mesh.ends(edge);
+    let desk = reached.desk;
+    Candidate {
+        length: desk.distance(u) + u64::from(reached.surface.lengths.of(edge)) + desk.distance(v),
+        base: lesser(desk.least(u), desk.least(v)),
+        edge,
+    }
+}
+
+// The class of the loop of an edge between vertices that were reached.
+fn class_of(reached: &Reached<'_, '_>, edge: EdgeId) -> Signature
+    requires ready { IsReady (reached_at reached.now) }
+    requires edge { edge < edge_count reached.now.surface.now.mesh.now }
+    requires between { IsTrue (is_between (reached_at reached.now) edge) }
+    ensures told { result ≡ (told_loop (reached_at reached.now) edge).signature }
+{
+    reached.surface.mesh.law_of_surface();
+    let (u, v) = reached.surface.mesh.ends(edge);
+    let mut class = copy_signature(reached.ways.class(u));
+    class.add(reached.surface.signatures.signature(edge));
+    class.add(reached.ways.class(v).bits());
+    class
+}
+
+// The loop of an edge, if its ends were reached, it comes before a limit and it isn't null. Its
+// class is summed only where it comes before the limit.
 fn wanted_loop(reached: &Reached<'_, '_>, limit: &Option<Candidate>, edge: EdgeId) -> Option<Signed>
     requires ready { IsReady (reached_at reached.now) }
     requires edge { edge < edge_count reached.now.surface.now.mesh.now }
@@ -133,13 +136,19 @@ fn wanted_loop(reached: &Reached<'_, '_>, limit: &Option<Candidate>, edge: EdgeI
     if !is_between(reached.surface, reached.desk, edge) {
         return None;
     }
-    let base = reached.desk.base();
-    let signed = loop_of(reached.surface, reached.desk, reached.ways, base, edge);
-    if is_sought(&signed.candidate, limit) && !signed.signature.bits().is_empty() {
-        Some(signed)
-    } else {
-        None
+    let candidate = candidate_of(reached, edge);
+    if !is_sought(&candidate, limit) {
+        return None;
     }
+    let signature = class_of(reached, edge);
+    if signature.bits().is_empty() {
+        return None;
+    }
+    Some(Signed {
+        candidate,
+        from: reached.desk.base(),
+        signature,
+    })
 }
 
 // Whether a link leads to a greater vertex that was reached too, and its loop may be other than
@@ -147,6 +156,7 @@ fn wanted_loop(reached: &Reached<'_, '_>, limit: &Option<Candidate>, edge: EdgeI
 fn may_matter(reached: &Reached<'_, '_>, v: VertexId, link: &Link) -> bool
     requires ready { IsReady (reached_at reached.now) }
     requires ends { IsLinkOf reached.now.surface.now.mesh.now v link.now }
+    ensures matters { result ≡ may_matter (reached_at reached.now) v link.now }
     ensures off { result ≡ false → IsUnwantedAt (reached_at reached.now) v link.now.edge }
 {
     v.number() < link.to.number()

@@ -16,8 +16,10 @@
 //!
 //! Then the bases so found are gone through one by one, and no more candidates are held than a
 //! basis has: what was kept so far and the loops at the next base are merged, and from these the
-//! choice is made again. Whether a loop is independent of others is told by its signature, a sum
-//! over its edges of signatures that one base gives for all. The first cycle needs the first of the
+//! choice is made again, from the place on where it first changes. Whether a loop is independent of
+//! others is told by its signature, a sum over its edges of signatures that one base gives for all:
+//! signatures are reduced by rows, one for each that is kept, whose greatest numbers differ, and the
+//! first rows tell what is a sum of the first signatures. The first cycle needs the first of the
 //! loops that searches find, and then the loops at its base alone.
 //!
 //! A certificate of the basis has the trees at all vertices, which are grown again for it one after
@@ -29,6 +31,7 @@ mod candidate;
 mod cert;
 mod choosing;
 mod cycle;
+mod echelon;
 mod finding;
 mod marking;
 mod merging;

@@ -1,8 +1,9 @@
 //! Vertices that every closed walk meets which isn't null.
 ghost use Rattle.std.specs.Prelude.{◌≡◌, ◌≢◌, ◌<◌, ◌⊎◌, ◌^◌, ℕ, false, true, All, Contains, IsPermutation, IfOk};
 ghost use Rattle.std.specs.Prelude.{length, slice_index, slice_index_or};
+ghost use Rattle.std.specs.List.Sorted.{IsNonDecreasingBy};
 ghost use Rattle.surf_surfaces.specs.Surface.{edge_count};
-ghost use Rattle.surf_basis.specs.Marks.{AreMarkedIn, HasMarkedEnd, HasSignedEnds};
+ghost use Rattle.surf_basis.specs.Marks.{AreMarkedIn, HasMarkedEnd, HasSignedEnds, bits_backwards};
 
 use std::alloc::Global;
 use surf_base::{EdgeId, NoMemory, VertexId};
@@ -95,10 +96,11 @@ pub(crate) fn list_marked(alloc: Global, marked: &[bool]) -> Result<Vec<VertexId
     Ok(list)
 }
 
-// Puts vertices into an order that scatters them: those whose numbers agree in the last bits lie
-// apart.
+// Puts vertices into an order that scatters them, that of the bits of their numbers read backwards:
+// those whose numbers are near each other lie apart.
 fn scatter(vertices: &mut [VertexId])
     ensures same { IsPermutation vertices.old vertices.new }
+    ensures sorted { IsNonDecreasingBy bits_backwards vertices.new }
 {
     vertices.sort_unstable_by_key(|v| v.number().reverse_bits());
 }
@@ -113,6 +115,7 @@ pub(crate) fn signed_ends(
     requires table { length signatures.now.signatures ≡ edge_count mesh.now }
     ensures inside { IfOk result (λ list. All (λ v. v < mesh.now.vertices) list.items) }
     ensures ends { IfOk result (λ list. HasSignedEnds mesh.now signatures.now list.items) }
+    ensures scattered { IfOk result (λ list. IsNonDecreasingBy bits_backwards list.items) }
 {
     let mut counts = vec![in alloc; 0u32; mesh.vertices() as usize]?;
     count_signed(mesh, signatures, &mut counts);
