@@ -74,8 +74,8 @@ impl Choice {
         Some(last.candidate)
     }
 
-    /// Makes the choice again from what is kept and other candidates in order. Those kept stay as far
-    /// as it is the same.
+    /// Makes the choice again from what is kept and other candidates in order. Those kept stay as
+    /// far as it is the same.
     pub fn keep(&mut self, offered: &[Signed]) -> Result<(), NoMemory>
         requires small { All (λ s. s.signature < 2 ^ self.old.width) offered.now }
         ensures kept { OnOk result (self.new ≡ record self.old {

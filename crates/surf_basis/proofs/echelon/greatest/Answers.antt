@@ -1,4 +1,4 @@
-use Rattle.std.proofs.Common.{ℕ, ◌≡◌, ◌<◌, ◌≤◌, ◌^◌, ◌+◌, ◌-◌, ◌*◌, get_or, length, sym, subst, arith, w64, suc}
+use Rattle.std.proofs.Common.{ℕ, ◌≡◌, ◌<◌, ◌^◌, ◌+◌, ◌-◌, ◌*◌, get_or, length, sym, subst, arith, w64}
 use Rattle.std.specs.Int.{leading_zeros}
 use Rattle.surf_z2.specs.Words.{number}
 use Rattle.surf_z2.proofs.Words.{number_zero}

@@ -1,8 +1,7 @@
-use Rattle.std.proofs.Common.{ℕ, ◌≡◌, ◌<◌, ◌≤◌, ◌*◌, ◌^◌, length, get_or, bit_xor, sym, ap, ◌∙◌, subst, arith}
+use Rattle.std.proofs.Common.{◌≡◌, ◌<◌, ◌≤◌, ◌*◌, ◌^◌, length, bit_xor, sym, ◌∙◌, subst, arith}
 use Rattle.std.proofs.lemmas.Nat.{xor_lt}
 use Rattle.surf_z2.specs.Space.{numbers, Spanned}
 use Rattle.surf_z2.specs.Words.{number}
-use Rattle.surf_z2.proofs.Span.{InSpan}
 use Rattle.surf_basis.proofs.Admitted.{row_step, differ_more, words_enough}
 use Rattle.surf_basis.proofs.Greatest.{exponent_below, led_count}
 use Rattle.surf_basis.proofs.echelon.reduce.Goals as goal

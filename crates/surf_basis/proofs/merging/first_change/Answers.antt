@@ -1,10 +1,10 @@
-use Rattle.std.proofs.Common.{ℕ, List, ◌≡◌, ◌<◌, ◌≤◌, true, false, length, take, drop, refl, sym, ap, ◌∙◌, subst, arith}
+use Rattle.std.proofs.Common.{take, sym, ◌∙◌, subst, arith}
 use Rattle.surf_z2.specs.Space.{numbers, Spanned}
-use Rattle.surf_basis.proofs.Changed.{pass_begun, pass_kept, pass_offered, pass_ended, pass_changes, rows_span_front, parts_next}
+use Rattle.surf_basis.proofs.Changed.{pass_kept, pass_offered, pass_ended, pass_changes, rows_span_front, parts_next}
 use Rattle.surf_basis.proofs.Fronts.{rows_fresh}
 use Rattle.surf_basis.proofs.Sifted.{as_many}
 use Rattle.surf_basis.specs.declared.candidate.Signed.{Signed}
-use Rattle.surf_basis.specs.Candidates.{signatures, has_next}
+use Rattle.surf_basis.specs.Candidates.{signatures}
 use Rattle.surf_basis.proofs.merging.first_change.Goals as goal
 
 pub loop-fresh-preserved-then-goes_first : goal.loop-fresh-preserved-then-goes_first

@@ -1,4 +1,4 @@
-use Rattle.std.proofs.Common.{ℕ, List, ◌≡◌, ◌<◌, ◌≤◌, ◌^◌, length, take, bit_xor, MatchBool, sym, ap, ◌∙◌, subst, arith}
+use Rattle.std.proofs.Common.{ℕ, List, ◌≡◌, ◌≤◌, length, take, bit_xor, MatchBool, sym, ap, ◌∙◌, subst, arith}
 use Rattle.std.specs.Int.Bits.{xor_zero_l}
 use Rattle.std.proofs.lemmas.List.{length-take-le}
 use Rattle.surf_z2.specs.Space.{numbers, Spanned}
