@@ -4,7 +4,7 @@
     bench/speed.py [--surf PROGRAM] [--beside NAME=WORDS ..] [--repeat N] [--limit SECONDS] [COMMAND ..]
 
 Builds the program (`rt run` in crates/surf), unless one is named, makes tori and chains with `surf gen`, and runs each
-command on them. Seconds are of one processor (user and system, the least of the repeats). Megabytes are the most that was
+command on them. A mesh that is `shuffled` is a torus whose vertices and faces are numbered anew at random. Seconds are of one processor (user and system, the least of the repeats). Megabytes are the most that was
 resident; those below this script's own (some 23) aren't seen, since a program starts as its copy. A run that takes
 more than the limit is `late`.
 
@@ -16,6 +16,7 @@ and are shared, so ratios say more than seconds.
 import argparse
 import multiprocessing
 import os
+import random
 import shlex
 import subprocess
 import sys
@@ -24,15 +25,17 @@ from pathlib import Path
 
 ROOT = Path(__file__).resolve().parent.parent
 TORI = [f"torus {side} {side}" for side in (100, 300, 700)]
+LINEAR = [*TORI, "shuffled 700 700"]
 FAR = ["torus 40 40", "torus 100 100", "torus 100 200", "chain 8 30 30", "chain 64 4 4"]
 
 # A command, the meshes that it is measured on by the words of `gen`, the scatter of its lengths (0: all are 1), what is
 # made first (None, or words whose answer is the file C), and its words, with M for the mesh and L for its lengths.
 CASES = [
-    ("info", TORI, [0], None, "info M"),
-    ("dist", TORI, [0, 1], None, "dist M L 0"),
-    ("loops", TORI, [0, 1], None, "loops M L 0"),
-    ("cut trim", TORI, [0], None, "cut M L 0 trim"),
+    ("info", LINEAR, [0], None, "info M"),
+    ("dist", LINEAR, [0, 1], None, "dist M L 0"),
+    ("loops", LINEAR, [0, 1], None, "loops M L 0"),
+    ("cut trim", LINEAR, [0, 1], None, "cut M L 0 trim"),
+    ("cut full", LINEAR, [0], None, "cut M L 0 full"),
     ("sew", TORI, [0], "cut M L 0 trim", "sew C"),
     ("class", TORI, [0], "walk", "class M C"),
     ("certify at a base", TORI, [0], None, "certify M L 0"),
@@ -96,6 +99,29 @@ def write_lengths(mesh, scatter, path):
     path.write_text("".join(rows))
 
 
+def write_shuffled(mesh, path):
+    """The same mesh, its vertices and its faces in another order, always the same one."""
+    keyword, counts, *lines = Path(mesh).read_text().splitlines()
+    vertices = int(counts.split()[0])
+    chance = random.Random(1)
+    number = list(range(vertices))
+    chance.shuffle(number)
+    vertex_lines = [""] * vertices
+    for v, line in zip(number, lines):
+        vertex_lines[v] = line
+    faces = [line.split() for line in lines[vertices:]]
+    chance.shuffle(faces)
+    face_lines = (" ".join([face[0], *(str(number[int(v)]) for v in face[1:])]) for face in faces)
+    path.write_text("\n".join([keyword, counts, *vertex_lines, *face_lines, ""]))
+
+
+def made_apart(make, *given):
+    """Makes a file in a process of its own: what runs later begins with the memory of this one."""
+    maker = multiprocessing.Process(target=make, args=given)
+    maker.start()
+    maker.join()
+
+
 class Inputs:
     """The files that a case reads, each made once."""
 
@@ -116,7 +142,7 @@ class Inputs:
     def names(self, mesh, scatter, first):
         """What stands for the letters of a case's words."""
         given = mesh.split()
-        names = {"M": [self.answer_of(["gen", *given], "off")], "L": ["unit"], "G": given}
+        names = {"M": [self.mesh(given)], "L": ["unit"], "G": given}
         if scatter:
             names["L"] = [self.scattered(names["M"][0], scatter)]
         if first == "walk":
@@ -125,15 +151,23 @@ class Inputs:
             names["C"] = [self.answer_of(filled(first, names), "first")]
         return names
 
+    def mesh(self, given):
+        """The mesh of the words of `gen`, or of `shuffled` and the counts of a torus."""
+        if given[0] != "shuffled":
+            return self.answer_of(["gen", *given], "off")
+        key = ("shuffled", *given)
+        if key not in self.made:
+            path = self.work / f"{len(self.made)}.off"
+            made_apart(write_shuffled, self.answer_of(["gen", "torus", *given[1:]], "off"), path)
+            self.made[key] = str(path)
+        return self.made[key]
+
     def scattered(self, mesh, scatter):
         """Lengths from 1 to 97 that hang on the number of the edge alone, as `try` scatters them."""
         key = ("lengths", mesh, scatter)
         if key not in self.made:
             path = self.work / f"{len(self.made)}.len"
-            # In a process of its own: what runs later begins with the memory of this one.
-            maker = multiprocessing.Process(target=write_lengths, args=(mesh, scatter, path))
-            maker.start()
-            maker.join()
+            made_apart(write_lengths, mesh, scatter, path)
             self.made[key] = str(path)
         return self.made[key]
 
@@ -152,7 +186,9 @@ def filled(words, names):
 
 
 def figures(measured):
-    return ["late", "-"] if measured is None else [f"{measured[0]:.2f}", f"{measured[1]:.0f}"]
+    if measured is None:
+        return ["late", "-"]
+    return [f"{measured[0]:.3f}" if measured[0] < 0.1 else f"{measured[0]:.2f}", f"{measured[1]:.0f}"]
 
 
 def beside(program, ours, words, work, options):
@@ -164,7 +200,7 @@ def beside(program, ours, words, work, options):
     if ours is None or other is None:
         return [*figures(other), "-"]
     same = (work / "ours").read_bytes() == (work / "other").read_bytes()
-    return [*figures(other), f"{ours[0] / max(other[0], 0.005):.2f}" + ("" if same else " DIFFERS")]
+    return [*figures(other), f"{ours[0] / max(other[0], 0.001):.2f}" + ("" if same else " DIFFERS")]
 
 
 def rows(case, inputs, work, options):
