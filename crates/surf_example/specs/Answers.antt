@@ -1,5 +1,5 @@
 -- What comes of the text of a mesh: its shortest basis, or why there is none.
-use Rattle.std.specs.Prelude.{◌≡◌, ◌≢◌, ℕ, ◌+◌, ◌<◌, List, Ok, Err, replicate}
+use Rattle.std.specs.Prelude.{◌≡◌, ◌≢◌, ◌⊎◌, ℕ, ◌+◌, ◌<◌, List, Ok, Err, replicate}
 use Rattle.surf_surfaces.specs.Mesh.{Mesh}
 use Rattle.surf_surfaces.specs.Surface.{face_count, edge_count, IsSurface}
 use Rattle.surf_surfaces.specs.Choice.{Loop}
@@ -18,6 +18,11 @@ IsTextOf text mesh = (parts : OffParts) × (off_of text ≡ Ok (parts, mesh))
 abbrev pub IsBasisOf : List ℕ → List Loop → Type 0
 IsBasisOf text basis = (mesh : Mesh) × IsTextOf text mesh × IsSurface mesh
     × LeastSimpleBasis mesh (replicate (edge_count mesh) 1) basis
+
+-- the surface has too many loops, or there is no memory
+abbrev pub IsMeshRefusal : Mesh → Refusal → Type 0
+IsMeshRefusal mesh refusal = ((refusal ≡ ManyLoops) × (mesh.vertices + face_count mesh + 1024 < edge_count mesh + 2))
+    ⊎ (refusal ≡ Memory)
 
 -- the text or its mesh has the fault that the refusal tells
 abbrev pub IsRefusalOf : List ℕ → Refusal → Type 0

@@ -5,9 +5,11 @@
 
 pub mod refusal;
 
-ghost use Rattle.std.specs.Prelude.{◌<◌, length, IfOk, IfErr};
+ghost use Rattle.std.specs.Prelude.{◌<◌, length, replicate, IfOk, IfErr};
+ghost use Rattle.surf_surfaces.specs.Surface.{edge_count};
+ghost use Rattle.surf_surfaces.specs.ChoiceLaws.{LeastSimpleBasis};
 ghost use Rattle.surf_basis.specs.Cycles.{as_loops};
-ghost use Rattle.surf_example.specs.Answers.{IsBasisOf, IsRefusalOf};
+ghost use Rattle.surf_example.specs.Answers.{IsBasisOf, IsMeshRefusal, IsRefusalOf};
 
 pub use refusal::Refusal;
 use std::alloc::Global;
@@ -15,7 +17,23 @@ use surf_base::MAX_LOOPS;
 use surf_basis::{Cycle, least_basis};
 use surf_check::check;
 use surf_lengths::unit_lengths;
+use surf_mesh::HalfMesh;
 use surf_off::read_off;
+
+// A shortest basis of a surface, where each edge has the length 1.
+fn unit_basis(alloc: Global, mesh: &HalfMesh) -> Result<Vec<Cycle>, Refusal>
+    ensures basis { IfOk result (λ cycles. LeastSimpleBasis mesh.now
+        (replicate (edge_count mesh.now) 1) (as_loops cycles.items)) }
+    ensures refusal { IfErr result (λ refusal. IsMeshRefusal mesh.now refusal) }
+{
+    let cells = mesh.vertices() as u64 + mesh.faces() as u64;
+    if mesh.edges() as u64 + 2 > cells + MAX_LOOPS as u64 {
+        return Err(Refusal::ManyLoops);
+    }
+    let lengths = unit_lengths(alloc, mesh)?;
+    let basis = least_basis(alloc, mesh, &lengths)?;
+    Ok(basis)
+}
 
 /// A shortest basis of the surface in an OFF text, where each edge has the length 1.
 ///
@@ -28,13 +46,7 @@ pub fn shortest_basis(alloc: Global, text: &[u8]) -> Result<Vec<Cycle>, Refusal>
 {
     let (_, soup) = read_off(alloc, text)?;
     let mesh = check(alloc, soup)?;
-    let cells = mesh.vertices() as u64 + mesh.faces() as u64;
-    if mesh.edges() as u64 + 2 > cells + MAX_LOOPS as u64 {
-        return Err(Refusal::ManyLoops);
-    }
-    let lengths = unit_lengths(alloc, &mesh)?;
-    let basis = least_basis(alloc, &mesh, &lengths)?;
-    Ok(basis)
+    unit_basis(alloc, &mesh)
 }
 
 #[cfg(test)]
