@@ -1,5 +1,5 @@
 //! Surfaces with their half-edges.
-ghost use Rattle.std.specs.Prelude.{◌≡◌, ◌<◌, ◌+◌, ◌^◌, ℕ, List, length, All, AllPairs, IfOk, MatchOption};
+ghost use Rattle.std.specs.Prelude.{◌≡◌, ◌<◌, ◌≤◌, ◌+◌, ◌^◌, ℕ, List, length, All, AllPairs, IfOk, MatchOption};
 ghost use Rattle.std.specs.Prelude.{slice_index_or, false, true};
 ghost use Rattle.std.specs.List.{range_with_len};
 ghost use Rattle.surf_surfaces.specs.Mesh.{IsFace, pair, pair_lt, among, edges};
@@ -13,7 +13,7 @@ use std::alloc::Global;
 use std::marker::Model;
 use surf_base::{EdgeId, FaceId, NoMemory, SideId, VertexId};
 use surf_rows::{Rows, part};
-use surf_soup::{Pairing, Rings, Soup, find_rings, first_sides, pair_sides};
+use surf_soup::{Pairing, Rings, Soup, face_span, find_rings, first_sides, pair_sides};
 
 /// A surface, with the two sides of each edge joined.
 #[derive(Drop)]
@@ -253,8 +253,20 @@ impl HalfMesh {
         ensures { result.now ≡ range_with_len (first_side self.now f)
             (length (face_at self.now f)) }
     {
-        let (start, end) = self.faces.span(f.index());
+        let (start, end) = face_span(&self.faces, f.index());
         part(&self.pairing.numbers, start, end)
+    }
+
+    /// The numbers of the sides of a face: from the first one on, as many as it has corners. No
+    /// table of them is read.
+    pub fn side_span(&self, f: FaceId) -> (u32, u32)
+        requires { f < face_count self.now }
+        ensures start { result.0 ≡ first_side self.now f }
+        ensures end { result.1 ≡ first_side self.now f + length (face_at self.now f) }
+        ensures inside { result.1 ≤ side_count self.now }
+    {
+        let (start, end) = face_span(&self.faces, f.index());
+        (start as u32, end as u32)
     }
 
     /// The sides that begin at a vertex, one a face there, in the order round it from the least

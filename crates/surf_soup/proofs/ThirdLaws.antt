@@ -16,7 +16,7 @@ use Rattle.surf_soup.proofs.Owners.{length-owners}
 use Rattle.surf_soup.proofs.SideTables.{three_each}
 
 -- where all faces have three sides each on the whole, so have the first ones
-three_first : (n : ℕ) (faces : List (List ℕ)) → All (IsFace n) faces → sum_by length faces ≡ 3 * length faces →
+pub three_first : (n : ℕ) (faces : List (List ℕ)) → All (IsFace n) faces → sum_by length faces ≡ 3 * length faces →
     (f : ℕ) → f ≤ length faces → sum_by length (take f faces) ≡ 3 * f
 three_first n [] h total zero le = refl
 three_first n [] h total (suc f) le = absurd (omega arith)

@@ -46,6 +46,6 @@ pub use pairs::{PairFault, face_in, first_row, pair_edges, paired_sides};
 pub use reaching::{first_unmarked, reach};
 pub use rings::{Rings, find_rings, first_left, next_sides, sides_before};
 pub use side_faces::SideFaces;
-pub use soup::Soup;
+pub use soup::{Soup, face_span};
 pub use tables::{EdgeTable, edge_table};
 pub use vertices::{find_isolated, first_sides, vertex_sides};

@@ -1,6 +1,6 @@
 //! Faces over a number of vertices.
-ghost use Rattle.std.specs.Prelude.{◌≡◌, ◌<◌, ◌+◌, ◌*◌, ◌^◌, [], ◌∷◌, ◌++◌, length, slice_index_or, OnOk, OnErr};
-ghost use Rattle.std.specs.List.{flat_map};
+ghost use Rattle.std.specs.Prelude.{◌≡◌, ◌<◌, ◌+◌, ◌*◌, ◌^◌, [], ◌∷◌, ◌++◌, ℕ, All, length, take, slice_index_or, OnOk, OnErr};
+ghost use Rattle.std.specs.List.{flat_map, sum_by};
 ghost use Rattle.surf_surfaces.specs.Mesh.{IsFace, IsMesh};
 ghost use Rattle.surf_surfaces.specs.SideNumber.{side_count, first_side};
 
@@ -25,6 +25,22 @@ impl Model for Soup {
     ghost view = { λ s. record { vertices = s.vertices; faces = s.faces } };
 
     ghost invariant = { λ s. IsSoup (record { vertices = s.vertices; faces = s.faces }) };
+}
+
+/// Where the corners of a face begin among those of all faces, and where they end. Where each face
+/// has three no table is read.
+pub fn face_span(faces: &Rows<VertexId>, f: usize) -> (usize, usize)
+    requires faces { (n : ℕ) × All (IsFace n) faces.now }
+    requires few { sum_by length faces.now < 2 ^ 30 }
+    requires face { f < length faces.now }
+    ensures start { result.0 ≡ sum_by length (take f faces.now) }
+    ensures end { result.1 ≡ sum_by length (take (f + 1) faces.now) }
+{
+    if faces.total() == 3 * faces.len() {
+        (3 * f, 3 * f + 3)
+    } else {
+        faces.span(f)
+    }
 }
 
 impl Soup {
@@ -104,7 +120,7 @@ impl Soup {
         ensures end { result.1 ≡ first_side self.now (f + 1) }
         ensures few { result.1 < 2 ^ 30 }
     {
-        let (start, end) = self.faces.span(f.index());
+        let (start, end) = face_span(&self.faces, f.index());
         (start as u32, end as u32)
     }
 
