@@ -23,13 +23,15 @@ fn only_side(mesh: &HalfMesh, marks: &[bool], face: FaceId) -> Option<SideId>
 {
     mesh.law_of_surface();
     let mut found = None;
-    for s in mesh.sides_of(face) {
-        let (_, edge) = mesh.across(*s);
+    let (start, end) = mesh.side_span(face);
+    for s in start..end {
+        let side = SideId::new(s);
+        let (_, edge) = mesh.across(side);
         if !marks[edge.index()] {
             if found.is_some() {
                 return None;
             }
-            found = Some(*s);
+            found = Some(side);
         }
     }
     found

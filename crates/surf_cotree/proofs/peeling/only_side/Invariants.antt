@@ -1,6 +1,7 @@
 use Rattle.std.specs.Option.{IfSome}
+use Rattle.std.specs.List.{range_with_len}
 use Rattle.surf_surfaces.specs.SideNumber.{side_count}
-use Rattle.std.proofs.Common.{◌<◌, map}
+use Rattle.std.proofs.Common.{◌<◌, ◌≤◌, ◌-◌, map}
 use Rattle.surf_mesh.specs.Links.{link_at, side_link}
 use Rattle.surf_cotree.specs.Searches.{outside}
 use Rattle.surf_cotree.proofs.Leaves.{IsOnlySoFar}
@@ -8,6 +9,7 @@ use Rattle.surf_cotree.proofs.peeling.only_side.Given as goal
 
 abbrev pub invariant-loop-s : goal.invariant-loop-s
 invariant-loop-s l = record {
+  from : l.start ≤ l.s;
   inside : IfSome l.found (λ s. s < side_count l.mesh);
-  only : IsOnlySoFar (outside l.marks) (link_at (map (side_link l.mesh) l.s-items)) (side_link l.mesh) l.s-index l.found;
+  only : IsOnlySoFar (outside l.marks) (link_at (map (side_link l.mesh) (range_with_len l.start (l.end - l.start)))) (side_link l.mesh) (l.s - l.start) l.found;
 }
