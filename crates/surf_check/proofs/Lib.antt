@@ -1,3 +1,4 @@
+pub mod DescentLaws
 pub mod FaultLaws
 pub mod SideWays
 pub mod GrowthLaws

@@ -1,3 +1,4 @@
+pub mod Descent
 pub mod Fault
 pub mod Growth
 pub mod Links

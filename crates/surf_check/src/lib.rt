@@ -18,6 +18,7 @@
 mod answers;
 mod checking;
 mod counts;
+mod descent;
 mod growth;
 mod orienting;
 
