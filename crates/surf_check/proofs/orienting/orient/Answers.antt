@@ -1,4 +1,4 @@
-use Rattle.std.proofs.Common.{◌≡◌, List, Bool, false, length, sym, subst, arith}
+use Rattle.std.proofs.Common.{◌≡◌, List, Bool, false, length, sym, subst}
 use Rattle.std.proofs.Math.ListN.{length-replicate}
 use Rattle.std.specs.Prelude.{replicate}
 use Rattle.surf_surfaces.specs.Surface.{face_count, IsTurning}
