@@ -1,6 +1,6 @@
 //! The face lines.
 ghost use Rattle.std.specs.Prelude.{◌≡◌, ◌≢◌, ◌==◌, ◌<◌, ◌≤◌, ◌+◌, ℕ, true, [], length, slice_index};
-ghost use Rattle.std.specs.Prelude.{take, drop, IfOk, IfNone, IfSome, OnOk};
+ghost use Rattle.std.specs.Prelude.{take, drop, None, IfOk, IfNone, IfSome, IsTrue, OnOk};
 ghost use Rattle.std.specs.List.{All, AllPairs, before_first, list_any};
 ghost use Rattle.surf_surfaces.specs.Mesh.{IsFace};
 ghost use Rattle.surf_surfaces.specs.SideNumber.{side_count};
@@ -114,8 +114,20 @@ fn repeated(marks: &mut [u32], stamp: u32, corners: &[VertexId]) -> Option<Verte
     None
 }
 
-// No corner may have a vertex that stands before.
-fn refuse_repeats(
+// Whether they are three corners of as many vertices.
+fn are_three(corners: &[VertexId]) -> bool
+    ensures first { IsTrue result → first_repeat [] corners.now ≡ None }
+    ensures distinct { IsTrue result → AllPairs (λ a b. a ≢ b) corners.now }
+{
+    match corners {
+        [a, b, c] => a != b && a != c && b != c,
+        _ => false,
+    }
+}
+
+// No corner may have a vertex that stands before, however many corners there are.
+#[inline(never)]
+fn refuse_repeats_of_many(
     line: u32,
     marks: &mut [u32],
     stamp: u32,
@@ -137,6 +149,27 @@ fn refuse_repeats(
         Some(vertex) => Err(OffFault::FaceRepeat { line, vertex }),
         None => Ok(()),
     }
+}
+
+// No corner may have a vertex that stands before.
+#[inline]
+fn refuse_repeats(
+    line: u32,
+    marks: &mut [u32],
+    stamp: u32,
+    corners: &[VertexId],
+) -> Result<(), OffFault>
+    requires within { All (λ u. u < length marks.old) corners.now }
+    requires earlier { (k : ℕ) → k < length marks.old → slice_index marks.old k < stamp }
+    ensures distinct { Gives (λ _. corners.now) result
+        (distinct line corners.now (first_repeat [] corners.now)) }
+    ensures differ { OnOk result (AllPairs (λ a b. a ≢ b) corners.now) }
+    ensures marks { (k : ℕ) → k < length marks.new → slice_index marks.new k ≤ stamp }
+{
+    if are_three(corners) {
+        return Ok(());
+    }
+    refuse_repeats_of_many(line, marks, stamp, corners)
 }
 
 // The colour of a face line, behind faces of so many sides. Its corners are those that are kept

@@ -97,6 +97,20 @@ still_within line i missing inside lt high in' =
     let b = get_or line i 0 in
     ap (nat_le missing) (ap (λ (t : Bool). count_on t (drop (i + 1) line)) in' ∙ sym (count_within line i lt inside (comment_low b high) (blank_low b high) in'))
 
+-- the first byte of a token, which is greater than blanks and the comment sign
+module _ (line : List ℕ) (i missing : ℕ) (inside : Bool) (lt : i < length line) (high : 35 < get_or line i 0) (out : inside ≡ false) where
+  pub first_within : 1 < missing → nat_le (missing - 1) (count_on true (drop (i + 1) line)) ≡ nat_le missing (count_on inside (drop i line))
+  first_within some =
+      one_found line i missing inside true lt (comment_low (get_or line i 0) high) (ap not (sym (blank_low (get_or line i 0) high))) (λ e. absurd (omega (arith, e, some))) refl out
+
+  pub last_found : missing ≤ 1 → true ≡ nat_le missing (count_on inside (drop i line))
+  last_found last =
+      sym (ap (nat_le missing) (count_first line i lt inside (comment_low (get_or line i 0) high) (blank_low (get_or line i 0) high) out)
+      ∙ le-leb missing (suc (count_on true (drop (i + 1) line))) (omega (arith, last)))
+
+pub at_space : (line : List ℕ) (i missing : ℕ) (inside : Bool) → i < length line → get_or line i 0 ≡ 32 → nat_le missing (count_on false (drop (i + 1) line)) ≡ nat_le missing (count_on inside (drop i line))
+at_space line i missing inside lt is = still_missing line i missing inside false lt (ap is_comment_sign is) (ap (λ (b : ℕ). not (is_blank b)) (sym is)) (inl refl)
+
 pub count_ends : (line : List ℕ) (i : ℕ) (inside : Bool) → length line ≤ i → count_on inside (drop i line) ≡ 0
 unfolding count_on
 count_ends line i inside le = at_drop_all (count_on inside) line i le

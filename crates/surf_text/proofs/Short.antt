@@ -1,16 +1,17 @@
 -- Reading a number of 32 bits that ends before a space.
-use Rattle.std.proofs.Common.{◌≡◌, ◌<◌, ◌≤◌, ◌^◌, ◌+◌, ◌-◌, ◌*◌, ℕ, Bool, true, false, cond, List, [], ◌∷◌, length, get_or, take, drop, Option, Some, None, MatchOption, refl, sym, ◌∙◌, ap, arith, inl, inr, length-take, not}
+use Rattle.std.proofs.Common.{◌≡◌, ◌<◌, ◌≤◌, ◌^◌, ◌+◌, ◌-◌, ◌*◌, ℕ, Bool, true, false, cond, List, [], ◌∷◌, length, get_or, take, drop, Option, min, Some, None, MatchOption, refl, sym, ◌∙◌, ap, arith, inl, inr, length-take, not}
 use Rattle.std.specs.Prelude.{◌==◌, ◌&&◌, nat_lt}
 use Rattle.std.specs.Char.{is_ascii_digit}
-use Rattle.std.specs.List.{before_first, position_or_len, slice_split}
+use Rattle.std.specs.List.{before_first, list_all, position_or_len, slice_split}
 use Rattle.std.proofs.lemmas.Bool.{cases_Bool, cases_lt, cases_eq, eqb-true, ne_eqb, eq-eqb, both_ways, lt-ltb}
 use Rattle.std.proofs.lemmas.List.{get_or-take, take_all, take_rest}
 use Rattle.std.proofs.lemmas.List.Folds.{list_all_at}
 use Rattle.std.proofs.lemmas.List.Splits.{slice_split_first}
 use Rattle.std.proofs.lemmas.List.Sums.{fails_before_first, passes_at_first, prefix_len-le-length}
+use Rattle.std.proofs.Math.Nat.{min-eq_left, min-eq_right}
 use Rattle.surf_text.specs.Text.{is_space, is_no_digit, front_digits, is_nonempty, value_of, below, short_whole}
 use Rattle.surf_text.proofs.Cuts.{whole_part}
-use Rattle.surf_text.proofs.Digits.{number_on, whole-is, too_long, digit_more, number_all}
+use Rattle.surf_text.proofs.Digits.{number_on, number_on-is, whole-is, too_long, digit_more, number_all, digits_all}
 
 -- a first part, with the place where it ends
 pub part_before : (p : ℕ → Bool) (xs : List ℕ) (i : ℕ) → position_or_len p xs ≡ i → i < length xs → slice_split p xs ≡ before_first p xs ∷ slice_split p (take (length xs - (i + 1)) (drop (i + 1) xs))
@@ -138,6 +139,23 @@ module _ (xs : List ℕ) where
           rw (is, none) nothing
       | inr digits ↦ rw (is, digits) (short_whole_is end fits (λ e. both_ways (i == 0) digits (eq-eqb i 0 e)), sym end)
     ]
+
+  pub few_end : (d : ℕ) → d ≡ min 8 (position_or_len is_no_digit xs) → d < 8 → position_or_len is_no_digit xs ≡ d
+  few_end d is few = elim (cases_lt 8 (position_or_len is_no_digit xs)) [
+    | inl many ↦ let most : min 8 (position_or_len is_no_digit xs) ≡ 8 = min-eq_left (omega arith) in absurd (omega (arith, is, most, few))
+    | inr le ↦ sym (is ∙ min-eq_right le)
+  ]
+
+  -- So many digits stand in front, and they are this number.
+  pub few_so_far : (d n : ℕ) → position_or_len is_no_digit xs ≡ d → n ≡ value_of (take d xs) → n < 2 ^ 32 → number_on n (drop d (front_digits xs)) ≡ number_on 0 (front_digits xs)
+  unfolding word
+  few_so_far d n end is fits =
+      let value : value_of (front_digits xs) ≡ n = sym (is ∙ ap (λ (k : ℕ). value_of (take k xs)) (sym end)) in
+      let whole_is : number_on 0 (front_digits xs) ≡ cond (true && nat_lt n (2 ^ 64)) (Some n) None =
+      number_on-is 0 (front_digits xs) ∙ ap (λ (v : ℕ). cond (list_all is_ascii_digit (front_digits xs) && nat_lt v (2 ^ 64)) (Some v) None) value
+          ∙ ap (λ (t : Bool). cond (t && nat_lt n (2 ^ 64)) (Some n) None) (digits_all xs) in
+      number_all (front_digits xs) d n (omega (arith, word_length, end)) (omega arith)
+      ∙ sym (whole_is ∙ ap (λ (t : Bool). cond t (Some n) None) (lt-ltb n (2 ^ 64) (omega arith)))
 
 -- where the digits in front end
 module _ (xs : List ℕ) (end : ℕ) (at : position_or_len is_no_digit xs ≡ end) where

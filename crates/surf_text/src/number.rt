@@ -1,8 +1,9 @@
 //! Whole numbers.
-ghost use Rattle.std.specs.Prelude.{◌≡◌, ◌==◌, ◌∷◌, None, Some, IfSome, MatchOption, if◌then◌else◌};
+ghost use Rattle.std.specs.Prelude.{◌≡◌, ◌==◌, ◌≤◌, ◌∷◌, min, length, take, None, Some, IfSome, MatchOption, if◌then◌else◌};
 ghost use Rattle.std.specs.List.{slice_split, before_first, position_or_len};
-ghost use Rattle.surf_text.specs.Text.{whole, short_whole, front_digits, is_no_digit, is_space};
+ghost use Rattle.surf_text.specs.Text.{whole, short_whole, front_digits, is_no_digit, is_space, value_of};
 ghost use Rattle.surf_text.specs.Walks.{parts_of};
+ghost use Rattle.surf_text.specs.declared.number.TheConstants.{FEW};
 
 /// The whole number that a token is. None where the token is empty, has a byte that isn't a digit,
 /// or stands for more than 18,446,744,073,709,551,615. Leading zeros are allowed.
@@ -34,10 +35,31 @@ fn counted(number: u32, digits: usize) -> Option<(u32, usize)>
     }
 }
 
-/// The whole number of 32 bits that the digits in front are, and how many they are. None where they
-/// aren't such a number.
+// As many bytes are looked at before the digits are many: no number of fewer passes 32 bits.
+const FEW: usize = 8;
+
+// The number that the first digits are, up to eight of them, and how many they are. The bytes are
+// eight at least, so that no end is looked for.
 #[inline]
-pub fn front_number(bytes: &[u8]) -> Option<(u32, usize)>
+fn few_digits(bytes: &[u8]) -> (u32, usize)
+    requires room { FEW ≤ length bytes.now }
+    ensures digits { result.1 ≡ min FEW (position_or_len is_no_digit bytes.now) }
+    ensures number { result.0 ≡ value_of (take result.1 bytes.now) }
+{
+    let mut number: u32 = 0;
+    for i in 0..FEW {
+        let b = bytes[i];
+        if !b.is_ascii_digit() {
+            return (number, i);
+        }
+        number = number * 10 + (b - b'0') as u32;
+    }
+    (number, FEW)
+}
+
+// The same number as that of `front_number`, however many digits there are.
+#[inline(never)]
+fn long_number(bytes: &[u8]) -> Option<(u32, usize)>
     ensures number { MatchOption result (short_whole (front_digits bytes.now) ≡ None)
         (λ x. (short_whole (front_digits bytes.now) ≡ Some x.0)
         × (position_or_len is_no_digit bytes.now ≡ x.1)) }
@@ -53,6 +75,23 @@ pub fn front_number(bytes: &[u8]) -> Option<(u32, usize)>
         }
     }
     counted(number as u32, bytes.len())
+}
+
+/// The whole number of 32 bits that the digits in front are, and how many they are. None where they
+/// aren't such a number.
+#[inline]
+pub fn front_number(bytes: &[u8]) -> Option<(u32, usize)>
+    ensures number { MatchOption result (short_whole (front_digits bytes.now) ≡ None)
+        (λ x. (short_whole (front_digits bytes.now) ≡ Some x.0)
+        × (position_or_len is_no_digit bytes.now ≡ x.1)) }
+{
+    if bytes.len() >= FEW {
+        let (number, digits) = few_digits(bytes);
+        if digits < FEW {
+            return counted(number, digits);
+        }
+    }
+    long_number(bytes)
 }
 
 /// The whole number of 32 bits before the first space, and what stands behind that space, if there

@@ -124,6 +124,11 @@ impl Page {
             IsErrOf result PageFault.Full }
         ensures unchanged { OnErr result (self.new ≡ self.old) }
     {
+        if n <= u64::MAX as u128 {
+            let mut slip = Slip::new();
+            slip.put_whole(n as u64);
+            return self.push_bytes(slip.bytes());
+        }
         let mut buffer = Buffer::new();
         self.push_bytes(buffer.format(n).as_bytes())
     }

@@ -17,8 +17,9 @@ pub struct FirstLine<'a> {
     pub bytes: &'a [u8],
 }
 
-/// The first line of a text.
-pub fn first_line(text: &[u8]) -> FirstLine<'_>
+// The first line of a text, however long it is.
+#[inline(never)]
+fn long_line(text: &[u8]) -> FirstLine<'_>
     ensures len { result.len ≡ position_or_len is_line_end text.now }
     ensures bytes { result.bytes.now ≡ trimmed (uncommented (before_first is_line_end text.now)) }
     ensures place { StandsAt text.now result.bytes.now result.start }
@@ -29,6 +30,25 @@ pub fn first_line(text: &[u8]) -> FirstLine<'_>
         len,
         start: line.len() - front.len(),
         bytes: trim_back(front),
+    }
+}
+
+/// The first line of a text.
+///
+/// Nothing is looked for where it ends at once, as a face line does behind its corners.
+#[inline]
+pub fn first_line(text: &[u8]) -> FirstLine<'_>
+    ensures len { result.len ≡ position_or_len is_line_end text.now }
+    ensures bytes { result.bytes.now ≡ trimmed (uncommented (before_first is_line_end text.now)) }
+    ensures place { StandsAt text.now result.bytes.now result.start }
+{
+    match text {
+        [b'\n', ..] => FirstLine {
+            len: 0,
+            start: 0,
+            bytes: &text[..0],
+        },
+        _ => long_line(text),
     }
 }
 

@@ -94,8 +94,20 @@ pub fn has_tokens(line: &[u8], least: u64) -> bool
     let mut missing = least;
     let mut inside = false;
     for b in line {
-        if inside && *b > b'#' {
-            // (most bytes are so: neither a blank nor a comment sign, and not the first of a token)
+        // (most bytes are so: greater than all blanks and the comment sign, or a space)
+        if *b > b'#' {
+            if inside {
+                continue;
+            }
+            if missing <= 1 {
+                return true;
+            }
+            missing -= 1;
+            inside = true;
+            continue;
+        }
+        if *b == b' ' {
+            inside = false;
             continue;
         }
         if missing == 0 {

@@ -2,7 +2,7 @@ use Rattle.std.proofs.Common.{◌≡◌, ◌<◌, ◌≤◌, ◌^◌, drop}
 use Rattle.std.specs.List.{position_or_len}
 use Rattle.surf_text.specs.Text.{is_no_digit, front_digits}
 use Rattle.surf_text.proofs.Digits.{number_on}
-use Rattle.surf_text.proofs.number.front_number.Given as goal
+use Rattle.surf_text.proofs.number.long_number.Given as goal
 
 abbrev pub invariant-loop-i : goal.invariant-loop-i
 invariant-loop-i l = record {

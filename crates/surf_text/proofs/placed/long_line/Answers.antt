@@ -2,7 +2,7 @@ use Rattle.std.proofs.Common.{◌∙◌, ap, length, arith}
 use Rattle.surf_text.specs.Text.{trimmed_front, trimmed_back}
 use Rattle.surf_text.proofs.Words.{front_le}
 use Rattle.surf_text.proofs.Spans.{line_stands}
-use Rattle.surf_text.proofs.placed.first_line.Goals as goal
+use Rattle.surf_text.proofs.placed.long_line.Goals as goal
 
 pub returns : goal.returns
 returns c =
