@@ -1,5 +1,5 @@
 //! The classes of the ways from the base of a search, by number.
-ghost use Rattle.std.specs.Prelude.{◌≡◌, ◌≢◌, ◌<◌, ◌≤◌, ◌==◌, ℕ, false, IsTrue, bit_xor, length, slice_index, IfOk, OnOk};
+ghost use Rattle.std.specs.Prelude.{◌≡◌, ◌≢◌, ◌<◌, ◌≤◌, ◌==◌, ℕ, IsTrue, bit_xor, length, slice_index, IfOk, OnOk};
 ghost use Rattle.surf_surfaces.specs.Surface.{edge_count};
 ghost use Rattle.surf_basis.specs.Ways.{class_at, AreWays, HasNone, HasParent, IsNumbered, IsReached};
 
@@ -29,17 +29,8 @@ impl Model for Ways {
     ghost view = { λ w. record { numbers = w.numbers.items; classes = w.classes.items } };
 }
 
-// Whether two sets are the same.
-fn is_same(first: &Signature, second: &Signature) -> bool
-    ensures same { IsTrue result → first.now ≡ second.now }
-    ensures other { result ≡ false → first.now ≢ second.now }
-{
-    let mut sum = copy_signature(first);
-    sum.add(second.bits());
-    sum.bits().is_empty()
-}
-
-// The number of a class, which is listed if it wasn't.
+// The number of a class, which is listed if it wasn't. Those listed last are looked at first: the
+// ways to vertices that are settled one after the other often have one class.
 fn number_of(classes: &mut Vec<Signature>, class: Signature) -> Result<usize, NoMemory>
     ensures number { IfOk result (λ k. (k < length classes.new.items)
         × (slice_index classes.new.items k ≡ class)) }
@@ -47,8 +38,8 @@ fn number_of(classes: &mut Vec<Signature>, class: Signature) -> Result<usize, No
     ensures same { (k : ℕ) → k < length classes.old.items → slice_index classes.new.items k
         ≡ slice_index classes.old.items k }
 {
-    for k in 0..classes.len() {
-        if is_same(&classes[k], &class) {
+    for k in (0..classes.len()).rev() {
+        if classes[k].bits().is_same(&class.bits()) {
             return Ok(k);
         }
     }

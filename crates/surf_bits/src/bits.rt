@@ -5,7 +5,7 @@ ghost use Rattle.surf_z2.specs.Sieve.{has};
 ghost use Rattle.surf_z2.specs.Words.{number};
 ghost use Rattle.surf_base.specs.declared.limits.TheConstants.{MAX_LOOPS};
 
-use crate::words::{add_words, first_bit, has_bit};
+use crate::words::{add_words, are_same, first_bit, has_bit};
 use std::marker::Model;
 
 /// A set of numbers below 1,024, lent as at most sixteen words: number `64 j + i` is in it exactly
@@ -48,6 +48,13 @@ impl<'a> Bits<'a> {
         ensures empty { result ≡ (self.now == 0) }
     {
         first_bit(self.words).is_none()
+    }
+
+    /// Whether it is the same set as another.
+    pub fn is_same(&self, other: &Bits<'_>) -> bool
+        ensures same { result ≡ (self.now == other.now) }
+    {
+        are_same(self.words, other.words)
     }
 
     /// Adds it to a set that is kept as words, of which there are enough for its numbers.

@@ -1,6 +1,6 @@
 //! Sets of numbers in words of 64 bits, the word of the least numbers first.
 
-ghost use Rattle.std.specs.Prelude.{ℕ, ◌≡◌, ◌<◌, ◌≤◌, ◌*◌, ◌^◌, IsTrue, MatchOption, bit_xor, length, slice_index};
+ghost use Rattle.std.specs.Prelude.{ℕ, ◌≡◌, ◌<◌, ◌≤◌, ◌*◌, ◌^◌, ◌==◌, IsTrue, MatchOption, bit_xor, length, slice_index};
 ghost use Rattle.surf_base.specs.declared.limits.TheConstants.{MAX_LOOPS};
 ghost use Rattle.surf_z2.specs.Sieve.{has};
 ghost use Rattle.surf_z2.specs.Words.{number};
@@ -51,4 +51,23 @@ pub(crate) fn first_bit(words: &[u64]) -> Option<usize>
         }
     }
     None
+}
+
+// The word at a place, and zero where there is none.
+fn word_at(words: &[u64], i: usize) -> u64
+    ensures { result ≡ slice_index words.now i }
+{
+    if i < words.len() { words[i] } else { 0 }
+}
+
+/// Whether two lists of words have the same bits.
+pub(crate) fn are_same(first: &[u64], second: &[u64]) -> bool
+    ensures same { result ≡ (number first.now == number second.now) }
+{
+    for i in 0..first.len().max(second.len()) {
+        if word_at(first, i) != word_at(second, i) {
+            return false;
+        }
+    }
+    true
 }

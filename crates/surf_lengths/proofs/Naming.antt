@@ -1,5 +1,5 @@
 -- Lines that name edges, one after the other.
-use Rattle.std.proofs.Common.{◌≡◌, ◌≢◌, ℕ, zero, suc, ◌<◌, ◌≤◌, eqb, Bool, true, List, [], ◌∷◌, length, get_or, set, replicate, Option, Some, None, Result, Ok, Err, unwrap_or, refl, sym, ap, ◌∙◌, subst, arith, inl, inr, MatchOption, ◌&&◌}
+use Rattle.std.proofs.Common.{◌≡◌, ◌≢◌, ℕ, zero, suc, ◌<◌, ◌≤◌, eqb, Bool, true, List, [], ◌∷◌, length, get_or, set, replicate, Option, Some, None, Result, Ok, Err, unwrap_or, refl, sym, ap, ◌∙◌, subst, arith, inl, inr, ◌&&◌}
 use Rattle.std.specs.List.{fold, position_or_len}
 use Rattle.surf_text.proofs.Cuts.{none_is}
 use Rattle.std.specs.Prelude.{nat_le, All, IfSome}
@@ -9,14 +9,13 @@ use Rattle.std.proofs.Math.ListN.{length-set, length-replicate}
 use Rattle.std.proofs.Common.{get_or-set_same, get_or-set_other}
 use Rattle.std.proofs.lemmas.List.{get_or-replicate, get_or_default}
 use Rattle.surf_text.specs.Text.{TextLine, tokens_of}
-use Rattle.surf_text.specs.Walks.{text_line}
-use Rattle.surf_text.specs.declared.lines.Line.{Line}
 use Rattle.surf_surfaces.specs.Mesh.{Mesh}
 use Rattle.surf_surfaces.specs.Surface.{edge_count}
 use Rattle.surf_lengths.specs.Lengths.{longest}
 use Rattle.surf_lengths.specs.Lines.{as_length, entry_of, of_numbers, of_length, on_edge, edge_named, three_numbers}
 use Rattle.surf_lengths.specs.Files.{Named, none_named, name_edge, name_line, missing_edge}
-use Rattle.surf_lengths.specs.Walks.{with_next}
+use Rattle.surf_lengths.specs.Walks.{IsEntry, IsFaulty}
+use Rattle.surf_lengths.specs.declared.line.Entry.{Entry}
 use Rattle.surf_lengths.specs.declared.fault.LengthFault.{LengthFault}
 
 -- behind a faulty line nothing is read
@@ -35,10 +34,27 @@ pub good_line : (mesh : Mesh) (named next : Named) (line : TextLine) (rest : Lis
 unfolding name_line
 good_line mesh named next line rest good = ap (λ (s : Result Named LengthFault). fold (name_line mesh) s rest) good
 
--- what is to come, after a line has been taken or none was left
-pub next_is : (old new : List TextLine) (next : Option Line) → MatchOption next ((old ≡ []) × (new ≡ [])) (λ line. old ≡ text_line line ∷ new) → with_next next new ≡ old
-next_is old new None h = sym h.0
-next_is old new (Some line) h = sym h
+-- the first line to come, as it is read
+pub entry_bad : (mesh : Mesh) (named : Named) (fault : LengthFault) (old : List TextLine) → IsFaulty mesh old fault →
+    fold (name_line mesh) (Ok named) old ≡ Err fault
+entry_bad mesh named fault old is =
+    ap (fold (name_line mesh) (Ok named)) is.first
+    ∙ bad_line mesh named fault is.line is.rest (ap (name_edge named is.line.number) is.said)
+
+module _ (mesh : Mesh) (named : Named) (old new : List TextLine) (entry : Entry) (is : IsEntry mesh old new entry) where
+  named_by : name_edge named is.line.number (entry_of mesh is.line) ≡ name_edge named entry.line (Ok (entry.edge, entry.length))
+  named_by = ap (name_edge named is.line.number) is.said ∙ ap (λ (n : ℕ). name_edge named n (Ok (entry.edge, entry.length))) is.number
+
+  pub entry_twice : (fault : LengthFault) → name_edge named entry.line (Ok (entry.edge, entry.length)) ≡ Err fault →
+      fold (name_line mesh) (Ok named) old ≡ Err fault
+  entry_twice fault bad = ap (fold (name_line mesh) (Ok named)) is.first ∙ bad_line mesh named fault is.line new (named_by ∙ bad)
+
+  pub entry_named : (next : Named) → name_edge named entry.line (Ok (entry.edge, entry.length)) ≡ Ok next →
+      fold (name_line mesh) (Ok named) old ≡ fold (name_line mesh) (Ok next) new
+  entry_named next good = ap (fold (name_line mesh) (Ok named)) is.first ∙ good_line mesh named next is.line new (named_by ∙ good)
+
+  pub entry_fewer : length new < length old
+  entry_fewer = omega (arith, ap (λ (xs : List TextLine). length xs) is.first)
 
 second : Result (ℕ × ℕ) LengthFault → ℕ
 second (Ok x) = x.1

@@ -1,4 +1,5 @@
 pub mod Lengths
 pub mod Lines
+pub mod Plain
 pub mod Files
 pub mod Walks

@@ -1,121 +1,155 @@
 //! Reads a length file.
-ghost use Rattle.std.specs.Prelude.{◌≡◌, ◌≢◌, ◌<◌, ◌≤◌, ◌==◌, ℕ, List, Result, Ok, Err, length, IfOk, IfSome};
+ghost use Rattle.std.specs.Prelude.{◌≡◌, ◌≢◌, ◌<◌, ◌≤◌, ◌==◌, ℕ, List, Result, Ok, Err, drop, length, IfOk, IfSome};
 ghost use Rattle.std.specs.Prelude.{MatchResult};
 ghost use Rattle.std.specs.List.{fold, position};
-ghost use Rattle.surf_text.specs.Walks.{text_line};
+ghost use Rattle.surf_text.specs.Text.{lines_of};
+ghost use Rattle.surf_text.specs.Walks.{lines_ahead};
 ghost use Rattle.surf_surfaces.specs.Surface.{edge_count};
-ghost use Rattle.surf_lengths.specs.Lines.{entry_of};
 ghost use Rattle.surf_lengths.specs.Files.{Head, Named, behind_version, length_head, name_edge, name_line};
 ghost use Rattle.surf_lengths.specs.Files.{missing_edge, lengths_in, Gives};
-ghost use Rattle.surf_lengths.specs.Walks.{with_next};
+ghost use Rattle.surf_lengths.specs.Walks.{GivesEntry};
 
-use crate::line::{begins_with, is_version, read_default, read_entry};
+use crate::line::{Entry, begins_with, entry_with, is_version, read_default, read_entry};
+use crate::plain::plain_line;
 use crate::{LengthFault, Lengths};
 use std::alloc::Global;
 use surf_base::EdgeId;
 use surf_mesh::HalfMesh;
-use surf_text::{Line, Lines};
+use surf_text::PlacedLines;
 
-// Behind the first line of version 2: the default, if there is one, and the first line that names
-// an edge.
-fn read_behind_version<'a>(
-    lines: &mut Lines<'a>,
-) -> Result<(Option<u32>, Option<Line<'a>>), LengthFault>
-    ensures head { MatchResult result (λ x. behind_version lines.old ≡ Ok (record {
-      default = x.0;
-      entries = with_next x.1 lines.new;
-    })) (λ e. behind_version lines.old ≡ Err e) }
+// A walk over the lines behind the first one.
+fn behind_first(text: &[u8]) -> PlacedLines<'_>
+    requires short { length text.now < 4294967295 }
+    ensures lines { lines_ahead result ≡ drop 1 (lines_of text.now) }
+{
+    let mut lines = PlacedLines::over(text);
+    lines.next_line();
+    lines
+}
+
+// Behind the first line of version 2: the default, if there is one, and a walk over the lines that
+// name edges.
+fn read_behind_version(text: &[u8]) -> Result<(Option<u32>, PlacedLines<'_>), LengthFault>
+    requires short { length text.now < 4294967295 }
+    ensures head { MatchResult result (λ x. behind_version (drop 1 (lines_of text.now))
+        ≡ Ok (record { default = x.0; entries = lines_ahead x.1 }))
+        (λ e. behind_version (drop 1 (lines_of text.now)) ≡ Err e) }
     ensures positive { IfOk result (λ x. IfSome x.0 (λ n. 1 ≤ n)) }
 {
+    let mut lines = behind_first(text);
     match lines.next_line() {
-        None => Ok((None, None)),
+        None => Ok((None, lines)),
         Some(line) => {
             if !begins_with(line.bytes, b"default") {
-                return Ok((None, Some(line)));
+                return Ok((None, behind_first(text)));
             }
             let default = read_default(line)?;
-            Ok((Some(default), lines.next_line()))
+            Ok((Some(default), lines))
         }
     }
 }
 
-// The default, if there is one, and the first line that names an edge.
-fn read_head<'a>(lines: &mut Lines<'a>) -> Result<(Option<u32>, Option<Line<'a>>), LengthFault>
-    ensures head { MatchResult result (λ x. length_head lines.old ≡ Ok (record {
-      default = x.0;
-      entries = with_next x.1 lines.new;
-    })) (λ e. length_head lines.old ≡ Err e) }
+// The default, if there is one, and a walk over the lines that name edges.
+fn read_head(text: &[u8]) -> Result<(Option<u32>, PlacedLines<'_>), LengthFault>
+    requires short { length text.now < 4294967295 }
+    ensures head { MatchResult result (λ x. length_head (lines_of text.now)
+        ≡ Ok (record { default = x.0; entries = lines_ahead x.1 }))
+        (λ e. length_head (lines_of text.now) ≡ Err e) }
     ensures positive { IfOk result (λ x. IfSome x.0 (λ n. 1 ≤ n)) }
 {
-    match lines.next_line() {
-        None => Ok((None, None)),
+    let all = PlacedLines::over(text);
+    match PlacedLines::over(text).next_line() {
+        None => Ok((None, all)),
         Some(line) => {
             if !begins_with(line.bytes, b"SURFLEN") {
-                return Ok((None, Some(line)));
+                return Ok((None, all));
             }
             if !is_version(line.bytes) {
                 return Err(LengthFault::Form { line: line.number });
             }
-            read_behind_version(lines)
+            read_behind_version(text)
         }
     }
 }
 
-// Gives the edge of a line its length, where no earlier line names it, and returns the edge.
-fn name_one(
+// What the next line says, by its tokens.
+fn next_by_tokens(
     mesh: &HalfMesh,
-    line: Line<'_>,
+    lines: &mut PlacedLines<'_>,
     expected: usize,
-    lengths: &mut [u32],
-    named: &mut [u32],
-) -> Result<EdgeId, LengthFault>
-    requires lengths { length lengths.old ≡ edge_count mesh.now }
-    requires lines { length named.old ≡ edge_count mesh.now }
-    ensures named { MatchResult result (λ _. name_edge (record {
-      lengths = lengths.old;
-      lines = named.old;
-    }) line.entry.number (entry_of mesh.now (text_line line.entry))
-        ≡ Ok (record { lengths = lengths.new; lines = named.new }))
-        (λ e. name_edge (record { lengths = lengths.old; lines = named.old }) line.entry.number
-        (entry_of mesh.now (text_line line.entry)) ≡ Err e) }
-    ensures edge { IfOk result (λ e. IfOk (entry_of mesh.now (text_line line.entry))
-        (λ x. x.0 ≡ e)) }
+) -> Result<Option<Entry>, LengthFault>
+    ensures entry { GivesEntry mesh.now (lines_ahead lines.old) (lines_ahead lines.new) result }
+    ensures inside { IfOk result (λ x. IfSome x (λ entry. entry.edge < edge_count mesh.now)) }
 {
-    let (edge, length) = read_entry(mesh, line, expected)?;
-    let e = edge.index();
+    let Some(line) = lines.next_line() else {
+        return Ok(None);
+    };
+    let entry = read_entry(mesh, line, expected)?;
+    Ok(Some(entry))
+}
+
+// The same, with plain lines in one pass.
+fn next_entry(
+    mesh: &HalfMesh,
+    lines: &mut PlacedLines<'_>,
+    expected: usize,
+) -> Result<Option<Entry>, LengthFault>
+    ensures entry { GivesEntry mesh.now (lines_ahead lines.old) (lines_ahead lines.new) result }
+    ensures inside { IfOk result (λ x. IfSome x (λ entry. entry.edge < edge_count mesh.now)) }
+{
+    let Some(plain) = plain_line(lines.rest()) else {
+        return next_by_tokens(mesh, lines, expected);
+    };
+    let line = lines.pass_line(plain.len);
+    let numbers = (u64::from(plain.u), u64::from(plain.v), u64::from(plain.n));
+    let entry = entry_with(mesh, line, numbers, expected)?;
+    Ok(Some(entry))
+}
+
+// Gives the edge of a line its length, where no earlier line names it.
+fn name_one(entry: &Entry, lengths: &mut [u32], named: &mut [u32]) -> Result<(), LengthFault>
+    requires lengths { entry.now.edge < length lengths.old }
+    requires lines { entry.now.edge < length named.old }
+    ensures named { MatchResult result
+        (λ _. name_edge (record { lengths = lengths.old; lines = named.old }) entry.now.line
+        (Ok (entry.now.edge, entry.now.length))
+        ≡ Ok (record { lengths = lengths.new; lines = named.new }))
+        (λ e. name_edge (record { lengths = lengths.old; lines = named.old }) entry.now.line
+        (Ok (entry.now.edge, entry.now.length)) ≡ Err e) }
+    ensures sized { length lengths.new ≡ length lengths.old }
+    ensures listed { length named.new ≡ length named.old }
+{
+    let e = entry.edge.index();
     if named[e] != 0 {
         return Err(LengthFault::Twice {
-            line: line.number,
+            line: entry.line,
             earlier: named[e],
         });
     }
-    lengths[e] = length;
-    named[e] = line.number;
-    Ok(edge)
+    lengths[e] = entry.length;
+    named[e] = entry.line;
+    Ok(())
 }
 
-// Gives the edges of all lines their lengths.
+// Gives the edges of all lines to come their lengths.
 fn name_all(
     mesh: &HalfMesh,
-    first: Option<Line<'_>>,
-    lines: &mut Lines<'_>,
+    lines: &mut PlacedLines<'_>,
     lengths: &mut [u32],
     named: &mut [u32],
 ) -> Result<(), LengthFault>
     requires lengths { length lengths.old ≡ edge_count mesh.now }
     requires lines { length named.old ≡ edge_count mesh.now }
     ensures named { MatchResult result (λ _. fold (name_line mesh.now)
-        (Ok (record { lengths = lengths.old; lines = named.old })) (with_next first.entry lines.old)
+        (Ok (record { lengths = lengths.old; lines = named.old })) (lines_ahead lines.old)
         ≡ Ok (record { lengths = lengths.new; lines = named.new }))
         (λ e. fold (name_line mesh.now) (Ok (record { lengths = lengths.old; lines = named.old }))
-        (with_next first.entry lines.old) ≡ Err e) }
+        (lines_ahead lines.old) ≡ Err e) }
 {
-    let mut next = first;
     let mut expected = 0;
-    while let Some(line) = next {
-        let edge = name_one(mesh, line, expected, lengths, named)?;
-        expected = edge.index() + 1;
-        next = lines.next_line();
+    while let Some(entry) = next_entry(mesh, lines, expected)? {
+        name_one(&entry, lengths, named)?;
+        expected = entry.edge.index() + 1;
     }
     Ok(())
 }
@@ -151,12 +185,11 @@ pub fn read_lengths(alloc: Global, text: &[u8], mesh: &HalfMesh) -> Result<Lengt
     ensures gives { Gives result (lengths_in mesh.now text.now) }
     ensures count { IfOk result (λ lengths. length lengths ≡ edge_count mesh.now) }
 {
-    let mut lines = Lines::over(text);
-    let (default, first) = read_head(&mut lines)?;
+    let (default, mut lines) = read_head(text)?;
     let edges = mesh.edges() as usize;
     let mut lengths = vec![in alloc; default.unwrap_or(0); edges]?;
     let mut named = vec![in alloc; 0u32; edges]?;
-    name_all(mesh, first, &mut lines, &mut lengths, &mut named)?;
+    name_all(mesh, &mut lines, &mut lengths, &mut named)?;
     if let Some(e) = missing_edge(default, &named) {
         let (u, v) = mesh.ends(EdgeId::new(e as u32));
         return Err(LengthFault::Missing { u, v });

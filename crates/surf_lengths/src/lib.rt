@@ -11,6 +11,7 @@ mod fault;
 mod file;
 mod lengths;
 mod line;
+mod plain;
 
 pub use fault::LengthFault;
 pub use file::read_lengths;

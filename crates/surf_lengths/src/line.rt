@@ -1,18 +1,18 @@
 //! What the lines of a length file say.
-ghost use Rattle.std.specs.Prelude.{◌≡◌, ◌<◌, ◌≤◌, ℕ, false, IfSome, IfOk, MatchOption};
+ghost use Rattle.std.specs.Prelude.{◌≡◌, ◌<◌, ◌≤◌, ℕ, false, Some, IfSome, IfOk, MatchOption};
 ghost use Rattle.std.specs.Str.{bytes_eq};
-ghost use Rattle.std.specs.List.{slice_split};
-ghost use Rattle.surf_text.specs.Text.{is_space, tokens_of};
+ghost use Rattle.surf_text.specs.Text.{tokens_of};
 ghost use Rattle.surf_text.specs.Walks.{text_line};
 ghost use Rattle.surf_surfaces.specs.Mesh.{pair, pair_eq, among, edges};
 ghost use Rattle.surf_surfaces.specs.Surface.{edge_count, ends};
-ghost use Rattle.surf_lengths.specs.Lines.{as_length, three_numbers, three_short, edge_named, entry_of, begins_with, is_version};
+ghost use Rattle.surf_lengths.specs.Lines.{as_length, three_numbers, edge_named, of_numbers, entry_of, begins_with, is_version};
 ghost use Rattle.surf_lengths.specs.Lines.{second_number, default_of};
+ghost use Rattle.surf_lengths.specs.Walks.{Says};
 
 use crate::LengthFault;
 use surf_base::{EdgeId, VertexId};
 use surf_mesh::HalfMesh;
-use surf_text::{Line, Tokens, read_whole, split_number};
+use surf_text::{Line, Tokens, read_whole};
 
 // A number as a length.
 fn as_length(n: u64) -> Option<u32>
@@ -26,24 +26,8 @@ fn as_length(n: u64) -> Option<u32>
     }
 }
 
-// The numbers of a plain line: three of 32 bits, a space between any two, and nothing else.
-#[inline(never)]
-fn plain_numbers(line: &[u8]) -> Option<(u64, u64, u64)>
-    ensures numbers { result ≡ three_short (slice_split is_space line.now) }
-{
-    let (u, behind) = split_number(line)?;
-    let second = behind?;
-    let (v, behind) = split_number(second)?;
-    let third = behind?;
-    let (n, behind) = split_number(third)?;
-    match behind {
-        None => Some((u64::from(u), u64::from(v), u64::from(n))),
-        Some(_) => None,
-    }
-}
-
 // The numbers of a line that has exactly three tokens, all whole.
-fn token_numbers(line: &[u8]) -> Option<(u64, u64, u64)>
+fn three_numbers(line: &[u8]) -> Option<(u64, u64, u64)>
     ensures numbers { result ≡ three_numbers (tokens_of line.now) }
 {
     let mut tokens = Tokens::over(line);
@@ -54,16 +38,6 @@ fn token_numbers(line: &[u8]) -> Option<(u64, u64, u64)>
         Some((u, v, n))
     } else {
         None
-    }
-}
-
-// The same, with plain lines in one pass.
-fn three_numbers(line: &[u8]) -> Option<(u64, u64, u64)>
-    ensures numbers { result ≡ three_numbers (tokens_of line.now) }
-{
-    match plain_numbers(line) {
-        Some(numbers) => Some(numbers),
-        None => token_numbers(line),
     }
 }
 
@@ -113,25 +87,48 @@ fn edge_named(mesh: &HalfMesh, u: u64, v: u64, expected: usize) -> Option<EdgeId
     }
 }
 
-/// The edge and the length that a line gives. The edge is tried first at `expected`.
+/// What a line says: its number, the edge that it names, and the length of that.
+#[derive(Clone, Copy)]
+pub(crate) struct Entry {
+    pub line: u32,
+    pub edge: EdgeId,
+    pub length: u32,
+}
+
+/// What a line with these numbers says. The edge is tried first at `expected`.
+pub(crate) fn entry_with(
+    mesh: &HalfMesh,
+    line: u32,
+    numbers: (u64, u64, u64),
+    expected: usize,
+) -> Result<Entry, LengthFault>
+    ensures entry { Says result (of_numbers mesh.now line (Some numbers)) }
+    ensures line { IfOk result (λ x. x.line ≡ line) }
+    ensures inside { IfOk result (λ x. x.edge < edge_count mesh.now) }
+{
+    let (u, v, n) = numbers;
+    let Some(length) = as_length(n) else {
+        return Err(LengthFault::Range { line });
+    };
+    let Some(edge) = edge_named(mesh, u, v, expected) else {
+        return Err(LengthFault::NotEdge { line });
+    };
+    Ok(Entry { line, edge, length })
+}
+
+/// What a line says. The edge is tried first at `expected`.
 pub(crate) fn read_entry(
     mesh: &HalfMesh,
     line: Line<'_>,
     expected: usize,
-) -> Result<(EdgeId, u32), LengthFault>
-    ensures entry { result ≡ entry_of mesh.now (text_line line.entry) }
-    ensures inside { IfOk result (λ x. x.0 < edge_count mesh.now) }
+) -> Result<Entry, LengthFault>
+    ensures entry { Says result (entry_of mesh.now (text_line line.entry)) }
+    ensures line { IfOk result (λ x. x.line ≡ line.entry.number) }
+    ensures inside { IfOk result (λ x. x.edge < edge_count mesh.now) }
 {
-    let number = line.number;
     match three_numbers(line.bytes) {
-        None => Err(LengthFault::Form { line: number }),
-        Some((u, v, n)) => match as_length(n) {
-            None => Err(LengthFault::Range { line: number }),
-            Some(length) => match edge_named(mesh, u, v, expected) {
-                None => Err(LengthFault::NotEdge { line: number }),
-                Some(e) => Ok((e, length)),
-            },
-        },
+        None => Err(LengthFault::Form { line: line.number }),
+        Some(numbers) => entry_with(mesh, line.number, numbers, expected),
     }
 }
 

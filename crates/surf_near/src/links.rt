@@ -1,5 +1,5 @@
 //! The links of each vertex, side by side.
-ghost use Rattle.std.specs.Prelude.{◌≡◌, ◌<◌, ◌≤◌, ◌+◌, length, IfOk};
+ghost use Rattle.std.specs.Prelude.{◌≡◌, ◌<◌, ◌≤◌, ◌+◌, length, IfOk, OnOk};
 ghost use Rattle.surf_surfaces.specs.Mesh.{IsMesh};
 ghost use Rattle.surf_surfaces.specs.Surface.{edge_count};
 ghost use Rattle.surf_lengths.specs.Lengths.{AreLengths};
@@ -56,21 +56,21 @@ fn greatest_length(lengths: &Lengths) -> u32
     greatest
 }
 
-// The links of one vertex.
-fn links_of(
-    alloc: Global,
+// Lists the links of one vertex.
+fn list_links(
     mesh: &HalfMesh,
     lengths: &Lengths,
     v: VertexId,
-) -> Result<Vec<Link>, NoMemory>
+    row: &mut Vec<Link>,
+) -> Result<(), NoMemory>
     requires mesh { IsMesh mesh.now }
     requires vertex { v < mesh.now.vertices }
     requires lengths { length lengths.now ≡ edge_count mesh.now }
-    ensures links { IfOk result (λ row. AreLinksAt mesh.now lengths.now v row.items) }
-    ensures few { IfOk result (λ row. length row.items ≡ degree mesh.now v) }
+    ensures links { OnOk result (AreLinksAt mesh.now lengths.now v row.new.items) }
+    ensures few { OnOk result (length row.new.items ≡ degree mesh.now v) }
 {
     let edges = mesh.ring_edges(v);
-    let mut row = Vec::with_capacity(alloc, edges.len())?;
+    row.clear();
     for e in edges {
         row.push(Link {
             to: mesh.other_end(v, *e),
@@ -78,7 +78,7 @@ fn links_of(
             edge: *e,
         })?;
     }
-    Ok(row)
+    Ok(())
 }
 
 impl<'m> Links<'m> {
@@ -94,8 +94,9 @@ impl<'m> Links<'m> {
     {
         let links = 2 * mesh.edges() as usize;
         let mut rows = Rows::with_room(alloc, mesh.vertices() as usize, links)?;
+        let mut row = Vec::new(alloc);
         for v in 0..mesh.vertices() {
-            let row = links_of(alloc, mesh, lengths, VertexId::new(v))?;
+            list_links(mesh, lengths, VertexId::new(v), &mut row)?;
             rows.push(&row)?;
         }
         let even = even_length(lengths);

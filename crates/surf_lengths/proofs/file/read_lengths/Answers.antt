@@ -3,7 +3,7 @@ use Rattle.std.proofs.lemmas.Grind.{common_steps}
 use Rattle.std.proofs.lemmas.List.{with_items_is}
 use Rattle.std.specs.Vec.{with_items}
 use Rattle.surf_surfaces.specs.Surface.{edge_count}
-use Rattle.surf_lengths.specs.Walks.{with_next}
+use Rattle.surf_text.specs.Walks.{lines_ahead}
 use Rattle.surf_lengths.proofs.Naming.{all_positive}
 use Rattle.surf_lengths.proofs.file.read_lengths.Goals as goal
 
@@ -18,5 +18,5 @@ from_values-requires-clause-positive c =
     let start : c.deref_mut.result.now ≡ replicate (edge_count mesh) (unwrap_or c.in_ok-default.default 0) = grind (arith, common_steps) in
     let none : c.deref_mut-2.result.now ≡ replicate (edge_count mesh) 0 = grind (arith, common_steps) in
     subst (λ (xs : List ℕ). All (λ n. n ≢ 0) xs) (sym kept)
-    (all_positive mesh c.in_ok-default.default (with_next c.in_ok-default.first c.read_head.new.lines) c.deref_mut.result.now c.deref_mut-2.result.now c.deref.result.now (record { lengths = new; lines = c.name_all.new.named })
+    (all_positive mesh c.in_ok-default.default (lines_ahead c.in_ok-default.lines) c.deref_mut.result.now c.deref_mut-2.result.now c.deref.result.now (record { lengths = new; lines = c.name_all.new.named })
     c.in_ok-default.ensures.positive start none c.in_ok-name_all.ensures.named (c.deref.ensures.value ∙ named_kept) (sym c.in_default.ensures.edge))

@@ -16,18 +16,18 @@ push-requires c =
     let few = cells_few mesh surface c.vertices-v-end.ensures.few in
     let all = rows_before mesh c.loop-v.v mesh.vertices (omega (arith, c.loop-v-test.true, c.vertices-v-end.ensures.count)) in
     let total = c.loop-v.invariant.total in
-    let row : length c.deref.result.now ≡ degree mesh c.loop-v.v = ap length c.deref.ensures.value ∙ c.in_ok-row.ensures.few ∙ ap (degree mesh) c.new.ensures in
+    let row : length c.deref.result.now ≡ degree mesh c.loop-v.v = ap length c.deref.ensures.value ∙ c.in_ok-list_links.ensures.few ∙ ap (degree mesh) c.new.ensures in
     omega (arith, all, total, row, few.1)
 
 pub loop-v-preserved : goal.loop-v-preserved
 loop-v-preserved c =
     let mesh = c.args.mesh.now in
     let inv = c.loop-v.invariant in
-    let row = c.in_ok-row.row.items in
+    let row = c.list_links.new.row.items in
     let pushed : c.push.new.self ≡ c.loop-v.rows ++ row ∷ [] = c.in_ok-push.ensures.ok ∙ ap (λ (xs : List Link). c.loop-v.rows ++ xs ∷ []) c.deref.ensures.value in
-    let size : length row ≡ degree mesh c.loop-v.v = c.in_ok-row.ensures.few ∙ ap (degree mesh) c.new.ensures in
+    let size : length row ≡ degree mesh c.loop-v.v = c.in_ok-list_links.ensures.few ∙ ap (degree mesh) c.new.ensures in
     let more = sum_by_push {X = List Link} length c.loop-v.rows row in
-    let here : AreLinksAt mesh c.args.lengths.now c.loop-v.v row = subst (λ v. AreLinksAt mesh c.args.lengths.now v row) c.new.ensures c.in_ok-row.ensures.links in
+    let here : AreLinksAt mesh c.args.lengths.now c.loop-v.v row = subst (λ v. AreLinksAt mesh c.args.lengths.now v row) c.new.ensures c.in_ok-list_links.ensures.links in
     record {
       count = omega (arith, ap length pushed, length-append c.loop-v.rows (row ∷ []), inv.count);
       total = omega (arith, ap (sum_by length) pushed, more, size, inv.total, rows_next mesh c.loop-v.v);
