@@ -1,5 +1,5 @@
 //! Limits on counts.
-ghost use Rattle.std.specs.Prelude.{◌≤◌, IfOk};
+ghost use Rattle.std.specs.Prelude.{◌≡◌, ◌≤◌, IfOk, IfErr};
 ghost use Rattle.surf_base.specs.declared.limits.LimitKind.TheVariants.{Loops};
 ghost use Rattle.surf_base.specs.declared.limits.TheConstants.{MAX_LOOPS};
 ghost use Rattle.surf_surfaces.specs.Surface.{loop_count};
@@ -15,6 +15,7 @@ use surf_texts::Refused;
 pub(crate) fn at_most(kind: LimitKind, most: u128, count: u128) -> Result<(), Refused>
     ensures tells { Takes (λ _. tt) (AtMost kind most count) result }
     ensures few { IfOk result (λ _. count ≤ most) }
+    ensures limit { IfErr result (λ e. e ≡ Refused.Limit kind) }
 {
     if count > most {
         return Err(Refused::Limit(kind));
@@ -26,6 +27,7 @@ pub(crate) fn at_most(kind: LimitKind, most: u128, count: u128) -> Result<(), Re
 pub(crate) fn test_loops(mesh: &HalfMesh) -> Result<(), Refused>
     ensures tells { Takes (λ _. tt) (AtMost Loops MAX_LOOPS (loop_count mesh.now)) result }
     ensures few { IfOk result (λ _. loop_count mesh.now ≤ MAX_LOOPS) }
+    ensures limit { IfErr result (λ e. e ≡ Refused.Limit Loops) }
 {
     at_most(
         LimitKind::Loops,

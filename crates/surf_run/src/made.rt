@@ -1,5 +1,5 @@
 //! Meshes that are made from numbers.
-ghost use Rattle.std.specs.Prelude.{◌≡◌, ◌<◌, ◌≤◌, IfOk};
+ghost use Rattle.std.specs.Prelude.{◌≡◌, ◌<◌, ◌≤◌, IfOk, IfErr};
 ghost use Rattle.surf_base.specs.declared.limits.LimitKind.TheVariants.{Vertices, Faces, Loops, BasisVertices};
 ghost use Rattle.surf_base.specs.declared.limits.TheConstants.{MAX_BASIS_VERTICES, MAX_FACES, MAX_LOOPS, MAX_VERTICES};
 ghost use Rattle.surf_surfaces.specs.Surface.{face_count, IsSurface, loop_count};
@@ -21,6 +21,7 @@ use surf_words::Shape;
 pub(crate) fn test_vertices(shape: Shape) -> Result<(), Refused>
     ensures tells { Takes (λ _. tt) (AtMost Vertices MAX_VERTICES (mesh_of shape).vertices) result }
     ensures few { IfOk result (λ _. (mesh_of shape).vertices ≤ MAX_VERTICES) }
+    ensures limit { IfErr result (λ e. e ≡ Refused.Limit Vertices) }
 {
     at_most(
         LimitKind::Vertices,
@@ -33,6 +34,7 @@ pub(crate) fn test_vertices(shape: Shape) -> Result<(), Refused>
 pub(crate) fn test_faces(shape: Shape) -> Result<(), Refused>
     ensures tells { Takes (λ _. tt) (AtMost Faces MAX_FACES (face_count (mesh_of shape))) result }
     ensures few { IfOk result (λ _. face_count (mesh_of shape) ≤ MAX_FACES) }
+    ensures limit { IfErr result (λ e. e ≡ Refused.Limit Faces) }
 {
     at_most(LimitKind::Faces, u128::from(MAX_FACES), shape.faces())
 }
@@ -42,6 +44,7 @@ pub(crate) fn test_shape_loops(shape: Shape) -> Result<(), Refused>
     ensures tells { Takes (λ _. tt) (AtMost Loops MAX_LOOPS (loop_count (mesh_of shape))) result }
     ensures few { IfOk result (λ _. loop_count (mesh_of shape) ≤ MAX_LOOPS) }
     ensures some { IfOk result (λ _. 0 < loop_count (mesh_of shape)) }
+    ensures limit { IfErr result (λ e. e ≡ Refused.Limit Loops) }
 {
     at_most(
         LimitKind::Loops,
@@ -52,8 +55,9 @@ pub(crate) fn test_shape_loops(shape: Shape) -> Result<(), Refused>
 
 /// Whether it has few vertices for a search.
 pub(crate) fn test_search(shape: Shape) -> Result<(), Refused>
-    ensures { Takes (λ _. tt) (AtMost BasisVertices MAX_BASIS_VERTICES
+    ensures tells { Takes (λ _. tt) (AtMost BasisVertices MAX_BASIS_VERTICES
         (mesh_of shape).vertices) result }
+    ensures limit { IfErr result (λ e. e ≡ Refused.Limit BasisVertices) }
 {
     at_most(
         LimitKind::BasisVertices,

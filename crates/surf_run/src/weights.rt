@@ -1,5 +1,5 @@
 //! Lengths and a base for a surface.
-ghost use Rattle.std.specs.Prelude.{◌≡◌, ◌<◌, ◌≤◌, length, IfOk};
+ghost use Rattle.std.specs.Prelude.{◌≡◌, ◌<◌, ◌≤◌, length, IfOk, IfErr};
 ghost use Rattle.surf_surfaces.specs.Surface.{edge_count};
 ghost use Rattle.surf_answers.specs.Tells.{Takes, TakesOver};
 ghost use Rattle.surf_run.specs.Reading.{IsMeasured, HasBase, HasLengths, WeighsText};
@@ -64,6 +64,7 @@ fn weights_of(alloc: Global, mesh: &HalfMesh, bytes: &[u8]) -> Result<Lengths, R
 pub(crate) fn base_of(mesh: &HalfMesh, base: u32) -> Result<VertexId, Refused>
     ensures tells { Takes (λ vertex. vertex) (HasBase base mesh.now) result }
     ensures vertex { IfOk result (λ vertex. vertex < mesh.now.vertices) }
+    ensures no_vertex { IfErr result (λ e. e ≡ Refused.Base base mesh.now.vertices) }
 {
     let vertices = mesh.vertices();
     if base < vertices {

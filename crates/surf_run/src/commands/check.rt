@@ -1,5 +1,5 @@
 //! The command `check`.
-ghost use Rattle.std.specs.Prelude.{◌≡◌, ◌≤◌, ℕ, List, length, Some};
+ghost use Rattle.std.specs.Prelude.{◌≡◌, ◌≤◌, ℕ, List, length, Some, IfErr};
 ghost use Rattle.surf_surfaces.specs.Surface.{edge_count, loop_count};
 ghost use Rattle.surf_off.specs.Off.{OffParts};
 ghost use Rattle.surf_words.specs.Words.{checks};
@@ -90,8 +90,9 @@ fn cert_of(alloc: Global, bytes: &[u8]) -> Result<Cert, Refused>
 
 // Whether a certificate has few trees. One of a basis has a tree at each vertex.
 fn test_trees(mesh: &HalfMesh, cert: &Cert) -> Result<(), Refused>
-    ensures { Takes (λ _. tt) (AtMost CertificateVertices MAX_CERTIFICATE_VERTICES
+    ensures tells { Takes (λ _. tt) (AtMost CertificateVertices MAX_CERTIFICATE_VERTICES
         (tree_count mesh.now cert.now)) result }
+    ensures limit { IfErr result (λ e. e ≡ Refused.Limit CertificateVertices) }
 {
     let trees = match cert {
         Cert::Loops(_) => 1,

@@ -1,6 +1,6 @@
 //! The commands on the cycles of a surface with lengths: `basis`, `cycle`, and `certify` without a
 //! base.
-ghost use Rattle.std.specs.Prelude.{◌≡◌, ◌+◌, ◌≤◌, ℕ, List, length, Some};
+ghost use Rattle.std.specs.Prelude.{◌≡◌, ◌+◌, ◌≤◌, ℕ, List, length, Some, IfErr};
 ghost use Rattle.surf_surfaces.specs.Surface.{edge_count, face_count};
 ghost use Rattle.surf_words.specs.TaskLimits.{vertex_limit};
 ghost use Rattle.surf_words.specs.Words.{cycles};
@@ -79,8 +79,9 @@ fn find(
 
 // Whether a surface has few vertices for a task.
 fn test_vertices(task: CycleTask, mesh: &HalfMesh) -> Result<(), Refused>
-    ensures { Takes (λ _. tt) (AtMost (vertex_limit task).0 (vertex_limit task).1
+    ensures tells { Takes (λ _. tt) (AtMost (vertex_limit task).0 (vertex_limit task).1
         mesh.now.vertices) result }
+    ensures limit { IfErr result (λ e. e ≡ Refused.Limit (vertex_limit task).0) }
 {
     let (kind, most) = task.vertex_limit();
     at_most(kind, u128::from(most), u128::from(mesh.vertices()))

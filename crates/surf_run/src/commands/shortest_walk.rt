@@ -1,5 +1,5 @@
 //! The command `shortest`.
-ghost use Rattle.std.specs.Prelude.{◌≡◌, ◌≤◌, ◌*◌, ◌^◌, ℕ, List, IfOk, Some};
+ghost use Rattle.std.specs.Prelude.{◌≡◌, ◌≤◌, ◌*◌, ◌^◌, ℕ, List, IfOk, IfErr, Some};
 ghost use Rattle.surf_surfaces.specs.Surface.{loop_count};
 ghost use Rattle.surf_off.specs.Off.{OffParts};
 ghost use Rattle.surf_words.specs.Words.{tightens};
@@ -64,6 +64,7 @@ fn test_cover_loops(mesh: &HalfMesh) -> Result<(), Refused>
     ensures tells { Takes (λ _. tt) (AtMost CoverLoops MAX_COVER_LOOPS (loop_count mesh.now))
         result }
     ensures few { IfOk result (λ _. loop_count mesh.now ≤ MAX_COVER_LOOPS) }
+    ensures limit { IfErr result (λ e. e ≡ Refused.Limit CoverLoops) }
 {
     at_most(
         LimitKind::CoverLoops,
@@ -78,6 +79,7 @@ fn test_cover_nodes(mesh: &HalfMesh) -> Result<(), Refused>
     ensures tells { Takes (λ _. tt) (AtMost CoverNodes MAX_COVER_NODES
         (mesh.now.vertices * 2 ^ loop_count mesh.now)) result }
     ensures few { IfOk result (λ _. mesh.now.vertices * 2 ^ loop_count mesh.now ≤ MAX_COVER_NODES) }
+    ensures limit { IfErr result (λ e. e ≡ Refused.Limit CoverNodes) }
 {
     let nodes = u64::from(mesh.vertices()) << loop_count(mesh);
     at_most(

@@ -1,5 +1,5 @@
 //! The commands on a surface with lengths and a base: `dist`, `loops`, and `certify` at a base.
-ghost use Rattle.std.specs.Prelude.{◌≡◌, ◌<◌, ◌≤◌, ℕ, List, length, Some};
+ghost use Rattle.std.specs.Prelude.{◌≡◌, ◌<◌, ◌≤◌, ℕ, List, length, Some, IfErr};
 ghost use Rattle.surf_surfaces.specs.Surface.{edge_count};
 ghost use Rattle.surf_off.specs.Off.{OffParts};
 ghost use Rattle.surf_words.specs.Words.{weighted};
@@ -109,7 +109,8 @@ fn found_by(
 
 // Whether a surface has few loops for a task.
 fn test_task_loops(task: Task, mesh: &HalfMesh) -> Result<(), Refused>
-    ensures { Takes (λ _. tt) (AtMost Loops MAX_LOOPS (loops_for task mesh.now)) result }
+    ensures tells { Takes (λ _. tt) (AtMost Loops MAX_LOOPS (loops_for task mesh.now)) result }
+    ensures limit { IfErr result (λ e. e ≡ Refused.Limit Loops) }
 {
     if task.is_limited() {
         return test_loops(mesh);

@@ -9,10 +9,10 @@ returns-in_err-cert c =
 pub returns-in_err-test_trees : goal.returns-in_err-test_trees
 returns-in_err-test_trees c =
     stopped_alone (past_alone alone c.in_ok-cert.cert c.in_ok-cert.ensures) c.in_err-test_trees.field-0.0
-    c.in_err-test_trees.ensures c.from_residual-in_err-test_trees.result
+    c.in_err-test_trees.ensures.tells c.from_residual-in_err-test_trees.result
     c.from_residual-in_err-test_trees.ensures.1
 
 pub returns : goal.returns
 returns c =
-    (past_alone (past_alone alone c.in_ok-cert.cert c.in_ok-cert.ensures) tt c.in_ok-test_trees.ensures).so
+    (past_alone (past_alone alone c.in_ok-cert.cert c.in_ok-cert.ensures) tt c.in_ok-test_trees.ensures.tells).so
     c.judge.result c.judge.ensures

@@ -11,17 +11,17 @@ returns-in_err-test_loops-clause-tells g c = λ name bytes parts from.
 pub returns-in_err-test_vertices-clause-tells : goal.returns-in_err-test_vertices-clause-tells
 returns-in_err-test_vertices-clause-tells g c = λ name bytes parts from.
     stopped (past (past (over begun bytes refl from.0 (omega arith)) (parts, c.args.mesh.now) from.1) tt
-    c.in_ok-test_loops.ensures.tells) c.in_err-test_vertices.field-0.0 c.in_err-test_vertices.ensures
+    c.in_ok-test_loops.ensures.tells) c.in_err-test_vertices.field-0.0 c.in_err-test_vertices.ensures.tells
     c.from_residual-in_err-test_vertices.result c.from_residual-in_err-test_vertices.ensures.1
 
 pub returns-in_err-lengths-clause-tells : goal.returns-in_err-lengths-clause-tells
 returns-in_err-lengths-clause-tells g c = λ name bytes parts from.
     stopped_over (past (past (past (over begun bytes refl from.0 (omega arith)) (parts, c.args.mesh.now) from.1) tt
-    c.in_ok-test_loops.ensures.tells) tt c.in_ok-test_vertices.ensures) _ c.in_err-lengths.field-0.0 refl
+    c.in_ok-test_loops.ensures.tells) tt c.in_ok-test_vertices.ensures.tells) _ c.in_err-lengths.field-0.0 refl
     c.in_err-lengths.ensures.tells c.from_residual-in_err-lengths.result c.from_residual-in_err-lengths.ensures.1
 
 pub returns-clause-tells : goal.returns-clause-tells
 returns-clause-tells g c = λ name bytes parts from.
     ended (over (past (past (past (over begun bytes refl from.0 (omega arith)) (parts, c.args.mesh.now) from.1) tt
-    c.in_ok-test_loops.ensures.tells) tt c.in_ok-test_vertices.ensures) c.in_ok-lengths.lengths refl
+    c.in_ok-test_loops.ensures.tells) tt c.in_ok-test_vertices.ensures.tells) c.in_ok-lengths.lengths refl
     c.in_ok-lengths.ensures.tells c.in_ok-lengths.ensures.later) c.find.result c.find.ensures

@@ -25,13 +25,13 @@ returns-in_err-test_shape_loops c = λ files.
 pub returns-in_err-test_search : goal.returns-in_err-test_search
 returns-in_err-test_search c = λ files.
     stopped_alone (past_alone (past_alone (past_alone alone tt c.in_ok-test_vertices.ensures.tells) tt c.in_ok-test_faces.ensures.tells)
-    tt c.in_ok-test_shape_loops.ensures.tells) c.in_err-test_search.field-0.0 c.in_err-test_search.ensures
+    tt c.in_ok-test_shape_loops.ensures.tells) c.in_err-test_search.field-0.0 c.in_err-test_search.ensures.tells
     c.from_residual-in_err-test_search.result c.from_residual-in_err-test_search.ensures.1
 
 pub returns : goal.returns
 returns c = λ files.
     (past_alone (past_alone (past_alone (past_alone alone tt c.in_ok-test_vertices.ensures.tells) tt c.in_ok-test_faces.ensures.tells)
-    tt c.in_ok-test_shape_loops.ensures.tells) tt c.in_ok-test_search.ensures).so c.summary_of.result
+    tt c.in_ok-test_shape_loops.ensures.tells) tt c.in_ok-test_search.ensures.tells).so c.summary_of.result
     (subst (λ (m : Mesh). Concludes (GivesSummary m (made_values m c.args.scatter)) c.summary_of.result) c.in_ok-mesh.ensures
     (subst (λ (lengths : List ℕ). Concludes (GivesSummary c.in_ok-mesh.mesh lengths) c.summary_of.result) c.in_ok-lengths.ensures.values c.summary_of.ensures))
 
