@@ -1,17 +1,16 @@
 //! A surface cut open.
-ghost use Rattle.std.specs.Prelude.{◌≡◌, ◌<◌, All, length, IfOk};
+ghost use Rattle.std.specs.Prelude.{◌≡◌, ◌<◌, All, Bool, length, IfOk};
 ghost use Rattle.surf_surfaces.specs.Surface.{edge_count, face_count};
-ghost use Rattle.surf_cutter.specs.Opened.{IsHeld, IsChosenFor};
+ghost use Rattle.surf_cutter.specs.Opened.{OpenMesh, IsHeld, IsChosenFor};
 ghost use Rattle.surf_off.specs.Written.{RereadsOpened};
-ghost use Rattle.surf_answers.specs.Cuts.{GivesCut, IsCutAt, cut_text, is_trimmed};
-ghost use Rattle.surf_answers.specs.Tells.{Concludes};
+ghost use Rattle.surf_answers.specs.Cuts.{CutsAt, GivesOpened, IsCutAt, cut_text, is_trimmed};
+ghost use Rattle.surf_answers.specs.Tells.{Concludes, Takes};
 ghost use Rattle.surf_text.specs.Pages.{Puts};
 
 use crate::answered::Answered;
 use std::alloc::Global;
 use surf_base::{MAX_ANSWER, NoMemory, VertexId};
-use surf_cotree::CotreeDesk;
-use surf_cutter::{Opened, cut_full, cut_trim};
+use surf_cutter::{Opened, cut_outside};
 use surf_lengths::Lengths;
 use surf_loops::LoopDesk;
 use surf_mesh::HalfMesh;
@@ -21,65 +20,72 @@ use surf_texts::Refused;
 use surf_words::CutKind;
 
 /// A surface cut open at a base.
-pub fn cut_of(
+pub fn opened_at(
     alloc: Global,
-    text: &OffText<'_>,
     mesh: &HalfMesh,
-    lengths: &Lengths,
+    lengths: Lengths,
     base: VertexId,
     kind: CutKind,
-) -> Result<Answered, Refused>
-    requires lines { length text.now.vertex_lines ≡ mesh.now.vertices }
-    requires colours { length text.now.colours ≡ face_count mesh.now }
-    requires lengths { length lengths.now ≡ edge_count mesh.now }
+) -> Result<Opened, Refused>
+    requires lengths { length lengths ≡ edge_count mesh.now }
     requires base { base < mesh.now.vertices }
-    ensures { Concludes (GivesCut (is_trimmed kind) text.now mesh.now lengths.now base) result }
+    ensures tells { Takes (λ opened. opened) (CutsAt (is_trimmed kind) mesh.now lengths base)
+        result }
+    ensures lines { IfOk result (λ opened. All (λ v. v < mesh.now.vertices) opened.origins) }
+    ensures faces { IfOk result (λ opened. length opened.faces ≡ face_count mesh.now) }
 {
-    let opened = opened_at(alloc, mesh, lengths, base, kind)?;
-    let mut page = Page::make(alloc, MAX_ANSWER);
-    put_opened(&mut page, text, &opened)?;
-    Ok(Answered::yes(page.into_bytes()))
+    let held = held_at(alloc, mesh, &lengths, base)?;
+    drop(lengths);
+    let opened = cut_outside(alloc, mesh, held, trims(kind))?;
+    Ok(opened)
 }
 
-// The surface opened along the cut that is chosen at a base.
-fn opened_at(
+// Whether the cut is the trimmed one.
+fn trims(kind: CutKind) -> bool
+    ensures { result ≡ is_trimmed kind }
+{
+    match kind {
+        CutKind::Full => false,
+        CutKind::Trimmed => true,
+    }
+}
+
+// The edges of the tree of the faces that is chosen at a base: what is opened along the others is
+// what is cut open at the base. Of the tables that it is found by, its flags alone are kept.
+fn held_at(
     alloc: Global,
     mesh: &HalfMesh,
     lengths: &Lengths,
     base: VertexId,
-    kind: CutKind,
-) -> Result<Opened, NoMemory>
+) -> Result<Vec<bool>, NoMemory>
     requires lengths { length lengths.now ≡ edge_count mesh.now }
     requires base { base < mesh.now.vertices }
-    ensures cut { IfOk result (λ o. IsCutAt mesh.now lengths.now base (is_trimmed kind)
-        o.origins o.faces) }
-    ensures origins { IfOk result (λ o. All (λ v. v < mesh.now.vertices) o.origins) }
+    ensures size { IfOk result (λ held. length held.items ≡ edge_count mesh.now) }
+    ensures held { IfOk result (λ held. IsHeld mesh.now held.items) }
+    ensures cuts { IfOk result (λ held. (trim : Bool) (o : OpenMesh) →
+        IsChosenFor mesh.now held.items trim o →
+        IsCutAt mesh.now lengths.now base trim o.origins o.faces) }
+    ensures origins { IfOk result (λ held. (trim : Bool) (o : OpenMesh) →
+        IsChosenFor mesh.now held.items trim o → All (λ v. v < mesh.now.vertices) o.origins) }
 {
     mesh.law_of_surface();
     let mut desk = LoopDesk::make(alloc, mesh)?;
     desk.greedy(mesh, lengths, base);
-    let cotree = desk.into_cotree();
-    opened_outside(alloc, mesh, &cotree, kind)
+    Ok(desk.into_cotree().into_held())
 }
 
-// The surface opened along the edges that a tree of its faces doesn't hold, all of them or trimmed.
-fn opened_outside(
-    alloc: Global,
-    mesh: &HalfMesh,
-    cotree: &CotreeDesk,
-    kind: CutKind,
-) -> Result<Opened, NoMemory>
-    requires size { length cotree.now.held ≡ edge_count mesh.now }
-    requires held { IsHeld mesh.now cotree.now.held }
-    ensures { IfOk result (λ o. IsChosenFor mesh.now cotree.now.held (is_trimmed kind) o) }
+/// The text of an opened surface, with the lines and colours of the text that it was read from.
+pub fn opened_text(alloc: Global, text: &OffText<'_>, opened: &Opened) -> Result<Answered, Refused>
+    requires lines { All (λ v. v < length text.now.vertex_lines) opened.now.origins }
+    requires colours { length opened.now.faces ≡ length text.now.colours }
+    ensures { Concludes (GivesOpened text.now opened.now) result }
 {
-    match kind {
-        CutKind::Full => cut_full(alloc, mesh, cotree),
-        CutKind::Trimmed => cut_trim(alloc, mesh, cotree),
-    }
+    let mut page = Page::make(alloc, MAX_ANSWER);
+    put_opened(&mut page, text, opened)?;
+    Ok(Answered::yes(page.into_bytes()))
 }
 
-// Puts an opened surface on a page, with the lines and colours of the text that it was read from.
+// Puts an opened surface on a page.
 fn put_opened(page: &mut Page, text: &OffText<'_>, opened: &Opened) -> Result<(), PageFault>
     requires lines { All (λ v. v < length text.now.vertex_lines) opened.now.origins }
     requires colours { length opened.now.faces ≡ length text.now.colours }

@@ -178,6 +178,14 @@ impl CotreeDesk {
         &self.held
     }
 
+    /// Whether the tree has each edge, in the desk's own table. The memory of all else is free from
+    /// here on.
+    pub fn into_held(self) -> Vec<bool>
+        ensures held { result.items ≡ self.held }
+    {
+        self.held
+    }
+
     /// The edges in neither tree, increasing.
     pub fn left(&self) -> &[EdgeId]
         ensures left { result.now ≡ self.now.left }

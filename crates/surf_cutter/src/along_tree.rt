@@ -5,7 +5,7 @@ ghost use Rattle.surf_surfaces.specs.Surface.{edge_count, face_count};
 ghost use Rattle.surf_cutter.specs.Opened.{IsHeld, IsChosenFor};
 
 use crate::Opened;
-use crate::cutting::{open_full, open_trimmed};
+use crate::cutting::{open_full, open_outside, open_trimmed};
 use std::alloc::Global;
 use surf_base::NoMemory;
 use surf_cotree::CotreeDesk;
@@ -21,7 +21,8 @@ pub fn cut_full(alloc: Global, mesh: &HalfMesh, cotree: &CotreeDesk) -> Result<O
         (face_count mesh.now + face_count mesh.now)
         ≡ edge_count mesh.now + edge_count mesh.now + 2) }
 {
-    open_full(alloc, mesh, cotree.held())
+    let mut flags = cotree.held().to_vec(alloc)?;
+    open_full(alloc, mesh, &mut flags)
 }
 
 /// The same with the cut trimmed: while more than two edges are cut and a vertex has exactly one of
@@ -32,5 +33,24 @@ pub fn cut_trim(alloc: Global, mesh: &HalfMesh, cotree: &CotreeDesk) -> Result<O
     ensures chosen { IfOk result (λ o. IsChosenFor mesh.now cotree.now.held true o) }
     ensures opening { IfOk result (λ o. IsOpening mesh.now o.origins o.faces) }
 {
-    open_trimmed(alloc, mesh, cotree.held())
+    let mut flags = cotree.held().to_vec(alloc)?;
+    open_trimmed(alloc, mesh, &mut flags)
+}
+
+/// The surface cut along the edges that a tree of its faces doesn't hold, all of them or trimmed.
+/// `held` has a flag for each edge that the tree holds, and is used up: the flags of the cut are
+/// made in its place.
+pub fn cut_outside(
+    alloc: Global,
+    mesh: &HalfMesh,
+    held: Vec<bool>,
+    trimmed: bool,
+) -> Result<Opened, NoMemory>
+    requires size { length held.items ≡ edge_count mesh.now }
+    requires held { IsHeld mesh.now held.items }
+    ensures chosen { IfOk result (λ o. IsChosenFor mesh.now held.items trimmed o) }
+    ensures opening { IfOk result (λ o. IsOpening mesh.now o.origins o.faces) }
+{
+    let mut flags = held;
+    open_outside(alloc, mesh, &mut flags, trimmed)
 }

@@ -1,7 +1,7 @@
 //! The copies of the vertices in an opening, numbered by vertex and by the least face that has
 //! them.
-ghost use Rattle.std.specs.Prelude.{◌≡◌, ◌≢◌, ◌<◌, ◌+◌, ◌^◌, [], ◌∷◌, ◌++◌, ℕ, length, IfOk, IsTrue};
-ghost use Rattle.std.specs.Prelude.{OnOk, slice_index, slice_set};
+ghost use Rattle.std.specs.Prelude.{◌≡◌, ◌≢◌, ◌<◌, ◌+◌, ◌^◌, [], ◌∷◌, ◌++◌, ℕ, List, length, IfOk, IsTrue};
+ghost use Rattle.std.specs.Prelude.{Bool, OnOk, slice_index, slice_set};
 ghost use Rattle.std.specs.List.{sum_by};
 ghost use Rattle.surf_surfaces.specs.Surface.{face_count, edge_count};
 ghost use Rattle.surf_opening.specs.ChosenCut.{AreInOrder};
@@ -16,7 +16,7 @@ use std::alloc::Global;
 use surf_base::{CopyId, FaceId, NoMemory, SideId, VertexId};
 use surf_mesh::HalfMesh;
 use surf_rows::Rows;
-use surf_slit::Slit;
+use surf_slit::labels_along;
 
 // What stands for no number yet.
 const NOBODY: u32 = u32::MAX;
@@ -30,6 +30,14 @@ fn list_sides(mesh: &HalfMesh, v: VertexId, row: &mut Vec<SideId>) -> Result<(),
     row.extend_from_slice(mesh.ring(v))?;
     row.sort_unstable();
     Ok(())
+}
+
+// The label of the corner at which a side begins.
+fn label_of(labels: &[CopyId], side: SideId) -> usize
+    requires { side < length labels.now }
+    ensures { result ≡ slice_index labels.now side }
+{
+    labels[side.index()].index()
 }
 
 // Gives a label the next number, with a vertex, unless it has one.
@@ -58,37 +66,39 @@ fn number_label(
 // Numbers the labels at the next vertex in the order of the sides that have them, and lists the
 // vertex once for each.
 fn number_row(
+    mesh: &HalfMesh,
     row: &[SideId],
     v: VertexId,
-    slit: &Slit,
+    labels: &[CopyId],
     numbers: &mut [u32],
     origins: &mut Vec<VertexId>,
 ) -> Result<(), NoMemory>
-    requires few { side_count slit.now.mesh < 2 ^ 30 }
-    requires row { IsRowAt slit.now.mesh v row.now }
-    requires labels { (s : ℕ) → s < side_count slit.now.mesh →
-        slice_index slit.now.labels s < length numbers.old }
-    requires so_far { AreNumberedTo slit.now.mesh v slit.now.labels numbers.old origins.old.items }
+    requires row { IsRowAt mesh.now v row.now }
+    requires all { length labels.now ≡ side_count mesh.now }
+    requires labels { (s : ℕ) → s < side_count mesh.now →
+        slice_index labels.now s < length numbers.old }
+    requires so_far { AreNumberedTo mesh.now v labels.now numbers.old origins.old.items }
     ensures size { length numbers.new ≡ length numbers.old }
-    ensures numbered { OnOk result (AreNumberedTo slit.now.mesh (v + 1) slit.now.labels numbers.new
+    ensures numbered { OnOk result (AreNumberedTo mesh.now (v + 1) labels.now numbers.new
         origins.new.items) }
 {
+    mesh.law_of_surface();
     for side in row {
-        number_label(slit.label(*side) as usize, v, numbers, origins)?;
+        number_label(label_of(labels, *side), v, numbers, origins)?;
     }
     Ok(())
 }
 
 // Whether some sides all have one label.
-fn have_one_label(sides: &[SideId], slit: &Slit) -> bool
+fn have_one_label(sides: &[SideId], labels: &[CopyId]) -> bool
     requires some { 0 < length sides.now }
     requires sides { (k : ℕ) → k < length sides.now →
-        slice_index sides.now k < side_count slit.now.mesh }
-    ensures { IsTrue result → HaveOneLabel sides.now slit.now.labels }
+        slice_index sides.now k < length labels.now }
+    ensures { IsTrue result → HaveOneLabel sides.now labels.now }
 {
-    let label = slit.label(sides[0]);
+    let label = label_of(labels, sides[0]);
     for side in sides {
-        if slit.label(*side) != label {
+        if label_of(labels, *side) != label {
             return false;
         }
     }
@@ -99,43 +109,43 @@ fn have_one_label(sides: &[SideId], slit: &Slit) -> bool
 fn number_vertex(
     mesh: &HalfMesh,
     v: VertexId,
-    slit: &Slit,
+    labels: &[CopyId],
     row: &mut Vec<SideId>,
     numbers: &mut [u32],
     origins: &mut Vec<VertexId>,
 ) -> Result<(), NoMemory>
     requires vertex { v < mesh.now.vertices }
-    requires mesh { slit.now.mesh ≡ mesh.now }
     requires few { side_count mesh.now < 2 ^ 30 }
+    requires all { length labels.now ≡ side_count mesh.now }
     requires labels { (s : ℕ) → s < side_count mesh.now →
-        slice_index slit.now.labels s < length numbers.old }
-    requires so_far { AreNumberedTo mesh.now v slit.now.labels numbers.old origins.old.items }
+        slice_index labels.now s < length numbers.old }
+    requires so_far { AreNumberedTo mesh.now v labels.now numbers.old origins.old.items }
     ensures size { length numbers.new ≡ length numbers.old }
-    ensures numbered { OnOk result (AreNumberedTo mesh.now (v + 1) slit.now.labels numbers.new
+    ensures numbered { OnOk result (AreNumberedTo mesh.now (v + 1) labels.now numbers.new
         origins.new.items) }
 {
     let ring = mesh.ring(v);
-    if have_one_label(ring, slit) {
-        return number_label(slit.label(ring[0]) as usize, v, numbers, origins);
+    if have_one_label(ring, labels) {
+        return number_label(label_of(labels, ring[0]), v, numbers, origins);
     }
     list_sides(mesh, v, row)?;
-    number_row(row, v, slit, numbers, origins)
+    number_row(mesh, row, v, labels, numbers, origins)
 }
 
 // Numbers all labels by vertex and by the least side that has them, and lists their vertices.
 fn number_copies(
     alloc: Global,
     mesh: &HalfMesh,
-    slit: &Slit,
+    labels: &[CopyId],
     numbers: &mut [u32],
 ) -> Result<Vec<VertexId>, NoMemory>
-    requires mesh { slit.now.mesh ≡ mesh.now }
+    requires all { length labels.now ≡ side_count mesh.now }
     requires labels { (s : ℕ) → s < side_count mesh.now →
-        slice_index slit.now.labels s < length numbers.old }
+        slice_index labels.now s < length numbers.old }
     requires unset { (l : ℕ) → l < length numbers.old → slice_index numbers.old l ≡ nobody }
     ensures size { length numbers.new ≡ length numbers.old }
     ensures numbered { IfOk result (λ origins. AreNumberedTo mesh.now mesh.now.vertices
-        slit.now.labels numbers.new origins.items) }
+        labels.now numbers.new origins.items) }
 {
     mesh.law_of_surface();
     let mut origins = Vec::new(alloc);
@@ -144,7 +154,7 @@ fn number_copies(
         number_vertex(
             mesh,
             VertexId::new(v),
-            slit,
+            labels,
             &mut row,
             numbers,
             &mut origins,
@@ -156,20 +166,20 @@ fn number_copies(
 // The copies at some sides.
 fn list_copies(
     sides: &[SideId],
-    slit: &Slit,
+    labels: &[CopyId],
     numbers: &[u32],
     row: &mut Vec<CopyId>,
 ) -> Result<(), NoMemory>
     requires sides { (k : ℕ) → k < length sides.now →
-        slice_index sides.now k < side_count slit.now.mesh }
-    requires labels { (s : ℕ) → s < side_count slit.now.mesh →
-        slice_index slit.now.labels s < length numbers.now }
-    ensures { OnOk result (AreNumbersOf sides.now slit.now.labels numbers.now (length sides.now)
+        slice_index sides.now k < length labels.now }
+    requires labels { (s : ℕ) → s < length labels.now →
+        slice_index labels.now s < length numbers.now }
+    ensures { OnOk result (AreNumbersOf sides.now labels.now numbers.now (length sides.now)
         row.new.items) }
 {
     row.clear();
     for side in sides {
-        row.push(CopyId::new(numbers[slit.label(*side) as usize]))?;
+        row.push(CopyId::new(numbers[label_of(labels, *side)]))?;
     }
     Ok(())
 }
@@ -178,13 +188,13 @@ fn list_copies(
 fn copy_faces(
     alloc: Global,
     mesh: &HalfMesh,
-    slit: &Slit,
+    labels: &[CopyId],
     numbers: &[u32],
 ) -> Result<Rows<CopyId>, NoMemory>
-    requires mesh { slit.now.mesh ≡ mesh.now }
-    requires labels { (s : ℕ) → s < side_count slit.now.mesh →
-        slice_index slit.now.labels s < length numbers.now }
-    ensures copied { IfOk result (λ rows. AreCopied mesh.now slit.now.labels numbers.now
+    requires all { length labels.now ≡ side_count mesh.now }
+    requires labels { (s : ℕ) → s < side_count mesh.now →
+        slice_index labels.now s < length numbers.now }
+    ensures copied { IfOk result (λ rows. AreCopied mesh.now labels.now numbers.now
         (face_count mesh.now) rows) }
     ensures corners { IfOk result (λ rows. sum_by length rows ≡ side_count mesh.now) }
 {
@@ -192,7 +202,7 @@ fn copy_faces(
     let mut rows = Rows::with_room(alloc, count as usize, mesh.side_count() as usize)?;
     let mut row = Vec::new(alloc);
     for f in 0..count {
-        list_copies(mesh.sides(FaceId::new(f)), slit, numbers, &mut row)?;
+        list_copies(mesh.sides(FaceId::new(f)), labels, numbers, &mut row)?;
         rows.push(&row)?;
     }
     Ok(rows)
@@ -202,22 +212,24 @@ fn copy_faces(
 fn open_by(
     alloc: Global,
     mesh: &HalfMesh,
-    slit: &Slit,
+    labels: &[CopyId],
     numbers: &mut [u32],
 ) -> Result<(Vec<VertexId>, Rows<CopyId>), NoMemory>
-    requires mesh { slit.now.mesh ≡ mesh.now }
-    requires labels { AreLabels mesh.now slit.now.cut slit.now.labels slit.now.count }
-    requires size { length numbers.old ≡ slit.now.count }
+    requires all { length labels.now ≡ side_count mesh.now }
+    requires labels { (s : ℕ) → s < side_count mesh.now →
+        slice_index labels.now s < length numbers.old }
     requires unset { (l : ℕ) → l < length numbers.old → slice_index numbers.old l ≡ nobody }
-    ensures opened { IfOk result (λ r. IsOpenedBy mesh.now (IsUncut mesh.now slit.now.cut)
-        r.0.items r.1) }
-    ensures order { IfOk result (λ r. AreInOrder mesh.now r.0.items r.1) }
+    ensures opened { IfOk result (λ r. (cut : List Bool) (count : ℕ) →
+        AreLabels mesh.now cut labels.now count →
+        IsOpenedBy mesh.now (IsUncut mesh.now cut) r.0.items r.1) }
+    ensures order { IfOk result (λ r. (cut : List Bool) (count : ℕ) →
+        AreLabels mesh.now cut labels.now count → AreInOrder mesh.now r.0.items r.1) }
     ensures few { IfOk result (λ r. length r.0.items < 2 ^ 30) }
     ensures corners { IfOk result (λ r. sum_by length r.1 ≡ side_count mesh.now) }
 {
     mesh.law_of_surface();
-    let origins = number_copies(alloc, mesh, slit, numbers)?;
-    let faces = copy_faces(alloc, mesh, slit, numbers)?;
+    let origins = number_copies(alloc, mesh, labels, numbers)?;
+    let faces = copy_faces(alloc, mesh, labels, numbers)?;
     Ok((origins, faces))
 }
 
@@ -235,7 +247,7 @@ pub(crate) fn open_along(
     ensures few { IfOk result (λ r. length r.0.items < 2 ^ 30) }
     ensures corners { IfOk result (λ r. sum_by length r.1 ≡ side_count mesh.now) }
 {
-    let slit = Slit::along(alloc, mesh, cut)?;
-    let mut numbers = vec![in alloc; NOBODY; slit.labels() as usize]?;
-    open_by(alloc, mesh, &slit, &mut numbers)
+    let (labels, count) = labels_along(alloc, mesh, cut)?;
+    let mut numbers = vec![in alloc; NOBODY; count as usize]?;
+    open_by(alloc, mesh, &labels, &mut numbers)
 }

@@ -1,8 +1,8 @@
 //! Cutting a surface open along the edges outside a tree of its faces.
-ghost use Rattle.std.specs.Prelude.{◌≡◌, ◌+◌, ◌<◌, ℕ, true, false, length, IfOk, slice_index};
+ghost use Rattle.std.specs.Prelude.{◌≡◌, ◌+◌, true, false, length, IfOk, OnOk};
 ghost use Rattle.surf_surfaces.specs.Disc.{IsOpening};
 ghost use Rattle.surf_surfaces.specs.Surface.{edge_count, face_count};
-ghost use Rattle.surf_cutter.specs.Boundary.{IsFullCut, OpensToDisc};
+ghost use Rattle.surf_cutter.specs.Boundary.{OpensToDisc};
 ghost use Rattle.surf_cutter.specs.Trimming.{IsTrimmedFrom, HasEndedBy};
 ghost use Rattle.surf_cutter.specs.Opened.{IsOpenedInOrder, IsHeld, IsChosenFor, AreTurnedOver};
 
@@ -14,15 +14,13 @@ use std::alloc::Global;
 use surf_base::NoMemory;
 use surf_mesh::HalfMesh;
 
-// The edges that aren't held.
-fn turned_over(alloc: Global, held: &[bool]) -> Result<Vec<bool>, NoMemory>
-    ensures { IfOk result (λ v. AreTurnedOver held.now v.items) }
+// Marks the edges that had no mark, and no others.
+fn turn_over(flags: &mut [bool])
+    ensures { AreTurnedOver flags.old flags.new }
 {
-    let mut cut = Vec::with_capacity(alloc, held.len())?;
-    for e in 0..held.len() {
-        cut.push(!held[e])?;
+    for flag in flags.iter_mut() {
+        *flag = !*flag;
     }
-    Ok(cut)
 }
 
 // The surface opened along the edges with a flag, which open it to a disc.
@@ -37,39 +35,36 @@ fn open_cut(alloc: Global, mesh: &HalfMesh, cut: &[bool]) -> Result<Opened, NoMe
     Opened::from_parts(alloc, origins, faces, boundary)
 }
 
-// The surface opened along a full cut that is trimmed before.
-fn open_by_trim(
-    alloc: Global,
-    mesh: &HalfMesh,
-    cut: &mut [bool],
-    degree: &mut [u32],
-) -> Result<Opened, NoMemory>
-    requires flags { length cut.old ≡ edge_count mesh.now }
-    requires full { IsFullCut mesh.now cut.old }
-    requires size { length degree.old ≡ mesh.now.vertices }
-    requires none { (v : ℕ) → v < mesh.now.vertices → slice_index degree.old v ≡ 0 }
-    ensures trimmed { IsTrimmedFrom mesh.now cut.old cut.new }
-    ensures ended { HasEndedBy mesh.now cut.new }
-    ensures opened { IfOk result (λ o. IsOpenedInOrder mesh.now cut.new o) }
+// Trims a full cut.
+fn trim_cut(alloc: Global, mesh: &HalfMesh, cut: &mut [bool]) -> Result<(), NoMemory>
+    requires { length cut.old ≡ edge_count mesh.now }
+    ensures trimmed { OnOk result (IsTrimmedFrom mesh.now cut.old cut.new) }
+    ensures ended { OnOk result (HasEndedBy mesh.now cut.new) }
 {
-    count_degrees(mesh, cut, degree);
-    trim(mesh, cut, degree);
-    open_cut(alloc, mesh, cut)
+    let mut degree = vec![in alloc; 0u32; mesh.vertices() as usize]?;
+    count_degrees(mesh, cut, &mut degree);
+    trim(mesh, cut, &mut degree);
+    Ok(())
 }
 
-/// The surface cut along all edges that a tree of its faces doesn't hold, by a flag for each edge.
-pub(crate) fn open_full(alloc: Global, mesh: &HalfMesh, held: &[bool]) -> Result<Opened, NoMemory>
-    requires flags { length held.now ≡ edge_count mesh.now }
-    requires held { IsHeld mesh.now held.now }
-    ensures chosen { IfOk result (λ o. IsChosenFor mesh.now held.now false o) }
+/// The surface cut along all edges that a tree of its faces doesn't hold, by a flag for each edge
+/// that it holds. The flags become those of the cut.
+pub(crate) fn open_full(
+    alloc: Global,
+    mesh: &HalfMesh,
+    flags: &mut [bool],
+) -> Result<Opened, NoMemory>
+    requires flags { length flags.old ≡ edge_count mesh.now }
+    requires held { IsHeld mesh.now flags.old }
+    ensures chosen { IfOk result (λ o. IsChosenFor mesh.now flags.old false o) }
     ensures opening { IfOk result (λ o. IsOpening mesh.now o.origins o.faces) }
     ensures copies { IfOk result (λ o. length o.origins +
         (face_count mesh.now + face_count mesh.now)
         ≡ edge_count mesh.now + edge_count mesh.now + 2) }
 {
     mesh.law_of_surface();
-    let cut = turned_over(alloc, held)?;
-    open_cut(alloc, mesh, &cut)
+    turn_over(flags);
+    open_cut(alloc, mesh, flags)
 }
 
 /// The same with the cut trimmed: while more than two edges are cut and a vertex has exactly one of
@@ -77,15 +72,34 @@ pub(crate) fn open_full(alloc: Global, mesh: &HalfMesh, held: &[bool]) -> Result
 pub(crate) fn open_trimmed(
     alloc: Global,
     mesh: &HalfMesh,
-    held: &[bool],
+    flags: &mut [bool],
 ) -> Result<Opened, NoMemory>
-    requires flags { length held.now ≡ edge_count mesh.now }
-    requires held { IsHeld mesh.now held.now }
-    ensures chosen { IfOk result (λ o. IsChosenFor mesh.now held.now true o) }
+    requires flags { length flags.old ≡ edge_count mesh.now }
+    requires held { IsHeld mesh.now flags.old }
+    ensures chosen { IfOk result (λ o. IsChosenFor mesh.now flags.old true o) }
     ensures opening { IfOk result (λ o. IsOpening mesh.now o.origins o.faces) }
 {
     mesh.law_of_surface();
-    let mut cut = turned_over(alloc, held)?;
-    let mut degree = vec![in alloc; 0u32; mesh.vertices() as usize]?;
-    open_by_trim(alloc, mesh, &mut cut, &mut degree)
+    turn_over(flags);
+    trim_cut(alloc, mesh, flags)?;
+    open_cut(alloc, mesh, flags)
+}
+
+/// The full cut or the trimmed one.
+pub(crate) fn open_outside(
+    alloc: Global,
+    mesh: &HalfMesh,
+    flags: &mut [bool],
+    trimmed: bool,
+) -> Result<Opened, NoMemory>
+    requires flags { length flags.old ≡ edge_count mesh.now }
+    requires held { IsHeld mesh.now flags.old }
+    ensures chosen { IfOk result (λ o. IsChosenFor mesh.now flags.old trimmed o) }
+    ensures opening { IfOk result (λ o. IsOpening mesh.now o.origins o.faces) }
+{
+    if trimmed {
+        open_trimmed(alloc, mesh, flags)
+    } else {
+        open_full(alloc, mesh, flags)
+    }
 }

@@ -6,6 +6,7 @@ pub mod FaceLines
 pub mod CleanLines
 pub mod CleanParts
 pub mod FaceRows
+mod Fronts
 pub mod Decimals
 pub mod NumberLines
 pub mod Reread

@@ -3,5 +3,6 @@ pub mod Off
 pub mod Gives
 pub mod Clean
 pub mod Seen
+pub mod Places
 pub mod Written
 pub mod Plain

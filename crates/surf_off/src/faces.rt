@@ -314,6 +314,7 @@ pub(crate) fn read_faces(
     ensures vertices { IfOk result (λ soup. soup.vertices ≡ vertices) }
     ensures count { IfOk result (λ soup. length soup.faces ≡ faces) }
     ensures colours { OnOk result (length colours.new.parts ≡ faces) }
+    ensures same { OnOk result (colours.new.text ≡ colours.old.text) }
     ensures sides { IfOk result (λ soup. side_count soup ≤ MAX_SIDES) }
 {
     let mut soup = Soup::start(alloc, vertices);

@@ -1,7 +1,9 @@
 //! Parts of a text, kept by their places.
 ghost use Rattle.std.specs.Prelude.{◌≡◌, ◌<◌, ◌≤◌, ◌+◌, ◌^◌, [], ◌∷◌, ◌++◌, length, slice_index_or};
 ghost use Rattle.std.specs.Prelude.{IfOk, OnOk};
+ghost use Rattle.std.specs.Prelude.{map, replicate};
 ghost use Rattle.surf_off.specs.Seen.{PartList, part_of};
+ghost use Rattle.surf_off.specs.Places.{EndWithin};
 
 use std::alloc::{AllocError, Global};
 use std::marker::Model;
@@ -57,6 +59,24 @@ impl<'a> Parts<'a> {
     {
         let spans = Vec::with_capacity(alloc, room)?;
         Ok(Parts { text, spans })
+    }
+
+    /// The parts of a text that stand at some places.
+    pub(crate) fn at(text: &'a [u8], spans: Vec<Span>) -> Parts<'a>
+        requires { EndWithin (length text.now) spans.items }
+        ensures at { result ≡ record { text = text.now; parts = map (part_of text.now) spans.items } }
+        ensures countable { length result.parts < 2 ^ 64 }
+    {
+        let _count = spans.len();
+        Parts { text, spans }
+    }
+
+    /// Where they stand.
+    pub(crate) fn into_spans(self) -> Vec<Span>
+        ensures parts { map (part_of self.entry.text) result.items ≡ self.entry.parts }
+        ensures within { EndWithin (length self.entry.text) result.items }
+    {
+        self.spans
     }
 
     /// Adds a part at the end.
@@ -117,6 +137,25 @@ impl<'a> Colours<'a> {
             before: 0,
             parts: Parts::none(alloc, text),
         }
+    }
+
+    /// No colours for some faces, and then parts of a text.
+    pub(crate) fn at(before: usize, parts: Parts<'a>) -> Colours<'a>
+        ensures { result ≡ record {
+          text = parts.entry.text;
+          parts = replicate before [] ++ parts.entry.parts;
+        } }
+    {
+        Colours { before, parts }
+    }
+
+    /// How many faces come before the first that has one, and where they stand from there on.
+    pub(crate) fn into_spans(self) -> (usize, Vec<Span>)
+        ensures parts { replicate result.0 [] ++ map (part_of self.entry.text) result.1.items
+            ≡ self.entry.parts }
+        ensures within { EndWithin (length self.entry.text) result.1.items }
+    {
+        (self.before, self.parts.into_spans())
     }
 
     /// Adds the colour of a face, empty where it has none.

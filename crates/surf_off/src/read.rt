@@ -2,12 +2,15 @@
 ghost use Rattle.std.specs.Prelude.{◌≡◌, ◌<◌, ◌≤◌, ◌+◌, ◌/◌, min, length, IfOk};
 ghost use Rattle.surf_surfaces.specs.SideNumber.{side_count};
 ghost use Rattle.surf_off.specs.Off.{off_of};
+ghost use Rattle.surf_off.specs.Clean.{IsOffParts};
 ghost use Rattle.surf_off.specs.Gives.{Gives};
+ghost use Rattle.surf_off.specs.Places.{AreWithin, parts_at};
 ghost use Rattle.surf_base.specs.declared.limits.TheConstants.{MAX_FACES, MAX_SIDES, MAX_VERTICES};
 
 use crate::faces::read_faces;
 use crate::fault::OffFault;
 use crate::head::{read_counts, read_head};
+use crate::off_places::OffPlaces;
 use crate::parts::{Colours, Parts};
 use crate::text::OffText;
 use crate::vertices::read_vertices;
@@ -29,12 +32,31 @@ fn room_for(text: &[u8], count: u32) -> usize
 ///
 /// The format is that of the Geomview manual, "OFF Files", read by lines, with one vertex or one
 /// face a line; coordinates and colours aren't read as numbers.
-#[tactic(auto, unfolding(crate::specs::Off::off_in))]
 pub fn read_off<'a>(alloc: Global, text: &'a [u8]) -> Result<(OffText<'a>, Soup), OffFault>
     requires short { length text.now < 4294967295 }
     ensures off { Gives (λ x. x) result (off_of text.now) }
     ensures lines { IfOk result (λ x. length x.0.vertex_lines ≡ x.1.vertices) }
     ensures colours { IfOk result (λ x. length x.0.colours ≡ length x.1.faces) }
+    ensures vertices { IfOk result (λ x. x.1.vertices ≤ MAX_VERTICES) }
+    ensures faces { IfOk result (λ x. length x.1.faces ≤ MAX_FACES) }
+    ensures sides { IfOk result (λ x. side_count x.1 ≤ MAX_SIDES) }
+{
+    let (places, soup) = read_places(alloc, text)?;
+    Ok((places.over(text), soup))
+}
+
+/// The same with the places of the vertex lines and colours in place of the slices, so that the
+/// text is free to go or to be cut short.
+#[tactic(auto, unfolding(crate::specs::Off::off_in))]
+pub fn read_places(alloc: Global, text: &[u8]) -> Result<(OffPlaces, Soup), OffFault>
+    requires short { length text.now < 4294967295 }
+    ensures off { Gives (λ x. (parts_at text.now x.0, x.1)) result (off_of text.now) }
+    ensures within { IfOk result (λ x. AreWithin (length text.now) x.0) }
+    ensures clean { IfOk result (λ x. IsOffParts (parts_at text.now x.0)) }
+    ensures lines { IfOk result (λ x.
+        length (parts_at text.now x.0).vertex_lines ≡ x.1.vertices) }
+    ensures colours { IfOk result (λ x.
+        length (parts_at text.now x.0).colours ≡ length x.1.faces) }
     ensures vertices { IfOk result (λ x. x.1.vertices ≤ MAX_VERTICES) }
     ensures faces { IfOk result (λ x. length x.1.faces ≤ MAX_FACES) }
     ensures sides { IfOk result (λ x. side_count x.1 ≤ MAX_SIDES) }
@@ -48,6 +70,9 @@ pub fn read_off<'a>(alloc: Global, text: &'a [u8]) -> Result<(OffText<'a>, Soup)
     let soup = read_faces(alloc, &mut lines, vertices, faces, &mut colours)?;
     match lines.next_line() {
         Some(line) => Err(OffFault::Trailing { line: line.number }),
-        None => Ok((OffText::make(head.header, vertex_lines, colours), soup)),
+        None => Ok((
+            OffPlaces::of_parts(head.header, vertex_lines, colours),
+            soup,
+        )),
     }
 }

@@ -23,6 +23,7 @@ pub(crate) fn read_vertices(
         (vertices_at vertices faces (lines_ahead lines.old)) }
     ensures count { OnOk result (length kept.new.parts ≡ vertices) }
     ensures text { OnOk result (lines.new.text ≡ lines.old.text) }
+    ensures same { OnOk result (kept.new.text ≡ kept.old.text) }
 {
     for done in 0..vertices {
         let Some(line) = lines.next_line() else {

@@ -170,6 +170,32 @@ module _ {holds : Option Files} {old now : ℕ} {whole : Files → Outcome → T
   pub ended : (r : Result Answered Refused) → Concludes last r → ConcludesOver holds old now whole r
   ended r end = far.so now r (last_over r end)
 
+-- what follows of any files follows of those that are held
+pub some_so : {P Q : Files → Type 0} (holds : Option Files) → ((files : Files) → P files → Q files) → IfSome holds P → IfSome holds Q
+some_so None follows is = tt
+some_so (Some files) follows is = follows files is
+
+told_so : {P Q : Files → Type 0} (holds : Option Files) → ((files : Files) → P files → Q files) → IsTold holds P → IsTold holds Q
+told_so None follows is = is
+told_so (Some files) follows is = follows files is
+
+pub why_over_so : (old new : ℕ) {P Q : Files → Outcome → Type 0} (holds : Option Files) → ((files : Files) (o : Outcome) → P files o → Q files o) → (c : Cause) →
+    WhyOver holds old new P c → WhyOver holds old new Q c
+why_over_so old new holds follows (due o) is = some_so holds (λ files. follows files o) is
+why_over_so old new holds follows unread (inl rose) = inl rose
+why_over_so old new holds follows unread (inr missing) = inr (told_so holds (λ files. follows files misses) missing)
+why_over_so old new holds follows starved is = tt
+
+-- an end that follows from another
+module _ {holds : Option Files} {old now : ℕ} {whole rest other : Files → Outcome → Type 0} (far : SoFar holds old now whole rest)
+    (follows : (files : Files) (o : Outcome) → other files o → rest files o) where
+  over_follows : (new : ℕ) (r : Result Answered Refused) → ConcludesOver holds now new other r → ConcludesOver holds now new rest r
+  over_follows new (Ok x) is = some_so holds (λ files. follows files (answers (verdict_status x.verdict) x.text.items)) is
+  over_follows new (Err e) is = why_over_so now new holds follows (cause_of e) is
+
+  pub follows_so : SoFar holds old now whole other
+  follows_so = record { so = λ new r is. far.so new r (over_follows new r is) }
+
 -- what comes of any files comes of those that are held
 pub ends_over_any : (holds : Option Files) (old new : ℕ) (whole : Files → Outcome → Type 0) (r : Result Answered Refused) →
     ((files : Files) → Concludes (whole files) r) → ConcludesOver holds old new whole r

@@ -2,6 +2,7 @@ mod CertSizes
 mod ClassRuns
 mod ClassSizes
 mod Composing
+mod Cutting
 mod CycleLaws
 mod LengthLaws
 mod MeshReads

@@ -1,35 +1,19 @@
 -- The text of a file, of which the mesh alone goes on.
-use Rattle.std.proofs.Common.{◌≡◌, ℕ, List, Option, Some, None, Result, Ok, Err, inl, inr, sym, subst}
+use Rattle.std.proofs.Common.{◌≡◌, ℕ, List, Option, Result, Ok, Err, inl, inr, sym, subst}
 use Rattle.std.specs.Prelude.{IfSome, IsErrAnd}
 use Rattle.surf_base.specs.Outside.{Files}
 use Rattle.surf_off.specs.Off.{OffParts}
 use Rattle.surf_surfaces.specs.Mesh.{Mesh}
 use Rattle.surf_surfaces.specs.Surface.{IsSurface}
-use Rattle.surf_texts.specs.Outcome.{Outcome, misses}
+use Rattle.surf_texts.specs.Outcome.{Outcome}
 use Rattle.surf_texts.specs.Cause.{Cause, due, unread, starved}
 use Rattle.surf_texts.specs.Refusals.{cause_of}
 use Rattle.surf_texts.specs.declared.refusal.Refused.{Refused}
 use Rattle.surf_answers.specs.declared.answered.Answered.{Answered}
-use Rattle.surf_answers.specs.Tells.{IsTold, Why, Takes, WhyOver, TakesOver, ConcludesOver}
+use Rattle.surf_answers.specs.Tells.{Why, Takes, WhyOver, TakesOver, ConcludesOver}
 use Rattle.surf_run.specs.Steps.{Ends, stops, goes}
 use Rattle.surf_run.specs.Reading.{Reads, IsMeshText, IsSurfaceOf, IsSurfaceText, IsTextAt}
-use Rattle.surf_run.proofs.Composing.{handed}
-
-some_so : {P Q : Files → Type 0} (holds : Option Files) → ((files : Files) → P files → Q files) → IfSome holds P → IfSome holds Q
-some_so None follows is = tt
-some_so (Some files) follows is = follows files is
-
-told_so : {P Q : Files → Type 0} (holds : Option Files) → ((files : Files) → P files → Q files) → IsTold holds P → IsTold holds Q
-told_so None follows is = is
-told_so (Some files) follows is = follows files is
-
--- a cause that follows from another
-why_over_so : (old new : ℕ) {P Q : Files → Outcome → Type 0} (holds : Option Files) → ((files : Files) (o : Outcome) → P files o → Q files o) → (c : Cause) →
-    WhyOver holds old new P c → WhyOver holds old new Q c
-why_over_so old new holds follows (due o) is = some_so holds (λ files. follows files o) is
-why_over_so old new holds follows unread (inl rose) = inl rose
-why_over_so old new holds follows unread (inr missing) = inr (told_so holds (λ files. follows files misses) missing)
-why_over_so old new holds follows starved is = tt
+use Rattle.surf_run.proofs.Composing.{handed, some_so, why_over_so}
 
 -- the cause of a step that reads no file
 why_here : (old new : ℕ) {P : Outcome → Type 0} (holds : Option Files) (Q : Files → Outcome → Type 0) → ((o : Outcome) → P o → IfSome holds (λ files. Q files o)) →

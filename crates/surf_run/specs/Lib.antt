@@ -1,4 +1,5 @@
 pub mod Commands
+pub mod Cutting
 pub mod Leads
 pub mod Named
 pub mod OneAnswer

@@ -8,7 +8,7 @@ ghost use Rattle.surf_slit.specs.Labels.{corner_at, IsLabelledAt};
 ghost use Rattle.surf_slit.specs.Link.{run_of};
 ghost use Rattle.surf_slit.specs.Place.{cut_behind};
 
-use surf_base::{EdgeId, SideId, VertexId};
+use surf_base::{CopyId, EdgeId, SideId, VertexId};
 use surf_mesh::HalfMesh;
 
 // How many edges of a list are cut.
@@ -33,7 +33,7 @@ fn label_runs(
     cut: &[bool],
     cuts: u32,
     first: u32,
-    labels: &mut [u32],
+    labels: &mut [CopyId],
 )
     requires size { length edges.now ≡ length ring.now }
     requires few { length ring.now < 2 ^ 30 }
@@ -51,7 +51,7 @@ fn label_runs(
     let mut run = 0;
     for k in 0..ring.len() {
         let shown = if run == cuts { 0 } else { run };
-        labels[ring[k].index()] = first + shown;
+        labels[ring[k].index()] = CopyId::new(first + shown);
         if cut[edges[k].index()] {
             run += 1;
         }
@@ -62,7 +62,7 @@ fn label_runs(
 pub(crate) fn label_vertex(
     mesh: &HalfMesh,
     cut: &[bool],
-    labels: &mut [u32],
+    labels: &mut [CopyId],
     first: u32,
     v: VertexId,
 ) -> u32
@@ -83,7 +83,7 @@ pub(crate) fn label_vertex(
 }
 
 // Gives all corners at a vertex its number for a label.
-pub(crate) fn label_whole(mesh: &HalfMesh, labels: &mut [u32], v: VertexId)
+pub(crate) fn label_whole(mesh: &HalfMesh, labels: &mut [CopyId], v: VertexId)
     requires vertex { v < mesh.now.vertices }
     requires size { length labels.old ≡ side_count mesh.now }
     ensures here { (s : ℕ) → BeginsAt mesh.now v s → slice_index labels.new s ≡ v }
@@ -91,6 +91,6 @@ pub(crate) fn label_whole(mesh: &HalfMesh, labels: &mut [u32], v: VertexId)
         slice_index labels.new s ≡ slice_index labels.old s }
 {
     for side in mesh.ring(v) {
-        labels[side.index()] = v.number();
+        labels[side.index()] = CopyId::new(v.number());
     }
 }

@@ -10,7 +10,7 @@ use crate::labelling::{label_vertex, label_whole};
 use crate::splitting::split_ends;
 use std::alloc::Global;
 use std::marker::Model;
-use surf_base::{EdgeId, NoMemory, SideId, VertexId};
+use surf_base::{CopyId, EdgeId, NoMemory, SideId, VertexId};
 use surf_mesh::HalfMesh;
 
 /// A surface with some edges cut, and a label for each corner.
@@ -18,7 +18,7 @@ use surf_mesh::HalfMesh;
 pub struct Slit<'m> {
     mesh: &'m HalfMesh,
     cut: Vec<bool>,
-    labels: Vec<u32>,
+    labels: Vec<CopyId>,
     count: u32,
 }
 
@@ -38,7 +38,7 @@ impl<'m> Model for Slit<'m> {
 }
 
 // Labels the corners at all vertices, and says how many labels they have.
-fn label_all(mesh: &HalfMesh, cut: &[bool], labels: &mut [u32]) -> u32
+fn label_all(mesh: &HalfMesh, cut: &[bool], labels: &mut [CopyId]) -> u32
     requires flags { length cut.now ≡ edge_count mesh.now }
     requires size { length labels.old ≡ side_count mesh.now }
     ensures { AreLabels mesh.now cut.now labels.new result }
@@ -51,13 +51,29 @@ fn label_all(mesh: &HalfMesh, cut: &[bool], labels: &mut [u32]) -> u32
     count
 }
 
+/// The labels of a surface that is cut along the edges with a flag, one flag an edge, and how many
+/// there are: for each side the label of the corner at which it begins. It takes time in proportion
+/// to the surface, however many edges are cut.
+pub fn labels_along(
+    alloc: Global,
+    mesh: &HalfMesh,
+    cut: &[bool],
+) -> Result<(Vec<CopyId>, u32), NoMemory>
+    requires { length cut.now ≡ edge_count mesh.now }
+    ensures { IfOk result (λ r. AreLabels mesh.now cut.now r.0.items r.1) }
+{
+    let mut labels = vec![in alloc; CopyId::new(0); mesh.side_count() as usize]?;
+    let count = label_all(mesh, cut, &mut labels);
+    Ok((labels, count))
+}
+
 impl<'m> Slit<'m> {
     /// The surface with no edge cut. The label of each corner is the number of its vertex.
     pub fn start(alloc: Global, mesh: &'m HalfMesh) -> Result<Slit<'m>, NoMemory>
         ensures { IfOk result (λ s. IsUncutSlit mesh.now s) }
     {
         mesh.law_of_surface();
-        let mut labels = vec![in alloc; 0u32; mesh.side_count() as usize]?;
+        let mut labels = vec![in alloc; CopyId::new(0); mesh.side_count() as usize]?;
         let cut = vec![in alloc; false; mesh.edges() as usize]?;
         for v in 0..mesh.vertices() {
             label_whole(mesh, &mut labels, VertexId::new(v));
@@ -78,9 +94,9 @@ impl<'m> Slit<'m> {
         ensures mesh { IfOk result (λ s. s.mesh ≡ mesh.now) }
         ensures cut { IfOk result (λ s. s.cut ≡ cut.now) }
     {
-        let mut labels = vec![in alloc; 0u32; mesh.side_count() as usize]?;
+        mesh.law_of_surface();
         let flags = cut.to_vec(alloc)?;
-        let count = label_all(mesh, &flags, &mut labels);
+        let (labels, count) = labels_along(alloc, mesh, &flags)?;
         Ok(Slit {
             mesh,
             cut: flags,
@@ -113,7 +129,7 @@ impl<'m> Slit<'m> {
         requires { s < side_count self.now.mesh }
         ensures { result ≡ slice_index self.now.labels s }
     {
-        self.labels[s.index()]
+        self.labels[s.index()].number()
     }
 
     /// How many labels there are. They are the numbers below it.

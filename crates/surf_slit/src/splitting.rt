@@ -7,7 +7,7 @@ ghost use Rattle.surf_soup.specs.Ring.{IsEdgeAt};
 ghost use Rattle.surf_slit.specs.Labels.{corner_at, AgreeAt, AreNumbers, AreLabels};
 ghost use Rattle.surf_slit.specs.Place.{place, NoneCut, IsNextCut};
 
-use surf_base::{EdgeId, SideId, VertexId};
+use surf_base::{CopyId, EdgeId, SideId, VertexId};
 use surf_mesh::HalfMesh;
 
 // The place of an edge in a list.
@@ -53,7 +53,7 @@ fn next_cut(edges: &[EdgeId], cut: &[bool], from: usize) -> Option<usize>
 }
 
 // Gives the corners that follow a place one label.
-fn relabel(ring: &[SideId], labels: &mut [u32], from: usize, count: usize, label: u32)
+fn relabel(ring: &[SideId], labels: &mut [CopyId], from: usize, count: usize, label: u32)
     requires few { length ring.now < 2 ^ 32 }
     requires from { from < length ring.now }
     requires count { count ≤ length ring.now }
@@ -66,7 +66,7 @@ fn relabel(ring: &[SideId], labels: &mut [u32], from: usize, count: usize, label
 {
     for steps in 0..count {
         let k = step_from(ring.len(), from, steps);
-        labels[ring[k].index()] = label;
+        labels[ring[k].index()] = CopyId::new(label);
     }
 }
 
@@ -74,7 +74,7 @@ fn relabel(ring: &[SideId], labels: &mut [u32], from: usize, count: usize, label
 pub(crate) fn split_at(
     mesh: &HalfMesh,
     cut: &[bool],
-    labels: &mut [u32],
+    labels: &mut [CopyId],
     count: u32,
     v: VertexId,
     e: EdgeId,
@@ -106,7 +106,7 @@ pub(crate) fn split_at(
 pub(crate) fn split_ends(
     mesh: &HalfMesh,
     cut: &[bool],
-    labels: &mut [u32],
+    labels: &mut [CopyId],
     count: u32,
     e: EdgeId,
 ) -> u32

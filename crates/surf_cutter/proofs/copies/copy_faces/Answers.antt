@@ -3,7 +3,7 @@ use Rattle.std.specs.List.{range_with_len, sum_by}
 use Rattle.std.proofs.lemmas.List.FromFn.{length-range_with_len}
 use Rattle.std.proofs.lemmas.List.Sums.{sum_by_push}
 use Rattle.surf_surfaces.specs.Surface.{face_count, face_at}
-use Rattle.surf_surfaces.specs.SideNumber.{side_count, first_side}
+use Rattle.surf_surfaces.specs.SideNumber.{first_side}
 use Rattle.surf_soup.proofs.HalfLaws.{spans}
 use Rattle.surf_cutter.specs.Copies.{AreCopied}
 use Rattle.surf_cutter.proofs.Sorted.{copied_more, side_of_range}
@@ -16,7 +16,7 @@ list_copies-requires-clause-sides c k h =
     let lt : f < face_count mesh = omega (arith, c.loop-f-test.true, c.faces-count.ensures.count) in
     let own : c.sides.result.now ≡ range_with_len (first_side mesh f) (length (face_at mesh f)) = c.sides.ensures ∙ ap (λ f. range_with_len (first_side mesh f) (length (face_at mesh f))) c.new.ensures in
     let b = side_of_range mesh f k c.sides.result.now lt own h in
-    omega (arith, b, ap side_count c.requires.mesh)
+    omega (arith, b, c.requires.all)
 
 pub push-requires : goal.push-requires
 push-requires c =
@@ -33,7 +33,7 @@ loop-f-preserved c =
     let mesh = c.args.mesh.now in
     let f = c.loop-f.f in
     let i = c.loop-f.invariant in
-    let labels = c.args.slit.now.labels in
+    let labels = c.args.labels.now in
     let numbers = c.args.numbers.now in
     let lt : f < face_count mesh = omega (arith, c.loop-f-test.true, c.faces-count.ensures.count) in
     let own : c.sides.result.now ≡ range_with_len (first_side mesh f) (length (face_at mesh f)) = c.sides.ensures ∙ ap (λ f. range_with_len (first_side mesh f) (length (face_at mesh f))) c.new.ensures in

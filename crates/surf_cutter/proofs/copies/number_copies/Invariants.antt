@@ -4,6 +4,6 @@ use Rattle.surf_cutter.proofs.copies.number_copies.Given as goal
 
 abbrev pub invariant-loop-v : goal.invariant-loop-v
 invariant-loop-v l = record {
-  numbered : AreNumberedTo l.mesh l.v l.slit.labels l.numbers l.origins.items;
+  numbered : AreNumberedTo l.mesh l.v l.labels l.numbers l.origins.items;
   size : length l.numbers ≡ length l.initial.numbers;
 }

@@ -20,7 +20,7 @@ pub returns-then-have_one_label-clause-numbered : goal.returns-then-have_one_lab
 returns-then-have_one_label-clause-numbered c =
     let mesh = c.args.mesh.now in
     let v = c.args.v in
-    let labels = c.args.slit.now.labels in
+    let labels = c.args.labels.now in
     let numbers = c.args.numbers.now in
     let origins = c.args.origins.now.items in
     let ring : List ℕ = c.ring-ring.result.now in
@@ -29,9 +29,9 @@ returns-then-have_one_label-clause-numbered c =
     let one = c.if-have_one_label.ensures refl in
     let d : ℕ = c.index-ring-0.result in
     let side : d ≡ get_or ring 0 0 = c.index-ring-0.is ∙ get_or_default ring 0 d 0 is.some in
-    let own : c.label.result ≡ label = c.label.ensures ∙ ap (λ s. get_or labels s 0) side in
+    let own : c.label_of.result ≡ label = c.label_of.ensures ∙ ap (λ s. get_or labels s 0) side in
     let inside : label < length numbers = c.requires.labels (get_or ring 0 0) (is.begin 0 is.some).0 in
-    let same : get_or numbers c.label.result 0 ≡ get_or numbers label 0 = ap (λ l. get_or numbers l 0) own in
+    let same : get_or numbers c.label_of.result 0 ≡ get_or numbers label 0 = ap (λ l. get_or numbers l 0) own in
     let r = c.number_label.result in
     let P : List ℕ → List ℕ → Type 0 = λ numbers origins. AreNumberedTo mesh (v + 1) labels numbers origins in
     elim (cases_eq (get_or numbers label 0) nobody) [

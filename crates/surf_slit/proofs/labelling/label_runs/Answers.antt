@@ -5,8 +5,8 @@ use Rattle.surf_slit.proofs.Runs.{count_upto}
 use Rattle.surf_slit.proofs.labelling.label_runs.Goals as goal
 use Rattle.surf_slit.proofs.labelling.label_runs.Goals.{then-run-cuts, else-run-cuts}
 
-pub overflow_add-labels : goal.overflow_add-labels
-overflow_add-labels c =
+pub overflow_add-first : goal.overflow_add-first
+overflow_add-first c =
     let few = count_upto (cut_behind c.args.edges.now c.args.cut.now) c.loop-k.k in
     elim c.if-run-cuts.branch [
       | then-run-cuts w ↦ omega (arith, w.shown-is)
