@@ -1,6 +1,6 @@
 //! The face lines.
 ghost use Rattle.std.specs.Prelude.{◌≡◌, ◌≢◌, ◌==◌, ◌<◌, ◌≤◌, ◌+◌, ℕ, true, [], length, slice_index};
-ghost use Rattle.std.specs.Prelude.{take, drop, None, IfOk, IfNone, IfSome, IsTrue, OnOk};
+ghost use Rattle.std.specs.Prelude.{take, drop, IfOk, IfNone, IfSome, IsTrue, OnOk};
 ghost use Rattle.std.specs.List.{All, AllPairs, before_first, list_any};
 ghost use Rattle.surf_surfaces.specs.Mesh.{IsFace};
 ghost use Rattle.surf_surfaces.specs.SideNumber.{side_count};
@@ -116,7 +116,7 @@ fn repeated(marks: &mut [u32], stamp: u32, corners: &[VertexId]) -> Option<Verte
 
 // Whether they are three corners of as many vertices.
 fn are_three(corners: &[VertexId]) -> bool
-    ensures first { IsTrue result → first_repeat [] corners.now ≡ None }
+    ensures three { IsTrue result → length corners.now ≡ 3 }
     ensures distinct { IsTrue result → AllPairs (λ a b. a ≢ b) corners.now }
 {
     match corners {
@@ -153,6 +153,7 @@ fn refuse_repeats_of_many(
 
 // No corner may have a vertex that stands before.
 #[inline]
+#[tactic(auto, using(crate::proofs::Repeats::three_differ))]
 fn refuse_repeats(
     line: u32,
     marks: &mut [u32],

@@ -153,7 +153,7 @@ module _ (xs : List ℕ) where
       let value : value_of (front_digits xs) ≡ n = sym (is ∙ ap (λ (k : ℕ). value_of (take k xs)) (sym end)) in
       let whole_is : number_on 0 (front_digits xs) ≡ cond (true && nat_lt n (2 ^ 64)) (Some n) None =
       number_on-is 0 (front_digits xs) ∙ ap (λ (v : ℕ). cond (list_all is_ascii_digit (front_digits xs) && nat_lt v (2 ^ 64)) (Some v) None) value
-          ∙ ap (λ (t : Bool). cond (t && nat_lt n (2 ^ 64)) (Some n) None) (digits_all xs) in
+      ∙ ap (λ (t : Bool). cond (t && nat_lt n (2 ^ 64)) (Some n) None) (digits_all xs) in
       number_all (front_digits xs) d n (omega (arith, word_length, end)) (omega arith)
       ∙ sym (whole_is ∙ ap (λ (t : Bool). cond t (Some n) None) (lt-ltb n (2 ^ 64) (omega arith)))
 

@@ -35,46 +35,64 @@ fn counted(number: u32, digits: usize) -> Option<(u32, usize)>
     }
 }
 
-// As many bytes are looked at before the digits are many: no number of fewer passes 32 bits.
+// No number of fewer digits passes 32 bits, so that they are read without a bound.
 const FEW: usize = 8;
 
-// The number that the first digits are, up to eight of them, and how many they are. The bytes are
-// eight at least, so that no end is looked for.
+// The number that the first digits of so few bytes are, and how many they are.
 #[inline]
-fn few_digits(bytes: &[u8]) -> (u32, usize)
-    requires room { FEW ≤ length bytes.now }
-    ensures digits { result.1 ≡ min FEW (position_or_len is_no_digit bytes.now) }
+fn few_digits(bytes: &[u8], most: usize) -> (u32, usize)
+    requires few { most ≤ FEW }
+    requires within { most ≤ length bytes.now }
+    ensures digits { result.1 ≡ min most (position_or_len is_no_digit bytes.now) }
     ensures number { result.0 ≡ value_of (take result.1 bytes.now) }
 {
     let mut number: u32 = 0;
-    for i in 0..FEW {
+    for i in 0..most {
         let b = bytes[i];
         if !b.is_ascii_digit() {
             return (number, i);
         }
         number = number * 10 + (b - b'0') as u32;
     }
-    (number, FEW)
+    (number, most)
 }
 
-// The same number as that of `front_number`, however many digits there are.
+// The same of the first eight bytes, or of all where there are fewer.
+//
+// Where there are eight, no end is looked for: the compiler writes a loop over so many bytes as a
+// chain.
+#[inline]
+fn first_digits(bytes: &[u8]) -> (u32, usize)
+    ensures digits { result.1 ≡ min FEW (position_or_len is_no_digit bytes.now) }
+    ensures number { result.0 ≡ value_of (take result.1 bytes.now) }
+{
+    if bytes.len() < FEW {
+        few_digits(bytes, bytes.len())
+    } else {
+        few_digits(bytes, FEW)
+    }
+}
+
+// The number that the digits in front are, and how many they are, however many that is: no digits
+// where they aren't a number of 32 bits.
 #[inline(never)]
-fn long_number(bytes: &[u8]) -> Option<(u32, usize)>
-    ensures number { MatchOption result (short_whole (front_digits bytes.now) ≡ None)
+fn long_number(bytes: &[u8]) -> (u32, usize)
+    ensures number { MatchOption (if result.1 == 0 then None else Some result)
+        (short_whole (front_digits bytes.now) ≡ None)
         (λ x. (short_whole (front_digits bytes.now) ≡ Some x.0)
         × (position_or_len is_no_digit bytes.now ≡ x.1)) }
 {
     let mut number: u64 = 0;
     for (i, b) in bytes.iter().enumerate() {
         if !b.is_ascii_digit() {
-            return counted(number as u32, i);
+            return (number as u32, i);
         }
         number = number * 10 + (*b - b'0') as u64;
         if number > u32::MAX as u64 {
-            return None;
+            return (0, 0);
         }
     }
-    counted(number as u32, bytes.len())
+    (number as u32, bytes.len())
 }
 
 /// The whole number of 32 bits that the digits in front are, and how many they are. None where they
@@ -85,19 +103,19 @@ pub fn front_number(bytes: &[u8]) -> Option<(u32, usize)>
         (λ x. (short_whole (front_digits bytes.now) ≡ Some x.0)
         × (position_or_len is_no_digit bytes.now ≡ x.1)) }
 {
-    if bytes.len() >= FEW {
-        let (number, digits) = few_digits(bytes);
-        if digits < FEW {
-            return counted(number, digits);
-        }
+    let (number, digits) = first_digits(bytes);
+    if digits < FEW {
+        return counted(number, digits);
     }
-    long_number(bytes)
+    let (number, digits) = long_number(bytes);
+    counted(number, digits)
 }
 
 /// The whole number of 32 bits before the first space, and what stands behind that space, if there
 /// is one. None where what stands before it isn't such a number.
 ///
 /// It goes over each byte once. A line that is split so to its end has these numbers as its tokens.
+#[inline]
 pub fn split_number(bytes: &[u8]) -> Option<(u32, Option<&[u8]>)>
     ensures number { MatchOption result (short_whole (before_first is_space bytes.now) ≡ None)
         (λ x. short_whole (before_first is_space bytes.now) ≡ Some x.0) }

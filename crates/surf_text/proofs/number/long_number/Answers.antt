@@ -1,4 +1,4 @@
-use Rattle.std.proofs.Common.{◌≡◌, ℕ, length, drop, not, ap, sym, ◌∙◌, subst, arith}
+use Rattle.std.proofs.Common.{◌≡◌, ℕ, length, drop, not, ap, refl, sym, ◌∙◌, subst, arith}
 use Rattle.surf_text.specs.Text.{front_digits}
 use Rattle.surf_text.proofs.Digits.{number_on}
 use Rattle.surf_text.proofs.Short.{other_here, digit_later, digits_at_end, short_more, short_passes, short_ends}
@@ -9,7 +9,7 @@ returns-then-not-is_ascii_digit c =
     let xs = c.args.bytes.now in
     let l = c.loop-i in
     let other = ap not (sym c.is_ascii_digit.ensures.value ∙ c.if-not-is_ascii_digit.true) in
-    record { number = short_ends xs l.i l.number l.invariant.so_far (sym (other_here xs l.i l.invariant.within other)) l.invariant.fits _ c.counted.ensures.counted }
+    record { number = short_ends xs l.i l.number l.invariant.so_far (sym (other_here xs l.i l.invariant.within other)) l.invariant.fits _ refl }
 
 pub returns-then-number : goal.returns-then-number
 returns-then-number c =
@@ -36,4 +36,4 @@ returns c =
     let l = c.loop-i in
     let end = digits_at_end xs l.i l.invariant.within c.loop-i-test.false in
     let so_far = subst (λ (k : ℕ). number_on l.number (drop k (front_digits xs)) ≡ number_on 0 (front_digits xs)) end.1 l.invariant.so_far in
-    record { number = short_ends xs (length xs) l.number so_far (sym end.1 ∙ end.0) l.invariant.fits _ c.counted-2.ensures.counted }
+    record { number = short_ends xs (length xs) l.number so_far (sym end.1 ∙ end.0) l.invariant.fits _ refl }
