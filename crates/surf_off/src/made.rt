@@ -1,9 +1,9 @@
 //! Writes a made mesh as an OFF text.
-ghost use Rattle.std.specs.Prelude.{◌≡◌, ◌<◌, ◌≤◌, ◌^◌, [], length};
+ghost use Rattle.std.specs.Prelude.{◌≡◌, ◌<◌, ◌≤◌, ◌^◌, ◌++◌, [], codes, length};
 ghost use Rattle.std.specs.List.{zip, range_with_len};
 ghost use Rattle.surf_surfaces.specs.SideNumber.{side_count};
 ghost use Rattle.surf_text.specs.Pages.{Puts};
-ghost use Rattle.surf_off.specs.Written.{lines_text, spaced_text, face_text, faces_text, points, no_colours};
+ghost use Rattle.surf_off.specs.Written.{lines_text, spaced_text, face_text, faces_text, points, point_text, no_colours};
 ghost use Rattle.surf_off.specs.Written.{soup_text, RereadsSoup};
 
 use crate::header::Header;
@@ -12,12 +12,22 @@ use surf_base::{FaceId, VertexId};
 use surf_soup::Soup;
 use surf_text::{Page, PageFault, Piece, Slip};
 
+// The line of a vertex.
+fn point_line(v: u32) -> Slip
+    ensures line { result ≡ point_text v ++ codes "\n" }
+{
+    let mut slip = Slip::new();
+    slip.put_bytes(b" 0 0\n");
+    slip.put_whole(v as u64);
+    slip
+}
+
 fn write_points(page: &mut Page, vertices: u32) -> Result<(), PageFault>
     requires fits { length page.old.bytes ≤ page.old.most }
     ensures puts { Puts page.old page.new (lines_text (points (range_with_len 0 vertices))) result }
 {
     for v in 0..vertices {
-        page.push_pieces(&[Piece::Whole(v as u128), Piece::Bytes(b" 0 0\n")])?;
+        page.push_bytes(point_line(v).bytes())?;
     }
     Ok(())
 }

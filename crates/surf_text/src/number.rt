@@ -39,7 +39,7 @@ fn counted(number: u32, digits: usize) -> Option<(u32, usize)>
 const FEW: usize = 8;
 
 // The number that the first digits of so few bytes are, and how many they are.
-#[inline]
+#[inline(always)]
 fn few_digits(bytes: &[u8], most: usize) -> (u32, usize)
     requires few { most ≤ FEW }
     requires within { most ≤ length bytes.now }
@@ -61,7 +61,7 @@ fn few_digits(bytes: &[u8], most: usize) -> (u32, usize)
 //
 // Where there are eight, no end is looked for: the compiler writes a loop over so many bytes as a
 // chain.
-#[inline]
+#[inline(always)]
 fn first_digits(bytes: &[u8]) -> (u32, usize)
     ensures digits { result.1 ≡ min FEW (position_or_len is_no_digit bytes.now) }
     ensures number { result.0 ≡ value_of (take result.1 bytes.now) }
@@ -97,7 +97,7 @@ fn long_number(bytes: &[u8]) -> (u32, usize)
 
 /// The whole number of 32 bits that the digits in front are, and how many they are. None where they
 /// aren't such a number.
-#[inline]
+#[inline(always)]
 pub fn front_number(bytes: &[u8]) -> Option<(u32, usize)>
     ensures number { MatchOption result (short_whole (front_digits bytes.now) ≡ None)
         (λ x. (short_whole (front_digits bytes.now) ≡ Some x.0)
@@ -115,7 +115,7 @@ pub fn front_number(bytes: &[u8]) -> Option<(u32, usize)>
 /// is one. None where what stands before it isn't such a number.
 ///
 /// It goes over each byte once. A line that is split so to its end has these numbers as its tokens.
-#[inline]
+#[inline(always)]
 pub fn split_number(bytes: &[u8]) -> Option<(u32, Option<&[u8]>)>
     ensures number { MatchOption result (short_whole (before_first is_space bytes.now) ≡ None)
         (λ x. short_whole (before_first is_space bytes.now) ≡ Some x.0) }

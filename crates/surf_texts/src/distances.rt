@@ -1,22 +1,38 @@
 //! The text of distances and parents.
-ghost use Rattle.std.specs.Prelude.{◌≡◌, ◌<◌, ◌≤◌, ◌++◌, codes, length, slice_index};
+ghost use Rattle.std.specs.Prelude.{◌≡◌, ◌<◌, ◌≤◌, ◌+◌, ◌++◌, length, slice_index};
 ghost use Rattle.surf_texts.specs.DistanceTexts.{vertex_line, parent_text};
 ghost use Rattle.surf_texts.specs.Fills.{Fills};
 ghost use Rattle.surf_texts.specs.TreeTexts.{tables_text};
 ghost use Rattle.surf_tree.specs.Tables.{parent_of};
 
-use crate::numbers::put_number;
 use surf_base::VertexId;
-use surf_text::{Page, PageFault};
+use surf_text::{Page, PageFault, Slip};
 use surf_tree::TreeDesk;
 
-fn put_parent(page: &mut Page, parent: Option<VertexId>) -> Result<(), PageFault>
-    ensures { Fills page.old page.new (parent_text parent ++ codes "\n") result }
+// What stands for a parent, a hyphen where there is none.
+fn put_parent(slip: &mut Slip, parent: Option<VertexId>)
+    requires room { 20 + length slip.old ≤ 64 }
+    ensures before { slip.new ≡ parent_text parent ++ slip.old }
+    ensures short { length slip.new ≤ 20 + length slip.old }
 {
     match parent {
-        Some(u) => put_number(page, u.index() as u64, "\n"),
-        None => page.push_bytes(b"-\n"),
+        Some(u) => slip.put_whole(u.number() as u64),
+        None => slip.put_byte(b'-'),
     }
+}
+
+// The line of a vertex.
+fn line_of(v: VertexId, distance: u64, parent: Option<VertexId>) -> Slip
+    ensures line { result ≡ vertex_line v distance parent }
+{
+    let mut slip = Slip::new();
+    slip.put_byte(b'\n');
+    put_parent(&mut slip, parent);
+    slip.put_byte(b' ');
+    slip.put_whole(distance);
+    slip.put_byte(b' ');
+    slip.put_whole(v.number() as u64);
+    slip
 }
 
 fn put_vertex(page: &mut Page, tree: &TreeDesk, v: VertexId) -> Result<(), PageFault>
@@ -25,9 +41,8 @@ fn put_vertex(page: &mut Page, tree: &TreeDesk, v: VertexId) -> Result<(), PageF
     ensures { Fills page.old page.new (vertex_line v (slice_index tree.now.distances v)
         (parent_of tree.now v)) result }
 {
-    put_number(page, v.index() as u64, " ")?;
-    put_number(page, tree.distance(v), " ")?;
-    put_parent(page, tree.parent(v))
+    let line = line_of(v, tree.distance(v), tree.parent(v));
+    page.push_bytes(line.bytes())
 }
 
 /// Puts a line for each of so many vertices: its number, its distance and its parent.

@@ -6,14 +6,6 @@ ghost use Rattle.surf_text.specs.Numbers.{numbers_text};
 use surf_base::VertexId;
 use surf_text::{Page, PageFault};
 
-/// Puts a number and a text behind it.
-pub(crate) fn put_number(page: &mut Page, n: u64, behind: &str) -> Result<(), PageFault>
-    ensures fills { Fills page.old page.new (decimal n ++ behind.now) result }
-{
-    page.push_whole(n as u128)?;
-    page.push_bytes(behind.as_bytes())
-}
-
 /// Puts a text and a number behind it.
 pub(crate) fn put_named(page: &mut Page, before: &str, n: u64) -> Result<(), PageFault>
     ensures fills { Fills page.old page.new (before.now ++ decimal n) result }

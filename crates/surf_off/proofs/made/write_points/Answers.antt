@@ -1,5 +1,4 @@
-use Rattle.std.proofs.Common.{◌≡◌, ◌<◌, ℕ, List, ◌++◌, length, get_or, refl, ◌∙◌, append_assoc, codes, arith}
-use Rattle.std.specs.Prelude.{decimal}
+use Rattle.std.proofs.Common.{◌≡◌, ◌<◌, ℕ, List, ◌++◌, length, get_or, refl, sym, ◌∙◌, ap, subst, codes, arith}
 use Rattle.std.specs.List.{range_with_len}
 use Rattle.std.proofs.lemmas.List.FromFn.{length-range_with_len, get_or-range_with_len}
 use Rattle.std.proofs.lemmas.Result.{err_from_is_err_and}
@@ -8,17 +7,17 @@ use Rattle.surf_text.proofs.Writing.{loop_more, loop_stop, loop_done}
 use Rattle.surf_off.specs.Written.{lines_text, points, point_text}
 use Rattle.surf_off.proofs.made.write_points.Goals as goal
 
-pub returns-in_err-push_pieces : goal.returns-in_err-push_pieces
-returns-in_err-push_pieces c =
+pub returns-in_err-push_bytes : goal.returns-in_err-push_bytes
+returns-in_err-push_bytes c =
     let n = c.args.vertices in
     let v = c.loop-v.v in
     let text : List ℕ → List ℕ = λ vs. lines_text (points vs) in
     let piece : ℕ → List ℕ = λ v. point_text v ++ codes "\n" in
     let at : get_or (range_with_len 0 n) v 0 ≡ v = get_or-range_with_len 0 n v 0 c.loop-v-test.true ∙ omega arith in
     let lt : v < length (range_with_len 0 n) = omega (arith, length-range_with_len 0 n, c.loop-v-test.true) in
-    let one : Puts c.loop-v.page c.push_pieces.new.self (piece (get_or (range_with_len 0 n) v 0)) c.push_pieces.result = rw (at, append_assoc (decimal v) (codes " 0 0") (codes "\n")) c.push_pieces.ensures.puts in
+    let one : Puts c.loop-v.page c.push_bytes.new.self (piece (get_or (range_with_len 0 n) v 0)) c.push_bytes.result = subst (λ (t : List ℕ). Puts c.loop-v.page c.push_bytes.new.self t c.push_bytes.result) (c.bytes.ensures.bytes ∙ c.point_line.ensures.line ∙ ap piece (sym at)) c.push_bytes.ensures.puts in
     let p = err_from_is_err_and c.from_residual.result c.from_residual.ensures.1 in
-    record { puts = loop_stop text piece refl (λ x xs. refl) (range_with_len 0 n) v 0 lt c.args.page.now c.loop-v.page c.push_pieces.new.self (tt {0}) c.loop-v.invariant c.push_pieces.result c.in_err-push_pieces.field-0.0 c.from_residual.result c.in_err-push_pieces.was (rw (p.1, p.2) refl) one }
+    record { puts = loop_stop text piece refl (λ x xs. refl) (range_with_len 0 n) v 0 lt c.args.page.now c.loop-v.page c.push_bytes.new.self (tt {0}) c.loop-v.invariant c.push_bytes.result c.in_err-push_bytes.field-0.0 c.from_residual.result c.in_err-push_bytes.was (rw (p.1, p.2) refl) one }
 
 pub loop-v-preserved : goal.loop-v-preserved
 loop-v-preserved c =
@@ -28,8 +27,8 @@ loop-v-preserved c =
     let piece : ℕ → List ℕ = λ v. point_text v ++ codes "\n" in
     let at : get_or (range_with_len 0 n) v 0 ≡ v = get_or-range_with_len 0 n v 0 c.loop-v-test.true ∙ omega arith in
     let lt : v < length (range_with_len 0 n) = omega (arith, length-range_with_len 0 n, c.loop-v-test.true) in
-    let one : Puts c.loop-v.page c.push_pieces.new.self (piece (get_or (range_with_len 0 n) v 0)) c.push_pieces.result = rw (at, append_assoc (decimal v) (codes " 0 0") (codes "\n")) c.push_pieces.ensures.puts in
-    loop_more text piece refl (λ x xs. refl) (range_with_len 0 n) v 0 lt c.args.page.now c.loop-v.page c.push_pieces.new.self (tt {0}) c.loop-v.invariant c.push_pieces.result c.in_ok-push_pieces.field-0 c.in_ok-push_pieces.was one
+    let one : Puts c.loop-v.page c.push_bytes.new.self (piece (get_or (range_with_len 0 n) v 0)) c.push_bytes.result = subst (λ (t : List ℕ). Puts c.loop-v.page c.push_bytes.new.self t c.push_bytes.result) (c.bytes.ensures.bytes ∙ c.point_line.ensures.line ∙ ap piece (sym at)) c.push_bytes.ensures.puts in
+    loop_more text piece refl (λ x xs. refl) (range_with_len 0 n) v 0 lt c.args.page.now c.loop-v.page c.push_bytes.new.self (tt {0}) c.loop-v.invariant c.push_bytes.result c.in_ok-push_bytes.field-0 c.in_ok-push_bytes.was one
 
 pub returns : goal.returns
 returns c =
