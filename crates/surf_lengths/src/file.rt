@@ -1,12 +1,13 @@
 //! Reads a length file.
-ghost use Rattle.std.specs.Prelude.{◌≡◌, ◌≢◌, ◌<◌, ◌≤◌, ◌==◌, ℕ, List, Result, Ok, Err, drop, length, IfOk, IfSome};
-ghost use Rattle.std.specs.Prelude.{MatchResult};
+ghost use Rattle.std.specs.Prelude.{◌≡◌, ◌≢◌, ◌<◌, ◌≤◌, ◌^◌, ◌==◌, ℕ, Option, Some, Ok, Err, All, drop, length, map, replicate};
+ghost use Rattle.std.specs.Prelude.{IfOk, IfSome, MatchResult, OnOk};
 ghost use Rattle.std.specs.List.{fold, position};
 ghost use Rattle.surf_text.specs.Text.{lines_of};
 ghost use Rattle.surf_text.specs.Walks.{lines_ahead};
 ghost use Rattle.surf_surfaces.specs.Surface.{edge_count};
-ghost use Rattle.surf_lengths.specs.Files.{Head, Named, behind_version, length_head, name_edge, name_line};
-ghost use Rattle.surf_lengths.specs.Files.{missing_edge, lengths_in, Gives};
+ghost use Rattle.surf_lengths.specs.Files.{Head, Named, behind_version, length_head, name_line, none_named};
+ghost use Rattle.surf_lengths.specs.Files.{when_read, lengths_in, Gives};
+ghost use Rattle.surf_lengths.specs.Naming.{IsFirstNaming, length_or, IsTableOf, AreNamed};
 ghost use Rattle.surf_lengths.specs.Walks.{GivesEntry};
 
 use crate::line::{Entry, begins_with, entry_with, is_version, read_default, read_entry};
@@ -80,6 +81,7 @@ fn next_by_tokens(
 ) -> Result<Option<Entry>, LengthFault>
     ensures entry { GivesEntry mesh.now (lines_ahead lines.old) (lines_ahead lines.new) result }
     ensures inside { IfOk result (λ x. IfSome x (λ entry. entry.edge < edge_count mesh.now)) }
+    ensures numbered { IfOk result (λ x. IfSome x (λ entry. 1 ≤ entry.line)) }
 {
     let Some(line) = lines.next_line() else {
         return Ok(None);
@@ -96,6 +98,7 @@ fn next_entry(
 ) -> Result<Option<Entry>, LengthFault>
     ensures entry { GivesEntry mesh.now (lines_ahead lines.old) (lines_ahead lines.new) result }
     ensures inside { IfOk result (λ x. IfSome x (λ entry. entry.edge < edge_count mesh.now)) }
+    ensures numbered { IfOk result (λ x. IfSome x (λ entry. 1 ≤ entry.line)) }
 {
     let Some(plain) = plain_line(lines.rest()) else {
         return next_by_tokens(mesh, lines, expected);
@@ -106,69 +109,122 @@ fn next_entry(
     Ok(Some(entry))
 }
 
-// Gives the edge of a line its length, where no earlier line names it.
-fn name_one(entry: &Entry, lengths: &mut [u32], named: &mut [u32]) -> Result<(), LengthFault>
-    requires lengths { entry.now.edge < length lengths.old }
-    requires lines { entry.now.edge < length named.old }
-    ensures named { MatchResult result
-        (λ _. name_edge (record { lengths = lengths.old; lines = named.old }) entry.now.line
-        (Ok (entry.now.edge, entry.now.length))
-        ≡ Ok (record { lengths = lengths.new; lines = named.new }))
-        (λ e. name_edge (record { lengths = lengths.old; lines = named.old }) entry.now.line
-        (Ok (entry.now.edge, entry.now.length)) ≡ Err e) }
-    ensures sized { length lengths.new ≡ length lengths.old }
-    ensures listed { length named.new ≡ length named.old }
-{
-    let e = entry.edge.index();
-    if named[e] != 0 {
-        return Err(LengthFault::Twice {
-            line: entry.line,
-            earlier: named[e],
-        });
-    }
-    lengths[e] = entry.length;
-    named[e] = entry.line;
-    Ok(())
-}
-
-// Gives the edges of all lines to come their lengths.
-fn name_all(
+// The number of the first of the lines to come that names an edge.
+fn first_naming(
     mesh: &HalfMesh,
     lines: &mut PlacedLines<'_>,
-    lengths: &mut [u32],
-    named: &mut [u32],
-) -> Result<(), LengthFault>
-    requires lengths { length lengths.old ≡ edge_count mesh.now }
-    requires lines { length named.old ≡ edge_count mesh.now }
-    ensures named { MatchResult result (λ _. fold (name_line mesh.now)
-        (Ok (record { lengths = lengths.old; lines = named.old })) (lines_ahead lines.old)
-        ≡ Ok (record { lengths = lengths.new; lines = named.new }))
-        (λ e. fold (name_line mesh.now) (Ok (record { lengths = lengths.old; lines = named.old }))
-        (lines_ahead lines.old) ≡ Err e) }
+    edge: EdgeId,
+) -> Result<u32, LengthFault>
+    ensures first { (number : ℕ) → IsFirstNaming mesh.now edge (lines_ahead lines.old) number →
+        result ≡ Ok number }
 {
     let mut expected = 0;
     while let Some(entry) = next_entry(mesh, lines, expected)? {
-        name_one(&entry, lengths, named)?;
+        if entry.edge == edge {
+            return Ok(entry.line);
+        }
         expected = entry.edge.index() + 1;
+    }
+    Ok(0)
+}
+
+// The number of the first line of a text that names an edge.
+fn earlier_line(mesh: &HalfMesh, text: &[u8], edge: EdgeId) -> Result<u32, LengthFault>
+    requires short { length text.now < 4294967295 }
+    ensures first { (head : Head) → length_head (lines_of text.now) ≡ Ok head → (number : ℕ) →
+        IsFirstNaming mesh.now edge head.entries number → result ≡ Ok number }
+{
+    let (_, mut lines) = read_head(text)?;
+    first_naming(mesh, &mut lines, edge)
+}
+
+// Gives the edges of all lines to come their lengths, in a table that has 0 for each edge. Which
+// line names an edge isn't kept: where a later one names it again, the text is read anew.
+fn name_all(
+    mesh: &HalfMesh,
+    text: &[u8],
+    lines: &mut PlacedLines<'_>,
+    table: &mut [u32],
+) -> Result<(), LengthFault>
+    requires short { length text.now < 4294967295 }
+    requires head { (default : Option ℕ) × (length_head (lines_of text.now)
+        ≡ Ok (record { default = default; entries = lines_ahead lines.old })) }
+    requires none { table.old ≡ replicate (edge_count mesh.now) 0 }
+    ensures named { (default : Option ℕ) → MatchResult result
+        (λ _. AreNamed mesh.now default (lines_ahead lines.old) table.new)
+        (λ e. fold (name_line mesh.now) (Ok (none_named mesh.now default)) (lines_ahead lines.old)
+        ≡ Err e) }
+    ensures sized { length table.new ≡ edge_count mesh.now }
+{
+    let mut expected = 0;
+    while let Some(entry) = next_entry(mesh, lines, expected)? {
+        let e = entry.edge.index();
+        if table[e] != 0 {
+            let earlier = earlier_line(mesh, text, entry.edge)?;
+            return Err(LengthFault::Twice {
+                line: entry.line,
+                earlier,
+            });
+        }
+        table[e] = entry.length;
+        expected = e + 1;
     }
     Ok(())
 }
 
-// The first edge without a line.
-fn first_unnamed(named: &[u32]) -> Option<usize>
-    ensures place { result ≡ position (λ line. line == 0) named.now }
+// The first edge without a length.
+fn first_unnamed(table: &[u32]) -> Option<usize>
+    ensures place { result ≡ position (λ n. n == 0) table.now }
 {
-    named.iter().position(|line| *line == 0)
+    table.iter().position(|n| *n == 0)
 }
 
-// The first edge without a line, where there is no default.
-fn missing_edge(default: Option<u32>, named: &[u32]) -> Option<usize>
-    ensures edge { result ≡ missing_edge default named.now }
+// Gives a length to the edges that have none.
+fn fill(default: u32, table: &mut [u32])
+    ensures filled { table.new ≡ map (length_or (Some default)) table.old }
 {
-    if default.is_some() {
-        return None;
+    for e in 0..table.len() {
+        if table[e] == 0 {
+            table[e] = default;
+        }
     }
-    first_unnamed(named)
+}
+
+// Gives the default to the edges that no line names. Where there is none, no edge may be missing.
+fn complete(mesh: &HalfMesh, default: Option<u32>, table: &mut [u32]) -> Result<(), LengthFault>
+    requires sized { length table.old ≡ edge_count mesh.now }
+    requires few { length table.old < 2 ^ 32 }
+    requires positive { IfSome default (λ n. 1 ≤ n) }
+    ensures complete { (named : Named) → IsTableOf mesh.now default named table.old →
+        MatchResult result (λ _. when_read mesh.now default (Ok named) ≡ Ok table.new)
+        (λ e. when_read mesh.now default (Ok named) ≡ Err e) }
+    ensures some { OnOk result (All (λ n. n ≢ 0) table.new) }
+    ensures sized { length table.new ≡ edge_count mesh.now }
+{
+    if let Some(n) = default {
+        fill(n, table);
+        return Ok(());
+    }
+    if let Some(e) = first_unnamed(table) {
+        let (u, v) = mesh.ends(EdgeId::new(e as u32));
+        return Err(LengthFault::Missing { u, v });
+    }
+    Ok(())
+}
+
+// Reads the lengths into a table that has 0 for each edge.
+fn read_table(mesh: &HalfMesh, text: &[u8], table: &mut [u32]) -> Result<(), LengthFault>
+    requires short { length text.now < 4294967295 }
+    requires few { edge_count mesh.now < 2 ^ 32 }
+    requires none { table.old ≡ replicate (edge_count mesh.now) 0 }
+    ensures read { MatchResult result (λ _. lengths_in mesh.now text.now ≡ Ok table.new)
+        (λ e. lengths_in mesh.now text.now ≡ Err e) }
+    ensures some { OnOk result (All (λ n. n ≢ 0) table.new) }
+    ensures sized { length table.new ≡ edge_count mesh.now }
+{
+    let (default, mut lines) = read_head(text)?;
+    name_all(mesh, text, &mut lines, table)?;
+    complete(mesh, default, table)
 }
 
 /// Reads the lengths of the edges of a mesh from the text of a length file. The text is shorter
@@ -185,14 +241,7 @@ pub fn read_lengths(alloc: Global, text: &[u8], mesh: &HalfMesh) -> Result<Lengt
     ensures gives { Gives result (lengths_in mesh.now text.now) }
     ensures count { IfOk result (λ lengths. length lengths ≡ edge_count mesh.now) }
 {
-    let (default, mut lines) = read_head(text)?;
-    let edges = mesh.edges() as usize;
-    let mut lengths = vec![in alloc; default.unwrap_or(0); edges]?;
-    let mut named = vec![in alloc; 0u32; edges]?;
-    name_all(mesh, &mut lines, &mut lengths, &mut named)?;
-    if let Some(e) = missing_edge(default, &named) {
-        let (u, v) = mesh.ends(EdgeId::new(e as u32));
-        return Err(LengthFault::Missing { u, v });
-    }
-    Ok(Lengths::from_values(lengths))
+    let mut table = vec![in alloc; 0u32; mesh.edges() as usize]?;
+    read_table(mesh, text, &mut table)?;
+    Ok(Lengths::from_values(table))
 }

@@ -3,8 +3,9 @@
 //! They are read from a length file, whose lines `u v n` give the edge between the vertices `u`
 //! and `v` the length `n`. A file of version 2 begins with the line `SURFLEN 2`, and its next
 //! line may be `default n`, which gives `n` to the edges without a line. Every other file is of
-//! version 1, in which each edge has a line. The tables of a reading are two numbers of 32 bits
-//! for each edge: its length, and the number of the line that names it.
+//! version 1, in which each edge has a line. The table of a reading is a number of 32 bits for each
+//! edge: its length, and 0 until a line names it. Which line that is isn't kept: where a later line
+//! names the edge again, the text is read anew.
 #![tactic(auto)]
 
 mod fault;
