@@ -1,13 +1,15 @@
 -- Going round a border from copy to copy.
-use Rattle.std.proofs.Common.{◌≡◌, ◌≢◌, ℕ, ◌+◌, ◌-◌, ◌<◌, ◌≤◌, ◌⊎◌, inl, inr, sym, refl, subst, ap, ◌∙◌, Bool, true, false, List, [], ◌∷◌, ◌++◌, length, get_or, set, arith}
-use Rattle.std.proofs.lemmas.Bool.{true≢false, cases_eq, cases_order}
-use Rattle.std.proofs.lemmas.List.{length-set, get_or-set_same, get_or-set_other, length_push, get_or_push, get_or_append_left}
+use Rattle.std.proofs.Common.{◌≡◌, ◌≢◌, ℕ, ◌+◌, ◌-◌, ◌<◌, ◌≤◌, ◌⊎◌, inl, inr, sym, refl, subst, ap, ◌∙◌, List, [], ◌∷◌, ◌++◌, length, get_or, eqb, arith}
+use Rattle.std.proofs.lemmas.Bool.{cases_eq, cases_order, eqb-true}
+use Rattle.std.proofs.lemmas.List.{length_push, get_or_push, get_or_append_left}
+use Rattle.std.proofs.lemmas.Map.Steps.{length-le_from_distinct_below}
 use Rattle.surf_surfaces.specs.Disc.{IsDisc}
 use Rattle.surf_surfaces.specs.Mesh.{Mesh}
-use Rattle.surf_soup.specs.Reach.{marked}
 use Rattle.surf_surfaces.specs.SideNumber.{side_count}
 use Rattle.surf_cutter.specs.Boundary.{corners_of, HasCopy, IsBorderSide, IsOtherAt, IsOnward, IsBoundary, HasPairedBorder}
+use Rattle.surf_surfaces.proofs.EdgeLaws.{list_any_at}
 use Rattle.surf_cutter.proofs.BorderSides.{has_all}
+use Rattle.surf_cutter.proofs.Sorted.{distinct_from}
 
 -- two different copies of a side are all that it has
 two_copies : (mesh : Mesh) (s c d x : ℕ) → HasCopy mesh s c → HasCopy mesh s d → c ≢ d → HasCopy mesh s x → (x ≡ c)
@@ -232,33 +234,28 @@ trail_more mesh first list copies trail some t d b at ne to turn =
       to = copy 1 (omega arith) ∙ trail.to;
     }
 
--- a walk so far: the sides that are listed, and the one to come, with the copy where it is left
-pub record IsGone (mesh : Mesh) (first side copy : ℕ) (seen : List Bool) (list : List ℕ) : Type 0 where
-  pub size : length seen ≡ side_count mesh
+-- a walk so far: the sides that are listed, each once, and the one to come, with the copy where it is left
+pub record IsGone (mesh : Mesh) (first side copy : ℕ) (list : List ℕ) : Type 0 where
   pub copies : List ℕ
   pub trail : IsTrail mesh first (list ++ side ∷ []) copies
   pub leaves_by : get_or copies (length list + 1) 0 ≡ copy
-  pub are_marked : (k : ℕ) → k < length list → marked seen (get_or list k 0) ≡ true
-  pub only : (s : ℕ) → marked seen s ≡ true → (k : ℕ) × (k < length list) × (get_or list k 0 ≡ s)
   pub distinct : (i k : ℕ) → i < k → k < length list → get_or list i 0 ≢ get_or list k 0
 
-pub gone_start : (mesh : Mesh) → HasPairedBorder mesh → (first : ℕ) → IsBorderSide mesh first → (seen : List Bool) →
-    length seen ≡ side_count mesh → ((s : ℕ) → marked seen s ≡ false) →
-    IsGone mesh first first (corners_of mesh first).1 seen []
-gone_start mesh paired first b seen size none = record {
-  size = size;
+gone_start : (mesh : Mesh) → HasPairedBorder mesh → (first : ℕ) → IsBorderSide mesh first →
+    IsGone mesh first first (corners_of mesh first).1 []
+gone_start mesh paired first b = record {
   copies = (corners_of mesh first).0 ∷ (corners_of mesh first).1 ∷ [];
   trail = trail_start mesh first b (paired.apart first b);
   leaves_by = refl;
-  are_marked = λ k h. absurd (omega arith);
-  only = λ s m. absurd (true≢false (sym m ∙ none s));
   distinct = λ i k a h. absurd (omega arith);
 }
 
-module _ (mesh : Mesh) (first side copy : ℕ) (seen : List Bool) (list : List ℕ)
-    (gone : IsGone mesh first side copy seen list) where
+module _ (mesh : Mesh) (first side copy : ℕ) (list : List ℕ) (gone : IsGone mesh first side copy list) where
   here : get_or (list ++ side ∷ []) (length list) 0 ≡ side
   here = get_or_push list side 0 (length list) refl
+
+  early : (k : ℕ) → k < length list → get_or (list ++ side ∷ []) k 0 ≡ get_or list k 0
+  early k h = get_or_append_left list (side ∷ []) 0 k h
 
   pub gone_border : IsBorderSide mesh side
   gone_border = let n = length_push list side in subst (IsBorderSide mesh) here (gone.trail.border (length list)
@@ -271,45 +268,22 @@ module _ (mesh : Mesh) (first side copy : ℕ) (seen : List Bool) (list : List �
       HasCopy mesh (get_or (list ++ side ∷ []) (length list) 0) x) gone.leaves_by (gone.trail.leaves (length list)
       (omega arith)))
 
-  pub gone_more : marked seen side ≡ false → (t d : ℕ) → IsBorderSide mesh t → HasCopy mesh t copy → t ≢ side →
-      HasCopy mesh t d → d ≢ copy → IsGone mesh first t d (set seen side true) (list ++ side ∷ [])
-  gone_more new t d b at ne to turn =
+  -- the side to come isn't listed: so it is listed now
+  gone_more : ((k : ℕ) → k < length list → get_or list k 0 ≢ side) → (t d : ℕ) → IsBorderSide mesh t →
+      HasCopy mesh t copy → t ≢ side → HasCopy mesh t d → d ≢ copy → IsGone mesh first t d (list ++ side ∷ [])
+  gone_more unlike t d b at ne to turn =
       let n = length_push list side in
-      let inside : side < length seen = let z = gone.size in let i = gone_border.0 in omega arith in
       let last : length (list ++ side ∷ []) - 1 ≡ length list = omega arith in
       let more : length (list ++ side ∷ []) ≡ length list + 1 = omega arith in
       let leaves : get_or gone.copies (length (list ++ side ∷ [])) 0 ≡ copy = ap (λ k. get_or gone.copies k 0) more
       ∙ gone.leaves_by in
-      let early : (k : ℕ) → k < length list → get_or (list ++ side ∷ []) k 0 ≡ get_or list k 0 = λ k h.
-      get_or_append_left list (side ∷ []) 0 k h in
-      let mark : marked (set seen side true) side ≡ true = get_or-set_same seen side true false inside in
-      let still : (s : ℕ) → marked seen s ≡ true → marked (set seen side true) s ≡ true =
-      λ s m. elim (cases_eq s side) [
-        | inl e ↦ ap (marked (set seen side true)) e ∙ mark
-        | inr neq ↦
-            get_or-set_other seen side s true false neq ∙ m
-      ] in
-      let unlike : (k : ℕ) → k < length list → get_or list k 0 ≢ side = λ k h e. true≢false (sym (gone.are_marked k h)
-      ∙ ap (marked seen) e ∙ new) in
       record {
-        size = length-set seen side true ∙ gone.size;
         copies = gone.copies ++ d ∷ [];
         trail = trail_more mesh first (list ++ side ∷ []) gone.copies gone.trail (omega arith) t d b (subst (λ x.
             HasCopy mesh t x) (sym leaves) at)
             (λ e. ne (sym (sym here ∙ ap (λ k. get_or (list ++ side ∷ []) k 0) (sym last) ∙ e))) to (λ e. turn (sym e
             ∙ leaves));
         leaves_by = get_or_push gone.copies d 0 (length (list ++ side ∷ []) + 1) (gone.trail.size);
-        are_marked = λ k h. elim (cases_eq k (length list)) [
-          | inl e ↦ ap (λ k. marked (set seen side true) (get_or (list ++ side ∷ []) k 0)) e
-              ∙ ap (marked (set seen side true)) here ∙ mark
-          | inr neq ↦ let lt : k < length list = omega arith in ap (marked (set seen side true)) (early k lt)
-              ∙ still (get_or list k 0) (gone.are_marked k lt)
-        ];
-        only = λ s m. elim (cases_eq s side) [
-          | inl e ↦ (length list, omega arith, here ∙ sym e)
-          | inr neq ↦ let k = gone.only s (sym (get_or-set_other seen side s true false neq) ∙ m) in let lt = k.1 in
-              (k.0, omega arith, early k.0 k.1 ∙ k.2)
-        ];
         distinct = λ i k a h e. elim (cases_eq k (length list)) [
           | inl q ↦ let lt : i < length list = omega arith in unlike i lt (sym (early i lt) ∙ e ∙ ap (λ k.
               get_or (list ++ side ∷ []) k 0) q ∙ here)
@@ -318,78 +292,128 @@ module _ (mesh : Mesh) (first side copy : ℕ) (seen : List Bool) (list : List �
         ];
       }
 
-  -- where the side to come is listed, the walk is the round
-  pub gone_round : HasPairedBorder mesh → IsDisc mesh → ((s : ℕ) → IsBorderSide mesh s → first ≤ s) →
-      marked seen side ≡ true → IsBoundary mesh list
-  gone_round paired disc least again =
-      let found = gone.only side again in
-      let n = length list in
-      let size = length_push list side in
-      let l : ℕ → ℕ = λ k. get_or (list ++ side ∷ []) k 0 in
-      let c : ℕ → ℕ = λ k. get_or gone.copies k 0 in
-      let early : (k : ℕ) → k < length list → get_or (list ++ side ∷ []) k 0 ≡ get_or list k 0 = λ k h.
-      get_or_append_left list (side ∷ []) 0 k h in
-      let trail = gone.trail in
-      let border : (k : ℕ) → k ≤ length list → IsBorderSide mesh (get_or (list ++ side ∷ []) k 0) = λ k h.
-      trail.border k (omega arith) in
-      let enters : (k : ℕ) → k ≤ length list → HasCopy mesh (get_or (list ++ side ∷ []) k 0)
-      (get_or gone.copies k 0) = λ k h. trail.enters k (omega arith) in
-      let leaves : (k : ℕ) → k ≤ length list → HasCopy mesh (get_or (list ++ side ∷ []) k 0) (get_or gone.copies
-      (k + 1) 0) = λ k h. trail.leaves k (omega arith) in
-      let turns : (k : ℕ) → k ≤ length list → get_or gone.copies k 0 ≢ get_or gone.copies (k + 1) 0 = λ k h.
-      trail.turns k (omega arith) in
-      let differs : (k : ℕ) → k < length list → get_or (list ++ side ∷ []) k 0 ≢ get_or (list ++ side ∷ [])
-      (k + 1) 0 = λ k h. trail.differs k (omega arith) in
-      let distinct : (i k : ℕ) → i < k → k < length list →
-      get_or (list ++ side ∷ []) i 0 ≢ get_or (list ++ side ∷ []) k 0 =
-      λ i k a h e. gone.distinct i k a h (sym (early i (omega arith)) ∙ e ∙ early k h) in
-      let j = found.0 in
-      let lt : j < length list = found.1 in
-      let meets : get_or (list ++ side ∷ []) j 0 ≡ get_or (list ++ side ∷ []) (length list) 0 = early j lt ∙ found.2
-      ∙ sym here in
-      let closing = met_first mesh paired n l c border enters leaves turns differs distinct j lt meets in
-      let some : 0 < length list = omega arith in
-      let is_first : get_or list 0 0 ≡ first = sym (early 0 some) ∙ trail.begins in
-      record {
-        border = λ k h. subst (IsBorderSide mesh) (early k h) (border k (omega arith));
-        all = λ s b. let k = listed_all mesh paired n l c border enters leaves turns differs distinct j lt meets disc s
-            b in (k.0, k.1, sym (early k.0 k.1) ∙ k.2);
-        once = gone.distinct;
-        first = λ s b. subst (λ f. f ≤ s) (sym is_first) (least s b);
-        second = λ h.
-            let one = early 1 h in
-            let zero = early 0 some in
-            let head : get_or gone.copies 1 0 ≡ (corners_of mesh (get_or list 0 0)).1 = trail.to ∙ ap (λ s.
-            (corners_of mesh s).1) (sym is_first) in
-            record {
-              border = subst (IsBorderSide mesh) one (border 1 (omega arith));
-              at = subst (λ x. HasCopy mesh (get_or list 1 0) x) head (subst (λ s.
-                  HasCopy mesh s (get_or gone.copies 1 0)) one (enters 1 (omega arith)));
-              differs = λ e. distinct 0 1 (omega arith) h (zero ∙ sym e ∙ sym one);
-              no_third = λ u b at.
-                  elim (two_at mesh paired n l c border enters leaves turns differs distinct 0 u some b (subst (λ x.
-                  HasCopy mesh u x) (sym head) at)) [
-                    | inl e ↦ inl (e ∙ zero)
-                    | inr e ↦ inr (e ∙ one)
-                  ];
-            };
-        further = λ k h.
-            let on = goes_on mesh paired n l c border enters leaves turns differs distinct k h in
-            let a = early k (omega arith) in
-            let b = early (k + 1) (omega arith) in
-            let d = early (k + 2) h in (
-              on.0,
-              subst (λ s. IsOnward mesh s (get_or list (k + 1) 0) on.0) a (subst (λ s.
-                  IsOnward mesh (get_or (list ++ side ∷ []) k 0) s on.0) b on.1),
-              subst (λ s. IsOtherAt mesh on.0 s (get_or list (k + 2) 0)) b (subst (λ s.
-                  IsOtherAt mesh on.0 (get_or (list ++ side ∷ []) (k + 1) 0) s) d on.2),
-            );
-        closes =
-            let is_last : length list - 1 + 1 ≡ length list = omega arith in
-            let tail : get_or gone.copies (length list - 1 + 1) 0 ≡ (corners_of mesh (get_or list 0 0)).0 =
-            ap (λ k. get_or gone.copies k 0) is_last ∙ closing.1 ∙ trail.from ∙ ap (λ s.
-            (corners_of mesh s).0) (sym is_first) in
-            subst (λ x. HasCopy mesh (get_or list (length list - 1) 0) x) tail
-            (subst (λ s. HasCopy mesh s (get_or gone.copies (length list - 1 + 1) 0)) (early (length list - 1)
-            (omega arith)) (leaves (length list - 1) (omega arith)));
-      }
+  module _ (paired : HasPairedBorder mesh) where
+    -- the sides with the one to come, and the copies between them
+    abbrev l : ℕ → ℕ
+    l k = get_or (list ++ side ∷ []) k 0
+
+    abbrev c : ℕ → ℕ
+    c k = get_or gone.copies k 0
+
+    its_border : (k : ℕ) → k ≤ length list → IsBorderSide mesh (get_or (list ++ side ∷ []) k 0)
+    its_border k h = let n = length_push list side in gone.trail.border k (omega arith)
+
+    its_enters : (k : ℕ) → k ≤ length list → HasCopy mesh (get_or (list ++ side ∷ []) k 0) (get_or gone.copies k 0)
+    its_enters k h = let n = length_push list side in gone.trail.enters k (omega arith)
+
+    its_leaves : (k : ℕ) → k ≤ length list →
+        HasCopy mesh (get_or (list ++ side ∷ []) k 0) (get_or gone.copies (k + 1) 0)
+    its_leaves k h = let n = length_push list side in gone.trail.leaves k (omega arith)
+
+    its_turns : (k : ℕ) → k ≤ length list → get_or gone.copies k 0 ≢ get_or gone.copies (k + 1) 0
+    its_turns k h = let n = length_push list side in gone.trail.turns k (omega arith)
+
+    its_differ : (k : ℕ) → k < length list → get_or (list ++ side ∷ []) k 0 ≢ get_or (list ++ side ∷ []) (k + 1) 0
+    its_differ k h = let n = length_push list side in gone.trail.differs k (omega arith)
+
+    its_distinct : (i k : ℕ) → i < k → k < length list →
+        get_or (list ++ side ∷ []) i 0 ≢ get_or (list ++ side ∷ []) k 0
+    its_distinct i k a h e = gone.distinct i k a h (sym (early i (omega arith)) ∙ e ∙ early k h)
+
+    meets : (j : ℕ) → j < length list → get_or list j 0 ≡ side →
+        get_or (list ++ side ∷ []) j 0 ≡ get_or (list ++ side ∷ []) (length list) 0
+    meets j lt found = early j lt ∙ found ∙ sym here
+
+    -- a side that isn't the first one isn't listed yet
+    gone_new : side ≢ first → (k : ℕ) → k < length list → get_or list k 0 ≢ side
+    gone_new ne k h found =
+        let n = length list in
+        let closing = met_first mesh paired n l c its_border its_enters its_leaves its_turns its_differ its_distinct k h
+        (meets k h found) in
+        let some : 0 < length list = omega arith in
+        ne (sym found ∙ ap (λ k. get_or list k 0) closing.0 ∙ sym (early 0 some) ∙ gone.trail.begins)
+
+    -- so there is one side more than are listed
+    pub gone_few : side ≢ first → length list < side_count mesh
+    gone_few ne =
+        let n = length_push list side in
+        let differ : (i k : ℕ) → i < k → k < length (list ++ side ∷ []) →
+        get_or (list ++ side ∷ []) i 0 ≢ get_or (list ++ side ∷ []) k 0 = λ i k a h e. elim (cases_eq k (length list)) [
+          | inl q ↦ let lt : i < length list = omega arith in gone_new ne i lt (sym (early i lt) ∙ e ∙ ap (λ k.
+              get_or (list ++ side ∷ []) k 0) q ∙ here)
+          | inr neq ↦ its_distinct i k a (omega arith) e
+        ] in
+        let few = length-le_from_distinct_below (list ++ side ∷ []) (side_count mesh)
+        (distinct_from (list ++ side ∷ []) differ)
+        (λ q found.
+        let r = list_any_at (eqb q) (list ++ side ∷ []) 0 found in
+        let e = eqb-true q (get_or (list ++ side ∷ []) r.0 0) r.2 in
+        let lt = r.1 in
+        let b = (its_border r.0 (omega arith)).0 in
+        omega arith) in
+        omega (arith, few)
+
+    pub gone_on : side ≢ first → (t d : ℕ) → IsBorderSide mesh t → HasCopy mesh t copy → t ≢ side →
+        HasCopy mesh t d → d ≢ copy → IsGone mesh first t d (list ++ side ∷ [])
+    gone_on ne t d b at other to turn = gone_more (gone_new ne) t d b at other to turn
+
+    -- where the side to come is the first one, the walk is the round
+    pub gone_round : IsDisc mesh → ((s : ℕ) → IsBorderSide mesh s → first ≤ s) → 0 < length list → side ≡ first →
+        IsBoundary mesh list
+    gone_round disc least some again =
+        let n = length list in
+        let is_first : get_or list 0 0 ≡ first = sym (early 0 some) ∙ gone.trail.begins in
+        let met = meets 0 some (is_first ∙ sym again) in
+        let closing = met_first mesh paired n l c its_border its_enters its_leaves its_turns its_differ its_distinct 0
+        some met in
+        record {
+          border = λ k h. subst (IsBorderSide mesh) (early k h) (its_border k (omega arith));
+          all = λ s b. let k = listed_all mesh paired n l c its_border its_enters its_leaves its_turns its_differ
+              its_distinct 0 some met disc s b in (k.0, k.1, sym (early k.0 k.1) ∙ k.2);
+          once = gone.distinct;
+          first = λ s b. subst (λ f. f ≤ s) (sym is_first) (least s b);
+          second = λ h.
+              let one = early 1 h in
+              let zero = early 0 some in
+              let head : get_or gone.copies 1 0 ≡ (corners_of mesh (get_or list 0 0)).1 = gone.trail.to ∙ ap (λ s.
+              (corners_of mesh s).1) (sym is_first) in
+              record {
+                border = subst (IsBorderSide mesh) one (its_border 1 (omega arith));
+                at = subst (λ x. HasCopy mesh (get_or list 1 0) x) head (subst (λ s.
+                    HasCopy mesh s (get_or gone.copies 1 0)) one (its_enters 1 (omega arith)));
+                differs = λ e. its_distinct 0 1 (omega arith) h (zero ∙ sym e ∙ sym one);
+                no_third = λ u b at.
+                    elim (two_at mesh paired n l c its_border its_enters its_leaves its_turns its_differ its_distinct 0 u
+                    some b (subst (λ x. HasCopy mesh u x) (sym head) at)) [
+                      | inl e ↦ inl (e ∙ zero)
+                      | inr e ↦ inr (e ∙ one)
+                    ];
+              };
+          further = λ k h.
+              let on = goes_on mesh paired n l c its_border its_enters its_leaves its_turns its_differ its_distinct k h in
+              let a = early k (omega arith) in
+              let b = early (k + 1) (omega arith) in
+              let d = early (k + 2) h in (
+                on.0,
+                subst (λ s. IsOnward mesh s (get_or list (k + 1) 0) on.0) a (subst (λ s.
+                    IsOnward mesh (get_or (list ++ side ∷ []) k 0) s on.0) b on.1),
+                subst (λ s. IsOtherAt mesh on.0 s (get_or list (k + 2) 0)) b (subst (λ s.
+                    IsOtherAt mesh on.0 (get_or (list ++ side ∷ []) (k + 1) 0) s) d on.2),
+              );
+          closes =
+              let is_last : length list - 1 + 1 ≡ length list = omega arith in
+              let tail : get_or gone.copies (length list - 1 + 1) 0 ≡ (corners_of mesh (get_or list 0 0)).0 =
+              ap (λ k. get_or gone.copies k 0) is_last ∙ closing.1 ∙ gone.trail.from ∙ ap (λ s.
+              (corners_of mesh s).0) (sym is_first) in
+              subst (λ x. HasCopy mesh (get_or list (length list - 1) 0) x) tail
+              (subst (λ s. HasCopy mesh s (get_or gone.copies (length list - 1 + 1) 0)) (early (length list - 1)
+              (omega arith)) (its_leaves (length list - 1) (omega arith)));
+        }
+
+-- the first side is listed, and the next one is to come
+pub gone_first : (mesh : Mesh) → HasPairedBorder mesh → (first : ℕ) → IsBorderSide mesh first → (t d : ℕ) →
+    IsBorderSide mesh t → HasCopy mesh t (corners_of mesh first).1 → t ≢ first → HasCopy mesh t d →
+    d ≢ (corners_of mesh first).1 → IsGone mesh first t d (first ∷ [])
+gone_first mesh paired first b t d t_b at ne to turn =
+    gone_more mesh first first (corners_of mesh first).1 [] (gone_start mesh paired first b)
+    (λ k h. absurd (omega arith)) t d t_b at ne to turn

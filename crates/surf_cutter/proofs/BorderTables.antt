@@ -1,5 +1,5 @@
 -- The tables by which the border is gone round.
-use Rattle.std.proofs.Common.{◌≡◌, ℕ, zero, suc, ◌+◌, ◌<◌, inl, inr, sym, refl, subst, ap, ◌∙◌, Bool, true, false, List, [], ◌∷◌, ◌++◌, length, get_or, replicate, arith}
+use Rattle.std.proofs.Common.{◌≡◌, ℕ, ◌+◌, ◌<◌, inl, inr, sym, refl, subst, ap, ◌∙◌, Bool, true, false, List, [], ◌∷◌, ◌++◌, length, get_or, arith}
 use Rattle.std.proofs.lemmas.Bool.{true≢false, cases_eq}
 use Rattle.std.proofs.lemmas.List.{length_push, get_or_push, get_or_append_left}
 use Rattle.surf_surfaces.specs.Disc.{IsDisc}
@@ -9,7 +9,6 @@ use Rattle.surf_surfaces.specs.Surface.{face_at}
 use Rattle.surf_surfaces.proofs.SideLaws.{after-below}
 use Rattle.surf_opening.proofs.Edges.{edge_one}
 use Rattle.surf_surfaces.specs.SideNumber.{IsEdgeOf, side_count}
-use Rattle.surf_soup.specs.Reach.{marked}
 use Rattle.surf_soup.proofs.VertexLaws.{placed}
 use Rattle.surf_cutter.specs.Boundary.{corners_of, HasCopy, AreBorderSides, IsLeastBorderSide, IsCutSide, AreCutSides}
 use Rattle.surf_cutter.proofs.BorderSides.{corners_at_place, side_of_edge}
@@ -86,12 +85,6 @@ pub copy_in : (mesh : Mesh) → IsMesh mesh → (s c : ℕ) → s < side_count m
 copy_in mesh is_mesh s c lt has =
     let b = corners_in mesh is_mesh s lt in
     elim has [ inl e ↦ let l = b.0 in omega arith | inr e ↦ let l = b.1 in omega arith ]
-
--- at first nothing is marked
-pub none_marked : (n s : ℕ) → marked (replicate n false) s ≡ false
-none_marked zero s = refl
-none_marked (suc n) zero = refl
-none_marked (suc n) (suc s) = none_marked n s
 
 -- there is a border side, and the first listed is the least
 pub border_some : (mesh : Mesh) (list : List ℕ) → IsDisc mesh → AreBorderSides mesh list → 0 < length list

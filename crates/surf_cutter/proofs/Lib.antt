@@ -4,6 +4,7 @@ pub mod BorderTables
 pub mod BoundaryOne
 pub mod Chosen
 pub mod Counted
+pub mod FaceTables
 pub mod Numbered
 pub mod OneLabel
 pub mod OpenedBy

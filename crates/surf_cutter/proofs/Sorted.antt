@@ -19,7 +19,7 @@ use Rattle.surf_soup.specs.Ring.{BeginsAt, IsRing}
 use Rattle.surf_soup.proofs.HalfLaws.{spans}
 use Rattle.surf_soup.proofs.VertexLaws.{corners_len, corners_below}
 use Rattle.surf_slit.specs.Labels.{corner_at}
-use Rattle.surf_cutter.specs.Copies.{AreNumbersOf, AreCopied, AreSortedTo, IsRowAt, IsBefore}
+use Rattle.surf_cutter.specs.Copies.{AreSortedTo, IsRowAt, IsBefore}
 
 -- a list of all sides, by the vertices at which they begin and at one vertex by number
 pub record AreSorted (mesh : Mesh) (order : List ℕ) : Type 0 where
@@ -28,7 +28,7 @@ pub record AreSorted (mesh : Mesh) (order : List ℕ) : Type 0 where
   pub rises : (i j : ℕ) → i < j → j < length order → IsBefore mesh (get_or order i 0) (get_or order j 0)
 
 -- numbers of which no two are equal
-distinct_from : (xs : List ℕ) → ((i k : ℕ) → i < k → k < length xs → get_or xs i 0 ≢ get_or xs k 0) → IsDistinct eqb xs
+pub distinct_from : (xs : List ℕ) → ((i k : ℕ) → i < k → k < length xs → get_or xs i 0 ≢ get_or xs k 0) → IsDistinct eqb xs
 unfolding IsDistinct
 distinct_from [] differ = tt
 distinct_from (x ∷ xs) differ = (
@@ -134,35 +134,3 @@ sorted_all {mesh} surface order are = record {
   has = λ s h. are.has s h (corners_below mesh surface.is_mesh s 0 (let m = corners_len mesh in omega arith));
   rises = are.rises;
 }
-
--- one more face is copied
-pub copied_more : (mesh : Mesh) (labels numbers : List ℕ) (f : ℕ) (sides row : List ℕ) (old : List (List ℕ)) → f < face_count mesh → AreCopied mesh labels numbers f old → sides ≡ range_with_len (first_side mesh f) (length (face_at mesh f)) →
-    AreNumbersOf sides labels numbers (length sides) row → AreCopied mesh labels numbers (f + 1) (old ++ row ∷ [])
-copied_more mesh labels numbers f sides row old lt are own is =
-    let size = are.size in
-    let n : length sides ≡ length (face_at mesh f) = ap length own ∙ length-range_with_len (first_side mesh f) (length (face_at mesh f)) in
-    let here : get_or (old ++ row ∷ []) f [] ≡ row = get_or_push old row [] f size in
-    let before : (g : ℕ) → g < f → get_or (old ++ row ∷ []) g [] ≡ get_or old g [] = λ g h. get_or_append_left old (row ∷ []) [] g (omega arith) in
-    record {
-      size = let p = length_push old row in omega arith;
-      row_sizes = λ g h. elim (cases_eq g f) [
-        | inl e ↦ ap (λ g. length (get_or (old ++ row ∷ []) g [])) e ∙ ap length here ∙ is.size ∙ n ∙ ap (λ g. length (face_at mesh g)) (sym e)
-        | inr ne ↦ ap length (before g (omega arith)) ∙ are.row_sizes g (omega arith)
-      ];
-      entries = λ g k h in'. elim (cases_eq g f) [
-        | inl e ↦
-            let low : k < length (face_at mesh f) = subst (λ g. k < length (face_at mesh g)) e in' in
-            ap (λ g. get_or (get_or (old ++ row ∷ []) g []) k 0) e ∙ ap (λ row. get_or row k 0) here ∙ is.entries k (omega arith)
-            ∙ ap (λ (sides : List ℕ). get_or numbers (get_or labels (get_or sides k 0) 0) 0) own ∙ ap (λ s. get_or numbers (get_or labels s 0) 0) (get_or-range_with_len (first_side mesh f) (length (face_at mesh f)) k 0 low)
-            ∙ ap (λ g. get_or numbers (get_or labels (first_side mesh g + k) 0) 0) (sym e)
-        | inr ne ↦ ap (λ row. get_or row k 0) (before g (omega arith)) ∙ are.entries g k (omega arith) in'
-      ];
-    }
-
-pub side_of_range : (mesh : Mesh) (f k : ℕ) (sides : List ℕ) → f < face_count mesh → sides ≡ range_with_len (first_side mesh f) (length (face_at mesh f)) → k < length sides → get_or sides k 0 < side_count mesh
-side_of_range mesh f k sides lt own h =
-    let n : length sides ≡ length (face_at mesh f) = ap length own ∙ length-range_with_len (first_side mesh f) (length (face_at mesh f)) in
-    let in' : k < length (face_at mesh f) = omega arith in
-    let is : get_or sides k 0 ≡ first_side mesh f + k = ap (λ (sides : List ℕ). get_or sides k 0) own ∙ get_or-range_with_len (first_side mesh f) (length (face_at mesh f)) k 0 in' in
-    let sp = spans mesh.faces f lt in
-    omega (arith, sp.0, sp.1)

@@ -34,11 +34,6 @@ pub record AreCounted (order labels tails : List ℕ) (n : ℕ) (numbers origins
       slice_index numbers (label_at order labels j) ≡ slice_index numbers (label_at order labels k) →
       label_at order labels j ≡ label_at order labels k
 
--- the numbers of the labels of the first n of some sides
-pub record AreNumbersOf (sides labels numbers : List ℕ) (n : ℕ) (row : List ℕ) : Type 0 where
-  pub size : length row ≡ n
-  pub entries : (k : ℕ) → k < n → slice_index row k ≡ slice_index numbers (label_at sides labels k)
-
 -- the first n faces with the numbers of their corners' labels in place of the corners
 pub record AreCopied (mesh : Mesh) (labels numbers : List ℕ) (n : ℕ) (faces : List (List ℕ)) : Type 0 where
   pub size : length faces ≡ n

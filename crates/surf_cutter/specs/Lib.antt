@@ -1,5 +1,6 @@
 pub mod Boundary
 pub mod Copies
+pub mod Faces
 pub mod Opened
 pub mod Rims
 pub mod Trimming

@@ -27,11 +27,10 @@ pub record AreStarts (faces : List (List ℕ)) (starts : List ℕ) : Type 0 wher
   pub at : (f : ℕ) → f ≤ length faces → slice_index starts f ≡ sum_by length (take f faces)
 
 -- what an opened surface keeps: its faces over its copies are a disc, with its border in one round
-pub record IsOpened (opened : OpenMesh) (starts boundary : List ℕ) : Type 0 where
+pub record IsOpened (opened : OpenMesh) (boundary : List ℕ) : Type 0 where
   pub disc : IsDisc (mesh_of opened)
   pub few_copies : length opened.origins < 2 ^ 30
   pub few_faces : length opened.faces < 2 ^ 30
-  pub are_starts : AreStarts opened.faces starts
   pub is_boundary : IsBoundary (mesh_of opened) boundary
 
 -- the surface opened along the edges with a flag, with its copies in order

@@ -8,17 +8,17 @@ ghost use Rattle.surf_surfaces.specs.Surface.{edge_count};
 ghost use Rattle.surf_opening.specs.Opening.{IsOpenedBy};
 ghost use Rattle.surf_surfaces.specs.SideNumber.{side_count};
 ghost use Rattle.surf_slit.specs.Labels.{IsUncut};
-ghost use Rattle.surf_cutter.specs.Boundary.{over, corners_of, HasPairedBorder, IsLeastBorderSide};
+ghost use Rattle.surf_cutter.specs.Boundary.{over, corners_of, HasCopy, HasPairedBorder, IsBorderSide};
+ghost use Rattle.surf_cutter.specs.Boundary.{IsLeastBorderSide};
 ghost use Rattle.surf_cutter.specs.Boundary.{AreBorderSides, AreCutSides, OpensToDisc, IsBoundary};
 ghost use Rattle.surf_cutter.specs.Rims.{HaveSameSizes, AreRims, AreRimsTo, with_side, other_of};
 
+use crate::NOBODY;
+use crate::faces::OpenFaces;
+use crate::trimming::count_cut;
 use std::alloc::Global;
-use surf_base::{CopyId, NoMemory, SideId};
+use surf_base::{NoMemory, SideId};
 use surf_mesh::HalfMesh;
-use surf_rows::Rows;
-
-// What stands for no side.
-const NOBODY: u32 = u32::MAX;
 
 // The place after one, around a face.
 fn after_place(count: usize, k: usize) -> usize
@@ -30,16 +30,15 @@ fn after_place(count: usize, k: usize) -> usize
 }
 
 // Where a side begins and where it ends. The faces have as many corners as those of the surface.
-fn side_corners(mesh: &HalfMesh, faces: &Rows<CopyId>, side: SideId) -> (u32, u32)
+fn side_corners(mesh: &HalfMesh, faces: &OpenFaces, side: SideId) -> (u32, u32)
     requires sizes { HaveSameSizes mesh.now faces.now }
     requires side { side < side_count mesh.now }
     ensures { result ≡ corners_of (over 0 faces.now) side }
 {
     mesh.law_of_surface();
     let f = mesh.face_of(side).index();
-    let (start, _) = faces.span(f);
     let row = faces.row(f);
-    let k = side.index() - start;
+    let k = side.index() - faces.start(f);
     let next = after_place(row.len(), k);
     (row[k].number(), row[next].number())
 }
@@ -59,7 +58,7 @@ fn add_at(rims: &mut [(u32, u32)], copy: u32, side: u32)
 }
 
 // Adds each border side to the two at either of its copies.
-fn fill_rims(mesh: &HalfMesh, faces: &Rows<CopyId>, border: &[SideId], rims: &mut [(u32, u32)])
+fn fill_rims(mesh: &HalfMesh, faces: &OpenFaces, border: &[SideId], rims: &mut [(u32, u32)])
     requires sizes { HaveSameSizes mesh.now faces.now }
     requires disc { IsDisc (over (length rims.old) faces.now) }
     requires paired { HasPairedBorder (over (length rims.old) faces.now) }
@@ -99,13 +98,40 @@ fn far_corner(tail: u32, head: u32, copy: u32) -> u32
     if copy == tail { head } else { tail }
 }
 
-// Goes round the border from its least side.
+// The other border side at a copy of a border side, and the other copy that it has.
+fn next_side(
+    mesh: &HalfMesh,
+    faces: &OpenFaces,
+    rims: &[(u32, u32)],
+    side: SideId,
+    copy: u32,
+) -> (SideId, u32)
+    requires sizes { HaveSameSizes mesh.now faces.now }
+    requires disc { IsDisc (over (length rims.now) faces.now) }
+    requires paired { HasPairedBorder (over (length rims.now) faces.now) }
+    requires rims { AreRims (over (length rims.now) faces.now) rims.now }
+    requires border { IsBorderSide (over (length rims.now) faces.now) side }
+    requires copy { HasCopy (over (length rims.now) faces.now) side copy }
+    ensures border { IsBorderSide (over (length rims.now) faces.now) result.0 }
+    ensures at { HasCopy (over (length rims.now) faces.now) result.0 copy }
+    ensures differs { result.0 ≢ side }
+    ensures far { HasCopy (over (length rims.now) faces.now) result.0 result.1 }
+    ensures turns { result.1 ≢ copy }
+{
+    let next = other_at(rims, copy, side);
+    let (tail, head) = side_corners(mesh, faces, next);
+    (next, far_corner(tail, head, copy))
+}
+
+// Goes round the border from its least side, until that is met again. The border has so many
+// sides.
 fn go_round(
     alloc: Global,
     mesh: &HalfMesh,
-    faces: &Rows<CopyId>,
+    faces: &OpenFaces,
     rims: &[(u32, u32)],
     first: SideId,
+    size: usize,
 ) -> Result<Vec<SideId>, NoMemory>
     requires sizes { HaveSameSizes mesh.now faces.now }
     requires disc { IsDisc (over (length rims.now) faces.now) }
@@ -114,16 +140,15 @@ fn go_round(
     requires first { IsLeastBorderSide (over (length rims.now) faces.now) first }
     ensures { IfOk result (λ v. IsBoundary (over (length rims.now) faces.now) v.items) }
 {
-    let mut seen = vec![in alloc; false; faces.total()]?;
-    let mut round = Vec::new(alloc);
-    let mut side = first;
-    let (_, mut copy) = side_corners(mesh, faces, first);
-    while !seen[side.index()] {
-        seen[side.index()] = true;
+    let mut round = Vec::with_capacity(alloc, size)?;
+    round.push(first)?;
+    let (_, head) = side_corners(mesh, faces, first);
+    let (mut side, mut copy) = next_side(mesh, faces, rims, first, head);
+    while side != first {
         round.push(side)?;
-        side = other_at(rims, copy, side);
-        let (tail, head) = side_corners(mesh, faces, side);
-        copy = far_corner(tail, head, copy);
+        let (next, far) = next_side(mesh, faces, rims, side, copy);
+        side = next;
+        copy = far;
     }
     Ok(round)
 }
@@ -140,7 +165,7 @@ fn least_side(border: &[SideId]) -> SideId
 fn round_by(
     alloc: Global,
     mesh: &HalfMesh,
-    faces: &Rows<CopyId>,
+    faces: &OpenFaces,
     border: &[SideId],
     rims: &mut [(u32, u32)],
 ) -> Result<Vec<SideId>, NoMemory>
@@ -153,7 +178,7 @@ fn round_by(
     ensures { IfOk result (λ v. IsBoundary (over (length rims.old) faces.now) v.items) }
 {
     fill_rims(mesh, faces, border, rims);
-    go_round(alloc, mesh, faces, rims, least_side(border))
+    go_round(alloc, mesh, faces, rims, least_side(border), border.len())
 }
 
 // The border of a disc in one round, by the list of its border sides.
@@ -161,7 +186,7 @@ fn round_of(
     alloc: Global,
     mesh: &HalfMesh,
     copies: u32,
-    faces: &Rows<CopyId>,
+    faces: &OpenFaces,
     border: &[SideId],
 ) -> Result<Vec<SideId>, NoMemory>
     requires sizes { HaveSameSizes mesh.now faces.now }
@@ -181,7 +206,7 @@ fn cut_sides(alloc: Global, mesh: &HalfMesh, cut: &[bool]) -> Result<Vec<SideId>
     ensures { IfOk result (λ v. AreCutSides mesh.now cut.now (side_count mesh.now) v.items) }
 {
     mesh.law_of_surface();
-    let mut sides = Vec::new(alloc);
+    let mut sides = Vec::with_capacity(alloc, 2 * count_cut(cut) as usize)?;
     for s in 0..mesh.side_count() {
         let side = SideId::new(s);
         if cut[mesh.edge_of(side).index()] {
@@ -198,7 +223,7 @@ pub(crate) fn boundary_along(
     mesh: &HalfMesh,
     cut: &[bool],
     copies: u32,
-    faces: &Rows<CopyId>,
+    faces: &OpenFaces,
 ) -> Result<Vec<SideId>, NoMemory>
     requires flags { length cut.now ≡ edge_count mesh.now }
     requires opens { OpensToDisc mesh.now cut.now }

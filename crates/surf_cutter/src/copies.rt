@@ -3,23 +3,21 @@
 ghost use Rattle.std.specs.Prelude.{◌≡◌, ◌≢◌, ◌<◌, ◌+◌, ◌^◌, [], ◌∷◌, ◌++◌, ℕ, List, length, IfOk, IsTrue};
 ghost use Rattle.std.specs.Prelude.{Bool, OnOk, slice_index, slice_set};
 ghost use Rattle.std.specs.List.{sum_by};
-ghost use Rattle.surf_surfaces.specs.Surface.{face_count, edge_count};
+ghost use Rattle.surf_surfaces.specs.Surface.{edge_count};
 ghost use Rattle.surf_opening.specs.ChosenCut.{AreInOrder};
 ghost use Rattle.surf_opening.specs.Opening.{IsOpenedBy};
 ghost use Rattle.surf_surfaces.specs.SideNumber.{side_count};
 ghost use Rattle.surf_slit.specs.Labels.{IsUncut, AreLabels};
 ghost use Rattle.surf_base.specs.Tables.{nobody};
-ghost use Rattle.surf_cutter.specs.Copies.{AreCopied, AreNumbersOf, AreNumberedTo, HaveOneLabel};
-ghost use Rattle.surf_cutter.specs.Copies.{IsRowAt};
+ghost use Rattle.surf_cutter.specs.Copies.{AreNumberedTo, HaveOneLabel, IsRowAt};
+ghost use Rattle.surf_cutter.specs.Faces.{AreRenumberedTo};
 
+use crate::NOBODY;
+use crate::faces::OpenFaces;
 use std::alloc::Global;
-use surf_base::{CopyId, FaceId, NoMemory, SideId, VertexId};
+use surf_base::{CopyId, NoMemory, SideId, VertexId};
 use surf_mesh::HalfMesh;
-use surf_rows::Rows;
 use surf_slit::labels_along;
-
-// What stands for no number yet.
-const NOBODY: u32 = u32::MAX;
 
 // Lists the sides that begin at a vertex in their order, in place of what the row has.
 fn list_sides(mesh: &HalfMesh, v: VertexId, row: &mut Vec<SideId>) -> Result<(), NoMemory>
@@ -148,7 +146,7 @@ fn number_copies(
         labels.now numbers.new origins.items) }
 {
     mesh.law_of_surface();
-    let mut origins = Vec::new(alloc);
+    let mut origins = Vec::with_capacity(alloc, numbers.len())?;
     let mut row = Vec::new(alloc);
     for v in 0..mesh.vertices() {
         number_vertex(
@@ -163,73 +161,41 @@ fn number_copies(
     Ok(origins)
 }
 
-// The copies at some sides.
-fn list_copies(
-    sides: &[SideId],
-    labels: &[CopyId],
-    numbers: &[u32],
-    row: &mut Vec<CopyId>,
-) -> Result<(), NoMemory>
-    requires sides { (k : ℕ) → k < length sides.now →
-        slice_index sides.now k < length labels.now }
-    requires labels { (s : ℕ) → s < length labels.now →
-        slice_index labels.now s < length numbers.now }
-    ensures { OnOk result (AreNumbersOf sides.now labels.now numbers.now (length sides.now)
-        row.new.items) }
+// Replaces each label by its number.
+fn renumber(labels: &mut [CopyId], numbers: &[u32])
+    requires { (s : ℕ) → s < length labels.old → slice_index labels.old s < length numbers.now }
+    ensures { AreRenumberedTo labels.old numbers.now (length labels.old) labels.new }
 {
-    row.clear();
-    for side in sides {
-        row.push(CopyId::new(numbers[label_of(labels, *side)]))?;
+    for label in labels.iter_mut() {
+        *label = CopyId::new(numbers[label.index()]);
     }
-    Ok(())
 }
 
-// The faces, with copies for corners.
-fn copy_faces(
-    alloc: Global,
-    mesh: &HalfMesh,
-    labels: &[CopyId],
-    numbers: &[u32],
-) -> Result<Rows<CopyId>, NoMemory>
-    requires all { length labels.now ≡ side_count mesh.now }
-    requires labels { (s : ℕ) → s < side_count mesh.now →
-        slice_index labels.now s < length numbers.now }
-    ensures copied { IfOk result (λ rows. AreCopied mesh.now labels.now numbers.now
-        (face_count mesh.now) rows) }
-    ensures corners { IfOk result (λ rows. sum_by length rows ≡ side_count mesh.now) }
-{
-    let count = mesh.faces();
-    let mut rows = Rows::with_room(alloc, count as usize, mesh.side_count() as usize)?;
-    let mut row = Vec::new(alloc);
-    for f in 0..count {
-        list_copies(mesh.sides(FaceId::new(f)), labels, numbers, &mut row)?;
-        rows.push(&row)?;
-    }
-    Ok(rows)
-}
-
-// The surface opened along the edges that are cut, by a table of numbers for the labels.
+// The surface opened along the edges that are cut, by the labels of its corners, in place of which
+// the corners of the opening are made, and by a table of numbers for the labels.
 fn open_by(
     alloc: Global,
     mesh: &HalfMesh,
-    labels: &[CopyId],
+    labels: Vec<CopyId>,
     numbers: &mut [u32],
-) -> Result<(Vec<VertexId>, Rows<CopyId>), NoMemory>
-    requires all { length labels.now ≡ side_count mesh.now }
+) -> Result<(Vec<VertexId>, OpenFaces), NoMemory>
+    requires all { length labels.items ≡ side_count mesh.now }
     requires labels { (s : ℕ) → s < side_count mesh.now →
-        slice_index labels.now s < length numbers.old }
+        slice_index labels.items s < length numbers.old }
     requires unset { (l : ℕ) → l < length numbers.old → slice_index numbers.old l ≡ nobody }
     ensures opened { IfOk result (λ r. (cut : List Bool) (count : ℕ) →
-        AreLabels mesh.now cut labels.now count →
+        AreLabels mesh.now cut labels.items count →
         IsOpenedBy mesh.now (IsUncut mesh.now cut) r.0.items r.1) }
     ensures order { IfOk result (λ r. (cut : List Bool) (count : ℕ) →
-        AreLabels mesh.now cut labels.now count → AreInOrder mesh.now r.0.items r.1) }
+        AreLabels mesh.now cut labels.items count → AreInOrder mesh.now r.0.items r.1) }
     ensures few { IfOk result (λ r. length r.0.items < 2 ^ 30) }
     ensures corners { IfOk result (λ r. sum_by length r.1 ≡ side_count mesh.now) }
 {
     mesh.law_of_surface();
-    let origins = number_copies(alloc, mesh, labels, numbers)?;
-    let faces = copy_faces(alloc, mesh, labels, numbers)?;
+    let mut corners = labels;
+    let origins = number_copies(alloc, mesh, &corners, numbers)?;
+    renumber(&mut corners, numbers);
+    let faces = OpenFaces::of_corners(alloc, mesh, corners)?;
     Ok((origins, faces))
 }
 
@@ -239,7 +205,7 @@ pub(crate) fn open_along(
     alloc: Global,
     mesh: &HalfMesh,
     cut: &[bool],
-) -> Result<(Vec<VertexId>, Rows<CopyId>), NoMemory>
+) -> Result<(Vec<VertexId>, OpenFaces), NoMemory>
     requires { length cut.now ≡ edge_count mesh.now }
     ensures opened { IfOk result (λ r. IsOpenedBy mesh.now (IsUncut mesh.now cut.now)
         r.0.items r.1) }
@@ -249,5 +215,5 @@ pub(crate) fn open_along(
 {
     let (labels, count) = labels_along(alloc, mesh, cut)?;
     let mut numbers = vec![in alloc; NOBODY; count as usize]?;
-    open_by(alloc, mesh, &labels, &mut numbers)
+    open_by(alloc, mesh, labels, &mut numbers)
 }

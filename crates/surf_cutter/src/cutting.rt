@@ -32,7 +32,7 @@ fn open_cut(alloc: Global, mesh: &HalfMesh, cut: &[bool]) -> Result<Opened, NoMe
     mesh.law_of_surface();
     let (origins, faces) = open_along(alloc, mesh, cut)?;
     let boundary = boundary_along(alloc, mesh, cut, origins.len() as u32, &faces)?;
-    Opened::from_parts(alloc, origins, faces, boundary)
+    Ok(Opened::from_parts(origins, faces, boundary))
 }
 
 // Trims a full cut.

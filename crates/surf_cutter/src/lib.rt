@@ -14,8 +14,12 @@ mod along_tree;
 mod border;
 mod copies;
 mod cutting;
+mod faces;
 mod opened;
 mod trimming;
+
+// What stands for no number and for no side.
+const NOBODY: u32 = u32::MAX;
 
 pub use along_tree::{cut_full, cut_outside, cut_trim};
 pub use opened::Opened;

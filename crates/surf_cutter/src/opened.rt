@@ -1,23 +1,20 @@
 //! The opened surface.
-ghost use Rattle.std.specs.Prelude.{◌≡◌, ◌<◌, ◌≤◌, ◌+◌, ◌^◌, ℕ, List, [], length, take, IfOk, slice_index};
-ghost use Rattle.std.specs.Prelude.{slice_index_or};
-ghost use Rattle.std.specs.List.{flat_map, sum_by};
+ghost use Rattle.std.specs.Prelude.{◌≡◌, ◌<◌, ◌^◌, ℕ, List, [], length, slice_index, slice_index_or};
+ghost use Rattle.std.specs.List.{flat_map};
 ghost use Rattle.surf_surfaces.specs.Disc.{IsDisc};
 ghost use Rattle.surf_surfaces.specs.Surface.{edge_count};
 ghost use Rattle.surf_cutter.specs.Boundary.{IsBoundary};
 ghost use Rattle.surf_cutter.specs.Opened.{mesh_of, AreStarts};
 
-use std::alloc::Global;
+use crate::faces::OpenFaces;
 use std::marker::Model;
-use surf_base::{CopyId, FaceId, NoMemory, SideId, VertexId};
-use surf_rows::Rows;
+use surf_base::{CopyId, FaceId, SideId, VertexId};
 
 /// A surface cut open: its faces with copies of its vertices for corners. They are a disc.
 #[derive(Drop)]
 pub struct Opened {
     origins: Vec<VertexId>,
-    faces: Rows<CopyId>,
-    starts: Vec<u32>,
+    faces: OpenFaces,
     boundary: Vec<SideId>,
 }
 
@@ -29,47 +26,28 @@ impl Model for Opened {
     ghost view = { λ o. record { origins = o.origins.items; faces = o.faces } };
 
     ghost invariant = { λ o. IsOpened (record { origins = o.origins.items; faces = o.faces })
-        o.starts.items o.boundary.items };
-}
-
-// Where each row begins among the things of all rows, and the end.
-fn starts_of(alloc: Global, faces: &Rows<CopyId>) -> Result<Vec<u32>, NoMemory>
-    requires few_faces { length faces.now < 2 ^ 30 }
-    requires few_corners { sum_by length faces.now < 2 ^ 32 }
-    ensures { IfOk result (λ v. AreStarts faces.now v.items) }
-{
-    let mut starts = Vec::with_capacity(alloc, faces.len() + 1)?;
-    starts.push(0)?;
-    for f in 0..faces.len() {
-        let (_, end) = faces.span(f);
-        starts.push(end as u32)?;
-    }
-    Ok(starts)
+        o.boundary.items };
 }
 
 impl Opened {
     // The disc of some faces over copies, with its border.
     pub(crate) fn from_parts(
-        alloc: Global,
         origins: Vec<VertexId>,
-        faces: Rows<CopyId>,
+        faces: OpenFaces,
         boundary: Vec<SideId>,
-    ) -> Result<Opened, NoMemory>
+    ) -> Opened
         requires disc { IsDisc (record { vertices = length origins.items; faces = faces }) }
         requires boundary { IsBoundary (record { vertices = length origins.items; faces = faces })
             boundary.items }
         requires few_copies { length origins.items < 2 ^ 30 }
         requires few_faces { length faces < 2 ^ 30 }
-        requires few_corners { sum_by length faces < 2 ^ 32 }
-        ensures { IfOk result (λ o. o ≡ record { origins = origins.items; faces = faces }) }
+        ensures { result ≡ record { origins = origins.items; faces = faces } }
     {
-        let starts = starts_of(alloc, &faces)?;
-        Ok(Opened {
+        Opened {
             origins,
             faces,
-            starts,
             boundary,
-        })
+        }
     }
 
     /// The vertex of the surface that a copy is of.
@@ -92,14 +70,14 @@ impl Opened {
     pub fn corners(&self) -> &[CopyId]
         ensures { result.now ≡ flat_map (λ row. row) self.now.faces }
     {
-        self.faces.items()
+        self.faces.corners()
     }
 
     /// Where each face begins among the corners of all faces, and the end.
     pub fn starts(&self) -> &[u32]
         ensures { AreStarts self.now.faces result.now }
     {
-        &self.starts
+        self.faces.starts()
     }
 
     /// The corners of a face as copies.

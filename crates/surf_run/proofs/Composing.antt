@@ -1,5 +1,5 @@
 -- Steps that functions take, one after another.
-use Rattle.std.proofs.Common.{◌≡◌, ◌≤◌, ◌∙◌, ℕ, List, [], Option, Some, None, Result, Ok, Err, inl, inr, refl, sym, ap, subst, arith}
+use Rattle.std.proofs.Common.{◌≡◌, ◌≤◌, ◌∙◌, ℕ, [], Option, Some, None, Result, Ok, Err, inl, inr, refl, sym, ap, subst, arith}
 use Rattle.std.specs.Prelude.{IfSome, IsErrAnd}
 use Rattle.std.proofs.lemmas.Result.{err_from_is_err_and}
 use Rattle.surf_base.specs.Outside.{Files}
@@ -10,9 +10,6 @@ use Rattle.surf_texts.specs.declared.refusal.Refused.{Refused}
 use Rattle.surf_texts.specs.declared.refusal.Refused.TheVariants.{Read}
 use Rattle.surf_answers.specs.Tells.{IsTold, Why, Concludes, WhyOver, ConcludesOver, verdict_status}
 use Rattle.surf_answers.specs.declared.answered.Answered.{Answered}
-use Rattle.surf_off.specs.Off.{OffParts}
-use Rattle.surf_surfaces.specs.Mesh.{Mesh}
-use Rattle.surf_run.specs.Reading.{Reads, IsSurfaceText, HoldsSurface}
 use Rattle.surf_run.specs.Steps.{Ends, stops, goes}
 
 -- ---- functions that read no file
@@ -235,12 +232,3 @@ module _ {held holds : Option Files} {old mid : ℕ} (new : ℕ) (whole : Files 
 
   pub resumed : (r : Result Answered Refused) → ConcludesOver held mid new whole r → ConcludesOver holds old new whole r
   resumed r is = earlier r (subst (λ (h : Option Files). ConcludesOver h mid new whole r) same is)
-
--- the file of a name has the bytes that were read, and they are the text of a surface
-pub held_surface : {held : Option Files} (holds : Option Files) (name bytes others : List ℕ) (read : OffParts × Mesh) → others ≡ bytes → held ≡ holds →
-    IfSome holds (λ files. Reads name files (Ok bytes)) → IsSurfaceText others (Ok read) → HoldsSurface held name others read
-held_surface holds name bytes others read named same went text = (
-  subst (λ (h : Option Files). IfSome h (λ files. Reads name files (Ok others))) (sym same)
-      (subst (λ (b : List ℕ). IfSome holds (λ files. Reads name files (Ok b))) (sym named) went),
-  text,
-)

@@ -1,7 +1,9 @@
 //! Files that are reached.
 ghost use Rattle.std.specs.Prelude.{◌≡◌, ◌≤◌, ℕ, List, length, IfOk};
 ghost use Rattle.surf_surfaces.specs.Surface.{face_count};
+ghost use Rattle.surf_off.specs.Clean.{IsOffParts};
 ghost use Rattle.surf_off.specs.Off.{OffParts};
+ghost use Rattle.surf_off.specs.Places.{AreWithin, parts_at};
 ghost use Rattle.surf_run.specs.Reading.{Reads, IsMeshText, IsSurfaceOf, IsSurfaceText};
 ghost use Rattle.surf_run.specs.Reading.{HoldsText, IsTextAt};
 ghost use Rattle.surf_answers.specs.Tells.{Takes, TakesOver};
@@ -11,7 +13,7 @@ use std::alloc::Global;
 use surf_base::{FetchFault, LimitKind, MAX_TEXT, Shelf, fetch};
 use surf_check::check;
 use surf_mesh::HalfMesh;
-use surf_off::{OffText, read_off};
+use surf_off::{OffPlaces, OffText, read_off, read_places};
 use surf_soup::Soup;
 use surf_texts::Refused;
 
@@ -54,16 +56,44 @@ pub(crate) fn surface_of(alloc: Global, soup: Soup) -> Result<HalfMesh, Refused>
     Ok(mesh)
 }
 
-/// The parts and the surface of the text of a mesh.
-pub(crate) fn read_surface(alloc: Global, bytes: &[u8]) -> Result<(OffText<'_>, HalfMesh), Refused>
-    requires { length bytes.now ≤ MAX_TEXT }
-    ensures tells { Takes (λ read. read) (IsSurfaceText bytes.now) result }
-    ensures lines { IfOk result (λ read. length read.0.vertex_lines ≡ read.1.vertices) }
-    ensures colours { IfOk result (λ read. length read.0.colours ≡ face_count read.1) }
+/// Where the parts of the text of a mesh stand, and the surface. Of the text the front that has the
+/// parts is kept.
+pub(crate) fn read_front(
+    alloc: Global,
+    bytes: &mut Vec<u8>,
+) -> Result<(OffPlaces, HalfMesh), Refused>
+    requires { length bytes.old.items ≤ MAX_TEXT }
+    ensures tells { Takes (λ read. (parts_at bytes.new.items read.0, read.1))
+        (IsSurfaceText bytes.old.items) result }
+    ensures within { IfOk result (λ read. AreWithin (length bytes.new.items) read.0) }
+    ensures clean { IfOk result (λ read. IsOffParts (parts_at bytes.new.items read.0)) }
+    ensures lines { IfOk result (λ read.
+        length (parts_at bytes.new.items read.0).vertex_lines ≡ read.1.vertices) }
+    ensures colours { IfOk result (λ read.
+        length (parts_at bytes.new.items read.0).colours ≡ face_count read.1) }
 {
-    let (text, soup) = read_mesh(alloc, bytes)?;
+    let (places, soup) = read_kept(alloc, bytes)?;
     let mesh = surface_of(alloc, soup)?;
-    Ok((text, mesh))
+    Ok((places, mesh))
+}
+
+// Where the parts of the text of a mesh stand, and its faces. Of the text the front that has the
+// parts is kept.
+fn read_kept(alloc: Global, bytes: &mut Vec<u8>) -> Result<(OffPlaces, Soup), Refused>
+    requires { length bytes.old.items ≤ MAX_TEXT }
+    ensures tells { Takes (λ read. (parts_at bytes.new.items read.0, read.1))
+        (IsMeshText bytes.old.items) result }
+    ensures within { IfOk result (λ read. AreWithin (length bytes.new.items) read.0) }
+    ensures clean { IfOk result (λ read. IsOffParts (parts_at bytes.new.items read.0)) }
+    ensures lines { IfOk result (λ read.
+        length (parts_at bytes.new.items read.0).vertex_lines ≡ read.1.vertices) }
+    ensures colours { IfOk result (λ read.
+        length (parts_at bytes.new.items read.0).colours ≡ face_count read.1) }
+{
+    let (places, soup) = read_places(alloc, bytes)?;
+    bytes.truncate(places.front());
+    bytes.shrink_to_fit();
+    Ok((places, soup))
 }
 
 /// The faces in the text of the file of a name. The text is kept no longer.

@@ -8,7 +8,7 @@ ghost use Rattle.surf_run.specs.Commands.{OnRequest};
 ghost use Rattle.surf_run.specs.Cutting.{CutsOpen};
 
 use crate::limits::test_loops;
-use crate::reading::{read_file, read_surface};
+use crate::reading::{read_file, read_front};
 use crate::weights::{base_of, read_measures};
 use std::alloc::Global;
 use surf_answers::{Answered, opened_at, opened_text};
@@ -18,8 +18,8 @@ use surf_mesh::HalfMesh;
 use surf_texts::Refused;
 use surf_words::CutKind;
 
-/// What `cut` answers: a surface cut open, with the lines and colours of its text. The surface goes
-/// before the answer is made.
+/// What `cut` answers: a surface cut open, with the lines and colours of its text. Of the text only
+/// the front that has these is kept, and the surface goes before the answer is made.
 pub(crate) fn cut_open<S: Shelf>(
     alloc: Global,
     shelf: &mut S,
@@ -33,10 +33,11 @@ pub(crate) fn cut_open<S: Shelf>(
     ensures tells { ConcludesOver (S.holds shelf.old) (S.faults shelf.old) (S.faults shelf.new)
         (OnRequest (Some (weighted (Cut kind) mesh.now lengths.now base))) result }
 {
-    let bytes = read_file(alloc, shelf, mesh)?;
-    let (text, mesh) = read_surface(alloc, &bytes)?;
+    let mut bytes = read_file(alloc, shelf, mesh)?;
+    let (places, mesh) = read_front(alloc, &mut bytes)?;
     let opened = open_surface(alloc, shelf, kind, &mesh, lengths, base)?;
     drop(mesh);
+    let text = places.over(&bytes);
     opened_text(alloc, &text, &opened)
 }
 

@@ -6,7 +6,7 @@ ghost use Rattle.surf_answers.specs.Coordinates.{GivesMeasures, Measures};
 ghost use Rattle.surf_answers.specs.Tells.{Concludes, ConcludesOver, Takes};
 ghost use Rattle.surf_run.specs.Commands.{OnRequest};
 
-use crate::reading::{read_file, read_surface};
+use crate::reading::{read_file, read_front};
 use std::alloc::Global;
 use surf_answers::Answered;
 use surf_base::{MAX_ANSWER, Shelf};
@@ -30,9 +30,9 @@ pub(crate) fn measured<S: Shelf>(
     ensures tells { ConcludesOver (S.holds shelf.old) (S.faults shelf.old) (S.faults shelf.new)
         (OnRequest (Some (measures mesh.now decimals))) result }
 {
-    let bytes = read_file(alloc, shelf, mesh)?;
-    let (text, mesh) = read_surface(alloc, &bytes)?;
-    let lengths = measure_edges(alloc, &text, &mesh, decimals)?;
+    let mut bytes = read_file(alloc, shelf, mesh)?;
+    let (places, mesh) = read_front(alloc, &mut bytes)?;
+    let lengths = measure_edges(alloc, &places.over(&bytes), &mesh, decimals)?;
     measures_of(alloc, &mesh, &lengths)
 }
 

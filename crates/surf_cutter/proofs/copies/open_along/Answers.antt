@@ -1,4 +1,4 @@
-use Rattle.std.proofs.Common.{ℕ, List, Bool, sym, subst}
+use Rattle.std.proofs.Common.{ℕ, List, Bool}
 use Rattle.std.proofs.lemmas.Result.{IfOk-weaker}
 use Rattle.surf_opening.specs.ChosenCut.{AreInOrder}
 use Rattle.surf_opening.specs.Opening.{IsOpenedBy}
@@ -8,21 +8,17 @@ use Rattle.surf_cutter.proofs.copies.open_along.Goals as goal
 pub returns-clause-opened : goal.returns-clause-opened
 returns-clause-opened c =
     let mesh = c.args.mesh.now in
-    let labels = c.deref.result.now in
-    let are : AreLabels mesh c.args.cut.now labels c.in_ok-labels.count =
-    subst (λ (xs : List ℕ). AreLabels mesh c.args.cut.now xs c.in_ok-labels.count) (sym c.deref.ensures.value) c.in_ok-labels.ensures in
+    let labels = c.in_ok-labels.labels.items in
     IfOk-weaker c.open_by.result
     (λ r. (cut : List Bool) (count : ℕ) → AreLabels mesh cut labels count → IsOpenedBy mesh (IsUncut mesh cut) r.0.items r.1)
     (λ r. IsOpenedBy mesh (IsUncut mesh c.args.cut.now) r.0.items r.1)
-    (λ r opened. opened c.args.cut.now c.in_ok-labels.count are) c.open_by.ensures.opened
+    (λ r opened. opened c.args.cut.now c.in_ok-labels.count c.in_ok-labels.ensures) c.open_by.ensures.opened
 
 pub returns-clause-order : goal.returns-clause-order
 returns-clause-order c =
     let mesh = c.args.mesh.now in
-    let labels = c.deref.result.now in
-    let are : AreLabels mesh c.args.cut.now labels c.in_ok-labels.count =
-    subst (λ (xs : List ℕ). AreLabels mesh c.args.cut.now xs c.in_ok-labels.count) (sym c.deref.ensures.value) c.in_ok-labels.ensures in
+    let labels = c.in_ok-labels.labels.items in
     IfOk-weaker c.open_by.result
     (λ r. (cut : List Bool) (count : ℕ) → AreLabels mesh cut labels count → AreInOrder mesh r.0.items r.1)
     (λ r. AreInOrder mesh r.0.items r.1)
-    (λ r order. order c.args.cut.now c.in_ok-labels.count are) c.open_by.ensures.order
+    (λ r order. order c.args.cut.now c.in_ok-labels.count c.in_ok-labels.ensures) c.open_by.ensures.order

@@ -1,5 +1,4 @@
-use Rattle.std.proofs.Common.{◌≡◌, sym, subst, arith}
-use Rattle.std.proofs.lemmas.Result.{IfOk-weaker}
+use Rattle.std.proofs.Common.{sym, subst, arith}
 use Rattle.surf_soup.proofs.SideTables.{three_each}
 use Rattle.surf_cutter.specs.Opened.{OpenMesh, IsOpenedInOrder}
 use Rattle.surf_cutter.proofs.PairedBorders.{opens_to_disc}
@@ -16,8 +15,5 @@ from_parts-requires-clause-few_faces c =
 
 pub returns : goal.returns
 returns c =
-    let origins = c.in_ok-origins.origins.items in
-    let faces = c.in_ok-origins.faces in
     let P : OpenMesh → Type 0 = λ o. IsOpenedInOrder c.args.mesh.now c.args.cut.now o in
-    IfOk-weaker c.from_parts.result (λ o. o ≡ record { origins = origins; faces = faces }) P
-    (λ o is. subst P (sym is) (c.in_ok-origins.ensures.opened, c.in_ok-origins.ensures.order)) c.from_parts.ensures
+    subst P (sym c.from_parts.ensures) (c.in_ok-origins.ensures.opened, c.in_ok-origins.ensures.order)

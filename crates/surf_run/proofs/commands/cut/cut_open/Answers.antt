@@ -1,30 +1,37 @@
-use Rattle.std.proofs.Common.{refl}
-use Rattle.surf_run.proofs.Composing.{begun, over, over_as, past, ended, stopped, stopped_over}
+use Rattle.std.proofs.Common.{◌≡◌, List, ℕ, ap, ◌∙◌, refl, subst}
+use Rattle.surf_off.specs.Off.{OffParts}
+use Rattle.surf_off.specs.Places.{parts_at}
+use Rattle.surf_answers.specs.Cuts.{GivesOpened}
+use Rattle.surf_answers.specs.Tells.{Concludes}
+use Rattle.surf_run.proofs.Composing.{begun, over, past, ended, stopped, stopped_over}
 use Rattle.surf_run.proofs.Cutting.{in_one_step}
 use Rattle.surf_run.proofs.commands.cut.cut_open.Goals as goal
 
-pub returns-in_err-text-clause-tells : goal.returns-in_err-text-clause-tells
-returns-in_err-text-clause-tells g c =
+pub returns-in_err-places-clause-tells : goal.returns-in_err-places-clause-tells
+returns-in_err-places-clause-tells g c =
     let bytes = c.in_ok-bytes in
-    stopped (over_as begun bytes.bytes.items refl bytes.ensures.tells bytes.ensures.later _ c.deref.ensures.value)
-    c.in_err-text.field-0.0 c.in_err-text.ensures.tells c.from_residual-in_err-text.result
-    c.from_residual-in_err-text.ensures.1
+    stopped (over begun bytes.bytes.items refl bytes.ensures.tells bytes.ensures.later)
+    c.in_err-places.field-0.0 c.in_err-places.ensures.tells c.from_residual-in_err-places.result
+    c.from_residual-in_err-places.ensures.1
 
 pub returns-in_err-opened-clause-tells : goal.returns-in_err-opened-clause-tells
 returns-in_err-opened-clause-tells g c =
     let bytes = c.in_ok-bytes in
-    let read = c.in_ok-text in
-    stopped_over (in_one_step c.args.kind read.text read.mesh c.args.lengths.now c.args.base
-    (past (over_as begun bytes.bytes.items refl bytes.ensures.tells bytes.ensures.later _ c.deref.ensures.value)
-    (read.text, read.mesh) read.ensures.tells)) _ c.in_err-opened.field-0.0 bytes.ensures.holds c.in_err-opened.ensures.tells
+    let read = c.in_ok-places in
+    let parts = parts_at c.read_front.new.bytes.items read.places in
+    stopped_over (in_one_step c.args.kind parts read.mesh c.args.lengths.now c.args.base
+    (past (over begun bytes.bytes.items refl bytes.ensures.tells bytes.ensures.later) (parts, read.mesh) read.ensures.tells))
+    _ c.in_err-opened.field-0.0 bytes.ensures.holds c.in_err-opened.ensures.tells
     c.from_residual-in_err-opened.result c.from_residual-in_err-opened.ensures.1
 
 pub returns-clause-tells : goal.returns-clause-tells
 returns-clause-tells g c =
     let bytes = c.in_ok-bytes in
-    let read = c.in_ok-text in
+    let read = c.in_ok-places in
     let opened = c.in_ok-opened in
-    ended (over (in_one_step c.args.kind read.text read.mesh c.args.lengths.now c.args.base
-    (past (over_as begun bytes.bytes.items refl bytes.ensures.tells bytes.ensures.later _ c.deref.ensures.value)
-    (read.text, read.mesh) read.ensures.tells)) opened.opened bytes.ensures.holds opened.ensures.tells opened.ensures.later)
-    c.opened_text.result c.opened_text.ensures
+    let parts = parts_at c.read_front.new.bytes.items read.places in
+    let is : c.over-text.result ≡ parts = c.over-text.ensures.parts ∙ ap (λ (text : List ℕ). parts_at text read.places) c.deref.ensures.value in
+    ended (over (in_one_step c.args.kind parts read.mesh c.args.lengths.now c.args.base
+    (past (over begun bytes.bytes.items refl bytes.ensures.tells bytes.ensures.later) (parts, read.mesh) read.ensures.tells))
+    opened.opened bytes.ensures.holds opened.ensures.tells opened.ensures.later)
+    c.opened_text.result (subst (λ (p : OffParts). Concludes (GivesOpened p opened.opened) c.opened_text.result) is c.opened_text.ensures)

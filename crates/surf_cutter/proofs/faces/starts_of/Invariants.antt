@@ -1,0 +1,10 @@
+use Rattle.std.proofs.Common.{◌≡◌}
+use Rattle.surf_surfaces.specs.SideNumber.{first_side}
+use Rattle.surf_cutter.specs.Faces.{AreStartsTo}
+use Rattle.surf_cutter.proofs.faces.starts_of.Given as goal
+
+abbrev pub invariant-loop-f : goal.invariant-loop-f
+invariant-loop-f l = record {
+  starts : AreStartsTo l.mesh l.f l.starts.items;
+  end : l.end ≡ first_side l.mesh l.f;
+}
