@@ -18,3 +18,4 @@ pub mod Passed
 pub mod Placed
 pub mod Marked
 pub mod Sufficient
+pub mod Firsts

@@ -244,3 +244,25 @@ IsFirstPlace mesh lengths (Some c) = (trees : ℕ → Trees) → AreChosen mesh 
 -- the first of a candidate and some loops
 abbrev pub first_from : Option Candidate → List Signed → Option Candidate
 first_from first found = fold earlier_of first found
+
+-- there is a candidate that comes before another
+abbrev pub is_earlier : Option Candidate → Candidate → Bool
+is_earlier None d = false
+is_earlier (Some c) d = earlier c d
+
+-- the first of a candidate and the loop of an edge, if it is wanted
+abbrev pub first_with : Search → Option Candidate → Option Candidate → ℕ → Option Candidate
+first_with x limit first e = if is_wanted x limit e then earlier_of first (told_loop x e) else first
+
+-- the first of a limit and the wanted loops of the edges whose lesser ends are the first so many vertices that were settled
+pub record IsFirstTold (x : Search) (limit : Option Candidate) (count : ℕ) (first : Option Candidate) : Type 0 where
+  pub found : List Signed
+  pub each : All (IsTold x limit) found
+  pub all : (i : ℕ) → i < count → ListsAt x limit (slice_index x.near.settled i) found
+  pub is_first : first ≡ first_from limit found
+
+-- the first of a limit and the loops at a vertex that aren't null and come before it
+pub record IsFirstAt (s : SurfaceTables) (limit : Option Candidate) (z : ℕ) (first : Option Candidate) : Type 0 where
+  pub found : List Signed
+  pub are : AreFound s.mesh s.lengths s.signs limit z found
+  pub is_first : first ≡ first_from limit found

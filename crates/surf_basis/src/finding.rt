@@ -1,13 +1,14 @@
 //! The loops that a search from one vertex finds.
-ghost use Rattle.std.specs.Prelude.{◌≡◌, ◌<◌, ◌&&◌, false, IsTrue, bit_xor, min, All, Contains, length, IfOk, OnOk};
+ghost use Rattle.std.specs.Prelude.{ℕ, ◌≡◌, ◌<◌, ◌+◌, ◌&&◌, slice_index, false, IsTrue, bit_xor, min, All, Contains, length, IfOk, OnOk};
 ghost use Rattle.surf_surfaces.specs.Surface.{edge_count, ends};
 ghost use Rattle.surf_near.specs.Near.{AreNearTables, is_near};
 ghost use Rattle.surf_basis.specs.Found.{surface_of, IsReady, is_between, told_loop, wanted_loop};
 ghost use Rattle.surf_basis.specs.Found.{reached_at, IsTold, ListsAt, AreTold, AreFound};
 ghost use Rattle.surf_basis.specs.Found.{IsLinkOf, IsUnwantedAt, may_matter};
+ghost use Rattle.surf_basis.specs.Found.{is_earlier, first_with, IsFirstTold, IsFirstAt};
 ghost use Rattle.surf_basis.specs.Places.{place_of, is_sought, radius_of};
 
-use crate::candidate::{Candidate, Signed, copy_signature};
+use crate::candidate::{Candidate, Signed, comes_before, copy_signature};
 use crate::surface::Surface;
 use crate::ways::Ways;
 use std::alloc::Global;
@@ -212,6 +213,85 @@ fn list_loops(
     Ok(())
 }
 
+// Whether there is a candidate that comes before another.
+fn is_earlier(first: &Option<Candidate>, candidate: &Candidate) -> bool
+    ensures earlier { result ≡ is_earlier first.now candidate.now }
+{
+    match first {
+        Some(found) => comes_before(found, candidate),
+        None => false,
+    }
+}
+
+// The first of a candidate and the loop of an edge, if this is wanted. Its class isn't summed where
+// the candidate comes first anyway.
+fn first_with(
+    reached: &Reached<'_, '_>,
+    limit: &Option<Candidate>,
+    edge: EdgeId,
+    first: Option<Candidate>,
+) -> Option<Candidate>
+    requires ready { IsReady (reached_at reached.now) }
+    requires edge { edge < edge_count reached.now.surface.now.mesh.now }
+    ensures first { result ≡ first_with (reached_at reached.now) limit.now first edge }
+{
+    if !is_between(reached.surface, reached.desk, edge) {
+        return first;
+    }
+    let candidate = candidate_of(reached, edge);
+    if !is_sought(&candidate, limit) {
+        return first;
+    }
+    if is_earlier(&first, &candidate) {
+        return first;
+    }
+    if class_of(reached, edge).bits().is_empty() {
+        return first;
+    }
+    Some(candidate)
+}
+
+// The first of a candidate and the wanted loops of the edges at a vertex of which it is the lesser
+// end.
+fn first_at(
+    reached: &Reached<'_, '_>,
+    limit: &Option<Candidate>,
+    v: VertexId,
+    before: Option<Candidate>,
+) -> Option<Candidate>
+    requires ready { IsReady (reached_at reached.now) }
+    requires links { reached.now.links.now.mesh ≡ reached.now.surface.now.mesh.now }
+    requires vertex { v < reached.now.surface.now.mesh.now.vertices }
+    ensures first { (count : ℕ) → v ≡ slice_index reached.now.desk.now.settled count →
+        IsFirstTold (reached_at reached.now) limit.now count before →
+        IsFirstTold (reached_at reached.now) limit.now (count + 1) result }
+{
+    reached.surface.mesh.law_of_surface();
+    let mut first = before;
+    for link in reached.links.at(v) {
+        if may_matter(reached, v, link) {
+            first = first_with(reached, limit, link.edge, first);
+        }
+    }
+    first
+}
+
+// The first of a limit and the loops that come before it.
+fn first_told(reached: &Reached<'_, '_>, limit: &Option<Candidate>) -> Option<Candidate>
+    requires ready { IsReady (reached_at reached.now) }
+    requires links { reached.now.links.now.mesh ≡ reached.now.surface.now.mesh.now }
+    requires settled { All (λ v. v < reached.now.surface.now.mesh.now.vertices)
+        reached.now.desk.now.settled }
+    ensures first { IsFirstTold (reached_at reached.now) limit.now
+        (length reached.now.desk.now.settled) result }
+{
+    let mut first = *limit;
+    for v in reached.desk.settled() {
+        first = first_at(reached, limit, *v, first);
+    }
+    first
+}
+
 impl<'a> Finder<'a> {
     /// A finder of loops on a surface.
     pub fn make(alloc: Global, surface: &Surface<'a>) -> Result<Finder<'a>, NoMemory>
@@ -259,5 +339,29 @@ impl<'a> Finder<'a> {
             ways: &self.ways,
         };
         list_loops(&reached, limit, found)
+    }
+
+    /// The first of a limit, if there is one, and the loops at a base that aren't null and come
+    /// before it.
+    pub fn first_loop(
+        &mut self,
+        base: VertexId,
+        limit: &Option<Candidate>,
+    ) -> Result<Option<Candidate>, NoMemory>
+        requires base { base < self.old.mesh.vertices }
+        ensures first { IfOk result (λ first. IsFirstAt self.old limit.now base first) }
+        ensures same { self.new ≡ self.old }
+    {
+        self.surface.mesh.law_of_surface();
+        self.surface.lengths.law_of_lengths();
+        self.desk.grow(&self.links, base, radius(limit));
+        self.ways.sum(&self.surface, &self.desk, base)?;
+        let reached = Reached {
+            surface: &self.surface,
+            links: &self.links,
+            desk: &self.desk,
+            ways: &self.ways,
+        };
+        Ok(first_told(&reached, limit))
     }
 }

@@ -9,10 +9,10 @@ ghost use Rattle.surf_surfaces.specs.Surface.{edge_count, IsSurface};
 ghost use Rattle.surf_basis.specs.Signing.{AreSigned};
 ghost use Rattle.surf_basis.specs.Places.{order_of};
 ghost use Rattle.surf_basis.specs.Marks.{HasBases};
-ghost use Rattle.surf_basis.specs.Found.{IsNext, AreKeptFrom, HaveBasesOfBasis, first_from, IsFirstAmong, IsFirstPlace};
+ghost use Rattle.surf_basis.specs.Found.{IsNext, AreKeptFrom, HaveBasesOfBasis, IsFirstAmong, IsFirstPlace};
 ghost use Rattle.surf_base.specs.declared.limits.TheConstants.{MAX_LOOPS};
 
-use crate::candidate::{Candidate, Signed, comes_before};
+use crate::candidate::{Candidate, Signed};
 use crate::choosing::Choice;
 use crate::finding::Finder;
 use crate::marking::{list_marked, signed_ends};
@@ -122,23 +122,8 @@ pub(crate) fn sufficient_bases(
     bases_of(alloc, surface.mesh, choice.kept())
 }
 
-// The first of some loops and of a candidate that they come before.
-fn first_from(first: Option<Candidate>, found: &[Signed]) -> Option<Candidate>
-    ensures first { result ≡ first_from first found.now }
-{
-    let mut first = first;
-    for signed in found {
-        first = match first {
-            Some(candidate) if comes_before(&candidate, &signed.candidate) => Some(candidate),
-            _ => Some(signed.candidate),
-        };
-    }
-    first
-}
-
 // The first of the loops at the vertices of a list.
 fn first_found(
-    alloc: Global,
     finder: &mut Finder<'_>,
     vertices: &[VertexId],
 ) -> Result<Option<Candidate>, NoMemory>
@@ -148,11 +133,10 @@ fn first_found(
     ensures first { IfOk result (IsFirstAmong finder.old.mesh finder.old.lengths finder.old.signs
         vertices.now) }
 {
-    let mut found = Vec::new(alloc);
     let mut first = None;
     for v in vertices {
-        finder.find(*v, &first, &mut found)?;
-        first = first_from(first, &found);
+        let next = finder.first_loop(*v, &first)?;
+        first = next;
     }
     Ok(first)
 }
@@ -172,5 +156,5 @@ pub(crate) fn first_place(
     surface.lengths.law_of_lengths();
     let vertices = signed_ends(alloc, surface.mesh, surface.signatures)?;
     let mut finder = Finder::make(alloc, surface)?;
-    first_found(alloc, &mut finder, &vertices)
+    first_found(&mut finder, &vertices)
 }

@@ -1,8 +1,7 @@
-use Rattle.std.proofs.Common.{◌≡◌, ◌<◌, ℕ, List, refl, sym, ap, ◌∙◌, subst}
+use Rattle.std.proofs.Common.{◌<◌, List, ℕ, refl, sym, ◌∙◌, subst}
 use Rattle.std.proofs.lemmas.List.{take_all}
 use Rattle.surf_surfaces.proofs.FirstCycleLaws.{shortest_trees}
-use Rattle.surf_basis.specs.declared.candidate.Signed.{Signed}
-use Rattle.surf_basis.specs.Found.{SurfaceTables, AreFound, first_from, IsFirstAmong}
+use Rattle.surf_basis.specs.Found.{SurfaceTables, IsFirstAmong, IsFirstAt}
 use Rattle.surf_basis.proofs.Placed.{first_begun, first_next}
 use Rattle.surf_basis.proofs.searching.first_found.Goals as goal
 
@@ -12,8 +11,8 @@ loop-v-init c = record {
   first = first_begun c.args.finder.now.mesh c.args.finder.now.lengths c.args.finder.now.signs c.args.vertices.now;
 }
 
-pub find-requires : goal.find-requires
-find-requires c = record {
+pub first_loop-requires : goal.first_loop-requires
+first_loop-requires c = record {
   base = subst (λ (f : SurfaceTables). c.v-item.result < f.mesh.vertices) (sym c.loop-v.invariant.same)
       (subst (λ v. v < c.args.finder.now.mesh.vertices) (sym c.v-item.is) (c.requires.inside c.loop-v.v-index c.v-item.result c.loop-v-test.true));
 }
@@ -24,19 +23,17 @@ loop-v-preserved c =
     let surface = c.requires.positive.0 in
     let positive = c.requires.positive.1 in
     let z = c.v-item.result in
-    let found = c.find.new.found.items in
+    let next = c.in_ok-next.next in
     let z_in : z < f.mesh.vertices =
     subst (λ v. v < f.mesh.vertices) (sym c.v-item.is) (c.requires.inside c.loop-v.v-index z c.loop-v-test.true) in
-    let there : AreFound f.mesh f.lengths f.signs c.loop-v.first z found =
-    subst (λ (g : SurfaceTables). AreFound g.mesh g.lengths g.signs c.loop-v.first z found) c.loop-v.invariant.same c.in_ok-find.ensures.found in
-    let next : c.first_from-first.result ≡ first_from c.loop-v.first found =
-    c.first_from-first.ensures.first ∙ ap (λ (xs : List Signed). first_from c.loop-v.first xs) c.deref.ensures.value in
+    let there : IsFirstAt f c.loop-v.first z next =
+    subst (λ (g : SurfaceTables). IsFirstAt g c.loop-v.first z next) c.loop-v.invariant.same c.in_ok-next.ensures.first in
     record {
-      same = c.find.ensures.same ∙ c.loop-v.invariant.same;
+      same = c.first_loop.ensures.same ∙ c.loop-v.invariant.same;
       first = λ trees chosen d split are.
           first_next f.mesh f.lengths (λ x. (trees x).tree) surface positive (shortest_trees f.mesh f.lengths surface positive trees chosen) d split
-          c.args.vertices.now c.loop-v.v-index z c.loop-v.first c.first_from-first.result found z_in c.loop-v-test.true (sym c.v-item.is)
-          (c.loop-v.invariant.first trees chosen d split are) (there trees chosen d are) next;
+          c.args.vertices.now c.loop-v.v-index z c.loop-v.first next there.found z_in c.loop-v-test.true (sym c.v-item.is)
+          (c.loop-v.invariant.first trees chosen d split are) (there.are trees chosen d are) there.is_first;
     }
 
 pub returns : goal.returns
