@@ -1,5 +1,5 @@
 //! The loops that a search from one vertex finds.
-ghost use Rattle.std.specs.Prelude.{ℕ, ◌≡◌, ◌<◌, ◌+◌, ◌&&◌, slice_index, false, IsTrue, bit_xor, min, All, Contains, length, IfOk, OnOk};
+ghost use Rattle.std.specs.Prelude.{ℕ, ◌≡◌, ◌<◌, ◌+◌, ◌&&◌, slice_index, false, IsTrue, min, All, Contains, length, IfOk, OnOk};
 ghost use Rattle.surf_surfaces.specs.Surface.{edge_count, ends};
 ghost use Rattle.surf_near.specs.Near.{AreNearTables, is_near};
 ghost use Rattle.surf_basis.specs.Found.{surface_of, IsReady, is_between, told_loop, wanted_loop};

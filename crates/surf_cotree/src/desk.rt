@@ -1,8 +1,7 @@
 //! The tables of one tree of faces.
-ghost use Rattle.std.specs.Prelude.{◌≡◌, ◌<◌, ◌≤◌, length, slice_index, slice_index_or, map, false, IfOk, Bool, ℕ};
-ghost use Rattle.std.specs.Prelude.{List};
+ghost use Rattle.std.specs.Prelude.{◌≡◌, ◌<◌, ◌≤◌, length, slice_index, slice_index_or, map, false, IfOk, ℕ};
 ghost use Rattle.std.specs.List.{range_with_len};
-ghost use Rattle.surf_graphs.specs.Cells.{Split, IsSplit};
+ghost use Rattle.surf_graphs.specs.Cells.{IsSplit};
 ghost use Rattle.surf_graphs.specs.Trees.{Tree};
 ghost use Rattle.surf_surfaces.specs.Cells.{cells_of};
 ghost use Rattle.surf_surfaces.specs.Surface.{edge_count, loop_count};

@@ -9,16 +9,22 @@ use Rattle.surf_opening.specs.ChosenCut.{AreDivided, AreInOrder}
 use Rattle.surf_opening.specs.Laws.{TellsCut}
 use Rattle.surf_opening.specs.Named.{whole}
 use Rattle.surf_opening.specs.Opening.{IsOpenedBy}
+use Rattle.surf_opening.specs.Side.{Side}
+use Rattle.surf_opening.specs.Uncut.{IsDualTree}
 use Rattle.surf_opening.proofs.ChosenOpenings.{some_list, full_cuts_are_chosen, trimmed_cuts_are_chosen, chosen_are_openings, full_openings_are_counted}
 use Rattle.surf_opening.proofs.CutCounts.{full_told}
 use Rattle.surf_opening.proofs.NamedEdges.{forget}
 use Rattle.surf_slit.specs.Labels.{IsUncut}
 use Rattle.surf_cotree.specs.Grown.{IsMarked, IsGrown}
 use Rattle.surf_cotree.specs.Tables.{CotreeTables, cotree_of}
-use Rattle.surf_cutter.specs.Boundary.{IsFullCut, OpensToDisc}
+use Rattle.surf_cutter.specs.Boundary.{OpensToDisc}
 use Rattle.surf_cutter.specs.Opened.{MarksCotree, IsHeld, IsChosenFor, AreTurnedOver}
 use Rattle.surf_cutter.specs.Trimming.{is_cut, IsTrimmedFrom, HasEndedBy}
 use Rattle.surf_cutter.proofs.Trims.{told_same}
+
+-- the flags mark all edges but those of a tree of the faces that grows face by face
+abbrev pub IsFullCut : Mesh → List Bool → Type 0
+IsFullCut mesh cut = (tree : List (ℕ × ℕ)) × IsDualTree (Side mesh) tree × TellsCut mesh tree (is_cut cut)
 
 module _ {mesh : Mesh} (surface : IsSurface mesh) (held cut : List Bool) (flags : length held ≡ edge_count mesh) (over : AreTurnedOver held cut) where
   -- a list of the edges of the tree tells the full cut

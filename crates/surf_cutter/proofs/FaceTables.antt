@@ -10,8 +10,14 @@ use Rattle.surf_surfaces.specs.Mesh.{Mesh}
 use Rattle.surf_surfaces.specs.Surface.{face_count, face_at}
 use Rattle.surf_surfaces.specs.SideNumber.{side_count, first_side}
 use Rattle.surf_soup.proofs.HalfLaws.{spans}
-use Rattle.surf_cutter.specs.Copies.{AreCopied}
 use Rattle.surf_cutter.specs.Faces.{AreBounds, rows_from, AreStartsTo, AreRowsOf}
+
+-- the first n faces with the numbers of their corners' labels in place of the corners
+pub record AreCopied (mesh : Mesh) (labels numbers : List ℕ) (n : ℕ) (faces : List (List ℕ)) : Type 0 where
+  pub size : length faces ≡ n
+  pub row_sizes : (f : ℕ) → f < n → length (get_or faces f []) ≡ length (face_at mesh f)
+  pub entries : (f k : ℕ) → f < n → k < length (face_at mesh f) →
+      get_or (get_or faces f []) k 0 ≡ get_or numbers (get_or labels (first_side mesh f + k) 0) 0
 
 -- the places again, from those behind the first
 again : (starts : List ℕ) → 0 < length starts → get_or starts 0 0 ≡ 0 → 0 ∷ drop 1 starts ≡ starts

@@ -15,7 +15,8 @@ use Rattle.surf_soup.proofs.RingLaws.{one_corner}
 use Rattle.surf_soup.proofs.SideNumbers.{first_mono}
 use Rattle.surf_soup.proofs.VertexLaws.{IsPlaced, placed, corner_at_place}
 use Rattle.surf_slit.specs.Labels.{corner_at, IsUncut, AreLabels}
-use Rattle.surf_cutter.specs.Copies.{AreCounted, AreCopied}
+use Rattle.surf_cutter.specs.Copies.{AreCounted}
+use Rattle.surf_cutter.proofs.FaceTables.{AreCopied}
 use Rattle.surf_cutter.proofs.Sorted.{AreSorted}
 
 module _ {mesh : Mesh} (surface : IsSurface mesh) {cut : List Bool} {labels : List ℕ} {count : ℕ} (are : AreLabels mesh cut labels count)

@@ -83,10 +83,6 @@ pub record AreCutSides (mesh : Mesh) (cut : List Bool) (n : ℕ) (list : List �
   pub all : (s : ℕ) → s < n → IsCutSide mesh cut s → (k : ℕ) × (k < length list) × (slice_index list k ≡ s)
   pub rises : (i k : ℕ) → i < k → k < length list → slice_index list i < slice_index list k
 
--- the flags mark all edges but those of a tree of the faces that grows face by face
-abbrev pub IsFullCut : Mesh → List Bool → Type 0
-IsFullCut mesh cut = (tree : List (ℕ × ℕ)) × IsDualTree (Side mesh) tree × TellsCut mesh tree (is_cut cut)
-
 -- The flags mark what is cut where a tree of the faces grows face by face along edges that aren't cut, and some edges
 -- are left uncut beside it, each at a vertex where it is the only cut edge while more than two are cut.
 abbrev pub OpensToDisc : Mesh → List Bool → Type 0

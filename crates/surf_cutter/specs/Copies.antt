@@ -34,13 +34,6 @@ pub record AreCounted (order labels tails : List ℕ) (n : ℕ) (numbers origins
       slice_index numbers (label_at order labels j) ≡ slice_index numbers (label_at order labels k) →
       label_at order labels j ≡ label_at order labels k
 
--- the first n faces with the numbers of their corners' labels in place of the corners
-pub record AreCopied (mesh : Mesh) (labels numbers : List ℕ) (n : ℕ) (faces : List (List ℕ)) : Type 0 where
-  pub size : length faces ≡ n
-  pub row_sizes : (f : ℕ) → f < n → length (slice_index_or faces f []) ≡ length (face_at mesh f)
-  pub entries : (f k : ℕ) → f < n → k < length (face_at mesh f) →
-      slice_index (slice_index_or faces f []) k ≡ slice_index numbers (slice_index labels (first_side mesh f + k))
-
 -- by vertex, and at one vertex by number
 abbrev pub IsBefore : Mesh → ℕ → ℕ → Type 0
 IsBefore mesh s t = (corner_at mesh s < corner_at mesh t) ⊎ ((corner_at mesh s ≡ corner_at mesh t) × (s < t))

@@ -2,7 +2,7 @@
 use Rattle.std.specs.Prelude.{ℕ, Bool, false, ◌&&◌, nat_le, List, [], ◌∷◌, codes, Option, Some, None, Result, Ok, Err}
 use Rattle.std.specs.Prelude.{if◌then◌else◌}
 use Rattle.std.specs.Str.{bytes_eq}
-use Rattle.surf_text.specs.Text.{TextLine, tokens_of, whole, short_whole}
+use Rattle.surf_text.specs.Text.{TextLine, tokens_of, whole}
 use Rattle.surf_surfaces.specs.Mesh.{Mesh, pair, among, edges}
 use Rattle.surf_surfaces.specs.Walk.{edge_number}
 use Rattle.surf_lengths.specs.Lengths.{longest}
@@ -21,11 +21,6 @@ all_whole _ _ _ = None
 abbrev pub three_numbers : List (List ℕ) → Option (ℕ × ℕ × ℕ)
 three_numbers (u ∷ v ∷ n ∷ []) = all_whole (whole u) (whole v) (whole n)
 three_numbers _ = None
-
--- exactly three parts that are whole numbers of 32 bits
-abbrev pub three_short : List (List ℕ) → Option (ℕ × ℕ × ℕ)
-three_short (u ∷ v ∷ n ∷ []) = all_whole (short_whole u) (short_whole v) (short_whole n)
-three_short _ = None
 
 -- the edge between two vertices, the lesser or the greater first
 abbrev pub edge_named : Mesh → ℕ → ℕ → Option ℕ

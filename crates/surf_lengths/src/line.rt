@@ -1,5 +1,5 @@
 //! What the lines of a length file say.
-ghost use Rattle.std.specs.Prelude.{◌≡◌, ◌<◌, ◌≤◌, ℕ, false, Some, IfSome, IfOk, MatchOption};
+ghost use Rattle.std.specs.Prelude.{◌≡◌, ◌<◌, ◌≤◌, false, Some, IfSome, IfOk, MatchOption};
 ghost use Rattle.std.specs.Str.{bytes_eq};
 ghost use Rattle.surf_text.specs.Text.{tokens_of};
 ghost use Rattle.surf_text.specs.Walks.{text_line};

@@ -1,8 +1,7 @@
 //! The links of each vertex, side by side.
-ghost use Rattle.std.specs.Prelude.{◌≡◌, ◌<◌, ◌≤◌, ◌+◌, length, IfOk, OnOk};
+ghost use Rattle.std.specs.Prelude.{◌≡◌, ◌<◌, length, IfOk, OnOk};
 ghost use Rattle.surf_surfaces.specs.Mesh.{IsMesh};
 ghost use Rattle.surf_surfaces.specs.Surface.{edge_count};
-ghost use Rattle.surf_lengths.specs.Lengths.{AreLengths};
 ghost use Rattle.surf_tree.specs.Queues.{IsEvenness};
 ghost use Rattle.surf_near.specs.Links.{AreLinks, AreLinksAt, AreUpTo, degree};
 

@@ -1,5 +1,5 @@
 //! Where the parts of an OFF text stand.
-ghost use Rattle.std.specs.Prelude.{◌≡◌, ◌≤◌, ◌+◌, ◌<◌, ◌^◌, ℕ, List, length, take};
+ghost use Rattle.std.specs.Prelude.{◌≡◌, ◌≤◌, ◌+◌, ◌<◌, ℕ, List, length, take};
 ghost use Rattle.surf_off.specs.Clean.{IsOffParts};
 ghost use Rattle.surf_off.specs.Places.{EndWithin, AreWithin, parts_at};
 

@@ -1,9 +1,9 @@
 //! The slit surface.
-ghost use Rattle.std.specs.Prelude.{◌≡◌, ◌<◌, ◌^◌, ℕ, IfOk, IsTrue, true, false, length, replicate, slice_index};
+ghost use Rattle.std.specs.Prelude.{◌≡◌, ◌<◌, IfOk, true, false, length, slice_index};
 ghost use Rattle.std.specs.Prelude.{slice_index_or, slice_set};
 ghost use Rattle.surf_surfaces.specs.Surface.{edge_count};
 ghost use Rattle.surf_surfaces.specs.SideNumber.{side_count};
-ghost use Rattle.surf_slit.specs.Labels.{corner_at, AreLabels};
+ghost use Rattle.surf_slit.specs.Labels.{AreLabels};
 ghost use Rattle.surf_slit.specs.Slit.{IsUncutSlit};
 
 use crate::labelling::{label_vertex, label_whole};

@@ -1,4 +1,4 @@
--- Reading a number of 32 bits that ends before a space.
+-- Reading the number of 32 bits that the digits in front are.
 use Rattle.std.proofs.Common.{◌≡◌, ◌<◌, ◌≤◌, ◌^◌, ◌+◌, ◌-◌, ◌*◌, ℕ, Bool, true, false, cond, List, [], ◌∷◌, length, get_or, take, drop, Option, min, Some, None, MatchOption, refl, sym, ◌∙◌, ap, arith, inl, inr, length-take, not}
 use Rattle.std.specs.Prelude.{◌==◌, ◌&&◌, nat_lt}
 use Rattle.std.specs.Char.{is_ascii_digit}
@@ -12,59 +12,6 @@ use Rattle.std.proofs.Math.Nat.{min-eq_left, min-eq_right}
 use Rattle.surf_text.specs.Text.{is_space, is_no_digit, front_digits, is_nonempty, value_of, below, short_whole}
 use Rattle.surf_text.proofs.Cuts.{whole_part}
 use Rattle.surf_text.proofs.Digits.{number_on, number_on-is, whole-is, too_long, digit_more, number_all, digits_all}
-
--- a first part, with the place where it ends
-pub part_before : (p : ℕ → Bool) (xs : List ℕ) (i : ℕ) → position_or_len p xs ≡ i → i < length xs → slice_split p xs ≡ before_first p xs ∷ slice_split p (take (length xs - (i + 1)) (drop (i + 1) xs))
-part_before p xs i at lt =
-    slice_split_first p xs 0 (omega (arith, at, lt))
-    ∙ ap (λ (k : ℕ). before_first p xs ∷ slice_split p (drop (k + 1) xs)) at
-    ∙ ap (λ (rest : List ℕ). before_first p xs ∷ slice_split p rest) (sym (take_rest xs (i + 1)))
-
-pub part_alone : (p : ℕ → Bool) (xs : List ℕ) → length xs ≤ position_or_len p xs → slice_split p xs ≡ before_first p xs ∷ []
-part_alone p xs le = whole_part p xs le ∙ ap (λ (part : List ℕ). part ∷ []) (sym (take_all (position_or_len p xs) xs le))
-
-digits_before : (xs : List ℕ) → position_or_len is_no_digit xs ≤ position_or_len is_space xs
-digits_before xs =
-    let n = position_or_len is_no_digit xs in
-    let j = position_or_len is_space xs in
-    elim (cases_lt j n) [
-      | inr le ↦ le
-      | inl lt ↦
-          let inside : j < length xs = omega (arith, lt, prefix_len-le-length (λ b. not (is_no_digit b)) xs) in
-          let is : get_or xs j 0 ≡ 32 = eqb-true _ _ (passes_at_first is_space xs 0 inside) in
-          absurd (both_ways (is_no_digit (get_or xs j 0)) (fails_before_first is_no_digit xs j 0 lt) (ap is_no_digit is))
-    ]
-
-not_true : (b : Bool) → not b ≡ true → b ≡ false
-not_true true is = absurd cc
-not_true false is = refl
-
-no_number : (word : List ℕ) (i : ℕ) → i < length word → is_no_digit (get_or word i 0) ≡ true → short_whole word ≡ None
-no_number word i lt other = rw (list_all_at is_ascii_digit word i 0 lt (not_true _ other)) (at (is_nonempty word))
-  where
-    at : (b : Bool) → below (2 ^ 32) (cond (b && false && nat_lt (value_of word) (2 ^ 64)) (Some (value_of word)) None) ≡ None
-    at true = refl
-    at false = refl
-
--- What stands before a space is the digits in front, or no number.
-pub before_space : (xs : List ℕ) → (position_or_len is_no_digit xs ≡ position_or_len is_space xs → ⊥) → short_whole (before_first is_space xs) ≡ None
-before_space xs differ =
-    let n = position_or_len is_no_digit xs in
-    let j = position_or_len is_space xs in
-    let lt : n < j = elim (cases_lt n j) [ inl lt ↦ lt | inr ge ↦ absurd (differ (omega (arith, digits_before xs, ge))) ] in
-    let most = prefix_len-le-length (λ b. not (is_space b)) xs in
-    let inside : n < length xs = omega (arith, lt, most) in
-    let size : length (before_first is_space xs) ≡ j = omega (arith, length-take j xs, most) in
-    no_number (before_first is_space xs) n (omega (arith, lt, size)) (ap is_no_digit (get_or-take j xs n 0 lt) ∙ passes_at_first is_no_digit xs 0 inside)
-
-pub digits_space : (xs : List ℕ) → position_or_len is_no_digit xs ≡ position_or_len is_space xs → before_first is_space xs ≡ front_digits xs
-digits_space xs same = ap (λ (k : ℕ). take k xs) (sym same)
-
-pub none_before_space : (xs : List ℕ) → short_whole (front_digits xs) ≡ None → short_whole (before_first is_space xs) ≡ None
-none_before_space xs none = elim (cases_eq (position_or_len is_no_digit xs) (position_or_len is_space xs)) [
-  | inl same ↦ ap short_whole (digits_space xs same) ∙ none
-  | inr differ ↦ before_space xs differ
-]
 
 module _ (xs : List ℕ) where
   pub other_here : (i : ℕ) → i ≤ position_or_len is_no_digit xs → is_no_digit (get_or xs i 0) ≡ true → position_or_len is_no_digit xs ≡ i
@@ -156,22 +103,3 @@ module _ (xs : List ℕ) where
       ∙ ap (λ (t : Bool). cond (t && nat_lt n (2 ^ 64)) (Some n) None) (digits_all xs) in
       number_all (front_digits xs) d n (omega (arith, word_length, end)) (omega arith)
       ∙ sym (whole_is ∙ ap (λ (t : Bool). cond t (Some n) None) (lt-ltb n (2 ^ 64) (omega arith)))
-
--- where the digits in front end
-module _ (xs : List ℕ) (end : ℕ) (at : position_or_len is_no_digit xs ≡ end) where
-  pub end_alone : length xs ≤ end → position_or_len is_no_digit xs ≡ position_or_len is_space xs
-  end_alone le =
-      let most = prefix_len-le-length (λ b. not (is_space b)) xs in
-      omega (arith, at, le, most, digits_before xs)
-
-  pub end_space : get_or xs end 0 ≡ 32 → position_or_len is_no_digit xs ≡ position_or_len is_space xs
-  end_space is = elim (cases_lt end (position_or_len is_space xs)) [
-    | inl lt ↦ absurd (both_ways (is_space (get_or xs end 0)) (fails_before_first is_space xs end 0 lt) (eq-eqb _ _ is))
-    | inr ge ↦ omega (arith, at, ge, digits_before xs)
-  ]
-
-  pub end_other : end < length xs → (get_or xs end 0 ≡ 32 → ⊥) → position_or_len is_no_digit xs ≡ position_or_len is_space xs → ⊥
-  end_other lt other same =
-      let place : position_or_len is_space xs ≡ end = omega (arith, at, same) in
-      let passes : is_space (get_or xs (position_or_len is_space xs) 0) ≡ true = passes_at_first is_space xs 0 (omega (arith, place, lt)) in
-      other (eqb-true _ _ (ap (λ (k : ℕ). is_space (get_or xs k 0)) (sym place) ∙ passes))

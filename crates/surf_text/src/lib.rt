@@ -20,7 +20,7 @@ mod telling;
 mod tokens;
 
 pub use lines::{Line, Lines};
-pub use number::{front_number, read_whole, split_number};
+pub use number::{front_number, read_whole};
 pub use page::{Page, PageFault};
 pub use pieces::Piece;
 pub use placed::{FirstLine, PlacedLines, first_line};

@@ -1,8 +1,7 @@
 //! Whole numbers.
-ghost use Rattle.std.specs.Prelude.{◌≡◌, ◌==◌, ◌≤◌, ◌∷◌, min, length, take, None, Some, IfSome, MatchOption, if◌then◌else◌};
-ghost use Rattle.std.specs.List.{slice_split, before_first, position_or_len};
-ghost use Rattle.surf_text.specs.Text.{whole, short_whole, front_digits, is_no_digit, is_space, value_of};
-ghost use Rattle.surf_text.specs.Walks.{parts_of};
+ghost use Rattle.std.specs.Prelude.{◌≡◌, ◌==◌, ◌≤◌, min, length, take, None, Some, MatchOption, if◌then◌else◌};
+ghost use Rattle.std.specs.List.{position_or_len};
+ghost use Rattle.surf_text.specs.Text.{whole, short_whole, front_digits, is_no_digit, value_of};
 ghost use Rattle.surf_text.specs.declared.number.TheConstants.{FEW};
 
 /// The whole number that a token is. None where the token is empty, has a byte that isn't a digit,
@@ -109,26 +108,4 @@ pub fn front_number(bytes: &[u8]) -> Option<(u32, usize)>
     }
     let (number, digits) = long_number(bytes);
     counted(number, digits)
-}
-
-/// The whole number of 32 bits before the first space, and what stands behind that space, if there
-/// is one. None where what stands before it isn't such a number.
-///
-/// It goes over each byte once. A line that is split so to its end has these numbers as its tokens.
-#[inline(always)]
-pub fn split_number(bytes: &[u8]) -> Option<(u32, Option<&[u8]>)>
-    ensures number { MatchOption result (short_whole (before_first is_space bytes.now) ≡ None)
-        (λ x. short_whole (before_first is_space bytes.now) ≡ Some x.0) }
-    ensures behind { IfSome result (λ x. slice_split is_space bytes.now
-        ≡ before_first is_space bytes.now ∷ parts_of is_space x.1) }
-{
-    let (number, end) = front_number(bytes)?;
-    if end >= bytes.len() {
-        return Some((number, None));
-    }
-    if bytes[end] == b' ' {
-        Some((number, Some(&bytes[end + 1..])))
-    } else {
-        None
-    }
 }

@@ -1,5 +1,5 @@
 //! Texts of answers, put on a page.
-ghost use Rattle.std.specs.Prelude.{◌≡◌, ◌++◌, codes, decimal, List, ℕ, length};
+ghost use Rattle.std.specs.Prelude.{◌++◌, decimal};
 ghost use Rattle.surf_texts.specs.Fills.{Fills};
 ghost use Rattle.surf_text.specs.Numbers.{numbers_text};
 

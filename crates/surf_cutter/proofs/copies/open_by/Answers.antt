@@ -4,9 +4,9 @@ use Rattle.surf_surfaces.specs.Mesh.{Mesh}
 use Rattle.surf_surfaces.specs.Surface.{face_count}
 use Rattle.surf_surfaces.specs.SideNumber.{side_count}
 use Rattle.surf_soup.specs.Vertices.{all_corners}
-use Rattle.surf_cutter.specs.Copies.{AreCounted, AreCopied}
+use Rattle.surf_cutter.specs.Copies.{AreCounted}
 use Rattle.surf_cutter.specs.Faces.{AreRowsOf, AreRenumberedTo}
-use Rattle.surf_cutter.proofs.FaceTables.{rows_copied}
+use Rattle.surf_cutter.proofs.FaceTables.{AreCopied, rows_copied}
 use Rattle.surf_cutter.proofs.OpenedBy.{opened_by, in_order}
 use Rattle.surf_cutter.proofs.Sorted.{sorted_all, sorted_few}
 use Rattle.surf_cutter.proofs.copies.open_by.Goals as goal
