@@ -1,16 +1,13 @@
 -- Reading the number of 32 bits that the digits in front are.
-use Rattle.std.proofs.Common.{◌≡◌, ◌<◌, ◌≤◌, ◌^◌, ◌+◌, ◌-◌, ◌*◌, ℕ, Bool, true, false, cond, List, [], ◌∷◌, length, get_or, take, drop, Option, min, Some, None, MatchOption, refl, sym, ◌∙◌, ap, arith, inl, inr, length-take, not}
+use Rattle.std.proofs.Common.{◌≡◌, ◌<◌, ◌≤◌, ◌^◌, ◌+◌, ◌-◌, ◌*◌, ℕ, Bool, true, false, cond, List, length, get_or, take, drop, Option, min, Some, None, MatchOption, sym, ◌∙◌, ap, arith, inl, inr, length-take, not}
 use Rattle.std.specs.Prelude.{◌==◌, ◌&&◌, nat_lt}
 use Rattle.std.specs.Char.{is_ascii_digit}
-use Rattle.std.specs.List.{before_first, list_all, position_or_len, slice_split}
-use Rattle.std.proofs.lemmas.Bool.{cases_Bool, cases_lt, cases_eq, eqb-true, ne_eqb, eq-eqb, both_ways, lt-ltb}
-use Rattle.std.proofs.lemmas.List.{get_or-take, take_all, take_rest}
-use Rattle.std.proofs.lemmas.List.Folds.{list_all_at}
-use Rattle.std.proofs.lemmas.List.Splits.{slice_split_first}
+use Rattle.std.specs.List.{list_all, position_or_len}
+use Rattle.std.proofs.lemmas.Bool.{cases_Bool, cases_lt, eqb-true, ne_eqb, eq-eqb, both_ways, lt-ltb}
+use Rattle.std.proofs.lemmas.List.{get_or-take}
 use Rattle.std.proofs.lemmas.List.Sums.{fails_before_first, passes_at_first, prefix_len-le-length}
 use Rattle.std.proofs.Math.Nat.{min-eq_left, min-eq_right}
-use Rattle.surf_text.specs.Text.{is_space, is_no_digit, front_digits, is_nonempty, value_of, below, short_whole}
-use Rattle.surf_text.proofs.Cuts.{whole_part}
+use Rattle.surf_text.specs.Text.{is_no_digit, front_digits, value_of, below, short_whole}
 use Rattle.surf_text.proofs.Digits.{number_on, number_on-is, whole-is, too_long, digit_more, number_all, digits_all}
 
 module _ (xs : List ℕ) where
