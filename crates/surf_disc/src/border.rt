@@ -1,5 +1,5 @@
 //! The border: the edges with one face, and whether they are one cycle.
-ghost use Rattle.std.specs.Prelude.{◌≡◌, ◌<◌, ◌==◌, ◌^◌, ℕ, length, map, All, OnOk, IfOk, IfErr, MatchOption};
+ghost use Rattle.std.specs.Prelude.{◌≡◌, ◌≢◌, ◌<◌, ◌==◌, ◌^◌, ℕ, length, map, All, OnOk, IfOk, IfErr, MatchOption};
 ghost use Rattle.std.specs.Prelude.{slice_index, slice_index_or, [], true, false, count_by};
 ghost use Rattle.std.specs.List.{range_with_len, flat_map};
 ghost use Rattle.surf_surfaces.specs.Disc.{IsBorderEdge};
@@ -10,6 +10,7 @@ ghost use Rattle.surf_disc.specs.Border.{with_end, border_ends, AreNeighbours, I
 ghost use Rattle.surf_disc.specs.Border.{HasOneBorder, AllInside, IsFirstOutside};
 ghost use Rattle.surf_disc.specs.Fault.{IsPatch, IsDiscFault};
 ghost use Rattle.surf_disc.specs.Links.{AreCornerTables};
+ghost use Rattle.surf_disc.specs.declared.faults.DiscFault.TheVariants.{Memory};
 
 use crate::corners::CornerTables;
 use crate::{BorderKind, DiscFault};
@@ -166,6 +167,7 @@ pub(crate) fn refuse_second(
     requires marks { IsBorderMarked soup.now e seen.now }
     ensures one { OnOk result (HasOneBorder soup.now) }
     ensures fault { IfErr result (λ e. IsDiscFault soup.now e) }
+    ensures sure { IfErr result (λ e. e ≢ Memory) }
 {
     soup.law_of_soup();
     if let Some(h) = first_outside(&table.sides, &table.edges, seen) {

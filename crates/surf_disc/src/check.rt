@@ -1,5 +1,5 @@
 //! The check of a disc, by its faults in their order.
-ghost use Rattle.std.specs.Prelude.{◌≡◌, ◌+◌, ◌<◌, ℕ, OnOk, IfOk, IfErr};
+ghost use Rattle.std.specs.Prelude.{◌≡◌, ◌≢◌, ◌+◌, ◌<◌, ℕ, OnOk, IfOk, IfErr};
 ghost use Rattle.surf_surfaces.specs.Disc.{IsDisc, IsBorderEdge};
 ghost use Rattle.surf_surfaces.specs.Surface.{face_count, edge_count};
 ghost use Rattle.surf_soup.specs.EdgeTable.{IsTableOf};
@@ -28,6 +28,7 @@ fn crowd_at(soup: &Soup, table: &EdgeTable, e: usize) -> DiscFault
     requires table { IsTableOf soup.now table.now }
     requires first { IsFirstWithin 3 usize.MAX table.now.sides e }
     ensures fault { IsDiscFault soup.now result }
+    ensures sure { result ≢ Memory }
 {
     soup.law_of_soup();
     let (u, v) = table.edges[e];
@@ -47,6 +48,7 @@ fn refuse_crowded(soup: &Soup, table: &EdgeTable) -> Result<(), DiscFault>
     requires table { IsTableOf soup.now table.now }
     ensures ok { OnOk result (NoneCrowded soup.now) }
     ensures fault { IfErr result (λ e. IsDiscFault soup.now e) }
+    ensures sure { IfErr result (λ e. e ≢ Memory) }
 {
     soup.law_of_soup();
     if let Some(e) = first_row(&table.sides, 3, usize::MAX) {
@@ -79,6 +81,7 @@ fn refuse_count(soup: &Soup, table: &EdgeTable) -> Result<(), DiscFault>
     requires one { HasOneBorder soup.now }
     ensures ok { OnOk result (soup.now.vertices + face_count soup.now ≡ edge_count soup.now + 1) }
     ensures fault { IfErr result (λ e. IsDiscFault soup.now e) }
+    ensures sure { IfErr result (λ e. e ≢ Memory) }
 {
     soup.law_of_soup();
     let vertices = soup.vertices();

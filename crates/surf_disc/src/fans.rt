@@ -1,5 +1,5 @@
 //! Whether the faces at each vertex are connected through the sides that end there.
-ghost use Rattle.std.specs.Prelude.{◌≡◌, ◌<◌, ◌^◌, ℕ, length, map, All, IfOk, OnOk, IfErr, slice_index};
+ghost use Rattle.std.specs.Prelude.{◌≡◌, ◌≢◌, ◌<◌, ◌^◌, ℕ, length, map, All, IfOk, OnOk, IfErr, slice_index};
 ghost use Rattle.std.specs.Prelude.{slice_index_or, []};
 ghost use Rattle.std.specs.List.{range_with_len};
 ghost use Rattle.surf_surfaces.specs.SideNumber.{side_count, owners};
@@ -7,6 +7,7 @@ ghost use Rattle.surf_soup.specs.Vertices.{all_corners, sides_at, AllMet};
 ghost use Rattle.surf_disc.specs.Across.{NoneCrowded};
 ghost use Rattle.surf_disc.specs.Links.{AreCornerTables, AreLinked, AreFirsts, AreFansMarked, over_corner};
 ghost use Rattle.surf_disc.specs.Fault.{AllFans, IsDiscFault};
+ghost use Rattle.surf_disc.specs.declared.faults.DiscFault.TheVariants.{Memory};
 
 use crate::DiscFault;
 use crate::corners::CornerTables;
@@ -110,6 +111,7 @@ fn refuse_unmarked(
     requires fans { AreFansMarked soup.now seen.now }
     ensures ok { OnOk result (AllFans soup.now) }
     ensures fault { IfErr result (λ e. IsDiscFault soup.now e) }
+    ensures sure { IfErr result (λ e. e ≢ Memory) }
 {
     soup.law_of_soup();
     for v in 0..soup.vertices() {

@@ -42,8 +42,8 @@ face_in-third-requires-clause-side c = inside c.args.soup.now c.law_of_soup.ensu
     _ c.args.e 2 c.requires.first (omega arith) c.row-row.result.now c.deref-3.result.now c.row-row.ensures
     c.deref-3.ensures.value
 
-pub returns : goal.returns
-returns c =
+pub returns-clause-fault : goal.returns-clause-fault
+returns-clause-fault c =
     let mesh = c.args.soup.now in
     let rows = c.args.table.now.sides in
     let face_of = c.args.table.now.face_of.items in
@@ -69,4 +69,4 @@ returns c =
     (get_or face_of (get_or (get_or rows e []) 0 0) 0 ∷ get_or face_of
     (get_or (get_or rows e []) 1 0) 0 ∷ get_or face_of (get_or (get_or rows e []) 2 0) 0 ∷ []) e in
     let F : List ℕ → Type 0 = λ fs. IsLeastCrowded mesh c.index.result.now fs e in
-    record { fault = (e, subst F (sym faces) (subst P (sym pair) crowd)) }
+    (e, subst F (sym faces) (subst P (sym pair) crowd))
