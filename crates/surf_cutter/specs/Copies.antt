@@ -1,8 +1,7 @@
 -- Labels of corners numbered in the order in which a list meets them.
-use Rattle.std.specs.Prelude.{◌≡◌, ◌≢◌, ℕ, ◌+◌, ◌<◌, ◌≤◌, ◌⊎◌, List, [], length, slice_index, slice_index_or}
+use Rattle.std.specs.Prelude.{◌≡◌, ◌≢◌, ℕ, ◌<◌, ◌≤◌, ◌⊎◌, List, length, slice_index}
 use Rattle.surf_surfaces.specs.Mesh.{Mesh}
-use Rattle.surf_surfaces.specs.Surface.{face_at}
-use Rattle.surf_surfaces.specs.SideNumber.{first_side, side_count}
+use Rattle.surf_surfaces.specs.SideNumber.{side_count}
 use Rattle.surf_soup.specs.Ring.{BeginsAt}
 use Rattle.surf_soup.specs.Vertices.{all_corners}
 use Rattle.surf_slit.specs.Labels.{corner_at}
