@@ -8,9 +8,9 @@ use Rattle.std.proofs.lemmas.List.Elements.{All-from_recursion}
 use Rattle.std.proofs.lemmas.List.Folds.{list_all-append}
 use Rattle.std.proofs.lemmas.List.Splits.{slice_split_at, slice_split_none}
 use Rattle.std.proofs.Math.Seq.{take-append_seam}
-use Rattle.surf_text.specs.Text.{is_space, is_line_end, is_comment_sign, is_nonempty, before_some, short_whole, tokens_of, trimmed, trimmed_front, trimmed_back, uncommented}
+use Rattle.surf_text.specs.Text.{is_line_end, is_comment_sign, is_nonempty, before_some, short_whole, tokens_of, trimmed, trimmed_front, trimmed_back, uncommented}
 use Rattle.surf_text.proofs.Digits.{digit_low, blank_low}
-use Rattle.surf_text.proofs.Plain.{plain_tokens, short_is_whole, whole_some}
+use Rattle.surf_text.proofs.Plain.{is_space, plain_tokens, short_is_whole, whole_some}
 use Rattle.surf_lengths.specs.Lines.{three_numbers}
 use Rattle.surf_lengths.specs.Plain.{IsPlain}
 

@@ -1,11 +1,14 @@
 -- Plain lines: numbers of 32 bits, a space between any two, and nothing else.
 use Rattle.std.proofs.Common.{◌≡◌, ◌<◌, ◌+◌, ◌^◌, ℕ, suc, true, List, [], ◌∷◌, Option, Some, None, refl, ◌∙◌, ap, arith, inl, inr}
-use Rattle.std.specs.Prelude.{◌&&◌, nat_lt}
+use Rattle.std.specs.Prelude.{◌==◌, ◌&&◌, Bool, nat_lt}
 use Rattle.std.specs.Char.{is_ascii_digit}
 use Rattle.std.specs.List.{list_all, slice_split, onto_first, position_or_len, filter}
 use Rattle.std.proofs.lemmas.Bool.{cases_Bool, and_parts, eqb-true, ltb-true}
-use Rattle.surf_text.specs.Text.{is_blank, is_space, is_comment_sign, is_nonempty, uncommented, tokens_of, value_of, whole, below, short_whole}
+use Rattle.surf_text.specs.Text.{is_blank, is_comment_sign, is_nonempty, uncommented, tokens_of, value_of, whole, below, short_whole}
 use Rattle.surf_text.proofs.Digits.{blank_low, comment_low, digit_low}
+
+abbrev pub is_space : ℕ → Bool
+is_space b = b == 32
 
 pub below_some : (o : Option ℕ) (bound n : ℕ) → below bound o ≡ Some n → (o ≡ Some n) × (n < bound)
 below_some None bound n is = absurd cc

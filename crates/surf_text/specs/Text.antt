@@ -8,9 +8,6 @@ use Rattle.std.specs.List.{slice_split, before_first, position_or_len, filter, l
 abbrev pub is_blank : ℕ → Bool
 is_blank b = b == 32 || b == 9 || b == 13
 
-abbrev pub is_space : ℕ → Bool
-is_space b = b == 32
-
 abbrev pub is_line_end : ℕ → Bool
 is_line_end b = b == 10
 
