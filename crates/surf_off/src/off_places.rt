@@ -87,6 +87,7 @@ impl OffPlaces {
         ensures parts { result ≡ parts_at text.now self }
     {
         let vertex_lines = Parts::at(text, self.vertex_lines);
+        vertex_lines.law_of_parts();
         let colours = Colours::at(self.before, Parts::at(text, self.colours));
         OffText::make(self.header, vertex_lines, colours)
     }

@@ -64,11 +64,21 @@ impl<'a> Parts<'a> {
     /// The parts of a text that stand at some places.
     pub(crate) fn at(text: &'a [u8], spans: Vec<Span>) -> Parts<'a>
         requires { EndWithin (length text.now) spans.items }
-        ensures at { result ≡ record { text = text.now; parts = map (part_of text.now) spans.items } }
-        ensures countable { length result.parts < 2 ^ 64 }
+        ensures at { result ≡ record {
+          text = text.now;
+          parts = map (part_of text.now) spans.items;
+        } }
     {
-        let _count = spans.len();
         Parts { text, spans }
+    }
+
+    /// What all parts keep: their count fits its number. A caller whose proof rests on that calls
+    /// it; it does nothing.
+    pub(crate) fn law_of_parts(&self)
+        ensures countable { length self.now.parts < 2 ^ 64 }
+    {
+        // (what a type keeps is known where one of its fields is used)
+        let _ = self.spans.len();
     }
 
     /// Where they stand.
