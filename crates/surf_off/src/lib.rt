@@ -8,6 +8,7 @@
 //! it, fault by fault.
 #![tactic(auto)]
 
+mod face;
 mod faces;
 mod fault;
 mod head;
@@ -21,10 +22,11 @@ mod text;
 mod vertices;
 mod write;
 
+pub use face::write_face;
 pub use fault::OffFault;
 pub use header::Header;
 pub use made::write_soup;
 pub use off_places::OffPlaces;
 pub use read::{read_off, read_places};
 pub use text::OffText;
-pub use write::write_off;
+pub use write::{write_head, write_off};

@@ -6,11 +6,12 @@ ghost use Rattle.surf_text.specs.Pages.{Puts};
 ghost use Rattle.surf_off.specs.Written.{lines_text, spaced_text, face_text, faces_text, points, point_text, no_colours};
 ghost use Rattle.surf_off.specs.Written.{soup_text, RereadsSoup};
 
+use crate::face::write_face;
 use crate::header::Header;
-use crate::write::{FEW_CORNERS, write_head};
-use surf_base::{FaceId, VertexId};
+use crate::write::write_head;
+use surf_base::FaceId;
 use surf_soup::Soup;
-use surf_text::{Page, PageFault, Piece, Slip};
+use surf_text::{Page, PageFault, Slip};
 
 // The line of a vertex.
 fn point_line(v: u32) -> Slip
@@ -32,56 +33,13 @@ fn write_points(page: &mut Page, vertices: u32) -> Result<(), PageFault>
     Ok(())
 }
 
-fn write_numbers(page: &mut Page, corners: &[VertexId]) -> Result<(), PageFault>
-    requires fits { length page.old.bytes ≤ page.old.most }
-    ensures puts { Puts page.old page.new (spaced_text corners.now) result }
-{
-    for c in corners {
-        page.push_pieces(&[Piece::Bytes(b" "), Piece::Whole(c.index() as u128)])?;
-    }
-    Ok(())
-}
-
-// The line of a face of few corners.
-fn short_plain_face(corners: &[VertexId]) -> Slip
-    requires few { length corners.now ≤ 5 }
-    ensures face { result ≡ face_text corners.now [] }
-{
-    let mut slip = Slip::new();
-    slip.put_byte(b'\n');
-    for k in (0..corners.len()).rev() {
-        slip.put_whole(corners[k].number() as u64);
-        slip.put_byte(b' ');
-    }
-    slip.put_whole(corners.len() as u64);
-    slip
-}
-
-// The line of a face, however long it is.
-fn write_long_plain_face(page: &mut Page, corners: &[VertexId]) -> Result<(), PageFault>
-    ensures puts { Puts page.old page.new (face_text corners.now []) result }
-{
-    page.push_whole(corners.len() as u128)?;
-    write_numbers(page, corners)?;
-    page.push_bytes(b"\n")
-}
-
-fn write_plain_face(page: &mut Page, corners: &[VertexId]) -> Result<(), PageFault>
-    ensures puts { Puts page.old page.new (face_text corners.now []) result }
-{
-    if corners.len() > FEW_CORNERS {
-        return write_long_plain_face(page, corners);
-    }
-    page.push_bytes(short_plain_face(corners).bytes())
-}
-
 fn write_plain_faces(page: &mut Page, soup: &Soup) -> Result<(), PageFault>
     requires fits { length page.old.bytes ≤ page.old.most }
     ensures puts { Puts page.old page.new (faces_text (zip soup.now.faces
         (no_colours soup.now.faces))) result }
 {
     for f in 0..soup.faces() {
-        write_plain_face(page, soup.face(FaceId::new(f)))?;
+        write_face(page, soup.face(FaceId::new(f)), b"")?;
     }
     Ok(())
 }

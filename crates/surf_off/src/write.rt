@@ -12,7 +12,9 @@ use crate::text::OffText;
 use surf_base::{CopyId, VertexId};
 use surf_text::{Page, PageFault, Piece, Slip};
 
-pub(crate) fn write_head(
+/// Puts the head of an OFF text on a page: the line of its keyword, and that of the numbers of
+/// vertices, faces and edges. Refuses as `write_off` does.
+pub fn write_head(
     page: &mut Page,
     header: Header,
     vertices: usize,

@@ -2,42 +2,20 @@
 ghost use Rattle.std.specs.Prelude.{◌≡◌, ◌<◌, ◌≤◌, ◌^◌, ◌++◌, IfOk, MatchResult, codes, decimal, length};
 ghost use Rattle.std.specs.List.{All, zip};
 ghost use Rattle.surf_text.specs.Pages.{Puts};
-ghost use Rattle.surf_off.specs.Written.{head_text, lines_text, spaced_text, colour_text, face_text, faces_text};
+ghost use Rattle.surf_off.specs.Written.{lines_text, faces_text};
 ghost use Rattle.surf_off.specs.Written.{lines_at};
 ghost use Rattle.surf_sew.specs.Sewing.{HaveCopies};
 ghost use Rattle.surf_sew.specs.Texts.{sewn_lines, sewn_text, RereadsSewn};
 
 use crate::first::list_first;
-use itoa::Buffer;
 use surf_base::{FaceId, VertexId};
 use surf_mesh::HalfMesh;
-use surf_off::{Header, OffText};
+use surf_off::{OffText, write_face, write_head};
 use surf_text::{Page, PageFault, Piece};
 
 // The least copies of so many vertices are found by one turn over the origins, so that no memory is
 // taken.
 const WINDOW: usize = 16_384;
-
-fn write_head(
-    page: &mut Page,
-    header: Header,
-    vertices: u32,
-    faces: u32,
-    edges: u32,
-) -> Result<(), PageFault>
-    ensures puts { Puts page.old page.new (head_text header vertices faces edges) result }
-{
-    page.push_pieces(&[
-        Piece::Bytes(header.keyword()),
-        Piece::Bytes(b"\n"),
-        Piece::Whole(vertices as u128),
-        Piece::Bytes(b" "),
-        Piece::Whole(faces as u128),
-        Piece::Bytes(b" "),
-        Piece::Whole(edges as u128),
-        Piece::Bytes(b"\n"),
-    ])
-}
 
 // The vertex lines of some copies.
 fn write_copies(page: &mut Page, text: &OffText<'_>, copies: &[u32]) -> Result<(), PageFault>
@@ -110,49 +88,6 @@ fn write_lines(
     Ok(())
 }
 
-fn write_number(page: &mut Page, n: u64) -> Result<(), PageFault>
-    ensures puts { Puts page.old page.new (decimal n) result }
-{
-    let mut digits = Buffer::new();
-    page.push_bytes(digits.format(n).as_bytes())
-}
-
-fn write_corner(page: &mut Page, v: VertexId) -> Result<(), PageFault>
-    ensures puts { Puts page.old page.new (codes " " ++ decimal v) result }
-{
-    page.push_bytes(b" ")?;
-    write_number(page, v.index() as u64)
-}
-
-fn write_corners(page: &mut Page, corners: &[VertexId]) -> Result<(), PageFault>
-    requires fits { length page.old.bytes ≤ page.old.most }
-    ensures puts { Puts page.old page.new (spaced_text corners.now) result }
-{
-    for v in corners {
-        write_corner(page, *v)?;
-    }
-    Ok(())
-}
-
-fn write_colour(page: &mut Page, colour: &[u8]) -> Result<(), PageFault>
-    requires fits { length page.old.bytes ≤ page.old.most }
-    ensures puts { Puts page.old page.new (colour_text colour.now) result }
-{
-    if colour.is_empty() {
-        return Ok(());
-    }
-    page.push_pieces(&[Piece::Bytes(b" "), Piece::Bytes(colour)])
-}
-
-fn write_face(page: &mut Page, corners: &[VertexId], colour: &[u8]) -> Result<(), PageFault>
-    ensures puts { Puts page.old page.new (face_text corners.now colour.now) result }
-{
-    write_number(page, corners.len() as u64)?;
-    write_corners(page, corners)?;
-    write_colour(page, colour)?;
-    page.push_bytes(b"\n")
-}
-
 fn write_faces(page: &mut Page, text: &OffText<'_>, mesh: &HalfMesh) -> Result<(), PageFault>
     requires fits { length page.old.bytes ≤ page.old.most }
     requires faces { length mesh.now.faces ≡ length text.now.colours }
@@ -192,7 +127,8 @@ pub fn write_sewn(
     ensures reread { RereadsSewn text.now origins.now mesh.now }
 {
     let vertices = mesh.vertices();
-    write_head(page, text.header(), vertices, mesh.faces(), mesh.edges())?;
+    let faces = mesh.faces() as usize;
+    write_head(page, text.header(), vertices as usize, faces, mesh.edges())?;
     write_lines(page, text, origins, vertices)?;
     write_faces(page, text, mesh)
 }

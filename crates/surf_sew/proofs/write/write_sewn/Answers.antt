@@ -13,17 +13,17 @@ use Rattle.surf_sew.proofs.write.write_sewn.Goals as goal
 pub returns-in_err-write_head-clause-reread : goal.returns-in_err-write_head-clause-reread
 returns-in_err-write_head-clause-reread c =
     let mesh = c.args.mesh.now in
-    sewn_again c.args.text.now c.args.origins.now mesh c.header.ensures.clean c.requires.origins c.requires.copies c.vertices-vertices.ensures.surface.is_mesh (short_faces mesh.faces (2 ^ 64) (omega (arith, c.vertices-vertices.ensures.few))) c.requires.faces (omega (arith, c.vertices-vertices.ensures.count)) (omega (arith, c.faces.ensures.count)) (omega (arith, c.edges.ensures.count))
+    sewn_again c.args.text.now c.args.origins.now mesh c.header.ensures.clean c.requires.origins c.requires.copies c.vertices-vertices.ensures.surface.is_mesh (short_faces mesh.faces (2 ^ 64) (omega (arith, c.vertices-vertices.ensures.few))) c.requires.faces (omega (arith, c.vertices-vertices.ensures.count)) (omega (arith, c.faces-faces.ensures.count)) (omega (arith, c.edges.ensures.count))
 
 pub returns-in_err-write_lines-clause-reread : goal.returns-in_err-write_lines-clause-reread
 returns-in_err-write_lines-clause-reread c =
     let mesh = c.args.mesh.now in
-    sewn_again c.args.text.now c.args.origins.now mesh c.header.ensures.clean c.requires.origins c.requires.copies c.vertices-vertices.ensures.surface.is_mesh (short_faces mesh.faces (2 ^ 64) (omega (arith, c.vertices-vertices.ensures.few))) c.requires.faces (omega (arith, c.vertices-vertices.ensures.count)) (omega (arith, c.faces.ensures.count)) (omega (arith, c.edges.ensures.count))
+    sewn_again c.args.text.now c.args.origins.now mesh c.header.ensures.clean c.requires.origins c.requires.copies c.vertices-vertices.ensures.surface.is_mesh (short_faces mesh.faces (2 ^ 64) (omega (arith, c.vertices-vertices.ensures.few))) c.requires.faces (omega (arith, c.vertices-vertices.ensures.count)) (omega (arith, c.faces-faces.ensures.count)) (omega (arith, c.edges.ensures.count))
 
 pub returns-clause-reread : goal.returns-clause-reread
 returns-clause-reread c =
     let mesh = c.args.mesh.now in
-    sewn_again c.args.text.now c.args.origins.now mesh c.header.ensures.clean c.requires.origins c.requires.copies c.vertices-vertices.ensures.surface.is_mesh (short_faces mesh.faces (2 ^ 64) (omega (arith, c.vertices-vertices.ensures.few))) c.requires.faces (omega (arith, c.vertices-vertices.ensures.count)) (omega (arith, c.faces.ensures.count)) (omega (arith, c.edges.ensures.count))
+    sewn_again c.args.text.now c.args.origins.now mesh c.header.ensures.clean c.requires.origins c.requires.copies c.vertices-vertices.ensures.surface.is_mesh (short_faces mesh.faces (2 ^ 64) (omega (arith, c.vertices-vertices.ensures.few))) c.requires.faces (omega (arith, c.vertices-vertices.ensures.count)) (omega (arith, c.faces-faces.ensures.count)) (omega (arith, c.edges.ensures.count))
 
 pub returns-in_err-write_head-clause-puts : goal.returns-in_err-write_head-clause-puts
 returns-in_err-write_head-clause-puts c =
@@ -31,7 +31,7 @@ returns-in_err-write_head-clause-puts c =
     let origins = c.args.origins.now in
     let mesh = c.args.mesh.now in
     let head = head_text text.header mesh.vertices (length mesh.faces) (edge_count mesh) in
-    let headed : Puts c.args.page.now c.write_head.new.page head c.write_head.result = subst (λ (t : List ℕ). Puts c.args.page.now c.write_head.new.page t c.write_head.result) (rw (c.header.ensures.header, c.vertices-vertices.ensures.count, c.faces.ensures.count, c.edges.ensures.count) refl) c.write_head.ensures.puts in
+    let headed : Puts c.args.page.now c.write_head.new.page head c.write_head.result = subst (λ (t : List ℕ). Puts c.args.page.now c.write_head.new.page t c.write_head.result) (rw (c.header.ensures.header, c.vertices-vertices.ensures.count, c.faces-faces.ensures.count, c.edges.ensures.count) refl) c.write_head.ensures.puts in
     let lines = lines_text (sewn_lines text.vertex_lines origins mesh.vertices) in
     let faces = faces_text (zip mesh.faces text.colours) in
     let r = c.from_residual.result in
@@ -46,7 +46,7 @@ returns-in_err-write_lines-clause-puts c =
     let origins = c.args.origins.now in
     let mesh = c.args.mesh.now in
     let head = head_text text.header mesh.vertices (length mesh.faces) (edge_count mesh) in
-    let headed : Puts c.args.page.now c.write_head.new.page head c.write_head.result = subst (λ (t : List ℕ). Puts c.args.page.now c.write_head.new.page t c.write_head.result) (rw (c.header.ensures.header, c.vertices-vertices.ensures.count, c.faces.ensures.count, c.edges.ensures.count) refl) c.write_head.ensures.puts in
+    let headed : Puts c.args.page.now c.write_head.new.page head c.write_head.result = subst (λ (t : List ℕ). Puts c.args.page.now c.write_head.new.page t c.write_head.result) (rw (c.header.ensures.header, c.vertices-vertices.ensures.count, c.faces-faces.ensures.count, c.edges.ensures.count) refl) c.write_head.ensures.puts in
     let lines = lines_text (sewn_lines text.vertex_lines origins mesh.vertices) in
     let faces = faces_text (zip mesh.faces text.colours) in
     let r = c.from_residual-in_err-write_lines.result in
@@ -64,7 +64,7 @@ returns-clause-puts c =
     let origins = c.args.origins.now in
     let mesh = c.args.mesh.now in
     let head = head_text text.header mesh.vertices (length mesh.faces) (edge_count mesh) in
-    let headed : Puts c.args.page.now c.write_head.new.page head c.write_head.result = subst (λ (t : List ℕ). Puts c.args.page.now c.write_head.new.page t c.write_head.result) (rw (c.header.ensures.header, c.vertices-vertices.ensures.count, c.faces.ensures.count, c.edges.ensures.count) refl) c.write_head.ensures.puts in
+    let headed : Puts c.args.page.now c.write_head.new.page head c.write_head.result = subst (λ (t : List ℕ). Puts c.args.page.now c.write_head.new.page t c.write_head.result) (rw (c.header.ensures.header, c.vertices-vertices.ensures.count, c.faces-faces.ensures.count, c.edges.ensures.count) refl) c.write_head.ensures.puts in
     let lines = lines_text (sewn_lines text.vertex_lines origins mesh.vertices) in
     let faces = faces_text (zip mesh.faces text.colours) in
     let r = c.write_faces.result in

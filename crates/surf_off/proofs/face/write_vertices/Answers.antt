@@ -5,7 +5,7 @@ use Rattle.std.proofs.lemmas.Result.{err_from_is_err_and}
 use Rattle.surf_text.specs.Pages.{Puts}
 use Rattle.surf_text.proofs.Writing.{loop_more, loop_stop, loop_done}
 use Rattle.surf_off.specs.Written.{spaced_text}
-use Rattle.surf_off.proofs.made.write_numbers.Goals as goal
+use Rattle.surf_off.proofs.face.write_vertices.Goals as goal
 
 piece : ℕ → List ℕ
 piece n = codes " " ++ decimal n

@@ -1,0 +1,56 @@
+//! The line of a face, by the vertices of its corners.
+ghost use Rattle.std.specs.Prelude.{◌≡◌, ◌<◌, ◌≤◌, ◌++◌, [], codes, length};
+ghost use Rattle.surf_text.specs.Pages.{Puts};
+ghost use Rattle.surf_off.specs.Written.{spaced_text, colour_text, face_text};
+
+use crate::write::{FEW_CORNERS, write_colour};
+use surf_base::VertexId;
+use surf_text::{Page, PageFault, Piece, Slip};
+
+fn write_vertices(page: &mut Page, corners: &[VertexId]) -> Result<(), PageFault>
+    requires fits { length page.old.bytes ≤ page.old.most }
+    ensures puts { Puts page.old page.new (spaced_text corners.now) result }
+{
+    for c in corners {
+        page.push_pieces(&[Piece::Bytes(b" "), Piece::Whole(c.index() as u128)])?;
+    }
+    Ok(())
+}
+
+// The line of a face of few corners without a colour.
+fn short_line(corners: &[VertexId]) -> Slip
+    requires few { length corners.now ≤ 5 }
+    ensures face { result ≡ face_text corners.now [] }
+{
+    let mut slip = Slip::new();
+    slip.put_byte(b'\n');
+    for k in (0..corners.len()).rev() {
+        slip.put_whole(corners[k].number() as u64);
+        slip.put_byte(b' ');
+    }
+    slip.put_whole(corners.len() as u64);
+    slip
+}
+
+// The line of a face, however long it is.
+fn write_long(page: &mut Page, corners: &[VertexId], colour: &[u8]) -> Result<(), PageFault>
+    ensures puts { Puts page.old page.new (face_text corners.now colour.now) result }
+{
+    page.push_whole(corners.len() as u128)?;
+    write_vertices(page, corners)?;
+    write_colour(page, colour)?;
+    page.push_bytes(b"\n")
+}
+
+/// Puts the line of a face on a page: how many corners it has, their vertices and its colour, if
+/// it has one. Refuses with `Full` where the page would hold more than its bound with the whole
+/// line, and with `Memory` where there is none. After a refusal the page holds a front of the line
+/// behind its bytes.
+pub fn write_face(page: &mut Page, corners: &[VertexId], colour: &[u8]) -> Result<(), PageFault>
+    ensures puts { Puts page.old page.new (face_text corners.now colour.now) result }
+{
+    if corners.len() > FEW_CORNERS || !colour.is_empty() {
+        return write_long(page, corners, colour);
+    }
+    page.push_bytes(short_line(corners).bytes())
+}
