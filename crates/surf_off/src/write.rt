@@ -1,5 +1,5 @@
 //! Writes an opened mesh as an OFF text.
-ghost use Rattle.std.specs.Prelude.{◌≡◌, ◌<◌, ◌≤◌, ◌+◌, [], length, slice_index_or};
+ghost use Rattle.std.specs.Prelude.{◌≡◌, ◌<◌, ◌≤◌, ◌+◌, ◌++◌, [], codes, length, slice_index_or};
 ghost use Rattle.std.specs.List.{All, zip, range_with_len};
 ghost use Rattle.surf_surfaces.specs.Mesh.{IsFace};
 ghost use Rattle.surf_text.specs.Pages.{Puts};
@@ -33,6 +33,14 @@ pub(crate) fn write_head(
     ])
 }
 
+// A line that is long enough to go on the page as it is.
+fn write_line(page: &mut Page, line: &[u8]) -> Result<(), PageFault>
+    ensures puts { Puts page.old page.new (line.now ++ codes "\n") result }
+{
+    page.push_bytes(line)?;
+    page.push_bytes(b"\n")
+}
+
 // The line of each copy's vertex.
 fn write_lines(page: &mut Page, text: &OffText<'_>, origins: &[VertexId]) -> Result<(), PageFault>
     requires fits { length page.old.bytes ≤ page.old.most }
@@ -41,7 +49,7 @@ fn write_lines(page: &mut Page, text: &OffText<'_>, origins: &[VertexId]) -> Res
         result }
 {
     for v in origins {
-        page.push_pieces(&[Piece::Bytes(text.vertex_line(*v)), Piece::Bytes(b"\n")])?;
+        write_line(page, text.vertex_line(*v))?;
     }
     Ok(())
 }
@@ -132,6 +140,19 @@ fn write_faces(
     Ok(())
 }
 
+// The comment for a copy.
+fn copy_line(i: usize, origin: VertexId) -> Slip
+    ensures comment { result ≡ copy_text i origin }
+{
+    let mut slip = Slip::new();
+    slip.put_byte(b'\n');
+    slip.put_whole(origin.number() as u64);
+    slip.put_bytes(b" from ");
+    slip.put_whole(i as u64);
+    slip.put_bytes(b"# copy ");
+    slip
+}
+
 // A comment for each copy.
 fn write_copies(page: &mut Page, origins: &[VertexId]) -> Result<(), PageFault>
     requires fits { length page.old.bytes ≤ page.old.most }
@@ -139,13 +160,7 @@ fn write_copies(page: &mut Page, origins: &[VertexId]) -> Result<(), PageFault>
         (range_with_len 0 (length origins.now))) result }
 {
     for i in 0..origins.len() {
-        page.push_pieces(&[
-            Piece::Bytes(b"# copy "),
-            Piece::Whole(i as u128),
-            Piece::Bytes(b" from "),
-            Piece::Whole(origins[i].index() as u128),
-            Piece::Bytes(b"\n"),
-        ])?;
+        page.push_bytes(copy_line(i, origins[i]).bytes())?;
     }
     Ok(())
 }

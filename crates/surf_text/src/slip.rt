@@ -57,9 +57,9 @@ impl Slip {
         requires room { length bytes.now + length self.old ≤ 64 }
         ensures before { self.new ≡ bytes.now ++ self.old }
     {
-        for k in (0..bytes.len()).rev() {
-            self.put_byte(bytes[k]);
-        }
+        let end = self.start;
+        self.start = end - bytes.len();
+        self.bytes[self.start..end].copy_from_slice(bytes);
     }
 
     /// Puts the decimal text of a number before the bytes that it holds.
