@@ -12,22 +12,23 @@ use surf_base::{FaceId, VertexId};
 use surf_soup::Soup;
 use surf_text::{Page, PageFault, Piece, Slip};
 
-// The line of a vertex.
-fn point_line(v: u32) -> Slip
-    ensures line { result ≡ point_text v ++ codes "\n" }
+// Makes the line of a vertex, in place of what the slip holds.
+fn make_point(slip: &mut Slip, v: u32)
+    ensures line { slip.new ≡ point_text v ++ codes "\n" }
 {
-    let mut slip = Slip::new();
+    slip.clear();
     slip.put_bytes(b" 0 0\n");
     slip.put_whole(v as u64);
-    slip
 }
 
 fn write_points(page: &mut Page, vertices: u32) -> Result<(), PageFault>
     requires fits { length page.old.bytes ≤ page.old.most }
     ensures puts { Puts page.old page.new (lines_text (points (range_with_len 0 vertices))) result }
 {
+    let mut slip = Slip::new();
     for v in 0..vertices {
-        page.push_bytes(point_line(v).bytes())?;
+        make_point(&mut slip, v);
+        page.push_bytes(slip.bytes())?;
     }
     Ok(())
 }
@@ -42,19 +43,18 @@ fn write_numbers(page: &mut Page, corners: &[VertexId]) -> Result<(), PageFault>
     Ok(())
 }
 
-// The line of a face of few corners.
-fn short_plain_face(corners: &[VertexId]) -> Slip
+// Makes the line of a face of few corners, in place of what the slip holds.
+fn make_plain_face(slip: &mut Slip, corners: &[VertexId])
     requires few { length corners.now ≤ 5 }
-    ensures face { result ≡ face_text corners.now [] }
+    ensures face { slip.new ≡ face_text corners.now [] }
 {
-    let mut slip = Slip::new();
+    slip.clear();
     slip.put_byte(b'\n');
     for k in (0..corners.len()).rev() {
         slip.put_whole(corners[k].number() as u64);
         slip.put_byte(b' ');
     }
     slip.put_whole(corners.len() as u64);
-    slip
 }
 
 // The line of a face, however long it is.
@@ -66,13 +66,14 @@ fn write_long_plain_face(page: &mut Page, corners: &[VertexId]) -> Result<(), Pa
     page.push_bytes(b"\n")
 }
 
-fn write_plain_face(page: &mut Page, corners: &[VertexId]) -> Result<(), PageFault>
+fn write_plain_face(page: &mut Page, slip: &mut Slip, corners: &[VertexId]) -> Result<(), PageFault>
     ensures puts { Puts page.old page.new (face_text corners.now []) result }
 {
     if corners.len() > FEW_CORNERS {
         return write_long_plain_face(page, corners);
     }
-    page.push_bytes(short_plain_face(corners).bytes())
+    make_plain_face(slip, corners);
+    page.push_bytes(slip.bytes())
 }
 
 fn write_plain_faces(page: &mut Page, soup: &Soup) -> Result<(), PageFault>
@@ -80,8 +81,9 @@ fn write_plain_faces(page: &mut Page, soup: &Soup) -> Result<(), PageFault>
     ensures puts { Puts page.old page.new (faces_text (zip soup.now.faces
         (no_colours soup.now.faces))) result }
 {
+    let mut slip = Slip::new();
     for f in 0..soup.faces() {
-        write_plain_face(page, soup.face(FaceId::new(f)))?;
+        write_plain_face(page, &mut slip, soup.face(FaceId::new(f)))?;
     }
     Ok(())
 }

@@ -77,19 +77,18 @@ pub(crate) fn write_colour(page: &mut Page, colour: &[u8]) -> Result<(), PageFau
 // How many corners fit on a slip, with how many they are and the end of the line.
 pub(crate) const FEW_CORNERS: usize = 5;
 
-// The line of a face of few corners without a colour.
-fn short_face(corners: &[CopyId]) -> Slip
+// Makes the line of a face of few corners without a colour, in place of what the slip holds.
+fn make_face(slip: &mut Slip, corners: &[CopyId])
     requires few { length corners.now ≤ 5 }
-    ensures face { result ≡ face_text corners.now [] }
+    ensures face { slip.new ≡ face_text corners.now [] }
 {
-    let mut slip = Slip::new();
+    slip.clear();
     slip.put_byte(b'\n');
     for k in (0..corners.len()).rev() {
         slip.put_whole(corners[k].number() as u64);
         slip.put_byte(b' ');
     }
     slip.put_whole(corners.len() as u64);
-    slip
 }
 
 // The line of a face, however long it is.
@@ -102,13 +101,19 @@ fn write_long_face(page: &mut Page, corners: &[CopyId], colour: &[u8]) -> Result
     page.push_bytes(b"\n")
 }
 
-fn write_face(page: &mut Page, corners: &[CopyId], colour: &[u8]) -> Result<(), PageFault>
+fn write_face(
+    page: &mut Page,
+    slip: &mut Slip,
+    corners: &[CopyId],
+    colour: &[u8],
+) -> Result<(), PageFault>
     ensures puts { Puts page.old page.new (face_text corners.now colour.now) result }
 {
     if corners.len() > FEW_CORNERS || !colour.is_empty() {
         return write_long_face(page, corners, colour);
     }
-    page.push_bytes(short_face(corners).bytes())
+    make_face(slip, corners);
+    page.push_bytes(slip.bytes())
 }
 
 // The corners of a face.
@@ -134,23 +139,28 @@ fn write_faces(
     ensures puts { Puts page.old page.new (faces_text (zip (rows_at starts.now corners.now)
         text.now.colours)) result }
 {
+    let mut slip = Slip::new();
     for f in 0..starts.len() - 1 {
-        write_face(page, face_at(corners, starts, f), text.colour_at(f))?;
+        write_face(
+            page,
+            &mut slip,
+            face_at(corners, starts, f),
+            text.colour_at(f),
+        )?;
     }
     Ok(())
 }
 
-// The comment for a copy.
-fn copy_line(i: usize, origin: VertexId) -> Slip
-    ensures comment { result ≡ copy_text i origin }
+// Makes the comment for a copy, in place of what the slip holds.
+fn make_comment(slip: &mut Slip, i: usize, origin: VertexId)
+    ensures comment { slip.new ≡ copy_text i origin }
 {
-    let mut slip = Slip::new();
+    slip.clear();
     slip.put_byte(b'\n');
     slip.put_whole(origin.number() as u64);
     slip.put_bytes(b" from ");
     slip.put_whole(i as u64);
     slip.put_bytes(b"# copy ");
-    slip
 }
 
 // A comment for each copy.
@@ -159,8 +169,10 @@ fn write_copies(page: &mut Page, origins: &[VertexId]) -> Result<(), PageFault>
     ensures puts { Puts page.old page.new (copies_text origins.now
         (range_with_len 0 (length origins.now))) result }
 {
+    let mut slip = Slip::new();
     for i in 0..origins.len() {
-        page.push_bytes(copy_line(i, origins[i]).bytes())?;
+        make_comment(&mut slip, i, origins[i]);
+        page.push_bytes(slip.bytes())?;
     }
     Ok(())
 }

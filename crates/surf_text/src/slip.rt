@@ -36,6 +36,13 @@ impl Slip {
         }
     }
 
+    /// Takes away what it holds, so that it serves for the next text.
+    pub fn clear(&mut self)
+        ensures empty { self.new ≡ [] }
+    {
+        self.start = ROOM;
+    }
+
     /// How many bytes more it has room for.
     pub fn room(&self) -> usize
         ensures room { result + length self.now ≡ 64 }

@@ -18,7 +18,7 @@ returns-in_err-push_bytes c =
     let at : get_or (range_with_len 0 n) i 0 ≡ i = get_or-range_with_len 0 n i 0 c.loop-i-test.true ∙ omega arith in
     let lt : i < length (range_with_len 0 n) = omega (arith, length-range_with_len 0 n, c.loop-i-test.true) in
     let v : c.index-origins-i.result ≡ get_or origins i 0 = c.index-origins-i.is ∙ other_default origins i c.index-origins-i.result 0 c.loop-i-test.true in
-    let one : Puts c.loop-i.page c.push_bytes.new.self (piece (get_or (range_with_len 0 n) i 0)) c.push_bytes.result = subst (λ (t : List ℕ). Puts c.loop-i.page c.push_bytes.new.self t c.push_bytes.result) (c.bytes.ensures.bytes ∙ c.copy_line.ensures.comment ∙ ap (copy_text i) v ∙ ap piece (sym at)) c.push_bytes.ensures.puts in
+    let one : Puts c.loop-i.page c.push_bytes.new.self (piece (get_or (range_with_len 0 n) i 0)) c.push_bytes.result = subst (λ (t : List ℕ). Puts c.loop-i.page c.push_bytes.new.self t c.push_bytes.result) (c.bytes.ensures.bytes ∙ c.make_comment.ensures.comment ∙ ap (copy_text i) v ∙ ap piece (sym at)) c.push_bytes.ensures.puts in
     let p = err_from_is_err_and c.from_residual.result c.from_residual.ensures.1 in
     record { puts = loop_stop (copies_text origins) piece refl (λ x xs. refl) (range_with_len 0 n) i 0 lt c.args.page.now c.loop-i.page c.push_bytes.new.self (tt {0}) c.loop-i.invariant c.push_bytes.result c.in_err-push_bytes.field-0.0 c.from_residual.result c.in_err-push_bytes.was (rw (p.1, p.2) refl) one }
 
@@ -31,7 +31,7 @@ loop-i-preserved c =
     let at : get_or (range_with_len 0 n) i 0 ≡ i = get_or-range_with_len 0 n i 0 c.loop-i-test.true ∙ omega arith in
     let lt : i < length (range_with_len 0 n) = omega (arith, length-range_with_len 0 n, c.loop-i-test.true) in
     let v : c.index-origins-i.result ≡ get_or origins i 0 = c.index-origins-i.is ∙ other_default origins i c.index-origins-i.result 0 c.loop-i-test.true in
-    let one : Puts c.loop-i.page c.push_bytes.new.self (piece (get_or (range_with_len 0 n) i 0)) c.push_bytes.result = subst (λ (t : List ℕ). Puts c.loop-i.page c.push_bytes.new.self t c.push_bytes.result) (c.bytes.ensures.bytes ∙ c.copy_line.ensures.comment ∙ ap (copy_text i) v ∙ ap piece (sym at)) c.push_bytes.ensures.puts in
+    let one : Puts c.loop-i.page c.push_bytes.new.self (piece (get_or (range_with_len 0 n) i 0)) c.push_bytes.result = subst (λ (t : List ℕ). Puts c.loop-i.page c.push_bytes.new.self t c.push_bytes.result) (c.bytes.ensures.bytes ∙ c.make_comment.ensures.comment ∙ ap (copy_text i) v ∙ ap piece (sym at)) c.push_bytes.ensures.puts in
     loop_more (copies_text origins) piece refl (λ x xs. refl) (range_with_len 0 n) i 0 lt c.args.page.now c.loop-i.page c.push_bytes.new.self (tt {0}) c.loop-i.invariant c.push_bytes.result c.in_ok-push_bytes.field-0 c.in_ok-push_bytes.was one
 
 pub returns : goal.returns
