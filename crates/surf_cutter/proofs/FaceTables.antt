@@ -3,7 +3,7 @@ use Rattle.std.proofs.Common.{◌≡◌, ℕ, suc, ◌+◌, ◌-◌, ◌<◌, �
 use Rattle.std.specs.List.{flat_map, sum_by}
 use Rattle.std.proofs.Math.Seq.{take-length}
 use Rattle.std.proofs.lemmas.Bool.{cases_eq}
-use Rattle.std.proofs.lemmas.List.{length-drop, length-take, get_or-take, get_or-drop, length_push, get_or_push, get_or_append_left}
+use Rattle.std.proofs.lemmas.List.{length-drop, length-take, get_or-take, get_or-drop, get_or_read, length_push, get_or_push, get_or_append_left}
 use Rattle.surf_rows.specs.Rows.{AreEnds}
 use Rattle.surf_rows.proofs.Cuts.{length-cut, span_at, row_is-cut, sum-first, sum-cut, flat-cut, ends_push}
 use Rattle.surf_surfaces.specs.Mesh.{Mesh}
@@ -73,6 +73,31 @@ module _ (starts items : List ℕ) (are : AreBounds starts (length items)) where
       ap (λ (row : List ℕ). get_or row k 0) (row_at f lt)
       ∙ get_or-take (get_or starts (f + 1) 0 - get_or starts f 0) (drop (get_or starts f 0) items) k 0 h
       ∙ get_or-drop (get_or starts f 0) items k 0
+
+-- a row of faces that are seen as rows of one table, by what is read of the places
+module _ (starts items : List ℕ) (are : AreBounds starts (length items)) (rows : List (List ℕ)) (seen : rows_from starts items ≡ rows) (f : ℕ) (lt : f < length rows) where
+  within : f < length (rows_from starts items)
+  within = omega (arith, ap length seen, lt)
+
+  pub end_within : f + 1 < length starts
+  end_within = omega (arith, row_count starts items are, within)
+
+  module _ (start : ℕ) (first : start ≡ get_or starts f start) where
+    start_is : start ≡ get_or starts f 0
+    start_is = let some = end_within in get_or_read starts f start (omega arith) first 0
+
+    module _ (end : ℕ) (last : end ≡ get_or starts (f + 1) end) where
+      end_is : end ≡ get_or starts (f + 1) 0
+      end_is = get_or_read starts (f + 1) end end_within last 0
+
+      pub span_of : (start ≤ end) × (end ≤ length items)
+      span_of = let s = row_spans starts items are f within in (omega (arith, s.0, start_is, end_is), omega (arith, s.1, end_is))
+
+      pub row_of : take (end - start) (drop start items) ≡ get_or rows f []
+      row_of =
+          ap (λ (s : ℕ). take (end - s) (drop s items)) start_is
+          ∙ ap (λ (e : ℕ). take (e - get_or starts f 0) (drop (get_or starts f 0) items)) end_is
+          ∙ sym (row_at starts items are f within) ∙ ap (λ (faces : List (List ℕ)). get_or faces f []) seen
 
 -- by the places where the faces of a surface begin, the rows are as long as these
 pub rows_of : (mesh : Mesh) (starts items : List ℕ) → AreStartsTo mesh (face_count mesh) starts → AreBounds starts (length items) → AreRowsOf mesh items (rows_from starts items)

@@ -1,16 +1,19 @@
 -- The border sides at the copies, and the corners of a side by its face.
 use Rattle.std.proofs.Common.{◌≡◌, ◌≢◌, ℕ, zero, suc, ◌+◌, ◌-◌, ◌<◌, ◌≤◌, inl, inr, sym, refl, subst, ap, ◌∙◌, cond, List, [], length, get_or, take, replicate, eqb, arith, eqb-true}
-use Rattle.std.specs.List.{sum_by}
+use Rattle.std.specs.List.{flat_map, sum_by}
 use Rattle.std.proofs.Math.ListN.{set}
 use Rattle.std.proofs.Math.Seq.{take-length}
 use Rattle.std.proofs.lemmas.Bool.{cases_Bool, cases_eq, eqb-false}
 use Rattle.std.proofs.lemmas.List.{length-set, length-map, length-replicate, get_or-replicate, get_or-set_same, get_or-set_other}
 use Rattle.surf_surfaces.specs.Mesh.{Mesh, IsMesh}
 use Rattle.surf_surfaces.specs.Side.{after}
-use Rattle.surf_surfaces.specs.Surface.{face_count}
+use Rattle.surf_surfaces.specs.Surface.{face_at, face_count}
+use Rattle.surf_surfaces.proofs.SideLaws.{after-below}
 use Rattle.surf_surfaces.specs.SideNumber.{side_count, first_side, IsFaceOf}
 use Rattle.surf_opening.specs.Opening.{IsOpenedBy}
+use Rattle.surf_opening.proofs.Polygons.{same_pair}
 use Rattle.surf_soup.proofs.HalfLaws.{spans}
+use Rattle.surf_soup.proofs.VertexLaws.{corner_at_place, corners_len}
 use Rattle.surf_base.specs.Tables.{nobody}
 use Rattle.surf_cutter.specs.Boundary.{over, corners_of, HasCopy, IsBorderSide, AreBorderSides, HasPairedBorder}
 use Rattle.surf_cutter.specs.Rims.{HaveSameSizes, AreRims, AreRimsTo, IsRimTo, IsListedAt, IsOneOf, with_side, other_of}
@@ -55,15 +58,41 @@ corners_by_face mesh faces same s f k row of own is =
       ap (λ (row : List ℕ). (get_or row k 0, get_or row (after (length row) k) 0)) own ∙ sym (corners_at_place (over 0 faces) f k in' lt) ∙ ap (corners_of (over 0 faces)) (sym is),
     )
 
--- the same where the place comes from the number of the face's first side
-pub corners_from : (mesh : Mesh) (faces : List (List ℕ)) → HaveSameSizes mesh faces → (s f start t : ℕ) (row : List ℕ) → IsFaceOf mesh s f → start ≡ sum_by length (take f faces) → row ≡ get_or faces f [] → t ≡ s →
-    (start ≤ t) × (t - start < length row) × ((get_or row (t - start) 0, get_or row (after (length row) (t - start)) 0) ≡ corners_of (over 0 faces) s)
-corners_from mesh faces same s f start t row of start_is own t_is =
-    let first = same_first mesh faces same f (let h = of.is_face in omega arith) in
-    let le : start ≤ t = omega (arith, of.from) in
-    let is : s ≡ sum_by length (take f faces) + (t - start) = omega arith in
-    let r = corners_by_face mesh faces same s f (t - start) row of own is in
-    (le, r.0, r.1)
+-- the same where the corners of all faces stand in one table
+module _ (mesh : Mesh) (faces : List (List ℕ)) (same : HaveSameSizes mesh faces) (s f first end : ℕ) (of : IsFaceOf mesh s f) (first_is : first ≡ first_side mesh f) (end_is : end ≡ first_side mesh f + length (face_at mesh f)) where
+  in_face : (first ≤ s) × (s < end)
+  in_face = (omega (arith, of.from), omega (arith, of.upto))
+
+  own_first : sum_by length (take f faces) ≡ first
+  own_first = same_first mesh faces same f (let h = of.is_face in omega arith) ∙ sym first_is
+
+  long : end - first ≡ length (get_or faces f [])
+  long = omega (arith, same.sizes f of.is_face)
+
+  module _ (table : List ℕ) (table_is : table ≡ flat_map (λ row. row) faces) where
+    table_entry : (k : ℕ) → k < length (get_or faces f []) → get_or table (first + k) 0 ≡ get_or (get_or faces f []) k 0
+    table_entry k lt =
+        let count = same.count in
+        ap (λ (xs : List ℕ). get_or xs (first + k) 0) table_is ∙ ap (λ n. get_or (flat_map (λ row. row) faces) (n + k) 0) (sym own_first)
+        ∙ corner_at_place (over 0 faces) f k 0 (let h = of.is_face in omega arith) lt
+
+    pub in_table : (t : ℕ) → t < side_count mesh → t < length table
+    in_table t lt = omega (arith, ap length table_is, corners_len (over 0 faces), same_total mesh faces same)
+
+    pub after_in : end ≤ side_count mesh → first + after (end - first) (s - first) < length table
+    after_in inside =
+        let next = after-below (end - first) (s - first) (omega (arith, in_face.0, in_face.1)) in
+        in_table (first + after (end - first) (s - first)) (omega (arith, next))
+
+    pub corners_in_table : (get_or table s 0, get_or table (first + after (end - first) (s - first)) 0) ≡ corners_of (over 0 faces) s
+    corners_in_table =
+        let row = get_or faces f [] in
+        let k = s - first in
+        let lt : k < length row = omega (arith, long, in_face.0, in_face.1) in
+        let here : s ≡ first + k = omega (arith, in_face.0) in
+        let tail : get_or table s 0 ≡ get_or row k 0 = ap (λ n. get_or table n 0) here ∙ table_entry k lt in
+        let head : get_or table (first + after (end - first) k) 0 ≡ get_or row (after (length row) k) 0 = ap (λ n. get_or table (first + after n k) 0) long ∙ table_entry (after (length row) k) (after-below (length row) k lt) in
+        same_pair tail head ∙ (corners_by_face mesh faces same s f k row of refl (here ∙ ap (λ n. n + k) (sym own_first))).1
 
 -- at first there are no sides
 pub rims_none : (mesh : Mesh) (border : List ℕ) (n : ℕ) → n ≡ mesh.vertices → AreRimsTo mesh border 0 (replicate n (nobody, nobody))

@@ -1,5 +1,5 @@
 //! The border of an opened surface, in one round.
-ghost use Rattle.std.specs.Prelude.{◌≡◌, ◌≢◌, ◌<◌, ◌^◌, ◌⊎◌, ℕ, List, length, IfOk, slice_index};
+ghost use Rattle.std.specs.Prelude.{◌≡◌, ◌≢◌, ◌<◌, ◌≤◌, ◌+◌, ◌-◌, ◌⊎◌, ℕ, List, length, IfOk, slice_index};
 ghost use Rattle.std.specs.Prelude.{slice_index_or, slice_set};
 ghost use Rattle.std.specs.List.{sum_by};
 ghost use Rattle.surf_surfaces.specs.Disc.{IsDisc};
@@ -20,27 +20,29 @@ use std::alloc::Global;
 use surf_base::{NoMemory, SideId};
 use surf_mesh::HalfMesh;
 
-// The place after one, around a face.
-fn after_place(count: usize, k: usize) -> usize
-    requires place { k < count }
-    requires few { count < 2 ^ 32 }
-    ensures { result ≡ after count k }
+// The side after one, around a face whose sides have the numbers from `first` up to `end`.
+fn after_side(first: u32, end: u32, side: u32) -> u32
+    requires from { first ≤ side }
+    requires upto { side < end }
+    ensures { result ≡ first + after (end - first) (side - first) }
 {
-    if k + 1 < count { k + 1 } else { 0 }
+    if side + 1 < end { side + 1 } else { first }
 }
 
-// Where a side begins and where it ends. The faces have as many corners as those of the surface.
+// Where a side begins and where it ends. The faces have as many corners as those of the surface, so
+// that a side's number is the place of the corner at which it begins.
 fn side_corners(mesh: &HalfMesh, faces: &OpenFaces, side: SideId) -> (u32, u32)
     requires sizes { HaveSameSizes mesh.now faces.now }
     requires side { side < side_count mesh.now }
     ensures { result ≡ corners_of (over 0 faces.now) side }
 {
-    mesh.law_of_surface();
-    let f = mesh.face_of(side).index();
-    let row = faces.row(f);
-    let k = side.index() - faces.start(f);
-    let next = after_place(row.len(), k);
-    (row[k].number(), row[next].number())
+    let (first, end) = mesh.side_span(mesh.face_of(side));
+    let next = after_side(first, end, side.number());
+    let corners = faces.corners();
+    (
+        corners[side.index()].number(),
+        corners[next as usize].number(),
+    )
 }
 
 // Adds a side to the two at a copy.

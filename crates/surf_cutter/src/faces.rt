@@ -68,14 +68,6 @@ impl OpenFaces {
         self.starts.len() - 1
     }
 
-    /// Where a face begins among the corners of all faces.
-    pub(crate) fn start(&self, f: usize) -> usize
-        requires { f < length self.now }
-        ensures { result ≡ sum_by length (take f self.now) }
-    {
-        self.starts[f] as usize
-    }
-
     /// The corners of a face.
     pub(crate) fn row(&self, f: usize) -> &[CopyId]
         requires { f < length self.now }

@@ -17,19 +17,18 @@ fn write_vertices(page: &mut Page, corners: &[VertexId]) -> Result<(), PageFault
     Ok(())
 }
 
-// The line of a face of few corners without a colour.
-fn short_line(corners: &[VertexId]) -> Slip
+// Makes the line of a face of few corners without a colour, in place of what the slip holds.
+fn make_line(slip: &mut Slip, corners: &[VertexId])
     requires few { length corners.now ≤ 5 }
-    ensures face { result ≡ face_text corners.now [] }
+    ensures face { slip.new ≡ face_text corners.now [] }
 {
-    let mut slip = Slip::new();
+    slip.clear();
     slip.put_byte(b'\n');
     for k in (0..corners.len()).rev() {
         slip.put_whole(corners[k].number() as u64);
         slip.put_byte(b' ');
     }
     slip.put_whole(corners.len() as u64);
-    slip
 }
 
 // The line of a face, however long it is.
@@ -43,14 +42,20 @@ fn write_long(page: &mut Page, corners: &[VertexId], colour: &[u8]) -> Result<()
 }
 
 /// Puts the line of a face on a page: how many corners it has, their vertices and its colour, if
-/// it has one. Refuses with `Full` where the page would hold more than its bound with the whole
-/// line, and with `Memory` where there is none. After a refusal the page holds a front of the line
-/// behind its bytes.
-pub fn write_face(page: &mut Page, corners: &[VertexId], colour: &[u8]) -> Result<(), PageFault>
+/// it has one. A short line is put together on the slip. Refuses with `Full` where the page would
+/// hold more than its bound with the whole line, and with `Memory` where there is none. After a
+/// refusal the page holds a front of the line behind its bytes.
+pub fn write_face(
+    page: &mut Page,
+    slip: &mut Slip,
+    corners: &[VertexId],
+    colour: &[u8],
+) -> Result<(), PageFault>
     ensures puts { Puts page.old page.new (face_text corners.now colour.now) result }
 {
     if corners.len() > FEW_CORNERS || !colour.is_empty() {
         return write_long(page, corners, colour);
     }
-    page.push_bytes(short_line(corners).bytes())
+    make_line(slip, corners);
+    page.push_bytes(slip.bytes())
 }

@@ -114,6 +114,22 @@ fn repeated(marks: &mut [u32], stamp: u32, corners: &[VertexId]) -> Option<Verte
     None
 }
 
+// The same, however many corners there are.
+#[inline(never)]
+fn repeated_of_any(marks: &mut [u32], stamp: u32, corners: &[VertexId]) -> Option<VertexId>
+    requires within { All (λ u. u < length marks.old) corners.now }
+    requires earlier { (k : ℕ) → k < length marks.old → slice_index marks.old k < stamp }
+    ensures first { result ≡ first_repeat [] corners.now }
+    ensures distinct { IfNone result (AllPairs (λ a b. a ≢ b) corners.now) }
+    ensures marks { (k : ℕ) → k < length marks.new → slice_index marks.new k ≤ stamp }
+{
+    if corners.len() <= FEW_CORNERS {
+        repeated_of_few(corners)
+    } else {
+        repeated(marks, stamp, corners)
+    }
+}
+
 // Whether they are three corners of as many vertices.
 fn are_three(corners: &[VertexId]) -> bool
     ensures three { IsTrue result → length corners.now ≡ 3 }
@@ -122,32 +138,6 @@ fn are_three(corners: &[VertexId]) -> bool
     match corners {
         [a, b, c] => a != b && a != c && b != c,
         _ => false,
-    }
-}
-
-// No corner may have a vertex that stands before, however many corners there are.
-#[inline(never)]
-fn refuse_repeats_of_many(
-    line: u32,
-    marks: &mut [u32],
-    stamp: u32,
-    corners: &[VertexId],
-) -> Result<(), OffFault>
-    requires within { All (λ u. u < length marks.old) corners.now }
-    requires earlier { (k : ℕ) → k < length marks.old → slice_index marks.old k < stamp }
-    ensures distinct { Gives (λ _. corners.now) result
-        (distinct line corners.now (first_repeat [] corners.now)) }
-    ensures differ { OnOk result (AllPairs (λ a b. a ≢ b) corners.now) }
-    ensures marks { (k : ℕ) → k < length marks.new → slice_index marks.new k ≤ stamp }
-{
-    let repeat = if corners.len() <= FEW_CORNERS {
-        repeated_of_few(corners)
-    } else {
-        repeated(marks, stamp, corners)
-    };
-    match repeat {
-        Some(vertex) => Err(OffFault::FaceRepeat { line, vertex }),
-        None => Ok(()),
     }
 }
 
@@ -170,7 +160,10 @@ fn refuse_repeats(
     if are_three(corners) {
         return Ok(());
     }
-    refuse_repeats_of_many(line, marks, stamp, corners)
+    match repeated_of_any(marks, stamp, corners) {
+        Some(vertex) => Err(OffFault::FaceRepeat { line, vertex }),
+        None => Ok(()),
+    }
 }
 
 // The colour of a face line, behind faces of so many sides. Its corners are those that are kept

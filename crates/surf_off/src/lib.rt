@@ -29,4 +29,4 @@ pub use made::write_soup;
 pub use off_places::OffPlaces;
 pub use read::{read_off, read_places};
 pub use text::OffText;
-pub use write::{write_head, write_off};
+pub use write::{write_head, write_line, write_off};

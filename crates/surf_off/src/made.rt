@@ -13,22 +13,23 @@ use surf_base::FaceId;
 use surf_soup::Soup;
 use surf_text::{Page, PageFault, Slip};
 
-// The line of a vertex.
-fn point_line(v: u32) -> Slip
-    ensures line { result ≡ point_text v ++ codes "\n" }
+// Makes the line of a vertex, in place of what the slip holds.
+fn make_point(slip: &mut Slip, v: u32)
+    ensures line { slip.new ≡ point_text v ++ codes "\n" }
 {
-    let mut slip = Slip::new();
+    slip.clear();
     slip.put_bytes(b" 0 0\n");
     slip.put_whole(v as u64);
-    slip
 }
 
 fn write_points(page: &mut Page, vertices: u32) -> Result<(), PageFault>
     requires fits { length page.old.bytes ≤ page.old.most }
     ensures puts { Puts page.old page.new (lines_text (points (range_with_len 0 vertices))) result }
 {
+    let mut slip = Slip::new();
     for v in 0..vertices {
-        page.push_bytes(point_line(v).bytes())?;
+        make_point(&mut slip, v);
+        page.push_bytes(slip.bytes())?;
     }
     Ok(())
 }
@@ -38,8 +39,9 @@ fn write_plain_faces(page: &mut Page, soup: &Soup) -> Result<(), PageFault>
     ensures puts { Puts page.old page.new (faces_text (zip soup.now.faces
         (no_colours soup.now.faces))) result }
 {
+    let mut slip = Slip::new();
     for f in 0..soup.faces() {
-        write_face(page, soup.face(FaceId::new(f)), b"")?;
+        write_face(page, &mut slip, soup.face(FaceId::new(f)), b"")?;
     }
     Ok(())
 }

@@ -1,5 +1,5 @@
 //! Writes an opened mesh as an OFF text.
-ghost use Rattle.std.specs.Prelude.{◌≡◌, ◌<◌, ◌≤◌, ◌+◌, [], length, slice_index_or};
+ghost use Rattle.std.specs.Prelude.{◌≡◌, ◌<◌, ◌≤◌, ◌+◌, ◌++◌, [], codes, length, slice_index_or};
 ghost use Rattle.std.specs.List.{All, zip, range_with_len};
 ghost use Rattle.surf_surfaces.specs.Mesh.{IsFace};
 ghost use Rattle.surf_text.specs.Pages.{Puts};
@@ -35,6 +35,14 @@ pub fn write_head(
     ])
 }
 
+/// Puts a line and its end on a page. Refuses as `write_off` does.
+pub fn write_line(page: &mut Page, line: &[u8]) -> Result<(), PageFault>
+    ensures puts { Puts page.old page.new (line.now ++ codes "\n") result }
+{
+    page.push_bytes(line)?;
+    page.push_bytes(b"\n")
+}
+
 // The line of each copy's vertex.
 fn write_lines(page: &mut Page, text: &OffText<'_>, origins: &[VertexId]) -> Result<(), PageFault>
     requires fits { length page.old.bytes ≤ page.old.most }
@@ -43,7 +51,7 @@ fn write_lines(page: &mut Page, text: &OffText<'_>, origins: &[VertexId]) -> Res
         result }
 {
     for v in origins {
-        page.push_pieces(&[Piece::Bytes(text.vertex_line(*v)), Piece::Bytes(b"\n")])?;
+        write_line(page, text.vertex_line(*v))?;
     }
     Ok(())
 }
@@ -71,19 +79,18 @@ pub(crate) fn write_colour(page: &mut Page, colour: &[u8]) -> Result<(), PageFau
 // How many corners fit on a slip, with how many they are and the end of the line.
 pub(crate) const FEW_CORNERS: usize = 5;
 
-// The line of a face of few corners without a colour.
-fn short_face(corners: &[CopyId]) -> Slip
+// Makes the line of a face of few corners without a colour, in place of what the slip holds.
+fn make_face(slip: &mut Slip, corners: &[CopyId])
     requires few { length corners.now ≤ 5 }
-    ensures face { result ≡ face_text corners.now [] }
+    ensures face { slip.new ≡ face_text corners.now [] }
 {
-    let mut slip = Slip::new();
+    slip.clear();
     slip.put_byte(b'\n');
     for k in (0..corners.len()).rev() {
         slip.put_whole(corners[k].number() as u64);
         slip.put_byte(b' ');
     }
     slip.put_whole(corners.len() as u64);
-    slip
 }
 
 // The line of a face, however long it is.
@@ -96,13 +103,19 @@ fn write_long_face(page: &mut Page, corners: &[CopyId], colour: &[u8]) -> Result
     page.push_bytes(b"\n")
 }
 
-fn write_face(page: &mut Page, corners: &[CopyId], colour: &[u8]) -> Result<(), PageFault>
+fn write_face(
+    page: &mut Page,
+    slip: &mut Slip,
+    corners: &[CopyId],
+    colour: &[u8],
+) -> Result<(), PageFault>
     ensures puts { Puts page.old page.new (face_text corners.now colour.now) result }
 {
     if corners.len() > FEW_CORNERS || !colour.is_empty() {
         return write_long_face(page, corners, colour);
     }
-    page.push_bytes(short_face(corners).bytes())
+    make_face(slip, corners);
+    page.push_bytes(slip.bytes())
 }
 
 // The corners of a face.
@@ -128,10 +141,28 @@ fn write_faces(
     ensures puts { Puts page.old page.new (faces_text (zip (rows_at starts.now corners.now)
         text.now.colours)) result }
 {
+    let mut slip = Slip::new();
     for f in 0..starts.len() - 1 {
-        write_face(page, face_at(corners, starts, f), text.colour_at(f))?;
+        write_face(
+            page,
+            &mut slip,
+            face_at(corners, starts, f),
+            text.colour_at(f),
+        )?;
     }
     Ok(())
+}
+
+// Makes the comment for a copy, in place of what the slip holds.
+fn make_comment(slip: &mut Slip, i: usize, origin: VertexId)
+    ensures comment { slip.new ≡ copy_text i origin }
+{
+    slip.clear();
+    slip.put_byte(b'\n');
+    slip.put_whole(origin.number() as u64);
+    slip.put_bytes(b" from ");
+    slip.put_whole(i as u64);
+    slip.put_bytes(b"# copy ");
 }
 
 // A comment for each copy.
@@ -140,14 +171,10 @@ fn write_copies(page: &mut Page, origins: &[VertexId]) -> Result<(), PageFault>
     ensures puts { Puts page.old page.new (copies_text origins.now
         (range_with_len 0 (length origins.now))) result }
 {
+    let mut slip = Slip::new();
     for i in 0..origins.len() {
-        page.push_pieces(&[
-            Piece::Bytes(b"# copy "),
-            Piece::Whole(i as u128),
-            Piece::Bytes(b" from "),
-            Piece::Whole(origins[i].index() as u128),
-            Piece::Bytes(b"\n"),
-        ])?;
+        make_comment(&mut slip, i, origins[i]);
+        page.push_bytes(slip.bytes())?;
     }
     Ok(())
 }

@@ -10,8 +10,8 @@ ghost use Rattle.surf_sew.specs.Texts.{sewn_lines, sewn_text, RereadsSewn};
 use crate::first::list_first;
 use surf_base::{FaceId, VertexId};
 use surf_mesh::HalfMesh;
-use surf_off::{OffText, write_face, write_head};
-use surf_text::{Page, PageFault, Piece};
+use surf_off::{OffText, write_face, write_head, write_line};
+use surf_text::{Page, PageFault, Slip};
 
 // The least copies of so many vertices are found by one turn over the origins, so that no memory is
 // taken.
@@ -25,8 +25,7 @@ fn write_copies(page: &mut Page, text: &OffText<'_>, copies: &[u32]) -> Result<(
         result }
 {
     for c in copies {
-        let line = text.vertex_line(VertexId::new(*c));
-        page.push_pieces(&[Piece::Bytes(line), Piece::Bytes(b"\n")])?;
+        write_line(page, text.vertex_line(VertexId::new(*c)))?;
     }
     Ok(())
 }
@@ -94,9 +93,10 @@ fn write_faces(page: &mut Page, text: &OffText<'_>, mesh: &HalfMesh) -> Result<(
     ensures puts { Puts page.old page.new (faces_text (zip mesh.now.faces text.now.colours))
         result }
 {
+    let mut slip = Slip::new();
     for f in 0..mesh.faces() {
         let face = FaceId::new(f);
-        write_face(page, mesh.face(face), text.colour(face))?;
+        write_face(page, &mut slip, mesh.face(face), text.colour(face))?;
     }
     Ok(())
 }

@@ -36,6 +36,13 @@ impl Slip {
         }
     }
 
+    /// Takes away what it holds, so that it serves for the next text.
+    pub fn clear(&mut self)
+        ensures empty { self.new ≡ [] }
+    {
+        self.start = ROOM;
+    }
+
     /// How many bytes more it has room for.
     pub fn room(&self) -> usize
         ensures room { result + length self.now ≡ 64 }
@@ -57,9 +64,9 @@ impl Slip {
         requires room { length bytes.now + length self.old ≤ 64 }
         ensures before { self.new ≡ bytes.now ++ self.old }
     {
-        for k in (0..bytes.len()).rev() {
-            self.put_byte(bytes[k]);
-        }
+        let end = self.start;
+        self.start = end - bytes.len();
+        self.bytes[self.start..end].copy_from_slice(bytes);
     }
 
     /// Puts the decimal text of a number before the bytes that it holds.

@@ -21,28 +21,32 @@ fn put_parent(slip: &mut Slip, parent: Option<VertexId>)
     }
 }
 
-// The line of a vertex.
-fn line_of(v: VertexId, distance: u64, parent: Option<VertexId>) -> Slip
-    ensures line { result ≡ vertex_line v distance parent }
+// Makes the line of a vertex, in place of what the slip holds.
+fn make_line(slip: &mut Slip, v: VertexId, distance: u64, parent: Option<VertexId>)
+    ensures line { slip.new ≡ vertex_line v distance parent }
 {
-    let mut slip = Slip::new();
+    slip.clear();
     slip.put_byte(b'\n');
-    put_parent(&mut slip, parent);
+    put_parent(slip, parent);
     slip.put_byte(b' ');
     slip.put_whole(distance);
     slip.put_byte(b' ');
     slip.put_whole(v.number() as u64);
-    slip
 }
 
-fn put_vertex(page: &mut Page, tree: &TreeDesk, v: VertexId) -> Result<(), PageFault>
+fn put_vertex(
+    page: &mut Page,
+    slip: &mut Slip,
+    tree: &TreeDesk,
+    v: VertexId,
+) -> Result<(), PageFault>
     requires distance { v < length tree.now.distances }
     requires parent { v < length tree.now.parents }
     ensures { Fills page.old page.new (vertex_line v (slice_index tree.now.distances v)
         (parent_of tree.now v)) result }
 {
-    let line = line_of(v, tree.distance(v), tree.parent(v));
-    page.push_bytes(line.bytes())
+    make_line(slip, v, tree.distance(v), tree.parent(v));
+    page.push_bytes(slip.bytes())
 }
 
 /// Puts a line for each of so many vertices: its number, its distance and its parent.
@@ -51,8 +55,9 @@ pub fn put_distances(page: &mut Page, tree: &TreeDesk, vertices: u32) -> Result<
     requires parents { vertices ≤ length tree.now.parents }
     ensures { Fills page.old page.new (tables_text tree.now vertices) result }
 {
+    let mut slip = Slip::new();
     for v in 0..vertices {
-        put_vertex(page, tree, VertexId::new(v))?;
+        put_vertex(page, &mut slip, tree, VertexId::new(v))?;
     }
     Ok(())
 }

@@ -15,7 +15,7 @@ returns-in_err-push_bytes c =
     let piece : ℕ → List ℕ = λ v. point_text v ++ codes "\n" in
     let at : get_or (range_with_len 0 n) v 0 ≡ v = get_or-range_with_len 0 n v 0 c.loop-v-test.true ∙ omega arith in
     let lt : v < length (range_with_len 0 n) = omega (arith, length-range_with_len 0 n, c.loop-v-test.true) in
-    let one : Puts c.loop-v.page c.push_bytes.new.self (piece (get_or (range_with_len 0 n) v 0)) c.push_bytes.result = subst (λ (t : List ℕ). Puts c.loop-v.page c.push_bytes.new.self t c.push_bytes.result) (c.bytes.ensures.bytes ∙ c.point_line.ensures.line ∙ ap piece (sym at)) c.push_bytes.ensures.puts in
+    let one : Puts c.loop-v.page c.push_bytes.new.self (piece (get_or (range_with_len 0 n) v 0)) c.push_bytes.result = subst (λ (t : List ℕ). Puts c.loop-v.page c.push_bytes.new.self t c.push_bytes.result) (c.bytes.ensures.bytes ∙ c.make_point.ensures.line ∙ ap piece (sym at)) c.push_bytes.ensures.puts in
     let p = err_from_is_err_and c.from_residual.result c.from_residual.ensures.1 in
     record { puts = loop_stop text piece refl (λ x xs. refl) (range_with_len 0 n) v 0 lt c.args.page.now c.loop-v.page c.push_bytes.new.self (tt {0}) c.loop-v.invariant c.push_bytes.result c.in_err-push_bytes.field-0.0 c.from_residual.result c.in_err-push_bytes.was (rw (p.1, p.2) refl) one }
 
@@ -27,7 +27,7 @@ loop-v-preserved c =
     let piece : ℕ → List ℕ = λ v. point_text v ++ codes "\n" in
     let at : get_or (range_with_len 0 n) v 0 ≡ v = get_or-range_with_len 0 n v 0 c.loop-v-test.true ∙ omega arith in
     let lt : v < length (range_with_len 0 n) = omega (arith, length-range_with_len 0 n, c.loop-v-test.true) in
-    let one : Puts c.loop-v.page c.push_bytes.new.self (piece (get_or (range_with_len 0 n) v 0)) c.push_bytes.result = subst (λ (t : List ℕ). Puts c.loop-v.page c.push_bytes.new.self t c.push_bytes.result) (c.bytes.ensures.bytes ∙ c.point_line.ensures.line ∙ ap piece (sym at)) c.push_bytes.ensures.puts in
+    let one : Puts c.loop-v.page c.push_bytes.new.self (piece (get_or (range_with_len 0 n) v 0)) c.push_bytes.result = subst (λ (t : List ℕ). Puts c.loop-v.page c.push_bytes.new.self t c.push_bytes.result) (c.bytes.ensures.bytes ∙ c.make_point.ensures.line ∙ ap piece (sym at)) c.push_bytes.ensures.puts in
     loop_more text piece refl (λ x xs. refl) (range_with_len 0 n) v 0 lt c.args.page.now c.loop-v.page c.push_bytes.new.self (tt {0}) c.loop-v.invariant c.push_bytes.result c.in_ok-push_bytes.field-0 c.in_ok-push_bytes.was one
 
 pub returns : goal.returns

@@ -1,6 +1,6 @@
 use Rattle.std.proofs.Common.{◌≡◌, ◌≤◌, ◌+◌, ◌*◌, ◌++◌, length, drop, codes}
 use Rattle.surf_off.specs.Written.{spaced_text}
-use Rattle.surf_off.proofs.face.short_line.Given as goal
+use Rattle.surf_off.proofs.write.make_face.Given as goal
 
 abbrev pub invariant-loop-k : goal.invariant-loop-k
 invariant-loop-k l = record {

@@ -2,7 +2,7 @@ use Rattle.std.proofs.Common.{◌≡◌, ◌<◌, ◌+◌, ◌-◌, ℕ, List, �
 use Rattle.std.specs.Prelude.{decimal}
 use Rattle.surf_off.specs.Written.{spaced_text}
 use Rattle.surf_off.proofs.ShortFaces.{number_short, size_short, spaced_before}
-use Rattle.surf_off.proofs.write.short_face.Goals as goal
+use Rattle.surf_off.proofs.write.make_face.Goals as goal
 
 pub put_whole-requires : goal.put_whole-requires
 put_whole-requires c = record { room = omega (arith, number_short c.number.result (omega (arith, c.number.type_inv)), c.loop-k.invariant.room, c.loop-k-test.true) }

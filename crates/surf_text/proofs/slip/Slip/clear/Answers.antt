@@ -1,0 +1,6 @@
+use Rattle.std.proofs.Common.{arith}
+use Rattle.std.proofs.lemmas.List.{drop_all}
+use Rattle.surf_text.proofs.slip.Slip.clear.Goals as goal
+
+pub returns : goal.returns
+returns c = record { empty = drop_all 64 c.self.inside.bytes (omega (arith, c.self.invariant.1)) }
