@@ -14,9 +14,9 @@ returns-in_err-write_line c =
     let i = c.loop-c.c-index in
     let p = err_from_is_err_and c.from_residual.result c.from_residual.ensures.1 in
     let copy : c.new.result ≡ get_or c.args.copies.now i 0 = c.new.ensures in
-    let one : Puts c.loop-c.page c.write_line.new.self (piece (get_or c.args.copies.now i 0)) c.write_line.result =
-    subst (λ (t : List ℕ). Puts c.loop-c.page c.write_line.new.self (t ++ codes "\n") c.write_line.result) (c.vertex_line.ensures.line ∙ ap (λ (k : ℕ). slice_index_or lines k []) copy) c.write_line.ensures.puts in
-    record { puts = loop_stop text piece refl (λ x xs. refl) c.args.copies.now i 0 c.loop-c-test.true c.args.page.now c.loop-c.page c.write_line.new.self (tt {0}) c.loop-c.invariant c.write_line.result c.in_err-write_line.field-0.0 c.from_residual.result c.in_err-write_line.was (rw (p.1, p.2) refl) one }
+    let one : Puts c.loop-c.page c.write_line.new.page (piece (get_or c.args.copies.now i 0)) c.write_line.result =
+    subst (λ (t : List ℕ). Puts c.loop-c.page c.write_line.new.page (t ++ codes "\n") c.write_line.result) (c.vertex_line.ensures.line ∙ ap (λ (k : ℕ). slice_index_or lines k []) copy) c.write_line.ensures.puts in
+    record { puts = loop_stop text piece refl (λ x xs. refl) c.args.copies.now i 0 c.loop-c-test.true c.args.page.now c.loop-c.page c.write_line.new.page (tt {0}) c.loop-c.invariant c.write_line.result c.in_err-write_line.field-0.0 c.from_residual.result c.in_err-write_line.was (rw (p.1, p.2) refl) one }
 
 pub loop-c-preserved : goal.loop-c-preserved
 loop-c-preserved c =
@@ -25,9 +25,9 @@ loop-c-preserved c =
     let piece : ℕ → List ℕ = λ k. slice_index_or lines k [] ++ codes "\n" in
     let i = c.loop-c.c-index in
     let copy : c.new.result ≡ get_or c.args.copies.now i 0 = c.new.ensures in
-    let one : Puts c.loop-c.page c.write_line.new.self (piece (get_or c.args.copies.now i 0)) c.write_line.result =
-    subst (λ (t : List ℕ). Puts c.loop-c.page c.write_line.new.self (t ++ codes "\n") c.write_line.result) (c.vertex_line.ensures.line ∙ ap (λ (k : ℕ). slice_index_or lines k []) copy) c.write_line.ensures.puts in
-    loop_more text piece refl (λ x xs. refl) c.args.copies.now i 0 c.loop-c-test.true c.args.page.now c.loop-c.page c.write_line.new.self (tt {0}) c.loop-c.invariant c.write_line.result c.in_ok-write_line.field-0 c.in_ok-write_line.was one
+    let one : Puts c.loop-c.page c.write_line.new.page (piece (get_or c.args.copies.now i 0)) c.write_line.result =
+    subst (λ (t : List ℕ). Puts c.loop-c.page c.write_line.new.page (t ++ codes "\n") c.write_line.result) (c.vertex_line.ensures.line ∙ ap (λ (k : ℕ). slice_index_or lines k []) copy) c.write_line.ensures.puts in
+    loop_more text piece refl (λ x xs. refl) c.args.copies.now i 0 c.loop-c-test.true c.args.page.now c.loop-c.page c.write_line.new.page (tt {0}) c.loop-c.invariant c.write_line.result c.in_ok-write_line.field-0 c.in_ok-write_line.was one
 
 pub returns : goal.returns
 returns c =
