@@ -6,12 +6,14 @@
 //! caller can see: the count rose, or a name isn't held. What a shelf holds and what a sink was
 //! given may be told or not; [`MemShelf`] and [`MemSink`] tell both, and a disk or a terminal tells
 //! neither. [`fetch`] reads a whole file and [`put_all`] writes a whole text over any of them.
+//! [`make_room`] is how a text that may become long grows.
 #![tactic(auto)]
 
 mod ids;
 mod limits;
 mod memory;
 mod outside;
+mod room;
 mod transfer;
 
 pub use ids::{CopyId, EdgeId, FaceId, SideId, VertexId};
@@ -21,4 +23,5 @@ pub use limits::{
 };
 pub use memory::{MemShelf, MemSink};
 pub use outside::{Failed, NoMemory, Shelf, Sink};
+pub use room::make_room;
 pub use transfer::{FetchFault, fetch, put_all};

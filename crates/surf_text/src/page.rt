@@ -9,6 +9,7 @@ use crate::slip::Slip;
 use itoa::Buffer;
 use std::alloc::{AllocError, Global};
 use std::marker::Model;
+use surf_base::make_room;
 use thiserror::Error;
 
 /// Why a text was not put on a page.
@@ -113,6 +114,7 @@ impl Page {
         if bytes.len() as u64 > self.most - self.bytes.len() as u64 {
             return Err(PageFault::Full);
         }
+        make_room(&mut self.bytes, bytes.len())?;
         self.bytes.extend_from_slice(bytes)?;
         Ok(())
     }
