@@ -72,7 +72,8 @@ fn border_at(soup: &Soup, table: &EdgeTable, e: usize) -> PairFault
     requires table { IsTableOf soup.now table.now }
     requires first { IsFirstWithin 1 1 table.now.sides e }
     requires some { 0 < face_count soup.now }
-    ensures { IsPairFault soup.now result }
+    ensures fault { IsPairFault soup.now result }
+    ensures sure { result ≢ Memory }
 {
     soup.law_of_soup();
     let (u, v) = table.edges[e];
@@ -86,7 +87,8 @@ fn crowd_at(soup: &Soup, table: &EdgeTable, e: usize) -> PairFault
     requires no_border { NoneWithin 1 1 table.now.sides }
     requires first { IsFirstWithin 3 usize.MAX table.now.sides e }
     requires some { 0 < face_count soup.now }
-    ensures { IsPairFault soup.now result }
+    ensures fault { IsPairFault soup.now result }
+    ensures sure { result ≢ Memory }
 {
     soup.law_of_soup();
     let (u, v) = table.edges[e];
@@ -105,7 +107,8 @@ fn crowd_at(soup: &Soup, table: &EdgeTable, e: usize) -> PairFault
 fn find_fault(alloc: Global, soup: &Soup) -> Result<PairFault, NoMemory>
     requires some { 0 < face_count soup.now }
     requires unpaired { HasTwoFaces soup.now → ⊥ }
-    ensures { IfOk result (λ fault. IsPairFault soup.now fault) }
+    ensures fault { IfOk result (λ fault. IsPairFault soup.now fault) }
+    ensures sure { IfOk result (λ fault. fault ≢ Memory) }
 {
     soup.law_of_soup();
     let table = edge_table(alloc, soup)?;

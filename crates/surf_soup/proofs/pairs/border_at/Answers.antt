@@ -24,8 +24,8 @@ face_in-face-requires-clause-side c =
       length-owners 0 mesh.faces,
     )
 
-pub returns : goal.returns
-returns c =
+pub returns-clause-fault : goal.returns-clause-fault
+returns-clause-fault c =
     let mesh = c.args.soup.now in
     let rows = c.args.table.now.sides in
     let face_of = c.args.table.now.face_of.items in

@@ -39,8 +39,8 @@ face_in-third-requires-clause-side c =
     inside c.args.soup.now c.law_of_soup.ensures.mesh _ _ _ _ _ c.requires.table _ c.args.e 2 c.requires.first
     (omega arith) c.row-row.result.now c.deref-3.result.now c.row-row.ensures c.deref-3.ensures.value
 
-pub returns : goal.returns
-returns c =
+pub returns-clause-fault : goal.returns-clause-fault
+returns-clause-fault c =
     let mesh = c.args.soup.now in
     let rows = c.args.table.now.sides in
     let face_of = c.args.table.now.face_of.items in
