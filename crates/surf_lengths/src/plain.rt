@@ -15,6 +15,7 @@ pub(crate) struct PlainLine {
 }
 
 // The number that a text begins with, if this byte is next, and what stands behind that.
+#[inline(always)]
 fn number_before(text: &[u8], sign: u8) -> Option<(u32, &[u8])>
     ensures before { IfSome result (λ x. IsBefore sign text.now x.0 x.1.now) }
 {
