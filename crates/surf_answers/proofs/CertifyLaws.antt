@@ -21,7 +21,6 @@ use Rattle.surf_texts.specs.Outcome.{Outcome, answers}
 use Rattle.surf_texts.specs.Refusals.{cause_of, of_page}
 use Rattle.surf_answers.specs.Says.{Says}
 use Rattle.surf_answers.specs.Tells.{Why}
-use Rattle.surf_answers.proofs.CutLaws.{overfills_from_stops}
 use Rattle.surf_answers.proofs.Saying.{blank, says_whole, says_beyond, why_overfilled}
 
 pub gives_loop_cert : (mesh : Mesh) (lengths : List ℕ) (base : ℕ) (t : LoopTables) (cert : LoopCert) → IsGreedy mesh lengths base t →
@@ -60,4 +59,4 @@ module _ (text : List ℕ) (page : PageState) (is_blank : page ≡ blank) where
       Why end (cause_of (of_page fault))
   why_stopped end fault ends stops =
       why_overfilled end text fault (λ long. ends (says_beyond text long))
-      (overfills_from_stops blank text fault (subst (λ (p : PageState). Stops p text fault) is_blank stops))
+      (subst (λ (p : PageState). Stops p text fault) is_blank stops)

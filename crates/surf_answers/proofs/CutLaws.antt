@@ -8,16 +8,12 @@ use Rattle.surf_surfaces.specs.Surface.{face_at, IsSurface}
 use Rattle.surf_opening.specs.Opening.{IsOpenedBy}
 use Rattle.surf_opening.specs.ChosenCut.{AreDivided, IsChosenOpening}
 use Rattle.surf_opening.proofs.ChosenOpenings.{chosen_are_openings}
-use Rattle.surf_text.specs.Pages.{PageState, Stops}
-use Rattle.surf_text.specs.declared.page.PageFault.{PageFault}
-use Rattle.surf_text.specs.declared.page.PageFault.TheVariants.{Full, Memory}
 use Rattle.surf_tree.specs.Tables.{tree_of}
 use Rattle.surf_cotree.specs.Grown.{IsMarked}
 use Rattle.surf_cotree.specs.Tables.{cotree_of}
 use Rattle.surf_loops.specs.Loops.{LoopTables, IsGreedy, trees_of}
 use Rattle.surf_cutter.specs.Opened.{OpenMesh, IsHeld, IsChosenFor}
 use Rattle.surf_cutter.proofs.Chosen.{grown_is_held}
-use Rattle.surf_texts.specs.Fills.{Overfills}
 use Rattle.surf_answers.specs.Cuts.{IsCutAt}
 
 -- the vertex of each copy is one of the surface
@@ -64,8 +60,3 @@ module _ (mesh : Mesh) (lengths : List ℕ) (base : ℕ) (t : LoopTables) (surfa
 
     pub desk_origins : All (λ v. v < mesh.vertices) opened.origins
     desk_origins = origins_inside surface opens.opened
-
--- a text that stops is one that overfills the page
-pub overfills_from_stops : (old : PageState) (text : List ℕ) (fault : PageFault) → Stops old text fault → Overfills old text fault
-overfills_from_stops old text Full over = over
-overfills_from_stops old text Memory over = tt

@@ -3,10 +3,9 @@ use Rattle.std.proofs.Common.{◌≡◌, ℕ, ◌<◌, ◌≤◌, true, false, L
 use Rattle.std.specs.Prelude.{nat_lt}
 use Rattle.std.proofs.lemmas.Bool.{lt-ltb, le-ltb}
 use Rattle.surf_base.specs.declared.limits.LimitKind.TheVariants.{Answer}
-use Rattle.surf_text.specs.Pages.{PageState}
+use Rattle.surf_text.specs.Pages.{PageState, Stops}
 use Rattle.surf_text.specs.declared.page.PageFault.{PageFault}
 use Rattle.surf_text.specs.declared.page.PageFault.TheVariants.{Full, Memory}
-use Rattle.surf_texts.specs.Fills.{Overfills}
 use Rattle.surf_texts.specs.Limits.{beyond}
 use Rattle.surf_texts.specs.Outcome.{answers}
 use Rattle.surf_texts.specs.Refusals.{cause_of, of_page}
@@ -31,7 +30,7 @@ says_beyond text long =
 
 -- a text that doesn't fit on a blank page is too long an answer
 pub why_overfilled : (end : Outcome → Type 0) (text : List ℕ) (fault : PageFault) → (1073741824 < length text → end (beyond Answer)) →
-    Overfills blank text fault → Why end (cause_of (of_page fault))
+    Stops blank text fault → Why end (cause_of (of_page fault))
 why_overfilled end text Full long over = long (omega (arith, over))
 why_overfilled end text Memory long over = tt
 

@@ -16,7 +16,7 @@ use surf_cover::{ClassWalk, least_in_class};
 use surf_lengths::Lengths;
 use surf_mesh::{HalfMesh, Walk};
 use surf_text::{Page, PageFault};
-use surf_texts::{Refused, put_walk};
+use surf_texts::{Refused, put_line};
 
 /// The walk that is chosen of the shortest in the class of a walk, with its length.
 pub fn shortest_of(
@@ -58,8 +58,5 @@ fn found_walk(
 fn put_shortest(page: &mut Page, found: &ClassWalk) -> Result<(), PageFault>
     ensures { Fills page.old page.new (shortest_line found.now.length found.now.walk) result }
 {
-    page.push_bytes(b"shortest ")?;
-    page.push_whole(found.length as u128)?;
-    put_walk(page, found.walk.vertices())?;
-    page.push_bytes(b"\n")
+    put_line(page, b"shortest ", found.length, found.walk.vertices())
 }

@@ -3,7 +3,7 @@ ghost use Rattle.std.specs.Prelude.{◌≡◌};
 ghost use Rattle.surf_texts.specs.Fills.{Fills};
 ghost use Rattle.surf_texts.specs.CycleTexts.{cycle_line, cycles_head};
 
-use crate::numbers::put_walk;
+use crate::numbers::{put_head, put_line};
 use surf_base::VertexId;
 use surf_text::{Page, PageFault};
 
@@ -11,19 +11,12 @@ use surf_text::{Page, PageFault};
 pub fn put_cycle(page: &mut Page, length: u64, walk: &[VertexId]) -> Result<(), PageFault>
     ensures fills { Fills page.old page.new (cycle_line length walk.now) result }
 {
-    page.push_bytes(b"cycle ")?;
-    page.push_whole(length as u128)?;
-    put_walk(page, walk)?;
-    page.push_bytes(b"\n")
+    put_line(page, b"cycle ", length, walk)
 }
 
 /// Puts how many cycles there are and what they total.
 pub fn put_cycles_head(page: &mut Page, count: usize, total: u128) -> Result<(), PageFault>
     ensures fills { Fills page.old page.new (cycles_head count total) result }
 {
-    page.push_bytes(b"cycles ")?;
-    page.push_whole(count as u128)?;
-    page.push_bytes(b"\ntotal ")?;
-    page.push_whole(total)?;
-    page.push_bytes(b"\n")
+    put_head(page, b"cycles ", count, total)
 }

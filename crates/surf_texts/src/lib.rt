@@ -25,7 +25,7 @@ pub use discs::{disc_text, no_line};
 pub use distances::put_distances;
 pub use evidence::{right_line, wrong_line};
 pub use loops::{put_loop, put_loops_head};
-pub use numbers::put_walk;
+pub use numbers::put_line;
 pub use refusal::Refused;
 pub use summaries::{counts_text, crosscaps_text, genus_text, measures_text};
 pub use verdicts::{basis_line, fault_line, loops_line};

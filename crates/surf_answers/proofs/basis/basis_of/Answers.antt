@@ -3,9 +3,8 @@ use Rattle.std.proofs.lemmas.Result.{err_from_is_err_and}
 use Rattle.surf_base.specs.declared.limits.LimitKind.TheVariants.{Answer}
 use Rattle.surf_basis.specs.Cycles.{as_loops}
 use Rattle.surf_basis.specs.declared.cycle.Cycle.{Cycle}
-use Rattle.surf_text.specs.Pages.{PageState, grown}
+use Rattle.surf_text.specs.Pages.{PageState, grown, Stops}
 use Rattle.surf_texts.specs.CycleTexts.{cycles_text}
-use Rattle.surf_texts.specs.Fills.{Overfills}
 use Rattle.surf_answers.specs.LeastBasis.{GivesBasis}
 use Rattle.surf_texts.specs.Limits.{beyond}
 use Rattle.surf_texts.specs.Outcome.{answers}
@@ -23,8 +22,8 @@ returns-in_err-put_basis c =
     let p = err_from_is_err_and c.from_residual-in_err-put_basis.result c.from_residual-in_err-put_basis.ensures.1 in
     rw (p.1, p.2) (why_overfilled (GivesBasis mesh lengths) (cycles_text basis) fault
     (λ long. gives_basis mesh lengths c.law_of_surface.ensures.surface c.law_of_lengths.ensures.lengths c.requires.lengths basis e.chosen e.least (beyond Answer) (says_beyond (cycles_text basis) long))
-    (subst (λ (cycles : List Cycle). Overfills blank (cycles_text (as_loops cycles)) fault) c.deref.ensures.value
-    (subst (λ (page : PageState). Overfills page (cycles_text (as_loops c.deref.result.now)) fault) c.make-page.ensures.empty c.in_err-put_basis.ensures)))
+    (subst (λ (cycles : List Cycle). Stops blank (cycles_text (as_loops cycles)) fault) c.deref.ensures.value
+    (subst (λ (page : PageState). Stops page (cycles_text (as_loops c.deref.result.now)) fault) c.make-page.ensures.empty c.in_err-put_basis.ensures.1)))
 
 pub returns : goal.returns
 returns c =

@@ -1,13 +1,25 @@
-use Rattle.std.proofs.Common.{◌≡◌, ℕ, List, length, map, sym, subst}
+use Rattle.std.proofs.Common.{◌≡◌, ℕ, List, length, map, sym, subst, Err}
 use Rattle.std.specs.Prelude.{sum}
 use Rattle.std.specs.List.{flat_map}
+use Rattle.std.proofs.lemmas.Result.{err_from_is_err_and}
 use Rattle.surf_text.specs.Pages.{grown}
 use Rattle.surf_texts.specs.CycleTexts.{cycles_head}
 use Rattle.surf_texts.specs.Fills.{Fills}
-use Rattle.surf_texts.proofs.Filling.{fills_both}
+use Rattle.surf_texts.proofs.Filling.{stopped_first, fills_both}
 use Rattle.surf_answers.specs.CycleTexts.{cycle_found_line}
 use Rattle.surf_answers.proofs.CycleLaws.{text_of_cycles}
 use Rattle.surf_answers.proofs.basis.put_basis.Goals as goal
+
+pub returns-in_err-put_cycles_head : goal.returns-in_err-put_cycles_head
+returns-in_err-put_cycles_head c =
+    let cs = c.args.basis.now in
+    let page = c.args.page.now in
+    let new = c.put_cycles_head.new.page in
+    let fault = c.in_err-put_cycles_head.field-0.0 in
+    let p = err_from_is_err_and c.from_residual.result c.from_residual.ensures.1 in
+    rw (p.1, p.2) (subst (λ (text : List ℕ). Fills {A = Unit {0}} page new text (Err fault)) (sym (text_of_cycles cs))
+    (stopped_first page new (cycles_head (length cs) (sum (map (λ x. x.length) cs))) (flat_map cycle_found_line cs) fault
+    (subst (λ (n : ℕ). Fills {A = Unit {0}} page new (cycles_head (length cs) n) (Err fault)) c.total_of.ensures c.in_err-put_cycles_head.ensures.fills)))
 
 pub returns : goal.returns
 returns c =

@@ -1,9 +1,9 @@
-use Rattle.std.proofs.Common.{◌≡◌, ℕ, List, get_or, subst}
+use Rattle.std.proofs.Common.{◌≡◌, ℕ, List, get_or, subst, Err}
 use Rattle.std.proofs.lemmas.Result.{err_from_is_err_and}
 use Rattle.surf_basis.specs.declared.cycle.Cycle.{Cycle}
 use Rattle.surf_texts.specs.CycleTexts.{cycle_line}
-use Rattle.surf_texts.specs.Fills.{Overfills}
-use Rattle.surf_texts.proofs.Filling.{overfilled}
+use Rattle.surf_texts.specs.Fills.{Fills}
+use Rattle.surf_texts.proofs.Filling.{stopped}
 use Rattle.surf_answers.specs.CycleTexts.{cycle_found_line}
 use Rattle.surf_answers.proofs.basis.put_cycles.Goals as goal
 
@@ -14,6 +14,6 @@ returns-in_err-put_cycle c =
     let fault = c.in_err-put_cycle.field-0.0 in
     let here : cycle ≡ get_or c.args.cycles.now i cycle = c.cycle-item.is in
     let p = err_from_is_err_and c.from_residual.result c.from_residual.ensures.1 in
-    rw (p.1, p.2) (overfilled c.args.page.now c.loop-cycle.page cycle_found_line c.args.cycles.now i cycle fault c.loop-cycle-test.true c.loop-cycle.invariant
-    (subst (λ (x : Cycle). Overfills c.loop-cycle.page (cycle_found_line x) fault) here
-    (subst (λ (walk : List ℕ). Overfills c.loop-cycle.page (cycle_line cycle.length walk) fault) c.vertices.ensures c.in_err-put_cycle.ensures.fills)))
+    rw (p.1, p.2) (stopped c.args.page.now c.loop-cycle.page c.put_cycle.new.page cycle_found_line c.args.cycles.now i cycle fault c.loop-cycle-test.true c.loop-cycle.invariant
+    (subst (λ (x : Cycle). Fills {A = Unit {0}} c.loop-cycle.page c.put_cycle.new.page (cycle_found_line x) (Err fault)) here
+    (subst (λ (walk : List ℕ). Fills {A = Unit {0}} c.loop-cycle.page c.put_cycle.new.page (cycle_line cycle.length walk) (Err fault)) c.vertices.ensures c.in_err-put_cycle.ensures.fills)))

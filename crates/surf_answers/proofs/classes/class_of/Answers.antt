@@ -5,8 +5,7 @@ use Rattle.surf_class.specs.Seen.{seen}
 use Rattle.surf_class.specs.Texts.{evidence_text}
 use Rattle.surf_text.specs.Pages.{PageState, Stops}
 use Rattle.surf_answers.specs.Classes.{null_word, odd_word, GivesClass}
-use Rattle.surf_answers.proofs.CutLaws.{overfills_from_stops}
-use Rattle.surf_answers.proofs.Saying.{blank, says_beyond, why_overfilled}
+use Rattle.surf_answers.proofs.Saying.{says_beyond, why_overfilled}
 use Rattle.surf_answers.proofs.classes.class_of.Goals as goal
 
 pub returns-in_err-write_evidence : goal.returns-in_err-write_evidence
@@ -22,5 +21,4 @@ returns-in_err-write_evidence c =
     c.in_err-write_evidence.ensures.puts.1) in
     rw (p.1, p.2) (why_overfilled (GivesClass c.args.mesh.now c.args.first.now other) text fault
     (λ long. record { evidence = evidence; chosen = c.in_ok-evidence.ensures.chosen; right = c.in_ok-evidence.ensures.right; says = says_beyond text long })
-    (overfills_from_stops blank text fault
-    (subst (λ (page : PageState). Stops page text fault) c.make-page.ensures.empty stops)))
+    (subst (λ (page : PageState). Stops page text fault) c.make-page.ensures.empty stops))

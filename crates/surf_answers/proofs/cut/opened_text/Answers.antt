@@ -2,8 +2,7 @@ use Rattle.std.proofs.Common.{subst}
 use Rattle.std.proofs.lemmas.Result.{err_from_is_err_and}
 use Rattle.surf_text.specs.Pages.{PageState, Stops}
 use Rattle.surf_answers.specs.Cuts.{GivesOpened, cut_text}
-use Rattle.surf_answers.proofs.CutLaws.{overfills_from_stops}
-use Rattle.surf_answers.proofs.Saying.{blank, says_beyond, why_overfilled}
+use Rattle.surf_answers.proofs.Saying.{says_beyond, why_overfilled}
 use Rattle.surf_answers.proofs.cut.opened_text.Goals as goal
 
 pub returns-in_err-put_opened : goal.returns-in_err-put_opened
@@ -15,5 +14,4 @@ returns-in_err-put_opened c =
     let p = err_from_is_err_and c.from_residual.result c.from_residual.ensures.1 in
     rw (p.1, p.2) (why_overfilled (GivesOpened parts opened) text fault
     (λ long. record { says = says_beyond text long; rereads = c.put_opened.ensures.reread })
-    (overfills_from_stops blank text fault
-    (subst (λ (page : PageState). Stops page text fault) c.make-page.ensures.empty c.in_err-put_opened.ensures.puts.1)))
+    (subst (λ (page : PageState). Stops page text fault) c.make-page.ensures.empty c.in_err-put_opened.ensures.puts.1))

@@ -1,8 +1,7 @@
 use Rattle.std.proofs.Common.{◌≡◌, ◌≤◌, ◌∙◌, ◌++◌, ℕ, length, ap, subst}
 use Rattle.std.proofs.lemmas.Result.{err_from_is_err_and}
 use Rattle.surf_base.specs.declared.limits.LimitKind.TheVariants.{Answer}
-use Rattle.surf_text.specs.Pages.{PageState}
-use Rattle.surf_texts.specs.Fills.{Overfills}
+use Rattle.surf_text.specs.Pages.{PageState, Stops}
 use Rattle.surf_answers.specs.CycleTexts.{found_text}
 use Rattle.surf_texts.specs.Limits.{beyond}
 use Rattle.surf_texts.specs.Outcome.{answers}
@@ -21,7 +20,7 @@ returns-in_err-put_found c =
     let p = err_from_is_err_and c.from_residual-in_err-put_found.result c.from_residual-in_err-put_found.ensures.1 in
     rw (p.1, p.2) (why_overfilled (GivesCycle mesh lengths) (found_text found) fault
     (λ long. gives_cycle mesh lengths c.law_of_surface.ensures.surface c.law_of_lengths.ensures.lengths c.requires.lengths found e.first e.shortest e.separate (beyond Answer) (says_beyond (found_text found) long))
-    (subst (λ (page : PageState). Overfills page (found_text found) fault) c.make-page.ensures.empty c.in_err-put_found.ensures))
+    (subst (λ (page : PageState). Stops page (found_text found) fault) c.make-page.ensures.empty c.in_err-put_found.ensures.1))
 
 pub returns : goal.returns
 returns c =

@@ -1,9 +1,8 @@
 use Rattle.std.proofs.Common.{◌≡◌, ◌≤◌, ◌∙◌, ◌++◌, ℕ, List, length, ap, subst}
 use Rattle.std.proofs.lemmas.Result.{err_from_is_err_and}
-use Rattle.surf_text.specs.Pages.{PageState}
+use Rattle.surf_text.specs.Pages.{PageState, Stops}
 use Rattle.surf_tree.specs.Tables.{tree_of}
 use Rattle.surf_texts.specs.DistanceTexts.{distances_text}
-use Rattle.surf_texts.specs.Fills.{Overfills}
 use Rattle.surf_texts.specs.TreeTexts.{tables_text}
 use Rattle.surf_texts.proofs.TreeTextLaws.{tables_are_texts}
 use Rattle.surf_answers.specs.Distances.{GivesDistances}
@@ -21,8 +20,8 @@ returns-in_err-put_distances c =
     let p = err_from_is_err_and c.from_residual-in_err-put_distances.result c.from_residual-in_err-put_distances.ensures.1 in
     rw (p.1, p.2) (why_overfilled (GivesDistances mesh c.args.lengths.now c.args.base) text fault
     (λ long. record { tree = tree_of t; shortest = c.grow.ensures.grown.shortest; says = says_beyond text long })
-    (subst (λ (xs : List ℕ). Overfills blank xs fault) same
-    (subst (λ (page : PageState). Overfills page (tables_text t c.vertices.result) fault) c.make-page.ensures.empty c.in_err-put_distances.ensures)))
+    (subst (λ (xs : List ℕ). Stops blank xs fault) same
+    (subst (λ (page : PageState). Stops page (tables_text t c.vertices.result) fault) c.make-page.ensures.empty c.in_err-put_distances.ensures.1)))
 
 pub returns : goal.returns
 returns c =

@@ -2,8 +2,7 @@ use Rattle.std.proofs.Common.{◌≡◌, ◌≤◌, ◌∙◌, ◌++◌, ℕ, Li
 use Rattle.std.proofs.lemmas.Result.{err_from_is_err_and}
 use Rattle.surf_surfaces.specs.Choice.{loops_at}
 use Rattle.surf_loops.specs.Loops.{trees_of}
-use Rattle.surf_text.specs.Pages.{PageState}
-use Rattle.surf_texts.specs.Fills.{Overfills}
+use Rattle.surf_text.specs.Pages.{PageState, Stops}
 use Rattle.surf_texts.specs.LoopTexts.{loops_text}
 use Rattle.surf_answers.specs.HeadTexts.{heads_text}
 use Rattle.surf_answers.specs.LeastLoops.{GivesLoops}
@@ -24,8 +23,8 @@ returns-in_err-put_answer c =
     let p = err_from_is_err_and c.from_residual-in_err-put_answer.result c.from_residual-in_err-put_answer.ensures.1 in
     rw (p.1, p.2) (why_overfilled (GivesLoops mesh lengths c.args.base) text fault
     (λ long. record { found = record { trees = trees_of t; chosen = c.greedy.ensures.greedy.chosen; least = c.greedy.ensures.greedy.least }; says = says_beyond text long })
-    (subst (λ (xs : List ℕ). Overfills blank xs fault) (heads_are_loops mesh lengths c.args.base t c.greedy.ensures.greedy)
-    (subst (λ (page : PageState). Overfills page (heads_text mesh t) fault) c.make-page.ensures.empty c.in_err-put_answer.ensures)))
+    (subst (λ (xs : List ℕ). Stops blank xs fault) (heads_are_loops mesh lengths c.args.base t c.greedy.ensures.greedy)
+    (subst (λ (page : PageState). Stops page (heads_text mesh t) fault) c.make-page.ensures.empty c.in_err-put_answer.ensures.1)))
 
 pub returns : goal.returns
 returns c =

@@ -1,10 +1,10 @@
-use Rattle.std.proofs.Common.{◌≡◌, List, subst}
+use Rattle.std.proofs.Common.{◌≡◌, List, subst, Err}
 use Rattle.std.specs.List.{flat_map}
 use Rattle.std.proofs.lemmas.Result.{err_from_is_err_and}
 use Rattle.surf_loops.specs.declared.head.LoopHead.{LoopHead}
 use Rattle.surf_text.specs.Pages.{grown}
-use Rattle.surf_texts.specs.Fills.{Overfills}
-use Rattle.surf_texts.proofs.Filling.{overfilled_first, fills_both}
+use Rattle.surf_texts.specs.Fills.{Fills}
+use Rattle.surf_texts.proofs.Filling.{stopped_first, fills_both}
 use Rattle.surf_answers.specs.HeadTexts.{head_line, loop_heads_text}
 use Rattle.surf_answers.proofs.loops.put_answer.Goals as goal
 
@@ -12,8 +12,8 @@ pub returns-in_err-put_head : goal.returns-in_err-put_head
 returns-in_err-put_head c =
     let fault = c.in_err-put_head.field-0.0 in
     let p = err_from_is_err_and c.from_residual.result c.from_residual.ensures.1 in
-    rw (p.1, p.2) (overfilled_first c.args.page.now (loop_heads_text c.args.desk.now.heads) (flat_map (head_line c.args.mesh.now c.args.desk.now.tree) c.args.desk.now.heads) fault
-    (subst (λ (hs : List LoopHead). Overfills c.args.page.now (loop_heads_text hs) fault) c.heads.ensures.heads c.in_err-put_head.ensures))
+    rw (p.1, p.2) (stopped_first c.args.page.now c.put_head.new.page (loop_heads_text c.args.desk.now.heads) (flat_map (head_line c.args.mesh.now c.args.desk.now.tree) c.args.desk.now.heads) fault
+    (subst (λ (hs : List LoopHead). Fills {A = Unit {0}} c.args.page.now c.put_head.new.page (loop_heads_text hs) (Err fault)) c.heads.ensures.heads c.in_err-put_head.ensures))
 
 pub returns : goal.returns
 returns c =

@@ -4,8 +4,7 @@ use Rattle.surf_surfaces.specs.Surface.{edge_count}
 use Rattle.surf_text.specs.Pages.{PageState, Stops}
 use Rattle.surf_off.specs.Written.{soup_text, RereadsSoup}
 use Rattle.surf_answers.specs.Making.{GivesMesh}
-use Rattle.surf_answers.proofs.CutLaws.{overfills_from_stops}
-use Rattle.surf_answers.proofs.Saying.{blank, says_beyond, why_overfilled}
+use Rattle.surf_answers.proofs.Saying.{says_beyond, why_overfilled}
 use Rattle.surf_answers.proofs.meshes.made_of.Goals as goal
 
 pub returns-in_err-write_soup : goal.returns-in_err-write_soup
@@ -19,5 +18,4 @@ returns-in_err-write_soup c =
     let again : RereadsSoup mesh (edge_count mesh) =
     subst (λ e. RereadsSoup mesh e) c.edges_of.ensures.edges (c.write_soup.ensures.reread c.edges_of.ensures.few) in
     rw (p.1, p.2) (why_overfilled (GivesMesh mesh) text fault (λ long. record { says = says_beyond text long; rereads = again })
-    (overfills_from_stops blank text fault
-    (subst (λ (page : PageState). Stops page text fault) c.make-page.ensures.empty stops)))
+    (subst (λ (page : PageState). Stops page text fault) c.make-page.ensures.empty stops))
