@@ -5,6 +5,8 @@ pub mod Sifted
 pub mod Changed
 pub mod Climbed
 pub mod Looped
+pub mod Merged
+pub mod Places
 pub mod Kept
 pub mod First
 pub mod Leading
