@@ -72,12 +72,12 @@ module _ (mesh : Mesh) (lengths : List ℕ) (surface : IsSurface mesh) (positive
       subst (λ ys. IsChosenBasis mesh lengths trees (as_loops ys)) (sym none) (empty_basis mesh lengths trees surface positive chosen full)
 
   module _ (s : CotreeTables) (width : ℕ) (signed : AreSigned mesh s width) where
-    pub all_inside : (found : List Signed) (bases : List ℕ) (kept list : List Signed) →
-        AreKeptOver mesh lengths s found bases (length bases) kept → list ≡ kept → All (λ c. IsInside mesh c.candidate) list
-    all_inside found bases kept list k same =
+    pub all_inside : (found : List Signed) (bases : List ℕ) (done : ℕ) (kept list : List Signed) →
+        AreKeptOver mesh lengths s found bases done kept → list ≡ kept → All (λ c. IsInside mesh c.candidate) list
+    all_inside found bases done kept list k same =
         let (trees, chosen) = choice_exists mesh lengths surface positive in
         let inside : All (λ c. IsInside mesh c.candidate) kept =
-        kept_inside mesh lengths trees surface positive chosen signed.split signed.is_split found bases (length bases) kept (k trees chosen signed.split signed.is_split signed.signatures) in
+        kept_inside mesh lengths trees surface positive chosen signed.split signed.is_split found bases done kept (k trees chosen signed.split signed.is_split signed.signatures) in
         subst (All (λ c. IsInside mesh c.candidate)) (sym same) inside
 
     pub the_basis : (found : List Signed) (bases : List ℕ) (kept list : List Signed) (cycles : List Cycle) → HasBases bases found →

@@ -82,6 +82,15 @@ pub record IsCycleOf (mesh : Mesh) (lengths : List ℕ) (c : Candidate) (cycle :
   pub walk : (trees : Trees) → AreChosenAt mesh lengths c.base trees →
       IsTrue (is_left mesh trees.tree trees.cotree c.edge) → cycle.walk ≡ loop_walk mesh trees.tree c.edge
 
+-- the walk of a cycle is that of the loop of its edge at its base, whichever trees show the choice there
+abbrev pub IsWalked : Mesh → List ℕ → Cycle → Type 0
+IsWalked mesh lengths cycle = (trees : Trees) → AreChosenAt mesh lengths cycle.base trees →
+    IsTrue (is_left mesh trees.tree trees.cotree cycle.edge) → cycle.walk ≡ loop_walk mesh trees.tree cycle.edge
+
+-- a cycle has the length, the base and the edge of a candidate
+abbrev pub is_cycle_of : Candidate → Cycle → Bool
+is_cycle_of c cycle = (cycle.length == c.length) && ((cycle.base == c.base) && (cycle.edge == c.edge))
+
 -- each cycle is that of the candidate at its place
 abbrev pub AreCyclesOf : Mesh → List ℕ → List Signed → List Cycle → Type 0
 AreCyclesOf mesh lengths [] [] = Unit {0}

@@ -7,7 +7,7 @@ ghost use Rattle.surf_surfaces.specs.FewBases.{AreBases};
 ghost use Rattle.surf_surfaces.specs.ChoiceLaws.{LeastSimpleBasis};
 ghost use Rattle.surf_loops.specs.Loops.{AreLoopTables};
 ghost use Rattle.surf_basis.specs.Cycles.{first_of, IsFirstCandidate, IsShortestCycle, IsTheBasis, as_loops};
-ghost use Rattle.surf_basis.specs.Candidates.{signed_head, signed_heads};
+ghost use Rattle.surf_basis.specs.Candidates.{signed_head, signed_heads, IsWalked};
 ghost use Rattle.surf_basis.specs.Kept.{AreKeptOver};
 ghost use Rattle.surf_basis.specs.Marks.{HasBases};
 ghost use Rattle.surf_basis.specs.Places.{has_length};
@@ -21,7 +21,7 @@ use crate::placing::{has_length, list_lengths};
 use crate::searching::{bases_of, sufficient_loops};
 use crate::signing::{loop_signature, signed_cotree};
 use crate::surface::Surface;
-use crate::walking::cycles_of;
+use crate::walking::{cycles_of, walk_kept};
 use std::alloc::Global;
 use surf_base::{NoMemory, VertexId};
 use surf_cotree::CotreeDesk;
@@ -75,7 +75,8 @@ fn signed_loops(
     Ok(())
 }
 
-// Makes the choice from those loops at the bases of some candidates that have their lengths.
+// Makes the choice from those loops at the bases of some candidates that have their lengths, and
+// gives cycles of it, each walked while the desk had its tree.
 fn choose(
     alloc: Global,
     surface: &Surface<'_>,
@@ -83,7 +84,7 @@ fn choose(
     bases: &[VertexId],
     desk: &mut LoopDesk,
     choice: &mut Choice,
-) -> Result<(), NoMemory>
+) -> Result<Vec<Cycle>, NoMemory>
     requires made { AreLoopTables surface.now.mesh.now desk.old }
     requires lengths { length surface.now.lengths.now ≡ edge_count surface.now.mesh.now }
     requires signed { AreSigned surface.now.mesh.now surface.now.signatures.now choice.old.width }
@@ -93,18 +94,23 @@ fn choose(
     ensures kept { OnOk result (AreKeptOver surface.now.mesh.now surface.now.lengths.now
         surface.now.signatures.now found.now bases.now (length bases.now) choice.new.kept) }
     ensures made { AreLoopTables surface.now.mesh.now desk.new }
+    ensures walked { IfOk result (λ walked. All (IsWalked surface.now.mesh.now
+        surface.now.lengths.now) walked.items) }
 {
     surface.mesh.law_of_surface();
     surface.lengths.law_of_lengths();
     let mut lengths = Vec::new(alloc);
     let mut loops = Vec::new(alloc);
+    let mut walked = Vec::with_capacity(alloc, found.len())?;
     for base in bases {
         desk.greedy(surface.mesh, surface.lengths, *base);
         list_lengths(found, *base, &mut lengths)?;
         signed_loops(surface.mesh, surface.signatures, desk, &lengths, &mut loops)?;
         choice.keep(&loops)?;
+        let room = found.len();
+        walk_kept(alloc, surface, desk, choice.kept(), room, &mut walked)?;
     }
-    Ok(())
+    Ok(walked)
 }
 
 // The basis that is chosen, on a surface with signatures, where as many cycles as given make it.
@@ -123,14 +129,8 @@ fn basis_over(alloc: Global, surface: &Surface<'_>, count: usize) -> Result<Vec<
     let bases = bases_of(alloc, surface.mesh, found)?;
     let mut desk = LoopDesk::make(alloc, surface.mesh)?;
     let mut choice = Choice::make(alloc, count as u32)?;
-    choose(alloc, surface, found, &bases, &mut desk, &mut choice)?;
-    cycles_of(
-        alloc,
-        surface.mesh,
-        surface.lengths,
-        &mut desk,
-        choice.kept(),
-    )
+    let mut walked = choose(alloc, surface, found, &bases, &mut desk, &mut choice)?;
+    cycles_of(alloc, surface, &mut desk, choice.kept(), &mut walked)
 }
 
 /// The basis that is chosen: two less the characteristic independent closed walks, each a simple

@@ -1,4 +1,4 @@
-use Rattle.std.proofs.Common.{◌≡◌, ◌<◌, ℕ, List, All, sym, ap, subst}
+use Rattle.std.proofs.Common.{◌≡◌, ◌<◌, ℕ, List, length, All, sym, ap, subst}
 use Rattle.std.proofs.lemmas.Result.{IfOk-weaker}
 use Rattle.surf_lengths.proofs.Positive.{lengths_positive}
 use Rattle.surf_surfaces.specs.FewBases.{AreBases}
@@ -32,7 +32,7 @@ cycles_of-requires-clause-inside c =
     let lengths = c.args.surface.now.lengths.now in
     let positive = lengths_positive mesh lengths c.law_of_lengths.ensures.lengths c.requires.lengths in
     all_inside mesh lengths c.law_of_surface.ensures.surface positive c.args.surface.now.signatures.now c.args.count c.requires.signed c.kept-found.result.now
-    c.deref.result.now c.choose.new.choice.kept c.kept.result.now c.in_ok-choose.ensures.kept c.kept.ensures.kept
+    c.deref.result.now (length c.deref.result.now) c.choose.new.choice.kept c.kept.result.now c.in_ok-walked.ensures.kept c.kept.ensures.kept
 
 pub returns : goal.returns
 returns c =
@@ -47,6 +47,6 @@ returns c =
     record {
       chosen = IfOk-weaker c.cycles_of.result (λ cycles. AreCyclesOf mesh lengths kept cycles.items) (λ cycles. IsTheBasis mesh lengths (as_loops cycles.items))
           (λ cycles are. the_basis mesh lengths surface positive c.args.surface.now.signatures.now c.args.count c.requires.signed found c.deref.result.now
-          c.choose.new.choice.kept kept cycles.items has have c.in_ok-choose.ensures.kept c.kept.ensures.kept are)
+          c.choose.new.choice.kept kept cycles.items has have c.in_ok-walked.ensures.kept c.kept.ensures.kept are)
           c.cycles_of.ensures.cycles;
     }
