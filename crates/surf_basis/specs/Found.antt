@@ -112,12 +112,16 @@ pub record IsLinkOf (mesh : Mesh) (v : ℕ) (link : Link) : Type 0 where
   pub ends_are : ((v < link.to) × (ends mesh link.edge ≡ (v, link.to)))
       ⊎ ((link.to < v) × (ends mesh link.edge ≡ (link.to, v)))
 
+-- for each edge whether its signature is empty
+abbrev pub plain_edges : CotreeTables → List Bool
+plain_edges s = map (λ n. n == 0) s.signatures
+
 -- a link leads to a greater vertex that was reached too, and the two differ in class by their numbers or the edge has a
 -- signature
 abbrev pub may_matter : Search → ℕ → Link → Bool
 may_matter x v link =
-    nat_lt v link.to && (is_near x.near link.to && not ((slice_index x.ways.numbers v == slice_index x.ways.numbers link.to)
-    && (slice_index x.signs.signatures link.edge == 0)))
+    nat_lt v link.to && (not ((slice_index x.ways.numbers v == slice_index x.ways.numbers link.to)
+    && (slice_index x.signs.signatures link.edge == 0)) && is_near x.near link.to)
 
 -- a candidate is what is told of an edge whose loop is wanted
 pub record IsTold (x : Search) (limit : Option Candidate) (c : Signed) : Type 0 where
