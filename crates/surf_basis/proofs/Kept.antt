@@ -1,31 +1,41 @@
 -- What is kept base by base is the basis that is chosen.
-use Rattle.std.proofs.Common.{◌≡◌, ℕ, ◌<◌, ◌≤◌, Bool, true, false, cond, List, [], ◌∷◌, ◌++◌, ◌+◌, length, get_or, take, All, refl, sym, ap, ◌∙◌, subst, arith, slice_index, add-one}
+use Rattle.std.proofs.Common.{◌≡◌, ℕ, suc, ◌<◌, ◌≤◌, ◌-◌, Bool, true, false, cond, List, [], ◌∷◌, ◌++◌, ◌+◌, length, filter, get_or, take, All, refl, sym, ap, ◌∙◌, subst, arith, inl, inr, slice_index}
 use Rattle.std.specs.List.{AllByRecursion}
+use Rattle.std.proofs.lemmas.Bool.{cases_lt}
 use Rattle.std.proofs.lemmas.List.{take_more, take_all}
 use Rattle.std.proofs.lemmas.List.Elements.{recursion_from_All, All-from_recursion}
 use Rattle.surf_z2.specs.Greedy.{greedy, greedy_after, spans}
 use Rattle.surf_z2.specs.Order.{merge, merge_from}
 use Rattle.surf_z2.specs.Space.{numbers, is_nothing}
+use Rattle.surf_z2.proofs.Greedy.{two_step_law}
+use Rattle.surf_z2.proofs.Merge.{order_from_sorted}
+use Rattle.surf_z2.proofs.Numbers.{Decides-is_nothing}
+use Rattle.surf_z2.proofs.Passing.{all_filtered, greedy_filtered}
 use Rattle.surf_graphs.specs.Cells.{Split, IsSplit}
 use Rattle.surf_surfaces.specs.Mesh.{Mesh}
 use Rattle.surf_surfaces.specs.Surface.{IsSurface}
-use Rattle.surf_surfaces.specs.Walk.{IsClosed, ArePositive}
+use Rattle.surf_surfaces.specs.Walk.{ArePositive}
 use Rattle.surf_surfaces.specs.Cells.{cells_of}
 use Rattle.surf_surfaces.specs.Class.{class_of}
-use Rattle.surf_surfaces.specs.Choice.{Trees, AreChosen, Loop, comes_before, loops_at, IsGreedyChoice, IsChosenBasis}
-use Rattle.surf_surfaces.specs.FewBases.{AreBases, none_of_them, one_of_them}
-use Rattle.surf_surfaces.proofs.LeastLaws.{all_each, all_mapped}
-use Rattle.surf_surfaces.proofs.GreedyChoiceLaws.{AreClosed, greedy_is_choice}
-use Rattle.surf_surfaces.proofs.BasisLaws.{runs, basis_is_one}
-use Rattle.surf_surfaces.proofs.SomeBasesLaws.{basis_is_kept_over}
+use Rattle.surf_surfaces.specs.Choice.{Trees, AreChosen, Loop, comes_before, loops_at, candidates, IsChosenBasis}
+use Rattle.surf_surfaces.specs.FewBases.{AreBases}
+use Rattle.surf_surfaces.proofs.LeastLaws.{all_each}
+use Rattle.surf_surfaces.proofs.GreedyChoiceLaws.{greedy_is_choice}
+use Rattle.surf_surfaces.proofs.BasisLaws.{below_closed}
+use Rattle.surf_surfaces.proofs.LoopsAtLaws.{comes_before-trans}
+use Rattle.surf_tree.specs.Tables.{TreeTables}
 use Rattle.surf_loops.specs.Loops.{LoopTables, IsGreedy}
+use Rattle.surf_loops.specs.declared.head.LoopHead.{LoopHead}
 use Rattle.surf_basis.specs.declared.candidate.Signed.{Signed}
 use Rattle.surf_basis.specs.declared.cycle.Cycle.{Cycle}
-use Rattle.surf_basis.specs.Candidates.{signed_earlier, independent_of, loop_in, loops_in, signed_heads, IsSigned, AreKept, IsInside, IsCycleOf, AreCyclesOf}
+use Rattle.surf_basis.specs.Candidates.{signed_earlier, independent_of, candidate_of, loop_in, loops_in, signed_head, signed_heads, IsSigned, IsInside, IsCycleOf, AreCyclesOf}
 use Rattle.surf_basis.specs.Cycles.{as_loop, as_loops}
-use Rattle.surf_basis.specs.Found.{HaveBasesOfBasis}
+use Rattle.surf_basis.specs.Kept.{HavePlacesOfBasis, placed_below, AreKept}
+use Rattle.surf_basis.specs.Marks.{HasBases}
+use Rattle.surf_basis.specs.Places.{lengths_at, has_length}
 use Rattle.surf_basis.proofs.Sifted.{all_merged, all_kept}
-use Rattle.surf_basis.proofs.Looped.{offered_loops, offered_signed, signed_loop}
+use Rattle.surf_basis.proofs.Looped.{offered_loops, offered_signed}
+use Rattle.surf_basis.proofs.Places.{is_placed_loop, no_lengths, placed_more, placed_past, placed-sorted}
 
 -- merged candidates as loops
 module _ (mesh : Mesh) (trees : ℕ → Trees) where
@@ -80,75 +90,136 @@ module _ (mesh : Mesh) (trees : ℕ → Trees) where
         split true h k = h
         split false h k = ap (λ xs. loop_in mesh trees c.candidate ∷ xs) k
 
+-- the heads whose lengths are those of candidates at the base have their places
+placed_heads : (mesh : Mesh) (trees : ℕ → Trees) (d : Split) (found : List Signed) (t : TreeTables) (hs : List LoopHead) →
+    loops_in mesh trees (filter (λ (s : Signed). has_length (lengths_at found t.base) s.candidate.length) (signed_heads mesh d t hs))
+    ≡ filter (is_placed_loop found) (loops_in mesh trees (signed_heads mesh d t hs))
+placed_heads mesh trees d found t [] = refl
+placed_heads mesh trees d found t (h ∷ hs) = split (has_length (lengths_at found t.base) h.length) (placed_heads mesh trees d found t hs)
+  where
+    split : (b : Bool) →
+        loops_in mesh trees (filter (λ (s : Signed). has_length (lengths_at found t.base) s.candidate.length) (signed_heads mesh d t hs))
+        ≡ filter (is_placed_loop found) (loops_in mesh trees (signed_heads mesh d t hs)) →
+        loops_in mesh trees (cond b (signed_head mesh d t h ∷ filter (λ (s : Signed). has_length (lengths_at found t.base) s.candidate.length) (signed_heads mesh d t hs))
+        (filter (λ (s : Signed). has_length (lengths_at found t.base) s.candidate.length) (signed_heads mesh d t hs)))
+        ≡ cond b (loop_in mesh trees (candidate_of t h) ∷ filter (is_placed_loop found) (loops_in mesh trees (signed_heads mesh d t hs)))
+        (filter (is_placed_loop found) (loops_in mesh trees (signed_heads mesh d t hs)))
+    split true r = ap (λ xs. loop_in mesh trees (candidate_of t h) ∷ xs) r
+    split false r = r
+
+-- a vertex between two bases, or after the last, is no base
+between : (bases : List ℕ) (done below x : ℕ) → ((k : ℕ) → k < done → slice_index bases k < below) → below ≤ x →
+    ((k : ℕ) → done ≤ k → k < length bases → x < slice_index bases k) → (k : ℕ) → k < length bases → slice_index bases k ≡ x → ⊥
+between bases done below x past from ahead k l is = elim (cases_lt k done) [
+  | inl less ↦ let before = past k less in omega (arith, before, is)
+  | inr more ↦ let after = ahead k (omega arith) l in omega (arith, after, is)
+]
+
 module _ (mesh : Mesh) (lengths : List ℕ) (trees : ℕ → Trees) (surface : IsSurface mesh)
     (positive : ArePositive mesh lengths) (chosen : AreChosen mesh lengths trees) (d : Split)
-    (split : IsSplit (cells_of mesh) d) where
+    (split : IsSplit (cells_of mesh) d) (found : List Signed) where
   -- nothing is kept before the first base
-  pub none_kept : (bases : List ℕ) (kept : List Signed) → kept ≡ [] → AreKept mesh lengths trees d bases 0 kept
-  none_kept bases kept is = subst (AreKept mesh lengths trees d bases 0) (sym is)
-      (record { by_bases = none_of_them; signed = λ k c l. absurd (omega arith) })
+  pub none_kept : (bases : List ℕ) (kept : List Signed) → kept ≡ [] → AreKept mesh lengths trees d found bases 0 kept
+  none_kept bases kept is = subst (AreKept mesh lengths trees d found bases 0) (sym is) (record {
+    below = 0;
+    below_in = omega arith;
+    past = λ k l. absurd (omega arith);
+    ahead = λ k from l. omega arith;
+    choice = refl;
+    signed = λ k c l. absurd (omega arith);
+  })
 
-  all_closed : (cs : List Signed) → AllByRecursion (IsSigned mesh lengths trees d) cs → AreClosed mesh (loops_in mesh trees cs)
-  all_closed cs h = all_mapped (λ c. IsClosed mesh c.walk) (λ c. loop_in mesh trees c.candidate) cs
-      (all_each (IsSigned mesh lengths trees d) (λ c. IsClosed mesh (loop_in mesh trees c.candidate).walk) cs
-      (λ c s. (runs mesh lengths trees surface positive chosen mesh.vertices (omega arith) (loop_in mesh trees c.candidate)
-      (signed_loop mesh lengths trees surface positive chosen d c s)).0) h)
+  -- no loop at the vertices from a number to another one has a place that was found
+  placed_to : (n m : ℕ) → n ≤ m → ((x : ℕ) → n ≤ x → x < m → lengths_at found x ≡ []) →
+      placed_below mesh lengths trees found m ≡ placed_below mesh lengths trees found n
+  placed_to n m le none =
+      let same : m ≡ n + (m - n) = omega arith in
+      ap (placed_below mesh lengths trees found) same
+      ∙ placed_past mesh lengths trees found (m - n) n (λ x from to. none x from (omega arith))
 
-  -- what is kept and the loops at one more base, merged
+  -- the loops of a base that are offered
+  abbrev offered : ℕ → LoopTables → List Signed
+  offered base t = filter (λ (s : Signed). has_length (lengths_at found base) s.candidate.length) (signed_heads mesh d t.tree t.heads)
+
+  offered_placed : (base : ℕ) (t : LoopTables) → base < mesh.vertices → IsGreedy mesh lengths base t →
+      loops_in mesh trees (offered base t) ≡ filter (is_placed_loop found) (loops_at mesh lengths base (trees base))
+  offered_placed base t l g =
+      ap (λ b. loops_in mesh trees (offered b t)) (sym g.tree.base_is) ∙ placed_heads mesh trees d found t.tree t.heads
+      ∙ ap (filter (is_placed_loop found)) (sym (offered_loops mesh lengths trees surface positive chosen d base t l g))
+
+  -- what is kept and the loops that are offered, merged
   merged_signed : (base : ℕ) (t : LoopTables) (kept : List Signed) → base < mesh.vertices → IsGreedy mesh lengths base t →
       All (IsSigned mesh lengths trees d) kept →
-      All (IsSigned mesh lengths trees d) (merge signed_earlier kept (signed_heads mesh d t.tree t.heads))
+      All (IsSigned mesh lengths trees d) (merge signed_earlier kept (offered base t))
   merged_signed base t kept l g k =
-      all_merged signed_earlier (IsSigned mesh lengths trees d) kept (signed_heads mesh d t.tree t.heads) k
-      (All-from_recursion (IsSigned mesh lengths trees d) (signed_heads mesh d t.tree t.heads)
-      (offered_signed mesh lengths trees surface positive chosen d base t l g))
-
-  merged_with : (base : ℕ) (t : LoopTables) (kept : List Signed) → base < mesh.vertices → IsGreedy mesh lengths base t →
-      merge comes_before (loops_in mesh trees kept) (loops_at mesh lengths base (trees base))
-      ≡ loops_in mesh trees (merge signed_earlier kept (signed_heads mesh d t.tree t.heads))
-  merged_with base t kept l g =
-      ap (merge comes_before (loops_in mesh trees kept)) (offered_loops mesh lengths trees surface positive chosen d base t l g)
-      ∙ merged_loops mesh trees kept (signed_heads mesh d t.tree t.heads)
+      all_merged signed_earlier (IsSigned mesh lengths trees d) kept (offered base t) k
+      (All-from_recursion (IsSigned mesh lengths trees d) (offered base t)
+      (all_filtered (λ (s : Signed). has_length (lengths_at found base) s.candidate.length) (IsSigned mesh lengths trees d)
+      (signed_heads mesh d t.tree t.heads) (offered_signed mesh lengths trees surface positive chosen d base t l g)))
 
   -- the choice among them
-  next_choice : (base : ℕ) (t : LoopTables) (kept : List Signed) (next : List Loop) → base < mesh.vertices →
-      IsGreedy mesh lengths base t → All (IsSigned mesh lengths trees d) kept →
-      greedy numbers is_nothing (λ (c : Loop). class_of mesh d c.walk)
-      (merge comes_before (loops_in mesh trees kept) (loops_at mesh lengths base (trees base))) ≡ next →
-      IsGreedyChoice mesh (merge comes_before (loops_in mesh trees kept) (loops_at mesh lengths base (trees base))) next
-  next_choice base t kept next l g k is =
-      let merged = merge signed_earlier kept (signed_heads mesh d t.tree t.heads) in
-      let Right = IsSigned mesh lengths trees d in
-      let closed = all_closed merged (recursion_from_All Right merged (merged_signed base t kept l g k)) in
-      let loops = merge comes_before (loops_in mesh trees kept) (loops_at mesh lengths base (trees base)) in
-      subst (IsGreedyChoice mesh loops) is
-      (greedy_is_choice mesh d surface split loops (subst (AreClosed mesh) (sym (merged_with base t kept l g)) closed))
+  next_choice : (below base : ℕ) (t : LoopTables) (kept : List Signed) → base < mesh.vertices → IsGreedy mesh lengths base t →
+      loops_in mesh trees kept
+      ≡ greedy numbers is_nothing (λ (c : Loop). class_of mesh d c.walk) (placed_below mesh lengths trees found below) →
+      placed_below mesh lengths trees found base ≡ placed_below mesh lengths trees found below →
+      greedy numbers is_nothing (λ (c : Loop). class_of mesh d c.walk) (loops_in mesh trees (merge signed_earlier kept (offered base t)))
+      ≡ greedy numbers is_nothing (λ (c : Loop). class_of mesh d c.walk) (placed_below mesh lengths trees found (suc base))
+  next_choice below base t kept l g choice same =
+      let class : Loop → ℕ = λ c. class_of mesh d c.walk in
+      let now = placed_below mesh lengths trees found base in
+      let at = filter (is_placed_loop found) (loops_at mesh lengths base (trees base)) in
+      ap (greedy numbers is_nothing class) (sym (merged_loops mesh trees kept (offered base t))
+      ∙ ap (merge comes_before (loops_in mesh trees kept)) (offered_placed base t l g)
+      ∙ ap (λ ks. merge comes_before ks at) (choice ∙ ap (greedy numbers is_nothing class) (sym same)))
+      ∙ two_step_law numbers is_nothing Decides-is_nothing class comes_before comes_before-trans now at
+      (order_from_sorted comes_before now (placed-sorted mesh lengths trees found base))
+      ∙ ap (greedy numbers is_nothing class) (sym (placed_more mesh lengths trees found base))
 
   -- the loops at one more base
-  pub kept_more : (bases : List ℕ) (done base : ℕ) (t : LoopTables) (kept next : List Signed) → base < mesh.vertices →
-      done < length bases → slice_index bases done ≡ base → IsGreedy mesh lengths base t →
-      AreKept mesh lengths trees d bases done kept →
-      next ≡ independent_of (merge signed_earlier kept (signed_heads mesh d t.tree t.heads)) →
-      AreKept mesh lengths trees d bases (done + 1) next
-  kept_more bases done base t kept next l below at g k is =
-      let merged = merge signed_earlier kept (signed_heads mesh d t.tree t.heads) in
+  pub kept_more : (bases : List ℕ) (done base : ℕ) (t : LoopTables) (kept next : List Signed) → AreBases mesh bases →
+      HasBases bases found → done < length bases → slice_index bases done ≡ base → IsGreedy mesh lengths base t →
+      AreKept mesh lengths trees d found bases done kept →
+      next ≡ independent_of (merge signed_earlier kept (offered base t)) →
+      AreKept mesh lengths trees d found bases (done + 1) next
+  kept_more bases done base t kept next are has l at g k is =
+      let merged = merge signed_earlier kept (offered base t) in
       let Right = IsSigned mesh lengths trees d in
-      let right = merged_signed base t kept l g k.signed in
-      let same : greedy numbers is_nothing (λ (c : Loop). class_of mesh d c.walk)
-      (merge comes_before (loops_in mesh trees kept) (loops_at mesh lengths base (trees base))) ≡ loops_in mesh trees next =
-      ap (greedy numbers is_nothing (λ (c : Loop). class_of mesh d c.walk)) (merged_with base t kept l g)
-      ∙ kept_after mesh trees d [] merged
-      (all_each Right (λ c. c.signature ≡ class_of mesh d (loop_in mesh trees c.candidate).walk) merged (λ c s. s.signature)
-      (recursion_from_All Right merged right))
-      ∙ ap (loops_in mesh trees) (sym is) in
-      subst (λ n. AreKept mesh lengths trees d bases n next) (sym (add-one done)) (record {
-        by_bases = one_of_them k.by_bases below
-            (subst (λ b. IsGreedyChoice mesh (merge comes_before (loops_in mesh trees kept) (loops_at mesh lengths b (trees b))) (loops_in mesh trees next))
-            (sym at) (next_choice base t kept (loops_in mesh trees next) l g k.signed same));
+      let inside = are.inside done l in
+      let base_in : base < mesh.vertices = omega (arith, at, inside) in
+      let reached = k.ahead done (omega arith) l in
+      let from : k.below ≤ base = omega (arith, at, reached) in
+      let right = merged_signed base t kept base_in g k.signed in
+      let later : (j : ℕ) → done < j → j < length bases → base < slice_index bases j = λ j after to.
+      (let rise = are.rise done j after to in omega (arith, rise, at)) in
+      let none : (x : ℕ) → k.below ≤ x → x < base → lengths_at found x ≡ [] = λ x low high.
+      no_lengths bases found x has (between bases done k.below x k.past low (λ j after to. elim (cases_lt done j) [
+        | inl less ↦ let far = later j less to in omega (arith, far, high)
+        | inr not ↦ let same : done ≡ j = omega arith in let here = ap (slice_index bases) same in omega (arith, here, at, high)
+      ])) in
+      record {
+        below = suc base;
+        below_in = omega (arith, base_in);
+        past = λ j to. elim (cases_lt j done) [
+          | inl less ↦ let before = k.past j less in omega (arith, before, from)
+          | inr not ↦ let same : j ≡ done = omega arith in let here = ap (slice_index bases) same in omega (arith, here, at)
+        ];
+        ahead = λ j after to. (let far = later j (omega arith) to in omega (arith, far));
+        choice =
+            ap (loops_in mesh trees) is
+            ∙ sym (kept_after mesh trees d [] merged
+            (all_each Right (λ c. c.signature ≡ class_of mesh d (loop_in mesh trees c.candidate).walk) merged (λ c s. s.signature)
+            (recursion_from_All Right merged right)))
+            ∙ next_choice k.below base t kept base_in g k.choice (placed_to k.below base from none);
         signed = subst (All Right) (sym is) (all_kept Right merged right);
-      })
+      }
 
-  -- and their cycles are its loops
+  -- the basis
+  basis_chosen : IsChosenBasis mesh lengths trees
+      (greedy numbers is_nothing (λ (c : Loop). class_of mesh d c.walk) (candidates mesh lengths trees))
+  basis_chosen = greedy_is_choice mesh d surface split (candidates mesh lengths trees)
+      (below_closed mesh lengths trees surface positive chosen mesh.vertices (omega arith))
+
+  -- the cycles of what is kept are its loops
   cycle_loop : (c : Signed) (cycle : Cycle) → IsSigned mesh lengths trees d c →
       IsCycleOf mesh lengths c.candidate cycle → as_loop cycle ≡ loop_in mesh trees c.candidate
   cycle_loop c cycle s is =
@@ -164,17 +235,31 @@ module _ (mesh : Mesh) (lengths : List ℕ) (trees : ℕ → Trees) (surface : I
       ap (λ (k : Loop). k ∷ as_loops ys) (cycle_loop c y h.0 are.0)
       ∙ ap (λ ks. loop_in mesh trees c.candidate ∷ ks) (all_cycles cs ys h.1 are.1)
 
-  pub cycles_basis : (bases : List ℕ) (kept : List Signed) (cycles : List Cycle) → AreBases mesh bases →
-      HaveBasesOfBasis mesh lengths bases → AreKept mesh lengths trees d bases (length bases) kept →
-      AreCyclesOf mesh lengths kept cycles → IsChosenBasis mesh lengths trees (as_loops cycles)
-  cycles_basis bases kept cycles rise have k are =
-      let (basis, is, one) = basis_is_one mesh lengths trees surface positive chosen in
-      subst (IsChosenBasis mesh lengths trees)
-      (sym (all_cycles kept cycles (recursion_from_All (IsSigned mesh lengths trees d) kept k.signed) are))
-      (basis_is_kept_over mesh lengths trees bases basis (loops_in mesh trees kept) surface positive chosen rise is
-      (have trees chosen basis is) k.by_bases)
+  -- what is kept in the end is the choice from the loops at all vertices
+  kept_whole : (bases : List ℕ) (kept : List Signed) → HasBases bases found → HavePlacesOfBasis mesh lengths found →
+      AreKept mesh lengths trees d found bases (length bases) kept →
+      loops_in mesh trees kept
+      ≡ greedy numbers is_nothing (λ (c : Loop). class_of mesh d c.walk) (candidates mesh lengths trees)
+  kept_whole bases kept has have k =
+      let class : Loop → ℕ = λ c. class_of mesh d c.walk in
+      let all = candidates mesh lengths trees in
+      let basis = greedy numbers is_nothing class all in
+      let none : (x : ℕ) → k.below ≤ x → x < mesh.vertices → lengths_at found x ≡ [] = λ x low high.
+      no_lengths bases found x has (between bases (length bases) k.below x k.past low (λ j after to. absurd (omega arith))) in
+      let placed = have trees chosen basis basis_chosen in
+      k.choice ∙ ap (greedy numbers is_nothing class) (sym (placed_to k.below mesh.vertices k.below_in none))
+      ∙ greedy_filtered numbers class is_nothing Decides-is_nothing (is_placed_loop found) [] all
+      (recursion_from_All (λ c. is_placed_loop found c ≡ true) basis placed)
 
-  pub kept_inside : (bases : List ℕ) (done : ℕ) (kept : List Signed) → AreKept mesh lengths trees d bases done kept →
+  pub cycles_basis : (bases : List ℕ) (kept : List Signed) (cycles : List Cycle) → HasBases bases found →
+      HavePlacesOfBasis mesh lengths found → AreKept mesh lengths trees d found bases (length bases) kept →
+      AreCyclesOf mesh lengths kept cycles → IsChosenBasis mesh lengths trees (as_loops cycles)
+  cycles_basis bases kept cycles has have k are =
+      subst (IsChosenBasis mesh lengths trees)
+      (sym (all_cycles kept cycles (recursion_from_All (IsSigned mesh lengths trees d) kept k.signed) are
+      ∙ kept_whole bases kept has have k)) basis_chosen
+
+  pub kept_inside : (bases : List ℕ) (done : ℕ) (kept : List Signed) → AreKept mesh lengths trees d found bases done kept →
       All (λ c. IsInside mesh c.candidate) kept
   kept_inside bases done kept k i c l = let s = k.signed i c l in record { base = s.base_in; edge = s.edge_in }
 

@@ -5,7 +5,10 @@ pub mod Sifted
 pub mod Changed
 pub mod Climbed
 pub mod Looped
+pub mod Merged
+pub mod Places
 pub mod Kept
+pub mod Walked
 pub mod First
 pub mod Leading
 pub mod Whole

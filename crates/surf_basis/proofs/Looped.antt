@@ -1,9 +1,9 @@
 -- The loops of a desk at a base, as loops of the choice.
-use Rattle.std.proofs.Common.{◌≡◌, ℕ, ◌<◌, ◌+◌, ◌^◌, true, List, [], ◌∷◌, ◌++◌, length, get_or, map, take, All, Contains, refl, sym, ap, ◌∙◌, subst, arith}
+use Rattle.std.proofs.Common.{◌≡◌, ℕ, ◌<◌, ◌+◌, ◌^◌, Bool, true, cond, List, [], ◌∷◌, ◌++◌, length, filter, get_or, map, take, All, Contains, refl, sym, ap, ◌∙◌, subst, arith}
 use Rattle.std.specs.List.{AllByRecursion}
 use Rattle.std.proofs.lemmas.List.{length-map, get_or-map, map-append, take_more}
 use Rattle.std.proofs.lemmas.List.FromFn.{length-map-range_with_len}
-use Rattle.std.proofs.lemmas.List.Elements.{All-from_recursion, All-contains}
+use Rattle.std.proofs.lemmas.List.Elements.{All-from_recursion, All-contains, filter-append}
 use Rattle.std.proofs.lemmas.List.Sorted.{Contains-permutation}
 use Rattle.surf_z2.proofs.Below.{small}
 use Rattle.surf_z2.proofs.Merge.{sorted-permutes}
@@ -21,14 +21,14 @@ use Rattle.surf_surfaces.specs.Choice.{Trees, AreChosenAt, AreChosen, Loop, come
 use Rattle.surf_surfaces.proofs.CotreeLaws.{passing_found}
 use Rattle.surf_surfaces.proofs.LoopsAtLaws.{IsLoopAt, loops_each, tree_is, tree_short}
 use Rattle.surf_surfaces.proofs.LoopsOne.{loops_are_one}
-use Rattle.surf_surfaces.proofs.CandidateLaws.{IsLoopBelow}
 use Rattle.surf_surfaces.proofs.FirstCycleLaws.{candidates_below_two}
 use Rattle.surf_tree.specs.Tables.{TreeTables, tree_of}
 use Rattle.surf_cotree.specs.Tables.{CotreeTables}
 use Rattle.surf_loops.specs.Loops.{LoopTables, trees_of, loop_of, IsGreedy}
 use Rattle.surf_loops.specs.declared.head.LoopHead.{LoopHead}
 use Rattle.surf_basis.specs.declared.candidate.Signed.{Signed}
-use Rattle.surf_basis.specs.Candidates.{candidate_of, loop_in, loops_in, signed_heads, IsSigned}
+use Rattle.surf_basis.specs.Candidates.{candidate_of, loop_in, loops_in, signed_head, signed_heads, IsSigned}
+use Rattle.surf_basis.specs.Places.{has_length}
 use Rattle.surf_basis.specs.Signing.{AreSigned, IsClimbed}
 
 -- the loop of a left edge is the same through all trees that are chosen at the base
@@ -77,17 +77,19 @@ heads_inside mesh lengths base t g = All-from_recursion (λ h. h.edge < edge_cou
     (edges_inside mesh lengths base t t.heads
     (subst (AllByRecursion (IsLoopAt mesh lengths base (trees_of t))) (sym g.heads) (loops_each mesh lengths base (trees_of t))))
 
--- one more of them is listed
-pub heads_more : (mesh : Mesh) (d : Split) (t : TreeTables) (items : List LoopHead) (i : ℕ) (h : LoopHead) (old new : List Signed)
-    (s : Signed) → old ≡ signed_heads mesh d t (take i items) → new ≡ old ++ s ∷ [] →
-    s ≡ record { candidate = candidate_of t h; from = t.base; signature = class_of mesh d (loop_walk mesh (tree_of t) h.edge) } →
-    i < length items → h ≡ get_or items i h → new ≡ signed_heads mesh d t (take (i + 1) items)
-heads_more mesh d t items i h old new s was is signed l same =
-    let one : LoopHead → Signed = λ h. record { candidate = candidate_of t h; from = t.base; signature = class_of mesh d (loop_walk mesh (tree_of t) h.edge) } in
-    let more : signed_heads mesh d t (take (i + 1) items) ≡ signed_heads mesh d t (take i items) ++ s ∷ [] =
+-- one more of them, which has one of some lengths or not
+pub heads_more : (mesh : Mesh) (d : Split) (t : TreeTables) (lengths : List ℕ) (items : List LoopHead) (i : ℕ) (h : LoopHead)
+    (old : List Signed) → old ≡ filter (λ (s : Signed). has_length lengths s.candidate.length) (signed_heads mesh d t (take i items)) →
+    i < length items → h ≡ get_or items i h →
+    old ++ cond (has_length lengths h.length) (signed_head mesh d t h ∷ []) []
+    ≡ filter (λ (s : Signed). has_length lengths s.candidate.length) (signed_heads mesh d t (take (i + 1) items))
+heads_more mesh d t lengths items i h old was l same =
+    let fits : Signed → Bool = λ s. has_length lengths s.candidate.length in
+    let more : signed_heads mesh d t (take (i + 1) items) ≡ signed_heads mesh d t (take i items) ++ signed_head mesh d t h ∷ [] =
     ap (signed_heads mesh d t) (take_more items i h l ∙ ap (λ x. take i items ++ x ∷ []) (sym same))
-    ∙ map-append one (take i items) (h ∷ []) ∙ ap (λ x. signed_heads mesh d t (take i items) ++ x ∷ []) (sym signed) in
-    is ∙ ap (λ (xs : List Signed). xs ++ s ∷ []) was ∙ sym more
+    ∙ map-append (signed_head mesh d t) (take i items) (h ∷ []) in
+    sym (ap (filter fits) more ∙ filter-append fits (signed_heads mesh d t (take i items)) (signed_head mesh d t h ∷ [])
+    ∙ ap (λ (xs : List Signed). xs ++ cond (has_length lengths h.length) (signed_head mesh d t h ∷ []) []) (sym was))
 
 -- the class of a walk is as small as there are left edges
 pub class_small : (mesh : Mesh) (d : Split) (walk : List ℕ) (width : ℕ) → length d.left ≡ width → class_of mesh d walk < 2 ^ width
@@ -182,18 +184,6 @@ module _ (mesh : Mesh) (lengths : List ℕ) (trees : ℕ → Trees) (surface : I
   offered_signed d base t l g =
       let is : t.tree.base ≡ base = g.tree.base_is in
       heads_signed d t (omega (arith, is)) t.heads (each_head base t l g)
-
-  -- a signed candidate is a loop at its base
-  pub signed_loop : (d : Split) (c : Signed) → IsSigned mesh lengths trees d c →
-      IsLoopBelow mesh lengths trees mesh.vertices (loop_in mesh trees c.candidate)
-  signed_loop d c s = record {
-    base_in = s.base_in;
-    of = record {
-      edge_in = s.edge_in;
-      left = s.left;
-      is = λ i. record { size = s.size i; base = c.candidate.base; edge = c.candidate.edge; walk = loop_walk mesh (trees c.candidate.base).tree c.candidate.edge };
-    };
-  }
 
   -- where χ is 2 there is no candidate
   pub none_on_sphere : IsFullCount mesh 0 → candidates mesh lengths trees ≡ []

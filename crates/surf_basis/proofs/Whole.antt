@@ -17,9 +17,9 @@ use Rattle.surf_cotree.specs.Tables.{CotreeTables, split_with}
 use Rattle.surf_loops.specs.Loops.{LoopTables, IsGreedy}
 use Rattle.surf_basis.specs.declared.candidate.Signed.{Signed}
 use Rattle.surf_basis.specs.declared.cycle.Cycle.{Cycle}
-use Rattle.surf_basis.specs.Candidates.{AreKeptOver, IsInside, AreCyclesOf}
-use Rattle.surf_basis.specs.Found.{HaveBasesOfBasis}
-use Rattle.surf_surfaces.specs.FewBases.{AreBases}
+use Rattle.surf_basis.specs.Candidates.{IsInside, AreCyclesOf}
+use Rattle.surf_basis.specs.Kept.{HavePlacesOfBasis, AreKeptOver}
+use Rattle.surf_basis.specs.Marks.{HasBases}
 use Rattle.surf_basis.specs.Cycles.{as_loops, IsTheBasis}
 use Rattle.surf_basis.specs.Signing.{AreSigned}
 use Rattle.surf_basis.proofs.Looped.{empty_basis}
@@ -72,18 +72,18 @@ module _ (mesh : Mesh) (lengths : List ℕ) (surface : IsSurface mesh) (positive
       subst (λ ys. IsChosenBasis mesh lengths trees (as_loops ys)) (sym none) (empty_basis mesh lengths trees surface positive chosen full)
 
   module _ (s : CotreeTables) (width : ℕ) (signed : AreSigned mesh s width) where
-    pub all_inside : (bases : List ℕ) (kept list : List Signed) → AreKeptOver mesh lengths s bases (length bases) kept → list ≡ kept →
-        All (λ c. IsInside mesh c.candidate) list
-    all_inside bases kept list k same =
+    pub all_inside : (found : List Signed) (bases : List ℕ) (done : ℕ) (kept list : List Signed) →
+        AreKeptOver mesh lengths s found bases done kept → list ≡ kept → All (λ c. IsInside mesh c.candidate) list
+    all_inside found bases done kept list k same =
         let (trees, chosen) = choice_exists mesh lengths surface positive in
         let inside : All (λ c. IsInside mesh c.candidate) kept =
-        kept_inside mesh lengths trees surface positive chosen signed.split signed.is_split bases (length bases) kept (k trees chosen signed.split signed.is_split signed.signatures) in
+        kept_inside mesh lengths trees surface positive chosen signed.split signed.is_split found bases done kept (k trees chosen signed.split signed.is_split signed.signatures) in
         subst (All (λ c. IsInside mesh c.candidate)) (sym same) inside
 
-    pub the_basis : (bases : List ℕ) (kept list : List Signed) (cycles : List Cycle) → AreBases mesh bases →
-        HaveBasesOfBasis mesh lengths bases → AreKeptOver mesh lengths s bases (length bases) kept → list ≡ kept →
+    pub the_basis : (found : List Signed) (bases : List ℕ) (kept list : List Signed) (cycles : List Cycle) → HasBases bases found →
+        HavePlacesOfBasis mesh lengths found → AreKeptOver mesh lengths s found bases (length bases) kept → list ≡ kept →
         AreCyclesOf mesh lengths list cycles → IsTheBasis mesh lengths (as_loops cycles)
-    the_basis bases kept list cycles rise have k same are trees chosen =
-        cycles_basis mesh lengths trees surface positive chosen signed.split signed.is_split bases kept cycles rise have
+    the_basis found bases kept list cycles has have k same are trees chosen =
+        cycles_basis mesh lengths trees surface positive chosen signed.split signed.is_split found bases kept cycles has have
         (k trees chosen signed.split signed.is_split signed.signatures)
         (subst (λ cs. AreCyclesOf mesh lengths cs cycles) same are)

@@ -1,25 +1,21 @@
 -- Candidates for a basis: their order, which are independent, and what is kept of them.
 use Rattle.std.specs.Prelude.{ℕ, ◌≡◌, ◌<◌, Bool, true, false, IsTrue, ◌&&◌, ◌||◌, ◌==◌, nat_lt, List, [], ◌∷◌, map}
-use Rattle.std.specs.Prelude.{All, Option, ◌≤◌, ◌++◌, length, take, drop, slice_index_or}
+use Rattle.std.specs.Prelude.{Option, ◌≤◌, ◌++◌, length, take, drop, slice_index_or}
 use Rattle.std.specs.Option.{option_map}
 use Rattle.surf_z2.specs.Greedy.{greedy, greedy_after}
 use Rattle.surf_z2.specs.Order.{merge}
 use Rattle.surf_z2.specs.Space.{numbers, is_nothing, Spanned}
-use Rattle.surf_graphs.specs.Cells.{Split, IsSplit}
+use Rattle.surf_graphs.specs.Cells.{Split}
 use Rattle.surf_surfaces.specs.Mesh.{Mesh}
 use Rattle.surf_surfaces.specs.Surface.{edge_count}
 use Rattle.surf_surfaces.specs.Class.{class_of}
 use Rattle.surf_surfaces.specs.Loop.{loop_walk, loop_length}
 use Rattle.surf_surfaces.specs.Cotree.{is_left}
-use Rattle.surf_surfaces.specs.Cells.{cells_of}
-use Rattle.surf_surfaces.specs.Choice.{Trees, AreChosenAt, AreChosen, Loop}
-use Rattle.surf_surfaces.specs.FewBases.{IsKeptOver}
+use Rattle.surf_surfaces.specs.Choice.{Trees, AreChosenAt, Loop}
 use Rattle.surf_tree.specs.Tables.{TreeTables, tree_of}
-use Rattle.surf_cotree.specs.Tables.{CotreeTables}
 use Rattle.surf_loops.specs.declared.head.LoopHead.{LoopHead}
 use Rattle.surf_loops.specs.Loops.{LoopTables}
 use Rattle.surf_basis.specs.Cycles.{first_of}
-use Rattle.surf_basis.specs.Signing.{AreSignatures}
 use Rattle.surf_basis.specs.declared.candidate.Candidate.{Candidate}
 use Rattle.surf_basis.specs.declared.candidate.Signed.{Signed}
 use Rattle.surf_basis.specs.declared.cycle.Cycle.{Cycle}
@@ -86,6 +82,15 @@ pub record IsCycleOf (mesh : Mesh) (lengths : List ℕ) (c : Candidate) (cycle :
   pub walk : (trees : Trees) → AreChosenAt mesh lengths c.base trees →
       IsTrue (is_left mesh trees.tree trees.cotree c.edge) → cycle.walk ≡ loop_walk mesh trees.tree c.edge
 
+-- the walk of a cycle is that of the loop of its edge at its base, whichever trees show the choice there
+abbrev pub IsWalked : Mesh → List ℕ → Cycle → Type 0
+IsWalked mesh lengths cycle = (trees : Trees) → AreChosenAt mesh lengths cycle.base trees →
+    IsTrue (is_left mesh trees.tree trees.cotree cycle.edge) → cycle.walk ≡ loop_walk mesh trees.tree cycle.edge
+
+-- a cycle has the length, the base and the edge of a candidate
+abbrev pub is_cycle_of : Candidate → Cycle → Bool
+is_cycle_of c cycle = (cycle.length == c.length) && ((cycle.base == c.base) && (cycle.edge == c.edge))
+
 -- each cycle is that of the candidate at its place
 abbrev pub AreCyclesOf : Mesh → List ℕ → List Signed → List Cycle → Type 0
 AreCyclesOf mesh lengths [] [] = Unit {0}
@@ -101,14 +106,17 @@ candidate_of t h = record { length = h.length; base = t.base; edge = h.edge }
 abbrev pub first_head : LoopTables → Option Candidate
 first_head t = option_map (candidate_of t.tree) (first_of t.heads)
 
--- the loops of a desk at its base, as candidates with their signatures
+-- the loop of a head of a desk, as a candidate with its signature
+abbrev pub signed_head : Mesh → Split → TreeTables → LoopHead → Signed
+signed_head mesh d t h = record {
+  candidate = candidate_of t h;
+  from = t.base;
+  signature = class_of mesh d (loop_walk mesh (tree_of t) h.edge);
+}
+
+-- the loops of a desk at its base
 abbrev pub signed_heads : Mesh → Split → TreeTables → List LoopHead → List Signed
-signed_heads mesh d t heads =
-    map (λ h. record {
-      candidate = candidate_of t h;
-      from = t.base;
-      signature = class_of mesh d (loop_walk mesh (tree_of t) h.edge);
-    }) heads
+signed_heads mesh d t heads = map (signed_head mesh d t) heads
 
 -- a candidate is the loop of a left edge at its base, and its signature is that of its walk
 pub record IsSigned (mesh : Mesh) (lengths : List ℕ) (trees : ℕ → Trees) (d : Split) (c : Signed) : Type 0 where
@@ -117,14 +125,3 @@ pub record IsSigned (mesh : Mesh) (lengths : List ℕ) (trees : ℕ → Trees) (
   pub left : IsTrue (is_left mesh (trees c.candidate.base).tree (trees c.candidate.base).cotree c.candidate.edge)
   pub size : c.candidate.length ≡ loop_length mesh lengths (trees c.candidate.base).tree c.candidate.edge
   pub signature : c.signature ≡ class_of mesh d (loop_walk mesh (trees c.candidate.base).tree c.candidate.edge)
-
--- of the loops at the first of some bases those are kept that are independent of the loops before them
-pub record AreKept (mesh : Mesh) (lengths : List ℕ) (trees : ℕ → Trees) (d : Split) (bases : List ℕ) (done : ℕ)
-    (kept : List Signed) : Type 0 where
-  pub by_bases : IsKeptOver mesh lengths trees bases done (loops_in mesh trees kept)
-  pub signed : All (IsSigned mesh lengths trees d) kept
-
--- so they are by all trees that show the choice
-abbrev pub AreKeptOver : Mesh → List ℕ → CotreeTables → List ℕ → ℕ → List Signed → Type 0
-AreKeptOver mesh lengths s bases done kept = (trees : ℕ → Trees) → AreChosen mesh lengths trees → (d : Split) →
-    IsSplit (cells_of mesh) d → AreSignatures mesh d s → AreKept mesh lengths trees d bases done kept

@@ -14,8 +14,8 @@ use Rattle.surf_surfaces.specs.Cells.{cells_of}
 use Rattle.surf_surfaces.specs.Homology.{IsNull}
 use Rattle.surf_surfaces.specs.Class.{class_of}
 use Rattle.surf_surfaces.specs.Loop.{loop_walk, loop_length}
-use Rattle.surf_surfaces.specs.Choice.{Trees, AreChosen, Loop, IsChosenBasis, candidates, loops_at}
-use Rattle.surf_surfaces.specs.FewBases.{is_no_later, place_at, least_base, Found, AreEnoughOf, HasBaseIn, IsFirstFound}
+use Rattle.surf_surfaces.specs.Choice.{Trees, AreChosen, candidates, loops_at}
+use Rattle.surf_surfaces.specs.FewBases.{is_no_later, place_at, least_base, Found, AreEnoughOf, IsFirstFound}
 use Rattle.surf_cotree.specs.Tables.{CotreeTables}
 use Rattle.surf_near.specs.Near.{NearTables, AreNearTables, is_near}
 use Rattle.surf_near.specs.declared.links.Link.{Link}
@@ -112,12 +112,16 @@ pub record IsLinkOf (mesh : Mesh) (v : ℕ) (link : Link) : Type 0 where
   pub ends_are : ((v < link.to) × (ends mesh link.edge ≡ (v, link.to)))
       ⊎ ((link.to < v) × (ends mesh link.edge ≡ (link.to, v)))
 
+-- for each edge whether its signature is empty
+abbrev pub plain_edges : CotreeTables → List Bool
+plain_edges s = map (λ n. n == 0) s.signatures
+
 -- a link leads to a greater vertex that was reached too, and the two differ in class by their numbers or the edge has a
 -- signature
 abbrev pub may_matter : Search → ℕ → Link → Bool
 may_matter x v link =
-    nat_lt v link.to && (is_near x.near link.to && not ((slice_index x.ways.numbers v == slice_index x.ways.numbers link.to)
-    && (slice_index x.signs.signatures link.edge == 0)))
+    nat_lt v link.to && (not ((slice_index x.ways.numbers v == slice_index x.ways.numbers link.to)
+    && (slice_index x.signs.signatures link.edge == 0)) && is_near x.near link.to)
 
 -- a candidate is what is told of an edge whose loop is wanted
 pub record IsTold (x : Search) (limit : Option Candidate) (c : Signed) : Type 0 where
@@ -207,11 +211,6 @@ abbrev pub AreKeptFrom : Mesh → List ℕ → CotreeTables → List ℕ → Cho
 AreKeptFrom mesh lengths s vertices choice = (trees : ℕ → Trees) → AreChosen mesh lengths trees → (d : Split) →
     IsSplit (cells_of mesh) d → AreSignatures mesh d s →
     AreKeptOf mesh lengths (λ x. (trees x).tree) d (limit_of choice) (is_among vertices) choice.kept
-
--- the bases of the basis that is chosen are among those of a list, whichever trees show the choice
-abbrev pub HaveBasesOfBasis : Mesh → List ℕ → List ℕ → Type 0
-HaveBasesOfBasis mesh lengths bases = (trees : ℕ → Trees) → AreChosen mesh lengths trees → (basis : List Loop) →
-    IsChosenBasis mesh lengths trees basis → All (HasBaseIn bases) basis
 
 -- ---- the first of them
 

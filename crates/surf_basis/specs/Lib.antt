@@ -7,3 +7,4 @@ pub mod Marks
 pub mod Places
 pub mod Ways
 pub mod Found
+pub mod Kept

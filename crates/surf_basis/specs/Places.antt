@@ -1,6 +1,7 @@
 -- Places of loops in the order of length and base, and the place before which loops are sought.
-use Rattle.std.specs.Prelude.{ℕ, ◌+◌, ◌*◌, ◌^◌, ◌/◌, nat_le, Bool, true, List, [], ◌∷◌, length, Option, Some, None}
-use Rattle.std.specs.Prelude.{if◌then◌else◌}
+use Rattle.std.specs.Prelude.{ℕ, ◌+◌, ◌*◌, ◌^◌, ◌/◌, ◌==◌, nat_le, Bool, true, List, [], ◌∷◌, length, map, filter}
+use Rattle.std.specs.Prelude.{Option, Some, None, if◌then◌else◌}
+use Rattle.std.specs.List.{list_any}
 use Rattle.surf_surfaces.specs.FewBases.{Place, comes_sooner}
 use Rattle.surf_basis.specs.declared.candidate.Candidate.{Candidate}
 use Rattle.surf_basis.specs.declared.candidate.Signed.{Signed}
@@ -32,3 +33,14 @@ limit_of choice = if nat_le choice.width (length choice.kept) then last_of choic
 -- a number that is greater for a later place, and at one place for a greater edge number
 abbrev pub order_of : Signed → ℕ
 order_of s = s.candidate.length * 2 ^ 64 + s.candidate.base * 2 ^ 32 + s.candidate.edge
+
+-- the lengths of those candidates that are at a base
+abbrev pub lengths_at : List Signed → ℕ → List ℕ
+lengths_at found base = map (λ s. s.candidate.length) (filter (λ s. s.candidate.base == base) found)
+
+abbrev pub has_length : List ℕ → ℕ → Bool
+has_length lengths length = list_any (λ n. n == length) lengths
+
+-- a place is that of one of some candidates
+abbrev pub is_placed : List Signed → Place → Bool
+is_placed found place = has_length (lengths_at found place.1) place.0

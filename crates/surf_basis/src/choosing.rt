@@ -55,9 +55,17 @@ impl Choice {
     /// The candidates that are kept.
     pub fn kept(&self) -> &[Signed]
         ensures kept { result.now ≡ self.now.kept }
-        ensures few { length self.now.kept ≤ self.now.width }
     {
         &self.kept
+    }
+
+    /// What is true of those kept: there are no more of them than may be independent. A caller
+    /// whose proof rests on that calls it; it does nothing.
+    pub fn law_of_choice(&self)
+        ensures few { length self.now.kept ≤ self.now.width }
+    {
+        // (what a type keeps is known where one of its fields is used)
+        let _ = &self.kept;
     }
 
     /// The last candidate that is kept, where as many are kept as may be independent: no later one

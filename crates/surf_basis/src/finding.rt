@@ -1,10 +1,10 @@
 //! The loops that a search from one vertex finds.
-ghost use Rattle.std.specs.Prelude.{ℕ, ◌≡◌, ◌<◌, ◌+◌, ◌&&◌, slice_index, false, IsTrue, min, All, Contains, length, IfOk, OnOk};
+ghost use Rattle.std.specs.Prelude.{ℕ, ◌≡◌, ◌<◌, ◌+◌, ◌&&◌, ◌==◌, slice_index, false, IsTrue, min, All, Contains, length, IfOk, OnOk};
 ghost use Rattle.surf_surfaces.specs.Surface.{edge_count, ends};
 ghost use Rattle.surf_near.specs.Near.{AreNearTables, is_near};
 ghost use Rattle.surf_basis.specs.Found.{surface_of, IsReady, is_between, told_loop, wanted_loop};
 ghost use Rattle.surf_basis.specs.Found.{reached_at, IsTold, ListsAt, AreTold, AreFound};
-ghost use Rattle.surf_basis.specs.Found.{IsLinkOf, IsUnwantedAt, may_matter};
+ghost use Rattle.surf_basis.specs.Found.{IsLinkOf, IsUnwantedAt, may_matter, plain_edges};
 ghost use Rattle.surf_basis.specs.Found.{is_earlier, first_with, IsFirstTold, IsFirstAt};
 ghost use Rattle.surf_basis.specs.Places.{place_of, is_sought, radius_of};
 
@@ -15,6 +15,8 @@ use std::alloc::Global;
 use std::marker::Model;
 use surf_base::{EdgeId, NoMemory, VertexId};
 use surf_bits::Signature;
+use surf_cotree::CotreeDesk;
+use surf_mesh::HalfMesh;
 use surf_near::{Link, Links, NearDesk};
 
 /// Finds the loops of edges at one vertex after the other.
@@ -24,13 +26,14 @@ pub(crate) struct Finder<'a> {
     links: Links<'a>,
     desk: NearDesk,
     ways: Ways,
+    plain: Vec<bool>,
 }
 
 impl<'a> Model for Finder<'a> {
     ghost use Rattle.std.specs.Prelude.{◌≡◌, length};
     ghost use Rattle.surf_surfaces.specs.Surface.{edge_count};
     ghost use Rattle.surf_near.specs.Near.{AreNearTables};
-    ghost use Rattle.surf_basis.specs.Found.{SurfaceTables, surface_of};
+    ghost use Rattle.surf_basis.specs.Found.{SurfaceTables, surface_of, plain_edges};
 
     ghost Value = { SurfaceTables };
 
@@ -40,7 +43,25 @@ impl<'a> Model for Finder<'a> {
         × (f.links.lengths ≡ f.surface.lengths.now) × AreNearTables f.surface.mesh.now f.desk
         × (length f.ways.numbers ≡ f.surface.mesh.now.vertices)
         × (length f.surface.lengths.now ≡ edge_count f.surface.mesh.now)
-        × (length f.surface.signatures.now.signatures ≡ edge_count f.surface.mesh.now) };
+        × (length f.surface.signatures.now.signatures ≡ edge_count f.surface.mesh.now)
+        × (f.plain.items ≡ plain_edges f.surface.signatures.now) };
+}
+
+// Lists for each edge whether its signature is empty.
+fn plain_edges(
+    alloc: Global,
+    mesh: &HalfMesh,
+    signatures: &CotreeDesk,
+) -> Result<Vec<bool>, NoMemory>
+    requires table { length signatures.now.signatures ≡ edge_count mesh.now }
+    ensures plain { IfOk result (λ plain. plain.items ≡ plain_edges signatures.now) }
+{
+    mesh.law_of_surface();
+    let mut plain = Vec::with_capacity(alloc, mesh.edges() as usize)?;
+    for e in 0..mesh.edges() {
+        plain.push(signatures.signature(EdgeId::new(e)).is_empty())?;
+    }
+    Ok(plain)
 }
 
 // The lesser of two vertices.
@@ -93,6 +114,7 @@ struct Reached<'r, 'a> {
     links: &'r Links<'a>,
     desk: &'r NearDesk,
     ways: &'r Ways,
+    plain: &'r [bool],
 }
 
 // The length and the least base of the loop of an edge between vertices that were reached.
@@ -152,18 +174,28 @@ fn wanted_loop(reached: &Reached<'_, '_>, limit: &Option<Candidate>, edge: EdgeI
     })
 }
 
+// Whether the signature of an edge is empty.
+fn is_plain(reached: &Reached<'_, '_>, edge: EdgeId) -> bool
+    requires plain { reached.now.plain.now ≡ plain_edges reached.now.surface.now.signatures.now }
+    requires edge { edge < length reached.now.surface.now.signatures.now.signatures }
+    ensures plain { result
+        ≡ (slice_index reached.now.surface.now.signatures.now.signatures edge == 0) }
+{
+    reached.plain[edge.index()]
+}
+
 // Whether a link leads to a greater vertex that was reached too, and its loop may be other than
 // null. Most links are passed over here, by what stands at their two vertices.
 fn may_matter(reached: &Reached<'_, '_>, v: VertexId, link: &Link) -> bool
     requires ready { IsReady (reached_at reached.now) }
+    requires plain { reached.now.plain.now ≡ plain_edges reached.now.surface.now.signatures.now }
     requires ends { IsLinkOf reached.now.surface.now.mesh.now v link.now }
     ensures matters { result ≡ may_matter (reached_at reached.now) v link.now }
     ensures off { result ≡ false → IsUnwantedAt (reached_at reached.now) v link.now.edge }
 {
     v.number() < link.to.number()
+        && !(reached.ways.are_alike(v, link.to) && is_plain(reached, link.edge))
         && reached.desk.is_near(link.to)
-        && !(reached.ways.are_alike(v, link.to)
-            && reached.surface.signatures.signature(link.edge).is_empty())
 }
 
 // Adds the loops of the edges at a vertex of which it is the lesser end, where they aren't null and
@@ -176,6 +208,7 @@ fn list_at(
 ) -> Result<(), NoMemory>
     requires ready { IsReady (reached_at reached.now) }
     requires links { reached.now.links.now.mesh ≡ reached.now.surface.now.mesh.now }
+    requires plain { reached.now.plain.now ≡ plain_edges reached.now.surface.now.signatures.now }
     requires vertex { v < reached.now.surface.now.mesh.now.vertices }
     requires each { All (IsTold (reached_at reached.now) limit.now) found.old.items }
     ensures each { OnOk result (All (IsTold (reached_at reached.now) limit.now) found.new.items) }
@@ -202,6 +235,7 @@ fn list_loops(
 ) -> Result<(), NoMemory>
     requires ready { IsReady (reached_at reached.now) }
     requires links { reached.now.links.now.mesh ≡ reached.now.surface.now.mesh.now }
+    requires plain { reached.now.plain.now ≡ plain_edges reached.now.surface.now.signatures.now }
     requires settled { All (λ v. v < reached.now.surface.now.mesh.now.vertices)
         reached.now.desk.now.settled }
     ensures told { OnOk result (AreTold (reached_at reached.now) limit.now found.new.items) }
@@ -261,6 +295,7 @@ fn first_at(
 ) -> Option<Candidate>
     requires ready { IsReady (reached_at reached.now) }
     requires links { reached.now.links.now.mesh ≡ reached.now.surface.now.mesh.now }
+    requires plain { reached.now.plain.now ≡ plain_edges reached.now.surface.now.signatures.now }
     requires vertex { v < reached.now.surface.now.mesh.now.vertices }
     ensures first { (count : ℕ) → v ≡ slice_index reached.now.desk.now.settled count →
         IsFirstTold (reached_at reached.now) limit.now count before →
@@ -280,6 +315,7 @@ fn first_at(
 fn first_told(reached: &Reached<'_, '_>, limit: &Option<Candidate>) -> Option<Candidate>
     requires ready { IsReady (reached_at reached.now) }
     requires links { reached.now.links.now.mesh ≡ reached.now.surface.now.mesh.now }
+    requires plain { reached.now.plain.now ≡ plain_edges reached.now.surface.now.signatures.now }
     requires settled { All (λ v. v < reached.now.surface.now.mesh.now.vertices)
         reached.now.desk.now.settled }
     ensures first { IsFirstTold (reached_at reached.now) limit.now
@@ -308,11 +344,13 @@ impl<'a> Finder<'a> {
         let links = Links::make(alloc, surface.mesh, surface.lengths)?;
         let desk = NearDesk::make(alloc, surface.mesh)?;
         let ways = Ways::make(alloc, surface.mesh)?;
+        let plain = plain_edges(alloc, surface.mesh, surface.signatures)?;
         Ok(Finder {
             surface,
             links,
             desk,
             ways,
+            plain,
         })
     }
 
@@ -337,6 +375,7 @@ impl<'a> Finder<'a> {
             links: &self.links,
             desk: &self.desk,
             ways: &self.ways,
+            plain: &self.plain,
         };
         list_loops(&reached, limit, found)
     }
@@ -361,6 +400,7 @@ impl<'a> Finder<'a> {
             links: &self.links,
             desk: &self.desk,
             ways: &self.ways,
+            plain: &self.plain,
         };
         Ok(first_told(&reached, limit))
     }

@@ -9,7 +9,8 @@ ghost use Rattle.surf_surfaces.specs.Surface.{edge_count, IsSurface};
 ghost use Rattle.surf_basis.specs.Signing.{AreSigned};
 ghost use Rattle.surf_basis.specs.Places.{order_of};
 ghost use Rattle.surf_basis.specs.Marks.{HasBases};
-ghost use Rattle.surf_basis.specs.Found.{IsNext, AreKeptFrom, HaveBasesOfBasis, IsFirstAmong, IsFirstPlace};
+ghost use Rattle.surf_basis.specs.Kept.{HavePlacesOfBasis};
+ghost use Rattle.surf_basis.specs.Found.{IsNext, AreKeptFrom, IsFirstAmong, IsFirstPlace};
 ghost use Rattle.surf_base.specs.declared.limits.TheConstants.{MAX_LOOPS};
 
 use crate::candidate::{Candidate, Signed};
@@ -88,8 +89,12 @@ fn mark_bases(kept: &[Signed], marked: &mut [bool])
     }
 }
 
-// The bases of candidates, increasing.
-fn bases_of(alloc: Global, mesh: &HalfMesh, kept: &[Signed]) -> Result<Vec<VertexId>, NoMemory>
+/// The bases of candidates, increasing.
+pub(crate) fn bases_of(
+    alloc: Global,
+    mesh: &HalfMesh,
+    kept: &[Signed],
+) -> Result<Vec<VertexId>, NoMemory>
     requires inside { All (λ s. s.candidate.base < mesh.now.vertices) kept.now }
     ensures increasing { IfOk result (λ list. AreBases mesh.now list.items) }
     ensures bases { IfOk result (λ list. HasBases list.items kept.now) }
@@ -99,19 +104,21 @@ fn bases_of(alloc: Global, mesh: &HalfMesh, kept: &[Signed]) -> Result<Vec<Verte
     list_marked(alloc, &marked)
 }
 
-/// Bases among which are those of the basis that is chosen, increasing.
-pub(crate) fn sufficient_bases(
+/// Loops among whose lengths and least bases are the lengths and the bases of the basis that is
+/// chosen.
+pub(crate) fn sufficient_loops(
     alloc: Global,
     surface: &Surface<'_>,
     count: usize,
-) -> Result<Vec<VertexId>, NoMemory>
+) -> Result<Choice, NoMemory>
     requires lengths { length surface.now.lengths.now ≡ edge_count surface.now.mesh.now }
     requires signed { AreSigned surface.now.mesh.now surface.now.signatures.now count }
     requires full { IsFullCount surface.now.mesh.now count }
     requires few { count ≤ MAX_LOOPS }
-    ensures increasing { IfOk result (λ list. AreBases surface.now.mesh.now list.items) }
-    ensures bases { IfOk result
-        (λ list. HaveBasesOfBasis surface.now.mesh.now surface.now.lengths.now list.items) }
+    ensures inside { IfOk result (λ found. All (λ s. s.candidate.base < surface.now.mesh.now.vertices)
+        found.kept) }
+    ensures places { IfOk result (λ found. HavePlacesOfBasis surface.now.mesh.now
+        surface.now.lengths.now found.kept) }
 {
     surface.mesh.law_of_surface();
     surface.lengths.law_of_lengths();
@@ -119,7 +126,8 @@ pub(crate) fn sufficient_bases(
     let mut finder = Finder::make(alloc, surface)?;
     let mut choice = Choice::make(alloc, count as u32)?;
     keep_found(alloc, &mut finder, &vertices, &mut choice)?;
-    bases_of(alloc, surface.mesh, choice.kept())
+    choice.law_of_choice();
+    Ok(choice)
 }
 
 // The first of the loops at the vertices of a list.

@@ -4,6 +4,7 @@ ghost use Rattle.std.specs.Option.{option_map};
 ghost use Rattle.surf_surfaces.specs.Surface.{edge_count, face_count};
 ghost use Rattle.surf_surfaces.specs.Homology.{IsFullCount};
 ghost use Rattle.surf_surfaces.specs.Choice.{Trees, AreChosen, candidates, loops_at};
+ghost use Rattle.surf_tree.specs.Grown.{IsGrown as IsTreeGrown};
 ghost use Rattle.surf_loops.specs.Loops.{AreLoopTables};
 ghost use Rattle.surf_basis.specs.Candidates.{first_head, loop_in};
 ghost use Rattle.surf_basis.specs.Found.{IsFirstPlace};
@@ -72,7 +73,7 @@ fn first_at(
     ensures first { (trees : ℕ → Trees) → AreChosen mesh.now lengths.now trees →
         option_map (loop_in mesh.now trees) result
         ≡ first_of (loops_at mesh.now lengths.now base (trees base)) }
-    ensures made { AreLoopTables mesh.now desk.new }
+    ensures tree { IfSome result (λ c. IsTreeGrown mesh.now lengths.now c.base desk.new.tree) }
 {
     mesh.law_of_surface();
     lengths.law_of_lengths();
@@ -93,7 +94,7 @@ fn first_candidate(
     ensures first { (trees : ℕ → Trees) → AreChosen mesh.now lengths.now trees →
         option_map (loop_in mesh.now trees) result
         ≡ first_of (candidates mesh.now lengths.now trees) }
-    ensures made { AreLoopTables mesh.now desk.new }
+    ensures tree { IfSome result (λ c. IsTreeGrown mesh.now lengths.now c.base desk.new.tree) }
 {
     mesh.law_of_surface();
     lengths.law_of_lengths();
@@ -126,6 +127,6 @@ pub fn least_nonseparating(
     let Some(candidate) = first_candidate(mesh, lengths, place, &mut desk) else {
         return Ok(None);
     };
-    let cycle = cycle_of(alloc, mesh, lengths, &mut desk, candidate)?;
+    let cycle = cycle_of(alloc, mesh, lengths, &desk, candidate)?;
     Ok(Some(cycle))
 }

@@ -13,25 +13,27 @@ walk-requires-clause-rooted c =
     let mesh = c.args.mesh.now in
     let lengths = c.args.lengths.now in
     let positive = lengths_positive mesh lengths c.law_of_lengths.ensures.lengths c.requires.lengths in
-    grown_rooted mesh lengths c.args.candidate.base c.grow_tree.new.self.tree c.law_of_surface.ensures.surface positive c.grow_tree.ensures.tree
+    grown_rooted mesh lengths c.args.candidate.base c.args.desk.now.tree c.law_of_surface.ensures.surface positive c.requires.tree
 
-pub returns-clause-cycle : goal.returns-clause-cycle
-returns-clause-cycle c =
+pub returns : goal.returns
+returns c =
     let mesh = c.args.mesh.now in
     let lengths = c.args.lengths.now in
     let surface = c.law_of_surface.ensures.surface in
     let positive = lengths_positive mesh lengths c.law_of_lengths.ensures.lengths c.requires.lengths in
     let base = c.args.candidate.base in
-    let tree = tree_of c.grow_tree.new.self.tree in
-    let short = c.grow_tree.ensures.tree.shortest in
+    let tree = tree_of c.args.desk.now.tree in
+    let short = c.requires.tree.shortest in
     let (cotree, heaviest) = heaviest_exists mesh lengths tree surface (shortest_is_tree mesh lengths base tree surface positive short) in
     let own : Trees = record { tree = tree; cotree = cotree } in
     let own_chosen : AreChosenAt mesh lengths base own = record { shortest = short; heaviest = heaviest } in
     record {
-      size = refl;
-      base = refl;
-      edge = refl;
-      walk = λ trees at left.
-          c.in_ok-walk.ensures.walk
-          ∙ sym (loop_is_one mesh lengths base trees own surface positive at own_chosen c.args.candidate.edge c.requires.inside.edge left);
+      cycle = record {
+        size = refl;
+        base = refl;
+        edge = refl;
+        walk = λ trees at left.
+            c.in_ok-walk.ensures.walk
+            ∙ sym (loop_is_one mesh lengths base trees own surface positive at own_chosen c.args.candidate.edge c.requires.inside.edge left);
+      };
     }
