@@ -70,3 +70,17 @@ fn pages_fill(rt: HostRuntime) {
     assert_eq!(rt; page.push_bytes(b""), Ok(()));
     assert_eq!(rt; page.bytes(), b"abc7".as_slice());
 }
+
+// It is longer than a text that grows by doubling.
+#[test]
+fn a_long_page_grows(rt: HostRuntime) -> Result<(), Fail> {
+    let alloc = rt.alloc();
+    let line = vec![in alloc; b'x'; 100_000]?;
+    let mut page = Page::make(alloc, 1_300_000);
+    for _ in 0..13 {
+        assert_eq!(rt; page.push_bytes(&line), Ok(()));
+    }
+    assert_eq!(rt; page.push_bytes(b"x"), Err(PageFault::Full));
+    assert_eq!(rt; page.bytes().len(), 1_300_000);
+    Ok(())
+}
