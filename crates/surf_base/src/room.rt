@@ -23,15 +23,19 @@ fn take_room(bytes: &mut Vec<u8>, more: usize) -> Result<(), AllocError>
     if more <= AHEAD && bytes.reserve_exact(AHEAD).is_ok() {
         return Ok(());
     }
+    if bytes.reserve(more).is_ok() {
+        return Ok(());
+    }
     bytes.reserve_exact(more)
 }
 
 /// Makes room behind a text for so many bytes. Refuses only where there is none.
 ///
-/// A text of 2^20 bytes whose room is used up gets room for 2^25 more at once, if it can. A block
-/// of that size is a mapping of its own to most allocators: it is no larger in memory than what was
-/// written into it, grows with no copy of it, and goes back whole as soon as it is dropped. By
-/// doubling, the same text leaves holes as large as itself among the tables that stay.
+/// A text of 2^20 bytes whose room is used up gets room for 2^25 more at once. A block of that size
+/// is a mapping of its own to most allocators: it is no larger in memory than what was written into
+/// it, grows with no copy of it, and goes back whole as soon as it is dropped. By doubling, the
+/// same text leaves holes as large as itself among the tables that stay. Where so much is refused,
+/// doubling is tried, and then room for what is asked for alone.
 #[inline]
 pub fn make_room(bytes: &mut Vec<u8>, more: usize) -> Result<(), AllocError>
     ensures same { bytes.new.items ≡ bytes.old.items }
