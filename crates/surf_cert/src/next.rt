@@ -1,5 +1,4 @@
 //! The next line of a text, which has a form.
-ghost use Rattle.std.specs.Prelude.{◌≡◌, OnOk};
 ghost use Rattle.surf_text.specs.Text.{tokens_of};
 ghost use Rattle.surf_text.specs.Walks.{text_line};
 ghost use Rattle.surf_cert.specs.Lines.{counts_of, base_of, base_at, tree_row, dual_row, pair_behind, the_word};

@@ -1,5 +1,5 @@
 //! Reads the text of a certificate.
-ghost use Rattle.std.specs.Prelude.{◌≡◌, ◌<◌, length, IfOk};
+ghost use Rattle.std.specs.Prelude.{◌<◌, length, IfOk};
 ghost use Rattle.surf_cert.specs.Fits.{CertFits};
 ghost use Rattle.surf_cert.specs.Grammar.{loops_in, basis_in, cert_ended, parsed_cert};
 ghost use Rattle.surf_cert.specs.Gives.{Gives};

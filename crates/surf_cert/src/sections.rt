@@ -1,5 +1,5 @@
 //! The parts of a certificate, read line by line.
-ghost use Rattle.std.specs.Prelude.{◌≡◌, None};
+ghost use Rattle.std.specs.Prelude.{None};
 ghost use Rattle.surf_cert.specs.Lines.{base_of, base_at, cycle_of};
 ghost use Rattle.surf_cert.specs.Grammar.{tree_of, based_tree, trees_of, rows_of, dual_rows_of, dual_of, pairs_of};
 ghost use Rattle.surf_cert.specs.Grammar.{left_of, cycles_of};

@@ -1,9 +1,8 @@
 //! A tree of the faces of a surface, with a flag for each face.
-ghost use Rattle.std.specs.Prelude.{◌≡◌, ◌∷◌, ◌++◌, [], ◌<◌, ◌+◌, ◌^◌, ℕ, length, get_or, OnOk, IfOk, true, false};
-ghost use Rattle.std.specs.Prelude.{slice_set, Bool};
+ghost use Rattle.std.specs.Prelude.{◌≡◌, ◌∷◌, ◌++◌, [], ◌<◌, ◌+◌, ◌^◌, ℕ, length, OnOk, IfOk, true, false};
+ghost use Rattle.std.specs.Prelude.{slice_set};
 ghost use Rattle.surf_z2.specs.Parity.{xor};
-ghost use Rattle.surf_surfaces.specs.Surface.{face_count, face_at};
-ghost use Rattle.surf_surfaces.specs.SideNumber.{side_count, first_side, IsFaceOf};
+ghost use Rattle.surf_surfaces.specs.SideNumber.{side_count, IsFaceOf};
 ghost use Rattle.surf_soup.specs.Reach.{marked};
 ghost use Rattle.surf_check.specs.Growth.{TreeGrows, TreeGrowsOn, IsCrossed, IsFlagTree};
 

@@ -6,7 +6,7 @@ ghost use Rattle.surf_surfaces.specs.Surface.{edge_count};
 ghost use Rattle.surf_lengths.specs.Lengths.{AreLengths};
 ghost use Rattle.surf_geom.specs.Gives.{Gives, each};
 ghost use Rattle.surf_geom.specs.Points.{coordinate, point_of, points_in, square, square_distance, IsNear};
-ghost use Rattle.surf_geom.specs.Measures.{unit_square, measure_of, fitting, length_of, measures_in};
+ghost use Rattle.surf_geom.specs.Measures.{fitting, length_of, measures_in};
 
 use crate::points::Point;
 use crate::roots::root;

@@ -1,8 +1,7 @@
 //! The fixed value of a token.
-ghost use Rattle.std.specs.Prelude.{◌≡◌, ◌+◌, ◌*◌, ◌/◌, ◌^◌, ◌<◌, ◌≤◌, ◌++◌, true, length, pos};
+ghost use Rattle.std.specs.Prelude.{◌≡◌, ◌+◌, ◌*◌, ◌^◌, ◌<◌, ◌≤◌, ◌++◌, true};
 ghost use Rattle.std.specs.Char.{is_ascii_digit};
 ghost use Rattle.std.specs.List.{list_all};
-ghost use Rattle.surf_text.specs.Text.{value_of};
 ghost use Rattle.surf_geom.specs.Digits.{pushed, pushed_to, in_range};
 ghost use Rattle.surf_geom.specs.Fixed.{fixed_amount, signed, fixed_of};
 ghost use Rattle.surf_geom.specs.Seen.{decimal_seen};

@@ -1,5 +1,5 @@
 //! Writes lengths as a length file.
-ghost use Rattle.std.specs.Prelude.{◌≡◌, ◌<◌, ◌≤◌, length, slice_index};
+ghost use Rattle.std.specs.Prelude.{◌≡◌, ◌<◌, length, slice_index};
 ghost use Rattle.surf_surfaces.specs.Surface.{edge_count, ends};
 ghost use Rattle.surf_text.specs.Pages.{Puts};
 ghost use Rattle.surf_geom.specs.Texts.{entry_text, lengths_text, RereadsLengths};

@@ -15,7 +15,7 @@ pub struct Lengths {
 }
 
 impl Model for Lengths {
-    ghost use Rattle.std.specs.Prelude.{ℕ, List, ◌<◌, ◌^◌, length, vec_len};
+    ghost use Rattle.std.specs.Prelude.{ℕ, List, ◌<◌, ◌^◌, length};
     ghost use Rattle.surf_lengths.specs.Lengths.{AreLengths};
 
     ghost Value = { List ℕ };

@@ -1,7 +1,7 @@
 //! The line of a face, by the vertices of its corners.
-ghost use Rattle.std.specs.Prelude.{◌≡◌, ◌<◌, ◌≤◌, ◌++◌, [], codes, length};
+ghost use Rattle.std.specs.Prelude.{◌≡◌, ◌<◌, ◌≤◌, [], length};
 ghost use Rattle.surf_text.specs.Pages.{Puts};
-ghost use Rattle.surf_off.specs.Written.{spaced_text, colour_text, face_text};
+ghost use Rattle.surf_off.specs.Written.{spaced_text, face_text};
 
 use crate::write::{FEW_CORNERS, write_colour};
 use surf_base::VertexId;

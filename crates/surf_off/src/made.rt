@@ -1,9 +1,9 @@
 //! Writes a made mesh as an OFF text.
-ghost use Rattle.std.specs.Prelude.{◌≡◌, ◌<◌, ◌≤◌, ◌^◌, ◌++◌, [], codes, length};
+ghost use Rattle.std.specs.Prelude.{◌≡◌, ◌<◌, ◌≤◌, ◌^◌, ◌++◌, codes, length};
 ghost use Rattle.std.specs.List.{zip, range_with_len};
 ghost use Rattle.surf_surfaces.specs.SideNumber.{side_count};
 ghost use Rattle.surf_text.specs.Pages.{Puts};
-ghost use Rattle.surf_off.specs.Written.{lines_text, spaced_text, face_text, faces_text, points, point_text, no_colours};
+ghost use Rattle.surf_off.specs.Written.{lines_text, faces_text, points, point_text, no_colours};
 ghost use Rattle.surf_off.specs.Written.{soup_text, RereadsSoup};
 
 use crate::face::write_face;

@@ -4,7 +4,7 @@
 //! the least of its set; the others of the set lead to it. On the way to a root each second number
 //! gets a parent further up, as in R. E. Tarjan and J. van Leeuwen, "Worst-case analysis of set
 //! union algorithms" (1984).
-ghost use Rattle.std.specs.Prelude.{◌≡◌, ◌≢◌, ◌<◌, ◌≤◌, ℕ, length, slice_index, IfOk, MatchOption};
+ghost use Rattle.std.specs.Prelude.{◌≡◌, ◌≢◌, ◌<◌, ℕ, length, slice_index, IfOk, MatchOption};
 ghost use Rattle.std.specs.List.{range_with_len};
 ghost use Rattle.surf_soup.specs.Forest.{Falls, HasRoots, merged};
 

@@ -1,6 +1,6 @@
 //! Whether each edge of a soup is a side of exactly two faces.
-ghost use Rattle.std.specs.Prelude.{◌≡◌, ◌≢◌, ◌<◌, ◌≤◌, ℕ, length, MatchOption, MatchResult, IfOk, IfErr};
-ghost use Rattle.std.specs.Prelude.{slice_index, slice_index_or, []};
+ghost use Rattle.std.specs.Prelude.{◌≡◌, ◌≢◌, ◌<◌, length, MatchOption, IfOk, IfErr};
+ghost use Rattle.std.specs.Prelude.{slice_index};
 ghost use Rattle.surf_soup.specs.EdgeTable.{IsTableOf};
 ghost use Rattle.surf_soup.specs.Pairing.{IsPairingOf};
 ghost use Rattle.surf_soup.specs.Pairs.{NoneWithin, IsFirstWithin, HasTwoFaces, IsPairFault};

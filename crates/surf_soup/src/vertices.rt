@@ -1,6 +1,6 @@
 //! The sides that begin at each vertex.
-ghost use Rattle.std.specs.Prelude.{◌≡◌, ◌<◌, ◌^◌, length, map, IfOk, MatchOption};
-ghost use Rattle.std.specs.List.{range_with_len, flat_map};
+ghost use Rattle.std.specs.Prelude.{◌≡◌, ◌<◌, map, IfOk, MatchOption};
+ghost use Rattle.std.specs.List.{range_with_len};
 ghost use Rattle.surf_surfaces.specs.SideNumber.{side_count};
 ghost use Rattle.surf_soup.specs.Vertices.{sides_at, IsLeastIsolated, AllMet};
 ghost use Rattle.surf_soup.specs.First.{AreFirstSides};
