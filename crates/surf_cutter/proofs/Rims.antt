@@ -1,10 +1,10 @@
 -- The border sides at the copies, and the corners of a side by its face.
-use Rattle.std.proofs.Common.{◌≡◌, ◌≢◌, ℕ, zero, suc, ◌+◌, ◌-◌, ◌<◌, ◌≤◌, inl, inr, sym, refl, subst, ap, ◌∙◌, cond, List, [], length, get_or, take, replicate, eqb, arith, eqb-true}
+use Rattle.std.proofs.Common.{◌≡◌, ◌≢◌, ℕ, zero, suc, ◌+◌, ◌-◌, ◌<◌, ◌≤◌, inl, inr, sym, refl, subst, ap, ◌∙◌, cond, List, [], ◌∷◌, length, get_or, take, replicate, eqb, arith, eqb-true}
 use Rattle.std.specs.List.{flat_map, sum_by}
 use Rattle.std.proofs.Math.ListN.{set}
 use Rattle.std.proofs.Math.Seq.{take-length}
 use Rattle.std.proofs.lemmas.Bool.{cases_Bool, cases_eq, eqb-false}
-use Rattle.std.proofs.lemmas.List.{length-set, length-map, length-replicate, get_or-replicate, get_or-set_same, get_or-set_other}
+use Rattle.std.proofs.lemmas.List.{map-set, get_or-map, length-set, length-map, length-replicate, get_or-replicate, get_or-set_same, get_or-set_other}
 use Rattle.surf_surfaces.specs.Mesh.{Mesh, IsMesh}
 use Rattle.surf_surfaces.specs.Side.{after}
 use Rattle.surf_surfaces.specs.Surface.{face_at, face_count}
@@ -16,9 +16,17 @@ use Rattle.surf_soup.proofs.HalfLaws.{spans}
 use Rattle.surf_soup.proofs.VertexLaws.{corner_at_place, corners_len}
 use Rattle.surf_base.specs.Tables.{nobody}
 use Rattle.surf_cutter.specs.Boundary.{over, corners_of, HasCopy, IsBorderSide, AreBorderSides, HasPairedBorder}
-use Rattle.surf_cutter.specs.Rims.{HaveSameSizes, AreRims, AreRimsTo, IsRimTo, IsListedAt, IsOneOf, with_side, other_of}
+use Rattle.surf_cutter.specs.Rims.{HaveSameSizes, AreRims, AreRimsTo, IsRimTo, IsListedAt, IsOneOf, LeadsFrom, AreReaches, sides_of, with_reach, other_reach}
 use Rattle.surf_cutter.proofs.BorderSides.{corners_at_place}
 use Rattle.surf_cutter.proofs.BorderTables.{copy_in}
+
+-- two sides, the first of which may still be missing, with one side more
+abbrev pub with_side : ℕ × ℕ → ℕ → ℕ × ℕ
+with_side rim s = cond (eqb rim.0 nobody) (s, rim.1) (rim.0, s)
+
+-- of two sides the one that isn't the given one
+abbrev pub other_of : ℕ × ℕ → ℕ → ℕ
+other_of rim s = cond (eqb rim.0 s) rim.1 rim.0
 
 -- the faces of an opening have the sizes of those of the surface
 pub same_sizes : {mesh : Mesh} {Uncut : ℕ → ℕ → Type 0} {origins : List ℕ} {faces : List (List ℕ)} → IsOpenedBy mesh Uncut origins faces → HaveSameSizes mesh faces
@@ -251,3 +259,77 @@ other_is mesh rims paired are s c b has t t_is =
     ] in
     let own : u.0 ≡ t = sym (t_is ∙ same) in
     (subst (IsBorderSide mesh) own u.1, subst (λ t. HasCopy mesh t c) own u.2, λ e. u.3 (own ∙ e))
+
+pub sides_size : (rims : List ((ℕ × ℕ) × (ℕ × ℕ))) → length (sides_of rims) ≡ length rims
+sides_size [] = refl
+sides_size (rim ∷ rims) = ap suc (sides_size rims)
+
+pub sides_none : (n : ℕ) → sides_of (replicate n ((nobody, 0), (nobody, 0))) ≡ replicate n (nobody, nobody)
+sides_none zero = refl
+sides_none (suc n) = ap (λ (rims : List (ℕ × ℕ)). (nobody, nobody) ∷ rims) (sides_none n)
+
+-- what stands at a copy, by the sides alone
+sides_at : (rims : List ((ℕ × ℕ) × (ℕ × ℕ))) (c : ℕ) → c < length rims → get_or (sides_of rims) c (0, 0) ≡ ((get_or rims c ((0, 0), (0, 0))).0.0, (get_or rims c ((0, 0), (0, 0))).1.0)
+sides_at rims c lt = get_or-map (λ rim. (rim.0.0, rim.1.0)) rims c ((0, 0), (0, 0)) (0, 0) lt
+
+with_reach_side : (rim : (ℕ × ℕ) × (ℕ × ℕ)) (s far : ℕ) → ((with_reach rim (s, far)).0.0, (with_reach rim (s, far)).1.0) ≡ with_side (rim.0.0, rim.1.0) s
+with_reach_side rim s far = elim (cases_Bool (eqb rim.0.0 nobody)) [ inl e ↦ rw e refl | inr e ↦ rw e refl ]
+
+other_reach_side : (rim : (ℕ × ℕ) × (ℕ × ℕ)) (s : ℕ) → (other_reach rim s).0 ≡ other_of (rim.0.0, rim.1.0) s
+other_reach_side rim s = elim (cases_Bool (eqb rim.0.0 s)) [ inl e ↦ rw e refl | inr e ↦ rw e refl ]
+
+-- one side more, seen without the copies to which sides lead
+pub sides_with : (rims : List ((ℕ × ℕ) × (ℕ × ℕ))) (c s far : ℕ) → c < length rims →
+    sides_of (set rims c (with_reach (get_or rims c ((0, 0), (0, 0))) (s, far))) ≡ set (sides_of rims) c (with_side (get_or (sides_of rims) c (0, 0)) s)
+sides_with rims c s far lt =
+    map-set (λ rim. (rim.0.0, rim.1.0)) rims c (with_reach (get_or rims c ((0, 0), (0, 0))) (s, far))
+    ∙ ap (λ (p : ℕ × ℕ). set (sides_of rims) c p) (with_reach_side (get_or rims c ((0, 0), (0, 0))) s far ∙ ap (λ (p : ℕ × ℕ). with_side p s) (sym (sides_at rims c lt)))
+
+reach_with : (mesh : Mesh) (c : ℕ) (rim : (ℕ × ℕ) × (ℕ × ℕ)) (s far : ℕ) → LeadsFrom mesh c rim.0 × LeadsFrom mesh c rim.1 → HasCopy mesh s far → far ≢ c →
+    LeadsFrom mesh c (with_reach rim (s, far)).0 × LeadsFrom mesh c (with_reach rim (s, far)).1
+reach_with mesh c rim s far lead has apart = elim (cases_Bool (eqb rim.0.0 nobody)) [
+  | inl e ↦ rw e (λ some. (has, apart), lead.1)
+  | inr e ↦ rw e (lead.0, λ some. (has, apart))
+]
+
+-- a side and where it leads are added at a copy
+pub reaches_with : (mesh : Mesh) (rims : List ((ℕ × ℕ) × (ℕ × ℕ))) (c s far : ℕ) → AreReaches mesh rims → c < length rims → HasCopy mesh s far → far ≢ c →
+    AreReaches mesh (set rims c (with_reach (get_or rims c ((0, 0), (0, 0))) (s, far)))
+reaches_with mesh rims c s far are lt has apart d h =
+    let new = with_reach (get_or rims c ((0, 0), (0, 0))) (s, far) in
+    let size = length-set rims c new in
+    elim (cases_eq d c) [
+      | inl e ↦
+          subst (λ d. LeadsFrom mesh d (get_or (set rims c new) d ((0, 0), (0, 0))).0 × LeadsFrom mesh d (get_or (set rims c new) d ((0, 0), (0, 0))).1) (sym e)
+          (subst (λ (rim : (ℕ × ℕ) × (ℕ × ℕ)). LeadsFrom mesh c rim.0 × LeadsFrom mesh c rim.1) (sym (get_or-set_same rims c new ((0, 0), (0, 0)) lt))
+          (reach_with mesh c (get_or rims c ((0, 0), (0, 0))) s far (are c lt) has apart))
+      | inr ne ↦
+          subst (λ (rim : (ℕ × ℕ) × (ℕ × ℕ)). LeadsFrom mesh d rim.0 × LeadsFrom mesh d rim.1) (sym (get_or-set_other rims c d new ((0, 0), (0, 0)) ne))
+          (are d (omega arith))
+    ]
+
+-- at first no side leads anywhere
+pub reaches_none : (mesh : Mesh) (n : ℕ) → AreReaches mesh (replicate n ((nobody, 0), (nobody, 0)))
+reaches_none mesh n c h =
+    let none : (ℕ × ℕ) × (ℕ × ℕ) = ((nobody, 0), (nobody, 0)) in
+    let is : get_or (replicate n none) c ((0, 0), (0, 0)) ≡ none = get_or-replicate n c none ((0, 0), (0, 0)) (omega (arith, h, length-replicate n none)) in
+    subst (λ (rim : (ℕ × ℕ) × (ℕ × ℕ)). LeadsFrom mesh c rim.0 × LeadsFrom mesh c rim.1) (sym is) (λ ne. absurd (ne refl), λ ne. absurd (ne refl))
+
+-- from a border side over its copy c, the other border side there and where it leads
+pub record IsNext (mesh : Mesh) (s c t d : ℕ) : Type 0 where
+  pub border : IsBorderSide mesh t
+  pub at : HasCopy mesh t c
+  pub differs : t ≢ s
+  pub far : HasCopy mesh t d
+  pub turns : d ≢ c
+
+pub other_reaches : (mesh : Mesh) (rims : List ((ℕ × ℕ) × (ℕ × ℕ))) → HasPairedBorder mesh → AreRims mesh (sides_of rims) → AreReaches mesh rims → side_count mesh < nobody →
+    (s c : ℕ) → IsBorderSide mesh s → HasCopy mesh s c → c < length rims → (next : ℕ × ℕ) → next ≡ other_reach (get_or rims c ((0, 0), (0, 0))) s → IsNext mesh s c next.0 next.1
+other_reaches mesh rims paired are reaches few s c b has lt next next_is =
+    let rim = get_or rims c ((0, 0), (0, 0)) in
+    let other : next.0 ≡ other_of (get_or (sides_of rims) c (0, 0)) s = ap (λ (p : ℕ × ℕ). p.0) next_is ∙ other_reach_side rim s ∙ ap (λ (p : ℕ × ℕ). other_of p s) (sym (sides_at rims c lt)) in
+    let o = other_is mesh (sides_of rims) paired are s c b has next.0 other in
+    let some : next.0 ≢ nobody = λ e. (let below = o.0.0 in absurd (omega (arith, below, few, e))) in
+    let lead : LeadsFrom mesh c (other_reach rim s) = elim (cases_Bool (eqb rim.0.0 s)) [ inl e ↦ rw e (reaches c lt).1 | inr e ↦ rw e (reaches c lt).0 ] in
+    let led = subst (LeadsFrom mesh c) (sym next_is) lead some in
+    record { border = o.0; at = o.1; differs = o.2; far = led.0; turns = led.1 }

@@ -1,5 +1,5 @@
 //! The border of an opened surface, in one round.
-ghost use Rattle.std.specs.Prelude.{◌≡◌, ◌≢◌, ◌<◌, ◌≤◌, ◌+◌, ◌-◌, ◌⊎◌, ℕ, List, length, IfOk, slice_index};
+ghost use Rattle.std.specs.Prelude.{◌≡◌, ◌<◌, ◌≤◌, ◌+◌, ◌-◌, ℕ, List, length, IfOk, slice_index};
 ghost use Rattle.std.specs.Prelude.{slice_index_or, slice_set};
 ghost use Rattle.std.specs.List.{sum_by};
 ghost use Rattle.surf_surfaces.specs.Disc.{IsDisc};
@@ -8,10 +8,11 @@ ghost use Rattle.surf_surfaces.specs.Surface.{edge_count};
 ghost use Rattle.surf_opening.specs.Opening.{IsOpenedBy};
 ghost use Rattle.surf_surfaces.specs.SideNumber.{side_count};
 ghost use Rattle.surf_slit.specs.Labels.{IsUncut};
-ghost use Rattle.surf_cutter.specs.Boundary.{over, corners_of, HasCopy, HasPairedBorder, IsBorderSide};
+ghost use Rattle.surf_cutter.specs.Boundary.{over, corners_of, HasPairedBorder};
 ghost use Rattle.surf_cutter.specs.Boundary.{IsLeastBorderSide};
 ghost use Rattle.surf_cutter.specs.Boundary.{AreBorderSides, AreCutSides, OpensToDisc, IsBoundary};
-ghost use Rattle.surf_cutter.specs.Rims.{HaveSameSizes, AreRims, AreRimsTo, with_side, other_of};
+ghost use Rattle.surf_cutter.specs.Rims.{HaveSameSizes, AreRims, AreRimsTo, AreReaches, sides_of, with_reach};
+ghost use Rattle.surf_cutter.specs.Rims.{other_reach};
 
 use crate::NOBODY;
 use crate::faces::OpenFaces;
@@ -45,84 +46,55 @@ fn side_corners(mesh: &HalfMesh, faces: &OpenFaces, side: SideId) -> (u32, u32)
     )
 }
 
-// Adds a side to the two at a copy.
-fn add_at(rims: &mut [(u32, u32)], copy: u32, side: u32)
+// A border side at a copy and the copy to which it leads; `NOBODY` where the side is missing yet.
+type Reach = (u32, u32);
+
+// Adds a side to the two at a copy, with the copy to which it leads.
+fn add_at(rims: &mut [(Reach, Reach)], copy: u32, reach: Reach)
     requires { copy < length rims.old }
     ensures { rims.new ≡ slice_set rims.old copy
-        (with_side (slice_index_or rims.old copy (0, 0)) side) }
+        (with_reach (slice_index_or rims.old copy ((0, 0), (0, 0))) reach) }
 {
     let (first, second) = rims[copy as usize];
-    rims[copy as usize] = if first == NOBODY {
-        (side, second)
+    rims[copy as usize] = if first.0 == NOBODY {
+        (reach, second)
     } else {
-        (first, side)
+        (first, reach)
     };
 }
 
 // Adds each border side to the two at either of its copies.
-fn fill_rims(mesh: &HalfMesh, faces: &OpenFaces, border: &[SideId], rims: &mut [(u32, u32)])
+fn fill_rims(mesh: &HalfMesh, faces: &OpenFaces, border: &[SideId], rims: &mut [(Reach, Reach)])
     requires sizes { HaveSameSizes mesh.now faces.now }
     requires disc { IsDisc (over (length rims.old) faces.now) }
     requires paired { HasPairedBorder (over (length rims.old) faces.now) }
     requires border { AreBorderSides (over (length rims.old) faces.now) border.now }
-    requires none { AreRimsTo (over (length rims.old) faces.now) border.now 0 rims.old }
+    requires none { AreRimsTo (over (length rims.old) faces.now) border.now 0 (sides_of rims.old) }
+    requires nowhere { AreReaches (over (length rims.old) faces.now) rims.old }
     ensures size { length rims.new ≡ length rims.old }
-    ensures rims { AreRims (over (length rims.old) faces.now) rims.new }
+    ensures rims { AreRims (over (length rims.old) faces.now) (sides_of rims.new) }
+    ensures reaches { AreReaches (over (length rims.old) faces.now) rims.new }
 {
     mesh.law_of_surface();
     for side in border {
         let (tail, head) = side_corners(mesh, faces, *side);
-        add_at(rims, tail, side.number());
-        add_at(rims, head, side.number());
+        add_at(rims, tail, (side.number(), head));
+        add_at(rims, head, (side.number(), tail));
     }
 }
 
-// Of the two border sides at a copy the one that isn't the given one.
-fn other_at(rims: &[(u32, u32)], copy: u32, side: SideId) -> SideId
+// Of the two border sides at a copy the one that isn't the given one, and where it leads.
+fn other_at(rims: &[(Reach, Reach)], copy: u32, side: SideId) -> (SideId, u32)
     requires { copy < length rims.now }
-    ensures { result ≡ other_of (slice_index_or rims.now copy (0, 0)) side }
+    ensures { result ≡ other_reach (slice_index_or rims.now copy ((0, 0), (0, 0))) side }
 {
     let (first, second) = rims[copy as usize];
-    if first == side.number() {
-        SideId::new(second)
+    let (other, far) = if first.0 == side.number() {
+        second
     } else {
-        SideId::new(first)
-    }
-}
-
-// The other corner of a side.
-fn far_corner(tail: u32, head: u32, copy: u32) -> u32
-    requires corner { (copy ≡ tail) ⊎ (copy ≡ head) }
-    requires apart { tail ≢ head }
-    ensures corner { (result ≡ tail) ⊎ (result ≡ head) }
-    ensures other { result ≢ copy }
-{
-    if copy == tail { head } else { tail }
-}
-
-// The other border side at a copy of a border side, and the other copy that it has.
-fn next_side(
-    mesh: &HalfMesh,
-    faces: &OpenFaces,
-    rims: &[(u32, u32)],
-    side: SideId,
-    copy: u32,
-) -> (SideId, u32)
-    requires sizes { HaveSameSizes mesh.now faces.now }
-    requires disc { IsDisc (over (length rims.now) faces.now) }
-    requires paired { HasPairedBorder (over (length rims.now) faces.now) }
-    requires rims { AreRims (over (length rims.now) faces.now) rims.now }
-    requires border { IsBorderSide (over (length rims.now) faces.now) side }
-    requires copy { HasCopy (over (length rims.now) faces.now) side copy }
-    ensures border { IsBorderSide (over (length rims.now) faces.now) result.0 }
-    ensures at { HasCopy (over (length rims.now) faces.now) result.0 copy }
-    ensures differs { result.0 ≢ side }
-    ensures far { HasCopy (over (length rims.now) faces.now) result.0 result.1 }
-    ensures turns { result.1 ≢ copy }
-{
-    let next = other_at(rims, copy, side);
-    let (tail, head) = side_corners(mesh, faces, next);
-    (next, far_corner(tail, head, copy))
+        first
+    };
+    (SideId::new(other), far)
 }
 
 // Goes round the border from its least side, until that is met again. The border has so many
@@ -131,24 +103,26 @@ fn go_round(
     alloc: Global,
     mesh: &HalfMesh,
     faces: &OpenFaces,
-    rims: &[(u32, u32)],
+    rims: &[(Reach, Reach)],
     first: SideId,
     size: usize,
 ) -> Result<Vec<SideId>, NoMemory>
     requires sizes { HaveSameSizes mesh.now faces.now }
     requires disc { IsDisc (over (length rims.now) faces.now) }
     requires paired { HasPairedBorder (over (length rims.now) faces.now) }
-    requires rims { AreRims (over (length rims.now) faces.now) rims.now }
+    requires rims { AreRims (over (length rims.now) faces.now) (sides_of rims.now) }
+    requires reaches { AreReaches (over (length rims.now) faces.now) rims.now }
     requires first { IsLeastBorderSide (over (length rims.now) faces.now) first }
     ensures { IfOk result (λ v. IsBoundary (over (length rims.now) faces.now) v.items) }
 {
+    mesh.law_of_surface();
     let mut round = Vec::with_capacity(alloc, size)?;
     round.push(first)?;
     let (_, head) = side_corners(mesh, faces, first);
-    let (mut side, mut copy) = next_side(mesh, faces, rims, first, head);
+    let (mut side, mut copy) = other_at(rims, head, first);
     while side != first {
         round.push(side)?;
-        let (next, far) = next_side(mesh, faces, rims, side, copy);
+        let (next, far) = other_at(rims, copy, side);
         side = next;
         copy = far;
     }
@@ -169,14 +143,15 @@ fn round_by(
     mesh: &HalfMesh,
     faces: &OpenFaces,
     border: &[SideId],
-    rims: &mut [(u32, u32)],
+    rims: &mut [(Reach, Reach)],
 ) -> Result<Vec<SideId>, NoMemory>
     requires sizes { HaveSameSizes mesh.now faces.now }
     requires disc { IsDisc (over (length rims.old) faces.now) }
     requires paired { HasPairedBorder (over (length rims.old) faces.now) }
     requires border { AreBorderSides (over (length rims.old) faces.now) border.now }
     requires some { 0 < length border.now }
-    requires none { AreRimsTo (over (length rims.old) faces.now) border.now 0 rims.old }
+    requires none { AreRimsTo (over (length rims.old) faces.now) border.now 0 (sides_of rims.old) }
+    requires nowhere { AreReaches (over (length rims.old) faces.now) rims.old }
     ensures { IfOk result (λ v. IsBoundary (over (length rims.old) faces.now) v.items) }
 {
     fill_rims(mesh, faces, border, rims);
@@ -198,7 +173,7 @@ fn round_of(
     requires some { 0 < length border.now }
     ensures { IfOk result (λ v. IsBoundary (over copies faces.now) v.items) }
 {
-    let mut rims = vec![in alloc; (NOBODY, NOBODY); copies as usize]?;
+    let mut rims = vec![in alloc; ((NOBODY, 0), (NOBODY, 0)); copies as usize]?;
     round_by(alloc, mesh, faces, border, &mut rims)
 }
 

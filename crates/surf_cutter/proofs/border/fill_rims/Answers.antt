@@ -1,12 +1,12 @@
-use Rattle.std.proofs.Common.{◌≡◌, ◌<◌, ℕ, length, get_or, ap, sym, ◌∙◌, subst, arith}
+use Rattle.std.proofs.Common.{◌≡◌, ◌<◌, ℕ, length, get_or, inl, inr, ap, sym, ◌∙◌, subst, arith}
 use Rattle.std.proofs.Math.ListN.{set}
 use Rattle.std.proofs.lemmas.List.{get_or_default, length-set}
 use Rattle.surf_base.specs.Tables.{nobody}
 use Rattle.surf_surfaces.specs.SideNumber.{side_count}
 use Rattle.surf_cutter.specs.Boundary.{over, corners_of}
-use Rattle.surf_cutter.specs.Rims.{with_side}
+use Rattle.surf_cutter.specs.Rims.{AreReaches, sides_of, with_reach}
 use Rattle.surf_cutter.proofs.BorderTables.{corners_in}
-use Rattle.surf_cutter.proofs.Rims.{same_total, rims_more, rims_done}
+use Rattle.surf_cutter.proofs.Rims.{same_total, rims_more, rims_done, sides_size, sides_with, reaches_with}
 use Rattle.surf_cutter.proofs.border.fill_rims.Goals as goal
 
 pub side_corners-tail-requires-clause-side : goal.side_corners-tail-requires-clause-side
@@ -26,7 +26,7 @@ add_at-requires c =
     let b = c.requires.border.border i c.loop-side-test.true in
     let both = corners_in mesh c.requires.disc.is_mesh (get_or border i 0) b.0 in
     let tail : c.side_corners-tail.result.0 ≡ (corners_of mesh (get_or border i 0)).0 = ap (λ (p : ℕ × ℕ). p.0) (c.side_corners-tail.ensures ∙ ap (corners_of mesh) s) in
-    omega (arith, both.0, c.loop-side.invariant.size)
+    omega (arith, both.0, c.loop-side.invariant.rims.size, sides_size c.loop-side.rims)
 
 pub add_at-requires-in-loop-side : goal.add_at-requires-in-loop-side
 add_at-requires-in-loop-side c =
@@ -37,8 +37,8 @@ add_at-requires-in-loop-side c =
     let b = c.requires.border.border i c.loop-side-test.true in
     let both = corners_in mesh c.requires.disc.is_mesh (get_or border i 0) b.0 in
     let head : c.side_corners-tail.result.1 ≡ (corners_of mesh (get_or border i 0)).1 = ap (λ (p : ℕ × ℕ). p.1) (c.side_corners-tail.ensures ∙ ap (corners_of mesh) s) in
-    let size = ap length c.add_at.ensures ∙ length-set c.loop-side.rims c.side_corners-tail.result.0 (with_side (get_or c.loop-side.rims c.side_corners-tail.result.0 (0, 0)) c.number.result) in
-    omega (arith, both.1, c.loop-side.invariant.size)
+    let size = ap length c.add_at.ensures ∙ length-set c.loop-side.rims c.side_corners-tail.result.0 (with_reach (get_or c.loop-side.rims c.side_corners-tail.result.0 ((0, 0), (0, 0))) (c.number.result, c.side_corners-tail.result.1)) in
+    omega (arith, both.1, size, c.loop-side.invariant.rims.size, sides_size c.loop-side.rims)
 
 pub loop-side-preserved : goal.loop-side-preserved
 loop-side-preserved c =
@@ -56,16 +56,37 @@ loop-side-preserved c =
     let tail_is : tail ≡ (corners_of mesh (get_or border i 0)).0 = ap (λ (p : ℕ × ℕ). p.0) corners in
     let head_is : head ≡ (corners_of mesh (get_or border i 0)).1 = ap (λ (p : ℕ × ℕ). p.1) corners in
     let few : side_count mesh < nobody = omega (arith, same_total c.args.mesh.now c.args.faces.now c.requires.sizes, c.law_of_surface.ensures.few) in
+    let here : ℕ = get_or border i 0 in
     let middle = c.add_at.new.rims in
-    rims_more mesh border c.requires.paired c.requires.border few i lt rims tail head c.loop-side.invariant corners
-    (subst (λ t. t < mesh.vertices) (sym tail_is) both.0) (subst (λ t. t < mesh.vertices) (sym head_is) both.1)
-    middle c.add_at-in-loop-side.new.rims
-    (c.add_at.ensures ∙ ap (λ s. set rims tail (with_side (get_or rims tail (0, 0)) s)) (c.number.ensures ∙ s))
-    (c.add_at-in-loop-side.ensures ∙ ap (λ s. set middle head (with_side (get_or middle head (0, 0)) s)) (c.number-in-loop-side.ensures ∙ s))
+    let new = c.add_at-in-loop-side.new.rims in
+    let middle_is : middle ≡ set rims tail (with_reach (get_or rims tail ((0, 0), (0, 0))) (here, head)) =
+    c.add_at.ensures ∙ ap (λ (n : ℕ). set rims tail (with_reach (get_or rims tail ((0, 0), (0, 0))) (n, head))) (c.number.ensures ∙ s) in
+    let new_is : new ≡ set middle head (with_reach (get_or middle head ((0, 0), (0, 0))) (here, tail)) =
+    c.add_at-in-loop-side.ensures ∙ ap (λ (n : ℕ). set middle head (with_reach (get_or middle head ((0, 0), (0, 0))) (n, tail))) (c.number-in-loop-side.ensures ∙ s) in
+    let same = sides_size rims in
+    let size = c.loop-side.invariant.rims.size in
+    let long = ap length middle_is ∙ length-set rims tail (with_reach (get_or rims tail ((0, 0), (0, 0))) (here, head)) in
+    let tail_in : tail < length rims = omega (arith, both.0, tail_is, size, same) in
+    let head_in : head < length middle = omega (arith, both.1, head_is, size, same, long) in
+    let apart = c.requires.paired.apart here b in
+    record {
+      rims = rims_more mesh border c.requires.paired c.requires.border few i lt (sides_of rims) tail head c.loop-side.invariant.rims corners
+          (subst (λ t. t < mesh.vertices) (sym tail_is) both.0) (subst (λ t. t < mesh.vertices) (sym head_is) both.1)
+          (sides_of middle) (sides_of new)
+          (ap sides_of middle_is ∙ sides_with rims tail here head tail_in)
+          (ap sides_of new_is ∙ sides_with middle head here tail head_in);
+      reaches = subst (AreReaches mesh) (sym new_is)
+          (reaches_with mesh middle head here tail
+          (subst (AreReaches mesh) (sym middle_is) (reaches_with mesh rims tail here head c.loop-side.invariant.reaches tail_in (inr head_is) (λ e. apart (sym tail_is ∙ sym e ∙ head_is))))
+          head_in (inl tail_is) (λ e. apart (sym tail_is ∙ e ∙ head_is)));
+    }
 
 pub returns-clause-rims : goal.returns-clause-rims
 returns-clause-rims c =
     let mesh = over (length c.args.rims.now) c.args.faces.now in
     let end = c.loop-side.auto.side-index-end in
     let all : c.loop-side.side-index ≡ length c.args.border.now = omega (arith, c.loop-side-test.false) in
-    rims_done mesh c.args.border.now c.requires.disc.is_mesh c.requires.border c.loop-side.side-index all c.loop-side.rims c.loop-side.invariant
+    rims_done mesh c.args.border.now c.requires.disc.is_mesh c.requires.border c.loop-side.side-index all (sides_of c.loop-side.rims) c.loop-side.invariant.rims
+
+pub returns-clause-size : goal.returns-clause-size
+returns-clause-size c = omega (arith, c.loop-side.invariant.rims.size, sides_size c.loop-side.rims)

@@ -1,7 +1,7 @@
 use Rattle.std.proofs.Common.{get_or, length, sym, subst, IfOk}
 use Rattle.surf_surfaces.specs.Disc.{IsDisc}
 use Rattle.surf_cutter.specs.Boundary.{over, HasPairedBorder, IsLeastBorderSide, IsBoundary}
-use Rattle.surf_cutter.specs.Rims.{AreRims}
+use Rattle.surf_cutter.specs.Rims.{AreRims, AreReaches, sides_of}
 use Rattle.surf_cutter.proofs.BorderTables.{border_first}
 use Rattle.surf_cutter.proofs.border.round_by.Goals as goal
 
@@ -12,7 +12,10 @@ pub go_round-requires-clause-paired : goal.go_round-requires-clause-paired
 go_round-requires-clause-paired c = subst (λ n. HasPairedBorder (over n c.args.faces.now)) (sym c.fill_rims.ensures.size) c.requires.paired
 
 pub go_round-requires-clause-rims : goal.go_round-requires-clause-rims
-go_round-requires-clause-rims c = subst (λ n. AreRims (over n c.args.faces.now) c.fill_rims.new.rims) (sym c.fill_rims.ensures.size) c.fill_rims.ensures.rims
+go_round-requires-clause-rims c = subst (λ n. AreRims (over n c.args.faces.now) (sides_of c.fill_rims.new.rims)) (sym c.fill_rims.ensures.size) c.fill_rims.ensures.rims
+
+pub go_round-requires-clause-reaches : goal.go_round-requires-clause-reaches
+go_round-requires-clause-reaches c = subst (λ n. AreReaches (over n c.args.faces.now) c.fill_rims.new.rims) (sym c.fill_rims.ensures.size) c.fill_rims.ensures.reaches
 
 pub go_round-requires-clause-first : goal.go_round-requires-clause-first
 go_round-requires-clause-first c =
