@@ -1,4 +1,4 @@
-use Rattle.std.proofs.Common.{◌<◌, sym, subst}
+use Rattle.std.proofs.Common.{ℕ, List, ◌<◌, length, ap, sym, subst, arith}
 use Rattle.surf_basis.specs.Found.{reached_at}
 use Rattle.surf_basis.proofs.Numbered.{item_settled}
 use Rattle.surf_basis.proofs.Told.{lists_more}
@@ -17,4 +17,14 @@ loop-v-preserved c =
       each = c.in_ok-list_at.ensures.each;
       all = lists_more x c.args.limit.now c.args.reached.now.desk.now.settled c.loop-v.v-index c.v-item.result c.loop-v.found.items c.list_at.new.found.items c.loop-v.invariant.all
           c.in_ok-list_at.ensures.kept c.in_ok-list_at.ensures.here it.1;
+    }
+
+pub returns : goal.returns
+returns c =
+    let count = ap (λ (xs : List ℕ). length xs) c.settled-v-items.ensures.settled in
+    record {
+      told = record {
+        each = c.loop-v.invariant.each;
+        all = λ i l. c.loop-v.invariant.all i (omega (arith, l, count, c.loop-v-test.false));
+      };
     }
