@@ -72,28 +72,20 @@ pub(crate) fn read_front(
     ensures colours { IfOk result (λ read.
         length (parts_at bytes.new.items read.0).colours ≡ face_count read.1) }
 {
-    let (places, soup) = read_kept(alloc, bytes)?;
+    let (places, soup) = read_places(alloc, bytes)?;
+    keep_front(&places, bytes);
     let mesh = surface_of(alloc, soup)?;
     Ok((places, mesh))
 }
 
-// Where the parts of the text of a mesh stand, and its faces. Of the text the front that has the
-// parts is kept.
-fn read_kept(alloc: Global, bytes: &mut Vec<u8>) -> Result<(OffPlaces, Soup), Refused>
-    requires { length bytes.old.items ≤ MAX_TEXT }
-    ensures tells { Takes (λ read. (parts_at bytes.new.items read.0, read.1))
-        (IsMeshText bytes.old.items) result }
-    ensures within { IfOk result (λ read. AreWithin (length bytes.new.items) read.0) }
-    ensures clean { IfOk result (λ read. IsOffParts (parts_at bytes.new.items read.0)) }
-    ensures lines { IfOk result (λ read.
-        length (parts_at bytes.new.items read.0).vertex_lines ≡ read.1.vertices) }
-    ensures colours { IfOk result (λ read.
-        length (parts_at bytes.new.items read.0).colours ≡ face_count read.1) }
+// Cuts a text short behind the last of its parts that stand at some places.
+fn keep_front(places: &OffPlaces, bytes: &mut Vec<u8>)
+    requires within { AreWithin (length bytes.old.items) places.now }
+    ensures within { AreWithin (length bytes.new.items) places.now }
+    ensures same { parts_at bytes.new.items places.now ≡ parts_at bytes.old.items places.now }
 {
-    let (places, soup) = read_places(alloc, bytes)?;
     bytes.truncate(places.front());
     bytes.shrink_to_fit();
-    Ok((places, soup))
 }
 
 /// The faces in the text of the file of a name. The text is kept no longer.

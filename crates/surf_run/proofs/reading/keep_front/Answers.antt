@@ -1,0 +1,10 @@
+use Rattle.std.proofs.Common.{◌≡◌, ℕ, List, length, take, sym, ◌∙◌, subst}
+use Rattle.surf_off.specs.Places.{AreWithin}
+use Rattle.surf_run.proofs.reading.keep_front.Goals as goal
+
+pub returns-clause-within : goal.returns-clause-within
+returns-clause-within c =
+    let text = c.args.bytes.now.items in
+    let kept = c.shrink_to_fit.new.self.items in
+    let kept_is : kept ≡ take c.front.result text = c.shrink_to_fit.ensures.items ∙ c.truncate.ensures.items in
+    subst (λ (t : List ℕ). AreWithin (length t) c.args.places.now) (sym kept_is) (c.front.ensures.within text c.requires.within)
