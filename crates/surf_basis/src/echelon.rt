@@ -1,5 +1,5 @@
 //! Which sets are sums of the first of some independent ones.
-ghost use Rattle.std.specs.Prelude.{◌≡◌, ◌≢◌, ◌<◌, ◌≤◌, ◌^◌, [], take, length, slice_index, bit_xor};
+ghost use Rattle.std.specs.Prelude.{ℕ, ◌≡◌, ◌≢◌, ◌<◌, ◌≤◌, ◌^◌, [], take, length, slice_index, bit_xor};
 ghost use Rattle.std.specs.Prelude.{IfOk, MatchBool, MatchOption, vec_capacity};
 ghost use Rattle.std.specs.List.{AllByRecursion};
 ghost use Rattle.surf_z2.specs.Space.{Independent, Spanned, numbers};

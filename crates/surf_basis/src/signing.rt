@@ -1,5 +1,5 @@
 //! Signatures of loops.
-ghost use Rattle.std.specs.Prelude.{◌≡◌, ◌<◌, ◌≤◌, ◌+◌, bit_xor, length, IfOk};
+ghost use Rattle.std.specs.Prelude.{◌≡◌, ◌<◌, ◌≤◌, ◌+◌, bit_xor, length, slice_index, IfOk};
 ghost use Rattle.surf_graphs.specs.Cells.{Split};
 ghost use Rattle.surf_graphs.specs.Independence.{signature_of};
 ghost use Rattle.surf_graphs.specs.Trees.{on_path};

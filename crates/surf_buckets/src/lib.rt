@@ -12,7 +12,7 @@
 //! circle, linked both ways, from which a place is taken out wherever it stands.
 #![tactic(auto)]
 
-ghost use Rattle.std.specs.Prelude.{◌≡◌, ℕ, ◌+◌, ◌<◌, ◌≤◌, ◌^◌, ◌%◌, ◌==◌, if◌then◌else◌, length, replicate};
+ghost use Rattle.std.specs.Prelude.{◌≡◌, ◌≢◌, ℕ, ◌+◌, ◌<◌, ◌≤◌, ◌^◌, ◌%◌, ◌==◌, if◌then◌else◌, length, replicate};
 ghost use Rattle.std.specs.Prelude.{slice_set, MatchOption, None, Some, IfOk};
 ghost use Rattle.surf_heap.specs.Entries.{entry_of, lesser};
 ghost use Rattle.surf_buckets.specs.declared.TheConstants.{BUCKETS};

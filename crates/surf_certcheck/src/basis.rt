@@ -1,5 +1,5 @@
 //! Whether a certificate of a basis is valid.
-ghost use Rattle.std.specs.Prelude.{◌≡◌, ◌≢◌, ◌≤◌, ◌+◌, IfOk, IfErr};
+ghost use Rattle.std.specs.Prelude.{◌≡◌, ◌≢◌, ◌≤◌, ◌+◌, ℕ, IfOk, IfErr};
 ghost use Rattle.std.specs.Prelude.{length};
 ghost use Rattle.surf_surfaces.specs.Homology.{total, IsLeastBasis};
 ghost use Rattle.surf_surfaces.specs.Places.{IsLeastBasisInOrder, MeasureShortest};

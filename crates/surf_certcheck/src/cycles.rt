@@ -1,6 +1,6 @@
 //! The cycles of a certificate: whether they are closed, and their lengths.
 ghost use Rattle.std.specs.Prelude.{◌≡◌, ◌<◌, ◌≤◌, ◌+◌, ◌^◌};
-ghost use Rattle.std.specs.Prelude.{All, Contains, length, slice_index_or};
+ghost use Rattle.std.specs.Prelude.{All, Contains, length, map, sum, slice_index_or};
 ghost use Rattle.surf_surfaces.specs.Mesh.{edges, pair_of, steps};
 ghost use Rattle.surf_surfaces.specs.Surface.{edge_count};
 ghost use Rattle.surf_surfaces.specs.Walk.{edge_number, first, last, walk_length};

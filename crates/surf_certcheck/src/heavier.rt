@@ -1,5 +1,5 @@
 //! Whether a left edge could be exchanged for an edge of the tree of faces with a shorter loop.
-ghost use Rattle.std.specs.Prelude.{◌≡◌, ◌<◌, ◌^◌, MatchOption, length};
+ghost use Rattle.std.specs.Prelude.{◌≡◌, ◌<◌, ◌^◌, ℕ, MatchOption, length};
 ghost use Rattle.surf_graphs.specs.Growth.{between};
 ghost use Rattle.surf_graphs.specs.Trees.{on_path};
 ghost use Rattle.surf_surfaces.specs.Surface.{edge_count, face_count};

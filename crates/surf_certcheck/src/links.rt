@@ -1,5 +1,5 @@
 //! The tree of faces that a certificate says, as tables of edges and faces.
-ghost use Rattle.std.specs.Prelude.{◌≡◌, ◌≢◌, ◌<◌, ◌==◌, IfOk, length};
+ghost use Rattle.std.specs.Prelude.{◌≡◌, ◌≢◌, ◌<◌, ◌==◌, ℕ, IfOk, length};
 ghost use Rattle.std.specs.Prelude.{true};
 ghost use Rattle.surf_graphs.specs.Trees.{on_path};
 ghost use Rattle.surf_surfaces.specs.Mesh.{pair};

@@ -1,5 +1,5 @@
 //! Whether a certificate of loops is valid.
-ghost use Rattle.std.specs.Prelude.{◌≡◌, ◌≢◌, ◌<◌, IfOk, IfErr};
+ghost use Rattle.std.specs.Prelude.{◌≡◌, ◌≢◌, ◌<◌, ℕ, ◌^◌, IfOk, IfErr};
 ghost use Rattle.std.specs.Prelude.{MatchOption, length, map, sum, All, Contains};
 ghost use Rattle.surf_surfaces.specs.Mesh.{edges, pair_of};
 ghost use Rattle.surf_surfaces.specs.Surface.{edge_count, face_count};

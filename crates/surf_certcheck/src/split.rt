@@ -1,6 +1,6 @@
 //! Whether the two trees and the list of left pairs divide the edges.
 ghost use Rattle.std.specs.Prelude.{◌≡◌, ◌<◌, if◌then◌else◌, IfOk, MatchOption};
-ghost use Rattle.std.specs.Prelude.{length};
+ghost use Rattle.std.specs.Prelude.{MatchBool, length, take};
 ghost use Rattle.surf_surfaces.specs.Mesh.{pair, pair_lt, edges, among};
 ghost use Rattle.surf_surfaces.specs.Surface.{edge_count, IsSurface};
 ghost use Rattle.surf_validity.specs.Valid.{just_one, IsDivided};

@@ -1,7 +1,8 @@
 //! Whether rows are a tree of shortest walks.
-ghost use Rattle.std.specs.Prelude.{◌≡◌, ◌<◌, length};
-ghost use Rattle.surf_surfaces.specs.Mesh.{edges};
+ghost use Rattle.std.specs.Prelude.{◌≡◌, ◌<◌, length, Contains};
+ghost use Rattle.surf_surfaces.specs.Mesh.{edges, pair};
 ghost use Rattle.surf_surfaces.specs.Surface.{edge_count};
+ghost use Rattle.surf_surfaces.specs.Walk.{edge_number};
 ghost use Rattle.surf_validity.specs.Valid.{IsParent, AddsUp, IsNoShortCut};
 ghost use Rattle.surf_certcheck.specs.First.{HoldsBelow, FindsFirst, Tells};
 ghost use Rattle.surf_certcheck.specs.Rows.{HasTreeRows, HasParent, HasDistance};

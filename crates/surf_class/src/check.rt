@@ -1,12 +1,12 @@
 //! Checks evidence.
-ghost use Rattle.std.specs.Prelude.{◌≡◌, ◌≢◌, ◌<◌, ℕ, true, false, All, AllPairs, Contains, IfErr, OnOk, IfOk};
+ghost use Rattle.std.specs.Prelude.{◌≡◌, ◌≢◌, ◌<◌, ◌≤◌, ℕ, true, false, All, AllPairs, Contains, IfErr, OnOk, IfOk};
 ghost use Rattle.std.specs.Prelude.{MatchOption, length, map, slice_index_or};
 ghost use Rattle.std.specs.List.{position};
 ghost use Rattle.surf_z2.specs.Parity.{xor, odd};
 ghost use Rattle.surf_z2.specs.Space.{Chain};
 ghost use Rattle.surf_surfaces.specs.Homology.{boundary};
-ghost use Rattle.surf_surfaces.specs.Mesh.{edges, pair_lt};
-ghost use Rattle.surf_surfaces.specs.Surface.{borders, edge_count, face_count, ends};
+ghost use Rattle.surf_surfaces.specs.Mesh.{edges, pair_lt, among};
+ghost use Rattle.surf_surfaces.specs.Surface.{borders, edge_count, face_count, ends, faces_of};
 ghost use Rattle.surf_surfaces.specs.Walk.{IsClosed, edge_number, parity};
 ghost use Rattle.surf_certcheck.specs.First.{HoldsBelow, FailsFirst};
 ghost use Rattle.surf_certcheck.specs.Split.{AreFlags, is_flagged};

@@ -1,5 +1,5 @@
 //! Reads a closed walk.
-ghost use Rattle.std.specs.Prelude.{◌≡◌, ◌<◌, ◌==◌, ◌^◌, nat_le, not, IfOk, length};
+ghost use Rattle.std.specs.Prelude.{◌≡◌, ◌<◌, ◌==◌, ◌^◌, nat_le, not, IfOk, IfSome, length};
 ghost use Rattle.std.specs.List.{position};
 ghost use Rattle.surf_surfaces.specs.Mesh.{pair_of, among, steps, edges};
 ghost use Rattle.surf_surfaces.specs.Walk.{first, last, IsClosed};

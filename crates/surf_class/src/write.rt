@@ -1,5 +1,5 @@
 //! Writes evidence.
-ghost use Rattle.std.specs.Prelude.{◌≤◌, ◌∷◌, [], length};
+ghost use Rattle.std.specs.Prelude.{◌≡◌, ◌≤◌, ◌∷◌, [], length};
 ghost use Rattle.surf_text.specs.Pages.{Puts};
 ghost use Rattle.surf_text.specs.Numbers.{numbers_text};
 ghost use Rattle.surf_class.specs.Seen.{seen};

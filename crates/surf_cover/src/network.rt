@@ -1,5 +1,5 @@
 //! The cover as a search sees it.
-ghost use Rattle.std.specs.Prelude.{◌/◌, ◌%◌, slice_index};
+ghost use Rattle.std.specs.Prelude.{◌≡◌, ◌/◌, ◌%◌, length, slice_index};
 ghost use Rattle.surf_surfaces.specs.Surface.{edge_count};
 ghost use Rattle.surf_cover.specs.Networks.{cover_by, length_by, link_by, IsCoverable};
 

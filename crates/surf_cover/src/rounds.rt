@@ -1,5 +1,5 @@
 //! The vertex at which the shortest walk that is chosen in a class begins.
-ghost use Rattle.std.specs.Prelude.{◌≡◌, ◌≢◌, ◌<◌, ◌⊎◌, ℕ, true, false, Some, length, MatchBool};
+ghost use Rattle.std.specs.Prelude.{◌≡◌, ◌≢◌, ◌<◌, ◌⊎◌, ℕ, true, false, Some, length, slice_index, MatchBool};
 ghost use Rattle.surf_z2.specs.Sieve.{has};
 ghost use Rattle.surf_graphs.specs.Cells.{IsSplit};
 ghost use Rattle.surf_graphs.specs.Trees.{Tree};

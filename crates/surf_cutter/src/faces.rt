@@ -1,5 +1,5 @@
 //! The faces of an opened surface.
-ghost use Rattle.std.specs.Prelude.{◌≡◌, ◌<◌, ◌+◌, [], length, IfOk, slice_index_or};
+ghost use Rattle.std.specs.Prelude.{◌≡◌, ◌<◌, ◌+◌, [], length, take, IfOk, slice_index_or};
 ghost use Rattle.std.specs.List.{flat_map, sum_by};
 ghost use Rattle.surf_surfaces.specs.Surface.{face_count};
 ghost use Rattle.surf_surfaces.specs.SideNumber.{side_count};

@@ -1,8 +1,9 @@
 //! Trimming a cut: edges that end where no other cut edge goes on are taken out of it.
-ghost use Rattle.std.specs.Prelude.{◌≡◌, ◌≢◌, ◌<◌, ◌+◌, ◌^◌, ℕ, true, false, length, slice_index, slice_index_or};
+ghost use Rattle.std.specs.Prelude.{◌≡◌, ◌≢◌, ◌<◌, ◌≤◌, ◌+◌, ◌^◌, ℕ, true, false, length, slice_index, slice_index_or};
 ghost use Rattle.surf_z2.specs.Parity.{count_below};
 ghost use Rattle.surf_surfaces.specs.Surface.{edge_count};
 ghost use Rattle.surf_opening.specs.Laws.{cut_count};
+ghost use Rattle.surf_opening.specs.ChosenCut.{cut_degree};
 ghost use Rattle.surf_cutter.specs.Trimming.{is_cut, AreDegrees, AreDegreesTo, IsTakenBack, IsTrimmedFrom};
 ghost use Rattle.surf_cutter.specs.Trimming.{HasNoLeafFrom, HasEndedBy};
 

@@ -1,9 +1,10 @@
 //! The border: the edges with one face, and whether they are one cycle.
 ghost use Rattle.std.specs.Prelude.{◌≡◌, ◌≢◌, ◌<◌, ◌==◌, ◌^◌, ℕ, length, map, All, OnOk, IfOk, IfErr, MatchOption};
-ghost use Rattle.std.specs.Prelude.{slice_index_or, count_by};
+ghost use Rattle.std.specs.Prelude.{slice_index, slice_index_or, [], true, false, count_by};
 ghost use Rattle.std.specs.List.{range_with_len, flat_map};
 ghost use Rattle.surf_surfaces.specs.Disc.{IsBorderEdge};
 ghost use Rattle.surf_soup.specs.EdgeTable.{IsTableOf};
+ghost use Rattle.surf_soup.specs.Reach.{marked};
 ghost use Rattle.surf_soup.specs.Vertices.{all_corners, sides_at};
 ghost use Rattle.surf_disc.specs.Border.{with_end, border_ends, AreNeighbours, IsLeastOnBorder, IsBorderMarked};
 ghost use Rattle.surf_disc.specs.Border.{HasOneBorder, AllInside, IsFirstOutside};

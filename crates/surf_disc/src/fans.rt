@@ -1,5 +1,5 @@
 //! Whether the faces at each vertex are connected through the sides that end there.
-ghost use Rattle.std.specs.Prelude.{◌≡◌, ◌≢◌, ◌<◌, ℕ, length, map, All, IfOk, OnOk, IfErr};
+ghost use Rattle.std.specs.Prelude.{◌≡◌, ◌≢◌, ◌<◌, ◌^◌, ℕ, length, map, All, IfOk, OnOk, IfErr, slice_index};
 ghost use Rattle.std.specs.Prelude.{slice_index_or, []};
 ghost use Rattle.std.specs.List.{range_with_len};
 ghost use Rattle.surf_surfaces.specs.SideNumber.{side_count, owners};

@@ -1,5 +1,5 @@
 //! Settles the vertices within a radius of a base where all edges have one length.
-ghost use Rattle.std.specs.Prelude.{◌≡◌, ◌<◌, ◌+◌};
+ghost use Rattle.std.specs.Prelude.{◌≡◌, ◌<◌, ◌≤◌, ◌+◌, length};
 ghost use Rattle.surf_base.specs.Tables.{at};
 ghost use Rattle.surf_tree.specs.Queues.{AreEven};
 ghost use Rattle.surf_near.specs.Links.{AreLinks, graph_of, weight_of};

@@ -1,5 +1,6 @@
 //! Settles the vertices within a radius of a base, the nearest first.
-ghost use Rattle.std.specs.Prelude.{◌≡◌, ◌<◌, ◌+◌, ◌≢◌, length};
+ghost use Rattle.std.specs.Prelude.{◌≡◌, ◌<◌, ◌≤◌, ◌+◌, ◌^◌, ◌≢◌, length};
+ghost use Rattle.surf_lengths.specs.Lengths.{longest};
 ghost use Rattle.surf_base.specs.Tables.{at};
 ghost use Rattle.surf_near.specs.Links.{AreLinks, AreUpTo, graph_of, weight_of};
 ghost use Rattle.surf_near.specs.Near.{never};

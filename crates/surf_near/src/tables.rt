@@ -1,5 +1,5 @@
 //! The tables of a search.
-ghost use Rattle.std.specs.Prelude.{◌≡◌, ◌<◌, ◌+◌, ℕ, length, slice_set};
+ghost use Rattle.std.specs.Prelude.{◌≡◌, ◌≢◌, ◌<◌, ◌≤◌, ◌+◌, ℕ, length, slice_set};
 ghost use Rattle.surf_base.specs.Tables.{at};
 ghost use Rattle.surf_near.specs.Near.{never};
 ghost use Rattle.surf_near.specs.Searching.{ListsSettled};

@@ -1,4 +1,5 @@
 //! The texts of cycles.
+ghost use Rattle.std.specs.Prelude.{◌≡◌};
 ghost use Rattle.surf_texts.specs.Fills.{Fills};
 ghost use Rattle.surf_texts.specs.CycleTexts.{cycle_line, cycles_head};
 

@@ -1,4 +1,5 @@
 //! The texts of loops.
+ghost use Rattle.std.specs.Prelude.{◌≡◌};
 ghost use Rattle.surf_texts.specs.Fills.{Fills};
 ghost use Rattle.surf_texts.specs.LoopTexts.{walk_line, loops_head};
 

@@ -1,5 +1,5 @@
 //! The parents of settled vertices, and the edges to them.
-ghost use Rattle.std.specs.Prelude.{◌≡◌, ◌≢◌, ◌<◌, ◌+◌, ◌^◌, ◌&&◌, ◌==◌, ℕ, false, not, length, slice_index_or};
+ghost use Rattle.std.specs.Prelude.{◌≡◌, ◌≢◌, ◌<◌, ◌≤◌, ◌+◌, ◌^◌, ◌&&◌, ◌==◌, ℕ, false, not, length, slice_index_or};
 ghost use Rattle.surf_z2.specs.Parity.{any_below};
 ghost use Rattle.surf_graphs.specs.Cells.{primal};
 ghost use Rattle.surf_surfaces.specs.Surface.{edge_count};

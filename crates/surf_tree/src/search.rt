@@ -1,5 +1,5 @@
 //! Settles the nodes of a network from a base on, the nearest first.
-ghost use Rattle.std.specs.Prelude.{◌≡◌, ◌<◌, ◌+◌, ◌^◌, length};
+ghost use Rattle.std.specs.Prelude.{◌≡◌, ◌<◌, ◌≤◌, ◌+◌, ◌^◌, length};
 ghost use Rattle.surf_lengths.specs.Lengths.{longest};
 ghost use Rattle.surf_base.specs.Tables.{at};
 ghost use Rattle.surf_tree.specs.Searches.{IsOffered, IsSearchable, IsSettled};
