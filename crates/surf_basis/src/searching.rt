@@ -115,8 +115,8 @@ pub(crate) fn sufficient_loops(
     requires signed { AreSigned surface.now.mesh.now surface.now.signatures.now count }
     requires full { IsFullCount surface.now.mesh.now count }
     requires few { count ≤ MAX_LOOPS }
-    ensures inside { IfOk result (λ found. All (λ s. s.candidate.base < surface.now.mesh.now.vertices)
-        found.kept) }
+    ensures inside { IfOk result (λ found.
+        All (λ s. s.candidate.base < surface.now.mesh.now.vertices) found.kept) }
     ensures places { IfOk result (λ found. HavePlacesOfBasis surface.now.mesh.now
         surface.now.lengths.now found.kept) }
 {
