@@ -92,7 +92,8 @@ fn place_of(walked: &[Cycle], candidate: &Candidate) -> Option<usize>
 // Takes the cycle of a candidate from others, if it is among them.
 fn take_cycle(walked: &mut Vec<Cycle>, candidate: &Candidate) -> Option<Cycle>
     ensures cycle { (mesh : Mesh) (lengths : List ℕ) →
-        All (IsWalked mesh lengths) walked.old.items → IfSome result (IsCycleOf mesh lengths candidate.now) }
+        All (IsWalked mesh lengths) walked.old.items →
+        IfSome result (IsCycleOf mesh lengths candidate.now) }
     ensures others { (mesh : Mesh) (lengths : List ℕ) →
         All (IsWalked mesh lengths) walked.old.items →
         All (IsWalked mesh lengths) walked.new.items }
