@@ -48,7 +48,8 @@ fn faces_over(
     ensures rows { IfOk result (λ rows. AreAcross soup.now across.now (face_count soup.now) rows) }
 {
     soup.law_of_soup();
-    let mut rows = Rows::with_room(alloc, soup.faces() as usize, across.len())?;
+    let ends = Vec::with_capacity(alloc, soup.faces() as usize)?;
+    let mut rows = Rows::from_parts(Vec::with_capacity(alloc, across.len())?, ends);
     let mut row = Vec::new(alloc);
     let mut first = 0;
     for f in 0..soup.faces() {

@@ -48,7 +48,8 @@ fn link_corners(
     let count = soup.side_count() as usize;
     let vertices = soup.vertices() as usize;
     // (a further row has the first corner of each vertex)
-    let mut rows = Rows::with_room(alloc, count + 1, 2 * count + vertices)?;
+    let ends = Vec::with_capacity(alloc, count + 1)?;
+    let mut rows = Rows::from_parts(Vec::with_capacity(alloc, 2 * count + vertices)?, ends);
     for s in 0..soup.side_count() {
         let v = tails[s as usize];
         let before = prev[s as usize];

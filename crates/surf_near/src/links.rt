@@ -91,8 +91,9 @@ impl<'m> Links<'m> {
         ensures mesh { IfOk result (λ links. links.mesh ≡ mesh.now) }
         ensures lengths { IfOk result (λ links. links.lengths ≡ lengths.now) }
     {
-        let links = 2 * mesh.edges() as usize;
-        let mut rows = Rows::with_room(alloc, mesh.vertices() as usize, links)?;
+        let links = Vec::with_capacity(alloc, 2 * mesh.edges() as usize)?;
+        let ends = Vec::with_capacity(alloc, mesh.vertices() as usize)?;
+        let mut rows = Rows::from_parts(links, ends);
         let mut row = Vec::new(alloc);
         for v in 0..mesh.vertices() {
             list_links(mesh, lengths, VertexId::new(v), &mut row)?;

@@ -1,6 +1,6 @@
 //! Parts of a text, kept by their places.
 ghost use Rattle.std.specs.Prelude.{◌≡◌, ◌<◌, ◌≤◌, ◌+◌, ◌^◌, [], ◌∷◌, ◌++◌, length, slice_index_or};
-ghost use Rattle.std.specs.Prelude.{IfOk, OnOk};
+ghost use Rattle.std.specs.Prelude.{OnOk};
 ghost use Rattle.std.specs.Prelude.{map, replicate};
 ghost use Rattle.surf_off.specs.Seen.{PartList, part_of};
 ghost use Rattle.surf_off.specs.Places.{EndWithin};
@@ -47,18 +47,6 @@ impl<'a> Parts<'a> {
             text,
             spans: Vec::new(alloc),
         }
-    }
-
-    /// No parts, with room for so many.
-    pub(crate) fn with_room(
-        alloc: Global,
-        text: &'a [u8],
-        room: usize,
-    ) -> Result<Parts<'a>, AllocError>
-        ensures none { IfOk result (λ made. made ≡ record { text = text.now; parts = [] }) }
-    {
-        let spans = Vec::with_capacity(alloc, room)?;
-        Ok(Parts { text, spans })
     }
 
     /// The parts of a text that stand at some places.

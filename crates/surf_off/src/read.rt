@@ -64,7 +64,8 @@ pub fn read_places(alloc: Global, text: &[u8]) -> Result<(OffPlaces, Soup), OffF
     let mut lines = PlacedLines::over(text);
     let mut head = read_head(&mut lines)?;
     let (vertices, faces) = read_counts(head.number, &mut head.counts)?;
-    let mut vertex_lines = Parts::with_room(alloc, text, room_for(text, vertices))?;
+    let room = Vec::with_capacity(alloc, room_for(text, vertices))?;
+    let mut vertex_lines = Parts::at(text, room);
     read_vertices(&mut lines, vertices, faces, &mut vertex_lines)?;
     let mut colours = Colours::none(alloc, text);
     let soup = read_faces(alloc, &mut lines, vertices, faces, &mut colours)?;
