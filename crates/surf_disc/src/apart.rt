@@ -49,7 +49,7 @@ fn faces_over(
 {
     soup.law_of_soup();
     let ends = Vec::with_capacity(alloc, soup.faces() as usize)?;
-    let mut rows = Rows::from_parts(Vec::with_capacity(alloc, across.len())?, ends);
+    let mut rows = Rows::in_room(Vec::with_capacity(alloc, across.len())?, ends);
     let mut row = Vec::new(alloc);
     let mut first = 0;
     for f in 0..soup.faces() {

@@ -76,7 +76,7 @@ fn border_rows(
     soup.law_of_soup();
     let tails = soup.corners();
     let ends = Vec::with_capacity(alloc, at_vertex.len())?;
-    let mut rows = Rows::from_parts(Vec::new(alloc), ends);
+    let mut rows = Rows::in_room(Vec::new(alloc), ends);
     let mut row = Vec::new(alloc);
     for v in 0..soup.vertices() {
         list_ends(

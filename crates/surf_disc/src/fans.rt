@@ -49,7 +49,7 @@ fn link_corners(
     let vertices = soup.vertices() as usize;
     // (a further row has the first corner of each vertex)
     let ends = Vec::with_capacity(alloc, count + 1)?;
-    let mut rows = Rows::from_parts(Vec::with_capacity(alloc, 2 * count + vertices)?, ends);
+    let mut rows = Rows::in_room(Vec::with_capacity(alloc, 2 * count + vertices)?, ends);
     for s in 0..soup.side_count() {
         let v = tails[s as usize];
         let before = prev[s as usize];

@@ -93,7 +93,7 @@ impl<'m> Links<'m> {
     {
         let links = Vec::with_capacity(alloc, 2 * mesh.edges() as usize)?;
         let ends = Vec::with_capacity(alloc, mesh.vertices() as usize)?;
-        let mut rows = Rows::from_parts(links, ends);
+        let mut rows = Rows::in_room(links, ends);
         let mut row = Vec::new(alloc);
         for v in 0..mesh.vertices() {
             list_links(mesh, lengths, VertexId::new(v), &mut row)?;

@@ -66,6 +66,8 @@ pub(crate) fn read_front(
     ensures tells { Takes (λ read. (parts_at bytes.new.items read.0, read.1))
         (IsSurfaceText bytes.old.items) result }
     ensures within { IfOk result (λ read. AreWithin (length bytes.new.items) read.0) }
+    ensures least { IfOk result (λ read. (n : ℕ) → AreWithin n read.0
+        → length bytes.new.items ≤ n) }
     ensures clean { IfOk result (λ read. IsOffParts (parts_at bytes.new.items read.0)) }
     ensures lines { IfOk result (λ read.
         length (parts_at bytes.new.items read.0).vertex_lines ≡ read.1.vertices) }
@@ -83,6 +85,7 @@ fn keep_front(places: &OffPlaces, bytes: &mut Vec<u8>)
     requires within { AreWithin (length bytes.old.items) places.now }
     ensures within { AreWithin (length bytes.new.items) places.now }
     ensures same { parts_at bytes.new.items places.now ≡ parts_at bytes.old.items places.now }
+    ensures least { (n : ℕ) → AreWithin n places.now → length bytes.new.items ≤ n }
 {
     bytes.truncate(places.front());
     bytes.shrink_to_fit();
