@@ -11,7 +11,7 @@ use Rattle.surf_surfaces.specs.Joined.{Joined, here, over}
 use Rattle.surf_surfaces.specs.Mesh.{Mesh, IsMesh, pair, edges}
 use Rattle.surf_surfaces.specs.Side.{after, before, corner}
 use Rattle.surf_surfaces.specs.Surface.{face_count, face_at, edge_count, ends, touches, has_side, HasCorner, HasEdge}
-use Rattle.surf_surfaces.specs.Surface.{ShareAt}
+use Rattle.surf_surfaces.specs.Surface.{ShareAt, HasOneFan}
 use Rattle.surf_surfaces.specs.Walk.{place_of}
 use Rattle.surf_surfaces.proofs.JoinedLaws.{joined_trans, joined_sym, joined_closed}
 use Rattle.surf_surfaces.proofs.EdgeLaws.{list_any_at, place_of-ends}
@@ -26,7 +26,7 @@ use Rattle.surf_soup.specs.Pairs.{HasTwoFaces}
 use Rattle.surf_soup.specs.Vertices.{all_corners, sides_at}
 use Rattle.surf_soup.specs.Reach.{marked}
 use Rattle.surf_soup.specs.Ring.{dart_corner, cross_of, turn_of, turns, IsRound, IsTrail, AreTurned, BeginsAt}
-use Rattle.surf_soup.specs.Ring.{IsEdgeAt, side_before, GoBetween, IsWholeRing, IsPinch}
+use Rattle.surf_soup.specs.Ring.{IsEdgeAt, side_before, GoBetween, IsWholeRing, IsPinch, AllMarkedAt}
 use Rattle.surf_soup.proofs.Order.{Ordered, all_filter, passing, range_below}
 use Rattle.surf_soup.proofs.HalfLaws.{face_of_side, spans}
 use Rattle.surf_soup.proofs.Mates.{member_filter, with_pair, ordered_filter, range_ordered}
@@ -508,6 +508,15 @@ module _ (mesh : Mesh) (is_mesh : IsMesh mesh) (two : HasTwoFaces mesh) (mate : 
       pub home_face : IsFaceOf mesh home (get_or (owners 0 mesh.faces) home 0)
       home_face = face_of_side mesh (owners 0 mesh.faces) home 0 refl (at_begins mesh v 0 some).0
 
+      pub whole_fan : AllMarkedAt mesh seen v → HasOneFan mesh v
+      whole_fan all f g a b =
+          let s = corner_begins mesh f v a in
+          let t = corner_begins mesh g v b in
+          let h = get_or (owners 0 mesh.faces) home 0 in
+          joined_trans (joined_sym (λ x y q. (q.0, q.2, q.1))
+          (marked_joined s.0 h f s.1.0 (all s.0 s.1.0) home_face s.1.1))
+          (marked_joined t.0 h g t.1.0 (all t.0 t.1.0) home_face t.1.1)
+
       dart_side : (k : ℕ) → (dart k).0 < side_count mesh
       dart_side k = let i = dart_in k in let z = sizes in omega arith
 
@@ -602,8 +611,7 @@ module _ (mesh : Mesh) (is_mesh : IsMesh mesh) (two : HasTwoFaces mesh) (mate : 
               (has_edge (across (dart k)) g is.is_side (subst P (sym (next_entry k lt) ∙ c) p));
         }
 
-        pub whole_ring : ((k : ℕ) → k < length (sides_at mesh v) → marked seen (get_or (sides_at mesh v) k 0) ≡ true) →
-            IsWholeRing mesh v ring edges
+        pub whole_ring : AllMarkedAt mesh seen v → IsWholeRing mesh v ring edges
         whole_ring all =
             record {
               is_ring = record {
@@ -616,20 +624,11 @@ module _ (mesh : Mesh) (is_mesh : IsMesh mesh) (two : HasTwoFaces mesh) (mate : 
               };
               are_edges = record { at = between_at; differ = between_differ; all = between_all met };
               between = between;
-              fan = λ f g a b.
-                  let s = corner_begins mesh f v a in
-                  let t = corner_begins mesh g v b in
-                  let h = get_or (owners 0 mesh.faces) home 0 in
-                  joined_trans (joined_sym (λ x y q. (q.0, q.2, q.1))
-                  (marked_joined s.0 h f s.1.0 (mark s.0 s.1.0) home_face s.1.1))
-                  (marked_joined t.0 h g t.1.0 (mark t.0 t.1.0) home_face t.1.1);
+              fan = whole_fan all;
             }
           where
-            mark : (s : ℕ) → BeginsAt mesh v s → marked seen s ≡ true
-            mark s b = let r = begins_at mesh v s b in ap (marked seen) (sym r.2) ∙ all r.0 r.1
-
             met : (s : ℕ) → BeginsAt mesh v s → Met s
-            met s b = marked_met s b (mark s b)
+            met s b = marked_met s b (all s b)
 
       pub ring_pinch : (k : ℕ) → k < length (sides_at mesh v) → marked seen (get_or (sides_at mesh v) k 0) ≡ false →
           ((j : ℕ) → j < k → marked seen (get_or (sides_at mesh v) j 0) ≡ true) →

@@ -1,6 +1,7 @@
 -- Rings by marks of sides.
 use Rattle.std.proofs.Common.{◌≡◌, ◌≢◌, ℕ, ◌+◌, ◌-◌, ◌<◌, ◌≤◌, ◌⊎◌, Bool, not, cond, eqb, true, false, List, [], ◌∷◌}
-use Rattle.std.proofs.Common.{◌++◌, length, get_or, set, refl, sym, ap, subst, ◌∙◌, arith, inl, inr}
+use Rattle.std.proofs.Common.{◌++◌, Option, None, Some, MatchOption, length, get_or, set, refl, sym, ap, subst, ◌∙◌}
+use Rattle.std.proofs.Common.{arith, inl, inr}
 use Rattle.std.specs.List.{sum_by}
 use Rattle.std.proofs.lemmas.Bool.{true≢false, cases_eq, cases_Bool, lt-ltb, le-ltb, ne_eqb, eq-eqb}
 use Rattle.std.proofs.lemmas.List.{get_or_default, get_or_push, get_or_append_left, length_push, length-append}
@@ -12,20 +13,22 @@ use Rattle.surf_rows.specs.Rows.{cut, AreEnds}
 use Rattle.surf_rows.proofs.Cuts.{ends_push, cut_push}
 use Rattle.surf_surfaces.specs.Mesh.{Mesh, IsMesh}
 use Rattle.surf_surfaces.specs.Side.{after, before}
-use Rattle.surf_surfaces.specs.Surface.{face_count, face_at}
+use Rattle.surf_surfaces.specs.Surface.{face_count, face_at, HasOneFan}
 use Rattle.surf_surfaces.specs.SideNumber.{side_count, owners, first_side, IsFaceOf}
 use Rattle.surf_soup.specs.Vertices.{all_corners, sides_at, AllMet}
 use Rattle.surf_soup.specs.Reach.{marked, unmarked}
 use Rattle.surf_soup.specs.Ring.{turned, nexts, befores, dart_corner, flip_of, turn_of, AreDartTables}
-use Rattle.surf_soup.specs.Ring.{dart_before, IsRound, IsTrail, IsRoundListed, AreTurned, BeginsAt, IsWholeRing}
-use Rattle.surf_soup.specs.Ring.{IsPinch, IsLeastPinch, AreAllRings, IsMarkedRing, AreMarkedRings}
+use Rattle.surf_soup.specs.Ring.{dart_before, IsRound, IsTrail, IsRoundMarked, IsRoundListed, AreTurned, BeginsAt}
+use Rattle.surf_soup.specs.Ring.{IsWholeRing, IsPinch, IsLeastPinch, AreAllRings, AllMarkedAt, IsMarkedFan}
+use Rattle.surf_soup.specs.Ring.{AreMarkedFans, AreMarkedRings}
 use Rattle.surf_soup.specs.First.{AreFirstSides, IsFirstLeft}
+use Rattle.surf_soup.specs.declared.rings.Pinch.{Pinch}
 use Rattle.surf_soup.proofs.HalfLaws.{face_of_side, spans}
 use Rattle.surf_soup.proofs.Owners.{length-owners}
 use Rattle.surf_soup.proofs.SideNumbers.{one_face}
 use Rattle.surf_soup.proofs.VertexLaws.{corners_len, corners_below, IsPlaced}
 use Rattle.surf_soup.proofs.RingLaws.{placed_face, at_begins, begins_at, at_rises, row_some, are_darts, whole_ring}
-use Rattle.surf_soup.proofs.RingLaws.{ring_pinch, ring_others}
+use Rattle.surf_soup.proofs.RingLaws.{whole_fan, ring_pinch, ring_others}
 use Rattle.surf_soup.proofs.RoundSteps.{Rounds, round_start, round_more, round_end, round_side, round_at}
 use Rattle.surf_soup.proofs.RoundSteps.{AreDarts, trail_start, trail_more}
 use Rattle.surf_soup.proofs.FirstLaws.{first_at}
@@ -145,25 +148,25 @@ turn_other next prev mate tails s m x same head m_is same_is isnt x_is =
     ap (λ (t : ℕ). (t, true)) (x_is ∙ ap (λ t. get_or prev t 0) m_is)
     ∙ ap (λ b. flip_of next prev (get_or mate s 0, b)) (sym flag)
 
--- the ring of a vertex that stays while sides of others are marked
-marks_stay : (mesh : Mesh) (u : ℕ) (old now : List Bool) (ring edges : List ℕ) → IsMarkedRing mesh old u ring edges →
-    ((s : ℕ) → BeginsAt mesh u s → marked old s ≡ marked now s) → IsMarkedRing mesh now u ring edges
-marks_stay mesh u old now ring edges m same = record {
-  whole = λ all. m.whole (λ s b. same s b ∙ all s b);
+-- the faces at a vertex that stay while sides of others are marked
+fan_stays : (mesh : Mesh) (u : ℕ) (old now : List Bool) → IsMarkedFan mesh old u →
+    ((s : ℕ) → BeginsAt mesh u s → marked old s ≡ marked now s) → IsMarkedFan mesh now u
+fan_stays mesh u old now m same = record {
+  fan = λ all. m.fan (λ s b. same s b ∙ all s b);
   pinch = λ s b new marks. m.pinch s b (same s b ∙ new) (λ t lt c. same t c ∙ marks t lt c);
 }
 
 -- one ring more
 marked_more : (mesh : Mesh) (v : ℕ) (old now : List Bool) (rows lists : List (List ℕ)) (ring edges : List ℕ) →
     AreMarkedRings mesh old v rows lists → ((u s : ℕ) → u < v → BeginsAt mesh u s → marked old s ≡ marked now s) →
-    IsMarkedRing mesh now v ring edges →
+    (AllMarkedAt mesh now v → IsWholeRing mesh v ring edges) →
     AreMarkedRings mesh now (v + 1) (rows ++ ring ∷ []) (lists ++ edges ∷ [])
 marked_more mesh v old now rows lists ring edges a same r =
     let n = a.size in
     let m = a.edges_size in
     let new_rows = rows ++ ring ∷ [] in
     let new_lists = lists ++ edges ∷ [] in
-    let W : ℕ → List ℕ → List ℕ → Type 0 = IsMarkedRing mesh now in
+    let W : ℕ → List ℕ → List ℕ → Type 0 = λ u xs ys. AllMarkedAt mesh now u → IsWholeRing mesh u xs ys in
     let both : (u : ℕ) (xs ys xs' ys' : List ℕ) → xs' ≡ xs → ys' ≡ ys → W u xs ys → W u xs' ys' =
     λ u xs ys xs' ys' e f w. let P : List ℕ → Type 0 = λ zs. W u zs ys in let Q : List ℕ → Type 0 =
     λ zs. W u xs' zs in subst Q (sym f) (subst P (sym e) w) in
@@ -179,21 +182,37 @@ marked_more mesh v old now rows lists ring edges a same r =
             both u (get_or rows u []) (get_or lists u []) (get_or new_rows u []) (get_or new_lists u [])
             (get_or_append_left rows (ring ∷ []) [] u (omega arith))
             (get_or_append_left lists (edges ∷ []) [] u (omega arith))
-            (marks_stay mesh u old now (get_or rows u []) (get_or lists u []) (a.rings_are u lt)
-            (λ s b. same u s lt b))
+            (λ all. a.rings_are u lt (λ s b. same u s lt b ∙ all s b))
       ];
     }
 
--- the rings of the first vertices, one after the other, with their ends
+-- the rounds of the first vertices, by the sides that they marked
+pub record AreFansMarked (mesh : Mesh) (seen : List Bool) (v : ℕ) : Type 0 where
+  pub fans : AreMarkedFans mesh seen v
+  pub size : length seen ≡ side_count mesh
+  pub fresh : (u s : ℕ) → v ≤ u → BeginsAt mesh u s → marked seen s ≡ false
+
+pub fans_start : (mesh : Mesh) (seen : List Bool) → length seen ≡ side_count mesh → ((s : ℕ) → marked seen s ≡ false) →
+    AreFansMarked mesh seen 0
+fans_start mesh seen size none =
+    record { fans = λ v lt. absurd (omega arith); size = size; fresh = λ u s le b. none s }
+
+-- their rings are listed too, one after the other, with their ends
 pub record AreRingsListed (mesh : Mesh) (seen : List Bool) (v : ℕ) (sides edges ends : List ℕ) : Type 0 where
+  pub marks : AreFansMarked mesh seen v
   pub are_ends : AreEnds 0 ends (length sides)
   pub as_many : length edges ≡ length sides
   pub rings : AreMarkedRings mesh seen v (cut 0 ends sides) (cut 0 ends edges)
-  pub size : length seen ≡ side_count mesh
   pub counted : length sides + unmarked seen ≡ side_count mesh
-  pub fresh : (u s : ℕ) → v ≤ u → BeginsAt mesh u s → marked seen s ≡ false
 
--- a round so far, listed behind other sides, and its edges behind other edges
+-- a round so far
+pub record IsMarkedUpto (mesh : Mesh) (mate : List ℕ) (home : ℕ) (seen_before : List Bool) (side : ℕ) (head : Bool)
+    (at : ℕ) (seen : List Bool) : Type 0 where
+  pub ring : List ℕ
+  pub rounds : Rounds (nexts mesh) (befores mesh) mate (all_corners mesh) (dart_before mesh home) seen_before side head
+      at seen ring
+
+-- it is listed behind other sides too, and its edges behind other edges
 pub record IsListedUpto (mesh : Mesh) (mate edge_of : List ℕ) (home : ℕ) (seen_before : List Bool) (side : ℕ)
     (head : Bool) (at : ℕ) (seen : List Bool) (sides_before sides edges_before edges : List ℕ) : Type 0 where
   pub ring : List ℕ
@@ -220,26 +239,95 @@ module _ (mesh : Mesh) (face_of mate edge_of : List ℕ) (tables : AreDartTables
     pub start_corner : get_or (nexts mesh) (get_or (befores mesh) home 0) 0 ≡ home
     start_corner = darts.next_prev home (inside home is_side)
 
+    -- the round that begins, as it goes on, and whole
+    abbrev RoundSoFar : List Bool → ℕ → Bool → ℕ → List Bool → List ℕ → Type 0
+    RoundSoFar seen_before side head at seen ring =
+        Rounds (nexts mesh) (befores mesh) mate (all_corners mesh) (dart_before mesh home) seen_before side head at seen
+        ring
+
+    rounds_start : (seen : List Bool) (side : ℕ) → length seen ≡ side_count mesh →
+        side ≡ get_or (befores mesh) home 0 → RoundSoFar seen side true home seen []
+    rounds_start seen side size is =
+        let n = turned_len after mesh in
+        let d = dart_before mesh home in
+        let P : ℕ → Type 0 = λ at. RoundSoFar seen (get_or (befores mesh) home 0) true at seen [] in
+        let Q : ℕ → Type 0 = λ from. RoundSoFar seen from true home seen [] in
+        subst Q (sym is)
+        (subst P start_corner
+        (round_start (nexts mesh) (befores mesh) mate (all_corners mesh) darts d seen (size ∙ sym n)))
+
+    pub marked_start : (seen : List Bool) (side : ℕ) → length seen ≡ side_count mesh →
+        side ≡ get_or (befores mesh) home 0 → IsMarkedUpto mesh mate home seen side true home seen
+    marked_start seen side size is = record { ring = []; rounds = rounds_start seen side size is }
+
     pub listed_start : (seen : List Bool) (side : ℕ) (sides edges : List ℕ) → length seen ≡ side_count mesh →
         side ≡ get_or (befores mesh) home 0 →
         IsListedUpto mesh mate edge_of home seen side true home seen sides sides edges edges
-    listed_start seen side sides edges size is =
-        let n = turned_len after mesh in
-        let d = dart_before mesh home in
-        let P : ℕ → Type 0 =
-        λ at. Rounds (nexts mesh) (befores mesh) mate (all_corners mesh) d seen (get_or (befores mesh) home 0) true
-        at seen [] in
-        let Q : ℕ → Type 0 =
-        λ from. Rounds (nexts mesh) (befores mesh) mate (all_corners mesh) d seen from true home seen [] in
-        record {
-          ring = [];
-          between = [];
-          sides_are = sym (append-nil sides);
-          edges_are = sym (append-nil edges);
-          rounds = subst Q (sym is)
-              (subst P start_corner
-              (round_start (nexts mesh) (befores mesh) mate (all_corners mesh) darts d seen (size ∙ sym n)));
-          trail = trail_start (nexts mesh) (befores mesh) mate (all_corners mesh) darts edge_of d;
+    listed_start seen side sides edges size is = record {
+      ring = [];
+      between = [];
+      sides_are = sym (append-nil sides);
+      edges_are = sym (append-nil edges);
+      rounds = rounds_start seen side size is;
+      trail = trail_start (nexts mesh) (befores mesh) mate (all_corners mesh) darts edge_of (dart_before mesh home);
+    }
+
+    module _ (seen_before : List Bool) (side : ℕ) (head : Bool) (at : ℕ) (seen : List Bool)
+        (ring : List ℕ) (rounds : RoundSoFar seen_before side head at seen ring)
+      where
+        rounds_side : side < side_count mesh
+        rounds_side = let n = turned_len after mesh in
+            omega (
+              arith,
+              n,
+              round_side (nexts mesh) (befores mesh) mate (all_corners mesh) darts
+                  (dart_before mesh home) seen_before seen side at head ring start_in rounds,
+            )
+
+        rounds_at : at < length seen
+        rounds_at = round_at (nexts mesh) (befores mesh) mate (all_corners mesh) darts (dart_before mesh home)
+            seen_before seen side at head ring start_in rounds
+
+        rounds_more : marked seen at ≡ false → (side' at' : ℕ) (head' : Bool) →
+            (side', head') ≡ turn_of (nexts mesh) (befores mesh) mate (all_corners mesh) (side, head) →
+            at' ≡ dart_corner (nexts mesh) (side', head') →
+            RoundSoFar seen_before side' head' at' (set seen at true) (ring ++ at ∷ [])
+        rounds_more new side' at' head' dart corner =
+            round_more (nexts mesh) (befores mesh) mate (all_corners mesh) darts (dart_before mesh home) seen_before
+            seen side at head ring start_in rounds new side' at' head' dart corner
+
+        rounds_end : ((s : ℕ) → BeginsAt mesh (get_or (all_corners mesh) home 0) s → marked seen_before s ≡ false) →
+            marked seen at ≡ true →
+            IsRound (nexts mesh) (befores mesh) mate (all_corners mesh) (dart_before mesh home) seen_before seen ring
+        rounds_end fresh end =
+            round_end (nexts mesh) (befores mesh) mate (all_corners mesh) darts (dart_before mesh home) seen_before seen
+            side at head ring start_in
+            (λ s lt e. let n = turned_len after mesh in
+            fresh s (omega arith, e ∙ ap (λ t. get_or (all_corners mesh) t 0) start_corner)) rounds end
+
+    module _ (seen_before : List Bool) (side : ℕ) (head : Bool) (at : ℕ) (seen : List Bool)
+        (so_far : IsMarkedUpto mesh mate home seen_before side head at seen)
+      where
+        pub marked_side : side < side_count mesh
+        marked_side = rounds_side seen_before side head at seen so_far.ring so_far.rounds
+
+        pub marked_at : at < length seen
+        marked_at = rounds_at seen_before side head at seen so_far.ring so_far.rounds
+
+        pub marked_next : marked seen at ≡ false → (side' at' : ℕ) (head' : Bool) →
+            (side', head') ≡ turn_of (nexts mesh) (befores mesh) mate (all_corners mesh) (side, head) →
+            at' ≡ dart_corner (nexts mesh) (side', head') →
+            IsMarkedUpto mesh mate home seen_before side' head' at' (set seen at true)
+        marked_next new side' at' head' dart corner = record {
+          ring = so_far.ring ++ at ∷ [];
+          rounds = rounds_more seen_before side head at seen so_far.ring so_far.rounds new side' at' head' dart corner;
+        }
+
+        pub marked_end : ((s : ℕ) → BeginsAt mesh (get_or (all_corners mesh) home 0) s → marked seen_before s ≡ false) →
+            marked seen at ≡ true → IsRoundMarked mesh mate home seen_before seen
+        marked_end fresh end = record {
+          ring = so_far.ring;
+          round = rounds_end seen_before side head at seen so_far.ring so_far.rounds fresh end;
         }
 
     module _ (seen_before : List Bool) (side : ℕ) (head : Bool) (at : ℕ) (seen : List Bool)
@@ -248,17 +336,10 @@ module _ (mesh : Mesh) (face_of mate edge_of : List ℕ) (tables : AreDartTables
         edges)
       where
         pub listed_side : side < side_count mesh
-        listed_side = let n = turned_len after mesh in
-            omega (
-              arith,
-              n,
-              round_side (nexts mesh) (befores mesh) mate (all_corners mesh) darts
-                  (dart_before mesh home) seen_before seen side at head so_far.ring start_in so_far.rounds,
-            )
+        listed_side = rounds_side seen_before side head at seen so_far.ring so_far.rounds
 
         pub listed_at : at < length seen
-        listed_at = round_at (nexts mesh) (befores mesh) mate (all_corners mesh) darts (dart_before mesh home)
-            seen_before seen side at head so_far.ring start_in so_far.rounds
+        listed_at = rounds_at seen_before side head at seen so_far.ring so_far.rounds
 
         pub listed_more : marked seen at ≡ false → (side' at' : ℕ) (head' : Bool) (e : ℕ) → e ≡ get_or edge_of side 0 →
             (side', head') ≡ turn_of (nexts mesh) (befores mesh) mate (all_corners mesh) (side, head) →
@@ -275,8 +356,7 @@ module _ (mesh : Mesh) (face_of mate edge_of : List ℕ) (tables : AreDartTables
                   ∙ append_assoc sides_before ring (at ∷ []);
               edges_are = ap (λ (xs : List ℕ). xs ++ e ∷ []) so_far.edges_are
                   ∙ append_assoc edges_before so_far.between (e ∷ []);
-              rounds = round_more (nexts mesh) (befores mesh) mate (all_corners mesh) darts (dart_before mesh home)
-                  seen_before seen side at head ring start_in so_far.rounds new side' at' head' dart corner;
+              rounds = rounds_more seen_before side head at seen ring so_far.rounds new side' at' head' dart corner;
               trail = trail_more (nexts mesh) (befores mesh) mate (all_corners mesh) darts edge_of
                   (dart_before mesh home) seen_before seen side at e (length (ring ++ at ∷ [])) head ring so_far.between
                   so_far.rounds so_far.trail e_is more;
@@ -290,18 +370,13 @@ module _ (mesh : Mesh) (face_of mate edge_of : List ℕ) (tables : AreDartTables
           between = so_far.between;
           sides_are = so_far.sides_are;
           edges_are = so_far.edges_are;
-          round = round_end (nexts mesh) (befores mesh) mate (all_corners mesh) darts (dart_before mesh home)
-              seen_before seen side at head so_far.ring start_in
-              (λ s lt e. let n = turned_len after mesh in
-              fresh s (omega arith, e ∙ ap (λ t. get_or (all_corners mesh) t 0) start_corner)) so_far.rounds end;
+          round = rounds_end seen_before side head at seen so_far.ring so_far.rounds fresh end;
           trail = so_far.trail;
         }
 
   module _ (v home : ℕ) (some : 0 < length (sides_at mesh v)) (is : home ≡ get_or (sides_at mesh v) 0 0)
-      (old now : List Bool) (ring between : List ℕ) (fresh : (s : ℕ) → BeginsAt mesh v s → marked old s ≡ false)
+      (old now : List Bool) (ring : List ℕ) (fresh : (s : ℕ) → BeginsAt mesh v s → marked old s ≡ false)
       (round : IsRound (nexts mesh) (befores mesh) mate (all_corners mesh) (dart_before mesh home) old now ring)
-      (trail : IsTrail (nexts mesh) (befores mesh) mate (all_corners mesh) edge_of (dart_before mesh home) (length ring)
-      between)
     where
       abbrev from : ℕ
       from = get_or (befores mesh) home 0
@@ -309,12 +384,10 @@ module _ (mesh : Mesh) (face_of mate edge_of : List ℕ) (tables : AreDartTables
       from_is : from ≡ get_or (befores mesh) (get_or (sides_at mesh v) 0 0) 0
       from_is = ap (λ s. get_or (befores mesh) s 0) is
 
-      marked_ring : IsMarkedRing mesh now v ring between
-      marked_ring = record {
-        whole = λ all. whole_ring mesh tables.is_mesh tables.two mate tables.mates (nexts mesh) (befores mesh)
-            (turned_is after mesh) (turned_is before mesh) v some from from_is old now ring fresh round edge_of between
-            tables.numbers trail
-            (λ k lt. all (get_or (sides_at mesh v) k 0) (at_begins mesh v k lt));
+      marked_fan : IsMarkedFan mesh now v
+      marked_fan = record {
+        fan = whole_fan mesh tables.is_mesh tables.two mate tables.mates (nexts mesh) (befores mesh)
+            (turned_is after mesh) (turned_is before mesh) v some from from_is old now ring fresh round;
         pinch = λ s b new marks.
             let r = begins_at mesh v s b in
             let k = r.0 in
@@ -329,6 +402,13 @@ module _ (mesh : Mesh) (face_of mate edge_of : List ℕ) (tables : AreDartTables
             marks (get_or (sides_at mesh v) j 0) (omega arith) (at_begins mesh v j (omega arith))));
       }
 
+      marked_ring : (between : List ℕ) → IsTrail (nexts mesh) (befores mesh) mate (all_corners mesh) edge_of
+          (dart_before mesh home) (length ring) between → AllMarkedAt mesh now v → IsWholeRing mesh v ring between
+      marked_ring between trail =
+          whole_ring mesh tables.is_mesh tables.two mate tables.mates (nexts mesh) (befores mesh)
+          (turned_is after mesh) (turned_is before mesh) v some from from_is old now ring fresh round edge_of between
+          tables.numbers trail
+
       others_stay : (u s : ℕ) → u ≢ v → BeginsAt mesh u s → marked old s ≡ marked now s
       others_stay u s ne b = elim (cases_Bool (marked old s)) [
         | inl is ↦ is ∙ sym (round.stay s is)
@@ -342,6 +422,46 @@ module _ (mesh : Mesh) (face_of mate edge_of : List ℕ) (tables : AreDartTables
         ]
       ]
 
+  -- a round more
+  module _ (first : List ℕ) (v : ℕ) (old now : List Bool) (firsts : AreFirstSides mesh first) (met : AllMet mesh)
+      (are : AreFansMarked mesh old v) (lt : v < mesh.vertices) (ring : List ℕ)
+      (round : IsRound (nexts mesh) (befores mesh) mate (all_corners mesh) (dart_before mesh (get_or first v 0)) old now
+      ring)
+    where
+      has_side : 0 < length (sides_at mesh v)
+      has_side = let m = met v lt in row_some mesh v m.0 m.1
+
+      is_first : get_or first v 0 ≡ get_or (sides_at mesh v) 0 0
+      is_first = first_at mesh first firsts v lt has_side
+
+      is_fresh : (s : ℕ) → BeginsAt mesh v s → marked old s ≡ false
+      is_fresh s b = are.fresh v s (omega arith) b
+
+      round_stays : (u s : ℕ) → u ≢ v → BeginsAt mesh u s → marked old s ≡ marked now s
+      round_stays = others_stay v (get_or first v 0) has_side is_first old now ring is_fresh round
+
+      round_ring : (between : List ℕ) → IsTrail (nexts mesh) (befores mesh) mate (all_corners mesh) edge_of
+          (dart_before mesh (get_or first v 0)) (length ring) between → AllMarkedAt mesh now v →
+          IsWholeRing mesh v ring between
+      round_ring = marked_ring v (get_or first v 0) has_side is_first old now ring is_fresh round
+
+      fans_more : AreFansMarked mesh now (v + 1)
+      fans_more = record {
+        fans = λ u below. elim (cases_eq u v) [
+          | inl e ↦ let P : ℕ → Type 0 = IsMarkedFan mesh now in
+              subst P (sym e) (marked_fan v (get_or first v 0) has_side is_first old now ring is_fresh round)
+          | inr ne ↦ fan_stays mesh u old now (are.fans u (omega arith)) (λ s b. round_stays u s ne b)
+        ];
+        size = round.size ∙ turned_len after mesh;
+        fresh = λ u s le b. sym (round_stays u s (omega arith) b) ∙ are.fresh u s (omega arith) b;
+      }
+
+  pub fans_next : (first : List ℕ) (v : ℕ) (old now : List Bool) → AreFirstSides mesh first → AllMet mesh →
+      AreFansMarked mesh old v → v < mesh.vertices → IsRoundMarked mesh mate (get_or first v 0) old now →
+      AreFansMarked mesh now (v + 1)
+  fans_next first v old now firsts met are lt marks =
+      fans_more first v old now firsts met are lt marks.ring marks.round
+
   pub rings_next : (first : List ℕ) (v : ℕ) (old now : List Bool) (sides sides' edges edges' ends : List ℕ) →
       AreFirstSides mesh first → AllMet mesh → AreRingsListed mesh old v sides edges ends → v < mesh.vertices →
       IsRoundListed mesh mate edge_of (get_or first v 0) old now sides sides' edges edges' →
@@ -349,11 +469,6 @@ module _ (mesh : Mesh) (face_of mate edge_of : List ℕ) (tables : AreDartTables
   rings_next first v old now sides sides' edges edges' ends firsts met are lt listed =
       let ring = listed.ring in
       let between = listed.between in
-      let m = met v lt in
-      let some = row_some mesh v m.0 m.1 in
-      let home = get_or first v 0 in
-      let is = first_at mesh first firsts v lt some in
-      let fresh : (s : ℕ) → BeginsAt mesh v s → marked old s ≡ false = λ s b. are.fresh v s (omega arith) b in
       let long : length sides' ≡ length sides + length ring = ap length listed.sides_are ∙ length-append sides ring in
       let longer : length edges' ≡ length edges + length between = ap length listed.edges_are
       ∙ length-append edges between in
@@ -373,18 +488,15 @@ module _ (mesh : Mesh) (face_of mate edge_of : List ℕ) (tables : AreDartTables
       let P : List (List ℕ) → Type 0 = λ rs. M rs (cut 0 ends edges ++ between ∷ []) in
       let Q : List (List ℕ) → Type 0 = λ es. M (cut 0 (ends ++ length sides' ∷ []) sides') es in
       let E : ℕ → Type 0 = λ n. AreEnds 0 (ends ++ n ∷ []) n in
-      let stay : (u s : ℕ) → u ≢ v → BeginsAt mesh u s → marked old s ≡ marked now s =
-      others_stay v home some is old now ring between fresh listed.round listed.trail in
       record {
+        marks = fans_more first v old now firsts met are.marks lt ring listed.round;
         are_ends = subst E (sym long) (ends_push 0 ends (length sides) (length ring) are.are_ends);
         as_many = omega arith;
         rings = subst Q (sym lists)
             (subst P (sym rows) (marked_more mesh v old now (cut 0 ends sides) (cut 0 ends edges) ring between are.rings
-            (λ u s below b. stay u s (omega arith) b)
-            (marked_ring v home some is old now ring between fresh listed.round listed.trail)));
-        size = listed.round.size ∙ turned_len after mesh;
+            (λ u s below b. round_stays first v old now firsts met are.marks lt ring listed.round u s (omega arith) b)
+            (round_ring first v old now firsts met are.marks lt ring listed.round between listed.trail)));
         counted = omega arith;
-        fresh = λ u s le b. sym (stay u s (omega arith) b) ∙ are.fresh u s (omega arith) b;
       }
 
   pub first_side_at : (first : List ℕ) (v : ℕ) → AreFirstSides mesh first → AllMet mesh → v < mesh.vertices →
@@ -398,12 +510,11 @@ module _ (mesh : Mesh) (face_of mate edge_of : List ℕ) (tables : AreDartTables
 pub rings_start : (mesh : Mesh) (seen : List Bool) → length seen ≡ side_count mesh → ((s : ℕ) → marked seen s ≡ false) →
     unmarked seen ≡ side_count mesh → AreRingsListed mesh seen 0 [] [] []
 rings_start mesh seen size none all = record {
+  marks = fans_start mesh seen size none;
   are_ends = refl;
   as_many = refl;
   rings = record { size = refl; edges_size = refl; rings_are = λ v lt. absurd (omega arith) };
-  size = size;
   counted = omega arith;
-  fresh = λ u s le b. none s;
 }
 
 -- the least vertex of the first sides that aren't marked, and the least such side there; none yet where it is the bound
@@ -484,15 +595,28 @@ pub all_rings : (mesh : Mesh) (seen : List Bool) (count : ℕ) (rings edges : Li
     AreAllRings mesh count rings edges
 all_rings mesh seen count rings edges are all =
     let whole : (v : ℕ) → v < count → IsWholeRing mesh v (get_or rings v []) (get_or edges v []) =
-    λ v lt. (are.rings_are v lt).whole (λ s b. all s b.0) in
+    λ v lt. are.rings_are v lt (λ s b. all s b.0) in
     record { size = are.size; edges_size = are.edges_size; whole = whole; fans = λ v lt. (whole v lt).fan }
 
+-- and then the faces at each vertex are one cycle
+pub all_fans : (mesh : Mesh) (seen : List Bool) (count : ℕ) → AreMarkedFans mesh seen count →
+    ((s : ℕ) → s < side_count mesh → marked seen s ≡ true) → (v : ℕ) → v < count → HasOneFan mesh v
+all_fans mesh seen count are all v lt = (are v lt).fan (λ s b. all s b.0)
+
+-- what is found by marks is what there is
+pub found_pinch : (mesh : Mesh) (seen : List Bool) (found : Option Pinch) → AreMarkedFans mesh seen mesh.vertices →
+    MatchOption found ((s : ℕ) → s < side_count mesh → marked seen s ≡ true)
+    (λ p. IsLeastPinch mesh p.v p.first p.second) →
+    MatchOption found ((v : ℕ) → v < mesh.vertices → HasOneFan mesh v) (λ p. IsLeastPinch mesh p.v p.first p.second)
+found_pinch mesh seen None are all = all_fans mesh seen mesh.vertices are all
+found_pinch mesh seen (Some p) are pinch = pinch
+
 -- a side is left
-pub left_pinch : (mesh : Mesh) (seen : List Bool) (rings edges : List (List ℕ)) (first : List ℕ) (v s : ℕ) →
-    IsMesh mesh → AreMarkedRings mesh seen mesh.vertices rings edges → AreFirstSides mesh first →
+pub left_pinch : (mesh : Mesh) (seen : List Bool) (first : List ℕ) (v s : ℕ) →
+    IsMesh mesh → AreMarkedFans mesh seen mesh.vertices → AreFirstSides mesh first →
     IsFirstLeft (all_corners mesh) seen v s →
     IsLeastPinch mesh v (get_or (owners 0 mesh.faces) (get_or first v 0) 0) (get_or (owners 0 mesh.faces) s 0)
-left_pinch mesh seen rings edges first v s is_mesh are firsts left =
+left_pinch mesh seen first v s is_mesh are firsts left =
     let n = corners_len mesh in
     let is_side = left.is_side in
     let is_vertex : v < mesh.vertices = let b = corners_below mesh is_mesh s 0 is_side in let at = left.at in
@@ -504,10 +628,10 @@ left_pinch mesh seen rings edges first v s is_mesh are firsts left =
     record {
       is_vertex = is_vertex;
       pinch = subst P (sym (first_at mesh first firsts v is_vertex some))
-          ((are.rings_are v is_vertex).pinch s begin left.left (λ t lt b. left.none_before t lt b.1));
+          ((are v is_vertex).pinch s begin left.left (λ t lt b. left.none_before t lt b.1));
       none_before = λ u below.
-          ((are.rings_are u (omega arith)).whole (λ t b. let at = b.1 in let lt = b.0 in
-          left.none_lower t (omega arith) (omega arith))).fan;
+          (are u (omega arith)).fan (λ t b. let at = b.1 in let lt = b.0 in
+          left.none_lower t (omega arith) (omega arith));
     }
 
 -- a face as it is read from the table
@@ -519,13 +643,11 @@ owner_read mesh face_of are s t d is lt =
     ∙ ap (λ u. get_or (owners 0 mesh.faces) u 0) is
 
 pub read_pinch : (mesh : Mesh) (face_of mate edge_of : List ℕ) (tables : AreDartTables mesh face_of mate edge_of)
-    (seen : List Bool) (rings edges : List (List ℕ)) (first : List ℕ) →
-    AreMarkedRings mesh seen mesh.vertices rings edges → AreFirstSides mesh first → AllMet mesh →
-    (v s home last d e : ℕ) → IsFirstLeft (all_corners mesh) seen v s → home ≡ get_or first v 0 → last ≡ s →
-    IsLeastPinch mesh v (get_or face_of home d) (get_or face_of last e)
-read_pinch mesh face_of mate edge_of tables seen rings edges first are firsts met v s home last d e left home_is
-    last_is =
-    let pinch = left_pinch mesh seen rings edges first v s tables.is_mesh are firsts left in
+    (seen : List Bool) (first : List ℕ) → AreMarkedFans mesh seen mesh.vertices → AreFirstSides mesh first →
+    AllMet mesh → (v s home last d e : ℕ) → IsFirstLeft (all_corners mesh) seen v s → home ≡ get_or first v 0 →
+    last ≡ s → IsLeastPinch mesh v (get_or face_of home d) (get_or face_of last e)
+read_pinch mesh face_of mate edge_of tables seen first are firsts met v s home last d e left home_is last_is =
+    let pinch = left_pinch mesh seen first v s tables.is_mesh are firsts left in
     let begin = first_side_at mesh face_of mate edge_of tables first v firsts met pinch.is_vertex in
     let n = corners_len mesh in
     let lt : s < side_count mesh = let is = left.is_side in omega arith in

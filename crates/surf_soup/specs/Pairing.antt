@@ -1,6 +1,5 @@
 -- Sides in pairs.
 use Rattle.std.specs.Prelude.{◌≡◌, ℕ, ◌<◌, List, [], ◌∷◌, length, get_or, map}
-use Rattle.std.specs.List.{range_with_len}
 use Rattle.surf_surfaces.specs.Mesh.{Mesh, edges}
 use Rattle.surf_surfaces.specs.SideNumber.{side_count, owners, sides_with}
 use Rattle.surf_soup.specs.EdgeTable.{AreEdgeNumbers}
@@ -14,20 +13,19 @@ use Rattle.surf_soup.specs.declared.pairing.Pairs.{Pairs}
 abbrev pub least_side : Mesh → ℕ × ℕ → ℕ
 least_side mesh p = get_or (sides_with mesh p) 0 0
 
--- the edges, the least side of each, and for each side its mate, its edge, its face and its number
+-- the edges, the least side of each, and for each side its mate, its edge and its face
 pub record IsPairing (mesh : Mesh) (edge_list : List (ℕ × ℕ))
-    (first mate edge_of face_of numbers : List ℕ) : Type 0 where
+    (first mate edge_of face_of : List ℕ) : Type 0 where
   pub edge_list_is : edge_list ≡ edges mesh
   pub first_are : first ≡ map (least_side mesh) (edges mesh)
   pub mates : AreAllMates mesh mate
   pub edge_numbers : AreEdgeNumbers mesh edge_of
   pub face_of_is : face_of ≡ owners 0 mesh.faces
-  pub numbers_are : numbers ≡ range_with_len 0 (side_count mesh)
 
 -- a table as the code has it
 abbrev pub IsPairingOf : Mesh → Pairing → Type 0
 IsPairingOf mesh p =
-    IsPairing mesh p.edges.items p.first.items p.mate.items p.edge_of.items p.face_of p.numbers.items
+    IsPairing mesh p.edges.items p.first.items p.mate.items p.edge_of.items p.face_of
 
 -- for each edge a row of its first side and the mate of that
 abbrev pub pair_rows : List ℕ → List ℕ → List (List ℕ)

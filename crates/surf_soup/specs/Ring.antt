@@ -88,7 +88,12 @@ pub record AreDartTables (mesh : Mesh) (face_of mate edge_of : List ℕ) : Type 
 abbrev pub dart_before : Mesh → ℕ → ℕ × Bool
 dart_before mesh s = (get_or (befores mesh) s 0, true)
 
--- a whole round from a side is listed behind other sides, and the edges of its darts behind other edges
+-- a whole round from a side is marked
+pub record IsRoundMarked (mesh : Mesh) (mate : List ℕ) (home : ℕ) (seen_before seen : List Bool) : Type 0 where
+  pub ring : List ℕ
+  pub round : IsRound (nexts mesh) (befores mesh) mate (all_corners mesh) (dart_before mesh home) seen_before seen ring
+
+-- it is listed behind other sides too, and the edges of its darts behind other edges
 pub record IsRoundListed (mesh : Mesh) (mate edge_of : List ℕ) (home : ℕ) (seen_before seen : List Bool)
     (sides_before sides edges_before edges : List ℕ) : Type 0 where
   pub ring : List ℕ
@@ -159,19 +164,28 @@ pub record IsLeastPinch (mesh : Mesh) (v f g : ℕ) : Type 0 where
   pub pinch : IsPinch mesh v f g
   pub none_before : (u : ℕ) → u < v → HasOneFan mesh u
 
--- The ring of a vertex by marks of sides: it is whole where all sides at the vertex are marked; else the vertex is
+-- all sides at a vertex are marked
+abbrev pub AllMarkedAt : Mesh → List Bool → ℕ → Type 0
+AllMarkedAt mesh seen v = (s : ℕ) → BeginsAt mesh v s → marked seen s ≡ true
+
+-- The faces at a vertex by marks of sides: they are one cycle where all sides there are marked; else the vertex is
 -- pinched, and the least side that isn't marked tells where.
-pub record IsMarkedRing (mesh : Mesh) (seen : List Bool) (v : ℕ) (ring edges : List ℕ) : Type 0 where
-  pub whole : ((s : ℕ) → BeginsAt mesh v s → marked seen s ≡ true) → IsWholeRing mesh v ring edges
+pub record IsMarkedFan (mesh : Mesh) (seen : List Bool) (v : ℕ) : Type 0 where
+  pub fan : AllMarkedAt mesh seen v → HasOneFan mesh v
   pub pinch : (s : ℕ) → BeginsAt mesh v s → marked seen s ≡ false →
       ((t : ℕ) → t < s → BeginsAt mesh v t → marked seen t ≡ true) →
       IsPinch mesh v (get_or (owners 0 mesh.faces) (get_or (sides_at mesh v) 0 0) 0) (get_or (owners 0 mesh.faces) s 0)
 
--- rings of the first vertices, by marks of sides
+-- the faces at each of the first vertices, by marks of sides
+abbrev pub AreMarkedFans : Mesh → List Bool → ℕ → Type 0
+AreMarkedFans mesh seen count = (v : ℕ) → v < count → IsMarkedFan mesh seen v
+
+-- rings of the first vertices, by marks of sides: each is whole where all sides at the vertex are marked
 pub record AreMarkedRings (mesh : Mesh) (seen : List Bool) (count : ℕ) (rings edges : List (List ℕ)) : Type 0 where
   pub size : length rings ≡ count
   pub edges_size : length edges ≡ count
-  pub rings_are : (v : ℕ) → v < count → IsMarkedRing mesh seen v (get_or rings v []) (get_or edges v [])
+  pub rings_are : (v : ℕ) → v < count → AllMarkedAt mesh seen v →
+      IsWholeRing mesh v (get_or rings v []) (get_or edges v [])
 
 -- rings of the first vertices
 pub record AreAllRings (mesh : Mesh) (count : ℕ) (rings edges : List (List ℕ)) : Type 0 where

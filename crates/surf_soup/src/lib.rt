@@ -19,7 +19,8 @@
 //!
 //! The functions behind `paired_sides` each decide one property of a surface and find the least
 //! place where it fails: `find_isolated`, `find_rings` and `find_apart`. A surface check calls them
-//! in turn and hands their tables to the mesh, so that nothing is built twice.
+//! in turn and hands their tables to the mesh, so that nothing is built twice. Where no rings are
+//! wanted, `find_pinch` makes the same rounds as `find_rings` and lists nothing.
 //!
 //! The tables are those of half-edges, as in D. E. Muller and F. P. Preparata, "Finding the
 //! intersection of two convex polyhedra" (1978). A ring is found by turning from each side to the
@@ -38,14 +39,16 @@ mod rings;
 mod side_faces;
 mod soup;
 mod tables;
+mod turned;
 mod vertices;
 
 pub use apart::find_apart;
 pub use pairing::{Pairing, pair_sides};
 pub use pairs::{PairFault, face_in, first_row, pair_edges, paired_sides};
 pub use reaching::{first_unmarked, reach};
-pub use rings::{Rings, find_rings, first_left, next_sides, sides_before};
+pub use rings::{Pinch, Rings, find_pinch, find_rings, first_left};
 pub use side_faces::SideFaces;
 pub use soup::{Soup, face_span};
-pub use tables::{EdgeTable, edge_table};
+pub use tables::{EdgeTable, edge_table, numbers};
+pub use turned::{next_sides, sides_before};
 pub use vertices::{find_isolated, first_sides, vertex_sides};

@@ -8,7 +8,7 @@ ghost use Rattle.surf_soup.specs.Pairing.{IsPairingOf, ArePaired, AreNoPairs, Ha
 use crate::Soup;
 use crate::entries::side_entries;
 use crate::side_faces::SideFaces;
-use crate::tables::{is_last, numbers};
+use crate::tables::is_last;
 use std::alloc::Global;
 use surf_base::{NoMemory, SideId, VertexId};
 use surf_rows::Rows;
@@ -22,7 +22,6 @@ pub struct Pairing {
     pub mate: Vec<SideId>,
     pub edge_of: Vec<u32>,
     pub face_of: SideFaces,
-    pub numbers: Vec<SideId>,
 }
 
 // What is known of the edges and sides that are paired so far.
@@ -157,6 +156,5 @@ pub fn pair_sides(alloc: Global, soup: &Soup) -> Result<Option<Pairing>, NoMemor
         mate,
         edge_of,
         face_of: SideFaces::build(alloc, soup)?,
-        numbers: numbers(alloc, soup.side_count())?,
     }))
 }

@@ -1,15 +1,15 @@
-//! The rings of vertices.
-ghost use Rattle.std.specs.Prelude.{◌≡◌, ◌<◌, ◌+◌, ◌^◌, ℕ, length, replicate, OnOk, IfOk, MatchOption};
+//! The rings of vertices, and where there is none.
+ghost use Rattle.std.specs.Prelude.{◌≡◌, ◌<◌, ℕ, length, replicate, OnOk, IfOk, MatchOption};
 ghost use Rattle.std.specs.Prelude.{slice_index, true, false};
-ghost use Rattle.surf_surfaces.specs.Side.{after, before};
-ghost use Rattle.surf_surfaces.specs.Surface.{face_count};
+ghost use Rattle.surf_surfaces.specs.Surface.{HasOneFan};
 ghost use Rattle.surf_soup.specs.Reach.{marked};
 ghost use Rattle.surf_surfaces.specs.SideNumber.{side_count};
 ghost use Rattle.surf_soup.specs.Pairing.{IsPairingOf};
 ghost use Rattle.surf_soup.specs.Pairs.{HasTwoFaces};
 ghost use Rattle.surf_soup.specs.Vertices.{all_corners, AllMet};
-ghost use Rattle.surf_soup.specs.Ring.{dart_corner, turn_of, nexts, befores, AreDartTables, IsRoundListed};
-ghost use Rattle.surf_soup.specs.Ring.{AreTurned, BeginsAt, AreMarkedRings, AreRings};
+ghost use Rattle.surf_soup.specs.Ring.{dart_corner, turn_of, nexts, befores, AreDartTables, IsRoundMarked};
+ghost use Rattle.surf_soup.specs.Ring.{IsRoundListed, BeginsAt, AreMarkedFans, AreMarkedRings};
+ghost use Rattle.surf_soup.specs.Ring.{IsLeastPinch, AreRings};
 ghost use Rattle.surf_soup.specs.First.{AreFirstSides, IsFirstLeft};
 
 use crate::Soup;
@@ -33,6 +33,15 @@ pub enum Rings {
     },
 }
 
+/// The least vertex whose faces are more than one cycle, its least face, and the least face outside
+/// that face's cycle.
+#[derive(Clone, Copy, Debug, PartialEq, Eq)]
+pub struct Pinch {
+    pub v: VertexId,
+    pub first: FaceId,
+    pub second: FaceId,
+}
+
 // The soup with the face, the mate and the edge of each side.
 #[derive(Drop)]
 struct Darts<'t> {
@@ -42,51 +51,20 @@ struct Darts<'t> {
     edge_of: &'t [u32],
 }
 
-// The place after one, around a face.
-fn after_place(count: u32, k: u32) -> u32
-    requires place { k < count }
-    requires few { count < 2 ^ 30 }
-    ensures { result ≡ after count k }
+// The darts of a soup whose sides are in pairs.
+fn darts_of<'t>(soup: &'t Soup, pairing: &'t Pairing) -> Darts<'t>
+    requires two { HasTwoFaces soup.now }
+    requires pairing { IsPairingOf soup.now pairing.now }
+    ensures soup { result.soup.now ≡ soup.now }
+    ensures tables { AreDartTables soup.now result.face_of.now result.mate.now result.edge_of.now }
 {
-    if k + 1 < count { k + 1 } else { 0 }
-}
-
-// The place before one, around a face.
-fn before_place(count: u32, k: u32) -> u32
-    requires place { k < count }
-    ensures { result ≡ before count k }
-{
-    if k == 0 { count - 1 } else { k - 1 }
-}
-
-// Lists the next side of each of some sides that go round a face.
-fn list_nexts(table: &mut Vec<u32>, first: u32, count: u32) -> Result<(), NoMemory>
-    requires few { first + count < 2 ^ 30 }
-    ensures size { OnOk result (length table.new.items ≡ length table.old.items + count) }
-    ensures kept { OnOk result ((s : ℕ) → s < length table.old.items →
-        slice_index table.new.items s ≡ slice_index table.old.items s) }
-    ensures here { OnOk result ((k : ℕ) → k < count →
-        slice_index table.new.items (length table.old.items + k) ≡ first + after count k) }
-{
-    for k in 0..count {
-        table.push(first + after_place(count, k))?;
+    soup.law_of_soup();
+    Darts {
+        soup,
+        face_of: &pairing.face_of,
+        mate: &pairing.mate,
+        edge_of: &pairing.edge_of,
     }
-    Ok(())
-}
-
-// Lists the side before each of some sides that go round a face.
-fn list_befores(table: &mut Vec<u32>, first: u32, count: u32) -> Result<(), NoMemory>
-    requires few { first + count < 2 ^ 30 }
-    ensures size { OnOk result (length table.new.items ≡ length table.old.items + count) }
-    ensures kept { OnOk result ((s : ℕ) → s < length table.old.items →
-        slice_index table.new.items s ≡ slice_index table.old.items s) }
-    ensures here { OnOk result ((k : ℕ) → k < count →
-        slice_index table.new.items (length table.old.items + k) ≡ first + before count k) }
-{
-    for k in 0..count {
-        table.push(first + before_place(count, k))?;
-    }
-    Ok(())
 }
 
 // The next side of a side, around its face.
@@ -133,6 +111,25 @@ fn turn_dart(darts: &Darts<'_>, side: u32, head: bool) -> (u32, bool, u32)
     }
 }
 
+// Goes round a vertex from one of its sides, and marks the sides that it meets.
+fn mark_round(darts: &Darts<'_>, home: SideId, seen: &mut [bool])
+    requires darts { AreDartTables darts.now.soup.now
+        darts.now.face_of.now darts.now.mate.now darts.now.edge_of.now }
+    requires home { home < side_count darts.now.soup.now }
+    requires size { length seen.old ≡ side_count darts.now.soup.now }
+    requires fresh { (s : ℕ) → BeginsAt darts.now.soup.now
+        (slice_index (all_corners darts.now.soup.now) home) s → marked seen.old s ≡ false }
+    ensures { IsRoundMarked darts.now.soup.now darts.now.mate.now home seen.old seen.new }
+{
+    let mut side = side_before(darts, home.number());
+    let mut head = true;
+    let mut at = home.number();
+    while !seen[at as usize] {
+        seen[at as usize] = true;
+        (side, head, at) = turn_dart(darts, side, head);
+    }
+}
+
 // Goes round a vertex from one of its sides, and lists the sides and the edges that it meets.
 fn go_round(
     darts: &Darts<'_>,
@@ -163,36 +160,6 @@ fn go_round(
     Ok(())
 }
 
-/// The next side of each side, around its face.
-pub fn next_sides(alloc: Global, soup: &Soup) -> Result<Vec<u32>, NoMemory>
-    ensures { IfOk result (λ v. AreTurned after soup.now (face_count soup.now) v.items) }
-{
-    soup.law_of_soup();
-    let mut table = Vec::with_capacity(alloc, soup.side_count() as usize)?;
-    let mut first = 0u32;
-    for f in 0..soup.faces() {
-        let count = soup.face(FaceId::new(f)).len() as u32;
-        list_nexts(&mut table, first, count)?;
-        first += count;
-    }
-    Ok(table)
-}
-
-/// The side before each side, around its face.
-pub fn sides_before(alloc: Global, soup: &Soup) -> Result<Vec<u32>, NoMemory>
-    ensures { IfOk result (λ v. AreTurned before soup.now (face_count soup.now) v.items) }
-{
-    soup.law_of_soup();
-    let mut table = Vec::with_capacity(alloc, soup.side_count() as usize)?;
-    let mut first = 0u32;
-    for f in 0..soup.faces() {
-        let count = soup.face(FaceId::new(f)).len() as u32;
-        list_befores(&mut table, first, count)?;
-        first += count;
-    }
-    Ok(table)
-}
-
 /// The first of some sides that isn't marked.
 pub fn first_left(row: &[SideId], seen: &[bool]) -> Option<usize>
     requires { (k : ℕ) → k < length row.now → slice_index row.now k < length seen.now }
@@ -209,7 +176,21 @@ pub fn first_left(row: &[SideId], seen: &[bool]) -> Option<usize>
     None
 }
 
-// Goes round each vertex in turn, from the first of its sides.
+// Goes round each vertex in turn, from the first of its sides, and marks the sides that are met.
+fn mark_rounds(darts: &Darts<'_>, first: &[SideId], seen: &mut [bool])
+    requires darts { AreDartTables darts.now.soup.now
+        darts.now.face_of.now darts.now.mate.now darts.now.edge_of.now }
+    requires first { AreFirstSides darts.now.soup.now first.now }
+    requires met { AllMet darts.now.soup.now }
+    requires fresh { seen.old ≡ replicate (side_count darts.now.soup.now) false }
+    ensures { AreMarkedFans darts.now.soup.now seen.new darts.now.soup.now.vertices }
+{
+    for home in first {
+        mark_round(darts, *home, seen);
+    }
+}
+
+// Goes round each vertex in turn, from the first of its sides, and lists the rings.
 fn go_rings(
     alloc: Global,
     darts: &Darts<'_>,
@@ -221,7 +202,9 @@ fn go_rings(
     requires first { AreFirstSides darts.now.soup.now first.now }
     requires met { AllMet darts.now.soup.now }
     requires fresh { seen.old ≡ replicate (side_count darts.now.soup.now) false }
-    ensures { IfOk result (λ t. AreMarkedRings darts.now.soup.now seen.new
+    ensures fans { OnOk result (AreMarkedFans darts.now.soup.now seen.new
+        darts.now.soup.now.vertices) }
+    ensures rings { IfOk result (λ t. AreMarkedRings darts.now.soup.now seen.new
         darts.now.soup.now.vertices t.0 t.1) }
 {
     let room = darts.mate.len();
@@ -262,6 +245,45 @@ fn least_left(soup: &Soup, seen: &[bool]) -> Option<(VertexId, SideId)>
     Some((least, side))
 }
 
+// The pinch at the least vertex with a side that no round met.
+fn pinch_left(darts: &Darts<'_>, first: &[SideId], seen: &[bool]) -> Option<Pinch>
+    requires darts { AreDartTables darts.now.soup.now
+        darts.now.face_of.now darts.now.mate.now darts.now.edge_of.now }
+    requires first { AreFirstSides darts.now.soup.now first.now }
+    requires met { AllMet darts.now.soup.now }
+    requires size { length seen.now ≡ side_count darts.now.soup.now }
+    requires fans { AreMarkedFans darts.now.soup.now seen.now darts.now.soup.now.vertices }
+    ensures { MatchOption result ((s : ℕ) → s < side_count darts.now.soup.now →
+        marked seen.now s ≡ true) (λ p. IsLeastPinch darts.now.soup.now p.v p.first p.second) }
+{
+    match least_left(darts.soup, seen) {
+        None => None,
+        Some((v, left)) => {
+            let home = first[v.index()];
+            Some(Pinch {
+                v,
+                first: darts.face_of.at(home),
+                second: darts.face_of.at(left),
+            })
+        }
+    }
+}
+
+// The pinch at the least vertex that has one, by marks of the sides that rounds meet.
+fn pinch_by(darts: &Darts<'_>, first: &[SideId], seen: &mut [bool]) -> Option<Pinch>
+    requires darts { AreDartTables darts.now.soup.now
+        darts.now.face_of.now darts.now.mate.now darts.now.edge_of.now }
+    requires first { AreFirstSides darts.now.soup.now first.now }
+    requires met { AllMet darts.now.soup.now }
+    requires fresh { seen.old ≡ replicate (side_count darts.now.soup.now) false }
+    ensures { MatchOption result ((v : ℕ) → v < darts.now.soup.now.vertices →
+        HasOneFan darts.now.soup.now v)
+        (λ p. IsLeastPinch darts.now.soup.now p.v p.first p.second) }
+{
+    mark_rounds(darts, first, seen);
+    pinch_left(darts, first, seen)
+}
+
 // The rings of all vertices where no side is left, and else the pinch at the least vertex with one
 // that is.
 fn judge_rings(
@@ -278,16 +300,9 @@ fn judge_rings(
     ensures { IfOk result (λ r. AreRings darts.now.soup.now r) }
 {
     let (sides, edges) = go_rings(alloc, darts, first, seen)?;
-    match least_left(darts.soup, seen) {
+    match pinch_left(darts, first, seen) {
         None => Ok(Rings::All { sides, edges }),
-        Some((v, left)) => {
-            let home = first[v.index()];
-            Ok(Rings::Pinched {
-                v,
-                first: darts.face_of.at(home),
-                second: darts.face_of.at(left),
-            })
-        }
+        Some(Pinch { v, first, second }) => Ok(Rings::Pinched { v, first, second }),
     }
 }
 
@@ -308,13 +323,30 @@ pub fn find_rings(
     ensures { IfOk result (λ r. AreRings soup.now r) }
 {
     soup.law_of_soup();
-    let darts = Darts {
-        soup,
-        face_of: &pairing.face_of,
-        mate: &pairing.mate,
-        edge_of: &pairing.edge_of,
-    };
+    let darts = darts_of(soup, pairing);
     let mut seen = vec![in alloc; false; soup.side_count() as usize]?;
     let rings = judge_rings(alloc, &darts, first, &mut seen)?;
     Ok(rings)
+}
+
+/// The least vertex whose faces are more than one cycle. It makes the rounds of `find_rings`, and
+/// lists nothing.
+pub fn find_pinch(
+    alloc: Global,
+    soup: &Soup,
+    pairing: &Pairing,
+    first: &[SideId],
+) -> Result<Option<Pinch>, NoMemory>
+    requires two { HasTwoFaces soup.now }
+    requires pairing { IsPairingOf soup.now pairing.now }
+    requires first { AreFirstSides soup.now first.now }
+    requires met { AllMet soup.now }
+    ensures { IfOk result (λ found. MatchOption found ((v : ℕ) → v < soup.now.vertices →
+        HasOneFan soup.now v) (λ p. IsLeastPinch soup.now p.v p.first p.second)) }
+{
+    soup.law_of_soup();
+    let darts = darts_of(soup, pairing);
+    let mut seen = vec![in alloc; false; soup.side_count() as usize]?;
+    let found = pinch_by(&darts, first, &mut seen);
+    Ok(found)
 }

@@ -1,5 +1,3 @@
-use Rattle.std.proofs.Common.{ap, ◌∙◌}
-use Rattle.std.specs.List.{range_with_len}
 use Rattle.surf_soup.specs.Pairing.{HasAllPairs}
 use Rattle.surf_soup.proofs.pairing.pair_sides.Goals as goal
 
@@ -13,6 +11,5 @@ returns c =
         mates = all.mates;
         edge_numbers = all.numbers;
         face_of_is = c.in_ok-build.ensures;
-        numbers_are = c.in_ok-numbers.ensures ∙ ap (range_with_len 0) c.side_count.ensures.count;
       },
     )

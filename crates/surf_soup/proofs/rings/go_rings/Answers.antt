@@ -2,7 +2,7 @@ use Rattle.std.proofs.Common.{◌≡◌, ◌<◌, ◌+◌, ◌++◌, ◌∷◌, 
 use Rattle.std.proofs.lemmas.List.{get_or_read}
 use Rattle.surf_rows.specs.Rows.{cut}
 use Rattle.surf_soup.specs.Vertices.{all_corners}
-use Rattle.surf_soup.specs.Ring.{AreMarkedRings, IsRoundListed}
+use Rattle.surf_soup.specs.Ring.{AreMarkedFans, AreMarkedRings, IsRoundListed}
 use Rattle.surf_soup.proofs.RingMarks.{AreRingsListed, first_side_at, rings_next}
 use Rattle.surf_soup.proofs.rings.go_rings.Goals as goal
 
@@ -26,7 +26,7 @@ go_round-requires-clause-fresh c = λ s b.
     let read = get_or_read first v c.home-item.result c.loop-home-test.true c.home-item.is 0 in
     let at = first_side_at mesh c.args.darts.now.face_of.now c.args.darts.now.mate.now c.args.darts.now.edge_of.now
     c.requires.darts first v c.requires.first c.requires.met lt in
-    c.loop-home.invariant.fresh v s (omega arith) (b.0, b.1 ∙ ap (λ t. get_or (all_corners mesh) t 0) read ∙ at.1)
+    c.loop-home.invariant.marks.fresh v s (omega arith) (b.0, b.1 ∙ ap (λ t. get_or (all_corners mesh) t 0) read ∙ at.1)
 
 pub loop-home-preserved : goal.loop-home-preserved
 loop-home-preserved c =
@@ -46,8 +46,16 @@ loop-home-preserved c =
     c.loop-home.sides.items sides c.loop-home.edges.items c.go_round.new.edges.items c.loop-home.ends.items
     c.requires.first c.requires.met c.loop-home.invariant lt (subst P read c.in_ok-go_round.ensures))
 
-pub returns : goal.returns
-returns c =
+pub returns-clause-fans : goal.returns-clause-fans
+returns-clause-fans c =
+    let mesh = c.args.darts.now.soup.now in
+    let size = c.requires.first.size in
+    let n : c.loop-home.home-index ≡ mesh.vertices = omega arith in
+    let M : ℕ → Type 0 = AreMarkedFans mesh c.loop-home.seen in
+    subst M n c.loop-home.invariant.marks.fans
+
+pub returns-clause-rings : goal.returns-clause-rings
+returns-clause-rings c =
     let mesh = c.args.darts.now.soup.now in
     let size = c.requires.first.size in
     let n : c.loop-home.home-index ≡ mesh.vertices = omega arith in

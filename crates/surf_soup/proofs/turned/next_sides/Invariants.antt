@@ -2,7 +2,7 @@ use Rattle.std.proofs.Common.{◌≡◌}
 use Rattle.surf_surfaces.specs.Side.{after}
 use Rattle.surf_surfaces.specs.SideNumber.{first_side}
 use Rattle.surf_soup.specs.Ring.{AreTurned}
-use Rattle.surf_soup.proofs.rings.next_sides.Given as goal
+use Rattle.surf_soup.proofs.turned.next_sides.Given as goal
 
 abbrev pub invariant-loop-f : goal.invariant-loop-f
 invariant-loop-f l = record {

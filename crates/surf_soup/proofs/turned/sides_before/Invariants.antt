@@ -2,7 +2,7 @@ use Rattle.std.proofs.Common.{◌≡◌}
 use Rattle.surf_surfaces.specs.Side.{before}
 use Rattle.surf_surfaces.specs.SideNumber.{first_side}
 use Rattle.surf_soup.specs.Ring.{AreTurned}
-use Rattle.surf_soup.proofs.rings.sides_before.Given as goal
+use Rattle.surf_soup.proofs.turned.sides_before.Given as goal
 
 abbrev pub invariant-loop-f : goal.invariant-loop-f
 invariant-loop-f l = record {

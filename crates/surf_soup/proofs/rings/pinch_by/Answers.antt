@@ -1,0 +1,6 @@
+use Rattle.surf_soup.proofs.RingMarks.{found_pinch}
+use Rattle.surf_soup.proofs.rings.pinch_by.Goals as goal
+
+pub returns : goal.returns
+returns c = found_pinch c.args.darts.now.soup.now c.mark_rounds.new.seen c.pinch_left.result c.mark_rounds.ensures
+    c.pinch_left.ensures
