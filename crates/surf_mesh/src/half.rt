@@ -1,28 +1,29 @@
 //! Surfaces with their half-edges.
-ghost use Rattle.std.specs.Prelude.{◌≡◌, ◌<◌, ◌≤◌, ◌+◌, ◌^◌, ℕ, List, length, All, AllPairs, IfOk, MatchOption};
-ghost use Rattle.std.specs.Prelude.{slice_index_or, false, true};
+ghost use Rattle.std.specs.Prelude.{◌≡◌, ◌<◌, ◌≤◌, ◌+◌, ◌^◌, ℕ, List, length, IfOk, MatchOption};
+ghost use Rattle.std.specs.Prelude.{false};
 ghost use Rattle.std.specs.List.{range_with_len};
-ghost use Rattle.surf_surfaces.specs.Mesh.{IsFace, pair, pair_lt, among, edges};
+ghost use Rattle.surf_surfaces.specs.Mesh.{IsFace, pair, among, edges};
 ghost use Rattle.surf_surfaces.specs.Surface.{face_count, face_at, edge_count, ends, faces_of, IsSurface};
 ghost use Rattle.surf_surfaces.specs.SideNumber.{side_count, first_side, IsFaceOf, IsEdgeOf};
 ghost use Rattle.surf_surfaces.specs.SideNumber.{IsMate};
 ghost use Rattle.surf_soup.specs.Pairing.{IsPairingOf};
 ghost use Rattle.surf_soup.specs.Ring.{BeginsAt, IsRing, AreEdgesAt, GoBetween, AreAllRings};
 
+use crate::Surface;
 use std::alloc::Global;
 use std::marker::Model;
 use surf_base::{EdgeId, FaceId, NoMemory, SideId, VertexId};
 use surf_rows::{Rows, part};
-use surf_soup::{Pairing, Rings, Soup, face_span, find_rings, first_sides, pair_sides};
+use surf_soup::{Pairing, Rings, Soup, find_rings, first_sides, numbers, pair_sides};
 
-/// A surface, with the two sides of each edge joined.
+/// A surface, with the two sides of each edge joined, the ring of each vertex and the edges that go
+/// with it.
 #[derive(Drop)]
 pub struct HalfMesh {
-    vertices: u32,
-    faces: Rows<VertexId>,
-    pairing: Pairing,
+    surface: Surface,
     rings: Rows<SideId>,
     ring_edges: Rows<EdgeId>,
+    numbers: Vec<SideId>,
 }
 
 impl Model for HalfMesh {
@@ -31,47 +32,9 @@ impl Model for HalfMesh {
 
     ghost Value = { Mesh };
 
-    ghost view = { λ h. record { vertices = h.vertices; faces = h.faces } };
+    ghost view = { λ h. h.surface };
 
-    ghost invariant = { λ h. IsHalfMesh (record { vertices = h.vertices; faces = h.faces })
-        h.pairing.edges.items h.pairing.first.items h.pairing.mate.items h.pairing.edge_of.items
-        h.pairing.face_of h.pairing.numbers.items h.rings h.ring_edges };
-}
-
-// The lesser vertex first.
-fn ordered(u: VertexId, v: VertexId) -> (VertexId, VertexId)
-    ensures { result ≡ pair u v }
-{
-    if u < v { (u, v) } else { (v, u) }
-}
-
-// Whether the first pair is before the second.
-fn is_before(u: VertexId, v: VertexId, low: VertexId, high: VertexId) -> bool
-    ensures { result ≡ pair_lt (u, v) (low, high) }
-{
-    u < low || (u == low && v < high)
-}
-
-// The place of a pair in a list of pairs in order.
-fn find_pair(edges: &[(VertexId, VertexId)], low: VertexId, high: VertexId) -> Option<usize>
-    requires { AllPairs (λ p q. pair_lt p q ≡ true) edges.now }
-    ensures { MatchOption result (among (low, high) edges.now ≡ false) (λ e. (e < length edges.now)
-        × (slice_index_or edges.now e (0, 0) ≡ (low, high))) }
-{
-    let mut from = 0;
-    let mut to = edges.len();
-    while from < to {
-        let middle = from + (to - from) / 2;
-        let (u, v) = edges[middle];
-        if is_before(u, v, low, high) {
-            from = middle + 1;
-        } else if is_before(low, high, u, v) {
-            to = middle;
-        } else {
-            return Some(middle);
-        }
-    }
-    None
+    ghost invariant = { λ h. IsHalfMesh h.surface h.rings h.ring_edges h.numbers.items };
 }
 
 impl HalfMesh {
@@ -94,33 +57,38 @@ impl HalfMesh {
     {
         let first = first_sides(alloc, &soup)?;
         match find_rings(alloc, &soup, &pairing, &first)? {
-            Rings::All { sides, edges } => Ok(HalfMesh::from_parts(soup, pairing, sides, edges)),
+            Rings::All { sides, edges } => {
+                let surface = Surface::from_parts(soup, pairing);
+                HalfMesh::with_rings(alloc, surface, sides, edges)
+            }
             Rings::Pinched { .. } => unreachable!(),
         }
     }
 
-    /// The same, by all its tables: its sides in pairs, and for each vertex its ring and the edges
-    /// that go with it. It takes no memory.
-    pub fn from_parts(
-        soup: Soup,
-        pairing: Pairing,
+    /// The mesh of a surface, by the ring of each vertex and the edges that go with it.
+    pub fn with_rings(
+        alloc: Global,
+        surface: Surface,
         rings: Rows<SideId>,
         ring_edges: Rows<EdgeId>,
-    ) -> HalfMesh
-        requires surface { IsSurface soup }
-        requires pairing { IsPairingOf soup pairing }
-        requires rings { AreAllRings soup soup.vertices rings ring_edges }
-        ensures { result ≡ soup }
+    ) -> Result<HalfMesh, NoMemory>
+        requires rings { AreAllRings surface surface.vertices rings ring_edges }
+        ensures { IfOk result (λ h. h ≡ surface) }
     {
-        soup.law_of_soup();
-        let (vertices, faces) = soup.into_parts();
-        HalfMesh {
-            vertices,
-            faces,
-            pairing,
+        let numbers = numbers(alloc, surface.side_count())?;
+        Ok(HalfMesh {
+            surface,
             rings,
             ring_edges,
-        }
+            numbers,
+        })
+    }
+
+    /// The same surface without its rings.
+    pub fn surface(&self) -> &Surface
+        ensures { result.now ≡ self.now }
+    {
+        &self.surface
     }
 
     /// What every mesh of this type keeps: it is a surface, and its counts fit their numbers. A
@@ -132,8 +100,7 @@ impl HalfMesh {
         ensures faces { face_count self.now < 2 ^ 30 }
         ensures edges { edge_count self.now < 2 ^ 30 }
     {
-        // (what a type keeps is known where one of its fields is used)
-        let _vertices = self.vertices;
+        self.surface.law_of_surface();
     }
 
     /// How many vertices there are.
@@ -142,7 +109,7 @@ impl HalfMesh {
         ensures surface { IsSurface self.now }
         ensures few { side_count self.now < 2 ^ 30 }
     {
-        self.vertices
+        self.surface.vertices()
     }
 
     /// How many faces there are.
@@ -151,7 +118,7 @@ impl HalfMesh {
         ensures surface { IsSurface self.now }
         ensures few { side_count self.now < 2 ^ 30 }
     {
-        self.faces.len() as u32
+        self.surface.faces()
     }
 
     /// How many edges there are.
@@ -160,7 +127,7 @@ impl HalfMesh {
         ensures surface { IsSurface self.now }
         ensures few { side_count self.now < 2 ^ 30 }
     {
-        self.pairing.edges.len() as u32
+        self.surface.edges()
     }
 
     /// How many sides all faces have, two for each edge.
@@ -169,7 +136,7 @@ impl HalfMesh {
         ensures surface { IsSurface self.now }
         ensures few { side_count self.now < 2 ^ 30 }
     {
-        self.pairing.mate.len() as u32
+        self.surface.side_count()
     }
 
     /// The corners of a face.
@@ -178,7 +145,7 @@ impl HalfMesh {
         ensures corners { result.now ≡ face_at self.now f }
         ensures face { IsFace self.now.vertices result.now }
     {
-        self.faces.row(f.index())
+        self.surface.face(f)
     }
 
     /// The other side of its edge.
@@ -186,7 +153,7 @@ impl HalfMesh {
         requires { s < side_count self.now }
         ensures { IsMate self.now s result }
     {
-        self.pairing.mate[s.index()]
+        self.surface.mate(s)
     }
 
     /// The vertex at which a side begins.
@@ -194,7 +161,7 @@ impl HalfMesh {
         requires { s < side_count self.now }
         ensures { BeginsAt self.now result s }
     {
-        self.faces.items()[s.index()]
+        self.surface.tail(s)
     }
 
     /// The face of a side.
@@ -202,7 +169,7 @@ impl HalfMesh {
         requires { s < side_count self.now }
         ensures { IsFaceOf self.now s result }
     {
-        self.pairing.face_of.at(s)
+        self.surface.face_of(s)
     }
 
     /// The edge of a side.
@@ -210,7 +177,7 @@ impl HalfMesh {
         requires { s < side_count self.now }
         ensures { IsEdgeOf self.now s result }
     {
-        EdgeId::new(self.pairing.edge_of[s.index()])
+        self.surface.edge_of(s)
     }
 
     /// The ends of an edge, the lesser first.
@@ -218,7 +185,7 @@ impl HalfMesh {
         requires { e < edge_count self.now }
         ensures { result ≡ ends self.now e }
     {
-        self.pairing.edges[e.index()]
+        self.surface.ends(e)
     }
 
     /// The faces of an edge, the lesser first.
@@ -226,12 +193,7 @@ impl HalfMesh {
         requires { e < edge_count self.now }
         ensures { result ≡ faces_of self.now e }
     {
-        let side = self.pairing.first[e.index()];
-        let other = self.pairing.mate[side.index()];
-        (
-            self.pairing.face_of.at(side),
-            self.pairing.face_of.at(other),
-        )
+        self.surface.faces_of(e)
     }
 
     /// The edge between two vertices; none exactly where the pair is no edge.
@@ -239,12 +201,7 @@ impl HalfMesh {
         ensures { MatchOption result (among (pair u v) (edges self.now) ≡ false)
             (λ e. (e < edge_count self.now) × (ends self.now e ≡ pair u v)) }
     {
-        let (low, high) = ordered(u, v);
-        let found = find_pair(&self.pairing.edges, low, high);
-        match found {
-            None => None,
-            Some(e) => Some(EdgeId::new(e as u32)),
-        }
+        self.surface.find_edge(u, v)
     }
 
     /// The sides of a face, in the order of its corners.
@@ -253,8 +210,8 @@ impl HalfMesh {
         ensures { result.now ≡ range_with_len (first_side self.now f)
             (length (face_at self.now f)) }
     {
-        let (start, end) = face_span(&self.faces, f.index());
-        part(&self.pairing.numbers, start, end)
+        let (start, end) = self.surface.side_span(f);
+        part(&self.numbers, start as usize, end as usize)
     }
 
     /// The numbers of the sides of a face: from the first one on, as many as it has corners. No
@@ -265,8 +222,7 @@ impl HalfMesh {
         ensures end { result.1 ≡ first_side self.now f + length (face_at self.now f) }
         ensures inside { result.1 ≤ side_count self.now }
     {
-        let (start, end) = face_span(&self.faces, f.index());
-        (start as u32, end as u32)
+        self.surface.side_span(f)
     }
 
     /// The sides that begin at a vertex, one a face there, in the order round it from the least

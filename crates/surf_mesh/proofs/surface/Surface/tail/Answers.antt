@@ -5,7 +5,7 @@ use Rattle.surf_surfaces.specs.SideNumber.{side_count}
 use Rattle.surf_soup.specs.Vertices.{all_corners}
 use Rattle.surf_soup.specs.Ring.{BeginsAt}
 use Rattle.surf_soup.proofs.VertexLaws.{corners_len}
-use Rattle.surf_mesh.proofs.half.HalfMesh.tail.Goals as goal
+use Rattle.surf_mesh.proofs.surface.Surface.tail.Goals as goal
 
 pub bounds-items-index : goal.bounds-items-index
 bounds-items-index c =
