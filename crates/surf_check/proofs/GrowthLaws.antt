@@ -1,22 +1,19 @@
 -- A tree of the faces that grows.
-use Rattle.std.proofs.Common.{◌≡◌, ◌≢◌, ℕ, ◌+◌, ◌-◌, ◌<◌, Bool, true, false, List, [], ◌∷◌, ◌++◌, length, get_or, set}
+use Rattle.std.proofs.Common.{◌≡◌, ◌≢◌, ℕ, ◌<◌, Bool, true, false, List, [], ◌∷◌, ◌++◌, length, get_or, set}
 use Rattle.std.proofs.Common.{replicate, refl, sym, ap, subst, ◌∙◌, arith, inl, inr}
 use Rattle.std.proofs.lemmas.Bool.{true≢false, cases_eq}
 use Rattle.std.proofs.lemmas.List.{length-replicate, get_or-replicate, length-set, get_or-set_same, get_or-set_other}
 use Rattle.std.proofs.lemmas.List.{length_push, get_or_push, get_or_append_left}
-use Rattle.std.specs.List.{range_with_len}
-use Rattle.std.proofs.lemmas.List.FromFn.{length-range_with_len, get_or-range_with_len}
 use Rattle.surf_z2.specs.Parity.{xor}
 use Rattle.surf_graphs.specs.Graphs.{joins}
 use Rattle.surf_graphs.specs.Trees.{IsTree}
 use Rattle.surf_graphs.specs.Cells.{dual}
 use Rattle.surf_surfaces.specs.Mesh.{Mesh}
-use Rattle.surf_surfaces.specs.Surface.{face_count, edge_count, face_at, IsSurface}
+use Rattle.surf_surfaces.specs.Surface.{face_count, edge_count, IsSurface}
 use Rattle.surf_surfaces.specs.Cells.{cells_of}
 use Rattle.surf_surfaces.proofs.JoinedLaws.{joined_closed}
 use Rattle.surf_turnings.specs.Chains.{same_way, FollowTree}
-use Rattle.surf_surfaces.specs.SideNumber.{side_count, first_side, IsFaceOf}
-use Rattle.surf_soup.proofs.HalfLaws.{spans}
+use Rattle.surf_surfaces.specs.SideNumber.{IsFaceOf}
 use Rattle.surf_soup.specs.Reach.{marked}
 use Rattle.surf_soup.proofs.ReachSteps.{marked-inside, unmarked-fresh, none_marked}
 use Rattle.surf_soup.proofs.RoundSteps.{marks_one}
@@ -208,31 +205,6 @@ grows_on_both a b c x y z p q = record {
 pub crossed_still : (mesh : Mesh) (a b : List Bool) (x y : List ℕ) (s : ℕ) → GrowsOn a b x y → IsCrossed mesh a s →
     IsCrossed mesh b s
 crossed_still mesh a b x y s on h e is = let c = h e is in (on.stay _ c.0, on.stay _ c.1)
-
--- the sides of a face, by their places
-module _ (mesh : Mesh) (f : ℕ) (row : List ℕ) (in' : f < face_count mesh)
-    (is : row ≡ range_with_len (first_side mesh f) (length (face_at mesh f))) where
-  row_size : length row ≡ length (face_at mesh f)
-  row_size = ap length is ∙ length-range_with_len (first_side mesh f) (length (face_at mesh f))
-
-  row_at : (j : ℕ) → j < length row → get_or row j 0 ≡ first_side mesh f + j
-  row_at j lt = let n = row_size in ap (λ (xs : List ℕ). get_or xs j 0) is
-      ∙ get_or-range_with_len (first_side mesh f) (length (face_at mesh f)) j 0 (omega arith)
-
-  pub row_face : (j : ℕ) → j < length row → IsFaceOf mesh (get_or row j 0) f
-  row_face j lt = let n = row_size in
-      let at = row_at j lt in record { is_face = in'; from = omega (arith, at); upto = omega (arith, at, n) }
-
-  pub row_below : (j : ℕ) → j < length row → get_or row j 0 < side_count mesh
-  row_below j lt = let n = row_size in let at = row_at j lt in
-      let sp = spans mesh.faces f in' in omega (arith, at, n, sp.0, sp.1)
-
-  pub row_has : (s : ℕ) → IsFaceOf mesh s f → (j : ℕ) × (j < length row) × (get_or row j 0 ≡ s)
-  row_has s h =
-      let n = row_size in
-      let j = s - first_side mesh f in
-      let lt : j < length row = omega (arith, h.from, h.upto, n) in
-      (j, lt, omega (arith, row_at j lt, h.from))
 
 -- at the end all faces are in the tree
 module _ (mesh : Mesh) (surface : IsSurface mesh) (parent up rank : List ℕ) (flags seen : List Bool)

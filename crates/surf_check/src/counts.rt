@@ -6,10 +6,10 @@ ghost use Rattle.surf_turnings.specs.Statements.{genus_of};
 ghost use Rattle.surf_check.specs.Growth.{flag_of};
 
 use crate::answers::Turning;
-use surf_mesh::HalfMesh;
+use surf_mesh::{HalfMesh, Surface};
 
 /// The number of vertices minus that of edges plus that of faces.
-pub fn characteristic(mesh: &HalfMesh) -> i64
+pub fn surface_characteristic(mesh: &Surface) -> i64
     ensures { result ≡ characteristic mesh.now }
 {
     let vertices = mesh.vertices() as i64;
@@ -18,8 +18,15 @@ pub fn characteristic(mesh: &HalfMesh) -> i64
     vertices - edges + faces
 }
 
+/// The number of vertices minus that of edges plus that of faces.
+pub fn characteristic(mesh: &HalfMesh) -> i64
+    ensures { result ≡ characteristic mesh.now }
+{
+    surface_characteristic(mesh.surface())
+}
+
 /// Half of 2 minus the characteristic, for a surface and a turning of it.
-pub fn genus(mesh: &HalfMesh, turning: &Turning) -> u32
+pub fn surface_genus(mesh: &Surface, turning: &Turning) -> u32
     requires { IsTurning mesh.now (flag_of turning.now) }
     ensures is { result ≡ genus_of mesh.now }
     ensures twice { pos (2 * result) ≡ pos 2 -ℤ characteristic mesh.now }
@@ -27,4 +34,13 @@ pub fn genus(mesh: &HalfMesh, turning: &Turning) -> u32
     let most = mesh.edges() as u64 + 2;
     let taken = mesh.vertices() as u64 + mesh.faces() as u64;
     ((most - taken) / 2) as u32
+}
+
+/// Half of 2 minus the characteristic, for a surface and a turning of it.
+pub fn genus(mesh: &HalfMesh, turning: &Turning) -> u32
+    requires { IsTurning mesh.now (flag_of turning.now) }
+    ensures is { result ≡ genus_of mesh.now }
+    ensures twice { pos (2 * result) ≡ pos 2 -ℤ characteristic mesh.now }
+{
+    surface_genus(mesh.surface(), turning)
 }

@@ -8,7 +8,7 @@ ghost use Rattle.surf_check.specs.Growth.{TreeGrows, TreeGrowsOn, IsCrossed, IsF
 
 use std::alloc::Global;
 use surf_base::{EdgeId, FaceId, NoMemory, SideId};
-use surf_mesh::HalfMesh;
+use surf_mesh::Surface;
 
 /// For each face its parent, the edge to it, the place where it was listed, and its flag; and the
 /// faces that were met, in order.
@@ -23,7 +23,7 @@ pub(crate) struct FaceTree {
 }
 
 // Face 0 alone.
-fn start(alloc: Global, mesh: &HalfMesh) -> Result<FaceTree, NoMemory>
+fn start(alloc: Global, mesh: &Surface) -> Result<FaceTree, NoMemory>
     ensures { IfOk result (λ t. TreeGrows mesh.now t × (t.listed.items ≡ 0 ∷ [])) }
 {
     let count = mesh.faces() as usize;
@@ -82,7 +82,7 @@ fn hang(
 }
 
 // Hangs the face across a side on the side's face, unless it is in the tree.
-fn cross(mesh: &HalfMesh, side: SideId, tree: &mut FaceTree) -> Result<(), NoMemory>
+fn cross(mesh: &Surface, side: SideId, tree: &mut FaceTree) -> Result<(), NoMemory>
     requires side { side < side_count mesh.now }
     requires grows { TreeGrows mesh.now tree.old }
     requires from { (f : ℕ) → IsFaceOf mesh.now side f → marked tree.old.seen.items f ≡ true }
@@ -105,7 +105,7 @@ fn cross(mesh: &HalfMesh, side: SideId, tree: &mut FaceTree) -> Result<(), NoMem
 }
 
 // Goes over each side of a face of the tree.
-fn go_over(mesh: &HalfMesh, face: FaceId, tree: &mut FaceTree) -> Result<(), NoMemory>
+fn go_over(mesh: &Surface, face: FaceId, tree: &mut FaceTree) -> Result<(), NoMemory>
     requires face { marked tree.old.seen.items face ≡ true }
     requires grows { TreeGrows mesh.now tree.old }
     ensures grows { OnOk result (TreeGrows mesh.now tree.new) }
@@ -113,15 +113,15 @@ fn go_over(mesh: &HalfMesh, face: FaceId, tree: &mut FaceTree) -> Result<(), NoM
     ensures crossed { OnOk result ((s : ℕ) → IsFaceOf mesh.now s face →
         IsCrossed mesh.now tree.new.seen.items s) }
 {
-    let row = mesh.sides(face);
-    for side in row {
-        cross(mesh, *side, tree)?;
+    let (start, end) = mesh.side_span(face);
+    for s in start..end {
+        cross(mesh, SideId::new(s), tree)?;
     }
     Ok(())
 }
 
 /// A tree of all faces, breadth first from face 0, with flags that its edges fit.
-pub(crate) fn grow(alloc: Global, mesh: &HalfMesh) -> Result<FaceTree, NoMemory>
+pub(crate) fn grow(alloc: Global, mesh: &Surface) -> Result<FaceTree, NoMemory>
     ensures { IfOk result (λ t. IsFlagTree mesh.now t) }
 {
     mesh.law_of_surface();

@@ -12,10 +12,10 @@ use crate::answers::{Chain, ChainLink, Sides, Turning};
 use crate::growth::{FaceTree, differ, grow};
 use std::alloc::Global;
 use surf_base::{EdgeId, FaceId, NoMemory, SideId};
-use surf_mesh::HalfMesh;
+use surf_mesh::{HalfMesh, Surface};
 
 // Whether the flags fit the edge of a side.
-fn fits(mesh: &HalfMesh, flags: &[bool], side: SideId) -> bool
+fn fits(mesh: &Surface, flags: &[bool], side: SideId) -> bool
     requires side { side < side_count mesh.now }
     requires flags { length flags.now ≡ face_count mesh.now }
     ensures { (e : ℕ) → IsEdgeOf mesh.now side e →
@@ -31,7 +31,7 @@ fn fits(mesh: &HalfMesh, flags: &[bool], side: SideId) -> bool
 }
 
 // The edge of the first side whose edge the flags don't fit.
-fn first_misfit(mesh: &HalfMesh, flags: &[bool]) -> Option<EdgeId>
+fn first_misfit(mesh: &Surface, flags: &[bool]) -> Option<EdgeId>
     requires { length flags.now ≡ face_count mesh.now }
     ensures { MatchOption result (IsTurning mesh.now (flag_of flags.now))
         (λ e. (e < edge_count mesh.now) × (Fits mesh.now (flag_of flags.now) e → ⊥)) }
@@ -47,7 +47,7 @@ fn first_misfit(mesh: &HalfMesh, flags: &[bool]) -> Option<EdgeId>
 }
 
 // The link from a face over an edge.
-fn link(mesh: &HalfMesh, face: FaceId, edge: EdgeId) -> ChainLink
+fn link(mesh: &Surface, face: FaceId, edge: EdgeId) -> ChainLink
     requires { edge < edge_count mesh.now }
     ensures { link_of result ≡ record { face = face; ends = ends mesh.now edge } }
 {
@@ -57,7 +57,7 @@ fn link(mesh: &HalfMesh, face: FaceId, edge: EdgeId) -> ChainLink
 
 // Goes from a face up the tree to face 0, and adds the links to a chain.
 fn climb(
-    mesh: &HalfMesh,
+    mesh: &Surface,
     tree: &FaceTree,
     from: FaceId,
     chain: &mut Vec<ChainLink>,
@@ -81,7 +81,7 @@ fn climb(
 // The links from face 0 down the tree to a face.
 fn descend(
     alloc: Global,
-    mesh: &HalfMesh,
+    mesh: &Surface,
     tree: &FaceTree,
     to: FaceId,
 ) -> Result<Vec<ChainLink>, NoMemory>
@@ -104,7 +104,7 @@ fn descend(
 }
 
 // From face 0 to the one face of an edge, over it, and from the other back to face 0.
-fn close(alloc: Global, mesh: &HalfMesh, tree: &FaceTree, edge: EdgeId) -> Result<Chain, NoMemory>
+fn close(alloc: Global, mesh: &Surface, tree: &FaceTree, edge: EdgeId) -> Result<Chain, NoMemory>
     requires tree { IsFlagTree mesh.now tree.now }
     requires edge { edge < edge_count mesh.now }
     ensures { IfOk result (λ c. c ≡ tree_chain mesh.now (tree_in tree.now) edge) }
@@ -118,7 +118,7 @@ fn close(alloc: Global, mesh: &HalfMesh, tree: &FaceTree, edge: EdgeId) -> Resul
 }
 
 // A flag for each face, so that none is turned over.
-fn no_flags(alloc: Global, mesh: &HalfMesh) -> Result<Vec<bool>, NoMemory>
+fn no_flags(alloc: Global, mesh: &Surface) -> Result<Vec<bool>, NoMemory>
     ensures { IfOk result (λ flags. flags.items ≡ replicate (face_count mesh.now) false) }
 {
     let flags = vec![in alloc; false; mesh.faces() as usize]?;
@@ -126,7 +126,7 @@ fn no_flags(alloc: Global, mesh: &HalfMesh) -> Result<Vec<bool>, NoMemory>
 }
 
 // The turning that turns no face over, if it is one. Most meshes are so, and then need no tree.
-fn plain_turning(alloc: Global, mesh: &HalfMesh) -> Result<Option<Turning>, NoMemory>
+fn plain_turning(alloc: Global, mesh: &Surface) -> Result<Option<Turning>, NoMemory>
     ensures { IfOk result (λ found. let plain = replicate (face_count mesh.now) false in
         MatchOption found (IsTurning mesh.now (flag_of plain) → ⊥)
         (λ turning. (turning ≡ plain) × IsTurning mesh.now (flag_of plain))) }
@@ -139,8 +139,8 @@ fn plain_turning(alloc: Global, mesh: &HalfMesh) -> Result<Option<Turning>, NoMe
     }
 }
 
-// The same as `orient`, by a tree of the faces.
-fn orient_by_tree(alloc: Global, mesh: &HalfMesh) -> Result<Sides, NoMemory>
+// The same as `orient_surface`, by a tree of the faces.
+fn orient_by_tree(alloc: Global, mesh: &Surface) -> Result<Sides, NoMemory>
     ensures { IfOk result (λ s. AreSides mesh.now s) }
 {
     mesh.law_of_surface();
@@ -153,11 +153,19 @@ fn orient_by_tree(alloc: Global, mesh: &HalfMesh) -> Result<Sides, NoMemory>
 
 /// A turning exactly where the surface has one, and else a one-sided chain, which excludes every
 /// turning. The time is linear in the number of sides.
-pub fn orient(alloc: Global, mesh: &HalfMesh) -> Result<Sides, NoMemory>
+pub fn orient_surface(alloc: Global, mesh: &Surface) -> Result<Sides, NoMemory>
     ensures { IfOk result (λ s. AreSides mesh.now s) }
 {
     match plain_turning(alloc, mesh)? {
         Some(turning) => Ok(Sides::Two(turning)),
         None => orient_by_tree(alloc, mesh),
     }
+}
+
+/// A turning exactly where the surface has one, and else a one-sided chain, which excludes every
+/// turning. The time is linear in the number of sides.
+pub fn orient(alloc: Global, mesh: &HalfMesh) -> Result<Sides, NoMemory>
+    ensures { IfOk result (λ s. AreSides mesh.now s) }
+{
+    orient_surface(alloc, mesh.surface())
 }

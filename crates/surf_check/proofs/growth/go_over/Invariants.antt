@@ -1,10 +1,12 @@
-use Rattle.std.proofs.Common.{ℕ, ◌<◌, get_or}
+use Rattle.std.proofs.Common.{ℕ, ◌<◌, ◌≤◌}
+use Rattle.surf_surfaces.specs.SideNumber.{first_side}
 use Rattle.surf_check.specs.Growth.{TreeGrows, TreeGrowsOn, IsCrossed}
 use Rattle.surf_check.proofs.growth.go_over.Given as goal
 
-abbrev pub invariant-loop-side : goal.invariant-loop-side
-invariant-loop-side l = record {
+abbrev pub invariant-loop-s : goal.invariant-loop-s
+invariant-loop-s l = record {
   grows : TreeGrows l.mesh l.tree;
   on : TreeGrowsOn l.fn.tree l.tree;
-  crossed : (j : ℕ) → j < l.side-index → IsCrossed l.mesh l.tree.seen.items (get_or l.row j 0);
+  from : first_side l.mesh l.fn.face ≤ l.s;
+  crossed : (j : ℕ) → first_side l.mesh l.fn.face ≤ j → j < l.s → IsCrossed l.mesh l.tree.seen.items j;
 }

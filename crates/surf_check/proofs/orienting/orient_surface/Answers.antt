@@ -3,7 +3,7 @@ use Rattle.std.proofs.Math.ListN.{length-replicate}
 use Rattle.std.specs.Prelude.{replicate}
 use Rattle.surf_surfaces.specs.Surface.{face_count, IsTurning}
 use Rattle.surf_check.specs.Growth.{flag_of}
-use Rattle.surf_check.proofs.orienting.orient.Goals as goal
+use Rattle.surf_check.proofs.orienting.orient_surface.Goals as goal
 
 pub returns-in-Some : goal.returns-in-Some
 returns-in-Some c =

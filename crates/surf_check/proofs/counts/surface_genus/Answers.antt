@@ -2,7 +2,7 @@ use Rattle.std.proofs.Common.{◌≡◌, ◌+◌, ◌-◌, ◌*◌, ◌/◌, ap,
 use Rattle.surf_turnings.specs.Statements.{genus_of}
 use Rattle.surf_turnings.proofs.GenusLaws.{counts_are_at_most_two_more, genus_is_half}
 use Rattle.surf_check.specs.Growth.{flag_of}
-use Rattle.surf_check.proofs.counts.genus.Goals as goal
+use Rattle.surf_check.proofs.counts.surface_genus.Goals as goal
 
 pub overflow_sub-result : goal.overflow_sub-result
 overflow_sub-result c =
