@@ -7,45 +7,49 @@ ghost use Rattle.surf_answers.specs.Tells.{Concludes};
 
 use crate::answered::Answered;
 use std::alloc::Global;
-use surf_check::{Sides, Turning, characteristic, genus, orient};
-use surf_mesh::HalfMesh;
+use surf_check::{Sides, Turning, orient_surface, surface_characteristic, surface_genus};
+use surf_mesh::Surface;
 use surf_texts::{Refused, counts_text, crosscaps_text, genus_text};
 
 /// The counts of a surface, its characteristic, and its genus or its crosscaps.
-pub fn info_of(alloc: Global, mesh: &HalfMesh) -> Result<Answered, Refused>
+pub fn info_of(alloc: Global, mesh: &Surface) -> Result<Answered, Refused>
     ensures { Concludes (Informs mesh.now) result }
 {
-    match orient(alloc, mesh)? {
+    match orient_surface(alloc, mesh)? {
         Sides::Two(turning) => two_sided(alloc, mesh, &turning),
         Sides::One(_) => one_sided(alloc, mesh),
     }
 }
 
 // The answer for a surface that a turning shows to be two-sided.
-fn two_sided(alloc: Global, mesh: &HalfMesh, turning: &Turning) -> Result<Answered, Refused>
+fn two_sided(alloc: Global, mesh: &Surface, turning: &Turning) -> Result<Answered, Refused>
     requires { IsTurning mesh.now (flag_of turning.now) }
     ensures { Concludes (HasGenus mesh.now) result }
 {
     mesh.law_of_surface();
     let mut text = counts_text(alloc, mesh)?;
-    let shape = genus_text(alloc, characteristic(mesh), genus(mesh, turning))?;
+    let shape = genus_text(
+        alloc,
+        surface_characteristic(mesh),
+        surface_genus(mesh, turning),
+    )?;
     text.push_str(shape.as_str())?;
     Ok(Answered::yes(text.into_bytes()))
 }
 
 // The answer for a one-sided surface.
-fn one_sided(alloc: Global, mesh: &HalfMesh) -> Result<Answered, Refused>
+fn one_sided(alloc: Global, mesh: &Surface) -> Result<Answered, Refused>
     requires { IsTwoSided mesh.now → ⊥ }
     ensures { Concludes (HasCrosscaps mesh.now) result }
 {
     let mut text = counts_text(alloc, mesh)?;
-    let shape = crosscaps_text(alloc, characteristic(mesh), loop_count(mesh))?;
+    let shape = crosscaps_text(alloc, surface_characteristic(mesh), loop_count(mesh))?;
     text.push_str(shape.as_str())?;
     Ok(Answered::yes(text.into_bytes()))
 }
 
 /// How many independent loops a surface has: 2 minus its characteristic.
-pub fn loop_count(mesh: &HalfMesh) -> u64
+pub fn loop_count(mesh: &Surface) -> u64
     ensures { IsFullCount mesh.now result }
 {
     let edges = mesh.edges() as u64;

@@ -24,7 +24,7 @@ pub fn summary_of(alloc: Global, mesh: &HalfMesh, lengths: &Lengths) -> Result<A
     requires few { edge_count mesh.now + 2 ≤ mesh.now.vertices + face_count mesh.now + MAX_LOOPS }
     ensures { Concludes (GivesSummary mesh.now lengths.now) result }
 {
-    let mut answered = info_of(alloc, mesh)?;
+    let mut answered = info_of(alloc, mesh.surface())?;
     let loops = loops_total(alloc, mesh, lengths)?;
     let (basis, cycle) = basis_measures(alloc, mesh, lengths)?;
     let measures = measures_text(alloc, loops, basis, cycle)?;

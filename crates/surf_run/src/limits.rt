@@ -32,6 +32,6 @@ pub(crate) fn test_loops(mesh: &HalfMesh) -> Result<(), Refused>
     at_most(
         LimitKind::Loops,
         MAX_LOOPS as u128,
-        u128::from(loop_count(mesh)),
+        u128::from(loop_count(mesh.surface())),
     )
 }

@@ -11,8 +11,8 @@ ghost use Rattle.surf_base.specs.declared.limits.TheConstants.{MAX_TEXT};
 
 use std::alloc::Global;
 use surf_base::{FetchFault, LimitKind, MAX_TEXT, Shelf, fetch};
-use surf_check::check;
-use surf_mesh::HalfMesh;
+use surf_check::{check, check_surface};
+use surf_mesh::{HalfMesh, Surface};
 use surf_off::{OffPlaces, OffText, read_off, read_places};
 use surf_soup::Soup;
 use surf_texts::Refused;
@@ -121,4 +121,29 @@ pub(crate) fn surface_at<S: Shelf>(
 {
     let soup = mesh_at(alloc, shelf, name)?;
     surface_of(alloc, soup)
+}
+
+// The surface that faces are, without its rings.
+fn bare_surface_of(alloc: Global, soup: Soup) -> Result<Surface, Refused>
+    ensures { Takes (λ mesh. mesh) (IsSurfaceOf soup) result }
+{
+    let mesh = check_surface(alloc, soup)?;
+    Ok(mesh)
+}
+
+/// The same surface without its rings, for what asks for none.
+pub(crate) fn bare_surface_at<S: Shelf>(
+    alloc: Global,
+    shelf: &mut S,
+    name: &str,
+) -> Result<Surface, Refused>
+    ensures holds { S.holds shelf.new ≡ S.holds shelf.old }
+    ensures later { S.faults shelf.old ≤ S.faults shelf.new }
+    ensures tells { TakesOver (S.holds shelf.old) (S.faults shelf.old) (S.faults shelf.new)
+        (λ mesh. mesh) (IsTextAt IsSurfaceText name.now) result }
+    ensures held { IfOk result (λ mesh. (bytes : List ℕ) × (parts : OffParts)
+        × HoldsText IsSurfaceText (S.holds shelf.new) name.now bytes (parts, mesh)) }
+{
+    let soup = mesh_at(alloc, shelf, name)?;
+    bare_surface_of(alloc, soup)
 }

@@ -3,10 +3,10 @@ ghost use Rattle.std.specs.Prelude.{◌≡◌, string_bytes, IfOk};
 ghost use Rattle.surf_texts.specs.SummaryTexts.{mesh_counts, genus_text, crosscaps_text, measures_text};
 
 use std::alloc::{AllocError, Global};
-use surf_mesh::HalfMesh;
+use surf_mesh::Surface;
 
 /// How many vertices, edges and faces a surface has.
-pub fn counts_text(alloc: Global, mesh: &HalfMesh) -> Result<String, AllocError>
+pub fn counts_text(alloc: Global, mesh: &Surface) -> Result<String, AllocError>
     ensures { IfOk result (λ text. string_bytes text ≡ mesh_counts mesh.now) }
 {
     let (v, e, f) = (mesh.vertices(), mesh.edges(), mesh.faces());

@@ -4,7 +4,7 @@ ghost use Rattle.surf_words.specs.Words.{info};
 ghost use Rattle.surf_answers.specs.Tells.{ConcludesOver};
 ghost use Rattle.surf_run.specs.Commands.{OnRequest};
 
-use crate::reading::surface_at;
+use crate::reading::bare_surface_at;
 use std::alloc::Global;
 use surf_answers::{Answered, info_of};
 use surf_base::Shelf;
@@ -22,6 +22,6 @@ pub(crate) fn inform<S: Shelf>(
     ensures tells { ConcludesOver (S.holds shelf.old) (S.faults shelf.old) (S.faults shelf.new)
         (OnRequest (Some (info mesh.now))) result }
 {
-    let mesh = surface_at(alloc, shelf, mesh)?;
+    let mesh = bare_surface_at(alloc, shelf, mesh)?;
     info_of(alloc, &mesh)
 }

@@ -69,7 +69,7 @@ fn test_cover_loops(mesh: &HalfMesh) -> Result<(), Refused>
     at_most(
         LimitKind::CoverLoops,
         MAX_COVER_LOOPS as u128,
-        u128::from(loop_count(mesh)),
+        u128::from(loop_count(mesh.surface())),
     )
 }
 
@@ -81,7 +81,7 @@ fn test_cover_nodes(mesh: &HalfMesh) -> Result<(), Refused>
     ensures few { IfOk result (λ _. mesh.now.vertices * 2 ^ loop_count mesh.now ≤ MAX_COVER_NODES) }
     ensures limit { IfErr result (λ e. e ≡ Refused.Limit CoverNodes) }
 {
-    let nodes = u64::from(mesh.vertices()) << loop_count(mesh);
+    let nodes = u64::from(mesh.vertices()) << loop_count(mesh.surface());
     at_most(
         LimitKind::CoverNodes,
         MAX_COVER_NODES as u128,

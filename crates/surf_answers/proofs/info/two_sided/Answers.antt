@@ -12,8 +12,8 @@ returns c =
     ends_as (HasGenus c.args.mesh.now) c.yes.result _ c.yes.ensures
     (record {
       two_sided = (flag_of c.args.turning.now, c.requires);
-      genus = c.genus.result;
-      twice = subst (λ (n : ℕ). IsFullCount c.args.mesh.now (2 * n)) (sym c.genus.ensures.is)
+      genus = c.surface_genus.result;
+      twice = subst (λ (n : ℕ). IsFullCount c.args.mesh.now (2 * n)) (sym c.surface_genus.ensures.is)
           (genus_is_full_count c.args.mesh.now (flag_of c.args.turning.now) c.law_of_surface.ensures.surface c.requires);
       text = grind (arith, common_steps);
     })
