@@ -13,7 +13,7 @@ use crate::Surface;
 use std::alloc::Global;
 use std::marker::Model;
 use surf_base::{EdgeId, FaceId, NoMemory, SideId, VertexId};
-use surf_rows::{Rows, part};
+use surf_rows::{PairedRows, part};
 use surf_soup::{Pairing, Rings, Soup, find_rings, first_sides, numbers, pair_sides};
 
 /// A surface, with the two sides of each edge joined, the ring of each vertex and the edges that go
@@ -21,8 +21,7 @@ use surf_soup::{Pairing, Rings, Soup, find_rings, first_sides, numbers, pair_sid
 #[derive(Drop)]
 pub struct HalfMesh {
     surface: Surface,
-    rings: Rows<SideId>,
-    ring_edges: Rows<EdgeId>,
+    rings: PairedRows<SideId, EdgeId>,
     numbers: Vec<SideId>,
 }
 
@@ -34,7 +33,7 @@ impl Model for HalfMesh {
 
     ghost view = { λ h. h.surface };
 
-    ghost invariant = { λ h. IsHalfMesh h.surface h.rings h.ring_edges h.numbers.items };
+    ghost invariant = { λ h. IsHalfMesh h.surface h.rings.0 h.rings.1 h.numbers.items };
 }
 
 impl HalfMesh {
@@ -57,9 +56,9 @@ impl HalfMesh {
     {
         let first = first_sides(alloc, &soup)?;
         match find_rings(alloc, &soup, &pairing, &first)? {
-            Rings::All { sides, edges } => {
+            Rings::All(rings) => {
                 let surface = Surface::from_parts(soup, pairing);
-                HalfMesh::with_rings(alloc, surface, sides, edges)
+                HalfMesh::with_rings(alloc, surface, rings)
             }
             Rings::Pinched { .. } => unreachable!(),
         }
@@ -69,17 +68,15 @@ impl HalfMesh {
     pub fn with_rings(
         alloc: Global,
         surface: Surface,
-        rings: Rows<SideId>,
-        ring_edges: Rows<EdgeId>,
+        rings: PairedRows<SideId, EdgeId>,
     ) -> Result<HalfMesh, NoMemory>
-        requires rings { AreAllRings surface surface.vertices rings ring_edges }
+        requires rings { AreAllRings surface surface.vertices rings.0 rings.1 }
         ensures { IfOk result (λ h. h ≡ surface) }
     {
         let numbers = numbers(alloc, surface.side_count())?;
         Ok(HalfMesh {
             surface,
             rings,
-            ring_edges,
             numbers,
         })
     }
@@ -233,7 +230,7 @@ impl HalfMesh {
         ensures goes_round { (edges : List ℕ) × AreEdgesAt self.now v edges
             × GoBetween self.now result.now edges }
     {
-        self.rings.row(v.index())
+        self.rings.first(v.index())
     }
 
     /// The edges at a vertex, each once, in the order round it: at each place of the ring the edge
@@ -245,7 +242,7 @@ impl HalfMesh {
         ensures goes_round { (ring : List ℕ) × IsRing self.now v ring
             × GoBetween self.now ring result.now }
     {
-        self.ring_edges.row(v.index())
+        self.rings.second(v.index())
     }
 
     /// The ring of a vertex and the edges that go with it.
@@ -255,6 +252,6 @@ impl HalfMesh {
         ensures edges { AreEdgesAt self.now v result.1.now }
         ensures between { GoBetween self.now result.0.now result.1.now }
     {
-        (self.rings.row(v.index()), self.ring_edges.row(v.index()))
+        (self.rings.first(v.index()), self.rings.second(v.index()))
     }
 }

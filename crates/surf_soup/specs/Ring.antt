@@ -195,5 +195,5 @@ pub record AreAllRings (mesh : Mesh) (count : ℕ) (rings edges : List (List ℕ
   pub fans : (v : ℕ) → v < count → HasOneFan mesh v
 
 abbrev pub AreRings : Mesh → Rings → Type 0
-AreRings mesh (All rings edges) = AreAllRings mesh mesh.vertices rings edges
+AreRings mesh (All rings) = AreAllRings mesh mesh.vertices rings.0 rings.1
 AreRings mesh (Pinched v f g) = IsLeastPinch mesh v f g

@@ -17,15 +17,13 @@ use crate::pairing::Pairing;
 use crate::side_faces::SideFaces;
 use std::alloc::Global;
 use surf_base::{EdgeId, FaceId, NoMemory, SideId, VertexId};
-use surf_rows::Rows;
+use surf_rows::PairedRows;
 
-/// The ring of each vertex, or the least vertex whose faces are more than one cycle.
+/// The ring of each vertex and the edges that go with it, or the least vertex whose faces are more
+/// than one cycle.
 #[derive(Drop)]
 pub enum Rings {
-    All {
-        sides: Rows<SideId>,
-        edges: Rows<EdgeId>,
-    },
+    All(PairedRows<SideId, EdgeId>),
     Pinched {
         v: VertexId,
         first: FaceId,
@@ -196,7 +194,7 @@ fn go_rings(
     darts: &Darts<'_>,
     first: &[SideId],
     seen: &mut [bool],
-) -> Result<(Rows<SideId>, Rows<EdgeId>), NoMemory>
+) -> Result<PairedRows<SideId, EdgeId>, NoMemory>
     requires darts { AreDartTables darts.now.soup.now
         darts.now.face_of.now darts.now.mate.now darts.now.edge_of.now }
     requires first { AreFirstSides darts.now.soup.now first.now }
@@ -215,11 +213,7 @@ fn go_rings(
         go_round(darts, *home, seen, &mut sides, &mut edges)?;
         ends.push(sides.len() as u32)?;
     }
-    let edge_ends = ends.to_vec(alloc)?;
-    Ok((
-        Rows::from_parts(sides, ends),
-        Rows::from_parts(edges, edge_ends),
-    ))
+    Ok(PairedRows::from_parts(sides, edges, ends))
 }
 
 // The least vertex with a side that isn't marked, and the least such side there.
@@ -299,9 +293,9 @@ fn judge_rings(
     requires fresh { seen.old ≡ replicate (side_count darts.now.soup.now) false }
     ensures { IfOk result (λ r. AreRings darts.now.soup.now r) }
 {
-    let (sides, edges) = go_rings(alloc, darts, first, seen)?;
+    let rings = go_rings(alloc, darts, first, seen)?;
     match pinch_left(darts, first, seen) {
-        None => Ok(Rings::All { sides, edges }),
+        None => Ok(Rings::All(rings)),
         Some(Pinch { v, first, second }) => Ok(Rings::Pinched { v, first, second }),
     }
 }

@@ -1,6 +1,5 @@
 use Rattle.std.proofs.Common.{◌≡◌, ◌<◌, ◌+◌, ◌++◌, ◌∷◌, [], ℕ, List, length, get_or, sym, ap, subst, ◌∙◌, arith, rules}
 use Rattle.std.proofs.lemmas.List.{get_or_read}
-use Rattle.surf_rows.specs.Rows.{cut}
 use Rattle.surf_soup.specs.Vertices.{all_corners}
 use Rattle.surf_soup.specs.Ring.{AreMarkedFans, AreMarkedRings, IsRoundListed}
 use Rattle.surf_soup.proofs.RingMarks.{AreRingsListed, first_side_at, rings_next}
@@ -60,8 +59,5 @@ returns-clause-rings c =
     let size = c.requires.first.size in
     let n : c.loop-home.home-index ≡ mesh.vertices = omega arith in
     let inv = c.loop-home.invariant in
-    let same : c.in_ok-edge_ends.edge_ends.items ≡ c.loop-home.ends.items = search rules in
-    let M : ℕ → Type 0 = λ m. AreMarkedRings mesh c.loop-home.seen m c.from_parts.result c.from_parts-2.result in
-    let seconds : c.from_parts-2.result ≡ cut 0 c.loop-home.ends.items c.loop-home.edges.items = c.from_parts-2.ensures
-    ∙ ap (λ (es : List ℕ). cut 0 es c.loop-home.edges.items) same in
-    subst M n (rw (c.from_parts.ensures, seconds) inv.rings)
+    let M : ℕ → Type 0 = λ m. AreMarkedRings mesh c.loop-home.seen m c.from_parts.result.0 c.from_parts.result.1 in
+    subst M n (rw (c.from_parts.ensures.first, c.from_parts.ensures.second) inv.rings)

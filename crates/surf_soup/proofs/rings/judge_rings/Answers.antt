@@ -3,4 +3,4 @@ use Rattle.surf_soup.proofs.rings.judge_rings.Goals as goal
 
 pub returns-in-None : goal.returns-in-None
 returns-in-None c = all_rings c.args.darts.now.soup.now c.go_rings.new.seen c.args.darts.now.soup.now.vertices
-    c.in_ok-sides.sides c.in_ok-sides.edges c.in_ok-sides.ensures.rings c.in-None.ensures
+    c.in_ok-rings.rings.0 c.in_ok-rings.rings.1 c.in_ok-rings.ensures.rings c.in-None.ensures
