@@ -6,7 +6,8 @@
 //! caller can see: the count rose, or a name isn't held. What a shelf holds and what a sink was
 //! given may be told or not; [`MemShelf`] and [`MemSink`] tell both, and a disk or a terminal tells
 //! neither. [`fetch`] reads a whole file and [`put_all`] writes a whole text over any of them.
-//! [`make_room`] is how a text that may become long grows.
+//! [`make_room`] is how a text that may become long grows, and [`reuse_room`] lets one large table
+//! take the place of another.
 #![tactic(auto)]
 
 mod ids;
@@ -23,5 +24,5 @@ pub use limits::{
 };
 pub use memory::{MemShelf, MemSink};
 pub use outside::{Failed, NoMemory, Shelf, Sink};
-pub use room::make_room;
+pub use room::{make_room, reuse_room};
 pub use transfer::{FetchFault, fetch, put_all};

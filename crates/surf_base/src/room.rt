@@ -1,7 +1,7 @@
-//! Room for texts that grow.
+//! Room for texts that grow, and for tables that follow each other.
 ghost use Rattle.std.specs.Prelude.{◌≡◌, ◌<◌, ◌≤◌, ◌+◌, OnOk, OnErr, vec_len, vec_capacity};
 
-use std::alloc::AllocError;
+use std::alloc::{AllocError, Global};
 
 // From how many bytes on a text is long.
 const LONG: usize = 1 << 20;
@@ -46,4 +46,23 @@ pub fn make_room(bytes: &mut Vec<u8>, more: usize) -> Result<(), AllocError>
         return Ok(());
     }
     take_room(bytes, more)
+}
+
+// From how many bytes on a table is large.
+const LARGE: usize = 1 << 24;
+
+/// Lets tables that are made from now on take the places of earlier ones, where the first is as
+/// large as this. It takes room for so many bytes and lets it go at once: nothing is written there,
+/// so it takes no page. No answer hangs on it, and where there is no room nothing happens.
+///
+/// The C library gives a large block a mapping of its own, with new pages, which go when the block
+/// does, and keeps smaller ones in its heap. What is large is a size that rises to that of the
+/// largest mapping that was let go, up to 2^25 bytes. New pages cost more than what a pass over a
+/// table does with them.
+pub fn reuse_room(alloc: Global, bytes: usize) {
+    if bytes >= LARGE
+        && let Ok(room) = Vec::<u8>::with_capacity(alloc, bytes)
+    {
+        drop(room);
+    }
 }
