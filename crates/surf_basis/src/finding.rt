@@ -369,7 +369,7 @@ impl<'a> Finder<'a> {
         self.surface.mesh.law_of_surface();
         self.surface.lengths.law_of_lengths();
         self.desk.grow(&self.links, base, radius(limit));
-        self.ways.sum(&self.surface, &self.desk, base)?;
+        self.ways.sum(&self.surface, &self.desk, &self.plain, base)?;
         let reached = Reached {
             surface: &self.surface,
             links: &self.links,
@@ -394,7 +394,7 @@ impl<'a> Finder<'a> {
         self.surface.mesh.law_of_surface();
         self.surface.lengths.law_of_lengths();
         self.desk.grow(&self.links, base, radius(limit));
-        self.ways.sum(&self.surface, &self.desk, base)?;
+        self.ways.sum(&self.surface, &self.desk, &self.plain, base)?;
         let reached = Reached {
             surface: &self.surface,
             links: &self.links,
