@@ -3,14 +3,14 @@ use Rattle.std.proofs.Common.{◌≡◌, ℕ, suc, ◌<◌, ◌≤◌, ◌-◌, 
 use Rattle.std.specs.List.{AllByRecursion}
 use Rattle.std.proofs.lemmas.Bool.{cases_lt}
 use Rattle.std.proofs.lemmas.List.{take_more, take_all}
-use Rattle.std.proofs.lemmas.List.Elements.{recursion_from_All, All-from_recursion}
+use Rattle.std.proofs.lemmas.List.Elements.{recursion_from_All}
 use Rattle.surf_z2.specs.Greedy.{greedy, greedy_after, spans}
 use Rattle.surf_z2.specs.Order.{merge, merge_from}
 use Rattle.surf_z2.specs.Space.{numbers, is_nothing}
 use Rattle.surf_z2.proofs.Greedy.{two_step_law}
 use Rattle.surf_z2.proofs.Merge.{order_from_sorted}
 use Rattle.surf_z2.proofs.Numbers.{Decides-is_nothing}
-use Rattle.surf_z2.proofs.Passing.{all_filtered, greedy_filtered}
+use Rattle.surf_z2.proofs.Passing.{greedy_filtered}
 use Rattle.surf_graphs.specs.Cells.{Split, IsSplit}
 use Rattle.surf_surfaces.specs.Mesh.{Mesh}
 use Rattle.surf_surfaces.specs.Surface.{IsSurface}
@@ -22,19 +22,16 @@ use Rattle.surf_surfaces.specs.FewBases.{AreBases}
 use Rattle.surf_surfaces.proofs.LeastLaws.{all_each}
 use Rattle.surf_surfaces.proofs.GreedyChoiceLaws.{greedy_is_choice}
 use Rattle.surf_surfaces.proofs.BasisLaws.{below_closed}
-use Rattle.surf_surfaces.proofs.LoopsAtLaws.{comes_before-trans}
-use Rattle.surf_tree.specs.Tables.{TreeTables}
-use Rattle.surf_loops.specs.Loops.{LoopTables, IsGreedy}
-use Rattle.surf_loops.specs.declared.head.LoopHead.{LoopHead}
+use Rattle.surf_surfaces.proofs.LoopsAtLaws.{IsLoopAt, comes_before-trans, loops_each}
 use Rattle.surf_basis.specs.declared.candidate.Signed.{Signed}
 use Rattle.surf_basis.specs.declared.cycle.Cycle.{Cycle}
-use Rattle.surf_basis.specs.Candidates.{signed_earlier, independent_of, candidate_of, loop_in, loops_in, signed_head, signed_heads, IsSigned, IsInside, IsCycleOf, AreCyclesOf}
+use Rattle.surf_basis.specs.Based.{IsOffered}
+use Rattle.surf_basis.specs.Candidates.{signed_earlier, independent_of, loop_in, loops_in, IsSigned, IsCycleOf, AreCyclesOf}
 use Rattle.surf_basis.specs.Cycles.{as_loop, as_loops}
 use Rattle.surf_basis.specs.Kept.{HavePlacesOfBasis, placed_below, AreKept}
 use Rattle.surf_basis.specs.Marks.{HasBases}
 use Rattle.surf_basis.specs.Places.{lengths_at, has_length}
 use Rattle.surf_basis.proofs.Sifted.{all_merged, all_kept}
-use Rattle.surf_basis.proofs.Looped.{offered_loops, offered_signed}
 use Rattle.surf_basis.proofs.Places.{is_placed_loop, no_lengths, placed_more, placed_past, placed-sorted}
 
 -- merged candidates as loops
@@ -67,7 +64,7 @@ module _ (mesh : Mesh) (trees : ℕ → Trees) where
     abbrev own : Signed → ℕ
     own c = c.signature
 
-    kept_after : (before : List ℕ) (cs : List Signed) → AllByRecursion (λ c. c.signature ≡ class_of mesh d (loop_in mesh trees c.candidate).walk) cs →
+    pub kept_after : (before : List ℕ) (cs : List Signed) → AllByRecursion (λ c. c.signature ≡ class_of mesh d (loop_in mesh trees c.candidate).walk) cs →
         greedy_after numbers is_nothing class_in before (loops_in mesh trees cs)
         ≡ loops_in mesh trees (greedy_after numbers is_nothing own before cs)
     kept_after before [] h = refl
@@ -90,22 +87,10 @@ module _ (mesh : Mesh) (trees : ℕ → Trees) where
         split true h k = h
         split false h k = ap (λ xs. loop_in mesh trees c.candidate ∷ xs) k
 
--- the heads whose lengths are those of candidates at the base have their places
-placed_heads : (mesh : Mesh) (trees : ℕ → Trees) (d : Split) (found : List Signed) (t : TreeTables) (hs : List LoopHead) →
-    loops_in mesh trees (filter (λ (s : Signed). has_length (lengths_at found t.base) s.candidate.length) (signed_heads mesh d t hs))
-    ≡ filter (is_placed_loop found) (loops_in mesh trees (signed_heads mesh d t hs))
-placed_heads mesh trees d found t [] = refl
-placed_heads mesh trees d found t (h ∷ hs) = split (has_length (lengths_at found t.base) h.length) (placed_heads mesh trees d found t hs)
-  where
-    split : (b : Bool) →
-        loops_in mesh trees (filter (λ (s : Signed). has_length (lengths_at found t.base) s.candidate.length) (signed_heads mesh d t hs))
-        ≡ filter (is_placed_loop found) (loops_in mesh trees (signed_heads mesh d t hs)) →
-        loops_in mesh trees (cond b (signed_head mesh d t h ∷ filter (λ (s : Signed). has_length (lengths_at found t.base) s.candidate.length) (signed_heads mesh d t hs))
-        (filter (λ (s : Signed). has_length (lengths_at found t.base) s.candidate.length) (signed_heads mesh d t hs)))
-        ≡ cond b (loop_in mesh trees (candidate_of t h) ∷ filter (is_placed_loop found) (loops_in mesh trees (signed_heads mesh d t hs)))
-        (filter (is_placed_loop found) (loops_in mesh trees (signed_heads mesh d t hs)))
-    split true r = ap (λ xs. loop_in mesh trees (candidate_of t h) ∷ xs) r
-    split false r = r
+-- tests that agree on the members of a list keep the same
+filter_each : {X : Type 0} (p q : X → Bool) (xs : List X) → AllByRecursion (λ x. p x ≡ q x) xs → filter p xs ≡ filter q xs
+filter_each p q [] h = refl
+filter_each p q (x ∷ xs) h = rw h.0 (ap (λ ys. cond (q x) (x ∷ ys) ys) (filter_each p q xs h.1))
 
 -- a vertex between two bases, or after the last, is no base
 between : (bases : List ℕ) (done below x : ℕ) → ((k : ℕ) → k < done → slice_index bases k < below) → below ≤ x →
@@ -137,58 +122,49 @@ module _ (mesh : Mesh) (lengths : List ℕ) (trees : ℕ → Trees) (surface : I
       ap (placed_below mesh lengths trees found) same
       ∙ placed_past mesh lengths trees found (m - n) n (λ x from to. none x from (omega arith))
 
-  -- the loops of a base that are offered
-  abbrev offered : ℕ → LoopTables → List Signed
-  offered base t = filter (λ (s : Signed). has_length (lengths_at found base) s.candidate.length) (signed_heads mesh d t.tree t.heads)
-
-  offered_placed : (base : ℕ) (t : LoopTables) → base < mesh.vertices → IsGreedy mesh lengths base t →
-      loops_in mesh trees (offered base t) ≡ filter (is_placed_loop found) (loops_at mesh lengths base (trees base))
-  offered_placed base t l g =
-      ap (λ b. loops_in mesh trees (offered b t)) (sym g.tree.base_is) ∙ placed_heads mesh trees d found t.tree t.heads
-      ∙ ap (filter (is_placed_loop found)) (sym (offered_loops mesh lengths trees surface positive chosen d base t l g))
-
-  -- what is kept and the loops that are offered, merged
-  merged_signed : (base : ℕ) (t : LoopTables) (kept : List Signed) → base < mesh.vertices → IsGreedy mesh lengths base t →
-      All (IsSigned mesh lengths trees d) kept →
-      All (IsSigned mesh lengths trees d) (merge signed_earlier kept (offered base t))
-  merged_signed base t kept l g k =
-      all_merged signed_earlier (IsSigned mesh lengths trees d) kept (offered base t) k
-      (All-from_recursion (IsSigned mesh lengths trees d) (offered base t)
-      (all_filtered (λ (s : Signed). has_length (lengths_at found base) s.candidate.length) (IsSigned mesh lengths trees d)
-      (signed_heads mesh d t.tree t.heads) (offered_signed mesh lengths trees surface positive chosen d base t l g)))
+  offered_placed : (base : ℕ) (offered : List Signed) → IsOffered mesh lengths trees d (lengths_at found base) base offered →
+      loops_in mesh trees offered ≡ filter (is_placed_loop found) (loops_at mesh lengths base (trees base))
+  offered_placed base offered is =
+      is.loops_are
+      ∙ filter_each (λ c. has_length (lengths_at found base) c.size) (is_placed_loop found) (loops_at mesh lengths base (trees base))
+      (all_each (IsLoopAt mesh lengths base (trees base)) (λ c. has_length (lengths_at found base) c.size ≡ is_placed_loop found c)
+      (loops_at mesh lengths base (trees base))
+      (λ c h. ap (λ b. has_length (lengths_at found b) c.size) (sym (ap (λ (k : Loop). k.base) h.is)))
+      (loops_each mesh lengths base (trees base)))
 
   -- the choice among them
-  next_choice : (below base : ℕ) (t : LoopTables) (kept : List Signed) → base < mesh.vertices → IsGreedy mesh lengths base t →
+  next_choice : (below base : ℕ) (offered kept : List Signed) → IsOffered mesh lengths trees d (lengths_at found base) base offered →
       loops_in mesh trees kept
       ≡ greedy numbers is_nothing (λ (c : Loop). class_of mesh d c.walk) (placed_below mesh lengths trees found below) →
       placed_below mesh lengths trees found base ≡ placed_below mesh lengths trees found below →
-      greedy numbers is_nothing (λ (c : Loop). class_of mesh d c.walk) (loops_in mesh trees (merge signed_earlier kept (offered base t)))
+      greedy numbers is_nothing (λ (c : Loop). class_of mesh d c.walk) (loops_in mesh trees (merge signed_earlier kept offered))
       ≡ greedy numbers is_nothing (λ (c : Loop). class_of mesh d c.walk) (placed_below mesh lengths trees found (suc base))
-  next_choice below base t kept l g choice same =
+  next_choice below base offered kept right choice same =
       let class : Loop → ℕ = λ c. class_of mesh d c.walk in
       let now = placed_below mesh lengths trees found base in
       let at = filter (is_placed_loop found) (loops_at mesh lengths base (trees base)) in
-      ap (greedy numbers is_nothing class) (sym (merged_loops mesh trees kept (offered base t))
-      ∙ ap (merge comes_before (loops_in mesh trees kept)) (offered_placed base t l g)
+      ap (greedy numbers is_nothing class) (sym (merged_loops mesh trees kept offered)
+      ∙ ap (merge comes_before (loops_in mesh trees kept)) (offered_placed base offered right)
       ∙ ap (λ ks. merge comes_before ks at) (choice ∙ ap (greedy numbers is_nothing class) (sym same)))
       ∙ two_step_law numbers is_nothing Decides-is_nothing class comes_before comes_before-trans now at
       (order_from_sorted comes_before now (placed-sorted mesh lengths trees found base))
       ∙ ap (greedy numbers is_nothing class) (sym (placed_more mesh lengths trees found base))
 
   -- the loops at one more base
-  pub kept_more : (bases : List ℕ) (done base : ℕ) (t : LoopTables) (kept next : List Signed) → AreBases mesh bases →
-      HasBases bases found → done < length bases → slice_index bases done ≡ base → IsGreedy mesh lengths base t →
+  pub kept_more : (bases : List ℕ) (done base : ℕ) (offered kept next : List Signed) → AreBases mesh bases →
+      HasBases bases found → done < length bases → slice_index bases done ≡ base →
+      IsOffered mesh lengths trees d (lengths_at found base) base offered →
       AreKept mesh lengths trees d found bases done kept →
-      next ≡ independent_of (merge signed_earlier kept (offered base t)) →
+      next ≡ independent_of (merge signed_earlier kept offered) →
       AreKept mesh lengths trees d found bases (done + 1) next
-  kept_more bases done base t kept next are has l at g k is =
-      let merged = merge signed_earlier kept (offered base t) in
+  kept_more bases done base offered kept next are has l at o k is =
+      let merged = merge signed_earlier kept offered in
       let Right = IsSigned mesh lengths trees d in
       let inside = are.inside done l in
       let base_in : base < mesh.vertices = omega (arith, at, inside) in
       let reached = k.ahead done (omega arith) l in
       let from : k.below ≤ base = omega (arith, at, reached) in
-      let right = merged_signed base t kept base_in g k.signed in
+      let right = all_merged signed_earlier Right kept offered k.signed o.signed in
       let later : (j : ℕ) → done < j → j < length bases → base < slice_index bases j = λ j after to.
       (let rise = are.rise done j after to in omega (arith, rise, at)) in
       let none : (x : ℕ) → k.below ≤ x → x < base → lengths_at found x ≡ [] = λ x low high.
@@ -209,7 +185,7 @@ module _ (mesh : Mesh) (lengths : List ℕ) (trees : ℕ → Trees) (surface : I
             ∙ sym (kept_after mesh trees d [] merged
             (all_each Right (λ c. c.signature ≡ class_of mesh d (loop_in mesh trees c.candidate).walk) merged (λ c s. s.signature)
             (recursion_from_All Right merged right)))
-            ∙ next_choice k.below base t kept base_in g k.choice (placed_to k.below base from none);
+            ∙ next_choice k.below base offered kept o k.choice (placed_to k.below base from none);
         signed = subst (All Right) (sym is) (all_kept Right merged right);
       }
 
@@ -258,10 +234,6 @@ module _ (mesh : Mesh) (lengths : List ℕ) (trees : ℕ → Trees) (surface : I
       subst (IsChosenBasis mesh lengths trees)
       (sym (all_cycles kept cycles (recursion_from_All (IsSigned mesh lengths trees d) kept k.signed) are
       ∙ kept_whole bases kept has have k)) basis_chosen
-
-  pub kept_inside : (bases : List ℕ) (done : ℕ) (kept : List Signed) → AreKept mesh lengths trees d found bases done kept →
-      All (λ c. IsInside mesh c.candidate) kept
-  kept_inside bases done kept k i c l = let s = k.signed i c l in record { base = s.base_in; edge = s.edge_in }
 
 -- one more cycle
 pub cycles_more : (mesh : Mesh) (lengths : List ℕ) (cs : List Signed) (cycles : List Cycle) (c : Signed) (cycle : Cycle) →

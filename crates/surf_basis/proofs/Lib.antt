@@ -8,6 +8,7 @@ pub mod Looped
 pub mod Merged
 pub mod Places
 pub mod Kept
+pub mod Based
 pub mod Walked
 pub mod First
 pub mod Leading

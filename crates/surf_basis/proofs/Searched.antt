@@ -136,6 +136,7 @@ module _ (mesh : Mesh) (lengths : List ℕ) (trees : ℕ → Tree) (surface : Is
       AreFoundBy mesh lengths trees d limit z found → AreFoundBy mesh lengths trees d limit z list
   found_permuted limit z found list same h = record {
     each = All-permutation Right found list same h.each;
+    here = All-permutation (λ c. c.from ≡ z) found list same h.here;
     sooner = All-permutation (λ c. IsTrue (is_sought limit (place_of c.candidate))) found list same h.sooner;
     some = All-permutation (λ c. c.signature ≢ 0) found list same h.some;
     all = λ e e_in some sought.

@@ -65,10 +65,10 @@ ready_ends x e p surface ready e_in between is =
     subst (λ (q : ℕ × ℕ). IsEnd x q.0 × IsEnd x q.1) (sym is)
     (ready_end x (ends x.mesh e).0 ready inside.0 near_u, ready_end x (ends x.mesh e).1 ready inside.1 near_v)
 
-sooner_size : (a b c d : ℕ) → comes_sooner (a, b) (c, d) ≡ true → c ≤ a
+pub sooner_size : (a b c d : ℕ) → comes_sooner (a, b) (c, d) ≡ true → c ≤ a
 sooner_size a b c d h = grind (arith, nat_tests)
 
-half_below : (n m : ℕ) → 2 * n ≤ m → n ≤ m / 2
+pub half_below : (n m : ℕ) → 2 * n ≤ m → n ≤ m / 2
 half_below n m le = omega arith
 
 -- ---- lists of them
@@ -317,6 +317,7 @@ module _ (mesh : Mesh) (lengths : List ℕ) (surface : IsSurface mesh) (positive
       each = λ k c l.
           (let i = h.each k c l in
           subst (IsFound mesh lengths searched d) (sym i.told) (told_found _ i.edge_in (and_parts (is_between told _) _ i.wanted).0));
+      here = λ k c l. ap (λ (x : Signed). x.from) (h.each k c l).told;
       sooner = λ k c l.
           (let i = h.each k c l in
           subst (λ (x : Signed). IsTrue (is_sought limit (place_of x.candidate))) (sym i.told) (parts _ i.wanted).0);

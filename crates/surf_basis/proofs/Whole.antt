@@ -1,29 +1,34 @@
 -- What is known when all bases were gone through.
-use Rattle.std.proofs.Common.{◌≡◌, ℕ, List, [], length, map, All, sym, ap, ◌∙◌, subst, arith}
+use Rattle.std.proofs.Common.{◌≡◌, ℕ, ◌<◌, List, [], length, get_or, map, All, refl, sym, ap, ◌∙◌, subst, arith}
 use Rattle.std.specs.List.{range_with_len}
 use Rattle.surf_graphs.specs.Cells.{IsSplit}
 use Rattle.surf_graphs.specs.Trees.{Tree}
 use Rattle.surf_surfaces.specs.Mesh.{Mesh}
-use Rattle.surf_surfaces.specs.Surface.{edge_count, IsSurface}
+use Rattle.surf_surfaces.specs.Surface.{edge_count, ends, IsSurface}
 use Rattle.surf_surfaces.specs.Walk.{ArePositive}
 use Rattle.surf_surfaces.specs.Cells.{cells_of}
 use Rattle.surf_surfaces.specs.Homology.{IsFullCount}
+use Rattle.surf_surfaces.specs.Loop.{loop_length}
+use Rattle.surf_surfaces.specs.ShortestTree.{IsShortestTree}
 use Rattle.surf_surfaces.specs.Choice.{Loop, IsChosenBasis}
 use Rattle.surf_surfaces.specs.ChoiceLaws.{LeastSimpleBasis}
 use Rattle.surf_surfaces.specs.Signature.{edge_signature}
 use Rattle.surf_surfaces.proofs.BasisLaws.{basis_is_least}
 use Rattle.surf_surfaces.proofs.ChoiceExists.{choice_exists}
+use Rattle.surf_surfaces.proofs.ShortestTreeLaws.{shortest_trees_are_one}
+use Rattle.surf_loops.proofs.Turned.{ends_in}
 use Rattle.surf_cotree.specs.Tables.{CotreeTables, split_with}
 use Rattle.surf_loops.specs.Loops.{LoopTables, IsGreedy}
 use Rattle.surf_basis.specs.declared.candidate.Signed.{Signed}
 use Rattle.surf_basis.specs.declared.cycle.Cycle.{Cycle}
-use Rattle.surf_basis.specs.Candidates.{IsInside, AreCyclesOf}
+use Rattle.surf_basis.specs.Based.{IsMeasured}
+use Rattle.surf_basis.specs.Candidates.{AreCyclesOf}
 use Rattle.surf_basis.specs.Kept.{HavePlacesOfBasis, AreKeptOver}
 use Rattle.surf_basis.specs.Marks.{HasBases}
 use Rattle.surf_basis.specs.Cycles.{as_loops, IsTheBasis}
 use Rattle.surf_basis.specs.Signing.{AreSigned}
 use Rattle.surf_basis.proofs.Looped.{empty_basis}
-use Rattle.surf_basis.proofs.Kept.{cycles_basis, kept_inside}
+use Rattle.surf_basis.proofs.Kept.{cycles_basis}
 
 -- how many edges are left is 2 − χ
 pub left_full : (mesh : Mesh) (lengths : List ℕ) (base : ℕ) (t : LoopTables) (cotree : CotreeTables) (left : List ℕ) → IsGreedy mesh lengths base t →
@@ -61,6 +66,15 @@ left_count mesh t left full is = subst (λ (xs : List ℕ). IsFullCount mesh (le
 pub still_signed : (mesh : Mesh) (t : CotreeTables) (left : List ℕ) → AreSigned mesh t (length t.left) → left ≡ t.left → AreSigned mesh t (length left)
 still_signed mesh t left signed is = subst (λ (xs : List ℕ). AreSigned mesh t (length xs)) (sym is) signed
 
+-- a loop is as long by all trees of shortest walks
+length_same : (mesh : Mesh) (lengths : List ℕ) → IsSurface mesh → ArePositive mesh lengths → (base : ℕ) (a b : Tree) →
+    IsShortestTree mesh lengths base a → IsShortestTree mesh lengths base b → (e : ℕ) → e < edge_count mesh →
+    loop_length mesh lengths a e ≡ loop_length mesh lengths b e
+length_same mesh lengths surface positive base a b x y e e_in =
+    let same = shortest_trees_are_one mesh lengths base a b surface positive x y in
+    let (u_in, v_in) = ends_in mesh surface e e_in in
+    rw (same.ranks (ends mesh e).0 u_in, same.ranks (ends mesh e).1 v_in) refl
+
 module _ (mesh : Mesh) (lengths : List ℕ) (surface : IsSurface mesh) (positive : ArePositive mesh lengths) where
   pub least_of : (basis : List Loop) → IsTheBasis mesh lengths basis → LeastSimpleBasis mesh lengths basis
   least_of basis is =
@@ -72,13 +86,23 @@ module _ (mesh : Mesh) (lengths : List ℕ) (surface : IsSurface mesh) (positive
       subst (λ ys. IsChosenBasis mesh lengths trees (as_loops ys)) (sym none) (empty_basis mesh lengths trees surface positive chosen full)
 
   module _ (s : CotreeTables) (width : ℕ) (signed : AreSigned mesh s width) where
-    pub all_inside : (found : List Signed) (bases : List ℕ) (done : ℕ) (kept list : List Signed) →
-        AreKeptOver mesh lengths s found bases done kept → list ≡ kept → All (λ c. IsInside mesh c.candidate) list
-    all_inside found bases done kept list k same =
+    -- the lengths of those kept are those of their loops
+    pub all_measured : (found : List Signed) (bases : List ℕ) (done : ℕ) (kept list : List Signed) →
+        AreKeptOver mesh lengths s found bases done kept → list ≡ kept → All (λ c. IsMeasured mesh lengths c.candidate) list
+    all_measured found bases done kept list k same =
         let (trees, chosen) = choice_exists mesh lengths surface positive in
-        let inside : All (λ c. IsInside mesh c.candidate) kept =
-        kept_inside mesh lengths trees surface positive chosen signed.split signed.is_split found bases done kept (k trees chosen signed.split signed.is_split signed.signatures) in
-        subst (All (λ c. IsInside mesh c.candidate)) (sym same) inside
+        let each = (k trees chosen signed.split signed.is_split signed.signatures).signed in
+        let measured : All (λ c. IsMeasured mesh lengths c.candidate) kept = λ i c l.
+        (let r = each i c l in
+        let b = (get_or kept i c).candidate.base in
+        let e = (get_or kept i c).candidate.edge in
+        record {
+          base_in = r.base_in;
+          edge_in = r.edge_in;
+          size = λ tree short.
+              r.size ∙ length_same mesh lengths surface positive b (trees b).tree tree (chosen b r.base_in).shortest short e r.edge_in;
+        }) in
+        subst (All (λ c. IsMeasured mesh lengths c.candidate)) (sym same) measured
 
     pub the_basis : (found : List Signed) (bases : List ℕ) (kept list : List Signed) (cycles : List Cycle) → HasBases bases found →
         HavePlacesOfBasis mesh lengths found → AreKeptOver mesh lengths s found bases (length bases) kept → list ≡ kept →

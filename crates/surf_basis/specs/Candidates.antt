@@ -12,7 +12,7 @@ use Rattle.surf_surfaces.specs.Class.{class_of}
 use Rattle.surf_surfaces.specs.Loop.{loop_walk, loop_length}
 use Rattle.surf_surfaces.specs.Cotree.{is_left}
 use Rattle.surf_surfaces.specs.Choice.{Trees, AreChosenAt, Loop}
-use Rattle.surf_tree.specs.Tables.{TreeTables, tree_of}
+use Rattle.surf_tree.specs.Tables.{TreeTables}
 use Rattle.surf_loops.specs.declared.head.LoopHead.{LoopHead}
 use Rattle.surf_loops.specs.Loops.{LoopTables}
 use Rattle.surf_basis.specs.Cycles.{first_of}
@@ -82,15 +82,6 @@ pub record IsCycleOf (mesh : Mesh) (lengths : List ℕ) (c : Candidate) (cycle :
   pub walk : (trees : Trees) → AreChosenAt mesh lengths c.base trees →
       IsTrue (is_left mesh trees.tree trees.cotree c.edge) → cycle.walk ≡ loop_walk mesh trees.tree c.edge
 
--- the walk of a cycle is that of the loop of its edge at its base, whichever trees show the choice there
-abbrev pub IsWalked : Mesh → List ℕ → Cycle → Type 0
-IsWalked mesh lengths cycle = (trees : Trees) → AreChosenAt mesh lengths cycle.base trees →
-    IsTrue (is_left mesh trees.tree trees.cotree cycle.edge) → cycle.walk ≡ loop_walk mesh trees.tree cycle.edge
-
--- a cycle has the length, the base and the edge of a candidate
-abbrev pub is_cycle_of : Candidate → Cycle → Bool
-is_cycle_of c cycle = (cycle.length == c.length) && ((cycle.base == c.base) && (cycle.edge == c.edge))
-
 -- each cycle is that of the candidate at its place
 abbrev pub AreCyclesOf : Mesh → List ℕ → List Signed → List Cycle → Type 0
 AreCyclesOf mesh lengths [] [] = Unit {0}
@@ -105,18 +96,6 @@ candidate_of t h = record { length = h.length; base = t.base; edge = h.edge }
 -- the first loop of a desk as a candidate, if it has one
 abbrev pub first_head : LoopTables → Option Candidate
 first_head t = option_map (candidate_of t.tree) (first_of t.heads)
-
--- the loop of a head of a desk, as a candidate with its signature
-abbrev pub signed_head : Mesh → Split → TreeTables → LoopHead → Signed
-signed_head mesh d t h = record {
-  candidate = candidate_of t h;
-  from = t.base;
-  signature = class_of mesh d (loop_walk mesh (tree_of t) h.edge);
-}
-
--- the loops of a desk at its base
-abbrev pub signed_heads : Mesh → Split → TreeTables → List LoopHead → List Signed
-signed_heads mesh d t heads = map (signed_head mesh d t) heads
 
 -- a candidate is the loop of a left edge at its base, and its signature is that of its walk
 pub record IsSigned (mesh : Mesh) (lengths : List ℕ) (trees : ℕ → Trees) (d : Split) (c : Signed) : Type 0 where

@@ -157,6 +157,7 @@ pub record IsFound (mesh : Mesh) (lengths : List ℕ) (trees : ℕ → Tree) (d 
 pub record AreFoundBy (mesh : Mesh) (lengths : List ℕ) (trees : ℕ → Tree) (d : Split) (limit : Option Candidate) (z : ℕ)
     (found : List Signed) : Type 0 where
   pub each : All (IsFound mesh lengths trees d) found
+  pub here : All (λ c. c.from ≡ z) found
   pub sooner : All (λ c. IsTrue (is_sought limit (place_of c.candidate))) found
   pub some : All (λ c. c.signature ≢ 0) found
   pub all : (e : ℕ) → e < edge_count mesh → class_of mesh d (loop_walk mesh (trees z) e) ≢ 0 →

@@ -1,4 +1,5 @@
 pub mod Cycles
+pub mod Based
 pub mod Candidates
 pub mod Signing
 pub mod Echelons

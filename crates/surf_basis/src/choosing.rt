@@ -68,6 +68,14 @@ impl Choice {
         let _ = &self.kept;
     }
 
+    /// Keeps nothing.
+    pub fn clear(&mut self)
+        ensures none { self.new ≡ record self.old { kept = [] } }
+    {
+        self.kept.clear();
+        self.rows.truncate(0);
+    }
+
     /// The last candidate that is kept, where as many are kept as may be independent: no later one
     /// can be kept.
     pub fn limit(&self) -> Option<Candidate>

@@ -2,6 +2,8 @@
 ghost use Rattle.std.specs.Prelude.{ℕ, ◌≡◌, ◌<◌, ◌+◌, ◌&&◌, ◌==◌, slice_index, false, IsTrue, min, All, Contains, length, IfOk, OnOk};
 ghost use Rattle.surf_surfaces.specs.Surface.{edge_count, ends};
 ghost use Rattle.surf_near.specs.Near.{AreNearTables, is_near};
+ghost use Rattle.surf_basis.specs.Based.{IsMeasured};
+ghost use Rattle.surf_basis.specs.Candidates.{IsCycleOf};
 ghost use Rattle.surf_basis.specs.Found.{surface_of, IsReady, is_between, told_loop, wanted_loop};
 ghost use Rattle.surf_basis.specs.Found.{reached_at, IsTold, ListsAt, AreTold, AreFound};
 ghost use Rattle.surf_basis.specs.Found.{IsLinkOf, IsUnwantedAt, may_matter, plain_edges};
@@ -9,7 +11,9 @@ ghost use Rattle.surf_basis.specs.Found.{is_earlier, first_with, IsFirstTold, Is
 ghost use Rattle.surf_basis.specs.Places.{place_of, is_sought, radius_of};
 
 use crate::candidate::{Candidate, Signed, comes_before, copy_signature};
+use crate::cycle::Cycle;
 use crate::surface::Surface;
+use crate::walking::loop_walk;
 use crate::ways::Ways;
 use std::alloc::Global;
 use std::marker::Model;
@@ -369,7 +373,7 @@ impl<'a> Finder<'a> {
         self.surface.mesh.law_of_surface();
         self.surface.lengths.law_of_lengths();
         self.desk.grow(&self.links, base, radius(limit));
-        self.ways.sum(&self.surface, &self.desk, base)?;
+        self.ways.sum(&self.surface, &self.desk, &self.plain, base)?;
         let reached = Reached {
             surface: &self.surface,
             links: &self.links,
@@ -378,6 +382,25 @@ impl<'a> Finder<'a> {
             plain: &self.plain,
         };
         list_loops(&reached, limit, found)
+    }
+
+    /// The cycle of a candidate whose length is that of the loop of its edge.
+    pub fn cycle(&mut self, alloc: Global, candidate: Candidate) -> Result<Cycle, NoMemory>
+        requires measured { IsMeasured self.old.mesh self.old.lengths candidate }
+        ensures cycle { IfOk result (IsCycleOf self.old.mesh self.old.lengths candidate) }
+        ensures same { self.new ≡ self.old }
+    {
+        self.surface.mesh.law_of_surface();
+        self.surface.lengths.law_of_lengths();
+        self.desk
+            .grow(&self.links, candidate.base, candidate.length / 2);
+        let walk = loop_walk(alloc, &self.surface, &self.desk, candidate.edge)?;
+        Ok(Cycle {
+            base: candidate.base,
+            edge: candidate.edge,
+            length: candidate.length,
+            walk,
+        })
     }
 
     /// The first of a limit, if there is one, and the loops at a base that aren't null and come
@@ -394,7 +417,7 @@ impl<'a> Finder<'a> {
         self.surface.mesh.law_of_surface();
         self.surface.lengths.law_of_lengths();
         self.desk.grow(&self.links, base, radius(limit));
-        self.ways.sum(&self.surface, &self.desk, base)?;
+        self.ways.sum(&self.surface, &self.desk, &self.plain, base)?;
         let reached = Reached {
             surface: &self.surface,
             links: &self.links,

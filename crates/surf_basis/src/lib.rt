@@ -14,14 +14,17 @@
 //! vertices are taken in an order that scatters them, so that short loops of all parts are found
 //! soon.
 //!
-//! Then the bases so found are gone through one by one, with those loops at each that have the
-//! length of one that was found for this base: what was kept so far and these loops are merged, and
-//! from them the choice is made again, from the place on where it first changes. So no more
-//! candidates are held than a basis has. Whether a loop is independent of others is told by its
-//! signature, a sum over its edges of signatures that one base gives for all: signatures are
-//! reduced by rows, one for each loop that is kept, whose greatest numbers differ, and the first
-//! rows tell what is a sum of the first signatures. The first cycle needs the first of the loops
-//! that searches find, and then the loops at its base alone.
+//! Then the bases so found are gone through one by one. A search near each, no farther than half the
+//! greatest length that was found for it, finds the loops of edges there: the first independent
+//! ones by length and edge are those that are chosen at the base. Those of them with the length of
+//! one that was found for this base are merged with what was kept so far, and from them the choice
+//! is made again, from the place on where it first changes. So no more candidates are held than a
+//! basis has, and no tree of the whole surface is grown. Whether a loop is independent of others is
+//! told by its signature, a sum over its edges of signatures that one base gives for all:
+//! signatures are reduced by rows, one for each loop that is kept, whose greatest numbers differ,
+//! and the first rows tell what is a sum of the first signatures. The walks of the loops that are
+//! kept in the end are read off searches near their bases. The first cycle needs the first of the
+//! loops that searches find, and then the loops at its base alone.
 //!
 //! A certificate of the basis has the trees at all vertices, which are grown again for it one after
 //! the other, and shows that the basis is least to a checker that searches nothing.
@@ -36,6 +39,7 @@ mod echelon;
 mod finding;
 mod marking;
 mod merging;
+mod nearby;
 mod placing;
 mod searching;
 mod shortest;

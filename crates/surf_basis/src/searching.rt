@@ -10,7 +10,7 @@ ghost use Rattle.surf_basis.specs.Signing.{AreSigned};
 ghost use Rattle.surf_basis.specs.Places.{order_of};
 ghost use Rattle.surf_basis.specs.Marks.{HasBases};
 ghost use Rattle.surf_basis.specs.Kept.{HavePlacesOfBasis};
-ghost use Rattle.surf_basis.specs.Found.{IsNext, AreKeptFrom, IsFirstAmong, IsFirstPlace};
+ghost use Rattle.surf_basis.specs.Found.{surface_of, IsNext, AreKeptFrom, IsFirstAmong, IsFirstPlace};
 ghost use Rattle.surf_base.specs.declared.limits.TheConstants.{MAX_LOOPS};
 
 use crate::candidate::{Candidate, Signed};
@@ -41,7 +41,7 @@ fn sort_loops(found: &mut [Signed])
 }
 
 // Keeps of the loops at a vertex what is independent of those before.
-fn keep_loops(found: &mut [Signed], choice: &mut Choice) -> Result<(), NoMemory>
+pub(crate) fn keep_loops(found: &mut [Signed], choice: &mut Choice) -> Result<(), NoMemory>
     requires small { All (λ s. s.signature < 2 ^ choice.old.width) found.old }
     ensures next { OnOk result (IsNext choice.old found.old choice.new) }
     ensures width { choice.new.width ≡ choice.old.width }
@@ -69,6 +69,7 @@ fn keep_found(
     ensures kept { OnOk result (AreKeptFrom finder.old.mesh finder.old.lengths finder.old.signs
         vertices.now choice.new) }
     ensures width { choice.new.width ≡ choice.old.width }
+    ensures same { finder.new ≡ finder.old }
 {
     let mut found = Vec::new(alloc);
     for v in vertices {
@@ -109,8 +110,10 @@ pub(crate) fn bases_of(
 pub(crate) fn sufficient_loops(
     alloc: Global,
     surface: &Surface<'_>,
+    finder: &mut Finder<'_>,
     count: usize,
 ) -> Result<Choice, NoMemory>
+    requires finder { finder.old ≡ surface_of surface.now }
     requires lengths { length surface.now.lengths.now ≡ edge_count surface.now.mesh.now }
     requires signed { AreSigned surface.now.mesh.now surface.now.signatures.now count }
     requires full { IsFullCount surface.now.mesh.now count }
@@ -119,13 +122,13 @@ pub(crate) fn sufficient_loops(
         All (λ s. s.candidate.base < surface.now.mesh.now.vertices) found.kept) }
     ensures places { IfOk result (λ found. HavePlacesOfBasis surface.now.mesh.now
         surface.now.lengths.now found.kept) }
+    ensures same { finder.new ≡ finder.old }
 {
     surface.mesh.law_of_surface();
     surface.lengths.law_of_lengths();
     let vertices = signed_ends(alloc, surface.mesh, surface.signatures)?;
-    let mut finder = Finder::make(alloc, surface)?;
     let mut choice = Choice::make(alloc, count as u32)?;
-    keep_found(alloc, &mut finder, &vertices, &mut choice)?;
+    keep_found(alloc, finder, &vertices, &mut choice)?;
     choice.law_of_choice();
     Ok(choice)
 }

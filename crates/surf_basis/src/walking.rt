@@ -1,20 +1,76 @@
 //! The walks of candidates.
-ghost use Rattle.std.specs.Prelude.{◌≡◌, ◌<◌, true, slice_index_or, All, IfOk, IfSome, OnOk, List, ℕ, length};
-ghost use Rattle.surf_surfaces.specs.Mesh.{Mesh};
-ghost use Rattle.surf_surfaces.specs.Surface.{edge_count};
-ghost use Rattle.surf_basis.specs.declared.cycle.Cycle.{Cycle};
+ghost use Rattle.std.specs.Prelude.{◌≡◌, ◌<◌, true, IsTrue, All, IfOk, OnOk, length};
+ghost use Rattle.surf_surfaces.specs.Surface.{edge_count, ends};
 ghost use Rattle.surf_tree.specs.Grown.{IsGrown as IsTreeGrown};
-ghost use Rattle.surf_loops.specs.Loops.{AreLoopTables};
-ghost use Rattle.surf_basis.specs.Candidates.{IsInside, IsCycleOf, IsWalked, AreCyclesOf, is_cycle_of};
+ghost use Rattle.surf_near.specs.Near.{is_near};
+ghost use Rattle.surf_basis.specs.Based.{AddsWay, IsLoopWalk, IsMeasured};
+ghost use Rattle.surf_basis.specs.Candidates.{IsInside, IsCycleOf, AreCyclesOf};
+ghost use Rattle.surf_basis.specs.Ways.{IsReached};
 
 use crate::candidate::{Candidate, Signed};
 use crate::cycle::Cycle;
+use crate::finding::Finder;
 use crate::surface::Surface;
 use std::alloc::Global;
-use surf_base::NoMemory;
+use surf_base::{EdgeId, NoMemory, VertexId};
 use surf_lengths::Lengths;
 use surf_loops::LoopDesk;
-use surf_mesh::HalfMesh;
+use surf_mesh::{HalfMesh, Walk};
+use surf_near::NearDesk;
+
+// Adds a vertex that a search reached, and those on its way up to the base.
+fn push_way(
+    surface: &Surface<'_>,
+    desk: &NearDesk,
+    from: VertexId,
+    list: &mut Vec<VertexId>,
+) -> Result<(), NoMemory>
+    requires lengths { length surface.now.lengths.now ≡ edge_count surface.now.mesh.now }
+    requires base { desk.now.base < surface.now.mesh.now.vertices }
+    requires reached { IsReached surface.now.mesh.now surface.now.lengths.now desk.now.base
+        desk.now }
+    requires vertex { from < surface.now.mesh.now.vertices }
+    requires near { IsTrue (is_near desk.now from) }
+    ensures way { OnOk result (AddsWay surface.now.mesh.now surface.now.lengths.now desk.now.base
+        from list.old.items list.new.items) }
+{
+    surface.mesh.law_of_surface();
+    surface.lengths.law_of_lengths();
+    list.push(from)?;
+    let mut at = from;
+    while at != desk.base() {
+        at = desk.parent(at);
+        list.push(at)?;
+    }
+    Ok(())
+}
+
+// The loop of an edge between vertices that a search reached.
+pub(crate) fn loop_walk(
+    alloc: Global,
+    surface: &Surface<'_>,
+    desk: &NearDesk,
+    edge: EdgeId,
+) -> Result<Walk, NoMemory>
+    requires lengths { length surface.now.lengths.now ≡ edge_count surface.now.mesh.now }
+    requires base { desk.now.base < surface.now.mesh.now.vertices }
+    requires reached { IsReached surface.now.mesh.now surface.now.lengths.now desk.now.base
+        desk.now }
+    requires edge { edge < edge_count surface.now.mesh.now }
+    requires between { IsTrue (is_near desk.now (ends surface.now.mesh.now edge).0) × IsTrue
+        (is_near desk.now (ends surface.now.mesh.now edge).1) }
+    ensures walk { IfOk result (IsLoopWalk surface.now.mesh.now surface.now.lengths.now
+        desk.now.base edge) }
+{
+    surface.mesh.law_of_surface();
+    surface.lengths.law_of_lengths();
+    let (u, v) = surface.mesh.ends(edge);
+    let mut list = Vec::new(alloc);
+    push_way(surface, desk, u, &mut list)?;
+    list.reverse();
+    push_way(surface, desk, v, &mut list)?;
+    Ok(Walk::from_vertices(list))
+}
 
 // The cycle of a candidate at the base of the tree that a desk has.
 pub(crate) fn cycle_of(
@@ -40,111 +96,20 @@ pub(crate) fn cycle_of(
     })
 }
 
-// Lists the cycles of those candidates that are at the base of a desk, but no more in all than
-// there is room for.
-pub(crate) fn walk_kept(
-    alloc: Global,
-    surface: &Surface<'_>,
-    desk: &LoopDesk,
-    kept: &[Signed],
-    room: usize,
-    walked: &mut Vec<Cycle>,
-) -> Result<(), NoMemory>
-    requires tree { IsTreeGrown surface.now.mesh.now surface.now.lengths.now
-        desk.now.tree.base desk.now.tree }
-    requires lengths { length surface.now.lengths.now ≡ edge_count surface.now.mesh.now }
-    requires inside { All (λ s. IsInside surface.now.mesh.now s.candidate) kept.now }
-    requires walked { All (IsWalked surface.now.mesh.now surface.now.lengths.now)
-        walked.old.items }
-    ensures walked { OnOk result (All (IsWalked surface.now.mesh.now surface.now.lengths.now)
-        walked.new.items) }
-{
-    let base = desk.tree().base();
-    for signed in kept {
-        if signed.candidate.base == base && walked.len() < room {
-            let cycle = cycle_of(alloc, surface.mesh, surface.lengths, desk, signed.candidate)?;
-            walked.push(cycle)?;
-        }
-    }
-    Ok(())
-}
-
-// Whether a cycle has the length, the base and the edge of a candidate.
-fn is_cycle_of(candidate: &Candidate, cycle: &Cycle) -> bool
-    ensures of { result ≡ is_cycle_of candidate.now cycle.now }
-{
-    cycle.length == candidate.length && cycle.base == candidate.base && cycle.edge == candidate.edge
-}
-
-// The place of the cycle of a candidate among others, if it is there.
-fn place_of(walked: &[Cycle], candidate: &Candidate) -> Option<usize>
-    ensures place { IfSome result (λ i. (i < length walked.now) × ((d : Cycle) →
-        is_cycle_of candidate.now (slice_index_or walked.now i d) ≡ true)) }
-{
-    for place in 0..walked.len() {
-        if is_cycle_of(candidate, &walked[place]) {
-            return Some(place);
-        }
-    }
-    None
-}
-
-// Takes the cycle of a candidate from others, if it is among them.
-fn take_cycle(walked: &mut Vec<Cycle>, candidate: &Candidate) -> Option<Cycle>
-    ensures cycle { (mesh : Mesh) (lengths : List ℕ) →
-        All (IsWalked mesh lengths) walked.old.items →
-        IfSome result (IsCycleOf mesh lengths candidate.now) }
-    ensures others { (mesh : Mesh) (lengths : List ℕ) →
-        All (IsWalked mesh lengths) walked.old.items →
-        All (IsWalked mesh lengths) walked.new.items }
-{
-    let place = place_of(walked, candidate)?;
-    Some(walked.swap_remove(place))
-}
-
-// The cycle of a candidate. It is walked now if it isn't among those that were walked.
-fn next_cycle(
-    alloc: Global,
-    surface: &Surface<'_>,
-    desk: &mut LoopDesk,
-    candidate: Candidate,
-    walked: &mut Vec<Cycle>,
-) -> Result<Cycle, NoMemory>
-    requires made { AreLoopTables surface.now.mesh.now desk.old }
-    requires lengths { length surface.now.lengths.now ≡ edge_count surface.now.mesh.now }
-    requires inside { IsInside surface.now.mesh.now candidate }
-    requires walked { All (IsWalked surface.now.mesh.now surface.now.lengths.now)
-        walked.old.items }
-    ensures cycle { IfOk result (IsCycleOf surface.now.mesh.now surface.now.lengths.now candidate) }
-    ensures made { AreLoopTables surface.now.mesh.now desk.new }
-    ensures walked { All (IsWalked surface.now.mesh.now surface.now.lengths.now) walked.new.items }
-{
-    if let Some(cycle) = take_cycle(walked, &candidate) {
-        return Ok(cycle);
-    }
-    desk.grow_tree(surface.mesh, surface.lengths, candidate.base);
-    cycle_of(alloc, surface.mesh, surface.lengths, desk, candidate)
-}
-
-// The cycles of candidates, in order. Some of them may be walked already.
+// The cycles of candidates, in order, each by a search near its base.
 pub(crate) fn cycles_of(
     alloc: Global,
-    surface: &Surface<'_>,
-    desk: &mut LoopDesk,
+    finder: &mut Finder<'_>,
     kept: &[Signed],
-    walked: &mut Vec<Cycle>,
 ) -> Result<Vec<Cycle>, NoMemory>
-    requires made { AreLoopTables surface.now.mesh.now desk.old }
-    requires lengths { length surface.now.lengths.now ≡ edge_count surface.now.mesh.now }
-    requires inside { All (λ s. IsInside surface.now.mesh.now s.candidate) kept.now }
-    requires walked { All (IsWalked surface.now.mesh.now surface.now.lengths.now)
-        walked.old.items }
-    ensures cycles { IfOk result (λ cycles. AreCyclesOf surface.now.mesh.now surface.now.lengths.now
-        kept.now cycles.items) }
+    requires measured { All (λ s. IsMeasured finder.old.mesh finder.old.lengths s.candidate)
+        kept.now }
+    ensures cycles { IfOk result (λ cycles. AreCyclesOf finder.old.mesh finder.old.lengths kept.now
+        cycles.items) }
 {
     let mut cycles = Vec::with_capacity(alloc, kept.len())?;
     for signed in kept {
-        let cycle = next_cycle(alloc, surface, desk, signed.candidate, walked)?;
+        let cycle = finder.cycle(alloc, signed.candidate)?;
         cycles.push(cycle)?;
     }
     Ok(cycles)

@@ -1,5 +1,5 @@
 //! The tables of one search at a time.
-ghost use Rattle.std.specs.Prelude.{◌≡◌, ◌<◌, length, slice_index, IfOk};
+ghost use Rattle.std.specs.Prelude.{◌≡◌, ◌<◌, ◌≤◌, length, slice_index, IfOk};
 ghost use Rattle.surf_near.specs.Links.{AreLinks, graph_of, weight_of};
 ghost use Rattle.surf_near.specs.Searching.{IsBlank, IsFound};
 ghost use Rattle.surf_near.specs.Near.{NearTables, AreNearTables, IsNear, is_near};
@@ -115,6 +115,7 @@ impl NearDesk {
     /// The vertices that were settled, by distance, each after its parent.
     pub fn settled(&self) -> &[VertexId]
         ensures settled { result.now ≡ self.now.settled }
+        ensures few { length result.now ≤ length self.now.distances }
     {
         &self.tables.order[..self.tables.count]
     }

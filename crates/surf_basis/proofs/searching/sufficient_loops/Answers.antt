@@ -13,10 +13,6 @@ signed_ends-requires c = record {
   table = signs_long c.args.surface.now.mesh.now c.args.surface.now.signatures.now c.args.count c.requires.signed;
 }
 
-pub make-requires-clause-signatures : goal.make-requires-clause-signatures
-make-requires-clause-signatures c =
-    signs_long c.args.surface.now.mesh.now c.args.surface.now.signatures.now c.args.count c.requires.signed
-
 pub returns-clause-inside : goal.returns-clause-inside
 returns-clause-inside c =
     let mesh = c.args.surface.now.mesh.now in
@@ -24,7 +20,7 @@ returns-clause-inside c =
     let s = c.args.surface.now.signatures.now in
     let positive = lengths_positive mesh lengths c.law_of_lengths.ensures.lengths c.requires.lengths in
     let kept : AreKeptFrom mesh lengths s c.deref.result.now c.keep_found.new.choice =
-    subst (λ (f : SurfaceTables). AreKeptFrom f.mesh f.lengths f.signs c.deref.result.now c.keep_found.new.choice) c.in_ok-finder.ensures.made
+    subst (λ (f : SurfaceTables). AreKeptFrom f.mesh f.lengths f.signs c.deref.result.now c.keep_found.new.choice) c.requires.finder
     c.in_ok-keep_found.ensures.kept in
     bases_inside mesh lengths c.law_of_surface.ensures.surface positive s c.args.count c.requires.signed c.deref.result.now c.keep_found.new.choice kept
 
@@ -36,7 +32,7 @@ returns-clause-places c =
     let positive = lengths_positive mesh lengths c.law_of_lengths.ensures.lengths c.requires.lengths in
     let choice = c.keep_found.new.choice in
     let kept : AreKeptFrom mesh lengths s c.deref.result.now choice =
-    subst (λ (f : SurfaceTables). AreKeptFrom f.mesh f.lengths f.signs c.deref.result.now choice) c.in_ok-finder.ensures.made
+    subst (λ (f : SurfaceTables). AreKeptFrom f.mesh f.lengths f.signs c.deref.result.now choice) c.requires.finder
     c.in_ok-keep_found.ensures.kept in
     let ends : HasSignedEnds mesh s c.deref.result.now =
     subst (λ (xs : List ℕ). HasSignedEnds mesh s xs) (sym c.deref.ensures.value) c.in_ok-vertices.ensures.ends in

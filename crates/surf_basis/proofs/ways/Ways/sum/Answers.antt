@@ -42,6 +42,10 @@ number-requires-clause-parent c =
     has_parent mesh lengths c.law_of_surface.ensures.surface positive c.args.base c.requires.reached.far c.requires.base c.args.surface.now.signatures.now c.args.desk.now c.requires.reached.near
     c.loop-v.self c.loop-v.v-index c.v-item.result it.0 it.1 c.loop-v.invariant.count c.requires.signatures c.loop-v.invariant.ways
 
+pub number-requires-clause-few : goal.number-requires-clause-few
+number-requires-clause-few c =
+    omega (arith, c.loop-v.invariant.few, c.loop-v-test.true, c.settled-v-items.ensures.few, c.requires.reached.near.made.distances, c.law_of_surface.ensures.vertices)
+
 pub loop-v-preserved : goal.loop-v-preserved
 loop-v-preserved c =
     let mesh = c.args.surface.now.mesh.now in
@@ -53,6 +57,7 @@ loop-v-preserved c =
           c.loop-v.self c.number.new.self c.loop-v.v-index c.v-item.result it.0 it.1 c.loop-v.invariant.ways c.in_ok-number.ensures.numbered;
       none = c.in_ok-number.ensures.none;
       count = c.number.ensures.count ∙ c.loop-v.invariant.count;
+      few = omega (arith, c.number.ensures.one, c.loop-v.invariant.few);
     }
 
 pub returns-clause-ways : goal.returns-clause-ways

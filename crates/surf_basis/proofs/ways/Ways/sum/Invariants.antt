@@ -1,4 +1,4 @@
-use Rattle.std.proofs.Common.{◌≡◌, length}
+use Rattle.std.proofs.Common.{◌≡◌, ◌≤◌, ◌+◌, length}
 use Rattle.surf_basis.specs.Ways.{HasNone}
 use Rattle.surf_basis.proofs.Numbered.{AreWaysTo}
 use Rattle.surf_basis.proofs.ways.Ways.sum.Given as goal
@@ -8,4 +8,5 @@ invariant-loop-v l = record {
   ways : AreWaysTo l.surface.mesh.now l.surface.lengths.now l.base l.surface.signatures.now l.desk l.self l.v-index;
   none : HasNone l.self;
   count : length l.self.numbers ≡ l.surface.mesh.now.vertices;
+  few : length l.self.classes ≤ l.v-index + 1;
 }
