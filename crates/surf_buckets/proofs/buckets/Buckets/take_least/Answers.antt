@@ -1,11 +1,12 @@
-use Rattle.std.proofs.Common.{ℕ, ◌≡◌, ◌∙◌, refl, ap, arith, set, None, eqb, if◌then◌else◌}
+use Rattle.std.proofs.Common.{ℕ, ◌≡◌, ap, arith, set, None, eqb, if◌then◌else◌}
 use Rattle.std.proofs.lemmas.List.{with_items_is}
 use Rattle.std.specs.Vec.{with_items}
 use Rattle.surf_buckets.specs.Buckets.{BucketTables, entries_of, IsNearest}
-use Rattle.surf_buckets.proofs.Views.{all_none, nearest_entry, buckets_taken, entries_set, entry_none}
-use Rattle.surf_buckets.proofs.Circling.{when}
-use Rattle.surf_buckets.specs.Circles.{nothing, key_at}
-use Rattle.surf_buckets.proofs.Buckets.take_least.Goals as goal
+use Rattle.surf_buckets.proofs.Views.{all_none, nearest_entry, entries_without}
+use Rattle.surf_buckets.proofs.Nodes.{buckets_taken}
+use Rattle.surf_buckets.specs.Circles.{nothing}
+use Rattle.surf_buckets.specs.Nodes.{key_at}
+use Rattle.surf_buckets.proofs.buckets.Buckets.take_least.Goals as goal
 
 pub invariant_of-self-in-Some : goal.invariant_of-self-in-Some
 invariant_of-self-in-Some c =
@@ -17,21 +18,20 @@ invariant_of-self-in-Some c =
 pub returns-in-None-clause-taken : goal.returns-in-None-clause-taken
 returns-in-None-clause-taken c =
     let b = c.self.inside in
-    let is : entries_of b.places b.nodes.items ≡ c.args.self.now.entries = ap (λ (t : BucketTables). t.entries) c.self.view_is in
-    (rw (← is) (all_none b.places b.nodes.items (rw c.deref.ensures.value at c.in-None.ensures)), is)
+    let is : entries_of b.places (key_at b.nodes.items) ≡ c.args.self.now.entries = ap (λ (t : BucketTables). t.entries) c.self.view_is in
+    (rw (← is) (all_none b.places (key_at b.nodes.items) (rw c.deref.ensures.value at c.in-None.ensures)), is)
 
 pub returns-in-Some-clause-taken : goal.returns-in-Some-clause-taken
 returns-in-Some-clause-taken c =
     let b = c.self.inside in
     let new = c.remove.new.nodes in
     let p = c.in-Some.place in
-    let is : entries_of b.places b.nodes.items ≡ c.args.self.now.entries = ap (λ (t : BucketTables). t.entries) c.self.view_is in
+    let is : entries_of b.places (key_at b.nodes.items) ≡ c.args.self.now.entries = ap (λ (t : BucketTables). t.entries) c.self.view_is in
     let new_is : (with_items b.nodes new).items ≡ new = with_items_is b.nodes new (omega arith) in
     let keys : (i : ℕ) → key_at new i ≡ (if eqb i p then nothing else key_at b.nodes.items i) = rw c.deref_mut.ensures.value at c.remove.ensures.key in
-    let near : IsNearest b.places b.nodes.items p c.in-Some.key = rw c.deref.ensures.value at c.in-Some.ensures in
-    let none : key_at new p ≡ nothing = keys p ∙ when p p nothing (key_at b.nodes.items p) refl in
-    let gone : entries_of b.places new ≡ set (entries_of b.places b.nodes.items) p None =
-    entries_set b.places b.nodes.items new p nothing None near.within keys (entry_none new p none) in (
-      rw (← is) (nearest_entry b.places b.nodes.items p c.in-Some.key near),
+    let near : IsNearest b.places (key_at b.nodes.items) p c.in-Some.key = rw c.deref.ensures.value at c.in-Some.ensures in
+    let gone : entries_of b.places (key_at new) ≡ set (entries_of b.places (key_at b.nodes.items)) p None =
+    entries_without b.places (key_at b.nodes.items) (key_at new) p near.within (λ i l. keys i) in (
+      rw (← is) (nearest_entry b.places (key_at b.nodes.items) p c.in-Some.key near),
       rw (new_is, ← is) gone,
     )
