@@ -194,7 +194,7 @@ impl LentBuckets {
         ensures taken { (keys : List ℕ) → IsFiling self.old keys →
             TakesNearest (waiting self.old keys) (waiting self.new keys) result }
         ensures settled { (keys : List ℕ) → IsFiling self.old keys →
-            MatchOption result (settled self.new keys ≡ keys)
+            MatchOption result ((settled self.old keys ≡ keys) × (settled self.new keys ≡ keys))
             (λ r. settled self.new keys ≡ slice_set (settled self.old keys) r.0 r.1) }
         ensures now { MatchOption result (self.new.now ≡ self.old.now) (λ r. self.new.now ≡ r.1) }
         ensures places { self.new.places ≡ self.old.places }

@@ -17,7 +17,8 @@ returns-in-None-clause-settled c = λ keys f.
     let b = c.self.inside in
     let inner : IsFiling (tables b.links.items b.places b.now b.last) keys = subst (λ t. IsFiling t keys) (sym c.self.view_is) f in
     let none = takes_none b.links.items b.places b.now b.last keys inner (rw c.deref.ensures.value at c.in-None.ensures) in
-    (subst (λ t. TakesNone t keys) c.self.view_is none).settles
+    let all = (subst (λ t. TakesNone t keys) c.self.view_is none).settles in
+    (all, all)
 
 pub returns-in-Some-clause-filing : goal.returns-in-Some-clause-filing
 returns-in-Some-clause-filing c = λ keys f.
