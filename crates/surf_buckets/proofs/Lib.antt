@@ -1,3 +1,6 @@
 pub mod Filing
 pub mod Circling
 pub mod Views
+pub mod Nodes
+pub mod Lending
+pub mod LentViews

@@ -1,10 +1,9 @@
 -- What a queue of buckets has of each place.
-use Rattle.std.specs.Prelude.{ℕ, ◌<◌, ◌≤◌, ◌≡◌, ◌≢◌, ◌+◌, ◌==◌, if◌then◌else◌, List, length, map, Option, Some, None}
+use Rattle.std.specs.Prelude.{ℕ, ◌<◌, ◌≤◌, ◌≡◌, ◌≢◌, ◌+◌, ◌==◌, if◌then◌else◌, length, map, Option, Some, None}
 use Rattle.std.specs.Prelude.{slice_set as set}
 use Rattle.std.specs.List.{range_with_len}
 use Rattle.surf_heap.specs.Entries.{Entries, entry_of, IsEmpty}
-use Rattle.surf_buckets.specs.declared.Node.{Node}
-use Rattle.surf_buckets.specs.Circles.{nothing, key_at, AreCircles}
+use Rattle.surf_buckets.specs.Circles.{nothing, AreCircles}
 
 -- for each place its key, with a tie of 0, or nothing; and the key that was taken last
 pub record BucketTables : Type 0 where
@@ -12,27 +11,30 @@ pub record BucketTables : Type 0 where
   pub now : ℕ
 
 -- a place's key
-abbrev pub entry_at : List Node → ℕ → Option (ℕ × ℕ)
-entry_at nodes p = if key_at nodes p == nothing then None else Some (key_at nodes p, 0)
+abbrev pub entry_at : (ℕ → ℕ) → ℕ → Option (ℕ × ℕ)
+entry_at key p = if key p == nothing then None else Some (key p, 0)
 
-abbrev pub entries_of : ℕ → List Node → Entries
-entries_of places nodes = map (entry_at nodes) (range_with_len 0 places)
+abbrev pub entries_of : ℕ → (ℕ → ℕ) → Entries
+entries_of places key = map (entry_at key) (range_with_len 0 places)
 
--- the places are in the circles of their keys, which are no less than `now`, at most `last`, and less than one walk
--- round the buckets away
-pub record IsBuckets (places : ℕ) (nodes : List Node) (now last : ℕ) : Type 0 where
-  pub circles : AreCircles places nodes
-  pub from : (p : ℕ) → p < places → key_at nodes p ≢ nothing → now ≤ key_at nodes p
-  pub window : (p : ℕ) → p < places → key_at nodes p ≢ nothing → key_at nodes p < now + 4096
-  pub to : (p : ℕ) → p < places → key_at nodes p ≢ nothing → key_at nodes p ≤ last
+-- the keys of the places are no less than `now`, at most `last`, and less than one walk round the buckets away
+pub record AreNear (places : ℕ) (key : ℕ → ℕ) (now last : ℕ) : Type 0 where
+  pub from : (p : ℕ) → p < places → key p ≢ nothing → now ≤ key p
+  pub window : (p : ℕ) → p < places → key p ≢ nothing → key p < now + 4096
+  pub to : (p : ℕ) → p < places → key p ≢ nothing → key p ≤ last
   pub last_in : last < nothing
 
+-- the places are in the circles of their keys, which are near
+pub record AreFiled (places count : ℕ) (key next prev : ℕ → ℕ) (now last : ℕ) : Type 0 where
+  pub circles : AreCircles places count key next prev
+  pub near : AreNear places key now last
+
 -- no place has a key that is less
-pub record IsNearest (places : ℕ) (nodes : List Node) (place key : ℕ) : Type 0 where
+pub record IsNearest (places : ℕ) (key : ℕ → ℕ) (place k : ℕ) : Type 0 where
   pub within : place < places
-  pub holds : key_at nodes place ≡ key
-  pub key_in : key < nothing
-  pub least : (p : ℕ) → p < places → key_at nodes p ≢ nothing → key ≤ key_at nodes p
+  pub holds : key place ≡ k
+  pub key_in : k < nothing
+  pub least : (p : ℕ) → p < places → key p ≢ nothing → k ≤ key p
 
 -- the entry at a place has a key that is least
 pub record IsNearestEntry (entries : Entries) (place key : ℕ) : Type 0 where

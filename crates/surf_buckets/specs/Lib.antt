@@ -1,2 +1,4 @@
 pub mod Buckets
 pub mod Circles
+pub mod Lent
+pub mod Nodes

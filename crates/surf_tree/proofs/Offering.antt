@@ -8,12 +8,13 @@ use Rattle.surf_z2.specs.Parity.{count_below}
 use Rattle.surf_z2.proofs.Sums.{count_below-without, count_below-same, count_below-all}
 use Rattle.surf_graphs.proofs.Loops.{joins_turned}
 use Rattle.surf_heap.specs.Entries.{Entries, entry_of, lesser, precedes, IsLeastEntry}
+use Rattle.surf_buckets.specs.Buckets.{IsNearestEntry}
 use Rattle.surf_mesh.specs.Links.{link_at, IsRow}
 use Rattle.surf_base.specs.Tables.{at}
 use Rattle.surf_tree.specs.Searches.{far, HasKey, IsOffered}
 use Rattle.surf_lengths.specs.Lengths.{longest}
-use Rattle.surf_tree.proofs.SearchWords.{IsSearch, IsOfferedSome}
-use Rattle.surf_tree.proofs.Settling.{settle_one}
+use Rattle.surf_tree.proofs.SearchWords.{IsNext, IsSearch, IsOfferedSome}
+use Rattle.surf_tree.proofs.Settling.{least_next, settle_one}
 
 first_of : Option (ℕ × ℕ) → ℕ
 first_of None = 0
@@ -192,31 +193,58 @@ first_offer n base cleared new l clear is =
       ap length there ∙ (length-set (replicate n None) base (Some (0, 0)) ∙ long),
     )
 
+-- an entry whose key is least
+pub nearest_next : (heap : Entries) (v k : ℕ) → IsNearestEntry heap v k → (t : ℕ) × IsNext heap v k t
+nearest_next heap v k near = (near.holds.0, record { within = near.within; holds = near.holds.1; least = near.least })
+
 -- one turn of a search
 module _ (g : Graph) (len : ℕ → ℕ) (base : ℕ) (small : g.nodes ≤ longest) (short : (e : ℕ) → len e ≤ longest) (dist : List ℕ) (heap : Entries) (last v k t : ℕ)
-    (long : length dist ≡ g.nodes) (s : IsSearch g len base (at dist) heap last (count_below g.nodes (λ u. eqb (at dist u) far))) (least : IsLeastEntry heap v k t) where
+    (long : length dist ≡ g.nodes) (s : IsSearch g len base (at dist) heap last (count_below g.nodes (λ u. eqb (at dist u) far))) (next : IsNext heap v k t) where
   -- the node that is settled, and its distance, are in range
-  pub turn_inside : (v < g.nodes) × (k + longest ≤ g.nodes * longest)
-  turn_inside =
-      let o = s.outside v k t least.holds in
+  pub next_inside : (v < g.nodes) × (k + longest ≤ g.nodes * longest)
+  next_inside =
+      let o = s.outside v k t next.holds in
       let some : count_below g.nodes (λ u. eqb (at dist u) far) ≡ suc (count_below g.nodes (λ u. eqb (at dist u) far && not (eqb v u))) = count_below-without g.nodes v (λ u. eqb (at dist u) far) o.within (eq-eqb (at dist v) far o.unsettled) in
       let f : k + suc (count_below g.nodes (λ u. eqb (at dist u) far && not (eqb v u))) * longest ≤ g.nodes * longest = subst (λ n. k + n * longest ≤ g.nodes * longest) some o.fits in
       (o.within, omega arith)
 
-  turn_less : (k ≢ far) × (count_below g.nodes (λ u. eqb (at dist u) far) ≡ suc (count_below g.nodes (λ u. eqb (at (set dist v k) u) far)))
-  turn_less =
-      let o = s.outside v k t least.holds in
+  next_less : (k ≢ far) × (count_below g.nodes (λ u. eqb (at dist u) far) ≡ suc (count_below g.nodes (λ u. eqb (at (set dist v k) u) far)))
+  next_less =
+      let o = s.outside v k t next.holds in
       let some : count_below g.nodes (λ u. eqb (at dist u) far) ≡ suc (count_below g.nodes (λ u. eqb (at dist u) far && not (eqb v u))) = count_below-without g.nodes v (λ u. eqb (at dist u) far) o.within (eq-eqb (at dist v) far o.unsettled) in
       let f : k + suc (count_below g.nodes (λ u. eqb (at dist u) far && not (eqb v u))) * longest ≤ g.nodes * longest = subst (λ n. k + n * longest ≤ g.nodes * longest) some o.fits in
       let ne : k ≢ far = omega arith in
       (ne, one_less g.nodes v k dist o.within (sym long) o.unsettled ne)
 
-  pub turn_smaller : count_below g.nodes (λ u. eqb (at (set dist v k) u) far) < count_below g.nodes (λ u. eqb (at dist u) far)
-  turn_smaller = let e = turn_less.1 in omega arith
+  pub next_smaller : count_below g.nodes (λ u. eqb (at (set dist v k) u) far) < count_below g.nodes (λ u. eqb (at dist u) far)
+  next_smaller = let e = next_less.1 in omega arith
 
-  pub turn_keeps : (mid new : Entries) → mid ≡ set heap v None → IsOffered g len (at (set dist v k)) v k mid new → IsSearch g len base (at (set dist v k)) new k (count_below g.nodes (λ u. eqb (at (set dist v k) u) far))
-  turn_keeps mid new took done =
-      let o = s.outside v k t least.holds in
+  pub next_keeps : (mid new : Entries) → mid ≡ set heap v None → IsOffered g len (at (set dist v k)) v k mid new → IsSearch g len base (at (set dist v k)) new k (count_below g.nodes (λ u. eqb (at (set dist v k) u) far))
+  next_keeps mid new took done =
+      let o = s.outside v k t next.holds in
       let lv : v < length dist = let l : v < g.nodes = o.within in omega arith in
       settle_one g len base small short (at dist) (at (set dist v k)) heap mid new last (count_below g.nodes (λ u. eqb (at (set dist v k) u) far)) v k t
-      (subst (λ n. IsSearch g len base (at dist) heap last n) turn_less.1 s) least took (get_or-set_same dist v k 0 lv) (λ q ne. get_or-set_other dist v q k 0 ne) done
+      (subst (λ n. IsSearch g len base (at dist) heap last n) next_less.1 s) next took (get_or-set_same dist v k 0 lv) (λ q ne. get_or-set_other dist v q k 0 ne) done
+
+  -- what was settled before isn't farther
+  pub next_last : (u : ℕ) → u < g.nodes → at (set dist v k) u ≢ far → at (set dist v k) u ≤ k
+  next_last u l some = elim (cases_eq u v) [
+    | inl same ↦ rw (same, get_or-set_same dist v k 0 (let lv : v < g.nodes = (s.outside v k t next.holds).within in omega arith)) (omega arith)
+    | inr ne ↦
+        let was = get_or-set_other dist v u k 0 ne in
+        let up : at dist u ≤ last = s.settled u l (λ e. some (was ∙ e)) in
+        let later : last ≤ k = (s.outside v k t next.holds).later in
+        rw was (omega arith)
+  ]
+
+-- and where the least entry of a heap is taken
+module _ (g : Graph) (len : ℕ → ℕ) (base : ℕ) (small : g.nodes ≤ longest) (short : (e : ℕ) → len e ≤ longest) (dist : List ℕ) (heap : Entries) (last v k t : ℕ)
+    (long : length dist ≡ g.nodes) (s : IsSearch g len base (at dist) heap last (count_below g.nodes (λ u. eqb (at dist u) far))) (least : IsLeastEntry heap v k t) where
+  pub turn_inside : (v < g.nodes) × (k + longest ≤ g.nodes * longest)
+  turn_inside = next_inside g len base small short dist heap last v k t long s (least_next heap v k t least)
+
+  pub turn_smaller : count_below g.nodes (λ u. eqb (at (set dist v k) u) far) < count_below g.nodes (λ u. eqb (at dist u) far)
+  turn_smaller = next_smaller g len base small short dist heap last v k t long s (least_next heap v k t least)
+
+  pub turn_keeps : (mid new : Entries) → mid ≡ set heap v None → IsOffered g len (at (set dist v k)) v k mid new → IsSearch g len base (at (set dist v k)) new k (count_below g.nodes (λ u. eqb (at (set dist v k) u) far))
+  turn_keeps = next_keeps g len base small short dist heap last v k t long s (least_next heap v k t least)

@@ -1,7 +1,7 @@
 -- The list of settled nodes as a queue, where all edges have one length.
-use Rattle.std.proofs.Common.{ℕ, suc, ◌<◌, ◌≤◌, ◌≡◌, ◌≢◌, ◌+◌, ◌*◌, true, refl, sym, ap, ◌∙◌, subst, arith, inl, inr, List, length, set, eqb, eq-eqb, ne_eqb, get_or-set_same, get_or-set_other}
+use Rattle.std.proofs.Common.{ℕ, suc, ◌<◌, ◌≤◌, ◌≡◌, ◌≢◌, ◌+◌, ◌*◌, true, refl, sym, ap, ◌∙◌, subst, arith, inl, inr, List, length, set, eqb, get_or-set_same, get_or-set_other}
 use Rattle.std.proofs.Math.ListN.{length-set}
-use Rattle.std.proofs.lemmas.Bool.{cases_eq, false≢true}
+use Rattle.std.proofs.lemmas.Bool.{cases_eq}
 use Rattle.surf_z2.specs.Parity.{count_below}
 use Rattle.surf_graphs.specs.Graphs.{Graph, IsGraph, IsConnected, joins}
 use Rattle.surf_graphs.proofs.Loops.{joins_turned}

@@ -17,6 +17,12 @@ pub record IsOutside (g : Graph) (len : ℕ → ℕ) (base : ℕ) (dist : ℕ �
   pub fits : k + left * longest ≤ g.nodes * longest
   pub reached : w ≢ base → IsReached g len dist w k
 
+-- a node whose key in the heap is least
+pub record IsNext (heap : Entries) (v k t : ℕ) : Type 0 where
+  pub within : v < length heap
+  pub holds : entry_of heap v ≡ Some (k, t)
+  pub least : (w k2 t2 : ℕ) → entry_of heap w ≡ Some (k2, t2) → k ≤ k2
+
 -- The state of a search: the settled nodes have their distances, of which the last settled is greatest, and the
 -- heap has the nodes that they have edges to. `left` nodes are unsettled.
 pub record IsSearch (g : Graph) (len : ℕ → ℕ) (base : ℕ) (dist : ℕ → ℕ) (heap : Entries) (last left : ℕ) : Type 0 where

@@ -1,11 +1,11 @@
-use Rattle.std.proofs.Common.{ℕ, suc, ◌<◌, ◌≤◌, ◌≡◌, ◌≢◌, ◌+◌, ◌*◌, sym, ap, ◌∙◌, arith, inl, inr, set, Option, Some, None, Bool, true, false, eqb, eq-eqb, ne_eqb, get_or-set_same, get_or-set_other}
+use Rattle.std.proofs.Common.{ℕ, suc, ◌<◌, ◌≤◌, ◌≡◌, ◌≢◌, ◌+◌, ◌*◌, sym, ap, ◌∙◌, arith, inl, inr, set, Option, Some, None, true, false, eqb, eq-eqb, ne_eqb, get_or-set_same, get_or-set_other}
 use Rattle.std.proofs.lemmas.Bool.{cases_eq, false≢true}
 use Rattle.surf_graphs.specs.Graphs.{Graph, IsGraph, IsConnected, leaves, joins}
 use Rattle.surf_graphs.proofs.Loops.{joins_turned, joins_ends}
 use Rattle.surf_heap.specs.Entries.{Entries, entry_of, IsUpTo, IsLeastEntry, IsEmpty}
 use Rattle.surf_lengths.specs.Lengths.{longest}
 use Rattle.surf_tree.specs.Searches.{far, HasKey, IsReached, IsOffered, IsSettled}
-use Rattle.surf_tree.proofs.SearchWords.{IsOutside, IsSearch}
+use Rattle.surf_tree.proofs.SearchWords.{IsOutside, IsNext, IsSearch}
 
 pub no_entry : (o : Option (ℕ × ℕ)) (k t : ℕ) → o ≡ None → ◌≡◌ {A = Option (ℕ × ℕ)} o (Some (k, t)) → ⊥
 no_entry o k t none some = let e = sym none ∙ some in cc
@@ -20,6 +20,13 @@ same_key o k t k2 t2 a b = ap key_of (sym a ∙ b)
 
 key_up : (k t p k2 t2 p2 : ℕ) → IsUpTo k t p k2 t2 p2 → k ≤ k2
 key_up k t p k2 t2 p2 h = elim h [ inl l ↦ omega arith | inr (e, _) ↦ omega arith ]
+
+pub least_next : (heap : Entries) (v k t : ℕ) → IsLeastEntry heap v k t → IsNext heap v k t
+least_next heap v k t least = record {
+  within = least.within;
+  holds = least.holds;
+  least = λ w k2 t2 h. key_up k t v k2 t2 w (least.least w k2 t2 h);
+}
 
 -- where neighbours of settled nodes are settled and one node is, all are
 module _ (g : Graph) (dist : ℕ → ℕ) (base : ℕ) (graph : IsGraph g) (connected : IsConnected g) (in_range : base < g.nodes) (first : dist base ≢ far)
@@ -57,7 +64,7 @@ module _ (g : Graph) (len : ℕ → ℕ) (base : ℕ) (small : g.nodes ≤ longe
   }
 
   module _ (dist dist2 : ℕ → ℕ) (heap mid new : Entries) (last left v k t : ℕ)
-      (s : IsSearch g len base dist heap last (suc left)) (least : IsLeastEntry heap v k t) (took : mid ≡ set heap v None)
+      (s : IsSearch g len base dist heap last (suc left)) (least : IsNext heap v k t) (took : mid ≡ set heap v None)
       (now : dist2 v ≡ k) (others : (q : ℕ) → q ≢ v → dist2 q ≡ dist q) (done : IsOffered g len dist2 v k mid new) where
     out : IsOutside g len base dist last (suc left) v k
     out = s.outside v k t least.holds
@@ -106,7 +113,7 @@ module _ (g : Graph) (len : ℕ → ℕ) (base : ℕ) (small : g.nodes ≤ longe
           record {
             within = o.within;
             unsettled = others w ne ∙ o.unsettled;
-            later = key_up k t v k2 t2 w (least.least w k2 t2 was_in);
+            later = least.least w k2 t2 was_in;
             fits = omega arith;
             reached = λ nb. moved dist dist2 w k2 kept (o.reached nb);
           }

@@ -20,6 +20,10 @@ AreUneven lengths = (length lengths ≡ 0)
 abbrev pub IsEvenness : List ℕ → Option ℕ → Type 0
 IsEvenness lengths even = MatchOption even (AreUneven lengths) (AreEven lengths)
 
+-- no edge is longer
+abbrev pub AreUpTo : List ℕ → ℕ → Type 0
+AreUpTo lengths most = (e : ℕ) → e < length lengths → slice_index lengths e ≤ most
+
 -- The settled nodes are the first of a list, by distance. The nodes before a place have passed on; no listed node is
 -- farther than those behind the place by more than the length of the edges.
 pub record IsQueue (g : Graph) (len : ℕ → ℕ) (size : ℕ) (dist order : List ℕ) (count place : ℕ) : Type 0 where

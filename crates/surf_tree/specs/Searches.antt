@@ -1,9 +1,9 @@
 -- A search from a base that settles the nearest node first, over any graph.
-use Rattle.std.specs.Prelude.{ℕ, ◌≡◌, ◌≢◌, ◌<◌, ◌≤◌, ◌+◌, ◌*◌, ◌⊎◌, true, List, length, slice_index, Some}
+use Rattle.std.specs.Prelude.{ℕ, ◌≡◌, ◌≢◌, ◌<◌, ◌≤◌, ◌+◌, ◌*◌, ◌⊎◌, true, length, Some}
 use Rattle.surf_graphs.specs.Graphs.{Graph, IsGraph, IsConnected, joins}
 use Rattle.surf_heap.specs.Entries.{Entries, entry_of}
 use Rattle.surf_lengths.specs.Lengths.{longest}
-use Rattle.surf_base.specs.Tables.{nobody, at}
+use Rattle.surf_base.specs.Tables.{nobody}
 
 -- the distance of a node that isn't settled
 abbrev pub far : ℕ

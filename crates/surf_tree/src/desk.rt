@@ -9,13 +9,15 @@ ghost use Rattle.surf_tree.specs.Searches.{IsSearchable, IsSettled};
 ghost use Rattle.surf_tree.specs.Tables.{TreeTables, AreTreeTables, parent_of, parent_edge_of};
 ghost use Rattle.surf_tree.specs.Grown.{IsGrown};
 
-use crate::even::{even_length, settle_even};
+use crate::even::{even_length, greatest_length, settle_even};
 use crate::network::MeshNetwork;
 use crate::parents::{NOBODY, mark_edges, set_parents};
 use crate::search::settle;
+use crate::short::settle_short;
 use std::alloc::Global;
 use std::marker::Model;
 use surf_base::{EdgeId, NoMemory, VertexId};
+use surf_buckets::{BUCKETS, LentBuckets};
 use surf_heap::Heap;
 use surf_lengths::Lengths;
 use surf_mesh::HalfMesh;
@@ -25,6 +27,7 @@ use surf_mesh::HalfMesh;
 #[derive(Drop)]
 pub struct TreeDesk {
     heap: Heap,
+    buckets: LentBuckets,
     distance: Vec<u64>,
     parent: Vec<u32>,
     up: Vec<u32>,
@@ -46,14 +49,17 @@ impl Model for TreeDesk {
       flags = d.flags.items;
     } };
 
-    ghost invariant = { λ d. length d.heap ≡ length d.distance.items };
+    ghost invariant = { λ d. (length d.heap ≡ length d.distance.items)
+        × (d.buckets.places ≡ length d.distance.items) };
 }
 
-// Settles all vertices, by a queue where one will do.
+// Settles all vertices: by a list where all edges have one length, by buckets where no edge is as
+// long as there are buckets, and else by the heap.
 fn settle_vertices(
     network: &MeshNetwork<'_>,
     distance: &mut [u64],
     heap: &mut Heap,
+    buckets: &mut LentBuckets,
     order: &mut [u32],
     base: u32,
 )
@@ -63,14 +69,19 @@ fn settle_vertices(
     requires base { base < network.now.mesh.now.vertices }
     requires distances { length distance.old ≡ network.now.mesh.now.vertices }
     requires places { length heap.old ≡ network.now.mesh.now.vertices }
+    requires room { buckets.old.places ≡ network.now.mesh.now.vertices }
     requires order { length order.old ≡ network.now.mesh.now.vertices }
     ensures settled { IsSettled (primal (cells_of network.now.mesh.now))
         (edge_length network.now.lengths.now) base (at distance.new) }
     ensures places { length heap.new ≡ network.now.mesh.now.vertices }
+    ensures room { buckets.new.places ≡ network.now.mesh.now.vertices }
 {
-    match even_length(network.lengths) {
-        Some(size) => settle_even(network, distance, order, base, size),
-        None => settle(network, distance, heap, base),
+    if let Some(size) = even_length(network.lengths) {
+        settle_even(network, distance, order, base, size);
+    } else if greatest_length(network.lengths) < BUCKETS {
+        settle_short(network, distance, buckets, base);
+    } else {
+        settle(network, distance, heap, base);
     }
 }
 
@@ -80,8 +91,10 @@ impl TreeDesk {
     pub fn make(alloc: Global, mesh: &HalfMesh) -> Result<TreeDesk, NoMemory>
         ensures made { IfOk result (λ desk. AreTreeTables mesh.now desk) }
     {
+        mesh.law_of_surface();
         let vertices = mesh.vertices() as usize;
         let heap = Heap::make(alloc, mesh.vertices())?;
+        let buckets = LentBuckets::make(alloc, mesh.vertices())?;
         let distance = vec![in alloc; 0u64; vertices]?;
         let parent = vec![in alloc; 0u32; vertices]?;
         let up = vec![in alloc; 0u32; vertices]?;
@@ -89,6 +102,7 @@ impl TreeDesk {
         let base = VertexId::new(0);
         Ok(TreeDesk {
             heap,
+            buckets,
             distance,
             parent,
             up,
@@ -111,6 +125,7 @@ impl TreeDesk {
             &network,
             &mut self.distance,
             &mut self.heap,
+            &mut self.buckets,
             &mut self.parent,
             base.number(),
         );

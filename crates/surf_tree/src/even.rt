@@ -3,7 +3,7 @@ ghost use Rattle.std.specs.Prelude.{◌≡◌, ◌<◌, ◌≤◌, ◌+◌, ℕ,
 ghost use Rattle.surf_lengths.specs.Lengths.{AreLengths, longest};
 ghost use Rattle.surf_base.specs.Tables.{at};
 ghost use Rattle.surf_tree.specs.Searches.{IsSearchable, IsSettled};
-ghost use Rattle.surf_tree.specs.Queues.{IsEvenness, IsQueue};
+ghost use Rattle.surf_tree.specs.Queues.{AreUpTo, IsEvenness, IsQueue};
 
 use crate::network::Network;
 use crate::search::FAR;
@@ -25,6 +25,17 @@ pub fn even_length(lengths: &Lengths) -> Option<u32>
         }
     }
     Some(first)
+}
+
+/// The greatest of all lengths, and 0 where there is none.
+pub fn greatest_length(lengths: &Lengths) -> u32
+    ensures greatest { AreUpTo lengths.now result }
+{
+    let mut greatest = 0;
+    for e in 0..lengths.count() {
+        greatest = greatest.max(lengths.of(EdgeId::new(e)));
+    }
+    greatest
 }
 
 // Lists the neighbours of the listed node at a place that aren't listed yet, and gives how many

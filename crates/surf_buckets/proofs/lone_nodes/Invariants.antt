@@ -1,5 +1,0 @@
-use Rattle.surf_buckets.specs.Circles.{IsAlone}
-use Rattle.surf_buckets.proofs.lone_nodes.Given as goal
-
-abbrev pub invariant-loop-i : goal.invariant-loop-i
-invariant-loop-i l = IsAlone l.i l.nodes.items
