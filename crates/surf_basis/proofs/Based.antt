@@ -33,7 +33,7 @@ use Rattle.surf_firsts.proofs.FirstLoops.{each_in, filter_twice, first_loops}
 use Rattle.surf_cotree.specs.Tables.{CotreeTables}
 use Rattle.surf_basis.specs.declared.candidate.Candidate.{Candidate}
 use Rattle.surf_basis.specs.declared.candidate.Signed.{Signed}
-use Rattle.surf_basis.specs.Based.{based_at, IsBased, IsOffered, AreOffered}
+use Rattle.surf_basis.specs.Based.{based_at, IsOffered, AreOffered}
 use Rattle.surf_basis.specs.Candidates.{Chosen, signed_earlier, independent_of, loop_in, loops_in, IsSigned}
 use Rattle.surf_basis.specs.Places.{place_of, is_sought, order_of, has_length}
 use Rattle.surf_basis.specs.Signing.{AreSigned}
@@ -43,6 +43,14 @@ use Rattle.surf_basis.proofs.Looped.{class_small}
 use Rattle.surf_basis.proofs.Searched.{zero_null}
 use Rattle.surf_basis.proofs.Sifted.{all_kept}
 use Rattle.surf_basis.proofs.Told.{sooner_size}
+
+-- a candidate is the loop of its edge at the base, with its class, and at most so long
+record IsBased (mesh : Mesh) (lengths : List ℕ) (trees : ℕ → Trees) (d : Split) (base most : ℕ) (c : Signed) : Type 0 where
+  base_is : c.candidate.base ≡ base
+  edge_in : c.candidate.edge < edge_count mesh
+  size : c.candidate.length ≡ loop_length mesh lengths (trees base).tree c.candidate.edge
+  within : c.candidate.length ≤ most
+  signature : c.signature ≡ class_of mesh d (loop_walk mesh (trees base).tree c.candidate.edge)
 
 -- ---- lists
 

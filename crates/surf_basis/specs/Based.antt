@@ -1,12 +1,11 @@
 -- Loops of edges as loops of the base where they were found, and cycles by searches near their bases.
-use Rattle.std.specs.Prelude.{ℕ, ◌≡◌, ◌<◌, ◌≤◌, ◌++◌, ◌∷◌, List, All, filter}
+use Rattle.std.specs.Prelude.{ℕ, ◌≡◌, ◌<◌, ◌++◌, ◌∷◌, List, All, filter}
 use Rattle.surf_graphs.specs.Cells.{Split, IsSplit}
 use Rattle.surf_graphs.specs.Loops.{way_up}
 use Rattle.surf_graphs.specs.Trees.{Tree}
 use Rattle.surf_surfaces.specs.Mesh.{Mesh}
 use Rattle.surf_surfaces.specs.Surface.{edge_count}
 use Rattle.surf_surfaces.specs.Cells.{cells_of}
-use Rattle.surf_surfaces.specs.Class.{class_of}
 use Rattle.surf_surfaces.specs.Loop.{loop_walk, loop_length}
 use Rattle.surf_surfaces.specs.ShortestTree.{IsShortestTree}
 use Rattle.surf_surfaces.specs.Choice.{Trees, AreChosen, loops_at}
@@ -24,14 +23,6 @@ based_at base s = record {
   from = s.from;
   signature = s.signature;
 }
-
--- a candidate is the loop of its edge at the base, with its class, and at most so long
-pub record IsBased (mesh : Mesh) (lengths : List ℕ) (trees : ℕ → Trees) (d : Split) (base most : ℕ) (c : Signed) : Type 0 where
-  pub base_is : c.candidate.base ≡ base
-  pub edge_in : c.candidate.edge < edge_count mesh
-  pub size : c.candidate.length ≡ loop_length mesh lengths (trees base).tree c.candidate.edge
-  pub within : c.candidate.length ≤ most
-  pub signature : c.signature ≡ class_of mesh d (loop_walk mesh (trees base).tree c.candidate.edge)
 
 -- candidates are the loops that are chosen at a base and have one of some lengths, in order
 pub record IsOffered (mesh : Mesh) (lengths : List ℕ) (trees : ℕ → Trees) (d : Split) (some : List ℕ) (base : ℕ)
