@@ -5,8 +5,8 @@
 //! of exactly two faces, that each vertex is in a face, that the faces at each vertex form one
 //! cycle, and that the faces are connected through edges. Each takes time linear in the number of
 //! sides, but for the sides at each lesser end, which are sorted, and the parents by which faces
-//! are joined where some vertex other than vertex 0 has no lesser neighbour. `check_surface` decides
-//! the same, and gives the surface without its rings, for what asks for none.
+//! are joined where some vertex other than vertex 0 has no lesser neighbour. `check_surface`
+//! decides the same, and gives the surface without its rings, for what asks for none.
 //!
 //! `characteristic` is the number of vertices minus that of edges plus that of faces. `orient`
 //! finds a turning, a flag for each face by which the two faces of each edge run it in opposite
