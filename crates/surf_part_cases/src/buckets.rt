@@ -1,6 +1,6 @@
 //! What comes out of a queue of buckets.
 use std::test::Fail;
-use surf_buckets::Buckets;
+use surf_buckets::{Buckets, LentBuckets};
 
 #[test]
 fn the_nearest_comes_out_first(rt: HostRuntime) -> Result<(), Fail> {
@@ -30,5 +30,20 @@ fn a_cleared_queue_holds_nothing(rt: HostRuntime) -> Result<(), Fail> {
     assert_eq!(rt; buckets.take_least(), None);
     buckets.offer(1, 2);
     assert_eq!(rt; buckets.take_least(), Some((1, 2)));
+    Ok(())
+}
+
+#[test]
+fn a_place_that_was_taken_keeps_its_key(rt: HostRuntime) -> Result<(), Fail> {
+    let mut keys = [0u64; 4];
+    let mut buckets = LentBuckets::make(rt.alloc(), 4).ok().ok_or("room")?;
+    buckets.start(&mut keys);
+    buckets.offer(&mut keys, 2, 5);
+    buckets.offer(&mut keys, 1, 4095);
+    buckets.offer(&mut keys, 2, 3);
+    assert_eq!(rt; buckets.take_least(), Some((2, 3)));
+    assert_eq!(rt; buckets.take_least(), Some((1, 4095)));
+    assert_eq!(rt; buckets.take_least(), None);
+    assert_eq!(rt; keys, [u64::MAX, 4095, 3, u64::MAX]);
     Ok(())
 }
