@@ -93,12 +93,12 @@ impl TreeDesk {
     {
         mesh.law_of_surface();
         let vertices = mesh.vertices() as usize;
-        let heap = Heap::make(alloc, mesh.vertices())?;
-        let buckets = LentBuckets::make(alloc, mesh.vertices())?;
         let distance = vec![in alloc; 0u64; vertices]?;
         let parent = vec![in alloc; 0u32; vertices]?;
         let up = vec![in alloc; 0u32; vertices]?;
         let flags = vec![in alloc; false; mesh.edges() as usize]?;
+        let heap = Heap::make(alloc, mesh.vertices())?;
+        let buckets = LentBuckets::make(alloc, mesh.vertices())?;
         let base = VertexId::new(0);
         Ok(TreeDesk {
             heap,
