@@ -91,12 +91,12 @@ impl CotreeDesk {
         let faces = mesh.faces() as usize;
         let edges = mesh.edges() as usize;
         let width = width_of(count_loops(mesh));
-        let heap = Heap::make(alloc, mesh.faces())?;
         let leaves = vec![in alloc; EdgeId::new(0); faces]?;
         let depth = vec![in alloc; 0u32; faces]?;
         let parent = vec![in alloc; 0u32; faces]?;
         let up = vec![in alloc; 0u32; faces]?;
         let held = vec![in alloc; false; edges]?;
+        let heap = Heap::make(alloc, mesh.faces())?;
         let left = Vec::with_capacity(alloc, edges)?;
         let signs = Signs::make(alloc, mesh.edges(), width)?;
         Ok(CotreeDesk {
