@@ -2,3 +2,4 @@ pub mod Fringe
 pub mod Links
 pub mod Near
 pub mod Searching
+pub mod Spots
