@@ -40,6 +40,7 @@ mod finding;
 mod marking;
 mod merging;
 mod nearby;
+mod passing;
 mod placing;
 mod searching;
 mod shortest;
