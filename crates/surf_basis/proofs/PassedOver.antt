@@ -1,5 +1,5 @@
 -- Vertices near one that was searched, which are passed over where the loops found there are all longer than those kept.
-use Rattle.std.proofs.Common.{◌≡◌, ◌≢◌, ℕ, zero, suc, ◌<◌, ◌≤◌, ◌+◌, ◌*◌, ◌-◌, ◌⊎◌, Bool, true, false, eqb, leb, le-leb, List, [], ◌∷◌, ◌++◌, cond, length, get_or, map, filter, take, All, Contains, Option, Some, None, refl, sym, ap, ◌∙◌, subst, arith, inl, inr, set, get_or-set_other}
+use Rattle.std.proofs.Common.{◌≡◌, ◌≢◌, ℕ, zero, suc, ◌<◌, ◌≤◌, ◌+◌, ◌*◌, ◌-◌, ◌⊎◌, Bool, true, false, eqb, leb, le-leb, List, [], ◌∷◌, ◌++◌, cond, length, get_or, map, filter, take, All, Contains, Option, Some, None, sym, ap, ◌∙◌, subst, arith, inl, inr, set, get_or-set_other}
 use Rattle.std.specs.Prelude.{IsTrue, ◌||◌, ◌==◌, replicate, slice_index}
 use Rattle.std.specs.List.{AllByRecursion}
 use Rattle.std.proofs.lemmas.Bool.{cases_eq, cases_lt, cases_Bool, false≢true, or_cases, or_left, or_right, eq-eqb, eqb-true}
@@ -20,7 +20,7 @@ use Rattle.surf_surfaces.specs.Cells.{cells_of}
 use Rattle.surf_surfaces.specs.Class.{class_of, AreShortestTrees}
 use Rattle.surf_surfaces.specs.Loop.{loop_walk, loop_length}
 use Rattle.surf_surfaces.specs.Choice.{DependsOn}
-use Rattle.surf_surfaces.specs.FewBases.{Place, comes_sooner, place_at, least_base, Found, walks_found, with_vertex}
+use Rattle.surf_surfaces.specs.FewBases.{comes_sooner, place_at, least_base, Found, walks_found, with_vertex}
 use Rattle.surf_surfaces.proofs.BasisLaws.{contains-map}
 use Rattle.surf_surfaces.proofs.FirstFoundLaws.{loop_closed}
 use Rattle.surf_surfaces.proofs.FoundLaws.{found_closed}
@@ -31,10 +31,10 @@ use Rattle.surf_firsts.specs.Near.{is_shorter_by, DependOnShorter, with_near}
 use Rattle.surf_firsts.proofs.NearVertices.{near_vertices_need_no_more}
 use Rattle.surf_basis.specs.declared.candidate.Candidate.{Candidate}
 use Rattle.surf_basis.specs.declared.candidate.Signed.{Signed}
-use Rattle.surf_basis.specs.Candidates.{Chosen, signatures}
+use Rattle.surf_basis.specs.Candidates.{signatures}
 use Rattle.surf_basis.specs.Found.{IsFound, AreFoundBy, found_of, stands_before, is_among, AreKeptOf}
 use Rattle.surf_basis.specs.Passing.{is_marked, AreMarkedNear, IsLonger, IsNoSooner, is_before, spare_of}
-use Rattle.surf_basis.specs.Places.{place_of, is_sought, limit_of}
+use Rattle.surf_basis.specs.Places.{place_of, is_sought}
 use Rattle.surf_basis.proofs.Searched.{depends_null, zero_null, loops_found}
 
 -- ---- places

@@ -1,5 +1,5 @@
 -- Vertices that are passed over, since loops there are nothing new.
-use Rattle.std.specs.Prelude.{ℕ, suc, ◌≡◌, ◌<◌, ◌≤◌, ◌+◌, ◌-◌, ◌⊎◌, Bool, false, IsTrue, List, length, take, slice_index_or}
+use Rattle.std.specs.Prelude.{ℕ, suc, ◌≡◌, ◌≤◌, ◌+◌, ◌-◌, ◌⊎◌, Bool, false, IsTrue, List, length, take, slice_index_or}
 use Rattle.std.specs.Prelude.{Option, Some, None}
 use Rattle.surf_z2.specs.Space.{numbers, Spanned}
 use Rattle.surf_graphs.specs.Cells.{Split, IsSplit}

@@ -1,4 +1,4 @@
-use Rattle.std.proofs.Common.{◌≡◌, ◌<◌, ◌+◌, ◌++◌, ℕ, Bool, false, List, length, take, replicate, refl, sym, ap, ◌∙◌, subst, arith, inl, inr}
+use Rattle.std.proofs.Common.{◌≡◌, ◌<◌, ◌+◌, ◌++◌, ℕ, Bool, false, List, length, take, drop, replicate, refl, sym, ap, ◌∙◌, subst, arith, inl, inr}
 use Rattle.std.specs.Prelude.{IsTrue, slice_index}
 use Rattle.std.proofs.lemmas.Bool.{cases_lt}
 use Rattle.std.proofs.lemmas.List.{get_or_default, length-replicate}
@@ -41,7 +41,9 @@ loop-v-preserved c =
     let vs = c.args.vertices.now in
     let marks = c.visit.new.marks in
     let many = c.visit.ensures.count in
-    let written = written_back c.visit.new.marks _ c.loop-v.marks.len (omega (arith, c.visit.ensures.count, c.deref_mut.ensures.len)) in
+    let rest = drop (length c.visit.new.marks) c.loop-v.marks.items in
+    let written : take c.loop-v.marks.len (marks ++ rest) ≡ marks =
+    written_back marks rest c.loop-v.marks.len (omega (arith, c.visit.ensures.count, c.deref_mut.ensures.len)) in
     let value = ap (λ (ms : List Bool). length ms) c.deref_mut.ensures.value in
     let same = c.loop-v.invariant.same in
     let all : (i : ℕ) → i < c.loop-v.v-index + 1 → IsTrue (is_marked marks (slice_index vs i)) = λ i l.

@@ -1,4 +1,4 @@
-use Rattle.std.proofs.Common.{ℕ, List, All, ◌≡◌, ◌≢◌, ◌<◌, ◌≤◌, subst, arith}
+use Rattle.std.proofs.Common.{List, All, ◌≤◌, subst, arith}
 use Rattle.std.proofs.lemmas.List.{take_all}
 use Rattle.surf_basis.specs.declared.candidate.Signed.{Signed}
 use Rattle.surf_basis.specs.Passing.{IsLonger}
