@@ -23,3 +23,4 @@ pub mod Placed
 pub mod Marked
 pub mod Sufficient
 pub mod Firsts
+pub mod PassedOver

@@ -9,7 +9,7 @@ use Rattle.std.proofs.lemmas.List.Elements.{recursion_from_All, All-from_recursi
 use Rattle.std.proofs.lemmas.List.Sorted.{Contains-permutation, All-permutation, IsPermutation-map, IsPermutation-sym}
 use Rattle.surf_z2.specs.Greedy.{greedy}
 use Rattle.surf_z2.specs.Order.{merge}
-use Rattle.surf_z2.specs.Space.{numbers, is_nothing, chosen, Independent}
+use Rattle.surf_z2.specs.Space.{numbers, is_nothing, no_member, chosen, Independent}
 use Rattle.surf_z2.proofs.Greedy.{greedy_law, all_kept as greedy_spans}
 use Rattle.surf_z2.proofs.Merge.{Sorted, sorted_from_order, order_from_sorted, same_members}
 use Rattle.surf_z2.proofs.Numbers.{Decides-is_nothing}
@@ -104,7 +104,7 @@ module _ (mesh : Mesh) (lengths : List ℕ) (trees : ℕ → Tree) (surface : Is
     at = found_at c f;
   }
 
-  loops_found : (cs : List Signed) → All Right cs → All (IsFoundLoop mesh lengths trees) (map (found_of mesh trees) cs)
+  pub loops_found : (cs : List Signed) → All Right cs → All (IsFoundLoop mesh lengths trees) (map (found_of mesh trees) cs)
   loops_found cs h = All-from_recursion (IsFoundLoop mesh lengths trees) (map (found_of mesh trees) cs)
       (all_mapped (IsFoundLoop mesh lengths trees) (found_of mesh trees) cs
       (all_each Right (λ c. IsFoundLoop mesh lengths trees (found_of mesh trees c)) cs loop_found (recursion_from_All Right cs h)))
@@ -250,7 +250,7 @@ module _ (mesh : Mesh) (lengths : List ℕ) (trees : ℕ → Tree) (surface : Is
       )
 
   -- for fewer places and vertices
-  kept_fewer : (limit fewer : Option Candidate) (set part : ℕ → Bool) (kept : List Signed) → Kept limit set kept →
+  pub kept_fewer : (limit fewer : Option Candidate) (set part : ℕ → Bool) (kept : List Signed) → Kept limit set kept →
       ((p : Place) → IsTrue (is_sought fewer p) → IsTrue (is_sought limit p)) → ((v : ℕ) → IsTrue (part v) → IsTrue (set v)) →
       Kept fewer part kept
   kept_fewer limit fewer set part kept k places vertices = record {
@@ -261,10 +261,13 @@ module _ (mesh : Mesh) (lengths : List ℕ) (trees : ℕ → Tree) (surface : Is
     independent = k.independent;
   }
 
-  pub kept_begun : (choice : Chosen) (vs : List ℕ) → choice.kept ≡ [] →
-      Kept (limit_of choice) (is_among (take 0 vs)) choice.kept
-  kept_begun choice vs none = subst (λ ks. Kept (limit_of choice) (is_among (take 0 vs)) ks) (sym none) (record {
-    enough = (loops_grow_enough mesh lengths trees surface shortest).none (is_sought (limit_of choice));
+  pub kept_begun : (choice : Chosen) (set : ℕ → Bool) → choice.kept ≡ [] → ((v : ℕ) → IsTrue (set v) → ⊥) →
+      Kept (limit_of choice) set choice.kept
+  kept_begun choice set none unmarked = subst (λ ks. Kept (limit_of choice) set ks) (sym none) (record {
+    enough = (loops_grow_enough mesh lengths trees surface shortest).fewer (is_sought (limit_of choice))
+        (is_sought (limit_of choice)) no_member set []
+        ((loops_grow_enough mesh lengths trees surface shortest).none (is_sought (limit_of choice))) (λ p sought. sought)
+        (λ v in'. absurd (unmarked v in'));
     each = λ k c l. absurd (omega arith);
     order = λ i j c before l. absurd (omega arith);
     independent = λ flags sum. nothing_chosen flags;
@@ -274,34 +277,30 @@ module _ (mesh : Mesh) (lengths : List ℕ) (trees : ℕ → Tree) (surface : Is
       nothing_chosen [] = refl
       nothing_chosen (b ∷ bs) = refl
 
-  -- a search from the next vertex of a list
-  pub kept_next : (vs : List ℕ) (i z : ℕ) (old new : Chosen) (found : List Signed) → z < mesh.vertices → i < length vs →
-      get_or vs i z ≡ z → mesh.vertices ≤ 2 ^ 32 → edge_count mesh ≤ 2 ^ 32 →
-      Kept (limit_of old) (is_among (take i vs)) old.kept → AreFoundBy mesh lengths trees d (limit_of old) z found →
-      IsNext old found new → Kept (limit_of new) (is_among (take (i + 1) vs)) new.kept
-  kept_next vs i z old new found z_in l at few_v few_e k h (inl (none, same)) =
-      subst (λ (c : Chosen). Kept (limit_of c) (is_among (take (i + 1) vs)) c.kept) (sym same)
-      (kept_fewer (limit_of old) (limit_of old) (with_vertex z (is_among (take i vs))) (is_among (take (i + 1) vs)) old.kept
-      (kept_none (limit_of old) (is_among (take i vs)) z old.kept z_in k
-      (subst (AreFoundBy mesh lengths trees d (limit_of old) z) none h))
-      (λ p sought. sought) (λ v in'. among_more vs i z v l at in'))
-  kept_next vs i z old new found z_in l at few_v few_e k h (inr m) =
+  -- a search from one more vertex
+  pub kept_next : (set : ℕ → Bool) (z : ℕ) (old new : Chosen) (found : List Signed) → z < mesh.vertices →
+      mesh.vertices ≤ 2 ^ 32 → edge_count mesh ≤ 2 ^ 32 → Kept (limit_of old) set old.kept →
+      AreFoundBy mesh lengths trees d (limit_of old) z found → IsNext old found new →
+      Kept (limit_of new) (with_vertex z set) new.kept
+  kept_next set z old new found z_in few_v few_e k h (inl (none, same)) =
+      subst (λ (c : Chosen). Kept (limit_of c) (with_vertex z set) c.kept) (sym same)
+      (kept_none (limit_of old) set z old.kept z_in k (subst (AreFoundBy mesh lengths trees d (limit_of old) z) none h))
+  kept_next set z old new found z_in few_v few_e k h (inr m) =
       let list = m.list in
       let there = found_permuted (limit_of old) z found list m.same h in
       let next = independent_of (merge signed_earlier old.kept list) in
       let order : Sorted stands_before list = sorted_by_number list (short list there.each) m.sorted in
-      let grown = kept_merged (limit_of old) (is_among (take i vs)) z old.kept list next z_in k there order refl in
+      let grown = kept_merged (limit_of old) set z old.kept list next z_in k there order refl in
       let more : length old.kept ≤ length next = no_fewer old.kept (merge signed_earlier old.kept list) next k.independent
       (λ s has. Contains-permutation (old.kept ++ list) (merge signed_earlier old.kept list) s
       (same_members signed_earlier old.kept list) (Contains-append_left old.kept list s has)) refl in
-      subst (λ (c : Chosen). Kept (limit_of c) (is_among (take (i + 1) vs)) c.kept) (sym m.new_is)
-      (kept_fewer (limit_of old) (limit_of (record old { kept = next })) (with_vertex z (is_among (take i vs)))
-      (is_among (take (i + 1) vs)) next grown
+      subst (λ (c : Chosen). Kept (limit_of c) (with_vertex z set) c.kept) (sym m.new_is)
+      (kept_fewer (limit_of old) (limit_of (record old { kept = next })) (with_vertex z set) (with_vertex z set) next grown
       (limit_falls old.width old.kept list next (sorted_from_order stands_before old.kept k.order) more
       (λ s has. (Contains-append_cases old.kept list s (Contains-permutation (merge signed_earlier old.kept list) (old.kept ++ list) s
       (IsPermutation-sym (old.kept ++ list) (merge signed_earlier old.kept list) (same_members signed_earlier old.kept list))
       (of_choice (merge signed_earlier old.kept list) s has)))) there.sooner)
-      (λ v in'. among_more vs i z v l at in'))
+      (λ v in'. in'))
     where
       short : (cs : List Signed) → All Right cs → All IsShort cs
       short cs h = λ j c j_in. (let r : Right (get_or cs j c) = h j c j_in in

@@ -9,3 +9,4 @@ pub mod Places
 pub mod Ways
 pub mod Found
 pub mod Kept
+pub mod Passing

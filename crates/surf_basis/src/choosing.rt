@@ -1,7 +1,8 @@
 //! The choice among candidates, part by part.
-ghost use Rattle.std.specs.Prelude.{◌≡◌, ◌<◌, ◌≤◌, ◌^◌, [], IfOk, OnOk, All, length};
+ghost use Rattle.std.specs.Prelude.{◌≡◌, ◌≢◌, ◌<◌, ◌≤◌, ◌^◌, [], IfOk, OnOk, All, length};
 ghost use Rattle.surf_z2.specs.Order.{merge};
 ghost use Rattle.surf_basis.specs.Candidates.{signed_earlier, independent_of};
+ghost use Rattle.surf_basis.specs.Passing.{IsLonger};
 ghost use Rattle.surf_basis.specs.Places.{limit_of};
 ghost use Rattle.surf_base.specs.declared.limits.TheConstants.{MAX_LOOPS};
 
@@ -88,6 +89,42 @@ impl Choice {
             return None;
         }
         Some(last.candidate)
+    }
+
+    // How much longer a loop is than the longest of the first that are kept and of which it is a
+    // sum, and 0 where it isn't longer.
+    fn excess(&self, signed: &Signed) -> u64
+        requires small { signed.now.signature < 2 ^ self.now.width }
+        ensures longer { result ≢ 0 → IsLonger self.now.kept result signed.now }
+    {
+        let Some(count) = self.rows.reach(&signed.signature.bits()) else {
+            return 0;
+        };
+        if count == 0 {
+            return signed.candidate.length;
+        }
+        let last = &self.kept[count - 1];
+        signed
+            .candidate
+            .length
+            .saturating_sub(last.candidate.length)
+    }
+
+    /// By how much all of some loops are longer than those that are kept and of which they are
+    /// sums, and no more than a bound. 0 where one of them isn't longer.
+    pub fn margin(&self, found: &[Signed], most: u64) -> u64
+        requires small { All (λ s. s.signature < 2 ^ self.now.width) found.now }
+        ensures most { result ≤ most }
+        ensures longer { result ≢ 0 → All (IsLonger self.now.kept result) found.now }
+    {
+        let mut margin = most;
+        for signed in found {
+            if margin == 0 {
+                return 0;
+            }
+            margin = margin.min(self.excess(signed));
+        }
+        margin
     }
 
     /// Makes the choice again from what is kept and other candidates in order. Those kept stay as

@@ -119,6 +119,30 @@ impl Echelon {
         .is_none()
     }
 
+    /// How many of the first rows it takes to make a set a sum of some of them, if it is a sum of
+    /// rows.
+    pub fn reach(&self, set: &Bits<'_>) -> Option<usize>
+        requires small { set.now < 2 ^ self.now.width }
+        ensures reach { MatchOption result (Spanned numbers self.now.rows set.now → ⊥)
+            (λ n. (n ≤ length self.now.rows)
+            × Spanned numbers (take n self.now.rows) set.now) }
+    {
+        let mut high = self.rows.len();
+        if !self.spans(high, set) {
+            return None;
+        }
+        let mut low = 0;
+        while low < high {
+            let middle = low + (high - low) / 2;
+            if self.spans(middle, set) {
+                high = middle;
+            } else {
+                low = middle + 1;
+            }
+        }
+        Some(high)
+    }
+
     /// Makes a set the last row, less a sum of the others, if it is no sum of them, and says
     /// whether it did.
     pub fn admit(&mut self, set: &Bits<'_>) -> bool

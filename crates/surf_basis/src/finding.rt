@@ -8,10 +8,12 @@ ghost use Rattle.surf_basis.specs.Found.{surface_of, IsReady, is_between, told_l
 ghost use Rattle.surf_basis.specs.Found.{reached_at, IsTold, ListsAt, AreTold, AreFound};
 ghost use Rattle.surf_basis.specs.Found.{IsLinkOf, IsUnwantedAt, may_matter, plain_edges};
 ghost use Rattle.surf_basis.specs.Found.{is_earlier, first_with, IsFirstTold, IsFirstAt};
+ghost use Rattle.surf_basis.specs.Passing.{is_marked, AreMarkedNear};
 ghost use Rattle.surf_basis.specs.Places.{place_of, is_sought, radius_of};
 
 use crate::candidate::{Candidate, Signed, comes_before, copy_signature};
 use crate::cycle::Cycle;
+use crate::marking::mark_all;
 use crate::surface::Surface;
 use crate::walking::loop_walk;
 use crate::ways::Ways;
@@ -91,7 +93,7 @@ fn is_between(surface: &Surface<'_>, desk: &NearDesk, edge: EdgeId) -> bool
 }
 
 // Whether a candidate comes before a limit, by length and then by base.
-fn is_sought(candidate: &Candidate, limit: &Option<Candidate>) -> bool
+pub(crate) fn is_sought(candidate: &Candidate, limit: &Option<Candidate>) -> bool
     ensures sought { result ≡ is_sought limit.now (place_of candidate.now) }
 {
     match limit {
@@ -430,6 +432,28 @@ impl<'a> Finder<'a> {
             plain: &self.plain,
         };
         list_loops(&reached, limit, found)
+    }
+
+    /// How many vertices the surface has.
+    pub fn vertices(&self) -> u32
+        ensures vertices { result ≡ self.now.mesh.vertices }
+    {
+        self.surface.mesh.vertices()
+    }
+
+    /// Marks the vertices that are no farther from a base than a distance.
+    pub fn mark_near(&mut self, base: VertexId, far: u64, marks: &mut [bool])
+        requires base { base < self.old.mesh.vertices }
+        requires marks { length marks.old ≡ self.old.mesh.vertices }
+        ensures near { AreMarkedNear self.old.mesh self.old.lengths base far marks.old marks.new }
+        ensures stay { (v : ℕ) → IsTrue (is_marked marks.old v) → IsTrue (is_marked marks.new v) }
+        ensures count { length marks.new ≡ length marks.old }
+        ensures same { self.new ≡ self.old }
+    {
+        self.surface.mesh.law_of_surface();
+        self.surface.lengths.law_of_lengths();
+        self.desk.grow(&self.links, base, far);
+        mark_all(self.desk.settled(), marks);
     }
 
     /// The cycle of a candidate whose length is that of the loop of its edge.

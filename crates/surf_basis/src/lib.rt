@@ -12,7 +12,8 @@
 //! vertices as bases. Once as many are kept as there may be, a search goes no farther than half the
 //! length of the last, since the ends of an edge are within half the length of its loop. The
 //! vertices are taken in an order that scatters them, so that short loops of all parts are found
-//! soon.
+//! soon. Where all loops at a vertex are longer than kept ones of which they are sums, by more than
+//! a way there and back, the vertices that are so near are passed over.
 //!
 //! Then the bases so found are gone through one by one. A search near each, no farther than half the
 //! greatest length that was found for it, finds the loops of edges there: the first independent
@@ -40,6 +41,7 @@ mod finding;
 mod marking;
 mod merging;
 mod nearby;
+mod passing;
 mod placing;
 mod searching;
 mod shortest;

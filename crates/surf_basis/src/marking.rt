@@ -1,9 +1,11 @@
 //! Vertices that every closed walk meets which isn't null.
 ghost use Rattle.std.specs.Prelude.{◌≡◌, ◌≢◌, ◌<◌, ◌⊎◌, ◌^◌, ℕ, false, true, All, Contains, IsPermutation, IfOk};
+ghost use Rattle.std.specs.Prelude.{IsTrue};
 ghost use Rattle.std.specs.Prelude.{length, slice_index, slice_index_or};
 ghost use Rattle.std.specs.List.Sorted.{IsNonDecreasingBy};
 ghost use Rattle.surf_surfaces.specs.Surface.{edge_count};
 ghost use Rattle.surf_basis.specs.Marks.{AreMarkedIn, HasMarkedEnd, HasSignedEnds, bits_backwards};
+ghost use Rattle.surf_basis.specs.Passing.{is_marked};
 
 use std::alloc::Global;
 use surf_base::{EdgeId, NoMemory, VertexId};
@@ -21,6 +23,19 @@ fn mark_one(first: VertexId, second: VertexId, marked: &mut [bool])
 {
     if !marked[first.index()] {
         marked[second.index()] = true;
+    }
+}
+
+/// Marks the vertices of a list.
+pub(crate) fn mark_all(list: &[VertexId], marks: &mut [bool])
+    requires inside { All (λ v. v < length marks.old) list.now }
+    ensures only { (v : ℕ) → IsTrue (is_marked marks.new v) →
+        IsTrue (is_marked marks.old v) ⊎ Contains list.now v }
+    ensures stay { (v : ℕ) → IsTrue (is_marked marks.old v) → IsTrue (is_marked marks.new v) }
+    ensures count { length marks.new ≡ length marks.old }
+{
+    for v in list {
+        marks[v.index()] = true;
     }
 }
 

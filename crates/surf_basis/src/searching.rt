@@ -1,13 +1,14 @@
 //! Searches from few vertices.
 ghost use Rattle.std.specs.Prelude.{◌≡◌, ◌<◌, ◌≤◌, ◌^◌, ℕ, true, false, [], All, IsPermutation, length};
-ghost use Rattle.std.specs.Prelude.{slice_index_or, IfOk, OnOk};
+ghost use Rattle.std.specs.Prelude.{slice_index_or, IfOk, OnOk, IsTrue};
 ghost use Rattle.std.specs.List.Sorted.{IsNonDecreasingBy};
 ghost use Rattle.surf_surfaces.specs.Homology.{IsFullCount};
 ghost use Rattle.surf_surfaces.specs.Walk.{ArePositive};
 ghost use Rattle.surf_surfaces.specs.FewBases.{AreBases};
 ghost use Rattle.surf_surfaces.specs.Surface.{edge_count, IsSurface};
 ghost use Rattle.surf_basis.specs.Signing.{AreSigned};
-ghost use Rattle.surf_basis.specs.Places.{order_of};
+ghost use Rattle.surf_basis.specs.Passing.{is_marked, IsNoSooner, AreKeptIn};
+ghost use Rattle.surf_basis.specs.Places.{order_of, limit_of};
 ghost use Rattle.surf_basis.specs.Marks.{HasBases};
 ghost use Rattle.surf_basis.specs.Kept.{HavePlacesOfBasis};
 ghost use Rattle.surf_basis.specs.Found.{surface_of, IsNext, AreKeptFrom, IsFirstAmong, IsFirstPlace};
@@ -17,6 +18,7 @@ use crate::candidate::{Candidate, Signed};
 use crate::choosing::Choice;
 use crate::finding::Finder;
 use crate::marking::{list_marked, signed_ends};
+use crate::passing::{Pace, list_before, spare};
 use crate::surface::Surface;
 use std::alloc::Global;
 use surf_base::{NoMemory, VertexId};
@@ -53,6 +55,90 @@ pub(crate) fn keep_loops(found: &mut [Signed], choice: &mut Choice) -> Result<()
     choice.keep(found)
 }
 
+/// The loops that a search found, and those of them that come before a limit.
+#[derive(Drop)]
+struct Lists {
+    found: Vec<Signed>,
+    early: Vec<Signed>,
+}
+
+// Searches from a vertex, and tells whether all loops that were found are longer than those kept of
+// which they are sums. If so, the vertices near it need no search, for loops there are longer than
+// those at the vertex by no more than the way there and back. If not, what is independent of those
+// before is kept.
+fn search_at(
+    finder: &mut Finder<'_>,
+    base: VertexId,
+    wide: &Option<Candidate>,
+    choice: &mut Choice,
+    lists: &mut Lists,
+    marks: &mut [bool],
+) -> Result<bool, NoMemory>
+    requires base { base < finder.old.mesh.vertices }
+    requires marks { length marks.old ≡ finder.old.mesh.vertices }
+    requires lengths { length finder.old.lengths ≡ edge_count finder.old.mesh }
+    requires signed { AreSigned finder.old.mesh finder.old.signs choice.old.width }
+    requires positive { IsSurface finder.old.mesh × ArePositive finder.old.mesh finder.old.lengths }
+    requires few { (finder.old.mesh.vertices ≤ 2 ^ 32) × (edge_count finder.old.mesh ≤ 2 ^ 32) }
+    requires wide { IsNoSooner (limit_of choice.old) wide.now }
+    requires kept { AreKeptIn finder.old.mesh finder.old.lengths finder.old.signs
+        (is_marked marks.old) choice.old }
+    ensures kept { OnOk result (AreKeptIn finder.old.mesh finder.old.lengths finder.old.signs
+        (is_marked marks.new) choice.new) }
+    ensures marked { OnOk result (IsTrue (is_marked marks.new base)) }
+    ensures stay { (v : ℕ) → IsTrue (is_marked marks.old v) → IsTrue (is_marked marks.new v) }
+    ensures count { length marks.new ≡ length marks.old }
+    ensures width { choice.new.width ≡ choice.old.width }
+    ensures same { finder.new ≡ finder.old }
+{
+    let limit = choice.limit();
+    finder.find(base, wide, &mut lists.found)?;
+    let margin = choice.margin(&lists.found, spare(&limit, wide));
+    if margin > 0 {
+        finder.mark_near(base, (margin - 1) / 2, marks);
+        marks[base.index()] = true;
+        return Ok(true);
+    }
+    list_before(&limit, &lists.found, &mut lists.early)?;
+    keep_loops(&mut lists.early, choice)?;
+    marks[base.index()] = true;
+    Ok(false)
+}
+
+// Searches from a vertex, unless it is passed over.
+fn visit(
+    finder: &mut Finder<'_>,
+    base: VertexId,
+    pace: &mut Pace,
+    choice: &mut Choice,
+    lists: &mut Lists,
+    marks: &mut [bool],
+) -> Result<(), NoMemory>
+    requires base { base < finder.old.mesh.vertices }
+    requires marks { length marks.old ≡ finder.old.mesh.vertices }
+    requires lengths { length finder.old.lengths ≡ edge_count finder.old.mesh }
+    requires signed { AreSigned finder.old.mesh finder.old.signs choice.old.width }
+    requires positive { IsSurface finder.old.mesh × ArePositive finder.old.mesh finder.old.lengths }
+    requires few { (finder.old.mesh.vertices ≤ 2 ^ 32) × (edge_count finder.old.mesh ≤ 2 ^ 32) }
+    requires kept { AreKeptIn finder.old.mesh finder.old.lengths finder.old.signs
+        (is_marked marks.old) choice.old }
+    ensures kept { OnOk result (AreKeptIn finder.old.mesh finder.old.lengths finder.old.signs
+        (is_marked marks.new) choice.new) }
+    ensures marked { OnOk result (IsTrue (is_marked marks.new base)) }
+    ensures stay { (v : ℕ) → IsTrue (is_marked marks.old v) → IsTrue (is_marked marks.new v) }
+    ensures count { length marks.new ≡ length marks.old }
+    ensures width { choice.new.width ≡ choice.old.width }
+    ensures same { finder.new ≡ finder.old }
+{
+    if marks[base.index()] {
+        return Ok(());
+    }
+    let wide = pace.limit(&choice.limit());
+    let told = search_at(finder, base, &wide, choice, lists, marks)?;
+    pace.step(told);
+    Ok(())
+}
+
 // Keeps of the loops at the vertices of a list what is independent of those before.
 fn keep_found(
     alloc: Global,
@@ -71,10 +157,14 @@ fn keep_found(
     ensures width { choice.new.width ≡ choice.old.width }
     ensures same { finder.new ≡ finder.old }
 {
-    let mut found = Vec::new(alloc);
+    let mut lists = Lists {
+        found: Vec::new(alloc),
+        early: Vec::new(alloc),
+    };
+    let mut marks = vec![in alloc; false; finder.vertices() as usize]?;
+    let mut pace = Pace::new();
     for v in vertices {
-        finder.find(*v, &choice.limit(), &mut found)?;
-        keep_loops(&mut found, choice)?;
+        visit(finder, *v, &mut pace, choice, &mut lists, &mut marks)?;
     }
     Ok(())
 }

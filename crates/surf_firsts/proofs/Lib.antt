@@ -1,3 +1,4 @@
 pub mod Chosen
 pub mod NoLater
 pub mod FirstLoops
+pub mod NearVertices

@@ -1,68 +1,79 @@
-use Rattle.std.proofs.Common.{◌<◌, ◌^◌, ℕ, List, All, Option, refl, sym, ◌∙◌, subst}
-use Rattle.std.proofs.lemmas.List.{take_all}
+use Rattle.std.proofs.Common.{◌≡◌, ◌<◌, ◌+◌, ◌++◌, ℕ, Bool, false, List, length, take, drop, replicate, refl, sym, ap, ◌∙◌, subst, arith, inl, inr}
+use Rattle.std.specs.Prelude.{IsTrue, slice_index}
+use Rattle.std.proofs.lemmas.Bool.{cases_lt}
+use Rattle.std.proofs.lemmas.List.{get_or_default, length-replicate}
+use Rattle.surf_graphs.specs.Trees.{Tree}
 use Rattle.surf_surfaces.proofs.FirstCycleLaws.{shortest_trees}
-use Rattle.surf_basis.specs.declared.candidate.Candidate.{Candidate}
-use Rattle.surf_basis.specs.declared.candidate.Signed.{Signed}
-use Rattle.surf_basis.specs.Signing.{AreSigned}
 use Rattle.surf_basis.specs.Places.{limit_of}
-use Rattle.surf_basis.specs.Found.{SurfaceTables, AreFound, AreKeptFrom, IsNext}
-use Rattle.surf_basis.proofs.Searched.{kept_begun, kept_next, found_small}
+use Rattle.surf_basis.specs.Found.{SurfaceTables, is_among}
+use Rattle.surf_basis.specs.Passing.{is_marked, AreKeptIn}
+use Rattle.surf_basis.proofs.Marked.{written_back}
+use Rattle.surf_basis.proofs.PassedOver.{none_marked, among_marked}
+use Rattle.surf_basis.proofs.Searched.{kept_begun, kept_fewer}
 use Rattle.surf_basis.proofs.searching.keep_found.Goals as goal
 
 pub loop-v-init : goal.loop-v-init
 loop-v-init c =
     let f = c.args.finder.now in
+    let n = c.vertices.result in
+    let is : c.in_ok-marks.marks.items ≡ replicate n false = c.in_ok-marks.ensures.items_if_clones_equal (λ y same. same) in
     record {
       same = refl;
       width = refl;
+      count = ap (λ (ms : List Bool). length ms) is ∙ length-replicate n false ∙ c.vertices.ensures.vertices;
       kept = λ trees chosen d split are.
           kept_begun f.mesh f.lengths (λ x. (trees x).tree) c.requires.positive.0 c.requires.positive.1
-          (shortest_trees f.mesh f.lengths c.requires.positive.0 c.requires.positive.1 trees chosen) d split c.args.choice.now c.args.vertices.now c.requires.none;
+          (shortest_trees f.mesh f.lengths c.requires.positive.0 c.requires.positive.1 trees chosen) d split c.args.choice.now
+          (is_marked c.in_ok-marks.marks.items) c.requires.none
+          (λ v on. none_marked n v (subst (λ (ms : List Bool). IsTrue (is_marked ms v)) is on));
+      all = λ i l. absurd (omega (arith, l));
     }
 
-pub find-requires : goal.find-requires
-find-requires c = record {
-  base = subst (λ (f : SurfaceTables). c.v-item.result < f.mesh.vertices) (sym c.loop-v.invariant.same)
-      (subst (λ v. v < c.args.finder.now.mesh.vertices) (sym c.v-item.is) (c.requires.inside c.loop-v.v-index c.v-item.result c.loop-v-test.true));
-}
-
-pub keep_loops-requires : goal.keep_loops-requires
-keep_loops-requires c =
-    let f = c.args.finder.now in
-    let there : AreFound f.mesh f.lengths f.signs c.limit.result c.v-item.result c.find.new.found.items =
-    subst (λ (g : SurfaceTables). AreFound g.mesh g.lengths g.signs c.limit.result c.v-item.result c.find.new.found.items) c.loop-v.invariant.same
-    c.in_ok-find.ensures.found in
-    record {
-      small = subst (λ (xs : List Signed). All (λ s. s.signature < 2 ^ c.loop-v.choice.width) xs) (sym c.deref_mut.ensures.value)
-          (found_small f.mesh f.lengths c.requires.positive.0 c.requires.positive.1 f.signs c.loop-v.choice.width
-          (subst (AreSigned f.mesh f.signs) (sym c.loop-v.invariant.width) c.requires.signed) c.limit.result c.v-item.result c.find.new.found.items there);
-    }
+pub visit-requires-clause-kept : goal.visit-requires-clause-kept
+visit-requires-clause-kept c =
+    subst (λ (f : SurfaceTables). AreKeptIn f.mesh f.lengths f.signs (is_marked c.deref_mut.result.now) c.loop-v.choice) (sym c.loop-v.invariant.same)
+    (subst (λ (ms : List Bool). AreKeptIn c.args.finder.now.mesh c.args.finder.now.lengths c.args.finder.now.signs (is_marked ms) c.loop-v.choice)
+    (sym c.deref_mut.ensures.value) c.loop-v.invariant.kept)
 
 pub loop-v-preserved : goal.loop-v-preserved
 loop-v-preserved c =
     let f = c.args.finder.now in
-    let surface = c.requires.positive.0 in
-    let positive = c.requires.positive.1 in
-    let z = c.v-item.result in
-    let found = c.find.new.found.items in
-    let z_in : z < f.mesh.vertices =
-    subst (λ v. v < f.mesh.vertices) (sym c.v-item.is) (c.requires.inside c.loop-v.v-index z c.loop-v-test.true) in
-    let there : AreFound f.mesh f.lengths f.signs (limit_of c.loop-v.choice) z found =
-    subst (λ (o : Option Candidate). AreFound f.mesh f.lengths f.signs o z found) c.limit.ensures.limit
-    (subst (λ (g : SurfaceTables). AreFound g.mesh g.lengths g.signs c.limit.result z found) c.loop-v.invariant.same c.in_ok-find.ensures.found) in
-    let next : IsNext c.loop-v.choice found c.keep_loops.new.choice =
-    subst (λ (xs : List Signed). IsNext c.loop-v.choice xs c.keep_loops.new.choice) c.deref_mut.ensures.value c.in_ok-keep_loops.ensures.next in
+    let vs = c.args.vertices.now in
+    let marks = c.visit.new.marks in
+    let many = c.visit.ensures.count in
+    let rest = drop (length c.visit.new.marks) c.loop-v.marks.items in
+    let written : take c.loop-v.marks.len (marks ++ rest) ≡ marks =
+    written_back marks rest c.loop-v.marks.len (omega (arith, c.visit.ensures.count, c.deref_mut.ensures.len)) in
+    let value = ap (λ (ms : List Bool). length ms) c.deref_mut.ensures.value in
+    let same = c.loop-v.invariant.same in
+    let all : (i : ℕ) → i < c.loop-v.v-index + 1 → IsTrue (is_marked marks (slice_index vs i)) = λ i l.
+    elim (cases_lt i c.loop-v.v-index) [
+      | inl less ↦ c.visit.ensures.stay (slice_index vs i) (subst (λ (ms : List Bool). IsTrue (is_marked ms (slice_index vs i)))
+          (sym c.deref_mut.ensures.value) (c.loop-v.invariant.all i less))
+      | inr more ↦
+          let at : i ≡ c.loop-v.v-index = omega (arith, l, more) in
+          let is : slice_index vs i ≡ c.v-item.result = ap (slice_index vs) at
+          ∙ get_or_default vs c.loop-v.v-index 0 c.v-item.result c.loop-v-test.true ∙ sym c.v-item.is in
+          subst (λ v. IsTrue (is_marked marks v)) (sym is) c.in_ok-visit.ensures.marked
+    ] in
     record {
-      same = c.find.ensures.same ∙ c.loop-v.invariant.same;
-      width = c.keep_loops.ensures.width ∙ c.loop-v.invariant.width;
-      kept = λ trees chosen d split are.
-          kept_next f.mesh f.lengths (λ x. (trees x).tree) surface positive (shortest_trees f.mesh f.lengths surface positive trees chosen) d split
-          c.args.vertices.now c.loop-v.v-index z c.loop-v.choice c.keep_loops.new.choice found z_in c.loop-v-test.true (sym c.v-item.is)
-          c.requires.few.0 c.requires.few.1 (c.loop-v.invariant.kept trees chosen d split are) (there trees chosen d are) next;
+      same = c.visit.ensures.same ∙ same;
+      width = c.visit.ensures.width ∙ c.loop-v.invariant.width;
+      count = ap (λ (ms : List Bool). length ms) written ∙ many ∙ value ∙ c.loop-v.invariant.count;
+      kept = subst (λ (ms : List Bool). AreKeptIn f.mesh f.lengths f.signs (is_marked ms) c.visit.new.choice) (sym written)
+          (subst (λ (g : SurfaceTables). AreKeptIn g.mesh g.lengths g.signs (is_marked marks) c.visit.new.choice) same
+          c.in_ok-visit.ensures.kept);
+      all = λ i l. subst (λ (ms : List Bool). IsTrue (is_marked ms (slice_index vs i))) (sym written) (all i l);
     }
 
 pub returns-clause-kept : goal.returns-clause-kept
-returns-clause-kept c =
+returns-clause-kept c = λ trees chosen d split are.
     let f = c.args.finder.now in
-    subst (λ (xs : List ℕ). AreKeptFrom f.mesh f.lengths f.signs xs c.loop-v.choice) (take_all c.loop-v.v-index c.args.vertices.now c.loop-v-test.false)
-    c.loop-v.invariant.kept
+    let choice = c.loop-v.choice in
+    let searched : ℕ → Tree = λ x. (trees x).tree in
+    let past = c.loop-v-test.false in
+    kept_fewer f.mesh f.lengths searched c.requires.positive.0 c.requires.positive.1
+    (shortest_trees f.mesh f.lengths c.requires.positive.0 c.requires.positive.1 trees chosen) d split (limit_of choice) (limit_of choice)
+    (is_marked c.loop-v.marks.items) (is_among c.args.vertices.now) choice.kept (c.loop-v.invariant.kept trees chosen d split are)
+    (λ p sought. sought)
+    (λ v among. among_marked c.loop-v.marks.items c.args.vertices.now (λ i l. c.loop-v.invariant.all i (omega (arith, l, past))) v among)

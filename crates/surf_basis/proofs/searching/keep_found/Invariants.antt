@@ -1,10 +1,13 @@
-use Rattle.std.proofs.Common.{◌≡◌, take}
-use Rattle.surf_basis.specs.Found.{AreKeptFrom}
+use Rattle.std.proofs.Common.{◌≡◌, ◌<◌, ℕ, length}
+use Rattle.std.specs.Prelude.{IsTrue, slice_index}
+use Rattle.surf_basis.specs.Passing.{is_marked, AreKeptIn}
 use Rattle.surf_basis.proofs.searching.keep_found.Given as goal
 
 abbrev pub invariant-loop-v : goal.invariant-loop-v
 invariant-loop-v l = record {
   same : l.finder ≡ l.fn.finder;
   width : l.choice.width ≡ l.fn.choice.width;
-  kept : AreKeptFrom l.fn.finder.mesh l.fn.finder.lengths l.fn.finder.signs (take l.v-index l.vertices) l.choice;
+  count : length l.marks.items ≡ l.fn.finder.mesh.vertices;
+  kept : AreKeptIn l.fn.finder.mesh l.fn.finder.lengths l.fn.finder.signs (is_marked l.marks.items) l.choice;
+  all : (i : ℕ) → i < l.v-index → IsTrue (is_marked l.marks.items (slice_index l.vertices i));
 }
