@@ -193,25 +193,6 @@ lists_more x limit settled i v old new was kept here is j l e e_in low on = elim
       here e e_in (low ∙ ap (slice_index settled) same ∙ sym is) on
 ]
 
--- the edges at the vertex with the next number
-pub lists_next : (x : Search) (limit : Option Candidate) (v : ℕ) (old new : List Signed) →
-    ((u : ℕ) → u < v → ListsAt x limit u old) → All (Contains new) old → ListsAt x limit v new →
-    (u : ℕ) → u < v + 1 → ListsAt x limit u new
-lists_next x limit v old new was kept here u l e e_in low on = elim (cases_lt u v) [
-  | inl less ↦ contained old new (told_loop x e) kept (was u less e e_in low on)
-  | inr more ↦ let same : u ≡ v = omega arith in here e e_in (low ∙ same) on
-]
-
--- at a vertex that wasn't reached none is wanted
-pub lists_none : (x : Search) (limit : Option Candidate) (v : ℕ) (found : List Signed) → is_near x.near v ≡ false →
-    ((u : ℕ) → u < v → ListsAt x limit u found) → (u : ℕ) → u < v + 1 → ListsAt x limit u found
-lists_none x limit v found far was =
-    lists_next x limit v found found was (λ k d l. (k, l, get_or_default found k (get_or found k d) d l))
-    (λ e e_in low on.
-    let between = (and_parts (is_between x e) _ on).0 in
-    let near = (and_parts (is_near x.near (ends x.mesh e).0) (is_near x.near (ends x.mesh e).1) between).0 in
-    let both : false ≡ true = sym far ∙ ap (is_near x.near) (sym low) ∙ near in cc)
-
 -- what a search was made for, as it was asked
 pub near_there : (mesh m : Mesh) (lengths l : List ℕ) (z far r : ℕ) (t : NearTables) → m ≡ mesh → l ≡ lengths → r ≡ far →
     IsNear m l z r t → IsNear mesh lengths z far t

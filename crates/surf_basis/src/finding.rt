@@ -25,9 +25,6 @@ use surf_cotree::CotreeDesk;
 use surf_mesh::HalfMesh;
 use surf_near::{Link, Links, NearDesk};
 
-// A search that settles more than one vertex in so many has its loops listed by number.
-const MANY: usize = 4;
-
 /// Finds the loops of edges at one vertex after the other.
 #[derive(Drop)]
 pub(crate) struct Finder<'a> {
@@ -235,9 +232,9 @@ fn list_at(
     Ok(())
 }
 
-// Lists the loops of the edges between settled vertices, vertex by vertex in the order in which they
-// were settled.
-fn list_in_order(
+// Lists the loops that aren't null and come before a limit, of edges between vertices that were
+// settled.
+fn list_loops(
     reached: &Reached<'_, '_>,
     limit: &Option<Candidate>,
     found: &mut Vec<Signed>,
@@ -254,51 +251,6 @@ fn list_in_order(
         list_at(reached, limit, *v, found)?;
     }
     Ok(())
-}
-
-// Lists the loops of the edges between settled vertices, vertex by vertex in the order of their
-// numbers, in which what is known of them and their links stands in memory.
-fn list_by_number(
-    reached: &Reached<'_, '_>,
-    limit: &Option<Candidate>,
-    found: &mut Vec<Signed>,
-) -> Result<(), NoMemory>
-    requires ready { IsReady (reached_at reached.now) }
-    requires links { reached.now.links.now.mesh ≡ reached.now.surface.now.mesh.now }
-    requires plain { reached.now.plain.now ≡ plain_edges reached.now.surface.now.signatures.now }
-    requires settled { All (λ v. v < reached.now.surface.now.mesh.now.vertices)
-        reached.now.desk.now.settled }
-    ensures told { OnOk result (AreTold (reached_at reached.now) limit.now found.new.items) }
-{
-    found.clear();
-    for v in 0..reached.surface.mesh.vertices() {
-        let v = VertexId::new(v);
-        if reached.desk.is_near(v) {
-            list_at(reached, limit, v, found)?;
-        }
-    }
-    Ok(())
-}
-
-// Lists the loops that aren't null and come before a limit, of edges between vertices that were
-// settled.
-fn list_loops(
-    reached: &Reached<'_, '_>,
-    limit: &Option<Candidate>,
-    found: &mut Vec<Signed>,
-) -> Result<(), NoMemory>
-    requires ready { IsReady (reached_at reached.now) }
-    requires links { reached.now.links.now.mesh ≡ reached.now.surface.now.mesh.now }
-    requires plain { reached.now.plain.now ≡ plain_edges reached.now.surface.now.signatures.now }
-    requires settled { All (λ v. v < reached.now.surface.now.mesh.now.vertices)
-        reached.now.desk.now.settled }
-    ensures told { OnOk result (AreTold (reached_at reached.now) limit.now found.new.items) }
-{
-    let vertices = reached.surface.mesh.vertices() as usize;
-    if reached.desk.settled().len() > vertices / MANY {
-        return list_by_number(reached, limit, found);
-    }
-    list_in_order(reached, limit, found)
 }
 
 // Whether there is a candidate that comes before another.

@@ -139,3 +139,7 @@ up_to_all lengths most all e = elim (cases_lt e (length lengths)) [
   | inl l ↦ all e l
   | inr past ↦ let z = get_or_past lengths e 0 past in omega arith
 ]
+
+-- a number that was read from a table
+pub read_at : (xs : List ℕ) (i v x : ℕ) → x ≡ get_or xs i x → i ≡ v → v < length xs → x ≡ get_or xs v 0
+read_at xs i v x read is l = read ∙ ap (λ k. get_or xs k x) is ∙ get_or_default xs v x 0 l

@@ -19,37 +19,37 @@ use Rattle.surf_surfaces.proofs.ShortestTreeLaws.{shortest_is_tree, shortest_is_
 use Rattle.surf_lengths.specs.Lengths.{longest}
 use Rattle.surf_base.specs.Tables.{at}
 use Rattle.surf_tree.specs.Searches.{IsTight}
-use Rattle.surf_near.specs.Spots.{SearchTables}
+use Rattle.surf_near.specs.declared.tables.Tables.{Tables}
 use Rattle.surf_near.specs.Near.{NearTables, never, IsNearTo, IsNear}
 use Rattle.surf_near.specs.Searching.{IsFound}
 use Rattle.surf_near.proofs.Reaching.{same_rank, settled_near}
 
 -- what a desk shows of its tables
-abbrev pub shown : ℕ → SearchTables → NearTables
+abbrev pub shown : ℕ → Tables → NearTables
 shown base t = record {
   base = base;
-  settled = take t.count t.order;
-  distances = t.distance;
-  parents = t.parent;
-  ups = t.up;
-  leasts = t.least;
+  settled = take t.count t.order.items;
+  distances = t.distance.items;
+  parents = t.parent.items;
+  ups = t.up.items;
+  leasts = t.least.items;
 }
 
-module _ (mesh : Mesh) (lengths : List ℕ) (base radius : ℕ) (t : SearchTables) (surface : IsSurface mesh) (positive : ArePositive mesh lengths)
+module _ (mesh : Mesh) (lengths : List ℕ) (base radius : ℕ) (t : Tables) (surface : IsSurface mesh) (positive : ArePositive mesh lengths)
     (small : mesh.vertices ≤ longest) (found : IsFound (primal (cells_of mesh)) (edge_length lengths) base radius t) where
   abbrev dist : ℕ → ℕ
-  dist = at t.distance
+  dist = at t.distance.items
 
   short : (v : ℕ) → v < mesh.vertices → dist v ≢ never → dist v + longest < never
   short v v_in settled = let f = found.reached.fits v v_in settled in omega (arith, f, small)
 
   -- the parent of a settled vertex
   has_parent : (v : ℕ) → v < mesh.vertices → v ≢ base → dist v ≢ never →
-      (at t.parent v < mesh.vertices) × IsTight (primal (cells_of mesh)) (edge_length lengths) dist v (at t.parent v) (at t.up v)
+      (at t.parent.items v < mesh.vertices) × IsTight (primal (cells_of mesh)) (edge_length lengths) dist v (at t.parent.items v) (at t.up.items v)
   has_parent v v_in ne settled =
       let r = found.reached.tight v v_in ne settled in
       let chosen = found.chosen v v_in settled in
-      let le : at t.parent v ≤ r.before = chosen.parent.least r.before r.edge (record { edge_in = r.edge_in; joined = r.joined; is = sym r.is }) in
+      let le : at t.parent.items v ≤ r.before = chosen.parent.least r.before r.edge (record { edge_in = r.edge_in; joined = r.joined; is = sym r.is }) in
       chosen.parent.tight (λ none. absurd (omega (arith, le, none, r.before_in, small)))
 
   -- a tight neighbour is settled
@@ -108,14 +108,14 @@ module _ (mesh : Mesh) (lengths : List ℕ) (base radius : ℕ) (t : SearchTable
           },
         )
 
-    count_in : t.count ≤ length t.order
+    count_in : t.count ≤ length t.order.items
     count_in = omega (arith, found.count_in, found.room.order)
 
-    listed_is : (i : ℕ) → i < length (take t.count t.order) → (i < t.count) × (get_or (take t.count t.order) i 0 ≡ at t.order i)
+    listed_is : (i : ℕ) → i < length (take t.count t.order.items) → (i < t.count) × (get_or (take t.count t.order.items) i 0 ≡ at t.order.items i)
     listed_is i l =
-        let n = length-take-le t.count t.order count_in in
+        let n = length-take-le t.count t.order.items count_in in
         let li : i < t.count = omega (arith, n, l) in
-        (li, get_or-take t.count t.order i 0 li)
+        (li, get_or-take t.count t.order.items i 0 li)
 
     pub near_to : IsNearTo mesh lengths base radius tree (shown base t)
     near_to = record {
@@ -125,14 +125,14 @@ module _ (mesh : Mesh) (lengths : List ℕ) (base radius : ℕ) (t : SearchTable
         tight = λ v v_in near ne.
             let settled = reach v v_in near in
             let up = has_parent v v_in ne settled in
-            (to_tree v (at t.parent v) (at t.up v) v_in up.0 settled up.1).0;
+            (to_tree v (at t.parent.items v) (at t.up.items v) v_in up.0 settled up.1).0;
         least = λ u v v_in near ne tight.
             let from = from_tree v u v_in near tight in
             (found.chosen v v_in (reach v v_in near)).parent.least u (edge_number mesh (u, v)) from.1;
         up = λ v v_in near ne.
             let settled = reach v v_in near in
             let up = has_parent v v_in ne settled in
-            (to_tree v (at t.parent v) (at t.up v) v_in up.0 settled up.1).1;
+            (to_tree v (at t.parent.items v) (at t.up.items v) v_in up.0 settled up.1).1;
       };
       least = record {
         own = λ w w_in near. (found.chosen w w_in (reach w w_in near)).own;
@@ -162,45 +162,45 @@ module _ (mesh : Mesh) (lengths : List ℕ) (base radius : ℕ) (t : SearchTable
           let (li, is) = listed_is i l in
           let v_in = found.listed.inside i li in
           let settled = found.listed.settled i li in
-          let within = found.reached.within (at t.order i) v_in settled in
-          let rank = same (at t.order i) v_in settled in
+          let within = found.reached.within (at t.order.items i) v_in settled in
+          let rank = same (at t.order.items i) v_in settled in
           rw is (v_in, omega (arith, within, rank));
       all = λ v v_in near.
           let (i, li, is) = found.listed.all v v_in (reach v v_in near) in
-          let n = length-take-le t.count t.order count_in in
-          let there : get_or (take t.count t.order) i 0 ≡ v = get_or-take t.count t.order i 0 li ∙ is in
-          subst (Contains (take t.count t.order)) there (Contains-get_or (take t.count t.order) i 0 (omega (arith, n, li)));
+          let n = length-take-le t.count t.order.items count_in in
+          let there : get_or (take t.count t.order.items) i 0 ≡ v = get_or-take t.count t.order.items i 0 li ∙ is in
+          subst (Contains (take t.count t.order.items)) there (Contains-get_or (take t.count t.order.items) i 0 (omega (arith, n, li)));
       order = λ i l.
           let (li, is) = listed_is i l in
-          let v = at t.order i in
+          let v = at t.order.items i in
           let v_in = found.listed.inside i li in
           let settled = found.listed.settled i li in
           elim (cases_eq v base) [
             | inl at_base ↦ inl (is ∙ at_base)
             | inr ne ↦
                 let up = has_parent v v_in ne settled in
-                let p = at t.parent v in
-                let e = at t.up v in
+                let p = at t.parent.items v in
+                let e = at t.up.items v in
                 let tight : dist p + edge_length lengths e ≡ dist v = up.1.is in
                 let some : 1 ≤ edge_length lengths e = positive e up.1.edge_in in
                 let (j, lj, at_j) = found.listed.all p up.0 (tight_settled v p e v_in settled up.1) in
-                let j_rank : dist (at t.order j) ≡ dist p = ap dist at_j in
+                let j_rank : dist (at t.order.items j) ≡ dist p = ap dist at_j in
                 let before : j < i = elim (cases_lt j i) [
                   | inl less ↦ less
                   | inr more ↦ elim (cases_eq i j) [
-                    | inl both ↦ let e2 : dist v ≡ dist (at t.order j) = ap (λ k. dist (at t.order k)) both in absurd (omega arith)
+                    | inl both ↦ let e2 : dist v ≡ dist (at t.order.items j) = ap (λ k. dist (at t.order.items k)) both in absurd (omega arith)
                     | inr apart ↦ let up2 = found.listed.rise i j (omega arith) lj in absurd (omega (arith, up2, j_rank, tight, some))
                   ]
                 ] in
-                inr (j, before, get_or-take t.count t.order j 0 lj ∙ at_j ∙ sym (ap (at t.parent) is))
+                inr (j, before, get_or-take t.count t.order.items j 0 lj ∙ at_j ∙ sym (ap (at t.parent.items) is))
           ];
       rise = λ i j lt l.
           let (lj, is_j) = listed_is j l in
           let li : i < t.count = omega (arith, lt, lj) in
-          let is_i : get_or (take t.count t.order) i 0 ≡ at t.order i = get_or-take t.count t.order i 0 li in
+          let is_i : get_or (take t.count t.order.items) i 0 ≡ at t.order.items i = get_or-take t.count t.order.items i 0 li in
           let up = found.listed.rise i j lt lj in
-          let rank_i = same (at t.order i) (found.listed.inside i li) (found.listed.settled i li) in
-          let rank_j = same (at t.order j) (found.listed.inside j lj) (found.listed.settled j lj) in
+          let rank_i = same (at t.order.items i) (found.listed.inside i li) (found.listed.settled i li) in
+          let rank_j = same (at t.order.items j) (found.listed.inside j lj) (found.listed.settled j lj) in
           rw (is_i, is_j) (omega (arith, up, rank_i, rank_j));
     }
 

@@ -12,7 +12,7 @@ use Rattle.surf_tree.specs.Searches.{HasKey, IsOffered}
 use Rattle.surf_tree.proofs.SearchWords.{IsSearch}
 use Rattle.surf_tree.proofs.Settling.{no_entry, same_key, search_begins}
 use Rattle.surf_tree.proofs.Offering.{one_less, all_free, turn_inside, turn_smaller, turn_keeps}
-use Rattle.surf_near.specs.Spots.{SearchTables}
+use Rattle.surf_near.specs.declared.tables.Tables.{Tables}
 use Rattle.surf_near.specs.Near.{never}
 use Rattle.surf_near.specs.Searching.{IsChoice, IsTrimmed, OffersNear, IsListed, IsChosenAt, HasRoom, IsBlank, IsFound}
 use Rattle.surf_near.proofs.Ties.{tied, tied_least, search_tied, search_untied, offered_tied}
@@ -20,17 +20,17 @@ use Rattle.surf_near.proofs.Trimming.{trim_all, trim_taken, trim_least}
 use Rattle.surf_near.proofs.Choices.{choice_stays, chosen_kept}
 
 -- the state of a search: a wider search, whose fringe is trimmed
-pub record IsSearchNear (g : Graph) (len : ℕ → ℕ) (base radius : ℕ) (t : SearchTables) (heap : Entries) : Type 0 where
+pub record IsSearchNear (g : Graph) (len : ℕ → ℕ) (base radius : ℕ) (t : Tables) (heap : Entries) : Type 0 where
   pub room : HasRoom g.nodes t
   pub wide : Entries
   pub last : ℕ
-  pub search : IsSearch g len base (at t.distance) wide last
-      (count_below g.nodes (λ u. eqb (at t.distance u) never))
+  pub search : IsSearch g len base (at t.distance.items) wide last
+      (count_below g.nodes (λ u. eqb (at t.distance.items u) never))
   pub trimmed : IsTrimmed radius wide heap
-  pub within : (u : ℕ) → u < g.nodes → at t.distance u ≢ never → at t.distance u ≤ radius
-  pub listed : IsListed g.nodes (at t.distance) (at t.order) t.count
-  pub counted : t.count + count_below g.nodes (λ u. eqb (at t.distance u) never) ≡ g.nodes
-  pub chosen : (v : ℕ) → v < g.nodes → at t.distance v ≢ never → IsChosenAt g len t v
+  pub within : (u : ℕ) → u < g.nodes → at t.distance.items u ≢ never → at t.distance.items u ≤ radius
+  pub listed : IsListed g.nodes (at t.distance.items) (at t.order.items) t.count
+  pub counted : t.count + count_below g.nodes (λ u. eqb (at t.distance.items u) never) ≡ g.nodes
+  pub chosen : (v : ℕ) → v < g.nodes → at t.distance.items v ≢ never → IsChosenAt g len t v
 
 -- a list of settled nodes with one more, which is no nearer
 pub list_more : (nodes : ℕ) (dist order : List ℕ) (count v k : ℕ) → IsListed nodes (at dist) (at order) count →
@@ -84,14 +84,14 @@ list_more nodes dist order count v k old v_in v_room room free near last = recor
 
 module _ (g : Graph) (len : ℕ → ℕ) (base radius : ℕ) (small : g.nodes ≤ longest) (short : (e : ℕ) → len e ≤ longest) where
   -- before the first node is settled
-  pub near_begins : (t : SearchTables) (heap : Entries) → base < g.nodes → IsBlank g.nodes t → entry_of heap base ≡ Some (0, 0) →
+  pub near_begins : (t : Tables) (heap : Entries) → base < g.nodes → IsBlank g.nodes t → entry_of heap base ≡ Some (0, 0) →
       ((w : ℕ) → w ≢ base → entry_of heap w ≡ None) → IsSearchNear g len base radius t heap
   near_begins t heap base_in blank first none = record {
     room = blank.room;
     wide = heap;
     last = 0;
-    search = search_begins g len base small short (at t.distance) heap
-        (count_below g.nodes (λ u. eqb (at t.distance u) never)) base_in all_left blank.none first none;
+    search = search_begins g len base small short (at t.distance.items) heap
+        (count_below g.nodes (λ u. eqb (at t.distance.items u) never)) base_in all_left blank.none first none;
     trimmed = trim_all radius heap (λ w k tie h. elim (cases_eq w base) [
       | inl same ↦
           let z : 0 ≡ k = same_key (entry_of heap base) 0 0 k tie first (ap (entry_of heap) (sym same) ∙ h) in
@@ -109,12 +109,12 @@ module _ (g : Graph) (len : ℕ → ℕ) (base radius : ℕ) (small : g.nodes �
     chosen = λ u l s. absurd (s (blank.none u l));
   }
     where
-      all_left : count_below g.nodes (λ u. eqb (at t.distance u) never) ≡ g.nodes
-      all_left = all_free g.nodes t.distance blank.none
+      all_left : count_below g.nodes (λ u. eqb (at t.distance.items u) never) ≡ g.nodes
+      all_left = all_free g.nodes t.distance.items blank.none
 
-  module _ (t : SearchTables) (heap : Entries) (s : IsSearchNear g len base radius t heap) (v k : ℕ) (least : IsNearestEntry heap v k) where
+  module _ (t : Tables) (heap : Entries) (s : IsSearchNear g len base radius t heap) (v k : ℕ) (least : IsNearestEntry heap v k) where
     abbrev dist : List ℕ
-    dist = t.distance
+    dist = t.distance.items
 
     wide_least : (k ≤ radius) × IsNearestEntry s.wide v k
     wide_least = trim_least radius s.wide heap s.trimmed v k least
@@ -170,36 +170,36 @@ module _ (g : Graph) (len : ℕ → ℕ) (base radius : ℕ) (small : g.nodes �
       | inr ne ↦ rw (get_or-set_other dist v u k 0 ne) (last_up u l (rw (get_or-set_other dist v u k 0 ne) at settled))
     ]
 
-    module _ (positive : (e : ℕ) → e < g.edges → 1 ≤ len e) (t2 : SearchTables) (new : Entries) (p e m : ℕ)
-        (order_is : t2.order ≡ set t.order t.count v) (count_is : t2.count ≡ t.count + 1)
-        (distance_is : t2.distance ≡ set t.distance v k) (parent_is : t2.parent ≡ set t.parent v p)
-        (up_is : t2.up ≡ set t.up v e) (least_is : t2.least ≡ set t.least v m)
-        (choice : IsChoice g len (at (set t.distance v k)) (at t.least) v p e m)
-        (offers : OffersNear g len (at (set t.distance v k)) v k radius (set heap v None) new) where
+    module _ (positive : (e : ℕ) → e < g.edges → 1 ≤ len e) (t2 : Tables) (new : Entries) (p e m : ℕ)
+        (order_is : t2.order.items ≡ set t.order.items t.count v) (count_is : t2.count ≡ t.count + 1)
+        (distance_is : t2.distance.items ≡ set t.distance.items v k) (parent_is : t2.parent.items ≡ set t.parent.items v p)
+        (up_is : t2.up.items ≡ set t.up.items v e) (least_is : t2.least.items ≡ set t.least.items v m)
+        (choice : IsChoice g len (at (set t.distance.items v k)) (at t.least.items) v p e m)
+        (offers : OffersNear g len (at (set t.distance.items v k)) v k radius (set heap v None) new) where
       offered : (wider : Entries) × IsOffered g len (at (set dist v k)) v k (set s.wide v None) wider × IsTrimmed radius wider new
       offered = offers (set s.wide v None) (trim_taken radius s.wide heap s.trimmed v)
 
       next_chosen : (u : ℕ) → u < g.nodes → at (set dist v k) u ≢ never →
-          IsChoice g len (at (set dist v k)) (at (set t.least v m)) u (at (set t.parent v p) u)
-          (at (set t.up v e) u) (at (set t.least v m) u)
+          IsChoice g len (at (set dist v k)) (at (set t.least.items v m)) u (at (set t.parent.items v p) u)
+          (at (set t.up.items v e) u) (at (set t.least.items v m) u)
       next_chosen u l settled =
           let v_in = turn_in.0 in
           let now : at (set dist v k) v ≡ k = get_or-set_same dist v k 0 v_room in
-          chosen_kept g len positive (at (set dist v k)) t.parent t.up t.least v p e m (omega (arith, v_in, s.room.parent))
+          chosen_kept g len positive (at (set dist v k)) t.parent.items t.up.items t.least.items v p e m (omega (arith, v_in, s.room.parent))
           (omega (arith, v_in, s.room.up)) (omega (arith, v_in, s.room.least)) choice u (rw now (none_farther u settled l)) (λ ne.
           let was : at dist u ≢ never = rw (get_or-set_other dist v u k 0 ne) at settled in
           let f = s.search.fits u l was in
-          choice_stays g len positive dist v k v_room turn_free u (last_up u l was) (omega (arith, f, small)) ne (at t.least)
-          (at t.parent u) (at t.up u) (at t.least u) (s.chosen u l was))
+          choice_stays g len positive dist v k v_room turn_free u (last_up u l was) (omega (arith, f, small)) ne (at t.least.items)
+          (at t.parent.items u) (at t.up.items u) (at t.least.items u) (s.chosen u l was))
 
       pub turn_near : IsSearchNear g len base radius t2 new
       turn_near = record {
         room = record {
-          order = ap length order_is ∙ length-set t.order t.count v ∙ s.room.order;
+          order = ap length order_is ∙ length-set t.order.items t.count v ∙ s.room.order;
           distance = ap length distance_is ∙ length-set dist v k ∙ s.room.distance;
-          parent = ap length parent_is ∙ length-set t.parent v p ∙ s.room.parent;
-          up = ap length up_is ∙ length-set t.up v e ∙ s.room.up;
-          least = ap length least_is ∙ length-set t.least v m ∙ s.room.least;
+          parent = ap length parent_is ∙ length-set t.parent.items v p ∙ s.room.parent;
+          up = ap length up_is ∙ length-set t.up.items v e ∙ s.room.up;
+          least = ap length least_is ∙ length-set t.least.items v m ∙ s.room.least;
         };
         wide = offered.0;
         last = k;
@@ -214,7 +214,7 @@ module _ (g : Graph) (len : ℕ → ℕ) (base radius : ℕ) (small : g.nodes �
           | inr ne ↦ rw (distance_is, get_or-set_other dist v u k 0 ne)
               (s.within u l (rw (distance_is, get_or-set_other dist v u k 0 ne) at settled))
         ];
-        listed = rw (distance_is, order_is, count_is) (list_more g.nodes dist t.order t.count v k s.listed turn_in.0 v_room
+        listed = rw (distance_is, order_is, count_is) (list_more g.nodes dist t.order.items t.count v k s.listed turn_in.0 v_room
             (omega (arith, turn_room, s.room.order)) turn_free near_end last_up);
         counted =
             let one = one_less g.nodes v k dist turn_in.0 (sym s.room.distance) turn_free near_end in
@@ -223,7 +223,7 @@ module _ (g : Graph) (len : ℕ → ℕ) (base radius : ℕ) (small : g.nodes �
       }
 
   -- where nothing is left
-  pub near_ends : (t : SearchTables) (heap : Entries) → IsSearchNear g len base radius t heap → IsEmpty heap →
+  pub near_ends : (t : Tables) (heap : Entries) → IsSearchNear g len base radius t heap → IsEmpty heap →
       IsFound g len base radius t
   near_ends t heap s empty = record {
     room = s.room;
@@ -235,8 +235,8 @@ module _ (g : Graph) (len : ℕ → ℕ) (base radius : ℕ) (small : g.nodes �
       ];
       within = s.within;
       fits = s.search.fits;
-      near = λ u w e lu lw le join su within. elim (cases_eq (at t.distance w) never) [
-        | inl free ↦ absurd (none_near w (at t.distance u + len e) (s.search.offered u w e lu lw le join su free) within)
+      near = λ u w e lu lw le join su within. elim (cases_eq (at t.distance.items w) never) [
+        | inl free ↦ absurd (none_near w (at t.distance.items u + len e) (s.search.offered u w e lu lw le join su free) within)
         | inr sw ↦ (sw, s.search.near u w e lu lw le join su sw)
       ];
       tight = s.search.tight;

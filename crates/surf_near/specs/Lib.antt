@@ -2,4 +2,3 @@ pub mod Fringe
 pub mod Links
 pub mod Near
 pub mod Searching
-pub mod Spots

@@ -8,7 +8,7 @@ use Rattle.surf_base.specs.Tables.{at}
 use Rattle.surf_tree.specs.Searches.{IsReached, IsOffered, IsTight, IsLeastTight}
 use Rattle.surf_near.specs.Near.{never}
 use Rattle.surf_near.specs.Links.{LinkTables, graph_of, weight_of}
-use Rattle.surf_near.specs.Spots.{SearchTables}
+use Rattle.surf_near.specs.declared.tables.Tables.{Tables}
 use Rattle.surf_near.specs.declared.tables.Choice.{Choice}
 
 -- the distances of settled nodes leave room for one more edge
@@ -55,69 +55,70 @@ pub record IsReachedNear (g : Graph) (len : ℕ → ℕ) (base radius : ℕ) (di
   pub tight : (w : ℕ) → w < g.nodes → w ≢ base → dist w ≢ never → IsReached g len dist w (dist w)
 
 -- what the tables have of a node has been chosen
-abbrev pub IsChosenAt : Graph → (ℕ → ℕ) → SearchTables → ℕ → Type 0
+abbrev pub IsChosenAt : Graph → (ℕ → ℕ) → Tables → ℕ → Type 0
 IsChosenAt g len t v =
-    IsChoice g len (at t.distance) (at t.least) v
-    (at t.parent v) (at t.up v) (at t.least v)
+    IsChoice g len (at t.distance.items) (at t.least.items) v
+    (at t.parent.items v) (at t.up.items v) (at t.least.items v)
 
 -- there is room for each node
-pub record HasRoom (nodes : ℕ) (t : SearchTables) : Type 0 where
-  pub order : length t.order ≡ nodes
-  pub distance : length t.distance ≡ nodes
-  pub parent : length t.parent ≡ nodes
-  pub up : length t.up ≡ nodes
-  pub least : length t.least ≡ nodes
+pub record HasRoom (nodes : ℕ) (t : Tables) : Type 0 where
+  pub order : length t.order.items ≡ nodes
+  pub distance : length t.distance.items ≡ nodes
+  pub parent : length t.parent.items ≡ nodes
+  pub up : length t.up.items ≡ nodes
+  pub least : length t.least.items ≡ nodes
 
 -- nothing is settled
-pub record IsBlank (nodes : ℕ) (t : SearchTables) : Type 0 where
+pub record IsBlank (nodes : ℕ) (t : Tables) : Type 0 where
   pub room : HasRoom nodes t
   pub count : t.count ≡ 0
-  pub none : (v : ℕ) → v < nodes → at t.distance v ≡ never
+  pub none : (v : ℕ) → v < nodes → at t.distance.items v ≡ never
 
 -- what is within the radius is settled, listed and chosen
-pub record IsFound (g : Graph) (len : ℕ → ℕ) (base radius : ℕ) (t : SearchTables) : Type 0 where
+pub record IsFound (g : Graph) (len : ℕ → ℕ) (base radius : ℕ) (t : Tables) : Type 0 where
   pub room : HasRoom g.nodes t
   pub count_in : t.count ≤ g.nodes
-  pub reached : IsReachedNear g len base radius (at t.distance)
-  pub listed : IsListed g.nodes (at t.distance) (at t.order) t.count
-  pub chosen : (v : ℕ) → v < g.nodes → at t.distance v ≢ never → IsChosenAt g len t v
+  pub reached : IsReachedNear g len base radius (at t.distance.items)
+  pub listed : IsListed g.nodes (at t.distance.items) (at t.order.items) t.count
+  pub chosen : (v : ℕ) → v < g.nodes → at t.distance.items v ≢ never → IsChosenAt g len t v
 
 -- the tables of a desk between two searches
-pub record IsKept (t : SearchTables) : Type 0 where
-  pub room : HasRoom (length t.distance) t
-  pub count_in : t.count ≤ length t.order
-  pub inside : (i : ℕ) → i < t.count → at t.order i < length t.distance
-  pub listed : (v : ℕ) → v < length t.distance → at t.distance v ≢ never →
-      (i : ℕ) × (i < t.count) × (at t.order i ≡ v)
+pub record IsKept (heap : Entries) (t : Tables) : Type 0 where
+  pub places : length heap ≡ length t.distance.items
+  pub order : length t.order.items ≡ length t.distance.items
+  pub count_in : t.count ≤ length t.order.items
+  pub inside : (i : ℕ) → i < t.count → at t.order.items i < length t.distance.items
+  pub listed : (v : ℕ) → v < length t.distance.items → at t.distance.items v ≢ never →
+      (i : ℕ) × (i < t.count) × (at t.order.items i ≡ v)
 
 -- The state of a search where all edges have one length: the list of settled nodes is a queue. The nodes before a place
 -- have passed on; no node of the list is farther than those behind the place by more than the length.
-pub record IsQueue (g : Graph) (len : ℕ → ℕ) (size radius : ℕ) (t : SearchTables) (place : ℕ) : Type 0 where
+pub record IsQueue (g : Graph) (len : ℕ → ℕ) (size radius : ℕ) (t : Tables) (place : ℕ) : Type 0 where
   pub room : HasRoom g.nodes t
   pub place_in : place ≤ t.count
   pub some : 0 < t.count
-  pub at_first : at t.distance (at t.order 0) ≡ 0
-  pub listed : IsListed g.nodes (at t.distance) (at t.order) t.count
-  pub counted : t.count + count_below g.nodes (λ u. at t.distance u == never) ≡ g.nodes
+  pub at_first : at t.distance.items (at t.order.items 0) ≡ 0
+  pub listed : IsListed g.nodes (at t.distance.items) (at t.order.items) t.count
+  pub counted : t.count + count_below g.nodes (λ u. at t.distance.items u == never) ≡ g.nodes
   pub span : (i j : ℕ) → i < t.count → place ≤ j → j < t.count →
-      at t.distance (at t.order i) ≤ at t.distance (at t.order j) + size
-  pub steps : (i : ℕ) → i < t.count → at t.distance (at t.order i) ≤ i * longest
-  pub within : (i : ℕ) → i < t.count → at t.distance (at t.order i) ≤ radius
+      at t.distance.items (at t.order.items i) ≤ at t.distance.items (at t.order.items j) + size
+  pub steps : (i : ℕ) → i < t.count → at t.distance.items (at t.order.items i) ≤ i * longest
+  pub within : (i : ℕ) → i < t.count → at t.distance.items (at t.order.items i) ≤ radius
   pub tight : (i : ℕ) → 0 < i → i < t.count →
-      IsReached g len (at t.distance) (at t.order i) (at t.distance (at t.order i))
-  pub near : (i w e : ℕ) → i < place → w < g.nodes → e < g.edges → joins g (at t.order i) w e ≡ true →
-      at t.distance (at t.order i) + size ≤ radius →
-      (at t.distance w ≢ never) × (at t.distance w ≤ at t.distance (at t.order i) + size)
-  pub chosen : (i : ℕ) → i < place → IsChosenAt g len t (at t.order i)
+      IsReached g len (at t.distance.items) (at t.order.items i) (at t.distance.items (at t.order.items i))
+  pub near : (i w e : ℕ) → i < place → w < g.nodes → e < g.edges → joins g (at t.order.items i) w e ≡ true →
+      at t.distance.items (at t.order.items i) + size ≤ radius →
+      (at t.distance.items w ≢ never) × (at t.distance.items w ≤ at t.distance.items (at t.order.items i) + size)
+  pub chosen : (i : ℕ) → i < place → IsChosenAt g len t (at t.order.items i)
 
 -- the node at the place has passed on, and its choice is made but not kept
-pub record IsLooked (g : Graph) (len : ℕ → ℕ) (size radius : ℕ) (t : SearchTables) (place p e m : ℕ) : Type 0 where
+pub record IsLooked (g : Graph) (len : ℕ → ℕ) (size radius : ℕ) (t : Tables) (place p e m : ℕ) : Type 0 where
   pub queue : IsQueue g len size radius t place
   pub here : place < t.count
-  pub choice : IsChoice g len (at t.distance) (at t.least) (at t.order place) p e m
-  pub near : (w e : ℕ) → w < g.nodes → e < g.edges → joins g (at t.order place) w e ≡ true →
-      at t.distance (at t.order place) + size ≤ radius →
-      (at t.distance w ≢ never) × (at t.distance w ≤ at t.distance (at t.order place) + size)
+  pub choice : IsChoice g len (at t.distance.items) (at t.least.items) (at t.order.items place) p e m
+  pub near : (w e : ℕ) → w < g.nodes → e < g.edges → joins g (at t.order.items place) w e ≡ true →
+      at t.distance.items (at t.order.items place) + size ≤ radius →
+      (at t.distance.items w ≢ never) × (at t.distance.items w ≤ at t.distance.items (at t.order.items place) + size)
 
 -- the same of the tables of a mesh's links
 
@@ -129,9 +130,9 @@ abbrev pub Offers : LinkTables → List ℕ → ℕ → ℕ → Entries → Entr
 Offers links dist v radius old new =
     OffersNear (graph_of links) (weight_of links) (at dist) v (at dist v) radius old new
 
-abbrev pub IsQueueOf : LinkTables → ℕ → ℕ → SearchTables → ℕ → Type 0
+abbrev pub IsQueueOf : LinkTables → ℕ → ℕ → Tables → ℕ → Type 0
 IsQueueOf links size radius t place = IsQueue (graph_of links) (weight_of links) size radius t place
 
-abbrev pub HasLooked : LinkTables → ℕ → ℕ → SearchTables → ℕ → Choice → Type 0
+abbrev pub HasLooked : LinkTables → ℕ → ℕ → Tables → ℕ → Choice → Type 0
 HasLooked links size radius t place choice =
     IsLooked (graph_of links) (weight_of links) size radius t place choice.parent choice.up choice.least

@@ -8,7 +8,7 @@ use crate::even::settle_even;
 use crate::fringe::Fringe;
 use crate::links::Links;
 use crate::search::settle_near;
-use crate::tables::{NEVER, Tables};
+use crate::tables::{NEVER, Tables, forget};
 use std::alloc::Global;
 use std::marker::Model;
 use surf_base::{EdgeId, NoMemory, VertexId};
@@ -25,7 +25,9 @@ pub struct NearDesk {
 }
 
 impl Model for NearDesk {
-    ghost use Rattle.std.specs.Prelude.{◌≡◌, length, take};
+    ghost use Rattle.std.specs.Prelude.{take};
+    ghost use Rattle.surf_near.specs.Links.{AreLinks, graph_of, weight_of};
+    ghost use Rattle.surf_near.specs.Searching.{IsBlank, IsFound};
     ghost use Rattle.surf_near.specs.Near.{NearTables};
     ghost use Rattle.surf_near.specs.Searching.{IsKept};
 
@@ -33,15 +35,14 @@ impl Model for NearDesk {
 
     ghost view = { λ d. record {
       base = d.base;
-      settled = take d.tables.count d.tables.order;
-      distances = d.tables.distance;
-      parents = d.tables.parent;
-      ups = d.tables.up;
-      leasts = d.tables.least;
+      settled = take d.tables.count d.tables.order.items;
+      distances = d.tables.distance.items;
+      parents = d.tables.parent.items;
+      ups = d.tables.up.items;
+      leasts = d.tables.least.items;
     } };
 
-    ghost invariant = { λ d. (length d.fringe.entries ≡ length d.tables.distance)
-        × IsKept d.tables };
+    ghost invariant = { λ d. IsKept d.fringe.entries d.tables };
 }
 
 // Settles the vertices within a radius, by a queue where one will do.
@@ -67,7 +68,19 @@ impl NearDesk {
     {
         let vertices = mesh.vertices() as usize;
         let fringe = Fringe::make(alloc, mesh.vertices())?;
-        let tables = Tables::make(alloc, vertices)?;
+        let order = vec![in alloc; VertexId::new(0); vertices]?;
+        let distance = vec![in alloc; NEVER; vertices]?;
+        let parent = vec![in alloc; 0u32; vertices]?;
+        let up = vec![in alloc; 0u32; vertices]?;
+        let least = vec![in alloc; 0u32; vertices]?;
+        let tables = Tables {
+            order,
+            count: 0,
+            distance,
+            parent,
+            up,
+            least,
+        };
         let base = VertexId::new(0);
         Ok(NearDesk {
             fringe,
@@ -83,7 +96,11 @@ impl NearDesk {
         requires base { base < links.now.mesh.vertices }
         ensures near { IsNear links.now.mesh links.now.lengths base radius self.new }
     {
-        self.tables.clear();
+        forget(
+            &self.tables.order[..self.tables.count],
+            &mut self.tables.distance,
+        );
+        self.tables.count = 0;
         settle(links, &mut self.tables, &mut self.fringe, base, radius);
         self.base = base;
     }
@@ -100,7 +117,7 @@ impl NearDesk {
         ensures settled { result.now ≡ self.now.settled }
         ensures few { length result.now ≤ length self.now.distances }
     {
-        self.tables.settled()
+        &self.tables.order[..self.tables.count]
     }
 
     /// Whether a vertex was settled.
@@ -109,7 +126,7 @@ impl NearDesk {
         requires vertex { v < length self.now.distances }
         ensures near { result ≡ is_near self.now v }
     {
-        self.tables.spot(v).distance != NEVER
+        self.tables.distance[v.index()] != NEVER
     }
 
     /// The distance of a settled vertex from the base, and the greatest number for each other.
@@ -118,7 +135,7 @@ impl NearDesk {
         requires vertex { v < length self.now.distances }
         ensures distance { result ≡ slice_index self.now.distances v }
     {
-        self.tables.spot(v).distance
+        self.tables.distance[v.index()]
     }
 
     /// The least neighbour from which an edge leads to the distance of a settled vertex that isn't
@@ -128,7 +145,7 @@ impl NearDesk {
         requires vertex { v < length self.now.parents }
         ensures parent { result ≡ slice_index self.now.parents v }
     {
-        VertexId::new(self.tables.spot(v).choice.parent)
+        VertexId::new(self.tables.parent[v.index()])
     }
 
     /// The edge to the parent of a settled vertex that isn't the base.
@@ -137,7 +154,7 @@ impl NearDesk {
         requires vertex { v < length self.now.ups }
         ensures up { result ≡ slice_index self.now.ups v }
     {
-        EdgeId::new(self.tables.spot(v).choice.up)
+        EdgeId::new(self.tables.up[v.index()])
     }
 
     /// The least vertex on a shortest walk from the base to a settled vertex.
@@ -146,6 +163,6 @@ impl NearDesk {
         requires vertex { v < length self.now.leasts }
         ensures least { result ≡ slice_index self.now.leasts v }
     {
-        VertexId::new(self.tables.spot(v).choice.least)
+        VertexId::new(self.tables.least[v.index()])
     }
 }

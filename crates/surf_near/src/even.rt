@@ -23,11 +23,11 @@ fn look_ahead(
     requires queue { IsQueueOf links.now size radius tables.old place }
     requires place { place < tables.old.count }
     ensures looked { HasLooked links.now size radius tables.new place result }
-    ensures first { at tables.new.order 0 ≡ at tables.old.order 0 }
-    ensures same { at tables.new.order place ≡ at tables.old.order place }
+    ensures first { at tables.new.order.items 0 ≡ at tables.old.order.items 0 }
+    ensures same { at tables.new.order.items place ≡ at tables.old.order.items place }
 {
-    let v = tables.listed(place);
-    let d = tables.spot(v).distance;
+    let v = tables.order[place];
+    let d = tables.distance[v.index()];
     let next = d + u64::from(size);
     let mut best = Choice {
         parent: u32::MAX,
@@ -36,13 +36,13 @@ fn look_ahead(
     };
     for link in links.at(v) {
         let to = link.to.number();
-        let there = tables.spot(link.to);
-        if there.distance == NEVER {
+        let there = tables.distance[link.to.index()];
+        if there == NEVER {
             if next <= radius {
                 tables.list(to, next);
             }
-        } else if there.distance + u64::from(size) == d {
-            best.least = best.least.min(there.choice.least);
+        } else if there + u64::from(size) == d {
+            best.least = best.least.min(tables.least[link.to.index()]);
             if to < best.parent {
                 best.parent = to;
                 best.up = link.edge.number();
@@ -69,8 +69,8 @@ pub(crate) fn settle_even(
 {
     tables.list(base.number(), 0);
     let mut place = 0;
-    while place < tables.count() {
-        let v = tables.listed(place).number();
+    while place < tables.count {
+        let v = tables.order[place].number();
         let choice = look_ahead(links, tables, place, size, radius);
         tables.keep(v, choice);
         place += 1;

@@ -15,26 +15,26 @@ use surf_base::VertexId;
 // among the settled neighbours, and offers the others to the fringe, as far as the radius.
 fn look_round(
     links: &Links<'_>,
-    tables: &Tables,
+    distance: &[u64],
+    least: &[u32],
     fringe: &mut Fringe,
     v: VertexId,
     radius: u64,
 ) -> Choice
     requires vertex { v < links.now.mesh.vertices }
-    requires distances { length tables.now.distance ≡ links.now.mesh.vertices }
-    requires leasts { length tables.now.least ≡ links.now.mesh.vertices }
+    requires distances { length distance.now ≡ links.now.mesh.vertices }
+    requires leasts { length least.now ≡ links.now.mesh.vertices }
     requires places { length fringe.old.entries ≡ links.now.mesh.vertices }
-    requires now { fringe.old.now ≡ at tables.now.distance v }
+    requires now { fringe.old.now ≡ at distance.now v }
     requires step { AreUpTo links.now.lengths fringe.old.step }
-    requires fits { IsShort links.now.mesh.vertices (at tables.now.distance) }
-    requires settled { at tables.now.distance v ≢ never }
-    ensures choice { Chooses links.now tables.now.distance tables.now.least v result }
-    ensures offers { Offers links.now tables.now.distance v radius fringe.old.entries
-        fringe.new.entries }
+    requires fits { IsShort links.now.mesh.vertices (at distance.now) }
+    requires settled { at distance.now v ≢ never }
+    ensures choice { Chooses links.now distance.now least.now v result }
+    ensures offers { Offers links.now distance.now v radius fringe.old.entries fringe.new.entries }
     ensures places { length fringe.new.entries ≡ length fringe.old.entries }
     ensures step { fringe.new.step ≡ fringe.old.step }
 {
-    let d = tables.spot(v).distance;
+    let d = distance[v.index()];
     let mut best = Choice {
         parent: u32::MAX,
         up: u32::MAX,
@@ -42,14 +42,14 @@ fn look_round(
     };
     for link in links.at(v) {
         let to = link.to.number();
-        let there = tables.spot(link.to);
-        if there.distance == NEVER {
+        let there = distance[link.to.index()];
+        if there == NEVER {
             let reached = d + u64::from(link.length);
             if reached <= radius {
                 fringe.offer(to, reached);
             }
-        } else if there.distance + u64::from(link.length) == d {
-            best.least = best.least.min(there.choice.least);
+        } else if there + u64::from(link.length) == d {
+            best.least = best.least.min(least[link.to.index()]);
             if to < best.parent {
                 best.parent = to;
                 best.up = link.edge.number();
@@ -78,7 +78,14 @@ pub(crate) fn settle_near(
     fringe.offer(base.number(), 0);
     while let Some((v, d)) = fringe.take_least() {
         tables.list(v, d);
-        let choice = look_round(links, tables, fringe, VertexId::new(v), radius);
+        let choice = look_round(
+            links,
+            &tables.distance,
+            &tables.least,
+            fringe,
+            VertexId::new(v),
+            radius,
+        );
         tables.keep(v, choice);
     }
 }

@@ -1,7 +1,7 @@
-use Rattle.std.proofs.Common.{◌≡◌, ◌∙◌, ap, arith, sym}
+use Rattle.std.proofs.Common.{◌≡◌, ◌∙◌, ap, arith, refl, sym}
 use Rattle.surf_base.specs.Tables.{at}
 use Rattle.surf_near.specs.Links.{graph_of, weight_of}
-use Rattle.surf_near.proofs.Linking.{links_small, links_positive, links_even}
+use Rattle.surf_near.proofs.Linking.{links_small, links_positive, links_even, read_at}
 use Rattle.surf_near.proofs.Queues.{queue_begins, queue_next, queue_ends}
 use Rattle.surf_near.proofs.even.settle_even.Goals as goal
 
@@ -25,13 +25,13 @@ loop-place-preserved c =
     let after = c.look_ahead-choice.new.tables in
     let choice = c.look_ahead-choice.result in
     let looked = c.look_ahead-choice.ensures.looked in
-    let v : c.number-v.result ≡ at after.order place =
-    c.number-v.ensures ∙ c.listed.ensures.listed ∙ sym c.look_ahead-choice.ensures.same in
+    let v : c.number-v.result ≡ at after.order.items place =
+    c.number-v.ensures ∙ (read_at before.order.items place place c.index.result.now c.index.ensures refl (omega (arith, c.loop-place-test.true, q.counted, q.room.order)) ∙ sym c.look_ahead-choice.ensures.same) in
     record {
       queue = queue_next (graph_of net) (weight_of net) size c.args.radius (links_small net are) (links_positive net are) (links_even net are size c.requires.even) (omega arith)
           after c.keep.new.self place choice.parent choice.up choice.least looked c.keep.ensures.order c.keep.ensures.count c.keep.ensures.distance
           (rw v at c.keep.ensures.parent) (rw v at c.keep.ensures.up) (rw v at c.keep.ensures.least);
-      first = ap (λ xs. at xs 0) c.keep.ensures.order ∙ c.look_ahead-choice.ensures.first ∙ c.loop-place.invariant.first;
+      first = ap (λ xs. at xs.items 0) c.keep.ensures.order ∙ c.look_ahead-choice.ensures.first ∙ c.loop-place.invariant.first;
     }
 
 pub returns : goal.returns

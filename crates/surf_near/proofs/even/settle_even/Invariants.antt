@@ -7,7 +7,7 @@ use Rattle.surf_near.proofs.even.settle_even.Given as goal
 abbrev pub invariant-loop-place : goal.invariant-loop-place
 invariant-loop-place l = record {
   queue : IsQueue (graph_of l.links) (weight_of l.links) l.size l.radius l.tables l.place;
-  first : at l.tables.order 0 ≡ l.fn.base;
+  first : at l.tables.order.items 0 ≡ l.fn.base;
 }
 
 abbrev pub decreases-loop-place : goal.decreases-loop-place

@@ -12,11 +12,17 @@ use Rattle.surf_near.proofs.Choices.{min_parts, choice_skip, choice_take, choice
 use Rattle.surf_near.proofs.search.look_round.Goals as goal
 use Rattle.surf_near.proofs.search.look_round.Goals.{then-there+then-reached-radius, then-there+else-reached-radius, else-there+then-there-from+then-to-best, else-there+then-there-from+else-to-best, else-there+else-there-from}
 
-pub spot-there-requires : goal.spot-there-requires
-spot-there-requires c =
+pub bounds-distance-index-in-loop-link : goal.bounds-distance-index-in-loop-link
+bounds-distance-index-in-loop-link c =
     let net = c.args.links.now in
     let inside = item_in net.mesh net.lengths c.args.v c.at-link-items.result.now c.at-link-items.ensures.row c.loop-link.link-index (omega (arith, c.loop-link-test.true)) c.link-item.result c.link-item.is in
-    record { vertex = omega (arith, inside, c.requires.distances) }
+    omega (arith, inside, c.requires.distances)
+
+pub bounds-least-index : goal.bounds-least-index
+bounds-least-index c =
+    let net = c.args.links.now in
+    let inside = item_in net.mesh net.lengths c.args.v c.at-link-items.result.now c.at-link-items.ensures.row c.loop-link.link-index (omega (arith, c.loop-link-test.true)) c.link-item.result c.link-item.is in
+    omega (arith, inside, c.requires.leasts)
 
 pub offer-requires-clause-to : goal.offer-requires-clause-to
 offer-requires-clause-to c =
@@ -24,7 +30,7 @@ offer-requires-clause-to c =
     let n = c.loop-link.link-index in
     let size = item_measured net.mesh net.lengths c.args.v c.at-link-items.result.now c.at-link-items.ensures.row n (omega (arith, c.loop-link-test.true)) c.link-item.result c.link-item.is in
     let most = up_to_all net.lengths c.args.fringe.now.step c.requires.step c.link-item.result.edge in
-    let here = c.spot-d.ensures.distance in
+    let here = ap (at c.args.distance.now) c.index.ensures in
     omega (arith, size, most, here, c.from.ensures, c.loop-link.invariant.now, c.loop-link.invariant.step)
 
 pub loop-link-preserved : goal.loop-link-preserved
@@ -32,8 +38,8 @@ loop-link-preserved c =
     let net = c.args.links.now in
     let graph = graph_of net in
     let len = weight_of net in
-    let dist = at c.args.tables.now.distance in
-    let least = at c.args.tables.now.least in
+    let dist = at c.args.distance.now in
+    let least = at c.args.least.now in
     let v = c.args.v in
     let items = c.at-link-items.result.now in
     let links = map ends_of items in
@@ -51,9 +57,9 @@ loop-link-preserved c =
     let inside = item_in net.mesh net.lengths v items c.at-link-items.ensures.row n li x c.link-item.is in
     let size : x.length ≡ len e = item_measured net.mesh net.lengths v items c.at-link-items.ensures.row n li x c.link-item.is in
     let inv = c.loop-link.invariant in
-    let d = c.spot-d.result.distance in
-    let here : d ≡ dist v = c.spot-d.ensures.distance in
-    let there : c.spot-there.result.distance ≡ dist w = c.spot-there.ensures.distance in
+    let d = dist c.index.result in
+    let here : d ≡ dist v = ap dist c.index.ensures in
+    let there : dist c.index-in-loop-link.result ≡ dist w = ap dist c.index-in-loop-link.ensures in
     let in_heap : w < length heap = omega (arith, inside, inv.places) in
     let room : dist v + longest < never = c.requires.fits v c.requires.vertex c.requires.settled in
     elim c.if-there.branch [
@@ -82,7 +88,7 @@ loop-link-preserved c =
       | else-there+then-there-from+then-to-best b ↦
           let settled : dist w ≢ never = λ t. absurd (b.if-there.false (there ∙ t)) in
           let tight : dist w + len e ≡ dist v = omega (arith, b.if-there-from.true, there, here, b.from-else-there.ensures, size) in
-          let lower = min_parts old.least (least w) b.min.result (b.min.ensures ∙ ap (min old.least) c.spot-there.ensures.least) in
+          let lower = min_parts old.least (least w) b.min.result (b.min.ensures ∙ ap (λ k. min old.least (least k)) b.index-then-there-from.ensures) in
           rw (b.fringe-is, b.best-is, c.number-to.ensures, b.number-then-to-best.ensures) (record {
             places = inv.places;
             now = inv.now;
@@ -94,7 +100,7 @@ loop-link-preserved c =
       | else-there+then-there-from+else-to-best b ↦
           let settled : dist w ≢ never = λ t. absurd (b.if-there.false (there ∙ t)) in
           let tight : dist w + len e ≡ dist v = omega (arith, b.if-there-from.true, there, here, b.from-else-there.ensures, size) in
-          let lower = min_parts old.least (least w) b.min.result (b.min.ensures ∙ ap (min old.least) c.spot-there.ensures.least) in
+          let lower = min_parts old.least (least w) b.min.result (b.min.ensures ∙ ap (λ k. min old.least (least k)) b.index-then-there-from.ensures) in
           rw (b.fringe-is, b.best-is) (record {
             places = inv.places;
             now = inv.now;
@@ -120,7 +126,7 @@ returns-clause-choice c =
     let net = c.args.links.now in
     let items = c.at-link-items.result.now in
     let long = length-map items ends_of in
-    choice_all (graph_of net) (weight_of net) (at c.args.tables.now.distance) (at c.args.tables.now.least) c.args.v (map ends_of items) c.at-link-items.ensures.row.row
+    choice_all (graph_of net) (weight_of net) (at c.args.distance.now) (at c.args.least.now) c.args.v (map ends_of items) c.at-link-items.ensures.row.row
     c.loop-link.link-index c.loop-link.best.parent c.loop-link.best.up c.loop-link.best.least (omega arith) c.loop-link.invariant.choice
 
 pub returns-clause-offers : goal.returns-clause-offers
@@ -128,6 +134,6 @@ returns-clause-offers c =
     let net = c.args.links.now in
     let items = c.at-link-items.result.now in
     let long = length-map items ends_of in
-    let d = c.spot-d.ensures.distance in
-    rw d at (offers_all (graph_of net) (weight_of net) (at c.args.tables.now.distance) c.args.v c.spot-d.result.distance c.args.radius (map ends_of items)
+    let d : at c.args.distance.now c.index.result ≡ at c.args.distance.now c.args.v = ap (at c.args.distance.now) c.index.ensures in
+    rw d at (offers_all (graph_of net) (weight_of net) (at c.args.distance.now) c.args.v (at c.args.distance.now c.index.result) c.args.radius (map ends_of items)
     c.at-link-items.ensures.row.row c.args.fringe.now.entries c.loop-link.fringe.entries c.loop-link.link-index (omega arith) c.loop-link.invariant.offers)

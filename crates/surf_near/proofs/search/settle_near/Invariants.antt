@@ -14,4 +14,4 @@ invariant-loop-v l = record {
 }
 
 abbrev pub decreases-loop-v : goal.decreases-loop-v
-decreases-loop-v l = count_below l.links.mesh.vertices (λ u. eqb (at l.tables.distance u) never)
+decreases-loop-v l = count_below l.links.mesh.vertices (λ u. eqb (at l.tables.distance.items u) never)
