@@ -35,8 +35,9 @@ pub fn opened_at(
     ensures faces { IfOk result (λ opened. length opened.faces ≡ face_count mesh.now) }
 {
     let held = held_at(alloc, mesh, &lengths, base)?;
-    drop(lengths);
     let opened = cut_outside(alloc, mesh, held, trims(kind))?;
+    // (in their place a table of the opening would part what is free for the text)
+    drop(lengths);
     Ok(opened)
 }
 
