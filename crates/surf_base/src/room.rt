@@ -49,7 +49,7 @@ pub fn make_room(bytes: &mut Vec<u8>, more: usize) -> Result<(), AllocError>
 }
 
 // From how many bytes on a table is large.
-const LARGE: usize = 1 << 22;
+const LARGE: usize = 1 << 24;
 
 /// Lets tables that are made from now on take the places of earlier ones, where the first is as
 /// large as this. It takes room for so many bytes and lets it go at once: nothing is written there,
