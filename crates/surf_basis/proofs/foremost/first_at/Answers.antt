@@ -4,11 +4,12 @@ use Rattle.surf_surfaces.specs.Mesh.{Mesh}
 use Rattle.surf_surfaces.specs.Surface.{ends}
 use Rattle.surf_near.specs.declared.links.Link.{Link}
 use Rattle.surf_near.specs.Links.{AreLinksAt, link_in}
+use Rattle.surf_near.proofs.Linking.{item_there}
 use Rattle.surf_basis.specs.Found.{reached_at, is_wanted, IsLinkOf}
 use Rattle.surf_basis.proofs.Passed.{link_of_row}
 use Rattle.surf_basis.proofs.Firsts.{first_begun, first_same, first_more, first_settled}
-use Rattle.surf_basis.proofs.finding.first_at.Goals as goal
-use Rattle.surf_basis.proofs.finding.first_at.Goals.{then-may_matter, else-may_matter}
+use Rattle.surf_basis.proofs.foremost.first_at.Goals as goal
+use Rattle.surf_basis.proofs.foremost.first_at.Goals.{then-may_matter, else-may_matter}
 
 pub loop-link-init : goal.loop-link-init
 loop-link-init c = λ old told is. first_begun (reached_at c.args.reached.now) c.args.limit.now c.args.v c.at-link-items.result.now old c.args.before told is
@@ -21,13 +22,10 @@ may_matter-requires-clause-ends c =
     let row : AreLinksAt mesh net.lengths c.args.v items = subst (λ (m : Mesh). AreLinksAt m net.lengths c.args.v items) c.requires.links c.at-link-items.ensures.row in
     link_of_row mesh net.lengths c.args.v items c.law_of_surface.ensures.surface.is_mesh row c.loop-link.link-index (omega (arith, c.loop-link-test.true)) c.link-item.result c.link-item.is
 
-pub first_with-first-requires-clause-edge : goal.first_with-first-requires-clause-edge
-first_with-first-requires-clause-edge c =
+pub first_with-first-requires-clause-link : goal.first_with-first-requires-clause-link
+first_with-first-requires-clause-link c =
     let net = c.args.reached.now.links.now in
-    let mesh = c.args.reached.now.surface.now.mesh.now in
-    let items = c.at-link-items.result.now in
-    let row : AreLinksAt mesh net.lengths c.args.v items = subst (λ (m : Mesh). AreLinksAt m net.lengths c.args.v items) c.requires.links c.at-link-items.ensures.row in
-    (link_of_row mesh net.lengths c.args.v items c.law_of_surface.ensures.surface.is_mesh row c.loop-link.link-index (omega (arith, c.loop-link-test.true)) c.link-item.result c.link-item.is).edge_in
+    item_there net c.args.v c.at-link-items.result.now c.at-link-items.ensures.links c.loop-link.link-index (omega (arith, c.loop-link-test.true)) c.link-item.result c.link-item.is
 
 pub loop-link-preserved : goal.loop-link-preserved
 loop-link-preserved c = λ old told begun.

@@ -2,7 +2,7 @@ use Rattle.std.proofs.Common.{ℕ, List, ◌<◌, [], length, ap, refl, sym, sub
 use Rattle.std.proofs.lemmas.List.Elements.{All-nil}
 use Rattle.surf_basis.specs.Found.{reached_at, IsTold}
 use Rattle.surf_basis.proofs.Numbered.{item_settled}
-use Rattle.surf_basis.proofs.finding.first_told.Goals as goal
+use Rattle.surf_basis.proofs.foremost.first_told.Goals as goal
 
 pub loop-v-init : goal.loop-v-init
 loop-v-init c = record {

@@ -2,7 +2,7 @@ use Rattle.std.proofs.Common.{ℕ, List, ◌<◌, length, ap, sym, subst, arith}
 use Rattle.surf_basis.specs.Found.{reached_at}
 use Rattle.surf_basis.proofs.Numbered.{item_settled}
 use Rattle.surf_basis.proofs.Told.{lists_more}
-use Rattle.surf_basis.proofs.finding.list_loops.Goals as goal
+use Rattle.surf_basis.proofs.listing.list_loops.Goals as goal
 
 pub list_at-requires-clause-vertex : goal.list_at-requires-clause-vertex
 list_at-requires-clause-vertex c =

@@ -4,11 +4,12 @@ use Rattle.surf_surfaces.specs.Mesh.{Mesh}
 use Rattle.surf_surfaces.specs.Surface.{ends}
 use Rattle.surf_near.specs.declared.links.Link.{Link}
 use Rattle.surf_near.specs.Links.{AreLinksAt, link_in}
+use Rattle.surf_near.proofs.Linking.{item_there}
 use Rattle.surf_basis.specs.Found.{reached_at, is_wanted, IsLinkOf}
 use Rattle.surf_basis.proofs.Passed.{link_of_row}
 use Rattle.surf_basis.proofs.Told.{told_off, listed_first, listed_push, listed_same, listed_all}
-use Rattle.surf_basis.proofs.finding.list_at.Goals as goal
-use Rattle.surf_basis.proofs.finding.list_at.Goals.{then-may_matter+in-Some+in_ok-push, then-may_matter+in_default, else-may_matter}
+use Rattle.surf_basis.proofs.listing.list_at.Goals as goal
+use Rattle.surf_basis.proofs.listing.list_at.Goals.{then-may_matter+in-Some+in_ok-push, then-may_matter+in_default, else-may_matter}
 
 pub loop-link-init : goal.loop-link-init
 loop-link-init c = listed_first (reached_at c.args.reached.now) c.args.limit.now c.args.v c.at-link-items.result.now c.args.found.now.items c.requires.each
@@ -21,13 +22,10 @@ may_matter-requires-clause-ends c =
     let row : AreLinksAt mesh net.lengths c.args.v items = subst (λ (m : Mesh). AreLinksAt m net.lengths c.args.v items) c.requires.links c.at-link-items.ensures.row in
     link_of_row mesh net.lengths c.args.v items c.law_of_surface.ensures.surface.is_mesh row c.loop-link.link-index (omega (arith, c.loop-link-test.true)) c.link-item.result c.link-item.is
 
-pub wanted_loop-requires-clause-edge : goal.wanted_loop-requires-clause-edge
-wanted_loop-requires-clause-edge c =
+pub wanted_loop-requires-clause-link : goal.wanted_loop-requires-clause-link
+wanted_loop-requires-clause-link c =
     let net = c.args.reached.now.links.now in
-    let mesh = c.args.reached.now.surface.now.mesh.now in
-    let items = c.at-link-items.result.now in
-    let row : AreLinksAt mesh net.lengths c.args.v items = subst (λ (m : Mesh). AreLinksAt m net.lengths c.args.v items) c.requires.links c.at-link-items.ensures.row in
-    (link_of_row mesh net.lengths c.args.v items c.law_of_surface.ensures.surface.is_mesh row c.loop-link.link-index (omega (arith, c.loop-link-test.true)) c.link-item.result c.link-item.is).edge_in
+    item_there net c.args.v c.at-link-items.result.now c.at-link-items.ensures.links c.loop-link.link-index (omega (arith, c.loop-link-test.true)) c.link-item.result c.link-item.is
 
 pub loop-link-preserved : goal.loop-link-preserved
 loop-link-preserved c =

@@ -1,6 +1,6 @@
 use Rattle.std.proofs.Common.{All, ℕ, ◌<◌, slice_index}
 use Rattle.surf_basis.specs.Found.{reached_at, IsTold, ListsAt}
-use Rattle.surf_basis.proofs.finding.list_loops.Given as goal
+use Rattle.surf_basis.proofs.listing.list_loops.Given as goal
 
 abbrev pub invariant-loop-v : goal.invariant-loop-v
 invariant-loop-v l = record {
