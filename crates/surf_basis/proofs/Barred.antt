@@ -5,13 +5,13 @@ use Rattle.std.proofs.lemmas.Bool.{cases_eq, cases_Bool, false≢true, or_from}
 use Rattle.surf_surfaces.specs.Mesh.{Mesh}
 use Rattle.surf_surfaces.specs.Surface.{edge_count, ends, touches}
 use Rattle.surf_firsts.specs.Near.{AgreeOff}
-use Rattle.surf_near.specs.Links.{KeepsOff}
+use Rattle.surf_near.specs.Links.{KeepsOff, IsShutAt}
 use Rattle.surf_surfaces.specs.Walk.{ArePositive}
 use Rattle.surf_cotree.specs.Tables.{CotreeTables}
 use Rattle.surf_basis.specs.Candidates.{Chosen}
 use Rattle.surf_basis.specs.Found.{SurfaceTables}
-use Rattle.surf_basis.specs.Passing.{is_marked, AreKeptIn, StayKept, IsAhead}
-use Rattle.surf_basis.proofs.Marked.{set_stays, set_there}
+use Rattle.surf_basis.specs.Passing.{is_marked, AreKeptIn, AreShut, StayKept, IsAhead}
+use Rattle.surf_basis.proofs.PassedOver.{marked_more}
 
 -- what isn't in a set isn't in a lesser one
 off_less : (s t : ℕ → Bool) → ((v : ℕ) → IsTrue (s v) → IsTrue (t v)) → (v : ℕ) → t v ≡ false → s v ≡ false

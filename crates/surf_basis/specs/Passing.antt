@@ -12,6 +12,7 @@ use Rattle.surf_surfaces.specs.FewBases.{with_vertex}
 use Rattle.surf_surfaces.specs.ShortestTree.{IsShortestTree}
 use Rattle.surf_cotree.specs.Tables.{CotreeTables}
 use Rattle.surf_firsts.specs.Near.{AgreeOff}
+use Rattle.surf_near.specs.Links.{IsShutAt}
 use Rattle.surf_basis.specs.declared.candidate.Candidate.{Candidate}
 use Rattle.surf_basis.specs.declared.candidate.Signed.{Signed}
 use Rattle.surf_basis.specs.Candidates.{Chosen, signatures}
@@ -29,6 +30,10 @@ pub record AreMarkedNear (mesh : Mesh) (lengths : List ℕ) (base far : ℕ) (ol
       IsTrue (is_marked old v) ⊎ (tree.rank v ≤ far)
   pub all : (tree : Tree) → IsShortestTree mesh lengths base tree → (v : ℕ) → v < mesh.vertices → tree.rank v ≤ far →
       IsTrue (is_marked new v)
+
+-- the ways through vertices that are marked anew are barred
+abbrev pub AreShut : Mesh → List ℕ → List Bool → List Bool → Type 0
+AreShut mesh lengths old new = (v : ℕ) → IsTrue (is_marked new v) → IsTrue (is_marked old v) ⊎ IsShutAt mesh v lengths
 
 -- a loop is a sum of the first of those kept, and longer than the last of these by so much
 pub record IsLonger (kept : List Signed) (margin : ℕ) (s : Signed) : Type 0 where

@@ -3,10 +3,11 @@ ghost use Rattle.std.specs.Prelude.{ℕ, ◌≡◌, ◌<◌, true, IsTrue, slice
 ghost use Rattle.surf_surfaces.specs.Surface.{edge_count, IsSurface};
 ghost use Rattle.surf_surfaces.specs.Walk.{ArePositive};
 ghost use Rattle.surf_firsts.specs.Near.{AgreeOff};
+ghost use Rattle.surf_near.specs.Links.{IsShutAt};
 ghost use Rattle.surf_basis.specs.Based.{IsMeasured};
 ghost use Rattle.surf_basis.specs.Candidates.{IsCycleOf};
 ghost use Rattle.surf_basis.specs.Found.{surface_of, AreFound, IsFirstAt, plain_edges};
-ghost use Rattle.surf_basis.specs.Passing.{is_marked, AreMarkedNear};
+ghost use Rattle.surf_basis.specs.Passing.{is_marked, AreMarkedNear, AreShut};
 
 use crate::candidate::{Candidate, Signed};
 use crate::cycle::Cycle;
@@ -148,6 +149,7 @@ impl<'a> Finder<'a> {
         requires vertex { v < self.old.mesh.vertices }
         requires marks { length marks.old ≡ self.old.mesh.vertices }
         ensures marks { marks.new ≡ slice_set marks.old v true }
+        ensures shut { IsShutAt self.old.mesh v self.new.lengths }
         ensures off { AgreeOff self.old.mesh self.old.lengths self.new.lengths
             (is_marked marks.new) }
         ensures mesh { self.new.mesh ≡ self.old.mesh }
@@ -163,6 +165,7 @@ impl<'a> Finder<'a> {
         requires base { base < self.old.mesh.vertices }
         requires marks { length marks.old ≡ self.old.mesh.vertices }
         ensures near { AreMarkedNear self.old.mesh self.old.lengths base far marks.old marks.new }
+        ensures shut { AreShut self.old.mesh self.new.lengths marks.old marks.new }
         ensures off { AgreeOff self.old.mesh self.old.lengths self.new.lengths
             (is_marked marks.new) }
         ensures stay { (v : ℕ) → IsTrue (is_marked marks.old v) → IsTrue (is_marked marks.new v) }

@@ -6,7 +6,7 @@ ghost use Rattle.std.specs.List.Sorted.{IsNonDecreasingBy};
 ghost use Rattle.surf_surfaces.specs.Surface.{edge_count};
 ghost use Rattle.surf_firsts.specs.Near.{AgreeOff};
 ghost use Rattle.surf_basis.specs.Marks.{AreMarkedIn, HasMarkedEnd, HasSignedEnds, bits_backwards};
-ghost use Rattle.surf_basis.specs.Passing.{is_marked};
+ghost use Rattle.surf_basis.specs.Passing.{is_marked, AreShut};
 
 use std::alloc::Global;
 use surf_base::{EdgeId, NoMemory, VertexId};
@@ -37,6 +37,7 @@ pub(crate) fn mark_all(list: &[VertexId], links: &mut Links<'_>, marks: &mut [bo
     ensures all { All (λ v. IsTrue (is_marked marks.new v)) list.now }
     ensures stay { (v : ℕ) → IsTrue (is_marked marks.old v) → IsTrue (is_marked marks.new v) }
     ensures count { length marks.new ≡ length marks.old }
+    ensures shut { AreShut links.old.mesh links.new.lengths marks.old marks.new }
     ensures off { AgreeOff links.old.mesh links.old.lengths links.new.lengths (is_marked marks.new) }
     ensures mesh { links.new.mesh ≡ links.old.mesh }
 {
