@@ -1,5 +1,5 @@
 -- Rows that come of sets one by one: the first rows span what the first sets span.
-use Rattle.std.proofs.Common.{ℕ, zero, suc, ◌≡◌, ◌<◌, ◌↔◌, List, [], ◌∷◌, ◌++◌, length, get_or, take, bit_xor, refl, sym, ap, subst, arith, inl, inr, append_assoc}
+use Rattle.std.proofs.Common.{ℕ, zero, suc, ◌≡◌, ◌<◌, ◌≤◌, ◌↔◌, List, [], ◌∷◌, ◌++◌, length, get_or, take, bit_xor, refl, sym, ap, subst, arith, inl, inr, append_assoc}
 use Rattle.std.specs.Int.Bits.{xor_comm}
 use Rattle.std.proofs.lemmas.List.{append-nil}
 use Rattle.surf_z2.specs.Space.{numbers, Spanned, Independent}
@@ -45,6 +45,18 @@ front_spanned rows sets n x h =
       (λ k. spanned_from_in numbers (take n sets) x (trans_in numbers (take n sets) (take n rows) x a.1 (in_from_spanned numbers (take n rows) x k))),
       (λ k. spanned_from_in numbers (take n rows) x (trans_in numbers (take n rows) (take n sets) x a.0 (in_from_spanned numbers (take n sets) x k))),
     )
+
+front_more : (m n : ℕ) (xs : List ℕ) (v : ℕ) → m ≤ n → InSpan numbers (take m xs) v → InSpan numbers (take n xs) v
+front_more zero n xs v le h = subst (InSpan numbers (take n xs)) (sym h) (zero_in numbers (take n xs))
+front_more (suc m) zero xs v le h = absurd (omega arith)
+front_more (suc m) (suc n) [] v le h = h
+front_more (suc m) (suc n) (x ∷ xs) v le (inl h) = inl (front_more m n xs v (omega arith) h)
+front_more (suc m) (suc n) (x ∷ xs) v le (inr h) = inr (front_more m n xs (bit_xor x v) (omega arith) h)
+
+-- what the first rows span more of them do
+pub spanned_more : (m n : ℕ) (xs : List ℕ) (v : ℕ) → m ≤ n → Spanned numbers (take m xs) v → Spanned numbers (take n xs) v
+spanned_more m n xs v le h = spanned_from_in numbers (take n xs) v
+    (front_more m n xs v le (in_from_spanned numbers (take m xs) v h))
 
 pub rows_count : (before rows sets : List ℕ) → AreRowsAfter before rows sets → length rows ≡ length sets
 rows_count before [] [] h = refl

@@ -21,6 +21,7 @@ pub mod Told
 pub mod Passed
 pub mod Placed
 pub mod Marked
+pub mod Barred
 pub mod Sufficient
 pub mod Firsts
 pub mod PassedOver

@@ -1,4 +1,5 @@
--- Vertices near one that was searched, which are passed over where the loops found there are all longer than those kept.
+-- Vertices near one that was searched, which are passed over where the loops found there are all longer than those kept,
+-- though the search went by lengths that bar the ways through vertices for which what is kept is enough.
 use Rattle.std.proofs.Common.{◌≡◌, ◌≢◌, ℕ, zero, suc, ◌<◌, ◌≤◌, ◌+◌, ◌*◌, ◌-◌, ◌⊎◌, Bool, true, false, eqb, leb, le-leb, List, [], ◌∷◌, ◌++◌, cond, length, get_or, map, filter, take, All, Contains, Option, Some, None, sym, ap, ◌∙◌, subst, arith, inl, inr, set, get_or-set_other}
 use Rattle.std.specs.Prelude.{IsTrue, ◌||◌, ◌==◌, replicate, slice_index}
 use Rattle.std.specs.List.{AllByRecursion}
@@ -20,22 +21,25 @@ use Rattle.surf_surfaces.specs.Cells.{cells_of}
 use Rattle.surf_surfaces.specs.Class.{class_of, AreShortestTrees}
 use Rattle.surf_surfaces.specs.Loop.{loop_walk, loop_length}
 use Rattle.surf_surfaces.specs.Choice.{DependsOn}
-use Rattle.surf_surfaces.specs.FewBases.{comes_sooner, place_at, least_base, Found, walks_found, with_vertex}
+use Rattle.surf_surfaces.specs.FewBases.{Place, is_no_later, comes_sooner, place_at, least_base, Found, walks_found, with_vertex}
 use Rattle.surf_surfaces.proofs.BasisLaws.{contains-map}
+use Rattle.surf_surfaces.proofs.ChoiceExists.{choice_exists}
+use Rattle.surf_surfaces.proofs.FirstCycleLaws.{shortest_trees}
+use Rattle.surf_surfaces.proofs.OnTheWayLaws.{zero_distance}
 use Rattle.surf_surfaces.proofs.FirstFoundLaws.{loop_closed}
 use Rattle.surf_surfaces.proofs.FoundLaws.{found_closed}
 use Rattle.surf_surfaces.proofs.GreedyChoiceLaws.{depends_from_spanned}
 use Rattle.surf_surfaces.proofs.LeastLaws.{all_mapped}
 use Rattle.surf_near.specs.Near.{NearTables, IsNear}
-use Rattle.surf_firsts.specs.Near.{is_shorter_by, DependOnShorter, with_near}
+use Rattle.surf_firsts.specs.Near.{is_shorter_by, DependOnShorter, with_near, AgreeOff}
 use Rattle.surf_firsts.proofs.NearVertices.{near_vertices_need_no_more}
 use Rattle.surf_basis.specs.declared.candidate.Candidate.{Candidate}
 use Rattle.surf_basis.specs.declared.candidate.Signed.{Signed}
-use Rattle.surf_basis.specs.Candidates.{signatures}
-use Rattle.surf_basis.specs.Found.{IsFound, AreFoundBy, found_of, stands_before, is_among, AreKeptOf}
-use Rattle.surf_basis.specs.Passing.{is_marked, AreMarkedNear, IsLonger, IsNoSooner, is_before, spare_of}
-use Rattle.surf_basis.specs.Places.{place_of, is_sought}
-use Rattle.surf_basis.proofs.Searched.{depends_null, zero_null, loops_found}
+use Rattle.surf_basis.specs.Candidates.{Chosen, signatures}
+use Rattle.surf_basis.specs.Found.{SurfaceTables, IsFound, AreFound, AreFoundBy, found_of, stands_before, is_among, AreKeptOf}
+use Rattle.surf_basis.specs.Passing.{is_marked, AreMarkedNear, IsLonger, spare_of, StayKept}
+use Rattle.surf_basis.specs.Places.{place_of, is_sought, limit_of}
+use Rattle.surf_basis.proofs.Searched.{depends_null, zero_null, loops_found, kept_fewer}
 
 -- ---- places
 
@@ -47,23 +51,14 @@ no_longer a b c d h = grind (arith, nat_tests)
 shorter_sooner : (a b c d : ℕ) → c < a → comes_sooner (a, b) (c, d) ≡ true
 shorter_sooner a b c d h = grind (arith, nat_tests)
 
+-- what comes no later than what is sought is sought
+sought_before : (c : Candidate) (p q : Place) → is_no_later p q ≡ true → is_sought (Some c) q ≡ true →
+    is_sought (Some c) p ≡ true
+sought_before c p q before sought = grind (arith, nat_tests)
+
 -- one that stands before another is no longer
 stands_no_longer : (c d : Signed) → stands_before c d ≡ true → c.candidate.length ≤ d.candidate.length
 stands_no_longer c d h = grind (arith, nat_tests)
-
--- one more of those that come before a limit
-pub before_more : (limit : Option Candidate) (items : List Signed) (i : ℕ) (s : Signed) (old new : List Signed) →
-    old ≡ filter (is_before limit) (take i items) → i < length items → s ≡ get_or items i s →
-    new ≡ old ++ cond (is_before limit s) (s ∷ []) [] → new ≡ filter (is_before limit) (take (i + 1) items)
-before_more limit items i s old new was l same push =
-    push ∙ ap (λ (ys : List Signed). ys ++ cond (is_before limit s) (s ∷ []) []) was
-    ∙ sym (filter_more (is_before limit) items i s l
-    ∙ ap (λ x. filter (is_before limit) (take i items) ++ cond (is_before limit x) (x ∷ []) []) (sym same))
-
-pub all_before : (limit : Option Candidate) (P : Signed → Type 0) (found : List Signed) → All P found →
-    All P (filter (is_before limit) found)
-all_before limit P found all = All-from_recursion P (filter (is_before limit) found)
-    (all_filtered (is_before limit) P found (recursion_from_All P found all))
 
 -- ---- marks
 
@@ -103,26 +98,25 @@ among_marked marks (x ∷ xs) all v h = elim (or_cases (x == v) (is_among xs v) 
 -- what a search has settled is near its base
 pub marked_near : (mesh : Mesh) (lengths : List ℕ) (z far : ℕ) (t : NearTables) → IsNear mesh lengths z far t →
     (old new : List Bool) → ((v : ℕ) → IsTrue (is_marked new v) → IsTrue (is_marked old v) ⊎ Contains t.settled v) →
-    AreMarkedNear mesh lengths z far old new
-marked_near mesh lengths z far t near old new only tree short v on = elim (only v on) [
-  | inl was ↦ inl was
-  | inr (k, l, e) ↦ inr (subst (λ x. tree.rank x ≤ far) (get_or_default t.settled k 0 v l ∙ e)
-      ((near.near tree short).inside k l).1)
-]
+    All (λ v. IsTrue (is_marked new v)) t.settled → AreMarkedNear mesh lengths z far old new
+marked_near mesh lengths z far t near old new only all = record {
+  only = λ tree short v on. elim (only v on) [
+    | inl was ↦ inl was
+    | inr (k, l, e) ↦ inr (subst (λ x. tree.rank x ≤ far) (get_or_default t.settled k 0 v l ∙ e)
+        ((near.near tree short).inside k l).1)
+  ];
+  all = λ tree short v v_in le.
+      All-contains (λ u. IsTrue (is_marked new u)) t.settled v all ((near.near tree short).all v v_in le);
+}
 
-pub all_near : (mesh : Mesh) (lengths : List ℕ) (z far : ℕ) (tree : Tree) (trees : ℕ → Tree) (old new : List Bool) →
-    trees z ≡ tree → tree.rank z ≡ 0 → ((v : ℕ) → IsTrue (is_marked new v) → IsTrue (is_marked old v) ⊎ (tree.rank v ≤ far)) →
-    (i v : ℕ) → i ≡ z → IsTrue (is_marked (set new i true) v) → IsTrue (with_near trees z far (is_marked old) v)
-all_near mesh lengths z far tree trees old new same zero_is only i v at on = subst
-    (λ (t : Tree). IsTrue (is_marked old v || leb (t.rank v) far)) (sym same)
-    (elim (marked_more new i z v at on) [
-      | inl marked ↦ elim (only v marked) [
-        | inl was ↦ or_left (is_marked old v) (leb (tree.rank v) far) was
-        | inr near ↦ or_right (is_marked old v) (leb (tree.rank v) far) (le-leb (tree.rank v) far near)
-      ]
-      | inr is ↦ or_right (is_marked old v) (leb (tree.rank v) far)
-          (le-leb (tree.rank v) far (let n : tree.rank v ≡ 0 = ap tree.rank is ∙ zero_is in omega arith))
-    ])
+-- what is marked anew is near
+pub all_near : (mesh : Mesh) (lengths : List ℕ) (z far : ℕ) (tree : Tree) (old new : List Bool) →
+    ((v : ℕ) → IsTrue (is_marked new v) → IsTrue (is_marked old v) ⊎ (tree.rank v ≤ far)) →
+    (v : ℕ) → IsTrue (is_marked new v) → IsTrue (is_marked old v || leb (tree.rank v) far)
+all_near mesh lengths z far tree old new only v on = elim (only v on) [
+  | inl was ↦ or_left (is_marked old v) (leb (tree.rank v) far) was
+  | inr near ↦ or_right (is_marked old v) (leb (tree.rank v) far) (le-leb (tree.rank v) far near)
+]
 
 -- ---- sums of those kept
 
@@ -134,21 +128,6 @@ longer_less kept m n s le h = record {
   sum = h.sum;
   longer = λ j same. (let l = h.longer j same in omega (arith, l, le));
 }
-
--- the first of some loops and one more
-pub longer_more : (kept : List Signed) (m n : ℕ) (items : List Signed) (i : ℕ) (s : Signed) → i < length items →
-    s ≡ get_or items i s → n ≤ m → All (IsLonger kept m) (take i items) → IsLonger kept n s →
-    All (IsLonger kept n) (take (i + 1) items)
-longer_more kept m n items i s l same le all one =
-    subst (All (IsLonger kept n)) (sym (take_more items i s l ∙ ap (λ x. take i items ++ x ∷ []) (sym same)))
-    (All-append (IsLonger kept n) (take i items) (s ∷ [])
-    (λ k d k_in. longer_less kept m n (get_or (take i items) k d) le (all k d k_in))
-    (All-from_recursion (IsLonger kept n) (s ∷ []) (one, tt)))
-
-all_signed : (xs : List ℕ) (ks : List Signed) → AllByRecursion (λ k. InSpan numbers xs k.signature) ks →
-    AllInSpan numbers xs (signatures ks)
-all_signed xs [] h = tt
-all_signed xs (k ∷ ks) h = (h.0, all_signed xs ks h.1)
 
 -- in order of place, those up to a place are no longer than what stands there
 no_longer_up_to : (kept : List Signed) (i j : ℕ) (c : Signed) → IsInOrder stands_before kept → i ≤ j → j < length kept →
@@ -169,8 +148,34 @@ shorter_first kept margin s c i order h l =
     subst (λ (k : Signed). k.candidate.length + margin ≤ s.candidate.length) (get_or_default kept i s c i_in)
     (omega (arith, rise, last))
 
-module _ (mesh : Mesh) (lengths : List ℕ) (trees : ℕ → Tree) (surface : IsSurface mesh)
-    (positive : ArePositive mesh lengths) (shortest : AreShortestTrees mesh lengths trees) (d : Split)
+-- by no more than it is longer than the last of those of which it must be a sum
+pub longer_most : (kept : List Signed) (n count : ℕ) (s : Signed) → IsInOrder stands_before kept → IsLonger kept n s →
+    ((m : ℕ) → m < suc count → Spanned numbers (signatures (take m kept)) s.signature → ⊥) →
+    (get_or kept count s).candidate.length + n ≤ s.candidate.length
+longer_most kept n count s order h least = elim (cases_lt h.count (suc count)) [
+  | inl less ↦ absurd (least h.count less h.sum)
+  | inr more ↦ shorter_first kept n s s count order h (omega arith)
+]
+
+-- the first of some loops and one more
+pub longer_more : (kept : List Signed) (m n : ℕ) (items : List Signed) (i : ℕ) (s : Signed) → i < length items →
+    s ≡ get_or items i s → n ≤ m → All (IsLonger kept m) (take i items) → IsLonger kept n s →
+    All (IsLonger kept n) (take (i + 1) items)
+longer_more kept m n items i s l same le all one =
+    subst (All (IsLonger kept n)) (sym (take_more items i s l ∙ ap (λ x. take i items ++ x ∷ []) (sym same)))
+    (All-append (IsLonger kept n) (take i items) (s ∷ [])
+    (λ k d k_in. longer_less kept m n (get_or (take i items) k d) le (all k d k_in))
+    (All-from_recursion (IsLonger kept n) (s ∷ []) (one, tt)))
+
+all_signed : (xs : List ℕ) (ks : List Signed) → AllByRecursion (λ k. InSpan numbers xs k.signature) ks →
+    AllInSpan numbers xs (signatures ks)
+all_signed xs [] h = tt
+all_signed xs (k ∷ ks) h = (h.0, all_signed xs ks h.1)
+
+-- loops are kept by the lengths, and found at one vertex by others
+module _ (mesh : Mesh) (lengths other : List ℕ) (trees others : ℕ → Tree) (surface : IsSurface mesh)
+    (positive : ArePositive mesh lengths) (positive_too : ArePositive mesh other)
+    (shortest : AreShortestTrees mesh lengths trees) (shortest_too : AreShortestTrees mesh other others) (d : Split)
     (split : IsSplit (cells_of mesh) d) where
   abbrev Right : Signed → Type 0
   Right = IsFound mesh lengths trees d
@@ -183,33 +188,33 @@ module _ (mesh : Mesh) (lengths : List ℕ) (trees : ℕ → Tree) (surface : Is
 
   -- a loop that is longer than those kept of which it is a sum depends on those that are shorter by as much
   longer_depends : (kept : List Signed) (margin z e : ℕ) (s : Signed) → z < mesh.vertices → e < edge_count mesh →
-      All Right kept → IsInOrder stands_before kept → s.candidate.length ≡ loop_length mesh lengths (trees z) e →
-      s.signature ≡ class_of mesh d (loop_walk mesh (trees z) e) → IsLonger kept margin s →
-      DependsOn mesh (walks_found (filter (is_shorter_by margin (loop_length mesh lengths (trees z) e)) (founds kept)))
-      (loop_walk mesh (trees z) e)
+      All Right kept → IsInOrder stands_before kept → s.candidate.length ≡ loop_length mesh other (others z) e →
+      s.signature ≡ class_of mesh d (loop_walk mesh (others z) e) → IsLonger kept margin s →
+      DependsOn mesh (walks_found (filter (is_shorter_by margin (loop_length mesh other (others z) e)) (founds kept)))
+      (loop_walk mesh (others z) e)
   longer_depends kept margin z e s z_in e_in right order size own h =
-      let p = is_shorter_by margin (loop_length mesh lengths (trees z) e) in
+      let p = is_shorter_by margin (loop_length mesh other (others z) e) in
       let ks = founds kept in
       let xs = map class (filter p ks) in
       let front = take h.count kept in
-      let v = class_of mesh d (loop_walk mesh (trees z) e) in
+      let v = class_of mesh d (loop_walk mesh (others z) e) in
       let one : All (λ k. InSpan numbers xs k.signature) front = λ i c l.
       (let n = length-take-le h.count kept h.count_in in
       let count_in = h.count_in in
       let first : i < h.count = omega (arith, l, n) in
       let i_in : i < length kept = omega (arith, first, count_in) in
       let k = get_or kept i c in
-      let fits : k.candidate.length + margin ≤ loop_length mesh lengths (trees z) e =
+      let fits : k.candidate.length + margin ≤ loop_length mesh other (others z) e =
       subst (λ n. k.candidate.length + margin ≤ n) size (shorter_first kept margin s c i order h first) in
       subst (λ (x : Signed). InSpan numbers xs x.signature) (sym (get_or-take h.count kept i c first))
       (subst (InSpan numbers xs) (sym (right i c i_in).signature)
       (member_in numbers class p ks (found_of mesh trees k) (contains-map (found_of mesh trees) kept k (Contains-get_or kept i c i_in))
-      (le-leb (k.candidate.length + margin) (loop_length mesh lengths (trees z) e) fits)))) in
-      depends_from_spanned mesh d surface split (walks_found (filter p ks)) (loop_walk mesh (trees z) e)
+      (le-leb (k.candidate.length + margin) (loop_length mesh other (others z) e) fits)))) in
+      depends_from_spanned mesh d surface split (walks_found (filter p ks)) (loop_walk mesh (others z) e)
       (all_mapped (IsClosed mesh) (λ k. k.walk) (filter p ks)
       (all_filtered p (λ k. IsClosed mesh k.walk) ks (found_closed mesh lengths trees surface shortest ks
       (loops_found mesh lengths trees surface positive shortest d split kept right))))
-      (loop_closed mesh lengths trees surface shortest z e z_in e_in)
+      (loop_closed mesh other others surface shortest_too z e z_in e_in)
       (subst (λ vs. Spanned numbers vs v) (sym (map-map (class_of mesh d) (λ k. k.walk) (filter p ks)))
       (spanned_from_in numbers xs v (trans_in numbers xs (signatures front) v
       (all_signed xs front (recursion_from_All (λ k. InSpan numbers xs k.signature) front one))
@@ -217,23 +222,23 @@ module _ (mesh : Mesh) (lengths : List ℕ) (trees : ℕ → Tree) (surface : Is
 
   -- so it is of all loops at a vertex that are at most so long
   all_depend : (kept : List Signed) (margin z most : ℕ) (wide : Option Candidate) (found : List Signed) →
-      z < mesh.vertices → All Right kept → IsInOrder stands_before kept → AreFoundBy mesh lengths trees d wide z found →
-      ((e : ℕ) → loop_length mesh lengths (trees z) e ≤ most → IsTrue (is_sought wide (place_at mesh lengths trees z e))) →
-      All (IsLonger kept margin) found → DependOnShorter mesh lengths trees z most margin (founds kept)
+      z < mesh.vertices → All Right kept → IsInOrder stands_before kept → AreFoundBy mesh other others d wide z found →
+      ((e : ℕ) → loop_length mesh other (others z) e ≤ most → IsTrue (is_sought wide (place_at mesh other others z e))) →
+      All (IsLonger kept margin) found → DependOnShorter mesh other others z most margin (founds kept)
   all_depend kept margin z most wide found z_in right order h sought long e e_in le =
-      let walk = loop_walk mesh (trees z) e in
+      let walk = loop_walk mesh (others z) e in
       elim (cases_eq (class_of mesh d walk) 0) [
         | inl zero_is ↦ depends_null mesh _ walk
-            (zero_null mesh lengths trees surface positive shortest d split z e z_in e_in zero_is)
+            (zero_null mesh other others surface positive_too shortest_too d split z e z_in e_in zero_is)
         | inr some ↦
             let (c, has, from_is, edge_is) = h.all e e_in some (sought e le) in
-            let r : Right c = All-contains Right found c h.each has in
-            let size : c.candidate.length ≡ loop_length mesh lengths (trees z) e =
-            r.size ∙ ap (λ y. loop_length mesh lengths (trees y) c.candidate.edge) from_is
-            ∙ ap (loop_length mesh lengths (trees z)) edge_is in
+            let r : IsFound mesh other others d c = All-contains (IsFound mesh other others d) found c h.each has in
+            let size : c.candidate.length ≡ loop_length mesh other (others z) e =
+            r.size ∙ ap (λ y. loop_length mesh other (others y) c.candidate.edge) from_is
+            ∙ ap (loop_length mesh other (others z)) edge_is in
             let own : c.signature ≡ class_of mesh d walk =
-            r.signature ∙ ap (λ y. class_of mesh d (loop_walk mesh (trees y) c.candidate.edge)) from_is
-            ∙ ap (λ f. class_of mesh d (loop_walk mesh (trees z) f)) edge_is in
+            r.signature ∙ ap (λ y. class_of mesh d (loop_walk mesh (others y) c.candidate.edge)) from_is
+            ∙ ap (λ f. class_of mesh d (loop_walk mesh (others z) f)) edge_is in
             longer_depends kept margin z e c z_in e_in right order size own
             (All-contains (IsLonger kept margin) found c long has)
       ]
@@ -241,17 +246,20 @@ module _ (mesh : Mesh) (lengths : List ℕ) (trees : ℕ → Tree) (surface : Is
   abbrev Kept : Option Candidate → (ℕ → Bool) → List Signed → Type 0
   Kept limit set kept = AreKeptOf mesh lengths trees d limit set kept
 
-  -- the vertices near one at which all loops are longer need no search
+  -- where the other lengths agree off a set, the vertices near one at which all loops are longer need no search
   pub kept_near : (limit wide : Option Candidate) (set : ℕ → Bool) (z far margin : ℕ) (kept found : List Signed) →
-      z < mesh.vertices → Kept limit set kept → AreFoundBy mesh lengths trees d wide z found → 2 * far < margin →
-      margin ≤ spare_of limit wide → All (IsLonger kept margin) found → Kept limit (with_near trees z far set) kept
-  kept_near None wide set z far margin kept found z_in k h less within long = absurd (omega (arith, less, within))
-  kept_near (Some c) None set z far margin kept found z_in k h less within long = absurd (omega (arith, less, within))
-  kept_near (Some c) (Some w) set z far margin kept found z_in k h less within long = record {
-    enough = near_vertices_need_no_more mesh lengths trees (is_sought (Some c)) set z far c.length (founds kept) surface positive
-        shortest z_in k.enough (λ place sought. no_longer c.length c.base place.0 place.1 sought)
+      z < mesh.vertices → AgreeOff mesh lengths other set → Kept limit set kept → AreFoundBy mesh other others d wide z found →
+      2 * far < margin → margin ≤ spare_of limit wide → All (IsLonger kept margin) found →
+      Kept limit (with_near others z far set) kept
+  kept_near None wide set z far margin kept found z_in agree k h less within long = absurd (omega (arith, less, within))
+  kept_near (Some c) None set z far margin kept found z_in agree k h less within long = absurd (omega (arith, less, within))
+  kept_near (Some c) (Some w) set z far margin kept found z_in agree k h less within long = record {
+    enough = near_vertices_need_no_more mesh lengths other trees others (is_sought (Some c)) set z far c.length (founds kept)
+        surface positive positive_too shortest shortest_too agree z_in k.enough
+        (λ p q before sought. sought_before c p q before sought)
+        (λ place sought. no_longer c.length c.base place.0 place.1 sought)
         (all_depend kept (suc (2 * far)) z (c.length + 2 * far) (Some w) found z_in k.each k.order h
-        (λ e le. shorter_sooner w.length w.base (loop_length mesh lengths (trees z) e) (least_base mesh trees z e)
+        (λ e le. shorter_sooner w.length w.base (loop_length mesh other (others z) e) (least_base mesh others z e)
         (omega (arith, le, less, within)))
         (λ i s l. (let one : IsLonger kept margin (get_or found i s) = long i s l in record {
           count = one.count;
@@ -264,37 +272,31 @@ module _ (mesh : Mesh) (lengths : List ℕ) (trees : ℕ → Tree) (surface : Is
     independent = k.independent;
   }
 
-  -- those of the loops that were found that come before a limit
-  pub found_before : (limit wide : Option Candidate) (z : ℕ) (found : List Signed) → IsNoSooner limit wide →
-      AreFoundBy mesh lengths trees d wide z found → AreFoundBy mesh lengths trees d limit z (filter (is_before limit) found)
-  found_before limit wide z found wider h = record {
-    each = all_before limit Right found h.each;
-    here = all_before limit (λ c. c.from ≡ z) found h.here;
-    sooner = All-from_recursion (λ c. is_before limit c ≡ true) (filter (is_before limit) found) (passes found);
-    some = all_before limit (λ c. c.signature ≢ 0) found h.some;
-    all = λ e e_in nonnull sought.
-        (let (c, has, from_is, edge_is) = h.all e e_in nonnull (wider (place_at mesh lengths trees z e) sought) in
-        let r : Right c = All-contains Right found c h.each has in
-        let place : place_of c.candidate ≡ place_at mesh lengths trees z e =
-        ap (λ n. (n, c.candidate.base)) r.size ∙ ap (λ b. (loop_length mesh lengths (trees c.from) c.candidate.edge, b)) r.base
-        ∙ ap (λ y. place_at mesh lengths trees y c.candidate.edge) from_is ∙ ap (place_at mesh lengths trees z) edge_is in
-        (c, filtered found c has (ap (is_sought limit) place ∙ sought), from_is, edge_is));
-  }
-    where
-      passes : (cs : List Signed) → AllByRecursion (λ c. is_before limit c ≡ true) (filter (is_before limit) cs)
-      passes [] = tt
-      passes (c ∷ cs) = elim (cases_Bool (is_before limit c)) [
-        | inl on ↦ rw on (on, passes cs)
-        | inr off ↦ rw off (passes cs)
-      ]
+-- what is kept is enough for what a search by other lengths has marked
+pub scouted : (f : SurfaceTables) (wide : Option Candidate) (old new : List Bool) (z far margin : ℕ) (choice : Chosen)
+    (found : List Signed) → IsSurface f.mesh → ArePositive f.mesh f.lengths → z < f.mesh.vertices →
+    AreFound f.mesh f.lengths f.signs wide z found → AreMarkedNear f.mesh f.lengths z far old new → 2 * far < margin →
+    margin ≤ spare_of (limit_of choice) wide → All (IsLonger choice.kept margin) found → StayKept f old new choice
+scouted f wide old new z far margin choice found surface positive_too z_in there marked less within long lengths positive agree
+    kept trees chosen d split are =
+    let (others, chosen_too) = choice_exists f.mesh f.lengths surface positive_too in
+    let by : ℕ → Tree = λ x. (trees x).tree in
+    let too : ℕ → Tree = λ x. (others x).tree in
+    let shortest = shortest_trees f.mesh lengths surface positive trees chosen in
+    let shortest_too = shortest_trees f.mesh f.lengths surface positive_too others chosen_too in
+    kept_fewer f.mesh lengths by surface positive shortest d split (limit_of choice) (limit_of choice)
+    (with_near too z far (is_marked old)) (is_marked new) choice.kept
+    (kept_near f.mesh lengths f.lengths by too surface positive positive_too shortest shortest_too d split (limit_of choice) wide
+    (is_marked old) z far margin choice.kept found z_in agree (kept trees chosen d split are) (there others chosen_too d are)
+    less within long) (λ p sought. sought)
+    (all_near f.mesh f.lengths z far (too z) old new (marked.only (too z) (chosen_too z z_in).shortest))
 
-      filtered : (cs : List Signed) (c : Signed) → Contains cs c → is_before limit c ≡ true →
-          Contains (filter (is_before limit) cs) c
-      filtered [] c (k, l, e) on = absurd (omega arith)
-      filtered (x ∷ xs) c (zero, l, e) on = rw (ap (is_before limit) e ∙ on) (0, omega arith, e)
-      filtered (x ∷ xs) c (suc k, l, e) on =
-          let (j, n, is) = filtered xs c (k, omega arith, e) on in
-          elim (cases_Bool (is_before limit x)) [
-            | inl keeps ↦ rw keeps (suc j, omega (arith, n), is)
-            | inr drops ↦ rw drops (j, n, is)
-          ]
+-- the base of such a search is marked
+pub base_marked : (f : SurfaceTables) (old new : List Bool) (z far : ℕ) → IsSurface f.mesh → ArePositive f.mesh f.lengths →
+    z < f.mesh.vertices → AreMarkedNear f.mesh f.lengths z far old new → IsTrue (is_marked new z)
+base_marked f old new z far surface positive z_in marked =
+    let (others, chosen) = choice_exists f.mesh f.lengths surface positive in
+    let too : ℕ → Tree = λ x. (others x).tree in
+    let none = zero_distance f.mesh f.lengths too surface positive (shortest_trees f.mesh f.lengths surface positive others chosen)
+    z z_in in
+    marked.all (too z) (chosen z z_in).shortest z z_in (omega (arith, none))

@@ -1,8 +1,8 @@
 -- What the tables of a search tell of the loops at its base.
-use Rattle.std.proofs.Common.{◌≡◌, ◌≢◌, ℕ, zero, suc, ◌<◌, ◌≤◌, ◌+◌, ◌*◌, ◌/◌, ◌^◌, ◌++◌, ◌∷◌, [], true, false, not, List, length, get_or, slice_index, bit_xor, min, All, Contains, Option, Some, None, refl, sym, ap, ◌∙◌, subst, arith, inl, inr}
+use Rattle.std.proofs.Common.{◌≡◌, ◌≢◌, ℕ, zero, suc, ◌<◌, ◌≤◌, ◌+◌, ◌*◌, ◌/◌, ◌^◌, ◌++◌, ◌∷◌, [], true, false, not, ltb, List, length, get_or, slice_index, bit_xor, min, All, Contains, Option, Some, None, refl, sym, ap, ◌∙◌, subst, arith, inl, inr}
 use Rattle.std.specs.Prelude.{IsTrue, ◌==◌}
 use Rattle.std.specs.Int.Bits.{xor_assoc, xor_comm}
-use Rattle.std.proofs.lemmas.Bool.{cases_Bool, cases_eq, cases_lt, and_parts, and_from, leb-true, le-leb}
+use Rattle.std.proofs.lemmas.Bool.{cases_Bool, cases_eq, cases_lt, and_parts, and_from, leb-true, le-leb, ltb-true}
 use Rattle.std.proofs.lemmas.Bool.Decides.{nat_tests}
 use Rattle.std.proofs.lemmas.List.{get_or_default, get_or_read}
 use Rattle.std.proofs.lemmas.List.Elements.{All-push, Contains-append_left, Contains-append_right}
@@ -23,11 +23,12 @@ use Rattle.surf_surfaces.proofs.ShortestTreeLaws.{shortest_is_tree, shortest_is_
 use Rattle.surf_signatures.specs.Ways.{way_class}
 use Rattle.surf_signatures.proofs.WayLaws.{loop_class}
 use Rattle.surf_lengths.specs.Lengths.{longest, AreLengths}
+use Rattle.surf_lengths.proofs.Positive.{lengths_positive}
 use Rattle.surf_tree.proofs.LengthLaws.{short_lengths}
 use Rattle.surf_loops.proofs.Turned.{ends_in}
 use Rattle.surf_cotree.specs.Tables.{CotreeTables}
 use Rattle.surf_near.specs.declared.links.Link.{Link}
-use Rattle.surf_near.specs.Links.{AreLinksAt, link_in}
+use Rattle.surf_near.specs.Links.{AreLinks, AreLinksAt, link_in}
 use Rattle.surf_near.specs.Near.{NearTables, IsNear, IsNearTo, is_near}
 use Rattle.surf_near.proofs.Linking.{link_all}
 use Rattle.surf_basis.specs.declared.candidate.Candidate.{Candidate}
@@ -35,7 +36,7 @@ use Rattle.surf_basis.specs.declared.candidate.Signed.{Signed}
 use Rattle.surf_basis.specs.Places.{place_of, is_sought, radius_of}
 use Rattle.surf_basis.specs.Signing.{AreSignatures}
 use Rattle.surf_basis.specs.Ways.{WayTables, class_at, AreWays}
-use Rattle.surf_basis.specs.Found.{Search, IsReady, is_between, told_loop, is_wanted, wanted_loop, IsTold, ListsAt, AreTold, IsFound, AreFoundBy}
+use Rattle.surf_basis.specs.Found.{Search, IsReady, IsLinkOf, IsRise, may_matter, is_between, told_loop, is_wanted, wanted_loop, IsTold, ListsAt, AreTold, IsFound, AreFoundBy}
 use Rattle.surf_basis.proofs.Climbed.{at_edge}
 
 -- ---- the ends of an edge in the tables
@@ -57,13 +58,30 @@ ready_end x u ready u_in near = record {
   fits = ready.fits u u_in near;
 }
 
-pub ready_ends : (x : Search) (e : ℕ) (p : ℕ × ℕ) → IsSurface x.mesh → IsReady x → e < edge_count x.mesh →
-    is_between x e ≡ true → p ≡ ends x.mesh e → IsEnd x p.0 × IsEnd x p.1
-ready_ends x e p surface ready e_in between is =
-    let inside = ends_in x.mesh surface e e_in in
-    let (near_u, near_v) = and_parts (is_near x.near (ends x.mesh e).0) (is_near x.near (ends x.mesh e).1) between in
-    subst (λ (q : ℕ × ℕ). IsEnd x q.0 × IsEnd x q.1) (sym is)
-    (ready_end x (ends x.mesh e).0 ready inside.0 near_u, ready_end x (ends x.mesh e).1 ready inside.1 near_v)
+-- both ends of a link to a greater vertex
+pub rise_ends : (x : Search) (v : ℕ) (link : Link) → IsReady x → IsRise x.mesh v link → is_between x link.edge ≡ true →
+    IsEnd x v × IsEnd x link.to
+rise_ends x v link ready rise between =
+    let (low, high) = and_parts (is_near x.near (ends x.mesh link.edge).0) (is_near x.near (ends x.mesh link.edge).1) between in (
+      ready_end x v ready rise.low_in (subst (λ (p : ℕ × ℕ). is_near x.near p.0 ≡ true) rise.ends_are low),
+      ready_end x link.to ready rise.high_in (subst (λ (p : ℕ × ℕ). is_near x.near p.1 ≡ true) rise.ends_are high),
+    )
+
+-- a link that may matter leads to a greater vertex
+pub link_rises : (x : Search) (v : ℕ) (link : Link) → IsLinkOf x.mesh v link → may_matter x v link ≡ true →
+    IsRise x.mesh v link
+link_rises x v link is on =
+    let less : v < link.to = ltb-true v link.to (and_parts (ltb v link.to) _ on).0 in
+    let to_in = is.to_in in
+    record {
+      edge_in = is.edge_in;
+      low_in = omega (arith, less, to_in);
+      high_in = is.to_in;
+      ends_are = elim is.ends_are [
+        | inl up ↦ up.1
+        | inr down ↦ absurd (omega (arith, less, down.0))
+      ];
+    }
 
 pub sooner_size : (a b c d : ℕ) → comes_sooner (a, b) (c, d) ≡ true → c ≤ a
 sooner_size a b c d h = grind (arith, nat_tests)
@@ -198,6 +216,12 @@ pub near_there : (mesh m : Mesh) (lengths l : List ℕ) (z far r : ℕ) (t : Nea
     IsNear m l z r t → IsNear mesh lengths z far t
 near_there mesh m lengths l z far r t a b c h =
     subst (λ x. IsNear mesh lengths z x t) c (subst (λ x. IsNear mesh x z r t) b (subst (λ x. IsNear x l z r t) a h))
+
+-- the lengths of links are positive
+pub links_positive : (mesh m : Mesh) (lengths : List ℕ) (rows : List (List Link)) → m ≡ mesh → AreLinks m lengths rows →
+    ArePositive mesh lengths
+links_positive mesh m lengths rows same h =
+    subst (λ x. ArePositive x lengths) same (lengths_positive m lengths h.are_lengths h.as_many)
 
 -- ---- they are the loops by each tree
 

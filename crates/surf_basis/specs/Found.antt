@@ -21,8 +21,8 @@ use Rattle.surf_near.specs.Near.{NearTables, AreNearTables, is_near}
 use Rattle.surf_near.specs.declared.links.Link.{Link}
 use Rattle.surf_basis.specs.declared.candidate.Candidate.{Candidate}
 use Rattle.surf_basis.specs.declared.candidate.Signed.{Signed}
-use Rattle.surf_basis.specs.declared.finding.Reached.{Reached}
-use Rattle.surf_basis.specs.declared.surface.Surface.{Surface}
+use Rattle.surf_basis.specs.declared.reaching.Reached.{Reached}
+use Rattle.surf_basis.specs.declared.surface.SignedSurface.{SignedSurface}
 use Rattle.surf_basis.specs.Candidates.{Chosen, earlier, signed_earlier, independent_of}
 use Rattle.surf_basis.specs.Cycles.{first_of}
 use Rattle.surf_basis.specs.Places.{place_of, order_of, is_sought, limit_of}
@@ -46,32 +46,22 @@ pub record SurfaceTables : Type 0 where
   pub lengths : List ℕ
   pub signs : CotreeTables
 
-abbrev pub surface_of : Surface → SurfaceTables
+abbrev pub surface_of : SignedSurface → SurfaceTables
 surface_of s = record { mesh = s.mesh.now; lengths = s.lengths.now; signs = s.signatures.now }
 
-abbrev pub search_of : Surface → NearTables → WayTables → ℕ → Search
-search_of s t w base = record {
-  mesh = s.mesh.now;
-  lengths = s.lengths.now;
-  signs = s.signatures.now;
-  near = t;
-  ways = w;
-  base = base;
-}
+abbrev pub search_of : Mesh → List ℕ → CotreeTables → NearTables → WayTables → ℕ → Search
+search_of mesh lengths s t w base =
+    record { mesh = mesh; lengths = lengths; signs = s; near = t; ways = w; base = base }
 
--- the search from the base of its tables
-abbrev pub search_at : Surface → NearTables → WayTables → Search
-search_at s t w = search_of s t w t.base
-
--- the search that has reached so much
+-- the search that has reached so much, from the base of its tables
 abbrev pub reached_at : Reached → Search
-reached_at r = search_at r.surface.now r.desk.now r.ways.now
+reached_at r =
+    search_of r.surface.now.mesh.now r.links.now.lengths r.surface.now.signatures.now r.desk.now r.ways.now r.desk.now.base
 
 -- there is an entry for each vertex and for each edge, and a class for each vertex that was reached
 pub record IsReady (x : Search) : Type 0 where
   pub made : AreNearTables x.mesh x.near
   pub numbers : length x.ways.numbers ≡ x.mesh.vertices
-  pub lengths : length x.lengths ≡ edge_count x.mesh
   pub signs : length x.signs.signatures ≡ edge_count x.mesh
   pub fits : (v : ℕ) → v < x.mesh.vertices → IsTrue (is_near x.near v) → slice_index x.near.distances v < 2 ^ 62
   pub numbered : (v : ℕ) → v < x.mesh.vertices → IsTrue (is_near x.near v) →
@@ -111,6 +101,13 @@ pub record IsLinkOf (mesh : Mesh) (v : ℕ) (link : Link) : Type 0 where
   pub to_in : link.to < mesh.vertices
   pub ends_are : ((v < link.to) × (ends mesh link.edge ≡ (v, link.to)))
       ⊎ ((link.to < v) × (ends mesh link.edge ≡ (link.to, v)))
+
+-- from the lesser end of its edge to the greater one
+pub record IsRise (mesh : Mesh) (v : ℕ) (link : Link) : Type 0 where
+  pub edge_in : link.edge < edge_count mesh
+  pub low_in : v < mesh.vertices
+  pub high_in : link.to < mesh.vertices
+  pub ends_are : ends mesh link.edge ≡ (v, link.to)
 
 -- for each edge whether its signature is empty
 abbrev pub plain_edges : CotreeTables → List Bool

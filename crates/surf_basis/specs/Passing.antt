@@ -1,5 +1,5 @@
 -- Vertices that are passed over, since loops there are nothing new.
-use Rattle.std.specs.Prelude.{ℕ, suc, ◌≡◌, ◌≤◌, ◌+◌, ◌-◌, ◌⊎◌, Bool, false, IsTrue, List, length, take, slice_index_or}
+use Rattle.std.specs.Prelude.{ℕ, suc, ◌≡◌, ◌<◌, ◌≤◌, ◌+◌, ◌-◌, ◌/◌, ◌⊎◌, min, Bool, false, IsTrue, List, length, take, slice_index_or}
 use Rattle.std.specs.Prelude.{Option, Some, None}
 use Rattle.surf_z2.specs.Space.{numbers, Spanned}
 use Rattle.surf_graphs.specs.Cells.{Split, IsSplit}
@@ -7,24 +7,33 @@ use Rattle.surf_graphs.specs.Trees.{Tree}
 use Rattle.surf_surfaces.specs.Mesh.{Mesh}
 use Rattle.surf_surfaces.specs.Cells.{cells_of}
 use Rattle.surf_surfaces.specs.Choice.{Trees, AreChosen}
-use Rattle.surf_surfaces.specs.FewBases.{Place}
+use Rattle.surf_surfaces.specs.Walk.{ArePositive}
+use Rattle.surf_surfaces.specs.FewBases.{with_vertex}
 use Rattle.surf_surfaces.specs.ShortestTree.{IsShortestTree}
 use Rattle.surf_cotree.specs.Tables.{CotreeTables}
+use Rattle.surf_firsts.specs.Near.{AgreeOff}
+use Rattle.surf_near.specs.Links.{IsShutAt}
 use Rattle.surf_basis.specs.declared.candidate.Candidate.{Candidate}
 use Rattle.surf_basis.specs.declared.candidate.Signed.{Signed}
 use Rattle.surf_basis.specs.Candidates.{Chosen, signatures}
-use Rattle.surf_basis.specs.Found.{AreKeptOf}
-use Rattle.surf_basis.specs.Places.{place_of, is_sought, limit_of}
+use Rattle.surf_basis.specs.Found.{SurfaceTables, AreKeptOf}
+use Rattle.surf_basis.specs.Places.{limit_of}
 use Rattle.surf_basis.specs.Signing.{AreSignatures}
 
 -- whether a vertex is marked in a table
 abbrev pub is_marked : List Bool → ℕ → Bool
 is_marked marks v = slice_index_or marks v false
 
--- vertices that are marked anew are no farther from a base than a distance
-abbrev pub AreMarkedNear : Mesh → List ℕ → ℕ → ℕ → List Bool → List Bool → Type 0
-AreMarkedNear mesh lengths base far old new = (tree : Tree) → IsShortestTree mesh lengths base tree → (v : ℕ) →
-    IsTrue (is_marked new v) → IsTrue (is_marked old v) ⊎ (tree.rank v ≤ far)
+-- the vertices that are no farther from a base than a distance are marked, and no others anew
+pub record AreMarkedNear (mesh : Mesh) (lengths : List ℕ) (base far : ℕ) (old new : List Bool) : Type 0 where
+  pub only : (tree : Tree) → IsShortestTree mesh lengths base tree → (v : ℕ) → IsTrue (is_marked new v) →
+      IsTrue (is_marked old v) ⊎ (tree.rank v ≤ far)
+  pub all : (tree : Tree) → IsShortestTree mesh lengths base tree → (v : ℕ) → v < mesh.vertices → tree.rank v ≤ far →
+      IsTrue (is_marked new v)
+
+-- the ways through vertices that are marked anew are barred
+abbrev pub AreShut : Mesh → List ℕ → List Bool → List Bool → Type 0
+AreShut mesh lengths old new = (v : ℕ) → IsTrue (is_marked new v) → IsTrue (is_marked old v) ⊎ IsShutAt mesh v lengths
 
 -- a loop is a sum of the first of those kept, and longer than the last of these by so much
 pub record IsLonger (kept : List Signed) (margin : ℕ) (s : Signed) : Type 0 where
@@ -33,12 +42,9 @@ pub record IsLonger (kept : List Signed) (margin : ℕ) (s : Signed) : Type 0 wh
   pub sum : Spanned numbers (signatures (take count kept)) s.signature
   pub longer : (k : ℕ) → suc k ≡ count → (slice_index_or kept k s).candidate.length + margin ≤ s.candidate.length
 
--- what comes before a limit comes before another one
-abbrev pub IsNoSooner : Option Candidate → Option Candidate → Type 0
-IsNoSooner limit wide = (place : Place) → IsTrue (is_sought limit place) → IsTrue (is_sought wide place)
-
-abbrev pub is_before : Option Candidate → Signed → Bool
-is_before limit s = is_sought limit (place_of s.candidate)
+-- a limit that is farther by a sixty-fourth, as far as a length goes
+abbrev pub widened : Candidate → Candidate
+widened c = record { length = min (c.length + c.length / 64) 18446744073709551615; base = c.base; edge = c.edge }
 
 -- by how much a limit is longer than another one
 abbrev pub spare_of : Option Candidate → Option Candidate → ℕ
@@ -51,3 +57,21 @@ abbrev pub AreKeptIn : Mesh → List ℕ → CotreeTables → (ℕ → Bool) →
 AreKeptIn mesh lengths s set choice = (trees : ℕ → Trees) → AreChosen mesh lengths trees → (d : Split) →
     IsSplit (cells_of mesh) d → AreSignatures mesh d s →
     AreKeptOf mesh lengths (λ x. (trees x).tree) d (limit_of choice) set choice.kept
+
+-- where what is kept is enough for the vertices that were marked, by lengths from which those of a finder differ at these
+-- alone, it is enough for those that are marked now
+abbrev pub StayKept : SurfaceTables → List Bool → List Bool → Chosen → Type 0
+StayKept f old new choice = (lengths : List ℕ) → ArePositive f.mesh lengths →
+    AgreeOff f.mesh lengths f.lengths (is_marked old) → AreKeptIn f.mesh lengths f.signs (is_marked old) choice →
+    AreKeptIn f.mesh lengths f.signs (is_marked new) choice
+
+-- where what was kept was enough for the vertices of a set, what is kept now is enough for one more
+abbrev pub KeepsWith : SurfaceTables → ℕ → Chosen → Chosen → Type 0
+KeepsWith f base old new = (set : ℕ → Bool) → AreKeptIn f.mesh f.lengths f.signs set old →
+    AreKeptIn f.mesh f.lengths f.signs (with_vertex base set) new
+
+-- a finder has the lengths of another one at all edges that have no marked end
+pub record IsAhead (f scout : SurfaceTables) (marks : List Bool) : Type 0 where
+  pub mesh : scout.mesh ≡ f.mesh
+  pub signs : scout.signs ≡ f.signs
+  pub off : AgreeOff f.mesh f.lengths scout.lengths (is_marked marks)

@@ -19,7 +19,7 @@ use crate::nearby::loops_at;
 use crate::placing::list_lengths;
 use crate::searching::{bases_of, sufficient_loops};
 use crate::signing::signed_cotree;
-use crate::surface::Surface;
+use crate::surface::SignedSurface;
 use crate::walking::cycles_of;
 use std::alloc::Global;
 use surf_base::{NoMemory, VertexId};
@@ -58,7 +58,11 @@ fn choose(
 }
 
 // The basis that is chosen, on a surface with signatures, where as many cycles as given make it.
-fn basis_over(alloc: Global, surface: &Surface<'_>, count: usize) -> Result<Vec<Cycle>, NoMemory>
+fn basis_over(
+    alloc: Global,
+    surface: &SignedSurface<'_>,
+    count: usize,
+) -> Result<Vec<Cycle>, NoMemory>
     requires lengths { length surface.now.lengths.now ≡ edge_count surface.now.mesh.now }
     requires signed { AreSigned surface.now.mesh.now surface.now.signatures.now count }
     requires full { IsFullCount surface.now.mesh.now count }
@@ -105,7 +109,7 @@ pub fn least_basis(
     if count == 0 {
         return Ok(Vec::new(alloc));
     }
-    let surface = Surface {
+    let surface = SignedSurface {
         mesh,
         lengths,
         signatures: &signed,

@@ -1,7 +1,8 @@
 //! The choice among candidates, part by part.
-ghost use Rattle.std.specs.Prelude.{◌≡◌, ◌≢◌, ◌<◌, ◌≤◌, ◌^◌, [], IfOk, OnOk, All, length};
-ghost use Rattle.surf_z2.specs.Order.{merge};
+ghost use Rattle.std.specs.Prelude.{ℕ, ◌≡◌, ◌≢◌, ◌<◌, ◌≤◌, ◌^◌, [], IfOk, OnOk, All, length};
+ghost use Rattle.surf_z2.specs.Order.{merge, IsInOrder};
 ghost use Rattle.surf_basis.specs.Candidates.{signed_earlier, independent_of};
+ghost use Rattle.surf_basis.specs.Found.{stands_before};
 ghost use Rattle.surf_basis.specs.Passing.{IsLonger};
 ghost use Rattle.surf_basis.specs.Places.{limit_of};
 ghost use Rattle.surf_base.specs.declared.limits.TheConstants.{MAX_LOOPS};
@@ -92,16 +93,18 @@ impl Choice {
     }
 
     // How much longer a loop is than the longest of the first that are kept and of which it is a
-    // sum, and 0 where it isn't longer.
+    // sum: by any number where it is null, and by 0 where it isn't longer.
     fn excess(&self, signed: &Signed) -> u64
         requires small { signed.now.signature < 2 ^ self.now.width }
         ensures longer { result ≢ 0 → IsLonger self.now.kept result signed.now }
+        ensures greatest { IsInOrder stands_before self.now.kept → (n : ℕ) → n < 2 ^ 64 →
+            IsLonger self.now.kept n signed.now → n ≤ result }
     {
         let Some(count) = self.rows.reach(&signed.signature.bits()) else {
             return 0;
         };
         if count == 0 {
-            return signed.candidate.length;
+            return u64::MAX;
         }
         let last = &self.kept[count - 1];
         signed
@@ -111,11 +114,13 @@ impl Choice {
     }
 
     /// By how much all of some loops are longer than those that are kept and of which they are
-    /// sums, and no more than a bound. 0 where one of them isn't longer.
+    /// sums, and no more than a bound: the greatest such number. 0 where one of them isn't longer.
     pub fn margin(&self, found: &[Signed], most: u64) -> u64
         requires small { All (λ s. s.signature < 2 ^ self.now.width) found.now }
         ensures most { result ≤ most }
         ensures longer { result ≢ 0 → All (IsLonger self.now.kept result) found.now }
+        ensures greatest { IsInOrder stands_before self.now.kept → (n : ℕ) → n ≤ most →
+            All (IsLonger self.now.kept n) found.now → n ≤ result }
     {
         let mut margin = most;
         for signed in found {

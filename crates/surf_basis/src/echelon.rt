@@ -1,5 +1,5 @@
 //! Which sets are sums of the first of some independent ones.
-ghost use Rattle.std.specs.Prelude.{ℕ, ◌≡◌, ◌≢◌, ◌<◌, ◌≤◌, ◌^◌, [], take, length, slice_index, bit_xor};
+ghost use Rattle.std.specs.Prelude.{IfSome, ℕ, ◌≡◌, ◌≢◌, ◌<◌, ◌≤◌, ◌^◌, [], take, length, slice_index, bit_xor};
 ghost use Rattle.std.specs.Prelude.{IfOk, MatchBool, MatchOption, vec_capacity};
 ghost use Rattle.std.specs.List.{AllByRecursion};
 ghost use Rattle.surf_z2.specs.Space.{Independent, Spanned, numbers};
@@ -126,6 +126,8 @@ impl Echelon {
         ensures reach { MatchOption result (Spanned numbers self.now.rows set.now → ⊥)
             (λ n. (n ≤ length self.now.rows)
             × Spanned numbers (take n self.now.rows) set.now) }
+        ensures least { IfSome result (λ n. (m : ℕ) → m < n →
+            Spanned numbers (take m self.now.rows) set.now → ⊥) }
     {
         let mut high = self.rows.len();
         if !self.spans(high, set) {

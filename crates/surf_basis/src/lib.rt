@@ -12,8 +12,16 @@
 //! vertices as bases. Once as many are kept as there may be, a search goes no farther than half the
 //! length of the last, since the ends of an edge are within half the length of its loop. The
 //! vertices are taken in an order that scatters them, so that short loops of all parts are found
-//! soon. Where all loops at a vertex are longer than kept ones of which they are sums, by more than
-//! a way there and back, the vertices that are so near are passed over.
+//! soon.
+//!
+//! Before such a search a scout may go from the vertex, somewhat farther than the search must. Where
+//! all loops that it finds are longer than kept ones of which they are sums, by more than a way
+//! there and back, the vertices that are so near are passed over, and there is no other search. To
+//! the scout the ways through vertices that are done with, searched or passed over, are barred: the
+//! edges there are as long as an edge may be. So it finds few loops and long ones, and more is
+//! passed over. It needs no others, since a loop that goes through such a vertex is a sum of loops
+//! there, for which what is kept is enough already. What is kept comes from searches by the given
+//! lengths alone.
 //!
 //! Then the bases so found are gone through one by one. A search near each, no farther than half the
 //! greatest length that was found for it, finds the loops of edges there: the first independent
@@ -38,11 +46,14 @@ mod choosing;
 mod cycle;
 mod echelon;
 mod finding;
+mod foremost;
+mod listing;
 mod marking;
 mod merging;
 mod nearby;
 mod passing;
 mod placing;
+mod reaching;
 mod searching;
 mod shortest;
 mod signing;

@@ -4,13 +4,15 @@ ghost use Rattle.std.specs.Prelude.{IsTrue};
 ghost use Rattle.std.specs.Prelude.{length, slice_index, slice_index_or};
 ghost use Rattle.std.specs.List.Sorted.{IsNonDecreasingBy};
 ghost use Rattle.surf_surfaces.specs.Surface.{edge_count};
+ghost use Rattle.surf_firsts.specs.Near.{AgreeOff};
 ghost use Rattle.surf_basis.specs.Marks.{AreMarkedIn, HasMarkedEnd, HasSignedEnds, bits_backwards};
-ghost use Rattle.surf_basis.specs.Passing.{is_marked};
+ghost use Rattle.surf_basis.specs.Passing.{is_marked, AreShut};
 
 use std::alloc::Global;
 use surf_base::{EdgeId, NoMemory, VertexId};
 use surf_cotree::CotreeDesk;
 use surf_mesh::HalfMesh;
+use surf_near::Links;
 
 // Marks the second of two vertices, unless the first is marked.
 fn mark_one(first: VertexId, second: VertexId, marked: &mut [bool])
@@ -26,16 +28,24 @@ fn mark_one(first: VertexId, second: VertexId, marked: &mut [bool])
     }
 }
 
-/// Marks the vertices of a list.
-pub(crate) fn mark_all(list: &[VertexId], marks: &mut [bool])
-    requires inside { All (λ v. v < length marks.old) list.now }
+/// Marks the vertices of a list, and bars the ways through those that weren't marked.
+pub(crate) fn mark_all(list: &[VertexId], links: &mut Links<'_>, marks: &mut [bool])
+    requires inside { All (λ v. v < links.old.mesh.vertices) list.now }
+    requires marks { length marks.old ≡ links.old.mesh.vertices }
     ensures only { (v : ℕ) → IsTrue (is_marked marks.new v) →
         IsTrue (is_marked marks.old v) ⊎ Contains list.now v }
+    ensures all { All (λ v. IsTrue (is_marked marks.new v)) list.now }
     ensures stay { (v : ℕ) → IsTrue (is_marked marks.old v) → IsTrue (is_marked marks.new v) }
     ensures count { length marks.new ≡ length marks.old }
+    ensures shut { AreShut links.old.mesh links.new.lengths marks.old marks.new }
+    ensures off { AgreeOff links.old.mesh links.old.lengths links.new.lengths (is_marked marks.new) }
+    ensures mesh { links.new.mesh ≡ links.old.mesh }
 {
     for v in list {
-        marks[v.index()] = true;
+        if !marks[v.index()] {
+            marks[v.index()] = true;
+            links.bar(*v);
+        }
     }
 }
 

@@ -1,10 +1,9 @@
-//! How far a search goes beyond what it must, so that it tells of the vertices near its base too.
-ghost use Rattle.std.specs.Prelude.{◌≡◌, OnOk, filter};
-ghost use Rattle.surf_basis.specs.Passing.{IsNoSooner, is_before, spare_of};
+//! When a search goes beyond what it must, so that it tells of the vertices near its base too.
+ghost use Rattle.std.specs.Prelude.{◌≡◌, ◌≢◌, ◌+◌, ◌-◌, ◌*◌, ◌==◌, min, true, false, if◌then◌else◌};
+ghost use Rattle.std.specs.Option.{option_map};
+ghost use Rattle.surf_basis.specs.Passing.{spare_of, widened};
 
-use crate::candidate::{Candidate, Signed, copy_of};
-use crate::finding::is_sought;
-use surf_base::NoMemory;
+use crate::candidate::Candidate;
 
 /// After how many searches the next one goes beyond what it must, and how many these were before
 /// the last one that did.
@@ -16,13 +15,16 @@ pub(crate) struct Pace {
 
 impl Pace {
     /// The first search goes beyond.
-    pub fn new() -> Pace {
+    pub fn new() -> Pace
+        ensures new { result ≡ record { left = 0; wait = 0 } }
+    {
         Pace { left: 0, wait: 0 }
     }
 
-    /// A limit by which a search goes beyond another one, if it is time.
+    /// A limit by which a search goes beyond another one, if it is time, and else that one.
     pub fn limit(&self, limit: &Option<Candidate>) -> Option<Candidate>
-        ensures wider { IsNoSooner limit.now result }
+        ensures wide { result
+            ≡ (if self.now.left == 0 then option_map widened limit.now else limit.now) }
     {
         match limit {
             Some(last) if self.left == 0 => Some(Candidate {
@@ -36,7 +38,13 @@ impl Pace {
 
     /// Goes on after a search. One that went beyond for nothing is followed by more that don't, up
     /// to fifteen.
-    pub fn step(&mut self, told: bool) {
+    pub fn step(&mut self, told: bool)
+        ensures waits { self.old.left ≢ 0 →
+            self.new ≡ record self.old { left = self.old.left - 1 } }
+        ensures told { self.old.left ≡ 0 → told ≡ true → self.new ≡ record { left = 0; wait = 0 } }
+        ensures longer { self.old.left ≡ 0 → told ≡ false → self.new
+            ≡ record { left = min (2 * self.old.wait + 1) 15; wait = min (2 * self.old.wait + 1) 15 } }
+    {
         if self.left > 0 {
             self.left -= 1;
             return;
@@ -58,21 +66,4 @@ pub(crate) fn spare(limit: &Option<Candidate>, wide: &Option<Candidate>) -> u64
         (Some(last), Some(farther)) => farther.length.saturating_sub(last.length),
         _ => 0,
     }
-}
-
-/// Lists those loops that come before a limit.
-pub(crate) fn list_before(
-    limit: &Option<Candidate>,
-    found: &[Signed],
-    loops: &mut Vec<Signed>,
-) -> Result<(), NoMemory>
-    ensures loops { OnOk result (loops.new.items ≡ filter (is_before limit.now) found.now) }
-{
-    loops.clear();
-    for signed in found {
-        if is_sought(&signed.candidate, limit) {
-            loops.push(copy_of(signed))?;
-        }
-    }
-    Ok(())
 }

@@ -6,9 +6,10 @@ ghost use Rattle.surf_surfaces.specs.Homology.{IsFullCount};
 ghost use Rattle.surf_surfaces.specs.Walk.{ArePositive};
 ghost use Rattle.surf_surfaces.specs.FewBases.{AreBases};
 ghost use Rattle.surf_surfaces.specs.Surface.{edge_count, IsSurface};
+ghost use Rattle.surf_firsts.specs.Near.{AgreeOff};
 ghost use Rattle.surf_basis.specs.Signing.{AreSigned};
-ghost use Rattle.surf_basis.specs.Passing.{is_marked, IsNoSooner, AreKeptIn};
-ghost use Rattle.surf_basis.specs.Places.{order_of, limit_of};
+ghost use Rattle.surf_basis.specs.Passing.{is_marked, AreKeptIn, StayKept, KeepsWith, IsAhead};
+ghost use Rattle.surf_basis.specs.Places.{order_of};
 ghost use Rattle.surf_basis.specs.Marks.{HasBases};
 ghost use Rattle.surf_basis.specs.Kept.{HavePlacesOfBasis};
 ghost use Rattle.surf_basis.specs.Found.{surface_of, IsNext, AreKeptFrom, IsFirstAmong, IsFirstPlace};
@@ -18,8 +19,8 @@ use crate::candidate::{Candidate, Signed};
 use crate::choosing::Choice;
 use crate::finding::Finder;
 use crate::marking::{list_marked, signed_ends};
-use crate::passing::{Pace, list_before, spare};
-use crate::surface::Surface;
+use crate::passing::{Pace, spare};
+use crate::surface::SignedSurface;
 use std::alloc::Global;
 use surf_base::{NoMemory, VertexId};
 use surf_mesh::HalfMesh;
@@ -55,73 +56,90 @@ pub(crate) fn keep_loops(found: &mut [Signed], choice: &mut Choice) -> Result<()
     choice.keep(found)
 }
 
-/// The loops that a search found, and those of them that come before a limit.
+/// A finder that goes ahead of another one: the ways through vertices that are done with are barred
+/// to it. And when it does so.
 #[derive(Drop)]
-struct Lists {
-    found: Vec<Signed>,
-    early: Vec<Signed>,
+struct Scout<'a> {
+    finder: Finder<'a>,
+    pace: Pace,
 }
 
-// Searches from a vertex, and tells whether all loops that were found are longer than those kept of
-// which they are sums. If so, the vertices near it need no search, for loops there are longer than
-// those at the vertex by no more than the way there and back. If not, what is independent of those
-// before is kept.
-fn search_at(
+// Searches from a vertex as far as a limit, if that goes beyond what must be found. Where all loops
+// that are found are longer than those kept of which they are sums, the vertices so near that loops
+// there are longer too are marked: what is kept is enough for them, by all lengths from which the
+// ones of the search differ at marked vertices alone. Tells whether it came to that.
+fn scout_at(
     finder: &mut Finder<'_>,
     base: VertexId,
     wide: &Option<Candidate>,
-    choice: &mut Choice,
-    lists: &mut Lists,
+    choice: &Choice,
+    found: &mut Vec<Signed>,
     marks: &mut [bool],
 ) -> Result<bool, NoMemory>
     requires base { base < finder.old.mesh.vertices }
     requires marks { length marks.old ≡ finder.old.mesh.vertices }
-    requires lengths { length finder.old.lengths ≡ edge_count finder.old.mesh }
+    requires signed { AreSigned finder.old.mesh finder.old.signs choice.now.width }
+    ensures kept { StayKept finder.old marks.old marks.new choice.now }
+    ensures off { AgreeOff finder.old.mesh finder.old.lengths finder.new.lengths
+        (is_marked marks.new) }
+    ensures marked { IfOk result (λ told. told ≡ true → IsTrue (is_marked marks.new base)) }
+    ensures stay { (v : ℕ) → IsTrue (is_marked marks.old v) → IsTrue (is_marked marks.new v) }
+    ensures count { length marks.new ≡ length marks.old }
+    ensures mesh { finder.new.mesh ≡ finder.old.mesh }
+    ensures signs { finder.new.signs ≡ finder.old.signs }
+{
+    finder.law_of_finder();
+    let spare = spare(&choice.limit(), wide);
+    if spare == 0 {
+        return Ok(false);
+    }
+    finder.find(base, wide, found)?;
+    let margin = choice.margin(found, spare);
+    if margin == 0 {
+        return Ok(false);
+    }
+    finder.mark_near(base, (margin - 1) / 2, marks);
+    Ok(true)
+}
+
+// Searches from a vertex, and keeps what is independent of the loops kept before.
+fn search_at(
+    finder: &mut Finder<'_>,
+    base: VertexId,
+    choice: &mut Choice,
+    found: &mut Vec<Signed>,
+) -> Result<(), NoMemory>
+    requires base { base < finder.old.mesh.vertices }
     requires signed { AreSigned finder.old.mesh finder.old.signs choice.old.width }
     requires positive { IsSurface finder.old.mesh × ArePositive finder.old.mesh finder.old.lengths }
     requires few { (finder.old.mesh.vertices ≤ 2 ^ 32) × (edge_count finder.old.mesh ≤ 2 ^ 32) }
-    requires wide { IsNoSooner (limit_of choice.old) wide.now }
-    requires kept { AreKeptIn finder.old.mesh finder.old.lengths finder.old.signs
-        (is_marked marks.old) choice.old }
-    ensures kept { OnOk result (AreKeptIn finder.old.mesh finder.old.lengths finder.old.signs
-        (is_marked marks.new) choice.new) }
-    ensures marked { OnOk result (IsTrue (is_marked marks.new base)) }
-    ensures stay { (v : ℕ) → IsTrue (is_marked marks.old v) → IsTrue (is_marked marks.new v) }
-    ensures count { length marks.new ≡ length marks.old }
+    ensures kept { OnOk result (KeepsWith finder.old base choice.old choice.new) }
     ensures width { choice.new.width ≡ choice.old.width }
     ensures same { finder.new ≡ finder.old }
 {
-    let limit = choice.limit();
-    finder.find(base, wide, &mut lists.found)?;
-    let margin = choice.margin(&lists.found, spare(&limit, wide));
-    if margin > 0 {
-        finder.mark_near(base, (margin - 1) / 2, marks);
-        marks[base.index()] = true;
-        return Ok(true);
-    }
-    list_before(&limit, &lists.found, &mut lists.early)?;
-    keep_loops(&mut lists.early, choice)?;
-    marks[base.index()] = true;
-    Ok(false)
+    finder.find(base, &choice.limit(), found)?;
+    keep_loops(found, choice)
 }
 
-// Searches from a vertex, unless it is passed over.
+// Sees to it that what is kept is enough for a vertex. It is so already where the vertex is marked.
+// A scout may find it so. Else a search keeps what is new there. Then the vertex is marked.
 fn visit(
     finder: &mut Finder<'_>,
+    scout: &mut Scout<'_>,
     base: VertexId,
-    pace: &mut Pace,
     choice: &mut Choice,
-    lists: &mut Lists,
+    found: &mut Vec<Signed>,
     marks: &mut [bool],
 ) -> Result<(), NoMemory>
     requires base { base < finder.old.mesh.vertices }
     requires marks { length marks.old ≡ finder.old.mesh.vertices }
-    requires lengths { length finder.old.lengths ≡ edge_count finder.old.mesh }
     requires signed { AreSigned finder.old.mesh finder.old.signs choice.old.width }
     requires positive { IsSurface finder.old.mesh × ArePositive finder.old.mesh finder.old.lengths }
     requires few { (finder.old.mesh.vertices ≤ 2 ^ 32) × (edge_count finder.old.mesh ≤ 2 ^ 32) }
+    requires ahead { IsAhead finder.old scout.old.finder marks.old }
     requires kept { AreKeptIn finder.old.mesh finder.old.lengths finder.old.signs
         (is_marked marks.old) choice.old }
+    ensures ahead { IsAhead finder.old scout.new.finder marks.new }
     ensures kept { OnOk result (AreKeptIn finder.old.mesh finder.old.lengths finder.old.signs
         (is_marked marks.new) choice.new) }
     ensures marked { OnOk result (IsTrue (is_marked marks.new base)) }
@@ -133,9 +151,13 @@ fn visit(
     if marks[base.index()] {
         return Ok(());
     }
-    let wide = pace.limit(&choice.limit());
-    let told = search_at(finder, base, &wide, choice, lists, marks)?;
-    pace.step(told);
+    let wide = scout.pace.limit(&choice.limit());
+    let told = scout_at(&mut scout.finder, base, &wide, choice, found, marks)?;
+    scout.pace.step(told);
+    if !told {
+        search_at(finder, base, choice, found)?;
+        scout.finder.mark(base, marks);
+    }
     Ok(())
 }
 
@@ -143,28 +165,25 @@ fn visit(
 fn keep_found(
     alloc: Global,
     finder: &mut Finder<'_>,
+    scout: &mut Scout<'_>,
     vertices: &[VertexId],
     choice: &mut Choice,
 ) -> Result<(), NoMemory>
-    requires lengths { length finder.old.lengths ≡ edge_count finder.old.mesh }
     requires signed { AreSigned finder.old.mesh finder.old.signs choice.old.width }
     requires inside { All (λ v. v < finder.old.mesh.vertices) vertices.now }
     requires positive { IsSurface finder.old.mesh × ArePositive finder.old.mesh finder.old.lengths }
     requires few { (finder.old.mesh.vertices ≤ 2 ^ 32) × (edge_count finder.old.mesh ≤ 2 ^ 32) }
+    requires scout { scout.old.finder ≡ finder.old }
     requires none { choice.old.kept ≡ [] }
     ensures kept { OnOk result (AreKeptFrom finder.old.mesh finder.old.lengths finder.old.signs
         vertices.now choice.new) }
     ensures width { choice.new.width ≡ choice.old.width }
     ensures same { finder.new ≡ finder.old }
 {
-    let mut lists = Lists {
-        found: Vec::new(alloc),
-        early: Vec::new(alloc),
-    };
+    let mut found = Vec::new(alloc);
     let mut marks = vec![in alloc; false; finder.vertices() as usize]?;
-    let mut pace = Pace::new();
     for v in vertices {
-        visit(finder, *v, &mut pace, choice, &mut lists, &mut marks)?;
+        visit(finder, scout, *v, choice, &mut found, &mut marks)?;
     }
     Ok(())
 }
@@ -199,7 +218,7 @@ pub(crate) fn bases_of(
 /// chosen.
 pub(crate) fn sufficient_loops(
     alloc: Global,
-    surface: &Surface<'_>,
+    surface: &SignedSurface<'_>,
     finder: &mut Finder<'_>,
     count: usize,
 ) -> Result<Choice, NoMemory>
@@ -218,7 +237,11 @@ pub(crate) fn sufficient_loops(
     surface.lengths.law_of_lengths();
     let vertices = signed_ends(alloc, surface.mesh, surface.signatures)?;
     let mut choice = Choice::make(alloc, count as u32)?;
-    keep_found(alloc, finder, &vertices, &mut choice)?;
+    let mut scout = Scout {
+        finder: Finder::make(alloc, surface)?,
+        pace: Pace::new(),
+    };
+    keep_found(alloc, finder, &mut scout, &vertices, &mut choice)?;
     choice.law_of_choice();
     Ok(choice)
 }
@@ -246,7 +269,7 @@ fn first_found(
 /// where each is null.
 pub(crate) fn first_place(
     alloc: Global,
-    surface: &Surface<'_>,
+    surface: &SignedSurface<'_>,
     count: usize,
 ) -> Result<Option<Candidate>, NoMemory>
     requires lengths { length surface.now.lengths.now ≡ edge_count surface.now.mesh.now }

@@ -15,7 +15,7 @@ use crate::candidate::Candidate;
 use crate::cycle::Cycle;
 use crate::searching::first_place;
 use crate::signing::signed_cotree;
-use crate::surface::Surface;
+use crate::surface::SignedSurface;
 use crate::walking::cycle_of;
 use std::alloc::Global;
 use surf_base::{NoMemory, VertexId};
@@ -52,7 +52,7 @@ fn place_of_first(
     lengths.law_of_lengths();
     let signed = signed_cotree(alloc, mesh, lengths)?;
     let count = signed.left().len();
-    let surface = Surface {
+    let surface = SignedSurface {
         mesh,
         lengths,
         signatures: &signed,

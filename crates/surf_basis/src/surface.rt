@@ -6,7 +6,7 @@ use surf_mesh::HalfMesh;
 
 /// A surface with lengths, and the signatures of its edges.
 #[derive(Drop)]
-pub(crate) struct Surface<'a> {
+pub(crate) struct SignedSurface<'a> {
     pub mesh: &'a HalfMesh,
     pub lengths: &'a Lengths,
     pub signatures: &'a CotreeDesk,

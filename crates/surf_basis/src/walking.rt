@@ -10,32 +10,32 @@ ghost use Rattle.surf_basis.specs.Ways.{IsReached};
 use crate::candidate::{Candidate, Signed};
 use crate::cycle::Cycle;
 use crate::finding::Finder;
-use crate::surface::Surface;
 use std::alloc::Global;
 use surf_base::{EdgeId, NoMemory, VertexId};
 use surf_lengths::Lengths;
 use surf_loops::LoopDesk;
 use surf_mesh::{HalfMesh, Walk};
-use surf_near::NearDesk;
+use surf_near::{Links, NearDesk};
 
 // Adds a vertex that a search reached, and those on its way up to the base.
 fn push_way(
-    surface: &Surface<'_>,
+    mesh: &HalfMesh,
+    links: &Links<'_>,
     desk: &NearDesk,
     from: VertexId,
     list: &mut Vec<VertexId>,
 ) -> Result<(), NoMemory>
-    requires lengths { length surface.now.lengths.now ≡ edge_count surface.now.mesh.now }
-    requires base { desk.now.base < surface.now.mesh.now.vertices }
-    requires reached { IsReached surface.now.mesh.now surface.now.lengths.now desk.now.base
+    requires links { links.now.mesh ≡ mesh.now }
+    requires base { desk.now.base < mesh.now.vertices }
+    requires reached { IsReached mesh.now links.now.lengths desk.now.base
         desk.now }
-    requires vertex { from < surface.now.mesh.now.vertices }
+    requires vertex { from < mesh.now.vertices }
     requires near { IsTrue (is_near desk.now from) }
-    ensures way { OnOk result (AddsWay surface.now.mesh.now surface.now.lengths.now desk.now.base
+    ensures way { OnOk result (AddsWay mesh.now links.now.lengths desk.now.base
         from list.old.items list.new.items) }
 {
-    surface.mesh.law_of_surface();
-    surface.lengths.law_of_lengths();
+    mesh.law_of_surface();
+    links.law_of_links();
     list.push(from)?;
     let mut at = from;
     while at != desk.base() {
@@ -48,27 +48,28 @@ fn push_way(
 // The loop of an edge between vertices that a search reached.
 pub(crate) fn loop_walk(
     alloc: Global,
-    surface: &Surface<'_>,
+    mesh: &HalfMesh,
+    links: &Links<'_>,
     desk: &NearDesk,
     edge: EdgeId,
 ) -> Result<Walk, NoMemory>
-    requires lengths { length surface.now.lengths.now ≡ edge_count surface.now.mesh.now }
-    requires base { desk.now.base < surface.now.mesh.now.vertices }
-    requires reached { IsReached surface.now.mesh.now surface.now.lengths.now desk.now.base
+    requires links { links.now.mesh ≡ mesh.now }
+    requires base { desk.now.base < mesh.now.vertices }
+    requires reached { IsReached mesh.now links.now.lengths desk.now.base
         desk.now }
-    requires edge { edge < edge_count surface.now.mesh.now }
-    requires between { IsTrue (is_near desk.now (ends surface.now.mesh.now edge).0) × IsTrue
-        (is_near desk.now (ends surface.now.mesh.now edge).1) }
-    ensures walk { IfOk result (IsLoopWalk surface.now.mesh.now surface.now.lengths.now
+    requires edge { edge < edge_count mesh.now }
+    requires between { IsTrue (is_near desk.now (ends mesh.now edge).0) × IsTrue
+        (is_near desk.now (ends mesh.now edge).1) }
+    ensures walk { IfOk result (IsLoopWalk mesh.now links.now.lengths
         desk.now.base edge) }
 {
-    surface.mesh.law_of_surface();
-    surface.lengths.law_of_lengths();
-    let (u, v) = surface.mesh.ends(edge);
+    mesh.law_of_surface();
+    links.law_of_links();
+    let (u, v) = mesh.ends(edge);
     let mut list = Vec::new(alloc);
-    push_way(surface, desk, u, &mut list)?;
+    push_way(mesh, links, desk, u, &mut list)?;
     list.reverse();
-    push_way(surface, desk, v, &mut list)?;
+    push_way(mesh, links, desk, v, &mut list)?;
     Ok(Walk::from_vertices(list))
 }
 

@@ -5,14 +5,14 @@ ghost use Rattle.surf_basis.specs.Found.{plain_edges};
 ghost use Rattle.surf_basis.specs.Ways.{class_at, AreWays, HasNone, HasParent, IsNumbered, IsReached};
 
 use crate::candidate::copy_signature;
-use crate::surface::Surface;
+use crate::surface::SignedSurface;
 use std::alloc::Global;
 use std::marker::Model;
 use surf_base::{EdgeId, NoMemory, VertexId};
 use surf_bits::Signature;
 use surf_cotree::CotreeDesk;
 use surf_mesh::HalfMesh;
-use surf_near::NearDesk;
+use surf_near::{Links, NearDesk};
 
 /// For each vertex that a search reached the number of a class: the sum of the signatures of the
 /// edges on its way up to the base. Few ways differ in class, so classes are kept once.
@@ -124,24 +124,25 @@ impl Ways {
     /// Numbers the classes of the ways to all vertices that a search from a base has reached.
     pub fn sum(
         &mut self,
-        surface: &Surface<'_>,
+        surface: &SignedSurface<'_>,
+        links: &Links<'_>,
         desk: &NearDesk,
         plain: &[bool],
         base: VertexId,
     ) -> Result<(), NoMemory>
-        requires reached { IsReached surface.now.mesh.now surface.now.lengths.now base desk.now }
+        requires reached { IsReached surface.now.mesh.now links.now.lengths base desk.now }
+        requires links { links.now.mesh ≡ surface.now.mesh.now }
         requires base { base < surface.now.mesh.now.vertices }
-        requires lengths { length surface.now.lengths.now ≡ edge_count surface.now.mesh.now }
         requires signatures { length surface.now.signatures.now.signatures
             ≡ edge_count surface.now.mesh.now }
         requires plain { plain.now ≡ plain_edges surface.now.signatures.now }
         requires count { length self.old.numbers ≡ surface.now.mesh.now.vertices }
-        ensures ways { OnOk result (AreWays surface.now.mesh.now surface.now.lengths.now base
+        ensures ways { OnOk result (AreWays surface.now.mesh.now links.now.lengths base
             surface.now.signatures.now desk.now self.new) }
         ensures count { length self.new.numbers ≡ surface.now.mesh.now.vertices }
     {
         surface.mesh.law_of_surface();
-        surface.lengths.law_of_lengths();
+        links.law_of_links();
         self.classes.clear();
         self.classes.push(Signature::zero())?;
         for v in desk.settled() {

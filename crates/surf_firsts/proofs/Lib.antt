@@ -1,4 +1,5 @@
 pub mod Chosen
 pub mod NoLater
 pub mod FirstLoops
+pub mod Parts
 pub mod NearVertices

@@ -1,13 +1,14 @@
--- Vertices near one whose loops are all long, next to those that are kept.
-use Rattle.std.specs.Prelude.{ℕ, suc, ◌+◌, ◌*◌, ◌<◌, ◌≤◌, ◌||◌, Bool, IsTrue, nat_le, List, filter}
+-- Vertices near one whose loops are all long, next to those that are kept, where the ways through vertices of a set are
+-- barred.
+use Rattle.std.specs.Prelude.{ℕ, suc, ◌≡◌, ◌+◌, ◌*◌, ◌<◌, ◌≤◌, ◌||◌, Bool, IsTrue, IsFalse, nat_le, List, filter}
 use Rattle.surf_graphs.specs.Trees.{Tree}
 use Rattle.surf_surfaces.specs.Mesh.{Mesh}
-use Rattle.surf_surfaces.specs.Surface.{edge_count, IsSurface}
-use Rattle.surf_surfaces.specs.Walk.{ArePositive}
+use Rattle.surf_surfaces.specs.Surface.{edge_count, ends, IsSurface}
+use Rattle.surf_surfaces.specs.Walk.{edge_length, ArePositive}
 use Rattle.surf_surfaces.specs.Class.{AreShortestTrees}
 use Rattle.surf_surfaces.specs.Loop.{loop_walk, loop_length}
 use Rattle.surf_surfaces.specs.Choice.{DependsOn}
-use Rattle.surf_surfaces.specs.FewBases.{Place, Found, walks_found, AreEnoughOf}
+use Rattle.surf_surfaces.specs.FewBases.{Place, is_no_later, Found, walks_found, AreEnoughOf}
 
 -- whether a loop is shorter than a size by so much
 abbrev pub is_shorter_by : ℕ → ℕ → Found → Bool
@@ -24,12 +25,23 @@ DependOnShorter mesh lengths trees z most margin found =
 abbrev pub with_near : (ℕ → Tree) → ℕ → ℕ → (ℕ → Bool) → ℕ → Bool
 with_near trees z far set y = set y || nat_le ((trees z).rank y) far
 
--- where the loops at z depend on loops that are shorter by more than two ways, these are enough for the vertices near z
+-- other lengths are the same at each edge that has no end in a set. At the set they are whatever they are
+abbrev pub AgreeOff : Mesh → List ℕ → List ℕ → (ℕ → Bool) → Type 0
+AgreeOff mesh lengths other set = (e : ℕ) → e < edge_count mesh → IsFalse (set (ends mesh e).0) →
+    IsFalse (set (ends mesh e).1) → edge_length other e ≡ edge_length lengths e
+
+-- with each place that is sought all that come no later are
+abbrev pub IsSoughtFromStart : (Place → Bool) → Type 0
+IsSoughtFromStart sought = (p q : Place) → IsTrue (is_no_later p q) → IsTrue (sought q) → IsTrue (sought p)
+
+-- Some loops are enough for a set of vertices, and the loops at z by lengths that may differ at the set depend on those
+-- of them that are shorter by more than two ways: so they are enough for the vertices near z by these lengths too
 abbrev pub NearVerticesNeedNoMore : Type 0
 NearVerticesNeedNoMore =
-    (mesh : Mesh) (lengths : List ℕ) (trees : ℕ → Tree) (sought : Place → Bool) (set : ℕ → Bool) (z far most : ℕ)
-    (found : List Found) → IsSurface mesh → ArePositive mesh lengths → AreShortestTrees mesh lengths trees →
-    z < mesh.vertices → AreEnoughOf mesh lengths trees sought set found →
+    (mesh : Mesh) (lengths other : List ℕ) (trees others : ℕ → Tree) (sought : Place → Bool) (set : ℕ → Bool)
+    (z far most : ℕ) (found : List Found) → IsSurface mesh → ArePositive mesh lengths → ArePositive mesh other →
+    AreShortestTrees mesh lengths trees → AreShortestTrees mesh other others → AgreeOff mesh lengths other set →
+    z < mesh.vertices → AreEnoughOf mesh lengths trees sought set found → IsSoughtFromStart sought →
     ((place : Place) → IsTrue (sought place) → place.0 ≤ most) →
-    DependOnShorter mesh lengths trees z (most + 2 * far) (suc (2 * far)) found →
-    AreEnoughOf mesh lengths trees sought (with_near trees z far set) found
+    DependOnShorter mesh other others z (most + 2 * far) (suc (2 * far)) found →
+    AreEnoughOf mesh lengths trees sought (with_near others z far set) found

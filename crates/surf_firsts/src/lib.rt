@@ -6,9 +6,12 @@
 //! so long: a search that reaches no farther finds them (`law_of_first_loops`).
 //!
 //! A search at a vertex that finds nothing but loops much longer than those kept tells of the
-//! vertices near it too: what a loop there adds to the loops kept is nothing, since it is, up to a
-//! boundary, a sum of loops at the first vertex that are longer by no more than the way there and
-//! back (`law_of_near_vertices`).
+//! vertices near it too, though it goes by lengths that bar the ways through vertices for which
+//! what is kept is enough already (`law_of_near_vertices`). For a loop at a vertex near it is the
+//! sum of two closed walks over that vertex and the loop's least base, each no longer than the
+//! loop. Such a walk that meets one of the barred vertices is a sum of loops there that come no
+//! later than the loop. One that meets none is as long by the lengths of the search, so it is a sum
+//! of loops that the search could find, longer by no more than the way there and back.
 //!
 //! Each law is the contract of a function that does nothing.
 #![tactic(auto)]
@@ -23,8 +26,9 @@ pub fn law_of_first_loops()
     ensures greedy { FirstLoopsAreGreedy }
 {}
 
-/// Where the loops at a vertex depend on loops that are shorter by more than a way there and back,
-/// these are enough for the vertices that are no farther away.
+/// Where loops are enough for a set of vertices, and the loops at a vertex by lengths that may
+/// differ at that set depend on those of them that are shorter by more than a way there and back,
+/// they are enough for the vertices that are no farther away by these lengths.
 pub fn law_of_near_vertices()
     ensures near { NearVerticesNeedNoMore }
 {}

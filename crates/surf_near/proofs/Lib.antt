@@ -1,4 +1,5 @@
 pub mod Linking
+pub mod Barring
 pub mod RowCounts
 pub mod Trimming
 pub mod Offers

@@ -3,6 +3,7 @@ use Rattle.std.proofs.Common.{◌≡◌, ℕ, ◌<◌, ◌≤◌, ◌^◌, ◌�
 use Rattle.std.proofs.lemmas.Bool.{cases_lt, eqb-true, or_cases, or_left, or_right, and_parts, and_from}
 use Rattle.std.proofs.lemmas.List.{get_or-map, get_or_default, get_or_past, length-map}
 use Rattle.std.proofs.lemmas.Simd.{map-map}
+use Rattle.std.specs.Prelude.{Contains}
 use Rattle.surf_graphs.specs.Graphs.{joins}
 use Rattle.surf_graphs.specs.Cells.{primal}
 use Rattle.surf_surfaces.specs.Mesh.{Mesh, IsMesh}
@@ -16,7 +17,7 @@ use Rattle.surf_mesh.proofs.LinkLaws.{edge_row, cells_few}
 use Rattle.surf_lengths.specs.Lengths.{longest}
 use Rattle.surf_tree.proofs.LengthLaws.{short_lengths}
 use Rattle.surf_near.specs.declared.links.Link.{Link}
-use Rattle.surf_near.specs.Links.{LinkTables, weight_of, ends_of, link_in, AreLinksAt, AreLinks, AreUpTo}
+use Rattle.surf_near.specs.Links.{LinkTables, weight_of, ends_of, link_in, links_of, IsLinkAt, AreLinksAt, AreLinks, AreGivenAt, AreUpToOrPast}
 use Rattle.surf_tree.specs.Queues.{AreEven}
 
 -- an edge as a link of one of its ends
@@ -85,7 +86,7 @@ module _ (mesh : Mesh) (lengths : List ℕ) (v : ℕ) (links : List Link) (are :
 
 -- the edges at a vertex, written as links
 pub links_over : (mesh : Mesh) (lengths : List ℕ) (v : ℕ) (list : List ℕ) → IsMesh mesh → AreEdgesAt mesh v list →
-    AreLinksAt mesh lengths v (map (link_over mesh lengths v) list)
+    AreGivenAt mesh lengths v (map (link_over mesh lengths v) list)
 links_over mesh lengths v list is_mesh are =
     let same : map ends_of (map (link_over mesh lengths v) list) ≡ map (edge_link mesh v) list =
     map-map ends_of (link_over mesh lengths v) list in
@@ -113,8 +114,13 @@ module _ (mesh : Mesh) (lengths : List ℕ) (v : ℕ) (links : List Link) (are :
   pub item_edge_in : x.edge < edge_count mesh
   item_edge_in = subst (λ (y : Link). y.edge < edge_count mesh) item_is (link_edge_in mesh lengths v links are k l)
 
-  pub item_measured : x.length ≡ edge_length lengths x.edge
-  item_measured = subst (λ (y : Link). y.length ≡ edge_length lengths y.edge) item_is (are.measured k l)
+  -- a number that the list's links have is the read one's
+  pub item_with : (f g : Link → ℕ) → ((n : ℕ) → n < length links → f (link_in links n) ≡ g (link_in links n)) → f x ≡ g x
+  item_with f g same = subst (λ (y : Link). f y ≡ g y) item_is (same k l)
+
+pub item_there : (net : LinkTables) (v : ℕ) (links : List Link) → links ≡ links_of net v → (k : ℕ) → k < length links →
+    (x : Link) → x ≡ get_or links k x → IsLinkAt net v x
+item_there net v links same k l x read = subst (λ (xs : List Link). Contains xs x) same (k, l, sym read)
 
 -- what holds of the lengths and of the number of vertices
 module _ (net : LinkTables) (are : AreLinks net.mesh net.lengths net.rows) where
@@ -133,10 +139,11 @@ module _ (net : LinkTables) (are : AreLinks net.mesh net.lengths net.rows) where
   pub links_even : (size : ℕ) → AreEven net.lengths size → (e : ℕ) → e < edge_count net.mesh → weight_of net e ≡ size
   links_even size even e l = even e (omega (arith, l, are.as_many))
 
--- no length is greater than the greatest, also where there is no edge
-pub up_to_all : (lengths : List ℕ) (most : ℕ) → AreUpTo lengths most → (e : ℕ) → edge_length lengths e ≤ most
-up_to_all lengths most all e = elim (cases_lt e (length lengths)) [
-  | inl l ↦ all e l
+-- an edge that is no longer than the radius is no longer than the step, also where there is no such edge
+pub up_to_within : (lengths : List ℕ) (radius most : ℕ) → AreUpToOrPast lengths radius most → (e : ℕ) → edge_length lengths e ≤ radius →
+    edge_length lengths e ≤ most
+up_to_within lengths radius most all e within = elim (cases_lt e (length lengths)) [
+  | inl l ↦ elim (all e l) [ inl up ↦ up | inr past ↦ absurd (omega arith) ]
   | inr past ↦ let z = get_or_past lengths e 0 past in omega arith
 ]
 

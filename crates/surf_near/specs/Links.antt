@@ -1,5 +1,7 @@
--- The links of the vertices of a mesh, with the lengths of its edges.
-use Rattle.std.specs.Prelude.{◌≡◌, ℕ, ◌<◌, ◌≤◌, ◌^◌, List, [], length, map, slice_index, slice_index_or}
+-- The links of the vertices of a mesh, with the lengths of its edges, and vertices that are barred.
+use Rattle.std.specs.Prelude.{◌≡◌, ℕ, ◌<◌, ◌≤◌, ◌^◌, ◌⊎◌, Bool, true, false, ◌||◌, if◌then◌else◌, List, [], length, map}
+use Rattle.std.specs.Prelude.{Contains, Option, MatchOption, ⊤, slice_index, slice_index_or}
+use Rattle.std.specs.List.{range_with_len}
 use Rattle.surf_z2.specs.Parity.{count_below}
 use Rattle.surf_graphs.specs.Graphs.{Graph}
 use Rattle.surf_graphs.specs.Cells.{primal}
@@ -8,8 +10,9 @@ use Rattle.surf_surfaces.specs.Surface.{edge_count, ends, touches, IsSurface}
 use Rattle.surf_surfaces.specs.Walk.{edge_length}
 use Rattle.surf_surfaces.specs.Cells.{cells_of}
 use Rattle.surf_surfaces.specs.SideNumber.{side_count}
-use Rattle.surf_lengths.specs.Lengths.{AreLengths}
+use Rattle.surf_lengths.specs.Lengths.{AreLengths, longest}
 use Rattle.surf_mesh.specs.Links.{IsRow}
+use Rattle.surf_tree.specs.Queues.{AreEven}
 use Rattle.surf_near.specs.declared.links.Link.{Link}
 
 -- a mesh with its lengths, and the links of each vertex
@@ -32,11 +35,19 @@ ends_of link = (link.to, link.edge)
 abbrev pub link_in : List Link → ℕ → Link
 link_in links k = slice_index_or links k (record { to = 0; length = 0; edge = 0 })
 
--- the links of a vertex: one for each edge there, with its other end and its length
+abbrev pub links_of : LinkTables → ℕ → List Link
+links_of t v = slice_index_or t.rows v []
+
+abbrev pub IsLinkAt : LinkTables → ℕ → Link → Type 0
+IsLinkAt t v link = Contains (links_of t v) link
+
+-- The links of a vertex: one for each edge there, with its other end. A link has the length of its edge, unless this edge
+-- is barred.
 pub record AreLinksAt (mesh : Mesh) (lengths : List ℕ) (v : ℕ) (links : List Link) : Type 0 where
   pub row : IsRow (primal (cells_of mesh)) v (map ends_of links)
   pub measured : (k : ℕ) → k < length links →
-      (link_in links k).length ≡ edge_length lengths (link_in links k).edge
+      (edge_length lengths (link_in links k).edge ≡ (link_in links k).length)
+      ⊎ (edge_length lengths (link_in links k).edge ≡ longest)
 
 -- how many edges there are at a vertex
 abbrev pub degree : Mesh → ℕ → ℕ
@@ -51,6 +62,60 @@ pub record AreLinks (mesh : Mesh) (lengths : List ℕ) (rows : List (List Link))
   pub count : length rows ≡ mesh.vertices
   pub at : (v : ℕ) → v < mesh.vertices → AreLinksAt mesh lengths v (slice_index_or rows v [])
 
+-- Lengths with bars: an edge is barred where one of its ends is, and then it has the greatest length that there is.
+
+abbrev pub is_barred : Mesh → List Bool → ℕ → Bool
+is_barred mesh barred e =
+    slice_index_or barred (ends mesh e).0 false || slice_index_or barred (ends mesh e).1 false
+
+abbrev pub barred_lengths : Mesh → List Bool → List ℕ → List ℕ
+barred_lengths mesh barred given =
+    map (λ e. if is_barred mesh barred e then longest else edge_length given e) (range_with_len 0 (length given))
+
+-- the length that a link of a vertex stands for, by whether the vertex is barred
+abbrev pub length_past : List Bool → Bool → Link → ℕ
+length_past barred shut link = if shut || slice_index_or barred link.to false then longest else link.length
+
+-- only edges at a vertex may have another length than before
+pub record KeepsOff (mesh : Mesh) (v : ℕ) (old new : List ℕ) : Type 0 where
+  pub count : length new ≡ length old
+  pub same : (e : ℕ) → e < edge_count mesh → touches v (ends mesh e) ≡ false → slice_index new e ≡ slice_index old e
+
+-- each edge at a vertex is barred
+abbrev pub IsShutAt : Mesh → ℕ → List ℕ → Type 0
+IsShutAt mesh v lengths =
+    (e : ℕ) → e < edge_count mesh → touches v (ends mesh e) ≡ true → slice_index lengths e ≡ longest
+
 -- no edge is longer
 abbrev pub AreUpTo : List ℕ → ℕ → Type 0
 AreUpTo lengths most = (e : ℕ) → e < length lengths → slice_index lengths e ≤ most
+
+-- an edge that is longer leads past a radius
+abbrev pub AreUpToOrPast : List ℕ → ℕ → ℕ → Type 0
+AreUpToOrPast lengths radius most =
+    (e : ℕ) → e < length lengths → (slice_index lengths e ≤ most) ⊎ (radius < slice_index lengths e)
+
+-- the links of a vertex before any is barred
+pub record AreGivenAt (mesh : Mesh) (given : List ℕ) (v : ℕ) (links : List Link) : Type 0 where
+  pub row : IsRow (primal (cells_of mesh)) v (map ends_of links)
+  pub measured : (k : ℕ) → k < length links →
+      (link_in links k).length ≡ edge_length given (link_in links k).edge
+
+-- a row of links for each vertex before any is barred
+pub record AreGiven (mesh : Mesh) (given : List ℕ) (rows : List (List Link)) : Type 0 where
+  pub surface : IsSurface mesh
+  pub few : side_count mesh < 2 ^ 30
+  pub are_lengths : AreLengths given
+  pub as_many : length given ≡ edge_count mesh
+  pub count : length rows ≡ mesh.vertices
+  pub at : (v : ℕ) → v < mesh.vertices → AreGivenAt mesh given v (slice_index_or rows v [])
+
+-- The links with the lengths that were given, and a flag for each vertex; the length of all edges, where it is known that
+-- they have one; and a length that no edge exceeds until a vertex is barred.
+pub record AreKept (mesh : Mesh) (given : List ℕ) (rows : List (List Link)) (barred : List Bool) (even : Option ℕ)
+    (barring : Bool) (greatest : ℕ) : Type 0 where
+  pub links : AreGiven mesh given rows
+  pub flags : length barred ≡ mesh.vertices
+  pub even_is : MatchOption even ⊤ (AreEven (barred_lengths mesh barred given))
+  pub greatest_is : AreUpTo given greatest
+  pub none : barring ≡ false → barred_lengths mesh barred given ≡ given

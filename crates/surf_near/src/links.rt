@@ -1,9 +1,12 @@
 //! The links of each vertex, side by side.
-ghost use Rattle.std.specs.Prelude.{◌≡◌, ◌<◌, length, IfOk, OnOk};
+ghost use Rattle.std.specs.Prelude.{◌≡◌, ◌<◌, ℕ, length, IfOk, OnOk, MatchOption, ⊤};
 ghost use Rattle.surf_surfaces.specs.Mesh.{IsMesh};
 ghost use Rattle.surf_surfaces.specs.Surface.{edge_count};
-ghost use Rattle.surf_tree.specs.Queues.{IsEvenness};
-ghost use Rattle.surf_near.specs.Links.{AreLinks, AreLinksAt, AreUpTo, degree};
+ghost use Rattle.surf_surfaces.specs.Walk.{edge_length};
+ghost use Rattle.surf_tree.specs.Queues.{AreEven};
+ghost use Rattle.surf_near.specs.Links.{AreLinks, AreLinksAt, AreGivenAt, AreUpTo, AreUpToOrPast};
+ghost use Rattle.surf_near.specs.Links.{IsLinkAt, links_of, link_in, degree, length_past};
+ghost use Rattle.surf_near.specs.Links.{KeepsOff, IsShutAt};
 
 use std::alloc::Global;
 use std::marker::Model;
@@ -13,7 +16,7 @@ use surf_mesh::HalfMesh;
 use surf_rows::Rows;
 use surf_tree::even_length;
 
-/// A neighbour of a vertex, and the length and the number of the edge to it.
+/// A neighbour of a vertex, and the given length and the number of the edge to it.
 #[derive(Clone, Copy)]
 pub struct Link {
     pub to: VertexId,
@@ -21,27 +24,40 @@ pub struct Link {
     pub edge: EdgeId,
 }
 
-/// The links of each vertex of a mesh, whose edges have lengths.
+/// The links of one vertex, the flags of all, and the vertex's own flag.
+#[derive(Clone, Copy)]
+pub(crate) struct Around<'l> {
+    pub links: &'l [Link],
+    pub barred: &'l [bool],
+    pub shut: bool,
+}
+
+/// The links of each vertex of a mesh, whose edges have lengths. Vertices may be barred: each edge
+/// at one of them then has the greatest length that there is.
 #[derive(Drop)]
 pub struct Links<'m> {
     mesh: &'m HalfMesh,
     lengths: &'m Lengths,
     rows: Rows<Link>,
+    barred: Vec<bool>,
     even: Option<u32>,
+    barring: bool,
     greatest: u32,
 }
 
 impl<'m> Model for Links<'m> {
-    ghost use Rattle.surf_tree.specs.Queues.{IsEvenness};
-    ghost use Rattle.surf_near.specs.Links.{LinkTables, AreLinks, AreUpTo};
+    ghost use Rattle.surf_near.specs.Links.{LinkTables, AreKept, barred_lengths};
 
     ghost Value = { LinkTables };
 
-    ghost view = { λ l. record { mesh = l.mesh.now; lengths = l.lengths.now; rows = l.rows } };
+    ghost view = { λ l. record {
+      mesh = l.mesh.now;
+      lengths = barred_lengths l.mesh.now l.barred.items l.lengths.now;
+      rows = l.rows;
+    } };
 
-    ghost invariant = { λ l. AreLinks l.mesh.now l.lengths.now l.rows
-        × IsEvenness l.lengths.now l.even
-        × AreUpTo l.lengths.now l.greatest };
+    ghost invariant = { λ l.
+        AreKept l.mesh.now l.lengths.now l.rows l.barred.items l.even l.barring l.greatest };
 }
 
 // The greatest of all lengths, and 0 where there is none.
@@ -65,7 +81,7 @@ fn list_links(
     requires mesh { IsMesh mesh.now }
     requires vertex { v < mesh.now.vertices }
     requires lengths { length lengths.now ≡ edge_count mesh.now }
-    ensures links { OnOk result (AreLinksAt mesh.now lengths.now v row.new.items) }
+    ensures links { OnOk result (AreGivenAt mesh.now lengths.now v row.new.items) }
     ensures few { OnOk result (length row.new.items ≡ degree mesh.now v) }
 {
     let edges = mesh.ring_edges(v);
@@ -80,8 +96,21 @@ fn list_links(
     Ok(())
 }
 
+/// The length that a link of a vertex stands for, by whether the vertex is barred.
+#[inline]
+pub(crate) fn length_past(barred: &[bool], shut: bool, link: &Link) -> u32
+    requires flag { link.now.to < length barred.now }
+    ensures length { result ≡ length_past barred.now shut link.now }
+{
+    if shut || barred[link.to.index()] {
+        u32::MAX
+    } else {
+        link.length
+    }
+}
+
 impl<'m> Links<'m> {
-    /// The links of a mesh with its lengths.
+    /// The links of a mesh with its lengths. No vertex is barred.
     pub fn make(
         alloc: Global,
         mesh: &'m HalfMesh,
@@ -99,37 +128,95 @@ impl<'m> Links<'m> {
             list_links(mesh, lengths, VertexId::new(v), &mut row)?;
             rows.push(&row)?;
         }
+        let barred = vec![in alloc; false; mesh.vertices() as usize]?;
         let even = even_length(lengths);
         let greatest = greatest_length(lengths);
         Ok(Links {
             mesh,
             lengths,
             rows,
+            barred,
             even,
+            barring: false,
             greatest,
         })
     }
 
-    /// The length that all edges have, where they have one. A mesh without edges has none.
-    pub fn even(&self) -> Option<u32>
+    /// Bars a vertex: each edge there has the greatest length that there is from now on. It takes
+    /// no memory.
+    pub fn bar(&mut self, v: VertexId)
+        requires vertex { v < self.old.mesh.vertices }
+        ensures mesh { self.new.mesh ≡ self.old.mesh }
+        ensures rows { self.new.rows ≡ self.old.rows }
+        ensures off { KeepsOff self.new.mesh v self.old.lengths self.new.lengths }
+        ensures shut { IsShutAt self.new.mesh v self.new.lengths }
+    {
+        self.barred[v.index()] = true;
+        self.even = None;
+        self.barring = true;
+    }
+
+    /// What all links of this type keep. A caller whose proof rests on that calls it; it does
+    /// nothing.
+    pub fn law_of_links(&self)
         ensures links { AreLinks self.now.mesh self.now.lengths self.now.rows }
-        ensures even { IsEvenness self.now.lengths result }
+    {
+        // (what a type keeps is known where one of its fields is used)
+        let _barring = self.barring;
+    }
+
+    /// The length that all edges have, where it is known that they have one.
+    pub(crate) fn even(&self) -> Option<u32>
+        ensures links { AreLinks self.now.mesh self.now.lengths self.now.rows }
+        ensures even { MatchOption result ⊤ (AreEven self.now.lengths) }
     {
         self.even
     }
 
-    /// A length that no edge is longer than.
-    pub fn greatest(&self) -> u32
-        ensures greatest { AreUpTo self.now.lengths result }
+    /// A length that no edge exceeds but those that lead past a radius.
+    pub(crate) fn step(&self, radius: u64) -> u32
+        ensures step { AreUpToOrPast self.now.lengths radius result }
     {
-        self.greatest
+        if self.barring && radius >= u64::from(u32::MAX) {
+            u32::MAX
+        } else {
+            self.greatest
+        }
     }
 
-    /// The links of a vertex.
+    /// The links of a vertex. Each has the length that was given for its edge.
     pub fn at(&self, v: VertexId) -> &[Link]
         requires vertex { v < self.now.mesh.vertices }
         ensures row { AreLinksAt self.now.mesh self.now.lengths v result.now }
+        ensures links { result.now ≡ links_of self.now v }
     {
         self.rows.row(v.index())
+    }
+
+    /// The links of a vertex, with the flags by which their edges are barred.
+    pub(crate) fn around(&self, v: VertexId) -> Around<'_>
+        requires vertex { v < self.now.mesh.vertices }
+        ensures row { AreLinksAt self.now.mesh self.now.lengths v result.links.now }
+        ensures flags { length result.barred.now ≡ self.now.mesh.vertices }
+        ensures lengths { (k : ℕ) → k < length result.links.now →
+            length_past result.barred.now result.shut (link_in result.links.now k)
+            ≡ edge_length self.now.lengths (link_in result.links.now k).edge }
+    {
+        Around {
+            links: self.rows.row(v.index()),
+            barred: &self.barred,
+            shut: self.barred[v.index()],
+        }
+    }
+
+    /// The length of the edge of a link of a vertex: the greatest that there is, if an end of it is
+    /// barred.
+    #[inline]
+    pub fn length(&self, v: VertexId, link: &Link) -> u32
+        requires vertex { v < self.now.mesh.vertices }
+        requires link { IsLinkAt self.now v link.now }
+        ensures length { result ≡ edge_length self.now.lengths link.now.edge }
+    {
+        length_past(&self.barred, self.barred[v.index()], link)
     }
 }

@@ -2,12 +2,12 @@
 ghost use Rattle.std.specs.Prelude.{◌≡◌, ◌<◌, ◌≤◌, ◌+◌, ◌^◌, ◌≢◌, length};
 ghost use Rattle.surf_lengths.specs.Lengths.{longest};
 ghost use Rattle.surf_base.specs.Tables.{at};
-ghost use Rattle.surf_near.specs.Links.{AreLinks, AreUpTo, graph_of, weight_of};
+ghost use Rattle.surf_near.specs.Links.{AreLinks, AreUpToOrPast, graph_of, weight_of};
 ghost use Rattle.surf_near.specs.Near.{never};
 ghost use Rattle.surf_near.specs.Searching.{IsShort, Chooses, Offers, IsBlank, IsFound};
 
 use crate::fringe::Fringe;
-use crate::links::Links;
+use crate::links::{Links, length_past};
 use crate::tables::{Choice, NEVER, Tables};
 use surf_base::VertexId;
 
@@ -26,7 +26,7 @@ fn look_round(
     requires leasts { length least.now ≡ links.now.mesh.vertices }
     requires places { length fringe.old.entries ≡ links.now.mesh.vertices }
     requires now { fringe.old.now ≡ at distance.now v }
-    requires step { AreUpTo links.now.lengths fringe.old.step }
+    requires step { AreUpToOrPast links.now.lengths radius fringe.old.step }
     requires fits { IsShort links.now.mesh.vertices (at distance.now) }
     requires settled { at distance.now v ≢ never }
     ensures choice { Chooses links.now distance.now least.now v result }
@@ -40,15 +40,17 @@ fn look_round(
         up: u32::MAX,
         least: v.number(),
     };
-    for link in links.at(v) {
+    let around = links.around(v);
+    for link in around.links {
         let to = link.to.number();
+        let length = u64::from(length_past(around.barred, around.shut, link));
         let there = distance[link.to.index()];
         if there == NEVER {
-            let reached = d + u64::from(link.length);
+            let reached = d + length;
             if reached <= radius {
                 fringe.offer(to, reached);
             }
-        } else if there + u64::from(link.length) == d {
+        } else if there + length == d {
             best.least = best.least.min(least[link.to.index()]);
             if to < best.parent {
                 best.parent = to;
@@ -74,7 +76,7 @@ pub(crate) fn settle_near(
     ensures found { IsFound (graph_of links.now) (weight_of links.now) base radius tables.new }
     ensures places { length fringe.new.entries ≡ links.now.mesh.vertices }
 {
-    fringe.clear(links.greatest());
+    fringe.clear(links.step(radius));
     fringe.offer(base.number(), 0);
     while let Some((v, d)) = fringe.take_least() {
         tables.list(v, d);

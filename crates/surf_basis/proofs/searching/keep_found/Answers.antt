@@ -6,7 +6,8 @@ use Rattle.surf_graphs.specs.Trees.{Tree}
 use Rattle.surf_surfaces.proofs.FirstCycleLaws.{shortest_trees}
 use Rattle.surf_basis.specs.Places.{limit_of}
 use Rattle.surf_basis.specs.Found.{SurfaceTables, is_among}
-use Rattle.surf_basis.specs.Passing.{is_marked, AreKeptIn}
+use Rattle.surf_basis.specs.Passing.{is_marked, AreKeptIn, IsAhead}
+use Rattle.surf_basis.proofs.Barred.{ahead_first}
 use Rattle.surf_basis.proofs.Marked.{written_back}
 use Rattle.surf_basis.proofs.PassedOver.{none_marked, among_marked}
 use Rattle.surf_basis.proofs.Searched.{kept_begun, kept_fewer}
@@ -19,6 +20,7 @@ loop-v-init c =
     let is : c.in_ok-marks.marks.items ≡ replicate n false = c.in_ok-marks.ensures.items_if_clones_equal (λ y same. same) in
     record {
       same = refl;
+      ahead = ahead_first f c.args.scout.now.finder c.in_ok-marks.marks.items c.requires.scout;
       width = refl;
       count = ap (λ (ms : List Bool). length ms) is ∙ length-replicate n false ∙ c.vertices.ensures.vertices;
       kept = λ trees chosen d split are.
@@ -34,6 +36,11 @@ visit-requires-clause-kept c =
     subst (λ (f : SurfaceTables). AreKeptIn f.mesh f.lengths f.signs (is_marked c.deref_mut.result.now) c.loop-v.choice) (sym c.loop-v.invariant.same)
     (subst (λ (ms : List Bool). AreKeptIn c.args.finder.now.mesh c.args.finder.now.lengths c.args.finder.now.signs (is_marked ms) c.loop-v.choice)
     (sym c.deref_mut.ensures.value) c.loop-v.invariant.kept)
+
+pub visit-requires-clause-ahead : goal.visit-requires-clause-ahead
+visit-requires-clause-ahead c =
+    subst (λ (f : SurfaceTables). IsAhead f c.loop-v.scout.finder c.deref_mut.result.now) (sym c.loop-v.invariant.same)
+    (subst (λ (ms : List Bool). IsAhead c.args.finder.now c.loop-v.scout.finder ms) (sym c.deref_mut.ensures.value) c.loop-v.invariant.ahead)
 
 pub loop-v-preserved : goal.loop-v-preserved
 loop-v-preserved c =
@@ -58,6 +65,8 @@ loop-v-preserved c =
     ] in
     record {
       same = c.visit.ensures.same ∙ same;
+      ahead = subst (λ (ms : List Bool). IsAhead f c.visit.new.scout.finder ms) (sym written)
+          (subst (λ (g : SurfaceTables). IsAhead g c.visit.new.scout.finder marks) same c.visit.ensures.ahead);
       width = c.visit.ensures.width ∙ c.loop-v.invariant.width;
       count = ap (λ (ms : List Bool). length ms) written ∙ many ∙ value ∙ c.loop-v.invariant.count;
       kept = subst (λ (ms : List Bool). AreKeptIn f.mesh f.lengths f.signs (is_marked ms) c.visit.new.choice) (sym written)

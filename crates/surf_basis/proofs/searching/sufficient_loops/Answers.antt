@@ -13,6 +13,10 @@ signed_ends-requires c = record {
   table = signs_long c.args.surface.now.mesh.now c.args.surface.now.signatures.now c.args.count c.requires.signed;
 }
 
+pub make-requires-2-clause-signatures : goal.make-requires-2-clause-signatures
+make-requires-2-clause-signatures c =
+    signs_long c.args.surface.now.mesh.now c.args.surface.now.signatures.now c.args.count c.requires.signed
+
 pub returns-clause-inside : goal.returns-clause-inside
 returns-clause-inside c =
     let mesh = c.args.surface.now.mesh.now in

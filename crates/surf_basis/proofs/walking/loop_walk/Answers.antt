@@ -1,14 +1,14 @@
 use Rattle.std.proofs.Common.{ℕ, ◌≡◌, ◌<◌, true, sym, ap, subst}
-use Rattle.surf_lengths.proofs.Positive.{lengths_positive}
 use Rattle.surf_loops.proofs.Turned.{ends_in}
 use Rattle.surf_near.specs.Near.{is_near}
 use Rattle.surf_basis.specs.Based.{IsLoopWalk}
 use Rattle.surf_basis.proofs.Walked.{near_listed}
+use Rattle.surf_basis.proofs.Told.{links_positive}
 use Rattle.surf_basis.proofs.walking.loop_walk.Goals as goal
 
 pub push_way-requires-clause-vertex : goal.push_way-requires-clause-vertex
 push_way-requires-clause-vertex c =
-    let mesh = c.args.surface.now.mesh.now in
+    let mesh = c.args.mesh.now in
     let both = ends_in mesh c.law_of_surface.ensures.surface c.args.edge c.requires.edge in
     subst (λ (p : ℕ × ℕ). p.0 < mesh.vertices) (sym c.ends-u.ensures) both.0
 
@@ -17,7 +17,7 @@ push_way-requires-clause-near c = subst (λ (p : ℕ × ℕ). is_near c.args.des
 
 pub push_way-requires-2-clause-vertex : goal.push_way-requires-2-clause-vertex
 push_way-requires-2-clause-vertex c =
-    let mesh = c.args.surface.now.mesh.now in
+    let mesh = c.args.mesh.now in
     let both = ends_in mesh c.law_of_surface.ensures.surface c.args.edge c.requires.edge in
     subst (λ (p : ℕ × ℕ). p.1 < mesh.vertices) (sym c.ends-u.ensures) both.1
 
@@ -26,10 +26,10 @@ push_way-requires-2-clause-near c = subst (λ (p : ℕ × ℕ). is_near c.args.d
 
 pub returns : goal.returns
 returns c =
-    let mesh = c.args.surface.now.mesh.now in
-    let lengths = c.args.surface.now.lengths.now in
+    let mesh = c.args.mesh.now in
+    let lengths = c.args.links.now.lengths in
     let surface = c.law_of_surface.ensures.surface in
-    let positive = lengths_positive mesh lengths c.law_of_lengths.ensures.lengths c.requires.lengths in
+    let positive = links_positive mesh c.args.links.now.mesh lengths c.args.links.now.rows c.requires.links c.law_of_links.ensures.links in
     let base = c.args.desk.now.base in
     let both = ends_in mesh surface c.args.edge c.requires.edge in
     let is_u : c.ends-u.result.0 ≡ _ = ap (λ (p : ℕ × ℕ). p.0) c.ends-u.ensures in

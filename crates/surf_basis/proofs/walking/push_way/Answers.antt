@@ -1,9 +1,9 @@
 use Rattle.std.proofs.Common.{◌≡◌, ◌≢◌, ◌∷◌, ◌++◌, List, ℕ, refl, sym, ap, ◌∙◌, arith, append-nil}
 use Rattle.std.proofs.lemmas.Bool.Decides.{nat_tests}
 use Rattle.surf_graphs.specs.Loops.{way_up}
-use Rattle.surf_lengths.proofs.Positive.{lengths_positive}
 use Rattle.surf_loops.proofs.Turned.{way_goes_on}
 use Rattle.surf_basis.proofs.Walked.{IsUp, up_near, up_done}
+use Rattle.surf_basis.proofs.Told.{links_positive}
 use Rattle.surf_basis.proofs.walking.push_way.Goals as goal
 
 pub loop-at-init : goal.loop-at-init
@@ -19,11 +19,11 @@ pub parent-at-requires : goal.parent-at-requires
 parent-at-requires c = record { vertex = omega (arith, c.loop-at.invariant.within, c.requires.reached.near.made.parents) }
 
 step : (c : goal.In_ok-push-2) →
-    IsUp c.args.surface.now.mesh.now c.args.surface.now.lengths.now c.args.desk.now.base c.args.desk.now c.loop-at.at c.parent-at.result
+    IsUp c.args.mesh.now c.args.links.now.lengths c.args.desk.now.base c.args.desk.now c.loop-at.at c.parent-at.result
 step c =
-    let mesh = c.args.surface.now.mesh.now in
-    let lengths = c.args.surface.now.lengths.now in
-    let positive = lengths_positive mesh lengths c.law_of_lengths.ensures.lengths c.requires.lengths in
+    let mesh = c.args.mesh.now in
+    let lengths = c.args.links.now.lengths in
+    let positive = links_positive mesh c.args.links.now.mesh lengths c.args.links.now.rows c.requires.links c.law_of_links.ensures.links in
     let ne : c.loop-at.at ≢ c.args.desk.now.base = λ e. grind (arith, nat_tests, c.loop-at-test.true, c.base.ensures.base, e) in
     up_near mesh lengths c.law_of_surface.ensures.surface positive c.args.desk.now.base c.requires.base c.requires.reached.far c.args.desk.now
     c.requires.reached.near c.loop-at.at c.parent-at.result c.loop-at.invariant.within c.loop-at.invariant.near ne c.parent-at.ensures.parent
@@ -45,9 +45,9 @@ loop-at-preserved c =
 
 pub returns : goal.returns
 returns c =
-    let mesh = c.args.surface.now.mesh.now in
-    let lengths = c.args.surface.now.lengths.now in
-    let positive = lengths_positive mesh lengths c.law_of_lengths.ensures.lengths c.requires.lengths in
+    let mesh = c.args.mesh.now in
+    let lengths = c.args.links.now.lengths in
+    let positive = links_positive mesh c.args.links.now.mesh lengths c.args.links.now.rows c.requires.links c.law_of_links.ensures.links in
     let done : c.loop-at.at ≡ c.args.desk.now.base = grind (arith, nat_tests, c.loop-at-test.false, c.base.ensures.base) in
     record {
       way = λ tree short.

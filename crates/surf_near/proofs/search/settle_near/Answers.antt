@@ -18,7 +18,7 @@ loop-v-init c =
     let first = first_offer net.mesh.vertices base c.clear.new.self.entries c.offer.new.self.entries c.requires.base (rw (← c.requires.places) c.clear.ensures.empty) (rw (← c.number.ensures) c.offer.ensures.entry) in
     record {
       places = first.2;
-      step = rw (c.offer.ensures.step, c.clear.ensures.step) c.greatest.ensures.greatest;
+      step = rw (c.offer.ensures.step, c.clear.ensures.step) c.step.ensures.step;
       search = near_begins (graph_of net) (weight_of net) base c.args.radius (links_small net are) (links_short net are) c.args.tables.now c.offer.new.self.entries c.requires.base c.requires.blank first.0 first.1;
     }
 

@@ -1,7 +1,7 @@
 use Rattle.std.proofs.Common.{◌≡◌, length, eqb}
 use Rattle.surf_z2.specs.Parity.{count_below}
 use Rattle.surf_base.specs.Tables.{at}
-use Rattle.surf_near.specs.Links.{AreUpTo, graph_of, weight_of}
+use Rattle.surf_near.specs.Links.{AreUpToOrPast, graph_of, weight_of}
 use Rattle.surf_near.specs.Near.{never}
 use Rattle.surf_near.proofs.Turns.{IsSearchNear}
 use Rattle.surf_near.proofs.search.settle_near.Given as goal
@@ -10,7 +10,7 @@ abbrev pub invariant-loop-v : goal.invariant-loop-v
 invariant-loop-v l = record {
   places : length l.fringe.entries ≡ l.links.mesh.vertices;
   search : IsSearchNear (graph_of l.links) (weight_of l.links) l.fn.base l.radius l.tables l.fringe.entries;
-  step : AreUpTo l.links.lengths l.fringe.step;
+  step : AreUpToOrPast l.links.lengths l.radius l.fringe.step;
 }
 
 abbrev pub decreases-loop-v : goal.decreases-loop-v

@@ -1,11 +1,12 @@
-use Rattle.std.proofs.Common.{◌≡◌, ◌<◌, ◌∙◌, ◌∷◌, ◌++◌, [], List, length, length-append, ap, subst, arith, inl, inr}
+use Rattle.std.proofs.Common.{◌≡◌, ◌<◌, ◌∙◌, ◌∷◌, ◌++◌, [], List, false, replicate, length, length-append, ap, subst, arith, inl, inr}
 use Rattle.std.specs.List.{sum_by}
 use Rattle.std.proofs.lemmas.Bool.{cases_eq}
-use Rattle.std.proofs.lemmas.List.{get_or_push, get_or_append_left}
+use Rattle.std.proofs.lemmas.List.{get_or_push, get_or_append_left, length-replicate}
 use Rattle.std.proofs.lemmas.List.Sums.{sum_by_push}
 use Rattle.surf_mesh.proofs.LinkLaws.{cells_few}
 use Rattle.surf_near.specs.declared.links.Link.{Link}
-use Rattle.surf_near.specs.Links.{AreLinksAt, degree}
+use Rattle.surf_near.specs.Links.{AreGivenAt, barred_lengths, degree}
+use Rattle.surf_near.proofs.Barring.{none_barred, even_kept}
 use Rattle.surf_near.proofs.RowCounts.{rows_before, rows_next}
 use Rattle.surf_near.proofs.links.Links.make.Goals as goal
 
@@ -27,7 +28,7 @@ loop-v-preserved c =
     let pushed : c.push.new.self ≡ c.loop-v.rows ++ row ∷ [] = c.in_ok-push.ensures.ok ∙ ap (λ (xs : List Link). c.loop-v.rows ++ xs ∷ []) c.deref.ensures.value in
     let size : length row ≡ degree mesh c.loop-v.v = c.in_ok-list_links.ensures.few ∙ ap (degree mesh) c.new.ensures in
     let more = sum_by_push {X = List Link} length c.loop-v.rows row in
-    let here : AreLinksAt mesh c.args.lengths.now c.loop-v.v row = subst (λ v. AreLinksAt mesh c.args.lengths.now v row) c.new.ensures c.in_ok-list_links.ensures.links in
+    let here : AreGivenAt mesh c.args.lengths.now c.loop-v.v row = subst (λ v. AreGivenAt mesh c.args.lengths.now v row) c.new.ensures c.in_ok-list_links.ensures.links in
     record {
       count = omega (arith, ap length pushed, length-append c.loop-v.rows (row ∷ []), inv.count);
       total = omega (arith, ap (sum_by length) pushed, more, size, inv.total, rows_next mesh c.loop-v.v);
@@ -43,15 +44,25 @@ pub invariant_of-result : goal.invariant_of-result
 invariant_of-result c =
     let mesh = c.args.mesh.now in
     let inv = c.loop-v.invariant in
-    let end : c.loop-v.v ≡ mesh.vertices = omega (arith, c.loop-v-test.false, c.vertices-v-end.ensures.count) in (
-      record {
+    let end : c.loop-v.v ≡ mesh.vertices = omega (arith, c.loop-v-test.false, c.vertices-v-end.ensures.count) in
+    let is : c.in_ok-barred.barred.items ≡ replicate c.vertices-2.result false = c.in_ok-barred.ensures.items_if_clones_equal (λ y same. same) in
+    let given : barred_lengths mesh c.in_ok-barred.barred.items c.args.lengths.now ≡ c.args.lengths.now = rw is (none_barred mesh c.args.lengths.now c.vertices-2.result) in
+    record {
+      links = record {
         surface = c.vertices-v-end.ensures.surface;
         few = c.vertices-v-end.ensures.few;
         are_lengths = c.even_length-even.ensures.lengths;
         as_many = c.requires.lengths;
         count = inv.count ∙ end;
         at = λ v l. inv.at v (omega (arith, end));
-      },
-      c.even_length-even.ensures.even,
-      c.greatest_length-greatest.ensures,
-    )
+      };
+      flags = ap length is ∙ length-replicate c.vertices-2.result false ∙ c.vertices-2.ensures.count;
+      even_is = rw given (even_kept c.args.lengths.now c.even_length-even.result c.even_length-even.ensures.even);
+      greatest_is = c.greatest_length-greatest.ensures;
+      none = λ no. given;
+    }
+
+pub returns-clause-lengths : goal.returns-clause-lengths
+returns-clause-lengths c =
+    let is : c.in_ok-barred.barred.items ≡ replicate c.vertices-2.result false = c.in_ok-barred.ensures.items_if_clones_equal (λ y same. same) in
+    rw is (none_barred c.args.mesh.now c.args.lengths.now c.vertices-2.result)

@@ -2,12 +2,12 @@ use Rattle.std.proofs.Common.{◌≡◌, ◌<◌, ℕ, [], length}
 use Rattle.std.specs.List.{sum_by}
 use Rattle.std.specs.Prelude.{slice_index_or}
 use Rattle.surf_z2.specs.Parity.{sum_below}
-use Rattle.surf_near.specs.Links.{AreLinksAt, degree}
+use Rattle.surf_near.specs.Links.{AreGivenAt, degree}
 use Rattle.surf_near.proofs.links.Links.make.Given as goal
 
 abbrev pub invariant-loop-v : goal.invariant-loop-v
 invariant-loop-v l = record {
   count : length l.rows ≡ l.v;
   total : sum_by length l.rows ≡ sum_below l.v (degree l.mesh);
-  at : (u : ℕ) → u < l.v → AreLinksAt l.mesh l.lengths u (slice_index_or l.rows u []);
+  at : (u : ℕ) → u < l.v → AreGivenAt l.mesh l.lengths u (slice_index_or l.rows u []);
 }
