@@ -41,8 +41,8 @@ links_of t v = slice_index_or t.rows v []
 abbrev pub IsLinkAt : LinkTables → ℕ → Link → Type 0
 IsLinkAt t v link = Contains (links_of t v) link
 
--- The links of a vertex: one for each edge there, with its other end. A link has the length of its edge, unless this edge
--- is barred.
+-- The links of a vertex: one for each edge there, with its other end. A link has the length of its edge, unless this
+-- edge is barred.
 pub record AreLinksAt (mesh : Mesh) (lengths : List ℕ) (v : ℕ) (links : List Link) : Type 0 where
   pub row : IsRow (primal (cells_of mesh)) v (map ends_of links)
   pub measured : (k : ℕ) → k < length links →
@@ -110,8 +110,8 @@ pub record AreGiven (mesh : Mesh) (given : List ℕ) (rows : List (List Link)) :
   pub count : length rows ≡ mesh.vertices
   pub at : (v : ℕ) → v < mesh.vertices → AreGivenAt mesh given v (slice_index_or rows v [])
 
--- The links with the lengths that were given, and a flag for each vertex; the length of all edges, where it is known that
--- they have one; and a length that no edge exceeds until a vertex is barred.
+-- The links with the lengths that were given, and a flag for each vertex; the length of all edges, where it is known
+-- that they have one; and a length that no edge exceeds until a vertex is barred.
 pub record AreKept (mesh : Mesh) (given : List ℕ) (rows : List (List Link)) (barred : List Bool) (even : Option ℕ)
     (barring : Bool) (greatest : ℕ) : Type 0 where
   pub links : AreGiven mesh given rows
