@@ -42,9 +42,9 @@ pub record IsLonger (kept : List Signed) (margin : ℕ) (s : Signed) : Type 0 wh
   pub sum : Spanned numbers (signatures (take count kept)) s.signature
   pub longer : (k : ℕ) → suc k ≡ count → (slice_index_or kept k s).candidate.length + margin ≤ s.candidate.length
 
--- a limit that is farther by a sixty-fourth, as far as a length goes
+-- a limit that is farther by a sixteenth, as far as a length goes
 abbrev pub widened : Candidate → Candidate
-widened c = record { length = min (c.length + c.length / 64) 18446744073709551615; base = c.base; edge = c.edge }
+widened c = record { length = min (c.length + c.length / 16) 18446744073709551615; base = c.base; edge = c.edge }
 
 -- by how much a limit is longer than another one
 abbrev pub spare_of : Option Candidate → Option Candidate → ℕ

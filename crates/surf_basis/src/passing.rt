@@ -28,7 +28,7 @@ impl Pace {
     {
         match limit {
             Some(last) if self.left == 0 => Some(Candidate {
-                length: last.length.saturating_add(last.length / 64),
+                length: last.length.saturating_add(last.length / 16),
                 base: last.base,
                 edge: last.edge,
             }),
