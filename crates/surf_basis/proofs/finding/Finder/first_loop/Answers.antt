@@ -1,9 +1,6 @@
-use Rattle.std.proofs.Common.{refl, ◌<◌, sym, subst}
-use Rattle.std.proofs.lemmas.List.{get_or_default}
+use Rattle.std.proofs.Common.{◌<◌, sym, subst}
 use Rattle.surf_basis.specs.Found.{SurfaceTables, search_of, AreTold, IsFirstAt}
-use Rattle.surf_basis.specs.Places.{radius_of}
-use Rattle.surf_basis.proofs.Numbered.{settled_in}
-use Rattle.surf_basis.proofs.Told.{links_positive, near_there, told_are_found}
+use Rattle.surf_basis.proofs.Told.{links_positive, told_are_found}
 use Rattle.surf_basis.proofs.finding.Finder.first_loop.Goals as goal
 
 pub returns-clause-first : goal.returns-clause-first
