@@ -1,17 +1,15 @@
 -- Lengths that differ from others at edges with a marked end alone, while more vertices are marked.
-use Rattle.std.proofs.Common.{◌≡◌, ◌≢◌, ℕ, ◌<◌, ◌||◌, Bool, true, false, eqb, ne_eqb, List, length, set, refl, sym, ap, ◌∙◌, subst, arith, inl, inr, get_or-set_other, get_or-set_same}
-use Rattle.std.specs.Prelude.{IsTrue, slice_index, slice_index_or}
-use Rattle.std.proofs.lemmas.Bool.{cases_eq, cases_Bool, false≢true, or_from}
+use Rattle.std.proofs.Common.{◌≡◌, ℕ, Bool, false, List, refl, sym, ◌∙◌, subst, inl, inr}
+use Rattle.std.specs.Prelude.{IsTrue}
+use Rattle.std.proofs.lemmas.Bool.{cases_Bool, false≢true}
 use Rattle.surf_surfaces.specs.Mesh.{Mesh}
-use Rattle.surf_surfaces.specs.Surface.{edge_count, ends, touches}
+use Rattle.surf_surfaces.specs.Surface.{ends}
 use Rattle.surf_firsts.specs.Near.{AgreeOff}
-use Rattle.surf_near.specs.Links.{KeepsOff, IsShutAt}
 use Rattle.surf_surfaces.specs.Walk.{ArePositive}
 use Rattle.surf_cotree.specs.Tables.{CotreeTables}
 use Rattle.surf_basis.specs.Candidates.{Chosen}
 use Rattle.surf_basis.specs.Found.{SurfaceTables}
-use Rattle.surf_basis.specs.Passing.{is_marked, AreKeptIn, AreShut, StayKept, IsAhead}
-use Rattle.surf_basis.proofs.PassedOver.{marked_more}
+use Rattle.surf_basis.specs.Passing.{is_marked, AreKeptIn, StayKept, IsAhead}
 
 -- what isn't in a set isn't in a lesser one
 off_less : (s t : ℕ → Bool) → ((v : ℕ) → IsTrue (s v) → IsTrue (t v)) → (v : ℕ) → t v ≡ false → s v ≡ false

@@ -1,13 +1,16 @@
 //! Searches from one vertex after the other, and the loops that they find.
-ghost use Rattle.std.specs.Prelude.{ℕ, ◌≡◌, ◌<◌, true, IsTrue, slice_set, length, IfOk, OnOk};
+ghost use Rattle.std.specs.Prelude.{ℕ, ◌≡◌, ◌<◌, true, IsTrue, All, slice_set, length, IfOk, OnOk};
 ghost use Rattle.surf_surfaces.specs.Surface.{edge_count, IsSurface};
 ghost use Rattle.surf_surfaces.specs.Walk.{ArePositive};
 ghost use Rattle.surf_firsts.specs.Near.{AgreeOff};
 ghost use Rattle.surf_near.specs.Links.{IsShutAt};
+ghost use Rattle.surf_near.specs.Near.{AreNearTables, IsNear};
 ghost use Rattle.surf_basis.specs.Based.{IsMeasured};
 ghost use Rattle.surf_basis.specs.Candidates.{IsCycleOf};
 ghost use Rattle.surf_basis.specs.Found.{surface_of, AreFound, IsFirstAt, plain_edges};
 ghost use Rattle.surf_basis.specs.Passing.{is_marked, AreMarkedNear, AreShut};
+ghost use Rattle.surf_basis.specs.Places.{radius_of};
+ghost use Rattle.surf_basis.specs.Ways.{AreWays};
 
 use crate::candidate::{Candidate, Signed};
 use crate::cycle::Cycle;
@@ -25,14 +28,51 @@ use surf_cotree::CotreeDesk;
 use surf_mesh::HalfMesh;
 use surf_near::{Links, NearDesk};
 
+/// The tables of one search at a time: what it reached, and the classes of the ways there.
+#[derive(Drop)]
+struct Tables {
+    desk: NearDesk,
+    ways: Ways,
+}
+
+impl Tables {
+    // Searches from a base, as far as it must to find the loops before a limit.
+    fn reach(
+        &mut self,
+        surface: &SignedSurface<'_>,
+        links: &Links<'_>,
+        plain: &[bool],
+        base: VertexId,
+        limit: &Option<Candidate>,
+    ) -> Result<(), NoMemory>
+        requires base { base < surface.now.mesh.now.vertices }
+        requires links { links.now.mesh ≡ surface.now.mesh.now }
+        requires signatures { length surface.now.signatures.now.signatures
+            ≡ edge_count surface.now.mesh.now }
+        requires plain { plain.now ≡ plain_edges surface.now.signatures.now }
+        requires made { AreNearTables surface.now.mesh.now self.old.desk }
+        requires numbers { length self.old.ways.numbers ≡ surface.now.mesh.now.vertices }
+        ensures near { IsNear surface.now.mesh.now links.now.lengths base (radius_of limit.now)
+            self.new.desk }
+        ensures settled { All (λ v. v < surface.now.mesh.now.vertices) self.new.desk.settled }
+        ensures ways { OnOk result (AreWays surface.now.mesh.now links.now.lengths base
+            surface.now.signatures.now self.new.desk self.new.ways) }
+        ensures numbers { length self.new.ways.numbers ≡ surface.now.mesh.now.vertices }
+    {
+        surface.mesh.law_of_surface();
+        links.law_of_links();
+        self.desk.grow(links, base, radius(limit));
+        self.ways.sum(surface, links, &self.desk, plain, base)
+    }
+}
+
 /// Finds the loops of edges at one vertex after the other. Its lengths are those of its links, which
 /// may bar the ways through some vertices.
 #[derive(Drop)]
 pub(crate) struct Finder<'a> {
     surface: SignedSurface<'a>,
     links: Links<'a>,
-    desk: NearDesk,
-    ways: Ways,
+    tables: Tables,
     plain: Vec<bool>,
 }
 
@@ -51,8 +91,8 @@ impl<'a> Model for Finder<'a> {
     } };
 
     ghost invariant = { λ f. (f.links.mesh ≡ f.surface.mesh.now)
-        × AreNearTables f.surface.mesh.now f.desk
-        × (length f.ways.numbers ≡ f.surface.mesh.now.vertices)
+        × AreNearTables f.surface.mesh.now f.tables.desk
+        × (length f.tables.ways.numbers ≡ f.surface.mesh.now.vertices)
         × (length f.surface.signatures.now.signatures ≡ edge_count f.surface.mesh.now)
         × (f.plain.items ≡ plain_edges f.surface.signatures.now) };
 }
@@ -88,14 +128,15 @@ impl<'a> Finder<'a> {
             signatures: surface.signatures,
         };
         let links = Links::make(alloc, surface.mesh, surface.lengths)?;
-        let desk = NearDesk::make(alloc, surface.mesh)?;
-        let ways = Ways::make(alloc, surface.mesh)?;
+        let tables = Tables {
+            desk: NearDesk::make(alloc, surface.mesh)?,
+            ways: Ways::make(alloc, surface.mesh)?,
+        };
         let plain = plain_edges(alloc, surface.mesh, surface.signatures)?;
         Ok(Finder {
             surface,
             links,
-            desk,
-            ways,
+            tables,
             plain,
         })
     }
@@ -114,14 +155,13 @@ impl<'a> Finder<'a> {
     {
         self.surface.mesh.law_of_surface();
         self.links.law_of_links();
-        self.desk.grow(&self.links, base, radius(limit));
-        self.ways
-            .sum(&self.surface, &self.links, &self.desk, &self.plain, base)?;
+        self.tables
+            .reach(&self.surface, &self.links, &self.plain, base, limit)?;
         let reached = Reached {
             surface: &self.surface,
             links: &self.links,
-            desk: &self.desk,
-            ways: &self.ways,
+            desk: &self.tables.desk,
+            ways: &self.tables.ways,
             plain: &self.plain,
         };
         list_loops(&reached, limit, found)
@@ -175,8 +215,8 @@ impl<'a> Finder<'a> {
     {
         self.surface.mesh.law_of_surface();
         self.links.law_of_links();
-        self.desk.grow(&self.links, base, far);
-        mark_all(self.desk.settled(), &mut self.links, marks);
+        self.tables.desk.grow(&self.links, base, far);
+        mark_all(self.tables.desk.settled(), &mut self.links, marks);
     }
 
     /// The cycle of a candidate whose length is that of the loop of its edge.
@@ -187,13 +227,14 @@ impl<'a> Finder<'a> {
     {
         self.surface.mesh.law_of_surface();
         self.links.law_of_links();
-        self.desk
+        self.tables
+            .desk
             .grow(&self.links, candidate.base, candidate.length / 2);
         let walk = loop_walk(
             alloc,
             self.surface.mesh,
             &self.links,
-            &self.desk,
+            &self.tables.desk,
             candidate.edge,
         )?;
         Ok(Cycle {
@@ -217,14 +258,13 @@ impl<'a> Finder<'a> {
     {
         self.surface.mesh.law_of_surface();
         self.links.law_of_links();
-        self.desk.grow(&self.links, base, radius(limit));
-        self.ways
-            .sum(&self.surface, &self.links, &self.desk, &self.plain, base)?;
+        self.tables
+            .reach(&self.surface, &self.links, &self.plain, base, limit)?;
         let reached = Reached {
             surface: &self.surface,
             links: &self.links,
-            desk: &self.desk,
-            ways: &self.ways,
+            desk: &self.tables.desk,
+            ways: &self.tables.ways,
             plain: &self.plain,
         };
         Ok(first_told(&reached, limit))

@@ -1,4 +1,4 @@
-use Rattle.std.proofs.Common.{◌≡◌, ℕ, suc, ◌<◌, ◌≤◌, ◌+◌, ◌-◌, ◌^◌, take, length, get_or, sym, subst, ◌∙◌, arith}
+use Rattle.std.proofs.Common.{◌≡◌, ℕ, ◌<◌, ◌≤◌, ◌+◌, ◌-◌, ◌^◌, take, length, get_or, sym, subst, ◌∙◌, arith}
 use Rattle.std.proofs.lemmas.List.{get_or_default, take_all}
 use Rattle.surf_z2.specs.Order.{IsInOrder}
 use Rattle.surf_z2.specs.Space.{numbers, Spanned}

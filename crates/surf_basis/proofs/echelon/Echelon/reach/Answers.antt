@@ -1,4 +1,4 @@
-use Rattle.std.proofs.Common.{ℕ, ◌<◌, ◌≤◌, ◌+◌, ◌-◌, ◌/◌, arith}
+use Rattle.std.proofs.Common.{◌≤◌, ◌+◌, ◌-◌, ◌/◌, arith}
 use Rattle.surf_basis.proofs.Fronts.{spanned_more}
 use Rattle.surf_basis.proofs.echelon.Echelon.reach.Goals as goal
 
