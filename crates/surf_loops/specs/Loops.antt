@@ -1,5 +1,5 @@
 -- What a loop desk holds after it has found the loops at a base.
-use Rattle.std.specs.Prelude.{ℕ, ◌≡◌, ◌≢◌, ◌<◌, ◌≤◌, ◌^◌, List, length, map, All, slice_index, Some, None}
+use Rattle.std.specs.Prelude.{ℕ, ◌≡◌, ◌≢◌, ◌<◌, ◌≤◌, ◌^◌, Bool, List, length, map, All, slice_index, Some, None}
 use Rattle.surf_graphs.specs.Cells.{primal}
 use Rattle.surf_graphs.specs.Trees.{IsTree}
 use Rattle.surf_surfaces.specs.Mesh.{Mesh}
@@ -20,6 +20,12 @@ use Rattle.surf_loops.specs.declared.head.LoopHead.{LoopHead}
 pub record LoopTables : Type 0 where
   pub tree : TreeTables
   pub cotree : CotreeTables
+  pub heads : List LoopHead
+
+-- of these: the tables of the tree of vertices, for each edge whether the tree of faces has it, and the heads
+pub record BaseTables : Type 0 where
+  pub tree : TreeTables
+  pub held : List Bool
   pub heads : List LoopHead
 
 -- there is an entry for each vertex, face and edge
@@ -68,3 +74,9 @@ pub record IsGreedy (mesh : Mesh) (lengths : List ℕ) (base : ℕ) (t : LoopTab
   pub least : LoopsAtBase mesh lengths base (trees_of t)
   pub most : (walks : List (List ℕ)) → All (IsClosed mesh) walks → IsIndependent mesh walks →
       length walks ≤ length t.heads
+
+-- there are tables of the tree of faces, with these flags, such that all are those of the loops that are chosen
+pub record HasGreedy (mesh : Mesh) (lengths : List ℕ) (base : ℕ) (t : BaseTables) : Type 0 where
+  pub cotree : CotreeTables
+  pub held : cotree.held ≡ t.held
+  pub greedy : IsGreedy mesh lengths base (record { tree = t.tree; cotree = cotree; heads = t.heads })
