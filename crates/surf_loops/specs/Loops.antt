@@ -28,6 +28,10 @@ pub record BaseTables : Type 0 where
   pub held : List Bool
   pub heads : List LoopHead
 
+-- they and the tables of a tree of faces
+abbrev pub with_cotree : BaseTables → CotreeTables → LoopTables
+with_cotree t cotree = record { tree = t.tree; cotree = cotree; heads = t.heads }
+
 -- there is an entry for each vertex, face and edge
 pub record AreLoopTables (mesh : Mesh) (t : LoopTables) : Type 0 where
   pub tree : AreTreeTables mesh t.tree
@@ -79,4 +83,4 @@ pub record IsGreedy (mesh : Mesh) (lengths : List ℕ) (base : ℕ) (t : LoopTab
 pub record HasGreedy (mesh : Mesh) (lengths : List ℕ) (base : ℕ) (t : BaseTables) : Type 0 where
   pub cotree : CotreeTables
   pub held : cotree.held ≡ t.held
-  pub greedy : IsGreedy mesh lengths base (record { tree = t.tree; cotree = cotree; heads = t.heads })
+  pub greedy : IsGreedy mesh lengths base (with_cotree t cotree)
