@@ -26,7 +26,7 @@ module _ (mesh : Mesh) (t : LoopTables) where
   same_lines [] = refl
   same_lines (h ∷ heads) = ap (λ xs. head_line mesh t.tree h ++ xs) (same_lines heads)
 
-  text_of_heads : loops_text (map (loop_of mesh t) t.heads) ≡ heads_text mesh t
+  text_of_heads : loops_text (map (loop_of mesh t) t.heads) ≡ heads_text mesh t.tree t.heads
   text_of_heads =
       ap (λ n. loops_head n (sum (map (λ c. c.size) (map (loop_of mesh t) t.heads))) ++ flat_map (λ c. walk_line c.size c.walk) (map (loop_of mesh t) t.heads)) (as_many t.heads)
       ∙ ap (λ xs. loops_head (length t.heads) (sum xs) ++ flat_map (λ c. walk_line c.size c.walk) (map (loop_of mesh t) t.heads)) (as_long t.heads)
@@ -41,7 +41,7 @@ weaker P Q [] f all = tt
 weaker P Q (x ∷ xs) f all = (f x all.0, weaker P Q xs f all.1)
 
 module _ (mesh : Mesh) (lengths : List ℕ) (base : ℕ) (t : LoopTables) (greedy : IsGreedy mesh lengths base t) where
-  pub heads_are_loops : heads_text mesh t ≡ loops_text (loops_at mesh lengths base (trees_of t))
+  pub heads_are_loops : heads_text mesh t.tree t.heads ≡ loops_text (loops_at mesh lengths base (trees_of t))
   heads_are_loops = sym (text_of_heads mesh t) ∙ ap loops_text greedy.heads
 
   pub heads_total : sum (map (λ h. h.length) t.heads) ≡ total_size (loops_at mesh lengths base (trees_of t))

@@ -1,9 +1,8 @@
--- The lines of the loops of a desk.
+-- The lines of loops by their heads.
 use Rattle.std.specs.Prelude.{ℕ, List, ◌++◌, length, map, sum, flat_map}
 use Rattle.surf_surfaces.specs.Mesh.{Mesh}
 use Rattle.surf_surfaces.specs.Loop.{loop_walk}
 use Rattle.surf_tree.specs.Tables.{TreeTables, tree_of}
-use Rattle.surf_loops.specs.Loops.{LoopTables}
 use Rattle.surf_loops.specs.declared.head.LoopHead.{LoopHead}
 use Rattle.surf_texts.specs.LoopTexts.{walk_line, loops_head}
 
@@ -15,6 +14,6 @@ head_line mesh tree head = walk_line head.length (loop_walk mesh (tree_of tree) 
 abbrev pub loop_heads_text : List LoopHead → List ℕ
 loop_heads_text heads = loops_head (length heads) (sum (map (λ h. h.length) heads))
 
--- that, and the line of each loop of a desk
-abbrev pub heads_text : Mesh → LoopTables → List ℕ
-heads_text mesh t = loop_heads_text t.heads ++ flat_map (head_line mesh t.tree) t.heads
+-- that, and the line of each loop
+abbrev pub heads_text : Mesh → TreeTables → List LoopHead → List ℕ
+heads_text mesh tree heads = loop_heads_text heads ++ flat_map (head_line mesh tree) heads

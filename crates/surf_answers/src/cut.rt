@@ -12,7 +12,7 @@ use std::alloc::Global;
 use surf_base::{MAX_ANSWER, NoMemory, VertexId};
 use surf_cutter::{Opened, cut_outside};
 use surf_lengths::Lengths;
-use surf_loops::LoopDesk;
+use surf_loops::BaseLoops;
 use surf_mesh::HalfMesh;
 use surf_off::{OffText, write_off};
 use surf_text::{Page, PageFault};
@@ -70,9 +70,8 @@ fn held_at(
         IsChosenFor mesh.now held.items trim o → All (λ v. v < mesh.now.vertices) o.origins) }
 {
     mesh.law_of_surface();
-    let mut desk = LoopDesk::make(alloc, mesh)?;
-    desk.greedy(mesh, lengths, base);
-    Ok(desk.into_cotree().into_held())
+    let loops = BaseLoops::find(alloc, mesh, lengths, base)?;
+    Ok(loops.into_held())
 }
 
 /// The text of an opened surface, with the lines and colours of the text that it was read from.

@@ -11,7 +11,7 @@ use crate::answered::Answered;
 use std::alloc::Global;
 use surf_base::{MAX_ANSWER, VertexId};
 use surf_lengths::Lengths;
-use surf_loops::{LoopDesk, LoopHead};
+use surf_loops::{BaseLoops, LoopHead};
 use surf_mesh::HalfMesh;
 use surf_text::{Page, PageFault};
 use surf_texts::{Refused, put_loop, put_loops_head};
@@ -27,26 +27,26 @@ pub fn loops_of(
     requires base { base < mesh.now.vertices }
     ensures { Concludes (GivesLoops mesh.now lengths.now base) result }
 {
-    let mut desk = LoopDesk::make(alloc, mesh)?;
-    desk.greedy(mesh, lengths, base);
+    let loops = BaseLoops::find(alloc, mesh, lengths, base)?;
     let mut page = Page::make(alloc, MAX_ANSWER);
-    put_answer(alloc, &mut page, mesh, &desk)?;
+    put_answer(alloc, &mut page, mesh, &loops)?;
     Ok(Answered::yes(page.into_bytes()))
 }
 
-// Puts how many loops a desk has and what they total, and the line of each.
+// Puts how many loops there are and what they total, and the line of each.
 fn put_answer(
     alloc: Global,
     page: &mut Page,
     mesh: &HalfMesh,
-    desk: &LoopDesk,
+    loops: &BaseLoops,
 ) -> Result<(), PageFault>
-    requires rooted { IsRooted mesh.now desk.now.tree }
-    requires edges { All (λ h. h.edge < edge_count mesh.now) desk.now.heads }
-    ensures { Fills page.old page.new (heads_text mesh.now desk.now) result }
+    requires rooted { IsRooted mesh.now loops.now.tree }
+    requires edges { All (λ h. h.edge < edge_count mesh.now) loops.now.heads }
+    ensures { Fills page.old page.new (heads_text mesh.now loops.now.tree
+        loops.now.heads) result }
 {
-    put_head(page, desk.heads())?;
-    put_loops(alloc, page, mesh, desk)
+    put_head(page, loops.heads())?;
+    put_loops(alloc, page, mesh, loops)
 }
 
 // Puts how many loops there are and what they total.
@@ -67,20 +67,20 @@ pub(crate) fn total_of(heads: &[LoopHead]) -> u128
     total
 }
 
-// Puts the line of each loop of a desk.
+// Puts the line of each loop.
 fn put_loops(
     alloc: Global,
     page: &mut Page,
     mesh: &HalfMesh,
-    desk: &LoopDesk,
+    loops: &BaseLoops,
 ) -> Result<(), PageFault>
-    requires rooted { IsRooted mesh.now desk.now.tree }
-    requires edges { All (λ h. h.edge < edge_count mesh.now) desk.now.heads }
-    ensures { Fills page.old page.new (flat_map (head_line mesh.now desk.now.tree) desk.now.heads)
+    requires rooted { IsRooted mesh.now loops.now.tree }
+    requires edges { All (λ h. h.edge < edge_count mesh.now) loops.now.heads }
+    ensures { Fills page.old page.new (flat_map (head_line mesh.now loops.now.tree) loops.now.heads)
         result }
 {
-    for head in desk.heads() {
-        let Ok(walk) = desk.walk(alloc, mesh, head.edge) else {
+    for head in loops.heads() {
+        let Ok(walk) = loops.walk(alloc, mesh, head.edge) else {
             return Err(PageFault::Memory);
         };
         put_loop(page, head.length, walk.vertices())?;

@@ -12,7 +12,7 @@ use std::alloc::Global;
 use surf_base::{NoMemory, VertexId};
 use surf_basis::least_basis;
 use surf_lengths::Lengths;
-use surf_loops::LoopDesk;
+use surf_loops::BaseLoops;
 use surf_mesh::HalfMesh;
 use surf_texts::{Refused, measures_text};
 
@@ -38,9 +38,8 @@ fn loops_total(alloc: Global, mesh: &HalfMesh, lengths: &Lengths) -> Result<u128
     ensures { IfOk result (LoopsTotal mesh.now lengths.now) }
 {
     mesh.law_of_surface();
-    let mut desk = LoopDesk::make(alloc, mesh)?;
-    desk.greedy(mesh, lengths, VertexId::new(0));
-    Ok(loops::total_of(desk.heads()))
+    let found = BaseLoops::find(alloc, mesh, lengths, VertexId::new(0))?;
+    Ok(loops::total_of(found.heads()))
 }
 
 // What the basis that is chosen totals, and the length of its first cycle, on a surface that has

@@ -17,7 +17,7 @@ use Rattle.surf_cotree.specs.Peeling.{Leaf, leaf_at, left_after, IsLeaf, IsPeele
 use Rattle.surf_cotree.proofs.Pairs.{no_entry, same_pair}
 
 -- the ends of an edge by two nodes that it joins
-other_end : (g : Graph) (f a u w e : ℕ) → joins g f a e ≡ true → joins g u w e ≡ true → ((u ≡ f) × (w ≡ a)) ⊎ ((u ≡ a) × (w ≡ f))
+pub other_end : (g : Graph) (f a u w e : ℕ) → joins g f a e ≡ true → joins g u w e ≡ true → ((u ≡ f) × (w ≡ a)) ⊎ ((u ≡ a) × (w ≡ f))
 other_end g f a u w e one two = elim (one_of g f a e one) [
   | inl (from_f, to_a) ↦ elim (one_of g u w e two) [
     | inl (from_u, to_w) ↦ inl (sym from_u ∙ from_f, sym to_w ∙ to_a)

@@ -1,13 +1,16 @@
 -- Faces that hang on the others by one edge are taken off.
-use Rattle.std.proofs.Common.{ℕ, zero, suc, ◌<◌, ◌≤◌, ◌≡◌, ◌≢◌, ◌+◌, refl, sym, ap, ◌∙◌, subst, arith, inl, inr, List, length, set, Option, Some, None, Bool, true, false, not, ◌&&◌, eqb, eq-eqb, ne_eqb, map, get_or-set_same, get_or-set_other}
+use Rattle.std.proofs.Common.{ℕ, zero, suc, ◌<◌, ◌≤◌, ◌≡◌, ◌≢◌, ◌+◌, refl, sym, ap, ◌∙◌, subst, arith, inl, inr, List, [], ◌∷◌, ◌++◌, length, set, Option, Some, None, Bool, true, false, not, ◌&&◌, eqb, eq-eqb, ne_eqb, map, get_or-set_same, get_or-set_other}
 use Rattle.std.proofs.Math.ListN.{length-set}
 use Rattle.std.specs.Option.{IfSome, is_some}
 use Rattle.std.proofs.lemmas.Bool.{cases_eq, false≢true}
-use Rattle.std.proofs.lemmas.List.{length-map}
+use Rattle.std.proofs.lemmas.Bool.Decides.{nat_tests}
+use Rattle.std.proofs.lemmas.List.{length-map, length_push, get_or_push, get_or_append_left}
+use Rattle.surf_z2.specs.Parity.{count_below}
+use Rattle.surf_z2.proofs.Sums.{count_below-without, count_below-same}
 use Rattle.surf_graphs.specs.Graphs.{Graph, joins}
 use Rattle.surf_mesh.specs.Links.{link_at, IsRow}
 use Rattle.surf_cotree.specs.Searches.{outside}
-use Rattle.surf_cotree.specs.Peeling.{Leaf, leaf_at, left_after, IsOnlyEdge, IsLeaf, IsPeeled, IsPeeledBy}
+use Rattle.surf_cotree.specs.Peeling.{Leaf, leaf_at, left_after, IsOnlyEdge, IsLeaf, IsPeeled, IsPeeledBy, IsPeeledTo}
 
 -- of the edges of the first n sides of a row just that of this side is left (IsOnlyEdge is of all its edges), or none is
 abbrev pub IsOnlySoFar : (ℕ → Bool) → (ℕ → ℕ × ℕ) → (ℕ → ℕ × ℕ) → ℕ → Option ℕ → Type 0
@@ -107,16 +110,11 @@ peeled_none g allowed edges = record {
   peeled = record { few = omega arith; leaf = λ k l. absurd (omega arith); rest_is = λ e. refl };
 }
 
-peeled_next : (g : Graph) (allowed : ℕ → Bool) (leaves : List Leaf) (n : ℕ) (rest later : ℕ → Bool) (f a e : ℕ) → n < length leaves → f < g.nodes → f ≢ 0 → IsOnlyEdge g rest f a e → ((x : ℕ) → later x ≡ (rest x && not (eqb x e))) →
-    IsPeeled g allowed leaves n rest → IsPeeled g allowed (set leaves n (record { face = f; edge = e; on = a })) (n + 1) later
-peeled_next g allowed leaves n rest later f a e ln lf ne only less p =
-    let leaf : Leaf = record { face = f; edge = e; on = a } in
-    let new = set leaves n leaf in
-    let here : leaf_at new n ≡ leaf = get_or-set_same leaves n leaf (record { face = 0; edge = 0; on = 0 }) ln in
-    let there : (k : ℕ) → k < n → leaf_at new k ≡ leaf_at leaves k = λ k l. get_or-set_other leaves n k leaf (record { face = 0; edge = 0; on = 0 }) (omega arith) in
+peeled_next : (g : Graph) (allowed : ℕ → Bool) (leaves new : List Leaf) (n : ℕ) (rest later : ℕ → Bool) (f a e : ℕ) → n < length new → leaf_at new n ≡ record { face = f; edge = e; on = a } → ((k : ℕ) → k < n → leaf_at new k ≡ leaf_at leaves k) →
+    f < g.nodes → f ≢ 0 → IsOnlyEdge g rest f a e → ((x : ℕ) → later x ≡ (rest x && not (eqb x e))) → IsPeeled g allowed leaves n rest → IsPeeled g allowed new (n + 1) later
+peeled_next g allowed leaves new n rest later f a e ln here there lf ne only less p =
     let rest_new : (x : ℕ) → rest x ≡ left_after allowed new n x = λ x. p.rest_is x ∙ sym (left_same allowed leaves new n there x) in
     let as_rest : rest ≡ left_after allowed new n = λ i. λ x. rest_new x i in
-    let long = length-set leaves n leaf in
     record {
       few = omega arith;
       leaf = λ k l. elim (cases_eq k n) [
@@ -148,5 +146,58 @@ peeled_more g allowed edges n rest later f a e ln lf ne only less p =
         | inl same ↦ rw (same, get_or-set_same edges n e 0 ln, get_or-set_same p.leaves n leaf none room) refl
         | inr other ↦ rw (get_or-set_other edges n k e 0 other, get_or-set_other p.leaves n k leaf none other) (p.by k (omega arith))
       ];
-      peeled = peeled_next g allowed p.leaves n rest later f a e room lf ne only less p.peeled;
+      peeled =
+          let long = length-set p.leaves n leaf in
+          peeled_next g allowed p.leaves (set p.leaves n leaf) n rest later f a e (omega arith) (get_or-set_same p.leaves n leaf none room)
+          (λ k l. get_or-set_other p.leaves n k leaf none (omega arith)) lf ne only less p.peeled;
     }
+
+-- no leaf has been taken off
+pub peeled_to_first : (g : Graph) (allowed : ℕ → Bool) → IsPeeledTo g allowed allowed
+peeled_to_first g allowed = record {
+  leaves = [];
+  peeled = record { few = omega arith; leaf = λ k l. absurd (omega arith); rest_is = λ e. refl };
+}
+
+-- a leaf more
+pub peeled_to_next : (g : Graph) (allowed rest later : ℕ → Bool) (f a e : ℕ) → f < g.nodes → f ≢ 0 → IsOnlyEdge g rest f a e → ((x : ℕ) → later x ≡ (rest x && not (eqb x e))) → IsPeeledTo g allowed rest → IsPeeledTo g allowed later
+peeled_to_next g allowed rest later f a e lf ne only less p =
+    let none : Leaf = record { face = 0; edge = 0; on = 0 } in
+    let leaf : Leaf = record { face = f; edge = e; on = a } in
+    let new : List Leaf = p.leaves ++ leaf ∷ [] in
+    let long : length new ≡ length p.leaves + 1 = length_push p.leaves leaf in
+    record {
+      leaves = new;
+      peeled = subst (λ n. IsPeeled g allowed new n later) (sym long)
+          (peeled_next g allowed p.leaves new (length p.leaves) rest later f a e (omega arith) (get_or_push p.leaves leaf none (length p.leaves) refl)
+          (λ k l. get_or_append_left p.leaves (leaf ∷ []) none k l) lf ne only less p.peeled);
+    }
+
+-- ---- what is left grows less
+
+-- a flag more is on
+pub one_flag_less : (n v : ℕ) (flags : List Bool) → v < n → v < length flags → outside flags v ≡ true → count_below n (outside (set flags v true)) < count_below n (outside flags)
+one_flag_less n v flags l lv free =
+    let less : count_below n (outside flags) ≡ suc (count_below n (λ u. outside flags u && not (eqb v u))) = count_below-without n v (outside flags) l free in
+    let same : count_below n (outside (set flags v true)) ≡ count_below n (λ u. outside flags u && not (eqb v u)) = count_below-same n (outside (set flags v true)) (λ u. outside flags u && not (eqb v u))
+    (λ u lu. outside_set flags v u lv ∙ ap (λ b. outside flags u && not b) (flips u v)) in
+    omega (arith, less, same)
+  where
+    flips : (x y : ℕ) → eqb x y ≡ eqb y x
+    flips x y = grind (arith, nat_tests)
+
+-- ---- a leaf that is taken off
+
+module _ (g : Graph) (marks new : List Bool) (f a e : ℕ) (taken : (f ≢ 0) × IsOnlyEdge g (outside marks) f a e × (new ≡ set marks e true)) (long : length marks ≡ g.edges) (lf : f < g.nodes) where
+  taken_less : (x : ℕ) → outside new x ≡ (outside marks x && not (eqb x e))
+  taken_less x = ap (λ (m : List Bool). outside m x) taken.2 ∙ outside_set marks e x (let l = taken.1.edge_in in omega arith)
+
+  pub taken_listed : (allowed : ℕ → Bool) (edges : List ℕ) (n : ℕ) → n < length edges → IsPeeledBy g allowed edges n (outside marks) → IsPeeledBy g allowed (set edges n e) (n + 1) (outside new)
+  taken_listed allowed edges n ln before = peeled_more g allowed edges n (outside marks) (outside new) f a e ln lf taken.0 taken.1 taken_less before
+
+  pub taken_peeled : (allowed : ℕ → Bool) → IsPeeledTo g allowed (outside marks) → IsPeeledTo g allowed (outside new)
+  taken_peeled allowed before = peeled_to_next g allowed (outside marks) (outside new) f a e lf taken.0 taken.1 taken_less before
+
+  pub taken_smaller : count_below g.edges (outside new) < count_below g.edges (outside marks)
+  taken_smaller = subst (λ (m : List Bool). count_below g.edges (outside m) < count_below g.edges (outside marks)) (sym taken.2)
+      (one_flag_less g.edges e marks taken.1.edge_in (let l = taken.1.edge_in in omega arith) taken.1.is_left)

@@ -6,3 +6,7 @@ pub mod Hanging
 pub mod Passing
 pub mod Tabled
 pub mod HangingTurns
+pub mod Marks
+pub mod Marking
+pub mod MarkedHanging
+pub mod MarkedTables

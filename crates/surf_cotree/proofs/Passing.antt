@@ -1,10 +1,31 @@
--- The link of a side of a face, in a list of sides.
-use Rattle.std.proofs.Common.{ℕ, ◌<◌, ◌≡◌, sym, ap, ◌∙◌, List, length}
-use Rattle.surf_mesh.specs.Links.{link_at, side_link}
-use Rattle.std.proofs.lemmas.List.{get_or-map}
-use Rattle.std.proofs.Common.{get_or, map}
+-- The links of the sides of a face, in the order of their numbers.
+use Rattle.std.proofs.Common.{ℕ, ◌<◌, ◌≤◌, ◌≡◌, ◌+◌, ◌-◌, List, length, arith, map}
+use Rattle.std.specs.List.{range_with_len}
+use Rattle.std.proofs.lemmas.List.FromFn.{get_or-map-range_with_len, length-map-range_with_len}
+use Rattle.surf_graphs.specs.Cells.{dual}
 use Rattle.surf_surfaces.specs.Mesh.{Mesh}
+use Rattle.surf_surfaces.specs.Surface.{IsSurface, face_count, face_at}
+use Rattle.surf_surfaces.specs.SideNumber.{first_side}
+use Rattle.surf_surfaces.specs.Cells.{cells_of}
+use Rattle.surf_mesh.specs.Links.{link_at, side_link, IsRow}
+use Rattle.surf_mesh.proofs.LinkLaws.{side_row}
 
--- the link of a side of a face
-pub link_of_side : (mesh : Mesh) (k s : ℕ) (list : List ℕ) → k < length list → s ≡ get_or list k s → link_at (map (side_link mesh) list) k ≡ side_link mesh s
-link_of_side mesh k s list l is = get_or-map (side_link mesh) list k s (0, 0) l ∙ ap (side_link mesh) (sym is)
+-- the links of the sides from one number to another one
+abbrev pub links : Mesh → ℕ → ℕ → List (ℕ × ℕ)
+links mesh start end = map (side_link mesh) (range_with_len start (end - start))
+
+pub links_many : (mesh : Mesh) (start end : ℕ) → length (links mesh start end) ≡ end - start
+links_many mesh start end = length-map-range_with_len (side_link mesh) start (end - start)
+
+-- those of a face are its row
+pub links_row : (mesh : Mesh) → IsSurface mesh → (f start end : ℕ) → f < face_count mesh → start ≡ first_side mesh f →
+    end ≡ first_side mesh f + length (face_at mesh f) → IsRow (dual (cells_of mesh)) f (links mesh start end)
+links_row mesh surface f start end lt from to =
+    let count : end - start ≡ length (face_at mesh f) = omega arith in
+    rw (count, from) (side_row mesh surface f lt)
+
+-- the link of a side
+pub link_is : (mesh : Mesh) (start end s side : ℕ) → start ≤ s → s < end → side ≡ s →
+    link_at (links mesh start end) (s - start) ≡ side_link mesh side
+link_is mesh start end s side from lt is =
+    get_or-map-range_with_len (side_link mesh) start (end - start) (s - start) side (0, 0) (omega arith) (omega arith)

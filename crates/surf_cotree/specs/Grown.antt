@@ -7,7 +7,7 @@ use Rattle.surf_surfaces.specs.Surface.{edge_count, face_count}
 use Rattle.surf_surfaces.specs.Cells.{cells_of}
 use Rattle.surf_surfaces.specs.Loop.{loop_length}
 use Rattle.surf_surfaces.specs.Cotree.{tree_edges, cotree_edges, left_edges, split_of, IsHeaviestCotree}
-use Rattle.surf_cotree.specs.Tables.{CotreeTables, AreCotreeTables, parent_edge_of, cotree_of, split_with}
+use Rattle.surf_cotree.specs.Tables.{CotreeTables, EdgeTables, AreCotreeTables, parent_edge_of, cotree_of, split_with}
 use Rattle.surf_cotree.specs.Searches.{outside, IsHeaviestTree}
 
 -- the flags are on exactly at the edges of a spanning tree of the vertices
@@ -46,3 +46,10 @@ pub record IsGrownOn (mesh : Mesh) (t : CotreeTables) : Type 0 where
   pub root : parent_edge_of t 0 ≡ None
   pub tree : Tree
   pub split : IsSplit (cells_of mesh) (split_with tree t)
+
+-- there are tables that hold the tree of faces, with these flags and left edges
+pub record HasGrown (mesh : Mesh) (marks : List Bool) (weight : ℕ → ℕ) (edges : EdgeTables) : Type 0 where
+  pub tables : CotreeTables
+  pub grown : IsGrown mesh marks weight tables
+  pub held : tables.held ≡ edges.held
+  pub left : tables.left ≡ edges.left

@@ -1,11 +1,11 @@
 -- Faces that hang on the others by one edge, taken off and hung on again.
 use Rattle.std.specs.Prelude.{ℕ, zero, suc, ◌≡◌, ◌≢◌, ◌<◌, ◌≤◌, ◌&&◌, ◌==◌, Bool, true, not, List, length}
-use Rattle.std.specs.Prelude.{slice_index_or}
+use Rattle.std.specs.Prelude.{slice_index_or, slice_set, Option, Some, None}
 use Rattle.surf_z2.specs.Parity.{count_below}
 use Rattle.surf_graphs.specs.Graphs.{Graph, joins}
 use Rattle.surf_heap.specs.Entries.{Entries, IsEmpty}
 use Rattle.surf_base.specs.Tables.{nobody, at}
-use Rattle.surf_cotree.specs.Searches.{heaviest, reached, spanned_tree, IsPrim}
+use Rattle.surf_cotree.specs.Searches.{heaviest, outside, reached, spanned_tree, IsPrim}
 
 -- a node that hangs on the others by one edge, that edge, and the node beyond it
 pub record Leaf : Type 0 where
@@ -29,6 +29,13 @@ pub record IsOnlyEdge (g : Graph) (rest : ℕ → Bool) (f a e : ℕ) : Type 0 w
   pub joined : joins g f a e ≡ true
   pub only : (l w : ℕ) → l < g.edges → rest l ≡ true → joins g f w l ≡ true → l ≡ e
 
+-- A node other than 0 is taken off that hangs on the others by one edge without a mark, and the edge is marked: it and
+-- the node beyond it are given. Or nothing is taken.
+abbrev pub TakesLeaf : Graph → List Bool → List Bool → ℕ → Option (ℕ × ℕ) → Type 0
+TakesLeaf g old new f None = new ≡ old
+TakesLeaf g old new f (Some taken) =
+    (f ≢ 0) × IsOnlyEdge g (outside old) f taken.1 taken.0 × (new ≡ slice_set old taken.0 true)
+
 -- when the leaves before it have been taken off, a leaf hangs on the other nodes by its edge alone. Node 0 stays
 pub record IsLeaf (g : Graph) (allowed : ℕ → Bool) (leaves : List Leaf) (k : ℕ) : Type 0 where
   pub node_in : (leaf_at leaves k).face < g.nodes
@@ -41,6 +48,11 @@ pub record IsPeeled (g : Graph) (allowed : ℕ → Bool) (leaves : List Leaf) (n
   pub few : n ≤ length leaves
   pub leaf : (k : ℕ) → k < n → IsLeaf g allowed leaves k
   pub rest_is : (e : ℕ) → rest e ≡ left_after allowed leaves n e
+
+-- some leaves have been taken off one after the other, and the rest of the edges is left
+pub record IsPeeledTo (g : Graph) (allowed rest : ℕ → Bool) : Type 0 where
+  pub leaves : List Leaf
+  pub peeled : IsPeeled g allowed leaves (length leaves) rest
 
 -- A search over the edges that are left after n leaves is at its end: no node waits. The other leaves have been hung.
 pub record IsHung (g : Graph) (allowed : ℕ → Bool) (weight : ℕ → ℕ) (leaves : List Leaf) (n : ℕ)

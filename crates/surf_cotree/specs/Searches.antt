@@ -22,6 +22,9 @@ lighter weight l c = nat_lt (weight l) (weight c) || (eqb (weight l) (weight c) 
 abbrev pub reached : List ℕ → ℕ → Bool
 reached depth v = not (eqb (at depth v) nobody)
 
+abbrev pub flag : List Bool → ℕ → Bool
+flag flags v = get_or flags v false
+
 abbrev pub outside : List Bool → ℕ → Bool
 outside marks e = not (get_or marks e false)
 

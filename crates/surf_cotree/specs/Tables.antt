@@ -19,6 +19,11 @@ pub record CotreeTables : Type 0 where
   pub width : ℕ
   pub signatures : List ℕ
 
+-- of these tables: for each edge whether the tree has it, and the edges in neither tree, increasing
+pub record EdgeTables : Type 0 where
+  pub held : List Bool
+  pub left : List ℕ
+
 -- the edge to the parent of a face
 abbrev pub parent_edge_of : CotreeTables → ℕ → Option ℕ
 parent_edge_of t f = if slice_index t.ups f == nobody then None else Some (slice_index t.ups f)

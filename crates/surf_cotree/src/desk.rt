@@ -13,7 +13,7 @@ ghost use Rattle.surf_cotree.specs.Grown.{MarkTree, IsGrown, IsGrownOn};
 ghost use Rattle.surf_base.specs.declared.limits.TheConstants.{MAX_LOOPS};
 
 use crate::listing::{list_left, mark_edges};
-use crate::peeling::{hang, peel};
+use crate::peeling::{hang, list_peeled};
 use crate::search::{FaceNetwork, NOBODY, span};
 use crate::weights::{Listed, Weights, weights_fit};
 use std::alloc::Global;
@@ -60,8 +60,8 @@ impl Model for CotreeDesk {
         × (length d.leaves.items ≡ length d.depth.items) };
 }
 
-// How many edges are in neither tree.
-fn count_loops(mesh: &HalfMesh) -> usize
+/// How many edges are in neither tree.
+pub(crate) fn count_loops(mesh: &HalfMesh) -> usize
     ensures count { result ≡ loop_count mesh.now }
 {
     let edges = mesh.edges() as usize;
@@ -137,7 +137,7 @@ impl CotreeDesk {
     {
         mesh.law_of_surface();
         self.held.copy_from_slice(in_tree);
-        let count = peel(mesh, &mut self.held, &mut self.leaves);
+        let count = list_peeled(mesh, &mut self.held, &mut self.leaves);
         let network = FaceNetwork {
             mesh,
             marks: &self.held,

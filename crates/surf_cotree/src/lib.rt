@@ -15,15 +15,21 @@
 //! Homotopy and Homology Generators", SODA 2005). Only the edges between the faces that stay are
 //! asked for their weights.
 //!
+//! Where nobody asks for the parents and depths of faces, `CotreeEdges` finds the edges of that
+//! tree alone: it marks the edge of each face that is taken off or reached, and hangs nothing on
+//! again.
+//!
 //! `sign` gives each edge its signature, a set of places of left edges, by which the class of a
 //! walk is told.
 #![tactic(auto)]
 
 mod desk;
+mod edges;
 mod listing;
 mod peeling;
 mod search;
 mod weights;
 
 pub use desk::CotreeDesk;
+pub use edges::CotreeEdges;
 pub use weights::Weights;

@@ -1,5 +1,5 @@
 //! Takes off the faces that hang on the others by one edge, and hangs them on again.
-ghost use Rattle.std.specs.Prelude.{◌≡◌, ◌<◌, ◌+◌, ◌⊎◌, ℕ, Bool, true, false, length, IfSome, MatchOption};
+ghost use Rattle.std.specs.Prelude.{◌≡◌, ◌<◌, ◌+◌, ◌⊎◌, ℕ, Bool, true, false, length, IfSome};
 ghost use Rattle.surf_graphs.specs.Graphs.{joins};
 ghost use Rattle.surf_graphs.specs.Cells.{dual};
 ghost use Rattle.surf_surfaces.specs.Surface.{face_count, edge_count};
@@ -7,7 +7,7 @@ ghost use Rattle.surf_surfaces.specs.Cells.{cells_of};
 ghost use Rattle.surf_surfaces.specs.SideNumber.{side_count};
 ghost use Rattle.surf_mesh.specs.Links.{side_link};
 ghost use Rattle.surf_cotree.specs.Searches.{outside, reached};
-ghost use Rattle.surf_cotree.specs.Peeling.{IsOnlyEdge, IsPeeledBy, IsHungBy};
+ghost use Rattle.surf_cotree.specs.Peeling.{IsOnlyEdge, TakesLeaf, IsPeeledBy, IsPeeledTo, IsHungBy};
 
 use crate::search::NOBODY;
 use surf_base::{EdgeId, FaceId, SideId};
@@ -38,41 +38,25 @@ fn only_side(mesh: &HalfMesh, marks: &[bool], face: FaceId) -> Option<SideId>
 }
 
 // Takes a face off that hangs on the others by one edge without a mark, marks the edge, and gives
-// the face that it hung on. Face 0 stays.
-fn take_leaf(
-    mesh: &HalfMesh,
-    marks: &mut [bool],
-    leaves: &mut [EdgeId],
-    count: usize,
-    face: u32,
-) -> Option<u32>
+// it with the face that it hung on. Face 0 stays.
+fn take_leaf(mesh: &HalfMesh, marks: &mut [bool], face: u32) -> Option<(EdgeId, u32)>
     requires face { face < face_count mesh.now }
     requires marks { length marks.old ≡ edge_count mesh.now }
-    ensures room { IfSome result (λ on. count < length leaves.old) }
-    ensures on { IfSome result (λ on. on < face_count mesh.now) }
-    ensures peeled { (allowed : ℕ → Bool) → IsPeeledBy (dual (cells_of mesh.now))
-        allowed leaves.old count (outside marks.old) →
-        MatchOption result
-        (IsPeeledBy (dual (cells_of mesh.now)) allowed leaves.new count (outside marks.new))
-        (λ on. IsPeeledBy (dual (cells_of mesh.now)) allowed leaves.new
-        (count + 1) (outside marks.new)) }
+    ensures taken { TakesLeaf (dual (cells_of mesh.now)) marks.old marks.new face result }
 {
     mesh.law_of_surface();
-    if face == 0 || count >= leaves.len() {
+    if face == 0 {
         return None;
     }
-    let Some(side) = only_side(mesh, marks, FaceId::new(face)) else {
-        return None;
-    };
+    let side = only_side(mesh, marks, FaceId::new(face))?;
     let (on, edge) = mesh.across(side);
     marks[edge.index()] = true;
-    leaves[count] = edge;
-    Some(on.number())
+    Some((edge, on.number()))
 }
 
 // Takes a face off that hangs by one edge, and then each face that hangs by one edge when the one
-// before it has gone. A face past the first one waits for its turn.
-fn take_chain(
+// before it has gone, and lists the edges. A face past the first one waits for its turn.
+fn list_chain(
     mesh: &HalfMesh,
     marks: &mut [bool],
     leaves: &mut [EdgeId],
@@ -87,10 +71,11 @@ fn take_chain(
 {
     let mut count = taken;
     let mut face = from;
-    while face <= from {
-        let Some(on) = take_leaf(mesh, marks, leaves, count, face) else {
+    while face <= from && count < leaves.len() {
+        let Some((edge, on)) = take_leaf(mesh, marks, face) else {
             break;
         };
+        leaves[count] = edge;
         count += 1;
         face = on;
     }
@@ -98,17 +83,46 @@ fn take_chain(
 }
 
 /// Takes the faces off that hang on the others by one edge without a mark, one after the other, and
-/// marks these edges. It gives their number.
-pub(crate) fn peel(mesh: &HalfMesh, marks: &mut [bool], leaves: &mut [EdgeId]) -> usize
+/// marks these edges. It lists them and gives their number.
+pub(crate) fn list_peeled(mesh: &HalfMesh, marks: &mut [bool], leaves: &mut [EdgeId]) -> usize
     requires marks { length marks.old ≡ edge_count mesh.now }
     ensures peeled { IsPeeledBy (dual (cells_of mesh.now)) (outside marks.old) leaves.new result
         (outside marks.new) }
 {
     let mut count = 0;
     for face in 0..mesh.faces() {
-        count = take_chain(mesh, marks, leaves, count, face);
+        count = list_chain(mesh, marks, leaves, count, face);
     }
     count
+}
+
+// Takes a face off that hangs by one edge, and then each face that hangs by one edge when the one
+// before it has gone. A face past the first one waits for its turn.
+fn take_chain(mesh: &HalfMesh, marks: &mut [bool], from: u32)
+    requires face { from < face_count mesh.now }
+    requires marks { length marks.old ≡ edge_count mesh.now }
+    ensures peeled { (allowed : ℕ → Bool) → IsPeeledTo (dual (cells_of mesh.now)) allowed
+        (outside marks.old) → IsPeeledTo (dual (cells_of mesh.now)) allowed (outside marks.new) }
+{
+    let mut face = from;
+    while face <= from {
+        let Some((_, on)) = take_leaf(mesh, marks, face) else {
+            break;
+        };
+        face = on;
+    }
+}
+
+/// Takes the faces off that hang on the others by one edge without a mark, one after the other, and
+/// marks these edges.
+pub(crate) fn peel(mesh: &HalfMesh, marks: &mut [bool])
+    requires marks { length marks.old ≡ edge_count mesh.now }
+    ensures peeled { IsPeeledTo (dual (cells_of mesh.now)) (outside marks.old)
+        (outside marks.new) }
+{
+    for face in 0..mesh.faces() {
+        take_chain(mesh, marks, face);
+    }
 }
 
 // The face of an edge that isn't reached, and the face beyond it. Where neither is reached it may

@@ -1,5 +1,5 @@
 //! Grows a heaviest tree of faces of a mesh from face 0.
-ghost use Rattle.std.specs.Prelude.{◌≡◌, ◌<◌, ◌≤◌, ◌&&◌, ◌-◌, ◌==◌, ℕ, true, not, length, slice_set, Some};
+ghost use Rattle.std.specs.Prelude.{◌≡◌, ◌<◌, ◌≤◌, ◌&&◌, ◌-◌, ◌==◌, ℕ, Bool, true, not, length, slice_set, Some};
 ghost use Rattle.surf_z2.specs.Parity.{count_below};
 ghost use Rattle.surf_graphs.specs.Graphs.{joins};
 ghost use Rattle.surf_graphs.specs.Cells.{dual};
@@ -7,10 +7,10 @@ ghost use Rattle.surf_surfaces.specs.Surface.{face_count, edge_count};
 ghost use Rattle.surf_surfaces.specs.Cells.{cells_of};
 ghost use Rattle.surf_heap.specs.Entries.{entry_of, lesser, IsEmpty};
 ghost use Rattle.surf_base.specs.Tables.{nobody, at};
-ghost use Rattle.surf_cotree.specs.Searches.{heaviest, reached, outside, IsOffered, IsPrim, spanned_tree};
+ghost use Rattle.surf_cotree.specs.Searches.{heaviest, reached, outside, flag, IsOffered, IsPrim, spanned_tree};
 
 use crate::weights::Weights;
-use surf_base::{EdgeId, FaceId};
+use surf_base::{EdgeId, FaceId, SideId};
 use surf_heap::Heap;
 use surf_mesh::HalfMesh;
 
@@ -24,13 +24,60 @@ pub(crate) struct FaceNetwork<'a> {
     pub marks: &'a [bool],
 }
 
+/// Which faces a search has reached.
+pub(crate) trait Reached {
+    // whether each face is reached
+    ghost reaches: { Self → ℕ → Bool };
+
+    // of how many faces it is told
+    ghost count: { Self → ℕ };
+
+    fn reaches(&self, face: FaceId) -> bool
+        requires face { face < count self.now }
+        ensures reaches { result ≡ reaches self.now face };
+}
+
+/// Faces that are reached where they have a depth.
+#[derive(Drop)]
+pub(crate) struct ByDepth<'a> {
+    pub depth: &'a [u32],
+}
+
+impl Reached for ByDepth<'_> {
+    ghost reaches = { λ r. reached r.depth.now };
+
+    ghost count = { λ r. length r.depth.now };
+
+    #[inline]
+    fn reaches(&self, face: FaceId) -> bool {
+        self.depth[face.index()] != NOBODY
+    }
+}
+
+/// Faces that are reached where they have a flag.
+#[derive(Drop)]
+pub(crate) struct ByFlag<'a> {
+    pub flags: &'a [bool],
+}
+
+impl Reached for ByFlag<'_> {
+    ghost reaches = { λ r. flag r.flags.now };
+
+    ghost count = { λ r. length r.flags.now };
+
+    #[inline]
+    fn reaches(&self, face: FaceId) -> bool {
+        self.flags[face.index()]
+    }
+}
+
 // Whether an edge isn't marked and leads to a face that isn't reached.
-fn leads_on(marks: &[bool], depth: &[u32], edge: EdgeId, face: FaceId) -> bool
+fn leads_on<R: Reached>(marks: &[bool], there: &R, edge: EdgeId, face: FaceId) -> bool
     requires edge { edge < length marks.now }
-    requires face { face < length depth.now }
-    ensures leads { result ≡ (outside marks.now edge && not (reached depth.now face)) }
+    requires face { face < R.count there.now }
+    ensures leads { result ≡ (outside marks.now edge && not (R.reaches there.now face)) }
 {
-    !marks[edge.index()] && depth[face.index()] == NOBODY
+    !marks[edge.index()] && !there.reaches(face)
 }
 
 // Offers a face to the heap by an edge that leads to it: the heavier the edge, the lesser the
@@ -46,29 +93,30 @@ fn offer_by<W: Weights>(heap: &mut Heap, weight: &W, edge: EdgeId, face: FaceId)
     heap.offer(face.number(), key, NOBODY - edge.number());
 }
 
-// Offers the unreached neighbours of a face to the heap.
-fn offer_neighbours<W: Weights>(
+/// Offers the unreached neighbours of a face to the heap.
+pub(crate) fn offer_neighbours<W: Weights, R: Reached>(
     network: &FaceNetwork<'_>,
     weight: &W,
-    depth: &[u32],
+    there: &R,
     heap: &mut Heap,
     face: u32,
 )
     requires face { face < face_count network.now.mesh.now }
-    requires depths { length depth.now ≡ face_count network.now.mesh.now }
+    requires faces { R.count there.now ≡ face_count network.now.mesh.now }
     requires marks { length network.now.marks.now ≡ edge_count network.now.mesh.now }
     requires weights { W.count weight.now ≡ edge_count network.now.mesh.now }
     requires valid { W.valid weight.now }
     requires light { (e : ℕ) → W.weight weight.now e ≤ heaviest }
     requires places { length heap.old ≡ face_count network.now.mesh.now }
     ensures offered { IsOffered (dual (cells_of network.now.mesh.now))
-        (outside network.now.marks.now) (W.weight weight.now) (reached depth.now)
+        (outside network.now.marks.now) (W.weight weight.now) (R.reaches there.now)
         face heap.old heap.new }
 {
     network.mesh.law_of_surface();
-    for s in network.mesh.sides_of(FaceId::new(face)) {
-        let (next, edge) = network.mesh.across(*s);
-        if leads_on(network.marks, depth, edge, next) {
+    let (start, end) = network.mesh.side_span(FaceId::new(face));
+    for s in start..end {
+        let (next, edge) = network.mesh.across(SideId::new(s));
+        if leads_on(network.marks, there, edge, next) {
             offer_by(heap, weight, edge, next);
         }
     }
@@ -113,13 +161,13 @@ pub(crate) fn span<W: Weights>(
     depth[0] = 0;
     up[0] = NOBODY;
     heap.clear();
-    offer_neighbours(network, weight, depth, heap, 0);
+    offer_neighbours(network, weight, &ByDepth { depth }, heap, 0);
     while let Some((face, _, tie)) = heap.take_least() {
         let edge = NOBODY - tie;
         let from = face_across(network.mesh, edge, face);
         depth[face as usize] = depth[from as usize] + 1;
         parent[face as usize] = from;
         up[face as usize] = edge;
-        offer_neighbours(network, weight, depth, heap, face);
+        offer_neighbours(network, weight, &ByDepth { depth }, heap, face);
     }
 }

@@ -1,5 +1,5 @@
 -- What a loop desk holds after it has found the loops at a base.
-use Rattle.std.specs.Prelude.{ℕ, ◌≡◌, ◌≢◌, ◌<◌, ◌≤◌, ◌^◌, List, length, map, All, slice_index, Some, None}
+use Rattle.std.specs.Prelude.{ℕ, ◌≡◌, ◌≢◌, ◌<◌, ◌≤◌, ◌^◌, Bool, List, length, map, All, slice_index, Some, None}
 use Rattle.surf_graphs.specs.Cells.{primal}
 use Rattle.surf_graphs.specs.Trees.{IsTree}
 use Rattle.surf_surfaces.specs.Mesh.{Mesh}
@@ -21,6 +21,16 @@ pub record LoopTables : Type 0 where
   pub tree : TreeTables
   pub cotree : CotreeTables
   pub heads : List LoopHead
+
+-- of these: the tables of the tree of vertices, for each edge whether the tree of faces has it, and the heads
+pub record BaseTables : Type 0 where
+  pub tree : TreeTables
+  pub held : List Bool
+  pub heads : List LoopHead
+
+-- they and the tables of a tree of faces
+abbrev pub with_cotree : BaseTables → CotreeTables → LoopTables
+with_cotree t cotree = record { tree = t.tree; cotree = cotree; heads = t.heads }
 
 -- there is an entry for each vertex, face and edge
 pub record AreLoopTables (mesh : Mesh) (t : LoopTables) : Type 0 where
@@ -68,3 +78,9 @@ pub record IsGreedy (mesh : Mesh) (lengths : List ℕ) (base : ℕ) (t : LoopTab
   pub least : LoopsAtBase mesh lengths base (trees_of t)
   pub most : (walks : List (List ℕ)) → All (IsClosed mesh) walks → IsIndependent mesh walks →
       length walks ≤ length t.heads
+
+-- there are tables of the tree of faces, with these flags, such that all are those of the loops that are chosen
+pub record HasGreedy (mesh : Mesh) (lengths : List ℕ) (base : ℕ) (t : BaseTables) : Type 0 where
+  pub cotree : CotreeTables
+  pub held : cotree.held ≡ t.held
+  pub greedy : IsGreedy mesh lengths base (with_cotree t cotree)

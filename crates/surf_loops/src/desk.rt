@@ -17,7 +17,7 @@ ghost use Rattle.surf_base.specs.declared.limits.TheConstants.{MAX_LOOPS};
 
 use crate::head::LoopHead;
 use crate::heads::{LoopLengths, list_heads};
-use crate::ways::push_way;
+use crate::ways::walk_of;
 use std::alloc::Global;
 use std::marker::Model;
 use surf_base::{EdgeId, NoMemory, VertexId};
@@ -165,13 +165,6 @@ impl LoopDesk {
             (tree_of self.now.tree) edge) }
         ensures closed { IfOk result (λ walk. IsClosedAt mesh.now self.now.tree.base walk) }
     {
-        surf_surfaces::law_of_loop_walks();
-        mesh.law_of_surface();
-        let (u, v) = mesh.ends(edge);
-        let mut list = Vec::new(alloc);
-        push_way(mesh, &self.tree, u, &mut list)?;
-        list.reverse();
-        push_way(mesh, &self.tree, v, &mut list)?;
-        Ok(Walk::from_vertices(list))
+        walk_of(alloc, mesh, &self.tree, edge)
     }
 }

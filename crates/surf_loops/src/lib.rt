@@ -7,7 +7,8 @@
 //! Homotopy and Homology Generators", SODA 2005).
 //!
 //! A desk takes all its memory when it is made, so that the loops at many bases are found on it one
-//! after the other. Its certificate, the rows of the two trees and the ends of the left edges,
+//! after the other. `BaseLoops` finds those at one base with less memory: it keeps only the edges
+//! of the tree of faces. A desk's certificate, the rows of the two trees and the ends of the left edges,
 //! shows that the loops are least to a checker that searches nothing.
 #![tactic(auto)]
 
@@ -15,8 +16,10 @@ mod cert;
 mod desk;
 mod head;
 mod heads;
+mod loops;
 mod ways;
 
 pub use cert::{dual_rows, left_pairs, tree_rows};
 pub use desk::LoopDesk;
 pub use head::LoopHead;
+pub use loops::BaseLoops;

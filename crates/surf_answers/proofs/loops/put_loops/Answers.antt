@@ -14,18 +14,18 @@ returns-in_err-put_loop c =
     let i = c.loop-head.head-index in
     let fault = c.in_err-put_loop.field-0.0 in
     let heads = c.heads-head-items.ensures.heads in
-    let here : h ≡ get_or c.args.desk.now.heads i h = c.head-item.is ∙ ap (λ (hs : List LoopHead). get_or hs i h) heads in
+    let here : h ≡ get_or c.args.loops.now.heads i h = c.head-item.is ∙ ap (λ (hs : List LoopHead). get_or hs i h) heads in
     let p = err_from_is_err_and c.from_residual.result c.from_residual.ensures.1 in
-    rw (p.1, p.2) (stopped c.args.page.now c.loop-head.page c.put_loop.new.page (head_line c.args.mesh.now c.args.desk.now.tree) c.args.desk.now.heads i h fault
+    rw (p.1, p.2) (stopped c.args.page.now c.loop-head.page c.put_loop.new.page (head_line c.args.mesh.now c.args.loops.now.tree) c.args.loops.now.heads i h fault
     (subst (λ (hs : List LoopHead). i < length hs) heads c.loop-head-test.true) c.loop-head.invariant
-    (subst (λ (x : LoopHead). Fills {A = Unit {0}} c.loop-head.page c.put_loop.new.page (head_line c.args.mesh.now c.args.desk.now.tree x) (Err fault)) here
+    (subst (λ (x : LoopHead). Fills {A = Unit {0}} c.loop-head.page c.put_loop.new.page (head_line c.args.mesh.now c.args.loops.now.tree x) (Err fault)) here
     (subst (λ (walk : List ℕ). Fills {A = Unit {0}} c.loop-head.page c.put_loop.new.page (walk_line h.length walk) (Err fault)) (c.vertices.ensures ∙ c.in-Ok.ensures.walk) c.in_err-put_loop.ensures.fills)))
 
 pub returns-in_default : goal.returns-in_default
 returns-in_default c =
     let h = c.head-item.result in
     let i = c.loop-head.head-index in
-    let f = head_line c.args.mesh.now c.args.desk.now.tree in
-    stopped c.args.page.now c.loop-head.page c.loop-head.page f c.args.desk.now.heads i h Memory
+    let f = head_line c.args.mesh.now c.args.loops.now.tree in
+    stopped c.args.page.now c.loop-head.page c.loop-head.page f c.args.loops.now.heads i h Memory
     (subst (λ (hs : List LoopHead). i < length hs) c.heads-head-items.ensures.heads c.loop-head-test.true) c.loop-head.invariant
-    (none_put c.loop-head.page (f (get_or c.args.desk.now.heads i h)))
+    (none_put c.loop-head.page (f (get_or c.args.loops.now.heads i h)))

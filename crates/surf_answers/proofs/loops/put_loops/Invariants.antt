@@ -5,4 +5,4 @@ use Rattle.surf_answers.specs.HeadTexts.{head_line}
 use Rattle.surf_answers.proofs.loops.put_loops.Given as goal
 
 abbrev pub invariant-loop-head : goal.invariant-loop-head
-invariant-loop-head l = l.page ≡ grown l.initial.page (flat_map (head_line l.mesh l.desk.tree) (take l.head-index l.desk.heads))
+invariant-loop-head l = l.page ≡ grown l.initial.page (flat_map (head_line l.mesh l.loops.tree) (take l.head-index l.loops.heads))

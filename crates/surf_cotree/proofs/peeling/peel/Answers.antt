@@ -1,11 +1,11 @@
 use Rattle.surf_graphs.specs.Cells.{dual}
 use Rattle.surf_surfaces.specs.Cells.{cells_of}
 use Rattle.surf_cotree.specs.Searches.{outside}
-use Rattle.surf_cotree.proofs.Leaves.{peeled_none}
+use Rattle.surf_cotree.proofs.Leaves.{peeled_to_first}
 use Rattle.surf_cotree.proofs.peeling.peel.Goals as goal
 
 pub loop-face-init : goal.loop-face-init
-loop-face-init c = peeled_none (dual (cells_of c.args.mesh.now)) (outside c.args.marks.now) c.args.leaves.now
+loop-face-init c = peeled_to_first (dual (cells_of c.args.mesh.now)) (outside c.args.marks.now)
 
 pub loop-face-preserved : goal.loop-face-preserved
-loop-face-preserved c = c.take_chain-count.ensures.peeled (outside c.args.marks.now) c.loop-face.invariant
+loop-face-preserved c = c.take_chain.ensures.peeled (outside c.args.marks.now) c.loop-face.invariant

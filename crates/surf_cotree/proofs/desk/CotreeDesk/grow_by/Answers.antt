@@ -23,8 +23,8 @@ abbrev dual_of : (gen : Over) → After-deref_mut-8 gen → Graph
 dual_of gen c = dual (cells_of c.args.mesh.now)
 
 -- the tables that the hanging starts from
-leaves_are : (gen : Over) (c : After-deref_mut-8 gen) → c.deref-2.result.now ≡ c.peel-count.new.leaves
-leaves_are gen c = c.deref-2.ensures.value ∙ with_items_is c.self.inside.leaves c.peel-count.new.leaves (omega (arith, c.deref_mut-2.ensures.len))
+leaves_are : (gen : Over) (c : After-deref_mut-8 gen) → c.deref-2.result.now ≡ c.list_peeled-count.new.leaves
+leaves_are gen c = c.deref-2.ensures.value ∙ with_items_is c.self.inside.leaves c.list_peeled-count.new.leaves (omega (arith, c.deref_mut-2.ensures.len))
 
 depth_is : (gen : Over) (c : After-deref_mut-8 gen) → c.deref_mut-6.result.now ≡ c.span.new.depth
 depth_is gen c = c.deref_mut-6.ensures.value ∙ with_items_is c.self.inside.depth c.span.new.depth (omega (arith, c.deref_mut-3.ensures.len))
@@ -35,35 +35,35 @@ parent_is gen c = c.deref_mut-7.ensures.value ∙ with_items_is c.self.inside.pa
 up_is : (gen : Over) (c : After-deref_mut-8 gen) → c.deref_mut-8.result.now ≡ c.span.new.up
 up_is gen c = c.deref_mut-8.ensures.value ∙ with_items_is c.self.inside.up c.span.new.up (omega (arith, c.deref_mut-5.ensures.len))
 
-peeled : (gen : Over) (c : After-deref_mut-8 gen) → IsPeeledBy (dual_of gen c) (outside c.args.in_tree.now) c.peel-count.new.leaves c.peel-count.result (outside c.deref.result.now)
+peeled : (gen : Over) (c : After-deref_mut-8 gen) → IsPeeledBy (dual_of gen c) (outside c.args.in_tree.now) c.list_peeled-count.new.leaves c.list_peeled-count.result (outside c.deref.result.now)
 peeled gen c =
     let begin : c.deref_mut.result.now ≡ c.args.in_tree.now = c.deref_mut.ensures.value ∙ c.copy_from_slice.ensures.items in
-    let held : c.deref.result.now ≡ c.peel-count.new.marks = c.deref.ensures.value ∙ with_items_is c.copy_from_slice.new.self c.peel-count.new.marks (omega (arith, c.deref_mut.ensures.len)) in
-    subst (λ (m : List Bool). IsPeeledBy (dual_of gen c) (outside m) c.peel-count.new.leaves c.peel-count.result (outside c.deref.result.now)) begin
-    (subst (λ (m : List Bool). IsPeeledBy (dual_of gen c) (outside c.deref_mut.result.now) c.peel-count.new.leaves c.peel-count.result (outside m)) (sym held) c.peel-count.ensures.peeled)
+    let held : c.deref.result.now ≡ c.list_peeled-count.new.marks = c.deref.ensures.value ∙ with_items_is c.copy_from_slice.new.self c.list_peeled-count.new.marks (omega (arith, c.deref_mut.ensures.len)) in
+    subst (λ (m : List Bool). IsPeeledBy (dual_of gen c) (outside m) c.list_peeled-count.new.leaves c.list_peeled-count.result (outside c.deref.result.now)) begin
+    (subst (λ (m : List Bool). IsPeeledBy (dual_of gen c) (outside c.deref_mut.result.now) c.list_peeled-count.new.leaves c.list_peeled-count.result (outside m)) (sym held) c.list_peeled-count.ensures.peeled)
 
-start : (gen : Over) (c : After-deref_mut-8 gen) → IsHungBy (dual_of gen c) (outside c.args.in_tree.now) (gen.W.Weights.weight c.args.weight.now) c.deref-2.result.now c.peel-count.result c.deref_mut-7.result.now c.deref_mut-8.result.now c.deref_mut-6.result.now
+start : (gen : Over) (c : After-deref_mut-8 gen) → IsHungBy (dual_of gen c) (outside c.args.in_tree.now) (gen.W.Weights.weight c.args.weight.now) c.deref-2.result.now c.list_peeled-count.result c.deref_mut-7.result.now c.deref_mut-8.result.now c.deref_mut-6.result.now
 start gen c =
     let p = peeled gen c in
     let as_many = p.as_many in
     let few = p.peeled.few in
-    let hung : IsHungBy (dual_of gen c) (outside c.args.in_tree.now) (gen.W.Weights.weight c.args.weight.now) c.peel-count.new.leaves c.peel-count.result c.span.new.parent c.span.new.up c.span.new.depth = record {
+    let hung : IsHungBy (dual_of gen c) (outside c.args.in_tree.now) (gen.W.Weights.weight c.args.weight.now) c.list_peeled-count.new.leaves c.list_peeled-count.result c.span.new.parent c.span.new.up c.span.new.depth = record {
       leaves = p.leaves;
       few = omega arith;
       by = p.by;
-      hung = hung_first (dual_of gen c) (outside c.args.in_tree.now) (gen.W.Weights.weight c.args.weight.now) c.requires.light p.leaves c.peel-count.result (outside c.deref.result.now) p.peeled c.span.new.parent c.span.new.up c.span.new.depth c.span.new.heap c.span.ensures.places c.span.ensures.empty c.span.ensures.root c.span.ensures.grown;
+      hung = hung_first (dual_of gen c) (outside c.args.in_tree.now) (gen.W.Weights.weight c.args.weight.now) c.requires.light p.leaves c.list_peeled-count.result (outside c.deref.result.now) p.peeled c.span.new.parent c.span.new.up c.span.new.depth c.span.new.heap c.span.ensures.places c.span.ensures.empty c.span.ensures.root c.span.ensures.grown;
     } in
-    subst (λ (x : List ℕ). IsHungBy (dual_of gen c) (outside c.args.in_tree.now) (gen.W.Weights.weight c.args.weight.now) x c.peel-count.result c.deref_mut-7.result.now c.deref_mut-8.result.now c.deref_mut-6.result.now) (sym (leaves_are gen c))
-    (subst (λ (x : List ℕ). IsHungBy (dual_of gen c) (outside c.args.in_tree.now) (gen.W.Weights.weight c.args.weight.now) c.peel-count.new.leaves c.peel-count.result x c.deref_mut-8.result.now c.deref_mut-6.result.now) (sym (parent_is gen c))
-    (subst (λ (x : List ℕ). IsHungBy (dual_of gen c) (outside c.args.in_tree.now) (gen.W.Weights.weight c.args.weight.now) c.peel-count.new.leaves c.peel-count.result c.span.new.parent x c.deref_mut-6.result.now) (sym (up_is gen c))
-    (subst (λ (x : List ℕ). IsHungBy (dual_of gen c) (outside c.args.in_tree.now) (gen.W.Weights.weight c.args.weight.now) c.peel-count.new.leaves c.peel-count.result c.span.new.parent c.span.new.up x) (sym (depth_is gen c)) hung)))
+    subst (λ (x : List ℕ). IsHungBy (dual_of gen c) (outside c.args.in_tree.now) (gen.W.Weights.weight c.args.weight.now) x c.list_peeled-count.result c.deref_mut-7.result.now c.deref_mut-8.result.now c.deref_mut-6.result.now) (sym (leaves_are gen c))
+    (subst (λ (x : List ℕ). IsHungBy (dual_of gen c) (outside c.args.in_tree.now) (gen.W.Weights.weight c.args.weight.now) c.list_peeled-count.new.leaves c.list_peeled-count.result x c.deref_mut-8.result.now c.deref_mut-6.result.now) (sym (parent_is gen c))
+    (subst (λ (x : List ℕ). IsHungBy (dual_of gen c) (outside c.args.in_tree.now) (gen.W.Weights.weight c.args.weight.now) c.list_peeled-count.new.leaves c.list_peeled-count.result c.span.new.parent x c.deref_mut-6.result.now) (sym (up_is gen c))
+    (subst (λ (x : List ℕ). IsHungBy (dual_of gen c) (outside c.args.in_tree.now) (gen.W.Weights.weight c.args.weight.now) c.list_peeled-count.new.leaves c.list_peeled-count.result c.span.new.parent c.span.new.up x) (sym (depth_is gen c)) hung)))
 
 pub hang-requires-clause-some : goal.hang-requires-clause-some
 hang-requires-clause-some gen c = (outside c.args.in_tree.now, gen.W.Weights.weight c.args.weight.now, start gen c)
 
 -- the tables that it ends with
 module _ (gen : Over) (c : After-deref_mut-8 gen) (parent up depth : List ℕ)
-    (hung : (allowed : ℕ → Bool) (weight : ℕ → ℕ) → IsHungBy (dual (cells_of c.args.mesh.now)) allowed weight c.deref-2.result.now c.peel-count.result c.deref_mut-7.result.now c.deref_mut-8.result.now c.deref_mut-6.result.now → IsHungBy (dual (cells_of c.args.mesh.now)) allowed weight c.deref-2.result.now 0 parent up depth) where
+    (hung : (allowed : ℕ → Bool) (weight : ℕ → ℕ) → IsHungBy (dual (cells_of c.args.mesh.now)) allowed weight c.deref-2.result.now c.list_peeled-count.result c.deref_mut-7.result.now c.deref_mut-8.result.now c.deref_mut-6.result.now → IsHungBy (dual (cells_of c.args.mesh.now)) allowed weight c.deref-2.result.now 0 parent up depth) where
   end : IsHungBy (dual_of gen c) (outside c.args.in_tree.now) (gen.W.Weights.weight c.args.weight.now) c.deref-2.result.now 0 parent up depth
   end = hung (outside c.args.in_tree.now) (gen.W.Weights.weight c.args.weight.now) (start gen c)
 
@@ -111,7 +111,7 @@ returns gen c =
     let depth_is : (with_items (with_items d.depth c.span.new.depth) depth).items ≡ depth = with_items_is (with_items d.depth c.span.new.depth) depth (omega (arith, c.deref_mut-6.ensures.len)) in
     let parent_is : (with_items (with_items d.parent c.span.new.parent) parent).items ≡ parent = with_items_is (with_items d.parent c.span.new.parent) parent (omega (arith, c.deref_mut-7.ensures.len)) in
     let up_is : (with_items (with_items d.up c.span.new.up) up).items ≡ up = with_items_is (with_items d.up c.span.new.up) up (omega (arith, c.deref_mut-8.ensures.len)) in
-    let held_is : (with_items (with_items c.copy_from_slice.new.self c.peel-count.new.marks) held).items ≡ held = with_items_is (with_items c.copy_from_slice.new.self c.peel-count.new.marks) held (omega (arith, c.deref_mut-9.ensures.len)) in
+    let held_is : (with_items (with_items c.copy_from_slice.new.self c.list_peeled-count.new.marks) held).items ≡ held = with_items_is (with_items c.copy_from_slice.new.self c.list_peeled-count.new.marks) held (omega (arith, c.deref_mut-9.ensures.len)) in
     let long : length up ≡ face_count mesh = omega (arith, c.deref_mut-8.ensures.len, c.deref_mut-5.ensures.len, here.ups) in
     let wide : length held ≡ edge_count mesh = omega (arith, c.deref_mut-9.ensures.len, c.deref_mut.ensures.len, c.copy_from_slice.ensures.len, here.held) in
     let marked : (e : ℕ) → e < edge_count mesh → get_or held e false ≡ any_below (face_count mesh) (λ v. not (eqb (at up v) nobody) && eqb (at up v) e) = λ e l.

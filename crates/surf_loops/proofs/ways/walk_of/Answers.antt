@@ -1,10 +1,8 @@
 use Rattle.std.proofs.Common.{ℕ, ◌≡◌, ◌<◌, ◌∙◌, sym, ap, subst}
-use Rattle.surf_surfaces.specs.Loop.{loop_walk}
 use Rattle.surf_surfaces.specs.Walk.{IsClosedAt}
-use Rattle.surf_tree.specs.Tables.{TreeTables, tree_of}
-use Rattle.surf_loops.specs.Loops.{LoopTables, IsRooted}
+use Rattle.surf_tree.specs.Tables.{tree_of}
 use Rattle.surf_loops.proofs.Turned.{ends_in, loop_listed}
-use Rattle.surf_loops.proofs.desk.LoopDesk.walk.Goals as goal
+use Rattle.surf_loops.proofs.ways.walk_of.Goals as goal
 
 pub push_way-requires-clause-vertex : goal.push_way-requires-clause-vertex
 push_way-requires-clause-vertex c =
@@ -21,17 +19,16 @@ push_way-requires-2-clause-vertex c =
 pub returns : goal.returns
 returns c =
     let mesh = c.args.mesh.now in
+    let tree = c.args.tree.now in
     let both = ends_in mesh c.law_of_surface.ensures.surface c.args.edge c.requires.edge in
-    let tree_is : c.self.inside.tree ≡ c.args.self.now.tree = ap (λ (s : LoopTables). s.tree) c.self.view_is in
-    let rooted = subst (IsRooted mesh) (sym tree_is) c.requires.rooted in
     let is_u : c.ends-u.result.0 ≡ _ = ap (λ (p : ℕ × ℕ). p.0) c.ends-u.ensures in
     let is_v : c.ends-u.result.1 ≡ _ = ap (λ (p : ℕ × ℕ). p.1) c.ends-u.ensures in
-    let listed = loop_listed mesh c.self.inside.tree c.args.edge c.ends-u.result.0 c.ends-u.result.1 c.new-list.result.items c.push_way.new.list.items c.reverse.new.self.items c.push_way-2.new.list.items
-    rooted (subst (λ (p : ℕ × ℕ). p.0 < mesh.vertices) (sym c.ends-u.ensures) both.0) is_u is_v c.new-list.ensures.items c.in_ok-push_way.ensures.way c.reverse.ensures.items c.in_ok-push_way-2.ensures.way in
-    let whole = c.from_vertices.ensures ∙ subst (λ (t : TreeTables). c.push_way-2.new.list.items ≡ loop_walk mesh (tree_of t) c.args.edge) tree_is listed in
+    let listed = loop_listed mesh tree c.args.edge c.ends-u.result.0 c.ends-u.result.1 c.new-list.result.items c.push_way.new.list.items c.reverse.new.self.items c.push_way-2.new.list.items
+    c.requires.rooted (subst (λ (p : ℕ × ℕ). p.0 < mesh.vertices) (sym c.ends-u.ensures) both.0) is_u is_v c.new-list.ensures.items c.in_ok-push_way.ensures.way c.reverse.ensures.items c.in_ok-push_way-2.ensures.way in
+    let whole = c.from_vertices.ensures ∙ listed in
     record {
       walk = whole;
-      closed = subst (IsClosedAt mesh c.args.self.now.tree.base) (sym whole)
-          (c.law_of_loop_walks.ensures mesh (tree_of c.args.self.now.tree) c.law_of_surface.ensures.surface
+      closed = subst (IsClosedAt mesh tree.base) (sym whole)
+          (c.law_of_loop_walks.ensures mesh (tree_of tree) c.law_of_surface.ensures.surface
           c.requires.rooted.spans c.args.edge c.requires.edge);
     }

@@ -1,0 +1,13 @@
+use Rattle.surf_z2.specs.Parity.{count_below}
+use Rattle.surf_graphs.specs.Cells.{dual}
+use Rattle.surf_surfaces.specs.Surface.{face_count}
+use Rattle.surf_surfaces.specs.Cells.{cells_of}
+use Rattle.surf_cotree.specs.Searches.{outside}
+use Rattle.surf_cotree.specs.Marking.{IsMarking}
+use Rattle.surf_cotree.proofs.edges.mark_span.Given as goal
+
+abbrev pub invariant-loop-face : goal.invariant-loop-face
+invariant-loop-face gen l = IsMarking (dual (cells_of l.mesh)) (outside l.initial.marks) (gen.W.Weights.weight l.weight) l.marks l.there l.heap
+
+abbrev pub decreases-loop-face : goal.decreases-loop-face
+decreases-loop-face gen l = count_below (face_count l.mesh) (outside l.there)

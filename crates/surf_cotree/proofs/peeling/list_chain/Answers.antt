@@ -1,0 +1,21 @@
+use Rattle.std.proofs.Common.{◌≡◌, length, arith, sym, subst}
+use Rattle.surf_graphs.specs.Cells.{dual}
+use Rattle.surf_surfaces.specs.Cells.{cells_of}
+use Rattle.surf_surfaces.specs.Surface.{edge_count}
+use Rattle.surf_cotree.specs.Searches.{outside}
+use Rattle.surf_cotree.specs.Peeling.{IsPeeledBy}
+use Rattle.surf_cotree.proofs.Leaves.{taken_listed}
+use Rattle.surf_cotree.proofs.peeling.list_chain.Goals as goal
+
+pub loop-face-preserved : goal.loop-face-preserved
+loop-face-preserved c =
+    let long : length c.loop-face.marks ≡ edge_count c.args.mesh.now = omega (arith, c.requires.marks, c.loop-face.auto.marks) in
+    record {
+      inside = c.in-Some.ensures.taken.1.other_in;
+      peeled = λ allowed before. taken_listed (dual (cells_of c.args.mesh.now)) c.loop-face.marks c.take_leaf.new.marks c.loop-face.face _ _ c.in-Some.ensures.taken long c.loop-face.invariant.inside allowed c.loop-face.leaves c.loop-face.count (omega (arith, c.if-count-leaves.true)) (c.loop-face.invariant.peeled allowed before);
+    }
+
+pub returns-in_default : goal.returns-in_default
+returns-in_default c = record {
+  peeled = λ allowed before. subst (λ m. IsPeeledBy (dual (cells_of c.args.mesh.now)) allowed c.loop-face.leaves c.loop-face.count (outside m)) (sym c.in_default.ensures.taken) (c.loop-face.invariant.peeled allowed before);
+}

@@ -1,0 +1,8 @@
+use Rattle.surf_graphs.specs.Cells.{dual}
+use Rattle.surf_surfaces.specs.Cells.{cells_of}
+use Rattle.surf_cotree.specs.Searches.{outside}
+use Rattle.surf_cotree.specs.Peeling.{IsPeeledBy}
+use Rattle.surf_cotree.proofs.peeling.list_peeled.Given as goal
+
+abbrev pub invariant-loop-face : goal.invariant-loop-face
+invariant-loop-face l = IsPeeledBy (dual (cells_of l.mesh)) (outside l.initial.marks) l.leaves l.count (outside l.marks)
