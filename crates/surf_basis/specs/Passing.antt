@@ -1,6 +1,6 @@
 -- Vertices that are passed over, since loops there are nothing new.
-use Rattle.std.specs.Prelude.{ℕ, suc, ◌≡◌, ◌<◌, ◌≤◌, ◌+◌, ◌-◌, ◌/◌, ◌⊎◌, min, Bool, false, IsTrue, List, length, take, slice_index_or}
-use Rattle.std.specs.Prelude.{Option, Some, None}
+use Rattle.std.specs.Prelude.{ℕ, suc, ◌≡◌, ◌<◌, ◌≤◌, ◌+◌, ◌-◌, ◌/◌, ◌⊎◌, min, Bool, false, IsTrue, List, length}
+use Rattle.std.specs.Prelude.{take, slice_index_or, Option, Some, None}
 use Rattle.surf_z2.specs.Space.{numbers, Spanned}
 use Rattle.surf_graphs.specs.Cells.{Split, IsSplit}
 use Rattle.surf_graphs.specs.Trees.{Tree}
@@ -58,8 +58,8 @@ AreKeptIn mesh lengths s set choice = (trees : ℕ → Trees) → AreChosen mesh
     IsSplit (cells_of mesh) d → AreSignatures mesh d s →
     AreKeptOf mesh lengths (λ x. (trees x).tree) d (limit_of choice) set choice.kept
 
--- where what is kept is enough for the vertices that were marked, by lengths from which those of a finder differ at these
--- alone, it is enough for those that are marked now
+-- where what is kept is enough for the vertices that were marked, by lengths from which those of a finder differ at
+-- these alone, it is enough for those that are marked now
 abbrev pub StayKept : SurfaceTables → List Bool → List Bool → Chosen → Type 0
 StayKept f old new choice = (lengths : List ℕ) → ArePositive f.mesh lengths →
     AgreeOff f.mesh lengths f.lengths (is_marked old) → AreKeptIn f.mesh lengths f.signs (is_marked old) choice →

@@ -66,8 +66,8 @@ impl Tables {
     }
 }
 
-/// Finds the loops of edges at one vertex after the other. Its lengths are those of its links, which
-/// may bar the ways through some vertices.
+/// Finds the loops of edges at one vertex after the other. Its lengths are those of its links,
+/// which may bar the ways through some vertices.
 #[derive(Drop)]
 pub(crate) struct Finder<'a> {
     surface: SignedSurface<'a>,

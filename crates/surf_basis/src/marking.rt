@@ -38,7 +38,8 @@ pub(crate) fn mark_all(list: &[VertexId], links: &mut Links<'_>, marks: &mut [bo
     ensures stay { (v : ℕ) → IsTrue (is_marked marks.old v) → IsTrue (is_marked marks.new v) }
     ensures count { length marks.new ≡ length marks.old }
     ensures shut { AreShut links.old.mesh links.new.lengths marks.old marks.new }
-    ensures off { AgreeOff links.old.mesh links.old.lengths links.new.lengths (is_marked marks.new) }
+    ensures off { AgreeOff links.old.mesh links.old.lengths links.new.lengths
+        (is_marked marks.new) }
     ensures mesh { links.new.mesh ≡ links.old.mesh }
 {
     for v in list {

@@ -41,9 +41,10 @@ impl Pace {
     pub fn step(&mut self, told: bool)
         ensures waits { self.old.left ≢ 0 →
             self.new ≡ record self.old { left = self.old.left - 1 } }
-        ensures told { self.old.left ≡ 0 → told ≡ true → self.new ≡ record { left = 0; wait = 0 } }
-        ensures longer { self.old.left ≡ 0 → told ≡ false → self.new
-            ≡ record { left = min (2 * self.old.wait + 1) 15; wait = min (2 * self.old.wait + 1) 15 } }
+        ensures told { self.old.left ≡ 0 → told ≡ true → self.new.wait ≡ 0 }
+        ensures longer { self.old.left ≡ 0 → told ≡ false →
+            self.new.wait ≡ min (2 * self.old.wait + 1) 15 }
+        ensures begun { self.old.left ≡ 0 → self.new.left ≡ self.new.wait }
     {
         if self.left > 0 {
             self.left -= 1;

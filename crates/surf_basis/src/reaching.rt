@@ -2,7 +2,8 @@
 ghost use Rattle.std.specs.Prelude.{◌≡◌, ◌<◌, ◌==◌, slice_index, false, true, IsTrue, min, length};
 ghost use Rattle.surf_near.specs.Links.{IsLinkAt};
 ghost use Rattle.surf_basis.specs.Found.{IsReady, IsLinkOf, IsRise, IsUnwantedAt};
-ghost use Rattle.surf_basis.specs.Found.{is_between, told_loop, reached_at, may_matter, plain_edges};
+ghost use Rattle.surf_basis.specs.Found.{reached_at, is_between, told_loop};
+ghost use Rattle.surf_basis.specs.Found.{may_matter, plain_edges};
 ghost use Rattle.surf_basis.specs.Places.{place_of, is_sought, radius_of};
 
 use crate::candidate::{Candidate, copy_signature};
