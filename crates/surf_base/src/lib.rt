@@ -25,4 +25,4 @@ pub use limits::{
 pub use memory::{MemShelf, MemSink};
 pub use outside::{Failed, NoMemory, Shelf, Sink};
 pub use room::{make_room, reuse_room};
-pub use transfer::{FetchFault, fetch, put_all};
+pub use transfer::{FetchFault, fetch, fetch_into, put_all};

@@ -19,28 +19,32 @@ regroup : (front : List (List ℕ)) (text : List ℕ) (read : Read) → with_lin
 regroup front text (Ok read) = ap (λ (texts : List (List ℕ)). Ok (texts, read.1)) (simp append_assoc)
 regroup front text (Err e) = refl
 
-module _ (v f done : ℕ) (front : List (List ℕ)) (lines : List TextLine) (total : Read) (so_far : with_lines front (vertices_at (v - done) f lines) ≡ total) where
-  pub vertex_early : done < v → lines ≡ [] → total ≡ Err (Early (v - done + f))
+-- the first line, if there is one that has three tokens
+module _ (v f : ℕ) (some : 0 < v) (lines : List TextLine) where
+  pub first_early : lines ≡ [] → vertices_at v f lines ≡ Err (Early (v + f))
   unfolding vertices_at
-  vertex_early lt none =
-      let k : v - done ≡ suc (v - (done + 1)) = omega arith in
-      let one : with_lines front (vertices_at (v - done) f lines) ≡ Err (Early (v - done + f)) = rw (k, none) refl in
-      sym so_far ∙ one
+  first_early none = let k : v ≡ suc (v - 1) = omega arith in rw (k, none) refl
 
-  module _ (line : TextLine) (rest : List TextLine) (lt : done < v) (is : lines ≡ line ∷ rest) where
-    pub vertex_more : nat_le 3 (length (tokens_of line.bytes)) ≡ true → with_lines (front ++ line.bytes ∷ []) (vertices_at (v - (done + 1)) f rest) ≡ total
+  module _ (line : TextLine) (rest : List TextLine) (is : lines ≡ line ∷ rest) where
+    pub first_long : nat_le 3 (length (tokens_of line.bytes)) ≡ true → vertices_at v f lines ≡ with_line line.bytes (vertices_at (v - 1) f rest)
     unfolding vertices_at
-    vertex_more long =
-        let k : v - done ≡ suc (v - (done + 1)) = omega arith in
-        let one : with_lines front (vertices_at (v - done) f lines) ≡ with_lines (front ++ line.bytes ∷ []) (vertices_at (v - (done + 1)) f rest) = rw (k, is, long) (regroup front line.bytes (vertices_at (v - (done + 1)) f rest)) in
-        sym one ∙ so_far
+    first_long long =
+        let k : v ≡ suc (v - 1) = omega arith in
+        ap (λ (n : ℕ). vertices_at n f lines) k ∙ first
+      where
+        first : vertices_at (suc (v - 1)) f lines ≡ with_line line.bytes (vertices_at (v - 1) f rest)
+        first = rw (is, long) refl
 
-    pub vertex_short : nat_le 3 (length (tokens_of line.bytes)) ≡ false → total ≡ Err (VertexLine line.number)
+    pub first_short : nat_le 3 (length (tokens_of line.bytes)) ≡ false → vertices_at v f lines ≡ Err (VertexLine line.number)
     unfolding vertices_at
-    vertex_short short =
-        let k : v - done ≡ suc (v - (done + 1)) = omega arith in
-        let one : with_lines front (vertices_at (v - done) f lines) ≡ Err (VertexLine line.number) = rw (k, is, short) refl in
-        sym so_far ∙ one
+    first_short short = let k : v ≡ suc (v - 1) = omega arith in rw (k, is, short) refl
+
+module _ (v f done : ℕ) (front : List (List ℕ)) (lines : List TextLine) (total : Read) (so_far : with_lines front (vertices_at (v - done) f lines) ≡ total) where
+  pub vertex_more : (text : List ℕ) (rest : List TextLine) → vertices_at (v - done) f lines ≡ with_line text (vertices_at (v - done - 1) f rest) → with_lines (front ++ text ∷ []) (vertices_at (v - (done + 1)) f rest) ≡ total
+  vertex_more text rest is =
+      let k : v - done - 1 ≡ v - (done + 1) = omega arith in
+      sym (regroup front text (vertices_at (v - (done + 1)) f rest))
+      ∙ ap (λ (n : ℕ). with_lines front (with_line text (vertices_at n f rest))) (sym k) ∙ ap (with_lines front) (sym is) ∙ so_far
 
   pub vertices_done : v ≤ done → total ≡ Ok (front, lines)
   unfolding vertices_at

@@ -27,6 +27,6 @@ pub use fault::OffFault;
 pub use header::Header;
 pub use made::write_soup;
 pub use off_places::OffPlaces;
-pub use read::{read_off, read_places};
+pub use read::{read_off, read_places, read_soup};
 pub use text::OffText;
 pub use write::{write_head, write_line, write_off};

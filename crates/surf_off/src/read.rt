@@ -1,9 +1,11 @@
 //! Reads an OFF text.
 ghost use Rattle.std.specs.Prelude.{◌≡◌, ◌<◌, ◌≤◌, ◌+◌, ◌/◌, min, length, IfOk};
 ghost use Rattle.surf_surfaces.specs.SideNumber.{side_count};
-ghost use Rattle.surf_off.specs.Off.{off_of};
+ghost use Rattle.surf_text.specs.Walks.{lines_ahead};
+ghost use Rattle.surf_surfaces.specs.Mesh.{Mesh};
+ghost use Rattle.surf_off.specs.Off.{OffParts, ended, off_of};
 ghost use Rattle.surf_off.specs.Clean.{IsOffParts};
-ghost use Rattle.surf_off.specs.Gives.{Gives};
+ghost use Rattle.surf_off.specs.Gives.{Gives, GivesSecond};
 ghost use Rattle.surf_off.specs.Places.{AreWithin, parts_at};
 ghost use Rattle.surf_base.specs.declared.limits.TheConstants.{MAX_FACES, MAX_SIDES, MAX_VERTICES};
 
@@ -13,7 +15,7 @@ use crate::head::{read_counts, read_head};
 use crate::off_places::OffPlaces;
 use crate::parts::{Colours, Parts};
 use crate::text::OffText;
-use crate::vertices::read_vertices;
+use crate::vertices::{pass_vertices, read_vertices};
 use std::alloc::Global;
 use surf_soup::Soup;
 use surf_text::PlacedLines;
@@ -69,11 +71,37 @@ pub fn read_places(alloc: Global, text: &[u8]) -> Result<(OffPlaces, Soup), OffF
     read_vertices(&mut lines, vertices, faces, &mut vertex_lines)?;
     let mut colours = Colours::none(alloc, text);
     let soup = read_faces(alloc, &mut lines, vertices, faces, &mut colours)?;
+    test_end(&mut lines)?;
+    let places = OffPlaces::of_parts(head.header, vertex_lines, colours);
+    Ok((places, soup))
+}
+
+/// The mesh alone. The vertex lines are tested and passed over, so that they take no memory.
+#[tactic(auto, unfolding(crate::specs::Off::off_in))]
+pub fn read_soup(alloc: Global, text: &[u8]) -> Result<Soup, OffFault>
+    requires short { length text.now < 4294967295 }
+    ensures off { GivesSecond (λ soup. soup) result (off_of text.now) }
+    ensures vertices { IfOk result (λ soup. soup.vertices ≤ MAX_VERTICES) }
+    ensures faces { IfOk result (λ soup. length soup.faces ≤ MAX_FACES) }
+    ensures sides { IfOk result (λ soup. side_count soup ≤ MAX_SIDES) }
+{
+    let mut lines = PlacedLines::over(text);
+    let mut head = read_head(&mut lines)?;
+    let (vertices, faces) = read_counts(head.number, &mut head.counts)?;
+    pass_vertices(&mut lines, vertices, faces)?;
+    let mut colours = Colours::none(alloc, text);
+    let soup = read_faces(alloc, &mut lines, vertices, faces, &mut colours)?;
+    test_end(&mut lines)?;
+    Ok(soup)
+}
+
+// No line may stand behind the faces.
+fn test_end(lines: &mut PlacedLines<'_>) -> Result<(), OffFault>
+    ensures { (off : OffParts × Mesh) → Gives (λ _. off) result
+        (ended off (lines_ahead lines.old)) }
+{
     match lines.next_line() {
         Some(line) => Err(OffFault::Trailing { line: line.number }),
-        None => Ok((
-            OffPlaces::of_parts(head.header, vertex_lines, colours),
-            soup,
-        )),
+        None => Ok(()),
     }
 }
