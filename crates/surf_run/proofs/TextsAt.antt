@@ -1,6 +1,6 @@
 -- The text of a file, of which the mesh alone goes on.
 use Rattle.std.proofs.Common.{◌≡◌, ℕ, List, Option, Result, Ok, Err, inl, inr, sym, subst}
-use Rattle.std.specs.Prelude.{IfSome, IsErrAnd}
+use Rattle.std.specs.Prelude.{IfOk, IfSome, IsErrAnd}
 use Rattle.surf_base.specs.Outside.{Files}
 use Rattle.surf_off.specs.Off.{OffParts}
 use Rattle.surf_surfaces.specs.Mesh.{Mesh}
@@ -12,7 +12,7 @@ use Rattle.surf_texts.specs.declared.refusal.Refused.{Refused}
 use Rattle.surf_answers.specs.declared.answered.Answered.{Answered}
 use Rattle.surf_answers.specs.Tells.{Why, Takes, WhyOver, TakesOver, ConcludesOver}
 use Rattle.surf_run.specs.Steps.{Ends, stops, goes}
-use Rattle.surf_run.specs.Reading.{Reads, IsMeshText, IsSurfaceOf, IsSurfaceText, IsTextAt}
+use Rattle.surf_run.specs.Reading.{Reads, IsMeshText, GivesMesh, IsSurfaceOf, IsSurfaceText, HoldsText, IsTextAt}
 use Rattle.surf_run.proofs.Composing.{handed, some_so, why_over_so}
 
 -- the cause of a step that reads no file
@@ -22,15 +22,21 @@ why_here old new holds Q follows (due o) is = follows o is
 why_here old new holds Q follows unread is = absurd is
 why_here old new holds Q follows starved is = tt
 
--- a fault of the text of a file whose bytes were read
-pub text_failed : (old new : ℕ) (holds : Option Files) (name bytes others : List ℕ) → others ≡ bytes → IfSome holds (λ files. Reads name files (Ok bytes)) →
-    (e : Refused) → Why (λ o. IsMeshText others (Err o)) (cause_of e) → (r : Result Mesh Refused) → IsErrAnd r (λ x. x ≡ e) →
-    TakesOver holds old new (λ mesh. mesh) (IsTextAt IsMeshText name) r
-text_failed old new holds name bytes others named read e why r is =
-    handed (TakesOver holds old new (λ mesh. mesh) (IsTextAt IsMeshText name)) e r is
-    (why_here old new holds (λ files o. IsTextAt IsMeshText name files (Err o))
-    (λ o ended. some_so holds (λ files reads. goes others (subst (λ (b : List ℕ). Reads name files (Ok b)) (sym named) reads) ended) read)
-    (cause_of e) why)
+-- the mesh in the text of a file whose bytes were read, or its fault
+module _ (holds : Option Files) (name bytes others : List ℕ) (same : others ≡ bytes) (read : IfSome holds (λ files. Reads name files (Ok bytes))) where
+  read_so : IfSome holds (λ files. Reads name files (Ok others))
+  read_so = some_so holds (λ files reads. subst (λ (b : List ℕ). Reads name files (Ok b)) (sym same) reads) read
+
+  pub mesh_taken : (old new : ℕ) (r : Result Mesh Refused) → Takes (λ m. m) (GivesMesh others) r → TakesOver holds old new (λ m. m) (IsTextAt IsMeshText name) r
+  mesh_taken old new (Ok mesh) is = some_so holds (λ files reads. (others, is.0, reads, is.1)) read_so
+  mesh_taken old new (Err e) why =
+      why_here old new holds (λ files o. IsTextAt IsMeshText name files (Err o))
+      (λ o ended. some_so holds (λ files reads. goes others reads ended) read_so) (cause_of e) why
+
+  pub mesh_held : (r : Result Mesh Refused) → Takes (λ m. m) (GivesMesh others) r →
+      IfOk r (λ mesh. (text : List ℕ) × (parts : OffParts) × HoldsText IsMeshText holds name text (parts, mesh))
+  mesh_held (Ok mesh) is = (others, is.0, (read_so, is.1))
+  mesh_held (Err e) why = tt
 
 -- no surface is read where no mesh is
 no_surface : (name : List ℕ) (files : Files) (o : Outcome) → IsTextAt IsMeshText name files (Err o) → IsTextAt IsSurfaceText name files (Err o)

@@ -46,6 +46,11 @@ Reads name files result = result ≡ within_text (bytes_of files name)
 abbrev pub IsMeshText : List ℕ → Result (OffParts × Mesh) Outcome → Type 0
 IsMeshText bytes result = result ≡ refused_by off_cause (off_of bytes)
 
+-- .. and of what they give, the mesh goes on
+abbrev pub GivesMesh : List ℕ → Result Mesh Outcome → Type 0
+GivesMesh bytes (Ok mesh) = (parts : OffParts) × IsMeshText bytes (Ok (parts, mesh))
+GivesMesh bytes (Err outcome) = IsMeshText bytes (Err outcome)
+
 -- A fault of the mesh comes out so.
 pub record EndsInFault (mesh : Mesh) (outcome : Outcome) : Type 0 where
   pub fault : SurfaceFault

@@ -1,21 +1,41 @@
 //! Files that are reached.
-ghost use Rattle.std.specs.Prelude.{◌≡◌, ◌≤◌, ℕ, List, length, IfOk};
+ghost use Rattle.std.specs.Prelude.{◌≡◌, ◌≤◌, ℕ, List, length, IfOk, OnOk};
 ghost use Rattle.surf_surfaces.specs.Surface.{face_count};
 ghost use Rattle.surf_off.specs.Clean.{IsOffParts};
 ghost use Rattle.surf_off.specs.Off.{OffParts};
 ghost use Rattle.surf_off.specs.Places.{AreWithin, parts_at};
-ghost use Rattle.surf_run.specs.Reading.{Reads, IsMeshText, IsSurfaceOf, IsSurfaceText};
+ghost use Rattle.surf_run.specs.Reading.{Reads, IsMeshText, GivesMesh, IsSurfaceOf, IsSurfaceText};
 ghost use Rattle.surf_run.specs.Reading.{HoldsText, IsTextAt};
 ghost use Rattle.surf_answers.specs.Tells.{Takes, TakesOver};
 ghost use Rattle.surf_base.specs.declared.limits.TheConstants.{MAX_TEXT};
 
 use std::alloc::Global;
-use surf_base::{FetchFault, LimitKind, MAX_TEXT, Shelf, fetch};
+use surf_base::{FetchFault, LimitKind, MAX_TEXT, Shelf, fetch_into};
 use surf_check::{check, check_surface};
 use surf_mesh::{HalfMesh, Surface};
-use surf_off::{OffPlaces, OffText, read_off, read_places};
+use surf_off::{OffPlaces, OffText, read_off, read_places, read_soup};
 use surf_soup::Soup;
 use surf_texts::Refused;
+
+/// The bytes of the file of a name, in place of those of an earlier text.
+pub(crate) fn read_into<S: Shelf>(
+    shelf: &mut S,
+    name: &str,
+    room: &mut Vec<u8>,
+) -> Result<(), Refused>
+    ensures holds { S.holds shelf.new ≡ S.holds shelf.old }
+    ensures later { S.faults shelf.old ≤ S.faults shelf.new }
+    ensures most { OnOk result (length room.new.items ≤ MAX_TEXT) }
+    ensures tells { TakesOver (S.holds shelf.old) (S.faults shelf.old) (S.faults shelf.new)
+        (λ _. room.new.items) (Reads name.now) result }
+{
+    match fetch_into(shelf, name, MAX_TEXT, room) {
+        Ok(()) => Ok(()),
+        Err(FetchFault::Failed) => Err(Refused::Read),
+        Err(FetchFault::TooLong) => Err(Refused::Limit(LimitKind::Text)),
+        Err(FetchFault::Memory) => Err(Refused::Memory),
+    }
+}
 
 /// The bytes of the file of a name.
 pub(crate) fn read_file<S: Shelf>(
@@ -29,12 +49,9 @@ pub(crate) fn read_file<S: Shelf>(
     ensures tells { TakesOver (S.holds shelf.old) (S.faults shelf.old) (S.faults shelf.new)
         (λ bytes. bytes.items) (Reads name.now) result }
 {
-    match fetch(alloc, shelf, name, MAX_TEXT) {
-        Ok(bytes) => Ok(bytes),
-        Err(FetchFault::Failed) => Err(Refused::Read),
-        Err(FetchFault::TooLong) => Err(Refused::Limit(LimitKind::Text)),
-        Err(FetchFault::Memory) => Err(Refused::Memory),
-    }
+    let mut bytes = Vec::new(alloc);
+    read_into(shelf, name, &mut bytes)?;
+    Ok(bytes)
 }
 
 /// The parts and the faces of the text of a mesh.
@@ -46,6 +63,15 @@ pub(crate) fn read_mesh(alloc: Global, bytes: &[u8]) -> Result<(OffText<'_>, Sou
 {
     let read = read_off(alloc, bytes)?;
     Ok(read)
+}
+
+// The faces of the text of a mesh.
+fn soup_of(alloc: Global, bytes: &[u8]) -> Result<Soup, Refused>
+    requires { length bytes.now ≤ MAX_TEXT }
+    ensures { Takes (λ soup. soup) (GivesMesh bytes.now) result }
+{
+    let soup = read_soup(alloc, bytes)?;
+    Ok(soup)
 }
 
 /// The surface that faces are.
@@ -91,6 +117,24 @@ fn keep_front(places: &OffPlaces, bytes: &mut Vec<u8>)
     bytes.shrink_to_fit();
 }
 
+// The faces in the text of the file of a name, which is read in place of an earlier text.
+fn mesh_through<S: Shelf>(
+    alloc: Global,
+    shelf: &mut S,
+    name: &str,
+    room: &mut Vec<u8>,
+) -> Result<Soup, Refused>
+    ensures holds { S.holds shelf.new ≡ S.holds shelf.old }
+    ensures later { S.faults shelf.old ≤ S.faults shelf.new }
+    ensures tells { TakesOver (S.holds shelf.old) (S.faults shelf.old) (S.faults shelf.new)
+        (λ soup. soup) (IsTextAt IsMeshText name.now) result }
+    ensures held { IfOk result (λ soup. (bytes : List ℕ) × (parts : OffParts)
+        × HoldsText IsMeshText (S.holds shelf.new) name.now bytes (parts, soup)) }
+{
+    read_into(shelf, name, room)?;
+    soup_of(alloc, room)
+}
+
 /// The faces in the text of the file of a name. The text is kept no longer.
 pub(crate) fn mesh_at<S: Shelf>(alloc: Global, shelf: &mut S, name: &str) -> Result<Soup, Refused>
     ensures holds { S.holds shelf.new ≡ S.holds shelf.old }
@@ -100,9 +144,8 @@ pub(crate) fn mesh_at<S: Shelf>(alloc: Global, shelf: &mut S, name: &str) -> Res
     ensures held { IfOk result (λ soup. (bytes : List ℕ) × (parts : OffParts)
         × HoldsText IsMeshText (S.holds shelf.new) name.now bytes (parts, soup)) }
 {
-    let bytes = read_file(alloc, shelf, name)?;
-    let (_, soup) = read_mesh(alloc, &bytes)?;
-    Ok(soup)
+    let mut room = Vec::new(alloc);
+    mesh_through(alloc, shelf, name, &mut room)
 }
 
 /// The surface in the text of the file of a name. The text is kept no longer than its faces are
@@ -120,6 +163,24 @@ pub(crate) fn surface_at<S: Shelf>(
         × HoldsText IsSurfaceText (S.holds shelf.new) name.now bytes (parts, mesh)) }
 {
     let soup = mesh_at(alloc, shelf, name)?;
+    surface_of(alloc, soup)
+}
+
+/// The same surface. The room of its text is kept for that of the next file.
+pub(crate) fn surface_through<S: Shelf>(
+    alloc: Global,
+    shelf: &mut S,
+    name: &str,
+    room: &mut Vec<u8>,
+) -> Result<HalfMesh, Refused>
+    ensures holds { S.holds shelf.new ≡ S.holds shelf.old }
+    ensures later { S.faults shelf.old ≤ S.faults shelf.new }
+    ensures tells { TakesOver (S.holds shelf.old) (S.faults shelf.old) (S.faults shelf.new)
+        (λ mesh. mesh) (IsTextAt IsSurfaceText name.now) result }
+    ensures held { IfOk result (λ mesh. (bytes : List ℕ) × (parts : OffParts)
+        × HoldsText IsSurfaceText (S.holds shelf.new) name.now bytes (parts, mesh)) }
+{
+    let soup = mesh_through(alloc, shelf, name, room)?;
     surface_of(alloc, soup)
 }
 

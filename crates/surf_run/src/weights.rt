@@ -5,17 +5,19 @@ ghost use Rattle.surf_answers.specs.Tells.{Takes, TakesOver};
 ghost use Rattle.surf_run.specs.Reading.{IsMeasured, HasBase, HasLengths, WeighsText};
 ghost use Rattle.surf_base.specs.declared.limits.TheConstants.{MAX_TEXT};
 
-use crate::reading::read_file;
+use crate::reading::read_into;
 use std::alloc::Global;
 use surf_base::{Shelf, VertexId};
 use surf_lengths::{Lengths, read_lengths, unit_lengths};
 use surf_mesh::HalfMesh;
 use surf_texts::Refused;
 
-/// The lengths that a word gives: `unit`, or the name of a length file.
+/// The lengths that a word gives: `unit`, or the name of a length file, which is read in place of
+/// an earlier text.
 pub(crate) fn read_weights<S: Shelf>(
     alloc: Global,
     shelf: &mut S,
+    mut room: Vec<u8>,
     mesh: &HalfMesh,
     word: &str,
 ) -> Result<Lengths, Refused>
@@ -26,17 +28,19 @@ pub(crate) fn read_weights<S: Shelf>(
     ensures count { IfOk result (λ lengths. length lengths ≡ edge_count mesh.now) }
 {
     if word == "unit" {
+        drop(room);
         let lengths = unit_lengths(alloc, mesh)?;
         return Ok(lengths);
     }
-    let bytes = read_file(alloc, shelf, word)?;
-    weights_of(alloc, mesh, &bytes)
+    read_into(shelf, word, &mut room)?;
+    weights_of(alloc, mesh, &room)
 }
 
 /// The lengths that a word gives, each from 1 to 4,294,967,295.
 pub(crate) fn read_measures<S: Shelf>(
     alloc: Global,
     shelf: &mut S,
+    room: Vec<u8>,
     mesh: &HalfMesh,
     lengths: &str,
 ) -> Result<Lengths, Refused>
@@ -46,7 +50,7 @@ pub(crate) fn read_measures<S: Shelf>(
         (λ lengths. lengths) (IsMeasured lengths.now mesh.now) result }
     ensures count { IfOk result (λ lengths. length lengths ≡ edge_count mesh.now) }
 {
-    let lengths = read_weights(alloc, shelf, mesh, lengths)?;
+    let lengths = read_weights(alloc, shelf, room, mesh, lengths)?;
     lengths.law_of_lengths();
     Ok(lengths)
 }

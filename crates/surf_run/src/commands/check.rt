@@ -12,7 +12,7 @@ ghost use Rattle.surf_base.specs.declared.limits.LimitKind.TheVariants.{Certific
 ghost use Rattle.surf_base.specs.declared.limits.TheConstants.{MAX_CERTIFICATE_VERTICES, MAX_LOOPS, MAX_TEXT};
 
 use crate::limits::{at_most, test_loops};
-use crate::reading::{read_file, surface_at};
+use crate::reading::{read_file, surface_through};
 use crate::weights::read_measures;
 use std::alloc::Global;
 use surf_answers::{Answered, judge};
@@ -36,14 +36,16 @@ pub(crate) fn checked<S: Shelf>(
     ensures tells { ConcludesOver (S.holds shelf.old) (S.faults shelf.old) (S.faults shelf.new)
         (OnRequest (Some (checks mesh.now lengths.now cert.now))) result }
 {
-    let mesh = surface_at(alloc, shelf, mesh)?;
-    check_on(alloc, shelf, &mesh, lengths, cert)
+    let mut room = Vec::new(alloc);
+    let mesh = surface_through(alloc, shelf, mesh, &mut room)?;
+    check_on(alloc, shelf, room, &mesh, lengths, cert)
 }
 
 // What `check` answers of a surface.
 fn check_on<S: Shelf>(
     alloc: Global,
     shelf: &mut S,
+    room: Vec<u8>,
     mesh: &HalfMesh,
     lengths: &str,
     cert: &str,
@@ -55,7 +57,7 @@ fn check_on<S: Shelf>(
         (S.faults shelf.new) (OnRequest (Some (checks name lengths.now cert.now))) result }
 {
     test_loops(mesh)?;
-    let lengths = read_measures(alloc, shelf, mesh, lengths)?;
+    let lengths = read_measures(alloc, shelf, room, mesh, lengths)?;
     let text = read_file(alloc, shelf, cert)?;
     judge_text(alloc, mesh, &lengths, &text)
 }

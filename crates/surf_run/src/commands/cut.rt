@@ -58,7 +58,7 @@ fn open_surface<S: Shelf>(
     ensures faces { IfOk result (λ opened. length opened.faces ≡ face_count mesh.now) }
 {
     test_loops(mesh)?;
-    let lengths = read_measures(alloc, shelf, mesh, lengths)?;
+    let lengths = read_measures(alloc, shelf, Vec::new(alloc), mesh, lengths)?;
     let base = base_of(mesh, base)?;
     opened_at(alloc, mesh, lengths, base, kind)
 }

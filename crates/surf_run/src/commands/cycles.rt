@@ -12,7 +12,7 @@ ghost use Rattle.surf_off.specs.Off.{OffParts};
 ghost use Rattle.surf_base.specs.declared.limits.TheConstants.{MAX_LOOPS};
 
 use crate::limits::{at_most, test_loops};
-use crate::reading::surface_at;
+use crate::reading::surface_through;
 use crate::weights::read_measures;
 use std::alloc::Global;
 use surf_answers::{Answered, basis_cert_of, basis_of, cycle_of};
@@ -35,14 +35,16 @@ pub(crate) fn find_cycles<S: Shelf>(
     ensures tells { ConcludesOver (S.holds shelf.old) (S.faults shelf.old) (S.faults shelf.new)
         (OnRequest (Some (cycles task mesh.now lengths.now))) result }
 {
-    let mesh = surface_at(alloc, shelf, mesh)?;
-    find_on(alloc, shelf, task, &mesh, lengths)
+    let mut room = Vec::new(alloc);
+    let mesh = surface_through(alloc, shelf, mesh, &mut room)?;
+    find_on(alloc, shelf, room, task, &mesh, lengths)
 }
 
 // What a task on a surface answers.
 fn find_on<S: Shelf>(
     alloc: Global,
     shelf: &mut S,
+    room: Vec<u8>,
     task: CycleTask,
     mesh: &HalfMesh,
     lengths: &str,
@@ -55,7 +57,7 @@ fn find_on<S: Shelf>(
 {
     test_loops(mesh)?;
     test_vertices(task, mesh)?;
-    let lengths = read_measures(alloc, shelf, mesh, lengths)?;
+    let lengths = read_measures(alloc, shelf, room, mesh, lengths)?;
     find(alloc, task, mesh, &lengths)
 }
 

@@ -11,7 +11,7 @@ ghost use Rattle.surf_base.specs.declared.limits.LimitKind.TheVariants.{CoverLoo
 ghost use Rattle.surf_base.specs.declared.limits.TheConstants.{MAX_COVER_LOOPS, MAX_COVER_NODES};
 
 use crate::limits::{at_most, test_loops};
-use crate::reading::surface_at;
+use crate::reading::surface_through;
 use crate::walks::walk_named;
 use crate::weights::read_measures;
 use std::alloc::Global;
@@ -33,14 +33,16 @@ pub(crate) fn shortest<S: Shelf>(
     ensures tells { ConcludesOver (S.holds shelf.old) (S.faults shelf.old) (S.faults shelf.new)
         (OnRequest (Some (tightens mesh.now lengths.now walk.now))) result }
 {
-    let mesh = surface_at(alloc, shelf, mesh)?;
-    shortest_on(alloc, shelf, &mesh, lengths, walk)
+    let mut room = Vec::new(alloc);
+    let mesh = surface_through(alloc, shelf, mesh, &mut room)?;
+    shortest_on(alloc, shelf, room, &mesh, lengths, walk)
 }
 
 // What `shortest` answers of a surface.
 fn shortest_on<S: Shelf>(
     alloc: Global,
     shelf: &mut S,
+    room: Vec<u8>,
     mesh: &HalfMesh,
     lengths: &str,
     walk: &str,
@@ -54,7 +56,7 @@ fn shortest_on<S: Shelf>(
     test_loops(mesh)?;
     test_cover_loops(mesh)?;
     test_cover_nodes(mesh)?;
-    let lengths = read_measures(alloc, shelf, mesh, lengths)?;
+    let lengths = read_measures(alloc, shelf, room, mesh, lengths)?;
     let walk = walk_named(alloc, shelf, mesh, WalkFile::First, walk)?;
     shortest_of(alloc, mesh, &lengths, &walk)
 }

@@ -12,7 +12,7 @@ ghost use Rattle.surf_base.specs.declared.limits.TheConstants.{MAX_LOOPS};
 
 use crate::commands::cut::cut_open;
 use crate::limits::test_loops;
-use crate::reading::surface_at;
+use crate::reading::surface_through;
 use crate::weights::{base_of, read_measures};
 use std::alloc::Global;
 use surf_answers::{Answered, dist_of, loop_cert_of, loops_of};
@@ -59,14 +59,16 @@ fn search<S: Shelf>(
     ensures tells { ConcludesOver (S.holds shelf.old) (S.faults shelf.old) (S.faults shelf.new)
         (OnRequest (Some (weighted task mesh.now lengths.now base))) result }
 {
-    let mesh = surface_at(alloc, shelf, mesh)?;
-    search_on(alloc, shelf, task, &mesh, lengths, base)
+    let mut room = Vec::new(alloc);
+    let mesh = surface_through(alloc, shelf, mesh, &mut room)?;
+    search_on(alloc, shelf, room, task, &mesh, lengths, base)
 }
 
 // What such a task on a surface answers.
 fn search_on<S: Shelf>(
     alloc: Global,
     shelf: &mut S,
+    room: Vec<u8>,
     task: Task,
     mesh: &HalfMesh,
     lengths: &str,
@@ -80,7 +82,7 @@ fn search_on<S: Shelf>(
         (S.faults shelf.new) (OnRequest (Some (weighted task name lengths.now base))) result }
 {
     test_task_loops(task, mesh)?;
-    let lengths = read_measures(alloc, shelf, mesh, lengths)?;
+    let lengths = read_measures(alloc, shelf, room, mesh, lengths)?;
     let base = base_of(mesh, base)?;
     found_by(alloc, task, mesh, &lengths, base)
 }

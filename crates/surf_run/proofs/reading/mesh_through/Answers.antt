@@ -1,0 +1,18 @@
+use Rattle.std.proofs.Common.{Ok, sym, subst}
+use Rattle.std.specs.Prelude.{Option, IfSome}
+use Rattle.surf_base.specs.Outside.{Files}
+use Rattle.surf_run.specs.Reading.{Reads}
+use Rattle.surf_run.proofs.TextsAt.{mesh_taken, mesh_held}
+use Rattle.surf_run.proofs.reading.mesh_through.Goals as goal
+
+pub returns-clause-tells : goal.returns-clause-tells
+returns-clause-tells g c =
+    mesh_taken (g.S.Shelf.holds c.args.shelf.now) c.args.name.now c.read_into.new.room.items c.deref.result.now c.deref.ensures.value
+    c.in_ok-read_into.ensures.tells _ _ c.soup_of.result c.soup_of.ensures
+
+pub returns-clause-held : goal.returns-clause-held
+returns-clause-held g c =
+    let bytes = c.read_into.new.room.items in
+    let read = subst (λ (holds : Option Files). IfSome holds (λ files. Reads c.args.name.now files (Ok bytes))) (sym c.read_into.ensures.holds)
+    c.in_ok-read_into.ensures.tells in
+    mesh_held (g.S.Shelf.holds c.read_into.new.shelf) c.args.name.now bytes c.deref.result.now c.deref.ensures.value read c.soup_of.result c.soup_of.ensures
