@@ -5,7 +5,7 @@
 //! read. Coordinates and colours stay text: an [`OffText`] keeps their places in the source, lends
 //! them as slices of it and copies nothing. The mesh itself is a `Soup` of `surf_mesh`. What a text
 //! is, or its first fault, is one definition over the list of its lines, and [`read_off`] answers
-//! it, fault by fault.
+//! it, fault by fault; [`read_soup`] answers its mesh alone.
 #![tactic(auto)]
 
 mod face;
