@@ -7,7 +7,7 @@ use Rattle.surf_surfaces.specs.Surface.{ends}
 use Rattle.surf_firsts.specs.Near.{AgreeOff}
 use Rattle.surf_surfaces.specs.Walk.{ArePositive}
 use Rattle.surf_cotree.specs.Tables.{CotreeTables}
-use Rattle.surf_basis.specs.Candidates.{Chosen}
+use Rattle.surf_choice.specs.Candidates.{Chosen}
 use Rattle.surf_basis.specs.Found.{SurfaceTables}
 use Rattle.surf_basis.specs.Passing.{is_marked, AreKeptIn, StayKept, IsAhead}
 

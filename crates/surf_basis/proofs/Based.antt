@@ -31,17 +31,19 @@ use Rattle.surf_surfaces.proofs.LoopsAtLaws.{IsLoopAt, loops_each}
 use Rattle.surf_firsts.specs.Firsts.{is_no_later, is_up_to, loops_up_to, IsLoopUpTo, AreLoopsUpTo}
 use Rattle.surf_firsts.proofs.FirstLoops.{each_in, filter_twice, first_loops}
 use Rattle.surf_cotree.specs.Tables.{CotreeTables}
-use Rattle.surf_basis.specs.declared.candidate.Candidate.{Candidate}
-use Rattle.surf_basis.specs.declared.candidate.Signed.{Signed}
+use Rattle.surf_choice.specs.declared.candidate.Candidate.{Candidate}
+use Rattle.surf_choice.specs.declared.candidate.Signed.{Signed}
+use Rattle.surf_choice.specs.Candidates.{Chosen, signed_earlier, independent_of}
+use Rattle.surf_choice.specs.Places.{place_of, is_sought, order_of}
+use Rattle.surf_choice.proofs.Sifted.{all_kept}
 use Rattle.surf_basis.specs.Based.{based_at, IsOffered, AreOffered}
-use Rattle.surf_basis.specs.Candidates.{Chosen, signed_earlier, independent_of, loop_in, loops_in, IsSigned}
-use Rattle.surf_basis.specs.Places.{place_of, is_sought, order_of, has_length}
+use Rattle.surf_basis.specs.Candidates.{loop_in, loops_in, IsSigned}
+use Rattle.surf_basis.specs.Places.{has_length}
 use Rattle.surf_basis.specs.Signing.{AreSigned}
 use Rattle.surf_basis.specs.Found.{IsFound, AreFoundBy, AreFound, IsNext}
 use Rattle.surf_basis.proofs.Kept.{kept_after}
 use Rattle.surf_basis.proofs.Looped.{class_small}
 use Rattle.surf_basis.proofs.Searched.{zero_null}
-use Rattle.surf_basis.proofs.Sifted.{all_kept}
 use Rattle.surf_basis.proofs.Told.{sooner_size}
 
 -- a candidate is the loop of its edge at the base, with its class, and at most so long

@@ -16,7 +16,7 @@ use Rattle.surf_surfaces.proofs.LoopsAtLaws.{IsLoopAt, loops_are_least}
 use Rattle.surf_surfaces.proofs.CandidateLaws.{IsLoopBelow, below_each}
 use Rattle.surf_loops.specs.Loops.{LoopTables, loop_of as head_loop, IsGreedy}
 use Rattle.surf_loops.specs.declared.head.LoopHead.{LoopHead}
-use Rattle.surf_basis.specs.declared.candidate.Candidate.{Candidate}
+use Rattle.surf_choice.specs.declared.candidate.Candidate.{Candidate}
 use Rattle.surf_basis.specs.declared.cycle.Cycle.{Cycle}
 use Rattle.surf_basis.specs.Candidates.{candidate_of, first_head, loop_in, IsInside, IsCycleOf}
 use Rattle.surf_basis.specs.Cycles.{first_of, as_loop, IsFirstCandidate, IsShortestCycle, AllSeparate}

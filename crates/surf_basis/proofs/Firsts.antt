@@ -6,8 +6,8 @@ use Rattle.std.proofs.lemmas.List.Sums.{fold-append}
 use Rattle.surf_surfaces.specs.Surface.{edge_count, ends}
 use Rattle.surf_near.specs.declared.links.Link.{Link}
 use Rattle.surf_near.specs.Links.{AreLinksAt, link_in}
-use Rattle.surf_basis.specs.declared.candidate.Candidate.{Candidate}
-use Rattle.surf_basis.specs.declared.candidate.Signed.{Signed}
+use Rattle.surf_choice.specs.declared.candidate.Candidate.{Candidate}
+use Rattle.surf_choice.specs.declared.candidate.Signed.{Signed}
 use Rattle.surf_basis.specs.Found.{Search, IsTold, is_wanted, told_loop, earlier_of, first_from, is_earlier, first_with, IsFirstTold}
 use Rattle.surf_basis.proofs.Told.{IsListedAt, listed_first, listed_push, listed_same, listed_all, lists_more}
 

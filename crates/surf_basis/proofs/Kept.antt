@@ -23,15 +23,16 @@ use Rattle.surf_surfaces.proofs.LeastLaws.{all_each}
 use Rattle.surf_surfaces.proofs.GreedyChoiceLaws.{greedy_is_choice}
 use Rattle.surf_surfaces.proofs.BasisLaws.{below_closed}
 use Rattle.surf_surfaces.proofs.LoopsAtLaws.{IsLoopAt, comes_before-trans, loops_each}
-use Rattle.surf_basis.specs.declared.candidate.Signed.{Signed}
+use Rattle.surf_choice.specs.declared.candidate.Signed.{Signed}
+use Rattle.surf_choice.specs.Candidates.{signed_earlier, independent_of}
+use Rattle.surf_choice.proofs.Sifted.{all_merged, all_kept}
 use Rattle.surf_basis.specs.declared.cycle.Cycle.{Cycle}
 use Rattle.surf_basis.specs.Based.{IsOffered}
-use Rattle.surf_basis.specs.Candidates.{signed_earlier, independent_of, loop_in, loops_in, IsSigned, IsCycleOf, AreCyclesOf}
+use Rattle.surf_basis.specs.Candidates.{loop_in, loops_in, IsSigned, IsCycleOf, AreCyclesOf}
 use Rattle.surf_basis.specs.Cycles.{as_loop, as_loops}
 use Rattle.surf_basis.specs.Kept.{HavePlacesOfBasis, placed_below, AreKept}
 use Rattle.surf_basis.specs.Marks.{HasBases}
 use Rattle.surf_basis.specs.Places.{lengths_at, has_length}
-use Rattle.surf_basis.proofs.Sifted.{all_merged, all_kept}
 use Rattle.surf_basis.proofs.Places.{is_placed_loop, no_lengths, placed_more, placed_past, placed-sorted}
 
 -- merged candidates as loops

@@ -1,8 +1,3 @@
-pub mod Greatest
-pub mod Fronts
-pub mod Admitted
-pub mod Sifted
-pub mod Changed
 pub mod Climbed
 pub mod Looped
 pub mod Merged
@@ -14,7 +9,6 @@ pub mod First
 pub mod Leading
 pub mod Whole
 pub mod Certified
-pub mod Limits
 pub mod Searched
 pub mod Numbered
 pub mod Told

@@ -12,7 +12,7 @@ use Rattle.surf_surfaces.specs.Surface.{edge_count, ends, IsSurface}
 use Rattle.surf_surfaces.specs.FewBases.{AreBases}
 use Rattle.surf_loops.proofs.Turned.{ends_in}
 use Rattle.surf_cotree.specs.Tables.{CotreeTables}
-use Rattle.surf_basis.specs.declared.candidate.Signed.{Signed}
+use Rattle.surf_choice.specs.declared.candidate.Signed.{Signed}
 use Rattle.surf_basis.specs.Marks.{AreMarkedIn, HasMarkedEnd, HasBases, HasSignedEnds}
 
 pub marked_none : (marked : List Bool) (list : List ℕ) → list ≡ [] → AreMarkedIn marked 0 list

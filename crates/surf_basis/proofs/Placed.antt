@@ -24,12 +24,12 @@ use Rattle.surf_surfaces.proofs.FewBasesLaws.{no_later-trans, no_later-same, lea
 use Rattle.surf_surfaces.proofs.FirstCycleLaws.{shortest_trees}
 use Rattle.surf_surfaces.proofs.FirstFoundLaws.{loop_closed, first_is_at_least_base}
 use Rattle.surf_cotree.specs.Tables.{CotreeTables}
-use Rattle.surf_basis.specs.declared.candidate.Candidate.{Candidate}
-use Rattle.surf_basis.specs.declared.candidate.Signed.{Signed}
-use Rattle.surf_basis.specs.Candidates.{earlier}
+use Rattle.surf_choice.specs.declared.candidate.Candidate.{Candidate}
+use Rattle.surf_choice.specs.declared.candidate.Signed.{Signed}
+use Rattle.surf_choice.specs.Candidates.{earlier}
+use Rattle.surf_choice.specs.Places.{place_of, is_sought}
 use Rattle.surf_basis.specs.Cycles.{first_of}
 use Rattle.surf_basis.specs.Marks.{HasSignedEnds}
-use Rattle.surf_basis.specs.Places.{place_of, is_sought}
 use Rattle.surf_basis.specs.Signing.{AreSigned}
 use Rattle.surf_basis.specs.Found.{IsFound, AreFoundBy, is_among, earlier_of, first_from, IsFirstOf, IsFirstAmong, IsFirstPlace}
 use Rattle.surf_basis.proofs.First.{no_first}

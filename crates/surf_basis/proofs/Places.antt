@@ -14,7 +14,7 @@ use Rattle.surf_surfaces.specs.FewBases.{Found, place_of_found, place_of_loop}
 use Rattle.surf_surfaces.proofs.CandidateLaws.{below-sorted, below_more}
 use Rattle.surf_surfaces.proofs.LeastLaws.{all_each}
 use Rattle.surf_surfaces.proofs.LoopsAtLaws.{IsLoopAt, comes_before-trans, loops-sorted, loops_each}
-use Rattle.surf_basis.specs.declared.candidate.Signed.{Signed}
+use Rattle.surf_choice.specs.declared.candidate.Signed.{Signed}
 use Rattle.surf_basis.specs.Found.{found_of}
 use Rattle.surf_basis.specs.Kept.{placed_below}
 use Rattle.surf_basis.specs.Marks.{HasBases}

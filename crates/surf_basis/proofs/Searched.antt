@@ -36,17 +36,17 @@ use Rattle.surf_surfaces.proofs.FoundLaws.{greedy_is_found_choice, found_closed,
 use Rattle.surf_surfaces.proofs.LeastLaws.{all_each, all_mapped}
 use Rattle.surf_surfaces.proofs.SignedEndsLaws.{signed_ends_meet_all}
 use Rattle.surf_cotree.specs.Tables.{CotreeTables}
-use Rattle.surf_basis.specs.declared.candidate.Candidate.{Candidate}
-use Rattle.surf_basis.specs.declared.candidate.Signed.{Signed}
-use Rattle.surf_basis.specs.Candidates.{Chosen, signed_earlier, independent_of}
+use Rattle.surf_choice.specs.declared.candidate.Candidate.{Candidate}
+use Rattle.surf_choice.specs.declared.candidate.Signed.{Signed}
+use Rattle.surf_choice.specs.Candidates.{Chosen, signed_earlier, independent_of}
+use Rattle.surf_choice.specs.Places.{place_of, is_sought, last_of, limit_of, stands_before}
+use Rattle.surf_choice.proofs.Limits.{IsShort, merged_sorted, sorted_by_number, before_last, limit_none, limit_last, limit_falls, all_sought}
+use Rattle.surf_choice.proofs.Sifted.{all_merged, all_kept, greedy_mapped}
 use Rattle.surf_basis.specs.Marks.{HasSignedEnds}
-use Rattle.surf_basis.specs.Places.{place_of, is_sought, last_of, limit_of}
 use Rattle.surf_basis.specs.Signing.{AreSignatures, AreSigned}
-use Rattle.surf_basis.specs.Found.{IsFound, AreFoundBy, AreFound, found_of, stands_before, is_among, AreKeptOf, IsNext}
+use Rattle.surf_basis.specs.Found.{IsFound, AreFoundBy, AreFound, found_of, is_among, AreKeptOf, IsNext}
 use Rattle.surf_basis.proofs.Climbed.{at_edge}
 use Rattle.surf_basis.proofs.Looped.{class_small}
-use Rattle.surf_basis.proofs.Limits.{IsShort, merged_sorted, sorted_by_number, before_last, limit_none, limit_last, limit_falls, all_sought}
-use Rattle.surf_basis.proofs.Sifted.{all_merged, all_kept, greedy_mapped}
 
 -- ---- the vertices of a list
 

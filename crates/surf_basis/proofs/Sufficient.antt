@@ -8,7 +8,7 @@ use Rattle.surf_surfaces.proofs.ChoiceExists.{choice_exists}
 use Rattle.surf_surfaces.proofs.FewBasesLaws.{few_bases_suffice, least_base_on_way}
 use Rattle.surf_surfaces.proofs.FirstCycleLaws.{shortest_trees}
 use Rattle.surf_cotree.specs.Tables.{CotreeTables}
-use Rattle.surf_basis.specs.Candidates.{Chosen}
+use Rattle.surf_choice.specs.Candidates.{Chosen}
 use Rattle.surf_basis.specs.Kept.{HavePlacesOfBasis}
 use Rattle.surf_basis.specs.Marks.{HasSignedEnds}
 use Rattle.surf_basis.specs.Places.{is_placed}

@@ -31,9 +31,10 @@ use Rattle.surf_near.specs.declared.links.Link.{Link}
 use Rattle.surf_near.specs.Links.{AreLinks, AreLinksAt, link_in}
 use Rattle.surf_near.specs.Near.{NearTables, IsNear, IsNearTo, is_near}
 use Rattle.surf_near.proofs.Linking.{link_all}
-use Rattle.surf_basis.specs.declared.candidate.Candidate.{Candidate}
-use Rattle.surf_basis.specs.declared.candidate.Signed.{Signed}
-use Rattle.surf_basis.specs.Places.{place_of, is_sought, radius_of}
+use Rattle.surf_choice.specs.declared.candidate.Candidate.{Candidate}
+use Rattle.surf_choice.specs.declared.candidate.Signed.{Signed}
+use Rattle.surf_choice.specs.Places.{place_of, is_sought}
+use Rattle.surf_basis.specs.Places.{radius_of}
 use Rattle.surf_basis.specs.Signing.{AreSignatures}
 use Rattle.surf_basis.specs.Ways.{WayTables, class_at, AreWays}
 use Rattle.surf_basis.specs.Found.{Search, IsReady, IsLinkOf, IsRise, may_matter, is_between, told_loop, is_wanted, wanted_loop, IsTold, ListsAt, AreTold, IsFound, AreFoundBy}

@@ -16,7 +16,7 @@ use Rattle.surf_surfaces.proofs.FirstFoundLaws.{ends_are_near}
 use Rattle.surf_surfaces.proofs.ShortestTreeLaws.{shortest_is_tree}
 use Rattle.surf_loops.proofs.Turned.{ends_in, way_reversed}
 use Rattle.surf_near.specs.Near.{NearTables, IsNear, is_near}
-use Rattle.surf_basis.specs.declared.candidate.Candidate.{Candidate}
+use Rattle.surf_choice.specs.declared.candidate.Candidate.{Candidate}
 use Rattle.surf_basis.specs.Based.{AddsWay, IsLoopWalk, IsMeasured}
 use Rattle.surf_basis.proofs.Numbered.{near_parent}
 use Rattle.surf_basis.proofs.Told.{half_below}

@@ -19,7 +19,7 @@ use Rattle.surf_surfaces.proofs.ShortestTreeLaws.{shortest_trees_are_one}
 use Rattle.surf_loops.proofs.Turned.{ends_in}
 use Rattle.surf_cotree.specs.Tables.{CotreeTables, split_with}
 use Rattle.surf_loops.specs.Loops.{LoopTables, IsGreedy}
-use Rattle.surf_basis.specs.declared.candidate.Signed.{Signed}
+use Rattle.surf_choice.specs.declared.candidate.Signed.{Signed}
 use Rattle.surf_basis.specs.declared.cycle.Cycle.{Cycle}
 use Rattle.surf_basis.specs.Based.{IsMeasured}
 use Rattle.surf_basis.specs.Candidates.{AreCyclesOf}

@@ -15,17 +15,17 @@ use Rattle.surf_surfaces.specs.Homology.{IsNull}
 use Rattle.surf_surfaces.specs.Class.{class_of}
 use Rattle.surf_surfaces.specs.Loop.{loop_walk, loop_length}
 use Rattle.surf_surfaces.specs.Choice.{Trees, AreChosen, candidates, loops_at}
-use Rattle.surf_surfaces.specs.FewBases.{is_no_later, place_at, least_base, Found, AreEnoughOf, IsFirstFound}
+use Rattle.surf_surfaces.specs.FewBases.{place_at, least_base, Found, AreEnoughOf, IsFirstFound}
 use Rattle.surf_cotree.specs.Tables.{CotreeTables}
 use Rattle.surf_near.specs.Near.{NearTables, AreNearTables, is_near}
 use Rattle.surf_near.specs.declared.links.Link.{Link}
-use Rattle.surf_basis.specs.declared.candidate.Candidate.{Candidate}
-use Rattle.surf_basis.specs.declared.candidate.Signed.{Signed}
+use Rattle.surf_choice.specs.declared.candidate.Candidate.{Candidate}
+use Rattle.surf_choice.specs.declared.candidate.Signed.{Signed}
+use Rattle.surf_choice.specs.Candidates.{Chosen, earlier, signed_earlier, independent_of}
+use Rattle.surf_choice.specs.Places.{place_of, stands_before, order_of, is_sought, limit_of}
 use Rattle.surf_basis.specs.declared.reaching.Reached.{Reached}
 use Rattle.surf_basis.specs.declared.surface.SignedSurface.{SignedSurface}
-use Rattle.surf_basis.specs.Candidates.{Chosen, earlier, signed_earlier, independent_of}
 use Rattle.surf_basis.specs.Cycles.{first_of}
-use Rattle.surf_basis.specs.Places.{place_of, order_of, is_sought, limit_of}
 use Rattle.surf_basis.specs.Signing.{AreSignatures}
 use Rattle.surf_basis.specs.Ways.{WayTables, class_at}
 
@@ -180,10 +180,6 @@ found_of mesh trees c = record {
   through = c.candidate.base;
   walk = loop_walk mesh (trees c.from) c.candidate.edge;
 }
-
--- whether it comes no later than another, by length and then by base
-abbrev pub stands_before : Signed → Signed → Bool
-stands_before c d = is_no_later (place_of c.candidate) (place_of d.candidate)
 
 -- independent loops in order, which are enough of those at the vertices of a set that come before a limit
 pub record AreKeptOf (mesh : Mesh) (lengths : List ℕ) (trees : ℕ → Tree) (d : Split) (limit : Option Candidate)

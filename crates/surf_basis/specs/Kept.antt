@@ -9,7 +9,7 @@ use Rattle.surf_surfaces.specs.Class.{class_of}
 use Rattle.surf_surfaces.specs.Choice.{Trees, AreChosen, Loop, loops_below, IsChosenBasis}
 use Rattle.surf_surfaces.specs.FewBases.{place_of_loop}
 use Rattle.surf_cotree.specs.Tables.{CotreeTables}
-use Rattle.surf_basis.specs.declared.candidate.Signed.{Signed}
+use Rattle.surf_choice.specs.declared.candidate.Signed.{Signed}
 use Rattle.surf_basis.specs.Candidates.{IsSigned, loops_in}
 use Rattle.surf_basis.specs.Places.{is_placed}
 use Rattle.surf_basis.specs.Signing.{AreSignatures}

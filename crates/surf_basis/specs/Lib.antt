@@ -2,7 +2,6 @@ pub mod Cycles
 pub mod Based
 pub mod Candidates
 pub mod Signing
-pub mod Echelons
 pub mod Certs
 pub mod Marks
 pub mod Places

@@ -5,7 +5,7 @@ use Rattle.std.specs.Int.{w32, reverse_bits}
 use Rattle.surf_surfaces.specs.Mesh.{Mesh}
 use Rattle.surf_surfaces.specs.Surface.{edge_count, ends}
 use Rattle.surf_cotree.specs.Tables.{CotreeTables}
-use Rattle.surf_basis.specs.declared.candidate.Signed.{Signed}
+use Rattle.surf_choice.specs.declared.candidate.Signed.{Signed}
 
 -- the list has those of the first vertices that are marked, increasing
 pub record AreMarkedIn (marked : List Bool) (bound : ℕ) (list : List ℕ) : Type 0 where

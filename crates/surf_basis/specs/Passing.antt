@@ -13,11 +13,11 @@ use Rattle.surf_surfaces.specs.ShortestTree.{IsShortestTree}
 use Rattle.surf_cotree.specs.Tables.{CotreeTables}
 use Rattle.surf_firsts.specs.Near.{AgreeOff}
 use Rattle.surf_near.specs.Links.{IsShutAt}
-use Rattle.surf_basis.specs.declared.candidate.Candidate.{Candidate}
-use Rattle.surf_basis.specs.declared.candidate.Signed.{Signed}
-use Rattle.surf_basis.specs.Candidates.{Chosen, signatures}
+use Rattle.surf_choice.specs.declared.candidate.Candidate.{Candidate}
+use Rattle.surf_choice.specs.declared.candidate.Signed.{Signed}
+use Rattle.surf_choice.specs.Candidates.{Chosen, signatures}
+use Rattle.surf_choice.specs.Places.{limit_of}
 use Rattle.surf_basis.specs.Found.{SurfaceTables, AreKeptOf}
-use Rattle.surf_basis.specs.Places.{limit_of}
 use Rattle.surf_basis.specs.Signing.{AreSignatures}
 
 -- whether a vertex is marked in a table
@@ -34,13 +34,6 @@ pub record AreMarkedNear (mesh : Mesh) (lengths : List ℕ) (base far : ℕ) (ol
 -- the ways through vertices that are marked anew are barred
 abbrev pub AreShut : Mesh → List ℕ → List Bool → List Bool → Type 0
 AreShut mesh lengths old new = (v : ℕ) → IsTrue (is_marked new v) → IsTrue (is_marked old v) ⊎ IsShutAt mesh v lengths
-
--- a loop is a sum of the first of those kept, and longer than the last of these by so much
-pub record IsLonger (kept : List Signed) (margin : ℕ) (s : Signed) : Type 0 where
-  pub count : ℕ
-  pub count_in : count ≤ length kept
-  pub sum : Spanned numbers (signatures (take count kept)) s.signature
-  pub longer : (k : ℕ) → suc k ≡ count → (slice_index_or kept k s).candidate.length + margin ≤ s.candidate.length
 
 -- a limit that is farther by a sixteenth, as far as a length goes
 abbrev pub widened : Candidate → Candidate

@@ -11,8 +11,6 @@ ghost use Rattle.surf_basis.specs.Marks.{HasBases};
 ghost use Rattle.surf_basis.specs.Signing.{AreSigned};
 ghost use Rattle.surf_base.specs.declared.limits.TheConstants.{MAX_LOOPS};
 
-use crate::candidate::Signed;
-use crate::choosing::Choice;
 use crate::cycle::Cycle;
 use crate::finding::Finder;
 use crate::nearby::loops_at;
@@ -23,6 +21,7 @@ use crate::surface::SignedSurface;
 use crate::walking::cycles_of;
 use std::alloc::Global;
 use surf_base::{NoMemory, VertexId};
+use surf_choice::{Choice, Signed};
 use surf_lengths::Lengths;
 use surf_mesh::HalfMesh;
 

@@ -12,7 +12,6 @@ ghost use Rattle.surf_basis.specs.Passing.{is_marked, AreMarkedNear, AreShut};
 ghost use Rattle.surf_basis.specs.Places.{radius_of};
 ghost use Rattle.surf_basis.specs.Ways.{AreWays};
 
-use crate::candidate::{Candidate, Signed};
 use crate::cycle::Cycle;
 use crate::foremost::first_told;
 use crate::listing::list_loops;
@@ -24,6 +23,7 @@ use crate::ways::Ways;
 use std::alloc::Global;
 use std::marker::Model;
 use surf_base::{EdgeId, NoMemory, VertexId};
+use surf_choice::{Candidate, Signed};
 use surf_cotree::CotreeDesk;
 use surf_mesh::HalfMesh;
 use surf_near::{Links, NearDesk};

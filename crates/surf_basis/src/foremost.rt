@@ -4,9 +4,9 @@ ghost use Rattle.surf_near.specs.Links.{IsLinkAt};
 ghost use Rattle.surf_basis.specs.Found.{IsReady, IsRise, reached_at, plain_edges};
 ghost use Rattle.surf_basis.specs.Found.{is_earlier, first_with, IsFirstTold};
 
-use crate::candidate::{Candidate, comes_before};
 use crate::reaching::{Reached, candidate_of, class_of, is_between, is_sought, may_matter};
 use surf_base::VertexId;
+use surf_choice::{Candidate, comes_before};
 use surf_near::Link;
 
 // Whether there is a candidate that comes before another.

@@ -14,42 +14,36 @@
 //! vertices are taken in an order that scatters them, so that short loops of all parts are found
 //! soon.
 //!
-//! Before such a search a scout may go from the vertex, somewhat farther than the search must. Where
-//! all loops that it finds are longer than kept ones of which they are sums, by more than a way
-//! there and back, the vertices that are so near are passed over, and there is no other search. To
-//! the scout the ways through vertices that are done with, searched or passed over, are barred: the
-//! edges there are as long as an edge may be. So it finds few loops and long ones, and more is
+//! Before such a search a scout may go from the vertex, somewhat farther than the search must.
+//! Where all loops that it finds are longer than kept ones of which they are sums, by more than a
+//! way there and back, the vertices that are so near are passed over, and there is no other search.
+//! To the scout the ways through vertices that are done with, searched or passed over, are barred:
+//! the edges there are as long as an edge may be. So it finds few loops and long ones, and more is
 //! passed over. It needs no others, since a loop that goes through such a vertex is a sum of loops
 //! there, for which what is kept is enough already. What is kept comes from searches by the given
 //! lengths alone.
 //!
-//! Then the bases so found are gone through one by one. A search near each, no farther than half the
-//! greatest length that was found for it, finds the loops of edges there: the first independent
+//! Then the bases so found are gone through one by one. A search near each, no farther than half
+//! the greatest length that was found for it, finds the loops of edges there: the first independent
 //! ones by length and edge are those that are chosen at the base. Those of them with the length of
-//! one that was found for this base are merged with what was kept so far, and from them the choice
-//! is made again, from the place on where it first changes. So no more candidates are held than a
-//! basis has, and no tree of the whole surface is grown. Whether a loop is independent of others is
-//! told by its signature, a sum over its edges of signatures that one base gives for all:
-//! signatures are reduced by rows, one for each loop that is kept, whose greatest numbers differ,
-//! and the first rows tell what is a sum of the first signatures. The walks of the loops that are
-//! kept in the end are read off searches near their bases. The first cycle needs the first of the
-//! loops that searches find, and then the loops at its base alone.
+//! one that was found for this base are offered to the choice among candidates, which `surf_choice`
+//! makes part by part: no more of them are held than a basis has, and no tree of the whole surface
+//! is grown. Whether a loop is independent of others is told there by its signature, a sum over its
+//! edges of signatures that one base gives for all. The walks of the loops that are kept in the end
+//! are read off searches near their bases. The first cycle needs the first of the loops that
+//! searches find, and then the loops at its base alone.
 //!
 //! A certificate of the basis has the trees at all vertices, which are grown again for it one after
 //! the other, and shows that the basis is least to a checker that searches nothing.
 #![tactic(auto)]
 
 mod basis;
-mod candidate;
 mod cert;
-mod choosing;
 mod cycle;
-mod echelon;
 mod finding;
 mod foremost;
 mod listing;
 mod marking;
-mod merging;
 mod nearby;
 mod passing;
 mod placing;

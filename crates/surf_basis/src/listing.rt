@@ -4,9 +4,9 @@ ghost use Rattle.surf_near.specs.Links.{IsLinkAt};
 ghost use Rattle.surf_basis.specs.Found.{IsReady, IsRise, wanted_loop};
 ghost use Rattle.surf_basis.specs.Found.{reached_at, plain_edges, IsTold, ListsAt, AreTold};
 
-use crate::candidate::{Candidate, Signed};
 use crate::reaching::{Reached, candidate_of, class_of, is_between, is_sought, may_matter};
 use surf_base::{NoMemory, VertexId};
+use surf_choice::{Candidate, Signed};
 use surf_near::Link;
 
 // The loop of a link's edge, if its ends were reached, it comes before a limit and it isn't null.

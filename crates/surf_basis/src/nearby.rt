@@ -6,12 +6,11 @@ ghost use Rattle.surf_basis.specs.Based.{based_at, AreOffered};
 ghost use Rattle.surf_basis.specs.Places.{has_length};
 ghost use Rattle.surf_basis.specs.Signing.{AreSigned};
 
-use crate::candidate::{Candidate, Signed, copy_of, copy_signature};
-use crate::choosing::Choice;
 use crate::finding::Finder;
 use crate::placing::has_length;
 use crate::searching::keep_loops;
 use surf_base::{EdgeId, NoMemory, VertexId};
+use surf_choice::{Candidate, Choice, Signed, copy_of, copy_signature};
 
 // The greatest of some lengths, and 0 where there is none.
 fn greatest_of(lengths: &[u64]) -> u64

@@ -3,7 +3,7 @@ ghost use Rattle.std.specs.Prelude.{◌≡◌, ◌≢◌, ◌+◌, ◌-◌, ◌*
 ghost use Rattle.std.specs.Option.{option_map};
 ghost use Rattle.surf_basis.specs.Passing.{spare_of, widened};
 
-use crate::candidate::Candidate;
+use surf_choice::Candidate;
 
 /// After how many searches the next one goes beyond what it must, and how many these were before
 /// the last one that did.

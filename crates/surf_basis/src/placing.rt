@@ -2,8 +2,8 @@
 ghost use Rattle.std.specs.Prelude.{◌≡◌, OnOk};
 ghost use Rattle.surf_basis.specs.Places.{lengths_at, has_length};
 
-use crate::candidate::Signed;
 use surf_base::{NoMemory, VertexId};
+use surf_choice::Signed;
 
 // Lists the lengths of those candidates that are at a base.
 pub(crate) fn list_lengths(

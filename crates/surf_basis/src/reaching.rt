@@ -1,16 +1,17 @@
 //! What a search from one vertex tells of the loop of an edge.
 ghost use Rattle.std.specs.Prelude.{◌≡◌, ◌<◌, ◌==◌, slice_index, false, true, IsTrue, min, length};
 ghost use Rattle.surf_near.specs.Links.{IsLinkAt};
+ghost use Rattle.surf_choice.specs.Places.{place_of, is_sought};
 ghost use Rattle.surf_basis.specs.Found.{IsReady, IsLinkOf, IsRise, IsUnwantedAt};
 ghost use Rattle.surf_basis.specs.Found.{reached_at, is_between, told_loop};
 ghost use Rattle.surf_basis.specs.Found.{may_matter, plain_edges};
-ghost use Rattle.surf_basis.specs.Places.{place_of, is_sought, radius_of};
+ghost use Rattle.surf_basis.specs.Places.{radius_of};
 
-use crate::candidate::{Candidate, copy_signature};
 use crate::surface::SignedSurface;
 use crate::ways::Ways;
 use surf_base::{EdgeId, VertexId};
 use surf_bits::Signature;
+use surf_choice::{Candidate, copy_signature};
 use surf_near::{Link, Links, NearDesk};
 
 /// What a search from a base has reached, on a surface whose vertices have links. Lengths are those

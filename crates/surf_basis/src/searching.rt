@@ -7,22 +7,21 @@ ghost use Rattle.surf_surfaces.specs.Walk.{ArePositive};
 ghost use Rattle.surf_surfaces.specs.FewBases.{AreBases};
 ghost use Rattle.surf_surfaces.specs.Surface.{edge_count, IsSurface};
 ghost use Rattle.surf_firsts.specs.Near.{AgreeOff};
+ghost use Rattle.surf_choice.specs.Places.{order_of};
 ghost use Rattle.surf_basis.specs.Signing.{AreSigned};
 ghost use Rattle.surf_basis.specs.Passing.{is_marked, AreKeptIn, StayKept, KeepsWith, IsAhead};
-ghost use Rattle.surf_basis.specs.Places.{order_of};
 ghost use Rattle.surf_basis.specs.Marks.{HasBases};
 ghost use Rattle.surf_basis.specs.Kept.{HavePlacesOfBasis};
 ghost use Rattle.surf_basis.specs.Found.{surface_of, IsNext, AreKeptFrom, IsFirstAmong, IsFirstPlace};
 ghost use Rattle.surf_base.specs.declared.limits.TheConstants.{MAX_LOOPS};
 
-use crate::candidate::{Candidate, Signed};
-use crate::choosing::Choice;
 use crate::finding::Finder;
 use crate::marking::{list_marked, signed_ends};
 use crate::passing::{Pace, spare};
 use crate::surface::SignedSurface;
 use std::alloc::Global;
 use surf_base::{NoMemory, VertexId};
+use surf_choice::{Candidate, Choice, Signed};
 use surf_mesh::HalfMesh;
 
 // What loops are sorted by: the length, the base and the number of the edge.

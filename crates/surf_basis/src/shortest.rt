@@ -11,7 +11,6 @@ ghost use Rattle.surf_basis.specs.Found.{IsFirstPlace};
 ghost use Rattle.surf_basis.specs.Cycles.{first_of, IsFirstCandidate, IsShortestCycle, AllSeparate};
 ghost use Rattle.surf_base.specs.declared.limits.TheConstants.{MAX_LOOPS};
 
-use crate::candidate::Candidate;
 use crate::cycle::Cycle;
 use crate::searching::first_place;
 use crate::signing::signed_cotree;
@@ -19,6 +18,7 @@ use crate::surface::SignedSurface;
 use crate::walking::cycle_of;
 use std::alloc::Global;
 use surf_base::{NoMemory, VertexId};
+use surf_choice::Candidate;
 use surf_lengths::Lengths;
 use surf_loops::LoopDesk;
 use surf_mesh::HalfMesh;

@@ -7,11 +7,11 @@ ghost use Rattle.surf_basis.specs.Based.{AddsWay, IsLoopWalk, IsMeasured};
 ghost use Rattle.surf_basis.specs.Candidates.{IsInside, IsCycleOf, AreCyclesOf};
 ghost use Rattle.surf_basis.specs.Ways.{IsReached};
 
-use crate::candidate::{Candidate, Signed};
 use crate::cycle::Cycle;
 use crate::finding::Finder;
 use std::alloc::Global;
 use surf_base::{EdgeId, NoMemory, VertexId};
+use surf_choice::{Candidate, Signed};
 use surf_lengths::Lengths;
 use surf_loops::LoopDesk;
 use surf_mesh::{HalfMesh, Walk};

@@ -4,12 +4,12 @@ ghost use Rattle.surf_surfaces.specs.Surface.{edge_count};
 ghost use Rattle.surf_basis.specs.Found.{plain_edges};
 ghost use Rattle.surf_basis.specs.Ways.{class_at, AreWays, HasNone, HasParent, IsNumbered, IsReached};
 
-use crate::candidate::copy_signature;
 use crate::surface::SignedSurface;
 use std::alloc::Global;
 use std::marker::Model;
 use surf_base::{EdgeId, NoMemory, VertexId};
 use surf_bits::Signature;
+use surf_choice::copy_signature;
 use surf_cotree::CotreeDesk;
 use surf_mesh::HalfMesh;
 use surf_near::{Links, NearDesk};

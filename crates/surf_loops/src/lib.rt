@@ -8,8 +8,8 @@
 //!
 //! A desk takes all its memory when it is made, so that the loops at many bases are found on it one
 //! after the other. `BaseLoops` finds those at one base with less memory: it keeps only the edges
-//! of the tree of faces. A desk's certificate, the rows of the two trees and the ends of the left edges,
-//! shows that the loops are least to a checker that searches nothing.
+//! of the tree of faces. A desk's certificate, the rows of the two trees and the ends of the left
+//! edges, shows that the loops are least to a checker that searches nothing.
 #![tactic(auto)]
 
 mod cert;

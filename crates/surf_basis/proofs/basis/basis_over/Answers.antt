@@ -4,8 +4,9 @@ use Rattle.surf_lengths.proofs.Positive.{lengths_positive}
 use Rattle.surf_surfaces.specs.Surface.{edge_count, IsSurface}
 use Rattle.surf_surfaces.specs.Walk.{ArePositive}
 use Rattle.surf_surfaces.specs.FewBases.{AreBases}
+use Rattle.surf_choice.specs.Candidates.{Chosen}
 use Rattle.surf_basis.specs.Based.{IsMeasured}
-use Rattle.surf_basis.specs.Candidates.{Chosen, AreCyclesOf}
+use Rattle.surf_basis.specs.Candidates.{AreCyclesOf}
 use Rattle.surf_basis.specs.Found.{SurfaceTables}
 use Rattle.surf_basis.specs.Signing.{AreSigned}
 use Rattle.surf_basis.specs.Kept.{HavePlacesOfBasis, AreKeptOver}

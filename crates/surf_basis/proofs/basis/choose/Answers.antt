@@ -3,9 +3,9 @@ use Rattle.std.proofs.lemmas.List.{get_or_read}
 use Rattle.surf_z2.specs.Order.{merge}
 use Rattle.surf_surfaces.specs.Surface.{edge_count, IsSurface}
 use Rattle.surf_surfaces.specs.Walk.{ArePositive}
-use Rattle.surf_basis.specs.declared.candidate.Signed.{Signed}
+use Rattle.surf_choice.specs.declared.candidate.Signed.{Signed}
+use Rattle.surf_choice.specs.Candidates.{Chosen, signed_earlier, independent_of}
 use Rattle.surf_basis.specs.Based.{AreOffered}
-use Rattle.surf_basis.specs.Candidates.{Chosen, signed_earlier, independent_of}
 use Rattle.surf_basis.specs.Found.{SurfaceTables}
 use Rattle.surf_basis.specs.Kept.{AreKeptOver}
 use Rattle.surf_basis.specs.Places.{lengths_at}

@@ -1,5 +1,5 @@
 use Rattle.std.proofs.Common.{◌≡◌, All, List}
-use Rattle.surf_basis.specs.declared.candidate.Signed.{Signed}
+use Rattle.surf_choice.specs.declared.candidate.Signed.{Signed}
 use Rattle.surf_basis.specs.Found.{reached_at, IsTold, first_from}
 use Rattle.surf_basis.proofs.Firsts.{IsFirstListedAt}
 use Rattle.surf_basis.proofs.foremost.first_at.Given as goal

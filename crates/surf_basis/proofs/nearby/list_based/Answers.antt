@@ -1,5 +1,5 @@
 use Rattle.std.proofs.Common.{ap}
-use Rattle.surf_basis.specs.declared.candidate.Signed.{Signed}
+use Rattle.surf_choice.specs.declared.candidate.Signed.{Signed}
 use Rattle.surf_basis.proofs.Based.{based_more}
 use Rattle.surf_basis.proofs.nearby.list_based.Goals as goal
 

@@ -1,6 +1,6 @@
 use Rattle.std.proofs.Common.{[], ◌∷◌, ◌++◌, cond, sym, ap, ◌∙◌}
 use Rattle.std.proofs.lemmas.List.{append-nil}
-use Rattle.surf_basis.specs.declared.candidate.Signed.{Signed}
+use Rattle.surf_choice.specs.declared.candidate.Signed.{Signed}
 use Rattle.surf_basis.proofs.Based.{with_more}
 use Rattle.surf_basis.proofs.nearby.list_with.Goals as goal
 use Rattle.surf_basis.proofs.nearby.list_with.Goals.{then-has_length+in_ok-push, else-has_length}

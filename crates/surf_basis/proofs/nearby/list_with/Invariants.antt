@@ -1,5 +1,5 @@
 use Rattle.std.proofs.Common.{◌≡◌, filter, take}
-use Rattle.surf_basis.specs.declared.candidate.Signed.{Signed}
+use Rattle.surf_choice.specs.declared.candidate.Signed.{Signed}
 use Rattle.surf_basis.specs.Places.{has_length}
 use Rattle.surf_basis.proofs.nearby.list_with.Given as goal
 

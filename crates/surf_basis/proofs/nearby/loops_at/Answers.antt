@@ -1,9 +1,9 @@
 use Rattle.std.proofs.Common.{◌≡◌, ◌<◌, ◌^◌, List, map, All, Some, sym, ap, ◌∙◌, subst}
 use Rattle.std.proofs.lemmas.Result.{on_ok_weaker}
-use Rattle.surf_basis.specs.declared.candidate.Candidate.{Candidate}
-use Rattle.surf_basis.specs.declared.candidate.Signed.{Signed}
+use Rattle.surf_choice.specs.declared.candidate.Candidate.{Candidate}
+use Rattle.surf_choice.specs.declared.candidate.Signed.{Signed}
+use Rattle.surf_choice.specs.Candidates.{Chosen}
 use Rattle.surf_basis.specs.Based.{based_at}
-use Rattle.surf_basis.specs.Candidates.{Chosen}
 use Rattle.surf_basis.specs.Found.{IsNext}
 use Rattle.surf_basis.specs.Signing.{AreSigned}
 use Rattle.surf_basis.proofs.Based.{based_small, offered_at}

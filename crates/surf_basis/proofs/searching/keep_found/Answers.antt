@@ -4,7 +4,7 @@ use Rattle.std.proofs.lemmas.Bool.{cases_lt}
 use Rattle.std.proofs.lemmas.List.{get_or_default, length-replicate}
 use Rattle.surf_graphs.specs.Trees.{Tree}
 use Rattle.surf_surfaces.proofs.FirstCycleLaws.{shortest_trees}
-use Rattle.surf_basis.specs.Places.{limit_of}
+use Rattle.surf_choice.specs.Places.{limit_of}
 use Rattle.surf_basis.specs.Found.{SurfaceTables, is_among}
 use Rattle.surf_basis.specs.Passing.{is_marked, AreKeptIn, IsAhead}
 use Rattle.surf_basis.proofs.Barred.{ahead_first}

@@ -1,6 +1,6 @@
 use Rattle.std.proofs.Common.{◌≡◌, ◌<◌, ℕ, true, false, length}
 use Rattle.std.specs.Prelude.{slice_index_or}
-use Rattle.surf_basis.specs.declared.candidate.Signed.{Signed}
+use Rattle.surf_choice.specs.declared.candidate.Signed.{Signed}
 use Rattle.surf_basis.proofs.searching.mark_bases.Given as goal
 
 abbrev pub invariant-loop-signed : goal.invariant-loop-signed

@@ -1,9 +1,10 @@
 use Rattle.std.proofs.Common.{◌<◌, ◌≤◌, ◌-◌, ◌/◌, ◌^◌, All, List, Option, sym, subst, arith}
-use Rattle.surf_basis.specs.declared.candidate.Candidate.{Candidate}
-use Rattle.surf_basis.specs.declared.candidate.Signed.{Signed}
+use Rattle.surf_choice.specs.declared.candidate.Candidate.{Candidate}
+use Rattle.surf_choice.specs.declared.candidate.Signed.{Signed}
+use Rattle.surf_choice.specs.Candidates.{IsLonger}
+use Rattle.surf_choice.specs.Places.{limit_of}
 use Rattle.surf_basis.specs.Found.{SurfaceTables}
-use Rattle.surf_basis.specs.Passing.{AreMarkedNear, IsLonger, spare_of}
-use Rattle.surf_basis.specs.Places.{limit_of}
+use Rattle.surf_basis.specs.Passing.{AreMarkedNear, spare_of}
 use Rattle.surf_basis.proofs.PassedOver.{scouted, base_marked}
 use Rattle.surf_basis.proofs.Searched.{found_small}
 use Rattle.surf_basis.proofs.searching.scout_at.Goals as goal

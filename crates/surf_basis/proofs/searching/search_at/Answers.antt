@@ -1,10 +1,10 @@
 use Rattle.std.proofs.Common.{◌<◌, ◌^◌, All, List, Option, sym, subst}
 use Rattle.std.proofs.lemmas.Result.{on_ok_weaker}
 use Rattle.surf_surfaces.proofs.FirstCycleLaws.{shortest_trees}
-use Rattle.surf_basis.specs.declared.candidate.Candidate.{Candidate}
-use Rattle.surf_basis.specs.declared.candidate.Signed.{Signed}
+use Rattle.surf_choice.specs.declared.candidate.Candidate.{Candidate}
+use Rattle.surf_choice.specs.declared.candidate.Signed.{Signed}
+use Rattle.surf_choice.specs.Places.{limit_of}
 use Rattle.surf_basis.specs.Found.{AreFound, IsNext}
-use Rattle.surf_basis.specs.Places.{limit_of}
 use Rattle.surf_basis.proofs.Searched.{found_small, kept_next}
 use Rattle.surf_basis.proofs.searching.search_at.Goals as goal
 

@@ -1,7 +1,7 @@
 use Rattle.std.proofs.Common.{◌≡◌, List, ℕ, sym, ap, subst, arith}
 use Rattle.surf_surfaces.specs.Homology.{IsFullCount}
 use Rattle.surf_lengths.proofs.Positive.{lengths_positive}
-use Rattle.surf_basis.specs.Candidates.{Chosen}
+use Rattle.surf_choice.specs.Candidates.{Chosen}
 use Rattle.surf_basis.specs.Marks.{HasSignedEnds}
 use Rattle.surf_basis.specs.Found.{SurfaceTables, AreKeptFrom}
 use Rattle.surf_basis.proofs.Looped.{signs_long}

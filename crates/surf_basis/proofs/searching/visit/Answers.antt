@@ -3,8 +3,8 @@ use Rattle.std.specs.Prelude.{IsTrue}
 use Rattle.surf_graphs.specs.Trees.{Tree}
 use Rattle.surf_surfaces.proofs.FirstCycleLaws.{shortest_trees}
 use Rattle.surf_surfaces.specs.FewBases.{with_vertex}
+use Rattle.surf_choice.specs.Places.{limit_of}
 use Rattle.surf_basis.specs.Passing.{is_marked}
-use Rattle.surf_basis.specs.Places.{limit_of}
 use Rattle.surf_basis.proofs.Barred.{ahead_kept}
 use Rattle.surf_basis.proofs.PassedOver.{marked_vertex}
 use Rattle.surf_basis.proofs.Searched.{kept_fewer}

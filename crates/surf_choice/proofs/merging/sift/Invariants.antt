@@ -1,0 +1,11 @@
+use Rattle.std.proofs.Common.{◌≡◌, ◌≤◌, vec_capacity}
+use Rattle.surf_choice.specs.Candidates.{kept_after}
+use Rattle.surf_choice.proofs.Sifted.{IsSifting}
+use Rattle.surf_choice.proofs.merging.sift.Given as goal
+
+abbrev pub invariant-loop-signed : goal.invariant-loop-signed
+invariant-loop-signed l = record {
+  sifting : IsSifting (kept_after l.fn.kept.items l.candidates) l.candidates l.kept.items l.rows.rows l.signed-index;
+  width : l.rows.width ≡ l.fn.rows.width;
+  room : vec_capacity l.fn.kept ≤ vec_capacity l.kept;
+}

@@ -1,0 +1,159 @@
+//! The choice among candidates, part by part.
+ghost use Rattle.std.specs.Prelude.{ℕ, ◌≡◌, ◌≢◌, ◌<◌, ◌≤◌, ◌^◌, [], IfOk, OnOk, All, length};
+ghost use Rattle.surf_z2.specs.Order.{merge, IsInOrder};
+ghost use Rattle.surf_choice.specs.Candidates.{signed_earlier, independent_of};
+ghost use Rattle.surf_choice.specs.Places.{stands_before};
+ghost use Rattle.surf_choice.specs.Candidates.{IsLonger};
+ghost use Rattle.surf_choice.specs.Places.{limit_of};
+ghost use Rattle.surf_base.specs.declared.limits.TheConstants.{MAX_LOOPS};
+
+use crate::candidate::{Candidate, Signed};
+use crate::echelon::Echelon;
+use crate::merging::{first_change, merge, sift};
+use std::alloc::Global;
+use std::marker::Model;
+use surf_base::NoMemory;
+
+/// The candidates that are kept, in order. Its width is how many may be independent, and there is
+/// room for as many.
+#[derive(Drop)]
+pub struct Choice {
+    kept: Vec<Signed>,
+    merged: Vec<Signed>,
+    rows: Echelon,
+    width: usize,
+}
+
+impl Model for Choice {
+    ghost use Rattle.surf_base.specs.declared.limits.TheConstants.{MAX_LOOPS};
+    ghost use Rattle.std.specs.Prelude.{◌≡◌, ◌≤◌, ◌<◌, ◌^◌, All, length, vec_capacity};
+    ghost use Rattle.surf_choice.specs.Candidates.{Chosen, signatures};
+    ghost use Rattle.surf_choice.specs.Echelons.{AreRowsOf};
+
+    ghost Value = { Chosen };
+
+    ghost view = { λ c. record { width = c.width; kept = c.kept.items } };
+
+    ghost invariant = { λ c. (c.rows.width ≡ c.width) × (length c.kept.items ≤ c.width)
+        × (c.width ≤ vec_capacity c.kept) × (c.width ≤ MAX_LOOPS)
+        × All (λ s. s.signature < 2 ^ c.width) c.kept.items
+        × AreRowsOf c.rows.rows (signatures c.kept.items) };
+}
+
+impl Choice {
+    /// Nothing kept.
+    pub fn make(alloc: Global, width: u32) -> Result<Choice, NoMemory>
+        requires { width ≤ MAX_LOOPS }
+        ensures { IfOk result (λ choice. choice ≡ record { width = width; kept = [] }) }
+    {
+        Ok(Choice {
+            kept: Vec::with_capacity(alloc, width as usize)?,
+            merged: Vec::new(alloc),
+            rows: Echelon::make(alloc, width)?,
+            width: width as usize,
+        })
+    }
+
+    /// The candidates that are kept.
+    pub fn kept(&self) -> &[Signed]
+        ensures kept { result.now ≡ self.now.kept }
+    {
+        &self.kept
+    }
+
+    /// What is true of those kept: there are no more of them than may be independent. A caller
+    /// whose proof rests on that calls it; it does nothing.
+    pub fn law_of_choice(&self)
+        ensures few { length self.now.kept ≤ self.now.width }
+    {
+        // (what a type keeps is known where one of its fields is used)
+        let _ = &self.kept;
+    }
+
+    /// Keeps nothing.
+    pub fn clear(&mut self)
+        ensures none { self.new ≡ record self.old { kept = [] } }
+    {
+        self.kept.clear();
+        self.rows.truncate(0);
+    }
+
+    /// The last candidate that is kept, where as many are kept as may be independent: no later one
+    /// can be kept.
+    pub fn limit(&self) -> Option<Candidate>
+        ensures limit { result ≡ limit_of self.now }
+    {
+        let [.., last] = self.kept.as_slice() else {
+            return None;
+        };
+        if self.kept.len() < self.width {
+            return None;
+        }
+        Some(last.candidate)
+    }
+
+    // How much longer a loop is than the longest of the first that are kept and of which it is a
+    // sum: by any number where it is null, and by 0 where it isn't longer.
+    fn excess(&self, signed: &Signed) -> u64
+        requires small { signed.now.signature < 2 ^ self.now.width }
+        ensures longer { result ≢ 0 → IsLonger self.now.kept result signed.now }
+        ensures greatest { IsInOrder stands_before self.now.kept → (n : ℕ) → n < 2 ^ 64 →
+            IsLonger self.now.kept n signed.now → n ≤ result }
+    {
+        let Some(count) = self.rows.reach(&signed.signature.bits()) else {
+            return 0;
+        };
+        if count == 0 {
+            return u64::MAX;
+        }
+        let last = &self.kept[count - 1];
+        signed
+            .candidate
+            .length
+            .saturating_sub(last.candidate.length)
+    }
+
+    /// By how much all of some loops are longer than those that are kept and of which they are
+    /// sums, and no more than a bound: the greatest such number. 0 where one of them isn't longer.
+    pub fn margin(&self, found: &[Signed], most: u64) -> u64
+        requires small { All (λ s. s.signature < 2 ^ self.now.width) found.now }
+        ensures most { result ≤ most }
+        ensures longer { result ≢ 0 → All (IsLonger self.now.kept result) found.now }
+        ensures greatest { IsInOrder stands_before self.now.kept → (n : ℕ) → n ≤ most →
+            All (IsLonger self.now.kept n) found.now → n ≤ result }
+    {
+        let mut margin = most;
+        for signed in found {
+            if margin == 0 {
+                return 0;
+            }
+            margin = margin.min(self.excess(signed));
+        }
+        margin
+    }
+
+    /// Makes the choice again from what is kept and other candidates in order. Those kept stay as
+    /// far as it is the same.
+    pub fn keep(&mut self, offered: &[Signed]) -> Result<(), NoMemory>
+        requires small { All (λ s. s.signature < 2 ^ self.old.width) offered.now }
+        ensures kept { OnOk result (self.new ≡ record self.old {
+          kept = independent_of
+              (merge signed_earlier self.old.kept offered.now);
+        }) }
+        ensures width { self.new.width ≡ self.old.width }
+    {
+        let Some(change) = first_change(&self.kept, &self.rows, offered) else {
+            return Ok(());
+        };
+        let later = &self.kept[change.place..];
+        let fresh = &offered[change.fresh..];
+        self.merged.clear();
+        self.merged.reserve(later.len() + fresh.len())?;
+        merge(later, fresh, &mut self.merged);
+        self.kept.truncate(change.place);
+        self.rows.truncate(change.place);
+        sift(&self.merged, &mut self.rows, &mut self.kept);
+        self.rows.law_of_echelon();
+        Ok(())
+    }
+}

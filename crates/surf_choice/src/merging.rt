@@ -1,0 +1,90 @@
+//! Lists of candidates in order: two merged to one, and what of one is independent of others.
+ghost use Rattle.std.specs.Prelude.{◌≡◌, ◌<◌, ◌≤◌, ◌+◌, ◌^◌, All, MatchOption, length, vec_capacity};
+ghost use Rattle.surf_z2.specs.Order.{merge};
+ghost use Rattle.surf_choice.specs.Candidates.{signed_earlier, has_next, independent_of, signatures};
+ghost use Rattle.surf_choice.specs.Candidates.{kept_after, IsChange};
+ghost use Rattle.surf_choice.specs.Echelons.{AreRowsOf};
+
+use crate::candidate::{Signed, comes_before, copy_of};
+use crate::echelon::Echelon;
+
+// Whether the first of two lists in order has the next candidate.
+fn goes_first(first: &[Signed], second: &[Signed]) -> bool
+    ensures next { result ≡ has_next first.now second.now }
+{
+    if first.is_empty() {
+        return false;
+    }
+    second.is_empty() || comes_before(&first[0].candidate, &second[0].candidate)
+}
+
+// Lists two lists in order as one, in room that there is.
+pub(crate) fn merge(first: &[Signed], second: &[Signed], merged: &mut Vec<Signed>)
+    requires room { length first.now + length second.now ≤ vec_capacity merged.old }
+    ensures merged { merged.new.items ≡ merge signed_earlier first.now second.now }
+    ensures room { vec_capacity merged.old ≤ vec_capacity merged.new }
+{
+    merged.clear();
+    let mut left = first;
+    let mut right = second;
+    while !left.is_empty() || !right.is_empty() {
+        if goes_first(left, right) {
+            merged.push_reserved(copy_of(&left[0]));
+            left = &left[1..];
+        } else {
+            merged.push_reserved(copy_of(&right[0]));
+            right = &right[1..];
+        }
+    }
+}
+
+/// Where the choice changes: a place among those kept, and that of the offered candidate that comes
+/// in there.
+#[derive(Clone, Copy)]
+pub(crate) struct Change {
+    pub place: usize,
+    pub fresh: usize,
+}
+
+// Where the choice from those kept and others in order differs from those kept, if it does. The
+// rows are those of the signatures that are kept.
+pub(crate) fn first_change(kept: &[Signed], rows: &Echelon, offered: &[Signed]) -> Option<Change>
+    requires rows { AreRowsOf rows.now.rows (signatures kept.now) }
+    requires small { All (λ s. s.signature < 2 ^ rows.now.width) offered.now }
+    ensures change { MatchOption result
+        (independent_of (merge signed_earlier kept.now offered.now) ≡ kept.now)
+        (λ c. IsChange kept.now offered.now c.place c.fresh) }
+{
+    rows.law_of_echelon();
+    let mut place = 0;
+    let mut fresh = 0;
+    while fresh < offered.len() {
+        if goes_first(&kept[place..], &offered[fresh..]) {
+            place += 1;
+        } else if rows.spans(place, &offered[fresh].signature.bits()) {
+            fresh += 1;
+        } else {
+            return Some(Change { place, fresh });
+        }
+    }
+    None
+}
+
+// Lists candidates after those that are kept, each that is independent of those before it, in room
+// that there is. The rows are those of the signatures that are kept.
+pub(crate) fn sift(candidates: &[Signed], rows: &mut Echelon, kept: &mut Vec<Signed>)
+    requires small { All (λ c. c.signature < 2 ^ rows.old.width) candidates.now }
+    requires rows { AreRowsOf rows.old.rows (signatures kept.old.items) }
+    requires room { rows.old.width ≤ vec_capacity kept.old }
+    ensures kept { kept.new.items ≡ kept_after kept.old.items candidates.now }
+    ensures rows { AreRowsOf rows.new.rows (signatures kept.new.items) }
+    ensures width { rows.new.width ≡ rows.old.width }
+    ensures room { vec_capacity kept.old ≤ vec_capacity kept.new }
+{
+    for signed in candidates {
+        if rows.admit(&signed.signature.bits()) {
+            rows.law_of_echelon();
+            kept.push_reserved(copy_of(signed));
+        }
+    }
+}
