@@ -21,7 +21,7 @@
 //! the edges there are as long as an edge may be. So it finds few loops and long ones, and more is
 //! passed over. It needs no others, since a loop that goes through such a vertex is a sum of loops
 //! there, for which what is kept is enough already. What is kept comes from searches by the given
-//! lengths alone.
+//! lengths alone. Where scouts tell nothing they go ever more seldom.
 //!
 //! Then the bases so found are gone through one by one. A search near each, no farther than half
 //! the greatest length that was found for it, finds the loops of edges there: the first independent

@@ -36,14 +36,14 @@ impl Pace {
         }
     }
 
-    /// Goes on after a search. One that went beyond for nothing is followed by more that don't, up
-    /// to fifteen.
+    /// Goes on after a search. One that went beyond for nothing is followed by some that don't: by
+    /// one, and each time by one more than twice as many as before, up to 1,023.
     pub fn step(&mut self, told: bool)
         ensures waits { self.old.left ≢ 0 →
             self.new ≡ record self.old { left = self.old.left - 1 } }
         ensures told { self.old.left ≡ 0 → told ≡ true → self.new.wait ≡ 0 }
         ensures longer { self.old.left ≡ 0 → told ≡ false →
-            self.new.wait ≡ min (2 * self.old.wait + 1) 15 }
+            self.new.wait ≡ min (2 * self.old.wait + 1) 1023 }
         ensures begun { self.old.left ≡ 0 → self.new.left ≡ self.new.wait }
     {
         if self.left > 0 {
@@ -53,7 +53,7 @@ impl Pace {
         self.wait = if told {
             0
         } else {
-            self.wait.saturating_mul(2).saturating_add(1).min(15)
+            self.wait.saturating_mul(2).saturating_add(1).min(1023)
         };
         self.left = self.wait;
     }
