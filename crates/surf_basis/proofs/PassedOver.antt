@@ -1,12 +1,12 @@
 -- Vertices near one that was searched, which are passed over where the loops found there are all longer than those kept,
 -- though the search went by lengths that bar the ways through vertices for which what is kept is enough.
-use Rattle.std.proofs.Common.{◌≡◌, ℕ, suc, ◌<◌, ◌≤◌, ◌+◌, ◌*◌, ◌-◌, ◌⊎◌, Bool, true, false, eqb, leb, le-leb, List, [], ◌∷◌, ◌++◌, length, get_or, map, filter, take, All, Contains, Option, Some, None, sym, ap, ◌∙◌, subst, arith, inl, inr, set, get_or-set_other}
+use Rattle.std.proofs.Common.{◌≡◌, ℕ, suc, ◌<◌, ◌≤◌, ◌+◌, ◌*◌, ◌⊎◌, Bool, true, false, eqb, leb, le-leb, List, [], ◌∷◌, length, get_or, map, filter, take, All, Contains, Option, Some, None, sym, ap, ◌∙◌, subst, arith, inl, inr, set, get_or-set_other}
 use Rattle.std.specs.Prelude.{IsTrue, ◌||◌, ◌==◌, replicate, slice_index}
 use Rattle.std.specs.List.{AllByRecursion}
 use Rattle.std.proofs.lemmas.Bool.{cases_eq, cases_lt, false≢true, or_cases, or_left, or_right, eq-eqb, eqb-true}
 use Rattle.std.proofs.lemmas.Bool.Decides.{nat_tests}
-use Rattle.std.proofs.lemmas.List.{get_or-take, get_or_default, get_or_past, get_or-replicate, length-replicate, length-take-le, take_more}
-use Rattle.std.proofs.lemmas.List.Elements.{recursion_from_All, All-from_recursion, All-contains, Contains-get_or, All-append}
+use Rattle.std.proofs.lemmas.List.{get_or-take, get_or_default, get_or_past, get_or-replicate, length-replicate, length-take-le}
+use Rattle.std.proofs.lemmas.List.Elements.{recursion_from_All, All-contains, Contains-get_or}
 use Rattle.std.proofs.lemmas.Simd.{map-map}
 use Rattle.surf_z2.specs.Order.{IsInOrder}
 use Rattle.surf_z2.specs.Space.{numbers, Spanned}

@@ -1,10 +1,7 @@
 -- Candidates for a basis as loops by trees of shortest walks, and their cycles.
-use Rattle.std.specs.Prelude.{ℕ, ◌≡◌, ◌<◌, Bool, true, false, IsTrue, ◌&&◌, ◌||◌, ◌==◌, nat_lt, List, [], ◌∷◌, map}
-use Rattle.std.specs.Prelude.{Option, ◌≤◌, ◌++◌, length, take, drop, slice_index_or}
+use Rattle.std.specs.Prelude.{ℕ, ◌≡◌, ◌<◌, IsTrue, List, [], ◌∷◌, map}
+use Rattle.std.specs.Prelude.{Option}
 use Rattle.std.specs.Option.{option_map}
-use Rattle.surf_z2.specs.Greedy.{greedy, greedy_after}
-use Rattle.surf_z2.specs.Order.{merge}
-use Rattle.surf_z2.specs.Space.{numbers, is_nothing, Spanned}
 use Rattle.surf_graphs.specs.Cells.{Split}
 use Rattle.surf_surfaces.specs.Mesh.{Mesh}
 use Rattle.surf_surfaces.specs.Surface.{edge_count}

@@ -1,7 +1,6 @@
 -- Vertices that are passed over, since loops there are nothing new.
-use Rattle.std.specs.Prelude.{ℕ, suc, ◌≡◌, ◌<◌, ◌≤◌, ◌+◌, ◌-◌, ◌/◌, ◌⊎◌, min, Bool, false, IsTrue, List, length}
-use Rattle.std.specs.Prelude.{take, slice_index_or, Option, Some, None}
-use Rattle.surf_z2.specs.Space.{numbers, Spanned}
+use Rattle.std.specs.Prelude.{ℕ, ◌≡◌, ◌<◌, ◌≤◌, ◌+◌, ◌-◌, ◌/◌, ◌⊎◌, min, Bool, false, IsTrue, List}
+use Rattle.std.specs.Prelude.{slice_index_or, Option, Some, None}
 use Rattle.surf_graphs.specs.Cells.{Split, IsSplit}
 use Rattle.surf_graphs.specs.Trees.{Tree}
 use Rattle.surf_surfaces.specs.Mesh.{Mesh}
@@ -14,8 +13,7 @@ use Rattle.surf_cotree.specs.Tables.{CotreeTables}
 use Rattle.surf_firsts.specs.Near.{AgreeOff}
 use Rattle.surf_near.specs.Links.{IsShutAt}
 use Rattle.surf_choice.specs.declared.candidate.Candidate.{Candidate}
-use Rattle.surf_choice.specs.declared.candidate.Signed.{Signed}
-use Rattle.surf_choice.specs.Candidates.{Chosen, signatures}
+use Rattle.surf_choice.specs.Candidates.{Chosen}
 use Rattle.surf_choice.specs.Places.{limit_of}
 use Rattle.surf_basis.specs.Found.{SurfaceTables, AreKeptOf}
 use Rattle.surf_basis.specs.Signing.{AreSignatures}

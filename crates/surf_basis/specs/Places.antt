@@ -1,11 +1,10 @@
 -- How far loops are sought, and the lengths and bases of those that were found.
-use Rattle.std.specs.Prelude.{ℕ, ◌+◌, ◌*◌, ◌^◌, ◌/◌, ◌==◌, nat_le, Bool, true, List, [], ◌∷◌, length, map, filter}
-use Rattle.std.specs.Prelude.{Option, Some, None, if◌then◌else◌}
+use Rattle.std.specs.Prelude.{ℕ, ◌/◌, ◌==◌, Bool, List, length, map, filter}
+use Rattle.std.specs.Prelude.{Option, Some, None}
 use Rattle.std.specs.List.{list_any}
-use Rattle.surf_surfaces.specs.FewBases.{Place, comes_sooner}
+use Rattle.surf_surfaces.specs.FewBases.{Place}
 use Rattle.surf_choice.specs.declared.candidate.Candidate.{Candidate}
 use Rattle.surf_choice.specs.declared.candidate.Signed.{Signed}
-use Rattle.surf_choice.specs.Candidates.{Chosen}
 
 -- how far a search has to go that finds the loops before a limit
 abbrev pub radius_of : Option Candidate → ℕ
