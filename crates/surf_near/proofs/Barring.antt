@@ -9,10 +9,10 @@ use Rattle.surf_surfaces.specs.Mesh.{Mesh}
 use Rattle.surf_surfaces.specs.Surface.{edge_count, ends}
 use Rattle.surf_surfaces.specs.Walk.{edge_length}
 use Rattle.surf_lengths.specs.Lengths.{longest, IsLength, AreLengths}
-use Rattle.surf_tree.specs.Queues.{AreEven, IsEvenness}
+use Rattle.surf_tree.specs.Queues.{AreEven, AreUpTo, IsEvenness}
 use Rattle.surf_tree.proofs.LengthLaws.{short_lengths}
 use Rattle.surf_near.specs.declared.links.Link.{Link}
-use Rattle.surf_near.specs.Links.{AreLinks, AreLinksAt, AreGiven, AreGivenAt, AreUpTo, AreUpToOrPast, link_in, length_past}
+use Rattle.surf_near.specs.Links.{AreLinks, AreLinksAt, AreGiven, AreGivenAt, AreUpToOrPast, link_in, length_past}
 use Rattle.surf_near.specs.Links.{is_barred, barred_lengths, KeepsOff, IsShutAt}
 use Rattle.surf_near.proofs.Linking.{link_edge_in, link_ends, item_in, item_with}
 

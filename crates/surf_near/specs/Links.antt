@@ -12,7 +12,7 @@ use Rattle.surf_surfaces.specs.Cells.{cells_of}
 use Rattle.surf_surfaces.specs.SideNumber.{side_count}
 use Rattle.surf_lengths.specs.Lengths.{AreLengths, longest}
 use Rattle.surf_mesh.specs.Links.{IsRow}
-use Rattle.surf_tree.specs.Queues.{AreEven}
+use Rattle.surf_tree.specs.Queues.{AreEven, AreUpTo}
 use Rattle.surf_near.specs.declared.links.Link.{Link}
 
 -- a mesh with its lengths, and the links of each vertex
@@ -85,10 +85,6 @@ pub record KeepsOff (mesh : Mesh) (v : ℕ) (old new : List ℕ) : Type 0 where
 abbrev pub IsShutAt : Mesh → ℕ → List ℕ → Type 0
 IsShutAt mesh v lengths =
     (e : ℕ) → e < edge_count mesh → touches v (ends mesh e) ≡ true → slice_index lengths e ≡ longest
-
--- no edge is longer
-abbrev pub AreUpTo : List ℕ → ℕ → Type 0
-AreUpTo lengths most = (e : ℕ) → e < length lengths → slice_index lengths e ≤ most
 
 -- an edge that is longer leads past a radius
 abbrev pub AreUpToOrPast : List ℕ → ℕ → ℕ → Type 0

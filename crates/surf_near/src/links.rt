@@ -4,7 +4,7 @@ ghost use Rattle.surf_surfaces.specs.Mesh.{IsMesh};
 ghost use Rattle.surf_surfaces.specs.Surface.{edge_count};
 ghost use Rattle.surf_surfaces.specs.Walk.{edge_length};
 ghost use Rattle.surf_tree.specs.Queues.{AreEven};
-ghost use Rattle.surf_near.specs.Links.{AreLinks, AreLinksAt, AreGivenAt, AreUpTo, AreUpToOrPast};
+ghost use Rattle.surf_near.specs.Links.{AreLinks, AreLinksAt, AreGivenAt, AreUpToOrPast};
 ghost use Rattle.surf_near.specs.Links.{IsLinkAt, links_of, link_in, degree, length_past};
 ghost use Rattle.surf_near.specs.Links.{KeepsOff, IsShutAt};
 
@@ -14,7 +14,7 @@ use surf_base::{EdgeId, NoMemory, VertexId};
 use surf_lengths::Lengths;
 use surf_mesh::HalfMesh;
 use surf_rows::Rows;
-use surf_tree::even_length;
+use surf_tree::{even_length, greatest_length};
 
 /// A neighbour of a vertex, and the given length and the number of the edge to it.
 #[derive(Clone, Copy)]
@@ -58,17 +58,6 @@ impl<'m> Model for Links<'m> {
 
     ghost invariant = { λ l.
         AreKept l.mesh.now l.lengths.now l.rows l.barred.items l.even l.barring l.greatest };
-}
-
-// The greatest of all lengths, and 0 where there is none.
-fn greatest_length(lengths: &Lengths) -> u32
-    ensures { AreUpTo lengths.now result }
-{
-    let mut greatest = 0;
-    for e in 0..lengths.count() {
-        greatest = greatest.max(lengths.of(EdgeId::new(e)));
-    }
-    greatest
 }
 
 // Lists the links of one vertex.

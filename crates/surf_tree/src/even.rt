@@ -30,6 +30,7 @@ pub fn even_length(lengths: &Lengths) -> Option<u32>
 /// The greatest of all lengths, and 0 where there is none.
 pub fn greatest_length(lengths: &Lengths) -> u32
     ensures greatest { AreUpTo lengths.now result }
+    ensures least { (n : ℕ) → AreUpTo lengths.now n → result ≤ n }
 {
     let mut greatest = 0;
     for e in 0..lengths.count() {

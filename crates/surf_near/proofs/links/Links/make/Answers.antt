@@ -58,7 +58,7 @@ invariant_of-result c =
       };
       flags = ap length is ∙ length-replicate c.vertices-2.result false ∙ c.vertices-2.ensures.count;
       even_is = rw given (even_kept c.args.lengths.now c.even_length-even.result c.even_length-even.ensures.even);
-      greatest_is = c.greatest_length-greatest.ensures;
+      greatest_is = c.greatest_length-greatest.ensures.greatest;
       none = λ no. given;
     }
 
