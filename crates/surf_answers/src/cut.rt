@@ -1,5 +1,5 @@
 //! A surface cut open.
-ghost use Rattle.std.specs.Prelude.{◌≡◌, ◌<◌, All, Bool, length, IfOk};
+ghost use Rattle.std.specs.Prelude.{◌≡◌, ◌<◌, ◌≤◌, All, Bool, length, IfOk};
 ghost use Rattle.surf_surfaces.specs.Surface.{edge_count, face_count};
 ghost use Rattle.surf_cutter.specs.Opened.{OpenMesh, IsHeld, IsChosenFor};
 ghost use Rattle.surf_off.specs.Written.{RereadsOpened};
@@ -9,13 +9,13 @@ ghost use Rattle.surf_text.specs.Pages.{Puts};
 
 use crate::answered::Answered;
 use std::alloc::Global;
-use surf_base::{MAX_ANSWER, NoMemory, VertexId};
-use surf_cutter::{Opened, cut_outside};
+use surf_base::{FaceId, MAX_ANSWER, NoMemory, VertexId};
+use surf_cutter::{OpenDisc, Opened, cut_outside, disc_outside};
 use surf_lengths::Lengths;
 use surf_loops::BaseLoops;
 use surf_mesh::HalfMesh;
 use surf_off::{OffText, write_off};
-use surf_text::{Page, PageFault};
+use surf_text::{Page, PageFault, Slip};
 use surf_texts::Refused;
 use surf_words::CutKind;
 
@@ -36,6 +36,28 @@ pub fn opened_at(
 {
     let held = held_at(alloc, mesh, &lengths, base)?;
     let opened = cut_outside(alloc, mesh, held, trims(kind))?;
+    // (in their place a table of the opening would part what is free for the text)
+    drop(lengths);
+    Ok(opened)
+}
+
+/// The same surface without the border of the disc, for its text.
+pub fn disc_at(
+    alloc: Global,
+    mesh: &HalfMesh,
+    lengths: Lengths,
+    base: VertexId,
+    kind: CutKind,
+) -> Result<OpenDisc, Refused>
+    requires lengths { length lengths ≡ edge_count mesh.now }
+    requires base { base < mesh.now.vertices }
+    ensures tells { Takes (λ opened. opened) (CutsAt (is_trimmed kind) mesh.now lengths base)
+        result }
+    ensures lines { IfOk result (λ opened. All (λ v. v < mesh.now.vertices) opened.origins) }
+    ensures faces { IfOk result (λ opened. length opened.faces ≡ face_count mesh.now) }
+{
+    let held = held_at(alloc, mesh, &lengths, base)?;
+    let opened = disc_outside(alloc, mesh, held, trims(kind))?;
     // (in their place a table of the opening would part what is free for the text)
     drop(lengths);
     Ok(opened)
@@ -80,13 +102,73 @@ pub fn opened_text(alloc: Global, text: &OffText<'_>, opened: &Opened) -> Result
     requires colours { length opened.now.faces ≡ length text.now.colours }
     ensures { Concludes (GivesOpened text.now opened.now) result }
 {
+    disc_text(alloc, text, opened.disc())
+}
+
+// How many digits a number has.
+fn digits_of(number: usize) -> usize
+    ensures few { result ≤ 64 }
+{
+    let mut slip = Slip::new();
+    let before = slip.room();
+    slip.put_whole(number as u64);
+    before - slip.room()
+}
+
+// How many bytes the vertex lines of copies take.
+fn lines_room(text: &OffText<'_>, origins: &[VertexId]) -> usize
+    requires lines { All (λ v. v < length text.now.vertex_lines) origins.now }
+{
+    let mut room = origins.len();
+    for v in origins {
+        room = room.saturating_add(text.vertex_line(*v).len());
+    }
+    room
+}
+
+// How many bytes the colours of faces take, with what stands around them.
+fn colours_room(text: &OffText<'_>, faces: u32) -> usize
+    requires colours { faces ≤ length text.now.colours }
+{
+    let mut room = 0usize;
+    for f in 0..faces {
+        room = room.saturating_add(text.colour(FaceId::new(f)).len() + 3);
+    }
+    room
+}
+
+// How many bytes the text of an opened surface takes, or some hundredths more.
+fn text_room(text: &OffText<'_>, opened: &OpenDisc) -> usize
+    requires lines { All (λ v. v < length text.now.vertex_lines) opened.now.origins }
+    requires colours { length opened.now.faces ≡ length text.now.colours }
+{
+    let copies = opened.origins().len();
+    let number = digits_of(copies) + 1;
+    let lines = lines_room(text, opened.origins());
+    let corners = opened.corners().len().saturating_mul(number);
+    let colours = colours_room(text, opened.face_count());
+    let comments = copies.saturating_mul(2 * number + 12);
+    lines
+        .saturating_add(corners)
+        .saturating_add(colours)
+        .saturating_add(comments)
+}
+
+/// The text of an opened surface whose border isn't asked for, with the lines and colours of the
+/// text that it was read from.
+pub fn disc_text(alloc: Global, text: &OffText<'_>, opened: &OpenDisc) -> Result<Answered, Refused>
+    requires lines { All (λ v. v < length text.now.vertex_lines) opened.now.origins }
+    requires colours { length opened.now.faces ≡ length text.now.colours }
+    ensures { Concludes (GivesOpened text.now opened.now) result }
+{
     let mut page = Page::make(alloc, MAX_ANSWER);
+    page.take_room(text_room(text, opened));
     put_opened(&mut page, text, opened)?;
     Ok(Answered::yes(page.into_bytes()))
 }
 
 // Puts an opened surface on a page.
-fn put_opened(page: &mut Page, text: &OffText<'_>, opened: &Opened) -> Result<(), PageFault>
+fn put_opened(page: &mut Page, text: &OffText<'_>, opened: &OpenDisc) -> Result<(), PageFault>
     requires lines { All (λ v. v < length text.now.vertex_lines) opened.now.origins }
     requires colours { length opened.now.faces ≡ length text.now.colours }
     ensures puts { Puts page.old page.new (cut_text text.now opened.now.origins opened.now.faces)

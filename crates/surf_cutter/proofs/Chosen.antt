@@ -18,7 +18,7 @@ use Rattle.surf_slit.specs.Labels.{IsUncut}
 use Rattle.surf_cotree.specs.Grown.{IsMarked, IsGrown}
 use Rattle.surf_cotree.specs.Tables.{CotreeTables, cotree_of}
 use Rattle.surf_cutter.specs.Boundary.{OpensToDisc}
-use Rattle.surf_cutter.specs.Opened.{MarksCotree, IsHeld, IsChosenFor, AreTurnedOver}
+use Rattle.surf_cutter.specs.Opened.{MarksCotree, IsHeld, IsChosenFor, IsChosenCut, AreTurnedOver}
 use Rattle.surf_cutter.specs.Trimming.{is_cut, IsTrimmedFrom, HasEndedBy}
 use Rattle.surf_cutter.proofs.Trims.{told_same}
 
@@ -61,6 +61,22 @@ chosen_opens {mesh} surface held is trim origins faces chosen = chosen_are_openi
 pub full_counted : {mesh : Mesh} → IsSurface mesh → (held : List Bool) → IsHeld mesh held → (origins : List ℕ) (faces : List (List ℕ)) → IsChosenFor mesh held false (record { origins = origins; faces = faces }) →
     length origins + (face_count mesh + face_count mesh) ≡ edge_count mesh + edge_count mesh + 2
 full_counted {mesh} surface held is origins faces chosen = full_openings_are_counted mesh is.0 is.1 origins faces surface is.2 (chosen is.0 is.1 is.2 is.3)
+
+-- the flags of the full cut, and what trimming leaves of them
+module _ {mesh : Mesh} (surface : IsSurface mesh) (held cut : List Bool) (flags : length held ≡ edge_count mesh) (over : AreTurnedOver held cut) (is : IsHeld mesh held) where
+  pub full_is_chosen : IsChosenCut mesh held false cut
+  full_is_chosen = record {
+    flags = over.0 ∙ flags;
+    opens = full_opens cut (is_full surface held cut flags over is);
+    chosen = λ opened in_order. full_chosen surface held cut flags over in_order.0 in_order.1;
+  }
+
+  pub trimmed_is_chosen : (less : List Bool) → length less ≡ length cut → IsTrimmedFrom mesh cut less → HasEndedBy mesh less → IsChosenCut mesh held true less
+  trimmed_is_chosen less same trimmed ended = record {
+    flags = same ∙ over.0 ∙ flags;
+    opens = trimmed_opens cut less (is_full surface held cut flags over is) trimmed;
+    chosen = λ opened in_order. trimmed_chosen surface held cut flags over less trimmed ended in_order.0 in_order.1;
+  }
 
 -- a tree that a desk has grown is one that its flags mark
 pub grown_is_held : {mesh : Mesh} (marks : List Bool) (weight : ℕ → ℕ) (tree : Tree) (t : CotreeTables) → IsMarked mesh tree marks → IsGrown mesh marks weight t → IsHeld mesh t.held

@@ -10,7 +10,7 @@ use Rattle.surf_surfaces.specs.Surface.{edge_count}
 use Rattle.surf_opening.specs.ChosenCut.{AreDivided, IsChosenOpening, AreInOrder}
 use Rattle.surf_opening.specs.Opening.{IsOpenedBy}
 use Rattle.surf_slit.specs.Labels.{IsUncut}
-use Rattle.surf_cutter.specs.Boundary.{IsBoundary}
+use Rattle.surf_cutter.specs.Boundary.{OpensToDisc}
 
 -- the vertex of each copy, and the faces with copies for corners
 pub record OpenMesh : Type 0 where
@@ -26,12 +26,11 @@ pub record AreStarts (faces : List (List ℕ)) (starts : List ℕ) : Type 0 wher
   pub size : length starts ≡ length faces + 1
   pub at : (f : ℕ) → f ≤ length faces → slice_index starts f ≡ sum_by length (take f faces)
 
--- what an opened surface keeps: its faces over its copies are a disc, with its border in one round
-pub record IsOpened (opened : OpenMesh) (boundary : List ℕ) : Type 0 where
+-- what an opened surface keeps: its faces over its copies are a disc
+pub record IsOpenDisc (opened : OpenMesh) : Type 0 where
   pub disc : IsDisc (mesh_of opened)
   pub few_copies : length opened.origins < 2 ^ 30
   pub few_faces : length opened.faces < 2 ^ 30
-  pub is_boundary : IsBoundary (mesh_of opened) boundary
 
 -- the surface opened along the edges with a flag, with its copies in order
 abbrev pub IsOpenedInOrder : Mesh → List Bool → OpenMesh → Type 0
@@ -51,6 +50,13 @@ abbrev pub IsChosenFor : Mesh → List Bool → Bool → OpenMesh → Type 0
 IsChosenFor mesh held trim opened =
     (tree cotree : Tree) → AreDivided mesh tree cotree → MarksCotree mesh cotree held →
     IsChosenOpening mesh tree cotree trim opened.origins opened.faces
+
+-- Along the edges with a flag the surface opens to a disc, and what is opened along them is the opening along the
+-- chosen cut.
+pub record IsChosenCut (mesh : Mesh) (held : List Bool) (trim : Bool) (cut : List Bool) : Type 0 where
+  pub flags : length cut ≡ edge_count mesh
+  pub opens : OpensToDisc mesh cut
+  pub chosen : (opened : OpenMesh) → IsOpenedInOrder mesh cut opened → IsChosenFor mesh held trim opened
 
 -- each edge is marked in exactly one of the two tables
 abbrev pub AreTurnedOver : List Bool → List Bool → Type 0

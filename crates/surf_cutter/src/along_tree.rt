@@ -4,8 +4,8 @@ ghost use Rattle.surf_surfaces.specs.Disc.{IsOpening};
 ghost use Rattle.surf_surfaces.specs.Surface.{edge_count, face_count};
 ghost use Rattle.surf_cutter.specs.Opened.{IsHeld, IsChosenFor};
 
-use crate::Opened;
-use crate::cutting::{open_full, open_outside, open_trimmed};
+use crate::cutting::{open_disc, open_outside};
+use crate::{OpenDisc, Opened};
 use std::alloc::Global;
 use surf_base::NoMemory;
 use surf_cotree::CotreeDesk;
@@ -21,8 +21,9 @@ pub fn cut_full(alloc: Global, mesh: &HalfMesh, cotree: &CotreeDesk) -> Result<O
         (face_count mesh.now + face_count mesh.now)
         ≡ edge_count mesh.now + edge_count mesh.now + 2) }
 {
+    mesh.law_of_surface();
     let mut flags = cotree.held().to_vec(alloc)?;
-    open_full(alloc, mesh, &mut flags)
+    open_outside(alloc, mesh, &mut flags, false)
 }
 
 /// The same with the cut trimmed: while more than two edges are cut and a vertex has exactly one of
@@ -34,7 +35,7 @@ pub fn cut_trim(alloc: Global, mesh: &HalfMesh, cotree: &CotreeDesk) -> Result<O
     ensures opening { IfOk result (λ o. IsOpening mesh.now o.origins o.faces) }
 {
     let mut flags = cotree.held().to_vec(alloc)?;
-    open_trimmed(alloc, mesh, &mut flags)
+    open_outside(alloc, mesh, &mut flags, true)
 }
 
 /// The surface cut along the edges that a tree of its faces doesn't hold, all of them or trimmed.
@@ -53,4 +54,20 @@ pub fn cut_outside(
 {
     let mut flags = held;
     open_outside(alloc, mesh, &mut flags, trimmed)
+}
+
+/// The same without the border of the disc, for what asks for none.
+pub fn disc_outside(
+    alloc: Global,
+    mesh: &HalfMesh,
+    held: Vec<bool>,
+    trimmed: bool,
+) -> Result<OpenDisc, NoMemory>
+    requires size { length held.items ≡ edge_count mesh.now }
+    requires held { IsHeld mesh.now held.items }
+    ensures chosen { IfOk result (λ o. IsChosenFor mesh.now held.items trimmed o) }
+    ensures opening { IfOk result (λ o. IsOpening mesh.now o.origins o.faces) }
+{
+    let mut flags = held;
+    open_disc(alloc, mesh, &mut flags, trimmed)
 }

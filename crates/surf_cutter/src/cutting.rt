@@ -1,15 +1,18 @@
 //! Cutting a surface open along the edges outside a tree of its faces.
-ghost use Rattle.std.specs.Prelude.{◌≡◌, ◌+◌, true, false, length, IfOk, OnOk};
+ghost use Rattle.std.specs.Prelude.{◌≡◌, false, true, length, IfOk, OnOk};
+ghost use Rattle.std.specs.List.{sum_by};
 ghost use Rattle.surf_surfaces.specs.Disc.{IsOpening};
-ghost use Rattle.surf_surfaces.specs.Surface.{edge_count, face_count};
+ghost use Rattle.surf_surfaces.specs.SideNumber.{side_count};
+ghost use Rattle.surf_surfaces.specs.Surface.{edge_count};
 ghost use Rattle.surf_cutter.specs.Boundary.{OpensToDisc};
 ghost use Rattle.surf_cutter.specs.Trimming.{IsTrimmedFrom, HasEndedBy};
-ghost use Rattle.surf_cutter.specs.Opened.{IsOpenedInOrder, IsHeld, IsChosenFor, AreTurnedOver};
+ghost use Rattle.surf_cutter.specs.Opened.{IsOpenedInOrder, IsHeld, IsChosenFor};
+ghost use Rattle.surf_cutter.specs.Opened.{IsChosenCut, AreTurnedOver};
 
-use crate::Opened;
 use crate::border::boundary_along;
 use crate::copies::open_along;
 use crate::trimming::{count_degrees, trim};
+use crate::{OpenDisc, Opened};
 use std::alloc::Global;
 use surf_base::NoMemory;
 use surf_mesh::HalfMesh;
@@ -21,18 +24,6 @@ fn turn_over(flags: &mut [bool])
     for flag in flags.iter_mut() {
         *flag = !*flag;
     }
-}
-
-// The surface opened along the edges with a flag, which open it to a disc.
-fn open_cut(alloc: Global, mesh: &HalfMesh, cut: &[bool]) -> Result<Opened, NoMemory>
-    requires flags { length cut.now ≡ edge_count mesh.now }
-    requires opens { OpensToDisc mesh.now cut.now }
-    ensures { IfOk result (λ o. IsOpenedInOrder mesh.now cut.now o) }
-{
-    mesh.law_of_surface();
-    let (origins, faces) = open_along(alloc, mesh, cut)?;
-    let boundary = boundary_along(alloc, mesh, cut, origins.len() as u32, &faces)?;
-    Ok(Opened::from_parts(origins, faces, boundary))
 }
 
 // Trims a full cut.
@@ -47,45 +38,91 @@ fn trim_cut(alloc: Global, mesh: &HalfMesh, cut: &mut [bool]) -> Result<(), NoMe
     Ok(())
 }
 
-/// The surface cut along all edges that a tree of its faces doesn't hold, by a flag for each edge
-/// that it holds. The flags become those of the cut.
-pub(crate) fn open_full(
-    alloc: Global,
-    mesh: &HalfMesh,
-    flags: &mut [bool],
-) -> Result<Opened, NoMemory>
+// Makes the flags of the full cut of those of a tree of the faces.
+fn choose_full(mesh: &HalfMesh, flags: &mut [bool])
     requires flags { length flags.old ≡ edge_count mesh.now }
     requires held { IsHeld mesh.now flags.old }
-    ensures chosen { IfOk result (λ o. IsChosenFor mesh.now flags.old false o) }
-    ensures opening { IfOk result (λ o. IsOpening mesh.now o.origins o.faces) }
-    ensures copies { IfOk result (λ o. length o.origins +
-        (face_count mesh.now + face_count mesh.now)
-        ≡ edge_count mesh.now + edge_count mesh.now + 2) }
+    ensures chosen { IsChosenCut mesh.now flags.old false flags.new }
 {
     mesh.law_of_surface();
     turn_over(flags);
-    open_cut(alloc, mesh, flags)
 }
 
-/// The same with the cut trimmed: while more than two edges are cut and a vertex has exactly one of
-/// them, the greatest such vertex loses it.
-pub(crate) fn open_trimmed(
-    alloc: Global,
-    mesh: &HalfMesh,
-    flags: &mut [bool],
-) -> Result<Opened, NoMemory>
+// Makes the flags of the trimmed cut of those of a tree of the faces.
+fn choose_trimmed(alloc: Global, mesh: &HalfMesh, flags: &mut [bool]) -> Result<(), NoMemory>
     requires flags { length flags.old ≡ edge_count mesh.now }
     requires held { IsHeld mesh.now flags.old }
-    ensures chosen { IfOk result (λ o. IsChosenFor mesh.now flags.old true o) }
-    ensures opening { IfOk result (λ o. IsOpening mesh.now o.origins o.faces) }
+    ensures chosen { OnOk result (IsChosenCut mesh.now flags.old true flags.new) }
 {
     mesh.law_of_surface();
     turn_over(flags);
     trim_cut(alloc, mesh, flags)?;
+    Ok(())
+}
+
+// Makes the flags of the full cut or the trimmed one of those of a tree of the faces.
+fn choose_cut(
+    alloc: Global,
+    mesh: &HalfMesh,
+    flags: &mut [bool],
+    trimmed: bool,
+) -> Result<(), NoMemory>
+    requires flags { length flags.old ≡ edge_count mesh.now }
+    requires held { IsHeld mesh.now flags.old }
+    ensures chosen { OnOk result (IsChosenCut mesh.now flags.old trimmed flags.new) }
+{
+    if trimmed {
+        choose_trimmed(alloc, mesh, flags)
+    } else {
+        choose_full(mesh, flags);
+        Ok(())
+    }
+}
+
+// The disc that the surface is opened to along the edges with a flag.
+fn open_cut(alloc: Global, mesh: &HalfMesh, cut: &[bool]) -> Result<OpenDisc, NoMemory>
+    requires flags { length cut.now ≡ edge_count mesh.now }
+    requires opens { OpensToDisc mesh.now cut.now }
+    ensures opened { IfOk result (λ o. IsOpenedInOrder mesh.now cut.now o) }
+    ensures corners { IfOk result (λ o. sum_by length o.faces ≡ side_count mesh.now) }
+{
+    mesh.law_of_surface();
+    let (origins, faces) = open_along(alloc, mesh, cut)?;
+    Ok(OpenDisc::from_parts(origins, faces))
+}
+
+// The same disc with its border.
+fn open_bordered(alloc: Global, mesh: &HalfMesh, cut: &[bool]) -> Result<Opened, NoMemory>
+    requires flags { length cut.now ≡ edge_count mesh.now }
+    requires opens { OpensToDisc mesh.now cut.now }
+    ensures opened { IfOk result (λ o. IsOpenedInOrder mesh.now cut.now o) }
+{
+    let disc = open_cut(alloc, mesh, cut)?;
+    let copies = disc.origins().len() as u32;
+    let boundary = boundary_along(alloc, mesh, cut, copies, disc.faces())?;
+    Ok(Opened::from_parts(disc, boundary))
+}
+
+/// The surface cut along all edges that a tree of its faces doesn't hold, or trimmed: while more
+/// than two edges are cut and a vertex has exactly one of them, the greatest such vertex loses it.
+/// There is a flag for each edge that the tree holds; the flags become those of the cut.
+pub(crate) fn open_disc(
+    alloc: Global,
+    mesh: &HalfMesh,
+    flags: &mut [bool],
+    trimmed: bool,
+) -> Result<OpenDisc, NoMemory>
+    requires flags { length flags.old ≡ edge_count mesh.now }
+    requires held { IsHeld mesh.now flags.old }
+    ensures chosen { IfOk result (λ o. IsChosenFor mesh.now flags.old trimmed o) }
+    ensures opening { IfOk result (λ o. IsOpening mesh.now o.origins o.faces) }
+{
+    mesh.law_of_surface();
+    choose_cut(alloc, mesh, flags, trimmed)?;
     open_cut(alloc, mesh, flags)
 }
 
-/// The full cut or the trimmed one.
+/// The same with the border of the disc in one round.
 pub(crate) fn open_outside(
     alloc: Global,
     mesh: &HalfMesh,
@@ -97,9 +134,7 @@ pub(crate) fn open_outside(
     ensures chosen { IfOk result (λ o. IsChosenFor mesh.now flags.old trimmed o) }
     ensures opening { IfOk result (λ o. IsOpening mesh.now o.origins o.faces) }
 {
-    if trimmed {
-        open_trimmed(alloc, mesh, flags)
-    } else {
-        open_full(alloc, mesh, flags)
-    }
+    mesh.law_of_surface();
+    choose_cut(alloc, mesh, flags, trimmed)?;
+    open_bordered(alloc, mesh, flags)
 }

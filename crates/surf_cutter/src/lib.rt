@@ -7,7 +7,8 @@
 //! that the tables of the tree can go before. `Opened` is the disc: its corners are copies of the
 //! surface's vertices, numbered in the order of their vertices, and those of one vertex in the
 //! order of the least faces that have them. Its border is the cut, both sides of each cut edge, and
-//! it lends the border sides in one round.
+//! it lends the border sides in one round. `OpenDisc` is the same without its border, and
+//! `disc_outside` gives it to what asks for none.
 #![tactic(auto)]
 
 mod along_tree;
@@ -21,5 +22,5 @@ mod trimming;
 // What stands for no number and for no side.
 const NOBODY: u32 = u32::MAX;
 
-pub use along_tree::{cut_full, cut_outside, cut_trim};
-pub use opened::Opened;
+pub use along_tree::{cut_full, cut_outside, cut_trim, disc_outside};
+pub use opened::{OpenDisc, Opened};

@@ -1,4 +1,4 @@
-//! The opened surface.
+//! The opened surface, with and without the round of its border.
 ghost use Rattle.std.specs.Prelude.{◌≡◌, ◌<◌, ◌^◌, ℕ, List, [], length, slice_index, slice_index_or};
 ghost use Rattle.std.specs.List.{flat_map};
 ghost use Rattle.surf_surfaces.specs.Disc.{IsDisc};
@@ -12,50 +12,37 @@ use surf_base::{CopyId, FaceId, SideId, VertexId};
 
 /// A surface cut open: its faces with copies of its vertices for corners. They are a disc.
 #[derive(Drop)]
-pub struct Opened {
+pub struct OpenDisc {
     origins: Vec<VertexId>,
     faces: OpenFaces,
-    boundary: Vec<SideId>,
 }
 
-impl Model for Opened {
-    ghost use Rattle.surf_cutter.specs.Opened.{OpenMesh, IsOpened};
+impl Model for OpenDisc {
+    ghost use Rattle.surf_cutter.specs.Opened.{OpenMesh, IsOpenDisc};
 
     ghost Value = { OpenMesh };
 
     ghost view = { λ o. record { origins = o.origins.items; faces = o.faces } };
 
-    ghost invariant = { λ o. IsOpened (record { origins = o.origins.items; faces = o.faces })
-        o.boundary.items };
+    ghost invariant = { λ o. IsOpenDisc (record { origins = o.origins.items; faces = o.faces }) };
 }
 
-impl Opened {
-    // The disc of some faces over copies, with its border.
-    pub(crate) fn from_parts(
-        origins: Vec<VertexId>,
-        faces: OpenFaces,
-        boundary: Vec<SideId>,
-    ) -> Opened
+impl OpenDisc {
+    // The disc of some faces over copies.
+    pub(crate) fn from_parts(origins: Vec<VertexId>, faces: OpenFaces) -> OpenDisc
         requires disc { IsDisc (record { vertices = length origins.items; faces = faces }) }
-        requires boundary { IsBoundary (record { vertices = length origins.items; faces = faces })
-            boundary.items }
         requires few_copies { length origins.items < 2 ^ 30 }
         requires few_faces { length faces < 2 ^ 30 }
         ensures { result ≡ record { origins = origins.items; faces = faces } }
     {
-        Opened {
-            origins,
-            faces,
-            boundary,
-        }
+        OpenDisc { origins, faces }
     }
 
-    /// The vertex of the surface that a copy is of.
-    pub fn origin(&self, copy: CopyId) -> VertexId
-        requires { copy < length self.now.origins }
-        ensures { result ≡ slice_index self.now.origins copy }
+    // Its faces.
+    pub(crate) fn faces(&self) -> &OpenFaces
+        ensures { result.now ≡ self.now.faces }
     {
-        self.origins[copy.index()]
+        &self.faces
     }
 
     /// The vertices that the copies are of, one entry a copy.
@@ -80,12 +67,11 @@ impl Opened {
         self.faces.starts()
     }
 
-    /// The corners of a face as copies.
-    pub fn face(&self, f: FaceId) -> &[CopyId]
-        requires { f < length self.now.faces }
-        ensures { result.now ≡ slice_index_or self.now.faces f [] }
+    /// How many faces there are.
+    pub fn face_count(&self) -> u32
+        ensures { result ≡ length self.now.faces }
     {
-        self.faces.row(f.index())
+        self.faces.len() as u32
     }
 
     /// How many edges the opened surface has.
@@ -95,6 +81,86 @@ impl Opened {
         let copies = self.origins.len() as u32;
         let faces = self.faces.len() as u32;
         copies + faces - 1
+    }
+}
+
+/// A surface cut open, with its border in one round.
+#[derive(Drop)]
+pub struct Opened {
+    disc: OpenDisc,
+    boundary: Vec<SideId>,
+}
+
+impl Model for Opened {
+    ghost use Rattle.surf_cutter.specs.Boundary.{IsBoundary};
+    ghost use Rattle.surf_cutter.specs.Opened.{OpenMesh, mesh_of};
+
+    ghost Value = { OpenMesh };
+
+    ghost view = { λ o. o.disc };
+
+    ghost invariant = { λ o. IsBoundary (mesh_of o.disc) o.boundary.items };
+}
+
+impl Opened {
+    // A disc with its border.
+    pub(crate) fn from_parts(disc: OpenDisc, boundary: Vec<SideId>) -> Opened
+        requires boundary { IsBoundary (mesh_of disc) boundary.items }
+        ensures { result ≡ disc }
+    {
+        Opened { disc, boundary }
+    }
+
+    /// The same without its border.
+    pub fn disc(&self) -> &OpenDisc
+        ensures { result.now ≡ self.now }
+    {
+        &self.disc
+    }
+
+    /// The vertex of the surface that a copy is of.
+    pub fn origin(&self, copy: CopyId) -> VertexId
+        requires { copy < length self.now.origins }
+        ensures { result ≡ slice_index self.now.origins copy }
+    {
+        self.origins()[copy.index()]
+    }
+
+    /// The vertices that the copies are of, one entry a copy.
+    pub fn origins(&self) -> &[VertexId]
+        ensures origins { result.now ≡ self.now.origins }
+        ensures disc { IsDisc (mesh_of self.now) }
+    {
+        self.disc.origins()
+    }
+
+    /// The corners of all faces as copies, face after face.
+    pub fn corners(&self) -> &[CopyId]
+        ensures { result.now ≡ flat_map (λ row. row) self.now.faces }
+    {
+        self.disc.corners()
+    }
+
+    /// Where each face begins among the corners of all faces, and the end.
+    pub fn starts(&self) -> &[u32]
+        ensures { AreStarts self.now.faces result.now }
+    {
+        self.disc.starts()
+    }
+
+    /// The corners of a face as copies.
+    pub fn face(&self, f: FaceId) -> &[CopyId]
+        requires { f < length self.now.faces }
+        ensures { result.now ≡ slice_index_or self.now.faces f [] }
+    {
+        self.disc.faces().row(f.index())
+    }
+
+    /// How many edges the opened surface has.
+    pub fn edges(&self) -> u32
+        ensures { result ≡ edge_count (mesh_of self.now) }
+    {
+        self.disc.edges()
     }
 
     /// The border sides, in one round along the border. Sides are numbered in the order of faces

@@ -102,6 +102,14 @@ impl Page {
         }
     }
 
+    /// Takes room for so many bytes more at once, where there is so much. The page stays as it is,
+    /// and what is put on it later is put there with this room and without it.
+    pub fn take_room(&mut self, more: usize)
+        ensures same { self.new ≡ self.old }
+    {
+        let _ = self.bytes.reserve_exact(more);
+    }
+
     /// Puts bytes at the end. Refuses with `Full` where the page would hold more than `most`, which
     /// is tested first; then with `Memory` where there is none. After a refusal the page is
     /// unchanged.

@@ -13,7 +13,7 @@ from_parts-requires-clause-few_faces c =
     let s = c.law_of_surface.ensures in
     omega (arith, c.in_ok-origins.ensures.opened.same_faces, three_each mesh.vertices mesh.faces s.surface.is_mesh, s.few)
 
-pub returns : goal.returns
-returns c =
+pub returns-clause-opened : goal.returns-clause-opened
+returns-clause-opened c =
     let P : OpenMesh → Type 0 = λ o. IsOpenedInOrder c.args.mesh.now c.args.cut.now o in
     subst P (sym c.from_parts.ensures) (c.in_ok-origins.ensures.opened, c.in_ok-origins.ensures.order)
