@@ -1,0 +1,131 @@
+//! The mates of sides alone, read off the sorted rows.
+ghost use Rattle.std.specs.Prelude.{◌≡◌, ◌<◌, ◌+◌, ◌↔◌, length, take, slice_set, Some, None, IsTrue, IfOk, IfErr, MatchBool, MatchOption};
+ghost use Rattle.std.specs.List.{sum_by};
+ghost use Rattle.surf_surfaces.specs.Surface.{face_count};
+ghost use Rattle.surf_soup.specs.Half.{AreAllMates};
+ghost use Rattle.surf_soup.specs.Order.{AreSideEntries};
+ghost use Rattle.surf_soup.specs.Pairs.{HasTwoFaces, IsPairFault};
+ghost use Rattle.surf_soup.specs.Pairing.{AreMated};
+
+use crate::Soup;
+use crate::entries::side_entries;
+use crate::pairs::{PairFault, find_fault};
+use std::alloc::Global;
+use surf_base::{NoMemory, SideId, VertexId};
+use surf_rows::Rows;
+
+// The mates of the sides so far, and the last pair of ends.
+#[derive(Drop)]
+struct Mates {
+    mate: Vec<SideId>,
+    last: Option<(VertexId, VertexId)>,
+}
+
+// No mates yet, with room for those of some sides.
+fn no_mates(alloc: Global, sides: usize) -> Result<Mates, NoMemory>
+    ensures size { IfOk result (λ mates. length mates.mate.items ≡ sides) }
+    ensures none { IfOk result (λ mates. mates.last ≡ None) }
+{
+    Ok(Mates {
+        mate: vec![in alloc; SideId::new(0); sides]?,
+        last: None,
+    })
+}
+
+// Whether the last pair is this one.
+fn is_last_pair(last: Option<(VertexId, VertexId)>, low: VertexId, high: VertexId) -> bool
+    ensures { IsTrue result ↔ (last ≡ Some (low, high)) }
+{
+    match last {
+        None => false,
+        Some(pair) => pair.0 == low && pair.1 == high,
+    }
+}
+
+// Makes two sides mates.
+fn join_mates(mates: &mut Mates, ends: (VertexId, VertexId), first: SideId, second: SideId)
+    requires first { first < length mates.old.mate.items }
+    requires second { second < length mates.old.mate.items }
+    ensures mates { mates.new.mate.items
+        ≡ slice_set (slice_set mates.old.mate.items first second) second first }
+    ensures last { mates.new.last ≡ Some ends }
+{
+    mates.mate[first.index()] = second;
+    mates.mate[second.index()] = first;
+    mates.last = Some(ends);
+}
+
+// Joins the sides with a lesser end, if they come in pairs.
+fn mate_row(
+    soup: &Soup,
+    entries: &Rows<(VertexId, SideId)>,
+    vertex: u32,
+    mates: &mut Mates,
+) -> bool
+    requires entries { AreSideEntries soup.now entries.now }
+    requires vertex { vertex < soup.now.vertices }
+    requires so_far { AreMated soup.now (sum_by length (take vertex entries.now)) mates.old }
+    ensures { MatchBool result (AreMated soup.now (sum_by length
+        (take (vertex + 1) entries.now)) mates.new) (HasTwoFaces soup.now → ⊥) }
+{
+    soup.law_of_soup();
+    let low = VertexId::new(vertex);
+    let row = entries.row(vertex as usize);
+    for k in 0..row.len() / 2 {
+        let (high, first) = row[2 * k];
+        let (other, second) = row[2 * k + 1];
+        if other != high || is_last_pair(mates.last, low, high) {
+            return false;
+        }
+        join_mates(mates, (low, high), first, second);
+    }
+    row.len() % 2 == 0
+}
+
+// Joins all sides, if they come in pairs.
+fn mate_rows(soup: &Soup, entries: &Rows<(VertexId, SideId)>, mates: &mut Mates) -> bool
+    requires entries { AreSideEntries soup.now entries.now }
+    requires none { AreMated soup.now 0 mates.old }
+    ensures { MatchBool result (AreMated soup.now (sum_by length entries.now) mates.new)
+        (HasTwoFaces soup.now → ⊥) }
+{
+    for v in 0..soup.vertices() {
+        if !mate_row(soup, entries, v, mates) {
+            return false;
+        }
+    }
+    true
+}
+
+// The mate of each side, exactly where each edge is a side of exactly two faces.
+fn soup_mates(alloc: Global, soup: &Soup) -> Result<Option<Vec<SideId>>, NoMemory>
+    ensures { IfOk result (λ found. MatchOption found (HasTwoFaces soup.now → ⊥)
+        (λ mate. HasTwoFaces soup.now × AreAllMates soup.now mate.items)) }
+{
+    soup.law_of_soup();
+    let entries = side_entries(alloc, soup)?;
+    let mut mates = no_mates(alloc, soup.side_count() as usize)?;
+    if mate_rows(soup, &entries, &mut mates) {
+        Ok(Some(mates.mate))
+    } else {
+        Ok(None)
+    }
+}
+
+/// The mate of each side, exactly where a soup has a face and each edge is a side of exactly two
+/// faces; else the first fault, in the order of `PairFault`. It is `paired_sides` without the
+/// numbers of edges.
+pub fn mated_sides(alloc: Global, soup: &Soup) -> Result<Vec<SideId>, PairFault>
+    ensures some { IfOk result (λ _. 0 < face_count soup.now) }
+    ensures two { IfOk result (λ _. HasTwoFaces soup.now) }
+    ensures mates { IfOk result (λ mate. AreAllMates soup.now mate.items) }
+    ensures fault { IfErr result (λ e. IsPairFault soup.now e) }
+{
+    if soup.faces() == 0 {
+        return Err(PairFault::Empty);
+    }
+    match soup_mates(alloc, soup)? {
+        Some(mate) => Ok(mate),
+        None => Err(find_fault(alloc, soup)?),
+    }
+}
