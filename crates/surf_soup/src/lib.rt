@@ -44,7 +44,7 @@ mod turned;
 mod vertices;
 
 pub use apart::find_apart;
-pub use mated::mated_sides;
+pub use mated::{MatedSides, mated_sides};
 pub use pairing::{Pairing, pair_sides};
 pub use pairs::{PairFault, face_in, first_row, pair_edges, paired_sides};
 pub use reaching::{first_unmarked, reach};

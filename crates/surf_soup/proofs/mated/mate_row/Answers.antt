@@ -3,8 +3,8 @@ use Rattle.std.proofs.Common.{sym, ap, refl, arith, inl, inr}
 use Rattle.std.specs.List.{sum_by}
 use Rattle.std.proofs.lemmas.Bool.{cases_eq, cases_Bool, eq-eqb, ne_eqb, eqb-true, true≢false}
 use Rattle.surf_soup.specs.Pairing.{AreMatedUpto}
-use Rattle.surf_soup.proofs.MatedSteps.{ends_with_push}
-use Rattle.surf_soup.proofs.PairFails.{first_inside, second_inside, pairs_next, pair_differs, pair_crowded, row_paired, row_odd}
+use Rattle.surf_soup.proofs.MatedSteps.{ends_with_push, greater_push}
+use Rattle.surf_soup.proofs.PairFails.{first_inside, high_inside, second_inside, pairs_next, pair_differs, pair_crowded, row_paired, row_odd}
 use Rattle.surf_soup.proofs.mated.mate_row.Goals as goal
 use Rattle.surf_soup.proofs.mated.mate_row.Goals.{then-ne-via-then-ne, then-ne-via-else-ne+then-is_last_pair}
 
@@ -60,6 +60,19 @@ join_mates-requires-clause-second c =
           c.index-row-k-in-loop-k-3.result,
     )
 
+pub join_mates-requires-clause-high : goal.join_mates-requires-clause-high
+join_mates-requires-clause-high c =
+    let so_far = c.loop-k.invariant in
+    omega (
+      arith,
+      so_far.greater.size,
+      high_inside c.args.soup.now c.law_of_soup.ensures.mesh c.args.entries.now c.requires.entries c.args.vertex
+          c.new-low.result c.row-row.result.now c.requires.vertex c.row-row.ensures c.new-low.ensures c.loop-k.k
+          so_far.edge_list so_far.first c.loop-k.mates.mate.items so_far.edge_of so_far.paired c.loop-k-test.true
+          c.index-row-k.result c.index-row-k-in-loop-k.result c.index-row-k-in-loop-k-2.result
+          c.index-row-k-in-loop-k-3.result,
+    )
+
 pub loop-k-preserved : goal.loop-k-preserved
 loop-k-preserved c =
     let so_far = c.loop-k.invariant in
@@ -79,14 +92,20 @@ loop-k-preserved c =
     c.index-row-k-in-loop-k-3.result (same _ _ c.if-ne.ensures)
     (λ h. true≢false (sym (c.if-is_last_pair.ensures.1 ((so_far.last_is p).0 h)))) in
     let after : AreMatedUpto c.args.soup.now (sum_by length (take c.args.vertex c.args.entries.now) + 2 * (k + 1))
-    (set (set mate s t) t s) (Some p) = record {
+    (set (set mate s t) t s) (Some p) (set c.loop-k.mates.greater.items high true) = record {
       edge_list = so_far.edge_list ++ p ∷ [];
       first = so_far.first ++ s ∷ [];
       edge_of = set (set so_far.edge_of s n) t n;
       paired = next;
       last_is = ends_with_push so_far.edge_list p;
+      greater = greater_push c.args.soup.now.vertices so_far.edge_list c.loop-k.mates.greater.items p so_far.greater
+          (high_inside c.args.soup.now c.law_of_soup.ensures.mesh c.args.entries.now c.requires.entries c.args.vertex
+          c.new-low.result c.row-row.result.now c.requires.vertex c.row-row.ensures c.new-low.ensures c.loop-k.k
+          so_far.edge_list so_far.first mate so_far.edge_of so_far.paired c.loop-k-test.true
+          c.index-row-k.result c.index-row-k-in-loop-k.result c.index-row-k-in-loop-k-2.result
+          c.index-row-k-in-loop-k-3.result);
     } in
-    rw (made.mates, made.last) after
+    rw (made.mates, made.last, made.greater) after
 
 pub returns : goal.returns
 returns c =
@@ -98,7 +117,7 @@ returns c =
     elim (cases_eq (length row % 2) 0) [
       | inl even ↦
           let whole : AreMatedUpto mesh (sum_by length (take (c.args.vertex + 1) c.args.entries.now)) mate
-          c.loop-k.mates.last = record {
+          c.loop-k.mates.last c.loop-k.mates.greater.items = record {
             edge_list = so_far.edge_list;
             first = so_far.first;
             edge_of = so_far.edge_of;
@@ -106,6 +125,7 @@ returns c =
                 c.requires.entries c.args.vertex c.new-low.result row c.requires.vertex c.row-row.ensures
                 c.new-low.ensures c.loop-k.k so_far.edge_list so_far.first mate so_far.edge_of so_far.paired end even;
             last_is = so_far.last_is;
+            greater = so_far.greater;
           } in
           rw (eq-eqb (length row % 2) 0 even) whole
       | inr odd ↦ rw (ne_eqb (length row % 2) 0 odd) (row_odd mesh c.law_of_soup.ensures.mesh c.args.entries.now
