@@ -3,3 +3,4 @@ pub mod FaultLaws
 pub mod SideWays
 pub mod GrowthLaws
 pub mod Misfits
+pub mod OneWayLaws

@@ -21,8 +21,8 @@ fn mark_greater_ends(edges: &[(VertexId, VertexId)], marked: &mut [bool])
     }
 }
 
-// Whether all marks but the first are set.
-fn are_set_behind_first(marked: &[bool]) -> bool
+/// Whether all marks but the first are set.
+pub(crate) fn are_set_behind_first(marked: &[bool]) -> bool
     ensures { MatchBool result ((v : ℕ) → 0 < v → v < length marked.now →
         slice_index_or marked.now v false ≡ true) ((v : ℕ) × (0 < v) × (v < length marked.now)
         × (slice_index_or marked.now v false ≡ false)) }

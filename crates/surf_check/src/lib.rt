@@ -22,9 +22,12 @@ mod checking;
 mod counts;
 mod descent;
 mod growth;
+mod kinds;
+mod one_way;
 mod orienting;
 
 pub use answers::{Chain, ChainLink, Sides, Turning};
 pub use checking::{SurfaceFault, check, check_surface};
 pub use counts::{characteristic, genus, surface_characteristic, surface_genus};
+pub use kinds::{Kind, check_kind};
 pub use orienting::{orient, orient_surface};

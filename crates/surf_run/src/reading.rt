@@ -1,5 +1,5 @@
 //! Files that are reached.
-ghost use Rattle.std.specs.Prelude.{◌≡◌, ◌≤◌, ℕ, List, length, IfOk, OnOk};
+ghost use Rattle.std.specs.Prelude.{◌≡◌, ◌≤◌, ℕ, List, [], length, IfOk, OnOk};
 ghost use Rattle.surf_surfaces.specs.Surface.{face_count};
 ghost use Rattle.surf_off.specs.Clean.{IsOffParts};
 ghost use Rattle.surf_off.specs.Off.{OffParts};
@@ -10,12 +10,16 @@ ghost use Rattle.surf_answers.specs.Tells.{Takes, TakesOver};
 ghost use Rattle.surf_base.specs.declared.limits.TheConstants.{MAX_TEXT};
 
 use std::alloc::Global;
-use surf_base::{FetchFault, LimitKind, MAX_TEXT, Shelf, fetch_into};
+use surf_base::{FetchFault, LimitKind, MAX_TEXT, Shelf, fetch_into, reuse_room};
 use surf_check::{check, check_surface};
 use surf_mesh::{HalfMesh, Surface};
 use surf_off::{OffPlaces, OffText, read_off, read_places, read_soup};
 use surf_soup::Soup;
 use surf_texts::Refused;
+
+// How much room a text takes that is to leave its place to the tables of its mesh. A block of 2^25
+// bytes with its head is the greatest that `reuse_room` can make the C library keep in its heap.
+const TEXT_ROOM: usize = (1 << 25) - (1 << 13);
 
 /// The bytes of the file of a name, in place of those of an earlier text.
 pub(crate) fn read_into<S: Shelf>(
@@ -184,6 +188,36 @@ pub(crate) fn surface_through<S: Shelf>(
     surface_of(alloc, soup)
 }
 
+// Room for a text whose pages stay when it goes, for the tables that are made then. Where there is
+// none, the text grows from nothing.
+fn lasting_room(alloc: Global) -> Vec<u8>
+    ensures { result.items ≡ [] }
+{
+    reuse_room(alloc, TEXT_ROOM);
+    match Vec::with_capacity(alloc, TEXT_ROOM) {
+        Ok(room) => room,
+        Err(_) => Vec::new(alloc),
+    }
+}
+
+// The faces in the text of the file of a name. The text is kept no longer, and what is made next
+// takes its place.
+fn mesh_before_tables<S: Shelf>(
+    alloc: Global,
+    shelf: &mut S,
+    name: &str,
+) -> Result<Soup, Refused>
+    ensures holds { S.holds shelf.new ≡ S.holds shelf.old }
+    ensures later { S.faults shelf.old ≤ S.faults shelf.new }
+    ensures tells { TakesOver (S.holds shelf.old) (S.faults shelf.old) (S.faults shelf.new)
+        (λ soup. soup) (IsTextAt IsMeshText name.now) result }
+    ensures held { IfOk result (λ soup. (bytes : List ℕ) × (parts : OffParts)
+        × HoldsText IsMeshText (S.holds shelf.new) name.now bytes (parts, soup)) }
+{
+    let mut room = lasting_room(alloc);
+    mesh_through(alloc, shelf, name, &mut room)
+}
+
 // The surface that faces are, without its rings.
 fn bare_surface_of(alloc: Global, soup: Soup) -> Result<Surface, Refused>
     ensures { Takes (λ mesh. mesh) (IsSurfaceOf soup) result }
@@ -205,6 +239,6 @@ pub(crate) fn bare_surface_at<S: Shelf>(
     ensures held { IfOk result (λ mesh. (bytes : List ℕ) × (parts : OffParts)
         × HoldsText IsSurfaceText (S.holds shelf.new) name.now bytes (parts, mesh)) }
 {
-    let soup = mesh_at(alloc, shelf, name)?;
+    let soup = mesh_before_tables(alloc, shelf, name)?;
     bare_surface_of(alloc, soup)
 }

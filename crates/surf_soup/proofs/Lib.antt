@@ -23,3 +23,4 @@ pub mod PairFaults
 pub mod ThirdLaws
 pub mod PairSteps
 pub mod PairFails
+pub mod MatedSteps

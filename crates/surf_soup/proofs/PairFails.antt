@@ -243,6 +243,16 @@ module _ (mesh : Mesh) (is_mesh : IsMesh mesh) (entries : List (List (ℕ × ℕ
         pub first_inside : (get_or row (2 * k) e).1 < side_count mesh
         first_inside = one.in_table
 
+        pub high_inside : (get_or row (2 * k) d).0 < mesh.vertices
+        high_inside =
+            let lows = lesser_ends mesh in
+            let highs = greater_ends mesh in
+            let low_is : lows ≡ lesser_ends mesh = λ _. lows in
+            let high_is : highs ≡ greater_ends mesh = λ _. highs in
+            let below = ends_below mesh is_mesh lows highs low_is high_is (get_or row (2 * k) e).1 one.in_table in
+            let at = one.high_is in
+            omega (arith, below.1)
+
         pub second_inside : (get_or row (2 * k + 1) g).1 < side_count mesh
         second_inside = two_at.in_table
 

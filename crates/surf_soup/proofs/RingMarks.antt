@@ -17,6 +17,7 @@ use Rattle.surf_surfaces.specs.Surface.{face_count, face_at, HasOneFan}
 use Rattle.surf_surfaces.specs.SideNumber.{side_count, owners, first_side, IsFaceOf}
 use Rattle.surf_soup.specs.Vertices.{all_corners, sides_at, AllMet}
 use Rattle.surf_soup.specs.Reach.{marked, unmarked}
+use Rattle.surf_soup.specs.EdgeTable.{AreEdgeNumbers}
 use Rattle.surf_soup.specs.Ring.{turned, nexts, befores, dart_corner, flip_of, turn_of, AreDartTables}
 use Rattle.surf_soup.specs.Ring.{dart_before, IsRound, IsTrail, IsRoundMarked, IsRoundListed, AreTurned, BeginsAt}
 use Rattle.surf_soup.specs.Ring.{IsWholeRing, IsPinch, IsLeastPinch, AreAllRings, AllMarkedAt, IsMarkedFan}
@@ -224,7 +225,7 @@ pub record IsListedUpto (mesh : Mesh) (mate edge_of : List ℕ) (home : ℕ) (se
   pub trail : IsTrail (nexts mesh) (befores mesh) mate (all_corners mesh) edge_of (dart_before mesh home) (length ring)
       between
 
-module _ (mesh : Mesh) (face_of mate edge_of : List ℕ) (tables : AreDartTables mesh face_of mate edge_of) where
+module _ (mesh : Mesh) (face_of mate edge_of : List ℕ) (tables : AreDartTables mesh face_of mate) where
   pub darts : AreDarts (nexts mesh) (befores mesh) mate (all_corners mesh)
   darts = are_darts mesh tables.is_mesh tables.two mate tables.mates (nexts mesh) (befores mesh) (turned_is after mesh)
       (turned_is before mesh)
@@ -402,12 +403,12 @@ module _ (mesh : Mesh) (face_of mate edge_of : List ℕ) (tables : AreDartTables
             marks (get_or (sides_at mesh v) j 0) (omega arith) (at_begins mesh v j (omega arith))));
       }
 
-      marked_ring : (between : List ℕ) → IsTrail (nexts mesh) (befores mesh) mate (all_corners mesh) edge_of
+      marked_ring : AreEdgeNumbers mesh edge_of → (between : List ℕ) → IsTrail (nexts mesh) (befores mesh) mate (all_corners mesh) edge_of
           (dart_before mesh home) (length ring) between → AllMarkedAt mesh now v → IsWholeRing mesh v ring between
-      marked_ring between trail =
+      marked_ring numbers between trail =
           whole_ring mesh tables.is_mesh tables.two mate tables.mates (nexts mesh) (befores mesh)
           (turned_is after mesh) (turned_is before mesh) v some from from_is old now ring fresh round edge_of between
-          tables.numbers trail
+          numbers trail
 
       others_stay : (u s : ℕ) → u ≢ v → BeginsAt mesh u s → marked old s ≡ marked now s
       others_stay u s ne b = elim (cases_Bool (marked old s)) [
@@ -440,7 +441,7 @@ module _ (mesh : Mesh) (face_of mate edge_of : List ℕ) (tables : AreDartTables
       round_stays : (u s : ℕ) → u ≢ v → BeginsAt mesh u s → marked old s ≡ marked now s
       round_stays = others_stay v (get_or first v 0) has_side is_first old now ring is_fresh round
 
-      round_ring : (between : List ℕ) → IsTrail (nexts mesh) (befores mesh) mate (all_corners mesh) edge_of
+      round_ring : AreEdgeNumbers mesh edge_of → (between : List ℕ) → IsTrail (nexts mesh) (befores mesh) mate (all_corners mesh) edge_of
           (dart_before mesh (get_or first v 0)) (length ring) between → AllMarkedAt mesh now v →
           IsWholeRing mesh v ring between
       round_ring = marked_ring v (get_or first v 0) has_side is_first old now ring is_fresh round
@@ -463,10 +464,10 @@ module _ (mesh : Mesh) (face_of mate edge_of : List ℕ) (tables : AreDartTables
       fans_more first v old now firsts met are lt marks.ring marks.round
 
   pub rings_next : (first : List ℕ) (v : ℕ) (old now : List Bool) (sides sides' edges edges' ends : List ℕ) →
-      AreFirstSides mesh first → AllMet mesh → AreRingsListed mesh old v sides edges ends → v < mesh.vertices →
+      AreEdgeNumbers mesh edge_of → AreFirstSides mesh first → AllMet mesh → AreRingsListed mesh old v sides edges ends → v < mesh.vertices →
       IsRoundListed mesh mate edge_of (get_or first v 0) old now sides sides' edges edges' →
       AreRingsListed mesh now (v + 1) sides' edges' (ends ++ length sides' ∷ [])
-  rings_next first v old now sides sides' edges edges' ends firsts met are lt listed =
+  rings_next first v old now sides sides' edges edges' ends numbers firsts met are lt listed =
       let ring = listed.ring in
       let between = listed.between in
       let long : length sides' ≡ length sides + length ring = ap length listed.sides_are ∙ length-append sides ring in
@@ -495,7 +496,7 @@ module _ (mesh : Mesh) (face_of mate edge_of : List ℕ) (tables : AreDartTables
         rings = subst Q (sym lists)
             (subst P (sym rows) (marked_more mesh v old now (cut 0 ends sides) (cut 0 ends edges) ring between are.rings
             (λ u s below b. round_stays first v old now firsts met are.marks lt ring listed.round u s (omega arith) b)
-            (round_ring first v old now firsts met are.marks lt ring listed.round between listed.trail)));
+            (round_ring first v old now firsts met are.marks lt ring listed.round numbers between listed.trail)));
         counted = omega arith;
       }
 
@@ -642,13 +643,13 @@ owner_read mesh face_of are s t d is lt =
     get_or_default face_of s d 0 (omega (arith, n, ap length are, is, lt)) ∙ ap (λ (xs : List ℕ). get_or xs s 0) are
     ∙ ap (λ u. get_or (owners 0 mesh.faces) u 0) is
 
-pub read_pinch : (mesh : Mesh) (face_of mate edge_of : List ℕ) (tables : AreDartTables mesh face_of mate edge_of)
+pub read_pinch : (mesh : Mesh) (face_of mate : List ℕ) (tables : AreDartTables mesh face_of mate)
     (seen : List Bool) (first : List ℕ) → AreMarkedFans mesh seen mesh.vertices → AreFirstSides mesh first →
     AllMet mesh → (v s home last d e : ℕ) → IsFirstLeft (all_corners mesh) seen v s → home ≡ get_or first v 0 →
     last ≡ s → IsLeastPinch mesh v (get_or face_of home d) (get_or face_of last e)
-read_pinch mesh face_of mate edge_of tables seen first are firsts met v s home last d e left home_is last_is =
+read_pinch mesh face_of mate tables seen first are firsts met v s home last d e left home_is last_is =
     let pinch = left_pinch mesh seen first v s tables.is_mesh are firsts left in
-    let begin = first_side_at mesh face_of mate edge_of tables first v firsts met pinch.is_vertex in
+    let begin = first_side_at mesh face_of mate [] tables first v firsts met pinch.is_vertex in
     let n = corners_len mesh in
     let lt : s < side_count mesh = let is = left.is_side in omega arith in
     let F : ℕ → Type 0 = λ f. IsLeastPinch mesh v f (get_or (owners 0 mesh.faces) s 0) in

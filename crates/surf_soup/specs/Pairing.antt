@@ -1,11 +1,13 @@
 -- Sides in pairs.
-use Rattle.std.specs.Prelude.{◌≡◌, ℕ, ◌<◌, List, [], ◌∷◌, length, get_or, map}
+use Rattle.std.specs.Prelude.{◌≡◌, ℕ, ◌<◌, List, [], ◌∷◌, length, get_or, map, Option, Some, Bool, false, ◌==◌}
+use Rattle.std.specs.List.{list_any}
 use Rattle.surf_surfaces.specs.Mesh.{Mesh, edges}
 use Rattle.surf_surfaces.specs.SideNumber.{side_count, owners, sides_with}
 use Rattle.surf_soup.specs.EdgeTable.{AreEdgeNumbers}
 use Rattle.surf_soup.specs.Half.{AreAllMates}
-use Rattle.surf_soup.specs.Order.{AreListedUpto}
+use Rattle.surf_soup.specs.Order.{AreListedUpto, IsLast}
 use Rattle.surf_soup.specs.Pairs.{HasTwoFaces}
+use Rattle.surf_soup.specs.declared.mated.Mates.{Mates}
 use Rattle.surf_soup.specs.declared.pairing.Pairing.{Pairing}
 use Rattle.surf_soup.specs.declared.pairing.Pairs.{Pairs}
 
@@ -59,3 +61,25 @@ pub record AreAllPairs (mesh : Mesh) (edge_list : List (ℕ × ℕ)) (first mate
 
 abbrev pub HasAllPairs : Mesh → Pairs → Type 0
 HasAllPairs mesh pairs = AreAllPairs mesh pairs.edges.items pairs.first.items pairs.mate.items pairs.edge_of.items
+
+-- marks of the vertices that are the greater end of a pair in a list
+pub record AreGreaterEnds (count : ℕ) (edge_list : List (ℕ × ℕ)) (marks : List Bool) : Type 0 where
+  pub size : length marks ≡ count
+  pub marked : (v : ℕ) → v < count → get_or marks v false ≡ list_any (λ (p : ℕ × ℕ). p.1 == v) edge_list
+
+-- the last pair of a list, where it has one
+abbrev pub EndsWith : List (ℕ × ℕ) → Option (ℕ × ℕ) → Type 0
+EndsWith edge_list last = (p : ℕ × ℕ) → (IsLast edge_list p → last ≡ Some p) × (last ≡ Some p → IsLast edge_list p)
+
+-- The first k of the sides in the order of their pairs are each other's mates: there are tables, which need not be
+-- made, in which they are paired. Of the edges there the last one is known, and which vertices are their greater ends.
+pub record AreMatedUpto (mesh : Mesh) (k : ℕ) (mate : List ℕ) (last : Option (ℕ × ℕ)) (marks : List Bool) : Type 0 where
+  pub edge_list : List (ℕ × ℕ)
+  pub first : List ℕ
+  pub edge_of : List ℕ
+  pub paired : ArePairedUpto mesh k edge_list first mate edge_of
+  pub last_is : EndsWith edge_list last
+  pub greater : AreGreaterEnds mesh.vertices edge_list marks
+
+abbrev pub AreMated : Mesh → ℕ → Mates → Type 0
+AreMated mesh k mates = AreMatedUpto mesh k mates.mate.items mates.last mates.greater.items

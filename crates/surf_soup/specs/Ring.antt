@@ -7,7 +7,6 @@ use Rattle.surf_surfaces.specs.Mesh.{Mesh, IsMesh}
 use Rattle.surf_surfaces.specs.Side.{after, before}
 use Rattle.surf_surfaces.specs.Surface.{face_at, edge_count, ends, touches, HasCorner, HasEdge, ShareAt, HasOneFan}
 use Rattle.surf_surfaces.specs.SideNumber.{side_count, pair_at, owners, first_side, IsFaceOf}
-use Rattle.surf_soup.specs.EdgeTable.{AreEdgeNumbers}
 use Rattle.surf_soup.specs.Half.{AreAllMates}
 use Rattle.surf_soup.specs.Pairs.{HasTwoFaces}
 use Rattle.surf_soup.specs.Vertices.{all_corners, sides_at}
@@ -75,14 +74,13 @@ nexts mesh = turned after mesh
 abbrev pub befores : Mesh → List ℕ
 befores mesh = turned before mesh
 
--- tables of a soup whose edges have two faces each: for each side its face, its mate and its edge
-pub record AreDartTables (mesh : Mesh) (face_of mate edge_of : List ℕ) : Type 0 where
+-- tables of a soup whose edges have two faces each: for each side its face and its mate
+pub record AreDartTables (mesh : Mesh) (face_of mate : List ℕ) : Type 0 where
   pub is_mesh : IsMesh mesh
   pub few : side_count mesh < 2 ^ 30
   pub two : HasTwoFaces mesh
   pub faces : face_of ≡ owners 0 mesh.faces
   pub mates : AreAllMates mesh mate
-  pub numbers : AreEdgeNumbers mesh edge_of
 
 -- the dart at the head of the side before a side
 abbrev pub dart_before : Mesh → ℕ → ℕ × Bool

@@ -32,6 +32,7 @@
 mod apart;
 mod entries;
 mod forest;
+mod mated;
 mod pairing;
 mod pairs;
 mod reaching;
@@ -43,10 +44,11 @@ mod turned;
 mod vertices;
 
 pub use apart::find_apart;
+pub use mated::{MatedSides, mated_sides};
 pub use pairing::{Pairing, pair_sides};
 pub use pairs::{PairFault, face_in, first_row, pair_edges, paired_sides};
 pub use reaching::{first_unmarked, reach};
-pub use rings::{Pinch, Rings, find_pinch, find_rings, first_left};
+pub use rings::{Pinch, Rings, find_pinch, find_pinch_by, find_rings, first_left};
 pub use side_faces::SideFaces;
 pub use soup::{Soup, face_span};
 pub use tables::{EdgeTable, edge_table, numbers};

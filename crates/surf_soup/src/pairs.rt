@@ -103,8 +103,8 @@ fn crowd_at(soup: &Soup, table: &EdgeTable, e: usize) -> PairFault
     }
 }
 
-// The fault of a soup with a face where some edge isn't a side of exactly two faces.
-fn find_fault(alloc: Global, soup: &Soup) -> Result<PairFault, NoMemory>
+/// The fault of a soup with a face where some edge isn't a side of exactly two faces.
+pub(crate) fn find_fault(alloc: Global, soup: &Soup) -> Result<PairFault, NoMemory>
     requires some { 0 < face_count soup.now }
     requires unpaired { HasTwoFaces soup.now → ⊥ }
     ensures fault { IfOk result (λ fault. IsPairFault soup.now fault) }

@@ -3,7 +3,9 @@ ghost use Rattle.std.specs.Prelude.{◌≡◌, ◌<◌, ℕ, length, replicate, 
 ghost use Rattle.std.specs.Prelude.{slice_index, true, false};
 ghost use Rattle.surf_surfaces.specs.Surface.{HasOneFan};
 ghost use Rattle.surf_soup.specs.Reach.{marked};
-ghost use Rattle.surf_surfaces.specs.SideNumber.{side_count};
+ghost use Rattle.surf_surfaces.specs.SideNumber.{side_count, owners};
+ghost use Rattle.surf_soup.specs.EdgeTable.{AreEdgeNumbers};
+ghost use Rattle.surf_soup.specs.Half.{AreAllMates};
 ghost use Rattle.surf_soup.specs.Pairing.{IsPairingOf};
 ghost use Rattle.surf_soup.specs.Pairs.{HasTwoFaces};
 ghost use Rattle.surf_soup.specs.Vertices.{all_corners, AllMet};
@@ -40,35 +42,33 @@ pub struct Pinch {
     pub second: FaceId,
 }
 
-// The soup with the face, the mate and the edge of each side.
+// The soup with the face and the mate of each side.
 #[derive(Drop)]
 struct Darts<'t> {
     soup: &'t Soup,
     face_of: &'t SideFaces,
     mate: &'t [SideId],
-    edge_of: &'t [u32],
 }
 
-// The darts of a soup whose sides are in pairs.
-fn darts_of<'t>(soup: &'t Soup, pairing: &'t Pairing) -> Darts<'t>
+// The darts of a soup whose sides have mates.
+fn darts_of<'t>(soup: &'t Soup, mate: &'t [SideId], face_of: &'t SideFaces) -> Darts<'t>
     requires two { HasTwoFaces soup.now }
-    requires pairing { IsPairingOf soup.now pairing.now }
+    requires mates { AreAllMates soup.now mate.now }
+    requires faces { face_of.now ≡ owners 0 soup.now.faces }
     ensures soup { result.soup.now ≡ soup.now }
-    ensures tables { AreDartTables soup.now result.face_of.now result.mate.now result.edge_of.now }
+    ensures tables { AreDartTables soup.now result.face_of.now result.mate.now }
 {
     soup.law_of_soup();
     Darts {
         soup,
-        face_of: &pairing.face_of,
-        mate: &pairing.mate,
-        edge_of: &pairing.edge_of,
+        face_of,
+        mate,
     }
 }
 
 // The next side of a side, around its face.
 fn next_side(darts: &Darts<'_>, side: u32) -> u32
-    requires darts { AreDartTables darts.now.soup.now
-        darts.now.face_of.now darts.now.mate.now darts.now.edge_of.now }
+    requires darts { AreDartTables darts.now.soup.now darts.now.face_of.now darts.now.mate.now }
     requires side { side < side_count darts.now.soup.now }
     ensures { result ≡ slice_index (nexts darts.now.soup.now) side }
 {
@@ -78,8 +78,7 @@ fn next_side(darts: &Darts<'_>, side: u32) -> u32
 
 // The side before a side, around its face.
 fn side_before(darts: &Darts<'_>, side: u32) -> u32
-    requires darts { AreDartTables darts.now.soup.now
-        darts.now.face_of.now darts.now.mate.now darts.now.edge_of.now }
+    requires darts { AreDartTables darts.now.soup.now darts.now.face_of.now darts.now.mate.now }
     requires side { side < side_count darts.now.soup.now }
     ensures { result ≡ slice_index (befores darts.now.soup.now) side }
 {
@@ -89,8 +88,7 @@ fn side_before(darts: &Darts<'_>, side: u32) -> u32
 
 // Turns a dart to the next one at its vertex, and gives the corner at which that one stands.
 fn turn_dart(darts: &Darts<'_>, side: u32, head: bool) -> (u32, bool, u32)
-    requires darts { AreDartTables darts.now.soup.now
-        darts.now.face_of.now darts.now.mate.now darts.now.edge_of.now }
+    requires darts { AreDartTables darts.now.soup.now darts.now.face_of.now darts.now.mate.now }
     requires side { side < side_count darts.now.soup.now }
     ensures dart { (result.0, result.1) ≡ turn_of (nexts darts.now.soup.now)
         (befores darts.now.soup.now) darts.now.mate.now (all_corners darts.now.soup.now)
@@ -111,8 +109,7 @@ fn turn_dart(darts: &Darts<'_>, side: u32, head: bool) -> (u32, bool, u32)
 
 // Goes round a vertex from one of its sides, and marks the sides that it meets.
 fn mark_round(darts: &Darts<'_>, home: SideId, seen: &mut [bool])
-    requires darts { AreDartTables darts.now.soup.now
-        darts.now.face_of.now darts.now.mate.now darts.now.edge_of.now }
+    requires darts { AreDartTables darts.now.soup.now darts.now.face_of.now darts.now.mate.now }
     requires home { home < side_count darts.now.soup.now }
     requires size { length seen.old ≡ side_count darts.now.soup.now }
     requires fresh { (s : ℕ) → BeginsAt darts.now.soup.now
@@ -131,19 +128,20 @@ fn mark_round(darts: &Darts<'_>, home: SideId, seen: &mut [bool])
 // Goes round a vertex from one of its sides, and lists the sides and the edges that it meets.
 fn go_round(
     darts: &Darts<'_>,
+    edge_of: &[u32],
     home: SideId,
     seen: &mut [bool],
     sides: &mut Vec<SideId>,
     edges: &mut Vec<EdgeId>,
 ) -> Result<(), NoMemory>
-    requires darts { AreDartTables darts.now.soup.now
-        darts.now.face_of.now darts.now.mate.now darts.now.edge_of.now }
+    requires darts { AreDartTables darts.now.soup.now darts.now.face_of.now darts.now.mate.now }
+    requires numbers { AreEdgeNumbers darts.now.soup.now edge_of.now }
     requires home { home < side_count darts.now.soup.now }
     requires size { length seen.old ≡ side_count darts.now.soup.now }
     requires fresh { (s : ℕ) → BeginsAt darts.now.soup.now
         (slice_index (all_corners darts.now.soup.now) home) s → marked seen.old s ≡ false }
     ensures { OnOk result (IsRoundListed darts.now.soup.now darts.now.mate.now
-        darts.now.edge_of.now home seen.old seen.new
+        edge_of.now home seen.old seen.new
         sides.old.items sides.new.items edges.old.items edges.new.items) }
 {
     let mut side = side_before(darts, home.number());
@@ -152,7 +150,7 @@ fn go_round(
     while !seen[corner as usize] {
         seen[corner as usize] = true;
         sides.push(SideId::new(corner))?;
-        edges.push(EdgeId::new(darts.edge_of[side as usize]))?;
+        edges.push(EdgeId::new(edge_of[side as usize]))?;
         (side, head, corner) = turn_dart(darts, side, head);
     }
     Ok(())
@@ -176,8 +174,7 @@ pub fn first_left(row: &[SideId], seen: &[bool]) -> Option<usize>
 
 // Goes round each vertex in turn, from the first of its sides, and marks the sides that are met.
 fn mark_rounds(darts: &Darts<'_>, first: &[SideId], seen: &mut [bool])
-    requires darts { AreDartTables darts.now.soup.now
-        darts.now.face_of.now darts.now.mate.now darts.now.edge_of.now }
+    requires darts { AreDartTables darts.now.soup.now darts.now.face_of.now darts.now.mate.now }
     requires first { AreFirstSides darts.now.soup.now first.now }
     requires met { AllMet darts.now.soup.now }
     requires fresh { seen.old ≡ replicate (side_count darts.now.soup.now) false }
@@ -192,11 +189,12 @@ fn mark_rounds(darts: &Darts<'_>, first: &[SideId], seen: &mut [bool])
 fn go_rings(
     alloc: Global,
     darts: &Darts<'_>,
+    edge_of: &[u32],
     first: &[SideId],
     seen: &mut [bool],
 ) -> Result<PairedRows<SideId, EdgeId>, NoMemory>
-    requires darts { AreDartTables darts.now.soup.now
-        darts.now.face_of.now darts.now.mate.now darts.now.edge_of.now }
+    requires darts { AreDartTables darts.now.soup.now darts.now.face_of.now darts.now.mate.now }
+    requires numbers { AreEdgeNumbers darts.now.soup.now edge_of.now }
     requires first { AreFirstSides darts.now.soup.now first.now }
     requires met { AllMet darts.now.soup.now }
     requires fresh { seen.old ≡ replicate (side_count darts.now.soup.now) false }
@@ -210,7 +208,7 @@ fn go_rings(
     let mut edges = Vec::with_capacity(alloc, room)?;
     let mut ends = Vec::with_capacity(alloc, first.len())?;
     for home in first {
-        go_round(darts, *home, seen, &mut sides, &mut edges)?;
+        go_round(darts, edge_of, *home, seen, &mut sides, &mut edges)?;
         ends.push(sides.len() as u32)?;
     }
     Ok(PairedRows::from_parts(sides, edges, ends))
@@ -241,8 +239,7 @@ fn least_left(soup: &Soup, seen: &[bool]) -> Option<(VertexId, SideId)>
 
 // The pinch at the least vertex with a side that no round met.
 fn pinch_left(darts: &Darts<'_>, first: &[SideId], seen: &[bool]) -> Option<Pinch>
-    requires darts { AreDartTables darts.now.soup.now
-        darts.now.face_of.now darts.now.mate.now darts.now.edge_of.now }
+    requires darts { AreDartTables darts.now.soup.now darts.now.face_of.now darts.now.mate.now }
     requires first { AreFirstSides darts.now.soup.now first.now }
     requires met { AllMet darts.now.soup.now }
     requires size { length seen.now ≡ side_count darts.now.soup.now }
@@ -265,8 +262,7 @@ fn pinch_left(darts: &Darts<'_>, first: &[SideId], seen: &[bool]) -> Option<Pinc
 
 // The pinch at the least vertex that has one, by marks of the sides that rounds meet.
 fn pinch_by(darts: &Darts<'_>, first: &[SideId], seen: &mut [bool]) -> Option<Pinch>
-    requires darts { AreDartTables darts.now.soup.now
-        darts.now.face_of.now darts.now.mate.now darts.now.edge_of.now }
+    requires darts { AreDartTables darts.now.soup.now darts.now.face_of.now darts.now.mate.now }
     requires first { AreFirstSides darts.now.soup.now first.now }
     requires met { AllMet darts.now.soup.now }
     requires fresh { seen.old ≡ replicate (side_count darts.now.soup.now) false }
@@ -283,17 +279,18 @@ fn pinch_by(darts: &Darts<'_>, first: &[SideId], seen: &mut [bool]) -> Option<Pi
 fn judge_rings(
     alloc: Global,
     darts: &Darts<'_>,
+    edge_of: &[u32],
     first: &[SideId],
     seen: &mut [bool],
 ) -> Result<Rings, NoMemory>
-    requires darts { AreDartTables darts.now.soup.now
-        darts.now.face_of.now darts.now.mate.now darts.now.edge_of.now }
+    requires darts { AreDartTables darts.now.soup.now darts.now.face_of.now darts.now.mate.now }
+    requires numbers { AreEdgeNumbers darts.now.soup.now edge_of.now }
     requires first { AreFirstSides darts.now.soup.now first.now }
     requires met { AllMet darts.now.soup.now }
     requires fresh { seen.old ≡ replicate (side_count darts.now.soup.now) false }
     ensures { IfOk result (λ r. AreRings darts.now.soup.now r) }
 {
-    let rings = go_rings(alloc, darts, first, seen)?;
+    let rings = go_rings(alloc, darts, edge_of, first, seen)?;
     match pinch_left(darts, first, seen) {
         None => Ok(Rings::All(rings)),
         Some(Pinch { v, first, second }) => Ok(Rings::Pinched { v, first, second }),
@@ -317,9 +314,9 @@ pub fn find_rings(
     ensures { IfOk result (λ r. AreRings soup.now r) }
 {
     soup.law_of_soup();
-    let darts = darts_of(soup, pairing);
+    let darts = darts_of(soup, &pairing.mate, &pairing.face_of);
     let mut seen = vec![in alloc; false; soup.side_count() as usize]?;
-    let rings = judge_rings(alloc, &darts, first, &mut seen)?;
+    let rings = judge_rings(alloc, &darts, &pairing.edge_of, first, &mut seen)?;
     Ok(rings)
 }
 
@@ -338,8 +335,27 @@ pub fn find_pinch(
     ensures { IfOk result (λ found. MatchOption found ((v : ℕ) → v < soup.now.vertices →
         HasOneFan soup.now v) (λ p. IsLeastPinch soup.now p.v p.first p.second)) }
 {
+    find_pinch_by(alloc, soup, &pairing.mate, &pairing.face_of, first)
+}
+
+/// The same by the mates and the faces of sides alone.
+pub fn find_pinch_by(
+    alloc: Global,
+    soup: &Soup,
+    mate: &[SideId],
+    face_of: &SideFaces,
+    first: &[SideId],
+) -> Result<Option<Pinch>, NoMemory>
+    requires two { HasTwoFaces soup.now }
+    requires mates { AreAllMates soup.now mate.now }
+    requires faces { face_of.now ≡ owners 0 soup.now.faces }
+    requires first { AreFirstSides soup.now first.now }
+    requires met { AllMet soup.now }
+    ensures { IfOk result (λ found. MatchOption found ((v : ℕ) → v < soup.now.vertices →
+        HasOneFan soup.now v) (λ p. IsLeastPinch soup.now p.v p.first p.second)) }
+{
     soup.law_of_soup();
-    let darts = darts_of(soup, pairing);
+    let darts = darts_of(soup, mate, face_of);
     let mut seen = vec![in alloc; false; soup.side_count() as usize]?;
     let found = pinch_by(&darts, first, &mut seen);
     Ok(found)

@@ -12,7 +12,7 @@ go_round-requires-clause-home c =
     let v = c.loop-home.home-index in
     let lt : v < mesh.vertices = omega (arith, c.loop-home-test.true, c.requires.first.size) in
     let read = get_or_read first v c.home-item.result c.loop-home-test.true c.home-item.is 0 in
-    let b = first_side_at mesh c.args.darts.now.face_of.now c.args.darts.now.mate.now c.args.darts.now.edge_of.now
+    let b = first_side_at mesh c.args.darts.now.face_of.now c.args.darts.now.mate.now c.args.edge_of.now
     c.requires.darts first v c.requires.first c.requires.met lt in
     omega (arith, b.0, read)
 
@@ -23,7 +23,7 @@ go_round-requires-clause-fresh c = λ s b.
     let v = c.loop-home.home-index in
     let lt : v < mesh.vertices = omega (arith, c.loop-home-test.true, c.requires.first.size) in
     let read = get_or_read first v c.home-item.result c.loop-home-test.true c.home-item.is 0 in
-    let at = first_side_at mesh c.args.darts.now.face_of.now c.args.darts.now.mate.now c.args.darts.now.edge_of.now
+    let at = first_side_at mesh c.args.darts.now.face_of.now c.args.darts.now.mate.now c.args.edge_of.now
     c.requires.darts first v c.requires.first c.requires.met lt in
     c.loop-home.invariant.marks.fresh v s (omega arith) (b.0, b.1 ∙ ap (λ t. get_or (all_corners mesh) t 0) read ∙ at.1)
 
@@ -37,13 +37,13 @@ loop-home-preserved c =
     let sides = c.go_round.new.sides.items in
     let ends : c.push.new.self.items ≡ c.loop-home.ends.items ++ length sides ∷ [] = search rules in
     let P : ℕ → Type 0 =
-    λ s. IsRoundListed mesh c.args.darts.now.mate.now c.args.darts.now.edge_of.now s c.loop-home.seen
+    λ s. IsRoundListed mesh c.args.darts.now.mate.now c.args.edge_of.now s c.loop-home.seen
     c.go_round.new.seen c.loop-home.sides.items sides c.loop-home.edges.items c.go_round.new.edges.items in
     let R : List ℕ → Type 0 = AreRingsListed mesh c.go_round.new.seen (v + 1) sides c.go_round.new.edges.items in
     subst R (sym ends) (rings_next mesh c.args.darts.now.face_of.now c.args.darts.now.mate.now
-    c.args.darts.now.edge_of.now c.requires.darts first v c.loop-home.seen c.go_round.new.seen
+    c.args.edge_of.now c.requires.darts first v c.loop-home.seen c.go_round.new.seen
     c.loop-home.sides.items sides c.loop-home.edges.items c.go_round.new.edges.items c.loop-home.ends.items
-    c.requires.first c.requires.met c.loop-home.invariant lt (subst P read c.in_ok-go_round.ensures))
+    c.requires.numbers c.requires.first c.requires.met c.loop-home.invariant lt (subst P read c.in_ok-go_round.ensures))
 
 pub returns-clause-fans : goal.returns-clause-fans
 returns-clause-fans c =

@@ -1,4 +1,4 @@
-use Rattle.std.proofs.Common.{◌≡◌, ◌<◌, ℕ, get_or, ap, subst, ◌∙◌, arith}
+use Rattle.std.proofs.Common.{[], ◌≡◌, ◌<◌, ℕ, get_or, ap, subst, ◌∙◌, arith}
 use Rattle.std.proofs.lemmas.List.{get_or_read}
 use Rattle.surf_soup.specs.Vertices.{all_corners}
 use Rattle.surf_soup.specs.Ring.{AreMarkedFans, IsRoundMarked}
@@ -12,7 +12,7 @@ mark_round-requires-clause-home c =
     let v = c.loop-home.home-index in
     let lt : v < mesh.vertices = omega (arith, c.loop-home-test.true, c.requires.first.size) in
     let read = get_or_read first v c.home-item.result c.loop-home-test.true c.home-item.is 0 in
-    let b = first_side_at mesh c.args.darts.now.face_of.now c.args.darts.now.mate.now c.args.darts.now.edge_of.now
+    let b = first_side_at mesh c.args.darts.now.face_of.now c.args.darts.now.mate.now []
     c.requires.darts first v c.requires.first c.requires.met lt in
     omega (arith, b.0, read)
 
@@ -23,7 +23,7 @@ mark_round-requires-clause-fresh c = λ s b.
     let v = c.loop-home.home-index in
     let lt : v < mesh.vertices = omega (arith, c.loop-home-test.true, c.requires.first.size) in
     let read = get_or_read first v c.home-item.result c.loop-home-test.true c.home-item.is 0 in
-    let at = first_side_at mesh c.args.darts.now.face_of.now c.args.darts.now.mate.now c.args.darts.now.edge_of.now
+    let at = first_side_at mesh c.args.darts.now.face_of.now c.args.darts.now.mate.now []
     c.requires.darts first v c.requires.first c.requires.met lt in
     c.loop-home.invariant.fresh v s (omega arith) (b.0, b.1 ∙ ap (λ t. get_or (all_corners mesh) t 0) read ∙ at.1)
 
@@ -36,7 +36,7 @@ loop-home-preserved c =
     let read = get_or_read first v c.home-item.result c.loop-home-test.true c.home-item.is 0 in
     let P : ℕ → Type 0 =
     λ s. IsRoundMarked mesh c.args.darts.now.mate.now s c.loop-home.seen c.mark_round.new.seen in
-    fans_next mesh c.args.darts.now.face_of.now c.args.darts.now.mate.now c.args.darts.now.edge_of.now
+    fans_next mesh c.args.darts.now.face_of.now c.args.darts.now.mate.now []
     c.requires.darts first v c.loop-home.seen c.mark_round.new.seen c.requires.first c.requires.met
     c.loop-home.invariant lt (subst P read c.mark_round.ensures)
 

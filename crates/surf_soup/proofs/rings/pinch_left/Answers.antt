@@ -1,4 +1,4 @@
-use Rattle.std.proofs.Common.{◌<◌, length, get_or, ap, refl, ◌∙◌, arith}
+use Rattle.std.proofs.Common.{[], ◌<◌, length, get_or, ap, refl, ◌∙◌, arith}
 use Rattle.std.proofs.lemmas.List.{get_or_read}
 use Rattle.surf_soup.proofs.Owners.{length-owners}
 use Rattle.surf_soup.proofs.VertexLaws.{corners_len}
@@ -18,7 +18,7 @@ at-requires c =
     let pinch = left_pinch mesh c.args.seen.now first _ _ c.requires.darts.is_mesh c.requires.fans c.requires.first
     c.in-Some.ensures in
     let lt : c.index.result < length first = omega (arith, pinch.is_vertex, c.index.ensures, c.requires.first.size) in
-    let begin = first_side_at mesh c.args.darts.now.face_of.now c.args.darts.now.mate.now c.args.darts.now.edge_of.now
+    let begin = first_side_at mesh c.args.darts.now.face_of.now c.args.darts.now.mate.now []
     c.requires.darts first c.index.result c.requires.first c.requires.met
     (omega (arith, pinch.is_vertex, c.index.ensures)) in
     let home = get_or_read first c.index.result c.index-first-index.result lt c.index-first-index.is 0 in
@@ -44,6 +44,6 @@ returns-in-Some c =
     let lt : c.index.result < length first = omega (arith, pinch.is_vertex, c.index.ensures, c.requires.first.size) in
     let home = get_or_read first c.index.result c.index-first-index.result lt c.index-first-index.is 0 in
     rw (c.at.ensures, c.at-in-Some.ensures)
-    (read_pinch mesh c.args.darts.now.face_of.now c.args.darts.now.mate.now c.args.darts.now.edge_of.now
+    (read_pinch mesh c.args.darts.now.face_of.now c.args.darts.now.mate.now
     c.requires.darts c.args.seen.now first c.requires.fans c.requires.first c.requires.met _ _
     c.index-first-index.result _ 0 0 c.in-Some.ensures (home ∙ ap (λ u. get_or first u 0) c.index.ensures) refl)

@@ -1,4 +1,4 @@
-use Rattle.std.proofs.Common.{◌≡◌, ◌<◌, eqb, length, get_or, ap, ◌∙◌, sym, arith}
+use Rattle.std.proofs.Common.{[], ◌≡◌, ◌<◌, eqb, length, get_or, ap, ◌∙◌, sym, arith}
 use Rattle.std.proofs.lemmas.List.{get_or_read}
 use Rattle.surf_surfaces.specs.SideNumber.{side_count}
 use Rattle.surf_soup.specs.Vertices.{all_corners}
@@ -82,7 +82,7 @@ returns-else-same-head-clause-corner c =
     let below : c.number-else-same-head.result < side_count mesh =
     omega (arith, m, across, c.index-darts-side.is, c.number-else-same-head.ensures) in
     same ∙ sym (ap (λ t. get_or (nexts mesh) t 0) c.side_before-before.ensures
-    ∙ (darts mesh c.args.darts.now.face_of.now c.args.darts.now.mate.now c.args.darts.now.edge_of.now
+    ∙ (darts mesh c.args.darts.now.face_of.now c.args.darts.now.mate.now []
     c.requires.darts).next_prev c.number-else-same-head.result
-    (inside mesh c.args.darts.now.face_of.now c.args.darts.now.mate.now c.args.darts.now.edge_of.now
+    (inside mesh c.args.darts.now.face_of.now c.args.darts.now.mate.now []
     c.requires.darts c.number-else-same-head.result below))

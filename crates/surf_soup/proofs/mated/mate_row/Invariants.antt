@@ -1,0 +1,9 @@
+use Rattle.std.proofs.Common.{◌+◌, ◌*◌, length, take}
+use Rattle.std.specs.List.{sum_by}
+use Rattle.surf_soup.specs.Pairing.{AreMatedUpto}
+use Rattle.surf_soup.proofs.mated.mate_row.Given as goal
+
+abbrev pub invariant-loop-k : goal.invariant-loop-k
+invariant-loop-k l =
+    AreMatedUpto l.soup (sum_by length (take l.vertex l.entries) + 2 * l.k) l.mates.mate.items l.mates.last
+    l.mates.greater.items

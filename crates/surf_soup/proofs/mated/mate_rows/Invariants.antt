@@ -1,0 +1,8 @@
+use Rattle.std.proofs.Common.{length, take}
+use Rattle.std.specs.List.{sum_by}
+use Rattle.surf_soup.specs.Pairing.{AreMatedUpto}
+use Rattle.surf_soup.proofs.mated.mate_rows.Given as goal
+
+abbrev pub invariant-loop-v : goal.invariant-loop-v
+invariant-loop-v l = 
+    AreMatedUpto l.soup (sum_by length (take l.v l.entries)) l.mates.mate.items l.mates.last l.mates.greater.items
