@@ -78,13 +78,21 @@ fn soup_of(alloc: Global, bytes: &[u8]) -> Result<Soup, Refused>
     Ok(soup)
 }
 
+// How large the room is that is let go before a mesh is checked, so that tables take the places of
+// those that went. Of a block of 2^25 bytes the C library learns nothing.
+const ROOM_TO_REUSE: usize = 31 << 20;
+
 /// The surface that faces are.
 pub(crate) fn surface_of(alloc: Global, soup: Soup) -> Result<HalfMesh, Refused>
     ensures { Takes (λ mesh. mesh) (IsSurfaceOf soup) result }
 {
+    reuse_room(alloc, ROOM_TO_REUSE);
     let mesh = check(alloc, soup)?;
     Ok(mesh)
 }
+
+// As large as this are tables whose places other tables take: all but those of the greatest meshes.
+const LARGE_TABLES: usize = 1 << 24;
 
 /// Where the parts of the text of a mesh stand, and the surface. Of the text the front that has the
 /// parts is kept.
@@ -106,6 +114,7 @@ pub(crate) fn read_front(
 {
     let (places, soup) = read_places(alloc, bytes)?;
     keep_front(&places, bytes);
+    reuse_room(alloc, LARGE_TABLES);
     let mesh = surface_of(alloc, soup)?;
     Ok((places, mesh))
 }
@@ -222,6 +231,7 @@ fn mesh_before_tables<S: Shelf>(
 fn bare_surface_of(alloc: Global, soup: Soup) -> Result<Surface, Refused>
     ensures { Takes (λ mesh. mesh) (IsSurfaceOf soup) result }
 {
+    reuse_room(alloc, ROOM_TO_REUSE);
     let mesh = check_surface(alloc, soup)?;
     Ok(mesh)
 }

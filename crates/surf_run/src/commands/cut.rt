@@ -11,9 +11,9 @@ use crate::limits::test_loops;
 use crate::reading::{read_file, read_front};
 use crate::weights::{base_of, read_measures};
 use std::alloc::Global;
-use surf_answers::{Answered, opened_at, opened_text};
+use surf_answers::{Answered, disc_at, disc_text};
 use surf_base::Shelf;
-use surf_cutter::Opened;
+use surf_cutter::OpenDisc;
 use surf_mesh::HalfMesh;
 use surf_texts::Refused;
 use surf_words::CutKind;
@@ -38,7 +38,7 @@ pub(crate) fn cut_open<S: Shelf>(
     let opened = open_surface(alloc, shelf, kind, &mesh, lengths, base)?;
     drop(mesh);
     let text = places.over(&bytes);
-    opened_text(alloc, &text, &opened)
+    disc_text(alloc, &text, &opened)
 }
 
 // The surface cut open, by a word for its lengths and a base.
@@ -49,7 +49,7 @@ fn open_surface<S: Shelf>(
     mesh: &HalfMesh,
     lengths: &str,
     base: u32,
-) -> Result<Opened, Refused>
+) -> Result<OpenDisc, Refused>
     ensures holds { S.holds shelf.new ≡ S.holds shelf.old }
     ensures later { S.faults shelf.old ≤ S.faults shelf.new }
     ensures tells { TakesOver (S.holds shelf.old) (S.faults shelf.old) (S.faults shelf.new)
@@ -60,5 +60,5 @@ fn open_surface<S: Shelf>(
     test_loops(mesh)?;
     let lengths = read_measures(alloc, shelf, Vec::new(alloc), mesh, lengths)?;
     let base = base_of(mesh, base)?;
-    opened_at(alloc, mesh, lengths, base, kind)
+    disc_at(alloc, mesh, lengths, base, kind)
 }

@@ -34,4 +34,4 @@ returns-clause-tells g c =
     ended (over (in_one_step c.args.kind parts read.mesh c.args.lengths.now c.args.base
     (past (over begun bytes.bytes.items refl bytes.ensures.tells bytes.ensures.later) (parts, read.mesh) read.ensures.tells))
     opened.opened bytes.ensures.holds opened.ensures.tells opened.ensures.later)
-    c.opened_text.result (subst (λ (p : OffParts). Concludes (GivesOpened p opened.opened) c.opened_text.result) is c.opened_text.ensures)
+    c.disc_text.result (subst (λ (p : OffParts). Concludes (GivesOpened p opened.opened) c.disc_text.result) is c.disc_text.ensures)

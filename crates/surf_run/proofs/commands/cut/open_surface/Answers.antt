@@ -23,4 +23,4 @@ pub returns-clause-tells : goal.returns-clause-tells
 returns-clause-tells g c =
     cut_open (g.S.Shelf.holds c.args.shelf.now) (g.S.Shelf.faults c.args.shelf.now) c.args.kind c.args.mesh.now c.args.lengths.now c.args.base
     c.in_ok-test_loops.ensures.tells _ _ c.in_ok-lengths.lengths refl c.in_ok-lengths.ensures.tells c.in_ok-lengths.ensures.later
-    c.in_ok-base.base c.in_ok-base.ensures.tells c.opened_at.result c.opened_at.ensures.tells
+    c.in_ok-base.base c.in_ok-base.ensures.tells c.disc_at.result c.disc_at.ensures.tells
