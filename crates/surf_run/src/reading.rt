@@ -11,8 +11,8 @@ ghost use Rattle.surf_base.specs.declared.limits.TheConstants.{MAX_TEXT};
 
 use std::alloc::Global;
 use surf_base::{FetchFault, LimitKind, MAX_TEXT, Shelf, fetch_into, reuse_room};
-use surf_check::{check, check_surface};
-use surf_mesh::{HalfMesh, Surface};
+use surf_check::{Kind, check, check_kind};
+use surf_mesh::HalfMesh;
 use surf_off::{OffPlaces, OffText, read_off, read_places, read_soup};
 use surf_soup::Soup;
 use surf_texts::Refused;
@@ -202,11 +202,7 @@ fn lasting_room(alloc: Global) -> Vec<u8>
 
 // The faces in the text of the file of a name. The text is kept no longer, and what is made next
 // takes its place.
-fn mesh_before_tables<S: Shelf>(
-    alloc: Global,
-    shelf: &mut S,
-    name: &str,
-) -> Result<Soup, Refused>
+fn mesh_before_tables<S: Shelf>(alloc: Global, shelf: &mut S, name: &str) -> Result<Soup, Refused>
     ensures holds { S.holds shelf.new ≡ S.holds shelf.old }
     ensures later { S.faults shelf.old ≤ S.faults shelf.new }
     ensures tells { TakesOver (S.holds shelf.old) (S.faults shelf.old) (S.faults shelf.new)
@@ -218,27 +214,23 @@ fn mesh_before_tables<S: Shelf>(
     mesh_through(alloc, shelf, name, &mut room)
 }
 
-// The surface that faces are, without its rings.
-fn bare_surface_of(alloc: Global, soup: Soup) -> Result<Surface, Refused>
-    ensures { Takes (λ mesh. mesh) (IsSurfaceOf soup) result }
+// The surface that faces are, for what asks only of its kind.
+fn kind_of(alloc: Global, soup: Soup) -> Result<Kind, Refused>
+    ensures { Takes (λ kind. kind) (IsSurfaceOf soup) result }
 {
-    let mesh = check_surface(alloc, soup)?;
-    Ok(mesh)
+    let kind = check_kind(alloc, soup)?;
+    Ok(kind)
 }
 
-/// The same surface without its rings, for what asks for none.
-pub(crate) fn bare_surface_at<S: Shelf>(
-    alloc: Global,
-    shelf: &mut S,
-    name: &str,
-) -> Result<Surface, Refused>
+/// The surface in the text of the file of a name, for what asks only of its kind.
+pub(crate) fn kind_at<S: Shelf>(alloc: Global, shelf: &mut S, name: &str) -> Result<Kind, Refused>
     ensures holds { S.holds shelf.new ≡ S.holds shelf.old }
     ensures later { S.faults shelf.old ≤ S.faults shelf.new }
     ensures tells { TakesOver (S.holds shelf.old) (S.faults shelf.old) (S.faults shelf.new)
-        (λ mesh. mesh) (IsTextAt IsSurfaceText name.now) result }
-    ensures held { IfOk result (λ mesh. (bytes : List ℕ) × (parts : OffParts)
-        × HoldsText IsSurfaceText (S.holds shelf.new) name.now bytes (parts, mesh)) }
+        (λ kind. kind) (IsTextAt IsSurfaceText name.now) result }
+    ensures held { IfOk result (λ kind. (bytes : List ℕ) × (parts : OffParts)
+        × HoldsText IsSurfaceText (S.holds shelf.new) name.now bytes (parts, kind)) }
 {
     let soup = mesh_before_tables(alloc, shelf, name)?;
-    bare_surface_of(alloc, soup)
+    kind_of(alloc, soup)
 }
