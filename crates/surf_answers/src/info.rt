@@ -1,4 +1,5 @@
 //! The counts of a surface.
+ghost use Rattle.std.specs.Prelude.{◌<◌, ◌^◌};
 ghost use Rattle.surf_check.specs.Growth.{flag_of};
 ghost use Rattle.surf_surfaces.specs.Homology.{IsFullCount};
 ghost use Rattle.surf_surfaces.specs.Surface.{IsTurning, IsTwoSided};
@@ -7,9 +8,9 @@ ghost use Rattle.surf_answers.specs.Tells.{Concludes};
 
 use crate::answered::Answered;
 use std::alloc::Global;
-use surf_check::{Sides, Turning, orient_surface, surface_characteristic, surface_genus};
+use surf_check::{Kind, Sides, Turning, orient_surface, surface_characteristic, surface_genus};
 use surf_mesh::Surface;
-use surf_texts::{Refused, counts_text, crosscaps_text, genus_text};
+use surf_texts::{Refused, counts_text, crosscaps_text, genus_text, kind_counts_text};
 
 /// The counts of a surface, its characteristic, and its genus or its crosscaps.
 pub fn info_of(alloc: Global, mesh: &Surface) -> Result<Answered, Refused>
@@ -46,6 +47,52 @@ fn one_sided(alloc: Global, mesh: &Surface) -> Result<Answered, Refused>
     let shape = crosscaps_text(alloc, surface_characteristic(mesh), loop_count(mesh))?;
     text.push_str(shape.as_str())?;
     Ok(Answered::yes(text.into_bytes()))
+}
+
+/// The same of a surface of which only the kind is kept.
+pub fn kind_info_of(alloc: Global, kind: &Kind) -> Result<Answered, Refused>
+    ensures { Concludes (Informs kind.now) result }
+{
+    if kind.is_two_sided(alloc)? {
+        two_sided_kind(alloc, kind)
+    } else {
+        one_sided_kind(alloc, kind)
+    }
+}
+
+// The answer for a two-sided surface of which only the kind is kept.
+fn two_sided_kind(alloc: Global, kind: &Kind) -> Result<Answered, Refused>
+    requires { IsTwoSided kind.now }
+    ensures { Concludes (HasGenus kind.now) result }
+{
+    kind.law_of_kind();
+    let mut text = kind_counts_text(alloc, kind)?;
+    let genus = (kind_loop_count(kind) / 2) as u32;
+    let shape = genus_text(alloc, kind.characteristic(), genus)?;
+    text.push_str(shape.as_str())?;
+    Ok(Answered::yes(text.into_bytes()))
+}
+
+// The answer for a one-sided surface of which only the kind is kept.
+fn one_sided_kind(alloc: Global, kind: &Kind) -> Result<Answered, Refused>
+    requires { IsTwoSided kind.now → ⊥ }
+    ensures { Concludes (HasCrosscaps kind.now) result }
+{
+    let mut text = kind_counts_text(alloc, kind)?;
+    let shape = crosscaps_text(alloc, kind.characteristic(), kind_loop_count(kind))?;
+    text.push_str(shape.as_str())?;
+    Ok(Answered::yes(text.into_bytes()))
+}
+
+// How many independent loops there are: 2 minus the characteristic.
+fn kind_loop_count(kind: &Kind) -> u64
+    ensures loops { IsFullCount kind.now result }
+    ensures few { result < 2 ^ 32 }
+{
+    kind.law_of_kind();
+    let edges = kind.edges() as u64;
+    let cells = kind.vertices() as u64 + kind.faces() as u64;
+    edges + 2 - cells
 }
 
 /// How many independent loops a surface has: 2 minus its characteristic.

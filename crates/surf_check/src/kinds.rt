@@ -1,5 +1,6 @@
 //! Surfaces of which no more is kept than tells their kind.
 ghost use Rattle.std.specs.Prelude.{◌≡◌, ◌≢◌, ◌<◌, ◌^◌, IfOk, IfErr, MatchBool};
+ghost use Rattle.surf_surfaces.specs.Mesh.{characteristic};
 ghost use Rattle.surf_surfaces.specs.Surface.{IsSurface, IsTwoSided, edge_count, face_count};
 ghost use Rattle.surf_surfaces.specs.SideNumber.{side_count};
 ghost use Rattle.surf_check.specs.Fault.{IsSurfaceFault};
@@ -69,6 +70,16 @@ impl Kind {
             Kept::OneWay(soup) => soup.faces(),
             Kept::Other(mesh) => mesh.faces(),
         }
+    }
+
+    /// The number of vertices minus that of edges plus that of faces.
+    pub fn characteristic(&self) -> i64
+        ensures { result ≡ characteristic self.now }
+    {
+        let vertices = self.vertices() as i64;
+        let edges = self.edges() as i64;
+        let faces = self.faces() as i64;
+        vertices - edges + faces
     }
 
     /// What every surface of this type keeps: it is a surface, and its sides are few. A caller

@@ -11,15 +11,15 @@ ghost use Rattle.surf_base.specs.declared.limits.TheConstants.{MAX_TEXT};
 
 use std::alloc::Global;
 use surf_base::{FetchFault, LimitKind, MAX_TEXT, Shelf, fetch_into, reuse_room};
-use surf_check::{check, check_surface};
-use surf_mesh::{HalfMesh, Surface};
+use surf_check::{Kind, check, check_kind};
+use surf_mesh::HalfMesh;
 use surf_off::{OffPlaces, OffText, read_off, read_places, read_soup};
 use surf_soup::Soup;
 use surf_texts::Refused;
 
-// How much room a text takes that is to leave its place to the tables of its mesh. A block of 2^25
-// bytes with its head is the greatest that `reuse_room` can make the C library keep in its heap.
-const TEXT_ROOM: usize = (1 << 25) - (1 << 13);
+// The most room that `reuse_room` can make the C library keep in its heap, where tables take the
+// places of those that went: a block of 2^25 bytes has a head too.
+const LASTING: usize = (1 << 25) - (1 << 13);
 
 /// The bytes of the file of a name, in place of those of an earlier text.
 pub(crate) fn read_into<S: Shelf>(
@@ -78,21 +78,14 @@ fn soup_of(alloc: Global, bytes: &[u8]) -> Result<Soup, Refused>
     Ok(soup)
 }
 
-// How large the room is that is let go before a mesh is checked, so that tables take the places of
-// those that went. Of a block of 2^25 bytes the C library learns nothing.
-const ROOM_TO_REUSE: usize = 31 << 20;
-
 /// The surface that faces are.
 pub(crate) fn surface_of(alloc: Global, soup: Soup) -> Result<HalfMesh, Refused>
     ensures { Takes (λ mesh. mesh) (IsSurfaceOf soup) result }
 {
-    reuse_room(alloc, ROOM_TO_REUSE);
+    reuse_room(alloc, LASTING);
     let mesh = check(alloc, soup)?;
     Ok(mesh)
 }
-
-// As large as this are tables whose places other tables take: all but those of the greatest meshes.
-const LARGE_TABLES: usize = 1 << 24;
 
 /// Where the parts of the text of a mesh stand, and the surface. Of the text the front that has the
 /// parts is kept.
@@ -114,7 +107,6 @@ pub(crate) fn read_front(
 {
     let (places, soup) = read_places(alloc, bytes)?;
     keep_front(&places, bytes);
-    reuse_room(alloc, LARGE_TABLES);
     let mesh = surface_of(alloc, soup)?;
     Ok((places, mesh))
 }
@@ -202,8 +194,8 @@ pub(crate) fn surface_through<S: Shelf>(
 fn lasting_room(alloc: Global) -> Vec<u8>
     ensures { result.items ≡ [] }
 {
-    reuse_room(alloc, TEXT_ROOM);
-    match Vec::with_capacity(alloc, TEXT_ROOM) {
+    reuse_room(alloc, LASTING);
+    match Vec::with_capacity(alloc, LASTING) {
         Ok(room) => room,
         Err(_) => Vec::new(alloc),
     }
@@ -211,11 +203,7 @@ fn lasting_room(alloc: Global) -> Vec<u8>
 
 // The faces in the text of the file of a name. The text is kept no longer, and what is made next
 // takes its place.
-fn mesh_before_tables<S: Shelf>(
-    alloc: Global,
-    shelf: &mut S,
-    name: &str,
-) -> Result<Soup, Refused>
+fn mesh_before_tables<S: Shelf>(alloc: Global, shelf: &mut S, name: &str) -> Result<Soup, Refused>
     ensures holds { S.holds shelf.new ≡ S.holds shelf.old }
     ensures later { S.faults shelf.old ≤ S.faults shelf.new }
     ensures tells { TakesOver (S.holds shelf.old) (S.faults shelf.old) (S.faults shelf.new)
@@ -227,28 +215,23 @@ fn mesh_before_tables<S: Shelf>(
     mesh_through(alloc, shelf, name, &mut room)
 }
 
-// The surface that faces are, without its rings.
-fn bare_surface_of(alloc: Global, soup: Soup) -> Result<Surface, Refused>
-    ensures { Takes (λ mesh. mesh) (IsSurfaceOf soup) result }
+// The surface that faces are, for what asks only of its kind.
+fn kind_of(alloc: Global, soup: Soup) -> Result<Kind, Refused>
+    ensures { Takes (λ kind. kind) (IsSurfaceOf soup) result }
 {
-    reuse_room(alloc, ROOM_TO_REUSE);
-    let mesh = check_surface(alloc, soup)?;
-    Ok(mesh)
+    let kind = check_kind(alloc, soup)?;
+    Ok(kind)
 }
 
-/// The same surface without its rings, for what asks for none.
-pub(crate) fn bare_surface_at<S: Shelf>(
-    alloc: Global,
-    shelf: &mut S,
-    name: &str,
-) -> Result<Surface, Refused>
+/// The surface in the text of the file of a name, for what asks only of its kind.
+pub(crate) fn kind_at<S: Shelf>(alloc: Global, shelf: &mut S, name: &str) -> Result<Kind, Refused>
     ensures holds { S.holds shelf.new ≡ S.holds shelf.old }
     ensures later { S.faults shelf.old ≤ S.faults shelf.new }
     ensures tells { TakesOver (S.holds shelf.old) (S.faults shelf.old) (S.faults shelf.new)
-        (λ mesh. mesh) (IsTextAt IsSurfaceText name.now) result }
-    ensures held { IfOk result (λ mesh. (bytes : List ℕ) × (parts : OffParts)
-        × HoldsText IsSurfaceText (S.holds shelf.new) name.now bytes (parts, mesh)) }
+        (λ kind. kind) (IsTextAt IsSurfaceText name.now) result }
+    ensures held { IfOk result (λ kind. (bytes : List ℕ) × (parts : OffParts)
+        × HoldsText IsSurfaceText (S.holds shelf.new) name.now bytes (parts, kind)) }
 {
     let soup = mesh_before_tables(alloc, shelf, name)?;
-    bare_surface_of(alloc, soup)
+    kind_of(alloc, soup)
 }

@@ -27,6 +27,6 @@ pub use evidence::{right_line, wrong_line};
 pub use loops::{put_loop, put_loops_head};
 pub use numbers::put_line;
 pub use refusal::Refused;
-pub use summaries::{counts_text, crosscaps_text, genus_text, measures_text};
+pub use summaries::{counts_text, crosscaps_text, genus_text, kind_counts_text, measures_text};
 pub use verdicts::{basis_line, fault_line, loops_line};
 pub use walks::WalkFile;

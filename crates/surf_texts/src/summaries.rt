@@ -1,16 +1,30 @@
 //! The counts and the measures of surfaces as texts.
 ghost use Rattle.std.specs.Prelude.{◌≡◌, string_bytes, IfOk};
-ghost use Rattle.surf_texts.specs.SummaryTexts.{mesh_counts, genus_text, crosscaps_text, measures_text};
+ghost use Rattle.surf_texts.specs.SummaryTexts.{counts_text, mesh_counts, genus_text, crosscaps_text, measures_text};
 
 use std::alloc::{AllocError, Global};
+use surf_check::Kind;
 use surf_mesh::Surface;
+
+// So many vertices, edges and faces.
+fn count_lines(alloc: Global, vertices: u32, edges: u32, faces: u32) -> Result<String, AllocError>
+    ensures { IfOk result (λ text. string_bytes text ≡ counts_text vertices edges faces) }
+{
+    format!(in alloc; "vertices {vertices}\nedges {edges}\nfaces {faces}\n")
+}
 
 /// How many vertices, edges and faces a surface has.
 pub fn counts_text(alloc: Global, mesh: &Surface) -> Result<String, AllocError>
     ensures { IfOk result (λ text. string_bytes text ≡ mesh_counts mesh.now) }
 {
-    let (v, e, f) = (mesh.vertices(), mesh.edges(), mesh.faces());
-    format!(in alloc; "vertices {v}\nedges {e}\nfaces {f}\n")
+    count_lines(alloc, mesh.vertices(), mesh.edges(), mesh.faces())
+}
+
+/// The same of a surface of which only the kind is kept.
+pub fn kind_counts_text(alloc: Global, kind: &Kind) -> Result<String, AllocError>
+    ensures { IfOk result (λ text. string_bytes text ≡ mesh_counts kind.now) }
+{
+    count_lines(alloc, kind.vertices(), kind.edges(), kind.faces())
 }
 
 /// The characteristic and the genus of a surface.

@@ -4,9 +4,9 @@ ghost use Rattle.surf_words.specs.Words.{info};
 ghost use Rattle.surf_answers.specs.Tells.{ConcludesOver};
 ghost use Rattle.surf_run.specs.Commands.{OnRequest};
 
-use crate::reading::bare_surface_at;
+use crate::reading::kind_at;
 use std::alloc::Global;
-use surf_answers::{Answered, info_of};
+use surf_answers::{Answered, kind_info_of};
 use surf_base::Shelf;
 use surf_texts::Refused;
 
@@ -22,6 +22,6 @@ pub(crate) fn inform<S: Shelf>(
     ensures tells { ConcludesOver (S.holds shelf.old) (S.faults shelf.old) (S.faults shelf.new)
         (OnRequest (Some (info mesh.now))) result }
 {
-    let mesh = bare_surface_at(alloc, shelf, mesh)?;
-    info_of(alloc, &mesh)
+    let kind = kind_at(alloc, shelf, mesh)?;
+    kind_info_of(alloc, &kind)
 }

@@ -1,5 +1,5 @@
 use Rattle.surf_run.proofs.TextsAt.{mesh_failed, surface_taken}
-use Rattle.surf_run.proofs.reading.bare_surface_at.Goals as goal
+use Rattle.surf_run.proofs.reading.kind_at.Goals as goal
 
 pub returns-in_err-soup-clause-tells : goal.returns-in_err-soup-clause-tells
 returns-in_err-soup-clause-tells g c =
@@ -9,5 +9,5 @@ returns-in_err-soup-clause-tells g c =
 pub returns-clause-tells : goal.returns-clause-tells
 returns-clause-tells g c =
     let soup = c.in_ok-soup in
-    surface_taken _ _ (g.S.Shelf.holds c.args.shelf.now) c.args.name.now soup.soup soup.ensures.tells c.bare_surface_of.result
-    c.bare_surface_of.ensures
+    surface_taken _ _ (g.S.Shelf.holds c.args.shelf.now) c.args.name.now soup.soup soup.ensures.tells c.kind_of.result
+    c.kind_of.ensures

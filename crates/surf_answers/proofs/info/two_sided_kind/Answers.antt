@@ -1,0 +1,22 @@
+use Rattle.std.proofs.Common.{◌*◌, ◌/◌, arith}
+use Rattle.std.proofs.lemmas.Grind.{common_steps}
+use Rattle.surf_turnings.proofs.GenusLaws.{genus_is_full_count}
+use Rattle.surf_answers.specs.Info.{HasGenus}
+use Rattle.surf_answers.proofs.Saying.{ends_as}
+use Rattle.surf_answers.proofs.info.two_sided_kind.Goals as goal
+
+pub returns : goal.returns
+returns c =
+    let mesh = c.args.kind.now in
+    let loops = c.kind_loop_count.result in
+    ends_as (HasGenus mesh) c.yes.result _ c.yes.ensures
+    (record {
+      two_sided = c.requires;
+      genus = loops / 2;
+      twice = omega (
+        arith,
+        c.kind_loop_count.ensures.loops,
+        genus_is_full_count mesh c.requires.0 c.law_of_kind.ensures.surface c.requires.1,
+      );
+      text = grind (arith, common_steps);
+    })
