@@ -10,7 +10,7 @@ ghost use Rattle.surf_text.specs.Pages.{Puts};
 use crate::answered::Answered;
 use std::alloc::Global;
 use surf_base::{FaceId, MAX_ANSWER, NoMemory, VertexId};
-use surf_cutter::{OpenDisc, Opened, cut_outside, disc_outside};
+use surf_cutter::{OpenDisc, disc_outside};
 use surf_lengths::Lengths;
 use surf_loops::BaseLoops;
 use surf_mesh::HalfMesh;
@@ -19,29 +19,7 @@ use surf_text::{Page, PageFault, Slip};
 use surf_texts::Refused;
 use surf_words::CutKind;
 
-/// A surface cut open at a base.
-pub fn opened_at(
-    alloc: Global,
-    mesh: &HalfMesh,
-    lengths: Lengths,
-    base: VertexId,
-    kind: CutKind,
-) -> Result<Opened, Refused>
-    requires lengths { length lengths ≡ edge_count mesh.now }
-    requires base { base < mesh.now.vertices }
-    ensures tells { Takes (λ opened. opened) (CutsAt (is_trimmed kind) mesh.now lengths base)
-        result }
-    ensures lines { IfOk result (λ opened. All (λ v. v < mesh.now.vertices) opened.origins) }
-    ensures faces { IfOk result (λ opened. length opened.faces ≡ face_count mesh.now) }
-{
-    let held = held_at(alloc, mesh, &lengths, base)?;
-    let opened = cut_outside(alloc, mesh, held, trims(kind))?;
-    // (in their place a table of the opening would part what is free for the text)
-    drop(lengths);
-    Ok(opened)
-}
-
-/// The same surface without the border of the disc, for its text.
+/// A surface cut open at a base, along the full cut or the trimmed one.
 pub fn disc_at(
     alloc: Global,
     mesh: &HalfMesh,
@@ -96,15 +74,6 @@ fn held_at(
     Ok(loops.into_held())
 }
 
-/// The text of an opened surface, with the lines and colours of the text that it was read from.
-pub fn opened_text(alloc: Global, text: &OffText<'_>, opened: &Opened) -> Result<Answered, Refused>
-    requires lines { All (λ v. v < length text.now.vertex_lines) opened.now.origins }
-    requires colours { length opened.now.faces ≡ length text.now.colours }
-    ensures { Concludes (GivesOpened text.now opened.now) result }
-{
-    disc_text(alloc, text, opened.disc())
-}
-
 // How many digits a number has.
 fn digits_of(number: usize) -> usize
     ensures few { result ≤ 64 }
@@ -154,8 +123,7 @@ fn text_room(text: &OffText<'_>, opened: &OpenDisc) -> usize
         .saturating_add(comments)
 }
 
-/// The text of an opened surface whose border isn't asked for, with the lines and colours of the
-/// text that it was read from.
+/// The text of an opened surface, with the lines and colours of the text that it was read from.
 pub fn disc_text(alloc: Global, text: &OffText<'_>, opened: &OpenDisc) -> Result<Answered, Refused>
     requires lines { All (λ v. v < length text.now.vertex_lines) opened.now.origins }
     requires colours { length opened.now.faces ≡ length text.now.colours }

@@ -25,7 +25,7 @@ pub use answered::{Answered, Verdict};
 pub use basis::basis_of;
 pub use certificates::{basis_cert_of, loop_cert_of};
 pub use classes::class_of;
-pub use cut::{disc_at, disc_text, opened_at, opened_text};
+pub use cut::{disc_at, disc_text};
 pub use cycle::cycle_of;
 pub use disc::{disc_of, not_disc};
 pub use distances::dist_of;

@@ -1,5 +1,5 @@
 -- Where no side begins with its mate, all faces run the same way.
-use Rattle.std.proofs.Common.{◌≡◌, ◌∙◌, ◌<◌, ℕ, Bool, true, false, eqb, List, get_or, refl, sym, ap}
+use Rattle.std.proofs.Common.{◌≡◌, ◌∙◌, ◌<◌, ℕ, false, eqb, List, get_or, refl, sym, ap}
 use Rattle.std.proofs.lemmas.Bool.{eq-eqb, ne_eqb, true≢false}
 use Rattle.surf_z2.specs.Parity.{xor}
 use Rattle.surf_surfaces.specs.Mesh.{Mesh, edges}

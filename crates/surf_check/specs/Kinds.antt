@@ -1,5 +1,5 @@
 -- Faces that all run the same way, and what is kept of a surface.
-use Rattle.std.specs.Prelude.{◌≡◌, ◌≢◌, ◌<◌, ℕ, false, List, get_or}
+use Rattle.std.specs.Prelude.{◌≡◌, ◌<◌, ℕ, false, List, get_or}
 use Rattle.surf_surfaces.specs.Mesh.{Mesh}
 use Rattle.surf_surfaces.specs.Surface.{IsSurface, IsTurning}
 use Rattle.surf_surfaces.specs.SideNumber.{side_count}

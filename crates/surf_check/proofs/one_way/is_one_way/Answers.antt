@@ -1,4 +1,4 @@
-use Rattle.std.proofs.Common.{◌≡◌, List, ℕ, sym, subst}
+use Rattle.std.proofs.Common.{List, ℕ, sym, subst}
 use Rattle.surf_surfaces.specs.Surface.{IsSurface}
 use Rattle.surf_soup.specs.Half.{AreAllMates}
 use Rattle.surf_check.proofs.OneWayLaws.{one_way, not_one_way}

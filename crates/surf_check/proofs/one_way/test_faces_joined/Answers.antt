@@ -1,4 +1,4 @@
-use Rattle.std.proofs.Common.{◌≡◌, ◌∙◌, ◌<◌, ℕ, List, Bool, false, get_or, length, sym, ap, arith}
+use Rattle.std.proofs.Common.{◌∙◌, List, Bool, false, get_or, length, sym, ap, arith}
 use Rattle.surf_check.specs.Descent.{HaveLesserNeighbours}
 use Rattle.surf_check.proofs.DescentLaws.{lesser_neighbours_join}
 use Rattle.surf_check.proofs.one_way.test_faces_joined.Goals as goal

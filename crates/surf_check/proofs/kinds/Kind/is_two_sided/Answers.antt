@@ -1,4 +1,4 @@
-use Rattle.std.proofs.Common.{◌≡◌, ◌∙◌, IfOk, Bool, false, sym, ap, subst}
+use Rattle.std.proofs.Common.{◌∙◌, IfOk, Bool, false, sym, ap, subst}
 use Rattle.std.specs.Bool.{MatchBool}
 use Rattle.surf_surfaces.specs.Mesh.{Mesh}
 use Rattle.surf_surfaces.specs.Surface.{IsTwoSided}
