@@ -6,7 +6,9 @@
 //! cycle, and that the faces are connected through edges. Each takes time linear in the number of
 //! sides, but for the sides at each lesser end, which are sorted, and the parents by which faces
 //! are joined where some vertex other than vertex 0 has no lesser neighbour. `check_surface`
-//! decides the same, and gives the surface without its rings, for what asks for none.
+//! decides the same, and gives the surface without its rings, for what asks for none. `check_kind`
+//! keeps no more than tells how many cells there are and whether there are two sides: where all
+//! faces run the same way, that is the faces.
 //!
 //! `characteristic` is the number of vertices minus that of edges plus that of faces. `orient`
 //! finds a turning, a flag for each face by which the two faces of each edge run it in opposite

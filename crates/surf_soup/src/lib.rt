@@ -14,13 +14,15 @@
 //! there, so `pair_sides` reads a [`Pairing`] off the rows in one pass: the edges, the lesser side
 //! of each, and the mate and the edge of each side. The edge table is built for any soup: one pass
 //! over the rows lists the edges, the sides of each and the edge of each side. `paired_sides` asks
-//! for it only where some edge hasn't two faces, to find the least. Where each face has three sides
-//! the face of a side is its number by three, and [`SideFaces`] keeps no table.
+//! for it only where some edge hasn't two faces, to find the least. `mated_sides` reads the mates
+//! alone off the rows, for what asks for no edges. Where each face has three sides the face of a
+//! side is its number by three, and [`SideFaces`] keeps no table.
 //!
 //! The functions behind `paired_sides` each decide one property of a surface and find the least
 //! place where it fails: `find_isolated`, `find_rings` and `find_apart`. A surface check calls them
 //! in turn and hands their tables to the mesh, so that nothing is built twice. Where no rings are
-//! wanted, `find_pinch` makes the same rounds as `find_rings` and lists nothing.
+//! wanted, `find_pinch` makes the same rounds as `find_rings` and lists nothing; `find_pinch_by`
+//! does so by mates alone.
 //!
 //! The tables are those of half-edges, as in D. E. Muller and F. P. Preparata, "Finding the
 //! intersection of two convex polyhedra" (1978). A ring is found by turning from each side to the
