@@ -70,12 +70,7 @@ fn join_mates(mates: &mut Mates, ends: (VertexId, VertexId), first: SideId, seco
 }
 
 // Joins the sides with a lesser end, if they come in pairs.
-fn mate_row(
-    soup: &Soup,
-    entries: &Rows<(VertexId, SideId)>,
-    vertex: u32,
-    mates: &mut Mates,
-) -> bool
+fn mate_row(soup: &Soup, entries: &Rows<(VertexId, SideId)>, vertex: u32, mates: &mut Mates) -> bool
     requires entries { AreSideEntries soup.now entries.now }
     requires vertex { vertex < soup.now.vertices }
     requires so_far { AreMated soup.now (sum_by length (take vertex entries.now)) mates.old }
@@ -119,11 +114,7 @@ fn soup_mates(alloc: Global, soup: &Soup) -> Result<Option<MatedSides>, NoMemory
 {
     soup.law_of_soup();
     let entries = side_entries(alloc, soup)?;
-    let mut mates = no_mates(
-        alloc,
-        soup.side_count() as usize,
-        soup.vertices() as usize,
-    )?;
+    let mut mates = no_mates(alloc, soup.side_count() as usize, soup.vertices() as usize)?;
     if mate_rows(soup, &entries, &mut mates) {
         let Mates { mate, greater, .. } = mates;
         Ok(Some(MatedSides { mate, greater }))

@@ -4,5 +4,5 @@ use Rattle.surf_soup.specs.Pairing.{AreMatedUpto}
 use Rattle.surf_soup.proofs.mated.mate_rows.Given as goal
 
 abbrev pub invariant-loop-v : goal.invariant-loop-v
-invariant-loop-v l = 
+invariant-loop-v l =
     AreMatedUpto l.soup (sum_by length (take l.v l.entries)) l.mates.mate.items l.mates.last l.mates.greater.items
