@@ -4,16 +4,17 @@
     bench/speed.py [--surf PROGRAM] [--beside NAME=WORDS ..] [--repeat N] [--limit SECONDS] [COMMAND ..]
 
 Builds the program (`rt run` in crates/surf), unless one is named, makes tori and chains with `surf gen`, and runs each
-command on them. A mesh that is `shuffled` is a torus whose vertices and faces are numbered anew at random. Seconds are of one processor (user and system, the least of the repeats). Megabytes are the most that was
-resident; those below this script's own (some 23) aren't seen, since a program starts as its copy. A run that takes
-more than the limit is `late`.
+command on them. A mesh that is `shuffled` is a torus whose vertices and faces are numbered anew at random. Seconds are
+of one processor (user and system, the least of the repeats). Megabytes are the most that was resident; those below this
+script's own (some 12) aren't seen, since a program starts as its copy. A run that takes more than the limit is `late`.
 
 `--beside` names another program and the words to start it by, as in `--beside fast='plain --fast'`. It takes the same
 words, and gets columns of its own: its seconds, its megabytes, and the ratio of ours to its seconds. Where its bytes are
 not ours, the ratio has `DIFFERS` after it; where it doesn't take the command, the columns are empty. Machines differ
-and are shared, so ratios say more than seconds.
+and are shared, so ratios say more than seconds, and the programs run in turn: a repeat is one run of each.
 """
 import argparse
+import filecmp
 import multiprocessing
 import os
 import random
@@ -35,7 +36,7 @@ CASES = [
     ("dist", LINEAR, [0, 1], None, "dist M L 0"),
     ("loops", LINEAR, [0, 1], None, "loops M L 0"),
     ("cut trim", LINEAR, [0, 1], None, "cut M L 0 trim"),
-    ("cut full", LINEAR, [0], None, "cut M L 0 full"),
+    ("cut full", LINEAR, [0, 1], None, "cut M L 0 full"),
     ("sew", TORI, [0], "cut M L 0 trim", "sew C"),
     ("class", TORI, [0], "walk", "class M C"),
     ("certify at a base", TORI, [0], None, "certify M L 0"),
@@ -80,15 +81,54 @@ def run(program, words, answer, limit):
     return usage.ru_utime + usage.ru_stime, usage.ru_maxrss / 1024
 
 
-def best(program, words, answer, options):
-    """The least seconds of the repeats, with the memory of that run."""
-    runs = []
-    for _ in range(options.repeat):
-        once = run(program, words, answer, options.limit)
+class Runner:
+    """A program that is measured, with the least seconds of its runs so far and the memory of that run."""
+
+    def __init__(self, program, answer):
+        self.program, self.answer = program, answer
+        self.least, self.is_late, self.is_refused = None, False, False
+
+    def turn(self, words, limit):
+        """Runs once more, unless an earlier run took too long or was refused."""
+        if self.is_late or self.is_refused:
+            return
+        try:
+            once = run(self.program, words, self.answer, limit)
+        except (Refused, OSError):
+            self.is_refused = True
+            return
         if once is None:
-            return None
-        runs.append(once)
-    return min(runs)
+            self.is_late = True
+        elif self.least is None or once < self.least:
+            self.least = once
+
+    def figures(self):
+        """Seconds and megabytes as they stand in the table."""
+        if self.is_refused:
+            return ["", ""]
+        if self.is_late:
+            return ["late", "-"]
+        seconds, megabytes = self.least
+        return [f"{seconds:.3f}" if seconds < 0.1 else f"{seconds:.2f}", f"{megabytes:.0f}"]
+
+
+def in_turn(programs, words, work, options):
+    """The programs, each run as often as there are repeats, one after the other."""
+    runners = [Runner(program, work / f"answer{place}") for place, program in enumerate(programs)]
+    for _ in range(options.repeat):
+        for runner in runners:
+            runner.turn(words, options.limit)
+    return runners
+
+
+def ratio(ours, other):
+    """How our seconds stand to another program's, and whether the answers differ."""
+    if other.is_refused:
+        return ""
+    if ours.is_late or other.is_late:
+        return "-"
+    same = filecmp.cmp(ours.answer, other.answer, shallow=False)
+    return f"{ours.least[0] / max(other.least[0], 0.001):.2f}" + ("" if same else " DIFFERS")
 
 
 def write_lengths(mesh, scatter, path):
@@ -185,34 +225,19 @@ def filled(words, names):
     return [part for word in words.split() for part in names.get(word, [word])]
 
 
-def figures(measured):
-    if measured is None:
-        return ["late", "-"]
-    return [f"{measured[0]:.3f}" if measured[0] < 0.1 else f"{measured[0]:.2f}", f"{measured[1]:.0f}"]
-
-
-def beside(program, ours, words, work, options):
-    """The columns of another program: its figures, and the ratio of our seconds to its."""
-    try:
-        other = best(program, words, work / "other", options)
-    except (Refused, OSError):
-        return ["", "", ""]
-    if ours is None or other is None:
-        return [*figures(other), "-"]
-    same = (work / "ours").read_bytes() == (work / "other").read_bytes()
-    return [*figures(other), f"{ours[0] / max(other[0], 0.001):.2f}" + ("" if same else " DIFFERS")]
-
-
 def rows(case, inputs, work, options):
     """The rows of one command, one for each mesh and scatter."""
     name, meshes, scatters, first, text = case
+    programs = [[str(inputs.surf)], *(program for _, program in options.beside)]
     for mesh in meshes:
         for scatter in scatters:
             words = filled(text, inputs.names(mesh, scatter, first))
-            ours = best([str(inputs.surf)], words, work / "ours", options)
-            row = [name, mesh, str(scatter) if scatter else "unit", *figures(ours)]
-            for _, program in options.beside:
-                row += beside(program, ours, words, work, options)
+            ours, *others = in_turn(programs, words, work, options)
+            if ours.is_refused:
+                sys.exit(f"{' '.join(words)}: refused")
+            row = [name, mesh, str(scatter) if scatter else "unit", *ours.figures()]
+            for other in others:
+                row += [*other.figures(), ratio(ours, other)]
             yield row
 
 
