@@ -38,25 +38,9 @@ pub fn cut_trim(alloc: Global, mesh: &HalfMesh, cotree: &CotreeDesk) -> Result<O
     open_outside(alloc, mesh, &mut flags, true)
 }
 
-/// The surface cut along the edges that a tree of its faces doesn't hold, all of them or trimmed.
-/// `held` has a flag for each edge that the tree holds, and is used up: the flags of the cut are
-/// made in its place.
-pub fn cut_outside(
-    alloc: Global,
-    mesh: &HalfMesh,
-    held: Vec<bool>,
-    trimmed: bool,
-) -> Result<Opened, NoMemory>
-    requires size { length held.items ≡ edge_count mesh.now }
-    requires held { IsHeld mesh.now held.items }
-    ensures chosen { IfOk result (λ o. IsChosenFor mesh.now held.items trimmed o) }
-    ensures opening { IfOk result (λ o. IsOpening mesh.now o.origins o.faces) }
-{
-    let mut flags = held;
-    open_outside(alloc, mesh, &mut flags, trimmed)
-}
-
-/// The same without the border of the disc, for what asks for none.
+/// The disc that the surface is opened to along the edges that a tree of its faces doesn't hold, all
+/// of them or trimmed, without its border. `held` has a flag for each edge that the tree holds, and
+/// is used up: the flags of the cut are made in its place.
 pub fn disc_outside(
     alloc: Global,
     mesh: &HalfMesh,

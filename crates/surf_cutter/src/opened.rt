@@ -111,13 +111,6 @@ impl Opened {
         Opened { disc, boundary }
     }
 
-    /// The same without its border.
-    pub fn disc(&self) -> &OpenDisc
-        ensures { result.now ≡ self.now }
-    {
-        &self.disc
-    }
-
     /// The vertex of the surface that a copy is of.
     pub fn origin(&self, copy: CopyId) -> VertexId
         requires { copy < length self.now.origins }
