@@ -1,7 +1,7 @@
 //! Least bases.
 ghost use Rattle.std.specs.Prelude.{◌≡◌, ◌+◌, ◌≤◌, length, map, sum, flat_map};
 ghost use Rattle.surf_basis.specs.Cycles.{as_loops};
-ghost use Rattle.surf_surfaces.specs.Surface.{edge_count, face_count};
+ghost use Rattle.surf_surfaces.specs.Surface.{edge_count, loop_count};
 ghost use Rattle.surf_texts.specs.CycleTexts.{cycles_text};
 ghost use Rattle.surf_texts.specs.Fills.{Fills};
 ghost use Rattle.surf_answers.specs.CycleTexts.{cycle_found_line};
@@ -21,7 +21,7 @@ use surf_texts::{Refused, put_cycle, put_cycles_head};
 /// A least basis of a surface.
 pub fn basis_of(alloc: Global, mesh: &HalfMesh, lengths: &Lengths) -> Result<Answered, Refused>
     requires lengths { length lengths.now ≡ edge_count mesh.now }
-    requires few { edge_count mesh.now + 2 ≤ mesh.now.vertices + face_count mesh.now + MAX_LOOPS }
+    requires few { loop_count mesh.now ≤ MAX_LOOPS }
     ensures { Concludes (GivesBasis mesh.now lengths.now) result }
 {
     mesh.law_of_surface();

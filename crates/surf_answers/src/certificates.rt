@@ -1,6 +1,6 @@
 //! Certificates of what is least.
 ghost use Rattle.std.specs.Prelude.{◌≡◌, ◌<◌, ◌≤◌, ◌+◌, length};
-ghost use Rattle.surf_surfaces.specs.Surface.{edge_count, face_count};
+ghost use Rattle.surf_surfaces.specs.Surface.{edge_count, loop_count};
 ghost use Rattle.surf_answers.specs.Certificates.{GivesLoopCert, GivesBasisCert};
 ghost use Rattle.surf_answers.specs.Tells.{Concludes};
 ghost use Rattle.surf_base.specs.declared.limits.TheConstants.{MAX_LOOPS};
@@ -38,7 +38,7 @@ pub fn loop_cert_of(
 /// A certificate that the cycles of the basis that is chosen are a least basis.
 pub fn basis_cert_of(alloc: Global, mesh: &HalfMesh, lengths: &Lengths) -> Result<Answered, Refused>
     requires lengths { length lengths.now ≡ edge_count mesh.now }
-    requires few { edge_count mesh.now + 2 ≤ mesh.now.vertices + face_count mesh.now + MAX_LOOPS }
+    requires few { loop_count mesh.now ≤ MAX_LOOPS }
     ensures { Concludes (GivesBasisCert mesh.now lengths.now) result }
 {
     mesh.law_of_surface();

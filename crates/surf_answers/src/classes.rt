@@ -3,7 +3,7 @@ ghost use Rattle.std.specs.Prelude.{◌≡◌, ◌≤◌, ◌+◌, IfOk};
 ghost use Rattle.std.specs.Option.{option_copied};
 ghost use Rattle.surf_class.specs.Seen.{seen};
 ghost use Rattle.surf_classes.specs.Evidence.{AreClosed, IsClassEvidence, IsEvidence, joint_parity};
-ghost use Rattle.surf_surfaces.specs.Surface.{edge_count, face_count};
+ghost use Rattle.surf_surfaces.specs.Surface.{loop_count};
 ghost use Rattle.surf_answers.specs.Classes.{null_word, odd_word, GivesClass};
 ghost use Rattle.surf_answers.specs.Tells.{Concludes};
 ghost use Rattle.surf_base.specs.declared.limits.TheConstants.{MAX_LOOPS};
@@ -36,7 +36,7 @@ pub fn class_of(
     first: &Walk,
     second: Option<&Walk>,
 ) -> Result<Answered, Refused>
-    requires few { edge_count mesh.now + 2 ≤ mesh.now.vertices + face_count mesh.now + MAX_LOOPS }
+    requires few { loop_count mesh.now ≤ MAX_LOOPS }
     requires closed { AreClosed mesh.now first.now (option_copied second) }
     ensures { Concludes (GivesClass mesh.now first.now (option_copied second.entry)) result }
 {
@@ -54,7 +54,7 @@ fn evidence_of(
     first: &Walk,
     second: Option<&Walk>,
 ) -> Result<Evidence, NoMemory>
-    requires few { edge_count mesh.now + 2 ≤ mesh.now.vertices + face_count mesh.now + MAX_LOOPS }
+    requires few { loop_count mesh.now ≤ MAX_LOOPS }
     requires closed { AreClosed mesh.now first.now (option_copied second) }
     ensures chosen { IfOk result (λ e. IsClassEvidence mesh.now (joint_parity mesh.now first.now
         (option_copied second.entry)) (seen e)) }

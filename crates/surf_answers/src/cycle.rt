@@ -1,6 +1,6 @@
 //! Shortest cycles.
 ghost use Rattle.std.specs.Prelude.{◌≡◌, ◌+◌, ◌≤◌, length};
-ghost use Rattle.surf_surfaces.specs.Surface.{edge_count, face_count};
+ghost use Rattle.surf_surfaces.specs.Surface.{edge_count, loop_count};
 ghost use Rattle.surf_texts.specs.Fills.{Fills};
 ghost use Rattle.surf_answers.specs.CycleTexts.{found_text};
 ghost use Rattle.surf_answers.specs.ShortestCycle.{GivesCycle};
@@ -19,7 +19,7 @@ use surf_texts::{Refused, put_cycle};
 /// A shortest simple cycle that doesn't separate a surface, or that there is none.
 pub fn cycle_of(alloc: Global, mesh: &HalfMesh, lengths: &Lengths) -> Result<Answered, Refused>
     requires lengths { length lengths.now ≡ edge_count mesh.now }
-    requires few { edge_count mesh.now + 2 ≤ mesh.now.vertices + face_count mesh.now + MAX_LOOPS }
+    requires few { loop_count mesh.now ≤ MAX_LOOPS }
     ensures { Concludes (GivesCycle mesh.now lengths.now) result }
 {
     mesh.law_of_surface();

@@ -1,6 +1,6 @@
 //! A desk with signatures.
 ghost use Rattle.std.specs.Prelude.{◌≡◌, ◌≤◌, ◌+◌, length, IfOk};
-ghost use Rattle.surf_surfaces.specs.Surface.{edge_count, face_count};
+ghost use Rattle.surf_surfaces.specs.Surface.{edge_count, loop_count};
 ghost use Rattle.surf_answers.specs.SignedDesks.{IsChosenDesk};
 ghost use Rattle.surf_base.specs.declared.limits.TheConstants.{MAX_LOOPS};
 
@@ -17,7 +17,7 @@ pub(crate) fn signed_desk(
     lengths: &Lengths,
 ) -> Result<LoopDesk, NoMemory>
     requires lengths { length lengths.now ≡ edge_count mesh.now }
-    requires few { edge_count mesh.now + 2 ≤ mesh.now.vertices + face_count mesh.now + MAX_LOOPS }
+    requires few { loop_count mesh.now ≤ MAX_LOOPS }
     ensures chosen { IfOk result (λ desk. IsChosenDesk mesh.now lengths.now desk.cotree) }
 {
     mesh.law_of_surface();

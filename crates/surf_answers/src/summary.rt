@@ -1,6 +1,6 @@
 //! What is found on a surface in short.
 ghost use Rattle.std.specs.Prelude.{◌≡◌, ◌<◌, ◌≤◌, ◌+◌, length, IfOk};
-ghost use Rattle.surf_surfaces.specs.Surface.{edge_count, face_count, loop_count};
+ghost use Rattle.surf_surfaces.specs.Surface.{edge_count, loop_count};
 ghost use Rattle.surf_answers.specs.Summaries.{BasisTotals, CycleMeasures, GivesSummary, LoopsTotal};
 ghost use Rattle.surf_answers.specs.Tells.{Concludes};
 ghost use Rattle.surf_base.specs.declared.limits.TheConstants.{MAX_LOOPS};
@@ -21,7 +21,7 @@ use surf_texts::{Refused, measures_text};
 pub fn summary_of(alloc: Global, mesh: &HalfMesh, lengths: &Lengths) -> Result<Answered, Refused>
     requires lengths { length lengths.now ≡ edge_count mesh.now }
     requires some { 0 < loop_count mesh.now }
-    requires few { edge_count mesh.now + 2 ≤ mesh.now.vertices + face_count mesh.now + MAX_LOOPS }
+    requires few { loop_count mesh.now ≤ MAX_LOOPS }
     ensures { Concludes (GivesSummary mesh.now lengths.now) result }
 {
     let mut answered = info_of(alloc, mesh.surface())?;
@@ -52,7 +52,7 @@ fn basis_measures(
 ) -> Result<(u128, u64), NoMemory>
     requires lengths { length lengths.now ≡ edge_count mesh.now }
     requires some { 0 < loop_count mesh.now }
-    requires few { edge_count mesh.now + 2 ≤ mesh.now.vertices + face_count mesh.now + MAX_LOOPS }
+    requires few { loop_count mesh.now ≤ MAX_LOOPS }
     ensures total { IfOk result (λ measures. BasisTotals mesh.now lengths.now measures.0) }
     ensures cycle { IfOk result (λ measures. CycleMeasures mesh.now lengths.now measures.1) }
 {

@@ -1,7 +1,7 @@
 //! Whether a certificate is valid for a surface and lengths.
 ghost use Rattle.std.specs.Prelude.{◌≡◌, ◌≢◌, ◌≤◌, ◌+◌, length};
 ghost use Rattle.surf_certcheck.specs.declared.fault.CertFault.TheVariants.{Memory};
-ghost use Rattle.surf_surfaces.specs.Surface.{edge_count, face_count};
+ghost use Rattle.surf_surfaces.specs.Surface.{edge_count, loop_count};
 ghost use Rattle.surf_texts.specs.Outcome.{answers};
 ghost use Rattle.surf_answers.specs.Tells.{Concludes};
 ghost use Rattle.surf_answers.specs.Verdicts.{JudgesBasis, JudgesCert, JudgesLoops};
@@ -25,7 +25,7 @@ pub fn judge(
     cert: &Cert,
 ) -> Result<Answered, Refused>
     requires lengths { length lengths.now ≡ edge_count mesh.now }
-    requires few { edge_count mesh.now + 2 ≤ mesh.now.vertices + face_count mesh.now + MAX_LOOPS }
+    requires few { loop_count mesh.now ≤ MAX_LOOPS }
     ensures { Concludes (JudgesCert mesh.now lengths.now cert.now) result }
 {
     match cert {
@@ -60,7 +60,7 @@ fn judge_basis(
     cert: &BasisCert,
 ) -> Result<Answered, Refused>
     requires lengths { length lengths.now ≡ edge_count mesh.now }
-    requires few { edge_count mesh.now + 2 ≤ mesh.now.vertices + face_count mesh.now + MAX_LOOPS }
+    requires few { loop_count mesh.now ≤ MAX_LOOPS }
     ensures { Concludes (JudgesBasis mesh.now lengths.now cert.now) result }
 {
     match check_basis(alloc, mesh, lengths, cert) {

@@ -5,8 +5,8 @@
 //! nodes, and an edge joins the two faces that it is a side of. Both are read from the tables of
 //! the mesh: nothing is copied.
 ghost use Rattle.std.specs.Prelude.{◌≡◌, ◌<◌, map, All};
-ghost use Rattle.surf_graphs.specs.Cells.{primal, dual};
-ghost use Rattle.surf_surfaces.specs.Surface.{face_count, edge_count, ends};
+ghost use Rattle.surf_graphs.specs.Cells.{primal};
+ghost use Rattle.surf_surfaces.specs.Surface.{edge_count, ends};
 ghost use Rattle.surf_surfaces.specs.Cells.{cells_of};
 ghost use Rattle.surf_surfaces.specs.SideNumber.{side_count};
 ghost use Rattle.surf_mesh.specs.Links.{IsRow, other_of, edge_link, side_link};
@@ -34,17 +34,7 @@ impl HalfMesh {
         if low == v { high } else { low }
     }
 
-    /// The sides of a face, as its links: `across` has the neighbour.
-    pub fn sides_of(&self, f: FaceId) -> &[SideId]
-        requires face { f < face_count self.now }
-        ensures inside { All (λ s. s < side_count self.now) result.now }
-        ensures row { IsRow (dual (cells_of self.now)) f (map (side_link self.now) result.now) }
-    {
-        self.law_of_surface();
-        self.sides(f)
-    }
-
-    /// The face on the other side of an edge, and the edge.
+    /// The face across a side and the edge between, a link of the face that the side is of.
     pub fn across(&self, s: SideId) -> (FaceId, EdgeId)
         requires side { s < side_count self.now }
         ensures link { result ≡ side_link self.now s }

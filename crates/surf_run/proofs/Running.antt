@@ -23,7 +23,7 @@ IsDue unread = Unit {0}
 IsDue starved = Unit {0}
 
 -- the words and the files decide no status from 9 to 11
-undecided : (status other : ℕ) → status ≡ other → 8 < other → other < 12 → IsDecided status → ⊥
+pub undecided : (status other : ℕ) → status ≡ other → 8 < other → other < 12 → IsDecided status → ⊥
 undecided status other is low high (above, inl lt) = absurd (omega (arith, is, low, lt))
 undecided status other is low high (above, inr gt) = absurd (omega (arith, is, high, gt))
 
@@ -31,6 +31,17 @@ undecided status other is low high (above, inr gt) = absurd (omega (arith, is, h
 pub verdicts_are_low : (v : Verdict) → verdict_status v ≤ 1
 verdicts_are_low Yes = omega arith
 verdicts_are_low No = omega arith
+
+-- a refusal has a status above 1, and not that of a failed write
+pub refuses_high : (c : Cause) (status : ℕ) (old new : Option (List ℕ)) (before after : ℕ) → IsDue c →
+    Refuses c status old new before after → (1 < status) × (status ≡ 10 → ⊥)
+refuses_high (due (refuses s l)) status old new before after is_due (inl said) =
+    (subst (λ (n : ℕ). 1 < n) (sym said.0) is_due.0, λ ten. undecided s 10 (sym said.0 ∙ ten) (omega arith) (omega arith) is_due)
+refuses_high (due (answers s t)) status old new before after is_due (inl said) = absurd is_due
+refuses_high (due misses) status old new before after is_due (inl said) = absurd is_due
+refuses_high unread status old new before after is_due (inl said) = (omega (arith, said.0), λ ten. omega (arith, ten, said.0))
+refuses_high starved status old new before after is_due (inl said) = (omega (arith, said.0), λ ten. omega (arith, ten, said.0))
+refuses_high c status old new before after is_due (inr said) = (omega (arith, said.0), λ ten. omega (arith, ten, said.0))
 
 module _ (words : List (List ℕ)) where
   pub leads : (r : Option Request) (files : Files) (o : Outcome) → request_of words ≡ r → OnRequest r files o → Leads words files o
@@ -169,3 +180,16 @@ module _ (words : List (List ℕ)) where
         at (Some files) on = leads (Some r) files misses is on
     told_unread starved status faults faults_new old new before after is_due why (inl said) nine = absurd (omega (arith, nine, said.0))
     told_unread c status faults faults_new old new before after is_due why (inr said) nine = absurd (omega (arith, nine, said.0))
+
+    -- and words that have it name a file
+    pub told_named : (c : Cause) (status : ℕ) (old new : Option (List ℕ)) (before after : ℕ) (files : Files) → IsDue c →
+        NamesFile (Some r) ⊎ (Why (OnRequest (Some r) files) c) → Refuses c status old new before after → status ≡ 9 →
+        NamesFile (request_of words)
+    told_named c status old new before after files is_due (inl names) refused nine = subst NamesFile (sym is) names
+    told_named (due (refuses s l)) status old new before after files is_due (inr why) (inl said) nine =
+        absurd (undecided s 9 (sym said.0 ∙ nine) (omega arith) (omega arith) is_due)
+    told_named (due (answers s t)) status old new before after files is_due (inr why) (inl said) nine = absurd is_due
+    told_named (due misses) status old new before after files is_due (inr why) (inl said) nine = absurd is_due
+    told_named unread status old new before after files is_due (inr why) (inl said) nine = absurd why
+    told_named starved status old new before after files is_due (inr why) (inl said) nine = absurd (omega (arith, nine, said.0))
+    told_named c status old new before after files is_due (inr why) (inr said) nine = absurd (omega (arith, nine, said.0))

@@ -1,7 +1,7 @@
 //! The commands on the cycles of a surface with lengths: `basis`, `cycle`, and `certify` without a
 //! base.
 ghost use Rattle.std.specs.Prelude.{◌≡◌, ◌+◌, ◌≤◌, ℕ, List, length, Some, IfErr};
-ghost use Rattle.surf_surfaces.specs.Surface.{edge_count, face_count};
+ghost use Rattle.surf_surfaces.specs.Surface.{edge_count, loop_count};
 ghost use Rattle.surf_words.specs.TaskLimits.{vertex_limit};
 ghost use Rattle.surf_words.specs.Words.{cycles};
 ghost use Rattle.surf_answers.specs.Tells.{Concludes, ConcludesOver, Takes};
@@ -69,7 +69,7 @@ fn find(
     lengths: &Lengths,
 ) -> Result<Answered, Refused>
     requires lengths { length lengths.now ≡ edge_count mesh.now }
-    requires few { edge_count mesh.now + 2 ≤ mesh.now.vertices + face_count mesh.now + MAX_LOOPS }
+    requires few { loop_count mesh.now ≤ MAX_LOOPS }
     ensures { Concludes (Finds task mesh.now lengths.now) result }
 {
     match task {
