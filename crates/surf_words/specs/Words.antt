@@ -187,6 +187,7 @@ help_text =
     ++ codes "status: 0 done, 1 no, 2 words, 3 mesh text, 4 no surface, 5 lengths, 6 limit, 7 vertex,\n"
     ++ codes "        8 certificate or evidence text, 9 file, 10 output, 11 memory, 12 coordinates,\n"
     ++ codes "        13 walk, 14 copies; from 2 on with a line on standard error\n"
-    ++ codes "limits: 1000000 vertices, 2000000 faces, 1024 loops; 20000 vertices for basis and cycle\n"
+    ++ codes "limits: 1000000 vertices, 2000000 faces, 1024 loops; 20000 vertices for basis and cycle,\n"
+    ++ codes "        1000 for certify M L; 8 loops for shortest, and 65536 vertices times 2^loops\n"
     ++ codes "example: surf lengths eight.off 6 > eight.len; surf basis eight.off eight.len\n"
     ++ codes "manual: docs/guide.md of the repository\n"

@@ -106,7 +106,8 @@ numbers: x a vertex from 0; k from 0 to 9; lengths whole, from 1 to 4294967295
 status: 0 done, 1 no, 2 words, 3 mesh text, 4 no surface, 5 lengths, 6 limit, 7 vertex,
         8 certificate or evidence text, 9 file, 10 output, 11 memory, 12 coordinates,
         13 walk, 14 copies; from 2 on with a line on standard error
-limits: 1000000 vertices, 2000000 faces, 1024 loops; 20000 vertices for basis and cycle
+limits: 1000000 vertices, 2000000 faces, 1024 loops; 20000 vertices for basis and cycle,
+        1000 for certify M L; 8 loops for shortest, and 65536 vertices times 2^loops
 example: surf lengths eight.off 6 > eight.len; surf basis eight.off eight.len
 manual: docs/guide.md of the repository
 ";
