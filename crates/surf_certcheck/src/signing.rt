@@ -4,16 +4,16 @@ ghost use Rattle.std.specs.List.{range_with_len};
 ghost use Rattle.surf_surfaces.specs.Surface.{edge_count, face_count};
 ghost use Rattle.surf_validity.specs.Bases.{split_in};
 ghost use Rattle.surf_validity.specs.Valid.{is_listed};
-ghost use Rattle.surf_certcheck.specs.Split.{AreFlags, is_flagged};
+ghost use Rattle.surf_treecheck.specs.Split.{AreFlags, is_flagged};
 ghost use Rattle.surf_certcheck.specs.Frames.{HasSplit, edge_signatures};
 ghost use Rattle.surf_base.specs.declared.limits.TheConstants.{MAX_LOOPS};
 
-use crate::links::link_faces;
 use std::alloc::Global;
 use surf_base::{EdgeId, NoMemory};
-use surf_cert::BasisCert;
 use surf_mesh::HalfMesh;
+use surf_records::BasisCert;
 use surf_signatures::Signs;
+use surf_treecheck::link_faces;
 
 // The edges that are flagged, increasing.
 fn list_flagged(alloc: Global, mesh: &HalfMesh, flags: &[bool]) -> Result<Vec<EdgeId>, NoMemory>
