@@ -3,12 +3,12 @@ use Rattle.std.specs.Prelude.{◌≡◌, ◌≢◌, ◌⊎◌, ℕ, List}
 use Rattle.surf_surfaces.specs.Mesh.{Mesh}
 use Rattle.surf_surfaces.specs.Homology.{total, IsLeastLoopSystem, IsLeastBasis}
 use Rattle.surf_surfaces.specs.Places.{IsLeastLoopSystemInOrder, IsLeastBasisInOrder, MeasureShortest}
-use Rattle.surf_cert.specs.declared.cert.Cert.{Cert}
-use Rattle.surf_cert.specs.declared.cert.Cert.TheVariants.{Loops, Basis}
+use Rattle.surf_records.specs.declared.cert.Cert.{Cert}
+use Rattle.surf_records.specs.declared.cert.Cert.TheVariants.{Loops, Basis}
 use Rattle.surf_certcheck.specs.BasisFaults.{IsBasisFault}
 use Rattle.surf_certcheck.specs.LoopFaults.{IsLoopFault}
-use Rattle.surf_certcheck.specs.declared.fault.CertFault.{CertFault}
-use Rattle.surf_certcheck.specs.declared.fault.CertFault.TheVariants.{Memory}
+use Rattle.surf_treecheck.specs.declared.fault.CertFault.{CertFault}
+use Rattle.surf_treecheck.specs.declared.fault.CertFault.TheVariants.{Memory}
 use Rattle.surf_validity.specs.Rows.{LoopCert, BasisCert}
 use Rattle.surf_validity.specs.Bases.{IsValidBasis}
 use Rattle.surf_validity.specs.Valid.{IsValidLoops, certified_loops}

@@ -1,6 +1,6 @@
 //! Whether a certificate is valid for a surface and lengths.
 ghost use Rattle.std.specs.Prelude.{◌≡◌, ◌≢◌, ◌≤◌, ◌+◌, length};
-ghost use Rattle.surf_certcheck.specs.declared.fault.CertFault.TheVariants.{Memory};
+ghost use Rattle.surf_treecheck.specs.declared.fault.CertFault.TheVariants.{Memory};
 ghost use Rattle.surf_surfaces.specs.Surface.{edge_count, loop_count};
 ghost use Rattle.surf_texts.specs.Outcome.{answers};
 ghost use Rattle.surf_answers.specs.Tells.{Concludes};

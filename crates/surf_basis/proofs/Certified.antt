@@ -12,8 +12,8 @@ use Rattle.surf_validity.specs.Chosen.{rows_for, dual_rows_of, chosen_cert, basi
 use Rattle.surf_validity.specs.Bases.{IsValidBasis}
 use Rattle.surf_validity.proofs.OneCert.{chosen_certs_are_one}
 use Rattle.surf_validity.proofs.ChosenBases.{chosen_bases_are_valid}
-use Rattle.surf_cert.specs.Fits.{BasisFits}
-use Rattle.surf_cert.proofs.ChosenFits.{AreNumbers, chosen_basis_fits}
+use Rattle.surf_records.specs.Fits.{BasisFits}
+use Rattle.surf_records.proofs.ChosenFits.{AreNumbers, chosen_basis_fits}
 use Rattle.surf_tree.specs.Tables.{TreeTables, tree_of}
 use Rattle.surf_tree.specs.Grown.{IsGrown as IsTreeGrown}
 use Rattle.surf_cotree.specs.Tables.{cotree_of}

@@ -3,7 +3,7 @@ ghost use Rattle.std.specs.Prelude.{◌≡◌, ◌≤◌, ◌+◌, IfOk, length}
 ghost use Rattle.surf_surfaces.specs.Choice.{walks};
 ghost use Rattle.surf_surfaces.specs.Surface.{edge_count, face_count};
 ghost use Rattle.surf_validity.specs.Bases.{IsValidBasis};
-ghost use Rattle.surf_cert.specs.Fits.{BasisFits};
+ghost use Rattle.surf_records.specs.Fits.{BasisFits};
 ghost use Rattle.surf_basis.specs.Certs.{AreTreeRows, IsTheCert};
 ghost use Rattle.surf_basis.specs.Cycles.{as_loops};
 ghost use Rattle.surf_base.specs.declared.limits.TheConstants.{MAX_LOOPS};
@@ -12,10 +12,10 @@ use crate::basis::least_basis;
 use crate::cycle::Cycle;
 use std::alloc::Global;
 use surf_base::{NoMemory, VertexId};
-use surf_cert::{BasisCert, TreeRows};
 use surf_lengths::Lengths;
 use surf_loops::{LoopDesk, dual_rows, left_pairs, tree_rows};
 use surf_mesh::{HalfMesh, Walk};
+use surf_records::{BasisCert, TreeRows};
 use surf_tree::TreeDesk;
 
 // The rows of the trees of shortest walks from all vertices.

@@ -11,7 +11,7 @@ use Rattle.surf_validity.proofs.ChosenLaws.{chosen_loops_are_valid}
 use Rattle.surf_validity.proofs.ChosenBases.{chosen_bases_are_valid}
 use Rattle.surf_cert.specs.Written.{RereadsLoops, RereadsBasis}
 use Rattle.surf_cert.proofs.Reread.{loops_again, basis_again}
-use Rattle.surf_cert.proofs.ChosenFits.{AreNumbers, chosen_loops_fit, chosen_basis_fits}
+use Rattle.surf_records.proofs.ChosenFits.{AreNumbers, chosen_loops_fit, chosen_basis_fits}
 
 pub chosen_loops_again : (mesh : Mesh) (lengths : List ℕ) (base : ℕ) (trees : Trees) → IsSurface mesh →
     ArePositive mesh lengths → AreNumbers mesh lengths → AreChosenAt mesh lengths base trees →

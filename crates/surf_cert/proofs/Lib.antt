@@ -6,5 +6,4 @@ pub mod LineTexts
 pub mod Reread
 pub mod ReadLines
 pub mod ReadParts
-pub mod ChosenFits
 pub mod ChosenReread

@@ -9,8 +9,8 @@ use Rattle.std.proofs.lemmas.Slice.Eq.{bytes_eq-Decides}
 use Rattle.surf_text.specs.Text.{whole}
 use Rattle.surf_off.proofs.Decimals.{IsWord, word_decimal, whole_decimal}
 use Rattle.surf_off.proofs.Reread.{lines_from}
-use Rattle.surf_cert.specs.Lines.{greatest, cert_number, the_word, base_of, base_at, parent_of, tree_row, dual_row, is_next, pair_behind, numbers_of, cycle_of}
-use Rattle.surf_cert.specs.Fits.{IsNumber, IsParent, IsPair, IsFaceRow, CycleFits}
+use Rattle.surf_cert.specs.Lines.{cert_number, the_word, base_of, base_at, parent_of, tree_row, dual_row, is_next, pair_behind, numbers_of, cycle_of}
+use Rattle.surf_records.specs.Fits.{greatest, IsNumber, IsParent, IsPair, IsFaceRow, CycleFits}
 use Rattle.surf_cert.specs.Grammar.{next_of}
 use Rattle.surf_text.specs.Numbers.{numbers_text}
 use Rattle.surf_cert.specs.Written.{base_line, parent_text, vertex_line, face_line, pair_line, cycle_line}

@@ -8,8 +8,8 @@ use Rattle.std.proofs.lemmas.Bool.{cases_Bool, leb-true, ltb-true, eqb-true}
 use Rattle.std.proofs.lemmas.List.Elements.{All-nil, All-cons}
 use Rattle.surf_text.specs.Text.{is_nonempty, value_of, whole}
 use Rattle.surf_cert.specs.declared.line.Counts.{Counts}
-use Rattle.surf_cert.specs.Lines.{greatest, at_most_greatest, cert_number, three_counts, counts_of, if_same, base_of, base_at, some_parent, parent_of, with_parent, tree_row, below_root, dual_row, increasing, pair_of, is_next, if_next, pair_behind, onto_numbers, numbers_of, cycle_of}
-use Rattle.surf_cert.specs.Fits.{IsNumber, IsParent, IsPair, IsFaceRow, CycleFits}
+use Rattle.surf_cert.specs.Lines.{at_most_greatest, cert_number, three_counts, counts_of, if_same, base_of, base_at, some_parent, parent_of, with_parent, tree_row, below_root, dual_row, increasing, pair_of, is_next, if_next, pair_behind, onto_numbers, numbers_of, cycle_of}
+use Rattle.surf_records.specs.Fits.{greatest, IsNumber, IsParent, IsPair, IsFaceRow, CycleFits}
 
 -- numbers
 

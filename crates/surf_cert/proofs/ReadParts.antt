@@ -9,12 +9,12 @@ use Rattle.std.proofs.lemmas.List.Kept.{AllPairs-cons}
 use Rattle.surf_surfaces.specs.Mesh.{pair_lt}
 use Rattle.surf_surfaces.proofs.PairLaws.{pair_lt-trans}
 use Rattle.surf_text.specs.Text.{TextLine, tokens_of, lines_of}
-use Rattle.surf_cert.specs.declared.cert.Cert.{Cert}
+use Rattle.surf_records.specs.declared.cert.Cert.{Cert}
 use Rattle.surf_cert.specs.declared.fault.CertText.{CertText}
 use Rattle.surf_cert.specs.declared.line.Counts.{Counts}
 use Rattle.surf_validity.specs.Rows.{TreeRows, DualRows, LoopCert, BasisCert}
 use Rattle.surf_cert.specs.Lines.{is_header, counts_of, base_of, base_at, tree_row, dual_row, is_next, pair_behind, cycle_of, the_word}
-use Rattle.surf_cert.specs.Fits.{IsNumber, IsParent, IsPair, IsFaceRow, TreeFits, DualFits, LeftFits, CycleFits, LoopFits, BasisFits, CertFits}
+use Rattle.surf_records.specs.Fits.{IsNumber, IsParent, IsPair, IsFaceRow, TreeFits, DualFits, LeftFits, CycleFits, LoopFits, BasisFits, CertFits}
 use Rattle.surf_cert.specs.Gives.{Gives}
 use Rattle.surf_cert.specs.Grammar.{◌>>=◌, formed, and_lines, next_of, onto_rows, rows_of, pairs_of, tree_of, based_tree, trees_of, dual_rows_of, dual_of, left_of, cycles_of, cert_ended, loops_in, basis_in, as_loops, as_basis, cert_in, parsed_cert}
 use Rattle.surf_cert.proofs.Reread.{Follow}

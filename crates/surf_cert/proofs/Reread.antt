@@ -8,11 +8,11 @@ use Rattle.surf_text.specs.Text.{TextLine, tokens_of}
 use Rattle.surf_off.proofs.Decimals.{IsWord, word_decimal}
 use Rattle.surf_off.proofs.Reread.{lines_from}
 use Rattle.surf_cert.specs.declared.fault.CertText.{CertText}
-use Rattle.surf_cert.specs.declared.cert.Cert.TheVariants.{Loops, Basis}
+use Rattle.surf_records.specs.declared.cert.Cert.TheVariants.{Loops, Basis}
 use Rattle.surf_cert.specs.declared.line.Counts.{Counts}
 use Rattle.surf_validity.specs.Rows.{TreeRows, DualRows, LoopCert, BasisCert}
 use Rattle.surf_cert.specs.Lines.{counts_of, base_of, base_at, tree_row, dual_row, is_next, cycle_of}
-use Rattle.surf_cert.specs.Fits.{IsNumber, IsParent, IsPair, IsFaceRow, TreeFits, DualFits, LeftFits, CycleFits, LoopFits, BasisFits}
+use Rattle.surf_records.specs.Fits.{IsNumber, IsParent, IsPair, IsFaceRow, TreeFits, DualFits, LeftFits, CycleFits, LoopFits, BasisFits}
 use Rattle.surf_cert.specs.Grammar.{next_of, rows_of, pairs_of, tree_of, based_tree, trees_of, dual_rows_of, dual_of, left_of, cycles_of, loops_in, basis_in, cert_in}
 use Rattle.surf_cert.specs.Written.{cert_head_text, base_line, vertex_line, face_line, pair_line, cycle_line, tree_text, dual_text, left_text, cycles_text, RereadsLoops, RereadsBasis}
 use Rattle.surf_cert.proofs.WordLines.{line_of, AllWords, line_first, kept_is, line_again}

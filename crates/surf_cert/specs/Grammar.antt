@@ -6,8 +6,8 @@ use Rattle.surf_text.specs.Text.{TextLine, tokens_of, lines_of}
 use Rattle.surf_validity.specs.Rows.{TreeRows, DualRows, LoopCert, BasisCert}
 use Rattle.surf_cert.specs.Lines.{the_word, is_header, counts_of, base_of, base_at, tree_row, dual_row, pair_behind}
 use Rattle.surf_cert.specs.Lines.{cycle_of}
-use Rattle.surf_cert.specs.declared.cert.Cert.{Cert}
-use Rattle.surf_cert.specs.declared.cert.Cert.TheVariants.{Loops, Basis}
+use Rattle.surf_records.specs.declared.cert.Cert.{Cert}
+use Rattle.surf_records.specs.declared.cert.Cert.TheVariants.{Loops, Basis}
 use Rattle.surf_cert.specs.declared.fault.CertText.{CertText}
 use Rattle.surf_cert.specs.declared.fault.CertText.TheVariants.{Header, Form, Early, Trailing}
 

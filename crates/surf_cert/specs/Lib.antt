@@ -1,5 +1,4 @@
 pub mod Lines
 pub mod Grammar
 pub mod Gives
-pub mod Fits
 pub mod Written

@@ -4,11 +4,8 @@ use Rattle.std.specs.Prelude.{None, if◌then◌else◌}
 use Rattle.std.specs.Str.{bytes_eq}
 use Rattle.surf_surfaces.specs.Mesh.{pair_lt}
 use Rattle.surf_text.specs.Text.{whole}
+use Rattle.surf_records.specs.Fits.{greatest}
 use Rattle.surf_cert.specs.declared.line.Counts.{Counts}
-
--- the greatest number that isn't a distance
-abbrev pub greatest : ℕ
-greatest = 4294967295
 
 abbrev pub at_most_greatest : Option ℕ → Option ℕ
 at_most_greatest None = None

@@ -1,9 +1,9 @@
-//! Certificates that a system of loops or a basis of cycles is least, and their texts.
+//! The texts of certificates that a system of loops or a basis of cycles is least.
 //!
-//! A certificate is plain data: trees of shortest walks with distances and parents, a tree of faces
-//! with depths and sides, the edges that are left, and the cycles of a basis. Nothing of it is
-//! trusted here: whether a certificate is valid for a mesh is asked elsewhere. Contracts see each
-//! record as the record of its plain lists, so two certificates are the same where these lists are.
+//! A certificate is a record of `surf_records`: trees of shortest walks with distances and parents,
+//! a tree of faces with depths and sides, the edges that are left, and the cycles of a basis. The
+//! records stand below the searches that make them and the checker that reads them; their texts
+//! stand here, and the names of the records are offered here too.
 //!
 //! The text of a certificate of loops has the lines `SURFCERT 1 loops`, `counts V F k` and `tree
 //! x`; a line `d p` for each of the V vertices, with its distance and its parent, or `-` in place
@@ -17,17 +17,14 @@
 //! fault by fault. What is written is read as what it was written of.
 #![tactic(auto)]
 
-mod cert;
 mod fault;
 mod line;
 mod next;
 mod read;
-mod rows;
 mod sections;
 mod write;
 
-pub use cert::{BasisCert, Cert, LoopCert};
 pub use fault::CertText;
 pub use read::read_cert;
-pub use rows::{DualRows, TreeRows};
+pub use surf_records::{BasisCert, Cert, DualRows, LoopCert, TreeRows};
 pub use write::{write_basis_cert, write_loop_cert};

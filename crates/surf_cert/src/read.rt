@@ -1,15 +1,15 @@
 //! Reads the text of a certificate.
 ghost use Rattle.std.specs.Prelude.{◌<◌, length, IfOk};
-ghost use Rattle.surf_cert.specs.Fits.{CertFits};
+ghost use Rattle.surf_records.specs.Fits.{CertFits};
 ghost use Rattle.surf_cert.specs.Grammar.{loops_in, basis_in, cert_ended, parsed_cert};
 ghost use Rattle.surf_cert.specs.Gives.{Gives};
 
-use crate::cert::{BasisCert, Cert, LoopCert};
 use crate::fault::CertText;
 use crate::line::is_header;
 use crate::next::next_counts;
 use crate::sections::{read_cycles, read_dual, read_left, read_tree, read_trees};
 use std::alloc::Global;
+use surf_records::{BasisCert, Cert, LoopCert};
 use surf_text::Lines;
 
 // No line stands behind.

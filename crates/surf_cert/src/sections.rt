@@ -9,10 +9,10 @@ use crate::fault::CertText;
 use crate::next::{
     next_base, next_base_at, next_cycle, next_dual_row, next_pair, next_tree_row, next_word,
 };
-use crate::rows::{DualRows, TreeRows};
 use std::alloc::Global;
 use surf_base::VertexId;
 use surf_mesh::Walk;
+use surf_records::{DualRows, TreeRows};
 use surf_text::Lines;
 
 // The rows of so many vertices, from this base.

@@ -2,16 +2,15 @@
 ghost use Rattle.std.specs.Prelude.{◌≡◌, ◌<◌, ◌≤◌, length, flat_map};
 ghost use Rattle.std.specs.List.{All, zip};
 ghost use Rattle.surf_text.specs.Pages.{Puts};
-ghost use Rattle.surf_cert.specs.Fits.{LoopFits, BasisFits};
+ghost use Rattle.surf_records.specs.Fits.{LoopFits, BasisFits};
 ghost use Rattle.surf_text.specs.Numbers.{numbers_text};
 ghost use Rattle.surf_cert.specs.Written.{cert_head_text, vertex_line, face_line, pair_line, cycle_line, tree_text};
 ghost use Rattle.surf_cert.specs.Written.{dual_text, left_text, cycles_text, loop_text, basis_text, RereadsLoops};
 ghost use Rattle.surf_cert.specs.Written.{RereadsBasis};
 
-use crate::cert::{BasisCert, LoopCert};
-use crate::rows::{DualRows, TreeRows};
 use surf_base::VertexId;
 use surf_mesh::Walk;
+use surf_records::{BasisCert, DualRows, LoopCert, TreeRows};
 use surf_text::{Page, PageFault, Piece};
 
 fn write_head(

@@ -6,12 +6,8 @@ use Rattle.surf_surfaces.specs.Mesh.{Mesh}
 use Rattle.surf_surfaces.specs.Surface.{edge_count}
 use Rattle.surf_validity.specs.Rows.{BasisCert}
 use Rattle.surf_validity.specs.Bases.{IsCovered}
-use Rattle.surf_certcheck.specs.First.{HoldsBelow, FailsFirst}
-use Rattle.surf_certcheck.specs.BasisFaults.{IsFirstAt, IsNoShortCutAt}
-
--- no edge is a short cut in the tree at a base
-abbrev pub HasNoShortCut : Mesh → List ℕ → BasisCert → ℕ → Type 0
-HasNoShortCut mesh lengths cert x = HoldsBelow (edge_count mesh) (IsNoShortCutAt mesh lengths cert x)
+use Rattle.surf_treecheck.specs.First.{HoldsBelow, FailsFirst}
+use Rattle.surf_treecheck.specs.TreeFaults.{IsFirstAt}
 
 -- the loops of all edges through the tree at a base are sums of cycles that are no longer
 abbrev pub AreCovered : Mesh → List ℕ → BasisCert → ℕ → Type 0

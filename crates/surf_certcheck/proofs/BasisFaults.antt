@@ -14,13 +14,14 @@ use Rattle.surf_surfaces.proofs.EdgeLaws.{among-contains, list_any_at}
 use Rattle.surf_validity.specs.Rows.{BasisCert}
 use Rattle.surf_validity.specs.Bases.{tree_at, IsClosedList, IsValidBasis, basis_total}
 use Rattle.surf_validity.proofs.BasisLaws.{valid_bases_are_least}
-use Rattle.surf_certcheck.specs.First.{HoldsBelow}
-use Rattle.surf_certcheck.specs.Split.{IsBadPair}
-use Rattle.surf_certcheck.specs.BasisFaults.{IsCycleClosed, IsIndependentAt, AreTreesDivided, IsBasisShapeFault, IsBasisFault}
-use Rattle.surf_certcheck.specs.declared.fault.CertPart.{CertPart}
-use Rattle.surf_certcheck.specs.declared.fault.CertPart.TheVariants.{Vertices, Faces, Loops, Base}
-use Rattle.surf_certcheck.specs.declared.fault.CertFault.{CertFault}
-use Rattle.surf_certcheck.specs.declared.fault.CertFault.TheVariants.{Shape, Parent, Distance, Slack, Dual, Split, Heavier, NotClosed, Dependent, Uncovered, Memory}
+use Rattle.surf_treecheck.specs.First.{HoldsBelow}
+use Rattle.surf_treecheck.specs.Split.{IsBadPair}
+use Rattle.surf_certcheck.specs.BasisFaults.{IsCycleClosed, IsIndependentAt, AreTreesDivided, IsBasisFault}
+use Rattle.surf_treecheck.specs.Shapes.{IsBasisShapeFault}
+use Rattle.surf_treecheck.specs.declared.fault.CertPart.{CertPart}
+use Rattle.surf_treecheck.specs.declared.fault.CertPart.TheVariants.{Vertices, Faces, Loops, Base}
+use Rattle.surf_treecheck.specs.declared.fault.CertFault.{CertFault}
+use Rattle.surf_treecheck.specs.declared.fault.CertFault.TheVariants.{Shape, Parent, Distance, Slack, Dual, Split, Heavier, NotClosed, Dependent, Uncovered, Memory}
 use Rattle.surf_certcheck.proofs.Bases.{AreCovered}
 use Rattle.surf_certcheck.proofs.Validity.{has_trees}
 

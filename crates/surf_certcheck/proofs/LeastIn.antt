@@ -11,9 +11,9 @@ use Rattle.surf_surfaces.specs.Mesh.{Mesh}
 use Rattle.surf_surfaces.specs.Surface.{edge_count, faces_of}
 use Rattle.surf_validity.specs.Rows.{LoopCert}
 use Rattle.surf_validity.specs.Valid.{dual_tree, loop_size, IsNotHeavier}
-use Rattle.surf_certcheck.specs.First.{FindsFirst}
-use Rattle.surf_certcheck.specs.Paths.{IsShort, IsLeastIn, IsLeastWith, IsWidened, either, least_with}
-use Rattle.surf_certcheck.specs.Split.{none}
+use Rattle.surf_treecheck.specs.First.{FindsFirst}
+use Rattle.surf_certcheck.specs.Least.{IsShort, IsLeastIn, IsLeastWith, IsWidened, either, least_with}
+use Rattle.surf_treecheck.specs.Split.{none}
 
 module _ (short : ℕ → Type 0) (old new : ℕ → Bool) (e : ℕ)
     (grows : (c : ℕ) → new c ≡ true → (old c ≡ true) ⊎ (c ≡ e)) where

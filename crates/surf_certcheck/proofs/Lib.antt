@@ -1,16 +1,8 @@
-pub mod EdgeUp
-pub mod FaceEdges
-pub mod Flags
-pub mod Strays
-pub mod BadPairs
-pub mod FaceLinks
 pub mod LeastIn
-pub mod FirstFault
 pub mod LoopFaults
 pub mod OneFault
 pub mod Totals
 pub mod Placing
-pub mod Steps
 pub mod Bases
 pub mod Climbing
 pub mod Framing

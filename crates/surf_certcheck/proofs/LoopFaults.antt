@@ -7,15 +7,16 @@ use Rattle.surf_surfaces.proofs.PairLaws.{pair_eq-true}
 use Rattle.surf_surfaces.proofs.EdgeLaws.{among-contains, list_any_at}
 use Rattle.surf_validity.specs.Rows.{TreeRows, DualRows, LoopCert}
 use Rattle.surf_validity.specs.Valid.{HasShape, IsNoShortCut, IsDualValid, IsDivided, HasNoShorter, IsValidLoops}
-use Rattle.surf_certcheck.specs.First.{HoldsBelow}
-use Rattle.surf_certcheck.specs.Rows.{HasParent, HasDistance}
-use Rattle.surf_certcheck.specs.Split.{IsBadPair}
-use Rattle.surf_certcheck.specs.LoopFaults.{IsShapeFault, IsLoopFault}
-use Rattle.surf_certcheck.specs.declared.fault.CertPart.{CertPart}
-use Rattle.surf_certcheck.specs.declared.fault.CertPart.TheVariants.{Vertices, Faces, Loops, Base}
-use Rattle.surf_certcheck.specs.declared.fault.CertFault.{CertFault}
-use Rattle.surf_certcheck.specs.declared.fault.CertFault.TheVariants.{Shape, Parent, Distance, Slack, Dual, Split, Heavier, NotClosed, Dependent, Uncovered, Memory}
-use Rattle.surf_certcheck.proofs.FirstFault.{kind, Passed, AreFirst}
+use Rattle.surf_treecheck.specs.First.{HoldsBelow}
+use Rattle.surf_treecheck.specs.Rows.{HasParent, HasDistance}
+use Rattle.surf_treecheck.specs.Split.{IsBadPair}
+use Rattle.surf_treecheck.specs.Shapes.{IsShapeFault}
+use Rattle.surf_certcheck.specs.LoopFaults.{IsLoopFault}
+use Rattle.surf_treecheck.specs.declared.fault.CertPart.{CertPart}
+use Rattle.surf_treecheck.specs.declared.fault.CertPart.TheVariants.{Vertices, Faces, Loops, Base}
+use Rattle.surf_treecheck.specs.declared.fault.CertFault.{CertFault}
+use Rattle.surf_treecheck.specs.declared.fault.CertFault.TheVariants.{Shape, Parent, Distance, Slack, Dual, Split, Heavier, NotClosed, Dependent, Uncovered, Memory}
+use Rattle.surf_treecheck.proofs.FirstFault.{kind, Passed, AreFirst}
 
 -- a pair keeps the trees and the list from dividing the edges
 pub bad_pair_fails : (mesh : Mesh) (rows : TreeRows) (dual : DualRows) (left : List (ℕ × ℕ)) (p : ℕ × ℕ) →

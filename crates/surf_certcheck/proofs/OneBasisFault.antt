@@ -5,15 +5,18 @@ use Rattle.surf_surfaces.specs.Surface.{face_count, edge_count, ends}
 use Rattle.surf_validity.specs.Rows.{BasisCert}
 use Rattle.surf_validity.specs.Valid.{IsDualValid, IsDivided}
 use Rattle.surf_validity.specs.Bases.{tree_at, HasBasisShape, IsCovered, IsValidBasis}
-use Rattle.surf_certcheck.specs.First.{HoldsBelow, FailsFirst}
-use Rattle.surf_certcheck.specs.Rows.{HasDualRows, HasDual}
-use Rattle.surf_certcheck.specs.BasisFaults.{HasTrees, HasCounts, HasBase, IsBasisShapeFault, IsFirstAt, HasParentAt, HasDistanceAt, IsNoShortCutAt, HasParents, HasDistances, IsCycleClosed, IsIndependentAt, DependsFirst, AreTreesDivided, IsBasisFault}
-use Rattle.surf_certcheck.specs.declared.fault.CertPart.{CertPart}
-use Rattle.surf_certcheck.specs.declared.fault.CertPart.TheVariants.{Vertices, Faces, Loops, Base}
-use Rattle.surf_certcheck.specs.declared.fault.CertFault.{CertFault}
-use Rattle.surf_certcheck.specs.declared.fault.CertFault.TheVariants.{Shape, Parent, Distance, Slack, Dual, Split, Heavier, NotClosed, Dependent, Uncovered, Memory}
-use Rattle.surf_certcheck.proofs.Bases.{HasNoShortCut, AreCovered}
-use Rattle.surf_certcheck.proofs.FirstFault.{first_same, FirstPart, first_part_same, kind, Passed, AreSingle, one_fault}
+use Rattle.surf_treecheck.specs.First.{HoldsBelow, FailsFirst}
+use Rattle.surf_treecheck.specs.Rows.{HasDualRows, HasDual}
+use Rattle.surf_treecheck.specs.Shapes.{HasTrees, HasCounts, HasBase, IsBasisShapeFault}
+use Rattle.surf_treecheck.specs.TreeFaults.{IsFirstAt, HasParentAt, HasDistanceAt, IsNoShortCutAt, HasParents, HasDistances}
+use Rattle.surf_certcheck.specs.BasisFaults.{IsCycleClosed, IsIndependentAt, DependsFirst, AreTreesDivided, IsBasisFault}
+use Rattle.surf_treecheck.specs.declared.fault.CertPart.{CertPart}
+use Rattle.surf_treecheck.specs.declared.fault.CertPart.TheVariants.{Vertices, Faces, Loops, Base}
+use Rattle.surf_treecheck.specs.declared.fault.CertFault.{CertFault}
+use Rattle.surf_treecheck.specs.declared.fault.CertFault.TheVariants.{Shape, Parent, Distance, Slack, Dual, Split, Heavier, NotClosed, Dependent, Uncovered, Memory}
+use Rattle.surf_treecheck.proofs.ShortCuts.{HasNoShortCut}
+use Rattle.surf_certcheck.proofs.Bases.{AreCovered}
+use Rattle.surf_treecheck.proofs.FirstFault.{first_same, FirstPart, first_part_same, kind, Passed, AreSingle, one_fault}
 use Rattle.surf_certcheck.proofs.LoopFaults.{bad_pair_fails}
 use Rattle.surf_certcheck.proofs.OneFault.{bad_pair_same}
 

@@ -7,15 +7,16 @@ use Rattle.surf_surfaces.specs.Homology.{IsFullCount}
 use Rattle.surf_surfaces.proofs.PairLaws.{pair_eq-true, pair_lt-total}
 use Rattle.surf_validity.specs.Rows.{TreeRows, DualRows, LoopCert}
 use Rattle.surf_validity.specs.Valid.{IsNoShortCut, HasNoShorter, IsNotHeavier}
-use Rattle.surf_certcheck.specs.First.{FailsFirst}
-use Rattle.surf_certcheck.specs.Rows.{HasTreeRows, HasDualRows, HasParent, HasDistance, HasDual}
-use Rattle.surf_certcheck.specs.Split.{IsLeastBadPair}
-use Rattle.surf_certcheck.specs.LoopFaults.{IsShapeFault, IsHeavierFault, IsLoopFault}
-use Rattle.surf_certcheck.specs.declared.fault.CertPart.{CertPart}
-use Rattle.surf_certcheck.specs.declared.fault.CertPart.TheVariants.{Vertices, Faces, Loops, Base}
-use Rattle.surf_certcheck.specs.declared.fault.CertFault.{CertFault}
-use Rattle.surf_certcheck.specs.declared.fault.CertFault.TheVariants.{Shape, Parent, Distance, Slack, Dual, Split, Heavier, Memory}
-use Rattle.surf_certcheck.proofs.FirstFault.{first_same, FirstPart, first_part_same, AreSingle, one_fault}
+use Rattle.surf_treecheck.specs.First.{FailsFirst}
+use Rattle.surf_treecheck.specs.Rows.{HasTreeRows, HasDualRows, HasParent, HasDistance, HasDual}
+use Rattle.surf_treecheck.specs.Split.{IsLeastBadPair}
+use Rattle.surf_treecheck.specs.Shapes.{IsShapeFault}
+use Rattle.surf_certcheck.specs.LoopFaults.{IsHeavierFault, IsLoopFault}
+use Rattle.surf_treecheck.specs.declared.fault.CertPart.{CertPart}
+use Rattle.surf_treecheck.specs.declared.fault.CertPart.TheVariants.{Vertices, Faces, Loops, Base}
+use Rattle.surf_treecheck.specs.declared.fault.CertFault.{CertFault}
+use Rattle.surf_treecheck.specs.declared.fault.CertFault.TheVariants.{Shape, Parent, Distance, Slack, Dual, Split, Heavier, Memory}
+use Rattle.surf_treecheck.proofs.FirstFault.{first_same, FirstPart, first_part_same, AreSingle, one_fault}
 use Rattle.surf_certcheck.proofs.LoopFaults.{Holds, loop_faults_are_first}
 
 -- the least such pair is one

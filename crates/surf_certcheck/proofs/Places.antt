@@ -11,7 +11,7 @@ use Rattle.surf_validity.specs.Rows.{LoopCert, BasisCert}
 use Rattle.surf_validity.specs.Valid.{IsValidLoops, certified_loops, loops_total}
 use Rattle.surf_validity.specs.Bases.{IsValidBasis, basis_total}
 use Rattle.surf_validity.proofs.PlaceLaws.{valid_loops_are_least_in_order, valid_bases_are_least_in_order, valid_bases_measure_shortest}
-use Rattle.surf_certcheck.specs.declared.fault.CertFault.{CertFault}
+use Rattle.surf_treecheck.specs.declared.fault.CertFault.{CertFault}
 
 pub loops_in_order : (mesh : Mesh) (lengths : List ℕ) (cert : LoopCert) → IsSurface mesh → ArePositive mesh lengths →
     (r : Result ℕ CertFault) → IfOk r (λ t. IsValidLoops mesh lengths cert × (t ≡ loops_total mesh lengths cert)) →

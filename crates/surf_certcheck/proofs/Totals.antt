@@ -11,8 +11,8 @@ use Rattle.surf_validity.specs.Rows.{LoopCert}
 use Rattle.surf_validity.specs.Valid.{IsValidLoops, certified_loops, loops_total}
 use Rattle.surf_validity.proofs.LoopLaws.{valid_loops_are_least}
 use Rattle.surf_certcheck.specs.LoopFaults.{IsLoopFault}
-use Rattle.surf_certcheck.specs.declared.fault.CertFault.{CertFault}
-use Rattle.surf_certcheck.specs.declared.fault.CertFault.TheVariants.{Memory}
+use Rattle.surf_treecheck.specs.declared.fault.CertFault.{CertFault}
+use Rattle.surf_treecheck.specs.declared.fault.CertFault.TheVariants.{Memory}
 use Rattle.surf_certcheck.proofs.LoopFaults.{no_loop_fault}
 
 pub least_where_ok : (mesh : Mesh) (lengths : List ℕ) (cert : LoopCert) → IsSurface mesh → ArePositive mesh lengths →

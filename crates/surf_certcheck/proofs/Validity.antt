@@ -20,13 +20,15 @@ use Rattle.surf_validity.specs.Valid.{certified_tree, dual_tree, is_listed, just
 use Rattle.surf_validity.proofs.DualLaws.{dual_rows_are_tree, dual_rows_in_tree}
 use Rattle.surf_validity.proofs.SplitLaws.{is_split}
 use Rattle.surf_validity.proofs.TreeLaws.{rows_are_tree, rows_are_shortest, rows_in_tree}
-use Rattle.surf_certcheck.specs.BasisFaults.{HasTrees, HasBase, AreTreesValid, AreTreesDivided}
+use Rattle.surf_treecheck.specs.Shapes.{HasTrees, HasBase}
+use Rattle.surf_treecheck.specs.TreeFaults.{AreTreesValid}
+use Rattle.surf_certcheck.specs.BasisFaults.{AreTreesDivided}
 use Rattle.surf_certcheck.specs.Climbs.{IsClimbed}
-use Rattle.surf_certcheck.specs.First.{HoldsBelow}
+use Rattle.surf_treecheck.specs.First.{HoldsBelow}
 use Rattle.surf_certcheck.specs.Frames.{HasSplit}
-use Rattle.surf_certcheck.specs.Paths.{AreLinks, IsStepUp}
-use Rattle.surf_certcheck.specs.Split.{AreFlags, is_flagged}
-use Rattle.surf_certcheck.proofs.FaceLinks.{step_is}
+use Rattle.surf_treecheck.specs.Paths.{AreLinks, IsStepUp}
+use Rattle.surf_treecheck.specs.Split.{AreFlags, is_flagged}
+use Rattle.surf_treecheck.proofs.FaceLinks.{step_is}
 
 -- the tree at a base is climbed
 pub climbed_at : (mesh : Mesh) (lengths : List ℕ) (cert : BasisCert) → IsSurface mesh → ArePositive mesh lengths →

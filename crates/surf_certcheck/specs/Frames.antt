@@ -16,7 +16,7 @@ use Rattle.surf_validity.specs.Rows.{TreeRows, BasisCert}
 use Rattle.surf_validity.specs.Valid.{certified_tree, loop_size, is_listed, IsDualValid}
 use Rattle.surf_surfaces.specs.Cotree.{is_left}
 use Rattle.surf_validity.specs.Valid.{dual_tree}
-use Rattle.surf_certcheck.specs.Rows.{HasDualRows}
+use Rattle.surf_treecheck.specs.Rows.{HasDualRows}
 
 -- the signatures of all edges
 abbrev pub edge_signatures : Mesh → Split → List ℕ

@@ -1,9 +1,10 @@
 -- What left edges are judged by.
 use Rattle.std.specs.Prelude.{◌≡◌, ℕ, Bool, List, length}
 use Rattle.surf_surfaces.specs.Surface.{face_count, edge_count}
-use Rattle.surf_certcheck.specs.First.{HoldsBelow}
-use Rattle.surf_certcheck.specs.Rows.{HasTreeRows, HasDual}
-use Rattle.surf_certcheck.specs.Paths.{AreAllLinks, IsShort}
+use Rattle.surf_treecheck.specs.First.{HoldsBelow}
+use Rattle.surf_treecheck.specs.Rows.{HasTreeRows, HasDual}
+use Rattle.surf_treecheck.specs.Paths.{AreAllLinks}
+use Rattle.surf_certcheck.specs.Least.{IsShort}
 use Rattle.surf_certcheck.specs.declared.heavier.Judge.{Judge}
 
 -- the rows of vertices and the lengths fit the surface, and the links are those of a tree of faces

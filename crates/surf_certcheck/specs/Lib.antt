@@ -1,8 +1,5 @@
-pub mod First
-pub mod Rows
 pub mod LoopFaults
-pub mod Split
-pub mod Paths
+pub mod Least
 pub mod Judging
 pub mod BasisFaults
 pub mod Frames

@@ -1,29 +1,18 @@
 -- Why a loop certificate isn't valid.
-use Rattle.std.specs.Prelude.{◌≡◌, ℕ, ◌<◌, List, length}
+use Rattle.std.specs.Prelude.{◌≡◌, ℕ, List}
 use Rattle.surf_surfaces.specs.Mesh.{Mesh}
 use Rattle.surf_surfaces.specs.Surface.{face_count, edge_count, ends}
-use Rattle.surf_surfaces.specs.Homology.{IsFullCount}
 use Rattle.surf_validity.specs.Rows.{TreeRows, LoopCert}
 use Rattle.surf_validity.specs.Valid.{HasShape, IsNoShortCut, IsTreeValid, IsDualValid, IsDivided, IsNotHeavier}
 use Rattle.surf_validity.specs.Valid.{HasNoShorter}
-use Rattle.surf_certcheck.specs.First.{HoldsBelow, FailsFirst}
-use Rattle.surf_certcheck.specs.Rows.{HasTreeRows, HasDualRows, HasParent, HasDistance, HasDual}
-use Rattle.surf_certcheck.specs.Split.{IsLeastBadPair}
-use Rattle.surf_certcheck.specs.declared.fault.CertPart.{CertPart}
-use Rattle.surf_certcheck.specs.declared.fault.CertPart.TheVariants.{Vertices, Faces, Loops, Base}
-use Rattle.surf_certcheck.specs.declared.fault.CertFault.{CertFault}
-use Rattle.surf_certcheck.specs.declared.fault.CertFault.TheVariants.{Shape, Parent, Distance, Slack, Dual, Split}
-use Rattle.surf_certcheck.specs.declared.fault.CertFault.TheVariants.{Heavier, NotClosed, Dependent, Uncovered}
-use Rattle.surf_certcheck.specs.declared.fault.CertFault.TheVariants.{Memory}
-
--- the part doesn't fit the mesh, and those before it do
-abbrev pub IsShapeFault : Mesh → LoopCert → CertPart → Type 0
-IsShapeFault mesh cert Vertices = HasTreeRows mesh cert.tree → ⊥
-IsShapeFault mesh cert Faces = HasTreeRows mesh cert.tree × (HasDualRows mesh cert.dual → ⊥)
-IsShapeFault mesh cert Loops = HasTreeRows mesh cert.tree × HasDualRows mesh cert.dual
-    × (IsFullCount mesh (length cert.left) → ⊥)
-IsShapeFault mesh cert Base = HasTreeRows mesh cert.tree × HasDualRows mesh cert.dual
-    × IsFullCount mesh (length cert.left) × (cert.tree.base < mesh.vertices → ⊥)
+use Rattle.surf_treecheck.specs.First.{HoldsBelow, FailsFirst}
+use Rattle.surf_treecheck.specs.Rows.{HasParent, HasDistance, HasDual}
+use Rattle.surf_treecheck.specs.Shapes.{IsShapeFault}
+use Rattle.surf_treecheck.specs.Split.{IsLeastBadPair}
+use Rattle.surf_treecheck.specs.declared.fault.CertFault.{CertFault}
+use Rattle.surf_treecheck.specs.declared.fault.CertFault.TheVariants.{Shape, Parent, Distance, Slack, Dual, Split}
+use Rattle.surf_treecheck.specs.declared.fault.CertFault.TheVariants.{Heavier, NotClosed, Dependent, Uncovered}
+use Rattle.surf_treecheck.specs.declared.fault.CertFault.TheVariants.{Memory}
 
 -- the least left edge with an edge of the tree of faces that it could be exchanged for, and the least of these
 pub record AreHeavier (mesh : Mesh) (lengths : List ℕ) (cert : LoopCert) (l c : ℕ) : Type 0 where

@@ -3,33 +3,31 @@ ghost use Rattle.std.specs.Prelude.{◌≡◌, ◌≢◌, ◌≤◌, ◌+◌, �
 ghost use Rattle.std.specs.Prelude.{length};
 ghost use Rattle.surf_surfaces.specs.Homology.{total, IsLeastBasis};
 ghost use Rattle.surf_surfaces.specs.Places.{IsLeastBasisInOrder, MeasureShortest};
-ghost use Rattle.surf_surfaces.specs.Surface.{edge_count, face_count};
+ghost use Rattle.surf_surfaces.specs.Surface.{edge_count, loop_count};
 ghost use Rattle.surf_validity.specs.Bases.{IsValidBasis, HasBasisShape, basis_total};
 ghost use Rattle.surf_validity.specs.Valid.{is_listed, IsDualValid};
-ghost use Rattle.surf_certcheck.specs.First.{HoldsBelow};
-ghost use Rattle.surf_certcheck.specs.Split.{AreFlags};
-ghost use Rattle.surf_certcheck.specs.BasisFaults.{AreTreesDivided, AreTreesValid, IsCycleClosed};
-ghost use Rattle.surf_certcheck.specs.BasisFaults.{IsBasisFault};
-ghost use Rattle.surf_certcheck.specs.declared.fault.CertFault.TheVariants.{Memory};
+ghost use Rattle.surf_treecheck.specs.First.{HoldsBelow};
+ghost use Rattle.surf_treecheck.specs.Split.{AreFlags};
+ghost use Rattle.surf_certcheck.specs.BasisFaults.{AreTreesDivided, IsCycleClosed, IsBasisFault};
+ghost use Rattle.surf_treecheck.specs.TreeFaults.{AreTreesValid};
+ghost use Rattle.surf_treecheck.specs.declared.fault.CertFault.TheVariants.{Memory};
 ghost use Rattle.surf_base.specs.declared.limits.TheConstants.{MAX_LOOPS};
 
 use crate::cover::first_uncovered;
 use crate::cycles::{first_open, total_length};
-use crate::dual::first_dual;
-use crate::edges::ends_inside;
-use crate::fault::CertFault;
 use crate::frame::frame_cycles;
-use crate::shape::{basis_shape, tree_from};
 use crate::signing::sign_edges;
-use crate::split::{first_split, mark_edges};
 use crate::sums::all_vertices;
-use crate::trees::trees_fault;
 use std::alloc::Global;
 use surf_base::VertexId;
-use surf_cert::BasisCert;
 use surf_lengths::Lengths;
 use surf_mesh::HalfMesh;
+use surf_records::BasisCert;
 use surf_signatures::VertexSets;
+use surf_treecheck::{
+    CertFault, basis_shape, ends_inside, first_dual, first_split, mark_edges, tree_from,
+    trees_fault,
+};
 
 // The total of a certificate whose trees divide the edges and whose cycles are closed, or its first
 // fault.
@@ -43,7 +41,7 @@ fn check_cycles(
     requires divided { AreTreesDivided mesh.now lengths.now cert.now }
     requires closed { HoldsBelow (length cert.now.cycles) (IsCycleClosed mesh.now cert.now) }
     requires lengths { length lengths.now ≡ edge_count mesh.now }
-    requires few { edge_count mesh.now + 2 ≤ mesh.now.vertices + face_count mesh.now + MAX_LOOPS }
+    requires few { loop_count mesh.now ≤ MAX_LOOPS }
     requires left { AreFlags (edge_count mesh.now) (is_listed mesh.now cert.now.left) left.now }
     ensures valid { IfOk result (λ t. IsValidBasis mesh.now lengths.now cert.now
         × (t ≡ basis_total mesh.now lengths.now cert.now)) }
@@ -75,7 +73,7 @@ fn check_edges(
     requires trees { AreTreesValid mesh.now lengths.now cert.now }
     requires dual { IsDualValid mesh.now cert.now.dual }
     requires lengths { length lengths.now ≡ edge_count mesh.now }
-    requires few { edge_count mesh.now + 2 ≤ mesh.now.vertices + face_count mesh.now + MAX_LOOPS }
+    requires few { loop_count mesh.now ≤ MAX_LOOPS }
     ensures valid { IfOk result (λ t. IsValidBasis mesh.now lengths.now cert.now
         × (t ≡ basis_total mesh.now lengths.now cert.now)) }
     ensures fault { IfErr result (IsBasisFault mesh.now lengths.now cert.now) }
@@ -105,7 +103,7 @@ pub fn check_basis(
     cert: &BasisCert,
 ) -> Result<u128, CertFault>
     requires lengths { length lengths.now ≡ edge_count mesh.now }
-    requires few { edge_count mesh.now + 2 ≤ mesh.now.vertices + face_count mesh.now + MAX_LOOPS }
+    requires few { loop_count mesh.now ≤ MAX_LOOPS }
     ensures valid { IfOk result (λ t. IsValidBasis mesh.now lengths.now cert.now
         × (t ≡ basis_total mesh.now lengths.now cert.now)) }
     ensures least { IfOk result (λ t. IsLeastBasis mesh.now lengths.now cert.now.cycles

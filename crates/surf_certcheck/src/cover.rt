@@ -10,24 +10,24 @@ ghost use Rattle.surf_surfaces.specs.Loop.{loop_walk};
 ghost use Rattle.surf_validity.specs.Rows.{TreeRows};
 ghost use Rattle.surf_validity.specs.Bases.{IsCovered};
 ghost use Rattle.surf_validity.specs.Valid.{certified_tree};
-ghost use Rattle.surf_certcheck.specs.First.{HoldsBelow, FindsFirst, Tells};
-ghost use Rattle.surf_certcheck.specs.BasisFaults.{HasTrees, HasBase, AreTreesValid, FindsFirstAt};
+ghost use Rattle.surf_treecheck.specs.First.{HoldsBelow, FindsFirst, Tells};
+ghost use Rattle.surf_treecheck.specs.Shapes.{HasTrees, HasBase};
+ghost use Rattle.surf_treecheck.specs.TreeFaults.{AreTreesValid, FindsFirstAt};
 ghost use Rattle.surf_certcheck.specs.Frames.{IsFrameOf, AreTaken};
 ghost use Rattle.surf_certcheck.specs.Climbs.{IsClimbed, AreSummed};
 ghost use Rattle.surf_certcheck.specs.Covering.{IsSummedUp, HasFrame, IsCoveredIn};
 ghost use Rattle.surf_base.specs.declared.limits.TheConstants.{MAX_LOOPS};
 
-use crate::edges::ends_inside;
 use crate::frame::{Frame, is_placed};
 use crate::heavier::size_of;
-use crate::shape::tree_from;
 use crate::sums::sum_ways;
 use surf_base::{EdgeId, VertexId};
 use surf_bits::Signature;
-use surf_cert::{BasisCert, TreeRows};
 use surf_lengths::Lengths;
 use surf_mesh::HalfMesh;
+use surf_records::{BasisCert, TreeRows};
 use surf_signatures::{Signs, VertexSets};
+use surf_treecheck::{ends_inside, tree_from};
 
 // The coordinates of the loop of an edge: the sum over its two ways to the base and the edge.
 fn loop_set(mesh: &HalfMesh, signs: &Signs, sums: &VertexSets, e: EdgeId) -> Signature

@@ -5,15 +5,15 @@ ghost use Rattle.surf_surfaces.specs.Mesh.{edges, pair_of, steps};
 ghost use Rattle.surf_surfaces.specs.Surface.{edge_count};
 ghost use Rattle.surf_surfaces.specs.Walk.{edge_number, first, last, walk_length};
 ghost use Rattle.surf_validity.specs.Bases.{IsClosedList, basis_total};
-ghost use Rattle.surf_certcheck.specs.First.{HoldsBelow, FindsFirst, Tells};
+ghost use Rattle.surf_treecheck.specs.First.{HoldsBelow, FindsFirst, Tells};
 ghost use Rattle.surf_certcheck.specs.BasisFaults.{cycle_at, IsCycleClosed, IsAlong};
 ghost use Rattle.surf_base.specs.declared.limits.TheConstants.{MAX_LOOPS};
 
-use crate::edges::{edge_between, edge_up};
 use surf_base::{EdgeId, VertexId};
-use surf_cert::BasisCert;
 use surf_lengths::Lengths;
 use surf_mesh::HalfMesh;
+use surf_records::BasisCert;
+use surf_treecheck::{edge_between, edge_up};
 
 /// The vertices of the cycle at a place.
 pub(crate) fn cycle_from(cert: &BasisCert, place: usize) -> &[VertexId]

@@ -6,22 +6,21 @@ ghost use Rattle.surf_graphs.specs.Cells.{Split};
 ghost use Rattle.surf_surfaces.specs.Signature.{walk_signature};
 ghost use Rattle.surf_surfaces.specs.Surface.{edge_count};
 ghost use Rattle.surf_validity.specs.Bases.{IsClosedList, IsDependent, split_in};
-ghost use Rattle.surf_certcheck.specs.First.{HoldsBelow, Tells};
-ghost use Rattle.surf_certcheck.specs.BasisFaults.{IsCycleClosed, IsIndependentAt, DependsFirst};
-ghost use Rattle.surf_certcheck.specs.BasisFaults.{IsDependentFault};
-ghost use Rattle.surf_certcheck.specs.Frames.{AreTaken, IsPlacedUpTo, weight_at, IsFrameOf};
-ghost use Rattle.surf_certcheck.specs.Frames.{ArePlacedUpTo, edge_signatures};
+ghost use Rattle.surf_treecheck.specs.First.{HoldsBelow, Tells};
+ghost use Rattle.surf_certcheck.specs.BasisFaults.{IsCycleClosed, IsIndependentAt, DependsFirst, IsDependentFault};
+ghost use Rattle.surf_certcheck.specs.Frames.{AreTaken, IsPlacedUpTo, weight_at, IsFrameOf, ArePlacedUpTo};
+ghost use Rattle.surf_certcheck.specs.Frames.{edge_signatures};
 ghost use Rattle.surf_base.specs.declared.limits.TheConstants.{MAX_LOOPS};
 
 use crate::cycles::{cycle_from, length_of, step_edge};
-use crate::fault::CertFault;
 use std::alloc::Global;
 use surf_base::{NoMemory, VertexId};
 use surf_bits::Signature;
-use surf_cert::BasisCert;
 use surf_lengths::Lengths;
 use surf_mesh::HalfMesh;
+use surf_records::BasisCert;
 use surf_signatures::Signs;
+use surf_treecheck::CertFault;
 
 /// The coordinates of all edges in which each cycle is a place alone, and for each place the length
 /// of its cycle.

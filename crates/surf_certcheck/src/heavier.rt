@@ -5,19 +5,18 @@ ghost use Rattle.surf_graphs.specs.Trees.{on_path};
 ghost use Rattle.surf_surfaces.specs.Surface.{edge_count, face_count};
 ghost use Rattle.surf_validity.specs.Valid.{dual_tree, loop_size, is_listed};
 ghost use Rattle.surf_validity.specs.Valid.{IsNotHeavier, HasNoShorter};
-ghost use Rattle.surf_certcheck.specs.First.{HoldsBelow, FailsFirst, FindsFirst, Tells};
-ghost use Rattle.surf_certcheck.specs.Rows.{HasTreeRows};
-ghost use Rattle.surf_certcheck.specs.Split.{AreFlags, AreTurned, none};
+ghost use Rattle.surf_treecheck.specs.First.{HoldsBelow, FailsFirst, FindsFirst, Tells};
+ghost use Rattle.surf_treecheck.specs.Rows.{HasTreeRows};
+ghost use Rattle.surf_treecheck.specs.Split.{AreFlags, AreTurned, none};
 ghost use Rattle.surf_certcheck.specs.LoopFaults.{AreHeavier};
-ghost use Rattle.surf_certcheck.specs.Paths.{IsWidened, IsLeastWith, least_with};
+ghost use Rattle.surf_certcheck.specs.Least.{IsWidened, IsLeastWith, least_with};
 ghost use Rattle.surf_certcheck.specs.Judging.{IsReady, IsShortFor};
 
-use crate::edges::{ends_inside, faces_inside};
-use crate::links::{Links, step_up, turn_path};
 use surf_base::{EdgeId, FaceId};
-use surf_cert::{LoopCert, TreeRows};
 use surf_lengths::Lengths;
 use surf_mesh::HalfMesh;
+use surf_records::{LoopCert, TreeRows};
+use surf_treecheck::{Links, ends_inside, faces_inside, step_up, turn_path};
 
 /// How long the loop of an edge is.
 pub(crate) fn size_of(mesh: &HalfMesh, lengths: &Lengths, rows: &TreeRows, e: EdgeId) -> u128

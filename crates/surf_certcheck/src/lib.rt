@@ -1,13 +1,13 @@
 //! Whether certificates of loops and of bases are valid, by their conditions alone.
 //!
 //! `check_loops` reads each row and pair of a certificate against the mesh and the lengths and
-//! stands on no search: rows of vertices (tree), rows of faces (dual), which edge is in which set
-//! (marks, split), and whether an edge on the way through the tree of faces between the two faces
-//! of a left edge has a shorter loop (links, heavier). The first condition that fails is named with
-//! its least witness. What a valid certificate shows is a law of `surf_validity`: its loops are a
-//! least loop system at its base, whoever made it.
+//! stands on no search. What both kinds of certificates have in common, their trees and how these
+//! divide the edges, is tested by `surf_treecheck`; here follows whether an edge on the way through
+//! the tree of faces between the two faces of a left edge has a shorter loop (heavier). The first
+//! condition that fails is named with its least witness. What a valid certificate shows is a law of
+//! `surf_validity`: its loops are a least loop system at its base, whoever made it.
 //!
-//! `check_basis` does the same for a tree at each vertex (trees) and for the cycles: they are
+//! `check_basis` has a tree at each vertex tested, and does the rest for the cycles: they are
 //! closed (cycles), their signatures by the tree at vertex 0 (signing) are independent, for which
 //! each gets a coordinate of its own (frame), and by these coordinates, summed up along the ways of
 //! each tree (sums), each loop through it is a sum of cycles that are no longer (cover). The cycles
@@ -17,21 +17,12 @@
 mod basis;
 mod cover;
 mod cycles;
-mod dual;
-mod edges;
-mod fault;
 mod frame;
 mod heavier;
-mod links;
 mod loops;
-mod marks;
-mod shape;
 mod signing;
-mod split;
 mod sums;
-mod tree;
-mod trees;
 
 pub use basis::check_basis;
-pub use fault::{CertFault, CertPart};
 pub use loops::check_loops;
+pub use surf_treecheck::{CertFault, CertPart};

@@ -9,26 +9,22 @@ ghost use Rattle.surf_surfaces.specs.Places.{IsLeastLoopSystemInOrder};
 ghost use Rattle.surf_validity.specs.Valid.{HasShape, IsTreeValid, IsDualValid, IsValidLoops};
 ghost use Rattle.surf_validity.specs.Valid.{HasNoShorter};
 ghost use Rattle.surf_validity.specs.Valid.{is_listed, loop_size, certified_loops, loops_total};
-ghost use Rattle.surf_certcheck.specs.First.{HoldsBelow};
-ghost use Rattle.surf_certcheck.specs.Split.{AreFlags};
-ghost use Rattle.surf_certcheck.specs.Rows.{HasTreeRows, HasDualRows, HasDual};
+ghost use Rattle.surf_treecheck.specs.First.{HoldsBelow};
+ghost use Rattle.surf_treecheck.specs.Split.{AreFlags};
+ghost use Rattle.surf_treecheck.specs.Rows.{HasTreeRows, HasDualRows, HasDual};
 ghost use Rattle.surf_certcheck.specs.LoopFaults.{IsTreeFault, IsHeavierFault, IsLoopFault};
-ghost use Rattle.surf_certcheck.specs.declared.fault.CertFault.TheVariants.{Memory};
+ghost use Rattle.surf_treecheck.specs.declared.fault.CertFault.TheVariants.{Memory};
 
-use crate::dual::first_dual;
-use crate::edges::{edge_between, ends_inside};
-use crate::fault::CertFault;
 use crate::heavier::{Judge, size_of};
-use crate::links::link_faces;
-use crate::marks::no_flags;
-use crate::shape::loop_shape;
-use crate::split::{Marks, first_split, mark_edges};
-use crate::tree::{first_distance, first_parent, first_short_cut};
 use std::alloc::Global;
 use surf_base::{NoMemory, VertexId};
-use surf_cert::{LoopCert, TreeRows};
 use surf_lengths::Lengths;
 use surf_mesh::HalfMesh;
+use surf_records::{LoopCert, TreeRows};
+use surf_treecheck::{
+    CertFault, Marks, edge_between, ends_inside, first_distance, first_dual, first_parent,
+    first_short_cut, first_split, link_faces, loop_shape, mark_edges, no_flags,
+};
 
 // The first fault of the rows of vertices.
 fn tree_fault(mesh: &HalfMesh, lengths: &Lengths, rows: &TreeRows) -> Option<CertFault>

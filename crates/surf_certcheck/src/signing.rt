@@ -1,19 +1,19 @@
 //! The signatures of edges by the trees and the left edges of a certificate.
 ghost use Rattle.std.specs.Prelude.{◌≡◌, ◌≤◌, ◌+◌, IfOk, length, filter};
 ghost use Rattle.std.specs.List.{range_with_len};
-ghost use Rattle.surf_surfaces.specs.Surface.{edge_count, face_count};
+ghost use Rattle.surf_surfaces.specs.Surface.{edge_count, loop_count};
 ghost use Rattle.surf_validity.specs.Bases.{split_in};
 ghost use Rattle.surf_validity.specs.Valid.{is_listed};
-ghost use Rattle.surf_certcheck.specs.Split.{AreFlags, is_flagged};
+ghost use Rattle.surf_treecheck.specs.Split.{AreFlags, is_flagged};
 ghost use Rattle.surf_certcheck.specs.Frames.{HasSplit, edge_signatures};
 ghost use Rattle.surf_base.specs.declared.limits.TheConstants.{MAX_LOOPS};
 
-use crate::links::link_faces;
 use std::alloc::Global;
 use surf_base::{EdgeId, NoMemory};
-use surf_cert::BasisCert;
 use surf_mesh::HalfMesh;
+use surf_records::BasisCert;
 use surf_signatures::Signs;
+use surf_treecheck::link_faces;
 
 // The edges that are flagged, increasing.
 fn list_flagged(alloc: Global, mesh: &HalfMesh, flags: &[bool]) -> Result<Vec<EdgeId>, NoMemory>
@@ -39,7 +39,7 @@ pub(crate) fn sign_edges(
     left: &[bool],
 ) -> Result<Signs, NoMemory>
     requires split { HasSplit mesh.now cert.now }
-    requires few { edge_count mesh.now + 2 ≤ mesh.now.vertices + face_count mesh.now + MAX_LOOPS }
+    requires few { loop_count mesh.now ≤ MAX_LOOPS }
     requires left { AreFlags (edge_count mesh.now) (is_listed mesh.now cert.now.left) left.now }
     ensures width { IfOk result (λ s. s.width ≡ length (split_in mesh.now cert.now).left) }
     ensures few { IfOk result (λ s. s.width ≤ MAX_LOOPS) }

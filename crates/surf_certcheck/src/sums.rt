@@ -9,13 +9,13 @@ ghost use Rattle.surf_validity.specs.Valid.{distance_at, parent_at};
 ghost use Rattle.surf_certcheck.specs.Frames.{AreTaken};
 ghost use Rattle.surf_certcheck.specs.Climbs.{IsClimbed, AreSummed, IsSummedAt};
 
-use crate::edges::edge_between;
 use std::alloc::Global;
 use surf_base::{EdgeId, NoMemory, VertexId};
 use surf_bits::Signature;
-use surf_cert::TreeRows;
 use surf_mesh::HalfMesh;
+use surf_records::TreeRows;
 use surf_signatures::{Signs, VertexSets};
+use surf_treecheck::edge_between;
 
 /// All vertices.
 pub(crate) fn all_vertices(alloc: Global, mesh: &HalfMesh) -> Result<Vec<VertexId>, NoMemory>

@@ -12,8 +12,8 @@ use Rattle.surf_surfaces.specs.Homology.{boundary}
 use Rattle.surf_surfaces.specs.Walk.{edge_number}
 use Rattle.surf_surfaces.proofs.CellLaws.{surfaces_are_cells}
 use Rattle.surf_surfaces.proofs.LawProofs.{edges_are_numbered}
-use Rattle.surf_certcheck.specs.First.{HoldsBelow, FailsFirst}
-use Rattle.surf_certcheck.specs.Split.{AreFlags, is_flagged}
+use Rattle.surf_treecheck.specs.First.{HoldsBelow, FailsFirst}
+use Rattle.surf_treecheck.specs.Split.{AreFlags, is_flagged}
 use Rattle.surf_classes.specs.Evidence.{Evidence, IsEvidence, IsRising, IsNullEvidence, IsOddEvidence, is_listed, has_odd_sides, is_odd_in}
 use Rattle.surf_classes.specs.Faults.{IsNoBoundary, IsOddFace, IsEvenNumber}
 use Rattle.surf_classes.proofs.FirstFaults.{faults_are_told}

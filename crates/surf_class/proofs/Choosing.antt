@@ -16,7 +16,7 @@ use Rattle.surf_surfaces.specs.Cells.{cells_of}
 use Rattle.surf_surfaces.specs.Signature.{edge_signature}
 use Rattle.surf_surfaces.proofs.CellLaws.{surfaces_are_cells}
 use Rattle.surf_cotree.specs.Tables.{CotreeTables, split_with, cotree_of}
-use Rattle.surf_certcheck.specs.Split.{AreFlags}
+use Rattle.surf_treecheck.specs.Split.{AreFlags}
 use Rattle.surf_signatures.proofs.Passing.{passing_same}
 use Rattle.surf_classes.specs.Evidence.{joint_parity, AreClosed, IsChosenNull, IsChosenOdd, is_listed}
 use Rattle.surf_classes.specs.EvidenceLaws.{joint_signature}

@@ -7,7 +7,7 @@ use Rattle.surf_surfaces.specs.Mesh.{Mesh, pair, pair_of, pair_eq, among, edges,
 use Rattle.surf_surfaces.specs.Surface.{edge_count, ends}
 use Rattle.surf_surfaces.proofs.EdgeLaws.{list_any_from}
 use Rattle.surf_surfaces.proofs.PairLaws.{pair_eq-same}
-use Rattle.surf_certcheck.proofs.Steps.{steps_at, count_steps}
+use Rattle.surf_treecheck.proofs.Steps.{steps_at, count_steps}
 use Rattle.surf_class.proofs.Lists.{position_at, position_none}
 
 no_steps : (list : List ℕ) → length list ≤ 0 → (k : ℕ) → k < length (steps list) → ⊥

@@ -3,7 +3,7 @@ use Rattle.std.proofs.Common.{◌≡◌, ℕ, zero, suc, ◌<◌, ◌+◌, ◌*�
 use Rattle.std.proofs.lemmas.Bool.{lt-ltb, eq-eqb}
 use Rattle.surf_surfaces.specs.Mesh.{pair_lt}
 use Rattle.surf_off.proofs.Decimals.{IsWord, word_decimal}
-use Rattle.surf_cert.specs.Fits.{IsNumber, IsPair}
+use Rattle.surf_records.specs.Fits.{IsNumber, IsPair}
 use Rattle.surf_text.specs.Numbers.{numbers_text}
 use Rattle.surf_cert.proofs.LineTexts.{number_again}
 use Rattle.surf_cert.proofs.WordLines.{spaced, line_of, AllWords, line_first, kept_is}

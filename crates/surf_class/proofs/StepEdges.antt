@@ -11,7 +11,7 @@ use Rattle.surf_surfaces.specs.Walk.{IsClosed, edge_number, place_of}
 use Rattle.surf_surfaces.proofs.EdgeLaws.{place_of-ends, ends-eq, among-contains, list_any_from}
 use Rattle.surf_surfaces.proofs.PairLaws.{pair_eq-same}
 use Rattle.surf_surfaces.proofs.SurfaceLaws.{two_faces_of, one_of_two}
-use Rattle.surf_certcheck.proofs.Steps.{steps_at, one_along}
+use Rattle.surf_treecheck.proofs.Steps.{steps_at, one_along}
 use Rattle.surf_class.proofs.Lists.{take_next}
 
 -- the number of the edge with these ends

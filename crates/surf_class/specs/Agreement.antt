@@ -2,7 +2,7 @@
 use Rattle.std.specs.Prelude.{◌≡◌, ℕ, Bool, List}
 use Rattle.surf_surfaces.specs.Mesh.{Mesh}
 use Rattle.surf_surfaces.specs.Homology.{boundary}
-use Rattle.surf_certcheck.specs.Split.{is_flagged}
+use Rattle.surf_treecheck.specs.Split.{is_flagged}
 
 -- an edge is flagged exactly where one of its two faces is, and not both
 abbrev pub AgreesAt : Mesh → List Bool → List Bool → ℕ → Type 0

@@ -2,7 +2,7 @@
 use Rattle.std.specs.Prelude.{◌≡◌, ◌<◌, ℕ, true, List, [], ◌∷◌, ◌++◌, length, flat_map, codes, decimal, All, AllPairs}
 use Rattle.std.specs.Prelude.{Ok}
 use Rattle.surf_surfaces.specs.Mesh.{pair_lt}
-use Rattle.surf_cert.specs.Fits.{IsNumber, IsPair}
+use Rattle.surf_records.specs.Fits.{IsNumber, IsPair}
 use Rattle.surf_text.specs.Numbers.{numbers_text}
 use Rattle.surf_classes.specs.Evidence.{Evidence, null_faces, odd_pairs}
 use Rattle.surf_class.specs.Evidences.{evidence_in}

@@ -4,7 +4,7 @@ ghost use Rattle.std.specs.Option.{option_copied};
 ghost use Rattle.surf_z2.specs.Parity.{xor};
 ghost use Rattle.surf_surfaces.specs.Surface.{edge_count};
 ghost use Rattle.surf_surfaces.specs.Walk.{IsClosed, parity};
-ghost use Rattle.surf_certcheck.specs.Split.{AreFlags};
+ghost use Rattle.surf_treecheck.specs.Split.{AreFlags};
 ghost use Rattle.surf_classes.specs.Evidence.{joint_parity, AreClosed};
 
 use crate::edges::{step_edge, turn};

@@ -11,7 +11,7 @@ use Rattle.surf_surfaces.proofs.ShortestTreeLaws.{shortest_is_tree}
 use Rattle.surf_validity.specs.Rows.{TreeRows, DualRows, LoopCert}
 use Rattle.surf_validity.specs.Chosen.{parent_in, rows_for, dual_rows_of, chosen_cert}
 use Rattle.surf_lengths.specs.Lengths.{AreLengths}
-use Rattle.surf_cert.proofs.ChosenFits.{AreNumbers}
+use Rattle.surf_records.proofs.ChosenFits.{AreNumbers}
 use Rattle.surf_tree.specs.Tables.{TreeTables, parent_of, tree_of}
 use Rattle.surf_tree.specs.Grown.{IsGrown as IsTreeGrown}
 use Rattle.surf_cotree.specs.Tables.{cotree_of}

@@ -3,7 +3,7 @@ ghost use Rattle.std.specs.Prelude.{◌≡◌, ◌<◌, IfOk, length, map};
 ghost use Rattle.surf_surfaces.specs.Surface.{edge_count, face_count, ends};
 ghost use Rattle.surf_validity.specs.Chosen.{chosen_cert, dual_rows_of, rows_for, side_in};
 ghost use Rattle.surf_validity.specs.Valid.{IsValidLoops};
-ghost use Rattle.surf_cert.specs.Fits.{LoopFits};
+ghost use Rattle.surf_records.specs.Fits.{LoopFits};
 ghost use Rattle.surf_tree.specs.Tables.{tree_of};
 ghost use Rattle.surf_cotree.specs.Tables.{cotree_of};
 ghost use Rattle.surf_cotree.specs.Grown.{IsGrownOn};
@@ -12,10 +12,10 @@ ghost use Rattle.surf_loops.specs.Loops.{IsGreedy, IsRooted, trees_of};
 use crate::desk::LoopDesk;
 use std::alloc::Global;
 use surf_base::{FaceId, NoMemory, VertexId};
-use surf_cert::{DualRows, LoopCert, TreeRows};
 use surf_cotree::CotreeDesk;
 use surf_lengths::Lengths;
 use surf_mesh::HalfMesh;
+use surf_records::{DualRows, LoopCert, TreeRows};
 use surf_tree::TreeDesk;
 
 /// The rows of a tree of vertices: for each vertex its distance from the base and its parent, which

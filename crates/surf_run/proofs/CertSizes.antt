@@ -9,7 +9,7 @@ use Rattle.std.proofs.lemmas.List.{length-append}
 use Rattle.std.proofs.lemmas.List.Elements.{recursion_from_All, All-tail}
 use Rattle.std.proofs.lemmas.Map.Made.{IsDistinct-from_AllPairs}
 use Rattle.std.proofs.lemmas.Map.Steps.{length-le_from_distinct_below}
-use Rattle.surf_cert.specs.Fits.{IsNumber, IsParent, TreeFits, IsPair, IsFaceRow, DualFits, LeftFits, LoopFits, BasisFits}
+use Rattle.surf_records.specs.Fits.{IsNumber, IsParent, TreeFits, IsPair, IsFaceRow, DualFits, LeftFits, LoopFits, BasisFits}
 use Rattle.surf_text.specs.Numbers.{numbers_text}
 use Rattle.surf_cert.specs.Written.{cert_head_text, base_line, parent_text, vertex_line, pair_text, face_line, pair_line, cycle_line, tree_text, dual_text, left_text, cycles_text, loop_text, basis_text}
 use Rattle.surf_surfaces.specs.Cycle.{IsSimpleCycle}

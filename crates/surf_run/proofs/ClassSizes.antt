@@ -5,7 +5,7 @@ use Rattle.std.specs.List.{All, AllPairs, Contains, AllByRecursion}
 use Rattle.std.proofs.lemmas.Bool.{cases_order}
 use Rattle.std.proofs.lemmas.List.{get_or_default, get_or-map, length-map}
 use Rattle.std.proofs.lemmas.List.Elements.{recursion_from_All}
-use Rattle.surf_cert.specs.Fits.{IsNumber, IsPair}
+use Rattle.surf_records.specs.Fits.{IsNumber, IsPair}
 use Rattle.surf_text.specs.Numbers.{numbers_text}
 use Rattle.surf_class.specs.Texts.{evidence_head_text, both_ends, evidence_text, EvidenceFits}
 use Rattle.surf_classes.specs.Evidence.{Evidence, null_faces, odd_pairs, IsEvidence}

@@ -2,8 +2,8 @@
 use Rattle.std.proofs.Common.{◌≡◌, ◌≢◌, ℕ, zero, suc, ◌+◌, ◌<◌, ◌≤◌, true, false, List, [], ◌∷◌, length, get_or, take, refl, sym, ap, ◌∙◌, subst, arith, inl, inr}
 use Rattle.std.specs.Prelude.{◌==◌}
 use Rattle.std.proofs.lemmas.Bool.{cases_Bool, cases_eq, true≢false, eqb-true}
-use Rattle.surf_certcheck.specs.First.{HoldsBelow, FailsFirst}
-use Rattle.surf_certcheck.proofs.FirstFault.{first_same}
+use Rattle.surf_treecheck.specs.First.{HoldsBelow, FailsFirst}
+use Rattle.surf_treecheck.proofs.FirstFault.{first_same}
 use Rattle.surf_check.specs.Fault.{IsSurfaceFault}
 use Rattle.surf_check.specs.declared.checking.SurfaceFault.{SurfaceFault}
 use Rattle.surf_check.specs.declared.checking.SurfaceFault.TheVariants as surface

@@ -26,9 +26,9 @@ use Rattle.surf_answers.specs.Info.{Informs}
 use Rattle.surf_answers.specs.Says.{Says}
 use Rattle.surf_texts.specs.Limits.{beyond}
 use Rattle.surf_cert.specs.Grammar.{parsed_cert}
-use Rattle.surf_cert.specs.declared.cert.Cert.{Cert}
-use Rattle.surf_cert.specs.declared.cert.Cert.TheVariants.{Loops}
-use Rattle.surf_cert.specs.declared.cert.Cert.TheVariants as certs
+use Rattle.surf_records.specs.declared.cert.Cert.{Cert}
+use Rattle.surf_records.specs.declared.cert.Cert.TheVariants.{Loops}
+use Rattle.surf_records.specs.declared.cert.Cert.TheVariants as certs
 use Rattle.surf_certcheck.proofs.LoopFaults.{no_loop_fault}
 use Rattle.surf_certcheck.proofs.OneBasisFault.{one_basis_fault, no_basis_fault}
 use Rattle.surf_certcheck.proofs.OneFault.{one_loop_fault}

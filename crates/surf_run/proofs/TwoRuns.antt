@@ -8,8 +8,8 @@ use Rattle.surf_base.specs.declared.limits.LimitKind.TheVariants.{CertificateVer
 use Rattle.surf_base.specs.declared.limits.LimitKind.TheVariants as limits
 use Rattle.surf_cert.specs.Grammar.{parsed_cert}
 use Rattle.surf_cert.specs.Written.{loop_text, basis_text}
-use Rattle.surf_cert.specs.declared.cert.Cert.TheVariants.{Loops, Basis}
-use Rattle.surf_cert.proofs.ChosenFits.{AreNumbers, chosen_loops_fit, chosen_basis_fits}
+use Rattle.surf_records.specs.declared.cert.Cert.TheVariants.{Loops, Basis}
+use Rattle.surf_records.proofs.ChosenFits.{AreNumbers, chosen_loops_fit, chosen_basis_fits}
 use Rattle.surf_cert.proofs.ChosenReread.{chosen_loops_again, chosen_basis_again}
 use Rattle.surf_surfaces.specs.Mesh.{Mesh}
 use Rattle.surf_surfaces.specs.Surface.{IsSurface, face_count, edge_count, loop_count}

@@ -15,8 +15,8 @@ use Rattle.surf_check.specs.declared.checking.SurfaceFault.TheVariants.{Memory}
 use Rattle.surf_lengths.specs.Files.{lengths_in}
 use Rattle.surf_lengths.specs.Lengths.{AreLengths}
 use Rattle.surf_cert.specs.Grammar.{parsed_cert}
-use Rattle.surf_cert.specs.declared.cert.Cert.{Cert}
-use Rattle.surf_cert.specs.declared.cert.Cert.TheVariants.{Loops, Basis}
+use Rattle.surf_records.specs.declared.cert.Cert.{Cert}
+use Rattle.surf_records.specs.declared.cert.Cert.TheVariants.{Loops, Basis}
 use Rattle.surf_class.specs.Evidences.{evidence_in}
 use Rattle.surf_class.specs.Walks.{walk_in}
 use Rattle.surf_texts.specs.Cause.{outcome_of, refused_by}

@@ -1,12 +1,12 @@
 -- The lines of a check of a certificate: that it is valid, and what is wrong with it.
 use Rattle.std.specs.Prelude.{ℕ, List, [], ◌∷◌, ◌++◌, codes, decimal}
 use Rattle.surf_surfaces.specs.Homology.{total}
-use Rattle.surf_certcheck.specs.declared.fault.CertPart.{CertPart}
-use Rattle.surf_certcheck.specs.declared.fault.CertPart.TheVariants as part
-use Rattle.surf_certcheck.specs.declared.fault.CertFault.{CertFault}
-use Rattle.surf_certcheck.specs.declared.fault.CertFault.TheVariants.{Shape, Parent, Distance, Slack, Dual, Split}
-use Rattle.surf_certcheck.specs.declared.fault.CertFault.TheVariants.{Heavier, NotClosed, Dependent, Uncovered}
-use Rattle.surf_certcheck.specs.declared.fault.CertFault.TheVariants.{Memory}
+use Rattle.surf_treecheck.specs.declared.fault.CertPart.{CertPart}
+use Rattle.surf_treecheck.specs.declared.fault.CertPart.TheVariants as part
+use Rattle.surf_treecheck.specs.declared.fault.CertFault.{CertFault}
+use Rattle.surf_treecheck.specs.declared.fault.CertFault.TheVariants.{Shape, Parent, Distance, Slack, Dual, Split}
+use Rattle.surf_treecheck.specs.declared.fault.CertFault.TheVariants.{Heavier, NotClosed, Dependent, Uncovered}
+use Rattle.surf_treecheck.specs.declared.fault.CertFault.TheVariants.{Memory}
 use Rattle.surf_text.specs.Numbers.{numbered}
 
 -- the part that doesn't fit the mesh

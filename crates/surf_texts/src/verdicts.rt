@@ -1,12 +1,12 @@
 //! The lines of checks of certificates.
 ghost use Rattle.std.specs.Prelude.{◌≡◌, ◌≢◌, string_bytes, IfOk};
-ghost use Rattle.surf_certcheck.specs.declared.fault.CertFault.TheVariants.{Memory};
+ghost use Rattle.surf_treecheck.specs.declared.fault.CertFault.TheVariants.{Memory};
 ghost use Rattle.surf_texts.specs.VerdictLines.{basis_line, fault_line, heavier_line, loops_line, part_line};
 
 use std::alloc::{AllocError, Global};
 use surf_base::VertexId;
-use surf_certcheck::{CertFault, CertPart};
 use surf_text::numbered;
+use surf_treecheck::{CertFault, CertPart};
 
 /// The line of a valid certificate of loops.
 pub fn loops_line(alloc: Global, total: u128) -> Result<String, AllocError>

@@ -1,9 +1,9 @@
 use Rattle.std.proofs.Common.{rules, ◌≡◌, ◌<◌, ◌∙◌, map, sym, ap, subst, arith}
 use Rattle.surf_surfaces.specs.Surface.{edge_count}
 use Rattle.surf_validity.specs.Bases.{tree_at, split_in, weighed_cycle, IsCovered}
-use Rattle.surf_certcheck.specs.BasisFaults.{IsFirstAt}
+use Rattle.surf_treecheck.specs.TreeFaults.{IsFirstAt}
 use Rattle.surf_certcheck.specs.Climbs.{IsClimbed}
-use Rattle.surf_certcheck.specs.First.{HoldsBelow, FailsFirst}
+use Rattle.surf_treecheck.specs.First.{HoldsBelow, FailsFirst}
 use Rattle.surf_certcheck.specs.Frames.{IsCoveredBy}
 use Rattle.surf_certcheck.proofs.Bases.{AreCovered, first_at, holds_more}
 use Rattle.surf_lengths.proofs.Positive.{lengths_positive}

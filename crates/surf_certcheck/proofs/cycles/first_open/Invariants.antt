@@ -1,4 +1,4 @@
-use Rattle.surf_certcheck.specs.First.{HoldsBelow}
+use Rattle.surf_treecheck.specs.First.{HoldsBelow}
 use Rattle.surf_certcheck.specs.BasisFaults.{IsCycleClosed}
 use Rattle.surf_certcheck.proofs.cycles.first_open.Given as goal
 

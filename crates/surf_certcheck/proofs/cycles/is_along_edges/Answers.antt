@@ -1,7 +1,7 @@
 use Rattle.std.proofs.Common.{rules, ◌≡◌, ◌+◌, length, arith}
 use Rattle.surf_certcheck.specs.BasisFaults.{IsAlong}
 use Rattle.surf_certcheck.proofs.Bases.{holds_more}
-use Rattle.surf_certcheck.proofs.Steps.{all_along, one_along}
+use Rattle.surf_treecheck.proofs.Steps.{all_along, one_along}
 use Rattle.surf_certcheck.proofs.cycles.is_along_edges.Goals as goal
 
 pub returns-then-not-is_along : goal.returns-then-not-is_along

@@ -1,4 +1,4 @@
-use Rattle.surf_certcheck.specs.First.{HoldsBelow}
+use Rattle.surf_treecheck.specs.First.{HoldsBelow}
 use Rattle.surf_certcheck.specs.BasisFaults.{IsAlong}
 use Rattle.surf_certcheck.proofs.cycles.is_along_edges.Given as goal
 

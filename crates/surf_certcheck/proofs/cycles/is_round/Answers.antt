@@ -2,7 +2,7 @@ use Rattle.std.proofs.Common.{◌≡◌, ◌-◌, length, get_or, ◌∙◌, ari
 use Rattle.std.proofs.lemmas.List.{get_or_default}
 use Rattle.surf_surfaces.specs.Walk.{first, last}
 use Rattle.surf_certcheck.proofs.Bases.{same_tells}
-use Rattle.surf_certcheck.proofs.Steps.{first_at, last_at}
+use Rattle.surf_treecheck.proofs.Steps.{first_at, last_at}
 use Rattle.surf_certcheck.proofs.cycles.is_round.Goals as goal
 
 pub returns : goal.returns

@@ -1,6 +1,6 @@
 use Rattle.std.proofs.Common.{◌≡◌, length}
 use Rattle.surf_surfaces.specs.Surface.{edge_count}
-use Rattle.surf_certcheck.specs.First.{HoldsBelow}
+use Rattle.surf_treecheck.specs.First.{HoldsBelow}
 use Rattle.surf_certcheck.specs.BasisFaults.{IsIndependentAt}
 use Rattle.surf_certcheck.specs.Frames.{IsFrameOf}
 use Rattle.surf_certcheck.proofs.frame.admit_all.Given as goal

@@ -3,7 +3,7 @@ use Rattle.surf_z2.specs.Space.{numbers, sum_of}
 use Rattle.surf_surfaces.specs.Mesh.{steps}
 use Rattle.surf_surfaces.specs.Signature.{edge_signature}
 use Rattle.surf_surfaces.specs.Walk.{edge_number}
-use Rattle.surf_certcheck.proofs.Steps.{sets_more, count_steps, take_whole}
+use Rattle.surf_treecheck.proofs.Steps.{sets_more, count_steps, take_whole}
 use Rattle.surf_certcheck.proofs.frame.cycle_set.Goals as goal
 
 pub loop-i-preserved : goal.loop-i-preserved

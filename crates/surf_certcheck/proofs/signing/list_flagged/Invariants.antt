@@ -1,6 +1,6 @@
 use Rattle.std.proofs.Common.{◌≡◌, filter}
 use Rattle.std.specs.List.{range_with_len}
-use Rattle.surf_certcheck.specs.Split.{is_flagged}
+use Rattle.surf_treecheck.specs.Split.{is_flagged}
 use Rattle.surf_certcheck.proofs.signing.list_flagged.Given as goal
 
 -- the flagged edges before

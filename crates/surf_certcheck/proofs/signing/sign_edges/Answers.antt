@@ -2,7 +2,7 @@ use Rattle.std.proofs.Common.{◌≡◌, ◌≤◌, ◌∙◌, length, sym, ap, 
 use Rattle.surf_surfaces.specs.Surface.{face_count}
 use Rattle.surf_validity.specs.Bases.{split_in}
 use Rattle.surf_validity.specs.Valid.{IsDualValid}
-use Rattle.surf_certcheck.specs.Paths.{AreLinks}
+use Rattle.surf_treecheck.specs.Paths.{AreLinks}
 use Rattle.surf_certcheck.proofs.Validity.{links_are_tree, links_hang, left_is, left_size}
 use Rattle.surf_certcheck.proofs.signing.sign_edges.Goals as goal
 

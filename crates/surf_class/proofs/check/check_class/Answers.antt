@@ -2,7 +2,7 @@ use Rattle.std.proofs.Common.{◌≡◌, ◌≢◌, ◌<◌, true, ℕ, List, Bo
 use Rattle.surf_surfaces.specs.Mesh.{pair_lt}
 use Rattle.surf_surfaces.specs.Surface.{edge_count}
 use Rattle.surf_surfaces.specs.Walk.{parity}
-use Rattle.surf_certcheck.specs.Split.{AreFlags}
+use Rattle.surf_treecheck.specs.Split.{AreFlags}
 use Rattle.surf_classes.specs.Evidence.{null_faces, odd_pairs, IsEvidence}
 use Rattle.surf_class.specs.Faults.{IsClassFault}
 use Rattle.surf_class.specs.Seen.{seen}

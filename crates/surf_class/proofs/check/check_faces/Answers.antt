@@ -1,6 +1,6 @@
 use Rattle.std.proofs.Common.{subst, List, Bool}
 use Rattle.surf_surfaces.specs.Surface.{edge_count}
-use Rattle.surf_certcheck.specs.First.{HoldsBelow, FailsFirst}
+use Rattle.surf_treecheck.specs.First.{HoldsBelow, FailsFirst}
 use Rattle.surf_class.specs.Agreement.{AgreesAt}
 use Rattle.surf_class.proofs.Checking.{null_right, null_wrong}
 use Rattle.surf_class.proofs.check.check_faces.Goals as goal

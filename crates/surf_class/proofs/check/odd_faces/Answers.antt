@@ -3,7 +3,7 @@ use Rattle.std.proofs.lemmas.Grind.{common_steps}
 use Rattle.surf_z2.specs.Parity.{xor, odd}
 use Rattle.surf_surfaces.specs.Surface.{face_count, borders}
 use Rattle.surf_surfaces.specs.Walk.{edge_number}
-use Rattle.surf_certcheck.specs.Split.{AreFlags}
+use Rattle.surf_treecheck.specs.Split.{AreFlags}
 use Rattle.surf_classes.specs.Evidence.{has_odd_sides}
 use Rattle.surf_class.proofs.Lists.{restored}
 use Rattle.surf_class.proofs.PairFlags.{odd_by_pairs}

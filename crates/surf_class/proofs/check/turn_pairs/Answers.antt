@@ -4,7 +4,7 @@ use Rattle.surf_z2.specs.Parity.{xor, odd}
 use Rattle.surf_surfaces.specs.Mesh.{edges}
 use Rattle.surf_surfaces.specs.Surface.{borders}
 use Rattle.surf_surfaces.specs.Walk.{edge_number}
-use Rattle.surf_certcheck.proofs.Steps.{take_whole}
+use Rattle.surf_treecheck.proofs.Steps.{take_whole}
 use Rattle.surf_class.proofs.StepEdges.{odd_next, xor_chain}
 use Rattle.surf_class.proofs.check.turn_pairs.Goals as goal
 

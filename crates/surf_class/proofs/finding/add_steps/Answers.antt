@@ -7,7 +7,7 @@ use Rattle.surf_surfaces.specs.Surface.{edge_count}
 use Rattle.surf_surfaces.specs.Walk.{edge_number}
 use Rattle.surf_surfaces.specs.Signature.{edge_signature}
 use Rattle.surf_cotree.specs.Tables.{split_with}
-use Rattle.surf_certcheck.proofs.Steps.{count_steps, take_whole, sets_more}
+use Rattle.surf_treecheck.proofs.Steps.{count_steps, take_whole, sets_more}
 use Rattle.surf_class.proofs.finding.add_steps.Goals as goal
 
 pub loop-i-preserved : goal.loop-i-preserved

@@ -3,7 +3,7 @@ use Rattle.std.specs.Option.{option_copied}
 use Rattle.surf_surfaces.specs.Homology.{IsBoundary}
 use Rattle.surf_surfaces.specs.Surface.{edge_count}
 use Rattle.surf_cotree.specs.Tables.{split_with}
-use Rattle.surf_certcheck.specs.Split.{AreFlags}
+use Rattle.surf_treecheck.specs.Split.{AreFlags}
 use Rattle.surf_classes.specs.Evidence.{joint_parity, IsChosenOdd}
 use Rattle.surf_classes.proofs.OddChoice.{odd_choice_is_right}
 use Rattle.surf_class.proofs.Choosing.{odd_chosen, bounds_something, null_found}

@@ -2,7 +2,7 @@ use Rattle.std.proofs.Common.{◌≡◌, ◌<◌, length, get_or, false, map, ap
 use Rattle.surf_z2.specs.Parity.{xor, odd}
 use Rattle.surf_surfaces.specs.Mesh.{steps, pair_of, pair_eq}
 use Rattle.surf_surfaces.specs.Surface.{ends}
-use Rattle.surf_certcheck.proofs.Steps.{count_steps, take_whole}
+use Rattle.surf_treecheck.proofs.Steps.{count_steps, take_whole}
 use Rattle.surf_class.proofs.StepEdges.{test_edge, odd_next, xor_chain}
 use Rattle.surf_class.proofs.parity.turn_steps.Goals as goal
 

@@ -1,7 +1,7 @@
 use Rattle.surf_surfaces.specs.Surface.{edge_count}
 use Rattle.surf_validity.specs.Valid.{HasNoShorter}
-use Rattle.surf_certcheck.specs.First.{HoldsBelow}
-use Rattle.surf_certcheck.specs.Split.{AreFlags, none}
+use Rattle.surf_treecheck.specs.First.{HoldsBelow}
+use Rattle.surf_treecheck.specs.Split.{AreFlags, none}
 use Rattle.surf_certcheck.proofs.heavier.Judge.first_heavier.Given as goal
 
 -- no left edge before could be exchanged

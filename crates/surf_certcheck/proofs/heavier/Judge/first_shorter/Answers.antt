@@ -4,7 +4,7 @@ use Rattle.surf_graphs.specs.Growth.{between}
 use Rattle.surf_graphs.specs.Trees.{on_path}
 use Rattle.surf_surfaces.specs.Surface.{faces_of}
 use Rattle.surf_validity.specs.Valid.{dual_tree, loop_size}
-use Rattle.surf_certcheck.specs.Paths.{IsShort, IsWidened}
+use Rattle.surf_certcheck.specs.Least.{IsShort, IsWidened}
 use Rattle.surf_certcheck.proofs.LeastIn.{least_is_first}
 use Rattle.surf_certcheck.proofs.heavier.Judge.first_shorter.Goals as goal
 

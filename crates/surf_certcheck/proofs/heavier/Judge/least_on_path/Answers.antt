@@ -5,7 +5,8 @@ use Rattle.surf_surfaces.specs.Cells.{cells_of}
 use Rattle.surf_validity.specs.Valid.{dual_tree}
 use Rattle.surf_validity.proofs.DualLaws.{dual_rows_are_tree}
 use Rattle.surf_certcheck.specs.Judging.{IsShortFor}
-use Rattle.surf_certcheck.specs.Paths.{IsStepUp, IsLeastWith, IsWidened}
+use Rattle.surf_treecheck.specs.Paths.{IsStepUp}
+use Rattle.surf_certcheck.specs.Least.{IsLeastWith, IsWidened}
 use Rattle.surf_certcheck.proofs.LeastIn.{is_behind, way_goes_on}
 use Rattle.surf_certcheck.proofs.heavier.Judge.least_on_path.Goals as goal
 

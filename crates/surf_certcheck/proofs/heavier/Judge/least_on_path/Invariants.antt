@@ -2,7 +2,7 @@ use Rattle.std.proofs.Common.{◌<◌}
 use Rattle.surf_surfaces.specs.Surface.{face_count}
 use Rattle.surf_validity.specs.Valid.{dual_tree, depth_at}
 use Rattle.surf_certcheck.specs.Judging.{IsShortFor}
-use Rattle.surf_certcheck.specs.Paths.{IsWidened}
+use Rattle.surf_certcheck.specs.Least.{IsWidened}
 use Rattle.surf_certcheck.proofs.LeastIn.{is_behind}
 use Rattle.surf_certcheck.proofs.heavier.Judge.least_on_path.Given as goal
 

@@ -3,8 +3,8 @@ use Rattle.surf_surfaces.specs.Surface.{ends}
 use Rattle.surf_validity.specs.Valid.{IsValidLoops}
 use Rattle.surf_validity.specs.Chosen.{chosen_cert, rows_for, dual_rows_of}
 use Rattle.surf_validity.proofs.ChosenLaws.{chosen_loops_are_valid}
-use Rattle.surf_cert.specs.Fits.{LoopFits}
-use Rattle.surf_cert.proofs.ChosenFits.{chosen_loops_fit}
+use Rattle.surf_records.specs.Fits.{LoopFits}
+use Rattle.surf_records.proofs.ChosenFits.{chosen_loops_fit}
 use Rattle.surf_tree.specs.Tables.{TreeTables, tree_of}
 use Rattle.surf_cotree.specs.Tables.{CotreeTables, cotree_of}
 use Rattle.surf_loops.specs.Loops.{trees_of}

@@ -1,7 +1,0 @@
-use Rattle.surf_certcheck.specs.First.{HoldsBelow}
-use Rattle.surf_certcheck.specs.Rows.{HasDual}
-use Rattle.surf_certcheck.proofs.dual.first_dual.Given as goal
-
--- all rows before are those of a tree of the faces
-abbrev pub invariant-loop-f : goal.invariant-loop-f
-invariant-loop-f l = HoldsBelow l.f (HasDual l.mesh l.dual)

@@ -1,7 +1,0 @@
-use Rattle.surf_certcheck.proofs.EdgeUp.{edge_up_is}
-use Rattle.surf_certcheck.proofs.edges.edge_up.Goals as goal
-
-pub returns : goal.returns
-returns c = record {
-  edge = edge_up_is c.args.mesh.now c.args.p c.args.v c.law_of_surface.ensures.surface c.find_edge.result c.find_edge.ensures;
-}

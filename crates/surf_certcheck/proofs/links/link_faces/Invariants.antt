@@ -1,6 +1,0 @@
-use Rattle.surf_certcheck.specs.Paths.{AreLinks}
-use Rattle.surf_certcheck.proofs.links.link_faces.Given as goal
-
--- the links of the faces before
-abbrev pub invariant-loop-f : goal.invariant-loop-f
-invariant-loop-f l = AreLinks l.mesh l.dual l.f l.parent.items l.up.items

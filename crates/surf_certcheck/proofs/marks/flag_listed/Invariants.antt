@@ -1,9 +1,0 @@
-use Rattle.std.proofs.Common.{take}
-use Rattle.surf_surfaces.specs.Surface.{edge_count}
-use Rattle.surf_validity.specs.Valid.{is_listed}
-use Rattle.surf_certcheck.specs.Split.{AreFlags}
-use Rattle.surf_certcheck.proofs.marks.flag_listed.Given as goal
-
--- the flags of the pairs before
-abbrev pub invariant-loop-i : goal.invariant-loop-i
-invariant-loop-i l = AreFlags (edge_count l.mesh) (is_listed l.mesh (take l.i l.left)) l.flags

@@ -1,7 +1,0 @@
-use Rattle.surf_certcheck.specs.First.{HoldsBelow}
-use Rattle.surf_certcheck.specs.BasisFaults.{HasBase}
-use Rattle.surf_certcheck.proofs.shape.fits_bases.Given as goal
-
--- the bases before are their places
-abbrev pub invariant-loop-x : goal.invariant-loop-x
-invariant-loop-x l = HoldsBelow l.x (HasBase l.cert)

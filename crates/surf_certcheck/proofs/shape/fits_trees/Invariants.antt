@@ -1,8 +1,0 @@
-use Rattle.surf_certcheck.specs.First.{HoldsBelow}
-use Rattle.surf_validity.specs.Bases.{tree_at}
-use Rattle.surf_certcheck.specs.Rows.{HasTreeRows}
-use Rattle.surf_certcheck.proofs.shape.fits_trees.Given as goal
-
--- the trees before have their rows
-abbrev pub invariant-loop-x : goal.invariant-loop-x
-invariant-loop-x l = HoldsBelow l.x (λ x. HasTreeRows l.mesh (tree_at l.cert x))

@@ -1,7 +1,0 @@
-use Rattle.std.proofs.Common.{take}
-use Rattle.surf_certcheck.specs.Split.{IsLeastStray}
-use Rattle.surf_certcheck.proofs.split.first_stray.Given as goal
-
--- the least of the pairs before
-abbrev pub invariant-loop-i : goal.invariant-loop-i
-invariant-loop-i l = IsLeastStray l.mesh (take l.i l.left) l.least

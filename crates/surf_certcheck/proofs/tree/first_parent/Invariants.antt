@@ -1,7 +1,0 @@
-use Rattle.surf_certcheck.specs.First.{HoldsBelow}
-use Rattle.surf_certcheck.specs.Rows.{HasParent}
-use Rattle.surf_certcheck.proofs.tree.first_parent.Given as goal
-
--- all before have parents
-abbrev pub invariant-loop-v : goal.invariant-loop-v
-invariant-loop-v l = HoldsBelow l.v (HasParent l.mesh l.rows)

@@ -1,7 +1,0 @@
-use Rattle.surf_validity.specs.Valid.{IsNoShortCut}
-use Rattle.surf_certcheck.specs.First.{HoldsBelow}
-use Rattle.surf_certcheck.proofs.tree.first_short_cut.Given as goal
-
--- no edge before is a short cut
-abbrev pub invariant-loop-e : goal.invariant-loop-e
-invariant-loop-e l = HoldsBelow l.e (IsNoShortCut l.mesh l.lengths l.rows)

@@ -1,7 +1,0 @@
-use Rattle.surf_certcheck.specs.First.{HoldsBelow}
-use Rattle.surf_certcheck.specs.BasisFaults.{HasParents}
-use Rattle.surf_certcheck.proofs.trees.first_orphan.Given as goal
-
--- all parents in the trees before are ones
-abbrev pub invariant-loop-x : goal.invariant-loop-x
-invariant-loop-x l = HoldsBelow l.x (HasParents l.mesh l.cert)

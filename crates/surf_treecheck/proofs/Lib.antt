@@ -1,0 +1,9 @@
+pub mod EdgeUp
+pub mod FaceEdges
+pub mod Flags
+pub mod Strays
+pub mod BadPairs
+pub mod FaceLinks
+pub mod FirstFault
+pub mod ShortCuts
+pub mod Steps

@@ -1,0 +1,10 @@
+use Rattle.surf_z2.specs.Parity.{any_below}
+use Rattle.surf_surfaces.specs.Surface.{edge_count}
+use Rattle.surf_validity.specs.Valid.{parent_at, leads_up}
+use Rattle.surf_treecheck.specs.Split.{AreFlags}
+use Rattle.surf_treecheck.proofs.marks.flag_parents.Given as goal
+
+-- the flags of the vertices before
+abbrev pub invariant-loop-v : goal.invariant-loop-v
+invariant-loop-v l = AreFlags (edge_count l.mesh)
+    (λ e. any_below l.v (λ v. leads_up l.mesh e v (parent_at l.rows v))) l.flags

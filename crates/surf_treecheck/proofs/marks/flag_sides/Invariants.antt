@@ -1,0 +1,10 @@
+use Rattle.surf_z2.specs.Parity.{any_below}
+use Rattle.surf_surfaces.specs.Surface.{edge_count}
+use Rattle.surf_validity.specs.Valid.{side_at, is_side}
+use Rattle.surf_treecheck.specs.Split.{AreFlags}
+use Rattle.surf_treecheck.proofs.marks.flag_sides.Given as goal
+
+-- the flags of the faces before
+abbrev pub invariant-loop-f : goal.invariant-loop-f
+invariant-loop-f l = AreFlags (edge_count l.mesh)
+    (λ e. any_below l.f (λ f. is_side l.mesh e (side_at l.dual f))) l.flags

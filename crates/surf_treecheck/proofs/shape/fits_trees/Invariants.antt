@@ -1,0 +1,8 @@
+use Rattle.surf_treecheck.specs.First.{HoldsBelow}
+use Rattle.surf_validity.specs.Bases.{tree_at}
+use Rattle.surf_treecheck.specs.Rows.{HasTreeRows}
+use Rattle.surf_treecheck.proofs.shape.fits_trees.Given as goal
+
+-- the trees before have their rows
+abbrev pub invariant-loop-x : goal.invariant-loop-x
+invariant-loop-x l = HoldsBelow l.x (λ x. HasTreeRows l.mesh (tree_at l.cert x))

@@ -1,0 +1,6 @@
+pub mod First
+pub mod Rows
+pub mod Shapes
+pub mod TreeFaults
+pub mod Split
+pub mod Paths
