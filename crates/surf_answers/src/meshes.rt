@@ -1,6 +1,5 @@
 //! Meshes as texts.
-ghost use Rattle.std.specs.Prelude.{◌≡◌, ◌<◌, ◌^◌};
-ghost use Rattle.surf_surfaces.specs.SideNumber.{side_count};
+ghost use Rattle.std.specs.Prelude.{◌≡◌};
 ghost use Rattle.surf_surfaces.specs.Surface.{edge_count, IsSurface};
 ghost use Rattle.surf_answers.specs.Making.{GivesMesh};
 ghost use Rattle.surf_answers.specs.Tells.{Concludes};
@@ -17,7 +16,6 @@ use surf_texts::Refused;
 fn edges_of(soup: &Soup) -> u32
     requires { IsSurface soup.now }
     ensures edges { result ≡ edge_count soup.now }
-    ensures few { side_count soup.now < 2 ^ 30 }
 {
     soup.side_count() / 2
 }

@@ -1,5 +1,5 @@
--- A face line that is made from its end.
-use Rattle.std.proofs.Common.{◌≡◌, ◌<◌, ◌≤◌, ◌+◌, ◌^◌, ℕ, List, ◌∷◌, ◌++◌, length, get_or, drop, sym, ◌∙◌, ap, append_assoc, arith}
+-- Lines that are made from their ends.
+use Rattle.std.proofs.Common.{◌≡◌, ◌<◌, ◌≤◌, ◌+◌, ◌^◌, ℕ, List, ◌∷◌, ◌++◌, length, get_or, drop, sym, ◌∙◌, ap, append_assoc, length-append, arith}
 use Rattle.std.specs.Prelude.{decimal}
 use Rattle.std.proofs.lemmas.Fmt.{length-decimal-le}
 use Rattle.std.proofs.lemmas.List.{drop_more}
@@ -7,6 +7,10 @@ use Rattle.surf_off.specs.Written.{spaced_text}
 
 pub number_short : (n : ℕ) → n < 2 ^ 32 → length (decimal n) ≤ 10
 number_short n few = length-decimal-le 10 n (omega arith) (omega (arith, few)) (omega (arith, few))
+
+-- how long a slip is at most once such a number stands before what it held
+pub number_before : (new old : List ℕ) (n : ℕ) → n < 2 ^ 32 → new ≡ decimal n ++ old → length new ≤ 10 + length old
+number_before new old n few is = omega (arith, ap length is, length-append (decimal n) old, number_short n few)
 
 pub size_short : (n : ℕ) → n ≤ 5 → length (decimal n) ≤ 1
 size_short n few = length-decimal-le 1 n (omega arith) (omega (arith, few)) (omega (arith, few))

@@ -1,26 +1,39 @@
-//! The line of a face, by the vertices of its corners.
-ghost use Rattle.std.specs.Prelude.{◌≡◌, ◌<◌, ◌≤◌, [], length};
+//! The line of a face, by the numbers of its corners.
+ghost use Rattle.std.specs.Prelude.{◌≡◌, ◌<◌, ◌≤◌, [], length, map};
 ghost use Rattle.surf_text.specs.Pages.{Puts};
-ghost use Rattle.surf_off.specs.Written.{spaced_text, face_text};
+ghost use Rattle.surf_off.specs.Written.{spaced_text, colour_text, face_text};
 
-use crate::write::{FEW_CORNERS, write_colour};
+use crate::numbered::Numbered;
 use surf_base::VertexId;
 use surf_text::{Page, PageFault, Piece, Slip};
 
-fn write_vertices(page: &mut Page, corners: &[VertexId]) -> Result<(), PageFault>
+// How many corners fit on a slip, with how many they are and the end of the line.
+const FEW_CORNERS: usize = 5;
+
+fn write_corners<N: Numbered>(page: &mut Page, corners: &[N]) -> Result<(), PageFault>
     requires fits { length page.old.bytes ≤ page.old.most }
-    ensures puts { Puts page.old page.new (spaced_text corners.now) result }
+    ensures puts { Puts page.old page.new (spaced_text (map N.number corners.now)) result }
 {
     for c in corners {
-        page.push_pieces(&[Piece::Bytes(b" "), Piece::Whole(c.index() as u128)])?;
+        page.push_pieces(&[Piece::Bytes(b" "), Piece::Whole(c.number() as u128)])?;
     }
     Ok(())
 }
 
+fn write_colour(page: &mut Page, colour: &[u8]) -> Result<(), PageFault>
+    requires fits { length page.old.bytes ≤ page.old.most }
+    ensures puts { Puts page.old page.new (colour_text colour.now) result }
+{
+    if colour.is_empty() {
+        return Ok(());
+    }
+    page.push_pieces(&[Piece::Bytes(b" "), Piece::Bytes(colour)])
+}
+
 // Makes the line of a face of few corners without a colour, in place of what the slip holds.
-fn make_line(slip: &mut Slip, corners: &[VertexId])
+fn make_line<N: Numbered>(slip: &mut Slip, corners: &[N])
     requires few { length corners.now ≤ 5 }
-    ensures face { slip.new ≡ face_text corners.now [] }
+    ensures face { slip.new ≡ face_text (map N.number corners.now) [] }
 {
     slip.clear();
     slip.put_byte(b'\n');
@@ -32,13 +45,31 @@ fn make_line(slip: &mut Slip, corners: &[VertexId])
 }
 
 // The line of a face, however long it is.
-fn write_long(page: &mut Page, corners: &[VertexId], colour: &[u8]) -> Result<(), PageFault>
-    ensures puts { Puts page.old page.new (face_text corners.now colour.now) result }
+fn write_long<N: Numbered>(page: &mut Page, corners: &[N], colour: &[u8]) -> Result<(), PageFault>
+    ensures puts { Puts page.old page.new (face_text (map N.number corners.now) colour.now) result }
 {
     page.push_whole(corners.len() as u128)?;
-    write_vertices(page, corners)?;
+    write_corners(page, corners)?;
     write_colour(page, colour)?;
     page.push_bytes(b"\n")
+}
+
+/// Puts the line of a face on a page as `write_face` does, by corners of any kind that has a
+/// number.
+#[inline]
+pub(crate) fn put_face<N: Numbered>(
+    page: &mut Page,
+    slip: &mut Slip,
+    corners: &[N],
+    colour: &[u8],
+) -> Result<(), PageFault>
+    ensures puts { Puts page.old page.new (face_text (map N.number corners.now) colour.now) result }
+{
+    if corners.len() > FEW_CORNERS || !colour.is_empty() {
+        return write_long(page, corners, colour);
+    }
+    make_line(slip, corners);
+    page.push_bytes(slip.bytes())
 }
 
 /// Puts the line of a face on a page: how many corners it has, their vertices and its colour, if
@@ -53,9 +84,5 @@ pub fn write_face(
 ) -> Result<(), PageFault>
     ensures puts { Puts page.old page.new (face_text corners.now colour.now) result }
 {
-    if corners.len() > FEW_CORNERS || !colour.is_empty() {
-        return write_long(page, corners, colour);
-    }
-    make_line(slip, corners);
-    page.push_bytes(slip.bytes())
+    put_face(page, slip, corners, colour)
 }

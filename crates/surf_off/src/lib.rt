@@ -14,6 +14,7 @@ mod fault;
 mod head;
 mod header;
 mod made;
+mod numbered;
 mod off_places;
 mod parts;
 mod plain;

@@ -1,7 +1,6 @@
 //! Writes a made mesh as an OFF text.
-ghost use Rattle.std.specs.Prelude.{◌≡◌, ◌<◌, ◌≤◌, ◌^◌, ◌++◌, codes, length};
+ghost use Rattle.std.specs.Prelude.{◌≡◌, ◌≤◌, ◌++◌, codes, length};
 ghost use Rattle.std.specs.List.{zip, range_with_len};
-ghost use Rattle.surf_surfaces.specs.SideNumber.{side_count};
 ghost use Rattle.surf_text.specs.Pages.{Puts};
 ghost use Rattle.surf_off.specs.Written.{lines_text, faces_text, points, point_text, no_colours};
 ghost use Rattle.surf_off.specs.Written.{soup_text, RereadsSoup};
@@ -49,11 +48,13 @@ fn write_plain_faces(page: &mut Page, soup: &Soup) -> Result<(), PageFault>
 /// Puts a made mesh on a page: the keyword `OFF`, the numbers of vertices, faces and edges, for
 /// each vertex a line with its number and two zeros, and the faces. Refuses with `Full` where the
 /// page would hold more than its bound with the whole text, and with `Memory` where there is none.
-/// After a refusal the page holds a front of the text behind its bytes.
+/// After a refusal the page holds a front of the text behind its bytes. Read again without limits,
+/// the text is this mesh.
 pub fn write_soup(page: &mut Page, soup: &Soup, edges: u32) -> Result<(), PageFault>
     ensures puts { Puts page.old page.new (soup_text soup.now edges) result }
-    ensures reread { side_count soup.now < 2 ^ 30 → RereadsSoup soup.now edges }
+    ensures reread { RereadsSoup soup.now edges }
 {
+    soup.law_of_soup();
     write_head(
         page,
         Header::Off,

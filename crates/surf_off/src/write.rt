@@ -3,10 +3,11 @@ ghost use Rattle.std.specs.Prelude.{◌≡◌, ◌<◌, ◌≤◌, ◌+◌, ◌+
 ghost use Rattle.std.specs.List.{All, zip, range_with_len};
 ghost use Rattle.surf_surfaces.specs.Mesh.{IsFace};
 ghost use Rattle.surf_text.specs.Pages.{Puts};
-ghost use Rattle.surf_off.specs.Written.{head_text, lines_text, spaced_text, colour_text, face_text, faces_text};
+ghost use Rattle.surf_off.specs.Written.{head_text, lines_text, faces_text};
 ghost use Rattle.surf_off.specs.Written.{copy_text, copies_text, lines_at, rows_at, AreStarts, opened_text};
 ghost use Rattle.surf_off.specs.Written.{RereadsOpened};
 
+use crate::face::put_face;
 use crate::header::Header;
 use crate::text::OffText;
 use surf_base::{CopyId, VertexId};
@@ -56,68 +57,6 @@ fn write_lines(page: &mut Page, text: &OffText<'_>, origins: &[VertexId]) -> Res
     Ok(())
 }
 
-fn write_corners(page: &mut Page, corners: &[CopyId]) -> Result<(), PageFault>
-    requires fits { length page.old.bytes ≤ page.old.most }
-    ensures puts { Puts page.old page.new (spaced_text corners.now) result }
-{
-    for c in corners {
-        page.push_pieces(&[Piece::Bytes(b" "), Piece::Whole(c.index() as u128)])?;
-    }
-    Ok(())
-}
-
-pub(crate) fn write_colour(page: &mut Page, colour: &[u8]) -> Result<(), PageFault>
-    requires fits { length page.old.bytes ≤ page.old.most }
-    ensures puts { Puts page.old page.new (colour_text colour.now) result }
-{
-    if colour.is_empty() {
-        return Ok(());
-    }
-    page.push_pieces(&[Piece::Bytes(b" "), Piece::Bytes(colour)])
-}
-
-// How many corners fit on a slip, with how many they are and the end of the line.
-pub(crate) const FEW_CORNERS: usize = 5;
-
-// Makes the line of a face of few corners without a colour, in place of what the slip holds.
-fn make_face(slip: &mut Slip, corners: &[CopyId])
-    requires few { length corners.now ≤ 5 }
-    ensures face { slip.new ≡ face_text corners.now [] }
-{
-    slip.clear();
-    slip.put_byte(b'\n');
-    for k in (0..corners.len()).rev() {
-        slip.put_whole(corners[k].number() as u64);
-        slip.put_byte(b' ');
-    }
-    slip.put_whole(corners.len() as u64);
-}
-
-// The line of a face, however long it is.
-fn write_long_face(page: &mut Page, corners: &[CopyId], colour: &[u8]) -> Result<(), PageFault>
-    ensures puts { Puts page.old page.new (face_text corners.now colour.now) result }
-{
-    page.push_whole(corners.len() as u128)?;
-    write_corners(page, corners)?;
-    write_colour(page, colour)?;
-    page.push_bytes(b"\n")
-}
-
-fn write_face(
-    page: &mut Page,
-    slip: &mut Slip,
-    corners: &[CopyId],
-    colour: &[u8],
-) -> Result<(), PageFault>
-    ensures puts { Puts page.old page.new (face_text corners.now colour.now) result }
-{
-    if corners.len() > FEW_CORNERS || !colour.is_empty() {
-        return write_long_face(page, corners, colour);
-    }
-    make_face(slip, corners);
-    page.push_bytes(slip.bytes())
-}
-
 // The corners of a face.
 fn face_at<'a>(corners: &'a [CopyId], starts: &[u32], f: usize) -> &'a [CopyId]
     requires starts { AreStarts starts.now (length corners.now) }
@@ -143,7 +82,7 @@ fn write_faces(
 {
     let mut slip = Slip::new();
     for f in 0..starts.len() - 1 {
-        write_face(
+        put_face(
             page,
             &mut slip,
             face_at(corners, starts, f),

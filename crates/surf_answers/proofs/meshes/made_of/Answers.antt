@@ -16,6 +16,6 @@ returns-in_err-write_soup c =
     let stops : Stops c.make-page.result text fault =
     subst (λ e. Stops c.make-page.result (soup_text mesh e) fault) c.edges_of.ensures.edges c.in_err-write_soup.ensures.puts.1 in
     let again : RereadsSoup mesh (edge_count mesh) =
-    subst (λ e. RereadsSoup mesh e) c.edges_of.ensures.edges (c.write_soup.ensures.reread c.edges_of.ensures.few) in
+    subst (λ e. RereadsSoup mesh e) c.edges_of.ensures.edges c.write_soup.ensures.reread in
     rw (p.1, p.2) (why_overfilled (GivesMesh mesh) text fault (λ long. record { says = says_beyond text long; rereads = again })
     (subst (λ (page : PageState). Stops page text fault) c.make-page.ensures.empty stops))

@@ -1,4 +1,4 @@
-use Rattle.std.proofs.Common.{◌≡◌, ◌<◌, ◌^◌, arith, ℕ, ◌++◌, length, refl, sym, ◌∙◌, subst}
+use Rattle.std.proofs.Common.{◌≡◌, ◌^◌, arith, ℕ, ◌++◌, length, refl, sym, ◌∙◌, subst}
 use Rattle.std.specs.List.{zip, range_with_len}
 use Rattle.std.proofs.lemmas.List.{length-map}
 use Rattle.std.proofs.lemmas.List.FromFn.{length-range_with_len}
@@ -7,7 +7,6 @@ use Rattle.surf_text.specs.Pages.{Puts}
 use Rattle.surf_text.proofs.Writing.{puts_more, puts_stop}
 use Rattle.surf_off.specs.declared.header.Header.TheVariants.{Off}
 use Rattle.surf_off.specs.Written.{head_text, lines_text, faces_text, points, no_colours, RereadsSoup}
-use Rattle.surf_surfaces.specs.SideNumber.{side_count}
 use Rattle.surf_off.proofs.RereadMesh.{soup_again, short_faces}
 use Rattle.surf_off.proofs.made.write_soup.Goals as goal
 
@@ -25,7 +24,7 @@ returns-in_err-write_head c =
     let one : Puts p0 p1 head c.write_head.result = subst (λ (n : ℕ). Puts p0 p1 (head_text Off (length (points (range_with_len 0 mesh.vertices))) n e) c.write_head.result) c.faces.ensures.count half in
     let r = c.from_residual.result in
     let p = err_from_is_err_and r c.from_residual.ensures.1 in
-    let again : side_count mesh < 2 ^ 30 → RereadsSoup mesh e = λ few. soup_again mesh e c.vertices.ensures.mesh (short_faces mesh.faces (2 ^ 64) (omega (arith, few))) (omega (arith, c.vertices.ensures.count)) (omega (arith, c.faces.ensures.count)) (omega arith) in
+    let again : RereadsSoup mesh e = soup_again mesh e c.law_of_soup.ensures.mesh (short_faces mesh.faces (2 ^ 64) (omega (arith, c.law_of_soup.ensures.few))) (omega (arith, c.vertices.ensures.count)) (omega (arith, c.faces.ensures.count)) (omega arith) in
     record { reread = again; puts = puts_stop p0 p1 head (lines ++ faces) c.write_head.result c.in_err-write_head.field-0.0 r c.in_err-write_head.was (rw (p.1, p.2) refl) one }
 
 pub returns-in_err-write_points : goal.returns-in_err-write_points
@@ -44,7 +43,7 @@ returns-in_err-write_points c =
     let p2 = c.write_points.new.page in
     let r = c.from_residual-in_err-write_points.result in
     let p = err_from_is_err_and r c.from_residual-in_err-write_points.ensures.1 in
-    let again : side_count mesh < 2 ^ 30 → RereadsSoup mesh e = λ few. soup_again mesh e c.vertices.ensures.mesh (short_faces mesh.faces (2 ^ 64) (omega (arith, few))) (omega (arith, c.vertices.ensures.count)) (omega (arith, c.faces.ensures.count)) (omega arith) in
+    let again : RereadsSoup mesh e = soup_again mesh e c.law_of_soup.ensures.mesh (short_faces mesh.faces (2 ^ 64) (omega (arith, c.law_of_soup.ensures.few))) (omega (arith, c.vertices.ensures.count)) (omega (arith, c.faces.ensures.count)) (omega arith) in
     record {
       reread = again;
       puts = puts_more p0 p1 p2 head (lines ++ faces) c.write_head.result c.in_ok-write_head.field-0 r c.in_ok-write_head.was one
@@ -67,7 +66,7 @@ returns c =
     let p2 = c.write_points.new.page in
     let p3 = c.write_plain_faces.new.page in
     let r = c.write_plain_faces.result in
-    let again : side_count mesh < 2 ^ 30 → RereadsSoup mesh e = λ few. soup_again mesh e c.vertices.ensures.mesh (short_faces mesh.faces (2 ^ 64) (omega (arith, few))) (omega (arith, c.vertices.ensures.count)) (omega (arith, c.faces.ensures.count)) (omega arith) in
+    let again : RereadsSoup mesh e = soup_again mesh e c.law_of_soup.ensures.mesh (short_faces mesh.faces (2 ^ 64) (omega (arith, c.law_of_soup.ensures.few))) (omega (arith, c.vertices.ensures.count)) (omega (arith, c.faces.ensures.count)) (omega arith) in
     record {
       reread = again;
       puts = puts_more p0 p1 p3 head (lines ++ faces) c.write_head.result c.in_ok-write_head.field-0 r c.in_ok-write_head.was one

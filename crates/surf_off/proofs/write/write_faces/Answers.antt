@@ -1,5 +1,6 @@
 use Rattle.std.proofs.Common.{◌≡◌, ◌<◌, ◌≤◌, ◌+◌, ℕ, List, [], length, get_or, refl, arith}
 use Rattle.std.specs.List.{zip}
+use Rattle.std.proofs.lemmas.List.{map-id}
 use Rattle.std.proofs.lemmas.Slice.Zip.{length-zip}
 use Rattle.std.proofs.lemmas.Result.{err_from_is_err_and}
 use Rattle.surf_text.specs.Pages.{Puts}
@@ -8,8 +9,8 @@ use Rattle.surf_off.specs.Written.{face_text, faces_text, rows_at}
 use Rattle.surf_off.proofs.FaceRows.{rows_length, get_or-zip}
 use Rattle.surf_off.proofs.write.write_faces.Goals as goal
 
-pub returns-in_err-write_face : goal.returns-in_err-write_face
-returns-in_err-write_face c =
+pub returns-in_err-put_face : goal.returns-in_err-put_face
+returns-in_err-put_face c =
     let rows = rows_at c.args.starts.now c.args.corners.now in
     let colours = c.args.text.now.colours in
     let f = c.loop-f.f in
@@ -18,9 +19,9 @@ returns-in_err-write_face c =
     let count : length rows + 1 ≡ length c.args.starts.now = rows_length c.args.starts.now c.args.corners.now (length c.args.corners.now) c.requires.starts in
     let lt : f < length (zip rows colours) = omega (arith, length-zip rows colours, count, c.requires.count) in
     let at : get_or (zip rows colours) f ([], []) ≡ (get_or rows f [], get_or colours f []) = get_or-zip rows colours f (omega arith) (omega (arith, c.requires.count)) in
-    let one : Puts c.loop-f.page c.write_face.new.page (piece (get_or (zip rows colours) f ([], []))) c.write_face.result =
-    rw (at, ← c.face_at.ensures.face, ← c.colour_at.ensures.colour) c.write_face.ensures.puts in
-    record { puts = loop_stop faces_text piece refl (λ x xs. refl) (zip rows colours) f ([], []) lt c.args.page.now c.loop-f.page c.write_face.new.page (tt {0}) c.loop-f.invariant c.write_face.result c.in_err-write_face.field-0.0 c.from_residual.result c.in_err-write_face.was (rw (p.1, p.2) refl) one }
+    let one : Puts c.loop-f.page c.put_face.new.page (piece (get_or (zip rows colours) f ([], []))) c.put_face.result =
+    rw (at, ← c.face_at.ensures.face, ← c.colour_at.ensures.colour, ← map-id c.face_at.result.now) c.put_face.ensures.puts in
+    record { puts = loop_stop faces_text piece refl (λ x xs. refl) (zip rows colours) f ([], []) lt c.args.page.now c.loop-f.page c.put_face.new.page (tt {0}) c.loop-f.invariant c.put_face.result c.in_err-put_face.field-0.0 c.from_residual.result c.in_err-put_face.was (rw (p.1, p.2) refl) one }
 
 pub loop-f-preserved : goal.loop-f-preserved
 loop-f-preserved c =
@@ -31,9 +32,9 @@ loop-f-preserved c =
     let count : length rows + 1 ≡ length c.args.starts.now = rows_length c.args.starts.now c.args.corners.now (length c.args.corners.now) c.requires.starts in
     let lt : f < length (zip rows colours) = omega (arith, length-zip rows colours, count, c.requires.count) in
     let at : get_or (zip rows colours) f ([], []) ≡ (get_or rows f [], get_or colours f []) = get_or-zip rows colours f (omega arith) (omega (arith, c.requires.count)) in
-    let one : Puts c.loop-f.page c.write_face.new.page (piece (get_or (zip rows colours) f ([], []))) c.write_face.result =
-    rw (at, ← c.face_at.ensures.face, ← c.colour_at.ensures.colour) c.write_face.ensures.puts in
-    loop_more faces_text piece refl (λ x xs. refl) (zip rows colours) f ([], []) lt c.args.page.now c.loop-f.page c.write_face.new.page (tt {0}) c.loop-f.invariant c.write_face.result c.in_ok-write_face.field-0 c.in_ok-write_face.was one
+    let one : Puts c.loop-f.page c.put_face.new.page (piece (get_or (zip rows colours) f ([], []))) c.put_face.result =
+    rw (at, ← c.face_at.ensures.face, ← c.colour_at.ensures.colour, ← map-id c.face_at.result.now) c.put_face.ensures.puts in
+    loop_more faces_text piece refl (λ x xs. refl) (zip rows colours) f ([], []) lt c.args.page.now c.loop-f.page c.put_face.new.page (tt {0}) c.loop-f.invariant c.put_face.result c.in_ok-put_face.field-0 c.in_ok-put_face.was one
 
 pub returns : goal.returns
 returns c =
