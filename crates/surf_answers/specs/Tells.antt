@@ -42,12 +42,14 @@ WhyOver holds old new ended (due outcome) = IfSome holds (λ files. ended files 
 WhyOver holds old new ended unread = HasRisen old new ⊎ IsTold holds (λ files. ended files misses)
 WhyOver holds old new ended starved = Unit {0}
 
+-- A function that reads files takes a step, wherever it is told what they hold.
 abbrev pub TakesOver : {T A : Type 0} → Option Files → ℕ → ℕ → (T → A) → (Files → Result A Outcome → Type 0) →
     Result T Refused → Type 0
 TakesOver holds old new view step (Ok x) = IfSome holds (λ files. step files (Ok (view x)))
 TakesOver holds old new view step (Err e) =
     WhyOver holds old new (λ files outcome. step files (Err outcome)) (cause_of e)
 
+-- A function that reads files comes to an end, wherever it is told what they hold.
 abbrev pub ConcludesOver : Option Files → ℕ → ℕ → (Files → Outcome → Type 0) → Result Answered Refused → Type 0
 ConcludesOver holds old new end (Ok a) =
     IfSome holds (λ files. end files (answers (verdict_status a.verdict) a.text.items))

@@ -32,7 +32,7 @@ IsCycleClosed mesh cert k = IsClosedList mesh (cycle_at cert k)
 abbrev pub IsIndependentAt : Mesh → BasisCert → ℕ → Type 0
 IsIndependentAt mesh cert k = IsDependent mesh cert k → ⊥
 
--- the least place of a cycle whose signature is one
+-- the least place of a cycle whose signature is a sum of those before it
 pub record DependsFirst (mesh : Mesh) (cert : BasisCert) (k : ℕ) : Type 0 where
   pub below : k < length cert.cycles
   pub depends : IsDependent mesh cert k

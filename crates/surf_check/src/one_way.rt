@@ -14,7 +14,7 @@ ghost use Rattle.surf_check.specs.Kinds.{RunOneWay, BeginsWithMate, NoneBeginWit
 use crate::checking::SurfaceFault;
 use crate::descent::are_set_behind_first;
 use std::alloc::Global;
-use surf_base::{FaceId, SideId, VertexId};
+use surf_base::SideId;
 use surf_soup::{
     MatedSides, Pinch, SideFaces, Soup, find_apart, find_isolated, find_pinch_by, first_sides,
     mated_sides,
@@ -52,9 +52,7 @@ fn mated(alloc: Global, soup: &Soup) -> Result<(MatedSides, Vec<SideId>), Surfac
     let mated = mated_sides(alloc, soup)?;
     let first = first_sides(alloc, soup)?;
     if let Some(v) = find_isolated(soup, &first) {
-        return Err(SurfaceFault::Isolated {
-            v: VertexId::new(v as u32),
-        });
+        return Err(SurfaceFault::Isolated { v });
     }
     Ok((mated, first))
 }
@@ -105,9 +103,7 @@ fn test_faces_joined(
     }
     match find_apart(alloc, soup, &mated.mate, face_of)? {
         None => Ok(()),
-        Some(f) => Err(SurfaceFault::Apart {
-            face: FaceId::new(f as u32),
-        }),
+        Some(face) => Err(SurfaceFault::Apart { face }),
     }
 }
 

@@ -34,9 +34,10 @@ pub(crate) fn all_across(
     let count = soup.side_count();
     let mut across = Vec::with_capacity(alloc, count as usize)?;
     for s in 0..count {
-        let edge = table.edge_of[s as usize];
-        let row = table.sides.row(edge as usize);
-        across.push(other_side(row, SideId::new(s)))?;
+        let side = SideId::new(s);
+        let edge = table.edge_of[side.index()];
+        let row = table.sides.row(edge.index());
+        across.push(other_side(row, side))?;
     }
     Ok(across)
 }

@@ -15,16 +15,21 @@ ghost use Rattle.surf_disc.specs.declared.faults.DiscFault.TheVariants.{Memory};
 use crate::corners::CornerTables;
 use crate::{BorderKind, DiscFault};
 use std::alloc::Global;
-use surf_base::{NoMemory, SideId, VertexId};
+use surf_base::{EdgeId, NoMemory, SideId, VertexId};
 use surf_rows::Rows;
 use surf_soup::{EdgeTable, Soup, first_row, reach};
 
 // Adds the other end of a side that has nothing across it.
-fn push_end(row: &mut Vec<u32>, across: &[SideId], side: u32, end: VertexId) -> Result<(), NoMemory>
+fn push_end(
+    row: &mut Vec<u32>,
+    across: &[SideId],
+    side: SideId,
+    end: VertexId,
+) -> Result<(), NoMemory>
     requires side { side < length across.now }
     ensures ends { OnOk result (row.new.items ≡ with_end across.now side end row.old.items) }
 {
-    if across[side as usize].number() == side {
+    if across[side.index()] == side {
         row.push(end.number())?;
     }
     Ok(())
@@ -34,8 +39,8 @@ fn push_end(row: &mut Vec<u32>, across: &[SideId], side: u32, end: VertexId) -> 
 fn list_ends(
     row: &mut Vec<u32>,
     corners: &[SideId],
-    next: &[u32],
-    prev: &[u32],
+    next: &[SideId],
+    prev: &[SideId],
     across: &[SideId],
     tails: &[VertexId],
 ) -> Result<(), NoMemory>
@@ -50,11 +55,11 @@ fn list_ends(
 {
     row.clear();
     for corner in corners {
-        let side = corner.number();
-        let after = next[side as usize];
-        let before = prev[side as usize];
-        push_end(row, across, side, tails[after as usize])?;
-        push_end(row, across, before, tails[before as usize])?;
+        let side = *corner;
+        let after = next[side.index()];
+        let before = prev[side.index()];
+        push_end(row, across, side, tails[after.index()])?;
+        push_end(row, across, before, tails[before.index()])?;
     }
     Ok(())
 }
@@ -63,8 +68,8 @@ fn list_ends(
 fn border_rows(
     alloc: Global,
     soup: &Soup,
-    next: &[u32],
-    prev: &[u32],
+    next: &[SideId],
+    prev: &[SideId],
     across: &[SideId],
     at_vertex: &Rows<SideId>,
 ) -> Result<Rows<u32>, NoMemory>
@@ -93,13 +98,16 @@ fn border_rows(
 }
 
 /// The least border edge.
-pub(crate) fn least_border(soup: &Soup, table: &EdgeTable) -> Option<usize>
+pub(crate) fn least_border(soup: &Soup, table: &EdgeTable) -> Option<EdgeId>
     requires table { IsTableOf soup.now table.now }
     ensures least { MatchOption result ((e : ℕ) → IsBorderEdge soup.now e → ⊥)
         (λ e. IsLeastOnBorder soup.now e) }
 {
     soup.law_of_soup();
-    first_row(&table.sides, 1, 1)
+    match first_row(&table.sides, 1, 1) {
+        None => None,
+        Some(e) => Some(EdgeId::new(e as u32)),
+    }
 }
 
 /// Marks the vertices of the cycle of border edges through the least one.
@@ -108,7 +116,7 @@ pub(crate) fn mark_border(
     soup: &Soup,
     table: &EdgeTable,
     corners: &CornerTables<'_>,
-    least: usize,
+    least: EdgeId,
 ) -> Result<Vec<bool>, NoMemory>
     requires table { IsTableOf soup.now table.now }
     requires tables { AreCornerTables soup.now
@@ -119,7 +127,7 @@ pub(crate) fn mark_border(
     ensures marks { IfOk result (λ seen. IsBorderMarked soup.now least seen.items) }
 {
     soup.law_of_soup();
-    let (low, _) = table.edges[least];
+    let (low, _) = table.edges[least.index()];
     let rows = border_rows(
         alloc,
         soup,
@@ -159,7 +167,7 @@ fn first_outside(
 pub(crate) fn refuse_second(
     soup: &Soup,
     table: &EdgeTable,
-    e: usize,
+    e: EdgeId,
     seen: &[bool],
 ) -> Result<(), DiscFault>
     requires table { IsTableOf soup.now table.now }
@@ -172,7 +180,7 @@ pub(crate) fn refuse_second(
 {
     soup.law_of_soup();
     if let Some(h) = first_outside(&table.sides, &table.edges, seen) {
-        let (u, v) = table.edges[e];
+        let (u, v) = table.edges[e.index()];
         let (s, t) = table.edges[h];
         return Err(DiscFault::Border {
             kind: BorderKind::Two { u, v, s, t },

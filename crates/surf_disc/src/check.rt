@@ -17,10 +17,9 @@ use crate::corners::CornerTables;
 use crate::fans::refuse_pinched;
 use crate::{BorderKind, DiscFault};
 use std::alloc::Global;
-use surf_base::VertexId;
 use surf_soup::{
-    EdgeTable, Soup, edge_table, face_in, find_isolated, first_row, first_sides, next_sides,
-    sides_before, vertex_sides,
+    EdgeTable, Soup, Turn, edge_table, face_in, find_isolated, first_row, first_sides,
+    turned_sides, vertex_sides,
 };
 
 // The fault at an edge with many sides.
@@ -67,9 +66,7 @@ fn refuse_isolated(alloc: Global, soup: &Soup) -> Result<(), DiscFault>
     let first = first_sides(alloc, soup)?;
     match find_isolated(soup, &first) {
         None => Ok(()),
-        Some(v) => Err(DiscFault::Isolated {
-            v: VertexId::new(v as u32),
-        }),
+        Some(v) => Err(DiscFault::Isolated { v }),
     }
 }
 
@@ -108,8 +105,8 @@ fn find_fault(alloc: Global, soup: &Soup) -> Result<u32, DiscFault>
     refuse_crowded(soup, &table)?;
     refuse_isolated(alloc, soup)?;
     let at_vertex = vertex_sides(alloc, soup, &table.numbers)?;
-    let next = next_sides(alloc, soup)?;
-    let prev = sides_before(alloc, soup)?;
+    let next = turned_sides(alloc, soup, Turn::After)?;
+    let prev = turned_sides(alloc, soup, Turn::Before)?;
     let across = all_across(alloc, soup, &table)?;
     let corners = CornerTables {
         next: &next,

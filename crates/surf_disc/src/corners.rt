@@ -7,8 +7,8 @@ use surf_rows::Rows;
 /// that begin at each vertex.
 #[derive(Drop)]
 pub(crate) struct CornerTables<'t> {
-    pub(crate) next: &'t [u32],
-    pub(crate) prev: &'t [u32],
+    pub(crate) next: &'t [SideId],
+    pub(crate) prev: &'t [SideId],
     pub(crate) across: &'t [SideId],
     pub(crate) at_vertex: &'t Rows<SideId>,
 }

@@ -17,15 +17,21 @@ use surf_rows::Rows;
 use surf_soup::{Soup, face_in, first_left, reach};
 
 // The corner at a vertex across a side that ends there.
-fn corner_across(next: &[u32], across: &[SideId], tails: &[VertexId], side: u32, v: VertexId) -> u32
+fn corner_across(
+    next: &[SideId],
+    across: &[SideId],
+    tails: &[VertexId],
+    side: SideId,
+    v: VertexId,
+) -> SideId
     requires side { side < length across.now }
     requires across { All (λ t. t < length next.now) across.now }
     requires tails { length tails.now ≡ length next.now }
     ensures corner { result ≡ over_corner next.now across.now tails.now side v }
 {
-    let over = across[side as usize];
+    let over = across[side.index()];
     if tails[over.index()] == v {
-        over.number()
+        over
     } else {
         next[over.index()]
     }
@@ -35,8 +41,8 @@ fn corner_across(next: &[u32], across: &[SideId], tails: &[VertexId], side: u32,
 fn link_corners(
     alloc: Global,
     soup: &Soup,
-    next: &[u32],
-    prev: &[u32],
+    next: &[SideId],
+    prev: &[SideId],
     across: &[SideId],
 ) -> Result<Rows<u32>, NoMemory>
     requires tables { AreCornerTables soup.now next.now prev.now across.now }
@@ -51,11 +57,12 @@ fn link_corners(
     let ends = Vec::with_capacity(alloc, count + 1)?;
     let mut rows = Rows::in_room(Vec::with_capacity(alloc, 2 * count + vertices)?, ends);
     for s in 0..soup.side_count() {
-        let v = tails[s as usize];
-        let before = prev[s as usize];
-        let over_this = corner_across(next, across, tails, s, v);
+        let side = SideId::new(s);
+        let v = tails[side.index()];
+        let before = prev[side.index()];
+        let over_this = corner_across(next, across, tails, side, v);
         let over_that = corner_across(next, across, tails, before, v);
-        rows.push(&[over_this, over_that])?;
+        rows.push(&[over_this.number(), over_that.number()])?;
     }
     Ok(rows)
 }
@@ -79,8 +86,8 @@ fn first_corners(alloc: Global, at_vertex: &Rows<SideId>) -> Result<Vec<u32>, No
 fn mark_fans(
     alloc: Global,
     soup: &Soup,
-    next: &[u32],
-    prev: &[u32],
+    next: &[SideId],
+    prev: &[SideId],
     across: &[SideId],
     at_vertex: &Rows<SideId>,
 ) -> Result<Vec<bool>, NoMemory>

@@ -173,7 +173,7 @@ impl Surface {
         requires { s < side_count self.now }
         ensures { IsEdgeOf self.now s result }
     {
-        EdgeId::new(self.pairing.edge_of[s.index()])
+        self.pairing.edge_of[s.index()]
     }
 
     /// The ends of an edge, the lesser first.

@@ -13,6 +13,8 @@ use Rattle.surf_soup.specs.Vertices.{all_corners, sides_at}
 use Rattle.surf_soup.specs.Reach.{marked, unmarked}
 use Rattle.surf_soup.specs.declared.rings.Rings.{Rings}
 use Rattle.surf_soup.specs.declared.rings.Rings.TheVariants.{All, Pinched}
+use Rattle.surf_soup.specs.declared.turned.Turn.{Turn}
+use Rattle.surf_soup.specs.declared.turned.Turn.TheVariants.{After, Before}
 
 -- A dart is a side with one of its ends: its head where the flag is true. It stands at the corner there.
 abbrev pub dart_corner : List ℕ → ℕ × Bool → ℕ
@@ -52,6 +54,11 @@ pub record IsRound (next prev mate tails : List ℕ) (d : ℕ × Bool) (seen_bef
 pub record IsTrail (next prev mate tails edge_of : List ℕ) (d : ℕ × Bool) (count : ℕ) (edges : List ℕ) : Type 0 where
   pub size : length edges ≡ count
   pub at : (k : ℕ) → k < count → get_or edges k 0 ≡ get_or edge_of (turns next prev mate tails k d).0 0
+
+-- the place to which a step around a face leads
+abbrev pub place_by : Turn → ℕ → ℕ → ℕ
+place_by After = after
+place_by Before = before
 
 -- for each side the side at another place of its face, for the first sides
 pub record AreTurned (turn : ℕ → ℕ → ℕ) (mesh : Mesh) (count : ℕ) (table : List ℕ) : Type 0 where

@@ -11,7 +11,7 @@ use crate::Soup;
 use crate::forest::{join, lone_numbers, second_root};
 use crate::side_faces::SideFaces;
 use std::alloc::Global;
-use surf_base::{NoMemory, SideId};
+use surf_base::{FaceId, NoMemory, SideId};
 
 // Joins the faces of each side and of its mate.
 fn join_faces(soup: &Soup, mate: &[SideId], face_of: &SideFaces, parents: &mut [u32])
@@ -38,7 +38,7 @@ pub fn find_apart(
     soup: &Soup,
     mate: &[SideId],
     face_of: &SideFaces,
-) -> Result<Option<usize>, NoMemory>
+) -> Result<Option<FaceId>, NoMemory>
     requires some { 0 < face_count soup.now }
     requires two { HasTwoFaces soup.now }
     requires mates { AreAllMates soup.now mate.now }
@@ -48,6 +48,8 @@ pub fn find_apart(
 {
     let mut parents = lone_numbers(alloc, soup.faces())?;
     join_faces(soup, mate, face_of, &mut parents);
-    let found = second_root(&parents);
-    Ok(found)
+    match second_root(&parents) {
+        None => Ok(None),
+        Some(root) => Ok(Some(FaceId::new(root))),
+    }
 }

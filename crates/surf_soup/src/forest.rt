@@ -59,7 +59,7 @@ pub(crate) fn join(parents: &mut [u32], first: u32, second: u32)
 }
 
 /// The least root but 0.
-pub(crate) fn second_root(parents: &[u32]) -> Option<usize>
+pub(crate) fn second_root(parents: &[u32]) -> Option<u32>
     ensures { MatchOption result ((f : ℕ) → 0 < f → f < length parents.now →
         slice_index parents.now f ≢ f) (λ f. (0 < f) × (f < length parents.now)
         × (slice_index parents.now f ≡ f)
@@ -67,7 +67,7 @@ pub(crate) fn second_root(parents: &[u32]) -> Option<usize>
 {
     for number in 1..parents.len() {
         if parents[number] as usize == number {
-            return Some(number);
+            return Some(parents[number]);
         }
     }
     None

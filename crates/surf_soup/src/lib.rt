@@ -54,5 +54,5 @@ pub use rings::{Pinch, Rings, find_pinch, find_pinch_by, find_rings, first_left}
 pub use side_faces::SideFaces;
 pub use soup::{Soup, face_span};
 pub use tables::{EdgeTable, edge_table, numbers};
-pub use turned::{next_sides, sides_before};
+pub use turned::{Turn, turned_sides};
 pub use vertices::{find_isolated, first_sides, vertex_sides};

@@ -10,7 +10,7 @@ use crate::entries::side_entries;
 use crate::side_faces::SideFaces;
 use crate::tables::is_last;
 use std::alloc::Global;
-use surf_base::{NoMemory, SideId, VertexId};
+use surf_base::{EdgeId, NoMemory, SideId, VertexId};
 use surf_rows::Rows;
 
 /// The edges of a soup that are sides of exactly two faces each, and for each of them the lesser of
@@ -20,7 +20,7 @@ pub struct Pairing {
     pub edges: Vec<(VertexId, VertexId)>,
     pub first: Vec<SideId>,
     pub mate: Vec<SideId>,
-    pub edge_of: Vec<u32>,
+    pub edge_of: Vec<EdgeId>,
     pub face_of: SideFaces,
 }
 
@@ -30,7 +30,7 @@ struct Pairs {
     edges: Vec<(VertexId, VertexId)>,
     first: Vec<SideId>,
     mate: Vec<SideId>,
-    edge_of: Vec<u32>,
+    edge_of: Vec<EdgeId>,
 }
 
 // No pairs yet, with room for those of some sides.
@@ -41,7 +41,7 @@ fn no_pairs(alloc: Global, sides: usize) -> Result<Pairs, NoMemory>
         edges: Vec::with_capacity(alloc, sides / 2)?,
         first: Vec::with_capacity(alloc, sides / 2)?,
         mate: vec![in alloc; SideId::new(0); sides]?,
-        edge_of: vec![in alloc; 0u32; sides]?,
+        edge_of: vec![in alloc; EdgeId::new(0); sides]?,
     })
 }
 
@@ -64,7 +64,7 @@ fn join_sides(
         (slice_set pairs.old.edge_of.items first (length pairs.old.edges.items)) second
         (length pairs.old.edges.items)) }
 {
-    let edge = pairs.edges.len() as u32;
+    let edge = EdgeId::new(pairs.edges.len() as u32);
     pairs.mate[first.index()] = second;
     pairs.mate[second.index()] = first;
     pairs.edge_of[first.index()] = edge;

@@ -67,27 +67,37 @@ fn darts_of<'t>(soup: &'t Soup, mate: &'t [SideId], face_of: &'t SideFaces) -> D
 }
 
 // The next side of a side, around its face.
-fn next_side(darts: &Darts<'_>, side: u32) -> u32
+fn next_side(darts: &Darts<'_>, side: SideId) -> SideId
     requires darts { AreDartTables darts.now.soup.now darts.now.face_of.now darts.now.mate.now }
     requires side { side < side_count darts.now.soup.now }
     ensures { result ≡ slice_index (nexts darts.now.soup.now) side }
 {
-    let (start, end) = darts.soup.span(darts.face_of.at(SideId::new(side)));
-    if side + 1 < end { side + 1 } else { start }
+    let (start, end) = darts.soup.span(darts.face_of.at(side));
+    let next = side.number() + 1;
+    if next < end {
+        SideId::new(next)
+    } else {
+        SideId::new(start)
+    }
 }
 
 // The side before a side, around its face.
-fn side_before(darts: &Darts<'_>, side: u32) -> u32
+fn side_before(darts: &Darts<'_>, side: SideId) -> SideId
     requires darts { AreDartTables darts.now.soup.now darts.now.face_of.now darts.now.mate.now }
     requires side { side < side_count darts.now.soup.now }
     ensures { result ≡ slice_index (befores darts.now.soup.now) side }
 {
-    let (start, end) = darts.soup.span(darts.face_of.at(SideId::new(side)));
-    if side == start { end - 1 } else { side - 1 }
+    let (start, end) = darts.soup.span(darts.face_of.at(side));
+    let number = side.number();
+    if number == start {
+        SideId::new(end - 1)
+    } else {
+        SideId::new(number - 1)
+    }
 }
 
 // Turns a dart to the next one at its vertex, and gives the corner at which that one stands.
-fn turn_dart(darts: &Darts<'_>, side: u32, head: bool) -> (u32, bool, u32)
+fn turn_dart(darts: &Darts<'_>, side: SideId, head: bool) -> (SideId, bool, SideId)
     requires darts { AreDartTables darts.now.soup.now darts.now.face_of.now darts.now.mate.now }
     requires side { side < side_count darts.now.soup.now }
     ensures dart { (result.0, result.1) ≡ turn_of (nexts darts.now.soup.now)
@@ -96,14 +106,14 @@ fn turn_dart(darts: &Darts<'_>, side: u32, head: bool) -> (u32, bool, u32)
     ensures corner { result.2 ≡ dart_corner (nexts darts.now.soup.now) (result.0, result.1) }
 {
     let tails = darts.soup.corners();
-    let across = darts.mate[side as usize];
-    let same = tails[across.index()] == tails[side as usize];
+    let across = darts.mate[side.index()];
+    let same = tails[across.index()] == tails[side.index()];
     if same == head {
-        let corner = next_side(darts, across.number());
+        let corner = next_side(darts, across);
         (corner, false, corner)
     } else {
-        let before = side_before(darts, across.number());
-        (before, true, across.number())
+        let before = side_before(darts, across);
+        (before, true, across)
     }
 }
 
@@ -116,11 +126,11 @@ fn mark_round(darts: &Darts<'_>, home: SideId, seen: &mut [bool])
         (slice_index (all_corners darts.now.soup.now) home) s → marked seen.old s ≡ false }
     ensures { IsRoundMarked darts.now.soup.now darts.now.mate.now home seen.old seen.new }
 {
-    let mut side = side_before(darts, home.number());
+    let mut side = side_before(darts, home);
     let mut head = true;
-    let mut at = home.number();
-    while !seen[at as usize] {
-        seen[at as usize] = true;
+    let mut at = home;
+    while !seen[at.index()] {
+        seen[at.index()] = true;
         (side, head, at) = turn_dart(darts, side, head);
     }
 }
@@ -128,7 +138,7 @@ fn mark_round(darts: &Darts<'_>, home: SideId, seen: &mut [bool])
 // Goes round a vertex from one of its sides, and lists the sides and the edges that it meets.
 fn go_round(
     darts: &Darts<'_>,
-    edge_of: &[u32],
+    edge_of: &[EdgeId],
     home: SideId,
     seen: &mut [bool],
     sides: &mut Vec<SideId>,
@@ -144,13 +154,13 @@ fn go_round(
         edge_of.now home seen.old seen.new
         sides.old.items sides.new.items edges.old.items edges.new.items) }
 {
-    let mut side = side_before(darts, home.number());
+    let mut side = side_before(darts, home);
     let mut head = true;
-    let mut corner = home.number();
-    while !seen[corner as usize] {
-        seen[corner as usize] = true;
-        sides.push(SideId::new(corner))?;
-        edges.push(EdgeId::new(edge_of[side as usize]))?;
+    let mut corner = home;
+    while !seen[corner.index()] {
+        seen[corner.index()] = true;
+        sides.push(corner)?;
+        edges.push(edge_of[side.index()])?;
         (side, head, corner) = turn_dart(darts, side, head);
     }
     Ok(())
@@ -189,7 +199,7 @@ fn mark_rounds(darts: &Darts<'_>, first: &[SideId], seen: &mut [bool])
 fn go_rings(
     alloc: Global,
     darts: &Darts<'_>,
-    edge_of: &[u32],
+    edge_of: &[EdgeId],
     first: &[SideId],
     seen: &mut [bool],
 ) -> Result<PairedRows<SideId, EdgeId>, NoMemory>
@@ -279,7 +289,7 @@ fn pinch_by(darts: &Darts<'_>, first: &[SideId], seen: &mut [bool]) -> Option<Pi
 fn judge_rings(
     alloc: Global,
     darts: &Darts<'_>,
-    edge_of: &[u32],
+    edge_of: &[EdgeId],
     first: &[SideId],
     seen: &mut [bool],
 ) -> Result<Rings, NoMemory>

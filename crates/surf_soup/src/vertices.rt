@@ -52,15 +52,15 @@ pub fn first_sides(alloc: Global, soup: &Soup) -> Result<Vec<SideId>, NoMemory>
 }
 
 /// The least vertex that is in no face.
-pub fn find_isolated(soup: &Soup, first: &[SideId]) -> Option<usize>
+pub fn find_isolated(soup: &Soup, first: &[SideId]) -> Option<VertexId>
     requires { AreFirstSides soup.now first.now }
     ensures { MatchOption result (AllMet soup.now) (λ v. IsLeastIsolated soup.now v) }
 {
     soup.law_of_soup();
-    let none = soup.side_count();
-    for v in 0..first.len() {
-        if first[v].number() == none {
-            return Some(v);
+    let none = SideId::new(soup.side_count());
+    for v in 0..soup.vertices() {
+        if first[v as usize] == none {
+            return Some(VertexId::new(v));
         }
     }
     None

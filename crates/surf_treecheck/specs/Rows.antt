@@ -15,7 +15,7 @@ pub record HasDualRows (mesh : Mesh) (dual : DualRows) : Type 0 where
   pub depths : length dual.depth ≡ face_count mesh
   pub sides : length dual.side ≡ face_count mesh
 
--- the parent of a vertex is one
+-- a vertex has the parent that it should: none at the base, and else a neighbour
 abbrev pub HasParent : Mesh → TreeRows → ℕ → Type 0
 HasParent mesh rows v = IsParent mesh rows.base v (parent_at rows v)
 
@@ -23,6 +23,6 @@ HasParent mesh rows v = IsParent mesh rows.base v (parent_at rows v)
 abbrev pub HasDistance : Mesh → List ℕ → TreeRows → ℕ → Type 0
 HasDistance mesh lengths rows v = AddsUp mesh lengths rows v (parent_at rows v)
 
--- the row of a face is one of the tree of faces
+-- the row of a face says how it hangs in a tree of faces
 abbrev pub HasDual : Mesh → DualRows → ℕ → Type 0
 HasDual mesh dual f = IsDualRow mesh dual f (side_at dual f)

@@ -29,7 +29,7 @@ HasDistanceAt mesh lengths cert x v = HasDistance mesh lengths (tree_at cert x) 
 abbrev pub IsNoShortCutAt : Mesh → List ℕ → BasisCert → ℕ → ℕ → Type 0
 IsNoShortCutAt mesh lengths cert x e = IsNoShortCut mesh lengths (tree_at cert x) e
 
--- the parents of all vertices in the tree at a base are ones
+-- in the tree at a base each vertex has the parent that it should
 abbrev pub HasParents : Mesh → BasisCert → ℕ → Type 0
 HasParents mesh cert x = HoldsBelow mesh.vertices (HasParentAt mesh cert x)
 
@@ -37,7 +37,7 @@ HasParents mesh cert x = HoldsBelow mesh.vertices (HasParentAt mesh cert x)
 abbrev pub HasDistances : Mesh → List ℕ → BasisCert → ℕ → Type 0
 HasDistances mesh lengths cert x = HoldsBelow mesh.vertices (HasDistanceAt mesh lengths cert x)
 
--- the trees at all bases are ones of shortest walks
+-- the tree at each base is a tree of shortest walks
 abbrev pub AreTreesValid : Mesh → List ℕ → BasisCert → Type 0
 AreTreesValid mesh lengths cert = (x : ℕ) → x < mesh.vertices → IsTreeValid mesh lengths (tree_at cert x)
 

@@ -11,8 +11,10 @@ reach-requires-clause-start c =
     let is = c.requires.least.on_border in
     let lt = is.0 in
     let t = c.requires.table in
-    let pair : c.index.result.now ≡ ends mesh e = get_or_read c.args.table.now.edges.items e c.index.result.now
-    (omega (arith, ap length t.edge_list_is)) c.index.ensures (0, 0)
+    let list = c.args.table.now.edges.items in
+    let pair : c.index-2.result.now ≡ ends mesh e = get_or_read list c.index.result c.index-2.result.now
+    (omega (arith, ap length t.edge_list_is, c.index.ensures)) c.index-2.ensures (0, 0)
+    ∙ ap (λ i. get_or list i (0, 0)) c.index.ensures
     ∙ ap (λ (xs : List (ℕ × ℕ)). get_or xs e (0, 0)) t.edge_list_is in
     let low = border_start mesh c.law_of_soup.ensures.mesh c.args.corners.now.next.now c.args.corners.now.prev.now
     c.args.corners.now.across.now
@@ -31,8 +33,10 @@ returns c =
     let is = c.requires.least.on_border in
     let lt = is.0 in
     let t = c.requires.table in
-    let pair : c.index.result.now ≡ ends mesh e = get_or_read c.args.table.now.edges.items e c.index.result.now
-    (omega (arith, ap length t.edge_list_is)) c.index.ensures (0, 0)
+    let list = c.args.table.now.edges.items in
+    let pair : c.index-2.result.now ≡ ends mesh e = get_or_read list c.index.result c.index-2.result.now
+    (omega (arith, ap length t.edge_list_is, c.index.ensures)) c.index-2.ensures (0, 0)
+    ∙ ap (λ i. get_or list i (0, 0)) c.index.ensures
     ∙ ap (λ (xs : List (ℕ × ℕ)). get_or xs e (0, 0)) t.edge_list_is in
     record {
       marks =

@@ -27,11 +27,12 @@ returns-in-Some-clause-fault c =
     let outside = least_outside mesh is_mesh _ _ _ _ _ t e c.args.seen.now c.requires.marks h first in
     let at = c.requires.least.on_border.0 in
     let there = outside.on_border.0 in
-    let own : c.index.result.now ≡ ends mesh e = get_or_read list e c.index.result.now
-    (omega (arith, ap length t.edge_list_is)) c.index.ensures (0, 0)
+    let own : c.index-in-Some.result.now ≡ ends mesh e = get_or_read list c.index.result c.index-in-Some.result.now
+    (omega (arith, ap length t.edge_list_is, c.index.ensures)) c.index-in-Some.ensures (0, 0)
+    ∙ ap (λ i. get_or list i (0, 0)) c.index.ensures
     ∙ ap (λ (xs : List (ℕ × ℕ)). get_or xs e (0, 0)) t.edge_list_is in
-    let other : c.index-in-Some.result.now ≡ ends mesh h = get_or_read list h c.index-in-Some.result.now
-    (omega (arith, ap length t.edge_list_is)) c.index-in-Some.ensures (0, 0)
+    let other : c.index-in-Some-2.result.now ≡ ends mesh h = get_or_read list h c.index-in-Some-2.result.now
+    (omega (arith, ap length t.edge_list_is)) c.index-in-Some-2.ensures (0, 0)
     ∙ ap (λ (xs : List (ℕ × ℕ)). get_or xs h (0, 0)) t.edge_list_is in
     (c.requires.patch, (e, h, c.requires.least, outside, sym own, sym other))
 

@@ -1,4 +1,4 @@
-use Rattle.std.proofs.Common.{◌≡◌, ◌-◌, length, get_or, sym, ap, subst, ◌∙◌, arith}
+use Rattle.std.proofs.Common.{◌-◌, length, sym, ap, subst, ◌∙◌, arith}
 use Rattle.surf_surfaces.specs.SideNumber.{IsFaceOf}
 use Rattle.surf_soup.proofs.Owners.{length-owners}
 use Rattle.surf_soup.proofs.HalfLaws.{face_of_side, spans}
@@ -8,42 +8,41 @@ use Rattle.surf_soup.proofs.rings.side_before.Goals as goal
 pub at-requires : goal.at-requires
 at-requires c =
     let size = length-owners 0 c.args.darts.now.soup.now.faces in
-    omega (arith, c.requires.side, ap length c.requires.darts.faces, size, c.new.ensures)
+    omega (arith, c.requires.side, ap length c.requires.darts.faces, size)
 
 pub span-start-requires : goal.span-start-requires
 span-start-requires c =
     let face_of = c.args.darts.now.face_of.now in
     let own = face_of_side c.args.darts.now.soup.now face_of c.args.side 0 c.requires.darts.faces c.requires.side in
-    omega (arith, own.is_face, c.at.ensures, ap (λ s. get_or face_of s 0) c.new.ensures)
+    omega (arith, own.is_face, c.at.ensures)
 
-pub overflow_sub-result : goal.overflow_sub-result
-overflow_sub-result c =
+pub overflow_sub-end : goal.overflow_sub-end
+overflow_sub-end c =
     let mesh = c.args.darts.now.soup.now in
     let face_of = c.args.darts.now.face_of.now in
-    let is : c.at.result ≡ get_or face_of c.args.side 0 = c.at.ensures ∙ ap (λ s. get_or face_of s 0) c.new.ensures in
     let own : IsFaceOf mesh c.args.side c.at.result =
-    subst (IsFaceOf mesh c.args.side) (sym is) (face_of_side mesh face_of c.args.side 0 c.requires.darts.faces
-    c.requires.side) in
+    subst (IsFaceOf mesh c.args.side) (sym c.at.ensures) (face_of_side mesh face_of c.args.side 0
+    c.requires.darts.faces c.requires.side) in
     omega (arith, own.upto, (spans mesh.faces c.at.result own.is_face).0, c.span-start.ensures.end)
 
-pub returns-then-side-start : goal.returns-then-side-start
-returns-then-side-start c =
+pub returns-then-number-start : goal.returns-then-number-start
+returns-then-number-start c =
     let mesh = c.args.darts.now.soup.now in
     let face_of = c.args.darts.now.face_of.now in
-    let is : c.at.result ≡ get_or face_of c.args.side 0 = c.at.ensures ∙ ap (λ s. get_or face_of s 0) c.new.ensures in
     let own : IsFaceOf mesh c.args.side c.at.result =
-    subst (IsFaceOf mesh c.args.side) (sym is) (face_of_side mesh face_of c.args.side 0 c.requires.darts.faces
-    c.requires.side) in
-    ap (λ n. n - 1) c.span-start.ensures.end
+    subst (IsFaceOf mesh c.args.side) (sym c.at.ensures) (face_of_side mesh face_of c.args.side 0
+    c.requires.darts.faces c.requires.side) in
+    c.new.ensures ∙ ap (λ n. n - 1) c.span-start.ensures.end
     ∙ sym (before_last mesh c.args.side c.at.result own
-    (omega (arith, c.if-side-start.true, c.span-start.ensures.start)))
+    (omega (arith, c.if-number-start.true, c.number-number.ensures, c.span-start.ensures.start)))
 
-pub returns-else-side-start : goal.returns-else-side-start
-returns-else-side-start c =
+pub returns-else-number-start : goal.returns-else-number-start
+returns-else-number-start c =
     let mesh = c.args.darts.now.soup.now in
     let face_of = c.args.darts.now.face_of.now in
-    let is : c.at.result ≡ get_or face_of c.args.side 0 = c.at.ensures ∙ ap (λ s. get_or face_of s 0) c.new.ensures in
     let own : IsFaceOf mesh c.args.side c.at.result =
-    subst (IsFaceOf mesh c.args.side) (sym is) (face_of_side mesh face_of c.args.side 0 c.requires.darts.faces
-    c.requires.side) in
-    sym (before_in mesh c.args.side c.at.result own (λ e. c.if-side-start.false (e ∙ sym c.span-start.ensures.start)))
+    subst (IsFaceOf mesh c.args.side) (sym c.at.ensures) (face_of_side mesh face_of c.args.side 0
+    c.requires.darts.faces c.requires.side) in
+    c.new-else-number-start.ensures ∙ ap (λ n. n - 1) c.number-number.ensures
+    ∙ sym (before_in mesh c.args.side c.at.result own
+    (λ e. c.if-number-start.false (c.number-number.ensures ∙ e ∙ sym c.span-start.ensures.start)))

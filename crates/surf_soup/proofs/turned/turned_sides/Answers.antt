@@ -1,12 +1,12 @@
 use Rattle.std.proofs.Common.{◌≡◌, ◌<◌, ◌+◌, length, ap, ◌∙◌, arith}
-use Rattle.surf_surfaces.specs.Side.{before}
 use Rattle.surf_surfaces.specs.Surface.{face_at, face_count}
 use Rattle.surf_soup.proofs.HalfLaws.{spans}
 use Rattle.surf_soup.proofs.RingLaws.{turned_more}
-use Rattle.surf_soup.proofs.turned.sides_before.Goals as goal
+use Rattle.surf_soup.specs.Ring.{place_by}
+use Rattle.surf_soup.proofs.turned.turned_sides.Goals as goal
 
-pub list_befores-requires : goal.list_befores-requires
-list_befores-requires c =
+pub list_turned-requires : goal.list_turned-requires
+list_turned-requires c =
     let mesh = c.args.soup.now in
     let f = c.loop-f.f in
     let own : length c.face.result.now ≡ length (face_at mesh f) =
@@ -21,10 +21,10 @@ loop-f-preserved c =
     let lt : f < face_count mesh = omega (arith, c.loop-f-test.true, c.faces-f-end.ensures.count) in
     let count = length c.face.result.now in
     let own : count ≡ length (face_at mesh f) = ap length (c.face.ensures.corners ∙ ap (face_at mesh) c.new.ensures) in
-    let e = c.in_ok-list_befores.ensures in
+    let e = c.in_ok-list_turned.ensures in
     record {
-      turned = turned_more before mesh f count c.loop-f.table.items c.list_befores.new.table.items
+      turned = turned_more (place_by c.args.turn) mesh f count c.loop-f.table.items c.list_turned.new.table.items
           c.loop-f.invariant.turned lt own e.size e.kept (λ k in'. e.here k in'
-          ∙ ap (λ m. m + before count k) c.loop-f.invariant.first);
+          ∙ ap (λ m. m + place_by c.args.turn count k) c.loop-f.invariant.first);
       first = omega (arith, c.loop-f.invariant.first, own, (spans mesh.faces f lt).0);
     }
