@@ -42,7 +42,7 @@ lesser_of p (Some q) = if pair_lt p q then p else q
 abbrev pub least_with : Mesh → Option (ℕ × ℕ) → ℕ × ℕ → Option (ℕ × ℕ)
 least_with mesh least p = if among p (edges mesh) then least else Some (lesser_of p least)
 
--- none is one, or the least is this
+-- no listed pair is a stray, or the least one is this
 abbrev pub IsLeastStray : Mesh → List (ℕ × ℕ) → Option (ℕ × ℕ) → Type 0
 IsLeastStray mesh left o =
     MatchOption o ((q : ℕ × ℕ) → IsStray mesh left q → ⊥)
