@@ -34,7 +34,6 @@ use Rattle.surf_surfaces.proofs.FewBasesLaws.{least_base_on_way}
 use Rattle.surf_surfaces.proofs.FirstFoundLaws.{loop_closed, short_searches_suffice}
 use Rattle.surf_surfaces.proofs.FoundLaws.{greedy_is_found_choice, found_closed, loops_grow_enough}
 use Rattle.surf_surfaces.proofs.LeastLaws.{all_each, all_mapped}
-use Rattle.surf_surfaces.proofs.SignedEndsLaws.{signed_ends_meet_all}
 use Rattle.surf_cotree.specs.Tables.{CotreeTables}
 use Rattle.surf_choice.specs.declared.candidate.Candidate.{Candidate}
 use Rattle.surf_choice.specs.declared.candidate.Signed.{Signed}
@@ -42,7 +41,6 @@ use Rattle.surf_choice.specs.Candidates.{Chosen, signed_earlier, independent_of}
 use Rattle.surf_choice.specs.Places.{place_of, is_sought, last_of, limit_of, stands_before}
 use Rattle.surf_choice.proofs.Limits.{IsShort, merged_sorted, sorted_by_number, before_last, limit_none, limit_last, limit_falls, all_sought}
 use Rattle.surf_choice.proofs.Sifted.{all_merged, all_kept, greedy_mapped}
-use Rattle.surf_basis.specs.Marks.{HasSignedEnds}
 use Rattle.surf_basis.specs.Signing.{AreSignatures, AreSigned}
 use Rattle.surf_basis.specs.Found.{IsFound, AreFoundBy, AreFound, found_of, is_among, AreKeptOf, IsNext}
 use Rattle.surf_basis.proofs.Climbed.{at_edge}
@@ -353,14 +351,6 @@ module _ (mesh : Mesh) (lengths : List ℕ) (trees : ℕ → Tree) (surface : Is
           (before_last choice.kept c e (sorted_from_order stands_before choice.kept k.order))))
           (subst (λ o. AreEnoughOf mesh lengths trees (is_sought o) set (map (found_of mesh trees) choice.kept))
           (limit_last choice.width choice.kept on ∙ e) k.enough)
-
-  -- a list with an end of each edge with a signature is met
-  pub ends_met : (s : CotreeTables) (vs : List ℕ) → AreSignatures mesh d s → HasSignedEnds mesh s vs → MeetsAll mesh (is_among vs)
-  ends_met s vs are has = signed_ends_meet_all mesh d (is_among vs) surface split
-      (λ e e_in some. elim (has e e_in (λ none. some (sym (at_edge mesh d s e are e_in) ∙ none))) [
-        | inl low ↦ inl (among_contained vs (ends mesh e).0 low)
-        | inr high ↦ inr (among_contained vs (ends mesh e).1 high)
-      ])
 
 -- their signatures are as small as there are left edges
 pub found_small : (mesh : Mesh) (lengths : List ℕ) → IsSurface mesh → ArePositive mesh lengths → (s : CotreeTables) (width : ℕ) →
