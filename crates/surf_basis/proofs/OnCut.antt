@@ -1,7 +1,7 @@
 -- Vertices that are marked on the ways up a tree, and the list of them.
-use Rattle.std.proofs.Common.{◌≡◌, ◌≢◌, ℕ, suc, ◌<◌, ◌≤◌, ◌+◌, ◌⊎◌, ◌&&◌, not, Bool, true, false, List, length, get_or, set, slice_index, Contains, All, IsPermutation, refl, sym, ap, ◌∙◌, subst, arith, inl, inr}
+use Rattle.std.proofs.Common.{◌≡◌, ◌≢◌, ℕ, ◌<◌, ◌≤◌, ◌+◌, ◌⊎◌, not, Bool, true, false, List, length, get_or, set, slice_index, Contains, IsPermutation, refl, sym, ap, ◌∙◌, subst, arith, inl, inr}
 use Rattle.std.specs.Prelude.{Option, Some, None}
-use Rattle.std.specs.Prelude.{IsTrue, slice_index_or}
+use Rattle.std.specs.Prelude.{IsTrue}
 use Rattle.std.proofs.lemmas.Bool.{cases_lt, cases_eq, and_parts, and_from, not-true, not_from_false, false≢true}
 use Rattle.std.proofs.lemmas.List.{get_or_default, get_or_past, get_or-set_other}
 use Rattle.std.proofs.lemmas.List.Elements.{Contains-get_or}
@@ -10,7 +10,7 @@ use Rattle.surf_graphs.specs.Trees.{Tree}
 use Rattle.surf_surfaces.specs.Cotree.{tree_edges, cotree_edges, is_left, left_edges}
 use Rattle.surf_surfaces.specs.Mesh.{Mesh}
 use Rattle.surf_surfaces.specs.Surface.{edge_count, ends}
-use Rattle.surf_opening.specs.OffTheCut.{HasMarkedEnds, AreMarked}
+use Rattle.surf_opening.specs.OffTheCut.{HasMarkedEnds}
 use Rattle.surf_tree.specs.Tables.{TreeTables, tree_of, parent_of}
 use Rattle.surf_cotree.specs.Tables.{cotree_of}
 use Rattle.surf_cotree.specs.Grown.{IsMarked}
@@ -20,7 +20,7 @@ use Rattle.surf_basis.specs.Found.{is_among}
 use Rattle.surf_basis.specs.Marks.{AreMarkedIn}
 use Rattle.surf_basis.specs.Passing.{is_marked}
 use Rattle.surf_basis.specs.Signing.{IsDividedBy}
-use Rattle.surf_basis.proofs.Marked.{set_stays, set_there, marks_listed}
+use Rattle.surf_basis.proofs.Marked.{set_stays, set_there}
 use Rattle.surf_basis.proofs.PassedOver.{among_marked}
 use Rattle.surf_basis.proofs.Searched.{among_contained}
 

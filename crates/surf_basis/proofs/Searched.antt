@@ -19,14 +19,14 @@ use Rattle.surf_z2.proofs.Span.{AllInSpan, InSpan, count, free_from_independent}
 use Rattle.surf_graphs.specs.Cells.{Split, IsSplit}
 use Rattle.surf_graphs.specs.Trees.{Tree}
 use Rattle.surf_surfaces.specs.Mesh.{Mesh}
-use Rattle.surf_surfaces.specs.Surface.{edge_count, ends, IsSurface}
+use Rattle.surf_surfaces.specs.Surface.{edge_count, IsSurface}
 use Rattle.surf_surfaces.specs.Walk.{IsClosed, ArePositive, parity}
 use Rattle.surf_surfaces.specs.Homology.{IsNull, IsIndependent, IsFullCount}
 use Rattle.surf_surfaces.specs.Cells.{cells_of}
 use Rattle.surf_surfaces.specs.Class.{class_of, AreShortestTrees}
 use Rattle.surf_surfaces.specs.Loop.{loop_walk}
 use Rattle.surf_surfaces.specs.Choice.{DependsOn}
-use Rattle.surf_surfaces.specs.FewBases.{Place, place_at, Found, walks_found, IsFoundAt, IsFoundLoop, AreEnoughOf, AreEnough, AreFoundAt, IsFoundChoice, comes_no_later, every_place, with_vertex, MeetsAll, IsWithin}
+use Rattle.surf_surfaces.specs.FewBases.{Place, place_at, Found, walks_found, IsFoundAt, IsFoundLoop, AreEnoughOf, AreEnough, AreFoundAt, IsFoundChoice, comes_no_later, every_place, with_vertex, IsWithin}
 use Rattle.surf_surfaces.proofs.BasisLaws.{contains-map}
 use Rattle.surf_surfaces.proofs.ChoiceExists.{choice_exists}
 use Rattle.surf_surfaces.proofs.ClassLaws.{null_by_class, independent_by_classes}
@@ -41,9 +41,8 @@ use Rattle.surf_choice.specs.Candidates.{Chosen, signed_earlier, independent_of}
 use Rattle.surf_choice.specs.Places.{place_of, is_sought, last_of, limit_of, stands_before}
 use Rattle.surf_choice.proofs.Limits.{IsShort, merged_sorted, sorted_by_number, before_last, limit_none, limit_last, limit_falls, all_sought}
 use Rattle.surf_choice.proofs.Sifted.{all_merged, all_kept, greedy_mapped}
-use Rattle.surf_basis.specs.Signing.{AreSignatures, AreSigned}
+use Rattle.surf_basis.specs.Signing.{AreSigned}
 use Rattle.surf_basis.specs.Found.{IsFound, AreFoundBy, AreFound, found_of, is_among, AreKeptOf, IsNext}
-use Rattle.surf_basis.proofs.Climbed.{at_edge}
 use Rattle.surf_basis.proofs.Looped.{class_small}
 
 -- ---- the vertices of a list

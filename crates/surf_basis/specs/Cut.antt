@@ -1,5 +1,5 @@
 -- The vertices from which is searched: those of a cut, or ends of edges with signatures.
-use Rattle.std.specs.Prelude.{ℕ, ◌≡◌, ◌≢◌, ◌<◌, ◌⊎◌, Bool, IsTrue, List, All}
+use Rattle.std.specs.Prelude.{ℕ, ◌≢◌, ◌<◌, ◌⊎◌, Bool, IsTrue, List, All}
 use Rattle.surf_graphs.specs.Trees.{Tree}
 use Rattle.surf_surfaces.specs.Mesh.{Mesh}
 use Rattle.surf_opening.specs.OffTheCut.{HasMarkedEnds, AreMarked}

@@ -1,4 +1,4 @@
-use Rattle.std.proofs.Common.{◌≡◌, List, ℕ, sym, ap, subst, arith}
+use Rattle.std.proofs.Common.{◌≡◌, sym, ap, subst, arith}
 use Rattle.surf_surfaces.specs.Homology.{IsFullCount}
 use Rattle.surf_lengths.proofs.Positive.{lengths_positive}
 use Rattle.surf_choice.specs.Candidates.{Chosen}
