@@ -19,3 +19,5 @@ pub mod Barred
 pub mod Sufficient
 pub mod Firsts
 pub mod PassedOver
+pub mod Meeting
+pub mod OnCut

@@ -19,13 +19,14 @@ pub marked_none : (marked : List Bool) (list : List ℕ) → list ≡ [] → Are
 marked_none marked list is = subst (AreMarkedIn marked 0) (sym is) (record {
   inside = λ k l. absurd (omega arith);
   rise = λ i j before l. absurd (omega arith);
+  only = λ k l. absurd (omega arith);
   all = λ v l on. absurd (omega arith);
 })
 
 -- one more that is marked
 pub marked_more : (marked : List Bool) (v : ℕ) (old new : List ℕ) → AreMarkedIn marked v old → new ≡ old ++ v ∷ [] →
-    AreMarkedIn marked (v + 1) new
-marked_more marked v old new h is = subst (AreMarkedIn marked (v + 1)) (sym is) (record {
+    slice_index_or marked v false ≡ true → AreMarkedIn marked (v + 1) new
+marked_more marked v old new h is on = subst (AreMarkedIn marked (v + 1)) (sym is) (record {
   inside = λ k l. elim (cases_lt k (length old)) [
     | inl less ↦ let e = front k less in let i = h.inside k less in omega (arith, e, i)
     | inr more ↦ let e = last k l more in omega (arith, e)
@@ -44,8 +45,12 @@ marked_more marked v old new h is = subst (AreMarkedIn marked (v + 1)) (sym is) 
         let r = h.inside i i_in in
         omega (arith, a, b, r)
   ];
-  all = λ w l on. elim (cases_lt w v) [
-    | inl less ↦ Contains-append_left old (v ∷ []) w (h.all w less on)
+  only = λ k l. elim (cases_lt k (length old)) [
+    | inl less ↦ ap (λ x. slice_index_or marked x false) (front k less) ∙ h.only k less
+    | inr more ↦ ap (λ x. slice_index_or marked x false) (last k l more) ∙ on
+  ];
+  all = λ w l on_w. elim (cases_lt w v) [
+    | inl less ↦ Contains-append_left old (v ∷ []) w (h.all w less on_w)
     | inr more ↦
         let same : v ≡ w = omega arith in
         Contains-append_right old (v ∷ []) w (subst (Contains (v ∷ [])) same (0, omega arith, refl))
@@ -67,6 +72,7 @@ pub marked_less : (marked : List Bool) (v : ℕ) (old new : List ℕ) → AreMar
 marked_less marked v old new h is off = subst (AreMarkedIn marked (v + 1)) (sym is) (record {
   inside = λ k l. let i = h.inside k l in omega (arith, i);
   rise = h.rise;
+  only = h.only;
   all = λ w l on. elim (cases_lt w v) [
     | inl less ↦ h.all w less on
     | inr more ↦
@@ -135,6 +141,18 @@ bases_marked marked list kept h inside on k s l = h.all (get_or kept k s).candid
 pub written_back : {X : Type 0} (xs rest : List X) (n : ℕ) → length xs ≡ n → take n (xs ++ rest) ≡ xs
 written_back xs rest n is = ap (λ (k : ℕ). take k (xs ++ rest)) (sym is) ∙ take-append_seam xs rest
 
+-- what is marked is listed, in whatever order
+pub marks_listed : (marked table : List Bool) (list old new items : List ℕ) → table ≡ marked →
+    AreMarkedIn table (length table) list → old ≡ list → IsPermutation old new → items ≡ new → (u : ℕ) → u < length marked →
+    slice_index_or marked u false ≡ true → Contains items u
+marks_listed marked table list old new items same h is permuted last u u_in on =
+    let m : length table ≡ length marked = ap (λ (ms : List Bool). length ms) same in
+    let marks : slice_index_or table u false ≡ true =
+    subst (λ (ms : List Bool). slice_index_or ms u false ≡ true) (sym same) on in
+    let there : Contains list u = h.all u (omega (arith, u_in, m)) marks in
+    subst (λ (xs : List ℕ). Contains xs u) (sym last)
+    (Contains-permutation old new u permuted (subst (λ (xs : List ℕ). Contains xs u) (sym is) there))
+
 -- the ends that are marked are listed, in whatever order
 pub ends_listed : (mesh : Mesh) → IsSurface mesh → (s : CotreeTables) (marked table : List Bool) (list old new items : List ℕ) →
     table ≡ marked → length marked ≡ mesh.vertices →
@@ -148,10 +166,4 @@ ends_listed mesh surface s marked table list old new items same n on h is permut
     ]
   where
     listed : (u : ℕ) → u < mesh.vertices → slice_index_or marked u false ≡ true → Contains items u
-    listed u u_in on_u =
-        let m : length table ≡ length marked = ap length same in
-        let marks : slice_index_or table u false ≡ true =
-        subst (λ (ms : List Bool). slice_index_or ms u false ≡ true) (sym same) on_u in
-        let there : Contains list u = h.all u (omega (arith, u_in, m, n)) marks in
-        subst (λ (xs : List ℕ). Contains xs u) (sym last)
-        (Contains-permutation old new u permuted (subst (λ (xs : List ℕ). Contains xs u) (sym is) there))
+    listed u u_in = marks_listed marked table list old new items same h is permuted last u (omega (arith, u_in, n))

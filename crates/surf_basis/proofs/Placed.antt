@@ -29,13 +29,12 @@ use Rattle.surf_choice.specs.declared.candidate.Signed.{Signed}
 use Rattle.surf_choice.specs.Candidates.{earlier}
 use Rattle.surf_choice.specs.Places.{place_of, is_sought}
 use Rattle.surf_basis.specs.Cycles.{first_of}
-use Rattle.surf_basis.specs.Marks.{HasSignedEnds}
 use Rattle.surf_basis.specs.Signing.{AreSigned}
 use Rattle.surf_basis.specs.Found.{IsFound, AreFoundBy, is_among, earlier_of, first_from, IsFirstOf, IsFirstAmong, IsFirstPlace}
 use Rattle.surf_basis.proofs.First.{no_first}
 use Rattle.surf_basis.proofs.Leading.{first_kept}
 use Rattle.surf_basis.proofs.Looped.{class_small}
-use Rattle.surf_basis.proofs.Searched.{among_more, depends_null, ends_met, zero_null}
+use Rattle.surf_basis.proofs.Searched.{among_more, depends_null, zero_null}
 
 -- ---- the first of a list
 
@@ -241,11 +240,7 @@ first_begun mesh lengths s vs trees chosen d split are z e z_in in_set e_in = cc
 -- ---- the place of the first candidate
 
 module _ (mesh : Mesh) (lengths : List ℕ) (surface : IsSurface mesh) (positive : ArePositive mesh lengths)
-    (s : CotreeTables) (width : ℕ) (signed : AreSigned mesh s width) (vs : List ℕ) (has : HasSignedEnds mesh s vs) where
-  met : (trees : ℕ → Trees) (chosen : AreChosen mesh lengths trees) → MeetsAll mesh (is_among vs)
-  met trees chosen = ends_met mesh lengths (λ x. (trees x).tree) surface positive
-      (shortest_trees mesh lengths surface positive trees chosen) signed.split signed.is_split s vs signed.signatures has
-
+    (s : CotreeTables) (width : ℕ) (signed : AreSigned mesh s width) (vs : List ℕ) (meets : MeetsAll mesh (is_among vs)) where
   none_enough : (trees : ℕ → Trees) → IsFirstOf mesh lengths (λ x. (trees x).tree) (is_among vs) None →
       AreEnough mesh lengths (λ x. (trees x).tree) (is_among vs) []
   none_enough trees null = record {
@@ -278,7 +273,7 @@ module _ (mesh : Mesh) (lengths : List ℕ) (surface : IsSurface mesh) (positive
   place_none trees chosen null =
       let (basis, is, one) = basis_is_one mesh lengths trees surface positive chosen in
       let each = few_bases_suffice mesh lengths trees (λ x. (trees x).tree) (is_among vs) [] basis surface positive chosen
-      (shortest_trees mesh lengths surface positive trees chosen) (met trees chosen) (none_enough trees null) is in
+      (shortest_trees mesh lengths surface positive trees chosen) meets (none_enough trees null) is in
       no_candidates (candidates mesh lengths trees)
       (sym (first_kept mesh lengths surface positive trees chosen basis (candidates mesh lengths trees) refl is) ∙ no_basis basis each)
 
@@ -297,7 +292,7 @@ module _ (mesh : Mesh) (lengths : List ℕ) (surface : IsSurface mesh) (positive
       of [] none = absurd (first.nonnull (all_null trees chosen none z e first.from_in first.edge_in))
       of (k ∷ rest) is =
           let at = first_is_at_least_base mesh lengths trees (λ x. (trees x).tree) (is_among vs) z e k rest surface positive chosen
-          (shortest_trees mesh lengths surface positive trees chosen) (met trees chosen) first is in
+          (shortest_trees mesh lengths surface positive trees chosen) meets first is in
           let (others, heads) = at.heads in
           ap (λ (p : Place). first_of (loops_at mesh lengths p.1 (trees p.1))) (sym place) ∙ ap first_of heads ∙ sym (ap first_of is)
 

@@ -19,14 +19,14 @@ use Rattle.surf_z2.proofs.Span.{AllInSpan, InSpan, count, free_from_independent}
 use Rattle.surf_graphs.specs.Cells.{Split, IsSplit}
 use Rattle.surf_graphs.specs.Trees.{Tree}
 use Rattle.surf_surfaces.specs.Mesh.{Mesh}
-use Rattle.surf_surfaces.specs.Surface.{edge_count, ends, IsSurface}
+use Rattle.surf_surfaces.specs.Surface.{edge_count, IsSurface}
 use Rattle.surf_surfaces.specs.Walk.{IsClosed, ArePositive, parity}
 use Rattle.surf_surfaces.specs.Homology.{IsNull, IsIndependent, IsFullCount}
 use Rattle.surf_surfaces.specs.Cells.{cells_of}
 use Rattle.surf_surfaces.specs.Class.{class_of, AreShortestTrees}
 use Rattle.surf_surfaces.specs.Loop.{loop_walk}
 use Rattle.surf_surfaces.specs.Choice.{DependsOn}
-use Rattle.surf_surfaces.specs.FewBases.{Place, place_at, Found, walks_found, IsFoundAt, IsFoundLoop, AreEnoughOf, AreEnough, AreFoundAt, IsFoundChoice, comes_no_later, every_place, with_vertex, MeetsAll, IsWithin}
+use Rattle.surf_surfaces.specs.FewBases.{Place, place_at, Found, walks_found, IsFoundAt, IsFoundLoop, AreEnoughOf, AreEnough, AreFoundAt, IsFoundChoice, comes_no_later, every_place, with_vertex, IsWithin}
 use Rattle.surf_surfaces.proofs.BasisLaws.{contains-map}
 use Rattle.surf_surfaces.proofs.ChoiceExists.{choice_exists}
 use Rattle.surf_surfaces.proofs.ClassLaws.{null_by_class, independent_by_classes}
@@ -34,7 +34,6 @@ use Rattle.surf_surfaces.proofs.FewBasesLaws.{least_base_on_way}
 use Rattle.surf_surfaces.proofs.FirstFoundLaws.{loop_closed, short_searches_suffice}
 use Rattle.surf_surfaces.proofs.FoundLaws.{greedy_is_found_choice, found_closed, loops_grow_enough}
 use Rattle.surf_surfaces.proofs.LeastLaws.{all_each, all_mapped}
-use Rattle.surf_surfaces.proofs.SignedEndsLaws.{signed_ends_meet_all}
 use Rattle.surf_cotree.specs.Tables.{CotreeTables}
 use Rattle.surf_choice.specs.declared.candidate.Candidate.{Candidate}
 use Rattle.surf_choice.specs.declared.candidate.Signed.{Signed}
@@ -42,10 +41,8 @@ use Rattle.surf_choice.specs.Candidates.{Chosen, signed_earlier, independent_of}
 use Rattle.surf_choice.specs.Places.{place_of, is_sought, last_of, limit_of, stands_before}
 use Rattle.surf_choice.proofs.Limits.{IsShort, merged_sorted, sorted_by_number, before_last, limit_none, limit_last, limit_falls, all_sought}
 use Rattle.surf_choice.proofs.Sifted.{all_merged, all_kept, greedy_mapped}
-use Rattle.surf_basis.specs.Marks.{HasSignedEnds}
-use Rattle.surf_basis.specs.Signing.{AreSignatures, AreSigned}
+use Rattle.surf_basis.specs.Signing.{AreSigned}
 use Rattle.surf_basis.specs.Found.{IsFound, AreFoundBy, AreFound, found_of, is_among, AreKeptOf, IsNext}
-use Rattle.surf_basis.proofs.Climbed.{at_edge}
 use Rattle.surf_basis.proofs.Looped.{class_small}
 
 -- ---- the vertices of a list
@@ -353,14 +350,6 @@ module _ (mesh : Mesh) (lengths : List ℕ) (trees : ℕ → Tree) (surface : Is
           (before_last choice.kept c e (sorted_from_order stands_before choice.kept k.order))))
           (subst (λ o. AreEnoughOf mesh lengths trees (is_sought o) set (map (found_of mesh trees) choice.kept))
           (limit_last choice.width choice.kept on ∙ e) k.enough)
-
-  -- a list with an end of each edge with a signature is met
-  pub ends_met : (s : CotreeTables) (vs : List ℕ) → AreSignatures mesh d s → HasSignedEnds mesh s vs → MeetsAll mesh (is_among vs)
-  ends_met s vs are has = signed_ends_meet_all mesh d (is_among vs) surface split
-      (λ e e_in some. elim (has e e_in (λ none. some (sym (at_edge mesh d s e are e_in) ∙ none))) [
-        | inl low ↦ inl (among_contained vs (ends mesh e).0 low)
-        | inr high ↦ inr (among_contained vs (ends mesh e).1 high)
-      ])
 
 -- their signatures are as small as there are left edges
 pub found_small : (mesh : Mesh) (lengths : List ℕ) → IsSurface mesh → ArePositive mesh lengths → (s : CotreeTables) (width : ℕ) →

@@ -62,10 +62,6 @@ desk_signed mesh lengths base t new before after left width g old is_left wide r
 pub left_count : (mesh : Mesh) (t : CotreeTables) (left : List ℕ) → IsFullCount mesh (length t.left) → left ≡ t.left → IsFullCount mesh (length left)
 left_count mesh t left full is = subst (λ (xs : List ℕ). IsFullCount mesh (length xs)) (sym is) full
 
--- the signatures have room for as many
-pub still_signed : (mesh : Mesh) (t : CotreeTables) (left : List ℕ) → AreSigned mesh t (length t.left) → left ≡ t.left → AreSigned mesh t (length left)
-still_signed mesh t left signed is = subst (λ (xs : List ℕ). AreSigned mesh t (length xs)) (sym is) signed
-
 -- a loop is as long by all trees of shortest walks
 length_same : (mesh : Mesh) (lengths : List ℕ) → IsSurface mesh → ArePositive mesh lengths → (base : ℕ) (a b : Tree) →
     IsShortestTree mesh lengths base a → IsShortestTree mesh lengths base b → (e : ℕ) → e < edge_count mesh →

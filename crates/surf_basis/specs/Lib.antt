@@ -9,3 +9,4 @@ pub mod Ways
 pub mod Found
 pub mod Kept
 pub mod Passing
+pub mod Cut

@@ -7,10 +7,11 @@ use Rattle.surf_surfaces.specs.Surface.{edge_count, ends}
 use Rattle.surf_cotree.specs.Tables.{CotreeTables}
 use Rattle.surf_choice.specs.declared.candidate.Signed.{Signed}
 
--- the list has those of the first vertices that are marked, increasing
+-- the list has those of the first vertices that are marked, increasing, and no others
 pub record AreMarkedIn (marked : List Bool) (bound : ℕ) (list : List ℕ) : Type 0 where
   pub inside : (k : ℕ) → k < length list → slice_index list k < bound
   pub rise : (i j : ℕ) → i < j → j < length list → slice_index list i < slice_index list j
+  pub only : (k : ℕ) → k < length list → slice_index_or marked (slice_index list k) false ≡ true
   pub all : (v : ℕ) → v < bound → slice_index_or marked v false ≡ true → Contains list v
 
 -- a list has the base of each candidate

@@ -1,22 +1,24 @@
 //! The least basis, kept base by base.
-ghost use Rattle.std.specs.Prelude.{◌≡◌, ◌<◌, ◌≤◌, ◌+◌, ◌^◌, [], IfOk, OnOk, IfSome, length};
+ghost use Rattle.std.specs.Prelude.{◌≡◌, ◌<◌, ◌≤◌, ◌+◌, ◌^◌, [], All, IfOk, OnOk, IfSome, length};
 ghost use Rattle.surf_surfaces.specs.Surface.{edge_count, face_count, IsSurface};
 ghost use Rattle.surf_surfaces.specs.Walk.{ArePositive};
 ghost use Rattle.surf_surfaces.specs.Homology.{IsFullCount};
-ghost use Rattle.surf_surfaces.specs.FewBases.{AreBases};
+ghost use Rattle.surf_surfaces.specs.FewBases.{AreBases, MeetsAll};
 ghost use Rattle.surf_surfaces.specs.ChoiceLaws.{LeastSimpleBasis};
 ghost use Rattle.surf_basis.specs.Cycles.{first_of, IsFirstCandidate, IsShortestCycle, IsTheBasis, as_loops};
+ghost use Rattle.surf_basis.specs.Found.{is_among};
 ghost use Rattle.surf_basis.specs.Kept.{AreKeptOver};
 ghost use Rattle.surf_basis.specs.Marks.{HasBases};
 ghost use Rattle.surf_basis.specs.Signing.{AreSigned};
 ghost use Rattle.surf_base.specs.declared.limits.TheConstants.{MAX_LOOPS};
 
+use crate::cut::searched_vertices;
 use crate::cycle::Cycle;
 use crate::finding::Finder;
 use crate::nearby::loops_at;
 use crate::placing::list_lengths;
 use crate::searching::{bases_of, sufficient_loops};
-use crate::signing::signed_cotree;
+use crate::signing::signed_desk;
 use crate::surface::SignedSurface;
 use crate::walking::cycles_of;
 use std::alloc::Global;
@@ -56,14 +58,18 @@ fn choose(
     Ok(())
 }
 
-// The basis that is chosen, on a surface with signatures, where as many cycles as given make it.
+// The basis that is chosen, on a surface with signatures, where as many cycles as given make it. It
+// is found from vertices of which every closed walk that isn't null meets one.
 fn basis_over(
     alloc: Global,
     surface: &SignedSurface<'_>,
+    vertices: &[VertexId],
     count: usize,
 ) -> Result<Vec<Cycle>, NoMemory>
     requires lengths { length surface.now.lengths.now ≡ edge_count surface.now.mesh.now }
     requires signed { AreSigned surface.now.mesh.now surface.now.signatures.now count }
+    requires vertices { All (λ v. v < surface.now.mesh.now.vertices) vertices.now }
+    requires met { MeetsAll surface.now.mesh.now (is_among vertices.now) }
     requires full { IsFullCount surface.now.mesh.now count }
     requires few { count ≤ MAX_LOOPS }
     ensures chosen { IfOk result (λ cycles. IsTheBasis surface.now.mesh.now surface.now.lengths.now
@@ -72,7 +78,7 @@ fn basis_over(
     surface.mesh.law_of_surface();
     surface.lengths.law_of_lengths();
     let mut finder = Finder::make(alloc, surface)?;
-    let search = sufficient_loops(alloc, surface, &mut finder, count)?;
+    let search = sufficient_loops(alloc, surface, vertices, &mut finder, count)?;
     let found = search.kept();
     let bases = bases_of(alloc, surface.mesh, found)?;
     let mut least = Choice::make(alloc, count as u32)?;
@@ -103,15 +109,17 @@ pub fn least_basis(
 {
     mesh.law_of_surface();
     lengths.law_of_lengths();
-    let signed = signed_cotree(alloc, mesh, lengths)?;
-    let count = signed.left().len();
+    let desk = signed_desk(alloc, mesh, lengths)?;
+    let count = desk.cotree().left().len();
     if count == 0 {
         return Ok(Vec::new(alloc));
     }
+    let vertices = searched_vertices(alloc, mesh, lengths, &desk)?;
+    let signed = desk.into_cotree();
     let surface = SignedSurface {
         mesh,
         lengths,
         signatures: &signed,
     };
-    basis_over(alloc, &surface, count)
+    basis_over(alloc, &surface, &vertices, count)
 }

@@ -5,14 +5,17 @@
 //! before it (J. Erickson and K. Whittlesey, "Greedy Optimal Homotopy and Homology Generators",
 //! SODA 2005), and the first candidate is a shortest cycle that doesn't separate the surface.
 //!
-//! The bases that the basis needs are found first. Every closed walk that isn't null has an edge
-//! whose signature isn't empty, so it meets one of few vertices. From each of these a search finds
-//! the loops of edges, with the least vertex on a shortest way to them, and the shortest
-//! independent ones of all are kept: the loops of the basis have their lengths and their least
-//! vertices as bases. Once as many are kept as there may be, a search goes no farther than half the
-//! length of the last, since the ends of an edge are within half the length of its loop. The
-//! vertices are taken in an order that scatters them, so that short loops of all parts are found
-//! soon.
+//! The bases that the basis needs are found first. Searches begin at few vertices, such that every
+//! closed walk that isn't null meets one of them. Where lengths differ these are the vertices of a
+//! cut: the ends of the left edges and the vertices on their ways up the tree, without which the
+//! surface is an open disc. Where all lengths are the same they are ends of the edges whose
+//! signatures aren't empty, since a closed walk that isn't null has such an edge. From each of
+//! these vertices a search finds the loops of edges, with the least vertex on a shortest way to
+//! them, and the shortest independent ones of all are kept: the loops of the basis have their
+//! lengths and their least vertices as bases. Once as many are kept as there may be, a search goes
+//! no farther than half the length of the last, since the ends of an edge are within half the
+//! length of its loop. The vertices are taken in an order that scatters them, so that short loops
+//! of all parts are found soon.
 //!
 //! Before such a search a scout may go from the vertex, somewhat farther than the search must.
 //! Where all loops that it finds are longer than kept ones of which they are sums, by more than a
@@ -21,7 +24,9 @@
 //! the edges there are as long as an edge may be. So it finds few loops and long ones, and more is
 //! passed over. It needs no others, since a loop that goes through such a vertex is a sum of loops
 //! there, for which what is kept is enough already. What is kept comes from searches by the given
-//! lengths alone. Where scouts tell nothing they go ever more seldom.
+//! lengths alone. Where scouts tell nothing they go ever more seldom. The vertices of the cut lie
+//! along shortest ways and close together, so that many are passed over; where all lengths are the
+//! same nothing is passed over, and the ends of edges with signatures are fewer.
 //!
 //! Then the bases so found are gone through one by one. A search near each, no farther than half
 //! the greatest length that was found for it, finds the loops of edges there: the first independent
@@ -31,7 +36,7 @@
 //! is grown. Whether a loop is independent of others is told there by its signature, a sum over its
 //! edges of signatures that one base gives for all. The walks of the loops that are kept in the end
 //! are read off searches near their bases. The first cycle needs the first of the loops that
-//! searches find, and then the loops at its base alone.
+//! searches from ends of edges with signatures find, and then the loops at its base alone.
 //!
 //! A certificate of the basis has the trees at all vertices, which are grown again for it one after
 //! the other, and shows that the basis is least to a checker that searches nothing.
@@ -39,6 +44,7 @@
 
 mod basis;
 mod cert;
+mod cut;
 mod cycle;
 mod finding;
 mod foremost;

@@ -1,4 +1,4 @@
-//! Vertices that every closed walk meets which isn't null.
+//! Vertices that are marked in a table, and ends of the edges whose signatures aren't empty.
 ghost use Rattle.std.specs.Prelude.{◌≡◌, ◌≢◌, ◌<◌, ◌⊎◌, ◌^◌, ℕ, false, true, All, Contains, IsPermutation, IfOk};
 ghost use Rattle.std.specs.Prelude.{IsTrue};
 ghost use Rattle.std.specs.Prelude.{length, slice_index, slice_index_or};
@@ -122,9 +122,9 @@ pub(crate) fn list_marked(alloc: Global, marked: &[bool]) -> Result<Vec<VertexId
     Ok(list)
 }
 
-// Puts vertices into an order that scatters them, that of the bits of their numbers read backwards:
-// those whose numbers are near each other lie apart.
-fn scatter(vertices: &mut [VertexId])
+/// Puts vertices into an order that scatters them, that of the bits of their numbers read
+/// backwards: those whose numbers are near each other lie apart.
+pub(crate) fn scatter(vertices: &mut [VertexId])
     ensures same { IsPermutation vertices.old vertices.new }
     ensures sorted { IsNonDecreasingBy bits_backwards vertices.new }
 {

@@ -4,7 +4,7 @@ ghost use Rattle.std.specs.Prelude.{slice_index_or, IfOk, OnOk, IsTrue};
 ghost use Rattle.std.specs.List.Sorted.{IsNonDecreasingBy};
 ghost use Rattle.surf_surfaces.specs.Homology.{IsFullCount};
 ghost use Rattle.surf_surfaces.specs.Walk.{ArePositive};
-ghost use Rattle.surf_surfaces.specs.FewBases.{AreBases};
+ghost use Rattle.surf_surfaces.specs.FewBases.{AreBases, MeetsAll};
 ghost use Rattle.surf_surfaces.specs.Surface.{edge_count, IsSurface};
 ghost use Rattle.surf_firsts.specs.Near.{AgreeOff};
 ghost use Rattle.surf_choice.specs.Places.{order_of};
@@ -12,7 +12,7 @@ ghost use Rattle.surf_basis.specs.Signing.{AreSigned};
 ghost use Rattle.surf_basis.specs.Passing.{is_marked, AreKeptIn, StayKept, KeepsWith, IsAhead};
 ghost use Rattle.surf_basis.specs.Marks.{HasBases};
 ghost use Rattle.surf_basis.specs.Kept.{HavePlacesOfBasis};
-ghost use Rattle.surf_basis.specs.Found.{surface_of, IsNext, AreKeptFrom, IsFirstAmong, IsFirstPlace};
+ghost use Rattle.surf_basis.specs.Found.{surface_of, is_among, IsNext, AreKeptFrom, IsFirstAmong, IsFirstPlace};
 ghost use Rattle.surf_base.specs.declared.limits.TheConstants.{MAX_LOOPS};
 
 use crate::finding::Finder;
@@ -214,16 +214,19 @@ pub(crate) fn bases_of(
 }
 
 /// Loops among whose lengths and least bases are the lengths and the bases of the basis that is
-/// chosen.
+/// chosen, by searches from vertices of which every closed walk that isn't null meets one.
 pub(crate) fn sufficient_loops(
     alloc: Global,
     surface: &SignedSurface<'_>,
+    vertices: &[VertexId],
     finder: &mut Finder<'_>,
     count: usize,
 ) -> Result<Choice, NoMemory>
     requires finder { finder.old ≡ surface_of surface.now }
     requires lengths { length surface.now.lengths.now ≡ edge_count surface.now.mesh.now }
     requires signed { AreSigned surface.now.mesh.now surface.now.signatures.now count }
+    requires vertices { All (λ v. v < surface.now.mesh.now.vertices) vertices.now }
+    requires met { MeetsAll surface.now.mesh.now (is_among vertices.now) }
     requires full { IsFullCount surface.now.mesh.now count }
     requires few { count ≤ MAX_LOOPS }
     ensures inside { IfOk result (λ found.
@@ -234,13 +237,12 @@ pub(crate) fn sufficient_loops(
 {
     surface.mesh.law_of_surface();
     surface.lengths.law_of_lengths();
-    let vertices = signed_ends(alloc, surface.mesh, surface.signatures)?;
     let mut choice = Choice::make(alloc, count as u32)?;
     let mut scout = Scout {
         finder: Finder::make(alloc, surface)?,
         pace: Pace::new(),
     };
-    keep_found(alloc, finder, &mut scout, &vertices, &mut choice)?;
+    keep_found(alloc, finder, &mut scout, vertices, &mut choice)?;
     choice.law_of_choice();
     Ok(choice)
 }

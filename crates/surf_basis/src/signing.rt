@@ -2,7 +2,7 @@
 ghost use Rattle.std.specs.Prelude.{◌≡◌, ◌≤◌, ◌+◌, length, IfOk};
 ghost use Rattle.surf_surfaces.specs.Homology.{IsFullCount};
 ghost use Rattle.surf_surfaces.specs.Surface.{edge_count, face_count};
-ghost use Rattle.surf_basis.specs.Signing.{AreSigned};
+ghost use Rattle.surf_basis.specs.Signing.{AreSigned, IsDividedBy};
 ghost use Rattle.surf_base.specs.declared.limits.TheConstants.{MAX_LOOPS};
 
 use std::alloc::Global;
@@ -12,8 +12,29 @@ use surf_lengths::Lengths;
 use surf_loops::LoopDesk;
 use surf_mesh::HalfMesh;
 
-// A tree of faces with the signatures of all edges, by the trees that are chosen at vertex 0. Of
-// the tree of vertices and the weights nothing is kept, so that their memory is free for searches.
+/// The loops that are chosen at vertex 0, with the signatures of all edges by the trees there.
+pub(crate) fn signed_desk(
+    alloc: Global,
+    mesh: &HalfMesh,
+    lengths: &Lengths,
+) -> Result<LoopDesk, NoMemory>
+    requires lengths { length lengths.now ≡ edge_count mesh.now }
+    requires few { edge_count mesh.now + 2 ≤ mesh.now.vertices + face_count mesh.now + MAX_LOOPS }
+    ensures signed { IfOk result (λ desk. AreSigned mesh.now desk.cotree
+        (length desk.cotree.left)) }
+    ensures full { IfOk result (λ desk. IsFullCount mesh.now (length desk.cotree.left)) }
+    ensures divided { IfOk result (IsDividedBy mesh.now) }
+{
+    mesh.law_of_surface();
+    lengths.law_of_lengths();
+    let mut desk = LoopDesk::make(alloc, mesh)?;
+    desk.greedy(mesh, lengths, VertexId::new(0));
+    desk.sign(mesh);
+    Ok(desk)
+}
+
+/// A tree of faces with the signatures of all edges, by the trees that are chosen at vertex 0. Of
+/// the tree of vertices and the weights nothing is kept, so that their memory is free for searches.
 pub(crate) fn signed_cotree(
     alloc: Global,
     mesh: &HalfMesh,
@@ -24,10 +45,6 @@ pub(crate) fn signed_cotree(
     ensures signed { IfOk result (λ cotree. AreSigned mesh.now cotree (length cotree.left)) }
     ensures full { IfOk result (λ cotree. IsFullCount mesh.now (length cotree.left)) }
 {
-    mesh.law_of_surface();
-    lengths.law_of_lengths();
-    let mut desk = LoopDesk::make(alloc, mesh)?;
-    desk.greedy(mesh, lengths, VertexId::new(0));
-    desk.sign(mesh);
+    let desk = signed_desk(alloc, mesh, lengths)?;
     Ok(desk.into_cotree())
 }

@@ -1,4 +1,4 @@
-use Rattle.std.proofs.Common.{◌<◌, sym, subst}
+use Rattle.std.proofs.Common.{◌<◌, sym, subst, arith}
 use Rattle.surf_surfaces.proofs.ClassLaws.{some_vertex}
 use Rattle.surf_loops.specs.Loops.{IsGreedy}
 use Rattle.surf_answers.proofs.SignedLaws.{desk_chosen}
@@ -12,5 +12,5 @@ pub returns : goal.returns
 returns c = record {
   chosen = desk_chosen c.args.mesh.now c.args.lengths.now c.greedy.new.self c.sign.new.self
       (subst (λ n. IsGreedy c.args.mesh.now c.args.lengths.now n c.greedy.new.self) c.new.ensures c.greedy.ensures.greedy)
-      c.sign.ensures.rest c.sign.ensures.made c.sign.ensures.signed c.requires.few;
+      c.sign.ensures.rest c.sign.ensures.made c.sign.ensures.signed (omega (arith, c.requires.few));
 }

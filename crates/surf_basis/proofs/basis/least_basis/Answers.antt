@@ -1,13 +1,14 @@
-use Rattle.std.proofs.Common.{subst}
+use Rattle.std.proofs.Common.{◌∙◌, ap, subst}
 use Rattle.std.specs.Prelude.{IfSome}
 use Rattle.std.proofs.lemmas.Result.{IfOk-weaker}
 use Rattle.surf_surfaces.specs.Homology.{IsFullCount}
 use Rattle.surf_surfaces.specs.ChoiceLaws.{LeastSimpleBasis}
 use Rattle.surf_lengths.proofs.Positive.{lengths_positive}
+use Rattle.surf_cotree.specs.Tables.{CotreeTables}
 use Rattle.surf_basis.specs.Cycles.{first_of, as_loops, IsTheBasis, IsFirstCandidate, IsShortestCycle}
 use Rattle.surf_basis.proofs.First.{first_shortest}
 use Rattle.surf_basis.proofs.Leading.{basis_first}
-use Rattle.surf_basis.proofs.Whole.{left_count, still_signed, least_of, none_basis}
+use Rattle.surf_basis.proofs.Whole.{left_count, least_of, none_basis}
 use Rattle.surf_basis.proofs.basis.least_basis.Goals as goal
 
 pub returns-then-count-eq0-clause-chosen : goal.returns-then-count-eq0-clause-chosen
@@ -15,7 +16,8 @@ returns-then-count-eq0-clause-chosen c =
     let mesh = c.args.mesh.now in
     let lengths = c.args.lengths.now in
     let positive = lengths_positive mesh lengths c.law_of_lengths.ensures.lengths c.requires.lengths in
-    let full = left_count mesh c.in_ok-signed.signed c.left-count.result.now c.in_ok-signed.ensures.full c.left-count.ensures.left in
+    let left = c.left-count.ensures.left ∙ ap (λ (t : CotreeTables). t.left) c.cotree.ensures.cotree in
+    let full = left_count mesh c.in_ok-desk.desk.cotree c.left-count.result.now c.in_ok-desk.ensures.full left in
     none_basis mesh lengths c.law_of_surface.ensures.surface positive c.new.result.items c.new.ensures.items (subst (IsFullCount mesh) c.if-count-eq0.true full)
 
 pub returns-then-count-eq0-clause-least : goal.returns-then-count-eq0-clause-least
@@ -24,14 +26,6 @@ returns-then-count-eq0-clause-least c =
     let lengths = c.args.lengths.now in
     let positive = lengths_positive mesh lengths c.law_of_lengths.ensures.lengths c.requires.lengths in
     least_of mesh lengths c.law_of_surface.ensures.surface positive (as_loops c.new.result.items) (returns-then-count-eq0-clause-chosen c)
-
-pub basis_over-requires-clause-signed : goal.basis_over-requires-clause-signed
-basis_over-requires-clause-signed c =
-    still_signed c.args.mesh.now c.in_ok-signed.signed c.left-count.result.now c.in_ok-signed.ensures.signed c.left-count.ensures.left
-
-pub basis_over-requires-clause-full : goal.basis_over-requires-clause-full
-basis_over-requires-clause-full c =
-    left_count c.args.mesh.now c.in_ok-signed.signed c.left-count.result.now c.in_ok-signed.ensures.full c.left-count.ensures.left
 
 pub returns-clause-least : goal.returns-clause-least
 returns-clause-least c =

@@ -1,17 +1,11 @@
-use Rattle.std.proofs.Common.{◌≡◌, List, ℕ, sym, ap, subst, arith}
+use Rattle.std.proofs.Common.{◌≡◌, sym, ap, subst, arith}
 use Rattle.surf_surfaces.specs.Homology.{IsFullCount}
 use Rattle.surf_lengths.proofs.Positive.{lengths_positive}
 use Rattle.surf_choice.specs.Candidates.{Chosen}
-use Rattle.surf_basis.specs.Marks.{HasSignedEnds}
 use Rattle.surf_basis.specs.Found.{SurfaceTables, AreKeptFrom}
 use Rattle.surf_basis.proofs.Looped.{signs_long}
 use Rattle.surf_basis.proofs.Sufficient.{bases_inside, places_enough}
 use Rattle.surf_basis.proofs.searching.sufficient_loops.Goals as goal
-
-pub signed_ends-requires : goal.signed_ends-requires
-signed_ends-requires c = record {
-  table = signs_long c.args.surface.now.mesh.now c.args.surface.now.signatures.now c.args.count c.requires.signed;
-}
 
 pub make-requires-2-clause-signatures : goal.make-requires-2-clause-signatures
 make-requires-2-clause-signatures c =
@@ -23,10 +17,10 @@ returns-clause-inside c =
     let lengths = c.args.surface.now.lengths.now in
     let s = c.args.surface.now.signatures.now in
     let positive = lengths_positive mesh lengths c.law_of_lengths.ensures.lengths c.requires.lengths in
-    let kept : AreKeptFrom mesh lengths s c.deref.result.now c.keep_found.new.choice =
-    subst (λ (f : SurfaceTables). AreKeptFrom f.mesh f.lengths f.signs c.deref.result.now c.keep_found.new.choice) c.requires.finder
+    let kept : AreKeptFrom mesh lengths s c.args.vertices.now c.keep_found.new.choice =
+    subst (λ (f : SurfaceTables). AreKeptFrom f.mesh f.lengths f.signs c.args.vertices.now c.keep_found.new.choice) c.requires.finder
     c.in_ok-keep_found.ensures.kept in
-    bases_inside mesh lengths c.law_of_surface.ensures.surface positive s c.args.count c.requires.signed c.deref.result.now c.keep_found.new.choice kept
+    bases_inside mesh lengths c.law_of_surface.ensures.surface positive s c.args.count c.requires.signed c.args.vertices.now c.keep_found.new.choice kept
 
 pub returns-clause-places : goal.returns-clause-places
 returns-clause-places c =
@@ -35,12 +29,10 @@ returns-clause-places c =
     let s = c.args.surface.now.signatures.now in
     let positive = lengths_positive mesh lengths c.law_of_lengths.ensures.lengths c.requires.lengths in
     let choice = c.keep_found.new.choice in
-    let kept : AreKeptFrom mesh lengths s c.deref.result.now choice =
-    subst (λ (f : SurfaceTables). AreKeptFrom f.mesh f.lengths f.signs c.deref.result.now choice) c.requires.finder
+    let kept : AreKeptFrom mesh lengths s c.args.vertices.now choice =
+    subst (λ (f : SurfaceTables). AreKeptFrom f.mesh f.lengths f.signs c.args.vertices.now choice) c.requires.finder
     c.in_ok-keep_found.ensures.kept in
-    let ends : HasSignedEnds mesh s c.deref.result.now =
-    subst (λ (xs : List ℕ). HasSignedEnds mesh s xs) (sym c.deref.ensures.value) c.in_ok-vertices.ensures.ends in
     let wide : choice.width ≡ c.args.count = omega (arith, c.keep_found.ensures.width, ap (λ (k : Chosen). k.width) c.in_ok-choice.ensures) in
     let full : IsFullCount mesh choice.width = subst (IsFullCount mesh) (sym wide) c.requires.full in
-    places_enough mesh lengths c.law_of_surface.ensures.surface positive s c.args.count c.requires.signed c.deref.result.now choice ends kept
+    places_enough mesh lengths c.law_of_surface.ensures.surface positive s c.args.count c.requires.signed c.args.vertices.now choice c.requires.met kept
     c.law_of_choice.ensures.few full

@@ -1,0 +1,36 @@
+-- Lists of vertices that every closed walk meets which isn't null.
+use Rattle.std.proofs.Common.{ℕ, List, sym, ◌∙◌, inl, inr}
+use Rattle.surf_surfaces.specs.Mesh.{Mesh}
+use Rattle.surf_surfaces.specs.Surface.{ends, IsSurface}
+use Rattle.surf_surfaces.specs.FewBases.{MeetsAll}
+use Rattle.surf_surfaces.proofs.SignedEndsLaws.{signed_ends_meet_all}
+use Rattle.surf_opening.proofs.OffTheCutMarked.{walks_are_null_or_meet_marked}
+use Rattle.surf_tree.specs.Tables.{tree_of}
+use Rattle.surf_cotree.specs.Tables.{CotreeTables, cotree_of}
+use Rattle.surf_loops.specs.Loops.{LoopTables}
+use Rattle.surf_basis.specs.Cut.{AreCutVertices}
+use Rattle.surf_basis.specs.Found.{is_among}
+use Rattle.surf_basis.specs.Marks.{HasSignedEnds}
+use Rattle.surf_basis.specs.Signing.{AreSigned, IsDividedBy}
+use Rattle.surf_basis.proofs.Climbed.{at_edge}
+use Rattle.surf_basis.proofs.Searched.{among_contained}
+
+-- a list with an end of each edge with a signature
+pub ends_meet : (mesh : Mesh) → IsSurface mesh → (s : CotreeTables) (width : ℕ) → AreSigned mesh s width → (vs : List ℕ) →
+    HasSignedEnds mesh s vs → MeetsAll mesh (is_among vs)
+ends_meet mesh surface s width signed vs has =
+    signed_ends_meet_all mesh signed.split (is_among vs) surface signed.is_split
+    (λ e e_in some. elim (has e e_in (λ none. some (sym (at_edge mesh signed.split s e signed.signatures e_in) ∙ none))) [
+      | inl low ↦ inl (among_contained vs (ends mesh e).0 low)
+      | inr high ↦ inr (among_contained vs (ends mesh e).1 high)
+    ])
+
+-- the vertices of the cut
+pub cut_meets : (mesh : Mesh) → IsSurface mesh → (t : LoopTables) → IsDividedBy mesh t → (vs : List ℕ) →
+    AreCutVertices mesh t vs → MeetsAll mesh (is_among vs)
+cut_meets mesh surface t divided vs cut walk closed some =
+    elim (walks_are_null_or_meet_marked mesh (tree_of t.tree) (cotree_of t.cotree) (is_among vs) walk surface divided.divided
+    cut.marked closed) [
+      | inl null ↦ absurd (some null)
+      | inr there ↦ there
+    ]

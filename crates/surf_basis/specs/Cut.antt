@@ -1,0 +1,45 @@
+-- The vertices from which is searched: those of a cut, or ends of edges with signatures.
+use Rattle.std.specs.Prelude.{ℕ, ◌≢◌, ◌<◌, ◌⊎◌, Bool, IsTrue, List, All}
+use Rattle.surf_graphs.specs.Trees.{Tree}
+use Rattle.surf_surfaces.specs.Mesh.{Mesh}
+use Rattle.surf_opening.specs.OffTheCut.{HasMarkedEnds, AreMarked}
+use Rattle.surf_tree.specs.Tables.{tree_of}
+use Rattle.surf_tree.specs.Queues.{AreEven, AreUneven}
+use Rattle.surf_cotree.specs.Tables.{cotree_of}
+use Rattle.surf_loops.specs.Loops.{LoopTables}
+use Rattle.surf_basis.specs.Found.{is_among}
+use Rattle.surf_basis.specs.Marks.{HasSignedEnds}
+
+-- with each of the first vertices the set has its parent
+abbrev pub HasParents : ℕ → Tree → (ℕ → Bool) → Type 0
+HasParents count tree set = (v : ℕ) → v < count → v ≢ tree.root → IsTrue (set v) → IsTrue (set (tree.parent v))
+
+-- the set has the vertex
+abbrev pub HasVertex : ℕ → (ℕ → Bool) → Type 0
+HasVertex v set = IsTrue (set v)
+
+-- the set has both ends of each of the edges
+abbrev pub HasEnds : Mesh → List ℕ → (ℕ → Bool) → Type 0
+HasEnds mesh edges set = All (HasMarkedEnds mesh set) edges
+
+-- all of the one set is in the other
+abbrev pub IsPartOf : (ℕ → Bool) → (ℕ → Bool) → Type 0
+IsPartOf part set = (v : ℕ) → IsTrue (part v) → IsTrue (set v)
+
+-- of the sets that have what is asked, an old set and with each vertex its parent, the new one is the least
+pub record IsLeastSet (count : ℕ) (tree : Tree) (Asked : (ℕ → Bool) → Type 0) (old new : ℕ → Bool) : Type 0 where
+  pub asked : Asked new
+  pub stay : IsPartOf old new
+  pub parents : HasParents count tree new
+  pub least : (other : ℕ → Bool) → Asked other → IsPartOf old other → HasParents count tree other → IsPartOf new other
+
+-- the vertices that have to be marked: both ends of each left edge and with each vertex its parent, and no others
+pub record AreCutVertices (mesh : Mesh) (t : LoopTables) (list : List ℕ) : Type 0 where
+  pub marked : AreMarked mesh (tree_of t.tree) (cotree_of t.cotree) (is_among list)
+  pub least : (other : ℕ → Bool) → AreMarked mesh (tree_of t.tree) (cotree_of t.cotree) other →
+      All (λ v. IsTrue (other v)) list
+
+-- where all lengths are the same the list has ends of edges with signatures, else the vertices of the cut
+abbrev pub AreToSearch : Mesh → List ℕ → LoopTables → List ℕ → Type 0
+AreToSearch mesh lengths t list = ((size : ℕ) × AreEven lengths size × HasSignedEnds mesh t.cotree list)
+    ⊎ (AreUneven lengths × AreCutVertices mesh t list)
