@@ -1,6 +1,6 @@
 //! The least basis, kept base by base.
 ghost use Rattle.std.specs.Prelude.{◌≡◌, ◌<◌, ◌≤◌, ◌+◌, ◌^◌, [], All, IfOk, OnOk, IfSome, length};
-ghost use Rattle.surf_surfaces.specs.Surface.{edge_count, face_count, IsSurface};
+ghost use Rattle.surf_surfaces.specs.Surface.{edge_count, IsSurface, loop_count};
 ghost use Rattle.surf_surfaces.specs.Walk.{ArePositive};
 ghost use Rattle.surf_surfaces.specs.Homology.{IsFullCount};
 ghost use Rattle.surf_surfaces.specs.FewBases.{AreBases, MeetsAll};
@@ -97,7 +97,7 @@ pub fn least_basis(
     lengths: &Lengths,
 ) -> Result<Vec<Cycle>, NoMemory>
     requires lengths { length lengths.now ≡ edge_count mesh.now }
-    requires few { edge_count mesh.now + 2 ≤ mesh.now.vertices + face_count mesh.now + MAX_LOOPS }
+    requires few { loop_count mesh.now ≤ MAX_LOOPS }
     ensures chosen { IfOk result (λ cycles. IsTheBasis mesh.now lengths.now
         (as_loops cycles.items)) }
     ensures least { IfOk result (λ cycles. LeastSimpleBasis mesh.now lengths.now

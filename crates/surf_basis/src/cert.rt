@@ -1,7 +1,7 @@
 //! The certificate of the basis.
 ghost use Rattle.std.specs.Prelude.{◌≡◌, ◌≤◌, ◌+◌, IfOk, length};
 ghost use Rattle.surf_surfaces.specs.Choice.{walks};
-ghost use Rattle.surf_surfaces.specs.Surface.{edge_count, face_count};
+ghost use Rattle.surf_surfaces.specs.Surface.{edge_count, loop_count};
 ghost use Rattle.surf_validity.specs.Bases.{IsValidBasis};
 ghost use Rattle.surf_records.specs.Fits.{BasisFits};
 ghost use Rattle.surf_basis.specs.Certs.{AreTreeRows, IsTheCert};
@@ -51,7 +51,7 @@ fn walks_of(alloc: Global, cycles: Vec<Cycle>) -> Result<Vec<Walk>, NoMemory>
 /// order. It is valid for the mesh and the lengths, and its lists fit the lines of a text.
 pub fn basis_cert(alloc: Global, mesh: &HalfMesh, lengths: &Lengths) -> Result<BasisCert, NoMemory>
     requires lengths { length lengths.now ≡ edge_count mesh.now }
-    requires few { edge_count mesh.now + 2 ≤ mesh.now.vertices + face_count mesh.now + MAX_LOOPS }
+    requires few { loop_count mesh.now ≤ MAX_LOOPS }
     ensures chosen { IfOk result (IsTheCert mesh.now lengths.now) }
     ensures valid { IfOk result (IsValidBasis mesh.now lengths.now) }
     ensures fits { IfOk result BasisFits }

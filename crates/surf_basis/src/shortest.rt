@@ -1,7 +1,7 @@
 //! A shortest cycle that doesn't separate the surface.
 ghost use Rattle.std.specs.Prelude.{ℕ, ◌≡◌, ◌<◌, ◌≤◌, ◌+◌, ◌↔◌, None, IfOk, IfSome, length};
 ghost use Rattle.std.specs.Option.{option_map};
-ghost use Rattle.surf_surfaces.specs.Surface.{edge_count, face_count};
+ghost use Rattle.surf_surfaces.specs.Surface.{edge_count, loop_count};
 ghost use Rattle.surf_surfaces.specs.Homology.{IsFullCount};
 ghost use Rattle.surf_surfaces.specs.Choice.{Trees, AreChosen, candidates, loops_at};
 ghost use Rattle.surf_tree.specs.Grown.{IsGrown as IsTreeGrown};
@@ -45,7 +45,7 @@ fn place_of_first(
     lengths: &Lengths,
 ) -> Result<Option<Candidate>, NoMemory>
     requires lengths { length lengths.now ≡ edge_count mesh.now }
-    requires few { edge_count mesh.now + 2 ≤ mesh.now.vertices + face_count mesh.now + MAX_LOOPS }
+    requires few { loop_count mesh.now ≤ MAX_LOOPS }
     ensures first { IfOk result (IsFirstPlace mesh.now lengths.now) }
 {
     mesh.law_of_surface();
@@ -113,7 +113,7 @@ pub fn least_nonseparating(
     lengths: &Lengths,
 ) -> Result<Option<Cycle>, NoMemory>
     requires lengths { length lengths.now ≡ edge_count mesh.now }
-    requires few { edge_count mesh.now + 2 ≤ mesh.now.vertices + face_count mesh.now + MAX_LOOPS }
+    requires few { loop_count mesh.now ≤ MAX_LOOPS }
     ensures first { IfOk result (λ found. IsFirstCandidate mesh.now lengths.now found) }
     ensures shortest { IfOk result (λ found. IfSome found
         (λ cycle. IsShortestCycle mesh.now lengths.now cycle)) }

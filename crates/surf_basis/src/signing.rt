@@ -1,7 +1,7 @@
 //! Signatures of edges.
 ghost use Rattle.std.specs.Prelude.{◌≡◌, ◌≤◌, ◌+◌, length, IfOk};
 ghost use Rattle.surf_surfaces.specs.Homology.{IsFullCount};
-ghost use Rattle.surf_surfaces.specs.Surface.{edge_count, face_count};
+ghost use Rattle.surf_surfaces.specs.Surface.{edge_count, loop_count};
 ghost use Rattle.surf_basis.specs.Signing.{AreSigned, IsDividedBy};
 ghost use Rattle.surf_base.specs.declared.limits.TheConstants.{MAX_LOOPS};
 
@@ -19,7 +19,7 @@ pub(crate) fn signed_desk(
     lengths: &Lengths,
 ) -> Result<LoopDesk, NoMemory>
     requires lengths { length lengths.now ≡ edge_count mesh.now }
-    requires few { edge_count mesh.now + 2 ≤ mesh.now.vertices + face_count mesh.now + MAX_LOOPS }
+    requires few { loop_count mesh.now ≤ MAX_LOOPS }
     ensures signed { IfOk result (λ desk. AreSigned mesh.now desk.cotree
         (length desk.cotree.left)) }
     ensures full { IfOk result (λ desk. IsFullCount mesh.now (length desk.cotree.left)) }
@@ -41,7 +41,7 @@ pub(crate) fn signed_cotree(
     lengths: &Lengths,
 ) -> Result<CotreeDesk, NoMemory>
     requires lengths { length lengths.now ≡ edge_count mesh.now }
-    requires few { edge_count mesh.now + 2 ≤ mesh.now.vertices + face_count mesh.now + MAX_LOOPS }
+    requires few { loop_count mesh.now ≤ MAX_LOOPS }
     ensures signed { IfOk result (λ cotree. AreSigned mesh.now cotree (length cotree.left)) }
     ensures full { IfOk result (λ cotree. IsFullCount mesh.now (length cotree.left)) }
 {
