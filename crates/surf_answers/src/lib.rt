@@ -30,7 +30,7 @@ pub use cycle::cycle_of;
 pub use disc::{disc_of, not_disc};
 pub use distances::dist_of;
 pub use evidence::judge_evidence;
-pub use info::{info_of, kind_info_of, loop_count};
+pub use info::{kind_info_of, loop_count};
 pub use loops::loops_of;
 pub use meshes::made_of;
 pub use sewing::sewn_text;
