@@ -1,19 +1,20 @@
 -- Vertices that are marked in a table, listed one after another.
 use Rattle.std.proofs.Common.{◌≡◌, ◌≢◌, ℕ, ◌<◌, ◌≤◌, ◌+◌, Bool, true, false, List, [], ◌∷◌, ◌++◌, length, get_or, set, slice_index, take, Contains, All, IsPermutation, refl, sym, ap, ◌∙◌, subst, arith, inl, inr, length-append}
-use Rattle.std.specs.Prelude.{slice_index_or, ◌⊎◌}
+use Rattle.std.specs.Prelude.{slice_index_or, ◌⊎◌, IsTrue}
 use Rattle.std.proofs.lemmas.Bool.{cases_lt, cases_eq}
 use Rattle.std.proofs.Math.ListN.{get_or-append}
 use Rattle.std.proofs.Math.Seq.{get_or-append_seam, take-append_seam}
-use Rattle.std.proofs.lemmas.List.{get_or-set_same, get_or-set_other}
-use Rattle.std.proofs.lemmas.List.Elements.{Contains-append_left, Contains-append_right}
-use Rattle.std.proofs.lemmas.List.Sorted.{Contains-permutation}
+use Rattle.std.proofs.lemmas.List.{get_or_default, get_or-set_same, get_or-set_other}
+use Rattle.std.proofs.lemmas.List.Elements.{Contains-append_left, Contains-append_right, Contains-get_or}
+use Rattle.std.proofs.lemmas.List.Sorted.{Contains-permutation, IsPermutation-sym}
 use Rattle.surf_surfaces.specs.Mesh.{Mesh}
 use Rattle.surf_surfaces.specs.Surface.{edge_count, ends, IsSurface}
 use Rattle.surf_surfaces.specs.FewBases.{AreBases}
 use Rattle.surf_loops.proofs.Turned.{ends_in}
 use Rattle.surf_cotree.specs.Tables.{CotreeTables}
 use Rattle.surf_choice.specs.declared.candidate.Signed.{Signed}
-use Rattle.surf_basis.specs.Marks.{AreMarkedIn, HasMarkedEnd, HasBases, HasSignedEnds}
+use Rattle.surf_basis.specs.Marks.{AreMarkedIn, HasMarkedEnd, HasBases, IsSignedEnd, AreSignedEnds}
+use Rattle.surf_basis.specs.Passing.{is_marked}
 
 pub marked_none : (marked : List Bool) (list : List ℕ) → list ≡ [] → AreMarkedIn marked 0 list
 marked_none marked list is = subst (AreMarkedIn marked 0) (sym is) (record {
@@ -114,6 +115,13 @@ either_marked marked low high p or_turned one = elim or_turned [
 pub ends_inside : (mesh : Mesh) → IsSurface mesh → (e : ℕ) → e < edge_count mesh → (p : ℕ × ℕ) → p ≡ ends mesh e → (p.0 < mesh.vertices) × (p.1 < mesh.vertices)
 ends_inside mesh surface e e_in p is = subst (λ (q : ℕ × ℕ). (q.0 < mesh.vertices) × (q.1 < mesh.vertices)) (sym is) (ends_in mesh surface e e_in)
 
+-- the second of them is one of the first pair
+pub second_of_both : (low high : ℕ) (p : ℕ × ℕ) → (p ≡ (low, high)) ⊎ (p ≡ (high, low)) → (low ≡ p.1) ⊎ (high ≡ p.1)
+second_of_both low high p or_turned = elim or_turned [
+  | inl same ↦ inr (sym (ap (λ (q : ℕ × ℕ). q.1) same))
+  | inr turned ↦ inl (sym (ap (λ (q : ℕ × ℕ). q.1) turned))
+]
+
 -- both of them are below a bound
 pub either_below : (bound low high : ℕ) (p : ℕ × ℕ) → (p ≡ (low, high)) ⊎ (p ≡ (high, low)) → low < bound → high < bound → (p.0 < bound) × (p.1 < bound)
 either_below bound low high p or_turned a b = elim or_turned [
@@ -153,17 +161,34 @@ marks_listed marked table list old new items same h is permuted last u u_in on =
     subst (λ (xs : List ℕ). Contains xs u) (sym last)
     (Contains-permutation old new u permuted (subst (λ (xs : List ℕ). Contains xs u) (sym is) there))
 
+-- of what is marked, listed in whatever order, each is marked
+pub listed_marked : (marked table : List Bool) (list old new items : List ℕ) → table ≡ marked →
+    AreMarkedIn table (length table) list → old ≡ list → IsPermutation old new → items ≡ new →
+    (i d : ℕ) → i < length items → IsTrue (is_marked marked (get_or items i d))
+listed_marked marked table list old new items same h is permuted last i d l =
+    let there : Contains new (get_or items i d) =
+    subst (λ (xs : List ℕ). Contains xs (get_or items i d)) last (Contains-get_or items i d l) in
+    let before : Contains list (get_or items i d) = subst (λ (xs : List ℕ). Contains xs (get_or items i d)) is
+    (Contains-permutation new old (get_or items i d) (IsPermutation-sym old new permuted) there) in
+    let (k, k_in, at) = before in
+    subst (λ (ms : List Bool). IsTrue (is_marked ms (get_or items i d))) same
+    (subst (λ v. IsTrue (is_marked table v)) (get_or_default list k 0 _ k_in ∙ at) (h.only k k_in))
+
 -- the ends that are marked are listed, in whatever order
 pub ends_listed : (mesh : Mesh) → IsSurface mesh → (s : CotreeTables) (marked table : List Bool) (list old new items : List ℕ) →
     table ≡ marked → length marked ≡ mesh.vertices →
     ((e : ℕ) → e < edge_count mesh → slice_index s.signatures e ≢ 0 → HasMarkedEnd mesh marked e) →
-    AreMarkedIn table (length table) list → old ≡ list → IsPermutation old new → items ≡ new → HasSignedEnds mesh s items
-ends_listed mesh surface s marked table list old new items same n on h is permuted last e e_in some =
-    let inside = ends_in mesh surface e e_in in
-    elim (on e e_in some) [
-      | inl low ↦ inl (listed (ends mesh e).0 inside.0 low)
-      | inr high ↦ inr (listed (ends mesh e).1 inside.1 high)
-    ]
+    ((v : ℕ) → IsTrue (is_marked marked v) → IsSignedEnd mesh s v) → AreMarkedIn table (length table) list → old ≡ list →
+    IsPermutation old new → items ≡ new → AreSignedEnds mesh s items
+ends_listed mesh surface s marked table list old new items same n on signed h is permuted last = record {
+  each = λ e e_in some.
+      let inside = ends_in mesh surface e e_in in
+      elim (on e e_in some) [
+        | inl low ↦ inl (listed (ends mesh e).0 inside.0 low)
+        | inr high ↦ inr (listed (ends mesh e).1 inside.1 high)
+      ];
+  only = λ k d l. signed (get_or items k d) (listed_marked marked table list old new items same h is permuted last k d l);
+}
   where
     listed : (u : ℕ) → u < mesh.vertices → slice_index_or marked u false ≡ true → Contains items u
     listed u u_in = marks_listed marked table list old new items same h is permuted last u (omega (arith, u_in, n))

@@ -1,11 +1,9 @@
 -- Vertices that are marked on the ways up a tree, and the list of them.
-use Rattle.std.proofs.Common.{◌≡◌, ◌≢◌, ℕ, ◌<◌, ◌≤◌, ◌+◌, ◌⊎◌, not, Bool, true, false, List, length, get_or, set, slice_index, Contains, IsPermutation, refl, sym, ap, ◌∙◌, subst, arith, inl, inr}
+use Rattle.std.proofs.Common.{◌≡◌, ◌≢◌, ℕ, ◌<◌, ◌≤◌, ◌+◌, ◌⊎◌, not, Bool, true, false, List, length, get_or, set, slice_index, Contains, refl, sym, ap, ◌∙◌, subst, arith, inl, inr}
 use Rattle.std.specs.Prelude.{Option, Some, None}
 use Rattle.std.specs.Prelude.{IsTrue}
 use Rattle.std.proofs.lemmas.Bool.{cases_lt, cases_eq, and_parts, and_from, not-true, not_from_false, false≢true}
 use Rattle.std.proofs.lemmas.List.{get_or_default, get_or_past, get_or-set_other}
-use Rattle.std.proofs.lemmas.List.Elements.{Contains-get_or}
-use Rattle.std.proofs.lemmas.List.Sorted.{Contains-permutation, IsPermutation-sym}
 use Rattle.surf_graphs.specs.Trees.{Tree}
 use Rattle.surf_surfaces.specs.Cotree.{tree_edges, cotree_edges, is_left, left_edges}
 use Rattle.surf_surfaces.specs.Mesh.{Mesh}
@@ -15,9 +13,8 @@ use Rattle.surf_tree.specs.Tables.{TreeTables, tree_of, parent_of}
 use Rattle.surf_cotree.specs.Tables.{cotree_of}
 use Rattle.surf_cotree.specs.Grown.{IsMarked}
 use Rattle.surf_loops.specs.Loops.{LoopTables, IsRooted, IsGreedy}
-use Rattle.surf_basis.specs.Cut.{HasParents, HasVertex, HasEnds, IsPartOf, IsLeastSet, AreCutVertices}
+use Rattle.surf_basis.specs.Cut.{IsClosedUpward, HasVertex, HasEnds, IsPartOf, IsLeastSet, AreCutVertices}
 use Rattle.surf_basis.specs.Found.{is_among}
-use Rattle.surf_basis.specs.Marks.{AreMarkedIn}
 use Rattle.surf_basis.specs.Passing.{is_marked}
 use Rattle.surf_basis.specs.Signing.{IsDividedBy}
 use Rattle.surf_basis.proofs.Marked.{set_stays, set_there}
@@ -33,14 +30,14 @@ pub record IsClimbing (count : ℕ) (tree : Tree) (from at : ℕ) (old new : ℕ
   pub stay : IsPartOf old new
   pub parents : (v : ℕ) → v < count → v ≢ tree.root → IsTrue (new v) →
       IsTrue (new (tree.parent v)) ⊎ (tree.parent v ≡ at)
-  pub least : (other : ℕ → Bool) → HasVertex from other → IsPartOf old other → HasParents count tree other →
+  pub least : (other : ℕ → Bool) → HasVertex from other → IsPartOf old other → IsClosedUpward count tree other →
       HasVertex at other × IsPartOf new other
 
 -- where a way goes on from a vertex: at its parent, and at the root it stays
 abbrev pub GoesOn : ℕ → Tree → ℕ → ℕ → Type 0
 GoesOn count tree at next = ((at ≢ tree.root) × (next ≡ tree.parent at) × (next < count)) ⊎ ((at ≡ tree.root) × (next ≡ at))
 
-pub climb_begun : (count : ℕ) (tree : Tree) (from : ℕ) (old : ℕ → Bool) → from < count → HasParents count tree old →
+pub climb_begun : (count : ℕ) (tree : Tree) (from : ℕ) (old : ℕ → Bool) → from < count → IsClosedUpward count tree old →
     IsClimbing count tree from from old old
 climb_begun count tree from old from_in up = record {
   at_in = from_in;
@@ -100,7 +97,7 @@ climb_more count tree from at next old marked size h on = record {
     stays : (v : ℕ) → IsTrue (is_marked marked v) → IsTrue (is_marked (set marked at true) v)
     stays v is = set_stays marked at v is at_in
 
-    goes : (other : ℕ → Bool) → HasParents count tree other → IsTrue (other at) → IsTrue (other next)
+    goes : (other : ℕ → Bool) → IsClosedUpward count tree other → IsTrue (other at) → IsTrue (other next)
     goes other closed is = elim on [
       | inl up ↦ subst (λ w. IsTrue (other w)) (sym up.1) (closed at h.at_in up.0 is)
       | inr root ↦ subst (λ w. IsTrue (other w)) (sym root.1) is
@@ -180,11 +177,11 @@ goes_no_more mesh t at rooted l is = elim (cases_eq at t.base) [
 pub record AreMarkedSoFar (mesh : Mesh) (tree : Tree) (edges : List ℕ) (done : ℕ) (old new : ℕ → Bool) : Type 0 where
   pub asked : (i : ℕ) → i < done → HasMarkedEnds mesh new (slice_index edges i)
   pub stay : IsPartOf old new
-  pub parents : HasParents mesh.vertices tree new
+  pub parents : IsClosedUpward mesh.vertices tree new
   pub least : (other : ℕ → Bool) → HasEnds mesh edges other → IsPartOf old other →
-      HasParents mesh.vertices tree other → IsPartOf new other
+      IsClosedUpward mesh.vertices tree other → IsPartOf new other
 
-pub ways_begun : (mesh : Mesh) (tree : Tree) (edges : List ℕ) (old : ℕ → Bool) → HasParents mesh.vertices tree old →
+pub ways_begun : (mesh : Mesh) (tree : Tree) (edges : List ℕ) (old : ℕ → Bool) → IsClosedUpward mesh.vertices tree old →
     AreMarkedSoFar mesh tree edges 0 old old
 ways_begun mesh tree edges old up = record {
   asked = λ i l. absurd (omega arith);
@@ -232,19 +229,6 @@ marked_inside marked v on = elim (cases_lt v (length marked)) [
   | inl less ↦ less
   | inr past ↦ absurd (false≢true (sym (get_or_past marked v false past) ∙ on))
 ]
-
--- of what is marked, listed in whatever order, each is marked
-pub listed_marked : (marked table : List Bool) (list old new items : List ℕ) → table ≡ marked →
-    AreMarkedIn table (length table) list → old ≡ list → IsPermutation old new → items ≡ new →
-    (i d : ℕ) → i < length items → IsTrue (is_marked marked (get_or items i d))
-listed_marked marked table list old new items same h is permuted last i d l =
-    let there : Contains new (get_or items i d) =
-    subst (λ (xs : List ℕ). Contains xs (get_or items i d)) last (Contains-get_or items i d l) in
-    let before : Contains list (get_or items i d) = subst (λ (xs : List ℕ). Contains xs (get_or items i d)) is
-    (Contains-permutation new old (get_or items i d) (IsPermutation-sym old new permuted) there) in
-    let (k, k_in, at) = before in
-    subst (λ (ms : List Bool). IsTrue (is_marked ms (get_or items i d))) same
-    (subst (λ v. IsTrue (is_marked table v)) (get_or_default list k 0 _ k_in ∙ at) (h.only k k_in))
 
 module _ (mesh : Mesh) (t : LoopTables) (divided : IsDividedBy mesh t) where
   abbrev tree : Tree

@@ -8,11 +8,11 @@ use Rattle.surf_tree.specs.Queues.{AreEven, AreUneven}
 use Rattle.surf_cotree.specs.Tables.{cotree_of}
 use Rattle.surf_loops.specs.Loops.{LoopTables}
 use Rattle.surf_basis.specs.Found.{is_among}
-use Rattle.surf_basis.specs.Marks.{HasSignedEnds}
+use Rattle.surf_basis.specs.Marks.{AreSignedEnds}
 
--- with each of the first vertices the set has its parent
-abbrev pub HasParents : ℕ → Tree → (ℕ → Bool) → Type 0
-HasParents count tree set = (v : ℕ) → v < count → v ≢ tree.root → IsTrue (set v) → IsTrue (set (tree.parent v))
+-- the set is closed upward: with each of the first vertices it has its parent
+abbrev pub IsClosedUpward : ℕ → Tree → (ℕ → Bool) → Type 0
+IsClosedUpward count tree set = (v : ℕ) → v < count → v ≢ tree.root → IsTrue (set v) → IsTrue (set (tree.parent v))
 
 -- the set has the vertex
 abbrev pub HasVertex : ℕ → (ℕ → Bool) → Type 0
@@ -30,8 +30,8 @@ IsPartOf part set = (v : ℕ) → IsTrue (part v) → IsTrue (set v)
 pub record IsLeastSet (count : ℕ) (tree : Tree) (Asked : (ℕ → Bool) → Type 0) (old new : ℕ → Bool) : Type 0 where
   pub asked : Asked new
   pub stay : IsPartOf old new
-  pub parents : HasParents count tree new
-  pub least : (other : ℕ → Bool) → Asked other → IsPartOf old other → HasParents count tree other → IsPartOf new other
+  pub parents : IsClosedUpward count tree new
+  pub least : (other : ℕ → Bool) → Asked other → IsPartOf old other → IsClosedUpward count tree other → IsPartOf new other
 
 -- the vertices that have to be marked: both ends of each left edge and with each vertex its parent, and no others
 pub record AreCutVertices (mesh : Mesh) (t : LoopTables) (list : List ℕ) : Type 0 where
@@ -41,5 +41,5 @@ pub record AreCutVertices (mesh : Mesh) (t : LoopTables) (list : List ℕ) : Typ
 
 -- where all lengths are the same the list has ends of edges with signatures, else the vertices of the cut
 abbrev pub AreToSearch : Mesh → List ℕ → LoopTables → List ℕ → Type 0
-AreToSearch mesh lengths t list = ((size : ℕ) × AreEven lengths size × HasSignedEnds mesh t.cotree list)
+AreToSearch mesh lengths t list = ((size : ℕ) × AreEven lengths size × AreSignedEnds mesh t.cotree list)
     ⊎ (AreUneven lengths × AreCutVertices mesh t list)

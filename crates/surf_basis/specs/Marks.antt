@@ -29,6 +29,16 @@ HasSignedEnds mesh s list =
     (e : ℕ) → e < edge_count mesh → slice_index s.signatures e ≢ 0 →
     Contains list (ends mesh e).0 ⊎ Contains list (ends mesh e).1
 
+-- the vertex is an end of an edge whose signature isn't empty
+abbrev pub IsSignedEnd : Mesh → CotreeTables → ℕ → Type 0
+IsSignedEnd mesh s v = (e : ℕ) × (e < edge_count mesh) × (slice_index s.signatures e ≢ 0)
+    × (((ends mesh e).0 ≡ v) ⊎ ((ends mesh e).1 ≡ v))
+
+-- a list has an end of each edge whose signature isn't empty, and no other vertices
+pub record AreSignedEnds (mesh : Mesh) (s : CotreeTables) (list : List ℕ) : Type 0 where
+  pub each : HasSignedEnds mesh s list
+  pub only : All (IsSignedEnd mesh s) list
+
 -- the number that the 32 bits of a number write when they are read backwards
 abbrev pub bits_backwards : ℕ → ℕ
 bits_backwards v = reverse_bits w32 v

@@ -7,7 +7,7 @@ ghost use Rattle.surf_surfaces.specs.Surface.{edge_count};
 ghost use Rattle.surf_tree.specs.Tables.{tree_of};
 ghost use Rattle.surf_loops.specs.Loops.{IsRooted};
 ghost use Rattle.surf_basis.specs.Cut.{AreCutVertices, AreToSearch, IsLeastSet};
-ghost use Rattle.surf_basis.specs.Cut.{HasEnds, HasParents, HasVertex};
+ghost use Rattle.surf_basis.specs.Cut.{HasEnds, HasVertex, IsClosedUpward};
 ghost use Rattle.surf_basis.specs.Found.{is_among};
 ghost use Rattle.surf_basis.specs.Marks.{bits_backwards};
 ghost use Rattle.surf_basis.specs.Passing.{is_marked};
@@ -26,7 +26,8 @@ fn mark_way(tree: &TreeDesk, from: VertexId, marked: &mut [bool])
     requires rooted { (mesh : Mesh) × IsRooted mesh tree.now
         × (length marked.old ≡ mesh.vertices) }
     requires vertex { from < length marked.old }
-    requires parents { HasParents (length marked.old) (tree_of tree.now) (is_marked marked.old) }
+    requires parents { IsClosedUpward (length marked.old) (tree_of tree.now)
+        (is_marked marked.old) }
     ensures way { IsLeastSet (length marked.old) (tree_of tree.now) (HasVertex from)
         (is_marked marked.old) (is_marked marked.new) }
     ensures count { length marked.new ≡ length marked.old }
@@ -45,7 +46,7 @@ fn mark_ways(mesh: &HalfMesh, tree: &TreeDesk, edges: &[EdgeId], marked: &mut [b
     requires rooted { IsRooted mesh.now tree.now }
     requires edges { All (λ e. e < edge_count mesh.now) edges.now }
     requires marks { length marked.old ≡ mesh.now.vertices }
-    requires parents { HasParents mesh.now.vertices (tree_of tree.now) (is_marked marked.old) }
+    requires parents { IsClosedUpward mesh.now.vertices (tree_of tree.now) (is_marked marked.old) }
     ensures ways { IsLeastSet mesh.now.vertices (tree_of tree.now) (HasEnds mesh.now edges.now)
         (is_marked marked.old) (is_marked marked.new) }
     ensures count { length marked.new ≡ length marked.old }

@@ -5,7 +5,8 @@ ghost use Rattle.std.specs.Prelude.{length, slice_index, slice_index_or};
 ghost use Rattle.std.specs.List.Sorted.{IsNonDecreasingBy};
 ghost use Rattle.surf_surfaces.specs.Surface.{edge_count};
 ghost use Rattle.surf_firsts.specs.Near.{AgreeOff};
-ghost use Rattle.surf_basis.specs.Marks.{AreMarkedIn, HasMarkedEnd, HasSignedEnds, bits_backwards};
+ghost use Rattle.surf_basis.specs.Marks.{AreMarkedIn, AreSignedEnds, HasMarkedEnd, IsSignedEnd};
+ghost use Rattle.surf_basis.specs.Marks.{bits_backwards};
 ghost use Rattle.surf_basis.specs.Passing.{is_marked, AreShut};
 
 use std::alloc::Global;
@@ -21,6 +22,8 @@ fn mark_one(first: VertexId, second: VertexId, marked: &mut [bool])
         ⊎ (slice_index_or marked.new second false ≡ true) }
     ensures stay { (v : ℕ) → slice_index_or marked.old v false ≡ true →
         slice_index_or marked.new v false ≡ true }
+    ensures only { (v : ℕ) → slice_index_or marked.new v false ≡ true →
+        (slice_index_or marked.old v false ≡ true) ⊎ (v ≡ second) }
     ensures count { length marked.new ≡ length marked.old }
 {
     if !marked[first.index()] {
@@ -96,6 +99,8 @@ fn mark_ends(mesh: &HalfMesh, signatures: &CotreeDesk, counts: &[u32], marked: &
     ensures marks { length marked.new ≡ mesh.now.vertices }
     ensures ends { (e : ℕ) → e < edge_count mesh.now → slice_index signatures.now.signatures e ≢ 0 →
         HasMarkedEnd mesh.now marked.new e }
+    ensures only { (v : ℕ) → slice_index_or marked.new v false ≡ true →
+        (slice_index_or marked.old v false ≡ true) ⊎ IsSignedEnd mesh.now signatures.now v }
 {
     mesh.law_of_surface();
     for e in 0..mesh.edges() {
@@ -131,7 +136,7 @@ pub(crate) fn scatter(vertices: &mut [VertexId])
     vertices.sort_unstable_by_key(|v| v.number().reverse_bits());
 }
 
-// Vertices among which is an end of each edge whose signature isn't empty, each once, in an order
+// Ends of the edges whose signatures aren't empty, one of each edge at least, each once, in an order
 // that scatters them. Every closed walk that isn't null has such an edge, and so meets one of them.
 pub(crate) fn signed_ends(
     alloc: Global,
@@ -140,7 +145,7 @@ pub(crate) fn signed_ends(
 ) -> Result<Vec<VertexId>, NoMemory>
     requires table { length signatures.now.signatures ≡ edge_count mesh.now }
     ensures inside { IfOk result (λ list. All (λ v. v < mesh.now.vertices) list.items) }
-    ensures ends { IfOk result (λ list. HasSignedEnds mesh.now signatures.now list.items) }
+    ensures ends { IfOk result (λ list. AreSignedEnds mesh.now signatures.now list.items) }
     ensures scattered { IfOk result (λ list. IsNonDecreasingBy bits_backwards list.items) }
 {
     let mut counts = vec![in alloc; 0u32; mesh.vertices() as usize]?;

@@ -3,8 +3,8 @@ use Rattle.std.specs.Prelude.{IsTrue}
 use Rattle.surf_tree.specs.Tables.{TreeTables, tree_of}
 use Rattle.surf_basis.specs.Cut.{HasEnds, IsLeastSet}
 use Rattle.surf_basis.specs.Passing.{is_marked}
-use Rattle.surf_basis.proofs.Marked.{written_back, marks_listed}
-use Rattle.surf_basis.proofs.OnCut.{cut_listed, listed_marked}
+use Rattle.surf_basis.proofs.Marked.{written_back, marks_listed, listed_marked}
+use Rattle.surf_basis.proofs.OnCut.{cut_listed}
 use Rattle.surf_basis.proofs.PassedOver.{none_marked}
 use Rattle.surf_basis.proofs.cut.cut_vertices.Goals as goal
 

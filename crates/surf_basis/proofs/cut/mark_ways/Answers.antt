@@ -2,7 +2,7 @@ use Rattle.std.proofs.Common.{◌≡◌, ◌<◌, ◌≤◌, ℕ, length, sym, a
 use Rattle.std.proofs.lemmas.List.{get_or_default}
 use Rattle.surf_surfaces.specs.Surface.{edge_count, ends}
 use Rattle.surf_tree.specs.Tables.{tree_of}
-use Rattle.surf_basis.specs.Cut.{HasVertex, HasParents, IsLeastSet}
+use Rattle.surf_basis.specs.Cut.{HasVertex, IsClosedUpward, IsLeastSet}
 use Rattle.surf_basis.specs.Passing.{is_marked}
 use Rattle.surf_basis.proofs.Marked.{ends_inside}
 use Rattle.surf_basis.proofs.OnCut.{ways_begun, ways_more, ways_done}
@@ -24,7 +24,7 @@ mark_way-requires-clause-vertex c =
 
 pub mark_way-requires-clause-parents : goal.mark_way-requires-clause-parents
 mark_way-requires-clause-parents c =
-    subst (λ (n : ℕ). HasParents n (tree_of c.args.tree.now) (is_marked c.loop-e.marked)) (sym c.loop-e.invariant.count) c.loop-e.invariant.ways.parents
+    subst (λ (n : ℕ). IsClosedUpward n (tree_of c.args.tree.now) (is_marked c.loop-e.marked)) (sym c.loop-e.invariant.count) c.loop-e.invariant.ways.parents
 
 pub mark_way-requires-in-loop-e-clause-vertex : goal.mark_way-requires-in-loop-e-clause-vertex
 mark_way-requires-in-loop-e-clause-vertex c =

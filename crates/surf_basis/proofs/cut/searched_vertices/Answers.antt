@@ -7,7 +7,7 @@ use Rattle.surf_tree.specs.Queues.{AreEven, IsEvenness}
 use Rattle.surf_cotree.specs.Tables.{CotreeTables}
 use Rattle.surf_basis.specs.Cut.{AreCutVertices, AreToSearch}
 use Rattle.surf_basis.specs.Found.{is_among}
-use Rattle.surf_basis.specs.Marks.{HasSignedEnds}
+use Rattle.surf_basis.specs.Marks.{AreSignedEnds}
 use Rattle.surf_basis.proofs.Looped.{signs_long}
 use Rattle.surf_basis.proofs.Meeting.{ends_meet, cut_meets}
 use Rattle.surf_basis.proofs.cut.searched_vertices.Goals as goal
@@ -30,17 +30,17 @@ returns-then-is_some-clause-which c =
     let mesh = c.args.mesh.now in
     let lengths = c.args.lengths.now in
     let (size, even) = one_length lengths c.even_length.result (sym c.is_some.ensures ∙ c.if-is_some.true) c.even_length.ensures.even in
-    IfOk-weaker c.signed_ends.result (λ list. HasSignedEnds mesh c.cotree.result.now list.items) (λ list. AreToSearch mesh lengths c.args.desk.now list.items)
-    (λ list ends. inl (size, even, subst (λ (t : CotreeTables). HasSignedEnds mesh t list.items) c.cotree.ensures.cotree ends)) c.signed_ends.ensures.ends
+    IfOk-weaker c.signed_ends.result (λ list. AreSignedEnds mesh c.cotree.result.now list.items) (λ list. AreToSearch mesh lengths c.args.desk.now list.items)
+    (λ list ends. inl (size, even, subst (λ (t : CotreeTables). AreSignedEnds mesh t list.items) c.cotree.ensures.cotree ends)) c.signed_ends.ensures.ends
 
 pub returns-then-is_some-clause-met : goal.returns-then-is_some-clause-met
 returns-then-is_some-clause-met c =
     let mesh = c.args.mesh.now in
     let t = c.args.desk.now.cotree in
     let (count, signed) = c.requires.signed in
-    IfOk-weaker c.signed_ends.result (λ list. HasSignedEnds mesh c.cotree.result.now list.items) (λ list. MeetsAll mesh (is_among list.items))
+    IfOk-weaker c.signed_ends.result (λ list. AreSignedEnds mesh c.cotree.result.now list.items) (λ list. MeetsAll mesh (is_among list.items))
     (λ list ends. ends_meet mesh c.law_of_surface.ensures.surface t count signed list.items
-    (subst (λ (t : CotreeTables). HasSignedEnds mesh t list.items) c.cotree.ensures.cotree ends)) c.signed_ends.ensures.ends
+    (subst (λ (t : CotreeTables). AreSignedEnds mesh t list.items) c.cotree.ensures.cotree ends).each) c.signed_ends.ensures.ends
 
 pub returns-clause-met : goal.returns-clause-met
 returns-clause-met c =

@@ -1,9 +1,9 @@
-use Rattle.std.proofs.Common.{ℕ, ◌≡◌, ◌<◌, true, false, slice_index, sym, ap, ◌∙◌, subst, arith, inl, inr}
+use Rattle.std.proofs.Common.{ℕ, ◌≡◌, ◌≢◌, ◌<◌, true, false, slice_index, sym, ap, ◌∙◌, subst, arith, inl, inr}
 use Rattle.std.specs.Prelude.{◌⊎◌, slice_index_or}
 use Rattle.std.proofs.lemmas.Bool.{cases_lt}
 use Rattle.std.proofs.lemmas.Bool.Decides.{nat_tests}
 use Rattle.surf_surfaces.specs.Surface.{ends, edge_count}
-use Rattle.surf_basis.proofs.Marked.{end_stays, ends_inside, either_marked, either_below}
+use Rattle.surf_basis.proofs.Marked.{end_stays, ends_inside, either_marked, second_of_both, either_below}
 use Rattle.surf_basis.proofs.marking.mark_ends.Goals as goal
 use Rattle.surf_basis.proofs.marking.mark_ends.Goals.{then-not-is_empty, else-not-is_empty}
 
@@ -36,6 +36,12 @@ loop-e-preserved c =
     elim c.if-not-is_empty.branch [
       | then-not-is_empty w ↦
           let is = w.ends-low.ensures ∙ ap (ends mesh) at in
+          let e_in : n < edge_count mesh = omega (arith, c.loop-e-test.true, c.edges-e-end.ensures.count) in
+          let signed : slice_index c.args.signatures.now.signatures n ≢ 0 = λ none.
+              let zero : c.signature.result ≡ 0 = c.signature.ensures.signature ∙ ap (slice_index c.args.signatures.now.signatures) at ∙ none in
+              let t = c.is_empty.ensures.empty in
+              let u = w.if-not-is_empty.true in
+              grind (arith, nat_tests) in
           rw w.marked-is (record {
             count = w.mark_one.ensures.count ∙ inv.count;
             ends = λ e l some. elim (cases_lt e n) [
@@ -44,6 +50,12 @@ loop-e-preserved c =
                   let same : n ≡ e = omega arith in
                   subst (λ (p : ℕ × ℕ). (slice_index_or w.mark_one.new.marked p.0 false ≡ true) ⊎ (slice_index_or w.mark_one.new.marked p.1 false ≡ true))
                   (is ∙ ap (ends mesh) same) (either_marked w.mark_one.new.marked w.ends-low.result.0 w.ends-low.result.1 w.by_count-less.result w.by_count-less.ensures w.mark_one.ensures.one)
+            ];
+            only = λ v on. elim (w.mark_one.ensures.only v on) [
+              | inl was ↦ inv.only v was
+              | inr new ↦ inr (n, e_in, signed, subst (λ (p : ℕ × ℕ). (p.0 ≡ v) ⊎ (p.1 ≡ v)) is
+                  (subst (λ (u : ℕ). (w.ends-low.result.0 ≡ u) ⊎ (w.ends-low.result.1 ≡ u)) (sym new)
+                  (second_of_both w.ends-low.result.0 w.ends-low.result.1 w.by_count-less.result w.by_count-less.ensures)))
             ];
           })
       | else-not-is_empty w ↦
@@ -55,5 +67,6 @@ loop-e-preserved c =
               | inl less ↦ inv.ends e less some
               | inr more ↦ let same : n ≡ e = omega arith in absurd (some (ap (slice_index c.args.signatures.now.signatures) (sym same) ∙ zero))
             ];
+            only = inv.only;
           })
     ]

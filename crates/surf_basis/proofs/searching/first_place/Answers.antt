@@ -1,7 +1,7 @@
 use Rattle.std.proofs.Common.{List, ℕ, sym, subst}
 use Rattle.std.proofs.lemmas.Result.{IfOk-weaker}
 use Rattle.surf_lengths.proofs.Positive.{lengths_positive}
-use Rattle.surf_basis.specs.Marks.{HasSignedEnds}
+use Rattle.surf_basis.specs.Marks.{AreSignedEnds}
 use Rattle.surf_basis.specs.Found.{SurfaceTables, IsFirstAmong, IsFirstPlace}
 use Rattle.surf_basis.proofs.Looped.{signs_long}
 use Rattle.surf_basis.proofs.Meeting.{ends_meet}
@@ -23,9 +23,9 @@ returns c =
     let lengths = c.args.surface.now.lengths.now in
     let s = c.args.surface.now.signatures.now in
     let positive = lengths_positive mesh lengths c.law_of_lengths.ensures.lengths c.requires.lengths in
-    let ends : HasSignedEnds mesh s c.deref.result.now =
-    subst (λ (xs : List ℕ). HasSignedEnds mesh s xs) (sym c.deref.ensures.value) c.in_ok-vertices.ensures.ends in
-    let meets = ends_meet mesh c.law_of_surface.ensures.surface s c.args.count c.requires.signed c.deref.result.now ends in
+    let ends : AreSignedEnds mesh s c.deref.result.now =
+    subst (λ (xs : List ℕ). AreSignedEnds mesh s xs) (sym c.deref.ensures.value) c.in_ok-vertices.ensures.ends in
+    let meets = ends_meet mesh c.law_of_surface.ensures.surface s c.args.count c.requires.signed c.deref.result.now ends.each in
     record {
       first = IfOk-weaker c.first_found.result
           (IsFirstAmong c.in_ok-finder.finder.mesh c.in_ok-finder.finder.lengths c.in_ok-finder.finder.signs c.deref.result.now) (IsFirstPlace mesh lengths)
