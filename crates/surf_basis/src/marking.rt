@@ -136,8 +136,9 @@ pub(crate) fn scatter(vertices: &mut [VertexId])
     vertices.sort_unstable_by_key(|v| v.number().reverse_bits());
 }
 
-// Ends of the edges whose signatures aren't empty, one of each edge at least, each once, in an order
-// that scatters them. Every closed walk that isn't null has such an edge, and so meets one of them.
+// Ends of the edges whose signatures aren't empty, one of each edge at least, each once, in an
+// order that scatters them. Every closed walk that isn't null has such an edge, and so meets one
+// of them.
 pub(crate) fn signed_ends(
     alloc: Global,
     mesh: &HalfMesh,

@@ -25,7 +25,8 @@ impl Network for CoverNetwork<'_> {
 
     ghost below = { λ n. edge_count n.mesh.now };
 
-    ghost link = { λ n node. link_by n.mesh.now n.sets (slice_index n.signs.now) (node / n.sets) (node % n.sets) };
+    ghost link = { λ n node. link_by n.mesh.now n.sets (slice_index n.signs.now)
+        (node / n.sets) (node % n.sets) };
 
     ghost valid = { λ n. IsCoverable n.mesh.now n.lengths.now n.sets n.signs.now };
 

@@ -38,9 +38,9 @@ pub fn cut_trim(alloc: Global, mesh: &HalfMesh, cotree: &CotreeDesk) -> Result<O
     open_outside(alloc, mesh, &mut flags, true)
 }
 
-/// The disc that the surface is opened to along the edges that a tree of its faces doesn't hold, all
-/// of them or trimmed, without its border. `held` has a flag for each edge that the tree holds, and
-/// is used up: the flags of the cut are made in its place.
+/// The disc that the surface is opened to along the edges that a tree of its faces doesn't hold,
+/// all of them or trimmed, without its border. `held` has a flag for each edge that the tree holds,
+/// and is used up: the flags of the cut are made in its place.
 pub fn disc_outside(
     alloc: Global,
     mesh: &HalfMesh,

@@ -1,5 +1,5 @@
-//! Plain face lines: a size and as many corners, a space between any two numbers. What stands behind
-//! the last corner is the colour.
+//! Plain face lines: a size and as many corners, a space between any two numbers. What stands
+//! behind the last corner is the colour.
 ghost use Rattle.std.specs.Prelude.{◌≡◌, ◌<◌, ◌≤◌, ◌∷◌, length, IfOk, IfErr, IfSome};
 ghost use Rattle.std.specs.List.{All};
 ghost use Rattle.surf_off.specs.Plain.{is_end, closes, BeginsWith, IsPlain};

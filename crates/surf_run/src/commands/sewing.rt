@@ -35,8 +35,9 @@ pub(crate) fn sew<S: Shelf>(alloc: Global, shelf: &mut S, mesh: &str) -> Result<
 // What `sew` answers of a text.
 fn sew_text(alloc: Global, bytes: &[u8]) -> Result<Answered, Refused>
     requires { length bytes.now ≤ MAX_TEXT }
-    ensures { Concludes (Ends (IsMeshText bytes.now) (λ read. Ends (HasOrigins bytes.now
-        read.1.vertices) (λ origins. Ends (IsSewn read origins) (OnSewnMesh read origins)))) result }
+    ensures { Concludes (Ends (IsMeshText bytes.now) (λ read.
+        Ends (HasOrigins bytes.now read.1.vertices) (λ origins.
+        Ends (IsSewn read origins) (OnSewnMesh read origins)))) result }
 {
     let (text, copies) = read_mesh(alloc, bytes)?;
     sew_mesh(alloc, bytes, &text, &copies)
