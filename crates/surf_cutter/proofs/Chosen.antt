@@ -1,5 +1,7 @@
 -- What is opened along the full cut, or the trimmed one, is the chosen opening.
-use Rattle.std.proofs.Common.{◌≡◌, ℕ, ◌+◌, not, sym, ap, ◌∙◌, List, length, Bool, true, false, arith}
+use Rattle.std.proofs.Common.{◌≡◌, ℕ, ◌+◌, not, sym, ap, ◌∙◌, List, length, Bool, true, false, Result, arith}
+use Rattle.std.specs.Prelude.{IfOk}
+use Rattle.std.proofs.lemmas.Result.{IfOk-weaker}
 use Rattle.surf_graphs.specs.Trees.{Tree}
 use Rattle.surf_surfaces.specs.Cotree.{cotree_edges}
 use Rattle.surf_surfaces.specs.Disc.{IsOpening}
@@ -18,7 +20,7 @@ use Rattle.surf_slit.specs.Labels.{IsUncut}
 use Rattle.surf_cotree.specs.Grown.{IsMarked, IsGrown}
 use Rattle.surf_cotree.specs.Tables.{CotreeTables, cotree_of}
 use Rattle.surf_cutter.specs.Boundary.{OpensToDisc}
-use Rattle.surf_cutter.specs.Opened.{MarksCotree, IsHeld, IsChosenFor, IsChosenCut, AreTurnedOver}
+use Rattle.surf_cutter.specs.Opened.{OpenMesh, IsOpenedInOrder, MarksCotree, IsHeld, IsChosenFor, IsChosenCut, AreTurnedOver}
 use Rattle.surf_cutter.specs.Trimming.{is_cut, IsTrimmedFrom, HasEndedBy}
 use Rattle.surf_cutter.proofs.Trims.{told_same}
 
@@ -57,6 +59,12 @@ trimmed_opens cut less full trimmed = let t = trimmed full.0 full.0 whole full.2
 
 pub chosen_opens : {mesh : Mesh} → IsSurface mesh → (held : List Bool) → IsHeld mesh held → (trim : Bool) (origins : List ℕ) (faces : List (List ℕ)) → IsChosenFor mesh held trim (record { origins = origins; faces = faces }) → IsOpening mesh origins faces
 chosen_opens {mesh} surface held is trim origins faces chosen = chosen_are_openings mesh is.0 is.1 trim origins faces surface is.2 (chosen is.0 is.1 is.2 is.3)
+
+-- where something is opened along a chosen cut, that is an opening
+pub chosen_opening : {mesh : Mesh} → IsSurface mesh → {held cut : List Bool} {trim : Bool} → IsHeld mesh held → IsChosenCut mesh held trim cut → {E : Type 0} (r : Result OpenMesh E) → IfOk r (λ o. IsOpenedInOrder mesh cut o) → IfOk r (λ o. IsOpening mesh o.origins o.faces)
+chosen_opening {mesh} surface {held} {cut} {trim} is chosen r =
+    let P : OpenMesh → Type 0 = λ o. IsOpening mesh o.origins o.faces in
+    IfOk-weaker r (λ o. IsOpenedInOrder mesh cut o) P (λ o opened. chosen_opens surface held is trim o.origins o.faces (chosen.chosen o opened))
 
 pub full_counted : {mesh : Mesh} → IsSurface mesh → (held : List Bool) → IsHeld mesh held → (origins : List ℕ) (faces : List (List ℕ)) → IsChosenFor mesh held false (record { origins = origins; faces = faces }) →
     length origins + (face_count mesh + face_count mesh) ≡ edge_count mesh + edge_count mesh + 2

@@ -2,7 +2,7 @@
 use Rattle.std.proofs.Common.{◌≡◌, ◌≢◌, ℕ, zero, suc, ◌+◌, ◌-◌, ◌<◌, ◌≤◌, ◌⊎◌, ◌&&◌, not, inl, inr, sym, refl, subst, ap, ◌∙◌, cond, eqb, List, ◌∷◌, length, get_or, Bool, true, false, IsTrue, arith, ne_eqb}
 use Rattle.std.proofs.Math.ListN.{set}
 use Rattle.std.proofs.lemmas.Bool.{cases_eq, cases_lt, cases_Bool, cond-true, cond-false, and_from, and_parts, or_left, or_right, or_from, eq-eqb, and_left}
-use Rattle.std.proofs.lemmas.List.{get_or-set_same, get_or-set_other, length-set}
+use Rattle.std.proofs.lemmas.List.{get_or-set_same, get_or-set_other, length-set, get_or_default}
 use Rattle.surf_z2.specs.Parity.{count_below}
 use Rattle.surf_z2.specs.Space.{Chain}
 use Rattle.surf_z2.proofs.Sums.{count_below-same, count_below-without}
@@ -15,6 +15,7 @@ use Rattle.surf_opening.specs.ChosenCut.{cut_degree}
 use Rattle.surf_opening.proofs.Cotrees.{ends_pair}
 use Rattle.surf_opening.proofs.CutCounts.{trimming_by_greatest_goes_on}
 use Rattle.surf_soup.specs.Ring.{AreEdgesAt}
+use Rattle.surf_slit.proofs.VertexLabels.{an_end}
 use Rattle.surf_cutter.specs.Trimming.{is_cut, is_cut_at, AreDegrees, AreDegreesTo, IsTakenBack, IsTrimmedFrom, HasNoLeafFrom, HasEndedBy}
 use Rattle.std.specs.Prelude.{slice_index}
 
@@ -226,3 +227,44 @@ has_ended {mesh} cut degree left are counted none = elim (cases_lt 2 left) [
   | inr few ↦ inl (omega arith)
   | inl many ↦ inr (λ v h one. none many v (omega arith) h (are.counted v h ∙ one))
 ]
+
+-- a cut edge at a leaf, seen from its two ends
+pub record IsCutAt (mesh : Mesh) (cut : List Bool) (leaf e : ℕ) (tips : ℕ × ℕ) : Type 0 where
+  pub is_edge : e < edge_count mesh
+  pub is_cut : get_or cut e false ≡ true
+  pub first : tips.0 ≡ (ends mesh e).0
+  pub second : tips.1 ≡ (ends mesh e).1
+  pub first_in : tips.0 < mesh.vertices
+  pub second_in : tips.1 < mesh.vertices
+  pub differ : tips.0 ≢ tips.1
+  pub other : tips.0 ≢ leaf → tips.1 ≡ leaf
+
+-- the edge at a place in the list of the edges there, where it is cut
+pub cut_at : {mesh : Mesh} → IsSurface mesh → {cut : List Bool} {leaf : ℕ} {edges : List ℕ} → AreEdgesAt mesh leaf edges → (k e : ℕ) → k < length edges → get_or cut (get_or edges k 0) false ≡ true → e ≡ get_or edges k e → {tips : ℕ × ℕ} → tips ≡ ends mesh e → IsCutAt mesh cut leaf e tips
+cut_at {mesh} surface {cut} {leaf} {edges} are k e lt found at {tips} is =
+    let own : e ≡ get_or edges k 0 = at ∙ get_or_default edges k e 0 lt in
+    let there = are.at k lt in
+    let edge : e < edge_count mesh = omega (arith, own, there.0) in
+    let b = ends_below mesh surface.is_mesh e edge in
+    let first : tips.0 ≡ (ends mesh e).0 = ap (λ (p : ℕ × ℕ). p.0) is in
+    let second : tips.1 ≡ (ends mesh e).1 = ap (λ (p : ℕ × ℕ). p.1) is in
+    record {
+      is_edge = edge;
+      is_cut = ap (λ e. get_or cut e false) own ∙ found;
+      first = first;
+      second = second;
+      first_in = omega (arith, first, b.0, b.1);
+      second_in = omega (arith, second, b.1);
+      differ = λ same. omega (arith, first, second, b.0, same);
+      other = λ no. elim (an_end mesh leaf e (ap (λ e. touches leaf (ends mesh e)) own ∙ there.1)) [ inl i ↦ absurd (no (first ∙ i)) | inr i ↦ second ∙ i ];
+    }
+
+-- the same as taken_back, of a cut edge at the leaf p, with its number as it was computed
+pub taken_back_at : {mesh : Mesh} → IsSurface mesh → {cut : List Bool} {degree : List ℕ} → AreDegrees mesh cut degree → length cut ≡ edge_count mesh → {e at p : ℕ} {tips : ℕ × ℕ} → IsCutAt mesh cut p e tips → at ≡ e → (less : List ℕ) (q : ℕ) → get_or degree p 0 ≡ 1 → length less ≡ length degree →
+    get_or less tips.0 0 + 1 ≡ get_or degree tips.0 0 → get_or less tips.1 0 + 1 ≡ get_or degree tips.1 0 → ((v : ℕ) → v ≢ tips.0 → v ≢ tips.1 → get_or less v 0 ≡ get_or degree v 0) →
+    ((tips.0 ≡ p) × (tips.1 ≡ q)) ⊎ ((tips.1 ≡ p) × (tips.0 ≡ q)) → IsTakenBack mesh p q cut (set cut at false) degree less
+taken_back_at {mesh} surface {cut} {degree} are flags {e} {at} {p} {tips} is same less q one size first second rest which =
+    let P : ℕ → Type 0 = λ v. get_or less v 0 + 1 ≡ get_or degree v 0 in
+    subst (λ e. IsTakenBack mesh p q cut (set cut e false) degree less) (sym same)
+    (taken_back surface cut degree less p q e are flags is.is_edge is.is_cut size (subst P is.first first) (subst P is.second second) (λ v nu nw. rest v (λ i. nu (i ∙ is.first)) (λ i. nw (i ∙ is.second))) one
+    (elim which [ inl o ↦ inl (sym is.first ∙ o.0, sym is.second ∙ o.1) | inr o ↦ inr (sym is.second ∙ o.0, sym is.first ∙ o.1) ]))
