@@ -16,7 +16,7 @@ use Rattle.surf_z2.proofs.Numbers.{has-xor}
 use Rattle.surf_z2.proofs.Sieve.{sieve_law}
 use Rattle.surf_z2.proofs.Basics.{independence_law}
 use Rattle.surf_z2.proofs.Width.{width_law}
-use Rattle.surf_bits.specs.Rows.{sieve_rows, originals_of, left_of, TellSums, AreRows}
+use Rattle.surf_bits.specs.Rows.{sieve_rows, Sifted, originals_of, left_of, TellSums, AreRows}
 
 law : SieveLaw numbers has (λ (r : Row ℕ). r.pivot) (λ (r : Row ℕ). r.reduced) (λ (r : Row ℕ). r.original)
 law = sieve_law numbers has has-xor (λ (r : Row ℕ). r.pivot) (λ (r : Row ℕ). r.reduced) (λ (r : Row ℕ). r.original)
@@ -177,6 +177,19 @@ pub left_tells : (width stride : ℕ) (ps rs os : List ℕ) (set left p : ℕ) �
     Spanned numbers (originals_of (sieve_rows stride ps rs os)) set → ⊥
 left_tells width stride ps rs os set left p a e m sum =
     not_nothing left p m (e ∙ (spanned_by_rows (sieve_rows stride ps rs os) set a.told).1 sum)
+
+-- what is left by tables that are those of a sieve
+pub left_by_rows : (stride : ℕ) {ps rs qs ts : List ℕ} (os : List ℕ) (set : ℕ) {left : ℕ} → left ≡ left_of (sieve_rows stride qs ts os) set → qs ≡ ps → ts ≡ rs →
+    left ≡ left_of (sieve_rows stride ps rs os) set
+left_by_rows stride {ps} {rs} {qs} {ts} os set e f g = e ∙ ap (λ xs. left_of (sieve_rows stride xs ts os) set) f ∙ ap (λ xs. left_of (sieve_rows stride ps xs os) set) g
+
+-- a sieve has room for a set of which something is left
+pub room_to_admit : {width stride : ℕ} {ps rs os qs ts : List ℕ} {set left word : ℕ} {value : Sifted} (p : ℕ) → AreRows width stride ps rs os →
+    record { width = width; admitted = originals_of (sieve_rows stride ps rs os) } ≡ value → set < 2 ^ value.width →
+    left ≡ left_of (sieve_rows stride qs ts os) set → qs ≡ ps → ts ≡ rs → word ≡ left → IsTrue (has word p) → length ps + 1 ≤ width
+room_to_admit {width} {stride} {ps} {rs} {os} {set = set} {left} p a is small e f g word member =
+    room_for width stride ps rs os set a (subst (λ s. set < 2 ^ s.width) (sym is) small)
+    (left_tells width stride ps rs os set left p a (left_by_rows stride os set e f g) (subst (λ n. IsTrue (has n p)) word member))
 
 -- a set that leaves nothing is one
 pub none_left : (width stride : ℕ) (ps rs os : List ℕ) (set left : ℕ) → AreRows width stride ps rs os → left ≡ left_of (sieve_rows stride ps rs os) set → left ≡ 0 →
