@@ -1,8 +1,8 @@
 -- Where sides don't come in pairs, some edge hasn't two faces.
-use Rattle.std.proofs.Common.{◌≡◌, ◌≢◌, ℕ, zero, suc, ◌+◌, ◌-◌, ◌*◌, ◌/◌, ◌%◌, ◌<◌, ◌≤◌, ◌⊎◌, Bool, true, List, [], ◌∷◌, ◌++◌, length}
+use Rattle.std.proofs.Common.{◌≡◌, ◌≢◌, ℕ, zero, suc, ◌+◌, ◌-◌, ◌*◌, ◌/◌, ◌%◌, ◌<◌, ◌≤◌, ◌⊎◌, Bool, true, false, not, eqb, List, [], ◌∷◌, ◌++◌, length}
 use Rattle.std.proofs.Common.{get_or, set, take, refl, sym, ap, ◌∙◌, subst, arith, inl, inr}
 use Rattle.std.specs.List.{filter, sum_by}
-use Rattle.std.proofs.lemmas.Bool.{cases_eq, cases_lt, cases_Bool, true≢false}
+use Rattle.std.proofs.lemmas.Bool.{cases_eq, cases_lt, cases_Bool, eq-eqb, eqb-true, true≢false}
 use Rattle.std.proofs.lemmas.List.{length_push, get_or_push, get_or-map, get_or_default, take_all, length-map}
 use Rattle.std.proofs.lemmas.List.Elements.{All-from_recursion}
 use Rattle.std.proofs.lemmas.List.Sums.{sum_by-cons}
@@ -116,8 +116,7 @@ module _ (mesh : Mesh) (is_mesh : IsMesh mesh) (two : HasTwoFaces mesh) (k low h
         let n = length edges in
         let es = edges ++ p ∷ [] in
         let ones = rows ++ (s ∷ []) ∷ [] in
-        let step = listed_next mesh k low high s next edges rows edge_of so_far.listed es ones so_far.number_size
-        (inr (new, refl, refl)) in
+        let step = listed_next next so_far.listed es ones so_far.number_size (inr (new, refl, refl)) in
         let long = length_push edges p in
         let rows_n : length rows ≡ n =
         length-map first (λ t. t ∷ get_or mate t 0 ∷ []) ∙ rows_len_is mesh k edges first mate edge_of so_far in
@@ -193,7 +192,7 @@ module _ (mesh : Mesh) (is_mesh : IsMesh mesh) (two : HasTwoFaces mesh) (k low h
         let pair = pair_in lows highs in
         let order = order_of mesh in
         unpaired (λ j behind in' same.
-        let total = entries_total mesh entries are in
+        let total = entries_total are in
         let r = located entries j (omega arith) in
         let u = r.0 in
         let i = r.1.0 in
@@ -203,7 +202,7 @@ module _ (mesh : Mesh) (is_mesh : IsMesh mesh) (two : HasTwoFaces mesh) (k low h
         let in_row = r.1.2 in
         let row = get_or entries u [] in
         let e = get_or row i (0, 0) in
-        let n = next_side mesh entries are u i u row e (omega arith) refl in_row refl (get_or_default row i (0, 0) e in_row) in
+        let n = next_side are {row = row} (omega arith) refl in_row refl (get_or_default row i (0, 0) e in_row) in
         let own : u ≡ get_or lows (get_or order (sum_by length (take u entries) + i) 0) 0 =
         n.low_is ∙ ap (λ x. get_or lows x 0) n.side_is in
         let here_is : u ≡ v = own ∙ ap (λ x. get_or lows (get_or order x 0) 0) (sym place)
@@ -214,63 +213,66 @@ module _ (mesh : Mesh) (is_mesh : IsMesh mesh) (two : HasTwoFaces mesh) (k low h
 half_below : (n k : ℕ) → k < n / 2 → 2 * k + 1 < n
 half_below n k lt = omega (arith, div-add-mod' n 2)
 
-module _ (mesh : Mesh) (is_mesh : IsMesh mesh) (entries : List (List (ℕ × ℕ))) (are : AreSideEntries mesh entries)
-    (v low : ℕ) (row : List (ℕ × ℕ)) (lt : v < mesh.vertices) (row_is : row ≡ get_or entries v []) (low_is : low ≡ v)
+module _ {mesh : Mesh} (is_mesh : IsMesh mesh) {entries : List (List (ℕ × ℕ))} (are : AreSideEntries mesh entries)
+    {v low : ℕ} {row : List (ℕ × ℕ)} (lt : v < mesh.vertices) (row_is : row ≡ get_or entries v []) (low_is : low ≡ v)
   where
     next_in_row : (m : ℕ) → m < length row → (d e : ℕ × ℕ) →
         IsNextSide mesh (sum_by length (take v entries) + m) low (get_or row m d).0 (get_or row m e).1
     next_in_row m in' d e =
         let x = get_or row m (0, 0) in
-        let n = next_side mesh entries are v m low row x lt row_is in' low_is (get_or_default row m (0, 0) x in') in
+        let n = next_side are lt row_is in' low_is (get_or_default row m (0, 0) x in') in
         rw (get_or_default row m d (0, 0) in', get_or_default row m e (0, 0) in') n
 
-    module _ (k : ℕ) (edges : List (ℕ × ℕ)) (first mate edge_of : List ℕ)
+    module _ {k : ℕ} {edges : List (ℕ × ℕ)} {first mate edge_of : List ℕ}
         (so_far : ArePairedUpto mesh (sum_by length (take v entries) + 2 * k) edges first mate edge_of) where
-      module _ (here : k < length row / 2) (d e f g : ℕ × ℕ) where
-        one : IsNextSide mesh (sum_by length (take v entries) + 2 * k) low (get_or row (2 * k) d).0
-            (get_or row (2 * k) e).1
-        one = next_in_row (2 * k) (let h = half_below (length row) k here in omega arith) d e
+      module _ (here : k < length row / 2) where
+        one : (d e : ℕ × ℕ) →
+            IsNextSide mesh (sum_by length (take v entries) + 2 * k) low (get_or row (2 * k) d).0 (get_or row (2 * k) e).1
+        one d e = next_in_row (2 * k) (let h = half_below (length row) k here in omega arith) d e
 
-        two_at : IsNextSide mesh (sum_by length (take v entries) + 2 * k + 1) low (get_or row (2 * k + 1) f).0
+        two_at : (f g : ℕ × ℕ) →
+            IsNextSide mesh (sum_by length (take v entries) + 2 * k + 1) low (get_or row (2 * k + 1) f).0
             (get_or row (2 * k + 1) g).1
-        two_at =
+        two_at f g =
             let P : ℕ → Type 0 =
             λ n. IsNextSide mesh n low (get_or row (2 * k + 1) f).0 (get_or row (2 * k + 1) g).1 in
             let sum : sum_by length (take v entries) + (2 * k + 1) ≡ sum_by length (take v entries) + 2 * k + 1 =
             omega arith in
             subst P sum (next_in_row (2 * k + 1) (half_below (length row) k here) f g)
 
-        pub first_inside : (get_or row (2 * k) e).1 < side_count mesh
-        first_inside = one.in_table
+        pub first_inside : (e : ℕ × ℕ) → (get_or row (2 * k) e).1 < side_count mesh
+        first_inside e = (one e e).in_table
 
-        pub high_inside : (get_or row (2 * k) d).0 < mesh.vertices
-        high_inside =
+        pub high_inside : (d : ℕ × ℕ) → (get_or row (2 * k) d).0 < mesh.vertices
+        high_inside d =
             let lows = lesser_ends mesh in
             let highs = greater_ends mesh in
             let low_is : lows ≡ lesser_ends mesh = λ _. lows in
             let high_is : highs ≡ greater_ends mesh = λ _. highs in
-            let below = ends_below mesh is_mesh lows highs low_is high_is (get_or row (2 * k) e).1 one.in_table in
-            let at = one.high_is in
+            let n = one d d in
+            let below = ends_below mesh is_mesh lows highs low_is high_is (get_or row (2 * k) d).1 n.in_table in
+            let at = n.high_is in
             omega (arith, below.1)
 
-        pub second_inside : (get_or row (2 * k + 1) g).1 < side_count mesh
-        second_inside = two_at.in_table
+        pub second_inside : (g : ℕ × ℕ) → (get_or row (2 * k + 1) g).1 < side_count mesh
+        second_inside g = (two_at g g).in_table
 
         pub edges_below : length edges < side_count mesh
         edges_below =
+            let n = one (0, 0) (0, 0) in
             let a = so_far.listed.numbered.few in
-            let b = one.in_order in
-            let c = one.few in
+            let b = n.in_order in
+            let c = n.few in
             omega arith
 
-        pub pairs_next : (get_or row (2 * k + 1) f).0 ≡ (get_or row (2 * k) d).0 →
+        pub pairs_next : (d e f g : ℕ × ℕ) → (get_or row (2 * k + 1) f).0 ≡ (get_or row (2 * k) d).0 →
             (IsLast edges (low, (get_or row (2 * k) d).0) → ⊥) →
             ArePairedUpto mesh (sum_by length (take v entries) + 2 * (k + 1))
             (edges ++ (low, (get_or row (2 * k) d).0) ∷ []) (first ++ (get_or row (2 * k) e).1 ∷ [])
             (set (set mate (get_or row (2 * k) e).1 (get_or row (2 * k + 1) g).1) (get_or row (2 * k + 1) g).1
             (get_or row (2 * k) e).1)
             (set (set edge_of (get_or row (2 * k) e).1 (length edges)) (get_or row (2 * k + 1) g).1 (length edges))
-        pairs_next same new =
+        pairs_next d e f g same new =
             let high = (get_or row (2 * k) d).0 in
             let s = (get_or row (2 * k) e).1 in
             let t = (get_or row (2 * k + 1) g).1 in
@@ -280,19 +282,20 @@ module _ (mesh : Mesh) (is_mesh : IsMesh mesh) (entries : List (List (ℕ × ℕ
             let P : ℕ → Type 0 =
             λ n. ArePairedUpto mesh n (edges ++ (low, high) ∷ []) (first ++ s ∷ []) (set (set mate s t) t s)
             (set (set edge_of s (length edges)) t (length edges)) in
-            subst P sum (paired_next mesh (base + 2 * k) edges first mate edge_of so_far low high s t one
-            (subst H same two_at) new)
+            subst P sum (paired_next mesh (base + 2 * k) edges first mate edge_of so_far low high s t (one d e)
+            (subst H same (two_at f g)) new)
 
-        pub pair_differs : (get_or row (2 * k + 1) f).0 ≢ (get_or row (2 * k) d).0 → HasTwoFaces mesh → ⊥
-        pair_differs ne two =
+        pub pair_differs : (d f : ℕ × ℕ) → (get_or row (2 * k + 1) f).0 ≢ (get_or row (2 * k) d).0 →
+            HasTwoFaces mesh → ⊥
+        pair_differs d f ne two =
             differs mesh is_mesh two (sum_by length (take v entries) + 2 * k) low (get_or row (2 * k) d).0
-            (get_or row (2 * k) e).1 one edges first mate edge_of so_far (get_or row (2 * k + 1) f).0
-            (get_or row (2 * k + 1) g).1 two_at ne
+            (get_or row (2 * k) d).1 (one d d) edges first mate edge_of so_far (get_or row (2 * k + 1) f).0
+            (get_or row (2 * k + 1) f).1 (two_at f f) ne
 
-        pub pair_crowded : IsLast edges (low, (get_or row (2 * k) d).0) → HasTwoFaces mesh → ⊥
-        pair_crowded last two =
+        pub pair_crowded : (d : ℕ × ℕ) → IsLast edges (low, (get_or row (2 * k) d).0) → HasTwoFaces mesh → ⊥
+        pair_crowded d last two =
             crowded mesh is_mesh two (sum_by length (take v entries) + 2 * k) low (get_or row (2 * k) d).0
-            (get_or row (2 * k) e).1 one edges first mate edge_of so_far last
+            (get_or row (2 * k) d).1 (one d d) edges first mate edge_of so_far last
 
       pub row_paired : k ≡ length row / 2 → length row % 2 ≡ 0 →
           ArePairedUpto mesh (sum_by length (take (v + 1) entries)) edges first mate edge_of
@@ -300,7 +303,7 @@ module _ (mesh : Mesh) (is_mesh : IsMesh mesh) (entries : List (List (ℕ × ℕ
           let P : ℕ → Type 0 = λ n. ArePairedUpto mesh n edges first mate edge_of in
           let all : 2 * k ≡ length (get_or entries v []) =
           omega (arith, div-add-mod' (length row) 2, ap length row_is) in
-          subst P (row_end mesh entries are v (2 * k) lt all) so_far
+          subst P (row_end are lt all) so_far
 
       pub row_odd : k ≡ length row / 2 → length row % 2 ≢ 0 → HasTwoFaces mesh → ⊥
       row_odd end odd two =
@@ -312,3 +315,11 @@ module _ (mesh : Mesh) (is_mesh : IsMesh mesh) (entries : List (List (ℕ × ℕ
           ends_row mesh is_mesh two (sum_by length (take v entries) + m) low (get_or row m (0, 0)).0
           (get_or row m (0, 0)).1 n edges first mate edge_of so_far entries are v m lt low_is refl
           (size ∙ ap length row_is)
+
+-- whether two ends differ, as it is told
+pub differ_told : (a b : ℕ) → true ≡ not (eqb a b) → a ≢ b
+differ_told a b h same = true≢false (h ∙ ap not (eq-eqb a b same))
+
+pub same_told : (a b : ℕ) → false ≡ not (eqb a b) → a ≡ b
+same_told a b h = elim (cases_Bool (eqb a b))
+    [ inl e ↦ eqb-true a b e | inr e ↦ absurd (true≢false (sym (h ∙ ap not e))) ]

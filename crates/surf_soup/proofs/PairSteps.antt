@@ -94,8 +94,8 @@ module _ (mesh : Mesh) (k : ℕ) (edges : List (ℕ × ℕ)) (first mate edge_of
         let below : e < n = omega arith in
         let es = edges ++ (low, high) ∷ [] in
         let long = length_push edges (low, high) in
-        let step = listed_next mesh k low high s one edges rows edge_of so_far.listed es (rows ++ (s ∷ []) ∷ [])
-        so_far.number_size (inr (new, refl, refl)) in
+        let step = listed_next one so_far.listed es (rows ++ (s ∷ []) ∷ []) so_far.number_size
+        (inr (new, refl, refl)) in
         let before = step.0.numbered.rises e n (0, 0) below (omega arith) in
         let last : get_or es n (0, 0) ≡ (low, high) = get_or_push edges (low, high) (0, 0) n refl in
         let at : get_or es e (0, 0) ≡ get_or edges e (0, 0) =
@@ -167,12 +167,11 @@ module _ (mesh : Mesh) (k : ℕ) (edges : List (ℕ × ℕ)) (first mate edge_of
         let es = edges ++ p ∷ [] in
         let long : length es ≡ n + 1 = length_push edges p in
         let end : length es - 1 ≡ n = omega arith in
-        let step = listed_next mesh k low high s one edges rows edge_of so_far.listed es ones so_far.number_size
-        (inr (new, refl, refl)) in
+        let step = listed_next one so_far.listed es ones so_far.number_size (inr (new, refl, refl)) in
         let numbered = set edge_of s (length es - 1) in
         let last : IsLast es p =
         (omega arith, ap (λ j. get_or es j (0, 0)) end ∙ get_or_push edges p (0, 0) n refl) in
-        let again = listed_next mesh (k + 1) low high t two es ones numbered step.0 es (with_last_longer ones t)
+        let again = listed_next two step.0 es (with_last_longer ones t)
         (length-set edge_of s (length es - 1) ∙ so_far.number_size) (inl (last, refl, refl)) in
         let two_more : k + 1 + 1 ≡ k + 2 = omega arith in
         let L : ℕ → Type 0 =

@@ -4,7 +4,7 @@ use Rattle.std.proofs.Common.{◌++◌, Option, None, Some, MatchOption, length,
 use Rattle.std.proofs.Common.{arith, inl, inr}
 use Rattle.std.specs.List.{sum_by}
 use Rattle.std.proofs.lemmas.Bool.{true≢false, cases_eq, cases_Bool, lt-ltb, le-ltb, ne_eqb, eq-eqb}
-use Rattle.std.proofs.lemmas.List.{get_or_default, get_or_push, get_or_append_left, length_push, length-append}
+use Rattle.std.proofs.lemmas.List.{get_or_default, get_or_read, get_or_push, get_or_append_left, length_push, length-append}
 use Rattle.std.proofs.lemmas.List.{append-nil, append_assoc}
 use Rattle.std.proofs.lemmas.List.FromFn.{length-map-range_with_len, get_or-map-range_with_len}
 use Rattle.std.proofs.Math.Bool.{beq}
@@ -66,6 +66,21 @@ turned_is turn mesh = record {
       turned_at turn mesh s f (placed_face mesh s f k p)
       ∙ ap (λ j. first_side mesh f + turn (length (face_at mesh f)) j) e;
 }
+
+-- the face that is read at a side
+pub face_read : {mesh : Mesh} {face_of mate : List ℕ} {s f : ℕ} → AreDartTables mesh face_of mate →
+    s < side_count mesh → f ≡ get_or face_of s 0 → IsFaceOf mesh s f
+face_read {mesh} {face_of} {s = s} tables lt is =
+    subst (IsFaceOf mesh s) (sym is) (face_of_side mesh face_of s 0 tables.faces lt)
+
+-- the mate that is read at a side
+pub mate_read : {mesh : Mesh} {face_of mate : List ℕ} {s at x : ℕ} → AreDartTables mesh face_of mate →
+    s < side_count mesh → at ≡ s → x ≡ get_or mate at x →
+    (get_or mate at x ≡ get_or mate s 0) × (get_or mate at x < side_count mesh)
+mate_read {mesh} {mate = mate} {s} {at} {x} tables lt is read =
+    let e : get_or mate at x ≡ get_or mate s 0 =
+    sym read ∙ get_or_read mate at x (omega (arith, tables.mates.size)) read 0 ∙ ap (λ i. get_or mate i 0) is in
+    (e, omega (arith, e, (tables.mates.mates s lt).is_side))
 
 -- the next side around a face, and the one before
 pub next_in : (mesh : Mesh) (s f : ℕ) → IsFaceOf mesh s f → s + 1 < first_side mesh (f + 1) →

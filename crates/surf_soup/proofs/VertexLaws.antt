@@ -35,6 +35,17 @@ corner_read mesh corners s x are lt is =
     let n = corners_len mesh in
     get_or_read corners s x (omega (arith, lt, n, ap length are)) is 0 ∙ ap (λ (xs : List ℕ). get_or xs s 0) are
 
+-- whether two sides begin at one vertex, by the corners that are read at them
+pub begins_read : (mesh : Mesh) {corners : List ℕ} {s t i j x y : ℕ} → corners ≡ all_corners mesh →
+    s < side_count mesh → t < side_count mesh → i ≡ s → j ≡ t → x ≡ get_or corners i x → y ≡ get_or corners j y →
+    eqb x y ≡ eqb (get_or (all_corners mesh) s 0) (get_or (all_corners mesh) t 0)
+begins_read mesh {corners} {s} {t} {i} {j} {x} {y} are s_in t_in i_is j_is read too =
+    let first : x ≡ get_or (all_corners mesh) s 0 =
+    corner_read mesh corners i x are (omega arith) read ∙ ap (λ k. get_or (all_corners mesh) k 0) i_is in
+    let second : y ≡ get_or (all_corners mesh) t 0 =
+    corner_read mesh corners j y are (omega arith) too ∙ ap (λ k. get_or (all_corners mesh) k 0) j_is in
+    ap (λ n. eqb n y) first ∙ ap (eqb (get_or (all_corners mesh) s 0)) second
+
 -- a side's face and its place there
 pub record IsPlaced (mesh : Mesh) (s f k : ℕ) : Type 0 where
   pub is_face : f < face_count mesh

@@ -6,5 +6,5 @@ use Rattle.surf_soup.proofs.pairing.pair_rows.Goals as goal
 pub returns : goal.returns
 returns c =
     let P : ℕ → Type 0 = λ k. ArePaired c.args.soup.now k c.loop-v.pairs in
-    subst P (rows_end c.args.soup.now c.args.entries.now c.requires.entries c.loop-v.v
-    (omega (arith, c.loop-v-test.false, c.vertices-v-end.ensures.count))) c.loop-v.invariant
+    subst P (rows_end c.requires.entries (omega (arith, c.loop-v-test.false, c.vertices-v-end.ensures.count)))
+    c.loop-v.invariant

@@ -1,8 +1,6 @@
-use Rattle.std.proofs.Common.{◌+◌, length, sym, ap, subst, ◌∙◌, arith}
-use Rattle.surf_surfaces.specs.SideNumber.{IsFaceOf}
+use Rattle.std.proofs.Common.{◌+◌, length, sym, ap, ◌∙◌, arith}
 use Rattle.surf_soup.proofs.Owners.{length-owners}
-use Rattle.surf_soup.proofs.HalfLaws.{face_of_side}
-use Rattle.surf_soup.proofs.RingMarks.{next_in, next_first}
+use Rattle.surf_soup.proofs.RingMarks.{face_read, next_in, next_first}
 use Rattle.surf_soup.proofs.rings.next_side.Goals as goal
 
 pub at-requires : goal.at-requires
@@ -12,17 +10,12 @@ at-requires c =
 
 pub span-start-requires : goal.span-start-requires
 span-start-requires c =
-    let face_of = c.args.darts.now.face_of.now in
-    let own = face_of_side c.args.darts.now.soup.now face_of c.args.side 0 c.requires.darts.faces c.requires.side in
-    omega (arith, own.is_face, c.at.ensures)
+    (face_read c.requires.darts c.requires.side c.at.ensures).is_face
 
 pub returns-then-next-end : goal.returns-then-next-end
 returns-then-next-end c =
     let mesh = c.args.darts.now.soup.now in
-    let face_of = c.args.darts.now.face_of.now in
-    let own : IsFaceOf mesh c.args.side c.at.result =
-    subst (IsFaceOf mesh c.args.side) (sym c.at.ensures) (face_of_side mesh face_of c.args.side 0
-    c.requires.darts.faces c.requires.side) in
+    let own = face_read c.requires.darts c.requires.side c.at.ensures in
     c.new.ensures ∙ ap (λ n. n + 1) c.number-next.ensures
     ∙ sym (next_in mesh c.args.side c.at.result own
     (omega (arith, c.if-next-end.true, c.number-next.ensures, c.span-start.ensures.end)))
@@ -30,10 +23,7 @@ returns-then-next-end c =
 pub returns-else-next-end : goal.returns-else-next-end
 returns-else-next-end c =
     let mesh = c.args.darts.now.soup.now in
-    let face_of = c.args.darts.now.face_of.now in
-    let own : IsFaceOf mesh c.args.side c.at.result =
-    subst (IsFaceOf mesh c.args.side) (sym c.at.ensures) (face_of_side mesh face_of c.args.side 0
-    c.requires.darts.faces c.requires.side) in
+    let own = face_read c.requires.darts c.requires.side c.at.ensures in
     c.new-else-next-end.ensures ∙ c.span-start.ensures.start
     ∙ sym (next_first mesh c.args.side c.at.result own
     (omega (arith, c.if-next-end.false, c.number-next.ensures, c.span-start.ensures.end)))

@@ -1,8 +1,7 @@
-use Rattle.std.proofs.Common.{◌-◌, length, sym, ap, subst, ◌∙◌, arith}
-use Rattle.surf_surfaces.specs.SideNumber.{IsFaceOf}
+use Rattle.std.proofs.Common.{◌-◌, length, sym, ap, ◌∙◌, arith}
 use Rattle.surf_soup.proofs.Owners.{length-owners}
-use Rattle.surf_soup.proofs.HalfLaws.{face_of_side, spans}
-use Rattle.surf_soup.proofs.RingMarks.{before_in, before_last}
+use Rattle.surf_soup.proofs.HalfLaws.{spans}
+use Rattle.surf_soup.proofs.RingMarks.{face_read, before_in, before_last}
 use Rattle.surf_soup.proofs.rings.side_before.Goals as goal
 
 pub at-requires : goal.at-requires
@@ -12,26 +11,18 @@ at-requires c =
 
 pub span-start-requires : goal.span-start-requires
 span-start-requires c =
-    let face_of = c.args.darts.now.face_of.now in
-    let own = face_of_side c.args.darts.now.soup.now face_of c.args.side 0 c.requires.darts.faces c.requires.side in
-    omega (arith, own.is_face, c.at.ensures)
+    (face_read c.requires.darts c.requires.side c.at.ensures).is_face
 
 pub overflow_sub-end : goal.overflow_sub-end
 overflow_sub-end c =
     let mesh = c.args.darts.now.soup.now in
-    let face_of = c.args.darts.now.face_of.now in
-    let own : IsFaceOf mesh c.args.side c.at.result =
-    subst (IsFaceOf mesh c.args.side) (sym c.at.ensures) (face_of_side mesh face_of c.args.side 0
-    c.requires.darts.faces c.requires.side) in
+    let own = face_read c.requires.darts c.requires.side c.at.ensures in
     omega (arith, own.upto, (spans mesh.faces c.at.result own.is_face).0, c.span-start.ensures.end)
 
 pub returns-then-number-start : goal.returns-then-number-start
 returns-then-number-start c =
     let mesh = c.args.darts.now.soup.now in
-    let face_of = c.args.darts.now.face_of.now in
-    let own : IsFaceOf mesh c.args.side c.at.result =
-    subst (IsFaceOf mesh c.args.side) (sym c.at.ensures) (face_of_side mesh face_of c.args.side 0
-    c.requires.darts.faces c.requires.side) in
+    let own = face_read c.requires.darts c.requires.side c.at.ensures in
     c.new.ensures ∙ ap (λ n. n - 1) c.span-start.ensures.end
     ∙ sym (before_last mesh c.args.side c.at.result own
     (omega (arith, c.if-number-start.true, c.number-number.ensures, c.span-start.ensures.start)))
@@ -39,10 +30,7 @@ returns-then-number-start c =
 pub returns-else-number-start : goal.returns-else-number-start
 returns-else-number-start c =
     let mesh = c.args.darts.now.soup.now in
-    let face_of = c.args.darts.now.face_of.now in
-    let own : IsFaceOf mesh c.args.side c.at.result =
-    subst (IsFaceOf mesh c.args.side) (sym c.at.ensures) (face_of_side mesh face_of c.args.side 0
-    c.requires.darts.faces c.requires.side) in
+    let own = face_read c.requires.darts c.requires.side c.at.ensures in
     c.new-else-number-start.ensures ∙ ap (λ n. n - 1) c.number-number.ensures
     ∙ sym (before_in mesh c.args.side c.at.result own
     (λ e. c.if-number-start.false (c.number-number.ensures ∙ e ∙ sym c.span-start.ensures.start)))
