@@ -3,7 +3,7 @@ use Rattle.std.proofs.Math.ListN.{length-set, length-replicate}
 use Rattle.std.proofs.lemmas.Bool.{cases_eq, cases_lt, cases_Bool, lt-ltb, le-ltb}
 use Rattle.std.proofs.lemmas.Bool.Decides.{nat_tests}
 use Rattle.surf_graphs.specs.Graphs.{Graph, joins}
-use Rattle.std.proofs.lemmas.List.{get_or-map, get_or-replicate, get_or_past}
+use Rattle.std.proofs.lemmas.List.{get_or-map, length-map, get_or-replicate, get_or_past}
 use Rattle.surf_z2.specs.Parity.{count_below}
 use Rattle.surf_z2.proofs.Sums.{count_below-without, count_below-same, count_below-all}
 use Rattle.surf_graphs.proofs.Loops.{joins_turned}
@@ -84,6 +84,14 @@ pub link_of : (f : ℕ → ℕ × ℕ) (items : List ℕ) (k e w : ℕ) → k < 
 link_of f items k e w l is end =
     get_or-map f items k e (0, 0) l ∙ ap f (sym is) ∙ ap (λ (x : ℕ). (x, (f e).1)) (sym end)
 
+-- it joins the node of the row and another
+pub item_in : {g : Graph} {v : ℕ} (f : ℕ → ℕ × ℕ) (items : List ℕ) → IsRow g v (map f items) → {k e w : ℕ} →
+    k < length items → e ≡ get_or items k e → w ≡ (f e).0 → (w < g.nodes) × ((f e).1 < g.edges) × (joins g v w (f e).1 ≡ true)
+item_in {g} {v} f items row {k} {e} {w} l is end =
+    let lm : k < length (map f items) = omega (arith, l, length-map items f) in
+    subst (λ (x : ℕ × ℕ). (x.0 < g.nodes) × (x.1 < g.edges) × (joins g v x.0 x.1 ≡ true)) (link_of f items k e w l is end)
+    (row.neighbour_in k lm, row.edge_in k lm, row.joined k lm)
+
 module _ (g : Graph) (len dist : ℕ → ℕ) (v d : ℕ) (links : List (ℕ × ℕ)) (row : IsRow g v links) where
   abbrev pub neighbour : ℕ → ℕ
   neighbour k = (link_at links k).0
@@ -131,9 +139,6 @@ module _ (g : Graph) (len dist : ℕ → ℕ) (v d : ℕ) (links : List (ℕ × 
 
     -- the same for a link with its two parts
     module _ (w e : ℕ) (is : link_at links n ≡ (w, e)) where
-      pub link_in : (w < g.nodes) × (e < g.edges) × (joins g v w e ≡ true)
-      link_in = subst (λ (x : ℕ × ℕ). (x.0 < g.nodes) × (x.1 < g.edges) × (joins g v x.0 x.1 ≡ true)) is (row.neighbour_in n ln, row.edge_in n ln, row.joined n ln)
-
       pub link_skip : dist w ≢ far → IsOfferedSome g len dist v d old mid neighbour number (n + 1)
       link_skip settled = offered_skip (λ f. settled (ap (λ (x : ℕ × ℕ). dist x.0) (sym is) ∙ f))
 
@@ -193,15 +198,18 @@ first_offer n base cleared new l clear is =
       ap length there ∙ (length-set (replicate n None) base (Some (0, 0)) ∙ long),
     )
 
--- an entry whose key is least
-pub nearest_next : (heap : Entries) (v k : ℕ) → IsNearestEntry heap v k → (t : ℕ) × IsNext heap v k t
-nearest_next heap v k near = (near.holds.0, record { within = near.within; holds = near.holds.1; least = near.least })
+-- one turn of a search: the node that is settled and its distance are in range, a node less is unsettled, what was
+-- settled before isn't farther, and the search goes on
+pub record IsTurn (g : Graph) (len : ℕ → ℕ) (base : ℕ) (dist : List ℕ) (heap : Entries) (v k : ℕ) : Type 0 where
+  pub inside : (v < g.nodes) × (k + longest ≤ g.nodes * longest)
+  pub smaller : count_below g.nodes (λ u. eqb (at (set dist v k) u) far) < count_below g.nodes (λ u. eqb (at dist u) far)
+  pub last : (u : ℕ) → u < g.nodes → at (set dist v k) u ≢ far → at (set dist v k) u ≤ k
+  pub keeps : (mid new : Entries) → mid ≡ set heap v None → IsOffered g len (at (set dist v k)) v k mid new →
+      IsSearch g len base (at (set dist v k)) new k (count_below g.nodes (λ u. eqb (at (set dist v k) u) far))
 
--- one turn of a search
 module _ (g : Graph) (len : ℕ → ℕ) (base : ℕ) (small : g.nodes ≤ longest) (short : (e : ℕ) → len e ≤ longest) (dist : List ℕ) (heap : Entries) (last v k t : ℕ)
     (long : length dist ≡ g.nodes) (s : IsSearch g len base (at dist) heap last (count_below g.nodes (λ u. eqb (at dist u) far))) (next : IsNext heap v k t) where
-  -- the node that is settled, and its distance, are in range
-  pub next_inside : (v < g.nodes) × (k + longest ≤ g.nodes * longest)
+  next_inside : (v < g.nodes) × (k + longest ≤ g.nodes * longest)
   next_inside =
       let o = s.outside v k t next.holds in
       let some : count_below g.nodes (λ u. eqb (at dist u) far) ≡ suc (count_below g.nodes (λ u. eqb (at dist u) far && not (eqb v u))) = count_below-without g.nodes v (λ u. eqb (at dist u) far) o.within (eq-eqb (at dist v) far o.unsettled) in
@@ -216,18 +224,17 @@ module _ (g : Graph) (len : ℕ → ℕ) (base : ℕ) (small : g.nodes ≤ longe
       let ne : k ≢ far = omega arith in
       (ne, one_less g.nodes v k dist o.within (sym long) o.unsettled ne)
 
-  pub next_smaller : count_below g.nodes (λ u. eqb (at (set dist v k) u) far) < count_below g.nodes (λ u. eqb (at dist u) far)
+  next_smaller : count_below g.nodes (λ u. eqb (at (set dist v k) u) far) < count_below g.nodes (λ u. eqb (at dist u) far)
   next_smaller = let e = next_less.1 in omega arith
 
-  pub next_keeps : (mid new : Entries) → mid ≡ set heap v None → IsOffered g len (at (set dist v k)) v k mid new → IsSearch g len base (at (set dist v k)) new k (count_below g.nodes (λ u. eqb (at (set dist v k) u) far))
+  next_keeps : (mid new : Entries) → mid ≡ set heap v None → IsOffered g len (at (set dist v k)) v k mid new → IsSearch g len base (at (set dist v k)) new k (count_below g.nodes (λ u. eqb (at (set dist v k) u) far))
   next_keeps mid new took done =
       let o = s.outside v k t next.holds in
       let lv : v < length dist = let l : v < g.nodes = o.within in omega arith in
       settle_one g len base small short (at dist) (at (set dist v k)) heap mid new last (count_below g.nodes (λ u. eqb (at (set dist v k) u) far)) v k t
       (subst (λ n. IsSearch g len base (at dist) heap last n) next_less.1 s) next took (get_or-set_same dist v k 0 lv) (λ q ne. get_or-set_other dist v q k 0 ne) done
 
-  -- what was settled before isn't farther
-  pub next_last : (u : ℕ) → u < g.nodes → at (set dist v k) u ≢ far → at (set dist v k) u ≤ k
+  next_last : (u : ℕ) → u < g.nodes → at (set dist v k) u ≢ far → at (set dist v k) u ≤ k
   next_last u l some = elim (cases_eq u v) [
     | inl same ↦ rw (same, get_or-set_same dist v k 0 (let lv : v < g.nodes = (s.outside v k t next.holds).within in omega arith)) (omega arith)
     | inr ne ↦
@@ -237,14 +244,15 @@ module _ (g : Graph) (len : ℕ → ℕ) (base : ℕ) (small : g.nodes ≤ longe
         rw was (omega arith)
   ]
 
--- and where the least entry of a heap is taken
-module _ (g : Graph) (len : ℕ → ℕ) (base : ℕ) (small : g.nodes ≤ longest) (short : (e : ℕ) → len e ≤ longest) (dist : List ℕ) (heap : Entries) (last v k t : ℕ)
-    (long : length dist ≡ g.nodes) (s : IsSearch g len base (at dist) heap last (count_below g.nodes (λ u. eqb (at dist u) far))) (least : IsLeastEntry heap v k t) where
-  pub turn_inside : (v < g.nodes) × (k + longest ≤ g.nodes * longest)
-  turn_inside = next_inside g len base small short dist heap last v k t long s (least_next heap v k t least)
+  next_turn : IsTurn g len base dist heap v k
+  next_turn = record { inside = next_inside; smaller = next_smaller; last = next_last; keeps = next_keeps }
 
-  pub turn_smaller : count_below g.nodes (λ u. eqb (at (set dist v k) u) far) < count_below g.nodes (λ u. eqb (at dist u) far)
-  turn_smaller = next_smaller g len base small short dist heap last v k t long s (least_next heap v k t least)
+-- where the least entry of a heap is taken, and where one is whose key is least
+module _ {g : Graph} {len : ℕ → ℕ} {base : ℕ} (small : g.nodes ≤ longest) (short : (e : ℕ) → len e ≤ longest) (dist : List ℕ) {heap : Entries} {last v k : ℕ}
+    (long : length dist ≡ g.nodes) (s : IsSearch g len base (at dist) heap last (count_below g.nodes (λ u. eqb (at dist u) far))) where
+  pub least_turn : {t : ℕ} → IsLeastEntry heap v k t → IsTurn g len base dist heap v k
+  least_turn {t} least = next_turn g len base small short dist heap last v k t long s (least_next heap v k t least)
 
-  pub turn_keeps : (mid new : Entries) → mid ≡ set heap v None → IsOffered g len (at (set dist v k)) v k mid new → IsSearch g len base (at (set dist v k)) new k (count_below g.nodes (λ u. eqb (at (set dist v k) u) far))
-  turn_keeps = next_keeps g len base small short dist heap last v k t long s (least_next heap v k t least)
+  pub nearest_turn : IsNearestEntry heap v k → IsTurn g len base dist heap v k
+  nearest_turn near = next_turn g len base small short dist heap last v k near.holds.0 long s
+      (record { within = near.within; holds = near.holds.1; least = near.least })

@@ -192,9 +192,6 @@ module _ (g : Graph) (len : ℕ → ℕ) (size : ℕ) (small : g.nodes ≤ longe
     other : (w < g.nodes) × (f < g.edges) × (joins g v w f ≡ true)
     other = chosen_in g len (at dist) v links row n w f l is
 
-    pub passing_in : w < g.nodes
-    passing_in = other.0
-
     -- a settled one
     pub passing_settled : at dist w ≢ far → IsPassing g len size dist order count place v d links (n + 1)
     passing_settled settled = record {

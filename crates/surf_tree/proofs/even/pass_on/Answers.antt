@@ -2,36 +2,23 @@ use Rattle.std.proofs.Common.{◌≡◌, ◌≢◌, ◌<◌, ◌∙◌, length, 
 use Rattle.std.proofs.lemmas.List.{length-map}
 use Rattle.surf_base.specs.Tables.{at}
 use Rattle.surf_tree.specs.Searches.{far}
-use Rattle.surf_tree.proofs.Offering.{link_of}
-use Rattle.surf_tree.proofs.Queues.{queue_room, first_kept, passing_in, passing_settled, passing_lists, passing_ends}
+use Rattle.surf_tree.proofs.Offering.{link_of, item_in}
+use Rattle.surf_tree.proofs.Queues.{queue_room, first_kept, passing_settled, passing_lists, passing_ends}
 use Rattle.surf_tree.proofs.even.pass_on.Goals as goal
 use Rattle.surf_tree.proofs.even.pass_on.Goals.{then-distance-w, else-distance-w}
 
 pub bounds-distance-w : goal.bounds-distance-w
 bounds-distance-w g c =
     let net = c.args.network.now in
-    let v = at c.args.order.now c.args.place in
-    let link = g.N.Network.link net v in
-    let items = c.edges_at-e-items.result.now in
-    let n = c.loop-e.e-index in
-    let q = c.loop-e.invariant.passing.queue in
-    let long = length-map items link in
-    let is = link_of link items n c.e-item.result c.across-w.result.0 c.loop-e-test.true c.e-item.is c.across-w.ensures.end in
-    let inside = passing_in (g.N.Network.graph net) (g.N.Network.weight net) c.args.size c.requires.few c.requires.even (omega arith) c.loop-e.distance c.loop-e.order c.loop-e.count c.args.place v (at c.args.distance.now v) (map link items) c.edges_at-e-items.ensures.row n c.loop-e.invariant.passing c.across-w.result.0 (link c.e-item.result).1 (omega (arith, long, c.loop-e-test.true)) is in
-    omega (arith, inside, q.dist_room)
+    let inside = item_in (g.N.Network.link net (at c.args.order.now c.args.place)) c.edges_at-e-items.result.now c.edges_at-e-items.ensures.row c.loop-e-test.true c.e-item.is c.across-w.ensures.end in
+    omega (arith, inside.0, c.loop-e.invariant.passing.queue.dist_room)
 
 pub bounds-order-count : goal.bounds-order-count
 bounds-order-count g c =
     let net = c.args.network.now in
-    let v = at c.args.order.now c.args.place in
-    let link = g.N.Network.link net v in
-    let items = c.edges_at-e-items.result.now in
-    let n = c.loop-e.e-index in
     let q = c.loop-e.invariant.passing.queue in
-    let long = length-map items link in
-    let is = link_of link items n c.e-item.result c.across-w.result.0 c.loop-e-test.true c.e-item.is c.across-w.ensures.end in
-    let inside = passing_in (g.N.Network.graph net) (g.N.Network.weight net) c.args.size c.requires.few c.requires.even (omega arith) c.loop-e.distance c.loop-e.order c.loop-e.count c.args.place v (at c.args.distance.now v) (map link items) c.edges_at-e-items.ensures.row n c.loop-e.invariant.passing c.across-w.result.0 (link c.e-item.result).1 (omega (arith, long, c.loop-e-test.true)) is in
-    let room = queue_room (g.N.Network.graph net) (g.N.Network.weight net) c.args.size c.requires.few c.requires.even (omega arith) c.loop-e.distance c.loop-e.order c.loop-e.count c.args.place q c.across-w.result.0 inside c.if-distance-w.true in
+    let inside = item_in (g.N.Network.link net (at c.args.order.now c.args.place)) c.edges_at-e-items.result.now c.edges_at-e-items.ensures.row c.loop-e-test.true c.e-item.is c.across-w.ensures.end in
+    let room = queue_room (g.N.Network.graph net) (g.N.Network.weight net) c.args.size c.requires.few c.requires.even (omega arith) c.loop-e.distance c.loop-e.order c.loop-e.count c.args.place q c.across-w.result.0 inside.0 c.if-distance-w.true in
     omega (arith, room, q.order_room)
 
 pub loop-e-preserved : goal.loop-e-preserved

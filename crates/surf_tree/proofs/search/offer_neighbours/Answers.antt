@@ -3,23 +3,15 @@ use Rattle.std.proofs.lemmas.List.{length-map}
 use Rattle.surf_heap.specs.Entries.{entry_of, lesser}
 use Rattle.surf_base.specs.Tables.{at}
 use Rattle.surf_tree.specs.Searches.{far}
-use Rattle.surf_tree.proofs.Offering.{link_of, link_in, link_more, link_skip}
+use Rattle.surf_tree.proofs.Offering.{link_of, item_in, link_more, link_skip}
 use Rattle.surf_tree.proofs.search.offer_neighbours.Goals as goal
 use Rattle.surf_tree.proofs.search.offer_neighbours.Goals.{then-distance-w, else-distance-w}
 
 pub bounds-distance-w : goal.bounds-distance-w
 bounds-distance-w g c =
     let net = c.args.network.now in
-    let graph = g.N.Network.graph net in
-    let link = g.N.Network.link net c.args.node in
-    let items = c.edges_at-e-items.result.now in
-    let e = c.e-item.result in
-    let n = c.loop-e.e-index in
-    let long = length-map items link in
-    let is = link_of link items n e c.across-w.result.0 c.loop-e-test.true c.e-item.is c.across-w.ensures.end in
-    let inside = link_in graph (g.N.Network.weight net) (at c.args.distance.now) c.args.node c.args.d (map link items) c.edges_at-e-items.ensures.row c.args.heap.now c.loop-e.heap n c.loop-e.invariant (omega arith) c.across-w.result.0 (link e).1 is in
-    let w_in : c.across-w.result.0 < graph.nodes = inside.0 in
-    omega (arith, c.requires.distances)
+    let inside = item_in (g.N.Network.link net c.args.node) c.edges_at-e-items.result.now c.edges_at-e-items.ensures.row c.loop-e-test.true c.e-item.is c.across-w.ensures.end in
+    omega (arith, inside.0, c.requires.distances)
 
 pub loop-e-preserved : goal.loop-e-preserved
 loop-e-preserved g c =
@@ -39,7 +31,7 @@ loop-e-preserved g c =
     let row = c.edges_at-e-items.ensures.row in
     let some = c.loop-e.invariant in
     let is = link_of link items n c.e-item.result w c.loop-e-test.true c.e-item.is c.across-w.ensures.end in
-    let w_in : w < graph.nodes = (link_in graph len dist c.args.node c.args.d links row c.args.heap.now heap n some ln w number is).0 in
+    let w_in : w < graph.nodes = (item_in link items row c.loop-e-test.true c.e-item.is c.across-w.ensures.end).0 in
     let in_heap : w < length heap = omega (arith, some.same_length, c.requires.places) in
     elim c.if-distance-w.branch [
       | then-distance-w b ↦

@@ -1,10 +1,9 @@
-use Rattle.std.proofs.Common.{◌≡◌, ◌<◌, ◌≤◌, ◌∙◌, ℕ, length, arith, ap, refl, None, ◌+◌, ◌*◌}
+use Rattle.std.proofs.Common.{◌≡◌, ◌<◌, ◌∙◌, ℕ, length, arith, ap, refl, None}
 use Rattle.std.proofs.Math.ListN.{length-set}
-use Rattle.surf_lengths.specs.Lengths.{longest}
 use Rattle.surf_base.specs.Tables.{at}
 use Rattle.surf_tree.specs.Searches.{far}
 use Rattle.surf_tree.proofs.Settling.{search_begins, search_ends}
-use Rattle.surf_tree.proofs.Offering.{all_free, first_offer, turn_inside, turn_smaller, turn_keeps}
+use Rattle.surf_tree.proofs.Offering.{all_free, first_offer, least_turn}
 use Rattle.surf_tree.proofs.search.settle.Goals as goal
 
 pub loop-node-init : goal.loop-node-init
@@ -22,53 +21,35 @@ loop-node-init g c =
 
 pub bounds-distance-node : goal.bounds-distance-node
 bounds-distance-node g c =
-    let net = c.args.network.now in
-    let graph = g.N.Network.graph net in
-    let can = c.requires.searchable in
-    let long : length c.loop-node.distance ≡ graph.nodes = omega (arith, c.requires.distances) in
-    let inside : c.in-Some.node < graph.nodes = (turn_inside graph (g.N.Network.weight net) c.args.base can.few can.short c.loop-node.distance c.loop-node.heap c.loop-node.invariant.last c.in-Some.node c.in-Some.d c.in-Some.field-0-2 long c.loop-node.invariant.search c.in-Some.ensures.taken.0).0 in
-    omega (arith, inside, long)
+    let turn = least_turn c.requires.searchable.few c.requires.searchable.short c.loop-node.distance (omega (arith, c.requires.distances)) c.loop-node.invariant.search c.in-Some.ensures.taken.0 in
+    omega (arith, turn.inside.0, c.requires.distances)
 
 pub offer_neighbours-requires-clause-node : goal.offer_neighbours-requires-clause-node
 offer_neighbours-requires-clause-node g c =
-    let net = c.args.network.now in
-    let graph = g.N.Network.graph net in
-    let can = c.requires.searchable in
-    let long : length c.loop-node.distance ≡ graph.nodes = omega (arith, c.requires.distances) in
-    (turn_inside graph (g.N.Network.weight net) c.args.base can.few can.short c.loop-node.distance c.loop-node.heap c.loop-node.invariant.last c.in-Some.node c.in-Some.d c.in-Some.field-0-2 long c.loop-node.invariant.search c.in-Some.ensures.taken.0).0
+    let turn = least_turn c.requires.searchable.few c.requires.searchable.short c.loop-node.distance (omega (arith, c.requires.distances)) c.loop-node.invariant.search c.in-Some.ensures.taken.0 in
+    turn.inside.0
 
 pub offer_neighbours-requires-clause-places : goal.offer_neighbours-requires-clause-places
 offer_neighbours-requires-clause-places g c = ap length c.in-Some.ensures.taken.1 ∙ (length-set c.loop-node.heap c.in-Some.node None ∙ c.loop-node.invariant.places)
 
 pub offer_neighbours-requires-clause-fits : goal.offer_neighbours-requires-clause-fits
 offer_neighbours-requires-clause-fits g c =
-    let net = c.args.network.now in
-    let graph = g.N.Network.graph net in
-    let can = c.requires.searchable in
-    let long : length c.loop-node.distance ≡ graph.nodes = omega (arith, c.requires.distances) in
-    let bound : c.in-Some.d + longest ≤ graph.nodes * longest = (turn_inside graph (g.N.Network.weight net) c.args.base can.few can.short c.loop-node.distance c.loop-node.heap c.loop-node.invariant.last c.in-Some.node c.in-Some.d c.in-Some.field-0-2 long c.loop-node.invariant.search c.in-Some.ensures.taken.0).1 in
-    omega (arith, bound, can.few)
+    let turn = least_turn c.requires.searchable.few c.requires.searchable.short c.loop-node.distance (omega (arith, c.requires.distances)) c.loop-node.invariant.search c.in-Some.ensures.taken.0 in
+    omega (arith, turn.inside.1, c.requires.searchable.few)
 
 pub loop-node-smaller : goal.loop-node-smaller
 loop-node-smaller g c =
-    let net = c.args.network.now in
-    let graph = g.N.Network.graph net in
-    let can = c.requires.searchable in
-    let long : length c.loop-node.distance ≡ graph.nodes = omega (arith, c.requires.distances) in
-    turn_smaller graph (g.N.Network.weight net) c.args.base can.few can.short c.loop-node.distance c.loop-node.heap c.loop-node.invariant.last c.in-Some.node c.in-Some.d c.in-Some.field-0-2 long c.loop-node.invariant.search c.in-Some.ensures.taken.0
+    let turn = least_turn c.requires.searchable.few c.requires.searchable.short c.loop-node.distance (omega (arith, c.requires.distances)) c.loop-node.invariant.search c.in-Some.ensures.taken.0 in
+    turn.smaller
 
 pub loop-node-preserved : goal.loop-node-preserved
 loop-node-preserved g c =
-    let net = c.args.network.now in
-    let graph = g.N.Network.graph net in
-    let can = c.requires.searchable in
-    let long : length c.loop-node.distance ≡ graph.nodes = omega (arith, c.requires.distances) in
+    let turn = least_turn c.requires.searchable.few c.requires.searchable.short c.loop-node.distance (omega (arith, c.requires.distances)) c.loop-node.invariant.search c.in-Some.ensures.taken.0 in
     let done = c.offer_neighbours.ensures.offered in
     record {
       places = done.same_length ∙ (ap length c.in-Some.ensures.taken.1 ∙ (length-set c.loop-node.heap c.in-Some.node None ∙ c.loop-node.invariant.places));
       last = c.in-Some.d;
-      search = turn_keeps graph (g.N.Network.weight net) c.args.base can.few can.short c.loop-node.distance c.loop-node.heap c.loop-node.invariant.last c.in-Some.node c.in-Some.d c.in-Some.field-0-2 long c.loop-node.invariant.search c.in-Some.ensures.taken.0
-          c.take_least.new.self c.offer_neighbours.new.heap c.in-Some.ensures.taken.1 done;
+      search = turn.keeps c.take_least.new.self c.offer_neighbours.new.heap c.in-Some.ensures.taken.1 done;
     }
 
 pub returns-clause-settled : goal.returns-clause-settled

@@ -6,65 +6,36 @@ use Rattle.surf_buckets.specs.Lent.{waiting_key, waiting, settled}
 use Rattle.surf_buckets.proofs.Views.{entries_length}
 use Rattle.surf_base.specs.Tables.{at}
 use Rattle.surf_tree.specs.Searches.{far}
-use Rattle.surf_tree.proofs.Offering.{link_of, link_in, link_more, link_skip}
+use Rattle.surf_tree.proofs.Offering.{link_of, item_in, link_more, link_skip}
 use Rattle.surf_tree.proofs.short.offer_near.Goals as goal
 
 pub offer-requires-clause-place : goal.offer-requires-clause-place
 offer-requires-clause-place g c =
     let net = c.args.network.now in
-    let link = g.N.Network.link net c.args.node in
-    let items = c.edges_at-e-items.result.now in
-    let e = c.e-item.result in
-    let n = c.loop-e.e-index in
-    let long = length-map items link in
-    let is = link_of link items n e c.across-w.result.0 c.loop-e-test.true c.e-item.is c.across-w.ensures.end in
-    let inside = link_in (g.N.Network.graph net) (g.N.Network.weight net) (at (settled c.args.buckets.now c.args.distance.now)) c.args.node c.args.d (map link items) c.edges_at-e-items.ensures.row
-    (waiting c.args.buckets.now c.args.distance.now) (waiting c.loop-e.buckets c.loop-e.distance) n c.loop-e.invariant.offered (omega arith) c.across-w.result.0 (link e).1 is in
+    let inside = item_in (g.N.Network.link net c.args.node) c.edges_at-e-items.result.now c.edges_at-e-items.ensures.row c.loop-e-test.true c.e-item.is c.across-w.ensures.end in
     omega (arith, inside.0, c.loop-e.invariant.room, c.requires.distances)
 
 pub offer-requires-clause-window : goal.offer-requires-clause-window
 offer-requires-clause-window g c =
     let net = c.args.network.now in
-    let link = g.N.Network.link net c.args.node in
-    let items = c.edges_at-e-items.result.now in
-    let e = c.e-item.result in
-    let n = c.loop-e.e-index in
-    let long = length-map items link in
-    let is = link_of link items n e c.across-w.result.0 c.loop-e-test.true c.e-item.is c.across-w.ensures.end in
-    let inside = link_in (g.N.Network.graph net) (g.N.Network.weight net) (at (settled c.args.buckets.now c.args.distance.now)) c.args.node c.args.d (map link items) c.edges_at-e-items.ensures.row
-    (waiting c.args.buckets.now c.args.distance.now) (waiting c.loop-e.buckets c.loop-e.distance) n c.loop-e.invariant.offered (omega arith) c.across-w.result.0 (link e).1 is in
-    let size : c.from.result ≡ g.N.Network.weight net (link e).1 = c.from.ensures ∙ c.across-w.ensures.length in
-    let near = c.requires.short (link e).1 inside.1 in
-    omega (arith, size, near, c.loop-e.invariant.now, c.requires.now)
+    let number = (g.N.Network.link net c.args.node c.e-item.result).1 in
+    let size : c.from.result ≡ g.N.Network.weight net number = c.from.ensures ∙ c.across-w.ensures.length in
+    let inside = item_in (g.N.Network.link net c.args.node) c.edges_at-e-items.result.now c.edges_at-e-items.ensures.row c.loop-e-test.true c.e-item.is c.across-w.ensures.end in
+    omega (arith, size, c.requires.short number inside.1, c.loop-e.invariant.now, c.requires.now)
 
 pub offer-requires-clause-key : goal.offer-requires-clause-key
 offer-requires-clause-key g c =
     let net = c.args.network.now in
-    let link = g.N.Network.link net c.args.node in
-    let items = c.edges_at-e-items.result.now in
-    let e = c.e-item.result in
-    let n = c.loop-e.e-index in
-    let long = length-map items link in
-    let is = link_of link items n e c.across-w.result.0 c.loop-e-test.true c.e-item.is c.across-w.ensures.end in
-    let inside = link_in (g.N.Network.graph net) (g.N.Network.weight net) (at (settled c.args.buckets.now c.args.distance.now)) c.args.node c.args.d (map link items) c.edges_at-e-items.ensures.row
-    (waiting c.args.buckets.now c.args.distance.now) (waiting c.loop-e.buckets c.loop-e.distance) n c.loop-e.invariant.offered (omega arith) c.across-w.result.0 (link e).1 is in
-    let size : c.from.result ≡ g.N.Network.weight net (link e).1 = c.from.ensures ∙ c.across-w.ensures.length in
-    let near = c.requires.short (link e).1 inside.1 in
-    omega (arith, size, near, c.requires.fits)
+    let number = (g.N.Network.link net c.args.node c.e-item.result).1 in
+    let size : c.from.result ≡ g.N.Network.weight net number = c.from.ensures ∙ c.across-w.ensures.length in
+    let inside = item_in (g.N.Network.link net c.args.node) c.edges_at-e-items.result.now c.edges_at-e-items.ensures.row c.loop-e-test.true c.e-item.is c.across-w.ensures.end in
+    omega (arith, size, c.requires.short number inside.1, c.requires.fits)
 
 pub offer-requires-clause-settled : goal.offer-requires-clause-settled
 offer-requires-clause-settled g c =
     let net = c.args.network.now in
-    let link = g.N.Network.link net c.args.node in
-    let items = c.edges_at-e-items.result.now in
-    let e = c.e-item.result in
-    let n = c.loop-e.e-index in
-    let w = c.across-w.result.0 in
-    let long = length-map items link in
-    let is = link_of link items n e w c.loop-e-test.true c.e-item.is c.across-w.ensures.end in
-    let inside = link_in (g.N.Network.graph net) (g.N.Network.weight net) (at (settled c.args.buckets.now c.args.distance.now)) c.args.node c.args.d (map link items) c.edges_at-e-items.ensures.row
-    (waiting c.args.buckets.now c.args.distance.now) (waiting c.loop-e.buckets c.loop-e.distance) n c.loop-e.invariant.offered (omega arith) w (link e).1 is in
-    rw c.loop-e.invariant.settles (λ some. let up = c.requires.settled w inside.0 some in omega (arith, up))
+    let inside = item_in (g.N.Network.link net c.args.node) c.edges_at-e-items.result.now c.edges_at-e-items.ensures.row c.loop-e-test.true c.e-item.is c.across-w.ensures.end in
+    rw c.loop-e.invariant.settles (λ some. let up = c.requires.settled c.across-w.result.0 inside.0 some in omega (arith, up))
 
 pub loop-e-preserved : goal.loop-e-preserved
 loop-e-preserved g c =
@@ -86,7 +57,7 @@ loop-e-preserved g c =
     let row = c.edges_at-e-items.ensures.row in
     let inv = c.loop-e.invariant in
     let is = link_of link items n c.e-item.result w c.loop-e-test.true c.e-item.is c.across-w.ensures.end in
-    let inside = link_in graph len dist c.args.node c.args.d links row old mid n inv.offered ln w number is in
+    let inside = item_in link items row c.loop-e-test.true c.e-item.is c.across-w.ensures.end in
     let count = entries_length c.loop-e.buckets.places (waiting_key c.loop-e.buckets.links c.loop-e.distance) in
     let in_heap : w < length mid = omega (arith, inside.0, inv.filing.room, inv.room, c.requires.distances, count) in
     let size : c.from.result ≡ len number = c.from.ensures ∙ c.across-w.ensures.length in

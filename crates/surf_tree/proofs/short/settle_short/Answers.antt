@@ -1,12 +1,11 @@
-use Rattle.std.proofs.Common.{ℕ, ◌≡◌, ◌<◌, ◌≤◌, ◌+◌, ◌*◌, ◌∙◌, length, arith, ap, subst}
+use Rattle.std.proofs.Common.{ℕ, ◌≡◌, ◌<◌, ◌∙◌, length, arith, ap, subst}
 use Rattle.std.proofs.lemmas.List.{get_or-replicate}
 use Rattle.surf_buckets.specs.Lent.{waiting, settled}
 use Rattle.surf_buckets.proofs.LentViews.{settled_length}
-use Rattle.surf_lengths.specs.Lengths.{longest}
 use Rattle.surf_base.specs.Tables.{at}
 use Rattle.surf_tree.specs.Searches.{far, IsSettled}
 use Rattle.surf_tree.proofs.Settling.{search_begins, search_ends}
-use Rattle.surf_tree.proofs.Offering.{all_free, first_offer, nearest_next, next_inside, next_smaller, next_keeps, next_last}
+use Rattle.surf_tree.proofs.Offering.{all_free, first_offer, nearest_turn}
 use Rattle.surf_tree.proofs.short.settle_short.Goals as goal
 
 pub offer-requires-clause-settled : goal.offer-requires-clause-settled
@@ -37,67 +36,37 @@ loop-node-init g c =
 
 pub offer_near-requires-clause-node : goal.offer_near-requires-clause-node
 offer_near-requires-clause-node g c =
-    let net = c.args.network.now in
-    let graph = g.N.Network.graph net in
-    let can = c.requires.searchable in
     let inv = c.loop-node.invariant in
-    let dist = settled c.loop-node.buckets c.loop-node.distance in
-    let heap = waiting c.loop-node.buckets c.loop-node.distance in
-    let (tie, next) = nearest_next heap c.in-Some.node c.in-Some.d (c.in-Some.ensures.taken c.loop-node.distance inv.filing).0 in
-    let long : length dist ≡ graph.nodes = settled_length c.loop-node.buckets c.loop-node.distance ∙ inv.places in
-    (next_inside graph (g.N.Network.weight net) c.args.base can.few can.short dist heap inv.last c.in-Some.node c.in-Some.d tie long inv.search next).0
+    let turn = nearest_turn c.requires.searchable.few c.requires.searchable.short (settled c.loop-node.buckets c.loop-node.distance) (settled_length c.loop-node.buckets c.loop-node.distance ∙ inv.places)
+    inv.search (c.in-Some.ensures.taken c.loop-node.distance inv.filing).0 in
+    turn.inside.0
 
 pub offer_near-requires-clause-fits : goal.offer_near-requires-clause-fits
 offer_near-requires-clause-fits g c =
-    let net = c.args.network.now in
-    let graph = g.N.Network.graph net in
-    let can = c.requires.searchable in
     let inv = c.loop-node.invariant in
-    let dist = settled c.loop-node.buckets c.loop-node.distance in
-    let heap = waiting c.loop-node.buckets c.loop-node.distance in
-    let (tie, next) = nearest_next heap c.in-Some.node c.in-Some.d (c.in-Some.ensures.taken c.loop-node.distance inv.filing).0 in
-    let long : length dist ≡ graph.nodes = settled_length c.loop-node.buckets c.loop-node.distance ∙ inv.places in
-    let bound : c.in-Some.d + longest ≤ graph.nodes * longest =
-    (next_inside graph (g.N.Network.weight net) c.args.base can.few can.short dist heap inv.last c.in-Some.node c.in-Some.d tie long inv.search next).1 in
-    omega (arith, bound, can.few)
+    let turn = nearest_turn c.requires.searchable.few c.requires.searchable.short (settled c.loop-node.buckets c.loop-node.distance) (settled_length c.loop-node.buckets c.loop-node.distance ∙ inv.places)
+    inv.search (c.in-Some.ensures.taken c.loop-node.distance inv.filing).0 in
+    omega (arith, turn.inside.1, c.requires.searchable.few)
 
 pub offer_near-requires-clause-settled : goal.offer_near-requires-clause-settled
 offer_near-requires-clause-settled g c =
-    let net = c.args.network.now in
-    let graph = g.N.Network.graph net in
-    let can = c.requires.searchable in
     let inv = c.loop-node.invariant in
-    let dist = settled c.loop-node.buckets c.loop-node.distance in
-    let heap = waiting c.loop-node.buckets c.loop-node.distance in
-    let (tie, next) = nearest_next heap c.in-Some.node c.in-Some.d (c.in-Some.ensures.taken c.loop-node.distance inv.filing).0 in
-    let long : length dist ≡ graph.nodes = settled_length c.loop-node.buckets c.loop-node.distance ∙ inv.places in
-    rw (c.in-Some.ensures.settled c.loop-node.distance inv.filing)
-    (next_last graph (g.N.Network.weight net) c.args.base can.few can.short dist heap inv.last c.in-Some.node c.in-Some.d tie long inv.search next)
+    let turn = nearest_turn c.requires.searchable.few c.requires.searchable.short (settled c.loop-node.buckets c.loop-node.distance) (settled_length c.loop-node.buckets c.loop-node.distance ∙ inv.places)
+    inv.search (c.in-Some.ensures.taken c.loop-node.distance inv.filing).0 in
+    rw (c.in-Some.ensures.settled c.loop-node.distance inv.filing) turn.last
 
 pub loop-node-smaller : goal.loop-node-smaller
 loop-node-smaller g c =
-    let net = c.args.network.now in
-    let graph = g.N.Network.graph net in
-    let can = c.requires.searchable in
     let inv = c.loop-node.invariant in
-    let dist = settled c.loop-node.buckets c.loop-node.distance in
-    let heap = waiting c.loop-node.buckets c.loop-node.distance in
-    let (tie, next) = nearest_next heap c.in-Some.node c.in-Some.d (c.in-Some.ensures.taken c.loop-node.distance inv.filing).0 in
-    let long : length dist ≡ graph.nodes = settled_length c.loop-node.buckets c.loop-node.distance ∙ inv.places in
-    rw (c.offer_near.ensures.settled ∙ c.in-Some.ensures.settled c.loop-node.distance inv.filing)
-    (next_smaller graph (g.N.Network.weight net) c.args.base can.few can.short dist heap inv.last c.in-Some.node c.in-Some.d tie long inv.search next)
+    let turn = nearest_turn c.requires.searchable.few c.requires.searchable.short (settled c.loop-node.buckets c.loop-node.distance) (settled_length c.loop-node.buckets c.loop-node.distance ∙ inv.places)
+    inv.search (c.in-Some.ensures.taken c.loop-node.distance inv.filing).0 in
+    rw (c.offer_near.ensures.settled ∙ c.in-Some.ensures.settled c.loop-node.distance inv.filing) turn.smaller
 
 pub loop-node-preserved : goal.loop-node-preserved
 loop-node-preserved g c =
-    let net = c.args.network.now in
-    let graph = g.N.Network.graph net in
-    let can = c.requires.searchable in
     let inv = c.loop-node.invariant in
-    let dist = settled c.loop-node.buckets c.loop-node.distance in
-    let heap = waiting c.loop-node.buckets c.loop-node.distance in
-    let taken = c.in-Some.ensures.taken c.loop-node.distance inv.filing in
-    let (tie, next) = nearest_next heap c.in-Some.node c.in-Some.d taken.0 in
-    let long : length dist ≡ graph.nodes = settled_length c.loop-node.buckets c.loop-node.distance ∙ inv.places in
+    let turn = nearest_turn c.requires.searchable.few c.requires.searchable.short (settled c.loop-node.buckets c.loop-node.distance) (settled_length c.loop-node.buckets c.loop-node.distance ∙ inv.places)
+    inv.search (c.in-Some.ensures.taken c.loop-node.distance inv.filing).0 in
     let settles = c.in-Some.ensures.settled c.loop-node.distance inv.filing in
     let done = rw settles at c.offer_near.ensures.offered in
     record {
@@ -105,8 +74,8 @@ loop-node-preserved g c =
       room = omega (arith, inv.room);
       filing = c.offer_near.ensures.filing;
       last = c.in-Some.d;
-      search = rw (c.offer_near.ensures.settled ∙ settles) (next_keeps graph (g.N.Network.weight net) c.args.base can.few can.short dist heap inv.last c.in-Some.node c.in-Some.d tie long inv.search next
-          (waiting c.take_least.new.self c.loop-node.distance) (waiting c.offer_near.new.buckets c.offer_near.new.distance) taken.1 done);
+      search = rw (c.offer_near.ensures.settled ∙ settles) (turn.keeps (waiting c.take_least.new.self c.loop-node.distance) (waiting c.offer_near.new.buckets c.offer_near.new.distance)
+          (c.in-Some.ensures.taken c.loop-node.distance inv.filing).1 done);
     }
 
 pub returns-clause-settled : goal.returns-clause-settled
