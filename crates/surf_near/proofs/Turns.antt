@@ -11,7 +11,7 @@ use Rattle.surf_base.specs.Tables.{at}
 use Rattle.surf_tree.specs.Searches.{HasKey, IsOffered}
 use Rattle.surf_tree.proofs.SearchWords.{IsSearch}
 use Rattle.surf_tree.proofs.Settling.{no_entry, same_key, search_begins}
-use Rattle.surf_tree.proofs.Offering.{one_less, all_free, turn_inside, turn_smaller, turn_keeps}
+use Rattle.surf_tree.proofs.Offering.{one_less, all_free, IsTurn, least_turn}
 use Rattle.surf_near.specs.declared.tables.Tables.{Tables}
 use Rattle.surf_near.specs.Near.{never}
 use Rattle.surf_near.specs.Searching.{IsChoice, IsTrimmed, OffersNear, IsListed, IsChosenAt, HasRoom, IsBlank, IsFound}
@@ -132,9 +132,12 @@ module _ (g : Graph) (len : ℕ → ℕ) (base radius : ℕ) (small : g.nodes �
     holds : entry_of s.wide v ≡ Some (k, wide_least.1.holds.0)
     holds = wide_least.1.holds.1
 
+    turn : IsTurn g len base dist (tied v s.wide) v k
+    turn = least_turn small short dist s.room.distance search2 least2
+
     -- the node is one, and its distance is short
     pub turn_in : (v < g.nodes) × (k + longest ≤ g.nodes * longest)
-    turn_in = turn_inside g len base small short dist (tied v s.wide) s.last v k 0 s.room.distance search2 least2
+    turn_in = turn.inside
 
     pub turn_free : at dist v ≡ never
     turn_free = (s.search.outside v k wide_least.1.holds.0 holds).unsettled
@@ -146,7 +149,7 @@ module _ (g : Graph) (len : ℕ → ℕ) (base radius : ℕ) (small : g.nodes �
     v_room = omega (arith, turn_in.0, s.room.distance)
 
     pub turn_fewer : count_below g.nodes (λ u. eqb (at (set dist v k) u) never) < count_below g.nodes (λ u. eqb (at dist u) never)
-    turn_fewer = turn_smaller g len base small short dist (tied v s.wide) s.last v k 0 s.room.distance search2 least2
+    turn_fewer = turn.smaller
 
     pub turn_room : t.count < g.nodes
     turn_room = omega (arith, turn_fewer, s.counted)
@@ -205,8 +208,7 @@ module _ (g : Graph) (len : ℕ → ℕ) (base radius : ℕ) (small : g.nodes �
         last = k;
         search = subst (λ (xs : List ℕ). IsSearch g len base (at xs) offered.0 k (count_below g.nodes (λ u. eqb (at xs u) never))) (sym distance_is)
             (search_untied v g len base (at (set dist v k)) offered.0 k (count_below g.nodes (λ u. eqb (at (set dist v k) u) never))
-            (turn_keeps g len base small short dist (tied v s.wide) s.last v k 0 s.room.distance search2 least2
-            (set (tied v s.wide) v None) (tied v offered.0) refl
+            (turn.keeps (set (tied v s.wide) v None) (tied v offered.0) refl
             (offered_tied v g len (at (set dist v k)) k s.wide offered.0 wide_least.1.within offered.1)));
         trimmed = offered.2;
         within = λ u l settled. elim (cases_eq u v) [
