@@ -1,5 +1,5 @@
 -- Trees that are those of shortest walks as far as a distance.
-use Rattle.std.proofs.Common.{◌≡◌, ◌≢◌, ℕ, zero, suc, ◌+◌, ◌<◌, ◌≤◌, List, [], ◌∷◌, ◌++◌, refl, sym, ap, ◌∙◌, arith, inl, inr, eqb, eq-eqb, ne_eqb}
+use Rattle.std.proofs.Common.{◌≡◌, ◌≢◌, ℕ, zero, suc, ◌+◌, ◌<◌, ◌≤◌, List, [], ◌∷◌, ◌++◌, ◌⊎◌, refl, sym, ap, ◌∙◌, arith, inl, inr, eqb, eq-eqb, ne_eqb}
 use Rattle.std.proofs.lemmas.Bool.{cases_eq}
 use Rattle.surf_z2.specs.Parity.{xor}
 use Rattle.surf_graphs.specs.Loops.{way_down, way_up}
@@ -33,60 +33,44 @@ module _ (mesh : Mesh) (lengths : List ℕ) (base far : ℕ) (tree near : Tree) 
       let fall = is_tree.rank_falls v v_in off in
       (is_tree.parent_in v v_in off, omega (arith, fall))
 
-  same_up : (k v : ℕ) → v < mesh.vertices → tree.rank v ≤ far → way_up near k v ≡ way_up tree k v
-  same_up zero v v_in within = refl
-  same_up (suc k) v v_in within = elim (cases_eq v base) [
-    | inl same ↦
-        let here : v ≡ near.root = same ∙ sym is.root in
-        let there : v ≡ tree.root = same ∙ sym short.root in
-        rw (eq-eqb v near.root here, eq-eqb v tree.root there) refl
-    | inr ne ↦
-        let up = above v v_in within ne in
-        let rest = same_up k (tree.parent v) up.0 up.1 in
-        rw (
-          ne_eqb v near.root (λ e. ne (e ∙ is.root)),
-          ne_eqb v tree.root (λ e. ne (e ∙ short.root)),
-          parents v v_in within ne,
-        ) (ap (λ w. tree.parent v ∷ w) rest)
-  ]
-
-  same_down : (k v : ℕ) → v < mesh.vertices → tree.rank v ≤ far → way_down near k v ≡ way_down tree k v
-  same_down zero v v_in within = refl
-  same_down (suc k) v v_in within = elim (cases_eq v base) [
-    | inl same ↦
-        let here : v ≡ near.root = same ∙ sym is.root in
-        let there : v ≡ tree.root = same ∙ sym short.root in
-        rw (eq-eqb v near.root here, eq-eqb v tree.root there) refl
-    | inr ne ↦
-        let up = above v v_in within ne in
-        let rest = same_down k (tree.parent v) up.0 up.1 in
-        rw (
-          ne_eqb v near.root (λ e. ne (e ∙ is.root)),
-          ne_eqb v tree.root (λ e. ne (e ∙ short.root)),
-          parents v v_in within ne,
-        ) (ap (λ w. w ++ v ∷ []) rest)
-  ]
-
   ups : (v : ℕ) → v < mesh.vertices → tree.rank v ≤ far → v ≢ base → near.up v ≡ tree.up v
   ups v v_in within ne =
       is.up v v_in within ne ∙ ap (λ p. edge_number mesh (p, v)) (parents v v_in within ne) ∙ sym (short.up v v_in ne)
 
-  same_way : (k v : ℕ) → v < mesh.vertices → tree.rank v ≤ far → (e : ℕ) → on_way near k v e ≡ on_way tree k v e
-  same_way zero v v_in within e = refl
-  same_way (suc k) v v_in within e = elim (cases_eq v base) [
-    | inl same ↦
-        let here : v ≡ near.root = same ∙ sym is.root in
-        let there : v ≡ tree.root = same ∙ sym short.root in
-        rw (eq-eqb v near.root here, eq-eqb v tree.root there) refl
+  -- a vertex is the root of both, or it has the same parent in both, by the same edge
+  alike : (v : ℕ) → v < mesh.vertices → tree.rank v ≤ far →
+      ((v ≡ near.root) × (v ≡ tree.root))
+      ⊎ ((v ≢ near.root) × (v ≢ tree.root) × (near.parent v ≡ tree.parent v) × (near.up v ≡ tree.up v)
+      × (tree.parent v < mesh.vertices) × (tree.rank (tree.parent v) ≤ far))
+  alike v v_in within = elim (cases_eq v base) [
+    | inl same ↦ inl (same ∙ sym is.root, same ∙ sym short.root)
     | inr ne ↦
         let up = above v v_in within ne in
-        let rest = same_way k (tree.parent v) up.0 up.1 e in
-        rw (
-          ne_eqb v near.root (λ e. ne (e ∙ is.root)),
-          ne_eqb v tree.root (λ e. ne (e ∙ short.root)),
-          parents v v_in within ne,
-          ups v v_in within ne,
-        ) (ap (xor (eqb (tree.up v) e)) rest)
+        inr (λ e. ne (e ∙ is.root), λ e. ne (e ∙ short.root), parents v v_in within ne, ups v v_in within ne, up.0, up.1)
+  ]
+
+  same_up : (k v : ℕ) → v < mesh.vertices → tree.rank v ≤ far → way_up near k v ≡ way_up tree k v
+  same_up zero v v_in within = refl
+  same_up (suc k) v v_in within = elim (alike v v_in within) [
+    | inl at ↦ rw (eq-eqb v near.root at.0, eq-eqb v tree.root at.1) refl
+    | inr off ↦ rw (ne_eqb v near.root off.0, ne_eqb v tree.root off.1, off.2)
+        (ap (λ w. tree.parent v ∷ w) (same_up k (tree.parent v) off.4 off.5))
+  ]
+
+  same_down : (k v : ℕ) → v < mesh.vertices → tree.rank v ≤ far → way_down near k v ≡ way_down tree k v
+  same_down zero v v_in within = refl
+  same_down (suc k) v v_in within = elim (alike v v_in within) [
+    | inl at ↦ rw (eq-eqb v near.root at.0, eq-eqb v tree.root at.1) refl
+    | inr off ↦ rw (ne_eqb v near.root off.0, ne_eqb v tree.root off.1, off.2)
+        (ap (λ w. w ++ v ∷ []) (same_down k (tree.parent v) off.4 off.5))
+  ]
+
+  same_way : (k v : ℕ) → v < mesh.vertices → tree.rank v ≤ far → (e : ℕ) → on_way near k v e ≡ on_way tree k v e
+  same_way zero v v_in within e = refl
+  same_way (suc k) v v_in within e = elim (alike v v_in within) [
+    | inl at ↦ rw (eq-eqb v near.root at.0, eq-eqb v tree.root at.1) refl
+    | inr off ↦ rw (ne_eqb v near.root off.0, ne_eqb v tree.root off.1, off.2, off.3)
+        (ap (xor (eqb (tree.up v) e)) (same_way k (tree.parent v) off.4 off.5 e))
   ]
 
   pub near_loops : HasNearLoops mesh lengths far tree near

@@ -1,6 +1,6 @@
 -- The smallest surface is one.
-use Rattle.std.specs.Prelude.{◌≡◌, ◌≢◌, ℕ, ◌<◌, false, [], ◌∷◌}
-use Rattle.std.proofs.Common.{zero, suc, refl, arith, AllPairs, length}
+use Rattle.std.specs.Prelude.{◌≡◌, ℕ, ◌<◌, false}
+use Rattle.std.proofs.Common.{zero, suc, refl, arith, length}
 use Rattle.std.proofs.lemmas.List.Elements.{All-from_recursion}
 use Rattle.surf_surfaces.specs.Joined.{Joined, here, over}
 use Rattle.surf_surfaces.specs.Mesh.{IsMesh, IsFace, pair}

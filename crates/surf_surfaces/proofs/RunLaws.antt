@@ -1,5 +1,5 @@
 -- Which way a face runs its sides.
-use Rattle.std.proofs.Common.{◌≡◌, ◌≢◌, ℕ, ◌<◌, true, List, ◌⊎◌, get_or, sym, ap, ◌∙◌, inl, inr}
+use Rattle.std.proofs.Common.{◌≡◌, ◌≢◌, ℕ, true, List, ◌⊎◌, get_or, sym, ap, ◌∙◌, inl, inr}
 use Rattle.std.proofs.lemmas.Bool.{cases_order}
 use Rattle.surf_surfaces.specs.Mesh.{IsFace, sides, pair, pair_of, pair_eq}
 use Rattle.surf_surfaces.specs.Surface.{has_side, runs}

@@ -1,5 +1,5 @@
 -- Triangles and squares are faces.
-use Rattle.std.proofs.Common.{◌≡◌, ◌≢◌, ℕ, zero, suc, ◌<◌, List, [], ◌∷◌, arith, AllPairs}
+use Rattle.std.proofs.Common.{◌≢◌, ℕ, zero, suc, ◌<◌, List, [], ◌∷◌, arith, AllPairs}
 use Rattle.std.proofs.lemmas.List.Elements.{All-from_recursion}
 use Rattle.surf_surfaces.specs.Mesh.{IsFace}
 use Rattle.surf_surfaces.proofs.FaceLaws.{Distinct}

@@ -1,17 +1,15 @@
 -- A one-sided chain excludes every turning.
-use Rattle.std.proofs.Common.{◌≡◌, ◌≢◌, ℕ, ◌<◌, Bool, true, false, not, ◌||◌, eqb, List, [], ◌∷◌, ◌⊎◌, length, get_or, refl, sym, ap, ◌∙◌, arith, inl, inr, subst}
-use Rattle.std.proofs.lemmas.Bool.{eqb-true, cases_lt, cases_Bool, cases_order, lt-ltb, le-ltb, or_cases, true≢false, false_from_ne_true}
+use Rattle.std.proofs.Common.{◌≡◌, ◌≢◌, ℕ, ◌<◌, Bool, true, false, not, ◌||◌, eqb, List, [], ◌∷◌, length, refl, sym, ap, ◌∙◌, arith, inl, inr, subst}
+use Rattle.std.proofs.lemmas.Bool.{eqb-true, cases_lt, cases_Bool, lt-ltb, le-ltb, or_cases, true≢false, false_from_ne_true}
 use Rattle.surf_z2.specs.Parity.{xor, odd}
-use Rattle.surf_surfaces.specs.Mesh.{Mesh, IsFace, sides, pair_of, pair_eq, edges}
+use Rattle.surf_surfaces.specs.Mesh.{Mesh, IsFace, pair_of, edges}
 use Rattle.surf_surfaces.specs.Surface.{face_at, has_side, runs, runs_turned, faces_of, HasEdge, IsSurface, IsTurning}
 use Rattle.surf_surfaces.specs.Turning.{Link, next_face, AreLinked, same_ways, OneSidedChainsExcludeTurnings}
 use Rattle.surf_surfaces.specs.Walk.{place_of}
 use Rattle.surf_z2.proofs.ParityLaws.{xor-same, xor_meet}
-use Rattle.surf_surfaces.proofs.PairLaws.{pair_eq-true, pair_eq-same, pair_same}
-use Rattle.surf_surfaces.proofs.EdgeLaws.{list_any_at, list_any_from, among-edges, place_of-among}
-use Rattle.surf_surfaces.proofs.FaceLaws.{pair_comm}
+use Rattle.surf_surfaces.proofs.EdgeLaws.{list_any_from, among-edges, place_of-among}
 use Rattle.surf_surfaces.proofs.SurfaceLaws.{two_faces_of, edge_below}
-use Rattle.surf_surfaces.proofs.RunLaws.{runs_side, one_way, some_way}
+use Rattle.surf_surfaces.proofs.RunLaws.{one_way, some_way}
 
 runs_back : (n : ℕ) (face : List ℕ) → IsFace n face → (p : ℕ × ℕ) → p.0 < p.1 → has_side p face ≡ true →
     runs (p.1, p.0) face ≡ not (runs p face)
