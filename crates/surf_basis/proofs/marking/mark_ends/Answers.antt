@@ -38,10 +38,10 @@ loop-e-preserved c =
           let is = w.ends-low.ensures ∙ ap (ends mesh) at in
           let e_in : n < edge_count mesh = omega (arith, c.loop-e-test.true, c.edges-e-end.ensures.count) in
           let signed : slice_index c.args.signatures.now.signatures n ≢ 0 = λ none.
-              let zero : c.signature.result ≡ 0 = c.signature.ensures.signature ∙ ap (slice_index c.args.signatures.now.signatures) at ∙ none in
-              let t = c.is_empty.ensures.empty in
-              let u = w.if-not-is_empty.true in
-              grind (arith, nat_tests) in
+          let zero : c.signature.result ≡ 0 = c.signature.ensures.signature ∙ ap (slice_index c.args.signatures.now.signatures) at ∙ none in
+          let t = c.is_empty.ensures.empty in
+          let u = w.if-not-is_empty.true in
+          grind (arith, nat_tests) in
           rw w.marked-is (record {
             count = w.mark_one.ensures.count ∙ inv.count;
             ends = λ e l some. elim (cases_lt e n) [
@@ -53,9 +53,14 @@ loop-e-preserved c =
             ];
             only = λ v on. elim (w.mark_one.ensures.only v on) [
               | inl was ↦ inv.only v was
-              | inr new ↦ inr (n, e_in, signed, subst (λ (p : ℕ × ℕ). (p.0 ≡ v) ⊎ (p.1 ≡ v)) is
-                  (subst (λ (u : ℕ). (w.ends-low.result.0 ≡ u) ⊎ (w.ends-low.result.1 ≡ u)) (sym new)
-                  (second_of_both w.ends-low.result.0 w.ends-low.result.1 w.by_count-less.result w.by_count-less.ensures)))
+              | inr new ↦ inr (
+                n,
+                e_in,
+                signed,
+                subst (λ (p : ℕ × ℕ). (p.0 ≡ v) ⊎ (p.1 ≡ v)) is
+                    (subst (λ (u : ℕ). (w.ends-low.result.0 ≡ u) ⊎ (w.ends-low.result.1 ≡ u)) (sym new)
+                    (second_of_both w.ends-low.result.0 w.ends-low.result.1 w.by_count-less.result w.by_count-less.ensures)),
+              )
             ];
           })
       | else-not-is_empty w ↦
