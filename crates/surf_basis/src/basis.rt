@@ -6,8 +6,8 @@ ghost use Rattle.surf_surfaces.specs.Homology.{IsFullCount};
 ghost use Rattle.surf_surfaces.specs.FewBases.{AreBases, MeetsAll};
 ghost use Rattle.surf_surfaces.specs.ChoiceLaws.{LeastSimpleBasis};
 ghost use Rattle.surf_basis.specs.Cycles.{first_of, IsFirstCandidate, IsShortestCycle, IsTheBasis, as_loops};
-ghost use Rattle.surf_basis.specs.Found.{is_among};
-ghost use Rattle.surf_basis.specs.Kept.{AreKeptOver};
+ghost use Rattle.surf_basis.specs.Found.{is_among, surface_of};
+ghost use Rattle.surf_basis.specs.Kept.{AreKeptOver, HavePlacesOfBasis};
 ghost use Rattle.surf_basis.specs.Marks.{HasBases};
 ghost use Rattle.surf_basis.specs.Signing.{AreSigned};
 ghost use Rattle.surf_base.specs.declared.limits.TheConstants.{MAX_LOOPS};
@@ -58,6 +58,32 @@ fn choose(
     Ok(())
 }
 
+// The basis that is chosen, from loops among whose lengths and least bases are those of its loops.
+fn basis_from(
+    alloc: Global,
+    surface: &SignedSurface<'_>,
+    finder: &mut Finder<'_>,
+    found: &[Signed],
+    count: usize,
+) -> Result<Vec<Cycle>, NoMemory>
+    requires finder { finder.old ≡ surface_of surface.now }
+    requires lengths { length surface.now.lengths.now ≡ edge_count surface.now.mesh.now }
+    requires signed { AreSigned surface.now.mesh.now surface.now.signatures.now count }
+    requires inside { All (λ s. s.candidate.base < surface.now.mesh.now.vertices) found.now }
+    requires places { HavePlacesOfBasis surface.now.mesh.now surface.now.lengths.now found.now }
+    requires few { count ≤ MAX_LOOPS }
+    ensures chosen { IfOk result (λ cycles. IsTheBasis surface.now.mesh.now surface.now.lengths.now
+        (as_loops cycles.items)) }
+{
+    surface.mesh.law_of_surface();
+    surface.lengths.law_of_lengths();
+    let bases = bases_of(alloc, surface.mesh, found)?;
+    let mut least = Choice::make(alloc, count as u32)?;
+    let mut choice = Choice::make(alloc, count as u32)?;
+    choose(alloc, finder, found, &bases, &mut least, &mut choice)?;
+    cycles_of(alloc, finder, choice.kept())
+}
+
 // The basis that is chosen, on a surface with signatures, where as many cycles as given make it. It
 // is found from vertices of which every closed walk that isn't null meets one.
 fn basis_over(
@@ -75,16 +101,9 @@ fn basis_over(
     ensures chosen { IfOk result (λ cycles. IsTheBasis surface.now.mesh.now surface.now.lengths.now
         (as_loops cycles.items)) }
 {
-    surface.mesh.law_of_surface();
-    surface.lengths.law_of_lengths();
     let mut finder = Finder::make(alloc, surface)?;
     let search = sufficient_loops(alloc, surface, vertices, &mut finder, count)?;
-    let found = search.kept();
-    let bases = bases_of(alloc, surface.mesh, found)?;
-    let mut least = Choice::make(alloc, count as u32)?;
-    let mut choice = Choice::make(alloc, count as u32)?;
-    choose(alloc, &mut finder, found, &bases, &mut least, &mut choice)?;
-    cycles_of(alloc, &mut finder, choice.kept())
+    basis_from(alloc, surface, &mut finder, search.kept(), count)
 }
 
 /// The basis that is chosen: two less the characteristic independent closed walks, each a simple

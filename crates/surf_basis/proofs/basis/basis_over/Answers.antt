@@ -1,103 +1,19 @@
-use Rattle.std.proofs.Common.{◌≡◌, ◌<◌, ◌≤◌, ◌^◌, ℕ, List, length, All, sym, ap, ◌∙◌, subst, arith}
-use Rattle.std.proofs.lemmas.Result.{IfOk-weaker}
-use Rattle.surf_lengths.proofs.Positive.{lengths_positive}
-use Rattle.surf_surfaces.specs.Surface.{edge_count, IsSurface}
-use Rattle.surf_surfaces.specs.Walk.{ArePositive}
-use Rattle.surf_surfaces.specs.FewBases.{AreBases}
-use Rattle.surf_choice.specs.Candidates.{Chosen}
-use Rattle.surf_basis.specs.Based.{IsMeasured}
-use Rattle.surf_basis.specs.Candidates.{AreCyclesOf}
-use Rattle.surf_basis.specs.Found.{SurfaceTables}
-use Rattle.surf_basis.specs.Signing.{AreSigned}
-use Rattle.surf_basis.specs.Kept.{HavePlacesOfBasis, AreKeptOver}
-use Rattle.surf_basis.specs.Marks.{HasBases}
-use Rattle.surf_basis.specs.Cycles.{as_loops, IsTheBasis}
+use Rattle.std.proofs.Common.{◌<◌, All, sym, ◌∙◌, subst}
+use Rattle.surf_basis.specs.Kept.{HavePlacesOfBasis}
 use Rattle.surf_basis.proofs.Looped.{signs_long}
-use Rattle.surf_basis.proofs.Whole.{all_measured, the_basis}
 use Rattle.surf_basis.proofs.basis.basis_over.Goals as goal
 
 pub make-requires-clause-signatures : goal.make-requires-clause-signatures
 make-requires-clause-signatures c =
     signs_long c.args.surface.now.mesh.now c.args.surface.now.signatures.now c.args.count c.requires.signed
 
-pub bases_of-requires : goal.bases_of-requires
-bases_of-requires c = record {
-  inside = subst (λ ks. All (λ k. k.candidate.base < c.args.surface.now.mesh.now.vertices) ks) (sym c.kept-found.ensures.kept) c.in_ok-search.ensures.inside;
-}
+pub basis_from-requires-clause-finder : goal.basis_from-requires-clause-finder
+basis_from-requires-clause-finder c = c.sufficient_loops.ensures.same ∙ c.in_ok-finder.ensures.made
 
-pub choose-requires-clause-signed : goal.choose-requires-clause-signed
-choose-requires-clause-signed c =
-    let wide : c.in_ok-choice.choice.width ≡ c.args.count = ap (λ (k : Chosen). k.width) c.in_ok-choice.ensures in
-    let is = c.sufficient_loops.ensures.same ∙ c.in_ok-finder.ensures.made in
-    subst (λ (f : SurfaceTables). AreSigned f.mesh f.signs c.in_ok-choice.choice.width) (sym is)
-    (subst (AreSigned c.args.surface.now.mesh.now c.args.surface.now.signatures.now) (sym wide) c.requires.signed)
+pub basis_from-requires-clause-inside : goal.basis_from-requires-clause-inside
+basis_from-requires-clause-inside c =
+    subst (λ ks. All (λ k. k.candidate.base < c.args.surface.now.mesh.now.vertices) ks) (sym c.kept.ensures.kept) c.in_ok-search.ensures.inside
 
-pub choose-requires-clause-width : goal.choose-requires-clause-width
-choose-requires-clause-width c =
-    ap (λ (k : Chosen). k.width) c.in_ok-least.ensures ∙ sym (ap (λ (k : Chosen). k.width) c.in_ok-choice.ensures)
-
-pub choose-requires-clause-positive : goal.choose-requires-clause-positive
-choose-requires-clause-positive c =
-    let mesh = c.args.surface.now.mesh.now in
-    let lengths = c.args.surface.now.lengths.now in
-    let is = c.sufficient_loops.ensures.same ∙ c.in_ok-finder.ensures.made in
-    subst (λ (f : SurfaceTables). IsSurface f.mesh × ArePositive f.mesh f.lengths) (sym is)
-    (c.law_of_surface.ensures.surface, lengths_positive mesh lengths c.law_of_lengths.ensures.lengths c.requires.lengths)
-
-pub choose-requires-clause-few : goal.choose-requires-clause-few
-choose-requires-clause-few c =
-    let is = c.sufficient_loops.ensures.same ∙ c.in_ok-finder.ensures.made in
-    let law = c.law_of_surface.ensures in
-    subst (λ (f : SurfaceTables). (f.mesh.vertices < 2 ^ 32) × (edge_count f.mesh ≤ 2 ^ 32)) (sym is)
-    (law.vertices, omega (arith, law.edges))
-
-pub choose-requires-clause-bases : goal.choose-requires-clause-bases
-choose-requires-clause-bases c =
-    let is = c.sufficient_loops.ensures.same ∙ c.in_ok-finder.ensures.made in
-    subst (λ (f : SurfaceTables). AreBases f.mesh c.deref.result.now) (sym is)
-    (subst (AreBases c.args.surface.now.mesh.now) (sym c.deref.ensures.value) c.in_ok-bases.ensures.increasing)
-
-pub choose-requires-clause-has : goal.choose-requires-clause-has
-choose-requires-clause-has c = subst (λ (xs : List ℕ). HasBases xs c.kept-found.result.now) (sym c.deref.ensures.value) c.in_ok-bases.ensures.bases
-
-pub cycles_of-requires : goal.cycles_of-requires
-cycles_of-requires c =
-    let surface = c.args.surface.now in
-    let mesh = surface.mesh.now in
-    let lengths = surface.lengths.now in
-    let positive = lengths_positive mesh lengths c.law_of_lengths.ensures.lengths c.requires.lengths in
-    let is = c.sufficient_loops.ensures.same ∙ c.in_ok-finder.ensures.made in
-    let now = c.choose.ensures.same ∙ is in
-    let over : AreKeptOver mesh lengths surface.signatures.now c.kept-found.result.now c.deref.result.now (length c.deref.result.now) c.choose.new.choice.kept =
-    subst (λ (f : SurfaceTables). AreKeptOver f.mesh f.lengths f.signs c.kept-found.result.now c.deref.result.now (length c.deref.result.now) c.choose.new.choice.kept) is
-    c.in_ok-choose.ensures.kept in
-    record {
-      measured = subst (λ (f : SurfaceTables). All (λ s. IsMeasured f.mesh f.lengths s.candidate) c.kept.result.now) (sym now)
-          (all_measured mesh lengths c.law_of_surface.ensures.surface positive surface.signatures.now c.args.count c.requires.signed c.kept-found.result.now
-          c.deref.result.now (length c.deref.result.now) c.choose.new.choice.kept c.kept.result.now over c.kept.ensures.kept);
-    }
-
-pub returns : goal.returns
-returns c =
-    let args = c.args.surface.now in
-    let mesh = args.mesh.now in
-    let lengths = args.lengths.now in
-    let surface = c.law_of_surface.ensures.surface in
-    let positive = lengths_positive mesh lengths c.law_of_lengths.ensures.lengths c.requires.lengths in
-    let found = c.kept-found.result.now in
-    let kept = c.kept.result.now in
-    let is = c.sufficient_loops.ensures.same ∙ c.in_ok-finder.ensures.made in
-    let now = c.choose.ensures.same ∙ is in
-    let over : AreKeptOver mesh lengths args.signatures.now found c.deref.result.now (length c.deref.result.now) c.choose.new.choice.kept =
-    subst (λ (f : SurfaceTables). AreKeptOver f.mesh f.lengths f.signs found c.deref.result.now (length c.deref.result.now) c.choose.new.choice.kept) is
-    c.in_ok-choose.ensures.kept in
-    let has = subst (λ (xs : List ℕ). HasBases xs found) (sym c.deref.ensures.value) c.in_ok-bases.ensures.bases in
-    let have = subst (HavePlacesOfBasis mesh lengths) (sym c.kept-found.ensures.kept) c.in_ok-search.ensures.places in
-    record {
-      chosen = IfOk-weaker c.cycles_of.result
-          (λ cycles. AreCyclesOf c.choose.new.finder.mesh c.choose.new.finder.lengths kept cycles.items) (λ cycles. IsTheBasis mesh lengths (as_loops cycles.items))
-          (λ cycles are. the_basis mesh lengths surface positive args.signatures.now c.args.count c.requires.signed found c.deref.result.now
-          c.choose.new.choice.kept kept cycles.items has have over c.kept.ensures.kept
-          (subst (λ (f : SurfaceTables). AreCyclesOf f.mesh f.lengths kept cycles.items) now are))
-          c.cycles_of.ensures.cycles;
-    }
+pub basis_from-requires-clause-places : goal.basis_from-requires-clause-places
+basis_from-requires-clause-places c =
+    subst (HavePlacesOfBasis c.args.surface.now.mesh.now c.args.surface.now.lengths.now) (sym c.kept.ensures.kept) c.in_ok-search.ensures.places

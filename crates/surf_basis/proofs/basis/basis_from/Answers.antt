@@ -1,0 +1,92 @@
+use Rattle.std.proofs.Common.{◌≡◌, ◌<◌, ◌≤◌, ◌^◌, ℕ, List, length, All, sym, ap, ◌∙◌, subst, arith}
+use Rattle.std.proofs.lemmas.Result.{IfOk-weaker}
+use Rattle.surf_lengths.proofs.Positive.{lengths_positive}
+use Rattle.surf_surfaces.specs.Surface.{edge_count, IsSurface}
+use Rattle.surf_surfaces.specs.Walk.{ArePositive}
+use Rattle.surf_surfaces.specs.FewBases.{AreBases}
+use Rattle.surf_choice.specs.Candidates.{Chosen}
+use Rattle.surf_basis.specs.Based.{IsMeasured}
+use Rattle.surf_basis.specs.Candidates.{AreCyclesOf}
+use Rattle.surf_basis.specs.Found.{SurfaceTables}
+use Rattle.surf_basis.specs.Signing.{AreSigned}
+use Rattle.surf_basis.specs.Kept.{HavePlacesOfBasis, AreKeptOver}
+use Rattle.surf_basis.specs.Marks.{HasBases}
+use Rattle.surf_basis.specs.Cycles.{as_loops, IsTheBasis}
+use Rattle.surf_basis.proofs.Whole.{all_measured, the_basis}
+use Rattle.surf_basis.proofs.basis.basis_from.Goals as goal
+
+pub choose-requires-clause-signed : goal.choose-requires-clause-signed
+choose-requires-clause-signed c =
+    let wide : c.in_ok-choice.choice.width ≡ c.args.count = ap (λ (k : Chosen). k.width) c.in_ok-choice.ensures in
+    let is = c.requires.finder in
+    subst (λ (f : SurfaceTables). AreSigned f.mesh f.signs c.in_ok-choice.choice.width) (sym is)
+    (subst (AreSigned c.args.surface.now.mesh.now c.args.surface.now.signatures.now) (sym wide) c.requires.signed)
+
+pub choose-requires-clause-width : goal.choose-requires-clause-width
+choose-requires-clause-width c =
+    ap (λ (k : Chosen). k.width) c.in_ok-least.ensures ∙ sym (ap (λ (k : Chosen). k.width) c.in_ok-choice.ensures)
+
+pub choose-requires-clause-positive : goal.choose-requires-clause-positive
+choose-requires-clause-positive c =
+    let mesh = c.args.surface.now.mesh.now in
+    let lengths = c.args.surface.now.lengths.now in
+    let is = c.requires.finder in
+    subst (λ (f : SurfaceTables). IsSurface f.mesh × ArePositive f.mesh f.lengths) (sym is)
+    (c.law_of_surface.ensures.surface, lengths_positive mesh lengths c.law_of_lengths.ensures.lengths c.requires.lengths)
+
+pub choose-requires-clause-few : goal.choose-requires-clause-few
+choose-requires-clause-few c =
+    let is = c.requires.finder in
+    let law = c.law_of_surface.ensures in
+    subst (λ (f : SurfaceTables). (f.mesh.vertices < 2 ^ 32) × (edge_count f.mesh ≤ 2 ^ 32)) (sym is)
+    (law.vertices, omega (arith, law.edges))
+
+pub choose-requires-clause-bases : goal.choose-requires-clause-bases
+choose-requires-clause-bases c =
+    let is = c.requires.finder in
+    subst (λ (f : SurfaceTables). AreBases f.mesh c.deref.result.now) (sym is)
+    (subst (AreBases c.args.surface.now.mesh.now) (sym c.deref.ensures.value) c.in_ok-bases.ensures.increasing)
+
+pub choose-requires-clause-has : goal.choose-requires-clause-has
+choose-requires-clause-has c = subst (λ (xs : List ℕ). HasBases xs c.args.found.now) (sym c.deref.ensures.value) c.in_ok-bases.ensures.bases
+
+pub cycles_of-requires : goal.cycles_of-requires
+cycles_of-requires c =
+    let surface = c.args.surface.now in
+    let mesh = surface.mesh.now in
+    let lengths = surface.lengths.now in
+    let positive = lengths_positive mesh lengths c.law_of_lengths.ensures.lengths c.requires.lengths in
+    let is = c.requires.finder in
+    let now = c.choose.ensures.same ∙ is in
+    let over : AreKeptOver mesh lengths surface.signatures.now c.args.found.now c.deref.result.now (length c.deref.result.now) c.choose.new.choice.kept =
+    subst (λ (f : SurfaceTables). AreKeptOver f.mesh f.lengths f.signs c.args.found.now c.deref.result.now (length c.deref.result.now) c.choose.new.choice.kept) is
+    c.in_ok-choose.ensures.kept in
+    record {
+      measured = subst (λ (f : SurfaceTables). All (λ s. IsMeasured f.mesh f.lengths s.candidate) c.kept.result.now) (sym now)
+          (all_measured mesh lengths c.law_of_surface.ensures.surface positive surface.signatures.now c.args.count c.requires.signed c.args.found.now
+          c.deref.result.now (length c.deref.result.now) c.choose.new.choice.kept c.kept.result.now over c.kept.ensures.kept);
+    }
+
+pub returns : goal.returns
+returns c =
+    let args = c.args.surface.now in
+    let mesh = args.mesh.now in
+    let lengths = args.lengths.now in
+    let surface = c.law_of_surface.ensures.surface in
+    let positive = lengths_positive mesh lengths c.law_of_lengths.ensures.lengths c.requires.lengths in
+    let found = c.args.found.now in
+    let kept = c.kept.result.now in
+    let is = c.requires.finder in
+    let now = c.choose.ensures.same ∙ is in
+    let over : AreKeptOver mesh lengths args.signatures.now found c.deref.result.now (length c.deref.result.now) c.choose.new.choice.kept =
+    subst (λ (f : SurfaceTables). AreKeptOver f.mesh f.lengths f.signs found c.deref.result.now (length c.deref.result.now) c.choose.new.choice.kept) is
+    c.in_ok-choose.ensures.kept in
+    let has = subst (λ (xs : List ℕ). HasBases xs found) (sym c.deref.ensures.value) c.in_ok-bases.ensures.bases in
+    record {
+      chosen = IfOk-weaker c.cycles_of.result
+          (λ cycles. AreCyclesOf c.choose.new.finder.mesh c.choose.new.finder.lengths kept cycles.items) (λ cycles. IsTheBasis mesh lengths (as_loops cycles.items))
+          (λ cycles are. the_basis mesh lengths surface positive args.signatures.now c.args.count c.requires.signed found c.deref.result.now
+          c.choose.new.choice.kept kept cycles.items has c.requires.places over c.kept.ensures.kept
+          (subst (λ (f : SurfaceTables). AreCyclesOf f.mesh f.lengths kept cycles.items) now are))
+          c.cycles_of.ensures.cycles;
+    }
