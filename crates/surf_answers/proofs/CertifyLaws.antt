@@ -1,5 +1,6 @@
 -- Certificates of the choice as answers.
-use Rattle.std.proofs.Common.{◌≡◌, ℕ, ◌≤◌, ◌++◌, List, length, ap, ◌∙◌, subst}
+use Rattle.std.proofs.Common.{◌≡◌, ℕ, ◌≤◌, ◌++◌, List, length, Result, Ok, Err, ap, ◌∙◌, subst}
+use Rattle.std.specs.Result.{IfOk}
 use Rattle.surf_base.specs.declared.limits.LimitKind.TheVariants.{Answer}
 use Rattle.surf_basis.specs.Certs.{IsTheCert}
 use Rattle.surf_cert.specs.Written.{loop_text, basis_text}
@@ -15,7 +16,7 @@ use Rattle.surf_validity.specs.Rows.{LoopCert, BasisCert}
 use Rattle.surf_validity.specs.Bases.{IsValidBasis}
 use Rattle.surf_validity.specs.Chosen.{chosen_cert}
 use Rattle.surf_validity.specs.Valid.{IsValidLoops}
-use Rattle.surf_answers.specs.Certificates.{GivesLoopCert, GivesBasisCert}
+use Rattle.surf_answers.specs.Certificates.{IsTheLoopCert, GivesLoopCert, GivesBasisCert}
 use Rattle.surf_texts.specs.Limits.{beyond}
 use Rattle.surf_texts.specs.Outcome.{Outcome, answers}
 use Rattle.surf_texts.specs.Refusals.{cause_of, of_page}
@@ -23,12 +24,23 @@ use Rattle.surf_answers.specs.Says.{Says}
 use Rattle.surf_answers.specs.Tells.{Why}
 use Rattle.surf_answers.proofs.Saying.{blank, says_whole, says_beyond, why_overfilled}
 
-pub gives_loop_cert : (mesh : Mesh) (lengths : List ℕ) (base : ℕ) (t : LoopTables) (cert : LoopCert) → IsGreedy mesh lengths base t →
-    cert ≡ chosen_cert mesh (trees_of t) → IsValidLoops mesh lengths cert → (o : Outcome) → Says (loop_text cert) o → GivesLoopCert mesh lengths base o
-gives_loop_cert mesh lengths base t cert greedy is valid o says = record {
+-- the certificate of the loops that a desk has, where a call gives one
+pub is_the_loop_cert : {E : Type 0} (mesh : Mesh) (lengths : List ℕ) (base : ℕ) (t : LoopTables) (result : Result LoopCert E) →
+    IsGreedy mesh lengths base t → IfOk result (λ cert. cert ≡ chosen_cert mesh (trees_of t)) → IfOk result (IsValidLoops mesh lengths) →
+    IfOk result (IsTheLoopCert mesh lengths base)
+is_the_loop_cert mesh lengths base t (Ok cert) greedy is valid = record {
   found = record { trees = trees_of t; chosen = greedy.chosen; least = greedy.least };
-  valid = subst (λ (x : LoopCert). IsValidLoops mesh lengths x) is valid;
-  says = subst (λ (x : LoopCert). Says (loop_text x) o) is says;
+  cert_is = is;
+  valid = valid;
+}
+is_the_loop_cert mesh lengths base t (Err fault) greedy is valid = tt
+
+pub gives_loop_cert : (mesh : Mesh) (lengths : List ℕ) (base : ℕ) (cert : LoopCert) → IsTheLoopCert mesh lengths base cert → (o : Outcome) →
+    Says (loop_text cert) o → GivesLoopCert mesh lengths base o
+gives_loop_cert mesh lengths base cert is o says = record {
+  found = is.found;
+  valid = subst (λ (x : LoopCert). IsValidLoops mesh lengths x) is.cert_is is.valid;
+  says = subst (λ (x : LoopCert). Says (loop_text x) o) is.cert_is says;
 }
 
 pub gives_basis_cert : (mesh : Mesh) (lengths : List ℕ) (cert : BasisCert) → IsSurface mesh → AreLengths lengths →

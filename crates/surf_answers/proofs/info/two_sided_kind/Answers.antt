@@ -1,4 +1,4 @@
-use Rattle.std.proofs.Common.{◌*◌, ◌/◌, arith}
+use Rattle.std.proofs.Common.{◌/◌, arith}
 use Rattle.std.proofs.lemmas.Grind.{common_steps}
 use Rattle.surf_turnings.proofs.GenusLaws.{genus_is_full_count}
 use Rattle.surf_answers.specs.Info.{HasGenus}
