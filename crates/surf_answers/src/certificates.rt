@@ -18,8 +18,8 @@ use surf_records::LoopCert;
 use surf_text::Page;
 use surf_texts::Refused;
 
-// The certificate of the loops that are chosen at a base. What it is made of isn't kept, so that its
-// memory is free for the text.
+// The certificate of the loops that are chosen at a base. What it is made of isn't kept, so that
+// its memory is free for the text.
 fn chosen_loop_cert(
     alloc: Global,
     mesh: &HalfMesh,

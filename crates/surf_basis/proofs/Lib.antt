@@ -15,6 +15,7 @@ pub mod Told
 pub mod Passed
 pub mod Placed
 pub mod Marked
+pub mod Degrees
 pub mod Barred
 pub mod Sufficient
 pub mod Firsts

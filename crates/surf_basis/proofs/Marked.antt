@@ -13,7 +13,7 @@ use Rattle.surf_surfaces.specs.FewBases.{AreBases}
 use Rattle.surf_loops.proofs.Turned.{ends_in}
 use Rattle.surf_cotree.specs.Tables.{CotreeTables}
 use Rattle.surf_choice.specs.declared.candidate.Signed.{Signed}
-use Rattle.surf_basis.specs.Marks.{AreMarkedIn, HasMarkedEnd, HasBases, IsSignedEnd, AreSignedEnds}
+use Rattle.surf_basis.specs.Marks.{AreMarkedIn, HasMarkedEnd, HasBases, HasSignedEnds}
 use Rattle.surf_basis.specs.Passing.{is_marked}
 
 pub marked_none : (marked : List Bool) (list : List ℕ) → list ≡ [] → AreMarkedIn marked 0 list
@@ -115,13 +115,6 @@ either_marked marked low high p or_turned one = elim or_turned [
 pub ends_inside : (mesh : Mesh) → IsSurface mesh → (e : ℕ) → e < edge_count mesh → (p : ℕ × ℕ) → p ≡ ends mesh e → (p.0 < mesh.vertices) × (p.1 < mesh.vertices)
 ends_inside mesh surface e e_in p is = subst (λ (q : ℕ × ℕ). (q.0 < mesh.vertices) × (q.1 < mesh.vertices)) (sym is) (ends_in mesh surface e e_in)
 
--- the second of them is one of the first pair
-pub second_of_both : (low high : ℕ) (p : ℕ × ℕ) → (p ≡ (low, high)) ⊎ (p ≡ (high, low)) → (low ≡ p.1) ⊎ (high ≡ p.1)
-second_of_both low high p or_turned = elim or_turned [
-  | inl same ↦ inr (sym (ap (λ (q : ℕ × ℕ). q.1) same))
-  | inr turned ↦ inl (sym (ap (λ (q : ℕ × ℕ). q.1) turned))
-]
-
 -- both of them are below a bound
 pub either_below : (bound low high : ℕ) (p : ℕ × ℕ) → (p ≡ (low, high)) ⊎ (p ≡ (high, low)) → low < bound → high < bound → (p.0 < bound) × (p.1 < bound)
 either_below bound low high p or_turned a b = elim or_turned [
@@ -174,21 +167,24 @@ listed_marked marked table list old new items same h is permuted last i d l =
     subst (λ (ms : List Bool). IsTrue (is_marked ms (get_or items i d))) same
     (subst (λ v. IsTrue (is_marked table v)) (get_or_default list k 0 _ k_in ∙ at) (h.only k k_in))
 
+-- what all that is marked is, all that is listed is, in whatever order
+pub each_listed : (P : ℕ → Type 0) (marked table : List Bool) (list old new items : List ℕ) → table ≡ marked →
+    AreMarkedIn table (length table) list → old ≡ list → IsPermutation old new → items ≡ new →
+    ((v : ℕ) → IsTrue (is_marked marked v) → P v) → All P items
+each_listed P marked table list old new items same h is permuted last each k d l =
+    each (get_or items k d) (listed_marked marked table list old new items same h is permuted last k d l)
+
 -- the ends that are marked are listed, in whatever order
 pub ends_listed : (mesh : Mesh) → IsSurface mesh → (s : CotreeTables) (marked table : List Bool) (list old new items : List ℕ) →
     table ≡ marked → length marked ≡ mesh.vertices →
     ((e : ℕ) → e < edge_count mesh → slice_index s.signatures e ≢ 0 → HasMarkedEnd mesh marked e) →
-    ((v : ℕ) → IsTrue (is_marked marked v) → IsSignedEnd mesh s v) → AreMarkedIn table (length table) list → old ≡ list →
-    IsPermutation old new → items ≡ new → AreSignedEnds mesh s items
-ends_listed mesh surface s marked table list old new items same n on signed h is permuted last = record {
-  each = λ e e_in some.
-      let inside = ends_in mesh surface e e_in in
-      elim (on e e_in some) [
-        | inl low ↦ inl (listed (ends mesh e).0 inside.0 low)
-        | inr high ↦ inr (listed (ends mesh e).1 inside.1 high)
-      ];
-  only = λ k d l. signed (get_or items k d) (listed_marked marked table list old new items same h is permuted last k d l);
-}
+    AreMarkedIn table (length table) list → old ≡ list → IsPermutation old new → items ≡ new → HasSignedEnds mesh s items
+ends_listed mesh surface s marked table list old new items same n on h is permuted last e e_in some =
+    let inside = ends_in mesh surface e e_in in
+    elim (on e e_in some) [
+      | inl low ↦ inl (listed (ends mesh e).0 inside.0 low)
+      | inr high ↦ inr (listed (ends mesh e).1 inside.1 high)
+    ]
   where
     listed : (u : ℕ) → u < mesh.vertices → slice_index_or marked u false ≡ true → Contains items u
     listed u u_in = marks_listed marked table list old new items same h is permuted last u (omega (arith, u_in, n))

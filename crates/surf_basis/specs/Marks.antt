@@ -1,9 +1,10 @@
 -- Vertices that are marked in a table.
 use Rattle.std.specs.Prelude.{ℕ, ◌≡◌, ◌≢◌, ◌<◌, ◌⊎◌, true, false, Bool, List, All, Contains, length, slice_index}
-use Rattle.std.specs.Prelude.{slice_index_or}
+use Rattle.std.specs.Prelude.{slice_index_or, not, nat_lt, ◌==◌, ◌&&◌, if◌then◌else◌}
 use Rattle.std.specs.Int.{w32, reverse_bits}
+use Rattle.surf_z2.specs.Parity.{count_below}
 use Rattle.surf_surfaces.specs.Mesh.{Mesh}
-use Rattle.surf_surfaces.specs.Surface.{edge_count, ends}
+use Rattle.surf_surfaces.specs.Surface.{edge_count, ends, touches}
 use Rattle.surf_cotree.specs.Tables.{CotreeTables}
 use Rattle.surf_choice.specs.declared.candidate.Signed.{Signed}
 
@@ -29,15 +30,34 @@ HasSignedEnds mesh s list =
     (e : ℕ) → e < edge_count mesh → slice_index s.signatures e ≢ 0 →
     Contains list (ends mesh e).0 ⊎ Contains list (ends mesh e).1
 
--- the vertex is an end of an edge whose signature isn't empty
-abbrev pub IsSignedEnd : Mesh → CotreeTables → ℕ → Type 0
-IsSignedEnd mesh s v = (e : ℕ) × (e < edge_count mesh) × (slice_index s.signatures e ≢ 0)
-    × (((ends mesh e).0 ≡ v) ⊎ ((ends mesh e).1 ≡ v))
+-- whether an edge has a signature that isn't empty, and the vertex
+abbrev pub is_signed_at : Mesh → CotreeTables → ℕ → ℕ → Bool
+is_signed_at mesh s v e = not (slice_index s.signatures e == 0) && touches v (ends mesh e)
 
--- a list has an end of each edge whose signature isn't empty, and no other vertices
+-- how many edges with signatures that aren't empty there are at a vertex
+abbrev pub signed_degree : Mesh → CotreeTables → ℕ → ℕ
+signed_degree mesh s v = count_below (edge_count mesh) (is_signed_at mesh s v)
+
+-- how many of the first n edges are such edges at each vertex
+abbrev pub AreDegreesTo : Mesh → CotreeTables → ℕ → List ℕ → Type 0
+AreDegreesTo mesh s n degrees =
+    (v : ℕ) → v < mesh.vertices → slice_index degrees v ≡ count_below n (is_signed_at mesh s v)
+
+-- the two vertices, that of the lesser degree first, and as they are where both have the same
+abbrev pub by_degree : (ℕ → ℕ) → ℕ × ℕ → ℕ × ℕ
+by_degree degree p = if nat_lt (degree p.1) (degree p.0) then (p.1, p.0) else p
+
+-- of the ends of an edge whose signature isn't empty, the vertex is that of the greater degree: the greater end, where
+-- both have the same
+abbrev pub IsBusierEnd : Mesh → CotreeTables → (ℕ → ℕ) → ℕ → Type 0
+IsBusierEnd mesh s degree v = (e : ℕ) × (e < edge_count mesh) × (slice_index s.signatures e ≢ 0)
+    × ((by_degree degree (ends mesh e)).1 ≡ v)
+
+-- a list has an end of each edge whose signature isn't empty, and no other vertices: each is the end of such an edge
+-- at which there are more of them (`IsBusierEnd`)
 pub record AreSignedEnds (mesh : Mesh) (s : CotreeTables) (list : List ℕ) : Type 0 where
   pub each : HasSignedEnds mesh s list
-  pub only : All (IsSignedEnd mesh s) list
+  pub only : All (IsBusierEnd mesh s (signed_degree mesh s)) list
 
 -- the number that the 32 bits of a number write when they are read backwards
 abbrev pub bits_backwards : ℕ → ℕ

@@ -1,12 +1,12 @@
 //! Vertices that are marked in a table, and ends of the edges whose signatures aren't empty.
-ghost use Rattle.std.specs.Prelude.{◌≡◌, ◌≢◌, ◌<◌, ◌⊎◌, ◌^◌, ℕ, false, true, All, Contains, IsPermutation, IfOk};
-ghost use Rattle.std.specs.Prelude.{IsTrue};
-ghost use Rattle.std.specs.Prelude.{length, slice_index, slice_index_or};
+ghost use Rattle.std.specs.Prelude.{◌≡◌, ◌≢◌, ◌<◌, ◌⊎◌, ◌+◌, ◌^◌, ℕ, false, true, All, Contains, IsPermutation};
+ghost use Rattle.std.specs.Prelude.{IfOk, IsTrue};
+ghost use Rattle.std.specs.Prelude.{length, slice_index, slice_index_or, slice_set};
 ghost use Rattle.std.specs.List.Sorted.{IsNonDecreasingBy};
 ghost use Rattle.surf_surfaces.specs.Surface.{edge_count};
 ghost use Rattle.surf_firsts.specs.Near.{AgreeOff};
-ghost use Rattle.surf_basis.specs.Marks.{AreMarkedIn, AreSignedEnds, HasMarkedEnd, IsSignedEnd};
-ghost use Rattle.surf_basis.specs.Marks.{bits_backwards};
+ghost use Rattle.surf_basis.specs.Marks.{AreMarkedIn, AreSignedEnds, HasMarkedEnd, IsBusierEnd};
+ghost use Rattle.surf_basis.specs.Marks.{AreDegreesTo, by_degree, signed_degree, bits_backwards};
 ghost use Rattle.surf_basis.specs.Passing.{is_marked, AreShut};
 
 use std::alloc::Global;
@@ -24,6 +24,7 @@ fn mark_one(first: VertexId, second: VertexId, marked: &mut [bool])
         slice_index_or marked.new v false ≡ true }
     ensures only { (v : ℕ) → slice_index_or marked.new v false ≡ true →
         (slice_index_or marked.old v false ≡ true) ⊎ (v ≡ second) }
+    ensures kept { slice_index_or marked.old first false ≡ true → marked.new ≡ marked.old }
     ensures count { length marked.new ≡ length marked.old }
 {
     if !marked[first.index()] {
@@ -54,36 +55,50 @@ pub(crate) fn mark_all(list: &[VertexId], links: &mut Links<'_>, marks: &mut [bo
 }
 
 // Counts one more at a vertex.
-fn count_at(counts: &mut [u32], v: VertexId)
-    requires vertex { v < length counts.old }
+fn count_at(degrees: &mut [u32], v: VertexId)
+    requires vertex { v < length degrees.old }
+    requires few { slice_index degrees.old v < 2 ^ 31 }
+    ensures { degrees.new ≡ slice_set degrees.old v (slice_index degrees.old v + 1) }
 {
-    let count = counts[v.index()];
-    counts[v.index()] = count.saturating_add(1);
+    degrees[v.index()] += 1;
 }
 
-// Counts at each vertex the edges there whose signatures aren't empty.
-fn count_signed(mesh: &HalfMesh, signatures: &CotreeDesk, counts: &mut [u32])
+// Goes on to count, at each vertex, the edges whose signatures aren't empty by one edge.
+fn count_edge(mesh: &HalfMesh, signatures: &CotreeDesk, degrees: &mut [u32], edge: EdgeId)
+    requires edge { edge < edge_count mesh.now }
     requires table { length signatures.now.signatures ≡ edge_count mesh.now }
-    requires counts { length counts.old ≡ mesh.now.vertices }
+    requires size { length degrees.old ≡ mesh.now.vertices }
+    requires so_far { AreDegreesTo mesh.now signatures.now edge degrees.old }
+    ensures { AreDegreesTo mesh.now signatures.now (edge + 1) degrees.new }
 {
     mesh.law_of_surface();
-    for number in 0..mesh.edges() {
-        let edge = EdgeId::new(number);
-        if !signatures.signature(edge).is_empty() {
-            let (low, high) = mesh.ends(edge);
-            count_at(counts, low);
-            count_at(counts, high);
-        }
+    if !signatures.signature(edge).is_empty() {
+        let (low, high) = mesh.ends(edge);
+        count_at(degrees, low);
+        count_at(degrees, high);
     }
 }
 
-// Two vertices, the one with the lesser count first, and as they are where they have as many.
-fn by_count(counts: &[u32], low: VertexId, high: VertexId) -> (VertexId, VertexId)
-    requires low { low < length counts.now }
-    requires high { high < length counts.now }
-    ensures { (result ≡ (low, high)) ⊎ (result ≡ (high, low)) }
+// Counts at each vertex the edges there whose signatures aren't empty.
+fn count_signed(mesh: &HalfMesh, signatures: &CotreeDesk, degrees: &mut [u32])
+    requires table { length signatures.now.signatures ≡ edge_count mesh.now }
+    requires size { length degrees.old ≡ mesh.now.vertices }
+    requires none { (v : ℕ) → v < mesh.now.vertices → slice_index degrees.old v ≡ 0 }
+    ensures { (v : ℕ) → v < mesh.now.vertices →
+        slice_index degrees.new v ≡ signed_degree mesh.now signatures.now v }
 {
-    if counts[low.index()] > counts[high.index()] {
+    for number in 0..mesh.edges() {
+        count_edge(mesh, signatures, degrees, EdgeId::new(number));
+    }
+}
+
+// Two vertices, the one of the lesser degree first, and as they are where both have the same.
+fn lesser_first(degrees: &[u32], low: VertexId, high: VertexId) -> (VertexId, VertexId)
+    requires low { low < length degrees.now }
+    requires high { high < length degrees.now }
+    ensures { result ≡ by_degree (slice_index degrees.now) (low, high) }
+{
+    if degrees[high.index()] < degrees[low.index()] {
         (high, low)
     } else {
         (low, high)
@@ -92,22 +107,23 @@ fn by_count(counts: &[u32], low: VertexId, high: VertexId) -> (VertexId, VertexI
 
 // Marks an end of each edge whose signature isn't empty: the one at which there are more such edges
 // in all, unless the other one is marked. So few vertices are marked.
-fn mark_ends(mesh: &HalfMesh, signatures: &CotreeDesk, counts: &[u32], marked: &mut [bool])
+fn mark_ends(mesh: &HalfMesh, signatures: &CotreeDesk, degrees: &[u32], marked: &mut [bool])
     requires table { length signatures.now.signatures ≡ edge_count mesh.now }
-    requires counts { length counts.now ≡ mesh.now.vertices }
+    requires degrees { length degrees.now ≡ mesh.now.vertices }
     requires marks { length marked.old ≡ mesh.now.vertices }
     ensures marks { length marked.new ≡ mesh.now.vertices }
     ensures ends { (e : ℕ) → e < edge_count mesh.now → slice_index signatures.now.signatures e ≢ 0 →
         HasMarkedEnd mesh.now marked.new e }
     ensures only { (v : ℕ) → slice_index_or marked.new v false ≡ true →
-        (slice_index_or marked.old v false ≡ true) ⊎ IsSignedEnd mesh.now signatures.now v }
+        (slice_index_or marked.old v false ≡ true)
+        ⊎ IsBusierEnd mesh.now signatures.now (slice_index degrees.now) v }
 {
     mesh.law_of_surface();
     for e in 0..mesh.edges() {
         let edge = EdgeId::new(e);
         if !signatures.signature(edge).is_empty() {
             let (low, high) = mesh.ends(edge);
-            let (less, more) = by_count(counts, low, high);
+            let (less, more) = lesser_first(degrees, low, high);
             mark_one(less, more, marked);
         }
     }
@@ -137,8 +153,8 @@ pub(crate) fn scatter(vertices: &mut [VertexId])
 }
 
 // Ends of the edges whose signatures aren't empty, one of each edge at least, each once, in an
-// order that scatters them. Every closed walk that isn't null has such an edge, and so meets one
-// of them.
+// order that scatters them; each is the end of such an edge at which there are more of them. Every
+// closed walk that isn't null has such an edge, and so meets one of them.
 pub(crate) fn signed_ends(
     alloc: Global,
     mesh: &HalfMesh,
@@ -149,10 +165,10 @@ pub(crate) fn signed_ends(
     ensures ends { IfOk result (λ list. AreSignedEnds mesh.now signatures.now list.items) }
     ensures scattered { IfOk result (λ list. IsNonDecreasingBy bits_backwards list.items) }
 {
-    let mut counts = vec![in alloc; 0u32; mesh.vertices() as usize]?;
-    count_signed(mesh, signatures, &mut counts);
+    let mut degrees = vec![in alloc; 0u32; mesh.vertices() as usize]?;
+    count_signed(mesh, signatures, &mut degrees);
     let mut marked = vec![in alloc; false; mesh.vertices() as usize]?;
-    mark_ends(mesh, signatures, &counts, &mut marked);
+    mark_ends(mesh, signatures, &degrees, &mut marked);
     let mut list = list_marked(alloc, &marked)?;
     scatter(&mut list);
     Ok(list)

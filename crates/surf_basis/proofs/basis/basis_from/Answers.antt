@@ -9,7 +9,7 @@ use Rattle.surf_basis.specs.Based.{IsMeasured}
 use Rattle.surf_basis.specs.Candidates.{AreCyclesOf}
 use Rattle.surf_basis.specs.Found.{SurfaceTables}
 use Rattle.surf_basis.specs.Signing.{AreSigned}
-use Rattle.surf_basis.specs.Kept.{HavePlacesOfBasis, AreKeptOver}
+use Rattle.surf_basis.specs.Kept.{AreKeptOver}
 use Rattle.surf_basis.specs.Marks.{HasBases}
 use Rattle.surf_basis.specs.Cycles.{as_loops, IsTheBasis}
 use Rattle.surf_basis.proofs.Whole.{all_measured, the_basis}

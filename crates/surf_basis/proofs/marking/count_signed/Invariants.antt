@@ -1,5 +1,5 @@
-use Rattle.std.proofs.Common.{◌≡◌, length}
+use Rattle.surf_basis.specs.Marks.{AreDegreesTo}
 use Rattle.surf_basis.proofs.marking.count_signed.Given as goal
 
 abbrev pub invariant-loop-number : goal.invariant-loop-number
-invariant-loop-number l = length l.counts ≡ l.mesh.vertices
+invariant-loop-number l = AreDegreesTo l.mesh l.signatures l.number l.degrees

@@ -3,28 +3,31 @@ use Rattle.std.specs.Prelude.{◌⊎◌, slice_index_or}
 use Rattle.std.proofs.lemmas.Bool.{cases_lt}
 use Rattle.std.proofs.lemmas.Bool.Decides.{nat_tests}
 use Rattle.surf_surfaces.specs.Surface.{ends, edge_count}
-use Rattle.surf_basis.proofs.Marked.{end_stays, ends_inside, either_marked, second_of_both, either_below}
+use Rattle.surf_basis.specs.Marks.{by_degree}
+use Rattle.surf_basis.proofs.Marked.{end_stays, ends_inside, either_marked, either_below}
+use Rattle.surf_basis.proofs.Degrees.{as_read_or_turned}
 use Rattle.surf_basis.proofs.marking.mark_ends.Goals as goal
 use Rattle.surf_basis.proofs.marking.mark_ends.Goals.{then-not-is_empty, else-not-is_empty}
 
-pub by_count-less-requires-clause-low : goal.by_count-less-requires-clause-low
-by_count-less-requires-clause-low c =
+pub lesser_first-less-requires-clause-low : goal.lesser_first-less-requires-clause-low
+lesser_first-less-requires-clause-low c =
     let e_in : c.new-edge.result < edge_count c.args.mesh.now = omega (arith, c.new-edge.ensures, c.loop-e-test.true, c.edges-e-end.ensures.count) in
     let inside = ends_inside c.args.mesh.now c.law_of_surface.ensures.surface c.new-edge.result e_in c.ends-low.result c.ends-low.ensures in
-    omega (arith, inside.0, c.requires.counts)
+    omega (arith, inside.0, c.requires.degrees)
 
-pub by_count-less-requires-clause-high : goal.by_count-less-requires-clause-high
-by_count-less-requires-clause-high c =
+pub lesser_first-less-requires-clause-high : goal.lesser_first-less-requires-clause-high
+lesser_first-less-requires-clause-high c =
     let e_in : c.new-edge.result < edge_count c.args.mesh.now = omega (arith, c.new-edge.ensures, c.loop-e-test.true, c.edges-e-end.ensures.count) in
     let inside = ends_inside c.args.mesh.now c.law_of_surface.ensures.surface c.new-edge.result e_in c.ends-low.result c.ends-low.ensures in
-    omega (arith, inside.1, c.requires.counts)
+    omega (arith, inside.1, c.requires.degrees)
 
 pub mark_one-requires : goal.mark_one-requires
 mark_one-requires c =
     let mesh = c.args.mesh.now in
     let e_in : c.new-edge.result < edge_count mesh = omega (arith, c.new-edge.ensures, c.loop-e-test.true, c.edges-e-end.ensures.count) in
     let inside = ends_inside mesh c.law_of_surface.ensures.surface c.new-edge.result e_in c.ends-low.result c.ends-low.ensures in
-    let both = either_below mesh.vertices c.ends-low.result.0 c.ends-low.result.1 c.by_count-less.result c.by_count-less.ensures inside.0 inside.1 in
+    let both = either_below mesh.vertices c.ends-low.result.0 c.ends-low.result.1 c.lesser_first-less.result
+    (as_read_or_turned (slice_index c.args.degrees.now) c.ends-low.result c.lesser_first-less.result c.lesser_first-less.ensures) inside.0 inside.1 in
     record { inside = (omega (arith, both.0, c.loop-e.invariant.count), omega (arith, both.1, c.loop-e.invariant.count)) }
 
 pub loop-e-preserved : goal.loop-e-preserved
@@ -49,7 +52,8 @@ loop-e-preserved c =
               | inr more ↦
                   let same : n ≡ e = omega arith in
                   subst (λ (p : ℕ × ℕ). (slice_index_or w.mark_one.new.marked p.0 false ≡ true) ⊎ (slice_index_or w.mark_one.new.marked p.1 false ≡ true))
-                  (is ∙ ap (ends mesh) same) (either_marked w.mark_one.new.marked w.ends-low.result.0 w.ends-low.result.1 w.by_count-less.result w.by_count-less.ensures w.mark_one.ensures.one)
+                  (is ∙ ap (ends mesh) same) (either_marked w.mark_one.new.marked w.ends-low.result.0 w.ends-low.result.1 w.lesser_first-less.result
+                  (as_read_or_turned (slice_index c.args.degrees.now) w.ends-low.result w.lesser_first-less.result w.lesser_first-less.ensures) w.mark_one.ensures.one)
             ];
             only = λ v on. elim (w.mark_one.ensures.only v on) [
               | inl was ↦ inv.only v was
@@ -57,9 +61,8 @@ loop-e-preserved c =
                 n,
                 e_in,
                 signed,
-                subst (λ (p : ℕ × ℕ). (p.0 ≡ v) ⊎ (p.1 ≡ v)) is
-                    (subst (λ (u : ℕ). (w.ends-low.result.0 ≡ u) ⊎ (w.ends-low.result.1 ≡ u)) (sym new)
-                    (second_of_both w.ends-low.result.0 w.ends-low.result.1 w.by_count-less.result w.by_count-less.ensures)),
+                sym (new ∙ ap (λ (p : ℕ × ℕ). p.1) w.lesser_first-less.ensures
+                    ∙ ap (λ (p : ℕ × ℕ). (by_degree (slice_index c.args.degrees.now) p).1) is),
               )
             ];
           })
