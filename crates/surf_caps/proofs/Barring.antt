@@ -1,0 +1,286 @@
+-- Searches that bar vertices which were searched as far.
+use Rattle.std.proofs.Common.{◌≡◌, ℕ, suc, ◌+◌, ◌*◌, ◌<◌, ◌≤◌, Bool, true, false, ◌&&◌, ◌||◌, leb, List, [], ◌∷◌, ◌++◌, map, filter, All, Contains, bit_xor, sym, ap, ◌∙◌, subst, arith, inl, inr, refl}
+use Rattle.std.specs.List.{AllByRecursion}
+use Rattle.std.proofs.lemmas.Bool.{or_cases, and_parts, leb-true}
+use Rattle.std.proofs.lemmas.Bool.Decides.{nat_tests}
+use Rattle.std.proofs.lemmas.Simd.{map-map}
+use Rattle.std.proofs.lemmas.List.Elements.{All-from_recursion, All-contains}
+use Rattle.surf_z2.specs.Space.{numbers, difference, Spanned}
+use Rattle.surf_z2.proofs.Linear.{over_in}
+use Rattle.surf_z2.proofs.ParityLaws.{xor_comm}
+use Rattle.surf_z2.proofs.Ranks.{in_wider}
+use Rattle.surf_z2.proofs.Passing.{some_or_none}
+use Rattle.surf_z2.proofs.Span.{InSpan, add_in, in_from_spanned}
+use Rattle.surf_graphs.specs.Cells.{primal, Split, IsSplit}
+use Rattle.surf_graphs.specs.Graphs.{Graph, IsGraph, IsWalk as IsGraphWalk, walk_chain, walk_length as graph_length, edge_between}
+use Rattle.surf_graphs.specs.Independence.{signature_of}
+use Rattle.surf_graphs.specs.Trees.{Tree, loop}
+use Rattle.surf_graphs.proofs.Graphs.{edge_between_is, walk-append}
+use Rattle.surf_graphs.proofs.Lengths.{loop_bound}
+use Rattle.surf_graphs.proofs.Through.{walk_parts}
+use Rattle.surf_graphs.proofs.Independence.{signature_of-same, signature_of-linear, walk_sums}
+use Rattle.surf_graphs.proofs.Trees.{one_of, joined_in}
+use Rattle.surf_surfaces.specs.Mesh.{Mesh}
+use Rattle.surf_surfaces.specs.Surface.{edge_count, IsSurface}
+use Rattle.surf_surfaces.specs.Walk.{edge_length, ArePositive}
+use Rattle.surf_surfaces.specs.Cells.{cells_of}
+use Rattle.surf_surfaces.specs.Class.{class_of, AreShortestTrees}
+use Rattle.surf_surfaces.specs.Loop.{loop_walk, loop_length}
+use Rattle.surf_surfaces.specs.FewBases.{Place, place_at, least_base, Found, is_within, walks_found, DependsAtPlace}
+use Rattle.surf_surfaces.proofs.CellLaws.{surfaces_are_cells}
+use Rattle.surf_surfaces.proofs.ClassLaws.{some_split}
+use Rattle.surf_surfaces.proofs.FewBasesLaws.{no_later_from, least_base_on_way, loop_class}
+use Rattle.surf_surfaces.proofs.FirstFoundLaws.{loop_closed}
+use Rattle.surf_surfaces.proofs.GreedyChoiceLaws.{spanned_from_depends}
+use Rattle.surf_firsts.specs.Near.{is_shorter_by, AgreeOff, IsSoughtFromStart}
+use Rattle.surf_firsts.proofs.Parts.{IsOver, two_parts_over}
+use Rattle.surf_caps.specs.Barred.{DependOnShorterOr, BarredSearchesSuffice, NearPlacesNeedNoMore}
+use Rattle.surf_caps.specs.Caps.{Sought, AreSoughtFromStart, IsFoundBy, AreEnoughFor}
+use Rattle.surf_caps.proofs.Covers.{all_closed_by}
+use Rattle.surf_caps.proofs.Grow.{caps_grow_enough}
+use Rattle.surf_caps.proofs.Over.{within, depends_within, seen_within, over_by, over_vertex}
+
+-- the nodes of a walk are nodes
+walk_in : (g : Graph) → IsGraph g → (a : ℕ) (w : List ℕ) (b : ℕ) → a < g.nodes → IsGraphWalk g a w b →
+    AllByRecursion (λ n. n < g.nodes) (a ∷ w)
+walk_in g graph a [] b a_in h = (a_in, tt)
+walk_in g graph a (c ∷ w) b a_in h = (a_in, walk_in g graph c w b (joined_in g graph a c h.0) h.1)
+
+-- a walk that keeps off a set is as long by lengths that agree there
+same_off : (g : Graph) (len other : ℕ → ℕ) (set : ℕ → Bool) →
+    ((e : ℕ) → e < g.edges → set (g.from e) ≡ false → set (g.to e) ≡ false → other e ≡ len e) → (a : ℕ) (w : List ℕ)
+    (b : ℕ) → IsGraphWalk g a w b → AllByRecursion (λ n. set n ≡ false) (a ∷ w) →
+    graph_length g other a w ≡ graph_length g len a w
+same_off g len other set agree a [] b h off = refl
+same_off g len other set agree a (c ∷ w) b h off =
+    let m = edge_between g a c in
+    let step = edge_between_is g a c h.0 in
+    let same : other m ≡ len m = elim (one_of g a c m step.1) [
+      | inl ends ↦ agree m step.0 (ap set ends.0 ∙ off.0) (ap set ends.1 ∙ off.1.0)
+      | inr ends ↦ agree m step.0 (ap set ends.0 ∙ off.1.0) (ap set ends.1 ∙ off.0)
+    ] in
+    let rest = same_off g len other set agree c w b h.1 off.1 in
+    omega (arith, same, rest)
+
+-- a loop is the sum of two closed walks over its root and its least base
+module _ (mesh : Mesh) (lengths : List ℕ) (trees : ℕ → Tree) (surface : IsSurface mesh)
+    (positive : ArePositive mesh lengths) (shortest : AreShortestTrees mesh lengths trees) (d : Split)
+    (split : IsSplit (cells_of mesh) d) (found : List Found) (loops : All (IsFoundBy mesh lengths) found) where
+  loop_of_parts : (y e : ℕ) → y < mesh.vertices → e < edge_count mesh →
+      ((w : List ℕ) → least_base mesh trees y e < mesh.vertices →
+      IsOver (primal (cells_of mesh)) (edge_length lengths) (least_base mesh trees y e) y
+      (loop_length mesh lengths (trees y) e) w →
+      InSpan numbers (within mesh d surface split (place_at mesh lengths trees y e) found)
+      (signature_of (cells_of mesh) d (walk_chain (primal (cells_of mesh)) (least_base mesh trees y e) w))) →
+      DependsAtPlace mesh lengths trees found y e
+  loop_of_parts y e y_in e_in each =
+      let s = cells_of mesh in
+      let g = primal s in
+      let cells = surfaces_are_cells mesh surface in
+      let place = place_at mesh lengths trees y e in
+      let x = least_base mesh trees y e in
+      let walk = loop_walk mesh (trees y) e in
+      let xs = within mesh d surface split place found in
+      let on_way = least_base_on_way mesh lengths trees surface positive shortest y e y_in e_in in
+      let parts = two_parts_over g (edge_length lengths) cells.complex.primal_ends cells.one_edge trees shortest.root
+      shortest.is_tree shortest.shortest x y e on_way.0 y_in e_in on_way.1 in
+      let one = each parts.first on_way.0 parts.first_over in
+      let two = each parts.second on_way.0 parts.second_over in
+      let sum_is : signature_of s d (loop g (trees y) e)
+      ≡ bit_xor (signature_of s d (walk_chain g x parts.first)) (signature_of s d (walk_chain g x parts.second)) =
+      signature_of-same s d (loop g (trees y) e) (difference (walk_chain g x parts.first) (walk_chain g x parts.second))
+      (λ h l. parts.edges h)
+      ∙ (signature_of-linear s d).add (walk_chain g x parts.first) (walk_chain g x parts.second) in
+      depends_within mesh d surface split found
+      (all_closed_by mesh lengths trees surface positive shortest found loops) place walk
+      (loop_closed mesh lengths trees surface shortest y e y_in e_in)
+      (subst (InSpan numbers xs) (sym (loop_class mesh lengths trees surface positive shortest d split y e y_in e_in ∙ sum_is))
+      (add_in numbers xs (signature_of s d (walk_chain g x parts.first)) (signature_of s d (walk_chain g x parts.second))
+      one two))
+
+module _ (mesh : Mesh) (lengths other : List ℕ) (trees others : ℕ → Tree) (sought : Sought) (set : ℕ → Bool) (z : ℕ)
+    (here : Place → Bool) (found : List Found) (surface : IsSurface mesh) (positive : ArePositive mesh lengths)
+    (positive_too : ArePositive mesh other) (shortest : AreShortestTrees mesh lengths trees)
+    (shortest_too : AreShortestTrees mesh other others) (agree : AgreeOff mesh lengths other set)
+    (z_in : z < mesh.vertices) (enough : AreEnoughFor mesh lengths trees sought found)
+    (starts : AreSoughtFromStart sought) (start : IsSoughtFromStart here)
+    (as_far : (n : ℕ) (place : Place) → set n ≡ true → here place ≡ true → sought n place ≡ true)
+    (depend : (e : ℕ) → e < edge_count mesh → here (place_at mesh other others z e) ≡ true →
+    DependsAtPlace mesh other others found z e) (d : Split) (split : IsSplit (cells_of mesh) d) where
+  -- a closed walk over z that keeps off the set is a sum of those found that come no later
+  off_set : (x size : ℕ) (w : List ℕ) → x < mesh.vertices → here (size, x) ≡ true →
+      IsGraphWalk (primal (cells_of mesh)) x w x → Contains (x ∷ w) z →
+      graph_length (primal (cells_of mesh)) (edge_length lengths) x w ≤ size →
+      AllByRecursion (λ n. set n ≡ false) (x ∷ w) →
+      InSpan numbers (within mesh d surface split (size, x) found)
+      (signature_of (cells_of mesh) d (walk_chain (primal (cells_of mesh)) x w))
+  off_set x size w x_in is_here closed over no_longer off =
+      let g = primal (cells_of mesh) in
+      let as_long : graph_length g (edge_length other) x w ≡ graph_length g (edge_length lengths) x w =
+      same_off g (edge_length lengths) (edge_length other) set agree x w x closed off in
+      over_by mesh other others surface positive_too shortest_too d split (within mesh d surface split (size, x) found)
+      x size z w x_in z_in closed over (omega (arith, as_long, no_longer)) (λ e e_in no_later.
+      seen_within mesh other others surface positive_too shortest_too d split found (size, x) z e no_later
+      (depend e e_in (start (place_at mesh other others z e) (size, x) no_later is_here)))
+
+  -- and so is each closed walk over z
+  over_z : (x size : ℕ) (w : List ℕ) → x < mesh.vertices → here (size, x) ≡ true →
+      IsOver (primal (cells_of mesh)) (edge_length lengths) x z size w →
+      InSpan numbers (within mesh d surface split (size, x) found)
+      (signature_of (cells_of mesh) d (walk_chain (primal (cells_of mesh)) x w))
+  over_z x size w x_in is_here part =
+      let g = primal (cells_of mesh) in
+      let cells = surfaces_are_cells mesh surface in
+      elim (some_or_none set (x ∷ w)) [
+        | inl r ↦
+            let n_in : r.0 < mesh.vertices = All-contains (λ m. m < mesh.vertices) (x ∷ w) r.0
+            (All-from_recursion (λ m. m < mesh.vertices) (x ∷ w)
+            (walk_in g cells.complex.primal_ends x w x x_in part.closed)) r.1 in
+            over_vertex mesh lengths trees surface positive shortest d split sought starts found enough x size r.0 w x_in
+            n_in (as_far r.0 (size, x) r.2 is_here) part.closed r.1 part.no_longer
+        | inr off ↦ off_set x size w x_in is_here part.closed part.over part.no_longer off
+      ]
+
+  loop_depends : (e : ℕ) → e < edge_count mesh → here (place_at mesh lengths trees z e) ≡ true →
+      DependsAtPlace mesh lengths trees found z e
+  loop_depends e e_in is_here =
+      loop_of_parts mesh lengths trees surface positive shortest d split found enough.loops z e z_in e_in
+      (λ w x_in part. over_z (least_base mesh trees z e) (loop_length mesh lengths (trees z) e) w x_in is_here part)
+
+-- what is shorter than a loop at z by more than two ways is shorter than a loop that is longer by no more than these
+shorter_within : (k : Found) (far size other base : ℕ) → size ≤ other + 2 * far →
+    is_shorter_by (suc (2 * far)) size k ≡ true → is_within (other, base) k ≡ true
+shorter_within k far size other base no_longer h =
+    let n : k.size + suc (2 * far) ≤ size = leb-true (k.size + suc (2 * far)) size h in
+    let less : k.size < other = omega arith in
+    grind (arith, nat_tests)
+
+shorter_or_within : (k : Found) (far size other base least : ℕ) → size ≤ other + 2 * far → least < other →
+    (is_shorter_by (suc (2 * far)) size k || leb k.size least) ≡ true → is_within (other, base) k ≡ true
+shorter_or_within k far size other base least no_longer more h =
+    elim (or_cases (is_shorter_by (suc (2 * far)) size k) (leb k.size least) h) [
+      | inl one ↦ shorter_within k far size other base no_longer one
+      | inr low ↦
+          let le = leb-true k.size least low in
+          no_later_from k.size k.through other base (omega arith) (λ same. absurd (omega arith))
+    ]
+
+module _ (mesh : Mesh) (lengths other : List ℕ) (trees others : ℕ → Tree) (sought : Sought) (set : ℕ → Bool)
+    (z far least most : ℕ) (here : Place → Bool) (found : List Found) (surface : IsSurface mesh)
+    (positive : ArePositive mesh lengths) (positive_too : ArePositive mesh other)
+    (shortest : AreShortestTrees mesh lengths trees) (shortest_too : AreShortestTrees mesh other others)
+    (agree : AgreeOff mesh lengths other set) (z_in : z < mesh.vertices)
+    (enough : AreEnoughFor mesh lengths trees sought found) (starts : AreSoughtFromStart sought)
+    (as_far : (n : ℕ) (place : Place) → set n ≡ true → here place ≡ true → sought n place ≡ true)
+    (bound : (place : Place) → here place ≡ true → (least < place.0) × (place.0 ≤ most))
+    (short : DependOnShorterOr mesh other others z (most + 2 * far) (suc (2 * far)) least found) (d : Split)
+    (split : IsSplit (cells_of mesh) d) where
+  -- a loop at z that isn't longer by more than two ways is a sum of those that come no later than a place
+  loop_within : (size base e : ℕ) → e < edge_count mesh → least < size → size ≤ most →
+      loop_length mesh other (others z) e ≤ size + 2 * far →
+      InSpan numbers (within mesh d surface split (size, base) found) (class_of mesh d (loop_walk mesh (others z) e))
+  loop_within size base e e_in more le no_longer =
+      let long = loop_length mesh other (others z) e in
+      let v = class_of mesh d (loop_walk mesh (others z) e) in
+      let passes = λ (k : Found). is_shorter_by (suc (2 * far)) long k || leb k.size least in
+      let shorter = filter passes found in
+      in_wider numbers (λ k. class_of mesh d k.walk) passes (is_within (size, base))
+      (λ k h. shorter_or_within k far long size base least no_longer more h) found v
+      (in_from_spanned numbers (map (λ k. class_of mesh d k.walk) shorter) v
+      (subst (λ vs. Spanned numbers vs v) (map-map (class_of mesh d) (λ k. k.walk) shorter)
+      (spanned_from_depends mesh d surface split (walks_found shorter) (loop_walk mesh (others z) e)
+      (short e e_in (omega arith)))))
+
+  -- so is a closed walk at y, no longer by the other lengths than a size
+  walk_near : (y size base : ℕ) (w : List ℕ) → IsGraphWalk (primal (cells_of mesh)) y w y → (others z).rank y ≤ far →
+      least < size → size ≤ most → graph_length (primal (cells_of mesh)) (edge_length other) y w ≤ size →
+      InSpan numbers (within mesh d surface split (size, base) found)
+      (signature_of (cells_of mesh) d (walk_chain (primal (cells_of mesh)) y w))
+  walk_near y size base w closed near more le no_longer =
+      let s = cells_of mesh in
+      let cells = surfaces_are_cells mesh surface in
+      let xs = within mesh d surface split (size, base) found in
+      subst (InSpan numbers xs) (sym (walk_sums s d cells.complex (others z) y w closed))
+      (over_in numbers xs s.edges (walk_chain (primal s) y w) (λ e. signature_of s d (loop (primal s) (others z) e))
+      (λ e e_in on.
+      subst (InSpan numbers xs) (loop_class mesh other others surface positive_too shortest_too d split z e z_in e_in)
+      (loop_within size base e e_in more le
+      (let bound = loop_bound (primal s) (edge_length other) (others z) (shortest_too.shortest z z_in) y w y e closed on in
+      omega (arith, bound, no_longer, near)))))
+
+  -- and so is one at x over y that keeps off the set
+  near_off : (x y size : ℕ) (w : List ℕ) → IsGraphWalk (primal (cells_of mesh)) x w x → Contains (x ∷ w) y →
+      graph_length (primal (cells_of mesh)) (edge_length lengths) x w ≤ size →
+      AllByRecursion (λ n. set n ≡ false) (x ∷ w) → (others z).rank y ≤ far → least < size → size ≤ most →
+      InSpan numbers (within mesh d surface split (size, x) found)
+      (signature_of (cells_of mesh) d (walk_chain (primal (cells_of mesh)) x w))
+  near_off x y size w closed over no_longer off near more le =
+      let s = cells_of mesh in
+      let g = primal s in
+      let off_len = edge_length other in
+      let (first, second, is, there, back) = walk_parts g x w x y closed over in
+      let straight = walk-append g off_len x first y second x there back in
+      let turned = walk-append g off_len y second x first y back there in
+      let as_long : graph_length g off_len x w ≡ graph_length g (edge_length lengths) x w =
+      same_off g (edge_length lengths) off_len set agree x w x closed off in
+      let whole : graph_length g off_len x w ≡ graph_length g off_len x first + graph_length g off_len y second =
+      ap (graph_length g off_len x) is ∙ straight.2 in
+      let other_way : graph_length g off_len y (second ++ first)
+      ≡ graph_length g off_len y second + graph_length g off_len x first = turned.2 in
+      let same : (e : ℕ) → walk_chain g x w e ≡ walk_chain g y (second ++ first) e =
+      λ e. ap (λ v. walk_chain g x v e) is ∙ straight.1 e
+      ∙ xor_comm (walk_chain g x first e) (walk_chain g y second e) ∙ sym (turned.1 e) in
+      subst (InSpan numbers (within mesh d surface split (size, x) found))
+      (sym (signature_of-same s d (walk_chain g x w) (walk_chain g y (second ++ first)) (λ e l. same e)))
+      (walk_near y size x (second ++ first) turned.0 near more le (omega (arith, as_long, whole, other_way, no_longer)))
+
+  near_walk : (x y size : ℕ) (w : List ℕ) → x < mesh.vertices → here (size, x) ≡ true → (others z).rank y ≤ far →
+      IsOver (primal (cells_of mesh)) (edge_length lengths) x y size w →
+      InSpan numbers (within mesh d surface split (size, x) found)
+      (signature_of (cells_of mesh) d (walk_chain (primal (cells_of mesh)) x w))
+  near_walk x y size w x_in is_here near part =
+      let g = primal (cells_of mesh) in
+      let cells = surfaces_are_cells mesh surface in
+      elim (some_or_none set (x ∷ w)) [
+        | inl r ↦
+            let n_in : r.0 < mesh.vertices = All-contains (λ m. m < mesh.vertices) (x ∷ w) r.0
+            (All-from_recursion (λ m. m < mesh.vertices) (x ∷ w)
+            (walk_in g cells.complex.primal_ends x w x x_in part.closed)) r.1 in
+            over_vertex mesh lengths trees surface positive shortest d split sought starts found enough x size r.0 w x_in
+            n_in (as_far r.0 (size, x) r.2 is_here) part.closed r.1 part.no_longer
+        | inr off ↦ near_off x y size w part.closed part.over part.no_longer off near
+            (bound (size, x) is_here).0 (bound (size, x) is_here).1
+      ]
+
+  near_depends : (y e : ℕ) → y < mesh.vertices → e < edge_count mesh → (others z).rank y ≤ far →
+      here (place_at mesh lengths trees y e) ≡ true → DependsAtPlace mesh lengths trees found y e
+  near_depends y e y_in e_in near is_here =
+      loop_of_parts mesh lengths trees surface positive shortest d split found enough.loops y e y_in e_in
+      (λ w x_in part.
+      near_walk (least_base mesh trees y e) y (loop_length mesh lengths (trees y) e) w x_in is_here near part)
+
+pub barred_searches_suffice : BarredSearchesSuffice
+barred_searches_suffice mesh lengths other trees others sought set z here found surface positive positive_too shortest
+    shortest_too agree z_in enough starts start as_far depend =
+    let (d, split) = some_split mesh surface in
+    (caps_grow_enough mesh lengths trees surface positive shortest).more sought z here found enough
+    (loop_depends mesh lengths other trees others sought set z here found surface positive positive_too shortest
+    shortest_too agree z_in enough starts start as_far depend d split)
+
+pub near_places_need_no_more : NearPlacesNeedNoMore
+near_places_need_no_more mesh lengths other trees others sought set z far least most here found surface positive positive_too
+    shortest shortest_too agree z_in enough starts as_far bound short =
+    let (d, split) = some_split mesh surface in
+    record {
+      loops = enough.loops;
+      depend = λ y e y_in e_in is_sought.
+          let place = place_at mesh lengths trees y e in
+          elim (or_cases (sought y place) (leb ((others z).rank y) far && here place) is_sought) [
+            | inl old ↦ enough.depend y e y_in e_in old
+            | inr new ↦
+                let parts = and_parts (leb ((others z).rank y) far) (here place) new in
+                near_depends mesh lengths other trees others sought set z far least most here found surface positive positive_too
+                shortest shortest_too agree z_in enough starts as_far bound short d split y e y_in e_in
+                (leb-true ((others z).rank y) far parts.0) parts.1
+          ];
+    }

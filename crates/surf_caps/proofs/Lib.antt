@@ -1,0 +1,12 @@
+pub mod Quotients
+pub mod Heights
+pub mod Over
+pub mod Covers
+pub mod Starts
+pub mod Places
+pub mod Grow
+pub mod Images
+pub mod Barring
+pub mod Used
+pub mod Searched
+pub mod Trial
