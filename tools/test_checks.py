@@ -3,6 +3,7 @@
 
 import pathlib
 import sys
+import tempfile
 import unittest
 
 sys.path.insert(0, str(pathlib.Path(__file__).resolve().parent))
@@ -16,6 +17,7 @@ import crate_graph  # noqa: E402
 import hostile  # noqa: E402
 import misuses  # noqa: E402
 import run_cases  # noqa: E402
+import wrong_bodies  # noqa: E402
 from worked_cases import PLANE_FACES, TORUS_FACES, edges_of  # noqa: E402
 
 
@@ -27,6 +29,45 @@ class Graph(unittest.TestCase):
         self.assertEqual(crates, {"a": [], "b": ["a", "kit"], "c": ["a", "b"]})
         self.assertEqual(crate_graph.reduced(crates), {"a": [], "b": ["a"], "c": ["b"]})
         self.assertEqual(crate_graph.drawing(crates), " 3  c - b\n 2  b - a; of the kit kit\n 1  a\n")
+
+
+class WrongBodies(unittest.TestCase):
+    EDIT = "file: src/lib.rt\nold:     a < b\nnew:     a > b\nold: c\nnew:\n"
+
+    def setUp(self):
+        room = tempfile.TemporaryDirectory()
+        self.addCleanup(room.cleanup)
+        self.folder = pathlib.Path(room.name)
+        (self.folder / "src").mkdir()
+
+    def fault(self, source, edit=EDIT):
+        (self.folder / "src/lib.rt").write_text(source)
+        return wrong_bodies.fault_of(edit, self.folder)
+
+    def test_changes_are_read(self):
+        self.assertEqual(
+            list(wrong_bodies.pairs_of(self.EDIT)), [("src/lib.rt", "    a < b", "    a > b"), ("src/lib.rt", "c", "")]
+        )
+
+    def test_a_text_that_stands_once_can_be_turned(self):
+        self.assertIsNone(self.fault("if\n    a < b\nc\n"))
+
+    def test_what_cannot_be_applied_is_told(self):
+        self.assertIn("0 times", self.fault("if\n    a <= b\nc\n"))
+        self.assertIn("2 times", self.fault("    a < b\nc\nc\n"))
+        self.assertIn("no file", self.fault("", "file: src/other.rt\nold: a\nnew: b\n"))
+        self.assertIn("changes nothing", self.fault("a", "file: src/lib.rt\nold: a\nnew: a\n"))
+        self.assertIn("no lines", self.fault("a", "old: a\nnew: b\n"))
+
+    def test_each_name_has_one_place(self):
+        for place in ("crates/surf_a/must-fail", "wrong-bodies/surf_a"):
+            (self.folder / place).mkdir(parents=True)
+            (self.folder / place / "turned.edit").write_text("file: src/lib.rt\nold: a\nnew: b\n")
+        (self.folder / "crates/surf_a/src").mkdir()
+        (self.folder / "crates/surf_a/src/lib.rt").write_text("a")
+        self.assertEqual(
+            list(wrong_bodies.faults(self.folder)), ["surf_a/turned.edit: it stands in the gate and beside it"]
+        )
 
 
 class Definitions(unittest.TestCase):
