@@ -10,11 +10,11 @@ sys.path.insert(0, str(pathlib.Path(__file__).resolve().parent))
 sys.dont_write_bytecode = True
 
 import check_bases  # noqa: E402
-import check_definitions  # noqa: E402
 import check_sessions  # noqa: E402
 import check_walks  # noqa: E402
 import crate_graph  # noqa: E402
 import hostile  # noqa: E402
+import laws  # noqa: E402
 import misuses  # noqa: E402
 import run_cases  # noqa: E402
 import wrong_bodies  # noqa: E402
@@ -70,17 +70,29 @@ class WrongBodies(unittest.TestCase):
         )
 
 
-class Definitions(unittest.TestCase):
-    ROWS = "### Colours: `surf_a`\n\n| Law | Says | Function, clause |\n|---|---|---|\n| `Red` | it is red | `law_of_red`, `red` |\n"
-    CLAUSES = {"surf_a": {"law_of_red": {"red": "Red"}, "law_of_green": {"": "Green"}}}
+class Laws(unittest.TestCase):
+    SOURCE = "//! Colours of things. And more.\nuse a;\n\npub fn law_of_red()\n    ensures red { IsRed 1 }\n    ensures dark { IsRed 2 }\n{}\n"
 
-    def test_rows(self):
-        rows = list(check_definitions.rows_of(self.ROWS))
-        self.assertEqual(rows, [(["surf_a"], "Red", "law_of_red", ["red"])])
-        self.assertEqual(list(check_definitions.row_faults(rows, self.CLAUSES)), [])
-        self.assertEqual(len(list(check_definitions.missing_rows(rows, self.CLAUSES))), 1)
-        wrong = list(check_definitions.rows_of(self.ROWS.replace("`Red`", "`Blue`")))
-        self.assertEqual(len(list(check_definitions.row_faults(wrong, self.CLAUSES))), 1)
+    def page_of(self, spec):
+        with tempfile.TemporaryDirectory() as room:
+            top = pathlib.Path(room)
+            for folder, name, text in (("src", "lib.rt", self.SOURCE), ("specs", "Red.antt", spec)):
+                (top / "crates/surf_a" / folder).mkdir(parents=True)
+                (top / "crates/surf_a" / folder / name).write_text(text)
+            before, laws.TOP = laws.TOP, top
+            try:
+                return laws.page()
+            finally:
+                laws.TOP = before
+
+    def test_a_law_with_its_comment(self):
+        text, faults = self.page_of("-- What is red\n-- is dark.\nabbrev pub IsRed : Type 0\n")
+        self.assertIn("## `surf_a`\n\nColours of things.\n", text)
+        self.assertIn("| `IsRed` | What is red is dark. | `law_of_red`, `red`, `dark` |", text)
+        self.assertEqual(faults, [])
+
+    def test_a_law_without_a_comment_is_a_fault(self):
+        self.assertEqual(len(self.page_of("-- Apart.\n\nabbrev pub IsRed : Type 0\n")[1]), 1)
 
 
 class Sessions(unittest.TestCase):
