@@ -1,0 +1,127 @@
+#!/usr/bin/env python3
+"""Makes a release: a folder of files to upload, from a checkout that passed the gate.
+
+    build.py [--gate LOG] [--out FOLDER]
+
+The gate is run first, unless --gate names what `.ci/run` or `rt ci` printed here before: the log has to be that of a
+gate that passed with the crates and wrong bodies of this checkout, and no source may be newer. In any case the kit has to
+say that the program is what it proves from these sources. Then come the library, the manual page and the completions, the
+tarball, the packages of Debian, and the wheel, the page and the add-on where the repository has them. The folder
+(release/out/) is there only if the trials over what was made pass: the worked cases on both programs, and calls from C and
+Python. The same commit gives the same bytes; files are dated to SOURCE_DATE_EPOCH, or to the commit.
+"""
+
+import argparse
+import pathlib
+import shutil
+import subprocess
+import sys
+import tempfile
+
+import libraries
+import packages
+import proof
+import trees
+import trial
+import versions
+from pages import pages
+
+TOP = proof.TOP
+OUT = TOP / "release/out"
+# What other parts of the repository make for a release: the script, called with the folder to put it in.
+OTHERS = {"the wheel": "python/build.py", "the page for browsers": "web/build.py", "the add-on for Blender": "blender/build.py"}
+
+
+def build_libraries(built: pathlib.Path) -> None:
+    """The two programs and all libraries in a folder."""
+    libraries.make()
+    shutil.copy2(proof.PROGRAM, built / "surf")
+    libraries.link_program(built / "surf-static", proof.PROGRAM.with_name("surf.o"))
+    libraries.link_static(built / "libsurf.a")
+    for name in ("libsurf.so.0", f"lib{packages.NAME}.so.0"):
+        libraries.link_shared(built / name, name)
+
+
+def notes(built: pathlib.Path) -> dict[str, str]:
+    """What each built file of the tarball is."""
+    glibc = libraries.needed_glibc(built / "surf")
+    system = proof.ran(["cc", "-print-file-name=libc.so.6"])
+    found = proof.ran([system.strip()]).splitlines()[0] if pathlib.Path(system.strip()).exists() else "the GNU C Library"
+    return {
+        "bin/surf": f"the program that the gate ran, byte by byte. It asks for the GNU C library {glibc} or later.",
+        "bin/surf-static": "the same object file, linked with the C library of the machine that made the release, for "
+        f"older systems. The gate didn't run it; the worked cases pass on it too. ({found})",
+        "lib/libsurf.a": "the program as one function for C (include/surf.h), with the kit's functions that call malloc",
+        "lib/libsurf.so.0": "the same as a shared library with one name, surf_call",
+    }
+
+
+def make_packages(parts: packages.Parts, gate: proof.Gate, out: pathlib.Path) -> pathlib.Path:
+    """The tarball and the packages. Gives the place of the tarball."""
+    tree = packages.tarball_tree(parts)
+    with tempfile.TemporaryDirectory() as room:
+        trees.write_tree(tree, pathlib.Path(room), parts.time)
+        proved = proof.proved(parts.version, gate, pathlib.Path(room), notes(parts.built))
+    tree.add("PROVED", proved)
+    root = f"surf-{parts.version}-x86_64-linux"
+    made = out / f"{root}.tar.gz"
+    made.write_bytes(trees.tarball(tree, root, parts.time))
+    packages.program_package(parts, proved, out)
+    packages.library_package(parts, out)
+    packages.header_package(parts, out)
+    return made
+
+
+def make_others(out: pathlib.Path) -> None:
+    """What other parts of the repository make, where they are there."""
+    for what, script in OTHERS.items():
+        if (TOP / script).exists():
+            print(proof.ran([sys.executable, TOP / script, "--release", out]), end="")
+        else:
+            print(f"{what} isn't in the release: the repository has no {script}")
+
+
+def write_sums(out: pathlib.Path) -> None:
+    names = sorted(path.name for path in out.iterdir())
+    (out / "SHA256SUMS").write_text("".join(f"{proof.checksum(out / name)}  {name}\n" for name in names))
+
+
+def release(log: pathlib.Path | None, out: pathlib.Path) -> None:
+    """Makes the release in a folder. Refused, or CalledProcessError, where a part can't be made or a trial fails."""
+    proof.commit()
+    gate = proof.gate(log)
+    version, time = versions.agreed(proof.PROGRAM), proof.commit_time()
+    out.mkdir(parents=True)
+    with tempfile.TemporaryDirectory() as room:
+        built = pathlib.Path(room)
+        build_libraries(built)
+        date = versions.day(time)
+        texts = {name: text for it in ("surf", packages.NAME) for name, text in pages(built / "surf", it, date).items()}
+        made = make_packages(packages.Parts(version, time, built, texts), gate, out)
+    make_others(out)
+    trial.try_tarball(made)
+    write_sums(out)
+
+
+def main() -> int:
+    args = argparse.ArgumentParser(description=__doc__, formatter_class=argparse.RawDescriptionHelpFormatter)
+    args.add_argument("--gate", type=pathlib.Path, metavar="LOG")
+    args.add_argument("--out", type=pathlib.Path, default=OUT)
+    given = args.parse_args()
+    part = given.out.resolve().with_name(f"{given.out.name}.part")
+    shutil.rmtree(part, ignore_errors=True)
+    try:
+        release(given.gate, part)
+    except (proof.Refused, subprocess.CalledProcessError) as fault:
+        shutil.rmtree(part, ignore_errors=True)
+        print(f"no release: {fault}", file=sys.stderr)
+        return 1
+    shutil.rmtree(given.out, ignore_errors=True)
+    part.rename(given.out.resolve())
+    print((given.out / "SHA256SUMS").read_text(), end="")
+    print(packages.NO_LICENCE)
+    return 0
+
+
+if __name__ == "__main__":
+    sys.exit(main())
