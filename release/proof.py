@@ -93,7 +93,8 @@ def gate_by_log(log: pathlib.Path, top: pathlib.Path = TOP) -> Gate:
     written = log.stat().st_mtime
     if newest_source(top) > written:
         raise Refused("a source of a crate is newer than the log of the gate")
-    if not PROGRAM.exists() or PROGRAM.stat().st_mtime > written:
+    program = top / PROGRAM.relative_to(TOP)
+    if not program.exists() or program.stat().st_mtime > written:
         raise Refused("the program isn't there, or is newer than the log of the gate")
     return gate
 

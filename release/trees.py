@@ -86,6 +86,7 @@ def debian_package(tree: Tree, control: dict[str, str], scripts: dict[str, str],
     whole.files, whole.links = dict(tree.files), dict(tree.links)
     sums = (f"{hashlib.md5(content).hexdigest()}  {place}\n" for place, (content, _) in sorted(tree.files.items()))
     control = {**control, "Installed-Size": str(tree.size())}
+    control["Description"] = control.pop("Description")
     whole.add("DEBIAN/md5sums", "".join(sums))
     whole.add("DEBIAN/control", "".join(f"{name}: {text}\n" for name, text in control.items()))
     for name, text in scripts.items():
