@@ -1,10 +1,16 @@
-"""The version has one home, what `surf --version` prints. The changes have it as the first heading, and packages take it."""
+#!/usr/bin/env python3
+"""Tries whether the list of changes begins with the version of the program: python3 release/versions.py [PROGRAM]
+
+The version has one home, what `surf --version` prints. Packages, the wheel and the manual page take it from there, and
+CHANGELOG.md has it as its first heading.
+"""
 
 import datetime
 import pathlib
 import re
+import sys
 
-from proof import TOP, Refused
+from proof import PROGRAM, TOP, Refused
 from usage import version_of
 
 
@@ -24,3 +30,20 @@ def agreed(program: pathlib.Path, changes: str | None = None) -> str:
 
 def day(time: int) -> str:
     return datetime.datetime.fromtimestamp(time, datetime.timezone.utc).date().isoformat()
+
+
+def main() -> int:
+    program = pathlib.Path(sys.argv[1]) if len(sys.argv) > 1 else PROGRAM
+    if not program.exists():
+        print("there is no program yet: its version is not tried")
+        return 0
+    try:
+        print(f"the version is {agreed(program)}")
+    except (Refused, ValueError) as fault:
+        print(fault)
+        return 1
+    return 0
+
+
+if __name__ == "__main__":
+    sys.exit(main())
