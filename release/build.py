@@ -4,11 +4,12 @@
     build.py [--gate LOG] [--out FOLDER]
 
 The gate is run first, unless --gate names what `.ci/run` or `rt ci` printed here before: the log has to be that of a
-gate that passed with the crates and wrong bodies of this checkout, and no source may be newer. In any case the kit has to
-say that the program is what it proves from these sources. Then come the library, the manual page and the completions, the
-tarball, the packages of Debian, and the wheel, the page and the add-on where the repository has them. The folder
-(release/out/) is there only if the trials over what was made pass: the worked cases on both programs, and calls from C and
-Python. The same commit gives the same bytes; files are dated to SOURCE_DATE_EPOCH, or to the commit.
+gate that passed with the crates and wrong bodies of this checkout, and no source may be newer. In any case the kit
+has to say that the program is what it proves from these sources. Then come the library, the manual page and the
+completions, the tarball, the packages of Debian, and the wheel, the page and the add-on where the repository has
+them. The folder (release/out/) is there only if the trials over what was made pass: the worked cases on both
+programs, and calls from C and Python. The same commit gives the same bytes; files are dated to SOURCE_DATE_EPOCH, or
+to the commit.
 """
 
 import argparse
@@ -29,7 +30,11 @@ from pages import pages
 TOP = proof.TOP
 OUT = TOP / "release/out"
 # What other parts of the repository make for a release: the script, called with the folder to put it in.
-OTHERS = {"the wheel": "python/build.py", "the page for browsers": "web/build.py", "the add-on for Blender": "blender/build.py"}
+OTHERS = {
+    "the wheel": "python/build.py",
+    "the page for browsers": "web/build.py",
+    "the add-on for Blender": "blender/build.py",
+}
 
 
 def build_libraries(built: pathlib.Path) -> None:
@@ -45,14 +50,15 @@ def build_libraries(built: pathlib.Path) -> None:
 def notes(built: pathlib.Path) -> dict[str, str]:
     """What each built file of the tarball is."""
     glibc = libraries.needed_glibc(built / "surf")
-    system = proof.ran(["cc", "-print-file-name=libc.so.6"])
-    found = proof.ran([system.strip()]).splitlines()[0] if pathlib.Path(system.strip()).exists() else "the GNU C Library"
+    system = proof.ran(["getconf", "GNU_LIBC_VERSION"]).strip()
     return {
         "bin/surf": f"the program that the gate ran, byte by byte. It asks for the GNU C library {glibc} or later.",
-        "bin/surf-static": "the same object file, linked with the C library of the machine that made the release, for "
-        f"older systems. The gate didn't run it; the worked cases pass on it too. ({found})",
-        "lib/libsurf.a": "the program as one function for C (include/surf.h), with the kit's functions that call malloc",
-        "lib/libsurf.so.0": "the same as a shared library with one name, surf_call",
+        "bin/surf-static": "the object file of that program, linked with the C library of the system that made this "
+        f"release ({system}, whose licence is the LGPL). It asks for no library, so it runs on older systems. The "
+        "gate didn't run it; the worked cases passed on it when the release was made.",
+        "lib/libsurf.a": "the program as one function for C (include/surf.h), with the kit's functions that call "
+        "malloc.",
+        "lib/libsurf.so.0": "the function as a shared library with one name, surf_call.",
     }
 
 
@@ -96,7 +102,7 @@ def release(log: pathlib.Path | None, out: pathlib.Path) -> None:
         built = pathlib.Path(room)
         build_libraries(built)
         date = versions.day(time)
-        texts = {name: text for it in ("surf", packages.NAME) for name, text in pages(built / "surf", it, date).items()}
+        texts = pages(built / "surf", "surf", date) | pages(built / "surf", packages.NAME, date)
         made = make_packages(packages.Parts(version, time, built, texts), gate, out)
     make_others(out)
     trial.try_tarball(made)

@@ -15,7 +15,7 @@ def other_files(usage: Usage) -> list[str]:
 BASH = """\
 # bash completion for @NAME@. Made from its help text.
 _@NAME@() {
-    local cur=${COMP_WORDS[COMP_CWORD]} row word at fits
+    local cur=${COMP_WORDS[COMP_CWORD]} row word at fits count
     local -a names rows=(
 @ROWS@
     )
@@ -29,13 +29,13 @@ _@NAME@() {
             [[ ${#word} -le 2 || $word == "${COMP_WORDS[at]}" ]] || fits=
         done
         [[ $fits ]] || continue
-        word=${names[COMP_CWORD - 1]}
+        word=${names[COMP_CWORD - 1]} count=${#COMPREPLY[@]}
         case $word in
-            L) mapfile -t -O "${#COMPREPLY[@]}" COMPREPLY < <(compgen -W unit -- "$cur"; compgen -f -- "$cur") ;;
-            M) mapfile -t -O "${#COMPREPLY[@]}" COMPREPLY < <(compgen -f -X '!*.off' -- "$cur"; compgen -d -- "$cur") ;;
-            @FILES@) mapfile -t -O "${#COMPREPLY[@]}" COMPREPLY < <(compgen -f -- "$cur") ;;
+            L) mapfile -t -O $count COMPREPLY < <(compgen -W unit -- "$cur"; compgen -f -- "$cur") ;;
+            M) mapfile -t -O $count COMPREPLY < <(compgen -f -X '!*.off' -- "$cur"; compgen -d -- "$cur") ;;
+            @FILES@) mapfile -t -O $count COMPREPLY < <(compgen -f -- "$cur") ;;
             ? | ??) ;;
-            *) mapfile -t -O "${#COMPREPLY[@]}" COMPREPLY < <(compgen -W "$word" -- "$cur") ;;
+            *) mapfile -t -O $count COMPREPLY < <(compgen -W "$word" -- "$cur") ;;
         esac
     done
     ((${#COMPREPLY[@]} < 2)) || mapfile -t COMPREPLY < <(printf '%s\\n' "${COMPREPLY[@]}" | sort -u)

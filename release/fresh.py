@@ -3,12 +3,12 @@
 
     fresh.py [--release FOLDER] [--suite SUITE] [--root FOLDER]
 
-Makes a root by debootstrap, or takes the one in --root where it is there already, puts the release (release/out) into it
-and runs release/fresh.sh there: the packages are installed, the main job, the manual page, the completions of three shells
-and the examples in C and Python are tried, the packages are taken away again, and then the tarball is unpacked and tried by
-the lines of its INSTALL.md. On a system older than the program asks for, the static program alone is tried. Where
-debootstrap isn't here, or who runs this isn't root, it is passed over with a word. The root sees nothing of this system but
-devices and processes of its own.
+Makes a root by debootstrap, or takes the one in --root where it is there already, puts the release (release/out) into
+it and runs release/fresh.sh there: the packages are installed, the main job, the manual page, the completions of
+three shells and the examples in C and Python are tried, the packages are taken away again, and then the tarball is
+unpacked and tried by the lines of its INSTALL.md. On a system older than the program asks for, the static program
+alone is tried. Where debootstrap isn't here, or who runs this isn't root, it is passed over with a word. The root
+sees nothing of this system but devices and processes of its own.
 """
 
 import argparse
@@ -45,7 +45,8 @@ def make_root(root: pathlib.Path, suite: str) -> None:
 def install_lines(text: str) -> str:
     """The commands of a document for users of bash: the lines of its sh blocks, without those of other shells."""
     blocks = re.findall(r"^```sh\n(.*?)^```$", text, re.M | re.S)
-    return "\n".join(line for block in blocks for line in block.splitlines() if not re.search(r"# (zsh|fish)\b", line))
+    lines = "".join(blocks).splitlines()
+    return "\n".join(line for line in lines if not re.search(r"# (zsh|fish)\b", line))
 
 
 def put_in(root: pathlib.Path, release: pathlib.Path) -> None:
@@ -60,8 +61,9 @@ def put_in(root: pathlib.Path, release: pathlib.Path) -> None:
 def tried(root: pathlib.Path, suite: str) -> int:
     """The status of the script in the root, in name spaces of its own, so that nothing stays mounted."""
     kind = "old" if suite in OLD else "whole"
-    words = ["PATH=/usr/sbin:/usr/bin:/sbin:/bin", "HOME=/root", "LC_ALL=C.UTF-8", "TERM=dumb", "bash", "fresh.sh", kind]
-    command = ["unshare", "--mount", "--pid", "--fork", "sh", "-c", INSIDE, root, "--chdir=/root/release", *words]
+    places = ["PATH=/usr/sbin:/usr/bin:/sbin:/bin", "HOME=/root", "LC_ALL=C.UTF-8", "TERM=dumb"]
+    words = ["--chdir=/root/release", *places, "bash", "fresh.sh", kind]
+    command = ["unshare", "--mount", "--pid", "--fork", "sh", "-c", INSIDE, root, *words]
     return subprocess.run(command, check=False, stdin=subprocess.DEVNULL).returncode
 
 

@@ -9,6 +9,8 @@ SIGNS = {"\\": "\\e", "−": "\\[mi]", "·": "\\[pc]", "χ": "\\[u03C7]", "^": "
 TITLES = {"Statuses": "EXIT STATUS", "Lines on refusals": "DIAGNOSTICS"}
 # Of no use to whoever has the program alone: it names the sources of the definitions.
 LEFT_OUT = "The definitions behind this page"
+SEE_ALSO = ("With the program come a guide (`guide.md`), what each word of an answer means (`definitions.md`) and what "
+            "is proved (`proved.md`).")
 
 
 def plain(text: str) -> str:
@@ -83,14 +85,14 @@ def description(usage: Usage, front: str) -> list[str]:
 def manual(usage: Usage, formats: str, name: str, version: str, date: str) -> str:
     """The page of section 1 for a command of this name."""
     front, *parts = re.split(r"^## (.*)$", formats, flags=re.M)
-    lines = [f'.TH {name.upper()} 1 {date} "surf {version}" "User Commands"', ".SH NAME", f"{name} \\- {roff(usage.title)}"]
-    lines += [".SH SYNOPSIS", *synopsis(usage, name), ".SH DESCRIPTION", *description(usage, front)]
+    lines = [f'.TH {name.upper()} 1 {date} "surf {version}" "User Commands"']
+    lines += [".SH NAME", f"{name} \\- {roff(usage.title)}", ".SH SYNOPSIS", *synopsis(usage, name)]
+    lines += [".SH DESCRIPTION", *description(usage, front)]
     for title, body in zip(parts[::2], parts[1::2]):
         lines.append(f'.SH "{plain(TITLES.get(title, title.upper()))}"')
         lines += [block_as_roff(block) for block in blocks_of(body)]
     example = re.sub(r"\bsurf ", f"{name} ", usage.example)
     lines += [".SH EXAMPLES", ".nf", *(literal(line) for line in example.split("; ")), ".fi"]
-    lines += [".SH SEE ALSO", sentences("With the program come a guide (`guide.md`), what each word of an answer means "
-                                        "(`definitions.md`) and what is proved (`proved.md`).")]
+    lines += [".SH SEE ALSO", sentences(SEE_ALSO)]
     # The first paragraph of a section has no request of its own.
     return re.sub(r"(?m)^(\.SH .*\n)\.PP\n", r"\1", "\n".join(lines)) + "\n"

@@ -1,7 +1,7 @@
 """What stands where in a release: the tarball, and three packages of Debian.
 
-Debian's package `surf` is a web browser, and /usr/bin/surf is its command. So the packages and the command have the name
-`surfbasis`, and /usr/lib/surfbasis/bin has the command as `surf`, for those who put that folder on the path.
+Debian's package `surf` is a web browser, and /usr/bin/surf is its command. So the packages and the command have the
+name `surfbasis`, and /usr/lib/surfbasis/bin has the command as `surf`, for those who put that folder on the path.
 """
 
 import email.utils
@@ -34,7 +34,7 @@ License: none-chosen
 
 
 class Parts(NamedTuple):
-    """What a release is made of: its version, its date in seconds, the folder of built files, and the pages by name."""
+    """What a release is made of: its version, its date in seconds, the folder of built files, the pages by name."""
 
     version: str
     time: int
@@ -88,7 +88,8 @@ def tarball_tree(parts: Parts) -> trees.Tree:
     tree.add("lib/libsurf.a", parts.built / "libsurf.a")
     tree.add("lib/libsurf.so.0", parts.built / "libsurf.so.0")
     tree.link("lib/libsurf.so", "libsurf.so.0")
-    tree.add("lib/pkgconfig/surf.pc", pkgconfig("surf", parts.version, "${pcfiledir}/../..", "${prefix}/lib", "${prefix}/include"))
+    places = "${pcfiledir}/../..", "${prefix}/lib", "${prefix}/include"
+    tree.add("lib/pkgconfig/surf.pc", pkgconfig("surf", parts.version, *places))
     tree.add("share/man/man1/surf.1", parts.pages["surf.1"])
     add_completions(tree, "surf", parts.pages, "site-functions")
     tree.add("INSTALL.md", TOP / "release/INSTALL.md")
@@ -105,7 +106,8 @@ def tarball_tree(parts: Parts) -> trees.Tree:
 def common(tree: trees.Tree, package: str, parts: Parts) -> None:
     """What every package has: a copyright file and a list of changes in Debian's form."""
     date = email.utils.formatdate(parts.time)
-    entry = f"{NAME} ({parts.version}) unstable; urgency=medium\n\n  * Release {parts.version}.\n\n -- {MAINTAINER}  {date}\n"
+    entry = f"{NAME} ({parts.version}) unstable; urgency=medium\n\n  * Release {parts.version}.\n\n"
+    entry += f" -- {MAINTAINER}  {date}\n"
     tree.add(f"usr/share/doc/{package}/copyright", COPYRIGHT)
     tree.add_packed(f"usr/share/doc/{package}/changelog.gz", entry)
 
@@ -133,10 +135,11 @@ def program_package(parts: Parts, proved: str, out: pathlib.Path) -> None:
     common(tree, NAME, parts)
     fields = control(NAME, "science", parts, f"""\
 shortest homology bases and cuts of closed surface meshes
-surfbasis finds shortest systems of loops, shortest homology bases and shortest nonseparating cycles on closed surface meshes,
-and cuts these open into a disc. Every answer and every refusal is proved. In other places the program has the name surf,
-which in Debian is that of a web browser; /usr/lib/{NAME}/bin has it by that name.""",
-                     Depends=f"libc6 (>= {needed_glibc(parts.built / 'surf')})", Recommends="sse4.2-support", Suggests="python3")
+surfbasis finds shortest systems of loops, shortest homology bases and shortest nonseparating cycles on closed
+surface meshes, and cuts these open into a disc. Every answer and every refusal is proved. In other places the
+program has the name surf, which in Debian is that of a web browser; /usr/lib/{NAME}/bin has it by that name.""",
+                     Depends=f"libc6 (>= {needed_glibc(parts.built / 'surf')})", Recommends="sse4.2-support",
+                     Suggests="python3")
     trees.debian_package(tree, fields, {}, out / f"{NAME}_{parts.version}_amd64.deb", parts.time)
 
 
@@ -164,7 +167,8 @@ def header_package(parts: Parts, out: pathlib.Path) -> None:
     common(tree, package, parts)
     fields = control(package, "libdevel", parts, """\
 surfbasis as one function (header, static library)
-The header, the static library and examples in C and Python. All that surfbasis does is one function over bytes in memory.""",
+The header, the static library and examples in C and Python. All that surfbasis does is one function over bytes in
+memory.""",
                      Depends=f"lib{NAME}0 (= {parts.version})", Multi_Arch="same")
     trees.debian_package(tree, fields, {}, out / f"{package}_{parts.version}_amd64.deb", parts.time)
 

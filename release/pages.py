@@ -9,8 +9,8 @@ twice. The program is crates/surf/out/surf where none is named. With --check not
 
 - that the table of commands in docs/formats.md has each row of `--help`;
 - that the page and each completion have each row, and the page each word of docs/formats.md, in order;
-- that `mandoc -T lint` and `man --warnings` find nothing, and the shells no fault. A tool that isn't here is passed over
-  with a word.
+- that `mandoc -T lint` and `man --warnings` find nothing, and the shells no fault. A tool that isn't here is passed
+  over with a word.
 """
 
 import argparse

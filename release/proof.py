@@ -80,7 +80,7 @@ def gate_of(text: str) -> Gate:
     told = [at for at, line in enumerate(lines) if line.startswith("rt: ok; ")]
     lasts = [line for line in lines[told[-1] if told else 0 :] if re.fullmatch(r"\d+ passed, \d+ failed", line)]
     if not told or not lasts or not lasts[0].endswith(" 0 failed"):
-        raise Refused("there is no gate that passed in this log: no line 'rt: ok; ..' with 'N passed, 0 failed' behind it")
+        raise Refused("no gate passed in this log: it has no line 'rt: ok; ..' with 'N passed, 0 failed' behind it")
     return Gate(lasts[0], lines[told[-1]].removeprefix("rt: "))
 
 
@@ -105,8 +105,8 @@ def gate_anew() -> Gate:
 
 
 def gate(log: pathlib.Path | None) -> Gate:
-    """The gate that this checkout passed. The kit has to say too that the program is what it proves from these sources:
-    it makes nothing anew where its own records say so."""
+    """The gate that this checkout passed. The kit has to say too that the program is what it proves from these
+    sources: it makes nothing anew where its own records say so."""
     found = gate_by_log(log) if log else gate_anew()
     before = checksum(PROGRAM)
     ran(["rt", "run", "--", "--version"], cwd=PROGRAM.parent.parent)
@@ -119,11 +119,13 @@ def gate(log: pathlib.Path | None) -> Gate:
 
 
 def proved(version: str, gate: Gate, root: pathlib.Path, notes: dict[str, str]) -> str:
-    """The file PROVED: what was proved and built, and what each built file in this folder is. Its lines are comments to
-    sha256sum, but for the checksums at its end."""
-    lines = [f"surf {version}", "", f"commit  {commit()}", f"kit     {kit()}", f"gate    {gate.last}", f"        {gate.told}"]
-    lines += ["", "Each function of the program and of the library was proved from the sources of this commit by this kit,",
-              "and built by it; the gate ran the program. docs/proved.md says what is proved, README.md what is trusted.", ""]
+    """The file PROVED: what was proved and built, and what each built file in this folder is. Its lines are comments
+    to sha256sum, but for the checksums at its end."""
+    lines = [f"surf {version}", "", f"commit  {commit()}", f"kit     {kit()}", f"gate    {gate.last}"]
+    lines += [f"        {gate.told}", ""]
+    lines += ["Each function of the program and of the library was proved from the sources of this commit, and",
+              "built, by this kit; the gate ran the program. docs/proved.md says what is proved, README.md what is",
+              "trusted.", ""]
     for name, note in notes.items():
         lines += [name, *textwrap.wrap(note, 96, initial_indent="    ", subsequent_indent="    ")]
     lines += ["", "SHA-256, to be tried by sha256sum -c PROVED:"]

@@ -103,13 +103,14 @@ class Page(unittest.TestCase):
     def test_words_without_mandoc(self):
         which, shutil.which = shutil.which, lambda name: None
         try:
-            self.assertEqual(pages.missing_words(pages.words_of_markdown(FORMATS), pages.words_of_page(self.PAGE)), [])
+            due = pages.words_of_markdown(FORMATS)
+            self.assertEqual(pages.missing_words(due, pages.words_of_page(self.PAGE)), [])
         finally:
             shutil.which = which
 
     def test_rows_that_lack(self):
-        text = completions.bash(USAGE, "surf")
-        self.assertTrue(any("surf.bash" in it for it in pages.row_faults(USAGE, {"surf.bash": text.replace("'info M'", "")})))
+        text = completions.bash(USAGE, "surf").replace("'info M'", "")
+        self.assertIn("surf.bash has no row info M", pages.row_faults(USAGE, {"surf.bash": text}))
 
 
 class Shell(unittest.TestCase):
@@ -120,7 +121,8 @@ class Shell(unittest.TestCase):
                 pathlib.Path(room, name).touch()
             script = completions.bash(USAGE, "surf") + 'COMP_WORDS=("$@") COMP_CWORD=$(($# - 1)); _surf; '
             script += 'printf "%s\\n" "${COMPREPLY[@]}"'
-            ran = subprocess.run(["bash", "-c", script, "-", *words], cwd=room, capture_output=True, text=True, check=True)
+            command = ["bash", "-c", script, "-", *words]
+            ran = subprocess.run(command, cwd=room, capture_output=True, text=True, check=True)
         return [line for line in ran.stdout.split("\n") if line]
 
     def test_words_of_rows(self):
@@ -140,9 +142,9 @@ class Shell(unittest.TestCase):
 class Gates(unittest.TestCase):
     def test_what_a_log_says(self):
         self.assertEqual(proof.gate_of(LOG), proof.Gate("5 passed, 0 failed", "ok; handles allowed: none; all anew"))
-        bad = ["", "5 passed, 0 failed\n", LOG.replace("rt: ok;", "rt: FAILED:"), LOG.replace("5 passed, 0", "5 passed, 1")]
-        bad.append("rt: ok; all anew\n5 passed, 1 failed\n2000 passed, 0 failed\n")
-        bad.append("rt: ok; the crates below passed\n5 passed, 0 failed (surf and the crates below alone: not the gate)\n")
+        bad = ["", "5 passed, 0 failed\n", LOG.replace("rt: ok;", "rt: FAILED:"), LOG.replace("5 passed, 0", "5 passed, 1"),
+               "rt: ok; all anew\n5 passed, 1 failed\n2000 passed, 0 failed\n",
+               "rt: ok; the crates below passed\n5 passed, 0 failed (surf and the crates below: not the gate)\n"]
         for text in bad:
             with self.assertRaises(proof.Refused, msg=text):
                 proof.gate_of(text)
@@ -150,7 +152,8 @@ class Gates(unittest.TestCase):
     def checkout(self, room):
         """A checkout of three crates and two wrong bodies, its program, and a log behind them."""
         top, log = pathlib.Path(room, "top"), pathlib.Path(room, "log")
-        for name in ("a/src/lib.rt", "b/src/lib.rt", "b/must-fail/one.edit", "b/must-fail/two.edit", "c/proofs/Lib.antt"):
+        sources = ("a/src/lib.rt", "b/src/lib.rt", "b/must-fail/one.edit", "b/must-fail/two.edit", "c/proofs/Lib.antt")
+        for name in sources:
             path = top / "crates" / name
             path.parent.mkdir(parents=True, exist_ok=True)
             path.touch()
@@ -206,11 +209,12 @@ class Archives(unittest.TestCase):
 
     @unittest.skipUnless(shutil.which("dpkg-deb"), "dpkg-deb isn't here")
     def test_a_package(self):
-        fields = packages.control("it", "misc", packages.Parts("1.2.3", 0, HERE, {}), "short\nlong text", Multi_Arch="same")
+        parts = packages.Parts("1.2.3", 0, HERE, {})
+        fields, scripts = packages.control("it", "misc", parts, "short\nlong text", Multi_Arch="same"), {"triggers": "x\n"}
         with tempfile.TemporaryDirectory() as room:
             made = [pathlib.Path(room, name) for name in ("a.deb", "b.deb")]
             for path in made:
-                trees.debian_package(self.tree(), fields, {"triggers": "activate-noawait ldconfig\n"}, path, 1_000_000_000)
+                trees.debian_package(self.tree(), fields, scripts, path, 1_000_000_000)
             self.assertEqual(made[0].read_bytes(), made[1].read_bytes())
             said = subprocess.run(["dpkg-deb", "-f", made[0]], capture_output=True, text=True, check=True).stdout
             listed = subprocess.run(["dpkg-deb", "-c", made[0]], capture_output=True, text=True, check=True).stdout
@@ -232,7 +236,7 @@ class Contents(unittest.TestCase):
             root = pathlib.Path(room, "root")
             trees.write_tree(tree, root, 0)
             documents = sorted(root.rglob("*.md"))
-            dead = [(path.name, link) for path in documents for link in check_sessions.dead_links(path, path.read_text())]
+            dead = [link for path in documents for link in check_sessions.dead_links(path, path.read_text())]
         self.assertGreater(len(documents), 10)
         self.assertEqual(dead, [])
 
@@ -255,7 +259,8 @@ class Versions(unittest.TestCase):
 
     def test_one_version(self):
         with tempfile.TemporaryDirectory() as room:
-            self.assertEqual(versions.agreed(self.program(room, "surf 1.2.3"), "# Changes\n\n## 1.2.3\n\n## 1.2.2\n"), "1.2.3")
+            changes = "# Changes\n\n## 1.2.3\n\n## 1.2.2\n"
+            self.assertEqual(versions.agreed(self.program(room, "surf 1.2.3"), changes), "1.2.3")
             with self.assertRaises(proof.Refused):
                 versions.agreed(self.program(room, "surf 1.2.3"), "# Changes\n\n## Not yet released\n\n## 1.2.3\n")
             with self.assertRaises(ValueError):

@@ -1,4 +1,4 @@
-"""Files for a package, and the archives that are made of them: the same bytes for the same files and the same time."""
+"""Files for a package, and the archives that are made of them: the same bytes for the same files and time."""
 
 import gzip
 import hashlib
@@ -43,7 +43,8 @@ class Tree:
 
     def size(self) -> int:
         """Kibibytes on a disk, each file rounded up."""
-        return sum(-(-len(content) // 1024) for content, _ in self.files.values()) + len(self.folders()) + len(self.links)
+        blocks = sum(-(-len(content) // 1024) for content, _ in self.files.values())
+        return blocks + len(self.folders()) + len(self.links)
 
 
 def tarball(tree: Tree, root: str, time: int) -> bytes:
@@ -95,4 +96,5 @@ def debian_package(tree: Tree, control: dict[str, str], scripts: dict[str, str],
         root = pathlib.Path(room, "package")
         write_tree(whole, root, time)
         words = ["dpkg-deb", "--root-owner-group", "-Zxz", "--build", root, to]
-        subprocess.run(words, check=True, stdout=subprocess.DEVNULL, env={**os.environ, "SOURCE_DATE_EPOCH": str(time)})
+        environment = {**os.environ, "SOURCE_DATE_EPOCH": str(time)}
+        subprocess.run(words, check=True, stdout=subprocess.DEVNULL, env=environment)

@@ -1,8 +1,8 @@
 #!/usr/bin/env python3
 """Tries whether the list of changes begins with the version of the program: python3 release/versions.py [PROGRAM]
 
-The version has one home, what `surf --version` prints. Packages, the wheel and the manual page take it from there, and
-CHANGELOG.md has it as its first heading.
+The version has one home, what `surf --version` prints. Packages, the wheel and the manual page take it from there,
+and CHANGELOG.md has it as its first heading.
 """
 
 import datetime

@@ -3,11 +3,11 @@
 
     check_certificates.py [--program PATH] [--surfaces N] [--seed S]
 
-The worked cases of `check` and `confirm` whose files stand on their sheets say what is due, and need no program. Then on
-small surfaces come certificates of loops and of bases, and evidence of classes, made here by the plain method of
-check_bases.py. Some are right, some are well formed over other trees, other trees of faces and other cycles, and most are
-spoiled: numbers, lines and pairs are changed, left out, said twice or put elsewhere. Both programs have to print the same
-line. The last line tells how often each line came.
+The worked cases of `check` and `confirm` whose files stand on their sheets say what is due, and need no program. Then
+on small surfaces come certificates of loops and of bases, and evidence of classes, made here by the plain method of
+check_bases.py. Some are right, some are well formed over other trees, other trees of faces and other cycles, and most
+are spoiled: numbers, lines and pairs are changed, left out, said twice or put elsewhere. Both programs have to print
+the same line. The last line tells how often each line came.
 """
 
 import collections
@@ -149,15 +149,16 @@ def spoiled_row(row, chance):
     """A row with one token changed, left out or said twice."""
     tokens = row.split() or ["0"]
     at = chance.randrange(len(tokens))
-    if chance.random() < 0.7 and tokens[at].isdigit():
+    if chance.random() < 0.85 and tokens[at].isdigit():
         tokens[at] = str(max(0, int(tokens[at]) + chance.choice([-3, -1, -1, 1, 1, 2, 1000, 2**32, 2**64])))
     else:
-        tokens[at : at + 1] = chance.choice([[], [tokens[at]] * 2, ["-"], ["x"], ["0" + tokens[at]], ["#" + tokens[at]]])
+        others = [[], [tokens[at]] * 2, ["-"], ["x"], ["0" + tokens[at]], ["#" + tokens[at]]]
+        tokens[at : at + 1] = chance.choice(others)
     return " ".join(tokens)
 
 
 def spoiled(rows, plain, chance):
-    """Rows of which one to three are changed, left out, said twice, changed places or became another pair or cycle."""
+    """Rows of which one to three are changed, left out, said twice, put elsewhere, or another pair or cycle."""
     rows = list(rows)
     for _ in range(chance.choice([1, 1, 1, 2, 3])):
         at, other = chance.randrange(len(rows)), chance.randrange(len(rows))
@@ -237,7 +238,7 @@ def program_line(program, words):
 
 
 def worked_cases():
-    """How many worked cases go as is due, and how many otherwise. Of a refusal of another file the status is compared."""
+    """How many worked cases go as is due, and how many don't. Where another file is refused, any refusal is due."""
     right = wrong = 0
     for sheet in sorted((TOP / "tools" / "cases").glob("*.cases")):
         shared, cases = cases_of(sheet.read_bytes().decode())
@@ -267,7 +268,8 @@ def main():
             return 1 if wrong else 0
         chance, kinds = random.Random(given.seed), collections.Counter()
         differ = sum(compared(given.program, chance, kinds) for _ in range(given.surfaces))
-    print(f"{kinds.total() - differ} lines alike, {differ} not: " + ", ".join(f"{k} {n}" for k, n in kinds.most_common()))
+    listed = ", ".join(f"{kind} {count}" for kind, count in kinds.most_common())
+    print(f"{kinds.total() - differ} lines alike, {differ} not: {listed}")
     return 1 if wrong or differ else 0
 
 

@@ -5,12 +5,12 @@
     plain_check.py confirm MESH WALK EVIDENCE          what `class` wrote
     plain_check.py confirm MESH WALK WALK2 EVIDENCE    what `same` wrote
 
-Prints the line of `surf check` and `surf confirm`: `valid ..` with status 0, or one `no` line with status 1. For a file
-that can't be read there is a line on standard error, with status 2. There are no limits on counts.
+Prints the line of `surf check` and `surf confirm`: `valid ..` with status 0, or one `no` line with status 1. For a
+file that can't be read there is a line on standard error, with status 2. There are no limits on counts.
 
 Written from docs/formats.md and docs/definitions.md alone, for whoever would rather trust two unrelated programs than
-one, or read this page. It searches for nothing: each row of a certificate is tested where it stands, in the order of the
-table in docs/formats.md. So a test may rely on those before it.
+one, or read this file. It searches for nothing: each row of a certificate is tested where it stands, in the order of
+the table in docs/formats.md. So a test may rely on those before it.
 """
 
 import collections
@@ -357,7 +357,7 @@ class Sums:
 
 
 def signatures(mesh: Mesh, cert: Certificate) -> dict[Edge, int]:
-    """For each edge, as bits, the left edges whose faces are on two sides where it is taken out of the tree of faces."""
+    """For each edge, as bits, the left edges whose faces are parted where it is taken out of the tree of faces."""
     signs, below = dict.fromkeys(mesh.edges, 0), [0] * mesh.faces
     for bit, side in enumerate(cert.left):
         signs[side] = 1 << bit
@@ -395,8 +395,8 @@ def dependent_faults(signs: dict[Edge, int], cycles: list[list[int]]) -> Iterato
 
 
 def uncovered_faults(lengths: dict[Edge, int], signs: dict[Edge, int], cert: Certificate) -> Iterator[str]:
-    """As many independent cycles as left edges: so each signature is a sum of theirs, in one way. Rows that are made in
-    the order of lengths show how long the longest cycle of that sum is."""
+    """There are as many independent cycles as left edges, so each signature is a sum of theirs, in one way. Rows that
+    are made in the order of lengths show how long the longest cycle of that sum is."""
     sums = Sums()
     for length, cycle in sorted((sum(map(lengths.get, steps_of(cycle))), cycle) for cycle in cert.cycles):
         sums.add(sum_of(signs, cycle), length)
