@@ -14,9 +14,11 @@ same() {
 
 # Whether a command ends well.
 well() {
-  local said
+  local said status
   said=$("${@:2}" 2>&1)
-  same "$1" "status 0" "status $?${said:+, saying $said}"
+  status=$?
+  [ "$status" = 0 ] || printf '%s\n' "${said:0:400}"
+  same "$1" "status 0" "status $status"
 }
 
 files() {
@@ -43,8 +45,8 @@ total 12262957" "$($1 basis "$2/eight.off" /tmp/eight.len | head -n 2)"
 }
 
 manual() { # COMMAND
-  same "man $1, its name" "$1 - shortest loops, least bases and cuts of closed surface meshes" \
-    "$(man "$1" | col -b | sed -n '/^NAME$/{n;s/^ *//p}')"
+  same "man $1, its name" "$1 -$($1 --help | sed -n '1s/^surf://p')" \
+    "$(MANWIDTH=200 man "$1" | col -b | sed -n '/^NAME$/{n;s/^[[:blank:]]*//p}' | tr -s ' ')"
   same "man $1, its warnings" "" "$(man --warnings "$1" 2>&1 > /dev/null)"
 }
 
@@ -53,6 +55,7 @@ completions() { # COMMAND; words that come behind `COMMAND cut a.off unit 0 `
   touch a.off notes.txt
   local due
   due=$("$1" --help | sed -n 's/^ *surf cut M L x \([a-z]*\).*/\1/p' | sort | paste -sd' ')
+  same "the cuts of --help" "full .. trim" "$(sed 's/ through / /; s/ / .. /' <<< "$due")"
   same "completion by bash, of cuts" "$due" "$(by_bash "$1" cut a.off unit 0 '')"
   same "completion by bash, of meshes" "a.off" "$(by_bash "$1" cut '')"
   same "completion by fish, of cuts" "$due" "$(fish -c "complete -C '$1 cut a.off unit 0 '" | cut -f 1 | sort | paste -sd' ')"

@@ -9,8 +9,8 @@ SIGNS = {"\\": "\\e", "−": "\\[mi]", "·": "\\[pc]", "χ": "\\[u03C7]", "^": "
 TITLES = {"Statuses": "EXIT STATUS", "Lines on refusals": "DIAGNOSTICS"}
 # Of no use to whoever has the program alone: it names the sources of the definitions.
 LEFT_OUT = "The definitions behind this page"
-SEE_ALSO = ("With the program come a guide (`guide.md`), what each word of an answer means (`definitions.md`) and what "
-            "is proved (`proved.md`).")
+SEE_ALSO = ("With the program come a guide (`guide.md`), what each word of an answer means (`definitions.md`) and "
+            "what is proved (`proved.md`).")
 
 
 def plain(text: str) -> str:

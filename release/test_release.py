@@ -142,7 +142,7 @@ class Shell(unittest.TestCase):
 class Gates(unittest.TestCase):
     def test_what_a_log_says(self):
         self.assertEqual(proof.gate_of(LOG), proof.Gate("5 passed, 0 failed", "ok; handles allowed: none; all anew"))
-        bad = ["", "5 passed, 0 failed\n", LOG.replace("rt: ok;", "rt: FAILED:"), LOG.replace("5 passed, 0", "5 passed, 1"),
+        bad = ["", "5 passed, 0 failed\n", LOG.replace("ok;", "FAILED:"), LOG.replace("5 passed, 0", "5 passed, 1"),
                "rt: ok; all anew\n5 passed, 1 failed\n2000 passed, 0 failed\n",
                "rt: ok; the crates below passed\n5 passed, 0 failed (surf and the crates below: not the gate)\n"]
         for text in bad:
@@ -152,8 +152,8 @@ class Gates(unittest.TestCase):
     def checkout(self, room):
         """A checkout of three crates and two wrong bodies, its program, and a log behind them."""
         top, log = pathlib.Path(room, "top"), pathlib.Path(room, "log")
-        sources = ("a/src/lib.rt", "b/src/lib.rt", "b/must-fail/one.edit", "b/must-fail/two.edit", "c/proofs/Lib.antt")
-        for name in sources:
+        wrong_bodies = ("b/must-fail/one.edit", "b/must-fail/two.edit")
+        for name in ("a/src/lib.rt", "b/src/lib.rt", "c/proofs/Lib.antt", *wrong_bodies):
             path = top / "crates" / name
             path.parent.mkdir(parents=True, exist_ok=True)
             path.touch()
@@ -210,11 +210,11 @@ class Archives(unittest.TestCase):
     @unittest.skipUnless(shutil.which("dpkg-deb"), "dpkg-deb isn't here")
     def test_a_package(self):
         parts = packages.Parts("1.2.3", 0, HERE, {})
-        fields, scripts = packages.control("it", "misc", parts, "short\nlong text", Multi_Arch="same"), {"triggers": "x\n"}
+        fields = packages.control("it", "misc", parts, "short\nlong text", Multi_Arch="same")
         with tempfile.TemporaryDirectory() as room:
             made = [pathlib.Path(room, name) for name in ("a.deb", "b.deb")]
             for path in made:
-                trees.debian_package(self.tree(), fields, scripts, path, 1_000_000_000)
+                trees.debian_package(self.tree(), fields, {"triggers": "x\n"}, path, 1_000_000_000)
             self.assertEqual(made[0].read_bytes(), made[1].read_bytes())
             said = subprocess.run(["dpkg-deb", "-f", made[0]], capture_output=True, text=True, check=True).stdout
             listed = subprocess.run(["dpkg-deb", "-c", made[0]], capture_output=True, text=True, check=True).stdout
