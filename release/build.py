@@ -29,11 +29,12 @@ from pages import pages
 
 TOP = proof.TOP
 OUT = TOP / "release/out"
-# What other parts of the repository make for a release: the script, called with the folder to put it in.
+# What other parts of the repository make for a release: the script, with the words that go before the folder, and the
+# names of what it leaves there that belong to the release.
 OTHERS = {
-    "the wheel": "python/build.py",
-    "the page for browsers": "web/build.py",
-    "the add-on for Blender": "blender/build.py",
+    "the wheel": (["python/build.py", "--to"], "*.whl"),
+    "the page for browsers": (["web/build.py", "--to"], "surf.html"),
+    "the add-on for Blender": (["blender/build.py", "--to"], "*.zip"),
 }
 
 
@@ -78,13 +79,22 @@ def make_packages(parts: packages.Parts, gate: proof.Gate, out: pathlib.Path) ->
     return made
 
 
-def make_others(out: pathlib.Path) -> None:
-    """What other parts of the repository make, where they are there."""
-    for what, script in OTHERS.items():
-        if (TOP / script).exists():
-            print(proof.ran([sys.executable, TOP / script, "--release", out]), end="")
-        else:
-            print(f"{what} isn't in the release: the repository has no {script}")
+def make_other(what: str, words: list[str], pattern: str, out: pathlib.Path) -> None:
+    """What another part of the repository makes. Passed over with a word where it, or a tool of its, isn't here."""
+    if not (TOP / words[0]).exists():
+        print(f"{what} isn't in the release: there is no {words[0]}")
+        return
+    with tempfile.TemporaryDirectory() as room:
+        command = [sys.executable, TOP / words[0], *words[1:], room]
+        done = subprocess.run(command, capture_output=True, text=True, check=False)
+        said = (done.stdout + done.stderr).strip()
+        made = sorted(pathlib.Path(room).glob(pattern))
+        if done.returncode and said.endswith("isn't here"):
+            print(f"{what} isn't in the release: {said}")
+        elif done.returncode or not made:
+            raise proof.Refused(f"{what} can't be made: {said[-2000:]}")
+        for path in made:
+            shutil.copy(path, out / path.name)
 
 
 def write_sums(out: pathlib.Path) -> None:
@@ -104,7 +114,8 @@ def release(log: pathlib.Path | None, out: pathlib.Path) -> None:
         date = versions.day(time)
         texts = pages(built / "surf", "surf", date) | pages(built / "surf", packages.NAME, date)
         made = make_packages(packages.Parts(version, time, built, texts), gate, out)
-    make_others(out)
+    for what, (words, pattern) in OTHERS.items():
+        make_other(what, words, pattern, out)
     trial.try_tarball(made)
     write_sums(out)
 
