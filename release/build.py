@@ -117,6 +117,7 @@ def release(log: pathlib.Path | None, out: pathlib.Path) -> None:
     for what, (words, pattern) in OTHERS.items():
         make_other(what, words, pattern, out)
     trial.try_tarball(made)
+    trial.try_packages(out)
     write_sums(out)
 
 

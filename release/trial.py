@@ -2,7 +2,7 @@
 
 import argparse
 import pathlib
-import subprocess
+import shutil
 import sys
 import tarfile
 import tempfile
@@ -37,6 +37,15 @@ def try_calls(root: pathlib.Path, room: pathlib.Path) -> None:
     if wrong or differ or not check_c.small_rooms(module, shared):
         raise Refused(f"of calls of the libraries {wrong} examples and {differ} of {count} are not as the program")
     print(f"libraries: {count} calls, and an example by each library and in Python, as the program")
+
+
+def try_packages(out: pathlib.Path) -> None:
+    """Whether lintian finds errors in the packages of Debian. It is passed over with a word where it isn't here."""
+    if shutil.which("lintian"):
+        ran(["lintian", "--allow-root", "--fail-on", "error", *sorted(out.glob("*.deb"))])
+        print("packages: lintian finds no error")
+    else:
+        print("lintian isn't here: the packages are not tried by it")
 
 
 def try_tarball(made: pathlib.Path) -> None:

@@ -7,7 +7,8 @@ The worked cases of `check` and `confirm` whose files stand on their sheets say 
 on small surfaces come certificates of loops and of bases, and evidence of classes, made here by the plain method of
 check_bases.py. Some are right, some are well formed over other trees, other trees of faces and other cycles, and most
 are spoiled: numbers, lines and pairs are changed, left out, said twice or put elsewhere. Both programs have to print
-the same line. The last line tells how often each line came.
+the same line; and what `same` prints has to be found right, and less of it wrong. The last line tells how often each
+line came.
 """
 
 import collections
@@ -204,9 +205,9 @@ def tries(plain, chance):
         rows = certificate(plain, candidates, chance)
         yield "check", "l", rows if chance.random() < 0.4 else spoiled(rows, plain, chance)
     for _ in range(TRIES // 2):
-        walk = some_walk(plain, chance)
-        rows = evidence(plain, walk)
-        yield "confirm", " ".join(map(str, walk)), rows if chance.random() < 0.2 else spoiled(rows, plain, chance)
+        walk, other = some_walk(plain, chance), some_walk(plain, chance)
+        rows = evidence(plain, chance.choice([walk, walk, other]))
+        yield "confirm", " ".join(map(str, walk)), rows if chance.random() < 0.4 else spoiled(rows, plain, chance)
 
 
 def compared(program, chance, kinds):
@@ -226,15 +227,34 @@ def compared(program, chance, kinds):
         if due != said:
             wrong += 1
             print(f"{' '.join(words)}: surf {said!r}, plain_check.py {due!r}, for\n" + "\n".join(rows))
-    return wrong
+    return wrong + wrong_of_same(program, plain, chance)
 
 
 def program_line(program, words):
     """What the program prints, on either stream, with its status in front where that isn't the line's own."""
     ran = subprocess.run([program, *words], capture_output=True, text=True, check=False)
     line = ran.stdout + ran.stderr
-    due = {"valid": 0, "no": 1}.get(line.split(" ")[0], 8)
+    due = {"valid": 0, "no": 1, "same": 0, "different": 0}.get(line.split(" ")[0], 8)
     return line if ran.returncode == due else f"status {ran.returncode}: {line}"
+
+
+def wrong_of_same(program, plain, chance):
+    """On how many pairs of walks plain_check.py doesn't find what `same` printed right, and less of it wrong."""
+    wrong = 0
+    for _ in range(TRIES // 8):
+        for name in ("w", "w2"):
+            pathlib.Path(name).write_text(" ".join(map(str, some_walk(plain, chance))) + "\n")
+        row = program_line(program, ["same", "m", "w", "w2"])
+        word, count, *listed = row.split()
+        size = {"same": 1, "different": 2}[word]
+        less = " ".join([word, str(int(count) - 1), *listed[size:]])
+        for text, due in ((row, f"valid {word}\n"), (less, "no "))[: 2 if listed else 1]:
+            pathlib.Path("c").write_text(text)
+            said = plain_line("confirm", "m", "w", "w2", "c")
+            if not said.startswith(due):
+                wrong += 1
+                print(f"confirm of {text!r} said {said!r}")
+    return wrong
 
 
 def worked_cases():
