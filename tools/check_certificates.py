@@ -198,26 +198,29 @@ def kind_of(line):
     return " ".join(word for word in line.split()[:3] if not word.strip("-").isdigit())
 
 
-def tries(plain, chance):
-    """Words and rows of certificates and of evidence, some right and most spoiled."""
+def tries(plain, others, chance):
+    """Words and rows of certificates and of evidence, some right and most spoiled, and of certificates of others."""
     candidates = plain.candidates()
     for _ in range(TRIES):
         rows = certificate(plain, candidates, chance)
         yield "check", "l", rows if chance.random() < 0.4 else spoiled(rows, plain, chance)
+    yield from (("check", "l", rows) for rows in others)
+    others[:] = [*others[-2:], rows]
     for _ in range(TRIES // 2):
         walk, other = some_walk(plain, chance), some_walk(plain, chance)
         rows = evidence(plain, chance.choice([walk, walk, other]))
         yield "confirm", " ".join(map(str, walk)), rows if chance.random() < 0.4 else spoiled(rows, plain, chance)
 
 
-def compared(program, chance, kinds):
-    """On how many texts over one surface the two programs differ, in the folder that is worked in."""
+def compared(program, chance, others, kinds):
+    """On how many texts over one surface the two programs differ, in the folder that is worked in. `others` has
+    certificates of surfaces before this one."""
     count, faces = surface(chance)
     most = chance.choice([1, 1, 2, 3, 50, 4_294_967_295])
     plain, wrong = Plain(count, faces, [chance.randint(1, most) for _ in edges_of(faces)]), 0
     pathlib.Path("m").write_text(off(count, faces))
     pathlib.Path("l").write_text("".join(f"{pair_of(plain, e)} {n}\n" for e, n in enumerate(plain.lengths)))
-    for task, beside, rows in tries(plain, chance):
+    for task, beside, rows in tries(plain, others, chance):
         if task == "confirm":
             pathlib.Path("w").write_text(beside + "\n")
         pathlib.Path("c").write_text("\n".join(rows) + "\n")
@@ -286,8 +289,8 @@ def main():
         print(f"{right} worked cases go as is due with plain_check.py, {wrong} otherwise")
         if given is None:
             return 1 if wrong else 0
-        chance, kinds = random.Random(given.seed), collections.Counter()
-        differ = sum(compared(given.program, chance, kinds) for _ in range(given.surfaces))
+        chance, others, kinds = random.Random(given.seed), [], collections.Counter()
+        differ = sum(compared(given.program, chance, others, kinds) for _ in range(given.surfaces))
     listed = ", ".join(f"{kind} {count}" for kind, count in kinds.most_common())
     print(f"{kinds.total() - differ} lines alike, {differ} not: {listed}")
     return 1 if wrong or differ else 0
