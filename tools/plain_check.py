@@ -161,6 +161,8 @@ def read_lengths(word: str, mesh: Mesh) -> dict[Edge, int]:
             if rows and rows[0][1][0] == "default":
                 lines.number, tokens = rows.pop(0)
                 (default,) = numbers_behind(["default"], tokens, 1)
+                if default == 0:
+                    raise ValueError
         for lines.number, tokens in rows:
             u, w, length = numbers_behind([], tokens, 3)
             if edge(u, w) not in mesh.edges or edge(u, w) in found:
