@@ -136,8 +136,8 @@ def main() -> int:
         write_pages(given.folder, pages(given.program, given.name, given.date))
         return 0
     if not given.program.exists():
-        print("there is no program yet: the manual page and the completions are not tried")
-        return 0
+        print("there is no program: the manual page and the completions can't be tried")
+        return 1
     faults = faults_of(given.program, given.name, given.date)
     print("\n".join(faults or ["the manual page and the completions have all of --help and docs/formats.md"]))
     return 1 if faults else 0

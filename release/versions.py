@@ -35,8 +35,8 @@ def day(time: int) -> str:
 def main() -> int:
     program = pathlib.Path(sys.argv[1]) if len(sys.argv) > 1 else PROGRAM
     if not program.exists():
-        print("there is no program yet: its version is not tried")
-        return 0
+        print("there is no program: its version can't be tried")
+        return 1
     try:
         print(f"the version is {agreed(program)}")
     except (Refused, ValueError) as fault:
