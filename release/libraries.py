@@ -3,7 +3,7 @@
 import pathlib
 import re
 
-from proof import TOP, Refused, kit_folder, ran
+from proof import TOP, Refused, kit_folder, newest_source, ran
 
 CRATE = TOP / "crates/surf_c"
 MADE = CRATE / "out/libsurf_c.a"
@@ -12,7 +12,10 @@ FLAGS = ["-Wl,-z,relro,-z,now", "-Wl,-z,defs", "-Wl,--build-id=sha1", "-Wl,--gc-
 
 
 def make() -> None:
-    """Proves and makes the library where it isn't there, or is older than what the kit proves."""
+    """Proves and makes the library, and what it stands on, where it isn't there or is older than a source."""
+    if MADE.exists() and MADE.stat().st_mtime > newest_source(TOP):
+        return
+    print("rt lib proves and makes the library for C: an hour or more where it has never run here", flush=True)
     ran(["rt", "lib"], cwd=CRATE)
 
 

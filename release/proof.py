@@ -1,10 +1,16 @@
-"""What a release says of its proof: the commit, the kit, the gate that passed and the checksums of what was built."""
+#!/usr/bin/env python3
+"""What a release says of its proof: the commit, the kit, the gate that passed and the checksums of what was built.
+
+Run as a script it prints the commit and the checksum of the program that the gate has just left, so that a log of
+`.ci/run` says of which sources and of which program it is.
+"""
 
 import hashlib
 import os
 import pathlib
 import re
 import subprocess
+import sys
 import textwrap
 from typing import NamedTuple
 
@@ -17,10 +23,11 @@ class Refused(Exception):
 
 
 class Gate(NamedTuple):
-    """The last line of a gate that passed, and the line that tells what it did."""
+    """A gate that passed: its last line, the line on what it did, and how it is known to be of these files."""
 
     last: str
     told: str
+    known: str = ""
 
 
 def ran(words: list, **how) -> str:
@@ -32,9 +39,13 @@ def ran(words: list, **how) -> str:
     return done.stdout
 
 
+def changed_files() -> str:
+    return ran(["git", "status", "--porcelain", "--untracked-files=no"], cwd=TOP)
+
+
 def commit() -> str:
     """The commit of this checkout. Refused where a file that git knows has changed since."""
-    changed = ran(["git", "status", "--porcelain", "--untracked-files=no"], cwd=TOP)
+    changed = changed_files()
     if changed:
         raise Refused(f"files have changed since the last commit, so no commit says what is built:\n{changed}")
     return ran(["git", "rev-parse", "HEAD"], cwd=TOP).strip()
@@ -84,35 +95,36 @@ def gate_of(text: str) -> Gate:
     return Gate(lasts[0], lines[told[-1]].removeprefix("rt: "))
 
 
-def gate_by_log(log: pathlib.Path, top: pathlib.Path = TOP) -> Gate:
+def built_from(text: str) -> tuple[str, str] | None:
+    """The commit and the checksum of the program that a log of `.ci/run` names, if it does."""
+    found = re.findall(r"^built from (\w+|no commit): surf ([0-9a-f]{64})$", text, re.M)
+    return found[-1] if found else None
+
+
+def gate_by_log(log: pathlib.Path, head: str, top: pathlib.Path = TOP) -> Gate:
     """The gate that a log tells of. Refused where that wasn't one of this checkout, as it is now."""
-    gate = gate_of(log.read_text(errors="replace"))
+    text = log.read_text(errors="replace")
+    gate, named, program = gate_of(text), built_from(text), top / PROGRAM.relative_to(TOP)
     passed, due = int(gate.last.split()[0]), due_count(top)
     if passed != due:
         raise Refused(f"{passed} passed in the gate of this log, and this checkout has {due} crates and wrong bodies")
     written = log.stat().st_mtime
     if newest_source(top) > written:
         raise Refused("a source of a crate is newer than the log of the gate")
-    program = top / PROGRAM.relative_to(TOP)
     if not program.exists() or program.stat().st_mtime > written:
         raise Refused("the program isn't there, or is newer than the log of the gate")
-    return gate
-
-
-def gate_anew() -> Gate:
-    """Runs the gate. Refused where it doesn't pass."""
-    return gate_of(ran(["rt", "ci"], cwd=TOP))
+    if not named:
+        return gate._replace(known="its log names no commit; it counts what this commit has, and no file is newer")
+    if named != (head, checksum(program)):
+        raise Refused(f"the log is of commit {named[0]} and of another program, or of another commit, than this one")
+    return gate._replace(known="its log names this commit, and this program by its checksum")
 
 
 def gate(log: pathlib.Path | None) -> Gate:
-    """The gate that this checkout passed. The kit has to say too that the program is what it proves from these
-    sources: it makes nothing anew where its own records say so."""
-    found = gate_by_log(log) if log else gate_anew()
-    before = checksum(PROGRAM)
-    ran(["rt", "run", "--", "--version"], cwd=PROGRAM.parent.parent)
-    if checksum(PROGRAM) != before:
-        raise Refused("the kit makes another program of these sources than the one that the gate left")
-    return found
+    """The gate that this checkout passed, by its log, or else by running it. Refused where it didn't."""
+    if log:
+        return gate_by_log(log, commit())
+    return gate_of(ran(["rt", "ci"], cwd=TOP))._replace(known="it was run when this release was made")
 
 
 # ---- the text
@@ -122,7 +134,7 @@ def proved(version: str, gate: Gate, root: pathlib.Path, notes: dict[str, str]) 
     """The file PROVED: what was proved and built, and what each built file in this folder is. Its lines are comments
     to sha256sum, but for the checksums at its end."""
     lines = [f"surf {version}", "", f"commit  {commit()}", f"kit     {kit()}", f"gate    {gate.last}"]
-    lines += [f"        {gate.told}", ""]
+    lines += [f"        {gate.told}", f"        {gate.known}", ""]
     lines += ["Each function of the program and of the library was proved from the sources of this commit, and",
               "built, by this kit; the gate ran the program. docs/proved.md says what is proved, README.md what is",
               "trusted.", ""]
@@ -131,3 +143,20 @@ def proved(version: str, gate: Gate, root: pathlib.Path, notes: dict[str, str]) 
     lines += ["", "SHA-256, to be tried by sha256sum -c PROVED:"]
     sums = [f"{checksum(root / name)}  {name}" for name in notes]
     return "\n".join([f"# {line}".rstrip() for line in lines] + sums) + "\n"
+
+
+def main() -> int:
+    """Prints the commit, or none where files have changed since, and the checksum of the program."""
+    if not PROGRAM.exists():
+        print("there is no program: the gate left none")
+        return 1
+    try:
+        head = commit()
+    except (Refused, OSError):
+        head = "no commit"
+    print(f"built from {head}: surf {checksum(PROGRAM)}")
+    return 0
+
+
+if __name__ == "__main__":
+    sys.exit(main())

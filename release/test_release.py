@@ -168,21 +168,36 @@ class Gates(unittest.TestCase):
     def test_a_log_of_this_checkout(self):
         with tempfile.TemporaryDirectory() as room:
             top, log, program = self.checkout(room)
-            self.assertEqual(proof.gate_by_log(log, top).last, "5 passed, 0 failed")
+            self.assertEqual(proof.gate_by_log(log, "abc", top).last, "5 passed, 0 failed")
             os.utime(top / "crates/b/src/lib.rt", (3e9, 3e9))
             with self.assertRaisesRegex(proof.Refused, "newer"):
-                proof.gate_by_log(log, top)
+                proof.gate_by_log(log, "abc", top)
             os.utime(top / "crates/b/src/lib.rt", (1e9, 1e9))
             os.utime(program, (3e9, 3e9))
             with self.assertRaisesRegex(proof.Refused, "program"):
-                proof.gate_by_log(log, top)
+                proof.gate_by_log(log, "abc", top)
+
+    def test_a_log_that_names_commit_and_program(self):
+        with tempfile.TemporaryDirectory() as room:
+            top, log, program = self.checkout(room)
+            tries = ("abc", "", True), ("abd", "", False), ("no commit", "", False), ("abc", "x", False)
+            for commit, content, right in tries:
+                program.write_text("")
+                log.write_text(f"{LOG}built from {commit}: surf {proof.checksum(program)}\n")
+                os.utime(log, (2e9, 2e9))
+                program.write_text(content)
+                if right:
+                    self.assertIn("names this commit", proof.gate_by_log(log, "abc", top).known)
+                else:
+                    with self.assertRaisesRegex(proof.Refused, "another program"):
+                        proof.gate_by_log(log, "abc", top)
 
     def test_a_log_of_another_checkout(self):
         with tempfile.TemporaryDirectory() as room:
             top, log, _ = self.checkout(room)
             (top / "crates/b/must-fail/two.edit").unlink()
             with self.assertRaisesRegex(proof.Refused, "5 passed .* 4 crates"):
-                proof.gate_by_log(log, top)
+                proof.gate_by_log(log, "abc", top)
 
 
 class Archives(unittest.TestCase):
