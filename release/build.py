@@ -5,8 +5,8 @@
 
 The gate is run first, unless --gate names what `.ci/run` or `rt ci` printed here before. Such a log has to be that of
 a gate that passed with the crates and wrong bodies of this checkout, no source and no program may be newer, and where
-it names a commit and a program, as `.ci/run` does, they have to be these. Then come the library, the manual page and the
-completions, the tarball, the packages of Debian, and the wheel, the page and the add-on where the repository has
+it names a commit and a program, as `.ci/run` does, they have to be these. Then come the library, the manual page and
+the completions, the tarball, the packages of Debian, and the wheel, the page and the add-on where the repository has
 them. The folder (release/out/) is there only if the trials over what was made pass: the worked cases on both
 programs, and calls from C and Python. The same commit gives the same bytes; files are dated to SOURCE_DATE_EPOCH, or
 to the commit.
