@@ -25,7 +25,7 @@ def face_numbers(starts):
 
 def mates_of(corners, starts):
     mates = np.full(len(corners), BORDER)
-    if not len(corners):
+    if np.bincount(corners, minlength=1).max() < 2:  # no two faces have a vertex in common
         return mates, []
     ends = corners[next_places(starts)]
     keys = np.minimum(corners, ends) * (corners.max() + 1) + np.maximum(corners, ends)
@@ -88,14 +88,16 @@ def equal_names(points, chosen):
         return names
     rows = np.ascontiguousarray(points[chosen] + 0.0).view(np.uint64)
     keys = _mixed(rows)
-    order = np.argsort(keys, kind="stable")
-    is_new = (rows[order[1:]] != rows[order[:-1]]).any(axis=1)
-    if (is_new & (keys[order[1:]] == keys[order[:-1]])).any():  # two places with one key: then by the places themselves
-        order = np.lexsort(rows.T)
-        is_new = (rows[order[1:]] != rows[order[:-1]]).any(axis=1)
+    order = np.argsort(keys)
+    rows, keys = rows[order], keys[order]
+    is_new = (rows[1:] != rows[:-1]).any(axis=1)
+    if (is_new & (keys[1:] == keys[:-1])).any():  # two places with one key: then by the places themselves
+        again = np.lexsort(rows.T)
+        order, rows = order[again], rows[again]
+        is_new = (rows[1:] != rows[:-1]).any(axis=1)
     firsts = np.flatnonzero(np.concatenate([[True], is_new]))
-    least = chosen[order[firsts]]
-    names[chosen[order]] = np.repeat(least, np.diff(np.append(firsts, len(order))))
+    vertices = chosen[order]
+    names[vertices] = np.repeat(np.minimum.reduceat(vertices, firsts), np.diff(np.append(firsts, len(order))))
     return names
 
 
@@ -173,7 +175,7 @@ def with_faces(corners, starts, origins, changes: Dict[int, List[List[int]]]):
 
 def paired_faces(starts, mates) -> List[int]:
     sizes = np.diff(starts)
-    if not len(sizes) or (sizes == 0).any():
+    if (sizes == 0).any() or (mates < 0).all():
         return []
     at = face_numbers(starts)
     others = np.where(mates >= 0, at[np.maximum(mates, 0)], -1)
@@ -182,10 +184,11 @@ def paired_faces(starts, mates) -> List[int]:
     return np.flatnonzero(is_paired).tolist()
 
 
-def volume(points, corners, starts) -> float:
+def is_inside_out(points, corners, starts) -> bool:
     places = points[corners] - points[corners[0]]
-    first = np.repeat(places[starts[:-1][np.diff(starts) > 0]], np.diff(starts)[np.diff(starts) > 0], axis=0)
-    return float((first * np.cross(places, places[next_places(starts)])).sum())
+    first = np.repeat(places[starts[:-1]], np.diff(starts), axis=0)
+    values = first * np.cross(places, places[next_places(starts)])
+    return bool(values.sum() < -1e-9 * np.abs(values).sum())
 
 
 def areas(points, corners, starts):

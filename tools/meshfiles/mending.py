@@ -16,7 +16,7 @@ from typing import Any, Dict, Iterator, List, Sequence, Tuple
 
 from . import arrays, plain
 from .holes import Hub, Rim, nearness, rims_of
-from .soup import MeshFileError, Soup, faces_of, np
+from .soup import MeshFileError, Soup, faces_of, is_array
 from .wedges import pairs_at
 from .writing import edges_of, faces_text, lengths_text, points_text
 
@@ -155,8 +155,8 @@ class Glued:
         if not 0 <= tolerance < float("inf"):
             raise MeshFileError("a tolerance is a number from 0 on")
         soup.check()
-        self.bulk = arrays if np is not None and isinstance(soup.corners, np.ndarray) else plain
-        self.points, self.report = soup.points, Report(all_faces=len(soup.starts) - 1)
+        self.bulk = arrays if is_array(soup.corners) else plain
+        self.points, self.report = soup.points, Report()
         self.corners, self.starts = soup.corners, soup.starts
         self.origins = self.bulk.ranges(len(soup.starts) - 1)
         self._part_faces()
@@ -222,7 +222,7 @@ class Glued:
         self.report.crowded_edges = len(self.crowded)
         if not self.crowded:
             return
-        inside_out = self.bulk.volume(self.points, self.corners, self.starts) < 0
+        inside_out = self.bulk.is_inside_out(self.points, self.corners, self.starts)
         at, places = self.bulk.face_numbers(self.starts), self.bulk.next_places(self.starts)
         for sides in self.crowded:
             u, v = sorted((int(self.corners[sides[0]]), int(self.corners[places[sides[0]]])))
@@ -246,10 +246,12 @@ class Glued:
             weights = self.bulk.areas(self.points, self.corners, self.starts)
         else:
             weights = [1] * len(labels)
-        return self.bulk.parts_by_size(labels, weights)
+        found = self.bulk.parts_by_size(labels, weights)
+        self.report.parts, self.report.all_faces = len(found), len(labels)
+        return found
 
     def surface(self, faces: Any, holes: str = "keep") -> Mended:
-        """The surface of the faces of a part."""
+        """The surface of the faces of a part, one of those that `parts` answers."""
         if holes not in HOLES:
             raise MeshFileError(f"holes are one of: {', '.join(HOLES)}")
         bulk, tables = self.bulk, (self.corners, self.starts, self.mates, self.heads)
@@ -257,9 +259,7 @@ class Glued:
         one_sided = not bulk.is_orientable(corners, starts, mates)
         corners, vertices = bulk.numbered(corners, heads)
         report = dataclasses.replace(self.report, one_sided=one_sided, holes=holes)
-        report.left_out_faces = len(self.starts) - 1 - len(faces)
-        report.all_faces = len(self.starts) - 1
-        report.parts = self._count_parts()
+        report.left_out_faces = report.all_faces - len(faces)
         report.split_vertices = len(vertices) - len(set(listed(vertices)))
         points, face_origins = bulk.taken(self.points, vertices), bulk.taken(self.origins, faces)
         twins = bulk.twin_sides(corners, starts, mates)
@@ -268,11 +268,6 @@ class Glued:
             mates = halve(mended, twins, mates, bulk)
         add_rims(mended, mates, bulk)
         return mended
-
-    def _count_parts(self) -> int:
-        if not hasattr(self, "_part_count"):
-            self._part_count = len(set(listed(self.bulk.parts(self.starts, self.mates))))
-        return self._part_count
 
 
 def rounds_of(face: Sequence[int]) -> List[List[int]]:

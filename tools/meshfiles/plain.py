@@ -127,16 +127,17 @@ def paired_faces(starts: Sequence[int], mates: Sequence[int]) -> List[int]:
     return found
 
 
-def volume(points: Sequence[Any], corners: Sequence[int], starts: Sequence[int]) -> float:
-    """Six times what the faces enclose; below 0 where they are listed the other way round."""
-    total, origin = 0.0, points[corners[0]]
+def is_inside_out(points: Sequence[Any], corners: Sequence[int], starts: Sequence[int]) -> bool:
+    """Whether the faces are listed as those of a solid are that is seen from within: what they enclose is below 0, and
+    by more than rounding makes."""
+    total, size, origin = 0.0, 0.0, points[corners[0]]
     for face in faces_of(corners, starts):
         places = [[x - y for x, y in zip(points[c], origin)] for c in face]
         a = places[0]
         for b, c in zip(places[1:], places[2:]):
-            total += a[0] * (b[1] * c[2] - b[2] * c[1]) + a[1] * (b[2] * c[0] - b[0] * c[2])
-            total += a[2] * (b[0] * c[1] - b[1] * c[0])
-    return total
+            values = [a[k] * (b[k - 2] * c[k - 1] - b[k - 1] * c[k - 2]) for k in range(3)]
+            total, size = total + sum(values), size + sum(map(abs, values))
+    return total < -1e-9 * size
 
 
 def areas(points: Sequence[Any], corners: Sequence[int], starts: Sequence[int]) -> List[float]:

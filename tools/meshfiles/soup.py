@@ -29,7 +29,7 @@ class Soup:
     def __init__(self, points: Points, corners: Ints, starts: Ints) -> None:
         if np is not None:
             points = np.asarray(points, float).reshape(-1, 3)
-            corners, starts = np.asarray(corners, np.int64), np.asarray(starts, np.int64)
+            corners, starts = as_array(corners), as_array(starts)
         self.points, self.corners, self.starts = points, corners, starts
 
     @classmethod
@@ -60,13 +60,13 @@ class Soup:
 
     def _first_bad_corner(self) -> "int | None":
         count = len(self.points)
-        if np is None:
+        if not is_array(self.corners):
             return next((k for k, c in enumerate(self.corners) if not 0 <= c < count), None)
         bad = np.flatnonzero((self.corners < 0) | (self.corners >= count))
         return int(bad[0]) if len(bad) else None
 
     def _check_numbers(self) -> None:
-        if np is None:
+        if not is_array(self.points):
             bad = next((v for v, point in enumerate(self.points) if not all(map(math.isfinite, point))), None)
         else:
             rows = np.flatnonzero(~np.isfinite(self.points).all(axis=1))
@@ -80,7 +80,17 @@ def starts_of(sizes: "Sequence[int] | map[int]") -> List[int]:
     return list(itertools.accumulate(sizes, initial=0))
 
 
+def as_array(values: Any) -> Ints:
+    if isinstance(values, range):
+        return np.arange(values.start, values.stop, values.step)
+    return np.asarray(values, np.int64)
+
+
+def is_array(values: Any) -> bool:
+    return np is not None and isinstance(values, np.ndarray)
+
+
 def faces_of(corners: Ints, starts: Ints) -> List[List[int]]:
-    if np is not None and isinstance(corners, np.ndarray):
+    if is_array(corners):
         corners, starts = corners.tolist(), starts.tolist()
     return [corners[a:b] for a, b in zip(starts, starts[1:])]

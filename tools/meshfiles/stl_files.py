@@ -2,15 +2,14 @@
 
 from __future__ import annotations
 
-import re
+import math
 import struct
-from typing import List
-
-from .soup import MeshFileError, Soup, np, starts_of
-from .text import number, shown, table
+from .soup import MeshFileError, Soup, np
+from .text import number, shown
 
 HEAD, FACET = 84, 50
-FACET_LINES = [b"facet", b"outer", b"vertex ", b"vertex ", b"vertex ", b"endloop", b"endfacet"]
+FACET_WORDS = b"facet normal - - - outer loop vertex - - - vertex - - - vertex - - - endloop endfacet".split()
+FACET_WORDS = [b"" if word == b"-" else word for word in FACET_WORDS]
 
 
 def is_text(data: bytes) -> bool:
@@ -20,7 +19,7 @@ def is_text(data: bytes) -> bool:
 
 def read_stl(data: bytes) -> Soup:
     if is_text(data) and not is_binary(data):
-        return (read_regular(data) if np is not None else None) or read_text(data)
+        return read_regular(data) or read_text(data)
     return read_binary(data)
 
 
@@ -70,17 +69,27 @@ def read_text(data: bytes) -> Soup:
 
 
 def read_regular(data: bytes) -> "Soup | None":
-    """The triangles of a text of one solid with a line for each word of STL. None where anything is otherwise."""
-    lines = [line for line in map(bytes.strip, data.lower().splitlines()) if line]
-    body = lines[1:-1]
-    if not body or len(body) % len(FACET_LINES) or not lines[-1].startswith(b"endsolid"):
+    """The triangles of a text of one solid, by the places of its words. None where anything is otherwise: then the lines
+    tell what is wrong, if something is."""
+    data = data.lower()
+    start, end = data.find(b"\n"), data.rfind(b"endsolid")
+    words = data[start:end].split() if 0 <= start < end else []
+    if not words or len(words) % len(FACET_WORDS) or data.find(b"_", start, end) >= 0:
         return None
-    for place, word in enumerate(FACET_LINES):
-        if not all(line.startswith(word) for line in body[place :: len(FACET_LINES)]):
+    columns = []
+    for place, word in enumerate(FACET_WORDS):
+        column = words[place :: len(FACET_WORDS)]
+        if word and set(column) != {word}:
             return None
-    vertices = [line[7:] for line in body if line.startswith(b"vertex")]
-    values = table(b"\n".join(vertices))
-    if values is None or len(values) != 3 * len(vertices) or any(len(line.split()) != 3 for line in vertices):
+        try:
+            columns += [] if word else [list(map(float, column))]
+        except ValueError:
+            return None
+    columns = columns[3:]  # behind the normal
+    if not all(math.isfinite(sum(map(abs, column))) for column in columns):
         return None
-    count = len(vertices)
-    return Soup(values.reshape(-1, 3), np.arange(count), np.arange(0, count + 1, 3))
+    count = 3 * len(columns[0])
+    if np is not None:
+        return Soup(np.array(columns).T.reshape(-1, 3), range(count), range(0, count + 1, 3))
+    points = [point for row in zip(*columns) for point in (row[0:3], row[3:6], row[6:9])]
+    return Soup(points, range(count), range(0, count + 1, 3))

@@ -5,7 +5,7 @@ from __future__ import annotations
 import math
 from typing import Any, List, Sequence, Tuple
 
-from .soup import MeshFileError, faces_of, np
+from .soup import MeshFileError, faces_of, is_array, np
 
 GREATEST_LENGTH = 2**32 - 1
 DECIMALS = 9  # `surf lengths` cuts what stands behind the ninth
@@ -16,7 +16,7 @@ def points_text(points: Any) -> bytes:
     all too small for that are written with all their digits."""
     if not len(points):
         return b""
-    if np is not None and isinstance(points, np.ndarray):
+    if is_array(points):
         return _points_by_arrays(points)
     greatest = max(max(map(abs, point)) for point in points)
     if not 1e-3 <= greatest < 1e9:
@@ -38,9 +38,8 @@ def _points_by_arrays(points) -> bytes:
     values = np.rint(points * 1e9).astype(np.int64).reshape(-1)
     signs, values = values < 0, np.abs(values)
     wide = max(1, len(str(int(values.max()) // 10**DECIMALS)))
-    digits = np.zeros((len(values), wide + DECIMALS), np.uint8)
-    for column in range(wide + DECIMALS - 1, -1, -1):
-        values, digits[:, column] = np.divmod(values, 10)
+    wholes = values // 10**DECIMALS
+    digits = np.hstack([digits_of(wholes, wide), digits_of(values - wholes * 10**DECIMALS, DECIMALS)])
     # Kept are the digits from the first that isn't 0, or the last before the point, to the last that isn't 0.
     begun = np.logical_or.accumulate(digits[:, :wide] != 0, axis=1)
     begun[:, -1] = True
@@ -56,16 +55,27 @@ def _points_by_arrays(points) -> bytes:
     return text[keep].tobytes()
 
 
+def digits_of(values, wide: int):
+    """The digits of whole numbers from 0 on, a row of so many for each."""
+    digits = np.empty((wide, len(values)), np.uint8)
+    if wide < 10:
+        values = values.astype(np.uint32)
+    for column in range(wide - 1, -1, -1):
+        tens = values // 10
+        digits[column] = values - tens * 10
+        values = tens
+    return digits.T
+
+
 def faces_text(corners: Any, starts: Any) -> bytes:
     """A line for each face: the number of its corners, and these."""
-    if np is None or not isinstance(corners, np.ndarray):
+    if not is_array(corners):
         return "".join(f"{len(face)} {' '.join(map(str, face))}\n" for face in faces_of(corners, starts)).encode()
     sizes = np.diff(starts)
     words = np.insert(corners, starts[:-1], sizes)
     wide = len(str(int(words.max()))) if len(words) else 1
     text = np.zeros((len(words), wide + 1), np.uint8)
-    for column in range(wide - 1, -1, -1):
-        words, text[:, column] = np.divmod(words, 10)
+    text[:, :wide] = digits_of(words, wide)
     keep = np.ones(text.shape, bool)
     keep[:, :wide] = np.logical_or.accumulate(text[:, :wide] != 0, axis=1)
     keep[:, wide - 1] = True
