@@ -21,7 +21,9 @@ from meshfiles import MeshFileError, mend, mend_all, read_mesh
 def parsed(arguments):
     parser = argparse.ArgumentParser(description=__doc__, formatter_class=argparse.RawDescriptionHelpFormatter)
     parser.add_argument("mesh", type=pathlib.Path, metavar="MESH")
-    parser.add_argument("--tolerance", type=float, default=0.0, metavar="T", help="points no farther apart become one")
+    merging = parser.add_mutually_exclusive_group()
+    merging.add_argument("--tolerance", type=float, default=0.0, metavar="T", help="points no farther apart become one")
+    merging.add_argument("--no-merge", action="store_true", help="equal points stay apart, as in a mesh that was cut")
     which = parser.add_mutually_exclusive_group()
     which.add_argument("--part", type=int, default=0, metavar="K", help="the part at place K, from 0, the greatest first")
     which.add_argument("--all", type=pathlib.Path, metavar="DIR", help="a file in DIR for each part")
@@ -62,7 +64,7 @@ def write_all(surfaces, words):
 
 
 def run(words):
-    how = {"tolerance": words.tolerance, "most": words.most}
+    how = {"tolerance": None if words.no_merge else words.tolerance, "most": words.most}
     how["holes"] = "close" if words.close else "hub" if words.hub else "keep"
     soup = read_mesh(words.mesh)
     if words.all:

@@ -129,10 +129,13 @@ def listed(values: Any) -> List[int]:
     return values.tolist() if hasattr(values, "tolist") else list(values)
 
 
-def mend(soup: Soup, *, tolerance: float = 0.0, part: int = 0, most: str = "faces", holes: str = "keep") -> Mended:
+def mend(
+    soup: Soup, *, tolerance: "float | None" = 0.0, part: int = 0, most: str = "faces", holes: str = "keep"
+) -> Mended:
     """The part of the soup that comes at place `part`, from 0, in the order of the number of faces or of the area, as
-    `most` says. `holes` are kept ("keep"), each closed by one face ("close"), or joined by one sphere ("hub"), by which
-    no cycle round them bounds. Raises MeshFileError where there is no such part or no face."""
+    `most` says. Points of rims that are within the tolerance become one; with None not even equal ones do. `holes` are
+    kept ("keep"), each closed by one face ("close"), or joined by one sphere ("hub"), by which no cycle round some of
+    them bounds that doesn't bound beforehand. Raises MeshFileError where there is no such part or no face."""
     glued = Glued(soup, tolerance)
     parts = glued.parts(most)
     if not 0 <= part < len(parts):
@@ -140,7 +143,9 @@ def mend(soup: Soup, *, tolerance: float = 0.0, part: int = 0, most: str = "face
     return glued.surface(parts[part], holes)
 
 
-def mend_all(soup: Soup, *, tolerance: float = 0.0, most: str = "faces", holes: str = "keep") -> Iterator[Mended]:
+def mend_all(
+    soup: Soup, *, tolerance: "float | None" = 0.0, most: str = "faces", holes: str = "keep"
+) -> Iterator[Mended]:
     """All parts, the one with the most faces or the greatest area first."""
     glued = Glued(soup, tolerance)
     for part in glued.parts(most):
@@ -151,8 +156,8 @@ class Glued:
     """A soup whose faces are glued: `mates` has for each side the one that it is glued to, and `heads` for each corner
     the least of its fan."""
 
-    def __init__(self, soup: Soup, tolerance: float = 0.0) -> None:
-        if not 0 <= tolerance < float("inf"):
+    def __init__(self, soup: Soup, tolerance: "float | None" = 0.0) -> None:
+        if tolerance is not None and not 0 <= tolerance < float("inf"):
             raise MeshFileError("a tolerance is a number from 0 on")
         soup.check()
         self.bulk = arrays if is_array(soup.corners) else plain
@@ -161,7 +166,8 @@ class Glued:
         self.origins = self.bulk.ranges(len(soup.starts) - 1)
         self._part_faces()
         self._drop_doubles()
-        self._merge(tolerance)
+        if tolerance is not None:
+            self._merge(tolerance)
         if len(self.starts) < 2:
             raise MeshFileError("no face is left: each has fewer than three different corners")
         self._pair_wedges()
@@ -203,11 +209,14 @@ class Glued:
             self.mates, self.crowded = self.bulk.mates_of(self.corners, self.starts)
 
     def _merge(self, tolerance: float) -> None:
-        """Makes one of points at rims that are equal, or within the tolerance."""
+        """Makes one of points at rims that are equal, or within the tolerance. Where all stand at one place their
+        coordinates tell nothing."""
         chosen = self.bulk.rim_vertices(self.corners, self.starts, self.mates)
         names = self.bulk.equal_names(self.points, chosen)
-        if tolerance > 0 and len(chosen):
-            firsts = self.bulk.numbers(sorted(set(listed(self.bulk.taken(names, chosen)))))
+        firsts = self.bulk.numbers(sorted(set(listed(self.bulk.taken(names, chosen)))))
+        if len(firsts) < 2:
+            return
+        if tolerance > 0:
             pairs = self.bulk.near_pairs(self.points, firsts, tolerance, 50 * len(firsts) + 10**6)
             heads = self.bulk.components(len(self.points), pairs)
             names = self.bulk.taken(heads, names)
@@ -218,20 +227,28 @@ class Glued:
             self._drop_doubles()
 
     def _pair_wedges(self) -> None:
-        """Glues at edges of more than two faces those that bound one wedge of the inside."""
+        """Glues at edges of more than two faces those that bound one wedge of the inside: first the faces of sheets
+        that have no rim, so that a fin or a wall doesn't tear them open, and then what is left."""
         self.report.crowded_edges = len(self.crowded)
         if not self.crowded:
             return
         inside_out = self.bulk.is_inside_out(self.points, self.corners, self.starts)
         at, places = self.bulk.face_numbers(self.starts), self.bulk.next_places(self.starts)
+        sheets = self.bulk.parts(self.starts, self.mates)
+        open_sheets = {int(sheets[at[side]]) for side in self.bulk.border_sides(self.mates)}
         for sides in self.crowded:
-            u, v = sorted((int(self.corners[sides[0]]), int(self.corners[places[sides[0]]])))
-            middles = [self._middle(int(at[side])) for side in sides]
-            opens = [(int(self.corners[side]) != u) != inside_out for side in sides]
+            ends = sorted((int(self.corners[sides[0]]), int(self.corners[places[sides[0]]])))
             for side in sides:
                 self.mates[side] = plain.BORDER
-            for one, other in pairs_at((self.points[u], self.points[v]), middles, sides, opens):
-                self.mates[one], self.mates[other] = other, one
+            self._pair(ends, [side for side in sides if int(sheets[at[side]]) not in open_sheets], at, inside_out)
+            self._pair(ends, [side for side in sides if self.mates[side] == plain.BORDER], at, inside_out)
+
+    def _pair(self, ends: Sequence[int], sides: Sequence[int], at: Any, inside_out: bool) -> None:
+        """Glues those of the sides at an edge that bound one wedge. `at` has the face of each side."""
+        middles = [self._middle(int(at[side])) for side in sides]
+        opens = [(int(self.corners[side]) != ends[0]) != inside_out for side in sides]
+        for one, other in pairs_at((self.points[ends[0]], self.points[ends[1]]), middles, sides, opens):
+            self.mates[one], self.mates[other] = other, one
 
     def _middle(self, face: int) -> List[float]:
         places = [self.points[c] for c in listed(self.corners[self.starts[face] : self.starts[face + 1]])]

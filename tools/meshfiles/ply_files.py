@@ -3,7 +3,6 @@
 from __future__ import annotations
 
 import itertools
-import math
 import struct
 from typing import Any, Dict, Iterator, List, NamedTuple, Tuple
 
@@ -14,6 +13,7 @@ KINDS = {"char": "b", "int8": "b", "uchar": "B", "uint8": "B", "short": "h", "in
 KINDS |= {"uint16": "H", "int": "i", "int32": "i", "uint": "I", "uint32": "I", "float": "f", "float32": "f"}
 KINDS |= {"double": "d", "float64": "d", "int64": "q", "uint64": "Q"}
 FORMATS = {"ascii": "", "binary_little_endian": "<", "binary_big_endian": ">"}
+GREATEST = 2**53  # up to it a float is exact
 CORNERS = ("vertex_indices", "vertex_index")
 
 
@@ -63,8 +63,8 @@ class Body:
     def size_of(self, what: str, value: Any) -> int:
         """The number of a list's items, if the file can hold so many."""
         left = len(self.data) - self.at if self.order else len(self.words) - self.at
-        if value != int(value) or not 0 <= value <= left:
-            raise MeshFileError(f"{what}: a list can't have {value} items there")
+        if not 0 <= value <= left or value != int(value):
+            raise MeshFileError(f"{what}: a list can't have {value:.9g} items there")
         return int(value)
 
     def row(self, element: Element, what: str) -> List[Any]:
@@ -185,8 +185,8 @@ def faces_of(body: Body, element: Element, place: "int | None") -> Tuple[Any, An
     sizes: List[int] = []
     for k, row in enumerate(body.rows(element)):
         face = row[place]
-        if any(c != c or math.isinf(c) or c != int(c) for c in face):
-            raise MeshFileError(f"face {k} of {element.count}: a corner is no whole number")
+        if not all(abs(c) < GREATEST and c == int(c) for c in face):
+            raise MeshFileError(f"face {k} of {element.count}: a corner is no number of a vertex")
         corners += map(int, face)
         sizes.append(len(face))
     return corners, starts_of(sizes)
@@ -240,7 +240,8 @@ class QuickBody(Body):
             return None
         start = sum(size + bool(one.count) for one, size in zip(element.properties[:place], sizes)) + 1
         corners = found[:, start : start + sizes[place]]
-        return corners.astype(np.int64) if (corners == np.floor(corners)).all() else None
+        is_whole = (corners == np.floor(corners)) & (np.abs(corners) < GREATEST)
+        return corners.astype(np.int64) if is_whole.all() else None
 
     def _columns(self, element: Element, sizes: List[int]):
         """All values of an element as a table of floats, where each list has as many items as in the first row."""

@@ -30,6 +30,8 @@ class Soup:
         if np is not None:
             points = np.asarray(points, float).reshape(-1, 3)
             corners, starts = as_array(corners), as_array(starts)
+        else:
+            corners, starts = list(corners), list(starts)
         self.points, self.corners, self.starts = points, corners, starts
 
     @classmethod

@@ -35,7 +35,7 @@ def number(word: bytes, line: int) -> float:
 
 def whole(word: bytes, line: int) -> int:
     try:
-        if len(word) <= 20 and b"_" not in word:
+        if len(word) <= 18 and b"_" not in word:
             return int(word)
     except ValueError:
         pass
