@@ -124,7 +124,7 @@ def table(found, packages):
 
 def kinds(found):
     """How many of the files that came in needed what."""
-    words = ["points merged", "stand twice", "more than two faces", "fans or sheets", "ends of another", "other parts"]
+    words = ["merged", "standing twice", "more than two faces", "fans or sheets", "ends of another", "other part"]
     words += ["closed by one face", "one-sided"]
     counts = collections.Counter(word for one in found if one.came_in for word in words if word in one.told)
     rows = [f"| {counts[word]} | {word} |" for word in words]

@@ -341,6 +341,9 @@ class Spoiled(unittest.TestCase):
     def answer(self, read, data, name):
         try:
             soup = read(data, name)
+            if read is read_bytes:
+                mended = mend(soup, holes="close")
+                self.assertIsNone(fault_of(len(mended.points), mended.faces))
             return [list(map(float, point)) for point in soup.points], soup.faces
         except MeshFileError as fault:
             self.assertEqual(len(str(fault).splitlines()), 1)
@@ -406,6 +409,15 @@ class Mending(Case):
     def test_equal_points_of_a_closed_surface_stay_apart(self):
         points, faces = [(0, 0, 0)] * 7, read_off((HERE.parent / "meshes" / "torus7.off").read_text()).faces
         self.assertEqual(self.loops(self.mended(points, faces, tolerance=1.0)), 2)
+
+    def test_points_that_tell_nothing(self):
+        points, faces = [(0, 0, 0)] * 9, read_off((HERE.parent / "meshes" / "torus33.off").read_text()).faces
+        mended = self.mended(points, faces[1:], tolerance=1.0, holes="close")
+        self.assertEqual((len(mended.points), self.loops(mended), mended.report.merged_points), (9, 2, 0))
+        points, faces = ring()
+        loose = [points[c] for face in faces for c in face]
+        soup = [[k, k + 1, k + 2] for k in range(0, len(loose), 3)]
+        self.assertEqual(self.mended(loose, soup, tolerance=None).report.parts, 860)
 
     def test_merging_cannot_pinch(self):
         at = [POINTS[c] for face in FACES for c in face]
@@ -563,7 +575,7 @@ class Command(unittest.TestCase):
             found = read_off(pathlib.Path(room, "parts", "two-1.off").read_text())
             self.assertEqual(found.faces, FACES)
             out, told = self.run_it(f"{room}/two.obj", "--map", f"{room}/m")
-            self.assertEqual(told, "1 other parts left out, with 4 of 864 faces\n")
+            self.assertEqual(told, "1 other part left out, with 4 of 864 faces\n")
             self.assertEqual(len(pathlib.Path(room, "m").read_text().splitlines()), 430 + 860)
 
     def test_numbers_are_written_as_they_are(self):

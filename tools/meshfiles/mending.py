@@ -47,23 +47,24 @@ class Report:
     def lines(self) -> List[str]:
         """What a user is told, a line each. What is likely to be unwanted begins with `warning: `."""
         said = [
-            (self.merged_points, "points merged"),
-            (self.parted_faces, "faces parted at a corner that stands twice"),
-            (self.spoiled_faces, "faces left out that have fewer than three corners"),
-            (self.doubled_faces, "faces left out that stand twice"),
-            (self.crowded_edges, "edges of more than two faces taken apart"),
-            (self.split_vertices, "vertices added where fans or sheets met"),
-            (self.halved_edges, "edges halved that had the ends of another"),
+            (self.merged_points, "point", "merged"),
+            (self.parted_faces, "face", "parted where a corner stands twice"),
+            (self.spoiled_faces, "face", "left out for want of three corners"),
+            (self.doubled_faces, "face", "left out as standing twice"),
+            (self.crowded_edges, "edge", "of more than two faces taken apart"),
+            (self.split_vertices, "vertex", "added where fans or sheets met"),
+            (self.halved_edges, "edge", "halved, with the ends of another edge"),
         ]
-        return [f"{count} {what}" for count, what in said if count] + self._parts() + self._sides() + self._holes()
+        done = [f"{counted(count, noun)} {what}" for count, noun, what in said if count]
+        return done + self._parts() + self._sides() + self._holes()
 
     def _parts(self) -> List[str]:
         if self.parts < 2:
             return []
-        share = f"{self.left_out_faces} of {self.all_faces} faces"
+        told = f"{counted(self.parts - 1, 'other part')} left out, with {self.left_out_faces} of {self.all_faces} faces"
         if 10 * self.left_out_faces <= self.all_faces:
-            return [f"{self.parts - 1} other parts left out, with {share}"]
-        return [f"warning: {self.parts - 1} other parts left out, with {share}: --part K takes another, --all DIR each"]
+            return [told]
+        return [f"warning: {told}: --part K takes another one, --all DIR takes each"]
 
     def _sides(self) -> List[str]:
         if not self.one_sided:
@@ -74,16 +75,23 @@ class Report:
         if not self.rim_sizes:
             return []
         sizes = sorted(self.rim_sizes, reverse=True)
-        some = f"{len(sizes)} hole{'s' * (len(sizes) > 1)} of {', '.join(map(str, sizes[:8]))}"
-        some += f"{' ..' if len(sizes) > 8 else ''} edges"
-        found = {
-            "keep": f"warning: {some}, which `surf` refuses: --close closes each by a face, --hub LEN keeps loops round them",
-            "close": f"{some}, each closed by one face",
-            "hub": f"{some}, joined by a hub: leave out cycles with a vertex from {self.hub_vertex} on",
-        }[self.holes if len(sizes) > 1 or self.holes == "keep" else "close"]
-        if self.near_rims is None:
-            return [found]
-        return [found, f"warning: there are rims that are near each other, try --tolerance {self.near_rims:g}"]
+        holes = f"{counted(len(sizes), 'hole')} of {', '.join(map(str, sizes[:8]))}{' ..' if sizes[8:] else ''} edges"
+        if self.holes == "keep":
+            cure = "--close closes each by a face, --hub LEN keeps loops round them"
+            found = [f"warning: {holes}, which `surf` refuses: {cure}"]
+        elif self.holes == "hub" and len(sizes) > 1:
+            found = [f"{holes}, joined by a hub: leave out cycles with a vertex from {self.hub_vertex} on"]
+        else:
+            found = [f"{holes}, {'each ' if len(sizes) > 1 else ''}closed by one face"]
+        if self.near_rims is not None:
+            found.append(f"warning: there are rims that are near each other, try --tolerance {self.near_rims:g}")
+        return found
+
+
+def counted(count: int, noun: str) -> str:
+    if count == 1:
+        return f"1 {noun}"
+    return f"{count} vertices" if noun == "vertex" else f"{count} {noun}s"
 
 
 class Mended:
