@@ -30,7 +30,7 @@ SECONDS = 300
 
 
 class Tried:
-    """What came of a file: the lines of `to_off.py` without and with --close, and whether a surface came out."""
+    """What came of a file: the last line that `to_off.py --close` told, and whether a surface came out."""
 
     def __init__(self, package, name):
         self.package, self.name = package, name
@@ -38,8 +38,12 @@ class Tried:
         self.told = ""
         self.seconds = 0.0
 
-    def has_faces(self):
-        return NO_FACE not in self.told
+    def kind(self):
+        if self.came_in:
+            return "in"
+        if self.ended_badly:
+            return "ended badly"
+        return "no face" if NO_FACE in self.told else "refused"
 
 
 def is_mesh(name):
@@ -111,13 +115,13 @@ def survey(packages, root, program):
 
 
 def table(found, packages):
-    rows = ["| Package | Files | With faces | In | Of these with holes closed | Refused by a line | Tracebacks |"]
+    rows = ["| Package | Files | Without a face | In | Of these with holes closed | Refused by a line | Ended otherwise |"]
     rows.append("|---|---|---|---|---|---|---|")
     for package in [*packages, None]:
         some = [one for one in found if package in (None, one.package)]
-        faced = [one for one in some if one.has_faces()]
-        numbers = [len(some), len(faced), sum(one.came_in for one in some), sum(one.came_in and one.closed for one in some)]
-        numbers += [sum(not one.came_in and not one.ended_badly for one in some), sum(one.ended_badly for one in some)]
+        counts = collections.Counter(one.kind() for one in some)
+        numbers = [len(some), counts["no face"], counts["in"], sum(one.came_in and one.closed for one in some)]
+        numbers += [counts["refused"], counts["ended badly"]]
         rows.append("| " + " | ".join([f"`{package}`" if package else "together", *map(str, numbers)]) + " |")
     return rows
 
@@ -140,8 +144,10 @@ def main():
     words = parser.parse_args()
     found = survey(words.packages, words.root, words.program and words.program.resolve())
     rows = table(found, words.packages) + [""] + kinds(found)
-    faulty = [one for one in found if not one.came_in]
-    rows += ["", "| Not in | Why |", "|---|---|"] + [f"| {one.name} | {one.told.splitlines()[-1:]} |" for one in faulty]
+    rows += ["", "| Refused | The line |", "|---|---|"]
+    for one in found:
+        if one.kind() in ("refused", "ended badly"):
+            rows.append(f"| `{one.name}` | {one.told.splitlines()[-1].partition(one.name + ': ')[2]} |")
     if words.files:
         rows += [""] + [f"{one.package} {one.name} {one.seconds:.2f} s: {'; '.join(one.told.splitlines())}" for one in found]
     print("\n".join(rows))

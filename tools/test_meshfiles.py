@@ -181,6 +181,17 @@ class Files(unittest.TestCase):
         quad = text_of_stl(POINTS, [[0, 1, 2, 3]])
         self.same(quad, "a.stl", POINTS, [[0, 1, 2, 3]])
 
+    def test_grids(self):
+        places = [(float(x), float(y), 0.5) for y in range(2) for x in range(3)]
+        squares = [[0, 1, 4, 3], [1, 2, 5, 4]]
+        self.same("ZMESH 3 2\n0.5 0.5 0.5\n0.5 0.5 0.5\n", "a.mesh", places, squares)
+        rows = "".join("%g %g %g" % p + " 0 0 1  1 0 0 1\n" for p in places)
+        self.same("# a\nCNMESH\n3 2\n" + rows, "", places, squares)
+        rows = "".join("%g %g %g\n" % p for p in places)
+        self.same("uMESH\n3 2\n" + rows, "", places, squares + [[2, 0, 3, 5]])
+        self.same("vMESH\n3 2\n" + rows, "", places, squares + [[3, 4, 1, 0], [4, 5, 2, 1]])
+        self.same("CQUAD\n" + "".join("%g %g %g 1 0 0 1\n" % p for p in places[:4]), "", places[:4], [[0, 1, 2, 3]])
+
     def test_compressed(self):
         self.same(gzip.compress(TET), "a.off.gz")
         self.same(gzip.compress(TET[:30]) + gzip.compress(TET[30:]), "a.off.gz")
@@ -220,6 +231,9 @@ class Refusals(unittest.TestCase):
     """Files that can't be read: one line, that says what and where."""
 
     CASES = {
+        "cut quad": ("a.quad", b"QUAD\n0 0 0 1 0 0 0 1 0 1 1", "the text ends within face 0"),
+        "cut grid": ("a.mesh", b"MESH\n2 2\n0 0 0 1 0 0 0 1 0 1 1", "the text ends before vertex 3 of 4 is complete"),
+        "great grid": ("a.mesh", b"MESH\n99999 99999\n0 0 0", "the head: 9999800001 vertices and 0 faces are claimed, and the file has 22 bytes"),
         "nothing": ("a.off", b"", "there is no word in the file"),
         "words": ("a.off", b"hello\n", "line 1: `hello` is neither a keyword of OFF nor a count of vertices"),
         "counts": ("a.off", b"OFF\n4\n", "the text ends before the count of faces"),

@@ -6,14 +6,14 @@ import os
 import pathlib
 import zlib
 
-from . import obj_files, off_files, ply_files, stl_files
+from . import grid_files, obj_files, off_files, ply_files, stl_files
 from .soup import MeshFileError, Soup
 
 MOST_BYTES = 1 << 30
 
 
 def read_mesh(path: "str | os.PathLike[str]") -> Soup:
-    """The mesh in a file: OFF, OBJ, PLY or STL, each also compressed by gzip. Raises MeshFileError, or OSError."""
+    """The mesh in a file: OFF, OBJ, PLY, STL, or Geomview's MESH or QUAD, each also compressed by gzip. Raises MeshFileError, or OSError."""
     path = pathlib.Path(path)
     if path.is_file() and path.stat().st_size > MOST_BYTES:
         raise MeshFileError(f"more than {MOST_BYTES:,} bytes")
@@ -47,6 +47,8 @@ def reader_of(data: bytes, name: str):
         raise MeshFileError("line 1: a PLY begins with the word `ply`")
     if stl_files.is_text(data):
         return stl_files.read_stl
+    if grid_files.is_grid(data):
+        return grid_files.read_grid
     return off_files.read_off
 
 
