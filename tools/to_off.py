@@ -12,6 +12,7 @@ left as it is, but for vertices that no face has. What was done is told on stand
 """
 
 import argparse
+import os
 import pathlib
 import sys
 
@@ -37,17 +38,17 @@ def parsed(arguments):
 
 
 def write(mended, words, out, number=None):
-    """Writes one surface, and the files beside it. Those of a part have its number before their ending."""
+    """Writes one surface, after the files beside it. Those of a part have its number before their ending."""
 
     def beside(path):
         return path if number is None else words.all / f"{path.stem}-{number}{path.suffix}"
 
-    lengths = mended.lengths_text(words.decimals) if words.hub else b""
-    out.write(mended.off_text())
     if words.hub:
-        beside(words.hub).write_bytes(lengths)
+        beside(words.hub).write_bytes(mended.lengths_text(words.decimals))
     if words.map:
         beside(words.map).write_bytes(mended.map_text())
+    out.write(mended.off_text())
+    out.flush()
 
 
 def write_all(surfaces, words):
@@ -58,7 +59,7 @@ def write_all(surfaces, words):
         path = words.all / f"{name}-{number}.off"
         with open(path, "wb") as out:
             write(mended, words, out, number)
-        mended.report.parts = 1
+        mended.report.parts = 1  # none is left out
         told = "; ".join(mended.report.lines())
         print(f"{path}: {len(mended.starts) - 1} faces{'; ' if told else ''}{told}", file=sys.stderr)
 
@@ -72,7 +73,6 @@ def run(words):
         return
     mended = mend(soup, part=words.part, **how)
     write(mended, words, sys.stdout.buffer)
-    sys.stdout.buffer.flush()
     for line in mended.report.lines():
         print(line, file=sys.stderr)
 
@@ -81,6 +81,9 @@ def main():
     words = parsed(None)
     try:
         run(words)
+    except BrokenPipeError:  # whoever reads the mesh has gone
+        os.dup2(os.open(os.devnull, os.O_WRONLY), sys.stdout.fileno())
+        return 1
     except (MeshFileError, OSError) as fault:
         told = fault.strerror if isinstance(fault, OSError) and fault.strerror else fault
         print(f"to_off: {words.mesh}: {told}", file=sys.stderr)

@@ -237,14 +237,11 @@ def chosen_part(tables, faces):
     corners, starts, mates, heads = tables
     if len(faces) == len(starts) - 1:
         return corners, starts, mates, heads
-    sizes = np.diff(starts)
-    keep = np.zeros(len(sizes), bool)
-    keep[faces] = True
-    sides = np.flatnonzero(np.repeat(keep, sizes))
-    numbers = np.full(len(corners), BORDER)
-    numbers[sides] = np.arange(len(sides))
-    mates = np.where(mates[sides] >= 0, numbers[np.maximum(mates[sides], 0)], BORDER)
-    return corners[sides], np.concatenate([[0], np.cumsum(sizes[keep])]), mates, numbers[heads[sides]]
+    sizes = starts[faces + 1] - starts[faces]
+    ends = np.cumsum(sizes)
+    sides = np.repeat(starts[faces] - ends + sizes, sizes) + np.arange(ends[-1])
+    mates = np.where(mates[sides] >= 0, np.searchsorted(sides, mates[sides]), BORDER)
+    return corners[sides], np.concatenate([[0], ends]), mates, np.searchsorted(sides, heads[sides])
 
 
 def numbered(corners, heads):

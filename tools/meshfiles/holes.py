@@ -2,9 +2,10 @@
 
 from __future__ import annotations
 
+import collections
 import math
 import statistics
-from typing import Any, Dict, List, Sequence, Tuple
+from typing import Any, Deque, Dict, List, Sequence, Tuple
 
 Rim = List[int]
 NEAR = 20  # rims are near each other where they are so many times nearer than their edges are long
@@ -41,18 +42,18 @@ class Hub:
         self.faces: List[Rim] = []
         self.edges: List[Tuple[int, int]] = []
         self._places, self._count = points, len(points)
-        whole = list(rims[0])
+        whole = collections.deque(rims[0])
         for rim in rims[1:]:
-            whole = self._joined(whole, rim)
-        self.faces.append(whole)
+            self._join(whole, rim)
+        self.faces.append(list(whole))
 
-    def _joined(self, whole: Rim, rim: Rim) -> Rim:
-        """One rim of two: a face is put between an edge of each, and what is left is one round. It doesn't begin with
-        the edges that were used, so that the next face is put elsewhere."""
-        (u, v), (x, y) = whole[:2], rim[:2]
+    def _join(self, whole: Deque[int], rim: Rim) -> None:
+        """Makes one rim of two: a face is put between an edge of each, and what is left is one round. It doesn't begin
+        with the edges that were used, so that the next face is put elsewhere."""
+        u, v, (x, y) = whole.popleft(), whole.popleft(), rim[:2]
         one, other = self._middle(v, x), self._middle(y, u)
         self.faces.append([u, v, one, x, y, other])
-        return [*whole[2:], u, other, *rim[1:], x, one, v]
+        whole.extend([u, other, *rim[1:], x, one, v])
 
     def _middle(self, a: int, b: int) -> int:
         vertex = self._count + len(self.points)
