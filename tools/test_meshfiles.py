@@ -22,7 +22,7 @@ sys.path.insert(0, str(HERE))
 sys.dont_write_bytecode = True
 
 import meshfiles  # noqa: E402
-from meshfiles import MeshFileError, Soup, mend, mend_all, read_bytes  # noqa: E402
+from meshfiles import MeshFileError, Soup, mend, mend_all, read_bytes, read_mesh  # noqa: E402
 from meshfiles.soup import np  # noqa: E402
 from off import read_off  # noqa: E402
 from surfaces import characteristic, fault_of  # noqa: E402
@@ -102,6 +102,7 @@ class Files(unittest.TestCase):
         self.same("OFF\n4 4 6\n" + PLACES.replace("\n", " 0.5 0 0\n") + ROWS)
         self.same("CNOFF\n4 4 6\n" + PLACES.replace("\n", " 0 0 1 1 0 0 1 ") + ROWS)
         self.same("STOFF 4 4 6\n" + PLACES.replace("\n", " 0.5 0.5  ") + ROWS.replace("\n", " "))
+        self.same("{\nOFF\n4 4 6\n" + PLACES + ROWS + "}\n")
         self.same("appearance {\n  texture { file a }\n}\nOFF\n4 4 6\n" + PLACES + ROWS)
 
     def test_dimensions_of_off(self):
@@ -251,7 +252,7 @@ class Refusals(unittest.TestCase):
         "short vertex": ("a.obj", b"v 0 0\n", "line 1: a vertex has three coordinates, and there are 2"),
         "corner 0": ("a.obj", b"v 0 0 0\nf 0 1 1\n", "line 2: `0` names no vertex"),
         "corner behind": ("a.obj", b"v 0 0 0\nf -2 1 1\n", "line 2: `-2` names no vertex"),
-        "corner word": ("a.obj", b"v 0 0 0\nf a b c\n", "line 2: `a` is no whole number"),
+        "corner word": ("a.obj", b"v 0 0 0\nf a b c\n", "line 2: `a` is no whole number below 10^18"),
         "points alone": ("a.obj", b"v 0 0 0\n", "no face: a cloud of points, or curves alone"),
         "no ply": ("a.ply", b"", "line 1: a PLY begins with the word `ply`"),
         "head": ("a.ply", b"ply\nformat ascii 1.0\nelement vertex 4\n", "the head has no line `end_header`"),
@@ -367,7 +368,10 @@ class Spoiled(unittest.TestCase):
 class Case(unittest.TestCase):
     def mended(self, points, faces, **how):
         """What comes of the soup, on lists and on arrays, as surfaces and by the same bytes."""
-        found = [mend(soup, **how) for soup in both_ways(Soup.of(points, faces))]
+        return self.mended_soup(Soup.of(points, faces), **how)
+
+    def mended_soup(self, soup, **how):
+        found = [mend(soup, **how) for soup in both_ways(soup)]
         for one in found:
             fault = fault_of(len(one.points), one.faces, border=how.get("holes", "keep") == "keep")
             self.assertIsNone(fault)
@@ -504,6 +508,38 @@ class Mending(Case):
                 self.mended(points, faces, part=turn % 2, **how)
 
 
+class Made(Case):
+    """Files that real tools wrote, in tools/cases/meshes: OpenSCAD, ADMesh, Assimp, Gmsh, Geomview, meshio and MeshLab."""
+
+    FRAME = "admesh-ascii.stl admesh-binary.stl admesh.off assimp-obj.obj.gz assimp-ply.ply assimp-plyb.ply assimp-stl.stl " \
+        "assimp-stlb.stl geomview.off gmsh-binary.stl gmsh.stl meshio.obj meshio.off meshio.ply meshio.stl meshlab-colours.off " \
+        "meshlab-more.obj meshlab-more.ply meshlab.obj meshlab.off meshlab.ply meshlab.stl openscad.off openscad.stl"
+
+    def came(self, name, **how):
+        return self.mended_soup(read_mesh(HERE / "cases" / "meshes" / name), **how)
+
+    def test_a_frame(self):
+        for name in self.FRAME.split():
+            mended = self.came(name)
+            self.assertEqual((len(mended.points), len(mended.faces), self.loops(mended)), (16, 32, 2), name)
+        self.assertEqual(self.loops(self.came("gmsh-brep.stl")), 2)
+
+    def test_boxes_that_share_an_edge(self):
+        for name in ("openscad-boxes.off", "assimp-boxes.obj", "gmsh-boxes.stl"):
+            report = self.came(name).report
+            self.assertEqual((report.crowded_edges, report.parts, report.rim_sizes, report.one_sided), (1, 2, [], False), name)
+
+    def test_a_sheet_with_a_hole(self):
+        for name in ("gmsh-sheet.stl", "meshlab-sheet.ply"):
+            self.assertEqual(self.came(name).report.rim_sizes, [4, 4], name)
+            self.assertEqual([self.loops(self.came(name, holes=how)) for how in ("close", "hub")], [0, 2])
+
+    def test_each_file_is_tried(self):
+        names = {path.name for path in (HERE / "cases" / "meshes").iterdir()}
+        others = {"gmsh-brep.stl", "openscad-boxes.off", "assimp-boxes.obj", "gmsh-boxes.stl", "gmsh-sheet.stl", "meshlab-sheet.ply"}
+        self.assertEqual(names, {*self.FRAME.split(), *others})
+
+
 def cylinder_of(count, gap=0.0):
     """A cylinder of squares that isn't closed along a line: there are two rows of vertices, so far from each other."""
     angles = [2 * 3.141592653589793 * k / count for k in range(count + 1)]
@@ -512,6 +548,16 @@ def cylinder_of(count, gap=0.0):
     points = [(x + gap, y, z) if k % (count + 1) == count else (x, y, z) for k, (x, y, z) in enumerate(points)]
     at = lambda z, k: z * (count + 1) + k
     return points, [[at(z, k), at(z, k + 1), at(z + 1, k + 1), at(z + 1, k)] for z in range(3) for k in range(count)]
+
+
+class Extremes(Case):
+    def test_great_and_small_numbers(self):
+        for scale in (1e-320, 1e-300, 1e-9, 1e8, 1e150, 1e300):
+            points = [tuple(scale * x for x in point) for point in POINTS]
+            for faces in (FACES, FACES[1:], FACES + FACES[:1], FACES + [[0, 1, 3]]):
+                for how in ({}, {"tolerance": scale}, {"tolerance": 1e-300}, {"most": "area"}, {"holes": "hub"}):
+                    with contextlib.suppress(MeshFileError):
+                        self.mended(points, faces, **how)
 
 
 class Holes(Case):

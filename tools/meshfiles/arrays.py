@@ -104,7 +104,7 @@ def equal_names(points, chosen):
 def near_pairs(points, chosen, distance: float, most: int):
     places = points[chosen]
     spans = (places - places.min(axis=0)) / distance if len(chosen) else places
-    if not len(chosen) or spans.max() > 2.0**60:  # so near no two different points can be
+    if not len(chosen) or not spans.max() <= 2.0**60:  # so near no two different points can be
         return np.zeros((0, 2), np.int64)
     cells = np.floor(spans).astype(np.int64)
     keys = _mixed(cells.view(np.uint64))

@@ -7,7 +7,7 @@ import pathlib
 import zlib
 
 from . import grid_files, obj_files, off_files, ply_files, stl_files
-from .soup import MeshFileError, Soup
+from .soup import MeshFileError, Soup, quiet
 
 MOST_BYTES = 1 << 30
 
@@ -30,7 +30,8 @@ def read_bytes(data: bytes, name: str = "") -> Soup:
     elif data[:2] in (b"\xfe\xff", b"\xff\xfe") and not name.endswith(".stl"):
         data = data.decode("utf-16", "replace").encode()
     try:
-        return reader_of(data, name)(data).check()
+        with quiet():
+            return reader_of(data, name)(data).check()
     except MemoryError:
         raise MeshFileError("there is no memory for it") from None
 

@@ -5,7 +5,7 @@ from __future__ import annotations
 import re
 from typing import List, Tuple
 
-from .off_files import Head, behind_braces
+from .off_files import Head, bare
 from .soup import MeshFileError, Soup
 from .text import Cursor, rows_of
 
@@ -15,16 +15,12 @@ GRID = re.compile(rb"(?P<U>U)?(?P<C>C)?(?P<N>N)?(?P<Z>Z)?(?P<four>4)?(?P<u>u)?(?
 
 def is_grid(data: bytes) -> bool:
     """Whether the first word, behind comments and what tells how it is shown, is a keyword of these."""
-    if data[:512].lstrip().startswith(b"appearance"):
-        data = behind_braces(data)
-    first = re.match(rb"(?:\s|#[^\n]*\n)*([^\s#]*)", data)
+    first = re.match(rb"(?:\s|#[^\n]*\n)*([^\s#]*)", bare(data))
     return bool(first and (QUADS.fullmatch(first[1]) or GRID.fullmatch(first[1])))
 
 
 def read_grid(data: bytes) -> Soup:
-    if data[:512].lstrip().startswith(b"appearance"):
-        data = behind_braces(data)
-    rows = rows_of(data)
+    rows = rows_of(bare(data))
     cursor = Cursor(rows)
     word, line = cursor.word("its keyword")
     if rows[0][1][1:2] == [b"BINARY"]:

@@ -78,7 +78,7 @@ def nearness(rims: Sequence[Rim], points: Any, bulk: Any) -> "float | None":
             neighbours[vertex] = rim[k - 1], rim[(k + 1) % len(rim)]
             lengths.append(math.dist(points[vertex], points[rim[k - 1]]))
     distance = statistics.median(lengths) / NEAR if lengths else 0.0
-    if distance <= 0:
+    if not 0 < distance < math.inf:
         return None
     chosen = sorted(neighbours)
     try:

@@ -16,7 +16,7 @@ from typing import Any, Dict, Iterator, List, Sequence, Tuple
 
 from . import arrays, plain
 from .holes import Hub, Rim, nearness, rims_of
-from .soup import MeshFileError, Soup, faces_of, is_array
+from .soup import MeshFileError, Soup, faces_of, is_array, quiet
 from .wedges import pairs_at
 from .writing import edges_of, faces_text, lengths_text, points_text
 
@@ -144,20 +144,25 @@ def mend(
     `most` says. Points of rims that are within the tolerance become one; with None not even equal ones do. `holes` are
     kept ("keep"), each closed by one face ("close"), or joined by one sphere ("hub"), by which no cycle round some of
     them bounds that doesn't bound beforehand. Raises MeshFileError where there is no such part or no face."""
-    glued = Glued(soup, tolerance)
-    parts = glued.parts(most)
-    if not 0 <= part < len(parts):
-        raise MeshFileError(f"there is no part {part}: the parts are 0 to {len(parts) - 1}")
-    return glued.surface(parts[part], holes)
+    with quiet():
+        glued = Glued(soup, tolerance)
+        parts = glued.parts(most)
+        if not 0 <= part < len(parts):
+            raise MeshFileError(f"there is no part {part}: the parts are 0 to {len(parts) - 1}")
+        return glued.surface(parts[part], holes)
 
 
 def mend_all(
     soup: Soup, *, tolerance: "float | None" = 0.0, most: str = "faces", holes: str = "keep"
 ) -> Iterator[Mended]:
     """All parts, the one with the most faces or the greatest area first."""
-    glued = Glued(soup, tolerance)
-    for part in glued.parts(most):
-        yield glued.surface(part, holes)
+    with quiet():
+        glued = Glued(soup, tolerance)
+        parts = glued.parts(most)
+    for part in parts:
+        with quiet():
+            surface = glued.surface(part, holes)
+        yield surface
 
 
 class Glued:

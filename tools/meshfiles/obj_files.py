@@ -54,7 +54,7 @@ def read_regular(data: bytes) -> "Soup | None":
     width = len(vertices[0].split())
     if width < 3 or values is None or len(values) != width * len(vertices):
         return None
-    if width > 3 and any(len(line.split()) != width for line in vertices):
+    if any(len(line.split()) != width for line in vertices):
         return None
     found = regular_faces(faces)
     return found and Soup(values.reshape(-1, width)[:, :3], *found)
@@ -67,8 +67,5 @@ def regular_faces(lines: List[bytes]):
     values = table(text, np.int64)
     if values is None or len(values) == 0 or values.min() < 1:
         return None
-    if len(values) == 3 * len(lines) and all(len(line.split()) == 3 for line in lines):
-        sizes = np.full(len(lines), 3)
-    else:
-        sizes = np.array([len(line.split()) for line in lines])
+    sizes = np.array([len(line.split()) for line in lines])
     return (values - 1, np.concatenate([[0], np.cumsum(sizes)])) if sizes.sum() == len(values) else None

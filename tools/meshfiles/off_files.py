@@ -9,7 +9,7 @@ import struct
 from typing import List, NamedTuple, Sequence, Tuple
 
 from .soup import MeshFileError, Soup, np, starts_of
-from .text import Cursor, Row, rows_of, shown, table
+from .text import Cursor, rows_of, shown, table, whole
 
 KEYWORD = re.compile(rb"(?P<st>ST)?(?P<c>C)?(?P<n>N)?(?P<four>4)?OFF(?P<glued>\d*)", re.I)
 KEYWORD_OF_MANY = re.compile(rb"(?P<st>ST)?(?P<c>C)?(?P<n>N)?(?P<four>4)?nOFF(?P<glued>\d*)")
@@ -44,16 +44,21 @@ class Head(NamedTuple):
 
 
 def read_off(data: bytes) -> Soup:
-    if data[:512].lstrip().startswith(b"appearance"):
-        data = behind_braces(data)
+    data = bare(data)
     if BINARY.match(data[:4096]):
         return read_binary(data)
     quick = read_regular(data) if np is not None else None
     return quick or read_by_words(data)
 
 
-def behind_braces(data: bytes) -> bytes:
-    """What follows the first block in braces: how Geomview is to show the mesh. The lines keep their numbers."""
+def bare(data: bytes) -> bytes:
+    """The mesh without the brace that Geomview may put before it, and without a block that tells how it is shown. The
+    lines keep their numbers."""
+    front = data[:512].lstrip()
+    if front.startswith(b"{"):
+        return data.replace(b"{", b" ", 1)
+    if not front.startswith(b"appearance"):
+        return data
     depth = 0
     for brace in re.finditer(rb"[{}]", data):
         depth += 1 if brace[0] == b"{" else -1
@@ -130,7 +135,7 @@ def read_faces(cursor: Cursor, head: Head, points: list) -> Soup:
     for face in range(head.faces):
         wanted = f"face {face} of {head.faces} is complete"
         word, line = cursor.word(wanted)
-        size = int(word) if word.isdigit() and len(word) < 10 else -1
+        size = whole(word, line)
         if size < 0:
             raise MeshFileError(f"line {line}: {shown(word)} is no number of corners")
         for _ in range(size):
@@ -172,7 +177,7 @@ def regular_points(lines: List[bytes]):
     values = table(b"\n".join(lines))
     if width < 3 or values is None or len(values) != width * len(lines):
         return None
-    if any(len(line.split(None, width)) != width for line in lines) if width > 3 else False:
+    if any(len(line.split()) != width for line in lines):
         return None
     return values.reshape(-1, width)[:, :3]
 
@@ -182,16 +187,16 @@ def regular_faces(lines: List[bytes]):
     values = table(b"\n".join(lines), np.int64)
     if values is None:
         return None
-    width = len(values) // len(lines)
-    rows = values.reshape(-1, width) if width * len(lines) == len(values) else None
-    if rows is not None and (rows[:, 0] == rows[0, 0]).all() and 0 < rows[0, 0] < width:
-        size = int(rows[0, 0])
-        return rows[:, 1 : size + 1].reshape(-1), np.arange(0, size * len(lines) + 1, size)
-    sizes = table(b"\n".join(line.split(None, 1)[0] for line in lines), np.int64)
-    if sizes is None or len(sizes) != len(lines) or sizes.min() < 0 or sizes.sum() + len(lines) != len(values):
-        return None
-    places = np.concatenate([[0], np.cumsum(sizes + 1)])
-    if (values[places[:-1]] != sizes).any():
+    words = np.array([len(line.split()) for line in lines])
+    width = int(words[0])
+    if (words == width).all() and len(values) == width * len(lines):
+        rows = values.reshape(-1, width)
+        if (rows[:, 0] == rows[0, 0]).all() and 0 < rows[0, 0] < width:
+            size = int(rows[0, 0])
+            return rows[:, 1 : size + 1].reshape(-1), np.arange(0, size * len(lines) + 1, size)
+    places = np.concatenate([[0], np.cumsum(words)])
+    sizes = words - 1
+    if places[-1] != len(values) or (values[places[:-1]] != sizes).any():
         return None
     is_corner = np.ones(len(values), bool)
     is_corner[places[:-1]] = False

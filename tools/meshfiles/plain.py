@@ -79,7 +79,10 @@ def near_pairs(points: Sequence[Any], chosen: Sequence[int], distance: float, mo
     """The pairs of chosen vertices that are no farther from each other. MeshFileError where more than `most` are to be
     looked at."""
     cells: Dict[Tuple[int, int, int], List[int]] = {}
-    low = [min(points[v][k] for v in chosen) for k in range(3)] if chosen else []
+    low = [min((points[v][k] for v in chosen), default=0.0) for k in range(3)]
+    spans = [(max((points[v][k] for v in chosen), default=0.0) - low[k]) / distance for k in range(3)]
+    if not max(spans) <= 2.0**60:  # so near no two different points can be
+        return []
     pairs, looked = [], 0
     for vertex in chosen:
         point = points[vertex]

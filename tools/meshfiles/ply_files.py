@@ -240,8 +240,10 @@ class QuickBody(Body):
             return None
         start = sum(size + bool(one.count) for one, size in zip(element.properties[:place], sizes)) + 1
         corners = found[:, start : start + sizes[place]]
-        is_whole = (corners == np.floor(corners)) & (np.abs(corners) < GREATEST)
-        return corners.astype(np.int64) if is_whole.all() else None
+        if not ((corners == np.floor(corners)) & (np.abs(corners) < GREATEST)).all():
+            self.at = at
+            return None
+        return corners.astype(np.int64)
 
     def _columns(self, element: Element, sizes: List[int]):
         """All values of an element as a table of floats, where each list has as many items as in the first row."""

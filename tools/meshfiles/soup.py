@@ -2,10 +2,11 @@
 
 from __future__ import annotations
 
+import contextlib
 import itertools
 import math
 import os
-from typing import Any, List, Sequence
+from typing import Any, ContextManager, List, Sequence
 
 try:
     if os.environ.get("MESHFILES_PLAIN"):  # for tests, and to compare
@@ -20,6 +21,9 @@ Points = Any  # a list of tuples of three floats, or with numpy an array (n, 3) 
 
 class MeshFileError(ValueError):
     """A file can't be read, or can't become a surface: one line that says what is wrong and where."""
+
+    def __init__(self, told: str) -> None:
+        super().__init__("".join(c if c.isprintable() else "?" for c in told))
 
 
 class Soup:
@@ -80,6 +84,11 @@ class Soup:
 def starts_of(sizes: "Sequence[int] | map[int]") -> List[int]:
     """For faces of these sizes the place of each first corner, and the number of all corners."""
     return list(itertools.accumulate(sizes, initial=0))
+
+
+def quiet() -> "ContextManager[Any]":
+    """No warnings of numpy on numbers that are too great or none: what comes of these is looked at."""
+    return contextlib.nullcontext() if np is None else np.errstate(all="ignore")
 
 
 def as_array(values: Any) -> Ints:

@@ -8,6 +8,7 @@ from typing import List, Tuple
 
 from .soup import MeshFileError, np
 
+GREATEST = 10**18
 Row = Tuple[int, List[bytes]]
 
 
@@ -19,8 +20,7 @@ def rows_of(data: bytes) -> List[Row]:
 
 def shown(word: bytes) -> str:
     """A word as it can be shown in a line."""
-    text = "".join(c if c.isprintable() else "?" for c in word[:20].decode("ascii", "replace"))
-    return f"`{text}{'..' if len(word) > 20 else ''}`"
+    return f"`{word[:20].decode('ascii', 'replace')}{'..' if len(word) > 20 else ''}`"
 
 
 def number(word: bytes, line: int) -> float:
@@ -35,11 +35,12 @@ def number(word: bytes, line: int) -> float:
 
 def whole(word: bytes, line: int) -> int:
     try:
-        if len(word) <= 18 and b"_" not in word:
-            return int(word)
+        value = int(word)
     except ValueError:
-        pass
-    raise MeshFileError(f"line {line}: {shown(word)} is no whole number")
+        value = GREATEST
+    if abs(value) >= GREATEST or b"_" in word:
+        raise MeshFileError(f"line {line}: {shown(word)} is no whole number below 10^18")
+    return value
 
 
 def table(text: bytes, kind=float):
@@ -50,7 +51,9 @@ def table(text: bytes, kind=float):
             values = np.fromstring(text, kind, sep=" ")
         except (DeprecationWarning, ValueError, OverflowError):
             return None
-    return values if values.dtype != float or np.isfinite(values).all() else None
+    if kind is float:
+        return values if np.isfinite(values).all() else None
+    return values if (np.abs(values) < GREATEST).all() else None
 
 
 class Cursor:
