@@ -77,7 +77,7 @@ class Files(unittest.TestCase):
         soups = [read_bytes(data, name)]
         if np is not None:
             soups.append(without_numpy(data, name))
-            self.assertEqual([list(map(float, p)) for p in soups[0].points], [list(p) for p in soups[1].points])
+            self.assertEqual(repr([list(map(float, p)) for p in soups[0].points]), repr([list(p) for p in soups[1].points]))
             self.assertEqual(soups[0].faces, soups[1].faces)
         return soups[0]
 
@@ -93,6 +93,13 @@ class Files(unittest.TestCase):
         self.same("off 4 4 6 0 0 0  1 0 0 # corners\n0 1 0  0 0 1\n3 0 1 2  3 0 3 1\n3 0 2 3 3 1 3 2\n")
         self.same(b"\xef\xbb\xbfOFF\n4 4 6\n" + (PLACES + ROWS).encode())
         self.same(("OFF\n4 4 6\n" + PLACES + ROWS).encode("utf-16"), "a.off")
+
+    def test_a_vertex_that_is_nowhere(self):
+        """As scanners write points that they didn't see."""
+        for text, name in ((f"OFF\n5 4 6\n{PLACES}nan nan nan\n{ROWS}", "a.off"),
+                           ("".join("v %d %d %d\n" % p for p in POINTS) + "v nan 0 0\n"
+                            + "".join("f %d %d %d\n" % tuple(c + 1 for c in face) for face in FACES), "a.obj")):
+            self.assertEqual(mend(self.read(text, name)).off_text(), TET)
 
     def test_colours_of_off(self):
         coloured = "".join(row + more + "\n" for row, more in zip(ROWS.splitlines(), ["", " 7", " 0.9 0.1 0.1", " 1 2 3 4"]))
@@ -240,10 +247,10 @@ class Refusals(unittest.TestCase):
         "counts": ("a.off", b"OFF\n4\n", "the text ends before the count of faces"),
         "billions": ("a.off", b"OFF\n353535235358 6 0\n", "line 2: 353535235358 vertices and 6 faces are claimed, and the file has 21 bytes"),
         "below 0": ("a.off", b"OFF\n-4 4 6\n" + PLACES.encode(), "line 2: counts that no mesh has"),
-        "no number": ("a.off", TET.replace(b"1 0 0", b"1 zero 0"), "line 4: `zero` is no finite number"),
-        "nan": ("a.off", TET.replace(b"1 0 0", b"1 NaN 0"), "line 4: `NaN` is no finite number"),
-        "infinite": ("a.off", TET.replace(b"1 0 0", b"1 1e999 0"), "line 4: `1e999` is no finite number"),
-        "underscore": ("a.off", TET.replace(b"1 0 0", b"1_0 0 0"), "line 4: `1_0` is no finite number"),
+        "no number": ("a.off", TET.replace(b"1 0 0", b"1 zero 0"), "line 4: `zero` is no number"),
+        "nan": ("a.off", TET.replace(b"1 0 0", b"1 NaN 0"), "vertex 1 has a coordinate that is no finite number"),
+        "infinite": ("a.off", TET.replace(b"1 0 0", b"1 1e999 0"), "vertex 1 has a coordinate that is no finite number"),
+        "underscore": ("a.off", TET.replace(b"1 0 0", b"1_0 0 0"), "line 4: `1_0` is no number"),
         "cut off": ("a.off", TET[:-8], "the text ends before face 3 of 4 is complete"),
         "cut off early": ("a.off", b"OFF\n4 4 6\n0 0 0\n1 0 0\n0 1 0 0 0", "the text ends before vertex 3 of 4 is complete"),
         "corner": ("a.off", TET.replace(b"3 1 3 2", b"3 1 3 4"), "face 3 has the corner 4, and the vertices are 0 to 3"),
@@ -272,7 +279,7 @@ class Refusals(unittest.TestCase):
         "short stl": ("a.stl", bytes_of_stl(POINTS, FACES)[:-60], "byte 80: 4 triangles are claimed, and the file holds 2"),
         "open facet": ("a.stl", text_of_stl(POINTS, FACES).encode().split(b"endloop")[0], "the text ends within a facet"),
         "vertex of stl": ("a.stl", text_of_stl(POINTS, FACES).replace("1 0 0", "1 blah 0", 1).encode(),
-                          "line 5: `blah` is no finite number"),
+                          "line 5: `blah` is no number"),
         "word of stl": ("a.stl", text_of_stl(POINTS, FACES).replace("outer", "inner", 1).encode(),
                         "line 3: `inner` is no word of an STL"),
         "cut gzip": ("a.off.gz", gzip.compress(TET)[:-9], "the gzip file is cut off"),
@@ -359,7 +366,7 @@ class Spoiled(unittest.TestCase):
             if read is read_bytes:
                 mended = mend(soup, holes="close")
                 self.assertIsNone(fault_of(len(mended.points), mended.faces))
-            return [list(map(float, point)) for point in soup.points], soup.faces
+            return repr([list(map(float, point)) for point in soup.points]), soup.faces
         except MeshFileError as fault:
             self.assertEqual(len(str(fault).splitlines()), 1)
             return str(fault)

@@ -174,7 +174,7 @@ def vertices_of(body: Body, element: Element, places: List[Any]) -> Any:
     quick = body.quick_rows(element) if isinstance(body, QuickBody) else None
     if quick is not None:
         return quick[:, places]
-    return [tuple(row[k] for k in places) for row in body.rows(element)]
+    return [tuple(float(row[k]) for k in places) for row in body.rows(element)]
 
 
 def faces_of(body: Body, element: Element, place: "int | None") -> Tuple[Any, Any]:

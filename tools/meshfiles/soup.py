@@ -53,7 +53,7 @@ class Soup:
         return faces_of(self.corners, self.starts)
 
     def check(self) -> "Soup":
-        """The soup itself, if it has a face, all corners are vertices and all coordinates are finite numbers."""
+        """The soup itself, if it has a face, and all corners are vertices whose coordinates are finite numbers."""
         if len(self.starts) < 2 or self.starts[-1] == 0:
             raise MeshFileError("no face: a cloud of points, or curves alone")
         bad = self._first_bad_corner()
@@ -73,12 +73,13 @@ class Soup:
 
     def _check_numbers(self) -> None:
         if not is_array(self.points):
-            bad = next((v for v, point in enumerate(self.points) if not all(map(math.isfinite, point))), None)
+            bad = {v for v, point in enumerate(self.points) if not all(map(math.isfinite, point))}
+            bad = bad.intersection(self.corners) if bad else bad
         else:
-            rows = np.flatnonzero(~np.isfinite(self.points).all(axis=1))
-            bad = int(rows[0]) if len(rows) else None
-        if bad is not None:
-            raise MeshFileError(f"vertex {bad} has a coordinate that is no finite number")
+            is_bad = ~np.isfinite(self.points).all(axis=1)
+            bad = self.corners[is_bad[self.corners]]
+        if len(bad):
+            raise MeshFileError(f"vertex {min(bad)} has a coordinate that is no finite number")
 
 
 def starts_of(sizes: "Sequence[int] | map[int]") -> List[int]:

@@ -2,7 +2,6 @@
 
 from __future__ import annotations
 
-import math
 import struct
 from .soup import MeshFileError, Soup, np
 from .text import number, shown
@@ -86,8 +85,6 @@ def read_regular(data: bytes) -> "Soup | None":
         except ValueError:
             return None
     columns = columns[3:]  # behind the normal
-    if not all(math.isfinite(sum(map(abs, column))) for column in columns):
-        return None
     count = 3 * len(columns[0])
     if np is not None:
         return Soup(np.array(columns).T.reshape(-1, 3), range(count), range(0, count + 1, 3))

@@ -2,7 +2,6 @@
 
 from __future__ import annotations
 
-import math
 import warnings
 from typing import List, Tuple
 
@@ -24,13 +23,13 @@ def shown(word: bytes) -> str:
 
 
 def number(word: bytes, line: int) -> float:
+    """The number that a word is. It may be infinite or none: only a vertex of a face has to stand somewhere."""
     try:
-        value = float(word)
+        if b"_" not in word:
+            return float(word)
     except ValueError:
-        value = math.nan
-    if not math.isfinite(value) or b"_" in word:
-        raise MeshFileError(f"line {line}: {shown(word)} is no finite number")
-    return value
+        pass
+    raise MeshFileError(f"line {line}: {shown(word)} is no number")
 
 
 def whole(word: bytes, line: int) -> int:
@@ -52,7 +51,7 @@ def table(text: bytes, kind=float):
         except (DeprecationWarning, ValueError, OverflowError):
             return None
     if kind is float:
-        return values if np.isfinite(values).all() else None
+        return values
     return values if (np.abs(values) < GREATEST).all() else None
 
 
