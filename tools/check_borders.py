@@ -3,12 +3,13 @@
 
     check_borders.py [--program PATH] [--surfaces N] [--seed S]
 
-Squares are taken out of tori, bottles and planes of few squares, and edges get lengths with many ties. The least basis of
-what is left is found by brute force, from the definition: all sets of edges that have an even number at each vertex, in the
-order of their lengths, and of these each that isn't a sum of those before it and of boundaries of faces. It shares
-nothing with the program, nor with the hub. Beside it stands the answer of `basis` on the surface that the mender joins by a
-hub: its cycles that have no vertex of the hub have to come first, to be as many, and to be as long place by place. Where
-there is no program the basis of the joined surface is found by brute force too.
+Squares are taken out of tori, bottles and planes of few squares, and edges get lengths with many ties. The least
+basis of what is left is found by brute force, from the definition: all sets of edges that have an even number at
+each vertex, in the order of their lengths, and of these each that isn't a sum of those before it and of boundaries
+of faces. It shares nothing with the program, nor with the hub. Beside it stands the answer of `basis` on the
+surface that the mender joins by a hub: its cycles that have no vertex of the hub have to come first, to be as
+many, and to be as long place by place. Where there is no program the basis of the joined surface is found by brute
+force too.
 """
 
 import argparse
@@ -27,19 +28,21 @@ SHAPES = ("torus", "bottle", "plane")
 
 
 def squares(shape, rows, columns):
-    """A torus, a bottle or a plane of squares: rows that close round, and columns that close or are turned over. For the
-    plane the first and the last row are each closed by a face."""
+    """A torus, a bottle or a plane of squares: rows that close round, and columns that close or are turned over.
+    For the plane the first and the last row are each closed by a face."""
     at = lambda r, c: (r % rows) * columns + c % columns
     if shape == "plane":  # a band whose ends meet turned over, and a face on its border
         strip = [[r * 2, r * 2 + 1, r * 2 + 3, r * 2 + 2] for r in range(rows - 1)]
         strip.append([2 * rows - 2, 2 * rows - 1, 0, 1])
         return strip + [[2 * r for r in range(rows)] + [2 * r + 1 for r in range(rows)]]
     turn = (lambda r, c: at(r, c)) if shape == "torus" else (lambda r, c: at(r, -c) if r >= rows else at(r, c))
-    return [[turn(r, c), turn(r, c + 1), turn(r + 1, c + 1), turn(r + 1, c)] for r in range(rows) for c in range(columns)]
+    return [
+        [turn(r, c), turn(r, c + 1), turn(r + 1, c + 1), turn(r + 1, c)] for r in range(rows) for c in range(columns)
+    ]
 
 
 def bordered(chance):
-    """A small surface with borders, as the mender makes it of what is left of a closed one, and the one with its hub."""
+    """A small surface with borders, as the mender makes it of what is left of a closed one, and that with its hub."""
     while True:
         faces = squares(chance.choice(SHAPES), 3, 3)
         left = chance.sample(faces, len(faces) - chance.randrange(1, 4))
@@ -56,7 +59,10 @@ def shortest_basis(count, faces, lengths):
     rows = Rows()
     for face in faces:
         rows.add(sum(1 << number[min(u, v), max(u, v)] for u, v in zip(face, face[1:] + face[:1])))
-    cycles = [(sum(lengths[pair] for k, pair in enumerate(edges) if cycle >> k & 1), cycle) for cycle in all_cycles(count, edges)]
+    cycles = [
+        (sum(lengths[pair] for k, pair in enumerate(edges) if cycle >> k & 1), cycle)
+        for cycle in all_cycles(count, edges)
+    ]
     return [length for length, cycle in sorted(cycles) if rows.add(cycle)]
 
 
@@ -140,7 +146,9 @@ def main():
     with tempfile.TemporaryDirectory() as name:
         chance = random.Random(words.seed)
         wrong = sum(not compared(program, pathlib.Path(name), chance) for _ in range(words.surfaces))
-    print(f"{words.surfaces - wrong} surfaces with borders have the basis that brute force finds, {wrong} another one")
+    print(
+        f"{words.surfaces - wrong} surfaces with borders have the basis that brute force finds, {wrong} another one"
+    )
     return 1 if wrong else 0
 
 

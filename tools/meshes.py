@@ -100,7 +100,8 @@ def write(path, genus, points, triangles):
 
 HOLES = [((-1.0, -1.0, 0.3), 0.4), ((3.0, 0.9, 0.2), 0.35), ((1.0, 0.3, 0.4), 0.25)]
 SEAM = 1.0
-CRUMB = [(1.0, 1.7, 0.5), (1.1, 1.7, 0.5), (1.0, 1.8, 0.5), (1.0, 1.7, 0.6)], [(0, 2, 1), (0, 1, 3), (1, 2, 3), (2, 0, 3)]
+CRUMB_POINTS = [(1.0, 1.7, 0.5), (1.1, 1.7, 0.5), (1.0, 1.8, 0.5), (1.0, 1.7, 0.6)]
+CRUMB_TRIANGLES = [(0, 2, 1), (0, 1, 3), (1, 2, 3), (2, 0, 3)]
 
 
 def scan(points, triangles):
@@ -115,14 +116,14 @@ def scan(points, triangles):
                 numbers[key(c)] = len(found)
                 found.append(points[c])
         faces.append(tuple(numbers[key(c)] for c in t))
-    faces += [tuple(c + len(found) for c in t) for t in CRUMB[1]]
-    return found + CRUMB[0], faces
+    faces += [tuple(c + len(found) for c in t) for t in CRUMB_TRIANGLES]
+    return found + CRUMB_POINTS, faces
 
 
 def write_scan(path, points, triangles):
     head = ["ply", "format binary_little_endian 1.0", f"element vertex {len(points)}"]
-    head += [f"property float {axis}" for axis in "xyz"] + ["property uchar quality", f"element face {len(triangles)}"]
-    head += ["property list uchar int vertex_indices", "end_header", ""]
+    head += [f"property float {axis}" for axis in "xyz"] + ["property uchar quality"]
+    head += [f"element face {len(triangles)}", "property list uchar int vertex_indices", "end_header", ""]
     with open(path, "wb") as file:
         file.write("\n".join(head).encode())
         file.write(b"".join(struct.pack("<3fB", *point, 255) for point in points))

@@ -7,10 +7,11 @@
     show.py MESH [ANSWER] --vect out.vect    the walks alone, for Geomview
     show.py MESH [ANSWER] --coff out.off     the mesh with colours on the faces along the walks or in the evidence
 
-ANSWER is the output of `loops`, `basis`, `cycle`, `shortest`, `class` or `same` on MESH, or several of these one after
-another, or a text that `cut` wrote of MESH, whose border is drawn as the cut. Without it the mesh alone is shown. Faces
-that close holes and the hub, which `to_off.py` adds, are left out, with all that runs over the hub. Pictures look along
-a line that --turn (degrees about the upright axis) and --tilt (degrees from above the horizon) give.
+ANSWER is the output of `loops`, `basis`, `cycle`, `shortest`, `class` or `same` on MESH, or several of these one
+after another, or a text that `cut` wrote of MESH, whose border is drawn as the cut. Without it the mesh alone is
+shown. Faces that close holes and the hub, which `to_off.py` adds, are left out, with all that runs over the hub.
+Pictures look along a line that --turn (degrees about the upright axis) and --tilt (degrees from above the horizon)
+give.
 """
 
 import argparse
@@ -29,7 +30,7 @@ MARKED = (255, 209, 102)
 
 
 class Answer:
-    """Walks to be drawn as lines, each a list of vertices, single edges, all of one colour, and faces to be coloured."""
+    """Walks to be drawn, each a list of vertices, single edges, all of one colour, and faces to be coloured."""
 
     def __init__(self, edges=()):
         self.walks, self.edges, self.faces = [], list(edges), set()

@@ -27,7 +27,8 @@ def sides_of(faces):
 
 
 def fault_of(count, faces, border=False):
-    """Why so many vertices and these faces are no connected surface, or None. With `border` an edge may have one face."""
+    """Why so many vertices and these faces are no connected surface, or None. With `border` an edge may have one
+    face."""
     for number, face in enumerate(faces):
         if len(face) < 3 or len(set(face)) < len(face) or not all(0 <= c < count for c in face):
             return f"face {number} isn't one of at least three different vertices"

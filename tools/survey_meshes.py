@@ -3,10 +3,11 @@
 
     survey_meshes.py [--root DIR] [--program SURF] [--files] [PACKAGE ..]
 
-Without packages the eight of the table in docs/survey.md. They are installed, or with --root unpacked: DIR/PACKAGE has what
-`dpkg-deb -x` makes of it. Each file that ends in .off, .obj, .ply or .stl, or one of these and .gz, is tried once, whatever
-its copies are called, and so are those in .tar.gz archives. It is in where `to_off.py --close` ends with status 0 and its
-mesh is a surface, by SURF (`info`) or without it by a test of this repository's own. --files lists every file.
+Without packages the eight of the table in docs/survey.md. They are installed, or with --root unpacked: DIR/PACKAGE
+has what `dpkg-deb -x` makes of it. Each file that ends in .off, .obj, .ply or .stl, or one of these and .gz, is
+tried once, whatever its copies are called, and so are those in .tar.gz archives. It is in where `to_off.py
+--close` ends with status 0 and its mesh is a surface, by SURF (`info`) or without it by a test of this
+repository's own. --files lists every file.
 """
 
 import argparse
@@ -23,7 +24,16 @@ from off import read_off
 from surfaces import fault_of
 
 HERE = pathlib.Path(__file__).resolve().parent
-PACKAGES = ["libcgal-demo", "libcgal-dev", "geomview", "admesh", "assimp-testmodels", "openscad", "meshlab", "gmsh-doc"]
+PACKAGES = [
+    "libcgal-demo",
+    "libcgal-dev",
+    "geomview",
+    "admesh",
+    "assimp-testmodels",
+    "openscad",
+    "meshlab",
+    "gmsh-doc",
+]
 ENDINGS = (".off", ".obj", ".ply", ".stl")
 NO_FACE = "no face: "
 SECONDS = 300
@@ -53,9 +63,13 @@ def is_mesh(name):
 def files_of(package, root):
     """The paths of a package's files, and of its archives."""
     if root:
-        return sorted(path for path in pathlib.Path(root, package).rglob("*") if path.is_file() and not path.is_symlink())
+        return sorted(
+            path for path in pathlib.Path(root, package).rglob("*") if path.is_file() and not path.is_symlink()
+        )
     listed = subprocess.run(["dpkg", "-L", package], capture_output=True, text=True)
-    return [path for path in map(pathlib.Path, listed.stdout.splitlines()) if path.is_file() and not path.is_symlink()]
+    return [
+        path for path in map(pathlib.Path, listed.stdout.splitlines()) if path.is_file() and not path.is_symlink()
+    ]
 
 
 def meshes_of(package, root):
@@ -115,7 +129,9 @@ def survey(packages, root, program):
 
 
 def table(found, packages):
-    rows = ["| Package | Files | Without a face | In | Of these with holes closed | Refused by a line | Ended otherwise |"]
+    rows = [
+        "| Package | Files | Without a face | In | Of these with holes closed | Refused by a line | Ended otherwise |"
+    ]
     rows.append("|---|---|---|---|---|---|---|")
     for package in [*packages, None]:
         some = [one for one in found if package in (None, one.package)]
@@ -132,7 +148,12 @@ def kinds(found):
     words += ["closed by one face", "one-sided"]
     counts = collections.Counter(word for one in found if one.came_in for word in words if word in one.told)
     rows = [f"| {counts[word]} | {word} |" for word in words]
-    return ["| Files | What was told |", "|---|---|", f"| {sum(one.came_in and not one.told for one in found)} | nothing |", *rows]
+    return [
+        "| Files | What was told |",
+        "|---|---|",
+        f"| {sum(one.came_in and not one.told for one in found)} | nothing |",
+        *rows,
+    ]
 
 
 def main():
@@ -149,7 +170,9 @@ def main():
         if one.kind() in ("refused", "ended badly"):
             rows.append(f"| `{one.name}` | {one.told.splitlines()[-1].partition(one.name + ': ')[2]} |")
     if words.files:
-        rows += [""] + [f"{one.package} {one.name} {one.seconds:.2f} s: {'; '.join(one.told.splitlines())}" for one in found]
+        rows += [""] + [
+            f"{one.package} {one.name} {one.seconds:.2f} s: {'; '.join(one.told.splitlines())}" for one in found
+        ]
     print("\n".join(rows))
     return 1 if any(one.ended_badly for one in found) else 0
 

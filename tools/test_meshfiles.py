@@ -77,7 +77,9 @@ class Files(unittest.TestCase):
         soups = [read_bytes(data, name)]
         if np is not None:
             soups.append(without_numpy(data, name))
-            self.assertEqual(repr([list(map(float, p)) for p in soups[0].points]), repr([list(p) for p in soups[1].points]))
+            self.assertEqual(
+                repr([list(map(float, p)) for p in soups[0].points]), repr([list(p) for p in soups[1].points])
+            )
             self.assertEqual(soups[0].faces, soups[1].faces)
         return soups[0]
 
@@ -86,7 +88,14 @@ class Files(unittest.TestCase):
         self.assertEqual(([tuple(p) for p in soup.points], soup.faces), (points, faces))
 
     def test_off(self):
-        for head in ("OFF\n4 4 6\n", "off\n4 4 6\n", "OFF 4 4 6\n", "4 4 6\n", "# a\n\nOff # b\n\n4 4\n", "OFF4 4 6\n"):
+        for head in (
+            "OFF\n4 4 6\n",
+            "off\n4 4 6\n",
+            "OFF 4 4 6\n",
+            "4 4 6\n",
+            "# a\n\nOff # b\n\n4 4\n",
+            "OFF4 4 6\n",
+        ):
             self.same(head + PLACES + ROWS)
         self.same(("OFF\n4 4 6\n" + PLACES + ROWS).replace("\n", "\r\n"))
         self.same("OFF 4 4 6 0 0 0 1 0 0 0 1 0 0 0 1 3 0 1 2 3 0 3 1 3 0 2 3 3 1 3 2")
@@ -96,13 +105,21 @@ class Files(unittest.TestCase):
 
     def test_a_vertex_that_is_nowhere(self):
         """As scanners write points that they didn't see."""
-        for text, name in ((f"OFF\n5 4 6\n{PLACES}nan nan nan\n{ROWS}", "a.off"),
-                           ("".join("v %d %d %d\n" % p for p in POINTS) + "v nan 0 0\n"
-                            + "".join("f %d %d %d\n" % tuple(c + 1 for c in face) for face in FACES), "a.obj")):
+        for text, name in (
+            (f"OFF\n5 4 6\n{PLACES}nan nan nan\n{ROWS}", "a.off"),
+            (
+                "".join("v %d %d %d\n" % p for p in POINTS)
+                + "v nan 0 0\n"
+                + "".join("f %d %d %d\n" % tuple(c + 1 for c in face) for face in FACES),
+                "a.obj",
+            ),
+        ):
             self.assertEqual(mend(self.read(text, name)).off_text(), TET)
 
     def test_colours_of_off(self):
-        coloured = "".join(row + more + "\n" for row, more in zip(ROWS.splitlines(), ["", " 7", " 0.9 0.1 0.1", " 1 2 3 4"]))
+        coloured = "".join(
+            row + more + "\n" for row, more in zip(ROWS.splitlines(), ["", " 7", " 0.9 0.1 0.1", " 1 2 3 4"])
+        )
         self.same("OFF\n4 4 6\n" + PLACES + coloured)
         self.same("OFF\n4 4 6\n" + PLACES + ROWS.replace("\n", " 255 0 0\n"))
         self.same("COFF\n4 4 6\n" + PLACES.replace("\n", " 255 0 0 255\n") + ROWS)
@@ -135,7 +152,9 @@ class Files(unittest.TestCase):
         vertices = "".join("v %d %d %d\n" % point for point in POINTS)
         faces = "".join("f %d %d %d\n" % tuple(c + 1 for c in face) for face in FACES)
         self.same(vertices + faces, "a.obj")
-        self.same("# a\nmtllib b\no c\ng d\nvn 0 0 1\nvt 0 0\n" + vertices + "s 1\nusemtl e\n" + faces + "l 1 2\n", "a.obj")
+        self.same(
+            "# a\nmtllib b\no c\ng d\nvn 0 0 1\nvt 0 0\n" + vertices + "s 1\nusemtl e\n" + faces + "l 1 2\n", "a.obj"
+        )
         self.same(vertices.replace("\n", " 0.5 0.5 0.5\n") + faces.replace(" ", " ").replace("1", "1/1"), "a.obj")
         self.same(vertices + "".join("f %d/7/8 %d//9 %d/3\n" % tuple(c + 1 for c in face) for face in FACES), "a.obj")
         self.same(vertices + "".join("f %d %d %d\n" % tuple(c - 4 for c in face) for face in FACES), "A.OBJ")
@@ -148,15 +167,28 @@ class Files(unittest.TestCase):
         self.same(head_of_ply("ascii") + rows)
         self.same((head_of_ply("ascii") + rows).replace(b"\n", b"\r\n"))
         self.same(head_of_ply("ascii", name="vertex_index") + rows, "a.ply")
-        coloured = head_of_ply("ascii", more="property uchar red\n") + PLACES.replace("\n", " 9\n").encode() + ROWS.encode()
+        coloured = (
+            head_of_ply("ascii", more="property uchar red\n") + PLACES.replace("\n", " 9\n").encode() + ROWS.encode()
+        )
         self.same(coloured)
-        between = head_of_ply("ascii").replace(b"element face", b"element edge 1\nproperty int a\nproperty int b\nelement face")
+        between = head_of_ply("ascii").replace(
+            b"element face", b"element edge 1\nproperty int a\nproperty int b\nelement face"
+        )
         self.same(between + PLACES.encode() + b"0 1\n" + ROWS.encode())
         mixed = PLACES.encode() + b"3 0 1 2\n3 0 3 1\n4 0 1 2 3\n3 1 3 2\n"
         self.same(head_of_ply("ascii") + mixed, faces=[[0, 1, 2], [0, 3, 1], [0, 1, 2, 3], [1, 3, 2]])
 
     def test_ply_in_binary(self):
-        kinds = {"char": "b", "uchar": "B", "short": "h", "ushort": "H", "int": "i", "uint": "I", "float": "f", "double": "d"}
+        kinds = {
+            "char": "b",
+            "uchar": "B",
+            "short": "h",
+            "ushort": "H",
+            "int": "i",
+            "uint": "I",
+            "float": "f",
+            "double": "d",
+        }
         for form, order in (("binary_little_endian", "<"), ("binary_big_endian", ">")):
             for vertex in ("float", "double", "char"):
                 for count, item in (("uchar", "int"), ("int", "uint"), ("ushort", "short"), ("uchar", "float")):
@@ -166,7 +198,9 @@ class Files(unittest.TestCase):
                     self.same(data)
 
     def test_lists_between_in_ply(self):
-        head = head_of_ply("binary_little_endian").replace(b"element face", b"element other 2\nproperty list uchar short q\nelement face")
+        head = head_of_ply("binary_little_endian").replace(
+            b"element face", b"element other 2\nproperty list uchar short q\nelement face"
+        )
         head = head.replace(b"end_header", b"property list uchar float texcoord\nproperty uchar flag\nend_header")
         body = b"".join(struct.pack("<3f", *point) for point in POINTS) + struct.pack("<Bhh", 2, 5, 5) + b"\0"
         self.same(head + body + b"".join(struct.pack("<B3iB2fB", 3, *face, 2, 0.5, 0.5, 1) for face in FACES))
@@ -181,7 +215,12 @@ class Files(unittest.TestCase):
         points = [POINTS[c] for face in FACES for c in face]
         faces = [[k, k + 1, k + 2] for k in range(0, 12, 3)]
         text = text_of_stl(POINTS, FACES)
-        for data in (text, text.upper(), text.replace("endsolid\n", "endsolid a\nsolid b\nendsolid b\n"), "\n" + text):
+        for data in (
+            text,
+            text.upper(),
+            text.replace("endsolid\n", "endsolid a\nsolid b\nendsolid b\n"),
+            "\n" + text,
+        ):
             self.same(data, "a.stl", points, faces)
         self.same(text, "", points, faces)
         for head in (b"", b"solid that isn't text", b"solid facet"):
@@ -204,19 +243,31 @@ class Files(unittest.TestCase):
         self.same(gzip.compress(TET), "a.off.gz")
         self.same(gzip.compress(TET[:30]) + gzip.compress(TET[30:]), "a.off.gz")
         points = [POINTS[c] for face in FACES for c in face]
-        self.same(gzip.compress(bytes_of_stl(POINTS, FACES)), "a.stl.gz", points, [[k, k + 1, k + 2] for k in range(0, 12, 3)])
+        self.same(
+            gzip.compress(bytes_of_stl(POINTS, FACES)),
+            "a.stl.gz",
+            points,
+            [[k, k + 1, k + 2] for k in range(0, 12, 3)],
+        )
 
 
 def without_numpy(data, name):
     """The soup of the bytes, read by a Python that is told to do without numpy."""
     global _other
     if _other is None:
-        code = "import sys, json; sys.path.insert(0, sys.argv[1]); from meshfiles import *\nfor row in sys.stdin:\n" \
-            " data, name = json.loads(row)\n" \
-            " try: s = read_bytes(bytes.fromhex(data), name); print(json.dumps([s.points, list(s.corners), list(s.starts)]))\n" \
+        code = (
+            "import sys, json; sys.path.insert(0, sys.argv[1]); from meshfiles import *\nfor row in sys.stdin:\n"
+            " data, name = json.loads(row)\n"
+            " try: s = read_bytes(bytes.fromhex(data), name); print(json.dumps([s.points, s.corners, s.starts]))\n"
             " except MeshFileError as fault: print(json.dumps(str(fault)))\n sys.stdout.flush()\n"
-        _other = subprocess.Popen([sys.executable, "-c", code, str(HERE)], stdin=subprocess.PIPE, stdout=subprocess.PIPE,
-                                  text=True, env={**os.environ, "MESHFILES_PLAIN": "1", "PYTHONDONTWRITEBYTECODE": "1"})
+        )
+        _other = subprocess.Popen(
+            [sys.executable, "-c", code, str(HERE)],
+            stdin=subprocess.PIPE,
+            stdout=subprocess.PIPE,
+            text=True,
+            env={**os.environ, "MESHFILES_PLAIN": "1", "PYTHONDONTWRITEBYTECODE": "1"},
+        )
     _other.stdin.write(json.dumps([data.hex(), name]) + "\n")
     _other.stdin.flush()
     came = json.loads(_other.stdout.readline())
@@ -241,19 +292,39 @@ class Refusals(unittest.TestCase):
     CASES = {
         "cut quad": ("a.quad", b"QUAD\n0 0 0 1 0 0 0 1 0 1 1", "the text ends within face 0"),
         "cut grid": ("a.mesh", b"MESH\n2 2\n0 0 0 1 0 0 0 1 0 1 1", "the text ends before vertex 3 of 4 is complete"),
-        "great grid": ("a.mesh", b"MESH\n99999 99999\n0 0 0", "the head: 9999800001 vertices and 0 faces are claimed, and the file has 22 bytes"),
+        "great grid": (
+            "a.mesh",
+            b"MESH\n99999 99999\n0 0 0",
+            "the head: 9999800001 vertices and 0 faces are claimed, and the file has 22 bytes",
+        ),
         "nothing": ("a.off", b"", "there is no word in the file"),
         "words": ("a.off", b"hello\n", "line 1: `hello` is neither a keyword of OFF nor a count of vertices"),
         "counts": ("a.off", b"OFF\n4\n", "the text ends before the count of faces"),
-        "billions": ("a.off", b"OFF\n353535235358 6 0\n", "line 2: 353535235358 vertices and 6 faces are claimed, and the file has 21 bytes"),
+        "billions": (
+            "a.off",
+            b"OFF\n353535235358 6 0\n",
+            "line 2: 353535235358 vertices and 6 faces are claimed, and the file has 21 bytes",
+        ),
         "below 0": ("a.off", b"OFF\n-4 4 6\n" + PLACES.encode(), "line 2: counts that no mesh has"),
         "no number": ("a.off", TET.replace(b"1 0 0", b"1 zero 0"), "line 4: `zero` is no number"),
         "nan": ("a.off", TET.replace(b"1 0 0", b"1 NaN 0"), "vertex 1 has a coordinate that is no finite number"),
-        "infinite": ("a.off", TET.replace(b"1 0 0", b"1 1e999 0"), "vertex 1 has a coordinate that is no finite number"),
+        "infinite": (
+            "a.off",
+            TET.replace(b"1 0 0", b"1 1e999 0"),
+            "vertex 1 has a coordinate that is no finite number",
+        ),
         "underscore": ("a.off", TET.replace(b"1 0 0", b"1_0 0 0"), "line 4: `1_0` is no number"),
         "cut off": ("a.off", TET[:-8], "the text ends before face 3 of 4 is complete"),
-        "cut off early": ("a.off", b"OFF\n4 4 6\n0 0 0\n1 0 0\n0 1 0 0 0", "the text ends before vertex 3 of 4 is complete"),
-        "corner": ("a.off", TET.replace(b"3 1 3 2", b"3 1 3 4"), "face 3 has the corner 4, and the vertices are 0 to 3"),
+        "cut off early": (
+            "a.off",
+            b"OFF\n4 4 6\n0 0 0\n1 0 0\n0 1 0 0 0",
+            "the text ends before vertex 3 of 4 is complete",
+        ),
+        "corner": (
+            "a.off",
+            TET.replace(b"3 1 3 2", b"3 1 3 4"),
+            "face 3 has the corner 4, and the vertices are 0 to 3",
+        ),
         "no faces": ("a.off", b"OFF\n4 0 0\n" + PLACES.encode(), "no face: a cloud of points, or curves alone"),
         "size": ("a.off", TET.replace(b"3 1 3 2", b"-3 1 3 2"), "line 10: `-3` is no number of corners"),
         "short vertex": ("a.obj", b"v 0 0\n", "line 1: a vertex has three coordinates, and there are 2"),
@@ -264,24 +335,57 @@ class Refusals(unittest.TestCase):
         "no ply": ("a.ply", b"", "line 1: a PLY begins with the word `ply`"),
         "head": ("a.ply", b"ply\nformat ascii 1.0\nelement vertex 4\n", "the head has no line `end_header`"),
         "format": ("a.ply", b"ply\nformat morse 1.0\nend_header\n", "line 2: `morse` is no format of PLY"),
-        "property": ("a.ply", b"ply\nformat ascii 1.0\nelement vertex 1\nproperty words x\nend_header\n",
-                     "line 4: no property of PLY: `property words x`"),
-        "claim": ("a.ply", head_of_ply("ascii").replace(b"vertex 4", b"vertex 4000000000"),
-                  "4000000000 times `vertex` is claimed, and the file has 0 bytes behind its head"),
-        "cut ply": ("a.ply", head_of_ply("ascii") + PLACES.encode() + ROWS.encode()[:-4], "face 3 of 4: a list can't have 3 items there"),
-        "list": ("a.ply", head_of_ply("ascii") + PLACES.encode() + b"9999 0 1 2\n" + ROWS.encode(),
-                 "face 0 of 4: a list can't have 9999 items there"),
-        "word in ply": ("a.ply", head_of_ply("ascii") + PLACES.encode().replace(b"1 0 0", b"1 x 0") + ROWS.encode(),
-                        "vertex 1 of 4: `x` is no number"),
-        "nan in ply": ("a.ply", head_of_ply("ascii") + PLACES.encode().replace(b"1 0 0", b"1 nan 0") + ROWS.encode(),
-                       "vertex 1 has a coordinate that is no finite number"),
+        "property": (
+            "a.ply",
+            b"ply\nformat ascii 1.0\nelement vertex 1\nproperty words x\nend_header\n",
+            "line 4: no property of PLY: `property words x`",
+        ),
+        "claim": (
+            "a.ply",
+            head_of_ply("ascii").replace(b"vertex 4", b"vertex 4000000000"),
+            "4000000000 times `vertex` is claimed, and the file has 0 bytes behind its head",
+        ),
+        "cut ply": (
+            "a.ply",
+            head_of_ply("ascii") + PLACES.encode() + ROWS.encode()[:-4],
+            "face 3 of 4: a list can't have 3 items there",
+        ),
+        "list": (
+            "a.ply",
+            head_of_ply("ascii") + PLACES.encode() + b"9999 0 1 2\n" + ROWS.encode(),
+            "face 0 of 4: a list can't have 9999 items there",
+        ),
+        "word in ply": (
+            "a.ply",
+            head_of_ply("ascii") + PLACES.encode().replace(b"1 0 0", b"1 x 0") + ROWS.encode(),
+            "vertex 1 of 4: `x` is no number",
+        ),
+        "nan in ply": (
+            "a.ply",
+            head_of_ply("ascii") + PLACES.encode().replace(b"1 0 0", b"1 nan 0") + ROWS.encode(),
+            "vertex 1 has a coordinate that is no finite number",
+        ),
         "no bytes": ("a.stl", b"", "neither a text with facets nor a binary STL, of which 84 bytes are the head"),
-        "short stl": ("a.stl", bytes_of_stl(POINTS, FACES)[:-60], "byte 80: 4 triangles are claimed, and the file holds 2"),
-        "open facet": ("a.stl", text_of_stl(POINTS, FACES).encode().split(b"endloop")[0], "the text ends within a facet"),
-        "vertex of stl": ("a.stl", text_of_stl(POINTS, FACES).replace("1 0 0", "1 blah 0", 1).encode(),
-                          "line 5: `blah` is no number"),
-        "word of stl": ("a.stl", text_of_stl(POINTS, FACES).replace("outer", "inner", 1).encode(),
-                        "line 3: `inner` is no word of an STL"),
+        "short stl": (
+            "a.stl",
+            bytes_of_stl(POINTS, FACES)[:-60],
+            "byte 80: 4 triangles are claimed, and the file holds 2",
+        ),
+        "open facet": (
+            "a.stl",
+            text_of_stl(POINTS, FACES).encode().split(b"endloop")[0],
+            "the text ends within a facet",
+        ),
+        "vertex of stl": (
+            "a.stl",
+            text_of_stl(POINTS, FACES).replace("1 0 0", "1 blah 0", 1).encode(),
+            "line 5: `blah` is no number",
+        ),
+        "word of stl": (
+            "a.stl",
+            text_of_stl(POINTS, FACES).replace("outer", "inner", 1).encode(),
+            "line 3: `inner` is no word of an STL",
+        ),
         "cut gzip": ("a.off.gz", gzip.compress(TET)[:-9], "the gzip file is cut off"),
         "bad gzip": ("a.off.gz", gzip.compress(TET)[:14] + b"\xff\xff" + gzip.compress(TET)[16:], None),
     }
@@ -300,9 +404,11 @@ class Refusals(unittest.TestCase):
         with tempfile.TemporaryDirectory() as room:
             path = pathlib.Path(room, "a.off")
             path.write_bytes(TET[:-8])
-            for words, told in (([path], f"to_off: {path}: the text ends before face 3 of 4 is complete\n"),
-                                ([pathlib.Path(room, "none.off")], f"to_off: {room}/none.off: No such file or directory\n"),
-                                ([room], f"to_off: {room}: Is a directory\n")):
+            for words, told in (
+                ([path], f"to_off: {path}: the text ends before face 3 of 4 is complete\n"),
+                ([pathlib.Path(room, "none.off")], f"to_off: {room}/none.off: No such file or directory\n"),
+                ([room], f"to_off: {room}: Is a directory\n"),
+            ):
                 ran = subprocess.run([sys.executable, HERE / "to_off.py", *words], capture_output=True, text=True)
                 self.assertEqual((ran.returncode, ran.stdout, ran.stderr), (1, "", told))
 
@@ -323,14 +429,23 @@ class Spoiled(unittest.TestCase):
         faces = faces[:40]
         names = sorted({c for face in faces for c in face})
         points, faces = [points[c] for c in names], [[names.index(c) for c in face] for face in faces]
-        rows = "".join("%g %g %g\n" % point for point in points), "".join("3 %d %d %d\n" % tuple(face) for face in faces)
-        head = head_of_ply("ascii").replace(b"vertex 4", b"vertex %d" % len(points)).replace(b"face 4", b"face %d" % len(faces))
+        rows = "".join("%g %g %g\n" % point for point in points), "".join(
+            "3 %d %d %d\n" % tuple(face) for face in faces
+        )
+        head = (
+            head_of_ply("ascii")
+            .replace(b"vertex 4", b"vertex %d" % len(points))
+            .replace(b"face 4", b"face %d" % len(faces))
+        )
         yield "a.off", f"OFF\n{len(points)} {len(faces)} 0\n{rows[0]}{rows[1]}".encode()
         yield "a.obj", "".join("v %g %g %g\n" % p for p in points).encode() + "".join(
-            "f %d/1/1 %d/1/1 %d/1/1\n" % tuple(c + 1 for c in f) for f in faces).encode()
+            "f %d/1/1 %d/1/1 %d/1/1\n" % tuple(c + 1 for c in f) for f in faces
+        ).encode()
         yield "a.ply", head + "".join(rows).encode()
         body = b"".join(struct.pack("<3f", *point) for point in points)
-        yield "b.ply", head.replace(b"ascii", b"binary_little_endian") + body + b"".join(struct.pack("<B3i", 3, *f) for f in faces)
+        yield "b.ply", head.replace(b"ascii", b"binary_little_endian") + body + b"".join(
+            struct.pack("<B3i", 3, *f) for f in faces
+        )
         yield "a.stl", text_of_stl(points, faces).encode()
         yield "b.stl", bytes_of_stl(points, faces)
         yield "c.off.gz", gzip.compress(f"OFF\n{len(points)} {len(faces)} 0\n{rows[0]}{rows[1]}".encode())
@@ -344,7 +459,9 @@ class Spoiled(unittest.TestCase):
         if kind == 2:
             return data[:at] + bytes(chance.randrange(256) for _ in range(chance.randrange(1, 5))) + data[at + 1 :]
         if kind == 3:
-            word = chance.choice([b"nan", b"-1", b"999999999999999999999", b"1e400", b" ", b"\n", b"#", b"4294967295", b"0", b"x"])
+            word = chance.choice(
+                [b"nan", b"-1", b"999999999999999999999", b"1e400", b" ", b"\n", b"#", b"4294967295", b"0", b"x"]
+            )
             return data[:at] + word + data[at + chance.randrange(0, 4) :]
         if kind == 4:
             start = chance.randrange(len(data))
@@ -357,7 +474,10 @@ class Spoiled(unittest.TestCase):
             chance = random.Random(name)
             for turn in range(count):
                 worse = self.spoiled(data, chance)
-                answers = [self.answer(read, worse, name) for read in [read_bytes] + ([without_numpy] if np is not None else [])]
+                answers = [
+                    self.answer(read, worse, name)
+                    for read in [read_bytes] + ([without_numpy] if np is not None else [])
+                ]
                 self.assertEqual(answers[0], answers[-1], (name, turn))
 
     def answer(self, read, data, name):
@@ -495,8 +615,20 @@ class Mending(Case):
     def test_edges_with_the_same_ends(self):
         # Two cubes' worth of squares round one shared pair of vertices: gluing leaves two edges with the same ends.
         points = [(0, 0, 0), (0, 0, 1), (1, 0, 0), (0, 1, 0), (-1, 0, 0), (0, -1, 0)]
-        faces = [[0, 1, 2], [1, 0, 3], [0, 1, 4], [1, 0, 5], [0, 2, 3], [2, 1, 3], [0, 4, 5], [4, 1, 5], [2, 0, 5], [1, 2, 5],
-                 [3, 0, 4], [1, 3, 4]]
+        faces = [
+            [0, 1, 2],
+            [1, 0, 3],
+            [0, 1, 4],
+            [1, 0, 5],
+            [0, 2, 3],
+            [2, 1, 3],
+            [0, 4, 5],
+            [4, 1, 5],
+            [2, 0, 5],
+            [1, 2, 5],
+            [3, 0, 4],
+            [1, 3, 4],
+        ]
         mended = self.mended(points, faces, holes="close")
         self.assertIsNone(fault_of(len(mended.points), mended.faces))
 
@@ -504,23 +636,32 @@ class Mending(Case):
         chance = random.Random(5)
         for turn in range(800):
             count = chance.randrange(3, 10)
-            points = [(chance.choice([0, 1, chance.random()]), chance.choice([0, chance.random()]), chance.random())
-                      for _ in range(count)]
+            points = [
+                (chance.choice([0, 1, chance.random()]), chance.choice([0, chance.random()]), chance.random())
+                for _ in range(count)
+            ]
             points += [chance.choice(points) for _ in range(chance.randrange(4))]
             sizes = [chance.choice([3, 3, 3, 4, 5]) for _ in range(chance.randrange(1, 25))]
-            faces = [chance.choices(range(len(points)), k=size) if chance.random() < 0.2 else
-                     chance.sample(range(len(points)), min(size, len(points))) for size in sizes]
+            faces = [
+                chance.choices(range(len(points)), k=size)
+                if chance.random() < 0.2
+                else chance.sample(range(len(points)), min(size, len(points)))
+                for size in sizes
+            ]
             how = {"holes": ("keep", "close", "hub")[turn % 3], "tolerance": chance.choice([0, 0, 0.05, 0.3])}
             with contextlib.suppress(MeshFileError):
                 self.mended(points, faces, part=turn % 2, **how)
 
 
 class Made(Case):
-    """Files that real tools wrote, in tools/cases/meshes: OpenSCAD, ADMesh, Assimp, Gmsh, Geomview, meshio and MeshLab."""
+    """Files that real tools wrote: OpenSCAD, ADMesh, Assimp, Gmsh, Geomview, meshio and MeshLab."""
 
-    FRAME = "admesh-ascii.stl admesh-binary.stl admesh.off assimp-obj.obj.gz assimp-ply.ply assimp-plyb.ply assimp-stl.stl " \
-        "assimp-stlb.stl geomview.off gmsh-binary.stl gmsh.stl meshio.obj meshio.off meshio.ply meshio.stl meshlab-colours.off " \
+    FRAME = (
+        "admesh-ascii.stl admesh-binary.stl admesh.off assimp-obj.obj.gz assimp-ply.ply assimp-plyb.ply "
+        "assimp-stl.stl assimp-stlb.stl geomview.off gmsh-binary.stl gmsh.stl meshio.obj meshio.off meshio.ply "
+        "meshio.stl meshlab-colours.off "
         "meshlab-more.obj meshlab-more.ply meshlab.obj meshlab.off meshlab.ply meshlab.stl openscad.off openscad.stl"
+    )
 
     def came(self, name, **how):
         return self.mended_soup(read_mesh(HERE / "cases" / "meshes" / name), **how)
@@ -534,7 +675,9 @@ class Made(Case):
     def test_boxes_that_share_an_edge(self):
         for name in ("openscad-boxes.off", "assimp-boxes.obj", "gmsh-boxes.stl"):
             report = self.came(name).report
-            self.assertEqual((report.crowded_edges, report.parts, report.rim_sizes, report.one_sided), (1, 2, [], False), name)
+            self.assertEqual(
+                (report.crowded_edges, report.parts, report.rim_sizes, report.one_sided), (1, 2, [], False), name
+            )
 
     def test_a_sheet_with_a_hole(self):
         for name in ("gmsh-sheet.stl", "meshlab-sheet.ply"):
@@ -543,14 +686,22 @@ class Made(Case):
 
     def test_each_file_is_tried(self):
         names = {path.name for path in (HERE / "cases" / "meshes").iterdir()}
-        others = {"gmsh-brep.stl", "openscad-boxes.off", "assimp-boxes.obj", "gmsh-boxes.stl", "gmsh-sheet.stl", "meshlab-sheet.ply"}
+        others = {
+            "gmsh-brep.stl",
+            "openscad-boxes.off",
+            "assimp-boxes.obj",
+            "gmsh-boxes.stl",
+            "gmsh-sheet.stl",
+            "meshlab-sheet.ply",
+        }
         self.assertEqual(names, {*self.FRAME.split(), *others})
 
 
 def cylinder_of(count, gap=0.0):
-    """A cylinder of squares that isn't closed along a line: there are two rows of vertices, so far from each other."""
+    """A cylinder of squares, open along a line where there are two rows of vertices, so far from each other."""
     angles = [2 * 3.141592653589793 * k / count for k in range(count + 1)]
     import math
+
     points = [(math.cos(a), math.sin(a), float(z)) for z in range(4) for a in angles]
     points = [(x + gap, y, z) if k % (count + 1) == count else (x, y, z) for k, (x, y, z) in enumerate(points)]
     at = lambda z, k: z * (count + 1) + k
@@ -593,7 +744,9 @@ class Holes(Case):
         self.assertEqual(edges(mended.faces), edges(mended.faces[:855]))
 
     def test_sheets(self):
-        self.assertEqual(self.loops(self.mended(POINTS, FACES[:1], holes="close")), 0)  # one triangle becomes a pillow
+        self.assertEqual(
+            self.loops(self.mended(POINTS, FACES[:1], holes="close")), 0
+        )  # one triangle becomes a pillow
         self.assertEqual(self.loops(self.mended(self.GRID, self.SQUARES, holes="close")), 0)
         frame = self.SQUARES[:4] + self.SQUARES[5:]
         self.assertEqual(self.loops(self.mended(self.GRID, frame, holes="close")), 0)
@@ -617,8 +770,10 @@ class Holes(Case):
     def test_lengths_that_cannot_be(self):
         mended = self.mended(POINTS, FACES[:3], holes="hub")
         self.assertEqual(mended.lengths_text(0).decode().split("\n")[0], "0 1 1")
-        for points, decimals, told in (([(0, 0, 0), (1e-7, 0, 0), (0, 1, 0), (0, 0, 1)], 6, "the edge 0 1 is shorter than one unit"),
-                                       ([(0, 0, 0), (5, 0, 0), (0, 1, 0), (0, 0, 1)], 9, "the edge 0 1 is too long")):
+        for points, decimals, told in (
+            ([(0, 0, 0), (1e-7, 0, 0), (0, 1, 0), (0, 0, 1)], 6, "the edge 0 1 is shorter than one unit"),
+            ([(0, 0, 0), (5, 0, 0), (0, 1, 0), (0, 0, 1)], 9, "the edge 0 1 is too long"),
+        ):
             with self.assertRaisesRegex(MeshFileError, told):
                 self.mended(points, FACES[:3], holes="hub").lengths_text(decimals)
 
@@ -632,7 +787,9 @@ class Command(unittest.TestCase):
     def test_a_file_for_each_part(self):
         points, faces = ring()
         text = "".join("v %r %r %r\n" % tuple(p) for p in points + [(9 + x, y, z) for x, y, z in POINTS])
-        text += "".join("f %d %d %d\n" % tuple(c + 1 for c in face) for face in faces + [[c + 430 for c in f] for f in FACES])
+        text += "".join(
+            "f %d %d %d\n" % tuple(c + 1 for c in face) for face in faces + [[c + 430 for c in f] for f in FACES]
+        )
         with tempfile.TemporaryDirectory() as room:
             pathlib.Path(room, "two.obj").write_text(text)
             out, told = self.run_it(f"{room}/two.obj", "--all", f"{room}/parts", "--map", "a.map", "--hub", "a.len")
@@ -650,7 +807,7 @@ class Command(unittest.TestCase):
             with tempfile.TemporaryDirectory() as room:
                 pathlib.Path(room, "a.off").write_bytes(TET.replace(b"0 0 1", text.encode()))
                 self.assertEqual(self.run_it(f"{room}/a.off")[0].splitlines()[5], text)
-        for first, told in (("1e+20 0 0", "1e+20 0.0 0.0"), ):
+        for first, told in (("1e+20 0 0", "1e+20 0.0 0.0"),):
             with tempfile.TemporaryDirectory() as room:
                 pathlib.Path(room, "a.off").write_bytes(TET.replace(b"0 0 1", first.encode()))
                 self.assertEqual(self.run_it(f"{room}/a.off")[0].splitlines()[5], told)

@@ -5,10 +5,10 @@
     to_off.py MESH --close > mesh.off          each hole closed by one face
     to_off.py MESH --hub mesh.len > mesh.off   holes kept, so that loops round them count: lengths to use with it
 
-Equal points become one where an edge has no second face. Corners and faces that stand twice go. Faces are glued side by
-side, where more than two meet those that bound one wedge of the inside, and never at a vertex alone. An edge
-that has the ends of another gets a vertex in its middle. The part with the most faces is taken. A closed surface is
-left as it is, but for vertices that no face has. What was done is told on standard error.
+Equal points become one where an edge has no second face. Corners and faces that stand twice go. Faces are glued
+side by side, where more than two meet those that bound one wedge of the inside, and never at a vertex alone. An
+edge that has the ends of another gets a vertex in its middle. The part with the most faces is taken. A closed
+surface is left as it is, but for vertices that no face has. What was done is told on standard error.
 """
 
 import argparse
@@ -23,15 +23,21 @@ def parsed(arguments):
     parser = argparse.ArgumentParser(description=__doc__, formatter_class=argparse.RawDescriptionHelpFormatter)
     parser.add_argument("mesh", type=pathlib.Path, metavar="MESH")
     merging = parser.add_mutually_exclusive_group()
-    merging.add_argument("--tolerance", type=float, default=0.0, metavar="T", help="points no farther apart become one")
+    merging.add_argument(
+        "--tolerance", type=float, default=0.0, metavar="T", help="points no farther apart become one"
+    )
     merging.add_argument("--no-merge", action="store_true", help="equal points stay apart, as in a mesh that was cut")
     which = parser.add_mutually_exclusive_group()
-    which.add_argument("--part", type=int, default=0, metavar="K", help="the part at place K, from 0, the greatest first")
+    which.add_argument(
+        "--part", type=int, default=0, metavar="K", help="the part at place K, from 0, the greatest first"
+    )
     which.add_argument("--all", type=pathlib.Path, metavar="DIR", help="a file in DIR for each part")
     parser.add_argument("--most", choices=["faces", "area"], default="faces", help="what makes a part great")
     holes = parser.add_mutually_exclusive_group()
     holes.add_argument("--close", action="store_true", help="close each hole by one face")
-    holes.add_argument("--hub", type=pathlib.Path, metavar="LEN", help="join all holes by a sphere; lengths go to LEN")
+    holes.add_argument(
+        "--hub", type=pathlib.Path, metavar="LEN", help="join all holes by a sphere; lengths go to LEN"
+    )
     parser.add_argument("--decimals", type=int, default=6, metavar="K", help="of the lengths in LEN: units of 10^-K")
     parser.add_argument("--map", type=pathlib.Path, metavar="FILE", help="which vertex and face of MESH each one is")
     return parser.parse_args(arguments)
@@ -52,7 +58,7 @@ def write(mended, words, out, number=None):
 
 
 def write_all(surfaces, words):
-    """A file for each part, named after the mesh, with the number of the part, and a line for each on what was done."""
+    """A file for each part, named after the mesh and numbered, and a line for each on what was done."""
     words.all.mkdir(parents=True, exist_ok=True)
     name = words.mesh.name.removesuffix(".gz").rsplit(".", 1)[0]
     for number, mended in enumerate(surfaces):

@@ -7,11 +7,12 @@ from typing import Any, Dict, List, Sequence, Tuple
 from .plain import BORDER, CROWDED
 from .soup import MeshFileError, np
 
+Array = Any
 MIXERS = (0x9E3779B97F4A7C15, 0xC2B2AE3D27D4EB4F, 0x165667B19E3779F9)
 CHUNK = 1 << 18
 
 
-def next_places(starts):
+def next_places(starts: Array) -> Array:
     found = np.arange(1, starts[-1] + 1)
     sizes = np.diff(starts)
     ends = starts[1:][sizes > 0] - 1
@@ -19,11 +20,11 @@ def next_places(starts):
     return found
 
 
-def face_numbers(starts):
+def face_numbers(starts: Array) -> Array:
     return np.repeat(np.arange(len(starts) - 1), np.diff(starts))
 
 
-def mates_of(corners, starts):
+def mates_of(corners: Array, starts: Array) -> Tuple[Array, List[List[int]]]:
     mates = np.full(len(corners), BORDER)
     if np.bincount(corners, minlength=1).max() < 2:  # no two faces have a vertex in common
         return mates, []
@@ -41,8 +42,8 @@ def mates_of(corners, starts):
     return mates, sorted((group.tolist() for group in groups), key=lambda group: group[0])
 
 
-def _components(count: int, a, b):
-    """Each round every head with a lesser neighbour takes the least one for its head, and all chains are shortened."""
+def _components(count: int, a: Array, b: Array) -> Array:
+    """Each round every head with a lesser neighbour takes the least for its head, and all chains are shortened."""
     heads = np.arange(count)
     while True:
         a, b = heads[a], heads[b]
@@ -60,19 +61,19 @@ def _components(count: int, a, b):
             heads = shorter
 
 
-def components(count: int, links):
+def components(count: int, links: Array) -> Array:
     pairs = np.array(list(links), np.int64).reshape(-1, 2)
     return _components(count, pairs[:, 0], pairs[:, 1])
 
 
-def rim_vertices(corners, starts, mates):
+def rim_vertices(corners: Array, starts: Array, mates: Array) -> Array:
     sides = np.flatnonzero(mates == BORDER)
     if len(sides) == len(mates):
         return np.unique(corners)
     return np.unique(np.concatenate([corners[sides], corners[next_places(starts)[sides]]]))
 
 
-def _mixed(rows):
+def _mixed(rows: Array) -> Array:
     """A number of 64 bits for each row, the same where rows are the same."""
     keys = np.zeros(len(rows), np.uint64)
     with np.errstate(over="ignore"):
@@ -82,7 +83,7 @@ def _mixed(rows):
     return keys
 
 
-def equal_names(points, chosen):
+def equal_names(points: Array, chosen: Array) -> Array:
     names = np.arange(len(points))
     if not len(chosen):
         return names
@@ -101,7 +102,7 @@ def equal_names(points, chosen):
     return names
 
 
-def near_pairs(points, chosen, distance: float, most: int):
+def near_pairs(points: Array, chosen: Array, distance: float, most: int) -> Array:
     places = points[chosen]
     spans = (places - places.min(axis=0)) / distance if len(chosen) else places
     if not len(chosen) or not spans.max() <= 2.0**60:  # so near no two different points can be
@@ -125,7 +126,7 @@ def near_pairs(points, chosen, distance: float, most: int):
     return np.unique(pairs[pairs[:, 0] < pairs[:, 1]], axis=0)
 
 
-def _pairs_within(places, order, low, counts, distance: float) -> list:
+def _pairs_within(places: Array, order: Array, low: Array, counts: Array, distance: float) -> List[Array]:
     """Of each place with those that stand at `counts` numbers of the order from `low` on, the pairs that are near."""
     found = []
     for start in range(0, len(places), CHUNK):
@@ -139,24 +140,24 @@ def _pairs_within(places, order, low, counts, distance: float) -> list:
     return found
 
 
-def renamed(corners, names):
+def renamed(corners: Array, names: Array) -> Array:
     return names[corners]
 
 
-def faulty_faces(corners, starts) -> List[int]:
+def faulty_faces(corners: Array, starts: Array) -> List[int]:
     sizes = np.diff(starts)
     if len(sizes) and (sizes == sizes[0]).all() and sizes[0] > 0:
         rows = np.sort(corners.reshape(-1, sizes[0]), axis=1)
         faulty = (rows[:, 1:] == rows[:, :-1]).any(axis=1) | (sizes < 3)
-        return np.flatnonzero(faulty).tolist()
+        return list(np.flatnonzero(faulty).tolist())
     top = corners.max() + 1 if len(corners) else 1
     keys = np.sort(face_numbers(starts) * top + corners)
     faulty = sizes < 3
     faulty[keys[1:][keys[1:] == keys[:-1]] // top] = True
-    return np.flatnonzero(faulty).tolist()
+    return list(np.flatnonzero(faulty).tolist())
 
 
-def with_faces(corners, starts, origins, changes: Dict[int, List[List[int]]]):
+def with_faces(corners: Array, starts: Array, origins: Array, changes: Dict[int, List[List[int]]]) -> Array:
     if not changes:
         return corners, starts, origins
     keep = np.ones(len(starts) - 1, bool)
@@ -164,7 +165,9 @@ def with_faces(corners, starts, origins, changes: Dict[int, List[List[int]]]):
     rows = [(f, row) for f in sorted(changes) for row in changes[f]]
     sizes = np.concatenate([np.diff(starts)[keep], np.array([len(row) for _, row in rows], np.int64)])
     numbers = np.concatenate([np.flatnonzero(keep), np.array([f for f, _ in rows], np.int64)])
-    pool = np.concatenate([corners[np.repeat(keep, np.diff(starts))], np.array(sum((r for _, r in rows), []), np.int64)])
+    pool = np.concatenate(
+        [corners[np.repeat(keep, np.diff(starts))], np.array(sum((r for _, r in rows), []), np.int64)]
+    )
     begins = np.cumsum(sizes) - sizes
     order = np.argsort(numbers, kind="stable")
     sizes = sizes[order]
@@ -173,7 +176,7 @@ def with_faces(corners, starts, origins, changes: Dict[int, List[List[int]]]):
     return pool[places], new_starts, origins[numbers[order]]
 
 
-def paired_faces(starts, mates) -> List[int]:
+def paired_faces(starts: Array, mates: Array) -> List[int]:
     sizes = np.diff(starts)
     if (sizes == 0).any() or (mates < 0).all():
         return []
@@ -181,24 +184,24 @@ def paired_faces(starts, mates) -> List[int]:
     others = np.where(mates >= 0, at[np.maximum(mates, 0)], -1)
     low, high = np.minimum.reduceat(others, starts[:-1]), np.maximum.reduceat(others, starts[:-1])
     is_paired = (low == high) & (low >= 0) & (low != np.arange(len(sizes))) & (sizes[np.maximum(low, 0)] == sizes)
-    return np.flatnonzero(is_paired).tolist()
+    return list(np.flatnonzero(is_paired).tolist())
 
 
-def is_inside_out(points, corners, starts) -> bool:
+def is_inside_out(points: Array, corners: Array, starts: Array) -> bool:
     places = points[corners] - points[corners[0]]
     first = np.repeat(places[starts[:-1]], np.diff(starts), axis=0)
     values = first * np.cross(places, places[next_places(starts)])
     return bool(values.sum() < -1e-9 * np.abs(values).sum())
 
 
-def areas(points, corners, starts):
+def areas(points: Array, corners: Array, starts: Array) -> Array:
     sizes = np.diff(starts)
     places = points[corners] - np.repeat(points[corners[starts[:-1]]], sizes, axis=0)
     cross = np.cross(places, places[next_places(starts)])
     return np.sqrt((np.add.reduceat(cross, starts[:-1]) ** 2).sum(axis=1)) / 2
 
 
-def fans(corners, starts, mates):
+def fans(corners: Array, starts: Array, mates: Array) -> Array:
     places = next_places(starts)
     sides = np.flatnonzero(mates > np.arange(len(mates)))
     others = mates[sides]
@@ -208,13 +211,13 @@ def fans(corners, starts, mates):
     return _components(len(corners), np.concatenate([sides, places[sides]]), np.concatenate([ends, others]))
 
 
-def parts(starts, mates):
+def parts(starts: Array, mates: Array) -> Array:
     at = face_numbers(starts)
     sides = np.flatnonzero(mates > np.arange(len(mates)))
     return _components(len(starts) - 1, at[sides], at[mates[sides]])
 
 
-def is_orientable(corners, starts, mates) -> bool:
+def is_orientable(corners: Array, starts: Array, mates: Array) -> bool:
     at, count = face_numbers(starts), len(starts) - 1
     sides = np.flatnonzero(mates > np.arange(len(mates)))
     turned = count * (corners[sides] == corners[mates[sides]])
@@ -226,14 +229,14 @@ def is_orientable(corners, starts, mates) -> bool:
     return bool((heads[:count] != heads[count:]).all())
 
 
-def parts_by_size(labels, weights):
+def parts_by_size(labels: Array, weights: Array) -> Array:
     heads, numbers = np.unique(labels, return_inverse=True)
     totals = np.bincount(numbers, weights)
     rows = np.split(np.argsort(numbers, kind="stable"), np.cumsum(np.bincount(numbers))[:-1])
     return [rows[k] for k in np.lexsort((heads, -totals))]
 
 
-def chosen_part(tables, faces):
+def chosen_part(tables: Array, faces: Array) -> Array:
     corners, starts, mates, heads = tables
     if len(faces) == len(starts) - 1:
         return corners, starts, mates, heads
@@ -244,7 +247,7 @@ def chosen_part(tables, faces):
     return corners[sides], np.concatenate([[0], ends]), mates, np.searchsorted(sides, heads[sides])
 
 
-def numbered(corners, heads):
+def numbered(corners: Array, heads: Array) -> Array:
     roots = np.flatnonzero(heads == np.arange(len(heads)))
     roots = roots[np.argsort(corners[roots], kind="stable")]
     numbers = np.zeros(len(heads), np.int64)
@@ -252,46 +255,46 @@ def numbered(corners, heads):
     return numbers[heads], corners[roots]
 
 
-def twin_sides(corners, starts, mates) -> List[int]:
+def twin_sides(corners: Array, starts: Array, mates: Array) -> List[int]:
     sides = np.flatnonzero((mates < 0) | (mates > np.arange(len(mates))))
     u, v = corners[sides], corners[next_places(starts)[sides]]
     keys = np.minimum(u, v) * (corners.max() + 1) + np.maximum(u, v)
     order = np.argsort(keys, kind="stable")
     again = order[1:][keys[order[1:]] == keys[order[:-1]]]
-    return np.sort(sides[again]).tolist()
+    return list(np.sort(sides[again]).tolist())
 
 
-def inserted(corners, starts, middles: Dict[int, int]):
+def inserted(corners: Array, starts: Array, middles: Dict[int, int]) -> Array:
     sides = np.array(sorted(middles))
     vertices = np.array([middles[side] for side in sides.tolist()])
     return np.insert(corners, sides + 1, vertices), starts + np.searchsorted(sides, starts)
 
 
-def taken(values, places):
+def taken(values: Array, places: Array) -> Array:
     return values[places]
 
 
-def joined(one, other):
+def joined(one: Array, other: Array) -> Array:
     if not len(other):
         return one
     return np.concatenate([one, np.asarray(other, one.dtype).reshape(-1, *one.shape[1:])])
 
 
-def border_sides(mates) -> List[int]:
-    return np.flatnonzero(mates == BORDER).tolist()
+def border_sides(mates: Array) -> List[int]:
+    return list(np.flatnonzero(mates == BORDER).tolist())
 
 
-def listed(values) -> List[Any]:
-    return values.tolist()
+def listed(values: Array) -> List[Any]:
+    return list(values.tolist())
 
 
-def changed(names) -> int:
+def changed(names: Array) -> int:
     return int((names != np.arange(len(names))).sum())
 
 
-def ranges(count: int):
+def ranges(count: int) -> Array:
     return np.arange(count)
 
 
-def numbers(values: Sequence[int]):
+def numbers(values: Sequence[int]) -> Array:
     return np.array(values, np.int64)

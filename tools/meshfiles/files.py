@@ -5,6 +5,7 @@ from __future__ import annotations
 import os
 import pathlib
 import zlib
+from typing import Callable
 
 from . import grid_files, obj_files, off_files, ply_files, stl_files
 from .soup import MeshFileError, Soup, quiet
@@ -13,7 +14,8 @@ MOST_BYTES = 1 << 30
 
 
 def read_mesh(path: "str | os.PathLike[str]") -> Soup:
-    """The mesh in a file: OFF, OBJ, PLY, STL, or Geomview's MESH or QUAD, each also compressed by gzip. Raises MeshFileError, or OSError."""
+    """The mesh in a file: OFF, OBJ, PLY, STL, or Geomview's MESH or QUAD, each also compressed by gzip. Raises
+    MeshFileError, or OSError."""
     path = pathlib.Path(path)
     if path.is_file() and path.stat().st_size > MOST_BYTES:
         raise MeshFileError(f"more than {MOST_BYTES:,} bytes")
@@ -36,7 +38,7 @@ def read_bytes(data: bytes, name: str = "") -> Soup:
         raise MeshFileError("there is no memory for it") from None
 
 
-def reader_of(data: bytes, name: str):
+def reader_of(data: bytes, name: str) -> Callable[[bytes], Soup]:
     front = data[:512].lstrip().lower()
     if front.startswith(b"ply") and b"format" in front:
         return ply_files.read_ply

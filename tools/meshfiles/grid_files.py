@@ -7,7 +7,7 @@ from typing import List, Tuple
 
 from .off_files import Head, bare
 from .soup import MeshFileError, Soup
-from .text import Cursor, rows_of
+from .text import Cursor, rows_of, shown
 
 QUADS = re.compile(rb"(?P<C>C)?(?P<N>N)?(?P<four>4)?(QUAD|POLY)")
 GRID = re.compile(rb"(?P<U>U)?(?P<C>C)?(?P<N>N)?(?P<Z>Z)?(?P<four>4)?(?P<u>u)?(?P<v>v)?MESH")
@@ -25,10 +25,12 @@ def read_grid(data: bytes) -> Soup:
     word, line = cursor.word("its keyword")
     if rows[0][1][1:2] == [b"BINARY"]:
         raise MeshFileError(f"line {line}: a binary {word.decode()} isn't read")
-    found = QUADS.fullmatch(word)
-    if found:
-        return read_quads(cursor, found)
-    return read_mesh_of(cursor, GRID.fullmatch(word), len(data))
+    quads, grid = QUADS.fullmatch(word), GRID.fullmatch(word)
+    if quads:
+        return read_quads(cursor, quads)
+    if grid:
+        return read_squares(cursor, grid, len(data))
+    raise MeshFileError(f"line {line}: {shown(word)} is no keyword of a MESH or a QUAD")
 
 
 def read_quads(cursor: Cursor, found: "re.Match[bytes]") -> Soup:
@@ -49,7 +51,7 @@ def vertex_of(cursor: Cursor, head: Head, vertex: int) -> Tuple[float, float, fl
     return head.place(values)
 
 
-def read_mesh_of(cursor: Cursor, found: "re.Match[bytes]", size: int) -> Soup:
+def read_squares(cursor: Cursor, found: "re.Match[bytes]", size: int) -> Soup:
     """The squares of a grid, which closes round where the keyword has `u` or `v`."""
     across, down = cursor.whole("the count of columns"), cursor.whole("the count of rows")
     dimensions = 1 if found["Z"] else 3 + bool(found["four"])

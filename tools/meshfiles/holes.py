@@ -34,8 +34,8 @@ def rims_of(corners: Sequence[int], ends: Sequence[int]) -> List[Rim]:
 
 
 class Hub:
-    """A sphere with a hole for each rim, of as many faces. Between rims its edges have a vertex in their middle, since
-    their ends may have an edge already."""
+    """A sphere with a hole for each rim, of as many faces. Between rims its edges have a vertex in their middle,
+    since their ends may have an edge already."""
 
     def __init__(self, rims: Sequence[Rim], points: Any) -> None:
         self.points: List[Tuple[float, ...]] = []
@@ -48,8 +48,8 @@ class Hub:
         self.faces.append(list(whole))
 
     def _join(self, whole: Deque[int], rim: Rim) -> None:
-        """Makes one rim of two: a face is put between an edge of each, and what is left is one round. It doesn't begin
-        with the edges that were used, so that the next face is put elsewhere."""
+        """Makes one rim of two: a face is put between an edge of each, and what is left is one round. It doesn't
+        begin with the edges that were used, so that the next face is put elsewhere."""
         u, v, (x, y) = whole.popleft(), whole.popleft(), rim[:2]
         one, other = self._middle(v, x), self._middle(y, u)
         self.faces.append([u, v, one, x, y, other])

@@ -3,8 +3,8 @@
 1. A face whose corner stands twice is parted there, and what has fewer than three corners then is left out. Of faces
    that stand twice one stays.
 2. Points of rims that are equal, or within a tolerance, become one. What has no rim is left as it is.
-3. Faces are glued side by side: the two at an edge, and where there are more those that bound one wedge of the inside.
-   None are glued at a vertex alone, so each vertex has one fan, and merging can't pinch.
+3. Faces are glued side by side: the two at an edge, and where there are more those that bound one wedge of the
+   inside. None are glued at a vertex alone, so each vertex has one fan, and merging can't pinch.
 4. Faces that hang together are a part. Of a part an edge that has the ends of another gets a vertex in its middle.
 5. Holes stay, or each is closed by one face, or all are joined by one sphere, the hub.
 """
@@ -12,7 +12,7 @@
 from __future__ import annotations
 
 import dataclasses
-from typing import Any, Dict, Iterator, List, Sequence, Tuple
+from typing import Any, Dict, Iterator, List, Sequence, Set, Tuple
 
 from . import arrays, plain
 from .holes import Hub, Rim, nearness, rims_of
@@ -61,7 +61,9 @@ class Report:
     def _parts(self) -> List[str]:
         if self.parts < 2:
             return []
-        told = f"{counted(self.parts - 1, 'other part')} left out, with {self.left_out_faces} of {self.all_faces} faces"
+        told = (
+            f"{counted(self.parts - 1, 'other part')} left out, with {self.left_out_faces} of {self.all_faces} faces"
+        )
         if 10 * self.left_out_faces <= self.all_faces:
             return [told]
         return [f"warning: {told}: --part K takes another one, --all DIR takes each"]
@@ -95,7 +97,8 @@ def counted(count: int, noun: str) -> str:
 
 
 class Mended:
-    """One surface: each edge has two faces, or one at a hole that was kept, each vertex one fan, and all hangs together.
+    """One surface: each edge has two faces, or one at a hole that was kept, each vertex one fan, and all hangs
+    together.
 
     `vertex_origins` and `face_origins` have the number that each vertex and face had in the soup, -1 where it is new.
     From `first_added_face` on faces close holes, and from `first_added_vertex` on vertices are those of a hub.
@@ -123,27 +126,28 @@ class Mended:
         return counts.encode() + text + (added.encode() if is_added else b"")
 
     def lengths_text(self, decimals: int = 6) -> bytes:
-        """A length file as `surf lengths` makes it, in which the edges of the hub have the greatest length that there is.
-        Raises MeshFileError where an edge is shorter than a unit, or as long as those of the hub."""
+        """A length file as `surf lengths` makes it, in which the edges of the hub have the greatest length that
+        there is. Raises MeshFileError where an edge is shorter than a unit, or as long as those of the hub."""
         return lengths_text(self.points, edges_of(self.corners, self.starts), self.hub_edges, decimals)
 
     def map_text(self) -> bytes:
-        """A line `v N` for each vertex and `f N` for each face, with its number in the soup, or `-` where it is new."""
+        """A line `v N` for each vertex and `f N` for each face: its number in the soup, or `-` where it is new."""
         rows = [("v", n) for n in listed(self.vertex_origins)] + [("f", n) for n in listed(self.face_origins)]
         return "".join(f"{word} {'-' if n < 0 else n}\n" for word, n in rows).encode()
 
 
 def listed(values: Any) -> List[int]:
-    return values.tolist() if hasattr(values, "tolist") else list(values)
+    return list(values.tolist() if hasattr(values, "tolist") else values)
 
 
 def mend(
     soup: Soup, *, tolerance: "float | None" = 0.0, part: int = 0, most: str = "faces", holes: str = "keep"
 ) -> Mended:
-    """The part of the soup that comes at place `part`, from 0, in the order of the number of faces or of the area, as
-    `most` says. Points of rims that are within the tolerance become one; with None not even equal ones do. `holes` are
-    kept ("keep"), each closed by one face ("close"), or joined by one sphere ("hub"), by which no cycle round some of
-    them bounds that doesn't bound beforehand. Raises MeshFileError where there is no such part or no face."""
+    """The part of the soup that comes at place `part`, from 0, in the order of the number of faces or of the area,
+    as `most` says. Points of rims that are within the tolerance become one; with None not even equal ones do.
+    `holes` are kept ("keep"), each closed by one face ("close"), or joined by one sphere ("hub"), by which no
+    cycle round some of them bounds that doesn't bound beforehand. Raises MeshFileError where there is no such part
+    or no face."""
     with quiet():
         glued = Glued(soup, tolerance)
         parts = glued.parts(most)
@@ -166,8 +170,8 @@ def mend_all(
 
 
 class Glued:
-    """A soup whose faces are glued: `mates` has for each side the one that it is glued to, and `heads` for each corner
-    the least of its fan."""
+    """A soup whose faces are glued: `mates` has for each side the one that it is glued to, and `heads` for each
+    corner the least of its fan."""
 
     def __init__(self, soup: Soup, tolerance: "float | None" = 0.0) -> None:
         if tolerance is not None and not 0 <= tolerance < float("inf"):
@@ -210,7 +214,7 @@ class Glued:
         suspects = {int(at[side]) for sides in self.crowded for side in sides}
         if len(self.starts) > 3:
             suspects.update(self.bulk.paired_faces(self.starts, self.mates))
-        seen, doubled = set(), {}
+        seen, doubled = set(), {}  # type: Set[Tuple[int, ...]], Dict[int, List[List[int]]]
         for f in sorted(suspects):
             key = round_key(listed(self.corners[self.starts[f] : self.starts[f + 1]]))
             if key in seen:
@@ -276,7 +280,7 @@ class Glued:
             weights = self.bulk.areas(self.points, self.corners, self.starts)
         else:
             weights = [1] * len(labels)
-        found = self.bulk.parts_by_size(labels, weights)
+        found: List[Any] = self.bulk.parts_by_size(labels, weights)
         self.report.parts, self.report.all_faces = len(found), len(labels)
         return found
 

@@ -3,7 +3,7 @@
 from __future__ import annotations
 
 import re
-from typing import List
+from typing import Any, List
 
 from .soup import MeshFileError, Soup, np, starts_of
 from .text import number, rows_of, shown, table, whole
@@ -17,7 +17,7 @@ def read_obj(data: bytes) -> Soup:
 
 
 def read_by_lines(data: bytes) -> Soup:
-    points: list = []
+    points: List[Any] = []
     corners: List[int] = []
     sizes: List[int] = []
     for line, words in rows_of(data):
@@ -60,7 +60,7 @@ def read_regular(data: bytes) -> "Soup | None":
     return found and Soup(values.reshape(-1, width)[:, :3], *found)
 
 
-def regular_faces(lines: List[bytes]):
+def regular_faces(lines: List[bytes]) -> Any:
     text = b"\n".join(lines)
     if b"/" in text:
         text = re.sub(rb"(?<=\d)/[/\d-]*", b"", text)

@@ -6,7 +6,7 @@ from __future__ import annotations
 
 import re
 import struct
-from typing import List, NamedTuple, Sequence, Tuple
+from typing import Any, List, NamedTuple, Sequence, Tuple
 
 from .soup import MeshFileError, Soup, np, starts_of
 from .text import Cursor, rows_of, shown, table, whole
@@ -92,7 +92,7 @@ def read_by_words(data: bytes) -> Soup:
 
 
 def head_of(cursor: Cursor, size: int) -> Head:
-    """The keyword and the counts. The number of edges is passed over, and where a line ends before it, it's missing."""
+    """The keyword and the counts. The number of edges is passed over; it's missing where a line ends before it."""
     word, line = cursor.word("its keyword")
     found = keyword_of(word)
     if not found and not word.isdigit():
@@ -128,7 +128,7 @@ def read_vertices(cursor: Cursor, head: Head) -> List[Tuple[float, float, float]
     return points
 
 
-def read_faces(cursor: Cursor, head: Head, points: list) -> Soup:
+def read_faces(cursor: Cursor, head: Head, points: List[Any]) -> Soup:
     """The mesh. What stands behind the corners on a line is a colour where there are lines enough for the faces."""
     corners: List[int] = []
     sizes: List[int] = []
@@ -172,7 +172,7 @@ def read_regular(data: bytes) -> "Soup | None":
     return Soup(points, *found) if points is not None and found else None
 
 
-def regular_points(lines: List[bytes]):
+def regular_points(lines: List[bytes]) -> Any:
     width = len(lines[0].split())
     values = table(b"\n".join(lines))
     if width < 3 or values is None or len(values) != width * len(lines):
@@ -182,8 +182,8 @@ def regular_points(lines: List[bytes]):
     return values.reshape(-1, width)[:, :3]
 
 
-def regular_faces(lines: List[bytes]):
-    """Corners and starts, where nothing stands behind the corners, or as many numbers behind each face of one size."""
+def regular_faces(lines: List[bytes]) -> Any:
+    """Corners and starts, where nothing stands behind the corners, or equally many numbers where faces have one size."""
     values = table(b"\n".join(lines), np.int64)
     if values is None:
         return None

@@ -68,7 +68,7 @@ def rim_vertices(corners: Sequence[int], starts: Sequence[int], mates: Sequence[
 
 def equal_names(points: Sequence[Any], chosen: Sequence[int]) -> List[int]:
     """For each vertex the least of the chosen ones at its place; itself where it isn't chosen."""
-    names, first = list(range(len(points))), {}
+    names, first = list(range(len(points))), {}  # type: List[int], Dict[Tuple[float, ...], int]
     for vertex in chosen:
         x, y, z = points[vertex]
         names[vertex] = first.setdefault((x + 0.0, y + 0.0, z + 0.0), vertex)
@@ -76,8 +76,8 @@ def equal_names(points: Sequence[Any], chosen: Sequence[int]) -> List[int]:
 
 
 def near_pairs(points: Sequence[Any], chosen: Sequence[int], distance: float, most: int) -> List[Tuple[int, int]]:
-    """The pairs of chosen vertices that are no farther from each other. MeshFileError where more than `most` are to be
-    looked at."""
+    """The pairs of chosen vertices that are no farther from each other. MeshFileError where more than `most` are
+    to be looked at."""
     cells: Dict[Tuple[int, int, int], List[int]] = {}
     low = [min((points[v][k] for v in chosen), default=0.0) for k in range(3)]
     spans = [(max((points[v][k] for v in chosen), default=0.0) - low[k]) / distance for k in range(3)]
@@ -109,8 +109,10 @@ def faulty_faces(corners: Sequence[int], starts: Sequence[int]) -> List[int]:
     return [f for f, face in enumerate(faces) if len(face) < 3 or len(set(face)) < len(face)]
 
 
-def with_faces(corners: Sequence[int], starts: Sequence[int], origins: Sequence[int], changes: Dict[int, List[List[int]]]):
-    """The tables with other faces, of any number, in the places of some. Each has the origin of the face before it."""
+def with_faces(
+    corners: Sequence[int], starts: Sequence[int], origins: Sequence[int], changes: Dict[int, List[List[int]]]
+) -> Tuple[List[int], List[int], List[int]]:
+    """The tables with other faces, of any number, in the places of some, with the origins of those."""
     rows, found = [], []
     for f, face in enumerate(faces_of(corners, starts)):
         for row in changes.get(f, [face]):
@@ -131,8 +133,8 @@ def paired_faces(starts: Sequence[int], mates: Sequence[int]) -> List[int]:
 
 
 def is_inside_out(points: Sequence[Any], corners: Sequence[int], starts: Sequence[int]) -> bool:
-    """Whether the faces are listed as those of a solid are that is seen from within: what they enclose is below 0, and
-    by more than rounding makes."""
+    """Whether the faces are listed as those of a solid are that is seen from within: what they enclose is below 0,
+    and by more than rounding makes."""
     total, size, origin = 0.0, 0.0, points[corners[0]]
     for face in faces_of(corners, starts):
         places = [[x - y for x, y in zip(points[c], origin)] for c in face]
@@ -157,7 +159,7 @@ def areas(points: Sequence[Any], corners: Sequence[int], starts: Sequence[int]) 
 
 def fans(corners: Sequence[int], starts: Sequence[int], mates: Sequence[int]) -> List[int]:
     """For each corner the least one of its fan: corners at one vertex hang together over sides that are mates."""
-    places, links = next_places(starts), []
+    places, links = next_places(starts), []  # type: List[int], List[Tuple[int, int]]
     for side, mate in enumerate(mates):
         if mate > side:
             ends, others = (side, places[side]), (mate, places[mate])
@@ -190,7 +192,7 @@ def parts_by_size(labels: Sequence[int], weights: Sequence[float]) -> List[List[
     return sorted(found.values(), key=lambda part: (-sum(weights[f] for f in part), part[0]))
 
 
-def chosen_part(tables: Tuple[Any, Any, Any, Any], faces: Sequence[int]):
+def chosen_part(tables: Tuple[Any, Any, Any, Any], faces: Sequence[int]) -> Tuple[Any, Any, Any, Any]:
     """Corners, starts, mates and fans of some faces alone, with mates and fans by the numbers that sides now have."""
     corners, starts, mates, heads = tables
     sides = [side for f in faces for side in range(starts[f], starts[f + 1])]
@@ -201,7 +203,7 @@ def chosen_part(tables: Tuple[Any, Any, Any, Any], faces: Sequence[int]):
 
 
 def numbered(corners: Sequence[int], heads: Sequence[int]) -> Tuple[List[int], List[int]]:
-    """The corners by new numbers of vertices, one for each fan, and the vertex that each new one was, in its order."""
+    """The corners by new numbers of vertices, one for each fan, and for each of these the vertex that it was."""
     roots = sorted((corners[side], side) for side, head in enumerate(heads) if head == side)
     numbers = {side: number for number, (_, side) in enumerate(roots)}
     return [numbers[head] for head in heads], [vertex for vertex, _ in roots]
@@ -222,8 +224,10 @@ def twin_sides(corners: Sequence[int], starts: Sequence[int], mates: Sequence[in
 
 def inserted(corners: Sequence[int], starts: Sequence[int], middles: Dict[int, int]) -> Tuple[List[int], List[int]]:
     """The faces with a new vertex behind the first corner of some sides."""
-    rows = [[c for side in range(a, b) for c in ([corners[side], middles[side]] if side in middles else [corners[side]])]
-            for a, b in zip(starts, starts[1:])]
+    rows = [
+        [c for side in range(a, b) for c in ([corners[side], middles[side]] if side in middles else [corners[side]])]
+        for a, b in zip(starts, starts[1:])
+    ]
     return [c for row in rows for c in row], starts_of(map(len, rows))
 
 

@@ -18,23 +18,24 @@ CORNERS = ("vertex_indices", "vertex_index")
 
 
 class Property(NamedTuple):
-    """A value of a kind, or where `count` names a kind, a list of them behind their number."""
+    """A value of a kind, or where `count_kind` names one, a list of them behind their number."""
 
     name: str
     kind: str
-    count: str = ""
+    count_kind: str = ""
 
 
 class Element(NamedTuple):
     name: str
-    count: int
+    total: int
     properties: List[Property]
 
     def has_lists(self) -> bool:
-        return any(one.count for one in self.properties)
+        return any(one.count_kind for one in self.properties)
 
-    def place_of(self, *names: str) -> "int | None":
-        return next((k for k, one in enumerate(self.properties) if one.name in names), None)
+    def place_of(self, *names: str) -> int:
+        """The place of the first property of such a name, -1 where there is none."""
+        return next((k for k, one in enumerate(self.properties) if one.name in names), -1)
 
 
 class Body:
@@ -71,16 +72,16 @@ class Body:
         """The values of one element, with a tuple for each list."""
         found: List[Any] = []
         for one in element.properties:
-            if one.count:
-                size = self.size_of(what, self.values(one.count, what)[0])
+            if one.count_kind:
+                size = self.size_of(what, self.values(one.count_kind, what)[0])
                 found.append(self.values(one.kind * size, what))
             else:
                 found.append(self.values(one.kind, what)[0])
         return found
 
     def rows(self, element: Element) -> Iterator[List[Any]]:
-        for k in range(element.count):
-            yield self.row(element, f"{element.name} {k} of {element.count}")
+        for k in range(element.total):
+            yield self.row(element, f"{element.name} {k} of {element.total}")
 
 
 def number_of(word: bytes, kind: str, what: str) -> float:
@@ -146,9 +147,9 @@ def check_claims(elements: List[Element], order: str, size: int) -> None:
     least = 0
     for element in elements:
         for one in element.properties:
-            least += element.count * (struct.calcsize(order + (one.count or one.kind)) if order else 2)
+            least += element.total * (struct.calcsize(order + (one.count_kind or one.kind)) if order else 2)
         if least > size + 1:
-            claim = f"{element.count} times `{element.name[:20]}`"
+            claim = f"{element.total} times `{element.name[:20]}`"
             raise MeshFileError(f"{claim} is claimed, and the file has {size} bytes behind its head")
 
 
@@ -156,13 +157,13 @@ def table_of(body: Body, element: Element) -> Any:
     """Points for vertices, corners with starts for faces and strips, and nothing for what else a file may have."""
     if element.name == "vertex":
         places = [element.place_of(axis) for axis in "xyz"]
-        if None in places:
+        if -1 in places:
             raise MeshFileError("the head names no x, y and z of a vertex")
         return vertices_of(body, element, places)
-    if element.name == "face" and element.place_of(*CORNERS) is not None:
-        return faces_of(body, element, element.place_of(*CORNERS))
-    if element.name == "tristrips" and element.place_of(*CORNERS) is not None:
-        place = element.place_of(*CORNERS)
+    place = element.place_of(*CORNERS)
+    if element.name == "face" and place >= 0:
+        return faces_of(body, element, place)
+    if element.name == "tristrips" and place >= 0:
         faces = [face for row in body.rows(element) for face in strip_of(row[place])]
         return list(itertools.chain.from_iterable(faces)), starts_of(map(len, faces))
     for _ in body.rows(element):
@@ -177,7 +178,7 @@ def vertices_of(body: Body, element: Element, places: List[Any]) -> Any:
     return [tuple(float(row[k]) for k in places) for row in body.rows(element)]
 
 
-def faces_of(body: Body, element: Element, place: "int | None") -> Tuple[Any, Any]:
+def faces_of(body: Body, element: Element, place: int) -> Tuple[Any, Any]:
     quick = body.quick_lists(element) if isinstance(body, QuickBody) else None
     if quick is not None:
         return quick.reshape(-1), np.arange(0, quick.size + 1, quick.shape[1])
@@ -186,7 +187,7 @@ def faces_of(body: Body, element: Element, place: "int | None") -> Tuple[Any, An
     for k, row in enumerate(body.rows(element)):
         face = row[place]
         if not all(abs(c) < GREATEST and c == int(c) for c in face):
-            raise MeshFileError(f"face {k} of {element.count}: a corner is no number of a vertex")
+            raise MeshFileError(f"face {k} of {element.total}: a corner is no number of a vertex")
         corners += map(int, face)
         sizes.append(len(face))
     return corners, starts_of(sizes)
@@ -223,58 +224,58 @@ class QuickBody(Body):
         self.at += len(kinds)
         return tuple(words)
 
-    def quick_rows(self, element: Element):
+    def quick_rows(self, element: Element) -> Any:
         """A column for each property, or None where there are lists or too few bytes."""
         return None if element.has_lists() else self._columns(element, [1] * len(element.properties))
 
-    def quick_lists(self, element: Element):
+    def quick_lists(self, element: Element) -> Any:
         """The corners of faces that have all as many, or None."""
-        if not element.count:
+        if not element.total:
             return None
-        at, first = self.at, self.row(element, f"{element.name} 0 of {element.count}")
+        at, first = self.at, self.row(element, f"{element.name} 0 of {element.total}")
         self.at = at
-        sizes = [len(value) if one.count else 1 for one, value in zip(element.properties, first)]
+        sizes = [len(value) if one.count_kind else 1 for one, value in zip(element.properties, first)]
         place = element.place_of(*CORNERS)
         found = self._columns(element, sizes)
         if found is None or not sizes[place]:
             return None
-        start = sum(size + bool(one.count) for one, size in zip(element.properties[:place], sizes)) + 1
+        start = sum(size + bool(one.count_kind) for one, size in zip(element.properties[:place], sizes)) + 1
         corners = found[:, start : start + sizes[place]]
         if not ((corners == np.floor(corners)) & (np.abs(corners) < GREATEST)).all():
             self.at = at
             return None
         return corners.astype(np.int64)
 
-    def _columns(self, element: Element, sizes: List[int]):
+    def _columns(self, element: Element, sizes: List[int]) -> Any:
         """All values of an element as a table of floats, where each list has as many items as in the first row."""
-        widths = [size + bool(one.count) for one, size in zip(element.properties, sizes)]
+        widths = [size + bool(one.count_kind) for one, size in zip(element.properties, sizes)]
         if self.order:
             rows = self._records(element, sizes)
         else:
-            rows = None if self.numbers is None else self.numbers[self.at : self.at + element.count * sum(widths)]
+            rows = None if self.numbers is None else self.numbers[self.at : self.at + element.total * sum(widths)]
             if rows is not None:
-                rows = rows.reshape(-1, sum(widths)) if len(rows) == element.count * sum(widths) else None
+                rows = rows.reshape(-1, sum(widths)) if len(rows) == element.total * sum(widths) else None
         if rows is None:
             return None
         at = 0
         for one, size, width in zip(element.properties, sizes, widths):
-            if one.count and (rows[:, at] != size).any():
+            if one.count_kind and (rows[:, at] != size).any():
                 return None
             at += width
-        self.at += element.count * (self._record(element, sizes).itemsize if self.order else sum(widths))
+        self.at += element.total * (self._record(element, sizes).itemsize if self.order else sum(widths))
         return rows
 
-    def _record(self, element: Element, sizes: List[int]):
-        fields = []
+    def _record(self, element: Element, sizes: List[int]) -> Any:
+        fields: List[Any] = []
         for k, (one, size) in enumerate(zip(element.properties, sizes)):
-            if one.count:
-                fields.append((f"count{k}", self.order + one.count))
+            if one.count_kind:
+                fields.append((f"count{k}", self.order + one.count_kind))
             fields.append((f"value{k}", self.order + one.kind, (size,)))
         return np.dtype(fields)
 
-    def _records(self, element: Element, sizes: List[int]):
+    def _records(self, element: Element, sizes: List[int]) -> Any:
         record = self._record(element, sizes)
-        if self.at + element.count * record.itemsize > len(self.data):
+        if self.at + element.total * record.itemsize > len(self.data):
             return None
-        rows = np.frombuffer(self.data, record, element.count, self.at)
-        return np.hstack([rows[name].reshape(element.count, -1).astype(float) for name in record.names])
+        rows = np.frombuffer(self.data, record, element.total, self.at)
+        return np.hstack([rows[name].reshape(element.total, -1).astype(float) for name in record.names])

@@ -6,14 +6,21 @@ import contextlib
 import itertools
 import math
 import os
-from typing import Any, ContextManager, List, Sequence
+from typing import Any, ContextManager, Iterable, List, Sequence
 
-try:
-    if os.environ.get("MESHFILES_PLAIN"):  # for tests, and to compare
-        raise ImportError
-    import numpy as np
-except ImportError:
-    np = None
+
+def numpy_if_there() -> Any:
+    """numpy, or None where it can't be imported, or is to be done without, for tests and to compare."""
+    if os.environ.get("MESHFILES_PLAIN"):
+        return None
+    try:
+        import numpy
+    except ImportError:
+        return None
+    return numpy
+
+
+np = numpy_if_there()
 
 Ints = Any  # a list of int, or with numpy an array of int64
 Points = Any  # a list of tuples of three floats, or with numpy an array (n, 3) of float64
@@ -60,7 +67,9 @@ class Soup:
         if bad is not None:
             face = next(f for f in range(len(self.starts) - 1) if self.starts[f + 1] > bad)
             corner = int(self.corners[bad])
-            raise MeshFileError(f"face {face} has the corner {corner}, and the vertices are 0 to {len(self.points) - 1}")
+            raise MeshFileError(
+                f"face {face} has the corner {corner}, and the vertices are 0 to {len(self.points) - 1}"
+            )
         self._check_numbers()
         return self
 
@@ -82,14 +91,17 @@ class Soup:
             raise MeshFileError(f"vertex {min(bad)} has a coordinate that is no finite number")
 
 
-def starts_of(sizes: "Sequence[int] | map[int]") -> List[int]:
+def starts_of(sizes: Iterable[int]) -> List[int]:
     """For faces of these sizes the place of each first corner, and the number of all corners."""
     return list(itertools.accumulate(sizes, initial=0))
 
 
 def quiet() -> "ContextManager[Any]":
     """No warnings of numpy on numbers that are too great or none: what comes of these is looked at."""
-    return contextlib.nullcontext() if np is None else np.errstate(all="ignore")
+    if np is None:
+        return contextlib.nullcontext()
+    found: ContextManager[Any] = np.errstate(all="ignore")
+    return found
 
 
 def as_array(values: Any) -> Ints:

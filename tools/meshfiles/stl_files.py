@@ -3,6 +3,7 @@
 from __future__ import annotations
 
 import struct
+from typing import Any, List
 from .soup import MeshFileError, Soup, np
 from .text import number, shown
 
@@ -46,7 +47,7 @@ def read_binary(data: bytes) -> Soup:
 
 def read_text(data: bytes) -> Soup:
     """The polygons between `loop` and `endloop`, of triangles as a rule, in any number of solids."""
-    points: list = []
+    points: List[Any] = []
     starts = [0]
     is_open = False
     for line, words in enumerate((row.split() for row in data.splitlines()), 1):
@@ -68,8 +69,8 @@ def read_text(data: bytes) -> Soup:
 
 
 def read_regular(data: bytes) -> "Soup | None":
-    """The triangles of a text of one solid, by the places of its words. None where anything is otherwise: then the lines
-    tell what is wrong, if something is."""
+    """The triangles of a text of one solid, by the places of its words. None where anything is otherwise: then the
+    lines tell what is wrong, if something is."""
     data = data.lower()
     start, end = data.find(b"\n"), data.rfind(b"endsolid")
     words = data[start:end].split() if 0 <= start < end else []

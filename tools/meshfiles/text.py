@@ -3,7 +3,7 @@
 from __future__ import annotations
 
 import warnings
-from typing import List, Tuple
+from typing import Any, List, Tuple
 
 from .soup import MeshFileError, np
 
@@ -42,7 +42,7 @@ def whole(word: bytes, line: int) -> int:
     return value
 
 
-def table(text: bytes, kind=float):
+def table(text: bytes, kind: Any = float) -> Any:
     """All words of a text as an array of numbers, or None where a word is none. Needs numpy."""
     with warnings.catch_warnings():
         warnings.simplefilter("error")

@@ -9,15 +9,17 @@ Vector = Sequence[float]
 
 
 class Sheet(NamedTuple):
-    """A face at an edge: the angle at which it leaves, the side that it has there, and whether the inside begins there
-    when one turns on round the edge. Faces of a solid are listed so that they tell where its inside is."""
+    """A face at an edge: the angle at which it leaves, the side that it has there, and whether the inside begins
+    there when one turns on round the edge. Faces of a solid are listed so that they tell where its inside is."""
 
     angle: float
     side: int
     opens: bool
 
 
-def pairs_at(ends: Tuple[Vector, Vector], middles: Sequence[Vector], sides: Sequence[int], opens: Sequence[bool]):
+def pairs_at(
+    ends: Tuple[Vector, Vector], middles: Sequence[Vector], sides: Sequence[int], opens: Sequence[bool]
+) -> List[Tuple[int, int]]:
     """The pairs of sides that bound one wedge of the inside. `ends` are those of the edge. Of each face there are its
     middle, its side, and whether the inside begins there. A side may be left over."""
     angles = angles_round(ends, middles)

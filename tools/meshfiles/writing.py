@@ -3,7 +3,7 @@
 from __future__ import annotations
 
 import math
-from typing import Any, List, Sequence, Tuple
+from typing import Any, List, Sequence, Set, Tuple
 
 from .soup import MeshFileError, faces_of, is_array, np
 
@@ -18,7 +18,7 @@ def points_text(points: Any) -> bytes:
         return b""
     if is_array(points):
         return _points_by_arrays(points)
-    greatest = max(max(map(abs, point)) for point in points)
+    greatest: float = max(abs(x) for point in points for x in point)
     if not 1e-3 <= greatest < 1e9:
         return "".join(f"{x!r} {y!r} {z!r}\n" for x, y, z in points).encode()
     return "".join(f"{decimal(x)} {decimal(y)} {decimal(z)}\n" for x, y, z in points).encode()
@@ -31,7 +31,7 @@ def decimal(x: float) -> str:
     return f"-{text}" if value < 0 else text
 
 
-def _points_by_arrays(points) -> bytes:
+def _points_by_arrays(points: Any) -> bytes:
     greatest = np.abs(points).max()
     if not 1e-3 <= greatest < 1e9:
         return "".join(f"{x!r} {y!r} {z!r}\n" for x, y, z in points.tolist()).encode()
@@ -43,7 +43,7 @@ def _points_by_arrays(points) -> bytes:
     # Kept are the digits from the first that isn't 0, or the last before the point, to the last that isn't 0.
     begun = np.logical_or.accumulate(digits[:, :wide] != 0, axis=1)
     begun[:, -1] = True
-    ended = np.logical_or.accumulate(digits[:, :wide - 1 : -1] != 0, axis=1)[:, ::-1]
+    ended = np.logical_or.accumulate(digits[:, : wide - 1 : -1] != 0, axis=1)[:, ::-1]
     text = np.zeros((len(values), wide + DECIMALS + 3), np.uint8)
     keep = np.ones(text.shape, bool)
     text[:, 0], keep[:, 0] = ord("-"), signs
@@ -52,10 +52,10 @@ def _points_by_arrays(points) -> bytes:
     text[:, wide + 2 : -1], keep[:, wide + 2 : -1] = digits[:, wide:] + ord("0"), ended
     text[:, -1] = ord(" ")
     text[2::3, -1] = ord("\n")
-    return text[keep].tobytes()
+    return bytes(text[keep])
 
 
-def digits_of(values, wide: int):
+def digits_of(values: Any, wide: int) -> Any:
     """The digits of whole numbers from 0 on, a row of so many for each."""
     digits = np.empty((wide, len(values)), np.uint8)
     if wide < 10:
@@ -82,18 +82,20 @@ def faces_text(corners: Any, starts: Any) -> bytes:
     text[:, :wide] += ord("0")
     text[:, wide] = ord(" ")
     text[starts[1:] + np.arange(len(sizes)), wide] = ord("\n")
-    return text[keep].tobytes()
+    return bytes(text[keep])
 
 
 def edges_of(corners: Any, starts: Any) -> List[Tuple[int, int]]:
     """Each edge once, the lesser end first, in order."""
-    found = set()
+    found: Set[Tuple[int, int]] = set()
     for face in faces_of(corners, starts):
         found.update((u, v) if u < v else (v, u) for u, v in zip(face, face[1:] + face[:1]))
     return sorted(found)
 
 
-def lengths_text(points: Any, edges: Sequence[Tuple[int, int]], far: Sequence[Tuple[int, int]], decimals: int) -> bytes:
+def lengths_text(
+    points: Any, edges: Sequence[Tuple[int, int]], far: Sequence[Tuple[int, int]], decimals: int
+) -> bytes:
     """A length file: the edges as `surf lengths` measures them in units of 10^-decimals, and the greatest length that
     there is for the `far` ones. MeshFileError where a measure is 0, or as great as that."""
     if not 0 <= decimals <= DECIMALS:
@@ -121,5 +123,5 @@ def fixed_value(word: str) -> int:
     mantissa, _, power = word.lower().partition("e")
     whole, _, rest = mantissa.lstrip("+-").partition(".")
     shift = DECIMALS + int(power or 0) - len(rest)
-    value = int(whole + rest) * 10**shift if shift >= 0 else int(whole + rest) // 10**-shift
+    value = int(whole + rest) * int(10**shift) if shift >= 0 else int(whole + rest) // int(10**-shift)
     return -value if mantissa.startswith("-") else value
