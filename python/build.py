@@ -3,10 +3,10 @@
 
     build.py --to FOLDER [--library ARCHIVE] [--program PATH]
 
-The library is `crates/surf_c/out/libsurf_c.a`, which `rt lib` in `crates/surf_c` makes, and the program, whose texts the
-tests compare, `crates/surf/out/surf`. It takes an interpreter with pip, setuptools, wheel and numpy, and the network of
-none of them. The wheel has the modules of `src/surfbasis`, and what has its home elsewhere in the repository: the
-readers of mesh files, and the page of refusals. Its version is what the library says.
+The library is `crates/surf_c/out/libsurf_c.a`, which `rt lib` in `crates/surf_c` makes, and the program, whose texts
+the tests compare, `crates/surf/out/surf`. It takes an interpreter with pip, setuptools, wheel and numpy, and the
+network of none of them. The wheel has the modules of `src/surfbasis`, and what has its home elsewhere in the
+repository: the readers of mesh files, and the page of refusals. Its version is what the library says.
 """
 
 import argparse
@@ -64,7 +64,8 @@ def platform_of(library):
 
 
 def assemble(folder, library=None):
-    """Puts the package together in a folder, with the shared library inside where there is one, and returns its path."""
+    """Puts the package together in a folder, with the shared library inside where there is one, and returns its
+    path."""
     package = pathlib.Path(folder) / "surfbasis"
     for source, name in FOLDERS:
         (package / name).mkdir(parents=True)
@@ -107,7 +108,8 @@ def tried(python, wheel, program):
         own = f"{room}/bin/python"
         install = ["install", "--quiet", "--no-deps", "--no-index", "--ignore-installed", wheel]
         subprocess.run([python, "-m", "pip", "--python", own, *install], check=True)
-        settings = {name: value for name, value in os.environ.items() if not name.startswith(("SURFBASIS_", "PYTHON"))}
+        others = ("SURFBASIS_", "PYTHON")
+        settings = {name: value for name, value in os.environ.items() if not name.startswith(others)}
         settings.update(SURF_PROGRAM=str(program), MPLBACKEND="Agg", PYTHONDONTWRITEBYTECODE="1")
         words = [own, "-m", "unittest", "discover", "--quiet", "-s", str(HERE / "tests")]
         return subprocess.run(words, cwd=room, env=settings).returncode == 0

@@ -4,8 +4,8 @@
     check_python.py [--program PATH] [--library PATH]
 
 The tests run over the program, and over the library `crates/surf_c/out/libsurf_c.a` where `rt lib` has made it. They
-want numpy: it is looked for in this interpreter, in `python3` and in `/usr/bin/python3`. What isn't here is passed over
-with a word.
+want numpy: it is looked for in this interpreter, in `python3` and in `/usr/bin/python3`. What isn't here is passed
+over with a word.
 """
 
 import argparse
@@ -28,8 +28,9 @@ MODULES = ("surfbasis", "surfbasis._callers", "surfbasis._surface", "surfbasis.p
 def interpreter():
     """An interpreter that has numpy, or nothing."""
     for path in (sys.executable, shutil.which("python3"), "/usr/bin/python3"):
-        if path and os.path.exists(path) and not subprocess.run([path, "-c", "import numpy"], capture_output=True).returncode:
-            return path
+        if path and os.path.exists(path):
+            if subprocess.run([path, "-c", "import numpy"], capture_output=True).returncode == 0:
+                return path
     return None
 
 
@@ -58,13 +59,14 @@ def tried(python, package, program, way):
         if done.returncode:
             wrong += 1
             print("\n".join(rows))
-        print(f"over the {way}: {'; '.join(row for row in rows if row.startswith(('Ran ', 'OK', 'FAILED', 'examples')))}")
+        told = [row for row in rows if row.startswith(("Ran ", "OK", "FAILED", "examples"))]
+        print(f"over the {way}: {'; '.join(told)}")
     return not wrong
 
 
-# runs the examples in docs/python.md and in the modules, in a folder with the meshes
+# Runs the examples in docs/python.md and in the modules, in a folder with the meshes
 EXAMPLES = """
-import doctest, importlib, os, pathlib, sys, tempfile
+import doctest, importlib, os, pathlib, re, sys, tempfile
 import surfbasis, numpy
 top = pathlib.Path.cwd()
 with tempfile.TemporaryDirectory() as room:
@@ -72,7 +74,9 @@ with tempfile.TemporaryDirectory() as room:
     os.chdir(room)
     names = {"surfbasis": surfbasis, "np": numpy, "Surface": surfbasis.Surface}
     found = [doctest.testmod(importlib.import_module(name), extraglobs=names) for name in sys.argv[1:]]
-    found.append(doctest.testfile(str(top / "docs/python.md"), module_relative=False))
+    page = re.sub("^```.*$", "", (top / "docs/python.md").read_text(), flags=re.M)  # a fence is no output
+    page = doctest.DocTestParser().get_doctest(page, {}, "python.md", "docs/python.md", 0)
+    found.append(doctest.DocTestRunner().run(page))
     os.chdir(top)
 print(f"examples: {sum(one.attempted for one in found)}, {sum(one.failed for one in found)} wrong")
 sys.exit(any(one.failed for one in found))

@@ -28,7 +28,7 @@ def read(name):
     rows = [line.split() for line in (MESHES / f"{name}.off").read_text().splitlines()]
     vertices, faces = int(rows[1][0]), int(rows[1][1])
     body = rows[2 : 2 + vertices + faces]
-    return np.array([row[:3] for row in body[:vertices]], float), np.array(body[vertices:], object)[:, 1:4].astype(int)
+    return np.array([row[:3] for row in body[:vertices]], float), np.array([row[1:4] for row in body[vertices:]], int)
 
 
 def torus(rows, columns):
@@ -110,4 +110,5 @@ def trimesh_like(vertices, faces):
 
 
 def meshio_like(points, **blocks):
-    return SimpleNamespace(points=points, cells=[SimpleNamespace(type=kind, data=data) for kind, data in blocks.items()])
+    cells = [SimpleNamespace(type=kind, data=data) for kind, data in blocks.items()]
+    return SimpleNamespace(points=points, cells=cells)

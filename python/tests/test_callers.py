@@ -12,7 +12,7 @@ from unittest import mock
 
 import numpy as np
 import surfbasis
-from support import CORNERS, CUBE, PROGRAM, read, torus, walks_of
+from support import CORNERS, CUBE, PROGRAM, off_text, read, torus, walks_of
 from surfbasis import _callers, _processor
 
 LIBRARY = os.path.join(os.path.dirname(surfbasis.__file__), "libsurf.so")
@@ -89,7 +89,7 @@ class Using(unittest.TestCase):
     @HAS_LIBRARY
     def test_a_room_too_small_or_too_large(self):
         library = surfbasis.Library(LIBRARY)
-        mesh = b"OFF\n9 18 0\n" + b"0 0 0\n" * 9 + b"".join(b"3 %d %d %d\n" % tuple(face) for face in read("torus33")[1].tolist())
+        mesh = off_text(*read("torus33")).encode()
         with mock.patch.object(_callers, "LEAST_ROOM", 16):
             small = library("cut 1 unit 0 full", [mesh], 0)
         self.assertEqual(small, library("cut 1 unit 0 full", [mesh], 1 << 40))

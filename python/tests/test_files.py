@@ -64,7 +64,8 @@ class Files(unittest.TestCase):
             surfbasis.Surface.from_file(path).info()
         surface = surfbasis.Surface.from_file(path, tolerance=1e-6, lengths="unit")
         self.assertEqual(surface.basis().units, surfbasis.Surface(vertices, faces, lengths="unit").basis().units)
-        self.assertEqual(corners[surface.vertex_origins][surface.faces].tolist(), faces[surface.face_origins].tolist())
+        found = corners[surface.vertex_origins][surface.faces]
+        self.assertEqual(found.tolist(), faces[surface.face_origins].tolist())
 
     def test_parts(self):
         (vertices, faces), (more, others) = read("eight"), read("ring")

@@ -20,7 +20,7 @@ LINES = {
     6: [f"limit: {name}" for name in ("text", "vertices", "faces", "sides", "loops", "basis-vertices",
                                       "certificate-vertices", "answer", "cover-loops", "cover-nodes")],
     7: ["base: 4 of 4"],
-    8: ["certificate text: header 1", "certificate text: form 1", "certificate text: early", "certificate text: trailing 9"],
+    8: [f"certificate text: {fault}" for fault in ("header 1", "form 1", "early", "trailing 9")],
     9: ["read fault"],
     10: ["write fault"],
     11: ["memory"],
@@ -79,7 +79,8 @@ class Witnesses(unittest.TestCase):
         self.assertEqual((crowded.kind, crowded.faces[0], crowded.faces[2]), ("crowded", 0, 1512))
         isolated = self.refused(surfbasis.SurfaceRefused, surfbasis.Surface(755, faces).info)
         self.assertEqual((isolated.kind, isolated.vertex, isolated.edge), ("isolated", 754, None))
-        apart = self.refused(surfbasis.SurfaceRefused, surfbasis.Surface(1508, np.concatenate([faces, faces + 754])).info)
+        two = surfbasis.Surface(1508, np.concatenate([faces, faces + 754]))
+        apart = self.refused(surfbasis.SurfaceRefused, two.info)
         self.assertEqual((apart.kind, apart.face), ("apart", 1512))
         touching = np.concatenate([faces, np.where(faces == 0, 0, faces + 753)])
         pinched = self.refused(surfbasis.SurfaceRefused, surfbasis.Surface(1507, touching).info)
@@ -143,7 +144,8 @@ class Witnesses(unittest.TestCase):
         for base in (0.5, "0", None):
             with self.assertRaises(TypeError):
                 surface.loops(base)
-        for walk, kind, place in [([0, 4], "not-vertex", 1), ([0, -1], "not-vertex", 1), ([0, 0, 1], "not-edge", 0), ([], "empty", None)]:
+        wrong = [([0, 4], "not-vertex", 1), ([0, -1], "not-vertex", 1), ([0, 0, 1], "not-edge", 0), ([], "empty", None)]
+        for walk, kind, place in wrong:
             refused = self.refused(surfbasis.WalkRefused, surface.classify, walk)
             self.assertEqual((refused.kind, refused.place), (kind, place))
         self.assertTrue(self.refused(surfbasis.WalkRefused, surface.same, [0], [9]).line.startswith("walk 2: "))
@@ -159,8 +161,8 @@ class Witnesses(unittest.TestCase):
         self.assertFalse(fault)
         self.assertEqual((fault.units, fault.fault.split()[0]), (None, "parent"))
         self.assertIn("tree at", fault.meaning)
-        self.assertEqual(self.refused(surfbasis.CertificateRefused, surface.check, b"hello").kind, "header")
-        self.assertEqual(self.refused(surfbasis.CertificateRefused, surface.check, made[: made.index(b"\ndual")]).kind, "early")
+        for text, kind in [(b"hello", "header"), (made[: made.index(b"\ndual")], "early"), (made + b"more", "trailing")]:
+            self.assertEqual(self.refused(surfbasis.CertificateRefused, surface.check, text).kind, kind)
         self.assertEqual(self.refused(surfbasis.CertificateRefused, surface.confirm, [0], "maybe 1").kind, "header")
         self.assertEqual(surface.confirm([0, 1, 2], b"null 0").fault, "boundary 0 1")
 
@@ -171,7 +173,8 @@ class Witnesses(unittest.TestCase):
         copies = [np.flatnonzero(cut.origins == origin) for origin in range(9)]
         twice = next(copy for copy in copies if len(copy) > 1)
         places[twice[1], 2] += 1
-        moved = self.refused(surfbasis.SewingRefused, surfbasis.Surface.sew, dataclasses.replace(cut, vertices=places))
+        torn = dataclasses.replace(cut, vertices=places)
+        moved = self.refused(surfbasis.SewingRefused, surfbasis.Surface.sew, torn)
         self.assertEqual((moved.kind, moved.numbers), ("line", [int(twice[1]), int(twice[0])]))
         gap = dataclasses.replace(cut, origins=cut.origins + 1)
         self.assertEqual(self.refused(surfbasis.SewingRefused, surfbasis.Surface.sew, gap).kind, "gap")
@@ -187,7 +190,8 @@ class Witnesses(unittest.TestCase):
             surface.cut(0, [1, 2, 3])
         except surfbasis.WordsRefused:
             self.skipTest("this build of surf has no cut through vertices")
-        for vertices, kind, place in [([], "empty", None), ([0, 4], "not-vertex", 1), ([-1], "not-vertex", 0), ([2], "near", None)]:
+        wrong = [([], "empty", None), ([0, 4], "not-vertex", 1), ([-1], "not-vertex", 0), ([2], "near", None)]
+        for vertices, kind, place in wrong:
             refused = self.refused(surfbasis.VerticesRefused, surface.cut, 0, vertices)
             self.assertEqual((refused.kind, refused.place), (kind, place))
 

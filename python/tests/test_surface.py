@@ -90,7 +90,8 @@ class BesideTheProgram(unittest.TestCase):
         def check(surface, asked):
             distances = surface.distances(1)
             rows = [[int(word.replace("-", "-1")) for word in row] for row in asked.rows("dist", "1")]
-            self.assertEqual(np.column_stack([np.arange(len(rows)), distances.units, distances.parents]).tolist(), rows)
+            found = [np.arange(len(rows)), distances.units, distances.parents]
+            self.assertEqual(np.column_stack(found).tolist(), rows)
             path = distances.path(0).tolist()
             self.assertEqual((path[0], path[-1], distances.path(1).tolist()), (1, 0, [1]))
             steps = {tuple(edge): units for edge, units in zip(surface.edges.tolist(), surface.units.tolist())}
@@ -134,7 +135,7 @@ class BesideTheProgram(unittest.TestCase):
                 vertices = walk.closed.tolist() if isinstance(walk, surfbasis.Walk) else [*walk, walk[0]]
                 asked.file("walk", " ".join(map(str, vertices if len(walk) > 1 else walk)))
                 found, words = surface.classify(walk), asked.rows("class", "walk", measured=False)[0]
-                self.assertEqual((found.bounds, found.text.split()), (words[0] == "null", [w.encode() for w in words]))
+                self.assertEqual((found.bounds, found.text.decode().split()), (words[0] == "null", words))
                 numbers = found.faces if found.bounds else found.edges.reshape(-1)
                 self.assertEqual(numbers.tolist(), [int(word) for word in words[2:]])
                 self.assertTrue(surface.confirm(walk, found))
@@ -171,7 +172,8 @@ class BesideTheProgram(unittest.TestCase):
             asked.file("points", " ".join(map(str, points)))
             cut, rows = surface.cut(1, points), asked.rows("cut", "1", "through", "points")
             copies, faces = int(rows[1][0]), int(rows[1][1])
-            self.assertEqual(cut.faces.tolist(), [[int(w) for w in row[1:]] for row in rows[2 + copies : 2 + copies + faces]])
+            body = rows[2 + copies : 2 + copies + faces]
+            self.assertEqual(cut.faces.tolist(), [[int(word) for word in row[1:]] for row in body])
             self.assertEqual(cut.origins.tolist(), [int(row[4]) for row in rows[2 + copies + faces :]])
             self.assertEqual(characteristic(copies, cut.faces.tolist()), 1)
             self.assertLessEqual(set(points), set(cut.seams.reshape(-1).tolist()))
@@ -186,14 +188,14 @@ class BesideTheProgram(unittest.TestCase):
 class Arrays(unittest.TestCase):
     def test_kinds_of_numbers(self):
         vertices, faces = read("eight")
-        due = surfbasis.Surface(vertices, faces, decimals=6).basis().units
+        due = 12262957
         for kind in (np.int8, np.uint8):
             self.assertEqual(surfbasis.Surface(4, np.array(read("tet")[1], kind)).info().edges, 6)
         for kind in (np.int16, np.uint16, np.int32, np.uint32, np.int64, np.uint64):
             self.assertEqual(surfbasis.Surface(vertices, faces.astype(kind), decimals=6).basis().units, due)
-        self.assertEqual(surfbasis.Surface(np.asfortranarray(vertices), np.asfortranarray(faces), decimals=6).basis().units, due)
-        self.assertEqual(surfbasis.Surface(vertices.tolist(), faces.tolist(), decimals=6).basis().units, due)
-        self.assertEqual(surfbasis.Surface(np.repeat(vertices, 2, axis=0)[::2], faces[:, ::-1], decimals=6).basis().units, due)
+        for kind in (np.asfortranarray, np.ndarray.tolist, lambda array: np.repeat(array, 2, axis=0)[::2]):
+            self.assertEqual(surfbasis.Surface(kind(vertices), kind(faces), decimals=6).basis().units, due)
+        self.assertEqual(surfbasis.Surface(vertices, faces[:, ::-1], decimals=6).basis().units, due)
         narrow = surfbasis.Surface(vertices.astype(np.float32), faces, decimals=6)
         wide = surfbasis.Surface(vertices.astype(np.float32).astype(float), faces, decimals=6)
         self.assertEqual(narrow.units.tolist(), wide.units.tolist())

@@ -30,7 +30,8 @@ class Lines(unittest.TestCase):
         self.assertEqual(_texts.numbers_of(text).tolist(), tokens.tolist())
 
     def test_what_is_below_0_is_no_vertex(self):
-        self.assertEqual(_texts.numbers_of(_texts.token_lines(np.array([1, -1]), np.array([2]))).tolist(), [1, 2**32 - 1])
+        text = _texts.token_lines(np.array([1, -1]), np.array([2]))
+        self.assertEqual(_texts.numbers_of(text).tolist(), [1, 2**32 - 1])
 
     def test_none(self):
         self.assertEqual(_texts.token_lines(np.zeros(0, np.int64), np.zeros(0, np.int64)), b"")
@@ -43,7 +44,8 @@ class Places(unittest.TestCase):
         near, far = random.normal(size=4000), random.uniform(0, _texts.PLACES_BELOW, 4000)
         values = np.concatenate([near, far, np.round(near, 9), np.round(far, 9), np.round(near, 3)])
         values = np.concatenate([values, np.nextafter(values, 0), np.nextafter(values, np.inf)])
-        values = np.concatenate([values[np.abs(values) < _texts.PLACES_BELOW], [0.0, -0.0, 5e-324, 1e-9, 9.99999999e-10]])
+        few = [0.0, -0.0, 5e-324, 1e-9, 9.99999999e-10]
+        values = np.concatenate([values[np.abs(values) < _texts.PLACES_BELOW], few])
         self.assertEqual(_texts.billionths(values).tolist(), [fixed_value(value) for value in values.tolist()])
 
     def test_lines_have_these_values(self):

@@ -14,9 +14,9 @@ def main(words: Optional[List[str]] = None) -> int:
     """Prints the lengths and draws the picture; the status is surf's, or 1 where the file can't be read."""
     parser = argparse.ArgumentParser(prog="python -m surfbasis", description=__doc__.partition(":")[0] + ".")
     parser.add_argument("mesh", help="an OFF, OBJ, PLY or STL file, also with .gz behind")
-    parser.add_argument("picture", nargs="?", help="where the picture goes; MESH.png in this folder where none is named")
+    parser.add_argument("picture", nargs="?", help="where the picture goes; MESH.png in this folder if none is named")
     parser.add_argument("--close", action="store_true", help="close each hole by one face")
-    parser.add_argument("--tolerance", type=float, default=0.0, help="points of open edges nearer than this become one")
+    parser.add_argument("--tolerance", type=float, default=0.0, help="merge points of open edges nearer than this")
     parser.add_argument("--base", type=int, help="draw loops at this vertex in place of a basis")
     given = parser.parse_args(words)
     picture = given.picture or f"{pathlib.Path(given.mesh).name.partition('.')[0]}.png"
@@ -31,7 +31,7 @@ def main(words: Optional[List[str]] = None) -> int:
         return 1
     for note in surface.notes:
         print(note, file=sys.stderr)
-    print(f"{len(walks)} cycles, {walks.length:.6g} in all" if given.base is None else f"{len(walks)} loops, {walks.length:.6g} in all")
+    print(f"{len(walks)} {'cycles' if given.base is None else 'loops'}, {walks.length:.6g} in all")
     for walk in walks:
         print(f"{walk.length:.6g}: {len(walk)} edges")
     plot.save(picture, surface, walks)

@@ -5,7 +5,7 @@ from __future__ import annotations
 import functools
 import importlib.resources
 import re
-from typing import Dict, List, NamedTuple, Pattern
+from typing import Dict, List, Match, NamedTuple, Pattern
 
 
 class Advice(NamedTuple):
@@ -28,7 +28,11 @@ class _Entry(NamedTuple):
         if not found:
             return None
         values = dict(zip(self.letters, found.groups()))
-        return Advice(*(re.sub(r"\b[A-Z]\b", lambda word: values.get(word[0], word[0]), text) for text in self.told))
+
+        def value(letter: Match[str]) -> str:
+            return values.get(letter[0], letter[0])
+
+        return Advice(*(re.sub(r"\b[A-Z]\b", value, text) for text in self.told))
 
 
 def advice_in(status: int, line: str) -> Advice:

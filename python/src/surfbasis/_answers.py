@@ -52,7 +52,7 @@ class Walk:
     @property
     def length(self) -> float:
         """The length in the mesh's own unit."""
-        return self.units / 10**self.decimals
+        return self.units / int(10**self.decimals)
 
     @property
     def closed(self) -> Ints:
@@ -78,7 +78,7 @@ class Walks(Sequence[Walk]):
     @property
     def length(self) -> float:
         """The total length in the mesh's own unit."""
-        return self.units / 10**self.decimals
+        return self.units / int(10**self.decimals)
 
     @overload
     def __getitem__(self, place: int) -> Walk: ...
@@ -125,7 +125,8 @@ class Distances:
 
 @dataclass(frozen=True, eq=False)
 class Cut:
-    """A surface cut open into one disc. Its faces are those of the surface, in their order, over copies of the vertices.
+    """A surface cut open into one disc. Its faces are those of the surface, in their order, over copies of the
+    vertices.
 
     vertices: shape (c, 3), the places of the copies; None where the surface has none
     faces:    as the surface's: shape (m, k), or a tuple of m arrays; whole numbers below c
@@ -144,8 +145,8 @@ class Evidence:
 
     bounds: whether it is the boundary of a set of faces
     faces:  shape (n,), such a set, in order; None where there is none
-    edges:  shape (n, 2), a set of edges of which each face has an even number, and this walk runs an odd number an odd
-            number of times, so that it doesn't bound; None where it does
+    edges:  shape (n, 2), a set of edges of which each face has an even number, and this walk runs an odd number an
+            odd number of times, so that it doesn't bound; None where it does
     text:   the line that surf wrote, as `confirm` reads it"""
 
     bounds: bool

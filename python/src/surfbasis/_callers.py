@@ -1,4 +1,5 @@
-"""One call of surf: words and up to three files as bytes, to a status and a text. By the library, or by the program."""
+"""One call of surf: words and up to three files as bytes, to a status and a text. By the library, or by the
+program."""
 
 from __future__ import annotations
 
@@ -27,7 +28,8 @@ class Ended(RuntimeError):
 
 
 class Caller(Protocol):
-    """What asks surf: the words of a command that name files by 1, 2 and 3, these files, and how long the answer can be."""
+    """What asks surf: the words of a command that name files by 1, 2 and 3, these files, and how long the answer can
+    be."""
 
     def __call__(self, words: str, files: Sequence[bytes], room: int) -> Tuple[int, bytes]:
         """The status, and the answer where that is 0 or 1, else the line."""
@@ -40,8 +42,8 @@ class _Said(ctypes.Structure):
 class Library:
     """Calls the shared library, in this process.
 
-    The interpreter's lock is let go during a call, so that threads run side by side. A call can't be broken off: Ctrl-C
-    waits for its end."""
+    The interpreter's lock is let go during a call, so that threads run side by side. A call can't be broken off:
+    Ctrl-C waits for its end."""
 
     def __init__(self, path: Path):
         self.path = os.path.abspath(os.fspath(path))
@@ -92,37 +94,34 @@ class Program:
         with tempfile.TemporaryDirectory(prefix="surfbasis") as folder:
             for name, text in zip("123", files):
                 pathlib.Path(folder, name).write_bytes(text)
-            done = self._run(words, folder)
-        if done.returncode < 0:
-            raise Ended(f"{self.path} was ended by signal {-done.returncode}")
-        return done.returncode, done.stdout if done.returncode < 2 else done.stderr
+            status, out, diag = self._run(words, folder)
+        if status < 0:
+            raise Ended(f"{self.path} was ended by signal {-status}")
+        return status, out if status < 2 else diag
 
-    def _run(self, words: str, folder: str) -> "subprocess.CompletedProcess[bytes]":
-        try:
-            return subprocess.run(
-                [self.path, *words.split()],
-                cwd=folder,
-                stdin=subprocess.DEVNULL,
-                capture_output=True,
-                check=False,
-                timeout=self.seconds,
-            )
-        except subprocess.TimeoutExpired:
-            raise TimedOut(f"`{words}` took longer than {self.seconds} seconds") from None
+    def _run(self, words: str, folder: str) -> Tuple[int, bytes, bytes]:
+        streams = {"stdin": subprocess.DEVNULL, "stdout": subprocess.PIPE, "stderr": subprocess.PIPE}
+        with subprocess.Popen([self.path, *words.split()], cwd=folder, **streams) as process:
+            try:
+                out, diag = process.communicate(timeout=self.seconds)
+            except subprocess.TimeoutExpired:
+                raise TimedOut(f"`{words}` took longer than {self.seconds} seconds") from None
+            finally:
+                process.kill()  # where the limit or Ctrl-C broke it off; else it has ended
+                process.wait()
+        return process.returncode, out, diag
 
 
 def default_caller() -> Caller:
-    """The caller by the environment: SURFBASIS_PROGRAM, with SURFBASIS_SECONDS, or SURFBASIS_LIBRARY, is its path. Else
-    the library that came with the package."""
+    """The caller by the environment: SURFBASIS_PROGRAM, with SURFBASIS_SECONDS, or SURFBASIS_LIBRARY, is its path.
+    Else the library that came with the package."""
     program = os.environ.get("SURFBASIS_PROGRAM")
     if program:
         seconds = os.environ.get("SURFBASIS_SECONDS")
         return Program(program, float(seconds) if seconds else None)
     library = os.environ.get("SURFBASIS_LIBRARY") or os.fspath(pathlib.Path(__file__).with_name("libsurf.so"))
     if not os.path.isfile(library):
-        raise FileNotFoundError(
-            f"{library} isn't there: install a wheel, or set SURFBASIS_LIBRARY or SURFBASIS_PROGRAM to a file (docs/python.md)"
-        )
+        raise FileNotFoundError(f"{library} isn't there; SURFBASIS_LIBRARY or SURFBASIS_PROGRAM may name another")
     return Library(library)
 
 

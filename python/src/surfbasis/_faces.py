@@ -3,6 +3,7 @@
 from __future__ import annotations
 
 import operator
+import re
 from typing import Any, Optional, Tuple
 
 import numpy as np
@@ -10,8 +11,8 @@ import numpy as np
 from ._answers import Polygons
 from ._texts import Floats, Ints, token_lines
 
-POLYGONS_OF_MESHIO = ("triangle", "quad", "polygon")
-NO_FACES_OF_MESHIO = ("vertex", "line")
+POLYGONS_OF_MESHIO = r"triangle|quad|polygon\d*"
+NO_FACES_OF_MESHIO = r"vertex|line\d*"
 
 
 def frozen(array: Any) -> Any:
@@ -125,9 +126,9 @@ def arrays_of(mesh: Any) -> Tuple[Any, Any]:
 
 
 def _faces_of_cells(cells: Any) -> Any:
-    blocks = [block for block in cells if block.type not in NO_FACES_OF_MESHIO]
+    blocks = [block for block in cells if not re.fullmatch(NO_FACES_OF_MESHIO, block.type)]
     for block in blocks:
-        if not block.type.startswith(POLYGONS_OF_MESHIO) or block.type in ("triangle6", "triangle7", "quad8", "quad9"):
+        if not re.fullmatch(POLYGONS_OF_MESHIO, block.type):
             raise TypeError(f"cells of the type {block.type} are no polygons")
     if len(blocks) == 1:
         return np.asarray(blocks[0].data)

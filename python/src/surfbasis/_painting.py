@@ -65,7 +65,8 @@ class Canvas:
         """The pixels at half the size, each the mean of four."""
         half = self.size // 2
         mean = self.colours.reshape(half, 2, half, 2, 3).mean(axis=(1, 3))
-        return np.clip(np.rint(mean), 0, 255).astype(np.uint8)
+        pixels: npt.NDArray[np.uint8] = np.clip(np.rint(mean), 0, 255).astype(np.uint8)
+        return pixels
 
 
 def _inside(corners: Floats, owners: Ints, pixels: Ints) -> Tuple[Ints, Floats]:
@@ -95,8 +96,8 @@ def png(
     lift: float,
     size: int,
 ) -> bytes:
-    """The picture of faces in these colours with lines on them. Places are in parts of the width, from -0.5 to 0.5: right,
-    up and near. Lines are taken to be a lift nearer than they are."""
+    """The picture of faces in these colours with lines on them. Places are in parts of the width, from -0.5 to 0.5:
+    right, up and near. Lines are taken to be a lift nearer than they are."""
     wide = 2 * size
     dots = (places * MARGIN * (1, -1, 1) + (0.5, 0.5, 0.0)) * wide
     canvas = Canvas(wide)
@@ -114,7 +115,8 @@ def _brush(reach: float, lift: float) -> Floats:
     offsets = np.arange(-int(reach), int(reach) + 1)
     i, j = (grid.reshape(-1) for grid in np.meshgrid(offsets, offsets))
     round_ones = i * i + j * j <= reach * reach
-    return np.stack([i, j, np.full(len(i), lift)], axis=1)[round_ones]
+    dots: Floats = np.stack([i, j, np.full(len(i), lift)], axis=1)[round_ones]
+    return dots
 
 
 def _triangles(faces: Polygons) -> Tuple[Ints, Ints]:

@@ -11,7 +11,8 @@ NEEDED = ("cx16", "lahf_lm", "popcnt", "pni", "sse4_1", "sse4_2", "ssse3")
 
 
 def lacking(told: str) -> List[str]:
-    """The parts of x86-64-v2 that a processor lacks, by what `/proc/cpuinfo` tells of it; none where that says nothing."""
+    """The parts of x86-64-v2 that a processor lacks, by what `/proc/cpuinfo` tells of it; none where that says
+    nothing."""
     rows = (line.partition(":") for line in told.splitlines())
     flags = next((value.split() for name, _, value in rows if name.strip() == "flags"), None)
     return [] if flags is None else [part for part in NEEDED if part not in flags]

@@ -68,8 +68,8 @@ class WordsRefused(Refused, NotImplementedError):
 
 
 class MeshRefused(Refused):
-    """Status 3: a face that is none. `face` tells which, `place` the corner that is no vertex, `vertex` the one that the
-    face has twice."""
+    """Status 3: a face that is none. `face` tells which, `place` the corner that is no vertex, `vertex` the one that
+    the face has twice."""
 
     def _name(self, numbers: List[int], vertices: int) -> None:
         if self.kind.startswith("face-"):
@@ -125,8 +125,8 @@ class NoMemory(Refused, MemoryError):
 
 
 class CoordinatesRefused(Refused):
-    """Status 12: a coordinate has no fixed value, or an edge no measure. `zero` and `great` have an `edge`, `form` and
-    `range` a `vertex` and the `place` of its coordinate."""
+    """Status 12: a coordinate has no fixed value, or an edge no measure. `zero` and `great` have an `edge`, `form`
+    and `range` a `vertex` and the `place` of its coordinate."""
 
     def _name(self, numbers: List[int], vertices: int) -> None:
         if self.kind in ("zero", "great"):
@@ -147,7 +147,8 @@ class SewingRefused(Refused):
 
 
 class VerticesRefused(Refused):
-    """Status 15: a list of vertices to cut through has one that is no vertex, at `place`, or they give no cut (`near`)."""
+    """Status 15: a list of vertices to cut through has one that is no vertex, at `place`, or they give no cut
+    (`near`)."""
 
     def _name(self, numbers: List[int], vertices: int) -> None:
         self.place = numbers[0] if numbers else None

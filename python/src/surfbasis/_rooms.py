@@ -29,8 +29,8 @@ class Rooms(NamedTuple):
 
     @property
     def copies(self) -> int:
-        """A disc has one more vertex than edges without its faces, and the full cut makes two of as many edges as there are
-        beyond those between faces."""
+        """A disc has one more vertex than edges without its faces, and the full cut makes two of as many edges as
+        there are beyond those between faces."""
         return max(self.vertices, 2 + 2 * self.edges - 2 * self.faces)
 
     @staticmethod

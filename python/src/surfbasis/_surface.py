@@ -24,16 +24,17 @@ GREATEST_LENGTH = 4_294_967_295
 class Surface:
     """A closed connected surface mesh with an exact whole length for each edge.
 
-    vertices: shape (n, 3), numbers, the places of the vertices in any unit; or the number n, where there are no places
+    vertices: shape (n, 3), numbers, the places of the vertices in any unit; or the number n, where there are no
+              places
     faces:    shape (m, k), whole numbers below n; or m sequences of them, polygons of any sizes. They may run in any
               direction, and the surface may be one-sided
-    lengths:  None to measure the edges, in units of 10**-decimals; "unit" for the length 1 of each; or shape (e,), whole
-              numbers from 1 to 4,294,967,295, one for each of `edges`. Without places None is as "unit"
+    lengths:  None to measure the edges, in units of 10**-decimals; "unit" for the length 1 of each; or shape (e,),
+              whole numbers from 1 to 4,294,967,295, one for each of `edges`. Without places None is as "unit"
     decimals: from 0 to 9, where edges are measured; None takes as many as the longest edge allows
 
-    In place of vertices and faces also a mesh of trimesh or of meshio. Arrays may be of any numbers that numpy has; they
-    are copied. Only shapes and types are checked here (ValueError, TypeError); each question first asks whether the
-    faces are a surface, and raises `SurfaceRefused`, `MeshRefused` or another `Refused` where they aren't.
+    In place of vertices and faces also a mesh of trimesh or of meshio. Arrays may be of any numbers that numpy has;
+    they are copied. Only shapes and types are checked here (ValueError, TypeError); each question first asks whether
+    the faces are a surface, and raises `SurfaceRefused`, `MeshRefused` or another `Refused` where they aren't.
 
     >>> tetrahedron = Surface(4, [[0, 1, 2], [0, 3, 1], [0, 2, 3], [1, 3, 2]])
     >>> tetrahedron.info().genus
@@ -114,8 +115,8 @@ class Surface:
     ) -> Surface:
         """The surface of arrays that aren't one: points merged, faces sorted out, holes closed, as `from_file` does.
 
-        `vertex_origins` and `face_origins` have the numbers in these arrays. Raises MeshFileError where there is no face
-        or no such part.
+        `vertex_origins` and `face_origins` have the numbers in these arrays. Raises MeshFileError where there is no
+        face or no such part.
 
         >>> sheet = Surface.mended([[0, 0, 0], [1, 0, 0], [1, 1, 0], [0, 1, 0]], [[0, 1, 2], [0, 2, 3]], close=True)
         >>> sheet.info().genus, sheet.face_origins.tolist()
@@ -179,7 +180,8 @@ class Surface:
 
     @property
     def edges(self) -> Ints:
-        """Each edge once, the lesser end first, in order, shape (e, 2). Raises MeshRefused where a corner is no vertex."""
+        """Each edge once, the lesser end first, in order, shape (e, 2). Raises MeshRefused where a corner is no
+        vertex."""
         if self._edges is None:
             if not self._has_vertices():
                 self.info()  # which tells the face
@@ -206,8 +208,8 @@ class Surface:
     @property
     def lengths(self) -> Floats:
         """The length of each of `edges` in the mesh's own unit, shape (e,)."""
-        units = self.units
-        return units / 10**self.decimals
+        lengths: Floats = self.units / 10**self.decimals
+        return lengths
 
     @property
     def decimals(self) -> int:
@@ -218,14 +220,14 @@ class Surface:
 
     @property
     def vertex_origins(self) -> Optional[Ints]:
-        """For each vertex its number in the file or the arrays before mending, -1 where it is new, shape (n,). None where
-        nothing was mended."""
+        """For each vertex its number in the file or the arrays before mending, -1 where it is new, shape (n,). None
+        where nothing was mended."""
         return None if self._origins is None else self._origins.vertices
 
     @property
     def face_origins(self) -> Optional[Ints]:
-        """For each face its number in the file or the arrays before mending, -1 where it is new, shape (m,). None where
-        nothing was mended."""
+        """For each face its number in the file or the arrays before mending, -1 where it is new, shape (m,). None
+        where nothing was mended."""
         return None if self._origins is None else self._origins.faces
 
     @property
@@ -331,8 +333,8 @@ class Surface:
         )
 
     def loops(self, base: int = 0) -> Walks:
-        """A least system of loops at a vertex: 2 - characteristic closed walks there, independent (mod 2), with the least
-        total length; the shortest first.
+        """A least system of loops at a vertex: 2 - characteristic closed walks there, independent (mod 2), with the
+        least total length; the shortest first.
 
         >>> loops = Surface.from_file("meshes/eight.off").loops(base=5)
         >>> len(loops), all(loop.vertices[0] == 5 for loop in loops)
@@ -351,8 +353,8 @@ class Surface:
         return self._walks(self._ask_lengths("basis M L", self._rooms().walks()))
 
     def cycle(self) -> Optional[Walk]:
-        """A shortest cycle that doesn't separate the surface; None on a sphere, where every cycle does. Takes up to 20,000
-        vertices (LimitRefused).
+        """A shortest cycle that doesn't separate the surface; None on a sphere, where every cycle does. Takes up to
+        20,000 vertices (LimitRefused).
 
         >>> Surface.from_file("meshes/eight.off", decimals=6).cycle().length
         1.854371
@@ -374,9 +376,9 @@ class Surface:
     def cut(self, base: int = 0, how: Any = "trim") -> Cut:
         """The surface cut open into one disc.
 
-        how: "full" cuts along the edges of a shortest tree from the base and those of the loops there; "trim" along as
-             little of that as still opens the surface; a list of vertices, shape (p,), along that and the ways in the
-             tree to these vertices, so that each is on the border of the disc
+        how: "full" cuts along the edges of a shortest tree from the base and those of the loops there; "trim" along
+             as little of that as still opens the surface; a list of vertices, shape (p,), along that and the ways in
+             the tree to these vertices, so that each is on the border of the disc
 
         On a sphere the trimmed cut is two edges only: cut through vertices where an unfolding of the disc matters.
         Raises VerticesRefused where a vertex isn't one, or where the cut through them has fewer than two edges.
@@ -395,8 +397,8 @@ class Surface:
         return self._opened(self._ask_lengths(words, self._rooms().cut(), more))
 
     def certify(self, base: Optional[int] = None) -> bytes:
-        """A certificate, as text: that the loops at a base are least, or, without a base, that the basis is. That of a
-        basis takes up to 1,000 vertices (LimitRefused).
+        """A certificate, as text: that the loops at a base are least, or, without a base, that the basis is. That of
+        a basis takes up to 1,000 vertices (LimitRefused).
 
         >>> surface = Surface.from_file("meshes/torus7.off", lengths="unit")
         >>> surface.certify(0).splitlines()[0]
@@ -508,7 +510,8 @@ class Surface:
 
 
 def _sewn(disc: Surface, cut: Cut, lengths: Any, decimals: Optional[int]) -> Surface:
-    """The surface that surf sews of a disc of copies. Its vertex lines have the places bit by bit, as whole numbers."""
+    """The surface that surf sews of a disc of copies. Its vertex lines have the places bit by bit, as whole
+    numbers."""
     count = len(cut.origins)
     places = np.zeros((count, 3)) if cut.vertices is None else np.asarray(cut.vertices, np.float64) + 0.0
     if places.shape != (count, 3):

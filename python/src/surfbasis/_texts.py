@@ -97,5 +97,7 @@ def _fill_places(block: npt.NDArray[np.uint32], values: Floats) -> None:
 
 def numbers_of(text: bytes) -> Ints:
     """The whole numbers between the blanks of a text."""
-    found: Ints = np.fromstring(text.decode("ascii"), dtype=np.int64, sep=" ") if text.strip() else np.zeros(0, np.int64)
+    if not text.strip():
+        return np.zeros(0, np.int64)
+    found: Ints = np.fromstring(text.decode("ascii"), dtype=np.int64, sep=" ")
     return found

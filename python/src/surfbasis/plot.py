@@ -50,8 +50,8 @@ class Line(NamedTuple):
 
 
 class Scene(NamedTuple):
-    """A surface as it is seen, in parts of the picture's width from -0.5 to 0.5: how far right, up and near each vertex
-    is, shape (n, 3); the colours of the faces, shape (m, 3), and the lines on them."""
+    """A surface as it is seen, in parts of the picture's width from -0.5 to 0.5: how far right, up and near each
+    vertex is, shape (n, 3); the colours of the faces, shape (m, 3), and the lines on them."""
 
     places: Floats
     colours: Floats
@@ -69,8 +69,8 @@ def draw(
 ) -> Any:
     """Draws a surface with what is shown on it, and returns the axes of matplotlib that it is drawn on.
 
-    shown:  a Walk, Walks or other walks, each in a colour of its own; a Cut, whose seams are drawn; Evidence, whose faces
-            or edges are marked; or None
+    shown:  a Walk, Walks or other walks, each in a colour of its own; a Cut, whose seams are drawn; Evidence, whose
+            faces or edges are marked; or None
     values: shape (n,) or (m,), a number for each vertex or face, by which faces are coloured, dark where it is least
     axes:   axes of matplotlib; None makes some
     turn:   degrees about the upright axis; tilt: degrees from above the horizon
@@ -128,7 +128,10 @@ def scene_of(surface: Surface, shown: Any, values: Any, turn: float, tilt: float
         raise ValueError("a surface without places can't be drawn")
     places = _seen(surface.vertices, turn, tilt)
     lines, marked = _marks(shown)
-    colours = np.tile(PLAIN, (len(surface.faces), 1)) if values is None else _by_value(surface, np.asarray(values, float))
+    if values is None:
+        colours = np.tile(PLAIN, (len(surface.faces), 1))
+    else:
+        colours = _by_value(surface, np.asarray(values, float))
     colours[marked] = MARKED
     return Scene(places, colours * _light(places, surface)[:, None], lines)
 
@@ -181,9 +184,8 @@ def _marks(shown: Any) -> Tuple[List[Line], Ints]:
     if isinstance(shown, Cut):
         return [Line(shown.seams, COLOURS[0], "")], none
     if isinstance(shown, Evidence):
-        if shown.faces is not None:
-            return [], shown.faces
-        return [Line(np.reshape(shown.edges, (-1, 2)), COLOURS[0], "")], none
+        edges = [] if shown.edges is None else [Line(shown.edges, COLOURS[0], "")]
+        return edges, none if shown.faces is None else shown.faces
     walks: Iterable[Walk] = [shown] if isinstance(shown, Walk) else shown
     return [_line(walk, COLOURS[k % len(COLOURS)]) for k, walk in enumerate(walks)], none
 
