@@ -54,6 +54,10 @@ class Lines(unittest.TestCase):
     def test_numbers_stand_in_place_of_letters(self):
         self.assertIn("edge 402 412 has one face, 805", refusal(4, "surface: border 402 412 805").meaning)
 
+    def test_mending_is_named(self):
+        self.assertIn("`Surface.mended`", refusal(4, "surface: border 402 412 805").advice)
+        self.assertNotIn("`Surface.mended`", refusal(4, "surface: empty").advice)
+
     def test_bases_of_classes(self):
         self.assertIsInstance(refusal(7, "base: 4 of 4"), IndexError)
         self.assertIsInstance(refusal(11, "memory"), MemoryError)

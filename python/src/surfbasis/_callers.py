@@ -100,8 +100,9 @@ class Program:
         return status, out if status < 2 else diag
 
     def _run(self, words: str, folder: str) -> Tuple[int, bytes, bytes]:
-        streams = {"stdin": subprocess.DEVNULL, "stdout": subprocess.PIPE, "stderr": subprocess.PIPE}
-        with subprocess.Popen([self.path, *words.split()], cwd=folder, **streams) as process:
+        none, pipe = subprocess.DEVNULL, subprocess.PIPE
+        command = [self.path, *words.split()]
+        with subprocess.Popen(command, cwd=folder, stdin=none, stdout=pipe, stderr=pipe) as process:
             try:
                 out, diag = process.communicate(timeout=self.seconds)
             except subprocess.TimeoutExpired:

@@ -4,12 +4,14 @@ from __future__ import annotations
 
 import operator
 import re
-from typing import Any, Optional, Tuple
+from typing import Any, Optional, Tuple, TypeVar
 
 import numpy as np
 
 from ._answers import Polygons
 from ._texts import Floats, Ints, token_lines
+
+Numbers = TypeVar("Numbers", Ints, Floats)
 
 POLYGONS_OF_MESHIO = r"triangle|quad|polygon\d*"
 NO_FACES_OF_MESHIO = r"vertex|line\d*"
@@ -67,11 +69,13 @@ class Faces:
             return corners.reshape(len(self), self.size)
         return tuple(np.split(corners, self.starts[1:-1]))
 
-    def next_corners(self, corners: Ints) -> Ints:
-        """For each corner the next one in its face, by the numbers that stand at the corners."""
+    def next_corners(self, corners: Numbers) -> Numbers:
+        """For each corner what stands at the next one in its face, of what stands at the corners."""
+        following: Numbers = np.empty_like(corners)
         if self.size is not None:
-            return np.roll(corners.reshape(len(self), self.size), -1, axis=1).reshape(-1)
-        following = np.empty_like(corners)
+            table, rolled = (numbers.reshape(len(self), self.size) for numbers in (corners, following))
+            rolled[:, :-1], rolled[:, -1:] = table[:, 1:], table[:, :1]
+            return following
         following[:-1] = corners[1:]
         full = self.starts[:-1] < self.starts[1:]
         following[self.starts[1:][full] - 1] = corners[self.starts[:-1][full]]
@@ -79,6 +83,8 @@ class Faces:
 
     def corners_of(self, numbers: Ints) -> Ints:
         """The corners of a listing of faces of these sizes, in which each face's size stands before its corners."""
+        if self.size is not None:
+            return numbers.reshape(len(self), self.size + 1)[:, 1:].reshape(-1)
         return np.delete(numbers, self.starts[:-1] + np.arange(len(self)))
 
     def text(self) -> bytes:

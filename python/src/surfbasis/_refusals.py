@@ -92,6 +92,13 @@ class SurfaceRefused(Refused):
         elif self.kind == "apart":
             self.faces = (numbers[0],)
 
+    @property
+    def advice(self) -> str:
+        told = super().advice
+        if "to_off.py" not in told:
+            return told
+        return f"{told}. In Python `Surface.mended` does so, with close=, tolerance= and part= for these flags"
+
 
 class LengthsRefused(Refused):
     """Status 5: a length is 0 or above 4,294,967,295. `place` is its place among the edges."""

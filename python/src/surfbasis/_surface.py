@@ -187,8 +187,7 @@ class Surface:
                 self.info()  # which tells the face
             corners = self._faces.corners
             following = self._faces.next_corners(corners)
-            keys = np.unique(np.minimum(corners, following) * self._count + np.maximum(corners, following))
-            self._edges = frozen(np.stack(np.divmod(keys, max(self._count, 1)), axis=1))
+            self._edges = frozen(_pairs(np.unique(_pair_keys(corners, following, self._count)), self._count))
         return self._edges
 
     def _has_vertices(self) -> bool:
@@ -264,9 +263,13 @@ class Surface:
         corners = self._faces.corners
         if len(corners) == 0 or not self._has_vertices():
             return 0
+        squares: Floats = np.zeros(len(corners))
         with np.errstate(over="ignore", invalid="ignore"):
-            steps = self._points[corners] - self._points[self._faces.next_corners(corners)]
-            longest = math.sqrt(float(np.einsum("ij,ij->i", steps, steps).max()))
+            for coordinates in np.ascontiguousarray(self._points.T):
+                here = coordinates[corners]
+                here -= self._faces.next_corners(here)
+                squares += here * here
+            longest = math.sqrt(float(squares.max()))
         if not 0 < longest < math.inf:
             return 0
         return max(0, min(MOST_DECIMALS, math.floor(math.log10((GREATEST_LENGTH - 1) / longest))))
@@ -501,12 +504,21 @@ class Surface:
         several = np.bincount(origins)[origins] > 1
         following = self._faces.next_corners(corners)
         near = np.flatnonzero(several[corners] | several[following])
-        low, high = np.minimum(corners[near], following[near]), np.maximum(corners[near], following[near])
-        keys, counts = np.unique(low * len(origins) + high, return_counts=True)
-        border = keys[counts == 1]
-        ends = np.sort(np.stack([origins[border // len(origins)], origins[border % len(origins)]], axis=1), axis=1)
-        seams: Ints = np.unique(ends, axis=0)
-        return seams
+        keys, counts = np.unique(_pair_keys(corners[near], following[near], len(origins)), return_counts=True)
+        ends = origins[_pairs(keys[counts == 1], len(origins))]
+        return _pairs(np.unique(_pair_keys(ends[:, 0], ends[:, 1], self._count)), self._count)
+
+
+def _pair_keys(first: Ints, second: Ints, count: int) -> Ints:
+    """A number for each pair of numbers below a count, in the order of the lesser and then of the greater one."""
+    keys: Ints = np.minimum(first, second) * count + np.maximum(first, second)
+    return keys
+
+
+def _pairs(keys: Ints, count: int) -> Ints:
+    """The pairs that have these numbers, the lesser number first, shape (n, 2)."""
+    lesser = keys // max(count, 1)
+    return np.stack([lesser, keys - lesser * count], axis=1)
 
 
 def _sewn(disc: Surface, cut: Cut, lengths: Any, decimals: Optional[int]) -> Surface:
