@@ -25,7 +25,8 @@ FOLDERS = ((HERE / "src/surfbasis", ""), (TOP / "tools/meshfiles", "meshfiles"))
 PAGE = TOP / "docs/refusals.md"
 EXPORTED = "surf_call"
 FLAGS = ("-Wl,-z,relro,-z,now", "-Wl,-z,defs", "-Wl,--gc-sections", "-Wl,--strip-all")
-ALLOWED = {"libc.so.6"}  # the shared libraries that a wheel for all Linux systems may ask for, and this one does
+ALLOWED = {"libc.so.6", "ld-linux-x86-64.so.2"}  # what the library may ask for, so that it runs on all Linux systems
+MAKERS = ("numpy", "pip", "setuptools", "venv", "wheel")
 OLDEST = 17  # the least 2.N of the GNU C library that a tag can name
 
 
@@ -82,11 +83,17 @@ def assemble(folder, library=None):
 
 def interpreter():
     """An interpreter with all that a wheel is made by."""
+    asked = f"import sys, importlib.util as util; sys.exit(not all(map(util.find_spec, {MAKERS})))"
     for path in (sys.executable, shutil.which("python3"), "/usr/bin/python3"):
-        words = [path, "-c", "import numpy, pip, setuptools, venv, wheel"]
-        if path and not subprocess.run(words, capture_output=True).returncode:
+        if path and os.path.exists(path) and subprocess.run([path, "-c", asked]).returncode == 0:
             return path
-    raise SystemExit("no interpreter has numpy, pip, setuptools, venv and wheel")
+    raise SystemExit(f"no interpreter has {', '.join(MAKERS)}")
+
+
+def committed():
+    """The seconds of the last commit, which are those of the files in the wheel, so that it is made the same again."""
+    words = ["git", "-C", str(TOP), "log", "-1", "--format=%ct"]
+    return subprocess.run(words, capture_output=True, text=True).stdout.strip() or "315532800"
 
 
 def made(python, library, to):
@@ -96,7 +103,7 @@ def made(python, library, to):
             shutil.copy(HERE / name, room)
         assemble(pathlib.Path(room, "src"), library)
         words = ["wheel", "--quiet", "--no-build-isolation", "--no-deps", "--no-index", "--wheel-dir", to, room]
-        settings = {**os.environ, "SURFBASIS_PLATFORM": platform_of(library)}
+        settings = {"SOURCE_DATE_EPOCH": committed(), **os.environ, "SURFBASIS_PLATFORM": platform_of(library)}
         subprocess.run([python, "-m", "pip", *words], check=True, env=settings)
     return max(pathlib.Path(to).glob("surfbasis-*.whl"), key=lambda path: path.stat().st_mtime)
 

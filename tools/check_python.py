@@ -22,7 +22,7 @@ TOP = pathlib.Path(__file__).resolve().parent.parent
 sys.path.insert(0, str(TOP / "python"))
 import build  # noqa: E402
 
-MODULES = ("surfbasis", "surfbasis._callers", "surfbasis._surface", "surfbasis.plot")
+MODULES = ("", "._answers", "._callers", "._refusals", "._surface", ".plot")
 
 
 def interpreter():
@@ -73,7 +73,7 @@ with tempfile.TemporaryDirectory() as room:
     os.symlink(top / "meshes", pathlib.Path(room, "meshes"))
     os.chdir(room)
     names = {"surfbasis": surfbasis, "np": numpy, "Surface": surfbasis.Surface}
-    found = [doctest.testmod(importlib.import_module(name), extraglobs=names) for name in sys.argv[1:]]
+    found = [doctest.testmod(importlib.import_module(f"surfbasis{name}"), extraglobs=names) for name in sys.argv[1:]]
     page = re.sub("^```.*$", "", (top / "docs/python.md").read_text(), flags=re.M)  # a fence is no output
     page = doctest.DocTestParser().get_doctest(page, {}, "python.md", "docs/python.md", 0)
     found.append(doctest.DocTestRunner().run(page))

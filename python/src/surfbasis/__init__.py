@@ -1,13 +1,12 @@
 """Proved shortest homology bases, loops and cuts of closed surface meshes.
 
 >>> import surfbasis
->>> surface = surfbasis.Surface.from_file("meshes/eight.off")
->>> for cycle in surface.basis():
-...     print(f"{cycle.length:.6f}", len(cycle.vertices))
-1.854372 10
-1.854372 10
-4.151193 20
-4.403024 24
+>>> surface = surfbasis.Surface.from_file("meshes/eight.off", decimals=6)
+>>> basis = surface.basis()
+>>> len(basis), basis.length
+(4, 12.262957)
+>>> basis[0].length, basis[0].vertices
+(1.854371, array([ 68,  73,  75,  76,  78, 155, 154, 149, 148,  70]))
 >>> disc = surface.cut()
 >>> len(disc.seams)
 83

@@ -16,7 +16,12 @@ Polygons = Union[Ints, Tuple[Ints, ...]]
 class Info:
     """The counts of a surface, its Euler characteristic, and how many handles or crosscaps it has.
 
-    `genus` is None where the surface is one-sided, and `crosscaps` where it is two-sided."""
+    `genus` is None where the surface is one-sided, and `crosscaps` where it is two-sided.
+
+    >>> info = surfbasis.Surface.from_file("meshes/plane6.off", lengths="unit").info()
+    >>> info.crosscaps, info.genus, info.orientable, info.rank
+    (1, None, False, 1)
+    """
 
     vertices: int
     edges: int
@@ -43,7 +48,12 @@ class Walk:
     vertices: shape (n,); each steps to the next, and the last to the first, which isn't repeated. A walk that stands
               still has one vertex
     units:    the length, a whole number of units
-    decimals: a unit is 10**-decimals of the mesh's own unit"""
+    decimals: a unit is 10**-decimals of the mesh's own unit
+
+    >>> walk = surfbasis.Surface.from_file("meshes/torus7.off", lengths="unit").cycle()
+    >>> walk.vertices, walk.closed, walk.units, walk.length
+    (array([0, 1, 2]), array([0, 1, 2, 0]), 3, 3.0)
+    """
 
     vertices: Ints
     units: int
@@ -69,7 +79,12 @@ class Walks(Sequence[Walk]):
     """Independent closed walks, the shortest first, with their exact total length.
 
     units:    the total, a whole number of units
-    decimals: a unit is 10**-decimals of the mesh's own unit"""
+    decimals: a unit is 10**-decimals of the mesh's own unit
+
+    >>> basis = surfbasis.Surface.from_file("meshes/torus7.off", lengths="unit").basis()
+    >>> len(basis), basis.units, basis.length, basis[0].units, [len(walk) for walk in basis]
+    (2, 6, 6.0, 3, [3, 3])
+    """
 
     walks: Tuple[Walk, ...]
     units: int
@@ -102,7 +117,12 @@ class Distances:
 
     units:    shape (n,), whole numbers of units
     parents:  shape (n,), the vertex before each one on its walk from the base; -1 at the base
-    decimals: a unit is 10**-decimals of the mesh's own unit"""
+    decimals: a unit is 10**-decimals of the mesh's own unit
+
+    >>> distances = surfbasis.Surface.from_file("meshes/tet.off", decimals=3).distances(0)
+    >>> distances.units, distances.parents, distances.lengths
+    (array([   0, 1000, 1000, 1000]), array([-1,  0,  0,  0]), array([0., 1., 1., 1.]))
+    """
 
     base: int
     units: Ints
@@ -116,7 +136,11 @@ class Distances:
         return lengths
 
     def path(self, vertex: int) -> Ints:
-        """The vertices of the shortest walk from the base to a vertex, both included, shape (k,)."""
+        """The vertices of the shortest walk from the base to a vertex, both included, shape (k,).
+
+        >>> surfbasis.Surface.from_file("meshes/tet.off").distances(0).path(2)
+        array([0, 2])
+        """
         walk = [int(vertex)]
         while self.parents[walk[-1]] >= 0:
             walk.append(int(self.parents[walk[-1]]))
@@ -131,7 +155,12 @@ class Cut:
     vertices: shape (c, 3), the places of the copies; None where the surface has none
     faces:    as the surface's: shape (m, k), or a tuple of m arrays; whole numbers below c
     origins:  shape (c,), the vertex of the surface that each copy is of
-    seams:    shape (s, 2), the edges of the surface along which it was cut, in order, the lesser end first"""
+    seams:    shape (s, 2), the edges of the surface along which it was cut, in order, the lesser end first
+
+    >>> cut = surfbasis.Surface.from_file("meshes/pillow.off", lengths="unit").cut()
+    >>> cut.faces.tolist(), cut.origins.tolist(), cut.seams.tolist(), cut.vertices.shape
+    ([[0, 2, 3], [1, 3, 2]], [0, 0, 1, 2], [[0, 1], [0, 2]], (4, 3))
+    """
 
     vertices: Optional[Floats]
     faces: Polygons
@@ -147,7 +176,12 @@ class Evidence:
     faces:  shape (n,), such a set, in order; None where there is none
     edges:  shape (n, 2), a set of edges of which each face has an even number, and this walk runs an odd number an
             odd number of times, so that it doesn't bound; None where it does
-    text:   the line that surf wrote, as `confirm` reads it"""
+    text:   the line that surf wrote, as `confirm` reads it
+
+    >>> evidence = surfbasis.Surface.from_file("meshes/eight.off").classify([0, 1, 3])
+    >>> evidence.bounds, evidence.faces, evidence.edges, evidence.text
+    (True, array([1]), None, b'null 1 1\\n')
+    """
 
     bounds: bool
     faces: Optional[Ints]
@@ -159,9 +193,15 @@ class Evidence:
 class Verdict:
     """Whether a certificate or evidence is right. It is true where it is.
 
-    units: the exact total of the walks that a valid certificate is of; None for evidence, and where there is a fault
-    fault: the first fault, as surf names it; None where there is none
-    meaning: what that fault means; empty where there is none"""
+    units:   the exact total of the walks that a valid certificate is of; None for evidence, and where there is a fault
+    fault:   the first fault, as surf names it; None where there is none
+    meaning: what that fault means; empty where there is none
+
+    >>> surface = surfbasis.Surface.from_file("meshes/torus7.off", lengths="unit")
+    >>> verdict = surface.confirm([0, 1, 2], b"odd 0")
+    >>> bool(verdict), verdict.fault
+    (False, 'even')
+    """
 
     valid: bool
     units: Optional[int] = None

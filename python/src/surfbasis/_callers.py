@@ -43,7 +43,7 @@ class Library:
     """Calls the shared library, in this process.
 
     The interpreter's lock is let go during a call, so that threads run side by side. A call can't be broken off:
-    Ctrl-C waits for its end."""
+    Ctrl-C waits for its end. Raises OSError where the file can't be loaded."""
 
     def __init__(self, path: Path):
         self.path = os.path.abspath(os.fspath(path))
@@ -79,13 +79,19 @@ class Program:
     Ctrl-C ends a call at once, and so does the time limit, by TimedOut.
 
     path:    the program, such as `crates/surf/out/surf`; it isn't looked for on PATH
-    seconds: how long a call may take; None is as long as it takes"""
+    seconds: how long a call may take; None is as long as it takes
+
+    >>> surfbasis.Program("nowhere/surf", seconds=60)
+    Traceback (most recent call last):
+        ...
+    FileNotFoundError: nowhere/surf is no file
+    """
 
     def __init__(self, path: Path, seconds: Optional[float] = None):
         self.path = os.path.abspath(os.fspath(path))
         self.seconds = seconds
         if not os.path.isfile(self.path):
-            raise FileNotFoundError(f"{self.path} is no file")
+            raise FileNotFoundError(f"{os.fspath(path)} is no file")
 
     def __repr__(self) -> str:
         return f"Program({self.path!r}, seconds={self.seconds})"

@@ -20,7 +20,14 @@ class Refused(ValueError):
     advice:  what to do
 
     By name, and None or empty where this fault has none: `edge` (two vertices, the lesser first), `vertex`, `faces`,
-    `face` (the first of them), `place` (from 0, in a face, a walk or a list) and `limit`. All count from 0."""
+    `face` (the first of them), `place` (from 0, in a face, a walk or a list) and `limit`. All count from 0.
+
+    >>> try:
+    ...     surfbasis.Surface(4, [[0, 1, 2], [0, 3, 1], [0, 2, 3]]).info()
+    ... except surfbasis.Refused as refused:
+    ...     refused.status, refused.line, refused.kind, refused.edge, refused.face
+    (4, 'surface: border 1 2 0', 'border', (1, 2), 0)
+    """
 
     edge: Optional[Tuple[int, int]] = None
     vertex: Optional[int] = None

@@ -137,7 +137,14 @@ class Surface:
         lengths: Any = None,
         decimals: Optional[int] = None,
     ) -> Iterator[Surface]:
-        """All parts of what `mended` takes, each a surface, those with the most faces first."""
+        """All parts of what `mended` takes, each a surface, those with the most faces first.
+
+        >>> face = [[0, 1, 2], [0, 3, 1], [0, 2, 3], [1, 3, 2]]
+        >>> points = np.random.default_rng(0).random((8, 3))
+        >>> parts = Surface.mended_parts(points, [*face, *np.add(face, 4)])
+        >>> [part.vertex_origins.tolist() for part in parts]
+        [[0, 1, 2, 3], [4, 5, 6, 7]]
+        """
         if faces is None:
             vertices, faces = arrays_of(vertices)
         for mended in _mending.mended_parts(vertices, faces, tolerance, close):
@@ -162,6 +169,9 @@ class Surface:
         other._set_lengths(lengths, decimals)
         return other
 
+    def __repr__(self) -> str:
+        return f"<Surface: {self._count} vertices, {len(self._faces)} faces>"
+
     # ---- the mesh
 
     @property
@@ -171,6 +181,7 @@ class Surface:
 
     @property
     def vertex_count(self) -> int:
+        """How many vertices there are."""
         return self._count
 
     @property
@@ -181,7 +192,11 @@ class Surface:
     @property
     def edges(self) -> Ints:
         """Each edge once, the lesser end first, in order, shape (e, 2). Raises MeshRefused where a corner is no
-        vertex."""
+        vertex.
+
+        >>> Surface.from_file("meshes/pillow.off").edges.tolist()
+        [[0, 1], [0, 2], [1, 2]]
+        """
         if self._edges is None:
             if not self._has_vertices():
                 self.info()  # which tells the face
@@ -197,7 +212,11 @@ class Surface:
 
     @property
     def units(self) -> Ints:
-        """The exact length of each of `edges`, shape (e,), a whole number of units."""
+        """The exact length of each of `edges`, shape (e,), a whole number of units.
+
+        >>> Surface.from_file("meshes/tet.off", decimals=3).units
+        array([1000, 1000, 1000, 1414, 1414, 1414])
+        """
         if self._units is None and isinstance(self._given, str):
             self._units = frozen(np.ones(len(self.edges), np.int64))
         elif self._units is None:
@@ -206,13 +225,21 @@ class Surface:
 
     @property
     def lengths(self) -> Floats:
-        """The length of each of `edges` in the mesh's own unit, shape (e,)."""
+        """The length of each of `edges` in the mesh's own unit, shape (e,).
+
+        >>> Surface.from_file("meshes/tet.off", decimals=3).lengths
+        array([1.   , 1.   , 1.   , 1.414, 1.414, 1.414])
+        """
         lengths: Floats = self.units / 10**self.decimals
         return lengths
 
     @property
     def decimals(self) -> int:
-        """A unit is 10**-decimals of the mesh's own unit; 0 where lengths aren't measured."""
+        """A unit is 10**-decimals of the mesh's own unit; 0 where lengths aren't measured.
+
+        >>> Surface.from_file("meshes/eight.off").decimals
+        9
+        """
         if self._given is not None:
             return 0
         return self._measure()[1]
@@ -388,7 +415,7 @@ class Surface:
 
         >>> disc = Surface.from_file("meshes/eight.off").cut()
         >>> len(disc.seams), len(disc.origins), disc.faces.shape
-        (83, 838, (1512, 3))
+        (83, 840, (1512, 3))
         """
         if isinstance(how, str) and how not in ("trim", "full"):
             raise ValueError(f'a cut is "trim", "full" or through vertices, and not {how!r}')
@@ -552,7 +579,8 @@ def _vertices(given: Any) -> List[int]:
         raise ValueError(f"vertices have the shape {row.shape}, and not (n,)")
     if row.size and row.dtype.kind not in "iu":
         raise TypeError(f"vertices are of the type {row.dtype}, and not whole numbers")
-    numbers: List[int] = np.where((row < 0) | (row > NO_VERTEX), NO_VERTEX, row).tolist()
+    wide = row.astype(np.int64)
+    numbers: List[int] = np.where((wide < 0) | (wide > NO_VERTEX), NO_VERTEX, wide).tolist()
     return numbers
 
 
