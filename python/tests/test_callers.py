@@ -114,7 +114,7 @@ class Using(unittest.TestCase):
     @HAS_LIBRARY
     def test_the_interpreter_goes_on_during_a_call(self):
         surfbasis.use(surfbasis.Library(LIBRARY))
-        surface = surfbasis.Surface(torus(120, 120)[1].max() + 1, torus(120, 120)[1])
+        surface = surfbasis.Surface(140 * 140, torus(140, 140)[1])
         thread = threading.Thread(target=surface.basis)
         thread.start()
         steps = 0

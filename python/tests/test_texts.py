@@ -15,22 +15,22 @@ def fixed_value(value):
 class Lines(unittest.TestCase):
     def test_numbers_come_back(self):
         tokens = np.array([3, 0, 1, 2, 4, 999, 1000, 9999, 10000, 9_999_999, 10_000_000, 4_294_967_295], np.int64)
-        text = _texts.token_lines(tokens, np.array([4, 9, 12]))
+        text = _texts.token_lines(tokens, np.array([3, 8, 11]))
         self.assertEqual([[int(word) for word in line.split()] for line in text.splitlines()],
                          [[3, 0, 1, 2], [4, 999, 1000, 9999, 10000], [9_999_999, 10_000_000, 4_294_967_295]])
         self.assertEqual(_texts.numbers_of(text).tolist(), tokens.tolist())
 
     def test_single_spaces_and_line_ends(self):
-        text = _texts.token_lines(np.arange(6), np.array([3, 6]))
+        text = _texts.token_lines(np.arange(6), slice(2, None, 3))
         self.assertEqual((text.count(b" "), text.count(b"\n"), b"  " in text), (4, 2, False))
 
     def test_more_than_is_written_at_once(self):
         tokens = np.random.default_rng(1).integers(0, 10**6, 3 * _texts.FEW + 1)
-        text = _texts.token_lines(tokens, np.array([len(tokens)]))
+        text = _texts.token_lines(tokens, np.array([len(tokens) - 1]))
         self.assertEqual(_texts.numbers_of(text).tolist(), tokens.tolist())
 
     def test_what_is_below_0_is_no_vertex(self):
-        text = _texts.token_lines(np.array([1, -1]), np.array([2]))
+        text = _texts.token_lines(np.array([1, -1]), np.array([1]))
         self.assertEqual(_texts.numbers_of(text).tolist(), [1, 2**32 - 1])
 
     def test_none(self):

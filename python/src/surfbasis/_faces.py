@@ -92,9 +92,8 @@ class Faces:
         sizes = np.diff(self.starts)
         if self.size is not None:
             tokens = np.column_stack([sizes, self.corners.reshape(len(self), self.size)]).reshape(-1)
-        else:
-            tokens = np.insert(self.corners, self.starts[:-1], sizes)
-        return token_lines(tokens, np.cumsum(sizes + 1))
+            return token_lines(tokens, slice(self.size, None, self.size + 1))
+        return token_lines(np.insert(self.corners, self.starts[:-1], sizes), np.cumsum(sizes + 1) - 1)
 
 
 def _whole(table: Any) -> Ints:

@@ -310,7 +310,7 @@ class Surface:
         if len(wrong):
             raise LengthsRefused(5, f"lengths: range {wrong[0] + 1}")
         tokens = np.column_stack([edges, self._given.astype(np.int64)]).reshape(-1)
-        return token_lines(tokens, np.arange(1, len(edges) + 1) * 3)
+        return token_lines(tokens, slice(2, None, 3))
 
     def _length_text(self) -> bytes:
         return self._measure()[0] if self._given is None else self._given_lengths()

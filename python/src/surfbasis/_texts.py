@@ -7,6 +7,7 @@ groups of digits.
 from __future__ import annotations
 
 import functools
+from typing import Union
 
 import numpy as np
 import numpy.typing as npt
@@ -26,8 +27,8 @@ def _groups(form: bytes, count: int) -> npt.NDArray[np.uint32]:
     return np.frombuffer(b"".join(form % number for number in range(count)), np.uint32)
 
 
-def token_lines(tokens: Ints, ends: Ints) -> bytes:
-    """Whole numbers as text: those up to and without each of the ends on a line, with single spaces between.
+def token_lines(tokens: Ints, last: Union[Ints, slice]) -> bytes:
+    """Whole numbers as text, with single spaces between; the places of the last ones on their lines are told.
 
     A number below 0 stands for no vertex, and is written as one that no mesh has."""
     least, most = int(tokens.min(initial=0)), int(tokens.max(initial=0))
@@ -39,7 +40,7 @@ def token_lines(tokens: Ints, ends: Ints) -> bytes:
     for start in range(0, len(tokens), FEW):
         _fill(block[start : start + FEW], tokens[start : start + FEW])
     text = block.view(np.uint8)
-    text[ends - 1, -1] = ord("\n")
+    text[last, -1] = ord("\n")
     return text.tobytes()
 
 
