@@ -79,7 +79,7 @@ function readWalks(rows, decimals) {
 function readEvidence([word, count, ...numbers]) {
   const list = Uint32Array.from(numbers, Number);
   if (word === 'null') {
-    const text = Number(count) ? `It bounds: ${plural(count, 'face')} lie on one side of it` : 'It bounds, since each edge is run an even number of times';
+    const text = Number(count) ? `It bounds ${plural(count, 'face')}` : 'It bounds: it runs each edge an even number of times';
     return { walks: [], facts: [['class', 'null-homologous']], faces: list, text };
   }
   const walk = { edges: list, vertices: [], title: `${plural(count, 'edge')} that the walk crosses oddly` };
