@@ -153,6 +153,20 @@ def compared(calls, answers, program, room) -> int:
     return wrong
 
 
+def without_memory(wasm, room) -> int:
+    """1 where want of memory isn't told as such, or the call behind it isn't answered."""
+    (room / "tet").write_bytes((TOP / "meshes/tet.off").read_bytes())
+    calls = [{"words": "gen torus 400 400", "files": []}, {"words": "info 1", "files": ["tet"]}]
+    (room / "calls.json").write_text(json.dumps(calls))
+    # Two hundred pages are 13 MB; the first answer alone has 6.
+    status, text = said(["node", "--wasm-max-mem-pages=200", WEB / "calls.mjs", wasm, room])
+    found = [(room / f"{k}.status").read_text() for k in (0, 1)] if not status else text
+    if found == ["11", "0"] and (room / "0.text").read_bytes() == b"memory\n":
+        return 0
+    print(f"web: want of memory: {found}")
+    return 1
+
+
 def module_against_program(wasm, program, room) -> int:
     """The number of calls in which surf.wasm and the program differ."""
     folder, wrong, count = room / "calls", 0, 0
@@ -196,8 +210,10 @@ def main():
         if folder and not given.program.is_file():
             print(f"web: surf.wasm isn't compared, since {given.program} isn't here")
             given.program = None
-        if folder and given.program and shutil.which("node"):
-            wrong += module_against_program(folder / "surf.wasm", given.program, given.room)
+        if folder and shutil.which("node"):
+            wrong += without_memory(folder / "surf.wasm", given.room)
+            if given.program:
+                wrong += module_against_program(folder / "surf.wasm", given.program, given.room)
         if folder:
             wrong += in_browser(folder, given)
     return 1 if wrong else 0

@@ -6,7 +6,7 @@ import { chipOf, onTheme } from './paint.js';
 import { kleinBottle } from './samples.js';
 import { View } from './view.js';
 import { Flat } from './flat.js';
-import { Refused, Session, Stopped } from './session.js';
+import { Refused, Session, Stopped, Trapped } from './session.js';
 
 const SAMPLES = { ring: 'genus 1', eight: 'genus 2', three: 'genus 3', 'Klein bottle': 'one side' };
 
@@ -21,7 +21,7 @@ const page = {
   view: null, flat: null, session: null, samples: null,
   shape: null, name: '', counts: null, decimals: undefined, measured: undefined,
   walks: [], chosen: null, answer: null, certificate: null, done: '',
-  isBusy: false, turn: 0, ticks: null,
+  isBusy: false, turn: 0, ticks: null, ready: null,
 };
 
 const command = () => COMMANDS[$('command').value];
@@ -193,10 +193,8 @@ async function failed(fault) {
   }
   tell('No answer');
   if (fault instanceof Refused) showRefusal(fault);
-  else {
-    $('fault').append(element('p', { textContent: fault.message }));
-    await restart(); // after a trap the module isn't called again
-  }
+  else $('fault').append(element('p', { textContent: fault.message }));
+  if (fault instanceof Trapped) await restart(); // the module isn't called again
 }
 
 function showRefusal({ message }) {
@@ -222,7 +220,8 @@ async function stop() {
 }
 
 const MENDED = {
-  merge: ({ before, after }) => `${plural(before.vertices - after.vertices, 'vertex', 'vertices')} fewer: equal points were merged`,
+  merge: ({ before, after }) => (before.vertices === after.vertices ? 'No two points are equal, so nothing was merged'
+    : `${plural(before.vertices - after.vertices, 'vertex', 'vertices')} fewer: equal points were merged`),
   close: ({ holes }) => `${plural(holes, 'hole was', 'holes were')} closed, each with one face, so that no edge is added`,
   split: ({ added }) => `The surface was taken apart: ${plural(added, 'vertex', 'vertices')} more`,
   largest: ({ parts, before, after }) => `The largest of ${plural(parts, 'part')} is kept, with ${plural(after.faces, 'face')} of ${before.faces}`,
@@ -346,8 +345,7 @@ async function run(before = '') {
 async function find() {
   const list = command().asks === 'none' ? [] : vertices(), { step, words, files, isCut } = command();
   await counted();
-  const lengths = command().isOfWalk && !words('2').includes('2 ') && !files.includes('lengths') ? 'unit' : await measured();
-  const walk = await prepared(lengths, list);
+  const lengths = await measured(), walk = await prepared(lengths, list);
   tell(step);
   const keep = isCut ? 'cut' : command().confirm ? 'evidence' : undefined;
   const said = await page.session.call(words(lengths, list), files, { keep, isLong: isCut });
@@ -403,8 +401,11 @@ function save(bytes, name) {
 
 // The start.
 
+/** Opens a file of the user's, once the program stands. */
 async function take(file) {
-  if (file) await open(file.name, new Uint8Array(await file.arrayBuffer()));
+  if (!file) return;
+  await page.ready;
+  await open(file.name, new Uint8Array(await file.arrayBuffer()));
 }
 
 function listenToFiles() {
@@ -426,7 +427,6 @@ function listenToFiles() {
 }
 
 function listen() {
-  listenToFiles();
   $('form').onsubmit = (event) => {
     event.preventDefault();
     run();
@@ -463,6 +463,7 @@ function fillCommands(cutsThrough) {
   }
 }
 
+/** Unpacks the program and starts it. In the address `#plain` leaves WebGL aside, and `#do=cycle` chooses a command. */
 async function begin() {
   const asked = new URLSearchParams(location.hash.slice(1));
   page.view = new View($('canvas'), asked.has('plain'));
@@ -472,15 +473,16 @@ async function begin() {
   page.session = new Session(decoded(worker), program);
   fillCommands((await page.session.start()).cutsThrough);
   showSamples();
-  if (asked.has('do')) $('command').value = asked.get('do');
+  if (COMMANDS[asked.get('do')]) $('command').value = asked.get('do');
   listen();
   showFields();
   showButtons();
   tell('Ready');
-  if (SAMPLES[asked.get('mesh')]) await open(`${asked.get('mesh')}.off`, await sample(asked.get('mesh')));
 }
 
-begin().catch((fault) => {
+listenToFiles();
+page.ready = begin();
+page.ready.catch((fault) => {
   tell('The page can’t start');
-  $('fault').append(element('p', { textContent: `This browser can't run the page: ${fault.message}` }));
+  $('fault').append(element('p', { textContent: `This browser can't run it: ${fault.message}` }));
 });

@@ -1,7 +1,10 @@
 // surf.wasm as a function: words and files in, a status and a text out.
 
 /** There was no memory for what a call is given or says. */
-export class NoMemory extends Error {}
+class NoMemory extends Error {}
+
+/** What is said then, as the program says it where it has none itself. */
+export const wantOfMemory = () => ({ status: 11, text: new TextEncoder().encode('memory\n') });
 
 export class Program {
   /** @param {WebAssembly.Exports} exported */
@@ -54,6 +57,9 @@ export class Program {
         if (answer.text) return answer;
         room = answer.size;
       }
+    } catch (fault) {
+      if (fault instanceof NoMemory) return wantOfMemory();
+      throw fault;
     } finally {
       for (const at of taken) surf_give(at);
     }

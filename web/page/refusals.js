@@ -52,8 +52,9 @@ class Named {
   /** Vertex v, with its number in the file where that is another one. */
   vertex(v) {
     const { names, kind } = this.shape || {};
-    if (!names || kind === 'stl' || kind === 'off' || names[v] === undefined) return `vertex ${v}`;
-    return kind === 'obj' ? `vertex ${v} (v ${names[v] + 1} of the OBJ)` : `vertex ${v} (${names[v]} in the PLY)`;
+    if (!names || kind === 'stl' || names[v] === undefined) return `vertex ${v}`;
+    if (kind === 'obj') return `vertex ${v} (v ${names[v] + 1} of the OBJ)`;
+    return names[v] === v ? `vertex ${v}` : `vertex ${v} (${names[v]} of the file)`;
   }
 
   edge() {

@@ -13,6 +13,9 @@ export class Refused extends Error {
 /** The worker was ended while it was asked. */
 export class Stopped extends Error {}
 
+/** The program trapped, which it never does by its proof: the translation or the browser is at fault. */
+export class Trapped extends Error {}
+
 export class Session {
   /** @param {string} text the worker's program @param {Uint8Array} program surf.wasm */
   constructor(text, program) {
@@ -28,7 +31,7 @@ export class Session {
     this.end(new Stopped('stopped'));
     const worker = this.worker = new Worker(this.place);
     worker.onmessage = ({ data }) => this.settle(data);
-    worker.onerror = (event) => this.end(new Error(event.message || 'the worker failed'));
+    worker.onerror = (event) => this.end(new Trapped(event.message || 'the worker failed'));
     const said = await this.ask('load', { program: this.program });
     if (this.opened) {
       await this.ask('open', this.opened.file);
@@ -44,11 +47,11 @@ export class Session {
     for (const { reject } of waits) reject(fault);
   }
 
-  settle({ id, said, fault }) {
+  settle({ id, said, fault, isTrap }) {
     const wait = this.waits.get(id);
     if (!wait) return;
     this.waits.delete(id);
-    if (fault !== undefined) wait.reject(new Error(fault));
+    if (fault !== undefined) wait.reject(isTrap ? new Trapped(fault) : new Error(fault));
     else if (said.status > 1) wait.reject(new Refused(said.status, say(said.text).trim()));
     else wait.resolve(said);
   }

@@ -16,7 +16,9 @@ export function trianglesOf(mesh) {
   eachFace(mesh, (from, to, face) => {
     if (!canBeDrawn(mesh, from, to, count)) return;
     for (let k = from + 2; k < to && size < most; k++) {
-      triangles.set([mesh.corners[from], mesh.corners[k - 1], mesh.corners[k]], 3 * size);
+      triangles[3 * size] = mesh.corners[from];
+      triangles[3 * size + 1] = mesh.corners[k - 1];
+      triangles[3 * size + 2] = mesh.corners[k];
       faces[size++] = face;
     }
   });
@@ -35,13 +37,20 @@ export function longestEdge(points, edges) {
   return most;
 }
 
+/** Points for drawing, in half the room; what is no number stands at 0. */
+function drawn(points) {
+  const list = Float32Array.from(points);
+  for (let k = 0; k < list.length; k++) if (!Number.isFinite(list[k])) list[k] = 0;
+  return list;
+}
+
 /** What the page is given of a mesh. */
 export function shapeOf(mesh) {
   const count = mesh.points.length / 3, { triangles, faces } = trianglesOf(mesh);
   const good = mesh.corners.every((v) => v < count), edges = good ? matesOf(mesh).edges : new Uint32Array(0);
   const { starts, corners, names } = mesh;
   return {
-    points: Float32Array.from(mesh.points, (x) => (Number.isFinite(x) ? x : 0)),
+    points: drawn(mesh.points),
     triangles, faces, edges,
     names: names && names.slice(),
     starts: starts.slice(), corners: corners.slice(),

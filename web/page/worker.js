@@ -5,7 +5,7 @@ import { closed, largest, merged, offOf, split, tidy } from './mend.js';
 import { shapeOf } from './shape.js';
 import { readOpened } from './opened.js';
 import { unfold } from './unfold.js';
-import { NoMemory, Program } from './program.js';
+import { Program, wantOfMemory } from './program.js';
 
 const encoder = new TextEncoder();
 const state = { program: null, kind: '', data: null, mesh: null, opened: null, files: new Map() };
@@ -51,7 +51,7 @@ const mends = {
   tidy: (mesh) => ({ mesh: tidy(mesh) }),
   largest: (mesh) => largest(tidy(mesh)),
   split: (mesh) => split(tidy(mesh)),
-  close: (mesh) => closed(tidy(merged(mesh))),
+  close: (mesh) => closed(tidy(mesh)),
   loose: () => ({ mesh: tidy(readLooseOff(state.data)) }),
 };
 
@@ -119,16 +119,16 @@ const does = {
   },
 };
 
-const isWantOfMemory = (fault) => fault instanceof NoMemory
-  || (fault instanceof RangeError && /alloc|memory|length/i.test(fault.message));
+/** What a browser throws where a table has no room. */
+const isWantOfMemory = (fault) => fault instanceof RangeError && /alloc|memory|length/i.test(fault.message);
 
 async function answer({ id, what, ...given }) {
   let said;
   try {
     said = { id, said: await does[what](given) };
   } catch (fault) {
-    const refusal = { status: 11, text: encoder.encode('memory\n'), ms: 0 };
-    said = isWantOfMemory(fault) ? { id, said: refusal } : { id, fault: fault.message || String(fault) };
+    const isTrap = fault instanceof WebAssembly.RuntimeError, words = fault.message || String(fault);
+    said = isWantOfMemory(fault) ? { id, said: wantOfMemory() } : { id, fault: words, isTrap };
   }
   const lists = Object.values(said.said || {}).filter((it) => ArrayBuffer.isView(it));
   postMessage(said, [...new Set(lists.map((list) => list.buffer))]);
