@@ -213,10 +213,16 @@ async function restart() {
   await page.session.start();
 }
 
-/** Ends what runs. */
-async function stop() {
-  if (!page.isBusy) return;
-  await restart();
+/** Ends what runs, since something else is wanted; false where yet another thing was wanted meanwhile. */
+async function isFree() {
+  if (!page.isBusy) return true;
+  const turn = ++page.turn;
+  try {
+    await restart();
+  } catch (fault) {
+    if (!(fault instanceof Stopped)) throw fault;
+  }
+  return turn === page.turn;
 }
 
 const MENDED = {
@@ -261,7 +267,7 @@ function takeShape(shape) {
 
 /** Opens a file, and finds what is chosen; on a mesh that is too large for a basis, loops at a vertex. */
 async function open(name, data) {
-  if (page.isBusy) await restart();
+  if (!(await isFree())) return;
   let isOpen = false;
   page.shape = null;
   await work(async () => {
@@ -330,16 +336,16 @@ async function prepared(lengths, list) {
 
 /** Finds what is chosen. `before` is said of what was done to the mesh before. */
 async function run(before = '') {
-  if (!page.shape || page.isBusy) return;
-  if (command().asks !== 'none' && !chosenVertices().length) {
-    clearAnswer();
-    tell(command().asks === 'one' ? 'Click a vertex on the mesh' : 'Click vertices on the mesh, then press Find');
-    if (!page.counts) await work(counted);
-    return;
-  }
+  if (!page.shape || !(await isFree())) return;
   clearAnswer();
   if (before) $('note').textContent = before;
-  await work(find);
+  const isAsked = command().asks !== 'none' && !chosenVertices().length;
+  await work(isAsked ? askForVertices : find);
+}
+
+async function askForVertices() {
+  await counted();
+  tell(command().asks === 'one' ? 'Click a vertex on the mesh' : 'Click vertices on the mesh, then press Find');
 }
 
 async function find() {
@@ -441,7 +447,7 @@ function listen() {
   $('vertices').oninput = () => showMarks();
   $('take-back').onclick = () => { setVertices(chosenVertices().slice(0, -1)); clearAnswer(); };
   $('clear').onclick = () => { setVertices([]); clearAnswer(); };
-  $('stop').onclick = stop;
+  $('stop').onclick = restart;
   $('save').onclick = () => save(page.answer.bytes, page.answer.name);
   $('picture').onclick = async () => save(await page.view.picture(), 'surf.png');
   $('certify').onclick = () => work(certify);
