@@ -41,7 +41,9 @@ fn signed(alloc: Global, mesh: &HalfMesh) -> Option<CotreeDesk>
     if mesh.vertices() == 0 || mesh.edges() as u64 != cells {
         return None;
     }
-    let mut desk = loops_at(alloc, mesh, VertexId::new(0)).ok()?;
+    let Ok(mut desk) = loops_at(alloc, mesh, VertexId::new(0)) else {
+        return None;
+    };
     desk.sign(mesh);
     Some(desk.into_cotree())
 }
@@ -110,14 +112,18 @@ fn a_tree_of_faces_with_signatures(rt: HostRuntime) -> Result<(), Fail> {
 
 // The least lengths of closed walks at vertex 0 by their signatures, of which there are four.
 fn rounds(alloc: Global, mesh: &HalfMesh) -> Option<(u64, u64, u64, u64)> {
-    let cotree = signed(alloc, mesh)?;
-    if mesh.vertices() > 16_384 {
+    let cells = mesh.vertices() as u64 + mesh.faces() as u64;
+    if mesh.vertices() > 16_384 || mesh.edges() as u64 != cells {
         return None;
     }
+    let cotree = signed(alloc, mesh)?;
     let lengths = unit_lengths(alloc, mesh).ok()?;
     let mut desk = CoverDesk::make(alloc, mesh).ok()?;
     let base = VertexId::new(0);
     desk.grow(mesh, &lengths, &cotree, base);
+    if desk.sets() != 4 {
+        return None;
+    }
     Some((
         desk.distance(base, 0),
         desk.distance(base, 1),

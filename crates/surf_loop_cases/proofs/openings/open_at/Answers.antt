@@ -1,4 +1,4 @@
-use Rattle.std.proofs.Common.{◌≡◌, sym, subst}
+use Rattle.std.proofs.Common.{sym, subst}
 use Rattle.surf_tree.specs.Tables.{tree_of}
 use Rattle.surf_cotree.specs.Grown.{IsMarked}
 use Rattle.surf_cotree.specs.Tables.{CotreeTables}
