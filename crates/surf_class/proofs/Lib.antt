@@ -15,5 +15,6 @@ pub mod Checking
 pub mod Choosing
 pub mod LineSizes
 pub mod WalkLines
+pub mod PointLines
 pub mod Rereading
 pub mod Signed

@@ -77,9 +77,16 @@ pub record IsSewnBack (files : Files) (mesh : List ℕ) (later : Files) (disc : 
   pub reads_so : off_of text ≡ Ok read
 
 -- So it is, where the file holds what `cut`, full or trimmed, answered of the mesh with any lengths at any base, if
--- that can be read.
+-- that can be read ..
 abbrev pub CutsAreSewn : Type 0
 CutsAreSewn =
     (files later : Files) (mesh lengths base kind disc text : List ℕ) →
     Answer (codes "cut" ∷ mesh ∷ lengths ∷ base ∷ kind ∷ []) files 0 text [] → bytes_of later disc ≡ Some text →
     CanBeRead text → IsSewnBack files mesh later disc
+
+-- .. and what it answered through the vertices of any file.
+abbrev pub CutsThroughAreSewn : Type 0
+CutsThroughAreSewn =
+    (files later : Files) (mesh lengths base kind points disc text : List ℕ) →
+    Answer (codes "cut" ∷ mesh ∷ lengths ∷ base ∷ kind ∷ points ∷ []) files 0 text [] →
+    bytes_of later disc ≡ Some text → CanBeRead text → IsSewnBack files mesh later disc
