@@ -1,5 +1,5 @@
 //! Reads and writes that fail.
-use crate::files::pillow;
+use crate::files::{pillow, pillow_cut};
 use crate::runs::{Due, difference, difference_over, shelf_of, sink_of, status_of};
 use std::alloc::Global;
 use std::test::Fail;
@@ -83,6 +83,7 @@ fn each_read_fails_once(rt: HostRuntime) -> Result<(), Fail> {
         ("confirm torus33 W evidence", "valid null\n", 22),
         ("shortest torus33 unit row", "shortest 3 0 2 1 0\n", 19),
         ("sew cut", pillow(), 10),
+        ("cut pillow unit 0 through ends", pillow_cut(), 8),
     ] {
         let found = first_difference(alloc, line, text, calls)?;
         assert_eq!(rt; found, (calls, ""), "{line}");
