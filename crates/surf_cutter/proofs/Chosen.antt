@@ -1,5 +1,5 @@
 -- What is opened along the full cut, or the trimmed one, is the chosen opening.
-use Rattle.std.proofs.Common.{◌≡◌, ℕ, ◌+◌, not, sym, ap, ◌∙◌, List, length, Bool, true, false, Result, arith}
+use Rattle.std.proofs.Common.{◌≡◌, ℕ, ◌+◌, ◌<◌, not, sym, ap, ◌∙◌, List, length, Bool, true, false, Result, arith}
 use Rattle.std.specs.Prelude.{All, IfOk}
 use Rattle.std.proofs.lemmas.List.Elements.{All-contains}
 use Rattle.std.proofs.lemmas.Result.{IfOk-weaker}
@@ -49,17 +49,17 @@ module _ {mesh : Mesh} (surface : IsSurface mesh) (held cut : List Bool) (flags 
         record { cut = is_cut cut; is_chosen = full_cuts_are_chosen mesh tree cotree l.0 (is_cut cut) surface split l.1 (told split marks); opened = opened; in_order = order }
 
     pub trimmed_chosen : (less : List Bool) → IsTrimmedFrom mesh cut less → HasEndedBy mesh less → IsOpenedBy mesh (IsUncut mesh less) origins faces → AreInOrder mesh origins faces → IsChosenFor mesh held trimmed (record { origins = origins; faces = faces })
-    trimmed_chosen less trimmed ended opened order tree cotree split marks =
+    trimmed_chosen less steps ended opened order tree cotree split marks =
         let l = some_list surface split in
-        let t = trimmed l.0 l.0 whole (told split marks) in
+        let t = steps l.0 l.0 whole (told split marks) in
         record { cut = is_cut less; is_chosen = trimmed_cuts_are_chosen mesh tree cotree l.0 t.0 (is_cut less) surface split l.1 t.1 t.2 ended; opened = opened; in_order = order }
 
 -- the full cut opens the surface to a disc, and so does what is left of it by trimming
 pub full_opens : {mesh : Mesh} (cut : List Bool) → IsFullCut mesh cut → OpensToDisc mesh cut
-full_opens cut full = (full.0, full.0, full.1, forget whole, full.2)
+full_opens cut all = (all.0, all.0, all.1, forget whole, all.2)
 
 pub trimmed_opens : {mesh : Mesh} (cut less : List Bool) → IsFullCut mesh cut → IsTrimmedFrom mesh cut less → OpensToDisc mesh less
-trimmed_opens cut less full trimmed = let t = trimmed full.0 full.0 whole full.2 in (full.0, t.0, full.1, forget t.1, t.2)
+trimmed_opens cut less all steps = let t = steps all.0 all.0 whole all.2 in (all.0, t.0, all.1, forget t.1, t.2)
 
 -- the opening along a cut of any kind is an opening
 pub kinds_are_openings : (mesh : Mesh) (tree cotree : Tree) (kind : Kind) (origins : List ℕ) (faces : List (List ℕ)) → IsSurface mesh → AreDivided mesh tree cotree →
@@ -76,12 +76,16 @@ points_on_border mesh tree cotree trimmed origins faces surface split inside is 
 points_on_border mesh tree cotree (through points) origins faces surface split inside is v has =
     points_are_on_border mesh tree cotree (is_point points) origins faces v surface split is (All-contains (λ v. v < mesh.vertices) points v inside has) (point_found points v has)
 
--- where something is opened along a chosen cut, that is an opening
+-- what is opened along a chosen cut is an opening
+pub chosen_is_opening : {mesh : Mesh} → IsSurface mesh → {held cut : List Bool} {kind : Kind} → IsHeld mesh held → IsChosenCut mesh held kind cut →
+    (o : OpenMesh) → IsOpenedInOrder mesh cut o → IsOpening mesh o.origins o.faces
+chosen_is_opening {mesh} surface {held} {cut} {kind} is chosen o opened =
+    kinds_are_openings mesh is.0 is.1 kind o.origins o.faces surface is.2 (chosen.chosen o opened is.0 is.1 is.2 is.3)
+
 pub chosen_opening : {mesh : Mesh} → IsSurface mesh → {held cut : List Bool} {kind : Kind} → IsHeld mesh held → IsChosenCut mesh held kind cut → {E : Type 0} (r : Result OpenMesh E) → IfOk r (λ o. IsOpenedInOrder mesh cut o) → IfOk r (λ o. IsOpening mesh o.origins o.faces)
 chosen_opening {mesh} surface {held} {cut} {kind} is chosen r =
     let P : OpenMesh → Type 0 = λ o. IsOpening mesh o.origins o.faces in
-    IfOk-weaker r (λ o. IsOpenedInOrder mesh cut o) P
-    (λ o opened. kinds_are_openings mesh is.0 is.1 kind o.origins o.faces surface is.2 (chosen.chosen o opened is.0 is.1 is.2 is.3))
+    IfOk-weaker r (λ o. IsOpenedInOrder mesh cut o) P (chosen_is_opening surface is chosen)
 
 pub chosen_border : {mesh : Mesh} → IsSurface mesh → {held cut : List Bool} {kind : Kind} → IsHeld mesh held → IsChosenCut mesh held kind cut → All (λ v. v < mesh.vertices) (points_of kind) →
     (o : OpenMesh) → IsOpenedInOrder mesh cut o → HaveCopiesOnBorder kind o.origins o.faces
@@ -102,10 +106,10 @@ module _ {mesh : Mesh} (surface : IsSurface mesh) (held cut : List Bool) (flags 
   }
 
   pub trimmed_is_chosen : (less : List Bool) → length less ≡ length cut → IsTrimmedFrom mesh cut less → HasEndedBy mesh less → IsChosenCut mesh held trimmed less
-  trimmed_is_chosen less same trimmed ended = record {
+  trimmed_is_chosen less same steps ended = record {
     flags = same ∙ over.0 ∙ flags;
-    opens = trimmed_opens cut less (is_full surface held cut flags over is) trimmed;
-    chosen = λ opened in_order. trimmed_chosen surface held cut flags over less trimmed ended in_order.0 in_order.1;
+    opens = trimmed_opens cut less (is_full surface held cut flags over is) steps;
+    chosen = λ opened in_order. trimmed_chosen surface held cut flags over less steps ended in_order.0 in_order.1;
   }
 
 -- a tree that a desk has grown is one that its flags mark

@@ -6,6 +6,7 @@ use Rattle.std.proofs.lemmas.List.{get_or-set_same, get_or-set_other, length-set
 use Rattle.std.proofs.lemmas.List.Folds.{list_any_more, list_any_at}
 use Rattle.std.specs.Prelude.{Contains}
 use Rattle.std.specs.List.{list_any}
+use Rattle.surf_z2.specs.Parity.{count_below}
 use Rattle.surf_z2.specs.Space.{Chain}
 use Rattle.surf_graphs.specs.Trees.{Tree}
 use Rattle.surf_surfaces.specs.Cotree.{cotree_edges}
@@ -58,21 +59,21 @@ HasNoOtherLoose mesh marks high leaf degree =
     (v : ℕ) → v < high → v < mesh.vertices → v ≢ leaf → is_marked marks v ≡ false → get_or degree v 0 ≢ 1
 
 pub taken_none : (mesh : Mesh) (marks cut : List Bool) → IsTakenFrom mesh marks cut cut
-taken_none mesh marks cut full before = before
+taken_none mesh marks cut whole before = before
 
 pub taken_more : {mesh : Mesh} (marks first old new : List Bool) (degree less : List ℕ) (p q : ℕ) → IsTakenFrom mesh marks first old →
     AreDegrees mesh old degree → length old ≡ edge_count mesh → p < mesh.vertices → is_marked marks p ≡ false → get_or degree p 0 ≡ 1 →
     IsTakenBack mesh p q old new degree less → IsTakenFrom mesh marks first new
-taken_more {mesh} marks first old new degree less p q before are flags p_in no_mark one taken full started =
+taken_more {mesh} marks first old new degree less p q before are flags p_in no_mark one taken whole started =
     let e = taken.taken.0 in
     let is = taken.taken.1 in
     let edge : e < edge_count mesh = is.is_edge in
     let lt : e < length old = omega (arith, edge, flags) in
-    taking_back_goes_on mesh full (is_marked marks) (is_cut old) (is_cut new) e p q (before full started) edge is.is_cut is.its_ends p_in no_mark
+    taking_back_goes_on mesh whole (is_marked marks) (is_cut old) (is_cut new) e p q (before whole started) edge is.is_cut is.its_ends p_in no_mark
     (sym (are.counted p p_in) ∙ one) (λ h _. ap (λ (cut : List Bool). get_or cut h false) taken.taken.2 ∙ flag_off old e h lt)
 
 pub taken_then : {mesh : Mesh} (marks first old new : List Bool) → IsTakenFrom mesh marks first old → IsTakenFrom mesh marks old new → IsTakenFrom mesh marks first new
-taken_then marks first old new before after full started = after full (before full started)
+taken_then marks first old new before after whole started = after whole (before whole started)
 
 -- the leaf has none then, so that its other end alone may have one
 pub no_other_loose : {mesh : Mesh} (marks : List Bool) (high p q : ℕ) (old new : List Bool) (degree less : List ℕ) → HasNoOtherLoose mesh marks high p degree →
@@ -82,18 +83,22 @@ no_other_loose {mesh} marks high p q old new degree less none t v lt v_in nq no_
   | inr np ↦ λ one. none v lt v_in np no_mark (sym (t.others v np nq) ∙ one)
 ]
 
-pub begun_at : {mesh : Mesh} (marks : List Bool) (start : ℕ) (degree : List ℕ) → HasNoLooseBelow mesh marks start degree → HasNoOtherLoose mesh marks (start + 1) start degree
-begun_at marks start degree none v lt v_in differ no_mark = none v (omega (arith, lt, differ)) v_in no_mark
+pub begun_at : (mesh : Mesh) (marks : List Bool) (start : ℕ) (degree : List ℕ) → HasNoLooseBelow mesh marks start degree → HasNoOtherLoose mesh marks (start + 1) start degree
+begun_at mesh marks start degree none v lt v_in differ no_mark = none v (omega (arith, lt, differ)) v_in no_mark
 
-pub leaf_kept : {mesh : Mesh} (marks : List Bool) (high leaf : ℕ) (degree : List ℕ) → HasNoOtherLoose mesh marks high leaf degree →
+pub leaf_kept : (mesh : Mesh) (marks : List Bool) (high leaf : ℕ) (degree : List ℕ) → HasNoOtherLoose mesh marks high leaf degree →
     (is_marked marks leaf ≡ false → get_or degree leaf 0 ≢ 1) → HasNoLooseBelow mesh marks high degree
-leaf_kept marks high leaf degree none kept v lt v_in no_mark = elim (cases_eq v leaf) [
+leaf_kept mesh marks high leaf degree none kept v lt v_in no_mark = elim (cases_eq v leaf) [
   | inl i ↦ λ one. kept (subst (λ (v : ℕ). is_marked marks v ≡ false) i no_mark) (subst (λ (v : ℕ). get_or degree v 0 ≡ 1) i one)
   | inr differ ↦ none v lt v_in differ no_mark
 ]
 
 pub all_taken : {mesh : Mesh} (marks cut : List Bool) (high : ℕ) (degree : List ℕ) → AreDegrees mesh cut degree → mesh.vertices ≤ high → HasNoLooseBelow mesh marks high degree → HasMarkedEnds mesh marks cut
 all_taken marks cut high degree are all none v v_in no_mark one = none v (omega (arith, v_in, all)) v_in no_mark (are.counted v v_in ∙ one)
+
+-- how many flags there are is how many edges are cut
+pub counted_cut : (mesh : Mesh) (cut : List Bool) → length cut ≡ edge_count mesh → (n : ℕ) → n ≡ count_below (length cut) (is_cut cut) → n ≡ cut_count mesh (is_cut cut)
+counted_cut mesh cut flags n is = is ∙ ap (λ (size : ℕ). count_below size (is_cut cut)) flags
 
 -- ---- the cut through the vertices
 

@@ -5,8 +5,7 @@ ghost use Rattle.surf_surfaces.specs.Surface.{edge_count, face_count};
 ghost use Rattle.surf_cutter.specs.Kinds.{full, trimmed, through, kind_of, points_of, HaveCopiesOnBorder};
 ghost use Rattle.surf_cutter.specs.Opened.{IsHeld, IsChosenFor, IsNearFor};
 
-use crate::cutting::{choose_cut, choose_full, choose_through, choose_trimmed};
-use crate::cutting::{open_bordered, open_cut};
+use crate::cutting::{open_disc, open_full, open_through, open_trimmed};
 use crate::kind::{CutFault, CutKind};
 use crate::{OpenDisc, Opened};
 use std::alloc::Global;
@@ -26,8 +25,7 @@ pub fn cut_full(alloc: Global, mesh: &HalfMesh, cotree: &CotreeDesk) -> Result<O
 {
     mesh.law_of_surface();
     let mut flags = cotree.held().to_vec(alloc)?;
-    choose_full(mesh, &mut flags);
-    open_bordered(alloc, mesh, &flags)
+    open_full(alloc, mesh, &mut flags)
 }
 
 /// The same with the cut trimmed: while more than two edges are cut and a vertex has exactly one of
@@ -38,10 +36,8 @@ pub fn cut_trim(alloc: Global, mesh: &HalfMesh, cotree: &CotreeDesk) -> Result<O
     ensures chosen { IfOk result (λ o. IsChosenFor mesh.now cotree.now.held trimmed o) }
     ensures opening { IfOk result (λ o. IsOpening mesh.now o.origins o.faces) }
 {
-    mesh.law_of_surface();
     let mut flags = cotree.held().to_vec(alloc)?;
-    choose_trimmed(alloc, mesh, &mut flags)?;
-    open_bordered(alloc, mesh, &flags)
+    open_trimmed(alloc, mesh, &mut flags)
 }
 
 /// The surface cut through some vertices: along the largest set of the edges that the tree of the
@@ -65,11 +61,8 @@ pub fn cut_through(
     ensures near { IfErr result (λ e. e ≡ CutFault.Near →
         IsNearFor mesh.now cotree.now.held (through points.now)) }
 {
-    mesh.law_of_surface();
     let mut flags = cotree.held().to_vec(alloc)?;
-    choose_through(alloc, mesh, &mut flags, points)?;
-    let opened = open_bordered(alloc, mesh, &flags)?;
-    Ok(opened)
+    open_through(alloc, mesh, &mut flags, points)
 }
 
 /// The disc that the surface is opened to along the edges that a tree of its faces doesn't hold, as
@@ -91,9 +84,6 @@ pub fn disc_outside(
     ensures near { IfErr result (λ e. e ≡ CutFault.Near → IsNearFor mesh.now held.items
         (kind_of kind)) }
 {
-    mesh.law_of_surface();
     let mut flags = held;
-    choose_cut(alloc, mesh, &mut flags, kind)?;
-    let opened = open_cut(alloc, mesh, &flags)?;
-    Ok(opened)
+    open_disc(alloc, mesh, &mut flags, kind)
 }

@@ -1,12 +1,14 @@
 //! Cutting a surface open along edges outside a tree of its faces.
 ghost use Rattle.std.specs.Prelude.{◌≡◌, ◌<◌, false, true, length, All, IfOk, OnOk, IfErr};
 ghost use Rattle.std.specs.List.{sum_by};
+ghost use Rattle.surf_surfaces.specs.Disc.{IsOpening};
 ghost use Rattle.surf_surfaces.specs.SideNumber.{side_count};
 ghost use Rattle.surf_surfaces.specs.Surface.{edge_count};
 ghost use Rattle.surf_cutter.specs.Boundary.{OpensToDisc};
 ghost use Rattle.surf_cutter.specs.Kinds.{full, trimmed, through, kind_of, points_of};
+ghost use Rattle.surf_cutter.specs.Kinds.{HaveCopiesOnBorder};
 ghost use Rattle.surf_cutter.specs.Trimming.{IsTrimmedFrom, HasEndedBy, IsTakenTo};
-ghost use Rattle.surf_cutter.specs.Opened.{IsOpenedInOrder, IsHeld, IsNearFor};
+ghost use Rattle.surf_cutter.specs.Opened.{IsOpenedInOrder, IsHeld, IsChosenFor, IsNearFor};
 ghost use Rattle.surf_cutter.specs.Opened.{IsChosenCut, AreTurnedOver};
 
 use crate::border::boundary_along;
@@ -59,8 +61,8 @@ fn take_cut(
     Ok(())
 }
 
-/// Makes the flags of the full cut of those of a tree of the faces.
-pub(crate) fn choose_full(mesh: &HalfMesh, flags: &mut [bool])
+// Makes the flags of the full cut of those of a tree of the faces.
+fn choose_full(mesh: &HalfMesh, flags: &mut [bool])
     requires flags { length flags.old ≡ edge_count mesh.now }
     requires held { IsHeld mesh.now flags.old }
     ensures chosen { IsChosenCut mesh.now flags.old full flags.new }
@@ -69,9 +71,9 @@ pub(crate) fn choose_full(mesh: &HalfMesh, flags: &mut [bool])
     turn_over(flags);
 }
 
-/// Makes the flags of the trimmed cut of those of a tree of the faces: while more than two edges
-/// are cut and a vertex has exactly one of them, the greatest such vertex loses it.
-pub(crate) fn choose_trimmed(
+// Makes the flags of the trimmed cut of those of a tree of the faces: while more than two edges
+// are cut and a vertex has exactly one of them, the greatest such vertex loses it.
+fn choose_trimmed(
     alloc: Global,
     mesh: &HalfMesh,
     flags: &mut [bool],
@@ -86,8 +88,8 @@ pub(crate) fn choose_trimmed(
     Ok(())
 }
 
-/// Makes the flags of the cut through some vertices of those of a tree of the faces.
-pub(crate) fn choose_through(
+// Makes the flags of the cut through some vertices of those of a tree of the faces.
+fn choose_through(
     alloc: Global,
     mesh: &HalfMesh,
     flags: &mut [bool],
@@ -109,8 +111,8 @@ pub(crate) fn choose_through(
     Ok(())
 }
 
-/// Makes the flags of a cut of those of a tree of the faces.
-pub(crate) fn choose_cut(
+// Makes the flags of a cut of those of a tree of the faces.
+fn choose_cut(
     alloc: Global,
     mesh: &HalfMesh,
     flags: &mut [bool],
@@ -131,8 +133,8 @@ pub(crate) fn choose_cut(
     Ok(())
 }
 
-/// The disc that the surface is opened to along the edges with a flag.
-pub(crate) fn open_cut(alloc: Global, mesh: &HalfMesh, cut: &[bool]) -> Result<OpenDisc, NoMemory>
+// The disc that the surface is opened to along the edges with a flag.
+fn open_cut(alloc: Global, mesh: &HalfMesh, cut: &[bool]) -> Result<OpenDisc, NoMemory>
     requires flags { length cut.now ≡ edge_count mesh.now }
     requires opens { OpensToDisc mesh.now cut.now }
     ensures opened { IfOk result (λ o. IsOpenedInOrder mesh.now cut.now o) }
@@ -143,8 +145,8 @@ pub(crate) fn open_cut(alloc: Global, mesh: &HalfMesh, cut: &[bool]) -> Result<O
     Ok(OpenDisc::from_parts(origins, faces))
 }
 
-/// The same disc with its border.
-pub(crate) fn open_bordered(alloc: Global, mesh: &HalfMesh, cut: &[bool]) -> Result<Opened, NoMemory>
+// The same disc with its border.
+fn open_bordered(alloc: Global, mesh: &HalfMesh, cut: &[bool]) -> Result<Opened, NoMemory>
     requires flags { length cut.now ≡ edge_count mesh.now }
     requires opens { OpensToDisc mesh.now cut.now }
     ensures opened { IfOk result (λ o. IsOpenedInOrder mesh.now cut.now o) }
@@ -153,4 +155,82 @@ pub(crate) fn open_bordered(alloc: Global, mesh: &HalfMesh, cut: &[bool]) -> Res
     let copies = disc.origins().len() as u32;
     let boundary = boundary_along(alloc, mesh, cut, copies, disc.faces())?;
     Ok(Opened::from_parts(disc, boundary))
+}
+
+/// The surface cut along all edges that a tree of its faces doesn't hold, with its border. There is
+/// a flag for each edge that the tree holds; the flags become those of the cut.
+pub(crate) fn open_full(
+    alloc: Global,
+    mesh: &HalfMesh,
+    flags: &mut [bool],
+) -> Result<Opened, NoMemory>
+    requires flags { length flags.old ≡ edge_count mesh.now }
+    requires held { IsHeld mesh.now flags.old }
+    ensures chosen { IfOk result (λ o. IsChosenFor mesh.now flags.old full o) }
+    ensures opening { IfOk result (λ o. IsOpening mesh.now o.origins o.faces) }
+{
+    mesh.law_of_surface();
+    choose_full(mesh, flags);
+    open_bordered(alloc, mesh, flags)
+}
+
+/// The same along the trimmed cut.
+pub(crate) fn open_trimmed(
+    alloc: Global,
+    mesh: &HalfMesh,
+    flags: &mut [bool],
+) -> Result<Opened, NoMemory>
+    requires flags { length flags.old ≡ edge_count mesh.now }
+    requires held { IsHeld mesh.now flags.old }
+    ensures chosen { IfOk result (λ o. IsChosenFor mesh.now flags.old trimmed o) }
+    ensures opening { IfOk result (λ o. IsOpening mesh.now o.origins o.faces) }
+{
+    mesh.law_of_surface();
+    choose_trimmed(alloc, mesh, flags)?;
+    open_bordered(alloc, mesh, flags)
+}
+
+/// The same along the cut through some vertices.
+pub(crate) fn open_through(
+    alloc: Global,
+    mesh: &HalfMesh,
+    flags: &mut [bool],
+    points: &[VertexId],
+) -> Result<Opened, CutFault>
+    requires flags { length flags.old ≡ edge_count mesh.now }
+    requires held { IsHeld mesh.now flags.old }
+    requires points { All (λ v. v < mesh.now.vertices) points.now }
+    ensures chosen { IfOk result (λ o. IsChosenFor mesh.now flags.old (through points.now) o) }
+    ensures opening { IfOk result (λ o. IsOpening mesh.now o.origins o.faces) }
+    ensures border { IfOk result (λ o. HaveCopiesOnBorder (through points.now) o.origins
+        o.faces) }
+    ensures near { IfErr result (λ e. e ≡ CutFault.Near →
+        IsNearFor mesh.now flags.old (through points.now)) }
+{
+    mesh.law_of_surface();
+    choose_through(alloc, mesh, flags, points)?;
+    let opened = open_bordered(alloc, mesh, flags)?;
+    Ok(opened)
+}
+
+/// The disc that the surface is opened to along a cut of any kind.
+pub(crate) fn open_disc(
+    alloc: Global,
+    mesh: &HalfMesh,
+    flags: &mut [bool],
+    kind: CutKind,
+) -> Result<OpenDisc, CutFault>
+    requires flags { length flags.old ≡ edge_count mesh.now }
+    requires held { IsHeld mesh.now flags.old }
+    requires points { All (λ v. v < mesh.now.vertices) (points_of (kind_of kind)) }
+    ensures chosen { IfOk result (λ o. IsChosenFor mesh.now flags.old (kind_of kind) o) }
+    ensures opening { IfOk result (λ o. IsOpening mesh.now o.origins o.faces) }
+    ensures border { IfOk result (λ o. HaveCopiesOnBorder (kind_of kind) o.origins o.faces) }
+    ensures near { IfErr result (λ e. e ≡ CutFault.Near →
+        IsNearFor mesh.now flags.old (kind_of kind)) }
+{
+    mesh.law_of_surface();
+    choose_cut(alloc, mesh, flags, kind)?;
+    let opened = open_cut(alloc, mesh, flags)?;
+    Ok(opened)
 }
