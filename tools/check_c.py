@@ -82,6 +82,7 @@ def calls():
     yield from ((f"{word} 1 2", [mesh["torus7"], unit]) for word in ("basis", "cycle", "certify"))
     yield from ((f"{word} 1 2 0", [mesh["torus7"], unit]) for word in ("dist", "loops", "certify"))
     yield from ((f"cut 1 2 0 {kind}", [mesh["eight"], unit]) for kind in ("full", "trim"))
+    yield "cut 1 2 0 through 3", [mesh["eight"], unit, b"100 300\n"]
     yield from ((words, [mesh["tet"], walk, b"null 1 0\n"]) for words in ("class 1 2", "same 1 2 2", "confirm 1 2 3"))
     yield "shortest 1 2 3", [mesh["torus7"], unit, walk]
     yield "lengths 1 6", [mesh["eight"]]
@@ -98,6 +99,7 @@ def calls():
     yield "lengths 1 6", [mesh["tet"].replace(b"1 0 0", b"1 zero 0")]
     yield "class 1 2", [mesh["tet"], b"0 1\n"]
     yield "sew 1", [mesh["tet"]]
+    yield "cut 1 unit 0 through 2", [mesh["tet"], b"0 1\n"]
     yield "", []
 
 

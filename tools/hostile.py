@@ -47,11 +47,12 @@ LINES = {
     12: r"coordinates: (form \d+ \d+|range \d+ \d+|zero \d+ \d+|great \d+ \d+)",
     13: r"walk [12]: (empty|form \d+|not-vertex \d+|not-edge \d+|open|trailing \d+)",
     14: r"sew: (copy-form \d+|copy-count \d+ of \d+|gap \d+|line \d+ \d+|face-repeat \d+ \d+)",
+    15: r"vertices: (empty|form \d+|not-vertex \d+|trailing \d+|near)",
 }
 
 
 class Command:
-    """Words with places for files: M, L, C, W and V are replaced by the names of files of that kind."""
+    """Words with places for files: M, L, C, W, V and P are replaced by the names of files of that kind."""
 
     def __init__(self, name, *words):
         self.name, self.words = name, words
@@ -71,6 +72,7 @@ COMMANDS = [
     Command("cycle", "cycle", "M", "L"),
     Command("cut full", "cut", "M", "L", "0", "full"),
     Command("cut trim", "cut", "M", "L", "0", "trim"),
+    Command("cut through", "cut", "M", "L", "0", "through", "P"),
     Command("disc", "disc", "M"),
     Command("certify at a base", "certify", "M", "L", "0"),
     Command("certify a basis", "certify", "M", "L"),
@@ -89,7 +91,8 @@ MAKERS = [
     Command("help", "--help"),
 ]
 # What a file of each kind is made of, over the torus of 7 vertices.
-SAMPLES = {"M": "mesh", "L": "lengths", "C": "loops.cert", "B": "basis.cert", "W": "walk", "V": "walk2", "E": "evidence", "O": "open"}
+SAMPLES = {"M": "mesh", "L": "lengths", "C": "loops.cert", "B": "basis.cert", "W": "walk", "V": "walk2", "E": "evidence", "O": "open",
+           "P": "points"}
 
 
 class Program:
@@ -106,7 +109,7 @@ class Program:
         return ran.returncode, ran.stdout or b"", ran.stderr
 
 
-def fault_of(status, out, line, allowed=range(15)):
+def fault_of(status, out, line, allowed=range(16)):
     """What a run did that none may, or nothing."""
     if status is None:
         return "no end within a minute"
@@ -152,7 +155,7 @@ def files_over(program, room, mesh, lengths, walk, other):
     room.mkdir(exist_ok=True)
     files = {kind: room / name for kind, name in SAMPLES.items()}
     files["M"].write_bytes(mesh)
-    for kind, text in (("L", lengths), ("W", walk), ("V", other)):
+    for kind, text in (("L", lengths), ("W", walk), ("V", other), ("P", "6 3 # two\n")):
         files[kind].write_text(text)
     mesh, lengths, walk = (str(files[kind]) for kind in "MLW")
     for kind, words in {"C": ["certify", mesh, lengths, "0"], "B": ["certify", mesh, lengths], "E": ["class", mesh, walk],
@@ -256,7 +259,7 @@ def large_mesh_runs(program, files, room, count):
     for name in ("ring.off", "eight.off", "three.off"):
         text = (TOP / "meshes" / name).read_bytes()
         for command in COMMANDS:
-            if command.words[1] in "MO" and not {"C", "B", "E", "W"} & set(command.words):
+            if command.words[1] in "MO" and not {"C", "B", "E", "W", "P"} & set(command.words):
                 slow = command.name in ("basis", "cycle", "certify a basis")
                 jobs += [(name, text, command, number) for number in range(tenth(tenth(count)) if slow else tenth(count))]
 
@@ -322,6 +325,7 @@ def refusals(program, room):
         "pinched": "OFF\n7 8 12\n" + "0 0 0\n" * 7 + "3 0 1 2\n3 0 3 1\n3 0 2 3\n3 1 3 2\n3 0 4 5\n3 0 6 4\n3 0 5 6\n3 4 6 5\n",
         "apart": "OFF\n8 8 12\n" + "0 0 0\n" * 8 + "3 0 1 2\n3 0 3 1\n3 0 2 3\n3 1 3 2\n3 4 5 6\n3 4 7 5\n3 4 6 7\n3 5 7 6\n",
         "no-mesh": "OFF\n", "many": "OFF\n1000001 1 0\n", "no-lengths": "0 1\n", "no-cert": "\n", "no-walk": "0 1\n",
+        "no-vertex": "0 4\n", "near": "0 1\n",
     }
     for name, text in texts.items():
         (room / name).write_text(text)
@@ -341,6 +345,7 @@ def refusals(program, room):
         12: [["lengths", "pillow", "0"]],
         13: [["class", tet, "no-walk"]],
         14: [["sew", tet]],
+        15: [["cut", tet, "unit", "0", "through", name] for name in ("no-cert", "no-vertex", "near")],
     }
     (room / "pillow").write_text("OFF\n3 2 3\n0 0 0\n0 0 0\n0 1 0\n3 0 1 2\n3 0 2 1\n")
     return [(status, words) for status, words_of_it in rows.items() for words in words_of_it]
@@ -387,7 +392,8 @@ def word_runs(program, files, room):
     mesh = str(files["M"])
     for words in ([], [""], ["infos", mesh], ["info"], ["info", mesh, mesh], ["dist", mesh, "unit", "-1"], ["dist", mesh, "unit", "0x0"],
                   ["dist", mesh, "unit", "4294967296"], ["dist", mesh, "unit", "9" * 1000], ["cut", mesh, "unit", "0"],
-                  ["cut", mesh, "unit", "0", "half"], ["gen", "torus", "2", "3"], ["gen", "chain", "0", "4", "4"], ["lengths", mesh, "10"],
+                  ["cut", mesh, "unit", "0", "half"], ["cut", mesh, "unit", "0", "through"],
+                  ["cut", mesh, "unit", "0", "trim", mesh], ["gen", "torus", "2", "3"], ["gen", "chain", "0", "4", "4"], ["lengths", mesh, "10"],
                   ["try", "torus", "3", "3"], ["--help", "info"], ["x" * 100000], ["info"] * 1000):
         status, out, line = program.run(words)
         tally.add(f"{' '.join(words)[:60]}", status, fault_of(status, out, line, allowed=(2,)))
@@ -435,8 +441,10 @@ def worked_rows(program, room):
         path.write_bytes(program.run([str(word) for word in words])[1])
     rows = [["info", tet], ["loops", torus, "unit", "0"], ["cycle", torus, "unit"], ["basis", torus, "unit"],
             ["certify", chain, "unit", "0"], ["check", chain, "unit", loops], ["certify", chain, "unit"], ["check", chain, "unit", basis],
-            ["cut", torus, "unit", "0", "trim"], ["shortest", torus, "unit", "W"]]
+            ["cut", torus, "unit", "0", "trim"], ["cut", torus, "unit", "0", "through", "P"],
+            ["shortest", torus, "unit", "W"]]
     (room / "W").write_text("0 1 2 0\n")
+    (room / "P").write_text("8 5\n")
     return [("a worked row", [str(word) for word in row]) for row in rows]
 
 

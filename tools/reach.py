@@ -34,7 +34,7 @@ COMMANDS = {
     "loops": ("surf_answers.LeastLoops.GivesLoops", {"weighted", "LeastLoops"}),
     "basis": ("surf_answers.LeastBasis.GivesBasis", {"cycles", "Basis"}),
     "cycle": ("surf_answers.ShortestCycle.GivesCycle", {"cycles", "Shortest"}),
-    "cut": ("surf_answers.Cuts.GivesCut", {"weighted", "Cut"}),
+    "cut": ("surf_answers.Cuts.IsCutAt", {"cuts"}),
     "disc": ("surf_answers.Discs.JudgesDisc", {"disc"}),
     "certify M L x": ("surf_answers.Certificates.GivesLoopCert", {"weighted", "LoopCertificate"}),
     "certify M L": ("surf_answers.Certificates.GivesBasisCert", {"cycles", "BasisCertificate"}),

@@ -1,20 +1,22 @@
 -- The trees of a loop desk, and what is opened along the cut that they give.
-use Rattle.std.proofs.Common.{◌≡◌, ℕ, ◌<◌, Bool, List, [], length, get_or, sym, ap, ◌∙◌, subst}
+use Rattle.std.proofs.Common.{◌≡◌, ℕ, ◌<◌, List, [], length, get_or, refl, sym, ap, ◌∙◌, subst}
 use Rattle.std.specs.Prelude.{All}
 use Rattle.std.proofs.lemmas.List.{length-map, get_or-map, get_or_default}
 use Rattle.std.proofs.lemmas.List.Elements.{All-get_or, All-from_get_or}
 use Rattle.surf_surfaces.specs.Mesh.{Mesh, IsFace}
 use Rattle.surf_surfaces.specs.Surface.{face_at, IsSurface}
 use Rattle.surf_opening.specs.Opening.{IsOpenedBy}
-use Rattle.surf_opening.specs.ChosenCut.{AreDivided, IsChosenOpening}
-use Rattle.surf_opening.proofs.ChosenOpenings.{chosen_are_openings}
+use Rattle.surf_opening.specs.ChosenCut.{AreDivided}
 use Rattle.surf_tree.specs.Tables.{tree_of}
 use Rattle.surf_cotree.specs.Grown.{IsMarked}
 use Rattle.surf_cotree.specs.Tables.{cotree_of}
 use Rattle.surf_loops.specs.Loops.{LoopTables, IsGreedy, trees_of}
-use Rattle.surf_cutter.specs.Opened.{OpenMesh, IsHeld, IsChosenFor}
-use Rattle.surf_cutter.proofs.Chosen.{grown_is_held}
-use Rattle.surf_answers.specs.Cuts.{IsCutAt}
+use Rattle.surf_cutter.specs.Kinds.{Kind, full, trimmed, through, points_of, IsOpeningOf}
+use Rattle.surf_cutter.specs.Opened.{OpenMesh, IsHeld, IsChosenFor, IsNearFor}
+use Rattle.surf_cutter.proofs.Chosen.{grown_is_held, kinds_are_openings, points_on_border}
+use Rattle.surf_texts.specs.Cause.{outcome_of}
+use Rattle.surf_texts.specs.PointLines.{near_cause}
+use Rattle.surf_answers.specs.Cuts.{IsCutAt, IsNearAt}
 
 -- the vertex of each copy is one of the surface
 origins_inside : {mesh : Mesh} {IsUncut : ℕ → ℕ → Type 0} {origins : List ℕ} {faces : List (List ℕ)} → IsSurface mesh →
@@ -45,18 +47,34 @@ module _ (mesh : Mesh) (lengths : List ℕ) (base : ℕ) (t : LoopTables) (surfa
   pub desk_is_held : IsHeld mesh t.cotree.held
   desk_is_held = grown_is_held t.tree.flags greedy.weight (tree_of t.tree) t.cotree marked greedy.cotree
 
-  module _ (trim : Bool) (opened : OpenMesh) (chosen : IsChosenFor mesh t.cotree.held trim opened) where
-    opens : IsChosenOpening mesh (tree_of t.tree) (cotree_of t.cotree) trim opened.origins opened.faces
+  -- where the cut of a kind has fewer than two edges, it has them at the base
+  pub desk_nears : (kind : Kind) → IsNearFor mesh t.cotree.held kind → IsNearAt mesh lengths base kind (outcome_of near_cause)
+  desk_nears kind near = record {
+    trees = trees_of t;
+    chosen = greedy.chosen;
+    near = near (tree_of t.tree) (cotree_of t.cotree) divided greedy.cotree.held;
+    is = refl;
+  }
+
+  module _ (kind : Kind) (opened : OpenMesh) (chosen : IsChosenFor mesh t.cotree.held kind opened) where
+    opens : IsOpeningOf mesh (tree_of t.tree) (cotree_of t.cotree) kind opened.origins opened.faces
     opens = chosen (tree_of t.tree) (cotree_of t.cotree) divided greedy.cotree.held
 
     -- what is opened along the edges that the desk doesn't hold is the opening that is chosen at its base
-    pub desk_cuts : IsCutAt mesh lengths base trim opened.origins opened.faces
-    desk_cuts = record {
+    pub desk_cuts : All (λ v. v < mesh.vertices) (points_of kind) → IsCutAt mesh lengths base kind opened.origins opened.faces
+    desk_cuts inside = record {
       trees = trees_of t;
       chosen = greedy.chosen;
       opened = opens;
-      opening = chosen_are_openings mesh (tree_of t.tree) (cotree_of t.cotree) trim opened.origins opened.faces surface divided opens;
+      opening = kinds_are_openings mesh (tree_of t.tree) (cotree_of t.cotree) kind opened.origins opened.faces surface divided opens;
+      border = points_on_border mesh (tree_of t.tree) (cotree_of t.cotree) kind opened.origins opened.faces surface divided inside opens;
     }
 
     pub desk_origins : All (λ v. v < mesh.vertices) opened.origins
-    desk_origins = origins_inside surface opens.opened
+    desk_origins = kind_origins kind opens
+      where
+        kind_origins : (kind : Kind) → IsOpeningOf mesh (tree_of t.tree) (cotree_of t.cotree) kind opened.origins opened.faces →
+            All (λ v. v < mesh.vertices) opened.origins
+        kind_origins full is = origins_inside surface is.opened
+        kind_origins trimmed is = origins_inside surface is.opened
+        kind_origins (through points) is = origins_inside surface is.opened

@@ -7,7 +7,7 @@ ghost use Rattle.surf_answers.specs.Tells.{Concludes};
 use crate::answered::Answered;
 use std::alloc::Global;
 use surf_texts::Refused;
-use surf_words::HELP;
+use surf_words::{HELP, VERSION};
 
 fn fixed(alloc: Global, text: &str) -> Result<Answered, Refused>
     ensures { Concludes (λ end. end ≡ answers 0 text.now) result }
@@ -27,5 +27,5 @@ pub fn help(alloc: Global) -> Result<Answered, Refused>
 pub fn version(alloc: Global) -> Result<Answered, Refused>
     ensures { Concludes (λ end. end ≡ answers 0 version_text) result }
 {
-    fixed(alloc, "surf 0.1.0\n")
+    fixed(alloc, VERSION)
 }

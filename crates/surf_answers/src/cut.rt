@@ -1,25 +1,28 @@
 //! A surface cut open.
-ghost use Rattle.std.specs.Prelude.{◌≡◌, ◌<◌, ◌≤◌, All, Bool, length, IfOk};
+ghost use Rattle.std.specs.Prelude.{◌≡◌, ◌<◌, ◌≤◌, All, length, IfOk};
 ghost use Rattle.surf_surfaces.specs.Surface.{edge_count, face_count};
-ghost use Rattle.surf_cutter.specs.Opened.{OpenMesh, IsHeld, IsChosenFor};
+ghost use Rattle.surf_cutter.specs.Kinds.{Kind, kind_of, points_of};
+ghost use Rattle.surf_cutter.specs.Opened.{OpenMesh, IsHeld, IsChosenFor, IsNearFor};
 ghost use Rattle.surf_off.specs.Written.{RereadsOpened};
-ghost use Rattle.surf_answers.specs.Cuts.{CutsAt, GivesOpened, IsCutAt, cut_text, is_trimmed};
+ghost use Rattle.surf_answers.specs.Cuts.{CutsAt, GivesOpened, IsCutAt, IsNearAt, cut_text};
+ghost use Rattle.surf_texts.specs.Cause.{outcome_of};
+ghost use Rattle.surf_texts.specs.PointLines.{near_cause};
 ghost use Rattle.surf_answers.specs.Tells.{Concludes, Takes};
 ghost use Rattle.surf_text.specs.Pages.{Puts};
 
 use crate::answered::Answered;
 use std::alloc::Global;
 use surf_base::{FaceId, MAX_ANSWER, NoMemory, VertexId};
-use surf_cutter::{OpenDisc, disc_outside};
+use surf_cutter::{CutFault, CutKind, OpenDisc, disc_outside};
 use surf_lengths::Lengths;
 use surf_loops::BaseLoops;
 use surf_mesh::HalfMesh;
 use surf_off::{OffText, write_off};
 use surf_text::{Page, PageFault, Slip};
 use surf_texts::Refused;
-use surf_words::CutKind;
 
-/// A surface cut open at a base, along the full cut or the trimmed one.
+/// A surface cut open at a base, as far as the kind says. Refuses with `Near` exactly where the cut
+/// is to go through vertices and has fewer than two edges.
 pub fn disc_at(
     alloc: Global,
     mesh: &HalfMesh,
@@ -29,26 +32,20 @@ pub fn disc_at(
 ) -> Result<OpenDisc, Refused>
     requires lengths { length lengths ≡ edge_count mesh.now }
     requires base { base < mesh.now.vertices }
-    ensures tells { Takes (λ opened. opened) (CutsAt (is_trimmed kind) mesh.now lengths base)
-        result }
+    requires points { All (λ v. v < mesh.now.vertices) (points_of (kind_of kind)) }
+    ensures tells { Takes (λ opened. opened) (CutsAt (kind_of kind) mesh.now lengths base) result }
     ensures lines { IfOk result (λ opened. All (λ v. v < mesh.now.vertices) opened.origins) }
     ensures faces { IfOk result (λ opened. length opened.faces ≡ face_count mesh.now) }
 {
     let held = held_at(alloc, mesh, &lengths, base)?;
-    let opened = disc_outside(alloc, mesh, held, trims(kind))?;
+    let opened = match disc_outside(alloc, mesh, held, kind) {
+        Ok(opened) => opened,
+        Err(CutFault::Near) => return Err(Refused::Near),
+        Err(CutFault::Memory) => return Err(Refused::Memory),
+    };
     // (in their place a table of the opening would part what is free for the text)
     drop(lengths);
     Ok(opened)
-}
-
-// Whether the cut is the trimmed one.
-fn trims(kind: CutKind) -> bool
-    ensures { result ≡ is_trimmed kind }
-{
-    match kind {
-        CutKind::Full => false,
-        CutKind::Trimmed => true,
-    }
 }
 
 // The edges of the tree of the faces that is chosen at a base: what is opened along the others is
@@ -63,11 +60,13 @@ fn held_at(
     requires base { base < mesh.now.vertices }
     ensures size { IfOk result (λ held. length held.items ≡ edge_count mesh.now) }
     ensures held { IfOk result (λ held. IsHeld mesh.now held.items) }
-    ensures cuts { IfOk result (λ held. (trim : Bool) (o : OpenMesh) →
-        IsChosenFor mesh.now held.items trim o →
-        IsCutAt mesh.now lengths.now base trim o.origins o.faces) }
-    ensures origins { IfOk result (λ held. (trim : Bool) (o : OpenMesh) →
-        IsChosenFor mesh.now held.items trim o → All (λ v. v < mesh.now.vertices) o.origins) }
+    ensures cuts { IfOk result (λ held. (kind : Kind) (o : OpenMesh) →
+        All (λ v. v < mesh.now.vertices) (points_of kind) → IsChosenFor mesh.now held.items kind o
+        → IsCutAt mesh.now lengths.now base kind o.origins o.faces) }
+    ensures near { IfOk result (λ held. (kind : Kind) → IsNearFor mesh.now held.items kind →
+        IsNearAt mesh.now lengths.now base kind (outcome_of near_cause)) }
+    ensures origins { IfOk result (λ held. (kind : Kind) (o : OpenMesh) →
+        IsChosenFor mesh.now held.items kind o → All (λ v. v < mesh.now.vertices) o.origins) }
 {
     mesh.law_of_surface();
     let loops = BaseLoops::find(alloc, mesh, lengths, base)?;

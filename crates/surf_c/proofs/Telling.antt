@@ -27,7 +27,7 @@ module _ (words : List (List ℕ)) (files : Files) (status : ℕ) (text : List �
       let same : text ≡ written.0 = is ∙ (written.2 ∙ front) in
       inl (low, subst (λ (said : List ℕ). Answer words files status said []) (sym same) written.1)
 
-  by_status : 1 < status → status ≤ 14 → status ≢ 10 → (status ≡ 9 → Leads words files misses) →
+  by_status : 1 < status → status ≤ 15 → status ≢ 10 → (status ≡ 9 → Leads words files misses) →
       IsLineOf words (Some files) status text → IsSaid words files status text
   by_status high most no_write reads line = elim (cases_order status 9) [
     | inl nine ↦ inr (inr (inl (nine, reads nine, line.read nine)))
@@ -40,7 +40,7 @@ module _ (words : List (List ℕ)) (files : Files) (status : ℕ) (text : List �
   ]
 
   pub line_said : (old new : List ℕ) (faults_old faults_new : ℕ) → old ≡ [] → text ≡ new → (HasRisen faults_old faults_new → ⊥) →
-      1 < status → status ≤ 14 → status ≢ 10 → (status ≡ 9 → Leads words files misses) →
+      1 < status → status ≤ 15 → status ≢ 10 → (status ≡ 9 → Leads words files misses) →
       (line : List ℕ) × IsLineOf words (Some files) status line × PutsLine (Some old) (Some new) faults_old faults_new line →
       IsSaid words files status text
   line_said old new faults_old faults_new none is quiet high most no_write reads written = elim written.2 [

@@ -1,5 +1,5 @@
 //! Reads and writes that fail.
-use crate::files::pillow;
+use crate::files::{pillow, pillow_cut};
 use crate::runs::{Due, difference, difference_over, shelf_of, sink_of, status_of};
 use std::alloc::Global;
 use std::test::Fail;
@@ -84,6 +84,7 @@ fn each_read_fails_once(rt: HostRuntime) -> Result<(), Fail> {
         ("shortest torus33 unit row", "shortest 3 0 2 1 0\n", 19),
         ("sew cut", pillow(), 10),
         ("disc cut", "disc\nborder 4\n", 10),
+        ("cut pillow unit 0 through ends", pillow_cut(), 8),
     ] {
         let found = first_difference(alloc, line, text, calls)?;
         assert_eq!(rt; found, (calls, ""), "{line}");

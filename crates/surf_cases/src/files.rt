@@ -16,12 +16,17 @@ pub fn pillow() -> &'static str {
     PILLOW
 }
 
+/// The pillow, cut along two edges.
+pub fn pillow_cut() -> &'static str {
+    PILLOW_CUT
+}
+
 /// The coloured tetrahedron, cut in full.
 pub fn coloured_full() -> &'static str {
     COLOURED_FULL
 }
 
-const FILES: [(&str, &str); 19] = [
+const FILES: [(&str, &str); 21] = [
     ("tet", TET),
     ("coloured", COLOURED),
     ("torus33", TORUS33),
@@ -32,6 +37,8 @@ const FILES: [(&str, &str); 19] = [
     ("other", "3 4 5 3\n"),
     ("evidence", "null 1 6\n"),
     ("cut", PILLOW_CUT),
+    ("pillow", PILLOW),
+    ("ends", "1 2\n"),
     ("pinched", PINCHED),
     ("apart", APART),
     ("many", "OFF\n1000001 1 0\n"),

@@ -16,4 +16,5 @@ pub mod Choosing
 pub mod Cocycles
 pub mod LineSizes
 pub mod WalkLines
+pub mod PointLines
 pub mod Rereading

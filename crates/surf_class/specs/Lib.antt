@@ -1,5 +1,6 @@
 pub mod Gives
 pub mod Numbers
+pub mod Points
 pub mod Walks
 pub mod Seen
 pub mod Evidences

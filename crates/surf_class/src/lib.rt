@@ -14,8 +14,9 @@
 //! the least number of the sum of the signatures of the walk's steps, and the edges whose signature
 //! has it are the evidence. `check_class` stands on no search: it counts.
 //!
-//! A walk is read from a file by `read_walk`, evidence by `read_evidence`. What a text gives, or
-//! its first fault, is one definition over the list of its lines.
+//! A walk is read from a file by `read_walk`, a list of vertices by `read_points`, evidence by
+//! `read_evidence`. What a text gives, or its first fault, is one definition over the list of its
+//! lines.
 #![tactic(auto)]
 
 mod check;
@@ -27,6 +28,7 @@ mod finding;
 mod laws;
 mod numbers;
 mod parity;
+mod points;
 mod read;
 mod sides;
 mod walk;
@@ -37,6 +39,7 @@ pub use evidence::{Evidence, FaceList, PairList};
 pub use fault::{ClassFault, EvidenceFault, WalkFault};
 pub use finding::classify;
 pub use laws::law_of_reread;
+pub use points::{PointFault, read_points};
 pub use read::read_evidence;
 pub use walk::read_walk;
 pub use write::write_evidence;

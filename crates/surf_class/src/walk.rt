@@ -13,8 +13,8 @@ use surf_base::VertexId;
 use surf_mesh::{HalfMesh, Walk};
 use surf_text::{Lines, Tokens};
 
-// The least place of a number that is no vertex.
-fn first_stranger(mesh: &HalfMesh, numbers: &[u32]) -> Option<u32>
+/// The least place of a number that is no vertex.
+pub(crate) fn first_stranger(mesh: &HalfMesh, numbers: &[u32]) -> Option<u32>
     requires few { length numbers.now < 2 ^ 32 }
     ensures place { result ≡ position (λ v. nat_le mesh.now.vertices v) numbers.now }
 {
@@ -27,8 +27,8 @@ fn first_stranger(mesh: &HalfMesh, numbers: &[u32]) -> Option<u32>
     None
 }
 
-// Numbers as vertices.
-fn as_vertices(alloc: Global, numbers: &[u32]) -> Result<Vec<VertexId>, AllocError>
+/// Numbers as vertices.
+pub(crate) fn as_vertices(alloc: Global, numbers: &[u32]) -> Result<Vec<VertexId>, AllocError>
     ensures vertices { IfOk result (λ v. v.items ≡ numbers.now) }
 {
     let mut vertices = Vec::with_capacity(alloc, numbers.len())?;

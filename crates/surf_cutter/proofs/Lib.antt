@@ -11,4 +11,5 @@ pub mod OpenedBy
 pub mod PairedBorders
 pub mod Rims
 pub mod Sorted
+pub mod Takes
 pub mod Trims

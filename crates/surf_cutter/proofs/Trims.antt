@@ -73,7 +73,7 @@ leaf_edge mesh cut v edges are one =
     (k.0, k.1, ap (λ e. get_or cut e false) k.2 ∙ both.0)
 
 -- the same without one edge
-flag_off : (cut : List Bool) (e h : ℕ) → e < length cut → is_cut (set cut e false) h ≡ without (is_cut cut) e h
+pub flag_off : (cut : List Bool) (e h : ℕ) → e < length cut → is_cut (set cut e false) h ≡ without (is_cut cut) e h
 flag_off cut e h lt = elim (cases_eq h e) [
   | inl i ↦ let z : without (is_cut cut) e h ≡ false = rw (eq-eqb h e i) (Rattle.std.proofs.lemmas.Bool.and_right (get_or cut h false) false refl) in ap (λ h. get_or (set cut e false) h false) i ∙ get_or-set_same cut e false false lt ∙ sym z
   | inr ne ↦ let z : without (is_cut cut) e h ≡ get_or cut h false = rw (ne_eqb h e ne) (and_true (get_or cut h false)) in get_or-set_other cut e h false false ne ∙ sym z

@@ -7,10 +7,11 @@ use Rattle.surf_surfaces.specs.Cotree.{cotree_edges}
 use Rattle.surf_surfaces.specs.Disc.{IsDisc}
 use Rattle.surf_surfaces.specs.Mesh.{Mesh}
 use Rattle.surf_surfaces.specs.Surface.{edge_count}
-use Rattle.surf_opening.specs.ChosenCut.{AreDivided, IsChosenOpening, AreInOrder}
+use Rattle.surf_opening.specs.ChosenCut.{AreDivided, AreInOrder}
 use Rattle.surf_opening.specs.Opening.{IsOpenedBy}
 use Rattle.surf_slit.specs.Labels.{IsUncut}
 use Rattle.surf_cutter.specs.Boundary.{OpensToDisc}
+use Rattle.surf_cutter.specs.Kinds.{Kind, IsOpeningOf, IsNear}
 
 -- the vertex of each copy, and the faces with copies for corners
 pub record OpenMesh : Type 0 where
@@ -45,18 +46,23 @@ MarksCotree mesh cotree held = (e : ℕ) → e < edge_count mesh → slice_index
 abbrev pub IsHeld : Mesh → List Bool → Type 0
 IsHeld mesh held = (tree : Tree) × (cotree : Tree) × AreDivided mesh tree cotree × MarksCotree mesh cotree held
 
--- for each such pair of trees, this is the opening along the chosen cut: the trimmed one or the full one
-abbrev pub IsChosenFor : Mesh → List Bool → Bool → OpenMesh → Type 0
-IsChosenFor mesh held trim opened =
+-- for each such pair of trees, this is the opening along the cut of the kind
+abbrev pub IsChosenFor : Mesh → List Bool → Kind → OpenMesh → Type 0
+IsChosenFor mesh held kind opened =
     (tree cotree : Tree) → AreDivided mesh tree cotree → MarksCotree mesh cotree held →
-    IsChosenOpening mesh tree cotree trim opened.origins opened.faces
+    IsOpeningOf mesh tree cotree kind opened.origins opened.faces
+
+-- for each such pair of trees, the cut of the kind has fewer than two edges
+abbrev pub IsNearFor : Mesh → List Bool → Kind → Type 0
+IsNearFor mesh held kind =
+    (tree cotree : Tree) → AreDivided mesh tree cotree → MarksCotree mesh cotree held → IsNear mesh tree cotree kind
 
 -- Along the edges with a flag the surface opens to a disc, and what is opened along them is the opening along the
--- chosen cut.
-pub record IsChosenCut (mesh : Mesh) (held : List Bool) (trim : Bool) (cut : List Bool) : Type 0 where
+-- cut of the kind.
+pub record IsChosenCut (mesh : Mesh) (held : List Bool) (kind : Kind) (cut : List Bool) : Type 0 where
   pub flags : length cut ≡ edge_count mesh
   pub opens : OpensToDisc mesh cut
-  pub chosen : (opened : OpenMesh) → IsOpenedInOrder mesh cut opened → IsChosenFor mesh held trim opened
+  pub chosen : (opened : OpenMesh) → IsOpenedInOrder mesh cut opened → IsChosenFor mesh held kind opened
 
 -- each edge is marked in exactly one of the two tables
 abbrev pub AreTurnedOver : List Bool → List Bool → Type 0

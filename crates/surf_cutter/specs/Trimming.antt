@@ -9,6 +9,8 @@ use Rattle.surf_opening.specs.Laws.{TellsCut, cut_count}
 use Rattle.surf_opening.specs.ChosenCut.{cut_degree}
 use Rattle.surf_opening.specs.Named.{IsTrimmedByGreatest}
 use Rattle.surf_opening.specs.Side.{Side}
+use Rattle.surf_seams.specs.Through.{IsTakenBackTo}
+use Rattle.surf_cutter.specs.Kinds.{is_point}
 
 -- the set of the edges with a flag
 abbrev pub is_cut : List Bool → Chain
@@ -57,3 +59,38 @@ HasNoLeafFrom mesh low degree count = 2 < count → (v : ℕ) → low ≤ v → 
 abbrev pub HasEndedBy : Mesh → List Bool → Type 0
 HasEndedBy mesh cut =
     (cut_count mesh (is_cut cut) ≤ 2) ⊎ ((v : ℕ) → v < mesh.vertices → cut_degree mesh (is_cut cut) v ≢ 1)
+
+-- ---- cuts through vertices
+
+-- whether a vertex has a mark
+abbrev pub is_marked : List Bool → ℕ → Bool
+is_marked marks v = slice_index_or marks v false
+
+-- one cut comes from the other by taking back, one by one, the only edge of a vertex without a mark
+abbrev pub IsTakenFrom : Mesh → List Bool → List Bool → List Bool → Type 0
+IsTakenFrom mesh marks old new =
+    (full : Chain) → IsTakenBackTo mesh (is_marked marks) full (is_cut old) →
+    IsTakenBackTo mesh (is_marked marks) full (is_cut new)
+
+-- no vertex without a mark that is below the given one has exactly one cut edge
+abbrev pub HasNoLooseBelow : Mesh → List Bool → ℕ → List ℕ → Type 0
+HasNoLooseBelow mesh marks high degree =
+    (v : ℕ) → v < high → v < mesh.vertices → is_marked marks v ≡ false → slice_index degree v ≢ 1
+
+-- no vertex without a mark has exactly one cut edge
+abbrev pub HasMarkedEnds : Mesh → List Bool → List Bool → Type 0
+HasMarkedEnds mesh marks cut =
+    (v : ℕ) → v < mesh.vertices → is_marked marks v ≡ false → cut_degree mesh (is_cut cut) v ≢ 1
+
+-- the marks are of the vertices in the list
+pub record AreMarked (vertices : ℕ) (points : List ℕ) (marks : List Bool) : Type 0 where
+  pub size : length marks ≡ vertices
+  pub at : (v : ℕ) → v < vertices → is_marked marks v ≡ is_point points v
+
+-- What is left of a cut where the only edge of a vertex out of the list is taken back, again and again, until there is
+-- none.
+pub record IsTakenTo (mesh : Mesh) (points : List ℕ) (old new : List Bool) : Type 0 where
+  pub marks : List Bool
+  pub are : AreMarked mesh.vertices points marks
+  pub taken : IsTakenFrom mesh marks old new
+  pub ended : HasMarkedEnds mesh marks new

@@ -9,7 +9,7 @@ use std::alloc::Global;
 use std::test::Fail;
 use surf_base::{CopyId, FaceId, NoMemory, SideId, VertexId};
 use surf_cotree::CotreeDesk;
-use surf_cutter::{Opened, cut_full, cut_trim};
+use surf_cutter::{Opened, cut_full, cut_through, cut_trim};
 use surf_mesh::HalfMesh;
 use surf_samples::{Faces, pillow, projective, surface, tetrahedron, torus};
 
@@ -45,6 +45,8 @@ fn faces_of(sample: Sample) -> Faces {
 enum Cut {
     Full,
     Trimmed,
+    // Through the vertices 1 and 2.
+    Through,
 }
 
 // What an opened surface is to be.
@@ -54,6 +56,19 @@ struct Want {
     faces: &'static [(u32, u32, u32)],
     edges: u32,
     boundary: &'static [u32],
+}
+
+fn open_through(alloc: Global, mesh: &HalfMesh, cotree: &CotreeDesk) -> Result<Opened, NoMemory>
+    requires size { length cotree.now.held ≡ edge_count mesh.now }
+    requires held { IsHeld mesh.now cotree.now.held }
+{
+    if mesh.vertices() < 3 {
+        return Err(NoMemory);
+    }
+    match cut_through(alloc, mesh, cotree, &[VertexId::new(1), VertexId::new(2)]) {
+        Ok(opened) => Ok(opened),
+        Err(_) => Err(NoMemory),
+    }
 }
 
 fn open_along(
@@ -68,6 +83,7 @@ fn open_along(
     match cut {
         Cut::Full => cut_full(alloc, mesh, cotree),
         Cut::Trimmed => cut_trim(alloc, mesh, cotree),
+        Cut::Through => open_through(alloc, mesh, cotree),
     }
 }
 
@@ -240,7 +256,7 @@ fn wanted(sample: Sample, cut: Cut) -> Want {
     match (sample, cut) {
         (Sample::Pillow, _) => two_edges(),
         (Sample::Tetrahedron, Cut::Full) => star(),
-        (Sample::Tetrahedron, Cut::Trimmed) => trimmed_star(),
+        (Sample::Tetrahedron, Cut::Trimmed | Cut::Through) => trimmed_star(),
         (Sample::Projective, _) => one_loop(),
         (Sample::Torus, _) => two_loops(),
     }
@@ -252,6 +268,7 @@ fn surfaces_open_along_trees_and_loops(rt: HostRuntime) -> Result<(), Fail> {
     for (sample, cut) in [
         (Sample::Tetrahedron, Cut::Full),
         (Sample::Tetrahedron, Cut::Trimmed),
+        (Sample::Tetrahedron, Cut::Through),
         (Sample::Pillow, Cut::Full),
         (Sample::Pillow, Cut::Trimmed),
         (Sample::Projective, Cut::Trimmed),

@@ -7,6 +7,7 @@ mod CycleLaws
 mod LengthLaws
 mod MeshReads
 mod Named
+mod OneCut
 mod OneFaults
 mod OneLine
 mod Refusals

@@ -9,6 +9,8 @@ use Rattle.surf_check.specs.declared.checking.SurfaceFault.{SurfaceFault}
 use Rattle.surf_check.specs.declared.checking.SurfaceFault.TheVariants as check
 use Rattle.surf_class.specs.declared.fault.EvidenceFault.{EvidenceFault}
 use Rattle.surf_class.specs.declared.fault.EvidenceFault.TheVariants as evidence
+use Rattle.surf_class.specs.declared.points.PointFault.{PointFault}
+use Rattle.surf_class.specs.declared.points.PointFault.TheVariants as points
 use Rattle.surf_class.specs.declared.fault.WalkFault.{WalkFault}
 use Rattle.surf_class.specs.declared.fault.WalkFault.TheVariants as walking
 use Rattle.surf_geom.specs.declared.fault.GeomFault.{GeomFault}
@@ -26,6 +28,7 @@ use Rattle.surf_texts.specs.Cause.{Cause, told}
 use Rattle.surf_texts.specs.CertLines.{cert_cause}
 use Rattle.surf_texts.specs.EvidenceLines.{evidence_cause}
 use Rattle.surf_texts.specs.MeshLines.{off_cause}
+use Rattle.surf_texts.specs.PointLines.{near_cause, point_cause}
 use Rattle.surf_texts.specs.Refusals.{cause_of, geom_cause}
 use Rattle.surf_run.specs.Run.{IsDecided}
 use Rattle.surf_texts.specs.SewingLines.{copy_cause, sew_cause}
@@ -33,7 +36,7 @@ use Rattle.surf_texts.specs.SurfaceLines.{surface_cause}
 use Rattle.surf_texts.specs.WalkLines.{walk_cause, walk_told}
 use Rattle.surf_texts.specs.LengthLines.{length_cause}
 use Rattle.surf_texts.specs.declared.refusal.Refused.{Refused}
-use Rattle.surf_texts.specs.declared.refusal.Refused.TheVariants.{MeshText, Surface, Lengths, Base, Certificate, Coordinates, Copies, Sewing, Walk, Evidence, Limit, Read, Memory}
+use Rattle.surf_texts.specs.declared.refusal.Refused.TheVariants.{MeshText, Surface, Lengths, Base, Certificate, Coordinates, Copies, Sewing, Walk, Evidence, Points, Near, Limit, Read, Memory}
 use Rattle.surf_texts.specs.declared.walks.WalkFile.{WalkFile}
 use Rattle.surf_run.proofs.OneLine.{IsSaid, numbered_is_one, counted_is_one, limit_is_one, walk_is_one}
 use Rattle.surf_run.proofs.Running.{IsDue}
@@ -128,6 +131,16 @@ evidence_proper (evidence.Form line) = told_proper 8 "certificate text: form" (l
 evidence_proper (evidence.Trailing line) = told_proper 8 "certificate text: trailing" (line ∷ []) refl refl
 evidence_proper evidence.Memory = (tt, tt)
 
+pub point_proper : (fault : PointFault) → IsProper (point_cause fault)
+point_proper points.Empty = told_proper 15 "vertices: empty" [] refl refl
+point_proper (points.Form place) = told_proper 15 "vertices: form" (place ∷ []) refl refl
+point_proper (points.NotVertex place) = told_proper 15 "vertices: not-vertex" (place ∷ []) refl refl
+point_proper (points.Trailing line) = told_proper 15 "vertices: trailing" (line ∷ []) refl refl
+point_proper points.Memory = (tt, tt)
+
+pub near_proper : IsProper near_cause
+near_proper = told_proper 15 "vertices: near" [] refl refl
+
 pub refusals_are_proper : (e : Refused) → IsProper (cause_of e)
 refusals_are_proper (MeshText fault) = off_proper fault
 refusals_are_proper (Surface fault) = surface_proper fault
@@ -139,6 +152,8 @@ refusals_are_proper (Copies fault vertices) = copies_proper vertices fault
 refusals_are_proper (Sewing fault) = sew_proper fault
 refusals_are_proper (Walk file fault) = walk_proper file fault
 refusals_are_proper (Evidence fault) = evidence_proper fault
+refusals_are_proper (Points fault) = point_proper fault
+refusals_are_proper Near = near_proper
 refusals_are_proper (Limit kind) = (decided 6 refl, limit_is_one kind)
 refusals_are_proper Read = (tt, tt)
 refusals_are_proper Memory = (tt, tt)

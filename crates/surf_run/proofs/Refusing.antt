@@ -13,15 +13,21 @@ use Rattle.surf_texts.specs.Cause.{Cause, due, unread, starved, outcome_of, refu
 use Rattle.surf_texts.specs.Limits.{beyond}
 use Rattle.surf_texts.specs.MeshLines.{off_cause}
 use Rattle.surf_texts.specs.Outcome.{Outcome, answers, refuses, misses, status_of, Shows}
-use Rattle.surf_run.specs.Reading.{Reads, within_text, EndsInFault, IsSurfaceText, weighed_for, IsMeasured, HasBase, walk_named, HasWalk}
+use Rattle.surf_run.specs.Reading.{Reads, within_text, EndsInFault, IsSurfaceText, weighed_for, IsMeasured, HasBase, walk_named, HasWalk, HasKind, kind_named}
+use Rattle.surf_answers.specs.Cuts.{CutsAt}
 use Rattle.surf_answers.specs.Says.{Says}
+use Rattle.surf_cutter.specs.Kinds.{Kind, through}
+use Rattle.surf_words.specs.Words.{Extent, fully}
+use Rattle.surf_words.specs.Words.{trimmed as trimmed_words, through as through_words}
 use Rattle.surf_run.specs.Steps.{Ends, stops, goes, AtMost, and_then}
 use Rattle.surf_texts.specs.SurfaceLines.{surface_cause}
 use Rattle.surf_texts.specs.LengthLines.{length_cause}
+use Rattle.surf_class.specs.Points.{points_in}
 use Rattle.surf_class.specs.Walks.{walk_in}
+use Rattle.surf_texts.specs.PointLines.{point_cause}
 use Rattle.surf_texts.specs.WalkLines.{walk_cause}
 use Rattle.surf_texts.specs.declared.walks.WalkFile.{WalkFile}
-use Rattle.surf_run.proofs.Refusals.{off_proper, surface_proper, length_proper, walk_proper}
+use Rattle.surf_run.proofs.Refusals.{off_proper, surface_proper, length_proper, walk_proper, point_proper}
 use Rattle.surf_run.proofs.Running.{IsDue}
 
 -- where a step ends, its status is above 1
@@ -94,6 +100,21 @@ walk_refuses file name mesh files o is =
     stated (walk_named file name mesh files)
     (then_high (λ bytes. refused_by (walk_cause file) (walk_in mesh bytes)) (λ bytes. refused_high (walk_cause file) (λ fault. (walk_proper file fault).0) (walk_in mesh bytes))
     (within_text (bytes_of files name)) (within_high (bytes_of files name))) o is
+
+kind_high : (extent : Extent) (mesh : Mesh) (files : Files) → 1 < end_status (kind_named extent mesh files)
+kind_high fully mesh files = omega arith
+kind_high trimmed_words mesh files = omega arith
+kind_high (through_words name) mesh files =
+    then_high (λ bytes. and_then (λ points. Ok (through points)) (refused_by point_cause (points_in mesh bytes)))
+    (λ bytes. then_high (λ points. Ok (through points)) (λ points. omega arith) (refused_by point_cause (points_in mesh bytes))
+    (refused_high point_cause (λ fault. (point_proper fault).0) (points_in mesh bytes)))
+    (within_text (bytes_of files name)) (within_high (bytes_of files name))
+
+pub kind_refuses : (extent : Extent) (mesh : Mesh) (files : Files) → Refusing (HasKind extent mesh files)
+kind_refuses extent mesh files o is = stated (kind_named extent mesh files) (kind_high extent mesh files) o is
+
+pub cut_refuses : (kind : Kind) (mesh : Mesh) (lengths : List ℕ) (base : ℕ) → Refusing (CutsAt kind mesh lengths base)
+cut_refuses kind mesh lengths base o near = subst (λ (x : Outcome). 1 < status_of x) (sym near.is) (omega arith)
 
 -- so what ends with status 0 or 1 ends in the second step
 pub goes_on : {A : Type 0} {first : Result A Outcome → Type 0} {second : A → Outcome → Type 0} (o : Outcome) → Ends first second o → Refusing first → status_of o ≤ 1 →

@@ -19,7 +19,7 @@ use Rattle.surf_texts.specs.CertLines.{cert_cause}
 use Rattle.surf_texts.specs.SewingLines.{copy_cause, sew_cause}
 use Rattle.surf_geom.specs.Measures.{measures_in}
 use Rattle.surf_geom.specs.Texts.{lengths_text}
-use Rattle.surf_answers.specs.Cuts.{is_trimmed, cut_text}
+use Rattle.surf_answers.specs.Cuts.{cut_text}
 use Rattle.surf_answers.specs.Discs.{JudgesDisc, SaysNoDisc}
 use Rattle.surf_texts.specs.DiscLines.{no_line}
 use Rattle.surf_answers.specs.Info.{Informs}
@@ -41,7 +41,7 @@ use Rattle.surf_run.proofs.CycleLaws.{firsts_are_one}
 use Rattle.surf_run.proofs.OneFaults.{disc_faults_are_one, class_faults_are_one}
 use Rattle.surf_run.proofs.ShapeWords.{IsWellShaped, shape_is_surface, made_are_positive}
 use Rattle.surf_words.specs.declared.tasks.Task.{Task}
-use Rattle.surf_words.specs.declared.tasks.Task.TheVariants.{Distances, LeastLoops, LoopCertificate, Cut}
+use Rattle.surf_words.specs.declared.tasks.Task.TheVariants.{Distances, LeastLoops, LoopCertificate}
 use Rattle.surf_base.specs.declared.limits.LimitKind.TheVariants as limits
 use Rattle.surf_cert.specs.Written.{loop_text, basis_text}
 use Rattle.surf_validity.specs.Chosen.{chosen_cert, basis_cert_of}
@@ -52,7 +52,6 @@ use Rattle.surf_surfaces.specs.Choice.{Loop, loops_at}
 use Rattle.surf_surfaces.proofs.ShortestTreeLaws.{shortest_trees_are_one}
 use Rattle.surf_surfaces.proofs.LoopsOne.{loops_are_one}
 use Rattle.surf_lengths.proofs.Positive.{lengths_positive}
-use Rattle.surf_opening.proofs.ChosenTrees.{openings_at_are_one}
 use Rattle.surf_texts.specs.CycleTexts.{cycle_line, cycles_text}
 use Rattle.surf_texts.specs.DistanceTexts.{distances_text}
 use Rattle.surf_texts.specs.LoopTexts.{loops_text}
@@ -71,10 +70,11 @@ use Rattle.surf_answers.specs.Confirming.{JudgesEvidence}
 use Rattle.surf_texts.specs.declared.walks.WalkFile.TheVariants.{First, Second}
 use Rattle.surf_classes.proofs.ChosenWalks.{chosen_walk_is_one}
 use Rattle.surf_answers.specs.Tightening.{shortest_line, GivesShortestWalk}
-use Rattle.surf_run.specs.Commands.{Finds, OnRequest, Performs, named}
-use Rattle.surf_words.specs.Words.{Request, help, version, info, disc, cycles, weighted, makes, tries, checks, measures, sews, classes, compares, confirms, tightens}
+use Rattle.surf_run.specs.Commands.{Finds, OnRequest, Performs, named, point_file, length_file}
+use Rattle.surf_run.proofs.OneCut.{one_cut}
+use Rattle.surf_words.specs.Words.{Request, help, version, info, disc, cycles, weighted, cuts, makes, tries, checks, measures, sews, classes, compares, confirms, tightens}
 use Rattle.std.specs.List.{AllByRecursion}
-use Rattle.surf_run.proofs.StepLaws.{HasOneOutcome, IsOne, IsSettled, Same, followed, settled, steady, within, reading, measured, walked, of_surface, one_base, one_end, one_mesh_text, one_outcome, one_result, one_surface_of}
+use Rattle.surf_run.proofs.StepLaws.{HasOneOutcome, IsOne, IsSettled, Same, followed, settled, steady, within, reading, measured, walked, told_kind, of_surface, one_base, one_end, one_mesh_text, one_outcome, one_result, one_surface_of}
 
 -- ---- what is answered
 
@@ -106,23 +106,17 @@ one_judgement mesh o p (inr x) (inr y) = one_no_disc mesh o p x y
 says_same : (t u : List ℕ) (o p : Outcome) → t ≡ u → Says t o → Says u p → o ≡ p
 says_same t u o p same x y = x ∙ ap (λ s. if nat_lt 1073741824 (length s) then beyond limits.Answer else answers 0 s) same ∙ sym y
 
-one_performance : (task : Task) (read : OffParts × Mesh) (lengths : List ℕ) (base : ℕ) → IsSurface read.1 → ArePositive read.1 lengths → HasOneOutcome (Performs task read lengths base)
-one_performance Distances read lengths base surface long o p x y =
-    says_same (distances_text read.1.vertices x.tree) (distances_text read.1.vertices y.tree) o p
-    (texts_same read.1 base x.tree y.tree (shortest_trees_are_one read.1 lengths base x.tree y.tree surface long x.shortest y.shortest) x.shortest.root y.shortest.root)
+one_performance : (task : Task) (mesh : Mesh) (lengths : List ℕ) (base : ℕ) → IsSurface mesh → ArePositive mesh lengths → HasOneOutcome (Performs task mesh lengths base)
+one_performance Distances mesh lengths base surface long o p x y =
+    says_same (distances_text mesh.vertices x.tree) (distances_text mesh.vertices y.tree) o p
+    (texts_same mesh base x.tree y.tree (shortest_trees_are_one mesh lengths base x.tree y.tree surface long x.shortest y.shortest) x.shortest.root y.shortest.root)
     x.says y.says
-one_performance LeastLoops read lengths base surface long o p x y =
-    says_same (loops_text (loops_at read.1 lengths base x.found.trees)) (loops_text (loops_at read.1 lengths base y.found.trees)) o p
-    (ap loops_text (loops_are_one read.1 lengths base x.found.trees y.found.trees surface long x.found.chosen y.found.chosen)) x.says y.says
-one_performance LoopCertificate read lengths base surface long o p x y =
-    says_same (loop_text (chosen_cert read.1 x.found.trees)) (loop_text (chosen_cert read.1 y.found.trees)) o p
-    (ap loop_text (chosen_certs_are_one read.1 lengths base x.found.trees y.found.trees surface long x.found.chosen y.found.chosen)) x.says y.says
-one_performance (Cut kind) read lengths base surface long o p x y =
-    let same = openings_at_are_one read.1 lengths base x.is_cut.trees y.is_cut.trees (is_trimmed kind) x.origins y.origins x.faces y.faces surface long
-    x.is_cut.chosen y.is_cut.chosen x.is_cut.opened y.is_cut.opened in
-    says_same (cut_text read.0 x.origins x.faces) (cut_text read.0 y.origins y.faces) o p
-    (ap (λ (origins : List ℕ). cut_text read.0 origins x.faces) same.0 ∙ ap (λ (faces : List (List ℕ)). cut_text read.0 y.origins faces) same.1)
-    x.says y.says
+one_performance LeastLoops mesh lengths base surface long o p x y =
+    says_same (loops_text (loops_at mesh lengths base x.found.trees)) (loops_text (loops_at mesh lengths base y.found.trees)) o p
+    (ap loops_text (loops_are_one mesh lengths base x.found.trees y.found.trees surface long x.found.chosen y.found.chosen)) x.says y.says
+one_performance LoopCertificate mesh lengths base surface long o p x y =
+    says_same (loop_text (chosen_cert mesh x.found.trees)) (loop_text (chosen_cert mesh y.found.trees)) o p
+    (ap loop_text (chosen_certs_are_one mesh lengths base x.found.trees y.found.trees surface long x.found.chosen y.found.chosen)) x.says y.says
 
 one_finding : (task : CycleTask) (mesh : Mesh) (lengths : List ℕ) → IsSurface mesh → ArePositive mesh lengths → HasOneOutcome (Finds task mesh lengths)
 one_finding Basis mesh lengths surface long o p x y =
@@ -229,6 +223,11 @@ one_summary mesh lengths surface long o p x y =
 
 -- ---- the rows
 
+-- what is so of all files of two lists is so of those of each
+parted : (P : List ℕ → Type 0) (xs ys : List (List ℕ)) → AllByRecursion P (xs ++ ys) → AllByRecursion P xs × AllByRecursion P ys
+parted P [] ys all = (tt, all)
+parted P (x ∷ xs) ys all = let (first, second) = parted P xs ys all.1 in ((all.0, first), second)
+
 module _ (here there : Files) where
   pub rows_are_settled : (r : Option Request) → AllByRecursion (Same here there) (named r) → IsWellShaped r →
       IsSettled (OnRequest r here) (OnRequest r there)
@@ -248,7 +247,15 @@ module _ (here there : Files) where
       of_surface here there mesh same.0 (λ read is. within limits.Loops _ _
       (followed (measured here there word read.1 same.1) (λ values given.
       followed (steady (one_base base read.1)) (λ vertex _.
-      settled (one_performance task read values vertex is (lengths_positive read.1 values given.1 given.2))))))
+      settled (one_performance task read.1 values vertex is (lengths_positive read.1 values given.1 given.2))))))
+  rows_are_settled (Some (cuts extent mesh word base)) same shaped =
+      let (points, lengths) = parted (Same here there) (point_file extent) (length_file word) same.1 in
+      of_surface here there mesh same.0 (λ read is. within limits.Loops _ _
+      (followed (measured here there word read.1 lengths) (λ values given.
+      followed (steady (one_base base read.1)) (λ vertex _.
+      followed (told_kind here there extent read.1 points) (λ kind _.
+      followed (steady (one_cut read.1 values vertex is (lengths_positive read.1 values given.1 given.2) kind)) (λ opened _.
+      settled (λ o p x y. says_same (cut_text read.0 opened.origins opened.faces) (cut_text read.0 opened.origins opened.faces) o p refl x.says y.says)))))))
   rows_are_settled (Some (makes shape)) same shaped =
       let mesh = mesh_of shape in
       within limits.Vertices _ _ (within limits.Faces _ _ (settled (λ o p x y.

@@ -24,27 +24,26 @@ use Rattle.surf_sew.specs.declared.fault.SewFault.{SewFault}
 use Rattle.surf_sew.proofs.CutLaws.{opened_are_reread, copies_are_reread, opened_are_sewn, lines_are_sewn, sewn_are_reread}
 use Rattle.surf_sew.proofs.Faults.{sewn_sides}
 use Rattle.surf_sew.proofs.Limits.{limits_are_kept}
+use Rattle.surf_surfaces.specs.Disc.{IsOpening}
 use Rattle.surf_surfaces.specs.Mesh.{Mesh, IsFace}
 use Rattle.surf_surfaces.specs.SideNumber.{side_count}
 use Rattle.surf_surfaces.specs.Surface.{face_count, edge_count, loop_count, IsSurface}
 use Rattle.surf_texts.specs.Cause.{misused, refused_by}
-use Rattle.surf_answers.specs.Cuts.{GivesCut, cut_text, is_trimmed}
+use Rattle.surf_answers.specs.Cuts.{cut_text}
+use Rattle.surf_cutter.specs.Opened.{OpenMesh}
 use Rattle.surf_run.specs.Commands.{OnRequest}
 use Rattle.surf_run.specs.Leads.{Answer, Leads}
 use Rattle.surf_texts.specs.Limits.{beyond}
 use Rattle.surf_texts.specs.MeshLines.{off_cause}
 use Rattle.surf_texts.specs.SewingLines.{copy_cause, sew_cause}
-use Rattle.surf_texts.specs.Outcome.{Outcome, answers, status_of}
+use Rattle.surf_texts.specs.Outcome.{Outcome, answers, status_of, Shows}
 use Rattle.surf_run.specs.Reading.{Reads, within_text}
 use Rattle.surf_run.specs.Steps.{goes}
-use Rattle.surf_run.specs.TwoRuns.{CanBeRead, IsSewnBack, CutsAreSewn}
-use Rattle.surf_words.specs.Words.{word_number, weighted, request_of}
-use Rattle.surf_words.specs.declared.tasks.CutKind.{CutKind}
-use Rattle.surf_words.specs.declared.tasks.CutKind.TheVariants.{Full, Trimmed}
-use Rattle.surf_words.specs.declared.tasks.Task.TheVariants.{Cut}
+use Rattle.surf_run.specs.TwoRuns.{CanBeRead, IsSewnBack, CutsAreSewn, CutsThroughAreSewn}
+use Rattle.surf_words.specs.Words.{Extent, fully, trimmed, through, word_number, cuts, request_of}
 use Rattle.surf_run.proofs.CertSizes.{length_of_three, length_of_four}
 use Rattle.surf_run.proofs.MeshReads.{IsRead, mesh_texts_are_read}
-use Rattle.surf_run.proofs.Refusing.{reads_refuses, surface_refuses, limit_refuses, measured_refuses, base_refuses, goes_on, shown_low, shown_text}
+use Rattle.surf_run.proofs.Refusing.{reads_refuses, surface_refuses, limit_refuses, measured_refuses, base_refuses, kind_refuses, cut_refuses, goes_on, shown_low, shown_text}
 use Rattle.surf_answers.proofs.Saying.{says_whole}
 use Rattle.surf_run.proofs.TextLaws.{mesh_texts_are_few}
 use Rattle.surf_run.proofs.TwoRuns.{read_back, read_again}
@@ -213,7 +212,7 @@ sewn_are_faces lines copies origins mesh is =
 
 module _ (bytes : List ℕ) (read : OffParts × Mesh) (within : length bytes ≤ 268435456)
     (is_read : off_of bytes ≡ Ok read) (surface : IsSurface read.1)
-    (trim : Bool) (lengths : List ℕ) (base : ℕ) (o : Outcome) (gives : GivesCut trim read.0 read.1 lengths base o) where
+    (opened_to : OpenMesh) (is_opening : IsOpening read.1 opened_to.origins opened_to.faces) where
   abbrev parts : OffParts
   parts = read.0
 
@@ -221,10 +220,10 @@ module _ (bytes : List ℕ) (read : OffParts × Mesh) (within : length bytes ≤
   mesh = read.1
 
   abbrev origins : List ℕ
-  origins = gives.origins
+  origins = opened_to.origins
 
   abbrev faces : List (List ℕ)
-  faces = gives.faces
+  faces = opened_to.faces
 
   so : IsRead bytes read
   so = mesh_texts_are_read bytes read is_read
@@ -236,7 +235,7 @@ module _ (bytes : List ℕ) (read : OffParts × Mesh) (within : length bytes ≤
     colours = so.colours;
     is_mesh = surface.is_mesh;
     few_sides = let few = so.few_sides in omega (arith, few);
-    opening = gives.is_cut.opening;
+    opening = is_opening;
   }
 
   few : (mesh.vertices ≤ 1000000) × (face_count mesh ≤ 2000000) × (side_count mesh ≤ 6000000)
@@ -257,7 +256,7 @@ module _ (bytes : List ℕ) (read : OffParts × Mesh) (within : length bytes ≤
         let there : off_without_limits text ≡ Ok (opened_parts parts origins, opened origins faces) =
         ap off_without_limits text_is ∙ again in
         let copies : length origins ≤ 1000000 = can.few (opened_parts parts origins, opened origins faces) there in
-        let as_many : length faces ≡ face_count mesh = gives.is_cut.opening.same_faces in
+        let as_many : length faces ≡ face_count mesh = is_opening.same_faces in
         let few_faces : face_count mesh ≤ 2000000 = few.1 in
         let few_sides : side_count mesh ≤ 6000000 = few.2 in
         let sides = opened_sides in
@@ -297,54 +296,67 @@ module _ (bytes : List ℕ) (read : OffParts × Mesh) (within : length bytes ≤
           goes text (read_again later disc text held can.short)
               (goes (opened_parts parts origins, opened origins faces) read_is (goes origins copies_are (goes mesh sewn_is
               (inr (
-                gives.is_cut.opening.is_disc,
+                is_opening.is_disc,
                 goes mesh (refl, surface)
                     (record { says = says_whole sewn_back sewn_back refl sewn_short; rereads = sewn_rereads }),
               ))))),
           (refl, refl, refl),
         )
 
--- ---- the law
+-- ---- the laws
+
+-- words of no row answer nothing
+misuse_is_sewn : (files later : Files) (mesh disc text : List ℕ) (o : Outcome) → Shows o 0 text [] → o ≡ misused →
+    IsSewnBack files mesh later disc
+misuse_is_sewn files later mesh disc text o shows is =
+    absurd (let low = shown_low o text [] shows in let status = ap status_of is in omega (arith, low, status))
+
+cut_is_sewn : (files later : Files) (mesh lengths disc text : List ℕ) (o : Outcome) → Shows o 0 text [] →
+    bytes_of later disc ≡ Some text → CanBeRead text → (extent : Extent) (x : Option ℕ) →
+    OnRequest (option_map (cuts extent mesh lengths) x) files o → IsSewnBack files mesh later disc
+cut_is_sewn files later mesh lengths disc text o shows held can extent None on =
+    misuse_is_sewn files later mesh disc text o shows on
+cut_is_sewn files later mesh lengths disc text o shows held can extent (Some b) on =
+    let low = shown_low o text [] shows in
+    let (bytes, reads, on_text) = goes_on o on (reads_refuses mesh files) low in
+    let (read, is_surface, on_surface) = goes_on o on_text (surface_refuses bytes) low in
+    let (_, few, on_few) = goes_on o on_surface (limit_refuses Loops 1024 (loop_count read.1)) low in
+    let (values, measured, on_lengths) = goes_on o on_few (measured_refuses lengths read.1 files) low in
+    let (vertex, based, on_base) = goes_on o on_lengths (base_refuses b read.1) low in
+    let (kind, has, on_kind) = goes_on o on_base (kind_refuses extent read.1 files) low in
+    let (opened, is_cut, gives) = goes_on o on_kind (cut_refuses kind read.1 values vertex) low in
+    let text_is = shown_text (cut_text read.0 opened.origins opened.faces) o text gives.says shows in
+    let is_read = read_back off_cause read (off_of bytes) is_surface.0 in
+    let here = held_is files mesh bytes reads in
+    let surface : IsSurface read.1 = is_surface.1 in
+    record {
+      bytes = bytes;
+      held = here.0;
+      read = read;
+      is_read = is_read;
+      text = sewn_back bytes read here.1 is_read surface opened is_cut.opening text text_is can;
+      sews = sews_back bytes read here.1 is_read surface opened is_cut.opening text text_is can later disc held;
+      reads_so = sewn_read bytes read here.1 is_read surface opened is_cut.opening text text_is can;
+    }
 
 pub cuts_are_sewn : CutsAreSewn
 unfolding Leads request_of
 cuts_are_sewn files later mesh lengths base kind disc text (o, leads, shows) held can =
     of_kind (bytes_eq kind (codes "full")) (bytes_eq kind (codes "trim")) leads
   where
-    low : status_of o ≤ 1
-    low = shown_low o text [] shows
-
-    refuses : o ≡ misused → IsSewnBack files mesh later disc
-    refuses is = absurd (let low_status = low in let status = ap status_of is in omega (arith, low_status, status))
-
-    at : (cut : CutKind) (x : Option ℕ) → OnRequest (option_map (weighted (Cut cut) mesh lengths) x) files o →
+    of_kind : (full trim : Bool) → OnRequest (if full && true then option_map (cuts fully mesh lengths) (word_number base)
+        else (if trim && true then option_map (cuts trimmed mesh lengths) (word_number base) else None)) files o →
         IsSewnBack files mesh later disc
-    at cut None on = refuses on
-    at cut (Some b) on =
-        let (bytes, reads, on_text) = goes_on o on (reads_refuses mesh files) low in
-        let (read, is_surface, on_surface) = goes_on o on_text (surface_refuses bytes) low in
-        let (_, few, on_few) = goes_on o on_surface (limit_refuses Loops 1024 (loop_count read.1)) low in
-        let (values, measured, on_lengths) = goes_on o on_few (measured_refuses lengths read.1 files) low in
-        let (vertex, based, gives) = goes_on o on_lengths (base_refuses b read.1) low in
-        let text_is = shown_text (cut_text read.0 gives.origins gives.faces) o text gives.says shows in
-        let is_read = read_back off_cause read (off_of bytes) is_surface.0 in
-        let here = held_is files mesh bytes reads in
-        let surface : IsSurface read.1 = is_surface.1 in
-        record {
-          bytes = bytes;
-          held = here.0;
-          read = read;
-          is_read = is_read;
-          text = sewn_back bytes read here.1 is_read surface (is_trimmed cut) values vertex o gives text text_is can;
-          sews = sews_back bytes read here.1 is_read surface
-              (is_trimmed cut) values vertex o gives text text_is can later disc held;
-          reads_so = sewn_read bytes read here.1 is_read surface
-              (is_trimmed cut) values vertex o gives text text_is can;
-        }
+    of_kind true trim on = cut_is_sewn files later mesh lengths disc text o shows held can fully (word_number base) on
+    of_kind false true on = cut_is_sewn files later mesh lengths disc text o shows held can trimmed (word_number base) on
+    of_kind false false on = misuse_is_sewn files later mesh disc text o shows on
 
-    of_kind : (full trim : Bool) → OnRequest (if full && true then option_map (weighted (Cut Full) mesh lengths) (word_number base)
-        else (if trim && true then option_map (weighted (Cut Trimmed) mesh lengths) (word_number base) else None)) files o →
+pub cuts_through_are_sewn : CutsThroughAreSewn
+unfolding Leads request_of
+cuts_through_are_sewn files later mesh lengths base kind points disc text (o, leads, shows) held can =
+    of_kind (bytes_eq kind (codes "through")) leads
+  where
+    of_kind : (named : Bool) → OnRequest (if named && true then option_map (cuts (through points) mesh lengths) (word_number base) else None) files o →
         IsSewnBack files mesh later disc
-    of_kind true trim on = at Full (word_number base) on
-    of_kind false true on = at Trimmed (word_number base) on
-    of_kind false false on = refuses on
+    of_kind true on = cut_is_sewn files later mesh lengths disc text o shows held can (through points) (word_number base) on
+    of_kind false on = misuse_is_sewn files later mesh disc text o shows on

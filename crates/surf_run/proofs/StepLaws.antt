@@ -5,7 +5,7 @@ use Rattle.surf_base.specs.Outside.{Files, bytes_of}
 use Rattle.surf_texts.specs.LengthLines.{length_cause}
 use Rattle.surf_texts.specs.Outcome.{Outcome}
 use Rattle.surf_run.specs.Steps.{Ends, stops, goes, AtMost, and_then}
-use Rattle.surf_run.specs.Reading.{Reads, within_text, IsMeshText, EndsInFault, IsSurfaceOf, IsSurfaceText, weighed_for, IsMeasured, HasBase, walk_named, HasWalk, HasLengths}
+use Rattle.surf_run.specs.Reading.{Reads, within_text, IsMeshText, EndsInFault, IsSurfaceOf, IsSurfaceText, weighed_for, IsMeasured, HasBase, walk_named, HasWalk, HasKind, kind_named, HasLengths}
 use Rattle.surf_surfaces.specs.Mesh.{Mesh}
 use Rattle.surf_surfaces.specs.Surface.{edge_count, IsSurface}
 use Rattle.surf_check.proofs.FaultLaws.{fault_only}
@@ -16,7 +16,12 @@ use Rattle.surf_run.proofs.OneFaults.{surface_faults_are_one}
 use Rattle.surf_base.specs.declared.limits.LimitKind.{LimitKind}
 use Rattle.surf_texts.specs.SurfaceLines.{surface_cause}
 use Rattle.surf_texts.specs.declared.walks.WalkFile.{WalkFile}
-use Rattle.surf_run.specs.Commands.{length_file}
+use Rattle.surf_class.specs.Points.{points_in}
+use Rattle.surf_cutter.specs.Kinds.{through}
+use Rattle.surf_texts.specs.PointLines.{point_cause}
+use Rattle.surf_words.specs.Words.{Extent, fully}
+use Rattle.surf_words.specs.Words.{trimmed as trimmed_words, through as through_words}
+use Rattle.surf_run.specs.Commands.{length_file, point_file}
 use Rattle.std.specs.List.{AllByRecursion}
 use Rattle.std.specs.Str.{bytes_eq}
 use Rattle.surf_lengths.specs.Files.{lengths_in}
@@ -212,3 +217,14 @@ module _ (here there : Files) where
       (Ends (Reads mesh there) (λ bytes. Ends (IsSurfaceText bytes) next))
   of_surface mesh same rest =
       followed (reading mesh same) (λ bytes _. followed (steady (one_surface_text bytes)) (λ read is. rest read is.1))
+
+  -- how far a surface is cut, by words and a file of vertices
+  pub told_kind : (extent : Extent) (mesh : Mesh) → AllByRecursion Same (point_file extent) →
+      IsSteady (HasKind extent mesh here) (HasKind extent mesh there)
+  told_kind extent mesh same = record { same = λ r is. is ∙ kind_same extent same; one = one_result (kind_named extent mesh there) }
+    where
+      kind_same : (extent : Extent) → AllByRecursion Same (point_file extent) → kind_named extent mesh here ≡ kind_named extent mesh there
+      kind_same fully same = refl
+      kind_same trimmed_words same = refl
+      kind_same (through_words name) same =
+          ap (λ found. and_then (λ bytes. and_then (λ points. Ok (through points)) (refused_by point_cause (points_in mesh bytes))) (within_text found)) same.0

@@ -1,5 +1,5 @@
 -- The commands: what comes of each over named files, and which files it names.
-use Rattle.std.specs.Prelude.{◌≡◌, ◌*◌, ◌^◌, ℕ, List, [], ◌∷◌, Option, Some, None, if◌then◌else◌, codes}
+use Rattle.std.specs.Prelude.{◌≡◌, ◌*◌, ◌^◌, ℕ, List, [], ◌∷◌, ◌++◌, Option, Some, None, if◌then◌else◌, codes}
 use Rattle.std.specs.Str.{bytes_eq}
 use Rattle.surf_base.specs.Outside.{Files}
 use Rattle.surf_base.specs.declared.limits.LimitKind.TheVariants.{Vertices, Faces, Loops, BasisVertices}
@@ -10,12 +10,13 @@ use Rattle.surf_surfaces.specs.Mesh.{Mesh}
 use Rattle.surf_surfaces.specs.Surface.{face_count, loop_count}
 use Rattle.surf_words.specs.Shapes.{mesh_of}
 use Rattle.surf_words.specs.TaskLimits.{is_limited, vertex_limit}
-use Rattle.surf_words.specs.Words.{Request, help, version, info, disc, cycles, weighted, makes, tries, checks}
+use Rattle.surf_words.specs.Words.{Request, help, version, info, disc, cycles, weighted, cuts, makes, tries, checks}
+use Rattle.surf_words.specs.Words.{Extent, fully, trimmed, through}
 use Rattle.surf_words.specs.Words.{measures, sews, classes, compares, confirms, tightens, help_text, version_text}
 use Rattle.surf_words.specs.declared.tasks.CycleTask.{CycleTask}
 use Rattle.surf_words.specs.declared.tasks.CycleTask.TheVariants.{Basis, Shortest, BasisCertificate}
 use Rattle.surf_words.specs.declared.tasks.Task.{Task}
-use Rattle.surf_words.specs.declared.tasks.Task.TheVariants.{Distances, LeastLoops, LoopCertificate, Cut}
+use Rattle.surf_words.specs.declared.tasks.Task.TheVariants.{Distances, LeastLoops, LoopCertificate}
 use Rattle.surf_texts.specs.Cause.{misused}
 use Rattle.surf_texts.specs.Outcome.{Outcome, answers}
 use Rattle.surf_texts.specs.declared.walks.WalkFile.TheVariants.{First, Second}
@@ -23,7 +24,7 @@ use Rattle.surf_answers.specs.Certificates.{GivesBasisCert, GivesLoopCert}
 use Rattle.surf_answers.specs.Classes.{GivesClass}
 use Rattle.surf_answers.specs.Confirming.{JudgesEvidence}
 use Rattle.surf_answers.specs.Coordinates.{GivesMeasures, Measures}
-use Rattle.surf_answers.specs.Cuts.{GivesCut, is_trimmed}
+use Rattle.surf_answers.specs.Cuts.{CutsAt, GivesOpened}
 use Rattle.surf_answers.specs.Discs.{JudgesDisc}
 use Rattle.surf_answers.specs.Distances.{GivesDistances}
 use Rattle.surf_answers.specs.Info.{Informs}
@@ -35,7 +36,7 @@ use Rattle.surf_answers.specs.Summaries.{GivesSummary}
 use Rattle.surf_answers.specs.Tightening.{GivesShortestWalk}
 use Rattle.surf_answers.specs.Verdicts.{JudgesCert}
 use Rattle.surf_run.specs.Reading.{Reads, IsMeshText, IsSurfaceText, IsMeasured, HasBase, HasWalk, IsCertText}
-use Rattle.surf_run.specs.Reading.{tree_count, IsEvidenceText}
+use Rattle.surf_run.specs.Reading.{tree_count, HasKind, IsEvidenceText}
 use Rattle.surf_run.specs.Sewing.{HasOrigins, IsSewn, OnSewnMesh}
 use Rattle.surf_run.specs.Steps.{◌>>=◌, ◌>>◌, AtMost}
 
@@ -46,18 +47,10 @@ Finds Shortest mesh lengths = GivesCycle mesh lengths
 Finds BasisCertificate mesh lengths = GivesBasisCert mesh lengths
 
 -- what is done with a surface, lengths and a base
-abbrev pub Performs : Task → OffParts × Mesh → List ℕ → ℕ → Outcome → Type 0
-Performs Distances read lengths base = GivesDistances read.1 lengths base
-Performs LeastLoops read lengths base = GivesLoops read.1 lengths base
-Performs LoopCertificate read lengths base = GivesLoopCert read.1 lengths base
-Performs (Cut kind) read lengths base = GivesCut (is_trimmed kind) read.0 read.1 lengths base
-
--- The task needs the surface alone, and not the text that it was read from.
-abbrev pub IsSearch : Task → Type 0
-IsSearch Distances = Unit {0}
-IsSearch LeastLoops = Unit {0}
-IsSearch LoopCertificate = Unit {0}
-IsSearch (Cut kind) = ⊥
+abbrev pub Performs : Task → Mesh → List ℕ → ℕ → Outcome → Type 0
+Performs Distances mesh lengths base = GivesDistances mesh lengths base
+Performs LeastLoops mesh lengths base = GivesLoops mesh lengths base
+Performs LoopCertificate mesh lengths base = GivesLoopCert mesh lengths base
 
 -- the loops of a surface that a task needs, and so limits
 abbrev pub loops_for : Task → Mesh → ℕ
@@ -89,7 +82,16 @@ OnRequest (Some (weighted task mesh lengths base)) files = do
   AtMost Loops 1024 (loops_for task read.1)
   values ← IsMeasured lengths read.1 files
   vertex ← HasBase base read.1
-  Performs task read values vertex
+  Performs task read.1 values vertex
+OnRequest (Some (cuts extent mesh lengths base)) files = do
+  bytes ← Reads mesh files
+  read ← IsSurfaceText bytes
+  AtMost Loops 1024 (loop_count read.1)
+  values ← IsMeasured lengths read.1 files
+  vertex ← HasBase base read.1
+  kind ← HasKind extent read.1 files
+  opened ← CutsAt kind read.1 values vertex
+  GivesOpened read.0 opened
 OnRequest (Some (makes shape)) files = do
   AtMost Vertices 1000000 (mesh_of shape).vertices
   AtMost Faces 2000000 (face_count (mesh_of shape))
@@ -154,6 +156,12 @@ OnRequest (Some (tightens mesh lengths walk)) files = do
 abbrev pub length_file : List ℕ → List (List ℕ)
 length_file word = if bytes_eq word (codes "unit") then [] else word ∷ []
 
+-- the file of the vertices that a cut is to go through, where there is one
+abbrev pub point_file : Extent → List (List ℕ)
+point_file fully = []
+point_file trimmed = []
+point_file (through points) = points ∷ []
+
 -- the files that a request names
 abbrev pub named : Option Request → List (List ℕ)
 named None = []
@@ -163,6 +171,7 @@ named (Some (info mesh)) = mesh ∷ []
 named (Some (disc mesh)) = mesh ∷ []
 named (Some (cycles task mesh lengths)) = mesh ∷ length_file lengths
 named (Some (weighted task mesh lengths base)) = mesh ∷ length_file lengths
+named (Some (cuts extent mesh lengths base)) = mesh ∷ point_file extent ++ length_file lengths
 named (Some (makes shape)) = []
 named (Some (tries shape scatter)) = []
 named (Some (checks mesh lengths cert)) = mesh ∷ cert ∷ length_file lengths

@@ -1,4 +1,4 @@
--- What is read of files: bytes, meshes, lengths, walks, certificates and evidence.
+-- What is read of files: bytes, meshes, lengths, walks, vertices, certificates and evidence.
 use Rattle.std.specs.Prelude.{◌≡◌, ◌≢◌, ◌<◌, ◌≤◌, ◌⊎◌, ℕ, nat_lt, List, length, replicate, Option, Some, None, codes}
 use Rattle.std.specs.Prelude.{Result, Ok, Err, IfSome, if◌then◌else◌}
 use Rattle.std.specs.Str.{bytes_eq}
@@ -18,6 +18,7 @@ use Rattle.surf_cert.specs.Grammar.{parsed_cert}
 use Rattle.surf_records.specs.declared.cert.Cert.{Cert}
 use Rattle.surf_records.specs.declared.cert.Cert.TheVariants.{Loops, Basis}
 use Rattle.surf_class.specs.Evidences.{evidence_in}
+use Rattle.surf_class.specs.Points.{points_in}
 use Rattle.surf_class.specs.Walks.{walk_in}
 use Rattle.surf_texts.specs.Cause.{outcome_of, refused_by}
 use Rattle.surf_texts.specs.CertLines.{cert_cause}
@@ -26,9 +27,13 @@ use Rattle.surf_texts.specs.LengthLines.{length_cause, base_line}
 use Rattle.surf_texts.specs.Limits.{beyond}
 use Rattle.surf_texts.specs.MeshLines.{off_cause}
 use Rattle.surf_texts.specs.Outcome.{Outcome, misses, refuses}
+use Rattle.surf_texts.specs.PointLines.{point_cause}
 use Rattle.surf_texts.specs.SurfaceLines.{surface_cause}
 use Rattle.surf_texts.specs.WalkLines.{walk_cause}
 use Rattle.surf_texts.specs.declared.walks.WalkFile.{WalkFile}
+use Rattle.surf_cutter.specs.Kinds.{Kind, full, trimmed, through}
+use Rattle.surf_words.specs.Words.{Extent, fully}
+use Rattle.surf_words.specs.Words.{trimmed as trimmed_words, through as through_words}
 use Rattle.surf_run.specs.Steps.{Ends, and_then}
 
 -- the bytes of a file, unless it isn't there or has more than 268,435,456 of them
@@ -127,6 +132,29 @@ walk_named file name mesh files =
 abbrev pub HasWalk : WalkFile → List ℕ → Mesh → Files → Result (List ℕ) Outcome → Type 0
 HasWalk file name mesh files (Ok walk) = (Ok walk ≡ walk_named file name mesh files) × IsClosed mesh walk
 HasWalk file name mesh files (Err outcome) = Err outcome ≡ walk_named file name mesh files
+
+-- ---- vertices
+
+-- The bytes are the text of a file of vertices of the mesh.
+abbrev pub PointsText : Mesh → List ℕ → Result (List ℕ) Outcome → Type 0
+PointsText mesh bytes result = result ≡ refused_by point_cause (points_in mesh bytes)
+
+-- The file of a name gives vertices of the mesh.
+abbrev pub HasPoints : List ℕ → Mesh → Files → Result (List ℕ) Outcome → Type 0
+HasPoints name mesh files result =
+    result ≡ and_then (λ bytes. refused_by point_cause (points_in mesh bytes)) (within_text (bytes_of files name))
+
+-- how far a surface is cut, as the words say and a file of vertices gives
+abbrev pub kind_named : Extent → Mesh → Files → Result Kind Outcome
+kind_named fully mesh files = Ok full
+kind_named trimmed_words mesh files = Ok trimmed
+kind_named (through_words name) mesh files =
+    and_then (λ bytes. and_then (λ points. Ok (through points)) (refused_by point_cause (points_in mesh bytes)))
+    (within_text (bytes_of files name))
+
+-- A surface is to be cut so far.
+abbrev pub HasKind : Extent → Mesh → Files → Result Kind Outcome → Type 0
+HasKind extent mesh files result = result ≡ kind_named extent mesh files
 
 -- ---- certificates and evidence
 

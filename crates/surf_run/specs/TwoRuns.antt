@@ -74,10 +74,19 @@ pub record IsSewnBack (files : Files) (mesh : List ℕ) (later : Files) (disc : 
   pub sews : Answer (codes "sew" ∷ disc ∷ []) later 0 text []
   pub reads_so : off_of text ≡ Ok read
 
--- What `sew` writes, in a later run, of what `cut` wrote within the limits of a mesh text is read
+-- What `sew` writes, in a later run, of what `cut`, full or trimmed, wrote within the limits of a mesh text is read
 -- as the mesh that was cut, with its keyword, vertex lines, faces and colours.
 abbrev pub CutsAreSewn : Type 0
 CutsAreSewn =
     (files later : Files) (mesh lengths base kind disc text : List ℕ) →
     Answer (codes "cut" ∷ mesh ∷ lengths ∷ base ∷ kind ∷ []) files 0 text [] → bytes_of later disc ≡ Some text →
     CanBeRead text → IsSewnBack files mesh later disc
+
+-- What `sew` writes, in a later run, of what `cut` through the vertices of a file wrote within the
+-- limits of a mesh text is read as the mesh that was cut, with its keyword, vertex lines, faces and
+-- colours.
+abbrev pub CutsThroughAreSewn : Type 0
+CutsThroughAreSewn =
+    (files later : Files) (mesh lengths base kind points disc text : List ℕ) →
+    Answer (codes "cut" ∷ mesh ∷ lengths ∷ base ∷ kind ∷ points ∷ []) files 0 text [] →
+    bytes_of later disc ≡ Some text → CanBeRead text → IsSewnBack files mesh later disc

@@ -23,6 +23,7 @@ mod trial;
 use crate::commands::check::checked;
 use crate::commands::class::{classify, compare};
 use crate::commands::confirmation::confirm;
+use crate::commands::cut::cut_open;
 use crate::commands::cycles::find_cycles;
 use crate::commands::disc::test_disc;
 use crate::commands::generation::generate;
@@ -69,6 +70,12 @@ pub(crate) fn answer<S: Shelf>(
             lengths,
             base,
         } => weighted(alloc, shelf, task, mesh, lengths, base),
+        Command::Cut {
+            extent,
+            mesh,
+            lengths,
+            base,
+        } => cut_open(alloc, shelf, extent, mesh, lengths, base),
         Command::Generate { shape } => generate(alloc, shape),
         Command::Try { shape, scatter } => tried(alloc, shape, scatter),
         Command::Check {

@@ -1,7 +1,8 @@
 //! Laws on what the program answers.
 ghost use Rattle.surf_run.specs.Named.{AnswersDependOnNamedFiles};
 ghost use Rattle.surf_run.specs.OneAnswer.{AnswersAreOne, OutcomesAreOne};
-ghost use Rattle.surf_run.specs.TwoRuns.{CertifiedBasesPass, CertifiedLoopsPass, ClassesAreConfirmed, CutsAreSewn};
+ghost use Rattle.surf_run.specs.TwoRuns.{CertifiedBasesPass, CertifiedLoopsPass, ClassesAreConfirmed};
+ghost use Rattle.surf_run.specs.TwoRuns.{CutsAreSewn, CutsThroughAreSewn};
 
 /// What comes of words depends on what the files hold that they name, and on no other file.
 pub fn law_of_named_files()
@@ -23,4 +24,5 @@ pub fn law_of_two_runs()
     ensures bases { CertifiedBasesPass }
     ensures classes { ClassesAreConfirmed }
     ensures cuts { CutsAreSewn }
+    ensures cuts_through { CutsThroughAreSewn }
 {}

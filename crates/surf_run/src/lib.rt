@@ -5,6 +5,7 @@ mod commands;
 mod laws;
 mod limits;
 mod made;
+mod points;
 mod reading;
 mod top;
 mod walks;

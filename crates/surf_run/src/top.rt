@@ -80,7 +80,7 @@ pub fn run<S: Shelf, O: Sink, D: Sink>(
     ensures reached { result ≡ 9 → NamesFile (request_of (texts words.now)) }
     ensures read { result ≡ 9 → HasRisen (S.faults shelf.old) (S.faults shelf.new)
         ⊎ IsTold (S.holds shelf.old) (λ files. Leads (texts words.now) files misses) }
-    ensures statuses { result ≤ 14 }
+    ensures statuses { result ≤ 15 }
 
     // Where nothing failed, the words and the files decide; where the words name no file, the words
     // alone.

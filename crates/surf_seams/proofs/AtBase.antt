@@ -18,7 +18,7 @@ full_cuts_start mesh tree cotree points cut split same =
     whole cut (λ e h. same e h ∙ sym (full_is mesh tree cotree split e h))
 
 -- a cut through the points, of a set with the same edges
-through_same : {mesh : Mesh} {full other : Chain} {points : ℕ → Bool} {cut : Chain} → SameEdges mesh full other →
+pub through_same : {mesh : Mesh} {full other : Chain} {points : ℕ → Bool} {cut : Chain} → SameEdges mesh full other →
     IsCutThrough mesh full points cut → IsCutThrough mesh other points cut
 through_same same through = record {
   within = λ e h held. sym (same e h) ∙ through.within e h held;
@@ -26,7 +26,7 @@ through_same same through = record {
   largest = λ some within ends_in. through.largest some (λ e h held. same e h ∙ within e h held) ends_in;
 }
 
-same_full : (mesh : Mesh) (lengths : List ℕ) (base : ℕ) (a b : Trees) → IsSurface mesh → ArePositive mesh lengths →
+pub same_full : (mesh : Mesh) (lengths : List ℕ) (base : ℕ) (a b : Trees) → IsSurface mesh → ArePositive mesh lengths →
     AreChosenAt mesh lengths base a → AreChosenAt mesh lengths base b →
     SameEdges mesh (full_cut mesh b.tree b.cotree) (full_cut mesh a.tree a.cotree)
 same_full mesh lengths base a b surface positive x y e h = sym

@@ -10,6 +10,7 @@ pub mod Limits
 pub mod LoopTexts
 pub mod MeshLines
 pub mod Outcome
+pub mod PointLines
 pub mod Refusals
 pub mod SewingLines
 pub mod SummaryTexts

@@ -13,12 +13,13 @@ use Rattle.surf_texts.specs.WalkLines.{walk_cause}
 use Rattle.surf_texts.specs.Limits.{beyond}
 use Rattle.surf_texts.specs.MeshLines.{off_cause}
 use Rattle.surf_texts.specs.Outcome.{refuses}
+use Rattle.surf_texts.specs.PointLines.{near_cause, point_cause}
 use Rattle.surf_texts.specs.SurfaceLines.{surface_cause}
 use Rattle.surf_texts.specs.LengthLines.{length_cause, base_line}
 use Rattle.surf_texts.specs.declared.refusal.Refused.{Refused}
 use Rattle.surf_texts.specs.declared.refusal.Refused.TheVariants.{MeshText, Surface, Lengths, Base, Certificate}
 use Rattle.surf_texts.specs.declared.refusal.Refused.TheVariants.{Coordinates, Copies, Sewing, Walk, Evidence, Limit}
-use Rattle.surf_texts.specs.declared.refusal.Refused.TheVariants.{Read, Memory}
+use Rattle.surf_texts.specs.declared.refusal.Refused.TheVariants.{Points, Near, Read, Memory}
 
 -- the cause that a fault of coordinates is
 abbrev pub geom_cause : GeomFault → Cause
@@ -35,6 +36,8 @@ cause_of (Copies fault vertices) = copy_cause vertices fault
 cause_of (Sewing fault) = sew_cause fault
 cause_of (Walk file fault) = walk_cause file fault
 cause_of (Evidence fault) = evidence_cause fault
+cause_of (Points fault) = point_cause fault
+cause_of Near = near_cause
 cause_of (Limit kind) = due (beyond kind)
 cause_of Read = unread
 cause_of Memory = starved

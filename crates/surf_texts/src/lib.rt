@@ -14,6 +14,7 @@ mod lines;
 mod loops;
 mod meshes;
 mod numbers;
+mod points;
 mod refusal;
 mod sewing;
 mod summaries;

@@ -3,20 +3,21 @@ ghost use Rattle.std.specs.Prelude.{◌≡◌, IfOk, string_bytes};
 ghost use Rattle.surf_texts.specs.Cause.{line_of, status_of_cause};
 ghost use Rattle.surf_texts.specs.Refusals.{cause_of, of_page};
 ghost use Rattle.surf_texts.specs.declared.refusal.Refused.TheVariants.{MeshText, Surface, Lengths, Certificate};
-ghost use Rattle.surf_texts.specs.declared.refusal.Refused.TheVariants.{Coordinates, Sewing, Evidence, Memory};
+ghost use Rattle.surf_texts.specs.declared.refusal.Refused.TheVariants.{Coordinates, Sewing, Evidence, Points, Memory};
 
 use crate::certificates::cert_line;
 use crate::evidence::evidence_line;
 use crate::lengths::{base_line, length_line};
 use crate::lines::{limit_line, told_line};
 use crate::meshes::{off_line, surface_line};
+use crate::points::{near_line, point_line};
 use crate::sewing::{copy_line, sew_line};
 use crate::walks::{WalkFile, walk_line};
 use std::alloc::{AllocError, AllocFailed, Global};
 use surf_base::{LimitKind, NoMemory};
 use surf_cert::CertText;
 use surf_check::SurfaceFault;
-use surf_class::{EvidenceFault, WalkFault};
+use surf_class::{EvidenceFault, PointFault, WalkFault};
 use surf_geom::GeomFault;
 use surf_lengths::LengthFault;
 use surf_off::OffFault;
@@ -36,6 +37,9 @@ pub enum Refused {
     Sewing(SewFault),
     Walk { file: WalkFile, fault: WalkFault },
     Evidence(EvidenceFault),
+    Points(PointFault),
+    /// The cut through the vertices has fewer than two edges.
+    Near,
     Limit(LimitKind),
     Read,
     Memory,
@@ -113,6 +117,14 @@ impl From<EvidenceFault> for Refused {
     }
 }
 
+impl From<PointFault> for Refused {
+    ghost from_gives = { λ fault e. e ≡ Points fault };
+
+    fn from(fault: PointFault) -> Refused {
+        Refused::Points(fault)
+    }
+}
+
 impl From<PageFault> for Refused {
     ghost from_gives = { λ fault e. e ≡ of_page fault };
 
@@ -154,6 +166,7 @@ impl Refused {
                 ..
             }
             | Refused::Evidence(EvidenceFault::Memory)
+            | Refused::Points(PointFault::Memory)
             | Refused::Memory => 11,
             Refused::MeshText(_) => 3,
             Refused::Surface(_) => 4,
@@ -164,6 +177,7 @@ impl Refused {
             Refused::Coordinates(_) => 12,
             Refused::Walk { .. } => 13,
             Refused::Copies { .. } | Refused::Sewing(_) => 14,
+            Refused::Points(_) | Refused::Near => 15,
         }
     }
 
@@ -182,6 +196,8 @@ impl Refused {
             Refused::Sewing(fault) => sew_line(alloc, fault),
             Refused::Walk { file, fault } => walk_line(alloc, *file, fault),
             Refused::Evidence(fault) => evidence_line(alloc, fault),
+            Refused::Points(fault) => point_line(alloc, fault),
+            Refused::Near => near_line(alloc),
             Refused::Limit(kind) => limit_line(alloc, *kind),
             Refused::Read => String::from_str(alloc, "read fault\n"),
             Refused::Memory => String::from_str(alloc, "memory\n"),

@@ -5,7 +5,7 @@ use Rattle.surf_base.specs.declared.limits.LimitKind.TheVariants.{BasisVertices,
 use Rattle.surf_words.specs.declared.tasks.CycleTask.{CycleTask}
 use Rattle.surf_words.specs.declared.tasks.CycleTask.TheVariants.{Basis, Shortest, BasisCertificate}
 use Rattle.surf_words.specs.declared.tasks.Task.{Task}
-use Rattle.surf_words.specs.declared.tasks.Task.TheVariants.{Distances, LeastLoops, LoopCertificate, Cut}
+use Rattle.surf_words.specs.declared.tasks.Task.TheVariants.{Distances, LeastLoops, LoopCertificate}
 
 -- how many vertices there may be: fewer where each has its tree in a certificate
 abbrev pub vertex_limit : CycleTask → LimitKind × ℕ
@@ -18,4 +18,3 @@ abbrev pub is_limited : Task → Bool
 is_limited Distances = false
 is_limited LeastLoops = true
 is_limited LoopCertificate = true
-is_limited (Cut kind) = true

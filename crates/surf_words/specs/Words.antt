@@ -9,18 +9,25 @@ use Rattle.surf_text.specs.Text.{whole, words_of}
 use Rattle.surf_words.specs.declared.tasks.CycleTask.{CycleTask}
 use Rattle.surf_words.specs.declared.tasks.CycleTask.TheVariants.{Basis, Shortest, BasisCertificate}
 use Rattle.surf_words.specs.declared.tasks.Task.{Task}
-use Rattle.surf_words.specs.declared.tasks.Task.TheVariants.{Distances, LeastLoops, LoopCertificate, Cut}
-use Rattle.surf_words.specs.declared.tasks.CutKind.TheVariants.{Full, Trimmed}
+use Rattle.surf_words.specs.declared.tasks.Task.TheVariants.{Distances, LeastLoops, LoopCertificate}
+use Rattle.surf_words.specs.declared.cuts.CutWords.{CutWords}
+use Rattle.surf_words.specs.declared.cuts.CutWords.TheVariants.{Full, Trimmed, Through}
 use Rattle.surf_words.specs.Shapes.{Shape, torus_named, chain_named}
 use Rattle.surf_words.specs.declared.words.Command.{Command}
 use Rattle.surf_words.specs.declared.words.Command.TheVariants.{Help, Version, Info, Disc, Cycles, Weighted, Generate}
 use Rattle.surf_words.specs.declared.words.Command.TheVariants.{Try, Check, Measure, Sew, Class, Same, Confirm}
-use Rattle.surf_words.specs.declared.words.Command.TheVariants.{Shortest}
+use Rattle.surf_words.specs.declared.words.Command.TheVariants.{Shortest, Cut}
 use Rattle.std.specs.declared.alloc.Global.{Global}
 
 -- the bytes of each word
 abbrev pub texts : List (String Global) → List (List ℕ)
 texts words = map string_bytes words
+
+-- how far a surface is to be cut: along the full cut, the trimmed one, or the one through the vertices of a file
+pub data Extent : Type 0 where
+  fully : Extent
+  trimmed : Extent
+  through : List ℕ → Extent
 
 -- a row of the command table, with the names of its files
 pub data Request : Type 0 where
@@ -32,6 +39,8 @@ pub data Request : Type 0 where
   cycles : CycleTask → List ℕ → List ℕ → Request
   -- a task on the surface of a file, with the lengths that a word gives and a base
   weighted : Task → List ℕ → List ℕ → ℕ → Request
+  -- the surface of a file cut open so far, with the lengths that a word gives and a base
+  cuts : Extent → List ℕ → List ℕ → ℕ → Request
   -- the mesh of a shape
   makes : Shape → Request
   -- what is found on the surface of a shape, with the lengths that a scatter makes
@@ -73,6 +82,10 @@ on_cycles task w = Some (cycles task (w "M") (w "L"))
 abbrev pub at_base : Task → (Literal → List ℕ) → Option Request
 at_base task w = option_map (weighted task (w "M") (w "L")) (word_number (w "x"))
 
+-- a surface cut open so far
+abbrev pub cut_at_base : Extent → (Literal → List ℕ) → Option Request
+cut_at_base extent w = option_map (cuts extent (w "M") (w "L")) (word_number (w "x"))
+
 -- the shapes of two numbers, and of three
 abbrev pub torus_of : (Literal → List ℕ) → Option Shape
 torus_of w = torus_named (word_number (w "a")) (word_number (w "b"))
@@ -88,18 +101,19 @@ abbrev pub command_table : List Row
 command_table =
     row "info M" "counts, Euler characteristic, genus or crosscaps" (λ w. Some (info (w "M")))
     ∷ row "dist M L x" "the distance of each vertex from vertex x" (at_base Distances)
-    ∷ row "loops M L x" "a shortest system of independent loops at vertex x" (at_base LeastLoops)
-    ∷ row "basis M L" "a shortest basis: independent cycles of least total length" (on_cycles Basis)
+    ∷ row "loops M L x" "a shortest system of independent loops at x" (at_base LeastLoops)
+    ∷ row "basis M L" "a shortest homology basis (mod 2)" (on_cycles Basis)
     ∷ row "cycle M L" "a shortest cycle that doesn't separate the surface" (on_cycles Shortest)
-    ∷ row "cut M L x full" "the mesh cut into one disc" (at_base (Cut Full))
-    ∷ row "cut M L x trim" "the same with the cut's loose ends left uncut" (at_base (Cut Trimmed))
+    ∷ row "cut M L x full" "the mesh cut into one disc" (cut_at_base fully)
+    ∷ row "cut M L x trim" "the same with the cut's loose ends left uncut" (cut_at_base trimmed)
+    ∷ row "cut M L x through P" "the mesh cut into one disc through the vertices of P" (λ w. cut_at_base (through (w "P")) w)
     ∷ row "sew M" "the mesh that was cut, from what cut wrote" (λ w. Some (sews (w "M")))
     ∷ row "disc M" "whether a mesh is a disc" (λ w. Some (disc (w "M")))
     ∷ row "class M W" "whether a closed walk is a boundary, with evidence" (λ w. Some (classes (w "M") (w "W")))
-    ∷ row "same M W W2" "whether two closed walks go round the same way" (λ w. Some (compares (w "M") (w "W") (w "W2")))
+    ∷ row "same M W W2" "whether two closed walks are homologous (mod 2)" (λ w. Some (compares (w "M") (w "W") (w "W2")))
     ∷ row "confirm M W C" "whether the evidence that class wrote is right"
     (λ w. Some (confirms (w "M") (w "W") (w "C")))
-    ∷ row "shortest M L W" "a shortest closed walk that goes round as W does"
+    ∷ row "shortest M L W" "a shortest closed walk homologous to W"
     (λ w. Some (tightens (w "M") (w "L") (w "W")))
     ∷ row "certify M L x" "a certificate of loops at vertex x" (at_base LoopCertificate)
     ∷ row "certify M L" "a certificate of a basis" (on_cycles BasisCertificate)
@@ -137,6 +151,12 @@ unfoldable pub request_of : List (List ℕ) → Option Request
 request_of words =
     request_in (row "--help" "" (λ w. Some help) ∷ row "--version" "" (λ w. Some version) ∷ command_table) words
 
+-- how far a surface is to be cut, of the code
+abbrev pub extent_of : CutWords → Extent
+extent_of Full = fully
+extent_of Trimmed = trimmed
+extent_of (Through points) = through points.now
+
 -- a command of the code as a row of the command table
 abbrev pub request : Command → Request
 request Help = help
@@ -145,6 +165,7 @@ request (Info mesh) = info mesh.now
 request (Disc mesh) = disc mesh.now
 request (Cycles task mesh lengths) = cycles task mesh.now lengths.now
 request (Weighted task mesh lengths base) = weighted task mesh.now lengths.now base
+request (Cut extent mesh lengths base) = cuts (extent_of extent) mesh.now lengths.now base
 request (Generate shape) = makes shape
 request (Try shape scatter) = tries shape scatter
 request (Check mesh lengths cert) = checks mesh.now lengths.now cert.now
@@ -162,12 +183,12 @@ Asks found words = MatchOption found (request_of words ≡ None) (λ c. request_
 -- ---- the fixed texts
 
 abbrev pub version_text : List ℕ
-version_text = codes "surf 0.1.0\n"
+version_text = codes "surf 1.0.0\n"
 
 -- the line of a row in the help, and the blanks before the next
 abbrev pub usage_line : Row → List ℕ
 usage_line (row call effect request) =
-    codes "surf " ++ codes call ++ repeat (19 - length (codes call)) (codes " ") ++ codes effect ++ codes "\n       "
+    codes "surf " ++ codes call ++ repeat (21 - length (codes call)) (codes " ") ++ codes effect ++ codes "\n       "
 
 -- how the program is called, line by line
 abbrev pub help_text : List ℕ
@@ -182,11 +203,12 @@ help_text =
     ++ codes "       L  the word unit, or a file with a line u v n for each edge: its ends and its length\n"
     ++ codes "       C  what certify or class wrote\n"
     ++ codes "       W  a closed walk: its vertices on one line, the first at the end again\n"
+    ++ codes "       P  vertices on one line\n"
     ++ codes "numbers: x a vertex from 0; k from 0 to 9; lengths whole, from 1 to 4294967295\n"
     ++ codes "\n"
     ++ codes "status: 0 done, 1 no, 2 words, 3 mesh text, 4 no surface, 5 lengths, 6 limit, 7 vertex,\n"
     ++ codes "        8 certificate or evidence text, 9 file, 10 output, 11 memory, 12 coordinates,\n"
-    ++ codes "        13 walk, 14 copies; from 2 on with a line on standard error\n"
+    ++ codes "        13 walk, 14 copies, 15 vertices; from 2 on with a line on standard error\n"
     ++ codes "limits: 1000000 vertices, 2000000 faces, 1024 loops; 20000 vertices for basis and cycle,\n"
     ++ codes "        1000 for certify M L; 8 loops for shortest, and 65536 vertices times 2^loops\n"
     ++ codes "example: surf lengths eight.off 6 > eight.len; surf basis eight.off eight.len\n"

@@ -1,12 +1,14 @@
 //! The words of the command line, and the command that they are.
 #![tactic(auto)]
 
+mod cuts;
 mod decimals;
 mod shape;
 mod tasks;
 mod words;
 
+pub use cuts::CutWords;
 pub use decimals::Decimals;
 pub use shape::Shape;
-pub use tasks::{CutKind, CycleTask, Task};
-pub use words::{Command, HELP, parse};
+pub use tasks::{CycleTask, Task};
+pub use words::{Command, HELP, VERSION, parse};

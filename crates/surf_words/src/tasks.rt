@@ -38,7 +38,6 @@ pub enum Task {
     LeastLoops,
     /// A certificate that the loops are least.
     LoopCertificate,
-    Cut(CutKind),
 }
 
 impl Task {
@@ -48,16 +47,7 @@ impl Task {
     {
         match self {
             Task::Distances => false,
-            Task::LeastLoops | Task::LoopCertificate | Task::Cut(_) => true,
+            Task::LeastLoops | Task::LoopCertificate => true,
         }
     }
-}
-
-/// How far a surface is cut.
-#[derive(Clone, Copy, Debug, PartialEq, Eq)]
-pub enum CutKind {
-    /// Along all edges of the tree of the vertices and all left edges.
-    Full,
-    /// Along those of them that are left when the cut is trimmed.
-    Trimmed,
 }

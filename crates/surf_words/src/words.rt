@@ -2,11 +2,12 @@
 ghost use Rattle.std.specs.Prelude.{◌≡◌, [], ◌∷◌, None, Some, MatchOption, option_map, option_and_then};
 ghost use Rattle.surf_words.specs.Shapes.{torus_named, chain_named};
 ghost use Rattle.surf_words.specs.Words.{texts, request_of, word_number, few_decimals, request, tried, Asks};
-ghost use Rattle.surf_words.specs.Words.{cycles, weighted, makes, measures};
+ghost use Rattle.surf_words.specs.Words.{cycles, weighted, cuts, extent_of, makes, measures};
 
+use crate::cuts::CutWords;
 use crate::decimals::Decimals;
 use crate::shape::Shape;
-use crate::tasks::{CutKind, CycleTask, Task};
+use crate::tasks::{CycleTask, Task};
 use surf_text::read_whole;
 
 /// A row of the command table, with the names of its files.
@@ -27,6 +28,12 @@ pub enum Command<'w> {
     },
     Weighted {
         task: Task,
+        mesh: &'w str,
+        lengths: &'w str,
+        base: u32,
+    },
+    Cut {
+        extent: CutWords<'w>,
         mesh: &'w str,
         lengths: &'w str,
         base: u32,
@@ -74,43 +81,48 @@ pub enum Command<'w> {
 /// How the program is called, line by line.
 pub const HELP: &str = "surf: shortest loops, least bases and cuts of closed surface meshes
 
-usage: surf info M             counts, Euler characteristic, genus or crosscaps
-       surf dist M L x         the distance of each vertex from vertex x
-       surf loops M L x        a shortest system of independent loops at vertex x
-       surf basis M L          a shortest basis: independent cycles of least total length
-       surf cycle M L          a shortest cycle that doesn't separate the surface
-       surf cut M L x full     the mesh cut into one disc
-       surf cut M L x trim     the same with the cut's loose ends left uncut
-       surf sew M              the mesh that was cut, from what cut wrote
-       surf disc M             whether a mesh is a disc
-       surf class M W          whether a closed walk is a boundary, with evidence
-       surf same M W W2        whether two closed walks go round the same way
-       surf confirm M W C      whether the evidence that class wrote is right
-       surf shortest M L W     a shortest closed walk that goes round as W does
-       surf certify M L x      a certificate of loops at vertex x
-       surf certify M L        a certificate of a basis
-       surf check M L C        whether a certificate is valid, and its total
-       surf lengths M k        the lengths of the edges from coordinates, in units of 10^-k
-       surf gen torus a b      a torus of a by b squares
-       surf gen chain g a b    a chain of g such tori
-       surf try torus a b s    a summary of a torus with lengths scattered by s
-       surf try chain g a b s  the same of a chain
+usage: surf info M               counts, Euler characteristic, genus or crosscaps
+       surf dist M L x           the distance of each vertex from vertex x
+       surf loops M L x          a shortest system of independent loops at x
+       surf basis M L            a shortest homology basis (mod 2)
+       surf cycle M L            a shortest cycle that doesn't separate the surface
+       surf cut M L x full       the mesh cut into one disc
+       surf cut M L x trim       the same with the cut's loose ends left uncut
+       surf cut M L x through P  the mesh cut into one disc through the vertices of P
+       surf sew M                the mesh that was cut, from what cut wrote
+       surf disc M               whether a mesh is a disc
+       surf class M W            whether a closed walk is a boundary, with evidence
+       surf same M W W2          whether two closed walks are homologous (mod 2)
+       surf confirm M W C        whether the evidence that class wrote is right
+       surf shortest M L W       a shortest closed walk homologous to W
+       surf certify M L x        a certificate of loops at vertex x
+       surf certify M L          a certificate of a basis
+       surf check M L C          whether a certificate is valid, and its total
+       surf lengths M k          the lengths of the edges from coordinates, in units of 10^-k
+       surf gen torus a b        a torus of a by b squares
+       surf gen chain g a b      a chain of g such tori
+       surf try torus a b s      a summary of a torus with lengths scattered by s
+       surf try chain g a b s    the same of a chain
        surf --help | --version
 
 files: M  a mesh in OFF, one vertex or face a line
        L  the word unit, or a file with a line u v n for each edge: its ends and its length
        C  what certify or class wrote
        W  a closed walk: its vertices on one line, the first at the end again
+       P  vertices on one line
 numbers: x a vertex from 0; k from 0 to 9; lengths whole, from 1 to 4294967295
 
 status: 0 done, 1 no, 2 words, 3 mesh text, 4 no surface, 5 lengths, 6 limit, 7 vertex,
         8 certificate or evidence text, 9 file, 10 output, 11 memory, 12 coordinates,
-        13 walk, 14 copies; from 2 on with a line on standard error
+        13 walk, 14 copies, 15 vertices; from 2 on with a line on standard error
 limits: 1000000 vertices, 2000000 faces, 1024 loops; 20000 vertices for basis and cycle,
         1000 for certify M L; 8 loops for shortest, and 65536 vertices times 2^loops
 example: surf lengths eight.off 6 > eight.len; surf basis eight.off eight.len
 manual: docs/guide.md of the repository
 ";
+
+/// The program's name and version.
+pub const VERSION: &str = "surf 1.0.0\n";
 
 // A number word: digits of a value at most 4,294,967,295.
 fn number_of(word: &str) -> Option<u32>
@@ -131,6 +143,26 @@ fn weighted<'w>(task: Task, mesh: &'w str, lengths: &'w str, base: &str) -> Opti
 {
     Some(Command::Weighted {
         task,
+        mesh,
+        lengths,
+        base: number_of(base)?,
+    })
+}
+
+// A surface cut open at a base.
+fn cut<'w>(
+    extent: CutWords<'w>,
+    mesh: &'w str,
+    lengths: &'w str,
+    base: &str,
+) -> Option<Command<'w>>
+    ensures { MatchOption result
+        (option_map (cuts (extent_of extent.entry) mesh.now lengths.now) (word_number base.now) ≡ None)
+        (λ c. option_map (cuts (extent_of extent.entry) mesh.now lengths.now) (word_number base.now)
+        ≡ Some (request c)) }
+{
+    Some(Command::Cut {
+        extent,
         mesh,
         lengths,
         base: number_of(base)?,
@@ -283,8 +315,8 @@ fn on_five<'w>(
 {
     if word == "cut" {
         return match fifth {
-            "full" => weighted(Task::Cut(CutKind::Full), second, third, fourth),
-            "trim" => weighted(Task::Cut(CutKind::Trimmed), second, third, fourth),
+            "full" => cut(CutWords::Full, second, third, fourth),
+            "trim" => cut(CutWords::Trimmed, second, third, fourth),
             _ => None,
         };
     }
@@ -300,15 +332,18 @@ fn on_five<'w>(
 #[tactic(auto, unfolding(crate::specs::Words::request_of))]
 fn on_six<'w>(
     word: &str,
-    second: &str,
-    third: &str,
+    second: &'w str,
+    third: &'w str,
     fourth: &str,
     fifth: &str,
-    sixth: &str,
+    sixth: &'w str,
 ) -> Option<Command<'w>>
     ensures { Asks result
         (word.now ∷ second.now ∷ third.now ∷ fourth.now ∷ fifth.now ∷ sixth.now ∷ []) }
 {
+    if word == "cut" && fifth == "through" {
+        return cut(CutWords::Through { points: sixth }, second, third, fourth);
+    }
     if word == "try" && second == "chain" {
         return try_shape(chain_of(third, fourth, fifth), sixth);
     }

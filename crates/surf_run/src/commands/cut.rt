@@ -1,13 +1,13 @@
 //! The command `cut`.
 ghost use Rattle.std.specs.Prelude.{◌≡◌, ◌<◌, ◌≤◌, All, length, IfOk, Some};
 ghost use Rattle.surf_surfaces.specs.Surface.{face_count};
-ghost use Rattle.surf_words.specs.Words.{weighted};
-ghost use Rattle.surf_words.specs.declared.tasks.Task.TheVariants.{Cut};
+ghost use Rattle.surf_words.specs.Words.{cuts, extent_of};
 ghost use Rattle.surf_answers.specs.Tells.{ConcludesOver, TakesOver};
 ghost use Rattle.surf_run.specs.Commands.{OnRequest};
 ghost use Rattle.surf_run.specs.Cutting.{CutsOpen};
 
 use crate::limits::test_loops;
+use crate::points::kind_named;
 use crate::reading::{read_file, read_front};
 use crate::weights::{base_of, read_measures};
 use std::alloc::Global;
@@ -16,14 +16,14 @@ use surf_base::Shelf;
 use surf_cutter::OpenDisc;
 use surf_mesh::HalfMesh;
 use surf_texts::Refused;
-use surf_words::CutKind;
+use surf_words::CutWords;
 
 /// What `cut` answers: a surface cut open, with the lines and colours of its text. Of the text only
 /// the front that has these is kept, and the surface goes before the answer is made.
 pub(crate) fn cut_open<S: Shelf>(
     alloc: Global,
     shelf: &mut S,
-    kind: CutKind,
+    extent: CutWords<'_>,
     mesh: &str,
     lengths: &str,
     base: u32,
@@ -31,21 +31,21 @@ pub(crate) fn cut_open<S: Shelf>(
     ensures holds { S.holds shelf.new ≡ S.holds shelf.old }
     ensures later { S.faults shelf.old ≤ S.faults shelf.new }
     ensures tells { ConcludesOver (S.holds shelf.old) (S.faults shelf.old) (S.faults shelf.new)
-        (OnRequest (Some (weighted (Cut kind) mesh.now lengths.now base))) result }
+        (OnRequest (Some (cuts (extent_of extent.entry) mesh.now lengths.now base))) result }
 {
     let mut bytes = read_file(alloc, shelf, mesh)?;
     let (places, mesh) = read_front(alloc, &mut bytes)?;
-    let opened = open_surface(alloc, shelf, kind, &mesh, lengths, base)?;
+    let opened = open_surface(alloc, shelf, extent, &mesh, lengths, base)?;
     drop(mesh);
     let text = places.over(&bytes);
     disc_text(alloc, &text, &opened)
 }
 
-// The surface cut open, by a word for its lengths and a base.
+// The surface cut open so far, by a word for its lengths and a base.
 fn open_surface<S: Shelf>(
     alloc: Global,
     shelf: &mut S,
-    kind: CutKind,
+    extent: CutWords<'_>,
     mesh: &HalfMesh,
     lengths: &str,
     base: u32,
@@ -53,12 +53,13 @@ fn open_surface<S: Shelf>(
     ensures holds { S.holds shelf.new ≡ S.holds shelf.old }
     ensures later { S.faults shelf.old ≤ S.faults shelf.new }
     ensures tells { TakesOver (S.holds shelf.old) (S.faults shelf.old) (S.faults shelf.new)
-        (λ opened. opened) (CutsOpen kind mesh.now lengths.now base) result }
+        (λ opened. opened) (CutsOpen (extent_of extent.entry) mesh.now lengths.now base) result }
     ensures lines { IfOk result (λ opened. All (λ v. v < mesh.now.vertices) opened.origins) }
     ensures faces { IfOk result (λ opened. length opened.faces ≡ face_count mesh.now) }
 {
     test_loops(mesh)?;
     let lengths = read_measures(alloc, shelf, Vec::new(alloc), mesh, lengths)?;
     let base = base_of(mesh, base)?;
+    let kind = kind_named(alloc, shelf, mesh, extent)?;
     disc_at(alloc, mesh, lengths, base, kind)
 }

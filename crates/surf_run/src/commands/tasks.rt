@@ -4,13 +4,12 @@ ghost use Rattle.surf_surfaces.specs.Surface.{edge_count};
 ghost use Rattle.surf_off.specs.Off.{OffParts};
 ghost use Rattle.surf_words.specs.Words.{weighted};
 ghost use Rattle.surf_answers.specs.Tells.{Concludes, ConcludesOver, Takes};
-ghost use Rattle.surf_run.specs.Commands.{OnRequest, Performs, IsSearch, loops_for};
+ghost use Rattle.surf_run.specs.Commands.{OnRequest, Performs, loops_for};
 ghost use Rattle.surf_run.specs.Reading.{HoldsSurface};
 ghost use Rattle.surf_run.specs.Steps.{AtMost};
 ghost use Rattle.surf_base.specs.declared.limits.LimitKind.TheVariants.{Loops};
 ghost use Rattle.surf_base.specs.declared.limits.TheConstants.{MAX_LOOPS};
 
-use crate::commands::cut::cut_open;
 use crate::limits::test_loops;
 use crate::reading::surface_through;
 use crate::weights::{base_of, read_measures};
@@ -36,36 +35,13 @@ pub(crate) fn weighted<S: Shelf>(
     ensures tells { ConcludesOver (S.holds shelf.old) (S.faults shelf.old) (S.faults shelf.new)
         (OnRequest (Some (weighted task mesh.now lengths.now base))) result }
 {
-    match task {
-        Task::Cut(kind) => cut_open(alloc, shelf, kind, mesh, lengths, base),
-        Task::Distances | Task::LeastLoops | Task::LoopCertificate => {
-            search(alloc, shelf, task, mesh, lengths, base)
-        }
-    }
-}
-
-// What a task that needs the surface alone answers.
-fn search<S: Shelf>(
-    alloc: Global,
-    shelf: &mut S,
-    task: Task,
-    mesh: &str,
-    lengths: &str,
-    base: u32,
-) -> Result<Answered, Refused>
-    requires search { IsSearch task }
-    ensures holds { S.holds shelf.new ≡ S.holds shelf.old }
-    ensures later { S.faults shelf.old ≤ S.faults shelf.new }
-    ensures tells { ConcludesOver (S.holds shelf.old) (S.faults shelf.old) (S.faults shelf.new)
-        (OnRequest (Some (weighted task mesh.now lengths.now base))) result }
-{
     let mut room = Vec::new(alloc);
     let mesh = surface_through(alloc, shelf, mesh, &mut room)?;
-    search_on(alloc, shelf, room, task, &mesh, lengths, base)
+    weighted_on(alloc, shelf, room, task, &mesh, lengths, base)
 }
 
-// What such a task on a surface answers.
-fn search_on<S: Shelf>(
+// What a task on a surface answers.
+fn weighted_on<S: Shelf>(
     alloc: Global,
     shelf: &mut S,
     room: Vec<u8>,
@@ -74,7 +50,6 @@ fn search_on<S: Shelf>(
     lengths: &str,
     base: u32,
 ) -> Result<Answered, Refused>
-    requires search { IsSearch task }
     ensures holds { S.holds shelf.new ≡ S.holds shelf.old }
     ensures later { S.faults shelf.old ≤ S.faults shelf.new }
     ensures tells { (name bytes : List ℕ) (parts : OffParts) → HoldsSurface (S.holds shelf.old) name
@@ -87,7 +62,7 @@ fn search_on<S: Shelf>(
     found_by(alloc, task, mesh, &lengths, base)
 }
 
-// The answer of such a task.
+// The answer of a task.
 fn found_by(
     alloc: Global,
     task: Task,
@@ -95,17 +70,14 @@ fn found_by(
     lengths: &Lengths,
     base: VertexId,
 ) -> Result<Answered, Refused>
-    requires search { IsSearch task }
     requires lengths { length lengths.now ≡ edge_count mesh.now }
     requires base { base < mesh.now.vertices }
-    ensures { (parts : OffParts) → Concludes (Performs task (parts, mesh.now) lengths.now base)
-        result }
+    ensures { Concludes (Performs task mesh.now lengths.now base) result }
 {
     match task {
         Task::Distances => dist_of(alloc, mesh, lengths, base),
         Task::LeastLoops => loops_of(alloc, mesh, lengths, base),
         Task::LoopCertificate => loop_cert_of(alloc, mesh, lengths, base),
-        Task::Cut(_) => unreachable!(),
     }
 }
 

@@ -1,7 +1,7 @@
 use Rattle.std.proofs.Common.{◌≡◌, Bool, List, length, ap, ◌∙◌, sym, subst}
 use Rattle.surf_loops.specs.Loops.{with_cotree}
-use Rattle.surf_cutter.specs.Opened.{IsHeld, IsChosenFor}
-use Rattle.surf_answers.proofs.CutLaws.{desk_is_held, desk_cuts, desk_origins}
+use Rattle.surf_cutter.specs.Opened.{IsHeld, IsChosenFor, IsNearFor}
+use Rattle.surf_answers.proofs.CutLaws.{desk_is_held, desk_cuts, desk_nears, desk_origins}
 use Rattle.surf_answers.proofs.cut.held_at.Goals as goal
 use Rattle.surf_answers.proofs.cut.held_at.Goals.{After-into_held}
 
@@ -19,15 +19,22 @@ returns-clause-held c =
     (desk_is_held c.args.mesh.now c.args.lengths.now c.args.base (with_cotree c.in_ok-loops.loops g.cotree) c.law_of_surface.ensures.surface g.greedy)
 
 pub returns-clause-cuts : goal.returns-clause-cuts
-returns-clause-cuts c trim o chosen =
+returns-clause-cuts c kind o inside chosen =
     let mesh = c.args.mesh.now in
     let g = c.in_ok-loops.ensures.greedy in
-    desk_cuts mesh c.args.lengths.now c.args.base (with_cotree c.in_ok-loops.loops g.cotree) c.law_of_surface.ensures.surface g.greedy trim o
-    (subst (λ (held : List Bool). IsChosenFor mesh held trim o) (flags_are c) chosen)
+    desk_cuts mesh c.args.lengths.now c.args.base (with_cotree c.in_ok-loops.loops g.cotree) c.law_of_surface.ensures.surface g.greedy kind o
+    (subst (λ (held : List Bool). IsChosenFor mesh held kind o) (flags_are c) chosen) inside
+
+pub returns-clause-near : goal.returns-clause-near
+returns-clause-near c kind near =
+    let mesh = c.args.mesh.now in
+    let g = c.in_ok-loops.ensures.greedy in
+    desk_nears mesh c.args.lengths.now c.args.base (with_cotree c.in_ok-loops.loops g.cotree) c.law_of_surface.ensures.surface g.greedy kind
+    (subst (λ (held : List Bool). IsNearFor mesh held kind) (flags_are c) near)
 
 pub returns-clause-origins : goal.returns-clause-origins
-returns-clause-origins c trim o chosen =
+returns-clause-origins c kind o chosen =
     let mesh = c.args.mesh.now in
     let g = c.in_ok-loops.ensures.greedy in
-    desk_origins mesh c.args.lengths.now c.args.base (with_cotree c.in_ok-loops.loops g.cotree) c.law_of_surface.ensures.surface g.greedy trim o
-    (subst (λ (held : List Bool). IsChosenFor mesh held trim o) (flags_are c) chosen)
+    desk_origins mesh c.args.lengths.now c.args.base (with_cotree c.in_ok-loops.loops g.cotree) c.law_of_surface.ensures.surface g.greedy kind o
+    (subst (λ (held : List Bool). IsChosenFor mesh held kind o) (flags_are c) chosen)

@@ -1,10 +1,17 @@
-use Rattle.std.proofs.lemmas.Result.{IfOk-weaker}
-use Rattle.surf_cutter.specs.Opened.{IsOpenedInOrder, IsChosenFor}
-use Rattle.surf_cutter.proofs.Chosen.{chosen_opening}
+use Rattle.std.proofs.lemmas.Result.{err_from_is_err_and}
+use Rattle.surf_cutter.proofs.Chosen.{chosen_is_opening, chosen_border}
 use Rattle.surf_cutter.proofs.cutting.open_disc.Goals as goal
 
+pub returns-in_err-choose_cut-clause-near : goal.returns-in_err-choose_cut-clause-near
+returns-in_err-choose_cut-clause-near c =
+    let p = err_from_is_err_and c.from_residual.result c.from_residual.ensures.1 in
+    rw (p.1, p.2) c.in_err-choose_cut.ensures.near
+
 pub returns-clause-chosen : goal.returns-clause-chosen
-returns-clause-chosen c = IfOk-weaker c.open_cut.result (λ o. IsOpenedInOrder c.args.mesh.now c.choose_cut.new.flags o) (λ o. IsChosenFor c.args.mesh.now c.args.flags.now c.args.trimmed o) c.in_ok-choose_cut.ensures.chosen.chosen c.open_cut.ensures.opened
+returns-clause-chosen c = c.in_ok-choose_cut.ensures.chosen.chosen c.in_ok-opened.opened c.in_ok-opened.ensures.opened
 
 pub returns-clause-opening : goal.returns-clause-opening
-returns-clause-opening c = chosen_opening c.law_of_surface.ensures.surface c.requires.held c.in_ok-choose_cut.ensures.chosen c.open_cut.result c.open_cut.ensures.opened
+returns-clause-opening c = chosen_is_opening c.law_of_surface.ensures.surface c.requires.held c.in_ok-choose_cut.ensures.chosen c.in_ok-opened.opened c.in_ok-opened.ensures.opened
+
+pub returns-clause-border : goal.returns-clause-border
+returns-clause-border c = chosen_border c.law_of_surface.ensures.surface c.requires.held c.in_ok-choose_cut.ensures.chosen c.requires.points c.in_ok-opened.opened c.in_ok-opened.ensures.opened

@@ -4,7 +4,7 @@ use Rattle.surf_run.specs.Commands.{OnRequest}
 use Rattle.surf_run.specs.Reading.{IsSurfaceText}
 use Rattle.surf_run.proofs.Composing.{resumed}
 use Rattle.surf_run.proofs.TextsAt.{text_stopped}
-use Rattle.surf_run.proofs.commands.tasks.search.Goals as goal
+use Rattle.surf_run.proofs.commands.tasks.weighted.Goals as goal
 
 pub returns-in_err-mesh-clause-tells : goal.returns-in_err-mesh-clause-tells
 returns-in_err-mesh-clause-tells g c =
@@ -14,6 +14,6 @@ pub returns-clause-tells : goal.returns-clause-tells
 returns-clause-tells g c =
     let read = c.in_ok-mesh in
     let held = read.ensures.held in
-    resumed (g.S.Shelf.faults c.search_on.new.shelf) (OnRequest (Some (weighted c.args.task c.args.mesh.now c.args.lengths.now c.args.base)))
-    read.ensures.holds read.ensures.later c.search_on.result
-    (c.search_on.ensures.tells c.args.mesh.now held.0 held.1 held.2)
+    resumed (g.S.Shelf.faults c.weighted_on.new.shelf) (OnRequest (Some (weighted c.args.task c.args.mesh.now c.args.lengths.now c.args.base)))
+    read.ensures.holds read.ensures.later c.weighted_on.result
+    (c.weighted_on.ensures.tells c.args.mesh.now held.0 held.1 held.2)

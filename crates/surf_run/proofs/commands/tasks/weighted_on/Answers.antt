@@ -1,6 +1,6 @@
 use Rattle.std.proofs.Common.{refl, arith}
 use Rattle.surf_run.proofs.Composing.{begun, over, past, ended, stopped, stopped_over}
-use Rattle.surf_run.proofs.commands.tasks.search_on.Goals as goal
+use Rattle.surf_run.proofs.commands.tasks.weighted_on.Goals as goal
 
 pub returns-in_err-test_task_loops-clause-tells : goal.returns-in_err-test_task_loops-clause-tells
 returns-in_err-test_task_loops-clause-tells g c = λ name bytes parts from.
@@ -25,4 +25,4 @@ pub returns-clause-tells : goal.returns-clause-tells
 returns-clause-tells g c = λ name bytes parts from.
     ended (past (over (past (past (over begun bytes refl from.0 (omega arith)) (parts, c.args.mesh.now)
     from.1) tt c.in_ok-test_task_loops.ensures.tells) c.in_ok-lengths.lengths refl c.in_ok-lengths.ensures.tells
-    c.in_ok-lengths.ensures.later) c.in_ok-base.base c.in_ok-base.ensures.tells) c.found_by.result (c.found_by.ensures parts)
+    c.in_ok-lengths.ensures.later) c.in_ok-base.base c.in_ok-base.ensures.tells) c.found_by.result c.found_by.ensures

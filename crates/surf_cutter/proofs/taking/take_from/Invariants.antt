@@ -1,0 +1,18 @@
+use Rattle.std.proofs.Common.{◌≡◌, ◌<◌, ◌+◌, length}
+use Rattle.surf_opening.specs.Laws.{cut_count}
+use Rattle.surf_surfaces.specs.Surface.{edge_count}
+use Rattle.surf_cutter.specs.Trimming.{is_cut, AreDegrees, IsTakenFrom}
+use Rattle.surf_cutter.proofs.Takes.{HasNoOtherLoose}
+use Rattle.surf_cutter.proofs.taking.take_from.Given as goal
+
+abbrev pub invariant-loop-degree : goal.invariant-loop-degree
+invariant-loop-degree l = record {
+  flags : length l.cut ≡ edge_count l.mesh;
+  degrees : AreDegrees l.mesh l.cut l.degree;
+  vertex : l.leaf < l.mesh.vertices;
+  taken : IsTakenFrom l.mesh l.marks l.initial.cut l.cut;
+  others : HasNoOtherLoose l.mesh l.marks (l.fn.start + 1) l.leaf l.degree;
+}
+
+abbrev pub decreases-loop-degree : goal.decreases-loop-degree
+decreases-loop-degree l = cut_count l.mesh (is_cut l.cut)
