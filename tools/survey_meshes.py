@@ -137,7 +137,7 @@ def survey(packages, root, program):
 
 
 def table(found, packages):
-    rows = ["| Package | Files | Without a face | In | With holes closed | By a hub too | Refused | Ended otherwise |"]
+    rows = ["| Package | Files | Without a face | In | With holes closed | By a hub too | Refused | Ended badly |"]
     rows.append("|---|---|---|---|---|---|---|---|")
     for package in [*packages, None]:
         some = [one for one in found if package in (None, one.package)]
