@@ -774,8 +774,8 @@ class Holes(Case):
 
     def test_more_loops_than_are_taken(self):
         points = [(x, y, 0) for x in range(75) for y in range(75)]
-        squares = [[75 * x + y, 75 * x + y + 1, 75 * x + y + 76, 75 * x + y + 75] for x in range(74) for y in range(74)]
-        left = [face for face in squares if face[0] % 2 == 0 or face[0] // 75 % 2 == 0]
+        firsts = [75 * x + y for x in range(74) for y in range(74) if x % 2 == 0 or y % 2 == 0]
+        left = [[c, c + 1, c + 76, c + 75] for c in firsts]
         told = self.mended(points, left, holes="hub").report
         self.assertEqual(told.loops, 2 * (len(told.rim_sizes) - 1))
         self.assertGreater(told.loops, 1024)

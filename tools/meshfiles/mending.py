@@ -92,7 +92,6 @@ class Report:
             found.append(f"warning: there are rims that are near each other, try --tolerance {self.near_rims:g}")
         return found
 
-
     def _loops(self) -> List[str]:
         if self.loops <= MOST_LOOPS:
             return []
