@@ -3,7 +3,8 @@
 
     pictures.py [PROGRAM]      crates/surf/out/surf where none is named
 
-All are of meshes/eight.off, a surface of genus 2, with the lengths of its edges in space.
+All but one are of meshes/eight.off, a surface of genus 2, with the lengths of its edges in space. That one is of
+meshes/scan.ply, a scan of it with holes.
 """
 
 import pathlib
@@ -13,11 +14,13 @@ import tempfile
 
 import show
 import unfold
+from meshfiles import mend, read_mesh
 from off import Mesh, read_off
 
 TOP = pathlib.Path(__file__).resolve().parent.parent
 PICTURES = TOP / "docs" / "pictures"
 MESH = TOP / "meshes" / "eight.off"
+SCAN = TOP / "meshes" / "scan.ply"
 # A vertex on top, where the two circles touch, from which the loops are seen.
 BASE = 353
 
@@ -58,6 +61,10 @@ def main():
         for file, walk in {"neck": round_neck, "hole": round_hole}.items():
             (room / file).write_text(" ".join(map(str, walk)) + "\n")
         trimmed = answer("cut", *given, str(BASE), "trim")
+        scan = mend(read_mesh(SCAN), holes="hub")
+        (room / "scan.off").write_bytes(scan.off_text())
+        (room / "scan.len").write_bytes(scan.lengths_text())
+        scan_basis = answer("basis", "scan.off", "scan.len")
         texts = {
             "loops": answer("loops", *given, str(BASE)),
             "basis": basis,
@@ -68,6 +75,7 @@ def main():
         }
     for name, text in texts.items():
         draw(name, mesh, show.read_answer(text), 15, 55)
+    draw("scan", *show.without_added(read_off(scan.off_text().decode()), show.read_answer(scan_basis)), 15, 55)
     opened = read_off(trimmed)
     flat = Mesh([(x, y, 0) for x, y in unfold.unfolded(opened)], opened.faces)
     draw("flat", flat, show.Answer(), 0, 90)

@@ -3,11 +3,12 @@
 
     survey_meshes.py [--root DIR] [--program SURF] [--files] [PACKAGE ..]
 
-Without packages the eight of the table in docs/survey.md. They are installed, or with --root unpacked: DIR/PACKAGE
-has what `dpkg-deb -x` makes of it. Each file that ends in .off, .obj, .ply or .stl, or one of these and .gz, is
-tried once, whatever its copies are called, and so are those in .tar.gz archives. It is in where `to_off.py
---close` ends with status 0 and its mesh is a surface, by SURF (`info`) or without it by a test of this
-repository's own. --files lists every file.
+Without packages the eight of the table in docs/survey.md are taken. They are installed, or with --root unpacked:
+DIR/PACKAGE has what `dpkg-deb -x` makes of it. Each file that ends in .off, .obj, .ply or .stl, or one of these
+and .gz, is tried once, whatever its copies are called, and so are those in .tar.gz archives. It is in where
+`to_off.py --close` ends with status 0 and its mesh is a surface, by SURF (`info`) or without it by a test of this
+repository's own. A file with holes is tried by `--hub` too, with units of 10^-6, or of others where an edge is too
+long or too short for these. --files lists every file.
 """
 
 import argparse
@@ -40,11 +41,11 @@ SECONDS = 300
 
 
 class Tried:
-    """What came of a file: the last line that `to_off.py --close` told, and whether a surface came out."""
+    """What came of a file: what `to_off.py --close` told, and whether a surface came out, then and by --hub."""
 
     def __init__(self, package, name):
         self.package, self.name = package, name
-        self.closed = self.came_in = self.ended_badly = False
+        self.closed = self.joined = self.came_in = self.ended_badly = False
         self.told = ""
         self.seconds = 0.0
 
@@ -102,6 +103,12 @@ def is_surface(mesh, room, program):
     return fault_of(len(read.points), read.faces) is None
 
 
+def is_joined(path, decimals, room, program):
+    """Whether a surface comes out by --hub, and lengths in these units."""
+    status, mesh, _ = convert(path, "--hub", pathlib.Path(room, "out.len"), "--decimals", decimals)
+    return status == 0 and is_surface(mesh, room, program)
+
+
 def attempt(package, name, data, room, program):
     tried, path = Tried(package, name), pathlib.Path(room, name)
     path.write_bytes(data)
@@ -111,7 +118,8 @@ def attempt(package, name, data, room, program):
     tried.told = told.replace(str(path), name).strip()
     tried.ended_badly = status not in (0, 1) or "Traceback" in told or (status == 1 and len(told.splitlines()) != 1)
     tried.came_in = status == 0 and is_surface(mesh, room, program)
-    tried.closed = "closed by one face" in told
+    tried.closed = tried.came_in and "closed by one face" in told
+    tried.joined = tried.closed and any(is_joined(path, decimals, room, program) for decimals in "6390")
     path.unlink()
     return tried
 
@@ -129,15 +137,13 @@ def survey(packages, root, program):
 
 
 def table(found, packages):
-    rows = [
-        "| Package | Files | Without a face | In | Of these with holes closed | Refused by a line | Ended otherwise |"
-    ]
-    rows.append("|---|---|---|---|---|---|---|")
+    rows = ["| Package | Files | Without a face | In | With holes closed | By a hub too | Refused | Ended badly |"]
+    rows.append("|---|---|---|---|---|---|---|---|")
     for package in [*packages, None]:
         some = [one for one in found if package in (None, one.package)]
         counts = collections.Counter(one.kind() for one in some)
-        numbers = [len(some), counts["no face"], counts["in"], sum(one.came_in and one.closed for one in some)]
-        numbers += [counts["refused"], counts["ended badly"]]
+        numbers = [len(some), counts["no face"], counts["in"], sum(one.closed for one in some)]
+        numbers += [sum(one.joined for one in some), counts["refused"], counts["ended badly"]]
         rows.append("| " + " | ".join([f"`{package}`" if package else "together", *map(str, numbers)]) + " |")
     return rows
 

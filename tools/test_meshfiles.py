@@ -360,6 +360,11 @@ class Refusals(unittest.TestCase):
             head_of_ply("ascii") + PLACES.encode().replace(b"1 0 0", b"1 x 0") + ROWS.encode(),
             "vertex 1 of 4: `x` is no number",
         ),
+        "great word in ply": (
+            "a.ply",
+            head_of_ply("ascii", "int") + PLACES.encode().replace(b"1 0 0", b"1 %s 0" % (b"9" * 400)) + ROWS.encode(),
+            "vertex 1 has a coordinate that is no finite number",
+        ),
         "nan in ply": (
             "a.ply",
             head_of_ply("ascii") + PLACES.encode().replace(b"1 0 0", b"1 nan 0") + ROWS.encode(),
@@ -766,6 +771,16 @@ class Holes(Case):
         self.assertEqual([row for row in rows if row[1] < 430], due)
         self.assertEqual([row[:2] for row in rows if row[1] >= 430], sorted(mended.hub_edges))
         self.assertEqual({row[2] for row in rows if row[1] >= 430}, {2**32 - 1})
+
+    def test_more_loops_than_are_taken(self):
+        points = [(x, y, 0) for x in range(75) for y in range(75)]
+        firsts = [75 * x + y for x in range(74) for y in range(74) if x % 2 == 0 or y % 2 == 0]
+        left = [[c, c + 1, c + 76, c + 75] for c in firsts]
+        told = self.mended(points, left, holes="hub").report
+        self.assertEqual(told.loops, 2 * (len(told.rim_sizes) - 1))
+        self.assertGreater(told.loops, 1024)
+        self.assertTrue(told.lines()[-1].startswith("warning: a basis has"))
+        self.assertEqual(self.mended(points, left, holes="close").report.loops, 0)
 
     def test_lengths_that_cannot_be(self):
         mended = self.mended(POINTS, FACES[:3], holes="hub")

@@ -87,6 +87,8 @@ def main():
     words = parsed(None)
     try:
         run(words)
+    except KeyboardInterrupt:
+        return 130
     except BrokenPipeError:  # whoever reads the mesh has gone
         os.dup2(os.open(os.devnull, os.O_WRONLY), sys.stdout.fileno())
         return 1

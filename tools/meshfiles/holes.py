@@ -58,7 +58,7 @@ class Hub:
     def _middle(self, a: int, b: int) -> int:
         vertex = self._count + len(self.points)
         p, q = self._place(a), self._place(b)
-        self.points.append(tuple((s + t) / 2 for s, t in zip(p, q)))
+        self.points.append(tuple(s / 2 + t / 2 for s, t in zip(p, q)))
         self.edges += [(a, vertex), (b, vertex)]
         return vertex
 

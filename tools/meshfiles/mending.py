@@ -22,11 +22,13 @@ from .writing import edges_of, faces_text, lengths_text, points_text
 
 HOLES = ("keep", "close", "hub")
 MOST = ("faces", "area")
+MOST_LOOPS = 1024
 
 
 @dataclasses.dataclass
 class Report:
-    """What was done, by numbers. `one_sided` and `rim_sizes` are of the surface before its holes are closed."""
+    """What was done, by numbers. `one_sided` and `rim_sizes` are of the surface before its holes are closed, and
+    `loops` is 2 - chi of the surface that came out, 0 where it has holes."""
 
     merged_points: int = 0
     parted_faces: int = 0
@@ -43,6 +45,7 @@ class Report:
     near_rims: "float | None" = None
     holes: str = "keep"
     hub_vertex: "int | None" = None
+    loops: int = 0
 
     def lines(self) -> List[str]:
         """What a user is told, a line each. What is likely to be unwanted begins with `warning: `."""
@@ -56,7 +59,7 @@ class Report:
             (self.halved_edges, "edge", "halved, with the ends of another edge"),
         ]
         done = [f"{counted(count, noun)} {what}" for count, noun, what in said if count]
-        return done + self._parts() + self._sides() + self._holes()
+        return done + self._parts() + self._sides() + self._holes() + self._loops()
 
     def _parts(self) -> List[str]:
         if self.parts < 2:
@@ -88,6 +91,11 @@ class Report:
         if self.near_rims is not None:
             found.append(f"warning: there are rims that are near each other, try --tolerance {self.near_rims:g}")
         return found
+
+    def _loops(self) -> List[str]:
+        if self.loops <= MOST_LOOPS:
+            return []
+        return [f"warning: a basis has {self.loops} cycles, and `surf` takes surfaces with up to {MOST_LOOPS}"]
 
 
 def counted(count: int, noun: str) -> str:
@@ -301,6 +309,8 @@ class Glued:
         if twins:
             mates = halve(mended, twins, mates, bulk)
         add_rims(mended, mates, bulk)
+        if mended.first_added_face < len(mended.starts) - 1 or not mended.rims:
+            report.loops = 2 - len(mended.points) + len(mended.corners) // 2 - (len(mended.starts) - 1)
         return mended
 
 
@@ -337,7 +347,7 @@ def halve(mended: Mended, twins: Sequence[int], mates: Any, bulk: Any) -> Any:
     for side in twins:
         ends = (mended.points[mended.corners[side]], mended.points[mended.corners[places[side]]])
         vertex = len(mended.points) + len(points)
-        points.append(tuple((float(a) + float(b)) / 2 for a, b in zip(*ends)))
+        points.append(tuple(float(a) / 2 + float(b) / 2 for a, b in zip(*ends)))
         middles[side] = vertex
         if mates[side] >= 0:
             middles[int(mates[side])] = vertex

@@ -183,7 +183,7 @@ def regular_points(lines: List[bytes]) -> Any:
 
 
 def regular_faces(lines: List[bytes]) -> Any:
-    """Corners and starts, where nothing stands behind the corners, or equally many numbers where faces have one size."""
+    """Corners and starts, where nothing stands behind corners, or equally many numbers where faces have one size."""
     values = table(b"\n".join(lines), np.int64)
     if values is None:
         return None

@@ -59,7 +59,7 @@ class Body:
         if len(words) < len(kinds):
             raise MeshFileError(f"{what}: the file ends there")
         self.at += len(kinds)
-        return tuple(number_of(word, kind, what) for word, kind in zip(words, kinds))
+        return tuple(number_of(word, what) for word in words)
 
     def size_of(self, what: str, value: Any) -> int:
         """The number of a list's items, if the file can hold so many."""
@@ -84,11 +84,13 @@ class Body:
             yield self.row(element, f"{element.name} {k} of {element.total}")
 
 
-def number_of(word: bytes, kind: str, what: str) -> float:
+def number_of(word: bytes, what: str) -> float:
     try:
-        return float(word) if kind in "fd" or not word.lstrip(b"+-").isdigit() else int(word)
+        if b"_" not in word:
+            return float(word)
     except ValueError:
-        raise MeshFileError(f"{what}: {shown(word)} is no number") from None
+        pass
+    raise MeshFileError(f"{what}: {shown(word)} is no number")
 
 
 def read_ply(data: bytes) -> Soup:

@@ -10,6 +10,7 @@ from .text import number, shown
 HEAD, FACET = 84, 50
 FACET_WORDS = b"facet normal - - - outer loop vertex - - - vertex - - - vertex - - - endloop endfacet".split()
 FACET_WORDS = [b"" if word == b"-" else word for word in FACET_WORDS]
+BEHIND_NORMAL = FACET_WORDS.index(b"outer")
 
 
 def is_text(data: bytes) -> bool:
@@ -79,13 +80,13 @@ def read_regular(data: bytes) -> "Soup | None":
     columns = []
     for place, word in enumerate(FACET_WORDS):
         column = words[place :: len(FACET_WORDS)]
-        if word and set(column) != {word}:
+        if word and column.count(word) < len(column):
             return None
-        try:
-            columns += [] if word else [list(map(float, column))]
-        except ValueError:
-            return None
-    columns = columns[3:]  # behind the normal
+        if not word and place > BEHIND_NORMAL:
+            try:
+                columns.append(list(map(float, column)))
+            except ValueError:
+                return None
     count = 3 * len(columns[0])
     if np is not None:
         return Soup(np.array(columns).T.reshape(-1, 3), range(count), range(0, count + 1, 3))
