@@ -62,8 +62,11 @@ class Files(unittest.TestCase):
             for walks in (surface.basis(), surface.loops(0)):
                 self.assertEqual(len(walks), len(due))
                 self.assertLess(max(int(walk.vertices.max()) for walk in walks), 30)
-                self.assertEqual(walks.units, sum(walk.units for walk in walks))
+                self.assertEqual((walks.units, walks.length), (sum(walk.units for walk in walks), walks.units))
             self.assertEqual([walk.units for walk in surface.basis()], due)
+            if surface.vertex_count > 30:
+                with self.assertRaises(surfbasis.BaseRefused):
+                    surface.loops(30)
 
     def test_a_ring_without_lids(self):
         around = 2 * np.pi * np.arange(12) / 12
@@ -124,6 +127,11 @@ class Files(unittest.TestCase):
         mixed = surfbasis.Surface.mended(CORNERS, [*CUBE[:5], [1, 5, 7]], close=True)
         self.assertEqual([len(face) for face in mixed.faces], [4] * 5 + [3, 3])
         self.assertIsNone(surfbasis.Surface(CORNERS, CUBE).vertex_origins)
+        for wrong, kind in [((CORNERS, np.array(CUBE, float)), TypeError), ((8, CUBE), ValueError)]:
+            with self.assertRaises(kind):
+                surfbasis.Surface.mended(*wrong)
+        with self.assertRaises(surfbasis.MeshFileError):
+            surfbasis.Surface.mended(CORNERS, [*CUBE, [0, 1, -1]])
 
     def test_files_that_are_none(self):
         for name, data in [("empty.off", ""), ("words.obj", "hello\n"), ("points.off", "OFF\n1 0 0\n0 0 0\n")]:

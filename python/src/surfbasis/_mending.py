@@ -8,7 +8,7 @@ from typing import Any, Iterator, NamedTuple, Optional, Tuple, Union
 import numpy as np
 
 from ._callers import Path
-from ._faces import frozen
+from ._faces import Faces, frozen, points_of
 from ._texts import Floats, Ints
 from .meshfiles import MeshFileError, Soup, mend, mend_all, read_mesh
 
@@ -73,12 +73,21 @@ def mended_file(path: Path, how: How) -> Mended:
 
 def mended_arrays(vertices: Any, faces: Any, how: How) -> Mended:
     """The mended part of arrays."""
-    return _taken(mend(Soup.of(vertices, faces), tolerance=how.tolerance, part=how.part, holes=how.holes()))
+    return _taken(mend(_soup(vertices, faces), tolerance=how.tolerance, part=how.part, holes=how.holes()))
 
 
 def mended_parts(vertices: Any, faces: Any, how: How) -> Iterator[Mended]:
     """All mended parts of arrays."""
-    return map(_taken, mend_all(Soup.of(vertices, faces), tolerance=how.tolerance, holes=how.holes()))
+    return map(_taken, mend_all(_soup(vertices, faces), tolerance=how.tolerance, holes=how.holes()))
+
+
+def _soup(vertices: Any, faces: Any) -> Soup:
+    """Arrays as the mender takes them, of the shapes and types that a surface takes."""
+    _, points = points_of(vertices)
+    if points is None:
+        raise ValueError("a mesh without places can't be mended")
+    listed = Faces.of(faces)
+    return Soup(points, listed.corners, listed.starts)
 
 
 def _taken(mended: Any) -> Mended:

@@ -10,9 +10,9 @@ import numpy as np
 import numpy.typing as npt
 
 from . import _mending
+from ._advice import advice_in
 from ._answers import Cut, Distances, Evidence, Info, Polygons, Verdict, Walk, Walks
 from ._callers import Path, caller
-from ._advice import advice_in
 from ._faces import Faces, arrays_of, frozen, points_of
 from ._refusals import BaseRefused, LengthsRefused, refusal
 from ._rooms import Rooms
@@ -32,7 +32,7 @@ class Surface:
     lengths:  None to measure the edges, in units of 10**-decimals; "unit" for the length 1 of each; or shape (e,),
               whole numbers from 1 to 4,294,967,295, one for each of `edges`. Without places None is as "unit"
     decimals: from 0 to 9: a unit is 10**-decimals of the mesh's own unit. None takes as many as the longest edge
-              allows where edges are measured, and 0 where they aren't
+              allows where edges are measured, and 0 where lengths are given; of "unit" it is 0
 
     In place of vertices and faces also a mesh of trimesh or of meshio. Arrays may be of any numbers that numpy has;
     they are copied. Only shapes and types are checked here (ValueError, TypeError); each question first asks whether
@@ -53,8 +53,6 @@ class Surface:
     ):
         if faces is None:
             vertices, faces = arrays_of(vertices)
-        if decimals is not None and not 0 <= operator.index(decimals) <= MOST_DECIMALS:
-            raise ValueError(f"decimals are from 0 to {MOST_DECIMALS}, and not {decimals}")
         self._count, self._points = points_of(vertices)
         self._faces = Faces.of(faces)
         self._listed: Optional[bytes] = None
@@ -64,6 +62,8 @@ class Surface:
         self._set_lengths(lengths, decimals)
 
     def _set_lengths(self, lengths: Any, decimals: Optional[int]) -> None:
+        if decimals is not None and not 0 <= operator.index(decimals) <= MOST_DECIMALS:
+            raise ValueError(f"decimals are from 0 to {MOST_DECIMALS}, and not {decimals}")
         self._given, self._wished = lengths, decimals
         if lengths is None and self._points is None:
             self._given = "unit"
@@ -170,7 +170,7 @@ class Surface:
     ) -> Tuple[Ints, int]:
         """Lengths and their decimals where a hub joins holes: the greatest for its edges, and those of the others."""
         if lengths is not None and not isinstance(lengths, str):
-            raise ValueError("where a hub joins holes lengths are measured or \"unit\"; others by `with_lengths`")
+            raise ValueError('where a hub joins holes, lengths are measured or "unit"; others by `with_lengths`')
         if decimals is None:
             decimals = mended.most_decimals(hub, GREATEST_LENGTH, MOST_DECIMALS)
         near = cls(*mended.without(hub), lengths=lengths, decimals=decimals)
@@ -267,9 +267,9 @@ class Surface:
         >>> Surface.from_file("meshes/eight.off").decimals
         9
         """
-        if self._given is not None:
-            return self._wished or 0
-        return self._measure()[1]
+        if self._given is None:
+            return self._measure()[1]
+        return 0 if isinstance(self._given, str) else self._wished or 0
 
     @property
     def vertex_origins(self) -> Optional[Ints]:
@@ -364,9 +364,10 @@ class Surface:
         return self._ask(words, [*files, *more], room)
 
     def _base(self, base: Any) -> int:
-        number = operator.index(base)
-        if not 0 <= number <= GREATEST_LENGTH:
-            raise BaseRefused(7, f"base: {number} of {self._count}")
+        """A base in digits, as surf reads it. A vertex of a hub is none."""
+        number, count = operator.index(base), self._count if self._hub is None else self._hub.first_vertex
+        if not 0 <= number <= NO_VERTEX or number >= count < self._count:
+            raise BaseRefused(7, f"base: {number} of {count}")
         return number
 
     # ---- questions
