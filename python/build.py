@@ -4,9 +4,9 @@
     build.py --to FOLDER [--library ARCHIVE] [--program PATH]
 
 The library is `crates/surf_c/out/libsurf_c.a`, which `rt lib` in `crates/surf_c` makes, and the program, whose texts
-the tests compare, `crates/surf/out/surf`. It takes an interpreter with pip, setuptools, wheel and numpy, and the
-network of none of them. The wheel has the modules of `src/surfbasis`, and what has its home elsewhere in the
-repository: the readers of mesh files, and the page of refusals. Its version is what the library says.
+the tests compare, `crates/surf/out/surf`. It takes an interpreter with numpy, pip, setuptools, venv and wheel, and no
+network. The wheel has the modules of `src/surfbasis`, and what has its home elsewhere in the repository: the readers
+of mesh files, and the page of refusals. Its version is what the library says.
 """
 
 import argparse
@@ -21,13 +21,15 @@ import tempfile
 
 HERE = pathlib.Path(__file__).resolve().parent
 TOP = HERE.parent
+sys.path.insert(0, str(TOP / "release"))
+import libraries  # noqa: E402
+import proof  # noqa: E402
+
 FOLDERS = ((HERE / "src/surfbasis", ""), (TOP / "tools/meshfiles", "meshfiles"))
 PAGE = TOP / "docs/refusals.md"
-EXPORTED = "surf_call"
-FLAGS = ("-Wl,-z,relro,-z,now", "-Wl,-z,defs", "-Wl,--gc-sections", "-Wl,--strip-all")
 ALLOWED = {"libc.so.6", "ld-linux-x86-64.so.2"}  # what the library may ask for, so that it runs on all Linux systems
-MAKERS = ("numpy", "pip", "setuptools", "venv", "wheel")
 OLDEST = 17  # the least 2.N of the GNU C library that a tag can name
+MAKERS = ("numpy", "pip", "setuptools", "venv", "wheel")
 
 
 class Said(ctypes.Structure):
@@ -44,22 +46,12 @@ def version_of(library):
     return room.raw[: said.size].split()[-1].decode()
 
 
-def link(archive, heap, folder, compiler):
-    """The shared library of the static one and of the kit's functions that take memory, with one name to call."""
-    names, shared = folder / "names", folder / "libsurf.so"
-    names.write_text(f"{{ global: {EXPORTED}; local: *; }};\n")
-    whole = ["-Wl,--whole-archive", archive, "-Wl,--no-whole-archive", heap]
-    subprocess.run([compiler, "-shared", "-o", shared, f"-Wl,--version-script={names}", *FLAGS, *whole], check=True)
-    return shared
-
-
 def platform_of(library):
-    """The platform in a wheel's name, by the symbols of the C library that the shared library asks for."""
-    told = subprocess.run(["readelf", "-d", "-V", library], capture_output=True, text=True, check=True).stdout
-    needed = set(re.findall(r"NEEDED.*\[(.*)\]", told))
+    """The platform in a wheel's name, by what the shared library asks for."""
+    needed = set(re.findall(r"NEEDED.*\[(.*)\]", proof.ran(["readelf", "-d", library])))
     if needed - ALLOWED:
         raise SystemExit(f"{library} asks for {' '.join(sorted(needed - ALLOWED))}")
-    newest = max([OLDEST, *(int(minor) for minor in re.findall(r"GLIBC_2\.(\d+)", told))])
+    newest = max(OLDEST, int(libraries.needed_glibc(library).split(".")[1]))
     old_name = ".manylinux2014_x86_64" if newest == OLDEST else ""
     return f"manylinux_2_{newest}_x86_64{old_name}"
 
@@ -87,13 +79,7 @@ def interpreter():
     for path in (sys.executable, shutil.which("python3"), "/usr/bin/python3"):
         if path and os.path.exists(path) and subprocess.run([path, "-c", asked]).returncode == 0:
             return path
-    raise SystemExit(f"no interpreter has {', '.join(MAKERS)}")
-
-
-def committed():
-    """The seconds of the last commit, which are those of the files in the wheel, so that it is made the same again."""
-    words = ["git", "-C", str(TOP), "log", "-1", "--format=%ct"]
-    return subprocess.run(words, capture_output=True, text=True).stdout.strip() or "315532800"
+    raise SystemExit(f"an interpreter with {', '.join(MAKERS)} isn't here")
 
 
 def made(python, library, to):
@@ -103,8 +89,8 @@ def made(python, library, to):
             shutil.copy(HERE / name, room)
         assemble(pathlib.Path(room, "src"), library)
         words = ["wheel", "--quiet", "--no-build-isolation", "--no-deps", "--no-index", "--wheel-dir", to, room]
-        settings = {"SOURCE_DATE_EPOCH": committed(), **os.environ, "SURFBASIS_PLATFORM": platform_of(library)}
-        subprocess.run([python, "-m", "pip", *words], check=True, env=settings)
+        settings = {"SOURCE_DATE_EPOCH": str(proof.commit_time()), "SURFBASIS_PLATFORM": platform_of(library)}
+        subprocess.run([python, "-m", "pip", *words], check=True, env={**os.environ, **settings})
     return max(pathlib.Path(to).glob("surfbasis-*.whl"), key=lambda path: path.stat().st_mtime)
 
 
@@ -125,15 +111,14 @@ def tried(python, wheel, program):
 def main():
     parser = argparse.ArgumentParser(description=__doc__, formatter_class=argparse.RawDescriptionHelpFormatter)
     parser.add_argument("--to", type=pathlib.Path, required=True)
-    parser.add_argument("--library", type=pathlib.Path, default=TOP / "crates/surf_c/out/libsurf_c.a")
-    parser.add_argument("--program", type=pathlib.Path, default=TOP / "crates/surf/out/surf")
+    parser.add_argument("--library", type=pathlib.Path, default=libraries.MADE)
+    parser.add_argument("--program", type=pathlib.Path, default=proof.PROGRAM)
     given = parser.parse_args()
-    page = subprocess.run(["rt", "doc"], capture_output=True, text=True, check=True).stdout.strip()
-    heap = pathlib.Path(page).parent / "c/liblibc_c.a"
     python = interpreter()
     given.to.mkdir(parents=True, exist_ok=True)
     with tempfile.TemporaryDirectory() as room:
-        shared = link(given.library.resolve(), heap, pathlib.Path(room), os.environ.get("CC", "cc"))
+        shared = pathlib.Path(room, "libsurf.so")
+        libraries.link_shared(shared, shared.name, given.library.resolve())
         wheel = made(python, shared, given.to.resolve())
     if not tried(python, wheel, given.program.resolve()):
         print(f"{wheel.name} fails its tests in a fresh environment")

@@ -19,16 +19,16 @@ def make() -> None:
     ran(["rt", "lib"], cwd=CRATE)
 
 
-def archives() -> list[pathlib.Path]:
-    return [MADE, kit_folder() / "c/liblibc_c.a"]
+def archives(made: pathlib.Path = MADE) -> list[pathlib.Path]:
+    return [made, kit_folder() / "c/liblibc_c.a"]
 
 
-def link_shared(to: pathlib.Path, soname: str) -> None:
+def link_shared(to: pathlib.Path, soname: str, static: pathlib.Path = MADE) -> None:
     """The shared library, with one name that others may call."""
     script = to.with_suffix(".map")
     script.write_text(f"{{ global: {EXPORTED}; local: *; }};\n")
     names = [f"-Wl,-soname,{soname}", f"-Wl,--version-script={script}"]
-    made, heap = archives()
+    made, heap = archives(static)
     ran(["cc", "-shared", "-o", to, *names, *FLAGS, "-Wl,--whole-archive", made, "-Wl,--no-whole-archive", heap])
     ran(["strip", "--strip-unneeded", to])
     script.unlink()

@@ -16,8 +16,6 @@ import subprocess
 import sys
 import tempfile
 
-import check_c
-
 TOP = pathlib.Path(__file__).resolve().parent.parent
 sys.path.insert(0, str(TOP / "python"))
 import build  # noqa: E402
@@ -36,13 +34,12 @@ def interpreter():
 
 def shared_library(archive, folder):
     """The shared library of the static one, or nothing, with the reason."""
-    if not archive.is_file():
-        return None, f"{archive.name} isn't here"
-    if not check_c.compiler():
-        return None, "a compiler of C isn't here"
-    if not shutil.which("rt"):
-        return None, "rt isn't here"
-    return build.link(archive, check_c.heap(), folder, check_c.compiler()), None
+    missing = [tool for tool in ("cc", "rt", "strip", "nm") if not shutil.which(tool)]
+    if missing or not archive.is_file():
+        return None, f"{[*missing, archive.name][0]} isn't here"
+    shared = folder / "libsurf.so"
+    build.libraries.link_shared(shared, shared.name, archive)
+    return shared, None
 
 
 def tried(python, package, program, way):
@@ -104,8 +101,8 @@ def main():
         print("the package in Python isn't tried, since numpy isn't here")
         return 0
     if not given.program.is_file():
-        print(f"the package in Python isn't tried, since {given.program.name} isn't built")
-        return 0
+        print(f"{given.program.name} isn't built: the package in Python can't be tried")
+        return 1
     with tempfile.TemporaryDirectory() as folder:
         shared, reason = shared_library(given.library.resolve(), pathlib.Path(folder))
         if reason:

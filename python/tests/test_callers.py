@@ -133,6 +133,8 @@ class Using(unittest.TestCase):
         self.assertTrue(issubclass(surfbasis.TimedOut, TimeoutError))
 
     def test_ctrl_c(self):
+        # what is started in the background may have been told to ignore it
+        self.addCleanup(signal.signal, signal.SIGINT, signal.signal(signal.SIGINT, signal.default_int_handler))
         with tempfile.TemporaryDirectory() as folder:
             surfbasis.use(surfbasis.Program(script(folder, "exec sleep 60")))
             main = threading.main_thread().ident

@@ -6,7 +6,7 @@ import unittest
 
 import numpy as np
 import surfbasis
-from support import CORNERS, CUBE, MESHES, ROOM, off_text, read
+from support import CORNERS, CUBE, MESHES, ROOM, off_text, read, torus
 
 
 def written(name, data):
@@ -55,6 +55,47 @@ class Files(unittest.TestCase):
         self.assertEqual(sorted(surface.faces[-1].tolist()), sorted(faces[0].tolist()))
         self.assertTrue(any("hole" in note for note in surface.notes))
 
+    def test_loops_round_holes(self):
+        points, faces = torus(5, 6)
+        for gone, due in [([], [5, 6]), ([3], [5, 6]), ([3, 20], [3, 5, 6]), ([3, 20, 47], [3, 3, 5, 6])]:
+            surface = surfbasis.Surface.mended(points, np.delete(faces, gone, axis=0), close="hub", lengths="unit")
+            for walks in (surface.basis(), surface.loops(0)):
+                self.assertEqual(len(walks), len(due))
+                self.assertLess(max(int(walk.vertices.max()) for walk in walks), 30)
+                self.assertEqual((walks.units, walks.length), (sum(walk.units for walk in walks), walks.units))
+            self.assertEqual([walk.units for walk in surface.basis()], due)
+            if surface.vertex_count > 30:
+                with self.assertRaises(surfbasis.BaseRefused):
+                    surface.loops(30)
+
+    def test_a_ring_without_lids(self):
+        around = 2 * np.pi * np.arange(12) / 12
+        points = np.concatenate([np.stack([np.cos(around), np.sin(around), 0 * around + z], axis=1) for z in (0, 1)])
+        points[12:, :2] *= 2
+        faces = [[k, (k + 1) % 12, 12 + (k + 1) % 12, 12 + k] for k in range(12)]
+        surface = surfbasis.Surface.mended(points, faces, close="hub", decimals=5)
+        side = int(2 * np.sin(np.pi / 12) * 10**5)
+        basis = surface.basis()
+        self.assertEqual([(walk.units, sorted(walk.vertices.tolist())) for walk in basis], [(12 * side, list(range(12)))])
+        dear = np.where(surface.edges[:, 1] < 12, 9, 1)
+        self.assertEqual(surface.with_lengths(dear).basis()[0].vertices.min(), 12)
+        for lengths in (None, "unit"):
+            with self.assertRaises(ValueError):
+                surface.with_lengths(lengths)
+        with self.assertRaises(ValueError):
+            surfbasis.Surface.mended(points, faces, close="hub", lengths=dear)
+        with self.assertRaises(ValueError):
+            surfbasis.Surface.mended(points, faces, close="lid")
+
+    def test_a_cycle_longer_than_the_hub(self):
+        square = np.array([[0, 0, 0], [40, 0, 0], [40, 40, 0], [0, 40, 0]], float)
+        points = np.concatenate([square, square + (0, 0, 1)])
+        faces = [[k, (k + 1) % 4, 4 + (k + 1) % 4, 4 + k] for k in range(4)]
+        short = surfbasis.Surface.mended(points, faces, close="hub").basis()
+        self.assertEqual([walk.length for walk in short], [160.0])
+        with self.assertRaisesRegex(ValueError, "fewer decimals"):
+            surfbasis.Surface.mended(points, faces, close="hub", decimals=8).basis()
+
     def test_near_points(self):
         vertices, faces = read("ring")
         corners = np.reshape(faces, -1)
@@ -86,6 +127,11 @@ class Files(unittest.TestCase):
         mixed = surfbasis.Surface.mended(CORNERS, [*CUBE[:5], [1, 5, 7]], close=True)
         self.assertEqual([len(face) for face in mixed.faces], [4] * 5 + [3, 3])
         self.assertIsNone(surfbasis.Surface(CORNERS, CUBE).vertex_origins)
+        for wrong, kind in [((CORNERS, np.array(CUBE, float)), TypeError), ((8, CUBE), ValueError)]:
+            with self.assertRaises(kind):
+                surfbasis.Surface.mended(*wrong)
+        with self.assertRaises(surfbasis.MeshFileError):
+            surfbasis.Surface.mended(CORNERS, [*CUBE, [0, 1, -1]])
 
     def test_files_that_are_none(self):
         for name, data in [("empty.off", ""), ("words.obj", "hello\n"), ("points.off", "OFF\n1 0 0\n0 0 0\n")]:

@@ -88,6 +88,15 @@ class Painted(unittest.TestCase):
         self.assertGreater(count_near(self.picture(cube), (255, 255, 255), 0), 1000)
         self.assertGreater((self.picture(cube) < 250).all(axis=2).sum(), 10000)
 
+    def test_what_closes_holes_is_left_out(self):
+        vertices, faces = read("eight")
+        whole = self.picture(surfbasis.Surface(vertices, faces))
+        for close in (True, "hub"):
+            holed = surfbasis.Surface.mended(vertices, np.delete(faces, np.arange(0, 1512, 400), axis=0), close=close)
+            seen = self.picture(holed)
+            self.assertLess((np.abs(seen - whole).max(axis=2) > 60).mean(), 0.05)
+            self.assertGreater((seen != whole).any(axis=2).sum(), 5)
+
     def test_other_endings_want_matplotlib(self):
         with mock.patch.dict(sys.modules, NO_MATPLOTLIB), self.assertRaises(ImportError):
             surfbasis.plot.save(os.path.join(ROOM.name, "a.svg"), surfbasis.Surface(CORNERS, CUBE))

@@ -230,6 +230,9 @@ class Arrays(unittest.TestCase):
         for kind in (np.uint8, np.int32, np.int64, np.uint64):
             fives = surface.with_lengths(np.full(21, 5, kind))
             self.assertEqual((fives.basis().units, fives.units.tolist()), (30, [5] * 21))
+        exact = surface.with_lengths(np.full(21, 25), decimals=2)
+        self.assertEqual((exact.basis().length, exact.decimals, exact.lengths[0]), (1.5, 2, 0.25))
+        self.assertEqual(surface.with_lengths("unit", decimals=2).basis().length, 6.0)
         longest = surface.with_lengths(np.full(21, 2**32 - 1))
         self.assertEqual(longest.basis().units, 6 * (2**32 - 1))
         self.assertEqual(surface.units.tolist(), [1] * 21)

@@ -16,12 +16,14 @@ def main(words: Optional[List[str]] = None) -> int:
     parser.add_argument("mesh", help="an OFF, OBJ, PLY or STL file, also with .gz behind")
     parser.add_argument("picture", nargs="?", help="where the picture goes; MESH.png in this folder if none is named")
     parser.add_argument("--close", action="store_true", help="close each hole by one face")
+    parser.add_argument("--hub", action="store_true", help="join all holes, so that loops round them count")
     parser.add_argument("--tolerance", type=float, default=0.0, help="merge points of open edges nearer than this")
     parser.add_argument("--base", type=int, help="draw loops at this vertex in place of a basis")
     given = parser.parse_args(words)
     picture = given.picture or f"{pathlib.Path(given.mesh).name.partition('.')[0]}.png"
     try:
-        surface = Surface.from_file(given.mesh, close=given.close, tolerance=given.tolerance)
+        close = "hub" if given.hub else given.close
+        surface = Surface.from_file(given.mesh, close=close, tolerance=given.tolerance)
         walks = surface.basis() if given.base is None else surface.loops(given.base)
     except Refused as refused:
         print(refused, file=sys.stderr)

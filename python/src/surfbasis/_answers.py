@@ -193,7 +193,8 @@ class Evidence:
 class Verdict:
     """Whether a certificate or evidence is right. It is true where it is.
 
-    units:   the exact total of the walks that a valid certificate is of; None for evidence, and where there is a fault
+    units:   the exact total of the walks that a valid certificate is of; None for evidence, and where there is a
+             fault
     fault:   the first fault, as surf names it; None where there is none
     meaning: what that fault means; empty where there is none
 

@@ -7,11 +7,12 @@ import operator
 from typing import Any, Iterator, List, Optional, Sequence, Tuple, Union
 
 import numpy as np
+import numpy.typing as npt
 
 from . import _mending
+from ._advice import advice_in
 from ._answers import Cut, Distances, Evidence, Info, Polygons, Verdict, Walk, Walks
 from ._callers import Path, caller
-from ._advice import advice_in
 from ._faces import Faces, arrays_of, frozen, points_of
 from ._refusals import BaseRefused, LengthsRefused, refusal
 from ._rooms import Rooms
@@ -30,7 +31,8 @@ class Surface:
               direction, and the surface may be one-sided
     lengths:  None to measure the edges, in units of 10**-decimals; "unit" for the length 1 of each; or shape (e,),
               whole numbers from 1 to 4,294,967,295, one for each of `edges`. Without places None is as "unit"
-    decimals: from 0 to 9, where edges are measured; None takes as many as the longest edge allows
+    decimals: from 0 to 9: a unit is 10**-decimals of the mesh's own unit. None takes as many as the longest edge
+              allows where edges are measured, and 0 where lengths are given; of "unit" it is 0
 
     In place of vertices and faces also a mesh of trimesh or of meshio. Arrays may be of any numbers that numpy has;
     they are copied. Only shapes and types are checked here (ValueError, TypeError); each question first asks whether
@@ -51,16 +53,17 @@ class Surface:
     ):
         if faces is None:
             vertices, faces = arrays_of(vertices)
-        if decimals is not None and not 0 <= operator.index(decimals) <= MOST_DECIMALS:
-            raise ValueError(f"decimals are from 0 to {MOST_DECIMALS}, and not {decimals}")
         self._count, self._points = points_of(vertices)
         self._faces = Faces.of(faces)
         self._listed: Optional[bytes] = None
         self._edges: Optional[Ints] = None
         self._origins: Optional[_mending.Origins] = None
+        self._hub: Optional[_mending.Hub] = None
         self._set_lengths(lengths, decimals)
 
     def _set_lengths(self, lengths: Any, decimals: Optional[int]) -> None:
+        if decimals is not None and not 0 <= operator.index(decimals) <= MOST_DECIMALS:
+            raise ValueError(f"decimals are from 0 to {MOST_DECIMALS}, and not {decimals}")
         self._given, self._wished = lengths, decimals
         if lengths is None and self._points is None:
             self._given = "unit"
@@ -80,7 +83,7 @@ class Surface:
         cls,
         path: Path,
         *,
-        close: bool = False,
+        close: Union[bool, str] = False,
         tolerance: float = 0.0,
         part: int = 0,
         lengths: Any = None,
@@ -89,7 +92,9 @@ class Surface:
         """The surface of an OFF, OBJ, PLY or STL file, also with .gz behind, mended where it has to be.
 
         tolerance: points of open edges that are nearer than this become one
-        close:     whether each hole is closed by one face
+        close:     True closes each hole by one face; "hub" joins all holes by a sphere, whose own edges are so long
+                   that `loops` and `basis` are those of the surface with its holes, and loops round holes count;
+                   False leaves holes open
         part:      which of the parts that don't hang together, from 0, the one with the most faces first
 
         `vertex_origins` and `face_origins` have the file's own numbers, `notes` what was done. Raises MeshFileError
@@ -98,7 +103,7 @@ class Surface:
         >>> Surface.from_file("meshes/ring.off").info().genus
         1
         """
-        mended = _mending.mended_file(path, tolerance, part, close)
+        mended = _mending.mended_file(path, _mending.How(close, tolerance, part))
         return cls._of_mended(mended, lengths, decimals)
 
     @classmethod
@@ -107,7 +112,7 @@ class Surface:
         vertices: Any,
         faces: Any = None,
         *,
-        close: bool = False,
+        close: Union[bool, str] = False,
         tolerance: float = 0.0,
         part: int = 0,
         lengths: Any = None,
@@ -124,7 +129,8 @@ class Surface:
         """
         if faces is None:
             vertices, faces = arrays_of(vertices)
-        return cls._of_mended(_mending.mended_arrays(vertices, faces, tolerance, part, close), lengths, decimals)
+        mended = _mending.mended_arrays(vertices, faces, _mending.How(close, tolerance, part))
+        return cls._of_mended(mended, lengths, decimals)
 
     @classmethod
     def mended_parts(
@@ -132,7 +138,7 @@ class Surface:
         vertices: Any,
         faces: Any = None,
         *,
-        close: bool = False,
+        close: Union[bool, str] = False,
         tolerance: float = 0.0,
         lengths: Any = None,
         decimals: Optional[int] = None,
@@ -147,14 +153,31 @@ class Surface:
         """
         if faces is None:
             vertices, faces = arrays_of(vertices)
-        for mended in _mending.mended_parts(vertices, faces, tolerance, close):
+        for mended in _mending.mended_parts(vertices, faces, _mending.How(close, tolerance)):
             yield cls._of_mended(mended, lengths, decimals)
 
     @classmethod
-    def _of_mended(cls, mended: _mending.MendedMesh, lengths: Any, decimals: Optional[int]) -> Surface:
+    def _of_mended(cls, mended: _mending.Mended, lengths: Any, decimals: Optional[int]) -> Surface:
+        if mended.hub is not None:
+            lengths, decimals = cls._hub_lengths(mended, mended.hub, lengths, decimals)
         surface = cls(mended.points, mended.faces, lengths=lengths, decimals=decimals)
-        surface._origins = mended.origins
+        surface._origins, surface._hub = mended.origins, mended.hub
         return surface
+
+    @classmethod
+    def _hub_lengths(
+        cls, mended: _mending.Mended, hub: _mending.Hub, lengths: Any, decimals: Optional[int]
+    ) -> Tuple[Ints, int]:
+        """Lengths and their decimals where a hub joins holes: the greatest for its edges, and those of the others."""
+        if lengths is not None and not isinstance(lengths, str):
+            raise ValueError('where a hub joins holes, lengths are measured or "unit"; others by `with_lengths`')
+        if decimals is None:
+            decimals = mended.most_decimals(hub, GREATEST_LENGTH, MOST_DECIMALS)
+        near = cls(*mended.without(hub), lengths=lengths, decimals=decimals)
+        edges = cls(len(mended.points), mended.faces).edges
+        units = np.full(len(edges), GREATEST_LENGTH)
+        units[~_is_far(edges, hub)] = near.units
+        return units, near.decimals
 
     def with_lengths(self, lengths: Any = None, decimals: Optional[int] = None) -> Surface:
         """The same mesh with other lengths, as the class takes them.
@@ -164,6 +187,10 @@ class Surface:
         >>> dear.cycle().units % 7
         0
         """
+        if self._hub is not None:
+            if lengths is None or isinstance(lengths, str):
+                raise ValueError("where a hub joins holes, other lengths are an array")
+            lengths = np.where(_is_far(self.edges, self._hub), GREATEST_LENGTH, lengths)
         other = object.__new__(type(self))
         other.__dict__.update(self.__dict__)
         other._set_lengths(lengths, decimals)
@@ -235,14 +262,14 @@ class Surface:
 
     @property
     def decimals(self) -> int:
-        """A unit is 10**-decimals of the mesh's own unit; 0 where lengths aren't measured.
+        """A unit is 10**-decimals of the mesh's own unit.
 
         >>> Surface.from_file("meshes/eight.off").decimals
         9
         """
-        if self._given is not None:
-            return 0
-        return self._measure()[1]
+        if self._given is None:
+            return self._measure()[1]
+        return 0 if isinstance(self._given, str) else self._wished or 0
 
     @property
     def vertex_origins(self) -> Optional[Ints]:
@@ -337,9 +364,10 @@ class Surface:
         return self._ask(words, [*files, *more], room)
 
     def _base(self, base: Any) -> int:
-        number = operator.index(base)
-        if not 0 <= number <= GREATEST_LENGTH:
-            raise BaseRefused(7, f"base: {number} of {self._count}")
+        """A base in digits, as surf reads it. A vertex of a hub is none."""
+        number, count = operator.index(base), self._count if self._hub is None else self._hub.first_vertex
+        if not 0 <= number <= NO_VERTEX or number >= count < self._count:
+            raise BaseRefused(7, f"base: {number} of {count}")
         return number
 
     # ---- questions
@@ -513,8 +541,10 @@ class Surface:
         return Walk(frozen(vertices[:-1] if len(vertices) > 1 else vertices), int(row[1]), self.decimals)
 
     def _walks(self, text: bytes) -> Walks:
-        rows = text.splitlines()
-        return Walks(tuple(self._walk(row.split()) for row in rows[2:]), int(rows[1].split()[1]), self.decimals)
+        walks = tuple(self._walk(row.split()) for row in text.splitlines()[2:])
+        if self._hub is not None:
+            walks = _off_the_hub(walks, self._hub)
+        return Walks(walks, sum(walk.units for walk in walks), self.decimals)
 
     def _opened(self, text: bytes) -> Cut:
         """The cut of a text whose vertex lines are all `0 0 0`."""
@@ -534,6 +564,20 @@ class Surface:
         keys, counts = np.unique(_pair_keys(corners[near], following[near], len(origins)), return_counts=True)
         ends = origins[_pairs(keys[counts == 1], len(origins))]
         return _pairs(np.unique(_pair_keys(ends[:, 0], ends[:, 1], self._count)), self._count)
+
+
+def _is_far(edges: Ints, hub: _mending.Hub) -> npt.NDArray[np.bool_]:
+    """Which edges are the hub's own: those that end at a vertex of it."""
+    far: npt.NDArray[np.bool_] = edges[:, 1] >= hub.first_vertex
+    return far
+
+
+def _off_the_hub(walks: Tuple[Walk, ...], hub: _mending.Hub) -> Tuple[Walk, ...]:
+    """The walks without a vertex of the hub: all but one less than there are holes, and these the first."""
+    kept = tuple(walk for walk in walks if int(walk.vertices.max()) < hub.first_vertex)
+    if kept != walks[: len(walks) - (len(hub.rims) - 1)]:
+        raise ValueError("a cycle that is needed is longer than an edge of the hub: take fewer decimals")
+    return kept
 
 
 def _pair_keys(first: Ints, second: Ints, count: int) -> Ints:

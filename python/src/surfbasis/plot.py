@@ -15,7 +15,7 @@ from typing import Any, Iterable, List, NamedTuple, Tuple
 import numpy as np
 
 from . import _painting
-from ._answers import Cut, Evidence, Walk
+from ._answers import Cut, Evidence, Polygons, Walk
 from ._callers import Path
 from ._surface import Surface
 from ._texts import Floats, Ints
@@ -51,9 +51,10 @@ class Line(NamedTuple):
 
 class Scene(NamedTuple):
     """A surface as it is seen, in parts of the picture's width from -0.5 to 0.5: how far right, up and near each
-    vertex is, shape (n, 3); the colours of the faces, shape (m, 3), and the lines on them."""
+    vertex is, shape (n, 3); the faces that are drawn, their colours, shape (m, 3), and the lines on them."""
 
     places: Floats
+    faces: Polygons
     colours: Floats
     lines: List[Line]
 
@@ -82,7 +83,7 @@ def draw(
     scene = scene_of(surface, shown, values, turn, tilt)
     if axes is None:
         axes = plt.figure(figsize=(6, 6)).add_subplot()
-    axes.add_collection(PolyCollection(**_shapes(scene, surface), capstyle="round", joinstyle="round"))
+    axes.add_collection(PolyCollection(**_shapes(scene), capstyle="round", joinstyle="round"))
     for line in scene.lines:
         if line.label:
             axes.plot([], [], color=line.colour / 255, linewidth=2.5, label=line.label)
@@ -115,7 +116,7 @@ def save(
             raise
         scene = scene_of(surface, shown, values, turn, tilt)
         steps = [(line.edges, line.colour) for line in scene.lines]
-        pathlib.Path(path).write_bytes(_painting.png(scene.places, surface.faces, scene.colours, steps, LIFT, size))
+        pathlib.Path(path).write_bytes(_painting.png(scene.places, scene.faces, scene.colours, steps, LIFT, size))
         return
     figure = matplotlib.figure.Figure(figsize=(6, 6))
     draw(surface, shown, values=values, axes=figure.add_axes((0, 0, 1, 1)), turn=turn, tilt=tilt)
@@ -126,31 +127,42 @@ def scene_of(surface: Surface, shown: Any, values: Any, turn: float, tilt: float
     """What `draw` and `save` draw."""
     if surface.vertices is None:
         raise ValueError("a surface without places can't be drawn")
-    places = _seen(surface.vertices, turn, tilt)
     lines, marked = _marks(shown)
     if values is None:
         colours = np.tile(PLAIN, (len(surface.faces), 1))
     else:
         colours = _by_value(surface, np.asarray(values, float))
     colours[marked] = MARKED
-    return Scene(places, colours * _light(places, surface)[:, None], lines)
+    faces, colours = _own_faces(surface, colours)
+    places = _seen(surface.vertices, np.unique(np.concatenate(list(faces))), turn, tilt)
+    return Scene(places, faces, colours * _light(places, faces)[:, None], lines)
 
 
-def _seen(points: Floats, turn: float, tilt: float) -> Floats:
-    """How far right, up and near each point is."""
+def _own_faces(surface: Surface, colours: Floats) -> Tuple[Polygons, Floats]:
+    """The faces and their colours, without those that were added to close holes."""
+    faces, origins = surface.faces, surface.face_origins
+    if origins is None or (origins >= 0).all():
+        return faces, colours
+    own = np.flatnonzero(origins >= 0)
+    shown = [faces[number] for number in own]
+    alike = len({len(face) for face in shown}) == 1
+    return np.stack(shown) if alike else tuple(shown), colours[own]
+
+
+def _seen(points: Floats, drawn: Ints, turn: float, tilt: float) -> Floats:
+    """How far right, up and near each point is, where those that are drawn fill the picture."""
     a, b = math.radians(turn), math.radians(tilt)
     right = (math.cos(a), -math.sin(a), 0.0)
     up = (math.sin(a) * math.sin(b), math.cos(a) * math.sin(b), math.cos(b))
     near = (-math.sin(a) * math.cos(b), -math.cos(a) * math.cos(b), math.sin(b))
     seen = points @ np.array([right, up, near]).T
-    low, high = seen.min(axis=0), seen.max(axis=0)
+    low, high = seen[drawn].min(axis=0), seen[drawn].max(axis=0)
     places: Floats = (seen - (low + high) / 2) / (max(high[0] - low[0], high[1] - low[1]) or 1.0)
     return places
 
 
-def _light(places: Floats, surface: Surface) -> Floats:
+def _light(places: Floats, faces: Polygons) -> Floats:
     """How bright each face is, whichever way it is turned, shape (m,)."""
-    faces = surface.faces
     first = faces[:, :3] if isinstance(faces, np.ndarray) else np.array([face[:3] for face in faces])
     p, q, r = (places[first[:, k]] for k in range(3))
     normals = np.cross(q - p, r - p)
@@ -195,9 +207,9 @@ def _line(walk: Walk, colour: Floats) -> Line:
     return Line(np.stack([closed[:-1], closed[1:]], axis=1), colour, f"{walk.length:.6g}")
 
 
-def _shapes(scene: Scene, surface: Surface) -> Any:
+def _shapes(scene: Scene) -> Any:
     """Faces, and edges of lines as polygons of two corners, for a collection of polygons; the farthest first."""
-    places, faces = scene.places, surface.faces
+    places, faces = scene.places, scene.faces
     shapes: List[Any] = [places[face, :2] for face in faces]
     nearness = [float(places[face, 2].mean()) for face in faces]
     inks = [*scene.colours]
