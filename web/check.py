@@ -38,7 +38,8 @@ def check_c():
 
 def said(words, **how) -> tuple[int, str]:
     """The status of a command, and all that it wrote."""
-    done = subprocess.run([str(word) for word in words], stdout=subprocess.PIPE, stderr=subprocess.STDOUT, text=True, **how)
+    how |= {"stdout": subprocess.PIPE, "stderr": subprocess.STDOUT, "text": True}
+    done = subprocess.run([str(word) for word in words], **how)
     return done.returncode, done.stdout
 
 

@@ -38,8 +38,9 @@ export function readOpened(data) {
   const disc = readOff(data), { mates, ahead } = matesOf(disc), count = disc.points.length / 3;
   const origins = originsOf(data, count), round = roundOf(mates, disc.corners, ahead), seen = new Set(), edges = [];
   round.forEach((copy, k) => {
-    const u = origins[copy], v = origins[round[(k + 1) % round.length]], key = Math.min(u, v) * count + Math.max(u, v);
-    if (!seen.has(key)) edges.push(Math.min(u, v), Math.max(u, v));
+    const ends = [origins[copy], origins[round[(k + 1) % round.length]]].sort((a, b) => a - b);
+    const key = ends[0] * count + ends[1];
+    if (!seen.has(key)) edges.push(...ends);
     seen.add(key);
   });
   return { disc, origins, round: Uint32Array.from(round), edges: Uint32Array.from(edges) };

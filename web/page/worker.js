@@ -1,6 +1,6 @@
 // The worker: it keeps the mesh and the files that calls name, and calls the program, so that the page stays alive.
 import { Lines } from './lines.js';
-import { kindOf, readLooseOff, readMesh } from './readers.js';
+import { isWantOfMemory, kindOf, readLooseOff, readMesh } from './readers.js';
 import { closed, largest, merged, offOf, split, tidy } from './mend.js';
 import { shapeOf } from './shape.js';
 import { readOpened } from './opened.js';
@@ -63,7 +63,7 @@ const does = {
     return { cutsThrough: state.program.call('cut 1 unit 0 through 1', []).status !== 2 };
   },
 
-  /** Opens a file. An OFF goes to the program as it stands, so that the lines which it names are those of the file. */
+  /** Opens a file. An OFF goes to the program as it stands, so that lines which it names are those of the file. */
   open({ name, data }) {
     state.kind = kindOf(name, data);
     state.data = data;
@@ -110,17 +110,14 @@ const does = {
   /** Reads the cut that stands in the file `cut`. */
   opened() {
     state.opened = readOpened(state.files.get('cut'));
-    const copies = state.opened.origins.length;
-    return { edges: state.opened.edges.slice(), copies, border: state.opened.round.length, isFlat: copies <= MOST_UNFOLDED };
+    const { edges, origins, round } = state.opened, copies = origins.length;
+    return { edges: edges.slice(), copies, border: round.length, isFlat: copies <= MOST_UNFOLDED };
   },
 
   unfold() {
     return { ...unfold(state.opened), round: state.opened.round.slice() };
   },
 };
-
-/** What a browser throws where a table has no room. */
-const isWantOfMemory = (fault) => fault instanceof RangeError && /alloc|memory|length/i.test(fault.message);
 
 async function answer({ id, what, ...given }) {
   let said;
