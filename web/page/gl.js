@@ -54,6 +54,9 @@ function compiled(gl, [vertex, fragment]) {
   return program;
 }
 
+/** So many edges of one line are painted wide; more are painted as thin lines, for the sake of speed. */
+const MOST_WIDE = 100000;
+
 export class GlPainter {
   /** @param {WebGL2RenderingContext} gl */
   constructor(gl) {
@@ -80,12 +83,23 @@ export class GlPainter {
 
   setLines(lines) {
     for (const { buffer } of this.lines) this.gl.deleteBuffer(buffer);
-    this.lines = lines.map((line) => ({ ...line, ...this.segments(line.edges) }));
+    this.lines = lines.map((line) => {
+      const isThin = line.edges.length / 2 > MOST_WIDE;
+      return { ...line, isThin, ...(isThin ? this.ends(line.edges) : this.segments(line.edges)) };
+    });
   }
 
   setMarked(triangles) {
     this.sizes.marked = triangles.length;
     this.fill('marked', triangles, this.gl.ELEMENT_ARRAY_BUFFER);
+  }
+
+  /** A buffer with the vertices of all edges. */
+  ends(edges) {
+    const { gl } = this, buffer = gl.createBuffer();
+    gl.bindBuffer(gl.ELEMENT_ARRAY_BUFFER, buffer);
+    gl.bufferData(gl.ELEMENT_ARRAY_BUFFER, edges, gl.STATIC_DRAW);
+    return { buffer, count: edges.length };
   }
 
   /** A buffer with both ends of each edge, and how far along the walk these are. */
@@ -149,7 +163,7 @@ export class GlPainter {
     gl.polygonOffset(0, 0);
     this.paintFaces('marked', { turn, whole, colour: shares(tint) });
     gl.disable(gl.POLYGON_OFFSET_FILL);
-    this.paintEdges(whole, colours.wire);
+    this.paintWires(whole, this.buffers.edges, this.sizes.edges, [...shares(colours.wire), this.faintness()]);
     this.paintLines(whole, colours.faint, ratio);
   }
 
@@ -161,12 +175,16 @@ export class GlPainter {
     gl.drawElements(gl.TRIANGLES, this.sizes[name], gl.UNSIGNED_INT, 0);
   }
 
-  /** The edges of the mesh, the fainter the more there are. */
-  paintEdges(whole, wire) {
-    const { gl } = this, size = this.sizes.edges, alpha = size > 400000 ? 0.05 : size > 40000 ? 0.12 : 0.3;
-    const program = this.use('thin', { whole, colour: [...shares(wire), alpha] });
+  /** How faint the edges of the mesh are: the fainter the more there are. */
+  faintness() {
+    if (this.sizes.edges > 400000) return 0.05;
+    return this.sizes.edges > 40000 ? 0.12 : 0.3;
+  }
+
+  paintWires(whole, buffer, size, colour) {
+    const { gl } = this, program = this.use('thin', { whole, colour });
     this.attribute(program, 'at', this.buffers.points, [3, 0, 0, 0]);
-    gl.bindBuffer(gl.ELEMENT_ARRAY_BUFFER, this.buffers.edges);
+    gl.bindBuffer(gl.ELEMENT_ARRAY_BUFFER, buffer);
     gl.drawElements(gl.LINES, size, gl.UNSIGNED_INT, 0);
   }
 
@@ -182,8 +200,9 @@ export class GlPainter {
         if (!line.count) continue;
         const [a, b = 2, c = 2] = PATTERNS[line.pattern];
         const alpha = (isBehind && !line.isAhead ? 0.25 : 1) * (line.isDim ? 0.2 : 1);
-        const own = { colour: [...shares(line.colour), alpha], stops: [a, b, c], width: line.width * ratio };
-        this.paintSegments(line, this.use('thick', { ...both, ...own }));
+        const colour = [...shares(line.colour), alpha], own = { colour, stops: [a, b, c], width: line.width * ratio };
+        if (line.isThin) this.paintWires(whole, line.buffer, line.count, colour);
+        else this.paintSegments(line, this.use('thick', { ...both, ...own }));
       }
     }
     gl.depthMask(true);

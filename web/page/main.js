@@ -37,9 +37,9 @@ async function unpacked(id) {
 }
 
 async function sample(name) {
-  if (name === 'Klein bottle') return new TextEncoder().encode(kleinBottle(28, 16));
+  if (name === 'Klein bottle') return new Blob([kleinBottle(28, 16)]);
   page.samples ||= JSON.parse(decoded(await unpacked('samples-data')));
-  return new TextEncoder().encode(page.samples[name]);
+  return new Blob([page.samples[name]]);
 }
 
 // Vertices that were chosen.
@@ -275,7 +275,7 @@ function takeShape(shape) {
 }
 
 /** Opens a file, and finds what is chosen; on a mesh that is too large for a basis, loops at a vertex. */
-async function open(name, data) {
+async function open(name, blob) {
   if (!(await isFree())) return;
   let isOpen = false;
   page.shape = null;
@@ -285,7 +285,7 @@ async function open(name, data) {
     page.name = name;
     let shape;
     try {
-      shape = await page.session.open({ name, data });
+      shape = await page.session.open({ name, blob });
     } catch (fault) {
       if (fault instanceof Refused || fault instanceof Stopped) throw fault;
       throw new Error(`${name} can't be read: ${fault.message}.`);
@@ -431,7 +431,7 @@ function save(bytes, name) {
 async function take(file) {
   if (!file) return;
   await page.ready;
-  await open(file.name, new Uint8Array(await file.arrayBuffer()));
+  await open(file.name, file);
 }
 
 function listenToFiles() {

@@ -8,7 +8,7 @@ import { unfold } from './unfold.js';
 import { Program, wantOfMemory } from './program.js';
 
 const encoder = new TextEncoder();
-const state = { program: null, kind: '', data: null, mesh: null, opened: null, files: new Map() };
+const state = { program: null, kind: '', blob: null, mesh: null, opened: null, files: new Map() };
 
 /** The greatest disc that is laid in the plane: beyond it that takes minutes. */
 const MOST_UNFOLDED = 150000;
@@ -52,7 +52,7 @@ const mends = {
   largest: (mesh) => largest(tidy(mesh)),
   split: (mesh) => split(tidy(mesh)),
   close: (mesh) => closed(tidy(mesh)),
-  loose: () => ({ mesh: tidy(readLooseOff(state.data)) }),
+  loose: async () => ({ mesh: tidy(readLooseOff(new Uint8Array(await state.blob.arrayBuffer()))) }),
 };
 
 const does = {
@@ -64,19 +64,18 @@ const does = {
   },
 
   /** Opens a file. An OFF goes to the program as it stands, so that lines which it names are those of the file. */
-  open({ name, data }) {
-    state.kind = kindOf(name, data);
-    state.data = data;
-    const mesh = readMesh(state.kind, data);
-    if (state.kind === 'off') setMesh(mesh, data);
-    else setMesh(tidy(state.kind === 'stl' ? merged(mesh) : mesh));
-    return { kind: state.kind, ...shapeOf(state.mesh) };
+  async open({ name, blob }) {
+    const data = new Uint8Array(await blob.arrayBuffer()), kind = kindOf(name, data), mesh = readMesh(kind, data);
+    Object.assign(state, { kind, blob });
+    if (kind === 'off') setMesh(mesh, data);
+    else setMesh(tidy(kind === 'stl' ? merged(mesh) : mesh));
+    return { kind, ...shapeOf(state.mesh) };
   },
 
   /** Mends the mesh. A mended OFF is written anew, so its names are kept from here on. */
-  mend({ how }) {
+  async mend({ how }) {
     const before = { vertices: state.mesh.points.length / 3, faces: state.mesh.starts.length - 1 };
-    const { mesh, ...more } = mends[how](state.mesh);
+    const { mesh, ...more } = await mends[how](state.mesh);
     if (!mesh.corners.length) throw new Error('nothing of the mesh is left');
     setMesh(mesh);
     const after = { vertices: mesh.points.length / 3, faces: mesh.starts.length - 1 };
