@@ -146,8 +146,7 @@ test('a cut is read: its border, and the edges that were cut', () => {
   const { origins, round, edges } = readOpened(bytes(OPENED));
   assert.deepEqual([...origins], [0, 0, 1, 2, 3]);
   assert.deepEqual([...round].sort(), [0, 1, 2, 3]);
-  const pairs = [0, 1].map((k) => [...edges.subarray(2 * k, 2 * k + 2)].join(' '));
-  assert.deepEqual([edges.length, ...pairs.sort()], [4, '0 1', '0 2']);
+  assert.deepEqual([...edges], [0, 1, 0, 2]);
 });
 
 test('a disc in the plane has its border on the circle and the others at the mean of their neighbours', () => {

@@ -320,7 +320,7 @@ async function measured() {
   page.decimals = decimalsFor(page.shape.longest);
   if (page.measured !== page.decimals) {
     tell('Measuring the edges');
-    await page.session.call(`lengths 1 ${page.decimals}`, ['mesh'], { keep: 'lengths', isLong: true });
+    await page.session.call(`lengths 1 ${page.decimals}`, ['mesh'], { keep: 'lengths', isSilent: true });
     page.measured = page.decimals;
   }
   return '2';

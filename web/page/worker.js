@@ -20,13 +20,14 @@ function setMesh(mesh, text) {
   state.files.set('mesh', text || offOf(mesh));
 }
 
-/** A call of the program; `keep` is the name of a file that its answer becomes. */
-function call({ words, files, keep }) {
+/** A call of the program. `keep` is the name of a file that its answer becomes, which is told where it isn't silent. */
+function call({ words, files, keep, isSilent }) {
   const start = performance.now(), slices = files.map((name) => state.files.get(name));
   const isLong = /^(cut|lengths|dist|certify)/.test(words), size = state.files.get('mesh')?.length || 0;
   const { status, text } = state.program.call(words, slices, isLong ? Math.max(1 << 20, 2 * size) : 1 << 20);
   if (keep && status <= 1) state.files.set(keep, text);
-  return { status, text: keep ? text.slice() : text, ms: performance.now() - start, memory: state.program.memory };
+  const told = keep && status <= 1 ? text.slice(0, isSilent ? 0 : text.length) : text;
+  return { status, text: told, ms: performance.now() - start, memory: state.program.memory };
 }
 
 class Refused extends Error {
