@@ -274,23 +274,27 @@ function takeShape(shape) {
   $('note').textContent = '';
 }
 
+/** What is to be drawn of a file. */
+async function opened(name, blob) {
+  try {
+    return await page.session.open({ name, blob });
+  } catch (fault) {
+    if (fault instanceof Refused || fault instanceof Stopped) throw fault;
+    throw new Error(`${name} can't be read: ${fault.message}.`);
+  }
+}
+
 /** Opens a file, and finds what is chosen; on a mesh that is too large for a basis, loops at a vertex. */
 async function open(name, blob) {
   if (!(await isFree())) return;
   let isOpen = false;
-  page.shape = null;
+  page.shape = page.counts = null;
+  page.view.clear();
   await work(async () => {
     clearAnswer();
     tell(`Reading ${name}`);
     page.name = name;
-    let shape;
-    try {
-      shape = await page.session.open({ name, blob });
-    } catch (fault) {
-      if (fault instanceof Refused || fault instanceof Stopped) throw fault;
-      throw new Error(`${name} can't be read: ${fault.message}.`);
-    }
-    takeShape(shape);
+    takeShape(await opened(name, blob));
     isOpen = true;
   });
   if (!isOpen) return;

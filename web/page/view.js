@@ -42,6 +42,12 @@ export class View {
     this.camera.reset();
   }
 
+  /** Shows no mesh. */
+  clear() {
+    this.shape = this.painter.points = null;
+    this.draw();
+  }
+
   /** Walks are `{edges, width, isDim, isPlain}`: walk k has the style k, or the ink of a mark where it is plain. */
   setWalks(walks) {
     this.walks = walks;
