@@ -8,7 +8,6 @@ import pathlib
 import re
 import struct
 import subprocess
-import sys
 import time
 
 from chrome import Chrome
@@ -95,8 +94,8 @@ class Page(Chrome):
 
     def box(self) -> dict:
         """Where the canvas is."""
-        return self.js("""(() => { const { x, y, width, height } = document.getElementById('canvas').getBoundingClientRect();
-            return { x, y, width, height }; })()""")
+        script = "document.getElementById('canvas').getBoundingClientRect().toJSON()"
+        return {name: self.js(script)[name] for name in ("x", "y", "width", "height")}
 
     def shot(self) -> bytes:
         self.js("new Promise(done => requestAnimationFrame(() => requestAnimationFrame(done)))")
@@ -138,8 +137,8 @@ def files_of_each_kind(room: pathlib.Path) -> list[pathlib.Path]:
     points, faces = read_off(MESHES / "eight.off")
     obj = "".join(f"v {x} {y} {z}\n" for x, y, z in points)
     obj += "".join(f"f {' '.join(f'{c + 1}//{c + 1}' for c in face)}\n" for face in faces)
-    head = "ply\nformat {} 1.0\nelement vertex %d\nproperty float x\nproperty float y\nproperty float z\nelement face %d\n"
-    head = head % (len(points), len(faces)) + "property list uchar int vertex_index\nend_header\n"
+    head = "ply\nformat {} 1.0\nelement vertex %d\nproperty float x\nproperty float y\nproperty float z\n"
+    head = (head + "element face %d\nproperty list uchar int vertex_index\nend_header\n") % (len(points), len(faces))
     ply = head.format("ascii") + "".join(f"{x} {y} {z}\n" for x, y, z in points)
     ply += "".join(f"3 {' '.join(map(str, face))}\n" for face in faces)
     plyb = head.format("binary_little_endian").encode() + b"".join(struct.pack("<3f", *point) for point in points)
@@ -173,7 +172,8 @@ def drop_and_turn(page: Page, checks: Checks):
     start = time.monotonic()
     said = page.settled(lambda: page.drop(MESHES / "eight.off"))
     print(f"web: the basis of eight.off stands {time.monotonic() - start:.2f} s after it was dropped")
-    checks.expect("a dropped mesh", said.startswith("Done: 4 cycles") and page.facts()["total length"] == "12.263", said)
+    good = said.startswith("Done: 4 cycles") and page.facts()["total length"] == "12.263"
+    checks.expect("a dropped mesh", good, said + page.fault())
     before = page.shot()
     page.drag(800, 400, 120, -60)
     turned = page.shot()
@@ -199,7 +199,7 @@ def each_command(page: Page, checks: Checks, program: Program):
     page.settled(lambda: page.click(760, 330))
     vertex = page.js("document.getElementById('vertices').value")
     checks.expect("a click chooses a vertex", re.fullmatch(r"\d+", vertex) and vertex != "0", vertex)
-    starts = {"basis": "4 cycles", "loops": "4 loops", "cycle": "a shortest nonsep", "trim": "a disc", "full": "a disc"}
+    starts = {"basis": "4 cycles", "loops": "4 loops", "cycle": "a shortest", "trim": "a disc", "full": "a disc"}
     for command, due in starts.items():
         said = page.choose(command)
         checks.expect(f"the command {command}", said.startswith(f"Done: {due}"), said + page.fault())
@@ -237,13 +237,13 @@ def walks(page: Page, checks: Checks, program: Program):
         return
     page.set_value("vertices", " ".join(cycle))
     said = page.settled(lambda: page.press("run"))
-    checks.expect("a nonseparating cycle bounds nothing", said.startswith("Done: It bounds no set of faces"), said + page.fault())
+    checks.expect("a nonseparating cycle", said.startswith("Done: It bounds no set of faces"), said + page.fault())
     due = program.said("class 1 2", mesh, f"{' '.join(cycle)} {cycle[0]}\n".encode())
     checks.expect("the bytes of class", page.saved("class.txt", "save") == due)
     page.choose("shortest")
     page.set_value("vertices", " ".join(cycle))
     said = page.settled(lambda: page.press("run"))
-    checks.expect("a shortest walk of the class", said.startswith("Done: a shortest homologous walk"), said + page.fault())
+    checks.expect("a shortest walk", said.startswith("Done: a shortest homologous walk"), said + page.fault())
     due = program.said("shortest 1 unit 3", mesh, b"", f"{' '.join(cycle)} {cycle[0]}\n".encode())
     checks.expect("the bytes of shortest", page.saved("shortest.txt", "save") == due)
     page.set_value("lengths", "space")
@@ -287,39 +287,44 @@ def kinds(page: Page, checks: Checks, room: pathlib.Path):
         checks.expect(f"the file {path.name}", good, said + page.fault())
 
 
-def refusals(page: Page, checks: Checks, room: pathlib.Path):
-    """Files that are refused, what is said of them, and what mends them."""
+def spoiled() -> list[tuple[str, str, str, list[str]]]:
+    """Files that are refused: their names and texts, what is said of them, and the buttons that mend them."""
     points, faces = tet()
     apart = (points + [(x + 3, y, z) for x, y, z in points], faces + [[c + 4 for c in face] for face in faces])
-    touching = (points + [(-x, -y, -z) for x, y, z in points[1:]], faces + [[c and c + 3 for c in face] for face in faces])
+    mirrored = points + [(-x, -y, -z) for x, y, z in points[1:]]
+    touching = (mirrored, faces + [[c and c + 3 for c in face] for face in faces])
     soup = ([points[c] for face in faces for c in face], [(k, k + 1, k + 2) for k in range(0, 12, 3)])
-    cases = [
-        ("open.off", off(points, faces[:3]), "surface: border 1 2 0", "Close the holes", "Done"),
-        ("apart.off", off(*apart), "surface: apart 4", "Keep the largest part", "Done"),
-        ("touching.off", off(*touching), "surface: pinched 0 0 4", "Take it apart there", "No answer"),
-        ("lonely.off", off(points + [(9, 9, 9)], faces), "surface: isolated 4", "Leave such vertices and faces out", "Done"),
-        ("soup.off", off(*soup), "surface: border 0 1 0", "Merge equal points", "Done"),
-        ("loose.off", off(points, faces).replace("OFF", "off"), "mesh text: header 1", "Read the file loosely", "Done"),
-        ("early.off", off(points, faces)[:-9], "mesh text: early 1", None, None),
-        ("hello.off", "hello\n", "mesh text: header 1", None, None),
-        ("none.off", "", "mesh text: header 0", None, None),
-        ("bad.ply", "ply\n", "bad.ply can't be read", None, None),
-        ("bad.stl", "", "bad.stl can't be read", None, None),
-        ("bad.obj", "v 0 0 0\n", "bad.obj can't be read", None, None),
+    keep, whole = "Keep the largest part", off(points, faces)
+    lonely = off(points + [(9, 9, 9)], faces)
+    return [
+        ("open.off", off(points, faces[:3]), "surface: border 1 2 0", ["Close the holes"]),
+        ("apart.off", off(*apart), "surface: apart 4", [keep]),
+        ("touching.off", off(*touching), "surface: pinched 0 0 4", ["Take it apart there", keep]),
+        ("lonely.off", lonely, "surface: isolated 4", ["Leave such vertices and faces out"]),
+        ("soup.off", off(*soup), "surface: border 0 1 0", ["Merge equal points"]),
+        ("loose.off", whole.replace("OFF", "off"), "mesh text: header 1", ["Read the file loosely"]),
+        ("early.off", whole[:-9], "mesh text: early 1", []),
+        ("hello.off", "hello\n", "mesh text: header 1", []),
+        ("none.off", "", "mesh text: header 0", []),
+        ("bad.ply", "ply\n", "bad.ply can't be read", []),
+        ("bad.stl", "", "bad.stl can't be read", []),
+        ("bad.obj", "v 0 0 0\n", "bad.obj can't be read", []),
     ]
-    for name, text, due, cure, ends in cases:
+
+
+def refusals(page: Page, checks: Checks, room: pathlib.Path):
+    """Files that are refused, what is said of them, and what mends them."""
+    for name, text, due, cures in spoiled():
         (room / name).write_text(text)
         said = page.open(room / name)
         checks.expect(f"{name} is refused", said == "No answer" and due in page.fault(), said + page.fault())
         words = page.js("document.querySelector('#fault p').textContent")
         checks.expect(f"{name} in plain words", len(words) > 20 and words != due, words)
-        if cure:
+        for cure in cures:
             said = page.settled(lambda: page.js(f"{page.button(cure)}.click()"))
-            checks.expect(f"{name} is mended", said.startswith(ends) and page.js(text_of("note")) != "", said + page.fault())
-    checks.expect("taken apart, its parts are told", page.open(room / "touching.off") == "No answer")
-    page.settled(lambda: page.js(f"{page.button('Take it apart there')}.click()"))
-    said = page.settled(lambda: page.js(f"{page.button('Keep the largest part')}.click()"))
-    checks.expect("and one of them is kept", said.startswith("Done"), said + page.fault())
+            checks.expect(f"{name}: what was done is told", page.js(text_of("note")) != "", cure)
+        if cures:
+            checks.expect(f"{name} is mended", said.startswith("Done"), said + page.fault())
 
 
 def red_on_the_mesh(page: Page, checks: Checks, room: pathlib.Path):
@@ -362,9 +367,9 @@ def large(page: Page, checks: Checks, room: pathlib.Path):
 
 def samples(page: Page, checks: Checks):
     page.choose("basis")
-    for name, due in (("ring", "2 cycles"), ("eight", "4 cycles"), ("three", "6 cycles"), ("Klein bottle", "2 cycles")):
+    for name, due in (("ring", 2), ("eight", 4), ("three", 6), ("Klein bottle", 2)):
         said = page.settled(lambda: page.js(f"{{ const it = {page.button(name)}; it.focus(); it.click(); }}"))
-        checks.expect(f"the sample {name}", said.startswith(f"Done: {due}"), said + page.fault())
+        checks.expect(f"the sample {name}", said.startswith(f"Done: {due} cycles"), said + page.fault())
     checks.expect("the Klein bottle has one side", page.facts().get("crosscaps") == "2", page.facts())
 
 
@@ -472,5 +477,5 @@ def tried(path: pathlib.Path, program: pathlib.Path | None, room: pathlib.Path, 
         page.close()
     without_webgl(path, room, checks)
     on_a_phone(path, room, checks, pictures)
-    print(f"web: {checks.count} checks of the page in {pathlib.Path(sys.argv[0]).name}'s Chromium, {checks.wrong} wrong")
+    print(f"web: {checks.count} checks of the page in Chromium, {checks.wrong} wrong")
     return checks.wrong

@@ -1,8 +1,10 @@
 #!/usr/bin/env python3
 """Makes surf.wasm and surf.html, the program as a page for a browser.
 
-    build.py [--to FOLDER]                   both, out of the crate surf_c of this checkout; FOLDER is web/out without --to
+    build.py [--to FOLDER]                   both, out of the crate surf_c of this checkout
     build.py --wasm SURF.WASM [--to FOLDER]  the page alone, around a module that stands
+
+FOLDER is web/out where none is named.
 
 `rt lib` proves surf_c for x86-64 and hands its code to clang as one LLVM module. Here that clang also keeps the
 module, which the same clang then compiles for 64-bit WebAssembly, with heap.c and wide.c beside it. Binaryen's
@@ -27,7 +29,8 @@ TOP = WEB.parent
 CRATE = TOP / "crates/surf_c"
 
 # The modules of the page and of its worker, each behind those that it imports from.
-PAGE = ["units", "refusals", "commands", "paint", "samples", "view", "flat", "session", "main"]
+PAGE = ["units", "refusals", "commands", "paint", "samples", "camera", "gl", "plain", "view", "flat", "session"]
+PAGE += ["main"]
 WORKER = ["lines", "readers", "mend", "shape", "opened", "unfold", "program", "worker"]
 SAMPLES = ["ring", "eight", "three"]
 

@@ -38,7 +38,8 @@ def check_c():
 
 def said(words, **how) -> tuple[int, str]:
     """The status of a command, and all that it wrote."""
-    done = subprocess.run([str(word) for word in words], stdout=subprocess.PIPE, stderr=subprocess.STDOUT, text=True, **how)
+    how |= {"stdout": subprocess.PIPE, "stderr": subprocess.STDOUT, "text": True}
+    done = subprocess.run([str(word) for word in words], **how)
     return done.returncode, done.stdout
 
 
@@ -57,6 +58,13 @@ def files_in_c() -> int:
             print(text, end="")
             wrong += status != 0
     return wrong
+
+
+def has_node() -> bool:
+    """Whether a node is here that runs tests by itself, which it does from version 18 on."""
+    if not shutil.which("node"):
+        return False
+    return int(said(["node", "--version"])[1].lstrip("v").split(".")[0]) >= 18
 
 
 def modules() -> int:
@@ -200,8 +208,8 @@ def main():
     given = parser.parse_args()
     given.program = given.program.resolve()
     wrong = files_in_c()
-    if not shutil.which("node"):
-        print("web: the page's modules and surf.wasm are not tried, since node isn't here")
+    if not has_node():
+        print("web: the page's modules and surf.wasm are not tried by node, since node 18 isn't here")
     else:
         wrong += modules()
     with tempfile.TemporaryDirectory() as room:
@@ -210,7 +218,7 @@ def main():
         if folder and not given.program.is_file():
             print(f"web: surf.wasm isn't compared, since {given.program} isn't here")
             given.program = None
-        if folder and shutil.which("node"):
+        if folder and has_node():
             wrong += without_memory(folder / "surf.wasm", given.room)
             if given.program:
                 wrong += module_against_program(folder / "surf.wasm", given.program, given.room)

@@ -36,7 +36,8 @@ class Chrome:
         self.folder = tempfile.mkdtemp(prefix="surf-chrome-")
         read, self.out = os.pipe()
         self.into, write = os.pipe()
-        words = [found(), *FLAGS, f"--user-data-dir={self.folder}/profile", f"--window-size={width},{height}", "about:blank"]
+        flags = [*FLAGS, f"--user-data-dir={self.folder}/profile", f"--window-size={width},{height}"]
+        words = [found(), *flags, "about:blank"]
         # It reads commands from 3 and answers to 4.
         shell = ["sh", "-c", f'exec "$@" 3<&{read} 4>&{write}', "sh", *words]
         quiet = {"stdin": subprocess.DEVNULL, "stdout": subprocess.DEVNULL, "stderr": subprocess.DEVNULL}

@@ -52,13 +52,17 @@ function stlBytes() {
   return new Uint8Array(view.buffer);
 }
 
-const stlText = () => ['solid tet', ...FACES.flatMap((face) => [
-  'facet normal 0 0 0', 'outer loop', ...face.map((corner) => `vertex ${POINTS[corner].join(' ')}`), 'endloop', 'endfacet',
-]), 'endsolid'].join('\n');
+function stlText() {
+  const row = (corner) => `vertex ${POINTS[corner].join(' ')}`;
+  const facet = (face) => ['facet normal 0 0 0', 'outer loop', ...face.map(row), 'endloop', 'endfacet'];
+  return ['solid tet', ...FACES.flatMap(facet), 'endsolid'].join('\n');
+}
 
 test('each kind of file is read as the same mesh', () => {
-  const obj = [...POINTS.map((point) => `v ${point.join(' ')}`), 'vt 0 0', 'f 1/1 2/1/1 3', 'f -4 -1 -3', 'f 1//7 3 4', 'f 2 4 3'];
-  const ply = plyHead('ascii') + [...POINTS, ...FACES.map((face) => [3, ...face])].map((row) => row.join(' ')).join('\n');
+  const faces = ['f 1/1 2/1/1 3', 'f -4 -1 -3', 'f 1//7 3 4', 'f 2 4 3'];
+  const obj = [...POINTS.map((point) => `v ${point.join(' ')}`), 'vt 0 0', ...faces];
+  const rows = [...POINTS, ...FACES.map((face) => [3, ...face])];
+  const ply = plyHead('ascii') + rows.map((row) => row.join(' ')).join('\n');
   const files = {
     'a.off': bytes(TET), 'a.obj': bytes(obj.join('\r\n')), 'a.ply': bytes(ply), 'b.ply': plyBytes(true),
     'c.ply': plyBytes(false), 'a.stl': bytes(stlText()), 'b.stl': stlBytes(),
@@ -73,15 +77,16 @@ test('each kind of file is read as the same mesh', () => {
 });
 
 test('what can’t be read is an error with a sentence', () => {
-  for (const [kind, data] of [['ply', 'ply\n'], ['ply', `${plyHead('ascii')}0 0`], ['obj', 'v 0 0 0\n'], ['stl', ''], ['stl', 'x'.repeat(200)]]) {
-    assert.throws(() => readMesh(kind, bytes(data)), Error, kind);
-  }
+  const short = `${plyHead('ascii')}0 0`;
+  const files = [['ply', 'ply\n'], ['ply', short], ['obj', 'v 0 0 0\n'], ['stl', ''], ['stl', 'x']];
+  for (const [kind, data] of files) assert.throws(() => readMesh(kind, bytes(data)), Error, kind);
   assert.throws(() => readMesh('ply', plyBytes(true).subarray(0, 220)), /too early/);
   assert.throws(() => readLooseOff(bytes('hello')), /counts/);
 });
 
 test('what hangs on nothing is left out, and vertices keep their numbers of the file', () => {
-  const mesh = meshOf([[9, 9, 9], ...POINTS], [...FACES.map((face) => face.map((v) => v + 1)), [1, 1, 2], [1, 2, 77]]);
+  const moved = FACES.map((face) => face.map((v) => v + 1));
+  const mesh = meshOf([[9, 9, 9], ...POINTS], [...moved, [1, 1, 2], [1, 2, 77]]);
   const left = tidy(mesh);
   assert.deepEqual(facesOf(left), FACES);
   assert.deepEqual([...left.names], [1, 2, 3, 4]);
@@ -141,15 +146,15 @@ test('a cut is read: its border, and the edges that were cut', () => {
   const { origins, round, edges } = readOpened(bytes(OPENED));
   assert.deepEqual([...origins], [0, 0, 1, 2, 3]);
   assert.deepEqual([...round].sort(), [0, 1, 2, 3]);
-  const pairs = [0, 1].map((k) => [...edges.subarray(2 * k, 2 * k + 2)].join(' '));
-  assert.deepEqual([edges.length, ...pairs.sort()], [4, '0 1', '0 2']);
+  assert.deepEqual([...edges], [0, 1, 0, 2]);
 });
 
 test('a disc in the plane has its border on the circle and the others at the mean of their neighbours', () => {
-  const { places, edges, round } = { ...unfold(readOpened(bytes(OPENED))), ...readOpened(bytes(OPENED)) }, at = (v) => [places[2 * v], places[2 * v + 1]];
-  for (const v of round) assert.ok(Math.abs(Math.hypot(...at(v)) - 1) < 1e-6);
+  const opened = readOpened(bytes(OPENED)), { places, edges } = unfold(opened);
+  const at = (v) => [places[2 * v], places[2 * v + 1]];
+  for (const v of opened.round) assert.ok(Math.abs(Math.hypot(...at(v)) - 1) < 1e-6);
   for (const c of [0, 1]) assert.ok(Math.abs(at(4)[c] - (at(1)[c] + at(2)[c] + at(3)[c]) / 3) < 1e-4);
-  assert.equal(edges.length, 4);
+  assert.equal(edges.length / 2, 8);
 });
 
 test('lengths have as many decimals as the longest edge has room for', () => {
@@ -171,8 +176,9 @@ test('each line of a refusal of a mesh has plain words', () => {
     const [front, ...lines] = words(status);
     for (const line of lines) assert.notEqual(explain(`${front}${line.replace(/[A-Z]/g, '0')}`, null).text, '', line);
   }
-  for (const name of formats.matchAll(/^\| `([a-z-]+)` \| .* \| [\d,]+ \|$/gm)) assert.notEqual(explain(`limit: ${name[1]}`, null).text, '', name[1]);
-  for (const line of ['memory', 'base: 9 of 4']) assert.notEqual(explain(line, null).text, '');
+  const limits = [...formats.matchAll(/^\| `([a-z-]+)` \| .* \| [\d,]+ \|$/gm)].map((found) => `limit: ${found[1]}`);
+  assert.ok(limits.length >= 10);
+  for (const line of [...limits, 'memory', 'base: 9 of 4']) assert.notEqual(explain(line, null).text, '');
 });
 
 test('a refusal names what to show, by the numbers of the mesh and of the file', () => {

@@ -37,8 +37,8 @@ export const COMMANDS = {
     words: () => 'class 1 2', files: ['mesh', 'walk'], confirm: 'confirm 1 2 3',
   },
   shortest: {
-    label: 'Shortest walk homologous to a closed walk', asks: 'many', step: 'Looking for a shortest walk', isOfWalk: true,
-    words: (L) => `shortest 1 ${L} 3`, files: ['mesh', 'lengths', 'walk'],
+    label: 'Shortest walk homologous to a closed walk', asks: 'many', step: 'Looking for a shortest walk',
+    isOfWalk: true, words: (L) => `shortest 1 ${L} 3`, files: ['mesh', 'lengths', 'walk'],
   },
 };
 
@@ -79,12 +79,18 @@ function readWalks(rows, decimals) {
 function readEvidence([word, count, ...numbers]) {
   const list = Uint32Array.from(numbers, Number);
   if (word === 'null') {
-    const text = Number(count) ? `It bounds ${plural(count, 'face')}` : 'It bounds: it runs each edge an even number of times';
+    const none = 'It bounds: it runs each edge an even number of times';
+    const text = list.length ? `It bounds ${plural(count, 'face')}` : none;
     return { walks: [], facts: [['class', 'null-homologous']], faces: list, text };
   }
   const walk = { edges: list, vertices: [], title: `${plural(count, 'edge')} that the walk crosses oddly` };
   return { walks: [walk], facts: [['class', 'not null-homologous']], text: 'It bounds no set of faces' };
 }
+
+const SPHERE = {
+  basis: 'The surface is a sphere: its basis is empty',
+  loops: 'The surface is a sphere: it needs no loops',
+};
 
 const COUNTED = {
   basis: (n) => `${plural(n, 'cycle')}: a shortest homology basis`,
@@ -97,10 +103,9 @@ const COUNTED = {
 export function readAnswer(command, text, decimals) {
   const rows = text.trim().split('\n').map((line) => line.split(' '));
   if (command === 'class') return readEvidence(rows[0]);
-  const found = readWalks(rows, decimals);
-  const none = { basis: 'The surface is a sphere: its basis is empty', loops: 'The surface is a sphere: it needs no loops' };
-  if (command === 'cycle' && rows[0][0] === 'none') return { ...found, text: 'None: on this surface every cycle separates' };
-  return { ...found, text: found.walks.length ? COUNTED[command](found.walks.length) : none[command] };
+  const found = readWalks(rows, decimals), count = found.walks.length;
+  if (rows[0][0] === 'none') return { ...found, text: 'None: on this surface every cycle separates' };
+  return { ...found, text: count ? COUNTED[command](count) : SPHERE[command] };
 }
 
 /** The rows of `info` for the table of facts. */

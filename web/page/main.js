@@ -32,13 +32,14 @@ const tell = (text) => { $('said').textContent = text; };
 /** Bytes that were packed into the page. */
 async function unpacked(id) {
   const packed = new Blob([Uint8Array.from(atob($(id).textContent.trim()), (c) => c.charCodeAt(0))]);
-  return new Uint8Array(await new Response(packed.stream().pipeThrough(new DecompressionStream('gzip'))).arrayBuffer());
+  const stream = packed.stream().pipeThrough(new DecompressionStream('gzip'));
+  return new Uint8Array(await new Response(stream).arrayBuffer());
 }
 
 async function sample(name) {
-  if (name === 'Klein bottle') return new TextEncoder().encode(kleinBottle(28, 16));
+  if (name === 'Klein bottle') return new Blob([kleinBottle(28, 16)]);
   page.samples ||= JSON.parse(decoded(await unpacked('samples-data')));
-  return new TextEncoder().encode(page.samples[name]);
+  return new Blob([page.samples[name]]);
 }
 
 // Vertices that were chosen.
@@ -64,7 +65,7 @@ function pick(vertex) {
   } else {
     setVertices([...chosenVertices(), vertex]);
     clearAnswer();
-    tell(`${plural(chosenVertices().length, 'vertex', 'vertices')} chosen. Then press Find`);
+    tell(`${vertexCount(chosenVertices().length)} chosen. Then press Find`);
   }
 }
 
@@ -79,7 +80,8 @@ function showMarks(more = {}) {
 function showWalks() {
   page.view.setWalks(page.walks.map((walk, k) => {
     const isDim = page.chosen !== null && page.chosen !== k;
-    return { edges: walk.edges, isPlain: walk.isPlain, isDim, width: page.chosen === k ? 6 : walk.isPlain ? 3 : 4.2 };
+    const width = page.chosen === k ? 6 : walk.isPlain ? 3 : 4.2;
+    return { edges: walk.edges, isPlain: walk.isPlain, isDim, width };
   }));
   const walk = page.walks[page.chosen];
   $('walk').textContent = walk && walk.vertices.length ? `Vertices: ${walk.vertices.join(' ')}` : '';
@@ -100,7 +102,9 @@ function listWalks() {
 
 function pickOut(k) {
   page.chosen = page.chosen === k ? null : k;
-  [...$('list').querySelectorAll('button')].forEach((it, j) => it.setAttribute('aria-pressed', String(j === page.chosen)));
+  $('list').querySelectorAll('button').forEach((button, j) => {
+    button.setAttribute('aria-pressed', String(j === page.chosen));
+  });
   showWalks();
 }
 
@@ -200,7 +204,8 @@ async function failed(fault) {
 function showRefusal({ message }) {
   const { text, edges = [], faces = [], vertices = [], cures = [] } = explain(message, page.shape);
   $('fault').replaceChildren(element('p', { textContent: text }), element('code', { textContent: message }));
-  if (page.shape && edges.length + faces.length + vertices.length) page.view.setMarks({ edges, faces, vertices, isFault: true });
+  const isShown = page.shape && edges.length + faces.length + vertices.length > 0;
+  if (isShown) page.view.setMarks({ edges, faces, vertices, isFault: true });
   $('cures').replaceChildren(...cures.map((cure) => {
     const button = element('button', { type: 'button', textContent: cure.label });
     button.onclick = () => applyCure(cure);
@@ -225,14 +230,18 @@ async function isFree() {
   return turn === page.turn;
 }
 
+const vertexCount = (count) => plural(count, 'vertex', 'vertices');
+
+/** What was done to the mesh, in words. */
 const MENDED = {
-  merge: ({ before, after }) => (before.vertices === after.vertices ? 'No two points are equal, so nothing was merged'
-    : `${plural(before.vertices - after.vertices, 'vertex', 'vertices')} fewer: equal points were merged`),
-  close: ({ holes }) => `${plural(holes, 'hole was', 'holes were')} closed, each with one face, so that no edge is added`,
-  split: ({ added }) => `The surface was taken apart: ${plural(added, 'vertex', 'vertices')} more`,
-  largest: ({ parts, before, after }) => `The largest of ${plural(parts, 'part')} is kept, with ${plural(after.faces, 'face')} of ${before.faces}`,
-  tidy: ({ before, after }) => `${plural(before.vertices - after.vertices, 'vertex', 'vertices')} left out`,
-  loose: ({ after }) => `Read loosely: ${plural(after.vertices, 'vertex', 'vertices')}, ${plural(after.faces, 'face')}`,
+  merge: ({ before, after }) => (before.vertices === after.vertices ? 'No two points are equal: nothing was merged'
+    : `${vertexCount(before.vertices - after.vertices)} fewer: equal points were merged`),
+  close: ({ holes }) => `${plural(holes, 'hole was', 'holes were')} closed, each with one face: no edge is added`,
+  split: ({ added }) => `The surface was taken apart: ${vertexCount(added)} more`,
+  largest: ({ parts, before, after }) => (
+    `The largest of ${plural(parts, 'part')} is kept: ${after.faces} of ${plural(before.faces, 'face')}`),
+  tidy: ({ before, after }) => `${vertexCount(before.vertices - after.vertices)} left out`,
+  loose: ({ after }) => `Read loosely: ${vertexCount(after.vertices)}, ${plural(after.faces, 'face')}`,
 };
 
 async function applyCure({ how, command: other, lengths }) {
@@ -265,23 +274,27 @@ function takeShape(shape) {
   $('note').textContent = '';
 }
 
+/** What is to be drawn of a file. */
+async function opened(name, blob) {
+  try {
+    return await page.session.open({ name, blob });
+  } catch (fault) {
+    if (fault instanceof Refused || fault instanceof Stopped) throw fault;
+    throw new Error(`${name} can't be read: ${fault.message}.`);
+  }
+}
+
 /** Opens a file, and finds what is chosen; on a mesh that is too large for a basis, loops at a vertex. */
-async function open(name, data) {
+async function open(name, blob) {
   if (!(await isFree())) return;
   let isOpen = false;
-  page.shape = null;
+  page.shape = page.counts = null;
+  page.view.clear();
   await work(async () => {
     clearAnswer();
     tell(`Reading ${name}`);
     page.name = name;
-    let shape;
-    try {
-      shape = await page.session.open({ name, data });
-    } catch (fault) {
-      if (fault instanceof Refused || fault instanceof Stopped) throw fault;
-      throw new Error(`${name} can't be read: ${fault.message}.`);
-    }
-    takeShape(shape);
+    takeShape(await opened(name, blob));
     isOpen = true;
   });
   if (!isOpen) return;
@@ -311,7 +324,7 @@ async function measured() {
   page.decimals = decimalsFor(page.shape.longest);
   if (page.measured !== page.decimals) {
     tell('Measuring the edges');
-    await page.session.call(`lengths 1 ${page.decimals}`, ['mesh'], { keep: 'lengths', isLong: true });
+    await page.session.call(`lengths 1 ${page.decimals}`, ['mesh'], { keep: 'lengths', isSilent: true });
     page.measured = page.decimals;
   }
   return '2';
@@ -328,7 +341,9 @@ function vertices() {
 
 /** Gives the worker the file of vertices or of the walk that the command names; answers the walk. */
 async function prepared(lengths, list) {
-  if (command().isCut && command().asks === 'many') await page.session.ask('file', { name: 'vertices', text: `${list.join(' ')}\n` });
+  if (command().files.includes('vertices')) {
+    await page.session.ask('file', { name: 'vertices', text: `${list.join(' ')}\n` });
+  }
   if (!command().isOfWalk) return null;
   tell('Joining the vertices by shortest ways');
   return (await page.session.ask('walk', { vertices: list, lengths })).walk;
@@ -348,6 +363,12 @@ async function askForVertices() {
   tell(command().asks === 'one' ? 'Click a vertex on the mesh' : 'Click vertices on the mesh, then press Find');
 }
 
+/** The drawn walk, as a row of the list. */
+function drawn(walk) {
+  const title = `the closed walk, ${plural(walk.length - 1, 'edge')}`;
+  return { edges: edgesOfWalk(walk), vertices: [...walk], isPlain: true, title };
+}
+
 async function find() {
   const list = command().asks === 'none' ? [] : vertices(), { step, words, files, isCut } = command();
   await counted();
@@ -357,17 +378,19 @@ async function find() {
   const said = await page.session.call(words(lengths, list), files, { keep, isLong: isCut });
   page.answer = { bytes: said.text, name: isCut ? 'open.off' : `${$('command').value}.txt`, lengths, list };
   const found = isCut ? await openedCut() : readAnswer($('command').value, said.string, page.decimals);
-  const drawn = walk ? [{ edges: edgesOfWalk(walk), vertices: [...walk], isPlain: true, title: `the closed walk, ${plural(walk.length - 1, 'edge')}` }] : [];
-  page.walks = [...drawn, ...found.walks];
-  const time = said.ms < 10 ? said.ms.toFixed(1) : Math.round(said.ms);
-  showFacts([...page.counts, ...found.facts, ['time', `${time} ms`]]);
+  page.walks = [...(walk ? [drawn(walk)] : []), ...found.walks];
+  showFound(found, said.ms);
+  if (isCut && found.isFlat) await showUnfolded();
+}
+
+function showFound({ facts, faces = [], text }, ms) {
+  showFacts([...page.counts, ...facts, ['time', `${ms < 10 ? ms.toFixed(1) : Math.round(ms)} ms`]]);
   listWalks();
   showWalks();
-  showMarks({ faces: found.faces ? [...found.faces] : [] });
-  page.done = found.text;
-  tell(`Done: ${found.text}`);
-  $('canvas').setAttribute('aria-label', `The mesh ${page.name}, and on it ${found.text}`);
-  if (isCut && found.isFlat) await showUnfolded();
+  showMarks({ faces: [...faces] });
+  page.done = text;
+  tell(`Done: ${text}`);
+  $('canvas').setAttribute('aria-label', `The mesh ${page.name}, and on it ${text}`);
 }
 
 async function openedCut() {
@@ -391,7 +414,8 @@ async function certify() {
   if (confirm) said = await page.session.call(confirm, ['mesh', 'walk', 'evidence']);
   else {
     tell('Making a certificate');
-    page.certificate = (await page.session.call(words(lengths, list), ['mesh', 'lengths'], { keep: 'certificate', isLong: true })).text;
+    const keep = { keep: 'certificate', isLong: true };
+    page.certificate = (await page.session.call(words(lengths, list), ['mesh', 'lengths'], keep)).text;
     tell('Checking the certificate');
     said = await page.session.call(`check 1 ${lengths} 3`, ['mesh', 'lengths', 'certificate']);
   }
@@ -411,7 +435,7 @@ function save(bytes, name) {
 async function take(file) {
   if (!file) return;
   await page.ready;
-  await open(file.name, new Uint8Array(await file.arrayBuffer()));
+  await open(file.name, file);
 }
 
 function listenToFiles() {
@@ -469,7 +493,7 @@ function fillCommands(cutsThrough) {
   }
 }
 
-/** Unpacks the program and starts it. In the address `#plain` leaves WebGL aside, and `#do=cycle` chooses a command. */
+/** Unpacks the program and starts it. In the address `#plain` leaves WebGL aside; `#do=cycle` chooses a command. */
 async function begin() {
   const asked = new URLSearchParams(location.hash.slice(1));
   page.view = new View($('canvas'), asked.has('plain'));

@@ -51,8 +51,8 @@ export function firstAtPoint(points) {
     let hash = 0;
     for (let k = 0; k < 6; k++) hash = Math.imul(hash ^ bits[k] ^ (bits[k] >>> 15), 0x9e3779b1) ^ (hash >>> 13);
     let at = (hash ^ (hash >>> 16)) & (room - 1);
-    const differs = (w) => points[3 * w] !== value[0] || points[3 * w + 1] !== value[1] || points[3 * w + 2] !== value[2];
-    while (table[at] >= 0 && differs(table[at])) at = (at + 1) & (room - 1);
+    const isHere = (w) => [0, 1, 2].every((c) => value[c] === points[3 * w + c]);
+    while (table[at] >= 0 && !isHere(table[at])) at = (at + 1) & (room - 1);
     if (table[at] < 0) table[at] = v;
     first[v] = table[at];
   }
@@ -66,8 +66,8 @@ export function merged(mesh) {
 }
 
 /**
- * Of each side, from a corner to the next, the other side at its edge: -1 where it has none, and -2 where the edge has
- * three sides or more. `edges` are the ends of all edges, two numbers each, in order.
+ * Of each side, from a corner to the next, the other side at its edge: -1 where it has none, and -2 where the edge
+ * has three sides or more. `edges` are the ends of all edges, two numbers each, in order.
  */
 export function matesOf({ points, starts, corners }) {
   const count = points.length / 3, size = corners.length, ahead = new Uint32Array(size);
@@ -126,7 +126,7 @@ export function largest(mesh) {
   return { mesh: tidy({ ...mesh, ...faces.done() }), parts: counts.size };
 }
 
-/** For each corner the least corner of its fan: corners at one vertex hang together where their faces share an edge. */
+/** The fans of corners: two corners at one vertex are of one fan where their faces share an edge there. */
 function fansOf(mesh, mates) {
   const { corners } = mesh, fans = new Parts(corners.length), next = new Uint32Array(corners.length);
   eachFace(mesh, (from, to) => {

@@ -17,30 +17,40 @@ function originsOf(data, count) {
 }
 
 /** The border of the disc as one round of copies. */
-function roundOf(mates, corners, ahead) {
-  const next = new Map(), beside = (u, v) => next.set(u, [...(next.get(u) || []), v]);
+function roundOf({ corners, points }, { mates, ahead }) {
+  const count = points.length / 3, beside = new Int32Array(2 * count).fill(-1), round = [];
+  const link = (u, v) => { beside[beside[2 * u] < 0 ? 2 * u : 2 * u + 1] = v; };
+  let start = -1;
   for (let k = 0; k < corners.length; k++) {
     if (mates[k] !== -1) continue;
-    beside(corners[k], ahead[k]);
-    beside(ahead[k], corners[k]);
+    link(corners[k], ahead[k]);
+    link(ahead[k], corners[k]);
+    start = corners[k];
   }
-  const [start] = next.keys(), round = [];
-  for (let at = start, last = -1; round.length < next.size; ) {
+  for (let at = start, last = -1; at >= 0 && round.length < count; ) {
     round.push(at);
-    const [a, b] = next.get(at);
-    [last, at] = [at, a === last ? b : a];
+    const next = beside[2 * at] === last ? beside[2 * at + 1] : beside[2 * at];
+    [last, at] = [at, next === start ? -1 : next];
   }
-  return round;
+  return Uint32Array.from(round);
+}
+
+/** The edges that the border runs along, each once, by the vertices of which its copies are. */
+function cutEdges(round, origins) {
+  const count = origins.length, keys = new Float64Array(round.length), edges = [];
+  round.forEach((copy, k) => {
+    const u = origins[copy], v = origins[round[k + 1 < round.length ? k + 1 : 0]];
+    keys[k] = Math.min(u, v) * count + Math.max(u, v);
+  });
+  keys.sort();
+  keys.forEach((key, k) => {
+    if (key !== keys[k - 1]) edges.push(Math.floor(key / count), key % count);
+  });
+  return Uint32Array.from(edges);
 }
 
 /** The disc of a cut's text, its border, and the edges that were cut, as ends of edges of the mesh that was cut. */
 export function readOpened(data) {
-  const disc = readOff(data), { mates, ahead } = matesOf(disc), count = disc.points.length / 3;
-  const origins = originsOf(data, count), round = roundOf(mates, disc.corners, ahead), seen = new Set(), edges = [];
-  round.forEach((copy, k) => {
-    const u = origins[copy], v = origins[round[(k + 1) % round.length]], key = Math.min(u, v) * count + Math.max(u, v);
-    if (!seen.has(key)) edges.push(Math.min(u, v), Math.max(u, v));
-    seen.add(key);
-  });
-  return { disc, origins, round: Uint32Array.from(round), edges: Uint32Array.from(edges) };
+  const disc = readOff(data), origins = originsOf(data, disc.points.length / 3), round = roundOf(disc, matesOf(disc));
+  return { disc, origins, round, edges: cutEdges(round, origins) };
 }

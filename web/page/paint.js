@@ -2,12 +2,16 @@
 
 /** Colours of walks for a light ground and for a dark one, chosen to differ in lightness too. */
 const WALKS = {
-  light: ['#c1121f', '#1257a8', '#1b7a2f', '#a85800', '#6b3fa0', '#00727d', '#a8327a', '#5c5c00', '#7a3b1e', '#333a44'],
-  dark: ['#ff6b6b', '#6db3ff', '#5fd37a', '#ffb454', '#c39bff', '#4fd6e0', '#ff8fd0', '#d6d64f', '#e0a080', '#d0d6de'],
+  light: [
+    '#c1121f', '#1257a8', '#1b7a2f', '#a85800', '#6b3fa0', '#00727d', '#a8327a', '#5c5c00', '#7a3b1e', '#333a44',
+  ],
+  dark: [
+    '#ff6b6b', '#6db3ff', '#5fd37a', '#ffb454', '#c39bff', '#4fd6e0', '#ff8fd0', '#d6d64f', '#e0a080', '#d0d6de',
+  ],
 };
 
 /** Shares of a period that are full, from 0: whole, dashes, dots, a dash and a dot. */
-export const PATTERNS = [[1], [0.62], [0.3], [0.5, 0.66, 0.84]];
+export const PATTERNS = [[1], [0.68], [0.42], [0.52, 0.66, 0.86]];
 
 /** What the mesh and its ground are drawn with. */
 const THEMES = {
@@ -19,7 +23,10 @@ const dark = globalThis.matchMedia ? matchMedia('(prefers-color-scheme: dark)') 
 
 export const onTheme = (does) => dark.addEventListener('change', does);
 
-export const theme = () => ({ ...THEMES[dark.matches ? 'dark' : 'light'], walks: WALKS[dark.matches ? 'dark' : 'light'] });
+export function theme() {
+  const name = dark.matches ? 'dark' : 'light';
+  return { ...THEMES[name], walks: WALKS[name] };
+}
 
 /** A colour `#rrggbb` as three shares. */
 export const shares = (colour) => [1, 3, 5].map((at) => parseInt(colour.slice(at, at + 2), 16) / 255);

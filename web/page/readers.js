@@ -15,13 +15,19 @@ export function kindOf(name, data) {
   return ending ? ending[1].toLowerCase() : 'off';
 }
 
+/** Whether a browser threw this since a table has no room. */
+export function isWantOfMemory(fault) {
+  return fault instanceof RangeError && /alloc|memory|array length/i.test(fault.message);
+}
+
 /** Reads a file of the kind; what can't be read is an Error with a sentence. */
 export function readMesh(kind, data) {
   const readers = { off: readOff, obj: readObj, ply: readPly, stl: readStl };
   try {
     return readers[kind](data);
   } catch (fault) {
-    if (fault instanceof RangeError && !/alloc|memory|length/i.test(fault.message)) throw new Error('the file ends too early');
+    // A look behind the end of the bytes; want of memory is a RangeError, too.
+    if (fault instanceof RangeError && !isWantOfMemory(fault)) throw new Error('the file ends too early');
     throw fault;
   }
 }
@@ -35,7 +41,9 @@ export function readOff(data) {
     if (!at) lines.next();
     const vertices = Math.min(lines.number(at) || 0, data.length), count = lines.number(at + 1) || 0;
     points = new Float64Array(3 * Math.max(0, vertices));
-    for (let v = 0; v < vertices && lines.next(); v++) for (let c = 0; c < 3; c++) points[3 * v + c] = lines.number(c);
+    for (let v = 0; v < vertices && lines.next(); v++) {
+      for (let c = 0; c < 3; c++) points[3 * v + c] = lines.number(c);
+    }
     for (let f = 0; f < count && lines.next(); f++) {
       const size = Math.min(lines.number(0), lines.count - 1);
       for (let c = 1; c <= size; c++) faces.corners.push(lines.number(c));
@@ -51,11 +59,15 @@ export function readLooseOff(data) {
   let at = /off$/i.test(words[0] || '') ? 1 : 0;
   const keyword = at ? words[0].toUpperCase() : 'OFF';
   const vertices = Number(words[at]), count = Number(words[at + 1]);
-  if (!(vertices >= 0 && count >= 0 && vertices + count <= words.length)) throw new Error('there are no counts in it');
+  const isCounted = vertices >= 0 && count >= 0 && vertices + count <= words.length;
+  if (!isCounted) throw new Error('there are no counts in it');
   at += 3;
-  const width = 3 + (keyword.includes('N') ? 3 : 0) + (keyword.includes('C') ? 4 : 0) + (keyword.includes('ST') ? 2 : 0);
+  const extra = { N: 3, C: 4, ST: 2 }, has = (letter) => keyword.includes(letter);
+  const width = 3 + Object.keys(extra).filter(has).reduce((sum, letter) => sum + extra[letter], 0);
   const points = new Float64Array(3 * vertices), faces = new Faces();
-  for (let v = 0; v < vertices; v++, at += width) for (let c = 0; c < 3; c++) points[3 * v + c] = Number(words[at + c]);
+  for (let v = 0; v < vertices; v++, at += width) {
+    for (let c = 0; c < 3; c++) points[3 * v + c] = Number(words[at + c]);
+  }
   for (let f = 0; f < count && at < words.length; f++) {
     const size = Number(words[at]);
     faces.add(words.slice(at + 1, at + 1 + size).map(Number));

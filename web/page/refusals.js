@@ -35,7 +35,7 @@ const LIMITS = {
   faces: 'The mesh has more than 2,000,000 faces. Simplify it.',
   sides: 'The faces of the mesh have more than 6,000,000 corners. Simplify it.',
   loops: 'The surface has more than 1,024 independent loops. Noise often makes small handles: smooth the mesh.',
-  'basis-vertices': 'Bases and cycles are found on up to 20,000 vertices. Loops at a vertex are found on up to 1,000,000.',
+  'basis-vertices': 'Bases and cycles are found on up to 20,000 vertices, and loops at a vertex on up to 1,000,000.',
   'certificate-vertices': 'Certificates of a basis are for up to 1,000 vertices.',
   'cover-loops': 'Walks of a class are found on surfaces with up to 8 independent loops.',
   'cover-nodes': 'The mesh is too large for that: its vertices times 2 to the number of loops may be up to 65,536.',
@@ -66,7 +66,7 @@ class Named {
 const SURFACE = {
   empty: () => ({ text: 'The mesh has no faces. Points and curves have to be made a surface first.' }),
   border: (it) => ({
-    text: `The mesh is open: ${it.edge()} has a face on one side only. There is a hole, or equal points weren't merged.`,
+    text: `The mesh is open: ${it.edge()} has a face on one side only. There is a hole, or points weren't merged.`,
     edges: it.numbers.slice(0, 2), faces: it.numbers.slice(2), cures: [MERGE, CLOSE],
   }),
   crowded: (it) => ({
@@ -77,7 +77,7 @@ const SURFACE = {
     text: `Nothing hangs on ${it.vertex(it.numbers[0])}: no face has it.`, vertices: [it.numbers[0]], cures: [TIDY],
   }),
   pinched: (it) => ({
-    text: `The surface touches itself at ${it.vertex(it.numbers[0])}: two fans of faces have only that vertex in common.`,
+    text: `The surface touches itself at ${it.vertex(it.numbers[0])}: fans of faces have only that vertex in common.`,
     vertices: [it.numbers[0]], faces: it.numbers.slice(1), cures: [SPLIT],
   }),
   apart: (it) => ({
@@ -88,7 +88,8 @@ const SURFACE = {
 
 const COORDINATES = {
   form: (it) => ({
-    text: `A coordinate of ${it.vertex(it.numbers[0])} isn't a decimal number.`, vertices: [it.numbers[0]], cures: [UNIT],
+    text: `A coordinate of ${it.vertex(it.numbers[0])} isn't a decimal number.`,
+    vertices: [it.numbers[0]], cures: [UNIT],
   }),
   range: (it) => ({
     text: `A coordinate of ${it.vertex(it.numbers[0])} is too great: its size may be below 1,000,000,000.`,
@@ -107,7 +108,7 @@ const VERTICES = {
   empty: 'Choose the vertices that are to be on the border: click them on the mesh.',
   form: 'What names the vertices has to be whole numbers.',
   'not-vertex': 'One of the vertices is none of the mesh.',
-  near: 'On a sphere a cut has at least two edges: choose vertices that are farther from each other, or more of them.',
+  near: 'On a sphere a cut has two edges at least: choose vertices farther from each other, or more of them.',
 };
 
 /**

@@ -32,7 +32,7 @@ function neighbours(count, edges) {
 
 /** One coordinate of the inner vertices by conjugate gradients, to a thousandth of a unit in all. */
 function settle({ starts, list }, fixed, places, at) {
-  const count = fixed.length, rest = new Float64Array(count), way = new Float64Array(count), image = new Float64Array(count);
+  const count = fixed.length, [rest, way, image] = [0, 1, 2].map(() => new Float64Array(count));
   const apply = (from, to, stride, offset) => {
     for (let v = 0; v < count; v++) {
       if (fixed[v]) continue;

@@ -15,4 +15,7 @@ export function shownLength(units, decimals) {
   return String(Number((Number(units) / 10 ** decimals).toPrecision(6)));
 }
 
-export const plural = (count, one, many = `${one}s`) => `${Number(count).toLocaleString('en')} ${Number(count) === 1 ? one : many}`;
+/** A count with its word. */
+export function plural(count, one, many = `${one}s`) {
+  return `${Number(count).toLocaleString('en')} ${Number(count) === 1 ? one : many}`;
+}

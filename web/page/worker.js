@@ -1,6 +1,6 @@
 // The worker: it keeps the mesh and the files that calls name, and calls the program, so that the page stays alive.
 import { Lines } from './lines.js';
-import { kindOf, readLooseOff, readMesh } from './readers.js';
+import { isWantOfMemory, kindOf, readLooseOff, readMesh } from './readers.js';
 import { closed, largest, merged, offOf, split, tidy } from './mend.js';
 import { shapeOf } from './shape.js';
 import { readOpened } from './opened.js';
@@ -8,7 +8,7 @@ import { unfold } from './unfold.js';
 import { Program, wantOfMemory } from './program.js';
 
 const encoder = new TextEncoder();
-const state = { program: null, kind: '', data: null, mesh: null, opened: null, files: new Map() };
+const state = { program: null, kind: '', blob: null, mesh: null, opened: null, files: new Map() };
 
 /** The greatest disc that is laid in the plane: beyond it that takes minutes. */
 const MOST_UNFOLDED = 150000;
@@ -20,13 +20,14 @@ function setMesh(mesh, text) {
   state.files.set('mesh', text || offOf(mesh));
 }
 
-/** A call of the program; `keep` is the name of a file that its answer becomes. */
-function call({ words, files, keep }) {
+/** A call of the program. `keep` is the name of a file that its answer becomes, which is told where it isn't silent. */
+function call({ words, files, keep, isSilent }) {
   const start = performance.now(), slices = files.map((name) => state.files.get(name));
   const isLong = /^(cut|lengths|dist|certify)/.test(words), size = state.files.get('mesh')?.length || 0;
   const { status, text } = state.program.call(words, slices, isLong ? Math.max(1 << 20, 2 * size) : 1 << 20);
   if (keep && status <= 1) state.files.set(keep, text);
-  return { status, text: keep ? text.slice() : text, ms: performance.now() - start, memory: state.program.memory };
+  const told = keep && status <= 1 ? text.slice(0, isSilent ? 0 : text.length) : text;
+  return { status, text: told, ms: performance.now() - start, memory: state.program.memory };
 }
 
 class Refused extends Error {
@@ -52,7 +53,7 @@ const mends = {
   largest: (mesh) => largest(tidy(mesh)),
   split: (mesh) => split(tidy(mesh)),
   close: (mesh) => closed(tidy(mesh)),
-  loose: () => ({ mesh: tidy(readLooseOff(state.data)) }),
+  loose: async () => ({ mesh: tidy(readLooseOff(new Uint8Array(await state.blob.arrayBuffer()))) }),
 };
 
 const does = {
@@ -63,20 +64,19 @@ const does = {
     return { cutsThrough: state.program.call('cut 1 unit 0 through 1', []).status !== 2 };
   },
 
-  /** Opens a file. An OFF goes to the program as it stands, so that the lines which it names are those of the file. */
-  open({ name, data }) {
-    state.kind = kindOf(name, data);
-    state.data = data;
-    const mesh = readMesh(state.kind, data);
-    if (state.kind === 'off') setMesh(mesh, data);
-    else setMesh(tidy(state.kind === 'stl' ? merged(mesh) : mesh));
-    return { kind: state.kind, ...shapeOf(state.mesh) };
+  /** Opens a file. An OFF goes to the program as it stands, so that lines which it names are those of the file. */
+  async open({ name, blob }) {
+    const data = new Uint8Array(await blob.arrayBuffer()), kind = kindOf(name, data), mesh = readMesh(kind, data);
+    Object.assign(state, { kind, blob });
+    if (kind === 'off') setMesh(mesh, data);
+    else setMesh(tidy(kind === 'stl' ? merged(mesh) : mesh));
+    return { kind, ...shapeOf(state.mesh) };
   },
 
   /** Mends the mesh. A mended OFF is written anew, so its names are kept from here on. */
-  mend({ how }) {
+  async mend({ how }) {
     const before = { vertices: state.mesh.points.length / 3, faces: state.mesh.starts.length - 1 };
-    const { mesh, ...more } = mends[how](state.mesh);
+    const { mesh, ...more } = await mends[how](state.mesh);
     if (!mesh.corners.length) throw new Error('nothing of the mesh is left');
     setMesh(mesh);
     const after = { vertices: mesh.points.length / 3, faces: mesh.starts.length - 1 };
@@ -110,17 +110,14 @@ const does = {
   /** Reads the cut that stands in the file `cut`. */
   opened() {
     state.opened = readOpened(state.files.get('cut'));
-    const copies = state.opened.origins.length;
-    return { edges: state.opened.edges.slice(), copies, border: state.opened.round.length, isFlat: copies <= MOST_UNFOLDED };
+    const { edges, origins, round } = state.opened, copies = origins.length;
+    return { edges: edges.slice(), copies, border: round.length, isFlat: copies <= MOST_UNFOLDED };
   },
 
   unfold() {
     return { ...unfold(state.opened), round: state.opened.round.slice() };
   },
 };
-
-/** What a browser throws where a table has no room. */
-const isWantOfMemory = (fault) => fault instanceof RangeError && /alloc|memory|length/i.test(fault.message);
 
 async function answer({ id, what, ...given }) {
   let said;
