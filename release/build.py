@@ -13,7 +13,9 @@ to the commit.
 """
 
 import argparse
+import os
 import pathlib
+import re
 import shutil
 import subprocess
 import sys
@@ -36,6 +38,8 @@ OTHERS = {
     "the page for browsers": (["web/build.py", "--to"], "surf.html"),
     "the add-on for Blender": (["blender/build.py", "--to"], "*.zip"),
 }
+# How these say that a tool is missing which is no part of the set-up.
+LACKING = r"isn't here$|^no interpreter has"
 
 
 def build_libraries(built: pathlib.Path) -> None:
@@ -79,17 +83,18 @@ def make_packages(parts: packages.Parts, gate: proof.Gate, out: pathlib.Path) ->
     return made
 
 
-def make_other(what: str, words: list[str], pattern: str, out: pathlib.Path) -> None:
+def make_other(what: str, words: list[str], pattern: str, out: pathlib.Path, time: int) -> None:
     """What another part of the repository makes. Passed over with a word where it, or a tool of its, isn't here."""
     if not (TOP / words[0]).exists():
         print(f"{what} isn't in the release: there is no {words[0]}")
         return
     with tempfile.TemporaryDirectory() as room:
         command = [sys.executable, TOP / words[0], *words[1:], room]
-        done = subprocess.run(command, capture_output=True, text=True, check=False)
+        environment = {**os.environ, "SOURCE_DATE_EPOCH": str(time)}
+        done = subprocess.run(command, env=environment, capture_output=True, text=True, check=False)
         said = (done.stdout + done.stderr).strip()
         made = sorted(pathlib.Path(room).glob(pattern))
-        if done.returncode and said.endswith("isn't here"):
+        if done.returncode and re.search(LACKING, said):
             print(f"{what} isn't in the release: {said}")
         elif done.returncode or not made:
             raise proof.Refused(f"{what} can't be made: {said[-2000:]}")
@@ -115,7 +120,7 @@ def release(log: pathlib.Path | None, out: pathlib.Path) -> None:
         texts = pages(built / "surf", "surf", date) | pages(built / "surf", packages.NAME, date)
         made = make_packages(packages.Parts(version, time, built, texts), gate, out)
     for what, (words, pattern) in OTHERS.items():
-        make_other(what, words, pattern, out)
+        make_other(what, words, pattern, out, time)
     trial.try_tarball(made)
     trial.try_packages(out)
     write_sums(out)
