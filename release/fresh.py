@@ -79,7 +79,11 @@ def main() -> int:
         return 0
     with tempfile.TemporaryDirectory(prefix="surf-root") as room:
         root = given.root or pathlib.Path(room, "root")
-        make_root(root, given.suite)
+        try:
+            make_root(root, given.suite)
+        except subprocess.CalledProcessError as fault:
+            print(f"debootstrap makes no root of {given.suite}: it ended with {fault.returncode}")
+            return 1
         put_in(root, given.release)
         return tried(root, given.suite)
 
