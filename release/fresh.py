@@ -21,7 +21,7 @@ import sys
 import tempfile
 
 HERE = pathlib.Path(__file__).resolve().parent
-NEEDED = "bash-completion,fish,gcc,libc6-dev,man-db,pkg-config,python3-minimal,zsh"
+NEEDED = "bash-completion,fish,gcc,libc6-dev,man-db,pkg-config,python3,zsh"
 # A root that is older than the program has the static one tried, and needs nothing else.
 OLD = {"bullseye", "buster"}
 INSIDE = 'mount -t proc proc "$0/proc" && mount --rbind /dev "$0/dev" && exec chroot "$0" /usr/bin/env -i "${@}"'
