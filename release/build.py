@@ -13,11 +13,14 @@ to the commit.
 """
 
 import argparse
+import os
 import pathlib
+import re
 import shutil
 import subprocess
 import sys
 import tempfile
+from typing import NamedTuple
 
 import libraries
 import packages
@@ -29,13 +32,23 @@ from pages import pages
 
 TOP = proof.TOP
 OUT = TOP / "release/out"
-# What other parts of the repository make for a release: the script, with the words that go before the folder, and the
-# names of what it leaves there that belong to the release.
-OTHERS = {
-    "the wheel": (["python/build.py", "--to"], "*.whl"),
-    "the page for browsers": (["web/build.py", "--to"], "surf.html"),
-    "the add-on for Blender": (["blender/build.py", "--to"], "*.zip"),
-}
+class Other(NamedTuple):
+    """What another part of the repository makes for a release: the words that make it in the folder behind them, the
+    names that it has there, and the words that try it there, if there are any."""
+
+    what: str
+    make: list[str]
+    pattern: str
+    trial: list[str] = []
+
+
+OTHERS = [
+    Other("the wheel", ["python/build.py", "--to"], "*.whl"),
+    Other("the page for browsers", ["web/build.py", "--to"], "surf.html", ["web/check.py", "--built"]),
+    Other("the add-on for Blender", ["blender/build.py", "--to"], "*.zip"),
+]
+# How these say that a tool is missing which is no part of the set-up.
+LACKING = r"isn't here$|^no interpreter has"
 
 
 def build_libraries(built: pathlib.Path) -> None:
@@ -79,21 +92,24 @@ def make_packages(parts: packages.Parts, gate: proof.Gate, out: pathlib.Path) ->
     return made
 
 
-def make_other(what: str, words: list[str], pattern: str, out: pathlib.Path) -> None:
-    """What another part of the repository makes. Passed over with a word where it, or a tool of its, isn't here."""
-    if not (TOP / words[0]).exists():
-        print(f"{what} isn't in the release: there is no {words[0]}")
+def make_other(other: Other, out: pathlib.Path, time: int) -> None:
+    """Makes it and tries it. It is passed over with a word where the repository hasn't it, or a tool isn't here."""
+    if not (TOP / other.make[0]).exists():
+        print(f"{other.what} isn't in the release: there is no {other.make[0]}")
         return
+    environment = {**os.environ, "SOURCE_DATE_EPOCH": str(time)}
     with tempfile.TemporaryDirectory() as room:
-        command = [sys.executable, TOP / words[0], *words[1:], room]
-        done = subprocess.run(command, capture_output=True, text=True, check=False)
-        said = (done.stdout + done.stderr).strip()
-        made = sorted(pathlib.Path(room).glob(pattern))
-        if done.returncode and said.endswith("isn't here"):
-            print(f"{what} isn't in the release: {said}")
-        elif done.returncode or not made:
-            raise proof.Refused(f"{what} can't be made: {said[-2000:]}")
-        for path in made:
+        for words in filter(None, (other.make, other.trial)):
+            command = [sys.executable, TOP / words[0], *words[1:], room]
+            done = subprocess.run(command, env=environment, capture_output=True, text=True, check=False)
+            said = (done.stdout + done.stderr).strip()
+            if done.returncode and words is other.make and re.search(LACKING, said, re.M):
+                print(f"{other.what} isn't in the release: {said}")
+                return
+            if done.returncode:
+                raise proof.Refused(f"{other.what}: {words[0]} ended with {done.returncode}: {said[-2000:]}")
+            print(f"{other.what}: {said}")
+        for path in sorted(pathlib.Path(room).glob(other.pattern)):
             shutil.copy(path, out / path.name)
 
 
@@ -114,8 +130,8 @@ def release(log: pathlib.Path | None, out: pathlib.Path) -> None:
         date = versions.day(time)
         texts = pages(built / "surf", "surf", date) | pages(built / "surf", packages.NAME, date)
         made = make_packages(packages.Parts(version, time, built, texts), gate, out)
-    for what, (words, pattern) in OTHERS.items():
-        make_other(what, words, pattern, out)
+    for other in OTHERS:
+        make_other(other, out, time)
     trial.try_tarball(made)
     trial.try_packages(out)
     write_sums(out)

@@ -21,7 +21,7 @@ import sys
 import tempfile
 
 HERE = pathlib.Path(__file__).resolve().parent
-NEEDED = "bash-completion,fish,gcc,libc6-dev,man-db,pkg-config,python3-minimal,zsh"
+NEEDED = "bash-completion,fish,gcc,libc6-dev,man-db,pkg-config,python3,zsh"
 # A root that is older than the program has the static one tried, and needs nothing else.
 OLD = {"bullseye", "buster"}
 INSIDE = 'mount -t proc proc "$0/proc" && mount --rbind /dev "$0/dev" && exec chroot "$0" /usr/bin/env -i "${@}"'
@@ -79,7 +79,11 @@ def main() -> int:
         return 0
     with tempfile.TemporaryDirectory(prefix="surf-root") as room:
         root = given.root or pathlib.Path(room, "root")
-        make_root(root, given.suite)
+        try:
+            make_root(root, given.suite)
+        except subprocess.CalledProcessError as fault:
+            print(f"debootstrap makes no root of {given.suite}: it ended with {fault.returncode}")
+            return 1
         put_in(root, given.release)
         return tried(root, given.suite)
 

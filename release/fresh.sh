@@ -119,11 +119,20 @@ unpacked() {
   well "sha256sum -c PROVED" sha256sum --quiet -c PROVED
 }
 
+tools() {
+  python3 tools/to_off.py meshes/eight.off > /tmp/again.off
+  same "a mesh by to_off.py" "genus 2" "$(bin/surf info /tmp/again.off | tail -n 1)"
+  bin/surf basis meshes/eight.off meshes/eight.len > /tmp/basis.txt
+  python3 tools/show.py meshes/eight.off /tmp/basis.txt --png /tmp/basis.png
+  same "a picture by show.py" "PNG" "$(head -c 4 /tmp/basis.png | tail -c 3)"
+}
+
 tarball() {
   unpacked
   (export PATH="$PWD/bin:$PATH"; main_job surf meshes; manual surf; echo "$tried $wrong" > /tmp/counts)
   read -r tried wrong < /tmp/counts
   main_job bin/surf-static meshes
+  tools
   same "the lines of INSTALL.md" "status 0" "$(bash -e ../install-lines > /tmp/said 2>&1; echo "status $?")"
   same "what the lines of INSTALL.md print" "2" "$(grep -c '^total 12262957$\|^loops 4$' /tmp/said)"
 }

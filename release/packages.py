@@ -20,6 +20,7 @@ MAINTAINER = "surf maintainers <surf@example.invalid>"
 # The tools for users of meshes, for sceptics and for whoever tries a program again; with them goes what they import.
 TOOLS = ["to_off", "show", "unfold", "plain_check"]
 TRIALS = ["run_cases"]
+LINK = re.compile(r"\]\(([^)#:]+)(?:#[^)]*)?\)|^\[[^\]]+\]: ([^\s:]+)$", re.M)
 NO_LICENCE = "No licence has been chosen so far. Until one is, nobody but the authors may pass this on."
 
 COPYRIGHT = f"""\
@@ -61,11 +62,21 @@ def add_tools(tree: trees.Tree, place: str, names: list[str]) -> None:
         tree.add(f"{place}/{path.relative_to(TOP / 'tools')}", path, mode)
 
 
+def documents() -> list[pathlib.Path]:
+    """The documents, and all files of the repository that they link to, so that their links lead on."""
+    found, todo = set(), [*TOP.glob("*.md"), *(TOP / "docs").rglob("*")]
+    while todo:
+        path = todo.pop().resolve()
+        if path not in found and path.is_file() and path.is_relative_to(TOP):
+            found.add(path)
+            pairs = LINK.findall(path.read_text()) if path.suffix == ".md" else []
+            todo += [path.parent / (inner or outer) for inner, outer in pairs]
+    return sorted(found)
+
+
 def add_documents(tree: trees.Tree, place: str) -> None:
-    """The documents as they stand in the repository, so that their links lead on."""
-    for name in ("README.md", "CHANGELOG.md", "CONTRIBUTING.md"):
-        tree.add(f"{place}/{name}".lstrip("/"), TOP / name)
-    tree.add_folder(f"{place}/docs".lstrip("/"), TOP / "docs")
+    for path in documents():
+        tree.add(f"{place}/{path.relative_to(TOP)}".lstrip("/"), path)
 
 
 def add_completions(tree: trees.Tree, name: str, pages: dict[str, str], zsh: str) -> None:

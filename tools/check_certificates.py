@@ -23,10 +23,9 @@ import tempfile
 import plain_check
 from check_bases import Plain, given_words, surface
 from check_walks import some_walk
-from run_cases import cases_of
-from worked_cases import edges_of, off
+from run_cases import SHEETS, cases_of
+from worked_cases import edges_of, off, sheets
 
-TOP = pathlib.Path(__file__).resolve().parent.parent
 TRIES = 40
 
 # ---- certificates, right or only well formed
@@ -263,22 +262,23 @@ def wrong_of_same(program, plain, chance):
 def worked_cases():
     """How many worked cases go as is due, and how many don't. Where another file is refused, any refusal is due."""
     right = wrong = 0
-    for sheet in sorted((TOP / "tools" / "cases").glob("*.cases")):
-        shared, cases = cases_of(sheet.read_bytes().decode())
+    texts = [(path.name, path.read_bytes().decode()) for path in sorted(SHEETS.glob("*.cases"))]
+    for name, text in texts + [(sheet.name, sheet.text()) for sheet in sheets()]:
+        shared, cases = cases_of(text)
         for case in cases:
             files, words = shared | case["files"], case["words"]
             if words[:1] not in (["check"], ["confirm"]) or len(words) != 4 or not files.keys() & {words[3]}:
                 continue
             if words[1] not in files:
                 continue
-            for name in {words[1], words[2], words[3]} & files.keys():
-                pathlib.Path(name).write_bytes(files[name].encode())
+            for file in {words[1], words[2], words[3]} & files.keys():
+                pathlib.Path(file).write_bytes(files[file].encode())
             said, due = plain_line(*words), case["out"] + case["diag"]
             if said == due or case["status"] in (3, 4, 5, 6, 9, 13) and not said.startswith(("valid ", "no ")):
                 right += 1
             else:
                 wrong += 1
-                print(f"{sheet.name}: {' '.join(words)}: due {due!r}, said {said!r}")
+                print(f"{name}: {' '.join(words)}: due {due!r}, said {said!r}")
     return right, wrong
 
 
