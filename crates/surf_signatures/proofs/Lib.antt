@@ -1,3 +1,4 @@
+pub mod Meeting
 pub mod Toggling
 pub mod Written
 pub mod Rewritten

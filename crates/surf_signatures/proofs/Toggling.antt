@@ -88,15 +88,15 @@ two_turns false false true false = refl
 two_turns false false false true = refl
 two_turns false false false false = refl
 
-pub three_turns : (a b c : Bool) → xor (xor (xor false (a && true)) (b && true)) (c && true) ≡ xor a (xor b c)
-three_turns true true true = refl
-three_turns true true false = refl
-three_turns true false true = refl
-three_turns true false false = refl
-three_turns false true true = refl
-three_turns false true false = refl
-three_turns false false true = refl
-three_turns false false false = refl
+pub nothing_turned : (o : Bool) → xor o false ≡ o
+nothing_turned true = refl
+nothing_turned false = refl
+
+pub both_turns : (a b : Bool) → xor (xor false (a && true)) (b && true) ≡ xor a b
+both_turns true true = refl
+both_turns true false = refl
+both_turns false true = refl
+both_turns false false = refl
 
 no_turn : (o a : Bool) → xor o (a && false) ≡ o
 no_turn true true = refl
@@ -104,8 +104,8 @@ no_turn true false = refl
 no_turn false true = refl
 no_turn false false = refl
 
-pub no_turns : (o a b c : Bool) → xor (xor (xor o (a && false)) (b && false)) (c && false) ≡ o
-no_turns o a b c = no_turn (xor (xor o (a && false)) (b && false)) c ∙ (no_turn (xor o (a && false)) b ∙ no_turn o a)
+pub no_turns : (o a b : Bool) → xor (xor o (a && false)) (b && false) ≡ o
+no_turns o a b = no_turn (xor o (a && false)) b ∙ no_turn o a
 
 pub below_more : (a n : ℕ) → a ≢ n → ltb a (n + 1) ≡ ltb a n
 below_more a n ne = elim (cases_lt a n) [

@@ -1,8 +1,9 @@
 //! Writes the signatures of edges into a flat table.
-ghost use Rattle.std.specs.Prelude.{◌≡◌, ◌<◌, ◌≤◌, ◌*◌, ◌^◌, ◌&&◌, ℕ, false, eqb, length};
+ghost use Rattle.std.specs.Prelude.{◌≡◌, ◌≢◌, ◌<◌, ◌≤◌, ◌*◌, ◌^◌, ◌&&◌, ◌⊎◌, ℕ, false, eqb, length};
 ghost use Rattle.surf_z2.specs.Parity.{xor};
 ghost use Rattle.surf_graphs.specs.Cells.{dual};
-ghost use Rattle.surf_graphs.specs.Trees.{IsTree, on_path};
+ghost use Rattle.surf_graphs.specs.Growth.{between};
+ghost use Rattle.surf_graphs.specs.Trees.{IsTree};
 ghost use Rattle.surf_surfaces.specs.Surface.{face_count, edge_count};
 ghost use Rattle.surf_surfaces.specs.Cells.{cells_of};
 ghost use Rattle.surf_base.specs.Tables.{at};
@@ -39,33 +40,62 @@ fn toggle(signs: &mut [u64], words: usize, edge: usize, k: usize)
     signs[edge * words + k / 64] ^= 1 << (k % 64);
 }
 
-// Turns bit `k` of the edges on the way from a face to face 0.
-fn turn_path(
+// How deep a face is. A face that the table hasn't has depth 0.
+fn depth_of(depth: &[u32], face: u32) -> u32
+    ensures depth { result ≡ at depth.now face }
+{
+    if (face as usize) < depth.len() {
+        depth[face as usize]
+    } else {
+        0
+    }
+}
+
+// Two faces, the deeper one first, and never face 0.
+fn deeper_first(tree: &FaceTree<'_>, near: u32, far: u32) -> (u32, u32)
+    requires apart { near ≢ far }
+    ensures both { ((result.0 ≡ near) × (result.1 ≡ far))
+        ⊎ ((result.0 ≡ far) × (result.1 ≡ near)) }
+    ensures below { result.0 ≢ 0 }
+{
+    let no_deeper = depth_of(tree.depth, far) <= depth_of(tree.depth, near);
+    if far == 0 || (near != 0 && no_deeper) {
+        (near, far)
+    } else {
+        (far, near)
+    }
+}
+
+// Turns bit `k` of the edges between two faces, from both up to where their ways meet.
+fn turn_between(
     mesh: &HalfMesh,
     tree: &FaceTree<'_>,
     signs: &mut [u64],
     words: usize,
-    face: u32,
+    ends: (u32, u32),
     k: usize,
 )
     requires tree { IsTree (dual (cells_of mesh.now))
         (face_tree tree.now.parent.now tree.now.up.now tree.now.depth.now) }
     requires ups { length tree.now.up.now ≡ face_count mesh.now }
     requires parents { length tree.now.parent.now ≡ face_count mesh.now }
-    requires face { face < face_count mesh.now }
+    requires faces { (ends.0 < face_count mesh.now) × (ends.1 < face_count mesh.now) }
     requires bit { k < 64 * words }
     requires few { words ≤ 16 }
     requires room { length signs.old ≡ edge_count mesh.now * words }
     ensures turned { (e j : ℕ) → j < 64 * words →
         sign_bit signs.new words e j ≡ xor (sign_bit signs.old words e j)
-        (on_path (face_tree tree.now.parent.now tree.now.up.now tree.now.depth.now)
-        face e && eqb k j) }
+        (between (face_tree tree.now.parent.now tree.now.up.now tree.now.depth.now)
+        ends.0 ends.1 e && eqb k j) }
 {
     mesh.law_of_surface();
-    let mut at = face as usize;
-    while at != 0 {
-        toggle(signs, words, tree.up[at] as usize, k);
-        at = tree.parent[at] as usize;
+    let mut near = ends.0;
+    let mut far = ends.1;
+    while near != far {
+        let (face, other) = deeper_first(tree, near, far);
+        toggle(signs, words, tree.up[face as usize] as usize, k);
+        near = tree.parent[face as usize];
+        far = other;
     }
 }
 
@@ -82,7 +112,7 @@ fn faces_beside(mesh: &HalfMesh, edge: EdgeId) -> (u32, u32)
 }
 
 // Writes the signatures of all edges: each left edge has its own place, and so have the edges of
-// the tree on the ways from its two faces to face 0, where the two ways differ.
+// the tree between its two faces.
 pub(crate) fn write_signs(
     mesh: &HalfMesh,
     tree: &FaceTree<'_>,
@@ -109,10 +139,8 @@ pub(crate) fn write_signs(
     signs.fill(0);
     for k in 0..left.len() {
         let edge = left[k];
-        let (near, far) = faces_beside(mesh, edge);
         toggle(signs, words, edge.index(), k);
-        turn_path(mesh, tree, signs, words, near, k);
-        turn_path(mesh, tree, signs, words, far, k);
+        turn_between(mesh, tree, signs, words, faces_beside(mesh, edge), k);
     }
     words_fit(signs);
 }

@@ -2,13 +2,13 @@ use Rattle.std.proofs.Common.{◌≡◌, ◌+◌, ◌∙◌, ◌&&◌, true, fal
 use Rattle.std.proofs.lemmas.List.{get_or_default}
 use Rattle.std.proofs.lemmas.Bool.{cases_eq, le-ltb}
 use Rattle.surf_z2.specs.Parity.{xor}
-use Rattle.surf_graphs.specs.Trees.{on_path}
+use Rattle.surf_graphs.specs.Growth.{between}
 use Rattle.surf_graphs.specs.Cells.{dual}
 use Rattle.surf_surfaces.specs.Cells.{cells_of}
 use Rattle.surf_base.specs.Tables.{at}
 use Rattle.surf_signatures.specs.Signs.{sign_bit, has_left}
 use Rattle.surf_signatures.specs.Tables.{face_tree}
-use Rattle.surf_signatures.proofs.Toggling.{three_turns, no_turns, below_more}
+use Rattle.surf_signatures.proofs.Toggling.{both_turns, no_turns, below_more}
 use Rattle.surf_signatures.proofs.signing.write_signs.Goals as goal
 
 pub loop-k-preserved : goal.loop-k-preserved
@@ -18,25 +18,28 @@ loop-k-preserved c =
     let k = c.loop-k.k in
     let edge = at c.args.left.now k in
     let same : c.index-left-k.result ≡ edge = c.index-left-k.is ∙ get_or_default c.args.left.now k c.index-left-k.result 0 c.loop-k-test.true in
-    let tail : c.faces_beside-near.result.0 ≡ g.from edge = c.faces_beside-near.ensures.near ∙ ap g.from same in
-    let head : c.faces_beside-near.result.1 ≡ g.to edge = c.faces_beside-near.ensures.far ∙ ap g.to same in
+    let ends = c.faces_beside.result in
+    let tail : ends.0 ≡ g.from edge = c.faces_beside.ensures.near ∙ ap g.from same in
+    let head : ends.1 ≡ g.to edge = c.faces_beside.ensures.far ∙ ap g.to same in
     λ e j l.
     let a = eqb edge e in
-    let b = on_path t (g.from edge) e in
-    let d = on_path t (g.to edge) e in
+    let b = between t (g.from edge) (g.to edge) e in
     let old = sign_bit c.loop-k.signs c.args.words e j in
-    let third : sign_bit c.turn_path-in-loop-k.new.signs c.args.words e j ≡ xor (sign_bit c.turn_path.new.signs c.args.words e j) (d && eqb k j) = rw head at (c.turn_path-in-loop-k.ensures.turned e j l) in
-    let second : sign_bit c.turn_path.new.signs c.args.words e j ≡ xor (sign_bit c.toggle.new.signs c.args.words e j) (b && eqb k j) = rw tail at (c.turn_path.ensures.turned e j l) in
-    let first : sign_bit c.toggle.new.signs c.args.words e j ≡ xor old (a && eqb k j) = subst (λ m. sign_bit c.toggle.new.signs c.args.words e j ≡ xor old (eqb m e && eqb k j)) (c.index.ensures ∙ same) (c.toggle.ensures.turned e j l) in
-    let whole : sign_bit c.turn_path-in-loop-k.new.signs c.args.words e j ≡ xor (xor (xor old (a && eqb k j)) (b && eqb k j)) (d && eqb k j) =
-    third ∙ (ap (λ x. xor x (d && eqb k j)) second ∙ ap (λ x. xor (xor x (b && eqb k j)) (d && eqb k j)) first) in
+    let now = sign_bit c.turn_between.new.signs c.args.words e j in
+    let one = sign_bit c.toggle.new.signs c.args.words e j in
+    let second : now ≡ xor one (b && eqb k j) =
+    c.turn_between.ensures.turned e j l ∙ ap (λ n. xor one (between t n ends.1 e && eqb k j)) tail
+    ∙ ap (λ n. xor one (between t (g.from edge) n e && eqb k j)) head in
+    let first : one ≡ xor old (a && eqb k j) =
+    subst (λ m. one ≡ xor old (eqb m e && eqb k j)) (c.index.ensures ∙ same) (c.toggle.ensures.turned e j l) in
+    let whole : now ≡ xor (xor old (a && eqb k j)) (b && eqb k j) = second ∙ ap (λ x. xor x (b && eqb k j)) first in
     whole ∙ elim (cases_eq j k) [
       | inl same ↦
           let off : old ≡ false = c.loop-k.invariant e j l ∙ ap (λ x. x && has_left g t (at c.args.left.now j) e) (le-ltb j k (omega arith)) in
           let on : eqb k j ≡ true = eq-eqb k j (sym same) in
-          let now : ltb j (k + 1) ≡ true = lt-ltb j (k + 1) (omega arith) in
-          rw (off, on, now) (three_turns a b d ∙ ap (λ m. has_left g t (at c.args.left.now m) e) (sym same))
+          let below : ltb j (k + 1) ≡ true = lt-ltb j (k + 1) (omega arith) in
+          rw (off, on, below) (both_turns a b ∙ ap (λ m. has_left g t (at c.args.left.now m) e) (sym same))
       | inr ne ↦
           let on : eqb k j ≡ false = ne_eqb k j (λ x. ne (sym x)) in
-          rw (on, below_more j k ne) (no_turns old a b d ∙ c.loop-k.invariant e j l)
+          rw (on, below_more j k ne) (no_turns old a b ∙ c.loop-k.invariant e j l)
     ]
