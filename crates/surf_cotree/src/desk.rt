@@ -137,7 +137,7 @@ impl CotreeDesk {
     {
         mesh.law_of_surface();
         self.held.copy_from_slice(in_tree);
-        let count = list_peeled(mesh, &mut self.held, &mut self.leaves);
+        let count = list_peeled(mesh, &mut self.held, &mut self.parent, &mut self.leaves);
         let network = FaceNetwork {
             mesh,
             marks: &self.held,

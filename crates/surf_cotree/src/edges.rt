@@ -7,6 +7,7 @@ ghost use Rattle.surf_surfaces.specs.Cells.{cells_of};
 ghost use Rattle.surf_heap.specs.Entries.{IsEmpty};
 ghost use Rattle.surf_cotree.specs.Searches.{heaviest, flag, outside};
 ghost use Rattle.surf_cotree.specs.Marking.{IsMarking, HasMarking};
+ghost use Rattle.surf_cotree.specs.Peeling.{IsPeeledTo};
 ghost use Rattle.surf_cotree.specs.Grown.{MarkTree, HasGrown};
 
 use crate::desk::count_loops;
@@ -78,6 +79,18 @@ fn mark_span<W: Weights>(
     }
 }
 
+// Takes the faces off that hang on the others by one edge without a mark, one after the other, and
+// marks these edges.
+fn mark_leaves(alloc: Global, mesh: &HalfMesh, marks: &mut [bool]) -> Result<(), NoMemory>
+    requires marks { length marks.old ≡ edge_count mesh.now }
+    ensures peeled { OnOk result (IsPeeledTo (dual (cells_of mesh.now)) (outside marks.old)
+        (outside marks.new)) }
+{
+    let mut bare = vec![in alloc; 0u32; mesh.faces() as usize]?;
+    peel(mesh, marks, &mut bare);
+    Ok(())
+}
+
 // Marks the edges of the heaviest tree of the faces that edges without a mark join to face 0.
 fn mark_tree<W: Weights>(
     alloc: Global,
@@ -145,7 +158,7 @@ impl CotreeEdges {
     {
         mesh.law_of_surface();
         let mut marks = in_tree.to_vec(alloc)?;
-        peel(mesh, &mut marks);
+        mark_leaves(alloc, mesh, &mut marks)?;
         mark_tree(alloc, mesh, weight, &mut marks)?;
         let left = list_unmarked(alloc, &marks, count_loops(mesh))?;
         unmark(&mut marks, in_tree);

@@ -13,6 +13,20 @@ use crate::search::NOBODY;
 use surf_base::{EdgeId, FaceId, SideId};
 use surf_mesh::HalfMesh;
 
+// A face with more sides than these is walked round only where it may hang by one edge, which the
+// number of its sides without a mark tells.
+const FEW_SIDES: u32 = 8;
+
+// Whether the edge of a side has no mark.
+fn is_bare(mesh: &HalfMesh, marks: &[bool], side: SideId) -> bool
+    requires side { side < side_count mesh.now }
+    requires marks { length marks.now ≡ edge_count mesh.now }
+    ensures bare { result ≡ outside marks.now (side_link mesh.now side).1 }
+{
+    let edge = mesh.edge_of(side);
+    !marks[edge.index()]
+}
+
 // The side of a face whose edge isn't marked, where there is exactly one.
 fn only_side(mesh: &HalfMesh, marks: &[bool], face: FaceId) -> Option<SideId>
     requires face { face < face_count mesh.now }
@@ -26,8 +40,7 @@ fn only_side(mesh: &HalfMesh, marks: &[bool], face: FaceId) -> Option<SideId>
     let (start, end) = mesh.side_span(face);
     for s in start..end {
         let side = SideId::new(s);
-        let (_, edge) = mesh.across(side);
-        if !marks[edge.index()] {
+        if is_bare(mesh, marks, side) {
             if found.is_some() {
                 return None;
             }
@@ -35,6 +48,63 @@ fn only_side(mesh: &HalfMesh, marks: &[bool], face: FaceId) -> Option<SideId>
         }
     }
     found
+}
+
+// How many sides of a face have no mark.
+fn count_bare(mesh: &HalfMesh, marks: &[bool], face: FaceId) -> u32
+    requires face { face < face_count mesh.now }
+    requires marks { length marks.now ≡ edge_count mesh.now }
+{
+    let mut count: u32 = 0;
+    let (start, end) = mesh.side_span(face);
+    for s in start..end {
+        if is_bare(mesh, marks, SideId::new(s)) {
+            count = count.saturating_add(1);
+        }
+    }
+    count
+}
+
+// Whether a face has so many sides that those without a mark are counted.
+fn is_great(mesh: &HalfMesh, face: FaceId) -> bool
+    requires face { face < face_count mesh.now }
+{
+    let (start, end) = mesh.side_span(face);
+    end - start > FEW_SIDES
+}
+
+// Whether a face may hang by one edge, when its turn comes. Of a great face the sides without a
+// mark are counted. Nothing but time rests on the counts, since a face is walked round before it is
+// taken off.
+fn may_hang(mesh: &HalfMesh, marks: &[bool], bare: &mut [u32], face: u32) -> bool
+    requires face { face < face_count mesh.now }
+    requires marks { length marks.now ≡ edge_count mesh.now }
+    requires counts { length bare.old ≡ face_count mesh.now }
+{
+    if !is_great(mesh, FaceId::new(face)) {
+        return true;
+    }
+    let count = count_bare(mesh, marks, FaceId::new(face));
+    bare[face as usize] = count;
+    count == 1
+}
+
+// Whether a face may hang by one edge, when one more of its edges has been marked. A face past the
+// last one that had its turn waits for its own. The count of a great face falls, so that it isn't
+// walked round for each of its edges.
+fn may_hang_now(mesh: &HalfMesh, bare: &mut [u32], last: u32, face: u32) -> bool
+    requires face { face < face_count mesh.now }
+    requires counts { length bare.old ≡ face_count mesh.now }
+{
+    if face > last {
+        return false;
+    }
+    if !is_great(mesh, FaceId::new(face)) {
+        return true;
+    }
+    let count = bare[face as usize].saturating_sub(1);
+    bare[face as usize] = count;
+    count == 1
 }
 
 // Takes a face off that hangs on the others by one edge without a mark, marks the edge, and gives
@@ -59,69 +129,84 @@ fn take_leaf(mesh: &HalfMesh, marks: &mut [bool], face: u32) -> Option<(EdgeId, 
 fn list_chain(
     mesh: &HalfMesh,
     marks: &mut [bool],
+    bare: &mut [u32],
     leaves: &mut [EdgeId],
     taken: usize,
     from: u32,
 ) -> usize
     requires face { from < face_count mesh.now }
     requires marks { length marks.old ≡ edge_count mesh.now }
+    requires counts { length bare.old ≡ face_count mesh.now }
     ensures peeled { (allowed : ℕ → Bool) → IsPeeledBy (dual (cells_of mesh.now))
         allowed leaves.old taken (outside marks.old) →
         IsPeeledBy (dual (cells_of mesh.now)) allowed leaves.new result (outside marks.new) }
 {
     let mut count = taken;
     let mut face = from;
-    while face <= from && count < leaves.len() {
+    let mut hangs = may_hang(mesh, marks, bare, from);
+    while hangs && count < leaves.len() {
         let Some((edge, on)) = take_leaf(mesh, marks, face) else {
             break;
         };
         leaves[count] = edge;
         count += 1;
         face = on;
+        hangs = may_hang_now(mesh, bare, from, on);
     }
     count
 }
 
 /// Takes the faces off that hang on the others by one edge without a mark, one after the other, and
-/// marks these edges. It lists them and gives their number.
-pub(crate) fn list_peeled(mesh: &HalfMesh, marks: &mut [bool], leaves: &mut [EdgeId]) -> usize
+/// marks these edges. It lists them and gives their number. `bare` has room for a number of each
+/// face.
+pub(crate) fn list_peeled(
+    mesh: &HalfMesh,
+    marks: &mut [bool],
+    bare: &mut [u32],
+    leaves: &mut [EdgeId],
+) -> usize
     requires marks { length marks.old ≡ edge_count mesh.now }
+    requires counts { length bare.old ≡ face_count mesh.now }
     ensures peeled { IsPeeledBy (dual (cells_of mesh.now)) (outside marks.old) leaves.new result
         (outside marks.new) }
 {
     let mut count = 0;
     for face in 0..mesh.faces() {
-        count = list_chain(mesh, marks, leaves, count, face);
+        count = list_chain(mesh, marks, bare, leaves, count, face);
     }
     count
 }
 
 // Takes a face off that hangs by one edge, and then each face that hangs by one edge when the one
 // before it has gone. A face past the first one waits for its turn.
-fn take_chain(mesh: &HalfMesh, marks: &mut [bool], from: u32)
+fn take_chain(mesh: &HalfMesh, marks: &mut [bool], bare: &mut [u32], from: u32)
     requires face { from < face_count mesh.now }
     requires marks { length marks.old ≡ edge_count mesh.now }
+    requires counts { length bare.old ≡ face_count mesh.now }
     ensures peeled { (allowed : ℕ → Bool) → IsPeeledTo (dual (cells_of mesh.now)) allowed
         (outside marks.old) → IsPeeledTo (dual (cells_of mesh.now)) allowed (outside marks.new) }
 {
     let mut face = from;
-    while face <= from {
+    let mut hangs = may_hang(mesh, marks, bare, from);
+    while hangs {
         let Some((_, on)) = take_leaf(mesh, marks, face) else {
             break;
         };
         face = on;
+        hangs = may_hang_now(mesh, bare, from, on);
     }
 }
 
 /// Takes the faces off that hang on the others by one edge without a mark, one after the other, and
-/// marks these edges.
-pub(crate) fn peel(mesh: &HalfMesh, marks: &mut [bool])
+/// marks these edges. `bare` has room for a number of each face.
+pub(crate) fn peel(mesh: &HalfMesh, marks: &mut [bool], bare: &mut [u32])
     requires marks { length marks.old ≡ edge_count mesh.now }
+    requires counts { length bare.old ≡ face_count mesh.now }
     ensures peeled { IsPeeledTo (dual (cells_of mesh.now)) (outside marks.old)
         (outside marks.new) }
 {
     for face in 0..mesh.faces() {
-        take_chain(mesh, marks, face);
+        take_chain(mesh, marks, bare, face);
     }
 }
 

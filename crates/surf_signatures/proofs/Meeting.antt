@@ -1,5 +1,5 @@
 -- Ways through a tree, climbed from both ends.
-use Rattle.std.proofs.Common.{ℕ, ◌<◌, ◌≡◌, ◌≢◌, ◌⊎◌, inl, inr, Bool, false, eqb, ap, sym, ◌∙◌}
+use Rattle.std.proofs.Common.{ℕ, ◌<◌, ◌≡◌, ◌≢◌, ◌⊎◌, inl, inr, false, eqb, ap, sym, ◌∙◌}
 use Rattle.surf_z2.specs.Parity.{xor, xor_assoc, xor_comm, xor-same}
 use Rattle.surf_graphs.specs.Graphs.{Graph}
 use Rattle.surf_graphs.specs.Growth.{between}

@@ -6,11 +6,11 @@ use Rattle.surf_cotree.specs.Searches.{outside}
 use Rattle.surf_cotree.specs.Peeling.{IsPeeledBy}
 use Rattle.surf_cotree.proofs.peeling.list_chain.Given as goal
 
-abbrev pub invariant-loop-face : goal.invariant-loop-face
-invariant-loop-face l = record {
+abbrev pub invariant-loop-hangs : goal.invariant-loop-hangs
+invariant-loop-hangs l = record {
   inside : l.face < face_count l.mesh;
   peeled : (allowed : ℕ → Bool) → IsPeeledBy (dual (cells_of l.mesh)) allowed l.initial.leaves l.initial.count (outside l.initial.marks) → IsPeeledBy (dual (cells_of l.mesh)) allowed l.leaves l.count (outside l.marks);
 }
 
-abbrev pub decreases-loop-face : goal.decreases-loop-face
-decreases-loop-face l = length l.leaves - l.count
+abbrev pub decreases-loop-hangs : goal.decreases-loop-hangs
+decreases-loop-hangs l = length l.leaves - l.count

@@ -1,4 +1,4 @@
-use Rattle.std.proofs.Common.{◌≡◌, ◌<◌, ◌∙◌, ◌+◌, ◌-◌, ℕ, not, true, false, length, arith, sym, ap, subst}
+use Rattle.std.proofs.Common.{◌≡◌, ◌<◌, ◌∙◌, ◌+◌, ◌-◌, ℕ, true, false, length, arith, sym, ap}
 use Rattle.surf_graphs.specs.Cells.{dual}
 use Rattle.surf_surfaces.specs.Cells.{cells_of}
 use Rattle.surf_surfaces.specs.SideNumber.{side_count}
@@ -7,20 +7,7 @@ use Rattle.surf_cotree.specs.Searches.{outside}
 use Rattle.surf_cotree.proofs.Passing.{links, links_many, links_row, link_is}
 use Rattle.surf_cotree.proofs.Leaves.{only_skip, only_second, found_only}
 use Rattle.surf_cotree.proofs.peeling.only_side.Goals as goal
-use Rattle.surf_cotree.proofs.peeling.only_side.Goals.{then-not-marks-index+else-is_some, else-not-marks-index}
-
-pub bounds-marks-index : goal.bounds-marks-index
-bounds-marks-index c =
-    let mesh = c.args.mesh.now in
-    let start = c.side_span-start.result.0 in
-    let end = c.side_span-start.result.1 in
-    let n = c.loop-s.s - start in
-    let from = c.loop-s.invariant.from in
-    let its_row = links_row mesh c.law_of_surface.ensures.surface c.args.face start end c.requires.face c.side_span-start.ensures.start c.side_span-start.ensures.end in
-    let long = links_many mesh start end in
-    let is : link_at (links mesh start end) n ≡ c.across-edge.result = link_is mesh start end c.loop-s.s c.new-side.result from c.loop-s-test.true c.new-side.ensures ∙ sym c.across-edge.ensures.link in
-    let l : c.across-edge.result.1 < (dual (cells_of mesh)).edges = subst (λ (p : ℕ × ℕ). p.1 < (dual (cells_of mesh)).edges) is (its_row.edge_in n (omega (arith, long, from, c.loop-s-test.true))) in
-    omega (arith, l, c.requires.marks, c.index.ensures)
+use Rattle.surf_cotree.proofs.peeling.only_side.Goals.{then-is_bare+else-is_some, else-is_bare}
 
 pub loop-s-preserved : goal.loop-s-preserved
 loop-s-preserved c =
@@ -35,13 +22,12 @@ loop-s-preserved c =
     let next : n + 1 ≡ c.loop-s.s + 1 - start = omega (arith, from) in
     let is : link n ≡ side_link mesh side = link_is mesh start end c.loop-s.s side from c.loop-s-test.true c.new-side.ensures in
     let inside : side < side_count mesh = omega (arith, c.new-side.ensures, c.loop-s-test.true, c.side_span-start.ensures.inside) in
-    let edge_is : (side_link mesh side).1 ≡ c.index.result = ap (λ (p : ℕ × ℕ). p.1) (sym c.across-edge.ensures.link) ∙ sym c.index.ensures in
-    elim c.if-not-marks-index.branch [
-      | then-not-marks-index+else-is_some w ↦
-          let free : rest (side_link mesh side).1 ≡ true = ap rest edge_is ∙ ap not w.if-not-marks-index.true in
+    elim c.if-is_bare.branch [
+      | then-is_bare+else-is_some w ↦
+          let free : rest (side_link mesh side).1 ≡ true = sym c.is_bare.ensures.bare ∙ w.if-is_bare.true in
           rw (w.found-is, sym next) (record { from = omega (arith, from); inside = inside; only = only_second rest link (side_link mesh) n side c.loop-s.found w.if-is_some.ensures is free c.loop-s.invariant.only })
-      | else-not-marks-index w ↦
-          let shut : rest (link n).1 ≡ false = ap (λ (p : ℕ × ℕ). rest p.1) is ∙ (ap rest edge_is ∙ ap not w.if-not-marks-index.false) in
+      | else-is_bare w ↦
+          let shut : rest (link n).1 ≡ false = ap (λ (p : ℕ × ℕ). rest p.1) is ∙ (sym c.is_bare.ensures.bare ∙ w.if-is_bare.false) in
           rw (w.found-is, sym next) (record { from = omega (arith, from); inside = c.loop-s.invariant.inside; only = only_skip rest link (side_link mesh) n c.loop-s.found shut c.loop-s.invariant.only })
     ]
 

@@ -17,32 +17,32 @@ use Rattle.surf_cotree.proofs.Hanging.{hung_first, hung_all}
 use Rattle.surf_cotree.proofs.Tabled.{unmarked_join, grown_tables}
 use Rattle.surf_cotree.proofs.desk.CotreeDesk.grow_by.Given.{Over}
 use Rattle.surf_cotree.proofs.desk.CotreeDesk.grow_by.Goals as goal
-use Rattle.surf_cotree.proofs.desk.CotreeDesk.grow_by.Goals.{After-deref_mut-8}
+use Rattle.surf_cotree.proofs.desk.CotreeDesk.grow_by.Goals.{After-deref_mut-9}
 
-abbrev dual_of : (gen : Over) → After-deref_mut-8 gen → Graph
+abbrev dual_of : (gen : Over) → After-deref_mut-9 gen → Graph
 dual_of gen c = dual (cells_of c.args.mesh.now)
 
 -- the tables that the hanging starts from
-leaves_are : (gen : Over) (c : After-deref_mut-8 gen) → c.deref-2.result.now ≡ c.list_peeled-count.new.leaves
-leaves_are gen c = c.deref-2.ensures.value ∙ with_items_is c.self.inside.leaves c.list_peeled-count.new.leaves (omega (arith, c.deref_mut-2.ensures.len))
+leaves_are : (gen : Over) (c : After-deref_mut-9 gen) → c.deref-2.result.now ≡ c.list_peeled-count.new.leaves
+leaves_are gen c = c.deref-2.ensures.value ∙ with_items_is c.self.inside.leaves c.list_peeled-count.new.leaves (omega (arith, c.deref_mut-3.ensures.len))
 
-depth_is : (gen : Over) (c : After-deref_mut-8 gen) → c.deref_mut-6.result.now ≡ c.span.new.depth
-depth_is gen c = c.deref_mut-6.ensures.value ∙ with_items_is c.self.inside.depth c.span.new.depth (omega (arith, c.deref_mut-3.ensures.len))
+depth_is : (gen : Over) (c : After-deref_mut-9 gen) → c.deref_mut-7.result.now ≡ c.span.new.depth
+depth_is gen c = c.deref_mut-7.ensures.value ∙ with_items_is c.self.inside.depth c.span.new.depth (omega (arith, c.deref_mut-4.ensures.len))
 
-parent_is : (gen : Over) (c : After-deref_mut-8 gen) → c.deref_mut-7.result.now ≡ c.span.new.parent
-parent_is gen c = c.deref_mut-7.ensures.value ∙ with_items_is c.self.inside.parent c.span.new.parent (omega (arith, c.deref_mut-4.ensures.len))
+parent_is : (gen : Over) (c : After-deref_mut-9 gen) → c.deref_mut-8.result.now ≡ c.span.new.parent
+parent_is gen c = c.deref_mut-8.ensures.value ∙ with_items_is (with_items c.self.inside.parent c.list_peeled-count.new.bare) c.span.new.parent (omega (arith, c.deref_mut-5.ensures.len))
 
-up_is : (gen : Over) (c : After-deref_mut-8 gen) → c.deref_mut-8.result.now ≡ c.span.new.up
-up_is gen c = c.deref_mut-8.ensures.value ∙ with_items_is c.self.inside.up c.span.new.up (omega (arith, c.deref_mut-5.ensures.len))
+up_is : (gen : Over) (c : After-deref_mut-9 gen) → c.deref_mut-9.result.now ≡ c.span.new.up
+up_is gen c = c.deref_mut-9.ensures.value ∙ with_items_is c.self.inside.up c.span.new.up (omega (arith, c.deref_mut-6.ensures.len))
 
-peeled : (gen : Over) (c : After-deref_mut-8 gen) → IsPeeledBy (dual_of gen c) (outside c.args.in_tree.now) c.list_peeled-count.new.leaves c.list_peeled-count.result (outside c.deref.result.now)
+peeled : (gen : Over) (c : After-deref_mut-9 gen) → IsPeeledBy (dual_of gen c) (outside c.args.in_tree.now) c.list_peeled-count.new.leaves c.list_peeled-count.result (outside c.deref.result.now)
 peeled gen c =
     let begin : c.deref_mut.result.now ≡ c.args.in_tree.now = c.deref_mut.ensures.value ∙ c.copy_from_slice.ensures.items in
     let held : c.deref.result.now ≡ c.list_peeled-count.new.marks = c.deref.ensures.value ∙ with_items_is c.copy_from_slice.new.self c.list_peeled-count.new.marks (omega (arith, c.deref_mut.ensures.len)) in
     subst (λ (m : List Bool). IsPeeledBy (dual_of gen c) (outside m) c.list_peeled-count.new.leaves c.list_peeled-count.result (outside c.deref.result.now)) begin
     (subst (λ (m : List Bool). IsPeeledBy (dual_of gen c) (outside c.deref_mut.result.now) c.list_peeled-count.new.leaves c.list_peeled-count.result (outside m)) (sym held) c.list_peeled-count.ensures.peeled)
 
-start : (gen : Over) (c : After-deref_mut-8 gen) → IsHungBy (dual_of gen c) (outside c.args.in_tree.now) (gen.W.Weights.weight c.args.weight.now) c.deref-2.result.now c.list_peeled-count.result c.deref_mut-7.result.now c.deref_mut-8.result.now c.deref_mut-6.result.now
+start : (gen : Over) (c : After-deref_mut-9 gen) → IsHungBy (dual_of gen c) (outside c.args.in_tree.now) (gen.W.Weights.weight c.args.weight.now) c.deref-2.result.now c.list_peeled-count.result c.deref_mut-8.result.now c.deref_mut-9.result.now c.deref_mut-7.result.now
 start gen c =
     let p = peeled gen c in
     let as_many = p.as_many in
@@ -53,17 +53,17 @@ start gen c =
       by = p.by;
       hung = hung_first (dual_of gen c) (outside c.args.in_tree.now) (gen.W.Weights.weight c.args.weight.now) c.requires.light p.leaves c.list_peeled-count.result (outside c.deref.result.now) p.peeled c.span.new.parent c.span.new.up c.span.new.depth c.span.new.heap c.span.ensures.places c.span.ensures.empty c.span.ensures.root c.span.ensures.grown;
     } in
-    subst (λ (x : List ℕ). IsHungBy (dual_of gen c) (outside c.args.in_tree.now) (gen.W.Weights.weight c.args.weight.now) x c.list_peeled-count.result c.deref_mut-7.result.now c.deref_mut-8.result.now c.deref_mut-6.result.now) (sym (leaves_are gen c))
-    (subst (λ (x : List ℕ). IsHungBy (dual_of gen c) (outside c.args.in_tree.now) (gen.W.Weights.weight c.args.weight.now) c.list_peeled-count.new.leaves c.list_peeled-count.result x c.deref_mut-8.result.now c.deref_mut-6.result.now) (sym (parent_is gen c))
-    (subst (λ (x : List ℕ). IsHungBy (dual_of gen c) (outside c.args.in_tree.now) (gen.W.Weights.weight c.args.weight.now) c.list_peeled-count.new.leaves c.list_peeled-count.result c.span.new.parent x c.deref_mut-6.result.now) (sym (up_is gen c))
+    subst (λ (x : List ℕ). IsHungBy (dual_of gen c) (outside c.args.in_tree.now) (gen.W.Weights.weight c.args.weight.now) x c.list_peeled-count.result c.deref_mut-8.result.now c.deref_mut-9.result.now c.deref_mut-7.result.now) (sym (leaves_are gen c))
+    (subst (λ (x : List ℕ). IsHungBy (dual_of gen c) (outside c.args.in_tree.now) (gen.W.Weights.weight c.args.weight.now) c.list_peeled-count.new.leaves c.list_peeled-count.result x c.deref_mut-9.result.now c.deref_mut-7.result.now) (sym (parent_is gen c))
+    (subst (λ (x : List ℕ). IsHungBy (dual_of gen c) (outside c.args.in_tree.now) (gen.W.Weights.weight c.args.weight.now) c.list_peeled-count.new.leaves c.list_peeled-count.result c.span.new.parent x c.deref_mut-7.result.now) (sym (up_is gen c))
     (subst (λ (x : List ℕ). IsHungBy (dual_of gen c) (outside c.args.in_tree.now) (gen.W.Weights.weight c.args.weight.now) c.list_peeled-count.new.leaves c.list_peeled-count.result c.span.new.parent c.span.new.up x) (sym (depth_is gen c)) hung)))
 
 pub hang-requires-clause-some : goal.hang-requires-clause-some
 hang-requires-clause-some gen c = (outside c.args.in_tree.now, gen.W.Weights.weight c.args.weight.now, start gen c)
 
 -- the tables that it ends with
-module _ (gen : Over) (c : After-deref_mut-8 gen) (parent up depth : List ℕ)
-    (hung : (allowed : ℕ → Bool) (weight : ℕ → ℕ) → IsHungBy (dual (cells_of c.args.mesh.now)) allowed weight c.deref-2.result.now c.list_peeled-count.result c.deref_mut-7.result.now c.deref_mut-8.result.now c.deref_mut-6.result.now → IsHungBy (dual (cells_of c.args.mesh.now)) allowed weight c.deref-2.result.now 0 parent up depth) where
+module _ (gen : Over) (c : After-deref_mut-9 gen) (parent up depth : List ℕ)
+    (hung : (allowed : ℕ → Bool) (weight : ℕ → ℕ) → IsHungBy (dual (cells_of c.args.mesh.now)) allowed weight c.deref-2.result.now c.list_peeled-count.result c.deref_mut-8.result.now c.deref_mut-9.result.now c.deref_mut-7.result.now → IsHungBy (dual (cells_of c.args.mesh.now)) allowed weight c.deref-2.result.now 0 parent up depth) where
   end : IsHungBy (dual_of gen c) (outside c.args.in_tree.now) (gen.W.Weights.weight c.args.weight.now) c.deref-2.result.now 0 parent up depth
   end = hung (outside c.args.in_tree.now) (gen.W.Weights.weight c.args.weight.now) (start gen c)
 
@@ -82,23 +82,23 @@ module _ (gen : Over) (c : After-deref_mut-8 gen) (parent up depth : List ℕ)
 
 pub mark_edges-requires : goal.mark_edges-requires
 mark_edges-requires gen c =
-    let i = (goal.at.mark_edges-requires gen c).After-deref_mut-8 in
+    let i = (goal.at.mark_edges-requires gen c).After-deref_mut-9 in
     let mesh = c.args.mesh.now in
     let here = subst (AreCotreeTables mesh) (sym c.self.view_is) c.requires.made in
     let up = c.hang.new.up in
-    let up_is : c.deref-3.result.now ≡ up = c.deref-3.ensures.value ∙ with_items_is (with_items c.self.inside.up c.span.new.up) up (omega (arith, c.deref_mut-8.ensures.len)) in
-    let wide : length c.deref_mut-9.result.now ≡ edge_count mesh = omega (arith, c.deref_mut-9.ensures.len, c.deref_mut.ensures.len, c.copy_from_slice.ensures.len, here.held) in
-    let long : length up ≡ face_count mesh = omega (arith, c.deref_mut-8.ensures.len, c.deref_mut-5.ensures.len, here.ups) in
+    let up_is : c.deref-3.result.now ≡ up = c.deref-3.ensures.value ∙ with_items_is (with_items c.self.inside.up c.span.new.up) up (omega (arith, c.deref_mut-9.ensures.len)) in
+    let wide : length c.deref_mut-10.result.now ≡ edge_count mesh = omega (arith, c.deref_mut-10.ensures.len, c.deref_mut.ensures.len, c.copy_from_slice.ensures.len, here.held) in
+    let long : length up ≡ face_count mesh = omega (arith, c.deref_mut-9.ensures.len, c.deref_mut-6.ensures.len, here.ups) in
     record {
       ups = λ f l some.
           let lf : f < face_count mesh = let same = ap length up_is in omega (arith, same) in
           let inside = ups_in gen i c.hang.new.parent up c.hang.new.depth c.hang.ensures.hung f lf (subst (λ (x : List ℕ). at x f ≢ nobody) up_is some) in
-          subst (λ (x : List ℕ). at x f < length c.deref_mut-9.result.now) (sym up_is) (omega (arith, inside));
+          subst (λ (x : List ℕ). at x f < length c.deref_mut-10.result.now) (sym up_is) (omega (arith, inside));
     }
 
 pub returns : goal.returns
 returns gen c =
-    let i = (goal.at.returns gen c).After-deref_mut-8 in
+    let i = (goal.at.returns gen c).After-deref_mut-9 in
     let mesh = c.args.mesh.now in
     let d = c.self.inside in
     let made : AreCotreeTables mesh c.args.self.now = c.requires.made in
@@ -108,12 +108,13 @@ returns gen c =
     let parent = c.hang.new.parent in
     let up = c.hang.new.up in
     let held = c.mark_edges.new.marks in
-    let depth_is : (with_items (with_items d.depth c.span.new.depth) depth).items ≡ depth = with_items_is (with_items d.depth c.span.new.depth) depth (omega (arith, c.deref_mut-6.ensures.len)) in
-    let parent_is : (with_items (with_items d.parent c.span.new.parent) parent).items ≡ parent = with_items_is (with_items d.parent c.span.new.parent) parent (omega (arith, c.deref_mut-7.ensures.len)) in
-    let up_is : (with_items (with_items d.up c.span.new.up) up).items ≡ up = with_items_is (with_items d.up c.span.new.up) up (omega (arith, c.deref_mut-8.ensures.len)) in
-    let held_is : (with_items (with_items c.copy_from_slice.new.self c.list_peeled-count.new.marks) held).items ≡ held = with_items_is (with_items c.copy_from_slice.new.self c.list_peeled-count.new.marks) held (omega (arith, c.deref_mut-9.ensures.len)) in
-    let long : length up ≡ face_count mesh = omega (arith, c.deref_mut-8.ensures.len, c.deref_mut-5.ensures.len, here.ups) in
-    let wide : length held ≡ edge_count mesh = omega (arith, c.deref_mut-9.ensures.len, c.deref_mut.ensures.len, c.copy_from_slice.ensures.len, here.held) in
+    let depth_is : (with_items (with_items d.depth c.span.new.depth) depth).items ≡ depth = with_items_is (with_items d.depth c.span.new.depth) depth (omega (arith, c.deref_mut-7.ensures.len)) in
+    let parent_is : (with_items (with_items (with_items d.parent c.list_peeled-count.new.bare) c.span.new.parent) parent).items ≡ parent =
+    with_items_is (with_items (with_items d.parent c.list_peeled-count.new.bare) c.span.new.parent) parent (omega (arith, c.deref_mut-8.ensures.len)) in
+    let up_is : (with_items (with_items d.up c.span.new.up) up).items ≡ up = with_items_is (with_items d.up c.span.new.up) up (omega (arith, c.deref_mut-9.ensures.len)) in
+    let held_is : (with_items (with_items c.copy_from_slice.new.self c.list_peeled-count.new.marks) held).items ≡ held = with_items_is (with_items c.copy_from_slice.new.self c.list_peeled-count.new.marks) held (omega (arith, c.deref_mut-10.ensures.len)) in
+    let long : length up ≡ face_count mesh = omega (arith, c.deref_mut-9.ensures.len, c.deref_mut-6.ensures.len, here.ups) in
+    let wide : length held ≡ edge_count mesh = omega (arith, c.deref_mut-10.ensures.len, c.deref_mut.ensures.len, c.copy_from_slice.ensures.len, here.held) in
     let marked : (e : ℕ) → e < edge_count mesh → get_or held e false ≡ any_below (face_count mesh) (λ v. not (eqb (at up v) nobody) && eqb (at up v) e) = λ e l.
     subst (λ n. get_or held e false ≡ any_below n (λ v. not (eqb (at up v) nobody) && eqb (at up v) e)) long
     (rw (c.deref-3.ensures.value, up_is) at (c.mark_edges.ensures.marks e (omega (arith, wide, l))))
@@ -128,9 +129,9 @@ returns gen c =
         few = omega (arith, c.law_of_surface.ensures.edges);
         made = record {
           held = wide;
-          parents = omega (arith, c.deref_mut-7.ensures.len, c.deref_mut-4.ensures.len, here.parents);
+          parents = omega (arith, c.deref_mut-8.ensures.len, c.deref_mut-5.ensures.len, c.deref_mut-2.ensures.len, here.parents);
           ups = long;
-          depths = omega (arith, c.deref_mut-6.ensures.len, c.deref_mut-3.ensures.len, here.depths);
+          depths = omega (arith, c.deref_mut-7.ensures.len, c.deref_mut-4.ensures.len, here.depths);
           width = here.width;
           signatures = here.signatures;
         };

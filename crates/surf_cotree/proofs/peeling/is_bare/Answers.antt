@@ -1,0 +1,17 @@
+use Rattle.std.proofs.Common.{◌≡◌, ◌<◌, ◌∙◌, ap, arith}
+use Rattle.surf_surfaces.specs.Surface.{edge_count}
+use Rattle.surf_mesh.specs.Links.{side_link}
+use Rattle.surf_mesh.proofs.LinkLaws.{side_edge_is}
+use Rattle.surf_cotree.specs.Searches.{outside}
+use Rattle.surf_cotree.proofs.peeling.is_bare.Goals as goal
+
+pub bounds-marks-index : goal.bounds-marks-index
+bounds-marks-index c =
+    let l : c.edge_of-edge.result < edge_count c.args.mesh.now = c.edge_of-edge.ensures.is_edge in
+    omega (arith, l, c.index.ensures, c.requires.marks)
+
+pub returns : goal.returns
+returns c =
+    let place : c.index.result ≡ (side_link c.args.mesh.now c.args.side).1 =
+    c.index.ensures ∙ side_edge_is c.args.mesh.now c.args.side c.edge_of-edge.result c.edge_of-edge.ensures in
+    record { bare = ap (outside c.args.marks.now) place }
