@@ -1,63 +1,99 @@
 -- The chosen evidence.
 use Rattle.std.proofs.Common.{◌≡◌, ℕ, ◌<◌, Bool, true, false, List, length, get_or, map, filter, Option, refl, sym, ap, ◌∙◌, subst, arith, unwrap_or}
 use Rattle.std.specs.List.{range_with_len}
-use Rattle.std.proofs.lemmas.List.FromFn.{get_or-map-range_with_len}
-use Rattle.surf_z2.specs.Parity.{xor}
+use Rattle.surf_z2.specs.Parity.{xor, xor_comm}
 use Rattle.surf_z2.specs.Space.{Chain}
 use Rattle.surf_z2.specs.Sieve.{has}
-use Rattle.surf_graphs.specs.Cells.{dual, chain_signature}
+use Rattle.surf_graphs.specs.Cells.{dual, chain_signature, signature, IsSplit}
 use Rattle.surf_graphs.specs.Trees.{Tree}
 use Rattle.surf_graphs.specs.Independence.{signature_of}
 use Rattle.surf_graphs.proofs.Graphs.{leaves_joined}
+use Rattle.surf_graphs.proofs.Trees.{along, along_root, along_step}
 use Rattle.surf_surfaces.specs.Mesh.{Mesh}
 use Rattle.surf_surfaces.specs.Surface.{face_count, edge_count, ends, IsSurface}
-use Rattle.surf_surfaces.specs.Homology.{IsBoundary}
+use Rattle.surf_surfaces.specs.Homology.{IsBoundary, boundary}
 use Rattle.surf_surfaces.specs.Cells.{cells_of}
 use Rattle.surf_surfaces.specs.Signature.{edge_signature}
 use Rattle.surf_surfaces.proofs.CellLaws.{surfaces_are_cells}
 use Rattle.surf_cotree.specs.Tables.{CotreeTables, split_with, cotree_of}
 use Rattle.surf_treecheck.specs.Split.{AreFlags}
+use Rattle.surf_signatures.specs.Signs.{has_left}
 use Rattle.surf_signatures.proofs.Passing.{passing_same}
 use Rattle.surf_classes.specs.Evidence.{joint_parity, AreClosed, IsChosenNull, IsChosenOdd, is_listed}
-use Rattle.surf_classes.specs.EvidenceLaws.{joint_signature}
 use Rattle.surf_classes.proofs.NullChoice.{null_choice_is_filtered, null_choice_is_one}
-use Rattle.surf_classes.proofs.OddChoice.{odd_choice_is_filtered, joint_signatures_add, joint_even}
-use Rattle.surf_graphs.proofs.CellLaws.{signature_null}
+use Rattle.surf_classes.proofs.OddChoice.{odd_choice_is_filtered, joint_even}
+use Rattle.surf_graphs.proofs.CellLaws.{signature_null, signature_is, chain_signature_is}
 use Rattle.surf_z2.proofs.Below.{below_law}
-use Rattle.surf_class.specs.Desk.{IsSigned}
-use Rattle.surf_class.specs.Sides.{IsParted, AreAllSidesOf, is_inside}
+use Rattle.surf_class.specs.Sides.{IsParted, AreAllSidesOf, differs, is_inside}
 
-module _ (mesh : Mesh) (surface : IsSurface mesh) (tree : Tree) (t : CotreeTables) (signed : IsSigned mesh tree t)
-    (walk : List ℕ) (other : Option (List ℕ)) (closed : AreClosed mesh walk other) (sum : ℕ)
-    (sum_is : sum ≡ joint_signature mesh (split_with tree t) walk other) where
-  whole : signature_of (cells_of mesh) (split_with tree t) (joint_parity mesh walk other) ≡ sum
-  whole = joint_signatures_add mesh (split_with tree t) surface walk other closed ∙ sym sum_is
+module _ (mesh : Mesh) (surface : IsSurface mesh) (tree : Tree) (t : CotreeTables) (split : IsSplit (cells_of mesh) (split_with tree t))
+    (walk : List ℕ) (other : Option (List ℕ)) (closed : AreClosed mesh walk other) (flags : List Bool)
+    (are : AreFlags (edge_count mesh) (joint_parity mesh walk other) flags) where
+  -- the faces with an odd number of flagged edges on their way to face 0
+  pub odd_ways : ℕ → Bool
+  odd_ways = along (dual (cells_of mesh)) (cotree_of t) (joint_parity mesh walk other)
 
-  pub odd_chosen : (k : ℕ) (pairs : List (ℕ × ℕ)) → has sum k ≡ true → ((j : ℕ) → j < k → has sum j ≡ false) →
-      pairs ≡ map (ends mesh) (filter (λ e. has (get_or t.signatures e 0) k) (range_with_len 0 (edge_count mesh))) →
-      IsChosenOdd mesh (split_with tree t) (joint_parity mesh walk other) pairs
-  odd_chosen k pairs on least is =
-      let d = split_with tree t in
-      let E = edge_count mesh in
-      let same : filter (λ e. has (get_or t.signatures e 0) k) (range_with_len 0 E) ≡ filter (λ e. has (edge_signature mesh d e) k) (range_with_len 0 E) =
-      passing_same (λ e. has (get_or t.signatures e 0) k) (λ e. has (edge_signature mesh d e) k) 0 E
-      (λ e l. ap (λ n. has n k) (ap (λ (xs : List ℕ). get_or xs e 0) signed.signed
-      ∙ get_or-map-range_with_len (edge_signature mesh d) 0 E e e 0 (omega (arith, l)) (omega arith))) in
-      subst (λ (ps : List (ℕ × ℕ)). IsChosenOdd mesh d (joint_parity mesh walk other) ps) (sym (is ∙ ap (map (ends mesh)) same))
-      (odd_choice_is_filtered mesh d (joint_parity mesh walk other) k (ap (λ n. has n k) whole ∙ on)
-      (λ j l. ap (λ n. has n j) whole ∙ least j l))
+  pub ways_part : IsParted mesh t flags odd_ways
+  unfolding odd_ways
+  ways_part =
+      let g = dual (cells_of mesh) in
+      let chain = joint_parity mesh walk other in
+      record {
+        without_first = along_root g (cotree_of t) chain;
+        parts = λ f l ne.
+            let up = get_or t.ups f 0 in
+            let above = along g (cotree_of t) chain (get_or t.parents f 0) in
+            along_step g (cotree_of t) split.cotree_is chain f l ne ∙ xor_comm (chain up) above
+            ∙ ap (xor above) (sym (are.each up (split.cotree_is.up_in f l ne)));
+      }
 
-  -- where the sum has no number below 1,024, the chain is a boundary
-  pub bounds_something : ((k : ℕ) → k < 1024 → has sum k ≡ false) → IsBoundary mesh (joint_parity mesh walk other)
-  bounds_something none =
+  -- at a left edge the faces differ from the walks where their signature has its place
+  at_left : (k : ℕ) → k < length t.left → differs mesh flags odd_ways (get_or t.left k 0) ≡ chain_signature (cells_of mesh) (split_with tree t) (joint_parity mesh walk other) k
+  unfolding odd_ways
+  at_left k l =
       let s = cells_of mesh in
       let d = split_with tree t in
       let chain = joint_parity mesh walk other in
-      signature_null s d (surfaces_are_cells mesh surface).complex signed.split chain (joint_even mesh surface walk other closed)
-      (λ k l. sym (below_law.member (length d.left) (chain_signature s d chain) k l) ∙ ap (λ n. has n k) whole
-      ∙ none k (omega (arith, l, signed.few)))
+      let edge = get_or t.left k 0 in
+      ap (λ b. xor b (boundary mesh (along (dual s) (cotree_of t) chain) edge)) (are.each edge (split.left_in k l))
+      ∙ sym (chain_signature_is s d (surfaces_are_cells mesh surface).complex split chain k l)
 
-module _ (mesh : Mesh) (surface : IsSurface mesh) (tree : Tree) (t : CotreeTables) (signed : IsSigned mesh tree t)
+  at_place : (k : ℕ) → k < length t.left → has (signature_of (cells_of mesh) (split_with tree t) (joint_parity mesh walk other)) k ≡ differs mesh flags odd_ways (get_or t.left k 0)
+  at_place k l =
+      below_law.member (length t.left) (chain_signature (cells_of mesh) (split_with tree t) (joint_parity mesh walk other)) k l
+      ∙ sym (at_left k l)
+
+  -- the edges whose signature has the place of a left edge
+  with_place : (k e : ℕ) → k < length t.left → e < edge_count mesh →
+      has_left (dual (cells_of mesh)) (cotree_of t) (get_or t.left k 0) e ≡ has (edge_signature mesh (split_with tree t) e) k
+  with_place k e l le =
+      let s = cells_of mesh in
+      let d = split_with tree t in
+      sym (below_law.member (length t.left) (signature s d e) k l
+      ∙ signature_is s d (surfaces_are_cells mesh surface).complex split e k le l)
+
+  pub odd_chosen : (k : ℕ) (pairs : List (ℕ × ℕ)) → k < length t.left → differs mesh flags odd_ways (get_or t.left k 0) ≡ true →
+      ((j : ℕ) → j < k → differs mesh flags odd_ways (get_or t.left j 0) ≡ false) →
+      pairs ≡ map (ends mesh) (filter (has_left (dual (cells_of mesh)) (cotree_of t) (get_or t.left k 0)) (range_with_len 0 (edge_count mesh))) →
+      IsChosenOdd mesh (split_with tree t) (joint_parity mesh walk other) pairs
+  odd_chosen k pairs l on least is =
+      let d = split_with tree t in
+      let E = edge_count mesh in
+      let parting = has_left (dual (cells_of mesh)) (cotree_of t) (get_or t.left k 0) in
+      let same : filter parting (range_with_len 0 E) ≡ filter (λ e. has (edge_signature mesh d e) k) (range_with_len 0 E) =
+      passing_same parting (λ e. has (edge_signature mesh d e) k) 0 E (λ e le. with_place k e l (omega (arith, le))) in
+      subst (λ (ps : List (ℕ × ℕ)). IsChosenOdd mesh d (joint_parity mesh walk other) ps) (sym (is ∙ ap (map (ends mesh)) same))
+      (odd_choice_is_filtered mesh d (joint_parity mesh walk other) k (at_place k l ∙ on)
+      (λ j lj. at_place j (omega (arith, lj, l)) ∙ least j lj))
+
+  -- where they differ at no left edge, the chain is a boundary
+  pub bounds_something : ((k : ℕ) → k < length t.left → differs mesh flags odd_ways (get_or t.left k 0) ≡ false) →
+      IsBoundary mesh (joint_parity mesh walk other)
+  bounds_something none =
+      signature_null (cells_of mesh) (split_with tree t) (surfaces_are_cells mesh surface).complex split
+      (joint_parity mesh walk other) (joint_even mesh surface walk other closed) (λ k l. sym (at_left k l) ∙ none k l)
+
+module _ (mesh : Mesh) (surface : IsSurface mesh) (tree : Tree) (t : CotreeTables) (split : IsSplit (cells_of mesh) (split_with tree t))
     (chain : Chain) (flags : List Bool) (are : AreFlags (edge_count mesh) chain flags) (some : IsBoundary mesh chain) where
   pub inside : ℕ → Bool
   inside = is_listed (null_choice_is_one mesh surface chain some).0
@@ -68,8 +104,7 @@ module _ (mesh : Mesh) (surface : IsSurface mesh) (tree : Tree) (t : CotreeTable
   pub is_parted : IsParted mesh t flags inside
   unfolding inside
   is_parted =
-      let cotree = cotree_of t in
-      let is_tree = signed.split.cotree_is in
+      let is_tree = split.cotree_is in
       record {
         without_first = chosen.without_first;
         parts = λ f l ne.

@@ -13,7 +13,7 @@ pub mod EdgeLists
 pub mod PairTexts
 pub mod Checking
 pub mod Choosing
+pub mod Cocycles
 pub mod LineSizes
 pub mod WalkLines
 pub mod Rereading
-pub mod Signed

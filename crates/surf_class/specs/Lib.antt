@@ -5,7 +5,6 @@ pub mod Seen
 pub mod Evidences
 pub mod Reading
 pub mod Texts
-pub mod Desk
 pub mod Faults
 pub mod Sides
 pub mod Agreement

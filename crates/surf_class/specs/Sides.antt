@@ -3,6 +3,7 @@ use Rattle.std.specs.Prelude.{◌≡◌, ◌≢◌, ℕ, ◌<◌, Bool, false, L
 use Rattle.std.specs.Prelude.{None, unwrap_or}
 use Rattle.surf_z2.specs.Parity.{xor}
 use Rattle.surf_surfaces.specs.Mesh.{Mesh}
+use Rattle.surf_surfaces.specs.Homology.{boundary}
 use Rattle.surf_surfaces.specs.Surface.{face_count}
 use Rattle.surf_cotree.specs.Tables.{CotreeTables}
 
@@ -28,3 +29,7 @@ AreAllSidesOf set sides = (f : ℕ) → f < length sides → side_at sides f ≡
 -- whether a face is known to be in the set
 abbrev pub is_inside : List (Option Bool) → ℕ → Bool
 is_inside sides f = unwrap_or (side_at sides f) false
+
+-- the flag of an edge is on and the edge doesn't bound the set of faces, or it does and the flag is off
+abbrev pub differs : Mesh → List Bool → (ℕ → Bool) → ℕ → Bool
+differs mesh flags set e = xor (slice_index_or flags e false) (boundary mesh set e)

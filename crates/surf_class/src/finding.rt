@@ -1,67 +1,63 @@
 //! Finds evidence.
-ghost use Rattle.std.specs.Prelude.{◌≡◌, ◌<◌, ◌==◌, ◌+◌, ℕ, bit_xor, filter, map, length, slice_index, true, false};
-ghost use Rattle.std.specs.Prelude.{Some, IfOk, MatchOption};
+ghost use Rattle.std.specs.Prelude.{◌≡◌, ◌<◌, ℕ, Bool, filter, map, length, slice_index, true, false};
+ghost use Rattle.std.specs.Prelude.{IfOk, MatchOption};
 ghost use Rattle.std.specs.List.{range_with_len};
 ghost use Rattle.std.specs.Option.{option_copied};
-ghost use Rattle.surf_z2.specs.Sieve.{has};
+ghost use Rattle.surf_graphs.specs.Cells.{dual, IsSplit};
 ghost use Rattle.surf_graphs.specs.Trees.{Tree};
-ghost use Rattle.surf_surfaces.specs.Signature.{walk_signature};
+ghost use Rattle.surf_signatures.specs.Signs.{has_left};
+ghost use Rattle.surf_surfaces.specs.Cells.{cells_of};
 ghost use Rattle.surf_surfaces.specs.Surface.{edge_count, face_count, ends};
-ghost use Rattle.surf_surfaces.specs.Walk.{IsClosed};
-ghost use Rattle.surf_cotree.specs.Tables.{split_with};
+ghost use Rattle.surf_cotree.specs.Grown.{IsGrownOn};
+ghost use Rattle.surf_cotree.specs.Tables.{cotree_of, split_with};
+ghost use Rattle.surf_treecheck.specs.Split.{AreFlags, is_flagged};
 ghost use Rattle.surf_classes.specs.Evidence.{joint_parity, AreClosed, IsEvidence, IsChosen};
-ghost use Rattle.surf_classes.specs.EvidenceLaws.{joint_signature};
-ghost use Rattle.surf_class.specs.Desk.{IsSigned, IsSignedOn};
 ghost use Rattle.surf_class.specs.Seen.{seen};
-ghost use Rattle.surf_class.specs.Sides.{is_inside};
-ghost use Rattle.surf_base.specs.declared.limits.TheConstants.{MAX_LOOPS};
+ghost use Rattle.surf_class.specs.Sides.{AreAllSidesOf, differs, is_inside};
 
-use crate::edges::step_edge;
+use crate::cocycle::cocycle_flags;
+use crate::edges::faces_beside;
 use crate::evidence::{Evidence, FaceList, PairList};
 use crate::parity::joint_flags;
 use crate::sides::all_sides;
 use std::alloc::Global;
-use surf_base::{EdgeId, FaceId, MAX_LOOPS, NoMemory, VertexId};
-use surf_bits::Signature;
+use surf_base::{EdgeId, FaceId, NoMemory};
 use surf_cotree::CotreeDesk;
 use surf_mesh::{HalfMesh, Walk};
 
-// Adds the signatures of the steps of a closed walk.
-fn add_steps(mesh: &HalfMesh, cotree: &CotreeDesk, walk: &[VertexId], sum: &mut Signature)
-    requires table { length cotree.now.signatures ≡ edge_count mesh.now }
-    requires closed { IsClosed mesh.now walk.now }
-    ensures added { (tree : Tree) → IsSigned mesh.now tree cotree.now →
-        sum.new ≡ bit_xor sum.old (walk_signature mesh.now (split_with tree cotree.now) walk.now) }
+// Whether an edge is flagged and doesn't bound the faces inside, or does and isn't flagged.
+fn is_differing(mesh: &HalfMesh, flags: &[bool], sides: &[Option<bool>], edge: EdgeId) -> bool
+    requires flags { length flags.now ≡ edge_count mesh.now }
+    requires sides { length sides.now ≡ face_count mesh.now }
+    requires edge { edge < edge_count mesh.now }
+    ensures differs { (set : ℕ → Bool) → AreAllSidesOf set sides.now →
+        result ≡ differs mesh.now flags.now set edge }
 {
-    for i in 0..walk.len() - 1 {
-        sum.add(cotree.signature(step_edge(mesh, walk, i)));
-    }
+    let (near, far) = faces_beside(mesh, edge);
+    let bounds = sides[near.index()] != sides[far.index()];
+    flags[edge.index()] != bounds
 }
 
-// The sum of the signatures of the steps of one or two closed walks.
-fn joint_sum(mesh: &HalfMesh, cotree: &CotreeDesk, first: &Walk, second: Option<&Walk>) -> Signature
-    requires table { length cotree.now.signatures ≡ edge_count mesh.now }
-    requires closed { AreClosed mesh.now first.now (option_copied second) }
-    ensures sum { (tree : Tree) → IsSigned mesh.now tree cotree.now →
-        result ≡ joint_signature mesh.now (split_with tree cotree.now) first.now
-        (option_copied second.entry) }
+// The least place of a left edge that is flagged and doesn't bound the faces inside, or does and
+// isn't flagged.
+fn first_differing(
+    mesh: &HalfMesh,
+    left: &[EdgeId],
+    flags: &[bool],
+    sides: &[Option<bool>],
+) -> Option<usize>
+    requires left { (k : ℕ) → k < length left.now → slice_index left.now k < edge_count mesh.now }
+    requires flags { length flags.now ≡ edge_count mesh.now }
+    requires sides { length sides.now ≡ face_count mesh.now }
+    ensures first { (set : ℕ → Bool) → AreAllSidesOf set sides.now → MatchOption result
+        ((k : ℕ) → k < length left.now →
+        differs mesh.now flags.now set (slice_index left.now k) ≡ false)
+        (λ n. (n < length left.now)
+        × (differs mesh.now flags.now set (slice_index left.now n) ≡ true)
+        × ((k : ℕ) → k < n → differs mesh.now flags.now set (slice_index left.now k) ≡ false)) }
 {
-    let mut sum = Signature::zero();
-    add_steps(mesh, cotree, first.vertices(), &mut sum);
-    if let Some(other) = second {
-        add_steps(mesh, cotree, other.vertices(), &mut sum);
-    }
-    sum
-}
-
-// The least number below 1,024 of a set.
-fn least_number(set: &Signature) -> Option<u32>
-    ensures least { MatchOption result ((k : ℕ) → k < MAX_LOOPS → has set.now k ≡ false)
-        (λ n. (n < MAX_LOOPS) × (has set.now n ≡ true) × ((k : ℕ) → k < n →
-        has set.now k ≡ false)) }
-{
-    for k in 0..MAX_LOOPS {
-        if set.bits().bit(k) {
+    for k in 0..left.len() {
+        if is_differing(mesh, flags, sides, left[k]) {
             return Some(k);
         }
     }
@@ -83,27 +79,36 @@ fn list_inside(alloc: Global, mesh: &HalfMesh, sides: &[Option<bool>]) -> Result
     Ok(FaceList::from_faces(faces))
 }
 
-// The edges whose signature has a number.
-fn list_signed(
-    alloc: Global,
-    mesh: &HalfMesh,
-    cotree: &CotreeDesk,
-    k: u32,
-) -> Result<PairList, NoMemory>
-    requires table { length cotree.now.signatures ≡ edge_count mesh.now }
-    requires number { k < MAX_LOOPS }
-    ensures list { IfOk result (λ l. l ≡ map (ends mesh.now) (filter
-        (λ e. has (slice_index cotree.now.signatures e) k)
+// The edges that are flagged.
+fn list_flagged(alloc: Global, mesh: &HalfMesh, flags: &[bool]) -> Result<PairList, NoMemory>
+    requires flags { length flags.now ≡ edge_count mesh.now }
+    ensures list { IfOk result (λ l. l ≡ map (ends mesh.now) (filter (is_flagged flags.now)
         (range_with_len 0 (edge_count mesh.now)))) }
 {
     let mut pairs = Vec::new(alloc);
     for e in 0..mesh.edges() {
-        let edge = EdgeId::new(e);
-        if cotree.signature(edge).bit(k) {
-            pairs.push(mesh.ends(edge))?;
+        if flags[e as usize] {
+            pairs.push(mesh.ends(EdgeId::new(e)))?;
         }
     }
     Ok(PairList::from_pairs(pairs))
+}
+
+// The edges whose signature has the place of a left edge.
+fn list_signed(
+    alloc: Global,
+    mesh: &HalfMesh,
+    cotree: &CotreeDesk,
+    edge: EdgeId,
+) -> Result<PairList, NoMemory>
+    requires grown { IsGrownOn mesh.now cotree.now }
+    requires edge { edge < edge_count mesh.now }
+    ensures list { IfOk result (λ l. l ≡ map (ends mesh.now) (filter
+        (has_left (dual (cells_of mesh.now)) (cotree_of cotree.now) edge)
+        (range_with_len 0 (edge_count mesh.now)))) }
+{
+    let flags = cocycle_flags(alloc, mesh, cotree, edge)?;
+    list_flagged(alloc, mesh, &flags)
 }
 
 /// The chosen evidence of the class of a closed walk, or of how the classes of two differ.
@@ -111,7 +116,7 @@ fn list_signed(
 /// Where the edges that the walk runs an odd number of times, or exactly one of the two does, are
 /// the boundary of some set of faces, it is the faces of that set without face 0. Else it is the
 /// edges whose signature has the least number of the sum of the signatures of the walks. The desk
-/// has grown a tree of the faces of this mesh and signed the edges.
+/// has grown a tree of the faces of this mesh; no signature is asked for.
 pub fn classify(
     alloc: Global,
     mesh: &HalfMesh,
@@ -119,21 +124,22 @@ pub fn classify(
     first: &Walk,
     second: Option<&Walk>,
 ) -> Result<Evidence, NoMemory>
-    requires signed { IsSignedOn mesh.now cotree.now }
+    requires grown { IsGrownOn mesh.now cotree.now }
     requires closed { AreClosed mesh.now first.now (option_copied second) }
-    ensures chosen { (tree : Tree) → IsSigned mesh.now tree cotree.now →
+    ensures chosen { (tree : Tree) → IsSplit (cells_of mesh.now) (split_with tree cotree.now) →
         IfOk result (λ e. IsChosen mesh.now (split_with tree cotree.now)
         (joint_parity mesh.now first.now (option_copied second.entry)) (seen e)) }
     ensures right { IfOk result (λ e. IsEvidence mesh.now (joint_parity mesh.now first.now
         (option_copied second.entry)) (seen e)) }
 {
     mesh.law_of_surface();
-    match least_number(&joint_sum(mesh, cotree, first, second)) {
-        Some(k) => Ok(Evidence::Odd(list_signed(alloc, mesh, cotree, k)?)),
-        None => {
-            let flags = joint_flags(alloc, mesh, first, second)?;
-            let sides = all_sides(alloc, mesh, cotree, &flags)?;
-            Ok(Evidence::Null(list_inside(alloc, mesh, &sides)?))
+    let flags = joint_flags(alloc, mesh, first, second)?;
+    let sides = all_sides(alloc, mesh, cotree, &flags)?;
+    match first_differing(mesh, cotree.left(), &flags, &sides) {
+        Some(k) => {
+            let edge = cotree.left()[k];
+            Ok(Evidence::Odd(list_signed(alloc, mesh, cotree, edge)?))
         }
+        None => Ok(Evidence::Null(list_inside(alloc, mesh, &sides)?)),
     }
 }

@@ -7,17 +7,19 @@
 //! boundary has an even number of them. The same goes for two walks, with the edges that are in
 //! exactly one of their parities.
 //!
-//! `classify` finds evidence in time linear in the mesh and the walks: a walk is null where the
-//! signatures of its steps have the sum 0. Then the faces are told apart along the tree of faces of
-//! the desk, a face from its parent where the edge between them is in the parity. Else the edges
-//! whose signature has the least number of the sum are the evidence. `check_class` stands on no
-//! search: it counts.
+//! `classify` finds evidence in time linear in the mesh and the walks, with a tree of the faces. The
+//! faces are told apart along the tree, a face from the face that it hangs on where the edge between
+//! them is in the parity. The walk is null where each left edge, one in neither tree, is in the
+//! parity exactly where its two faces are told apart. Else the first left edge where that fails is
+//! the least number of the sum of the signatures of the walk's steps, and the edges whose signature
+//! has it are the evidence. `check_class` stands on no search: it counts.
 //!
 //! A walk is read from a file by `read_walk`, evidence by `read_evidence`. What a text gives, or
 //! its first fault, is one definition over the list of its lines.
 #![tactic(auto)]
 
 mod check;
+mod cocycle;
 mod edges;
 mod evidence;
 mod fault;
@@ -34,7 +36,7 @@ pub use check::check_class;
 pub use evidence::{Evidence, FaceList, PairList};
 pub use fault::{ClassFault, EvidenceFault, WalkFault};
 pub use finding::classify;
-pub use laws::{law_of_reread, law_of_signing};
+pub use laws::law_of_reread;
 pub use read::read_evidence;
 pub use walk::read_walk;
 pub use write::write_evidence;

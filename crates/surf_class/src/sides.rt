@@ -2,7 +2,7 @@
 ghost use Rattle.std.specs.Prelude.{◌≡◌, ◌≢◌, ◌<◌, ℕ, Bool, All, None, IsSome, IfOk, IfSome, MatchOption, length};
 ghost use Rattle.std.specs.Prelude.{slice_index};
 ghost use Rattle.surf_surfaces.specs.Surface.{edge_count, face_count};
-ghost use Rattle.surf_class.specs.Desk.{IsSignedOn};
+ghost use Rattle.surf_cotree.specs.Grown.{IsGrownOn};
 ghost use Rattle.surf_class.specs.Sides.{IsParted, AreSidesOf, AreAllSidesOf, side_at};
 
 use crate::edges::faces_beside;
@@ -11,9 +11,9 @@ use surf_base::{EdgeId, FaceId, NoMemory};
 use surf_cotree::CotreeDesk;
 use surf_mesh::HalfMesh;
 
-// The face that a face hangs on in the tree, and the edge between them. None for face 0.
-fn above(mesh: &HalfMesh, cotree: &CotreeDesk, face: FaceId) -> Option<(FaceId, EdgeId)>
-    requires signed { IsSignedOn mesh.now cotree.now }
+/// The face that a face hangs on in the tree, and the edge between them. None for face 0.
+pub(crate) fn above(mesh: &HalfMesh, cotree: &CotreeDesk, face: FaceId) -> Option<(FaceId, EdgeId)>
+    requires grown { IsGrownOn mesh.now cotree.now }
     requires face { face < face_count mesh.now }
     ensures above { MatchOption result (face ≡ 0) (λ x. (face ≢ 0)
         × (x.0 ≡ slice_index cotree.now.parents face) × (x.1 ≡ slice_index cotree.now.ups face)) }
@@ -35,7 +35,7 @@ fn find_side(
     sides: &[Option<bool>],
     face: FaceId,
 ) -> bool
-    requires signed { IsSignedOn mesh.now cotree.now }
+    requires grown { IsGrownOn mesh.now cotree.now }
     requires flags { length flags.now ≡ edge_count mesh.now }
     requires sides { length sides.now ≡ face_count mesh.now }
     requires face { face < face_count mesh.now }
@@ -66,7 +66,7 @@ fn note_sides(
     face: FaceId,
     side: bool,
 )
-    requires signed { IsSignedOn mesh.now cotree.now }
+    requires grown { IsGrownOn mesh.now cotree.now }
     requires flags { length flags.now ≡ edge_count mesh.now }
     requires sides { length sides.old ≡ face_count mesh.now }
     requires face { face < face_count mesh.now }
@@ -89,7 +89,7 @@ fn note_sides(
 
 // Notes the sides of all faces.
 fn note_all(mesh: &HalfMesh, cotree: &CotreeDesk, flags: &[bool], sides: &mut [Option<bool>])
-    requires signed { IsSignedOn mesh.now cotree.now }
+    requires grown { IsGrownOn mesh.now cotree.now }
     requires flags { length flags.now ≡ edge_count mesh.now }
     requires sides { length sides.old ≡ face_count mesh.now }
     ensures right { (set : ℕ → Bool) → IsParted mesh.now cotree.now flags.now set →
@@ -119,7 +119,7 @@ pub(crate) fn all_sides(
     cotree: &CotreeDesk,
     flags: &[bool],
 ) -> Result<Vec<Option<bool>>, NoMemory>
-    requires signed { IsSignedOn mesh.now cotree.now }
+    requires grown { IsGrownOn mesh.now cotree.now }
     requires flags { length flags.now ≡ edge_count mesh.now }
     ensures count { IfOk result (λ v. length v.items ≡ face_count mesh.now) }
     ensures sides { IfOk result (λ v. (set : ℕ → Bool) →

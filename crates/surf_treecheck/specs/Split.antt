@@ -2,7 +2,6 @@
 use Rattle.std.specs.List.{list_any}
 use Rattle.std.specs.Prelude.{◌≡◌, ℕ, ◌<◌, ◌⊎◌, Bool, true, false, List, length, get_or, if◌then◌else◌, Option, Some}
 use Rattle.std.specs.Prelude.{None, MatchOption}
-use Rattle.surf_z2.specs.Parity.{xor}
 use Rattle.surf_surfaces.specs.Mesh.{Mesh, pair_of, pair_eq, pair_lt, edges, among}
 use Rattle.surf_surfaces.specs.Surface.{edge_count, ends}
 use Rattle.surf_validity.specs.Rows.{TreeRows, DualRows}
@@ -16,10 +15,6 @@ pub record AreFlags (n : ℕ) (test : ℕ → Bool) (flags : List Bool) : Type 0
 -- whether an edge is flagged
 abbrev pub is_flagged : List Bool → ℕ → Bool
 is_flagged flags e = get_or flags e false
-
--- the flags of the edges of a set are turned, and no others
-abbrev pub AreTurned : List Bool → List Bool → (ℕ → Bool) → Type 0
-AreTurned old new set = (e : ℕ) → get_or new e false ≡ xor (get_or old e false) (set e)
 
 -- no edge
 abbrev pub none : ℕ → Bool

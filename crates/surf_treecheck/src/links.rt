@@ -1,14 +1,12 @@
 //! The tree of faces that a certificate says, as tables of edges and faces.
-ghost use Rattle.std.specs.Prelude.{◌≡◌, ◌≢◌, ◌<◌, ◌==◌, ℕ, IfOk, length};
+ghost use Rattle.std.specs.Prelude.{◌≡◌, ◌≢◌, ◌<◌, IfOk};
 ghost use Rattle.std.specs.Prelude.{true};
-ghost use Rattle.surf_graphs.specs.Trees.{on_path};
 ghost use Rattle.surf_surfaces.specs.Mesh.{pair};
-ghost use Rattle.surf_surfaces.specs.Surface.{edge_count, face_count, face_at, has_side};
-ghost use Rattle.surf_validity.specs.Valid.{dual_tree, IsDualRow};
+ghost use Rattle.surf_surfaces.specs.Surface.{face_count, face_at, has_side};
+ghost use Rattle.surf_validity.specs.Valid.{IsDualRow};
 ghost use Rattle.surf_treecheck.specs.First.{HoldsBelow};
 ghost use Rattle.surf_treecheck.specs.Rows.{HasDualRows, HasDual};
 ghost use Rattle.surf_treecheck.specs.Paths.{IsLinkOver, HasLink, IsStepUp, AreAllLinks};
-ghost use Rattle.surf_treecheck.specs.Split.{AreTurned};
 
 use crate::dual::{edge_of_face, face_across};
 use std::alloc::Global;
@@ -81,31 +79,4 @@ pub fn step_up(mesh: &HalfMesh, dual: &DualRows, links: &Links, at: FaceId) -> (
     mesh.law_of_surface();
     let (face, edge) = (links.parent[at.index()], links.up[at.index()]);
     (FaceId::new(face), EdgeId::new(edge))
-}
-
-/// Turns the flags of the edges on the way from a face to face 0.
-pub fn turn_path(mesh: &HalfMesh, dual: &DualRows, links: &Links, flags: &mut [bool], face: FaceId)
-    requires tree { HoldsBelow (face_count mesh.now) (HasDual mesh.now dual.now) }
-    requires links { AreAllLinks mesh.now dual.now links.now }
-    requires face { face < face_count mesh.now }
-    requires count { length flags.old ≡ edge_count mesh.now }
-    ensures count { length flags.new ≡ edge_count mesh.now }
-    ensures turned { AreTurned flags.old flags.new (on_path (dual_tree mesh.now dual.now) face) }
-{
-    mesh.law_of_surface();
-    let mut at = face;
-    while at.index() != 0 {
-        let (above, edge) = step_up(mesh, dual, links, at);
-        turn(flags, edge);
-        at = above;
-    }
-}
-
-// Turns the flag of an edge.
-fn turn(flags: &mut [bool], edge: EdgeId)
-    requires edge { edge < length flags.old }
-    ensures count { length flags.new ≡ length flags.old }
-    ensures turned { AreTurned flags.old flags.new (λ e. edge == e) }
-{
-    flags[edge.index()] = !flags[edge.index()];
 }

@@ -93,8 +93,8 @@ pub(crate) fn flag_listed(mesh: &HalfMesh, flags: &mut [bool], left: &[(VertexId
     }
 }
 
-/// No edge is flagged yet.
-pub fn no_flags(alloc: Global, mesh: &HalfMesh) -> Result<Vec<bool>, NoMemory>
+// No edge is flagged yet.
+pub(crate) fn no_flags(alloc: Global, mesh: &HalfMesh) -> Result<Vec<bool>, NoMemory>
     ensures none { IfOk result (λ v. AreFlags (edge_count mesh.now) none v.items) }
 {
     Ok(vec![in alloc; false; mesh.edges() as usize]?)

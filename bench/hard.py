@@ -1,0 +1,165 @@
+#!/usr/bin/env python3
+"""Seconds, memory and growth of each command on meshes that no search was tuned for, as one table in Markdown.
+
+    bench/hard.py [--surf PROGRAM] [--beside NAME=WORDS ..] [--repeat N] [--limit SECONDS] [--part TEXT] [COMMAND ..]
+
+Each row is a command on a mesh of `bench/meshes.py` with lengths of `bench/lengths.py`, at two sizes, the second about
+four times the first. Seconds, megabytes and ratios are those of the second; the exponent is the power of the number of
+vertices with which the seconds grow from the first to the second, and stands where the first takes long enough to tell.
+Programs, options and cells are those of `bench/speed.py`: seconds of one processor, the least of the repeats in turn;
+`--beside` names another program that takes the same words, whose bytes have to be ours. `--part` keeps the rows whose
+mesh has that text in its words.
+"""
+import argparse
+import math
+import shlex
+import sys
+import tempfile
+from dataclasses import dataclass
+from pathlib import Path
+
+import lengths
+import meshes
+import speed
+
+# Less than this at the first size tells nothing of growth.
+TELLING_SECONDS = 0.02
+
+GREAT_FACES = [("prism 50000 1", "prism 200000 1"), ("polygon 250000", "polygon 990000"), ("bigface 250 250 200", "bigface 500 500 400")]
+GREAT_DEGREES = [("suspension 250000", "suspension 990000"), ("fan 125000", "fan 490000")]
+DEEP = [("chain 256 4 244", "chain 512 4 488"), ("tail 255 4 4 62000", "tail 511 4 4 248000")]
+SCANS = [("gyroid 42 2 --shuffle 1", "gyroid 85 4 --shuffle 1"), ("flipped 60000 175 175", "flipped 240000 350 350")]
+THIN = [("torus 3 1600", "torus 3 6400"), ("ring 127 6 7", "ring 511 6 7")]
+HANDLES = [("handles 70 71 64", "handles 140 142 64"), ("handles 70 71 64 --near", "handles 140 142 64 --near"), ("comb 30 50", "comb 60 100")]
+ONE_SIDED = [("handles 70 71 64 --cross", "handles 140 142 64 --cross")]
+ROUGH = [("blobs 29 40", "blobs 57 40"), ("glued 62", "glued 250")]
+LINEAR = GREAT_FACES + GREAT_DEGREES + DEEP + SCANS
+FAR = THIN + HANDLES + ONE_SIDED + ROUGH
+
+UNIT = "unit"
+SCATTERED = "scattered 1"
+TIES = "ties 3"
+HEAVY = "heavy 97 1 4294967295"
+NEAR = "near 1000000 3"
+
+
+@dataclass
+class Case:
+    """A command: its name in the table, its words (M for the mesh, L for its lengths, C for what is made first), the
+    words of its meshes at two sizes, those of its lengths, and what is made first (see `speed.Inputs.names`)."""
+
+    name: str
+    words: str
+    sizes: list[tuple[str, str]]
+    lengths: list[str]
+    first: str | None = None
+
+
+CASES = [
+    Case("info", "info M", LINEAR, [UNIT]),
+    Case("dist", "dist M L 0", LINEAR, [UNIT, SCATTERED]),
+    Case("loops", "loops M L 0", LINEAR, [UNIT, SCATTERED]),
+    Case("cut trim", "cut M L 0 trim", LINEAR, [UNIT, SCATTERED]),
+    Case("cut full", "cut M L 0 full", LINEAR, [UNIT]),
+    Case("sew", "sew C", LINEAR, [UNIT], "cut M L 0 trim"),
+    Case("disc", "disc C", LINEAR, [UNIT], "cut M L 0 trim"),
+    Case("class", "class M C", DEEP + SCANS, [UNIT], "walk"),
+    Case("same", "same M C C", DEEP + SCANS, [UNIT], "walk"),
+    Case("certify at a base", "certify M L 0", LINEAR, [UNIT]),
+    Case("check of loops", "check M L C", LINEAR, [UNIT], "certify M L 0"),
+    Case("basis", "basis M L", FAR, [UNIT, SCATTERED, TIES, HEAVY, NEAR]),
+    Case("cycle", "cycle M L", FAR, [UNIT, SCATTERED, TIES, HEAVY, NEAR]),
+    Case("shortest", "shortest M L C", [("torus 3 1365", "torus 3 5461")], [UNIT, SCATTERED], "walk"),
+    Case("certify", "certify M L", [("dense 15 17 128", "dense 30 33 512")], [UNIT, SCATTERED]),
+    Case("check of a basis", "check M L C", [("dense 15 17 128", "dense 30 33 512")], [UNIT, SCATTERED], "certify M L"),
+]
+
+
+def write_mesh(words: str, path: Path) -> None:
+    with path.open("w") as out:
+        meshes.write_off(meshes.made(shlex.split(words)), out)
+
+
+def write_lengths(mesh: Path, words: str, path: Path) -> None:
+    kind, *numbers = words.split()
+    with path.open("w") as out:
+        out.writelines(lengths.lengths_of(mesh, kind, map(int, numbers)))
+
+
+class Files(speed.Inputs):
+    """The files that a case reads, each made once, by the words of meshes and lengths here."""
+
+    def mesh(self, given: list[str]) -> str:
+        key = ("mesh", *given)
+        if key not in self.made:
+            path = self.work / f"{len(self.made)}.off"
+            speed.made_apart(write_mesh, " ".join(given), path)
+            self.made[key] = str(path)
+        return self.made[key]
+
+    def scattered(self, mesh: str, scatter: str) -> str:
+        key = ("lengths", mesh, scatter)
+        if key not in self.made:
+            path = self.work / f"{len(self.made)}.len"
+            speed.made_apart(write_lengths, Path(mesh), scatter, path)
+            self.made[key] = str(path)
+        return self.made[key]
+
+
+def vertices_of(path: str) -> int:
+    with open(path) as text:
+        next(text)
+        return int(next(text).split()[0])
+
+
+def measured(case: Case, mesh: str, weights: str, files: Files, options: argparse.Namespace):
+    """The programs that ran a command on a mesh, and its number of vertices."""
+    names = files.names(mesh, "" if weights == UNIT else weights, case.first)
+    programs = [[str(files.surf)], *(program for _, program in options.beside)]
+    runners = speed.in_turn(programs, speed.filled(case.words, names), files.work, options)
+    return runners, vertices_of(names["M"][0])
+
+
+def exponent(first, second, first_count: int, second_count: int) -> str:
+    """With which power of the number of vertices the seconds grow."""
+    if any(run.is_late or run.is_refused for run in (first, second)) or first.least[0] < TELLING_SECONDS:
+        return "-"
+    return f"{math.log(second.least[0] / first.least[0]) / math.log(second_count / first_count):.2f}"
+
+
+def row(case: Case, sizes: tuple[str, str], weights: str, files: Files, options: argparse.Namespace) -> list[str]:
+    (small, *_), small_count = measured(case, sizes[0], weights, files, options)
+    (ours, *others), count = measured(case, sizes[1], weights, files, options)
+    cells = [case.name, sizes[1], weights, f"{count:,}", *ours.figures(), exponent(small, ours, small_count, count)]
+    for other in others:
+        cells += [other.figures()[0], speed.ratio(ours, other)]
+    return cells
+
+
+def main() -> None:
+    parser = argparse.ArgumentParser(description=__doc__, formatter_class=argparse.RawDescriptionHelpFormatter)
+    parser.add_argument("--surf", type=Path)
+    parser.add_argument("--beside", type=speed.named, action="append", default=[])
+    parser.add_argument("--repeat", type=int, default=1)
+    parser.add_argument("--limit", type=int, default=60, help="processor seconds of one run")
+    parser.add_argument("--part", default="", help="only meshes with this text in their words")
+    parser.add_argument("commands", nargs="*", help="names of rows, or their first words; none: all")
+    options = parser.parse_args()
+    surf = (options.surf or speed.built()).resolve()
+    head = ["command", "mesh", "lengths", "vertices", "seconds", "MB", "exponent"]
+    for name, _ in options.beside:
+        head += [f"{name}: seconds", "ratio"]
+    print("| " + " | ".join(head) + " |")
+    print("|---" * len(head) + "|")
+    with tempfile.TemporaryDirectory() as folder:
+        files = Files(surf, Path(folder), options)
+        for case in CASES:
+            if options.commands and not {case.name, case.name.split()[0]} & set(options.commands):
+                continue
+            for sizes in (pair for pair in case.sizes if options.part in pair[1]):
+                for weights in case.lengths:
+                    print("| " + " | ".join(row(case, sizes, weights, files, options)) + " |", flush=True)
+
+
+if __name__ == "__main__":
+    sys.exit(main())

@@ -1,0 +1,22 @@
+use Rattle.std.proofs.Common.{◌≡◌, ◌<◌, ◌∙◌, List, ℕ, Bool, map, filter, get_or, false, ap, subst, arith, IfOk}
+use Rattle.std.specs.List.{range_with_len}
+use Rattle.surf_graphs.specs.Cells.{dual}
+use Rattle.surf_signatures.specs.Signs.{has_left}
+use Rattle.surf_signatures.proofs.Passing.{passing_same}
+use Rattle.surf_surfaces.specs.Cells.{cells_of}
+use Rattle.surf_surfaces.specs.Surface.{edge_count, ends}
+use Rattle.surf_cotree.specs.Tables.{cotree_of}
+use Rattle.surf_treecheck.specs.Split.{is_flagged}
+use Rattle.surf_class.proofs.finding.list_signed.Goals as goal
+
+pub returns : goal.returns
+returns c =
+    let mesh = c.args.mesh.now in
+    let E = edge_count mesh in
+    let parting = has_left (dual (cells_of mesh)) (cotree_of c.args.cotree.now) c.args.edge in
+    let same : filter (is_flagged c.deref.result.now) (range_with_len 0 E) ≡ filter parting (range_with_len 0 E) =
+    passing_same (is_flagged c.deref.result.now) parting 0 E (λ e l.
+    ap (λ (xs : List Bool). get_or xs e false) c.deref.ensures.value ∙ c.in_ok-flags.ensures.flags.each e (omega (arith, l))) in
+    record {
+      list = subst (λ (xs : List ℕ). IfOk c.list_flagged.result (λ l. l ≡ map (ends mesh) xs)) same c.list_flagged.ensures.list;
+    }
