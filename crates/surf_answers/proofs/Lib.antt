@@ -5,5 +5,5 @@ mod FindingLaws
 mod HeadLaws
 pub mod Saying
 mod SideLaws
-mod SignedLaws
+mod ChosenLaws
 mod SummaryLaws

@@ -15,7 +15,7 @@ pub mod Making
 pub mod Says
 pub mod Sewing
 pub mod ShortestCycle
-pub mod SignedDesks
+pub mod ChosenDesks
 pub mod Summaries
 pub mod Tells
 pub mod Tightening

@@ -9,7 +9,7 @@ ghost use Rattle.surf_answers.specs.Tells.{Concludes};
 ghost use Rattle.surf_base.specs.declared.limits.TheConstants.{MAX_LOOPS};
 
 use crate::answered::Answered;
-use crate::desk::signed_desk;
+use crate::desk::chosen_desk;
 use std::alloc::Global;
 use surf_base::{MAX_ANSWER, NoMemory};
 use surf_class::{Evidence, classify, write_evidence};
@@ -62,6 +62,6 @@ fn evidence_of(
         (option_copied second.entry)) (seen e)) }
 {
     let lengths = unit_lengths(alloc, mesh)?;
-    let desk = signed_desk(alloc, mesh, &lengths)?;
+    let desk = chosen_desk(alloc, mesh, &lengths)?;
     classify(alloc, mesh, desk.cotree(), first, second)
 }

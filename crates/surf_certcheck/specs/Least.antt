@@ -1,31 +1,20 @@
 -- The least short edge of a set.
-use Rattle.std.specs.Prelude.{◌≡◌, ℕ, ◌<◌, ◌≤◌, Bool, true, false, ◌||◌, List, get_or, Option, Some, None, MatchOption}
+use Rattle.std.specs.Prelude.{◌≡◌, ℕ, ◌<◌, ◌≤◌, Bool, true, List, Option, Some, None, MatchOption}
 use Rattle.std.specs.Prelude.{if◌then◌else◌, nat_lt, ◌⊎◌}
 use Rattle.surf_surfaces.specs.Mesh.{Mesh}
 use Rattle.surf_surfaces.specs.Surface.{edge_count}
 use Rattle.surf_validity.specs.Rows.{TreeRows}
 use Rattle.surf_validity.specs.Valid.{loop_size}
 
--- the edge is flagged and its loop is shorter than the limit
-pub record IsShort (mesh : Mesh) (lengths : List ℕ) (rows : TreeRows) (flags : List Bool) (limit : ℕ)
-    (c : ℕ) : Type 0 where
+-- an edge whose loop is shorter than the limit
+pub record IsShort (mesh : Mesh) (lengths : List ℕ) (rows : TreeRows) (limit c : ℕ) : Type 0 where
   pub inside : c < edge_count mesh
-  pub flagged : get_or flags c false ≡ true
   pub shorter : loop_size mesh lengths rows c < limit
 
 -- of the edges of a set none is short, or the least short one is this
 abbrev pub IsLeastIn : (ℕ → Type 0) → (ℕ → Bool) → Option ℕ → Type 0
 IsLeastIn short set o = MatchOption o ((c : ℕ) → set c ≡ true → short c → ⊥)
-    (λ b. short b × ((c : ℕ) → set c ≡ true → short c → b ≤ c))
-
--- the edges of one of two sets
-abbrev pub either : (ℕ → Bool) → (ℕ → Bool) → ℕ → Bool
-either a b e = a e || b e
-
--- where the one is the least short edge of some, the other is that of these and of a set
-abbrev pub IsWidened : (ℕ → Type 0) → (ℕ → Bool) → Option ℕ → Option ℕ → Type 0
-IsWidened short set before after =
-    (seen : ℕ → Bool) → IsLeastIn short seen before → IsLeastIn short (either seen set) after
+    (λ b. (set b ≡ true) × short b × ((c : ℕ) → set c ≡ true → short c → b ≤ c))
 
 -- the lesser of a number and another one that may be missing
 abbrev pub least_with : ℕ → Option ℕ → ℕ

@@ -23,7 +23,7 @@ use surf_mesh::HalfMesh;
 use surf_records::{LoopCert, TreeRows};
 use surf_treecheck::{
     CertFault, Marks, edge_between, ends_inside, first_distance, first_dual, first_parent,
-    first_short_cut, first_split, link_faces, loop_shape, mark_edges, no_flags,
+    first_short_cut, first_split, link_faces, loop_shape, mark_edges,
 };
 
 // The first fault of the rows of vertices.
@@ -88,14 +88,13 @@ fn heavier_fault(
         (IsHeavierFault mesh.now lengths.now cert.now)) }
 {
     let links = link_faces(alloc, mesh, cert.dual())?;
-    let mut flags = no_flags(alloc, mesh)?;
     let judge = Judge {
         mesh,
         lengths,
         cert,
         links: &links,
     };
-    match judge.first_heavier(&marks.left, &mut flags) {
+    match judge.first_heavier(&marks.left) {
         None => Ok(None),
         Some((l, c)) => Ok(Some(CertFault::Heavier {
             left: ends_inside(mesh, l),

@@ -1,16 +1,11 @@
-use Rattle.std.proofs.Common.{◌<◌, sym, subst, arith}
-use Rattle.surf_surfaces.proofs.ClassLaws.{some_vertex}
-use Rattle.surf_loops.specs.Loops.{IsGreedy}
-use Rattle.surf_answers.proofs.SignedLaws.{desk_chosen}
+use Rattle.std.proofs.Common.{◌≡◌, ap}
+use Rattle.surf_cotree.specs.Tables.{CotreeTables}
+use Rattle.surf_loops.specs.Loops.{LoopTables}
+use Rattle.surf_cover.proofs.Signed.{signed_after}
 use Rattle.surf_answers.proofs.desk.signed_desk.Goals as goal
-
-pub greedy-requires-clause-base : goal.greedy-requires-clause-base
-greedy-requires-clause-base c =
-    subst (λ n. n < c.args.mesh.now.vertices) (sym c.new.ensures) (some_vertex c.args.mesh.now c.law_of_surface.ensures.surface)
 
 pub returns : goal.returns
 returns c = record {
-  chosen = desk_chosen c.args.mesh.now c.args.lengths.now c.greedy.new.self c.sign.new.self
-      (subst (λ n. IsGreedy c.args.mesh.now c.args.lengths.now n c.greedy.new.self) c.new.ensures c.greedy.ensures.greedy)
-      c.sign.ensures.rest c.sign.ensures.made c.sign.ensures.signed (omega (arith, c.requires.few));
+  signed = signed_after c.args.mesh.now c.in_ok-desk.desk.cotree c.sign.new.self.cotree c.in_ok-desk.ensures.chosen.grown
+      (ap (λ (t : LoopTables). t.cotree) c.sign.ensures.rest) c.sign.ensures.made c.sign.ensures.signed;
 }

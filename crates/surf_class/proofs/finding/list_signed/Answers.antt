@@ -1,4 +1,4 @@
-use Rattle.std.proofs.Common.{◌≡◌, ◌<◌, ◌∙◌, List, ℕ, Bool, map, filter, get_or, false, ap, subst, arith, IfOk}
+use Rattle.std.proofs.Common.{◌≡◌, ◌∙◌, List, ℕ, Bool, map, filter, get_or, false, ap, subst, arith, IfOk}
 use Rattle.std.specs.List.{range_with_len}
 use Rattle.surf_graphs.specs.Cells.{dual}
 use Rattle.surf_signatures.specs.Signs.{has_left}

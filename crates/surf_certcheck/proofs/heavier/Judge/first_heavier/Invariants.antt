@@ -1,12 +1,7 @@
-use Rattle.surf_surfaces.specs.Surface.{edge_count}
 use Rattle.surf_validity.specs.Valid.{HasNoShorter}
 use Rattle.surf_treecheck.specs.First.{HoldsBelow}
-use Rattle.surf_treecheck.specs.Split.{AreFlags, none}
 use Rattle.surf_certcheck.proofs.heavier.Judge.first_heavier.Given as goal
 
 -- no left edge before could be exchanged
 abbrev pub invariant-loop-e : goal.invariant-loop-e
-invariant-loop-e l = record {
-  before : HoldsBelow l.e (HasNoShorter l.self.mesh.now l.self.lengths.now l.self.cert.now);
-  off : AreFlags (edge_count l.self.mesh.now) none l.flags;
-}
+invariant-loop-e l = HoldsBelow l.e (HasNoShorter l.self.mesh.now l.self.lengths.now l.self.cert.now)
