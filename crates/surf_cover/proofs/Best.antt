@@ -1,8 +1,8 @@
 -- The least vertex at which a round is shortest, found by searches from the lesser ends of some edges.
-use Rattle.std.proofs.Common.{◌≡◌, ℕ, ◌+◌, ◌*◌, ◌^◌, ◌<◌, ◌≤◌, ◌⊎◌, true, refl, List, Option, None, Some, length, map, get_or, slice_index, bit_xor, sym, ap, ◌∙◌, subst, arith, inl, inr}
-use Rattle.std.proofs.lemmas.Bool.{cases_eq}
+use Rattle.std.proofs.Common.{◌≡◌, ◌≢◌, ℕ, ◌+◌, ◌^◌, ◌<◌, ◌≤◌, ◌⊎◌, true, refl, List, Option, None, Some, length, map, get_or, slice_index, bit_xor, sym, ap, ◌∙◌, subst, arith, inl, inr}
+use Rattle.std.specs.Prelude.{MatchOption}
+use Rattle.std.proofs.lemmas.Bool.{cases_eq, cases_lt}
 use Rattle.std.proofs.lemmas.List.{length-map, get_or-map}
-use Rattle.std.proofs.lemmas.Nat.{row_fits}
 use Rattle.std.proofs.lemmas.Option.{none-some, same_Some}
 use Rattle.surf_z2.specs.Sieve.{has}
 use Rattle.surf_graphs.specs.Cells.{Split, IsSplit, primal}
@@ -14,15 +14,18 @@ use Rattle.surf_surfaces.specs.Surface.{IsSurface, ends}
 use Rattle.surf_surfaces.specs.Cells.{cells_of}
 use Rattle.surf_surfaces.proofs.CellLaws.{ends_below}
 use Rattle.surf_surfaces.proofs.ClassLaws.{some_vertex}
-use Rattle.surf_classes.specs.Cover.{IsSet, IsSignedDistance}
-use Rattle.surf_classes.proofs.Reached.{way_to}
+use Rattle.surf_surfaces.specs.Walk.{ArePositive}
+use Rattle.surf_classes.specs.Cover.{IsSet, IsSignedDistance, AreSignedDistances}
+use Rattle.surf_classes.proofs.Reached.{way_to, signed_distances_exist}
 use Rattle.surf_classes.proofs.SignedSteps.{xor_set, nearest_from, nearest_to}
 use Rattle.surf_mesh.specs.Links.{IsRow, edge_link}
 use Rattle.surf_cotree.specs.Tables.{CotreeTables, split_with}
-use Rattle.surf_cover.specs.Grown.{IsSigned, IsGrownBy}
+use Rattle.surf_tree.specs.Searches.{far}
+use Rattle.surf_cover.specs.Grown.{IsSigned}
 use Rattle.surf_cover.specs.Networks.{IsSignedBy}
-use Rattle.surf_cover.specs.Tables.{CoverTables, AreShort, distance_at}
-use Rattle.surf_cover.specs.Starts.{IsLesserEnd, AreClosedSets, IsStartBy, IsUpTo, IsLeastStart}
+use Rattle.surf_cover.specs.Tables.{CoverTables, distance_at}
+use Rattle.surf_cover.specs.Within.{IsWithin, AreDistancesWithin}
+use Rattle.surf_cover.specs.Starts.{IsLesserEnd, AreClosedSets, IsStartBy, IsUpTo, IsBetter, IsLeastStart}
 use Rattle.surf_cover.specs.declared.rounds.Start.{Start}
 use Rattle.surf_cover.proofs.Covering.{is_set}
 use Rattle.surf_cover.proofs.Signed.{sign_is}
@@ -33,13 +36,6 @@ pub closed_sets : (mesh : Mesh) (d : Split) (t : CoverTables) → IsSignedBy mes
 closed_sets mesh d t signed set other l m =
     subst (λ n. bit_xor set other < n) (sym signed.sets_are)
     (xor_set d set other (is_set mesh d t.sets t.signs signed set l) (is_set mesh d t.sets t.signs signed other m))
-
--- distances are short
-pub short_at : (t : CoverTables) → AreShort t → (v set : ℕ) → v < t.vertices → set < t.sets →
-    distance_at t v set < 2 ^ 62
-short_at t short v set v_in set_in =
-    let fits : v * t.sets + t.sets ≤ t.vertices * t.sets = row_fits v t.sets t.vertices t.sets v_in (omega arith) in
-    short (v * t.sets + set) (omega arith)
 
 -- where no edge at a vertex is such, the vertex is the lesser end of none
 pub no_lesser_end : (mesh : Mesh) (v : ℕ) (items signatures : List ℕ) (number : ℕ) →
@@ -58,32 +54,105 @@ no_lesser_end mesh v items signatures number row none (e, e_in, at, on) =
 
 -- ---- the start by way of one base
 
-module _ (mesh : Mesh) (lengths : List ℕ) (d : Split) (surface : IsSurface mesh) (base set : ℕ)
-    (base_in : base < mesh.vertices) (set_in : IsSet d set) (t : CoverTables) (grown : IsGrownBy mesh lengths d base t)
-    (count : t.vertices ≡ mesh.vertices) (start : Start) (is : IsStartBy t base set start) where
-  -- a round is as long there
-  pub starts_round : (start.vertex < mesh.vertices) × HasRound mesh lengths d start.vertex start.length set
-  starts_round =
-      let inside : start.vertex < mesh.vertices = subst (λ n. start.vertex < n) count is.start_in in
-      let (part, part_in, sum) = is.on_round in
-      let part_set = is_set mesh d t.sets t.signs grown.certified.signed part part_in in (
-        inside,
-        subst (λ n. HasRound mesh lengths d start.vertex n set) sum
-            (round_here mesh lengths d surface base base_in (distance_at t) grown.distances start.vertex inside set set_in
-            part part_set),
-      )
+module _ (mesh : Mesh) (lengths : List ℕ) (d : Split) (surface : IsSurface mesh) (positive : ArePositive mesh lengths)
+    (split : IsSplit (cells_of mesh) d) (base set radius : ℕ) (base_in : base < mesh.vertices) (set_in : IsSet d set)
+    (t : CoverTables) (signed : IsSignedBy mesh d t.sets t.signs)
+    (near : AreDistancesWithin mesh lengths d base radius (distance_at t)) where
+  all_ways : (v s : ℕ) → (n : ℕ) × (v < mesh.vertices → IsSet d s → IsSignedDistance mesh lengths d base v s n)
+  all_ways v s = elim (cases_lt v mesh.vertices) [
+    | inl v_in ↦ elim (cases_lt s (2 ^ length d.left)) [
+      | inl s_in ↦
+          let (n, is) = signed_distances_exist mesh lengths d surface positive split base v s base_in v_in s_in in
+          (n, λ _ _. is)
+      | inr past ↦ (0, λ _ s_in. absurd (omega (arith, past, s_in)))
+    ]
+    | inr past ↦ (0, λ v_in. absurd (omega (arith, past, v_in)))
+  ]
 
-  -- and no round by way of the base is before it
-  pub starts_before : (y n : ℕ) → y < mesh.vertices → HasRoundBy mesh lengths d base y n set → IsUpTo start y n
-  starts_before y n y_in by =
-      let (part, part_set, most) =
-      round_least mesh lengths d surface base base_in (distance_at t) grown.distances y y_in set set_in n by in
-      let two : distance_at t y part + distance_at t y (bit_xor set part) ≤ n = most in
-      let there : distance_at t base set ≤ distance_at t y part + distance_at t y (bit_xor set part) =
-      round_there mesh lengths d surface base base_in (distance_at t) grown.distances y y_in set set_in part part_set in
-      let own : start.length ≡ distance_at t base set = is.length_is in
-      let part_in : part < t.sets = subst (λ k. part < k) (sym grown.certified.signed.sets_are) part_set in
-      (omega arith, λ same. is.least y (part, part_in, omega arith))
+  -- the least lengths, within the radius or not
+  way : ℕ → ℕ → ℕ
+  way v s = (all_ways v s).0
+
+  ways : AreSignedDistances mesh lengths d base way
+  unfolding way all_ways
+  ways v s v_in s_in = (all_ways v s).1 v_in s_in
+
+  within : (v s : ℕ) → v < mesh.vertices → IsSet d s → IsWithin radius (way v s) (distance_at t v s)
+  within v s v_in s_in = near v s (way v s) v_in s_in (ways v s v_in s_in)
+
+  settled_way : (v s : ℕ) → v < mesh.vertices → IsSet d s → distance_at t v s ≢ far →
+      (distance_at t v s ≡ way v s) × (way v s ≤ radius) × (distance_at t v s < far)
+  settled_way v s v_in s_in settled = elim (cases_lt radius (way v s)) [
+    | inl beyond ↦ absurd (settled ((within v s v_in s_in).past beyond))
+    | inr fits ↦
+        let (same, less) = (within v s v_in s_in).near fits in
+        (same, fits, less)
+  ]
+
+  part_set : (part : ℕ) → part < t.sets → IsSet d part
+  part_set = is_set mesh d t.sets t.signs signed
+
+  rest_set : (part : ℕ) → IsSet d part → IsSet d (bit_xor set part)
+  rest_set part part_in = xor_set d set part set_in part_in
+
+  module _ (count : t.vertices ≡ mesh.vertices) (start : Start) (is : IsStartBy t base set start) where
+    own_way : (start.length ≡ way base set) × (way base set ≤ radius) × (start.length < far)
+    own_way =
+        let own : start.length ≡ distance_at t base set = is.length_is in
+        let here = settled_way base set base_in set_in (λ e. is.found (own ∙ e)) in
+        (own ∙ here.0, here.1, omega (arith, own, here.2))
+
+    -- a round is as long there
+    pub starts_round : (start.vertex < mesh.vertices) × HasRound mesh lengths d start.vertex start.length set
+    starts_round =
+        let y = start.vertex in
+        let y_in : y < mesh.vertices = subst (λ n. y < n) count is.start_in in
+        let (part, part_in, sum) = is.on_round in
+        let rest = bit_xor set part in
+        let own = own_way in
+        let adds : distance_at t y part + distance_at t y rest ≡ start.length = sum in
+        let first = settled_way y part y_in (part_set part part_in) (λ e. absurd (omega (arith, adds, own.2, e))) in
+        let second = settled_way y rest y_in (rest_set part (part_set part part_in)) (λ e. absurd (omega (arith, adds, own.2, e))) in
+        let size : way y part + way y rest ≡ start.length = omega (arith, adds, first.0, second.0) in (
+          y_in,
+          subst (λ n. HasRound mesh lengths d y n set) size
+              (round_here mesh lengths d surface base base_in way ways y y_in set set_in part (part_set part part_in)),
+        )
+
+    -- and no round by way of the base is before it
+    pub starts_before : (y n : ℕ) → y < mesh.vertices → HasRoundBy mesh lengths d base y n set → IsUpTo start y n
+    starts_before y n y_in by =
+        let (part, part_in, most) = round_least mesh lengths d surface base base_in way ways y y_in set set_in n by in
+        let rest = bit_xor set part in
+        let two : way y part + way y rest ≤ n = most in
+        let there : way base set ≤ way y part + way y rest =
+        round_there mesh lengths d surface base base_in way ways y y_in set set_in part part_in in
+        let own = own_way in (
+          omega (arith, two, there, own.0),
+          (λ same.
+              let first = (within y part y_in part_in).near (omega (arith, same, two, own.0, own.1)) in
+              let second = (within y rest y_in (rest_set part part_in)).near (omega (arith, same, two, own.0, own.1)) in
+              is.least y (
+                part,
+                subst (λ k. part < k) (sym signed.sets_are) part_in,
+                omega (arith, same, two, there, own.0, first.0, second.0),
+              )),
+        )
+
+  -- where none is found, each round by way of the base is longer than the radius
+  pub none_before : distance_at t base set ≡ far → (y n : ℕ) → y < mesh.vertices →
+      HasRoundBy mesh lengths d base y n set → radius < n
+  none_before none y n y_in by = elim (cases_lt radius (way base set)) [
+    | inl beyond ↦
+        let (part, part_in, most) = round_least mesh lengths d surface base base_in way ways y y_in set set_in n by in
+        let two : way y part + way y (bit_xor set part) ≤ n = most in
+        let there : way base set ≤ way y part + way y (bit_xor set part) =
+        round_there mesh lengths d surface base base_in way ways y y_in set set_in part part_in in
+        omega (arith, beyond, two, there)
+    | inr fits ↦
+        let less = ((within base set base_in set_in).near fits).1 in
+        absurd (omega (arith, less, none))
+  ]
 
 -- ---- the best of them
 
@@ -154,6 +223,45 @@ module _ (mesh : Mesh) (lengths : List ℕ) (d : Split) (signatures : List ℕ) 
       ],
     );
   }
+
+-- a search from one lesser end more, as far as the best so far
+module _ (mesh : Mesh) (lengths : List ℕ) (d : Split) (surface : IsSurface mesh) (positive : ArePositive mesh lengths)
+    (split : IsSplit (cells_of mesh) d) (signatures : List ℕ) (number base set radius : ℕ) (base_in : base < mesh.vertices)
+    (set_in : IsSet d set) (t : CoverTables) (signed : IsSignedBy mesh d t.sets t.signs)
+    (near : AreDistancesWithin mesh lengths d base radius (distance_at t)) (count : t.vertices ≡ mesh.vertices)
+    (all : radius ≡ far → distance_at t base set ≢ far) where
+  -- a base at whose search none is found
+  none_taken : (best : Option Start) → IsBestBelow mesh lengths d signatures set number base best →
+      MatchOption best (radius ≡ far) (λ start. radius ≡ start.length) → distance_at t base set ≡ far →
+      IsBestBelow mesh lengths d signatures set number (base + 1) best
+  none_taken None so_far reach none = absurd (all reach none)
+  none_taken (Some start) so_far reach none = record {
+    round = so_far.round;
+    least = λ m y n l end y_in by. elim (cases_eq m base) [
+      | inl same ↦
+          let longer = none_before mesh lengths d surface positive split base set radius base_in set_in t signed near none
+          y n y_in (subst (λ x. HasRoundBy mesh lengths d x y n set) same by) in
+          let is : radius ≡ start.length = reach in
+          (start, refl, (omega (arith, longer, is), λ e. absurd (omega (arith, longer, is, e))))
+      | inr ne ↦ so_far.least m y n (omega (arith, l, ne)) end y_in by
+    ];
+  }
+
+  pub takes_in : (best found new : Option Start) → IsBestBelow mesh lengths d signatures set number base best →
+      MatchOption best (radius ≡ far) (λ start. radius ≡ start.length) →
+      MatchOption found (distance_at t base set ≡ far) (IsStartBy t base set) → (found ≡ None → new ≡ best) →
+      ((other : Start) → found ≡ Some other → IsBetter best other new) →
+      IsBestBelow mesh lengths d signatures set number (base + 1) new
+  takes_in best None new so_far reach none same better =
+      subst (IsBestBelow mesh lengths d signatures set number (base + 1)) (sym (same refl))
+      (none_taken best so_far reach none)
+  takes_in best (Some other) new so_far reach is same better =
+      let b = better other refl in
+      subst (IsBestBelow mesh lengths d signatures set number (base + 1)) (sym b.is)
+      (taken_in mesh lengths d signatures set number base best other b.start so_far
+      (starts_round mesh lengths d surface positive split base set radius base_in set_in t signed near count other is)
+      (starts_before mesh lengths d surface positive split base set radius base_in set_in t signed near count other is)
+      b.one b.up_to_other b.up_to_best)
 
 -- ---- once all are taken in
 

@@ -1,5 +1,5 @@
 -- What is found over the cover by the signatures of a signed tree of faces.
-use Rattle.std.proofs.Common.{◌≡◌, ℕ, ◌+◌, ◌*◌, ◌<◌, ◌≤◌, List, length, slice_index, ◌∙◌, subst, arith}
+use Rattle.std.proofs.Common.{◌≡◌, ◌≢◌, ℕ, ◌+◌, ◌*◌, ◌<◌, ◌≤◌, List, length, slice_index, ◌∙◌, subst, arith}
 use Rattle.std.proofs.lemmas.Nat.{row_fits}
 use Rattle.surf_graphs.specs.Cells.{IsSplit}
 use Rattle.surf_graphs.specs.Trees.{Tree}
@@ -11,12 +11,14 @@ use Rattle.surf_classes.proofs.SignedSteps.{edge_set}
 use Rattle.surf_classes.proofs.Tables.{certified_tables_are_distances}
 use Rattle.surf_cotree.specs.Tables.{CotreeTables, split_with}
 use Rattle.surf_lengths.specs.Lengths.{longest, AreLengths}
-use Rattle.surf_tree.specs.Searches.{IsSettled}
+use Rattle.surf_tree.specs.Searches.{far, IsSettled}
 use Rattle.surf_cover.specs.Tables.{sets_of}
 use Rattle.surf_cover.specs.Networks.{node_of, cover_by, length_by, IsSignedBy, IsCoverable}
 use Rattle.surf_cover.specs.Grown.{IsSigned, IsGrown}
 use Rattle.surf_cover.proofs.Signed.{sets_are, sign_is}
-use Rattle.surf_cover.proofs.Covering.{settled_certified}
+use Rattle.surf_cover.specs.Within.{IsReachedWithin}
+use Rattle.surf_cover.proofs.Covering.{searchable, some_set, settled_certified}
+use Rattle.surf_cover.proofs.Within.{within_all, all_reached}
 
 -- each length is positive
 pub positive : (mesh : Mesh) (lengths : List ℕ) → length lengths ≡ edge_count mesh → AreLengths lengths → ArePositive mesh lengths
@@ -56,10 +58,11 @@ module _ (mesh : Mesh) (t : CotreeTables) (signed : IsSigned mesh t) (sets : ℕ
     }
 
     pub grown : IsSurface mesh → mesh.vertices * sets ≤ 65536 → (lengths : List ℕ) → length lengths ≡ edge_count mesh → AreLengths lengths →
-        (x : ℕ) → x < mesh.vertices → (vertices : ℕ) → vertices ≡ mesh.vertices → (distances : List ℕ) →
+        (x : ℕ) → x < mesh.vertices → (vertices : ℕ) → vertices ≡ mesh.vertices → (distances settled_nodes : List ℕ) →
         IsSettled (cover_by mesh sets (slice_index signs)) (length_by lengths sets) (node_of sets x 0) (slice_index distances) →
-        IsGrown mesh lengths t x (record { vertices = vertices; sets = sets; signs = signs; distances = distances })
-    grown surface few lengths measured are x x_in vertices same distances settled = record {
+        IsGrown mesh lengths t x
+        (record { vertices = vertices; sets = sets; signs = signs; distances = distances; settled = settled_nodes })
+    grown surface few lengths measured are x x_in vertices same distances settled_nodes settled = record {
       made = record { vertices = same; sets = as_many; signs = count };
       short = λ n l.
           let few_nodes : n < mesh.vertices * sets = subst (λ v. n < v * sets) same l in
@@ -74,3 +77,21 @@ module _ (mesh : Mesh) (t : CotreeTables) (signed : IsSigned mesh t) (sets : ℕ
                 (positive mesh lengths measured are) x_in certified;
           };
     }
+
+-- a search as far as the greatest radius leaves no vertex with a set out
+pub reaches_all : (mesh : Mesh) (lengths : List ℕ) (sets : ℕ) (signs : List ℕ) → IsCoverable mesh lengths sets signs →
+    AreLengths lengths → (x radius : ℕ) → x < mesh.vertices → 65536 * longest ≤ radius → (distance : ℕ → ℕ) →
+    IsReachedWithin (cover_by mesh sets (slice_index signs)) (length_by lengths sets) (node_of sets x 0) radius distance →
+    IsSettled (cover_by mesh sets (slice_index signs)) (length_by lengths sets) (node_of sets x 0) distance
+    × ((u : ℕ) → u < mesh.vertices * sets → distance u ≢ far)
+reaches_all mesh lengths sets signs can are x radius x_in large distance reached =
+    let g = cover_by mesh sets (slice_index signs) in
+    let search = searchable mesh can.split sets signs can.signed can.surface lengths are can.few in
+    let some : 0 < sets = some_set mesh can.split sets signs can.signed in
+    let fits : x * sets + sets ≤ mesh.vertices * sets = row_fits x sets mesh.vertices sets x_in (omega arith) in
+    let base_in : node_of sets x 0 < mesh.vertices * sets = omega (arith, fits, some) in
+    let few : mesh.vertices * sets ≤ 65536 = can.few in
+    let far_off : mesh.vertices * sets * longest ≤ radius = omega (arith, few, large) in (
+      within_all g (length_by lengths sets) search (node_of sets x 0) radius base_in distance reached far_off,
+      all_reached g (length_by lengths sets) search (node_of sets x 0) radius base_in distance reached far_off,
+    )

@@ -4,13 +4,14 @@ use Rattle.surf_surfaces.specs.Mesh.{Mesh}
 use Rattle.surf_surfaces.specs.Surface.{edge_count, loop_count}
 use Rattle.surf_cover.specs.Networks.{table_of}
 
--- how many vertices and how many sets there are, for each edge its signature, and for each vertex the distances with
--- all sets, one after the other
+-- how many vertices and how many sets there are, for each edge its signature, for each vertex the distances with all
+-- sets, one after the other, and a list of the places there that a search has reached
 pub record CoverTables : Type 0 where
   pub vertices : ℕ
   pub sets : ℕ
   pub signs : List ℕ
   pub distances : List ℕ
+  pub settled : List ℕ
 
 -- the distance of a vertex with a set
 abbrev pub distance_at : CoverTables → ℕ → ℕ → ℕ

@@ -1,13 +1,15 @@
 //! The distances over the cover from one base.
-ghost use Rattle.std.specs.Prelude.{◌≡◌, ◌<◌, length, IfOk};
+ghost use Rattle.std.specs.Prelude.{◌≡◌, ◌<◌, ◌≤◌, ◌*◌, ℕ, length, slice_index, IfOk};
+ghost use Rattle.surf_base.specs.declared.limits.TheConstants.{MAX_COVER_NODES};
 ghost use Rattle.surf_graphs.specs.Cells.{Split};
 ghost use Rattle.surf_surfaces.specs.Surface.{edge_count};
-ghost use Rattle.surf_cover.specs.Networks.{IsCertifiedBy, IsReadOff};
+ghost use Rattle.surf_cover.specs.Networks.{IsCertifiedBy, IsCoverable, IsReadOff};
 ghost use Rattle.surf_cover.specs.Tables.{IsSmall, AreCoverTables, AreShort, distance_at};
-ghost use Rattle.surf_cover.specs.Grown.{IsSigned, IsGrown};
+ghost use Rattle.surf_cover.specs.Grown.{IsSigned, IsGrown, HasReached};
 
 use crate::network::CoverNetwork;
 use crate::reading::read_off;
+use crate::search::{FAR, Reached, settle_within};
 use crate::signs::{copy_signs, count_sets};
 use std::alloc::Global;
 use std::marker::Model;
@@ -16,23 +18,21 @@ use surf_cotree::CotreeDesk;
 use surf_heap::Heap;
 use surf_lengths::Lengths;
 use surf_mesh::HalfMesh;
-use surf_tree::settle;
 
 /// For each vertex with each set of left edges the least length of a walk from a base to it with
 /// that signature.
 #[derive(Drop)]
 pub struct CoverDesk {
     heap: Heap,
-    distance: Vec<u64>,
+    reached: Reached,
     signs: Vec<u32>,
     vertices: u32,
     sets: u32,
 }
 
 impl Model for CoverDesk {
-    ghost use Rattle.surf_base.specs.declared.limits.TheConstants.{MAX_COVER_NODES};
-    ghost use Rattle.std.specs.Prelude.{◌≡◌, ◌≤◌, ◌*◌, length};
     ghost use Rattle.surf_cover.specs.Tables.{CoverTables};
+    ghost use Rattle.surf_cover.specs.Kept.{IsKept};
 
     ghost Value = { CoverTables };
 
@@ -40,12 +40,11 @@ impl Model for CoverDesk {
       vertices = d.vertices;
       sets = d.sets;
       signs = d.signs.items;
-      distances = d.distance.items;
+      distances = d.reached.distance.items;
+      settled = d.reached.settled.items;
     } };
 
-    ghost invariant = { λ d. (length d.heap ≡ length d.distance.items)
-        × (length d.distance.items ≡ d.vertices * d.sets)
-        × (d.vertices * d.sets ≤ MAX_COVER_NODES) };
+    ghost invariant = { λ d. IsKept d.heap d.reached d.vertices d.sets };
 }
 
 impl CoverDesk {
@@ -59,11 +58,13 @@ impl CoverDesk {
         let sets = count_sets(mesh);
         let nodes = vertices * sets;
         let heap = Heap::make(alloc, nodes)?;
-        let distance = vec![in alloc; 0u64; nodes as usize]?;
+        let distance = vec![in alloc; FAR; nodes as usize]?;
+        let settled = Vec::with_capacity(alloc, nodes as usize)?;
         let signs = vec![in alloc; 0u32; mesh.edges() as usize]?;
+        let reached = Reached { distance, settled };
         Ok(CoverDesk {
             heap,
-            distance,
+            reached,
             signs,
             vertices,
             sets,
@@ -81,7 +82,40 @@ impl CoverDesk {
     {
         mesh.law_of_surface();
         lengths.law_of_lengths();
+        self.sign(mesh, cotree);
+        self.grow_within(mesh, lengths, base, u64::MAX);
+    }
+
+    /// Copies the signatures of all edges by a tree of faces that was grown on the mesh and signed.
+    pub(crate) fn sign(&mut self, mesh: &HalfMesh, cotree: &CotreeDesk)
+        requires made { AreCoverTables mesh.now self.old }
+        requires signed { IsSigned mesh.now cotree.now }
+        ensures made { AreCoverTables mesh.now self.new }
+        ensures few { mesh.now.vertices * self.new.sets ≤ MAX_COVER_NODES }
+        ensures signs { (e : ℕ) → e < edge_count mesh.now →
+            slice_index self.new.signs e ≡ slice_index cotree.now.signatures e }
+    {
+        mesh.law_of_surface();
         copy_signs(cotree, &mut self.signs);
+    }
+
+    /// Finds the distances from a base with no left edge as far as a radius, by the signatures that
+    /// were copied. It takes no memory and can't be refused.
+    pub(crate) fn grow_within(
+        &mut self,
+        mesh: &HalfMesh,
+        lengths: &Lengths,
+        base: VertexId,
+        radius: u64,
+    )
+        requires made { AreCoverTables mesh.now self.old }
+        requires coverable { IsCoverable mesh.now lengths.now self.old.sets self.old.signs }
+        requires base { base < mesh.now.vertices }
+        ensures made { AreCoverTables mesh.now self.new }
+        ensures signs { self.new.signs ≡ self.old.signs }
+        ensures reached { HasReached mesh.now lengths.now base radius self.new }
+    {
+        lengths.law_of_lengths();
         let network = CoverNetwork {
             mesh,
             lengths,
@@ -89,7 +123,15 @@ impl CoverDesk {
             sets: self.sets,
         };
         let from = base.number() * self.sets;
-        settle(&network, &mut self.distance, &mut self.heap, from);
+        settle_within(&network, &mut self.reached, &mut self.heap, from, radius);
+    }
+
+    /// The vertices with sets that have a distance, each as the number of the vertex times that of
+    /// sets, and the set.
+    pub(crate) fn settled(&self) -> &[u32]
+        ensures settled { result.now ≡ self.now.settled }
+    {
+        &self.reached.settled
     }
 
     /// How many sets of left edges there are.
@@ -105,7 +147,7 @@ impl CoverDesk {
         requires set { set < self.now.sets }
         ensures distance { result ≡ distance_at self.now v set }
     {
-        self.distance[(v.number() * self.sets + set) as usize]
+        self.reached.distance[(v.number() * self.sets + set) as usize]
     }
 
     /// The base, and the vertices of a shortest round with a set from there, last first, as they
@@ -138,7 +180,7 @@ impl CoverDesk {
             sets: self.sets,
         };
         let mut list = Vec::new(alloc);
-        read_off(&network, &self.distance, base, set, &mut list)?;
+        read_off(&network, &self.reached.distance, base, set, &mut list)?;
         Ok(list)
     }
 }

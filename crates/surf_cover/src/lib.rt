@@ -13,7 +13,8 @@
 //! the least vertex at which one begins, and its vertices are chosen from the end backwards, each
 //! the least that stands just before those after it. It is read back from the distances of a search
 //! at that vertex. Which vertex that is, searches from few others tell: a walk whose signature has
-//! a number runs an edge whose signature has it, so it goes by way of that edge's lesser end.
+//! a number runs an edge whose signature has it, so it goes by way of that edge's lesser end. They
+//! go no farther than the best length so far, since what is farther is on no walk that is as short.
 //!
 //! The nodes are two to the power of the number of left edges times the vertices, so there may be
 //! at most 8 left edges and 65,536 nodes.
@@ -24,6 +25,7 @@ mod desk;
 mod network;
 mod reading;
 mod rounds;
+mod search;
 mod signs;
 
 pub use choice::{ClassWalk, least_in_class};

@@ -1,16 +1,21 @@
 //! The vertex at which the shortest walk that is chosen in a class begins.
-ghost use Rattle.std.specs.Prelude.{◌≡◌, ◌≢◌, ◌<◌, ◌⊎◌, ℕ, true, false, Some, length, slice_index, MatchBool};
+ghost use Rattle.std.specs.Prelude.{◌≡◌, ◌≢◌, ◌<◌, ◌≤◌, ◌*◌, ◌/◌, ◌%◌, ◌⊎◌, ℕ, true, false, None, Some, length, MatchBool};
+ghost use Rattle.std.specs.Prelude.{MatchOption};
 ghost use Rattle.surf_z2.specs.Sieve.{has};
 ghost use Rattle.surf_graphs.specs.Cells.{IsSplit};
 ghost use Rattle.surf_graphs.specs.Trees.{Tree};
 ghost use Rattle.surf_surfaces.specs.Cells.{cells_of};
 ghost use Rattle.surf_surfaces.specs.Surface.{edge_count};
 ghost use Rattle.surf_cotree.specs.Tables.{split_with};
-ghost use Rattle.surf_cover.specs.Tables.{AreShort, AreCoverTables, distance_at, sets_of};
+ghost use Rattle.surf_tree.specs.Searches.{far};
+ghost use Rattle.surf_cover.specs.Tables.{AreCoverTables, distance_at, sets_of};
 ghost use Rattle.surf_cover.specs.Grown.{IsSigned};
-ghost use Rattle.surf_cover.specs.Starts.{IsLesserEnd, IsOnRound, AreClosedSets, IsStartBy, IsUpTo, IsLeastStart};
+ghost use Rattle.surf_cover.specs.Within.{AreListed};
+ghost use Rattle.surf_cover.specs.Starts.{IsLesserEnd, IsDivided, IsOnRound, AreClosedSets};
+ghost use Rattle.surf_cover.specs.Starts.{IsStartBy, IsUpTo, IsBetter, IsLeastStart};
 
 use crate::desk::CoverDesk;
+use crate::search::FAR;
 use surf_base::VertexId;
 use surf_cotree::CotreeDesk;
 use surf_lengths::Lengths;
@@ -50,43 +55,61 @@ fn is_lesser_end(mesh: &HalfMesh, cotree: &CotreeDesk, v: VertexId, number: u32)
     false
 }
 
-// Whether a round with a set and of a length goes by way of the base and a vertex.
-fn is_on_round(desk: &CoverDesk, v: VertexId, set: u32, length: u64) -> bool
+// Whether the ways from the base to a vertex, with a part of a set and with the rest, are so long
+// together.
+fn is_on_round(desk: &CoverDesk, v: VertexId, part: u32, set: u32, length: u64) -> bool
     requires vertex { v < desk.now.vertices }
+    requires part { part < desk.now.sets }
     requires set { set < desk.now.sets }
-    requires short { AreShort desk.now }
     requires closed { AreClosedSets desk.now }
-    ensures on_round { MatchBool result (IsOnRound desk.now set length v)
-        (IsOnRound desk.now set length v → ⊥) }
+    ensures on_round { MatchBool result (IsDivided desk.now set length v part)
+        (IsDivided desk.now set length v part → ⊥) }
 {
-    for part in 0..desk.sets() {
-        if desk.distance(v, part) + desk.distance(v, set ^ part) == length {
-            return true;
-        }
-    }
-    false
+    let there = desk.distance(v, part);
+    let back = desk.distance(v, set ^ part);
+    there <= length && back == length - there
 }
 
-// The least vertex on shortest rounds with a set at the base.
-fn start_by(desk: &CoverDesk, base: VertexId, set: u32) -> Start
+// The lesser of a vertex and that of a node by which a round with a set and of a length goes.
+fn lesser_by(desk: &CoverDesk, node: u32, set: u32, length: u64, vertex: VertexId) -> VertexId
+    requires node { node < desk.now.vertices * desk.now.sets }
+    requires set { set < desk.now.sets }
+    requires closed { AreClosedSets desk.now }
+    ensures one { (result ≡ vertex) ⊎ IsOnRound desk.now set length result }
+    ensures low { result ≤ vertex }
+    ensures here { IsDivided desk.now set length (node / desk.now.sets) (node % desk.now.sets) →
+        result ≤ node / desk.now.sets }
+{
+    let sets = desk.sets();
+    let v = VertexId::new(node / sets);
+    if v.number() < vertex.number() && is_on_round(desk, v, node % sets, set, length) {
+        v
+    } else {
+        vertex
+    }
+}
+
+// The least vertex on the shortest rounds with a set at the base, or none where these are past the
+// radius of the search.
+fn start_by(desk: &CoverDesk, base: VertexId, set: u32) -> Option<Start>
     requires base { base < desk.now.vertices }
     requires set { set < desk.now.sets }
-    requires short { AreShort desk.now }
     requires closed { AreClosedSets desk.now }
+    requires listed { AreListed desk.now.distances desk.now.settled }
+    requires nodes { length desk.now.distances ≡ desk.now.vertices * desk.now.sets }
     requires none { distance_at desk.now base 0 ≡ 0 }
-    ensures start { IsStartBy desk.now base set result }
+    ensures start { MatchOption result (distance_at desk.now base set ≡ far)
+        (IsStartBy desk.now base set) }
 {
     let length = desk.distance(base, set);
-    for v in 0..base.number() {
-        let vertex = VertexId::new(v);
-        if is_on_round(desk, vertex, set, length) {
-            return Start { vertex, length };
-        }
+    if length == FAR {
+        return None;
     }
-    Start {
-        vertex: base,
-        length,
+    let mut vertex = base;
+    for node in desk.settled() {
+        vertex = lesser_by(desk, *node, set, length, vertex);
     }
+    Some(Start { vertex, length })
 }
 
 // The shorter of the best start so far, if there is one, and another: of two as short the one at
@@ -107,9 +130,31 @@ fn better(best: Option<Start>, other: Start) -> Start
     }
 }
 
+// The best start so far, if there is one, or the better of it and another that was found.
+fn improved(best: Option<Start>, found: Option<Start>) -> Option<Start>
+    ensures none { found ≡ None → result ≡ best }
+    ensures some { (other : Start) → found ≡ Some other → IsBetter best other result }
+{
+    match found {
+        None => best,
+        Some(other) => Some(better(best, other)),
+    }
+}
+
+// How far a search need go: what is farther is on no round that is as short as the best so far.
+fn length_so_far(best: &Option<Start>) -> u64
+    ensures length { MatchOption best.now (result ≡ far) (λ start. result ≡ start.length) }
+{
+    match best {
+        None => FAR,
+        Some(start) => start.length,
+    }
+}
+
 /// The least vertex at which a round with a set is shortest, and its length. Such a round goes by
 /// way of the lesser end of an edge whose signature has the least number of the set, so searches
-/// begin at these vertices alone.
+/// begin at these vertices alone. None goes farther than the best length so far: a round that is
+/// just as long may still begin at a lesser vertex.
 pub(crate) fn least_start(
     desk: &mut CoverDesk,
     mesh: &HalfMesh,
@@ -127,13 +172,16 @@ pub(crate) fn least_start(
         IsLeastStart mesh.now lengths.now (split_with tree cotree.now) set result }
 {
     mesh.law_of_surface();
+    lengths.law_of_lengths();
     let number = least_number(set);
+    desk.sign(mesh, cotree);
     let mut best = None;
     for v in 0..mesh.vertices() {
         let base = VertexId::new(v);
         if is_lesser_end(mesh, cotree, base, number) {
-            desk.grow(mesh, lengths, cotree, base);
-            best = Some(better(best, start_by(desk, base, set)));
+            desk.grow_within(mesh, lengths, base, length_so_far(&best));
+            let found = start_by(desk, base, set);
+            best = improved(best, found);
         }
     }
     match best {

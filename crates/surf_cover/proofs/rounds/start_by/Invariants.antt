@@ -1,7 +1,14 @@
-use Rattle.std.proofs.Common.{◌<◌, ℕ}
-use Rattle.surf_cover.specs.Starts.{IsOnRound}
+use Rattle.std.proofs.Common.{◌<◌, ◌≤◌, ◌/◌, ◌%◌, ℕ}
+use Rattle.surf_base.specs.Tables.{at}
+use Rattle.surf_cover.specs.Starts.{IsDivided, IsOnRound}
 use Rattle.surf_cover.proofs.rounds.start_by.Given as goal
 
--- the vertices before are on no such round
-abbrev pub invariant-loop-v : goal.invariant-loop-v
-invariant-loop-v l = (y : ℕ) → y < l.v → IsOnRound l.desk l.set l.length y → ⊥
+-- the vertex is on such a round, and none of those before in the list is a lesser one that is
+abbrev pub invariant-loop-node : goal.invariant-loop-node
+invariant-loop-node l = record {
+  inside : l.vertex ≤ l.fn.base;
+  on_round : IsOnRound l.desk l.set l.length l.vertex;
+  least : (i : ℕ) → i < l.node-index →
+      IsDivided l.desk l.set l.length (at l.node-items i / l.desk.sets) (at l.node-items i % l.desk.sets) →
+      l.vertex ≤ at l.node-items i / l.desk.sets;
+}
