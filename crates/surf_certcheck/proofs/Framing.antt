@@ -2,17 +2,16 @@
 use Rattle.std.proofs.Common.{◌≡◌, ◌≢◌, ℕ, ◌<◌, ◌^◌, Bool, true, false, cond, List, [], ◌∷◌, ◌++◌, length, get_or, set, map, filter, slice_index, Option, Some, None, All, bit_xor, nat_le, refl, sym, ap, ◌∙◌, subst, arith, inl, inr, get_or-set_same, get_or-set_other}
 use Rattle.std.specs.Bool.{MatchBool}
 use Rattle.std.specs.List.{AllByRecursion}
-use Rattle.std.specs.Int.Bits.{xor_zero_r, xor_self}
-use Rattle.std.proofs.lemmas.Bool.{cases_eq, cases_lt, cases_Bool, le-leb, leb-true}
-use Rattle.std.proofs.lemmas.List.{get_or-map, get_or_past, length-set}
+use Rattle.std.proofs.lemmas.Bool.{cases_eq, cases_lt, le-leb, leb-true}
+use Rattle.std.proofs.lemmas.List.{get_or_past, length-set}
 use Rattle.std.proofs.lemmas.List.Elements.{All-push, recursion_from_All, Contains-push, Contains-append_left}
 use Rattle.std.proofs.lemmas.Nat.{xor_lt, pow_pos, pow_below}
 use Rattle.surf_z2.specs.Sieve.{has}
-use Rattle.surf_z2.specs.Space.{numbers, IsLinear, Weighed, Spanned, SpannedUpToWeight, vectors, sum_of}
+use Rattle.surf_z2.specs.Space.{numbers, Weighed, Spanned, SpannedUpToWeight, vectors, sum_of}
 use Rattle.surf_z2.proofs.Below.{small}
 use Rattle.surf_z2.proofs.Linear.{passing_in}
 use Rattle.surf_z2.proofs.Numbers.{has-xor}
-use Rattle.surf_z2.proofs.Span.{InSpan, four, cancel, in_from_spanned, spanned_from_in}
+use Rattle.surf_z2.proofs.Span.{InSpan, cancel, in_from_spanned, spanned_from_in}
 use Rattle.surf_graphs.specs.Cells.{Split, signature}
 use Rattle.surf_surfaces.specs.Cells.{cells_of}
 use Rattle.surf_surfaces.specs.Mesh.{Mesh, steps}
@@ -21,7 +20,8 @@ use Rattle.surf_surfaces.specs.Surface.{edge_count}
 use Rattle.surf_surfaces.specs.Walk.{edge_number}
 use Rattle.surf_signatures.specs.Tables.{Signed, added_where}
 use Rattle.surf_certcheck.specs.Frames.{IsFrame, HasPlace, IsPlacedUpTo, weight_at}
-use Rattle.surf_certcheck.proofs.Placing.{has_one, has_other, has_none, gathered, members_of_sum, image_in}
+use Rattle.surf_certcheck.proofs.Placing.{has_one, gathered, members_of_sum, image_in}
+use Rattle.surf_certcheck.proofs.Turning.{moved_other, moved_coordinates}
 
 -- ---- sizes
 
@@ -35,41 +35,6 @@ signature_small mesh d walk = go (steps walk)
     go (s ∷ ss) = xor_lt (length d.left) (edge_signature mesh d (edge_number mesh s))
         (sum_of numbers (map (λ s. edge_signature mesh d (edge_number mesh s)) ss))
         (small (length d.left) (signature (cells_of mesh) d (edge_number mesh s))) (go ss)
-
--- ---- adding a set where another has a place
-
-module _ (k rest : ℕ) (off : has rest k ≡ false) where
-  abbrev moved : ℕ → ℕ
-  moved = added_where k rest
-
-  moved_linear : IsLinear numbers numbers moved
-  moved_linear = record { zero = rw (has_none k) refl; add = λ x y. both x y (has x k) (has y k) refl refl }
-    where
-      both : (x y : ℕ) (a b : Bool) → has x k ≡ a → has y k ≡ b → moved (bit_xor x y) ≡ bit_xor (moved x) (moved y)
-      both x y true true on_x on_y = rw (has-xor x y k, on_x, on_y)
-          (sym (four numbers x rest y rest ∙ ap (bit_xor (bit_xor x y)) (xor_self rest) ∙ xor_zero_r (bit_xor x y)))
-      both x y true false on_x on_y = rw (has-xor x y k, on_x, on_y)
-          (sym (ap (bit_xor (bit_xor x rest)) (sym (xor_zero_r y)) ∙ four numbers x rest y 0
-          ∙ ap (bit_xor (bit_xor x y)) (xor_zero_r rest)))
-      both x y false true on_x on_y = rw (has-xor x y k, on_x, on_y) (numbers.assoc x y rest)
-      both x y false false on_x on_y = rw (has-xor x y k, on_x, on_y) refl
-
-  moved_twice : (x : ℕ) → moved (moved x) ≡ x
-  moved_twice x = elim (cases_Bool (has x k)) [
-    | inl on ↦
-        let on_both : has (bit_xor x rest) k ≡ true = has-xor x rest k ∙ rw (on, off) refl in
-        rw (on, on_both) (numbers.assoc x rest rest ∙ ap (bit_xor x) (xor_self rest) ∙ xor_zero_r x)
-    | inr none ↦ rw (none, none) refl
-  ]
-
-  moved_other : (j : ℕ) → k ≢ j → moved (2 ^ j) ≡ 2 ^ j
-  moved_other j ne = rw (has_other j k ne) refl
-
-  moved_small : (n x : ℕ) → rest < 2 ^ n → x < 2 ^ n → moved x < 2 ^ n
-  moved_small n x small_rest small_x = elim (cases_Bool (has x k)) [
-    | inl on ↦ rw on (xor_lt n x rest small_x small_rest)
-    | inr none ↦ rw none small_x
-  ]
 
 -- a test that all pass
 whole_filter : (xs : List (Weighed ℕ)) → filter (λ x. true) xs ≡ xs
@@ -197,7 +162,8 @@ module _ (mesh : Mesh) (d : Split) (cycles : List (Weighed ℕ)) (signed : Signe
       (xor_lt n c (2 ^ k) (f.within x.vector a.small_x) (pow_below k n place_in)) in
       let own : added_where k rest c ≡ 2 ^ k =
       rw a.on (ap (bit_xor c) a.rest_is ∙ cancel numbers c (2 ^ k)) in
-      let linear = moved_linear k rest off in
+      let coordinates = moved_coordinates k rest off mesh d signed.sets new.sets f.to f.back small_rest a.count a.sets
+      (record { taken = f.taken; back_linear = f.back_linear; undone = f.undone; within = f.within }) in
       let kept : (j w : ℕ) → weight_at weights j ≡ Some w → k ≢ j = λ j w is same.
       none_not_some (sym a.free ∙ ap (weight_at weights) same ∙ is) in
       let still : (j w : ℕ) → weight_at weights j ≡ Some w → weight_at new_weights j ≡ Some w = λ j w is.
@@ -206,23 +172,10 @@ module _ (mesh : Mesh) (d : Split) (cycles : List (Weighed ℕ)) (signed : Signe
       record {
         to = λ v. added_where k rest (f.to v);
         back = λ v. f.back (added_where k rest v);
-        taken = record {
-          linear = record {
-            zero = ap (added_where k rest) f.taken.linear.zero ∙ linear.zero;
-            add = λ u v. ap (added_where k rest) (f.taken.linear.add u v) ∙ linear.add (f.to u) (f.to v);
-          };
-          each = λ e l.
-              ap (λ xs. slice_index xs e) a.sets
-              ∙ get_or-map (added_where k rest) signed.sets e 0 0 (omega (arith, l, a.count))
-              ∙ ap (added_where k rest) (f.taken.each e l);
-        };
-        back_linear = record {
-          zero = ap f.back linear.zero ∙ f.back_linear.zero;
-          add = λ u v. ap f.back (linear.add u v)
-              ∙ f.back_linear.add (added_where k rest u) (added_where k rest v);
-        };
-        undone = λ v. ap f.back (moved_twice k rest off (f.to v)) ∙ f.undone v;
-        within = λ v l. moved_small k rest off n (f.to v) small_rest (f.within v l);
+        taken = coordinates.taken;
+        back_linear = coordinates.back_linear;
+        undone = coordinates.undone;
+        within = coordinates.within;
         places = ap length a.weights_are ∙ length-set weights k (Some x.weight) ∙ f.places;
         placed = All-push (HasPlace (λ v. added_where k rest (f.to v)) new_weights) cycles x
             (λ i y l. has_still (kept) (still) (get_or cycles i y) (f.placed i y l))

@@ -5,7 +5,10 @@ pub mod Totals
 pub mod Placing
 pub mod Bases
 pub mod Climbing
+pub mod Turning
 pub mod Framing
+pub mod Sorting
+pub mod Greatest
 pub mod Validity
 pub mod Independence
 pub mod BasisFaults

@@ -5,6 +5,7 @@ use Rattle.surf_graphs.specs.Cells.{Split}
 use Rattle.surf_surfaces.specs.Surface.{edge_count}
 use Rattle.surf_certcheck.specs.Climbs.{IsClimbed, AreSummed}
 use Rattle.surf_certcheck.specs.Frames.{IsFrame, IsCoveredBy}
+use Rattle.surf_certcheck.specs.Columns.{IsSorted}
 use Rattle.surf_certcheck.specs.declared.cover.SummedTree.{SummedTree}
 
 -- the rows are a tree of shortest walks, the sums are those along its ways, and all tables fit
@@ -14,7 +15,9 @@ pub record IsSummedUp (t : SummedTree) : Type 0 where
   pub summed : AreSummed t.mesh.now t.rows.now t.frame.now.signs.sets t.sums.now.sets
   pub lengths : length t.lengths.now ≡ edge_count t.mesh.now
   pub count : length t.frame.now.signs.sets ≡ edge_count t.mesh.now
-  pub few : length t.frame.now.weights.items ≤ 1024
+  pub width : t.frame.now.signs.width ≤ 1024
+  pub widths : t.sums.now.width ≤ 1024
+  pub sorted : IsSorted t.frame.now.weights.items
 
 -- the coordinates are a frame of some cycles
 abbrev pub HasFrame : SummedTree → Split → List (Weighed ℕ) → Type 0

@@ -5,3 +5,4 @@ pub mod BasisFaults
 pub mod Frames
 pub mod Climbs
 pub mod Covering
+pub mod Columns

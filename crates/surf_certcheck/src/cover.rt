@@ -3,6 +3,7 @@ ghost use Rattle.std.specs.Prelude.{◌≡◌, ◌<◌, ◌≤◌, ℕ, List};
 ghost use Rattle.std.specs.Prelude.{IsPermutation, length};
 ghost use Rattle.std.specs.List.{range_with_len};
 ghost use Rattle.surf_z2.specs.Space.{Weighed};
+ghost use Rattle.surf_z2.specs.Words.{number};
 ghost use Rattle.surf_graphs.specs.Cells.{Split};
 ghost use Rattle.surf_surfaces.specs.Surface.{edge_count};
 ghost use Rattle.surf_surfaces.specs.Signature.{walk_signature};
@@ -15,38 +16,42 @@ ghost use Rattle.surf_treecheck.specs.Shapes.{HasTrees, HasBase};
 ghost use Rattle.surf_treecheck.specs.TreeFaults.{AreTreesValid, FindsFirstAt};
 ghost use Rattle.surf_certcheck.specs.Frames.{IsFrameOf, AreTaken};
 ghost use Rattle.surf_certcheck.specs.Climbs.{IsClimbed, AreSummed};
+ghost use Rattle.surf_certcheck.specs.Columns.{IsSorted};
 ghost use Rattle.surf_certcheck.specs.Covering.{IsSummedUp, HasFrame, IsCoveredIn};
 ghost use Rattle.surf_base.specs.declared.limits.TheConstants.{MAX_LOOPS};
 
-use crate::frame::{Frame, is_placed};
+use crate::frame::Frame;
 use crate::heavier::size_of;
+use crate::placed::is_placed;
 use crate::sums::sum_ways;
 use surf_base::{EdgeId, VertexId};
-use surf_bits::Signature;
 use surf_lengths::Lengths;
 use surf_mesh::HalfMesh;
 use surf_records::{BasisCert, TreeRows};
 use surf_signatures::{Signs, VertexSets};
 use surf_treecheck::{ends_inside, tree_from};
 
-// The coordinates of the loop of an edge: the sum over its two ways to the base and the edge.
-fn loop_set(mesh: &HalfMesh, signs: &Signs, sums: &VertexSets, e: EdgeId) -> Signature
+// The coordinates of the loop of an edge, in words: the sum over its two ways to the base and the
+// edge.
+fn loop_words(mesh: &HalfMesh, signs: &Signs, sums: &VertexSets, e: EdgeId) -> [u64; 16]
     requires count { length signs.now.sets ≡ edge_count mesh.now }
     requires room { length sums.now.sets ≡ mesh.now.vertices }
+    requires width { signs.now.width ≤ MAX_LOOPS }
+    requires widths { sums.now.width ≤ MAX_LOOPS }
     requires edge { e < edge_count mesh.now }
     ensures sum { (rows : TreeRows) → IsClimbed mesh.now rows
         → AreSummed mesh.now rows signs.now.sets sums.now.sets
         → (d : Split) (to : ℕ → ℕ) → AreTaken mesh.now d to signs.now.sets
-        → result
+        → number result
         ≡ to (walk_signature mesh.now d (loop_walk mesh.now (certified_tree mesh.now rows) e)) }
 {
     mesh.law_of_surface();
     let (u, v) = ends_inside(mesh, e);
-    let mut sum = Signature::zero();
-    sum.add(sums.of(u));
-    sum.add(signs.signature(e));
-    sum.add(sums.of(v));
-    sum
+    let mut words = [0; 16];
+    sums.of(u).add_to(&mut words);
+    signs.signature(e).add_to(&mut words);
+    sums.of(v).add_to(&mut words);
+    words
 }
 
 /// A tree of vertices, with the sums along its ways in the coordinates of a frame.
@@ -67,9 +72,9 @@ impl SummedTree<'_> {
         ensures covered { (d : Split) (cycles : List (Weighed ℕ)) → HasFrame self.now d cycles
             → Tells result (IsCoveredIn self.now d cycles e) }
     {
-        let set = loop_set(self.mesh, &self.frame.signs, self.sums, e);
+        let words = loop_words(self.mesh, &self.frame.signs, self.sums, e);
         let limit = size_of(self.mesh, self.lengths, self.rows, e);
-        is_placed(&set, &self.frame.weights, limit)
+        is_placed(&words, &self.frame.weights, limit)
     }
 
     // The least edge whose loop isn't.
@@ -105,7 +110,9 @@ pub(crate) fn first_uncovered(
     requires frame { IsFrameOf mesh.now lengths.now cert.now (length cert.now.cycles)
         frame.now.signs frame.now.weights.items }
     requires count { length frame.now.signs.sets ≡ edge_count mesh.now }
-    requires few { length frame.now.weights.items ≤ MAX_LOOPS }
+    requires places { length frame.now.weights.items ≡ frame.now.signs.width }
+    requires few { frame.now.signs.width ≤ MAX_LOOPS }
+    requires sorted { IsSorted frame.now.weights.items }
     requires all { IsPermutation (range_with_len 0 mesh.now.vertices) order.old }
     requires room { length sums.old.sets ≡ mesh.now.vertices }
     requires width { sums.old.width ≡ frame.now.signs.width }

@@ -6,12 +6,14 @@ ghost use Rattle.surf_graphs.specs.Cells.{Split};
 ghost use Rattle.surf_surfaces.specs.Signature.{walk_signature};
 ghost use Rattle.surf_surfaces.specs.Surface.{edge_count};
 ghost use Rattle.surf_validity.specs.Bases.{IsClosedList, IsDependent, split_in};
-ghost use Rattle.surf_treecheck.specs.First.{HoldsBelow, Tells};
+ghost use Rattle.surf_treecheck.specs.First.{HoldsBelow};
 ghost use Rattle.surf_certcheck.specs.BasisFaults.{IsCycleClosed, IsIndependentAt, DependsFirst, IsDependentFault};
-ghost use Rattle.surf_certcheck.specs.Frames.{AreTaken, IsPlacedUpTo, weight_at, IsFrameOf, ArePlacedUpTo};
+ghost use Rattle.surf_certcheck.specs.Frames.{AreTaken, weight_at, IsFrameOf};
 ghost use Rattle.surf_certcheck.specs.Frames.{edge_signatures};
+ghost use Rattle.surf_certcheck.specs.Columns.{IsSorted};
 ghost use Rattle.surf_base.specs.declared.limits.TheConstants.{MAX_LOOPS};
 
+use crate::columns::sort_places;
 use crate::cycles::{cycle_from, length_of, step_edge};
 use std::alloc::Global;
 use surf_base::{NoMemory, VertexId};
@@ -29,7 +31,7 @@ use surf_treecheck::CertFault;
 /// other gets a place that it has and no earlier one got: where an edge has that place, the rest of
 /// the cycle is added. The map of signatures to coordinates takes sums to sums and can be undone,
 /// so a signature is a sum of those of some of the cycles exactly where its coordinates are among
-/// their places.
+/// their places. At the end the places are put in the order of their cycles' lengths.
 #[derive(Drop)]
 pub(crate) struct Frame {
     pub(crate) signs: Signs,
@@ -65,32 +67,6 @@ fn free_place(set: &Signature, weights: &[Option<u128>]) -> Option<usize>
         }
     }
     None
-}
-
-// Whether all places of a set are those of cycles no longer than a limit.
-pub(crate) fn is_placed(set: &Signature, weights: &[Option<u128>], limit: u128) -> bool
-    requires few { length weights.now ≤ MAX_LOOPS }
-    ensures placed { Tells result (ArePlacedUpTo limit weights.now set.now) }
-{
-    if set.bits().is_empty() {
-        return true;
-    }
-    for k in 0..weights.len() {
-        if set.bits().bit(k as u32) && !is_up_to(weights[k], limit) {
-            return false;
-        }
-    }
-    true
-}
-
-// Whether a cycle has the place and is no longer than a limit.
-fn is_up_to(weight: Option<u128>, limit: u128) -> bool
-    ensures up_to { Tells result (IsPlacedUpTo limit weight) }
-{
-    match weight {
-        None => false,
-        Some(weight) => weight <= limit,
-    }
 }
 
 // Gives the cycle at a place of the list a coordinate of its own, or none where its signature is a
@@ -194,12 +170,16 @@ pub(crate) fn frame_cycles(
     ensures count { IfOk result (λ f. length f.signs.sets ≡ edge_count mesh.now) }
     ensures width { IfOk result (λ f. f.signs.width ≡ length cert.now.cycles) }
     ensures places { IfOk result (λ f. length f.weights.items ≡ length cert.now.cycles) }
+    ensures sorted { IfOk result (λ f. IsSorted f.weights.items) }
     ensures fault { IfErr result (IsDependentFault mesh.now cert.now) }
 {
     let weights = no_weights(alloc, cert.cycles().len())?;
     let mut frame = Frame { signs, weights };
     match admit_all(mesh, lengths, cert, &mut frame) {
-        None => Ok(frame),
+        None => {
+            sort_places(&mut frame);
+            Ok(frame)
+        }
         Some(place) => Err(CertFault::Dependent {
             place: place as u32,
         }),

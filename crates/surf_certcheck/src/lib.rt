@@ -9,17 +9,20 @@
 //!
 //! `check_basis` has a tree at each vertex tested, and does the rest for the cycles: they are
 //! closed (cycles), their signatures by the tree at vertex 0 (signing) are independent, for which
-//! each gets a coordinate of its own (frame), and by these coordinates, summed up along the ways of
-//! each tree (sums), each loop through it is a sum of cycles that are no longer (cover). The cycles
+//! each gets a coordinate of its own (frame), in the order of their lengths (columns), and by these
+//! coordinates, summed up along the ways of each tree (sums), each loop through it is a sum of
+//! cycles that are no longer (cover, placed). The cycles
 //! of a valid certificate are a least basis.
 #![tactic(auto)]
 
 mod basis;
+mod columns;
 mod cover;
 mod cycles;
 mod frame;
 mod heavier;
 mod loops;
+mod placed;
 mod signing;
 mod sums;
 

@@ -24,7 +24,7 @@ use Rattle.surf_tree.specs.Searches.{far}
 use Rattle.surf_cover.specs.Grown.{IsSigned}
 use Rattle.surf_cover.specs.Networks.{IsSignedBy}
 use Rattle.surf_cover.specs.Tables.{CoverTables, distance_at}
-use Rattle.surf_cover.specs.Within.{IsWithin, AreDistancesWithin}
+use Rattle.surf_cover.proofs.Distances.{IsWithin, AreDistancesWithin}
 use Rattle.surf_cover.specs.Starts.{IsLesserEnd, AreClosedSets, IsStartBy, IsUpTo, IsBetter, IsLeastStart}
 use Rattle.surf_cover.specs.declared.rounds.Start.{Start}
 use Rattle.surf_cover.proofs.Covering.{is_set}

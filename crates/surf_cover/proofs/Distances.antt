@@ -14,7 +14,7 @@ use Rattle.surf_surfaces.specs.Walk.{ArePositive, edge_length}
 use Rattle.surf_surfaces.specs.Cells.{cells_of}
 use Rattle.surf_surfaces.specs.Signature.{edge_signature}
 use Rattle.surf_surfaces.proofs.CellLaws.{surfaces_are_cells}
-use Rattle.surf_classes.specs.Cover.{IsSet}
+use Rattle.surf_classes.specs.Cover.{IsSet, IsSignedDistance}
 use Rattle.surf_classes.specs.CoverGraph.{set_count, cover, cover_node, cover_edge, cover_length}
 use Rattle.surf_classes.proofs.Covers.{is_cover}
 use Rattle.surf_classes.proofs.Reached.{between_one}
@@ -24,8 +24,19 @@ use Rattle.surf_classes.proofs.SignedSteps.{edge_set, xor_set, none_set, sum_set
 use Rattle.surf_classes.proofs.Tables.{xor_back}
 use Rattle.surf_tree.specs.Searches.{far}
 use Rattle.surf_cover.specs.Networks.{node_of, cover_by, length_by, IsSignedBy}
-use Rattle.surf_cover.specs.Within.{IsReachedWithin, AreDistancesWithin}
+use Rattle.surf_cover.specs.Within.{IsReachedWithin}
 use Rattle.surf_cover.proofs.Covering.{same_sign}
+
+-- a number that is n as far as a radius, and past it stands for none
+pub record IsWithin (radius n k : ℕ) : Type 0 where
+  pub near : n ≤ radius → (k ≡ n) × (k < far)
+  pub past : radius < n → k ≡ far
+
+-- the table has the distances from x to all vertices with all sets as far as the radius
+abbrev pub AreDistancesWithin : Mesh → List ℕ → Split → ℕ → ℕ → (ℕ → ℕ → ℕ) → Type 0
+AreDistancesWithin mesh lengths d x radius table =
+    (v set n : ℕ) → v < mesh.vertices → IsSet d set → IsSignedDistance mesh lengths d x v set n →
+    IsWithin radius n (table v set)
 
 module _ (mesh : Mesh) (lengths : List ℕ) (d : Split) (surface : IsSurface mesh) (split : IsSplit (cells_of mesh) d)
     (positive : ArePositive mesh lengths) (x radius : ℕ) (x_in : x < mesh.vertices) (dist : ℕ → ℕ)

@@ -1,13 +1,9 @@
 -- What a search that goes no farther than a radius has reached.
-use Rattle.std.specs.Prelude.{◌≡◌, ◌≢◌, ℕ, ◌+◌, ◌*◌, ◌<◌, ◌≤◌, true, List, length}
+use Rattle.std.specs.Prelude.{◌≡◌, ◌≢◌, ℕ, ◌+◌, ◌*◌, ◌<◌, ◌≤◌, true, List, length, Some}
 use Rattle.surf_base.specs.Tables.{at}
 use Rattle.surf_graphs.specs.Graphs.{Graph, joins}
-use Rattle.surf_graphs.specs.Cells.{Split}
 use Rattle.surf_heap.specs.Entries.{Entries, entry_of}
-use Rattle.std.specs.Prelude.{Some}
 use Rattle.surf_lengths.specs.Lengths.{longest}
-use Rattle.surf_surfaces.specs.Mesh.{Mesh}
-use Rattle.surf_classes.specs.Cover.{IsSet, IsSignedDistance}
 use Rattle.surf_tree.specs.Searches.{far, IsReached}
 
 -- each node with an entry is past the radius
@@ -29,14 +25,3 @@ pub record IsReachedWithin (g : Graph) (len : ℕ → ℕ) (base radius : ℕ) (
   pub near : (u w e : ℕ) → u < g.nodes → w < g.nodes → e < g.edges → joins g u w e ≡ true → dist u ≢ far →
       dist u + len e ≤ radius → (dist w ≢ far) × (dist w ≤ dist u + len e)
   pub tight : (w : ℕ) → w < g.nodes → w ≢ base → dist w ≢ far → IsReached g len dist w (dist w)
-
--- a number that is n as far as a radius, and past it stands for none
-pub record IsWithin (radius n k : ℕ) : Type 0 where
-  pub near : n ≤ radius → (k ≡ n) × (k < far)
-  pub past : radius < n → k ≡ far
-
--- the table has the distances from x to all vertices with all sets as far as the radius
-abbrev pub AreDistancesWithin : Mesh → List ℕ → Split → ℕ → ℕ → (ℕ → ℕ → ℕ) → Type 0
-AreDistancesWithin mesh lengths d x radius table =
-    (v set n : ℕ) → v < mesh.vertices → IsSet d set → IsSignedDistance mesh lengths d x v set n →
-    IsWithin radius n (table v set)

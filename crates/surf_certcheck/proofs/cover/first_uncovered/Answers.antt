@@ -39,7 +39,9 @@ first_uncovered-requires c =
         summed = c.sum_ways.ensures.summed;
         lengths = c.requires.lengths;
         count = c.requires.count;
-        few = c.requires.few;
+        width = c.requires.few;
+        widths = omega (arith, c.sum_ways.ensures.width, c.requires.few);
+        sorted = c.requires.sorted;
       };
     }
 

@@ -1,5 +1,5 @@
-use Rattle.std.proofs.Common.{◌≡◌, length, ap, arith}
-use Rattle.surf_validity.specs.Bases.{split_in}
+use Rattle.std.proofs.Common.{◌≡◌, length, map, take, ap, ◌∙◌, arith}
+use Rattle.surf_validity.specs.Bases.{split_in, weighed_cycle}
 use Rattle.surf_certcheck.proofs.Framing.{frame_none, no_weight}
 use Rattle.surf_certcheck.proofs.Validity.{signed_at, signed_count}
 use Rattle.surf_certcheck.proofs.frame.frame_cycles.Goals as goal
@@ -18,3 +18,14 @@ admit_all-requires-clause-frame c =
     omega (arith, c.in_ok-weights.ensures.count, cycles, c.requires.places) in
     (frame_none mesh d c.args.signs weights
     (signed_at mesh d c.args.signs.sets c.requires.signed) count (no_weight weights c.in_ok-weights.ensures.none))
+
+pub returns-in-None-clause-frame : goal.returns-in-None-clause-frame
+returns-in-None-clause-frame c =
+    let mesh = c.args.mesh.now in
+    let cert = c.args.cert.now in
+    c.sort_places.ensures.frames.frames mesh (split_in mesh cert)
+    (map (weighed_cycle mesh c.args.lengths.now cert) (take (length cert.cycles) cert.cycles))
+    c.admit_all.ensures.count c.in-None.ensures.frame.1
+
+pub returns-in-None-clause-count : goal.returns-in-None-clause-count
+returns-in-None-clause-count c = c.sort_places.ensures.frames.count ∙ c.admit_all.ensures.count
