@@ -71,7 +71,8 @@ loop-v-preserved c =
           λ e l. signs e (omega (arith, l, made.signs)) in
           let few : mesh.vertices * desk.sets ≤ 65536 =
           subst (λ n. mesh.vertices * n ≤ 65536) (so_far.made.sets ∙ sym made.sets) so_far.few in
-          let can = coverable mesh t c.requires.signed desk.sets made.sets desk.signs made.signs copied surface lengths c.requires.lengths few in
+          let can = coverable mesh t c.requires.signed desk.sets made.sets desk.signs made.signs copied surface
+          lengths c.requires.lengths few in
           let set_below : set < desk.sets = omega (arith, c.requires.set, made.sets) in
           let fits : base * desk.sets + desk.sets ≤ mesh.vertices * desk.sets =
           row_fits base desk.sets mesh.vertices desk.sets base_in (omega arith) in

@@ -10,7 +10,8 @@ use Rattle.surf_cover.proofs.search.offer_links.Goals.{then-distance-w, else-dis
 pub bounds-distance-w : goal.bounds-distance-w
 bounds-distance-w g c =
     let net = c.args.network.now in
-    let inside = item_in (g.N.Network.link net c.args.node) c.edges_at-e-items.result.now c.edges_at-e-items.ensures.row c.loop-e-test.true c.e-item.is c.across-w.ensures.end in
+    let inside = item_in (g.N.Network.link net c.args.node) c.edges_at-e-items.result.now c.edges_at-e-items.ensures.row
+    c.loop-e-test.true c.e-item.is c.across-w.ensures.end in
     omega (arith, inside.0, c.requires.distances)
 
 pub loop-e-preserved : goal.loop-e-preserved
@@ -35,9 +36,11 @@ loop-e-preserved g c =
     let in_heap : w < length heap = omega (arith, some.same_length, c.requires.places) in
     elim c.if-distance-w.branch [
       | then-distance-w b ↦
-          let new : b.offer.new.self ≡ set heap w (Some (lesser (entry_of heap w) (c.args.d + len number) 0)) = rw (b.from.ensures, c.across-w.ensures.length) at b.offer.ensures.entry in
+          let new : b.offer.new.self ≡ set heap w (Some (lesser (entry_of heap w) (c.args.d + len number) 0)) =
+          rw (b.from.ensures, c.across-w.ensures.length) at b.offer.ensures.entry in
           let free : dist w ≡ far = b.if-distance-w.true in
-          rw b.heap-is (link_more graph len dist c.args.node c.args.d links row c.args.heap.now heap n some ln w number is b.offer.new.self free in_heap new)
+          rw b.heap-is (link_more graph len dist c.args.node c.args.d links row c.args.heap.now heap n some ln w number is
+          b.offer.new.self free in_heap new)
       | else-distance-w b ↦
           let settled : dist w ≢ far = b.if-distance-w.false in
           rw b.heap-is (link_skip graph len dist c.args.node c.args.d links row c.args.heap.now heap n some ln w number is settled)
