@@ -37,7 +37,7 @@ use std::alloc::Global;
 use surf_answers::{Answered, help, version};
 use surf_base::Shelf;
 use surf_texts::Refused;
-use surf_words::Command;
+use surf_words::{Command, CutWords};
 
 /// What a command answers.
 pub(crate) fn answer<S: Shelf>(
@@ -70,12 +70,25 @@ pub(crate) fn answer<S: Shelf>(
             lengths,
             base,
         } => weighted(alloc, shelf, task, mesh, lengths, base),
-        Command::Cut {
-            extent,
+        Command::CutFull {
             mesh,
             lengths,
             base,
-        } => cut_open(alloc, shelf, extent, mesh, lengths, base),
+        } => cut_open(alloc, shelf, CutWords::Full, mesh, lengths, base),
+        Command::CutTrimmed {
+            mesh,
+            lengths,
+            base,
+        } => cut_open(alloc, shelf, CutWords::Trimmed, mesh, lengths, base),
+        Command::CutThrough {
+            mesh,
+            lengths,
+            base,
+            points,
+        } => {
+            let extent = CutWords::Through { points };
+            cut_open(alloc, shelf, extent, mesh, lengths, base)
+        }
         Command::Generate { shape } => generate(alloc, shape),
         Command::Try { shape, scatter } => tried(alloc, shape, scatter),
         Command::Check {

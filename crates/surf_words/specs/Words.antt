@@ -16,7 +16,7 @@ use Rattle.surf_words.specs.Shapes.{Shape, torus_named, chain_named}
 use Rattle.surf_words.specs.declared.words.Command.{Command}
 use Rattle.surf_words.specs.declared.words.Command.TheVariants.{Help, Version, Info, Disc, Cycles, Weighted, Generate}
 use Rattle.surf_words.specs.declared.words.Command.TheVariants.{Try, Check, Measure, Sew, Class, Same, Confirm}
-use Rattle.surf_words.specs.declared.words.Command.TheVariants.{Shortest, Cut}
+use Rattle.surf_words.specs.declared.words.Command.TheVariants.{Shortest, CutFull, CutTrimmed, CutThrough}
 use Rattle.std.specs.declared.alloc.Global.{Global}
 
 -- the bytes of each word
@@ -165,7 +165,9 @@ request (Info mesh) = info mesh.now
 request (Disc mesh) = disc mesh.now
 request (Cycles task mesh lengths) = cycles task mesh.now lengths.now
 request (Weighted task mesh lengths base) = weighted task mesh.now lengths.now base
-request (Cut extent mesh lengths base) = cuts (extent_of extent) mesh.now lengths.now base
+request (CutFull mesh lengths base) = cuts fully mesh.now lengths.now base
+request (CutTrimmed mesh lengths base) = cuts trimmed mesh.now lengths.now base
+request (CutThrough mesh lengths base points) = cuts (through points.now) mesh.now lengths.now base
 request (Generate shape) = makes shape
 request (Try shape scatter) = tries shape scatter
 request (Check mesh lengths cert) = checks mesh.now lengths.now cert.now

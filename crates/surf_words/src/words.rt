@@ -2,9 +2,8 @@
 ghost use Rattle.std.specs.Prelude.{◌≡◌, [], ◌∷◌, None, Some, MatchOption, option_map, option_and_then};
 ghost use Rattle.surf_words.specs.Shapes.{torus_named, chain_named};
 ghost use Rattle.surf_words.specs.Words.{texts, request_of, word_number, few_decimals, request, tried, Asks};
-ghost use Rattle.surf_words.specs.Words.{cycles, weighted, cuts, extent_of, makes, measures};
+ghost use Rattle.surf_words.specs.Words.{cycles, weighted, cuts, fully, trimmed, through, makes, measures};
 
-use crate::cuts::CutWords;
 use crate::decimals::Decimals;
 use crate::shape::Shape;
 use crate::tasks::{CycleTask, Task};
@@ -32,11 +31,21 @@ pub enum Command<'w> {
         lengths: &'w str,
         base: u32,
     },
-    Cut {
-        extent: CutWords<'w>,
+    CutFull {
         mesh: &'w str,
         lengths: &'w str,
         base: u32,
+    },
+    CutTrimmed {
+        mesh: &'w str,
+        lengths: &'w str,
+        base: u32,
+    },
+    CutThrough {
+        mesh: &'w str,
+        lengths: &'w str,
+        base: u32,
+        points: &'w str,
     },
     Generate {
         shape: Shape,
@@ -149,23 +158,48 @@ fn weighted<'w>(task: Task, mesh: &'w str, lengths: &'w str, base: &str) -> Opti
     })
 }
 
-// A surface cut open at a base.
-fn cut<'w>(
-    extent: CutWords<'w>,
-    mesh: &'w str,
-    lengths: &'w str,
-    base: &str,
-) -> Option<Command<'w>>
+fn cut_full<'w>(mesh: &'w str, lengths: &'w str, base: &str) -> Option<Command<'w>>
     ensures { MatchOption result
-        (option_map (cuts (extent_of extent.entry) mesh.now lengths.now) (word_number base.now) ≡ None)
-        (λ c. option_map (cuts (extent_of extent.entry) mesh.now lengths.now) (word_number base.now)
+        (option_map (cuts fully mesh.now lengths.now) (word_number base.now) ≡ None)
+        (λ c. option_map (cuts fully mesh.now lengths.now) (word_number base.now)
         ≡ Some (request c)) }
 {
-    Some(Command::Cut {
-        extent,
+    Some(Command::CutFull {
         mesh,
         lengths,
         base: number_of(base)?,
+    })
+}
+
+fn cut_trimmed<'w>(mesh: &'w str, lengths: &'w str, base: &str) -> Option<Command<'w>>
+    ensures { MatchOption result
+        (option_map (cuts trimmed mesh.now lengths.now) (word_number base.now) ≡ None)
+        (λ c. option_map (cuts trimmed mesh.now lengths.now) (word_number base.now)
+        ≡ Some (request c)) }
+{
+    Some(Command::CutTrimmed {
+        mesh,
+        lengths,
+        base: number_of(base)?,
+    })
+}
+
+fn cut_through<'w>(
+    mesh: &'w str,
+    lengths: &'w str,
+    base: &str,
+    points: &'w str,
+) -> Option<Command<'w>>
+    ensures { MatchOption result
+        (option_map (cuts (through points.now) mesh.now lengths.now) (word_number base.now) ≡ None)
+        (λ c. option_map (cuts (through points.now) mesh.now lengths.now) (word_number base.now)
+        ≡ Some (request c)) }
+{
+    Some(Command::CutThrough {
+        mesh,
+        lengths,
+        base: number_of(base)?,
+        points,
     })
 }
 
@@ -315,8 +349,8 @@ fn on_five<'w>(
 {
     if word == "cut" {
         return match fifth {
-            "full" => cut(CutWords::Full, second, third, fourth),
-            "trim" => cut(CutWords::Trimmed, second, third, fourth),
+            "full" => cut_full(second, third, fourth),
+            "trim" => cut_trimmed(second, third, fourth),
             _ => None,
         };
     }
@@ -342,7 +376,7 @@ fn on_six<'w>(
         (word.now ∷ second.now ∷ third.now ∷ fourth.now ∷ fifth.now ∷ sixth.now ∷ []) }
 {
     if word == "cut" && fifth == "through" {
-        return cut(CutWords::Through { points: sixth }, second, third, fourth);
+        return cut_through(second, third, fourth, sixth);
     }
     if word == "try" && second == "chain" {
         return try_shape(chain_of(third, fourth, fifth), sixth);
