@@ -79,8 +79,9 @@ def notes(built: pathlib.Path) -> dict[str, str]:
 def packaged(built: pathlib.Path) -> str:
     """What the packages of Debian have in place of these files."""
     name = f"lib{packages.NAME}.so.0"
-    return (f"In the packages of Debian usr/bin/{packages.NAME} is bin/surf and lib{packages.NAME}.a is lib/libsurf.a, "
-            f"byte by byte. {name} is lib/libsurf.so.0 linked under that name: SHA-256 {proof.checksum(built / name)}")
+    same = f"usr/bin/{packages.NAME} is bin/surf and lib{packages.NAME}.a is lib/libsurf.a, byte by byte"
+    other = f"{name} is lib/libsurf.so.0 linked under that name: SHA-256 {proof.checksum(built / name)}"
+    return f"In the packages of Debian {same}. {other}"
 
 
 def make_packages(parts: packages.Parts, gate: proof.Gate, out: pathlib.Path) -> pathlib.Path:
