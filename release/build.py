@@ -76,19 +76,27 @@ def notes(built: pathlib.Path) -> dict[str, str]:
     }
 
 
+def packaged(built: pathlib.Path) -> str:
+    """What the packages of Debian have in place of these files."""
+    name = f"lib{packages.NAME}.so.0"
+    same = f"usr/bin/{packages.NAME} is bin/surf and lib{packages.NAME}.a is lib/libsurf.a, byte by byte"
+    other = f"{name} is lib/libsurf.so.0 linked under that name: SHA-256 {proof.checksum(built / name)}"
+    return f"In the packages of Debian {same}. {other}"
+
+
 def make_packages(parts: packages.Parts, gate: proof.Gate, out: pathlib.Path) -> pathlib.Path:
     """The tarball and the packages. Gives the place of the tarball."""
     tree = packages.tarball_tree(parts)
     with tempfile.TemporaryDirectory() as room:
         trees.write_tree(tree, pathlib.Path(room), parts.time)
-        proved = proof.proved(parts.version, gate, pathlib.Path(room), notes(parts.built))
+        proved = proof.proved(parts.version, gate, pathlib.Path(room), notes(parts.built), packaged(parts.built))
     tree.add("PROVED", proved)
     root = f"surf-{parts.version}-x86_64-linux"
     made = out / f"{root}.tar.gz"
     made.write_bytes(trees.tarball(tree, root, parts.time))
     packages.program_package(parts, proved, out)
-    packages.library_package(parts, out)
-    packages.header_package(parts, out)
+    packages.library_package(parts, proved, out)
+    packages.header_package(parts, proved, out)
     return made
 
 
@@ -108,8 +116,11 @@ def make_other(other: Other, out: pathlib.Path, time: int) -> None:
                 return
             if done.returncode:
                 raise proof.Refused(f"{other.what}: {words[0]} ended with {done.returncode}: {said[-2000:]}")
-            print(f"{other.what}: {said}")
-        for path in sorted(pathlib.Path(room).glob(other.pattern)):
+            print(f"{other.what}, by {words[0]}: {said.splitlines()[-1] if said else 'done'}")
+        made = sorted(pathlib.Path(room).glob(other.pattern))
+        if not made:
+            raise proof.Refused(f"{other.what}: {other.make[0]} made no {other.pattern}")
+        for path in made:
             shutil.copy(path, out / path.name)
 
 

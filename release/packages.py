@@ -114,11 +114,12 @@ def tarball_tree(parts: Parts) -> trees.Tree:
 # ---- packages of Debian
 
 
-def common(tree: trees.Tree, package: str, parts: Parts) -> None:
-    """What every package has: a copyright file and a list of changes in Debian's form."""
+def common(tree: trees.Tree, package: str, parts: Parts, proved: str) -> None:
+    """What every package has: PROVED, a copyright file and a list of changes in Debian's form."""
     date = email.utils.formatdate(parts.time)
     entry = f"{NAME} ({parts.version}) unstable; urgency=medium\n\n  * Release {parts.version}.\n\n"
     entry += f" -- {MAINTAINER}  {date}\n"
+    tree.add(f"usr/share/doc/{package}/PROVED", proved)
     tree.add(f"usr/share/doc/{package}/copyright", COPYRIGHT)
     tree.add_packed(f"usr/share/doc/{package}/changelog.gz", entry)
 
@@ -139,11 +140,10 @@ def program_package(parts: Parts, proved: str, out: pathlib.Path) -> None:
     inner.add_packed(f"share/man/man1/{NAME}.1.gz", parts.pages[f"{NAME}.1"])
     add_completions(inner, NAME, parts.pages, "vendor-completions")
     add_documents(inner, f"share/doc/{NAME}")
-    inner.add(f"share/doc/{NAME}/PROVED", proved)
     inner.add_folder(f"share/{NAME}/meshes", TOP / "meshes")
     add_tools(inner, f"share/{NAME}/tools", TOOLS)
     tree = under_usr(inner)
-    common(tree, NAME, parts)
+    common(tree, NAME, parts, proved)
     fields = control(NAME, "science", parts, f"""\
 shortest homology bases and cuts of closed surface meshes
 surfbasis finds shortest systems of loops, shortest homology bases and shortest nonseparating cycles on closed
@@ -154,10 +154,10 @@ program has the name surf, which in Debian is that of a web browser; /usr/lib/{N
     trees.debian_package(tree, fields, {}, out / f"{NAME}_{parts.version}_amd64.deb", parts.time)
 
 
-def library_package(parts: Parts, out: pathlib.Path) -> None:
+def library_package(parts: Parts, proved: str, out: pathlib.Path) -> None:
     library, tree = f"lib{NAME}.so.0", trees.Tree()
     tree.add(f"usr/lib/{TRIPLET}/{library}", parts.built / library)
-    common(tree, f"lib{NAME}0", parts)
+    common(tree, f"lib{NAME}0", parts, proved)
     fields = control(f"lib{NAME}0", "libs", parts, """\
 surfbasis as one function (shared library)
 All that surfbasis does, as one function over bytes in memory. Every answer and every refusal is proved.""",
@@ -167,7 +167,7 @@ All that surfbasis does, as one function over bytes in memory. Every answer and 
     trees.debian_package(tree, fields, scripts, out / f"lib{NAME}0_{parts.version}_amd64.deb", parts.time)
 
 
-def header_package(parts: Parts, out: pathlib.Path) -> None:
+def header_package(parts: Parts, proved: str, out: pathlib.Path) -> None:
     package, tree = f"lib{NAME}-dev", trees.Tree()
     folder, headers = f"usr/lib/{TRIPLET}", f"/usr/include/{NAME}"
     tree.add(f"usr/include/{NAME}/surf.h", TOP / "crates/surf_c/surf.h")
@@ -175,7 +175,7 @@ def header_package(parts: Parts, out: pathlib.Path) -> None:
     tree.link(f"{folder}/lib{NAME}.so", f"lib{NAME}.so.0")
     tree.add(f"{folder}/pkgconfig/{NAME}.pc", pkgconfig(NAME, parts.version, "/usr", f"/usr/lib/{TRIPLET}", headers))
     tree.add_folder(f"usr/share/doc/{package}/examples", TOP / "examples")
-    common(tree, package, parts)
+    common(tree, package, parts, proved)
     fields = control(package, "libdevel", parts, """\
 surfbasis as one function (header, static library)
 The header, the static library and examples in C and Python. All that surfbasis does is one function over bytes in

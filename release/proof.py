@@ -130,9 +130,9 @@ def gate(log: pathlib.Path | None) -> Gate:
 # ---- the text
 
 
-def proved(version: str, gate: Gate, root: pathlib.Path, notes: dict[str, str]) -> str:
-    """The file PROVED: what was proved and built, and what each built file in this folder is. Its lines are comments
-    to sha256sum, but for the checksums at its end."""
+def proved(version: str, gate: Gate, root: pathlib.Path, notes: dict[str, str], packaged: str) -> str:
+    """The file PROVED: what was proved and built, what each built file in this folder is, and what the packages of
+    Debian have in their place. Its lines are comments to sha256sum, but for the checksums at its end."""
     lines = [f"surf {version}", "", f"commit  {commit()}", f"kit     {kit()}", f"gate    {gate.last}"]
     lines += [f"        {gate.told}", f"        {gate.known}", ""]
     lines += ["Each function of the program and of the library was proved from the sources of this commit, and",
@@ -140,7 +140,7 @@ def proved(version: str, gate: Gate, root: pathlib.Path, notes: dict[str, str]) 
               "trusted.", ""]
     for name, note in notes.items():
         lines += [name, *textwrap.wrap(note, 96, initial_indent="    ", subsequent_indent="    ")]
-    lines += ["", "SHA-256, to be tried by sha256sum -c PROVED:"]
+    lines += ["", *textwrap.wrap(packaged, 100), "", "SHA-256, to be tried by sha256sum -c PROVED:"]
     sums = [f"{checksum(root / name)}  {name}" for name in notes]
     return "\n".join([f"# {line}".rstrip() for line in lines] + sums) + "\n"
 

@@ -254,7 +254,7 @@ class Contents(unittest.TestCase):
             documents.remove(pathlib.Path("INSTALL.md"))
             for path in documents:
                 text = (root / path).read_text()
-                lost = check_sessions.dead_links(root / path, text), check_sessions.dead_links(HERE.parent / path, text)
+                lost = [check_sessions.dead_links(place / path, text) for place in (root, HERE.parent)]
                 self.assertEqual(*lost, path)
         self.assertGreater(len(documents), 10)
 
