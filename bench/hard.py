@@ -25,12 +25,20 @@ import speed
 # Less than this at the first size tells nothing of growth.
 TELLING_SECONDS = 0.02
 
-GREAT_FACES = [("prism 50000 1", "prism 200000 1"), ("polygon 250000", "polygon 990000"), ("bigface 250 250 200", "bigface 500 500 400")]
+GREAT_FACES = [
+    ("prism 50000 1", "prism 200000 1"),
+    ("polygon 250000", "polygon 990000"),
+    ("bigface 250 250 200", "bigface 500 500 400"),
+]
 GREAT_DEGREES = [("suspension 250000", "suspension 990000"), ("fan 125000", "fan 490000")]
 DEEP = [("chain 256 4 244", "chain 512 4 488"), ("tail 255 4 4 62000", "tail 511 4 4 248000")]
 SCANS = [("gyroid 42 2 --shuffle 1", "gyroid 85 4 --shuffle 1"), ("flipped 60000 175 175", "flipped 240000 350 350")]
 THIN = [("torus 3 1600", "torus 3 6400"), ("ring 127 6 7", "ring 511 6 7")]
-HANDLES = [("handles 70 71 64", "handles 140 142 64"), ("handles 70 71 64 --near", "handles 140 142 64 --near"), ("comb 30 50", "comb 60 100")]
+HANDLES = [
+    ("handles 70 71 64", "handles 140 142 64"),
+    ("handles 70 71 64 --near", "handles 140 142 64 --near"),
+    ("comb 30 50", "comb 60 100"),
+]
 ONE_SIDED = [("handles 70 71 64 --cross", "handles 140 142 64 --cross")]
 ROUGH = [("blobs 29 40", "blobs 57 40"), ("glued 62", "glued 250")]
 LINEAR = GREAT_FACES + GREAT_DEGREES + DEEP + SCANS

@@ -447,6 +447,7 @@ def marched(n: int, value: Callable[[float, float, float], float]) -> Mesh:
     steps = {1: m * m, 2: m, 4: 1}
     shifts = [[sum(step for bit, step in steps.items() if x & bit) for x in (0, p, p | q, 7)]
               for p, q, _ in itertools.permutations((1, 2, 4))]
+    box = [sum(some) for some in itertools.product((0, m * m), (0, m), (0, 1))]
     number: dict[tuple[int, int], int] = {}
     points: list[Point] = []
     faces: list[Face] = []
@@ -462,7 +463,7 @@ def marched(n: int, value: Callable[[float, float, float], float]) -> Mesh:
 
     for i, j, k in itertools.product(range(n), repeat=3):
         base = (i * m + j) * m + k
-        if len({values[base + shift] < 0 for shift in (0, 1, m, m + 1, m * m, m * m + 1, m * m + m, m * m + m + 1)}) == 1:
+        if len({values[base + step] < 0 for step in box}) == 1:
             continue
         for shift in shifts:
             corners = [base + step for step in shift]
@@ -515,8 +516,8 @@ def blobs(n: int, k: int, choices: Choices) -> Mesh:
     cell = 3 * width
     near: dict[Point, list[tuple[Point, Point]]] = {}
     for p, q in tubes:
-        spans = [range(int((min(a, b) - 2 * width) / cell), int((max(a, b) + 2 * width) / cell) + 1) for a, b in zip(p, q)]
-        for place in itertools.product(*spans):
+        ends = [(min(a, b) - 2 * width, max(a, b) + 2 * width) for a, b in zip(p, q)]
+        for place in itertools.product(*(range(int(low / cell), int(high / cell) + 1) for low, high in ends)):
             near.setdefault(place, []).append((p, q))
 
     def value(*at: float) -> float:
