@@ -13,7 +13,7 @@
     dense R S H         the same, with tubes that share vertices: more loops than vertices
     comb H N            H tubes of N rings on a narrow sphere with poles of great degree
     hub G N             G tori around one wheel of G * N spokes
-    glued N             N triangles glued at random along their sides, each divided twice (--cross: also one-sided)
+    glued N             N triangles (N even) glued at random and each divided twice (--cross: also one-sided)
     flipped N A B       the torus of A by B after N random flips of edges: irregular degrees
     fan N               a torus with a vertex of degree N and more
     polygon N           the same, with one face of N + 2 corners in place of the half of that fan
@@ -390,6 +390,8 @@ def next_side(s: int) -> int:
 
 @kind
 def glued(n: int, choices: Choices) -> Mesh:
+    if n % 2:
+        raise ValueError(f"{n} triangles have an odd number of sides, which can't be glued in pairs")
     sides = list(range(3 * n))
     choices.chance.shuffle(sides)
     corners = Sets(3 * n)
@@ -593,7 +595,7 @@ def write_off(mesh: Mesh, out: TextIO) -> None:
 
 
 def made(words: Sequence[str]) -> Mesh:
-    """The mesh that words say, options and all. Raises ValueError where they say none."""
+    """The mesh that words say, options and all. Ends the program with a line where they say none."""
     parser = argparse.ArgumentParser(description=__doc__, formatter_class=argparse.RawDescriptionHelpFormatter)
     parser.add_argument("--seed", type=int, default=1, help="of all chance but that of --shuffle")
     parser.add_argument("--cross", action="store_true", help="glue some tubes or sides the other way round")
@@ -611,7 +613,10 @@ def made(words: Sequence[str]) -> Mesh:
         given.append(Choices(random.Random(options.seed), options.cross, options.near, options.rings))
     if len(given) != len(names):
         parser.error(f"{options.kind} takes {len([name for name in names if name != 'choices'])} numbers")
-    mesh = make(*given)
+    try:
+        mesh = make(*given)
+    except ValueError as wrong:
+        parser.error(str(wrong))
     return mesh if options.shuffle is None else shuffled(mesh, options.shuffle, options.turn)
 
 
