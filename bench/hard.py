@@ -3,12 +3,12 @@
 
     bench/hard.py [--surf PROGRAM] [--beside NAME=WORDS ..] [--repeat N] [--limit SECONDS] [--part TEXT] [COMMAND ..]
 
-Each row is a command on a mesh of `bench/meshes.py` with lengths of `bench/lengths.py`, at two sizes, the second about
-four times the first. Seconds, megabytes and ratios are those of the second; the exponent is the power of the number of
-vertices with which the seconds grow from the first to the second, and stands where the first takes long enough to tell.
-Programs, options and cells are those of `bench/speed.py`: seconds of one processor, the least of the repeats in turn;
-`--beside` names another program that takes the same words, whose bytes have to be ours. `--part` keeps the rows whose
-mesh has that text in its words.
+Each row is a command on a mesh of `bench/meshes.py` with lengths of `bench/lengths.py`, at two sizes, the second
+about four times the first. Seconds, megabytes and ratios are those of the second; the exponent is the power of the
+number of vertices with which the seconds grow from the first to the second, and stands where the first takes long
+enough to tell. Programs, options and cells are those of `bench/speed.py`: seconds of one processor, the least of the
+repeats in turn; `--beside` names another program that takes the same words, whose bytes have to be ours. `--part`
+keeps the rows whose mesh has that text in its words.
 """
 import argparse
 import math
@@ -25,14 +25,23 @@ import speed
 # Less than this at the first size tells nothing of growth.
 TELLING_SECONDS = 0.02
 
-GREAT_FACES = [("prism 50000 1", "prism 200000 1"), ("polygon 250000", "polygon 990000"), ("bigface 250 250 200", "bigface 500 500 400")]
+GREAT_FACES = [
+    ("prism 50000 1", "prism 200000 1"),
+    ("polygon 250000", "polygon 990000"),
+    ("bigface 250 250 200", "bigface 500 500 400"),
+]
 GREAT_DEGREES = [("suspension 250000", "suspension 990000"), ("fan 125000", "fan 490000")]
 DEEP = [("chain 256 4 244", "chain 512 4 488"), ("tail 255 4 4 62000", "tail 511 4 4 248000")]
 SCANS = [("gyroid 42 2 --shuffle 1", "gyroid 85 4 --shuffle 1"), ("flipped 60000 175 175", "flipped 240000 350 350")]
 THIN = [("torus 3 1600", "torus 3 6400"), ("ring 127 6 7", "ring 511 6 7")]
-HANDLES = [("handles 70 71 64", "handles 140 142 64"), ("handles 70 71 64 --near", "handles 140 142 64 --near"), ("comb 30 50", "comb 60 100")]
+HANDLES = [
+    ("handles 70 71 64", "handles 140 142 64"),
+    ("handles 70 71 64 --near", "handles 140 142 64 --near"),
+    ("comb 30 50", "comb 60 100"),
+]
 ONE_SIDED = [("handles 70 71 64 --cross", "handles 140 142 64 --cross")]
 ROUGH = [("blobs 29 40", "blobs 57 40"), ("glued 62", "glued 250")]
+DENSE = [("dense 15 17 128", "dense 30 33 512")]
 LINEAR = GREAT_FACES + GREAT_DEGREES + DEEP + SCANS
 FAR = THIN + HANDLES + ONE_SIDED + ROUGH
 
@@ -70,8 +79,8 @@ CASES = [
     Case("basis", "basis M L", FAR, [UNIT, SCATTERED, TIES, HEAVY, NEAR]),
     Case("cycle", "cycle M L", FAR, [UNIT, SCATTERED, TIES, HEAVY, NEAR]),
     Case("shortest", "shortest M L C", [("torus 3 1365", "torus 3 5461")], [UNIT, SCATTERED], "walk"),
-    Case("certify", "certify M L", [("dense 15 17 128", "dense 30 33 512")], [UNIT, SCATTERED]),
-    Case("check of a basis", "check M L C", [("dense 15 17 128", "dense 30 33 512")], [UNIT, SCATTERED], "certify M L"),
+    Case("certify", "certify M L", DENSE, [UNIT, SCATTERED]),
+    Case("check of a basis", "check M L C", DENSE, [UNIT, SCATTERED], "certify M L"),
 ]
 
 

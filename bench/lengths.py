@@ -9,8 +9,8 @@
     constant N          all N
     ties K              from 1 to K at random: many equal sums
     near N K            from N to N + K: all loops nearly as long
-    heavy N J W         from 1 to N at random, but W on each edge that the dual cycles of the first J left edges cross:
-                        loops through these are long, so half of the greatest length bounds no search
+    heavy N J W         from 1 to N at random, but W on each edge that the dual cycles of the first J left edges
+                        cross: loops through these are long, so half of the greatest length bounds no search
     coordinates K       from the points of the vertices, as whole numbers of 10^-K
     strip N W           N where the numbers of both ends are near, W elsewhere
 """

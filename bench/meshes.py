@@ -13,7 +13,7 @@
     dense R S H         the same, with tubes that share vertices: more loops than vertices
     comb H N            H tubes of N rings on a narrow sphere with poles of great degree
     hub G N             G tori around one wheel of G * N spokes
-    glued N             N triangles glued at random along their sides, each divided twice (--cross: also one-sided)
+    glued N             N triangles (N even) glued at random and each divided twice (--cross: also one-sided)
     flipped N A B       the torus of A by B after N random flips of edges: irregular degrees
     fan N               a torus with a vertex of degree N and more
     polygon N           the same, with one face of N + 2 corners in place of the half of that fan
@@ -390,6 +390,8 @@ def next_side(s: int) -> int:
 
 @kind
 def glued(n: int, choices: Choices) -> Mesh:
+    if n % 2:
+        raise ValueError(f"{n} triangles have an odd number of sides, which can't be glued in pairs")
     sides = list(range(3 * n))
     choices.chance.shuffle(sides)
     corners = Sets(3 * n)
@@ -447,6 +449,7 @@ def marched(n: int, value: Callable[[float, float, float], float]) -> Mesh:
     steps = {1: m * m, 2: m, 4: 1}
     shifts = [[sum(step for bit, step in steps.items() if x & bit) for x in (0, p, p | q, 7)]
               for p, q, _ in itertools.permutations((1, 2, 4))]
+    box = [sum(some) for some in itertools.product((0, m * m), (0, m), (0, 1))]
     number: dict[tuple[int, int], int] = {}
     points: list[Point] = []
     faces: list[Face] = []
@@ -462,7 +465,7 @@ def marched(n: int, value: Callable[[float, float, float], float]) -> Mesh:
 
     for i, j, k in itertools.product(range(n), repeat=3):
         base = (i * m + j) * m + k
-        if len({values[base + shift] < 0 for shift in (0, 1, m, m + 1, m * m, m * m + 1, m * m + m, m * m + m + 1)}) == 1:
+        if len({values[base + step] < 0 for step in box}) == 1:
             continue
         for shift in shifts:
             corners = [base + step for step in shift]
@@ -515,8 +518,8 @@ def blobs(n: int, k: int, choices: Choices) -> Mesh:
     cell = 3 * width
     near: dict[Point, list[tuple[Point, Point]]] = {}
     for p, q in tubes:
-        spans = [range(int((min(a, b) - 2 * width) / cell), int((max(a, b) + 2 * width) / cell) + 1) for a, b in zip(p, q)]
-        for place in itertools.product(*spans):
+        ends = [(min(a, b) - 2 * width, max(a, b) + 2 * width) for a, b in zip(p, q)]
+        for place in itertools.product(*(range(int(low / cell), int(high / cell) + 1) for low, high in ends)):
             near.setdefault(place, []).append((p, q))
 
     def value(*at: float) -> float:
@@ -592,7 +595,7 @@ def write_off(mesh: Mesh, out: TextIO) -> None:
 
 
 def made(words: Sequence[str]) -> Mesh:
-    """The mesh that words say, options and all. Raises ValueError where they say none."""
+    """The mesh that words say, options and all. Ends the program with a line where they say none."""
     parser = argparse.ArgumentParser(description=__doc__, formatter_class=argparse.RawDescriptionHelpFormatter)
     parser.add_argument("--seed", type=int, default=1, help="of all chance but that of --shuffle")
     parser.add_argument("--cross", action="store_true", help="glue some tubes or sides the other way round")
@@ -610,7 +613,10 @@ def made(words: Sequence[str]) -> Mesh:
         given.append(Choices(random.Random(options.seed), options.cross, options.near, options.rings))
     if len(given) != len(names):
         parser.error(f"{options.kind} takes {len([name for name in names if name != 'choices'])} numbers")
-    mesh = make(*given)
+    try:
+        mesh = make(*given)
+    except ValueError as wrong:
+        parser.error(str(wrong))
     return mesh if options.shuffle is None else shuffled(mesh, options.shuffle, options.turn)
 
 
