@@ -1,5 +1,5 @@
 -- What comes of each row of the command table: one outcome, which depends on the files alone that the row names.
-use Rattle.std.proofs.Common.{◌≡◌, inl, inr, ℕ, ◌++◌, List, [], Option, Some, None, refl, sym, ◌∙◌, ap, arith, length}
+use Rattle.std.proofs.Common.{◌≡◌, inl, inr, ℕ, ◌++◌, ◌∷◌, List, [], Option, Some, None, refl, sym, ◌∙◌, ap, arith, length}
 use Rattle.std.specs.Prelude.{nat_lt, if◌then◌else◌, codes}
 use Rattle.surf_base.specs.Outside.{Files}
 use Rattle.surf_texts.specs.Refusals.{geom_cause}
