@@ -22,3 +22,4 @@ pub mod Firsts
 pub mod PassedOver
 pub mod Meeting
 pub mod OnCut
+pub mod Capped

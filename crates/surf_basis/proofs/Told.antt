@@ -90,6 +90,22 @@ sooner_size a b c d h = grind (arith, nat_tests)
 pub half_below : (n m : ℕ) → 2 * n ≤ m → n ≤ m / 2
 half_below n m le = omega arith
 
+-- half of what comes before a limit is within the radius
+sooner_half : (c : Candidate) (size base n : ℕ) → comes_sooner (place_of c) (size, base) ≡ true → 2 * n ≤ size →
+    n ≤ radius_of (Some c)
+sooner_half c size base n before half = elim (cases_Bool (eqb c.base 0)) [
+  | inl low ↦
+      let at : c.base ≡ 0 = eqb-true c.base 0 low in
+      let less : size < c.length = sooner_than_first c.length c.base size base at before in
+      subst (λ b. n ≤ cond b ((c.length - 1) / 2) (c.length / 2)) (sym low) (half_below n (c.length - 1) (omega (arith, less, half)))
+  | inr high ↦
+      let no_longer : size ≤ c.length = sooner_size c.length c.base size base before in
+      subst (λ b. n ≤ cond b ((c.length - 1) / 2) (c.length / 2)) (sym high) (half_below n c.length (omega (arith, no_longer, half)))
+]
+  where
+    sooner_than_first : (a b c d : ℕ) → b ≡ 0 → comes_sooner (a, b) (c, d) ≡ true → c < a
+    sooner_than_first a b c d at h = grind (arith, nat_tests)
+
 -- ---- lists of them
 
 -- a loop that is wanted is told
@@ -322,9 +338,8 @@ module _ (mesh : Mesh) (lengths : List ℕ) (surface : IsSurface mesh) (positive
         far (Some c) is v v_in half =
             let before : comes_sooner (place_of c) (place_at mesh lengths searched z e) ≡ true =
             subst (λ o. is_sought o (place_at mesh lengths searched z e) ≡ true) is sought in
-            let no_longer : loop_length mesh lengths (trees z).tree e ≤ c.length =
-            sooner_size c.length c.base (loop_length mesh lengths (trees z).tree e) (least_base mesh searched z e) before in
-            subst (λ o. (trees z).tree.rank v ≤ radius_of o) (sym is) (half_below ((trees z).tree.rank v) c.length (omega arith))
+            subst (λ o. (trees z).tree.rank v ≤ radius_of o) (sym is)
+            (sooner_half c (loop_length mesh lengths (trees z).tree e) (least_base mesh searched z e) ((trees z).tree.rank v) before half)
 
     -- the lesser end of an edge whose ends were reached was settled
     low_settled : (e : ℕ) → e < edge_count mesh → is_between told e ≡ true →

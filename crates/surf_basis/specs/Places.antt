@@ -1,15 +1,15 @@
 -- How far loops are sought, and the lengths and bases of those that were found.
-use Rattle.std.specs.Prelude.{ℕ, ◌/◌, ◌==◌, Bool, List, length, map, filter}
-use Rattle.std.specs.Prelude.{Option, Some, None}
+use Rattle.std.specs.Prelude.{ℕ, ◌-◌, ◌/◌, ◌==◌, Bool, List, length, map, filter}
+use Rattle.std.specs.Prelude.{Option, Some, None, if◌then◌else◌}
 use Rattle.std.specs.List.{list_any}
 use Rattle.surf_surfaces.specs.FewBases.{Place}
 use Rattle.surf_choice.specs.declared.candidate.Candidate.{Candidate}
 use Rattle.surf_choice.specs.declared.candidate.Signed.{Signed}
 
--- how far a search has to go that finds the loops before a limit
+-- how far a search has to go that finds the loops before a limit. No loop as long as a limit at vertex 0 comes before it
 abbrev pub radius_of : Option Candidate → ℕ
 radius_of None = 18446744073709551615
-radius_of (Some c) = c.length / 2
+radius_of (Some c) = if c.base == 0 then (c.length - 1) / 2 else c.length / 2
 
 -- the lengths of those candidates that are at a base
 abbrev pub lengths_at : List Signed → ℕ → List ℕ

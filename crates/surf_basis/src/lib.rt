@@ -44,6 +44,7 @@
 
 mod basis;
 mod cert;
+mod covering;
 mod cut;
 mod cycle;
 mod finding;
@@ -54,6 +55,7 @@ mod nearby;
 mod passing;
 mod placing;
 mod reaching;
+mod rounds;
 mod searching;
 mod shortest;
 mod signing;

@@ -1,0 +1,218 @@
+//! Searches in rounds, at each vertex no farther than it has to be.
+ghost use Rattle.std.specs.Prelude.{◌≡◌, ◌<◌, ◌≤◌, ◌^◌, ℕ, [], All, IfOk, OnOk, length};
+ghost use Rattle.std.specs.Prelude.{◌%◌};
+ghost use Rattle.surf_surfaces.specs.Homology.{IsFullCount};
+ghost use Rattle.surf_surfaces.specs.Surface.{edge_count, IsSurface};
+ghost use Rattle.surf_surfaces.specs.Walk.{ArePositive};
+ghost use Rattle.surf_basis.specs.Found.{surface_of};
+ghost use Rattle.surf_basis.specs.Kept.{HavePlacesOfBasis};
+ghost use Rattle.surf_basis.specs.Rounds.{AreCapped, AreKeptUpTo, AreNoLess, IsCapped, KeepsUpTo, cap_at};
+ghost use Rattle.surf_basis.specs.Signing.{AreSigned};
+ghost use Rattle.surf_base.specs.declared.limits.TheConstants.{MAX_LOOPS};
+
+use crate::covering::raise_caps;
+use crate::finding::Finder;
+use crate::searching::keep_loops;
+use crate::surface::SignedSurface;
+use std::alloc::Global;
+use surf_base::{EdgeId, NoMemory, VertexId};
+use surf_choice::{Candidate, Choice, Signed};
+
+// The earlier of a limit and a cap on lengths. The greatest number caps nothing.
+fn capped(limit: &Option<Candidate>, cap: u64) -> Option<Candidate>
+    ensures capped { IsCapped limit.now cap result }
+{
+    if cap == u64::MAX {
+        return *limit;
+    }
+    match limit {
+        Some(last) if last.length <= cap => *limit,
+        _ => Some(Candidate {
+            length: cap + 1,
+            base: VertexId::new(0),
+            edge: EdgeId::new(0),
+        }),
+    }
+}
+
+// Searches from a vertex as far as a cap, and keeps what is independent of the loops kept before.
+fn search_to(
+    finder: &mut Finder<'_>,
+    base: VertexId,
+    cap: u64,
+    choice: &mut Choice,
+    found: &mut Vec<Signed>,
+) -> Result<(), NoMemory>
+    requires base { base < finder.old.mesh.vertices }
+    requires signed { AreSigned finder.old.mesh finder.old.signs choice.old.width }
+    requires few { (finder.old.mesh.vertices ≤ 2 ^ 32) × (edge_count finder.old.mesh ≤ 2 ^ 32) }
+    ensures kept { OnOk result (KeepsUpTo finder.old base cap choice.old choice.new) }
+    ensures width { choice.new.width ≡ choice.old.width }
+    ensures same { finder.new ≡ finder.old }
+{
+    finder.law_of_finder();
+    finder.find(base, &capped(&choice.limit(), cap), found)?;
+    keep_loops(found, choice)
+}
+
+// Searches from a vertex as far as its cap, unless it was searched as far already.
+fn visit_to(
+    finder: &mut Finder<'_>,
+    base: VertexId,
+    cap: u64,
+    reached: &mut [u64],
+    choice: &mut Choice,
+    found: &mut Vec<Signed>,
+) -> Result<(), NoMemory>
+    requires base { base < finder.old.mesh.vertices }
+    requires reached { length reached.old ≡ finder.old.mesh.vertices }
+    requires signed { AreSigned finder.old.mesh finder.old.signs choice.old.width }
+    requires few { (finder.old.mesh.vertices ≤ 2 ^ 32) × (edge_count finder.old.mesh ≤ 2 ^ 32) }
+    requires kept { AreKeptUpTo finder.old reached.old choice.old }
+    ensures kept { OnOk result (AreKeptUpTo finder.old reached.new choice.new) }
+    ensures there { OnOk result (cap ≤ cap_at reached.new base) }
+    ensures more { AreNoLess reached.old reached.new }
+    ensures count { length reached.new ≡ length reached.old }
+    ensures width { choice.new.width ≡ choice.old.width }
+    ensures same { finder.new ≡ finder.old }
+{
+    if reached[base.index()] < cap {
+        search_to(finder, base, cap, choice, found)?;
+        reached[base.index()] = cap;
+    }
+    Ok(())
+}
+
+// Searches from the vertices whose numbers a step divides, each as far as its cap.
+fn search_each(
+    finder: &mut Finder<'_>,
+    step: u32,
+    caps: &[u64],
+    reached: &mut [u64],
+    choice: &mut Choice,
+    found: &mut Vec<Signed>,
+) -> Result<(), NoMemory>
+    requires step { 0 < step }
+    requires caps { length caps.now ≡ finder.old.mesh.vertices }
+    requires reached { length reached.old ≡ finder.old.mesh.vertices }
+    requires signed { AreSigned finder.old.mesh finder.old.signs choice.old.width }
+    requires few { (finder.old.mesh.vertices ≤ 2 ^ 32) × (edge_count finder.old.mesh ≤ 2 ^ 32) }
+    requires kept { AreKeptUpTo finder.old reached.old choice.old }
+    ensures kept { OnOk result (AreKeptUpTo finder.old reached.new choice.new) }
+    ensures each { OnOk result ((v : ℕ) → v < length caps.now → v % step ≡ 0 →
+        cap_at caps.now v ≤ cap_at reached.new v) }
+    ensures count { length reached.new ≡ length reached.old }
+    ensures width { choice.new.width ≡ choice.old.width }
+    ensures same { finder.new ≡ finder.old }
+{
+    for v in 0..finder.vertices() {
+        if v % step == 0 {
+            let base = VertexId::new(v);
+            visit_to(finder, base, caps[base.index()], reached, choice, found)?;
+        }
+    }
+    Ok(())
+}
+
+// A round: caps are raised to what edges ask for by what is kept, though to no more than a length,
+// and all vertices are searched as far. Some that are scattered come first, so that short loops of
+// all parts are found soon.
+fn run_round(
+    alloc: Global,
+    surface: &SignedSurface<'_>,
+    finder: &mut Finder<'_>,
+    most: u64,
+    reached: &mut [u64],
+    choice: &mut Choice,
+) -> Result<(), NoMemory>
+    requires finder { finder.old ≡ surface_of surface.now }
+    requires reached { length reached.old ≡ surface.now.mesh.now.vertices }
+    requires signed { AreSigned surface.now.mesh.now surface.now.signatures.now choice.old.width }
+    requires kept { AreKeptUpTo finder.old reached.old choice.old }
+    ensures kept { OnOk result (AreKeptUpTo finder.old reached.new choice.new) }
+    ensures capped { OnOk result (AreCapped surface.now.mesh.now surface.now.signatures.now
+        choice.old.kept most reached.new) }
+    ensures count { length reached.new ≡ length reached.old }
+    ensures width { choice.new.width ≡ choice.old.width }
+    ensures same { finder.new ≡ finder.old }
+{
+    surface.mesh.law_of_surface();
+    let mut caps = vec![in alloc; 0u64; reached.len()]?;
+    caps.copy_from_slice(reached);
+    raise_caps(alloc, surface, choice, most, &mut caps)?;
+    let mut found = Vec::new(alloc);
+    search_each(finder, 64, &caps, reached, choice, &mut found)?;
+    search_each(finder, 1, &caps, reached, choice, &mut found)
+}
+
+// The length of the last loop that is kept, and 0 where none is.
+fn longest_kept(choice: &Choice) -> u64
+{
+    match choice.kept() {
+        [.., last] => last.candidate.length,
+        [] => 0,
+    }
+}
+
+// Rounds that find short loops. What they keep makes the heights of edges low for those to come.
+fn run_short_rounds(
+    alloc: Global,
+    surface: &SignedSurface<'_>,
+    finder: &mut Finder<'_>,
+    reached: &mut [u64],
+    choice: &mut Choice,
+) -> Result<(), NoMemory>
+    requires finder { finder.old ≡ surface_of surface.now }
+    requires reached { length reached.old ≡ surface.now.mesh.now.vertices }
+    requires signed { AreSigned surface.now.mesh.now surface.now.signatures.now choice.old.width }
+    requires kept { AreKeptUpTo finder.old reached.old choice.old }
+    ensures kept { OnOk result (AreKeptUpTo finder.old reached.new choice.new) }
+    ensures count { length reached.new ≡ length reached.old }
+    ensures width { choice.new.width ≡ choice.old.width }
+    ensures same { finder.new ≡ finder.old }
+{
+    let mut most = match choice.kept() {
+        [first, ..] => first.candidate.length.saturating_mul(4),
+        [] => u64::MAX,
+    };
+    for _ in 0..32 {
+        if longest_kept(choice) <= most.saturating_add(most / 4) {
+            return Ok(());
+        }
+        run_round(alloc, surface, finder, most, reached, choice)?;
+        most = most.saturating_mul(4);
+    }
+    Ok(())
+}
+
+/// Loops among whose lengths and least bases are the lengths and the bases of the basis that is
+/// chosen. The first are found at vertex 0, as far as the surface goes. Then each round searches
+/// up to a length, four times that of the round before, and the last one up to any.
+pub(crate) fn capped_loops(
+    alloc: Global,
+    surface: &SignedSurface<'_>,
+    finder: &mut Finder<'_>,
+    count: usize,
+) -> Result<Choice, NoMemory>
+    requires finder { finder.old ≡ surface_of surface.now }
+    requires lengths { length surface.now.lengths.now ≡ edge_count surface.now.mesh.now }
+    requires signed { AreSigned surface.now.mesh.now surface.now.signatures.now count }
+    requires full { IsFullCount surface.now.mesh.now count }
+    requires few { count ≤ MAX_LOOPS }
+    ensures inside { IfOk result (λ found.
+        All (λ s. s.candidate.base < surface.now.mesh.now.vertices) found.kept) }
+    ensures places { IfOk result (λ found. HavePlacesOfBasis surface.now.mesh.now
+        surface.now.lengths.now found.kept) }
+    ensures same { finder.new ≡ finder.old }
+{
+    surface.mesh.law_of_surface();
+    surface.lengths.law_of_lengths();
+    let mut choice = Choice::make(alloc, count as u32)?;
+    let mut reached = vec![in alloc; 0u64; surface.mesh.vertices() as usize]?;
+    let mut found = Vec::new(alloc);
+    visit_to(finder, VertexId::new(0), u64::MAX, &mut reached, &mut choice, &mut found)?;
+    run_short_rounds(alloc, surface, finder, &mut reached, &mut choice)?;
+    run_round(alloc, surface, finder, u64::MAX, &mut reached, &mut choice)?;
+    choice.law_of_choice();
+    Ok(choice)
+}
