@@ -23,3 +23,4 @@ pub mod PassedOver
 pub mod Meeting
 pub mod OnCut
 pub mod Capped
+pub mod Asked

@@ -309,7 +309,7 @@ module _ (mesh : Mesh) (lengths : List ℕ) (trees : ℕ → Tree) (surface : Is
 
   -- ---- at the end
 
-  classes_are : (cs : List Signed) → AllByRecursion Right cs →
+  pub classes_are : (cs : List Signed) → AllByRecursion Right cs →
       map (class_of mesh d) (walks_found (map (found_of mesh trees) cs)) ≡ map (λ c. c.signature) cs
   classes_are [] h = refl
   classes_are (c ∷ cs) h =

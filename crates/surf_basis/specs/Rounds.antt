@@ -1,6 +1,6 @@
 -- Searches as far as a cap of each vertex: what is sought there, what is kept of it, and how great caps have to be.
 use Rattle.std.specs.Prelude.{ℕ, ◌≡◌, ◌≢◌, ◌<◌, ◌≤◌, ◌⊎◌, ◌&&◌, ◌||◌, nat_le, min, Bool, IsTrue, List, All, Contains, length, map}
-use Rattle.std.specs.Prelude.{slice_index, slice_index_or, slice_set, Option}
+use Rattle.std.specs.Prelude.{slice_index, slice_index_or, slice_set, Option, Some, None, [], ◌∷◌, ◌*◌, false}
 use Rattle.surf_z2.specs.Order.{IsInOrder}
 use Rattle.surf_z2.specs.Space.{numbers, Independent}
 use Rattle.surf_graphs.specs.Cells.{Split, IsSplit}
@@ -87,3 +87,15 @@ AreNoLess old new = (v : ℕ) → cap_at old v ≤ cap_at new v
 abbrev pub AreAsks : CotreeTables → List Signed → ℕ → ℕ → List Ask → Type 0
 AreAsks s kept most below asks = (e : ℕ) → e < below → slice_index s.signatures e ≢ 0 →
     (a : Ask) × Contains asks a × (a.edge ≡ e) × ((ask : ℕ) × IsAsked kept ask (slice_index s.signatures e) × (a.length ≡ min ask most))
+
+-- ---- how long loops are that a round seeks
+
+-- there is a limit, and it is no longer than a number
+abbrev pub is_limit_below : Option Candidate → ℕ → Bool
+is_limit_below None most = false
+is_limit_below (Some c) most = nat_le c.length most
+
+-- four times the length of the first of those kept, as far as a number goes
+abbrev pub most_at_first : List Signed → ℕ
+most_at_first [] = 18446744073709551615
+most_at_first (s ∷ rest) = min (s.candidate.length * 4) 18446744073709551615

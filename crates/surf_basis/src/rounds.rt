@@ -1,5 +1,5 @@
 //! Searches in rounds, at each vertex no farther than it has to be.
-ghost use Rattle.std.specs.Prelude.{◌≡◌, ◌<◌, ◌≤◌, ◌^◌, ℕ, [], All, IfOk, OnOk, length};
+ghost use Rattle.std.specs.Prelude.{◌≡◌, ◌<◌, ◌≤◌, ◌^◌, ◌+◌, ◌/◌, ℕ, [], All, IfOk, OnOk, length, min};
 ghost use Rattle.std.specs.Prelude.{◌%◌};
 ghost use Rattle.surf_surfaces.specs.Homology.{IsFullCount};
 ghost use Rattle.surf_surfaces.specs.Surface.{edge_count, IsSurface};
@@ -7,6 +7,8 @@ ghost use Rattle.surf_surfaces.specs.Walk.{ArePositive};
 ghost use Rattle.surf_basis.specs.Found.{surface_of};
 ghost use Rattle.surf_basis.specs.Kept.{HavePlacesOfBasis};
 ghost use Rattle.surf_basis.specs.Rounds.{AreCapped, AreKeptUpTo, AreNoLess, IsCapped, KeepsUpTo, cap_at};
+ghost use Rattle.surf_basis.specs.Rounds.{is_limit_below, most_at_first};
+ghost use Rattle.surf_choice.specs.Places.{limit_of};
 ghost use Rattle.surf_basis.specs.Signing.{AreSigned};
 ghost use Rattle.surf_base.specs.declared.limits.TheConstants.{MAX_LOOPS};
 
@@ -145,12 +147,23 @@ fn run_round(
     search_each(finder, 1, &caps, reached, choice, &mut found)
 }
 
-// The length of the last loop that is kept, and 0 where none is.
-fn longest_kept(choice: &Choice) -> u64
+// Four times the length of the first loop that is kept.
+fn first_most(choice: &Choice) -> u64
+    ensures first { result ≡ most_at_first choice.now.kept }
 {
     match choice.kept() {
-        [.., last] => last.candidate.length,
-        [] => 0,
+        [first, ..] => first.candidate.length.saturating_mul(4),
+        [] => u64::MAX,
+    }
+}
+
+// Whether as many loops are kept as may be, none of them much longer than a length.
+fn are_shorter(choice: &Choice, most: u64) -> bool
+    ensures shorter { result ≡ is_limit_below (limit_of choice.now) (min (most + most / 4) 18446744073709551615) }
+{
+    match choice.limit() {
+        Some(last) => last.length <= most.saturating_add(most / 4),
+        None => false,
     }
 }
 
@@ -171,12 +184,9 @@ fn run_short_rounds(
     ensures width { choice.new.width ≡ choice.old.width }
     ensures same { finder.new ≡ finder.old }
 {
-    let mut most = match choice.kept() {
-        [first, ..] => first.candidate.length.saturating_mul(4),
-        [] => u64::MAX,
-    };
+    let mut most = first_most(choice);
     for _ in 0..32 {
-        if longest_kept(choice) <= most.saturating_add(most / 4) {
+        if are_shorter(choice, most) {
             return Ok(());
         }
         run_round(alloc, surface, finder, most, reached, choice)?;
