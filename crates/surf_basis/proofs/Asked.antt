@@ -68,7 +68,7 @@ caps_start caps limit z = both_start (is_within_cap (cap_at caps z)) (is_sought 
 within_by_size : (cap size base : ℕ) → size ≤ cap → is_within_cap cap (size, base) ≡ true
 within_by_size cap size base le = or_left (nat_le size cap) (nat_le 18446744073709551615 cap) (le-leb size cap le)
 
-within_by_none : (cap : ℕ) (p : Place) → 18446744073709551615 ≤ cap → is_within_cap cap p ≡ true
+pub within_by_none : (cap : ℕ) (p : Place) → 18446744073709551615 ≤ cap → is_within_cap cap p ≡ true
 within_by_none cap p le = or_right (nat_le p.0 cap) (nat_le 18446744073709551615 cap) (le-leb 18446744073709551615 cap le)
 
 -- ---- heights by what edges ask
@@ -80,7 +80,8 @@ count_of kept ask set (inr h) = Some h.count
 
 count_in : (kept : List Signed) (ask set n : ℕ) (x : IsAsked kept ask set) → count_of kept ask set x ≡ Some n →
     (n ≤ length kept) × Spanned numbers (signatures (take n kept)) set
-count_in kept ask set n (inl all) is = absurd cc
+unfolding count_of
+count_in kept ask set n (inl all) is = cc
 count_in kept ask set n (inr h) is =
     let same : h.count ≡ n = cc in
     subst (λ m. (m ≤ length kept) × Spanned numbers (signatures (take m kept)) set) same (h.count_in, h.sum)
@@ -90,6 +91,7 @@ asked_within : (kept : List Signed) (ask set most cap size base : ℕ) (x : IsAs
     18446744073709551615 ≤ most → min ask most ≤ cap →
     asks (map (λ (s : Signed). s.candidate.length) kept) (count_of kept ask set x) size ≡ true →
     is_within_cap cap (size, base) ≡ true
+unfolding count_of
 asked_within kept ask set most cap size base (inl all) big le on =
     within_by_none cap (size, base) (omega (arith, all, big, le))
 asked_within kept ask set most cap size base (inr h) big le on = of h.count refl on
@@ -153,6 +155,7 @@ module _ (mesh : Mesh) (lengths : List ℕ) (trees : ℕ → Tree) (surface : Is
   right_front n = All-take (IsFound mesh lengths trees d) n kept right
 
   heights : AreHeights mesh d (walks_found loops) height
+  unfolding count_of height
   heights = record {
     within = λ e n e_in is.
         (let h = count_in kept (ask_at e).ask (slice_index s.signatures e) n (ask_at e).asked is in
@@ -172,6 +175,7 @@ module _ (mesh : Mesh) (lengths : List ℕ) (trees : ℕ → Tree) (surface : Is
 
   asked_ends : (limit : Option Candidate) → HaveAskedEnds mesh (map (λ (c : Signed). c.candidate.length) kept) height
       (is_sought limit) (sought_to caps limit)
+  unfolding count_of height
   asked_ends limit e place e_in sought on =
       elim ((ask_at e).capped_end e_in) [
         | inl low ↦ inl (and_from (is_within_cap (cap_at caps (ends mesh e).0) place) (is_sought limit place)

@@ -24,3 +24,5 @@ pub mod Meeting
 pub mod OnCut
 pub mod Capped
 pub mod Asked
+pub mod Capping
+pub mod Rounded

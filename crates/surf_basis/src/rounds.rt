@@ -185,7 +185,7 @@ fn run_short_rounds(
     ensures same { finder.new ≡ finder.old }
 {
     let mut most = first_most(choice);
-    for _ in 0..32 {
+    for _round in 0..32 {
         if are_shorter(choice, most) {
             return Ok(());
         }
