@@ -16,7 +16,9 @@ use Rattle.surf_choice.specs.declared.candidate.Signed.{Signed}
 use Rattle.surf_choice.specs.Places.{place_of, is_sought}
 use Rattle.surf_basis.specs.declared.covering.Ask.{Ask}
 use Rattle.surf_basis.specs.Rounds.{is_within_cap, cap_at, IsCapped, IsAsked, HasCappedEnd, AreCapped, AreNoLess, AreAsks}
+use Rattle.surf_basis.specs.Marks.{by_degree}
 use Rattle.surf_basis.proofs.Asked.{within_by_none}
+use Rattle.surf_basis.proofs.Degrees.{as_read_or_turned}
 
 -- ---- the earlier of a limit and a cap
 
@@ -83,6 +85,15 @@ raised_no_less caps v cap l le u = elim (cases_eq u v) [
       let was : get_or caps u 0 ≡ get_or caps v 0 = ap (λ x. get_or caps x 0) same in
       omega (arith, is, was, le)
   | inr ne ↦ let is : get_or (set caps v cap) u 0 ≡ get_or caps u 0 = get_or-set_other caps v u cap 0 ne in omega (arith, is)
+]
+
+-- the one of an edge's ends that comes second by degree has the cap to which it is raised
+pub raised_at_end : (mesh : Mesh) (degree : ℕ → ℕ) (caps : List ℕ) (least e v : ℕ) (p q : ℕ × ℕ) → p ≡ ends mesh e →
+    q ≡ by_degree degree p → v ≡ q.1 → v < length caps → HasCappedEnd mesh (set caps v least) least e
+raised_at_end mesh degree caps least e v p q is turned at l = elim (as_read_or_turned degree p q turned) [
+  | inl same ↦ inr (subst (λ u. least ≤ cap_at (set caps v least) u) (at ∙ ap (λ (r : ℕ × ℕ). r.1) (same ∙ is)) (raised_there caps v least l))
+  | inr other ↦ inl (subst (λ u. least ≤ cap_at (set caps v least) u) (at ∙ ap (λ (r : ℕ × ℕ). r.1) other ∙ ap (λ (r : ℕ × ℕ). r.0) is)
+      (raised_there caps v least l))
 ]
 
 pub same_no_less : (caps : List ℕ) → AreNoLess caps caps

@@ -2,8 +2,8 @@ use Rattle.std.proofs.Common.{◌≡◌, ℕ, length}
 use Rattle.surf_basis.specs.Rounds.{AreKeptUpTo}
 use Rattle.surf_basis.proofs.rounds.run_short_rounds.Given as goal
 
-abbrev pub invariant-loop-_round : goal.invariant-loop-_round
-invariant-loop-_round l = record {
+abbrev pub invariant-loop-round : goal.invariant-loop-round
+invariant-loop-round l = record {
   same : l.finder ≡ l.fn.finder;
   width : l.choice.width ≡ l.fn.choice.width;
   count : length l.reached ≡ length l.fn.reached;

@@ -1,0 +1,34 @@
+use Rattle.std.proofs.Common.{◌≡◌, ℕ, ◌<◌, ◌≤◌, length, set, slice_index, refl, sym, ap, ◌∙◌, subst, arith, inl, inr}
+use Rattle.surf_surfaces.specs.Surface.{ends, edge_count}
+use Rattle.surf_basis.specs.Marks.{by_degree}
+use Rattle.surf_basis.specs.Rounds.{HasCappedEnd, AreNoLess, cap_at}
+use Rattle.surf_basis.proofs.Marked.{ends_inside, either_below}
+use Rattle.surf_basis.proofs.Degrees.{as_read_or_turned}
+use Rattle.surf_basis.proofs.Capping.{raised_at_end}
+use Rattle.surf_basis.proofs.covering.raise.Goals as goal
+
+pub bounds-caps-index : goal.bounds-caps-index
+bounds-caps-index c =
+    let inside = ends_inside c.args.mesh.now c.law_of_surface.ensures.surface c.args.ask.edge c.requires.edge c.ends-low.result c.ends-low.ensures in
+    omega (arith, inside.0, c.requires.caps, c.index.ensures)
+
+pub bounds-caps-index-then-caps-index : goal.bounds-caps-index-then-caps-index
+bounds-caps-index-then-caps-index c =
+    let inside = ends_inside c.args.mesh.now c.law_of_surface.ensures.surface c.args.ask.edge c.requires.edge c.ends-low.result c.ends-low.ensures in
+    omega (arith, inside.1, c.requires.caps, ?)
+
+pub lesser_first-busier-requires-clause-low : goal.lesser_first-busier-requires-clause-low
+lesser_first-busier-requires-clause-low c =
+    let inside = ends_inside c.args.mesh.now c.law_of_surface.ensures.surface c.args.ask.edge c.requires.edge c.ends-low.result c.ends-low.ensures in
+    omega (arith, inside.0, c.requires.degrees)
+
+pub lesser_first-busier-requires-clause-high : goal.lesser_first-busier-requires-clause-high
+lesser_first-busier-requires-clause-high c =
+    let inside = ends_inside c.args.mesh.now c.law_of_surface.ensures.surface c.args.ask.edge c.requires.edge c.ends-low.result c.ends-low.ensures in
+    omega (arith, inside.1, c.requires.degrees)
+
+pub bounds-caps-index-then-caps-index-2 : goal.bounds-caps-index-then-caps-index-2
+bounds-caps-index-then-caps-index-2 c = ?
+
+pub returns-then-caps-index-2-clause-capped : goal.returns-then-caps-index-2-clause-capped
+returns-then-caps-index-2-clause-capped c = ?
