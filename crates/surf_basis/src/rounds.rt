@@ -195,6 +195,31 @@ fn run_short_rounds(
     Ok(())
 }
 
+// The last round, up to any length: what is kept then has the places of the basis.
+fn run_last(
+    alloc: Global,
+    surface: &SignedSurface<'_>,
+    finder: &mut Finder<'_>,
+    reached: &mut [u64],
+    choice: &mut Choice,
+) -> Result<(), NoMemory>
+    requires finder { finder.old ≡ surface_of surface.now }
+    requires reached { length reached.old ≡ surface.now.mesh.now.vertices }
+    requires signed { AreSigned surface.now.mesh.now surface.now.signatures.now choice.old.width }
+    requires kept { AreKeptUpTo finder.old reached.old choice.old }
+    requires full { IsFullCount surface.now.mesh.now choice.old.width }
+    ensures inside { OnOk result (All (λ s. s.candidate.base < surface.now.mesh.now.vertices)
+        choice.new.kept) }
+    ensures places { OnOk result (HavePlacesOfBasis surface.now.mesh.now surface.now.lengths.now
+        choice.new.kept) }
+    ensures same { finder.new ≡ finder.old }
+{
+    finder.law_of_finder();
+    run_round(alloc, surface, finder, u64::MAX, reached, choice)?;
+    choice.law_of_choice();
+    Ok(())
+}
+
 /// Loops among whose lengths and least bases are the lengths and the bases of the basis that is
 /// chosen. The first are found at vertex 0, as far as the surface goes. Then each round searches
 /// up to a length, four times that of the round before, and the last one up to any.
@@ -205,7 +230,6 @@ pub(crate) fn capped_loops(
     count: usize,
 ) -> Result<Choice, NoMemory>
     requires finder { finder.old ≡ surface_of surface.now }
-    requires lengths { length surface.now.lengths.now ≡ edge_count surface.now.mesh.now }
     requires signed { AreSigned surface.now.mesh.now surface.now.signatures.now count }
     requires full { IsFullCount surface.now.mesh.now count }
     requires few { count ≤ MAX_LOOPS }
@@ -216,13 +240,19 @@ pub(crate) fn capped_loops(
     ensures same { finder.new ≡ finder.old }
 {
     surface.mesh.law_of_surface();
-    surface.lengths.law_of_lengths();
+    finder.law_of_finder();
     let mut choice = Choice::make(alloc, count as u32)?;
     let mut reached = vec![in alloc; 0u64; surface.mesh.vertices() as usize]?;
     let mut found = Vec::new(alloc);
-    visit_to(finder, VertexId::new(0), u64::MAX, &mut reached, &mut choice, &mut found)?;
+    visit_to(
+        finder,
+        VertexId::new(0),
+        u64::MAX,
+        &mut reached,
+        &mut choice,
+        &mut found,
+    )?;
     run_short_rounds(alloc, surface, finder, &mut reached, &mut choice)?;
-    run_round(alloc, surface, finder, u64::MAX, &mut reached, &mut choice)?;
-    choice.law_of_choice();
+    run_last(alloc, surface, finder, &mut reached, &mut choice)?;
     Ok(choice)
 }
