@@ -60,6 +60,19 @@ module _ (mesh : Mesh) (lengths : List ℕ) (trees : ℕ → Tree) (surface : Is
       nothing_chosen [] = refl
       nothing_chosen (b ∷ bs) = refl
 
+  -- what is kept is enough for no vertices
+  pub kept_of_none : (limit : Option Candidate) (caps : List ℕ) (kept : List Signed) → KeptTo limit caps kept →
+      AreKeptOf mesh lengths trees d limit no_member kept
+  kept_of_none limit caps kept k = record {
+    enough = record {
+      loops = loops_found mesh lengths trees surface positive shortest d split kept k.each;
+      depend = λ y e y_in in_set e_in sought. absurd (false≢true in_set);
+    };
+    each = k.each;
+    order = k.order;
+    independent = k.independent;
+  }
+
   -- what is sought with another cap for one vertex was sought, or is sought there by the search
   set_sought : (limit fewer capped : Option Candidate) (caps : List ℕ) (z cap : ℕ) → z < length caps →
       ((p : Place) → IsTrue (is_sought fewer p) → IsTrue (is_sought limit p)) → IsCapped limit cap capped →

@@ -260,22 +260,6 @@ module _ (mesh : Mesh) (lengths : List ℕ) (trees : ℕ → Tree) (surface : Is
     independent = k.independent;
   }
 
-  pub kept_begun : (choice : Chosen) (set : ℕ → Bool) → choice.kept ≡ [] → ((v : ℕ) → IsTrue (set v) → ⊥) →
-      Kept (limit_of choice) set choice.kept
-  kept_begun choice set none unmarked = subst (λ ks. Kept (limit_of choice) set ks) (sym none) (record {
-    enough = (loops_grow_enough mesh lengths trees surface shortest).fewer (is_sought (limit_of choice))
-        (is_sought (limit_of choice)) no_member set []
-        ((loops_grow_enough mesh lengths trees surface shortest).none (is_sought (limit_of choice))) (λ p sought. sought)
-        (λ v in'. absurd (unmarked v in'));
-    each = λ k c l. absurd (omega arith);
-    order = λ i j c before l. absurd (omega arith);
-    independent = λ flags sum. nothing_chosen flags;
-  })
-    where
-      nothing_chosen : (flags : List Bool) → chosen flags (map (λ (c : Signed). c.signature) []) ≡ []
-      nothing_chosen [] = refl
-      nothing_chosen (b ∷ bs) = refl
-
   -- base and edge of what was found have 32 bits
   pub found_short : mesh.vertices ≤ 2 ^ 32 → edge_count mesh ≤ 2 ^ 32 → (cs : List Signed) → All Right cs → All IsShort cs
   found_short few_v few_e cs h = λ j c j_in. (let r : Right (get_or cs j c) = h j c j_in in

@@ -1,7 +1,10 @@
 -- How far loops are sought, and the lengths and bases of those that were found.
-use Rattle.std.specs.Prelude.{ℕ, ◌-◌, ◌/◌, ◌==◌, Bool, List, length, map, filter}
+use Rattle.std.specs.Prelude.{ℕ, ◌≡◌, ◌<◌, ◌-◌, ◌/◌, ◌==◌, Bool, List, length, map, filter, slice_index}
 use Rattle.std.specs.Prelude.{Option, Some, None, if◌then◌else◌}
 use Rattle.std.specs.List.{list_any}
+use Rattle.surf_graphs.specs.Trees.{Tree}
+use Rattle.surf_surfaces.specs.Mesh.{Mesh}
+use Rattle.surf_surfaces.specs.ShortestTree.{IsShortestTree}
 use Rattle.surf_surfaces.specs.FewBases.{Place}
 use Rattle.surf_choice.specs.declared.candidate.Candidate.{Candidate}
 use Rattle.surf_choice.specs.declared.candidate.Signed.{Signed}
@@ -21,3 +24,8 @@ has_length lengths length = list_any (λ n. n == length) lengths
 -- a place is that of one of some candidates
 abbrev pub is_placed : List Signed → Place → Bool
 is_placed found place = has_length (lengths_at found place.1) place.0
+
+-- each number is the distance of a vertex from a base, by each tree of shortest walks
+abbrev pub AreDistances : Mesh → List ℕ → ℕ → List ℕ → Type 0
+AreDistances mesh lengths base list = (tree : Tree) → IsShortestTree mesh lengths base tree → (i : ℕ) → i < length list →
+    (v : ℕ) × (v < mesh.vertices) × (tree.rank v ≡ slice_index list i)

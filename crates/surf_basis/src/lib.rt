@@ -44,6 +44,7 @@
 
 mod basis;
 mod cert;
+mod costs;
 mod covering;
 mod cut;
 mod cycle;

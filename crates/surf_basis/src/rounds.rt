@@ -4,7 +4,8 @@ ghost use Rattle.std.specs.Prelude.{◌%◌};
 ghost use Rattle.surf_surfaces.specs.Homology.{IsFullCount};
 ghost use Rattle.surf_surfaces.specs.Surface.{edge_count, IsSurface};
 ghost use Rattle.surf_surfaces.specs.Walk.{ArePositive};
-ghost use Rattle.surf_basis.specs.Found.{surface_of};
+ghost use Rattle.surf_surfaces.specs.FewBases.{MeetsAll};
+ghost use Rattle.surf_basis.specs.Found.{surface_of, is_among};
 ghost use Rattle.surf_basis.specs.Kept.{HavePlacesOfBasis};
 ghost use Rattle.surf_basis.specs.Rounds.{AreCapped, AreKeptUpTo, AreNoLess, IsCapped, KeepsUpTo, cap_at};
 ghost use Rattle.surf_basis.specs.Rounds.{is_limit_below, most_at_first};
@@ -12,9 +13,10 @@ ghost use Rattle.surf_choice.specs.Places.{limit_of};
 ghost use Rattle.surf_basis.specs.Signing.{AreSigned};
 ghost use Rattle.surf_base.specs.declared.limits.TheConstants.{MAX_LOOPS};
 
+use crate::costs::is_cut_cheaper;
 use crate::covering::raise_caps;
 use crate::finding::Finder;
-use crate::searching::keep_loops;
+use crate::searching::{keep_loops, search_vertices};
 use crate::surface::SignedSurface;
 use std::alloc::Global;
 use surf_base::{EdgeId, NoMemory, VertexId};
@@ -220,17 +222,82 @@ fn run_last(
     Ok(())
 }
 
-/// Loops among whose lengths and least bases are the lengths and the bases of the basis that is
-/// chosen. The first are found at vertex 0, as far as the surface goes. Then each round searches
-/// up to a length, four times that of the round before, and the last one up to any.
-pub(crate) fn capped_loops(
+// Keeps what short rounds have left, by searches from the vertices of a list or by a last round,
+// whichever costs less.
+fn search_rest(
     alloc: Global,
     surface: &SignedSurface<'_>,
+    vertices: &[VertexId],
+    finder: &mut Finder<'_>,
+    reached: &mut [u64],
+    choice: &mut Choice,
+) -> Result<(), NoMemory>
+    requires finder { finder.old ≡ surface_of surface.now }
+    requires lengths { length surface.now.lengths.now ≡ edge_count surface.now.mesh.now }
+    requires reached { length reached.old ≡ surface.now.mesh.now.vertices }
+    requires signed { AreSigned surface.now.mesh.now surface.now.signatures.now choice.old.width }
+    requires kept { AreKeptUpTo finder.old reached.old choice.old }
+    requires vertices { All (λ v. v < surface.now.mesh.now.vertices) vertices.now }
+    requires met { MeetsAll surface.now.mesh.now (is_among vertices.now) }
+    requires full { IsFullCount surface.now.mesh.now choice.old.width }
+    ensures inside { OnOk result (All (λ s. s.candidate.base < surface.now.mesh.now.vertices)
+        choice.new.kept) }
+    ensures places { OnOk result (HavePlacesOfBasis surface.now.mesh.now surface.now.lengths.now
+        choice.new.kept) }
+    ensures same { finder.new ≡ finder.old }
+{
+    finder.law_of_finder();
+    if is_cut_cheaper(alloc, surface, finder, vertices.len(), reached, choice)? {
+        return search_vertices(alloc, surface, vertices, finder, choice);
+    }
+    run_last(alloc, surface, finder, reached, choice)
+}
+
+// Keeps loops among whose lengths and least bases are the lengths and the bases of the basis that
+// is chosen. The first are found at vertex 0, as far as the surface goes.
+fn keep_sufficient(
+    alloc: Global,
+    surface: &SignedSurface<'_>,
+    vertices: &[VertexId],
+    finder: &mut Finder<'_>,
+    reached: &mut [u64],
+    choice: &mut Choice,
+) -> Result<(), NoMemory>
+    requires finder { finder.old ≡ surface_of surface.now }
+    requires lengths { length surface.now.lengths.now ≡ edge_count surface.now.mesh.now }
+    requires reached { length reached.old ≡ surface.now.mesh.now.vertices }
+    requires signed { AreSigned surface.now.mesh.now surface.now.signatures.now choice.old.width }
+    requires kept { AreKeptUpTo finder.old reached.old choice.old }
+    requires vertices { All (λ v. v < surface.now.mesh.now.vertices) vertices.now }
+    requires met { MeetsAll surface.now.mesh.now (is_among vertices.now) }
+    requires full { IsFullCount surface.now.mesh.now choice.old.width }
+    ensures inside { OnOk result (All (λ s. s.candidate.base < surface.now.mesh.now.vertices)
+        choice.new.kept) }
+    ensures places { OnOk result (HavePlacesOfBasis surface.now.mesh.now surface.now.lengths.now
+        choice.new.kept) }
+    ensures same { finder.new ≡ finder.old }
+{
+    surface.mesh.law_of_surface();
+    let mut found = Vec::new(alloc);
+    visit_to(finder, VertexId::new(0), u64::MAX, reached, choice, &mut found)?;
+    run_short_rounds(alloc, surface, finder, reached, choice)?;
+    search_rest(alloc, surface, vertices, finder, reached, choice)
+}
+
+/// Loops among whose lengths and least bases are the lengths and the bases of the basis that is
+/// chosen, where every closed walk that isn't null meets one of some vertices.
+pub(crate) fn sufficient_loops(
+    alloc: Global,
+    surface: &SignedSurface<'_>,
+    vertices: &[VertexId],
     finder: &mut Finder<'_>,
     count: usize,
 ) -> Result<Choice, NoMemory>
     requires finder { finder.old ≡ surface_of surface.now }
+    requires lengths { length surface.now.lengths.now ≡ edge_count surface.now.mesh.now }
     requires signed { AreSigned surface.now.mesh.now surface.now.signatures.now count }
+    requires vertices { All (λ v. v < surface.now.mesh.now.vertices) vertices.now }
+    requires met { MeetsAll surface.now.mesh.now (is_among vertices.now) }
     requires full { IsFullCount surface.now.mesh.now count }
     requires few { count ≤ MAX_LOOPS }
     ensures inside { IfOk result (λ found.
@@ -243,16 +310,13 @@ pub(crate) fn capped_loops(
     finder.law_of_finder();
     let mut choice = Choice::make(alloc, count as u32)?;
     let mut reached = vec![in alloc; 0u64; surface.mesh.vertices() as usize]?;
-    let mut found = Vec::new(alloc);
-    visit_to(
+    keep_sufficient(
+        alloc,
+        surface,
+        vertices,
         finder,
-        VertexId::new(0),
-        u64::MAX,
         &mut reached,
         &mut choice,
-        &mut found,
     )?;
-    run_short_rounds(alloc, surface, finder, &mut reached, &mut choice)?;
-    run_last(alloc, surface, finder, &mut reached, &mut choice)?;
     Ok(choice)
 }
