@@ -7,8 +7,8 @@ use Rattle.surf_basis.proofs.Looped.{signs_long}
 use Rattle.surf_basis.proofs.Sufficient.{bases_inside, places_enough}
 use Rattle.surf_basis.proofs.searching.search_vertices.Goals as goal
 
-pub make-requires-2-clause-signatures : goal.make-requires-2-clause-signatures
-make-requires-2-clause-signatures c =
+pub make-requires-clause-signatures : goal.make-requires-clause-signatures
+make-requires-clause-signatures c =
     signs_long c.args.surface.now.mesh.now c.args.surface.now.signatures.now c.args.choice.now.width c.requires.signed
 
 pub returns-clause-inside : goal.returns-clause-inside

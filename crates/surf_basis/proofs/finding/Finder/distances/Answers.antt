@@ -14,7 +14,7 @@ list_distances-requires c =
     let mesh = inside.surface.mesh.now in
     let lengths = inside.links.lengths in
     let z = c.args.base in
-    let far = 18446744073709551615 in
+    let far : ℕ = 18446744073709551615 in
     let t = c.grow.new.self in
     let surface = c.law_of_surface.ensures.surface in
     let positive = links_positive mesh inside.links.mesh lengths inside.links.rows c.self.invariant.0 c.law_of_links.ensures.links in
@@ -34,7 +34,7 @@ returns-clause-each c =
     let mesh = inside.surface.mesh.now in
     let lengths = inside.links.lengths in
     let z = c.args.base in
-    let far = 18446744073709551615 in
+    let far : ℕ = 18446744073709551615 in
     let t = c.grow.new.self in
     let near = near_there mesh inside.links.mesh lengths inside.links.lengths z far far t c.self.invariant.0 refl refl c.grow.ensures.near in
     subst (λ (v : SurfaceTables). IfOk c.list_distances.result (λ list. AreDistances v.mesh v.lengths z list.items)) c.self.view_is
