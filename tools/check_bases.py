@@ -8,8 +8,8 @@ for each, all loops in order of length, base and edge, and of these what is inde
 nothing with the program and takes a search at every vertex. `loops`, `basis` and `cycle` have to print the same bytes.
 Surfaces of both kinds are made from tori, bottles and planes, glued to each other, by turning edges over; their lengths
 are equal, or few, or many. A quarter as many more have long and short handles, and lengths that tie where a search ends.
-At the end come two meshes that are too large for the plain method, of which the answer is
-known otherwise: 1,024 loops of length 4, and a torus at the limit of 20,000 vertices.
+At the end come two meshes that are too large for the plain method, of which the answer is known otherwise: 1,024 loops of
+length 4, and a torus at the limit of 20,000 vertices.
 """
 
 import argparse

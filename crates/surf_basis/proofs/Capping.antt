@@ -15,7 +15,7 @@ use Rattle.surf_choice.specs.declared.candidate.Candidate.{Candidate}
 use Rattle.surf_choice.specs.declared.candidate.Signed.{Signed}
 use Rattle.surf_choice.specs.Places.{place_of, is_sought}
 use Rattle.surf_basis.specs.declared.covering.Ask.{Ask}
-use Rattle.surf_basis.specs.Rounds.{is_within_cap, cap_at, IsCapped, IsAsked, HasCappedEnd, AreCapped, AreNoLess, AreAsks}
+use Rattle.surf_basis.specs.Rounds.{is_within_cap, cap_at, IsCapped, IsAsked, HasCappedEnd, AreCapped, AreNoLess, AreAsks, AreRising}
 use Rattle.surf_basis.specs.Marks.{by_degree}
 use Rattle.surf_basis.proofs.Asked.{within_by_none}
 use Rattle.surf_basis.proofs.Degrees.{as_read_or_turned}
@@ -121,6 +121,38 @@ capped_more mesh surface s kept most old new n more h e e_in =
       | inl low ↦ inl (let x = more (ends mesh e).0 (omega (arith, inside.0, n)) in omega (arith, x, low))
       | inr high ↦ inr (let x = more (ends mesh e).1 (omega (arith, inside.1, n)) in omega (arith, x, high))
     ])
+
+-- ---- vertices whose caps are greater than how far they were searched
+
+pub rising_none : (caps reached list : List ℕ) → AreRising caps reached 0 list
+rising_none caps reached list v l = absurd (omega (arith, l))
+
+pub rising_same : (caps reached : List ℕ) (v : ℕ) (list : List ℕ) → AreRising caps reached v list →
+    cap_at caps v ≤ cap_at reached v → AreRising caps reached (v + 1) list
+rising_same caps reached v list h le u l = elim (cases_lt u v) [
+  | inl less ↦ h u less
+  | inr more ↦ let same : v ≡ u = omega (arith, l, more) in inl (subst (λ x. cap_at caps x ≤ cap_at reached x) same le)
+]
+
+pub rising_more : (caps reached : List ℕ) (v : ℕ) (old new : List ℕ) → AreRising caps reached v old → new ≡ old ++ v ∷ [] →
+    AreRising caps reached (v + 1) new
+rising_more caps reached v old new h is u l = elim (cases_lt u v) [
+  | inl less ↦ elim (h u less) [
+    | inl low ↦ inl low
+    | inr has ↦ inr (subst (λ (xs : List ℕ). Contains xs u) (sym is) (Contains-append_left old (v ∷ []) u has))
+  ]
+  | inr more ↦
+      let same : v ≡ u = omega (arith, l, more) in
+      inr (subst (λ (xs : List ℕ). Contains xs u) (sym is)
+      (Contains-append_right old (v ∷ []) u (subst (Contains (v ∷ [])) same (0, omega arith, refl))))
+]
+
+pub rising_permuted : (caps reached : List ℕ) (below : ℕ) (old new : List ℕ) → IsPermutation old new →
+    AreRising caps reached below old → AreRising caps reached below new
+rising_permuted caps reached below old new same h v l = elim (h v l) [
+  | inl low ↦ inl low
+  | inr has ↦ inr (Contains-permutation old new v same has)
+]
 
 -- ---- what edges ask for
 

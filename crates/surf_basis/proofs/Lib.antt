@@ -26,3 +26,4 @@ pub mod Capped
 pub mod Asked
 pub mod Capping
 pub mod Rounded
+pub mod NearFirst

@@ -81,6 +81,10 @@ AreCapped mesh s kept most caps = (e : ℕ) → e < edge_count mesh →
 abbrev pub AreNoLess : List ℕ → List ℕ → Type 0
 AreNoLess old new = (v : ℕ) → cap_at old v ≤ cap_at new v
 
+-- a list has those of the first vertices whose caps are greater than how far they were searched
+abbrev pub AreRising : List ℕ → List ℕ → ℕ → List ℕ → Type 0
+AreRising caps reached below list = (v : ℕ) → v < below → (cap_at caps v ≤ cap_at reached v) ⊎ Contains list v
+
 -- ---- asks of edges
 
 -- a list has an ask for each edge with a signature that isn't empty: what is asked, and no more than a number

@@ -1,13 +1,12 @@
 //! Searches in rounds, at each vertex no farther than it has to be.
 ghost use Rattle.std.specs.Prelude.{◌≡◌, ◌<◌, ◌≤◌, ◌^◌, ◌+◌, ◌/◌, ℕ, [], All, IfOk, OnOk, length, min};
-ghost use Rattle.std.specs.Prelude.{◌%◌};
 ghost use Rattle.surf_surfaces.specs.Homology.{IsFullCount};
 ghost use Rattle.surf_surfaces.specs.Surface.{edge_count, IsSurface};
 ghost use Rattle.surf_surfaces.specs.Walk.{ArePositive};
 ghost use Rattle.surf_surfaces.specs.FewBases.{MeetsAll};
 ghost use Rattle.surf_basis.specs.Found.{surface_of, is_among};
 ghost use Rattle.surf_basis.specs.Kept.{HavePlacesOfBasis};
-ghost use Rattle.surf_basis.specs.Rounds.{AreCapped, AreKeptUpTo, AreNoLess, IsCapped, KeepsUpTo, cap_at};
+ghost use Rattle.surf_basis.specs.Rounds.{AreCapped, AreKeptUpTo, AreNoLess, AreRising, IsCapped, KeepsUpTo, cap_at};
 ghost use Rattle.surf_basis.specs.Rounds.{is_limit_below, most_at_first};
 ghost use Rattle.surf_choice.specs.Places.{limit_of};
 ghost use Rattle.surf_basis.specs.Signing.{AreSigned};
@@ -16,6 +15,7 @@ ghost use Rattle.surf_base.specs.declared.limits.TheConstants.{MAX_LOOPS};
 use crate::costs::is_cut_cheaper;
 use crate::covering::raise_caps;
 use crate::finding::Finder;
+use crate::marking::scatter;
 use crate::searching::{keep_loops, search_vertices};
 use crate::surface::SignedSurface;
 use std::alloc::Global;
@@ -87,40 +87,62 @@ fn visit_to(
     Ok(())
 }
 
-// Searches from the vertices whose numbers a step divides, each as far as its cap.
+// Lists the vertices whose caps are greater than how far they were searched, in an order that
+// scatters them.
+fn list_rising(
+    alloc: Global,
+    caps: &[u64],
+    reached: &[u64],
+) -> Result<Vec<VertexId>, NoMemory>
+    requires count { length reached.now ≡ length caps.now }
+    requires few { length caps.now < 2 ^ 32 }
+    ensures inside { IfOk result (λ list. All (λ v. v < length caps.now) list.items) }
+    ensures rising { IfOk result (λ list. AreRising caps.now reached.now (length caps.now)
+        list.items) }
+{
+    let mut list = Vec::new(alloc);
+    for v in 0..caps.len() {
+        let cap = caps[v];
+        let far = reached[v];
+        if far < cap {
+            list.push(VertexId::new(v as u32))?;
+        }
+    }
+    scatter(&mut list);
+    Ok(list)
+}
+
+// Searches from the vertices of a list, each as far as its cap.
 fn search_each(
     finder: &mut Finder<'_>,
-    step: u32,
+    vertices: &[VertexId],
     caps: &[u64],
     reached: &mut [u64],
     choice: &mut Choice,
     found: &mut Vec<Signed>,
 ) -> Result<(), NoMemory>
-    requires step { 0 < step }
+    requires vertices { All (λ v. v < finder.old.mesh.vertices) vertices.now }
     requires caps { length caps.now ≡ finder.old.mesh.vertices }
     requires reached { length reached.old ≡ finder.old.mesh.vertices }
     requires signed { AreSigned finder.old.mesh finder.old.signs choice.old.width }
     requires few { (finder.old.mesh.vertices ≤ 2 ^ 32) × (edge_count finder.old.mesh ≤ 2 ^ 32) }
     requires kept { AreKeptUpTo finder.old reached.old choice.old }
     ensures kept { OnOk result (AreKeptUpTo finder.old reached.new choice.new) }
-    ensures each { OnOk result ((v : ℕ) → v < length caps.now → v % step ≡ 0 →
-        cap_at caps.now v ≤ cap_at reached.new v) }
+    ensures each { OnOk result (All (λ v. cap_at caps.now v ≤ cap_at reached.new v) vertices.now) }
+    ensures more { AreNoLess reached.old reached.new }
     ensures count { length reached.new ≡ length reached.old }
     ensures width { choice.new.width ≡ choice.old.width }
     ensures same { finder.new ≡ finder.old }
 {
-    for v in 0..finder.vertices() {
-        if v % step == 0 {
-            let base = VertexId::new(v);
-            visit_to(finder, base, caps[base.index()], reached, choice, found)?;
-        }
+    for v in vertices {
+        visit_to(finder, *v, caps[v.index()], reached, choice, found)?;
     }
     Ok(())
 }
 
 // A round: caps are raised to what edges ask for by what is kept, though to no more than a length,
-// and all vertices are searched as far. Some that are scattered come first, so that short loops of
-// all parts are found soon.
+// and all vertices are searched as far, in an order that scatters them, so that short loops of all
+// parts are found soon.
 fn run_round(
     alloc: Global,
     surface: &SignedSurface<'_>,
@@ -144,9 +166,9 @@ fn run_round(
     let mut caps = vec![in alloc; 0u64; reached.len()]?;
     caps.copy_from_slice(reached);
     raise_caps(alloc, surface, choice, most, &mut caps)?;
+    let vertices = list_rising(alloc, &caps, reached)?;
     let mut found = Vec::new(alloc);
-    search_each(finder, 64, &caps, reached, choice, &mut found)?;
-    search_each(finder, 1, &caps, reached, choice, &mut found)
+    search_each(finder, &vertices, &caps, reached, choice, &mut found)
 }
 
 // Four times the length of the first loop that is kept.

@@ -16,13 +16,15 @@ ghost use Rattle.surf_basis.specs.Kept.{HavePlacesOfBasis};
 ghost use Rattle.surf_basis.specs.Found.{surface_of, is_among, IsNext, AreKeptFrom, IsFirstAmong, IsFirstPlace};
 
 use crate::finding::Finder;
-use crate::marking::{list_marked, signed_ends};
+use crate::first_loops::first_passed;
+use crate::marking::list_marked;
 use crate::passing::{Pace, spare};
 use crate::surface::SignedSurface;
 use std::alloc::Global;
 use surf_base::{NoMemory, VertexId};
 use surf_choice::{Candidate, Choice, Signed};
 use surf_mesh::HalfMesh;
+use surf_tree::even_length;
 
 // What loops are sorted by: the length, the base and the number of the edge.
 fn order_of(signed: &Signed) -> u128
@@ -58,9 +60,9 @@ pub(crate) fn keep_loops(found: &mut [Signed], choice: &mut Choice) -> Result<()
 /// A finder that goes ahead of another one: the ways through vertices that are done with are barred
 /// to it. And when it does so.
 #[derive(Drop)]
-struct Scout<'a> {
-    finder: Finder<'a>,
-    pace: Pace,
+pub(crate) struct Scout<'a> {
+    pub finder: Finder<'a>,
+    pub pace: Pace,
 }
 
 // Searches from a vertex as far as a limit, if that goes beyond what must be found. Where all loops
@@ -268,20 +270,30 @@ fn first_found(
     Ok(first)
 }
 
-/// The length and the base of the first candidate, as those of the first loop that is found. None
-/// where each is null.
+/// The length and the base of the first candidate, as those of the first loop that is found at some
+/// vertices, of which every closed walk that isn't null meets one. None where each is null. Where
+/// all lengths are the same no vertex would be passed over, and no scout goes ahead.
 pub(crate) fn first_place(
     alloc: Global,
     surface: &SignedSurface<'_>,
+    vertices: &[VertexId],
     count: usize,
 ) -> Result<Option<Candidate>, NoMemory>
     requires lengths { length surface.now.lengths.now ≡ edge_count surface.now.mesh.now }
     requires signed { AreSigned surface.now.mesh.now surface.now.signatures.now count }
+    requires vertices { All (λ v. v < surface.now.mesh.now.vertices) vertices.now }
+    requires met { MeetsAll surface.now.mesh.now (is_among vertices.now) }
     ensures first { IfOk result (IsFirstPlace surface.now.mesh.now surface.now.lengths.now) }
 {
     surface.mesh.law_of_surface();
     surface.lengths.law_of_lengths();
-    let vertices = signed_ends(alloc, surface.mesh, surface.signatures)?;
     let mut finder = Finder::make(alloc, surface)?;
-    first_found(&mut finder, &vertices)
+    if even_length(surface.lengths).is_some() {
+        return first_found(&mut finder, vertices);
+    }
+    let mut scout = Scout {
+        finder: Finder::make(alloc, surface)?,
+        pace: Pace::new(),
+    };
+    first_passed(alloc, &mut finder, &mut scout, vertices)
 }

@@ -1,20 +1,25 @@
-use Rattle.std.proofs.Common.{◌≡◌, ℕ, ◌<◌, ◌≤◌, length, List, refl, sym, ap, ◌∙◌, subst, arith}
+use Rattle.std.proofs.Common.{◌≡◌, ℕ, ◌<◌, ◌≤◌, length, All, List, sym, ap, ◌∙◌, subst, arith, inl, inr}
 use Rattle.std.specs.Prelude.{OnOk}
+use Rattle.std.proofs.lemmas.List.Elements.{All-contains}
 use Rattle.std.proofs.lemmas.Result.{on_ok_weaker}
 use Rattle.surf_basis.specs.Found.{SurfaceTables}
-use Rattle.surf_basis.specs.Rounds.{AreKeptUpTo, AreCapped, cap_at}
+use Rattle.surf_basis.specs.Rounds.{AreRising, cap_at}
 use Rattle.surf_basis.proofs.Capping.{capped_more}
 use Rattle.surf_basis.proofs.Marked.{written_back}
 use Rattle.surf_basis.proofs.rounds.run_round.Goals as goal
 
-pub search_each-requires-2-clause-kept : goal.search_each-requires-2-clause-kept
-search_each-requires-2-clause-kept c =
-    subst (λ (f : SurfaceTables). AreKeptUpTo f c.search_each.new.reached c.search_each.new.choice) (sym c.search_each.ensures.same) c.in_ok-search_each.ensures.kept
-
-pub returns-clause-kept : goal.returns-clause-kept
-returns-clause-kept c =
-    subst (λ (f : SurfaceTables). OnOk c.search_each-2.result (AreKeptUpTo f c.search_each-2.new.reached c.search_each-2.new.choice))
-    c.search_each.ensures.same c.search_each-2.ensures.kept
+pub search_each-requires-clause-vertices : goal.search_each-requires-clause-vertices
+search_each-requires-clause-vertices c =
+    let f = c.args.finder.now in
+    let caps = c.raise_caps.new.caps in
+    let read : c.deref.result.now ≡ caps =
+    c.deref.ensures.value ∙ written_back caps _ _ (omega (arith, c.raise_caps.ensures.count, c.deref_mut.ensures.len)) in
+    let copied = ap (λ (xs : List ℕ). length xs) (c.deref_mut.ensures.value ∙ c.copy_from_slice.ensures.items) in
+    let long = ap (λ (xs : List ℕ). length xs) read in
+    let same = ap (λ (g : SurfaceTables). g.mesh.vertices) c.requires.finder in
+    subst (λ (xs : List ℕ). All (λ v. v < f.mesh.vertices) xs) (sym c.deref-2.ensures.value)
+    (λ k d l. (let v_in = c.in_ok-vertices.ensures.inside k d l in
+    omega (arith, v_in, long, c.raise_caps.ensures.count, copied, c.requires.reached, same)))
 
 pub returns-clause-capped : goal.returns-clause-capped
 returns-clause-capped c =
@@ -22,12 +27,21 @@ returns-clause-capped c =
     let s = c.args.surface.now.signatures.now in
     let kept = c.args.choice.now.kept in
     let caps = c.raise_caps.new.caps in
-    let read : c.deref-2.result.now ≡ caps =
-    c.deref-2.ensures.value ∙ written_back caps _ _ (omega (arith, c.raise_caps.ensures.count, c.deref_mut.ensures.len)) in
+    let list = c.in_ok-vertices.vertices.items in
+    let new = c.search_each.new.reached in
+    let read : c.deref.result.now ≡ caps = c.deref.ensures.value ∙ written_back caps _ _ (omega (arith, c.raise_caps.ensures.count, c.deref_mut.ensures.len)) in
+    let again : c.deref-3.result.now ≡ caps = c.deref-3.ensures.value ∙ written_back caps _ _ (omega (arith, c.raise_caps.ensures.count, c.deref_mut.ensures.len)) in
     let copied = ap (λ (xs : List ℕ). length xs) (c.deref_mut.ensures.value ∙ c.copy_from_slice.ensures.items) in
     let n : length caps ≡ mesh.vertices = omega (arith, c.raise_caps.ensures.count, copied, c.requires.reached) in
-    on_ok_weaker c.search_each-2.result
-    (λ each. capped_more mesh c.law_of_surface.ensures.surface s kept c.args.most caps c.search_each-2.new.reached n
-    (λ v l. subst (λ (xs : List ℕ). cap_at xs v ≤ cap_at c.search_each-2.new.reached v) read
-    (each v (subst (λ (xs : List ℕ). v < length xs) (sym read) l) (omega arith)))
-    c.in_ok-raise_caps.ensures.capped) c.search_each-2.ensures.each
+    let rising : AreRising caps c.args.reached.now (length caps) list =
+    subst (λ (xs : List ℕ). AreRising xs c.args.reached.now (length xs) list) read c.in_ok-vertices.ensures.rising in
+    on_ok_weaker c.search_each.result
+    (λ each. (let all : All (λ v. cap_at caps v ≤ cap_at new v) list =
+    subst (λ (ys : List ℕ). All (λ v. cap_at ys v ≤ cap_at new v) list) again
+    (subst (λ (xs : List ℕ). All (λ v. cap_at c.deref-3.result.now v ≤ cap_at new v) xs) c.deref-2.ensures.value each) in
+    capped_more mesh c.law_of_surface.ensures.surface s kept c.args.most caps new n
+    (λ v l. elim (rising v l) [
+      | inl low ↦ (let x = c.search_each.ensures.more v in omega (arith, low, x))
+      | inr has ↦ All-contains (λ u. cap_at caps u ≤ cap_at new u) list v all has
+    ])
+    c.in_ok-raise_caps.ensures.capped)) c.search_each.ensures.each

@@ -1,5 +1,5 @@
-use Rattle.std.proofs.Common.{◌≡◌, ◌<◌, ◌≤◌, ◌%◌, ℕ, length}
-use Rattle.surf_basis.specs.Rounds.{AreKeptUpTo, cap_at}
+use Rattle.std.proofs.Common.{◌≡◌, ◌<◌, ◌≤◌, ℕ, length, get_or}
+use Rattle.surf_basis.specs.Rounds.{AreKeptUpTo, AreNoLess, cap_at}
 use Rattle.surf_basis.proofs.rounds.search_each.Given as goal
 
 abbrev pub invariant-loop-v : goal.invariant-loop-v
@@ -8,5 +8,6 @@ invariant-loop-v l = record {
   width : l.choice.width ≡ l.fn.choice.width;
   count : length l.reached ≡ length l.fn.reached;
   kept : AreKeptUpTo l.fn.finder l.reached l.choice;
-  each : (u : ℕ) → u < l.v → u % l.step ≡ 0 → cap_at l.caps u ≤ cap_at l.reached u;
+  more : AreNoLess l.fn.reached l.reached;
+  each : (k d : ℕ) → k < l.v-index → cap_at l.caps (get_or l.vertices k d) ≤ cap_at l.reached (get_or l.vertices k d);
 }
