@@ -1,7 +1,7 @@
 -- Caps as great as edges ask for meet all closed walks, so what is kept has the places of the basis.
-use Rattle.std.proofs.Common.{◌≡◌, ℕ, zero, suc, ◌<◌, ◌≤◌, ◌⊎◌, ◌^◌, Bool, true, false, List, [], ◌∷◌, length, get_or, map, take, All, Option, Some, None, refl, sym, ap, ◌∙◌, subst, arith, inl, inr}
+use Rattle.std.proofs.Common.{◌≡◌, ℕ, zero, suc, ◌<◌, ◌≤◌, ◌^◌, true, List, [], ◌∷◌, length, get_or, map, take, All, Option, Some, None, refl, sym, ap, ◌∙◌, subst, arith, inl, inr}
 use Rattle.std.specs.Prelude.{IsTrue, nat_le, slice_index, min}
-use Rattle.std.proofs.lemmas.Bool.{cases_Bool, cases_eq, cases_lt, leb-true, le-leb, or_left, or_right, and_from, false≢true}
+use Rattle.std.proofs.lemmas.Bool.{cases_Bool, cases_lt, leb-true, le-leb, or_left, or_right, and_from, false≢true}
 use Rattle.std.proofs.lemmas.Bool.Decides.{nat_tests}
 use Rattle.std.proofs.lemmas.List.{length-map, take-map, get_or-map}
 use Rattle.std.proofs.lemmas.List.Elements.{recursion_from_All, All-from_recursion, All-take}
@@ -23,7 +23,7 @@ use Rattle.surf_surfaces.specs.FewBases.{Place, is_no_later, Found, HasFound, Is
 use Rattle.surf_surfaces.proofs.LeastLaws.{all_mapped}
 use Rattle.surf_firsts.specs.Near.{IsSoughtFromStart}
 use Rattle.surf_caps.specs.Heights.{AreHeights}
-use Rattle.surf_caps.specs.Caps.{Sought, AreSized, HaveAskedEnds, MeetsUpTo, IsFoundBy, AreSoughtFromStart, asks}
+use Rattle.surf_caps.specs.Caps.{AreSized, HaveAskedEnds, MeetsUpTo, IsFoundBy, AreSoughtFromStart, asks}
 use Rattle.surf_caps.proofs.Grow.{all_by_own}
 use Rattle.surf_caps.proofs.Heights.{asked_ends_meet}
 use Rattle.surf_caps.proofs.Places.{enough_have_places, full_count_has_places}
@@ -31,7 +31,7 @@ use Rattle.surf_caps.proofs.Starts.{sooner_start, both_start, found_are_walks}
 use Rattle.surf_cotree.specs.Tables.{CotreeTables}
 use Rattle.surf_choice.specs.declared.candidate.Candidate.{Candidate}
 use Rattle.surf_choice.specs.declared.candidate.Signed.{Signed}
-use Rattle.surf_choice.specs.Candidates.{Chosen, signatures, IsSumOfLength}
+use Rattle.surf_choice.specs.Candidates.{Chosen, signatures}
 use Rattle.surf_choice.specs.Places.{place_of, is_sought, last_of, limit_of, stands_before}
 use Rattle.surf_choice.proofs.Limits.{before_last, limit_none, limit_last}
 use Rattle.surf_basis.specs.Found.{IsFound, found_of}

@@ -1,9 +1,9 @@
 -- Caps of vertices: the earlier of a limit and a cap, caps that rise, and what edges ask for.
-use Rattle.std.proofs.Common.{◌≡◌, ◌≢◌, ℕ, zero, suc, ◌<◌, ◌≤◌, ◌+◌, ◌⊎◌, Bool, true, false, not, List, [], ◌∷◌, ◌++◌, length, get_or, set, take, replicate, All, Contains, IsPermutation, Option, Some, None, refl, sym, ap, ◌∙◌, subst, arith, inl, inr}
-use Rattle.std.specs.Prelude.{IsTrue, nat_le, slice_index, min}
-use Rattle.std.proofs.lemmas.Bool.{cases_Bool, cases_eq, cases_lt, leb-true, le-leb, or_cases, or_left, or_right, false≢true}
+use Rattle.std.proofs.Common.{◌≡◌, ℕ, ◌<◌, ◌≤◌, ◌+◌, true, List, [], ◌∷◌, ◌++◌, length, get_or, set, replicate, All, Contains, IsPermutation, Option, Some, None, refl, sym, ap, ◌∙◌, subst, arith, inl, inr}
+use Rattle.std.specs.Prelude.{nat_le, slice_index, min}
+use Rattle.std.proofs.lemmas.Bool.{cases_eq, cases_lt, leb-true, le-leb, or_cases, or_left}
 use Rattle.std.proofs.lemmas.Bool.Decides.{nat_tests}
-use Rattle.std.proofs.lemmas.List.{get_or-set_same, get_or-set_other, get_or_default, get_or_past, get_or-replicate, length-replicate}
+use Rattle.std.proofs.lemmas.List.{get_or-set_same, get_or-set_other, get_or_past, get_or-replicate, length-replicate}
 use Rattle.std.proofs.lemmas.List.Elements.{All-contains, Contains-append_left, Contains-append_right}
 use Rattle.std.proofs.lemmas.List.Sorted.{Contains-permutation}
 use Rattle.surf_surfaces.specs.Mesh.{Mesh}
@@ -13,7 +13,7 @@ use Rattle.surf_loops.proofs.Turned.{ends_in}
 use Rattle.surf_cotree.specs.Tables.{CotreeTables}
 use Rattle.surf_choice.specs.declared.candidate.Candidate.{Candidate}
 use Rattle.surf_choice.specs.declared.candidate.Signed.{Signed}
-use Rattle.surf_choice.specs.Places.{place_of, is_sought}
+use Rattle.surf_choice.specs.Places.{is_sought}
 use Rattle.surf_basis.specs.declared.covering.Ask.{Ask}
 use Rattle.surf_basis.specs.Rounds.{is_within_cap, cap_at, IsCapped, IsAsked, HasCappedEnd, AreCapped, AreNoLess, AreAsks, AreRising}
 use Rattle.surf_basis.specs.Marks.{by_degree}
@@ -116,11 +116,14 @@ pub capped_more : (mesh : Mesh) → IsSurface mesh → (s : CotreeTables) (kept 
     AreCapped mesh s kept most old → AreCapped mesh s kept most new
 capped_more mesh surface s kept most old new n more h e e_in =
     let (ask, asked, there) = h e e_in in
-    let inside = ends_in mesh surface e e_in in
-    (ask, asked, elim there [
-      | inl low ↦ inl (let x = more (ends mesh e).0 (omega (arith, inside.0, n)) in omega (arith, x, low))
-      | inr high ↦ inr (let x = more (ends mesh e).1 (omega (arith, inside.1, n)) in omega (arith, x, high))
-    ])
+    let inside = ends_in mesh surface e e_in in (
+      ask,
+      asked,
+      elim there [
+        | inl low ↦ inl (let x = more (ends mesh e).0 (omega (arith, inside.0, n)) in omega (arith, x, low))
+        | inr high ↦ inr (let x = more (ends mesh e).1 (omega (arith, inside.1, n)) in omega (arith, x, high))
+      ],
+    )
 
 -- ---- vertices whose caps are greater than how far they were searched
 
@@ -176,8 +179,7 @@ asks_more s kept most n ask a old new h is at asked size e l some = elim (cases_
       let (b, has, edge, rest) = h e less some in
       (b, subst (λ (xs : List Ask). Contains xs b) (sym is) (Contains-append_left old (a ∷ []) b has), edge, rest)
   | inr more ↦
-      let same : n ≡ e = omega (arith, l, more) in
-      (
+      let same : n ≡ e = omega (arith, l, more) in (
         a,
         subst (λ (xs : List Ask). Contains xs a) (sym is) (Contains-append_right old (a ∷ []) a (0, omega arith, refl)),
         at ∙ same,
@@ -204,7 +206,10 @@ asks_capped mesh s kept most caps asks sorted h same all e e_in = elim (cases_eq
   | inr some ↦
       let (a, has, edge, (ask, asked, size)) = h e e_in some in
       let there : HasCappedEnd mesh caps a.length a.edge =
-      All-contains (λ (b : Ask). HasCappedEnd mesh caps b.length b.edge) sorted a all (Contains-permutation asks sorted a same has) in
-      (ask, asked, subst (λ n. HasCappedEnd mesh caps (min ask most) n) edge
-      (subst (λ n. HasCappedEnd mesh caps n a.edge) size there))
+      All-contains (λ (b : Ask). HasCappedEnd mesh caps b.length b.edge) sorted a all (Contains-permutation asks sorted a same has) in (
+        ask,
+        asked,
+        subst (λ n. HasCappedEnd mesh caps (min ask most) n) edge
+            (subst (λ n. HasCappedEnd mesh caps n a.edge) size there),
+      )
 ]

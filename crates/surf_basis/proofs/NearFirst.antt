@@ -1,9 +1,7 @@
 -- The first of the loops at the vertices of a set stays the first with vertices near one where all loops are longer.
-use Rattle.std.proofs.Common.{◌≡◌, ◌≢◌, ℕ, suc, ◌<◌, ◌≤◌, ◌+◌, ◌*◌, ◌-◌, ◌/◌, Bool, true, false, List, [], ◌∷◌, length, Contains, All, Option, Some, None, refl, sym, ap, ◌∙◌, subst, arith, inl, inr}
-use Rattle.std.specs.Prelude.{IsTrue, not}
+use Rattle.std.proofs.Common.{◌≡◌, ◌≢◌, ℕ, ◌<◌, ◌≤◌, ◌+◌, ◌*◌, Bool, true, false, List, [], ◌∷◌, Option, Some, sym, ◌∙◌, subst, arith, inl, inr}
 use Rattle.std.proofs.lemmas.Bool.{cases_Bool, cases_eq, false≢true}
 use Rattle.std.proofs.lemmas.Bool.Decides.{nat_tests}
-use Rattle.std.proofs.lemmas.List.Elements.{All-contains}
 use Rattle.surf_z2.proofs.ParityLaws.{xor-false}
 use Rattle.surf_graphs.specs.Cells.{Split, IsSplit}
 use Rattle.surf_graphs.specs.Trees.{Tree}
@@ -14,8 +12,8 @@ use Rattle.surf_surfaces.specs.Homology.{IsNull}
 use Rattle.surf_surfaces.specs.Cells.{cells_of}
 use Rattle.surf_surfaces.specs.Class.{class_of, AreShortestTrees}
 use Rattle.surf_surfaces.specs.Loop.{loop_walk, loop_length}
-use Rattle.surf_surfaces.specs.Choice.{Trees, AreChosen, DependsOn}
-use Rattle.surf_surfaces.specs.FewBases.{Place, is_no_later, comes_sooner, place_at, AreEnoughOf, IsFirstFound}
+use Rattle.surf_surfaces.specs.Choice.{DependsOn}
+use Rattle.surf_surfaces.specs.FewBases.{Place, is_no_later, comes_sooner, place_at, AreEnoughOf}
 use Rattle.surf_surfaces.proofs.ChoiceExists.{choice_exists}
 use Rattle.surf_surfaces.proofs.ClassLaws.{null_by_class}
 use Rattle.surf_surfaces.proofs.FirstCycleLaws.{shortest_trees}
@@ -27,7 +25,6 @@ use Rattle.surf_choice.specs.Places.{place_of, is_sought}
 use Rattle.surf_cotree.specs.Tables.{CotreeTables}
 use Rattle.surf_basis.specs.Found.{SurfaceTables, IsFirstOf, IsFirstAt}
 use Rattle.surf_basis.specs.Passing.{is_marked, AreMarkedNear, IsAhead, IsFirstIn, StaysFirst}
-use Rattle.surf_basis.specs.Signing.{AreSignatures}
 use Rattle.surf_basis.proofs.PassedOver.{sought_before, no_longer, all_near}
 use Rattle.surf_basis.proofs.Placed.{IsNoLater, least_found, first_fewer}
 use Rattle.surf_basis.proofs.Searched.{depends_null, zero_null}

@@ -1,6 +1,5 @@
 -- What the last round keeps has the places of the basis.
-use Rattle.std.proofs.Common.{ℕ, ◌≡◌, ◌<◌, ◌≤◌, List, length, get_or, map, All, sym, ap, ◌∙◌, subst}
-use Rattle.surf_surfaces.specs.Mesh.{Mesh}
+use Rattle.std.proofs.Common.{ℕ, ◌<◌, ◌≤◌, List, length, get_or, All, sym, ap, ◌∙◌, subst}
 use Rattle.surf_surfaces.specs.Surface.{IsSurface}
 use Rattle.surf_surfaces.specs.Walk.{ArePositive}
 use Rattle.surf_surfaces.specs.Homology.{IsFullCount}
@@ -13,7 +12,7 @@ use Rattle.surf_basis.specs.Kept.{HavePlacesOfBasis}
 use Rattle.surf_basis.specs.Places.{is_placed}
 use Rattle.surf_basis.specs.Rounds.{AreKeptUpTo, AreCapped}
 use Rattle.surf_basis.specs.Signing.{AreSigned}
-use Rattle.surf_basis.specs.Found.{SurfaceTables, found_of}
+use Rattle.surf_basis.specs.Found.{SurfaceTables}
 use Rattle.surf_basis.proofs.Asked.{caps_meet, capped_places}
 use Rattle.surf_basis.proofs.Places.{placed_found}
 

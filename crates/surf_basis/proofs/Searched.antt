@@ -9,7 +9,7 @@ use Rattle.std.proofs.lemmas.List.Elements.{recursion_from_All, All-from_recursi
 use Rattle.std.proofs.lemmas.List.Sorted.{Contains-permutation, All-permutation, IsPermutation-map, IsPermutation-sym}
 use Rattle.surf_z2.specs.Greedy.{greedy}
 use Rattle.surf_z2.specs.Order.{merge}
-use Rattle.surf_z2.specs.Space.{numbers, is_nothing, no_member, chosen, Independent}
+use Rattle.surf_z2.specs.Space.{numbers, is_nothing, chosen, Independent}
 use Rattle.surf_z2.proofs.Greedy.{greedy_law, all_kept as greedy_spans}
 use Rattle.surf_z2.proofs.Merge.{Sorted, sorted_from_order, order_from_sorted, same_members}
 use Rattle.surf_z2.proofs.Numbers.{Decides-is_nothing}

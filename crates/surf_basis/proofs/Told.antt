@@ -241,8 +241,7 @@ distances_are mesh lengths z far t near tree short i l =
     let n = near.near tree short in
     let m : length (map (slice_index t.distances) t.settled) ≡ length t.settled = length-map t.settled (slice_index t.distances) in
     let i_in : i < length t.settled = omega (arith, l, m) in
-    let there = n.inside i i_in in
-    (
+    let there = n.inside i i_in in (
       slice_index t.settled i,
       there.0,
       sym (n.tables.ranks (slice_index t.settled i) there.0 there.1) ∙ sym (get_or-map (slice_index t.distances) t.settled i 0 0 i_in),

@@ -89,11 +89,7 @@ fn visit_to(
 
 // Lists the vertices whose caps are greater than how far they were searched, in an order that
 // scatters them.
-fn list_rising(
-    alloc: Global,
-    caps: &[u64],
-    reached: &[u64],
-) -> Result<Vec<VertexId>, NoMemory>
+fn list_rising(alloc: Global, caps: &[u64], reached: &[u64]) -> Result<Vec<VertexId>, NoMemory>
     requires count { length reached.now ≡ length caps.now }
     requires few { length caps.now < 2 ^ 32 }
     ensures inside { IfOk result (λ list. All (λ v. v < length caps.now) list.items) }
@@ -301,7 +297,14 @@ fn keep_sufficient(
 {
     surface.mesh.law_of_surface();
     let mut found = Vec::new(alloc);
-    visit_to(finder, VertexId::new(0), u64::MAX, reached, choice, &mut found)?;
+    visit_to(
+        finder,
+        VertexId::new(0),
+        u64::MAX,
+        reached,
+        choice,
+        &mut found,
+    )?;
     run_short_rounds(alloc, surface, finder, reached, choice)?;
     search_rest(alloc, surface, vertices, finder, reached, choice)
 }
@@ -332,13 +335,6 @@ pub(crate) fn sufficient_loops(
     finder.law_of_finder();
     let mut choice = Choice::make(alloc, count as u32)?;
     let mut reached = vec![in alloc; 0u64; surface.mesh.vertices() as usize]?;
-    keep_sufficient(
-        alloc,
-        surface,
-        vertices,
-        finder,
-        &mut reached,
-        &mut choice,
-    )?;
+    keep_sufficient(alloc, surface, vertices, finder, &mut reached, &mut choice)?;
     Ok(choice)
 }

@@ -1,4 +1,4 @@
-use Rattle.std.proofs.Common.{◌≡◌, ◌≢◌, ℕ, ◌<◌, ◌^◌, ◌++◌, ◌∷◌, [], true, false, All, List, min, slice_index, inl, inr, refl, sym, ap, ◌∙◌, subst, arith}
+use Rattle.std.proofs.Common.{◌≡◌, ◌<◌, ◌^◌, All, List, min, slice_index, inl, inr, sym, ap, ◌∙◌, subst, arith}
 use Rattle.std.proofs.lemmas.Bool.{cases_eq}
 use Rattle.std.proofs.lemmas.Bool.Decides.{nat_tests}
 use Rattle.std.proofs.lemmas.List.Elements.{All-push}
@@ -22,8 +22,10 @@ sum_length-requires c =
     let mesh = c.args.surface.now.mesh.now in
     let width = c.args.choice.now.width in
     let e_in : c.new-edge.result < edge_count mesh = omega (arith, c.new-edge.ensures, c.loop-e-test.true, c.edges-e-end.ensures.count) in
-    record { small = subst (λ n. n < 2 ^ width) (sym c.signature-signature.ensures.signature)
-        (sign_small mesh c.args.surface.now.signatures.now width c.new-edge.result c.requires.signed e_in) }
+    record {
+      small = subst (λ n. n < 2 ^ width) (sym c.signature-signature.ensures.signature)
+          (sign_small mesh c.args.surface.now.signatures.now width c.new-edge.result c.requires.signed e_in);
+    }
 
 pub loop-e-preserved : goal.loop-e-preserved
 loop-e-preserved c =

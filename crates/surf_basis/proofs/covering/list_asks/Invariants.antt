@@ -1,4 +1,4 @@
-use Rattle.std.proofs.Common.{◌<◌, ℕ, All}
+use Rattle.std.proofs.Common.{◌<◌, All}
 use Rattle.surf_surfaces.specs.Surface.{edge_count}
 use Rattle.surf_basis.specs.Rounds.{AreAsks}
 use Rattle.surf_basis.proofs.covering.list_asks.Given as goal

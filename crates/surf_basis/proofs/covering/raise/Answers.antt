@@ -1,7 +1,4 @@
-use Rattle.std.proofs.Common.{◌≡◌, ℕ, ◌<◌, ◌≤◌, length, set, slice_index, refl, sym, ap, ◌∙◌, subst, arith, inl, inr}
-use Rattle.surf_surfaces.specs.Surface.{ends, edge_count}
-use Rattle.surf_basis.specs.Marks.{by_degree}
-use Rattle.surf_basis.specs.Rounds.{HasCappedEnd, AreNoLess, cap_at}
+use Rattle.std.proofs.Common.{slice_index, arith}
 use Rattle.surf_basis.proofs.Marked.{ends_inside, either_below}
 use Rattle.surf_basis.proofs.Degrees.{as_read_or_turned}
 use Rattle.surf_basis.proofs.Capping.{raised_at_end}

@@ -1,4 +1,4 @@
-use Rattle.std.proofs.Common.{◌≡◌, ℕ, ◌<◌, length, List, All, IsPermutation, replicate, refl, sym, ap, ◌∙◌, subst, arith}
+use Rattle.std.proofs.Common.{◌≡◌, ◌<◌, List, All, sym, ◌∙◌, subst, arith}
 use Rattle.std.proofs.lemmas.List.Sorted.{All-permutation}
 use Rattle.surf_surfaces.specs.Surface.{edge_count}
 use Rattle.surf_basis.specs.declared.covering.Ask.{Ask}

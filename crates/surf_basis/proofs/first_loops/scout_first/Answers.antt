@@ -1,4 +1,4 @@
-use Rattle.std.proofs.Common.{◌≡◌, ◌<◌, ◌≤◌, ◌+◌, ◌*◌, ◌-◌, ◌/◌, ℕ, List, Option, Some, sym, subst, arith}
+use Rattle.std.proofs.Common.{◌<◌, ◌+◌, ◌*◌, ◌-◌, ◌/◌, ℕ, Option, Some, sym, subst, arith}
 use Rattle.surf_choice.specs.declared.candidate.Candidate.{Candidate}
 use Rattle.surf_basis.specs.Found.{SurfaceTables, IsFirstAt}
 use Rattle.surf_basis.specs.Passing.{AreMarkedNear, StaysFirst}

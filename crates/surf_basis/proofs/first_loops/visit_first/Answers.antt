@@ -1,9 +1,8 @@
-use Rattle.std.proofs.Common.{◌≡◌, ℕ, Bool, List, Option, refl, sym, subst}
+use Rattle.std.proofs.Common.{ℕ, Bool, List, refl, sym, subst}
 use Rattle.std.specs.Prelude.{IsTrue}
 use Rattle.surf_graphs.specs.Trees.{Tree}
 use Rattle.surf_surfaces.proofs.FirstCycleLaws.{shortest_trees}
 use Rattle.surf_surfaces.specs.FewBases.{with_vertex}
-use Rattle.surf_choice.specs.declared.candidate.Candidate.{Candidate}
 use Rattle.surf_basis.specs.Found.{IsFirstAt, IsFirstOf}
 use Rattle.surf_basis.specs.Passing.{is_marked}
 use Rattle.surf_basis.proofs.NearFirst.{ahead_first_in}

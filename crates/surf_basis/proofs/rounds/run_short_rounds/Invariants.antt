@@ -1,4 +1,4 @@
-use Rattle.std.proofs.Common.{◌≡◌, ℕ, length}
+use Rattle.std.proofs.Common.{◌≡◌, length}
 use Rattle.surf_basis.specs.Rounds.{AreKeptUpTo}
 use Rattle.surf_basis.proofs.rounds.run_short_rounds.Given as goal
 

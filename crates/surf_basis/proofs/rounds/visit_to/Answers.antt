@@ -1,4 +1,4 @@
-use Rattle.std.proofs.Common.{◌≡◌, ℕ, ◌<◌, length, List, set, refl, sym, ap, ◌∙◌, subst, arith}
+use Rattle.std.proofs.Common.{set, sym, subst, arith}
 use Rattle.surf_basis.specs.Rounds.{AreKeptUpTo}
 use Rattle.surf_basis.proofs.rounds.visit_to.Goals as goal
 

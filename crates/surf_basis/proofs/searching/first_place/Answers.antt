@@ -1,9 +1,8 @@
-use Rattle.std.proofs.Common.{◌<◌, All, List, ℕ, Option, sym, subst}
+use Rattle.std.proofs.Common.{◌<◌, All, sym, subst}
 use Rattle.std.proofs.lemmas.Result.{IfOk-weaker}
 use Rattle.surf_surfaces.specs.Surface.{IsSurface}
 use Rattle.surf_surfaces.specs.Walk.{ArePositive}
 use Rattle.surf_lengths.proofs.Positive.{lengths_positive}
-use Rattle.surf_choice.specs.declared.candidate.Candidate.{Candidate}
 use Rattle.surf_basis.specs.Found.{SurfaceTables, IsFirstAmong, IsFirstPlace}
 use Rattle.surf_basis.proofs.Looped.{signs_long}
 use Rattle.surf_basis.proofs.Placed.{first_placed}

@@ -1,7 +1,6 @@
-use Rattle.std.proofs.Common.{◌≡◌, sym, ap, subst, arith}
+use Rattle.std.proofs.Common.{sym, subst}
 use Rattle.surf_surfaces.specs.Homology.{IsFullCount}
 use Rattle.surf_lengths.proofs.Positive.{lengths_positive}
-use Rattle.surf_choice.specs.Candidates.{Chosen}
 use Rattle.surf_basis.specs.Found.{SurfaceTables, AreKeptFrom}
 use Rattle.surf_basis.proofs.Looped.{signs_long}
 use Rattle.surf_basis.proofs.Sufficient.{bases_inside, places_enough}
