@@ -73,11 +73,7 @@ fn choose_full(mesh: &HalfMesh, flags: &mut [bool])
 
 // Makes the flags of the trimmed cut of those of a tree of the faces: while more than two edges
 // are cut and a vertex has exactly one of them, the greatest such vertex loses it.
-fn choose_trimmed(
-    alloc: Global,
-    mesh: &HalfMesh,
-    flags: &mut [bool],
-) -> Result<(), NoMemory>
+fn choose_trimmed(alloc: Global, mesh: &HalfMesh, flags: &mut [bool]) -> Result<(), NoMemory>
     requires flags { length flags.old ≡ edge_count mesh.now }
     requires held { IsHeld mesh.now flags.old }
     ensures chosen { OnOk result (IsChosenCut mesh.now flags.old trimmed flags.new) }
