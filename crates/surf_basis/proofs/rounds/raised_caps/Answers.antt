@@ -1,4 +1,4 @@
-use Rattle.std.proofs.Common.{◌≡◌, ℕ, List, length, sym, ap, ◌∙◌, subst, arith}
+use Rattle.std.proofs.Common.{ℕ, List, length, sym, ap, ◌∙◌, subst, arith}
 use Rattle.surf_basis.specs.Rounds.{AreCapped}
 use Rattle.surf_basis.proofs.Marked.{written_back}
 use Rattle.surf_basis.proofs.rounds.raised_caps.Goals as goal

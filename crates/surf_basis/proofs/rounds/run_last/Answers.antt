@@ -1,4 +1,4 @@
-use Rattle.std.proofs.Common.{◌≡◌, ◌<◌, ◌≤◌, ℕ, All, List, sym, subst, arith}
+use Rattle.std.proofs.Common.{◌<◌, All, sym, subst, arith}
 use Rattle.surf_surfaces.specs.Homology.{IsFullCount}
 use Rattle.surf_basis.specs.Found.{SurfaceTables}
 use Rattle.surf_basis.specs.Kept.{HavePlacesOfBasis}
