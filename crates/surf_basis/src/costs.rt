@@ -1,12 +1,8 @@
 //! What the searches cost that are left: those from the vertices of a cut, or those of a last
 //! round.
-ghost use Rattle.std.specs.Prelude.{◌≡◌, ◌<◌, ◌≤◌, ℕ, length, slice_index};
-ghost use Rattle.surf_basis.specs.Found.{surface_of};
-ghost use Rattle.surf_basis.specs.Signing.{AreSigned};
+ghost use Rattle.std.specs.Prelude.{◌≡◌, ◌<◌, ◌≤◌, ℕ, false, length, slice_index};
 
-use crate::covering::raise_caps;
 use crate::finding::Finder;
-use crate::surface::SignedSurface;
 use std::alloc::Global;
 use surf_base::{NoMemory, VertexId};
 use surf_choice::Choice;
@@ -38,32 +34,44 @@ fn cost_of_round(distances: &[u64], reached: &[u64], caps: &[u64], most: u64) ->
     cost
 }
 
+// Whether the cap of a vertex is greater than how far it was searched.
+fn are_rising(reached: &[u64], caps: &[u64]) -> bool
+    requires count { length caps.now ≡ length reached.now }
+    ensures none { result ≡ false → (v : ℕ) → v < length caps.now →
+        slice_index caps.now v ≤ slice_index reached.now v }
+{
+    for v in 0..caps.len() {
+        if reached[v] < caps[v] {
+            return true;
+        }
+    }
+    false
+}
+
 /// Whether searches from so many vertices of a cut cost less than those of a last round. There
 /// scouts pass over most vertices, so that they may be four times as many. Either answer is right:
 /// only the time that it takes depends on it.
 pub(crate) fn is_cut_cheaper(
     alloc: Global,
-    surface: &SignedSurface<'_>,
     finder: &mut Finder<'_>,
     vertices: usize,
+    caps: &[u64],
     reached: &[u64],
     choice: &Choice,
 ) -> Result<bool, NoMemory>
-    requires finder { finder.old ≡ surface_of surface.now }
-    requires reached { length reached.now ≡ surface.now.mesh.now.vertices }
-    requires signed { AreSigned surface.now.mesh.now surface.now.signatures.now choice.now.width }
+    requires some { 0 < finder.old.mesh.vertices }
+    requires count { length caps.now ≡ length reached.now }
     ensures same { finder.new ≡ finder.old }
 {
-    surface.mesh.law_of_surface();
+    if !are_rising(reached, caps) {
+        return Ok(false);
+    }
     let most = match choice.limit() {
         Some(last) => last.length,
         None => u64::MAX,
     };
-    let mut caps = vec![in alloc; 0u64; reached.len()]?;
-    caps.copy_from_slice(reached);
-    raise_caps(alloc, surface, choice, u64::MAX, &mut caps)?;
     let distances = finder.distances(alloc, VertexId::new(0))?;
-    let round = cost_of_round(&distances, reached, &caps, most);
+    let round = cost_of_round(&distances, reached, caps, most);
     let cut = count_near(&distances, most).saturating_mul(vertices as u64);
     Ok(cut < round.saturating_mul(4))
 }

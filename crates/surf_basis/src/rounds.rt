@@ -136,9 +136,53 @@ fn search_each(
     Ok(())
 }
 
-// A round: caps are raised to what edges ask for by what is kept, though to no more than a length,
-// and all vertices are searched as far, in an order that scatters them, so that short loops of all
-// parts are found soon.
+// Searches from all vertices whose caps are greater than how far they were searched, each as far as
+// its cap, in an order that scatters them, so that short loops of all parts are found soon.
+fn search_rising(
+    alloc: Global,
+    finder: &mut Finder<'_>,
+    caps: &[u64],
+    reached: &mut [u64],
+    choice: &mut Choice,
+) -> Result<(), NoMemory>
+    requires caps { length caps.now ≡ finder.old.mesh.vertices }
+    requires reached { length reached.old ≡ finder.old.mesh.vertices }
+    requires signed { AreSigned finder.old.mesh finder.old.signs choice.old.width }
+    requires few { (finder.old.mesh.vertices < 2 ^ 32) × (edge_count finder.old.mesh ≤ 2 ^ 32) }
+    requires kept { AreKeptUpTo finder.old reached.old choice.old }
+    ensures kept { OnOk result (AreKeptUpTo finder.old reached.new choice.new) }
+    ensures each { OnOk result ((v : ℕ) → v < length caps.now →
+        cap_at caps.now v ≤ cap_at reached.new v) }
+    ensures count { length reached.new ≡ length reached.old }
+    ensures width { choice.new.width ≡ choice.old.width }
+    ensures same { finder.new ≡ finder.old }
+{
+    let vertices = list_rising(alloc, caps, reached)?;
+    let mut found = Vec::new(alloc);
+    search_each(finder, &vertices, caps, reached, choice, &mut found)
+}
+
+// A copy of caps, raised to what edges ask for by what is kept, though to no more than a length.
+fn raised_caps(
+    alloc: Global,
+    surface: &SignedSurface<'_>,
+    choice: &Choice,
+    most: u64,
+    reached: &[u64],
+) -> Result<Vec<u64>, NoMemory>
+    requires reached { length reached.now ≡ surface.now.mesh.now.vertices }
+    requires signed { AreSigned surface.now.mesh.now surface.now.signatures.now choice.now.width }
+    ensures capped { IfOk result (λ caps. AreCapped surface.now.mesh.now surface.now.signatures.now
+        choice.now.kept most caps.items) }
+    ensures count { IfOk result (λ caps. length caps.items ≡ length reached.now) }
+{
+    let mut caps = vec![in alloc; 0u64; reached.len()]?;
+    caps.copy_from_slice(reached);
+    raise_caps(alloc, surface, choice, most, &mut caps)?;
+    Ok(caps)
+}
+
+// A round: caps are raised, though to no more than a length, and all vertices are searched as far.
 fn run_round(
     alloc: Global,
     surface: &SignedSurface<'_>,
@@ -152,19 +196,13 @@ fn run_round(
     requires signed { AreSigned surface.now.mesh.now surface.now.signatures.now choice.old.width }
     requires kept { AreKeptUpTo finder.old reached.old choice.old }
     ensures kept { OnOk result (AreKeptUpTo finder.old reached.new choice.new) }
-    ensures capped { OnOk result (AreCapped surface.now.mesh.now surface.now.signatures.now
-        choice.old.kept most reached.new) }
     ensures count { length reached.new ≡ length reached.old }
     ensures width { choice.new.width ≡ choice.old.width }
     ensures same { finder.new ≡ finder.old }
 {
     surface.mesh.law_of_surface();
-    let mut caps = vec![in alloc; 0u64; reached.len()]?;
-    caps.copy_from_slice(reached);
-    raise_caps(alloc, surface, choice, most, &mut caps)?;
-    let vertices = list_rising(alloc, &caps, reached)?;
-    let mut found = Vec::new(alloc);
-    search_each(finder, &vertices, &caps, reached, choice, &mut found)
+    let caps = raised_caps(alloc, surface, choice, most, reached)?;
+    search_rising(alloc, finder, &caps, reached, choice)
 }
 
 // Four times the length of the first loop that is kept.
@@ -215,15 +253,20 @@ fn run_short_rounds(
     Ok(())
 }
 
-// The last round, up to any length: what is kept then has the places of the basis.
+// The last round, with caps that are as great as edges ask for: what is kept then has the places of
+// the basis.
 fn run_last(
     alloc: Global,
     surface: &SignedSurface<'_>,
     finder: &mut Finder<'_>,
+    caps: &[u64],
     reached: &mut [u64],
     choice: &mut Choice,
 ) -> Result<(), NoMemory>
     requires finder { finder.old ≡ surface_of surface.now }
+    requires caps { length caps.now ≡ surface.now.mesh.now.vertices }
+    requires capped { AreCapped surface.now.mesh.now surface.now.signatures.now choice.old.kept
+        18446744073709551615 caps.now }
     requires reached { length reached.old ≡ surface.now.mesh.now.vertices }
     requires signed { AreSigned surface.now.mesh.now surface.now.signatures.now choice.old.width }
     requires kept { AreKeptUpTo finder.old reached.old choice.old }
@@ -234,8 +277,9 @@ fn run_last(
         choice.new.kept) }
     ensures same { finder.new ≡ finder.old }
 {
+    surface.mesh.law_of_surface();
     finder.law_of_finder();
-    run_round(alloc, surface, finder, u64::MAX, reached, choice)?;
+    search_rising(alloc, finder, caps, reached, choice)?;
     choice.law_of_choice();
     Ok(())
 }
@@ -265,10 +309,11 @@ fn search_rest(
     ensures same { finder.new ≡ finder.old }
 {
     finder.law_of_finder();
-    if is_cut_cheaper(alloc, surface, finder, vertices.len(), reached, choice)? {
+    let caps = raised_caps(alloc, surface, choice, u64::MAX, reached)?;
+    if is_cut_cheaper(alloc, finder, vertices.len(), &caps, reached, choice)? {
         return search_vertices(alloc, surface, vertices, finder, choice);
     }
-    run_last(alloc, surface, finder, reached, choice)
+    run_last(alloc, surface, finder, &caps, reached, choice)
 }
 
 // Keeps loops among whose lengths and least bases are the lengths and the bases of the basis that

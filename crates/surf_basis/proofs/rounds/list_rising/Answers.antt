@@ -41,8 +41,9 @@ returns-clause-rising c =
     let caps = c.args.caps.now in
     let reached = c.args.reached.now in
     let last = written_back c.scatter.new.vertices _ _ (omega (arith, c.scatter.auto.vertices, c.deref_mut.ensures.len)) in
+    let past = c.loop-v-test.false in
     let full : AreRising caps reached (length caps) c.loop-v.list.items =
-    λ v l. c.loop-v.invariant.rising v (omega (arith, l, c.loop-v-test.false)) in
+    λ v l. c.loop-v.invariant.rising v (omega (arith, l, past)) in
     subst (λ (xs : List ℕ). AreRising caps reached (length caps) xs) (sym last)
     (rising_permuted caps reached (length caps) c.deref_mut.result.now c.scatter.new.vertices c.scatter.ensures.same
     (subst (λ (xs : List ℕ). AreRising caps reached (length caps) xs) (sym c.deref_mut.ensures.value) full))

@@ -4,7 +4,7 @@ use Rattle.surf_surfaces.proofs.FirstCycleLaws.{shortest_trees}
 use Rattle.surf_choice.specs.Places.{limit_of}
 use Rattle.surf_basis.specs.Found.{SurfaceTables}
 use Rattle.surf_basis.specs.Passing.{AreKeptIn}
-use Rattle.surf_basis.specs.Rounds.{AreKeptUpTo}
+use Rattle.surf_basis.specs.Rounds.{AreKeptUpTo, AreCapped}
 use Rattle.surf_basis.proofs.Capped.{kept_of_none}
 use Rattle.surf_basis.proofs.rounds.search_rest.Goals as goal
 
@@ -22,3 +22,8 @@ search_vertices-requires-clause-start c =
 pub run_last-requires-clause-kept : goal.run_last-requires-clause-kept
 run_last-requires-clause-kept c =
     subst (λ (g : SurfaceTables). AreKeptUpTo g c.args.reached.now c.args.choice.now) (sym c.is_cut_cheaper.ensures.same) c.requires.kept
+
+pub run_last-requires-clause-capped : goal.run_last-requires-clause-capped
+run_last-requires-clause-capped c =
+    subst (AreCapped c.args.surface.now.mesh.now c.args.surface.now.signatures.now c.args.choice.now.kept 18446744073709551615)
+    (sym c.deref-2.ensures.value) c.in_ok-caps.ensures.capped
