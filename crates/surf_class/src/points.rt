@@ -59,11 +59,7 @@ impl<T: Drop> From<AllocFailed<T>> for PointFault {
 ///
 /// Refuses with the first kind of fault, in the order of [`PointFault`], at its least place, or
 /// with `Memory` where there is none.
-pub fn read_points(
-    alloc: Global,
-    text: &[u8],
-    mesh: &HalfMesh,
-) -> Result<Vec<VertexId>, PointFault>
+pub fn read_points(alloc: Global, text: &[u8], mesh: &HalfMesh) -> Result<Vec<VertexId>, PointFault>
     requires short { length text.now < 4294967295 }
     ensures points { Gives PointFault.Memory (λ v. v.items) result (points_in mesh.now text.now) }
     ensures inside { IfOk result (λ v. All (λ p. p < mesh.now.vertices) v.items) }

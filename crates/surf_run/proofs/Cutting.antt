@@ -86,15 +86,15 @@ module _ (holds : Option Files) (old : ℕ) (extent : Extent) (mesh : Mesh) (len
           -- it is opened, or its cut has too few edges, unless memory ran out
           pub cut_open : (r : Result OpenMesh Refused) → Takes (λ (opened : OpenMesh). opened) (CutsAt kind mesh values vertex) r → Tells new r
           cut_open (Ok opened) cuts = some_so holds (λ files is. record {
-                few = few;
-                values = values;
-                measured = is.0;
-                vertex = vertex;
-                based = based;
-                kind = kind;
-                has = is.1;
-                cuts = cuts;
-              })
+            few = few;
+            values = values;
+            measured = is.0;
+            vertex = vertex;
+            based = based;
+            kind = kind;
+            has = is.1;
+            cuts = cuts;
+          })
               (both holds (subst (λ (h : Option Files). IfSome h (λ files. IsMeasured lengths mesh files (Ok values))) same went)
               (subst (λ (h : Option Files). IfSome h (λ files. HasKind extent mesh files (Ok kind))) alike told))
           cut_open (Err e) why =
