@@ -263,7 +263,7 @@ def given_words(tool, surfaces):
 def main():
     given = given_words("check_bases", 300)
     if given is None:
-        return 0
+        return 1
     with tempfile.TemporaryDirectory() as name:
         folder = pathlib.Path(name)
         chance = random.Random(given.seed)

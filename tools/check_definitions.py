@@ -3,11 +3,8 @@
 
     python3 tools/check_definitions.py
 
-A row of a table of laws is `| LAW | what it says | FUNCTION, CLAUSE, .. |` under a heading that names crates. Checked:
-each row names a public law function of such a crate, with an empty body, whose clause of that name, or whose lone
-clause without a name, states the law; and each clause of each law function of the law crates stands in a row. A
-definition that is named in bold paragraphs, as `surf_surfaces.Mesh.IsMesh`, is a name in that specs/ file. Laws that
-only show examples, such as `small_meshes`, are told at the page's end and need no row.
+Checked: each definition that a paragraph with a bold word names, as `surf_surfaces.Mesh.IsMesh`, is a name in that
+specs/ file. The laws have a page of their own, which tools/laws.py makes.
 """
 
 import pathlib
@@ -16,53 +13,6 @@ import sys
 
 TOP = pathlib.Path(__file__).resolve().parent.parent
 PAGE = TOP / "docs" / "definitions.md"
-EXAMPLES = {"small_meshes", "small_surfaces", "small_cases"}
-FUNCTION = re.compile(r"^pub fn (\w+)\(\)\n((?:    [^\n]*\n|\n)+)\{\}", re.M)
-CLAUSE = re.compile(r"^    ensures (?:(\w+) )?\{ (.*?) \}$", re.M | re.S)
-
-
-def law_functions(crate):
-    """The law functions of a crate: for each, the text of each clause by its name, "" for one without a name."""
-    found = {}
-    for path in sorted((TOP / "crates" / crate / "src").glob("*.rt")):
-        for name, clauses in FUNCTION.findall(path.read_text()):
-            found[name] = {clause: " ".join(text.split()) for clause, text in CLAUSE.findall(clauses)}
-    return found
-
-
-def rows_of(text):
-    """Each row of a table of laws: the crates of its heading, the law, the function and the clauses."""
-    crates = []
-    for line in text.splitlines():
-        if line.startswith("#"):
-            crates = re.findall(r"`(surf_\w+)`", line)
-        cells = [cell.strip() for cell in line.strip().strip("|").split("|")]
-        if crates and line.startswith("| `") and len(cells) == 3:
-            law, names = re.findall(r"`([^`]+)`", cells[0]), re.findall(r"`([^`]+)`", cells[2])
-            yield crates, law[0], names[0] if names else "", names[1:] or [""]
-
-
-def row_faults(rows, functions):
-    for crates, law, function, clauses in rows:
-        homes = [crate for crate in crates if function in functions[crate]]
-        if not homes:
-            yield f"{law}: no law function {function} in {' or '.join(crates)}"
-            continue
-        stated = functions[homes[0]][function]
-        for clause in clauses:
-            if clause not in stated:
-                yield f"{law}: {function} has no clause {clause or 'without a name'}"
-            elif not re.search(rf"\b{re.escape(law)}\b", stated[clause]):
-                yield f"{law}: the clause {clause} of {function} states {stated[clause]}"
-
-
-def missing_rows(rows, functions):
-    told = {(crate, function, clause) for crates, _, function, clauses in rows for crate in crates for clause in clauses}
-    for crate, found in functions.items():
-        for function, clauses in found.items():
-            for clause in clauses:
-                if function not in EXAMPLES and (crate, function, clause) not in told:
-                    yield f"{crate}.{function}: the clause {clause or 'without a name'} stands in no row"
 
 
 def names_of(path):
@@ -95,14 +45,10 @@ def name_faults(text):
 
 
 def main():
-    text = PAGE.read_text()
-    rows = list(rows_of(text))
-    crates = sorted({crate for row in rows for crate in row[0]})
-    functions = {crate: law_functions(crate) for crate in crates}
-    faults = [*row_faults(rows, functions), *missing_rows(rows, functions), *name_faults(text)]
+    faults = list(name_faults(PAGE.read_text()))
     for fault in faults:
         print(f"docs/definitions.md: {fault}")
-    print(f"{len(rows)} rows of laws, {len(faults)} faults")
+    print(f"names in docs/definitions.md: {len(faults)} faults")
     return 1 if faults else 0
 
 

@@ -133,7 +133,7 @@ def check(path, program, counts):
 
 
 def documents():
-    return [*sorted(TOP.glob("*.md")), *sorted((TOP / "docs").glob("*.md")), *sorted((TOP / "meshes").glob("*.md"))]
+    return [*sorted(TOP.glob("*.md")), *sorted((TOP / "docs").rglob("*.md")), *sorted((TOP / "meshes").glob("*.md"))]
 
 
 def main():

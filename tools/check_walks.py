@@ -90,7 +90,7 @@ def compared(program, folder, chance):
 def main():
     given = given_words("check_walks", 60)
     if given is None:
-        return 0
+        return 1
     with tempfile.TemporaryDirectory() as name:
         chance = random.Random(given.seed)
         wrong = sum(compared(given.program, pathlib.Path(name), chance) for _ in range(given.surfaces))

@@ -553,10 +553,17 @@ def limited(pages):
 
 # ---- great texts
 
+CUT_HEAVY = "a cut whose six copies of a vertex have lines of 179,000,000 bytes"
+
+
 def great_runs(program, files, room):
-    tally = Tally("great texts: 268,435,456 bytes and one more; 2,000,000 faces")
+    tally = Tally("great texts: 268,435,456 bytes and one more; 2,000,000 faces; an answer past its limit")
     path = room / "great"
     faces = b"OFF\n4 2000000 0\n" + b"0 0 0\n" * 4 + b"3 0 1 2\n" * 1999999
+    # Each of the six copies of the first vertex has its line, so the answer passes its limit.
+    ring = [(2 + k, 2 + (k + 1) % 6) for k in range(6)]
+    apexes = b"".join(b"3 0 %d %d\n3 1 %d %d\n" % (u, v, v, u) for u, v in ring)
+    heavy = b"OFF\n8 12 0\n0 0 " + b"0" * 178999996 + b"\n" + b"0 0 0\n" * 7 + apexes
     trials = [
         ("268,435,456 spaces", b" " * 268435456, 3, b"mesh text: header 0\n"),
         ("268,435,457 spaces", b" " * 268435457, 6, b"limit: text\n"),
@@ -565,11 +572,13 @@ def great_runs(program, files, room):
         ("1,000,001 vertices", b"OFF\n1000001 1 0\n", 6, b"limit: vertices\n"),
         ("2,000,001 faces", b"OFF\n4 2000001 0\n", 6, b"limit: faces\n"),
         ("an endless file", None, 6, b"limit: text\n"),
+        (CUT_HEAVY, heavy, 6, b"limit: answer\n"),
     ]
     for name, text, wanted, wanted_line in trials:
         if text is not None:
             path.write_bytes(text)
-        status, out, line = program.run(["info", str(path) if text is not None else "/dev/zero"])
+        file = str(path) if text is not None else "/dev/zero"
+        status, out, line = program.run(["cut", file, "unit", "0", "full"] if name == CUT_HEAVY else ["info", file])
         wrong = None if (status, out, line) == (wanted, b"", wanted_line) else f"status {status}, {line[:60]!r}"
         tally.add(name, status, wrong)
     path.unlink()
@@ -605,8 +614,8 @@ def main():
     parser.add_argument("--page", action="store_true")
     words = parser.parse_args()
     if not words.program.is_file():
-        print("the program isn't built: hostile files, streams and memory are not tried")
-        return 0
+        print("the program isn't built: hostile files, streams and memory can't be tried")
+        return 1
     tallies = []
     with tempfile.TemporaryDirectory() as name:
         room = pathlib.Path(name)

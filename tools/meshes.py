@@ -7,9 +7,13 @@ Circles of radius 1 stand in a row in a plane, each touching the next. The surfa
 each circle gives it one hole and its genus is their number. It is cut out of a grid of cubes, each of six tetrahedra
 along its diagonal, which gives a closed surface of triangles whatever the grid is. Coordinates are written with seven
 decimals, as tools for meshes write them.
+
+Beside them stands `scan.ply`, a binary PLY of the surface of genus 2 as a scanner's tools would leave it: with three
+holes, with vertices that stand twice along a seam, and with a crumb that doesn't hang together with it.
 """
 import math
 import os
+import struct
 import sys
 
 CORNERS = [(i >> 2 & 1, i >> 1 & 1, i & 1) for i in range(8)]
@@ -94,11 +98,46 @@ def write(path, genus, points, triangles):
     print(f"{path}: {len(points)} vertices, {len(sides)} edges, {len(triangles)} faces")
 
 
+HOLES = [((-1.0, -1.0, 0.3), 0.4), ((3.0, 0.9, 0.2), 0.35), ((1.0, 0.3, 0.4), 0.25)]
+SEAM = 1.0
+CRUMB_POINTS = [(1.0, 1.7, 0.5), (1.1, 1.7, 0.5), (1.0, 1.8, 0.5), (1.0, 1.7, 0.6)]
+CRUMB_TRIANGLES = [(0, 2, 1), (0, 1, 3), (1, 2, 3), (2, 0, 3)]
+
+
+def scan(points, triangles):
+    """The points and the triangles of the scan. Those beyond the seam have vertices of their own."""
+    middle = lambda t: tuple(sum(points[c][k] for c in t) / 3 for k in range(3))
+    left = [t for t in triangles if all(math.dist(middle(t), at) > size for at, size in HOLES)]
+    numbers, found, faces = {}, [], []
+    for t in left:
+        key = lambda c: (middle(t)[0] > SEAM, c)
+        for c in t:
+            if key(c) not in numbers:
+                numbers[key(c)] = len(found)
+                found.append(points[c])
+        faces.append(tuple(numbers[key(c)] for c in t))
+    faces += [tuple(c + len(found) for c in t) for t in CRUMB_TRIANGLES]
+    return found + CRUMB_POINTS, faces
+
+
+def write_scan(path, points, triangles):
+    head = ["ply", "format binary_little_endian 1.0", f"element vertex {len(points)}"]
+    head += [f"property float {axis}" for axis in "xyz"] + ["property uchar quality"]
+    head += [f"element face {len(triangles)}", "property list uchar int vertex_indices", "end_header", ""]
+    with open(path, "wb") as file:
+        file.write("\n".join(head).encode())
+        file.write(b"".join(struct.pack("<3fB", *point, 255) for point in points))
+        file.write(b"".join(struct.pack("<B3i", 3, *t) for t in triangles))
+    print(f"{path}: {len(points)} vertices, {len(triangles)} faces")
+
+
 def main():
     folder = os.path.join(os.path.dirname(os.path.abspath(__file__)), "..", "meshes")
     for name, genus, step in [("ring", 1, 0.4), ("eight", 2, 0.4), ("three", 3, 0.3)]:
         points, triangles = surface(genus, step)
         write(os.path.normpath(os.path.join(folder, name + ".off")), genus, points, triangles)
+        if name == "eight":
+            write_scan(os.path.normpath(os.path.join(folder, "scan.ply")), *scan(points, triangles))
 
 
 main()

@@ -6,7 +6,8 @@
 
 A must-fail edit has to compile, so it can't show these. Each misuse is a crate of its own in a copy of the repository in
 a temporary folder. The compiler has to name the borrow error at the line of the misuse. The third crate does the same
-without the misuse, and the compiler has to pass it. Where there is no `rt`, nothing is tried.
+without the misuse, and the compiler has to pass it. A trial that the compiler doesn't come to is a fault. Where there is
+no `rt`, nothing is tried.
 """
 
 import pathlib
@@ -139,6 +140,7 @@ def main():
             said = tried(top, name, words)
             if not was_tried(said):
                 print(f"{name}: the compiler didn't come to it: {said[-200:]}")
+                faults += 1
                 continue
             fault = fault_of(said, text, error, line)
             if error is None and not fault and words[0] == "try" and "error[" in said:

@@ -2,13 +2,15 @@
 
 
 class Mesh:
-    """Points, faces as lists of vertex numbers, the colours behind the faces, and the origins of copies."""
+    """Points, faces as lists of vertex numbers, the colours behind the faces, and the origins of copies. `added` are
+    the first face and the first vertex that were added to a surface with holes."""
 
-    def __init__(self, points, faces, colours=None, origins=None):
+    def __init__(self, points, faces, colours=None, origins=None, added=None):
         self.points = points
         self.faces = faces
         self.colours = colours or [""] * len(faces)
         self.origins = origins or []
+        self.added = added or (len(faces), len(points))
 
     def edges(self):
         """Each edge once, the lesser end first, with the faces that have it, in order."""
@@ -29,6 +31,13 @@ def copy_lines(text):
     """The origins that lines `# copy i from v` name, in order."""
     rows = (line.split() for line in text.splitlines())
     return [int(row[4]) for row in rows if row[:2] == ["#", "copy"] and len(row) == 5]
+
+
+def added_line(text):
+    """The numbers that a line `# added faces f vertices v` names, or None."""
+    rows = (line.split() for line in text.splitlines() if line.startswith("# added"))
+    found = [(int(row[3]), int(row[5])) for row in rows if len(row) == 6 and row[2::2] == ["faces", "vertices"]]
+    return found[-1] if found else None
 
 
 def is_off(text):
@@ -52,7 +61,7 @@ def read_off(text):
         colours.append(" ".join(row[size + 1 :]))
     if len(points) < vertices or len(corners) < faces:
         raise ValueError("the text ends before the last vertex or face")
-    return Mesh(points, corners, colours, copy_lines(text))
+    return Mesh(points, corners, colours, copy_lines(text), added_line(text))
 
 
 def write_off(mesh):

@@ -4,7 +4,8 @@
     run_cases.py [--program PATH] [SHEET ..]
 
 Where no program is named, the cases run on crates/surf/out/surf, as LLVM makes it, if it is there, and on surf.by-rattle
-beside it, as Rattle's own compiler does, if it was made no earlier. The sheets are tools/cases/*.cases. Each case runs in
+beside it, as Rattle's own compiler does, if it was made no earlier. Where no sheet is named they are those of
+tools/cases, which people wrote, and those that tools/worked_cases.py makes. Each case runs in
 a folder with its files. A case that goes otherwise than is due is printed, and the last line is 'N passed, M failed'.
 
 A sheet is read by lines:
@@ -30,9 +31,15 @@ import pathlib
 import re
 import struct
 import subprocess
+import sys
 import tempfile
 
+sys.path.insert(0, str(pathlib.Path(__file__).resolve().parent))
+
+import worked_cases  # noqa: E402
+
 TOP = pathlib.Path(__file__).resolve().parent.parent
+SHEETS = TOP / "tools" / "cases"
 BUILT = TOP / "crates" / "surf" / "out" / "surf"
 SIGNS = {"t": "\t", "r": "\r", "0": "\0"}
 OPENED = 0x20
@@ -121,9 +128,9 @@ def told(names):
     return [name for at, name in enumerate(names) if at == 0 or names[at - 1] != name]
 
 
-def run_sheet(program, path):
-    """How many cases pass and fail."""
-    shared, cases = cases_of(path.read_bytes().decode())
+def run_sheet(program, name, text):
+    """How many cases of a sheet pass and fail."""
+    shared, cases = cases_of(text)
     failed = 0
     for case in cases:
         files = shared | case["files"]
@@ -131,7 +138,7 @@ def run_sheet(program, path):
         out = shared[case["of"]] if "of" in case else case["out"]
         if "keep" in case:
             shared[case["keep"]] = out = got[1]
-        where = f"{program.name}: {path.name}: {' '.join(case['words'])}"
+        where = f"{program.name}: {name}: {' '.join(case['words'])}"
         if not is_due(got, case, out):
             failed += 1
             print(f"{where}: {got!r:.2000}")
@@ -148,10 +155,12 @@ def main():
     args = args.parse_args()
     programs = [path.resolve() for path in ([args.program] if args.program else newest(BUILT)) if path.exists()]
     if not programs:
-        print("surf isn't built: the worked cases are not run")
-        return 0
-    sheets = args.sheets or sorted((TOP / "tools" / "cases").glob("*.cases"))
-    passed, failed = map(sum, zip(*(run_sheet(program, path) for program in programs for path in sheets)))
+        print("surf isn't built: the worked cases can't be run")
+        return 1
+    sheets = [(path.name, path.read_bytes().decode()) for path in args.sheets or sorted(SHEETS.glob("*.cases"))]
+    if not args.sheets:
+        sheets += [(sheet.name, sheet.text()) for sheet in worked_cases.sheets()]
+    passed, failed = map(sum, zip(*(run_sheet(program, *sheet) for program in programs for sheet in sheets)))
     print(f"{passed} passed, {failed} failed")
     return 1 if failed else 0
 

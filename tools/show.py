@@ -7,9 +7,11 @@
     show.py MESH [ANSWER] --vect out.vect    the walks alone, for Geomview
     show.py MESH [ANSWER] --coff out.off     the mesh with colours on the faces along the walks or in the evidence
 
-ANSWER is the output of `loops`, `basis`, `cycle`, `shortest`, `class` or `same` on MESH, or several of these one after
-another, or a text that `cut` wrote of MESH, whose border is drawn as the cut. Without it the mesh alone is shown. Pictures look along a line that --turn
-(degrees about the upright axis) and --tilt (degrees from above the horizon) give.
+ANSWER is the output of `loops`, `basis`, `cycle`, `shortest`, `class` or `same` on MESH, or several of these one
+after another, or a text that `cut` wrote of MESH, whose border is drawn as the cut. Without it the mesh alone is
+shown. Faces that close holes and the hub, which `to_off.py` adds, are left out, with all that runs over the hub.
+Pictures look along a line that --turn (degrees about the upright axis) and --tilt (degrees from above the horizon)
+give.
 """
 
 import argparse
@@ -19,7 +21,7 @@ import struct
 import sys
 import zlib
 
-from off import is_off, read_off
+from off import Mesh, is_off, read_off
 
 PALETTE = [(214, 39, 40), (31, 119, 180), (44, 160, 44), (255, 127, 14), (148, 103, 189), (140, 86, 75)]
 PALETTE += [(227, 119, 194), (23, 190, 207), (188, 189, 34), (80, 80, 80)]
@@ -28,7 +30,7 @@ MARKED = (255, 209, 102)
 
 
 class Answer:
-    """Walks to be drawn as lines, each a list of vertices, single edges, all of one colour, and faces to be coloured."""
+    """Walks to be drawn, each a list of vertices, single edges, all of one colour, and faces to be coloured."""
 
     def __init__(self, edges=()):
         self.walks, self.edges, self.faces = [], list(edges), set()
@@ -60,6 +62,18 @@ def read_answer(text):
             ends = [int(v) for v in row[2:]]
             answer.edges += zip(ends[::2], ends[1::2])
     return answer
+
+
+def without_added(mesh, answer):
+    """The mesh and the answer without what was added to close holes."""
+    face, vertex = mesh.added
+    shown = Answer(edge for edge in answer.edges if max(edge) < vertex)
+    shown.faces = {number for number in answer.faces if number < face}
+    shown.walks = [walk for walk in answer.walks if max(walk) < vertex]
+    over = len(answer.walks) - len(shown.walks)
+    if over:
+        print(f"{over} of {len(answer.walks)} walks run over the hub and are left out", file=sys.stderr)
+    return Mesh(mesh.points[:vertex], mesh.faces[:face]), shown
 
 
 def marked_faces(mesh, answer):
@@ -247,6 +261,7 @@ def main():
     answer = Answer()
     if words.answer:
         answer = read_answer(sys.stdin.read() if str(words.answer) == "-" else words.answer.read_text())
+    mesh, answer = without_added(mesh, answer)
     for name, text_of in (("obj", obj_text), ("vect", vect_text), ("coff", coff_text)):
         if getattr(words, name):
             getattr(words, name).write_text(text_of(mesh, answer))

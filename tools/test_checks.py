@@ -3,19 +3,21 @@
 
 import pathlib
 import sys
+import tempfile
 import unittest
 
 sys.path.insert(0, str(pathlib.Path(__file__).resolve().parent))
 sys.dont_write_bytecode = True
 
 import check_bases  # noqa: E402
-import check_definitions  # noqa: E402
 import check_sessions  # noqa: E402
 import check_walks  # noqa: E402
 import crate_graph  # noqa: E402
 import hostile  # noqa: E402
+import laws  # noqa: E402
 import misuses  # noqa: E402
 import run_cases  # noqa: E402
+import wrong_bodies  # noqa: E402
 from worked_cases import PLANE_FACES, TORUS_FACES, edges_of  # noqa: E402
 
 
@@ -29,17 +31,68 @@ class Graph(unittest.TestCase):
         self.assertEqual(crate_graph.drawing(crates), " 3  c - b\n 2  b - a; of the kit kit\n 1  a\n")
 
 
-class Definitions(unittest.TestCase):
-    ROWS = "### Colours: `surf_a`\n\n| Law | Says | Function, clause |\n|---|---|---|\n| `Red` | it is red | `law_of_red`, `red` |\n"
-    CLAUSES = {"surf_a": {"law_of_red": {"red": "Red"}, "law_of_green": {"": "Green"}}}
+class WrongBodies(unittest.TestCase):
+    EDIT = "file: src/lib.rt\nold:     a < b\nnew:     a > b\nold: c\nnew:\n"
 
-    def test_rows(self):
-        rows = list(check_definitions.rows_of(self.ROWS))
-        self.assertEqual(rows, [(["surf_a"], "Red", "law_of_red", ["red"])])
-        self.assertEqual(list(check_definitions.row_faults(rows, self.CLAUSES)), [])
-        self.assertEqual(len(list(check_definitions.missing_rows(rows, self.CLAUSES))), 1)
-        wrong = list(check_definitions.rows_of(self.ROWS.replace("`Red`", "`Blue`")))
-        self.assertEqual(len(list(check_definitions.row_faults(wrong, self.CLAUSES))), 1)
+    def setUp(self):
+        room = tempfile.TemporaryDirectory()
+        self.addCleanup(room.cleanup)
+        self.folder = pathlib.Path(room.name)
+        (self.folder / "src").mkdir()
+
+    def fault(self, source, edit=EDIT):
+        (self.folder / "src/lib.rt").write_text(source)
+        return wrong_bodies.fault_of(edit, self.folder)
+
+    def test_changes_are_read(self):
+        self.assertEqual(
+            list(wrong_bodies.pairs_of(self.EDIT)), [("src/lib.rt", "    a < b", "    a > b"), ("src/lib.rt", "c", "")]
+        )
+
+    def test_a_text_that_stands_once_can_be_turned(self):
+        self.assertIsNone(self.fault("if\n    a < b\nc\n"))
+
+    def test_what_cannot_be_applied_is_told(self):
+        self.assertIn("0 times", self.fault("if\n    a <= b\nc\n"))
+        self.assertIn("2 times", self.fault("    a < b\nc\nc\n"))
+        self.assertIn("no file", self.fault("", "file: src/other.rt\nold: a\nnew: b\n"))
+        self.assertIn("changes nothing", self.fault("a", "file: src/lib.rt\nold: a\nnew: a\n"))
+        self.assertIn("no lines", self.fault("a", "old: a\nnew: b\n"))
+
+    def test_each_name_has_one_place(self):
+        for place in ("crates/surf_a/must-fail", "wrong-bodies/surf_a"):
+            (self.folder / place).mkdir(parents=True)
+            (self.folder / place / "turned.edit").write_text("file: src/lib.rt\nold: a\nnew: b\n")
+        (self.folder / "crates/surf_a/src").mkdir()
+        (self.folder / "crates/surf_a/src/lib.rt").write_text("a")
+        self.assertEqual(
+            list(wrong_bodies.faults(self.folder)), ["surf_a/turned.edit: it stands in the gate and beside it"]
+        )
+
+
+class Laws(unittest.TestCase):
+    SOURCE = "//! Colours of things. And more.\nuse a;\n\npub fn law_of_red()\n    ensures red { IsRed 1 }\n    ensures dark { IsRed 2 }\n{}\n"
+
+    def page_of(self, spec):
+        with tempfile.TemporaryDirectory() as room:
+            top = pathlib.Path(room)
+            for folder, name, text in (("src", "lib.rt", self.SOURCE), ("specs", "Red.antt", spec)):
+                (top / "crates/surf_a" / folder).mkdir(parents=True)
+                (top / "crates/surf_a" / folder / name).write_text(text)
+            before, laws.TOP = laws.TOP, top
+            try:
+                return laws.page()
+            finally:
+                laws.TOP = before
+
+    def test_a_law_with_its_comment(self):
+        text, faults = self.page_of("-- What is red\n-- is dark.\nabbrev pub IsRed : Type 0\n")
+        self.assertIn("## `surf_a`\n\nColours of things.\n", text)
+        self.assertIn("| `IsRed` | What is red is dark. | `law_of_red`, `red`, `dark` |", text)
+        self.assertEqual(faults, [])
+
+    def test_a_law_without_a_comment_is_a_fault(self):
+        self.assertEqual(len(self.page_of("-- Apart.\n\nabbrev pub IsRed : Type 0\n")[1]), 1)
 
 
 class Sessions(unittest.TestCase):

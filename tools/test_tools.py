@@ -51,7 +51,7 @@ class Conversions(unittest.TestCase):
         with tempfile.TemporaryDirectory() as room:
             path = pathlib.Path(room, "a.obj")
             path.write_text(text)
-            self.assertEqual(run("to_off.py", path, "--merge", "1e-6"), TET)
+            self.assertEqual(run("to_off.py", path, "--tolerance", "1e-6"), TET)
 
 
     def test_the_largest_part(self):
@@ -59,7 +59,7 @@ class Conversions(unittest.TestCase):
         with tempfile.TemporaryDirectory() as room:
             path = pathlib.Path(room, "a.obj")
             path.write_text(text)
-            self.assertEqual(run("to_off.py", path, "--largest"), TET)
+            self.assertEqual(run("to_off.py", path), TET)
 
 
 class Unfolding(unittest.TestCase):
@@ -111,6 +111,13 @@ class Pictures(unittest.TestCase):
         cut += "".join("# copy %d from %d\n" % pair for pair in enumerate([0, 0, 1, 2, 3]))
         text = self.shown(cut, "obj").decode()
         self.assertTrue(text.endswith("\nl 1 2\nl 1 3\n"))
+
+    def test_what_was_added_is_left_out(self):
+        hub = TET.replace("4 4 6", "6 6 10") + "# added faces 4 vertices 4\n"
+        hub = hub.replace("3 0 1 2\n", "9 9 9\n8 8 8\n3 0 1 2\n", 1).replace("# added", "3 0 1 4\n3 1 2 5\n# added")
+        text = self.shown("cycle 3 0 1 2 0\ncycle 9 0 1 4 0\nnull 2 1 5\n", "obj", hub).decode()
+        self.assertEqual((text.count("\nv ") + 1, text.count("\nf "), text.count("\nl ")), (4, 4, 1))
+        self.assertTrue(text.endswith("\nl 1 2 3 1\n"))
 
     def test_pictures_are_pictures(self):
         image = self.shown("cycle 3 0 1 2 0\n", "png")

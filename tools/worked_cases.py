@@ -1,8 +1,8 @@
 #!/usr/bin/env python3
-"""Writes the sheets of worked cases, tools/cases/*.cases.
+"""Makes the sheets of worked cases that tools/run_cases.py runs beside those of tools/cases.
 
-    worked_cases.py            writes them
-    worked_cases.py --check    says whether they are up to date
+    worked_cases.py          counts the cases of each sheet
+    worked_cases.py SHEET    prints a sheet: lengths, classes, sewing or begun
 
 What is due comes from the definitions alone: lengths by exact fractions, classes of walks by elimination over the
 field of two elements and by trees that are found without any order of search, sewing by lists. Nothing here calls the
@@ -11,13 +11,10 @@ program or shares anything with it.
 
 import itertools
 import math
-import pathlib
 import re
 import sys
 from fractions import Fraction
 
-TOP = pathlib.Path(__file__).resolve().parent.parent
-DATA = TOP / "tools" / "cases"
 USAGE = "usage: the words are in no row of the command table\n"
 
 # ---- sheets
@@ -874,7 +871,7 @@ FEW = "0 1 1\n"
 
 # The words of each command that reads a mesh `M`, with what follows: `L`, `W`, `V` and `C` are files, `0` a vertex.
 COMMANDS = ["info M", "dist M L 0", "loops M L 0", "basis M L", "cycle M L", "cut M L 0 full", "cut M L 0 trim",
-            "sew M", "certify M L 0", "certify M L", "check M L C", "class M W", "same M W V", "confirm M W C",
+            "sew M", "disc M", "certify M L 0", "certify M L", "check M L C", "class M W", "same M W V", "confirm M W C",
             "shortest M L W", "lengths M 3"]
 CERTIFICATE = "SURFCERT 1 loops\ncounts 4 4 0\n"
 
@@ -898,7 +895,7 @@ def begun_sheet():
         refused(sheet, words, {}, 9, "read fault\n", "M")
         refused(sheet, words, {"M": BROKEN}, 3, "mesh text: early 7\n", "M")
         refused(sheet, words, {"M": "OFF\n1000001 1 0\n"}, 6, "limit: vertices\n", "M")
-        if words != "sew M":
+        if words not in ("sew M", "disc M"):
             refused(sheet, words, {"M": OPEN}, 4, "surface: border 0 1 0\n", "M")
     after_the_surface(sheet)
     limits(sheet)
@@ -973,21 +970,18 @@ def limits(sheet):
 # ---- all sheets
 
 
+def sheets():
+    return [lengths_sheet(), classes_sheet(), sewing_sheet(), begun_sheet()]
+
+
 def main():
-    DATA.mkdir(exist_ok=True)
-    old = 0
-    for sheet in (lengths_sheet(), classes_sheet(), sewing_sheet(), begun_sheet()):
-        path = DATA / f"{sheet.name}.cases"
-        text = sheet.text()
-        count = text.count("\ncase ")
-        if "--check" in sys.argv[1:]:
-            same = path.exists() and path.read_bytes() == text.encode()
-            old += not same
-            print(f"{path.name}: {'up to date' if same else 'old'}")
-        else:
-            path.write_bytes(text.encode())
-            print(f"{path.name}: {count} cases, {len(text.encode())} bytes")
-    return 1 if old else 0
+    made = {sheet.name: sheet.text() for sheet in sheets()}
+    if sys.argv[1:] and sys.argv[1] in made:
+        print(made[sys.argv[1]], end="")
+    else:
+        for name, text in made.items():
+            print(f"{name}: {text.count(chr(10) + 'case ')} cases, {len(text.encode())} bytes")
+    return 0
 
 
 if __name__ == "__main__":

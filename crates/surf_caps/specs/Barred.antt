@@ -21,8 +21,7 @@ use Rattle.surf_caps.specs.Caps.{Sought, AreSoughtFromStart, up_to_length, AreEn
 use Rattle.surf_caps.specs.Caps.{ChoiceKeeps}
 use Rattle.surf_caps.specs.Stages.{behind, IsClassQuotient, AreFoundByImage}
 
--- Where at the vertices of a set all places are sought that are to be sought at z, the search at z may go by lengths that
--- differ at the set: what its loops depend on is enough
+-- A search may go by lengths that differ at vertices where all that it seeks is sought already.
 abbrev pub BarredSearchesSuffice : Type 0
 BarredSearchesSuffice =
     (mesh : Mesh) (lengths other : List ℕ) (trees others : ℕ → Tree) (sought : Sought) (set : ℕ → Bool) (z : ℕ)
@@ -48,8 +47,8 @@ DependOnShorterOr mesh lengths trees z most margin least found =
     (filter (λ k. is_shorter_by margin (loop_length mesh lengths (trees z) e) k || nat_le k.size least) found))
     (loop_walk mesh (trees z) e)
 
--- Where the loops at z by such lengths depend on loops that are shorter by more than two ways, or shorter than all that is
--- to be sought, these are enough for the vertices near z too
+-- `NearVerticesNeedNoMore` for the places that are sought at each vertex, where loops may also
+-- depend on what is shorter than all that is sought.
 abbrev pub NearPlacesNeedNoMore : Type 0
 NearPlacesNeedNoMore =
     (mesh : Mesh) (lengths other : List ℕ) (trees others : ℕ → Tree) (sought : Sought) (set : ℕ → Bool)
@@ -98,7 +97,8 @@ pub record AreBehind (mesh : Mesh) (lengths : List ℕ) (d : Split) (image : ℕ
 abbrev pub next_choice : Mesh → Split → (ℕ → ℕ) → List Found → List Found → List Found
 next_choice mesh d image final all = final ++ greedy numbers is_nothing (λ k. image (class_of mesh d k.walk)) all
 
--- Where all that is no longer than what is final is sought everywhere, the next choice is enough for z too
+-- One search of a stage: what is final, and the choice by images from what was kept behind it and
+-- what a search found that bars vertices, is enough for the searched vertex too.
 abbrev pub StageSearchesKeep : Type 0
 StageSearchesKeep =
     (mesh : Mesh) (lengths : List ℕ) (trees : ℕ → Tree) (d : Split) (image : ℕ → ℕ) (least : ℕ) (other : List ℕ)

@@ -61,7 +61,8 @@ limited target sought z place = sought z place && target place
 abbrev pub both : (Place → Bool) → (Place → Bool) → Place → Bool
 both target other place = target place && other place
 
--- These tests are of that kind, and what is made of such tests is
+-- Tests of places by a length, by an earlier place or by caps are sought from the start, and so are
+-- tests made of them.
 pub record StartLaw : Type 0 where
   pub lengths : (most : ℕ) → IsSoughtFromStart (up_to_length most)
   pub places : (limit : Place) → IsSoughtFromStart (comes_sooner limit)
@@ -92,12 +93,12 @@ MeetsUpTo mesh lengths target sought =
     (IsSumOfShorter mesh lengths walk → ⊥) →
     (v : ℕ) × Contains walk v × IsTrue (sought v (place_of_walk mesh lengths walk))
 
--- Places that are sought everywhere meet the walks
+-- Places that are sought at all vertices meet the walks.
 abbrev pub EverywhereMeets : Type 0
 EverywhereMeets = (mesh : Mesh) (lengths : List ℕ) (target : Place → Bool) →
     MeetsUpTo mesh lengths target (everywhere target)
 
--- What meets walks meets fewer of them, and so does what seeks more
+-- What meets walks meets fewer of them, and so does what seeks more.
 abbrev pub MeetsFewer : Type 0
 MeetsFewer =
     (mesh : Mesh) (lengths : List ℕ) (target fewer : Place → Bool) (sought more : Sought) →
@@ -127,7 +128,8 @@ HaveAskedEnds mesh sizes height target sought =
     IsTrue (asks sizes (height e) place.0) →
     IsTrue (sought (ends mesh e).0 place) ⊎ IsTrue (sought (ends mesh e).1 place)
 
--- Then such walks go over vertices that are searched, for any closed walks
+-- Where each edge has an end at which the places are sought for which it asks, walks that are no
+-- sums of shorter ones go over vertices where their places are sought.
 abbrev pub AskedEndsMeet : Type 0
 AskedEndsMeet =
     (mesh : Mesh) (lengths : List ℕ) (d : Split) (cycles : List (List ℕ)) (sizes : List ℕ) (height : ℕ → Option ℕ)
@@ -135,7 +137,8 @@ AskedEndsMeet =
     AreSized mesh lengths cycles sizes → AreHeights mesh d cycles height →
     HaveAskedEnds mesh sizes height target sought → MeetsUpTo mesh lengths target sought
 
--- So they do with a set that all closed walks meet which aren't null
+-- Walks that are no sums of shorter ones go over vertices of a set that every closed walk meets
+-- which is not null.
 abbrev pub SetsMeet : Type 0
 SetsMeet =
     (mesh : Mesh) (lengths : List ℕ) (set : ℕ → Bool) (target : Place → Bool) → MeetsAll mesh set →
@@ -166,13 +169,15 @@ pub record FoundLaw (mesh : Mesh) (lengths : List ℕ) (found : List Found) : Ty
       All (λ w. walk_length mesh lengths w ≤ most) (walks_found found)
   pub sized : IsInOrder comes_no_later found → AreSized mesh lengths (walks_found found) (map (λ k. k.size) found)
 
+-- Loops that were found are closed walks, no longer than their sizes, and in order of place their
+-- sizes are in order.
 abbrev pub FoundAreWalks : Type 0
 FoundAreWalks =
     (mesh : Mesh) (lengths : List ℕ) (found : List Found) → IsSurface mesh → ArePositive mesh lengths →
     All (IsFoundBy mesh lengths) found → FoundLaw mesh lengths found
 
--- Each closed walk whose place passes a test depends on loops that are enough and come no later than it, where such walks
--- are sums of shorter ones or go over vertices where their places are sought
+-- Each closed walk whose place passes a test depends on loops that are enough and come no later
+-- than it, where such walks are met.
 abbrev pub WalksDependOnEnough : Type 0
 WalksDependOnEnough =
     (mesh : Mesh) (lengths : List ℕ) (searched : ℕ → Tree) (target : Place → Bool) (sought : Sought)
@@ -189,7 +194,8 @@ places_found target found = map place_of_found (filter (λ k. target (place_of_f
 abbrev pub places_chosen : (Place → Bool) → List Loop → List Place
 places_chosen target basis = map place_of_loop (filter (λ c. target (place_of_loop c)) basis)
 
--- So does each loop of an edge by its place, for lengths that are nowhere below the mesh's
+-- For lengths nowhere below those of the mesh, each loop of an edge whose place passes a test
+-- depends on loops that are enough and come no later.
 abbrev pub LoopsDependOnEnough : Type 0
 LoopsDependOnEnough =
     (mesh : Mesh) (lengths : List ℕ) (searched : ℕ → Tree) (target : Place → Bool) (sought : Sought)
@@ -200,7 +206,8 @@ LoopsDependOnEnough =
     AreShortestTrees mesh other others → z < mesh.vertices → e < edge_count mesh →
     IsTrue (target (place_at mesh other others z e)) → DependsAtPlace mesh other others found z e
 
--- and what is enough for such walks is enough at all vertices for the places that pass the test
+-- Loops that are enough at vertices where such walks are met are enough at all vertices, for the
+-- places that pass the test.
 abbrev pub EnoughEverywhere : Type 0
 EnoughEverywhere =
     (mesh : Mesh) (lengths : List ℕ) (searched : ℕ → Tree) (target : Place → Bool) (sought : Sought)
@@ -208,7 +215,8 @@ EnoughEverywhere =
     IsSoughtFromStart target → AreSoughtFromStart sought → MeetsUpTo mesh lengths target sought →
     AreEnoughFor mesh lengths searched sought found → AreEnoughFor mesh lengths searched (everywhere target) found
 
--- Each loop of the basis whose place passes the test goes over a vertex where its place is sought
+-- Each loop of the basis whose place passes a test goes over a vertex where its place is sought,
+-- where walks are met that are no sums of shorter ones.
 abbrev pub ChosenLoopsAreMet : Type 0
 ChosenLoopsAreMet =
     (mesh : Mesh) (lengths : List ℕ) (trees : ℕ → Trees) (target : Place → Bool) (sought : Sought)
@@ -223,6 +231,8 @@ pub record HavePlacesUpTo (mesh : Mesh) (target : Place → Bool) (found : List 
   pub same : IsIndependent mesh (walks_found found) → IsInOrder comes_no_later found →
       places_found target found ≡ places_chosen target basis
 
+-- Each loop of the basis whose place passes a test has the place of one of the loops that are
+-- enough; where these are independent and in order, the places that pass are equal one by one.
 abbrev pub EnoughHavePlaces : Type 0
 EnoughHavePlaces =
     (mesh : Mesh) (lengths : List ℕ) (trees : ℕ → Trees) (searched : ℕ → Tree) (target : Place → Bool)
@@ -237,8 +247,8 @@ pub record HaveAllPlaces (found : List Found) (basis : List Loop) : Type 0 where
   pub some : All (HasFound found) basis
   pub same : IsInOrder comes_no_later found → map place_of_found found ≡ map place_of_loop basis
 
--- As many independent loops as may be, none later than a place, have the places of the basis where they are enough for
--- those that come before it
+-- As many independent loops as may be, none later than a place, have all places of the basis where
+-- they are enough for what comes before that place.
 abbrev pub FullCountHasPlaces : Type 0
 FullCountHasPlaces =
     (mesh : Mesh) (lengths : List ℕ) (trees : ℕ → Trees) (searched : ℕ → Tree) (limit : Place)
@@ -299,6 +309,7 @@ pub record CapsGrow (mesh : Mesh) (lengths : List ℕ) (trees : ℕ → Tree) : 
       × ((e : ℕ) → e < edge_count mesh → IsTrue (here (place_at mesh lengths trees z e)) →
       DependsAtPlace mesh lengths trees (kept ++ loops) z e)
 
+-- How such loops are kept, vertex by vertex.
 abbrev pub CapsGrowEnough : Type 0
 CapsGrowEnough = (mesh : Mesh) (lengths : List ℕ) (trees : ℕ → Tree) → IsSurface mesh → ArePositive mesh lengths →
     AreShortestTrees mesh lengths trees → CapsGrow mesh lengths trees

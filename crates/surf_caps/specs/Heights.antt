@@ -35,8 +35,8 @@ is_above i (Some n) = nat_lt i n
 abbrev pub cycle_at : List (List ℕ) → ℕ → List ℕ
 cycle_at cycles i = slice_index_or cycles i []
 
--- A closed walk that is no sum of shorter ones, and longer than the first i of the list, runs some edge an odd number of
--- times whose height is above i
+-- A closed walk that is no sum of shorter ones, and longer than the first i of some closed walks,
+-- runs an edge an odd number of times whose height among these walks is above i.
 abbrev pub HighEdgesExist : Type 0
 HighEdgesExist =
     (mesh : Mesh) (lengths : List ℕ) (d : Split) (cycles : List (List ℕ)) (height : ℕ → Option ℕ) (i : ℕ)

@@ -10,7 +10,8 @@ module _ {V W : Type 0} (S : Space V) (T : Space W) (image : V → W) where
     pub linear : IsLinear S T image
     pub kernel : (v : V) → (image v ≡ T.zero) ↔ Spanned S xs v
 
-  -- What is a sum of these vectors and of others, and which others are independent of them, is told by images
+  -- By images it is told what is a sum of the vectors of a quotient and others, and which others
+  -- are independent of those.
   pub record QuotientLaw : Type 0 where
     pub spanned : (xs ys : List V) (v : V) → IsQuotient xs →
         Spanned S (xs ++ ys) v ↔ Spanned T (map image ys) (image v)
@@ -20,6 +21,8 @@ module _ {V W : Type 0} (S : Space V) (T : Space W) (image : V → W) where
   -- So the greedy choice from candidates of which the first have these sums is the choice from the first, and then that
   -- from the images of the others
   module _ (is_zero : V → Bool) (is_zero_there : W → Bool) {C : Type 0} (vector : C → V) where
+    -- The greedy choice from candidates of which the first have the sums of the quotient: that from
+    -- the first, and that from the images of the others.
     abbrev pub QuotientChoice : Type 0
     QuotientChoice = (cs ds : List C) → IsQuotient (map vector cs) →
         greedy S is_zero vector (cs ++ ds)
@@ -28,6 +31,7 @@ module _ {V W : Type 0} (S : Space V) (T : Space W) (image : V → W) where
 -- What is left of a vector by the rows of a sieve is such a map
 module _ {V : Type 0} (S : Space V) (is_member : V → ℕ → Bool) {R : Type 0} (pivot : R → ℕ) (reduced : R → V)
     (original : R → V) where
+  -- What is left by the rows of a sieve is the image of a quotient.
   abbrev pub SievesAreQuotients : Type 0
   SievesAreQuotients = (rows : List R) → IsSieve S is_member pivot reduced original rows →
       IsQuotient S S (reduce S is_member pivot reduced rows) (map original rows)

@@ -23,7 +23,8 @@ use Rattle.surf_caps.specs.Caps.{Sought, up_to_length, either, MeetsUpTo, AreSiz
 use Rattle.surf_caps.specs.Caps.{AreSoughtFromStart, places_found, places_chosen, IsNextChoice}
 use Rattle.surf_caps.specs.Quotients.{IsQuotient}
 
--- The law of stages: with all that is sought cut to a length, what is found up to it has the places of the basis up to it
+-- What is found up to a length has the places of the basis up to it, where nothing longer is
+-- sought.
 abbrev pub StagesHavePlaces : Type 0
 StagesHavePlaces =
     (mesh : Mesh) (lengths : List ℕ) (trees : ℕ → Trees) (searched : ℕ → Tree) (most : ℕ) (sought : Sought)
@@ -38,7 +39,8 @@ StagesHavePlaces =
 abbrev pub behind : (Place → Bool) → (Place → Bool) → Place → Bool
 behind target wider place = wider place && not (target place)
 
--- From stage to stage: what meets the walks that pass one test, and what meets those behind it, meet both
+-- What meets the walks that pass one test, and what meets those that pass a second and not the
+-- first, meet all that pass the second.
 abbrev pub StagesMeet : Type 0
 StagesMeet =
     (mesh : Mesh) (lengths : List ℕ) (target wider : Place → Bool) (sought more : Sought) →
@@ -49,7 +51,8 @@ StagesMeet =
 abbrev pub IsClassQuotient : Mesh → Split → (ℕ → ℕ) → List (List ℕ) → Type 0
 IsClassQuotient mesh d image final = IsQuotient numbers numbers image (map (class_of mesh d) final)
 
--- A closed walk that is no sum of these walks runs an edge an odd number of times whose image isn't empty
+-- A closed walk that is no sum of those that are final runs an edge an odd number of times whose
+-- image isn't empty.
 abbrev pub ImagesMeet : Type 0
 ImagesMeet =
     (mesh : Mesh) (d : Split) (image : ℕ → ℕ) (final : List (List ℕ)) (walk : List ℕ) → IsSurface mesh →
@@ -69,14 +72,14 @@ abbrev pub raised : ℕ → Option ℕ → Option ℕ
 raised count None = None
 raised count (Some n) = Some (count + n)
 
--- Heights by images are heights behind the walks whose sums the map takes to zero
+-- Heights by images, counted on from the number of walks that are final, are heights.
 abbrev pub ImageHeightsAreHeights : Type 0
 ImageHeightsAreHeights =
     (mesh : Mesh) (d : Split) (image : ℕ → ℕ) (final cycles : List (List ℕ)) (height : ℕ → Option ℕ) →
     IsClassQuotient mesh d image final → AreImageHeights mesh d image cycles height →
     AreHeights mesh d (final ++ cycles) (λ e. raised (length final) (height e))
 
--- Behind a length that the former walks don't exceed, walks go over ends that are asked for by images alone
+-- Behind a length that what is final doesn't exceed, `AskedEndsMeet` holds of heights by images.
 abbrev pub ImageEndsMeet : Type 0
 ImageEndsMeet =
     (mesh : Mesh) (lengths : List ℕ) (d : Split) (image : ℕ → ℕ) (final cycles : List (List ℕ)) (sizes : List ℕ)
@@ -87,7 +90,8 @@ ImageEndsMeet =
     HaveAskedEnds mesh sizes height (behind (up_to_length least) wider) sought →
     MeetsUpTo mesh lengths (behind (up_to_length least) wider) sought
 
--- The choice from loops of which the first are independent: these, and the choice from the others by images
+-- The greedy choice from loops that are final and others is those that are final and the choice
+-- from the others by images.
 abbrev pub ImagesChoose : Type 0
 ImagesChoose =
     (mesh : Mesh) (d : Split) (image : ℕ → ℕ) (final others : List Found) → IsSurface mesh →
@@ -104,7 +108,8 @@ AreFoundByImage mesh d image lengths trees z here loops =
     ⊎ ((k : Found) × Contains loops k × IsTrue (is_within (place_at mesh lengths trees z e) k)
     × (image (class_of mesh d k.walk) ≡ image (class_of mesh d (loop_walk mesh (trees z) e))))
 
--- They depend on those found and on what is final, where what is sought is longer than that
+-- The loops at a vertex depend on what is final and what was found, where each has an empty image
+-- or the image of one that was found and comes no later.
 abbrev pub FoundByImageDepend : Type 0
 FoundByImageDepend =
     (mesh : Mesh) (d : Split) (image : ℕ → ℕ) (lengths : List ℕ) (trees : ℕ → Tree) (z least : ℕ)
@@ -117,8 +122,7 @@ FoundByImageDepend =
     IsTrue (here (place_at mesh lengths trees z e)) →
     DependsAtPlace mesh lengths trees ((final ++ kept) ++ loops) z e
 
--- The next choice: what is final, none of it longer than a length, and the choice by images from what was kept and from
--- others, all of them longer
+-- With final loops fixed, the next greedy choice is made from the images of the others alone.
 abbrev pub ImagesChooseNext : Type 0
 ImagesChooseNext =
     (mesh : Mesh) (d : Split) (image : ℕ → ℕ) (least : ℕ) (final kept loops all : List Found) → IsSurface mesh →

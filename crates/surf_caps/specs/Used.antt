@@ -21,8 +21,8 @@ module _ {V : Type 0} (S : Space V) (is_member : V → ℕ → Bool) {R : Type 0
     abbrev pub IsGradual : List R → Type 0
     IsGradual rows = (n : ℕ) → IsSieve S is_member pivot reduced original (take n rows)
 
-    -- A vector of which nothing is left is a sum of the vectors from which the rows came up to the last that was used, and
-    -- of no fewer first ones. Rows that are admitted one by one are gradual
+    -- A set of which the rows of a sieve leave nothing is a sum of the sets that the rows came from
+    -- up to the last that took part, and of no fewer first ones.
     pub record UsedLaw : Type 0 where
       pub within : (rows : List R) (v : V) → used rows v ≤ length rows
       pub spanned : (rows : List R) (v : V) → IsGradual rows → reduce S is_member pivot reduced rows v ≡ S.zero →

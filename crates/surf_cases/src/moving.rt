@@ -24,8 +24,7 @@ fn one_byte_at_a_time(rt: HostRuntime) -> Result<(), Fail> {
     Ok(())
 }
 
-// Refusals of surfaces, of lengths, of a base, of words and by a limit, with no room for their
-// line.
+// A refusal of each status, with no room for its line.
 #[test]
 fn diagnostics_that_nobody_hears(rt: HostRuntime) -> Result<(), Fail> {
     let alloc = rt.alloc();
@@ -44,6 +43,14 @@ fn diagnostics_that_nobody_hears(rt: HostRuntime) -> Result<(), Fail> {
         ("", 2),
         ("gen torus 1000 1001", 6),
         ("info many", 6),
+        ("try chain 513 4 4 0", 6),
+        ("try torus 100 201 0", 6),
+        ("info row", 3),
+        ("check tet unit row", 8),
+        ("info nowhere", 9),
+        ("lengths torus33 9", 12),
+        ("class torus33 L", 13),
+        ("sew torus33", 14),
     ] {
         let due = Due {
             status,

@@ -28,8 +28,8 @@ abbrev pub HasSignatures : Mesh → CotreeTables → Type 0
 HasSignatures mesh t = (tree : Tree) → IsSplit (cells_of mesh) (split_with tree t) →
     t.signatures ≡ map (edge_signature mesh (split_with tree t)) (range_with_len 0 (edge_count mesh))
 
--- A desk that has grown a tree of the faces has signed the edges when only its signatures have changed since, and they
--- are those by the tree.
+-- A desk that has grown a tree of the faces and then signed the edges is one by which evidence is
+-- found.
 abbrev pub GrownDesksSign : Type 0
 GrownDesksSign = (mesh : Mesh) (grown signed : CotreeTables) → IsGrownOn mesh grown → length grown.left ≤ 1024 →
     AreCotreeTables mesh signed → signed ≡ record grown { signatures = signed.signatures } → HasSignatures mesh signed →

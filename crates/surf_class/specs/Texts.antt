@@ -41,7 +41,7 @@ abbrev pub EvidenceFits : Evidence → Type 0
 EvidenceFits (null_faces faces) = FacesFit faces
 EvidenceFits (odd_pairs pairs) = PairsFit pairs
 
--- What is written with the words `null` and `odd` is read as what it was written of.
+-- Written evidence that fits its lines is read back as it was.
 abbrev pub EvidenceIsReread : Type 0
 EvidenceIsReread = (evidence : Evidence) → EvidenceFits evidence →
     evidence_in (evidence_text (codes "null") (codes "odd") evidence) ≡ Ok evidence

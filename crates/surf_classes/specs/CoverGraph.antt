@@ -55,11 +55,11 @@ pub record IsCover (mesh : Mesh) (d : Split) : Type 0 where
       × (b ≡ cover_node d u (bit_xor set (edge_signature mesh d (c / set_count d))))
       × (c ≡ cover_edge mesh d v set (c / set_count d))
 
+-- The cover is a connected graph whose edges are just those over the edges of the mesh.
 abbrev pub CoversAreGraphs : Type 0
 CoversAreGraphs = (mesh : Mesh) (d : Split) → IsSurface mesh → IsSplit (cells_of mesh) d → IsCover mesh d
 
--- Distances over the cover by which each other node has a tight neighbour, and no edge is a short cut, certify the
--- table that they are
+-- A search over it makes a certified table.
 abbrev pub SearchesCertify : Type 0
 SearchesCertify =
     (mesh : Mesh) (lengths : List ℕ) (d : Split) → IsSurface mesh → IsSplit (cells_of mesh) d → (x : ℕ) →

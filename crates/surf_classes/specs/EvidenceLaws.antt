@@ -21,30 +21,30 @@ use Rattle.surf_classes.specs.Evidence.{IsOddEvidence, Evidence, IsEvidence, IsR
 use Rattle.surf_classes.specs.Evidence.{IsChosen, IsClassEvidence}
 use Rattle.surf_classes.specs.Faults.{Fault, IsFirstFault}
 
--- no chain has evidence of both kinds
+-- No chain has evidence of both kinds.
 abbrev pub EvidenceIsOfOneKind : Type 0
 EvidenceIsOfOneKind = (mesh : Mesh) → IsSurface mesh → (chain : Chain) (faces : List ℕ) (pairs : List (ℕ × ℕ)) →
     IsNullEvidence mesh chain faces → IsOddEvidence mesh chain pairs → ⊥
 
--- a chain has null evidence exactly where it is a boundary
+-- A chain has null evidence exactly where it is a boundary.
 abbrev pub BoundariesHaveEvidence : Type 0
 BoundariesHaveEvidence = (mesh : Mesh) → IsSurface mesh → (chain : Chain) →
     IsBoundary mesh chain ↔ ((faces : List ℕ) × IsNullEvidence mesh chain faces)
 
--- and then there is one without face 0
+-- A boundary has one null evidence without face 0.
 abbrev pub NullChoiceIsOne : Type 0
 NullChoiceIsOne = (mesh : Mesh) → IsSurface mesh → (chain : Chain) → IsBoundary mesh chain →
     (faces : List ℕ) × IsChosenNull mesh chain faces
     × ((other : List ℕ) → IsChosenNull mesh chain other → other ≡ faces)
 
--- the faces of a set that has the chain as its boundary, and not face 0, are the choice
+-- The faces of a set with that boundary and without face 0 are it.
 abbrev pub NullChoiceIsFiltered : Type 0
 NullChoiceIsFiltered = (mesh : Mesh) → IsSurface mesh → (chain : Chain) (set : ℕ → Bool) →
     ((e : ℕ) → e < edge_count mesh → boundary mesh set e ≡ chain e) → set 0 ≡ false →
     IsChosenNull mesh chain (filter set (range_with_len 0 (face_count mesh)))
 
--- a set of faces that differs between a face and its parent exactly where the chain has the edge between
--- them has the chain as its boundary, where that is one
+-- A set of faces that follows a tree of the faces by a chain that is a boundary has that chain as
+-- its boundary.
 abbrev pub NullEvidenceGrows : Type 0
 NullEvidenceGrows = (mesh : Mesh) → IsSurface mesh → (cotree : Tree) → IsTree (dual (cells_of mesh)) cotree →
     (chain : Chain) → IsBoundary mesh chain → (set : ℕ → Bool) →
@@ -52,12 +52,12 @@ NullEvidenceGrows = (mesh : Mesh) → IsSurface mesh → (cotree : Tree) → IsT
     set f ≡ xor (set (cotree.parent f)) (chain (cotree.up f))) →
     (e : ℕ) → e < edge_count mesh → boundary mesh set e ≡ chain e
 
--- the chosen odd evidence is odd evidence
+-- The chosen odd evidence is odd evidence.
 abbrev pub OddChoiceIsRight : Type 0
 OddChoiceIsRight = (mesh : Mesh) (d : Split) → IsSurface mesh → IsSplit (cells_of mesh) d →
     (chain : Chain) (pairs : List (ℕ × ℕ)) → IsChosenOdd mesh d chain pairs → IsOddEvidence mesh chain pairs
 
--- the chain of closed walks that is no boundary has one
+-- Closed walks whose chain is no boundary have one.
 abbrev pub OddChoiceIsOne : Type 0
 OddChoiceIsOne = (mesh : Mesh) (d : Split) → IsSurface mesh → IsSplit (cells_of mesh) d →
     (walk : List ℕ) (other : Option (List ℕ)) → AreClosed mesh walk other →
@@ -65,7 +65,7 @@ OddChoiceIsOne = (mesh : Mesh) (d : Split) → IsSurface mesh → IsSplit (cells
     (pairs : List (ℕ × ℕ)) × IsChosenOdd mesh d (joint_parity mesh walk other) pairs
     × ((others : List (ℕ × ℕ)) → IsChosenOdd mesh d (joint_parity mesh walk other) others → others ≡ pairs)
 
--- the edges whose signature has the least number of the chain's signature are the choice
+-- The chosen odd evidence lists, in order, the edges whose signature has the chosen number.
 abbrev pub OddChoiceIsFiltered : Type 0
 OddChoiceIsFiltered = (mesh : Mesh) (d : Split) (chain : Chain) (number : ℕ) →
     has (signature_of (cells_of mesh) d chain) number ≡ true →
@@ -73,7 +73,7 @@ OddChoiceIsFiltered = (mesh : Mesh) (d : Split) (chain : Chain) (number : ℕ) �
     IsChosenOdd mesh d chain
     (map (ends mesh) (filter (λ e. has (edge_signature mesh d e) number) (range_with_len 0 (edge_count mesh))))
 
--- whichever trees show it, where these are the ones that are chosen at a base
+-- The chosen odd evidence is one, whichever trees show the choice at a base.
 abbrev pub OddChoiceIsThatOfAllTrees : Type 0
 OddChoiceIsThatOfAllTrees = (mesh : Mesh) (lengths : List ℕ) (base : ℕ) (a b : Trees) → IsSurface mesh →
     ArePositive mesh lengths → AreChosenAt mesh lengths base a → AreChosenAt mesh lengths base b →
@@ -81,7 +81,7 @@ OddChoiceIsThatOfAllTrees = (mesh : Mesh) (lengths : List ℕ) (base : ℕ) (a b
     IsChosenOdd mesh (split_of mesh a.tree a.cotree) chain pairs →
     IsChosenOdd mesh (split_of mesh b.tree b.cotree) chain others → pairs ≡ others
 
--- the chain of closed walks is a boundary exactly where its signature is empty
+-- The chain of closed walks is a boundary exactly where its signature is empty.
 abbrev pub ClassesAreDecided : Type 0
 ClassesAreDecided = (mesh : Mesh) (d : Split) → IsSurface mesh → IsSplit (cells_of mesh) d →
     (walk : List ℕ) (other : Option (List ℕ)) → AreClosed mesh walk other →
@@ -93,7 +93,7 @@ abbrev pub joint_signature : Mesh → Split → List ℕ → Option (List ℕ) �
 joint_signature mesh d walk None = walk_signature mesh d walk
 joint_signature mesh d walk (Some other) = bit_xor (walk_signature mesh d walk) (walk_signature mesh d other)
 
--- which is the sum of those of the steps of the walks
+-- The signature of the chain of closed walks is the sum of those of the steps of the walks.
 abbrev pub JointSignaturesAdd : Type 0
 JointSignaturesAdd = (mesh : Mesh) (d : Split) → IsSurface mesh →
     (walk : List ℕ) (other : Option (List ℕ)) → AreClosed mesh walk other →
@@ -105,6 +105,7 @@ pub record OddSumsAreOverEdges (mesh : Mesh) (chain : Chain) (pairs : List (ℕ 
       has_odd_sides mesh pairs f ≡ odd_below (edge_count mesh) (λ e. borders mesh f e && among (ends mesh e) pairs)
   pub of_chain : is_odd_in mesh chain pairs ≡ odd_below (edge_count mesh) (λ e. among (ends mesh e) pairs && chain e)
 
+-- The sums of odd evidence go over all edges.
 abbrev pub OddSumsAreSumsOverEdges : Type 0
 OddSumsAreSumsOverEdges = (mesh : Mesh) → IsSurface mesh → (chain : Chain) (pairs : List (ℕ × ℕ)) →
     AllPairs (λ p q. pair_lt p q ≡ true) pairs → ((p : ℕ × ℕ) → among p pairs ≡ true → among p (edges mesh) ≡ true) →
@@ -116,28 +117,29 @@ pub record FaultsTell (mesh : Mesh) (chain : Chain) (evidence : Evidence) : Type
   pub not_both : IsEvidence mesh chain evidence → (fault : Fault) → IsFirstFault mesh chain evidence fault → ⊥
   pub one : (a b : Fault) → IsFirstFault mesh chain evidence a → IsFirstFault mesh chain evidence b → a ≡ b
 
--- so it is where its list is increasing
+-- Evidence with an increasing list is right or has one first fault, and not both.
 abbrev pub FaultsAreTold : Type 0
 FaultsAreTold = (mesh : Mesh) (chain : Chain) (evidence : Evidence) → IsRising evidence →
     FaultsTell mesh chain evidence
 
--- what is chosen is right
+-- What is chosen is right.
 abbrev pub ChosenEvidenceIsRight : Type 0
 ChosenEvidenceIsRight = (mesh : Mesh) (d : Split) → IsSurface mesh → IsSplit (cells_of mesh) d →
     (chain : Chain) (evidence : Evidence) → IsChosen mesh d chain evidence → IsEvidence mesh chain evidence
 
--- of the evidence of the chain of closed walks one is chosen
+-- Closed walks have one chosen evidence.
 abbrev pub ChosenEvidenceIsOne : Type 0
 ChosenEvidenceIsOne = (mesh : Mesh) (d : Split) → IsSurface mesh → IsSplit (cells_of mesh) d →
     (walk : List ℕ) (other : Option (List ℕ)) → AreClosed mesh walk other →
     (evidence : Evidence) × IsChosen mesh d (joint_parity mesh walk other) evidence
     × ((others : Evidence) → IsChosen mesh d (joint_parity mesh walk other) others → others ≡ evidence)
 
--- the same where the trees are not named, but those that are chosen at vertex 0 for length 1
+-- The evidence that is chosen over the trees at vertex 0 for length 1 is right.
 abbrev pub ClassEvidenceIsRight : Type 0
 ClassEvidenceIsRight = (mesh : Mesh) → IsSurface mesh → (chain : Chain) (evidence : Evidence) →
     IsClassEvidence mesh chain evidence → IsEvidence mesh chain evidence
 
+-- There is one evidence over the trees at vertex 0 for length 1.
 abbrev pub ClassEvidenceIsOne : Type 0
 ClassEvidenceIsOne = (mesh : Mesh) → IsSurface mesh →
     (walk : List ℕ) (other : Option (List ℕ)) → AreClosed mesh walk other →

@@ -11,25 +11,25 @@ use Rattle.surf_classes.specs.Shortest.{AreHomologous, IsChosenWalk}
 use Rattle.surf_classes.specs.Cover.{IsSet, IsSignedDistance, AreSignedDistances, IsCertified, IsLeastTight}
 use Rattle.surf_classes.specs.Cover.{IsReadBack, IsReadTo, IsLeastBase, step_signature}
 
--- closed walks are homologous exactly where their signatures are the same
+-- Closed walks are homologous exactly where their signatures are equal.
 abbrev pub HomologousBySignature : Type 0
 HomologousBySignature = (mesh : Mesh) (d : Split) → IsSurface mesh → IsSplit (cells_of mesh) d →
     (walk other : List ℕ) → IsClosed mesh walk → IsClosed mesh other →
     AreHomologous mesh walk other ↔ (walk_signature mesh d walk ≡ walk_signature mesh d other)
 
--- there is one chosen walk in the class of each closed walk
+-- There is one chosen walk in the class of each closed walk.
 abbrev pub ChosenWalkIsOne : Type 0
 ChosenWalkIsOne = (mesh : Mesh) (lengths walk : List ℕ) → IsSurface mesh → ArePositive mesh lengths →
     IsClosed mesh walk →
     (chosen : List ℕ) × IsChosenWalk mesh lengths walk chosen
     × ((other : List ℕ) → IsChosenWalk mesh lengths walk other → other ≡ chosen)
 
--- in the class of a null walk it is vertex 0 alone
+-- In the class of a null walk it is vertex 0 alone.
 abbrev pub NullChoiceIsVertex : Type 0
 NullChoiceIsVertex = (mesh : Mesh) (lengths walk : List ℕ) → IsSurface mesh → ArePositive mesh lengths →
     IsClosed mesh walk → IsNull mesh walk → IsChosenWalk mesh lengths walk (0 ∷ [])
 
--- the walk that is read back from a least base, off the distances from there, is the chosen one
+-- What is read back from the least base is the chosen walk.
 abbrev pub ReadBackIsChosen : Type 0
 ReadBackIsChosen = (mesh : Mesh) (lengths : List ℕ) (d : Split) (walk : List ℕ) → IsSurface mesh →
     ArePositive mesh lengths → IsSplit (cells_of mesh) d → IsClosed mesh walk →
@@ -40,7 +40,7 @@ ReadBackIsChosen = (mesh : Mesh) (lengths : List ℕ) (d : Split) (walk : List �
     IsChosenWalk mesh lengths walk (reverse (x ∷ before))
     × (walk_length mesh lengths (reverse (x ∷ before)) ≡ round x)
 
--- so it is where the distances are those of certified tables, one at each vertex
+-- With a certified table at each vertex, what is read back from the least base is the chosen walk.
 abbrev pub CertifiedTablesChoose : Type 0
 CertifiedTablesChoose = (mesh : Mesh) (lengths : List ℕ) (d : Split) (walk : List ℕ) → IsSurface mesh →
     ArePositive mesh lengths → IsSplit (cells_of mesh) d → IsClosed mesh walk →
@@ -54,7 +54,7 @@ CertifiedTablesChoose = (mesh : Mesh) (lengths : List ℕ) (d : Split) (walk : L
     IsChosenWalk mesh lengths walk (reverse (x ∷ before))
     × (walk_length mesh lengths (reverse (x ∷ before)) ≡ tables x x (walk_signature mesh d walk))
 
--- off a certified table a walk can be read back from each vertex with each set
+-- Off a certified table a walk can be read back.
 abbrev pub TablesAreReadBack : Type 0
 TablesAreReadBack = (mesh : Mesh) (lengths : List ℕ) (d : Split) (x : ℕ) (table : ℕ → ℕ → ℕ) → IsSurface mesh →
     ArePositive mesh lengths → IsCertified mesh lengths d x table → (v set : ℕ) → v < mesh.vertices → IsSet d set →
@@ -69,16 +69,17 @@ pub record ReadsOn (mesh : Mesh) (lengths : List ℕ) (d : Split) (table : ℕ �
   pub ends : (v set : ℕ) (before : List ℕ) (x : ℕ) → IsReadTo mesh lengths d table v set before x 0 →
       IsReadBack mesh lengths d x table v set before
 
+-- Off a certified table a walk is read back vertex by vertex.
 abbrev pub TablesReadOn : Type 0
 TablesReadOn = (mesh : Mesh) (lengths : List ℕ) (d : Split) (table : ℕ → ℕ → ℕ) → ReadsOn mesh lengths d table
 
--- a certified table has the distances
+-- A certified table has the distances with signatures.
 abbrev pub CertifiedTablesAreDistances : Type 0
 CertifiedTablesAreDistances = (mesh : Mesh) (lengths : List ℕ) (d : Split) (x : ℕ) (table : ℕ → ℕ → ℕ) →
     IsSurface mesh → ArePositive mesh lengths → x < mesh.vertices → IsCertified mesh lengths d x table →
     AreSignedDistances mesh lengths d x table
 
--- each vertex is reached with each set
+-- Each vertex is reached with each set.
 abbrev pub SignedDistancesExist : Type 0
 SignedDistancesExist = (mesh : Mesh) (lengths : List ℕ) (d : Split) → IsSurface mesh → ArePositive mesh lengths →
     IsSplit (cells_of mesh) d → (x v set : ℕ) → x < mesh.vertices → v < mesh.vertices → IsSet d set →

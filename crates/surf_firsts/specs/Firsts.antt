@@ -18,7 +18,7 @@ abbrev pub loops_no_later : Mesh → List ℕ → ℕ → Trees → ℕ → List
 loops_no_later mesh lengths base trees e =
     filter (λ c. is_no_later c (loop_at mesh lengths base trees.tree e)) (loops_at mesh lengths base trees)
 
--- the loop of each edge depends on them
+-- The loop of each edge at a base depends on the loops that are chosen there and come no later.
 abbrev pub LoopsDependOnNoLater : Type 0
 LoopsDependOnNoLater =
     (mesh : Mesh) (lengths : List ℕ) (base : ℕ) (trees : Trees) (e : ℕ) → IsSurface mesh → ArePositive mesh lengths →
@@ -46,7 +46,8 @@ pub record AreLoopsUpTo (mesh : Mesh) (lengths : List ℕ) (base most : ℕ) (tr
       loop_length mesh lengths tree e ≤ most → Contains loops (loop_at mesh lengths base tree e)
   pub order : IsInOrder is_no_later loops
 
--- the greedy choice from them is the loops that are chosen and at most so long
+-- Of loops of edges at a base that are at most so long, in order, among which is each that isn't
+-- null, the greedy choice is the chosen loops that are at most so long.
 abbrev pub FirstLoopsAreGreedy : Type 0
 FirstLoopsAreGreedy =
     (mesh : Mesh) (lengths : List ℕ) (base most : ℕ) (trees : Trees) (loops : List Loop) → IsSurface mesh →

@@ -34,8 +34,9 @@ AgreeOff mesh lengths other set = (e : ℕ) → e < edge_count mesh → IsFalse 
 abbrev pub IsSoughtFromStart : (Place → Bool) → Type 0
 IsSoughtFromStart sought = (p q : Place) → IsTrue (is_no_later p q) → IsTrue (sought q) → IsTrue (sought p)
 
--- Some loops are enough for a set of vertices, and the loops at z by lengths that may differ at the set depend on those
--- of them that are shorter by more than two ways: so they are enough for the vertices near z by these lengths too
+-- Where loops are enough for a set of vertices, up to a length, and each loop at a vertex that is
+-- longer by no more than a way there and back depends on shorter ones of them, they are enough, up
+-- to that length, with the vertices that are no farther away.
 abbrev pub NearVerticesNeedNoMore : Type 0
 NearVerticesNeedNoMore =
     (mesh : Mesh) (lengths other : List ℕ) (trees others : ℕ → Tree) (sought : Place → Bool) (set : ℕ → Bool)

@@ -7,10 +7,11 @@ pub record IsMeasure (unit s n : ℕ) : Type 0 where
   pub within : n * n * unit ≤ s
   pub greatest : s < (n + 1) * (n + 1) * unit
 
--- The measure is so, ..
+-- As many units as a measure says are no longer than the distance of the fixed values, and one more
+-- is longer.
 abbrev pub MeasuresAreGreatest : Type 0
 MeasuresAreGreatest = (k s : ℕ) → IsMeasure (unit_square k) s (measure_of (unit_square k) s)
 
--- .. and no other number is.
+-- Each edge has one measure.
 abbrev pub MeasuresAreOne : Type 0
 MeasuresAreOne = (k s n : ℕ) → IsMeasure (unit_square k) s n → n ≡ measure_of (unit_square k) s

@@ -2,7 +2,7 @@
 ghost use Rattle.std.specs.Prelude.{◌≡◌, ◌<◌, ◌≤◌, false, Some, IfSome, IfOk, MatchOption};
 ghost use Rattle.std.specs.Str.{bytes_eq};
 ghost use Rattle.surf_text.specs.Text.{tokens_of};
-ghost use Rattle.surf_text.specs.Walks.{text_line};
+ghost use Rattle.surf_text.specs.Walks.{placed_line};
 ghost use Rattle.surf_surfaces.specs.Mesh.{pair, pair_eq, among, edges};
 ghost use Rattle.surf_surfaces.specs.Surface.{edge_count, ends};
 ghost use Rattle.surf_lengths.specs.Lines.{as_length, three_numbers, edge_named, of_numbers, entry_of, begins_with, is_version};
@@ -12,7 +12,7 @@ ghost use Rattle.surf_lengths.specs.Walks.{Says};
 use crate::LengthFault;
 use surf_base::{EdgeId, VertexId};
 use surf_mesh::HalfMesh;
-use surf_text::{Line, Tokens, read_whole};
+use surf_text::{PlacedLine, Tokens, read_whole};
 
 // A number as a length.
 fn as_length(n: u64) -> Option<u32>
@@ -119,10 +119,10 @@ pub(crate) fn entry_with(
 /// What a line says. The edge is tried first at `expected`.
 pub(crate) fn read_entry(
     mesh: &HalfMesh,
-    line: Line<'_>,
+    line: PlacedLine<'_>,
     expected: usize,
 ) -> Result<Entry, LengthFault>
-    ensures entry { Says result (entry_of mesh.now (text_line line.entry)) }
+    ensures entry { Says result (entry_of mesh.now (placed_line line.entry)) }
     ensures line { IfOk result (λ x. x.line ≡ line.entry.number) }
     ensures inside { IfOk result (λ x. x.edge < edge_count mesh.now) }
 {
@@ -173,8 +173,8 @@ fn second_number(line: &[u8]) -> Option<u64>
 }
 
 /// The length that a default line gives.
-pub(crate) fn read_default(line: Line<'_>) -> Result<u32, LengthFault>
-    ensures default { result ≡ default_of (text_line line.entry) }
+pub(crate) fn read_default(line: PlacedLine<'_>) -> Result<u32, LengthFault>
+    ensures default { result ≡ default_of (placed_line line.entry) }
     ensures positive { IfOk result (λ n. 1 ≤ n) }
 {
     let number = line.number;

@@ -6,7 +6,7 @@ ghost use Rattle.surf_surfaces.specs.Mesh.{IsFace};
 ghost use Rattle.surf_surfaces.specs.SideNumber.{side_count};
 ghost use Rattle.surf_text.specs.Text.{whole, behind_word, behind_words, is_line_end, tokens_of};
 ghost use Rattle.surf_text.specs.Text.{uncommented, trimmed, onto_lines};
-ghost use Rattle.surf_text.specs.Walks.{text_line, lines_ahead};
+ghost use Rattle.surf_text.specs.Walks.{placed_line, lines_ahead};
 ghost use Rattle.surf_off.specs.Off.{size_of, corner_read, corners_at, first_repeat, distinct, face_of, faces_at};
 ghost use Rattle.surf_off.specs.Gives.{Gives, GivesFace};
 ghost use Rattle.surf_off.specs.Plain.{IsBehind, line_before};
@@ -19,7 +19,7 @@ use crate::plain::read_plain;
 use std::alloc::Global;
 use surf_base::{LimitKind, MAX_SIDES, VertexId};
 use surf_soup::Soup;
-use surf_text::{Line, PlacedLines, Tokens, first_line, read_whole};
+use surf_text::{PlacedLine, PlacedLines, Tokens, first_line, read_whole};
 
 // A face of so many corners is searched for repeated ones without marks.
 const FEW_CORNERS: usize = 8;
@@ -170,7 +170,7 @@ fn refuse_repeats(
 // then.
 #[tactic(auto, unfolding(crate::specs::Off::face_of))]
 fn read_by_tokens<'a>(
-    line: &Line<'a>,
+    line: &PlacedLine<'a>,
     vertices: u32,
     sides: u32,
     marks: &mut [u32],
@@ -181,7 +181,7 @@ fn read_by_tokens<'a>(
     requires room { length marks.old ≡ vertices }
     requires earlier { (k : ℕ) → k < length marks.old → slice_index marks.old k < stamp }
     ensures face { Gives (λ colour. record { corners = corners.new.items; colour = colour.now })
-        result (face_of true vertices sides (text_line line.now)) }
+        result (face_of true vertices sides (placed_line line.now)) }
     ensures corners { OnOk result (IsFace vertices corners.new.items) }
     ensures few { OnOk result (sides + length corners.new.items ≤ MAX_SIDES) }
     ensures marks { (k : ℕ) → k < length marks.new → slice_index marks.new k ≤ stamp }

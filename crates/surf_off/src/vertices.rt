@@ -6,14 +6,14 @@ ghost use Rattle.surf_off.specs.Gives.{Gives, GivesSecond, GivesVertex};
 
 use crate::fault::OffFault;
 use crate::parts::{Parts, Span};
-use surf_text::{Line, PlacedLines, has_tokens};
+use surf_text::{PlacedLine, PlacedLines, has_tokens};
 
 // The first of so many vertex lines, which so many face lines are to follow.
 fn next_vertex<'a>(
     lines: &mut PlacedLines<'a>,
     vertices: u32,
     faces: u32,
-) -> Result<Line<'a>, OffFault>
+) -> Result<PlacedLine<'a>, OffFault>
     requires some { 0 < vertices }
     requires fits { vertices + faces < 2 ^ 32 }
     ensures line { GivesVertex vertices faces (lines_ahead lines.old) (lines_ahead lines.new)

@@ -15,20 +15,20 @@ use Rattle.surf_opening.specs.Opening.{IsOpenedBy}
 use Rattle.surf_opening.specs.Side.{Side}
 use Rattle.surf_opening.specs.Uncut.{Uncut}
 
--- the trees that are chosen at a base divide the edges, with the left edges
+-- The trees that are chosen at a base and the left edges divide the edges.
 abbrev pub ChosenTreesDivide : Type 0
 ChosenTreesDivide =
     (mesh : Mesh) (lengths : List ℕ) (base : ℕ) (trees : Trees) → IsSurface mesh → ArePositive mesh lengths →
     AreChosenAt mesh lengths base trees → AreDivided mesh trees.tree trees.cotree
 
--- at first, the edges outside the tree of faces are the full cut
+-- Where just the edges outside the cotree are cut, that is the chosen full cut.
 abbrev pub FullCutsAreChosen : Type 0
 FullCutsAreChosen =
     (mesh : Mesh) (tree cotree : Tree) (list : List (ℕ × ℕ)) (cut : Chain) → IsSurface mesh →
     AreDivided mesh tree cotree → ListsCotree mesh cotree list → TellsCut mesh list cut →
     IsChosenCut mesh tree cotree false cut
 
--- and where trimming by the greatest has ended, what is cut is the trimmed cut
+-- Where trimming by the greatest has ended, what is cut is the chosen trimmed cut.
 abbrev pub TrimmedCutsAreChosen : Type 0
 TrimmedCutsAreChosen =
     (mesh : Mesh) (tree cotree : Tree) (list uncut : List (ℕ × ℕ)) (cut : Chain) → IsSurface mesh →
@@ -37,8 +37,7 @@ TrimmedCutsAreChosen =
     (cut_count mesh cut ≤ 2) ⊎ ((v : ℕ) → v < mesh.vertices → cut_degree mesh cut v ≢ 1) →
     IsChosenCut mesh tree cotree true cut
 
--- faces over copies that are opened along the uncut edges of a list, in order, are the chosen opening
--- where the list tells the chosen cut
+-- Faces over copies that are opened along it, in order, are the chosen opening.
 abbrev pub OpenedAreChosen : Type 0
 OpenedAreChosen =
     (mesh : Mesh) (tree cotree : Tree) (trim : Bool) (list uncut : List (ℕ × ℕ)) (cut : Chain)
@@ -49,7 +48,7 @@ OpenedAreChosen =
     IsOpenedBy mesh (Uncut uncut) origins faces → AreInOrder mesh origins faces →
     IsChosenOpening mesh tree cotree trim origins faces
 
--- there is one chosen cut
+-- There is one chosen cut.
 abbrev pub ChosenCutsAreOne : Type 0
 ChosenCutsAreOne =
     (mesh : Mesh) (tree cotree : Tree) (trim : Bool) (cut other : Chain) → IsSurface mesh →
@@ -57,7 +56,7 @@ ChosenCutsAreOne =
     IsChosenCut mesh tree cotree trim other →
     SameEdges mesh cut other
 
--- the chosen opening is an opening: a disc with every face once
+-- The chosen opening is an opening: a disc with every face once.
 abbrev pub ChosenAreOpenings : Type 0
 ChosenAreOpenings =
     (mesh : Mesh) (tree cotree : Tree) (trim : Bool) (origins : List ℕ) (faces : List (List ℕ)) →
@@ -65,7 +64,7 @@ ChosenAreOpenings =
     AreDivided mesh tree cotree → IsChosenOpening mesh tree cotree trim origins faces →
     IsOpening mesh origins faces
 
--- there is one chosen opening
+-- There is one chosen opening.
 abbrev pub ChosenAreOne : Type 0
 ChosenAreOne =
     (mesh : Mesh) (tree cotree : Tree) (trim : Bool) (origins others : List ℕ)
@@ -73,20 +72,20 @@ ChosenAreOne =
     IsSurface mesh → AreDivided mesh tree cotree → IsChosenOpening mesh tree cotree trim origins faces →
     IsChosenOpening mesh tree cotree trim others other_faces → (origins ≡ others) × (faces ≡ other_faces)
 
--- the full one has 2 (E − F + 1) copies
+-- The chosen opening along the full cut has 2 (E − F + 1) copies.
 abbrev pub FullOpeningsAreCounted : Type 0
 FullOpeningsAreCounted =
     (mesh : Mesh) (tree cotree : Tree) (origins : List ℕ) (faces : List (List ℕ)) → IsSurface mesh →
     AreDivided mesh tree cotree → IsChosenOpening mesh tree cotree false origins faces →
     length origins + (face_count mesh + face_count mesh) ≡ edge_count mesh + edge_count mesh + 2
 
--- each surface has its chosen opening
+-- Each surface has its chosen opening.
 abbrev pub ChosenExist : Type 0
 ChosenExist =
     (mesh : Mesh) (tree cotree : Tree) (trim : Bool) → IsSurface mesh → AreDivided mesh tree cotree →
     (origins : List ℕ) × (faces : List (List ℕ)) × IsChosenOpening mesh tree cotree trim origins faces
 
--- the chosen opening at a base is one, whichever trees show it
+-- The chosen opening at a base is one, whichever trees show it.
 abbrev pub OpeningsAtAreOne : Type 0
 OpeningsAtAreOne =
     (mesh : Mesh) (lengths : List ℕ) (base : ℕ) (a b : Trees) (trim : Bool) (origins others : List ℕ)

@@ -13,7 +13,7 @@ use Rattle.surf_opening.specs.ChosenCut.{AreDivided, IsTrimmedCut}
 abbrev pub IsOffTheCut : Mesh → Chain → ℕ → Type 0
 IsOffTheCut mesh cut v = (e : ℕ) → e < edge_count mesh → IsTrue (cut e) → IsFalse (touches v (ends mesh e))
 
--- a closed walk that meets no vertex of the trimmed cut is null
+-- A closed walk that meets no vertex of the trimmed cut is null.
 abbrev pub WalksOffTheCutAreNull : Type 0
 WalksOffTheCutAreNull =
     (mesh : Mesh) (tree cotree : Tree) (cut : Chain) (walk : List ℕ) → IsSurface mesh →
@@ -29,7 +29,8 @@ pub record AreMarked (mesh : Mesh) (tree cotree : Tree) (marked : ℕ → Bool) 
   pub left_ends : (e : ℕ) → e < edge_count mesh → IsTrue (is_left mesh tree cotree e) → HasMarkedEnds mesh marked e
   pub parents : (v : ℕ) → v < mesh.vertices → v ≢ tree.root → IsTrue (marked v) → IsTrue (marked (tree.parent v))
 
--- then the ends of all edges of the trimmed cut are marked, where χ is below 2
+-- Where χ is below 2, the ends of all edges of the trimmed cut are marked, if those of the left
+-- edges are and, with each marked vertex, its parent.
 abbrev pub CutEndsAreMarked : Type 0
 CutEndsAreMarked =
     (mesh : Mesh) (tree cotree : Tree) (cut : Chain) (marked : ℕ → Bool) → IsSurface mesh →
@@ -37,14 +38,16 @@ CutEndsAreMarked =
     IsTrimmedCut mesh tree cotree cut → AreMarked mesh tree cotree marked →
     (e : ℕ) → e < edge_count mesh → IsTrue (cut e) → HasMarkedEnds mesh marked e
 
--- so a closed walk that meets no marked vertex is null, whatever χ is
+-- Where the ends of all edges of the trimmed cut are marked, a closed walk that meets no marked
+-- vertex is null, whatever χ is.
 abbrev pub UnmarkedWalksAreNull : Type 0
 UnmarkedWalksAreNull =
     (mesh : Mesh) (tree cotree : Tree) (marked : ℕ → Bool) (walk : List ℕ) → IsSurface mesh →
     AreDivided mesh tree cotree → AreMarked mesh tree cotree marked → IsClosed mesh walk →
     All (λ v. IsFalse (marked v)) walk → IsNull mesh walk
 
--- each closed walk is null, or meets a marked vertex
+-- Where the ends of the left edges are marked and, with each marked vertex, its parent, each closed
+-- walk is null or meets a marked vertex.
 abbrev pub WalksAreNullOrMeetMarked : Type 0
 WalksAreNullOrMeetMarked =
     (mesh : Mesh) (tree cotree : Tree) (marked : ℕ → Bool) (walk : List ℕ) → IsSurface mesh →

@@ -10,7 +10,7 @@ use Rattle.surf_run.specs.Leads.{Leads}
 abbrev pub AgreeOn : List (List ℕ) → Files → Files → Type 0
 AgreeOn names here there = All (λ name. bytes_of here name ≡ bytes_of there name) names
 
--- What comes of words over files comes of them over others that agree on the files that the words name.
+-- What comes of words depends on the files that they name, and on no other.
 abbrev pub AnswersDependOnNamedFiles : Type 0
 AnswersDependOnNamedFiles =
     (words : List (List ℕ)) (here there : Files) → AgreeOn (named (request_of words)) here there → (outcome : Outcome) →

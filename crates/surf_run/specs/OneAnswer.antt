@@ -4,14 +4,14 @@ use Rattle.surf_base.specs.Outside.{Files}
 use Rattle.surf_run.specs.Leads.{Answer, Leads}
 use Rattle.surf_texts.specs.Outcome.{Outcome}
 
--- One outcome comes of words over files.
+-- At most one outcome comes of words over files.
 abbrev pub OutcomesAreOne : Type 0
 OutcomesAreOne =
     (words : List (List ℕ)) (files : Files) (outcome other : Outcome) → Leads words files outcome →
     Leads words files other →
     outcome ≡ other
 
--- So the program answers one status, one text and one line.
+-- Words and files give at most one status, one text and one line.
 abbrev pub AnswersAreOne : Type 0
 AnswersAreOne =
     (words : List (List ℕ)) (files : Files) (status other : ℕ) (text line other_text other_line : List ℕ) →

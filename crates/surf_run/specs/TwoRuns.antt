@@ -25,8 +25,7 @@ LoopsPass files mesh lengths base cert =
     Leads (codes "loops" ∷ mesh ∷ lengths ∷ base ∷ []) files outcome)
     × Answer (codes "check" ∷ mesh ∷ lengths ∷ cert ∷ []) files 0 (loops_line (total_size loops)) []
 
--- So it is, over files that have the same mesh and lengths, where the file holds what `certify` answered of them at the
--- base.
+-- What `certify` writes at a base passes `check` in a later run, with the total of `loops`.
 abbrev pub CertifiedLoopsPass : Type 0
 CertifiedLoopsPass =
     (files later : Files) (mesh lengths base cert text : List ℕ) →
@@ -42,7 +41,7 @@ BasisPasses files mesh lengths cert =
     Leads (codes "basis" ∷ mesh ∷ lengths ∷ []) files outcome)
     × Answer (codes "check" ∷ mesh ∷ lengths ∷ cert ∷ []) files 0 (basis_line (total_size basis)) []
 
--- So it is, over files that have the same mesh and lengths, where the file holds what `certify` answered of them.
+-- What `certify` writes of a basis passes `check` in a later run, with the total of `basis`.
 abbrev pub CertifiedBasesPass : Type 0
 CertifiedBasesPass =
     (files later : Files) (mesh lengths cert text : List ℕ) →
@@ -50,8 +49,7 @@ CertifiedBasesPass =
     AgreeOn (mesh ∷ length_file lengths) files later → bytes_of later cert ≡ Some text →
     BasisPasses later mesh lengths cert
 
--- `confirm` of a file says that its evidence is right, over files that have the same mesh and walk, where the file
--- holds what `class` answered of them.
+-- What `class` writes is confirmed in a later run.
 abbrev pub ClassesAreConfirmed : Type 0
 ClassesAreConfirmed =
     (files later : Files) (mesh walk cert text : List ℕ) →
@@ -76,15 +74,16 @@ pub record IsSewnBack (files : Files) (mesh : List ℕ) (later : Files) (disc : 
   pub sews : Answer (codes "sew" ∷ disc ∷ []) later 0 text []
   pub reads_so : off_of text ≡ Ok read
 
--- So it is, where the file holds what `cut`, full or trimmed, answered of the mesh with any lengths at any base, if
--- that can be read ..
+-- What `sew` writes, in a later run, of what `cut` wrote within the limits of a mesh text is read
+-- as the mesh that was cut, with its keyword, vertex lines, faces and colours.
 abbrev pub CutsAreSewn : Type 0
 CutsAreSewn =
     (files later : Files) (mesh lengths base kind disc text : List ℕ) →
     Answer (codes "cut" ∷ mesh ∷ lengths ∷ base ∷ kind ∷ []) files 0 text [] → bytes_of later disc ≡ Some text →
     CanBeRead text → IsSewnBack files mesh later disc
 
--- .. and what it answered through the vertices of any file.
+-- What `sew` writes, in a later run, of what `cut` wrote through the vertices of a file, within the limits of a mesh
+-- text, is read as the mesh that was cut, with its keyword, vertex lines, faces and colours.
 abbrev pub CutsThroughAreSewn : Type 0
 CutsThroughAreSewn =
     (files later : Files) (mesh lengths base kind points disc text : List ℕ) →

@@ -9,8 +9,8 @@ pub fn law_of_named_files()
     ensures { AnswersDependOnNamedFiles }
 {}
 
-/// One outcome comes of words over files, and so the program answers one status, one text and one
-/// line.
+/// At most one outcome comes of words over files, and so the program answers at most one status,
+/// one text and one line.
 pub fn law_of_one_answer()
     ensures outcomes { OutcomesAreOne }
     ensures answers { AnswersAreOne }

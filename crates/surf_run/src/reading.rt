@@ -17,8 +17,9 @@ use surf_off::{OffPlaces, OffText, read_off, read_places, read_soup};
 use surf_soup::Soup;
 use surf_texts::Refused;
 
-// The most room that `reuse_room` can make the C library keep in its heap, where tables take the
-// places of those that went: a block of 2^25 bytes has a head too.
+// The most room that `reuse_room` can make the C library keep in its heap. There the tables of a
+// surface take the places of earlier blocks that went, whose pages were touched already; a block of
+// 2^25 bytes or more, with its head, is a mapping of its own, which goes back to the system.
 const LASTING: usize = (1 << 25) - (1 << 13);
 
 /// The bytes of the file of a name, in place of those of an earlier text.

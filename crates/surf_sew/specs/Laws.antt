@@ -32,13 +32,13 @@ opened_parts parts origins = record parts { vertex_lines = lines_at parts.vertex
 abbrev pub text_cut : OffParts → List ℕ → List (List ℕ) → List ℕ
 text_cut parts origins faces = opened_text parts origins faces (edge_count (opened origins faces))
 
--- Read without limits, the text of an opened mesh is that of its copies.
+-- The text of an opened mesh is read, without limits, as the mesh of its copies.
 abbrev pub OpenedAreReread : Type 0
 OpenedAreReread =
     (parts : OffParts) (mesh : Mesh) (origins : List ℕ) (faces : List (List ℕ)) → WasCut parts mesh origins faces
     → off_without_limits (text_cut parts origins faces) ≡ Ok (opened_parts parts origins, opened origins faces)
 
--- A text that is within the limits is read the same with them.
+-- A text within the limits is read with them as without them.
 abbrev pub LimitsAreKept : Type 0
 LimitsAreKept =
     (text : List ℕ) (parts : OffParts) (mesh : Mesh) → off_without_limits text ≡ Ok (parts, mesh)
@@ -58,8 +58,8 @@ OpenedAreSewn =
     → (sewn_of (opened_parts parts origins).vertex_lines (opened origins faces) origins ≡ Ok mesh)
     × HaveCopies origins mesh.vertices
 
--- The vertex line of the least copy of each vertex is that of the vertex, so what is written of what is sewn has the
--- keyword, the vertex lines, the faces and the colours of the mesh that was cut.
+-- What is sewn has the keyword, the vertex lines, the faces and the colours of the mesh that was
+-- cut.
 abbrev pub LinesAreSewn : Type 0
 LinesAreSewn =
     (parts : OffParts) (mesh : Mesh) (origins : List ℕ) (faces : List (List ℕ)) → WasCut parts mesh origins faces
@@ -67,8 +67,7 @@ LinesAreSewn =
     × (sewn_text (opened_parts parts origins) origins mesh
     ≡ mesh_text parts.header parts.vertex_lines mesh.faces parts.colours (edge_count mesh))
 
--- Read without limits, what is written of what is sewn is the mesh that was cut, with its keyword, vertex lines and
--- colours.
+-- The text of what is sewn is read, without limits, as the mesh that was cut.
 abbrev pub SewnAreReread : Type 0
 SewnAreReread =
     (parts : OffParts) (mesh : Mesh) (origins : List ℕ) (faces : List (List ℕ)) → WasCut parts mesh origins faces

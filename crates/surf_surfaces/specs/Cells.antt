@@ -30,16 +30,17 @@ pub record AreCells (mesh : Mesh) : Type 0 where
   pub faces_differ : (e : ℕ) → e < edge_count mesh → (faces_of mesh e).0 ≢ (faces_of mesh e).1
   pub one_edge : IsSimple (primal (cells_of mesh))
 
--- each surface is one
+-- A surface is a cell complex: two connected graphs over its edges, of its vertices and of its
+-- faces.
 abbrev pub SurfacesAreCells : Type 0
 SurfacesAreCells = (mesh : Mesh) → IsSurface mesh → AreCells mesh
 
--- the boundaries of sets of faces are the null chains
+-- The boundaries of a surface are the null chains of its cell complex.
 abbrev pub BoundariesAreNull : Type 0
 BoundariesAreNull =
     (mesh : Mesh) (chain : Chain) → IsBoundary mesh chain ↔ IsNullChain (cells_of mesh) chain
 
--- walks, their parities and their lengths are those of the graph of vertices
+-- The walks of a surface, their parities and their lengths are those of its graph of vertices.
 pub record WalksAreGraphWalks (mesh : Mesh) : Type 0 where
   pub walk : (u : ℕ) (rest : List ℕ) → IsWalk mesh (u ∷ rest) →
       IsGraphWalk (primal (cells_of mesh)) u rest (last_from u rest)
@@ -51,13 +52,14 @@ pub record WalksAreGraphWalks (mesh : Mesh) : Type 0 where
   pub sizes : (lengths : List ℕ) (u : ℕ) (rest : List ℕ) → IsWalk mesh (u ∷ rest) →
       walk_length mesh lengths (u ∷ rest) ≡ graph_length (primal (cells_of mesh)) (edge_length lengths) u rest
 
--- so is independence
+-- Walks of a surface are independent exactly where their chains are independent in its cell
+-- complex.
 abbrev pub IndependenceIsThatOfChains : Type 0
 IndependenceIsThatOfChains =
     (mesh : Mesh) (walks : List (List ℕ)) →
     IsIndependent mesh walks ↔ AreIndependent (cells_of mesh) (map (parity mesh) walks)
 
--- no independent list of closed walks has more than 2 − χ members
+-- No independent list of closed walks has more than 2 − χ members.
 abbrev pub IndependentWalksAreFew : Type 0
 IndependentWalksAreFew =
     (mesh : Mesh) → IsSurface mesh → (walks : List (List ℕ)) → All (IsClosed mesh) walks →

@@ -21,7 +21,8 @@ pub record LoopsAtBase (mesh : Mesh) (lengths : List ℕ) (base : ℕ) (trees : 
   pub sizes : All (λ c. walk_length mesh lengths c.walk ≡ c.size) (loops_at mesh lengths base trees)
   pub in_order : IsInOrder comes_before (loops_at mesh lengths base trees)
 
--- the loops that are chosen at a base are so
+-- The loops that are chosen at a base are a least loop system there, in total and place by place,
+-- in order, each with its length.
 abbrev pub LoopsAreLeast : Type 0
 LoopsAreLeast =
     (mesh : Mesh) (lengths : List ℕ) (base : ℕ) (trees : Trees) → IsSurface mesh → ArePositive mesh lengths →
@@ -35,14 +36,15 @@ pub record LeastSimpleBasis (mesh : Mesh) (lengths : List ℕ) (basis : List Loo
   pub simple : All (IsSimpleCycle mesh) (walks basis)
   pub sizes : All (λ c. walk_length mesh lengths c.walk ≡ c.size) basis
 
--- the chosen basis is so
+-- The chosen basis is a least basis, in total and place by place, of simple cycles, each with its
+-- length.
 abbrev pub BasisIsLeast : Type 0
 BasisIsLeast =
     (mesh : Mesh) (lengths : List ℕ) (trees : ℕ → Trees) (basis : List Loop) → IsSurface mesh →
     ArePositive mesh lengths → AreChosen mesh lengths trees →
     IsChosenBasis mesh lengths trees basis → LeastSimpleBasis mesh lengths basis
 
--- there is one basis
+-- There is one chosen basis for given trees.
 abbrev pub BasisIsOne : Type 0
 BasisIsOne =
     (mesh : Mesh) (lengths : List ℕ) (trees : ℕ → Trees) → IsSurface mesh → ArePositive mesh lengths →
@@ -50,14 +52,14 @@ BasisIsOne =
     (basis : List Loop) × IsChosenBasis mesh lengths trees basis
     × ((other : List Loop) → IsChosenBasis mesh lengths trees other → other ≡ basis)
 
--- what is kept base by base is the basis
+-- What is kept base by base is the basis.
 abbrev pub BasisIsKeptBaseByBase : Type 0
 BasisIsKeptBaseByBase =
     (mesh : Mesh) (lengths : List ℕ) (trees : ℕ → Trees) (kept : List Loop) → IsSurface mesh →
     ArePositive mesh lengths → AreChosen mesh lengths trees →
     IsKeptFrom mesh lengths trees mesh.vertices kept → IsChosenBasis mesh lengths trees kept
 
--- the first candidate is a shortest nonseparating cycle
+-- The first candidate is a shortest nonseparating cycle.
 abbrev pub FirstIsShortest : Type 0
 FirstIsShortest =
     (mesh : Mesh) (lengths : List ℕ) (trees : ℕ → Trees) (first : Loop) (rest : List Loop) → IsSurface mesh →
@@ -65,43 +67,43 @@ FirstIsShortest =
     AreChosen mesh lengths trees → candidates mesh lengths trees ≡ first ∷ rest →
     IsShortestNonseparating mesh lengths first.walk × (walk_length mesh lengths first.walk ≡ first.size)
 
--- there is a candidate exactly where χ is below 2
+-- There is a candidate exactly where χ is below 2.
 abbrev pub CandidatesBelowTwo : Type 0
 CandidatesBelowTwo =
     (mesh : Mesh) (lengths : List ℕ) (trees : ℕ → Trees) → IsSurface mesh → ArePositive mesh lengths →
     AreChosen mesh lengths trees →
     (0 < length (candidates mesh lengths trees)) ↔ (mesh.vertices + face_count mesh < edge_count mesh + 2)
 
--- every simple cycle separates exactly where χ is 2
+-- Every simple cycle separates exactly where χ is 2.
 abbrev pub SimpleCyclesSeparate : Type 0
 SimpleCyclesSeparate = (mesh : Mesh) → IsSurface mesh →
     ((walk : List ℕ) → IsSimpleCycle mesh walk → Separation mesh walk) ↔ IsFullCount mesh 0
 
--- the trees that are chosen exist
+-- The trees that are chosen exist at every base.
 abbrev pub ChoiceExists : Type 0
 ChoiceExists = (mesh : Mesh) (lengths : List ℕ) → IsSurface mesh → ArePositive mesh lengths →
     (trees : ℕ → Trees) × AreChosen mesh lengths trees
 
--- in any tree of the vertices, shortest or not, the loop of an edge is a closed walk at the root
+-- In any tree of the vertices, shortest or not, the loop of an edge is a closed walk at the root.
 abbrev pub LoopsAreClosed : Type 0
 LoopsAreClosed =
     (mesh : Mesh) (tree : Tree) → IsSurface mesh → IsTree (primal (cells_of mesh)) tree → (e : ℕ) →
     e < edge_count mesh → IsClosedAt mesh tree.root (loop_walk mesh tree e)
 
--- the loops at a base are one list
+-- The loops at a base are one list, whichever trees show it.
 abbrev pub LoopsAreOne : Type 0
 LoopsAreOne =
     (mesh : Mesh) (lengths : List ℕ) (base : ℕ) (a b : Trees) → IsSurface mesh → ArePositive mesh lengths →
     AreChosenAt mesh lengths base a → AreChosenAt mesh lengths base b →
     loops_at mesh lengths base a ≡ loops_at mesh lengths base b
 
--- so are the candidates, and with them the first cycle
+-- The candidates are one list, and the first cycle is one, whichever trees show them.
 abbrev pub CandidatesAreOne : Type 0
 CandidatesAreOne =
     (mesh : Mesh) (lengths : List ℕ) (a b : ℕ → Trees) → IsSurface mesh → ArePositive mesh lengths →
     AreChosen mesh lengths a → AreChosen mesh lengths b → candidates mesh lengths a ≡ candidates mesh lengths b
 
--- and the basis, whichever trees show it
+-- The chosen basis is one, whichever trees show it.
 abbrev pub BasesAreOne : Type 0
 BasesAreOne =
     (mesh : Mesh) (lengths : List ℕ) (a b : ℕ → Trees) (basis other : List Loop) → IsSurface mesh →

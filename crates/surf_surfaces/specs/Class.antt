@@ -19,14 +19,14 @@ class_of mesh d walk = signature_of (cells_of mesh) d (parity mesh walk)
 abbrev pub weighed_walk : Mesh → List ℕ → List ℕ → Weighed Chain
 weighed_walk mesh lengths walk = record { weight = walk_length mesh lengths walk; vector = parity mesh walk }
 
--- a closed walk is null exactly where its class is zero
+-- A closed walk is null exactly where its class is zero.
 abbrev pub NullByClass : Type 0
 NullByClass =
     (mesh : Mesh) (d : Split) → IsSurface mesh → IsSplit (cells_of mesh) d → (walk : List ℕ) →
     IsClosed mesh walk →
     IsNull mesh walk ↔ (class_of mesh d walk ≡ 0)
 
--- closed walks are independent exactly where their classes are
+-- Closed walks are independent exactly where their classes are.
 abbrev pub IndependentByClasses : Type 0
 IndependentByClasses =
     (mesh : Mesh) (d : Split) → IsSurface mesh → IsSplit (cells_of mesh) d → (walks : List (List ℕ)) →
@@ -40,8 +40,8 @@ pub record AreShortestTrees (mesh : Mesh) (lengths : List ℕ) (trees : ℕ → 
   pub shortest : (x : ℕ) → x < mesh.vertices →
       IsShortest (primal (cells_of mesh)) (edge_length lengths) (trees x)
 
--- where the tree is shortest and the cotree heaviest, the loops of the left edges, in any order, are a
--- least loop system at the root
+-- Where the tree is shortest and the cotree heaviest, the loops of the left edges, in any order,
+-- are a least loop system at the root.
 abbrev pub LeftLoopsAreLeast : Type 0
 LeftLoopsAreLeast =
     (mesh : Mesh) (lengths : List ℕ) (d : Split) (left : List ℕ) → IsSurface mesh →
@@ -50,8 +50,8 @@ LeftLoopsAreLeast =
     IsHeaviest (cells_of mesh) (edge_length lengths) d →
     IsPermutation d.left left → IsLeastLoopSystem mesh lengths d.tree.root (map (loop_walk mesh d.tree) left)
 
--- a basis is least where the class of each loop through a shortest tree is a sum of those of members
--- that are no longer
+-- A basis is least where the class of each loop through a shortest tree is a sum of those of
+-- members that are no longer.
 abbrev pub CoveringBasesAreLeast : Type 0
 CoveringBasesAreLeast =
     (mesh : Mesh) (lengths : List ℕ) (d : Split) (trees : ℕ → Tree) (walks : List (List ℕ)) → IsSurface mesh →

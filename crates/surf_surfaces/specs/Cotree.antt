@@ -55,7 +55,7 @@ pub record SameCotree (mesh : Mesh) (a b : Tree) : Type 0 where
   pub ups : (f : ℕ) → f < face_count mesh → f ≢ 0 → a.up f ≡ b.up f
   pub depths : (f : ℕ) → f < face_count mesh → a.rank f ≡ b.rank f
 
--- there is one such tree
+-- There is one heaviest cotree: edges, parents and depths.
 abbrev pub CotreesAreOne : Type 0
 CotreesAreOne =
     (mesh : Mesh) (lengths : List ℕ) (tree a b : Tree) → IsSurface mesh →
@@ -66,8 +66,8 @@ CotreesAreOne =
 abbrev pub is_no_later : (ℕ → ℕ) → ℕ → ℕ → Bool
 is_no_later weight a b = not (precedes weight b a)
 
--- a tree of all faces outside the tree of vertices is heaviest where each edge outside that comes no
--- later than all edges on the way between its two faces
+-- A tree of all faces outside the tree of vertices is heaviest where each edge outside that comes
+-- no later than all edges on the way between its two faces.
 abbrev pub HeavyCotreesAreHeaviest : Type 0
 HeavyCotreesAreHeaviest =
     (mesh : Mesh) (lengths : List ℕ) (tree cotree : Tree) → IsSurface mesh →

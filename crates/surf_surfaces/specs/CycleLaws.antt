@@ -11,7 +11,7 @@ use Rattle.surf_surfaces.specs.Cells.{cells_of}
 use Rattle.surf_surfaces.specs.Class.{AreShortestTrees}
 use Rattle.surf_surfaces.specs.Loop.{loop_walk, loop_length}
 
--- a simple cycle separates exactly where it is null
+-- A simple cycle separates exactly where it is null.
 abbrev pub NullCyclesSeparate : Type 0
 NullCyclesSeparate = (mesh : Mesh) → IsSurface mesh → (walk : List ℕ) → IsSimpleCycle mesh walk →
     IsNull mesh walk ↔ Separation mesh walk
@@ -20,8 +20,8 @@ NullCyclesSeparate = (mesh : Mesh) → IsSurface mesh → (walk : List ℕ) → 
 abbrev pub IsEssential : Mesh → Tree → ℕ → Type 0
 IsEssential mesh tree e = IsNullChain (cells_of mesh) (loop (primal (cells_of mesh)) tree e) → ⊥
 
--- a nonseparating cycle is a shortest one where no loop through a shortest tree that is no boundary is
--- shorter
+-- A nonseparating cycle is a shortest one where no loop through a shortest tree that is no boundary
+-- is shorter.
 abbrev pub CyclesBelowLoopsAreShortest : Type 0
 CyclesBelowLoopsAreShortest =
     (mesh : Mesh) (lengths : List ℕ) (trees : ℕ → Tree) (walk : List ℕ) → IsSurface mesh →
@@ -30,7 +30,7 @@ CyclesBelowLoopsAreShortest =
     walk_length mesh lengths walk ≤ loop_length mesh lengths (trees x) e) →
     IsShortestNonseparating mesh lengths walk
 
--- a loop that is no boundary is a shortest nonseparating cycle where no other such loop is shorter
+-- A loop that is no boundary is a shortest nonseparating cycle where no other such loop is shorter.
 abbrev pub LeastLoopsAreShortestCycles : Type 0
 LeastLoopsAreShortestCycles =
     (mesh : Mesh) (lengths : List ℕ) (trees : ℕ → Tree) (x l : ℕ) → IsSurface mesh →
@@ -40,7 +40,7 @@ LeastLoopsAreShortestCycles =
     loop_length mesh lengths (trees x) l ≤ loop_length mesh lengths (trees y) e) →
     IsShortestNonseparating mesh lengths (loop_walk mesh (trees x) l)
 
--- where χ is 2, each simple cycle separates
+-- Where χ is 2, each simple cycle separates.
 abbrev pub CyclesSeparateOnSphere : Type 0
 CyclesSeparateOnSphere = (mesh : Mesh) → IsSurface mesh → IsFullCount mesh 0 → (walk : List ℕ) →
     IsSimpleCycle mesh walk → Separation mesh walk

@@ -43,7 +43,8 @@ pub record IsLeastTable (mesh : Mesh) (lengths : List ℕ) (distance : ℕ → �
   pub one : (w : ℕ) → w < mesh.vertices → distance w ≤ far → (least w ≡ w)
       ⊎ ((p : ℕ) × (p < mesh.vertices) × IsTight mesh lengths distance p w × (least w ≡ least p))
 
--- gives the least vertices on the way
+-- A table that gives each vertex the least of itself and of what its tight neighbours have gives
+-- the least vertex on the way.
 abbrev pub LeastTablesAreLeast : Type 0
 LeastTablesAreLeast =
     (mesh : Mesh) (lengths : List ℕ) (trees : ℕ → Tree) (z far : ℕ) (least : ℕ → ℕ) → IsSurface mesh →
@@ -63,7 +64,8 @@ abbrev pub HasSignedEnds : Mesh → Split → (ℕ → Bool) → Type 0
 HasSignedEnds mesh d set = (e : ℕ) → e < edge_count mesh → edge_signature mesh d e ≢ 0 →
     IsTrue (set (ends mesh e).0) ⊎ IsTrue (set (ends mesh e).1)
 
--- such a set is met
+-- A set with an end of each edge whose signature isn't empty is met by each closed walk that isn't
+-- null.
 abbrev pub SignedEndsMeetAll : Type 0
 SignedEndsMeetAll =
     (mesh : Mesh) (d : Split) (set : ℕ → Bool) → IsSurface mesh → IsSplit (cells_of mesh) d → HasSignedEnds mesh d set →
@@ -134,7 +136,8 @@ pub record AreEnough (mesh : Mesh) (lengths : List ℕ) (trees : ℕ → Tree) (
 abbrev pub HasFound : List Found → Loop → Type 0
 HasFound found c = (k : Found) × Contains found k × (k.size ≡ c.size) × (k.through ≡ c.base)
 
--- each loop of the basis has the length and the base of one that was found
+-- Where loops are enough for a set that is met, each loop of the basis has the place of one of
+-- them.
 abbrev pub FewBasesSuffice : Type 0
 FewBasesSuffice =
     (mesh : Mesh) (lengths : List ℕ) (trees : ℕ → Trees) (searched : ℕ → Tree) (set : ℕ → Bool) (found : List Found)
@@ -142,7 +145,7 @@ FewBasesSuffice =
     AreShortestTrees mesh lengths searched → MeetsAll mesh set → AreEnough mesh lengths searched set found →
     IsChosenBasis mesh lengths trees basis → All (HasFound found) basis
 
--- the trees that are chosen are trees of shortest walks
+-- The trees that are chosen are trees of shortest walks.
 abbrev pub ChosenTreesAreShortest : Type 0
 ChosenTreesAreShortest =
     (mesh : Mesh) (lengths : List ℕ) (trees : ℕ → Trees) → IsSurface mesh → ArePositive mesh lengths →
@@ -164,7 +167,8 @@ pub data IsKeptAmong (mesh : Mesh) (lengths : List ℕ) (trees : ℕ → Trees) 
 abbrev pub HasBase : (ℕ → Bool) → Loop → Type 0
 HasBase here c = IsTrue (here c.base)
 
--- where the set has the bases of the basis, what is kept is the basis
+-- What is kept where vertices outside a set are passed over is the basis, where the set has the
+-- bases of the basis.
 abbrev pub BasisIsKeptAmong : Type 0
 BasisIsKeptAmong =
     (mesh : Mesh) (lengths : List ℕ) (trees : ℕ → Trees) (here : ℕ → Bool) (basis kept : List Loop) →
@@ -191,7 +195,7 @@ pub record AreBases (mesh : Mesh) (bases : List ℕ) : Type 0 where
 abbrev pub HasBaseIn : List ℕ → Loop → Type 0
 HasBaseIn bases c = Contains bases c.base
 
--- so it is where the list has the bases of the basis
+-- What is kept along a list of bases is the basis, where the list has the bases of the basis.
 abbrev pub BasisIsKeptOver : Type 0
 BasisIsKeptOver =
     (mesh : Mesh) (lengths : List ℕ) (trees : ℕ → Trees) (bases : List ℕ) (basis kept : List Loop) →
@@ -203,7 +207,8 @@ BasisIsKeptOver =
 abbrev pub HaveBases : List ℕ → List Found → Type 0
 HaveBases bases found = (k : Found) → Contains found k → Contains bases k.through
 
--- so it is where the list has the bases of loops that are enough
+-- What is kept along a list of bases is the basis, where the list has the least bases of loops that
+-- are enough.
 abbrev pub BasisIsKeptOverFew : Type 0
 BasisIsKeptOverFew =
     (mesh : Mesh) (lengths : List ℕ) (trees : ℕ → Trees) (searched : ℕ → Tree) (set : ℕ → Bool) (found : List Found)
@@ -229,6 +234,8 @@ pub record IsFirstAt (mesh : Mesh) (lengths : List ℕ) (trees : ℕ → Trees) 
   pub base : first.base ≡ place.1
   pub heads : (others : List Loop) × (loops_at mesh lengths place.1 (trees place.1) ≡ first ∷ others)
 
+-- The first loop that is found and isn't null has the length and the base of the first candidate,
+-- which is the first loop at that base.
 abbrev pub FirstIsAtLeastBase : Type 0
 FirstIsAtLeastBase =
     (mesh : Mesh) (lengths : List ℕ) (trees : ℕ → Trees) (searched : ℕ → Tree) (set : ℕ → Bool) (z e : ℕ) (first : Loop)
@@ -291,11 +298,13 @@ pub record EnoughGrow (mesh : Mesh) (lengths : List ℕ) (trees : ℕ → Tree) 
   pub all : (set : ℕ → Bool) (kept : List Found) → AreEnoughOf mesh lengths trees every_place set kept →
       AreEnough mesh lengths trees set kept
 
+-- What was kept and the loops found at one more vertex: the greedy choice by place is enough for
+-- one vertex more, and independent.
 abbrev pub LoopsGrowEnough : Type 0
 LoopsGrowEnough = (mesh : Mesh) (lengths : List ℕ) (trees : ℕ → Tree) → IsSurface mesh →
     AreShortestTrees mesh lengths trees → EnoughGrow mesh lengths trees
 
--- for each set there are loops that are enough
+-- For each set there are loops that are enough.
 abbrev pub EnoughLoopsExist : Type 0
 EnoughLoopsExist =
     (mesh : Mesh) (lengths : List ℕ) (trees : ℕ → Tree) (set : ℕ → Bool) → IsSurface mesh →
@@ -304,7 +313,8 @@ EnoughLoopsExist =
 abbrev pub place_of_loop : Loop → Place
 place_of_loop c = (c.size, c.base)
 
--- where loops that are enough are independent and in order of place, their places are those of the basis, one by one
+-- Where loops that are enough for a set that is met are independent and in order, their places are
+-- those of the basis, one by one.
 abbrev pub PlacesAreThoseOfBasis : Type 0
 PlacesAreThoseOfBasis =
     (mesh : Mesh) (lengths : List ℕ) (trees : ℕ → Trees) (searched : ℕ → Tree) (set : ℕ → Bool) (found : List Found)
@@ -315,7 +325,7 @@ PlacesAreThoseOfBasis =
 
 -- ---- short searches
 
--- the ends of an edge are no farther from a base than half the length of its loop there
+-- The ends of an edge are no farther from a base than half the length of its loop.
 abbrev pub EndsAreNear : Type 0
 EndsAreNear =
     (mesh : Mesh) (lengths : List ℕ) (trees : ℕ → Tree) (z e : ℕ) → AreShortestTrees mesh lengths trees →
@@ -343,6 +353,7 @@ pub record HasNearLoops (mesh : Mesh) (lengths : List ℕ) (far : ℕ) (tree nea
   pub sizes : (e : ℕ) → e < edge_count mesh → tree.rank (ends mesh e).0 ≤ far → tree.rank (ends mesh e).1 ≤ far →
       loop_length mesh lengths near e ≡ loop_length mesh lengths tree e
 
+-- A tree as far as a distance has the loops of the edges whose ends are as near.
 abbrev pub NearTreesHaveLoops : Type 0
 NearTreesHaveLoops =
     (mesh : Mesh) (lengths : List ℕ) (base far : ℕ) (tree near : Tree) → IsSurface mesh → ArePositive mesh lengths →
@@ -353,8 +364,8 @@ NearTreesHaveLoops =
 abbrev pub comes_sooner : Place → Place → Bool
 comes_sooner limit place = not (is_no_later limit place)
 
--- as many independent loops as may be, none later than a place, are enough where they are enough of those loops that
--- come before that place
+-- 2 − χ independent loops, none later than a place, are enough where they are enough of the loops
+-- before it.
 abbrev pub ShortSearchesSuffice : Type 0
 ShortSearchesSuffice =
     (mesh : Mesh) (lengths : List ℕ) (trees : ℕ → Tree) (set : ℕ → Bool) (limit : Place) (found : List Found) →

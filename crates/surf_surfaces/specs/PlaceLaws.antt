@@ -10,7 +10,9 @@ use Rattle.surf_surfaces.specs.Places.{AreNoLonger, AreNoLongerInOrder, lengths_
 use Rattle.surf_surfaces.specs.Places.{IsLeastBasisInOrder, IsShortSum, IsShortestOf, IsShortestNotNull}
 use Rattle.surf_surfaces.specs.Places.{IsShortestNotNullAt, MeasureShortest}
 
--- What it is to be no longer, place by place, of any two lists of walks
+-- Place by place no longer, for lists of walks: in order; each walk of the other list has one that
+-- is no longer; the n shortest, and the total of as many, are no more; a bound on as many bounds
+-- it.
 pub record NoLongerLaw (mesh : Mesh) (lengths : List ℕ) (walks others : List (List ℕ)) : Type 0 where
   pub in_order : AreNoLonger mesh lengths walks others ↔ AreNoLongerInOrder mesh lengths walks others
   -- each of the others has a walk that is no longer
@@ -26,19 +28,19 @@ pub record NoLongerLaw (mesh : Mesh) (lengths : List ℕ) (walks others : List (
   pub longest : AreNoLonger mesh lengths walks others → length others ≡ length walks → (limit : ℕ) →
       All (λ w. walk_length mesh lengths w ≤ limit) others → All (λ w. walk_length mesh lengths w ≤ limit) walks
 
--- a loop system is least in total exactly where it is least place by place, against all independent closed walks there
+-- A loop system is least in total exactly where it is least place by place.
 abbrev pub LoopSystemsAreLeastInOrder : Type 0
 LoopSystemsAreLeastInOrder =
     (mesh : Mesh) (lengths : List ℕ) (base : ℕ) (walks : List (List ℕ)) → IsSurface mesh → ArePositive mesh lengths →
     IsLeastLoopSystem mesh lengths base walks ↔ IsLeastLoopSystemInOrder mesh lengths base walks
 
--- a basis is least in total exactly where it is least place by place, against all independent closed walks
+-- A basis is least in total exactly where it is least place by place.
 abbrev pub BasesAreLeastInOrder : Type 0
 BasesAreLeastInOrder =
     (mesh : Mesh) (lengths : List ℕ) (walks : List (List ℕ)) → IsSurface mesh → ArePositive mesh lengths →
     IsLeastBasis mesh lengths walks ↔ IsLeastBasisInOrder mesh lengths walks
 
--- so all least loop systems at a vertex have the same lengths
+-- All least loop systems at a vertex have equal lengths, place by place.
 abbrev pub LeastLoopSystemsAreAlike : Type 0
 LeastLoopSystemsAreAlike =
     (mesh : Mesh) (lengths : List ℕ) (base : ℕ) (walks others : List (List ℕ)) → IsSurface mesh →
@@ -46,14 +48,14 @@ LeastLoopSystemsAreAlike =
     IsLeastLoopSystem mesh lengths base others →
     lengths_in_order mesh lengths walks ≡ lengths_in_order mesh lengths others
 
--- and all least bases
+-- All least bases have equal lengths, place by place.
 abbrev pub LeastBasesAreAlike : Type 0
 LeastBasesAreAlike =
     (mesh : Mesh) (lengths : List ℕ) (walks others : List (List ℕ)) → IsSurface mesh → ArePositive mesh lengths →
     IsLeastBasis mesh lengths walks → IsLeastBasis mesh lengths others →
     lengths_in_order mesh lengths walks ≡ lengths_in_order mesh lengths others
 
--- a loop system is least exactly where each closed walk there is, up to a boundary, a sum of loops that are no longer
+-- A loop system is least exactly where each closed walk at the vertex is a short sum of it.
 abbrev pub LoopSystemsAreLeastByShortSums : Type 0
 LoopSystemsAreLeastByShortSums =
     (mesh : Mesh) (lengths : List ℕ) (base : ℕ) (walks : List (List ℕ)) → IsSurface mesh → ArePositive mesh lengths →
@@ -61,7 +63,7 @@ LoopSystemsAreLeastByShortSums =
     IsLeastLoopSystem mesh lengths base walks
     ↔ ((walk : List ℕ) → IsClosedAt mesh base walk → IsShortSum mesh lengths walks walk)
 
--- a basis is least exactly where each closed walk is, up to a boundary, a sum of members that are no longer
+-- A basis is least exactly where each closed walk is a short sum of it.
 abbrev pub BasesAreLeastByShortSums : Type 0
 BasesAreLeastByShortSums =
     (mesh : Mesh) (lengths : List ℕ) (walks : List (List ℕ)) → IsSurface mesh → ArePositive mesh lengths →
@@ -71,7 +73,7 @@ BasesAreLeastByShortSums =
 
 -- ---- what is chosen
 
--- the loops that are chosen at a base stand in the order of their lengths
+-- The loops that are chosen at a base stand in the order of their lengths.
 abbrev pub ChosenLoopsAreInOrder : Type 0
 ChosenLoopsAreInOrder =
     (mesh : Mesh) (lengths : List ℕ) (base : ℕ) (trees : Trees) → IsSurface mesh → ArePositive mesh lengths →
@@ -79,7 +81,8 @@ ChosenLoopsAreInOrder =
     lengths_in_order mesh lengths (walks (loops_at mesh lengths base trees))
     ≡ map (λ c. c.size) (loops_at mesh lengths base trees)
 
--- so the k-th of them is no longer than the k-th in length of any independent closed walks there
+-- The k-th of the loops that are chosen at a base is no longer than the k-th in length of any
+-- independent closed walks there.
 abbrev pub ChosenLoopsAreLeastInOrder : Type 0
 ChosenLoopsAreLeastInOrder =
     (mesh : Mesh) (lengths : List ℕ) (base : ℕ) (trees : Trees) (others : List (List ℕ)) → IsSurface mesh →
@@ -88,14 +91,15 @@ ChosenLoopsAreLeastInOrder =
     slice_index (map (λ c. c.size) (loops_at mesh lengths base trees)) k
     ≤ slice_index (lengths_in_order mesh lengths others) k
 
--- the chosen basis stands in the order of its lengths
+-- The chosen basis stands in the order of its lengths.
 abbrev pub ChosenBasisIsInOrder : Type 0
 ChosenBasisIsInOrder =
     (mesh : Mesh) (lengths : List ℕ) (trees : ℕ → Trees) (basis : List Loop) → IsSurface mesh →
     ArePositive mesh lengths → AreChosen mesh lengths trees → IsChosenBasis mesh lengths trees basis →
     lengths_in_order mesh lengths (walks basis) ≡ map (λ c. c.size) basis
 
--- so the k-th of it is no longer than the k-th in length of any independent closed walks
+-- The k-th of the chosen basis is no longer than the k-th in length of any independent closed
+-- walks.
 abbrev pub ChosenBasisIsLeastInOrder : Type 0
 ChosenBasisIsLeastInOrder =
     (mesh : Mesh) (lengths : List ℕ) (trees : ℕ → Trees) (basis : List Loop) (others : List (List ℕ)) →
@@ -106,52 +110,53 @@ ChosenBasisIsLeastInOrder =
 
 -- ---- the shortest
 
--- a shortest of a least loop system is a shortest of all closed walks at the vertex that are not null
+-- A shortest of a least loop system is a shortest closed walk at the vertex that is not null.
 abbrev pub ShortestLoopsAreShortestNotNull : Type 0
 ShortestLoopsAreShortestNotNull =
     (mesh : Mesh) (lengths : List ℕ) (base : ℕ) (walks : List (List ℕ)) (walk : List ℕ) → IsSurface mesh →
     ArePositive mesh lengths → IsLeastLoopSystem mesh lengths base walks → IsShortestOf mesh lengths walks walk →
     IsShortestNotNullAt mesh lengths base walk
 
--- a shortest of a least basis is a shortest of all closed walks that are not null
+-- A shortest of a least basis is a shortest closed walk that is not null.
 abbrev pub ShortestOfBasesAreShortestNotNull : Type 0
 ShortestOfBasesAreShortestNotNull =
     (mesh : Mesh) (lengths : List ℕ) (walks : List (List ℕ)) (walk : List ℕ) → IsSurface mesh →
     ArePositive mesh lengths → IsLeastBasis mesh lengths walks → IsShortestOf mesh lengths walks walk →
     IsShortestNotNull mesh lengths walk
 
--- a shortest closed walk that is not null is a shortest nonseparating cycle, and the other way round
+-- The shortest closed walks that are not null are the shortest nonseparating cycles.
 abbrev pub ShortestNotNullIsNonseparating : Type 0
 ShortestNotNullIsNonseparating =
     (mesh : Mesh) (lengths : List ℕ) (walk : List ℕ) → IsSurface mesh → ArePositive mesh lengths →
     IsShortestNotNull mesh lengths walk ↔ IsShortestNonseparating mesh lengths walk
 
--- the least of the lengths of walks is that of a shortest of them
+-- The least of the lengths of walks is that of a shortest of them.
 abbrev pub ShortestIsFirstInOrder : Type 0
 ShortestIsFirstInOrder =
     (mesh : Mesh) (lengths : List ℕ) (walks : List (List ℕ)) (walk : List ℕ) → IsShortestOf mesh lengths walks walk →
     slice_index (lengths_in_order mesh lengths walks) 0 ≡ walk_length mesh lengths walk
 
--- the least of the lengths of a least basis is that of each shortest nonseparating cycle
+-- The least length of a least basis is that of each shortest nonseparating cycle.
 abbrev pub LeastBasesMeasureShortest : Type 0
 LeastBasesMeasureShortest =
     (mesh : Mesh) (lengths : List ℕ) (walks : List (List ℕ)) → IsSurface mesh → ArePositive mesh lengths →
     IsLeastBasis mesh lengths walks → MeasureShortest mesh lengths walks
 
--- where χ is below 2, a basis has a shortest
+-- Where χ is below 2, a basis has a shortest.
 abbrev pub BasesHaveShortest : Type 0
 BasesHaveShortest =
     (mesh : Mesh) (lengths : List ℕ) (walks : List (List ℕ)) → IsBasis mesh walks →
     mesh.vertices + face_count mesh < edge_count mesh + 2 → (walk : List ℕ) × IsShortestOf mesh lengths walks walk
 
--- the first of the loops that are chosen at a base is a shortest of all closed walks there that are not null
+-- The first of the loops that are chosen at a base is a shortest closed walk there that is not
+-- null.
 abbrev pub FirstLoopIsShortestNotNull : Type 0
 FirstLoopIsShortestNotNull =
     (mesh : Mesh) (lengths : List ℕ) (base : ℕ) (trees : Trees) (first : Loop) (rest : List Loop) → IsSurface mesh →
     ArePositive mesh lengths → AreChosenAt mesh lengths base trees →
     loops_at mesh lengths base trees ≡ first ∷ rest → IsShortestNotNullAt mesh lengths base first.walk
 
--- the first of the chosen basis is a shortest of all closed walks that are not null
+-- The first of the chosen basis is a shortest closed walk that is not null.
 abbrev pub FirstOfBasisIsShortestNotNull : Type 0
 FirstOfBasisIsShortestNotNull =
     (mesh : Mesh) (lengths : List ℕ) (trees : ℕ → Trees) (first : Loop) (rest : List Loop) → IsSurface mesh →

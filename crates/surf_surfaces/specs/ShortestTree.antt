@@ -29,7 +29,7 @@ pub record SameTree (mesh : Mesh) (base : ℕ) (a b : Tree) : Type 0 where
   pub parents : (v : ℕ) → v < mesh.vertices → v ≢ base → a.parent v ≡ b.parent v
   pub ups : (v : ℕ) → v < mesh.vertices → v ≢ base → a.up v ≡ b.up v
 
--- there is one such tree
+-- There is one tree of shortest walks with least parents: distances, parents and edges.
 abbrev pub ShortestTreesAreOne : Type 0
 ShortestTreesAreOne =
     (mesh : Mesh) (lengths : List ℕ) (base : ℕ) (a b : Tree) → IsSurface mesh → ArePositive mesh lengths →

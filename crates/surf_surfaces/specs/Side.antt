@@ -20,17 +20,17 @@ corner face k = slice_index face k
 abbrev pub side_pair : List ℕ → ℕ → ℕ × ℕ
 side_pair face k = pair (corner face k) (corner face (after (length face) k))
 
--- the side at a place leads from the corner there to the one after it
+-- The side at a place leads from the corner there to the one after it.
 abbrev pub SidesAreByPlace : Type 0
 SidesAreByPlace = (face : List ℕ) (k : ℕ) → k < length face → slice_index_or (sides face) k (0, 0)
     ≡ (corner face k, corner face (after (length face) k))
 
--- a pair is a side where it is the side at some place
+-- A pair is a side where it is the side at some place.
 abbrev pub SidesArePlaced : Type 0
 SidesArePlaced = (face : List ℕ) (p : ℕ × ℕ) →
     (has_side p face ≡ true) ↔ ((k : ℕ) × (k < length face) × (side_pair face k ≡ p))
 
--- a corner's sides lead to the corners after it and before it
+-- A corner's sides lead to the corners after it and before it.
 abbrev pub CornersHaveNeighbours : Type 0
 CornersHaveNeighbours =
     (n : ℕ) (face : List ℕ) → IsFace n face → (k w : ℕ) → k < length face →
@@ -44,7 +44,7 @@ pub record AreMates (mesh : Mesh) (f k g j : ℕ) : Type 0 where
   pub is_place : j < length (face_at mesh g)
   pub same_edge : side_pair (face_at mesh f) k ≡ side_pair (face_at mesh g) j
 
--- each side has one mate
+-- Each side has one mate.
 pub record SidesHaveMates (mesh : Mesh) : Type 0 where
   pub some : (f k : ℕ) → f < face_count mesh → k < length (face_at mesh f) →
       (g : ℕ) × (j : ℕ) × AreMates mesh f k g j

@@ -20,20 +20,20 @@ abbrev pub walk_signature : Mesh → Split → List ℕ → ℕ
 walk_signature mesh d walk =
     sum_of numbers (map (λ s. edge_signature mesh d (edge_number mesh s)) (steps walk))
 
--- it is the class of the walk
+-- The signature of a walk by steps is that of its parity.
 abbrev pub SignaturesAreClasses : Type 0
 SignaturesAreClasses =
     (mesh : Mesh) (d : Split) → IsSurface mesh → (walk : List ℕ) → IsWalk mesh walk →
     walk_signature mesh d walk ≡ class_of mesh d walk
 
--- a closed walk is null exactly where its signature is empty
+-- A closed walk is null exactly where its signature is empty.
 abbrev pub NullBySignature : Type 0
 NullBySignature =
     (mesh : Mesh) (d : Split) → IsSurface mesh → IsSplit (cells_of mesh) d → (walk : List ℕ) →
     IsClosed mesh walk →
     IsNull mesh walk ↔ (walk_signature mesh d walk ≡ 0)
 
--- the signatures of a face's sides sum to nothing
+-- The signatures of a face's sides sum to nothing.
 abbrev pub FacesSumToZero : Type 0
 FacesSumToZero =
     (mesh : Mesh) (d : Split) → IsSurface mesh → IsSplit (cells_of mesh) d → (f : ℕ) → f < face_count mesh →

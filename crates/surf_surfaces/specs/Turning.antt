@@ -39,7 +39,7 @@ pub record IsOneSided (mesh : Mesh) (links : List Link) : Type 0 where
   pub linked : AreLinked mesh links (next_face links 0)
   pub odd_number : odd (same_ways mesh links (next_face links 0)) ≡ true
 
--- a surface with such a chain has no turning
+-- A one-sided chain excludes every turning.
 abbrev pub OneSidedChainsExcludeTurnings : Type 0
 OneSidedChainsExcludeTurnings = (mesh : Mesh) → IsSurface mesh → (links : List Link) → IsOneSided mesh links →
     IsTwoSided mesh → ⊥

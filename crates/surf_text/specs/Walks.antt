@@ -4,10 +4,14 @@ use Rattle.std.specs.List.{slice_split}
 use Rattle.std.specs.Borrow.{Bor}
 use Rattle.surf_text.specs.Text.{TextLine, tokens_of, words_of, trimmed, uncommented, is_line_end, numbered_from}
 use Rattle.surf_text.specs.declared.lines.Line.{Line}
+use Rattle.surf_text.specs.declared.placed.PlacedLine.{PlacedLine}
 
 -- a line of the code as a line of the text
 abbrev pub text_line : Line → TextLine
 text_line line = record { number = line.number; bytes = line.bytes.now }
+
+abbrev pub placed_line : PlacedLine → TextLine
+placed_line line = record { number = line.number; bytes = line.bytes.now }
 
 -- a text, a place in it, and the number of the lines before that place
 pub record PlacedWalk : Type 0 where

@@ -23,7 +23,7 @@ pub use lines::{Line, Lines};
 pub use number::{front_number, read_whole};
 pub use page::{Page, PageFault};
 pub use pieces::Piece;
-pub use placed::{FirstLine, PlacedLines, first_line};
+pub use placed::{FirstLine, PlacedLine, PlacedLines, first_line};
 pub use slip::Slip;
 pub use telling::numbered;
 pub use tokens::{Tokens, has_tokens};

@@ -6,12 +6,11 @@ ghost use Rattle.surf_text.specs.Walks.{text_line};
 use crate::placed::PlacedLines;
 use std::marker::Model;
 
-/// A line that has a token: its number in the text, counted from 1, the place of its first token's
-/// first byte in the text, and the slice of the text from there to its last token's last byte.
+/// A line that has a token: its number in the text, counted from 1, and the slice of the text from
+/// its first token's first byte to its last token's last byte.
 #[derive(Clone, Copy, Debug)]
 pub struct Line<'a> {
     pub number: u32,
-    pub start: u32,
     pub bytes: &'a [u8],
 }
 
@@ -48,6 +47,12 @@ impl<'a> Lines<'a> {
         ensures next { MatchOption result ((self.old ≡ []) × (self.new ≡ [])) (λ line. self.old
             ≡ text_line line ∷ self.new) }
     {
-        self.placed.next_line()
+        match self.placed.next_line() {
+            Some(line) => Some(Line {
+                number: line.number,
+                bytes: line.bytes,
+            }),
+            None => None,
+        }
     }
 }

@@ -2,9 +2,8 @@
 ghost use Rattle.std.specs.Prelude.{◌≡◌, ◌<◌, ◌≤◌, ◌+◌, [], ◌∷◌, length, take, drop, IfSome, MatchOption};
 ghost use Rattle.std.specs.List.{before_first, position_or_len};
 ghost use Rattle.surf_text.specs.Text.{is_line_end, tokens_of, trimmed, uncommented, onto_lines};
-ghost use Rattle.surf_text.specs.Walks.{text_line, lines_ahead, StandsAt};
+ghost use Rattle.surf_text.specs.Walks.{placed_line, lines_ahead, StandsAt};
 
-use crate::lines::Line;
 use crate::places::{split_uncommented, trim_back, trim_front};
 use std::marker::Model;
 
@@ -50,6 +49,15 @@ pub fn first_line(text: &[u8]) -> FirstLine<'_>
         },
         _ => long_line(text),
     }
+}
+
+/// A line that has a token: its number in the text, counted from 1, the place of its first token's
+/// first byte in the text, and the slice of the text from there to its last token's last byte.
+#[derive(Clone, Copy, Debug)]
+pub struct PlacedLine<'a> {
+    pub number: u32,
+    pub start: u32,
+    pub bytes: &'a [u8],
 }
 
 /// A walk over the lines that have a token, seen as the text, the place that it has come to and the
@@ -121,10 +129,10 @@ impl<'a> PlacedLines<'a> {
     }
 
     /// The next line that has a token. None where no later line has one.
-    pub fn next_line(&mut self) -> Option<Line<'a>>
+    pub fn next_line(&mut self) -> Option<PlacedLine<'a>>
         ensures next { MatchOption result
             ((lines_ahead self.old ≡ []) × (lines_ahead self.new ≡ []))
-            (λ line. lines_ahead self.old ≡ text_line line ∷ lines_ahead self.new) }
+            (λ line. lines_ahead self.old ≡ placed_line line ∷ lines_ahead self.new) }
         ensures text { self.new.text ≡ self.old.text }
         ensures place { IfSome result (λ line. StandsAt self.old.text line.bytes.now line.start) }
         ensures short { length self.old.text < 4294967295 }
@@ -134,7 +142,7 @@ impl<'a> PlacedLines<'a> {
             let line = first_line(&self.text[from..]);
             let number = self.pass_line(line.len);
             if !line.bytes.is_empty() {
-                return Some(Line {
+                return Some(PlacedLine {
                     number,
                     start: (from + line.start) as u32,
                     bytes: line.bytes,

@@ -24,16 +24,17 @@ longer_chain (suc k) a b =
 abbrev pub chain : ℕ → ℕ → ℕ → Mesh
 chain g a b = longer_chain (g - 1) a b
 
--- from one torus of 4 rows and 4 columns on it is a surface
+-- A chain of at least one torus of at least 4 by 4 squares is a surface.
 abbrev pub ChainsAreSurfaces : Type 0
 ChainsAreSurfaces = (g a b : ℕ) → 1 ≤ g → 4 ≤ a → 4 ≤ b → IsSurface (chain g a b)
 
--- of characteristic 2 less twice the number of tori
+-- The χ of a chain of g tori is 2 − 2g.
 abbrev pub ChainsHaveCharacteristic : Type 0
 ChainsHaveCharacteristic =
     (g a b : ℕ) → 1 ≤ g → 4 ≤ a → 4 ≤ b → characteristic (chain g a b) ≡ pos 2 -ℤ pos (2 * g)
 
--- how many vertices, edges and faces there are: the edges are three halves of the faces
+-- A chain of g tori of a by b has g · ab − 3(g − 1) vertices and 2g · ab − 2(g − 1) faces, and
+-- three halves as many edges as faces.
 pub record ChainCounts (g a b : ℕ) : Type 0 where
   pub vertices : (chain g a b).vertices ≡ g * (a * b) - 3 * (g - 1)
   pub faces : face_count (chain g a b) ≡ 2 * (g * (a * b)) - 2 * (g - 1)

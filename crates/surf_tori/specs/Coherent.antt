@@ -13,7 +13,8 @@ pub record IsCoherent (mesh : Mesh) : Type 0 where
   pub once : (f g : ℕ) (p : ℕ × ℕ) → Runs mesh f p → Runs mesh g p → f ≡ g
   pub back : (f : ℕ) (p : ℕ × ℕ) → Runs mesh f p → (g : ℕ) × Runs mesh g (p.1, p.0)
 
--- each edge of a coherently oriented mesh has two faces
+-- Where no two faces run from one vertex to another and each run has one back, each edge has two
+-- faces.
 abbrev pub CoherentEdgesHaveTwoFaces : Type 0
 CoherentEdgesHaveTwoFaces =
     (mesh : Mesh) → IsCoherent mesh → (e : ℕ) → e < edge_count mesh → length (faces_with mesh (ends mesh e)) ≡ 2

@@ -46,12 +46,13 @@ pub record CanLose (mesh : Mesh) (f : ℕ) : Type 0 where
   pub fans : (v : ℕ) → v < mesh.vertices → (g k : ℕ) → g ≢ f → k ≢ f → HasCorner mesh g v → HasCorner mesh k v →
       Joined (ShareBeside mesh f v) g k
 
--- the connected sum of two such surfaces is a surface
+-- The connected sum of two surfaces is a surface, where each is coherently listed and the faces at
+-- each vertex stay joined without the triangle that it leaves out.
 abbrev pub ConnectedSumsAreSurfaces : Type 0
 ConnectedSumsAreSurfaces =
     (first second : Mesh) (f h : ℕ) → CanLose first f → CanLose second h → IsSurface (connected_sum first f second h)
 
--- and its characteristic is 2 less than the sum of theirs
+-- The characteristic of a connected sum is 2 less than the sum of those of its parts.
 abbrev pub ConnectedSumsLoseTwo : Type 0
 ConnectedSumsLoseTwo =
     (first second : Mesh) (f h : ℕ) → CanLose first f → CanLose second h →

@@ -30,20 +30,20 @@ torus_faces a b = flat_map (cell_faces a b) (range_with_len 0 (a * b))
 abbrev pub torus : ℕ → ℕ → Mesh
 torus a b = record { vertices = a * b; faces = torus_faces a b }
 
--- from 3 rows and 3 columns on it is a surface
+-- A torus of squares is a surface from 3 rows and 3 columns on.
 abbrev pub ToriAreSurfaces : Type 0
 ToriAreSurfaces = (a b : ℕ) → 3 ≤ a → 3 ≤ b → IsSurface (torus a b)
 
--- of characteristic 0
+-- The characteristic of a torus of squares is 0.
 abbrev pub ToriHaveCharacteristicZero : Type 0
 ToriHaveCharacteristicZero = (a b : ℕ) → 3 ≤ a → 3 ≤ b → characteristic (torus a b) ≡ pos 0
 
--- how many faces and edges there are
+-- A torus of a by b squares has 2ab faces and 3ab edges.
 pub record TorusCounts (a b : ℕ) : Type 0 where
   pub faces : face_count (torus a b) ≡ 2 * (a * b)
   pub edges : edge_count (torus a b) ≡ 3 * (a * b)
 
--- the two faces of each cell are faces over its vertices
+-- The two triangles of each square are faces over its vertices.
 pub record CellsAreFaces (a b : ℕ) : Type 0 where
   pub first : (cell : ℕ) → cell < a * b → IsFace (a * b) (first_face a b (cell / b) (cell % b))
   pub second : (cell : ℕ) → cell < a * b → IsFace (a * b) (second_face a b (cell / b) (cell % b))

@@ -121,6 +121,8 @@ impl TreeDesk {
         mesh.law_of_surface();
         lengths.law_of_lengths();
         let network = MeshNetwork { mesh, lengths };
+        // (the parents are written afterwards, so until then their table is the queue in which
+        // vertices are settled where all lengths are equal)
         settle_vertices(
             &network,
             &mut self.distance,

@@ -14,8 +14,7 @@ use Rattle.surf_surfaces.specs.Cells.{cells_of}
 use Rattle.surf_turnings.specs.Names.{NamesRounds}
 use Rattle.surf_turnings.specs.Chains.{Fits, misfit, FollowTree, tree_chain, GoByStep}
 
--- of three turns of n things, of which one is the other two one after the other: their rounds and the
--- number of things are even in all
+-- `RoundsAreEven` of `surf_graphs` with a name for each round in place of a count of rounds.
 abbrev pub NamedRoundsAreEven : Type 0
 NamedRoundsAreEven =
     (n : ℕ) (p pb q qb r rb : ℕ → ℕ) (a b c : ℕ) (name_p name_q name_r : ℕ → ℕ) → IsTurn n p pb →
@@ -23,25 +22,25 @@ NamedRoundsAreEven =
     NamesRounds n p a name_p → NamesRounds n q b name_q → NamesRounds n r c name_r →
     ((i : ℕ) → i < n → r i ≡ p (q i)) → (k : ℕ) × (a + b + c + n ≡ 2 * k)
 
--- vertices, edges and faces of a surface with a turning are an even number in all
+-- Vertices, edges and faces of a surface with a turning are an even number in all.
 abbrev pub CountsAreEven : Type 0
 CountsAreEven = (mesh : Mesh) (turned : ℕ → Bool) → IsSurface mesh → IsTurning mesh turned →
     (k : ℕ) × (mesh.vertices + edge_count mesh + face_count mesh ≡ 2 * k)
 
--- a connected graph with a node has a spanning tree, rooted at any of its nodes
+-- A connected graph with a node has a spanning tree, rooted at any of its nodes.
 abbrev pub ConnectedGraphsHaveTrees : Type 0
 ConnectedGraphsHaveTrees = (g : Graph) (root : ℕ) → IsGraph g → IsConnected g → root < g.nodes →
     (t : Tree) × (t.root ≡ root) × IsTree g t
 
--- a surface has a tree of its vertices, a tree of its faces, and left edges
+-- A surface has a tree of its vertices, a tree of its faces, and left edges.
 abbrev pub SurfacesHaveSplits : Type 0
 SurfacesHaveSplits = (mesh : Mesh) → IsSurface mesh → (d : Split) × IsSplit (cells_of mesh) d
 
--- χ is at most 2
+-- Χ is at most 2.
 abbrev pub CharacteristicsAreAtMostTwo : Type 0
 CharacteristicsAreAtMostTwo = (mesh : Mesh) → IsSurface mesh → characteristic mesh ≤ℤ pos 2
 
--- the same in natural numbers
+-- Χ is at most 2, in natural numbers.
 abbrev pub CountsAreAtMostTwoMore : Type 0
 CountsAreAtMostTwoMore = (mesh : Mesh) → IsSurface mesh →
     mesh.vertices + face_count mesh ≤ edge_count mesh + 2
@@ -50,64 +49,65 @@ CountsAreAtMostTwoMore = (mesh : Mesh) → IsSurface mesh →
 abbrev pub genus_of : Mesh → ℕ
 genus_of mesh = ((edge_count mesh + 2) - (mesh.vertices + face_count mesh)) / 2
 
--- with a turning, twice the genus is 2 − χ
+-- With a turning, twice the genus is 2 − χ.
 abbrev pub GenusIsHalf : Type 0
 GenusIsHalf = (mesh : Mesh) (turned : ℕ → Bool) → IsSurface mesh → IsTurning mesh turned →
     pos (2 * genus_of mesh) ≡ pos 2 -ℤ characteristic mesh
 
--- the same in natural numbers
+-- With a turning, twice the genus is 2 − χ, in natural numbers.
 abbrev pub GenusIsFullCount : Type 0
 GenusIsFullCount = (mesh : Mesh) (turned : ℕ → Bool) → IsSurface mesh → IsTurning mesh turned →
     IsFullCount mesh (2 * genus_of mesh)
 
--- each split of a surface with a turning leaves twice the genus of edges
+-- Each split of a surface with a turning leaves twice the genus of edges.
 abbrev pub LeftEdgesAreTwiceGenus : Type 0
 LeftEdgesAreTwiceGenus =
     (mesh : Mesh) (turned : ℕ → Bool) (d : Split) → IsSurface mesh → IsTurning mesh turned →
     IsSplit (cells_of mesh) d → length d.left ≡ 2 * genus_of mesh
 
--- flags are a turning exactly where they fit all edges
+-- Flags are a turning exactly where they fit all edges.
 abbrev pub TurningsFit : Type 0
 TurningsFit = (mesh : Mesh) (flags : ℕ → Bool) → IsSurface mesh →
     IsTurning mesh flags ↔ ((e : ℕ) → e < edge_count mesh → Fits mesh flags e)
 
--- where flags follow a tree of the faces and do not fit an edge, the chain of that edge is one-sided
+-- Where flags follow a tree of the faces and do not fit an edge, the chain of that edge is
+-- one-sided.
 abbrev pub MisfitsAreOneSided : Type 0
 MisfitsAreOneSided =
     (mesh : Mesh) (t : Tree) (flags : ℕ → Bool) → IsSurface mesh → IsTree (dual (cells_of mesh)) t →
     FollowTree mesh t flags →
     (e : ℕ) → e < edge_count mesh → (Fits mesh flags e → ⊥) → IsOneSided mesh (tree_chain mesh t e)
 
--- that chain goes by single steps of the tree
+-- The chain of an edge goes by single steps of the tree.
 abbrev pub TreeChainsGoByStep : Type 0
 TreeChainsGoByStep = (mesh : Mesh) (t : Tree) → IsTree (dual (cells_of mesh)) t → GoByStep mesh t
 
--- a surface has a turning or a one-sided chain
+-- A surface has a turning or a one-sided chain.
 abbrev pub SurfacesAreTwoSidedOrOneSided : Type 0
 SurfacesAreTwoSidedOrOneSided = (mesh : Mesh) → IsSurface mesh →
     IsTwoSided mesh ⊎ ((links : List Link) × IsOneSided mesh links)
 
--- of the edges that flags do not fit, an even number is at each vertex
+-- Of the edges that flags do not fit, an even number is at each vertex.
 abbrev pub MisfitsAreEven : Type 0
 MisfitsAreEven =
     (mesh : Mesh) (flags : ℕ → Bool) (v : ℕ) → IsSurface mesh →
     odd_below (edge_count mesh) (λ e. misfit mesh flags e && touches v (ends mesh e)) ≡ false
 
--- a surface is two-sided exactly where the edges that some flags do not fit are a boundary
+-- A surface is two-sided exactly where the edges that some flags do not fit are a boundary.
 abbrev pub TwoSidedWhereMisfitsAreBoundary : Type 0
 TwoSidedWhereMisfitsAreBoundary = (mesh : Mesh) (flags : ℕ → Bool) → IsSurface mesh →
     IsTwoSided mesh ↔ IsBoundary mesh (misfit mesh flags)
 
--- where χ is 2 there is a turning
+-- Where χ is 2 there is a turning.
 abbrev pub SpheresAreTwoSided : Type 0
 SpheresAreTwoSided = (mesh : Mesh) → IsSurface mesh → IsFullCount mesh 0 → IsTwoSided mesh
 
--- with a one-sided chain, χ is at most 1
+-- With a one-sided chain, χ is at most 1.
 abbrev pub OneSidedCharacteristicsAreAtMostOne : Type 0
 OneSidedCharacteristicsAreAtMostOne = (mesh : Mesh) (links : List Link) → IsSurface mesh →
     IsOneSided mesh links → characteristic mesh ≤ℤ pos 1
 
--- turnings of a surface that agree on one face agree on all
+-- Turnings of a surface that agree on one face agree on all.
 abbrev pub TurningsAreDetermined : Type 0
 TurningsAreDetermined =
     (mesh : Mesh) (flags others : ℕ → Bool) (f g : ℕ) → IsSurface mesh → IsTurning mesh flags →

@@ -10,40 +10,42 @@ use Rattle.surf_validity.specs.Rows.{LoopCert, BasisCert}
 use Rattle.surf_validity.specs.Valid.{IsValidLoops, certified_loops}
 use Rattle.surf_validity.specs.Bases.{IsValidBasis}
 
--- the loops of a valid certificate are least place by place
+-- The loops of a valid loop certificate are least place by place.
 abbrev pub ValidLoopsAreLeastInOrder : Type 0
 ValidLoopsAreLeastInOrder =
     (mesh : Mesh) (lengths : List ℕ) (cert : LoopCert) → IsSurface mesh → ArePositive mesh lengths →
     IsValidLoops mesh lengths cert → IsLeastLoopSystemInOrder mesh lengths cert.tree.base (certified_loops mesh cert)
 
--- and a shortest of them is a shortest of all closed walks at the base that are not null
+-- A shortest of the loops of a valid certificate is a shortest closed walk at the base that is not
+-- null.
 abbrev pub ShortestOfValidLoops : Type 0
 ShortestOfValidLoops =
     (mesh : Mesh) (lengths : List ℕ) (cert : LoopCert) (walk : List ℕ) → IsSurface mesh → ArePositive mesh lengths →
     IsValidLoops mesh lengths cert → IsShortestOf mesh lengths (certified_loops mesh cert) walk →
     IsShortestNotNullAt mesh lengths cert.tree.base walk
 
--- the cycles of a valid certificate are least place by place
+-- The cycles of a valid basis certificate are least place by place.
 abbrev pub ValidBasesAreLeastInOrder : Type 0
 ValidBasesAreLeastInOrder =
     (mesh : Mesh) (lengths : List ℕ) (cert : BasisCert) → IsSurface mesh → ArePositive mesh lengths →
     IsValidBasis mesh lengths cert → IsLeastBasisInOrder mesh lengths cert.cycles
 
--- and a shortest of them is a shortest of all closed walks that are not null, and a shortest nonseparating cycle
+-- A shortest of the cycles of a valid certificate is a shortest closed walk that is not null, and a
+-- shortest nonseparating cycle.
 abbrev pub ShortestOfValidBases : Type 0
 ShortestOfValidBases =
     (mesh : Mesh) (lengths : List ℕ) (cert : BasisCert) (walk : List ℕ) → IsSurface mesh →
     ArePositive mesh lengths → IsValidBasis mesh lengths cert → IsShortestOf mesh lengths cert.cycles walk →
     IsShortestNotNull mesh lengths walk × IsShortestNonseparating mesh lengths walk
 
--- where χ is below 2, there is a shortest nonseparating cycle among them
+-- Where χ is below 2 there is a shortest among the cycles of a valid certificate.
 abbrev pub ValidBasesHaveShortest : Type 0
 ValidBasesHaveShortest =
     (mesh : Mesh) (lengths : List ℕ) (cert : BasisCert) → IsSurface mesh → ArePositive mesh lengths →
     IsValidBasis mesh lengths cert → mesh.vertices + face_count mesh < edge_count mesh + 2 →
     (walk : List ℕ) × IsShortestOf mesh lengths cert.cycles walk × IsShortestNonseparating mesh lengths walk
 
--- the least of their lengths is that of each shortest nonseparating cycle
+-- The least of their lengths is that of each shortest nonseparating cycle.
 abbrev pub ValidBasesMeasureShortest : Type 0
 ValidBasesMeasureShortest =
     (mesh : Mesh) (lengths : List ℕ) (cert : BasisCert) → IsSurface mesh → ArePositive mesh lengths →

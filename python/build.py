@@ -1,0 +1,146 @@
+#!/usr/bin/env python3
+"""Makes the wheel of `surfbasis`, and tries it in a fresh virtual environment.
+
+    build.py --to FOLDER [--library ARCHIVE] [--program PATH]
+
+The library is `crates/surf_c/out/libsurf_c.a`, which `rt lib` in `crates/surf_c` makes, and the program, whose texts
+the tests compare, `crates/surf/out/surf`. It takes an interpreter with pip, setuptools, wheel and numpy, and the
+network of none of them. The wheel has the modules of `src/surfbasis`, and what has its home elsewhere in the
+repository: the readers of mesh files, and the page of refusals. Its version is what the library says.
+"""
+
+import argparse
+import ctypes
+import os
+import pathlib
+import re
+import shutil
+import subprocess
+import sys
+import tempfile
+
+HERE = pathlib.Path(__file__).resolve().parent
+TOP = HERE.parent
+FOLDERS = ((HERE / "src/surfbasis", ""), (TOP / "tools/meshfiles", "meshfiles"))
+PAGE = TOP / "docs/refusals.md"
+EXPORTED = "surf_call"
+FLAGS = ("-Wl,-z,relro,-z,now", "-Wl,-z,defs", "-Wl,--gc-sections", "-Wl,--strip-all")
+ALLOWED = {"libc.so.6", "ld-linux-x86-64.so.2"}  # what the library may ask for, so that it runs on all Linux systems
+MAKERS = ("numpy", "pip", "setuptools", "venv", "wheel")
+OLDEST = 17  # the least 2.N of the GNU C library that a tag can name
+
+
+class Said(ctypes.Structure):
+    _fields_ = [("size", ctypes.c_size_t), ("status", ctypes.c_uint8)]
+
+
+def version_of(library):
+    """The version that a shared library says."""
+    call = ctypes.CDLL(str(library)).surf_call
+    call.restype = Said
+    call.argtypes = [ctypes.c_char_p, ctypes.c_size_t] * 5
+    room = ctypes.create_string_buffer(80)
+    said = call(b"--version", 9, *[b"", 0] * 3, room, len(room))
+    return room.raw[: said.size].split()[-1].decode()
+
+
+def link(archive, heap, folder, compiler):
+    """The shared library of the static one and of the kit's functions that take memory, with one name to call."""
+    names, shared = folder / "names", folder / "libsurf.so"
+    names.write_text(f"{{ global: {EXPORTED}; local: *; }};\n")
+    whole = ["-Wl,--whole-archive", archive, "-Wl,--no-whole-archive", heap]
+    subprocess.run([compiler, "-shared", "-o", shared, f"-Wl,--version-script={names}", *FLAGS, *whole], check=True)
+    return shared
+
+
+def platform_of(library):
+    """The platform in a wheel's name, by the symbols of the C library that the shared library asks for."""
+    told = subprocess.run(["readelf", "-d", "-V", library], capture_output=True, text=True, check=True).stdout
+    needed = set(re.findall(r"NEEDED.*\[(.*)\]", told))
+    if needed - ALLOWED:
+        raise SystemExit(f"{library} asks for {' '.join(sorted(needed - ALLOWED))}")
+    newest = max([OLDEST, *(int(minor) for minor in re.findall(r"GLIBC_2\.(\d+)", told))])
+    old_name = ".manylinux2014_x86_64" if newest == OLDEST else ""
+    return f"manylinux_2_{newest}_x86_64{old_name}"
+
+
+def assemble(folder, library=None):
+    """Puts the package together in a folder, with the shared library inside where there is one, and returns its
+    path."""
+    package = pathlib.Path(folder) / "surfbasis"
+    for source, name in FOLDERS:
+        (package / name).mkdir(parents=True)
+        for path in (*source.glob("*.py"), *source.glob("py.typed")):
+            shutil.copy(path, package / name / path.name)
+    shutil.copy(PAGE, package / PAGE.name)
+    version = version_of(library) if library else "0"
+    rows = '"""The version of surf that the package was made with; 0 where no library came with it."""\n\n'
+    (package / "_version.py").write_text(f'{rows}VERSION = "{version}"\n')
+    if library:
+        shutil.copy(library, package / "libsurf.so")
+    return package
+
+
+def interpreter():
+    """An interpreter with all that a wheel is made by."""
+    asked = f"import sys, importlib.util as util; sys.exit(not all(map(util.find_spec, {MAKERS})))"
+    for path in (sys.executable, shutil.which("python3"), "/usr/bin/python3"):
+        if path and os.path.exists(path) and subprocess.run([path, "-c", asked]).returncode == 0:
+            return path
+    raise SystemExit(f"no interpreter has {', '.join(MAKERS)}")
+
+
+def committed():
+    """The seconds of the last commit, which are those of the files in the wheel, so that it is made the same again."""
+    words = ["git", "-C", str(TOP), "log", "-1", "--format=%ct"]
+    return subprocess.run(words, capture_output=True, text=True).stdout.strip() or "315532800"
+
+
+def made(python, library, to):
+    """The wheel."""
+    with tempfile.TemporaryDirectory() as room:
+        for name in ("pyproject.toml", "setup.py", "README.md"):
+            shutil.copy(HERE / name, room)
+        assemble(pathlib.Path(room, "src"), library)
+        words = ["wheel", "--quiet", "--no-build-isolation", "--no-deps", "--no-index", "--wheel-dir", to, room]
+        settings = {"SOURCE_DATE_EPOCH": committed(), **os.environ, "SURFBASIS_PLATFORM": platform_of(library)}
+        subprocess.run([python, "-m", "pip", *words], check=True, env=settings)
+    return max(pathlib.Path(to).glob("surfbasis-*.whl"), key=lambda path: path.stat().st_mtime)
+
+
+def tried(python, wheel, program):
+    """Installs the wheel in a fresh virtual environment, where numpy is the system's, and runs the tests there."""
+    with tempfile.TemporaryDirectory() as room:
+        subprocess.run([python, "-m", "venv", "--without-pip", "--system-site-packages", room], check=True)
+        own = f"{room}/bin/python"
+        install = ["install", "--quiet", "--no-deps", "--no-index", "--ignore-installed", wheel]
+        subprocess.run([python, "-m", "pip", "--python", own, *install], check=True)
+        others = ("SURFBASIS_", "PYTHON")
+        settings = {name: value for name, value in os.environ.items() if not name.startswith(others)}
+        settings.update(SURF_PROGRAM=str(program), MPLBACKEND="Agg", PYTHONDONTWRITEBYTECODE="1")
+        words = [own, "-m", "unittest", "discover", "--quiet", "-s", str(HERE / "tests")]
+        return subprocess.run(words, cwd=room, env=settings).returncode == 0
+
+
+def main():
+    parser = argparse.ArgumentParser(description=__doc__, formatter_class=argparse.RawDescriptionHelpFormatter)
+    parser.add_argument("--to", type=pathlib.Path, required=True)
+    parser.add_argument("--library", type=pathlib.Path, default=TOP / "crates/surf_c/out/libsurf_c.a")
+    parser.add_argument("--program", type=pathlib.Path, default=TOP / "crates/surf/out/surf")
+    given = parser.parse_args()
+    page = subprocess.run(["rt", "doc"], capture_output=True, text=True, check=True).stdout.strip()
+    heap = pathlib.Path(page).parent / "c/liblibc_c.a"
+    python = interpreter()
+    given.to.mkdir(parents=True, exist_ok=True)
+    with tempfile.TemporaryDirectory() as room:
+        shared = link(given.library.resolve(), heap, pathlib.Path(room), os.environ.get("CC", "cc"))
+        wheel = made(python, shared, given.to.resolve())
+    if not tried(python, wheel, given.program.resolve()):
+        print(f"{wheel.name} fails its tests in a fresh environment")
+        return 1
+    print(wheel)
+    return 0
+
+
+if __name__ == "__main__":
+    sys.exit(main())

@@ -1,0 +1,145 @@
+#!/usr/bin/env python3
+"""Makes a release: a folder of files to upload, from a checkout that passed the gate.
+
+    build.py [--gate LOG] [--out FOLDER]
+
+The gate is run first, unless --gate names what `.ci/run` or `rt ci` printed here before. Such a log has to be that of
+a gate that passed with the crates and wrong bodies of this checkout, no source and no program may be newer, and where
+it names a commit and a program, as `.ci/run` does, they have to be these. Then come the library, the manual page and
+the completions, the tarball, the packages of Debian, and the wheel, the page and the add-on where the repository has
+them. The folder (release/out/) is there only if the trials over what was made pass: the worked cases on both
+programs, and calls from C and Python. The same commit gives the same bytes; files are dated to SOURCE_DATE_EPOCH, or
+to the commit.
+"""
+
+import argparse
+import pathlib
+import shutil
+import subprocess
+import sys
+import tempfile
+
+import libraries
+import packages
+import proof
+import trees
+import trial
+import versions
+from pages import pages
+
+TOP = proof.TOP
+OUT = TOP / "release/out"
+# What other parts of the repository make for a release: the script, with the words that go before the folder, and the
+# names of what it leaves there that belong to the release.
+OTHERS = {
+    "the wheel": (["python/build.py", "--to"], "*.whl"),
+    "the page for browsers": (["web/build.py", "--to"], "surf.html"),
+    "the add-on for Blender": (["blender/build.py", "--to"], "*.zip"),
+}
+
+
+def build_libraries(built: pathlib.Path) -> None:
+    """The two programs and all libraries in a folder."""
+    libraries.make()
+    shutil.copy2(proof.PROGRAM, built / "surf")
+    libraries.link_program(built / "surf-static", proof.PROGRAM.with_name("surf.o"))
+    libraries.link_static(built / "libsurf.a")
+    for name in ("libsurf.so.0", f"lib{packages.NAME}.so.0"):
+        libraries.link_shared(built / name, name)
+
+
+def notes(built: pathlib.Path) -> dict[str, str]:
+    """What each built file of the tarball is."""
+    glibc = libraries.needed_glibc(built / "surf")
+    system = proof.ran(["getconf", "GNU_LIBC_VERSION"]).strip()
+    return {
+        "bin/surf": f"the program that the gate ran, byte by byte. It asks for the GNU C library {glibc} or later.",
+        "bin/surf-static": "the object file of that program, linked with the C library of the system that made this "
+        f"release ({system}, whose licence is the LGPL). It asks for no library, so it runs on older systems. The "
+        "gate didn't run it; the worked cases passed on it when the release was made.",
+        "lib/libsurf.a": "the program as one function for C (include/surf.h), with the kit's functions that call "
+        "malloc.",
+        "lib/libsurf.so.0": "the function as a shared library with one name, surf_call.",
+    }
+
+
+def make_packages(parts: packages.Parts, gate: proof.Gate, out: pathlib.Path) -> pathlib.Path:
+    """The tarball and the packages. Gives the place of the tarball."""
+    tree = packages.tarball_tree(parts)
+    with tempfile.TemporaryDirectory() as room:
+        trees.write_tree(tree, pathlib.Path(room), parts.time)
+        proved = proof.proved(parts.version, gate, pathlib.Path(room), notes(parts.built))
+    tree.add("PROVED", proved)
+    root = f"surf-{parts.version}-x86_64-linux"
+    made = out / f"{root}.tar.gz"
+    made.write_bytes(trees.tarball(tree, root, parts.time))
+    packages.program_package(parts, proved, out)
+    packages.library_package(parts, out)
+    packages.header_package(parts, out)
+    return made
+
+
+def make_other(what: str, words: list[str], pattern: str, out: pathlib.Path) -> None:
+    """What another part of the repository makes. Passed over with a word where it, or a tool of its, isn't here."""
+    if not (TOP / words[0]).exists():
+        print(f"{what} isn't in the release: there is no {words[0]}")
+        return
+    with tempfile.TemporaryDirectory() as room:
+        command = [sys.executable, TOP / words[0], *words[1:], room]
+        done = subprocess.run(command, capture_output=True, text=True, check=False)
+        said = (done.stdout + done.stderr).strip()
+        made = sorted(pathlib.Path(room).glob(pattern))
+        if done.returncode and said.endswith("isn't here"):
+            print(f"{what} isn't in the release: {said}")
+        elif done.returncode or not made:
+            raise proof.Refused(f"{what} can't be made: {said[-2000:]}")
+        for path in made:
+            shutil.copy(path, out / path.name)
+
+
+def write_sums(out: pathlib.Path) -> None:
+    names = sorted(path.name for path in out.iterdir())
+    (out / "SHA256SUMS").write_text("".join(f"{proof.checksum(out / name)}  {name}\n" for name in names))
+
+
+def release(log: pathlib.Path | None, out: pathlib.Path) -> None:
+    """Makes the release in a folder. Refused, or CalledProcessError, where a part can't be made or a trial fails."""
+    proof.commit()
+    gate = proof.gate(log)
+    version, time = versions.agreed(proof.PROGRAM), proof.commit_time()
+    out.mkdir(parents=True)
+    with tempfile.TemporaryDirectory() as room:
+        built = pathlib.Path(room)
+        build_libraries(built)
+        date = versions.day(time)
+        texts = pages(built / "surf", "surf", date) | pages(built / "surf", packages.NAME, date)
+        made = make_packages(packages.Parts(version, time, built, texts), gate, out)
+    for what, (words, pattern) in OTHERS.items():
+        make_other(what, words, pattern, out)
+    trial.try_tarball(made)
+    trial.try_packages(out)
+    write_sums(out)
+
+
+def main() -> int:
+    args = argparse.ArgumentParser(description=__doc__, formatter_class=argparse.RawDescriptionHelpFormatter)
+    args.add_argument("--gate", type=pathlib.Path, metavar="LOG")
+    args.add_argument("--out", type=pathlib.Path, default=OUT)
+    given = args.parse_args()
+    part = given.out.resolve().with_name(f"{given.out.name}.part")
+    shutil.rmtree(part, ignore_errors=True)
+    try:
+        release(given.gate, part)
+    except (proof.Refused, subprocess.CalledProcessError) as fault:
+        shutil.rmtree(part, ignore_errors=True)
+        print(f"no release: {fault}", file=sys.stderr)
+        return 1
+    shutil.rmtree(given.out, ignore_errors=True)
+    part.rename(given.out.resolve())
+    print((given.out / "SHA256SUMS").read_text(), end="")
+    print(packages.NO_LICENCE)
+    return 0
+
+
+if __name__ == "__main__":
+    sys.exit(main())

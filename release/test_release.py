@@ -1,0 +1,286 @@
+#!/usr/bin/env python3
+"""Tests of what makes a release, on stand-ins: python3 release/test_release.py"""
+
+import os
+import pathlib
+import shutil
+import subprocess
+import sys
+import tarfile
+import tempfile
+import unittest
+
+HERE = pathlib.Path(__file__).resolve().parent
+sys.path[:0] = [str(HERE), str(HERE.parent / "tools")]
+sys.dont_write_bytecode = True
+
+import check_sessions  # noqa: E402
+import completions  # noqa: E402
+import fresh  # noqa: E402
+import manual  # noqa: E402
+import packages  # noqa: E402
+import pages  # noqa: E402
+import proof  # noqa: E402
+import trees  # noqa: E402
+import versions  # noqa: E402
+from usage import Row, meaning_of, names_of, read_usage  # noqa: E402
+
+HELP = """\
+surf: loops of meshes
+
+usage: surf info M             counts
+       surf cut M L x full     the mesh cut into one disc
+       surf cut M L x trim     the same, with loose ends left uncut
+       surf cut M L x through P  the same, through vertices
+       surf same M W W2        whether two walks go round the same way
+       surf lengths M k        the lengths, in units of 10^-k
+       surf --help | --version
+
+files: M  a mesh in OFF
+       L  the word unit, or a file
+       W  a closed walk
+       P  vertices on one line
+numbers: x a vertex from 0; k from 0 to 9; lengths whole
+
+example: surf lengths a.off 6 > a.len; surf info a.off
+"""
+USAGE = read_usage(HELP)
+FORMATS = """\
+# What it reads
+
+Every file is read by lines, with `-k` and −1.
+
+## Commands
+
+| Words | What |
+|---|---|
+| `info M` | counts, a `'` and 2 · χ |
+| `lengths M k` with k at most 9 | *all* lengths |
+
+## Meshes: OFF
+
+1. First. Then `header L`.
+2. .. and so on.
+"""
+LOG = "rt: surf proved\nrt: ok; handles allowed: none; all anew\n5 passed, 0 failed\n2000 passed, 1 failed\n"
+
+
+class Help(unittest.TestCase):
+    def test_rows(self):
+        self.assertEqual(USAGE.rows[0], Row(["info", "M"], "counts"))
+        self.assertEqual(USAGE.rows[3], Row(["cut", "M", "L", "x", "through", "P"], "the same, through vertices"))
+        self.assertEqual(len(USAGE.rows), 6)
+        self.assertEqual(USAGE.title, "loops of meshes")
+
+    def test_letters(self):
+        self.assertEqual(names_of(USAGE), ["M", "L", "P", "W", "W2", "x", "k"])
+        self.assertEqual([meaning_of(USAGE, it) for it in ("P", "W2", "k", "g")],
+                         ["vertices on one line", "a closed walk", "from 0 to 9", "a number"])
+
+    def test_a_text_without_parts(self):
+        with self.assertRaises(ValueError):
+            read_usage(HELP.replace("example:", "for example:"))
+
+
+class Page(unittest.TestCase):
+    PAGE = manual.manual(USAGE, FORMATS, "surf", "1.2.3", "2026-11-30")
+
+    def test_lines(self):
+        lines = self.PAGE.splitlines()
+        self.assertEqual(lines[0], '.TH SURF 1 2026-11-30 "surf 1.2.3" "User Commands"')
+        self.assertIn("\\fBsurf\\fR \\fBcut\\fR \\fIM\\fR \\fIL\\fR \\fIx\\fR \\fBthrough\\fR \\fIP\\fR", lines)
+        self.assertIn("Every file is read by lines, with \\fB\\-k\\fR and \\[mi]1.", lines)
+        self.assertIn("counts, a \\fB\\[aq]\\fR and 2 \\[pc] \\[u03C7]", lines)
+        self.assertIn("\\fIall\\fR lengths", lines)
+        self.assertIn("\\&.. and so on.", lines)
+
+    def test_words_that_lack(self):
+        due = pages.words_of_markdown(FORMATS)
+        self.assertEqual(pages.missing_words(due, pages.words_of_page(self.PAGE)), [])
+        shorter = self.PAGE.replace("Then \\fBheader L\\fR.\n", "")
+        self.assertEqual(pages.missing_words(due, pages.words_of_page(shorter))[:2], ["Then", "header"])
+
+    def test_words_without_mandoc(self):
+        which, shutil.which = shutil.which, lambda name: None
+        try:
+            due = pages.words_of_markdown(FORMATS)
+            self.assertEqual(pages.missing_words(due, pages.words_of_page(self.PAGE)), [])
+        finally:
+            shutil.which = which
+
+    def test_rows_that_lack(self):
+        text = completions.bash(USAGE, "surf").replace("'info M'", "")
+        self.assertIn("surf.bash has no row info M", pages.row_faults(USAGE, {"surf.bash": text}))
+
+
+class Shell(unittest.TestCase):
+    def completed(self, *words):
+        """What bash finds for the last word, in a folder with some files."""
+        with tempfile.TemporaryDirectory() as room:
+            for name in ("a.off", "b c.off", "notes.txt"):
+                pathlib.Path(room, name).touch()
+            script = completions.bash(USAGE, "surf") + 'COMP_WORDS=("$@") COMP_CWORD=$(($# - 1)); _surf; '
+            script += 'printf "%s\\n" "${COMPREPLY[@]}"'
+            command = ["bash", "-c", script, "-", *words]
+            ran = subprocess.run(command, cwd=room, capture_output=True, text=True, check=True)
+        return [line for line in ran.stdout.split("\n") if line]
+
+    def test_words_of_rows(self):
+        self.assertEqual(self.completed("surf", "c"), ["cut"])
+        self.assertEqual(self.completed("surf", "--"), ["--help", "--version"])
+        self.assertEqual(self.completed("surf", "cut", "a.off", "unit", "0", ""), ["full", "through", "trim"])
+        self.assertEqual(self.completed("surf", "cut", "a.off", "unit", "0", "t"), ["through", "trim"])
+        self.assertEqual(self.completed("surf", "cut", "a.off", "unit", "0", "full", ""), [])
+
+    def test_files(self):
+        self.assertEqual(self.completed("surf", "info", ""), ["a.off", "b c.off"])
+        self.assertEqual(self.completed("surf", "cut", "a.off", ""), ["a.off", "b c.off", "notes.txt", "unit"])
+        self.assertEqual(self.completed("surf", "cut", "a.off", "unit", "0", "through", "n"), ["notes.txt"])
+        self.assertEqual(self.completed("surf", "lengths", "a.off", ""), [])
+
+
+class Gates(unittest.TestCase):
+    def test_what_a_log_says(self):
+        self.assertEqual(proof.gate_of(LOG), proof.Gate("5 passed, 0 failed", "ok; handles allowed: none; all anew"))
+        bad = ["", "5 passed, 0 failed\n", LOG.replace("ok;", "FAILED:"), LOG.replace("5 passed, 0", "5 passed, 1"),
+               "rt: ok; all anew\n5 passed, 1 failed\n2000 passed, 0 failed\n",
+               "rt: ok; the crates below passed\n5 passed, 0 failed (surf and the crates below: not the gate)\n"]
+        for text in bad:
+            with self.assertRaises(proof.Refused, msg=text):
+                proof.gate_of(text)
+
+    def checkout(self, room):
+        """A checkout of three crates and two wrong bodies, its program, and a log behind them."""
+        top, log = pathlib.Path(room, "top"), pathlib.Path(room, "log")
+        wrong_bodies = ("b/must-fail/one.edit", "b/must-fail/two.edit")
+        for name in ("a/src/lib.rt", "b/src/lib.rt", "c/proofs/Lib.antt", *wrong_bodies):
+            path = top / "crates" / name
+            path.parent.mkdir(parents=True, exist_ok=True)
+            path.touch()
+        (top / "crates.txt").write_text("# Crates.\na:\nb: a  # above\n\nc: b\n")
+        program = top / "crates/surf/out/surf"
+        program.parent.mkdir(parents=True)
+        program.touch()
+        log.write_text(LOG)
+        os.utime(log, (2e9, 2e9))
+        return top, log, program
+
+    def test_a_log_of_this_checkout(self):
+        with tempfile.TemporaryDirectory() as room:
+            top, log, program = self.checkout(room)
+            self.assertEqual(proof.gate_by_log(log, "abc", top).last, "5 passed, 0 failed")
+            os.utime(top / "crates/b/src/lib.rt", (3e9, 3e9))
+            with self.assertRaisesRegex(proof.Refused, "newer"):
+                proof.gate_by_log(log, "abc", top)
+            os.utime(top / "crates/b/src/lib.rt", (1e9, 1e9))
+            os.utime(program, (3e9, 3e9))
+            with self.assertRaisesRegex(proof.Refused, "program"):
+                proof.gate_by_log(log, "abc", top)
+
+    def test_a_log_that_names_commit_and_program(self):
+        with tempfile.TemporaryDirectory() as room:
+            top, log, program = self.checkout(room)
+            tries = ("abc", "", True), ("abd", "", False), ("no commit", "", False), ("abc", "x", False)
+            for commit, content, right in tries:
+                program.write_text("")
+                log.write_text(f"{LOG}built from {commit}: surf {proof.checksum(program)}\n")
+                os.utime(log, (2e9, 2e9))
+                program.write_text(content)
+                if right:
+                    self.assertIn("names this commit", proof.gate_by_log(log, "abc", top).known)
+                else:
+                    with self.assertRaisesRegex(proof.Refused, "another program"):
+                        proof.gate_by_log(log, "abc", top)
+
+    def test_a_log_of_another_checkout(self):
+        with tempfile.TemporaryDirectory() as room:
+            top, log, _ = self.checkout(room)
+            (top / "crates/b/must-fail/two.edit").unlink()
+            with self.assertRaisesRegex(proof.Refused, "5 passed .* 4 crates"):
+                proof.gate_by_log(log, "abc", top)
+
+
+class Archives(unittest.TestCase):
+    def tree(self):
+        tree = trees.Tree()
+        tree.add("bin/it", "#!/bin/sh\n", 0o755)
+        tree.add("share/doc/text", b"text\n")
+        tree.add_packed("share/doc/more.gz", "more\n")
+        tree.link("lib/it", "../bin/it")
+        return tree
+
+    def test_a_tarball(self):
+        made = trees.tarball(self.tree(), "it-1", 1_000_000_000)
+        self.assertEqual(made, trees.tarball(self.tree(), "it-1", 1_000_000_000))
+        self.assertNotEqual(made, trees.tarball(self.tree(), "it-1", 1_000_000_001))
+        with tempfile.TemporaryFile() as file:
+            file.write(made)
+            file.seek(0)
+            with tarfile.open(fileobj=file) as tar:
+                modes = {it.name: (it.mode, it.mtime, it.uid) for it in tar}
+        self.assertEqual(sorted(modes), ["it-1", "it-1/bin", "it-1/bin/it", "it-1/lib", "it-1/lib/it", "it-1/share",
+                                         "it-1/share/doc", "it-1/share/doc/more.gz", "it-1/share/doc/text"])
+        self.assertEqual(modes["it-1/bin/it"], (0o755, 1_000_000_000, 0))
+
+    @unittest.skipUnless(shutil.which("dpkg-deb"), "dpkg-deb isn't here")
+    def test_a_package(self):
+        parts = packages.Parts("1.2.3", 0, HERE, {})
+        fields = packages.control("it", "misc", parts, "short\nlong text", Multi_Arch="same")
+        with tempfile.TemporaryDirectory() as room:
+            made = [pathlib.Path(room, name) for name in ("a.deb", "b.deb")]
+            for path in made:
+                trees.debian_package(self.tree(), fields, {"triggers": "x\n"}, path, 1_000_000_000)
+            self.assertEqual(made[0].read_bytes(), made[1].read_bytes())
+            said = subprocess.run(["dpkg-deb", "-f", made[0]], capture_output=True, text=True, check=True).stdout
+            listed = subprocess.run(["dpkg-deb", "-c", made[0]], capture_output=True, text=True, check=True).stdout
+        self.assertIn("Package: it\nSource: surfbasis\nVersion: 1.2.3\nArchitecture: amd64\n", said)
+        self.assertIn("Multi-Arch: same\n", said)
+        self.assertTrue(said.endswith("Description: short\n long text\n"))
+        self.assertRegex(listed, r"-rwxr-xr-x root/root .* 2001-09-09 .* \./bin/it\n")
+
+
+class Contents(unittest.TestCase):
+    def test_links_of_documents_lead_on(self):
+        with tempfile.TemporaryDirectory() as room:
+            built = pathlib.Path(room, "built")
+            built.mkdir()
+            for name in ("surf", "surf-static", "libsurf.a", "libsurf.so.0"):
+                (built / name).touch()
+            texts = {name: "" for name in ("surf.1", "surf.bash", "_surf", "surf.fish")}
+            tree = packages.tarball_tree(packages.Parts("1.2.3", 0, built, texts))
+            root = pathlib.Path(room, "root")
+            trees.write_tree(tree, root, 0)
+            documents = sorted(root.rglob("*.md"))
+            dead = [link for path in documents for link in check_sessions.dead_links(path, path.read_text())]
+        self.assertGreater(len(documents), 10)
+        self.assertEqual(dead, [])
+
+    def test_tools_with_what_they_import(self):
+        names = {path.name for path in packages.tools_with(["show"])}
+        self.assertLessEqual({"show.py", "off.py"}, names)
+        self.assertNotIn("hostile.py", names)
+
+    def test_lines_to_install(self):
+        text = "```sh\na\nb  # zsh, too\n```\n```text\nc\n```\n```sh\nd # bash\n```\n"
+        self.assertEqual(fresh.install_lines(text), "a\nd # bash")
+
+
+class Versions(unittest.TestCase):
+    def program(self, room, version):
+        path = pathlib.Path(room, "surf")
+        path.write_text(f"#!/bin/sh\necho '{version}'\n")
+        path.chmod(0o755)
+        return path
+
+    def test_one_version(self):
+        with tempfile.TemporaryDirectory() as room:
+            changes = "# Changes\n\n## 1.2.3\n\n## 1.2.2\n"
+            self.assertEqual(versions.agreed(self.program(room, "surf 1.2.3"), changes), "1.2.3")
+            with self.assertRaises(proof.Refused):
+                versions.agreed(self.program(room, "surf 1.2.3"), "# Changes\n\n## Not yet released\n\n## 1.2.3\n")
+            with self.assertRaises(ValueError):
+                versions.agreed(self.program(room, "surf, a browser"), "## 1.2.3\n")
+
+
+if __name__ == "__main__":
+    unittest.main()

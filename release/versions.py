@@ -1,0 +1,49 @@
+#!/usr/bin/env python3
+"""Tries whether the list of changes begins with the version of the program: python3 release/versions.py [PROGRAM]
+
+The version has one home, what `surf --version` prints. Packages, the wheel and the manual page take it from there,
+and CHANGELOG.md has it as its first heading.
+"""
+
+import datetime
+import pathlib
+import re
+import sys
+
+from proof import PROGRAM, TOP, Refused
+from usage import version_of
+
+
+def newest_change(text: str) -> str:
+    """The first heading of the list of changes."""
+    found = re.search(r"^## (.*)$", text, re.M)
+    return found[1] if found else "nothing"
+
+
+def agreed(program: pathlib.Path, changes: str | None = None) -> str:
+    """The version of the program. Refused where the list of changes begins with another one."""
+    version, told = version_of(program), newest_change(changes or (TOP / "CHANGELOG.md").read_text())
+    if told != version:
+        raise Refused(f"surf --version says {version}, and CHANGELOG.md begins with {told}")
+    return version
+
+
+def day(time: int) -> str:
+    return datetime.datetime.fromtimestamp(time, datetime.timezone.utc).date().isoformat()
+
+
+def main() -> int:
+    program = pathlib.Path(sys.argv[1]) if len(sys.argv) > 1 else PROGRAM
+    if not program.exists():
+        print("there is no program: its version can't be tried")
+        return 1
+    try:
+        print(f"the version is {agreed(program)}")
+    except (Refused, ValueError) as fault:
+        print(fault)
+        return 1
+    return 0
+
+
+if __name__ == "__main__":
+    sys.exit(main())

@@ -1,0 +1,287 @@
+#!/usr/bin/env python3
+"""Makes surf.wasm and surf.html, the program as a page for a browser.
+
+    build.py [--to FOLDER]                   both, out of the crate surf_c of this checkout; FOLDER is web/out without --to
+    build.py --wasm SURF.WASM [--to FOLDER]  the page alone, around a module that stands
+
+`rt lib` proves surf_c for x86-64 and hands its code to clang as one LLVM module. Here that clang also keeps the
+module, which the same clang then compiles for 64-bit WebAssembly, with heap.c and wide.c beside it. Binaryen's
+`wasm-opt` lowers its addresses to 32 bits, since not every browser has the larger ones. What is proved is the code
+that `rt lib` hands over. All that is done with it here is tested, and not proved: docs/browser.md.
+"""
+
+import argparse
+import base64
+import gzip
+import hashlib
+import json
+import pathlib
+import re
+import shutil
+import subprocess
+import sys
+import tempfile
+
+WEB = pathlib.Path(__file__).resolve().parent
+TOP = WEB.parent
+CRATE = TOP / "crates/surf_c"
+
+# The modules of the page and of its worker, each behind those that it imports from.
+PAGE = ["units", "refusals", "commands", "paint", "samples", "view", "flat", "session", "main"]
+WORKER = ["lines", "readers", "mend", "shape", "opened", "unfold", "program", "worker"]
+SAMPLES = ["ring", "eight", "three"]
+
+# Pointers, sizes and the order of bytes are those of x86-64, so the code may run under this layout as well.
+LAYOUT = "e-m:e-p:64:64-p10:8:8-p20:8:8-i64:64-i128:128-n32:64-S128-ni:1:10:20"
+TARGET = ["--target=wasm64-unknown-unknown", "-mcpu=lime1", "--no-default-config", "-no-canonical-prefixes"]
+TARGET += ["-ffunction-sections"]
+NARROW = ["-mllvm", "-expand-div-rem-bits=64", "-mllvm", "-expand-fp-convert-bits=64"]
+BY_HAND = ["-O2", "-fwrapv", "-fno-builtin", "-ffreestanding", "-nostdinc", "-Wall", "-Wextra", "-Werror"]
+EXPORTS = ["surf_call", "surf_take", "surf_give"]
+STACK = 1 << 20
+FEATURES = ["memory64", "bulk-memory", "mutable-globals", "sign-ext", "nontrapping-float-to-int", "multivalue"]
+
+# What the module may ask for beside LLVM's own functions, and what its attributes may say of the processor.
+ASKED = {"rattle_alloc", "rattle_realloc", "rattle_dealloc", "memcpy", "memmove", "memset", "memcmp"}
+OF_PROCESSOR = {"probe-stack", "stack-probe-size", "target-cpu", "target-features", "frame-pointer"}
+
+CLANG = """#!/bin/bash
+for word in "$@"; do case $word in *.bc) cp "$word" "{kept}";; esac; done
+exec -a clang "{kit}/toolchain/bin/clang" "$@"
+"""
+
+
+def stop(sentence):
+    """Ends the program with a sentence that says why there is no page."""
+    sys.exit(f"build.py: {sentence}")
+
+
+def ran(words, **how):
+    """What a command wrote; it ends all where it fails."""
+    words = [str(word) for word in words]
+    done = subprocess.run(words, capture_output=True, text=True, **how)
+    if done.returncode:
+        stop(f"{' '.join(words[:3])} failed:\n{done.stdout[-2000:]}{done.stderr[-2000:]}")
+    return done.stdout + done.stderr
+
+
+def missing():
+    """The first tool that isn't here, in words, or nothing."""
+    tools = {"rt": "the toolchain's command rt", "wasm-opt": "wasm-opt (package binaryen)"}
+    return next((words for name, words in tools.items() if not shutil.which(name)), None)
+
+
+def kit_folder():
+    """The folder of the toolchain."""
+    return pathlib.Path(ran(["rt", "doc"]).strip()).parent
+
+
+def keeping_kit(kit, folder, kept):
+    """Makes a folder of links to the kit, but for a clang that also copies the LLVM module it is handed to `kept`."""
+    (folder / "toolchain/bin").mkdir(parents=True)
+    for path in kit.iterdir():
+        if path.name not in ("bin", "toolchain"):
+            (folder / path.name).symlink_to(path)
+    (folder / "toolchain/lib").symlink_to(kit / "toolchain/lib")
+    for path in (kit / "toolchain/bin").iterdir():
+        if path.name != "clang":
+            (folder / "toolchain/bin" / path.name).symlink_to(path)
+    clang = folder / "toolchain/bin/clang"
+    clang.write_text(CLANG.format(kit=kit, kept=kept))
+    clang.chmod(0o755)
+    # rt finds its kit by the place of its own file, so that file is copied and not linked.
+    (folder / "bin").mkdir()
+    for path in (kit / "bin").iterdir():
+        if path.name.startswith("rt"):
+            shutil.copy(path, folder / "bin" / path.name)
+        else:
+            (folder / "bin" / path.name).symlink_to(path)
+
+
+def module_of_crate(kit, work):
+    """The LLVM module of surf_c as text, and the line in which `rt lib` says that it is proved."""
+    kept = work / "module.bc"
+    keeping_kit(kit, work / "kit", kept)
+    said = ran([work / "kit/bin/rt", "lib"], cwd=CRATE)
+    verdict = next((line for line in said.splitlines() if line.startswith("logic=")), "")
+    if not verdict.startswith("logic=proved"):
+        stop(f"rt lib doesn't say that surf_c is proved: {verdict or said[-300:]}")
+    if not kept.is_file():
+        stop("rt lib handed no LLVM module to clang")
+    flags = ["--target=x86_64-unknown-linux-gnu", "-Xclang", "-disable-llvm-passes", "-S", "-emit-llvm", "-x", "ir"]
+    ran([kit / "toolchain/bin/clang", *flags, kept, "-o", work / "module.ll"])
+    return (work / "module.ll").read_text(), verdict
+
+
+def unmet(text):
+    """What the module has that wasn't met before and might mean something else in WebAssembly, or nothing."""
+    if "llvm.x86." in text:
+        return "instructions of x86"
+    if re.search(r"^ .* asm ", text, re.M):
+        return "code in assembly"
+    if re.search(r"^ .*\b(fence|cmpxchg|atomicrmw|invoke|landingpad)\b", text, re.M) or "thread_local" in text:
+        return "threads or unwinding"
+    declared = set(re.findall(r"^declare .*?@([\w.$]+)\(", text, re.M))
+    strange = sorted(name for name in declared - ASKED if not name.startswith("llvm."))
+    if strange:
+        return f"calls of {', '.join(strange)}"
+    words = {name for row in re.findall(r"^attributes .*$", text, re.M) for name in re.findall(r'"([^"]*)"="', row)}
+    strange = sorted(words - OF_PROCESSOR)
+    return f"the attributes {', '.join(strange)}" if strange else None
+
+
+def for_wasm(text):
+    """The module with the layout and the target of 64-bit WebAssembly, and without what its attributes say of x86."""
+    text = re.sub(r"^target datalayout = .*$", f'target datalayout = "{LAYOUT}"', text, flags=re.M)
+    text = re.sub(r"^target triple = .*$", 'target triple = "wasm64-unknown-unknown"', text, flags=re.M)
+    spoken = re.compile(f'"({"|".join(sorted(OF_PROCESSOR))})"="[^"]*"')
+
+    def row(found):
+        return re.sub(r"= \{ *\}", "= { nounwind }", spoken.sub("", found[0]))
+
+    return re.sub(r"^attributes .*$", row, text, flags=re.M)
+
+
+def compiled(text, kit, work):
+    """The object files of the module and of the two files in C."""
+    clang = kit / "toolchain/bin/clang"
+    (work / "wasm.ll").write_text(for_wasm(text))
+    ran([clang, *TARGET, *NARROW, "-O3", "-c", "-x", "ir", work / "wasm.ll", "-o", work / "surf.o"])
+    for name in ("heap", "wide"):
+        ran([clang, *TARGET, *NARROW, *BY_HAND, "-c", WEB / f"{name}.c", "-o", work / f"{name}.o"])
+    return [work / f"{name}.o" for name in ("surf", "heap", "wide")]
+
+
+def linked(objects, kit, work):
+    """The module of WebAssembly, with 32-bit addresses."""
+    words = ["-flavor", "wasm", "-mwasm64", "--no-entry", "--stack-first", "-z", f"stack-size={STACK}"]
+    words += ["--gc-sections", "--fatal-warnings", "--strip-debug", *(f"--export={name}" for name in EXPORTS)]
+    ran([kit / "toolchain/bin/ld.lld", *words, *objects, "-o", work / "surf64.wasm"])
+    enabled = [f"--enable-{name}" for name in FEATURES]
+    wasm = work / "surf.wasm"
+    ran(["wasm-opt", *enabled, "--memory64-lowering", "--strip-debug", work / "surf64.wasm", "-o", wasm])
+    return wasm.read_bytes()
+
+
+class Sections:
+    """The sections of a module of WebAssembly: https://www.w3.org/TR/wasm-core-2/, "Modules"."""
+
+    def __init__(self, wasm):
+        if wasm[:8] != b"\0asm\1\0\0\0":
+            stop("what the linker wrote is no module of WebAssembly")
+        self.bytes, self.at, self.found = wasm, 8, {}
+        while self.at < len(wasm):
+            kind = wasm[self.at]
+            self.at += 1
+            size = self.number()
+            self.found.setdefault(kind, self.at)
+            self.at += size
+
+    def number(self):
+        value = shift = 0
+        while True:
+            byte = self.bytes[self.at]
+            self.at += 1
+            value |= (byte & 127) << shift
+            shift += 7
+            if byte < 128:
+                return value
+
+    def exports(self):
+        names, self.at = [], self.found[7]
+        for _ in range(self.number()):
+            size = self.number()
+            names.append(self.bytes[self.at : self.at + size].decode())
+            self.at += size + 1
+            self.number()
+        return sorted(names)
+
+    def memory_flags(self):
+        self.at = self.found[5]
+        return self.number() and self.bytes[self.at]
+
+
+def checked(wasm):
+    """The module, if it asks for nothing, exports what the page calls, and has 32-bit addresses without a greatest
+    size."""
+    sections = Sections(wasm)
+    if 2 in sections.found:
+        stop("the module imports something")
+    if sections.exports() != sorted([*EXPORTS, "memory"]):
+        stop(f"the module exports {', '.join(sections.exports())}")
+    if sections.memory_flags() != 0:
+        stop("the module's memory isn't one of 32-bit addresses that may grow")
+    return wasm
+
+
+def module_for_browsers(work):
+    """surf.wasm, and the line in which `rt lib` says what it is made of."""
+    kit = kit_folder()
+    text, verdict = module_of_crate(kit, work)
+    strange = unmet(text)
+    if strange:
+        stop(f"the LLVM module of surf_c has {strange}, which wasn't met before")
+    return checked(linked(compiled(text, kit, work), kit, work)), verdict
+
+
+def joined(names):
+    """The modules as one text: those that import stand behind what they import, so the lines of import fall away.
+    A name that two modules declare is an error of syntax in the text, which the browser and node refuse to run."""
+    texts = []
+    for name in names:
+        text = (WEB / f"page/{name}.js").read_text()
+        text = re.sub(r"^import \{[^}]*\} from '[^']*';\n", "", text, flags=re.M)
+        texts.append(re.sub(r"^export ", "", text, flags=re.M))
+    return "\n".join(texts)
+
+
+def packed(data):
+    """Bytes as text that a page can hold."""
+    return base64.b64encode(gzip.compress(data, 9, mtime=0)).decode()
+
+
+def hash_of(text):
+    """A text's mark for the page's policy, so that no other script or style is run."""
+    return f"'sha256-{base64.b64encode(hashlib.sha256(text.encode()).digest()).decode()}'"
+
+
+def page_of(wasm):
+    """surf.html: the page with all that it needs inside."""
+    style, script = (WEB / "page/style.css").read_text(), joined(PAGE)
+    samples = {name: (TOP / f"meshes/{name}.off").read_text() for name in SAMPLES}
+    parts = {
+        "STYLE": style,
+        "SCRIPT": script,
+        "STYLE_HASH": hash_of(style),
+        "SCRIPT_HASH": hash_of(script),
+        "WORKER": packed(joined(WORKER).encode()),
+        "PROGRAM": packed(wasm),
+        "SAMPLES": packed(json.dumps(samples).encode()),
+    }
+    for text in (style, script):
+        if re.search(r"</(script|style)", text, re.I):
+            stop("a part of the page holds the end of its own element")
+    return re.sub(r"\{\{(\w+)\}\}", lambda found: parts[found[1]], (WEB / "page/index.html").read_text())
+
+
+def main():
+    parser = argparse.ArgumentParser(description=__doc__, formatter_class=argparse.RawDescriptionHelpFormatter)
+    parser.add_argument("--to", type=pathlib.Path, default=WEB / "out")
+    parser.add_argument("--wasm", type=pathlib.Path)
+    given = parser.parse_args()
+    given.to.mkdir(parents=True, exist_ok=True)
+    if given.wasm:
+        wasm, verdict = checked(given.wasm.read_bytes()), f"the module is {given.wasm}"
+    elif missing():
+        stop(f"{missing()} isn't here")
+    else:
+        with tempfile.TemporaryDirectory() as work:
+            wasm, verdict = module_for_browsers(pathlib.Path(work))
+        (given.to / "surf.wasm").write_bytes(wasm)
+    page = page_of(wasm).encode()
+    (given.to / "surf.html").write_bytes(page)
+    print(f"{verdict}\nsurf.wasm {len(wasm)} bytes, surf.html {len(page)} bytes in {given.to}")
+
+
+if __name__ == "__main__":
+    main()

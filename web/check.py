@@ -1,0 +1,223 @@
+#!/usr/bin/env python3
+"""Tries the page and what it stands on: the modules in JavaScript and in C, surf.wasm, and surf.html in a browser.
+
+    check.py                            builds both by build.py, where its tools are here
+    check.py --built FOLDER             takes surf.wasm and surf.html in this folder
+    check.py --program PATH             the program to compare with, crates/surf/out/surf without it
+    check.py --pictures FOLDER          also writes pictures of the page
+
+Each part is passed over with a word where what it needs isn't here: a compiler of C, node, `rt` and `wasm-opt`, the
+program, Chromium. None of these belongs to the set-up but rt.
+"""
+
+import argparse
+import importlib.util
+import json
+import os
+import pathlib
+import shutil
+import subprocess
+import sys
+import tempfile
+
+import browser
+import build
+import chrome
+
+WEB = pathlib.Path(__file__).resolve().parent
+TOP = WEB.parent
+
+
+def check_c():
+    """The tool that compares calls of the library with the program: its calls serve here, too."""
+    spec = importlib.util.spec_from_file_location("check_c", TOP / "tools/check_c.py")
+    module = importlib.util.module_from_spec(spec)
+    spec.loader.exec_module(module)
+    return module
+
+
+def said(words, **how) -> tuple[int, str]:
+    """The status of a command, and all that it wrote."""
+    done = subprocess.run([str(word) for word in words], stdout=subprocess.PIPE, stderr=subprocess.STDOUT, text=True, **how)
+    return done.returncode, done.stdout
+
+
+def files_in_c() -> int:
+    """The number of tests in C that fail."""
+    compiler, wrong = shutil.which(os.environ.get("CC", "cc")), 0
+    if not compiler:
+        print("web: the heap isn't tried, since a compiler of C isn't here")
+        return 0
+    with tempfile.TemporaryDirectory() as room:
+        for name in ("test_heap", "test_wide"):
+            program = pathlib.Path(room, name)
+            status, text = said([compiler, "-O2", "-Wall", "-Wextra", "-Werror", "-o", program, WEB / f"{name}.c"])
+            if not status:
+                status, text = said([program])
+            print(text, end="")
+            wrong += status != 0
+    return wrong
+
+
+def modules() -> int:
+    """The number of runs of node that fail: the tests of the page's modules, and a look at each bundle of them."""
+    status, text = said(["node", "--test", "--test-reporter=tap", WEB / "test_page.mjs"])
+    if status:
+        print(text)
+    passed = next((line.split()[-1] for line in text.splitlines() if line.startswith("# pass")), "no")
+    print(f"web: {passed} tests of the page's modules passed")
+    wrong = int(status != 0)
+    with tempfile.TemporaryDirectory() as room:
+        for names in (build.PAGE, build.WORKER):
+            bundle = pathlib.Path(room, "bundle.mjs")
+            bundle.write_text(build.joined(names))
+            status, text = said(["node", "--check", bundle])
+            if status:
+                print(text)
+                wrong += 1
+    return wrong
+
+
+def built(given) -> pathlib.Path | None:
+    """The folder with surf.wasm and surf.html, or nothing where they can't be made here."""
+    if given.built:
+        return given.built.resolve()
+    lack = next((name for name in ("rt", "wasm-opt") if not shutil.which(name)), None)
+    if lack:
+        print(f"web: surf.wasm and the page in a browser are not tried, since {lack} isn't here")
+        return None
+    folder = given.room / "built"
+    status, text = said([sys.executable, WEB / "build.py", "--to", folder])
+    if status:
+        print(text)
+        raise SystemExit(1)
+    print(f"web: {text.splitlines()[-1]}")
+    return folder
+
+
+def all_calls():
+    """Words with their files: those that are tried from C, and each command on each sample mesh."""
+    yield from check_c().calls()
+    walk, vertices = b"0 1 2 0\n", b"0 3 5\n"
+    for path in sorted((TOP / "meshes").glob("*.off")):
+        mesh, lengths = path.read_bytes(), path.with_suffix(".len")
+        for words in ("info 1", "disc 1", "sew 1", "lengths 1 3", "lengths 1 6", "certify 1 unit"):
+            yield words, [mesh]
+        measured = [("unit", [mesh])] + ([("2", [mesh, lengths.read_bytes()])] if lengths.exists() else [])
+        for name, files in measured:
+            yield from ((f"{word} 1 {name}", files) for word in ("basis", "cycle"))
+            for base in (0, 5):
+                yield from ((f"{word} 1 {name} {base}", files) for word in ("dist", "loops", "certify"))
+                yield from ((f"cut 1 {name} {base} {kind}", files) for kind in ("full", "trim"))
+            yield f"shortest 1 {name} 3", [mesh, files[1] if len(files) > 1 else b"", walk]
+            yield f"cut 1 {name} 0 through 3", [mesh, files[1] if len(files) > 1 else b"", vertices]
+        yield "class 1 2", [mesh, walk]
+        yield "same 1 2 3", [mesh, walk, b"0\n"]
+
+
+def answers_of_module(wasm, calls, room) -> list[tuple[int, bytes]]:
+    """The statuses and the texts of the module, called by node as the page calls it."""
+    listed = []
+    for number, (words, files) in enumerate(calls):
+        names = [f"{number}.file{place}" for place in range(len(files))]
+        for name, content in zip(names, files):
+            (room / name).write_bytes(content)
+        listed.append({"words": words, "files": names})
+    (room / "calls.json").write_text(json.dumps(listed))
+    subprocess.run(["node", WEB / "calls.mjs", wasm, room], check=True)
+    return [(int((room / f"{k}.status").read_text()), (room / f"{k}.text").read_bytes()) for k in range(len(calls))]
+
+
+def chained(calls, answers):
+    """Words with their files that need an answer: certificates, evidence and cuts, each of them also damaged."""
+    for (words, files), (status, text) in zip(calls, answers):
+        first, damaged = words.partition(" ")[0], text.replace(b" 1", b" 2", 1)
+        for found in (text, damaged) if status == 0 else ():
+            if first == "certify":
+                yield f"check 1 {words.split()[2]} 3", [files[0], files[1] if len(files) > 1 else b"", found]
+            elif first == "class":
+                yield "confirm 1 2 3", [files[0], files[1], found]
+            elif first == "cut":
+                yield from ((f"{word} 1", [found]) for word in ("sew", "disc", "info"))
+
+
+def compared(calls, answers, program, room) -> int:
+    """The number of calls whose status or bytes aren't the program's."""
+    answer_of, folder, wrong = check_c().answer_of, room / "of-program", 0
+    folder.mkdir(exist_ok=True)
+    for (words, files), found in zip(calls, answers):
+        due = answer_of(program, folder, words, files)
+        if due != found:
+            wrong += 1
+            print(f"web: {words!r}: due {due[0]} {due[1][:80]!r}, said {found[0]} {found[1][:80]!r}")
+    return wrong
+
+
+def without_memory(wasm, room) -> int:
+    """1 where want of memory isn't told as such, or the call behind it isn't answered."""
+    (room / "tet").write_bytes((TOP / "meshes/tet.off").read_bytes())
+    calls = [{"words": "gen torus 400 400", "files": []}, {"words": "info 1", "files": ["tet"]}]
+    (room / "calls.json").write_text(json.dumps(calls))
+    # Two hundred pages are 13 MB; the first answer alone has 6.
+    status, text = said(["node", "--wasm-max-mem-pages=200", WEB / "calls.mjs", wasm, room])
+    found = [(room / f"{k}.status").read_text() for k in (0, 1)] if not status else text
+    if found == ["11", "0"] and (room / "0.text").read_bytes() == b"memory\n":
+        return 0
+    print(f"web: want of memory: {found}")
+    return 1
+
+
+def module_against_program(wasm, program, room) -> int:
+    """The number of calls in which surf.wasm and the program differ."""
+    folder, wrong, count = room / "calls", 0, 0
+    folder.mkdir()
+    calls = list(all_calls())
+    answers = answers_of_module(wasm, calls, folder)
+    wrong += compared(calls, answers, program, room)
+    more = list(chained(calls, answers))
+    wrong += compared(more, answers_of_module(wasm, more, folder), program, room)
+    count = len(calls) + len(more)
+    statuses = sorted({status for status, _ in answers})
+    print(f"web: {count} calls of surf.wasm, {wrong} not as the program's; their statuses: {statuses}")
+    return wrong
+
+
+def in_browser(folder, given) -> int:
+    """The number of checks of the page that fail."""
+    if not chrome.found():
+        print("web: the page isn't tried in a browser, since Chromium isn't here")
+        return 0
+    room = given.room / "browser"
+    room.mkdir()
+    return browser.tried(folder / "surf.html", given.program, room, given.pictures)
+
+
+def main():
+    parser = argparse.ArgumentParser(description=__doc__, formatter_class=argparse.RawDescriptionHelpFormatter)
+    parser.add_argument("--built", type=pathlib.Path)
+    parser.add_argument("--program", type=pathlib.Path, default=TOP / "crates/surf/out/surf")
+    parser.add_argument("--pictures", type=pathlib.Path)
+    given = parser.parse_args()
+    given.program = given.program.resolve()
+    wrong = files_in_c()
+    if not shutil.which("node"):
+        print("web: the page's modules and surf.wasm are not tried, since node isn't here")
+    else:
+        wrong += modules()
+    with tempfile.TemporaryDirectory() as room:
+        given.room = pathlib.Path(room)
+        folder = built(given)
+        if folder and not given.program.is_file():
+            print(f"web: surf.wasm isn't compared, since {given.program} isn't here")
+            given.program = None
+        if folder and shutil.which("node"):
+            wrong += without_memory(folder / "surf.wasm", given.room)
+            if given.program:
+                wrong += module_against_program(folder / "surf.wasm", given.program, given.room)
+        if folder:
+            wrong += in_browser(folder, given)
+    return 1 if wrong else 0
+
+
+if __name__ == "__main__":
+    sys.exit(main())

@@ -1,0 +1,111 @@
+// What the page can ask the program for, and how its answers are read.
+import { plural, shownLength } from './units.js';
+
+/**
+ * A row: how many vertices are asked for (`none`, `one`, `many`), the words of the call, the files that these name,
+ * and what the page says while the call runs. L is `2`, the file of lengths, or `unit`.
+ */
+export const COMMANDS = {
+  basis: {
+    label: 'Shortest homology basis', asks: 'none', step: 'Looking for a shortest homology basis',
+    words: (L) => `basis 1 ${L}`, files: ['mesh', 'lengths'],
+    certify: (L) => `certify 1 ${L}`, mostCertified: 1000,
+  },
+  loops: {
+    label: 'Shortest loops at a vertex', asks: 'one', step: 'Looking for shortest loops',
+    words: (L, [x]) => `loops 1 ${L} ${x}`, files: ['mesh', 'lengths'],
+    certify: (L, [x]) => `certify 1 ${L} ${x}`, mostCertified: Infinity,
+  },
+  cycle: {
+    label: 'Shortest nonseparating cycle', asks: 'none', step: 'Looking for a shortest nonseparating cycle',
+    words: (L) => `cycle 1 ${L}`, files: ['mesh', 'lengths'],
+  },
+  trim: {
+    label: 'Cut into a disc, trimmed', asks: 'one', step: 'Cutting', isCut: true,
+    words: (L, [x]) => `cut 1 ${L} ${x} trim`, files: ['mesh', 'lengths'],
+  },
+  full: {
+    label: 'Cut into a disc, full', asks: 'one', step: 'Cutting', isCut: true,
+    words: (L, [x]) => `cut 1 ${L} ${x} full`, files: ['mesh', 'lengths'],
+  },
+  through: {
+    label: 'Cut into a disc through vertices', asks: 'many', step: 'Cutting', isCut: true,
+    words: (L, [x]) => `cut 1 ${L} ${x} through 3`, files: ['mesh', 'lengths', 'vertices'],
+  },
+  class: {
+    label: 'Homology class of a closed walk', asks: 'many', step: 'Looking for evidence', isOfWalk: true,
+    words: () => 'class 1 2', files: ['mesh', 'walk'], confirm: 'confirm 1 2 3',
+  },
+  shortest: {
+    label: 'Shortest walk homologous to a closed walk', asks: 'many', step: 'Looking for a shortest walk', isOfWalk: true,
+    words: (L) => `shortest 1 ${L} 3`, files: ['mesh', 'lengths', 'walk'],
+  },
+};
+
+/** What a field of vertices has to say, by what is asked for. */
+export const ASKS = {
+  none: '',
+  one: 'Vertex: click one on the mesh, or type its number',
+  many: 'Vertices in order: click them on the mesh, or type their numbers',
+};
+
+/** The ends of a walk's edges, two numbers each. */
+export function edgesOfWalk(walk) {
+  const edges = new Uint32Array(2 * Math.max(0, walk.length - 1));
+  for (let k = 0; k + 1 < walk.length; k++) {
+    edges[2 * k] = walk[k];
+    edges[2 * k + 1] = walk[k + 1];
+  }
+  return edges;
+}
+
+const walkOf = (row, decimals) => {
+  const vertices = row.slice(2).map(Number), edges = edgesOfWalk(vertices), length = shownLength(row[1], decimals);
+  const title = `length ${length}, ${plural(vertices.length - 1, 'edge')}`;
+  return { edges, vertices, title: decimals === null ? title.replace(/^length .*?, /, '') : title };
+};
+
+/** Loops, cycles and walks of an answer, and its rows for the table of facts. */
+function readWalks(rows, decimals) {
+  const walks = [], facts = [];
+  for (const row of rows) {
+    if (row[0] === 'total') facts.push(['total length', shownLength(row[1], decimals)]);
+    else if (['loop', 'cycle', 'shortest'].includes(row[0])) walks.push(walkOf(row, decimals));
+  }
+  return { walks, facts };
+}
+
+/** The evidence of `class`: faces that the walk bounds, or edges that show that it bounds none. */
+function readEvidence([word, count, ...numbers]) {
+  const list = Uint32Array.from(numbers, Number);
+  if (word === 'null') {
+    const text = Number(count) ? `It bounds ${plural(count, 'face')}` : 'It bounds: it runs each edge an even number of times';
+    return { walks: [], facts: [['class', 'null-homologous']], faces: list, text };
+  }
+  const walk = { edges: list, vertices: [], title: `${plural(count, 'edge')} that the walk crosses oddly` };
+  return { walks: [walk], facts: [['class', 'not null-homologous']], text: 'It bounds no set of faces' };
+}
+
+const COUNTED = {
+  basis: (n) => `${plural(n, 'cycle')}: a shortest homology basis`,
+  loops: (n) => `${plural(n, 'loop')} at the vertex`,
+  cycle: () => 'a shortest nonseparating cycle',
+  shortest: () => 'a shortest homologous walk',
+};
+
+/** An answer that is no cut: its walks, faces, facts, and what to say of it. */
+export function readAnswer(command, text, decimals) {
+  const rows = text.trim().split('\n').map((line) => line.split(' '));
+  if (command === 'class') return readEvidence(rows[0]);
+  const found = readWalks(rows, decimals);
+  const none = { basis: 'The surface is a sphere: its basis is empty', loops: 'The surface is a sphere: it needs no loops' };
+  if (command === 'cycle' && rows[0][0] === 'none') return { ...found, text: 'None: on this surface every cycle separates' };
+  return { ...found, text: found.walks.length ? COUNTED[command](found.walks.length) : none[command] };
+}
+
+/** The rows of `info` for the table of facts. */
+export function readInfo(text) {
+  const rows = Object.fromEntries(text.trim().split('\n').map((line) => line.split(' ')));
+  const kind = rows.genus === undefined ? ['crosscaps', rows.crosscaps] : ['genus', rows.genus];
+  return ['vertices', 'edges', 'faces', 'characteristic'].map((name) => [name, rows[name]]).concat([kind]);
+}

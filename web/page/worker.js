@@ -1,0 +1,141 @@
+// The worker: it keeps the mesh and the files that calls name, and calls the program, so that the page stays alive.
+import { Lines } from './lines.js';
+import { kindOf, readLooseOff, readMesh } from './readers.js';
+import { closed, largest, merged, offOf, split, tidy } from './mend.js';
+import { shapeOf } from './shape.js';
+import { readOpened } from './opened.js';
+import { unfold } from './unfold.js';
+import { Program, wantOfMemory } from './program.js';
+
+const encoder = new TextEncoder();
+const state = { program: null, kind: '', data: null, mesh: null, opened: null, files: new Map() };
+
+/** The greatest disc that is laid in the plane: beyond it that takes minutes. */
+const MOST_UNFOLDED = 150000;
+
+function setMesh(mesh, text) {
+  state.mesh = mesh;
+  state.opened = null;
+  state.files.clear();
+  state.files.set('mesh', text || offOf(mesh));
+}
+
+/** A call of the program; `keep` is the name of a file that its answer becomes. */
+function call({ words, files, keep }) {
+  const start = performance.now(), slices = files.map((name) => state.files.get(name));
+  const isLong = /^(cut|lengths|dist|certify)/.test(words), size = state.files.get('mesh')?.length || 0;
+  const { status, text } = state.program.call(words, slices, isLong ? Math.max(1 << 20, 2 * size) : 1 << 20);
+  if (keep && status <= 1) state.files.set(keep, text);
+  return { status, text: keep ? text.slice() : text, ms: performance.now() - start, memory: state.program.memory };
+}
+
+class Refused extends Error {
+  constructor(said) {
+    super('refused');
+    this.said = said;
+  }
+}
+
+/** The vertices of a shortest way from u to v, without u. */
+function wayTo(u, v, lengths) {
+  const said = call({ words: `dist 1 ${lengths} ${u}`, files: ['mesh', 'lengths'] });
+  if (said.status > 1) throw new Refused(said);
+  const lines = new Lines(said.text), above = new Int32Array(state.mesh.points.length / 3).fill(-1), way = [];
+  while (lines.next()) above[lines.number(0)] = lines.word(2) === '-' ? -1 : lines.number(2);
+  for (let at = v; at >= 0 && at !== u; at = above[at]) way.push(at);
+  return way.reverse();
+}
+
+const mends = {
+  merge: (mesh) => ({ mesh: tidy(merged(mesh)) }),
+  tidy: (mesh) => ({ mesh: tidy(mesh) }),
+  largest: (mesh) => largest(tidy(mesh)),
+  split: (mesh) => split(tidy(mesh)),
+  close: (mesh) => closed(tidy(mesh)),
+  loose: () => ({ mesh: tidy(readLooseOff(state.data)) }),
+};
+
+const does = {
+  /** Loads the program, makes the browser compile what is called most, and says whether it cuts through vertices. */
+  async load({ program }) {
+    state.program = await Program.load(program);
+    state.program.call('try chain 2 5 5 3', []);
+    return { cutsThrough: state.program.call('cut 1 unit 0 through 1', []).status !== 2 };
+  },
+
+  /** Opens a file. An OFF goes to the program as it stands, so that the lines which it names are those of the file. */
+  open({ name, data }) {
+    state.kind = kindOf(name, data);
+    state.data = data;
+    const mesh = readMesh(state.kind, data);
+    if (state.kind === 'off') setMesh(mesh, data);
+    else setMesh(tidy(state.kind === 'stl' ? merged(mesh) : mesh));
+    return { kind: state.kind, ...shapeOf(state.mesh) };
+  },
+
+  /** Mends the mesh. A mended OFF is written anew, so its names are kept from here on. */
+  mend({ how }) {
+    const before = { vertices: state.mesh.points.length / 3, faces: state.mesh.starts.length - 1 };
+    const { mesh, ...more } = mends[how](state.mesh);
+    if (!mesh.corners.length) throw new Error('nothing of the mesh is left');
+    setMesh(mesh);
+    const after = { vertices: mesh.points.length / 3, faces: mesh.starts.length - 1 };
+    return { kind: state.kind, ...shapeOf(mesh), before, after, ...more };
+  },
+
+  call,
+
+  /** A file of the page's, for the next call. */
+  file({ name, text }) {
+    state.files.set(name, encoder.encode(text));
+    return {};
+  },
+
+  /** The closed walk through these vertices, from each to the next by a shortest way; it becomes the file `walk`. */
+  walk({ vertices, lengths }) {
+    try {
+      const walk = [vertices[0]];
+      vertices.forEach((u, k) => {
+        const v = vertices[(k + 1) % vertices.length];
+        if (u !== v) for (const w of wayTo(u, v, lengths)) walk.push(w);
+      });
+      state.files.set('walk', encoder.encode(`${walk.join(' ')}\n`));
+      return { walk: Uint32Array.from(walk) };
+    } catch (fault) {
+      if (fault instanceof Refused) return fault.said;
+      throw fault;
+    }
+  },
+
+  /** Reads the cut that stands in the file `cut`. */
+  opened() {
+    state.opened = readOpened(state.files.get('cut'));
+    const copies = state.opened.origins.length;
+    return { edges: state.opened.edges.slice(), copies, border: state.opened.round.length, isFlat: copies <= MOST_UNFOLDED };
+  },
+
+  unfold() {
+    return { ...unfold(state.opened), round: state.opened.round.slice() };
+  },
+};
+
+/** What a browser throws where a table has no room. */
+const isWantOfMemory = (fault) => fault instanceof RangeError && /alloc|memory|length/i.test(fault.message);
+
+async function answer({ id, what, ...given }) {
+  let said;
+  try {
+    said = { id, said: await does[what](given) };
+  } catch (fault) {
+    const isTrap = fault instanceof WebAssembly.RuntimeError, words = fault.message || String(fault);
+    said = isWantOfMemory(fault) ? { id, said: wantOfMemory() } : { id, fault: words, isTrap };
+  }
+  const lists = Object.values(said.said || {}).filter((it) => ArrayBuffer.isView(it));
+  postMessage(said, [...new Set(lists.map((list) => list.buffer))]);
+}
+
+// One after the other, also where an answer is waited for.
+let last = Promise.resolve();
+onmessage = ({ data }) => {
+  last = last.then(() => answer(data));
+};

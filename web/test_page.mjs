@@ -1,0 +1,204 @@
+// Tests of the page's own modules: node --test web/test_page.mjs
+import assert from 'node:assert/strict';
+import { readFileSync } from 'node:fs';
+import { test } from 'node:test';
+import { kindOf, readLooseOff, readMesh, readOff } from './page/readers.js';
+import { closed, firstAtPoint, largest, matesOf, merged, offOf, split, tidy } from './page/mend.js';
+import { longestEdge, shapeOf, trianglesOf } from './page/shape.js';
+import { readOpened } from './page/opened.js';
+import { unfold } from './page/unfold.js';
+import { decimalsFor, shownLength } from './page/units.js';
+import { explain } from './page/refusals.js';
+import { readAnswer, readInfo } from './page/commands.js';
+import { kleinBottle } from './page/samples.js';
+
+const POINTS = [[0, 0, 0], [1, 0, 0], [0, 1, 0], [0, 0, 1]];
+const FACES = [[0, 1, 2], [0, 3, 1], [0, 2, 3], [1, 3, 2]];
+const TET = 'OFF\n4 4 0\n0 0 0\n1 0 0\n0 1 0\n0 0 1\n3 0 1 2\n3 0 3 1\n3 0 2 3\n3 1 3 2\n';
+
+const bytes = (text) => new TextEncoder().encode(text);
+const text = (data) => new TextDecoder().decode(data);
+const meshOf = (points, faces) => readOff(bytes([
+  'OFF', `${points.length} ${faces.length} 0`, ...points.map((point) => point.join(' ')),
+  ...faces.map((face) => `${face.length} ${face.join(' ')}`),
+].join('\n')));
+const facesOf = ({ starts, corners }) => [...starts].slice(1).map((to, f) => [...corners.subarray(starts[f], to)]);
+
+const plyHead = (format) => `ply\nformat ${format} 1.0\nelement vertex 4\nproperty float x\nproperty float y\n`
+  + 'property double z\nelement face 4\nproperty list uchar int vertex_indices\nend_header\n';
+
+function plyBytes(little) {
+  const head = bytes(plyHead(little ? 'binary_little_endian' : 'binary_big_endian'));
+  const body = new DataView(new ArrayBuffer(4 * 16 + 4 * 13));
+  POINTS.forEach(([x, y, z], v) => {
+    body.setFloat32(16 * v, x, little);
+    body.setFloat32(16 * v + 4, y, little);
+    body.setFloat64(16 * v + 8, z, little);
+  });
+  FACES.forEach((face, f) => {
+    body.setUint8(64 + 13 * f, 3);
+    face.forEach((corner, k) => body.setInt32(64 + 13 * f + 1 + 4 * k, corner, little));
+  });
+  return new Uint8Array([...head, ...new Uint8Array(body.buffer)]);
+}
+
+function stlBytes() {
+  const view = new DataView(new ArrayBuffer(84 + 50 * 4));
+  new Uint8Array(view.buffer).set(bytes('solid, though it is binary')); // some programs write this
+  view.setUint32(80, 4, true);
+  FACES.forEach((face, f) => face.forEach((corner, k) => POINTS[corner].forEach((x, c) => {
+    view.setFloat32(84 + 50 * f + 12 + 12 * k + 4 * c, x, true);
+  })));
+  return new Uint8Array(view.buffer);
+}
+
+const stlText = () => ['solid tet', ...FACES.flatMap((face) => [
+  'facet normal 0 0 0', 'outer loop', ...face.map((corner) => `vertex ${POINTS[corner].join(' ')}`), 'endloop', 'endfacet',
+]), 'endsolid'].join('\n');
+
+test('each kind of file is read as the same mesh', () => {
+  const obj = [...POINTS.map((point) => `v ${point.join(' ')}`), 'vt 0 0', 'f 1/1 2/1/1 3', 'f -4 -1 -3', 'f 1//7 3 4', 'f 2 4 3'];
+  const ply = plyHead('ascii') + [...POINTS, ...FACES.map((face) => [3, ...face])].map((row) => row.join(' ')).join('\n');
+  const files = {
+    'a.off': bytes(TET), 'a.obj': bytes(obj.join('\r\n')), 'a.ply': bytes(ply), 'b.ply': plyBytes(true),
+    'c.ply': plyBytes(false), 'a.stl': bytes(stlText()), 'b.stl': stlBytes(),
+  };
+  for (const [name, data] of Object.entries(files)) {
+    const kind = kindOf(name, data), mesh = readMesh(kind, data);
+    assert.equal(text(offOf(tidy(kind === 'stl' ? merged(mesh) : mesh))), TET, name);
+  }
+  assert.equal(kindOf('without-ending', bytes('ply\n')), 'ply');
+  const loose = 'off 4 4 6 0 0 0 1 0 0 # corners\n0 1 0 0 0 1\n3 0 1 2 3 0 3 1\n3 0 2 3 3 1 3 2\n';
+  assert.equal(text(offOf(tidy(readLooseOff(bytes(loose))))), TET);
+});
+
+test('what can’t be read is an error with a sentence', () => {
+  for (const [kind, data] of [['ply', 'ply\n'], ['ply', `${plyHead('ascii')}0 0`], ['obj', 'v 0 0 0\n'], ['stl', ''], ['stl', 'x'.repeat(200)]]) {
+    assert.throws(() => readMesh(kind, bytes(data)), Error, kind);
+  }
+  assert.throws(() => readMesh('ply', plyBytes(true).subarray(0, 220)), /too early/);
+  assert.throws(() => readLooseOff(bytes('hello')), /counts/);
+});
+
+test('what hangs on nothing is left out, and vertices keep their numbers of the file', () => {
+  const mesh = meshOf([[9, 9, 9], ...POINTS], [...FACES.map((face) => face.map((v) => v + 1)), [1, 1, 2], [1, 2, 77]]);
+  const left = tidy(mesh);
+  assert.deepEqual(facesOf(left), FACES);
+  assert.deepEqual([...left.names], [1, 2, 3, 4]);
+});
+
+test('equal points become one', () => {
+  assert.deepEqual([...firstAtPoint(Float64Array.of(0, 1, 2, 3, 4, 5, -0, 1, 2))], [0, 1, 0]);
+});
+
+test('sides at one edge are told', () => {
+  const { mates, edges } = matesOf(meshOf(POINTS, FACES));
+  assert.equal(edges.length / 2, 6);
+  mates.forEach((mate, side) => assert.equal(mates[mate], side));
+  const fins = matesOf(meshOf([...POINTS, [1, 1, 1]], [[0, 1, 2], [0, 1, 3], [0, 1, 4]])).mates;
+  assert.deepEqual([...fins], [-2, -1, -1, -2, -1, -1, -2, -1, -1]);
+});
+
+test('the part with the most faces is kept', () => {
+  const far = POINTS.map(([x, y, z]) => [x + 5, y, z]), three = FACES.slice(1).map((face) => face.map((v) => v + 4));
+  const { mesh, parts } = largest(meshOf([...POINTS, ...far], [...three, ...FACES]));
+  assert.equal(parts, 2);
+  assert.deepEqual(facesOf(mesh), FACES);
+  assert.deepEqual([...mesh.names], [0, 1, 2, 3]);
+});
+
+test('two solids that touch in a vertex are taken apart there', () => {
+  const second = FACES.map((face) => face.map((v) => (v ? v + 3 : 0))), more = [[-1, 0, 0], [0, -1, 0], [0, 0, -1]];
+  const { mesh, added } = split(meshOf([...POINTS, ...more], [...FACES, ...second]));
+  assert.equal(added, 1);
+  assert.equal(mesh.points.length / 3, 8);
+  assert.deepEqual([...mesh.points.subarray(21)], [0, 0, 0]);
+  assert.equal(largest(mesh).parts, 2);
+});
+
+test('a hole is closed by one face, and each of two holes by its own', () => {
+  const cube = [0, 1, 2, 3, 4, 5, 6, 7].map((v) => [v & 1, (v >> 1) & 1, v >> 2]);
+  const around = [[0, 1, 5, 4], [1, 3, 7, 5], [3, 2, 6, 7], [2, 0, 4, 6]];
+  const { mesh, holes } = closed(meshOf(cube, around));
+  assert.equal(holes, 2);
+  assert.deepEqual(facesOf(mesh).slice(4).map((face) => face.sort().join(' ')).sort(), ['0 1 2 3', '4 5 6 7']);
+  assert.ok(matesOf(mesh).mates.every((mate) => mate >= 0));
+});
+
+test('a face of five corners is three triangles, and the longest edge is measured', () => {
+  const mesh = meshOf([[0, 0, 0], [3, 4, 0], [0, 5, 0], [-1, 4, 0], [-2, 1, 0]], [[0, 1, 2, 3, 4]]);
+  assert.deepEqual([...trianglesOf(mesh).triangles], [0, 1, 2, 0, 2, 3, 0, 3, 4]);
+  assert.deepEqual([...trianglesOf(mesh).faces], [0, 0, 0]);
+  assert.equal(longestEdge(mesh.points, Uint32Array.of(0, 1, 1, 2)), 5);
+  assert.equal(shapeOf(meshOf([[0, 0, 0]], [[0, 7, 8]])).triangles.length, 0);
+});
+
+// A tetrahedron of which the edges 0-1 and 0-2 are cut: vertex 0 has two copies.
+const OPENED = 'OFF\n5 4 8\n0 0 0\n0 0 0\n1 0 0\n0 1 0\n0 0 1\n3 0 2 3\n3 1 4 2\n3 1 3 4\n3 2 4 3\n'
+  + '# copy 0 from 0\n# copy 1 from 0\n# copy 2 from 1\n# copy 3 from 2\n# copy 4 from 3\n';
+
+test('a cut is read: its border, and the edges that were cut', () => {
+  const { origins, round, edges } = readOpened(bytes(OPENED));
+  assert.deepEqual([...origins], [0, 0, 1, 2, 3]);
+  assert.deepEqual([...round].sort(), [0, 1, 2, 3]);
+  const pairs = [0, 1].map((k) => [...edges.subarray(2 * k, 2 * k + 2)].join(' '));
+  assert.deepEqual([edges.length, ...pairs.sort()], [4, '0 1', '0 2']);
+});
+
+test('a disc in the plane has its border on the circle and the others at the mean of their neighbours', () => {
+  const { places, edges, round } = { ...unfold(readOpened(bytes(OPENED))), ...readOpened(bytes(OPENED)) }, at = (v) => [places[2 * v], places[2 * v + 1]];
+  for (const v of round) assert.ok(Math.abs(Math.hypot(...at(v)) - 1) < 1e-6);
+  for (const c of [0, 1]) assert.ok(Math.abs(at(4)[c] - (at(1)[c] + at(2)[c] + at(3)[c]) / 3) < 1e-4);
+  assert.equal(edges.length, 4);
+});
+
+test('lengths have as many decimals as the longest edge has room for', () => {
+  for (const longest of [1e-12, 0.004, 0.5, 1, 3.99, 42, 1e6, 4e9]) {
+    const decimals = decimalsFor(longest);
+    assert.ok(longest * 10 ** decimals < 4294967295, `${longest}`);
+    assert.ok(decimals === 9 || longest * 10 ** (decimals + 1) > 0.93 * 4294967295 || decimals === 0, `${longest}`);
+  }
+  assert.equal(shownLength('12262957', 6), '12.263');
+  assert.equal(shownLength('20000000000000000000', 9), '20000000000');
+  assert.equal(shownLength('58', null), '58');
+});
+
+test('each line of a refusal of a mesh has plain words', () => {
+  const formats = readFileSync(new URL('../docs/formats.md', import.meta.url), 'utf8');
+  const row = (status) => formats.split('\n').find((line) => line.startsWith(`| ${status} | \``));
+  const words = (status) => [...row(status).matchAll(/`([^`]*)`/g)].map((found) => found[1]);
+  for (const status of [3, 4, 12]) {
+    const [front, ...lines] = words(status);
+    for (const line of lines) assert.notEqual(explain(`${front}${line.replace(/[A-Z]/g, '0')}`, null).text, '', line);
+  }
+  for (const name of formats.matchAll(/^\| `([a-z-]+)` \| .* \| [\d,]+ \|$/gm)) assert.notEqual(explain(`limit: ${name[1]}`, null).text, '', name[1]);
+  for (const line of ['memory', 'base: 9 of 4']) assert.notEqual(explain(line, null).text, '');
+});
+
+test('a refusal names what to show, by the numbers of the mesh and of the file', () => {
+  const shape = { kind: 'obj', names: Uint32Array.of(4, 5, 6, 7, 8, 9) };
+  const border = explain('surface: border 0 3 2', shape);
+  assert.deepEqual([border.edges, border.faces], [[0, 3], [2]]);
+  assert.match(border.text, /vertex 0 \(v 5 of the OBJ\) to vertex 3 \(v 8 of the OBJ\)/);
+  assert.deepEqual(explain('surface: pinched 5 1 2', shape).vertices, [5]);
+  assert.deepEqual(explain('surface: apart 4', null).faces, [0, 4]);
+});
+
+test('answers are read', () => {
+  const basis = readAnswer('basis', 'cycles 2\ntotal 6\ncycle 3 0 1 2 0\ncycle 3 0 3 6 0\n', null);
+  assert.deepEqual(basis.walks.map(({ vertices }) => vertices), [[0, 1, 2, 0], [0, 3, 6, 0]]);
+  assert.deepEqual([...basis.walks[0].edges], [0, 1, 1, 2, 2, 0]);
+  assert.deepEqual(basis.facts, [['total length', '6']]);
+  assert.deepEqual([...readAnswer('class', 'null 2 1 3\n', null).faces], [1, 3]);
+  assert.deepEqual([...readAnswer('class', 'odd 1 0 4\n', null).walks[0].edges], [0, 4]);
+  assert.match(readAnswer('cycle', 'none\n', 6).text, /separates/);
+  assert.match(readAnswer('basis', 'cycles 0\ntotal 0\n', 6).text, /sphere/);
+  const rows = readInfo('vertices 6\nedges 15\nfaces 10\ncharacteristic 1\ncrosscaps 1\n');
+  assert.deepEqual(rows.at(-1), ['crosscaps', '1']);
+});
+
+test('the Klein bottle is closed, and its characteristic is 0', () => {
+  const mesh = readOff(bytes(kleinBottle(28, 16))), { mates, edges } = matesOf(mesh);
+  assert.ok(mates.every((mate) => mate >= 0));
+  assert.equal(mesh.points.length / 3 - edges.length / 2 + mesh.starts.length - 1, 0);
+});
