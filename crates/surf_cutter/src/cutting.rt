@@ -1,5 +1,5 @@
 //! Cutting a surface open along edges outside a tree of its faces.
-ghost use Rattle.std.specs.Prelude.{◌≡◌, ◌<◌, false, true, length, All, IfOk, OnOk, IfErr};
+ghost use Rattle.std.specs.Prelude.{◌≡◌, ◌<◌, length, All, IfOk, OnOk, IfErr};
 ghost use Rattle.std.specs.List.{sum_by};
 ghost use Rattle.surf_surfaces.specs.Disc.{IsOpening};
 ghost use Rattle.surf_surfaces.specs.SideNumber.{side_count};
