@@ -7,8 +7,9 @@ The plain method is written here from the definitions: trees of shortest walks a
 for each, all loops in order of length, base and edge, and of these what is independent of those before. It shares
 nothing with the program and takes a search at every vertex. `loops`, `basis` and `cycle` have to print the same bytes.
 Surfaces of both kinds are made from tori, bottles and planes, glued to each other, by turning edges over; their lengths
-are equal, or few, or many. At the end come two meshes that are too large for the plain method, of which the answer is
-known otherwise: 1,024 loops of length 4, and a torus at the limit of 20,000 vertices.
+are equal, or few, or many. A quarter as many more have long and short handles, and lengths that tie where a search ends.
+At the end come two meshes that are too large for the plain method, of which the answer is known otherwise: 1,024 loops of
+length 4, and a torus at the limit of 20,000 vertices.
 """
 
 import argparse
@@ -57,6 +58,24 @@ def turned_over(faces, chance, times):
     return faces
 
 
+def stretched(chance):
+    """A surface with long and short handles: a thin torus and parts that are glued to it, some of them one-sided."""
+    faces = torus_faces(3, chance.choice([8, 10, 13]))
+    for _ in range(chance.choice([1, 2, 3])):
+        faces = glued(faces, chance.choice([torus_faces(3, 3), torus_faces(3, 6), PLANE_FACES, bottle_faces(4, 5)]))
+    return shuffled(turned_over(faces, chance, chance.choice([0, 10])), chance)
+
+
+def shuffled(faces, chance):
+    """The same faces with other numbers, or as they are: how many vertices they have, and the faces."""
+    count = 1 + max(max(f) for f in faces)
+    names = list(range(count))
+    if chance.random() < 0.5:
+        chance.shuffle(names)
+        faces = chance.sample(faces, len(faces))
+    return count, [[names[v] for v in f] for f in faces]
+
+
 def surface(chance):
     """A surface of two to six loops."""
     parts = [torus_faces(3, 3), torus_faces(3, 4), bottle_faces(4, 5), PLANE_FACES, torus_faces(4, 4)]
@@ -64,12 +83,7 @@ def surface(chance):
     for _ in range(chance.choice([0, 0, 1, 1, 2])):
         faces = glued(faces, chance.choice(parts[:2] + [PLANE_FACES]))
     faces = turned_over(faces, chance, chance.choice([0, 10, 40]))
-    count = 1 + max(max(f) for f in faces)
-    names = list(range(count))
-    if chance.random() < 0.5:
-        chance.shuffle(names)
-        chance.shuffle(faces)
-    return count, [[names[v] for v in f] for f in faces]
+    return shuffled(faces, chance)
 
 
 # ---- the plain method
@@ -215,11 +229,23 @@ def run(program, folder, *words):
     return ran.stdout if ran.returncode == 0 else f"status {ran.returncode}: {ran.stderr}"
 
 
-def compared(program, folder, chance):
-    """Whether the program prints what the plain method finds, on one surface."""
-    count, faces = surface(chance)
+def some_lengths(chance, count):
+    """Lengths: equal, few, or many."""
     most = chance.choice([1, 1, 2, 3, 5, 4_294_967_295])
-    lengths = [chance.randint(1, most) for _ in edges_of(faces)]
+    return [chance.randint(1, most) for _ in range(count)]
+
+
+def tiered_lengths(chance, count):
+    """Lengths of few kinds that lie far apart. A search goes four times as far as the one before, so loops often tie
+    just as far as it goes."""
+    kinds = chance.choice([[1], [1, 4], [1, 4, 16, 64], [3, 12], [1, 2, 3, 1_000], [1, 4_294_967_295]])
+    return [chance.choice(kinds) for _ in range(count)]
+
+
+def compared(program, folder, chance, make, measure):
+    """Whether the program prints what the plain method finds, on one surface."""
+    count, faces = make(chance)
+    lengths = measure(chance, len(edges_of(faces)))
     plain = Plain(count, faces, lengths)
     (folder / "m").write_text(off(count, faces))
     (folder / "l").write_text("".join(f"{u} {v} {n}\n" for (u, v), n in zip(plain.edges, lengths)))
@@ -267,9 +293,10 @@ def main():
     with tempfile.TemporaryDirectory() as name:
         folder = pathlib.Path(name)
         chance = random.Random(given.seed)
-        wrong = sum(not compared(given.program, folder, chance) for _ in range(given.surfaces))
+        kinds = [(surface, some_lengths)] * given.surfaces + [(stretched, tiered_lengths)] * (given.surfaces // 4)
+        wrong = sum(not compared(given.program, folder, chance, *kind) for kind in kinds)
         well = known(given.program, folder)
-    print(f"{given.surfaces - wrong} surfaces as the plain method has them, {wrong} otherwise")
+    print(f"{len(kinds) - wrong} surfaces as the plain method has them, {wrong} otherwise")
     return 1 if wrong or not well else 0
 
 

@@ -22,3 +22,8 @@ pub mod Firsts
 pub mod PassedOver
 pub mod Meeting
 pub mod OnCut
+pub mod Capped
+pub mod Asked
+pub mod Capping
+pub mod Rounded
+pub mod NearFirst

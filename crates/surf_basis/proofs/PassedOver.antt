@@ -45,7 +45,7 @@ use Rattle.surf_basis.proofs.Searched.{depends_null, zero_null, loops_found, kep
 -- ---- places
 
 -- what comes before a place is no longer
-no_longer : (a b c d : ℕ) → comes_sooner (a, b) (c, d) ≡ true → c ≤ a
+pub no_longer : (a b c d : ℕ) → comes_sooner (a, b) (c, d) ≡ true → c ≤ a
 no_longer a b c d h = grind (arith, nat_tests)
 
 -- what is shorter comes before a place
@@ -53,7 +53,7 @@ shorter_sooner : (a b c d : ℕ) → c < a → comes_sooner (a, b) (c, d) ≡ tr
 shorter_sooner a b c d h = grind (arith, nat_tests)
 
 -- what comes no later than what is sought is sought
-sought_before : (c : Candidate) (p q : Place) → is_no_later p q ≡ true → is_sought (Some c) q ≡ true →
+pub sought_before : (c : Candidate) (p q : Place) → is_no_later p q ≡ true → is_sought (Some c) q ≡ true →
     is_sought (Some c) p ≡ true
 sought_before c p q before sought = grind (arith, nat_tests)
 

@@ -2,9 +2,10 @@
 use Rattle.std.proofs.Common.{◌≡◌, ◌≢◌, ℕ, suc, ◌<◌, ◌+◌, ◌^◌, ◌⊎◌, Bool, true, false, eqb, cond, List, [], ◌∷◌, length, get_or, take, fold, All, Contains, Option, Some, None, refl, sym, ap, ◌∙◌, subst, arith, inl, inr, eqb-true}
 use Rattle.std.specs.Prelude.{IsTrue}
 use Rattle.std.specs.List.{AllByRecursion}
-use Rattle.std.proofs.lemmas.Bool.{cases_Bool, cases_eq, or_cases}
+use Rattle.std.proofs.lemmas.Bool.{cases_Bool, cases_eq, or_cases, false≢true, eq-eqb}
 use Rattle.std.proofs.lemmas.Bool.Decides.{nat_tests}
 use Rattle.std.proofs.lemmas.List.Elements.{All-from_recursion, All-contains}
+use Rattle.surf_z2.specs.Space.{no_member}
 use Rattle.surf_graphs.specs.Cells.{Split, IsSplit}
 use Rattle.surf_graphs.specs.Trees.{Tree}
 use Rattle.surf_graphs.proofs.Counting.{left_edges}
@@ -39,7 +40,7 @@ use Rattle.surf_basis.proofs.Searched.{among_more, depends_null, zero_null}
 -- ---- the first of a list
 
 -- there is a candidate, and it comes no later than a place
-abbrev IsNoLater : Option Candidate → Place → Type 0
+abbrev pub IsNoLater : Option Candidate → Place → Type 0
 IsNoLater None p = ⊥
 IsNoLater (Some c) p = is_no_later (place_of c) p ≡ true
 
@@ -173,7 +174,14 @@ module _ (mesh : Mesh) (lengths : List ℕ) (trees : ℕ → Tree) (surface : Is
       at : (y : ℕ) → y ≡ z → (is_null y f → ⊥) → IsNoLater (fold earlier_of o found) (place_at mesh lengths trees y f)
       at y is = subst (λ x. (is_null x f → ⊥) → IsNoLater (fold earlier_of o found) (place_at mesh lengths trees x f)) (sym is) here
 
-  first_more : (set : ℕ → Bool) (z : ℕ) (o : Option Candidate) (found : List Signed) → z < mesh.vertices →
+  -- of the loops that a search found at a vertex none comes before the first
+  pub least_found : (o : Option Candidate) (z : ℕ) (found : List Signed) → z < mesh.vertices →
+      AreFoundBy mesh lengths trees d o z found → (e : ℕ) → e < edge_count mesh → (is_null z e → ⊥) →
+      IsNoLater (first_from o found) (place_at mesh lengths trees z e)
+  least_found o z found z_in h e e_in some =
+      least_more no_member z o found z_in (λ y f y_in in_set f_in nonnull. absurd (false≢true in_set)) h z e z_in (eq-eqb z z refl) e_in some
+
+  pub first_more : (set : ℕ → Bool) (z : ℕ) (o : Option Candidate) (found : List Signed) → z < mesh.vertices →
       IsFirstOf mesh lengths trees set o → AreFoundBy mesh lengths trees d o z found →
       IsFirstOf mesh lengths trees (with_vertex z set) (fold earlier_of o found)
   first_more set z o found z_in first h = elim (first_member o found) [
@@ -209,7 +217,7 @@ module _ (mesh : Mesh) (lengths : List ℕ) (trees : ℕ → Tree) (surface : Is
           (first_some (with_vertex z set) c y f was.from_in was.edge_in was.nonnull place (subst (Least (with_vertex z set)) (same ∙ e) least))
 
   -- for fewer vertices
-  first_fewer : (set part : ℕ → Bool) (o : Option Candidate) → ((v : ℕ) → IsTrue (part v) → IsTrue (set v)) →
+  pub first_fewer : (set part : ℕ → Bool) (o : Option Candidate) → ((v : ℕ) → IsTrue (part v) → IsTrue (set v)) →
       IsFirstOf mesh lengths trees set o → IsFirstOf mesh lengths trees part o
   first_fewer set part None sub h = λ y f y_in in_part f_in. h y f y_in (sub y in_part) f_in
   first_fewer set part (Some c) sub (y, f, was, place) = (

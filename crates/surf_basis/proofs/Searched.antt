@@ -9,7 +9,7 @@ use Rattle.std.proofs.lemmas.List.Elements.{recursion_from_All, All-from_recursi
 use Rattle.std.proofs.lemmas.List.Sorted.{Contains-permutation, All-permutation, IsPermutation-map, IsPermutation-sym}
 use Rattle.surf_z2.specs.Greedy.{greedy}
 use Rattle.surf_z2.specs.Order.{merge}
-use Rattle.surf_z2.specs.Space.{numbers, is_nothing, no_member, chosen, Independent}
+use Rattle.surf_z2.specs.Space.{numbers, is_nothing, chosen, Independent}
 use Rattle.surf_z2.proofs.Greedy.{greedy_law, all_kept as greedy_spans}
 use Rattle.surf_z2.proofs.Merge.{Sorted, sorted_from_order, order_from_sorted, same_members}
 use Rattle.surf_z2.proofs.Numbers.{Decides-is_nothing}
@@ -74,9 +74,18 @@ among_more vs i z v l at h =
     ]
 
 -- what is chosen of some candidates is among them
-of_choice : (cs : List Signed) (s : Signed) → Contains (independent_of cs) s → Contains cs s
+pub of_choice : (cs : List Signed) (s : Signed) → Contains (independent_of cs) s → Contains cs s
 of_choice cs s has = All-contains (Contains cs) (independent_of cs) s
     (all_kept (Contains cs) cs (λ k c l. Contains-get_or cs k c l)) has
+
+-- what is in order of place is so as loops that were found
+pub sorted_places : (mesh : Mesh) (trees : ℕ → Tree) (cs : List Signed) → Sorted stands_before cs →
+    Sorted comes_no_later (map (found_of mesh trees) cs)
+sorted_places mesh trees [] s = tt
+sorted_places mesh trees (c ∷ cs) s = (
+  all_mapped (λ k. comes_no_later (found_of mesh trees c) k ≡ true) (found_of mesh trees) cs s.0,
+  sorted_places mesh trees cs s.1,
+)
 
 -- ---- loops that are null depend on any
 
@@ -113,7 +122,7 @@ module _ (mesh : Mesh) (lengths : List ℕ) (trees : ℕ → Tree) (surface : Is
       (loop_closed mesh lengths trees surface shortest z e z_in e_in)).1 zero_is
 
   -- the loops at a vertex that a search found
-  places_found : (limit : Option Candidate) (z : ℕ) (found : List Signed) → z < mesh.vertices →
+  pub places_found : (limit : Option Candidate) (z : ℕ) (found : List Signed) → z < mesh.vertices →
       AreFoundBy mesh lengths trees d limit z found →
       AreFoundAt mesh lengths trees (is_sought limit) z (map (found_of mesh trees) found)
   places_found limit z found z_in h = record {
@@ -129,7 +138,7 @@ module _ (mesh : Mesh) (lengths : List ℕ) (trees : ℕ → Tree) (surface : Is
   }
 
   -- in another order they are the same
-  found_permuted : (limit : Option Candidate) (z : ℕ) (found list : List Signed) → IsPermutation found list →
+  pub found_permuted : (limit : Option Candidate) (z : ℕ) (found list : List Signed) → IsPermutation found list →
       AreFoundBy mesh lengths trees d limit z found → AreFoundBy mesh lengths trees d limit z list
   found_permuted limit z found list same h = record {
     each = All-permutation Right found list same h.each;
@@ -142,7 +151,7 @@ module _ (mesh : Mesh) (lengths : List ℕ) (trees : ℕ → Tree) (surface : Is
   }
 
   -- the choice among those kept and those found, by their walks
-  found_choice : (cs next : List Signed) → All Right cs → next ≡ independent_of cs →
+  pub found_choice : (cs next : List Signed) → All Right cs → next ≡ independent_of cs →
       IsFoundChoice mesh (map (found_of mesh trees) cs) (map (found_of mesh trees) next)
   found_choice cs next right is =
       let own : AllByRecursion (λ c. c.signature ≡ class_of mesh d (found_of mesh trees c).walk) cs =
@@ -156,7 +165,7 @@ module _ (mesh : Mesh) (lengths : List ℕ) (trees : ℕ → Tree) (surface : Is
       (found_closed mesh lengths trees surface shortest (map (found_of mesh trees) cs) (loops_found cs right)))
 
   -- all independent ones are among as many as were kept
-  no_fewer : (kept cs next : List Signed) → Independent numbers (map (λ c. c.signature) kept) →
+  pub no_fewer : (kept cs next : List Signed) → Independent numbers (map (λ c. c.signature) kept) →
       ((s : Signed) → Contains kept s → Contains cs s) → next ≡ independent_of cs → length kept ≤ length next
   no_fewer kept cs next free sub is =
       let spanned : AllInSpan numbers (map (λ (c : Signed). c.signature) next) (map (λ (c : Signed). c.signature) cs) =
@@ -216,7 +225,7 @@ module _ (mesh : Mesh) (lengths : List ℕ) (trees : ℕ → Tree) (surface : Is
           (sym at) (none e e_in)
 
   -- where loops in order are
-  kept_merged : (limit : Option Candidate) (set : ℕ → Bool) (z : ℕ) (kept list next : List Signed) → z < mesh.vertices →
+  pub kept_merged : (limit : Option Candidate) (set : ℕ → Bool) (z : ℕ) (kept list next : List Signed) → z < mesh.vertices →
       Kept limit set kept → AreFoundBy mesh lengths trees d limit z list → Sorted stands_before list →
       next ≡ independent_of (merge signed_earlier kept list) → Kept limit (with_vertex z set) next
   kept_merged limit set z kept list next z_in k h order is =
@@ -229,7 +238,7 @@ module _ (mesh : Mesh) (lengths : List ℕ) (trees : ℕ → Tree) (surface : Is
       let grown = (loops_grow_enough mesh lengths trees surface shortest).more (is_sought limit) set z
       (map (found_of mesh trees) kept) (map (found_of mesh trees) list) (map (found_of mesh trees) cs) (map (found_of mesh trees) next)
       k.enough z_in (places_found limit z list z_in h) members
-      (order_from_sorted comes_no_later (map (found_of mesh trees) cs) (sorted_places cs sorted)) (found_choice cs next right is) in
+      (order_from_sorted comes_no_later (map (found_of mesh trees) cs) (sorted_places mesh trees cs sorted)) (found_choice cs next right is) in
       record {
         enough = grown.0;
         each = subst (All Right) (sym is) (all_kept Right cs right);
@@ -238,13 +247,6 @@ module _ (mesh : Mesh) (lengths : List ℕ) (trees : ℕ → Tree) (surface : Is
         independent = subst (λ ks. Independent numbers (map (λ c. c.signature) ks)) (sym is)
             ((greedy_law numbers is_nothing Decides-is_nothing (λ (c : Signed). c.signature)).independent cs);
       }
-    where
-      sorted_places : (cs : List Signed) → Sorted stands_before cs → Sorted comes_no_later (map (found_of mesh trees) cs)
-      sorted_places [] s = tt
-      sorted_places (c ∷ cs) s = (
-        all_mapped (λ k. comes_no_later (found_of mesh trees c) k ≡ true) (found_of mesh trees) cs s.0,
-        sorted_places cs s.1,
-      )
 
   -- for fewer places and vertices
   pub kept_fewer : (limit fewer : Option Candidate) (set part : ℕ → Bool) (kept : List Signed) → Kept limit set kept →
@@ -258,21 +260,11 @@ module _ (mesh : Mesh) (lengths : List ℕ) (trees : ℕ → Tree) (surface : Is
     independent = k.independent;
   }
 
-  pub kept_begun : (choice : Chosen) (set : ℕ → Bool) → choice.kept ≡ [] → ((v : ℕ) → IsTrue (set v) → ⊥) →
-      Kept (limit_of choice) set choice.kept
-  kept_begun choice set none unmarked = subst (λ ks. Kept (limit_of choice) set ks) (sym none) (record {
-    enough = (loops_grow_enough mesh lengths trees surface shortest).fewer (is_sought (limit_of choice))
-        (is_sought (limit_of choice)) no_member set []
-        ((loops_grow_enough mesh lengths trees surface shortest).none (is_sought (limit_of choice))) (λ p sought. sought)
-        (λ v in'. absurd (unmarked v in'));
-    each = λ k c l. absurd (omega arith);
-    order = λ i j c before l. absurd (omega arith);
-    independent = λ flags sum. nothing_chosen flags;
-  })
-    where
-      nothing_chosen : (flags : List Bool) → chosen flags (map (λ (c : Signed). c.signature) []) ≡ []
-      nothing_chosen [] = refl
-      nothing_chosen (b ∷ bs) = refl
+  -- base and edge of what was found have 32 bits
+  pub found_short : mesh.vertices ≤ 2 ^ 32 → edge_count mesh ≤ 2 ^ 32 → (cs : List Signed) → All Right cs → All IsShort cs
+  found_short few_v few_e cs h = λ j c j_in. (let r : Right (get_or cs j c) = h j c j_in in
+      let base_in = (least_base_on_way mesh lengths trees surface positive shortest (get_or cs j c).from (get_or cs j c).candidate.edge r.from_in r.edge_in).0 in
+      record { base = omega (arith, r.base, base_in, few_v); edge = omega (arith, r.edge_in, few_e) })
 
   -- a search from one more vertex
   pub kept_next : (set : ℕ → Bool) (z : ℕ) (old new : Chosen) (found : List Signed) → z < mesh.vertices →
@@ -286,7 +278,7 @@ module _ (mesh : Mesh) (lengths : List ℕ) (trees : ℕ → Tree) (surface : Is
       let list = m.list in
       let there = found_permuted (limit_of old) z found list m.same h in
       let next = independent_of (merge signed_earlier old.kept list) in
-      let order : Sorted stands_before list = sorted_by_number list (short list there.each) m.sorted in
+      let order : Sorted stands_before list = sorted_by_number list (found_short few_v few_e list there.each) m.sorted in
       let grown = kept_merged (limit_of old) set z old.kept list next z_in k there order refl in
       let more : length old.kept ≤ length next = no_fewer old.kept (merge signed_earlier old.kept list) next k.independent
       (λ s has. Contains-permutation (old.kept ++ list) (merge signed_earlier old.kept list) s
@@ -298,22 +290,17 @@ module _ (mesh : Mesh) (lengths : List ℕ) (trees : ℕ → Tree) (surface : Is
       (IsPermutation-sym (old.kept ++ list) (merge signed_earlier old.kept list) (same_members signed_earlier old.kept list))
       (of_choice (merge signed_earlier old.kept list) s has)))) there.sooner)
       (λ v in'. in'))
-    where
-      short : (cs : List Signed) → All Right cs → All IsShort cs
-      short cs h = λ j c j_in. (let r : Right (get_or cs j c) = h j c j_in in
-          let base_in = (least_base_on_way mesh lengths trees surface positive shortest (get_or cs j c).from (get_or cs j c).candidate.edge r.from_in r.edge_in).0 in
-          record { base = omega (arith, r.base, base_in, few_v); edge = omega (arith, r.edge_in, few_e) })
 
   -- ---- at the end
 
-  classes_are : (cs : List Signed) → AllByRecursion Right cs →
+  pub classes_are : (cs : List Signed) → AllByRecursion Right cs →
       map (class_of mesh d) (walks_found (map (found_of mesh trees) cs)) ≡ map (λ c. c.signature) cs
   classes_are [] h = refl
   classes_are (c ∷ cs) h =
       ap (λ n. n ∷ map (class_of mesh d) (walks_found (map (found_of mesh trees) cs))) (sym h.0.signature)
       ∙ ap (λ ns. c.signature ∷ ns) (classes_are cs h.1)
 
-  kept_independent : (kept : List Signed) → All Right kept → Independent numbers (map (λ c. c.signature) kept) →
+  pub kept_independent : (kept : List Signed) → All Right kept → Independent numbers (map (λ c. c.signature) kept) →
       IsIndependent mesh (walks_found (map (found_of mesh trees) kept))
   kept_independent kept right free =
       (independent_by_classes mesh d surface split (walks_found (map (found_of mesh trees) kept))

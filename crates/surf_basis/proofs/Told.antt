@@ -1,10 +1,10 @@
 -- What the tables of a search tell of the loops at its base.
-use Rattle.std.proofs.Common.{◌≡◌, ◌≢◌, ℕ, zero, suc, ◌<◌, ◌≤◌, ◌+◌, ◌*◌, ◌/◌, ◌^◌, ◌++◌, ◌∷◌, [], true, false, not, ltb, List, length, get_or, slice_index, bit_xor, min, All, Contains, Option, Some, None, refl, sym, ap, ◌∙◌, subst, arith, inl, inr}
+use Rattle.std.proofs.Common.{◌≡◌, ◌≢◌, ℕ, zero, suc, ◌<◌, ◌≤◌, ◌+◌, ◌*◌, ◌/◌, ◌^◌, ◌++◌, ◌∷◌, [], true, false, not, ltb, eqb, eqb-true, cond, ◌-◌, List, length, get_or, map, slice_index, bit_xor, min, All, Contains, Option, Some, None, refl, sym, ap, ◌∙◌, subst, arith, inl, inr}
 use Rattle.std.specs.Prelude.{IsTrue, ◌==◌}
 use Rattle.std.specs.Int.Bits.{xor_assoc, xor_comm}
 use Rattle.std.proofs.lemmas.Bool.{cases_Bool, cases_eq, cases_lt, and_parts, and_from, leb-true, le-leb, ltb-true}
 use Rattle.std.proofs.lemmas.Bool.Decides.{nat_tests}
-use Rattle.std.proofs.lemmas.List.{get_or_default, get_or_read}
+use Rattle.std.proofs.lemmas.List.{get_or_default, get_or_read, length-map, get_or-map}
 use Rattle.std.proofs.lemmas.List.Elements.{All-push, Contains-append_left, Contains-append_right}
 use Rattle.surf_graphs.specs.Cells.{Split}
 use Rattle.surf_graphs.specs.Trees.{Tree}
@@ -34,7 +34,7 @@ use Rattle.surf_near.proofs.Linking.{link_all}
 use Rattle.surf_choice.specs.declared.candidate.Candidate.{Candidate}
 use Rattle.surf_choice.specs.declared.candidate.Signed.{Signed}
 use Rattle.surf_choice.specs.Places.{place_of, is_sought}
-use Rattle.surf_basis.specs.Places.{radius_of}
+use Rattle.surf_basis.specs.Places.{AreDistances, radius_of}
 use Rattle.surf_basis.specs.Signing.{AreSignatures}
 use Rattle.surf_basis.specs.Ways.{WayTables, class_at, AreWays}
 use Rattle.surf_basis.specs.Found.{Search, IsReady, IsLinkOf, IsRise, may_matter, is_between, told_loop, is_wanted, wanted_loop, IsTold, ListsAt, AreTold, IsFound, AreFoundBy}
@@ -89,6 +89,22 @@ sooner_size a b c d h = grind (arith, nat_tests)
 
 pub half_below : (n m : ℕ) → 2 * n ≤ m → n ≤ m / 2
 half_below n m le = omega arith
+
+-- half of what comes before a limit is within the radius
+sooner_half : (c : Candidate) (size base n : ℕ) → comes_sooner (place_of c) (size, base) ≡ true → 2 * n ≤ size →
+    n ≤ radius_of (Some c)
+sooner_half c size base n before half = elim (cases_Bool (eqb c.base 0)) [
+  | inl low ↦
+      let at : c.base ≡ 0 = eqb-true c.base 0 low in
+      let less : size < c.length = sooner_than_first c.length c.base size base at before in
+      subst (λ b. n ≤ cond b ((c.length - 1) / 2) (c.length / 2)) (sym low) (half_below n (c.length - 1) (omega (arith, less, half)))
+  | inr high ↦
+      let no_longer : size ≤ c.length = sooner_size c.length c.base size base before in
+      subst (λ b. n ≤ cond b ((c.length - 1) / 2) (c.length / 2)) (sym high) (half_below n c.length (omega (arith, no_longer, half)))
+]
+  where
+    sooner_than_first : (a b c d : ℕ) → b ≡ 0 → comes_sooner (a, b) (c, d) ≡ true → c < a
+    sooner_than_first a b c d at h = grind (arith, nat_tests)
 
 -- ---- lists of them
 
@@ -218,6 +234,19 @@ pub near_there : (mesh m : Mesh) (lengths l : List ℕ) (z far r : ℕ) (t : Nea
 near_there mesh m lengths l z far r t a b c h =
     subst (λ x. IsNear mesh lengths z x t) c (subst (λ x. IsNear mesh x z r t) b (subst (λ x. IsNear x l z r t) a h))
 
+-- what the tables have of settled vertices are their distances
+pub distances_are : (mesh : Mesh) (lengths : List ℕ) (z far : ℕ) (t : NearTables) → IsNear mesh lengths z far t →
+    AreDistances mesh lengths z (map (slice_index t.distances) t.settled)
+distances_are mesh lengths z far t near tree short i l =
+    let n = near.near tree short in
+    let m : length (map (slice_index t.distances) t.settled) ≡ length t.settled = length-map t.settled (slice_index t.distances) in
+    let i_in : i < length t.settled = omega (arith, l, m) in
+    let there = n.inside i i_in in (
+      slice_index t.settled i,
+      there.0,
+      sym (n.tables.ranks (slice_index t.settled i) there.0 there.1) ∙ sym (get_or-map (slice_index t.distances) t.settled i 0 0 i_in),
+    )
+
 -- the lengths of links are positive
 pub links_positive : (mesh m : Mesh) (lengths : List ℕ) (rows : List (List Link)) → m ≡ mesh → AreLinks m lengths rows →
     ArePositive mesh lengths
@@ -322,9 +351,8 @@ module _ (mesh : Mesh) (lengths : List ℕ) (surface : IsSurface mesh) (positive
         far (Some c) is v v_in half =
             let before : comes_sooner (place_of c) (place_at mesh lengths searched z e) ≡ true =
             subst (λ o. is_sought o (place_at mesh lengths searched z e) ≡ true) is sought in
-            let no_longer : loop_length mesh lengths (trees z).tree e ≤ c.length =
-            sooner_size c.length c.base (loop_length mesh lengths (trees z).tree e) (least_base mesh searched z e) before in
-            subst (λ o. (trees z).tree.rank v ≤ radius_of o) (sym is) (half_below ((trees z).tree.rank v) c.length (omega arith))
+            subst (λ o. (trees z).tree.rank v ≤ radius_of o) (sym is)
+            (sooner_half c (loop_length mesh lengths (trees z).tree e) (least_base mesh searched z e) ((trees z).tree.rank v) before half)
 
     -- the lesser end of an edge whose ends were reached was settled
     low_settled : (e : ℕ) → e < edge_count mesh → is_between told e ≡ true →

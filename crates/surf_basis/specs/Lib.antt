@@ -10,3 +10,4 @@ pub mod Found
 pub mod Kept
 pub mod Passing
 pub mod Cut
+pub mod Rounds

@@ -15,7 +15,7 @@ use Rattle.surf_near.specs.Links.{IsShutAt}
 use Rattle.surf_choice.specs.declared.candidate.Candidate.{Candidate}
 use Rattle.surf_choice.specs.Candidates.{Chosen}
 use Rattle.surf_choice.specs.Places.{limit_of}
-use Rattle.surf_basis.specs.Found.{SurfaceTables, AreKeptOf}
+use Rattle.surf_basis.specs.Found.{SurfaceTables, AreKeptOf, IsFirstOf}
 use Rattle.surf_basis.specs.Signing.{AreSignatures}
 
 -- whether a vertex is marked in a table
@@ -55,6 +55,18 @@ abbrev pub StayKept : SurfaceTables → List Bool → List Bool → Chosen → T
 StayKept f old new choice = (lengths : List ℕ) → ArePositive f.mesh lengths →
     AgreeOff f.mesh lengths f.lengths (is_marked old) → AreKeptIn f.mesh lengths f.signs (is_marked old) choice →
     AreKeptIn f.mesh lengths f.signs (is_marked new) choice
+
+-- the first of the loops at the vertices of a set, whichever trees show the choice
+abbrev pub IsFirstIn : Mesh → List ℕ → CotreeTables → (ℕ → Bool) → Option Candidate → Type 0
+IsFirstIn mesh lengths s set first = (trees : ℕ → Trees) → AreChosen mesh lengths trees → (d : Split) →
+    IsSplit (cells_of mesh) d → AreSignatures mesh d s → IsFirstOf mesh lengths (λ x. (trees x).tree) set first
+
+-- where a candidate is the first at the vertices that were marked, by lengths from which those of a finder differ at
+-- these alone, it is the first at those that are marked now
+abbrev pub StaysFirst : SurfaceTables → List Bool → List Bool → Option Candidate → Type 0
+StaysFirst f old new first = (lengths : List ℕ) → ArePositive f.mesh lengths →
+    AgreeOff f.mesh lengths f.lengths (is_marked old) → IsFirstIn f.mesh lengths f.signs (is_marked old) first →
+    IsFirstIn f.mesh lengths f.signs (is_marked new) first
 
 -- where what was kept was enough for the vertices of a set, what is kept now is enough for one more
 abbrev pub KeepsWith : SurfaceTables → ℕ → Chosen → Chosen → Type 0

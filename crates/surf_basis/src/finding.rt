@@ -1,5 +1,5 @@
 //! Searches from one vertex after the other, and the loops that they find.
-ghost use Rattle.std.specs.Prelude.{ℕ, ◌≡◌, ◌<◌, true, IsTrue, All, slice_set, length, IfOk, OnOk};
+ghost use Rattle.std.specs.Prelude.{ℕ, ◌≡◌, ◌<◌, true, IsTrue, All, slice_set, slice_index, map, length, IfOk, OnOk};
 ghost use Rattle.surf_surfaces.specs.Surface.{edge_count, IsSurface};
 ghost use Rattle.surf_surfaces.specs.Walk.{ArePositive};
 ghost use Rattle.surf_firsts.specs.Near.{AgreeOff};
@@ -9,7 +9,7 @@ ghost use Rattle.surf_basis.specs.Based.{IsMeasured};
 ghost use Rattle.surf_basis.specs.Candidates.{IsCycleOf};
 ghost use Rattle.surf_basis.specs.Found.{surface_of, AreFound, IsFirstAt, plain_edges};
 ghost use Rattle.surf_basis.specs.Passing.{is_marked, AreMarkedNear, AreShut};
-ghost use Rattle.surf_basis.specs.Places.{radius_of};
+ghost use Rattle.surf_basis.specs.Places.{AreDistances, radius_of};
 ghost use Rattle.surf_basis.specs.Ways.{AreWays};
 
 use crate::cycle::Cycle;
@@ -97,6 +97,19 @@ impl<'a> Model for Finder<'a> {
         × (f.plain.items ≡ plain_edges f.surface.signatures.now) };
 }
 
+// Lists the distances of the vertices that a search has settled, in its order.
+fn list_distances(alloc: Global, desk: &NearDesk) -> Result<Vec<u64>, NoMemory>
+    requires inside { All (λ v. v < length desk.now.distances) desk.now.settled }
+    ensures distances { IfOk result (λ list.
+        list.items ≡ map (slice_index desk.now.distances) desk.now.settled) }
+{
+    let mut list = Vec::new(alloc);
+    for v in desk.settled() {
+        list.push(desk.distance(*v))?;
+    }
+    Ok(list)
+}
+
 // Lists for each edge whether its signature is empty.
 fn plain_edges(
     alloc: Global,
@@ -182,6 +195,19 @@ impl<'a> Finder<'a> {
     {
         self.surface.mesh.law_of_surface();
         self.links.law_of_links();
+    }
+
+    /// The distances of the vertices from a base, the least first.
+    pub fn distances(&mut self, alloc: Global, base: VertexId) -> Result<Vec<u64>, NoMemory>
+        requires base { base < self.old.mesh.vertices }
+        ensures each { IfOk result (λ list. AreDistances self.old.mesh self.old.lengths base
+            list.items) }
+        ensures same { self.new ≡ self.old }
+    {
+        self.surface.mesh.law_of_surface();
+        self.links.law_of_links();
+        self.tables.desk.grow(&self.links, base, u64::MAX);
+        list_distances(alloc, &self.tables.desk)
     }
 
     /// Marks a vertex, and bars the ways through it.

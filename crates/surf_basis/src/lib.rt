@@ -5,17 +5,30 @@
 //! before it (J. Erickson and K. Whittlesey, "Greedy Optimal Homotopy and Homology Generators",
 //! SODA 2005), and the first candidate is a shortest cycle that doesn't separate the surface.
 //!
-//! The bases that the basis needs are found first. Searches begin at few vertices, such that every
-//! closed walk that isn't null meets one of them. Where lengths differ these are the vertices of a
-//! cut: the ends of the left edges and the vertices on their ways up the tree, without which the
-//! surface is an open disc. Where all lengths are the same they are ends of the edges whose
-//! signatures aren't empty, since a closed walk that isn't null has such an edge. From each of
-//! these vertices a search finds the loops of edges, with the least vertex on a shortest way to
-//! them, and the shortest independent ones of all are kept: the loops of the basis have their
-//! lengths and their least vertices as bases. Once as many are kept as there may be, a search goes
-//! no farther than half the length of the last, since the ends of an edge are within half the
-//! length of its loop. The vertices are taken in an order that scatters them, so that short loops
-//! of all parts are found soon.
+//! The bases that the basis needs are found first. A search from a vertex finds the loops of edges,
+//! with the least vertex on a shortest way to them, and the shortest independent ones of all are
+//! kept: the loops of the basis have their lengths and their least vertices as bases. Once as many
+//! are kept as there may be, a search goes no farther than half the length of the last, since the
+//! ends of an edge are within half the length of its loop.
+//!
+//! Most vertices need not be searched as far as the longest loop of the basis goes. Where the
+//! signature of an edge is a sum of the first of the loops that are kept, a loop over it that is
+//! longer than all of these is a sum of shorter ones, or it goes over another edge too that needs
+//! more of them (`surf_caps`). So each edge asks for a search from one of its ends, up to the
+//! length of the last of those loops: this caps the vertex. Where one handle is long and many are
+//! short, few vertices have great caps. But what is kept after one search makes caps too great:
+//! loops of far handles look long from there. So searches go in rounds. The first one finds what is
+//! no longer than four times the first loop, each further one what is four times as long, and each
+//! sets caps anew by what is kept by then. The last has caps alone. What a vertex was searched for
+//! in one round isn't sought there again.
+//!
+//! Where all handles are alike caps win nothing. There it may cost less to search from vertices
+//! such that every closed walk that isn't null meets one of them, which is estimated from how many
+//! vertices are within a radius (`costs.rt`). Where lengths differ these are the vertices of a cut:
+//! the ends of the left edges and the vertices on their ways up the tree, without which the surface
+//! is an open disc. Where all lengths are the same they are ends of the edges whose signatures
+//! aren't empty, since a closed walk that isn't null has such an edge. The vertices are taken in an
+//! order that scatters them, so that short loops of all parts are found soon.
 //!
 //! Before such a search a scout may go from the vertex, somewhat farther than the search must.
 //! Where all loops that it finds are longer than kept ones of which they are sums, by more than a
@@ -44,9 +57,12 @@
 
 mod basis;
 mod cert;
+mod costs;
+mod covering;
 mod cut;
 mod cycle;
 mod finding;
+mod first_loops;
 mod foremost;
 mod listing;
 mod marking;
@@ -54,6 +70,7 @@ mod nearby;
 mod passing;
 mod placing;
 mod reaching;
+mod rounds;
 mod searching;
 mod shortest;
 mod signing;

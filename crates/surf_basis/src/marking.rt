@@ -80,7 +80,7 @@ fn count_edge(mesh: &HalfMesh, signatures: &CotreeDesk, degrees: &mut [u32], edg
 }
 
 // Counts at each vertex the edges there whose signatures aren't empty.
-fn count_signed(mesh: &HalfMesh, signatures: &CotreeDesk, degrees: &mut [u32])
+pub(crate) fn count_signed(mesh: &HalfMesh, signatures: &CotreeDesk, degrees: &mut [u32])
     requires table { length signatures.now.signatures ≡ edge_count mesh.now }
     requires size { length degrees.old ≡ mesh.now.vertices }
     requires none { (v : ℕ) → v < mesh.now.vertices → slice_index degrees.old v ≡ 0 }
@@ -93,7 +93,7 @@ fn count_signed(mesh: &HalfMesh, signatures: &CotreeDesk, degrees: &mut [u32])
 }
 
 // Two vertices, the one of the lesser degree first, and as they are where both have the same.
-fn lesser_first(degrees: &[u32], low: VertexId, high: VertexId) -> (VertexId, VertexId)
+pub(crate) fn lesser_first(degrees: &[u32], low: VertexId, high: VertexId) -> (VertexId, VertexId)
     requires low { low < length degrees.now }
     requires high { high < length degrees.now }
     ensures { result ≡ by_degree (slice_index degrees.now) (low, high) }

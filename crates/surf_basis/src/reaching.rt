@@ -39,11 +39,12 @@ pub(crate) fn is_sought(candidate: &Candidate, limit: &Option<Candidate>) -> boo
 }
 
 // How far a search has to go that finds the loops before a limit: the ends of an edge are within
-// half the length of its loop.
+// half the length of its loop. No loop as long as a limit at vertex 0 comes before it.
 pub(crate) fn radius(limit: &Option<Candidate>) -> u64
     ensures radius { result ≡ radius_of limit.now }
 {
     match limit {
+        Some(last) if last.base.number() == 0 => last.length.saturating_sub(1) / 2,
         Some(last) => last.length / 2,
         None => u64::MAX,
     }

@@ -1,7 +1,8 @@
 //! Searches from few vertices.
-ghost use Rattle.std.specs.Prelude.{◌≡◌, ◌<◌, ◌≤◌, ◌^◌, ℕ, true, false, [], All, IsPermutation, length};
+ghost use Rattle.std.specs.Prelude.{◌≡◌, ◌<◌, ◌≤◌, ◌^◌, ℕ, true, false, All, IsPermutation, length};
 ghost use Rattle.std.specs.Prelude.{slice_index_or, IfOk, OnOk, IsTrue};
 ghost use Rattle.std.specs.List.Sorted.{IsNonDecreasingBy};
+ghost use Rattle.surf_z2.specs.Space.{no_member};
 ghost use Rattle.surf_surfaces.specs.Homology.{IsFullCount};
 ghost use Rattle.surf_surfaces.specs.Walk.{ArePositive};
 ghost use Rattle.surf_surfaces.specs.FewBases.{AreBases, MeetsAll};
@@ -13,16 +14,17 @@ ghost use Rattle.surf_basis.specs.Passing.{is_marked, AreKeptIn, StayKept, Keeps
 ghost use Rattle.surf_basis.specs.Marks.{HasBases};
 ghost use Rattle.surf_basis.specs.Kept.{HavePlacesOfBasis};
 ghost use Rattle.surf_basis.specs.Found.{surface_of, is_among, IsNext, AreKeptFrom, IsFirstAmong, IsFirstPlace};
-ghost use Rattle.surf_base.specs.declared.limits.TheConstants.{MAX_LOOPS};
 
 use crate::finding::Finder;
-use crate::marking::{list_marked, signed_ends};
+use crate::first_loops::first_passed;
+use crate::marking::list_marked;
 use crate::passing::{Pace, spare};
 use crate::surface::SignedSurface;
 use std::alloc::Global;
 use surf_base::{NoMemory, VertexId};
 use surf_choice::{Candidate, Choice, Signed};
 use surf_mesh::HalfMesh;
+use surf_tree::even_length;
 
 // What loops are sorted by: the length, the base and the number of the edge.
 fn order_of(signed: &Signed) -> u128
@@ -58,9 +60,9 @@ pub(crate) fn keep_loops(found: &mut [Signed], choice: &mut Choice) -> Result<()
 /// A finder that goes ahead of another one: the ways through vertices that are done with are barred
 /// to it. And when it does so.
 #[derive(Drop)]
-struct Scout<'a> {
-    finder: Finder<'a>,
-    pace: Pace,
+pub(crate) struct Scout<'a> {
+    pub finder: Finder<'a>,
+    pub pace: Pace,
 }
 
 // Searches from a vertex as far as a limit, if that goes beyond what must be found. Where all loops
@@ -173,7 +175,8 @@ fn keep_found(
     requires positive { IsSurface finder.old.mesh × ArePositive finder.old.mesh finder.old.lengths }
     requires few { (finder.old.mesh.vertices ≤ 2 ^ 32) × (edge_count finder.old.mesh ≤ 2 ^ 32) }
     requires scout { scout.old.finder ≡ finder.old }
-    requires none { choice.old.kept ≡ [] }
+    requires start { AreKeptIn finder.old.mesh finder.old.lengths finder.old.signs no_member
+        choice.old }
     ensures kept { OnOk result (AreKeptFrom finder.old.mesh finder.old.lengths finder.old.signs
         vertices.now choice.new) }
     ensures width { choice.new.width ≡ choice.old.width }
@@ -213,38 +216,39 @@ pub(crate) fn bases_of(
     list_marked(alloc, &marked)
 }
 
-/// Loops among whose lengths and least bases are the lengths and the bases of the basis that is
-/// chosen, by searches from vertices of which every closed walk that isn't null meets one.
-pub(crate) fn sufficient_loops(
+/// Keeps loops among whose lengths and least bases are the lengths and the bases of the basis that
+/// is chosen, by searches from vertices of which every closed walk that isn't null meets one.
+/// Whatever was kept before, they are kept in the end.
+pub(crate) fn search_vertices(
     alloc: Global,
     surface: &SignedSurface<'_>,
     vertices: &[VertexId],
     finder: &mut Finder<'_>,
-    count: usize,
-) -> Result<Choice, NoMemory>
+    choice: &mut Choice,
+) -> Result<(), NoMemory>
     requires finder { finder.old ≡ surface_of surface.now }
     requires lengths { length surface.now.lengths.now ≡ edge_count surface.now.mesh.now }
-    requires signed { AreSigned surface.now.mesh.now surface.now.signatures.now count }
+    requires signed { AreSigned surface.now.mesh.now surface.now.signatures.now choice.old.width }
     requires vertices { All (λ v. v < surface.now.mesh.now.vertices) vertices.now }
     requires met { MeetsAll surface.now.mesh.now (is_among vertices.now) }
-    requires full { IsFullCount surface.now.mesh.now count }
-    requires few { count ≤ MAX_LOOPS }
-    ensures inside { IfOk result (λ found.
-        All (λ s. s.candidate.base < surface.now.mesh.now.vertices) found.kept) }
-    ensures places { IfOk result (λ found. HavePlacesOfBasis surface.now.mesh.now
-        surface.now.lengths.now found.kept) }
+    requires full { IsFullCount surface.now.mesh.now choice.old.width }
+    requires start { AreKeptIn finder.old.mesh finder.old.lengths finder.old.signs no_member
+        choice.old }
+    ensures inside { OnOk result (All (λ s. s.candidate.base < surface.now.mesh.now.vertices)
+        choice.new.kept) }
+    ensures places { OnOk result (HavePlacesOfBasis surface.now.mesh.now surface.now.lengths.now
+        choice.new.kept) }
     ensures same { finder.new ≡ finder.old }
 {
     surface.mesh.law_of_surface();
     surface.lengths.law_of_lengths();
-    let mut choice = Choice::make(alloc, count as u32)?;
     let mut scout = Scout {
         finder: Finder::make(alloc, surface)?,
         pace: Pace::new(),
     };
-    keep_found(alloc, finder, &mut scout, vertices, &mut choice)?;
+    keep_found(alloc, finder, &mut scout, vertices, choice)?;
     choice.law_of_choice();
-    Ok(choice)
+    Ok(())
 }
 
 // The first of the loops at the vertices of a list.
@@ -266,20 +270,30 @@ fn first_found(
     Ok(first)
 }
 
-/// The length and the base of the first candidate, as those of the first loop that is found. None
-/// where each is null.
+/// The length and the base of the first candidate, as those of the first loop that is found at some
+/// vertices, of which every closed walk that isn't null meets one. None where each is null. Where
+/// all lengths are the same no vertex would be passed over, and no scout goes ahead.
 pub(crate) fn first_place(
     alloc: Global,
     surface: &SignedSurface<'_>,
+    vertices: &[VertexId],
     count: usize,
 ) -> Result<Option<Candidate>, NoMemory>
     requires lengths { length surface.now.lengths.now ≡ edge_count surface.now.mesh.now }
     requires signed { AreSigned surface.now.mesh.now surface.now.signatures.now count }
+    requires vertices { All (λ v. v < surface.now.mesh.now.vertices) vertices.now }
+    requires met { MeetsAll surface.now.mesh.now (is_among vertices.now) }
     ensures first { IfOk result (IsFirstPlace surface.now.mesh.now surface.now.lengths.now) }
 {
     surface.mesh.law_of_surface();
     surface.lengths.law_of_lengths();
-    let vertices = signed_ends(alloc, surface.mesh, surface.signatures)?;
     let mut finder = Finder::make(alloc, surface)?;
-    first_found(&mut finder, &vertices)
+    if even_length(surface.lengths).is_some() {
+        return first_found(&mut finder, vertices);
+    }
+    let mut scout = Scout {
+        finder: Finder::make(alloc, surface)?,
+        pace: Pace::new(),
+    };
+    first_passed(alloc, &mut finder, &mut scout, vertices)
 }

@@ -11,9 +11,10 @@ ghost use Rattle.surf_basis.specs.Found.{IsFirstPlace};
 ghost use Rattle.surf_basis.specs.Cycles.{first_of, IsFirstCandidate, IsShortestCycle, AllSeparate};
 ghost use Rattle.surf_base.specs.declared.limits.TheConstants.{MAX_LOOPS};
 
+use crate::cut::searched_vertices;
 use crate::cycle::Cycle;
 use crate::searching::first_place;
-use crate::signing::signed_cotree;
+use crate::signing::signed_desk;
 use crate::surface::SignedSurface;
 use crate::walking::cycle_of;
 use std::alloc::Global;
@@ -50,14 +51,16 @@ fn place_of_first(
 {
     mesh.law_of_surface();
     lengths.law_of_lengths();
-    let signed = signed_cotree(alloc, mesh, lengths)?;
-    let count = signed.left().len();
+    let desk = signed_desk(alloc, mesh, lengths)?;
+    let vertices = searched_vertices(alloc, mesh, lengths, &desk)?;
+    let count = desk.cotree().left().len();
+    let signed = desk.into_cotree();
     let surface = SignedSurface {
         mesh,
         lengths,
         signatures: &signed,
     };
-    first_place(alloc, &surface, count)
+    first_place(alloc, &surface, &vertices, count)
 }
 
 // The first loop at a base.

@@ -7,7 +7,6 @@ ghost use Rattle.surf_base.specs.declared.limits.TheConstants.{MAX_LOOPS};
 
 use std::alloc::Global;
 use surf_base::{NoMemory, VertexId};
-use surf_cotree::CotreeDesk;
 use surf_lengths::Lengths;
 use surf_loops::LoopDesk;
 use surf_mesh::HalfMesh;
@@ -31,20 +30,4 @@ pub(crate) fn signed_desk(
     desk.greedy(mesh, lengths, VertexId::new(0));
     desk.sign(mesh);
     Ok(desk)
-}
-
-/// A tree of faces with the signatures of all edges, by the trees that are chosen at vertex 0. Of
-/// the tree of vertices and the weights nothing is kept, so that their memory is free for searches.
-pub(crate) fn signed_cotree(
-    alloc: Global,
-    mesh: &HalfMesh,
-    lengths: &Lengths,
-) -> Result<CotreeDesk, NoMemory>
-    requires lengths { length lengths.now ≡ edge_count mesh.now }
-    requires few { loop_count mesh.now ≤ MAX_LOOPS }
-    ensures signed { IfOk result (λ cotree. AreSigned mesh.now cotree (length cotree.left)) }
-    ensures full { IfOk result (λ cotree. IsFullCount mesh.now (length cotree.left)) }
-{
-    let desk = signed_desk(alloc, mesh, lengths)?;
-    Ok(desk.into_cotree())
 }

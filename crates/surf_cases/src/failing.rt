@@ -83,8 +83,8 @@ fn each_read_fails_once(rt: HostRuntime) -> Result<(), Fail> {
         ("confirm torus33 W evidence", "valid null\n", 22),
         ("shortest torus33 unit row", "shortest 3 0 2 1 0\n", 19),
         ("sew cut", pillow(), 10),
-        ("disc cut", "disc\nborder 4\n", 10),
         ("cut pillow unit 0 through ends", pillow_cut(), 8),
+        ("disc cut", "disc\nborder 4\n", 10),
     ] {
         let found = first_difference(alloc, line, text, calls)?;
         assert_eq!(rt; found, (calls, ""), "{line}");

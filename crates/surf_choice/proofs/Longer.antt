@@ -7,7 +7,7 @@ use Rattle.std.proofs.lemmas.List.Elements.{All-from_recursion, All-append}
 use Rattle.surf_z2.specs.Order.{IsInOrder}
 use Rattle.surf_z2.specs.Space.{numbers, Spanned}
 use Rattle.surf_choice.specs.declared.candidate.Signed.{Signed}
-use Rattle.surf_choice.specs.Candidates.{signatures, IsLonger}
+use Rattle.surf_choice.specs.Candidates.{signatures, IsLonger, IsSumOfLength}
 use Rattle.surf_choice.specs.Places.{stands_before}
 
 -- one that stands before another is no longer
@@ -60,3 +60,18 @@ longer_more kept m n items i s l same le all one =
     (All-append (IsLonger kept n) (take i items) (s ∷ [])
     (λ k d k_in. longer_less kept m n (get_or (take i items) k d) le (all k d k_in))
     (All-from_recursion (IsLonger kept n) (s ∷ []) (one, tt)))
+
+-- the last of as few as it takes is no longer than the last of any that will do
+pub sum_no_longer : (kept : List Signed) (n most set : ℕ) (d : Signed) → IsInOrder stands_before kept →
+    IsSumOfLength kept most set → n ≤ length kept → (n ≡ 0 → ⊥) →
+    ((m : ℕ) → m < n → Spanned numbers (signatures (take m kept)) set → ⊥) →
+    (get_or kept (n - 1) d).candidate.length ≤ most
+sum_no_longer kept n most set d order h n_in some least = elim (cases_lt h.count n) [
+  | inl less ↦ absurd (least h.count less h.sum)
+  | inr more ↦
+      let in' = h.count_in in
+      let at : suc (h.count - 1) ≡ h.count = omega (arith, more, some) in
+      let is : (get_or kept (h.count - 1) d).candidate.length ≡ most = h.last (h.count - 1) d at in
+      let rise = no_longer_up_to kept (n - 1) (h.count - 1) d order (omega (arith, more)) (omega (arith, in', more, some)) in
+      omega (arith, rise, is)
+]

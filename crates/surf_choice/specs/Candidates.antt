@@ -53,3 +53,11 @@ pub record IsLonger (kept : List Signed) (margin : ℕ) (s : Signed) : Type 0 wh
   pub count_in : count ≤ length kept
   pub sum : Spanned numbers (signatures (take count kept)) s.signature
   pub longer : (k : ℕ) → suc k ≡ count → (slice_index_or kept k s).candidate.length + margin ≤ s.candidate.length
+
+-- a set is a sum of the first of those kept, so many of them, and the last of these is so long: 0 where there is none
+pub record IsSumOfLength (kept : List Signed) (most set : ℕ) : Type 0 where
+  pub count : ℕ
+  pub count_in : count ≤ length kept
+  pub sum : Spanned numbers (signatures (take count kept)) set
+  pub none : count ≡ 0 → most ≡ 0
+  pub last : (k : ℕ) (s : Signed) → suc k ≡ count → (slice_index_or kept k s).candidate.length ≡ most

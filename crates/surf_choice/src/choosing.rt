@@ -3,7 +3,7 @@ ghost use Rattle.std.specs.Prelude.{ℕ, ◌≡◌, ◌≢◌, ◌<◌, ◌≤�
 ghost use Rattle.surf_z2.specs.Order.{merge, IsInOrder};
 ghost use Rattle.surf_choice.specs.Candidates.{signed_earlier, independent_of};
 ghost use Rattle.surf_choice.specs.Places.{stands_before};
-ghost use Rattle.surf_choice.specs.Candidates.{IsLonger};
+ghost use Rattle.surf_choice.specs.Candidates.{IsLonger, IsSumOfLength};
 ghost use Rattle.surf_choice.specs.Places.{limit_of};
 ghost use Rattle.surf_base.specs.declared.limits.TheConstants.{MAX_LOOPS};
 
@@ -13,6 +13,7 @@ use crate::merging::{first_change, merge, sift};
 use std::alloc::Global;
 use std::marker::Model;
 use surf_base::NoMemory;
+use surf_bits::Bits;
 
 /// The candidates that are kept, in order. Its width is how many may be independent, and there is
 /// room for as many.
@@ -111,6 +112,24 @@ impl Choice {
             .candidate
             .length
             .saturating_sub(last.candidate.length)
+    }
+
+    /// The length of the last of the first that are kept, of as few as it takes to make a set a sum
+    /// of some of them: 0 where the set is empty, and the greatest number where it is no sum of
+    /// those kept.
+    pub fn sum_length(&self, set: &Bits<'_>) -> u64
+        requires small { set.now < 2 ^ self.now.width }
+        ensures sum { result ≢ 18446744073709551615 → IsSumOfLength self.now.kept result set.now }
+        ensures least { IsInOrder stands_before self.now.kept → (most : ℕ) →
+            IsSumOfLength self.now.kept most set.now → result ≤ most }
+    {
+        let Some(count) = self.rows.reach(set) else {
+            return u64::MAX;
+        };
+        if count == 0 {
+            return 0;
+        }
+        self.kept[count - 1].candidate.length
     }
 
     /// By how much all of some loops are longer than those that are kept and of which they are

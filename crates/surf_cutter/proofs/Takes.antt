@@ -1,29 +1,25 @@
 -- Taking a cut back to given vertices.
-use Rattle.std.proofs.Common.{◌≡◌, ◌≢◌, ℕ, ◌+◌, ◌<◌, ◌≤◌, inl, inr, refl, sym, subst, ap, ◌∙◌, eqb, List, [], ◌∷◌, length, take, get_or, Bool, true, false, not, ◌||◌, arith, ne_eqb}
+use Rattle.std.proofs.Common.{◌≡◌, ◌≢◌, ℕ, ◌+◌, ◌<◌, ◌≤◌, inl, inr, refl, sym, subst, ap, ◌∙◌, eqb, List, length, take, get_or, Bool, true, false, not, ◌||◌, arith, ne_eqb}
 use Rattle.std.proofs.Math.ListN.{set}
-use Rattle.std.proofs.lemmas.Bool.{cases_eq, cases_lt, eq-eqb, or_right}
-use Rattle.std.proofs.lemmas.List.{get_or-set_same, get_or-set_other, length-set, get_or_default}
+use Rattle.std.proofs.lemmas.Bool.{cases_eq, eq-eqb, or_right}
+use Rattle.std.proofs.lemmas.List.{get_or-set_same, get_or-set_other}
 use Rattle.std.proofs.lemmas.List.Folds.{list_any_more, list_any_at}
 use Rattle.std.specs.Prelude.{Contains}
-use Rattle.std.specs.List.{list_any}
 use Rattle.surf_z2.specs.Parity.{count_below}
 use Rattle.surf_z2.specs.Space.{Chain}
 use Rattle.surf_graphs.specs.Trees.{Tree}
-use Rattle.surf_surfaces.specs.Cotree.{cotree_edges}
-use Rattle.surf_surfaces.specs.Disc.{IsOpening}
 use Rattle.surf_surfaces.specs.Mesh.{Mesh}
 use Rattle.surf_surfaces.specs.Surface.{edge_count, IsSurface}
-use Rattle.surf_opening.specs.ChosenCut.{AreDivided, cut_degree, full_cut}
+use Rattle.surf_opening.specs.ChosenCut.{AreDivided, full_cut}
 use Rattle.surf_opening.specs.Laws.{cut_count, without}
 use Rattle.surf_opening.proofs.ChosenOpenings.{some_list}
-use Rattle.surf_seams.specs.Through.{IsCutThrough, IsTakenBackTo, HasEndsIn}
+use Rattle.surf_seams.specs.Through.{IsCutThrough, IsTakenBackTo}
 use Rattle.surf_seams.proofs.AtBase.{full_cuts_start}
-use Rattle.surf_seams.proofs.Openings.{taken_back_are_trimmed, openings_through_are_openings, points_are_on_border}
+use Rattle.surf_seams.proofs.Openings.{taken_back_are_trimmed}
 use Rattle.surf_seams.proofs.Taking.{taking_back_goes_on, taken_back_are_through}
-use Rattle.surf_cutter.specs.Boundary.{OpensToDisc}
-use Rattle.surf_cutter.specs.Kinds.{Kind, is_point, through, HaveCopiesOnBorder}
-use Rattle.surf_cutter.specs.Opened.{OpenMesh, IsOpenedInOrder, MarksCotree, IsHeld, IsChosenFor, IsNearFor, IsChosenCut, AreTurnedOver}
-use Rattle.surf_cutter.specs.Trimming.{is_cut, is_marked, AreDegrees, AreMarked, IsTakenBack, IsTakenFrom, IsTakenTo, HasNoLooseBelow, HasMarkedEnds}
+use Rattle.surf_cutter.specs.Kinds.{is_point, through}
+use Rattle.surf_cutter.specs.Opened.{MarksCotree, IsHeld, IsNearFor, IsChosenCut, AreTurnedOver}
+use Rattle.surf_cutter.specs.Trimming.{is_cut, is_marked, AreDegrees, IsTakenBack, IsTakenFrom, IsTakenTo, HasNoLooseBelow, HasMarkedEnds}
 use Rattle.surf_cutter.proofs.Trims.{flag_off}
 
 -- ---- marks

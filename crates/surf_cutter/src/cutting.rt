@@ -1,5 +1,5 @@
 //! Cutting a surface open along edges outside a tree of its faces.
-ghost use Rattle.std.specs.Prelude.{◌≡◌, ◌<◌, false, true, length, All, IfOk, OnOk, IfErr};
+ghost use Rattle.std.specs.Prelude.{◌≡◌, ◌<◌, length, All, IfOk, OnOk, IfErr};
 ghost use Rattle.std.specs.List.{sum_by};
 ghost use Rattle.surf_surfaces.specs.Disc.{IsOpening};
 ghost use Rattle.surf_surfaces.specs.SideNumber.{side_count};
@@ -73,11 +73,7 @@ fn choose_full(mesh: &HalfMesh, flags: &mut [bool])
 
 // Makes the flags of the trimmed cut of those of a tree of the faces: while more than two edges
 // are cut and a vertex has exactly one of them, the greatest such vertex loses it.
-fn choose_trimmed(
-    alloc: Global,
-    mesh: &HalfMesh,
-    flags: &mut [bool],
-) -> Result<(), NoMemory>
+fn choose_trimmed(alloc: Global, mesh: &HalfMesh, flags: &mut [bool]) -> Result<(), NoMemory>
     requires flags { length flags.old ≡ edge_count mesh.now }
     requires held { IsHeld mesh.now flags.old }
     ensures chosen { OnOk result (IsChosenCut mesh.now flags.old trimmed flags.new) }

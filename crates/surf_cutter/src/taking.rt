@@ -28,13 +28,7 @@ pub(crate) fn mark_points(
 
 // Takes edges back from a vertex on, as long as it has exactly one and no mark, and its other end
 // after it.
-fn take_from(
-    mesh: &HalfMesh,
-    marks: &[bool],
-    cut: &mut [bool],
-    degree: &mut [u32],
-    start: VertexId,
-)
+fn take_from(mesh: &HalfMesh, marks: &[bool], cut: &mut [bool], degree: &mut [u32], start: VertexId)
     requires flags { length cut.old ≡ edge_count mesh.now }
     requires degrees { AreDegrees mesh.now cut.old degree.old }
     requires marks { length marks.now ≡ mesh.now.vertices }

@@ -98,7 +98,12 @@ fn first_cut(edges: &[EdgeId], cut: &[bool]) -> usize
 }
 
 /// Takes the only cut edge of a vertex out of the cut, and tells its other end.
-pub(crate) fn take_back(mesh: &HalfMesh, cut: &mut [bool], degree: &mut [u32], leaf: VertexId) -> VertexId
+pub(crate) fn take_back(
+    mesh: &HalfMesh,
+    cut: &mut [bool],
+    degree: &mut [u32],
+    leaf: VertexId,
+) -> VertexId
     requires flags { length cut.old ≡ edge_count mesh.now }
     requires degrees { AreDegrees mesh.now cut.old degree.old }
     requires vertex { leaf < mesh.now.vertices }

@@ -5,7 +5,6 @@ use Rattle.surf_base.specs.Outside.{Files}
 use Rattle.surf_base.specs.declared.limits.LimitKind.TheVariants.{Vertices, Faces, Loops, BasisVertices}
 use Rattle.surf_base.specs.declared.limits.LimitKind.TheVariants.{CertificateVertices, CoverLoops, CoverNodes}
 use Rattle.surf_gen.specs.Made.{made_values}
-use Rattle.surf_off.specs.Off.{OffParts}
 use Rattle.surf_surfaces.specs.Mesh.{Mesh}
 use Rattle.surf_surfaces.specs.Surface.{face_count, loop_count}
 use Rattle.surf_words.specs.Shapes.{mesh_of}

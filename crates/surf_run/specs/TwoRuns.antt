@@ -82,9 +82,8 @@ CutsAreSewn =
     Answer (codes "cut" ∷ mesh ∷ lengths ∷ base ∷ kind ∷ []) files 0 text [] → bytes_of later disc ≡ Some text →
     CanBeRead text → IsSewnBack files mesh later disc
 
--- What `sew` writes, in a later run, of what `cut` through the vertices of a file wrote within the
--- limits of a mesh text is read as the mesh that was cut, with its keyword, vertex lines, faces and
--- colours.
+-- What `sew` writes, in a later run, of what `cut` wrote through the vertices of a file, within the limits of a mesh
+-- text, is read as the mesh that was cut, with its keyword, vertex lines, faces and colours.
 abbrev pub CutsThroughAreSewn : Type 0
 CutsThroughAreSewn =
     (files later : Files) (mesh lengths base kind points disc text : List ℕ) →

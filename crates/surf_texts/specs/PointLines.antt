@@ -1,5 +1,5 @@
 -- The lines of the first fault of a file of vertices, and of a cut through them.
-use Rattle.std.specs.Prelude.{List, [], ◌∷◌}
+use Rattle.std.specs.Prelude.{[], ◌∷◌}
 use Rattle.surf_class.specs.declared.points.PointFault.{PointFault}
 use Rattle.surf_class.specs.declared.points.PointFault.TheVariants.{Empty, Form, NotVertex, Trailing, Memory}
 use Rattle.surf_texts.specs.Cause.{Cause, starved, told}

@@ -2,6 +2,7 @@ use Rattle.std.proofs.Common.{◌≡◌, ◌<◌, ◌+◌, ◌++◌, ℕ, Bool, 
 use Rattle.std.specs.Prelude.{IsTrue, slice_index}
 use Rattle.std.proofs.lemmas.Bool.{cases_lt}
 use Rattle.std.proofs.lemmas.List.{get_or_default, length-replicate}
+use Rattle.surf_z2.specs.Space.{no_member}
 use Rattle.surf_graphs.specs.Trees.{Tree}
 use Rattle.surf_surfaces.proofs.FirstCycleLaws.{shortest_trees}
 use Rattle.surf_choice.specs.Places.{limit_of}
@@ -10,7 +11,7 @@ use Rattle.surf_basis.specs.Passing.{is_marked, AreKeptIn, IsAhead}
 use Rattle.surf_basis.proofs.Barred.{ahead_first}
 use Rattle.surf_basis.proofs.Marked.{written_back}
 use Rattle.surf_basis.proofs.PassedOver.{none_marked, among_marked}
-use Rattle.surf_basis.proofs.Searched.{kept_begun, kept_fewer}
+use Rattle.surf_basis.proofs.Searched.{kept_fewer}
 use Rattle.surf_basis.proofs.searching.keep_found.Goals as goal
 
 pub loop-v-init : goal.loop-v-init
@@ -24,10 +25,11 @@ loop-v-init c =
       width = refl;
       count = ap (λ (ms : List Bool). length ms) is ∙ length-replicate n false ∙ c.vertices.ensures.vertices;
       kept = λ trees chosen d split are.
-          kept_begun f.mesh f.lengths (λ x. (trees x).tree) c.requires.positive.0 c.requires.positive.1
-          (shortest_trees f.mesh f.lengths c.requires.positive.0 c.requires.positive.1 trees chosen) d split c.args.choice.now
-          (is_marked c.in_ok-marks.marks.items) c.requires.none
-          (λ v on. none_marked n v (subst (λ (ms : List Bool). IsTrue (is_marked ms v)) is on));
+          kept_fewer f.mesh f.lengths (λ x. (trees x).tree) c.requires.positive.0 c.requires.positive.1
+          (shortest_trees f.mesh f.lengths c.requires.positive.0 c.requires.positive.1 trees chosen) d split (limit_of c.args.choice.now)
+          (limit_of c.args.choice.now) no_member (is_marked c.in_ok-marks.marks.items) c.args.choice.now.kept
+          (c.requires.start trees chosen d split are) (λ p sought. sought)
+          (λ v on. absurd (none_marked n v (subst (λ (ms : List Bool). IsTrue (is_marked ms v)) is on)));
       all = λ i l. absurd (omega (arith, l));
     }
 

@@ -1,7 +1,4 @@
-use Rattle.std.proofs.Common.{◌≡◌, ◌≤◌, ◌<◌, ◌∙◌, length, sym, subst, ℕ}
-use Rattle.surf_opening.specs.Laws.{cut_count}
-use Rattle.surf_z2.specs.Parity.{count_below}
-use Rattle.surf_cutter.specs.Trimming.{is_cut}
+use Rattle.std.proofs.Common.{◌≤◌, ◌<◌, ◌∙◌, subst, ℕ}
 use Rattle.surf_cutter.proofs.Takes.{through_is_chosen, through_is_near, counted_cut}
 use Rattle.surf_cutter.proofs.cutting.choose_through.Goals as goal
 

@@ -1,15 +1,14 @@
-use Rattle.std.proofs.Common.{◌≡◌, sym, ap, subst, arith}
+use Rattle.std.proofs.Common.{sym, subst}
 use Rattle.surf_surfaces.specs.Homology.{IsFullCount}
 use Rattle.surf_lengths.proofs.Positive.{lengths_positive}
-use Rattle.surf_choice.specs.Candidates.{Chosen}
 use Rattle.surf_basis.specs.Found.{SurfaceTables, AreKeptFrom}
 use Rattle.surf_basis.proofs.Looped.{signs_long}
 use Rattle.surf_basis.proofs.Sufficient.{bases_inside, places_enough}
-use Rattle.surf_basis.proofs.searching.sufficient_loops.Goals as goal
+use Rattle.surf_basis.proofs.searching.search_vertices.Goals as goal
 
-pub make-requires-2-clause-signatures : goal.make-requires-2-clause-signatures
-make-requires-2-clause-signatures c =
-    signs_long c.args.surface.now.mesh.now c.args.surface.now.signatures.now c.args.count c.requires.signed
+pub make-requires-clause-signatures : goal.make-requires-clause-signatures
+make-requires-clause-signatures c =
+    signs_long c.args.surface.now.mesh.now c.args.surface.now.signatures.now c.args.choice.now.width c.requires.signed
 
 pub returns-clause-inside : goal.returns-clause-inside
 returns-clause-inside c =
@@ -20,7 +19,7 @@ returns-clause-inside c =
     let kept : AreKeptFrom mesh lengths s c.args.vertices.now c.keep_found.new.choice =
     subst (λ (f : SurfaceTables). AreKeptFrom f.mesh f.lengths f.signs c.args.vertices.now c.keep_found.new.choice) c.requires.finder
     c.in_ok-keep_found.ensures.kept in
-    bases_inside mesh lengths c.law_of_surface.ensures.surface positive s c.args.count c.requires.signed c.args.vertices.now c.keep_found.new.choice kept
+    bases_inside mesh lengths c.law_of_surface.ensures.surface positive s c.args.choice.now.width c.requires.signed c.args.vertices.now c.keep_found.new.choice kept
 
 pub returns-clause-places : goal.returns-clause-places
 returns-clause-places c =
@@ -32,7 +31,6 @@ returns-clause-places c =
     let kept : AreKeptFrom mesh lengths s c.args.vertices.now choice =
     subst (λ (f : SurfaceTables). AreKeptFrom f.mesh f.lengths f.signs c.args.vertices.now choice) c.requires.finder
     c.in_ok-keep_found.ensures.kept in
-    let wide : choice.width ≡ c.args.count = omega (arith, c.keep_found.ensures.width, ap (λ (k : Chosen). k.width) c.in_ok-choice.ensures) in
-    let full : IsFullCount mesh choice.width = subst (IsFullCount mesh) (sym wide) c.requires.full in
-    places_enough mesh lengths c.law_of_surface.ensures.surface positive s c.args.count c.requires.signed c.args.vertices.now choice c.requires.met kept
+    let full : IsFullCount mesh choice.width = subst (IsFullCount mesh) (sym c.keep_found.ensures.width) c.requires.full in
+    places_enough mesh lengths c.law_of_surface.ensures.surface positive s c.args.choice.now.width c.requires.signed c.args.vertices.now choice c.requires.met kept
     c.law_of_choice.ensures.few full
