@@ -51,15 +51,22 @@ def item(head: str, text: str) -> str:
     return f".TP\n{head}\n{sentences(text)}"
 
 
+MARK = r"(?:\d+\.|-) "
+
+
+def list_items(block: str) -> list[tuple[str, str]]:
+    """The items of a list of Markdown, which may be wrapped: the number or a bullet, and the text in one line."""
+    items = (" ".join(each.split()).split(" ", 1) for each in re.split(rf"\n(?={MARK})", block))
+    return [("\\(bu" if mark == "-" else mark, text) for mark, text in items]
+
+
 def block_as_roff(block: str) -> str:
-    """A paragraph, a table or a numbered list."""
-    rows = block.split("\n")
-    if rows[0].startswith("|"):
+    """A paragraph, a table or a list."""
+    if block.startswith("|"):
         return "\n".join(item(roff(head), "; ".join(cells)) for head, *cells in table_rows(block))
-    if re.match(r"\d+\. ", rows[0]):
-        items = (row.split(" ", 1) for row in rows)
-        return "\n".join(f".IP {number} 4\n{sentences(text)}" for number, text in items)
-    return ".PP\n" + sentences(" ".join(rows))
+    if re.match(MARK, block):
+        return "\n".join(f".IP {mark} 4\n{sentences(text)}" for mark, text in list_items(block))
+    return ".PP\n" + sentences(" ".join(block.split("\n")))
 
 
 def blocks_of(body: str) -> list[str]:

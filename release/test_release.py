@@ -94,6 +94,10 @@ class Page(unittest.TestCase):
         self.assertIn("\\fIall\\fR lengths", lines)
         self.assertIn("\\&.. and so on.", lines)
 
+    def test_wrapped_lists(self):
+        self.assertEqual(manual.block_as_roff("1. one\n   line\n2. two"), ".IP 1. 4\none line\n.IP 2. 4\ntwo")
+        self.assertEqual(manual.block_as_roff("- one\n  line\n- two"), ".IP \\(bu 4\none line\n.IP \\(bu 4\ntwo")
+
     def test_words_that_lack(self):
         due = pages.words_of_markdown(FORMATS)
         self.assertEqual(pages.missing_words(due, pages.words_of_page(self.PAGE)), [])
