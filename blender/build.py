@@ -1,15 +1,16 @@
 #!/usr/bin/env python3
-"""Makes the add-on for Blender, surf_seams.zip, with the package `surfbasis` and the library inside.
+"""Makes the add-on for Blender, surf_blender.zip, with the package `surfbasis` and the library inside.
 
     build.py --to FOLDER [--library ARCHIVE]
 
-The library is `crates/surf_c/out/libsurf_c.a`, which `rt lib` in `crates/surf_c` makes; `cc` and `rt` link it. What is
-in the zip of the package is what its wheel has. The same commit gives the same bytes: files are dated to
+The library is `crates/surf_c/out/libsurf_c.a`, which `rt lib` in `crates/surf_c` makes; `cc` and `rt` link it. Of the
+package the zip has all that its wheel has. The same commit gives the same bytes: files are dated to
 SOURCE_DATE_EPOCH, or to the commit.
 """
 
 import argparse
 import datetime
+import importlib.util
 import pathlib
 import re
 import shutil
@@ -19,14 +20,12 @@ import zipfile
 
 HERE = pathlib.Path(__file__).resolve().parent
 TOP = HERE.parent
-NAME = "surf_seams"
+NAME = "surf_blender"
 MARK = re.compile(r'"version": \(0, 0, 0\),.*')
 
 
 def package_maker():
-    """python/build.py, which puts the package together. It is no module of its own name, as this one is build, too."""
-    import importlib.util
-
+    """python/build.py, which puts the package together; this module has its name."""
     spec = importlib.util.spec_from_file_location("build_package", TOP / "python/build.py")
     module = importlib.util.module_from_spec(spec)
     spec.loader.exec_module(module)
@@ -39,7 +38,7 @@ def assemble(folder, shared=None):
     maker = package_maker()
     addon = pathlib.Path(folder) / NAME
     addon.mkdir(parents=True)
-    for path in (HERE / NAME).glob("*.py"):
+    for path in (HERE / "addon").glob("*.py"):
         shutil.copy(path, addon)
     package = maker.assemble(addon, shared)
     version = re.search(r'VERSION = "(.*)"', (package / "_version.py").read_text())[1]

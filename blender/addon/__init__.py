@@ -10,6 +10,8 @@ bl_info = {
     "category": "UV",
 }
 
+import itertools
+
 import bmesh
 import bpy
 import numpy as np
@@ -39,8 +41,8 @@ def ends_of(data):
 
 def edge_flags(data, pairs):
     """Which of Blender's edges have these ends."""
-    count = max(len(data.vertices), 1)
-    known, asked = (np.sort(np.reshape(ends, (-1, 2)), axis=1) for ends in (ends_of(data), np.asarray(pairs, np.int64)))
+    known, asked = np.sort(ends_of(data), axis=1), np.sort(np.reshape(pairs, (-1, 2)).astype(np.int64), axis=1)
+    count = len(data.vertices)
     return np.isin(known[:, 0] * count + known[:, 1], asked[:, 0] * count + asked[:, 1])
 
 
@@ -63,7 +65,8 @@ def select_only(context, vertices=(), edges=(), faces=()):
     lines = np.zeros(count, bool) if len(edges) == 0 else np.array(edges)
     points, areas = np.zeros(len(data.vertices), bool), np.zeros(len(data.polygons), bool)
     points[np.asarray(vertices, int)], areas[np.asarray(faces, int)] = True, True
-    context.tool_settings.mesh_select_mode = points.any(), lines.any() or not (points.any() or areas.any()), areas.any()
+    modes = [bool(flags.any()) for flags in (points, lines, areas)]
+    context.tool_settings.mesh_select_mode = modes if any(modes) else (False, True, False)
     for face in np.flatnonzero(areas).tolist():
         points[list(data.polygons[face].vertices)] = True
         lines |= edge_flags(data, data.polygons[face].edge_keys)
@@ -71,9 +74,11 @@ def select_only(context, vertices=(), edges=(), faces=()):
     if context.object.mode == "EDIT":
         drawn = bmesh.from_edit_mesh(data)
         tables = drawn.verts, drawn.edges, drawn.faces
-        for items, flags in zip(tables, (points, lines, areas)):
-            for item, flag in zip(items, flags.tolist()):
-                item.select = flag
+        for item in itertools.chain(*tables):
+            item.select = False  # which reaches what it consists of, so that all goes before anything comes
+        for item, flag in zip(itertools.chain(*tables), [*points.tolist(), *lines.tolist(), *areas.tolist()]):
+            if flag:
+                item.select = True
         bmesh.update_edit_mesh(data, loop_triangles=False, destructive=False)
     else:
         for items, flags in zip((data.vertices, data.edges, data.polygons), (points, lines, areas)):
@@ -112,20 +117,22 @@ class Asking:
         edges = [loop.edges for loop in found if len(loop.edges)]
         flags = edge_flags(context.object.data, np.concatenate(edges)) if edges else ()
         select_only(context, edges=flags)
+        if not found:
+            return {"INFO"}, "there are no such loops: each loop bounds"
         lengths = ", ".join(f"{loop.length:.6g}" for loop in found)
-        return {"INFO"}, f"{len(found)} loops: {lengths}" if len(found) != 1 else f"1 loop: {lengths}"
+        return {"INFO"}, f"{len(found)} loop{'s' if len(found) > 1 else ''}: {lengths}"
 
 
-class MESH_OT_surf_seams(Asking, bpy.types.Operator):
+class MESH_OT_surf_mark_seams(Asking, bpy.types.Operator):
     """Mark seams that open each part of the mesh into one disc"""
 
-    bl_idname, bl_label = "mesh.surf_seams", "Mark Seams into One Disc"
+    bl_idname, bl_label = "mesh.surf_mark_seams", "Mark Seams into One Disc"
     ends: EnumProperty(
         name="Seams Lead to",
         items=[
             ("FAR", "Far Vertices", "Vertices far from each other, for little distortion"),
             ("SELECTED", "Selected Vertices", "Each selected vertex"),
-            ("NONE", "Nothing More", "As little as opens the mesh: few seams, much distortion where there are no handles"),
+            ("NONE", "Nothing More", "Few seams, and much distortion where there are no handles"),
         ],
         default="FAR",
     )
@@ -153,10 +160,10 @@ class MESH_OT_surf_seams(Asking, bpy.types.Operator):
         return {"WARNING"}, f"{len(marked)} seams: {len(labels)} islands of {parts} parts, and {discs} are discs"
 
 
-class MESH_OT_surf_loops(Asking, bpy.types.Operator):
+class MESH_OT_surf_select_loops(Asking, bpy.types.Operator):
     """Select shortest loops that don't separate each part of the mesh"""
 
-    bl_idname, bl_label = "mesh.surf_loops", "Select Shortest Loops"
+    bl_idname, bl_label = "mesh.surf_select_loops", "Select Shortest Loops"
     kind: EnumProperty(
         name="Which",
         items=[
@@ -165,7 +172,9 @@ class MESH_OT_surf_loops(Asking, bpy.types.Operator):
             ("CYCLE", "One Cycle", "A shortest cycle that doesn't separate"),
         ],
     )
-    round_holes: BoolProperty(name="Round Holes", description="Loops round holes count; else holes are closed", default=True)
+    round_holes: BoolProperty(
+        name="Round Holes", description="Loops round holes count; else holes are closed", default=True
+    )
 
     def answer(self, context, mesh):
         if self.kind == "CYCLE":
@@ -178,10 +187,10 @@ class MESH_OT_surf_loops(Asking, bpy.types.Operator):
         return self.select_loops(context, found)
 
 
-class MESH_OT_surf_homologous(Asking, bpy.types.Operator):
+class MESH_OT_surf_select_homologous(Asking, bpy.types.Operator):
     """Select a shortest loop that is homologous (mod 2) to the selected one, where holes are closed"""
 
-    bl_idname, bl_label = "mesh.surf_homologous", "Shortest Loop Homologous to Selected"
+    bl_idname, bl_label = "mesh.surf_select_homologous", "Select Shortest Loop Homologous to Selected"
 
     def answer(self, context, mesh):
         data = context.object.data
@@ -200,7 +209,7 @@ class VIEW3D_MT_surf(bpy.types.Menu):
             self.layout.operator(kind.bl_idname)
 
 
-OPERATORS = MESH_OT_surf_seams, MESH_OT_surf_loops, MESH_OT_surf_homologous
+OPERATORS = MESH_OT_surf_mark_seams, MESH_OT_surf_select_loops, MESH_OT_surf_select_homologous
 CLASSES = *OPERATORS, VIEW3D_MT_surf
 
 
