@@ -94,7 +94,7 @@ def render(scene, path):
     scene.world.use_nodes = True
     scene.world.node_tree.nodes["Background"].inputs["Color"].default_value = (1, 1, 1, 1)
     scene.world.node_tree.nodes["Background"].inputs["Strength"].default_value = 0.55
-    scene.render.engine, scene.cycles.samples, scene.cycles.use_denoising = "CYCLES", 48, False
+    scene.render.engine, scene.cycles.samples, scene.cycles.use_denoising = "CYCLES", 24, False
     scene.render.film_transparent = False
     scene.view_settings.view_transform = "Standard"
     scene.render.resolution_x, scene.render.resolution_y = SIZE

@@ -3,7 +3,7 @@
 from __future__ import annotations
 
 import contextlib
-from typing import Any, Iterator, Tuple, Union
+from typing import Any, Iterator, List, Tuple, Union
 
 import numpy as np
 
@@ -88,14 +88,27 @@ class Mesh:
 
 @contextlib.contextmanager
 def telling(surface: Surface) -> Iterator[None]:
-    """Says what is refused of a part in words and in the numbers of the mesh."""
+    """Raises Unfit in place of what surf refuses of a part. Since that is a surface, it is a coordinate, a limit, or
+    vertices to cut through."""
     try:
         yield
     except Refused as refused:
-        vertices, faces = surface.vertex_origins, surface.face_origins
-        raise Unfit(
-            f"{refused.meaning or 'surf refuses this'} ({refused.line})",
-            [] if refused.vertex is None else vertices[[refused.vertex]],
-            [] if refused.edge is None else vertices[[refused.edge]],
-            faces[[*refused.faces]] if refused.faces else [],
-        ) from None
+        raise _unfit(refused, surface.vertex_origins) from None
+
+
+def _unfit(refused: Refused, origins: Table) -> Unfit:
+    """A refusal of a part, in words and in the numbers of the mesh."""
+    told, vertices, edges = refused, [], []
+    if refused.edge is not None:
+        edges = [origins[[*refused.edge]].tolist()]
+        told = _renumbered(refused, edges[0])
+    elif refused.vertex is not None:
+        vertices = [int(origins[refused.vertex])]
+        told = _renumbered(refused, [*vertices, *refused.numbers[1:]])
+    return Unfit(f"{told.meaning or 'surf refuses this'} ({told.line})", vertices, edges)
+
+
+def _renumbered(refused: Refused, numbers: List[int]) -> Refused:
+    """The refusal with other numbers in its line."""
+    head = refused.line.partition(": ")[0]
+    return type(refused)(refused.status, " ".join([f"{head}:", refused.kind, *map(str, numbers)]))
