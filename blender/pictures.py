@@ -6,8 +6,9 @@ import bpy
 import mathutils
 import unwrapped
 
-SIZE = 480, 400
-PLAIN, INK, SEAM = (0.80, 0.80, 0.76), (0.35, 0.35, 0.33), (0.75, 0.04, 0.03)
+SIZE = 400, 320
+PLAIN, INK, SEAM = (0.45, 0.45, 0.42), (0.35, 0.35, 0.33), (0.75, 0.04, 0.03)
+PAPER = (0.85, 0.85, 0.80)
 VIEW = mathutils.Euler((math.radians(50), 0, math.radians(30)))
 
 
@@ -31,7 +32,7 @@ def draw_unwrap(thing, path):
     for ends, sides in unwrapped.sides_by_edge(data).items():
         is_border = ends in seams or len(sides) == 1
         (border if is_border else inner).extend([points[one], points[other]] for _, one, other in sides)
-    things = [surface(points, faces, PLAIN), lines(inner, INK, 0.0006), lines(border, SEAM, 0.0025)]
+    things = [surface(points, faces, PAPER), lines(inner, INK, 0.0006), lines(border, SEAM, 0.0025)]
     draw(things, points, mathutils.Euler((0, 0, 0)), path)
 
 
@@ -93,7 +94,7 @@ def render(scene, path):
     scene.world = bpy.data.worlds.new("drawn")
     scene.world.use_nodes = True
     scene.world.node_tree.nodes["Background"].inputs["Color"].default_value = (1, 1, 1, 1)
-    scene.world.node_tree.nodes["Background"].inputs["Strength"].default_value = 0.55
+    scene.cycles.max_bounces = 0
     scene.render.engine, scene.cycles.samples, scene.cycles.use_denoising = "CYCLES", 24, False
     scene.render.film_transparent = False
     scene.view_settings.view_transform = "Standard"
