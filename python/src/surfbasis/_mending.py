@@ -21,7 +21,7 @@ class How(NamedTuple):
     """How a mesh is mended, in the words of `Surface.from_file`."""
 
     close: Union[bool, str] = False
-    tolerance: float = 0.0
+    tolerance: Optional[float] = 0.0
     part: int = 0
 
     def holes(self) -> str:

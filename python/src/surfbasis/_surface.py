@@ -139,11 +139,12 @@ class Surface:
         faces: Any = None,
         *,
         close: Union[bool, str] = False,
-        tolerance: float = 0.0,
+        tolerance: Optional[float] = 0.0,
         lengths: Any = None,
         decimals: Optional[int] = None,
     ) -> Iterator[Surface]:
-        """All parts of what `mended` takes, each a surface, those with the most faces first.
+        """All parts of what `mended` takes, each a surface, those with the most faces first. With None for the
+        tolerance not even points of open edges that are equal become one.
 
         >>> face = [[0, 1, 2], [0, 3, 1], [0, 2, 3], [1, 3, 2]]
         >>> points = np.random.default_rng(0).random((8, 3))

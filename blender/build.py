@@ -1,0 +1,86 @@
+#!/usr/bin/env python3
+"""Makes the add-on for Blender, surf_blender.zip, with the package `surfbasis` and the library inside.
+
+    build.py --to FOLDER [--library ARCHIVE]
+
+The library is `crates/surf_c/out/libsurf_c.a`, which `rt lib` in `crates/surf_c` makes; `cc` and `rt` link it. Of the
+package the zip has all that its wheel has. The same commit gives the same bytes: files are dated to
+SOURCE_DATE_EPOCH, or to the commit.
+"""
+
+import argparse
+import datetime
+import importlib.util
+import pathlib
+import re
+import shutil
+import sys
+import tempfile
+import zipfile
+
+HERE = pathlib.Path(__file__).resolve().parent
+TOP = HERE.parent
+NAME = "surf_blender"
+MARK = re.compile(r'"version": \(0, 0, 0\),.*')
+
+
+def package_maker():
+    """python/build.py, which puts the package together; this module has its name."""
+    spec = importlib.util.spec_from_file_location("build_package", TOP / "python/build.py")
+    module = importlib.util.module_from_spec(spec)
+    spec.loader.exec_module(module)
+    return module
+
+
+def assemble(folder, shared=None):
+    """Puts the add-on together in a folder, with the shared library inside where there is one, and returns its
+    path."""
+    maker = package_maker()
+    addon = pathlib.Path(folder) / NAME
+    addon.mkdir(parents=True)
+    for path in (HERE / "addon").glob("*.py"):
+        shutil.copy(path, addon)
+    package = maker.assemble(addon, shared)
+    version = re.search(r'VERSION = "(.*)"', (package / "_version.py").read_text())[1]
+    if shared:
+        start, found = addon / "__init__.py", tuple(map(int, version.split(".")))
+        start.write_text(MARK.sub(f'"version": {found},', start.read_text()))
+    return addon
+
+
+def write_zip(addon, path, seconds):
+    """The zip of the add-on's folder, all files dated so many seconds after the epoch."""
+    date = datetime.datetime.fromtimestamp(max(seconds, 315532800), datetime.timezone.utc).timetuple()[:6]
+    with zipfile.ZipFile(path, "w", zipfile.ZIP_DEFLATED) as archive:
+        for file in sorted(addon.rglob("*")):
+            if file.is_file():
+                entry = zipfile.ZipInfo(str(file.relative_to(addon.parent)), date)
+                entry.external_attr, entry.compress_type = 0o100644 << 16, zipfile.ZIP_DEFLATED
+                entry.create_system = 3
+                archive.writestr(entry, file.read_bytes())
+
+
+def make(to, library):
+    """The zip, in a folder, with the library of an archive, or without one."""
+    maker = package_maker()
+    to.mkdir(parents=True, exist_ok=True)
+    with tempfile.TemporaryDirectory() as room:
+        shared = None
+        if library:
+            shared = pathlib.Path(room, "libsurf.so")
+            maker.libraries.link_shared(shared, shared.name, library)
+        write_zip(assemble(pathlib.Path(room, "addon"), shared), to / f"{NAME}.zip", maker.proof.commit_time())
+    return to / f"{NAME}.zip"
+
+
+def main():
+    parser = argparse.ArgumentParser(description=__doc__, formatter_class=argparse.RawDescriptionHelpFormatter)
+    parser.add_argument("--to", type=pathlib.Path, required=True)
+    parser.add_argument("--library", type=pathlib.Path, default=TOP / "crates/surf_c/out/libsurf_c.a")
+    given = parser.parse_args()
+    print(make(given.to, given.library.resolve()))
+    return 0
+
+
+if __name__ == "__main__":
+    sys.exit(main())

@@ -1,0 +1,77 @@
+#!/usr/bin/env python3
+"""Tries the add-on in Blender, without a window: check.py
+
+    check.py --blender PATH             another Blender than that on PATH
+    check.py --program PATH             the program, crates/surf/out/surf without it
+    check.py --library ARCHIVE          the library, crates/surf_c/out/libsurf_c.a without it
+    check.py --pictures FOLDER          also draws the pictures of docs/blender.md there
+
+The add-on is tried over the program, and over the library where `rt lib` has made it. Blender is no part of the
+set-up: where it isn't here that is said, and nothing is tried.
+"""
+
+import argparse
+import os
+import pathlib
+import shutil
+import subprocess
+import sys
+import tempfile
+
+import build
+
+HERE = pathlib.Path(__file__).resolve().parent
+TOP = HERE.parent
+
+
+def zips(room, library):
+    """The add-on for each way to ask surf: over the program, and over the library where it can be had."""
+    yield "program", build.make(room / "program", None)
+    missing = [tool for tool in ("cc", "rt", "strip", "nm") if not shutil.which(tool)]
+    if missing or not library.is_file():
+        print(f"the add-on isn't tried over the library, since {[*missing, library.name][0]} isn't here")
+    else:
+        yield "library", build.make(room / "library", library)
+
+
+def tried(blender, way, made, program, pictures):
+    """Whether the tests pass in a Blender whose settings are in a folder of their own."""
+    settings = {name: value for name, value in os.environ.items() if not name.startswith("SURFBASIS_")}
+    if way == "program":
+        settings["SURFBASIS_PROGRAM"] = str(program)
+    for name in ("CONFIG", "SCRIPTS", "DATAFILES"):
+        settings[f"BLENDER_USER_{name}"] = str(made.with_name(name.lower()))
+        made.with_name(name.lower()).mkdir()
+    words = [blender, "-b", "--factory-startup", "--python-exit-code", "1", "--python", HERE / "test_blender.py"]
+    words += ["--", made, TOP / "meshes", program, *pictures]
+    done = subprocess.run([str(word) for word in words], env=settings, capture_output=True, text=True)
+    rows = (done.stdout + done.stderr).splitlines()
+    told = [row for row in rows if row.startswith(("Ran ", "OK", "FAILED"))]
+    if done.returncode or not told:
+        print("\n".join(rows))
+    print(f"the add-on in Blender, over the {way}: {'; '.join(told)}")
+    return done.returncode == 0 and "OK" in told
+
+
+def main():
+    parser = argparse.ArgumentParser(description=__doc__, formatter_class=argparse.RawDescriptionHelpFormatter)
+    parser.add_argument("--blender", default=shutil.which("blender"))
+    parser.add_argument("--program", type=pathlib.Path, default=TOP / "crates/surf/out/surf")
+    parser.add_argument("--library", type=pathlib.Path, default=TOP / "crates/surf_c/out/libsurf_c.a")
+    parser.add_argument("--pictures", type=pathlib.Path)
+    given = parser.parse_args()
+    if not given.blender:
+        print("the add-on for Blender isn't tried, since Blender isn't here")
+        return 0
+    if not given.program.is_file():
+        print(f"{given.program.name} isn't built: the add-on for Blender can't be tried")
+        return 1
+    pictures = [given.pictures.resolve()] if given.pictures else []
+    with tempfile.TemporaryDirectory() as room:
+        made = list(zips(pathlib.Path(room), given.library.resolve()))
+        good = [tried(given.blender, way, path, given.program.resolve(), pictures) for way, path in made]
+    return 0 if all(good) else 1
+
+
+if __name__ == "__main__":
+    sys.exit(main())
