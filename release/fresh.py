@@ -49,9 +49,13 @@ def install_lines(text: str) -> str:
     return "\n".join(line for line in lines if not re.search(r"# (zsh|fish)\b", line))
 
 
+# Where the release lies within the fresh root.
+PLACE = "srv/release"
+
+
 def put_in(root: pathlib.Path, release: pathlib.Path) -> None:
     """The release and the script, in a folder of the root that was empty."""
-    place = root / "root/release"
+    place = root / PLACE
     shutil.rmtree(place, ignore_errors=True)
     shutil.copytree(release, place)
     shutil.copy2(HERE / "fresh.sh", place)
@@ -62,7 +66,7 @@ def tried(root: pathlib.Path, suite: str) -> int:
     """The status of the script in the root, in name spaces of its own, so that nothing stays mounted."""
     kind = "old" if suite in OLD else "whole"
     places = ["PATH=/usr/sbin:/usr/bin:/sbin:/bin", "HOME=/root", "LC_ALL=C.UTF-8", "TERM=dumb"]
-    words = ["--chdir=/root/release", *places, "bash", "fresh.sh", kind]
+    words = [f"--chdir=/{PLACE}", *places, "bash", "fresh.sh", kind]
     command = ["unshare", "--mount", "--pid", "--fork", "sh", "-c", INSIDE, root, *words]
     return subprocess.run(command, check=False, stdin=subprocess.DEVNULL).returncode
 

@@ -22,7 +22,7 @@ well() {
 }
 
 files() {
-  find / -xdev \( -path /proc -o -path /dev -o -path /root -o -path /tmp -o -path /var/cache -o -path /var/log \
+  find / -xdev \( -path /proc -o -path /dev -o -path /root -o -path /srv -o -path /tmp -o -path /var/cache -o -path /var/log \
     -o -path /var/lib/dpkg -o -path /run \) -prune -o -print | sort
 }
 
