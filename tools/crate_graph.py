@@ -61,7 +61,7 @@ def drawing(crates):
     graph, levels = reduced(crates), {}
     for name in crates:
         level(graph, name, levels)
-    wide = max(len(short(name)) for name in crates) + 1
+    wide = max(len(short(name)) for name in crates) + 2
     rows = []
     for height in range(max(levels.values()), 0, -1):
         names = sorted(name for name in crates if levels[name] == height)
@@ -69,7 +69,8 @@ def drawing(crates):
             kit = [dep for dep in crates[name] if dep not in crates]
             under = ", ".join(sorted(short(dep) for dep in graph[name]))
             under += ("; of the kit " if under else "of the kit ") + ", ".join(kit) if kit else ""
-            rows.append(f"{height if place == 0 else '':>2}  {short(name):<{wide}}{'- ' + under if under else ''}".rstrip())
+            head = f"{short(name)}:" if under else short(name)
+            rows.append(f"{height if place == 0 else '':>2}  {head:<{wide}}{under}".rstrip())
     return "\n".join(rows) + "\n"
 
 

@@ -28,7 +28,7 @@ class Graph(unittest.TestCase):
         crates = crate_graph.read_crates(self.CRATES)
         self.assertEqual(crates, {"a": [], "b": ["a", "kit"], "c": ["a", "b"]})
         self.assertEqual(crate_graph.reduced(crates), {"a": [], "b": ["a"], "c": ["b"]})
-        self.assertEqual(crate_graph.drawing(crates), " 3  c - b\n 2  b - a; of the kit kit\n 1  a\n")
+        self.assertEqual(crate_graph.drawing(crates), " 3  c: b\n 2  b: a; of the kit kit\n 1  a\n")
 
 
 class WrongBodies(unittest.TestCase):
