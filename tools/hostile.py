@@ -126,6 +126,14 @@ def fault_of(status, out, line, allowed=range(16)):
     return None
 
 
+# How runs end, by their statuses: the columns of the table.
+ENDS = {
+    "Answers": (0, 1),
+    "Refusals": (2, 3, 4, 5, 6, 7, 8, 12, 13, 14, 15),
+    "Status 9, 10 or 11": (9, 10, 11),
+}
+
+
 class Tally:
     """Runs of one kind, by status, with what was wrong."""
 
@@ -138,8 +146,9 @@ class Tally:
             self.faults.append(f"{what}: {fault}")
 
     def row(self):
-        parts = (f"{status}: {count:,}" for status, count in sorted(self.statuses.items(), key=lambda s: (s[0] is None, s[0])))
-        return f"| {self.name} | {sum(self.statuses.values()):,} | {', '.join(parts)} | {len(self.faults)} |"
+        counts = (sum(self.statuses[status] for status in statuses) for statuses in ENDS.values())
+        cells = [self.name, f"{sum(self.statuses.values()):,}", *(f"{count:,}" if count else "" for count in counts)]
+        return f"| {' | '.join(cells)} |"
 
 
 # ---- files
@@ -457,7 +466,7 @@ def allocation_runs(program, files, room):
     if without_cc():
         return []
     failing = Failing(program, room)
-    once, onwards = Tally("the N-th allocation fails, for each N"), Tally("the N-th allocation and all after it fail")
+    once, onwards = Tally("each allocation fails in turn"), Tally("from each allocation on all fail")
     for name, words in words_that_answer(program, files, room):
         right = program.run(words)
         counted = failing.calls(words)[0]
@@ -475,7 +484,7 @@ def call_runs(program, files, room):
     if without_cc():
         return []
     failing = Failing(program, room)
-    reads, writes = Tally("the N-th call that opens or reads a file fails, for each N"), Tally("the N-th write of 7 bytes fails, for each N")
+    reads, writes = Tally("each call that opens or reads a file fails in turn"), Tally("one write of 7 bytes fails")
     pieces = Tally("reads and writes of one byte")
     for name, words in words_that_answer(program, files, room):
         right = program.run(words)
@@ -602,7 +611,8 @@ def tried(program, files, room, only, copies):
 def write_page(tallies, total):
     text = PAGE.read_text()
     start = text.index(BEGIN) + len(BEGIN)
-    rows = ["| What was tried | Runs | Runs by status | Faults |", "|---|---|---|---|", *(tally.row() for tally in tallies), "", total]
+    heads = ["What was tried", "Runs", *ENDS]
+    rows = [f"| {' | '.join(heads)} |", "|---" * len(heads) + "|", *(tally.row() for tally in tallies), "", total]
     PAGE.write_text(text[:start] + "\n".join(rows) + "\n" + text[text.index(END, start) :])
 
 

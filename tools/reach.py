@@ -241,17 +241,17 @@ HEADLINE = ["Surface.IsSurface", "Homology.IsLeastLoopSystem", "Homology.IsLeast
             "Disc.IsDisc", "Disc.IsOpening"]
 TEXT = """# How many lines a reader has to believe
 
-A proof shows that the program meets its contract; whether the contract says what you want, you have to read. `tools/reach.py --write` counts here what there is to read, and `tools/reach.py loops` lists the definitions under an answer, with their files.
+A proof shows that the program meets its contract. Whether the contract says what you want, you have to read. `tools/reach.py --write` counts here what there is to read, and `tools/reach.py loops` lists the definitions under an answer, with their files.
 
 **The theorem alone**: {names}, with all that they rest on, are {head} definitions of {head_lines} lines. They stand in `surf_surfaces` and `surf_z2`, and [definitions.md](definitions.md) says them in prose.
 
-**An answer**: the theorem, the choice among ties, and how it is written down. **The contract**: all that `run` says of the command, so also how words, files and lengths are read, which refusal comes first and what its line is.
+An **answer** is the theorem, the choice among ties, and how it is written down. The **contract** is all that `run` says of the command: also how words, files and lengths are read, which refusal comes first, and its line.
 
-| Command | What it answers, as a definition | Definitions | Lines | in the contract: definitions | lines |
+| Command | Definition of its answer | Definitions | Lines | in the contract | lines |
 |---|---|---|---|---|---|
 {rows}
 
-All commands together: the contract of `run` rests on {run} definitions of {run_lines} lines in {crates} crates, of {all} definitions of {all_lines} lines in the `specs/` of all crates. The others say what the calls below `run` do, and no reader of `run` has to believe them. Comments, imports and empty lines aren't counted, nor are enums and structs of the code and the words of std.
+The contract of `run`, for all commands, rests on {run} definitions of {run_lines} lines in {crates} crates. The `specs/` of all crates have {all} definitions of {all_lines} lines; the others say what the calls below `run` do. Not counted are comments, imports, empty lines, enums and structs of the code, and the words of std.
 """
 
 
