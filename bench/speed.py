@@ -225,20 +225,33 @@ def filled(words, names):
     return [part for word in words.split() for part in names.get(word, [word])]
 
 
+def row(name, mesh, scatter, words, work, options, surf):
+    """The cells of one command on a mesh with the lengths of a scatter."""
+    programs = [[str(surf)], *(program for _, program in options.beside)]
+    ours, *others = in_turn(programs, words, work, options)
+    if ours.is_refused:
+        sys.exit(f"{' '.join(words)}: refused")
+    cells = [name, mesh, "scattered" if scatter else "unit", *ours.figures()]
+    for other in others:
+        cells += [*other.figures(), ratio(ours, other)]
+    return cells
+
+
+def joined(rows):
+    """Rows as one, whose cells have a figure of each row, or one where all are equal."""
+    return [", ".join(cells if len(set(cells)) > 1 else cells[:1]) for cells in zip(*rows)]
+
+
 def rows(case, inputs, work, options):
-    """The rows of one command, one for each mesh and scatter."""
+    """The rows of one command, one for each mesh, with a figure for each scatter."""
     name, meshes, scatters, first, text = case
-    programs = [[str(inputs.surf)], *(program for _, program in options.beside)]
     for mesh in meshes:
-        for scatter in scatters:
-            words = filled(text, inputs.names(mesh, scatter, first))
-            ours, *others = in_turn(programs, words, work, options)
-            if ours.is_refused:
-                sys.exit(f"{' '.join(words)}: refused")
-            row = [name, mesh, str(scatter) if scatter else "unit", *ours.figures()]
-            for other in others:
-                row += [*other.figures(), ratio(ours, other)]
-            yield row
+        yield joined(
+            [
+                row(name, mesh, scatter, filled(text, inputs.names(mesh, scatter, first)), work, options, inputs.surf)
+                for scatter in scatters
+            ]
+        )
 
 
 def named(text):
