@@ -7,6 +7,7 @@ Builds the program (`rt run` in crates/surf), unless one is named, makes tori an
 command on them. A mesh that is `shuffled` is a torus whose vertices and faces are numbered anew at random. Seconds are
 of one processor (user and system, the least of the repeats). Megabytes are the most that was resident; those below this
 script's own (some 12) aren't seen, since a program starts as its copy. A run that takes more than the limit is `late`.
+A row for two kinds of lengths has a figure for each, in their order, or one figure where both are equal.
 
 `--beside` names another program and the words to start it by, as in `--beside fast='plain --fast'`. It takes the same
 words, and gets columns of its own: its seconds, its megabytes, and the ratio of ours to its seconds. Where its bytes are
