@@ -8,7 +8,7 @@ use Rattle.surf_surfaces.specs.Mesh.{IsMesh, IsFace, steps}
 use Rattle.surf_surfaces.specs.Surface.{ends, face_at, faces_with, HasCorner, ShareAt, HasOneFan, IsConnected, IsSurface}
 use Rattle.surf_surfaces.proofs.FanLaws.{listed_faces_are_fan}
 use Rattle.surf_surfaces.proofs.SmallFaces.{square}
-use Rattle.surf_turnings.specs.Examples.{five_torus}
+use Rattle.surf_orientation.specs.Examples.{five_torus}
 
 is_mesh : IsMesh five_torus
 is_mesh = All-from_recursion (IsFace 5) five_torus.faces (

@@ -7,16 +7,16 @@ use Rattle.surf_graphs.specs.Rounds.{IsTurn}
 use Rattle.surf_z2.proofs.ParityLaws.{and_comm, least_below-found}
 use Rattle.surf_graphs.proofs.Signs.{turn_after}
 use Rattle.surf_surfaces.specs.Mesh.{Mesh, pair, pair_of, pair_eq, IsFace}
-use Rattle.surf_surfaces.specs.Surface.{face_count, edge_count, face_at, ends, faces_of, touches, runs_turned, HasCorner, IsSurface, IsTurning}
+use Rattle.surf_surfaces.specs.Surface.{face_count, edge_count, face_at, ends, faces_of, touches, runs_turned, HasCorner, IsSurface, IsOrientation}
 use Rattle.surf_surfaces.specs.Side.{after, before, corner}
 use Rattle.surf_surfaces.proofs.FaceLaws.{pair_comm, touches-pair_of}
 use Rattle.surf_surfaces.proofs.SideLaws.{corner_place, pair_ends, after-below, before-below, after-before, before-after}
 use Rattle.surf_surfaces.proofs.FanLaws.{fans_are_whole}
-use Rattle.surf_surfaces.proofs.TurningLaws.{not_turn}
-use Rattle.surf_turnings.specs.Names.{NamesRounds}
-use Rattle.surf_turnings.proofs.NameLaws.{named_rounds_are_even}
-use Rattle.surf_turnings.proofs.SideNumbers.{ends_rise, side_count, edge_of, mate, face_of, place, side_at, edge_in, face_in, is_face, place_is, side_at_is, side_is_at, mate_turn, mate_edge, mates_named}
-use Rattle.surf_turnings.proofs.Turned.{next, prev, start, finish, start_at, runs_at, not_not_same, ends_are, next_face, start_next, next_turn, faces_named}
+use Rattle.surf_surfaces.proofs.OrientationLaws.{not_turn}
+use Rattle.surf_orientation.specs.Names.{NamesRounds}
+use Rattle.surf_orientation.proofs.NameLaws.{named_rounds_are_even}
+use Rattle.surf_orientation.proofs.SideNumbers.{ends_rise, side_count, edge_of, mate, face_of, place, side_at, edge_in, face_in, is_face, place_is, side_at_is, side_is_at, mate_turn, mate_edge, mates_named}
+use Rattle.surf_orientation.proofs.Turned.{next, prev, start, finish, start_at, runs_at, not_not_same, ends_are, next_face, start_next, next_turn, faces_named}
 
 -- a side's face, turned, runs its edge from the side's start to its end
 pub runs_side : (mesh : Mesh) → IsSurface mesh → (turned : ℕ → Bool) (d : ℕ) → d < side_count mesh →
@@ -52,7 +52,7 @@ leaving back n i = cond back (before n i) i
 abbrev out_of : Mesh → (ℕ → Bool) → ℕ → ℕ → ℕ
 out_of mesh turned v f = side_at mesh f (leaving (turned f) (length (face_at mesh f)) (corner_at (face_at mesh f) v))
 
-module _ (mesh : Mesh) (surface : IsSurface mesh) (turned : ℕ → Bool) (turning : IsTurning mesh turned) where
+module _ (mesh : Mesh) (surface : IsSurface mesh) (turned : ℕ → Bool) (turning : IsOrientation mesh turned) where
   -- the faces of mates run their edge in opposite ways
   opposed : (d : ℕ) → d < side_count mesh →
       runs_turned turned mesh (face_of mesh d) (ends mesh (edge_of mesh d))

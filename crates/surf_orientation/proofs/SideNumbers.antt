@@ -13,7 +13,7 @@ use Rattle.surf_surfaces.proofs.PairLaws.{pair_eq-true, pair_eq-same}
 use Rattle.surf_surfaces.proofs.EdgeLaws.{place_of-among, place_of-ends, among-edges, list_any_from}
 use Rattle.surf_surfaces.proofs.SurfaceLaws.{two_faces_of, has_side-face}
 use Rattle.surf_surfaces.proofs.SideLaws.{sides_are_placed, side_place, after-below, before-below, after-before, before-after}
-use Rattle.surf_turnings.specs.Names.{NamesRounds}
+use Rattle.surf_orientation.specs.Names.{NamesRounds}
 
 pub ends_rise : (mesh : Mesh) → IsMesh mesh → (e : ℕ) → e < edge_count mesh → (ends mesh e).0 < (ends mesh e).1
 ends_rise mesh m e l = (ends_below mesh m e l).0

@@ -4,7 +4,7 @@ use Rattle.std.specs.Prelude.{pos, ◌≤ℤ◌}
 use Rattle.std.proofs.lemmas.Bool.{cases_lt, cases_Bool, lt-ltb, le-ltb, eq-eqb, ne_eqb, eqb-true}
 use Rattle.surf_z2.specs.Parity.{xor, odd_below, count_below}
 use Rattle.surf_graphs.specs.Graphs.{IsEven}
-use Rattle.surf_graphs.specs.Cells.{primal, IsNull}
+use Rattle.surf_graphs.specs.Cells.{primal, IsNullChain}
 use Rattle.surf_graphs.proofs.Counting.{left_edges}
 use Rattle.surf_z2.proofs.Sums.{count_below-same, count_below-paired}
 use Rattle.surf_graphs.proofs.Rounds.{par, par-suc, par-zero}
@@ -15,17 +15,17 @@ use Rattle.surf_surfaces.proofs.EvenLaws.{touches-xor, side_moves}
 use Rattle.surf_surfaces.proofs.FaceLaws.{touches-pair_of}
 use Rattle.surf_z2.proofs.ParityLaws.{and-false, and-true, xor_equal, xor_left_comm, xor-same, xor-same_left, xor-false, xor_pairs, odd_below-same, odd_below-xor}
 use Rattle.surf_surfaces.proofs.SideLaws.{pair_ends}
-use Rattle.surf_surfaces.proofs.TurningLaws.{turned_is, one_sided_chains_exclude_turnings}
+use Rattle.surf_surfaces.proofs.OrientationLaws.{turned_is, one_sided_chains_exclude_orientations}
 use Rattle.surf_surfaces.specs.Cells.{cells_of}
 use Rattle.surf_surfaces.proofs.CellLaws.{surfaces_are_cells}
 use Rattle.surf_surfaces.proofs.GraphWalkLaws.{boundaries_are_null}
-use Rattle.surf_turnings.specs.Chains.{same_way, misfit}
-use Rattle.surf_turnings.specs.Statements.{MisfitsAreEven, TwoSidedWhereMisfitsAreBoundary, SpheresAreTwoSided, OneSidedCharacteristicsAreAtMostOne, TurningsAreDetermined}
-use Rattle.surf_turnings.proofs.SideNumbers.{ends_rise, side_count, edge_of, edge_in, face_of}
-use Rattle.surf_turnings.proofs.Turned.{next, prev, start, finish, ends_are, start_next, next_turn}
-use Rattle.surf_turnings.proofs.VertexLaws.{runs_side}
-use Rattle.surf_turnings.proofs.OneSidedLaws.{has_first, has_second, turnings_fit}
-use Rattle.surf_turnings.proofs.GenusLaws.{surfaces_have_splits, counts_are_at_most_two_more, characteristic_is, at_most_one}
+use Rattle.surf_orientation.specs.Chains.{same_way, misfit}
+use Rattle.surf_orientation.specs.Statements.{MisfitsAreEven, TwoSidedWhereMisfitsAreBoundary, SpheresAreTwoSided, OneSidedCharacteristicsAreAtMostOne, OrientationsAreDetermined}
+use Rattle.surf_orientation.proofs.SideNumbers.{ends_rise, side_count, edge_of, edge_in, face_of}
+use Rattle.surf_orientation.proofs.Turned.{next, prev, start, finish, ends_are, start_next, next_turn}
+use Rattle.surf_orientation.proofs.VertexLaws.{runs_side}
+use Rattle.surf_orientation.proofs.OneSidedLaws.{has_first, has_second, orientations_fit}
+use Rattle.surf_orientation.proofs.GenusLaws.{surfaces_have_splits, counts_are_at_most_two_more, characteristic_is, at_most_one}
 
 -- an odd number is one with an odd count
 odd_count : (n : ℕ) (p : ℕ → Bool) → odd_below n p ≡ par (count_below n p)
@@ -253,13 +253,13 @@ two_sided_where_misfits_are_boundary mesh flags surface = (
         λ e l.
             let a = (faces_of mesh e).0 in
             let b = (faces_of mesh e).1 in
-            ap (xor (xor (flags a) (flags b))) (sym ((turnings_fit mesh turned surface).0 two.1 e l)) ∙ xor_pairs
+            ap (xor (xor (flags a) (flags b))) (sym ((orientations_fit mesh turned surface).0 two.1 e l)) ∙ xor_pairs
             (flags a) (flags b) (turned a) (turned b),
       )),
   (λ h.
       let set = h.0 in (
         λ f. xor (flags f) (set f),
-        (turnings_fit mesh (λ f. xor (flags f) (set f)) surface).1 (λ e l.
+        (orientations_fit mesh (λ f. xor (flags f) (set f)) surface).1 (λ e l.
             let a = (faces_of mesh e).0 in
             let b = (faces_of mesh e).1 in
             xor_pairs (flags a) (set a) (flags b) (set b) ∙ ap (xor (xor (flags a) (flags b)))
@@ -280,12 +280,12 @@ spheres_are_two_sided mesh surface sphere =
     (λ e. misfit mesh flags e && touches v (ends mesh e))
     (λ e le. ap (λ t. misfit mesh flags e && t) (sym (touches-xor v (ends mesh e) (cells.ends_differ e le))))
     ∙ misfits_even mesh surface flags v in
-    let null : IsNull s (misfit mesh flags) =
+    let null : IsNullChain s (misfit mesh flags) =
     signature_null s d cells.complex split (misfit mesh flags) even (λ k l. absurd (omega arith)) in
     (two_sided_where_misfits_are_boundary mesh flags surface).1 ((boundaries_are_null mesh (misfit mesh flags)).1 null)
 
-pub turnings_are_determined : TurningsAreDetermined
-turnings_are_determined mesh flags others f g surface one two lf lg same =
+pub orientations_are_determined : OrientationsAreDetermined
+orientations_are_determined mesh flags others f g surface one two lf lg same =
     let cells = surfaces_are_cells mesh surface in
     let differ : ℕ → Bool = λ h. xor (flags h) (others h) in
     let alike : differ f ≡ differ g = cells.complex.dual_connected differ (λ e l.
@@ -293,7 +293,7 @@ turnings_are_determined mesh flags others f g surface one two lf lg same =
     let b = (faces_of mesh e).1 in
     xor_pairs (flags a) (others a) (flags b) (others b)
     ∙ ap (xor (xor (flags a) (flags b)))
-    ((turnings_fit mesh others surface).0 two e l ∙ sym ((turnings_fit mesh flags surface).0 one e l)) ∙ xor-same
+    ((orientations_fit mesh others surface).0 two e l ∙ sym ((orientations_fit mesh flags surface).0 one e l)) ∙ xor-same
     (xor (flags a) (flags b))) f g lf lg in
     xor_equal (flags g) (others g) (sym alike ∙ ap (λ t. xor t (others f)) same ∙ xor-same (others f))
 
@@ -303,7 +303,7 @@ one_sided_characteristics_are_at_most_one mesh links surface chain =
     let d = (edge_count mesh + 2) - (mesh.vertices + face_count mesh) in
     let some : 1 ≤ d = elim (cases_lt (mesh.vertices + face_count mesh) (edge_count mesh + 2)) [
       | inl lt ↦ omega arith
-      | inr ge ↦ absurd (one_sided_chains_exclude_turnings mesh surface links chain
+      | inr ge ↦ absurd (one_sided_chains_exclude_orientations mesh surface links chain
           (spheres_are_two_sided mesh surface (omega (arith, few, ge))))
     ] in
     subst (λ x. x ≤ℤ pos 1) (sym (characteristic_is mesh surface)) (at_most_one d some)

@@ -4,12 +4,12 @@ use Rattle.std.proofs.Common.{zero, suc, refl, arith, AllPairs, Contains, length
 use Rattle.std.proofs.lemmas.List.Elements.{All-from_recursion}
 use Rattle.surf_surfaces.specs.Joined.{Joined, here, over}
 use Rattle.surf_surfaces.specs.Mesh.{IsMesh, IsFace, pair, steps, characteristic}
-use Rattle.surf_surfaces.specs.Surface.{ends, faces_with, HasCorner, HasEdge, ShareAt, Share, HasOneFan, IsSurface, IsTurning}
+use Rattle.surf_surfaces.specs.Surface.{ends, faces_with, HasCorner, HasEdge, ShareAt, Share, HasOneFan, IsSurface, IsOrientation}
 use Rattle.surf_surfaces.specs.Turning.{IsOneSided}
 use Rattle.surf_surfaces.proofs.SmallFaces.{square}
 use Rattle.surf_surfaces.proofs.FanLaws.{listed_faces_are_fan}
-use Rattle.surf_turnings.specs.Examples.{half_cube, half_cube_chain, five_torus}
-use Rattle.surf_turnings.specs.Statements.{genus_of}
+use Rattle.surf_orientation.specs.Examples.{half_cube, half_cube_chain, five_torus}
+use Rattle.surf_orientation.specs.Statements.{genus_of}
 
 is_mesh : IsMesh half_cube
 is_mesh = All-from_recursion (IsFace 4) half_cube.faces (
@@ -97,18 +97,18 @@ half_cube_is_one_sided = record {
 pub half_cube_characteristic : characteristic half_cube ≡ pos 1
 half_cube_characteristic = refl
 
-pub five_torus_turning : IsTurning five_torus (λ f. false)
-five_torus_turning zero h = refl
-five_torus_turning (suc zero) h = refl
-five_torus_turning (suc (suc zero)) h = refl
-five_torus_turning (suc (suc (suc zero))) h = refl
-five_torus_turning (suc (suc (suc (suc zero)))) h = refl
-five_torus_turning (suc (suc (suc (suc (suc zero))))) h = refl
-five_torus_turning (suc (suc (suc (suc (suc (suc zero)))))) h = refl
-five_torus_turning (suc (suc (suc (suc (suc (suc (suc zero))))))) h = refl
-five_torus_turning (suc (suc (suc (suc (suc (suc (suc (suc zero)))))))) h = refl
-five_torus_turning (suc (suc (suc (suc (suc (suc (suc (suc (suc zero))))))))) h = refl
-five_torus_turning (suc (suc (suc (suc (suc (suc (suc (suc (suc (suc e)))))))))) h = absurd (omega arith)
+pub five_torus_orientation : IsOrientation five_torus (λ f. false)
+five_torus_orientation zero h = refl
+five_torus_orientation (suc zero) h = refl
+five_torus_orientation (suc (suc zero)) h = refl
+five_torus_orientation (suc (suc (suc zero))) h = refl
+five_torus_orientation (suc (suc (suc (suc zero)))) h = refl
+five_torus_orientation (suc (suc (suc (suc (suc zero))))) h = refl
+five_torus_orientation (suc (suc (suc (suc (suc (suc zero)))))) h = refl
+five_torus_orientation (suc (suc (suc (suc (suc (suc (suc zero))))))) h = refl
+five_torus_orientation (suc (suc (suc (suc (suc (suc (suc (suc zero)))))))) h = refl
+five_torus_orientation (suc (suc (suc (suc (suc (suc (suc (suc (suc zero))))))))) h = refl
+five_torus_orientation (suc (suc (suc (suc (suc (suc (suc (suc (suc (suc e)))))))))) h = absurd (omega arith)
 
 pub five_torus_genus : genus_of five_torus ≡ 1
 five_torus_genus = refl

@@ -11,12 +11,12 @@ use Rattle.surf_surfaces.specs.Surface.{face_count, edge_count, face_at, ends, f
 use Rattle.surf_surfaces.specs.Turning.{Link, next_face, AreLinked, same_ways, IsOneSided}
 use Rattle.surf_z2.proofs.ParityLaws.{xor_equal, xor_comm, xor_assoc, xor-same, any_below-found, any_below-none}
 use Rattle.surf_surfaces.proofs.SurfaceLaws.{two_faces_of, has_side-face}
-use Rattle.surf_surfaces.proofs.TurningLaws.{turned_is}
+use Rattle.surf_surfaces.proofs.OrientationLaws.{turned_is}
 use Rattle.surf_surfaces.specs.Cells.{cells_of}
 use Rattle.surf_surfaces.proofs.CellLaws.{surfaces_are_cells}
-use Rattle.surf_turnings.proofs.SideNumbers.{ends_rise}
-use Rattle.surf_turnings.specs.Chains.{same_way, Fits, FollowTree, links_down, links_up, tree_chain}
-use Rattle.surf_turnings.specs.Statements.{TurningsFit, MisfitsAreOneSided, SurfacesAreTwoSidedOrOneSided, TreeChainsGoByStep}
+use Rattle.surf_orientation.proofs.SideNumbers.{ends_rise}
+use Rattle.surf_orientation.specs.Chains.{same_way, Fits, FollowTree, links_down, links_up, tree_chain}
+use Rattle.surf_orientation.specs.Statements.{OrientationsFit, MisfitsAreOneSided, SurfacesAreTwoSidedOrOneSided, TreeChainsGoByStep}
 
 -- flags and runs that differ
 fit_from : (a b x y : Bool) → xor a x ≡ not (xor b y) → xor a b ≡ not (xor x y)
@@ -71,8 +71,8 @@ has_second mesh surface e l =
     (two_faces_of mesh surface e l).no_other b ∙ or_right (eqb b (faces_of mesh e).0) (eqb b b) (eq-eqb b b refl) in
     (has_side-face mesh (ends mesh e) b has, has)
 
-pub turnings_fit : TurningsFit
-turnings_fit mesh flags surface = (
+pub orientations_fit : OrientationsFit
+orientations_fit mesh flags surface = (
   (λ turning e l. fit_from (flags (faces_of mesh e).0) (flags (faces_of mesh e).1)
       (runs (ends mesh e) (face_at mesh (faces_of mesh e).0)) (runs (ends mesh e) (face_at mesh (faces_of mesh e).1))
       (sym (first e l) ∙ turning e l ∙ ap not (second e l))),
@@ -323,7 +323,7 @@ surfaces_are_two_sided_or_one_sided mesh surface =
           )
       | inr none ↦ inl (
         flags,
-        (turnings_fit mesh flags surface).1
+        (orientations_fit mesh flags surface).1
             (λ e l. xor_equal (xor (flags (faces_of mesh e).0) (flags (faces_of mesh e).1)) (same_way mesh e)
             (any_below-none E off none e l)),
       )

@@ -10,8 +10,8 @@ use Rattle.surf_surfaces.specs.Surface.{face_count, edge_count, IsSurface}
 use Rattle.surf_surfaces.specs.Cells.{cells_of}
 use Rattle.surf_surfaces.proofs.ClassLaws.{some_split}
 use Rattle.surf_surfaces.proofs.EulerSums.{less_two}
-use Rattle.surf_turnings.specs.Statements.{CountsAreEven, SurfacesHaveSplits, CharacteristicsAreAtMostTwo, CountsAreAtMostTwoMore, genus_of, GenusIsHalf, GenusIsFullCount, LeftEdgesAreTwiceGenus, ConnectedGraphsHaveTrees}
-use Rattle.surf_turnings.proofs.VertexLaws.{total_even}
+use Rattle.surf_orientation.specs.Statements.{CountsAreEven, SurfacesHaveSplits, CharacteristicsAreAtMostTwo, CountsAreAtMostTwoMore, genus_of, GenusIsHalf, GenusIsFullCount, LeftEdgesAreTwiceGenus, ConnectedGraphsHaveTrees}
+use Rattle.surf_orientation.proofs.VertexLaws.{total_even}
 
 pub counts_are_even : CountsAreEven
 counts_are_even mesh turned surface turning = total_even mesh surface turned turning

@@ -7,9 +7,9 @@ use Rattle.surf_z2.proofs.ParityLaws.{xors, xor-same, and-true, any_below-found,
 use Rattle.surf_z2.proofs.Sums.{count_below-same, count_below-none, count_below-all, count_below-without}
 use Rattle.surf_graphs.proofs.Signs.{is_odd, is_odd_same, is_odd_after, turn_after}
 use Rattle.surf_graphs.proofs.Rounds.{par, par-suc, par-zero, par-add, par_half}
-use Rattle.surf_turnings.specs.Names.{NamesRounds}
-use Rattle.surf_turnings.specs.Statements.{NamedRoundsAreEven}
-use Rattle.surf_turnings.proofs.Swaps.{swap, swap-first, swap-second, swap-other, swap_turn, swap_odd, is_odd-stays}
+use Rattle.surf_orientation.specs.Names.{NamesRounds}
+use Rattle.surf_orientation.specs.Statements.{NamedRoundsAreEven}
+use Rattle.surf_orientation.proofs.Swaps.{swap, swap-first, swap-second, swap-other, swap_turn, swap_odd, is_odd-stays}
 
 -- whether one of the n things has the name
 abbrev used : ℕ → (ℕ → ℕ) → ℕ → Bool

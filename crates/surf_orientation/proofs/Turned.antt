@@ -10,8 +10,8 @@ use Rattle.surf_surfaces.proofs.EdgeLaws.{list_any_at, list_any_from}
 use Rattle.surf_surfaces.proofs.FaceLaws.{pair_comm}
 use Rattle.surf_surfaces.proofs.SideLaws.{sides_are_by_place, side_place, after-below, after-before, before-after}
 use Rattle.surf_surfaces.proofs.CountLaws.{length-sides}
-use Rattle.surf_turnings.specs.Names.{NamesRounds}
-use Rattle.surf_turnings.proofs.SideNumbers.{side_count, edge_of, face_of, place, side_at, onward, onward_in, onward_back, back_onward, face_in, place_is, side_at_is, side_is_at}
+use Rattle.surf_orientation.specs.Names.{NamesRounds}
+use Rattle.surf_orientation.proofs.SideNumbers.{side_count, edge_of, face_of, place, side_at, onward, onward_in, onward_back, back_onward, face_in, place_is, side_at_is, side_is_at}
 
 -- the side after a side of a face, in the order by the face's flag
 abbrev pub next : Mesh → (ℕ → Bool) → ℕ → ℕ

@@ -3,8 +3,8 @@ use Rattle.std.proofs.Common.{◌≡◌, ◌≢◌, ℕ, ◌<◌, Bool, true, fa
 use Rattle.std.proofs.lemmas.Bool.{eqb-true, cases_lt, cases_Bool, lt-ltb, le-ltb, or_cases, true≢false, false_from_ne_true}
 use Rattle.surf_z2.specs.Parity.{xor, odd}
 use Rattle.surf_surfaces.specs.Mesh.{Mesh, IsFace, pair_of, edges}
-use Rattle.surf_surfaces.specs.Surface.{face_at, has_side, runs, runs_turned, faces_of, HasEdge, IsSurface, IsTurning}
-use Rattle.surf_surfaces.specs.Turning.{Link, next_face, AreLinked, same_ways, OneSidedChainsExcludeTurnings}
+use Rattle.surf_surfaces.specs.Surface.{face_at, has_side, runs, runs_turned, faces_of, HasEdge, IsSurface, IsOrientation}
+use Rattle.surf_surfaces.specs.Turning.{Link, next_face, AreLinked, same_ways, OneSidedChainsExcludeOrientations}
 use Rattle.surf_surfaces.specs.Walk.{place_of}
 use Rattle.surf_z2.proofs.ParityLaws.{xor-same, xor_meet}
 use Rattle.surf_surfaces.proofs.EdgeLaws.{list_any_from, among-edges, place_of-among}
@@ -56,7 +56,7 @@ xor-not true false = refl
 xor-not false true = refl
 xor-not false false = refl
 
-module _ (mesh : Mesh) (surface : IsSurface mesh) (turned : ℕ → Bool) (turning : IsTurning mesh turned) where
+module _ (mesh : Mesh) (surface : IsSurface mesh) (turned : ℕ → Bool) (turning : IsOrientation mesh turned) where
   -- the two faces of an edge, in either order, run it in opposite ways when turned
   faces_opposed : (q : ℕ × ℕ) (f g : ℕ) → f ≢ g → HasEdge mesh f q → HasEdge mesh g q →
       runs_turned turned mesh f q ≡ not (runs_turned turned mesh g q)
@@ -129,8 +129,8 @@ next_face_home : (links : List Link) → 0 < length links → next_face links (n
 next_face_home [] h = absurd (omega arith)
 next_face_home (link ∷ rest) h = refl
 
-pub one_sided_chains_exclude_turnings : OneSidedChainsExcludeTurnings
-one_sided_chains_exclude_turnings mesh surface links chain two =
+pub one_sided_chains_exclude_orientations : OneSidedChainsExcludeOrientations
+one_sided_chains_exclude_orientations mesh surface links chain two =
     let home = next_face links 0 in
     let none : odd (same_ways mesh links home) ≡ false =
     chain_flags mesh surface two.0 two.1 links home chain.linked

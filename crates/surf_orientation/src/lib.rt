@@ -4,7 +4,7 @@
 //! of each edge run it in opposite ways. A one-sided chain is a chain of faces back to its
 //! beginning that passes an odd number of edges which both faces run the same way.
 //!
-//! - A surface has a turning or a one-sided chain (`law_of_turnings`), and `surf_surfaces` says
+//! - A surface has a turning or a one-sided chain (`law_of_orientations`), and `surf_surfaces` says
 //!   that it never has both. Flags that are carried along a tree of the faces decide it: they fit
 //!   all edges, or the chain of an edge that they don't fit is one-sided.
 //! - Where there is a turning, vertices, edges and faces are an even number in all, so 2 - χ is
@@ -18,19 +18,19 @@
 //! Each law is the contract of a function that does nothing.
 #![tactic(auto)]
 
-ghost use Rattle.surf_turnings.specs.Statements.{NamedRoundsAreEven, CountsAreEven};
-ghost use Rattle.surf_turnings.specs.Statements.{ConnectedGraphsHaveTrees, SurfacesHaveSplits};
-ghost use Rattle.surf_turnings.specs.Statements.{CharacteristicsAreAtMostTwo, CountsAreAtMostTwoMore};
-ghost use Rattle.surf_turnings.specs.Statements.{GenusIsHalf, GenusIsFullCount};
-ghost use Rattle.surf_turnings.specs.Statements.{LeftEdgesAreTwiceGenus, TurningsFit};
-ghost use Rattle.surf_turnings.specs.Statements.{MisfitsAreOneSided, SurfacesAreTwoSidedOrOneSided};
-ghost use Rattle.surf_turnings.specs.Statements.{MisfitsAreEven, TwoSidedWhereMisfitsAreBoundary};
-ghost use Rattle.surf_turnings.specs.Statements.{SpheresAreTwoSided};
-ghost use Rattle.surf_turnings.specs.Statements.{OneSidedCharacteristicsAreAtMostOne};
-ghost use Rattle.surf_turnings.specs.Statements.{TurningsAreDetermined, TreeChainsGoByStep, genus_of};
-ghost use Rattle.surf_turnings.specs.Examples.{half_cube, half_cube_chain, five_torus};
+ghost use Rattle.surf_orientation.specs.Statements.{NamedRoundsAreEven, CountsAreEven};
+ghost use Rattle.surf_orientation.specs.Statements.{ConnectedGraphsHaveTrees, SurfacesHaveSplits};
+ghost use Rattle.surf_orientation.specs.Statements.{CharacteristicsAreAtMostTwo, CountsAreAtMostTwoMore};
+ghost use Rattle.surf_orientation.specs.Statements.{GenusIsHalf, GenusIsFullCount};
+ghost use Rattle.surf_orientation.specs.Statements.{LeftEdgesAreTwiceGenus, OrientationsFit};
+ghost use Rattle.surf_orientation.specs.Statements.{MisfitsAreOneSided, SurfacesAreTwoSidedOrOneSided};
+ghost use Rattle.surf_orientation.specs.Statements.{MisfitsAreEven, TwoSidedWhereMisfitsAreBoundary};
+ghost use Rattle.surf_orientation.specs.Statements.{SpheresAreTwoSided};
+ghost use Rattle.surf_orientation.specs.Statements.{OneSidedCharacteristicsAreAtMostOne};
+ghost use Rattle.surf_orientation.specs.Statements.{OrientationsAreDetermined, TreeChainsGoByStep, genus_of};
+ghost use Rattle.surf_orientation.specs.Examples.{half_cube, half_cube_chain, five_torus};
 ghost use Rattle.surf_surfaces.specs.Mesh.{characteristic};
-ghost use Rattle.surf_surfaces.specs.Surface.{IsSurface, IsTurning};
+ghost use Rattle.surf_surfaces.specs.Surface.{IsSurface, IsOrientation};
 ghost use Rattle.surf_surfaces.specs.Turning.{IsOneSided};
 ghost use Rattle.std.specs.Prelude.{◌≡◌, false, pos};
 
@@ -58,11 +58,11 @@ pub fn law_of_genus()
 
 /// A surface has a turning or a one-sided chain, and flags along a tree of its faces give one of
 /// them.
-pub fn law_of_turnings()
-    ensures fit { TurningsFit }
+pub fn law_of_orientations()
+    ensures fit { OrientationsFit }
     ensures misfit { MisfitsAreOneSided }
     ensures kinds { SurfacesAreTwoSidedOrOneSided }
-    ensures determined { TurningsAreDetermined }
+    ensures determined { OrientationsAreDetermined }
     ensures by_step { TreeChainsGoByStep }
 {}
 
@@ -81,6 +81,6 @@ pub fn small_surfaces()
     ensures torus { IsSurface five_torus }
     ensures one_sided { IsOneSided half_cube half_cube_chain }
     ensures characteristic { characteristic half_cube ≡ pos 1 }
-    ensures turning { IsTurning five_torus (λ f. false) }
+    ensures turning { IsOrientation five_torus (λ f. false) }
     ensures genus { genus_of five_torus ≡ 1 }
 {}
