@@ -247,7 +247,7 @@ A proof shows that the program meets its contract. Whether the contract says wha
 
 An **answer** is the theorem, the choice among ties, and how it is written down. The **contract** is all that `run` says of the command: also how words, files and lengths are read, which refusal comes first, and its line.
 
-| Command | Definition of its answer | Definitions | Lines | in the contract | lines |
+| Command | Definition of its answer | Definitions | Lines | in the contract: definitions | lines |
 |---|---|---|---|---|---|
 {rows}
 
