@@ -21,7 +21,7 @@ import tempfile
 TOP = pathlib.Path(__file__).resolve().parent.parent
 
 # The gate's share: each crate's first wrong body costs a proof of the whole crate, each further one the loading of it.
-MOST_EDITS, MOST_CRATES = 45, 14
+MOST_EDITS, MOST_CRATES = 30, 10
 
 # What `rt must-fail` says of one wrong body.
 TOLD = re.compile(r"must-fail (\w+)/([\w.-]+\.edit): (.*)")

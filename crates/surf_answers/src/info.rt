@@ -1,8 +1,8 @@
 //! The counts of a surface.
 ghost use Rattle.std.specs.Prelude.{◌<◌, ◌^◌};
 ghost use Rattle.surf_check.specs.Growth.{flag_of};
-ghost use Rattle.surf_surfaces.specs.Homology.{IsFullCount};
-ghost use Rattle.surf_surfaces.specs.Surface.{IsTurning, IsTwoSided};
+ghost use Rattle.surf_surfaces.specs.Homology.{IsLoopCount};
+ghost use Rattle.surf_surfaces.specs.Surface.{IsOrientation, IsOrientable};
 ghost use Rattle.surf_answers.specs.Info.{Informs, HasGenus, HasCrosscaps};
 ghost use Rattle.surf_answers.specs.Tells.{Concludes};
 
@@ -24,7 +24,7 @@ pub(crate) fn info_of(alloc: Global, mesh: &Surface) -> Result<Answered, Refused
 
 // The answer for a surface that a turning shows to be two-sided.
 fn two_sided(alloc: Global, mesh: &Surface, turning: &Turning) -> Result<Answered, Refused>
-    requires { IsTurning mesh.now (flag_of turning.now) }
+    requires { IsOrientation mesh.now (flag_of turning.now) }
     ensures { Concludes (HasGenus mesh.now) result }
 {
     mesh.law_of_surface();
@@ -40,7 +40,7 @@ fn two_sided(alloc: Global, mesh: &Surface, turning: &Turning) -> Result<Answere
 
 // The answer for a one-sided surface.
 fn one_sided(alloc: Global, mesh: &Surface) -> Result<Answered, Refused>
-    requires { IsTwoSided mesh.now → ⊥ }
+    requires { IsOrientable mesh.now → ⊥ }
     ensures { Concludes (HasCrosscaps mesh.now) result }
 {
     let mut text = counts_text(alloc, mesh)?;
@@ -62,7 +62,7 @@ pub fn kind_info_of(alloc: Global, kind: &Kind) -> Result<Answered, Refused>
 
 // The answer for a two-sided surface of which only the kind is kept.
 fn two_sided_kind(alloc: Global, kind: &Kind) -> Result<Answered, Refused>
-    requires { IsTwoSided kind.now }
+    requires { IsOrientable kind.now }
     ensures { Concludes (HasGenus kind.now) result }
 {
     kind.law_of_kind();
@@ -75,7 +75,7 @@ fn two_sided_kind(alloc: Global, kind: &Kind) -> Result<Answered, Refused>
 
 // The answer for a one-sided surface of which only the kind is kept.
 fn one_sided_kind(alloc: Global, kind: &Kind) -> Result<Answered, Refused>
-    requires { IsTwoSided kind.now → ⊥ }
+    requires { IsOrientable kind.now → ⊥ }
     ensures { Concludes (HasCrosscaps kind.now) result }
 {
     let mut text = kind_counts_text(alloc, kind)?;
@@ -86,7 +86,7 @@ fn one_sided_kind(alloc: Global, kind: &Kind) -> Result<Answered, Refused>
 
 // How many independent loops there are: 2 minus the characteristic.
 fn kind_loop_count(kind: &Kind) -> u64
-    ensures loops { IsFullCount kind.now result }
+    ensures loops { IsLoopCount kind.now result }
     ensures few { result < 2 ^ 32 }
 {
     kind.law_of_kind();
@@ -97,7 +97,7 @@ fn kind_loop_count(kind: &Kind) -> u64
 
 /// How many independent loops a surface has: 2 minus its characteristic.
 pub fn loop_count(mesh: &Surface) -> u64
-    ensures { IsFullCount mesh.now result }
+    ensures { IsLoopCount mesh.now result }
 {
     let edges = mesh.edges() as u64;
     let cells = mesh.vertices() as u64 + mesh.faces() as u64;

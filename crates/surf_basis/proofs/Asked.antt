@@ -14,7 +14,7 @@ use Rattle.surf_graphs.specs.Trees.{Tree}
 use Rattle.surf_surfaces.specs.Mesh.{Mesh}
 use Rattle.surf_surfaces.specs.Surface.{edge_count, ends, IsSurface}
 use Rattle.surf_surfaces.specs.Walk.{ArePositive}
-use Rattle.surf_surfaces.specs.Homology.{IsFullCount}
+use Rattle.surf_surfaces.specs.Homology.{IsLoopCount}
 use Rattle.surf_surfaces.specs.Cells.{cells_of}
 use Rattle.surf_surfaces.specs.Class.{class_of, AreShortestTrees}
 use Rattle.surf_surfaces.specs.Signature.{edge_signature}
@@ -204,7 +204,7 @@ module _ (mesh : Mesh) (lengths : List ℕ) (trees : ℕ → Trees) (surface : I
   found = map (found_of mesh searched) choice.kept
 
   pub capped_places : MeetsUpTo mesh lengths (is_sought (limit_of choice)) (sought_to caps (limit_of choice)) →
-      length choice.kept ≤ choice.width → IsFullCount mesh choice.width → All (HasFound found) basis
+      length choice.kept ≤ choice.width → IsLoopCount mesh choice.width → All (HasFound found) basis
   capped_places meets few full = elim (cases_Bool (nat_le choice.width (length choice.kept))) [
     | inr off ↦ every (limit_none choice.width choice.kept off)
     | inl on ↦ of on (last_of choice.kept) refl
@@ -223,7 +223,7 @@ module _ (mesh : Mesh) (lengths : List ℕ) (trees : ℕ → Trees) (surface : I
           let at : limit_of choice ≡ Some c = limit_last choice.width choice.kept on ∙ e in
           let many : choice.width ≤ length choice.kept = leb-true choice.width (length choice.kept) on in
           let n : length found ≡ length choice.kept = length-map choice.kept (found_of mesh searched) in
-          let count : IsFullCount mesh (length found) = omega (arith, n, many, few, full) in
+          let count : IsLoopCount mesh (length found) = omega (arith, n, many, few, full) in
           (full_count_has_places mesh lengths trees searched (place_of c) (sought_to caps (limit_of choice)) found basis
           surface positive chosen shortest (caps_start caps (limit_of choice))
           (subst (λ o. MeetsUpTo mesh lengths (is_sought o) (sought_to caps (limit_of choice))) at meets)

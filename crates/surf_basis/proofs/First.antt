@@ -7,7 +7,7 @@ use Rattle.std.proofs.lemmas.Bool.{cases_lt}
 use Rattle.surf_surfaces.specs.Mesh.{Mesh}
 use Rattle.surf_surfaces.specs.Surface.{face_count, edge_count, IsSurface}
 use Rattle.surf_surfaces.specs.Walk.{ArePositive}
-use Rattle.surf_surfaces.specs.Homology.{IsFullCount}
+use Rattle.surf_surfaces.specs.Homology.{IsLoopCount}
 use Rattle.surf_surfaces.specs.Choice.{Trees, AreChosen, Loop, loops_at, candidates}
 use Rattle.surf_surfaces.proofs.ClassLaws.{some_vertex}
 use Rattle.surf_surfaces.proofs.ChoiceExists.{choice_exists}
@@ -66,7 +66,7 @@ module _ (mesh : Mesh) (lengths : List ℕ) (trees : ℕ → Trees) (surface : I
       let walk = is.walk (trees c.base) (chosen c.base placed.base_in) placed.of.left in
       λ i. record { size = is.size i; base = is.base i; edge = is.edge i; walk = walk i }
 
-  pub no_first : None ≡ first_of (candidates mesh lengths trees) → IsFullCount mesh 0
+  pub no_first : None ≡ first_of (candidates mesh lengths trees) → IsLoopCount mesh 0
   no_first e =
       let base_in : 0 < mesh.vertices = some_vertex mesh surface in
       let count = (loops_are_least mesh lengths 0 (trees 0) surface positive (chosen 0 base_in)).least.is_system.count in
@@ -107,28 +107,28 @@ module _ (mesh : Mesh) (lengths : List ℕ) (surface : IsSurface mesh) (positive
       let good = first_is_shortest mesh lengths trees (as_loop cycle) rest surface positive chosen listed in
       record { shortest = good.0; size = good.1 }
 
-  pub found_some : (c : Candidate) → IsFound mesh lengths (Some c) → IsFullCount mesh 0 → ⊥
+  pub found_some : (c : Candidate) → IsFound mesh lengths (Some c) → IsLoopCount mesh 0 → ⊥
   found_some c found full =
       let (trees, chosen) = choice_exists mesh lengths surface positive in
       let e : Some (loop_in mesh trees c) ≡ None = found trees chosen ∙ ap first_of (none_on_sphere mesh lengths trees surface positive chosen full) in
       cc
 
-  pub found_none : IsFound mesh lengths None → IsFullCount mesh 0
+  pub found_none : IsFound mesh lengths None → IsLoopCount mesh 0
   found_none found =
       let (trees, chosen) = choice_exists mesh lengths surface positive in
       no_first mesh lengths trees surface positive chosen (found trees chosen)
 
   -- nothing is found exactly on a sphere, where every simple cycle separates
-  pub none_exactly : (found : Option Cycle) → (found ≡ None → IsFullCount mesh 0) → (IsFullCount mesh 0 → found ≡ None) →
-      ((found ≡ None) ↔ IsFullCount mesh 0) × ((found ≡ None) ↔ AllSeparate mesh)
+  pub none_exactly : (found : Option Cycle) → (found ≡ None → IsLoopCount mesh 0) → (IsLoopCount mesh 0 → found ≡ None) →
+      ((found ≡ None) ↔ IsLoopCount mesh 0) × ((found ≡ None) ↔ AllSeparate mesh)
   none_exactly found to from =
       let law = simple_cycles_separate mesh surface in
       ((to, from), (λ none. law.1 (to none), λ all. from (law.0 all)))
 
   pub none_found : (found : Option Cycle) → found ≡ None → IsFound mesh lengths None →
-      ((found ≡ None) ↔ IsFullCount mesh 0) × ((found ≡ None) ↔ AllSeparate mesh)
+      ((found ≡ None) ↔ IsLoopCount mesh 0) × ((found ≡ None) ↔ AllSeparate mesh)
   none_found found is none = none_exactly found (λ e. found_none none) (λ full. is)
 
   pub some_found : (c : Candidate) (cycle : Cycle) → IsFound mesh lengths (Some c) →
-      ((Some cycle ≡ None) ↔ IsFullCount mesh 0) × ((Some cycle ≡ None) ↔ AllSeparate mesh)
+      ((Some cycle ≡ None) ↔ IsLoopCount mesh 0) × ((Some cycle ≡ None) ↔ AllSeparate mesh)
   some_found c cycle found = none_exactly (Some cycle) (λ e. cc) (λ full. absurd (found_some c found full))

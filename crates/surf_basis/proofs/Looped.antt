@@ -12,7 +12,7 @@ use Rattle.surf_surfaces.specs.Mesh.{Mesh}
 use Rattle.surf_surfaces.specs.Surface.{edge_count, face_count, IsSurface}
 use Rattle.surf_surfaces.specs.Walk.{ArePositive, parity}
 use Rattle.surf_surfaces.specs.Cells.{cells_of}
-use Rattle.surf_surfaces.specs.Homology.{IsFullCount}
+use Rattle.surf_surfaces.specs.Homology.{IsLoopCount}
 use Rattle.surf_surfaces.specs.Class.{class_of}
 use Rattle.surf_surfaces.specs.Signature.{edge_signature}
 use Rattle.surf_surfaces.specs.Loop.{loop_walk}
@@ -91,7 +91,7 @@ module _ (mesh : Mesh) (lengths : List ℕ) (trees : ℕ → Trees) (surface : I
       λ i. record { size = h.length; base = t.tree.base; edge = h.edge; walk = walk i }
 
   -- where χ is 2 there is no candidate
-  pub none_on_sphere : IsFullCount mesh 0 → candidates mesh lengths trees ≡ []
+  pub none_on_sphere : IsLoopCount mesh 0 → candidates mesh lengths trees ≡ []
   none_on_sphere full = empty (candidates mesh lengths trees) (λ some.
       let less : mesh.vertices + face_count mesh < edge_count mesh + 2 = (candidates_below_two mesh lengths trees surface positive chosen).0 some in
       omega (arith, less, full))
@@ -100,7 +100,7 @@ module _ (mesh : Mesh) (lengths : List ℕ) (trees : ℕ → Trees) (surface : I
       empty [] h = refl
       empty (c ∷ cs) h = absurd (h (omega arith))
 
-  pub empty_basis : IsFullCount mesh 0 → IsChosenBasis mesh lengths trees []
+  pub empty_basis : IsLoopCount mesh 0 → IsChosenBasis mesh lengths trees []
   empty_basis full = subst (λ cs. IsGreedyChoice mesh cs []) (sym (none_on_sphere full)) (record {
     keep = [];
     are_kept = refl;

@@ -2,7 +2,7 @@
 use Rattle.std.proofs.Common.{ℕ, ◌<◌, ◌≤◌, List, length, get_or, All, sym, ap, ◌∙◌, subst}
 use Rattle.surf_surfaces.specs.Surface.{IsSurface}
 use Rattle.surf_surfaces.specs.Walk.{ArePositive}
-use Rattle.surf_surfaces.specs.Homology.{IsFullCount}
+use Rattle.surf_surfaces.specs.Homology.{IsLoopCount}
 use Rattle.surf_surfaces.proofs.ChoiceExists.{choice_exists}
 use Rattle.surf_surfaces.proofs.FewBasesLaws.{least_base_on_way}
 use Rattle.surf_surfaces.proofs.FirstCycleLaws.{shortest_trees}
@@ -32,7 +32,7 @@ module _ (f : SurfaceTables) (surface : IsSurface f.mesh) (positive : ArePositiv
 
   pub round_places : (old : Chosen) (before : List ℕ) (most : ℕ) → AreKeptUpTo f before old →
       AreCapped f.mesh f.signs old.kept most caps → 18446744073709551615 ≤ most → length choice.kept ≤ choice.width →
-      IsFullCount f.mesh choice.width → HavePlacesOfBasis f.mesh f.lengths choice.kept
+      IsLoopCount f.mesh choice.width → HavePlacesOfBasis f.mesh f.lengths choice.kept
   round_places old before most was capped big few full trees chosen basis is =
       let short = shortest_trees f.mesh f.lengths surface positive trees chosen in
       let first = was trees chosen signed.split signed.is_split signed.signatures in

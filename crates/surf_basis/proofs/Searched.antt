@@ -21,7 +21,7 @@ use Rattle.surf_graphs.specs.Trees.{Tree}
 use Rattle.surf_surfaces.specs.Mesh.{Mesh}
 use Rattle.surf_surfaces.specs.Surface.{edge_count, IsSurface}
 use Rattle.surf_surfaces.specs.Walk.{IsClosed, ArePositive, parity}
-use Rattle.surf_surfaces.specs.Homology.{IsNull, IsIndependent, IsFullCount}
+use Rattle.surf_surfaces.specs.Homology.{IsNull, IsIndependent, IsLoopCount}
 use Rattle.surf_surfaces.specs.Cells.{cells_of}
 use Rattle.surf_surfaces.specs.Class.{class_of, AreShortestTrees}
 use Rattle.surf_surfaces.specs.Loop.{loop_walk}
@@ -311,7 +311,7 @@ module _ (mesh : Mesh) (lengths : List ℕ) (trees : ℕ → Tree) (surface : Is
 
   -- what is kept is enough
   pub kept_enough : (set : ℕ → Bool) (choice : Chosen) → Kept (limit_of choice) set choice.kept →
-      length choice.kept ≤ choice.width → IsFullCount mesh choice.width →
+      length choice.kept ≤ choice.width → IsLoopCount mesh choice.width →
       AreEnough mesh lengths trees set (map (found_of mesh trees) choice.kept)
   kept_enough set choice k few full = elim (cases_Bool (nat_le choice.width (length choice.kept))) [
     | inr off ↦ every (limit_none choice.width choice.kept off)
@@ -329,7 +329,7 @@ module _ (mesh : Mesh) (lengths : List ℕ) (trees : ℕ → Tree) (surface : Is
       of on (Some c) e =
           let many : choice.width ≤ length choice.kept = leb-true choice.width (length choice.kept) on in
           let n : length (map (found_of mesh trees) choice.kept) ≡ length choice.kept = length-map choice.kept (found_of mesh trees) in
-          let count : IsFullCount mesh (length (map (found_of mesh trees) choice.kept)) = omega (arith, n, many, few, full) in
+          let count : IsLoopCount mesh (length (map (found_of mesh trees) choice.kept)) = omega (arith, n, many, few, full) in
           short_searches_suffice mesh lengths trees set (place_of c) (map (found_of mesh trees) choice.kept) surface positive shortest
           (kept_independent choice.kept k.each k.independent) count
           (All-from_recursion (IsWithin (place_of c)) (map (found_of mesh trees) choice.kept)

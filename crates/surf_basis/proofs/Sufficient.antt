@@ -4,7 +4,7 @@ use Rattle.surf_surfaces.specs.Mesh.{Mesh}
 use Rattle.surf_surfaces.specs.Surface.{IsSurface}
 use Rattle.surf_surfaces.specs.Walk.{ArePositive}
 use Rattle.surf_surfaces.specs.FewBases.{MeetsAll}
-use Rattle.surf_surfaces.specs.Homology.{IsFullCount}
+use Rattle.surf_surfaces.specs.Homology.{IsLoopCount}
 use Rattle.surf_surfaces.proofs.ChoiceExists.{choice_exists}
 use Rattle.surf_surfaces.proofs.FewBasesLaws.{few_bases_suffice, least_base_on_way}
 use Rattle.surf_surfaces.proofs.FirstCycleLaws.{shortest_trees}
@@ -33,7 +33,7 @@ module _ (mesh : Mesh) (lengths : List ℕ) (surface : IsSurface mesh) (positive
       subst (λ n. n < mesh.vertices) (sym r.base) inside)
 
   pub places_enough : (choice : Chosen) → MeetsAll mesh (is_among vs) → AreKeptFrom mesh lengths s vs choice →
-      length choice.kept ≤ choice.width → IsFullCount mesh choice.width → HavePlacesOfBasis mesh lengths choice.kept
+      length choice.kept ≤ choice.width → IsLoopCount mesh choice.width → HavePlacesOfBasis mesh lengths choice.kept
   places_enough choice meets h few full trees chosen basis is =
       let short = shortest_trees mesh lengths surface positive trees chosen in
       let found = map (found_of mesh (λ x. (trees x).tree)) choice.kept in

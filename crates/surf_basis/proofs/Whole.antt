@@ -7,7 +7,7 @@ use Rattle.surf_surfaces.specs.Mesh.{Mesh}
 use Rattle.surf_surfaces.specs.Surface.{edge_count, ends, IsSurface}
 use Rattle.surf_surfaces.specs.Walk.{ArePositive}
 use Rattle.surf_surfaces.specs.Cells.{cells_of}
-use Rattle.surf_surfaces.specs.Homology.{IsFullCount}
+use Rattle.surf_surfaces.specs.Homology.{IsLoopCount}
 use Rattle.surf_surfaces.specs.Loop.{loop_length}
 use Rattle.surf_surfaces.specs.ShortestTree.{IsShortestTree}
 use Rattle.surf_surfaces.specs.Choice.{Loop, IsChosenBasis}
@@ -32,7 +32,7 @@ use Rattle.surf_basis.proofs.Kept.{cycles_basis}
 
 -- how many edges are left is 2 − χ
 pub left_full : (mesh : Mesh) (lengths : List ℕ) (base : ℕ) (t : LoopTables) (cotree : CotreeTables) (left : List ℕ) → IsGreedy mesh lengths base t →
-    cotree ≡ t.cotree → left ≡ cotree.left → IsFullCount mesh (length left)
+    cotree ≡ t.cotree → left ≡ cotree.left → IsLoopCount mesh (length left)
 left_full mesh lengths base t cotree left g same is =
     let count = g.cotree.count in
     let e : length left ≡ length t.cotree.left = ap (λ (xs : List ℕ). length xs) (is ∙ ap (λ (c : CotreeTables). c.left) same) in
@@ -59,8 +59,8 @@ desk_signed mesh lengths base t new before after left width g old is_left wide r
     })
 
 -- the edges that are left, as they are lent, are as many
-pub left_count : (mesh : Mesh) (t : CotreeTables) (left : List ℕ) → IsFullCount mesh (length t.left) → left ≡ t.left → IsFullCount mesh (length left)
-left_count mesh t left full is = subst (λ (xs : List ℕ). IsFullCount mesh (length xs)) (sym is) full
+pub left_count : (mesh : Mesh) (t : CotreeTables) (left : List ℕ) → IsLoopCount mesh (length t.left) → left ≡ t.left → IsLoopCount mesh (length left)
+left_count mesh t left full is = subst (λ (xs : List ℕ). IsLoopCount mesh (length xs)) (sym is) full
 
 -- a loop is as long by all trees of shortest walks
 length_same : (mesh : Mesh) (lengths : List ℕ) → IsSurface mesh → ArePositive mesh lengths → (base : ℕ) (a b : Tree) →
@@ -77,7 +77,7 @@ module _ (mesh : Mesh) (lengths : List ℕ) (surface : IsSurface mesh) (positive
       let (trees, chosen) = choice_exists mesh lengths surface positive in
       basis_is_least mesh lengths trees basis surface positive chosen (is trees chosen)
 
-  pub none_basis : (cycles : List Cycle) → cycles ≡ [] → IsFullCount mesh 0 → IsTheBasis mesh lengths (as_loops cycles)
+  pub none_basis : (cycles : List Cycle) → cycles ≡ [] → IsLoopCount mesh 0 → IsTheBasis mesh lengths (as_loops cycles)
   none_basis cycles none full trees chosen =
       subst (λ ys. IsChosenBasis mesh lengths trees (as_loops ys)) (sym none) (empty_basis mesh lengths trees surface positive chosen full)
 

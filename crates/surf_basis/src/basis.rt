@@ -2,7 +2,7 @@
 ghost use Rattle.std.specs.Prelude.{◌≡◌, ◌<◌, ◌≤◌, ◌+◌, ◌^◌, [], All, IfOk, OnOk, IfSome, length};
 ghost use Rattle.surf_surfaces.specs.Surface.{edge_count, IsSurface, loop_count};
 ghost use Rattle.surf_surfaces.specs.Walk.{ArePositive};
-ghost use Rattle.surf_surfaces.specs.Homology.{IsFullCount};
+ghost use Rattle.surf_surfaces.specs.Homology.{IsLoopCount};
 ghost use Rattle.surf_surfaces.specs.FewBases.{AreBases, MeetsAll};
 ghost use Rattle.surf_surfaces.specs.ChoiceLaws.{LeastSimpleBasis};
 ghost use Rattle.surf_basis.specs.Cycles.{first_of, IsFirstCandidate, IsShortestCycle, IsTheBasis, as_loops};
@@ -97,7 +97,7 @@ fn basis_over(
     requires signed { AreSigned surface.now.mesh.now surface.now.signatures.now count }
     requires vertices { All (λ v. v < surface.now.mesh.now.vertices) vertices.now }
     requires met { MeetsAll surface.now.mesh.now (is_among vertices.now) }
-    requires full { IsFullCount surface.now.mesh.now count }
+    requires full { IsLoopCount surface.now.mesh.now count }
     requires few { count ≤ MAX_LOOPS }
     ensures chosen { IfOk result (λ cycles. IsTheBasis surface.now.mesh.now surface.now.lengths.now
         (as_loops cycles.items)) }

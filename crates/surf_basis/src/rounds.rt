@@ -1,6 +1,6 @@
 //! Searches in rounds, at each vertex no farther than it has to be.
 ghost use Rattle.std.specs.Prelude.{◌≡◌, ◌<◌, ◌≤◌, ◌^◌, ◌+◌, ◌/◌, ℕ, [], All, IfOk, OnOk, length, min};
-ghost use Rattle.surf_surfaces.specs.Homology.{IsFullCount};
+ghost use Rattle.surf_surfaces.specs.Homology.{IsLoopCount};
 ghost use Rattle.surf_surfaces.specs.Surface.{edge_count, IsSurface};
 ghost use Rattle.surf_surfaces.specs.Walk.{ArePositive};
 ghost use Rattle.surf_surfaces.specs.FewBases.{MeetsAll};
@@ -270,7 +270,7 @@ fn run_last(
     requires reached { length reached.old ≡ surface.now.mesh.now.vertices }
     requires signed { AreSigned surface.now.mesh.now surface.now.signatures.now choice.old.width }
     requires kept { AreKeptUpTo finder.old reached.old choice.old }
-    requires full { IsFullCount surface.now.mesh.now choice.old.width }
+    requires full { IsLoopCount surface.now.mesh.now choice.old.width }
     ensures inside { OnOk result (All (λ s. s.candidate.base < surface.now.mesh.now.vertices)
         choice.new.kept) }
     ensures places { OnOk result (HavePlacesOfBasis surface.now.mesh.now surface.now.lengths.now
@@ -301,7 +301,7 @@ fn search_rest(
     requires kept { AreKeptUpTo finder.old reached.old choice.old }
     requires vertices { All (λ v. v < surface.now.mesh.now.vertices) vertices.now }
     requires met { MeetsAll surface.now.mesh.now (is_among vertices.now) }
-    requires full { IsFullCount surface.now.mesh.now choice.old.width }
+    requires full { IsLoopCount surface.now.mesh.now choice.old.width }
     ensures inside { OnOk result (All (λ s. s.candidate.base < surface.now.mesh.now.vertices)
         choice.new.kept) }
     ensures places { OnOk result (HavePlacesOfBasis surface.now.mesh.now surface.now.lengths.now
@@ -333,7 +333,7 @@ fn keep_sufficient(
     requires kept { AreKeptUpTo finder.old reached.old choice.old }
     requires vertices { All (λ v. v < surface.now.mesh.now.vertices) vertices.now }
     requires met { MeetsAll surface.now.mesh.now (is_among vertices.now) }
-    requires full { IsFullCount surface.now.mesh.now choice.old.width }
+    requires full { IsLoopCount surface.now.mesh.now choice.old.width }
     ensures inside { OnOk result (All (λ s. s.candidate.base < surface.now.mesh.now.vertices)
         choice.new.kept) }
     ensures places { OnOk result (HavePlacesOfBasis surface.now.mesh.now surface.now.lengths.now
@@ -368,7 +368,7 @@ pub(crate) fn sufficient_loops(
     requires signed { AreSigned surface.now.mesh.now surface.now.signatures.now count }
     requires vertices { All (λ v. v < surface.now.mesh.now.vertices) vertices.now }
     requires met { MeetsAll surface.now.mesh.now (is_among vertices.now) }
-    requires full { IsFullCount surface.now.mesh.now count }
+    requires full { IsLoopCount surface.now.mesh.now count }
     requires few { count ≤ MAX_LOOPS }
     ensures inside { IfOk result (λ found.
         All (λ s. s.candidate.base < surface.now.mesh.now.vertices) found.kept) }

@@ -3,7 +3,7 @@ ghost use Rattle.std.specs.Prelude.{◌≡◌, ◌<◌, ◌≤◌, ◌^◌, ℕ,
 ghost use Rattle.std.specs.Prelude.{slice_index_or, IfOk, OnOk, IsTrue};
 ghost use Rattle.std.specs.List.Sorted.{IsNonDecreasingBy};
 ghost use Rattle.surf_z2.specs.Space.{no_member};
-ghost use Rattle.surf_surfaces.specs.Homology.{IsFullCount};
+ghost use Rattle.surf_surfaces.specs.Homology.{IsLoopCount};
 ghost use Rattle.surf_surfaces.specs.Walk.{ArePositive};
 ghost use Rattle.surf_surfaces.specs.FewBases.{AreBases, MeetsAll};
 ghost use Rattle.surf_surfaces.specs.Surface.{edge_count, IsSurface};
@@ -231,7 +231,7 @@ pub(crate) fn search_vertices(
     requires signed { AreSigned surface.now.mesh.now surface.now.signatures.now choice.old.width }
     requires vertices { All (λ v. v < surface.now.mesh.now.vertices) vertices.now }
     requires met { MeetsAll surface.now.mesh.now (is_among vertices.now) }
-    requires full { IsFullCount surface.now.mesh.now choice.old.width }
+    requires full { IsLoopCount surface.now.mesh.now choice.old.width }
     requires start { AreKeptIn finder.old.mesh finder.old.lengths finder.old.signs no_member
         choice.old }
     ensures inside { OnOk result (All (λ s. s.candidate.base < surface.now.mesh.now.vertices)

@@ -2,7 +2,7 @@
 ghost use Rattle.std.specs.Prelude.{ℕ, ◌≡◌, ◌<◌, ◌≤◌, ◌+◌, ◌↔◌, None, IfOk, IfSome, length};
 ghost use Rattle.std.specs.Option.{option_map};
 ghost use Rattle.surf_surfaces.specs.Surface.{edge_count, loop_count};
-ghost use Rattle.surf_surfaces.specs.Homology.{IsFullCount};
+ghost use Rattle.surf_surfaces.specs.Homology.{IsLoopCount};
 ghost use Rattle.surf_surfaces.specs.Choice.{Trees, AreChosen, candidates, loops_at};
 ghost use Rattle.surf_tree.specs.Grown.{IsGrown as IsTreeGrown};
 ghost use Rattle.surf_loops.specs.Loops.{AreLoopTables};
@@ -120,7 +120,7 @@ pub fn least_nonseparating(
     ensures first { IfOk result (λ found. IsFirstCandidate mesh.now lengths.now found) }
     ensures shortest { IfOk result (λ found. IfSome found
         (λ cycle. IsShortestCycle mesh.now lengths.now cycle)) }
-    ensures none { IfOk result (λ found. (found ≡ None) ↔ IsFullCount mesh.now 0) }
+    ensures none { IfOk result (λ found. (found ≡ None) ↔ IsLoopCount mesh.now 0) }
     ensures separate { IfOk result (λ found. (found ≡ None) ↔ AllSeparate mesh.now) }
 {
     mesh.law_of_surface();

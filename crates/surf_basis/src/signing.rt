@@ -1,6 +1,6 @@
 //! Signatures of edges.
 ghost use Rattle.std.specs.Prelude.{◌≡◌, ◌≤◌, ◌+◌, length, IfOk};
-ghost use Rattle.surf_surfaces.specs.Homology.{IsFullCount};
+ghost use Rattle.surf_surfaces.specs.Homology.{IsLoopCount};
 ghost use Rattle.surf_surfaces.specs.Surface.{edge_count, loop_count};
 ghost use Rattle.surf_basis.specs.Signing.{AreSigned, IsDividedBy};
 ghost use Rattle.surf_base.specs.declared.limits.TheConstants.{MAX_LOOPS};
@@ -21,7 +21,7 @@ pub(crate) fn signed_desk(
     requires few { loop_count mesh.now ≤ MAX_LOOPS }
     ensures signed { IfOk result (λ desk. AreSigned mesh.now desk.cotree
         (length desk.cotree.left)) }
-    ensures full { IfOk result (λ desk. IsFullCount mesh.now (length desk.cotree.left)) }
+    ensures full { IfOk result (λ desk. IsLoopCount mesh.now (length desk.cotree.left)) }
     ensures divided { IfOk result (IsDividedBy mesh.now) }
 {
     mesh.law_of_surface();

@@ -12,7 +12,7 @@ use Rattle.surf_z2.proofs.Ranks.{in_wider}
 use Rattle.surf_z2.proofs.Passing.{some_or_none}
 use Rattle.surf_z2.proofs.Span.{InSpan, add_in, in_from_spanned}
 use Rattle.surf_graphs.specs.Cells.{primal, Split, IsSplit}
-use Rattle.surf_graphs.specs.Graphs.{Graph, IsGraph, IsWalk as IsGraphWalk, walk_chain, walk_length as graph_length, edge_between}
+use Rattle.surf_graphs.specs.Graphs.{Graph, IsGraph, IsGraphWalk, walk_chain, graph_walk_length, edge_between}
 use Rattle.surf_graphs.specs.Independence.{signature_of}
 use Rattle.surf_graphs.specs.Trees.{Tree, loop}
 use Rattle.surf_graphs.proofs.Graphs.{edge_between_is, walk-append}
@@ -50,7 +50,7 @@ walk_in g graph a (c ∷ w) b a_in h = (a_in, walk_in g graph c w b (joined_in g
 same_off : (g : Graph) (len other : ℕ → ℕ) (set : ℕ → Bool) →
     ((e : ℕ) → e < g.edges → set (g.from e) ≡ false → set (g.to e) ≡ false → other e ≡ len e) → (a : ℕ) (w : List ℕ)
     (b : ℕ) → IsGraphWalk g a w b → AllByRecursion (λ n. set n ≡ false) (a ∷ w) →
-    graph_length g other a w ≡ graph_length g len a w
+    graph_walk_length g other a w ≡ graph_walk_length g len a w
 same_off g len other set agree a [] b h off = refl
 same_off g len other set agree a (c ∷ w) b h off =
     let m = edge_between g a c in
@@ -110,13 +110,13 @@ module _ (mesh : Mesh) (lengths other : List ℕ) (trees others : ℕ → Tree) 
   -- a closed walk over z that keeps off the set is a sum of those found that come no later
   off_set : (x size : ℕ) (w : List ℕ) → x < mesh.vertices → here (size, x) ≡ true →
       IsGraphWalk (primal (cells_of mesh)) x w x → Contains (x ∷ w) z →
-      graph_length (primal (cells_of mesh)) (edge_length lengths) x w ≤ size →
+      graph_walk_length (primal (cells_of mesh)) (edge_length lengths) x w ≤ size →
       AllByRecursion (λ n. set n ≡ false) (x ∷ w) →
       InSpan numbers (within mesh d surface split (size, x) found)
       (signature_of (cells_of mesh) d (walk_chain (primal (cells_of mesh)) x w))
   off_set x size w x_in is_here closed over no_longer off =
       let g = primal (cells_of mesh) in
-      let as_long : graph_length g (edge_length other) x w ≡ graph_length g (edge_length lengths) x w =
+      let as_long : graph_walk_length g (edge_length other) x w ≡ graph_walk_length g (edge_length lengths) x w =
       same_off g (edge_length lengths) (edge_length other) set agree x w x closed off in
       over_by mesh other others surface positive_too shortest_too d split (within mesh d surface split (size, x) found)
       x size z w x_in z_in closed over (omega (arith, as_long, no_longer)) (λ e e_in no_later.
@@ -193,7 +193,7 @@ module _ (mesh : Mesh) (lengths other : List ℕ) (trees others : ℕ → Tree) 
 
   -- so is a closed walk at y, no longer by the other lengths than a size
   walk_near : (y size base : ℕ) (w : List ℕ) → IsGraphWalk (primal (cells_of mesh)) y w y → (others z).rank y ≤ far →
-      least < size → size ≤ most → graph_length (primal (cells_of mesh)) (edge_length other) y w ≤ size →
+      least < size → size ≤ most → graph_walk_length (primal (cells_of mesh)) (edge_length other) y w ≤ size →
       InSpan numbers (within mesh d surface split (size, base) found)
       (signature_of (cells_of mesh) d (walk_chain (primal (cells_of mesh)) y w))
   walk_near y size base w closed near more le no_longer =
@@ -210,7 +210,7 @@ module _ (mesh : Mesh) (lengths other : List ℕ) (trees others : ℕ → Tree) 
 
   -- and so is one at x over y that keeps off the set
   near_off : (x y size : ℕ) (w : List ℕ) → IsGraphWalk (primal (cells_of mesh)) x w x → Contains (x ∷ w) y →
-      graph_length (primal (cells_of mesh)) (edge_length lengths) x w ≤ size →
+      graph_walk_length (primal (cells_of mesh)) (edge_length lengths) x w ≤ size →
       AllByRecursion (λ n. set n ≡ false) (x ∷ w) → (others z).rank y ≤ far → least < size → size ≤ most →
       InSpan numbers (within mesh d surface split (size, x) found)
       (signature_of (cells_of mesh) d (walk_chain (primal (cells_of mesh)) x w))
@@ -221,12 +221,12 @@ module _ (mesh : Mesh) (lengths other : List ℕ) (trees others : ℕ → Tree) 
       let (first, second, is, there, back) = walk_parts g x w x y closed over in
       let straight = walk-append g off_len x first y second x there back in
       let turned = walk-append g off_len y second x first y back there in
-      let as_long : graph_length g off_len x w ≡ graph_length g (edge_length lengths) x w =
+      let as_long : graph_walk_length g off_len x w ≡ graph_walk_length g (edge_length lengths) x w =
       same_off g (edge_length lengths) off_len set agree x w x closed off in
-      let whole : graph_length g off_len x w ≡ graph_length g off_len x first + graph_length g off_len y second =
-      ap (graph_length g off_len x) is ∙ straight.2 in
-      let other_way : graph_length g off_len y (second ++ first)
-      ≡ graph_length g off_len y second + graph_length g off_len x first = turned.2 in
+      let whole : graph_walk_length g off_len x w ≡ graph_walk_length g off_len x first + graph_walk_length g off_len y second =
+      ap (graph_walk_length g off_len x) is ∙ straight.2 in
+      let other_way : graph_walk_length g off_len y (second ++ first)
+      ≡ graph_walk_length g off_len y second + graph_walk_length g off_len x first = turned.2 in
       let same : (e : ℕ) → walk_chain g x w e ≡ walk_chain g y (second ++ first) e =
       λ e. ap (λ v. walk_chain g x v e) is ∙ straight.1 e
       ∙ xor_comm (walk_chain g x first e) (walk_chain g y second e) ∙ sym (turned.1 e) in

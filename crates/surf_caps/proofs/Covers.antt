@@ -12,7 +12,7 @@ use Rattle.surf_z2.proofs.Passing.{all_passing}
 use Rattle.surf_z2.proofs.Ranks.{in_wider}
 use Rattle.surf_z2.proofs.Span.{InSpan, AllInSpan, add_in, trans_in, in_from_spanned}
 use Rattle.surf_graphs.specs.Cells.{primal, Split, IsSplit}
-use Rattle.surf_graphs.specs.Graphs.{Graph, IsWalk as IsGraphWalk, walk_chain, walk_length as graph_length, edge_between}
+use Rattle.surf_graphs.specs.Graphs.{Graph, IsGraphWalk, walk_chain, graph_walk_length, edge_between}
 use Rattle.surf_graphs.specs.Independence.{signature_of}
 use Rattle.surf_graphs.specs.Trees.{Tree, loop}
 use Rattle.surf_graphs.proofs.Graphs.{edge_between_is}
@@ -45,7 +45,7 @@ use Rattle.surf_caps.specs.Caps.{Sought, AreSoughtFromStart, MeetsUpTo, place_of
 
 -- a walk is no longer by lengths none of which is above others
 pub no_longer_by : (g : Graph) (len other : ℕ → ℕ) → ((e : ℕ) → e < g.edges → len e ≤ other e) → (a : ℕ) (w : List ℕ)
-    (b : ℕ) → IsGraphWalk g a w b → graph_length g len a w ≤ graph_length g other a w
+    (b : ℕ) → IsGraphWalk g a w b → graph_walk_length g len a w ≤ graph_walk_length g other a w
 no_longer_by g len other less a [] b h = omega arith
 no_longer_by g len other less a (c ∷ w) b h =
     let m = edge_between g a c in

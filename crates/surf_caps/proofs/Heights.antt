@@ -11,7 +11,7 @@ use Rattle.surf_z2.proofs.Linear.{sum_over, over_in, linear-sum_over, sum_over-a
 use Rattle.surf_z2.proofs.ParityLaws.{and_comm, eqb_comm, odd_below-same, odd_below-one, any_below-found, any_below-none}
 use Rattle.surf_z2.proofs.Span.{InSpan, zero_in, in_from_spanned, spanned_from_in}
 use Rattle.surf_graphs.specs.Cells.{primal, Split, IsSplit, signature, chain_signature}
-use Rattle.surf_graphs.specs.Graphs.{Graph, joins, IsWalk as IsGraphWalk, edge_between, walk_chain}
+use Rattle.surf_graphs.specs.Graphs.{Graph, joins, IsGraphWalk, edge_between, walk_chain}
 use Rattle.surf_graphs.specs.Independence.{signature_of}
 use Rattle.surf_graphs.proofs.Graphs.{edge_between_is}
 use Rattle.surf_graphs.proofs.Independence.{signature_of-same, signature_of-linear}

@@ -7,7 +7,7 @@ use Rattle.surf_z2.proofs.Passing.{all_filtered}
 use Rattle.surf_z2.proofs.Ranks.{in_wider}
 use Rattle.surf_z2.proofs.Span.{InSpan, in_from_spanned, spanned_from_in}
 use Rattle.surf_graphs.specs.Cells.{primal, Split, IsSplit}
-use Rattle.surf_graphs.specs.Graphs.{IsWalk as IsGraphWalk, walk_chain, walk_length as graph_length}
+use Rattle.surf_graphs.specs.Graphs.{IsGraphWalk, walk_chain, graph_walk_length}
 use Rattle.surf_graphs.specs.Independence.{signature_of}
 use Rattle.surf_graphs.specs.Trees.{Tree}
 use Rattle.surf_graphs.proofs.Through.{over_spanned}
@@ -67,7 +67,7 @@ module _ (mesh : Mesh) (lengths : List ℕ) (trees : ℕ → Tree) (surface : Is
   -- what spans the loops at z that come no later than a closed walk spans that walk, where it goes over z
   pub over_by : (xs : List ℕ) (x size z : ℕ) (w : List ℕ) → x < mesh.vertices → z < mesh.vertices →
       IsGraphWalk (primal (cells_of mesh)) x w x → Contains (x ∷ w) z →
-      graph_length (primal (cells_of mesh)) (edge_length lengths) x w ≤ size →
+      graph_walk_length (primal (cells_of mesh)) (edge_length lengths) x w ≤ size →
       ((e : ℕ) → e < edge_count mesh → is_no_later (place_at mesh lengths trees z e) (size, x) ≡ true →
       InSpan numbers xs (class_of mesh d (loop_walk mesh (trees z) e))) →
       InSpan numbers xs (signature_of (cells_of mesh) d (walk_chain (primal (cells_of mesh)) x w))
@@ -87,7 +87,7 @@ module _ (mesh : Mesh) (lengths : List ℕ) (trees : ℕ → Tree) (surface : Is
   pub over_vertex : (sought : Sought) → AreSoughtFromStart sought → (found : List Found) →
       AreEnoughFor mesh lengths trees sought found → (x size z : ℕ) (w : List ℕ) → x < mesh.vertices →
       z < mesh.vertices → sought z (size, x) ≡ true → IsGraphWalk (primal (cells_of mesh)) x w x → Contains (x ∷ w) z →
-      graph_length (primal (cells_of mesh)) (edge_length lengths) x w ≤ size →
+      graph_walk_length (primal (cells_of mesh)) (edge_length lengths) x w ≤ size →
       InSpan numbers (within mesh d surface split (size, x) found)
       (signature_of (cells_of mesh) d (walk_chain (primal (cells_of mesh)) x w))
   over_vertex sought starts found enough x size z w x_in z_in is_sought closed over no_longer =

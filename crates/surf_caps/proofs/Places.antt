@@ -20,7 +20,7 @@ use Rattle.surf_graphs.specs.Trees.{Tree}
 use Rattle.surf_surfaces.specs.Mesh.{Mesh}
 use Rattle.surf_surfaces.specs.Surface.{IsSurface}
 use Rattle.surf_surfaces.specs.Walk.{IsClosed, walk_length, ArePositive}
-use Rattle.surf_surfaces.specs.Homology.{IsIndependent, IsFullCount}
+use Rattle.surf_surfaces.specs.Homology.{IsIndependent, IsLoopCount}
 use Rattle.surf_surfaces.specs.Cells.{cells_of}
 use Rattle.surf_surfaces.specs.Class.{class_of, AreShortestTrees}
 use Rattle.surf_surfaces.specs.Loop.{loop_walk}
@@ -171,7 +171,7 @@ passes-start target limit start p q h k =
     let both = and_parts (is_no_later q limit) (target q) k in
     and_from (is_no_later p limit) (target p) (no_later-trans p q limit h both.0) (start p q h both.1)
 
-same_count : (mesh : Mesh) (m n : ℕ) → IsFullCount mesh m → IsFullCount mesh n → m ≡ n
+same_count : (mesh : Mesh) (m n : ℕ) → IsLoopCount mesh m → IsLoopCount mesh n → m ≡ n
 same_count mesh m n a b = omega arith
 
 module _ (mesh : Mesh) (lengths : List ℕ) (searched : ℕ → Tree) (surface : IsSurface mesh)
@@ -410,7 +410,7 @@ module _ (mesh : Mesh) (lengths : List ℕ) (searched : ℕ → Tree) (surface :
     (chosen : AreChosen mesh lengths trees) (d : Split) (split : IsSplit (cells_of mesh) d) where
   -- as many independent closed walks as may be span the class of each closed walk
   full_spans : (found : List Found) → AllByRecursion (λ k. IsClosed mesh k.walk) found →
-      IsIndependent mesh (walks_found found) → IsFullCount mesh (length found) → (walk : List ℕ) → IsClosed mesh walk →
+      IsIndependent mesh (walks_found found) → IsLoopCount mesh (length found) → (walk : List ℕ) → IsClosed mesh walk →
       Spanned numbers (map (λ k. class_of mesh d k.walk) found) (class_of mesh d walk)
   full_spans found closed_each free full walk closed =
       let (basis, is, one) = basis_is_one mesh lengths trees surface positive chosen in
@@ -450,7 +450,7 @@ module _ (mesh : Mesh) (lengths : List ℕ) (searched : ℕ → Tree) (surface :
   -- so each candidate is covered, whether it comes before a place or not
   full_covers : (limit : Place) (sought : Sought) (found : List Found) → AreSoughtFromStart sought →
       MeetsUpTo mesh lengths (comes_sooner limit) sought → AreEnoughFor mesh lengths searched sought found →
-      IsIndependent mesh (walks_found found) → IsFullCount mesh (length found) → All (IsWithin limit) found → (c : Loop) →
+      IsIndependent mesh (walks_found found) → IsLoopCount mesh (length found) → All (IsWithin limit) found → (c : Loop) →
       IsLoopBelow mesh lengths trees mesh.vertices c → IsClosed mesh c.walk →
       InSpan numbers (map (λ k. class_of mesh d k.walk) (filter (is_within (place_of_loop c)) found)) (class_of mesh d c.walk)
   full_covers limit sought found starts meets enough free full within c h closed =

@@ -8,7 +8,7 @@ use Rattle.surf_graphs.specs.Trees.{Tree}
 use Rattle.surf_surfaces.specs.Mesh.{Mesh}
 use Rattle.surf_surfaces.specs.Surface.{IsSurface}
 use Rattle.surf_surfaces.specs.Walk.{ArePositive}
-use Rattle.surf_surfaces.specs.Homology.{IsIndependent, IsFullCount}
+use Rattle.surf_surfaces.specs.Homology.{IsIndependent, IsLoopCount}
 use Rattle.surf_surfaces.specs.Cells.{cells_of}
 use Rattle.surf_surfaces.specs.Class.{AreShortestTrees}
 use Rattle.surf_surfaces.specs.Choice.{Trees, AreChosen, Loop, IsChosenBasis}
@@ -89,7 +89,7 @@ module _ (mesh : Mesh) (lengths : List ℕ) (surface : IsSurface mesh) (positive
 
   then_ended : (trees : ℕ → Trees) (found : List Found) (basis : List Loop) → AreChosen mesh lengths trees →
       AreEnoughFor mesh lengths searched (either (everywhere (up_to_length least)) then_sought) found →
-      IsIndependent mesh (walks_found found) → IsFullCount mesh (length found) → All (IsWithin limit) found →
+      IsIndependent mesh (walks_found found) → IsLoopCount mesh (length found) → All (IsWithin limit) found →
       IsChosenBasis mesh lengths trees basis → HaveAllPlaces found basis
   unfolding then_sought
   then_ended trees found basis chosen enough free full within is =

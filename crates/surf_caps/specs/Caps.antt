@@ -9,7 +9,7 @@ use Rattle.surf_graphs.specs.Trees.{Tree}
 use Rattle.surf_surfaces.specs.Mesh.{Mesh}
 use Rattle.surf_surfaces.specs.Surface.{edge_count, ends, IsSurface}
 use Rattle.surf_surfaces.specs.Walk.{first, IsClosed, edge_length, walk_length, ArePositive}
-use Rattle.surf_surfaces.specs.Homology.{IsIndependent, IsFullCount}
+use Rattle.surf_surfaces.specs.Homology.{IsIndependent, IsLoopCount}
 use Rattle.surf_surfaces.specs.Cells.{cells_of}
 use Rattle.surf_surfaces.specs.Class.{AreShortestTrees}
 use Rattle.surf_surfaces.specs.Choice.{Trees, AreChosen, Loop, DependsOn, IsChosenBasis}
@@ -255,7 +255,7 @@ FullCountHasPlaces =
     (sought : Sought) (found : List Found) (basis : List Loop) → IsSurface mesh → ArePositive mesh lengths →
     AreChosen mesh lengths trees → AreShortestTrees mesh lengths searched → AreSoughtFromStart sought →
     MeetsUpTo mesh lengths (comes_sooner limit) sought → AreEnoughFor mesh lengths searched sought found →
-    IsIndependent mesh (walks_found found) → IsFullCount mesh (length found) → All (IsWithin limit) found →
+    IsIndependent mesh (walks_found found) → IsLoopCount mesh (length found) → All (IsWithin limit) found →
     IsChosenBasis mesh lengths trees basis → HaveAllPlaces found basis
 
 -- ---- how the loops are found

@@ -3,7 +3,7 @@ use Rattle.std.proofs.Common.{◌≡◌, ◌≢◌, ℕ, ◌<◌, List, length, 
 use Rattle.std.proofs.lemmas.Bool.{true≢false, cases_Bool}
 use Rattle.surf_surfaces.specs.Mesh.{Mesh, pair_eq}
 use Rattle.surf_surfaces.specs.Surface.{edge_count, ends}
-use Rattle.surf_surfaces.specs.Homology.{IsFullCount}
+use Rattle.surf_surfaces.specs.Homology.{IsLoopCount}
 use Rattle.surf_surfaces.proofs.PairLaws.{pair_eq-true, pair_lt-total}
 use Rattle.surf_validity.specs.Rows.{TreeRows, DualRows, LoopCert}
 use Rattle.surf_validity.specs.Valid.{IsNoShortCut, HasNoShorter, IsNotHeavier}
@@ -34,7 +34,7 @@ ends_same mesh p q e h P a b x y = sym a ∙ ap (ends mesh) (first_same (edge_co
 
 module _ (mesh : Mesh) (lengths : List ℕ) (cert : LoopCert) where
   part_is : (part : CertPart) → IsShapeFault mesh cert part →
-      FirstPart (HasTreeRows mesh cert.tree) (HasDualRows mesh cert.dual) (IsFullCount mesh (length cert.left))
+      FirstPart (HasTreeRows mesh cert.tree) (HasDualRows mesh cert.dual) (IsLoopCount mesh (length cert.left))
       (cert.tree.base < mesh.vertices) part
   part_is Vertices is = is
   part_is Faces is = is
@@ -49,7 +49,7 @@ module _ (mesh : Mesh) (lengths : List ℕ) (cert : LoopCert) where
   single : AreSingle (IsLoopFault mesh lengths cert)
   single = record {
     shapes = λ p q a b. ap Shape (first_part_same (HasTreeRows mesh cert.tree) (HasDualRows mesh cert.dual)
-        (IsFullCount mesh (length cert.left)) (cert.tree.base < mesh.vertices) p q (part_is p a) (part_is q b));
+        (IsLoopCount mesh (length cert.left)) (cert.tree.base < mesh.vertices) p q (part_is p a) (part_is q b));
     parents = λ x v y w a b. tree_same x y v w (HasParent mesh cert.tree) Parent a.1.0 b.1.0 a.1.1 b.1.1;
     distances = λ x v y w a b. tree_same x y v w (HasDistance mesh lengths cert.tree) Distance a.1.0 b.1.0 a.1.2 b.1.2;
     slacks = λ x u v y w z a b.

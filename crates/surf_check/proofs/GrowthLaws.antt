@@ -12,7 +12,7 @@ use Rattle.surf_surfaces.specs.Mesh.{Mesh}
 use Rattle.surf_surfaces.specs.Surface.{face_count, edge_count, IsSurface}
 use Rattle.surf_surfaces.specs.Cells.{cells_of}
 use Rattle.surf_surfaces.proofs.JoinedLaws.{joined_closed}
-use Rattle.surf_turnings.specs.Chains.{same_way, FollowTree}
+use Rattle.surf_orientation.specs.Chains.{same_way, FollowTree}
 use Rattle.surf_surfaces.specs.SideNumber.{IsFaceOf}
 use Rattle.surf_soup.specs.Reach.{marked}
 use Rattle.surf_soup.proofs.ReachSteps.{marked-inside, unmarked-fresh, none_marked}

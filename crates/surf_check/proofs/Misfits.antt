@@ -7,10 +7,10 @@ use Rattle.surf_z2.specs.Parity.{xor, xor_comm}
 use Rattle.surf_z2.proofs.ParityLaws.{xor_equal}
 use Rattle.surf_graphs.specs.Trees.{Tree}
 use Rattle.surf_surfaces.specs.Mesh.{Mesh}
-use Rattle.surf_surfaces.specs.Surface.{edge_count, ends, faces_of, IsSurface, IsTurning}
+use Rattle.surf_surfaces.specs.Surface.{edge_count, ends, faces_of, IsSurface, IsOrientation}
 use Rattle.surf_surfaces.specs.Turning.{Link}
-use Rattle.surf_turnings.specs.Chains.{same_way, Fits, misfit, links_down}
-use Rattle.surf_turnings.proofs.OneSidedLaws.{turnings_fit}
+use Rattle.surf_orientation.specs.Chains.{same_way, Fits, misfit, links_down}
+use Rattle.surf_orientation.proofs.OneSidedLaws.{orientations_fit}
 use Rattle.surf_surfaces.specs.SideNumber.{side_count, sides_with, IsFaceOf, IsEdgeOf, IsMate}
 use Rattle.surf_soup.specs.Ring.{BeginsAt}
 use Rattle.surf_soup.proofs.Mates.{with_pair}
@@ -48,9 +48,9 @@ edge_side mesh e lt =
 
 -- flags that fit the edge of each side are a turning
 pub all_fit : (mesh : Mesh) → IsSurface mesh → (flags : ℕ → Bool) →
-    ((s e : ℕ) → s < side_count mesh → IsEdgeOf mesh s e → misfit mesh flags e ≡ false) → IsTurning mesh flags
+    ((s e : ℕ) → s < side_count mesh → IsEdgeOf mesh s e → misfit mesh flags e ≡ false) → IsOrientation mesh flags
 all_fit mesh surface flags h =
-    (turnings_fit mesh flags surface).1 (λ e lt. let r =
+    (orientations_fit mesh flags surface).1 (λ e lt. let r =
     edge_side mesh e lt in fits_where mesh flags e (h r.0 e r.1 r.2))
 
 -- the links down to a face stand before the rest of a chain

@@ -7,8 +7,8 @@ use Rattle.surf_surfaces.specs.Surface.{IsSurface}
 use Rattle.surf_surfaces.specs.SideNumber.{side_count, pair_at, owners, IsEdgeOf}
 use Rattle.surf_surfaces.specs.Walk.{place_of}
 use Rattle.surf_surfaces.proofs.EdgeLaws.{place_of-among}
-use Rattle.surf_turnings.specs.Chains.{misfit}
-use Rattle.surf_turnings.proofs.OneSidedLaws.{turnings_fit}
+use Rattle.surf_orientation.specs.Chains.{misfit}
+use Rattle.surf_orientation.proofs.OneSidedLaws.{orientations_fit}
 use Rattle.surf_soup.specs.Half.{AreAllMates}
 use Rattle.surf_soup.specs.Vertices.{all_corners}
 use Rattle.surf_soup.proofs.EdgeTables.{pair_at-edge}
@@ -40,7 +40,7 @@ module _ (mesh : Mesh) (surface : IsSurface mesh) (mate : List ℕ) (mates : Are
       let at = place_of-among (pair_at mesh s) (edges mesh) (0, 0) (pair_at-edge mesh s lt) in
       let e = place_of (pair_at mesh s) (edges mesh) in
       let is : IsEdgeOf mesh s e = record { is_edge = at.0; its_ends = at.1 } in
-      let fits = (turnings_fit mesh (λ _. false) surface).0 runs e at.0 in
+      let fits = (orientations_fit mesh (λ _. false) surface).0 runs e at.0 in
       true≢false (sym (ap (xor (xor false false)) (eq-eqb (get_or (all_corners mesh) s 0)
       (get_or (all_corners mesh) (get_or mate s 0) 0) (sym same)))
       ∙ (begins_or_fits s e lt is ∙ misfit_where mesh (λ _. false) e fits))

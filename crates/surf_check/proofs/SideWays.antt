@@ -15,9 +15,9 @@ use Rattle.surf_surfaces.proofs.EdgeLaws.{place_of-among}
 use Rattle.surf_surfaces.proofs.PairLaws.{pair_eq-same, pair_eq-other}
 use Rattle.surf_surfaces.proofs.SideLaws.{pair_ends, side_place}
 use Rattle.surf_surfaces.proofs.SurfaceLaws.{two_faces_of}
-use Rattle.surf_turnings.specs.Chains.{same_way}
-use Rattle.surf_turnings.proofs.SideNumbers.{ends_rise}
-use Rattle.surf_turnings.proofs.Turned.{runs_at}
+use Rattle.surf_orientation.specs.Chains.{same_way}
+use Rattle.surf_orientation.proofs.SideNumbers.{ends_rise}
+use Rattle.surf_orientation.proofs.Turned.{runs_at}
 use Rattle.surf_surfaces.specs.SideNumber.{pair_at, first_side, IsFaceOf, IsEdgeOf, IsMate}
 use Rattle.surf_soup.specs.Vertices.{all_corners}
 use Rattle.surf_soup.specs.Ring.{BeginsAt}

@@ -7,7 +7,7 @@ use Rattle.surf_graphs.specs.Cells.{dual}
 use Rattle.surf_surfaces.specs.Mesh.{Mesh}
 use Rattle.surf_surfaces.specs.Surface.{face_count, edge_count, faces_of}
 use Rattle.surf_surfaces.specs.Cells.{cells_of}
-use Rattle.surf_turnings.specs.Chains.{same_way, FollowTree}
+use Rattle.surf_orientation.specs.Chains.{same_way, FollowTree}
 use Rattle.surf_surfaces.specs.SideNumber.{IsEdgeOf}
 use Rattle.surf_soup.specs.Reach.{marked, unmarked}
 use Rattle.surf_check.specs.declared.growth.FaceTree.{FaceTree}

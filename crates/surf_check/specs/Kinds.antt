@@ -1,7 +1,7 @@
 -- Faces that all run the same way, and what is kept of a surface.
 use Rattle.std.specs.Prelude.{◌≡◌, ◌<◌, ℕ, false, List, get_or}
 use Rattle.surf_surfaces.specs.Mesh.{Mesh}
-use Rattle.surf_surfaces.specs.Surface.{IsSurface, IsTurning}
+use Rattle.surf_surfaces.specs.Surface.{IsSurface, IsOrientation}
 use Rattle.surf_surfaces.specs.SideNumber.{side_count}
 use Rattle.surf_soup.specs.Vertices.{all_corners}
 use Rattle.surf_check.specs.declared.kinds.Kept.{Kept}
@@ -9,7 +9,7 @@ use Rattle.surf_check.specs.declared.kinds.Kept.TheVariants.{OneWay, Other}
 
 -- as they are listed, the two faces of each edge run it in opposite ways: no face is turned
 abbrev pub RunOneWay : Mesh → Type 0
-RunOneWay mesh = IsTurning mesh (λ _. false)
+RunOneWay mesh = IsOrientation mesh (λ _. false)
 
 -- a side and its mate begin at one vertex
 abbrev pub BeginsWithMate : Mesh → List ℕ → ℕ → Type 0

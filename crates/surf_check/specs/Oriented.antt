@@ -2,7 +2,7 @@
 use Rattle.std.specs.Prelude.{◌≡◌, length}
 use Rattle.surf_graphs.specs.Trees.{Tree}
 use Rattle.surf_surfaces.specs.Mesh.{Mesh}
-use Rattle.surf_surfaces.specs.Surface.{face_count, IsTurning, IsTwoSided}
+use Rattle.surf_surfaces.specs.Surface.{face_count, IsOrientation, IsOrientable}
 use Rattle.surf_surfaces.specs.Turning.{IsOneSided}
 use Rattle.surf_check.specs.Growth.{flag_of, grown_tree}
 use Rattle.surf_check.specs.declared.growth.FaceTree.{FaceTree}
@@ -15,5 +15,5 @@ tree_in t = grown_tree t.parent.items t.up.items t.rank.items
 
 -- the flags are a turning, or else the chain is one-sided and there is no turning
 abbrev pub AreSides : Mesh → Sides → Type 0
-AreSides mesh (Two flags) = (length flags ≡ face_count mesh) × IsTurning mesh (flag_of flags)
-AreSides mesh (One links) = IsOneSided mesh links × (IsTwoSided mesh → ⊥)
+AreSides mesh (Two flags) = (length flags ≡ face_count mesh) × IsOrientation mesh (flag_of flags)
+AreSides mesh (One links) = IsOneSided mesh links × (IsOrientable mesh → ⊥)

@@ -1,8 +1,8 @@
 //! The Euler characteristic and the genus.
 ghost use Rattle.std.specs.Prelude.{◌≡◌, ◌*◌, ◌-ℤ◌, pos};
 ghost use Rattle.surf_surfaces.specs.Mesh.{characteristic};
-ghost use Rattle.surf_surfaces.specs.Surface.{IsTurning};
-ghost use Rattle.surf_turnings.specs.Statements.{genus_of};
+ghost use Rattle.surf_surfaces.specs.Surface.{IsOrientation};
+ghost use Rattle.surf_orientation.specs.Statements.{genus_of};
 ghost use Rattle.surf_check.specs.Growth.{flag_of};
 
 use crate::answers::Turning;
@@ -27,7 +27,7 @@ pub fn characteristic(mesh: &HalfMesh) -> i64
 
 /// Half of 2 minus the characteristic, for a surface and a turning of it.
 pub fn surface_genus(mesh: &Surface, turning: &Turning) -> u32
-    requires { IsTurning mesh.now (flag_of turning.now) }
+    requires { IsOrientation mesh.now (flag_of turning.now) }
     ensures is { result ≡ genus_of mesh.now }
     ensures twice { pos (2 * result) ≡ pos 2 -ℤ characteristic mesh.now }
 {
@@ -38,7 +38,7 @@ pub fn surface_genus(mesh: &Surface, turning: &Turning) -> u32
 
 /// Half of 2 minus the characteristic, for a surface and a turning of it.
 pub fn genus(mesh: &HalfMesh, turning: &Turning) -> u32
-    requires { IsTurning mesh.now (flag_of turning.now) }
+    requires { IsOrientation mesh.now (flag_of turning.now) }
     ensures is { result ≡ genus_of mesh.now }
     ensures twice { pos (2 * result) ≡ pos 2 -ℤ characteristic mesh.now }
 {

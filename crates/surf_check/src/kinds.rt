@@ -1,7 +1,7 @@
 //! Surfaces of which no more is kept than tells their kind.
 ghost use Rattle.std.specs.Prelude.{◌≡◌, ◌≢◌, ◌<◌, ◌^◌, IfOk, IfErr, MatchBool};
 ghost use Rattle.surf_surfaces.specs.Mesh.{characteristic};
-ghost use Rattle.surf_surfaces.specs.Surface.{IsSurface, IsTwoSided, edge_count, face_count};
+ghost use Rattle.surf_surfaces.specs.Surface.{IsSurface, IsOrientable, edge_count, face_count};
 ghost use Rattle.surf_surfaces.specs.SideNumber.{side_count};
 ghost use Rattle.surf_check.specs.Fault.{IsSurfaceFault};
 ghost use Rattle.surf_check.specs.declared.checking.SurfaceFault.TheVariants.{Memory};
@@ -96,8 +96,8 @@ impl Kind {
 
     /// Whether the surface has two sides. The time is linear in the number of sides.
     pub fn is_two_sided(&self, alloc: Global) -> Result<bool, NoMemory>
-        ensures { IfOk result (λ two. MatchBool two (IsTwoSided self.now)
-            (IsTwoSided self.now → ⊥)) }
+        ensures { IfOk result (λ two. MatchBool two (IsOrientable self.now)
+            (IsOrientable self.now → ⊥)) }
     {
         match &self.kept {
             Kept::OneWay(_) => Ok(true),
@@ -108,7 +108,7 @@ impl Kind {
 
 // Whether a surface has two sides.
 fn are_two(alloc: Global, mesh: &Surface) -> Result<bool, NoMemory>
-    ensures { IfOk result (λ two. MatchBool two (IsTwoSided mesh.now) (IsTwoSided mesh.now → ⊥)) }
+    ensures { IfOk result (λ two. MatchBool two (IsOrientable mesh.now) (IsOrientable mesh.now → ⊥)) }
 {
     match orient_surface(alloc, mesh)? {
         Sides::Two(_) => Ok(true),

@@ -1,9 +1,9 @@
 //! A turning of a surface, or a chain that shows that there is none.
 ghost use Rattle.std.specs.Prelude.{◌≡◌, ◌<◌, ◌++◌, [], ℕ, length, map, get_or, not, OnOk, IfOk, MatchOption};
 ghost use Rattle.std.specs.Prelude.{false, replicate};
-ghost use Rattle.surf_surfaces.specs.Surface.{face_count, edge_count, ends, IsTurning};
+ghost use Rattle.surf_surfaces.specs.Surface.{face_count, edge_count, ends, IsOrientation};
 ghost use Rattle.surf_surfaces.specs.SideNumber.{side_count, IsEdgeOf};
-ghost use Rattle.surf_turnings.specs.Chains.{Fits, misfit, links_up, links_down, tree_chain};
+ghost use Rattle.surf_orientation.specs.Chains.{Fits, misfit, links_up, links_down, tree_chain};
 ghost use Rattle.surf_check.specs.Links.{link_of};
 ghost use Rattle.surf_check.specs.Growth.{flag_of, IsFlagTree};
 ghost use Rattle.surf_check.specs.Oriented.{tree_in, AreSides};
@@ -33,7 +33,7 @@ fn fits(mesh: &Surface, flags: &[bool], side: SideId) -> bool
 // The edge of the first side whose edge the flags don't fit.
 fn first_misfit(mesh: &Surface, flags: &[bool]) -> Option<EdgeId>
     requires { length flags.now ≡ face_count mesh.now }
-    ensures { MatchOption result (IsTurning mesh.now (flag_of flags.now))
+    ensures { MatchOption result (IsOrientation mesh.now (flag_of flags.now))
         (λ e. (e < edge_count mesh.now) × (Fits mesh.now (flag_of flags.now) e → ⊥)) }
 {
     mesh.law_of_surface();
@@ -126,10 +126,10 @@ fn no_flags(alloc: Global, mesh: &Surface) -> Result<Vec<bool>, NoMemory>
 }
 
 // The turning that turns no face over, if it is one. Most meshes are so, and then need no tree.
-fn plain_turning(alloc: Global, mesh: &Surface) -> Result<Option<Turning>, NoMemory>
+fn plain_orientation(alloc: Global, mesh: &Surface) -> Result<Option<Turning>, NoMemory>
     ensures { IfOk result (λ found. let plain = replicate (face_count mesh.now) false in
-        MatchOption found (IsTurning mesh.now (flag_of plain) → ⊥)
-        (λ turning. (turning ≡ plain) × IsTurning mesh.now (flag_of plain))) }
+        MatchOption found (IsOrientation mesh.now (flag_of plain) → ⊥)
+        (λ turning. (turning ≡ plain) × IsOrientation mesh.now (flag_of plain))) }
 {
     mesh.law_of_surface();
     let flags = no_flags(alloc, mesh)?;
@@ -156,7 +156,7 @@ fn orient_by_tree(alloc: Global, mesh: &Surface) -> Result<Sides, NoMemory>
 pub fn orient_surface(alloc: Global, mesh: &Surface) -> Result<Sides, NoMemory>
     ensures { IfOk result (λ s. AreSides mesh.now s) }
 {
-    match plain_turning(alloc, mesh)? {
+    match plain_orientation(alloc, mesh)? {
         Some(turning) => Ok(Sides::Two(turning)),
         None => orient_by_tree(alloc, mesh),
     }

@@ -5,7 +5,7 @@ use Rattle.std.proofs.lemmas.List.Elements.{All-from_recursion}
 use Rattle.surf_z2.proofs.ParityLaws.{xor-false}
 use Rattle.std.proofs.lemmas.List.{reverse-reverse, length-append}
 use Rattle.surf_graphs.specs.Cells.{primal, Split, IsSplit}
-use Rattle.surf_graphs.specs.Graphs.{walk_length as graph_length}
+use Rattle.surf_graphs.specs.Graphs.{graph_walk_length}
 use Rattle.surf_surfaces.specs.Mesh.{Mesh, pair_of, edges}
 use Rattle.surf_surfaces.specs.Surface.{IsSurface}
 use Rattle.surf_surfaces.specs.Walk.{IsClosed, ArePositive, edge_length, first, parity, walk_length}
@@ -76,8 +76,8 @@ module _ (mesh : Mesh) (lengths : List ℕ) (d : Split) (surface : IsSurface mes
       let len = edge_length lengths in
       let sig = edge_signature mesh d in
       least_at g len sig x x q u v b o (subst (Least mesh lengths d x x) here least)
-      (subst (λ xs. Goes g len sig x xs x (graph_length g len x (q ++ u ∷ b)) (walk_sum g sig x (q ++ u ∷ b))) there
-      (subst (λ xs. Goes g len sig x r x (graph_length g len x xs) (walk_sum g sig x xs)) here
+      (subst (λ xs. Goes g len sig x xs x (graph_walk_length g len x (q ++ u ∷ b)) (walk_sum g sig x (q ++ u ∷ b))) there
+      (subst (λ xs. Goes g len sig x r x (graph_walk_length g len x xs) (walk_sum g sig x xs)) here
       (record { walk = other.walk; size = other.size ∙ sym goes.size; sum = other.sum ∙ sym goes.sum })))
 
   module _ (x n : ℕ) (w : List ℕ) (round : LeastRound mesh lengths d (walk_signature mesh d walk) x n w) where

@@ -6,7 +6,7 @@ use Rattle.surf_z2.specs.Space.{numbers}
 use Rattle.surf_z2.proofs.ParityLaws.{xor_equal}
 use Rattle.surf_z2.proofs.Span.{add_zero}
 use Rattle.surf_graphs.specs.Cells.{Split, IsSplit, primal}
-use Rattle.surf_graphs.specs.Graphs.{Graph, IsGraph, IsWalk, IsJoined, joins, leaves, edge_between}
+use Rattle.surf_graphs.specs.Graphs.{Graph, IsGraph, IsGraphWalk, IsJoined, joins, leaves, edge_between}
 use Rattle.surf_graphs.proofs.Graphs.{edge_between_is, leaves_joined}
 use Rattle.surf_graphs.proofs.Loops.{joins_turned, joins_ends}
 use Rattle.surf_graphs.proofs.Trees.{one_of}
@@ -147,7 +147,7 @@ module _ (mesh : Mesh) (d : Split) (surface : IsSurface mesh) (split : IsSplit (
   -- a set of nodes that no edge leaves is left by no walk
   module _ (inside : ℕ → Bool) (closed : (c : ℕ) → c < edge_count mesh * set_count d → leaves (cover mesh d) inside c ≡ false)
     where
-      along : (w : List ℕ) (v x s : ℕ) → IsWalk (primal (cells_of mesh)) v w x → IsSet d s →
+      along : (w : List ℕ) (v x s : ℕ) → IsGraphWalk (primal (cells_of mesh)) v w x → IsSet d s →
           inside (cover_node d v s)
           ≡ inside (cover_node d x (bit_xor s (walk_sum (primal (cells_of mesh)) (edge_signature mesh d) v w)))
       along [] v x s walk is_set =

@@ -9,7 +9,7 @@ use Rattle.surf_z2.specs.Sieve.{has}
 use Rattle.surf_z2.proofs.Below.{below_law}
 use Rattle.surf_z2.proofs.ParityLaws.{and_comm, odd_below-same, any_below-none}
 use Rattle.surf_graphs.specs.Cells.{primal, dual, Split, signature, chain_signature}
-use Rattle.surf_graphs.specs.Graphs.{touches, IsEven}
+use Rattle.surf_graphs.specs.Graphs.{graph_touches, IsEven}
 use Rattle.surf_graphs.specs.Independence.{signature_of}
 use Rattle.surf_graphs.proofs.CellLaws.{face_zero, signature_null}
 use Rattle.surf_graphs.proofs.Graphs.{even-xor}
@@ -53,9 +53,9 @@ odd_choice_is_right mesh d surface split chain pairs h =
       faces_even = λ f l.
           sides_over_edges mesh surface pairs f l
           ∙ odd_below-same (edge_count mesh) (λ e. borders mesh f e && among (ends mesh e) pairs)
-          (λ e. touches (dual s) f e && signature s d e k)
+          (λ e. graph_touches (dual s) f e && signature s d e k)
           (λ e m. ap (λ b. b && among (ends mesh e) pairs) (borders_touches mesh surface f e m)
-          ∙ ap (λ b. touches (dual s) f e && b) (on e m))
+          ∙ ap (λ b. graph_touches (dual s) f e && b) (on e m))
           ∙ face_zero s d (surfaces_are_cells mesh surface).complex split f k l below;
       chain_odd =
           chain_over_edges mesh surface chain pairs (rising_once pairs (rising_from_AllPairs pairs h.rises))

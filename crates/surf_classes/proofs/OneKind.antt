@@ -6,7 +6,7 @@ use Rattle.std.proofs.lemmas.List.Elements.{recursion_from_All}
 use Rattle.surf_z2.specs.Parity.{odd_below}
 use Rattle.surf_z2.proofs.ParityLaws.{and_comm, and-false, odd_below-same, odd_below-none}
 use Rattle.surf_graphs.specs.Cells.{dual}
-use Rattle.surf_graphs.specs.Graphs.{touches}
+use Rattle.surf_graphs.specs.Graphs.{graph_touches}
 use Rattle.surf_graphs.proofs.Graphs.{by_nodes}
 use Rattle.surf_surfaces.specs.Mesh.{Mesh, among, edges}
 use Rattle.surf_surfaces.specs.Surface.{face_count, edge_count, ends, borders, IsSurface}
@@ -32,11 +32,11 @@ boundary_meets_evenly mesh surface pairs even set =
     let g = dual (cells_of mesh) in
     let on : ℕ → Bool = λ e. among (ends mesh e) pairs in
     by_nodes g (surfaces_are_cells mesh surface).complex.dual_ends on set
-    ∙ odd_below-none (face_count mesh) (λ f. set f && odd_below (edge_count mesh) (λ e. on e && touches g f e))
+    ∙ odd_below-none (face_count mesh) (λ f. set f && odd_below (edge_count mesh) (λ e. on e && graph_touches g f e))
     (λ f l.
-    let none : odd_below (edge_count mesh) (λ e. on e && touches g f e) ≡ false =
-    odd_below-same (edge_count mesh) (λ e. on e && touches g f e) (λ e. borders mesh f e && on e)
-    (λ e m. and_comm (on e) (touches g f e) ∙ ap (λ b. b && on e) (sym (borders_touches mesh surface f e m)))
+    let none : odd_below (edge_count mesh) (λ e. on e && graph_touches g f e) ≡ false =
+    odd_below-same (edge_count mesh) (λ e. on e && graph_touches g f e) (λ e. borders mesh f e && on e)
+    (λ e m. and_comm (on e) (graph_touches g f e) ∙ ap (λ b. b && on e) (sym (borders_touches mesh surface f e m)))
     ∙ sym (sides_over_edges mesh surface pairs f l) ∙ even f l in
     ap (λ b. set f && b) none ∙ and-false (set f))
 

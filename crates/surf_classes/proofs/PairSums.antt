@@ -7,7 +7,7 @@ use Rattle.surf_z2.specs.Parity.{xor, odd, odd_below}
 use Rattle.surf_z2.specs.Space.{Chain}
 use Rattle.surf_z2.proofs.ParityLaws.{xor-and, or-xor, eqb_comm, odd_below-same, odd_below-none, odd_below-xor}
 use Rattle.surf_graphs.specs.Cells.{dual}
-use Rattle.surf_graphs.specs.Graphs.{touches}
+use Rattle.surf_graphs.specs.Graphs.{graph_touches}
 use Rattle.surf_surfaces.specs.Mesh.{Mesh, sides, pair_of, pair_eq, among, edges}
 use Rattle.surf_surfaces.specs.Surface.{face_count, edge_count, face_at, ends, has_side, borders, faces_of, IsSurface}
 use Rattle.surf_surfaces.specs.Walk.{edge_number}
@@ -60,7 +60,7 @@ pub borders_has : (mesh : Mesh) → IsSurface mesh → (f e : ℕ) → e < edge_
 borders_has mesh surface f e l = (two_faces_of mesh surface e l).no_other f
 
 pub borders_touches : (mesh : Mesh) → IsSurface mesh → (f e : ℕ) → e < edge_count mesh →
-    borders mesh f e ≡ touches (dual (cells_of mesh)) f e
+    borders mesh f e ≡ graph_touches (dual (cells_of mesh)) f e
 borders_touches mesh surface f e l =
     let two = two_faces_of mesh surface e l in
     let a = (faces_of mesh e).0 in

@@ -6,7 +6,7 @@ use Rattle.std.proofs.lemmas.List.Elements.{recursion_from_All}
 use Rattle.surf_z2.specs.Space.{numbers, sum_of, difference}
 use Rattle.surf_z2.proofs.Span.{same_from_sum}
 use Rattle.surf_graphs.specs.Cells.{primal, Split}
-use Rattle.surf_graphs.specs.Graphs.{Graph, IsWalk as IsGraphWalk, edge_between}
+use Rattle.surf_graphs.specs.Graphs.{Graph, IsGraphWalk, edge_between}
 use Rattle.surf_graphs.specs.Independence.{signature_of}
 use Rattle.surf_graphs.proofs.Graphs.{even-xor}
 use Rattle.surf_graphs.proofs.Independence.{signature_of-linear, null_zero, zero_null}

@@ -5,7 +5,7 @@ use Rattle.surf_z2.specs.Parity.{any_below}
 use Rattle.surf_z2.specs.Space.{numbers}
 use Rattle.surf_z2.proofs.ParityLaws.{any_below-found, any_below-from}
 use Rattle.surf_z2.proofs.Span.{add_zero, cancel}
-use Rattle.surf_graphs.specs.Graphs.{Graph, IsGraph, joins, IsJoined, edge_between, IsWalk, walk_length}
+use Rattle.surf_graphs.specs.Graphs.{Graph, IsGraph, joins, IsJoined, edge_between, IsGraphWalk, graph_walk_length}
 use Rattle.surf_graphs.specs.Loops.{IsSimple}
 use Rattle.surf_graphs.proofs.Graphs.{edge_between_is, walk-append}
 use Rattle.surf_graphs.proofs.Loops.{joins_turned}
@@ -43,15 +43,15 @@ cases_joined g a c = elim (cases_Bool (any_below g.edges (joins g a c))) [
 module _ (g : Graph) (len sig : ℕ → ℕ) where
   -- a walk from a to b with a length and a signature
   pub record Goes (a : ℕ) (w : List ℕ) (b n s : ℕ) : Type 0 where
-    pub walk : IsWalk g a w b
-    pub size : walk_length g len a w ≡ n
+    pub walk : IsGraphWalk g a w b
+    pub size : graph_walk_length g len a w ≡ n
     pub sum : walk_sum g sig a w ≡ s
 
   -- each of its vertices is the least with which such a walk can go on
   abbrev pub IsLeastWalk : ℕ → ℕ → List ℕ → Type 0
   IsLeastWalk b a [] = Unit {0}
   IsLeastWalk b a (c ∷ w) =
-      ((x : ℕ) (v : List ℕ) → Goes a (x ∷ v) b (walk_length g len a (c ∷ w)) (walk_sum g sig a (c ∷ w)) → c ≤ x)
+      ((x : ℕ) (v : List ℕ) → Goes a (x ∷ v) b (graph_walk_length g len a (c ∷ w)) (walk_sum g sig a (c ∷ w)) → c ≤ x)
       × IsLeastWalk b c w
 
   pub goes_over : (a c : ℕ) (w : List ℕ) (b n s : ℕ) → IsJoined g a c → Goes c w b n s →
@@ -71,7 +71,7 @@ module _ (g : Graph) (len sig : ℕ → ℕ) where
   pub after : (a c : ℕ) (w : List ℕ) (b n s : ℕ) → Goes a (c ∷ w) b n s → After a c w b n s
   after a c w b n s h =
       let e = edge_between g a c in
-      let size : len e + walk_length g len c w ≡ n = h.size in
+      let size : len e + graph_walk_length g len c w ≡ n = h.size in
       record {
         joined = h.walk.0;
         fits = omega arith;
@@ -87,14 +87,14 @@ module _ (g : Graph) (len sig : ℕ → ℕ) where
       Goes c w b (n - len (edge_between g a c)) (bit_xor s (sig (edge_between g a c))) → Goes a (c ∷ w) b n s
   before a c w b n s j fits h =
       let e = edge_between g a c in
-      let size : walk_length g len c w ≡ n - len e = h.size in
+      let size : graph_walk_length g len c w ≡ n - len e = h.size in
       record {
         walk = (j, h.walk);
         size = omega arith;
         sum = ap (bit_xor (sig e)) h.sum ∙ xor_on (sig e) s;
       }
 
-  sums-append : (a : ℕ) (u : List ℕ) (b : ℕ) (w : List ℕ) → IsWalk g a u b →
+  sums-append : (a : ℕ) (u : List ℕ) (b : ℕ) (w : List ℕ) → IsGraphWalk g a u b →
       walk_sum g sig a (u ++ w) ≡ bit_xor (walk_sum g sig a u) (walk_sum g sig b w)
   sums-append a [] b w h = ap (λ x. walk_sum g sig x w) h ∙ sym (numbers.unit (walk_sum g sig b w))
   sums-append a (c ∷ u) b w h =
@@ -107,7 +107,7 @@ module _ (g : Graph) (len sig : ℕ → ℕ) where
       let both = walk-append g len a u b w c p.walk q.walk in
       record {
         walk = both.0;
-        size = both.2 ∙ ap (λ x. x + walk_length g len b w) p.size ∙ ap (λ x. n + x) q.size;
+        size = both.2 ∙ ap (λ x. x + graph_walk_length g len b w) p.size ∙ ap (λ x. n + x) q.size;
         sum = sums-append a u b w p.walk ∙ ap (λ x. bit_xor x (walk_sum g sig b w)) p.sum ∙ ap (bit_xor s) q.sum;
       }
 
@@ -274,11 +274,11 @@ module _ (g : Graph) (len sig : ℕ → ℕ) where
 
   -- a walk that goes on otherwise after some steps does not go on with less
   pub least_at : (b a : ℕ) (p : List ℕ) (u v : ℕ) (w r : List ℕ) → IsLeastWalk b a (p ++ u ∷ w) →
-      Goes a (p ++ v ∷ r) b (walk_length g len a (p ++ u ∷ w)) (walk_sum g sig a (p ++ u ∷ w)) → u ≤ v
+      Goes a (p ++ v ∷ r) b (graph_walk_length g len a (p ++ u ∷ w)) (walk_sum g sig a (p ++ u ∷ w)) → u ≤ v
   least_at b a [] u v w r least h = least.0 v r h
   least_at b a (c ∷ p) u v w r least h =
       let e = edge_between g a c in
-      let size : len e + walk_length g len c (p ++ v ∷ r) ≡ len e + walk_length g len c (p ++ u ∷ w) = h.size in
+      let size : len e + graph_walk_length g len c (p ++ v ∷ r) ≡ len e + graph_walk_length g len c (p ++ u ∷ w) = h.size in
       least_at b c p u v w r least.1 (record {
         walk = h.walk.1;
         size = omega arith;
@@ -287,13 +287,13 @@ module _ (g : Graph) (len sig : ℕ → ℕ) where
       })
 
   -- and where that holds, the walk is least
-  pub least_from : (b a : ℕ) (r : List ℕ) → IsWalk g a r b →
+  pub least_from : (b a : ℕ) (r : List ℕ) → IsGraphWalk g a r b →
       ((p : List ℕ) (u v : ℕ) (w q : List ℕ) → r ≡ p ++ u ∷ w →
-      Goes a (p ++ v ∷ q) b (walk_length g len a r) (walk_sum g sig a r) → u ≤ v) → IsLeastWalk b a r
+      Goes a (p ++ v ∷ q) b (graph_walk_length g len a r) (walk_sum g sig a r) → u ≤ v) → IsLeastWalk b a r
   least_from b a [] walk h = tt
   least_from b a (c ∷ r) walk h = (
     (λ x v goes. h [] c x r v refl goes),
     least_from b c r walk.1 (λ p u v w q is goes.
         h (c ∷ p) u v w q (ap (λ xs. c ∷ xs) is)
-        (goes_over a c (p ++ v ∷ q) b (walk_length g len c r) (walk_sum g sig c r) walk.0 goes)),
+        (goes_over a c (p ++ v ∷ q) b (graph_walk_length g len c r) (walk_sum g sig c r) walk.0 goes)),
   )

@@ -2,7 +2,7 @@
 use Rattle.std.specs.Prelude.{◌≡◌, ◌≢◌, ℕ, ◌+◌, ◌*◌, ◌/◌, ◌%◌, ◌<◌, ◌≤◌, ◌^◌, ◌==◌, true, List, length, bit_xor}
 use Rattle.std.specs.Prelude.{if◌then◌else◌}
 use Rattle.surf_graphs.specs.Cells.{Split, IsSplit, primal}
-use Rattle.surf_graphs.specs.Graphs.{Graph, IsGraph, IsConnected, joins}
+use Rattle.surf_graphs.specs.Graphs.{Graph, IsGraph, IsConnectedGraph, joins}
 use Rattle.surf_surfaces.specs.Mesh.{Mesh}
 use Rattle.surf_surfaces.specs.Surface.{edge_count, ends, IsSurface}
 use Rattle.surf_surfaces.specs.Walk.{edge_length}
@@ -42,7 +42,7 @@ cover_edge mesh d v set e =
 -- else does
 pub record IsCover (mesh : Mesh) (d : Split) : Type 0 where
   pub is_graph : IsGraph (cover mesh d)
-  pub connected : IsConnected (cover mesh d)
+  pub connected : IsConnectedGraph (cover mesh d)
   pub node_in : (v set : ℕ) → v < mesh.vertices → IsSet d set → cover_node d v set < mesh.vertices * set_count d
   pub edge_in : (v set e : ℕ) → e < edge_count mesh → IsSet d set →
       cover_edge mesh d v set e < edge_count mesh * set_count d

@@ -7,7 +7,7 @@ use Rattle.std.proofs.lemmas.Nat.{div_below, div-mul-add}
 use Rattle.surf_z2.proofs.ParityLaws.{any_below-found}
 use Rattle.surf_z2.proofs.Below.{same_from, number_of-none}
 use Rattle.surf_graphs.specs.Cells.{Split, IsSplit, primal, dual, signature, parts}
-use Rattle.surf_graphs.specs.Graphs.{Graph, IsGraph, IsConnected, joins}
+use Rattle.surf_graphs.specs.Graphs.{Graph, IsGraph, IsConnectedGraph, joins}
 use Rattle.surf_graphs.specs.Trees.{Tree, IsTree, in_tree}
 use Rattle.surf_surfaces.specs.Mesh.{Mesh}
 use Rattle.surf_surfaces.specs.Surface.{edge_count, ends, IsSurface}
@@ -157,8 +157,8 @@ module _ (mesh : Mesh) (d : Split) (sets : ℕ) (signs : List ℕ) (signed : IsS
       record {
         is_graph = subst (λ (s : ℕ → ℕ). IsGraph (cover_by mesh sets s)) (sym same_sign)
             (subst (λ n. IsGraph (cover_by mesh n (edge_signature mesh d))) (sym signed.sets_are) is.is_graph);
-        connected = subst (λ (s : ℕ → ℕ). IsConnected (cover_by mesh sets s)) (sym same_sign)
-            (subst (λ n. IsConnected (cover_by mesh n (edge_signature mesh d))) (sym signed.sets_are) is.connected);
+        connected = subst (λ (s : ℕ → ℕ). IsConnectedGraph (cover_by mesh sets s)) (sym same_sign)
+            (subst (λ n. IsConnectedGraph (cover_by mesh n (edge_signature mesh d))) (sym signed.sets_are) is.connected);
         few = omega (arith, few);
         short = λ c. short_lengths lengths are (c / sets);
       }

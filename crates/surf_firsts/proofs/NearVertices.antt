@@ -13,7 +13,7 @@ use Rattle.surf_z2.proofs.Passing.{all_filtered, some_or_none}
 use Rattle.surf_z2.proofs.Ranks.{in_wider}
 use Rattle.surf_z2.proofs.Span.{InSpan, add_in, in_from_spanned, spanned_from_in}
 use Rattle.surf_graphs.specs.Cells.{primal, Split, IsSplit}
-use Rattle.surf_graphs.specs.Graphs.{Graph, IsGraph, IsWalk as IsGraphWalk, walk_chain, walk_length as graph_length, edge_between}
+use Rattle.surf_graphs.specs.Graphs.{Graph, IsGraph, IsGraphWalk, walk_chain, graph_walk_length, edge_between}
 use Rattle.surf_graphs.specs.Independence.{signature_of}
 use Rattle.surf_graphs.specs.Trees.{Tree, loop}
 use Rattle.surf_graphs.proofs.Graphs.{edge_between_is, walk-append}
@@ -57,7 +57,7 @@ walk_in g graph a (c ∷ w) b a_in h = (a_in, walk_in g graph c w b (joined_in g
 same_off : (g : Graph) (len other : ℕ → ℕ) (set : ℕ → Bool) →
     ((e : ℕ) → e < g.edges → set (g.from e) ≡ false → set (g.to e) ≡ false → other e ≡ len e) → (a : ℕ) (w : List ℕ)
     (b : ℕ) → IsGraphWalk g a w b → AllByRecursion (λ n. set n ≡ false) (a ∷ w) →
-    graph_length g other a w ≡ graph_length g len a w
+    graph_walk_length g other a w ≡ graph_walk_length g len a w
 same_off g len other set agree a [] b h off = refl
 same_off g len other set agree a (c ∷ w) b h off =
     let m = edge_between g a c in
@@ -98,7 +98,7 @@ module _ (mesh : Mesh) (lengths other : List ℕ) (trees others : ℕ → Tree) 
   -- so is a closed walk at x that is over a vertex of the set
   over_set : (x size n : ℕ) (w : List ℕ) → x < mesh.vertices → n < mesh.vertices → set n ≡ true →
       sought (size, x) ≡ true → IsGraphWalk (primal (cells_of mesh)) x w x → Contains (x ∷ w) n →
-      graph_length (primal (cells_of mesh)) (edge_length lengths) x w ≤ size →
+      graph_walk_length (primal (cells_of mesh)) (edge_length lengths) x w ≤ size →
       InSpan numbers (span_within (size, x)) (signature_of (cells_of mesh) d (walk_chain (primal (cells_of mesh)) x w))
   over_set x size n w x_in n_in in_set is_sought closed over no_longer =
       let s = cells_of mesh in
@@ -132,7 +132,7 @@ module _ (mesh : Mesh) (lengths other : List ℕ) (trees others : ℕ → Tree) 
 
     -- so is a closed walk at y, no longer by the other lengths than a size
     walk_near : (y size base : ℕ) (w : List ℕ) → IsGraphWalk (primal (cells_of mesh)) y w y → (others z).rank y ≤ far →
-        size ≤ most → graph_length (primal (cells_of mesh)) (edge_length other) y w ≤ size →
+        size ≤ most → graph_walk_length (primal (cells_of mesh)) (edge_length other) y w ≤ size →
         InSpan numbers (span_within (size, base)) (signature_of (cells_of mesh) d (walk_chain (primal (cells_of mesh)) y w))
     walk_near y size base w closed near le no_longer =
         let s = cells_of mesh in
@@ -148,7 +148,7 @@ module _ (mesh : Mesh) (lengths other : List ℕ) (trees others : ℕ → Tree) 
 
     -- and so is one at x over y that keeps off the set
     off_set : (x y size : ℕ) (w : List ℕ) → IsGraphWalk (primal (cells_of mesh)) x w x → Contains (x ∷ w) y →
-        graph_length (primal (cells_of mesh)) (edge_length lengths) x w ≤ size → AllByRecursion (λ n. set n ≡ false) (x ∷ w) →
+        graph_walk_length (primal (cells_of mesh)) (edge_length lengths) x w ≤ size → AllByRecursion (λ n. set n ≡ false) (x ∷ w) →
         (others z).rank y ≤ far → size ≤ most →
         InSpan numbers (span_within (size, x)) (signature_of (cells_of mesh) d (walk_chain (primal (cells_of mesh)) x w))
     off_set x y size w closed over no_longer off near le =
@@ -158,12 +158,12 @@ module _ (mesh : Mesh) (lengths other : List ℕ) (trees others : ℕ → Tree) 
         let (first, second, is, there, back) = walk_parts g x w x y closed over in
         let straight = walk-append g off_len x first y second x there back in
         let turned = walk-append g off_len y second x first y back there in
-        let as_long : graph_length g off_len x w ≡ graph_length g len x w =
+        let as_long : graph_walk_length g off_len x w ≡ graph_walk_length g len x w =
         same_off g len off_len set agree x w x closed off in
-        let whole : graph_length g off_len x w ≡ graph_length g off_len x first + graph_length g off_len y second =
-        ap (graph_length g off_len x) is ∙ straight.2 in
-        let other_way : graph_length g off_len y (second ++ first)
-        ≡ graph_length g off_len y second + graph_length g off_len x first = turned.2 in
+        let whole : graph_walk_length g off_len x w ≡ graph_walk_length g off_len x first + graph_walk_length g off_len y second =
+        ap (graph_walk_length g off_len x) is ∙ straight.2 in
+        let other_way : graph_walk_length g off_len y (second ++ first)
+        ≡ graph_walk_length g off_len y second + graph_walk_length g off_len x first = turned.2 in
         let same : (e : ℕ) → walk_chain g x w e ≡ walk_chain g y (second ++ first) e =
         λ e. ap (λ v. walk_chain g x v e) is ∙ straight.1 e
         ∙ xor_comm (walk_chain g x first e) (walk_chain g y second e) ∙ sym (turned.1 e) in

@@ -2,8 +2,8 @@
 use Rattle.std.proofs.Common.{◌≡◌, ℕ, zero, suc, ◌+◌, ◌<◌, ◌≤◌, Bool, true, eqb, sym, ap, ◌∙◌, subst, arith, inl, inr, ◌⊎◌, refl, List, [], ◌∷◌, ◌++◌, Contains}
 use Rattle.surf_z2.specs.Parity.{xor}
 use Rattle.surf_z2.proofs.ParityLaws.{xor_comm, xor_assoc, xor_meet}
-use Rattle.surf_graphs.specs.Graphs.{Graph, IsGraph, joins, IsWalk, walk_chain, walk_length}
-use Rattle.surf_graphs.specs.Trees.{Tree, IsTree, on_path, loop, IsShortest, loop_length}
+use Rattle.surf_graphs.specs.Graphs.{Graph, IsGraph, joins, IsGraphWalk, walk_chain, graph_walk_length}
+use Rattle.surf_graphs.specs.Trees.{Tree, IsTree, on_path, loop, IsShortest, graph_loop_length}
 use Rattle.surf_graphs.specs.Loops.{IsSimple, way_down, way_up}
 use Rattle.surf_graphs.proofs.Trees.{joined_below, joined_in}
 use Rattle.surf_graphs.proofs.Lengths.{step_short}
@@ -11,7 +11,7 @@ use Rattle.surf_graphs.proofs.Loops.{joins_turned, joins_ends, Runs, runs-append
 use Rattle.surf_graphs.proofs.Through.{both_ways}
 
 -- a walk is over its end
-over_end : (g : Graph) (a : ℕ) (w : List ℕ) (b : ℕ) → IsWalk g a w b → Contains (a ∷ w) b
+over_end : (g : Graph) (a : ℕ) (w : List ℕ) (b : ℕ) → IsGraphWalk g a w b → Contains (a ∷ w) b
 over_end g a [] b h = (0, omega arith, h)
 over_end g a (c ∷ w) b h = let r = over_end g c w b h.1 in (suc r.0, omega (arith, r.1), r.2)
 
@@ -34,9 +34,9 @@ xor_both e f = cc
 
 -- a closed walk at x over y that is no longer than a size
 pub record IsOver (g : Graph) (len : ℕ → ℕ) (x y size : ℕ) (walk : List ℕ) : Type 0 where
-  pub closed : IsWalk g x walk x
+  pub closed : IsGraphWalk g x walk x
   pub over : Contains (x ∷ walk) y
-  pub no_longer : walk_length g len x walk ≤ size
+  pub no_longer : graph_walk_length g len x walk ≤ size
 
 module _ (g : Graph) (len : ℕ → ℕ) (graph : IsGraph g) (simple : IsSimple g) (trees : ℕ → Tree)
     (root : (x : ℕ) → x < g.nodes → (trees x).root ≡ x) (is_tree : (x : ℕ) → x < g.nodes → IsTree g (trees x))
@@ -59,8 +59,8 @@ module _ (g : Graph) (len : ℕ → ℕ) (graph : IsGraph g) (simple : IsSimple 
   pub record PartsOver (x y e : ℕ) : Type 0 where
     pub first : List ℕ
     pub second : List ℕ
-    pub first_over : IsOver g len x y (loop_length g len (trees y) e) first
-    pub second_over : IsOver g len x y (loop_length g len (trees y) e) second
+    pub first_over : IsOver g len x y (graph_loop_length g len (trees y) e) first
+    pub second_over : IsOver g len x y (graph_loop_length g len (trees y) e) second
     pub edges : (h : ℕ) → loop g (trees y) e h ≡ xor (walk_chain g x first h) (walk_chain g x second h)
 
   parts_over : (x y u v e : ℕ) → x < g.nodes → y < g.nodes → e < g.edges → joins g u v e ≡ true →
@@ -70,7 +70,7 @@ module _ (g : Graph) (len : ℕ → ℕ) (graph : IsGraph g) (simple : IsSimple 
       let u_in = joined_below g graph u v (e, e_in, over) in
       let v_in = joined_in g graph u v (e, e_in, over) in
       let near = step_short g len (trees y) (short y y_in) u v e e_in over in
-      let size : loop_length g len (trees y) e ≡ (trees y).rank u + len e + (trees y).rank v = near.2 in
+      let size : graph_loop_length g len (trees y) e ≡ (trees y).rank u + len e + (trees y).rank v = near.2 in
       let no_cut : (trees y).rank u ≤ len e + (trees y).rank v = near.0 in
       let same : (trees y).rank x ≡ (trees x).rank y =
       both_ways g len graph simple trees root is_tree short y x y_in x_in in

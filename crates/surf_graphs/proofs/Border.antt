@@ -2,7 +2,7 @@
 use Rattle.std.proofs.Common.{◌≡◌, ◌≢◌, ℕ, ◌+◌, ◌<◌, Bool, true, false, ◌&&◌, eqb, refl, sym, ◌∙◌, ap, arith, inl, inr, length, eqb-true}
 use Rattle.std.proofs.lemmas.Bool.{cases_Bool, and_parts, false≢true, eqb-false, not-true}
 use Rattle.surf_z2.specs.Parity.{xor, any_below}
-use Rattle.surf_graphs.specs.Graphs.{leaves, touches, IsEven}
+use Rattle.surf_graphs.specs.Graphs.{leaves, graph_touches, IsEven}
 use Rattle.surf_graphs.specs.Cells.{Cells, primal, dual, IsCellComplex}
 use Rattle.surf_z2.proofs.ParityLaws.{xor_comm, and-false, odd_below-same, odd_below-none, odd_below-and, any_below-found, any_below-none}
 use Rattle.surf_graphs.proofs.CellLaws.{signature_null}
@@ -22,12 +22,12 @@ leave_out false p t h = refl
 
 -- a chain of a face's edges that has all or none of those at each vertex is even
 face_part_even : (s : Cells) → IsCellComplex s → (o : ℕ) → o < s.faces → (p : ℕ → Bool) →
-    ((v e f : ℕ) → v < s.vertices → e < s.edges → f < s.edges → touches (dual s) o e ≡ true →
-    touches (dual s) o f ≡ true → touches (primal s) v e ≡ true → touches (primal s) v f ≡ true → p e ≡ p f) →
-    IsEven (primal s) (λ e. touches (dual s) o e && p e)
+    ((v e f : ℕ) → v < s.vertices → e < s.edges → f < s.edges → graph_touches (dual s) o e ≡ true →
+    graph_touches (dual s) o f ≡ true → graph_touches (primal s) v e ≡ true → graph_touches (primal s) v f ≡ true → p e ≡ p f) →
+    IsEven (primal s) (λ e. graph_touches (dual s) o e && p e)
 face_part_even s ok o lo p meet v lv =
-    let border : ℕ → Bool = λ e. touches (dual s) o e in
-    let at_v : ℕ → Bool = λ e. touches (primal s) v e in
+    let border : ℕ → Bool = λ e. graph_touches (dual s) o e in
+    let at_v : ℕ → Bool = λ e. graph_touches (primal s) v e in
     elim (cases_Bool (any_below s.edges (λ e. border e && at_v e))) [
       | inl some ↦
           let (f, lf, both) = any_below-found s.edges (λ e. border e && at_v e) some in
@@ -40,7 +40,7 @@ face_part_even s ok o lo p meet v lv =
     ]
 
 -- the face on the other side of one of a face's edges
-across : (s : Cells) → IsCellComplex s → (o : ℕ) (set : ℕ → Bool) (e : ℕ) → e < s.edges → touches (dual s) o e ≡ true →
+across : (s : Cells) → IsCellComplex s → (o : ℕ) (set : ℕ → Bool) (e : ℕ) → e < s.edges → graph_touches (dual s) o e ≡ true →
     (f : ℕ) × (f < s.faces) × (f ≢ o) × (leaves (dual s) set e ≡ xor (set f) (set o))
 across s ok o set e l on =
     let ends = ok.dual_ends e l in
@@ -69,14 +69,14 @@ meet_at p q x y o one two same = one ∙ (ap (λ z. xor z o) same ∙ sym two)
 -- are joined at vertices
 pub border_connected : (s : Cells) → IsCellComplex s → 0 < s.vertices → s.vertices + s.faces ≡ s.edges + 2 → (o : ℕ) →
     o < s.faces →
-    ((set : ℕ → Bool) → ((e : ℕ) → e < s.edges → touches (dual s) o e ≡ false → leaves (dual s) set e ≡ false) →
+    ((set : ℕ → Bool) → ((e : ℕ) → e < s.edges → graph_touches (dual s) o e ≡ false → leaves (dual s) set e ≡ false) →
     (a b : ℕ) → a < s.faces → b < s.faces → a ≢ o → b ≢ o → set a ≡ set b) →
     (p : ℕ → Bool) →
-    ((v e f : ℕ) → v < s.vertices → e < s.edges → f < s.edges → touches (dual s) o e ≡ true →
-    touches (dual s) o f ≡ true → touches (primal s) v e ≡ true → touches (primal s) v f ≡ true → p e ≡ p f) →
-    (e f : ℕ) → e < s.edges → f < s.edges → touches (dual s) o e ≡ true → touches (dual s) o f ≡ true → p e ≡ p f
+    ((v e f : ℕ) → v < s.vertices → e < s.edges → f < s.edges → graph_touches (dual s) o e ≡ true →
+    graph_touches (dual s) o f ≡ true → graph_touches (primal s) v e ≡ true → graph_touches (primal s) v f ≡ true → p e ≡ p f) →
+    (e f : ℕ) → e < s.edges → f < s.edges → graph_touches (dual s) o e ≡ true → graph_touches (dual s) o f ≡ true → p e ≡ p f
 border_connected s ok lv chi o lo inner p meet e f le lf oe of =
-    let border : ℕ → Bool = λ x. touches (dual s) o x in
+    let border : ℕ → Bool = λ x. graph_touches (dual s) o x in
     let (d, ds) = split_exists s ok lv (omega arith) in
     let counted : length d.left + (s.vertices + s.faces) ≡ s.edges + 2 = left_edges s d ds in
     let q : ℕ → Bool = λ x. border x && p x in

@@ -2,28 +2,28 @@
 use Rattle.std.proofs.Common.{true, ◌≡◌, ◌≢◌, ℕ, ◌<◌, Bool, false, ◌&&◌, eqb, refl, sym, ◌∙◌, ap, arith, ne_eqb, eq-eqb, inl, inr, ◌↔◌, List, [], ◌∷◌, length, get_or}
 use Rattle.std.proofs.lemmas.Bool.{and_parts, cases_eq, cases_Bool, cases_order, false≢true, true_from_ne_false}
 use Rattle.surf_z2.specs.Parity.{xor, odd_below}
-use Rattle.surf_graphs.specs.Graphs.{leaves, touches, IsEven, IsWalk, walk_chain, edge_between}
+use Rattle.surf_graphs.specs.Graphs.{leaves, graph_touches, IsEven, IsGraphWalk, walk_chain, edge_between}
 use Rattle.surf_graphs.specs.Trees.{Tree, IsTree, in_tree, on_path}
-use Rattle.surf_graphs.specs.Cells.{Cells, primal, dual, IsCellComplex, boundary, IsNull, Split, IsSplit, parts, signature, chain_signature, walk_signature}
+use Rattle.surf_graphs.specs.Cells.{Cells, primal, dual, IsCellComplex, cell_boundary, IsNullChain, Split, IsSplit, parts, signature, chain_signature, graph_walk_signature}
 use Rattle.surf_z2.proofs.ParityLaws.{xor_ends, and-xor, xor_base, xor_equal, and_comm, and-false, xor-false, xor-same, odd_below-same, odd_below-none, odd_below-and-xor, odd_below-xor-and, odd_below-at}
 use Rattle.surf_graphs.proofs.Graphs.{walk_even, by_nodes, even-xor, edge_between_is}
 use Rattle.surf_graphs.proofs.Trees.{tree_edge, leaves_path, along, along_same, along_leaves, path_leaves, along_is, path_inside, empty_inside}
 
 -- the boundary of a set of faces is even
-pub boundary_even : (s : Cells) → IsCellComplex s → (set : ℕ → Bool) → IsEven (primal s) (boundary s set)
+pub boundary_even : (s : Cells) → IsCellComplex s → (set : ℕ → Bool) → IsEven (primal s) (cell_boundary s set)
 boundary_even s ok set v l =
-    odd_below-same s.edges (λ e. boundary s set e && touches (primal s) v e)
-    (λ e. touches (primal s) v e && leaves (dual s) set e) (λ e h. and_comm (boundary s set e) (touches (primal s) v e))
-    ∙ (by_nodes (dual s) ok.dual_ends (λ e. touches (primal s) v e) set
-    ∙ odd_below-none s.faces (λ f. set f && odd_below s.edges (λ e. touches (primal s) v e && touches (dual s) f e))
+    odd_below-same s.edges (λ e. cell_boundary s set e && graph_touches (primal s) v e)
+    (λ e. graph_touches (primal s) v e && leaves (dual s) set e) (λ e h. and_comm (cell_boundary s set e) (graph_touches (primal s) v e))
+    ∙ (by_nodes (dual s) ok.dual_ends (λ e. graph_touches (primal s) v e) set
+    ∙ odd_below-none s.faces (λ f. set f && odd_below s.edges (λ e. graph_touches (primal s) v e && graph_touches (dual s) f e))
     (λ f lf. rw (ok.corners_even v f l lf) (and-false (set f))))
 
 -- a set of faces that no edge outside the tree leaves has all faces or none
 pub outside_joins : (s : Cells) → IsCellComplex s → (t : Tree) → IsTree (primal s) t → (set : ℕ → Bool) →
-    ((e : ℕ) → e < s.edges → in_tree (primal s) t e ≡ false → boundary s set e ≡ false) → (a b : ℕ) → a < s.faces →
+    ((e : ℕ) → e < s.edges → in_tree (primal s) t e ≡ false → cell_boundary s set e ≡ false) → (a b : ℕ) → a < s.faces →
     b < s.faces → set a ≡ set b
 outside_joins s ok t tree set stays =
-    ok.dual_connected set (empty_inside (primal s) t ok.primal_ends tree (boundary s set) (boundary_even s ok set)
+    ok.dual_connected set (empty_inside (primal s) t ok.primal_ends tree (cell_boundary s set) (boundary_even s ok set)
     (λ e l h. true_from_ne_false (in_tree (primal s) t e) (λ out. false≢true (sym (stays e l out) ∙ h))))
 
 -- a left edge is listed once
@@ -87,7 +87,7 @@ chain_signature_is s d ok ds chain k lk =
       odd_below-and-xor s.edges chain (λ e. on_path d.cotree (s.near m) e) (λ e. on_path d.cotree (s.far m) e),
     ))
 
-pub null_signature : (s : Cells) (d : Split) → IsCellComplex s → IsSplit s d → (chain : ℕ → Bool) → IsNull s chain →
+pub null_signature : (s : Cells) (d : Split) → IsCellComplex s → IsSplit s d → (chain : ℕ → Bool) → IsNullChain s chain →
     (k : ℕ) → k < length d.left → chain_signature s d chain k ≡ false
 null_signature s d ok ds chain (set, is) k lk =
     let m = get_or d.left k 0 in
@@ -101,10 +101,10 @@ null_signature s d ok ds chain (set, is) k lk =
     (xor_base (set (s.near m)) (set (s.far m)) (set d.cotree.root))
 
 pub signature_null : (s : Cells) (d : Split) → IsCellComplex s → IsSplit s d → (chain : ℕ → Bool) →
-    IsEven (primal s) chain → ((k : ℕ) → k < length d.left → chain_signature s d chain k ≡ false) → IsNull s chain
+    IsEven (primal s) chain → ((k : ℕ) → k < length d.left → chain_signature s d chain k ≡ false) → IsNullChain s chain
 signature_null s d ok ds chain even zeros =
     let set = along (dual s) d.cotree chain in
-    let rest : ℕ → Bool = λ e. xor (chain e) (boundary s set e) in
+    let rest : ℕ → Bool = λ e. xor (chain e) (cell_boundary s set e) in
     let outside : (e : ℕ) → e < s.edges → in_tree (primal s) d.tree e ≡ false → rest e ≡ false = λ e l no_t.
     elim (cases_Bool (in_tree (dual s) d.cotree e)) [
       | inl yes_c ↦
@@ -119,33 +119,33 @@ signature_null s d ok ds chain even zeros =
           rw is at zero_here
     ] in
     let empty = empty_inside (primal s) d.tree ok.primal_ends ds.tree_is rest
-    (even-xor (primal s) chain (boundary s set) even (boundary_even s ok set))
+    (even-xor (primal s) chain (cell_boundary s set) even (boundary_even s ok set))
     (λ e l h. true_from_ne_false (in_tree (primal s) d.tree e) (λ out. false≢true (sym (outside e l out) ∙ h))) in
-    (set, λ e l. xor_equal (chain e) (boundary s set e) (empty e l))
+    (set, λ e l. xor_equal (chain e) (cell_boundary s set e) (empty e l))
 
 -- the edges of a face
 pub face_zero : (s : Cells) (d : Split) → IsCellComplex s → IsSplit s d → (f k : ℕ) → f < s.faces → k < length d.left →
-    chain_signature s d (λ e. touches (dual s) f e) k ≡ false
+    chain_signature s d (λ e. graph_touches (dual s) f e) k ≡ false
 face_zero s d ok ds f k lf lk =
-    null_signature s d ok ds (λ e. touches (dual s) f e) ((λ x. eqb x f), (λ e l. refl)) k lk
+    null_signature s d ok ds (λ e. graph_touches (dual s) f e) ((λ x. eqb x f), (λ e l. refl)) k lk
 
 -- a walk's signature is that of its chain
-pub walk_signature_is : (s : Cells) (d : Split) (a : ℕ) (w : List ℕ) (b k : ℕ) → IsWalk (primal s) a w b →
-    walk_signature s d a w k ≡ chain_signature s d (walk_chain (primal s) a w) k
+pub walk_signature_is : (s : Cells) (d : Split) (a : ℕ) (w : List ℕ) (b k : ℕ) → IsGraphWalk (primal s) a w b →
+    graph_walk_signature s d a w k ≡ chain_signature s d (walk_chain (primal s) a w) k
 walk_signature_is s d a [] b k h = sym (odd_below-none s.edges (λ e. false) (λ e l. refl))
 walk_signature_is s d a (c ∷ w) b k h =
     let step = edge_between_is (primal s) a c h.0 in
     let here : odd_below s.edges (λ e. eqb (edge_between (primal s) a c) e && signature s d e k)
     ≡ signature s d (edge_between (primal s) a c) k =
     odd_below-at s.edges (edge_between (primal s) a c) (λ e. signature s d e k) step.0 in
-    let rest : walk_signature s d c w k ≡ chain_signature s d (walk_chain (primal s) c w) k =
+    let rest : graph_walk_signature s d c w k ≡ chain_signature s d (walk_chain (primal s) c w) k =
     walk_signature_is s d c w b k h.1 in
     sym (odd_below-xor-and s.edges (λ e. eqb (edge_between (primal s) a c) e) (walk_chain (primal s) c w)
     (λ e. signature s d e k) ∙ rw (here, rest))
 
 -- the faces with edge c of the cotree on their path: no other edge of the cotree leaves the set
 pub beyond : (s : Cells) (d : Split) → IsSplit s d → (c e : ℕ) → e ≢ c → in_tree (dual s) d.cotree e ≡ true →
-    boundary s (λ f. on_path d.cotree f c) e ≡ false
+    cell_boundary s (λ f. on_path d.cotree f c) e ≡ false
 beyond s d ok c e ne yes_e =
     let (n, ln, nn, is) = tree_edge (dual s) d.cotree e yes_e in
     let here : leaves (dual s) (λ f. on_path d.cotree f c) e ≡ eqb e c =
@@ -154,8 +154,8 @@ beyond s d ok c e ne yes_e =
 
 -- a set of faces that no other edge of the cotree than c leaves changes at c alone
 one_jump : (s : Cells) (d : Split) → IsSplit s d → (c : ℕ) (set : ℕ → Bool) → c < s.edges →
-    ((e : ℕ) → e < s.edges → e ≢ c → in_tree (dual s) d.cotree e ≡ true → boundary s set e ≡ false) →
-    (f : ℕ) → f < s.faces → xor (set f) (set d.cotree.root) ≡ (boundary s set c && on_path d.cotree f c)
+    ((e : ℕ) → e < s.edges → e ≢ c → in_tree (dual s) d.cotree e ≡ true → cell_boundary s set e ≡ false) →
+    (f : ℕ) → f < s.faces → xor (set f) (set d.cotree.root) ≡ (cell_boundary s set c && on_path d.cotree f c)
 one_jump s d ok c set lc stays f lf =
     sym (path_leaves (dual s) d.cotree ok.cotree_is set f lf)
     ∙ (along_is (dual s) d.cotree (leaves (dual s) set) f
@@ -173,28 +173,28 @@ pub cotree_parts : (s : Cells) (d : Split) → IsCellComplex s → IsSplit s d �
     in_tree (dual s) d.cotree c ≡ true →
     (parts s d c l ≡ true)
     ↔ ((set : ℕ → Bool) × ((e : ℕ) → e < s.edges → e ≢ c → in_tree (dual s) d.cotree e ≡ true →
-    boundary s set e ≡ false) × (boundary s set l ≡ true))
+    cell_boundary s set e ≡ false) × (cell_boundary s set l ≡ true))
 cotree_parts s d cells ok c l lc ll on = (
   (λ h. ((λ f. on_path d.cotree f c), (λ e le ne yes_e. beyond s d ok c e ne yes_e), h)),
   λ (set, stays, apart).
       let ends = cells.dual_ends l ll in
-      let one : xor (set (s.near l)) (set d.cotree.root) ≡ (boundary s set c && on_path d.cotree (s.near l) c) =
+      let one : xor (set (s.near l)) (set d.cotree.root) ≡ (cell_boundary s set c && on_path d.cotree (s.near l) c) =
       one_jump s d ok c set lc stays (s.near l) ends.0 in
-      let two : xor (set (s.far l)) (set d.cotree.root) ≡ (boundary s set c && on_path d.cotree (s.far l) c) =
+      let two : xor (set (s.far l)) (set d.cotree.root) ≡ (cell_boundary s set c && on_path d.cotree (s.far l) c) =
       one_jump s d ok c set lc stays (s.far l) ends.1 in
-      let both : (boundary s set c && parts s d c l) ≡ true =
-      and-xor (boundary s set c) (on_path d.cotree (s.near l) c) (on_path d.cotree (s.far l) c)
+      let both : (cell_boundary s set c && parts s d c l) ≡ true =
+      and-xor (cell_boundary s set c) (on_path d.cotree (s.near l) c) (on_path d.cotree (s.far l) c)
       ∙ (rw (← one, ← two) (xor_ends (set (s.near l)) (set (s.far l)) (set d.cotree.root)) ∙ apart) in
-      (and_parts (boundary s set c) (parts s d c l) both).1,
+      (and_parts (cell_boundary s set c) (parts s d c l) both).1,
 )
 
 pub faces_closed : (s : Cells) (start : ℕ → ℕ) (around : ℕ → List ℕ) →
-    ((f : ℕ) → f < s.faces → IsWalk (primal s) (start f) (around f) (start f)) →
-    ((f e : ℕ) → f < s.faces → e < s.edges → touches (dual s) f e ≡ walk_chain (primal s) (start f) (around f) e) →
-    (v f : ℕ) → v < s.vertices → f < s.faces → odd_below s.edges (λ e. touches (primal s) v e && touches (dual s) f e)
+    ((f : ℕ) → f < s.faces → IsGraphWalk (primal s) (start f) (around f) (start f)) →
+    ((f e : ℕ) → f < s.faces → e < s.edges → graph_touches (dual s) f e ≡ walk_chain (primal s) (start f) (around f) e) →
+    (v f : ℕ) → v < s.vertices → f < s.faces → odd_below s.edges (λ e. graph_touches (primal s) v e && graph_touches (dual s) f e)
     ≡ false
 faces_closed s start around closed edges v f lv lf =
-    odd_below-same s.edges (λ e. touches (primal s) v e && touches (dual s) f e)
-    (λ e. walk_chain (primal s) (start f) (around f) e && touches (primal s) v e)
-    (λ e le. rw (edges f e lf le) (and_comm (touches (primal s) v e) (walk_chain (primal s) (start f) (around f) e)))
+    odd_below-same s.edges (λ e. graph_touches (primal s) v e && graph_touches (dual s) f e)
+    (λ e. walk_chain (primal s) (start f) (around f) e && graph_touches (primal s) v e)
+    (λ e le. rw (edges f e lf le) (and_comm (graph_touches (primal s) v e) (walk_chain (primal s) (start f) (around f) e)))
     ∙ walk_even (primal s) (start f) (around f) (closed f lf) v lv

@@ -2,7 +2,7 @@
 use Rattle.std.proofs.Common.{◌≡◌, ℕ, ◌+◌, ◌<◌, Bool, true, false, ◌&&◌, eqb, refl, sym, ◌∙◌, ap, eqb-true, inl, inr, List, [], ◌∷◌, ◌++◌, arith}
 use Rattle.std.proofs.lemmas.Bool.{or_cases, and_parts}
 use Rattle.surf_z2.specs.Parity.{xor, odd_below}
-use Rattle.surf_graphs.specs.Graphs.{Graph, IsGraph, leaves, touches, IsEven, joins, IsJoined, edge_between, IsWalk, walk_chain, walk_length}
+use Rattle.surf_graphs.specs.Graphs.{Graph, IsGraph, leaves, graph_touches, IsEven, joins, IsJoined, edge_between, IsGraphWalk, walk_chain, graph_walk_length}
 use Rattle.surf_z2.proofs.ParityLaws.{xor_meet, xor_comm, xor_assoc, xor-same, and_comm, and_assoc, and-false, odd_below-same, odd_below-none, odd_below-and, odd_below-xor-and, odd_below-swap, odd_below-at, least_below-found}
 
 pub leaves_joined : (g : Graph) (set : ℕ → Bool) (a b e : ℕ) → joins g a b e ≡ true →
@@ -18,14 +18,14 @@ leaves_joined g set a b e h = elim (or_cases _ _ h) [
 
 -- whether an edge leaves a set, summed over the set's nodes
 leaves_sum : (g : Graph) → IsGraph g → (set : ℕ → Bool) (e : ℕ) → e < g.edges →
-    leaves g set e ≡ odd_below g.nodes (λ n. set n && touches g n e)
+    leaves g set e ≡ odd_below g.nodes (λ n. set n && graph_touches g n e)
 leaves_sum g ok set e l =
     let one : odd_below g.nodes (λ n. eqb (g.from e) n && set n) ≡ set (g.from e) =
     odd_below-at g.nodes (g.from e) set (ok e l).0 in
     let two : odd_below g.nodes (λ n. eqb (g.to e) n && set n) ≡ set (g.to e) =
     odd_below-at g.nodes (g.to e) set (ok e l).1 in
-    sym (odd_below-same g.nodes (λ n. set n && touches g n e) (λ n. touches g n e && set n)
-    (λ n h. and_comm (set n) (touches g n e))
+    sym (odd_below-same g.nodes (λ n. set n && graph_touches g n e) (λ n. graph_touches g n e && set n)
+    (λ n h. and_comm (set n) (graph_touches g n e))
     ∙ (odd_below-xor-and g.nodes (λ n. eqb (g.from e) n) (λ n. eqb (g.to e) n) set ∙ rw (one, two)))
 
 swap3 : (a b c : Bool) → (a && (b && c)) ≡ (b && (a && c))
@@ -34,32 +34,32 @@ swap3 a b c = sym (and_assoc a b c) ∙ (ap (λ x. x && c) (and_comm a b) ∙ an
 -- summing over the edges of a chain that leave a set is summing over the set's nodes
 pub by_nodes : (g : Graph) → IsGraph g → (chain set : ℕ → Bool) →
     odd_below g.edges (λ e. chain e && leaves g set e)
-    ≡ odd_below g.nodes (λ n. set n && odd_below g.edges (λ e. chain e && touches g n e))
+    ≡ odd_below g.nodes (λ n. set n && odd_below g.edges (λ e. chain e && graph_touches g n e))
 by_nodes g ok chain set =
     odd_below-same g.edges (λ e. chain e && leaves g set e)
-    (λ e. odd_below g.nodes (λ n. set n && (chain e && touches g n e))) (λ e l.
+    (λ e. odd_below g.nodes (λ n. set n && (chain e && graph_touches g n e))) (λ e l.
     ap (λ x. chain e && x) (leaves_sum g ok set e l)
-    ∙ (sym (odd_below-and g.nodes (chain e) (λ n. set n && touches g n e))
-    ∙ odd_below-same g.nodes (λ n. chain e && (set n && touches g n e)) (λ n. set n && (chain e && touches g n e))
-    (λ n h. swap3 (chain e) (set n) (touches g n e))))
-    ∙ (odd_below-swap g.edges g.nodes (λ e n. set n && (chain e && touches g n e))
-    ∙ odd_below-same g.nodes (λ n. odd_below g.edges (λ e. set n && (chain e && touches g n e)))
-    (λ n. set n && odd_below g.edges (λ e. chain e && touches g n e)) (λ n h.
-    odd_below-and g.edges (set n) (λ e. chain e && touches g n e)))
+    ∙ (sym (odd_below-and g.nodes (chain e) (λ n. set n && graph_touches g n e))
+    ∙ odd_below-same g.nodes (λ n. chain e && (set n && graph_touches g n e)) (λ n. set n && (chain e && graph_touches g n e))
+    (λ n h. swap3 (chain e) (set n) (graph_touches g n e))))
+    ∙ (odd_below-swap g.edges g.nodes (λ e n. set n && (chain e && graph_touches g n e))
+    ∙ odd_below-same g.nodes (λ n. odd_below g.edges (λ e. set n && (chain e && graph_touches g n e)))
+    (λ n. set n && odd_below g.edges (λ e. chain e && graph_touches g n e)) (λ n h.
+    odd_below-and g.edges (set n) (λ e. chain e && graph_touches g n e)))
 
 -- an even chain leaves each set an even number of times
 pub even_leaves : (g : Graph) → IsGraph g → (chain set : ℕ → Bool) → IsEven g chain →
     odd_below g.edges (λ e. chain e && leaves g set e) ≡ false
 even_leaves g ok chain set even =
     by_nodes g ok chain set
-    ∙ odd_below-none g.nodes (λ n. set n && odd_below g.edges (λ e. chain e && touches g n e))
+    ∙ odd_below-none g.nodes (λ n. set n && odd_below g.edges (λ e. chain e && graph_touches g n e))
     (λ n l. rw (even n l) (and-false (set n)))
 
 pub even-xor : (g : Graph) (c d : ℕ → Bool) → IsEven g c → IsEven g d → IsEven g (λ e. xor (c e) (d e))
-even-xor g c d hc hd n l = odd_below-xor-and g.edges c d (λ e. touches g n e) ∙ rw (hc n l, hd n l)
+even-xor g c d hc hd n l = odd_below-xor-and g.edges c d (λ e. graph_touches g n e) ∙ rw (hc n l, hd n l)
 
 pub even_same : (g : Graph) (c d : ℕ → Bool) → ((e : ℕ) → e < g.edges → c e ≡ d e) → IsEven g d → IsEven g c
-even_same g c d h hd n l = odd_below-same g.edges (λ e. c e && touches g n e) (λ e. d e && touches g n e)
+even_same g c d h hd n l = odd_below-same g.edges (λ e. c e && graph_touches g n e) (λ e. d e && graph_touches g n e)
     (λ e le. rw (h e le)) ∙ hd n l
 
 pub edge_between_is : (g : Graph) (a b : ℕ) → IsJoined g a b →
@@ -67,7 +67,7 @@ pub edge_between_is : (g : Graph) (a b : ℕ) → IsJoined g a b →
 edge_between_is g a b (e, l, h) = least_below-found g.edges (joins g a b) e l h
 
 -- how often a walk leaves a set: by its two ends
-pub walk_leaves : (g : Graph) (set : ℕ → Bool) (a : ℕ) (w : List ℕ) (b : ℕ) → IsWalk g a w b →
+pub walk_leaves : (g : Graph) (set : ℕ → Bool) (a : ℕ) (w : List ℕ) (b : ℕ) → IsGraphWalk g a w b →
     odd_below g.edges (λ e. walk_chain g a w e && leaves g set e) ≡ xor (set a) (set b)
 walk_leaves g set a [] b h = odd_below-none g.edges (λ e. false) (λ e l. refl) ∙ rw h (sym (xor-same (set b)))
 walk_leaves g set a (c ∷ w) b h =
@@ -81,18 +81,18 @@ walk_leaves g set a (c ∷ w) b h =
     (xor_meet (set a) (set c) (set b))
 
 -- a closed walk is an even chain
-pub walk_even : (g : Graph) (a : ℕ) (w : List ℕ) → IsWalk g a w a → IsEven g (walk_chain g a w)
+pub walk_even : (g : Graph) (a : ℕ) (w : List ℕ) → IsGraphWalk g a w a → IsEven g (walk_chain g a w)
 walk_even g a w h n l = walk_leaves g (λ m. eqb m n) a w a h ∙ xor-same (eqb a n)
 
 -- a walk and one that goes on from its end
-pub walk-append : (g : Graph) (len : ℕ → ℕ) (a : ℕ) (u : List ℕ) (b : ℕ) (w : List ℕ) (c : ℕ) → IsWalk g a u b →
-    IsWalk g b w c →
-    IsWalk g a (u ++ w) c × ((e : ℕ) → walk_chain g a (u ++ w) e ≡ xor (walk_chain g a u e) (walk_chain g b w e))
-    × (walk_length g len a (u ++ w) ≡ walk_length g len a u + walk_length g len b w)
+pub walk-append : (g : Graph) (len : ℕ → ℕ) (a : ℕ) (u : List ℕ) (b : ℕ) (w : List ℕ) (c : ℕ) → IsGraphWalk g a u b →
+    IsGraphWalk g b w c →
+    IsGraphWalk g a (u ++ w) c × ((e : ℕ) → walk_chain g a (u ++ w) e ≡ xor (walk_chain g a u e) (walk_chain g b w e))
+    × (graph_walk_length g len a (u ++ w) ≡ graph_walk_length g len a u + graph_walk_length g len b w)
 walk-append g len a [] b w c hu hw = (rw hu hw, (λ e. rw hu), rw hu (omega arith))
 walk-append g len a (x ∷ u) b w c hu hw =
     let rest = walk-append g len x u b w c hu.1 hw in
-    let sums : walk_length g len x (u ++ w) ≡ walk_length g len x u + walk_length g len b w = rest.2 in (
+    let sums : graph_walk_length g len x (u ++ w) ≡ graph_walk_length g len x u + graph_walk_length g len b w = rest.2 in (
       (hu.0, rest.0),
       (λ e. rw (rest.1 e)
           (sym (xor_assoc (eqb (edge_between g a x) e) (walk_chain g x u e) (walk_chain g b w e)))),

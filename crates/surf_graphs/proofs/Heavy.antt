@@ -3,7 +3,7 @@ use Rattle.std.proofs.Common.{arith, suc, zero, ◌≤◌, ◌≡◌, ◌≢◌,
 use Rattle.std.proofs.lemmas.Bool.{cases_eq, cases_Bool, false≢true, not-true}
 use Rattle.surf_z2.specs.Parity.{xor}
 use Rattle.surf_graphs.specs.Graphs.{Graph, IsGraph, leaves}
-use Rattle.surf_graphs.specs.Trees.{Tree, in_tree, on_way, on_path, loop_length}
+use Rattle.surf_graphs.specs.Trees.{Tree, in_tree, on_way, on_path, graph_loop_length}
 use Rattle.surf_graphs.specs.Cells.{Cells, primal, dual, IsCellComplex, Split, IsSplit, IsHeaviest}
 use Rattle.surf_graphs.specs.Growth.{Grown, with_node, with_edge, inner_end, between, IsHeavy}
 use Rattle.surf_z2.proofs.ParityLaws.{xor-same, xor_comm}
@@ -198,7 +198,7 @@ pub heaviest_from_heavy : (s : Cells) (len : ℕ → ℕ) (d : Split) → IsCell
     (allowed : ℕ → Bool) (reached : ℕ → Bool) (lighter : ℕ → ℕ → Bool) →
     ((e : ℕ) → e < s.edges → in_tree (primal s) d.tree e ≡ false → allowed e ≡ true) →
     ((f : ℕ) → f < s.faces → reached f ≡ true) →
-    ((x y : ℕ) → lighter x y ≡ true → loop_length (primal s) len d.tree x ≤ loop_length (primal s) len d.tree y) →
+    ((x y : ℕ) → lighter x y ≡ true → graph_loop_length (primal s) len d.tree x ≤ graph_loop_length (primal s) len d.tree y) →
     IsHeavy (dual s) allowed reached d.cotree lighter → IsHeaviest s len d
 heaviest_from_heavy s len d cells ok allowed reached lighter allow all short heavy k c lk lc on parted =
     let l = get_or d.left k 0 in

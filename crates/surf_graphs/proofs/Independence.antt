@@ -13,10 +13,10 @@ use Rattle.surf_z2.proofs.Linear.{sum_over, over_in, passing_in, chosen_over, ch
 use Rattle.surf_z2.proofs.Ranks.{in_wider, total_law}
 use Rattle.surf_z2.proofs.Span.{InSpan, same_from_sum, in_from_spanned, spanned_from_in}
 use Rattle.surf_z2.proofs.Width.{width_law}
-use Rattle.surf_graphs.specs.Graphs.{Graph, IsEven, IsWalk, walk_chain, walk_length}
-use Rattle.surf_graphs.specs.Trees.{Tree, loop, IsShortest, loop_length}
-use Rattle.surf_graphs.specs.Cells.{Cells, primal, IsCellComplex, IsNull, Split, IsSplit, IsHeaviest, signature, chain_signature}
-use Rattle.surf_graphs.specs.Independence.{IsIndependent, signature_of, signed, loop_chain, left_loops, IsCovering, IsClosedWalk, closed_walk}
+use Rattle.surf_graphs.specs.Graphs.{Graph, IsEven, IsGraphWalk, walk_chain, graph_walk_length}
+use Rattle.surf_graphs.specs.Trees.{Tree, loop, IsShortest, graph_loop_length}
+use Rattle.surf_graphs.specs.Cells.{Cells, primal, IsCellComplex, IsNullChain, Split, IsSplit, IsHeaviest, signature, chain_signature}
+use Rattle.surf_graphs.specs.Independence.{AreIndependentChains, signature_of, signed, loop_chain, left_loops, IsCovering, IsClosedWalk, closed_walk}
 use Rattle.surf_graphs.proofs.Graphs.{walk_even, even-xor}
 use Rattle.surf_graphs.proofs.CellLaws.{null_signature, signature_null}
 use Rattle.surf_graphs.proofs.Lengths.{loop_bound, loop_signature, sum_of_left, shorter_left}
@@ -65,11 +65,11 @@ even_chosen g (true ∷ bs) (x ∷ xs) h = even-xor g x (sum_of chains (chosen b
 even_chosen g (false ∷ bs) (x ∷ xs) h = even_chosen g bs xs h.1
 
 module _ (s : Cells) (d : Split) (cells : IsCellComplex s) (ok : IsSplit s d) where
-  pub null_zero : (x : Chain) → IsNull s x → signature_of s d x ≡ 0
+  pub null_zero : (x : Chain) → IsNullChain s x → signature_of s d x ≡ 0
   null_zero x null = same_from (length d.left) (chain_signature s d x) (λ k. false) (null_signature s d cells ok x null)
       ∙ number_of-none (length d.left)
 
-  pub zero_null : (x : Chain) → IsEven (primal s) x → signature_of s d x ≡ 0 → IsNull s x
+  pub zero_null : (x : Chain) → IsEven (primal s) x → signature_of s d x ≡ 0 → IsNullChain s x
   zero_null x even zero_is =
       signature_null s d cells ok x even
       (same_below (length d.left) (chain_signature s d x) (λ k. false) (zero_is ∙ sym (number_of-none (length d.left))))
@@ -80,7 +80,7 @@ module _ (s : Cells) (d : Split) (cells : IsCellComplex s) (ok : IsSplit s d) wh
       (chosen choice xs) ∙ ap (sum_of numbers) (sym (chosen-map (signature_of s d) choice xs))
 
   -- even chains are independent exactly where their signatures are
-  pub signatures_from_independent : (xs : List Chain) → All (IsEven (primal s)) xs → IsIndependent s xs →
+  pub signatures_from_independent : (xs : List Chain) → All (IsEven (primal s)) xs → AreIndependentChains s xs →
       Independent numbers (map (signature_of s d) xs)
   signatures_from_independent xs even free choice e =
       chosen-map (signature_of s d) choice xs ∙ ap (map (signature_of s d))
@@ -89,14 +89,14 @@ module _ (s : Cells) (d : Split) (cells : IsCellComplex s) (ok : IsSplit s d) wh
       (sum_signature choice xs ∙ e)))
 
   pub independent_from_signatures : (xs : List Chain) → Independent numbers (map (signature_of s d) xs) →
-      IsIndependent s xs
+      AreIndependentChains s xs
   independent_from_signatures xs free choice null =
       map_nil (signature_of s d) (chosen choice xs)
       (sym (chosen-map (signature_of s d) choice xs) ∙ free choice
       (sym (sum_signature choice xs) ∙ null_zero (sum_of chains (chosen choice xs)) null))
 
   -- no more than 2 - χ even chains are independent
-  pub independent_bound : (xs : List Chain) → All (IsEven (primal s)) xs → IsIndependent s xs →
+  pub independent_bound : (xs : List Chain) → All (IsEven (primal s)) xs → AreIndependentChains s xs →
       length xs ≤ length d.left
   independent_bound xs even free =
       let n = length-map xs (signature_of s d) in
@@ -112,7 +112,7 @@ module _ (s : Cells) (d : Split) (cells : IsCellComplex s) (ok : IsSplit s d) wh
 -- the signature of a chain is a sum of those of others exactly where the chain with some of these is null
 module _ (s : Cells) (d : Split) (cells : IsCellComplex s) (ok : IsSplit s d) where
   pub spanned_from_null : (xs : List Chain) (y : Chain) (choice : List Bool) →
-      IsNull s (difference y (sum_of chains (chosen choice xs))) →
+      IsNullChain s (difference y (sum_of chains (chosen choice xs))) →
       Spanned numbers (map (signature_of s d) xs) (signature_of s d y)
   spanned_from_null xs y choice null =
       let linear = signature_of-linear s d in
@@ -126,7 +126,7 @@ module _ (s : Cells) (d : Split) (cells : IsCellComplex s) (ok : IsSplit s d) wh
 
   pub null_from_spanned : (xs : List Chain) (y : Chain) → AllByRecursion (IsEven (primal s)) xs → IsEven (primal s) y →
       Spanned numbers (map (signature_of s d) xs) (signature_of s d y) →
-      (choice : List Bool) × IsNull s (difference y (sum_of chains (chosen choice xs)))
+      (choice : List Bool) × IsNullChain s (difference y (sum_of chains (chosen choice xs)))
   null_from_spanned xs y even even_y h =
       let total = sum_of chains (chosen h.0 xs) in
       let linear = signature_of-linear s d in (
@@ -182,7 +182,7 @@ spanned_wider xs low high v le h = in_wider numbers (λ x. x.vector) (λ x. leb 
     (λ x fits. le-leb x.weight high (le_trans (leb-true x.weight low fits) le)) xs v h
 
 -- the signature of a closed walk is the sum of those of its edges' loops
-pub walk_sums : (s : Cells) (d : Split) → IsCellComplex s → (t : Tree) (a : ℕ) (w : List ℕ) → IsWalk (primal s) a w a →
+pub walk_sums : (s : Cells) (d : Split) → IsCellComplex s → (t : Tree) (a : ℕ) (w : List ℕ) → IsGraphWalk (primal s) a w a →
     signature_of s d (walk_chain (primal s) a w) ≡ sum_over numbers s.edges (walk_chain (primal s) a w)
     (λ l. signature_of s d (loop (primal s) t l))
 walk_sums s d cells t a w walk =
@@ -197,20 +197,20 @@ pub walk_spanned : (s : Cells) (len : ℕ → ℕ) (d : Split) → IsCellComplex
     (cycles : List (Weighed Chain)) →
     ((e : ℕ) → e < s.edges →
     SpannedUpToWeight numbers (map (signed s d) cycles) (signed s d (loop_chain (primal s) len t e))) →
-    (a : ℕ) → t.rank a ≡ 0 → (w : List ℕ) → IsWalk (primal s) a w a →
+    (a : ℕ) → t.rank a ≡ 0 → (w : List ℕ) → IsGraphWalk (primal s) a w a →
     SpannedUpToWeight numbers (map (signed s d) cycles)
-    (signed s d (record { weight = walk_length (primal s) len a w; vector = walk_chain (primal s) a w }))
+    (signed s d (record { weight = graph_walk_length (primal s) len a w; vector = walk_chain (primal s) a w }))
 walk_spanned s len d cells t short cycles each a at_base w walk =
     let c = walk_chain (primal s) a w in
-    let limit = walk_length (primal s) len a w in
+    let limit = graph_walk_length (primal s) len a w in
     let within = vectors (up_to limit (map (signed s d) cycles)) in
     let sums = walk_sums s d cells t a w walk in
     spanned_from_in numbers within (signature_of s d c)
     (subst (InSpan numbers within) (sym sums)
     (over_in numbers within s.edges c (λ l. signature_of s d (loop (primal s) t l)) (λ e l on.
-    let bound : loop_length (primal s) len t e ≤ t.rank a + limit + t.rank a =
+    let bound : graph_loop_length (primal s) len t e ≤ t.rank a + limit + t.rank a =
     loop_bound (primal s) len t short a w a e walk on in
-    spanned_wider (map (signed s d) cycles) (loop_length (primal s) len t e) limit
+    spanned_wider (map (signed s d) cycles) (graph_loop_length (primal s) len t e) limit
     (signature_of s d (loop (primal s) t e)) (omega arith) (in_from_spanned numbers _ _ (each e l)))))
 
 -- the loop of each edge is a sum of left loops that are no longer, where the cotree is heaviest
@@ -219,7 +219,7 @@ pub loop_spanned : (s : Cells) (len : ℕ → ℕ) (d : Split) → IsCellComplex
     SpannedUpToWeight numbers (map (signed s d) (left_loops s len d)) (signed s d (loop_chain (primal s) len d.tree e))
 loop_spanned s len d cells ok heavy e l =
     let m = length d.left in
-    let limit = loop_length (primal s) len d.tree e in
+    let limit = graph_loop_length (primal s) len d.tree e in
     let xs = map (signed s d) (left_loops s len d) in
     let left : ℕ → Chain = λ k. loop (primal s) d.tree (get_or d.left k 0) in
     let sums : signature_of s d (loop (primal s) d.tree e) ≡ sum_over numbers m (signature s d e)
@@ -239,14 +239,14 @@ loop_spanned s len d cells ok heavy e l =
     (omega (arith, length-map d.left (loop_chain (primal s) len d.tree))) ∙ ap (signed s d)
     (get_or-map (loop_chain (primal s) len d.tree) d.left k 0 (loop_chain (primal s) len d.tree 0) lk) in
     let fits : leb (get_or xs k none).weight limit ≡ true =
-    ap (λ x. leb x.weight limit) is ∙ le-leb (loop_length (primal s) len d.tree (get_or d.left k 0)) limit
+    ap (λ x. leb x.weight limit) is ∙ le-leb (graph_loop_length (primal s) len d.tree (get_or d.left k 0)) limit
     (shorter_left s len d ok heavy e k l lk on) in
     subst (InSpan numbers (vectors (up_to limit xs))) (ap (λ x. x.vector) is)
     (passing_in numbers (λ x. x.vector) (λ x. leb x.weight limit) xs k none (omega arith) fits))))
 
 -- the left loops are independent
 pub left_independent : (s : Cells) (d : Split) → IsCellComplex s → IsSplit s d →
-    IsIndependent s (map (loop (primal s) d.tree) d.left)
+    AreIndependentChains s (map (loop (primal s) d.tree) d.left)
 left_independent s d cells ok choice null =
     chosen_none choice xs (λ k l. let lk : k < length d.left =
     omega (arith, length-map d.left (loop (primal s) d.tree)) in
@@ -276,7 +276,7 @@ pub spanned_least : (s : Cells) (d : Split) → IsCellComplex s → IsSplit s d 
     length walks ≡ length cycles →
     All (λ w. IsEven (primal s) w.vector) walks →
     All (λ w. SpannedUpToWeight numbers (map (signed s d) cycles) (signed s d w)) walks →
-    IsIndependent s (vectors walks) → sum (weights cycles) ≤ sum (weights walks)
+    AreIndependentChains s (vectors walks) → sum (weights cycles) ≤ sum (weights walks)
 spanned_least s d cells ok cycles walks count even spanned free =
     let xs = map (signed s d) cycles in
     let ys = map (signed s d) walks in
@@ -320,7 +320,7 @@ module _ (s : Cells) (len : ℕ → ℕ) (d : Split) (cells : IsCellComplex s) (
       ((x : ℕ) → x < s.vertices → ((trees x).root ≡ x) × IsShortest (primal s) len (trees x)) →
       (cycles : List (Weighed Chain)) → IsCovering s len d trees cycles →
       (walks : List (ℕ × List ℕ)) → All (IsClosedWalk s) walks → length walks ≡ length cycles →
-      IsIndependent s (vectors (map (closed_walk (primal s) len) walks)) →
+      AreIndependentChains s (vectors (map (closed_walk (primal s) len) walks)) →
       sum (weights cycles) ≤ sum (weights (map (closed_walk (primal s) len) walks))
   covering_least trees rooted cycles cover walks closed count free =
       let ws = map (closed_walk (primal s) len) walks in
@@ -343,28 +343,28 @@ module _ (s : Cells) (len : ℕ → ℕ) (d : Split) (cells : IsCellComplex s) (
 
   -- the left loops are a least system of loops at the root
   pub left_least : IsShortest (primal s) len d.tree → IsHeaviest s len d → (walks : List (List ℕ)) →
-      All (λ w. IsWalk (primal s) d.tree.root w d.tree.root) walks → length walks ≡ length d.left →
-      IsIndependent s (map (walk_chain (primal s) d.tree.root) walks) →
-      sum (weights (left_loops s len d)) ≤ sum (map (walk_length (primal s) len d.tree.root) walks)
+      All (λ w. IsGraphWalk (primal s) d.tree.root w d.tree.root) walks → length walks ≡ length d.left →
+      AreIndependentChains s (map (walk_chain (primal s) d.tree.root) walks) →
+      sum (weights (left_loops s len d)) ≤ sum (map (graph_walk_length (primal s) len d.tree.root) walks)
   left_least short heavy walks closed count free =
       let at : List ℕ → Weighed Chain = λ w. closed_walk (primal s) len (d.tree.root, w) in
       let ws = map at walks in
-      let each = recursion_from_All (λ w. IsWalk (primal s) d.tree.root w d.tree.root) walks closed in
+      let each = recursion_from_All (λ w. IsGraphWalk (primal s) d.tree.root w d.tree.root) walks closed in
       let bound = spanned_least s d cells ok (left_loops s len d) ws
       (length-map walks at ∙ count ∙ sym (length-map d.left (loop_chain (primal s) len d.tree)))
       (All-from_recursion (λ w. IsEven (primal s) w.vector) ws (evens walks each))
       (All-from_recursion (λ w. SpannedUpToWeight numbers (map (signed s d) (left_loops s len d)) (signed s d w)) ws
       (spanned walks each))
-      (subst (IsIndependent s) (sym (map-map (λ w. w.vector) at walks)) free) in
+      (subst (AreIndependentChains s) (sym (map-map (λ w. w.vector) at walks)) free) in
       subst (λ ns. sum (weights (left_loops s len d)) ≤ sum ns) (map-map (λ w. w.weight) at walks) bound
     where
-      evens : (walks : List (List ℕ)) → AllByRecursion (λ w. IsWalk (primal s) d.tree.root w d.tree.root) walks →
+      evens : (walks : List (List ℕ)) → AllByRecursion (λ w. IsGraphWalk (primal s) d.tree.root w d.tree.root) walks →
           AllByRecursion (λ w. IsEven (primal s) w.vector)
           (map (λ w. closed_walk (primal s) len (d.tree.root, w)) walks)
       evens [] h = tt
       evens (w ∷ ws) h = (walk_even (primal s) d.tree.root w h.0, evens ws h.1)
 
-      spanned : (walks : List (List ℕ)) → AllByRecursion (λ w. IsWalk (primal s) d.tree.root w d.tree.root) walks →
+      spanned : (walks : List (List ℕ)) → AllByRecursion (λ w. IsGraphWalk (primal s) d.tree.root w d.tree.root) walks →
           AllByRecursion (λ w. SpannedUpToWeight numbers (map (signed s d) (left_loops s len d)) (signed s d w))
           (map (λ w. closed_walk (primal s) len (d.tree.root, w)) walks)
       spanned [] h = tt

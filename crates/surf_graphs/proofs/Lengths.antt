@@ -2,8 +2,8 @@
 use Rattle.std.proofs.Common.{◌≡◌, ℕ, ◌+◌, ◌<◌, ◌≤◌, Bool, true, false, ◌&&◌, eqb, refl, sym, ◌∙◌, ap, arith, eqb-true, eq-eqb, ne_eqb, inl, inr, ◌⊎◌, List, [], ◌∷◌, length, get_or}
 use Rattle.std.proofs.lemmas.Bool.{cases_eq, cases_Bool, false≢true}
 use Rattle.surf_z2.specs.Parity.{xor, odd_below}
-use Rattle.surf_graphs.specs.Graphs.{Graph, IsWalk, joins, walk_chain, walk_length, edge_between}
-use Rattle.surf_graphs.specs.Trees.{Tree, in_tree, on_path, loop, IsShortest, loop_length}
+use Rattle.surf_graphs.specs.Graphs.{Graph, IsGraphWalk, joins, walk_chain, graph_walk_length, edge_between}
+use Rattle.surf_graphs.specs.Trees.{Tree, in_tree, on_path, loop, IsShortest, graph_loop_length}
 use Rattle.surf_graphs.specs.Cells.{Cells, primal, dual, IsCellComplex, Split, IsSplit, signature, chain_signature, IsHeaviest}
 use Rattle.surf_z2.proofs.ParityLaws.{and_comm, and-false, xor-false, odd_below-same, odd_below-none, odd_below-xor-and, odd_below-at}
 use Rattle.surf_graphs.proofs.Graphs.{edge_between_is}
@@ -19,24 +19,24 @@ one_step rank x y a c n ends near = grind arith
 pub step_short : (g : Graph) (len : ℕ → ℕ) (t : Tree) → IsShortest g len t → (a c e : ℕ) → e < g.edges →
     joins g a c e ≡ true →
     (t.rank a ≤ len e + t.rank c) × (t.rank c ≤ t.rank a + len e)
-    × (loop_length g len t e ≡ t.rank a + len e + t.rank c)
+    × (graph_loop_length g len t e ≡ t.rank a + len e + t.rank c)
 step_short g len t short a c e l h = one_step t.rank (g.from e) (g.to e) a c (len e) (one_of g a c e h)
     (short.no_short_cut e l)
 
 pub walk_reaches : (g : Graph) (len : ℕ → ℕ) (t : Tree) → IsShortest g len t → (a : ℕ) (w : List ℕ) (b : ℕ) →
-    IsWalk g a w b → t.rank a ≤ walk_length g len a w + t.rank b
+    IsGraphWalk g a w b → t.rank a ≤ graph_walk_length g len a w + t.rank b
 walk_reaches g len t short a [] b h = rw h (omega arith)
 walk_reaches g len t short a (c ∷ w) b h =
     let step = edge_between_is g a c h.0 in
     let near = step_short g len t short a c (edge_between g a c) step.0 step.1 in
-    let rest : t.rank c ≤ walk_length g len c w + t.rank b = walk_reaches g len t short c w b h.1 in
+    let rest : t.rank c ≤ graph_walk_length g len c w + t.rank b = walk_reaches g len t short c w b h.1 in
     let first : t.rank a ≤ len (edge_between g a c) + t.rank c = near.0 in
     omega arith
 
 -- no edge of a walk has a loop that is longer than the walk with the paths to its ends
 pub loop_bound : (g : Graph) (len : ℕ → ℕ) (t : Tree) → IsShortest g len t → (a : ℕ) (w : List ℕ) (b e : ℕ) →
-    IsWalk g a w b → walk_chain g a w e ≡ true →
-    loop_length g len t e ≤ t.rank a + walk_length g len a w + t.rank b
+    IsGraphWalk g a w b → walk_chain g a w e ≡ true →
+    graph_loop_length g len t e ≤ t.rank a + graph_walk_length g len a w + t.rank b
 loop_bound g len t short a [] b e h on = absurd (false≢true on)
 loop_bound g len t short a (c ∷ w) b e h on =
     let m = edge_between g a c in
@@ -44,12 +44,12 @@ loop_bound g len t short a (c ∷ w) b e h on =
     let near = step_short g len t short a c m step.0 step.1 in
     elim (cases_eq m e) [
       | inl same ↦
-          let rest : t.rank c ≤ walk_length g len c w + t.rank b = walk_reaches g len t short c w b h.1 in
-          let is : loop_length g len t m ≡ t.rank a + len m + t.rank c = near.2 in
+          let rest : t.rank c ≤ graph_walk_length g len c w + t.rank b = walk_reaches g len t short c w b h.1 in
+          let is : graph_loop_length g len t m ≡ t.rank a + len m + t.rank c = near.2 in
           rw (← same) (omega arith)
       | inr ne ↦
           let later : walk_chain g c w e ≡ true = rw (ne_eqb m e ne) at on in
-          let rest : loop_length g len t e ≤ t.rank c + walk_length g len c w + t.rank b =
+          let rest : graph_loop_length g len t e ≤ t.rank c + graph_walk_length g len c w + t.rank b =
           loop_bound g len t short c w b e h.1 later in
           let second : t.rank c ≤ t.rank a + len m = near.1 in
           omega arith
@@ -57,11 +57,11 @@ loop_bound g len t short a (c ∷ w) b e h on =
 
 -- no edge of a closed walk at the root has a loop that is longer than the walk
 pub closed_bound : (g : Graph) (len : ℕ → ℕ) (t : Tree) → IsShortest g len t → (w : List ℕ) (e : ℕ) →
-    IsWalk g t.root w t.root → walk_chain g t.root w e ≡ true →
-    loop_length g len t e ≤ walk_length g len t.root w
+    IsGraphWalk g t.root w t.root → walk_chain g t.root w e ≡ true →
+    graph_loop_length g len t e ≤ graph_walk_length g len t.root w
 closed_bound g len t short w e h on =
     let at_root : t.rank t.root ≡ 0 = short.none_at_root in
-    let bound : loop_length g len t e ≤ t.rank t.root + walk_length g len t.root w + t.rank t.root =
+    let bound : graph_loop_length g len t e ≤ t.rank t.root + graph_walk_length g len t.root w + t.rank t.root =
     loop_bound g len t short t.root w t.root e h on in
     omega arith
 
@@ -113,7 +113,7 @@ sum_of_left s d cells ok set j lj =
 -- where an edge's signature has k, the k-th left loop is no longer than the edge's
 pub shorter_left : (s : Cells) (len : ℕ → ℕ) (d : Split) → IsSplit s d → IsHeaviest s len d → (e k : ℕ) → e < s.edges →
     k < length d.left → signature s d e k ≡ true →
-    loop_length (primal s) len d.tree (get_or d.left k 0) ≤ loop_length (primal s) len d.tree e
+    graph_loop_length (primal s) len d.tree (get_or d.left k 0) ≤ graph_loop_length (primal s) len d.tree e
 shorter_left s len d ok heavy e k l lk h = elim (cases_Bool (in_tree (primal s) d.tree e)) [
   | inl yes_t ↦ absurd (false≢true (rw yes_t at h))
   | inr no_t ↦ elim (cases_Bool (in_tree (dual s) d.cotree e)) [

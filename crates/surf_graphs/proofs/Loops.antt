@@ -2,9 +2,9 @@
 use Rattle.std.proofs.Common.{◌≡◌, ℕ, zero, suc, ◌+◌, ◌<◌, ◌≤◌, Bool, true, false, ◌&&◌, ◌||◌, eqb, refl, ◌∙◌, ap, arith, ne_eqb, eq-eqb, inl, inr, List, [], ◌∷◌, ◌++◌}
 use Rattle.std.proofs.lemmas.Bool.{cases_eq}
 use Rattle.surf_z2.specs.Parity.{xor}
-use Rattle.surf_graphs.specs.Graphs.{Graph, IsGraph, joins, IsWalk, walk_chain, walk_length, edge_between}
-use Rattle.surf_graphs.specs.Trees.{Tree, IsTree, on_way, on_path, loop, IsShortest, loop_length}
-use Rattle.surf_graphs.specs.Loops.{IsSimple, way_down, way_up, loop_walk}
+use Rattle.surf_graphs.specs.Graphs.{Graph, IsGraph, joins, IsGraphWalk, walk_chain, graph_walk_length, edge_between}
+use Rattle.surf_graphs.specs.Trees.{Tree, IsTree, on_way, on_path, loop, IsShortest, graph_loop_length}
+use Rattle.surf_graphs.specs.Loops.{IsSimple, way_down, way_up, graph_loop_walk}
 use Rattle.surf_z2.proofs.ParityLaws.{xor-false, xor_comm, xor_left_comm}
 use Rattle.surf_graphs.proofs.Graphs.{edge_between_is}
 use Rattle.surf_graphs.proofs.Graphs.{walk-append}
@@ -23,9 +23,9 @@ joins_ends g e = rw (eq-eqb (g.from e) (g.from e) refl, eq-eqb (g.to e) (g.to e)
 
 -- what a walk is and runs
 pub record Runs (g : Graph) (len : ℕ → ℕ) (a : ℕ) (w : List ℕ) (b : ℕ) (chain : ℕ → Bool) (size : ℕ) : Type 0 where
-  pub walk : IsWalk g a w b
+  pub walk : IsGraphWalk g a w b
   pub edges : (e : ℕ) → walk_chain g a w e ≡ chain e
-  pub long : walk_length g len a w ≡ size
+  pub long : graph_walk_length g len a w ≡ size
 
 runs_as : (g : Graph) (len : ℕ → ℕ) (a : ℕ) (w : List ℕ) (b : ℕ) (chain other : ℕ → Bool) (size total : ℕ) →
     Runs g len a w b chain size → ((e : ℕ) → chain e ≡ other e) → size ≡ total → Runs g len a w b other total
@@ -58,7 +58,7 @@ at_root g t ok n l h = elim (cases_eq n t.root) [
 ]
 
 walk_down : (g : Graph) (t : Tree) → IsTree g t → (k n : ℕ) → n < g.nodes → t.rank n ≤ k →
-    IsWalk g t.root (way_down t k n) n
+    IsGraphWalk g t.root (way_down t k n) n
 walk_down g t ok zero n l h = rw (at_root g t ok n l h) refl
 walk_down g t ok (suc k) n l h = elim (cases_eq n t.root) [
   | inl same ↦ rw (same, eq-eqb t.root t.root refl) refl
@@ -73,7 +73,7 @@ walk_down g t ok (suc k) n l h = elim (cases_eq n t.root) [
 ]
 
 walk_up : (g : Graph) (t : Tree) → IsTree g t → (k n : ℕ) → n < g.nodes → t.rank n ≤ k →
-    IsWalk g n (way_up t k n) t.root
+    IsGraphWalk g n (way_up t k n) t.root
 walk_up g t ok zero n l h = rw (at_root g t ok n l h) refl
 walk_up g t ok (suc k) n l h = elim (cases_eq n t.root) [
   | inl same ↦ rw (same, eq-eqb t.root t.root refl) refl
@@ -87,7 +87,7 @@ walk_up g t ok (suc k) n l h = elim (cases_eq n t.root) [
 
 -- in any tree the loop of an edge is a closed walk at the root
 pub loop_closed : (g : Graph) (t : Tree) → IsGraph g → IsTree g t → (l : ℕ) → l < g.edges →
-    IsWalk g t.root (loop_walk g t l) t.root
+    IsGraphWalk g t.root (graph_loop_walk g t l) t.root
 loop_closed g t graph ok l ll =
     let ends = graph l ll in
     let down = walk_down g t ok (t.rank (g.from l)) (g.from l) ends.0 (omega arith) in
@@ -139,8 +139,8 @@ runs_up g len t simple ok short (suc k) n l h = elim (cases_eq n t.root) [
 -- the loop of an edge is a closed walk at the root, with the loop's edges and length
 pub loop_runs : (g : Graph) (len : ℕ → ℕ) (t : Tree) → IsGraph g → IsSimple g → IsTree g t → IsShortest g len t →
     (l : ℕ) → l < g.edges →
-    IsWalk g t.root (loop_walk g t l) t.root × ((e : ℕ) → walk_chain g t.root (loop_walk g t l) e ≡ loop g t l e)
-    × (walk_length g len t.root (loop_walk g t l) ≡ loop_length g len t l)
+    IsGraphWalk g t.root (graph_loop_walk g t l) t.root × ((e : ℕ) → walk_chain g t.root (graph_loop_walk g t l) e ≡ loop g t l e)
+    × (graph_walk_length g len t.root (graph_loop_walk g t l) ≡ graph_loop_length g len t l)
 loop_runs g len t graph simple ok short l ll =
     let u = g.from l in
     let v = g.to l in
@@ -157,7 +157,7 @@ loop_runs g len t graph simple ok short l ll =
     )
 
 pub down_walk : (g : Graph) (len : ℕ → ℕ) (t : Tree) → IsSimple g → IsTree g t → IsShortest g len t → (n : ℕ) →
-    n < g.nodes → (w : List ℕ) × IsWalk g t.root w n × (walk_length g len t.root w ≡ t.rank n)
+    n < g.nodes → (w : List ℕ) × IsGraphWalk g t.root w n × (graph_walk_length g len t.root w ≡ t.rank n)
 down_walk g len t simple ok short n l =
     let down = runs_down g len t simple ok short (t.rank n) n l (omega arith) in
     (way_down t (t.rank n) n, down.walk, down.long)

@@ -3,7 +3,7 @@ use Rattle.std.proofs.Common.{◌≡◌, ◌≢◌, ℕ, ◌<◌, ◌≤◌, Boo
 use Rattle.std.proofs.lemmas.Bool.{cases_eq, cases_Bool, false≢true}
 use Rattle.surf_z2.specs.Parity.{xor, odd_below}
 use Rattle.surf_z2.proofs.ParityLaws.{xor-same, xor_equal, and_comm, odd_below-same, odd_below-and-xor}
-use Rattle.surf_graphs.specs.Graphs.{Graph, IsGraph, IsEven, joins, leaves, touches}
+use Rattle.surf_graphs.specs.Graphs.{Graph, IsGraph, IsEven, joins, leaves, graph_touches}
 use Rattle.surf_graphs.specs.Trees.{Tree, IsTree, in_tree, on_path}
 use Rattle.surf_graphs.proofs.Trees.{tree_edge, up_in_tree, path_root, path_step, path_leaves, path_inside, along_is, one_of, up_once, down_tree, empty_inside}
 
@@ -57,7 +57,7 @@ module _ (g : Graph) (a b : Tree) (graph : IsGraph g) (ta : IsTree g a) (tb : Is
   ways_even : (n : ℕ) → n < g.nodes → IsEven g (λ e. xor (on_path a n e) (on_path b n e))
   ways_even n l v lv =
       let test : ℕ → Bool = λ m. eqb m v in
-      odd_below-same g.edges (λ e. xor (on_path a n e) (on_path b n e) && touches g v e)
+      odd_below-same g.edges (λ e. xor (on_path a n e) (on_path b n e) && graph_touches g v e)
       (λ e. leaves g test e && xor (on_path a n e) (on_path b n e))
       (λ e le. and_comm (xor (on_path a n e) (on_path b n e)) (leaves g test e))
       ∙ odd_below-and-xor g.edges (leaves g test) (on_path a n) (on_path b n)

@@ -3,7 +3,7 @@ use Rattle.std.proofs.Common.{◌≡◌, ℕ, zero, suc, ◌+◌, ◌-◌, ◌<�
 use Rattle.std.proofs.lemmas.Bool.{cases_Bool, cases_lt, and_parts, and_from, or_cases, or_left, or_right, leb-true, le-leb, false≢true}
 use Rattle.surf_z2.specs.Parity.{any_below}
 use Rattle.surf_z2.proofs.ParityLaws.{any_below-found, any_below-from, any_below-none}
-use Rattle.surf_graphs.specs.Graphs.{Graph, IsGraph, joins, edge_between, IsWalk, walk_length}
+use Rattle.surf_graphs.specs.Graphs.{Graph, IsGraph, joins, edge_between, IsGraphWalk, graph_walk_length}
 use Rattle.surf_graphs.proofs.Graphs.{edge_between_is}
 use Rattle.surf_graphs.proofs.Trees.{joined_in}
 
@@ -28,7 +28,7 @@ goes g len (suc k) n a b =
     (leb (len (edge_between g a c)) n && goes g len k (n - len (edge_between g a c)) c b))
 
 goes_sound : (g : Graph) (len : ℕ → ℕ) (k n a b : ℕ) → goes g len k n a b ≡ true →
-    (w : List ℕ) × IsWalk g a w b × (walk_length g len a w ≡ n)
+    (w : List ℕ) × IsGraphWalk g a w b × (graph_walk_length g len a w ≡ n)
 unfolding goes
 goes_sound g len zero n a b h =
     let both = and_parts (eqb n 0) (eqb a b) h in
@@ -51,8 +51,8 @@ goes_sound g len (suc k) n a b h =
           (c ∷ w, (any_below-found g.edges (joins g a c) one.0, walk), omega (arith, is, fits))
     ]
 
-goes_complete : (g : Graph) (len : ℕ → ℕ) → IsGraph g → (k a : ℕ) (w : List ℕ) (b : ℕ) → IsWalk g a w b → length w ≤ k →
-    goes g len k (walk_length g len a w) a b ≡ true
+goes_complete : (g : Graph) (len : ℕ → ℕ) → IsGraph g → (k a : ℕ) (w : List ℕ) (b : ℕ) → IsGraphWalk g a w b → length w ≤ k →
+    goes g len k (graph_walk_length g len a w) a b ≡ true
 unfolding goes
 goes_complete g len graph zero a [] b walk l = eq-eqb a b walk
 goes_complete g len graph (suc k) a [] b walk l =
@@ -62,7 +62,7 @@ goes_complete g len graph (suc k) a [] b walk l =
 goes_complete g len graph zero a (c ∷ w) b walk l = absurd (omega arith)
 goes_complete g len graph (suc k) a (c ∷ w) b walk l =
     let size = len (edge_between g a c) in
-    let rest = walk_length g len c w in
+    let rest = graph_walk_length g len c w in
     let later : goes g len k rest c b ≡ true = goes_complete g len graph k c w b walk.1 (omega arith) in
     let left : (size + rest) - size ≡ rest = omega arith in
     or_right (eqb (size + rest) 0 && eqb a b)
@@ -78,7 +78,7 @@ goes_complete g len graph (suc k) a (c ∷ w) b walk l =
     (le-leb size (size + rest) (omega arith)) (ap (λ n. goes g len k n c b) left ∙ later))))
 
 steps_bound : (g : Graph) (len : ℕ → ℕ) → ((e : ℕ) → e < g.edges → 1 ≤ len e) → (a : ℕ) (w : List ℕ) (b : ℕ) →
-    IsWalk g a w b → length w ≤ walk_length g len a w
+    IsGraphWalk g a w b → length w ≤ graph_walk_length g len a w
 steps_bound g len positive a [] b walk = omega arith
 steps_bound g len positive a (c ∷ w) b walk =
     let one = positive (edge_between g a c) (edge_between_is g a c walk.0).0 in
@@ -88,15 +88,15 @@ steps_bound g len positive a (c ∷ w) b walk =
 -- a walk from a to b that no walk from a to b is shorter than
 pub record ShortestWalk (g : Graph) (len : ℕ → ℕ) (a b : ℕ) : Type 0 where
   pub walk : List ℕ
-  pub is : IsWalk g a walk b
-  pub least : (w : List ℕ) → IsWalk g a w b → walk_length g len a walk ≤ walk_length g len a w
+  pub is : IsGraphWalk g a walk b
+  pub least : (w : List ℕ) → IsGraphWalk g a w b → graph_walk_length g len a walk ≤ graph_walk_length g len a w
 
 pub shortest_walk : (g : Graph) (len : ℕ → ℕ) → IsGraph g → ((e : ℕ) → e < g.edges → 1 ≤ len e) →
-    (a b : ℕ) (w : List ℕ) → IsWalk g a w b → ShortestWalk g len a b
+    (a b : ℕ) (w : List ℕ) → IsGraphWalk g a w b → ShortestWalk g len a b
 shortest_walk g len graph positive a b w walk =
-    let limit = walk_length g len a w in
-    let reached : (v : List ℕ) → IsWalk g a v b → walk_length g len a v ≤ limit →
-    goes g len limit (walk_length g len a v) a b ≡ true = λ v on le.
+    let limit = graph_walk_length g len a w in
+    let reached : (v : List ℕ) → IsGraphWalk g a v b → graph_walk_length g len a v ≤ limit →
+    goes g len limit (graph_walk_length g len a v) a b ≡ true = λ v on le.
     let steps = steps_bound g len positive a v b on in
     goes_complete g len graph limit a v b on (omega (arith, steps, le)) in
     let (n, l, is, before) =
@@ -106,9 +106,9 @@ shortest_walk g len graph positive a b w walk =
     record {
       walk = v;
       is = on;
-      least = λ u step. elim (cases_lt (walk_length g len a u) n) [
+      least = λ u step. elim (cases_lt (graph_walk_length g len a u) n) [
         | inl less ↦ absurd (false≢true
-            (sym (before (walk_length g len a u) less) ∙ reached u step (omega (arith, less, l))))
+            (sym (before (graph_walk_length g len a u) less) ∙ reached u step (omega (arith, less, l))))
         | inr no_less ↦ omega (arith, size, no_less)
       ];
     }

@@ -2,7 +2,7 @@
 use Rattle.std.proofs.Common.{◌≡◌, ◌≢◌, ℕ, ◌<◌, Bool, false, ◌&&◌, eqb, sym, ◌∙◌, ap, ne_eqb, eq-eqb, inl, inr}
 use Rattle.std.proofs.lemmas.Bool.{cases_eq}
 use Rattle.surf_z2.specs.Parity.{xor, odd_below}
-use Rattle.surf_graphs.specs.Graphs.{touches, leaves, IsConnected}
+use Rattle.surf_graphs.specs.Graphs.{graph_touches, leaves, IsConnectedGraph}
 use Rattle.surf_graphs.specs.Cells.{Cells, primal, dual}
 use Rattle.surf_graphs.specs.Sides.{Sides, IsSides}
 use Rattle.surf_z2.proofs.ParityLaws.{xor-same, odd_below-same, odd_below-at, odd_below-swap, odd_below-xor-and, odd_below-and-xor, xor_equal, equal_xor, and-xor_turned}
@@ -60,28 +60,28 @@ two_of s h ok e l p =
 
 -- each face has an even number of edges at each vertex
 pub sides_even : (s : Cells) (h : Sides) → IsSides s h → (v f : ℕ) →
-    odd_below s.edges (λ e. touches (primal s) v e && touches (dual s) f e) ≡ false
+    odd_below s.edges (λ e. graph_touches (primal s) v e && graph_touches (dual s) f e) ≡ false
 sides_even s h ok v f =
     let at_v : ℕ → Bool = λ i. eqb (h.face_of i) f && eqb (h.start i) v in
-    odd_below-same s.edges (λ e. touches (primal s) v e && touches (dual s) f e)
-    (λ e. odd_below h.count (λ i. eqb (h.edge_of i) e && (eqb (h.face_of i) f && touches (primal s) v (h.edge_of i))))
+    odd_below-same s.edges (λ e. graph_touches (primal s) v e && graph_touches (dual s) f e)
+    (λ e. odd_below h.count (λ i. eqb (h.edge_of i) e && (eqb (h.face_of i) f && graph_touches (primal s) v (h.edge_of i))))
     (λ e l.
     let faces = ok.faces_of e l in
     let sides = ok.sides_of e l in
     rw (
-      two_of s h ok e l (λ i. eqb (h.face_of i) f && touches (primal s) v (h.edge_of i)),
+      two_of s h ok e l (λ i. eqb (h.face_of i) f && graph_touches (primal s) v (h.edge_of i)),
       sides.0,
       sides.1,
       faces.0,
       faces.1,
     )
-    (and-xor_turned (touches (primal s) v e) (eqb (h.face_of (h.one e)) f) (eqb (h.face_of (h.two e)) f)))
+    (and-xor_turned (graph_touches (primal s) v e) (eqb (h.face_of (h.one e)) f) (eqb (h.face_of (h.two e)) f)))
     ∙ (odd_below-swap s.edges h.count
-    (λ e i. eqb (h.edge_of i) e && (eqb (h.face_of i) f && touches (primal s) v (h.edge_of i)))
+    (λ e i. eqb (h.edge_of i) e && (eqb (h.face_of i) f && graph_touches (primal s) v (h.edge_of i)))
     ∙ (odd_below-same h.count
-    (λ i. odd_below s.edges (λ e. eqb (h.edge_of i) e && (eqb (h.face_of i) f && touches (primal s) v (h.edge_of i))))
+    (λ i. odd_below s.edges (λ e. eqb (h.edge_of i) e && (eqb (h.face_of i) f && graph_touches (primal s) v (h.edge_of i))))
     (λ i. eqb (h.face_of i) f && xor (eqb (h.start i) v) (eqb (h.start (h.next i)) v)) (λ i l.
-    odd_below-at s.edges (h.edge_of i) (λ e. eqb (h.face_of i) f && touches (primal s) v (h.edge_of i)) (ok.edge_in i l)
+    odd_below-at s.edges (h.edge_of i) (λ e. eqb (h.face_of i) f && graph_touches (primal s) v (h.edge_of i)) (ok.edge_in i l)
     ∙ ap (λ x. eqb (h.face_of i) f && x)
     (leaves_joined (primal s) (λ m. eqb m v) (h.start i) (h.start (h.next i)) (h.edge_of i) (ok.runs_edge i l)))
     ∙ (odd_below-and-xor h.count (λ i. eqb (h.face_of i) f) (λ i. eqb (h.start i) v) (λ i. eqb (h.start (h.next i)) v)
@@ -109,7 +109,7 @@ side_start s h ok set stays i l =
     )
 
 -- where the faces are connected, so are the vertices
-pub sides_connect : (s : Cells) (h : Sides) → IsSides s h → IsConnected (dual s) → IsConnected (primal s)
+pub sides_connect : (s : Cells) (h : Sides) → IsSides s h → IsConnectedGraph (dual s) → IsConnectedGraph (primal s)
 sides_connect s h ok faces set stays a b la lb =
     let p : ℕ → Bool = λ i. set (h.start i) in
     let round : (i : ℕ) → i < h.count → p i ≡ p (h.first (h.face_of i)) =

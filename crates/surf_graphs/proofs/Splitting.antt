@@ -2,10 +2,10 @@
 use Rattle.std.proofs.Common.{◌≡◌, ◌≢◌, ℕ, ◌+◌, ◌<◌, ◌≤◌, Bool, true, false, not, ◌&&◌, eqb, refl, sym, ◌∙◌, ap, arith, inl, inr, ◌⊎◌, subst, List, [], ◌∷◌, ◌++◌, length, length-append}
 use Rattle.std.proofs.lemmas.Bool.{cases_eq, cases_lt, cases_Bool, and_parts, false≢true, true≢false, eqb-true, eqb-false, not-true}
 use Rattle.surf_z2.specs.Parity.{xor, any_below}
-use Rattle.surf_graphs.specs.Graphs.{Graph, joins, IsWalk, walk_chain, walk_length, edge_between}
-use Rattle.surf_graphs.specs.Trees.{Tree, loop, IsShortest, loop_length}
-use Rattle.surf_graphs.specs.Cells.{Cells, primal, IsCellComplex, IsNull, Split, IsSplit}
-use Rattle.surf_graphs.specs.Cycles.{IsOff, IsDistinct, IsSimpleCycle, TwoWalks}
+use Rattle.surf_graphs.specs.Graphs.{Graph, joins, IsGraphWalk, walk_chain, graph_walk_length, edge_between}
+use Rattle.surf_graphs.specs.Trees.{Tree, loop, IsShortest, graph_loop_length}
+use Rattle.surf_graphs.specs.Cells.{Cells, primal, IsCellComplex, IsNullChain, Split, IsSplit}
+use Rattle.surf_graphs.specs.Cycles.{IsOff, IsDistinct, IsSimpleGraphCycle, TwoWalks}
 use Rattle.surf_graphs.specs.Loops.{IsSimple}
 use Rattle.surf_z2.proofs.ParityLaws.{xors, any_below-found, any_below-none}
 use Rattle.surf_graphs.proofs.Graphs.{edge_between_is, walk_even}
@@ -21,9 +21,9 @@ use Rattle.surf_graphs.proofs.Loops.{joins_turned}
 -- a closed walk that is not null has an edge whose loop is not null, and is no longer
 pub nonnull_loop : (s : Cells) (len : ℕ → ℕ) (d : Split) → IsCellComplex s → IsSplit s d → (t : Tree) →
     IsShortest (primal s) len t → (a : ℕ) → t.rank a ≡ 0 →
-    (w : List ℕ) → IsWalk (primal s) a w a → (IsNull s (walk_chain (primal s) a w) → ⊥) →
-    (e : ℕ) × (e < s.edges) × (loop_length (primal s) len t e ≤ walk_length (primal s) len a w)
-    × (IsNull s (loop (primal s) t e) → ⊥)
+    (w : List ℕ) → IsGraphWalk (primal s) a w a → (IsNullChain s (walk_chain (primal s) a w) → ⊥) →
+    (e : ℕ) × (e < s.edges) × (graph_loop_length (primal s) len t e ≤ graph_walk_length (primal s) len a w)
+    × (IsNullChain s (loop (primal s) t e) → ⊥)
 nonnull_loop s len d cells ok t short a at_base w walk some =
     let c = walk_chain (primal s) a w in
     let sign : ℕ → ℕ = λ e. signature_of s d (loop (primal s) t e) in
@@ -32,7 +32,7 @@ nonnull_loop s len d cells ok t short a at_base w walk some =
       | inl yes_e ↦
           let (e, le, on) = any_below-found s.edges test yes_e in
           let both : (c e ≡ true) × (not (eqb (sign e) 0) ≡ true) = and_parts (c e) (not (eqb (sign e) 0)) on in
-          let bound : loop_length (primal s) len t e ≤ t.rank a + walk_length (primal s) len a w + t.rank a =
+          let bound : graph_loop_length (primal s) len t e ≤ t.rank a + graph_walk_length (primal s) len a w + t.rank a =
           loop_bound (primal s) len t short a w a e walk both.0 in (
             e,
             le,
@@ -51,8 +51,8 @@ nonnull_loop s len d cells ok t short a at_base w walk some =
     ]
 
 -- a walk in two parts
-pub walk_parts : (g : Graph) (a : ℕ) (u w : List ℕ) (c : ℕ) → IsWalk g a (u ++ w) c →
-    (b : ℕ) × IsWalk g a u b × IsWalk g b w c
+pub walk_parts : (g : Graph) (a : ℕ) (u w : List ℕ) (c : ℕ) → IsGraphWalk g a (u ++ w) c →
+    (b : ℕ) × IsGraphWalk g a u b × IsGraphWalk g b w c
 walk_parts g a [] w c h = (a, refl, h)
 walk_parts g a (x ∷ u) w c h = let (b, p, q) = walk_parts g x u w c h.1 in (b, (h.0, p), q)
 
@@ -82,7 +82,7 @@ find_twice (m ∷ w) = elim (find_node m w) [
 regroup : (u b v c t : Bool) → xor u (xor b (xor v (xor c t))) ≡ xor (xor u (xor b t)) (xor v (xor c false))
 regroup u b v c t = simp xors
 
-two_walks : (g : Graph) (a n : ℕ) (u v t : List ℕ) → IsWalk g a (u ++ (n ∷ (v ++ (n ∷ t)))) a →
+two_walks : (g : Graph) (a n : ℕ) (u v t : List ℕ) → IsGraphWalk g a (u ++ (n ∷ (v ++ (n ∷ t)))) a →
     TwoWalks g a (u ++ (n ∷ (v ++ (n ∷ t))))
 two_walks g a n u v t walk =
     let (b, p, q) = walk_parts g a u (n ∷ (v ++ (n ∷ t))) a walk in
@@ -104,18 +104,18 @@ two_walks g a n u v t walk =
           (regroup (walk_chain g a u e) (eqb (edge_between g b n) e) (walk_chain g n v e) (eqb (edge_between g c n) e)
           (walk_chain g n t e)));
       long = λ len.
-          let one : walk_length g len a (u ++ (n ∷ (v ++ (n ∷ t))))
-          ≡ walk_length g len a u + (len (edge_between g b n) + walk_length g len n (v ++ (n ∷ t))) = (whole len).2 in
-          let two : walk_length g len n (v ++ (n ∷ t))
-          ≡ walk_length g len n v + (len (edge_between g c n) + walk_length g len n t) = (inner len).2 in
-          let three : walk_length g len a (u ++ (n ∷ t))
-          ≡ walk_length g len a u + (len (edge_between g b n) + walk_length g len n t) = (out len).2 in
-          let four : walk_length g len n (v ++ (n ∷ [])) ≡ walk_length g len n v + (len (edge_between g c n) + 0) =
+          let one : graph_walk_length g len a (u ++ (n ∷ (v ++ (n ∷ t))))
+          ≡ graph_walk_length g len a u + (len (edge_between g b n) + graph_walk_length g len n (v ++ (n ∷ t))) = (whole len).2 in
+          let two : graph_walk_length g len n (v ++ (n ∷ t))
+          ≡ graph_walk_length g len n v + (len (edge_between g c n) + graph_walk_length g len n t) = (inner len).2 in
+          let three : graph_walk_length g len a (u ++ (n ∷ t))
+          ≡ graph_walk_length g len a u + (len (edge_between g b n) + graph_walk_length g len n t) = (out len).2 in
+          let four : graph_walk_length g len n (v ++ (n ∷ [])) ≡ graph_walk_length g len n v + (len (edge_between g c n) + 0) =
           (back len).2 in
           omega arith;
     }
 
-pub distinct_or_two : (g : Graph) (a : ℕ) (w : List ℕ) → IsWalk g a w a → IsDistinct w ⊎ TwoWalks g a w
+pub distinct_or_two : (g : Graph) (a : ℕ) (w : List ℕ) → IsGraphWalk g a w a → IsDistinct w ⊎ TwoWalks g a w
 distinct_or_two g a w walk = elim (find_twice w) [
   | inl apart ↦ inl apart
   | inr (n, u, v, t, is) ↦ inr (rw is (two_walks g a n u v t (rw is at walk)))
@@ -123,7 +123,7 @@ distinct_or_two g a w walk = elim (find_twice w) [
 
 -- a closed walk of less than three steps runs no edge an odd number of times
 short_empty : (g : Graph) → IsSimple g → ((e : ℕ) → e < g.edges → g.from e ≢ g.to e) → (a : ℕ) (w : List ℕ) →
-    IsWalk g a w a → length w < 3 → (e : ℕ) → walk_chain g a w e ≡ false
+    IsGraphWalk g a w a → length w < 3 → (e : ℕ) → walk_chain g a w e ≡ false
 short_empty g simple ends a [] walk l e = refl
 short_empty g simple ends a (c ∷ []) walk l e =
     let step = edge_between_is g a c walk.0 in
@@ -148,7 +148,7 @@ short_empty g simple ends a (c ∷ (x ∷ (y ∷ w))) walk l e = absurd (omega a
 
 -- a closed walk that runs some edge an odd number of times is a simple cycle, or the sum of two that are not empty
 pub simple_or_two : (g : Graph) → IsSimple g → ((e : ℕ) → e < g.edges → g.from e ≢ g.to e) → (a : ℕ) (w : List ℕ) →
-    IsWalk g a w a → (e : ℕ) → walk_chain g a w e ≡ true → IsSimpleCycle g a w ⊎ TwoWalks g a w
+    IsGraphWalk g a w a → (e : ℕ) → walk_chain g a w e ≡ true → IsSimpleGraphCycle g a w ⊎ TwoWalks g a w
 simple_or_two g simple ends a w walk e on = elim (distinct_or_two g a w walk) [
   | inr two ↦ inr two
   | inl apart ↦ elim (cases_lt (length w) 3) [

@@ -2,8 +2,8 @@
 use Rattle.std.specs.Prelude.{ℕ, ◌≡◌, ◌<◌, ◌≤◌, Bool, true, false, ◌&&◌, List, [], ◌∷◌, length, slice_index}
 use Rattle.std.specs.Prelude.{if◌then◌else◌, ◌==◌}
 use Rattle.surf_z2.specs.Parity.{xor, odd_below}
-use Rattle.surf_graphs.specs.Graphs.{Graph, IsGraph, IsConnected, leaves, touches, edge_between}
-use Rattle.surf_graphs.specs.Trees.{Tree, IsTree, in_tree, on_path, loop_length}
+use Rattle.surf_graphs.specs.Graphs.{Graph, IsGraph, IsConnectedGraph, leaves, graph_touches, edge_between}
+use Rattle.surf_graphs.specs.Trees.{Tree, IsTree, in_tree, on_path, graph_loop_length}
 
 -- vertices, edges and faces by their numbers. An edge runs between two vertices and lies between two faces
 pub record Cells : Type 0 where
@@ -29,18 +29,18 @@ dual s = record { nodes = s.faces; edges = s.edges; from = s.near; to = s.far }
 pub record IsCellComplex (s : Cells) : Type 0 where
   pub primal_ends : IsGraph (primal s)
   pub dual_ends : IsGraph (dual s)
-  pub primal_connected : IsConnected (primal s)
-  pub dual_connected : IsConnected (dual s)
+  pub primal_connected : IsConnectedGraph (primal s)
+  pub dual_connected : IsConnectedGraph (dual s)
   pub corners_even : (v f : ℕ) → v < s.vertices → f < s.faces →
-      odd_below s.edges (λ e. touches (primal s) v e && touches (dual s) f e) ≡ false
+      odd_below s.edges (λ e. graph_touches (primal s) v e && graph_touches (dual s) f e) ≡ false
 
 -- the edges that have exactly one of their two faces in the set
-abbrev pub boundary : Cells → (ℕ → Bool) → ℕ → Bool
-boundary s set e = leaves (dual s) set e
+abbrev pub cell_boundary : Cells → (ℕ → Bool) → ℕ → Bool
+cell_boundary s set e = leaves (dual s) set e
 
 -- the chain is the boundary of a set of faces
-abbrev pub IsNull : Cells → (ℕ → Bool) → Type 0
-IsNull s chain = (set : ℕ → Bool) × ((e : ℕ) → e < s.edges → chain e ≡ boundary s set e)
+abbrev pub IsNullChain : Cells → (ℕ → Bool) → Type 0
+IsNullChain s chain = (set : ℕ → Bool) × ((e : ℕ) → e < s.edges → chain e ≡ cell_boundary s set e)
 
 -- a tree of the vertices, a tree of the faces, and the edges that are left, which a list has in order
 pub record Split : Type 0 where
@@ -80,13 +80,13 @@ abbrev pub chain_signature : Cells → Split → (ℕ → Bool) → ℕ → Bool
 chain_signature s d chain k = odd_below s.edges (λ e. chain e && signature s d e k)
 
 -- the sum of the signatures over a walk's steps
-abbrev pub walk_signature : Cells → Split → ℕ → List ℕ → ℕ → Bool
-walk_signature s d a [] k = false
-walk_signature s d a (b ∷ w) k =
-    xor (signature s d (edge_between (primal s) a b) k) (walk_signature s d b w k)
+abbrev pub graph_walk_signature : Cells → Split → ℕ → List ℕ → ℕ → Bool
+graph_walk_signature s d a [] k = false
+graph_walk_signature s d a (b ∷ w) k =
+    xor (signature s d (edge_between (primal s) a b) k) (graph_walk_signature s d b w k)
 
 -- no left edge could take the place of an edge of the cotree with a shorter loop
 abbrev pub IsHeaviest : Cells → (ℕ → ℕ) → Split → Type 0
 IsHeaviest s len d = (k e : ℕ) → k < length d.left → e < s.edges → in_tree (dual s) d.cotree e ≡ true →
     parts s d e (slice_index d.left k) ≡ true →
-    loop_length (primal s) len d.tree (slice_index d.left k) ≤ loop_length (primal s) len d.tree e
+    graph_loop_length (primal s) len d.tree (slice_index d.left k) ≤ graph_loop_length (primal s) len d.tree e

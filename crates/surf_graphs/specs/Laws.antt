@@ -3,18 +3,18 @@ use Rattle.std.specs.Prelude.{ℕ, ◌≡◌, ◌<◌, ◌≤◌, ◌+◌, ◌*�
 use Rattle.std.specs.Prelude.{◌++◌, length, map, sum, All}
 use Rattle.surf_graphs.specs.Rounds.{IsTurn, Rounds}
 use Rattle.surf_graphs.specs.Sides.{Sides, IsSides}
-use Rattle.surf_graphs.specs.Cycles.{runs, IsSimpleCycle, Separates, TwoWalks}
-use Rattle.surf_graphs.specs.Loops.{IsSimple, way_down, way_up, loop_walk}
-use Rattle.surf_graphs.specs.Independence.{IsIndependent, signature_of, signed, loop_chain, left_loops, IsCovering}
+use Rattle.surf_graphs.specs.Cycles.{graph_runs, IsSimpleGraphCycle, Separates, TwoWalks}
+use Rattle.surf_graphs.specs.Loops.{IsSimple, way_down, way_up, graph_loop_walk}
+use Rattle.surf_graphs.specs.Independence.{AreIndependentChains, signature_of, signed, loop_chain, left_loops, IsCovering}
 use Rattle.surf_graphs.specs.Independence.{IsClosedWalk, closed_walk}
 use Rattle.surf_z2.specs.Space.{Chain, numbers, Independent, Weighed, weights, vectors, SpannedUpToWeight}
 use Rattle.surf_graphs.specs.Growth.{Grown, with_node, with_edge, inner_end, IsHeavy}
 use Rattle.surf_z2.specs.Parity.{odd_below, count_below}
-use Rattle.surf_graphs.specs.Graphs.{leaves, joins, Graph, IsGraph, IsConnected, IsEven, IsWalk, touches, walk_chain}
-use Rattle.surf_graphs.specs.Graphs.{walk_length}
-use Rattle.surf_graphs.specs.Trees.{Tree, IsTree, in_tree, loop, IsShortest, loop_length}
-use Rattle.surf_graphs.specs.Cells.{Cells, primal, dual, IsCellComplex, boundary, parts, IsNull, Split, IsSplit}
-use Rattle.surf_graphs.specs.Cells.{IsHeaviest, chain_signature, walk_signature}
+use Rattle.surf_graphs.specs.Graphs.{leaves, joins, Graph, IsGraph, IsConnectedGraph, IsEven, IsGraphWalk, graph_touches, walk_chain}
+use Rattle.surf_graphs.specs.Graphs.{graph_walk_length}
+use Rattle.surf_graphs.specs.Trees.{Tree, IsTree, in_tree, loop, IsShortest, graph_loop_length}
+use Rattle.surf_graphs.specs.Cells.{Cells, primal, dual, IsCellComplex, cell_boundary, parts, IsNullChain, Split, IsSplit}
+use Rattle.surf_graphs.specs.Cells.{IsHeaviest, chain_signature, graph_walk_signature}
 
 -- An even chain inside a spanning tree is empty.
 abbrev pub EvenInTreeIsEmpty : Type 0
@@ -22,18 +22,18 @@ EvenInTreeIsEmpty = (g : Graph) (t : Tree) → IsGraph g → IsTree g t → (cha
     ((e : ℕ) → e < g.edges → chain e ≡ true → in_tree g t e ≡ true) → (e : ℕ) → e < g.edges → chain e ≡ false
 
 -- The boundary of a set of faces is even at each vertex.
-abbrev pub BoundariesAreEven : Type 0
-BoundariesAreEven = (s : Cells) → IsCellComplex s → (set : ℕ → Bool) → IsEven (primal s) (boundary s set)
+abbrev pub CellBoundariesAreEven : Type 0
+CellBoundariesAreEven = (s : Cells) → IsCellComplex s → (set : ℕ → Bool) → IsEven (primal s) (cell_boundary s set)
 
 -- The edges that a closed walk runs an odd number of times are even at each node.
-abbrev pub ClosedWalksAreEven : Type 0
-ClosedWalksAreEven = (g : Graph) (a : ℕ) (w : List ℕ) → IsWalk g a w a → IsEven g (walk_chain g a w)
+abbrev pub ClosedGraphWalksAreEven : Type 0
+ClosedGraphWalksAreEven = (g : Graph) (a : ℕ) (w : List ℕ) → IsGraphWalk g a w a → IsEven g (walk_chain g a w)
 
 -- A set of faces that no edge outside the tree leaves has all faces or none.
 abbrev pub EdgesOutsideTreeJoinFaces : Type 0
 EdgesOutsideTreeJoinFaces = (s : Cells) → IsCellComplex s → (t : Tree) → IsTree (primal s) t →
     (set : ℕ → Bool) →
-    ((e : ℕ) → e < s.edges → in_tree (primal s) t e ≡ false → boundary s set e ≡ false) → (a b : ℕ) →
+    ((e : ℕ) → e < s.edges → in_tree (primal s) t e ≡ false → cell_boundary s set e ≡ false) → (a b : ℕ) →
     a < s.faces → b < s.faces → set a ≡ set b
 
 -- A tree has one edge less than its graph has nodes.
@@ -48,19 +48,19 @@ LeftEdgesCount = (s : Cells) (d : Split) → IsSplit s d → length d.left + (s.
 abbrev pub NullChains : Type 0
 NullChains = (s : Cells) (d : Split) → IsCellComplex s → IsSplit s d → (chain : ℕ → Bool) →
     IsEven (primal s) chain →
-    IsNull s chain ↔ ((k : ℕ) → k < length d.left → chain_signature s d chain k ≡ false)
+    IsNullChain s chain ↔ ((k : ℕ) → k < length d.left → chain_signature s d chain k ≡ false)
 
 -- A closed walk is null exactly where its signature is zero.
 abbrev pub NullWalks : Type 0
 NullWalks = (s : Cells) (d : Split) → IsCellComplex s → IsSplit s d → (a : ℕ) (w : List ℕ) →
-    IsWalk (primal s) a w a →
-    IsNull s (walk_chain (primal s) a w) ↔ ((k : ℕ) → k < length d.left → walk_signature s d a w k ≡ false)
+    IsGraphWalk (primal s) a w a →
+    IsNullChain s (walk_chain (primal s) a w) ↔ ((k : ℕ) → k < length d.left → graph_walk_signature s d a w k ≡ false)
 
 -- The signatures of a face's edges sum to zero.
-abbrev pub FacesSumToZero : Type 0
-FacesSumToZero = (s : Cells) (d : Split) → IsCellComplex s → IsSplit s d → (f k : ℕ) → f < s.faces →
+abbrev pub CellFacesSumToZero : Type 0
+CellFacesSumToZero = (s : Cells) (d : Split) → IsCellComplex s → IsSplit s d → (f k : ℕ) → f < s.faces →
     k < length d.left →
-    chain_signature s d (λ e. touches (dual s) f e) k ≡ false
+    chain_signature s d (λ e. graph_touches (dual s) f e) k ≡ false
 
 -- An even chain is the sum of the loops of its edges.
 abbrev pub EvenChainsAreSumsOfLoops : Type 0
@@ -72,8 +72,8 @@ EvenChainsAreSumsOfLoops = (g : Graph) (t : Tree) → IsGraph g → (chain : ℕ
 -- that is longer than the walk.
 abbrev pub LoopsOfWalkAreNoLonger : Type 0
 LoopsOfWalkAreNoLonger = (g : Graph) (len : ℕ → ℕ) (t : Tree) → IsShortest g len t → (w : List ℕ) (e : ℕ) →
-    IsWalk g t.root w t.root → walk_chain g t.root w e ≡ true →
-    loop_length g len t e ≤ walk_length g len t.root w
+    IsGraphWalk g t.root w t.root → walk_chain g t.root w e ≡ true →
+    graph_loop_length g len t e ≤ graph_walk_length g len t.root w
 
 -- Where the cotree is heaviest, the signature of each edge's loop is a sum of those of left loops
 -- that are no longer.
@@ -87,26 +87,26 @@ ShortLeftLoopsSpan = (s : Cells) (len : ℕ → ℕ) (d : Split) → IsCellCompl
 abbrev pub IndependentChains : Type 0
 IndependentChains = (s : Cells) (d : Split) → IsCellComplex s → IsSplit s d → (xs : List Chain) →
     All (IsEven (primal s)) xs →
-    IsIndependent s xs ↔ Independent numbers (map (signature_of s d) xs)
+    AreIndependentChains s xs ↔ Independent numbers (map (signature_of s d) xs)
 
 -- No more than 2 - χ even chains are independent.
 abbrev pub IndependentChainsAreFew : Type 0
 IndependentChainsAreFew = (s : Cells) (d : Split) → IsCellComplex s → IsSplit s d → (xs : List Chain) →
-    All (IsEven (primal s)) xs → IsIndependent s xs → length xs ≤ length d.left
+    All (IsEven (primal s)) xs → AreIndependentChains s xs → length xs ≤ length d.left
 
 -- The left loops are independent.
 abbrev pub LeftLoopsAreIndependent : Type 0
 LeftLoopsAreIndependent = (s : Cells) (d : Split) → IsCellComplex s → IsSplit s d →
-    IsIndependent s (map (loop (primal s) d.tree) d.left)
+    AreIndependentChains s (map (loop (primal s) d.tree) d.left)
 
 -- No independent list of 2 - χ closed walks at the root of a shortest tree is shorter in all than
 -- the left loops of its heaviest cotree.
-abbrev pub LeftLoopsAreLeast : Type 0
-LeftLoopsAreLeast = (s : Cells) (len : ℕ → ℕ) (d : Split) → IsCellComplex s → IsSplit s d →
+abbrev pub LeftGraphLoopsAreLeast : Type 0
+LeftGraphLoopsAreLeast = (s : Cells) (len : ℕ → ℕ) (d : Split) → IsCellComplex s → IsSplit s d →
     IsShortest (primal s) len d.tree → IsHeaviest s len d → (walks : List (List ℕ)) →
-    All (λ w. IsWalk (primal s) d.tree.root w d.tree.root) walks → length walks ≡ length d.left →
-    IsIndependent s (map (walk_chain (primal s) d.tree.root) walks) →
-    sum (weights (left_loops s len d)) ≤ sum (map (walk_length (primal s) len d.tree.root) walks)
+    All (λ w. IsGraphWalk (primal s) d.tree.root w d.tree.root) walks → length walks ≡ length d.left →
+    AreIndependentChains s (map (walk_chain (primal s) d.tree.root) walks) →
+    sum (weights (left_loops s len d)) ≤ sum (map (graph_walk_length (primal s) len d.tree.root) walks)
 
 -- No independent list of closed walks is shorter in all than as many cycles that cover the loops
 -- through the shortest trees at all vertices.
@@ -116,7 +116,7 @@ CoveringCyclesAreLeast = (s : Cells) (len : ℕ → ℕ) (d : Split) → IsCellC
     ((x : ℕ) → x < s.vertices → ((trees x).root ≡ x) × IsShortest (primal s) len (trees x)) →
     (cycles : List (Weighed Chain)) → IsCovering s len d trees cycles →
     (walks : List (ℕ × List ℕ)) → All (IsClosedWalk s) walks → length walks ≡ length cycles →
-    IsIndependent s (vectors (map (closed_walk (primal s) len) walks)) →
+    AreIndependentChains s (vectors (map (closed_walk (primal s) len) walks)) →
     sum (weights cycles) ≤ sum (weights (map (closed_walk (primal s) len) walks))
 
 -- Edge c of the cotree parts the faces of edge l exactly where a set of faces that no other edge of
@@ -126,62 +126,62 @@ CotreeEdgesPart = (s : Cells) (d : Split) → IsCellComplex s → IsSplit s d �
     l < s.edges → in_tree (dual s) d.cotree c ≡ true →
     (parts s d c l ≡ true)
     ↔ ((set : ℕ → Bool)
-    × ((e : ℕ) → e < s.edges → e ≢ c → in_tree (dual s) d.cotree e ≡ true → boundary s set e ≡ false)
-    × (boundary s set l ≡ true))
+    × ((e : ℕ) → e < s.edges → e ≢ c → in_tree (dual s) d.cotree e ≡ true → cell_boundary s set e ≡ false)
+    × (cell_boundary s set l ≡ true))
 
 -- Faces that are run round by closed walks have an even number of edges at each vertex.
 abbrev pub FacesAreClosedWalks : Type 0
 FacesAreClosedWalks = (s : Cells) (start : ℕ → ℕ) (around : ℕ → List ℕ) →
-    ((f : ℕ) → f < s.faces → IsWalk (primal s) (start f) (around f) (start f)) →
+    ((f : ℕ) → f < s.faces → IsGraphWalk (primal s) (start f) (around f) (start f)) →
     ((f e : ℕ) → f < s.faces → e < s.edges →
-    touches (dual s) f e ≡ walk_chain (primal s) (start f) (around f) e) →
+    graph_touches (dual s) f e ≡ walk_chain (primal s) (start f) (around f) e) →
     (v f : ℕ) → v < s.vertices → f < s.faces →
-    odd_below s.edges (λ e. touches (primal s) v e && touches (dual s) f e) ≡ false
+    odd_below s.edges (λ e. graph_touches (primal s) v e && graph_touches (dual s) f e) ≡ false
 
 -- A simple cycle is null exactly where it separates the faces.
-abbrev pub NullCyclesSeparate : Type 0
-NullCyclesSeparate = (s : Cells) → IsCellComplex s → (a : ℕ) (w : List ℕ) → IsSimpleCycle (primal s) a w →
-    IsNull s (walk_chain (primal s) a w) ↔ Separates s (walk_chain (primal s) a w)
+abbrev pub NullGraphCyclesSeparate : Type 0
+NullGraphCyclesSeparate = (s : Cells) → IsCellComplex s → (a : ℕ) (w : List ℕ) → IsSimpleGraphCycle (primal s) a w →
+    IsNullChain s (walk_chain (primal s) a w) ↔ Separates s (walk_chain (primal s) a w)
 
 -- In faces that are run round by their sides, where each edge is two sides, each face has an even
 -- number of edges at each vertex.
 abbrev pub SidesMakeCornersEven : Type 0
 SidesMakeCornersEven = (s : Cells) (h : Sides) → IsSides s h → (v f : ℕ) →
-    odd_below s.edges (λ e. touches (primal s) v e && touches (dual s) f e) ≡ false
+    odd_below s.edges (λ e. graph_touches (primal s) v e && graph_touches (dual s) f e) ≡ false
 
 -- Where faces are run round by sides, the vertices are connected if the faces are.
 abbrev pub SidesConnectVertices : Type 0
-SidesConnectVertices = (s : Cells) (h : Sides) → IsSides s h → IsConnected (dual s) → IsConnected (primal s)
+SidesConnectVertices = (s : Cells) (h : Sides) → IsSides s h → IsConnectedGraph (dual s) → IsConnectedGraph (primal s)
 
 -- In any tree the loop of an edge is a closed walk at the root.
-abbrev pub LoopsAreClosed : Type 0
-LoopsAreClosed = (g : Graph) (t : Tree) → IsGraph g → IsTree g t → (l : ℕ) → l < g.edges →
-    IsWalk g t.root (loop_walk g t l) t.root
+abbrev pub GraphLoopsAreClosed : Type 0
+GraphLoopsAreClosed = (g : Graph) (t : Tree) → IsGraph g → IsTree g t → (l : ℕ) → l < g.edges →
+    IsGraphWalk g t.root (graph_loop_walk g t l) t.root
 
 -- In a shortest tree of a graph without double edges it has the loop's edges and length.
 abbrev pub LoopsAreWalks : Type 0
 LoopsAreWalks = (g : Graph) (len : ℕ → ℕ) (t : Tree) → IsGraph g → IsSimple g → IsTree g t →
     IsShortest g len t → (l : ℕ) → l < g.edges →
-    IsWalk g t.root (loop_walk g t l) t.root
-    × ((e : ℕ) → walk_chain g t.root (loop_walk g t l) e ≡ loop g t l e)
-    × (walk_length g len t.root (loop_walk g t l) ≡ loop_length g len t l)
+    IsGraphWalk g t.root (graph_loop_walk g t l) t.root
+    × ((e : ℕ) → walk_chain g t.root (graph_loop_walk g t l) e ≡ loop g t l e)
+    × (graph_walk_length g len t.root (graph_loop_walk g t l) ≡ graph_loop_length g len t l)
 
 -- For a closed walk that is not null there is an edge, whether or not the walk runs it, whose loop
 -- is not null and no longer than the walk.
 abbrev pub NonNullWalksHaveShortLoops : Type 0
 NonNullWalksHaveShortLoops = (s : Cells) (len : ℕ → ℕ) (d : Split) → IsCellComplex s → IsSplit s d →
     (t : Tree) → IsShortest (primal s) len t → (a : ℕ) → t.rank a ≡ 0 →
-    (w : List ℕ) → IsWalk (primal s) a w a → (IsNull s (walk_chain (primal s) a w) → ⊥) →
-    (e : ℕ) × (e < s.edges) × (loop_length (primal s) len t e ≤ walk_length (primal s) len a w)
-    × (IsNull s (loop (primal s) t e) → ⊥)
+    (w : List ℕ) → IsGraphWalk (primal s) a w a → (IsNullChain s (walk_chain (primal s) a w) → ⊥) →
+    (e : ℕ) × (e < s.edges) × (graph_loop_length (primal s) len t e ≤ graph_walk_length (primal s) len a w)
+    × (IsNullChain s (loop (primal s) t e) → ⊥)
 
 -- In a graph without double edges and without edges from a node to itself, a closed walk that runs
 -- some edge an odd number of times is a simple cycle, or the sum of two closed walks that are not
 -- empty.
 abbrev pub ClosedWalksAreSimpleOrTwo : Type 0
 ClosedWalksAreSimpleOrTwo = (g : Graph) → IsSimple g → ((e : ℕ) → e < g.edges → g.from e ≢ g.to e) →
-    (a : ℕ) (w : List ℕ) → IsWalk g a w a → (e : ℕ) → walk_chain g a w e ≡ true →
-    IsSimpleCycle g a w ⊎ TwoWalks g a w
+    (a : ℕ) (w : List ℕ) → IsGraphWalk g a w a → (e : ℕ) → walk_chain g a w e ≡ true →
+    IsSimpleGraphCycle g a w ⊎ TwoWalks g a w
 
 -- Of three turnings of which one is the sum of the other two, the rounds and the turned sides are
 -- an even number in all.
@@ -214,12 +214,12 @@ abbrev pub BordersAreConnected : Type 0
 BordersAreConnected = (s : Cells) → IsCellComplex s → 0 < s.vertices → s.vertices + s.faces ≡ s.edges + 2 →
     (o : ℕ) → o < s.faces →
     ((set : ℕ → Bool) →
-    ((e : ℕ) → e < s.edges → touches (dual s) o e ≡ false → leaves (dual s) set e ≡ false) →
+    ((e : ℕ) → e < s.edges → graph_touches (dual s) o e ≡ false → leaves (dual s) set e ≡ false) →
     (a b : ℕ) → a < s.faces → b < s.faces → a ≢ o → b ≢ o → set a ≡ set b) →
     (p : ℕ → Bool) →
-    ((v e f : ℕ) → v < s.vertices → e < s.edges → f < s.edges → touches (dual s) o e ≡ true →
-    touches (dual s) o f ≡ true → touches (primal s) v e ≡ true → touches (primal s) v f ≡ true → p e ≡ p f) →
-    (e f : ℕ) → e < s.edges → f < s.edges → touches (dual s) o e ≡ true → touches (dual s) o f ≡ true →
+    ((v e f : ℕ) → v < s.vertices → e < s.edges → f < s.edges → graph_touches (dual s) o e ≡ true →
+    graph_touches (dual s) o f ≡ true → graph_touches (primal s) v e ≡ true → graph_touches (primal s) v f ≡ true → p e ≡ p f) →
+    (e f : ℕ) → e < s.edges → f < s.edges → graph_touches (dual s) o e ≡ true → graph_touches (dual s) o f ≡ true →
     p e ≡ p f
 
 -- In a graph without double edges the ranks of a shortest tree are the least lengths of walks from
@@ -227,8 +227,8 @@ BordersAreConnected = (s : Cells) → IsCellComplex s → 0 < s.vertices → s.v
 abbrev pub RanksAreDistances : Type 0
 RanksAreDistances = (g : Graph) (len : ℕ → ℕ) (t : Tree) → IsSimple g → IsTree g t → IsShortest g len t →
     (n : ℕ) → n < g.nodes →
-    ((w : List ℕ) × IsWalk g t.root w n × (walk_length g len t.root w ≡ t.rank n))
-    × ((w : List ℕ) → IsWalk g t.root w n → t.rank n ≤ walk_length g len t.root w)
+    ((w : List ℕ) × IsGraphWalk g t.root w n × (graph_walk_length g len t.root w ≡ t.rank n))
+    × ((w : List ℕ) → IsGraphWalk g t.root w n → t.rank n ≤ graph_walk_length g len t.root w)
 
 -- A tree grows by an edge to a new node.
 abbrev pub TreesGrow : Type 0
@@ -254,7 +254,7 @@ HeavyTreesAreHeaviest = (s : Cells) (len : ℕ → ℕ) (d : Split) → IsCellCo
     ((e : ℕ) → e < s.edges → in_tree (primal s) d.tree e ≡ false → allowed e ≡ true) →
     ((f : ℕ) → f < s.faces → reached f ≡ true) →
     ((x y : ℕ) → lighter x y ≡ true →
-    loop_length (primal s) len d.tree x ≤ loop_length (primal s) len d.tree y) →
+    graph_loop_length (primal s) len d.tree x ≤ graph_loop_length (primal s) len d.tree y) →
     IsHeavy (dual s) allowed reached d.cotree lighter → IsHeaviest s len d
 
 -- Two tables with equal entries at the nodes describe one grown tree.
@@ -271,16 +271,16 @@ GrownTreesSpan = (g : Graph) (allowed reached : ℕ → Bool) (t : Tree) → Gro
 
 -- A simple cycle runs each edge that it runs an odd number of times.
 abbrev pub SimpleCyclesRunOnce : Type 0
-SimpleCyclesRunOnce = (g : Graph) (a : ℕ) (w : List ℕ) → IsSimpleCycle g a w → (e : ℕ) →
-    walk_chain g a w e ≡ runs g a w e
+SimpleCyclesRunOnce = (g : Graph) (a : ℕ) (w : List ℕ) → IsSimpleGraphCycle g a w → (e : ℕ) →
+    walk_chain g a w e ≡ graph_runs g a w e
 
 -- Each vertex is at an even number of a face's edges, where a simple cycle runs round each face.
 abbrev pub FacesAreSimpleCycles : Type 0
 FacesAreSimpleCycles = (s : Cells) (start : ℕ → ℕ) (around : ℕ → List ℕ) →
-    ((f : ℕ) → f < s.faces → IsSimpleCycle (primal s) (start f) (around f)) →
-    ((f e : ℕ) → f < s.faces → e < s.edges → touches (dual s) f e ≡ runs (primal s) (start f) (around f) e) →
+    ((f : ℕ) → f < s.faces → IsSimpleGraphCycle (primal s) (start f) (around f)) →
+    ((f e : ℕ) → f < s.faces → e < s.edges → graph_touches (dual s) f e ≡ graph_runs (primal s) (start f) (around f) e) →
     (v f : ℕ) → v < s.vertices → f < s.faces →
-    odd_below s.edges (λ e. touches (primal s) v e && touches (dual s) f e) ≡ false
+    odd_below s.edges (λ e. graph_touches (primal s) v e && graph_touches (dual s) f e) ≡ false
 
 -- the way up from a node begins with its parent, and the way down to it ends with the node after the way to its parent
 pub record GoByParents (g : Graph) (t : Tree) : Type 0 where

@@ -18,5 +18,5 @@ way_up t zero n = []
 way_up t (suc steps) n = if n == t.root then [] else (t.parent n ∷ way_up t steps (t.parent n))
 
 -- the nodes after the root on the loop of edge l: down to its one end, over it, and up from its other end
-abbrev pub loop_walk : Graph → Tree → ℕ → List ℕ
-loop_walk g t l = way_down t (t.rank (g.from l)) (g.from l) ++ (g.to l ∷ way_up t (t.rank (g.to l)) (g.to l))
+abbrev pub graph_loop_walk : Graph → Tree → ℕ → List ℕ
+graph_loop_walk g t l = way_down t (t.rank (g.from l)) (g.from l) ++ (g.to l ∷ way_up t (t.rank (g.to l)) (g.to l))

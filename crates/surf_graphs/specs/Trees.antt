@@ -45,5 +45,5 @@ pub record IsShortest (g : Graph) (len : ℕ → ℕ) (t : Tree) : Type 0 where
       × (t.rank (g.from e) ≤ t.rank (g.to e) + len e)
 
 -- the length of the loop of edge l
-abbrev pub loop_length : Graph → (ℕ → ℕ) → Tree → ℕ → ℕ
-loop_length g len t l = t.rank (g.from l) + len l + t.rank (g.to l)
+abbrev pub graph_loop_length : Graph → (ℕ → ℕ) → Tree → ℕ → ℕ
+graph_loop_length g len t l = t.rank (g.from l) + len l + t.rank (g.to l)

@@ -27,17 +27,17 @@
 //! nothing.
 #![tactic(auto)]
 
-ghost use Rattle.surf_graphs.specs.Laws.{EvenInTreeIsEmpty, BoundariesAreEven};
-ghost use Rattle.surf_graphs.specs.Laws.{ClosedWalksAreEven, EdgesOutsideTreeJoinFaces};
+ghost use Rattle.surf_graphs.specs.Laws.{EvenInTreeIsEmpty, CellBoundariesAreEven};
+ghost use Rattle.surf_graphs.specs.Laws.{ClosedGraphWalksAreEven, EdgesOutsideTreeJoinFaces};
 ghost use Rattle.surf_graphs.specs.Laws.{TreesHaveOneEdgeLess, LeftEdgesCount, NullChains};
-ghost use Rattle.surf_graphs.specs.Laws.{NullWalks, FacesSumToZero, EvenChainsAreSumsOfLoops};
+ghost use Rattle.surf_graphs.specs.Laws.{NullWalks, CellFacesSumToZero, EvenChainsAreSumsOfLoops};
 ghost use Rattle.surf_graphs.specs.Laws.{LoopsOfWalkAreNoLonger, ShortLeftLoopsSpan};
 ghost use Rattle.surf_graphs.specs.Laws.{IndependentChains, IndependentChainsAreFew};
-ghost use Rattle.surf_graphs.specs.Laws.{LeftLoopsAreIndependent, LeftLoopsAreLeast};
+ghost use Rattle.surf_graphs.specs.Laws.{LeftLoopsAreIndependent, LeftGraphLoopsAreLeast};
 ghost use Rattle.surf_graphs.specs.Laws.{CoveringCyclesAreLeast, CotreeEdgesPart};
-ghost use Rattle.surf_graphs.specs.Laws.{FacesAreClosedWalks, NullCyclesSeparate};
+ghost use Rattle.surf_graphs.specs.Laws.{FacesAreClosedWalks, NullGraphCyclesSeparate};
 ghost use Rattle.surf_graphs.specs.Laws.{SidesMakeCornersEven, SidesConnectVertices};
-ghost use Rattle.surf_graphs.specs.Laws.{LoopsAreClosed, LoopsAreWalks, NonNullWalksHaveShortLoops};
+ghost use Rattle.surf_graphs.specs.Laws.{GraphLoopsAreClosed, LoopsAreWalks, NonNullWalksHaveShortLoops};
 ghost use Rattle.surf_graphs.specs.Laws.{ClosedWalksAreSimpleOrTwo, RoundsAreEven};
 ghost use Rattle.surf_graphs.specs.Laws.{LeftEdgesAreEven, MatesAreRounds, SplitsExist};
 ghost use Rattle.surf_graphs.specs.Laws.{BordersAreConnected, RanksAreDistances, TreesGrow};
@@ -52,12 +52,12 @@ pub fn even_in_tree_is_empty()
 
 /// The boundary of a set of faces is even at each vertex.
 pub fn boundaries_are_even()
-    ensures { BoundariesAreEven }
+    ensures { CellBoundariesAreEven }
 {}
 
 /// A closed walk runs an even number of edges at each node an odd number of times.
 pub fn closed_walks_are_even()
-    ensures { ClosedWalksAreEven }
+    ensures { ClosedGraphWalksAreEven }
 {}
 
 /// The edges outside a spanning tree of the vertices join all faces.
@@ -87,7 +87,7 @@ pub fn null_walks()
 
 /// The signatures of a face's edges sum to zero.
 pub fn faces_sum_to_zero()
-    ensures { FacesSumToZero }
+    ensures { CellFacesSumToZero }
 {}
 
 /// An even chain is the sum of the loops of its edges.
@@ -124,7 +124,7 @@ pub fn left_loops_are_independent()
 
 /// The left loops of a shortest tree and its heaviest cotree are a least system of loops.
 pub fn left_loops_are_least()
-    ensures { LeftLoopsAreLeast }
+    ensures { LeftGraphLoopsAreLeast }
 {}
 
 /// Cycles that cover the loops through all shortest trees are a least basis.
@@ -144,7 +144,7 @@ pub fn faces_are_closed_walks()
 
 /// A simple cycle is null exactly where it separates.
 pub fn null_cycles_separate()
-    ensures { NullCyclesSeparate }
+    ensures { NullGraphCyclesSeparate }
 {}
 
 /// Faces that are run round by their sides have an even number of edges at each vertex.
@@ -159,7 +159,7 @@ pub fn sides_connect_vertices()
 
 /// In any tree the loop of an edge is a closed walk at the root.
 pub fn loops_are_closed()
-    ensures { LoopsAreClosed }
+    ensures { GraphLoopsAreClosed }
 {}
 
 /// In a shortest tree of a graph without double edges, the loop of an edge is a closed walk at the

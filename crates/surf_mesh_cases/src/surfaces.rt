@@ -70,7 +70,7 @@ fn has_even_flags(alloc: Global, mesh: &HalfMesh) -> Option<bool> {
 
 // No face of the tetrahedron is to be turned over, or all are.
 #[test]
-fn a_turning_has_a_flag_for_each_face(rt: HostRuntime) -> Result<(), Fail> {
+fn an_orientation_has_a_flag_for_each_face(rt: HostRuntime) -> Result<(), Fail> {
     let alloc = rt.alloc();
     let mesh = surface(alloc, 4, tetrahedron())?;
     assert_eq!(rt; has_even_flags(alloc, &mesh), Some(true));

@@ -10,7 +10,7 @@ use Rattle.surf_graphs.proofs.Counting.{left_edges as left_count}
 use Rattle.surf_surfaces.specs.Mesh.{Mesh}
 use Rattle.surf_surfaces.specs.Surface.{face_count, edge_count, ends, IsSurface}
 use Rattle.surf_surfaces.specs.Walk.{IsClosed, edge_length, ArePositive}
-use Rattle.surf_surfaces.specs.Homology.{IsFullCount}
+use Rattle.surf_surfaces.specs.Homology.{IsLoopCount}
 use Rattle.surf_surfaces.specs.Cells.{cells_of}
 use Rattle.surf_surfaces.specs.Cotree.{left_edges, split_of}
 use Rattle.surf_surfaces.specs.Choice.{Trees, Loop, AreChosenAt, AreChosen, IsChosenBasis, walks}
@@ -146,7 +146,7 @@ module _ (mesh : Mesh) (lengths : List ℕ) (surface : IsSurface mesh) (positive
     left_long : length (map (ends mesh) left) ≡ length left
     left_long = length-map left (ends mesh)
 
-    left_full : IsFullCount mesh (length (map (ends mesh) left))
+    left_full : IsLoopCount mesh (length (map (ends mesh) left))
     left_full =
         let long = left_long in
         let count = left_count (cells_of mesh) (split_of mesh tree cotree) split in

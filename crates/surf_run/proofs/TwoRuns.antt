@@ -20,7 +20,7 @@ use Rattle.surf_texts.specs.CycleTexts.{cycles_text}
 use Rattle.surf_texts.specs.LoopTexts.{loops_text}
 use Rattle.surf_texts.specs.MeshLines.{off_cause}
 use Rattle.surf_surfaces.specs.Choice.{Loop, loops_at, IsChosenBasis}
-use Rattle.surf_surfaces.specs.Homology.{IsFullCount}
+use Rattle.surf_surfaces.specs.Homology.{IsLoopCount}
 use Rattle.surf_surfaces.proofs.ShortestWalkLaws.{first_of_basis_is_shortest_not_null}
 use Rattle.surf_lengths.specs.Lengths.{IsLength, AreLengths}
 use Rattle.surf_lengths.proofs.Positive.{lengths_positive}
@@ -105,7 +105,7 @@ module _ (files : Files) (mesh lengths cert text : List ℕ) (held : bytes_of fi
         let shape = gives.valid.shape in
         let distances : length c.tree.distance ≡ read.1.vertices = shape.distances in
         let depths : length c.dual.depth ≡ face_count read.1 = shape.depths in
-        let full : IsFullCount read.1 (length c.left) = shape.loops in
+        let full : IsLoopCount read.1 (length c.left) = shape.loops in
         let loops = few_loops read.1 few in
         let vertices : read.1.vertices ≤ 1000000 = counts.0 in
         let faces : face_count read.1 ≤ 2000000 = counts.1 in
@@ -168,7 +168,7 @@ module _ (files : Files) (mesh lengths cert text : List ℕ) (held : bytes_of fi
         let shape = gives.valid.shape in
         let trees : length c.trees ≡ m.vertices = shape.trees in
         let depths : length c.dual.depth ≡ face_count m = shape.depths in
-        let full : IsFullCount m (length c.left) = shape.loops in
+        let full : IsLoopCount m (length c.left) = shape.loops in
         let loops = few_loops m few_loops_are in
         let vertices = few in
         let faces : face_count m ≤ 2000000 = mesh_few.1 in

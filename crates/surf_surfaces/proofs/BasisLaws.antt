@@ -19,7 +19,7 @@ use Rattle.surf_z2.proofs.ParityLaws.{any_below-found, any_below-none}
 use Rattle.surf_z2.proofs.Ranks.{spanned_among}
 use Rattle.surf_z2.proofs.Span.{InSpan, add_in, in_from_spanned, spanned_from_in}
 use Rattle.surf_graphs.specs.Cells.{primal, Split, IsSplit}
-use Rattle.surf_graphs.specs.Graphs.{IsEven, IsWalk as IsGraphWalk, walk_chain, walk_length as graph_length}
+use Rattle.surf_graphs.specs.Graphs.{IsEven, IsGraphWalk, walk_chain, graph_walk_length}
 use Rattle.surf_graphs.specs.Independence.{signature_of, signed, loop_chain}
 use Rattle.surf_graphs.proofs.Graphs.{even_same}
 use Rattle.surf_graphs.proofs.Independence.{signature_of-same, signature_of-linear, spanned_other, walk_spanned}
@@ -186,7 +186,7 @@ module _ (mesh : Mesh) (lengths : List ℕ) (trees : ℕ → Trees) (surface : I
         SpannedUpToWeight numbers (weighed (λ c. c.size) (λ c. class_of mesh d c.walk) (candidates mesh lengths trees))
         (signed (cells_of mesh) d
         (record {
-          weight = graph_length (primal (cells_of mesh)) (edge_length lengths) a w;
+          weight = graph_walk_length (primal (cells_of mesh)) (edge_length lengths) a w;
           vector =
               walk_chain (primal (cells_of mesh)) a w;
         }))
@@ -196,7 +196,7 @@ module _ (mesh : Mesh) (lengths : List ℕ) (trees : ℕ → Trees) (surface : I
         subst (λ xs. SpannedUpToWeight numbers xs
         (signed (cells_of mesh) d
         (record {
-          weight = graph_length (primal (cells_of mesh)) (edge_length lengths) a w;
+          weight = graph_walk_length (primal (cells_of mesh)) (edge_length lengths) a w;
           vector =
               walk_chain (primal (cells_of mesh)) a w;
         })))
@@ -364,12 +364,12 @@ module _ (mesh : Mesh) (lengths : List ℕ) (trees : ℕ → Trees) (surface : I
       -- a shorter closed walk of the graph is a sum of the candidates before
       shorter_spanned : (i : ℕ) (c : Loop) (a : ℕ) (w : List ℕ) → i < length (candidates mesh lengths trees) →
           IsGraphWalk (primal (cells_of mesh)) a w a → 1 ≤ length w →
-          graph_length (primal (cells_of mesh)) (edge_length lengths) a w <
+          graph_walk_length (primal (cells_of mesh)) (edge_length lengths) a w <
           (get_or (candidates mesh lengths trees) i c).size →
           InSpan numbers (map (λ x. class_of mesh d x.walk) (take i (candidates mesh lengths trees)))
           (signature_of (cells_of mesh) d (walk_chain (primal (cells_of mesh)) a w))
       shorter_spanned i c a w i_in walk some shorter =
-          let limit = graph_length (primal (cells_of mesh)) (edge_length lengths) a w in
+          let limit = graph_walk_length (primal (cells_of mesh)) (edge_length lengths) a w in
           lighter_before numbers is_nothing Decides-is_nothing (λ x. x.size) (λ x. class_of mesh d x.walk) limit
           (candidates mesh lengths trees) i c candidates_rise i_in shorter
           (signature_of (cells_of mesh) d (walk_chain (primal (cells_of mesh)) a w))

@@ -4,7 +4,7 @@ use Rattle.std.proofs.lemmas.Bool.{cases_Bool, cases_lt, cases_eq, and_parts, an
 use Rattle.std.proofs.lemmas.Bool.Decides.{nat_tests}
 use Rattle.surf_z2.proofs.ParityLaws.{any_below-from}
 use Rattle.surf_graphs.specs.Cells.{primal, dual}
-use Rattle.surf_graphs.specs.Graphs.{IsJoined, edge_between, IsWalk as IsGraphWalk, walk_length as graph_length}
+use Rattle.surf_graphs.specs.Graphs.{IsJoined, edge_between, IsGraphWalk, graph_walk_length}
 use Rattle.surf_graphs.specs.Trees.{Tree, IsTree}
 use Rattle.surf_graphs.proofs.Graphs.{walk-append, edge_between_is}
 use Rattle.surf_graphs.proofs.HeaviestTrees.{HeaviestTree, heaviest_tree}
@@ -79,7 +79,7 @@ module _ (mesh : Mesh) (lengths : List ℕ) (base : ℕ) (surface : IsSurface me
   -- a walk of the mesh from the base, as one of the graph
   to_graph : (v : ℕ) (walk : List ℕ) → LeadsFrom mesh base v walk →
       (rest : List ℕ) × IsGraphWalk (primal (cells_of mesh)) base rest v
-      × (walk_length mesh lengths walk ≡ graph_length (primal (cells_of mesh)) (edge_length lengths) base rest)
+      × (walk_length mesh lengths walk ≡ graph_walk_length (primal (cells_of mesh)) (edge_length lengths) base rest)
   to_graph v [] leads = absurd (omega (arith, leads.is_walk.begins))
   to_graph v (a ∷ rest) leads =
       let walks = walks_are_graph_walks mesh surface in
@@ -88,7 +88,7 @@ module _ (mesh : Mesh) (lengths : List ℕ) (base : ℕ) (surface : IsSurface me
         rest,
         subst (λ b. IsGraphWalk (primal (cells_of mesh)) b rest v) leads.begins is,
         walks.sizes lengths a rest leads.is_walk ∙ ap
-            (λ b. graph_length (primal (cells_of mesh)) (edge_length lengths) b rest) leads.begins,
+            (λ b. graph_walk_length (primal (cells_of mesh)) (edge_length lengths) b rest) leads.begins,
       )
 
   shortest : (v : ℕ) → v < mesh.vertices → ShortestWalk (primal (cells_of mesh)) (edge_length lengths) base v
@@ -101,11 +101,11 @@ module _ (mesh : Mesh) (lengths : List ℕ) (base : ℕ) (surface : IsSurface me
   -- the length of a shortest walk
   record IsLeast (v m : ℕ) : Type 0 where
     shortest : ShortestWalk (primal (cells_of mesh)) (edge_length lengths) base v
-    size : graph_length (primal (cells_of mesh)) (edge_length lengths) base shortest.walk ≡ m
+    size : graph_walk_length (primal (cells_of mesh)) (edge_length lengths) base shortest.walk ≡ m
 
   distances : (v : ℕ) → (m : ℕ) × (v < mesh.vertices → IsLeast v m)
   distances = total_of mesh.vertices IsLeast (λ v l. let s = shortest v l in
-      (graph_length (primal (cells_of mesh)) (edge_length lengths) base s.walk, record { shortest = s; size = refl }))
+      (graph_walk_length (primal (cells_of mesh)) (edge_length lengths) base s.walk, record { shortest = s; size = refl }))
 
   distance : ℕ → ℕ
   distance v = (distances v).0
@@ -138,7 +138,7 @@ module _ (mesh : Mesh) (lengths : List ℕ) (base : ℕ) (surface : IsSurface me
       last_step at.shortest.walk at.shortest.is at.size
     where
       last_step : (w : List ℕ) → IsGraphWalk (primal (cells_of mesh)) base w v →
-          graph_length (primal (cells_of mesh)) (edge_length lengths) base w ≡ (distances v).0 →
+          graph_walk_length (primal (cells_of mesh)) (edge_length lengths) base w ≡ (distances v).0 →
           (u : ℕ) × (u < mesh.vertices) × IsTight mesh lengths (λ x. (distances x).0) u v
       last_step [] walk size = absurd (ne (sym walk))
       last_step (c ∷ xs) walk size =
@@ -159,8 +159,8 @@ module _ (mesh : Mesh) (lengths : List ℕ) (base : ℕ) (surface : IsSurface me
           let low = to_u.shortest.least front before in
           let over = walk_over graph len cells.one_edge base to_u.shortest.walk u v e to_u.shortest.is at.0 at.1 in
           let high = to_v.shortest.least (to_u.shortest.walk ++ v ∷ []) over.0 in
-          let whole : graph_length graph len base (c ∷ xs) ≡ graph_length graph len base front +
-          (len (edge_between graph u z) + 0) = ap (graph_length graph len base) is ∙ both.2 in
+          let whole : graph_walk_length graph len base (c ∷ xs) ≡ graph_walk_length graph len base front +
+          (len (edge_between graph u z) + 0) = ap (graph_walk_length graph len base) is ∙ both.2 in
           let whole_too : len (edge_between graph u z) ≡ len e = ap len same_edge in
           let has = contains_from_among (pair u v) (edges mesh) (from_joined mesh surface.is_mesh u v step) in
           let number : e ≡ edge_number mesh (u, v) = between_is_number mesh surface.is_mesh u v has in

@@ -7,9 +7,9 @@ use Rattle.std.proofs.lemmas.List.Elements.{recursion_from_All, All-from_recursi
 use Rattle.surf_z2.specs.Space.{Chain, chains, numbers, chosen, sum_of, Independent, Weighed, weights, SpannedUpToWeight}
 use Rattle.surf_z2.proofs.Below.{chosen-map, map_nil}
 use Rattle.surf_graphs.specs.Graphs.{IsEven, walk_chain}
-use Rattle.surf_graphs.specs.Independence.{signature_of, signed, loop_chain, IsIndependent as AreIndependent}
+use Rattle.surf_graphs.specs.Independence.{signature_of, signed, loop_chain, AreIndependentChains}
 use Rattle.surf_graphs.specs.Trees.{Tree, IsTree, IsShortest, loop}
-use Rattle.surf_graphs.specs.Cells.{primal, Split, IsSplit, IsNull as IsNullChain}
+use Rattle.surf_graphs.specs.Cells.{primal, Split, IsSplit, IsNullChain}
 use Rattle.surf_graphs.proofs.Counting.{left_edges}
 use Rattle.surf_graphs.proofs.Existence.{split_exists}
 use Rattle.surf_graphs.proofs.Independence.{signature_of-same, null_zero, zero_null, signatures_from_independent, independent_from_signatures, independent_bound, walk_spanned, spanned_least}
@@ -109,7 +109,7 @@ spanned_walks_least mesh lengths d surface split walks others count closed spann
     (evens others (recursion_from_All (IsClosed mesh) others closed)))
     (All-from_recursion (λ w. SpannedUpToWeight numbers (map (signed s d) ws) (signed s d w)) os
     (spans others (recursion_from_All _ others spanned)))
-    (subst (AreIndependent s) (sym (map-map (λ w. w.vector) (weighed_walk mesh lengths) others))
+    (subst (AreIndependentChains s) (sym (map-map (λ w. w.vector) (weighed_walk mesh lengths) others))
     ((independence_is_that_of_chains mesh others).0 free)) in
     subst (λ n. n ≤ total mesh lengths others) (weights_of_walks mesh lengths walks)
     (subst (λ n. sum (weights ws) ≤ n) (weights_of_walks mesh lengths others) bound)

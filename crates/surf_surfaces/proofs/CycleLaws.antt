@@ -5,9 +5,9 @@ use Rattle.std.proofs.lemmas.Bool.{true≢false, false_from_ne_true}
 use Rattle.std.proofs.lemmas.List.{length-append, get_or_default}
 use Rattle.surf_z2.specs.Parity.{xor, odd}
 use Rattle.surf_z2.proofs.ParityLaws.{xor-same, xor_equal}
-use Rattle.surf_graphs.specs.Graphs.{IsWalk as IsGraphWalk, walk_chain}
-use Rattle.surf_graphs.specs.Cycles.{IsOff, IsDistinct, IsSimpleCycle as IsGraphCycle}
-use Rattle.surf_graphs.specs.Cells.{Cells, primal, IsNull as IsNullChain}
+use Rattle.surf_graphs.specs.Graphs.{IsGraphWalk, walk_chain}
+use Rattle.surf_graphs.specs.Cycles.{IsOff, IsDistinct, IsSimpleGraphCycle}
+use Rattle.surf_graphs.specs.Cells.{Cells, primal, IsNullChain}
 use Rattle.surf_graphs.proofs.Cycles.{null_separates, separates_null}
 use Rattle.surf_surfaces.specs.Mesh.{Mesh, pair_of, pair_eq, steps, steps_from}
 use Rattle.surf_surfaces.specs.Surface.{edge_count, ends, faces_of, IsSurface}
@@ -86,7 +86,7 @@ module _ (mesh : Mesh) (surface : IsSurface mesh) (u : ℕ) (rest : List ℕ) (c
   null_from_graph null = (null.0, (λ e in'. chain_is e in' ∙ null.1 e in'))
 
   graph_cycle : 3 ≤ length (steps (u ∷ rest)) → AllPairs (λ v w. v ≢ w) rest →
-      IsGraphCycle (primal (cells_of mesh)) u rest
+      IsSimpleGraphCycle (primal (cells_of mesh)) u rest
   graph_cycle long apart = let n = length-steps u rest in
       (graph_closed, omega arith, graph_distinct rest (distinct_from_AllPairs rest apart))
 

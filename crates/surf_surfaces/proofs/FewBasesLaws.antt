@@ -12,7 +12,7 @@ use Rattle.surf_z2.proofs.Passing.{some_or_none, member_in, all_passing, passing
 use Rattle.surf_z2.proofs.Ranks.{in_wider}
 use Rattle.surf_z2.proofs.Span.{InSpan, AllInSpan, zero_in, add_in, trans_in, in_from_spanned, spanned_from_in}
 use Rattle.surf_graphs.specs.Cells.{primal, Split, IsSplit}
-use Rattle.surf_graphs.specs.Graphs.{IsWalk as IsGraphWalk, walk_chain, walk_length as graph_length}
+use Rattle.surf_graphs.specs.Graphs.{IsGraphWalk, walk_chain, graph_walk_length}
 use Rattle.surf_graphs.specs.Independence.{signature_of}
 use Rattle.surf_graphs.specs.Trees.{Tree, loop}
 use Rattle.surf_graphs.proofs.Independence.{signature_of-same, signature_of-linear, walk_spanned}
@@ -147,12 +147,12 @@ module _ (mesh : Mesh) (lengths : List ℕ) (searched : ℕ → Tree) (surface :
 
   -- a closed walk at y is a sum of candidates that come no later than its length and y
   pub walk_at_spanned : (y : ℕ) (w : List ℕ) (size : ℕ) → y < mesh.vertices → IsGraphWalk (primal (cells_of mesh)) y w y →
-      graph_length (primal (cells_of mesh)) (edge_length lengths) y w ≤ size →
+      graph_walk_length (primal (cells_of mesh)) (edge_length lengths) y w ≤ size →
       InSpan numbers (candidates_within (size, y)) (signature_of (cells_of mesh) d (walk_chain (primal (cells_of mesh)) y w))
   walk_at_spanned y w size y_in walk no_longer =
       let s = cells_of mesh in
       let len = edge_length lengths in
-      let limit = graph_length (primal s) len y w in
+      let limit = graph_walk_length (primal s) len y w in
       let v = signature_of s d (walk_chain (primal s) y w) in
       let at = chosen y y_in in
       let own = shortest_trees mesh lengths surface positive trees chosen in

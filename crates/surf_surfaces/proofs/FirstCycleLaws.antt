@@ -21,7 +21,7 @@ use Rattle.surf_graphs.proofs.Lengths.{loop_signature, left_signature}
 use Rattle.surf_surfaces.specs.Mesh.{Mesh}
 use Rattle.surf_surfaces.specs.Surface.{face_count, edge_count, IsSurface}
 use Rattle.surf_surfaces.specs.Walk.{edge_length, parity, ArePositive}
-use Rattle.surf_surfaces.specs.Homology.{IsFullCount}
+use Rattle.surf_surfaces.specs.Homology.{IsLoopCount}
 use Rattle.surf_surfaces.specs.Cycle.{IsSimpleCycle, Separation, IsShortestNonseparating}
 use Rattle.surf_surfaces.specs.Cells.{cells_of}
 use Rattle.surf_surfaces.specs.Class.{class_of, AreShortestTrees}
@@ -189,7 +189,7 @@ module _ (mesh : Mesh) (lengths : List ℕ) (surface : IsSurface mesh) (positive
         let good = (first_shortest first rest is).nonseparating in
         good.separates_not (all first.walk good.simple)
 
-    pub all_separate : ((walk : List ℕ) → IsSimpleCycle mesh walk → Separation mesh walk) → IsFullCount mesh 0
+    pub all_separate : ((walk : List ℕ) → IsSimpleCycle mesh walk → Separation mesh walk) → IsLoopCount mesh 0
     all_separate all =
         let count = left_count 0 (trees 0) (chosen 0 (some_vertex mesh surface)) in
         elim (cases_lt (mesh.vertices + face_count mesh) (edge_count mesh + 2)) [

@@ -19,7 +19,7 @@ use Rattle.surf_graphs.specs.Trees.{Tree}
 use Rattle.surf_surfaces.specs.Mesh.{Mesh}
 use Rattle.surf_surfaces.specs.Surface.{edge_count, ends, IsSurface}
 use Rattle.surf_surfaces.specs.Walk.{IsClosed, edge_length, walk_length, ArePositive}
-use Rattle.surf_surfaces.specs.Homology.{IsIndependent, IsFullCount}
+use Rattle.surf_surfaces.specs.Homology.{IsIndependent, IsLoopCount}
 use Rattle.surf_surfaces.specs.Cells.{cells_of}
 use Rattle.surf_surfaces.specs.Class.{class_of, AreShortestTrees}
 use Rattle.surf_surfaces.specs.Loop.{loop_walk}
@@ -47,7 +47,7 @@ before_later : (a b : ℕ) (c e : Loop) → is_no_later (e.size, e.base) (a, b) 
     is_no_later (c.size, c.base) (a, b) ≡ false → comes_before e c ≡ true
 before_later a b c e h k = grind (arith, nat_tests)
 
-same_count : (mesh : Mesh) (m n : ℕ) → IsFullCount mesh m → IsFullCount mesh n → m ≡ n
+same_count : (mesh : Mesh) (m n : ℕ) → IsLoopCount mesh m → IsLoopCount mesh n → m ≡ n
 same_count mesh m n a b = omega arith
 
 pub loop_closed : (mesh : Mesh) (lengths : List ℕ) (trees : ℕ → Tree) → IsSurface mesh → AreShortestTrees mesh lengths trees →
@@ -177,7 +177,7 @@ module _ (mesh : Mesh) (lengths : List ℕ) (searched : ℕ → Tree) (surface :
 
   -- as many independent loops as may be span the class of each closed walk
   full_spans : (found : List Found) → All (IsFoundLoop mesh lengths searched) found → IsIndependent mesh (walks_found found) →
-      IsFullCount mesh (length found) → (walk : List ℕ) → IsClosed mesh walk → DependsOn mesh (walks_found found) walk
+      IsLoopCount mesh (length found) → (walk : List ℕ) → IsClosed mesh walk → DependsOn mesh (walks_found found) walk
   full_spans found loops free full walk closed =
       let (basis, is, one) = basis_is_one mesh lengths trees surface positive chosen in
       let cs = candidates mesh lengths trees in

@@ -5,7 +5,7 @@ use Rattle.std.proofs.lemmas.Bool.{cases_lt, lt-ltb, le-ltb}
 use Rattle.std.proofs.lemmas.List.Elements.{recursion_from_All, All-from_recursion}
 use Rattle.std.proofs.lemmas.List.Sums.{sum_by-cons}
 use Rattle.surf_z2.specs.Parity.{xor, odd}
-use Rattle.surf_graphs.specs.Graphs.{IsEven, IsJoined, edge_between, IsWalk as IsGraphWalk, walk_chain, walk_length as graph_length}
+use Rattle.surf_graphs.specs.Graphs.{IsEven, IsJoined, edge_between, IsGraphWalk, walk_chain, graph_walk_length}
 use Rattle.surf_graphs.specs.Cells.{primal}
 use Rattle.surf_graphs.proofs.Graphs.{edge_between_is, even_same, walk_even}
 use Rattle.surf_surfaces.specs.Mesh.{Mesh, IsMesh, pair, pair_of, pair_eq, steps_from, edges, among}
@@ -55,7 +55,7 @@ chain_to mesh m e in' u (w ∷ rest) h =
 
 pub length_to : (mesh : Mesh) → IsMesh mesh → (given : List ℕ) (u : ℕ) (rest : List ℕ) →
     AllByRecursion (λ s. Contains (edges mesh) (pair_of s)) (steps_from u rest) →
-    sum (map (λ s. get_or given (edge_number mesh s) 0) (steps_from u rest)) ≡ graph_length (primal (cells_of mesh))
+    sum (map (λ s. get_or given (edge_number mesh s) 0) (steps_from u rest)) ≡ graph_walk_length (primal (cells_of mesh))
     (λ e. get_or given e 0) u rest
 length_to mesh m given u [] h = refl
 length_to mesh m given u (w ∷ rest) h =
@@ -122,7 +122,7 @@ pub record GraphWalk (mesh : Mesh) (lengths : List ℕ) (walk : List ℕ) : Type
   pub closed : IsGraphWalk (primal (cells_of mesh)) (first walk) (tail walk) (first walk)
   pub chain : (e : ℕ) → e < edge_count mesh → parity mesh walk e ≡ walk_chain (primal (cells_of mesh)) (first walk)
       (tail walk) e
-  pub size : walk_length mesh lengths walk ≡ graph_length (primal (cells_of mesh)) (edge_length lengths) (first walk)
+  pub size : walk_length mesh lengths walk ≡ graph_walk_length (primal (cells_of mesh)) (edge_length lengths) (first walk)
       (tail walk)
 
 pub graph_walk : (mesh : Mesh) → IsSurface mesh → (lengths walk : List ℕ) → IsClosed mesh walk →

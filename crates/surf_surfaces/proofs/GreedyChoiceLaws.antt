@@ -8,7 +8,7 @@ use Rattle.surf_z2.specs.Space.{chains, numbers, is_nothing, difference, sum_of,
 use Rattle.surf_z2.proofs.Below.{chosen-map}
 use Rattle.surf_z2.proofs.Kept.{kept_law}
 use Rattle.surf_z2.proofs.Numbers.{Decides-is_nothing}
-use Rattle.surf_graphs.specs.Cells.{primal, Split, IsSplit, IsNull as IsNullChain}
+use Rattle.surf_graphs.specs.Cells.{primal, Split, IsSplit, IsNullChain}
 use Rattle.surf_graphs.specs.Graphs.{IsEven}
 use Rattle.surf_graphs.specs.Independence.{signature_of}
 use Rattle.surf_graphs.proofs.Independence.{spanned_from_null, null_from_spanned}

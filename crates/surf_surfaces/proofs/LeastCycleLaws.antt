@@ -4,10 +4,10 @@ use Rattle.std.proofs.lemmas.Bool.{cases_Bool}
 use Rattle.surf_z2.specs.Below.{number_of}
 use Rattle.surf_z2.specs.Parity.{xor, any_below}
 use Rattle.surf_z2.proofs.ParityLaws.{xor_pairs, any_below-found, any_below-none}
-use Rattle.surf_graphs.specs.Graphs.{Graph, IsWalk as IsGraphWalk, edge_between, walk_chain, walk_length as graph_length}
-use Rattle.surf_graphs.specs.Cycles.{IsOff, IsDistinct, IsSimpleCycle as IsGraphCycle}
+use Rattle.surf_graphs.specs.Graphs.{Graph, IsGraphWalk, edge_between, walk_chain, graph_walk_length}
+use Rattle.surf_graphs.specs.Cycles.{IsOff, IsDistinct, IsSimpleGraphCycle}
 use Rattle.surf_graphs.specs.Loops.{IsSimple}
-use Rattle.surf_graphs.specs.Cells.{Cells, primal, chain_signature, IsNull as IsNullChain}
+use Rattle.surf_graphs.specs.Cells.{Cells, primal, chain_signature, IsNullChain}
 use Rattle.surf_graphs.proofs.Graphs.{edge_between_is}
 use Rattle.surf_graphs.proofs.Counting.{left_edges}
 use Rattle.surf_graphs.proofs.Trees.{joined_below}
@@ -33,7 +33,7 @@ null_sum s c a b is x y = (
 )
 
 pub walk_positive : (g : Graph) (len : ℕ → ℕ) → ((e : ℕ) → e < g.edges → 1 ≤ len e) → (a b : ℕ) (w : List ℕ) →
-    IsGraphWalk g a w b → 1 ≤ length w → 1 ≤ graph_length g len a w
+    IsGraphWalk g a w b → 1 ≤ length w → 1 ≤ graph_walk_length g len a w
 walk_positive g len positive a b [] walk some = absurd (omega arith)
 walk_positive g len positive a b (c ∷ w) walk some =
     let at = edge_between_is g a c walk.0 in
@@ -45,8 +45,8 @@ pub least_simple : (s : Cells) (len : ℕ → ℕ) → IsSimple (primal s) → (
     ((e : ℕ) → e < s.edges → 1 ≤ len e) →
     (a : ℕ) (w : List ℕ) → IsGraphWalk (primal s) a w a → (IsNullChain s (walk_chain (primal s) a w) → ⊥) →
     ((b : ℕ) (v : List ℕ) → IsGraphWalk (primal s) b v b → (IsNullChain s (walk_chain (primal s) b v) → ⊥) →
-    graph_length (primal s) len a w ≤ graph_length (primal s) len b v) →
-    IsGraphCycle (primal s) a w
+    graph_walk_length (primal s) len a w ≤ graph_walk_length (primal s) len b v) →
+    IsSimpleGraphCycle (primal s) a w
 least_simple s len one_edge differ positive a w walk some least =
     elim (cases_Bool (any_below s.edges (walk_chain (primal s) a w))) [
       | inl yes_edge ↦
@@ -83,7 +83,7 @@ distinct_pairs (x ∷ xs) h (suc i) (suc j) d lt in' = distinct_pairs xs h.1 i j
 
 -- a closed walk whose graph walk is simple is a simple cycle
 pub simple_from_graph : (mesh : Mesh) (walk : List ℕ) → IsClosed mesh walk →
-    IsGraphCycle (primal (cells_of mesh)) (first walk) (tail walk) → IsSimpleCycle mesh walk
+    IsSimpleGraphCycle (primal (cells_of mesh)) (first walk) (tail walk) → IsSimpleCycle mesh walk
 simple_from_graph mesh [] closed cycle = absurd (omega (arith, closed.is_walk.begins))
 simple_from_graph mesh (u ∷ rest) closed cycle =
     let many = length-steps u rest in
@@ -136,12 +136,12 @@ least_loops_are_shortest_cycles mesh lengths trees x l surface positive short x_
     let at_most = least y e y_in e_in not_null in
     omega (arith, runs.size, at_most))
   where
-    no_less : graph_length (primal (cells_of mesh)) (edge_length lengths) (trees x).root
+    no_less : graph_walk_length (primal (cells_of mesh)) (edge_length lengths) (trees x).root
         (tail (loop_walk mesh (trees x) l)) ≡ loop_length mesh lengths (trees x) l →
         (b : ℕ) (v : List ℕ) → IsGraphWalk (primal (cells_of mesh)) b v b →
         (IsNullChain (cells_of mesh) (walk_chain (primal (cells_of mesh)) b v) → ⊥) →
-        graph_length (primal (cells_of mesh)) (edge_length lengths) (trees x).root (tail (loop_walk mesh (trees x) l)) ≤
-        graph_length (primal (cells_of mesh)) (edge_length lengths) b v
+        graph_walk_length (primal (cells_of mesh)) (edge_length lengths) (trees x).root (tail (loop_walk mesh (trees x) l)) ≤
+        graph_walk_length (primal (cells_of mesh)) (edge_length lengths) b v
     no_less sized b [] walk not_null = absurd (not_null ((λ f. false), (λ e in'. refl)))
     no_less sized b (c ∷ v) walk not_null =
         let s = cells_of mesh in

@@ -18,7 +18,7 @@ use Rattle.surf_graphs.proofs.Independence.{signature_of-same, signatures_from_i
 use Rattle.surf_surfaces.specs.Mesh.{Mesh}
 use Rattle.surf_surfaces.specs.Surface.{edge_count, IsSurface}
 use Rattle.surf_surfaces.specs.Walk.{IsClosedAt, edge_length, first, parity}
-use Rattle.surf_surfaces.specs.Homology.{IsIndependent, IsLoopSystem, IsFullCount}
+use Rattle.surf_surfaces.specs.Homology.{IsIndependent, IsLoopSystem, IsLoopCount}
 use Rattle.surf_surfaces.specs.Cells.{cells_of}
 use Rattle.surf_surfaces.specs.Class.{class_of, weighed_walk, LeftLoopsAreLeast, CoveringBasesAreLeast}
 use Rattle.surf_surfaces.specs.Loop.{loop_walk}
@@ -124,7 +124,7 @@ module _ (mesh : Mesh) (lengths : List ℕ) (d : Split) (left : List ℕ) (surfa
       evens : AllByRecursion (λ l. IsEven (primal (cells_of mesh)) (loop (primal (cells_of mesh)) d.tree l)) d.left
       evens = each_below d.left split.left_in
 
-  pub left_count : IsFullCount mesh (length (map (loop_walk mesh d.tree) left))
+  pub left_count : IsLoopCount mesh (length (map (loop_walk mesh d.tree) left))
   left_count = let n = length-map left (loop_walk mesh d.tree) in let m = length_permutation d.left left same in
       let count = left_edges (cells_of mesh) d split in omega arith
 

@@ -5,8 +5,8 @@ use Rattle.std.proofs.lemmas.List.Elements.{All-from_recursion}
 use Rattle.surf_surfaces.specs.Joined.{Joined, here, over}
 use Rattle.surf_surfaces.specs.Mesh.{IsMesh, IsFace, pair}
 use Rattle.surf_surfaces.specs.Pillow.{pillow}
-use Rattle.surf_surfaces.specs.Surface.{ends, faces_with, HasCorner, HasEdge, ShareAt, HasOneFan, IsConnected, IsSurface, IsTurning, IsTwoSided}
-use Rattle.surf_surfaces.specs.Homology.{IsFullCount}
+use Rattle.surf_surfaces.specs.Surface.{ends, faces_with, HasCorner, HasEdge, ShareAt, HasOneFan, IsConnected, IsSurface, IsOrientation, IsOrientable}
+use Rattle.surf_surfaces.specs.Homology.{IsLoopCount}
 use Rattle.surf_surfaces.proofs.SmallFaces.{triangle}
 
 pillow_is_mesh : IsMesh pillow
@@ -63,14 +63,14 @@ pillow_is_surface = record {
   connected = connected;
 }
 
-turning : IsTurning pillow (λ f. false)
+turning : IsOrientation pillow (λ f. false)
 turning zero h = refl
 turning (suc zero) h = refl
 turning (suc (suc zero)) h = refl
 turning (suc (suc (suc e))) h = absurd (omega arith)
 
-pub pillow_is_two_sided : IsTwoSided pillow
+pub pillow_is_two_sided : IsOrientable pillow
 pillow_is_two_sided = ((λ f. false), turning)
 
-pub pillow_count : IsFullCount pillow 0
+pub pillow_count : IsLoopCount pillow 0
 pillow_count = refl

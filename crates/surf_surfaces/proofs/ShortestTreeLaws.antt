@@ -1,6 +1,6 @@
 -- Laws of the tree of shortest walks.
 use Rattle.std.proofs.Common.{◌≡◌, ◌≢◌, ℕ, ◌+◌, ◌<◌, ◌≤◌, true, List, [], ◌∷◌, ◌++◌, refl, sym, ap, ◌∙◌, subst, arith, Contains}
-use Rattle.surf_graphs.specs.Graphs.{Graph, joins, IsJoined, edge_between, IsWalk as IsGraphWalk, walk_length as graph_length}
+use Rattle.surf_graphs.specs.Graphs.{Graph, joins, IsJoined, edge_between, IsGraphWalk, graph_walk_length}
 use Rattle.surf_graphs.specs.Loops.{IsSimple}
 use Rattle.surf_graphs.specs.Cells.{primal}
 use Rattle.surf_graphs.specs.Trees.{Tree, IsTree, IsShortest}
@@ -20,14 +20,14 @@ use Rattle.surf_surfaces.proofs.GraphWalkLaws.{joined, walks_are_graph_walks}
 -- a walk with one more step, over edge e
 pub walk_over : (g : Graph) (len : ℕ → ℕ) → IsSimple g → (a : ℕ) (w : List ℕ) (u v e : ℕ) → IsGraphWalk g a w u →
     e < g.edges → joins g u v e ≡ true →
-    IsGraphWalk g a (w ++ v ∷ []) v × (graph_length g len a (w ++ v ∷ []) ≡ graph_length g len a w + len e)
+    IsGraphWalk g a (w ++ v ∷ []) v × (graph_walk_length g len a (w ++ v ∷ []) ≡ graph_walk_length g len a w + len e)
 walk_over g len simple a w u v e walk e_in joins_e =
     let is_joined : IsJoined g u v = (e, e_in, joins_e) in
     let both = walk-append g len a w u (v ∷ []) v walk (is_joined, refl) in
     let between = edge_between_is g u v is_joined in
     let same : edge_between g u v ≡ e = simple u v (edge_between g u v) e between.0 e_in between.1 joins_e in
-    let size : graph_length g len a (w ++ v ∷ []) ≡ graph_length g len a w + (len (edge_between g u v) + 0) = both.2 in
-    (both.0, size ∙ ap (λ x. graph_length g len a w + (len x + 0)) same ∙ omega arith)
+    let size : graph_walk_length g len a (w ++ v ∷ []) ≡ graph_walk_length g len a w + (len (edge_between g u v) + 0) = both.2 in
+    (both.0, size ∙ ap (λ x. graph_walk_length g len a w + (len x + 0)) same ∙ omega arith)
 
 module _ (mesh : Mesh) (lengths : List ℕ) (base : ℕ) (tree : Tree) (surface : IsSurface mesh)
     (positive : ArePositive mesh lengths) (short : IsShortestTree mesh lengths base tree) where

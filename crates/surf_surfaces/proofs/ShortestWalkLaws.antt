@@ -8,8 +8,8 @@ use Rattle.surf_z2.specs.Order.{sorted}
 use Rattle.surf_z2.proofs.Counts.{Up}
 use Rattle.surf_z2.proofs.Merge.{Sorted}
 use Rattle.surf_z2.proofs.ParityLaws.{xor-false}
-use Rattle.surf_graphs.specs.Cells.{primal, IsNull as IsNullChain}
-use Rattle.surf_graphs.specs.Graphs.{IsWalk as IsGraphWalk, walk_chain, walk_length as graph_length}
+use Rattle.surf_graphs.specs.Cells.{primal, IsNullChain}
+use Rattle.surf_graphs.specs.Graphs.{IsGraphWalk, walk_chain, graph_walk_length}
 use Rattle.surf_graphs.proofs.Trees.{joined_below}
 use Rattle.surf_surfaces.specs.Mesh.{Mesh}
 use Rattle.surf_surfaces.specs.Surface.{IsSurface}
@@ -134,11 +134,11 @@ module _ (mesh : Mesh) (lengths : List ℕ) (surface : IsSurface mesh) (positive
       (λ null. is.not_null (null_from_graph mesh surface u rest is.closed null)) (no_less w.size))
     where
       no_less : walk_length mesh lengths (u ∷ rest)
-          ≡ graph_length (primal (cells_of mesh)) (edge_length lengths) u rest →
+          ≡ graph_walk_length (primal (cells_of mesh)) (edge_length lengths) u rest →
           (b : ℕ) (v : List ℕ) → IsGraphWalk (primal (cells_of mesh)) b v b →
           (IsNullChain (cells_of mesh) (walk_chain (primal (cells_of mesh)) b v) → ⊥) →
-          graph_length (primal (cells_of mesh)) (edge_length lengths) u rest ≤
-          graph_length (primal (cells_of mesh)) (edge_length lengths) b v
+          graph_walk_length (primal (cells_of mesh)) (edge_length lengths) u rest ≤
+          graph_walk_length (primal (cells_of mesh)) (edge_length lengths) b v
       no_less sized b [] walk not_null = absurd (not_null ((λ f. false), (λ e in'. refl)))
       no_less sized b (c ∷ v) walk not_null =
           let walks = walks_are_graph_walks mesh surface in

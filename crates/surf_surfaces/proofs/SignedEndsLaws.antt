@@ -5,7 +5,7 @@ use Rattle.surf_z2.proofs.Below.{same_from, same_below, number_of-none}
 use Rattle.surf_z2.proofs.ParityLaws.{odd_below-none, any_below-found, any_below-none}
 use Rattle.surf_z2.specs.Parity.{any_below}
 use Rattle.surf_graphs.specs.Cells.{primal, Split, signature, chain_signature}
-use Rattle.surf_graphs.specs.Graphs.{Graph, joins, IsWalk as IsGraphWalk, edge_between, walk_chain}
+use Rattle.surf_graphs.specs.Graphs.{Graph, joins, IsGraphWalk, edge_between, walk_chain}
 use Rattle.surf_graphs.specs.Independence.{signature_of}
 use Rattle.surf_graphs.proofs.Graphs.{edge_between_is}
 use Rattle.surf_graphs.proofs.Independence.{signature_of-same}

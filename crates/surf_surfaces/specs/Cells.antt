@@ -1,8 +1,8 @@
 -- A mesh as a cell complex: its vertices, edges and faces by their numbers.
 use Rattle.std.specs.Prelude.{◌≡◌, ◌≢◌, ℕ, ◌+◌, ◌<◌, ◌≤◌, ◌↔◌, List, ◌∷◌, length, map, All}
-use Rattle.surf_graphs.specs.Cells.{Cells, IsCellComplex, primal, IsNull as IsNullChain}
-use Rattle.surf_graphs.specs.Graphs.{IsWalk as IsGraphWalk, walk_chain, walk_length as graph_length}
-use Rattle.surf_graphs.specs.Independence.{IsIndependent as AreIndependent}
+use Rattle.surf_graphs.specs.Cells.{Cells, IsCellComplex, primal, IsNullChain}
+use Rattle.surf_graphs.specs.Graphs.{IsGraphWalk, walk_chain, graph_walk_length}
+use Rattle.surf_graphs.specs.Independence.{AreIndependentChains}
 use Rattle.surf_graphs.specs.Loops.{IsSimple}
 use Rattle.surf_z2.specs.Space.{Chain}
 use Rattle.surf_surfaces.specs.Mesh.{Mesh}
@@ -50,14 +50,14 @@ pub record WalksAreGraphWalks (mesh : Mesh) : Type 0 where
   pub parities : (u : ℕ) (rest : List ℕ) → IsWalk mesh (u ∷ rest) → (e : ℕ) → e < edge_count mesh →
       parity mesh (u ∷ rest) e ≡ walk_chain (primal (cells_of mesh)) u rest e
   pub sizes : (lengths : List ℕ) (u : ℕ) (rest : List ℕ) → IsWalk mesh (u ∷ rest) →
-      walk_length mesh lengths (u ∷ rest) ≡ graph_length (primal (cells_of mesh)) (edge_length lengths) u rest
+      walk_length mesh lengths (u ∷ rest) ≡ graph_walk_length (primal (cells_of mesh)) (edge_length lengths) u rest
 
 -- Walks of a surface are independent exactly where their chains are independent in its cell
 -- complex.
 abbrev pub IndependenceIsThatOfChains : Type 0
 IndependenceIsThatOfChains =
     (mesh : Mesh) (walks : List (List ℕ)) →
-    IsIndependent mesh walks ↔ AreIndependent (cells_of mesh) (map (parity mesh) walks)
+    IsIndependent mesh walks ↔ AreIndependentChains (cells_of mesh) (map (parity mesh) walks)
 
 -- No independent list of closed walks has more than 2 − χ members.
 abbrev pub IndependentWalksAreFew : Type 0

@@ -6,7 +6,7 @@ use Rattle.surf_graphs.specs.Trees.{Tree, IsTree}
 use Rattle.surf_surfaces.specs.Mesh.{Mesh}
 use Rattle.surf_surfaces.specs.Surface.{face_count, edge_count, IsSurface}
 use Rattle.surf_surfaces.specs.Walk.{IsClosedAt, walk_length, ArePositive}
-use Rattle.surf_surfaces.specs.Homology.{IsFullCount, IsLeastLoopSystem, IsLeastBasis}
+use Rattle.surf_surfaces.specs.Homology.{IsLoopCount, IsLeastLoopSystem, IsLeastBasis}
 use Rattle.surf_surfaces.specs.Cycle.{IsSimpleCycle, Separation, IsShortestNonseparating}
 use Rattle.surf_surfaces.specs.Places.{IsLeastLoopSystemInOrder, IsLeastBasisInOrder}
 use Rattle.surf_surfaces.specs.Cells.{cells_of}
@@ -77,7 +77,7 @@ CandidatesBelowTwo =
 -- Every simple cycle separates exactly where χ is 2.
 abbrev pub SimpleCyclesSeparate : Type 0
 SimpleCyclesSeparate = (mesh : Mesh) → IsSurface mesh →
-    ((walk : List ℕ) → IsSimpleCycle mesh walk → Separation mesh walk) ↔ IsFullCount mesh 0
+    ((walk : List ℕ) → IsSimpleCycle mesh walk → Separation mesh walk) ↔ IsLoopCount mesh 0
 
 -- The trees that are chosen exist at every base.
 abbrev pub ChoiceExists : Type 0

@@ -1,11 +1,11 @@
 -- What holds of simple cycles.
 use Rattle.std.specs.Prelude.{ℕ, ◌<◌, ◌≤◌, ◌↔◌, List}
-use Rattle.surf_graphs.specs.Cells.{primal, IsNull as IsNullChain}
+use Rattle.surf_graphs.specs.Cells.{primal, IsNullChain}
 use Rattle.surf_graphs.specs.Trees.{Tree, loop}
 use Rattle.surf_surfaces.specs.Mesh.{Mesh}
 use Rattle.surf_surfaces.specs.Surface.{edge_count, IsSurface}
 use Rattle.surf_surfaces.specs.Walk.{walk_length, ArePositive}
-use Rattle.surf_surfaces.specs.Homology.{IsNull, IsFullCount}
+use Rattle.surf_surfaces.specs.Homology.{IsNull, IsLoopCount}
 use Rattle.surf_surfaces.specs.Cycle.{IsSimpleCycle, Separation, IsNonseparating, IsShortestNonseparating}
 use Rattle.surf_surfaces.specs.Cells.{cells_of}
 use Rattle.surf_surfaces.specs.Class.{AreShortestTrees}
@@ -42,5 +42,5 @@ LeastLoopsAreShortestCycles =
 
 -- Where χ is 2, each simple cycle separates.
 abbrev pub CyclesSeparateOnSphere : Type 0
-CyclesSeparateOnSphere = (mesh : Mesh) → IsSurface mesh → IsFullCount mesh 0 → (walk : List ℕ) →
+CyclesSeparateOnSphere = (mesh : Mesh) → IsSurface mesh → IsLoopCount mesh 0 → (walk : List ℕ) →
     IsSimpleCycle mesh walk → Separation mesh walk

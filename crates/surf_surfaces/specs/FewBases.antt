@@ -11,7 +11,7 @@ use Rattle.surf_graphs.specs.Trees.{Tree, on_path}
 use Rattle.surf_surfaces.specs.Mesh.{Mesh}
 use Rattle.surf_surfaces.specs.Surface.{edge_count, ends, IsSurface}
 use Rattle.surf_surfaces.specs.Walk.{IsClosed, edge_number, ArePositive}
-use Rattle.surf_surfaces.specs.Homology.{IsNull, IsIndependent, IsFullCount}
+use Rattle.surf_surfaces.specs.Homology.{IsNull, IsIndependent, IsLoopCount}
 use Rattle.surf_surfaces.specs.Cells.{cells_of}
 use Rattle.surf_surfaces.specs.Class.{AreShortestTrees}
 use Rattle.surf_surfaces.specs.Loop.{loop_walk, loop_length}
@@ -370,5 +370,5 @@ abbrev pub ShortSearchesSuffice : Type 0
 ShortSearchesSuffice =
     (mesh : Mesh) (lengths : List ℕ) (trees : ℕ → Tree) (set : ℕ → Bool) (limit : Place) (found : List Found) →
     IsSurface mesh → ArePositive mesh lengths → AreShortestTrees mesh lengths trees →
-    IsIndependent mesh (walks_found found) → IsFullCount mesh (length found) → All (IsWithin limit) found →
+    IsIndependent mesh (walks_found found) → IsLoopCount mesh (length found) → All (IsWithin limit) found →
     AreEnoughOf mesh lengths trees (comes_sooner limit) set found → AreEnough mesh lengths trees set found

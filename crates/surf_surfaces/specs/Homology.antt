@@ -24,19 +24,19 @@ IsIndependent mesh walks = (choice : List Bool) →
     IsBoundary mesh (sum_of chains (map (parity mesh) (chosen choice walks))) → chosen choice walks ≡ []
 
 -- as many as 2 − χ
-abbrev pub IsFullCount : Mesh → ℕ → Type 0
-IsFullCount mesh n = n + mesh.vertices + face_count mesh ≡ edge_count mesh + 2
+abbrev pub IsLoopCount : Mesh → ℕ → Type 0
+IsLoopCount mesh n = n + mesh.vertices + face_count mesh ≡ edge_count mesh + 2
 
 -- a loop system at a vertex: as many independent closed walks that begin there as 2 − χ
 pub record IsLoopSystem (mesh : Mesh) (base : ℕ) (walks : List (List ℕ)) : Type 0 where
   pub at_base : All (IsClosedAt mesh base) walks
-  pub count : IsFullCount mesh (length walks)
+  pub count : IsLoopCount mesh (length walks)
   pub independent : IsIndependent mesh walks
 
 -- a basis: as many independent closed walks as 2 − χ
 pub record IsBasis (mesh : Mesh) (walks : List (List ℕ)) : Type 0 where
   pub closed : All (IsClosed mesh) walks
-  pub count : IsFullCount mesh (length walks)
+  pub count : IsLoopCount mesh (length walks)
   pub independent : IsIndependent mesh walks
 
 -- the sum of the lengths of the walks

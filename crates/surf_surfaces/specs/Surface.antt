@@ -1,4 +1,4 @@
--- Closed surfaces: where a mesh is one, and its turnings.
+-- Closed surfaces: where a mesh is one, and its orientations.
 use Rattle.std.specs.Prelude.{◌≡◌, ℕ, ◌+◌, ◌-◌, ◌<◌, ◌==◌, Bool, true, ◌||◌, not, if◌then◌else◌, List, [], ◌∷◌}
 use Rattle.std.specs.Prelude.{length, Contains, slice_index, slice_index_or}
 use Rattle.std.specs.List.{list_any}
@@ -92,15 +92,15 @@ abbrev pub runs_turned : (ℕ → Bool) → Mesh → ℕ → ℕ × ℕ → Bool
 runs_turned turned mesh f p = if turned f then runs (p.1, p.0) (face_at mesh f) else runs p (face_at mesh f)
 
 -- a flag for each face, by which the two faces of each edge run it in opposite ways
-abbrev pub IsTurning : Mesh → (ℕ → Bool) → Type 0
-IsTurning mesh turned =
+abbrev pub IsOrientation : Mesh → (ℕ → Bool) → Type 0
+IsOrientation mesh turned =
     (e : ℕ) → e < edge_count mesh →
     runs_turned turned mesh (faces_of mesh e).0 (ends mesh e)
     ≡ not (runs_turned turned mesh (faces_of mesh e).1 (ends mesh e))
 
 -- the surface has a turning
-abbrev pub IsTwoSided : Mesh → Type 0
-IsTwoSided mesh = (turned : ℕ → Bool) × IsTurning mesh turned
+abbrev pub IsOrientable : Mesh → Type 0
+IsOrientable mesh = (turned : ℕ → Bool) × IsOrientation mesh turned
 
 -- how many independent loops a surface has: two less its characteristic
 abbrev pub loop_count : Mesh → ℕ

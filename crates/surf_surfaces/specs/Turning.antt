@@ -2,7 +2,7 @@
 use Rattle.std.specs.Prelude.{◌≡◌, ◌≢◌, ℕ, ◌<◌, Bool, true, not, List, [], ◌∷◌, length}
 use Rattle.surf_z2.specs.Parity.{xor, odd}
 use Rattle.surf_surfaces.specs.Mesh.{Mesh, pair_of}
-use Rattle.surf_surfaces.specs.Surface.{face_at, runs, HasEdge, IsSurface, IsTwoSided}
+use Rattle.surf_surfaces.specs.Surface.{face_at, runs, HasEdge, IsSurface, IsOrientable}
 
 -- a face, and the ends of an edge that leads to the next one
 pub record Link : Type 0 where
@@ -40,6 +40,6 @@ pub record IsOneSided (mesh : Mesh) (links : List Link) : Type 0 where
   pub odd_number : odd (same_ways mesh links (next_face links 0)) ≡ true
 
 -- A one-sided chain excludes every turning.
-abbrev pub OneSidedChainsExcludeTurnings : Type 0
-OneSidedChainsExcludeTurnings = (mesh : Mesh) → IsSurface mesh → (links : List Link) → IsOneSided mesh links →
-    IsTwoSided mesh → ⊥
+abbrev pub OneSidedChainsExcludeOrientations : Type 0
+OneSidedChainsExcludeOrientations = (mesh : Mesh) → IsSurface mesh → (links : List Link) → IsOneSided mesh links →
+    IsOrientable mesh → ⊥

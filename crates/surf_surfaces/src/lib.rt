@@ -8,7 +8,7 @@
 //!
 //! Over these stand walks, their lengths and parities (Walk), boundaries, null walks, independent
 //! lists, loop systems, bases and what makes them least (Homology), simple cycles and which of them
-//! separate (Cycle), distances (Distance), discs and openings (Disc), and turnings and one-sided
+//! separate (Cycle), distances (Distance), discs and openings (Disc), and orientations and one-sided
 //! chains (Surface, Turning). None of these speaks of trees, signatures or an order of search.
 //!
 //! Where several answers are least, one is chosen: the tree of shortest walks with least parents
@@ -34,7 +34,7 @@
 //!   boundary, a sum of members that are no longer (`law_of_short_sums`);
 //! - its shortest is a shortest of all closed walks that are not null, and these are the shortest
 //!   nonseparating cycles (`law_of_shortest_walks`);
-//! - a one-sided chain excludes every turning (`law_of_turnings`).
+//! - a one-sided chain excludes every turning (`law_of_orientations`).
 //!
 //! Each law is the contract of a function that does nothing. `docs/definitions.md` has the
 //! definitions in prose.
@@ -52,11 +52,11 @@ ghost use Rattle.surf_surfaces.specs.Mesh.{Mesh, IsMesh, edges, characteristic, 
 ghost use Rattle.surf_surfaces.specs.SmallMeshes.{three_torus, three_torus_edges};
 ghost use Rattle.surf_surfaces.specs.SmallMeshes.{three_torus_lengths, six_plane, six_plane_edges};
 ghost use Rattle.surf_surfaces.specs.Walk.{parity, walk_length};
-ghost use Rattle.surf_surfaces.specs.Surface.{IsSurface, IsTwoSided, faces_of, faces_with};
+ghost use Rattle.surf_surfaces.specs.Surface.{IsSurface, IsOrientable, faces_of, faces_with};
 ghost use Rattle.surf_surfaces.specs.Fan.{FansAreWhole, ListedFacesAreFan};
 ghost use Rattle.surf_surfaces.specs.Side.{SidesAreByPlace, SidesArePlaced, CornersHaveNeighbours};
 ghost use Rattle.surf_surfaces.specs.Side.{SidesHaveMates};
-ghost use Rattle.surf_surfaces.specs.Turning.{OneSidedChainsExcludeTurnings};
+ghost use Rattle.surf_surfaces.specs.Turning.{OneSidedChainsExcludeOrientations};
 ghost use Rattle.surf_surfaces.specs.Cells.{SurfacesAreCells, BoundariesAreNull, WalksAreGraphWalks};
 ghost use Rattle.surf_surfaces.specs.Cells.{IndependenceIsThatOfChains, IndependentWalksAreFew};
 ghost use Rattle.surf_surfaces.specs.Class.{NullByClass, IndependentByClasses, LeftLoopsAreLeast};
@@ -75,7 +75,7 @@ ghost use Rattle.surf_surfaces.specs.FewBases.{PlacesAreThoseOfBasis, ChosenTree
 ghost use Rattle.surf_surfaces.specs.FewBases.{BasisIsKeptOver};
 ghost use Rattle.surf_surfaces.specs.FewBases.{BasisIsKeptOverFew, FirstIsAtLeastBase, LoopsGrowEnough};
 ghost use Rattle.surf_surfaces.specs.FewBases.{EnoughLoopsExist, EndsAreNear, NearTreesHaveLoops, ShortSearchesSuffice};
-ghost use Rattle.surf_surfaces.specs.Homology.{IsFullCount};
+ghost use Rattle.surf_surfaces.specs.Homology.{IsLoopCount};
 ghost use Rattle.surf_surfaces.specs.Places.{count_up_to, lengths_in_order};
 ghost use Rattle.surf_surfaces.specs.PlaceLaws.{NoLongerLaw, LoopSystemsAreLeastInOrder};
 ghost use Rattle.surf_surfaces.specs.PlaceLaws.{BasesAreLeastInOrder, LeastLoopSystemsAreAlike};
@@ -288,8 +288,8 @@ pub fn law_of_shortest_walks()
 /// Two triangles with the same corners are a two-sided surface.
 pub fn smallest_surface()
     ensures surface { IsSurface pillow }
-    ensures two_sided { IsTwoSided pillow }
-    ensures count { IsFullCount pillow 0 }
+    ensures two_sided { IsOrientable pillow }
+    ensures count { IsLoopCount pillow 0 }
 {}
 
 /// The edges of four small meshes, faces of an edge, characteristics, the length and the parity of
@@ -331,6 +331,6 @@ pub fn law_of_fans()
 {}
 
 /// A one-sided chain of faces excludes every turning.
-pub fn law_of_turnings()
-    ensures { OneSidedChainsExcludeTurnings }
+pub fn law_of_orientations()
+    ensures { OneSidedChainsExcludeOrientations }
 {}

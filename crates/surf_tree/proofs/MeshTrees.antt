@@ -1,6 +1,6 @@
 -- What is grown over the edges of a surface is its tree of shortest walks.
 use Rattle.std.proofs.Common.{◌≡◌, ◌≢◌, ℕ, ◌+◌, ◌*◌, ◌^◌, ◌<◌, ◌≤◌, true, List, [], ◌∷◌, refl, sym, ap, ◌∙◌, subst, arith, get_or, Contains, ne_eqb, eq-eqb}
-use Rattle.surf_graphs.specs.Graphs.{joins, IsWalk as IsGraphWalk, walk_length as graph_length}
+use Rattle.surf_graphs.specs.Graphs.{joins, IsGraphWalk, graph_walk_length}
 use Rattle.surf_graphs.specs.Cells.{primal}
 use Rattle.surf_graphs.proofs.Loops.{joins_turned}
 use Rattle.surf_surfaces.specs.Mesh.{Mesh, pair, edges}
@@ -59,7 +59,7 @@ module _ (mesh : Mesh) (lengths : List ℕ) (t : TreeTables) (surface : IsSurfac
           let walks = walks_are_graph_walks mesh surface in
           let g = primal (cells_of mesh) in
           let is : IsGraphWalk g a rest v = subst (IsGraphWalk g a rest) leads.ends (walks.walk a rest leads.is_walk) in
-          let size = walks.sizes lengths a rest leads.is_walk ∙ ap (λ b. graph_length g (edge_length lengths) b rest) leads.begins in
+          let size = walks.sizes lengths a rest leads.is_walk ∙ ap (λ b. graph_walk_length g (edge_length lengths) b rest) leads.begins in
           let bound = (grown.distances (surfaces_are_cells mesh surface).one_edge v l).1 rest (subst (λ b. IsGraphWalk g b rest v) leads.begins is) in
           omega (arith, bound, size)
 

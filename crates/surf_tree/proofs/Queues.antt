@@ -3,7 +3,7 @@ use Rattle.std.proofs.Common.{ℕ, suc, ◌<◌, ◌≤◌, ◌≡◌, ◌≢◌
 use Rattle.std.proofs.Math.ListN.{length-set}
 use Rattle.std.proofs.lemmas.Bool.{cases_eq}
 use Rattle.surf_z2.specs.Parity.{count_below}
-use Rattle.surf_graphs.specs.Graphs.{Graph, IsGraph, IsConnected, joins}
+use Rattle.surf_graphs.specs.Graphs.{Graph, IsGraph, IsConnectedGraph, joins}
 use Rattle.surf_graphs.proofs.Loops.{joins_turned}
 use Rattle.surf_lengths.specs.Lengths.{longest}
 use Rattle.surf_mesh.specs.Links.{link_at, IsRow}
@@ -309,7 +309,7 @@ module _ (g : Graph) (len : ℕ → ℕ) (size : ℕ) (small : g.nodes ≤ longe
     )
 
   -- once all nodes of the list have passed on
-  pub queue_ends : (dist order : List ℕ) (count base : ℕ) → IsGraph g → IsConnected g → base < g.nodes → IsQueue g len size dist order count count → at order 0 ≡ base → IsSettled g len base (at dist)
+  pub queue_ends : (dist order : List ℕ) (count base : ℕ) → IsGraph g → IsConnectedGraph g → base < g.nodes → IsQueue g len size dist order count count → at order 0 ≡ base → IsSettled g len base (at dist)
   queue_ends dist order count base graph connected base_in q first =
       let zero_there : at dist base ≡ 0 = ap (at dist) (sym first) ∙ q.at_first in
       let goes_on : (u w e : ℕ) → u < g.nodes → w < g.nodes → e < g.edges → joins g u w e ≡ true → at dist u ≢ far → (at dist w ≢ far) × (at dist w ≤ at dist u + len e) =

@@ -1,6 +1,6 @@
 -- Words on searches as they run: what waits, what is offered, and a tree as it grows.
 use Rattle.std.specs.Prelude.{ℕ, ◌≡◌, ◌≢◌, ◌<◌, ◌≤◌, ◌+◌, ◌*◌, ◌⊎◌, true, length, Some, false, List, slice_index, slice_index_or}
-use Rattle.surf_graphs.specs.Graphs.{Graph, joins, IsWalk, walk_length}
+use Rattle.surf_graphs.specs.Graphs.{Graph, joins, IsGraphWalk, graph_walk_length}
 use Rattle.surf_heap.specs.Entries.{Entries, entry_of}
 use Rattle.surf_lengths.specs.Lengths.{longest}
 use Rattle.surf_tree.specs.Searches.{far, HasKey, IsReached, IsLeastTight}
@@ -44,7 +44,7 @@ pub record IsOfferedSome (g : Graph) (len dist : ℕ → ℕ) (v d : ℕ) (old n
 -- d is the least length of a walk from the base to v, in a graph
 abbrev pub IsDistanceIn : Graph → (ℕ → ℕ) → ℕ → ℕ → ℕ → Type 0
 IsDistanceIn g len base v d =
-    ((w : List ℕ) × IsWalk g base w v × (walk_length g len base w ≡ d)) × ((w : List ℕ) → IsWalk g base w v → d ≤ walk_length g len base w)
+    ((w : List ℕ) × IsGraphWalk g base w v × (graph_walk_length g len base w ≡ d)) × ((w : List ℕ) → IsGraphWalk g base w v → d ≤ graph_walk_length g len base w)
 
 -- the tables are of the tree of shortest walks of a graph, with least parents
 pub record IsGrownIn (g : Graph) (len : ℕ → ℕ) (t : TreeTables) : Type 0 where

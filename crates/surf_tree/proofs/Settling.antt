@@ -1,6 +1,6 @@
 use Rattle.std.proofs.Common.{ℕ, suc, ◌<◌, ◌≤◌, ◌≡◌, ◌≢◌, ◌+◌, ◌*◌, sym, ap, ◌∙◌, arith, inl, inr, set, Option, Some, None, true, false, eqb, eq-eqb, ne_eqb, get_or-set_same, get_or-set_other}
 use Rattle.std.proofs.lemmas.Bool.{cases_eq, false≢true}
-use Rattle.surf_graphs.specs.Graphs.{Graph, IsGraph, IsConnected, leaves, joins}
+use Rattle.surf_graphs.specs.Graphs.{Graph, IsGraph, IsConnectedGraph, leaves, joins}
 use Rattle.surf_graphs.proofs.Loops.{joins_turned, joins_ends}
 use Rattle.surf_heap.specs.Entries.{Entries, entry_of, IsUpTo, IsLeastEntry, IsEmpty}
 use Rattle.surf_lengths.specs.Lengths.{longest}
@@ -29,7 +29,7 @@ least_next heap v k t least = record {
 }
 
 -- where neighbours of settled nodes are settled and one node is, all are
-module _ (g : Graph) (dist : ℕ → ℕ) (base : ℕ) (graph : IsGraph g) (connected : IsConnected g) (in_range : base < g.nodes) (first : dist base ≢ far)
+module _ (g : Graph) (dist : ℕ → ℕ) (base : ℕ) (graph : IsGraph g) (connected : IsConnectedGraph g) (in_range : base < g.nodes) (first : dist base ≢ far)
     (goes_on : (u w e : ℕ) → u < g.nodes → w < g.nodes → e < g.edges → joins g u w e ≡ true → dist u ≢ far → dist w ≢ far) where
   stays : (e : ℕ) → e < g.edges → leaves g (λ v. eqb (dist v) far) e ≡ false
   stays e le =
@@ -198,7 +198,7 @@ module _ (g : Graph) (len : ℕ → ℕ) (base : ℕ) (small : g.nodes ≤ longe
     base_first = inr (free base in_range, record { key = 0; tie = 0; entry = first; bound = omega arith });
   }
 
-  module _ (dist : ℕ → ℕ) (heap : Entries) (last left : ℕ) (s : IsSearch g len base dist heap last left) (graph : IsGraph g) (connected : IsConnected g) (in_range : base < g.nodes) (empty : IsEmpty heap) where
+  module _ (dist : ℕ → ℕ) (heap : Entries) (last left : ℕ) (s : IsSearch g len base dist heap last left) (graph : IsGraph g) (connected : IsConnectedGraph g) (in_range : base < g.nodes) (empty : IsEmpty heap) where
     base_zero : dist base ≡ 0
     base_zero = elim s.base_first [
       | inl is ↦ is

@@ -1,6 +1,6 @@
 -- A search from a base that settles the nearest node first, over any graph.
 use Rattle.std.specs.Prelude.{ℕ, ◌≡◌, ◌≢◌, ◌<◌, ◌≤◌, ◌+◌, ◌*◌, ◌⊎◌, true, length, Some}
-use Rattle.surf_graphs.specs.Graphs.{Graph, IsGraph, IsConnected, joins}
+use Rattle.surf_graphs.specs.Graphs.{Graph, IsGraph, IsConnectedGraph, joins}
 use Rattle.surf_heap.specs.Entries.{Entries, entry_of}
 use Rattle.surf_lengths.specs.Lengths.{longest}
 use Rattle.surf_base.specs.Tables.{nobody}
@@ -12,7 +12,7 @@ far = 18446744073709551615
 -- a connected graph with so few nodes and such short edges that all distances fit
 pub record IsSearchable (g : Graph) (len : ℕ → ℕ) : Type 0 where
   pub is_graph : IsGraph g
-  pub connected : IsConnected g
+  pub connected : IsConnectedGraph g
   pub few : g.nodes ≤ longest
   pub short : (e : ℕ) → len e ≤ longest
 

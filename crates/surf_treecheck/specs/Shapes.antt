@@ -1,7 +1,7 @@
 -- Which part of a certificate has a size or a base that doesn't fit the mesh.
 use Rattle.std.specs.Prelude.{◌≡◌, ℕ, ◌<◌, length}
 use Rattle.surf_surfaces.specs.Mesh.{Mesh}
-use Rattle.surf_surfaces.specs.Homology.{IsFullCount}
+use Rattle.surf_surfaces.specs.Homology.{IsLoopCount}
 use Rattle.surf_validity.specs.Rows.{LoopCert, BasisCert}
 use Rattle.surf_validity.specs.Bases.{tree_at}
 use Rattle.surf_treecheck.specs.First.{HoldsBelow}
@@ -16,9 +16,9 @@ abbrev pub IsShapeFault : Mesh → LoopCert → CertPart → Type 0
 IsShapeFault mesh cert Vertices = HasTreeRows mesh cert.tree → ⊥
 IsShapeFault mesh cert Faces = HasTreeRows mesh cert.tree × (HasDualRows mesh cert.dual → ⊥)
 IsShapeFault mesh cert Loops = HasTreeRows mesh cert.tree × HasDualRows mesh cert.dual
-    × (IsFullCount mesh (length cert.left) → ⊥)
+    × (IsLoopCount mesh (length cert.left) → ⊥)
 IsShapeFault mesh cert Base = HasTreeRows mesh cert.tree × HasDualRows mesh cert.dual
-    × IsFullCount mesh (length cert.left) × (cert.tree.base < mesh.vertices → ⊥)
+    × IsLoopCount mesh (length cert.left) × (cert.tree.base < mesh.vertices → ⊥)
 
 -- ---- bases
 
@@ -29,8 +29,8 @@ pub record HasTrees (mesh : Mesh) (cert : BasisCert) : Type 0 where
 
 -- there are as many left pairs, and as many cycles, as two less the characteristic
 pub record HasCounts (mesh : Mesh) (cert : BasisCert) : Type 0 where
-  pub left : IsFullCount mesh (length cert.left)
-  pub cycles : IsFullCount mesh (length cert.cycles)
+  pub left : IsLoopCount mesh (length cert.left)
+  pub cycles : IsLoopCount mesh (length cert.cycles)
 
 -- the base of the tree at a place is the place
 abbrev pub HasBase : BasisCert → ℕ → Type 0

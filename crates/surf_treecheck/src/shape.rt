@@ -1,6 +1,6 @@
 //! Whether the parts of a certificate have the sizes that the mesh asks for.
 ghost use Rattle.std.specs.Prelude.{◌≡◌, ◌<◌, MatchOption, length};
-ghost use Rattle.surf_surfaces.specs.Homology.{IsFullCount};
+ghost use Rattle.surf_surfaces.specs.Homology.{IsLoopCount};
 ghost use Rattle.surf_validity.specs.Bases.{tree_at, HasBasisShape};
 ghost use Rattle.surf_validity.specs.Valid.{HasShape};
 ghost use Rattle.surf_treecheck.specs.First.{HoldsBelow, Tells};
@@ -30,7 +30,7 @@ pub(crate) fn fits_faces(mesh: &HalfMesh, dual: &DualRows) -> bool
 
 /// Whether a number is two less the characteristic.
 pub(crate) fn is_full_count(mesh: &HalfMesh, count: usize) -> bool
-    ensures full { Tells result (IsFullCount mesh.now count) }
+    ensures full { Tells result (IsLoopCount mesh.now count) }
 {
     let most = u128::from(mesh.edges()) + 2;
     count as u128 + u128::from(mesh.vertices()) + u128::from(mesh.faces()) == most

@@ -10,7 +10,7 @@ use Rattle.surf_z2.specs.Parity.{xor}
 use Rattle.surf_z2.proofs.ParityLaws.{any_below-same}
 use Rattle.surf_graphs.specs.Cells.{primal}
 use Rattle.surf_graphs.specs.Growth.{between}
-use Rattle.surf_graphs.specs.Trees.{Tree, IsTree, IsShortest, on_way, on_path, loop, loop_length}
+use Rattle.surf_graphs.specs.Trees.{Tree, IsTree, IsShortest, on_way, on_path, loop, graph_loop_length}
 use Rattle.surf_graphs.proofs.Counting.{left_edges as left_count}
 use Rattle.surf_surfaces.specs.Mesh.{Mesh, pair, pair_of, pair_eq, edges}
 use Rattle.surf_surfaces.specs.Surface.{face_count, edge_count, face_at, ends, faces_of, has_side, IsSurface}
@@ -311,7 +311,7 @@ module _ (mesh : Mesh) (lengths : List ℕ) (base : ℕ) (trees : Trees) (surfac
 
   pub size_is : (e : ℕ) → e < edge_count mesh →
       loop_size mesh lengths (chosen_cert mesh trees).tree e
-      ≡ loop_length (primal (cells_of mesh)) (edge_length lengths) trees.tree e
+      ≡ graph_loop_length (primal (cells_of mesh)) (edge_length lengths) trees.tree e
   size_is e l =
       let inside = (surfaces_are_cells mesh surface).complex.primal_ends e l in
       rw (distance_is (ends mesh e).0 inside.0, distance_is (ends mesh e).1 inside.1) refl
@@ -327,7 +327,7 @@ module _ (mesh : Mesh) (lengths : List ℕ) (base : ℕ) (trees : Trees) (surfac
       let there : between cotree near far c ≡ true =
       ap (λ b. xor b (on_path cotree far c)) (sym (path_is near c faces.0))
       ∙ ap (xor (on_path (dual_tree mesh cert.dual) near c)) (sym (path_is far c faces.1)) ∙ on in
-      let bound = precedes_below (loop_length (primal (cells_of mesh)) (edge_length lengths) tree) l c
+      let bound = precedes_below (graph_loop_length (primal (cells_of mesh)) (edge_length lengths) tree) l c
       (chosen.heaviest.heaviest l c l_in (sym (same_left l l_in) ∙ listed) there) in
       let one = size_is l l_in in
       let other = size_is c c_in in

@@ -9,7 +9,7 @@ use Rattle.surf_graphs.proofs.Counting.{left_edges as left_count}
 use Rattle.surf_surfaces.specs.Mesh.{Mesh, pair_of, pair_eq, edges}
 use Rattle.surf_surfaces.specs.Surface.{edge_count, ends}
 use Rattle.surf_surfaces.specs.Walk.{edge_number, place_of}
-use Rattle.surf_surfaces.specs.Homology.{IsFullCount}
+use Rattle.surf_surfaces.specs.Homology.{IsLoopCount}
 use Rattle.surf_surfaces.specs.Cells.{cells_of}
 use Rattle.surf_surfaces.specs.Cotree.{tree_edges, cotree_edges, is_left, left_edges, split_of}
 use Rattle.surf_surfaces.proofs.PairLaws.{pair_eq-true}
@@ -85,7 +85,7 @@ module _ (mesh : Mesh) (tree cotree : Tree) (left : List (ℕ × ℕ)) (apart : 
 
   -- the numbers of the listed pairs are the edges in neither tree
   pub listed_permute : IsTree (primal (cells_of mesh)) tree → IsTree (dual (cells_of mesh)) cotree →
-      IsFullCount mesh (length left) →
+      IsLoopCount mesh (length left) →
       IsPermutation (left_edges mesh tree cotree) (map (edge_number mesh) left)
   listed_permute is_tree is_cotree count =
       let split = is_split is_tree is_cotree in

@@ -5,7 +5,7 @@ use Rattle.surf_graphs.specs.Cells.{Split}
 use Rattle.surf_surfaces.specs.Mesh.{Mesh, pair_of, edges, steps}
 use Rattle.surf_surfaces.specs.Surface.{face_count, edge_count}
 use Rattle.surf_surfaces.specs.Walk.{first, last, walk_length}
-use Rattle.surf_surfaces.specs.Homology.{IsFullCount}
+use Rattle.surf_surfaces.specs.Homology.{IsLoopCount}
 use Rattle.surf_surfaces.specs.Loop.{loop_walk}
 use Rattle.surf_surfaces.specs.Cotree.{split_of}
 use Rattle.surf_surfaces.specs.Signature.{walk_signature}
@@ -63,8 +63,8 @@ pub record HasBasisShape (mesh : Mesh) (cert : BasisCert) : Type 0 where
   pub parents : (x : ℕ) → x < mesh.vertices → length (tree_at cert x).parent ≡ mesh.vertices
   pub depths : length cert.dual.depth ≡ face_count mesh
   pub sides : length cert.dual.side ≡ face_count mesh
-  pub loops : IsFullCount mesh (length cert.left)
-  pub cycles : IsFullCount mesh (length cert.cycles)
+  pub loops : IsLoopCount mesh (length cert.left)
+  pub cycles : IsLoopCount mesh (length cert.cycles)
   pub bases : (x : ℕ) → x < mesh.vertices → (tree_at cert x).base ≡ x
 
 -- a certificate of a basis is valid

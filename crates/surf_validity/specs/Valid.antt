@@ -8,7 +8,7 @@ use Rattle.surf_graphs.specs.Trees.{Tree}
 use Rattle.surf_surfaces.specs.Mesh.{Mesh, pair, pair_of, pair_eq, edges}
 use Rattle.surf_surfaces.specs.Surface.{face_count, edge_count, face_at, ends, has_side, faces_of}
 use Rattle.surf_surfaces.specs.Walk.{edge_length, edge_number}
-use Rattle.surf_surfaces.specs.Homology.{IsFullCount}
+use Rattle.surf_surfaces.specs.Homology.{IsLoopCount}
 use Rattle.surf_surfaces.specs.Loop.{loop_walk}
 use Rattle.surf_validity.specs.Rows.{TreeRows, DualRows, LoopCert}
 
@@ -155,7 +155,7 @@ pub record HasShape (mesh : Mesh) (cert : LoopCert) : Type 0 where
   pub parents : length cert.tree.parent ≡ mesh.vertices
   pub depths : length cert.dual.depth ≡ face_count mesh
   pub sides : length cert.dual.side ≡ face_count mesh
-  pub loops : IsFullCount mesh (length cert.left)
+  pub loops : IsLoopCount mesh (length cert.left)
   pub base : cert.tree.base < mesh.vertices
 
 -- a certificate of loops is valid

@@ -1,6 +1,6 @@
 use Rattle.std.proofs.Common.{◌/◌, arith}
 use Rattle.std.proofs.lemmas.Grind.{common_steps}
-use Rattle.surf_turnings.proofs.GenusLaws.{genus_is_full_count}
+use Rattle.surf_orientation.proofs.GenusLaws.{genus_is_full_count}
 use Rattle.surf_answers.specs.Info.{HasGenus}
 use Rattle.surf_answers.proofs.Saying.{ends_as}
 use Rattle.surf_answers.proofs.info.two_sided_kind.Goals as goal

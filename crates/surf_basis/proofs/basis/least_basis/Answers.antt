@@ -1,7 +1,7 @@
 use Rattle.std.proofs.Common.{◌∙◌, ap, subst}
 use Rattle.std.specs.Prelude.{IfSome}
 use Rattle.std.proofs.lemmas.Result.{IfOk-weaker}
-use Rattle.surf_surfaces.specs.Homology.{IsFullCount}
+use Rattle.surf_surfaces.specs.Homology.{IsLoopCount}
 use Rattle.surf_surfaces.specs.ChoiceLaws.{LeastSimpleBasis}
 use Rattle.surf_lengths.proofs.Positive.{lengths_positive}
 use Rattle.surf_cotree.specs.Tables.{CotreeTables}
@@ -18,7 +18,7 @@ returns-then-count-eq0-clause-chosen c =
     let positive = lengths_positive mesh lengths c.law_of_lengths.ensures.lengths c.requires.lengths in
     let left = c.left-count.ensures.left ∙ ap (λ (t : CotreeTables). t.left) c.cotree.ensures.cotree in
     let full = left_count mesh c.in_ok-desk.desk.cotree c.left-count.result.now c.in_ok-desk.ensures.full left in
-    none_basis mesh lengths c.law_of_surface.ensures.surface positive c.new.result.items c.new.ensures.items (subst (IsFullCount mesh) c.if-count-eq0.true full)
+    none_basis mesh lengths c.law_of_surface.ensures.surface positive c.new.result.items c.new.ensures.items (subst (IsLoopCount mesh) c.if-count-eq0.true full)
 
 pub returns-then-count-eq0-clause-least : goal.returns-then-count-eq0-clause-least
 returns-then-count-eq0-clause-least c =

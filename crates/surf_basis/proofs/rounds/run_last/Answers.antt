@@ -1,5 +1,5 @@
 use Rattle.std.proofs.Common.{◌<◌, All, sym, subst, arith}
-use Rattle.surf_surfaces.specs.Homology.{IsFullCount}
+use Rattle.surf_surfaces.specs.Homology.{IsLoopCount}
 use Rattle.surf_basis.specs.Found.{SurfaceTables}
 use Rattle.surf_basis.specs.Kept.{HavePlacesOfBasis}
 use Rattle.surf_basis.specs.Rounds.{AreCapped}
@@ -30,8 +30,8 @@ returns-clause-places c =
     capped_more mesh c.law_of_surface.ensures.surface s old.kept 18446744073709551615 c.args.caps.now reached c.requires.caps
     c.in_ok-search_rising.ensures.each c.requires.capped in
     let capped = subst (λ (g : SurfaceTables). AreCapped g.mesh g.signs old.kept 18446744073709551615 reached) (sym c.requires.finder) here in
-    let full = subst (λ (g : SurfaceTables). IsFullCount g.mesh new.width) (sym c.requires.finder)
-    (subst (IsFullCount mesh) (sym c.search_rising.ensures.width) c.requires.full) in
+    let full = subst (λ (g : SurfaceTables). IsLoopCount g.mesh new.width) (sym c.requires.finder)
+    (subst (IsLoopCount mesh) (sym c.search_rising.ensures.width) c.requires.full) in
     subst (λ (g : SurfaceTables). HavePlacesOfBasis g.mesh g.lengths new.kept) c.requires.finder
     (round_places f c.law_of_finder.ensures.surface c.law_of_finder.ensures.positive old.width signed reached new
     c.in_ok-search_rising.ensures.kept old c.args.reached.now 18446744073709551615 c.requires.kept capped (omega arith)

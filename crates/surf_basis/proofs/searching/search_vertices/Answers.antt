@@ -1,5 +1,5 @@
 use Rattle.std.proofs.Common.{sym, subst}
-use Rattle.surf_surfaces.specs.Homology.{IsFullCount}
+use Rattle.surf_surfaces.specs.Homology.{IsLoopCount}
 use Rattle.surf_lengths.proofs.Positive.{lengths_positive}
 use Rattle.surf_basis.specs.Found.{SurfaceTables, AreKeptFrom}
 use Rattle.surf_basis.proofs.Looped.{signs_long}
@@ -31,6 +31,6 @@ returns-clause-places c =
     let kept : AreKeptFrom mesh lengths s c.args.vertices.now choice =
     subst (λ (f : SurfaceTables). AreKeptFrom f.mesh f.lengths f.signs c.args.vertices.now choice) c.requires.finder
     c.in_ok-keep_found.ensures.kept in
-    let full : IsFullCount mesh choice.width = subst (IsFullCount mesh) (sym c.keep_found.ensures.width) c.requires.full in
+    let full : IsLoopCount mesh choice.width = subst (IsLoopCount mesh) (sym c.keep_found.ensures.width) c.requires.full in
     places_enough mesh lengths c.law_of_surface.ensures.surface positive s c.args.choice.now.width c.requires.signed c.args.vertices.now choice c.requires.met kept
     c.law_of_choice.ensures.few full

@@ -1,5 +1,5 @@
 use Rattle.std.proofs.Common.{◌<◌, length, refl, sym, ap, subst}
-use Rattle.surf_surfaces.specs.Homology.{IsFullCount}
+use Rattle.surf_surfaces.specs.Homology.{IsLoopCount}
 use Rattle.surf_surfaces.proofs.ClassLaws.{some_vertex}
 use Rattle.surf_loops.specs.Loops.{LoopTables}
 use Rattle.surf_basis.proofs.OnCut.{desk_divided}
@@ -20,7 +20,7 @@ pub returns-clause-full : goal.returns-clause-full
 returns-clause-full c =
     let t = c.greedy.new.self in
     let many = ap (λ (x : LoopTables). length x.cotree.left) c.sign.ensures.rest in
-    subst (IsFullCount c.args.mesh.now) (sym many)
+    subst (IsLoopCount c.args.mesh.now) (sym many)
     (left_full c.args.mesh.now c.args.lengths.now c.new.result t t.cotree t.cotree.left c.greedy.ensures.greedy refl refl)
 
 pub returns-clause-divided : goal.returns-clause-divided

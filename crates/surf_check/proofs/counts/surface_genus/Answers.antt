@@ -1,6 +1,6 @@
 use Rattle.std.proofs.Common.{◌≡◌, ◌+◌, ◌-◌, ◌*◌, ◌/◌, ap, ◌∙◌, arith, pos}
-use Rattle.surf_turnings.specs.Statements.{genus_of}
-use Rattle.surf_turnings.proofs.GenusLaws.{counts_are_at_most_two_more, genus_is_half}
+use Rattle.surf_orientation.specs.Statements.{genus_of}
+use Rattle.surf_orientation.proofs.GenusLaws.{counts_are_at_most_two_more, genus_is_half}
 use Rattle.surf_check.specs.Growth.{flag_of}
 use Rattle.surf_check.proofs.counts.surface_genus.Goals as goal
 

@@ -2,8 +2,8 @@ use Rattle.std.proofs.Common.{◌≡◌, ◌≢◌, ◌++◌, ◌∷◌, [], ℕ
 use Rattle.std.proofs.lemmas.List.{reverse-append, get_or_read}
 use Rattle.surf_surfaces.specs.Surface.{ends}
 use Rattle.surf_surfaces.specs.Turning.{Link}
-use Rattle.surf_turnings.specs.Chains.{links_down}
-use Rattle.surf_turnings.proofs.OneSidedLaws.{tree_chains_go_by_step}
+use Rattle.surf_orientation.specs.Chains.{links_down}
+use Rattle.surf_orientation.proofs.OneSidedLaws.{tree_chains_go_by_step}
 use Rattle.surf_check.specs.Links.{link_of}
 use Rattle.surf_check.specs.Oriented.{tree_in}
 use Rattle.surf_check.proofs.orienting.descend.Goals as goal

@@ -1,6 +1,6 @@
 use Rattle.std.proofs.Common.{ℕ, ◌≡◌, ◌<◌, false}
 use Rattle.surf_surfaces.specs.SideNumber.{IsEdgeOf}
-use Rattle.surf_turnings.specs.Chains.{misfit}
+use Rattle.surf_orientation.specs.Chains.{misfit}
 use Rattle.surf_check.specs.Growth.{flag_of}
 use Rattle.surf_check.proofs.orienting.first_misfit.Given as goal
 

@@ -1,9 +1,9 @@
 use Rattle.std.proofs.Common.{◌≡◌, List, Bool, length, sym, subst}
-use Rattle.surf_surfaces.specs.Surface.{face_count, IsTurning, IsTwoSided}
+use Rattle.surf_surfaces.specs.Surface.{face_count, IsOrientation, IsOrientable}
 use Rattle.surf_surfaces.specs.Turning.{Link, IsOneSided}
-use Rattle.surf_surfaces.proofs.TurningLaws.{one_sided_chains_exclude_turnings}
-use Rattle.surf_turnings.specs.Chains.{Fits, tree_chain}
-use Rattle.surf_turnings.proofs.OneSidedLaws.{misfits_are_one_sided}
+use Rattle.surf_surfaces.proofs.OrientationLaws.{one_sided_chains_exclude_orientations}
+use Rattle.surf_orientation.specs.Chains.{Fits, tree_chain}
+use Rattle.surf_orientation.proofs.OneSidedLaws.{misfits_are_one_sided}
 use Rattle.surf_check.specs.Growth.{flag_of}
 use Rattle.surf_check.specs.Oriented.{tree_in}
 use Rattle.surf_check.proofs.orienting.orient_by_tree.Goals as goal
@@ -11,8 +11,8 @@ use Rattle.surf_check.proofs.orienting.orient_by_tree.Goals as goal
 pub returns-in-None : goal.returns-in-None
 returns-in-None c =
     let mesh = c.args.mesh.now in
-    let P : List Bool → Type 0 = λ xs. (length xs ≡ face_count mesh) × IsTurning mesh (flag_of xs) in
-    let Q : List Bool → Type 0 = λ xs. IsTurning mesh (flag_of xs) in
+    let P : List Bool → Type 0 = λ xs. (length xs ≡ face_count mesh) × IsOrientation mesh (flag_of xs) in
+    let Q : List Bool → Type 0 = λ xs. IsOrientation mesh (flag_of xs) in
     subst P (sym c.from_flags.ensures) (
       c.in_ok-tree.ensures.flag_count,
       subst Q c.deref.ensures.value c.in-None.ensures,
@@ -29,8 +29,8 @@ returns-in_ok-close-in-Some c =
     let N : List Bool → Type 0 = λ xs. Fits mesh (flag_of xs) e → ⊥ in
     let one = misfits_are_one_sided mesh t (flag_of tree.flags.items) surface is.is_tree is.follows e
     c.in-Some.ensures.0 (subst N c.deref.ensures.value c.in-Some.ensures.1) in
-    let P : List Link → Type 0 = λ links. IsOneSided mesh links × (IsTwoSided mesh → ⊥) in
+    let P : List Link → Type 0 = λ links. IsOneSided mesh links × (IsOrientable mesh → ⊥) in
     subst P (sym c.in_ok-close-in-Some.ensures) (
       one,
-      one_sided_chains_exclude_turnings mesh surface (tree_chain mesh t e) one,
+      one_sided_chains_exclude_orientations mesh surface (tree_chain mesh t e) one,
     )

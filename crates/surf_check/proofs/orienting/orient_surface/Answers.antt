@@ -1,7 +1,7 @@
 use Rattle.std.proofs.Common.{◌≡◌, List, Bool, false, length, sym, subst}
 use Rattle.std.proofs.Math.ListN.{length-replicate}
 use Rattle.std.specs.Prelude.{replicate}
-use Rattle.surf_surfaces.specs.Surface.{face_count, IsTurning}
+use Rattle.surf_surfaces.specs.Surface.{face_count, IsOrientation}
 use Rattle.surf_check.specs.Growth.{flag_of}
 use Rattle.surf_check.proofs.orienting.orient_surface.Goals as goal
 
@@ -9,7 +9,7 @@ pub returns-in-Some : goal.returns-in-Some
 returns-in-Some c =
     let mesh = c.args.mesh.now in
     let plain = replicate (face_count mesh) false in
-    let told : (c.in-Some.turning ≡ plain) × IsTurning mesh (flag_of plain) =
+    let told : (c.in-Some.turning ≡ plain) × IsOrientation mesh (flag_of plain) =
     rw c.in-Some.is at c.in_ok-turning.ensures in
-    let P : List Bool → Type 0 = λ xs. (length xs ≡ face_count mesh) × IsTurning mesh (flag_of xs) in
+    let P : List Bool → Type 0 = λ xs. (length xs ≡ face_count mesh) × IsOrientation mesh (flag_of xs) in
     subst P (sym told.0) (length-replicate (face_count mesh) false, told.1)

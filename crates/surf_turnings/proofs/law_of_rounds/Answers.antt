@@ -1,5 +1,0 @@
-use Rattle.surf_turnings.proofs.NameLaws.{named_rounds_are_even}
-use Rattle.surf_turnings.proofs.law_of_rounds.Goals as goal
-
-pub returns : goal.returns
-returns c = named_rounds_are_even
