@@ -3,7 +3,7 @@
 
     survey_meshes.py [--root DIR] [--program SURF] [--files] [PACKAGE ..]
 
-Without packages the eight of the table in docs/survey.md are taken. They are installed, or with --root unpacked:
+Without packages the eight that docs/survey.md names are taken. They are installed, or with --root unpacked:
 DIR/PACKAGE has what `dpkg-deb -x` makes of it. Each file that ends in .off, .obj, .ply or .stl, or one of these
 and .gz, is tried once, whatever its copies are called, and so are those in .tar.gz archives. It is in where
 `to_off.py --close` ends with status 0 and its mesh is a surface, by SURF (`info`) or without it by a test of this
