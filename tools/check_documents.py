@@ -19,9 +19,15 @@ MADE = {"docs/laws.md"}
 
 
 def documents(top):
+    """The text of each document, by its name."""
     pages = [top / name for name in ("README.md", "CHANGELOG.md", "CONTRIBUTING.md")]
     pages += sorted((top / "docs").rglob("*.md"))
-    return [path for path in pages if path.exists() and str(path.relative_to(top)) not in MADE]
+    texts = {str(path.relative_to(top)): path.read_text(encoding="utf-8") for path in pages if path.exists()}
+    return {name: text for name, text in texts.items() if name not in MADE}
+
+
+def words_of(texts):
+    return {name: len(text.split()) for name, text in texts.items()}
 
 
 def long_lines(text):
@@ -34,21 +40,25 @@ def long_lines(text):
             yield number
 
 
-def main():
-    counts = {path: len(path.read_text(encoding="utf-8").split()) for path in documents(TOP)}
-    faults = 0
-    for path, count in counts.items():
-        name = path.relative_to(TOP)
-        if "--list" in sys.argv[1:]:
-            print(f"{count:6} {name}")
-        for number in long_lines(path.read_text(encoding="utf-8")):
-            print(f"{name}:{number}: longer than {MOST_COLUMNS} columns")
-            faults += 1
-    total = sum(counts.values())
+def faults_of(texts):
+    for name, text in texts.items():
+        for number in long_lines(text):
+            yield f"{name}:{number}: longer than {MOST_COLUMNS} columns"
+    total = sum(words_of(texts).values())
     if total > MOST_WORDS:
-        print(f"the documents have {total} words, and {MOST_WORDS} are allowed")
-        faults += 1
-    print(f"{total} words in {len(counts)} documents, {faults} faults")
+        yield f"the documents have {total} words, and {MOST_WORDS} are allowed"
+
+
+def main():
+    texts = documents(TOP)
+    counts = words_of(texts)
+    if "--list" in sys.argv[1:]:
+        for name, count in counts.items():
+            print(f"{count:6} {name}")
+    faults = list(faults_of(texts))
+    for fault in faults:
+        print(fault)
+    print(f"{sum(counts.values())} words in {len(counts)} documents, {len(faults)} faults")
     return 1 if faults else 0
 
 

@@ -13,7 +13,8 @@ Each block that is fenced by ``` says what it is by the word behind the fence:
     sh                commands that aren't run here, such as those of the toolchain
     text, and others  no commands
 
-A block with a command that says neither `console` nor `sh` is an error, and so is a link to a file that isn't there.
+A block with a command that says neither `console` nor `sh` is an error. A link to a file or a heading that isn't there
+is another.
 All sessions of one document run in one folder, with copies of the meshes and tools of the repository.
 """
 
@@ -75,10 +76,23 @@ def blocks(text):
             words = None
 
 
+def headings(text):
+    """The headings of a page, as they stand in an address."""
+    prose = re.sub(r"^```.*?^```", "", text, flags=re.M | re.S)
+    found = re.findall(r"^#+ (.*)$", prose, re.M)
+    return {re.sub(r"[^\w -]", "", heading).lower().replace(" ", "-") for heading in found}
+
+
+def leads_nowhere(link, path):
+    name, _, heading = link.partition("#")
+    page = path.parent / name if name else path
+    return not page.exists() or (heading and heading not in headings(page.read_text()))
+
+
 def dead_links(path, text):
-    """The links to files of the repository that aren't there."""
-    found = re.findall(r"\]\(([^)#:]+)(?:#[^)]*)?\)", text) + re.findall(r"^\[[^\]]+\]: (\S+)", text, re.M)
-    return [link for link in found if not link.startswith("http") and not (path.parent / link).exists()]
+    """The links to files of the repository, or to headings of pages, that aren't there."""
+    found = re.findall(r"\]\(([^):]+)\)", text) + re.findall(r"^\[[^\]]+\]: (\S+)", text, re.M)
+    return [link for link in found if not link.startswith("http") and leads_nowhere(link, path)]
 
 
 def matches(shown, printed):
@@ -112,7 +126,7 @@ def check(path, program, counts):
     text, name = path.read_text(), path.relative_to(TOP)
     for link in dead_links(path, text):
         counts.faults += 1
-        print(f"{name}: the link {link} leads to no file")
+        print(f"{name}: the link {link} leads nowhere")
     with tempfile.TemporaryDirectory() as room:
         for folder in ("meshes", "tools", "docs"):
             shutil.copytree(TOP / folder, f"{room}/{folder}")

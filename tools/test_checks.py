@@ -10,6 +10,7 @@ sys.path.insert(0, str(pathlib.Path(__file__).resolve().parent))
 sys.dont_write_bytecode = True
 
 import check_bases  # noqa: E402
+import check_documents  # noqa: E402
 import check_sessions  # noqa: E402
 import check_walks  # noqa: E402
 import crate_graph  # noqa: E402
@@ -95,6 +96,28 @@ class Laws(unittest.TestCase):
         self.assertEqual(len(self.page_of("-- Apart.\n\nabbrev pub IsRed : Type 0\n")[1]), 1)
 
 
+class Documents(unittest.TestCase):
+    def faults(self, text, name="docs/page.md"):
+        with tempfile.TemporaryDirectory() as room:
+            path = pathlib.Path(room) / name
+            path.parent.mkdir(parents=True, exist_ok=True)
+            path.write_text(text)
+            return list(check_documents.faults_of(check_documents.documents(pathlib.Path(room))))
+
+    def test_one_word_too_many(self):
+        most = "word\n" * 26_000
+        for name in ("README.md", "docs/page.md", "docs/decisions/page.md"):
+            self.assertEqual(self.faults(most, name), [])
+            self.assertEqual(self.faults(f"{most}more\n", name), ["the documents have 26001 words, and 26000 are allowed"])
+        self.assertEqual(self.faults(f"{most}more\n", "docs/laws.md"), [])
+
+    def test_a_line_too_long(self):
+        self.assertEqual(self.faults(f"# A\n\n{'x' * 118}\n"), [])
+        self.assertEqual(self.faults(f"# A\n\n{'x' * 119}\n"), ["docs/page.md:3: longer than 118 columns"])
+        self.assertEqual(self.faults(f"| {'x' * 119} |\n```text\n{'x' * 119}\n```\n"), [])
+        self.assertEqual(len(self.faults(f"```text\nx\n```\n{'x' * 119}\n")), 1)
+
+
 class Sessions(unittest.TestCase):
     def test_blocks(self):
         text = "```console tool\n$ a\n> b\nout\n..\n$ c\n```\n```\nx\n```\n```text\n$ d\n```\n"
@@ -103,6 +126,18 @@ class Sessions(unittest.TestCase):
         self.assertEqual((session.words, session.number, session.fault()), (["console", "tool"], 1, None))
         self.assertIn("doesn't say", bare.fault())
         self.assertIn("isn't a session", commands.fault())
+
+    def test_links_and_their_places(self):
+        with tempfile.TemporaryDirectory() as room:
+            page = pathlib.Path(room) / "page.md"
+            (page.parent / "other.md").write_text("# A `b`, c\n\n```sh\n# none\n```\n## Next one\n")
+            page.write_text("# Here\n")
+            live = "[x](other.md) [x](other.md#a-b-c) [x](#here) [x](other.md#next-one)\n[y]: other.md\n"
+            self.assertEqual(check_sessions.dead_links(page, live), [])
+            dead = "[x](none.md) [x](other.md#none) [x](#there)\n[y]: gone.png\n"
+            self.assertEqual(
+                check_sessions.dead_links(page, dead), ["none.md", "other.md#none", "#there", "gone.png"]
+            )
 
     def test_lines_that_are_left_out(self):
         self.assertTrue(check_sessions.matches(["a", "..", "d"], ["a", "b", "c", "d"]))
