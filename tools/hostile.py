@@ -26,6 +26,8 @@ import sys
 import tempfile
 import time
 
+from commands import rows_on_meshes, rows_without_files
+
 TOP = pathlib.Path(__file__).resolve().parent.parent
 PAGE = TOP / "docs" / "reliability.md"
 BEGIN, END = "## Counts\n\n", "\n## "
@@ -52,10 +54,10 @@ LINES = {
 
 
 class Command:
-    """Words with places for files: M, L, C, W, V and P are replaced by the names of files of that kind."""
+    """Words with places for files: those of `SAMPLES` are replaced by the names of files of that kind."""
 
-    def __init__(self, name, *words):
-        self.name, self.words = name, words
+    def __init__(self, *words):
+        self.name, self.words = " ".join(words), words
 
     def kinds(self):
         return [word for word in self.words if word in SAMPLES]
@@ -64,34 +66,18 @@ class Command:
         return [str(files.get(word, word)) for word in self.words]
 
 
-COMMANDS = [
-    Command("info", "info", "M"),
-    Command("dist", "dist", "M", "L", "0"),
-    Command("loops", "loops", "M", "L", "0"),
-    Command("basis", "basis", "M", "L"),
-    Command("cycle", "cycle", "M", "L"),
-    Command("cut full", "cut", "M", "L", "0", "full"),
-    Command("cut trim", "cut", "M", "L", "0", "trim"),
-    Command("cut through", "cut", "M", "L", "0", "through", "P"),
-    Command("disc", "disc", "M"),
-    Command("certify at a base", "certify", "M", "L", "0"),
-    Command("certify a basis", "certify", "M", "L"),
-    Command("check of loops", "check", "M", "L", "C"),
-    Command("check of a basis", "check", "M", "L", "B"),
-    Command("lengths", "lengths", "M", "3"),
-    Command("class", "class", "M", "W"),
-    Command("same", "same", "M", "W", "V"),
-    Command("confirm", "confirm", "M", "W", "E"),
-    Command("shortest", "shortest", "M", "L", "W"),
-    Command("sew", "sew", "O"),
-]
-MAKERS = [
-    Command("gen", "gen", "torus", "3", "4"),
-    Command("try", "try", "torus", "3", "4", "5"),
-    Command("help", "--help"),
-]
+def command_of(words):
+    """A row of the command table, with files that the command accepts."""
+    files = OTHER_FILES.get(words[0], {})
+    return Command(*(files.get(word, word) for word in words))
+
+
+# The files of a command where they aren't what others have for these letters.
+OTHER_FILES = {"sew": {"M": "O"}, "confirm": {"C": "E"}}
+COMMANDS = [command_of(words) for words in rows_on_meshes()] + [Command("check", "M", "L", "B")]
+MAKERS = [Command(*words) for words in rows_without_files()] + [Command("--help")]
 # What a file of each kind is made of, over the torus of 7 vertices.
-SAMPLES = {"M": "mesh", "L": "lengths", "C": "loops.cert", "B": "basis.cert", "W": "walk", "V": "walk2", "E": "evidence", "O": "open",
+SAMPLES = {"M": "mesh", "L": "lengths", "C": "loops.cert", "B": "basis.cert", "W": "walk", "W2": "walk2", "E": "evidence", "O": "open",
            "P": "points"}
 
 
@@ -164,7 +150,7 @@ def files_over(program, room, mesh, lengths, walk, other):
     room.mkdir(exist_ok=True)
     files = {kind: room / name for kind, name in SAMPLES.items()}
     files["M"].write_bytes(mesh)
-    for kind, text in (("L", lengths), ("W", walk), ("V", other), ("P", "6 3 # two\n")):
+    for kind, text in (("L", lengths), ("W", walk), ("W2", other), ("P", "6 3 # two\n")):
         files[kind].write_text(text)
     mesh, lengths, walk = (str(files[kind]) for kind in "MLW")
     for kind, words in {"C": ["certify", mesh, lengths, "0"], "B": ["certify", mesh, lengths], "E": ["class", mesh, walk],
@@ -268,8 +254,8 @@ def large_mesh_runs(program, files, room, count):
     for name in ("ring.off", "eight.off", "three.off"):
         text = (TOP / "meshes" / name).read_bytes()
         for command in COMMANDS:
-            if command.words[1] in "MO" and not {"C", "B", "E", "W", "P"} & set(command.words):
-                slow = command.name in ("basis", "cycle", "certify a basis")
+            if not {"C", "B", "E", "W", "P"} & set(command.words):
+                slow = command.name in ("basis M L", "cycle M L", "certify M L")
                 jobs += [(name, text, command, number) for number in range(tenth(tenth(count)) if slow else tenth(count))]
 
     def one(job):

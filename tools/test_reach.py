@@ -9,6 +9,7 @@ import unittest
 sys.path.insert(0, str(pathlib.Path(__file__).resolve().parent))
 sys.dont_write_bytecode = True
 
+import commands  # noqa: E402
 import reach  # noqa: E402
 
 WORDS = """-- Colours.
@@ -95,6 +96,11 @@ class Reach(unittest.TestCase):
 
     def test_clauses(self):
         self.assertEqual(list(reach.clauses_of("ensures a { x { y } }\nghost view = { z };\n// ensures { no }\n")), [" x { y } ", " z "])
+
+    def test_each_row_of_the_command_table_has_an_answer(self):
+        rows = {words[0] for words in commands.rows()}
+        named = {key.split()[0] for key in reach.COMMANDS if not key.startswith("--")}
+        self.assertEqual(named, rows)
 
 
 if __name__ == "__main__":

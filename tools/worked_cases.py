@@ -15,6 +15,8 @@ import re
 import sys
 from fractions import Fraction
 
+from commands import rows_on_meshes
+
 USAGE = "usage: the words are in no row of the command table\n"
 
 # ---- sheets
@@ -869,10 +871,8 @@ BROKEN = "OFF\n4 4 6\n0 0 0\n"
 OPEN = "OFF\n3 1 3\n0 0 0\n1 0 0\n0 1 0\n3 0 1 2\n"
 FEW = "0 1 1\n"
 
-# The words of each command that reads a mesh `M`, with what follows: `L`, `W`, `V` and `C` are files, `0` a vertex.
-COMMANDS = ["info M", "dist M L 0", "loops M L 0", "basis M L", "cycle M L", "cut M L 0 full", "cut M L 0 trim",
-            "sew M", "disc M", "certify M L 0", "certify M L", "check M L C", "class M W", "same M W V", "confirm M W C",
-            "shortest M L W", "lengths M 3"]
+# The words of each command that reads a mesh `M`: `L`, `W`, `W2`, `C` and `P` are files, `0` a vertex.
+COMMANDS = [" ".join(words) for words in rows_on_meshes()]
 CERTIFICATE = "SURFCERT 1 loops\ncounts 4 4 0\n"
 
 
@@ -927,7 +927,7 @@ def after_the_surface(sheet):
                 refused(sheet, far, {"L": "SURFLEN 2\ndefault 1\n"}, 7, "base: 4 of 4\n", "tet L")
                 refused(sheet, far.replace(" L", " unit"), {}, 7, "base: 4 of 4\n", "tet")
     good = {"L": "SURFLEN 2\ndefault 1\n", "W": "0 1 2 0\n", "V": "0\n"}
-    sheet.note("Certificates, walks and evidence.")
+    sheet.note("Certificates, walks, evidence and vertices to cut through.")
     for lengths, before in (("L", "tet L"), ("unit", "tet")):
         refused(sheet, f"check tet {lengths} C", good, 9, "read fault\n", f"{before} C")
         refused(sheet, f"check tet {lengths} C", good | {"C": ""}, 8, "certificate text: header 0\n", f"{before} C")
@@ -935,6 +935,8 @@ def after_the_surface(sheet):
         refused(sheet, f"check tet {lengths} C", begun, 8, "certificate text: early\n", f"{before} C")
         refused(sheet, f"shortest tet {lengths} W", {"L": good["L"]}, 9, "read fault\n", f"{before} W")
         refused(sheet, f"shortest tet {lengths} W", good | {"W": "0 1\n"}, 13, "walk 1: open\n", f"{before} W")
+    refused(sheet, "cut tet L 0 through P", {"L": good["L"]}, 9, "read fault\n", "tet L P")
+    refused(sheet, "cut tet unit 0 through P", {"P": "4\n"}, 15, "vertices: not-vertex 0\n", "tet P")
     for words, begins in (("class tet W", "tet W"), ("same tet W V", "tet W"), ("confirm tet W C", "tet W")):
         refused(sheet, words, {}, 9, "read fault\n", begins)
         refused(sheet, words, {"W": "0 4 0\n"}, 13, "walk 1: not-vertex 1\n", begins)

@@ -116,11 +116,14 @@ fn are_two(alloc: Global, mesh: &Surface) -> Result<bool, NoMemory>
     }
 }
 
-// The surface with the faces of a soup, or the first fault.
-fn examine_kind(alloc: Global, soup: Soup) -> Result<Kind, SurfaceFault>
+/// The surface with the faces of a soup for what asks only of its kind: the faults are those of
+/// `check`. Where all faces run the same way less memory is taken than by `check_surface`; where
+/// they don't, the sides are put into pairs once more.
+pub fn check_kind(alloc: Global, soup: Soup) -> Result<Kind, SurfaceFault>
     ensures same { IfOk result (λ k. k ≡ soup) }
     ensures surface { IfOk result (λ _. IsSurface soup) }
     ensures fault { IfErr result (λ e. IsSurfaceFault soup e) }
+    ensures excludes { IfErr result (λ e. e ≢ Memory → IsSurface soup → ⊥) }
 {
     if is_one_way(alloc, &soup)? {
         return Ok(Kind {
@@ -131,16 +134,4 @@ fn examine_kind(alloc: Global, soup: Soup) -> Result<Kind, SurfaceFault>
     Ok(Kind {
         kept: Kept::Other(surface),
     })
-}
-
-/// The surface with the faces of a soup for what asks only of its kind: the faults are those of
-/// `check`. Where all faces run the same way less memory is taken than by `check_surface`; where
-/// they don't, the sides are put into pairs once more.
-pub fn check_kind(alloc: Global, soup: Soup) -> Result<Kind, SurfaceFault>
-    ensures same { IfOk result (λ k. k ≡ soup) }
-    ensures surface { IfOk result (λ _. IsSurface soup) }
-    ensures fault { IfErr result (λ e. IsSurfaceFault soup e) }
-    ensures excludes { IfErr result (λ e. e ≢ Memory → IsSurface soup → ⊥) }
-{
-    examine_kind(alloc, soup)
 }

@@ -5,8 +5,8 @@ ghost use Rattle.surf_choice.specs.Candidates.{earlier};
 use surf_base::{EdgeId, VertexId};
 use surf_bits::Signature;
 
-/// A loop of an edge, by its length, its base and the edge.
-#[derive(Clone, Copy, Debug, PartialEq, Eq)]
+/// A loop of an edge, by its length, its base and the edge. Candidates are in order of these.
+#[derive(Clone, Copy, Debug, PartialEq, Eq, PartialOrd, Ord)]
 pub struct Candidate {
     pub length: u64,
     pub base: VertexId,
@@ -27,13 +27,7 @@ pub struct Signed {
 pub fn comes_before(c: &Candidate, d: &Candidate) -> bool
     ensures before { result ≡ earlier c.now d.now }
 {
-    if c.length != d.length {
-        return c.length < d.length;
-    }
-    if c.base.number() != d.base.number() {
-        return c.base.number() < d.base.number();
-    }
-    c.edge.number() < d.edge.number()
+    c < d
 }
 
 /// A copy of a signature.
