@@ -1,6 +1,6 @@
 -- Vertices that are marked: the bases of candidates, and ends of edges with signatures.
 use Rattle.std.proofs.Common.{◌≡◌, ◌≢◌, ℕ, ◌<◌, Bool, true, false, List, length, get_or, slice_index, Contains, All, IsPermutation, sym, ap, ◌∙◌, subst, arith, inl, inr, ◌⊎◌, refl}
-use Rattle.std.specs.Prelude.{slice_index_or, ◌⊎◌, IsTrue, slice_index}
+use Rattle.std.specs.Prelude.{slice_index_or, IsTrue}
 use Rattle.std.proofs.lemmas.List.{get_or_default}
 use Rattle.std.proofs.lemmas.List.Elements.{Contains-get_or}
 use Rattle.std.proofs.lemmas.List.Sorted.{Contains-permutation, IsPermutation-sym}
