@@ -18,7 +18,7 @@ use Rattle.surf_search.specs.declared.caps.Ask.{Ask}
 use Rattle.surf_search.specs.Rounds.{is_within_cap, cap_at, IsCapped, IsAsked, HasCappedEnd, AreCapped, AreNoLess, AreAsks, AreRising}
 use Rattle.surf_search.specs.Marks.{by_degree}
 use Rattle.surf_search.proofs.Asked.{within_by_none}
-use Rattle.surf_search.proofs.Degrees.{as_read_or_turned}
+use Rattle.surf_search.proofs.Counted.{as_read_or_turned}
 
 -- ---- the earlier of a limit and a cap
 

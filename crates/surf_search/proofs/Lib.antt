@@ -3,7 +3,7 @@ pub mod Barred
 pub mod Capped
 pub mod Capping
 pub mod Climbed
-pub mod Degrees
+pub mod Counted
 pub mod FirstFound
 pub mod Firsts
 pub mod Marked

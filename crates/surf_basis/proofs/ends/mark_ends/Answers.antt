@@ -6,7 +6,7 @@ use Rattle.surf_surfaces.specs.Surface.{ends, edge_count}
 use Rattle.surf_search.specs.Marks.{by_degree}
 use Rattle.surf_basis.proofs.Ended.{end_stays, either_marked}
 use Rattle.surf_search.proofs.Marked.{ends_inside, either_below}
-use Rattle.surf_search.proofs.Degrees.{as_read_or_turned}
+use Rattle.surf_search.proofs.Counted.{as_read_or_turned}
 use Rattle.surf_basis.proofs.ends.mark_ends.Goals as goal
 use Rattle.surf_basis.proofs.ends.mark_ends.Goals.{then-not-is_empty, else-not-is_empty}
 

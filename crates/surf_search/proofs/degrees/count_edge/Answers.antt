@@ -1,7 +1,7 @@
 use Rattle.std.proofs.Common.{◌≡◌, ◌≢◌, slice_index, sym, ◌∙◌, arith}
 use Rattle.std.proofs.lemmas.Bool.Decides.{nat_tests}
 use Rattle.surf_search.proofs.Marked.{ends_inside}
-use Rattle.surf_search.proofs.Degrees.{degree_few, degrees_more, degrees_same, ends_apart, raised}
+use Rattle.surf_search.proofs.Counted.{degree_few, degrees_more, degrees_same, ends_apart, raised}
 use Rattle.surf_search.proofs.degrees.count_edge.Goals as goal
 
 pub count_at-requires : goal.count_at-requires
