@@ -38,13 +38,13 @@ use Rattle.surf_choice.specs.Places.{place_of, is_sought, order_of}
 use Rattle.surf_choice.proofs.Sifted.{all_kept}
 use Rattle.surf_basis.specs.Based.{based_at, IsOffered, AreOffered}
 use Rattle.surf_basis.specs.Candidates.{loop_in, loops_in, IsSigned}
-use Rattle.surf_basis.specs.Places.{has_length}
-use Rattle.surf_basis.specs.Signing.{AreSigned}
-use Rattle.surf_basis.specs.Found.{IsFound, AreFoundBy, AreFound, IsNext}
+use Rattle.surf_search.specs.Places.{has_length}
+use Rattle.surf_search.specs.Signing.{AreSigned}
+use Rattle.surf_search.specs.Found.{IsFound, AreFoundBy, AreFound, IsNext}
 use Rattle.surf_basis.proofs.Kept.{kept_after}
-use Rattle.surf_basis.proofs.Looped.{class_small}
-use Rattle.surf_basis.proofs.Searched.{zero_null}
-use Rattle.surf_basis.proofs.Told.{sooner_size}
+use Rattle.surf_search.proofs.Signed.{class_small}
+use Rattle.surf_search.proofs.Searched.{zero_null}
+use Rattle.surf_search.proofs.Told.{sooner_size}
 
 -- a candidate is the loop of its edge at the base, with its class, and at most so long
 record IsBased (mesh : Mesh) (lengths : List ℕ) (trees : ℕ → Trees) (d : Split) (base most : ℕ) (c : Signed) : Type 0 where

@@ -30,9 +30,10 @@ use Rattle.surf_basis.specs.declared.cycle.Cycle.{Cycle}
 use Rattle.surf_basis.specs.Based.{IsOffered}
 use Rattle.surf_basis.specs.Candidates.{loop_in, loops_in, IsSigned, IsCycleOf, AreCyclesOf}
 use Rattle.surf_basis.specs.Cycles.{as_loop, as_loops}
-use Rattle.surf_basis.specs.Kept.{HavePlacesOfBasis, placed_below, AreKept}
-use Rattle.surf_basis.specs.Marks.{HasBases}
-use Rattle.surf_basis.specs.Places.{lengths_at, has_length}
+use Rattle.surf_search.specs.Places.{HavePlacesOfBasis}
+use Rattle.surf_basis.specs.Kept.{placed_below, AreKept}
+use Rattle.surf_basis.specs.Kept.{HasBases}
+use Rattle.surf_search.specs.Places.{lengths_at, has_length}
 use Rattle.surf_basis.proofs.Places.{is_placed_loop, no_lengths, placed_more, placed_past, placed-sorted}
 
 -- merged candidates as loops

@@ -1,20 +1,14 @@
 -- The loops of a desk at a base, as loops of the choice.
-use Rattle.std.proofs.Common.{◌≡◌, ℕ, ◌<◌, ◌+◌, ◌^◌, true, List, [], ◌∷◌, length, map, Contains, refl, sym, ap, ◌∙◌, subst, arith}
+use Rattle.std.proofs.Common.{◌≡◌, ℕ, ◌<◌, ◌+◌, true, List, [], ◌∷◌, length, map, Contains, refl, sym, ap, ◌∙◌, subst, arith}
 use Rattle.std.specs.List.{AllByRecursion}
 use Rattle.std.proofs.lemmas.List.{length-map, get_or-map}
-use Rattle.std.proofs.lemmas.List.FromFn.{length-map-range_with_len}
 use Rattle.std.proofs.lemmas.List.Elements.{All-from_recursion, All-contains}
 use Rattle.std.proofs.lemmas.List.Sorted.{Contains-permutation}
-use Rattle.surf_z2.proofs.Below.{small}
 use Rattle.surf_z2.proofs.Merge.{sorted-permutes}
-use Rattle.surf_graphs.specs.Cells.{Split, chain_signature}
 use Rattle.surf_surfaces.specs.Mesh.{Mesh}
 use Rattle.surf_surfaces.specs.Surface.{edge_count, face_count, IsSurface}
-use Rattle.surf_surfaces.specs.Walk.{ArePositive, parity}
-use Rattle.surf_surfaces.specs.Cells.{cells_of}
+use Rattle.surf_surfaces.specs.Walk.{ArePositive}
 use Rattle.surf_surfaces.specs.Homology.{IsLoopCount}
-use Rattle.surf_surfaces.specs.Class.{class_of}
-use Rattle.surf_surfaces.specs.Signature.{edge_signature}
 use Rattle.surf_surfaces.specs.Loop.{loop_walk}
 use Rattle.surf_surfaces.specs.Cotree.{is_left, left_edges}
 use Rattle.surf_surfaces.specs.Choice.{Trees, AreChosenAt, AreChosen, Loop, comes_before, loop_at, loops_at, candidates, IsGreedyChoice, IsChosenBasis}
@@ -22,11 +16,9 @@ use Rattle.surf_surfaces.proofs.CotreeLaws.{passing_found}
 use Rattle.surf_surfaces.proofs.LoopsAtLaws.{IsLoopAt, loops_each}
 use Rattle.surf_surfaces.proofs.LoopsOne.{loops_are_one}
 use Rattle.surf_surfaces.proofs.FirstCycleLaws.{candidates_below_two}
-use Rattle.surf_cotree.specs.Tables.{CotreeTables}
 use Rattle.surf_loops.specs.Loops.{LoopTables, trees_of, loop_of, IsGreedy}
 use Rattle.surf_loops.specs.declared.head.LoopHead.{LoopHead}
 use Rattle.surf_basis.specs.Candidates.{candidate_of, loop_in}
-use Rattle.surf_basis.specs.Signing.{AreSigned}
 
 -- the loop of a left edge is the same through all trees that are chosen at the base
 pub loop_is_one : (mesh : Mesh) (lengths : List ℕ) (base : ℕ) (a b : Trees) → IsSurface mesh → ArePositive mesh lengths →
@@ -49,15 +41,6 @@ loop_is_one mesh lengths base a b surface positive x y e l left =
     let is = All-contains (IsLoopAt mesh lengths base b) (loops_at mesh lengths base b) c
     (All-from_recursion (IsLoopAt mesh lengths base b) (loops_at mesh lengths base b) (loops_each mesh lengths base b)) there in
     ap (λ (k : Loop). k.walk) is.is
-
--- the class of a walk is as small as there are left edges
-pub class_small : (mesh : Mesh) (d : Split) (walk : List ℕ) (width : ℕ) → length d.left ≡ width → class_of mesh d walk < 2 ^ width
-class_small mesh d walk width is = subst (λ n. class_of mesh d walk < 2 ^ n) is (small (length d.left) (chain_signature (cells_of mesh) d (parity mesh walk)))
-
--- signatures are as many as edges
-pub signs_long : (mesh : Mesh) (t : CotreeTables) (width : ℕ) → AreSigned mesh t width → length t.signatures ≡ edge_count mesh
-signs_long mesh t width s =
-    ap (λ (xs : List ℕ). length xs) s.signatures ∙ length-map-range_with_len (edge_signature mesh s.split) 0 (edge_count mesh)
 
 module _ (mesh : Mesh) (lengths : List ℕ) (trees : ℕ → Trees) (surface : IsSurface mesh)
     (positive : ArePositive mesh lengths) (chosen : AreChosen mesh lengths trees) where

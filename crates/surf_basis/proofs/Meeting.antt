@@ -9,11 +9,12 @@ use Rattle.surf_tree.specs.Tables.{tree_of}
 use Rattle.surf_cotree.specs.Tables.{CotreeTables, cotree_of}
 use Rattle.surf_loops.specs.Loops.{LoopTables}
 use Rattle.surf_basis.specs.Cut.{AreCutVertices}
-use Rattle.surf_basis.specs.Found.{is_among}
-use Rattle.surf_basis.specs.Marks.{HasSignedEnds}
-use Rattle.surf_basis.specs.Signing.{AreSigned, IsDividedBy}
-use Rattle.surf_basis.proofs.Climbed.{at_edge}
-use Rattle.surf_basis.proofs.Searched.{among_contained}
+use Rattle.surf_search.specs.Found.{is_among}
+use Rattle.surf_basis.specs.Ends.{HasSignedEnds}
+use Rattle.surf_search.specs.Signing.{AreSigned}
+use Rattle.surf_basis.specs.Cut.{IsDividedBy}
+use Rattle.surf_search.proofs.Climbed.{at_edge}
+use Rattle.surf_search.proofs.Searched.{among_contained}
 
 -- a list with an end of each edge with a signature
 pub ends_meet : (mesh : Mesh) → IsSurface mesh → (s : CotreeTables) (width : ℕ) → AreSigned mesh s width → (vs : List ℕ) →

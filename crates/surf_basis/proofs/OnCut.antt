@@ -14,12 +14,12 @@ use Rattle.surf_cotree.specs.Tables.{cotree_of}
 use Rattle.surf_cotree.specs.Grown.{IsMarked}
 use Rattle.surf_loops.specs.Loops.{LoopTables, IsRooted, IsGreedy}
 use Rattle.surf_basis.specs.Cut.{IsClosedUpward, HasVertex, HasEnds, IsPartOf, IsLeastSet, AreCutVertices}
-use Rattle.surf_basis.specs.Found.{is_among}
-use Rattle.surf_basis.specs.Passing.{is_marked}
-use Rattle.surf_basis.specs.Signing.{IsDividedBy}
-use Rattle.surf_basis.proofs.Marked.{set_stays, set_there}
-use Rattle.surf_basis.proofs.PassedOver.{among_marked}
-use Rattle.surf_basis.proofs.Searched.{among_contained}
+use Rattle.surf_search.specs.Found.{is_among}
+use Rattle.surf_search.specs.Passing.{is_marked}
+use Rattle.surf_basis.specs.Cut.{IsDividedBy}
+use Rattle.surf_search.proofs.Marked.{set_stays, set_there}
+use Rattle.surf_search.proofs.PassedOver.{among_marked}
+use Rattle.surf_search.proofs.Searched.{among_contained}
 
 -- ---- one way
 

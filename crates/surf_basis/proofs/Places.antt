@@ -1,42 +1,22 @@
 -- Loops that have the length and the base of one of some candidates.
-use Rattle.std.proofs.Common.{◌≡◌, ℕ, zero, suc, ◌+◌, ◌<◌, ◌≤◌, Bool, true, false, eqb, eqb-true, eq-eqb, cond, List, [], ◌∷◌, ◌++◌, length, map, filter, take, get_or, Contains, refl, sym, ap, ◌∙◌, subst, arith, slice_index}
-use Rattle.std.proofs.lemmas.Bool.{or_right, false_from_ne_true}
+use Rattle.std.proofs.Common.{◌≡◌, ℕ, zero, suc, ◌+◌, ◌<◌, ◌≤◌, Bool, true, false, eqb, eqb-true, cond, List, [], ◌∷◌, ◌++◌, length, map, filter, take, get_or, Contains, refl, sym, ap, ◌∙◌, arith, slice_index}
+use Rattle.std.proofs.lemmas.Bool.{false_from_ne_true}
 use Rattle.std.proofs.lemmas.List.{map-append, get_or_default}
 use Rattle.std.proofs.lemmas.List.Elements.{filter_more, recursion_from_All}
 use Rattle.surf_z2.specs.Order.{merge}
 use Rattle.surf_z2.proofs.Merge.{Sorted}
 use Rattle.surf_z2.proofs.Passing.{filter_none, filter_merge_out, sorted_filtered}
-use Rattle.surf_graphs.specs.Trees.{Tree}
 use Rattle.surf_surfaces.specs.Mesh.{Mesh}
 use Rattle.surf_surfaces.specs.Loop.{loop_length}
 use Rattle.surf_surfaces.specs.Choice.{Trees, Loop, comes_before, loops_at, loops_below}
-use Rattle.surf_surfaces.specs.FewBases.{Found, place_of_found, place_of_loop}
+use Rattle.surf_surfaces.specs.FewBases.{place_of_loop}
 use Rattle.surf_surfaces.proofs.CandidateLaws.{below-sorted, below_more}
 use Rattle.surf_surfaces.proofs.LeastLaws.{all_each}
 use Rattle.surf_surfaces.proofs.LoopsAtLaws.{IsLoopAt, comes_before-trans, loops-sorted, loops_each}
 use Rattle.surf_choice.specs.declared.candidate.Signed.{Signed}
-use Rattle.surf_basis.specs.Found.{found_of}
-use Rattle.surf_basis.specs.Kept.{placed_below}
-use Rattle.surf_basis.specs.Marks.{HasBases}
-use Rattle.surf_basis.specs.Places.{lengths_at, has_length, is_placed}
+use Rattle.surf_basis.specs.Kept.{placed_below, HasBases}
+use Rattle.surf_search.specs.Places.{lengths_at, has_length, is_placed}
 use Rattle.surf_basis.proofs.Merged.{filter_merged}
-
--- a loop that was found has its own place
-pub placed_found : (mesh : Mesh) (trees : ℕ → Tree) (ks : List Signed) (f : Found) → Contains (map (found_of mesh trees) ks) f →
-    is_placed ks (place_of_found f) ≡ true
-placed_found mesh trees [] f (j, l, e) = absurd (omega arith)
-placed_found mesh trees (k ∷ ks) f (zero, l, e) = subst (λ (x : Found). is_placed (k ∷ ks) (place_of_found x) ≡ true) e own
-  where
-    own : is_placed (k ∷ ks) (k.candidate.length, k.candidate.base) ≡ true
-    own = rw (eq-eqb k.candidate.base k.candidate.base refl, eq-eqb k.candidate.length k.candidate.length refl) refl
-placed_found mesh trees (k ∷ ks) f (suc j, l, e) =
-    more (eqb k.candidate.base f.through) (placed_found mesh trees ks f (j, omega arith, e))
-  where
-    more : (b : Bool) → has_length (lengths_at ks f.through) f.size ≡ true →
-        has_length (map (λ (s : Signed). s.candidate.length) (cond b (k ∷ filter (λ (s : Signed). eqb s.candidate.base f.through) ks)
-        (filter (λ (s : Signed). eqb s.candidate.base f.through) ks))) f.size ≡ true
-    more true h = or_right (eqb k.candidate.length f.size) (has_length (lengths_at ks f.through) f.size) h
-    more false h = h
 
 -- one more candidate
 pub lengths_more : (found : List Signed) (base i : ℕ) (s : Signed) (old new : List ℕ) → old ≡ lengths_at (take i found) base →

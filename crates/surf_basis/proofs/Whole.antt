@@ -21,12 +21,13 @@ use Rattle.surf_cotree.specs.Tables.{CotreeTables, split_with}
 use Rattle.surf_loops.specs.Loops.{LoopTables, IsGreedy}
 use Rattle.surf_choice.specs.declared.candidate.Signed.{Signed}
 use Rattle.surf_basis.specs.declared.cycle.Cycle.{Cycle}
-use Rattle.surf_basis.specs.Based.{IsMeasured}
+use Rattle.surf_search.specs.Walks.{IsMeasured}
 use Rattle.surf_basis.specs.Candidates.{AreCyclesOf}
-use Rattle.surf_basis.specs.Kept.{HavePlacesOfBasis, AreKeptOver}
-use Rattle.surf_basis.specs.Marks.{HasBases}
+use Rattle.surf_search.specs.Places.{HavePlacesOfBasis}
+use Rattle.surf_basis.specs.Kept.{AreKeptOver}
+use Rattle.surf_basis.specs.Kept.{HasBases}
 use Rattle.surf_basis.specs.Cycles.{as_loops, IsTheBasis}
-use Rattle.surf_basis.specs.Signing.{AreSigned}
+use Rattle.surf_search.specs.Signing.{AreSigned}
 use Rattle.surf_basis.proofs.Looped.{empty_basis}
 use Rattle.surf_basis.proofs.Kept.{cycles_basis}
 

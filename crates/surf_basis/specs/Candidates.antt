@@ -1,6 +1,5 @@
 -- Candidates for a basis as loops by trees of shortest walks, and their cycles.
-use Rattle.std.specs.Prelude.{ℕ, ◌≡◌, ◌<◌, IsTrue, List, [], ◌∷◌, map}
-use Rattle.std.specs.Prelude.{Option}
+use Rattle.std.specs.Prelude.{ℕ, ◌≡◌, ◌<◌, IsTrue, List, [], ◌∷◌, map, Option, length, Some, None}
 use Rattle.std.specs.Option.{option_map}
 use Rattle.surf_graphs.specs.Cells.{Split}
 use Rattle.surf_surfaces.specs.Mesh.{Mesh}
@@ -8,7 +7,7 @@ use Rattle.surf_surfaces.specs.Surface.{edge_count}
 use Rattle.surf_surfaces.specs.Class.{class_of}
 use Rattle.surf_surfaces.specs.Loop.{loop_walk, loop_length}
 use Rattle.surf_surfaces.specs.Cotree.{is_left}
-use Rattle.surf_surfaces.specs.Choice.{Trees, AreChosenAt, Loop}
+use Rattle.surf_surfaces.specs.Choice.{Trees, AreChosenAt, Loop, AreChosen, candidates, loops_at}
 use Rattle.surf_tree.specs.Tables.{TreeTables}
 use Rattle.surf_loops.specs.declared.head.LoopHead.{LoopHead}
 use Rattle.surf_loops.specs.Loops.{LoopTables}
@@ -61,3 +60,10 @@ pub record IsSigned (mesh : Mesh) (lengths : List ℕ) (trees : ℕ → Trees) (
   pub left : IsTrue (is_left mesh (trees c.candidate.base).tree (trees c.candidate.base).cotree c.candidate.edge)
   pub size : c.candidate.length ≡ loop_length mesh lengths (trees c.candidate.base).tree c.candidate.edge
   pub signature : c.signature ≡ class_of mesh d (loop_walk mesh (trees c.candidate.base).tree c.candidate.edge)
+
+-- the first candidate has the length and the base, and is the first loop there, whichever trees show the choice; or
+-- there is no candidate
+abbrev pub IsFirstPlace : Mesh → List ℕ → Option Candidate → Type 0
+IsFirstPlace mesh lengths None = (trees : ℕ → Trees) → AreChosen mesh lengths trees → candidates mesh lengths trees ≡ []
+IsFirstPlace mesh lengths (Some c) = (trees : ℕ → Trees) → AreChosen mesh lengths trees → (c.base < mesh.vertices)
+    × (first_of (loops_at mesh lengths c.base (trees c.base)) ≡ first_of (candidates mesh lengths trees))

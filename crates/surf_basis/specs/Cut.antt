@@ -1,14 +1,16 @@
 -- The vertices from which is searched: those of a cut, or ends of edges with signatures.
-use Rattle.std.specs.Prelude.{ℕ, ◌≢◌, ◌<◌, ◌⊎◌, Bool, IsTrue, List, All}
+use Rattle.std.specs.Prelude.{ℕ, ◌≢◌, ◌<◌, ◌⊎◌, Bool, IsTrue, List, All, ◌≡◌}
 use Rattle.surf_graphs.specs.Trees.{Tree}
 use Rattle.surf_surfaces.specs.Mesh.{Mesh}
 use Rattle.surf_opening.specs.OffTheCut.{HasMarkedEnds, AreMarked}
 use Rattle.surf_tree.specs.Tables.{tree_of}
 use Rattle.surf_tree.specs.Queues.{AreEven, AreUneven}
 use Rattle.surf_cotree.specs.Tables.{cotree_of}
-use Rattle.surf_loops.specs.Loops.{LoopTables}
-use Rattle.surf_basis.specs.Found.{is_among}
-use Rattle.surf_basis.specs.Marks.{AreSignedEnds}
+use Rattle.surf_loops.specs.Loops.{LoopTables, IsRooted}
+use Rattle.surf_search.specs.Found.{is_among}
+use Rattle.surf_basis.specs.Ends.{AreSignedEnds}
+use Rattle.surf_surfaces.specs.Cotree.{left_edges}
+use Rattle.surf_opening.specs.ChosenCut.{AreDivided}
 
 -- the set is closed upward: with each of the first vertices it has its parent
 abbrev pub IsClosedUpward : ℕ → Tree → (ℕ → Bool) → Type 0
@@ -43,3 +45,10 @@ pub record AreCutVertices (mesh : Mesh) (t : LoopTables) (list : List ℕ) : Typ
 abbrev pub AreToSearch : Mesh → List ℕ → LoopTables → List ℕ → Type 0
 AreToSearch mesh lengths t list = ((size : ℕ) × AreEven lengths size × AreSignedEnds mesh t.cotree list)
     ⊎ (AreUneven lengths × AreCutVertices mesh t list)
+
+-- of the tables of a desk: a spanning tree of the vertices, in which each but the base has a parent, a tree of the faces,
+-- and the edges in neither
+pub record IsDividedBy (mesh : Mesh) (t : LoopTables) : Type 0 where
+  pub rooted : IsRooted mesh t.tree
+  pub divided : AreDivided mesh (tree_of t.tree) (cotree_of t.cotree)
+  pub left : t.cotree.left ≡ left_edges mesh (tree_of t.tree) (cotree_of t.cotree)

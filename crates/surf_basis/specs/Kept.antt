@@ -1,24 +1,18 @@
 -- What is kept base by base of those loops whose places are known to be those of the basis.
-use Rattle.std.specs.Prelude.{ℕ, ◌≡◌, ◌<◌, ◌≤◌, IsTrue, List, All, filter, length, slice_index}
+use Rattle.std.specs.Prelude.{ℕ, ◌≡◌, ◌<◌, ◌≤◌, List, All, filter, length, slice_index, Contains}
 use Rattle.surf_z2.specs.Greedy.{greedy}
 use Rattle.surf_z2.specs.Space.{numbers, is_nothing}
 use Rattle.surf_graphs.specs.Cells.{Split, IsSplit}
 use Rattle.surf_surfaces.specs.Mesh.{Mesh}
 use Rattle.surf_surfaces.specs.Cells.{cells_of}
 use Rattle.surf_surfaces.specs.Class.{class_of}
-use Rattle.surf_surfaces.specs.Choice.{Trees, AreChosen, Loop, loops_below, IsChosenBasis}
+use Rattle.surf_surfaces.specs.Choice.{Trees, AreChosen, Loop, loops_below}
 use Rattle.surf_surfaces.specs.FewBases.{place_of_loop}
 use Rattle.surf_cotree.specs.Tables.{CotreeTables}
 use Rattle.surf_choice.specs.declared.candidate.Signed.{Signed}
 use Rattle.surf_basis.specs.Candidates.{IsSigned, loops_in}
-use Rattle.surf_basis.specs.Places.{is_placed}
-use Rattle.surf_basis.specs.Signing.{AreSignatures}
-
--- each loop of the basis that is chosen has the length and the base of one of some candidates, whichever trees show the
--- choice
-abbrev pub HavePlacesOfBasis : Mesh → List ℕ → List Signed → Type 0
-HavePlacesOfBasis mesh lengths found = (trees : ℕ → Trees) → AreChosen mesh lengths trees → (basis : List Loop) →
-    IsChosenBasis mesh lengths trees basis → All (λ c. IsTrue (is_placed found (place_of_loop c))) basis
+use Rattle.surf_search.specs.Places.{is_placed}
+use Rattle.surf_search.specs.Signing.{AreSignatures}
 
 -- of the loops at the first vertices, in order, those that have the length and the base of one of some candidates
 abbrev pub placed_below : Mesh → List ℕ → (ℕ → Trees) → List Signed → ℕ → List Loop
@@ -41,3 +35,7 @@ pub record AreKept (mesh : Mesh) (lengths : List ℕ) (trees : ℕ → Trees) (d
 abbrev pub AreKeptOver : Mesh → List ℕ → CotreeTables → List Signed → List ℕ → ℕ → List Signed → Type 0
 AreKeptOver mesh lengths s found bases done kept = (trees : ℕ → Trees) → AreChosen mesh lengths trees → (d : Split) →
     IsSplit (cells_of mesh) d → AreSignatures mesh d s → AreKept mesh lengths trees d found bases done kept
+
+-- a list has the base of each candidate
+abbrev pub HasBases : List ℕ → List Signed → Type 0
+HasBases list kept = All (λ s. Contains list s.candidate.base) kept

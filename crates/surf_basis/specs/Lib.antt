@@ -1,13 +1,7 @@
-pub mod Cycles
 pub mod Based
 pub mod Candidates
-pub mod Signing
 pub mod Certs
-pub mod Marks
-pub mod Places
-pub mod Ways
-pub mod Found
-pub mod Kept
-pub mod Passing
 pub mod Cut
-pub mod Rounds
+pub mod Cycles
+pub mod Ends
+pub mod Kept

@@ -1,32 +1,29 @@
 //! The least basis, kept base by base.
-ghost use Rattle.std.specs.Prelude.{◌≡◌, ◌<◌, ◌≤◌, ◌+◌, ◌^◌, [], All, IfOk, OnOk, IfSome, length};
+ghost use Rattle.std.specs.Prelude.{◌≡◌, ◌<◌, ◌≤◌, ◌^◌, [], All, IfOk, OnOk, IfSome, length};
 ghost use Rattle.surf_surfaces.specs.Surface.{edge_count, IsSurface, loop_count};
 ghost use Rattle.surf_surfaces.specs.Walk.{ArePositive};
 ghost use Rattle.surf_surfaces.specs.Homology.{IsLoopCount};
 ghost use Rattle.surf_surfaces.specs.FewBases.{AreBases, MeetsAll};
 ghost use Rattle.surf_surfaces.specs.ChoiceLaws.{LeastSimpleBasis};
 ghost use Rattle.surf_basis.specs.Cycles.{first_of, IsFirstCandidate, IsShortestCycle, IsTheBasis, as_loops};
-ghost use Rattle.surf_basis.specs.Found.{is_among, surface_of};
-ghost use Rattle.surf_basis.specs.Kept.{AreKeptOver, HavePlacesOfBasis};
-ghost use Rattle.surf_basis.specs.Marks.{HasBases};
-ghost use Rattle.surf_basis.specs.Signing.{AreSigned};
+ghost use Rattle.surf_search.specs.Found.{is_among, surface_of};
+ghost use Rattle.surf_basis.specs.Kept.{AreKeptOver, HasBases};
+ghost use Rattle.surf_search.specs.Places.{HavePlacesOfBasis};
+ghost use Rattle.surf_search.specs.Signing.{AreSigned};
 ghost use Rattle.surf_base.specs.declared.limits.TheConstants.{MAX_LOOPS};
 
+use crate::base_loops::{list_lengths, loops_at};
+use crate::bases::bases_of;
 use crate::cut::searched_vertices;
 use crate::cycle::Cycle;
-use crate::finding::Finder;
-use crate::nearby::loops_at;
-use crate::placing::list_lengths;
-use crate::rounds::sufficient_loops;
-use crate::searching::bases_of;
-use crate::signing::signed_desk;
-use crate::surface::SignedSurface;
-use crate::walking::cycles_of;
+use crate::cycles::cycles_of;
+use crate::desk::signed_desk;
 use std::alloc::Global;
 use surf_base::{NoMemory, VertexId};
 use surf_choice::{Choice, Signed};
 use surf_lengths::Lengths;
 use surf_mesh::HalfMesh;
+use surf_search::{Finder, SignedSurface, sufficient_loops};
 
 // Makes the choice from those loops at some bases that have the lengths of candidates there.
 fn choose(

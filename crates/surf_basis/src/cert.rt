@@ -1,5 +1,5 @@
 //! The certificate of the basis.
-ghost use Rattle.std.specs.Prelude.{◌≡◌, ◌≤◌, ◌+◌, IfOk, length};
+ghost use Rattle.std.specs.Prelude.{◌≡◌, ◌≤◌, IfOk, length};
 ghost use Rattle.surf_surfaces.specs.Choice.{walks};
 ghost use Rattle.surf_surfaces.specs.Surface.{edge_count, loop_count};
 ghost use Rattle.surf_validity.specs.Bases.{IsValidBasis};

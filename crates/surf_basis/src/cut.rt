@@ -6,19 +6,19 @@ ghost use Rattle.surf_surfaces.specs.Mesh.{Mesh};
 ghost use Rattle.surf_surfaces.specs.Surface.{edge_count};
 ghost use Rattle.surf_tree.specs.Tables.{tree_of};
 ghost use Rattle.surf_loops.specs.Loops.{IsRooted};
-ghost use Rattle.surf_basis.specs.Cut.{AreCutVertices, AreToSearch, IsLeastSet};
-ghost use Rattle.surf_basis.specs.Cut.{HasEnds, HasVertex, IsClosedUpward};
-ghost use Rattle.surf_basis.specs.Found.{is_among};
-ghost use Rattle.surf_basis.specs.Marks.{bits_backwards};
-ghost use Rattle.surf_basis.specs.Passing.{is_marked};
-ghost use Rattle.surf_basis.specs.Signing.{AreSigned, IsDividedBy};
+ghost use Rattle.surf_basis.specs.Cut.{AreCutVertices, AreToSearch, IsLeastSet, HasEnds, HasVertex, IsClosedUpward, IsDividedBy};
+ghost use Rattle.surf_search.specs.Found.{is_among};
+ghost use Rattle.surf_search.specs.Marks.{bits_backwards};
+ghost use Rattle.surf_search.specs.Passing.{is_marked};
+ghost use Rattle.surf_search.specs.Signing.{AreSigned};
 
-use crate::marking::{list_marked, scatter, signed_ends};
+use crate::ends::signed_ends;
 use std::alloc::Global;
 use surf_base::{EdgeId, NoMemory, VertexId};
 use surf_lengths::Lengths;
 use surf_loops::LoopDesk;
 use surf_mesh::HalfMesh;
+use surf_search::{list_marked, scatter};
 use surf_tree::{TreeDesk, even_length};
 
 // Marks a vertex and those on its way up to the base, as far as the first that is marked already.

@@ -1,28 +1,29 @@
 //! A shortest cycle that doesn't separate the surface.
-ghost use Rattle.std.specs.Prelude.{ℕ, ◌≡◌, ◌<◌, ◌≤◌, ◌+◌, ◌↔◌, None, IfOk, IfSome, length};
+ghost use Rattle.std.specs.Prelude.{ℕ, ◌≡◌, ◌<◌, ◌≤◌, ◌↔◌, All, None, IfOk, IfSome, length};
 ghost use Rattle.std.specs.Option.{option_map};
 ghost use Rattle.surf_surfaces.specs.Surface.{edge_count, loop_count};
 ghost use Rattle.surf_surfaces.specs.Homology.{IsLoopCount};
+ghost use Rattle.surf_surfaces.specs.FewBases.{MeetsAll};
 ghost use Rattle.surf_surfaces.specs.Choice.{Trees, AreChosen, candidates, loops_at};
 ghost use Rattle.surf_tree.specs.Grown.{IsGrown as IsTreeGrown};
 ghost use Rattle.surf_loops.specs.Loops.{AreLoopTables};
-ghost use Rattle.surf_basis.specs.Candidates.{first_head, loop_in};
-ghost use Rattle.surf_basis.specs.Found.{IsFirstPlace};
+ghost use Rattle.surf_search.specs.Found.{is_among};
+ghost use Rattle.surf_search.specs.Signing.{AreSigned};
+ghost use Rattle.surf_basis.specs.Candidates.{first_head, loop_in, IsFirstPlace};
 ghost use Rattle.surf_basis.specs.Cycles.{first_of, IsFirstCandidate, IsShortestCycle, AllSeparate};
 ghost use Rattle.surf_base.specs.declared.limits.TheConstants.{MAX_LOOPS};
 
 use crate::cut::searched_vertices;
 use crate::cycle::Cycle;
-use crate::searching::first_place;
-use crate::signing::signed_desk;
-use crate::surface::SignedSurface;
-use crate::walking::cycle_of;
+use crate::cycles::cycle_of;
+use crate::desk::signed_desk;
 use std::alloc::Global;
 use surf_base::{NoMemory, VertexId};
 use surf_choice::Candidate;
 use surf_lengths::Lengths;
 use surf_loops::LoopDesk;
 use surf_mesh::HalfMesh;
+use surf_search::{SignedSurface, first_among};
 
 // The first candidate of a desk, if it has one.
 fn first_of(desk: &LoopDesk) -> Option<Candidate>
@@ -36,6 +37,25 @@ fn first_of(desk: &LoopDesk) -> Option<Candidate>
         base: desk.tree().base(),
         edge: head.edge,
     })
+}
+
+// The length and the base of the first candidate, as those of the first loop that is found at some
+// vertices, of which every closed walk that isn't null meets one. None where each is null.
+fn first_place(
+    alloc: Global,
+    surface: &SignedSurface<'_>,
+    vertices: &[VertexId],
+    count: usize,
+) -> Result<Option<Candidate>, NoMemory>
+    requires lengths { length surface.now.lengths.now ≡ edge_count surface.now.mesh.now }
+    requires signed { AreSigned surface.now.mesh.now surface.now.signatures.now count }
+    requires vertices { All (λ v. v < surface.now.mesh.now.vertices) vertices.now }
+    requires met { MeetsAll surface.now.mesh.now (is_among vertices.now) }
+    ensures first { IfOk result (IsFirstPlace surface.now.mesh.now surface.now.lengths.now) }
+{
+    surface.mesh.law_of_surface();
+    surface.lengths.law_of_lengths();
+    first_among(alloc, surface, vertices)
 }
 
 // The length and the base of the first candidate at any base. What it is found by isn't kept, so

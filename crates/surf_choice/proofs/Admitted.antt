@@ -86,7 +86,7 @@ left_at tops places xs ys left k e f h small = (
 
 -- ---- a row more
 
-at_other : (tops : List ℕ) (k i : ℕ) → AllByRecursion (λ t. t ≢ k) tops → i < length tops → get_or tops i 0 ≢ k
+pub at_other : (tops : List ℕ) (k i : ℕ) → AllByRecursion (λ t. t ≢ k) tops → i < length tops → get_or tops i 0 ≢ k
 at_other [] k i h l = absurd (omega arith)
 at_other (t ∷ tops) k zero h l = h.0
 at_other (t ∷ tops) k (suc i) h l = at_other tops k i h.1 (omega arith)

@@ -5,3 +5,4 @@ pub mod Sifted
 pub mod Changed
 pub mod Limits
 pub mod Longer
+pub mod Used

@@ -1,5 +1,5 @@
 //! Which sets are sums of the first of some independent ones.
-ghost use Rattle.std.specs.Prelude.{IfSome, ℕ, ◌≡◌, ◌≢◌, ◌<◌, ◌≤◌, ◌^◌, [], take, length, slice_index, bit_xor};
+ghost use Rattle.std.specs.Prelude.{IfSome, ℕ, ◌≡◌, ◌≢◌, ◌<◌, ◌≤◌, ◌+◌, ◌^◌, ◌⊎◌, [], take, length, slice_index, bit_xor};
 ghost use Rattle.std.specs.Prelude.{IfOk, MatchBool, MatchOption, vec_capacity};
 ghost use Rattle.std.specs.List.{AllByRecursion};
 ghost use Rattle.surf_z2.specs.Space.{Independent, Spanned, numbers};
@@ -87,6 +87,38 @@ fn reduce(rows: &[Signature], tops: &[u32], places: &[u32], set: &mut [u64]) -> 
     None
 }
 
+// As many as a count, or so many that a place is among the first of them.
+fn count_with(count: usize, place: usize) -> usize
+    requires few { place < 1024 }
+    ensures old { count ≤ result }
+    ensures with { place < result }
+    ensures least { (result ≡ count) ⊎ (result ≡ place + 1) }
+{
+    if count <= place { place + 1 } else { count }
+}
+
+// How many of the first rows it takes to reduce a set to nothing, if rows do so: one more than the
+// last place of a row that is added.
+fn used_rows(rows: &[Signature], tops: &[u32], places: &[u32], set: &mut [u64]) -> Option<usize>
+    requires echelon { IsEchelon rows.now tops.now places.now }
+    requires words { length set.old ≡ 16 }
+    requires small { number set.old < 2 ^ length places.now }
+    ensures used { MatchOption result (Spanned numbers rows.now (number set.old) → ⊥)
+        (λ n. (n ≤ length rows.now) × Spanned numbers (take n rows.now) (number set.old)) }
+    ensures least { IfSome result (λ n. (m : ℕ) → m < n →
+        Spanned numbers (take m rows.now) (number set.old) → ⊥) }
+{
+    let mut count = 0;
+    while let Some(top) = greatest(set) {
+        let Some(place) = place_of(tops, places, top) else {
+            return None;
+        };
+        rows[place].bits().add_to(set);
+        count = count_with(count, place);
+    }
+    Some(count)
+}
+
 impl Echelon {
     /// No rows, for sets of numbers below a width. Later calls take no memory.
     pub fn make(alloc: Global, width: u32) -> Result<Echelon, NoMemory>
@@ -129,20 +161,10 @@ impl Echelon {
         ensures least { IfSome result (λ n. (m : ℕ) → m < n →
             Spanned numbers (take m self.now.rows) set.now → ⊥) }
     {
-        let mut high = self.rows.len();
-        if !self.spans(high, set) {
-            return None;
-        }
-        let mut low = 0;
-        while low < high {
-            let middle = low + (high - low) / 2;
-            if self.spans(middle, set) {
-                high = middle;
-            } else {
-                low = middle + 1;
-            }
-        }
-        Some(high)
+        self.law_of_echelon();
+        let mut left = [0; 16];
+        set.add_to(&mut left);
+        used_rows(&self.rows, &self.tops, &self.places, &mut left)
     }
 
     /// Makes a set the last row, less a sum of the others, if it is no sum of them, and says

@@ -5,12 +5,12 @@ use Rattle.surf_surfaces.specs.Surface.{edge_count, IsSurface}
 use Rattle.surf_surfaces.specs.Walk.{ArePositive}
 use Rattle.surf_surfaces.specs.FewBases.{AreBases}
 use Rattle.surf_choice.specs.Candidates.{Chosen}
-use Rattle.surf_basis.specs.Based.{IsMeasured}
+use Rattle.surf_search.specs.Walks.{IsMeasured}
 use Rattle.surf_basis.specs.Candidates.{AreCyclesOf}
-use Rattle.surf_basis.specs.Found.{SurfaceTables}
-use Rattle.surf_basis.specs.Signing.{AreSigned}
+use Rattle.surf_search.specs.Found.{SurfaceTables}
+use Rattle.surf_search.specs.Signing.{AreSigned}
 use Rattle.surf_basis.specs.Kept.{AreKeptOver}
-use Rattle.surf_basis.specs.Marks.{HasBases}
+use Rattle.surf_basis.specs.Kept.{HasBases}
 use Rattle.surf_basis.specs.Cycles.{as_loops, IsTheBasis}
 use Rattle.surf_basis.proofs.Whole.{all_measured, the_basis}
 use Rattle.surf_basis.proofs.basis.basis_from.Goals as goal

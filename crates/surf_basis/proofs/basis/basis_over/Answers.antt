@@ -1,6 +1,6 @@
 use Rattle.std.proofs.Common.{◌<◌, All, sym, ◌∙◌, subst}
-use Rattle.surf_basis.specs.Kept.{HavePlacesOfBasis}
-use Rattle.surf_basis.proofs.Looped.{signs_long}
+use Rattle.surf_search.specs.Places.{HavePlacesOfBasis}
+use Rattle.surf_search.proofs.Signed.{signs_long}
 use Rattle.surf_basis.proofs.basis.basis_over.Goals as goal
 
 pub make-requires-clause-signatures : goal.make-requires-clause-signatures

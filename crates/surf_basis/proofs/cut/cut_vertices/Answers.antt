@@ -2,10 +2,11 @@ use Rattle.std.proofs.Common.{◌≡◌, ℕ, Bool, List, false, replicate, ◌�
 use Rattle.std.specs.Prelude.{IsTrue}
 use Rattle.surf_tree.specs.Tables.{TreeTables, tree_of}
 use Rattle.surf_basis.specs.Cut.{HasEnds, IsLeastSet}
-use Rattle.surf_basis.specs.Passing.{is_marked}
-use Rattle.surf_basis.proofs.Marked.{written_back, marks_listed, listed_marked}
+use Rattle.surf_search.specs.Passing.{is_marked}
+use Rattle.surf_search.proofs.Marked.{written_back}
+use Rattle.surf_basis.proofs.Ended.{marks_listed, listed_marked}
 use Rattle.surf_basis.proofs.OnCut.{cut_listed}
-use Rattle.surf_basis.proofs.PassedOver.{none_marked}
+use Rattle.surf_search.proofs.PassedOver.{none_marked}
 use Rattle.surf_basis.proofs.cut.cut_vertices.Goals as goal
 
 pub returns-clause-cut : goal.returns-clause-cut

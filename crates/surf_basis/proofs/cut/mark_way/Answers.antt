@@ -2,7 +2,7 @@ use Rattle.std.proofs.Common.{◌≡◌, ◌<◌, ℕ, length, refl, sym, ap, �
 use Rattle.std.specs.Prelude.{slice_index_or}
 use Rattle.std.proofs.lemmas.List.{length-set}
 use Rattle.surf_tree.specs.Tables.{tree_of}
-use Rattle.surf_basis.specs.Passing.{is_marked}
+use Rattle.surf_search.specs.Passing.{is_marked}
 use Rattle.surf_basis.proofs.OnCut.{IsClimbing, GoesOn, steps_left, climb_begun, climb_more, climb_done, climb_falls, goes_up, goes_no_more}
 use Rattle.surf_basis.proofs.cut.mark_way.Goals as goal
 

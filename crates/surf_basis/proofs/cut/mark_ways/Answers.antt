@@ -3,8 +3,8 @@ use Rattle.std.proofs.lemmas.List.{get_or_default}
 use Rattle.surf_surfaces.specs.Surface.{edge_count, ends}
 use Rattle.surf_tree.specs.Tables.{tree_of}
 use Rattle.surf_basis.specs.Cut.{HasVertex, IsClosedUpward, IsLeastSet}
-use Rattle.surf_basis.specs.Passing.{is_marked}
-use Rattle.surf_basis.proofs.Marked.{ends_inside}
+use Rattle.surf_search.specs.Passing.{is_marked}
+use Rattle.surf_search.proofs.Marked.{ends_inside}
 use Rattle.surf_basis.proofs.OnCut.{ways_begun, ways_more, ways_done}
 use Rattle.surf_basis.proofs.cut.mark_ways.Goals as goal
 

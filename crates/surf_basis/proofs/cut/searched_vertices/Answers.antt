@@ -6,9 +6,9 @@ use Rattle.surf_surfaces.specs.FewBases.{MeetsAll}
 use Rattle.surf_tree.specs.Queues.{AreEven, IsEvenness}
 use Rattle.surf_cotree.specs.Tables.{CotreeTables}
 use Rattle.surf_basis.specs.Cut.{AreCutVertices, AreToSearch}
-use Rattle.surf_basis.specs.Found.{is_among}
-use Rattle.surf_basis.specs.Marks.{AreSignedEnds}
-use Rattle.surf_basis.proofs.Looped.{signs_long}
+use Rattle.surf_search.specs.Found.{is_among}
+use Rattle.surf_basis.specs.Ends.{AreSignedEnds}
+use Rattle.surf_search.proofs.Signed.{signs_long}
 use Rattle.surf_basis.proofs.Meeting.{ends_meet, cut_meets}
 use Rattle.surf_basis.proofs.cut.searched_vertices.Goals as goal
 

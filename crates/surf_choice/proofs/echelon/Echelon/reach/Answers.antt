@@ -1,16 +1,22 @@
-use Rattle.std.proofs.Common.{◌≤◌, ◌+◌, ◌-◌, ◌/◌, arith}
-use Rattle.surf_choice.proofs.Fronts.{spanned_more}
+use Rattle.std.proofs.Common.{ℕ, List, ◌≡◌, ◌<◌, take, ◌∙◌, sym, subst}
+use Rattle.std.specs.Prelude.{IfSome}
+use Rattle.std.specs.Int.Bits.{xor_zero_l}
+use Rattle.surf_z2.specs.Space.{numbers, Spanned}
+use Rattle.surf_z2.specs.Words.{number}
+use Rattle.surf_choice.specs.Echelons.{Rows}
+use Rattle.surf_choice.proofs.Admitted.{words_enough}
 use Rattle.surf_choice.proofs.echelon.Echelon.reach.Goals as goal
 
-pub loop-low-preserved : goal.loop-low-preserved
-loop-low-preserved c = record {
-  high_in = c.loop-low.invariant.high_in;
-  sum = c.loop-low.invariant.sum;
-  below = λ m l sum.
-      (let middle = c.loop-low.low + (c.loop-low.high - c.loop-low.low) / 2 in
-      let le : m ≤ c.loop-low.low + (c.loop-low.high - c.loop-low.low) / 2 = omega (arith, l) in
-      c.if-spans.ensures.sum (spanned_more m middle c.args.self.now.rows c.args.set.now le sum));
+pub add_to-requires : goal.add_to-requires
+add_to-requires c = record {
+  fits = words_enough c.args.self.now.width c.args.set.now c.law_of_echelon.ensures.width c.requires.small;
 }
 
 pub returns-clause-least : goal.returns-clause-least
-returns-clause-least c = λ m l. c.loop-low.invariant.below m (omega (arith, l, c.loop-low-test.false))
+returns-clause-least c =
+    let set = c.args.set.now in
+    let old : number c.add_to.new.words ≡ set = c.add_to.ensures.sum ∙ xor_zero_l set in
+    subst (λ (r : Rows). IfSome c.used_rows.result (λ n. (m : ℕ) → m < n → Spanned numbers (take m r.rows) set → ⊥)) c.self.view_is
+    (subst (λ (xs : List ℕ). IfSome c.used_rows.result (λ n. (m : ℕ) → m < n → Spanned numbers (take m xs) set → ⊥)) c.deref.ensures.value
+    (subst (λ s. IfSome c.used_rows.result (λ n. (m : ℕ) → m < n → Spanned numbers (take m c.deref.result.now) s → ⊥)) old
+    c.used_rows.ensures.least))

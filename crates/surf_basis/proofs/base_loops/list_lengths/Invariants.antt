@@ -1,0 +1,6 @@
+use Rattle.std.proofs.Common.{◌≡◌, take}
+use Rattle.surf_search.specs.Places.{lengths_at}
+use Rattle.surf_basis.proofs.base_loops.list_lengths.Given as goal
+
+abbrev pub invariant-loop-signed : goal.invariant-loop-signed
+invariant-loop-signed l = l.lengths.items ≡ lengths_at (take l.signed-index l.found) l.base

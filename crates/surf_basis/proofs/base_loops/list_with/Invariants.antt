@@ -1,0 +1,7 @@
+use Rattle.std.proofs.Common.{◌≡◌, filter, take}
+use Rattle.surf_choice.specs.declared.candidate.Signed.{Signed}
+use Rattle.surf_search.specs.Places.{has_length}
+use Rattle.surf_basis.proofs.base_loops.list_with.Given as goal
+
+abbrev pub invariant-loop-signed : goal.invariant-loop-signed
+invariant-loop-signed l = l.loops.items ≡ filter (λ (s : Signed). has_length l.lengths s.candidate.length) (take l.signed-index l.chosen)

@@ -1,6 +1,0 @@
-use Rattle.surf_basis.specs.Found.{reached_at}
-use Rattle.surf_basis.proofs.Told.{IsListedAt}
-use Rattle.surf_basis.proofs.listing.list_at.Given as goal
-
-abbrev pub invariant-loop-link : goal.invariant-loop-link
-invariant-loop-link l = IsListedAt (reached_at l.reached) l.limit l.v l.link-items l.fn.found.items l.found.items l.link-index

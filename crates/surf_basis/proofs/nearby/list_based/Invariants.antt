@@ -1,6 +1,0 @@
-use Rattle.std.proofs.Common.{◌≡◌, map, take}
-use Rattle.surf_basis.specs.Based.{based_at}
-use Rattle.surf_basis.proofs.nearby.list_based.Given as goal
-
-abbrev pub invariant-loop-signed : goal.invariant-loop-signed
-invariant-loop-signed l = l.based.items ≡ map (based_at l.base) (take l.signed-index l.found)

@@ -1,0 +1,349 @@
+-- What is kept of the loops at the vertices of a list, vertex by vertex.
+use Rattle.std.proofs.Common.{◌≡◌, ◌≢◌, ℕ, zero, suc, ◌<◌, ◌≤◌, ◌+◌, ◌^◌, ◌⊎◌, Bool, true, false, eqb, List, [], ◌∷◌, ◌++◌, length, get_or, map, take, All, Contains, IsPermutation, Option, Some, None, refl, sym, ap, ◌∙◌, subst, arith, inl, inr, eqb-true}
+use Rattle.std.specs.Prelude.{IsTrue, nat_le, ◌==◌}
+use Rattle.std.specs.List.{AllByRecursion}
+use Rattle.std.proofs.lemmas.Bool.{cases_Bool, cases_eq, leb-true, or_cases, or_left, or_right}
+use Rattle.std.proofs.lemmas.Bool.Decides.{nat_tests}
+use Rattle.std.proofs.lemmas.List.{take_more, length-map, map-append}
+use Rattle.std.proofs.lemmas.List.Elements.{recursion_from_All, All-from_recursion, All-contains, Contains-append_left, Contains-append_cases, Contains-get_or}
+use Rattle.std.proofs.lemmas.List.Sorted.{Contains-permutation, All-permutation, IsPermutation-map, IsPermutation-sym}
+use Rattle.surf_z2.specs.Greedy.{greedy}
+use Rattle.surf_z2.specs.Order.{merge}
+use Rattle.surf_z2.specs.Space.{numbers, is_nothing, chosen, Independent}
+use Rattle.surf_z2.proofs.Greedy.{greedy_law, all_kept as greedy_spans}
+use Rattle.surf_z2.proofs.Merge.{Sorted, sorted_from_order, order_from_sorted, same_members}
+use Rattle.surf_z2.proofs.Numbers.{Decides-is_nothing}
+use Rattle.surf_z2.proofs.ParityLaws.{xor-false}
+use Rattle.surf_z2.proofs.Passing.{sorted_greedy}
+use Rattle.surf_z2.proofs.Span.{AllInSpan, InSpan, count, free_from_independent}
+use Rattle.surf_graphs.specs.Cells.{Split, IsSplit}
+use Rattle.surf_graphs.specs.Trees.{Tree}
+use Rattle.surf_surfaces.specs.Mesh.{Mesh}
+use Rattle.surf_surfaces.specs.Surface.{edge_count, IsSurface}
+use Rattle.surf_surfaces.specs.Walk.{IsClosed, ArePositive, parity}
+use Rattle.surf_surfaces.specs.Homology.{IsNull, IsIndependent, IsLoopCount}
+use Rattle.surf_surfaces.specs.Cells.{cells_of}
+use Rattle.surf_surfaces.specs.Class.{class_of, AreShortestTrees}
+use Rattle.surf_surfaces.specs.Loop.{loop_walk}
+use Rattle.surf_surfaces.specs.Choice.{DependsOn}
+use Rattle.surf_surfaces.specs.FewBases.{Place, place_at, Found, walks_found, IsFoundAt, IsFoundLoop, AreEnoughOf, AreEnough, AreFoundAt, IsFoundChoice, comes_no_later, every_place, with_vertex, IsWithin}
+use Rattle.surf_surfaces.proofs.BasisLaws.{contains-map}
+use Rattle.surf_surfaces.proofs.ChoiceExists.{choice_exists}
+use Rattle.surf_surfaces.proofs.ClassLaws.{null_by_class, independent_by_classes}
+use Rattle.surf_surfaces.proofs.FewBasesLaws.{least_base_on_way}
+use Rattle.surf_surfaces.proofs.FirstFoundLaws.{loop_closed, short_searches_suffice}
+use Rattle.surf_surfaces.proofs.FoundLaws.{greedy_is_found_choice, found_closed, loops_grow_enough}
+use Rattle.surf_surfaces.proofs.LeastLaws.{all_each, all_mapped}
+use Rattle.surf_cotree.specs.Tables.{CotreeTables}
+use Rattle.surf_choice.specs.declared.candidate.Candidate.{Candidate}
+use Rattle.surf_choice.specs.declared.candidate.Signed.{Signed}
+use Rattle.surf_choice.specs.Candidates.{Chosen, signed_earlier, independent_of}
+use Rattle.surf_choice.specs.Places.{place_of, is_sought, last_of, limit_of, stands_before}
+use Rattle.surf_choice.proofs.Limits.{IsShort, merged_sorted, sorted_by_number, before_last, limit_none, limit_last, limit_falls, all_sought}
+use Rattle.surf_choice.proofs.Sifted.{all_merged, all_kept, greedy_mapped}
+use Rattle.surf_search.specs.Signing.{AreSigned}
+use Rattle.surf_search.specs.Found.{IsFound, AreFoundBy, AreFound, found_of, is_among, AreKeptOf, IsNext}
+use Rattle.surf_search.proofs.Signed.{class_small}
+
+-- ---- the vertices of a list
+
+pub among_contained : (vs : List ℕ) (v : ℕ) → Contains vs v → is_among vs v ≡ true
+among_contained [] v (k, l, e) = absurd (omega arith)
+among_contained (x ∷ xs) v (zero, l, e) = or_left (x == v) (is_among xs v) (let same : x ≡ v = e in grind (arith, nat_tests))
+among_contained (x ∷ xs) v (suc k, l, e) = or_right (x == v) (is_among xs v) (among_contained xs v (k, omega arith, e))
+
+among_push : (xs : List ℕ) (z v : ℕ) → is_among (xs ++ z ∷ []) v ≡ true → (is_among xs v ≡ true) ⊎ (v ≡ z)
+among_push [] z v h = elim (or_cases (z == v) false h) [ inl on ↦ inr (grind (arith, nat_tests)) | inr off ↦ absurd (cc) ]
+among_push (x ∷ xs) z v h = elim (or_cases (x == v) (is_among (xs ++ z ∷ []) v) h) [
+  | inl on ↦ inl (or_left (x == v) (is_among xs v) on)
+  | inr after ↦ elim (among_push xs z v after) [
+    | inl old ↦ inl (or_right (x == v) (is_among xs v) old)
+    | inr new ↦ inr new
+  ]
+]
+
+-- one more of a list
+pub among_more : (vs : List ℕ) (i z v : ℕ) → i < length vs → get_or vs i z ≡ z → is_among (take (i + 1) vs) v ≡ true →
+    with_vertex z (is_among (take i vs)) v ≡ true
+among_more vs i z v l at h =
+    let split = among_push (take i vs) z v
+    (subst (λ xs. is_among xs v ≡ true) (take_more vs i z l ∙ ap (λ x. take i vs ++ x ∷ []) at) h) in
+    elim split [
+      | inl old ↦ or_left (is_among (take i vs) v) (eqb v z) old
+      | inr new ↦ or_right (is_among (take i vs) v) (eqb v z) (grind (arith, nat_tests))
+    ]
+
+-- what is chosen of some candidates is among them
+pub of_choice : (cs : List Signed) (s : Signed) → Contains (independent_of cs) s → Contains cs s
+of_choice cs s has = All-contains (Contains cs) (independent_of cs) s
+    (all_kept (Contains cs) cs (λ k c l. Contains-get_or cs k c l)) has
+
+-- what is in order of place is so as loops that were found
+pub sorted_places : (mesh : Mesh) (trees : ℕ → Tree) (cs : List Signed) → Sorted stands_before cs →
+    Sorted comes_no_later (map (found_of mesh trees) cs)
+sorted_places mesh trees [] s = tt
+sorted_places mesh trees (c ∷ cs) s = (
+  all_mapped (λ k. comes_no_later (found_of mesh trees c) k ≡ true) (found_of mesh trees) cs s.0,
+  sorted_places mesh trees cs s.1,
+)
+
+-- ---- loops that are null depend on any
+
+pub depends_null : (mesh : Mesh) (before : List (List ℕ)) (walk : List ℕ) → IsNull mesh walk → DependsOn mesh before walk
+depends_null mesh before walk (faces, is) = ([], (faces, λ e l. xor-false (parity mesh walk e) ∙ is e l))
+
+module _ (mesh : Mesh) (lengths : List ℕ) (trees : ℕ → Tree) (surface : IsSurface mesh)
+    (positive : ArePositive mesh lengths) (shortest : AreShortestTrees mesh lengths trees) (d : Split)
+    (split : IsSplit (cells_of mesh) d) where
+  abbrev Right : Signed → Type 0
+  Right = IsFound mesh lengths trees d
+
+  found_at : (c : Signed) → Right c → IsFoundAt mesh lengths trees c.from c.candidate.edge (found_of mesh trees c)
+  found_at c f = record { size = f.size; through = f.base; walk = refl }
+
+  loop_found : (c : Signed) → Right c → IsFoundLoop mesh lengths trees (found_of mesh trees c)
+  loop_found c f = record {
+    from = c.from;
+    edge = c.candidate.edge;
+    from_in = f.from_in;
+    edge_in = f.edge_in;
+    at = found_at c f;
+  }
+
+  pub loops_found : (cs : List Signed) → All Right cs → All (IsFoundLoop mesh lengths trees) (map (found_of mesh trees) cs)
+  loops_found cs h = All-from_recursion (IsFoundLoop mesh lengths trees) (map (found_of mesh trees) cs)
+      (all_mapped (IsFoundLoop mesh lengths trees) (found_of mesh trees) cs
+      (all_each Right (λ c. IsFoundLoop mesh lengths trees (found_of mesh trees c)) cs loop_found (recursion_from_All Right cs h)))
+
+  pub zero_null : (z e : ℕ) → z < mesh.vertices → e < edge_count mesh → class_of mesh d (loop_walk mesh (trees z) e) ≡ 0 →
+      IsNull mesh (loop_walk mesh (trees z) e)
+  zero_null z e z_in e_in zero_is =
+      (null_by_class mesh d surface split (loop_walk mesh (trees z) e)
+      (loop_closed mesh lengths trees surface shortest z e z_in e_in)).1 zero_is
+
+  -- the loops at a vertex that a search found
+  pub places_found : (limit : Option Candidate) (z : ℕ) (found : List Signed) → z < mesh.vertices →
+      AreFoundBy mesh lengths trees d limit z found →
+      AreFoundAt mesh lengths trees (is_sought limit) z (map (found_of mesh trees) found)
+  places_found limit z found z_in h = record {
+    are_loops = loops_found found h.each;
+    all = λ e e_in some sought.
+        (let (c, has, from_is, edge_is) = h.all e e_in (λ zero_is. some (zero_null z e z_in e_in zero_is)) sought in
+        let right : Right c = All-contains Right found c h.each has in (
+          found_of mesh trees c,
+          contains-map (found_of mesh trees) found c has,
+          subst (λ y. IsFoundAt mesh lengths trees y e (found_of mesh trees c)) from_is
+              (subst (λ f. IsFoundAt mesh lengths trees c.from f (found_of mesh trees c)) edge_is (found_at c right)),
+        ));
+  }
+
+  -- in another order they are the same
+  pub found_permuted : (limit : Option Candidate) (z : ℕ) (found list : List Signed) → IsPermutation found list →
+      AreFoundBy mesh lengths trees d limit z found → AreFoundBy mesh lengths trees d limit z list
+  found_permuted limit z found list same h = record {
+    each = All-permutation Right found list same h.each;
+    here = All-permutation (λ c. c.from ≡ z) found list same h.here;
+    sooner = All-permutation (λ c. IsTrue (is_sought limit (place_of c.candidate))) found list same h.sooner;
+    some = All-permutation (λ c. c.signature ≢ 0) found list same h.some;
+    all = λ e e_in some sought.
+        (let (c, has, from_is, edge_is) = h.all e e_in some sought in
+        (c, Contains-permutation found list c same has, from_is, edge_is));
+  }
+
+  -- the choice among those kept and those found, by their walks
+  pub found_choice : (cs next : List Signed) → All Right cs → next ≡ independent_of cs →
+      IsFoundChoice mesh (map (found_of mesh trees) cs) (map (found_of mesh trees) next)
+  found_choice cs next right is =
+      let own : AllByRecursion (λ c. c.signature ≡ class_of mesh d (found_of mesh trees c).walk) cs =
+      all_each Right (λ c. c.signature ≡ class_of mesh d (found_of mesh trees c).walk) cs (λ c r. r.signature)
+      (recursion_from_All Right cs right) in
+      let same : greedy numbers is_nothing (λ (k : Found). class_of mesh d k.walk) (map (found_of mesh trees) cs)
+      ≡ map (found_of mesh trees) next =
+      greedy_mapped (λ (c : Signed). c.signature) (found_of mesh trees) (λ (k : Found). class_of mesh d k.walk) [] cs own ∙ ap (map (found_of mesh trees)) (sym is) in
+      subst (IsFoundChoice mesh (map (found_of mesh trees) cs)) same
+      (greedy_is_found_choice mesh d surface split (map (found_of mesh trees) cs)
+      (found_closed mesh lengths trees surface shortest (map (found_of mesh trees) cs) (loops_found cs right)))
+
+  -- all independent ones are among as many as were kept
+  pub no_fewer : (kept cs next : List Signed) → Independent numbers (map (λ c. c.signature) kept) →
+      ((s : Signed) → Contains kept s → Contains cs s) → next ≡ independent_of cs → length kept ≤ length next
+  no_fewer kept cs next free sub is =
+      let spanned : AllInSpan numbers (map (λ (c : Signed). c.signature) next) (map (λ (c : Signed). c.signature) cs) =
+      subst (λ ks. AllInSpan numbers (map (λ (c : Signed). c.signature) ks) (map (λ (c : Signed). c.signature) cs)) (sym is)
+      (greedy_spans numbers is_nothing Decides-is_nothing (λ (c : Signed). c.signature) [] cs) in
+      let n = count numbers (map (λ (c : Signed). c.signature) next) (map (λ (c : Signed). c.signature) kept)
+      (free_from_independent numbers (map (λ (c : Signed). c.signature) kept) free)
+      (each kept sub spanned) in
+      omega (arith, n, length-map kept (λ (c : Signed). c.signature), length-map next (λ (c : Signed). c.signature))
+    where
+      member : (cs : List Signed) (vs : List ℕ) → AllInSpan numbers vs (map (λ (c : Signed). c.signature) cs) → (s : Signed) →
+          Contains cs s → InSpan numbers vs s.signature
+      member [] vs h s (k, l, e) = absurd (omega arith)
+      member (c ∷ cs) vs h s (zero, l, e) = subst (λ (x : Signed). InSpan numbers vs x.signature) e h.0
+      member (c ∷ cs) vs h s (suc k, l, e) = member cs vs h.1 s (k, omega arith, e)
+
+      each : (ks : List Signed) → ((s : Signed) → Contains ks s → Contains cs s) →
+          AllInSpan numbers (map (λ (c : Signed). c.signature) next) (map (λ (c : Signed). c.signature) cs) →
+          AllInSpan numbers (map (λ (c : Signed). c.signature) next) (map (λ (c : Signed). c.signature) ks)
+      each [] sub h = tt
+      each (k ∷ ks) sub h = (
+        member cs (map (λ (c : Signed). c.signature) next) h k (sub k (0, omega arith, refl)),
+        each ks (λ s has. sub s (suc has.0, omega (arith, has.1), has.2)) h,
+      )
+
+  -- ---- one vertex more
+
+  abbrev Kept : Option Candidate → (ℕ → Bool) → List Signed → Type 0
+  Kept limit set kept = AreKeptOf mesh lengths trees d limit set kept
+
+  -- where nothing is found there
+  kept_none : (limit : Option Candidate) (set : ℕ → Bool) (z : ℕ) (kept : List Signed) → z < mesh.vertices →
+      Kept limit set kept → AreFoundBy mesh lengths trees d limit z [] → Kept limit (with_vertex z set) kept
+  kept_none limit set z kept z_in k h = record {
+    enough = record {
+      loops = k.enough.loops;
+      depend = λ y e y_in in_set e_in sought. elim (or_cases (set y) (eqb y z) in_set) [
+        | inl old ↦ k.enough.depend y e y_in old e_in sought
+        | inr new ↦ depends_null mesh _ (loop_walk mesh (trees y) e) (of y e y_in e_in (eqb-true y z new) sought)
+      ];
+    };
+    each = k.each;
+    order = k.order;
+    independent = k.independent;
+  }
+    where
+      none : (e : ℕ) → e < edge_count mesh → IsTrue (is_sought limit (place_at mesh lengths trees z e)) →
+          IsNull mesh (loop_walk mesh (trees z) e)
+      none e e_in sought = elim (cases_eq (class_of mesh d (loop_walk mesh (trees z) e)) 0) [
+        | inl zero_is ↦ zero_null z e z_in e_in zero_is
+        | inr some ↦ let (c, has, from_is, edge_is) = h.all e e_in some sought in absurd (omega (arith, has.1))
+      ]
+
+      of : (y e : ℕ) → y < mesh.vertices → e < edge_count mesh → y ≡ z →
+          IsTrue (is_sought limit (place_at mesh lengths trees y e)) → IsNull mesh (loop_walk mesh (trees y) e)
+      of y e y_in e_in at = subst (λ x. IsTrue (is_sought limit (place_at mesh lengths trees x e)) → IsNull mesh (loop_walk mesh (trees x) e))
+          (sym at) (none e e_in)
+
+  -- where loops in order are
+  pub kept_merged : (limit : Option Candidate) (set : ℕ → Bool) (z : ℕ) (kept list next : List Signed) → z < mesh.vertices →
+      Kept limit set kept → AreFoundBy mesh lengths trees d limit z list → Sorted stands_before list →
+      next ≡ independent_of (merge signed_earlier kept list) → Kept limit (with_vertex z set) next
+  kept_merged limit set z kept list next z_in k h order is =
+      let cs = merge signed_earlier kept list in
+      let right : All Right cs = all_merged signed_earlier Right kept list k.each h.each in
+      let sorted : Sorted stands_before cs = merged_sorted kept list (sorted_from_order stands_before kept k.order) order in
+      let members : IsPermutation (map (found_of mesh trees) kept ++ map (found_of mesh trees) list) (map (found_of mesh trees) cs) =
+      subst (λ ks. IsPermutation ks (map (found_of mesh trees) cs)) (map-append (found_of mesh trees) kept list)
+      (IsPermutation-map (found_of mesh trees) (kept ++ list) cs (same_members signed_earlier kept list)) in
+      let grown = (loops_grow_enough mesh lengths trees surface shortest).more (is_sought limit) set z
+      (map (found_of mesh trees) kept) (map (found_of mesh trees) list) (map (found_of mesh trees) cs) (map (found_of mesh trees) next)
+      k.enough z_in (places_found limit z list z_in h) members
+      (order_from_sorted comes_no_later (map (found_of mesh trees) cs) (sorted_places mesh trees cs sorted)) (found_choice cs next right is) in
+      record {
+        enough = grown.0;
+        each = subst (All Right) (sym is) (all_kept Right cs right);
+        order = order_from_sorted stands_before next (subst (Sorted stands_before) (sym is)
+            (sorted_greedy numbers (λ (c : Signed). c.signature) is_nothing Decides-is_nothing stands_before [] cs sorted));
+        independent = subst (λ ks. Independent numbers (map (λ c. c.signature) ks)) (sym is)
+            ((greedy_law numbers is_nothing Decides-is_nothing (λ (c : Signed). c.signature)).independent cs);
+      }
+
+  -- for fewer places and vertices
+  pub kept_fewer : (limit fewer : Option Candidate) (set part : ℕ → Bool) (kept : List Signed) → Kept limit set kept →
+      ((p : Place) → IsTrue (is_sought fewer p) → IsTrue (is_sought limit p)) → ((v : ℕ) → IsTrue (part v) → IsTrue (set v)) →
+      Kept fewer part kept
+  kept_fewer limit fewer set part kept k places vertices = record {
+    enough = (loops_grow_enough mesh lengths trees surface shortest).fewer (is_sought limit) (is_sought fewer) set part
+        (map (found_of mesh trees) kept) k.enough places vertices;
+    each = k.each;
+    order = k.order;
+    independent = k.independent;
+  }
+
+  -- base and edge of what was found have 32 bits
+  pub found_short : mesh.vertices ≤ 2 ^ 32 → edge_count mesh ≤ 2 ^ 32 → (cs : List Signed) → All Right cs → All IsShort cs
+  found_short few_v few_e cs h = λ j c j_in. (let r : Right (get_or cs j c) = h j c j_in in
+      let base_in = (least_base_on_way mesh lengths trees surface positive shortest (get_or cs j c).from (get_or cs j c).candidate.edge r.from_in r.edge_in).0 in
+      record { base = omega (arith, r.base, base_in, few_v); edge = omega (arith, r.edge_in, few_e) })
+
+  -- a search from one more vertex
+  pub kept_next : (set : ℕ → Bool) (z : ℕ) (old new : Chosen) (found : List Signed) → z < mesh.vertices →
+      mesh.vertices ≤ 2 ^ 32 → edge_count mesh ≤ 2 ^ 32 → Kept (limit_of old) set old.kept →
+      AreFoundBy mesh lengths trees d (limit_of old) z found → IsNext old found new →
+      Kept (limit_of new) (with_vertex z set) new.kept
+  kept_next set z old new found z_in few_v few_e k h (inl (none, same)) =
+      subst (λ (c : Chosen). Kept (limit_of c) (with_vertex z set) c.kept) (sym same)
+      (kept_none (limit_of old) set z old.kept z_in k (subst (AreFoundBy mesh lengths trees d (limit_of old) z) none h))
+  kept_next set z old new found z_in few_v few_e k h (inr m) =
+      let list = m.list in
+      let there = found_permuted (limit_of old) z found list m.same h in
+      let next = independent_of (merge signed_earlier old.kept list) in
+      let order : Sorted stands_before list = sorted_by_number list (found_short few_v few_e list there.each) m.sorted in
+      let grown = kept_merged (limit_of old) set z old.kept list next z_in k there order refl in
+      let more : length old.kept ≤ length next = no_fewer old.kept (merge signed_earlier old.kept list) next k.independent
+      (λ s has. Contains-permutation (old.kept ++ list) (merge signed_earlier old.kept list) s
+      (same_members signed_earlier old.kept list) (Contains-append_left old.kept list s has)) refl in
+      subst (λ (c : Chosen). Kept (limit_of c) (with_vertex z set) c.kept) (sym m.new_is)
+      (kept_fewer (limit_of old) (limit_of (record old { kept = next })) (with_vertex z set) (with_vertex z set) next grown
+      (limit_falls old.width old.kept list next (sorted_from_order stands_before old.kept k.order) more
+      (λ s has. (Contains-append_cases old.kept list s (Contains-permutation (merge signed_earlier old.kept list) (old.kept ++ list) s
+      (IsPermutation-sym (old.kept ++ list) (merge signed_earlier old.kept list) (same_members signed_earlier old.kept list))
+      (of_choice (merge signed_earlier old.kept list) s has)))) there.sooner)
+      (λ v in'. in'))
+
+  -- ---- at the end
+
+  pub classes_are : (cs : List Signed) → AllByRecursion Right cs →
+      map (class_of mesh d) (walks_found (map (found_of mesh trees) cs)) ≡ map (λ c. c.signature) cs
+  classes_are [] h = refl
+  classes_are (c ∷ cs) h =
+      ap (λ n. n ∷ map (class_of mesh d) (walks_found (map (found_of mesh trees) cs))) (sym h.0.signature)
+      ∙ ap (λ ns. c.signature ∷ ns) (classes_are cs h.1)
+
+  pub kept_independent : (kept : List Signed) → All Right kept → Independent numbers (map (λ c. c.signature) kept) →
+      IsIndependent mesh (walks_found (map (found_of mesh trees) kept))
+  kept_independent kept right free =
+      (independent_by_classes mesh d surface split (walks_found (map (found_of mesh trees) kept))
+      (All-from_recursion (IsClosed mesh) (walks_found (map (found_of mesh trees) kept))
+      (all_mapped (IsClosed mesh) (λ k. k.walk) (map (found_of mesh trees) kept)
+      (found_closed mesh lengths trees surface shortest (map (found_of mesh trees) kept) (loops_found kept right))))).1
+      (subst (Independent numbers) (sym (classes_are kept (recursion_from_All Right kept right))) free)
+
+  -- what is kept is enough
+  pub kept_enough : (set : ℕ → Bool) (choice : Chosen) → Kept (limit_of choice) set choice.kept →
+      length choice.kept ≤ choice.width → IsLoopCount mesh choice.width →
+      AreEnough mesh lengths trees set (map (found_of mesh trees) choice.kept)
+  kept_enough set choice k few full = elim (cases_Bool (nat_le choice.width (length choice.kept))) [
+    | inr off ↦ every (limit_none choice.width choice.kept off)
+    | inl on ↦ of on (last_of choice.kept) refl
+  ]
+    where
+      every : limit_of choice ≡ None → AreEnough mesh lengths trees set (map (found_of mesh trees) choice.kept)
+      every none = (loops_grow_enough mesh lengths trees surface shortest).all set (map (found_of mesh trees) choice.kept)
+          ((loops_grow_enough mesh lengths trees surface shortest).fewer (is_sought (limit_of choice)) every_place set set
+          (map (found_of mesh trees) choice.kept) k.enough (λ p sought. all_sought (limit_of choice) p none) (λ v in'. in'))
+
+      of : nat_le choice.width (length choice.kept) ≡ true → (o : Option Candidate) → last_of choice.kept ≡ o →
+          AreEnough mesh lengths trees set (map (found_of mesh trees) choice.kept)
+      of on None e = every (limit_last choice.width choice.kept on ∙ e)
+      of on (Some c) e =
+          let many : choice.width ≤ length choice.kept = leb-true choice.width (length choice.kept) on in
+          let n : length (map (found_of mesh trees) choice.kept) ≡ length choice.kept = length-map choice.kept (found_of mesh trees) in
+          let count : IsLoopCount mesh (length (map (found_of mesh trees) choice.kept)) = omega (arith, n, many, few, full) in
+          short_searches_suffice mesh lengths trees set (place_of c) (map (found_of mesh trees) choice.kept) surface positive shortest
+          (kept_independent choice.kept k.each k.independent) count
+          (All-from_recursion (IsWithin (place_of c)) (map (found_of mesh trees) choice.kept)
+          (all_mapped (IsWithin (place_of c)) (found_of mesh trees) choice.kept
+          (before_last choice.kept c e (sorted_from_order stands_before choice.kept k.order))))
+          (subst (λ o. AreEnoughOf mesh lengths trees (is_sought o) set (map (found_of mesh trees) choice.kept))
+          (limit_last choice.width choice.kept on ∙ e) k.enough)
+
+-- their signatures are as small as there are left edges
+pub found_small : (mesh : Mesh) (lengths : List ℕ) → IsSurface mesh → ArePositive mesh lengths → (s : CotreeTables) (width : ℕ) →
+    AreSigned mesh s width → (limit : Option Candidate) (z : ℕ) (found : List Signed) → AreFound mesh lengths s limit z found →
+    All (λ c. c.signature < 2 ^ width) found
+found_small mesh lengths surface positive s width signed limit z found h =
+    let (trees, chosen) = choice_exists mesh lengths surface positive in
+    let each : All (IsFound mesh lengths (λ x. (trees x).tree) signed.split) found = (h trees chosen signed.split signed.signatures).each in
+    λ k c l. subst (λ n. n < 2 ^ width) (sym (each k c l).signature)
+    (class_small mesh signed.split (loop_walk mesh (trees (get_or found k c).from).tree (get_or found k c).candidate.edge) width signed.count)

@@ -1,0 +1,22 @@
+-- How many signatures there are, and how great they are.
+use Rattle.std.proofs.Common.{◌≡◌, ℕ, ◌<◌, ◌^◌, List, length, ap, ◌∙◌, subst}
+use Rattle.std.proofs.lemmas.List.FromFn.{length-map-range_with_len}
+use Rattle.surf_z2.proofs.Below.{small}
+use Rattle.surf_graphs.specs.Cells.{Split, chain_signature}
+use Rattle.surf_surfaces.specs.Mesh.{Mesh}
+use Rattle.surf_surfaces.specs.Surface.{edge_count}
+use Rattle.surf_surfaces.specs.Walk.{parity}
+use Rattle.surf_surfaces.specs.Cells.{cells_of}
+use Rattle.surf_surfaces.specs.Class.{class_of}
+use Rattle.surf_surfaces.specs.Signature.{edge_signature}
+use Rattle.surf_cotree.specs.Tables.{CotreeTables}
+use Rattle.surf_search.specs.Signing.{AreSigned}
+
+-- the class of a walk is as small as there are left edges
+pub class_small : (mesh : Mesh) (d : Split) (walk : List ℕ) (width : ℕ) → length d.left ≡ width → class_of mesh d walk < 2 ^ width
+class_small mesh d walk width is = subst (λ n. class_of mesh d walk < 2 ^ n) is (small (length d.left) (chain_signature (cells_of mesh) d (parity mesh walk)))
+
+-- signatures are as many as edges
+pub signs_long : (mesh : Mesh) (t : CotreeTables) (width : ℕ) → AreSigned mesh t width → length t.signatures ≡ edge_count mesh
+signs_long mesh t width s =
+    ap (λ (xs : List ℕ). length xs) s.signatures ∙ length-map-range_with_len (edge_signature mesh s.split) 0 (edge_count mesh)

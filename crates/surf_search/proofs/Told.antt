@@ -1,0 +1,401 @@
+-- What the tables of a search tell of the loops at its base.
+use Rattle.std.proofs.Common.{◌≡◌, ◌≢◌, ℕ, zero, suc, ◌<◌, ◌≤◌, ◌+◌, ◌*◌, ◌/◌, ◌^◌, ◌++◌, ◌∷◌, [], true, false, not, ltb, eqb, eqb-true, cond, ◌-◌, List, length, get_or, map, slice_index, bit_xor, min, All, Contains, Option, Some, None, refl, sym, ap, ◌∙◌, subst, arith, inl, inr}
+use Rattle.std.specs.Prelude.{IsTrue, ◌==◌}
+use Rattle.std.specs.Int.Bits.{xor_assoc, xor_comm}
+use Rattle.std.proofs.lemmas.Bool.{cases_Bool, cases_eq, cases_lt, and_parts, and_from, leb-true, le-leb, ltb-true}
+use Rattle.std.proofs.lemmas.Bool.Decides.{nat_tests}
+use Rattle.std.proofs.lemmas.List.{get_or_default, get_or_read, length-map, get_or-map}
+use Rattle.std.proofs.lemmas.List.Elements.{All-push, Contains-append_left, Contains-append_right}
+use Rattle.surf_graphs.specs.Cells.{Split}
+use Rattle.surf_graphs.specs.Trees.{Tree}
+use Rattle.surf_surfaces.specs.Mesh.{Mesh}
+use Rattle.surf_surfaces.specs.Surface.{edge_count, ends, IsSurface}
+use Rattle.surf_surfaces.specs.Walk.{ArePositive, edge_length, edge_number}
+use Rattle.surf_surfaces.specs.Class.{AreShortestTrees}
+use Rattle.surf_surfaces.specs.Loop.{loop_length}
+use Rattle.surf_surfaces.specs.Choice.{Trees, AreChosen}
+use Rattle.surf_surfaces.specs.Signature.{edge_signature}
+use Rattle.surf_surfaces.specs.FewBases.{place_at, comes_sooner, least_base, least_on_way}
+use Rattle.surf_surfaces.proofs.FirstCycleLaws.{shortest_trees}
+use Rattle.surf_surfaces.proofs.FirstFoundLaws.{ends_are_near}
+use Rattle.surf_surfaces.proofs.OnTheWayLaws.{zero_distance, least_tables_are_least}
+use Rattle.surf_surfaces.proofs.ShortestTreeLaws.{shortest_is_tree, shortest_is_shortest}
+use Rattle.surf_signatures.specs.Ways.{way_class}
+use Rattle.surf_signatures.proofs.WayLaws.{loop_class}
+use Rattle.surf_lengths.specs.Lengths.{longest, AreLengths}
+use Rattle.surf_lengths.proofs.Positive.{lengths_positive}
+use Rattle.surf_tree.proofs.LengthLaws.{short_lengths}
+use Rattle.surf_search.proofs.Turned.{ends_in}
+use Rattle.surf_cotree.specs.Tables.{CotreeTables}
+use Rattle.surf_near.specs.declared.links.Link.{Link}
+use Rattle.surf_near.specs.Links.{AreLinks, AreLinksAt, link_in}
+use Rattle.surf_near.specs.Near.{NearTables, IsNear, IsNearTo, is_near}
+use Rattle.surf_near.proofs.Linking.{link_all}
+use Rattle.surf_choice.specs.declared.candidate.Candidate.{Candidate}
+use Rattle.surf_choice.specs.declared.candidate.Signed.{Signed}
+use Rattle.surf_choice.specs.Places.{place_of, is_sought}
+use Rattle.surf_search.specs.Places.{AreDistances, radius_of}
+use Rattle.surf_search.specs.Signing.{AreSignatures}
+use Rattle.surf_search.specs.Ways.{WayTables, class_at, AreWays}
+use Rattle.surf_search.specs.Found.{Search, IsReady, IsLinkOf, IsRise, may_matter, is_between, told_loop, is_wanted, wanted_loop, IsTold, ListsAt, AreTold, IsFound, AreFoundBy}
+use Rattle.surf_search.proofs.Climbed.{at_edge}
+
+-- ---- the ends of an edge in the tables
+
+-- an end that was reached
+pub record IsEnd (x : Search) (u : ℕ) : Type 0 where
+  pub distances : u < length x.near.distances
+  pub leasts : u < length x.near.leasts
+  pub numbers : u < length x.ways.numbers
+  pub numbered : slice_index x.ways.numbers u < length x.ways.classes
+  pub fits : slice_index x.near.distances u < 2 ^ 62
+
+pub ready_end : (x : Search) (u : ℕ) → IsReady x → u < x.mesh.vertices → is_near x.near u ≡ true → IsEnd x u
+ready_end x u ready u_in near = record {
+  distances = omega (arith, ready.made.distances);
+  leasts = omega (arith, ready.made.leasts);
+  numbers = omega (arith, ready.numbers);
+  numbered = ready.numbered u u_in near;
+  fits = ready.fits u u_in near;
+}
+
+-- both ends of a link to a greater vertex
+pub rise_ends : (x : Search) (v : ℕ) (link : Link) → IsReady x → IsRise x.mesh v link → is_between x link.edge ≡ true →
+    IsEnd x v × IsEnd x link.to
+rise_ends x v link ready rise between =
+    let (low, high) = and_parts (is_near x.near (ends x.mesh link.edge).0) (is_near x.near (ends x.mesh link.edge).1) between in (
+      ready_end x v ready rise.low_in (subst (λ (p : ℕ × ℕ). is_near x.near p.0 ≡ true) rise.ends_are low),
+      ready_end x link.to ready rise.high_in (subst (λ (p : ℕ × ℕ). is_near x.near p.1 ≡ true) rise.ends_are high),
+    )
+
+-- a link that may matter leads to a greater vertex
+pub link_rises : (x : Search) (v : ℕ) (link : Link) → IsLinkOf x.mesh v link → may_matter x v link ≡ true →
+    IsRise x.mesh v link
+link_rises x v link is on =
+    let less : v < link.to = ltb-true v link.to (and_parts (ltb v link.to) _ on).0 in
+    let to_in = is.to_in in
+    record {
+      edge_in = is.edge_in;
+      low_in = omega (arith, less, to_in);
+      high_in = is.to_in;
+      ends_are = elim is.ends_are [
+        | inl up ↦ up.1
+        | inr down ↦ absurd (omega (arith, less, down.0))
+      ];
+    }
+
+pub sooner_size : (a b c d : ℕ) → comes_sooner (a, b) (c, d) ≡ true → c ≤ a
+sooner_size a b c d h = grind (arith, nat_tests)
+
+pub half_below : (n m : ℕ) → 2 * n ≤ m → n ≤ m / 2
+half_below n m le = omega arith
+
+-- half of what comes before a limit is within the radius
+sooner_half : (c : Candidate) (size base n : ℕ) → comes_sooner (place_of c) (size, base) ≡ true → 2 * n ≤ size →
+    n ≤ radius_of (Some c)
+sooner_half c size base n before half = elim (cases_Bool (eqb c.base 0)) [
+  | inl low ↦
+      let at : c.base ≡ 0 = eqb-true c.base 0 low in
+      let less : size < c.length = sooner_than_first c.length c.base size base at before in
+      subst (λ b. n ≤ cond b ((c.length - 1) / 2) (c.length / 2)) (sym low) (half_below n (c.length - 1) (omega (arith, less, half)))
+  | inr high ↦
+      let no_longer : size ≤ c.length = sooner_size c.length c.base size base before in
+      subst (λ b. n ≤ cond b ((c.length - 1) / 2) (c.length / 2)) (sym high) (half_below n c.length (omega (arith, no_longer, half)))
+]
+  where
+    sooner_than_first : (a b c d : ℕ) → b ≡ 0 → comes_sooner (a, b) (c, d) ≡ true → c < a
+    sooner_than_first a b c d at h = grind (arith, nat_tests)
+
+-- ---- lists of them
+
+-- a loop that is wanted is told
+pub told_wanted : (x : Search) (limit : Option Candidate) (e : ℕ) (s : Signed) → e < edge_count x.mesh →
+    wanted_loop x limit e ≡ Some s → IsTold x limit s
+told_wanted x limit e s e_in is = elim (cases_Bool (is_wanted x limit e)) [
+  | inl on ↦
+      let same : Some (told_loop x e) ≡ Some s = sym (wanted_on on) ∙ is in
+      let one : told_loop x e ≡ s = cc in
+      let edge : e ≡ s.candidate.edge = ap (λ (c : Signed). c.candidate.edge) one in
+      record {
+        edge_in = subst (λ n. n < edge_count x.mesh) edge e_in;
+        wanted = subst (λ n. is_wanted x limit n ≡ true) edge on;
+        told = sym one ∙ ap (told_loop x) edge;
+      }
+  | inr off ↦ let none : None ≡ Some s = sym (wanted_off off) ∙ is in cc
+]
+  where
+    wanted_on : is_wanted x limit e ≡ true → wanted_loop x limit e ≡ Some (told_loop x e)
+    wanted_on on = rw on refl
+
+    wanted_off : is_wanted x limit e ≡ false → wanted_loop x limit e ≡ None
+    wanted_off off = rw off refl
+
+-- it is the loop of the edge
+pub told_same : (x : Search) (limit : Option Candidate) (e : ℕ) (s : Signed) → wanted_loop x limit e ≡ Some s →
+    told_loop x e ≡ s
+told_same x limit e s is = elim (cases_Bool (is_wanted x limit e)) [
+  | inl on ↦ let same : Some (told_loop x e) ≡ Some s = sym (wanted_on on) ∙ is in cc
+  | inr off ↦ let none : None ≡ Some s = sym (wanted_off off) ∙ is in cc
+]
+  where
+    wanted_on : is_wanted x limit e ≡ true → wanted_loop x limit e ≡ Some (told_loop x e)
+    wanted_on on = rw on refl
+
+    wanted_off : is_wanted x limit e ≡ false → wanted_loop x limit e ≡ None
+    wanted_off off = rw off refl
+
+-- where none is given the loop isn't wanted
+pub told_off : (x : Search) (limit : Option Candidate) (e : ℕ) → wanted_loop x limit e ≡ None →
+    is_wanted x limit e ≡ true → ⊥
+told_off x limit e is on =
+    let some : Some (told_loop x e) ≡ None = sym (wanted_on on) ∙ is in cc
+  where
+    wanted_on : is_wanted x limit e ≡ true → wanted_loop x limit e ≡ Some (told_loop x e)
+    wanted_on on = rw on refl
+
+-- ---- the links of a vertex, one after the other
+
+-- what a list has after the first links of a vertex, and what it had before
+pub record IsListedAt (x : Search) (limit : Option Candidate) (v : ℕ) (links : List Link) (old found : List Signed) (k : ℕ) : Type 0 where
+  pub each : All (IsTold x limit) found
+  pub kept : All (Contains found) old
+  pub here : (j : ℕ) → j < k → (ends x.mesh (link_in links j).edge).0 ≡ v → is_wanted x limit (link_in links j).edge ≡ true →
+      Contains found (told_loop x (link_in links j).edge)
+
+pub listed_first : (x : Search) (limit : Option Candidate) (v : ℕ) (links : List Link) (old : List Signed) →
+    All (IsTold x limit) old → IsListedAt x limit v links old old 0
+listed_first x limit v links old told = record {
+  each = told;
+  kept = λ k d l. (k, l, get_or_default old k (get_or old k d) d l);
+  here = λ j l. absurd (omega arith);
+}
+
+-- what one list has another has too
+pub contained : (old new : List Signed) (c : Signed) → All (Contains new) old → Contains old c → Contains new c
+contained old new c kept (k, l, is) = subst (Contains new) is (kept k c l)
+
+module _ (x : Search) (limit : Option Candidate) (v : ℕ) (links : List Link) (old : List Signed) where
+  -- one more loop
+  pub listed_push : (found new : List Signed) (k e : ℕ) (s : Signed) → IsListedAt x limit v links old found k →
+      (link_in links k).edge ≡ e → e < edge_count x.mesh → wanted_loop x limit e ≡ Some s → new ≡ found ++ s ∷ [] →
+      IsListedAt x limit v links old new (k + 1)
+  listed_push found new k e s h at e_in is push = subst (λ ys. IsListedAt x limit v links old ys (k + 1)) (sym push) (record {
+    each = All-push (IsTold x limit) found s h.each (told_wanted x limit e s e_in is);
+    kept = λ i d l. Contains-append_left found (s ∷ []) (get_or old i d) (h.kept i d l);
+    here = λ j l low on. elim (cases_lt j k) [
+      | inl less ↦ Contains-append_left found (s ∷ []) (told_loop x (link_in links j).edge) (h.here j less low on)
+      | inr more ↦
+          let same : j ≡ k = omega arith in
+          let one : told_loop x (link_in links j).edge ≡ s =
+          ap (told_loop x) (ap (λ n. (link_in links n).edge) same ∙ at) ∙ told_same x limit e s is in
+          Contains-append_right found (s ∷ []) (told_loop x (link_in links j).edge)
+          (subst (Contains (s ∷ [])) (sym one) (0, omega arith, refl))
+    ];
+  })
+
+  -- no more
+  pub listed_same : (found new : List Signed) (k : ℕ) → IsListedAt x limit v links old found k → new ≡ found →
+      ((ends x.mesh (link_in links k).edge).0 ≡ v → is_wanted x limit (link_in links k).edge ≡ true → ⊥) →
+      IsListedAt x limit v links old new (k + 1)
+  listed_same found new k h same off = subst (λ ys. IsListedAt x limit v links old ys (k + 1)) (sym same) (record {
+    each = h.each;
+    kept = h.kept;
+    here = λ j l low on. elim (cases_lt j k) [
+      | inl less ↦ h.here j less low on
+      | inr more ↦
+          let is : j ≡ k = omega arith in
+          absurd (off (ap (λ n. (ends x.mesh (link_in links n).edge).0) (sym is) ∙ low)
+          (ap (λ n. is_wanted x limit (link_in links n).edge) (sym is) ∙ on))
+    ];
+  })
+
+  -- all of them
+  pub listed_all : (lengths : List ℕ) (found : List Signed) (k : ℕ) → IsListedAt x limit v links old found k →
+      length links ≤ k → AreLinksAt x.mesh lengths v links → ListsAt x limit v found
+  listed_all lengths found k h past are e e_in low on =
+      let (j, l, is) = link_all x.mesh lengths v links are e e_in (inl low) in
+      subst (λ n. Contains found (told_loop x n)) is
+      (h.here j (omega arith) (ap (λ n. (ends x.mesh n).0) is ∙ low) (ap (is_wanted x limit) is ∙ on))
+
+-- the edges at one more vertex
+pub lists_more : (x : Search) (limit : Option Candidate) (settled : List ℕ) (i v : ℕ) (old new : List Signed) →
+    ((j : ℕ) → j < i → ListsAt x limit (slice_index settled j) old) → All (Contains new) old → ListsAt x limit v new →
+    v ≡ slice_index settled i → (j : ℕ) → j < i + 1 → ListsAt x limit (slice_index settled j) new
+lists_more x limit settled i v old new was kept here is j l e e_in low on = elim (cases_lt j i) [
+  | inl less ↦ contained old new (told_loop x e) kept (was j less e e_in low on)
+  | inr more ↦
+      let same : j ≡ i = omega arith in
+      here e e_in (low ∙ ap (slice_index settled) same ∙ sym is) on
+]
+
+-- what a search was made for, as it was asked
+pub near_there : (mesh m : Mesh) (lengths l : List ℕ) (z far r : ℕ) (t : NearTables) → m ≡ mesh → l ≡ lengths → r ≡ far →
+    IsNear m l z r t → IsNear mesh lengths z far t
+near_there mesh m lengths l z far r t a b c h =
+    subst (λ x. IsNear mesh lengths z x t) c (subst (λ x. IsNear mesh x z r t) b (subst (λ x. IsNear x l z r t) a h))
+
+-- what the tables have of settled vertices are their distances
+pub distances_are : (mesh : Mesh) (lengths : List ℕ) (z far : ℕ) (t : NearTables) → IsNear mesh lengths z far t →
+    AreDistances mesh lengths z (map (slice_index t.distances) t.settled)
+distances_are mesh lengths z far t near tree short i l =
+    let n = near.near tree short in
+    let m : length (map (slice_index t.distances) t.settled) ≡ length t.settled = length-map t.settled (slice_index t.distances) in
+    let i_in : i < length t.settled = omega (arith, l, m) in
+    let there = n.inside i i_in in (
+      slice_index t.settled i,
+      there.0,
+      sym (n.tables.ranks (slice_index t.settled i) there.0 there.1) ∙ sym (get_or-map (slice_index t.distances) t.settled i 0 0 i_in),
+    )
+
+-- the lengths of links are positive
+pub links_positive : (mesh m : Mesh) (lengths : List ℕ) (rows : List (List Link)) → m ≡ mesh → AreLinks m lengths rows →
+    ArePositive mesh lengths
+links_positive mesh m lengths rows same h =
+    subst (λ x. ArePositive x lengths) same (lengths_positive m lengths h.are_lengths h.as_many)
+
+-- ---- they are the loops by each tree
+
+module _ (mesh : Mesh) (lengths : List ℕ) (surface : IsSurface mesh) (positive : ArePositive mesh lengths) (lens : AreLengths lengths) (z : ℕ)
+    (z_in : z < mesh.vertices) (s : CotreeTables) (t : NearTables) (w : WayTables) (limit : Option Candidate)
+    (near : IsNear mesh lengths z (radius_of limit) t) (ways : AreWays mesh lengths z s t w) where
+  abbrev told : Search
+  told = record { mesh = mesh; lengths = lengths; signs = s; near = t; ways = w; base = z }
+
+  module _ (trees : ℕ → Trees) (chosen : AreChosen mesh lengths trees) (d : Split) (are : AreSignatures mesh d s) where
+    abbrev searched : ℕ → Tree
+    searched = λ x. (trees x).tree
+
+    shortest : AreShortestTrees mesh lengths searched
+    shortest = shortest_trees mesh lengths surface positive trees chosen
+
+    agrees : IsNearTo mesh lengths z (radius_of limit) (trees z).tree t
+    agrees = near.near (trees z).tree (chosen z z_in).shortest
+
+    within : (v : ℕ) → v < mesh.vertices → is_near t v ≡ true → (trees z).tree.rank v ≤ radius_of limit
+    within v v_in on = leb-true ((trees z).tree.rank v) (radius_of limit) (sym (agrees.is_near v v_in) ∙ on)
+
+    reached : (v : ℕ) → v < mesh.vertices → (trees z).tree.rank v ≤ radius_of limit → is_near t v ≡ true
+    reached v v_in le = agrees.is_near v v_in ∙ le-leb ((trees z).tree.rank v) (radius_of limit) le
+
+    -- what an edge's loop is told to be
+    told_found : (e : ℕ) → e < edge_count mesh → is_between told e ≡ true → IsFound mesh lengths searched d (told_loop told e)
+    told_found e e_in between =
+        let u = (ends mesh e).0 in
+        let v = (ends mesh e).1 in
+        let tree = (trees z).tree in
+        let short = (chosen z z_in).shortest in
+        let (u_in, v_in) = ends_in mesh surface e e_in in
+        let (near_u, near_v) = and_parts (is_near t u) (is_near t v) between in
+        let u_far = within u u_in near_u in
+        let v_far = within v v_in near_v in
+        let least_is : (x : ℕ) → x < mesh.vertices → tree.rank x ≤ radius_of limit → slice_index t.leasts x ≡ least_on_way mesh searched z x =
+        λ x. least_tables_are_least mesh lengths searched z (radius_of limit) (slice_index t.leasts) surface positive shortest z_in agrees.least x in
+        let own : slice_index s.signatures e ≡ edge_signature mesh d e = at_edge mesh d s e are e_in in
+        let a : class_at w u ≡ way_class mesh d tree u = (ways u u_in near_u).class d are tree short in
+        let b : class_at w v ≡ way_class mesh d tree v = (ways v v_in near_v).class d are tree short in
+        record {
+          from_in = z_in;
+          edge_in = e_in;
+          size = ap (λ n. n + edge_length lengths e + slice_index t.distances v) (agrees.tables.ranks u u_in u_far)
+              ∙ ap (λ n. tree.rank u + edge_length lengths e + n) (agrees.tables.ranks v v_in v_far);
+          base = ap (λ n. min n (slice_index t.leasts v)) (least_is u u_in u_far)
+              ∙ ap (λ n. min (least_on_way mesh searched z u) n) (least_is v v_in v_far);
+          signature =
+              ap (λ n. bit_xor (bit_xor n (slice_index s.signatures e)) (class_at w v)) a
+              ∙ ap (λ n. bit_xor (bit_xor (way_class mesh d tree u) n) (class_at w v)) own
+              ∙ ap (bit_xor (bit_xor (way_class mesh d tree u) (edge_signature mesh d e))) b
+              ∙ ap (λ n. bit_xor n (way_class mesh d tree v)) (xor_comm (way_class mesh d tree u) (edge_signature mesh d e))
+              ∙ xor_assoc (edge_signature mesh d e) (way_class mesh d tree u) (way_class mesh d tree v)
+              ∙ sym (loop_class mesh lengths d tree e surface (shortest_is_tree mesh lengths z tree surface positive short)
+              (shortest_is_shortest mesh lengths z tree surface positive short) e_in);
+        }
+
+    -- a search without a limit reaches all
+    all_near : radius_of limit ≡ 18446744073709551615 → (k v : ℕ) → v < mesh.vertices → (trees z).tree.rank v < k →
+        (trees z).tree.rank v ≤ radius_of limit
+    all_near big zero v v_in l = absurd (omega arith)
+    all_near big (suc k) v v_in l = elim (cases_eq v z) [
+      | inl same ↦
+          let none : (trees z).tree.rank z ≡ 0 = zero_distance mesh lengths searched surface positive shortest z z_in in
+          let here : (trees z).tree.rank v ≡ (trees z).tree.rank z = ap (trees z).tree.rank same in
+          omega arith
+      | inr ne ↦
+          let tree = (trees z).tree in
+          let short = (chosen z z_in).shortest in
+          let is_tree = shortest_is_tree mesh lengths z tree surface positive short in
+          let off : v ≢ tree.root = λ e. ne (e ∙ short.root) in
+          let p = tree.parent v in
+          let p_in : tree.parent v < mesh.vertices = is_tree.parent_in v v_in off in
+          let falls : tree.rank (tree.parent v) < tree.rank v = is_tree.rank_falls v v_in off in
+          let le = all_near big k (tree.parent v) p_in (omega arith) in
+          let fit : slice_index t.distances (tree.parent v) < 2 ^ 62 = near.fits (tree.parent v) p_in (reached (tree.parent v) p_in le) in
+          let is : slice_index t.distances (tree.parent v) ≡ tree.rank (tree.parent v) = agrees.tables.ranks (tree.parent v) p_in le in
+          let tight : tree.rank (tree.parent v) + edge_length lengths (edge_number mesh (tree.parent v, v)) ≡ tree.rank v = (short.tight v v_in ne).1 in
+          let most : edge_length lengths (edge_number mesh (tree.parent v, v)) ≤ longest = short_lengths lengths lens (edge_number mesh (tree.parent v, v)) in
+          omega arith
+    ]
+
+    -- the ends of an edge whose loop is sought were reached
+    sought_near : (e : ℕ) → e < edge_count mesh → is_sought limit (place_at mesh lengths searched z e) ≡ true →
+        is_between told e ≡ true
+    sought_near e e_in sought =
+        let (u_in, v_in) = ends_in mesh surface e e_in in
+        let half = ends_are_near mesh lengths searched z e shortest z_in e_in in
+        and_from (is_near t (ends mesh e).0) (is_near t (ends mesh e).1)
+        (reached (ends mesh e).0 u_in (far limit refl (ends mesh e).0 u_in half.0))
+        (reached (ends mesh e).1 v_in (far limit refl (ends mesh e).1 v_in half.1))
+      where
+        far : (o : Option Candidate) → limit ≡ o → (v : ℕ) → v < mesh.vertices →
+            2 * (trees z).tree.rank v ≤ loop_length mesh lengths (trees z).tree e → (trees z).tree.rank v ≤ radius_of limit
+        far None is v v_in half = all_near (ap radius_of is) (suc ((trees z).tree.rank v)) v v_in (omega arith)
+        far (Some c) is v v_in half =
+            let before : comes_sooner (place_of c) (place_at mesh lengths searched z e) ≡ true =
+            subst (λ o. is_sought o (place_at mesh lengths searched z e) ≡ true) is sought in
+            subst (λ o. (trees z).tree.rank v ≤ radius_of o) (sym is)
+            (sooner_half c (loop_length mesh lengths (trees z).tree e) (least_base mesh searched z e) ((trees z).tree.rank v) before half)
+
+    -- the lesser end of an edge whose ends were reached was settled
+    low_settled : (e : ℕ) → e < edge_count mesh → is_between told e ≡ true →
+        (k : ℕ) × (k < length t.settled) × (slice_index t.settled k ≡ (ends mesh e).0)
+    low_settled e e_in between =
+        let u = (ends mesh e).0 in
+        let (u_in, v_in) = ends_in mesh surface e e_in in
+        let (near_u, near_v) = and_parts (is_near t u) (is_near t (ends mesh e).1) between in
+        let (k, l, is) = agrees.all u u_in (within u u_in near_u) in
+        (k, l, sym (get_or_read t.settled k u l (sym is) 0))
+
+    -- what is told has all that are sought, and no others
+    pub told_are_found : (found : List Signed) → AreTold told limit found → AreFoundBy mesh lengths searched d limit z found
+    told_are_found found h = record {
+      each = λ k c l.
+          (let i = h.each k c l in
+          subst (IsFound mesh lengths searched d) (sym i.told) (told_found _ i.edge_in (and_parts (is_between told _) _ i.wanted).0));
+      here = λ k c l. ap (λ (x : Signed). x.from) (h.each k c l).told;
+      sooner = λ k c l.
+          (let i = h.each k c l in
+          subst (λ (x : Signed). IsTrue (is_sought limit (place_of x.candidate))) (sym i.told) (parts _ i.wanted).0);
+      some = λ k c l.
+          (let i = h.each k c l in
+          subst (λ (x : Signed). x.signature ≢ 0) (sym i.told) (not_zero _ (parts _ i.wanted).1));
+      all = λ e e_in some sought.
+          (let between = sought_near e e_in sought in
+          let f = told_found e e_in between in
+          let on : is_wanted told limit e ≡ true = and_from (is_between told e) _ between
+          (and_from (is_sought limit (place_of (told_loop told e).candidate)) (not ((told_loop told e).signature == 0))
+          (subst (λ p. is_sought limit p ≡ true)
+          (sym (ap (λ n. (n, (told_loop told e).candidate.base)) f.size ∙ ap (λ n. (loop_length mesh lengths (trees z).tree e, n)) f.base)) sought)
+          (zero_not (told_loop told e).signature (λ zero_is. some (sym f.signature ∙ zero_is)))) in
+          let (k, l, is) = low_settled e e_in between in
+          (told_loop told e, h.all k l e e_in (sym is) on, refl, refl));
+    }
+      where
+        parts : (e : ℕ) → is_wanted told limit e ≡ true →
+            (is_sought limit (place_of (told_loop told e).candidate) ≡ true) × (not ((told_loop told e).signature == 0) ≡ true)
+        parts e on = and_parts (is_sought limit (place_of (told_loop told e).candidate)) (not ((told_loop told e).signature == 0))
+            (and_parts (is_between told e) _ on).1
+
+        not_zero : (n : ℕ) → not (n == 0) ≡ true → n ≢ 0
+        not_zero n h e = grind (arith, nat_tests)
+
+        zero_not : (n : ℕ) → n ≢ 0 → not (n == 0) ≡ true
+        zero_not n h = grind (arith, nat_tests)

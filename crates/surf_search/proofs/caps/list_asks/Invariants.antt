@@ -1,0 +1,10 @@
+use Rattle.std.proofs.Common.{◌<◌, All}
+use Rattle.surf_surfaces.specs.Surface.{edge_count}
+use Rattle.surf_search.specs.Rounds.{AreAsks}
+use Rattle.surf_search.proofs.caps.list_asks.Given as goal
+
+abbrev pub invariant-loop-e : goal.invariant-loop-e
+invariant-loop-e l = record {
+  asks : AreAsks l.surface.signatures.now l.choice.kept l.most l.e l.asks.items;
+  inside : All (λ a. a.edge < edge_count l.surface.mesh.now) l.asks.items;
+}

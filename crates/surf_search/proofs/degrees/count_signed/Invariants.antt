@@ -1,0 +1,5 @@
+use Rattle.surf_search.specs.Marks.{AreDegreesTo}
+use Rattle.surf_search.proofs.degrees.count_signed.Given as goal
+
+abbrev pub invariant-loop-number : goal.invariant-loop-number
+invariant-loop-number l = AreDegreesTo l.mesh l.signatures l.number l.degrees

@@ -1,0 +1,27 @@
+use Rattle.std.proofs.Common.{◌<◌, sym, subst}
+use Rattle.std.proofs.lemmas.Result.{on_ok_weaker}
+use Rattle.surf_search.specs.Found.{SurfaceTables, search_of, AreFound, AreTold}
+use Rattle.surf_search.proofs.Told.{links_positive, told_are_found}
+use Rattle.surf_search.proofs.finder.Finder.find.Goals as goal
+
+pub returns-clause-found : goal.returns-clause-found
+returns-clause-found c =
+    let inside = c.self.inside in
+    let mesh = inside.surface.mesh.now in
+    let lengths = inside.links.lengths in
+    let s = inside.surface.signatures.now in
+    let limit = c.args.limit.now in
+    let z = c.args.base in
+    let t = c.reach.new.self.desk in
+    let w = c.reach.new.self.ways in
+    let surface = c.law_of_surface.ensures.surface in
+    let lens = c.law_of_links.ensures.links.are_lengths in
+    let positive = links_positive mesh inside.links.mesh lengths inside.links.rows c.self.invariant.0 c.law_of_links.ensures.links in
+    let z_in : z < mesh.vertices = subst (λ (v : SurfaceTables). z < v.mesh.vertices) (sym c.self.view_is) c.requires.base in
+    let near = c.reach.ensures.near in
+    on_ok_weaker c.list_loops.result
+    (λ told. subst (λ (v : SurfaceTables). AreFound v.mesh v.lengths v.signs limit z c.list_loops.new.found.items) c.self.view_is
+    (λ trees chosen d are.
+    told_are_found mesh lengths surface positive lens z z_in s t w limit near c.in_ok-reach.ensures.ways trees chosen d are c.list_loops.new.found.items
+    (subst (λ n. AreTold (search_of mesh lengths s t w n) limit c.list_loops.new.found.items) near.base_is told)))
+    c.list_loops.ensures.told

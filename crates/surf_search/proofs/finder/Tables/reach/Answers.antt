@@ -1,0 +1,24 @@
+use Rattle.std.proofs.Common.{◌<◌, refl, subst}
+use Rattle.std.proofs.lemmas.List.{get_or_default}
+use Rattle.surf_search.specs.Places.{radius_of}
+use Rattle.surf_search.proofs.Numbered.{settled_in}
+use Rattle.surf_search.proofs.Told.{links_positive, near_there}
+use Rattle.surf_search.proofs.finder.Tables.reach.Goals as goal
+
+pub returns-clause-near : goal.returns-clause-near
+returns-clause-near c =
+    let net = c.args.links.now in
+    near_there c.args.surface.now.mesh.now net.mesh net.lengths net.lengths c.args.base (radius_of c.args.limit.now) c.radius.result
+    c.grow.new.self c.requires.links refl c.radius.ensures.radius c.grow.ensures.near
+
+pub returns-clause-settled : goal.returns-clause-settled
+returns-clause-settled c = λ k d l.
+    let net = c.args.links.now in
+    let mesh = c.args.surface.now.mesh.now in
+    let t = c.grow.new.self in
+    let positive = links_positive mesh net.mesh net.lengths net.rows c.requires.links c.law_of_links.ensures.links in
+    let near = near_there mesh net.mesh net.lengths net.lengths c.args.base (radius_of c.args.limit.now) c.radius.result
+    t c.requires.links refl c.radius.ensures.radius c.grow.ensures.near in
+    subst (λ n. n < mesh.vertices) (get_or_default t.settled k 0 d l)
+    (settled_in mesh net.lengths c.law_of_surface.ensures.surface positive c.args.base (radius_of c.args.limit.now) c.requires.base
+    c.args.surface.now.signatures.now t near k l)

@@ -1,0 +1,16 @@
+use Rattle.std.proofs.Common.{◌≡◌, ◌⊎◌, ℕ, ◌<◌, Contains, length}
+use Rattle.std.specs.Prelude.{IsTrue, slice_index}
+use Rattle.surf_firsts.specs.Near.{AgreeOff}
+use Rattle.surf_search.specs.Passing.{is_marked, AreShut}
+use Rattle.surf_search.proofs.marks.mark_all.Given as goal
+
+abbrev pub invariant-loop-v : goal.invariant-loop-v
+invariant-loop-v l = record {
+  only : (v : ℕ) → IsTrue (is_marked l.marks v) → IsTrue (is_marked l.fn.marks v) ⊎ Contains l.list v;
+  all : (i : ℕ) → i < l.v-index → IsTrue (is_marked l.marks (slice_index l.list i));
+  stay : (v : ℕ) → IsTrue (is_marked l.fn.marks v) → IsTrue (is_marked l.marks v);
+  count : length l.marks ≡ length l.fn.marks;
+  shut : AreShut l.fn.links.mesh l.links.lengths l.fn.marks l.marks;
+  off : AgreeOff l.fn.links.mesh l.fn.links.lengths l.links.lengths (is_marked l.marks);
+  mesh : l.links.mesh ≡ l.fn.links.mesh;
+}

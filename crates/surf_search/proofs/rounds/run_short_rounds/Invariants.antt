@@ -1,0 +1,11 @@
+use Rattle.std.proofs.Common.{◌≡◌, length}
+use Rattle.surf_search.specs.Rounds.{AreKeptUpTo}
+use Rattle.surf_search.proofs.rounds.run_short_rounds.Given as goal
+
+abbrev pub invariant-loop-round : goal.invariant-loop-round
+invariant-loop-round l = record {
+  same : l.finder ≡ l.fn.finder;
+  width : l.choice.width ≡ l.fn.choice.width;
+  count : length l.reached ≡ length l.fn.reached;
+  kept : AreKeptUpTo l.fn.finder l.reached l.choice;
+}

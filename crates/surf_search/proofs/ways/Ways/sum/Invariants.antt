@@ -1,0 +1,12 @@
+use Rattle.std.proofs.Common.{◌≡◌, ◌≤◌, ◌+◌, length}
+use Rattle.surf_search.specs.Ways.{HasNone}
+use Rattle.surf_search.proofs.Numbered.{AreWaysTo}
+use Rattle.surf_search.proofs.ways.Ways.sum.Given as goal
+
+abbrev pub invariant-loop-v : goal.invariant-loop-v
+invariant-loop-v l = record {
+  ways : AreWaysTo l.surface.mesh.now l.links.lengths l.base l.surface.signatures.now l.desk l.self l.v-index;
+  none : HasNone l.self;
+  count : length l.self.numbers ≡ l.surface.mesh.now.vertices;
+  few : length l.self.classes ≤ l.v-index + 1;
+}

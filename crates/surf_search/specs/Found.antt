@@ -1,0 +1,251 @@
+-- Loops that searches find, as signed candidates.
+use Rattle.std.specs.Prelude.{ℕ, ◌≡◌, ◌≢◌, ◌<◌, ◌+◌, ◌^◌, ◌==◌, ◌&&◌, ◌||◌, true, false, ◌⊎◌, fold, IsPermutation, not, min, nat_lt, Bool, IsTrue, bit_xor, List, [], ◌∷◌, map, All, Contains, length, slice_index, Option, Some, None, if◌then◌else◌}
+use Rattle.std.specs.List.Sorted.{IsNonDecreasingBy}
+use Rattle.surf_z2.specs.Order.{merge, IsInOrder}
+use Rattle.surf_z2.specs.Space.{numbers, Independent}
+use Rattle.surf_graphs.specs.Cells.{Split, IsSplit}
+use Rattle.surf_graphs.specs.Trees.{Tree}
+use Rattle.surf_surfaces.specs.Mesh.{Mesh}
+use Rattle.surf_surfaces.specs.Surface.{edge_count, ends}
+use Rattle.surf_surfaces.specs.Walk.{edge_length}
+use Rattle.surf_surfaces.specs.Cells.{cells_of}
+use Rattle.surf_surfaces.specs.Homology.{IsNull}
+use Rattle.surf_surfaces.specs.Class.{class_of}
+use Rattle.surf_surfaces.specs.Loop.{loop_walk, loop_length}
+use Rattle.surf_surfaces.specs.Choice.{Trees, AreChosen}
+use Rattle.surf_surfaces.specs.FewBases.{place_at, least_base, Found, AreEnoughOf, IsFirstFound}
+use Rattle.surf_cotree.specs.Tables.{CotreeTables}
+use Rattle.surf_near.specs.Near.{NearTables, AreNearTables, is_near}
+use Rattle.surf_near.specs.declared.links.Link.{Link}
+use Rattle.surf_choice.specs.declared.candidate.Candidate.{Candidate}
+use Rattle.surf_choice.specs.declared.candidate.Signed.{Signed}
+use Rattle.surf_choice.specs.Candidates.{Chosen, earlier, signed_earlier, independent_of}
+use Rattle.surf_choice.specs.Places.{place_of, stands_before, order_of, is_sought, limit_of}
+use Rattle.surf_search.specs.declared.reached.Reached.{Reached}
+use Rattle.surf_search.specs.declared.surface.SignedSurface.{SignedSurface}
+use Rattle.surf_search.specs.Signing.{AreSignatures}
+use Rattle.surf_search.specs.Ways.{WayTables, class_at}
+
+-- ---- what a search says of an edge
+
+-- a surface with the signatures of its edges, and the tables of a search from a base
+pub record Search : Type 0 where
+  pub mesh : Mesh
+  pub lengths : List ℕ
+  pub signs : CotreeTables
+  pub near : NearTables
+  pub ways : WayTables
+  pub base : ℕ
+
+-- a surface with lengths and the signatures of its edges
+pub record SurfaceTables : Type 0 where
+  pub mesh : Mesh
+  pub lengths : List ℕ
+  pub signs : CotreeTables
+
+abbrev pub surface_of : SignedSurface → SurfaceTables
+surface_of s = record { mesh = s.mesh.now; lengths = s.lengths.now; signs = s.signatures.now }
+
+abbrev pub search_of : Mesh → List ℕ → CotreeTables → NearTables → WayTables → ℕ → Search
+search_of mesh lengths s t w base =
+    record { mesh = mesh; lengths = lengths; signs = s; near = t; ways = w; base = base }
+
+-- the search that has reached so much, from the base of its tables
+abbrev pub reached_at : Reached → Search
+reached_at r =
+    search_of r.surface.now.mesh.now r.links.now.lengths r.surface.now.signatures.now r.desk.now r.ways.now r.desk.now.base
+
+-- there is an entry for each vertex and for each edge, and a class for each vertex that was reached
+pub record IsReady (x : Search) : Type 0 where
+  pub made : AreNearTables x.mesh x.near
+  pub numbers : length x.ways.numbers ≡ x.mesh.vertices
+  pub signs : length x.signs.signatures ≡ edge_count x.mesh
+  pub fits : (v : ℕ) → v < x.mesh.vertices → IsTrue (is_near x.near v) → slice_index x.near.distances v < 2 ^ 62
+  pub numbered : (v : ℕ) → v < x.mesh.vertices → IsTrue (is_near x.near v) →
+      slice_index x.ways.numbers v < length x.ways.classes
+
+-- both ends of an edge were reached
+abbrev pub is_between : Search → ℕ → Bool
+is_between x e = is_near x.near (ends x.mesh e).0 && is_near x.near (ends x.mesh e).1
+
+-- the loop of an edge: its length and its least base, and the sum of its own signature and the classes of the two ways
+abbrev pub told_loop : Search → ℕ → Signed
+told_loop x e =
+    let u = (ends x.mesh e).0 in
+    let v = (ends x.mesh e).1 in
+    record {
+      candidate = record {
+        length = slice_index x.near.distances u + edge_length x.lengths e + slice_index x.near.distances v;
+        base = min (slice_index x.near.leasts u) (slice_index x.near.leasts v);
+        edge = e;
+      };
+      from = x.base;
+      signature = bit_xor (bit_xor (class_at x.ways u) (slice_index x.signs.signatures e)) (class_at x.ways v);
+    }
+
+-- both ends of the edge were reached, and its loop isn't null and comes before the limit
+abbrev pub is_wanted : Search → Option Candidate → ℕ → Bool
+is_wanted x limit e =
+    is_between x e && (is_sought limit (place_of (told_loop x e).candidate) && not ((told_loop x e).signature == 0))
+
+-- a vertex isn't the lesser end of the edge, or no limit makes its loop wanted
+abbrev pub IsUnwantedAt : Search → ℕ → ℕ → Type 0
+IsUnwantedAt x v e = (limit : Option Candidate) → (ends x.mesh e).0 ≡ v → is_wanted x limit e ≡ true → ⊥
+
+-- a link is an edge of a vertex, with the other end
+pub record IsLinkOf (mesh : Mesh) (v : ℕ) (link : Link) : Type 0 where
+  pub edge_in : link.edge < edge_count mesh
+  pub to_in : link.to < mesh.vertices
+  pub ends_are : ((v < link.to) × (ends mesh link.edge ≡ (v, link.to)))
+      ⊎ ((link.to < v) × (ends mesh link.edge ≡ (link.to, v)))
+
+-- from the lesser end of its edge to the greater one
+pub record IsRise (mesh : Mesh) (v : ℕ) (link : Link) : Type 0 where
+  pub edge_in : link.edge < edge_count mesh
+  pub low_in : v < mesh.vertices
+  pub high_in : link.to < mesh.vertices
+  pub ends_are : ends mesh link.edge ≡ (v, link.to)
+
+-- for each edge whether its signature is empty
+abbrev pub plain_edges : CotreeTables → List Bool
+plain_edges s = map (λ n. n == 0) s.signatures
+
+-- a link leads to a greater vertex that was reached too, and the two differ in class by their numbers or the edge has a
+-- signature
+abbrev pub may_matter : Search → ℕ → Link → Bool
+may_matter x v link =
+    nat_lt v link.to && (not ((slice_index x.ways.numbers v == slice_index x.ways.numbers link.to)
+    && (slice_index x.signs.signatures link.edge == 0)) && is_near x.near link.to)
+
+-- a candidate is what is told of an edge whose loop is wanted
+pub record IsTold (x : Search) (limit : Option Candidate) (c : Signed) : Type 0 where
+  pub edge_in : c.candidate.edge < edge_count x.mesh
+  pub wanted : is_wanted x limit c.candidate.edge ≡ true
+  pub told : c ≡ told_loop x c.candidate.edge
+
+-- the loops of the edges with a lesser end are listed
+abbrev pub ListsAt : Search → Option Candidate → ℕ → List Signed → Type 0
+ListsAt x limit v found = (e : ℕ) → e < edge_count x.mesh → (ends x.mesh e).0 ≡ v → is_wanted x limit e ≡ true →
+    Contains found (told_loop x e)
+
+-- candidates are told, and those of the edges whose lesser ends were settled are among them
+pub record AreTold (x : Search) (limit : Option Candidate) (found : List Signed) : Type 0 where
+  pub each : All (IsTold x limit) found
+  pub all : (i : ℕ) → i < length x.near.settled → ListsAt x limit (slice_index x.near.settled i) found
+
+-- the loop of an edge, if it is wanted
+abbrev pub wanted_loop : Search → Option Candidate → ℕ → Option Signed
+wanted_loop x limit e = if is_wanted x limit e then Some (told_loop x e) else None
+
+-- ---- loops by trees of shortest walks
+
+-- a candidate is the loop of an edge at the vertex where it was found, with its least base and its class
+pub record IsFound (mesh : Mesh) (lengths : List ℕ) (trees : ℕ → Tree) (d : Split) (c : Signed) : Type 0 where
+  pub from_in : c.from < mesh.vertices
+  pub edge_in : c.candidate.edge < edge_count mesh
+  pub size : c.candidate.length ≡ loop_length mesh lengths (trees c.from) c.candidate.edge
+  pub base : c.candidate.base ≡ least_base mesh trees c.from c.candidate.edge
+  pub signature : c.signature ≡ class_of mesh d (loop_walk mesh (trees c.from) c.candidate.edge)
+
+-- candidates are the loops at a vertex that aren't null and come before a limit
+pub record AreFoundBy (mesh : Mesh) (lengths : List ℕ) (trees : ℕ → Tree) (d : Split) (limit : Option Candidate) (z : ℕ)
+    (found : List Signed) : Type 0 where
+  pub each : All (IsFound mesh lengths trees d) found
+  pub here : All (λ c. c.from ≡ z) found
+  pub sooner : All (λ c. IsTrue (is_sought limit (place_of c.candidate))) found
+  pub some : All (λ c. c.signature ≢ 0) found
+  pub all : (e : ℕ) → e < edge_count mesh → class_of mesh d (loop_walk mesh (trees z) e) ≢ 0 →
+      IsTrue (is_sought limit (place_at mesh lengths trees z e)) →
+      (c : Signed) × Contains found c × (c.from ≡ z) × (c.candidate.edge ≡ e)
+
+-- so they are by all trees that show the choice
+abbrev pub AreFound : Mesh → List ℕ → CotreeTables → Option Candidate → ℕ → List Signed → Type 0
+AreFound mesh lengths s limit z found = (trees : ℕ → Trees) → AreChosen mesh lengths trees → (d : Split) →
+    AreSignatures mesh d s → AreFoundBy mesh lengths (λ x. (trees x).tree) d limit z found
+
+-- ---- what is kept of them
+
+-- a list has a vertex
+abbrev pub is_among : List ℕ → ℕ → Bool
+is_among [] v = false
+is_among (x ∷ xs) v = (x == v) || is_among xs v
+
+-- as a loop that was found
+abbrev pub found_of : Mesh → (ℕ → Tree) → Signed → Found
+found_of mesh trees c = record {
+  size = c.candidate.length;
+  through = c.candidate.base;
+  walk = loop_walk mesh (trees c.from) c.candidate.edge;
+}
+
+-- independent loops in order, which are enough of those at the vertices of a set that come before a limit
+pub record AreKeptOf (mesh : Mesh) (lengths : List ℕ) (trees : ℕ → Tree) (d : Split) (limit : Option Candidate)
+    (set : ℕ → Bool) (kept : List Signed) : Type 0 where
+  pub enough : AreEnoughOf mesh lengths trees (is_sought limit) set (map (found_of mesh trees) kept)
+  pub each : All (IsFound mesh lengths trees d) kept
+  pub order : IsInOrder stands_before kept
+  pub independent : Independent numbers (map (λ c. c.signature) kept)
+
+-- the choice was made again from what was kept and some loops, which were put into order
+pub record IsMerged (old : Chosen) (found : List Signed) (new : Chosen) : Type 0 where
+  pub list : List Signed
+  pub same : IsPermutation found list
+  pub sorted : IsNonDecreasingBy order_of list
+  pub new_is : new ≡ record old { kept = independent_of (merge signed_earlier old.kept list) }
+
+-- so it was, or there are no loops and it is as before
+abbrev pub IsNext : Chosen → List Signed → Chosen → Type 0
+IsNext old found new = ((found ≡ []) × (new ≡ old)) ⊎ IsMerged old found new
+
+-- so they are by all trees that show the choice
+abbrev pub AreKeptFrom : Mesh → List ℕ → CotreeTables → List ℕ → Chosen → Type 0
+AreKeptFrom mesh lengths s vertices choice = (trees : ℕ → Trees) → AreChosen mesh lengths trees → (d : Split) →
+    IsSplit (cells_of mesh) d → AreSignatures mesh d s →
+    AreKeptOf mesh lengths (λ x. (trees x).tree) d (limit_of choice) (is_among vertices) choice.kept
+
+-- ---- the first of them
+
+-- the first of a candidate, if there is one, and a loop
+abbrev pub earlier_of : Option Candidate → Signed → Option Candidate
+earlier_of None s = Some s.candidate
+earlier_of (Some c) s = if earlier c s.candidate then Some c else Some s.candidate
+
+-- of the loops at the vertices of a set that aren't null one comes first, and it has the candidate's length and base;
+-- or all are null
+abbrev pub IsFirstOf : Mesh → List ℕ → (ℕ → Tree) → (ℕ → Bool) → Option Candidate → Type 0
+IsFirstOf mesh lengths trees set None = (z e : ℕ) → z < mesh.vertices → IsTrue (set z) → e < edge_count mesh →
+    IsNull mesh (loop_walk mesh (trees z) e)
+IsFirstOf mesh lengths trees set (Some c) = (z : ℕ) × (e : ℕ) × IsFirstFound mesh lengths trees set z e
+    × (place_at mesh lengths trees z e ≡ place_of c)
+
+-- so it is by all trees that show the choice
+abbrev pub IsFirstAmong : Mesh → List ℕ → CotreeTables → List ℕ → Option Candidate → Type 0
+IsFirstAmong mesh lengths s vertices first = (trees : ℕ → Trees) → AreChosen mesh lengths trees → (d : Split) →
+    IsSplit (cells_of mesh) d → AreSignatures mesh d s →
+    IsFirstOf mesh lengths (λ x. (trees x).tree) (is_among vertices) first
+
+-- the first of a candidate and some loops
+abbrev pub first_from : Option Candidate → List Signed → Option Candidate
+first_from first found = fold earlier_of first found
+
+-- there is a candidate that comes before another
+abbrev pub is_earlier : Option Candidate → Candidate → Bool
+is_earlier None d = false
+is_earlier (Some c) d = earlier c d
+
+-- the first of a candidate and the loop of an edge, if it is wanted
+abbrev pub first_with : Search → Option Candidate → Option Candidate → ℕ → Option Candidate
+first_with x limit first e = if is_wanted x limit e then earlier_of first (told_loop x e) else first
+
+-- the first of a limit and the wanted loops of the edges whose lesser ends are the first so many vertices that were settled
+pub record IsFirstTold (x : Search) (limit : Option Candidate) (count : ℕ) (first : Option Candidate) : Type 0 where
+  pub found : List Signed
+  pub each : All (IsTold x limit) found
+  pub all : (i : ℕ) → i < count → ListsAt x limit (slice_index x.near.settled i) found
+  pub is_first : first ≡ first_from limit found
+
+-- the first of a limit and the loops at a vertex that aren't null and come before it
+pub record IsFirstAt (s : SurfaceTables) (limit : Option Candidate) (z : ℕ) (first : Option Candidate) : Type 0 where
+  pub found : List Signed
+  pub are : AreFound s.mesh s.lengths s.signs limit z found
+  pub is_first : first ≡ first_from limit found

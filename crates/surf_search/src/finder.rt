@@ -1,0 +1,291 @@
+//! Searches from one vertex after the other, and the loops that they find.
+ghost use Rattle.std.specs.Prelude.{ℕ, ◌≡◌, ◌<◌, true, IsTrue, All, slice_set, slice_index, map, length, IfOk, OnOk};
+ghost use Rattle.surf_surfaces.specs.Surface.{edge_count, IsSurface};
+ghost use Rattle.surf_surfaces.specs.Walk.{ArePositive};
+ghost use Rattle.surf_firsts.specs.Near.{AgreeOff};
+ghost use Rattle.surf_near.specs.Links.{IsShutAt};
+ghost use Rattle.surf_near.specs.Near.{AreNearTables, IsNear};
+ghost use Rattle.surf_search.specs.Walks.{IsLoopWalk, IsMeasured};
+ghost use Rattle.surf_search.specs.Found.{surface_of, AreFound, IsFirstAt, plain_edges};
+ghost use Rattle.surf_search.specs.Passing.{is_marked, AreMarkedNear, AreShut};
+ghost use Rattle.surf_search.specs.Places.{AreDistances, radius_of};
+ghost use Rattle.surf_search.specs.Ways.{AreWays};
+
+use crate::foremost::first_told;
+use crate::marks::mark_all;
+use crate::reached::{Reached, radius};
+use crate::surface::SignedSurface;
+use crate::told_loops::list_loops;
+use crate::walks::loop_walk;
+use crate::ways::Ways;
+use std::alloc::Global;
+use std::marker::Model;
+use surf_base::{EdgeId, NoMemory, VertexId};
+use surf_choice::{Candidate, Signed};
+use surf_cotree::CotreeDesk;
+use surf_mesh::{HalfMesh, Walk};
+use surf_near::{Links, NearDesk};
+
+/// The tables of one search at a time: what it reached, and the classes of the ways there.
+#[derive(Drop)]
+struct Tables {
+    desk: NearDesk,
+    ways: Ways,
+}
+
+impl Tables {
+    // Searches from a base, as far as it must to find the loops before a limit.
+    fn reach(
+        &mut self,
+        surface: &SignedSurface<'_>,
+        links: &Links<'_>,
+        plain: &[bool],
+        base: VertexId,
+        limit: &Option<Candidate>,
+    ) -> Result<(), NoMemory>
+        requires base { base < surface.now.mesh.now.vertices }
+        requires links { links.now.mesh ≡ surface.now.mesh.now }
+        requires signatures { length surface.now.signatures.now.signatures
+            ≡ edge_count surface.now.mesh.now }
+        requires plain { plain.now ≡ plain_edges surface.now.signatures.now }
+        requires made { AreNearTables surface.now.mesh.now self.old.desk }
+        requires numbers { length self.old.ways.numbers ≡ surface.now.mesh.now.vertices }
+        ensures near { IsNear surface.now.mesh.now links.now.lengths base (radius_of limit.now)
+            self.new.desk }
+        ensures settled { All (λ v. v < surface.now.mesh.now.vertices) self.new.desk.settled }
+        ensures ways { OnOk result (AreWays surface.now.mesh.now links.now.lengths base
+            surface.now.signatures.now self.new.desk self.new.ways) }
+        ensures numbers { length self.new.ways.numbers ≡ surface.now.mesh.now.vertices }
+    {
+        surface.mesh.law_of_surface();
+        links.law_of_links();
+        self.desk.grow(links, base, radius(limit));
+        self.ways.sum(surface, links, &self.desk, plain, base)
+    }
+}
+
+/// Finds the loops of edges at one vertex after the other. Its lengths are those of its links,
+/// which may bar the ways through some vertices.
+#[derive(Drop)]
+pub struct Finder<'a> {
+    surface: SignedSurface<'a>,
+    links: Links<'a>,
+    tables: Tables,
+    plain: Vec<bool>,
+}
+
+impl<'a> Model for Finder<'a> {
+    ghost use Rattle.std.specs.Prelude.{◌≡◌, length};
+    ghost use Rattle.surf_surfaces.specs.Surface.{edge_count};
+    ghost use Rattle.surf_near.specs.Near.{AreNearTables};
+    ghost use Rattle.surf_search.specs.Found.{SurfaceTables, plain_edges};
+
+    ghost Value = { SurfaceTables };
+
+    ghost view = { λ f. record {
+      mesh = f.surface.mesh.now;
+      lengths = f.links.lengths;
+      signs = f.surface.signatures.now;
+    } };
+
+    ghost invariant = { λ f. (f.links.mesh ≡ f.surface.mesh.now)
+        × AreNearTables f.surface.mesh.now f.tables.desk
+        × (length f.tables.ways.numbers ≡ f.surface.mesh.now.vertices)
+        × (length f.surface.signatures.now.signatures ≡ edge_count f.surface.mesh.now)
+        × (f.plain.items ≡ plain_edges f.surface.signatures.now) };
+}
+
+// Lists the distances of the vertices that a search has settled, in its order.
+fn list_distances(alloc: Global, desk: &NearDesk) -> Result<Vec<u64>, NoMemory>
+    requires inside { All (λ v. v < length desk.now.distances) desk.now.settled }
+    ensures distances { IfOk result (λ list.
+        list.items ≡ map (slice_index desk.now.distances) desk.now.settled) }
+{
+    let mut list = Vec::new(alloc);
+    for v in desk.settled() {
+        list.push(desk.distance(*v))?;
+    }
+    Ok(list)
+}
+
+// Lists for each edge whether its signature is empty.
+fn plain_edges(
+    alloc: Global,
+    mesh: &HalfMesh,
+    signatures: &CotreeDesk,
+) -> Result<Vec<bool>, NoMemory>
+    requires table { length signatures.now.signatures ≡ edge_count mesh.now }
+    ensures plain { IfOk result (λ plain. plain.items ≡ plain_edges signatures.now) }
+{
+    mesh.law_of_surface();
+    let mut plain = Vec::with_capacity(alloc, mesh.edges() as usize)?;
+    for e in 0..mesh.edges() {
+        plain.push(signatures.signature(EdgeId::new(e)).is_empty())?;
+    }
+    Ok(plain)
+}
+
+impl<'a> Finder<'a> {
+    /// A finder of loops on a surface.
+    pub fn make(alloc: Global, surface: &SignedSurface<'a>) -> Result<Finder<'a>, NoMemory>
+        requires lengths { length surface.now.lengths.now ≡ edge_count surface.now.mesh.now }
+        requires signatures { length surface.now.signatures.now.signatures
+            ≡ edge_count surface.now.mesh.now }
+        ensures made { IfOk result (λ finder. finder ≡ surface_of surface.now) }
+    {
+        let surface = SignedSurface {
+            mesh: surface.mesh,
+            lengths: surface.lengths,
+            signatures: surface.signatures,
+        };
+        let links = Links::make(alloc, surface.mesh, surface.lengths)?;
+        let tables = Tables {
+            desk: NearDesk::make(alloc, surface.mesh)?,
+            ways: Ways::make(alloc, surface.mesh)?,
+        };
+        let plain = plain_edges(alloc, surface.mesh, surface.signatures)?;
+        Ok(Finder {
+            surface,
+            links,
+            tables,
+            plain,
+        })
+    }
+
+    /// Finds the loops at a base that aren't null and come before a limit, if there is one.
+    pub fn find(
+        &mut self,
+        base: VertexId,
+        limit: &Option<Candidate>,
+        found: &mut Vec<Signed>,
+    ) -> Result<(), NoMemory>
+        requires base { base < self.old.mesh.vertices }
+        ensures found { OnOk result (AreFound self.old.mesh self.old.lengths self.old.signs
+            limit.now base found.new.items) }
+        ensures same { self.new ≡ self.old }
+    {
+        self.surface.mesh.law_of_surface();
+        self.links.law_of_links();
+        self.tables
+            .reach(&self.surface, &self.links, &self.plain, base, limit)?;
+        let reached = Reached {
+            surface: &self.surface,
+            links: &self.links,
+            desk: &self.tables.desk,
+            ways: &self.tables.ways,
+            plain: &self.plain,
+        };
+        list_loops(&reached, limit, found)
+    }
+
+    /// How many vertices the surface has.
+    pub(crate) fn vertices(&self) -> u32
+        ensures vertices { result ≡ self.now.mesh.vertices }
+    {
+        self.surface.mesh.vertices()
+    }
+
+    /// What is true of the surface and the lengths that are searched. A caller whose proof rests on
+    /// that calls it; it does nothing.
+    pub(crate) fn law_of_finder(&self)
+        ensures surface { IsSurface self.now.mesh }
+        ensures positive { ArePositive self.now.mesh self.now.lengths }
+    {
+        self.surface.mesh.law_of_surface();
+        self.links.law_of_links();
+    }
+
+    /// The distances of the vertices from a base, the least first.
+    pub(crate) fn distances(&mut self, alloc: Global, base: VertexId) -> Result<Vec<u64>, NoMemory>
+        requires base { base < self.old.mesh.vertices }
+        ensures each { IfOk result (λ list. AreDistances self.old.mesh self.old.lengths base
+            list.items) }
+        ensures same { self.new ≡ self.old }
+    {
+        self.surface.mesh.law_of_surface();
+        self.links.law_of_links();
+        self.tables.desk.grow(&self.links, base, u64::MAX);
+        list_distances(alloc, &self.tables.desk)
+    }
+
+    /// Marks a vertex, and bars the ways through it.
+    pub(crate) fn mark(&mut self, v: VertexId, marks: &mut [bool])
+        requires vertex { v < self.old.mesh.vertices }
+        requires marks { length marks.old ≡ self.old.mesh.vertices }
+        ensures marks { marks.new ≡ slice_set marks.old v true }
+        ensures shut { IsShutAt self.old.mesh v self.new.lengths }
+        ensures off { AgreeOff self.old.mesh self.old.lengths self.new.lengths
+            (is_marked marks.new) }
+        ensures mesh { self.new.mesh ≡ self.old.mesh }
+        ensures signs { self.new.signs ≡ self.old.signs }
+    {
+        marks[v.index()] = true;
+        self.links.bar(v);
+    }
+
+    /// Marks the vertices that are no farther from a base than a distance, and bars the ways
+    /// through them.
+    pub(crate) fn mark_near(&mut self, base: VertexId, far: u64, marks: &mut [bool])
+        requires base { base < self.old.mesh.vertices }
+        requires marks { length marks.old ≡ self.old.mesh.vertices }
+        ensures near { AreMarkedNear self.old.mesh self.old.lengths base far marks.old marks.new }
+        ensures shut { AreShut self.old.mesh self.new.lengths marks.old marks.new }
+        ensures off { AgreeOff self.old.mesh self.old.lengths self.new.lengths
+            (is_marked marks.new) }
+        ensures stay { (v : ℕ) → IsTrue (is_marked marks.old v) → IsTrue (is_marked marks.new v) }
+        ensures count { length marks.new ≡ length marks.old }
+        ensures mesh { self.new.mesh ≡ self.old.mesh }
+        ensures signs { self.new.signs ≡ self.old.signs }
+    {
+        self.surface.mesh.law_of_surface();
+        self.links.law_of_links();
+        self.tables.desk.grow(&self.links, base, far);
+        mark_all(self.tables.desk.settled(), &mut self.links, marks);
+    }
+
+    /// The walk of the loop of a candidate's edge at its base, where its length is the candidate's.
+    pub fn walk(&mut self, alloc: Global, candidate: Candidate) -> Result<Walk, NoMemory>
+        requires measured { IsMeasured self.old.mesh self.old.lengths candidate }
+        ensures walk { IfOk result (IsLoopWalk self.old.mesh self.old.lengths candidate.base
+            candidate.edge) }
+        ensures same { self.new ≡ self.old }
+    {
+        self.surface.mesh.law_of_surface();
+        self.links.law_of_links();
+        self.tables
+            .desk
+            .grow(&self.links, candidate.base, candidate.length / 2);
+        loop_walk(
+            alloc,
+            self.surface.mesh,
+            &self.links,
+            &self.tables.desk,
+            candidate.edge,
+        )
+    }
+
+    /// The first of a limit, if there is one, and the loops at a base that aren't null and come
+    /// before it.
+    pub(crate) fn first_loop(
+        &mut self,
+        base: VertexId,
+        limit: &Option<Candidate>,
+    ) -> Result<Option<Candidate>, NoMemory>
+        requires base { base < self.old.mesh.vertices }
+        ensures first { IfOk result (λ first. IsFirstAt self.old limit.now base first) }
+        ensures same { self.new ≡ self.old }
+    {
+        self.surface.mesh.law_of_surface();
+        self.links.law_of_links();
+        self.tables
+            .reach(&self.surface, &self.links, &self.plain, base, limit)?;
+        let reached = Reached {
+            surface: &self.surface,
+            links: &self.links,
+            desk: &self.tables.desk,
+            ways: &self.tables.ways,
+            plain: &self.plain,
+        };
+        Ok(first_told(&reached, limit))
+    }
+}

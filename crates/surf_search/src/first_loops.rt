@@ -1,0 +1,162 @@
+//! The first loop at the vertices of a list, where scouts tell which of them may be passed over.
+ghost use Rattle.std.specs.Prelude.{◌≡◌, ◌<◌, ℕ, true, false, All, length, IfOk, OnOk, IsTrue};
+ghost use Rattle.surf_surfaces.specs.Walk.{ArePositive};
+ghost use Rattle.surf_surfaces.specs.Surface.{edge_count, IsSurface};
+ghost use Rattle.surf_firsts.specs.Near.{AgreeOff};
+ghost use Rattle.surf_search.specs.Signing.{AreSigned};
+ghost use Rattle.surf_search.specs.Passing.{is_marked, IsAhead, IsFirstIn, StaysFirst};
+ghost use Rattle.surf_search.specs.Found.{IsFirstAmong};
+
+use crate::finder::Finder;
+use crate::pace::{Pace, spare};
+use crate::scout::Scout;
+use crate::surface::SignedSurface;
+use std::alloc::Global;
+use surf_base::{NoMemory, VertexId};
+use surf_choice::Candidate;
+use surf_tree::even_length;
+
+// The first of the loops at the vertices of a list.
+fn first_found(
+    finder: &mut Finder<'_>,
+    vertices: &[VertexId],
+) -> Result<Option<Candidate>, NoMemory>
+    requires signed { (count : ℕ) × AreSigned finder.old.mesh finder.old.signs count }
+    requires inside { All (λ v. v < finder.old.mesh.vertices) vertices.now }
+    requires positive { IsSurface finder.old.mesh × ArePositive finder.old.mesh finder.old.lengths }
+    ensures first { IfOk result (IsFirstAmong finder.old.mesh finder.old.lengths finder.old.signs
+        vertices.now) }
+{
+    let mut first = None;
+    for v in vertices {
+        let next = finder.first_loop(*v, &first)?;
+        first = next;
+    }
+    Ok(first)
+}
+
+// Searches from a vertex as far as a limit, if that goes beyond the first loop so far. Where the
+// least loop there is longer than that one, no vertex that is so near has a better one: a loop
+// there, with a way there and back, would be a shorter one here. These vertices are marked. Tells
+// whether it came to that.
+fn scout_first(
+    finder: &mut Finder<'_>,
+    base: VertexId,
+    first: &Option<Candidate>,
+    wide: &Option<Candidate>,
+    marks: &mut [bool],
+) -> Result<bool, NoMemory>
+    requires base { base < finder.old.mesh.vertices }
+    requires marks { length marks.old ≡ finder.old.mesh.vertices }
+    ensures first { StaysFirst finder.old marks.old marks.new first.now }
+    ensures off { AgreeOff finder.old.mesh finder.old.lengths finder.new.lengths
+        (is_marked marks.new) }
+    ensures marked { IfOk result (λ told. told ≡ true → IsTrue (is_marked marks.new base)) }
+    ensures stay { (v : ℕ) → IsTrue (is_marked marks.old v) → IsTrue (is_marked marks.new v) }
+    ensures count { length marks.new ≡ length marks.old }
+    ensures mesh { finder.new.mesh ≡ finder.old.mesh }
+    ensures signs { finder.new.signs ≡ finder.old.signs }
+{
+    finder.law_of_finder();
+    let Some(least) = first else {
+        return Ok(false);
+    };
+    if spare(first, wide) == 0 {
+        return Ok(false);
+    }
+    let Some(next) = finder.first_loop(base, wide)? else {
+        return Ok(false);
+    };
+    if next.length <= least.length {
+        return Ok(false);
+    }
+    finder.mark_near(base, (next.length - least.length - 1) / 2, marks);
+    Ok(true)
+}
+
+// The first of a candidate, which is the first loop at the marked vertices, and the loops at one
+// more. It is the candidate already where the vertex is marked. A scout may find it so. Then the
+// vertex is marked.
+fn visit_first(
+    finder: &mut Finder<'_>,
+    scout: &mut Scout<'_>,
+    base: VertexId,
+    first: &Option<Candidate>,
+    marks: &mut [bool],
+) -> Result<Option<Candidate>, NoMemory>
+    requires base { base < finder.old.mesh.vertices }
+    requires marks { length marks.old ≡ finder.old.mesh.vertices }
+    requires positive { IsSurface finder.old.mesh × ArePositive finder.old.mesh finder.old.lengths }
+    requires ahead { IsAhead finder.old scout.old.finder marks.old }
+    requires first { IsFirstIn finder.old.mesh finder.old.lengths finder.old.signs
+        (is_marked marks.old) first.now }
+    ensures ahead { IsAhead finder.old scout.new.finder marks.new }
+    ensures first { IfOk result (IsFirstIn finder.old.mesh finder.old.lengths finder.old.signs
+        (is_marked marks.new)) }
+    ensures marked { OnOk result (IsTrue (is_marked marks.new base)) }
+    ensures stay { (v : ℕ) → IsTrue (is_marked marks.old v) → IsTrue (is_marked marks.new v) }
+    ensures count { length marks.new ≡ length marks.old }
+    ensures same { finder.new ≡ finder.old }
+{
+    if marks[base.index()] {
+        return Ok(*first);
+    }
+    let wide = scout.pace.limit(first);
+    let told = scout_first(&mut scout.finder, base, first, &wide, marks)?;
+    scout.pace.step(told);
+    if told {
+        return Ok(*first);
+    }
+    let next = finder.first_loop(base, first)?;
+    scout.finder.mark(base, marks);
+    Ok(next)
+}
+
+// The first of the loops at the vertices of a list. Those near a vertex at which all loops are
+// longer are passed over.
+fn first_passed(
+    alloc: Global,
+    finder: &mut Finder<'_>,
+    scout: &mut Scout<'_>,
+    vertices: &[VertexId],
+) -> Result<Option<Candidate>, NoMemory>
+    requires inside { All (λ v. v < finder.old.mesh.vertices) vertices.now }
+    requires positive { IsSurface finder.old.mesh × ArePositive finder.old.mesh finder.old.lengths }
+    requires scout { scout.old.finder ≡ finder.old }
+    ensures first { IfOk result (IsFirstAmong finder.old.mesh finder.old.lengths finder.old.signs
+        vertices.now) }
+{
+    let mut first = None;
+    let mut marks = vec![in alloc; false; finder.vertices() as usize]?;
+    for v in vertices {
+        let next = visit_first(finder, scout, *v, &first, &mut marks)?;
+        first = next;
+    }
+    Ok(first)
+}
+
+/// The first of the loops at some vertices that aren't null. None where each is null. Where all
+/// lengths are the same no vertex would be passed over, and no scout goes ahead.
+pub fn first_among(
+    alloc: Global,
+    surface: &SignedSurface<'_>,
+    vertices: &[VertexId],
+) -> Result<Option<Candidate>, NoMemory>
+    requires lengths { length surface.now.lengths.now ≡ edge_count surface.now.mesh.now }
+    requires signed { (count : ℕ) × AreSigned surface.now.mesh.now surface.now.signatures.now count }
+    requires vertices { All (λ v. v < surface.now.mesh.now.vertices) vertices.now }
+    ensures first { IfOk result (IsFirstAmong surface.now.mesh.now surface.now.lengths.now
+        surface.now.signatures.now vertices.now) }
+{
+    surface.mesh.law_of_surface();
+    surface.lengths.law_of_lengths();
+    let mut finder = Finder::make(alloc, surface)?;
+    if even_length(surface.lengths).is_some() {
+        return first_found(&mut finder, vertices);
+    }
+    let mut scout = Scout {
+        finder: Finder::make(alloc, surface)?,
+        pace: Pace::new(),
+    };
+    first_passed(alloc, &mut finder, &mut scout, vertices)
+}

@@ -1,0 +1,62 @@
+//! Loops among which a shortest basis of the closed walks of a surface is, and the first of them.
+//!
+//! A [`Finder`] searches from a vertex and finds the loops of edges there, with the least vertex on
+//! a shortest way to them. Of all that is found the shortest independent loops are kept: the loops
+//! of the basis have their lengths, and their least vertices as bases. Once as many are kept as
+//! there may be, a search goes no farther than half the length of the last, since the ends of an
+//! edge are within half the length of its loop.
+//!
+//! Most vertices need not be searched as far as the longest loop of the basis goes. Where the
+//! signature of an edge is a sum of the first of the loops that are kept, a loop over it that is
+//! longer than all of these is a sum of shorter ones, or it goes over another edge too that needs
+//! more of them (`law_of_heights`, `law_of_caps` of `surf_caps`). So each edge asks for a search
+//! from one of its ends, up to the length of the last of those loops: this caps the vertex. Where
+//! one handle is long and many are short, few vertices have great caps. But what is kept after one
+//! search makes caps too great: loops of far handles look long from there. So searches go in
+//! rounds. The first one finds what is no longer than four times the first loop, each further one
+//! what is four times as long, and each sets caps anew by what is kept by then. The last has caps
+//! alone. What a vertex was searched for in one round isn't sought there again.
+//!
+//! Where all handles are alike caps win nothing. There it may cost less to search from vertices
+//! such that every closed walk that isn't null meets one of them, which is estimated from how many
+//! vertices are within a radius (`costs.rt`). The caller gives these vertices. They are taken in an
+//! order that scatters them, so that short loops of all parts are found soon.
+//!
+//! Before such a search a scout may go from the vertex, somewhat farther than the search must.
+//! Where all loops that it finds are longer than kept ones of which they are sums, by more than a
+//! way there and back, the vertices that are so near are passed over, and there is no other search.
+//! To the scout the ways through vertices that are done with, searched or passed over, are barred:
+//! the edges there are as long as an edge may be. So it finds few loops and long ones, and more is
+//! passed over. It needs no others, since a loop that goes through such a vertex is a sum of loops
+//! there, for which what is kept is enough already (`law_of_near_vertices` of `surf_firsts`). What
+//! is kept comes from searches by the given lengths alone. Where scouts tell nothing they go ever
+//! more seldom.
+//!
+//! Whether a loop is independent of others is told by its signature, a sum over its edges of
+//! signatures that one base gives for all.
+#![tactic(auto)]
+
+mod caps;
+mod costs;
+mod degrees;
+mod finder;
+mod first_loops;
+mod foremost;
+mod kept_loops;
+mod marks;
+mod pace;
+mod reached;
+mod rounds;
+mod scout;
+mod surface;
+mod told_loops;
+mod walks;
+mod ways;
+
+pub use degrees::{count_signed, lesser_first};
+pub use finder::Finder;
+pub use first_loops::first_among;
+pub use kept_loops::keep_loops;
+pub use marks::{list_marked, scatter};
+pub use rounds::sufficient_loops;
+pub use surface::SignedSurface;

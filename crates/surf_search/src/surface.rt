@@ -1,0 +1,13 @@
+//! What is searched.
+
+use surf_cotree::CotreeDesk;
+use surf_lengths::Lengths;
+use surf_mesh::HalfMesh;
+
+/// A surface with lengths, and the signatures of its edges.
+#[derive(Drop)]
+pub struct SignedSurface<'a> {
+    pub mesh: &'a HalfMesh,
+    pub lengths: &'a Lengths,
+    pub signatures: &'a CotreeDesk,
+}
