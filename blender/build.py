@@ -3,7 +3,7 @@
 
     build.py --to FOLDER [--library ARCHIVE]
 
-The library is `crates/surf_c/out/libsurf_c.a`, which `rt lib` in `crates/surf_c` makes; `cc` and `rt` link it. Of the
+The library is `crates/surf_c/out/libsurf_c.a`, which release/libraries.py makes; `cc` and `rt` link it. Of the
 package the zip has all that its wheel has. The same commit gives the same bytes: files are dated to
 SOURCE_DATE_EPOCH, or to the commit.
 """

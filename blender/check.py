@@ -6,8 +6,8 @@
     check.py --library ARCHIVE          the library, crates/surf_c/out/libsurf_c.a without it
     check.py --pictures FOLDER          also draws the pictures of docs/blender.md there
 
-The add-on is tried over the program, and over the library where `rt lib` has made it. Blender is no part of the
-set-up: where it isn't here that is said, and nothing is tried.
+The add-on is tried over the program, and over the library where release/libraries.py has made it. Blender is no part
+of the set-up: where it isn't here that is said, and nothing is tried.
 """
 
 import argparse

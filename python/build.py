@@ -3,8 +3,8 @@
 
     build.py --to FOLDER [--library ARCHIVE] [--program PATH]
 
-The library is `crates/surf_c/out/libsurf_c.a`, which `rt lib` in `crates/surf_c` makes, and the program, whose texts
-the tests compare, `crates/surf/out/surf`. It takes an interpreter with numpy, pip, setuptools, venv and wheel, and no
+The library is `crates/surf_c/out/libsurf_c.a`, which release/libraries.py makes, and the program, whose texts the
+tests compare, `crates/surf/out/surf`. It takes an interpreter with numpy, pip, setuptools, venv and wheel, and no
 network. The wheel has the modules of `src/surfbasis`, and what has its home elsewhere in the repository: the readers
 of mesh files, and the page of refusals. Its version is what the library says.
 """

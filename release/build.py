@@ -5,14 +5,15 @@
 
 The gate is run first, unless --gate names what `.ci/run` or `rt ci` printed here before. Such a log has to be that of
 a gate that passed with the crates and wrong bodies of this checkout, no source and no program may be newer, and where
-it names a commit and a program, as `.ci/run` does, they have to be these. Then come the library, the manual page and
-the completions, the tarball, the packages of Debian, and the wheel, the page and the add-on where the repository has
-them. The folder (release/out/) is there only if the trials over what was made pass: the worked cases on both
-programs, and calls from C and Python. The same commit gives the same bytes; files are dated to SOURCE_DATE_EPOCH, or
-to the commit.
+it names a commit and a program, as `.ci/run` does, they have to be these. Then come the library, which `.ci/run` has
+left, the manual page and the completions, the tarball, the packages of Debian, and the wheel, the page and the add-on
+where the repository has them. The folder (release/out/) is there only if the trials over what was made pass: the
+worked cases on both programs, calls from C and Python, the wheel's tests, and the page's. The same commit gives the
+same bytes; files are dated to SOURCE_DATE_EPOCH, or to the commit.
 """
 
 import argparse
+import concurrent.futures
 import os
 import pathlib
 import re
@@ -32,6 +33,8 @@ from pages import pages
 
 TOP = proof.TOP
 OUT = TOP / "release/out"
+
+
 class Other(NamedTuple):
     """What another part of the repository makes for a release: the words that make it in the folder behind them, the
     names that it has there, and the words that try it there, if there are any."""
@@ -71,7 +74,7 @@ def notes(built: pathlib.Path) -> dict[str, str]:
         f"release ({system}, whose licence is the LGPL). It asks for no library, so it runs on older systems. The "
         "gate didn't run it; the worked cases passed on it when the release was made.",
         "lib/libsurf.a": "the program as one function for C (include/surf.h), with the kit's functions that call "
-        "malloc.",
+        f"malloc. Over the libraries of the gate it was proved and built by one run: {libraries.VERDICT.read_text().strip()}",
         "lib/libsurf.so.0": "the function as a shared library with one name, surf_call.",
     }
 
@@ -141,11 +144,17 @@ def release(log: pathlib.Path | None, out: pathlib.Path) -> None:
         date = versions.day(time)
         texts = pages(built / "surf", "surf", date) | pages(built / "surf", packages.NAME, date)
         made = make_packages(packages.Parts(version, time, built, texts), gate, out)
-    for other in OTHERS:
-        make_other(other, out, time)
-    trial.try_tarball(made)
-    trial.try_packages(out)
+    make_and_try(made, out, time)
     write_sums(out)
+
+
+def make_and_try(made: pathlib.Path, out: pathlib.Path, time: int) -> None:
+    """Makes the other parts and tries all, side by side."""
+    with concurrent.futures.ThreadPoolExecutor() as pool:
+        parts = [pool.submit(make_other, other, out, time) for other in OTHERS]
+        parts += [pool.submit(trial.try_tarball, made), pool.submit(trial.try_packages, sorted(out.glob("*.deb")))]
+        for part in parts:
+            part.result()
 
 
 def main() -> int:

@@ -1,22 +1,110 @@
-"""The libraries for C, from the static library of crates/surf_c and the kit's functions that take memory."""
+#!/usr/bin/env python3
+"""The libraries for C, from the static library of crates/surf_c and the kit's functions that take memory.
+
+Run as a script it makes that static library, crates/surf_c/out/libsurf_c.a, where it isn't there or is older than a
+source. surf_c is proved anew, over the libraries that the gate proved and left: some minutes. Where a gate left none,
+`rt check` proves them first, which takes as long as a gate. Beside the library stand the LLVM module that clang made
+it of, since the page for browsers is made of that, too, and the line which says that it is proved.
+"""
 
 import pathlib
 import re
+import shutil
+import sys
+import tempfile
 
-from proof import TOP, Refused, kit_folder, newest_source, ran
+from proof import PROGRAM, TOP, Refused, kit_folder, newest_source, ran
 
-CRATE = TOP / "crates/surf_c"
+sys.path.append(str(TOP / "tools"))
+from crate_graph import below, read_crates  # noqa: E402
+
+NAME = "surf_c"
+CRATE = TOP / "crates" / NAME
 MADE = CRATE / "out/libsurf_c.a"
+MODULE = CRATE / "out/surf_c.bc"
+VERDICT = CRATE / "out/surf_c.verdict"
 EXPORTED = "surf_call"
 FLAGS = ["-Wl,-z,relro,-z,now", "-Wl,-z,defs", "-Wl,--build-id=sha1", "-Wl,--gc-sections"]
+
+# Stands in for the kit's clang, and keeps the module that it is handed. The compiler clears clang's environment.
+CLANG = """#!/bin/sh
+for word in "$@"; do case $word in *.bc) cp "$word" "{kept}";; esac; done
+exec "{clang}" "$@"
+"""
+
+
+def is_made() -> bool:
+    """Whether the library, its module and its verdict are there and newer than each source."""
+    made = (MADE, MODULE, VERDICT)
+    return all(path.exists() for path in made) and min(path.stat().st_mtime for path in made) > newest_source(TOP)
+
+
+def rlib(name: str) -> pathlib.Path:
+    return TOP / f"crates/{name}/out/rlib/{name}.rlib"
+
+
+def left_by_gate(crates: dict[str, list[str]]) -> bool:
+    """Whether a gate left the libraries below, of the sources that are here now. `rt ci` builds the program last, and
+    stamps no library, which `rt check` does."""
+    libraries = [rlib(name) for name in below(crates, NAME, {})]
+    whole = all((path / "format").exists() and not path.with_name("stamp").exists() for path in libraries)
+    return whole and PROGRAM.exists() and PROGRAM.stat().st_mtime > newest_source(TOP)
+
+
+def keeping_toolchain(kit: pathlib.Path, folder: pathlib.Path, kept: pathlib.Path) -> pathlib.Path:
+    """A folder of links to the kit's toolchain, but for a clang that also copies the module it is handed."""
+    tools = folder / "bin"
+    tools.mkdir(parents=True)
+    for path in (kit / "toolchain").iterdir():
+        if path.name != "bin":
+            (folder / path.name).symlink_to(path)
+    for path in (kit / "toolchain/bin").iterdir():
+        if path.name != "clang":
+            (tools / path.name).symlink_to(path)
+    (tools / "clang").write_text(CLANG.format(kept=kept, clang=kit / "toolchain/bin/clang"))
+    (tools / "clang").chmod(0o755)
+    return folder
+
+
+def build_words(kit: pathlib.Path, listed: list[str], lower: list[str]) -> list:
+    """The words by which the kit's compiler proves and builds the static library, over libraries that stand."""
+    words = [kit / "bin/rattle", "build", "--crate-name", NAME, "src/lib.rt", "--crate-type", "staticlib"]
+    words += ["--extern", f"std={kit}/rlibs/std.rlib", "-L", f"dependency={kit}/rlibs", "--links", f"{NAME}="]
+    for name in listed:
+        words += ["--extern", f"{name}={rlib(name)}"]
+    for name in lower:
+        words += ["-L", f"dependency={rlib(name).parent}"]
+    words += ["--antt-project", kit / "rattle/logic/antt-project.json", "--logic-built", kit / "logic_built"]
+    return [*words, "--backend", "llvm", "--jobs", "2"]
+
+
+def build(crates: dict[str, list[str]]) -> None:
+    """Proves and builds the library over those below it."""
+    kit = kit_folder()
+    words = build_words(kit, crates[NAME], sorted(below(crates, NAME, {})))
+    with tempfile.TemporaryDirectory() as name:
+        room = pathlib.Path(name)
+        tools = keeping_toolchain(kit, room / "toolchain", room / MODULE.name)
+        said = ran([*words, "--toolchain", tools, "-o", room / MADE.name], cwd=CRATE)
+        verdict = next((line for line in said.splitlines() if line.startswith("logic=")), said[-300:])
+        if not verdict.startswith("logic=proved") or not (room / MODULE.name).is_file():
+            raise Refused(f"the compiler says no word of a proved library, or handed no module to clang: {verdict}")
+        (room / VERDICT.name).write_text(f"{verdict}\n")
+        MADE.parent.mkdir(exist_ok=True)
+        for path in (MADE, MODULE, VERDICT):
+            shutil.copyfile(room / path.name, path)
 
 
 def make() -> None:
     """Proves and makes the library, and what it stands on, where it isn't there or is older than a source."""
-    if MADE.exists() and MADE.stat().st_mtime > newest_source(TOP):
+    if is_made():
         return
-    print("rt lib proves and makes the library for C: an hour or more where it has never run here", flush=True)
-    ran(["rt", "lib"], cwd=CRATE)
+    crates = read_crates((TOP / "crates.txt").read_text())
+    if not left_by_gate(crates):
+        print("rt check proves the libraries below surf_c first: as long as a gate where it never ran", flush=True)
+        ran(["rt", "check"], cwd=CRATE)
+    print("surf_c is proved and built: some minutes", flush=True)
+    build(crates)
 
 
 def archives(made: pathlib.Path = MADE) -> list[pathlib.Path]:
@@ -57,3 +145,17 @@ def needed_glibc(path: pathlib.Path) -> str:
     """The least version of the GNU C library that a file asks for."""
     found = re.findall(r"GLIBC_([0-9.]+)", ran(["objdump", "-T", path]))
     return max(found, key=lambda it: [int(part) for part in it.split(".")])
+
+
+def main() -> int:
+    try:
+        make()
+    except Refused as fault:
+        print(f"the library for C can't be made: {fault}")
+        return 1
+    print(f"libsurf_c.a: {VERDICT.read_text().strip()}")
+    return 0
+
+
+if __name__ == "__main__":
+    sys.exit(main())

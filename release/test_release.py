@@ -9,6 +9,7 @@ import sys
 import tarfile
 import tempfile
 import unittest
+from unittest import mock
 
 HERE = pathlib.Path(__file__).resolve().parent
 sys.path[:0] = [str(HERE), str(HERE.parent / "tools")]
@@ -17,6 +18,7 @@ sys.dont_write_bytecode = True
 import check_sessions  # noqa: E402
 import completions  # noqa: E402
 import fresh  # noqa: E402
+import libraries  # noqa: E402
 import manual  # noqa: E402
 import packages  # noqa: E402
 import pages  # noqa: E402
@@ -202,6 +204,62 @@ class Gates(unittest.TestCase):
             (top / "crates/b/must-fail/two.edit").unlink()
             with self.assertRaisesRegex(proof.Refused, "5 passed .* 4 crates"):
                 proof.gate_by_log(log, "abc", top)
+
+
+class Libraries(unittest.TestCase):
+    CRATES = {"low": [], "kept": ["low", "memchr"], "surf_c": ["kept"], "apart": []}
+
+    def setUp(self):
+        room = tempfile.TemporaryDirectory()
+        self.addCleanup(room.cleanup)
+        self.top = pathlib.Path(room.name)
+        program = self.top / "crates/surf/out/surf"
+        for name in ("low", "kept"):
+            rlib = self.top / f"crates/{name}/out/rlib/{name}.rlib"
+            rlib.mkdir(parents=True)
+            (rlib / "format").touch()
+        for path in (program, self.top / "crates/low/src/lib.rt", self.top / "crates.txt"):
+            path.parent.mkdir(parents=True, exist_ok=True)
+            path.touch()
+        os.utime(program, (4e9, 4e9))
+        for name, value in (("TOP", self.top), ("PROGRAM", program)):
+            patch = mock.patch.object(libraries, name, value)
+            patch.start()
+            self.addCleanup(patch.stop)
+
+    def test_what_a_gate_left(self):
+        self.assertTrue(libraries.left_by_gate(self.CRATES))
+        os.utime(self.top / "crates/low/src/lib.rt", (5e9, 5e9))
+        self.assertFalse(libraries.left_by_gate(self.CRATES), "a source is newer than the program")
+
+    def test_what_no_gate_left(self):
+        (self.top / "crates/kept/out/rlib/stamp").touch()
+        self.assertFalse(libraries.left_by_gate(self.CRATES), "rt check made a library")
+        (self.top / "crates/kept/out/rlib/stamp").unlink()
+        (self.top / "crates/low/out/rlib/low.rlib/format").unlink()
+        self.assertFalse(libraries.left_by_gate(self.CRATES), "a library isn't there")
+
+    def test_the_module_is_kept(self):
+        kit, kept = self.top / "kit", self.top / "kept.bc"
+        (kit / "toolchain/bin").mkdir(parents=True)
+        (kit / "toolchain/lib").mkdir()
+        for name, text in (("clang", 'echo "clang $@"'), ("ld.lld", "echo lld")):
+            (kit / "toolchain/bin" / name).write_text(f"#!/bin/sh\n{text}\n")
+            (kit / "toolchain/bin" / name).chmod(0o755)
+        (self.top / "it.bc").write_text("module")
+        tools = libraries.keeping_toolchain(kit, self.top / "tools", kept)
+        self.assertEqual(proof.ran([tools / "bin/clang", "-c", self.top / "it.bc"]), f"clang -c {self.top}/it.bc\n")
+        self.assertEqual(kept.read_text(), "module")
+        self.assertEqual(proof.ran([tools / "bin/ld.lld"]), "lld\n")
+        self.assertTrue((tools / "lib").is_dir())
+
+    def test_what_is_not_proved_or_kept_is_refused(self):
+        (self.top / "kit/toolchain/bin").mkdir(parents=True)
+        for verdict in ("logic=not-proved", "logic=proved functions=1"):
+            said = mock.patch.object(libraries, "ran", lambda *words, **how: f"{verdict}\n")
+            kit = mock.patch.object(libraries, "kit_folder", lambda: self.top / "kit")
+            with said, kit, self.assertRaisesRegex(proof.Refused, verdict):
+                libraries.build(self.CRATES)
 
 
 class Archives(unittest.TestCase):

@@ -39,10 +39,10 @@ def try_calls(root: pathlib.Path, room: pathlib.Path) -> None:
     print(f"libraries: {count} calls, and an example by each library and in Python, as the program")
 
 
-def try_packages(out: pathlib.Path) -> None:
+def try_packages(made: list[pathlib.Path]) -> None:
     """Whether lintian finds errors in the packages of Debian. It is passed over with a word where it isn't here."""
     if shutil.which("lintian"):
-        ran(["lintian", "--allow-root", "--fail-on", "error", *sorted(out.glob("*.deb"))])
+        ran(["lintian", "--allow-root", "--fail-on", "error", *made])
         print("packages: lintian finds no error")
     else:
         print("lintian isn't here: the packages are not tried by it")

@@ -1,11 +1,11 @@
 #!/usr/bin/env python3
 """Builds and runs the examples of calls from C and from Python, and compares what the library says with the program.
 
-    check_c.py [--build] [--program PATH] [--library PATH]
+    check_c.py [--program PATH] [--library PATH]
 
-The library is `crates/surf_c/out/libsurf_c.a`, which `rt lib` in `crates/surf_c` makes; --build runs it first. The
-program runs in a folder whose files are named 1, 2 and 3, so it is given the very words of a call. Where there is no
-compiler of C, no kit, no library or no program, nothing is tried.
+The library is `crates/surf_c/out/libsurf_c.a`, which release/libraries.py makes. The program runs in a folder whose
+files are named 1, 2 and 3, so it is given the very words of a call. Where there is no compiler of C, no kit, no
+library or no program, nothing is tried.
 """
 
 import argparse
@@ -147,16 +147,10 @@ def examples(given, example, shared, folder):
 
 def main():
     parser = argparse.ArgumentParser()
-    parser.add_argument("--build", action="store_true")
     parser.add_argument("--program", type=pathlib.Path, default=TOP / "crates/surf/out/surf")
     parser.add_argument("--library", type=pathlib.Path, default=CRATE / "out/libsurf_c.a")
     given = parser.parse_args()
     given.program, given.library = given.program.resolve(), given.library.resolve()
-    if given.build and compiler() and shutil.which("rt"):
-        made = subprocess.run(["rt", "lib"], cwd=CRATE, capture_output=True, text=True)
-        if made.returncode:
-            print(f"rt lib doesn't make the library of crates/surf_c:\n{(made.stdout + made.stderr)[-2000:]}")
-            return 1
     lack = missing(given)
     if lack:
         print(f"calls from C are not tried, since {lack} isn't here")

@@ -3,9 +3,9 @@
 
     check_python.py [--program PATH] [--library PATH]
 
-The tests run over the program, and over the library `crates/surf_c/out/libsurf_c.a` where `rt lib` has made it. They
-want numpy: it is looked for in this interpreter, in `python3` and in `/usr/bin/python3`. What isn't here is passed
-over with a word.
+The tests run over the program, and over the library `crates/surf_c/out/libsurf_c.a` where release/libraries.py has
+made it. They want numpy: it is looked for in this interpreter, in `python3` and in `/usr/bin/python3`. What isn't
+here is passed over with a word.
 """
 
 import argparse

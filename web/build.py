@@ -6,10 +6,10 @@
 
 FOLDER is web/out where none is named.
 
-`rt lib` proves surf_c for x86-64 and hands its code to clang as one LLVM module. Here that clang also keeps the
-module, which the same clang then compiles for 64-bit WebAssembly, with heap.c and wide.c beside it. Binaryen's
-`wasm-opt` lowers its addresses to 32 bits, since not every browser has the larger ones. What is proved is the code
-that `rt lib` hands over. All that is done with it here is tested, and not proved: docs/browser.md.
+release/libraries.py proves surf_c for x86-64, and keeps the LLVM module that the toolchain hands to clang for it. The
+same clang compiles that module for 64-bit WebAssembly, with heap.c and wide.c beside it. Binaryen's `wasm-opt` lowers
+its addresses to 32 bits, since not every browser has the larger ones. What is proved is the code that is handed over.
+All that is done with it here is tested, and not proved: docs/browser.md.
 """
 
 import argparse
@@ -26,7 +26,9 @@ import tempfile
 
 WEB = pathlib.Path(__file__).resolve().parent
 TOP = WEB.parent
-CRATE = TOP / "crates/surf_c"
+sys.path.append(str(TOP / "release"))
+import libraries  # noqa: E402
+from proof import Refused, kit_folder  # noqa: E402
 
 # The modules of the page and of its worker, each behind those that it imports from.
 PAGE = ["units", "refusals", "commands", "paint", "samples", "camera", "gl", "plain", "view", "flat", "session"]
@@ -47,11 +49,6 @@ FEATURES = ["memory64", "bulk-memory", "mutable-globals", "sign-ext", "nontrappi
 # What the module may ask for beside LLVM's own functions, and what its attributes may say of the processor.
 ASKED = {"rattle_alloc", "rattle_realloc", "rattle_dealloc", "memcpy", "memmove", "memset", "memcmp"}
 OF_PROCESSOR = {"probe-stack", "stack-probe-size", "target-cpu", "target-features", "frame-pointer"}
-
-CLANG = """#!/bin/bash
-for word in "$@"; do case $word in *.bc) cp "$word" "{kept}";; esac; done
-exec -a clang "{kit}/toolchain/bin/clang" "$@"
-"""
 
 
 def stop(sentence):
@@ -74,46 +71,15 @@ def missing():
     return next((words for name, words in tools.items() if not shutil.which(name)), None)
 
 
-def kit_folder():
-    """The folder of the toolchain."""
-    return pathlib.Path(ran(["rt", "doc"]).strip()).parent
-
-
-def keeping_kit(kit, folder, kept):
-    """Makes a folder of links to the kit, but for a clang that also copies the LLVM module it is handed to `kept`."""
-    (folder / "toolchain/bin").mkdir(parents=True)
-    for path in kit.iterdir():
-        if path.name not in ("bin", "toolchain"):
-            (folder / path.name).symlink_to(path)
-    (folder / "toolchain/lib").symlink_to(kit / "toolchain/lib")
-    for path in (kit / "toolchain/bin").iterdir():
-        if path.name != "clang":
-            (folder / "toolchain/bin" / path.name).symlink_to(path)
-    clang = folder / "toolchain/bin/clang"
-    clang.write_text(CLANG.format(kit=kit, kept=kept))
-    clang.chmod(0o755)
-    # rt finds its kit by the place of its own file, so that file is copied and not linked.
-    (folder / "bin").mkdir()
-    for path in (kit / "bin").iterdir():
-        if path.name.startswith("rt"):
-            shutil.copy(path, folder / "bin" / path.name)
-        else:
-            (folder / "bin" / path.name).symlink_to(path)
-
-
 def module_of_crate(kit, work):
-    """The LLVM module of surf_c as text, and the line in which `rt lib` says that it is proved."""
-    kept = work / "module.bc"
-    keeping_kit(kit, work / "kit", kept)
-    said = ran([work / "kit/bin/rt", "lib"], cwd=CRATE)
-    verdict = next((line for line in said.splitlines() if line.startswith("logic=")), "")
-    if not verdict.startswith("logic=proved"):
-        stop(f"rt lib doesn't say that surf_c is proved: {verdict or said[-300:]}")
-    if not kept.is_file():
-        stop("rt lib handed no LLVM module to clang")
+    """The LLVM module of surf_c as text, and the line that says that it is proved."""
+    try:
+        libraries.make()
+    except Refused as fault:
+        stop(fault)
     flags = ["--target=x86_64-unknown-linux-gnu", "-Xclang", "-disable-llvm-passes", "-S", "-emit-llvm", "-x", "ir"]
-    ran([kit / "toolchain/bin/clang", *flags, kept, "-o", work / "module.ll"])
-    return (work / "module.ll").read_text(), verdict
+    ran([kit / "toolchain/bin/clang", *flags, libraries.MODULE, "-o", work / "module.ll"])
+    return (work / "module.ll").read_text(), libraries.VERDICT.read_text().strip()
 
 
 def unmet(text):
@@ -218,7 +184,7 @@ def checked(wasm):
 
 
 def module_for_browsers(work):
-    """surf.wasm, and the line in which `rt lib` says what it is made of."""
+    """surf.wasm, and the line that says that its code is proved."""
     kit = kit_folder()
     text, verdict = module_of_crate(kit, work)
     strange = unmet(text)
