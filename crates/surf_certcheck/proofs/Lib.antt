@@ -14,3 +14,4 @@ pub mod Independence
 pub mod BasisFaults
 pub mod OneBasisFault
 pub mod Places
+pub mod Cleared

@@ -6,3 +6,4 @@ pub mod Frames
 pub mod Climbs
 pub mod Covering
 pub mod Columns
+pub mod Tops

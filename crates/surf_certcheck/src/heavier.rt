@@ -2,14 +2,14 @@
 ghost use Rattle.std.specs.Prelude.{◌≡◌, ◌≢◌, ◌<◌, ◌≤◌, ◌^◌, ◌⊎◌, ℕ, MatchOption, length};
 ghost use Rattle.surf_graphs.specs.Growth.{between};
 ghost use Rattle.surf_surfaces.specs.Surface.{edge_count, face_count};
-ghost use Rattle.surf_validity.specs.Valid.{depth_at, dual_tree, loop_size, is_listed};
+ghost use Rattle.surf_validity.specs.Valid.{depth_at, dual_tree, loop_size};
 ghost use Rattle.surf_validity.specs.Valid.{IsNotHeavier, HasNoShorter};
 ghost use Rattle.surf_treecheck.specs.First.{HoldsBelow, FailsFirst, FindsFirst, Tells};
 ghost use Rattle.surf_treecheck.specs.Rows.{HasTreeRows};
-ghost use Rattle.surf_treecheck.specs.Split.{AreFlags};
 ghost use Rattle.surf_certcheck.specs.LoopFaults.{AreHeavier};
 ghost use Rattle.surf_certcheck.specs.Least.{IsLeastIn, IsLeastWith, least_with};
 ghost use Rattle.surf_certcheck.specs.Judging.{IsReady, IsShortFor};
+ghost use Rattle.surf_certcheck.specs.Tops.{AreDoubts};
 
 use surf_base::{EdgeId, FaceId};
 use surf_lengths::Lengths;
@@ -128,11 +128,10 @@ impl Judge<'_> {
         self.least_between(limit, faces_inside(self.mesh, l))
     }
 
-    // The same for an edge that counts where it is listed as left.
-    fn shorter_if_listed(&self, left: &[bool], l: EdgeId) -> Option<EdgeId>
+    // The same for a left edge that is still doubtful.
+    fn shorter_if_doubtful(&self, doubts: &[bool], l: EdgeId) -> Option<EdgeId>
         requires ready { IsReady self.now }
-        requires left { AreFlags (edge_count self.now.mesh.now)
-            (is_listed self.now.mesh.now self.now.cert.now.left) left.now }
+        requires doubts { AreDoubts self.now doubts.now }
         requires edge { l < edge_count self.now.mesh.now }
         ensures first { MatchOption result
             (HasNoShorter self.now.mesh.now self.now.lengths.now self.now.cert.now l)
@@ -140,7 +139,7 @@ impl Judge<'_> {
             × FailsFirst (edge_count self.now.mesh.now)
             (IsNotHeavier self.now.mesh.now self.now.lengths.now self.now.cert.now l) c) }
     {
-        if left[l.index()] {
+        if doubts[l.index()] {
             self.first_shorter(l)
         } else {
             None
@@ -148,10 +147,9 @@ impl Judge<'_> {
     }
 
     /// The least left edge that has such an edge with a shorter loop, and the least of these.
-    pub(crate) fn first_heavier(&self, left: &[bool]) -> Option<(EdgeId, EdgeId)>
+    pub(crate) fn first_heavier(&self, doubts: &[bool]) -> Option<(EdgeId, EdgeId)>
         requires ready { IsReady self.now }
-        requires left { AreFlags (edge_count self.now.mesh.now)
-            (is_listed self.now.mesh.now self.now.cert.now.left) left.now }
+        requires doubts { AreDoubts self.now doubts.now }
         ensures first { MatchOption result
             (HoldsBelow (edge_count self.now.mesh.now)
             (HasNoShorter self.now.mesh.now self.now.lengths.now self.now.cert.now))
@@ -159,7 +157,7 @@ impl Judge<'_> {
     {
         for e in 0..self.mesh.edges() {
             let l = EdgeId::new(e);
-            if let Some(c) = self.shorter_if_listed(left, l) {
+            if let Some(c) = self.shorter_if_doubtful(doubts, l) {
                 return Some((l, c));
             }
         }

@@ -16,13 +16,14 @@ ghost use Rattle.surf_certcheck.specs.LoopFaults.{IsTreeFault, IsHeavierFault, I
 ghost use Rattle.surf_treecheck.specs.declared.fault.CertFault.TheVariants.{Memory};
 
 use crate::heavier::{Judge, size_of};
+use crate::tops::clear_flags;
 use std::alloc::Global;
 use surf_base::{NoMemory, VertexId};
 use surf_lengths::Lengths;
 use surf_mesh::HalfMesh;
 use surf_records::{LoopCert, TreeRows};
 use surf_treecheck::{
-    CertFault, Marks, edge_between, ends_inside, first_distance, first_dual, first_parent,
+    CertFault, edge_between, ends_inside, first_distance, first_dual, first_parent,
     first_short_cut, first_split, link_faces, loop_shape, mark_edges,
 };
 
@@ -70,19 +71,19 @@ fn total_of(
 }
 
 // The first left edge that could be exchanged for an edge of the tree of faces, with that edge.
+#[tactic(auto, using(crate::proofs::Cleared::first_doubts))]
 fn heavier_fault(
     alloc: Global,
     mesh: &HalfMesh,
     lengths: &Lengths,
     cert: &LoopCert,
-    marks: &Marks,
+    mut flags: Vec<bool>,
 ) -> Result<Option<CertFault>, NoMemory>
     requires rows { HasTreeRows mesh.now cert.now.tree }
     requires faces { HasDualRows mesh.now cert.now.dual }
     requires lengths { length lengths.now ≡ edge_count mesh.now }
     requires tree { HoldsBelow (face_count mesh.now) (HasDual mesh.now cert.now.dual) }
-    requires marks { AreFlags (edge_count mesh.now) (is_listed mesh.now cert.now.left)
-        marks.now.left.items }
+    requires flags { AreFlags (edge_count mesh.now) (is_listed mesh.now cert.now.left) flags.items }
     ensures fault { IfOk result (λ o. MatchOption o
         (HoldsBelow (edge_count mesh.now) (HasNoShorter mesh.now lengths.now cert.now))
         (IsHeavierFault mesh.now lengths.now cert.now)) }
@@ -94,7 +95,8 @@ fn heavier_fault(
         cert,
         links: &links,
     };
-    match judge.first_heavier(&marks.left) {
+    clear_flags(alloc, &judge, &mut flags)?;
+    match judge.first_heavier(&flags) {
         None => Ok(None),
         Some((l, c)) => Ok(Some(CertFault::Heavier {
             left: ends_inside(mesh, l),
@@ -123,7 +125,7 @@ fn check_edges(
     if let Some((u, v)) = first_split(mesh, rows, dual, left, &marks) {
         return Err(CertFault::Split { u, v });
     }
-    match heavier_fault(alloc, mesh, lengths, cert, &marks)? {
+    match heavier_fault(alloc, mesh, lengths, cert, marks.left)? {
         None => Ok(total_of(mesh, lengths, rows, left)),
         Some(fault) => Err(fault),
     }
