@@ -48,11 +48,14 @@ fn found_cycle(
     ensures cycle { IfOk result (IsCycleOf finder.old.mesh finder.old.lengths candidate) }
     ensures same { finder.new ≡ finder.old }
 {
+    let base = candidate.base;
+    let edge = candidate.edge;
+    let length = candidate.length;
     let walk = finder.walk(alloc, candidate)?;
     Ok(Cycle {
-        base: candidate.base,
-        edge: candidate.edge,
-        length: candidate.length,
+        base,
+        edge,
+        length,
         walk,
     })
 }
