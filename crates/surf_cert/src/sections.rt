@@ -10,12 +10,13 @@ use crate::next::{
     next_base, next_base_at, next_cycle, next_dual_row, next_pair, next_tree_row, next_word,
 };
 use std::alloc::Global;
-use surf_base::VertexId;
+use surf_base::{MAX_FACES, MAX_VERTICES, VertexId};
 use surf_mesh::Walk;
 use surf_records::{DualRows, TreeRows};
 use surf_text::Lines;
 
-// The rows of so many vertices, from this base.
+// The rows of so many vertices, from this base. Their tables take their room at once, and no more
+// than a surface's, whatever a text claims.
 fn read_tree_rows(
     alloc: Global,
     lines: &mut Lines<'_>,
@@ -24,8 +25,9 @@ fn read_tree_rows(
 ) -> Result<TreeRows, CertText>
     ensures tree { Gives (λ x. (x, lines.new)) result (tree_of base vertices lines.old) }
 {
-    let mut distance = Vec::new(alloc);
-    let mut parent = Vec::new(alloc);
+    let room = vertices.min(MAX_VERTICES) as usize;
+    let mut distance = Vec::with_capacity(alloc, room)?;
+    let mut parent = Vec::with_capacity(alloc, room)?;
     for _ in 0..vertices {
         let row = next_tree_row(lines)?;
         distance.push(row.0)?;
@@ -78,12 +80,14 @@ pub(crate) fn read_trees(
     Ok(trees)
 }
 
-// The rows of so many faces.
+// The rows of so many faces. Their tables take their room at once, and no more than a surface's,
+// whatever a text claims.
 fn read_dual_rows(alloc: Global, lines: &mut Lines<'_>, faces: u32) -> Result<DualRows, CertText>
     ensures dual { Gives (λ x. (x, lines.new)) result (dual_rows_of faces lines.old) }
 {
-    let mut depth = Vec::new(alloc);
-    let mut side = Vec::new(alloc);
+    let room = faces.min(MAX_FACES) as usize;
+    let mut depth = Vec::with_capacity(alloc, room)?;
+    let mut side = Vec::with_capacity(alloc, room)?;
     for _ in 0..faces {
         let row = next_dual_row(lines)?;
         depth.push(row.0)?;

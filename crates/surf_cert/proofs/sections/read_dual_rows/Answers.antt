@@ -8,11 +8,11 @@ use Rattle.surf_cert.proofs.sections.read_dual_rows.Goals as goal
 pub loop-init : goal.loop-init
 loop-init c =
     let all : c.args.faces - 0 ≡ c.args.faces = omega arith in
-    rw (c.new-depth.ensures.items, c.new-side.ensures.items, all) (dual_start c.args.faces c.args.lines.now)
+    rw (c.in_ok-depth.ensures.items, c.in_ok-side.ensures.items, all) (dual_start c.args.faces c.args.lines.now)
 
 pub returns-in_err-row : goal.returns-in_err-row
 returns-in_err-row c =
-    let p = err_from_is_err_and c.from_residual.result c.from_residual.ensures.1 in
+    let p = err_from_is_err_and c.from_residual-in_err-row.result c.from_residual-in_err-row.ensures.1 in
     let rows : DualRows = record { depth = c.loop.depth.items; side = c.loop.side.items } in
     rw (p.1, p.2) (record { dual = λ other. row_bad dual_row push_face c.args.faces c.loop.counter rows c.loop.lines _ c.loop.invariant c.in_err-row.field-0.0 c.loop-test.true (c.in_err-row.ensures.row other) })
 

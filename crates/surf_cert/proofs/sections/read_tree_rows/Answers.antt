@@ -8,11 +8,11 @@ use Rattle.surf_cert.proofs.sections.read_tree_rows.Goals as goal
 pub loop-init : goal.loop-init
 loop-init c =
     let all : c.args.vertices - 0 ≡ c.args.vertices = omega arith in
-    rw (c.new-distance.ensures.items, c.new-parent.ensures.items, all) (tree_start c.args.base c.args.vertices c.args.lines.now)
+    rw (c.in_ok-distance.ensures.items, c.in_ok-parent.ensures.items, all) (tree_start c.args.base c.args.vertices c.args.lines.now)
 
 pub returns-in_err-row : goal.returns-in_err-row
 returns-in_err-row c =
-    let p = err_from_is_err_and c.from_residual.result c.from_residual.ensures.1 in
+    let p = err_from_is_err_and c.from_residual-in_err-row.result c.from_residual-in_err-row.ensures.1 in
     let rows : TreeRows = record { base = c.args.base; distance = c.loop.distance.items; parent = c.loop.parent.items } in
     rw (p.1, p.2) (record { tree = λ other. row_bad tree_row push_vertex c.args.vertices c.loop.counter rows c.loop.lines _ c.loop.invariant c.in_err-row.field-0.0 c.loop-test.true (c.in_err-row.ensures.row other) })
 
