@@ -50,6 +50,7 @@ COMMANDS = {
     "--help, --version": ("surf_words.Words.help_text", {"help", "version"}),
 }
 CASES = set().union(*(cases for _, cases in COMMANDS.values()))
+REQUESTS = ("surf_words", "Words")  # the home of the cases
 
 START = re.compile(r"^( *)(?:(?:pub |private |unfoldable |abbrev |data |record )+)([^\s:({]+)")
 WORD = re.compile(r"[^\s(){}\[\],;`\"]+")
@@ -102,7 +103,8 @@ def imports_of(text):
 class Specs:
     """All definitions of specs/, by their keys, with the parts of `data` and the homes of names."""
 
-    def __init__(self, top):
+    def __init__(self, top, requests=REQUESTS):
+        self.requests = requests
         self.definitions, self.parts = {}, {}
         self.scopes = {}
         for path in sorted((top / "crates").glob("*/specs/**/*.antt")):
@@ -148,8 +150,16 @@ class Specs:
                     found.add(key)
         return found
 
+    def cases_here(self, definition, passed_over):
+        """Those names of cases that are requests where the definition stands: others may use the words for variables."""
+        if (definition.crate, definition.module) == self.requests:
+            return passed_over
+        scope = self.scopes[definition.crate, definition.module]
+        return {word for word in passed_over if word in scope and (scope[word][0], scope[word][2]) == self.requests}
+
     def cases_of(self, definition, passed_over):
         """The lines of a definition, without the equations for cases that are passed over."""
+        passed_over = self.cases_here(definition, passed_over)
         kept, keeping = [], True
         for line in definition.lines:
             head = line.strip().split(" = ")[0] if " = " in line or line.rstrip().endswith("=") else None
