@@ -67,11 +67,10 @@ module _ (rest : Mesh → List ℕ → Files → Outcome → Type 0) (name word 
 -- ---- the functions that take these steps
 
 -- a last step stops, on a shelf that holds the same
-last_stopped : {A : Type 0} {held holds : Option Files} {old now : ℕ} {whole : Files → Outcome → Type 0} {last : Files → Result A Outcome → Type 0} →
-    SoFar holds old now whole (λ files end. last files (Err end)) → (new : ℕ) (e : Refused) → held ≡ holds →
-    WhyOver held now new (λ files o. last files (Err o)) (cause_of e) → ConcludesOver holds old new whole (Err e)
-last_stopped {A} {held} {holds} {old} {now} {whole} {last} far new e same why =
-    far.so new (Err e) (subst (λ (h : Option Files). WhyOver h now new (λ files o. last files (Err o)) (cause_of e)) same why)
+last_stopped : {held holds : Option Files} {old now : ℕ} {whole rest : Files → Outcome → Type 0} → SoFar holds old now whole rest →
+    (new : ℕ) (e : Refused) → held ≡ holds → WhyOver held now new rest (cause_of e) → ConcludesOver holds old new whole (Err e)
+last_stopped {held} {holds} {old} {now} {whole} {rest} far new e same why =
+    far.so new (Err e) (subst (λ (h : Option Files). WhyOver h now new rest (cause_of e)) same why)
 
 both : {P Q : Files → Type 0} (h : Option Files) → IfSome h P → IfSome h Q → IfSome h (λ files. P files × Q files)
 both None a b = tt

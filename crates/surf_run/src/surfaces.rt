@@ -25,7 +25,7 @@ pub(crate) fn measured_surface<S: Shelf>(
     ensures holds { S.holds shelf.new ≡ S.holds shelf.old }
     ensures later { S.faults shelf.old ≤ S.faults shelf.new }
     ensures tells { TakesOver (S.holds shelf.old) (S.faults shelf.old) (S.faults shelf.new)
-        (λ found. (found.0, found.1)) (MeasuresSurface name.now word.now) result }
+        (λ found. found) (MeasuresSurface name.now word.now) result }
     ensures count { IfOk result (λ found. length found.1 ≡ edge_count found.0) }
     ensures few { IfOk result (λ found. loop_count found.0 ≤ MAX_LOOPS) }
 {
@@ -47,7 +47,7 @@ pub(crate) fn small_surface<S: Shelf>(
     ensures holds { S.holds shelf.new ≡ S.holds shelf.old }
     ensures later { S.faults shelf.old ≤ S.faults shelf.new }
     ensures tells { TakesOver (S.holds shelf.old) (S.faults shelf.old) (S.faults shelf.new)
-        (λ found. (found.0, found.1)) (MeasuresSmall limit.0 limit.1 name.now word.now) result }
+        (λ found. found) (MeasuresSmall limit.0 limit.1 name.now word.now) result }
     ensures count { IfOk result (λ found. length found.1 ≡ edge_count found.0) }
     ensures few { IfOk result (λ found. loop_count found.0 ≤ MAX_LOOPS) }
 {
