@@ -1,5 +1,5 @@
 -- Fronts that rows share, as one step.
-use Rattle.std.proofs.Common.{◌≡◌, ◌≤◌, ℕ, List, Option, Some, None, Result, Ok, Err, subst}
+use Rattle.std.proofs.Common.{◌≡◌, ◌≤◌, ℕ, List, Option, Some, None, Result, Ok, Err, refl, subst}
 use Rattle.std.specs.Prelude.{IfSome, IsErrAnd}
 use Rattle.surf_base.specs.Outside.{Files}
 use Rattle.surf_base.specs.declared.limits.LimitKind.{LimitKind}
@@ -72,9 +72,9 @@ last_stopped : {held holds : Option Files} {old now : ℕ} {whole rest : Files �
 last_stopped {held} {holds} {old} {now} {whole} {rest} far new e same why =
     far.so new (Err e) (subst (λ (h : Option Files). WhyOver h now new rest (cause_of e)) same why)
 
-both : {P Q : Files → Type 0} (h : Option Files) → IfSome h P → IfSome h Q → IfSome h (λ files. P files × Q files)
-both None a b = tt
-both (Some files) a b = (a, b)
+both : (P Q : Files → Type 0) (h : Option Files) → IfSome h P → IfSome h Q → IfSome h (λ files. P files × Q files)
+both P Q None a b = tt
+both P Q (Some files) a b = (a, b)
 
 module _ (name word : List ℕ) (holds : Option Files) (old : ℕ) where
   abbrev pub TellsMeasured : ℕ → Result (Mesh × List ℕ) Refused → Type 0
@@ -111,7 +111,7 @@ module _ (name word : List ℕ) (holds : Option Files) (old : ℕ) where
         surface = from.1;
         few = few;
         has = is.1;
-      }) (both holds read_so (subst (λ (h : Option Files). IfSome h (λ files. HasLengths word mesh files (Ok values))) alike has))
+      }) (both (λ files. Reads name files (Ok bytes)) (λ files. HasLengths word mesh files (Ok values)) holds read_so (subst (λ (h : Option Files). IfSome h (λ files. HasLengths word mesh files (Ok values))) alike has))
 
   module _ (kind : LimitKind) (most : ℕ) where
     abbrev pub TellsSmall : ℕ → Result (Mesh × List ℕ) Refused → Type 0
