@@ -30,26 +30,27 @@ EXCUSED = {
 # another command is passed over where definitions go by cases.
 COMMANDS = {
     "info": ("surf_answers.Info.Informs", {"info"}),
-    "dist": ("surf_answers.Distances.GivesDistances", {"weighted", "Distances"}),
-    "loops": ("surf_answers.LeastLoops.GivesLoops", {"weighted", "LeastLoops"}),
-    "basis": ("surf_answers.LeastBasis.GivesBasis", {"cycles", "Basis"}),
-    "cycle": ("surf_answers.ShortestCycle.GivesCycle", {"cycles", "Shortest"}),
-    "cut": ("surf_answers.Cuts.IsCutAt", {"cuts"}),
+    "dist": ("surf_answers.Distances.GivesDistances", {"dist"}),
+    "loops": ("surf_answers.LeastLoops.GivesLoops", {"loops"}),
+    "basis": ("surf_answers.LeastBasis.GivesBasis", {"basis"}),
+    "cycle": ("surf_answers.ShortestCycle.GivesCycle", {"cycle"}),
+    "cut": ("surf_answers.Cuts.IsCutAt", {"cut"}),
     "disc": ("surf_answers.Discs.JudgesDisc", {"disc"}),
-    "certify M L x": ("surf_answers.Certificates.GivesLoopCert", {"weighted", "LoopCertificate"}),
-    "certify M L": ("surf_answers.Certificates.GivesBasisCert", {"cycles", "BasisCertificate"}),
-    "check": ("surf_answers.Verdicts.JudgesCert", {"checks"}),
-    "lengths": ("surf_answers.Coordinates.GivesMeasures", {"measures"}),
-    "class": ("surf_answers.Classes.GivesClass", {"classes"}),
-    "same": ("surf_answers.Classes.GivesClass", {"compares"}),
-    "confirm": ("surf_answers.Confirming.JudgesEvidence", {"confirms"}),
-    "shortest": ("surf_answers.Tightening.GivesShortestWalk", {"tightens"}),
-    "sew": ("surf_answers.Sewing.GivesSewn", {"sews"}),
-    "gen": ("surf_answers.Making.GivesMesh", {"makes"}),
-    "try": ("surf_answers.Summaries.GivesSummary", {"tries"}),
+    "certify M L x": ("surf_answers.Certificates.GivesLoopCert", {"certify_loops"}),
+    "certify M L": ("surf_answers.Certificates.GivesBasisCert", {"certify_basis"}),
+    "check": ("surf_answers.Verdicts.JudgesCert", {"check"}),
+    "lengths": ("surf_answers.Lengths.GivesLengths", {"lengths"}),
+    "class": ("surf_answers.Classes.GivesClass", {"class"}),
+    "same": ("surf_answers.Classes.GivesClass", {"same"}),
+    "confirm": ("surf_answers.Confirming.JudgesEvidence", {"confirm"}),
+    "shortest": ("surf_answers.ShortestWalk.GivesShortestWalk", {"shortest"}),
+    "sew": ("surf_answers.Sewing.GivesSewn", {"sew"}),
+    "gen": ("surf_answers.Making.GivesMesh", {"gen_shape"}),
+    "try": ("surf_answers.Summaries.GivesSummary", {"try_shape"}),
     "--help, --version": ("surf_words.Words.help_text", {"help", "version"}),
 }
 CASES = set().union(*(cases for _, cases in COMMANDS.values()))
+REQUESTS = ("surf_words", "Words")  # the home of the cases
 
 START = re.compile(r"^( *)(?:(?:pub |private |unfoldable |abbrev |data |record )+)([^\s:({]+)")
 WORD = re.compile(r"[^\s(){}\[\],;`\"]+")
@@ -102,7 +103,8 @@ def imports_of(text):
 class Specs:
     """All definitions of specs/, by their keys, with the parts of `data` and the homes of names."""
 
-    def __init__(self, top):
+    def __init__(self, top, requests=REQUESTS):
+        self.requests = requests
         self.definitions, self.parts = {}, {}
         self.scopes = {}
         for path in sorted((top / "crates").glob("*/specs/**/*.antt")):
@@ -148,8 +150,16 @@ class Specs:
                     found.add(key)
         return found
 
+    def cases_here(self, definition, passed_over):
+        """Those names of cases that are requests where the definition stands: others may use the words for variables."""
+        if (definition.crate, definition.module) == self.requests:
+            return passed_over
+        scope = self.scopes[definition.crate, definition.module]
+        return {word for word in passed_over if word in scope and (scope[word][0], scope[word][2]) == self.requests}
+
     def cases_of(self, definition, passed_over):
         """The lines of a definition, without the equations for cases that are passed over."""
+        passed_over = self.cases_here(definition, passed_over)
         kept, keeping = [], True
         for line in definition.lines:
             head = line.strip().split(" = ")[0] if " = " in line or line.rstrip().endswith("=") else None

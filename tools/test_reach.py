@@ -48,6 +48,9 @@ Does green n =
 abbrev pub IsRed : ℕ → Type 0
 IsRed n = innermost n ≡ n
 """
+SHADES = """abbrev pub Fades : ℕ → Type 0
+Fades green = 3 ≤ green
+"""
 CODE = """ghost use Rattle.surf_a.specs.Tasks.{Does};
 ghost use Rattle.surf_a.specs.Words.{Lonely};
 
@@ -62,7 +65,7 @@ pub fn act(n: u32)
 
 def made(room):
     top = pathlib.Path(room)
-    for name, text in {"specs/Words.antt": WORDS, "specs/Tasks.antt": TASKS, "src/lib.rt": CODE}.items():
+    for name, text in {"specs/Words.antt": WORDS, "specs/Tasks.antt": TASKS, "specs/Shades.antt": SHADES, "src/lib.rt": CODE}.items():
         path = top / "crates" / "surf_a" / name
         path.parent.mkdir(parents=True, exist_ok=True)
         path.write_text(text)
@@ -73,17 +76,17 @@ class Reach(unittest.TestCase):
     def setUp(self):
         self.room = tempfile.TemporaryDirectory()
         self.top = made(self.room.name)
-        self.specs = reach.Specs(self.top)
+        self.specs = reach.Specs(self.top, requests=("surf_a", "Words"))
 
     def tearDown(self):
         self.room.cleanup()
 
     def test_definitions(self):
-        names = ["Tasks.Does", "Tasks.IsRed", "Words.<>", "Words.Colour", "Words.HasShade", "Words.IsDeep", "Words.Lonely", "Words.inner"]
+        names = ["Shades.Fades", "Tasks.Does", "Tasks.IsRed", "Words.<>", "Words.Colour", "Words.HasShade", "Words.IsDeep", "Words.Lonely", "Words.inner"]
         self.assertEqual(sorted(self.specs.definitions), [f"surf_a.{name}" for name in names])
 
     def test_what_no_clause_reaches(self):
-        self.assertEqual(reach.unreached(self.specs, self.top), ["surf_a.Words.Lonely"])
+        self.assertEqual(reach.unreached(self.specs, self.top), ["surf_a.Shades.Fades", "surf_a.Words.Lonely"])
 
     def test_cases_that_are_passed_over(self):
         found = self.specs.reached(["surf_a.Tasks.Does"], frozenset({"green"}))
@@ -93,6 +96,9 @@ class Reach(unittest.TestCase):
         self.assertEqual(self.specs.line_count(["surf_a.Tasks.Does"]), 4)
         self.assertEqual(self.specs.line_count(["surf_a.Tasks.Does"], frozenset({"green"})), 2)
         self.assertEqual(self.specs.line_count(["surf_a.Words.Colour"]), 3)
+
+    def test_a_variable_is_no_case(self):
+        self.assertEqual(self.specs.line_count(["surf_a.Shades.Fades"], frozenset({"green"})), 2)
 
     def test_clauses(self):
         self.assertEqual(list(reach.clauses_of("ensures a { x { y } }\nghost view = { z };\n// ensures { no }\n")), [" x { y } ", " z "])

@@ -1,7 +1,7 @@
 pub mod Certificates
 pub mod Classes
 pub mod Confirming
-pub mod Coordinates
+pub mod Lengths
 pub mod Cuts
 pub mod CycleTexts
 pub mod Discs
@@ -18,5 +18,5 @@ pub mod ShortestCycle
 pub mod ChosenDesks
 pub mod Summaries
 pub mod Tells
-pub mod Tightening
+pub mod ShortestWalk
 pub mod Verdicts

@@ -6,7 +6,7 @@ ghost use Rattle.surf_surfaces.specs.Walk.{IsClosed};
 ghost use Rattle.surf_cover.specs.Starts.{IsLeastInClass};
 ghost use Rattle.surf_texts.specs.Fills.{Fills};
 ghost use Rattle.surf_answers.specs.Tells.{Concludes};
-ghost use Rattle.surf_answers.specs.Tightening.{GivesShortestWalk, shortest_line};
+ghost use Rattle.surf_answers.specs.ShortestWalk.{GivesShortestWalk, shortest_line};
 
 use crate::answered::Answered;
 use crate::desk::signed_desk;

@@ -15,14 +15,14 @@ use Rattle.surf_words.specs.Words.{Extent}
 use Rattle.surf_answers.specs.Cuts.{CutsAt, GivesOpened}
 use Rattle.surf_answers.specs.Tells.{Takes, TakesOver, Why, WhyOver, ConcludesOver}
 use Rattle.surf_run.specs.Cutting.{CutsOpen}
-use Rattle.surf_run.specs.Reading.{IsMeasured, HasBase, HasKind}
+use Rattle.surf_run.specs.Reading.{HasLengths, HasBase, HasKind}
 use Rattle.surf_run.specs.Steps.{Ends, stops, goes, AtMost}
 use Rattle.surf_run.proofs.Composing.{SoFar, begun, over, past, stopped, stopped_over, ended, follows_so, handed, some_so}
 
 -- what comes of a surface, as steps
 abbrev pub cut_steps : Extent → OffParts → Mesh → List ℕ → ℕ → Files → Outcome → Type 0
 cut_steps extent parts mesh lengths base files =
-    Ends (AtMost Loops 1024 (loop_count mesh)) (λ _. Ends (IsMeasured lengths mesh files) (λ values.
+    Ends (AtMost Loops 1024 (loop_count mesh)) (λ _. Ends (HasLengths lengths mesh files) (λ values.
     Ends (HasBase base mesh) (λ vertex. Ends (HasKind extent mesh files) (λ kind.
     Ends (CutsAt kind mesh values vertex) (λ opened. GivesOpened parts opened)))))
 
@@ -41,7 +41,7 @@ module _ (extent : Extent) (parts : OffParts) (mesh : Mesh) (lengths : List ℕ)
   step_by_step (stops (goes done few (goes values measured (goes vertex based (goes kind has end))))) =
       goes done few (goes values measured (goes vertex based (goes kind has (stops end))))
   step_by_step (goes opened is gives) =
-      goes tt is.few (goes is.values is.measured (goes is.vertex is.based (goes is.kind is.has (goes opened is.cuts gives))))
+      goes tt is.few (goes is.values is.has_lengths (goes is.vertex is.based (goes is.kind is.has_kind (goes opened is.cuts gives))))
 
 pub in_one_step : (extent : Extent) (parts : OffParts) (mesh : Mesh) (lengths : List ℕ) (base : ℕ) {holds : Option Files} {old now : ℕ} {whole : Files → Outcome → Type 0} →
     SoFar holds old now whole (cut_steps extent parts mesh lengths base) → SoFar holds old now whole (opening_steps extent parts mesh lengths base)
@@ -63,11 +63,11 @@ module _ (holds : Option Files) (old : ℕ) (extent : Extent) (mesh : Mesh) (len
   many_loops e why r is = refused old e r is (stopped begun e why (Err e) refl)
 
   module _ (few : AtMost Loops 1024 (loop_count mesh) (Ok tt)) where
-    pub no_lengths : (held : Option Files) (new : ℕ) → held ≡ holds → (e : Refused) → WhyOver held old new (λ files o. IsMeasured lengths mesh files (Err o)) (cause_of e) →
+    pub no_lengths : (held : Option Files) (new : ℕ) → held ≡ holds → (e : Refused) → WhyOver held old new (λ files o. HasLengths lengths mesh files (Err o)) (cause_of e) →
         (r : Result OpenMesh Refused) → IsErrAnd r (λ x. x ≡ e) → Tells new r
     no_lengths held new same e why r is = refused new e r is (stopped_over (past begun tt few) new e same why (Err e) refl)
 
-    module _ (held : Option Files) (mid : ℕ) (values : List ℕ) (same : held ≡ holds) (went : IfSome held (λ files. IsMeasured lengths mesh files (Ok values))) (later : old ≤ mid) where
+    module _ (held : Option Files) (mid : ℕ) (values : List ℕ) (same : held ≡ holds) (went : IfSome held (λ files. HasLengths lengths mesh files (Ok values))) (later : old ≤ mid) where
       pub no_base : (e : Refused) → Why (λ o. HasBase base mesh (Err o)) (cause_of e) → (r : Result OpenMesh Refused) → IsErrAnd r (λ x. x ≡ e) → Tells mid r
       no_base e why r is = refused mid e r is (stopped (over (past begun tt few) values same went later) e why (Err e) refl)
 
@@ -78,8 +78,8 @@ module _ (holds : Option Files) (old : ℕ) (extent : Extent) (mesh : Mesh) (len
             refused new e r is (stopped_over (past (over (past begun tt few) values same went later) vertex based) new e alike why (Err e) refl)
 
         module _ (there : Option Files) (new : ℕ) (kind : Kind) (alike : there ≡ holds) (told : IfSome there (λ files. HasKind extent mesh files (Ok kind))) (after : mid ≤ new) where
-          both : (h : Option Files) → IfSome h (λ files. IsMeasured lengths mesh files (Ok values)) → IfSome h (λ files. HasKind extent mesh files (Ok kind)) →
-              IfSome h (λ files. IsMeasured lengths mesh files (Ok values) × HasKind extent mesh files (Ok kind))
+          both : (h : Option Files) → IfSome h (λ files. HasLengths lengths mesh files (Ok values)) → IfSome h (λ files. HasKind extent mesh files (Ok kind)) →
+              IfSome h (λ files. HasLengths lengths mesh files (Ok values) × HasKind extent mesh files (Ok kind))
           both None a b = tt
           both (Some files) a b = (a, b)
 
@@ -88,14 +88,14 @@ module _ (holds : Option Files) (old : ℕ) (extent : Extent) (mesh : Mesh) (len
           cut_open (Ok opened) cuts = some_so holds (λ files is. record {
             few = few;
             values = values;
-            measured = is.0;
+            has_lengths = is.0;
             vertex = vertex;
             based = based;
             kind = kind;
-            has = is.1;
+            has_kind = is.1;
             cuts = cuts;
           })
-              (both holds (subst (λ (h : Option Files). IfSome h (λ files. IsMeasured lengths mesh files (Ok values))) same went)
+              (both holds (subst (λ (h : Option Files). IfSome h (λ files. HasLengths lengths mesh files (Ok values))) same went)
               (subst (λ (h : Option Files). IfSome h (λ files. HasKind extent mesh files (Ok kind))) alike told))
           cut_open (Err e) why =
               ended (over (past (over (past begun tt few) values same went later) vertex based) kind alike told after) (Err e) why

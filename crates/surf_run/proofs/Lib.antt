@@ -4,12 +4,14 @@ mod ClassSizes
 mod Composing
 mod Cutting
 mod CycleLaws
+mod Fronts
 mod LengthLaws
 mod MeshReads
 mod Named
 mod OneCut
 mod OneFaults
 mod OneLine
+mod OneOutcomes
 mod Refusals
 mod Refusing
 mod Rows

@@ -13,7 +13,7 @@ use Rattle.surf_texts.specs.Cause.{Cause, due, unread, starved, outcome_of, refu
 use Rattle.surf_texts.specs.Limits.{beyond}
 use Rattle.surf_texts.specs.MeshLines.{off_cause}
 use Rattle.surf_texts.specs.Outcome.{Outcome, answers, refuses, misses, status_of, Shows}
-use Rattle.surf_run.specs.Reading.{Reads, within_text, EndsInFault, IsSurfaceText, weighed_for, IsMeasured, HasBase, walk_named, HasWalk, HasKind, kind_named}
+use Rattle.surf_run.specs.Reading.{Reads, within_text, EndsInFault, IsSurfaceText, lengths_for, HasLengths, HasBase, walk_named, HasWalk, HasKind, kind_named}
 use Rattle.surf_answers.specs.Cuts.{CutsAt}
 use Rattle.surf_answers.specs.Says.{Says}
 use Rattle.surf_cutter.specs.Kinds.{Kind, through}
@@ -85,9 +85,9 @@ for_high : (b : Bool) (r : Result (List ℕ) Outcome) (lengths : List ℕ) → 1
 for_high true r lengths high = omega arith
 for_high false r lengths high = high
 
-pub measured_refuses : (word : List ℕ) (mesh : Mesh) (files : Files) → Refusing (IsMeasured word mesh files)
-measured_refuses word mesh files o is =
-    stated (weighed_for word mesh files)
+pub lengths_refuse : (word : List ℕ) (mesh : Mesh) (files : Files) → Refusing (HasLengths word mesh files)
+lengths_refuse word mesh files o is =
+    stated (lengths_for word mesh files)
     (for_high (bytes_eq word (codes "unit")) _ (replicate (edge_count mesh) 1)
     (then_high (λ bytes. refused_by length_cause (lengths_in mesh bytes)) (λ bytes. refused_high length_cause (λ fault. (length_proper fault).0) (lengths_in mesh bytes))
     (within_text (bytes_of files word)) (within_high (bytes_of files word)))) o is

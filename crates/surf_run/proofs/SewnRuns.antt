@@ -40,10 +40,10 @@ use Rattle.surf_texts.specs.Outcome.{Outcome, answers, status_of, Shows}
 use Rattle.surf_run.specs.Reading.{Reads, within_text}
 use Rattle.surf_run.specs.Steps.{goes}
 use Rattle.surf_run.specs.TwoRuns.{CanBeRead, IsSewnBack, CutsAreSewn, CutsThroughAreSewn}
-use Rattle.surf_words.specs.Words.{Extent, fully, trimmed, through, word_number, cuts, request_of}
+use Rattle.surf_words.specs.Words.{Extent, fully, trimmed, through, word_number, cut as cut_request, request_of}
 use Rattle.surf_run.proofs.CertSizes.{length_of_three, length_of_four}
 use Rattle.surf_run.proofs.MeshReads.{IsRead, mesh_texts_are_read}
-use Rattle.surf_run.proofs.Refusing.{reads_refuses, surface_refuses, limit_refuses, measured_refuses, base_refuses, kind_refuses, cut_refuses, goes_on, shown_low, shown_text}
+use Rattle.surf_run.proofs.Refusing.{reads_refuses, surface_refuses, limit_refuses, lengths_refuse, base_refuses, kind_refuses, cut_refuses, goes_on, shown_low, shown_text}
 use Rattle.surf_answers.proofs.Saying.{says_whole}
 use Rattle.surf_run.proofs.TextLaws.{mesh_texts_are_few}
 use Rattle.surf_run.proofs.TwoRuns.{read_back, read_again}
@@ -313,7 +313,7 @@ misuse_is_sewn files later mesh disc text o shows is =
 
 cut_is_sewn : (files later : Files) (mesh lengths disc text : List ℕ) (o : Outcome) → Shows o 0 text [] →
     bytes_of later disc ≡ Some text → CanBeRead text → (extent : Extent) (x : Option ℕ) →
-    OnRequest (option_map (cuts extent mesh lengths) x) files o → IsSewnBack files mesh later disc
+    OnRequest (option_map (cut_request extent mesh lengths) x) files o → IsSewnBack files mesh later disc
 cut_is_sewn files later mesh lengths disc text o shows held can extent None on =
     misuse_is_sewn files later mesh disc text o shows on
 cut_is_sewn files later mesh lengths disc text o shows held can extent (Some b) on =
@@ -321,7 +321,7 @@ cut_is_sewn files later mesh lengths disc text o shows held can extent (Some b) 
     let (bytes, reads, on_text) = goes_on o on (reads_refuses mesh files) low in
     let (read, is_surface, on_surface) = goes_on o on_text (surface_refuses bytes) low in
     let (_, few, on_few) = goes_on o on_surface (limit_refuses Loops 1024 (loop_count read.1)) low in
-    let (values, measured, on_lengths) = goes_on o on_few (measured_refuses lengths read.1 files) low in
+    let (values, measured, on_lengths) = goes_on o on_few (lengths_refuse lengths read.1 files) low in
     let (vertex, based, on_base) = goes_on o on_lengths (base_refuses b read.1) low in
     let (kind, has, on_kind) = goes_on o on_base (kind_refuses extent read.1 files) low in
     let (opened, is_cut, gives) = goes_on o on_kind (cut_refuses kind read.1 values vertex) low in
@@ -344,8 +344,8 @@ unfolding Leads request_of
 cuts_are_sewn files later mesh lengths base kind disc text (o, leads, shows) held can =
     of_kind (bytes_eq kind (codes "full")) (bytes_eq kind (codes "trim")) leads
   where
-    of_kind : (full trim : Bool) → OnRequest (if full && true then option_map (cuts fully mesh lengths) (word_number base)
-        else (if trim && true then option_map (cuts trimmed mesh lengths) (word_number base) else None)) files o →
+    of_kind : (full trim : Bool) → OnRequest (if full && true then option_map (cut_request fully mesh lengths) (word_number base)
+        else (if trim && true then option_map (cut_request trimmed mesh lengths) (word_number base) else None)) files o →
         IsSewnBack files mesh later disc
     of_kind true trim on = cut_is_sewn files later mesh lengths disc text o shows held can fully (word_number base) on
     of_kind false true on = cut_is_sewn files later mesh lengths disc text o shows held can trimmed (word_number base) on
@@ -356,7 +356,7 @@ unfolding Leads request_of
 cuts_through_are_sewn files later mesh lengths base kind points disc text (o, leads, shows) held can =
     of_kind (bytes_eq kind (codes "through")) leads
   where
-    of_kind : (named : Bool) → OnRequest (if named && true then option_map (cuts (through points) mesh lengths) (word_number base) else None) files o →
+    of_kind : (named : Bool) → OnRequest (if named && true then option_map (cut_request (through points) mesh lengths) (word_number base) else None) files o →
         IsSewnBack files mesh later disc
     of_kind true on = cut_is_sewn files later mesh lengths disc text o shows held can (through points) (word_number base) on
     of_kind false on = misuse_is_sewn files later mesh disc text o shows on

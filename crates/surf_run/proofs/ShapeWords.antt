@@ -12,7 +12,7 @@ use Rattle.surf_tori.specs.Chain.{chain}
 use Rattle.surf_tori.proofs.ChainLaws.{chains_are_surfaces}
 use Rattle.surf_tori.proofs.TorusLaws.{tori_are_surfaces}
 use Rattle.surf_words.specs.Shapes.{Shape, IsShape, mesh_of, torus_shape, chain_shape, torus_named, chain_named}
-use Rattle.surf_words.specs.Words.{Request, help, version, tries, word_number, tried, torus_of, chain_of, Row, row, command_table, fits, given_for, request_in, request_of}
+use Rattle.surf_words.specs.Words.{Request, help, version, try_shape, word_number, tried, torus_of, chain_of, Row, row, command_table, fits, given_for, request_in, request_of}
 use Rattle.surf_text.specs.Text.{words_of}
 use Prim.Native.String.{String as Literal}
 
@@ -21,7 +21,7 @@ use Prim.Native.String.{String as Literal}
 -- the shape that a request tries is one
 abbrev pub IsWellShaped : Option Request → Type 0
 IsWellShaped None = Unit {0}
-IsWellShaped (Some (tries shape scatter)) = IsShape shape
+IsWellShaped (Some (try_shape shape scatter)) = IsShape shape
 IsWellShaped (Some other) = Unit {0}
 
 either : (b : Bool) (x y : Option Request) → IsWellShaped x → IsWellShaped y → IsWellShaped (if b then x else y)

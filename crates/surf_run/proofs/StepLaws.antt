@@ -5,7 +5,7 @@ use Rattle.surf_base.specs.Outside.{Files, bytes_of}
 use Rattle.surf_texts.specs.LengthLines.{length_cause}
 use Rattle.surf_texts.specs.Outcome.{Outcome}
 use Rattle.surf_run.specs.Steps.{Ends, stops, goes, AtMost, and_then}
-use Rattle.surf_run.specs.Reading.{Reads, within_text, IsMeshText, EndsInFault, IsSurfaceOf, IsSurfaceText, weighed_for, IsMeasured, HasBase, walk_named, HasWalk, HasKind, kind_named, HasLengths}
+use Rattle.surf_run.specs.Reading.{Reads, within_text, IsMeshText, EndsInFault, IsSurfaceOf, IsSurfaceText, lengths_for, HasLengths, HasBase, walk_named, HasWalk, HasKind, kind_named}
 use Rattle.surf_surfaces.specs.Mesh.{Mesh}
 use Rattle.surf_surfaces.specs.Surface.{edge_count, IsSurface}
 use Rattle.surf_check.proofs.FaultLaws.{fault_only}
@@ -154,11 +154,11 @@ pub within : {second next : Outcome → Type 0} (kind : LimitKind) (most count :
     IsSettled (Ends (AtMost kind most count) (λ _. second)) (Ends (AtMost kind most count) (λ _. next))
 within kind most count rest = followed (steady (one_at_most kind most count)) (λ _ _. rest)
 
-one_measured : (word : List ℕ) (mesh : Mesh) (files : Files) → IsOne (IsMeasured word mesh files)
-one_measured word mesh files (Ok a) (Ok b) x y = one_result (weighed_for word mesh files) (Ok a) (Ok b) x.0 y.0
-one_measured word mesh files (Ok a) (Err p) x y = one_result (weighed_for word mesh files) (Ok a) (Err p) x.0 y
-one_measured word mesh files (Err o) (Ok b) x y = one_result (weighed_for word mesh files) (Err o) (Ok b) x y.0
-one_measured word mesh files (Err o) (Err p) x y = one_result (weighed_for word mesh files) (Err o) (Err p) x y
+one_lengths : (word : List ℕ) (mesh : Mesh) (files : Files) → IsOne (HasLengths word mesh files)
+one_lengths word mesh files (Ok a) (Ok b) x y = one_result (lengths_for word mesh files) (Ok a) (Ok b) x.0 y.0
+one_lengths word mesh files (Ok a) (Err p) x y = one_result (lengths_for word mesh files) (Ok a) (Err p) x.0 y
+one_lengths word mesh files (Err o) (Ok b) x y = one_result (lengths_for word mesh files) (Err o) (Ok b) x y.0
+one_lengths word mesh files (Err o) (Err p) x y = one_result (lengths_for word mesh files) (Err o) (Err p) x y
 
 one_walk : (file : WalkFile) (name : List ℕ) (mesh : Mesh) (files : Files) → IsOne (HasWalk file name mesh files)
 one_walk file name mesh files (Ok a) (Ok b) x y = one_result (walk_named file name mesh files) (Ok a) (Ok b) x.0 y.0
@@ -175,9 +175,9 @@ module _ (here there : Files) where
   pub reading : (name : List ℕ) → Same name → IsSteady (Reads name here) (Reads name there)
   reading name same = record { same = λ r is. is ∙ ap within_text same; one = one_file name there }
 
-  weighed_same : (word : List ℕ) (mesh : Mesh) → AllByRecursion Same (length_file word) →
-      weighed_for word mesh here ≡ weighed_for word mesh there
-  weighed_same word mesh same = at (bytes_eq word (codes "unit")) same
+  lengths_are : (word : List ℕ) (mesh : Mesh) → AllByRecursion Same (length_file word) →
+      lengths_for word mesh here ≡ lengths_for word mesh there
+  lengths_are word mesh same = at (bytes_eq word (codes "unit")) same
     where
       at : (b : Bool) → AllByRecursion Same (if b then [] else word ∷ []) →
           (if b then Ok (replicate (edge_count mesh) 1) else and_then (λ bytes. refused_by length_cause (lengths_in mesh bytes)) (within_text (bytes_of here word)))
@@ -187,16 +187,12 @@ module _ (here there : Files) where
 
   lengths_same : (word : List ℕ) (mesh : Mesh) → AllByRecursion Same (length_file word) → (r : Result (List ℕ) Outcome) →
       HasLengths word mesh here r → HasLengths word mesh there r
-  lengths_same word mesh same r is = is ∙ weighed_same word mesh same
+  lengths_same word mesh same (Ok lengths) is = (is.0 ∙ lengths_are word mesh same, is.1, is.2)
+  lengths_same word mesh same (Err o) is = is ∙ lengths_are word mesh same
 
-  measured_same : (word : List ℕ) (mesh : Mesh) → AllByRecursion Same (length_file word) → (r : Result (List ℕ) Outcome) →
-      IsMeasured word mesh here r → IsMeasured word mesh there r
-  measured_same word mesh same (Ok lengths) is = (lengths_same word mesh same (Ok lengths) is.0, is.1, is.2)
-  measured_same word mesh same (Err o) is = lengths_same word mesh same (Err o) is
-
-  pub measured : (word : List ℕ) (mesh : Mesh) → AllByRecursion Same (length_file word) →
-      IsSteady (IsMeasured word mesh here) (IsMeasured word mesh there)
-  measured word mesh same = record { same = measured_same word mesh same; one = one_measured word mesh there }
+  pub has_lengths : (word : List ℕ) (mesh : Mesh) → AllByRecursion Same (length_file word) →
+      IsSteady (HasLengths word mesh here) (HasLengths word mesh there)
+  has_lengths word mesh same = record { same = lengths_same word mesh same; one = one_lengths word mesh there }
 
   walk_is : (file : WalkFile) (name : List ℕ) (mesh : Mesh) → Same name → walk_named file name mesh here ≡ walk_named file name mesh there
   walk_is file name mesh same = ap (λ found. and_then (λ bytes. refused_by (walk_cause file) (walk_in mesh bytes)) (within_text found)) same

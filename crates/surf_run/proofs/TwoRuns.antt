@@ -35,18 +35,17 @@ use Rattle.surf_run.specs.Commands.{OnRequest, named}
 use Rattle.surf_run.specs.Leads.{Answer, Leads}
 use Rattle.surf_run.specs.Named.{AgreeOn}
 use Rattle.surf_texts.specs.Outcome.{Outcome, answers, status_of}
-use Rattle.surf_run.specs.Reading.{Reads, within_text, IsSurfaceText, IsMeasured, HasBase}
+use Rattle.surf_run.specs.Reading.{Reads, within_text, IsSurfaceText, HasLengths, HasBase}
 use Rattle.surf_answers.specs.Says.{Says}
 use Rattle.surf_answers.specs.Summaries.{total_size}
 use Rattle.surf_run.specs.Steps.{goes}
 use Rattle.surf_run.specs.TwoRuns.{LoopsPass, BasisPasses, CertifiedLoopsPass, CertifiedBasesPass}
 use Rattle.surf_texts.specs.VerdictLines.{loops_line, basis_line}
-use Rattle.surf_words.specs.Words.{word_number, weighted, request_of}
-use Rattle.surf_words.specs.declared.tasks.Task.TheVariants.{LeastLoops, LoopCertificate}
+use Rattle.surf_words.specs.Words.{word_number, loops as loops_request, certify_loops, request_of}
 use Rattle.surf_run.proofs.CertSizes.{loop_text_short, basis_text_short}
 use Rattle.surf_run.proofs.CycleLaws.{few_loops}
 use Rattle.surf_run.proofs.Named.{answers_depend_on_named_files}
-use Rattle.surf_run.proofs.Refusing.{reads_refuses, surface_refuses, limit_refuses, measured_refuses, base_refuses, goes_on, shown_low, shown_text}
+use Rattle.surf_run.proofs.Refusing.{reads_refuses, surface_refuses, limit_refuses, lengths_refuse, base_refuses, goes_on, shown_low, shown_text}
 use Rattle.surf_run.proofs.TextLaws.{mesh_texts_are_few}
 
 -- ---- what is known of what was read
@@ -92,7 +91,7 @@ module _ (files : Files) (mesh lengths cert text : List ℕ) (held : bytes_of fi
 
   module _ (base : List ℕ) (o : Outcome) (b : ℕ) (is_base : word_number base ≡ Some b) (bytes : List ℕ) (reads : Reads mesh files (Ok bytes))
       (read : OffParts × Mesh) (surface : IsSurfaceText bytes (Ok read)) (few : loop_count read.1 ≤ 1024)
-      (values : List ℕ) (measured : IsMeasured lengths read.1 files (Ok values)) (vertex : ℕ) (based : HasBase b read.1 (Ok vertex))
+      (values : List ℕ) (measured : HasLengths lengths read.1 files (Ok values)) (vertex : ℕ) (based : HasBase b read.1 (Ok vertex))
       (gives : GivesLoopCert read.1 values vertex o) (text_is : text ≡ loop_text (chosen_cert read.1 gives.found.trees)) where
     loops_long : ArePositive read.1 values
     loops_long = lengths_positive read.1 values measured.1 measured.2
@@ -120,7 +119,7 @@ module _ (files : Files) (mesh lengths cert text : List ℕ) (held : bytes_of fi
     loops_said : (outcome : Outcome) → Says (loops_text the_loops) outcome → Leads (codes "loops" ∷ mesh ∷ lengths ∷ base ∷ []) files outcome
     unfolding Leads request_of
     loops_said outcome says =
-        subst (λ (x : Option ℕ). OnRequest (option_map (weighted LeastLoops mesh lengths) x) files outcome) (sym is_base)
+        subst (λ (x : Option ℕ). OnRequest (option_map (loops_request mesh lengths) x) files outcome) (sym is_base)
         (goes bytes reads (goes read surface (goes tt few (goes values measured (goes vertex based (record {
           found = gives.found;
           says = says;
@@ -149,7 +148,7 @@ module _ (files : Files) (mesh lengths cert text : List ℕ) (held : bytes_of fi
   -- ---- a basis
 
   module _ (o : Outcome) (bytes : List ℕ) (reads : Reads mesh files (Ok bytes)) (read : OffParts × Mesh) (is_surface : IsSurfaceText bytes (Ok read))
-      (few_loops_are : loop_count read.1 ≤ 1024) (few : read.1.vertices ≤ 1000) (values : List ℕ) (measured : IsMeasured lengths read.1 files (Ok values))
+      (few_loops_are : loop_count read.1 ≤ 1024) (few : read.1.vertices ≤ 1000) (values : List ℕ) (measured : HasLengths lengths read.1 files (Ok values))
       (gives : GivesBasisCert read.1 values o) (text_is : text ≡ basis_text (basis_cert_of read.1 gives.found.trees gives.found.basis)) where
     abbrev m : Mesh
     m = read.1
@@ -221,13 +220,13 @@ loops_pass_there files mesh lengths base cert text (o, leads, shows) held = at (
     low : status_of o ≤ 1
     low = shown_low o text [] shows
 
-    at : (x : Option ℕ) → word_number base ≡ x → OnRequest (option_map (weighted LoopCertificate mesh lengths) x) files o → LoopsPass files mesh lengths base cert
+    at : (x : Option ℕ) → word_number base ≡ x → OnRequest (option_map (certify_loops mesh lengths) x) files o → LoopsPass files mesh lengths base cert
     at None is on = absurd (let low_status = low in let status = ap status_of on in omega (arith, low_status, status))
     at (Some b) is on =
         let (bytes, reads, on_text) = goes_on o on (reads_refuses mesh files) low in
         let (read, surface, on_surface) = goes_on o on_text (surface_refuses bytes) low in
         let (_, few, on_few) = goes_on o on_surface (limit_refuses limits.Loops 1024 (loop_count read.1)) low in
-        let (values, measured, on_lengths) = goes_on o on_few (measured_refuses lengths read.1 files) low in
+        let (values, measured, on_lengths) = goes_on o on_few (lengths_refuse lengths read.1 files) low in
         let (vertex, based, gives) = goes_on o on_lengths (base_refuses b read.1) low in
         let text_is = shown_text (loop_text (chosen_cert read.1 gives.found.trees)) o text gives.says shows in (
           the_loops files mesh lengths cert text held base o b is bytes reads read surface few values measured vertex based gives text_is,
@@ -245,7 +244,7 @@ basis_passes_there files mesh lengths cert text (o, leads, shows) held =
     let (read, surface, on_surface) = goes_on o on_text (surface_refuses bytes) low in
     let (_, loops, on_loops) = goes_on o on_surface (limit_refuses limits.Loops 1024 (loop_count read.1)) low in
     let (_, few, on_few) = goes_on o on_loops (limit_refuses CertificateVertices 1000 read.1.vertices) low in
-    let (values, measured, gives) = goes_on o on_few (measured_refuses lengths read.1 files) low in
+    let (values, measured, gives) = goes_on o on_few (lengths_refuse lengths read.1 files) low in
     let text_is = shown_text (basis_text (basis_cert_of read.1 gives.found.trees gives.found.basis)) o text gives.says shows in (
       gives.found.basis,
       basis_said files mesh lengths cert text held o bytes reads read surface loops few values measured gives text_is,
@@ -267,7 +266,7 @@ certified_loops_pass files later mesh lengths base cert text answer same held =
     (answered_there (codes "certify" ∷ mesh ∷ lengths ∷ base ∷ []) files later text answer (at (word_number base)))
     held
   where
-    at : (x : Option ℕ) → AgreeOn (named (option_map (weighted LoopCertificate mesh lengths) x)) files later
+    at : (x : Option ℕ) → AgreeOn (named (option_map (certify_loops mesh lengths) x)) files later
     at None = All-nil (λ name. bytes_of files name ≡ bytes_of later name)
     at (Some b) = same
 

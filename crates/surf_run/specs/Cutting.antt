@@ -9,7 +9,7 @@ use Rattle.surf_cutter.specs.Opened.{OpenMesh}
 use Rattle.surf_texts.specs.Outcome.{Outcome}
 use Rattle.surf_words.specs.Words.{Extent}
 use Rattle.surf_answers.specs.Cuts.{CutsAt}
-use Rattle.surf_run.specs.Reading.{IsMeasured, HasBase, HasKind}
+use Rattle.surf_run.specs.Reading.{HasLengths, HasBase, HasKind}
 use Rattle.surf_run.specs.Steps.{Ends, AtMost}
 
 -- The surface has few loops, a word gives it lengths, the base is one of its vertices, it is to be cut so far, and
@@ -18,17 +18,17 @@ pub record IsCutOpen (extent : Extent) (mesh : Mesh) (lengths : List ℕ) (base 
     : Type 0 where
   pub few : AtMost Loops 1024 (loop_count mesh) (Ok tt)
   pub values : List ℕ
-  pub measured : IsMeasured lengths mesh files (Ok values)
+  pub has_lengths : HasLengths lengths mesh files (Ok values)
   pub vertex : ℕ
   pub based : HasBase base mesh (Ok vertex)
   pub kind : Kind
-  pub has : HasKind extent mesh files (Ok kind)
+  pub has_kind : HasKind extent mesh files (Ok kind)
   pub cuts : CutsAt kind mesh values vertex (Ok opened)
 
 -- The surface is cut open; or one of the steps before stops.
 abbrev pub CutsOpen : Extent → Mesh → List ℕ → ℕ → Files → Result OpenMesh Outcome → Type 0
 CutsOpen extent mesh lengths base files (Ok opened) = IsCutOpen extent mesh lengths base files opened
 CutsOpen extent mesh lengths base files (Err outcome) =
-    Ends (AtMost Loops 1024 (loop_count mesh)) (λ _. Ends (IsMeasured lengths mesh files) (λ values.
+    Ends (AtMost Loops 1024 (loop_count mesh)) (λ _. Ends (HasLengths lengths mesh files) (λ values.
     Ends (HasBase base mesh) (λ vertex. Ends (HasKind extent mesh files) (λ kind end.
     CutsAt kind mesh values vertex (Err end))))) outcome

@@ -1,5 +1,6 @@
 pub mod Commands
 pub mod Cutting
+pub mod Fronts
 pub mod Leads
 pub mod Named
 pub mod OneAnswer

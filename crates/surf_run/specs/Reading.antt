@@ -94,23 +94,20 @@ IsTextAt reads name files (Err outcome) = Ends (Reads name files) (λ bytes end.
 -- ---- lengths and a base
 
 -- The bytes are the text of a length file for the mesh.
-abbrev pub WeighsText : List ℕ → Mesh → Result (List ℕ) Outcome → Type 0
-WeighsText bytes mesh result = result ≡ refused_by length_cause (lengths_in mesh bytes)
+abbrev pub IsLengthText : List ℕ → Mesh → Result (List ℕ) Outcome → Type 0
+IsLengthText bytes mesh result = result ≡ refused_by length_cause (lengths_in mesh bytes)
 
 -- The word `unit` gives each edge the length 1; any other word is the name of a length file.
-abbrev pub weighed_for : List ℕ → Mesh → Files → Result (List ℕ) Outcome
-weighed_for word mesh files =
+abbrev pub lengths_for : List ℕ → Mesh → Files → Result (List ℕ) Outcome
+lengths_for word mesh files =
     if bytes_eq word (codes "unit") then Ok (replicate (edge_count mesh) 1)
     else and_then (λ bytes. refused_by length_cause (lengths_in mesh bytes)) (within_text (bytes_of files word))
 
-abbrev pub HasLengths : List ℕ → Mesh → Files → Result (List ℕ) Outcome → Type 0
-HasLengths word mesh files result = result ≡ weighed_for word mesh files
-
 -- A word gives lengths to the edges, each from 1 to 4,294,967,295.
-abbrev pub IsMeasured : List ℕ → Mesh → Files → Result (List ℕ) Outcome → Type 0
-IsMeasured word mesh files (Ok lengths) =
-    HasLengths word mesh files (Ok lengths) × AreLengths lengths × (length lengths ≡ edge_count mesh)
-IsMeasured word mesh files (Err outcome) = HasLengths word mesh files (Err outcome)
+abbrev pub HasLengths : List ℕ → Mesh → Files → Result (List ℕ) Outcome → Type 0
+HasLengths word mesh files (Ok lengths) =
+    (Ok lengths ≡ lengths_for word mesh files) × AreLengths lengths × (length lengths ≡ edge_count mesh)
+HasLengths word mesh files (Err outcome) = Err outcome ≡ lengths_for word mesh files
 
 -- The base is a vertex.
 abbrev pub HasBase : ℕ → Mesh → Result ℕ Outcome → Type 0

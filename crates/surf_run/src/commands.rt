@@ -6,33 +6,25 @@ ghost use Rattle.surf_run.specs.Run.{NamesFile};
 ghost use Rattle.surf_words.specs.Words.{request};
 ghost use Rattle.surf_answers.specs.Tells.{Concludes, ConcludesOver};
 
+mod basis;
+mod certify_basis;
+mod certify_loops;
 mod check;
 mod class;
-mod confirmation;
+mod confirm;
 mod cut;
-mod cycles;
+mod cycle;
 mod disc;
-mod generation;
+mod dist;
+mod gen_shape;
 mod info;
 mod lengths;
-mod sewing;
-mod shortest_walk;
-mod tasks;
-mod trial;
+mod loops;
+mod same;
+mod sew;
+mod shortest;
+mod try_shape;
 
-use crate::commands::check::checked;
-use crate::commands::class::{classify, compare};
-use crate::commands::confirmation::confirm;
-use crate::commands::cut::cut_open;
-use crate::commands::cycles::find_cycles;
-use crate::commands::disc::test_disc;
-use crate::commands::generation::generate;
-use crate::commands::info::inform;
-use crate::commands::lengths::measured;
-use crate::commands::sewing::sew;
-use crate::commands::shortest_walk::shortest;
-use crate::commands::tasks::weighted;
-use crate::commands::trial::tried;
 use std::alloc::Global;
 use surf_answers::{Answered, help, version};
 use surf_base::Shelf;
@@ -57,29 +49,29 @@ pub(crate) fn answer<S: Shelf>(
     match command {
         Command::Help => help(alloc),
         Command::Version => version(alloc),
-        Command::Info { mesh } => inform(alloc, shelf, mesh),
-        Command::Disc { mesh } => test_disc(alloc, shelf, mesh),
-        Command::Cycles {
-            task,
-            mesh,
-            lengths,
-        } => find_cycles(alloc, shelf, task, mesh, lengths),
-        Command::Weighted {
-            task,
+        Command::Info { mesh } => info::answer(alloc, shelf, mesh),
+        Command::Dist {
             mesh,
             lengths,
             base,
-        } => weighted(alloc, shelf, task, mesh, lengths, base),
+        } => dist::answer(alloc, shelf, mesh, lengths, base),
+        Command::Loops {
+            mesh,
+            lengths,
+            base,
+        } => loops::answer(alloc, shelf, mesh, lengths, base),
+        Command::Basis { mesh, lengths } => basis::answer(alloc, shelf, mesh, lengths),
+        Command::Cycle { mesh, lengths } => cycle::answer(alloc, shelf, mesh, lengths),
         Command::CutFull {
             mesh,
             lengths,
             base,
-        } => cut_open(alloc, shelf, CutWords::Full, mesh, lengths, base),
+        } => cut::answer(alloc, shelf, CutWords::Full, mesh, lengths, base),
         Command::CutTrimmed {
             mesh,
             lengths,
             base,
-        } => cut_open(alloc, shelf, CutWords::Trimmed, mesh, lengths, base),
+        } => cut::answer(alloc, shelf, CutWords::Trimmed, mesh, lengths, base),
         Command::CutThrough {
             mesh,
             lengths,
@@ -87,28 +79,37 @@ pub(crate) fn answer<S: Shelf>(
             points,
         } => {
             let extent = CutWords::Through { points };
-            cut_open(alloc, shelf, extent, mesh, lengths, base)
+            cut::answer(alloc, shelf, extent, mesh, lengths, base)
         }
-        Command::Generate { shape } => generate(alloc, shape),
-        Command::Try { shape, scatter } => tried(alloc, shape, scatter),
-        Command::Check {
-            mesh,
-            lengths,
-            cert,
-        } => checked(alloc, shelf, mesh, lengths, cert),
-        Command::Measure { mesh, decimals } => measured(alloc, shelf, mesh, decimals),
-        Command::Sew { mesh } => sew(alloc, shelf, mesh),
-        Command::Class { mesh, walk } => classify(alloc, shelf, mesh, walk),
+        Command::Sew { mesh } => sew::answer(alloc, shelf, mesh),
+        Command::Disc { mesh } => disc::answer(alloc, shelf, mesh),
+        Command::Class { mesh, walk } => class::answer(alloc, shelf, mesh, walk),
         Command::Same {
             mesh,
             first,
             second,
-        } => compare(alloc, shelf, mesh, first, second),
-        Command::Confirm { mesh, walk, cert } => confirm(alloc, shelf, mesh, walk, cert),
+        } => same::answer(alloc, shelf, mesh, first, second),
+        Command::Confirm { mesh, walk, cert } => confirm::answer(alloc, shelf, mesh, walk, cert),
         Command::Shortest {
             mesh,
             lengths,
             walk,
-        } => shortest(alloc, shelf, mesh, lengths, walk),
+        } => shortest::answer(alloc, shelf, mesh, lengths, walk),
+        Command::CertifyLoops {
+            mesh,
+            lengths,
+            base,
+        } => certify_loops::answer(alloc, shelf, mesh, lengths, base),
+        Command::CertifyBasis { mesh, lengths } => certify_basis::answer(
+            alloc, shelf, mesh, lengths,
+        ),
+        Command::Check {
+            mesh,
+            lengths,
+            cert,
+        } => check::answer(alloc, shelf, mesh, lengths, cert),
+        Command::Lengths { mesh, decimals } => lengths::answer(alloc, shelf, mesh, decimals),
+        Command::Gen { shape } => gen_shape::answer(alloc, shape),
+        Command::Try { shape, scatter } => try_shape::answer(alloc, shape, scatter),
     }
 }

@@ -3,13 +3,14 @@
 
 mod commands;
 mod laws;
+mod lengths;
 mod limits;
 mod made;
 mod points;
 mod reading;
+mod surfaces;
 mod top;
 mod walks;
-mod weights;
 
 pub use laws::{law_of_named_files, law_of_one_answer, law_of_two_runs};
 pub use top::{MEMORY, USAGE, run, say};

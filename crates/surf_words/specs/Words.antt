@@ -6,17 +6,14 @@ use Rattle.std.specs.List.{list_all, repeat}
 use Rattle.std.specs.Str.{bytes_eq}
 use Prim.Native.String.{String as Literal}
 use Rattle.surf_text.specs.Text.{whole, words_of}
-use Rattle.surf_words.specs.declared.tasks.CycleTask.{CycleTask}
-use Rattle.surf_words.specs.declared.tasks.CycleTask.TheVariants.{Basis, Shortest, BasisCertificate}
-use Rattle.surf_words.specs.declared.tasks.Task.{Task}
-use Rattle.surf_words.specs.declared.tasks.Task.TheVariants.{Distances, LeastLoops, LoopCertificate}
 use Rattle.surf_words.specs.declared.cuts.CutWords.{CutWords}
 use Rattle.surf_words.specs.declared.cuts.CutWords.TheVariants.{Full, Trimmed, Through}
 use Rattle.surf_words.specs.Shapes.{Shape, torus_named, chain_named}
 use Rattle.surf_words.specs.declared.words.Command.{Command}
-use Rattle.surf_words.specs.declared.words.Command.TheVariants.{Help, Version, Info, Disc, Cycles, Weighted, Generate}
-use Rattle.surf_words.specs.declared.words.Command.TheVariants.{Try, Check, Measure, Sew, Class, Same, Confirm}
-use Rattle.surf_words.specs.declared.words.Command.TheVariants.{Shortest, CutFull, CutTrimmed, CutThrough}
+use Rattle.surf_words.specs.declared.words.Command.TheVariants.{Help, Version, Info, Dist, Loops, Basis, Cycle}
+use Rattle.surf_words.specs.declared.words.Command.TheVariants.{CutFull, CutTrimmed, CutThrough, Sew, Disc, Class, Same}
+use Rattle.surf_words.specs.declared.words.Command.TheVariants.{Confirm, Shortest, CertifyLoops, CertifyBasis, Check}
+use Rattle.surf_words.specs.declared.words.Command.TheVariants.{Lengths, Gen, Try}
 use Rattle.std.specs.declared.alloc.Global.{Global}
 
 -- the bytes of each word
@@ -29,36 +26,28 @@ pub data Extent : Type 0 where
   trimmed : Extent
   through : List ℕ → Extent
 
--- a row of the command table, with the names of its files
+-- a row of the command table, with the words that are given in it: names of files, the word of lengths, numbers
 pub data Request : Type 0 where
   help : Request
   version : Request
   info : List ℕ → Request
+  dist : List ℕ → List ℕ → ℕ → Request
+  loops : List ℕ → List ℕ → ℕ → Request
+  basis : List ℕ → List ℕ → Request
+  cycle : List ℕ → List ℕ → Request
+  cut : Extent → List ℕ → List ℕ → ℕ → Request
+  sew : List ℕ → Request
   disc : List ℕ → Request
-  -- a task on the cycles of the surface of a file, with the lengths that a word gives
-  cycles : CycleTask → List ℕ → List ℕ → Request
-  -- a task on the surface of a file, with the lengths that a word gives and a base
-  weighted : Task → List ℕ → List ℕ → ℕ → Request
-  -- the surface of a file cut open so far, with the lengths that a word gives and a base
-  cuts : Extent → List ℕ → List ℕ → ℕ → Request
-  -- the mesh of a shape
-  makes : Shape → Request
-  -- what is found on the surface of a shape, with the lengths that a scatter makes
-  tries : Shape → ℕ → Request
-  -- the certificate of a file against the surface of a file, with the lengths that a word gives
-  checks : List ℕ → List ℕ → List ℕ → Request
-  -- the measures of the edges of the surface of a file, in units of so many decimals
-  measures : List ℕ → ℕ → Request
-  -- the mesh before the cut, from the text that `cut` wrote
-  sews : List ℕ → Request
-  -- evidence of the class of the walk of a file
-  classes : List ℕ → List ℕ → Request
-  -- evidence of how the classes of the walks of two files differ
-  compares : List ℕ → List ℕ → List ℕ → Request
-  -- whether the evidence of a file is right for the class of the walk of another
-  confirms : List ℕ → List ℕ → List ℕ → Request
-  -- a shortest walk in the class of the walk of a file, with the lengths that a word gives
-  tightens : List ℕ → List ℕ → List ℕ → Request
+  class : List ℕ → List ℕ → Request
+  same : List ℕ → List ℕ → List ℕ → Request
+  confirm : List ℕ → List ℕ → List ℕ → Request
+  shortest : List ℕ → List ℕ → List ℕ → Request
+  certify_loops : List ℕ → List ℕ → ℕ → Request
+  certify_basis : List ℕ → List ℕ → Request
+  check : List ℕ → List ℕ → List ℕ → Request
+  lengths : List ℕ → ℕ → Request
+  gen_shape : Shape → Request
+  try_shape : Shape → ℕ → Request
 
 -- ---- the command table
 
@@ -75,16 +64,12 @@ few_decimals n = if nat_le n 9 then Some n else None
 pub data Row : Type 0 where
   row : Literal → Literal → ((Literal → List ℕ) → Option Request) → Row
 
--- a task with lengths, and one with lengths and a base
-abbrev pub on_cycles : CycleTask → (Literal → List ℕ) → Option Request
-on_cycles task w = Some (cycles task (w "M") (w "L"))
+-- what is asked of a mesh with lengths, and of one with lengths at a base
+abbrev pub with_lengths : (List ℕ → List ℕ → Request) → (Literal → List ℕ) → Option Request
+with_lengths asked w = Some (asked (w "M") (w "L"))
 
-abbrev pub at_base : Task → (Literal → List ℕ) → Option Request
-at_base task w = option_map (weighted task (w "M") (w "L")) (word_number (w "x"))
-
--- a surface cut open so far
-abbrev pub cut_at_base : Extent → (Literal → List ℕ) → Option Request
-cut_at_base extent w = option_map (cuts extent (w "M") (w "L")) (word_number (w "x"))
+abbrev pub at_base : (List ℕ → List ℕ → ℕ → Request) → (Literal → List ℕ) → Option Request
+at_base asked w = option_map (asked (w "M") (w "L")) (word_number (w "x"))
 
 -- the shapes of two numbers, and of three
 abbrev pub torus_of : (Literal → List ℕ) → Option Shape
@@ -95,33 +80,34 @@ chain_of w = chain_named (word_number (w "g")) (word_number (w "a")) (word_numbe
 
 -- a shape with a scatter
 abbrev pub tried : Option Shape → Option ℕ → Option Request
-tried shape scatter = option_and_then (λ s. option_map (tries s) scatter) shape
+tried shape scatter = option_and_then (λ s. option_map (try_shape s) scatter) shape
 
 abbrev pub command_table : List Row
 command_table =
     row "info M" "counts, Euler characteristic, genus or crosscaps" (λ w. Some (info (w "M")))
-    ∷ row "dist M L x" "the distance of each vertex from vertex x" (at_base Distances)
-    ∷ row "loops M L x" "a shortest system of independent loops at x" (at_base LeastLoops)
-    ∷ row "basis M L" "a shortest homology basis (mod 2)" (on_cycles Basis)
-    ∷ row "cycle M L" "a shortest cycle that doesn't separate the surface" (on_cycles Shortest)
-    ∷ row "cut M L x full" "the mesh cut into one disc" (cut_at_base fully)
-    ∷ row "cut M L x trim" "the same with the cut's loose ends left uncut" (cut_at_base trimmed)
-    ∷ row "cut M L x through P" "the mesh cut into one disc through the vertices of P" (λ w. cut_at_base (through (w "P")) w)
-    ∷ row "sew M" "the mesh that was cut, from what cut wrote" (λ w. Some (sews (w "M")))
+    ∷ row "dist M L x" "the distance of each vertex from vertex x" (at_base dist)
+    ∷ row "loops M L x" "a shortest system of independent loops at x" (at_base loops)
+    ∷ row "basis M L" "a shortest homology basis (mod 2)" (with_lengths basis)
+    ∷ row "cycle M L" "a shortest cycle that doesn't separate the surface" (with_lengths cycle)
+    ∷ row "cut M L x full" "the mesh cut into one disc" (at_base (cut fully))
+    ∷ row "cut M L x trim" "the same with the cut's loose ends left uncut" (at_base (cut trimmed))
+    ∷ row "cut M L x through P" "the mesh cut into one disc through the vertices of P"
+    (λ w. at_base (cut (through (w "P"))) w)
+    ∷ row "sew M" "the mesh that was cut, from what cut wrote" (λ w. Some (sew (w "M")))
     ∷ row "disc M" "whether a mesh is a disc" (λ w. Some (disc (w "M")))
-    ∷ row "class M W" "whether a closed walk is a boundary, with evidence" (λ w. Some (classes (w "M") (w "W")))
-    ∷ row "same M W W2" "whether two closed walks are homologous (mod 2)" (λ w. Some (compares (w "M") (w "W") (w "W2")))
+    ∷ row "class M W" "whether a closed walk is a boundary, with evidence" (λ w. Some (class (w "M") (w "W")))
+    ∷ row "same M W W2" "whether two closed walks are homologous (mod 2)" (λ w. Some (same (w "M") (w "W") (w "W2")))
     ∷ row "confirm M W C" "whether the evidence that class wrote is right"
-    (λ w. Some (confirms (w "M") (w "W") (w "C")))
+    (λ w. Some (confirm (w "M") (w "W") (w "C")))
     ∷ row "shortest M L W" "a shortest closed walk homologous to W"
-    (λ w. Some (tightens (w "M") (w "L") (w "W")))
-    ∷ row "certify M L x" "a certificate of loops at vertex x" (at_base LoopCertificate)
-    ∷ row "certify M L" "a certificate of a basis" (on_cycles BasisCertificate)
-    ∷ row "check M L C" "whether a certificate is valid, and its total" (λ w. Some (checks (w "M") (w "L") (w "C")))
+    (λ w. Some (shortest (w "M") (w "L") (w "W")))
+    ∷ row "certify M L x" "a certificate of loops at vertex x" (at_base certify_loops)
+    ∷ row "certify M L" "a certificate of a basis" (with_lengths certify_basis)
+    ∷ row "check M L C" "whether a certificate is valid, and its total" (λ w. Some (check (w "M") (w "L") (w "C")))
     ∷ row "lengths M k" "the lengths of the edges from coordinates, in units of 10^-k"
-    (λ w. option_map (measures (w "M")) (option_and_then few_decimals (word_number (w "k"))))
-    ∷ row "gen torus a b" "a torus of a by b squares" (λ w. option_map makes (torus_of w))
-    ∷ row "gen chain g a b" "a chain of g such tori" (λ w. option_map makes (chain_of w))
+    (λ w. option_map (lengths (w "M")) (option_and_then few_decimals (word_number (w "k"))))
+    ∷ row "gen torus a b" "a torus of a by b squares" (λ w. option_map gen_shape (torus_of w))
+    ∷ row "gen chain g a b" "a chain of g such tori" (λ w. option_map gen_shape (chain_of w))
     ∷ row "try torus a b s" "a summary of a torus with lengths scattered by s"
     (λ w. tried (torus_of w) (word_number (w "s")))
     ∷ row "try chain g a b s" "the same of a chain" (λ w. tried (chain_of w) (word_number (w "s")))
@@ -162,25 +148,33 @@ abbrev pub request : Command → Request
 request Help = help
 request Version = version
 request (Info mesh) = info mesh.now
+request (Dist mesh word base) = dist mesh.now word.now base
+request (Loops mesh word base) = loops mesh.now word.now base
+request (Basis mesh word) = basis mesh.now word.now
+request (Cycle mesh word) = cycle mesh.now word.now
+request (CutFull mesh word base) = cut fully mesh.now word.now base
+request (CutTrimmed mesh word base) = cut trimmed mesh.now word.now base
+request (CutThrough mesh word base points) = cut (through points.now) mesh.now word.now base
+request (Sew mesh) = sew mesh.now
 request (Disc mesh) = disc mesh.now
-request (Cycles task mesh lengths) = cycles task mesh.now lengths.now
-request (Weighted task mesh lengths base) = weighted task mesh.now lengths.now base
-request (CutFull mesh lengths base) = cuts fully mesh.now lengths.now base
-request (CutTrimmed mesh lengths base) = cuts trimmed mesh.now lengths.now base
-request (CutThrough mesh lengths base points) = cuts (through points.now) mesh.now lengths.now base
-request (Generate shape) = makes shape
-request (Try shape scatter) = tries shape scatter
-request (Check mesh lengths cert) = checks mesh.now lengths.now cert.now
-request (Measure mesh decimals) = measures mesh.now decimals
-request (Sew mesh) = sews mesh.now
-request (Class mesh walk) = classes mesh.now walk.now
-request (Same mesh first second) = compares mesh.now first.now second.now
-request (Confirm mesh walk cert) = confirms mesh.now walk.now cert.now
-request (Shortest mesh lengths walk) = tightens mesh.now lengths.now walk.now
+request (Class mesh walk) = class mesh.now walk.now
+request (Same mesh first second) = same mesh.now first.now second.now
+request (Confirm mesh walk cert) = confirm mesh.now walk.now cert.now
+request (Shortest mesh word walk) = shortest mesh.now word.now walk.now
+request (CertifyLoops mesh word base) = certify_loops mesh.now word.now base
+request (CertifyBasis mesh word) = certify_basis mesh.now word.now
+request (Check mesh word cert) = check mesh.now word.now cert.now
+request (Lengths mesh decimals) = lengths mesh.now decimals
+request (Gen shape) = gen_shape shape
+request (Try shape scatter) = try_shape shape scatter
 
--- The command that was found for words is their request. Where none was found, they have none.
+-- The command that was found is what is asked. Where none was found, nothing is.
+abbrev pub IsAsked : Option Command → Option Request → Type 0
+IsAsked found asked = MatchOption found (asked ≡ None) (λ c. asked ≡ Some (request c))
+
+-- The command that was found is the request that words are.
 abbrev pub Asks : Option Command → List (List ℕ) → Type 0
-Asks found words = MatchOption found (request_of words ≡ None) (λ c. request_of words ≡ Some (request c))
+Asks found words = IsAsked found (request_of words)
 
 -- ---- the fixed texts
 

@@ -4,11 +4,9 @@
 mod cuts;
 mod decimals;
 mod shape;
-mod tasks;
 mod words;
 
 pub use cuts::CutWords;
 pub use decimals::Decimals;
 pub use shape::Shape;
-pub use tasks::{CycleTask, Task};
 pub use words::{Command, HELP, VERSION, parse};

@@ -1,15 +1,15 @@
 //! The words of the command line.
-ghost use Rattle.std.specs.Prelude.{◌≡◌, [], ◌∷◌, None, Some, MatchOption, option_map, option_and_then};
+ghost use Rattle.std.specs.Prelude.{◌≡◌, [], ◌∷◌, option_map, option_and_then};
 ghost use Rattle.surf_words.specs.Shapes.{torus_named, chain_named};
-ghost use Rattle.surf_words.specs.Words.{texts, request_of, word_number, few_decimals, request, tried, Asks};
-ghost use Rattle.surf_words.specs.Words.{cycles, weighted, cuts, fully, trimmed, through, makes, measures};
+ghost use Rattle.surf_words.specs.Words.{texts, word_number, few_decimals, Asks, IsAsked};
+ghost use Rattle.surf_words.specs.Words.{dist, loops, certify_loops, cut, fully, trimmed, through};
+ghost use Rattle.surf_words.specs.Words.{lengths as lengths_request, gen_shape, tried};
 
 use crate::decimals::Decimals;
 use crate::shape::Shape;
-use crate::tasks::{CycleTask, Task};
 use surf_text::read_whole;
 
-/// A row of the command table, with the names of its files.
+/// A row of the command table, with the words that are given in it.
 #[derive(Clone, Copy, Debug)]
 pub enum Command<'w> {
     Help,
@@ -17,19 +17,23 @@ pub enum Command<'w> {
     Info {
         mesh: &'w str,
     },
-    Disc {
-        mesh: &'w str,
-    },
-    Cycles {
-        task: CycleTask,
-        mesh: &'w str,
-        lengths: &'w str,
-    },
-    Weighted {
-        task: Task,
+    Dist {
         mesh: &'w str,
         lengths: &'w str,
         base: u32,
+    },
+    Loops {
+        mesh: &'w str,
+        lengths: &'w str,
+        base: u32,
+    },
+    Basis {
+        mesh: &'w str,
+        lengths: &'w str,
+    },
+    Cycle {
+        mesh: &'w str,
+        lengths: &'w str,
     },
     CutFull {
         mesh: &'w str,
@@ -47,23 +51,10 @@ pub enum Command<'w> {
         base: u32,
         points: &'w str,
     },
-    Generate {
-        shape: Shape,
-    },
-    Try {
-        shape: Shape,
-        scatter: u32,
-    },
-    Check {
-        mesh: &'w str,
-        lengths: &'w str,
-        cert: &'w str,
-    },
-    Measure {
-        mesh: &'w str,
-        decimals: Decimals,
-    },
     Sew {
+        mesh: &'w str,
+    },
+    Disc {
         mesh: &'w str,
     },
     Class {
@@ -84,6 +75,31 @@ pub enum Command<'w> {
         mesh: &'w str,
         lengths: &'w str,
         walk: &'w str,
+    },
+    CertifyLoops {
+        mesh: &'w str,
+        lengths: &'w str,
+        base: u32,
+    },
+    CertifyBasis {
+        mesh: &'w str,
+        lengths: &'w str,
+    },
+    Check {
+        mesh: &'w str,
+        lengths: &'w str,
+        cert: &'w str,
+    },
+    Lengths {
+        mesh: &'w str,
+        decimals: Decimals,
+    },
+    Gen {
+        shape: Shape,
+    },
+    Try {
+        shape: Shape,
+        scatter: u32,
     },
 }
 
@@ -143,15 +159,30 @@ fn number_of(word: &str) -> Option<u32>
     }
 }
 
-// A task at a base.
-fn weighted<'w>(task: Task, mesh: &'w str, lengths: &'w str, base: &str) -> Option<Command<'w>>
-    ensures { MatchOption result
-        (option_map (weighted task mesh.now lengths.now) (word_number base.now) ≡ None)
-        (λ c. option_map (weighted task mesh.now lengths.now) (word_number base.now)
-        ≡ Some (request c)) }
+fn dist<'w>(mesh: &'w str, lengths: &'w str, base: &str) -> Option<Command<'w>>
+    ensures { IsAsked result (option_map (dist mesh.now lengths.now) (word_number base.now)) }
 {
-    Some(Command::Weighted {
-        task,
+    Some(Command::Dist {
+        mesh,
+        lengths,
+        base: number_of(base)?,
+    })
+}
+
+fn loops<'w>(mesh: &'w str, lengths: &'w str, base: &str) -> Option<Command<'w>>
+    ensures { IsAsked result (option_map (loops mesh.now lengths.now) (word_number base.now)) }
+{
+    Some(Command::Loops {
+        mesh,
+        lengths,
+        base: number_of(base)?,
+    })
+}
+
+fn certify_loops<'w>(mesh: &'w str, lengths: &'w str, base: &str) -> Option<Command<'w>>
+    ensures { IsAsked result (option_map (certify_loops mesh.now lengths.now) (word_number base.now)) }
+{
+    Some(Command::CertifyLoops {
         mesh,
         lengths,
         base: number_of(base)?,
@@ -159,10 +190,7 @@ fn weighted<'w>(task: Task, mesh: &'w str, lengths: &'w str, base: &str) -> Opti
 }
 
 fn cut_full<'w>(mesh: &'w str, lengths: &'w str, base: &str) -> Option<Command<'w>>
-    ensures { MatchOption result
-        (option_map (cuts fully mesh.now lengths.now) (word_number base.now) ≡ None)
-        (λ c. option_map (cuts fully mesh.now lengths.now) (word_number base.now)
-        ≡ Some (request c)) }
+    ensures { IsAsked result (option_map (cut fully mesh.now lengths.now) (word_number base.now)) }
 {
     Some(Command::CutFull {
         mesh,
@@ -172,10 +200,7 @@ fn cut_full<'w>(mesh: &'w str, lengths: &'w str, base: &str) -> Option<Command<'
 }
 
 fn cut_trimmed<'w>(mesh: &'w str, lengths: &'w str, base: &str) -> Option<Command<'w>>
-    ensures { MatchOption result
-        (option_map (cuts trimmed mesh.now lengths.now) (word_number base.now) ≡ None)
-        (λ c. option_map (cuts trimmed mesh.now lengths.now) (word_number base.now)
-        ≡ Some (request c)) }
+    ensures { IsAsked result (option_map (cut trimmed mesh.now lengths.now) (word_number base.now)) }
 {
     Some(Command::CutTrimmed {
         mesh,
@@ -190,10 +215,7 @@ fn cut_through<'w>(
     base: &str,
     points: &'w str,
 ) -> Option<Command<'w>>
-    ensures { MatchOption result
-        (option_map (cuts (through points.now) mesh.now lengths.now) (word_number base.now) ≡ None)
-        (λ c. option_map (cuts (through points.now) mesh.now lengths.now) (word_number base.now)
-        ≡ Some (request c)) }
+    ensures { IsAsked result (option_map (cut (through points.now) mesh.now lengths.now) (word_number base.now)) }
 {
     Some(Command::CutThrough {
         mesh,
@@ -216,16 +238,14 @@ fn chain_of(tori: &str, rows: &str, columns: &str) -> Option<Shape>
     Shape::chain(number_of(tori)?, number_of(rows)?, number_of(columns)?)
 }
 
-fn generate<'w>(shape: Option<Shape>) -> Option<Command<'w>>
-    ensures { MatchOption result (option_map makes shape ≡ None) (λ c. option_map makes shape
-        ≡ Some (request c)) }
+fn gen_shape<'w>(shape: Option<Shape>) -> Option<Command<'w>>
+    ensures { IsAsked result (option_map gen_shape shape) }
 {
-    Some(Command::Generate { shape: shape? })
+    Some(Command::Gen { shape: shape? })
 }
 
 fn try_shape<'w>(shape: Option<Shape>, scatter: &str) -> Option<Command<'w>>
-    ensures { MatchOption result (tried shape (word_number scatter.now) ≡ None)
-        (λ c. tried shape (word_number scatter.now) ≡ Some (request c)) }
+    ensures { IsAsked result (tried shape (word_number scatter.now)) }
 {
     Some(Command::Try {
         shape: shape?,
@@ -240,13 +260,11 @@ fn decimals_of(word: &str) -> Option<Decimals>
     Decimals::new(number_of(word)?)
 }
 
-fn measure<'w>(mesh: &'w str, decimals: &str) -> Option<Command<'w>>
-    ensures { MatchOption result
-        (option_map (measures mesh.now) (option_and_then few_decimals (word_number decimals.now))
-        ≡ None) (λ c. option_map (measures mesh.now)
-        (option_and_then few_decimals (word_number decimals.now)) ≡ Some (request c)) }
+fn lengths<'w>(mesh: &'w str, decimals: &str) -> Option<Command<'w>>
+    ensures { IsAsked result (option_map (lengths_request mesh.now)
+        (option_and_then few_decimals (word_number decimals.now))) }
 {
-    Some(Command::Measure {
+    Some(Command::Lengths {
         mesh,
         decimals: decimals_of(decimals)?,
     })
@@ -275,26 +293,25 @@ fn on_two<'w>(word: &str, mesh: &'w str) -> Option<Command<'w>>
     }
 }
 
-fn cycles<'w>(task: CycleTask, mesh: &'w str, lengths: &'w str) -> Command<'w>
-    ensures { request result ≡ cycles task mesh.now lengths.now }
-{
-    Command::Cycles {
-        task,
-        mesh,
-        lengths,
-    }
-}
-
 #[tactic(auto, unfolding(crate::specs::Words::request_of))]
 fn on_three<'w>(word: &str, mesh: &'w str, third: &'w str) -> Option<Command<'w>>
     ensures { Asks result (word.now ∷ mesh.now ∷ third.now ∷ []) }
 {
     match word {
-        "basis" => Some(cycles(CycleTask::Basis, mesh, third)),
-        "cycle" => Some(cycles(CycleTask::Shortest, mesh, third)),
+        "basis" => Some(Command::Basis {
+            mesh,
+            lengths: third,
+        }),
+        "cycle" => Some(Command::Cycle {
+            mesh,
+            lengths: third,
+        }),
         "class" => Some(Command::Class { mesh, walk: third }),
-        "certify" => Some(cycles(CycleTask::BasisCertificate, mesh, third)),
-        "lengths" => measure(mesh, third),
+        "certify" => Some(Command::CertifyBasis {
+            mesh,
+            lengths: third,
+        }),
+        "lengths" => lengths(mesh, third),
         _ => None,
     }
 }
@@ -304,8 +321,8 @@ fn on_four<'w>(word: &str, second: &'w str, third: &'w str, fourth: &'w str) -> 
     ensures { Asks result (word.now ∷ second.now ∷ third.now ∷ fourth.now ∷ []) }
 {
     match word {
-        "dist" => weighted(Task::Distances, second, third, fourth),
-        "loops" => weighted(Task::LeastLoops, second, third, fourth),
+        "dist" => dist(second, third, fourth),
+        "loops" => loops(second, third, fourth),
         "same" => Some(Command::Same {
             mesh: second,
             first: third,
@@ -321,7 +338,7 @@ fn on_four<'w>(word: &str, second: &'w str, third: &'w str, fourth: &'w str) -> 
             lengths: third,
             walk: fourth,
         }),
-        "certify" => weighted(Task::LoopCertificate, second, third, fourth),
+        "certify" => certify_loops(second, third, fourth),
         "check" => Some(Command::Check {
             mesh: second,
             lengths: third,
@@ -331,7 +348,7 @@ fn on_four<'w>(word: &str, second: &'w str, third: &'w str, fourth: &'w str) -> 
             if second != "torus" {
                 return None;
             }
-            generate(torus_of(third, fourth))
+            gen_shape(torus_of(third, fourth))
         }
         _ => None,
     }
@@ -355,7 +372,7 @@ fn on_five<'w>(
         };
     }
     if word == "gen" && second == "chain" {
-        return generate(chain_of(third, fourth, fifth));
+        return gen_shape(chain_of(third, fourth, fifth));
     }
     if word == "try" && second == "torus" {
         return try_shape(torus_of(third, fourth), fifth);
@@ -386,8 +403,7 @@ fn on_six<'w>(
 
 /// The row of the command table that the words are in.
 pub fn parse(words: &[String]) -> Option<Command<'_>>
-    ensures { MatchOption result (request_of (texts words.now) ≡ None)
-        (λ c. request_of (texts words.now) ≡ Some (request c)) }
+    ensures { Asks result (texts words.now) }
 {
     match words {
         [] => None,

@@ -1,19 +1,18 @@
 //! The command `check`.
-ghost use Rattle.std.specs.Prelude.{◌≡◌, ◌≤◌, ℕ, List, length, Some, IfErr};
+ghost use Rattle.std.specs.Prelude.{◌≡◌, ◌≤◌, length, Some, IfErr};
 ghost use Rattle.surf_surfaces.specs.Surface.{edge_count, loop_count};
-ghost use Rattle.surf_off.specs.Off.{OffParts};
-ghost use Rattle.surf_words.specs.Words.{checks};
+ghost use Rattle.surf_words.specs.Words.{check};
 ghost use Rattle.surf_answers.specs.Tells.{Concludes, ConcludesOver, Takes};
 ghost use Rattle.surf_answers.specs.Verdicts.{JudgesCert};
 ghost use Rattle.surf_run.specs.Commands.{OnRequest};
-ghost use Rattle.surf_run.specs.Reading.{HoldsSurface, IsCertText, tree_count};
+ghost use Rattle.surf_run.specs.Reading.{IsCertText, tree_count};
 ghost use Rattle.surf_run.specs.Steps.{AtMost, Ends};
 ghost use Rattle.surf_base.specs.declared.limits.LimitKind.TheVariants.{CertificateVertices};
 ghost use Rattle.surf_base.specs.declared.limits.TheConstants.{MAX_CERTIFICATE_VERTICES, MAX_LOOPS, MAX_TEXT};
 
-use crate::limits::{at_most, test_loops};
-use crate::reading::{read_file, surface_through};
-use crate::weights::read_measures;
+use crate::limits::at_most;
+use crate::reading::read_file;
+use crate::surfaces::measured_surface;
 use std::alloc::Global;
 use surf_answers::{Answered, judge};
 use surf_base::{LimitKind, MAX_CERTIFICATE_VERTICES, Shelf};
@@ -24,7 +23,7 @@ use surf_texts::Refused;
 
 /// What `check` answers: whether the certificate of a file is valid for the mesh of a file with
 /// lengths.
-pub(crate) fn checked<S: Shelf>(
+pub(crate) fn answer<S: Shelf>(
     alloc: Global,
     shelf: &mut S,
     mesh: &str,
@@ -34,32 +33,11 @@ pub(crate) fn checked<S: Shelf>(
     ensures holds { S.holds shelf.new ≡ S.holds shelf.old }
     ensures later { S.faults shelf.old ≤ S.faults shelf.new }
     ensures tells { ConcludesOver (S.holds shelf.old) (S.faults shelf.old) (S.faults shelf.new)
-        (OnRequest (Some (checks mesh.now lengths.now cert.now))) result }
+        (OnRequest (Some (check mesh.now lengths.now cert.now))) result }
 {
-    let mut room = Vec::new(alloc);
-    let mesh = surface_through(alloc, shelf, mesh, &mut room)?;
-    check_on(alloc, shelf, room, &mesh, lengths, cert)
-}
-
-// What `check` answers of a surface.
-fn check_on<S: Shelf>(
-    alloc: Global,
-    shelf: &mut S,
-    room: Vec<u8>,
-    mesh: &HalfMesh,
-    lengths: &str,
-    cert: &str,
-) -> Result<Answered, Refused>
-    ensures holds { S.holds shelf.new ≡ S.holds shelf.old }
-    ensures later { S.faults shelf.old ≤ S.faults shelf.new }
-    ensures tells { (name bytes : List ℕ) (parts : OffParts) → HoldsSurface (S.holds shelf.old) name
-        bytes (parts, mesh.now) → ConcludesOver (S.holds shelf.old) (S.faults shelf.old)
-        (S.faults shelf.new) (OnRequest (Some (checks name lengths.now cert.now))) result }
-{
-    test_loops(mesh)?;
-    let lengths = read_measures(alloc, shelf, room, mesh, lengths)?;
+    let (mesh, lengths) = measured_surface(alloc, shelf, mesh, lengths)?;
     let text = read_file(alloc, shelf, cert)?;
-    judge_text(alloc, mesh, &lengths, &text)
+    judge_text(alloc, &mesh, &lengths, &text)
 }
 
 // What `check` answers of a surface with lengths and the text of a certificate.

@@ -1,10 +1,8 @@
-//! The commands `class` and `same`.
-ghost use Rattle.std.specs.Prelude.{◌≡◌, ◌≤◌, ℕ, List, Some};
-ghost use Rattle.surf_words.specs.Words.{classes, compares};
+//! The command `class`.
+ghost use Rattle.std.specs.Prelude.{◌≡◌, ◌≤◌, Some};
+ghost use Rattle.surf_words.specs.Words.{class};
 ghost use Rattle.surf_answers.specs.Tells.{ConcludesOver};
-ghost use Rattle.surf_off.specs.Off.{OffParts};
 ghost use Rattle.surf_run.specs.Commands.{OnRequest};
-ghost use Rattle.surf_run.specs.Reading.{HoldsSurface};
 
 use crate::limits::test_loops;
 use crate::reading::surface_at;
@@ -12,11 +10,10 @@ use crate::walks::walk_named;
 use std::alloc::Global;
 use surf_answers::{Answered, class_of};
 use surf_base::Shelf;
-use surf_mesh::HalfMesh;
 use surf_texts::{Refused, WalkFile};
 
 /// What `class` answers: evidence of the class of a walk.
-pub(crate) fn classify<S: Shelf>(
+pub(crate) fn answer<S: Shelf>(
     alloc: Global,
     shelf: &mut S,
     mesh: &str,
@@ -25,47 +22,10 @@ pub(crate) fn classify<S: Shelf>(
     ensures holds { S.holds shelf.new ≡ S.holds shelf.old }
     ensures later { S.faults shelf.old ≤ S.faults shelf.new }
     ensures tells { ConcludesOver (S.holds shelf.old) (S.faults shelf.old) (S.faults shelf.new)
-        (OnRequest (Some (classes mesh.now walk.now))) result }
+        (OnRequest (Some (class mesh.now walk.now))) result }
 {
     let mesh = surface_at(alloc, shelf, mesh)?;
     test_loops(&mesh)?;
     let walk = walk_named(alloc, shelf, &mesh, WalkFile::First, walk)?;
     class_of(alloc, &mesh, &walk, None)
-}
-
-/// What `same` answers: evidence of how the classes of two walks differ, or that they don't.
-pub(crate) fn compare<S: Shelf>(
-    alloc: Global,
-    shelf: &mut S,
-    mesh: &str,
-    first: &str,
-    second: &str,
-) -> Result<Answered, Refused>
-    ensures holds { S.holds shelf.new ≡ S.holds shelf.old }
-    ensures later { S.faults shelf.old ≤ S.faults shelf.new }
-    ensures tells { ConcludesOver (S.holds shelf.old) (S.faults shelf.old) (S.faults shelf.new)
-        (OnRequest (Some (compares mesh.now first.now second.now))) result }
-{
-    let mesh = surface_at(alloc, shelf, mesh)?;
-    compare_on(alloc, shelf, &mesh, first, second)
-}
-
-// What `same` answers of a surface.
-fn compare_on<S: Shelf>(
-    alloc: Global,
-    shelf: &mut S,
-    mesh: &HalfMesh,
-    first: &str,
-    second: &str,
-) -> Result<Answered, Refused>
-    ensures holds { S.holds shelf.new ≡ S.holds shelf.old }
-    ensures later { S.faults shelf.old ≤ S.faults shelf.new }
-    ensures tells { (name bytes : List ℕ) (parts : OffParts) → HoldsSurface (S.holds shelf.old) name
-        bytes (parts, mesh.now) → ConcludesOver (S.holds shelf.old) (S.faults shelf.old)
-        (S.faults shelf.new) (OnRequest (Some (compares name first.now second.now))) result }
-{
-    test_loops(mesh)?;
-    let walk = walk_named(alloc, shelf, mesh, WalkFile::First, first)?;
-    let other = walk_named(alloc, shelf, mesh, WalkFile::Second, second)?;
-    class_of(alloc, mesh, &walk, Some(&other))
 }

@@ -1,15 +1,15 @@
 //! The command `cut`.
 ghost use Rattle.std.specs.Prelude.{◌≡◌, ◌<◌, ◌≤◌, All, length, IfOk, Some};
 ghost use Rattle.surf_surfaces.specs.Surface.{face_count};
-ghost use Rattle.surf_words.specs.Words.{cuts, extent_of};
+ghost use Rattle.surf_words.specs.Words.{cut, extent_of};
 ghost use Rattle.surf_answers.specs.Tells.{ConcludesOver, TakesOver};
 ghost use Rattle.surf_run.specs.Commands.{OnRequest};
 ghost use Rattle.surf_run.specs.Cutting.{CutsOpen};
 
+use crate::lengths::{base_of, lengths_named};
 use crate::limits::test_loops;
 use crate::points::kind_named;
 use crate::reading::{read_file, read_front};
-use crate::weights::{base_of, read_measures};
 use std::alloc::Global;
 use surf_answers::{Answered, disc_at, disc_text};
 use surf_base::Shelf;
@@ -20,7 +20,7 @@ use surf_words::CutWords;
 
 /// What `cut` answers: a surface cut open, with the lines and colours of its text. Of the text only
 /// the front that has these is kept, and the surface goes before the answer is made.
-pub(crate) fn cut_open<S: Shelf>(
+pub(crate) fn answer<S: Shelf>(
     alloc: Global,
     shelf: &mut S,
     extent: CutWords<'_>,
@@ -31,7 +31,7 @@ pub(crate) fn cut_open<S: Shelf>(
     ensures holds { S.holds shelf.new ≡ S.holds shelf.old }
     ensures later { S.faults shelf.old ≤ S.faults shelf.new }
     ensures tells { ConcludesOver (S.holds shelf.old) (S.faults shelf.old) (S.faults shelf.new)
-        (OnRequest (Some (cuts (extent_of extent.entry) mesh.now lengths.now base))) result }
+        (OnRequest (Some (cut (extent_of extent.entry) mesh.now lengths.now base))) result }
 {
     let mut bytes = read_file(alloc, shelf, mesh)?;
     let (places, mesh) = read_front(alloc, &mut bytes)?;
@@ -58,7 +58,7 @@ fn open_surface<S: Shelf>(
     ensures faces { IfOk result (λ opened. length opened.faces ≡ face_count mesh.now) }
 {
     test_loops(mesh)?;
-    let lengths = read_measures(alloc, shelf, Vec::new(alloc), mesh, lengths)?;
+    let lengths = lengths_named(alloc, shelf, Vec::new(alloc), mesh, lengths)?;
     let base = base_of(mesh, base)?;
     let kind = kind_named(alloc, shelf, mesh, extent)?;
     disc_at(alloc, mesh, lengths, base, kind)

@@ -11,7 +11,7 @@ use surf_base::Shelf;
 use surf_texts::Refused;
 
 /// What `disc` answers: whether a mesh is a disc, with its border, or what is wrong with it.
-pub(crate) fn test_disc<S: Shelf>(
+pub(crate) fn answer<S: Shelf>(
     alloc: Global,
     shelf: &mut S,
     mesh: &str,

@@ -12,7 +12,7 @@ use surf_texts::Refused;
 
 /// What `info` answers: the counts of a surface, its characteristic, and its genus or its
 /// crosscaps.
-pub(crate) fn inform<S: Shelf>(
+pub(crate) fn answer<S: Shelf>(
     alloc: Global,
     shelf: &mut S,
     mesh: &str,

@@ -1,8 +1,8 @@
 //! The command `lengths`.
 ghost use Rattle.std.specs.Prelude.{◌≡◌, ◌≤◌, length, IfOk, Some};
 ghost use Rattle.surf_surfaces.specs.Surface.{edge_count};
-ghost use Rattle.surf_words.specs.Words.{measures};
-ghost use Rattle.surf_answers.specs.Coordinates.{GivesMeasures, Measures};
+ghost use Rattle.surf_words.specs.Words.{lengths};
+ghost use Rattle.surf_answers.specs.Lengths.{GivesLengths, Measures};
 ghost use Rattle.surf_answers.specs.Tells.{Concludes, ConcludesOver, Takes};
 ghost use Rattle.surf_run.specs.Commands.{OnRequest};
 
@@ -19,7 +19,7 @@ use surf_texts::Refused;
 use surf_words::Decimals;
 
 /// What `lengths` answers: the measures of the edges of a surface as a length file.
-pub(crate) fn measured<S: Shelf>(
+pub(crate) fn answer<S: Shelf>(
     alloc: Global,
     shelf: &mut S,
     mesh: &str,
@@ -28,12 +28,12 @@ pub(crate) fn measured<S: Shelf>(
     ensures holds { S.holds shelf.new ≡ S.holds shelf.old }
     ensures later { S.faults shelf.old ≤ S.faults shelf.new }
     ensures tells { ConcludesOver (S.holds shelf.old) (S.faults shelf.old) (S.faults shelf.new)
-        (OnRequest (Some (measures mesh.now decimals))) result }
+        (OnRequest (Some (lengths mesh.now decimals))) result }
 {
     let mut bytes = read_file(alloc, shelf, mesh)?;
     let (places, mesh) = read_front(alloc, &mut bytes)?;
     let lengths = measure_edges(alloc, &places.over(&bytes), &mesh, decimals)?;
-    measures_of(alloc, &mesh, &lengths)
+    lengths_text(alloc, &mesh, &lengths)
 }
 
 // The measures of the edges.
@@ -52,9 +52,9 @@ fn measure_edges(
 }
 
 // Lengths as a length file.
-fn measures_of(alloc: Global, mesh: &HalfMesh, lengths: &Lengths) -> Result<Answered, Refused>
+fn lengths_text(alloc: Global, mesh: &HalfMesh, lengths: &Lengths) -> Result<Answered, Refused>
     requires count { length lengths.now ≡ edge_count mesh.now }
-    ensures { Concludes (GivesMeasures mesh.now lengths.now) result }
+    ensures { Concludes (GivesLengths mesh.now lengths.now) result }
 {
     let mut page = Page::make(alloc, MAX_ANSWER);
     write_lengths(&mut page, mesh, lengths)?;

@@ -1,52 +1,42 @@
 use Rattle.std.proofs.Common.{[], Some, inr, sym, subst}
 use Rattle.surf_run.specs.Commands.{OnRequest}
-use Rattle.surf_words.specs.Words.{makes, tries, request}
+use Rattle.surf_words.specs.Words.{gen_shape, try_shape, request}
 use Rattle.surf_answers.specs.Tells.{Concludes, ConcludesOver}
 use Rattle.surf_words.specs.declared.words.Command.{Command}
 use Rattle.surf_run.proofs.Composing.{ends_over_any, reads_nothing}
 use Rattle.surf_run.proofs.commands.answer.Goals as goal
 
-pub returns-in-Weighted-clause-tells : goal.returns-in-Weighted-clause-tells
-returns-in-Weighted-clause-tells g c =
-    subst (λ (command : Command). ConcludesOver (g.S.Shelf.holds c.args.shelf.now) (g.S.Shelf.faults c.args.shelf.now) (g.S.Shelf.faults c.weighted.new.shelf) (OnRequest (Some (request command))) c.weighted.result)
-    (sym c.in-Weighted.is) c.weighted.ensures.tells
-
-pub returns-in-Cycles-clause-tells : goal.returns-in-Cycles-clause-tells
-returns-in-Cycles-clause-tells g c =
-    subst (λ (command : Command). ConcludesOver (g.S.Shelf.holds c.args.shelf.now) (g.S.Shelf.faults c.args.shelf.now) (g.S.Shelf.faults c.find_cycles.new.shelf) (OnRequest (Some (request command))) c.find_cycles.result)
-    (sym c.in-Cycles.is) c.find_cycles.ensures.tells
-
 pub returns-in-Check-clause-tells : goal.returns-in-Check-clause-tells
 returns-in-Check-clause-tells g c =
-    subst (λ (command : Command). ConcludesOver (g.S.Shelf.holds c.args.shelf.now) (g.S.Shelf.faults c.args.shelf.now) (g.S.Shelf.faults c.checked.new.shelf) (OnRequest (Some (request command))) c.checked.result)
-    (sym c.in-Check.is) c.checked.ensures.tells
+    subst (λ (command : Command). ConcludesOver (g.S.Shelf.holds c.args.shelf.now) (g.S.Shelf.faults c.args.shelf.now) (g.S.Shelf.faults c.answer-in-Check.new.shelf) (OnRequest (Some (request command))) c.answer-in-Check.result)
+    (sym c.in-Check.is) c.answer-in-Check.ensures.tells
 
-pub returns-in-Generate-clause-tells : goal.returns-in-Generate-clause-tells
-returns-in-Generate-clause-tells g c =
+pub returns-in-Gen-clause-tells : goal.returns-in-Gen-clause-tells
+returns-in-Gen-clause-tells g c =
     subst (λ (command : Command). ConcludesOver (g.S.Shelf.holds c.args.shelf.now) (g.S.Shelf.faults c.args.shelf.now)
-    (g.S.Shelf.faults c.args.shelf.now) (OnRequest (Some (request command))) c.generate.result) (sym c.in-Generate.is)
+    (g.S.Shelf.faults c.args.shelf.now) (OnRequest (Some (request command))) c.answer-in-Gen.result) (sym c.in-Gen.is)
     (ends_over_any (g.S.Shelf.holds c.args.shelf.now) (g.S.Shelf.faults c.args.shelf.now) (g.S.Shelf.faults c.args.shelf.now)
-    (OnRequest (Some (makes c.in-Generate.shape))) c.generate.result c.generate.ensures)
+    (OnRequest (Some (gen_shape c.in-Gen.shape))) c.answer-in-Gen.result c.answer-in-Gen.ensures)
 
-pub returns-in-Generate-clause-reached : goal.returns-in-Generate-clause-reached
-returns-in-Generate-clause-reached g c = λ failed.
-    absurd (reads_nothing (OnRequest (Some (makes c.in-Generate.shape)) []) c.generate.result (c.generate.ensures []) failed)
+pub returns-in-Gen-clause-reached : goal.returns-in-Gen-clause-reached
+returns-in-Gen-clause-reached g c = λ failed.
+    absurd (reads_nothing (OnRequest (Some (gen_shape c.in-Gen.shape)) []) c.answer-in-Gen.result (c.answer-in-Gen.ensures []) failed)
 
-pub returns-in-Generate-clause-alone : goal.returns-in-Generate-clause-alone
-returns-in-Generate-clause-alone g c =
-    inr (λ files. subst (λ (command : Command). Concludes (OnRequest (Some (request command)) files) c.generate.result) (sym c.in-Generate.is) (c.generate.ensures files))
+pub returns-in-Gen-clause-alone : goal.returns-in-Gen-clause-alone
+returns-in-Gen-clause-alone g c =
+    inr (λ files. subst (λ (command : Command). Concludes (OnRequest (Some (request command)) files) c.answer-in-Gen.result) (sym c.in-Gen.is) (c.answer-in-Gen.ensures files))
 
 pub returns-in-Try-clause-tells : goal.returns-in-Try-clause-tells
 returns-in-Try-clause-tells g c =
     subst (λ (command : Command). ConcludesOver (g.S.Shelf.holds c.args.shelf.now) (g.S.Shelf.faults c.args.shelf.now)
-    (g.S.Shelf.faults c.args.shelf.now) (OnRequest (Some (request command))) c.tried.result) (sym c.in-Try.is)
+    (g.S.Shelf.faults c.args.shelf.now) (OnRequest (Some (request command))) c.answer-in-Try.result) (sym c.in-Try.is)
     (ends_over_any (g.S.Shelf.holds c.args.shelf.now) (g.S.Shelf.faults c.args.shelf.now) (g.S.Shelf.faults c.args.shelf.now)
-    (OnRequest (Some (tries c.in-Try.shape c.in-Try.scatter))) c.tried.result c.tried.ensures)
+    (OnRequest (Some (try_shape c.in-Try.shape c.in-Try.scatter))) c.answer-in-Try.result c.answer-in-Try.ensures)
 
 pub returns-in-Try-clause-reached : goal.returns-in-Try-clause-reached
 returns-in-Try-clause-reached g c = λ failed.
-    absurd (reads_nothing (OnRequest (Some (tries c.in-Try.shape c.in-Try.scatter)) []) c.tried.result (c.tried.ensures []) failed)
+    absurd (reads_nothing (OnRequest (Some (try_shape c.in-Try.shape c.in-Try.scatter)) []) c.answer-in-Try.result (c.answer-in-Try.ensures []) failed)
 
 pub returns-in-Try-clause-alone : goal.returns-in-Try-clause-alone
 returns-in-Try-clause-alone g c =
-    inr (λ files. subst (λ (command : Command). Concludes (OnRequest (Some (request command)) files) c.tried.result) (sym c.in-Try.is) (c.tried.ensures files))
+    inr (λ files. subst (λ (command : Command). Concludes (OnRequest (Some (request command)) files) c.answer-in-Try.result) (sym c.in-Try.is) (c.answer-in-Try.ensures files))

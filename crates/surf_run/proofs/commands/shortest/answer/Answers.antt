@@ -1,0 +1,19 @@
+use Rattle.std.proofs.Common.{Some}
+use Rattle.surf_words.specs.Words.{shortest}
+use Rattle.surf_run.specs.Commands.{OnRequest}
+use Rattle.surf_run.specs.Reading.{IsSurfaceText}
+use Rattle.surf_run.proofs.Composing.{resumed}
+use Rattle.surf_run.proofs.TextsAt.{text_stopped}
+use Rattle.surf_run.proofs.commands.shortest.answer.Goals as goal
+
+pub returns-in_err-mesh-clause-tells : goal.returns-in_err-mesh-clause-tells
+returns-in_err-mesh-clause-tells g c =
+    text_stopped _ _ _ IsSurfaceText _ _ c.in_err-mesh.field-0.0 c.in_err-mesh.ensures.tells c.from_residual.result c.from_residual.ensures.1
+
+pub returns-clause-tells : goal.returns-clause-tells
+returns-clause-tells g c =
+    let read = c.in_ok-mesh in
+    let held = read.ensures.held in
+    resumed (g.S.Shelf.faults c.answer_on.new.shelf) (OnRequest (Some (shortest c.args.mesh.now c.args.lengths.now c.args.walk.now)))
+    read.ensures.holds read.ensures.later c.answer_on.result
+    (c.answer_on.ensures.tells c.args.mesh.now held.0 held.1 held.2)

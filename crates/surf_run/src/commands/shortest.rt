@@ -1,0 +1,92 @@
+//! The command `shortest`.
+ghost use Rattle.std.specs.Prelude.{◌≡◌, ◌≤◌, ◌*◌, ◌^◌, ℕ, List, IfOk, IfErr, Some};
+ghost use Rattle.surf_surfaces.specs.Surface.{loop_count};
+ghost use Rattle.surf_off.specs.Off.{OffParts};
+ghost use Rattle.surf_words.specs.Words.{shortest};
+ghost use Rattle.surf_answers.specs.Tells.{ConcludesOver, Takes};
+ghost use Rattle.surf_run.specs.Commands.{OnRequest};
+ghost use Rattle.surf_run.specs.Reading.{HoldsSurface};
+ghost use Rattle.surf_run.specs.Steps.{AtMost};
+ghost use Rattle.surf_base.specs.declared.limits.LimitKind.TheVariants.{CoverLoops, CoverNodes};
+ghost use Rattle.surf_base.specs.declared.limits.TheConstants.{MAX_COVER_LOOPS, MAX_COVER_NODES};
+
+use crate::lengths::lengths_named;
+use crate::limits::{at_most, test_loops};
+use crate::reading::surface_through;
+use crate::walks::walk_named;
+use std::alloc::Global;
+use surf_answers::{Answered, loop_count, shortest_of};
+use surf_base::{LimitKind, MAX_COVER_LOOPS, MAX_COVER_NODES, Shelf};
+use surf_mesh::HalfMesh;
+use surf_texts::{Refused, WalkFile};
+
+/// What `shortest` answers: the walk that is chosen of the shortest in the class of a walk.
+pub(crate) fn answer<S: Shelf>(
+    alloc: Global,
+    shelf: &mut S,
+    mesh: &str,
+    lengths: &str,
+    walk: &str,
+) -> Result<Answered, Refused>
+    ensures holds { S.holds shelf.new ≡ S.holds shelf.old }
+    ensures later { S.faults shelf.old ≤ S.faults shelf.new }
+    ensures tells { ConcludesOver (S.holds shelf.old) (S.faults shelf.old) (S.faults shelf.new)
+        (OnRequest (Some (shortest mesh.now lengths.now walk.now))) result }
+{
+    let mut room = Vec::new(alloc);
+    let mesh = surface_through(alloc, shelf, mesh, &mut room)?;
+    answer_on(alloc, shelf, room, &mesh, lengths, walk)
+}
+
+// What `shortest` answers of a surface.
+fn answer_on<S: Shelf>(
+    alloc: Global,
+    shelf: &mut S,
+    room: Vec<u8>,
+    mesh: &HalfMesh,
+    lengths: &str,
+    walk: &str,
+) -> Result<Answered, Refused>
+    ensures holds { S.holds shelf.new ≡ S.holds shelf.old }
+    ensures later { S.faults shelf.old ≤ S.faults shelf.new }
+    ensures tells { (name bytes : List ℕ) (parts : OffParts) → HoldsSurface (S.holds shelf.old) name
+        bytes (parts, mesh.now) → ConcludesOver (S.holds shelf.old) (S.faults shelf.old)
+        (S.faults shelf.new) (OnRequest (Some (shortest name lengths.now walk.now))) result }
+{
+    test_loops(mesh)?;
+    test_cover_loops(mesh)?;
+    test_cover_nodes(mesh)?;
+    let lengths = lengths_named(alloc, shelf, room, mesh, lengths)?;
+    let walk = walk_named(alloc, shelf, mesh, WalkFile::First, walk)?;
+    shortest_of(alloc, mesh, &lengths, &walk)
+}
+
+// Whether a surface has few loops for its cover.
+fn test_cover_loops(mesh: &HalfMesh) -> Result<(), Refused>
+    ensures tells { Takes (λ _. tt) (AtMost CoverLoops MAX_COVER_LOOPS (loop_count mesh.now))
+        result }
+    ensures few { IfOk result (λ _. loop_count mesh.now ≤ MAX_COVER_LOOPS) }
+    ensures limit { IfErr result (λ e. e ≡ Refused.Limit CoverLoops) }
+{
+    at_most(
+        LimitKind::CoverLoops,
+        MAX_COVER_LOOPS as u128,
+        u128::from(loop_count(mesh.surface())),
+    )
+}
+
+// Whether there are few pairs of a vertex and a set of loops.
+fn test_cover_nodes(mesh: &HalfMesh) -> Result<(), Refused>
+    requires { loop_count mesh.now ≤ MAX_COVER_LOOPS }
+    ensures tells { Takes (λ _. tt) (AtMost CoverNodes MAX_COVER_NODES
+        (mesh.now.vertices * 2 ^ loop_count mesh.now)) result }
+    ensures few { IfOk result (λ _. mesh.now.vertices * 2 ^ loop_count mesh.now ≤ MAX_COVER_NODES) }
+    ensures limit { IfErr result (λ e. e ≡ Refused.Limit CoverNodes) }
+{
+    let nodes = u64::from(mesh.vertices()) << loop_count(mesh.surface());
+    at_most(
+        LimitKind::CoverNodes,
+        MAX_COVER_NODES as u128,
+        u128::from(nodes),
+    )
+}
