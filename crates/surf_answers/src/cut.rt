@@ -85,14 +85,17 @@ fn digits_of(number: usize) -> usize
     before - slip.room()
 }
 
-// How many bytes the vertex lines of copies take. Each vertex that is read has 32 bits.
+// How many bytes the vertex lines of copies take, and the numbers of their vertices in comments.
+// Each number that is read has 32 bits.
 fn lines_room(text: &OffText<'_>, origins: &[VertexId]) -> usize
     requires lines { All (λ v. v < length text.now.vertex_lines) origins.now }
     ensures small { All (λ v. v < 2 ^ 32) origins.now }
 {
     let mut room = origins.len();
     for v in origins {
-        room = room.saturating_add(text.vertex_line(*v).len());
+        room = room
+            .saturating_add(text.vertex_line(*v).len())
+            .saturating_add(digits_of(v.number() as usize));
     }
     room
 }
@@ -121,7 +124,7 @@ fn text_room(text: &OffText<'_>, opened: &OpenDisc) -> usize
     let lines = lines_room(text, opened.origins());
     let corners = opened.corners().len().saturating_mul(number);
     let colours = colours_room(text, opened.face_count());
-    let comments = copies.saturating_mul(2 * number + 12);
+    let comments = copies.saturating_mul(number + 13);
     head.saturating_add(lines)
         .saturating_add(corners)
         .saturating_add(colours)
