@@ -1,4 +1,5 @@
 mod CertifyLaws
+mod CopyLines
 mod CutLaws
 mod CycleLaws
 mod FindingLaws

@@ -6,6 +6,7 @@ use Rattle.surf_surfaces.specs.Mesh.{Mesh}
 use Rattle.surf_surfaces.specs.Surface.{edge_count}
 use Rattle.surf_off.specs.Off.{OffParts}
 use Rattle.surf_off.specs.Written.{opened_text, RereadsOpened}
+use Rattle.surf_sew.specs.Copies.{copies_in}
 use Rattle.surf_cutter.specs.Kinds.{Kind, IsOpeningOf, IsNear, HaveCopiesOnBorder}
 use Rattle.surf_cutter.specs.Opened.{OpenMesh}
 use Rattle.surf_texts.specs.Cause.{outcome_of}
@@ -43,9 +44,10 @@ cut_text parts origins faces =
     opened_text parts origins faces (edge_count (record { vertices = length origins; faces = faces }))
 
 -- The text of an opened surface is the answer. Read again without limits, it has the keyword and the colours that were
--- read, the line of each copy's vertex, and the faces over the copies.
+-- read, the line of each copy's vertex, and the faces over the copies. Its copy lines name the vertex of each copy.
 pub record GivesOpened (parts : OffParts) (opened : OpenMesh) (outcome : Outcome) : Type 0 where
   pub says : Says (cut_text parts opened.origins opened.faces) outcome
   pub rereads :
       RereadsOpened parts opened.origins opened.faces
       (edge_count (record { vertices = length opened.origins; faces = opened.faces }))
+  pub copies : copies_in (cut_text parts opened.origins opened.faces) (length opened.origins) ≡ Ok opened.origins

@@ -1,9 +1,11 @@
 //! A surface cut open.
-ghost use Rattle.std.specs.Prelude.{◌≡◌, ◌<◌, ◌≤◌, All, length, IfOk};
+ghost use Rattle.std.specs.Prelude.{◌≡◌, ◌<◌, ◌≤◌, ◌^◌, All, length, IfOk, Ok};
 ghost use Rattle.surf_surfaces.specs.Surface.{edge_count, face_count};
 ghost use Rattle.surf_cutter.specs.Kinds.{Kind, kind_of, points_of};
 ghost use Rattle.surf_cutter.specs.Opened.{OpenMesh, IsHeld, IsChosenFor, IsNearFor};
+ghost use Rattle.surf_off.specs.Clean.{IsOffParts};
 ghost use Rattle.surf_off.specs.Written.{RereadsOpened};
+ghost use Rattle.surf_sew.specs.Copies.{copies_in};
 ghost use Rattle.surf_answers.specs.Cuts.{CutsAt, GivesOpened, IsCutAt, IsNearAt, cut_text};
 ghost use Rattle.surf_texts.specs.Cause.{outcome_of};
 ghost use Rattle.surf_texts.specs.PointLines.{near_cause};
@@ -83,13 +85,17 @@ fn digits_of(number: usize) -> usize
     before - slip.room()
 }
 
-// How many bytes the vertex lines of copies take.
+// How many bytes the vertex lines of copies take, and the numbers of their vertices in comments.
+// Each number that is read has 32 bits.
 fn lines_room(text: &OffText<'_>, origins: &[VertexId]) -> usize
     requires lines { All (λ v. v < length text.now.vertex_lines) origins.now }
+    ensures small { All (λ v. v < 2 ^ 32) origins.now }
 {
     let mut room = origins.len();
     for v in origins {
-        room = room.saturating_add(text.vertex_line(*v).len());
+        room = room
+            .saturating_add(text.vertex_line(*v).len())
+            .saturating_add(digits_of(v.number() as usize));
     }
     room
 }
@@ -109,14 +115,17 @@ fn colours_room(text: &OffText<'_>, faces: u32) -> usize
 fn text_room(text: &OffText<'_>, opened: &OpenDisc) -> usize
     requires lines { All (λ v. v < length text.now.vertex_lines) opened.now.origins }
     requires colours { length opened.now.faces ≡ length text.now.colours }
+    ensures clean { IsOffParts text.now }
+    ensures small { All (λ v. v < 2 ^ 32) opened.now.origins }
 {
     let copies = opened.origins().len();
     let number = digits_of(copies) + 1;
+    let head = text.header().keyword().len().saturating_add(3 * number);
     let lines = lines_room(text, opened.origins());
     let corners = opened.corners().len().saturating_mul(number);
     let colours = colours_room(text, opened.face_count());
-    let comments = copies.saturating_mul(2 * number + 12);
-    lines
+    let comments = copies.saturating_mul(number + 13);
+    head.saturating_add(lines)
         .saturating_add(corners)
         .saturating_add(colours)
         .saturating_add(comments)
@@ -129,12 +138,11 @@ pub fn disc_text(alloc: Global, text: &OffText<'_>, opened: &OpenDisc) -> Result
     ensures { Concludes (GivesOpened text.now opened.now) result }
 {
     let mut page = Page::make(alloc, MAX_ANSWER);
-    page.take_room(text_room(text, opened));
     put_opened(&mut page, text, opened)?;
     Ok(Answered::yes(page.into_bytes()))
 }
 
-// Puts an opened surface on a page.
+// Puts an opened surface on a page, with room for it.
 fn put_opened(page: &mut Page, text: &OffText<'_>, opened: &OpenDisc) -> Result<(), PageFault>
     requires lines { All (λ v. v < length text.now.vertex_lines) opened.now.origins }
     requires colours { length opened.now.faces ≡ length text.now.colours }
@@ -142,7 +150,10 @@ fn put_opened(page: &mut Page, text: &OffText<'_>, opened: &OpenDisc) -> Result<
         result }
     ensures reread { RereadsOpened text.now opened.now.origins opened.now.faces
         (edge_count (record { vertices = length opened.now.origins; faces = opened.now.faces })) }
+    ensures copies { copies_in (cut_text text.now opened.now.origins opened.now.faces)
+        (length opened.now.origins) ≡ Ok opened.now.origins }
 {
+    page.take_room(text_room(text, opened));
     write_off(
         page,
         text,

@@ -1,4 +1,4 @@
-use Rattle.std.proofs.Common.{◌∙◌, subst}
+use Rattle.std.proofs.Common.{subst}
 use Rattle.std.proofs.lemmas.Result.{err_from_is_err_and}
 use Rattle.surf_text.specs.Pages.{PageState, Stops}
 use Rattle.surf_answers.specs.Cuts.{GivesOpened, cut_text}
@@ -13,5 +13,9 @@ returns-in_err-put_opened c =
     let fault = c.in_err-put_opened.field-0.0 in
     let p = err_from_is_err_and c.from_residual.result c.from_residual.ensures.1 in
     rw (p.1, p.2) (why_overfilled (GivesOpened parts opened) text fault
-    (λ long. record { says = says_beyond text long; rereads = c.put_opened.ensures.reread })
-    (subst (λ (page : PageState). Stops page text fault) (c.take_room.ensures.same ∙ c.make-page.ensures.empty) c.in_err-put_opened.ensures.puts.1))
+    (λ long. record {
+      says = says_beyond text long;
+      rereads = c.put_opened.ensures.reread;
+      copies = c.put_opened.ensures.copies;
+    })
+    (subst (λ (page : PageState). Stops page text fault) c.make-page.ensures.empty c.in_err-put_opened.ensures.puts.1))

@@ -1,9 +1,12 @@
-use Rattle.std.proofs.Common.{◌≡◌, ℕ, List, length, sym, ap, ◌∙◌, subst}
+use Rattle.std.proofs.Common.{◌≡◌, ◌<◌, ◌^◌, ℕ, List, length, sym, ap, ◌∙◌, subst, arith}
 use Rattle.std.specs.Prelude.{All}
 use Rattle.surf_surfaces.specs.Mesh.{IsFace}
-use Rattle.surf_text.specs.Pages.{Puts}
+use Rattle.surf_surfaces.specs.Surface.{edge_count}
+use Rattle.surf_text.specs.Pages.{PageState, Puts}
 use Rattle.surf_off.specs.Written.{AreStarts, opened_text, rows_at, RereadsOpened}
+use Rattle.surf_off.proofs.FaceRows.{short_rows}
 use Rattle.surf_off.proofs.StartsOf.{tables_of}
+use Rattle.surf_answers.proofs.CopyLines.{copies_named}
 use Rattle.surf_answers.specs.Cuts.{cut_text}
 use Rattle.surf_answers.proofs.cut.put_opened.Goals as goal
 
@@ -32,7 +35,8 @@ returns-clause-puts c =
     ap (λ (xs : List ℕ). opened_text text xs (rows_at starts c.corners.result.now) c.edges.result) c.origins.ensures.origins
     ∙ ap (λ (fs : List (List ℕ)). opened_text text opened.origins fs c.edges.result) rows
     ∙ ap (λ (n : ℕ). opened_text text opened.origins opened.faces n) c.edges.ensures in
-    subst (λ (t : List ℕ). Puts c.args.page.now c.write_off.new.page t c.write_off.result) is c.write_off.ensures.puts
+    subst (λ (p : PageState). Puts p c.write_off.new.page (cut_text text opened.origins opened.faces) c.write_off.result) c.take_room.ensures.same
+    (subst (λ (t : List ℕ). Puts c.take_room.new.self c.write_off.new.page t c.write_off.result) is c.write_off.ensures.puts)
 
 pub returns-clause-reread : goal.returns-clause-reread
 returns-clause-reread c =
@@ -44,3 +48,19 @@ returns-clause-reread c =
     subst (λ (n : ℕ). RereadsOpened text opened.origins opened.faces n) c.edges.ensures
     (subst (λ (fs : List (List ℕ)). RereadsOpened text opened.origins fs c.edges.result) rows
     (subst (λ (xs : List ℕ). RereadsOpened text xs (rows_at starts c.corners.result.now) c.edges.result) c.origins.ensures.origins c.write_off.ensures.reread))
+
+pub returns-clause-copies : goal.returns-clause-copies
+returns-clause-copies c =
+    let opened = c.args.opened.now in
+    let text = c.args.text.now in
+    let starts = c.starts.result.now in
+    let corners = c.corners.result.now in
+    let rows : rows_at starts corners ≡ opened.faces =
+    ap (λ (xs : List ℕ). rows_at starts xs) c.corners.ensures ∙ (tables_of opened.faces starts c.starts.ensures.size c.starts.ensures.at).rows in
+    let short : All (λ f. length f < 2 ^ 64) opened.faces =
+    subst (λ (fs : List (List ℕ)). All (λ f. length f < 2 ^ 64) fs) rows (short_rows starts corners (2 ^ 64) (omega arith)) in
+    let copies : length opened.origins < 2 ^ 64 = omega (arith, ap length c.origins.ensures.origins) in
+    let faces : length opened.faces < 2 ^ 64 = omega (arith, c.starts.ensures.size) in
+    let edges = edge_count (record { vertices = length opened.origins; faces = opened.faces }) in
+    let few : edges < 2 ^ 64 = omega (arith, c.edges.ensures) in
+    copies_named text opened.origins opened.faces edges c.text_room.ensures.clean c.requires.lines c.text_room.ensures.small c.origins.ensures.disc.is_mesh short c.requires.colours copies faces few
