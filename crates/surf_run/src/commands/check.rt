@@ -37,20 +37,21 @@ pub(crate) fn answer<S: Shelf>(
 {
     let (mesh, lengths) = measured_surface(alloc, shelf, mesh, lengths)?;
     let text = read_file(alloc, shelf, cert)?;
-    judge_text(alloc, &mesh, &lengths, &text)
+    judge_text(alloc, &mesh, &lengths, text)
 }
 
-// What `check` answers of a surface with lengths and the text of a certificate.
+// What `check` answers of a surface with lengths and the text of a certificate, which is kept no
+// longer than it is read.
 fn judge_text(
     alloc: Global,
     mesh: &HalfMesh,
     lengths: &Lengths,
-    text: &[u8],
+    text: Vec<u8>,
 ) -> Result<Answered, Refused>
     requires lengths { length lengths.now ≡ edge_count mesh.now }
     requires few { loop_count mesh.now ≤ MAX_LOOPS }
-    requires short { length text.now ≤ MAX_TEXT }
-    ensures { Concludes (Ends (IsCertText text.now) (λ cert. Ends (AtMost CertificateVertices
+    requires short { length text.items ≤ MAX_TEXT }
+    ensures { Concludes (Ends (IsCertText text.items) (λ cert. Ends (AtMost CertificateVertices
         MAX_CERTIFICATE_VERTICES (tree_count mesh.now cert)) (λ _. JudgesCert mesh.now lengths.now
         cert))) result }
 {
@@ -60,11 +61,11 @@ fn judge_text(
 }
 
 // The certificate of a text.
-fn cert_of(alloc: Global, bytes: &[u8]) -> Result<Cert, Refused>
-    requires { length bytes.now ≤ MAX_TEXT }
-    ensures { Takes (λ cert. cert) (IsCertText bytes.now) result }
+fn cert_of(alloc: Global, text: Vec<u8>) -> Result<Cert, Refused>
+    requires { length text.items ≤ MAX_TEXT }
+    ensures { Takes (λ cert. cert) (IsCertText text.items) result }
 {
-    let cert = read_cert(alloc, bytes)?;
+    let cert = read_cert(alloc, &text)?;
     Ok(cert)
 }
 

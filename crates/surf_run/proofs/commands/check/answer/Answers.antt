@@ -6,7 +6,7 @@ use Rattle.surf_texts.specs.Outcome.{Outcome}
 use Rattle.surf_answers.specs.Verdicts.{JudgesCert}
 use Rattle.surf_run.specs.Reading.{Reads, IsCertText, tree_count}
 use Rattle.surf_run.specs.Steps.{Ends, AtMost}
-use Rattle.surf_run.proofs.Composing.{over, over_as, ended, stopped_over}
+use Rattle.surf_run.proofs.Composing.{over, ended, stopped_over}
 use Rattle.surf_run.proofs.Fronts.{measured_front}
 use Rattle.surf_run.proofs.commands.check.answer.Goals as goal
 
@@ -30,6 +30,6 @@ returns-in_err-text-clause-tells g c =
 pub returns-clause-tells : goal.returns-clause-tells
 returns-clause-tells g c =
     let front = c.in_ok-mesh in
-    ended (over_as (over (measured_front (behind c.args.cert.now) c.args.mesh.now c.args.lengths.now) (front.mesh, front.lengths) refl
+    ended (over (over (measured_front (behind c.args.cert.now) c.args.mesh.now c.args.lengths.now) (front.mesh, front.lengths) refl
     front.ensures.tells front.ensures.later) c.in_ok-text.text.items front.ensures.holds c.in_ok-text.ensures.tells
-    c.in_ok-text.ensures.later _ c.deref.ensures.value) c.judge_text.result c.judge_text.ensures
+    c.in_ok-text.ensures.later) c.judge_text.result c.judge_text.ensures
