@@ -33,6 +33,9 @@ License: none-chosen
  {NO_LICENCE}
 """
 
+# The program stays byte by byte the one that the gate ran, so its symbols aren't stripped.
+OVERRIDES = f"{NAME}: unstripped-binary-or-object [usr/bin/{NAME}]\n"
+
 
 class Parts(NamedTuple):
     """What a release is made of: its version, its date in seconds, the folder of built files, the pages by name."""
@@ -142,6 +145,7 @@ def program_package(parts: Parts, proved: str, out: pathlib.Path) -> None:
     add_documents(inner, f"share/doc/{NAME}")
     inner.add_folder(f"share/{NAME}/meshes", TOP / "meshes")
     add_tools(inner, f"share/{NAME}/tools", TOOLS)
+    inner.add(f"share/lintian/overrides/{NAME}", OVERRIDES)
     tree = under_usr(inner)
     common(tree, NAME, parts, proved)
     fields = control(NAME, "science", parts, f"""\
