@@ -58,7 +58,7 @@ def build_libraries(built: pathlib.Path) -> None:
     """The two programs and all libraries in a folder."""
     libraries.make()
     shutil.copy2(proof.PROGRAM, built / "surf")
-    libraries.link_program(built / "surf-static", proof.PROGRAM.with_name("surf.o"))
+    libraries.link_program(built / "surf-static", libraries.OBJECT)
     libraries.link_static(built / "libsurf.a")
     for name in ("libsurf.so.0", f"lib{packages.NAME}.so.0"):
         libraries.link_shared(built / name, name)

@@ -5,6 +5,9 @@ Run as a script it makes that static library, crates/surf_c/out/libsurf_c.a, whe
 source. surf_c is proved anew, over the libraries that the gate proved and left: some minutes. Where a gate left none,
 `rt check` proves them first, which takes as long as a gate. Beside the library stand the LLVM module that clang made
 it of, since the page for browsers is made of that, too, and the line which says that it is proved.
+
+A gate that took the program from an earlier run leaves it without its object file, of which a release links a static
+program. Then that is built again, too, in the same way, and has to give the bytes of the gate's program.
 """
 
 import pathlib
@@ -21,9 +24,11 @@ from crate_graph import below, read_crates  # noqa: E402
 NAME = "surf_c"
 CRATE = TOP / "crates" / NAME
 MADE = CRATE / "out/libsurf_c.a"
+OBJECT = PROGRAM.with_name("surf.o")
 MODULE = CRATE / "out/surf_c.bc"
 VERDICT = CRATE / "out/surf_c.verdict"
 EXPORTED = "surf_call"
+TARGET = "x86_64-unknown-linux-gnu"
 FLAGS = ["-Wl,-z,relro,-z,now", "-Wl,-z,defs", "-Wl,--build-id=sha1", "-Wl,--gc-sections"]
 
 # Stands in for the kit's clang, and keeps the module that it is handed. The compiler clears clang's environment.
@@ -66,29 +71,51 @@ def keeping_toolchain(kit: pathlib.Path, folder: pathlib.Path, kept: pathlib.Pat
     return folder
 
 
-def build_words(kit: pathlib.Path, listed: list[str], lower: list[str]) -> list:
-    """The words by which the kit's compiler proves and builds the static library, over libraries that stand."""
-    words = [kit / "bin/rattle", "build", "--crate-name", NAME, "src/lib.rt", "--crate-type", "staticlib"]
-    words += ["--extern", f"std={kit}/rlibs/std.rlib", "-L", f"dependency={kit}/rlibs", "--links", f"{NAME}="]
-    for name in listed:
-        words += ["--extern", f"{name}={rlib(name)}"]
-    for name in lower:
-        words += ["-L", f"dependency={rlib(name).parent}"]
+def build_words(kit: pathlib.Path, name: str, source: str, crates: dict[str, list[str]]) -> list:
+    """The words by which the kit's compiler proves and builds a crate, over libraries that stand."""
+    words = [kit / "bin/rattle", "build", "--crate-name", name, source]
+    words += ["--extern", f"std={kit}/rlibs/std.rlib", "-L", f"dependency={kit}/rlibs", "--links", f"{name}="]
+    for library in crates[name]:
+        words += ["--extern", f"{library}={rlib(library)}"]
+    for library in sorted(below(crates, name, {})):
+        words += ["-L", f"dependency={rlib(library).parent}"]
     words += ["--antt-project", kit / "rattle/logic/antt-project.json", "--logic-built", kit / "logic_built"]
     return [*words, "--backend", "llvm", "--jobs", "2"]
+
+
+def verdict_of(said: str) -> str:
+    """The compiler's line which says that a crate is proved."""
+    verdict = next((line for line in said.splitlines() if line.startswith("logic=")), said[-300:])
+    if not verdict.startswith("logic=proved"):
+        raise Refused(f"the compiler says no word of a proved crate: {verdict}")
+    return verdict
+
+
+def build_object(crates: dict[str, list[str]]) -> None:
+    """Proves and builds the program's object file over the libraries below it."""
+    kit, folder = kit_folder(), PROGRAM.parent.parent
+    with tempfile.TemporaryDirectory() as name:
+        made, linked = pathlib.Path(name) / OBJECT.name, pathlib.Path(name) / PROGRAM.name
+        words = [*build_words(kit, "surf", "src/main.rt", crates), "--toolchain", kit / "toolchain"]
+        verdict_of(ran([*words, "-o", made], cwd=folder))
+        parts = [made, kit / "c/libos_c.a", kit / "c/liblibc_c.a"]
+        ran([kit / "bin/rattle-link", "--target", TARGET, "--toolchain", kit / "toolchain", "-o", linked, *parts])
+        if linked.read_bytes() != PROGRAM.read_bytes():
+            raise Refused("the program that was built again isn't the gate's, byte by byte")
+        shutil.copyfile(made, OBJECT)
 
 
 def build(crates: dict[str, list[str]]) -> None:
     """Proves and builds the library over those below it."""
     kit = kit_folder()
-    words = build_words(kit, crates[NAME], sorted(below(crates, NAME, {})))
+    words = [*build_words(kit, NAME, "src/lib.rt", crates), "--crate-type", "staticlib"]
     with tempfile.TemporaryDirectory() as name:
         room = pathlib.Path(name)
         tools = keeping_toolchain(kit, room / "toolchain", room / MODULE.name)
         said = ran([*words, "--toolchain", tools, "-o", room / MADE.name], cwd=CRATE)
-        verdict = next((line for line in said.splitlines() if line.startswith("logic=")), said[-300:])
-        if not verdict.startswith("logic=proved") or not (room / MODULE.name).is_file():
-            raise Refused(f"the compiler says no word of a proved library, or handed no module to clang: {verdict}")
+        verdict = verdict_of(said)
+        if not (room / MODULE.name).is_file():
+            raise Refused(f"the compiler handed no module to clang: {verdict}")
         (room / VERDICT.name).write_text(f"{verdict}\n")
         MADE.parent.mkdir(exist_ok=True)
         for path in (MADE, MODULE, VERDICT):
@@ -96,15 +123,18 @@ def build(crates: dict[str, list[str]]) -> None:
 
 
 def make() -> None:
-    """Proves and makes the library, and what it stands on, where it isn't there or is older than a source."""
-    if is_made():
-        return
+    """Proves and makes the library, what it stands on, and the program's object file, where one isn't there or is
+    older than a source."""
     crates = read_crates((TOP / "crates.txt").read_text())
-    if not left_by_gate(crates):
-        print("rt check proves the libraries below surf_c first: as long as a gate where it never ran", flush=True)
-        ran(["rt", "check"], cwd=CRATE)
-    print("surf_c is proved and built: some minutes", flush=True)
-    build(crates)
+    if not is_made():
+        if not left_by_gate(crates):
+            print("rt check proves the libraries below surf_c first: as long as a gate where it never ran", flush=True)
+            ran(["rt", "check"], cwd=CRATE)
+        print("surf_c is proved and built: some minutes", flush=True)
+        build(crates)
+    if PROGRAM.exists() and not OBJECT.exists():
+        print("the program is built again for its object file: some minutes", flush=True)
+        build_object(crates)
 
 
 def archives(made: pathlib.Path = MADE) -> list[pathlib.Path]:

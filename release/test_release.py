@@ -261,6 +261,23 @@ class Libraries(unittest.TestCase):
             with said, kit, self.assertRaisesRegex(proof.Refused, verdict):
                 libraries.build(self.CRATES)
 
+    def test_an_object_of_another_program_is_refused(self):
+        def tool(words, **how):
+            pathlib.Path(words[words.index("-o") + 1]).write_text("built again")
+            return "logic=proved functions=1\n"
+
+        program, made = self.top / "crates/surf/out/surf", self.top / "crates/surf/out/surf.o"
+        crates = {**self.CRATES, "surf": ["kept"]}
+        kit = mock.patch.object(libraries, "kit_folder", lambda: self.top / "kit")
+        with mock.patch.object(libraries, "ran", tool), kit, mock.patch.object(libraries, "OBJECT", made):
+            program.write_text("the gate's")
+            with self.assertRaisesRegex(proof.Refused, "byte by byte"):
+                libraries.build_object(crates)
+            self.assertFalse(made.exists())
+            program.write_text("built again")
+            libraries.build_object(crates)
+            self.assertEqual(made.read_text(), "built again")
+
 
 class Archives(unittest.TestCase):
     def tree(self):
