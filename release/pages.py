@@ -23,11 +23,13 @@ import subprocess
 import sys
 import tempfile
 
-import completions
-import manual
-from usage import Usage, read_usage, said, version_of
-
 TOP = pathlib.Path(__file__).resolve().parent.parent
+sys.path.append(str(TOP / "tools"))
+
+import completions  # noqa: E402
+import manual  # noqa: E402
+from usage import Usage, read_usage, said, version_of  # noqa: E402
+
 FORMATS = TOP / "docs" / "formats.md"
 
 

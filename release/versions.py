@@ -11,7 +11,10 @@ import re
 import sys
 
 from proof import PROGRAM, TOP, Refused
-from usage import version_of
+
+sys.path.append(str(TOP / "tools"))
+
+from usage import version_of  # noqa: E402
 
 
 def newest_change(text: str) -> str:

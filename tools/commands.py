@@ -3,21 +3,22 @@ from here, so a new command is tried as soon as its row is there."""
 
 import pathlib
 import re
-import sys
-
-TOP = pathlib.Path(__file__).resolve().parent.parent
-sys.path.append(str(TOP / "release"))
+import subprocess
 
 from usage import read_usage
+
+TOP = pathlib.Path(__file__).resolve().parent.parent
 
 # What stands in a row for a number that the user gives.
 NUMBERS = {"x": "0", "k": "3", "g": "2", "a": "4", "b": "5", "s": "6"}
 
 
 def help_text():
-    """What `--help` prints, from the source."""
-    source = (TOP / "crates/surf_words/src/words.rt").read_text(encoding="utf-8")
-    return re.search(r'pub const HELP: &str = "(.*?)";', source, re.DOTALL)[1]
+    """What `--help` prints, from the source, or in a release, which has no source, from its program."""
+    source = TOP / "crates/surf_words/src/words.rt"
+    if not source.is_file():
+        return subprocess.run([TOP / "bin/surf", "--help"], capture_output=True, text=True, check=True).stdout
+    return re.search(r'pub const HELP: &str = "(.*?)";', source.read_text(encoding="utf-8"), re.DOTALL)[1]
 
 
 def rows():
