@@ -46,206 +46,206 @@ ghost use Rattle.surf_graphs.specs.Laws.{GrownTreesByTables, GrownTreesSpan, Sim
 ghost use Rattle.surf_graphs.specs.Laws.{FacesAreSimpleCycles, WaysGoByParents};
 
 /// An even chain inside a spanning tree is empty.
-pub fn even_in_tree_is_empty()
+pub fn law_of_even_chains_in_trees()
     ensures { EvenInTreeIsEmpty }
 {}
 
 /// The boundary of a set of faces is even at each vertex.
-pub fn boundaries_are_even()
+pub fn law_of_boundaries()
     ensures { CellBoundariesAreEven }
 {}
 
 /// A closed walk runs an even number of edges at each node an odd number of times.
-pub fn closed_walks_are_even()
+pub fn law_of_closed_walks()
     ensures { ClosedGraphWalksAreEven }
 {}
 
 /// The edges outside a spanning tree of the vertices join all faces.
-pub fn edges_outside_tree_join_faces()
+pub fn law_of_edges_outside_trees()
     ensures { EdgesOutsideTreeJoinFaces }
 {}
 
 /// A spanning tree has one edge less than nodes.
-pub fn trees_have_one_edge_less()
+pub fn law_of_tree_edges()
     ensures { TreesHaveOneEdgeLess }
 {}
 
 /// The edges outside both trees are 2 - χ.
-pub fn left_edges_count()
+pub fn law_of_left_count()
     ensures { LeftEdgesCount }
 {}
 
 /// An even chain is null exactly where its signature is zero.
-pub fn null_chains()
+pub fn law_of_null_chains()
     ensures { NullChains }
 {}
 
 /// A closed walk is null exactly where its signature is zero.
-pub fn null_walks()
+pub fn law_of_null_walks()
     ensures { NullWalks }
 {}
 
 /// The signatures of a face's edges sum to zero.
-pub fn faces_sum_to_zero()
+pub fn law_of_sums_of_faces()
     ensures { CellFacesSumToZero }
 {}
 
 /// An even chain is the sum of the loops of its edges.
-pub fn even_chains_are_sums_of_loops()
+pub fn law_of_even_chains()
     ensures { EvenChainsAreSumsOfLoops }
 {}
 
 /// Of a closed walk at the root of a shortest tree, no edge that it runs an odd number of times has
 /// a loop that is longer than the walk.
-pub fn loops_of_walk_are_no_longer()
+pub fn law_of_loops_of_walks()
     ensures { LoopsOfWalkAreNoLonger }
 {}
 
 /// Where the cotree is heaviest, each loop's signature is a sum of those of left loops that are no
 /// longer.
-pub fn short_left_loops_span()
+pub fn law_of_short_left_loops()
     ensures { ShortLeftLoopsSpan }
 {}
 
 /// Even chains are independent exactly where their signatures are.
-pub fn independent_chains()
+pub fn law_of_independent_chains()
     ensures { IndependentChains }
 {}
 
 /// No more than 2 - χ even chains are independent.
-pub fn independent_chains_are_few()
+pub fn law_of_few_chains()
     ensures { IndependentChainsAreFew }
 {}
 
 /// The left loops are independent.
-pub fn left_loops_are_independent()
+pub fn law_of_independent_loops()
     ensures { LeftLoopsAreIndependent }
 {}
 
 /// The left loops of a shortest tree and its heaviest cotree are a least system of loops.
-pub fn left_loops_are_least()
+pub fn law_of_least_loops()
     ensures { LeftGraphLoopsAreLeast }
 {}
 
 /// Cycles that cover the loops through all shortest trees are a least basis.
-pub fn covering_cycles_are_least()
+pub fn law_of_covering_cycles()
     ensures { CoveringCyclesAreLeast }
 {}
 
 /// What it means that two faces lie on different sides of an edge of the cotree.
-pub fn cotree_edges_part()
+pub fn law_of_cotree_edges()
     ensures { CotreeEdgesPart }
 {}
 
 /// Each face has an even number of edges at each vertex where faces are closed walks.
-pub fn faces_are_closed_walks()
+pub fn law_of_walks_round_faces()
     ensures { FacesAreClosedWalks }
 {}
 
 /// A simple cycle is null exactly where it separates.
-pub fn null_cycles_separate()
+pub fn law_of_null_cycles()
     ensures { NullGraphCyclesSeparate }
 {}
 
 /// Faces that are run round by their sides have an even number of edges at each vertex.
-pub fn sides_make_corners_even()
+pub fn law_of_corners()
     ensures { SidesMakeCornersEven }
 {}
 
 /// The vertices are connected where the faces are.
-pub fn sides_connect_vertices()
+pub fn law_of_connected_vertices()
     ensures { SidesConnectVertices }
 {}
 
 /// In any tree the loop of an edge is a closed walk at the root.
-pub fn loops_are_closed()
+pub fn law_of_closed_loops()
     ensures { GraphLoopsAreClosed }
 {}
 
 /// In a shortest tree of a graph without double edges, the loop of an edge is a closed walk at the
 /// root, with the loop's edges and length.
-pub fn loops_are_walks()
+pub fn law_of_loop_walks()
     ensures { LoopsAreWalks }
 {}
 
 /// For a closed walk that is not null there is an edge, whether or not the walk runs it, whose loop
 /// is not null and no longer than the walk.
-pub fn non_null_walks_have_short_loops()
+pub fn law_of_short_loops()
     ensures { NonNullWalksHaveShortLoops }
 {}
 
 /// In a graph without double edges and without edges from a node to itself, a closed walk that runs
 /// some edge an odd number of times is a simple cycle, or the sum of two.
-pub fn closed_walks_are_simple_or_two()
+pub fn law_of_simple_parts()
     ensures { ClosedWalksAreSimpleOrTwo }
 {}
 
 /// The rounds of three turns of which one is the other two make an even number with what they turn.
-pub fn rounds_are_even()
+pub fn law_of_rounds()
     ensures { RoundsAreEven }
 {}
 
 /// The number of left edges is even where the sides can be turned about faces and vertices alike.
-pub fn left_edges_are_even()
+pub fn law_of_left_edges()
     ensures { LeftEdgesAreEven }
 {}
 
 /// The mates go round in pairs.
-pub fn mates_are_rounds()
+pub fn law_of_mates()
     ensures { MatesAreRounds }
 {}
 
 /// Each cell complex with a vertex and a face has a tree, a cotree and left edges.
-pub fn splits_exist()
+pub fn law_of_splits()
     ensures { SplitsExist }
 {}
 
 /// The border of a disc is connected.
-pub fn borders_are_connected()
+pub fn law_of_borders()
     ensures { BordersAreConnected }
 {}
 
 /// In a graph without double edges the ranks of a shortest tree are distances.
-pub fn ranks_are_distances()
+pub fn law_of_distances()
     ensures { RanksAreDistances }
 {}
 
 /// A tree grows by an edge to a new node.
-pub fn trees_grow()
+pub fn law_of_growing_trees()
     ensures { TreesGrow }
 {}
 
 /// A heaviest edge keeps a grown tree heavy.
-pub fn heavy_trees_grow()
+pub fn law_of_growing_heavy_trees()
     ensures { HeavyTreesGrow }
 {}
 
 /// A heavy tree of all faces is a heaviest cotree.
-pub fn heavy_trees_are_heaviest()
+pub fn law_of_heaviest_trees()
     ensures { HeavyTreesAreHeaviest }
 {}
 
 /// Tables that say the same are the same grown tree.
-pub fn grown_trees_by_tables()
+pub fn law_of_trees_by_tables()
     ensures { GrownTreesByTables }
 {}
 
 /// A grown tree that has reached all nodes is a spanning tree.
-pub fn grown_trees_span()
+pub fn law_of_grown_trees()
     ensures { GrownTreesSpan }
 {}
 
 /// A simple cycle runs each edge that it runs an odd number of times.
-pub fn simple_cycles_run_once()
+pub fn law_of_simple_cycles()
     ensures { SimpleCyclesRunOnce }
 {}
 
 /// Each face has an even number of edges at each vertex where faces are simple cycles.
-pub fn faces_are_simple_cycles()
+pub fn law_of_cycles_round_faces()
     ensures { FacesAreSimpleCycles }
 {}
 
 /// The ways between the root of a tree and its nodes go from parent to parent.
-pub fn ways_go_by_parents()
+pub fn law_of_ways()
     ensures { WaysGoByParents }
 {}

@@ -1,5 +1,0 @@
-use Rattle.surf_graphs.proofs.Cycles.{null_separates, separates_null}
-use Rattle.surf_graphs.proofs.null_cycles_separate.Goals as goal
-
-pub returns : goal.returns
-returns c s ok a w cycle = (null_separates s ok a w cycle, separates_null s ok a w cycle)

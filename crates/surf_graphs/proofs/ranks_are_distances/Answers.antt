@@ -1,5 +1,0 @@
-use Rattle.surf_graphs.proofs.Distances.{ranks_least}
-use Rattle.surf_graphs.proofs.ranks_are_distances.Goals as goal
-
-pub returns : goal.returns
-returns c = ranks_least

@@ -1,5 +1,0 @@
-use Rattle.surf_graphs.proofs.Sides.{sides_connect}
-use Rattle.surf_graphs.proofs.sides_connect_vertices.Goals as goal
-
-pub returns : goal.returns
-returns c = sides_connect

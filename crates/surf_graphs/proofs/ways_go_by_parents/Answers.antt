@@ -1,5 +1,0 @@
-use Rattle.surf_graphs.proofs.Ways.{ways_go_by_parents}
-use Rattle.surf_graphs.proofs.ways_go_by_parents.Goals as goal
-
-pub returns : goal.returns
-returns c = ways_go_by_parents

@@ -1,0 +1,10 @@
+use Rattle.std.proofs.Common.{ℕ}
+use Rattle.surf_z2.specs.Space.{numbers, is_nothing}
+use Rattle.surf_z2.specs.Space.{Weighed}
+use Rattle.surf_z2.proofs.Numbers.{Decides-is_nothing}
+use Rattle.surf_z2.proofs.Least as Least
+use Rattle.surf_z2.proofs.law_of_least.Goals as goal
+
+pub returns : goal.returns
+returns c = Least.least_law numbers is_nothing Decides-is_nothing (λ (c : Weighed ℕ). c.weight)
+    (λ (c : Weighed ℕ). c.vector)

@@ -1,0 +1,6 @@
+use Rattle.surf_z2.specs.Space.{numbers, chains}
+use Rattle.surf_z2.proofs.Ranks as Ranks
+use Rattle.surf_z2.proofs.law_of_totals.Goals as goal
+
+pub returns : goal.returns
+returns c = record { numbers = Ranks.total_law numbers; chains = Ranks.total_law chains }

@@ -1,0 +1,12 @@
+use Rattle.std.proofs.Common.{ℕ}
+use Rattle.surf_z2.specs.Space.{numbers, is_nothing}
+use Rattle.surf_z2.specs.Space.{Weighed}
+use Rattle.surf_z2.specs.Order.{is_lighter}
+use Rattle.surf_z2.proofs.Numbers.{Decides-is_nothing}
+use Rattle.surf_z2.proofs.Greedy as Greedy
+use Rattle.surf_z2.proofs.Merge as Merge
+use Rattle.surf_z2.proofs.law_of_two_steps.Goals as goal
+
+pub returns : goal.returns
+returns c = Greedy.two_step_law numbers is_nothing Decides-is_nothing (λ (c : Weighed ℕ). c.vector) is_lighter
+    Merge.is_lighter-trans
