@@ -1,7 +1,6 @@
 -- The heaviest tree of faces over the edges outside a tree of vertices, and the edges that are left.
 use Rattle.std.specs.Prelude.{◌≡◌, ◌≢◌, ℕ, ◌+◌, ◌<◌, Bool, IsTrue, false, not, ◌&&◌, ◌||◌, ◌==◌, nat_lt, List, filter}
 use Rattle.std.specs.List.{range_with_len}
-use Rattle.surf_z2.specs.Space.{Chain}
 use Rattle.surf_graphs.specs.Cells.{primal, dual, Split}
 use Rattle.surf_graphs.specs.Growth.{between}
 use Rattle.surf_graphs.specs.Trees.{Tree, IsTree, in_tree}
@@ -11,15 +10,15 @@ use Rattle.surf_surfaces.specs.Cells.{cells_of}
 use Rattle.surf_surfaces.specs.Loop.{loop_length}
 
 -- the edges between a vertex and its parent
-abbrev pub tree_edges : Mesh → Tree → Chain
+abbrev pub tree_edges : Mesh → Tree → ℕ → Bool
 tree_edges mesh tree = in_tree (primal (cells_of mesh)) tree
 
 -- the edges between a face and its parent
-abbrev pub cotree_edges : Mesh → Tree → Chain
+abbrev pub cotree_edges : Mesh → Tree → ℕ → Bool
 cotree_edges mesh cotree = in_tree (dual (cells_of mesh)) cotree
 
 -- whether the edge is in neither tree
-abbrev pub is_left : Mesh → Tree → Tree → Chain
+abbrev pub is_left : Mesh → Tree → Tree → ℕ → Bool
 is_left mesh tree cotree e = not (tree_edges mesh tree e) && not (cotree_edges mesh cotree e)
 
 -- the edges in neither tree, increasing
