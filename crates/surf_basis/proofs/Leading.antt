@@ -1,5 +1,5 @@
 -- The first cycle of a basis that is chosen is the first candidate.
-use Rattle.std.proofs.Common.{◌≡◌, ℕ, Bool, true, false, List, [], ◌∷◌, map, Some, refl, sym, ap, ◌∙◌, subst, arith}
+use Rattle.std.proofs.Common.{◌≡◌, ℕ, Bool, true, false, List, [], ◌∷◌, Some, refl, sym, ap, ◌∙◌, subst, arith}
 use Rattle.std.specs.Prelude.{MatchBool, slice_index_or}
 use Rattle.std.specs.Option.{option_map}
 use Rattle.surf_z2.specs.Space.{chosen}
