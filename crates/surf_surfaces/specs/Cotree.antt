@@ -3,7 +3,7 @@ use Rattle.std.specs.Prelude.{◌≡◌, ◌≢◌, ℕ, ◌+◌, ◌<◌, Bool,
 use Rattle.std.specs.List.{range_with_len}
 use Rattle.surf_graphs.specs.Cells.{primal, dual, Split}
 use Rattle.surf_graphs.specs.Growth.{between}
-use Rattle.surf_graphs.specs.Trees.{Tree, IsTree, in_tree}
+use Rattle.surf_graphs.specs.Trees.{Tree, IsTree, leads_up}
 use Rattle.surf_surfaces.specs.Mesh.{Mesh}
 use Rattle.surf_surfaces.specs.Surface.{face_count, edge_count, faces_of, IsSurface}
 use Rattle.surf_surfaces.specs.Cells.{cells_of}
@@ -11,11 +11,11 @@ use Rattle.surf_surfaces.specs.Loop.{loop_length}
 
 -- the edges between a vertex and its parent
 abbrev pub tree_edges : Mesh → Tree → ℕ → Bool
-tree_edges mesh tree = in_tree (primal (cells_of mesh)) tree
+tree_edges mesh tree e = leads_up mesh.vertices tree e
 
 -- the edges between a face and its parent
 abbrev pub cotree_edges : Mesh → Tree → ℕ → Bool
-cotree_edges mesh cotree = in_tree (dual (cells_of mesh)) cotree
+cotree_edges mesh cotree e = leads_up (face_count mesh) cotree e
 
 -- whether the edge is in neither tree
 abbrev pub is_left : Mesh → Tree → Tree → ℕ → Bool
