@@ -1,13 +1,13 @@
 -- The first cycle of a basis that is chosen is the first candidate.
-use Rattle.std.proofs.Common.{◌≡◌, ℕ, Bool, true, false, List, [], ◌∷◌, map, Some, refl, sym, ap, ◌∙◌, subst, arith}
+use Rattle.std.proofs.Common.{◌≡◌, ℕ, Bool, true, false, List, [], ◌∷◌, Some, refl, sym, ap, ◌∙◌, subst, arith}
 use Rattle.std.specs.Prelude.{MatchBool, slice_index_or}
 use Rattle.std.specs.Option.{option_map}
-use Rattle.surf_z2.specs.Space.{chains, chosen, difference, sum_of}
+use Rattle.surf_z2.specs.Space.{chosen}
 use Rattle.surf_z2.proofs.ParityLaws.{xor-false}
 use Rattle.surf_surfaces.specs.Mesh.{Mesh}
 use Rattle.surf_surfaces.specs.Surface.{IsSurface}
 use Rattle.surf_surfaces.specs.Walk.{parity, ArePositive}
-use Rattle.surf_surfaces.specs.Homology.{IsBoundary, IsNull}
+use Rattle.surf_surfaces.specs.Homology.{IsBoundary, IsNull, total_parity}
 use Rattle.surf_surfaces.specs.Choice.{Trees, AreChosen, Loop, candidates, DependsOn, DependsAt, IsGreedyChoice}
 use Rattle.surf_surfaces.proofs.CycleLaws.{null_cycles_separate}
 use Rattle.surf_surfaces.proofs.FirstCycleLaws.{first_is_shortest}
@@ -16,7 +16,7 @@ use Rattle.surf_basis.specs.Cycles.{first_of, as_loop, as_loops, IsTheBasis, IsF
 
 -- a walk that depends on no other is null
 alone_null : (mesh : Mesh) (walk : List ℕ) (choice : List Bool) →
-    IsBoundary mesh (difference (parity mesh walk) (sum_of chains (map (parity mesh) (chosen choice [])))) → IsNull mesh walk
+    IsBoundary mesh (total_parity mesh (walk ∷ chosen choice [])) → IsNull mesh walk
 alone_null mesh walk [] (faces, is) = (faces, λ e l. sym (xor-false (parity mesh walk e)) ∙ is e l)
 alone_null mesh walk (b ∷ bs) (faces, is) = (faces, λ e l. sym (xor-false (parity mesh walk e)) ∙ is e l)
 

@@ -19,9 +19,13 @@ pub record IsTree (g : Graph) (t : Tree) : Type 0 where
   pub up_joins : (n : ℕ) → n < g.nodes → n ≢ t.root → joins g n (t.parent n) (t.up n) ≡ true
   pub rank_falls : (n : ℕ) → n < g.nodes → n ≢ t.root → t.rank (t.parent n) < t.rank n
 
+-- whether edge e leads from one of so many nodes, the root apart, to its parent
+abbrev pub leads_up : ℕ → Tree → ℕ → Bool
+leads_up nodes t e = any_below nodes (λ n. not (n == t.root) && (t.up n == e))
+
 -- the edges of a tree are those that lead from a node to its parent
 abbrev pub in_tree : Graph → Tree → ℕ → Bool
-in_tree g t e = any_below g.nodes (λ n. not (n == t.root) && (t.up n == e))
+in_tree g t e = leads_up g.nodes t e
 
 -- edge e is among the first `steps` edges on the way from n to the root
 abbrev pub on_way : Tree → ℕ → ℕ → ℕ → Bool

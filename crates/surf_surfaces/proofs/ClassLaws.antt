@@ -23,6 +23,7 @@ use Rattle.surf_surfaces.specs.Cells.{cells_of, IndependenceIsThatOfChains, Inde
 use Rattle.surf_surfaces.specs.Class.{weighed_walk, NullByClass, IndependentByClasses}
 use Rattle.surf_surfaces.specs.Loop.{loop_walk, loop_length}
 use Rattle.surf_surfaces.proofs.CellLaws.{surfaces_are_cells}
+use Rattle.surf_surfaces.proofs.SumLaws.{sum_from_total, total_from_sum}
 use Rattle.surf_surfaces.proofs.GraphWalkLaws.{graph_walk, walks_are_graph_walks, closed_parity_even}
 
 pub independence_is_that_of_chains : IndependenceIsThatOfChains
@@ -30,11 +31,13 @@ independence_is_that_of_chains mesh walks = (
   (λ free choice null.
       let same = chosen-map (parity mesh) choice walks in
       same ∙ ap (map (parity mesh))
-      (free choice (subst (λ xs. IsNullChain (cells_of mesh) (sum_of chains xs)) same null))),
+      (free choice (total_from_sum mesh (chosen choice walks)
+      (subst (λ xs. IsNullChain (cells_of mesh) (sum_of chains xs)) same null)))),
   (λ free choice null.
       let same = chosen-map (parity mesh) choice walks in
       map_nil (parity mesh) (chosen choice walks)
-      (sym same ∙ free choice (subst (λ xs. IsNullChain (cells_of mesh) (sum_of chains xs)) (sym same) null))),
+      (sym same ∙ free choice (subst (λ xs. IsNullChain (cells_of mesh) (sum_of chains xs)) (sym same)
+      (sum_from_total mesh (chosen choice walks) null)))),
 )
 
 even_walks : (mesh : Mesh) → IsSurface mesh → (walks : List (List ℕ)) → AllByRecursion (IsClosed mesh) walks →

@@ -1,10 +1,10 @@
 -- The greedy choice from loops, by the classes of their walks.
-use Rattle.std.proofs.Common.{◌≡◌, ℕ, ◌<◌, Bool, true, false, List, length, map, take, get_or, All, sym, subst, MatchBool}
+use Rattle.std.proofs.Common.{◌≡◌, ℕ, ◌<◌, Bool, true, false, List, ◌∷◌, length, map, take, get_or, All, sym, subst, MatchBool}
 use Rattle.std.specs.List.{AllByRecursion}
 use Rattle.std.proofs.lemmas.Simd.{map-map}
 use Rattle.std.proofs.lemmas.List.Elements.{recursion_from_All, All-from_recursion, All-take}
 use Rattle.surf_z2.specs.Greedy.{greedy}
-use Rattle.surf_z2.specs.Space.{chains, numbers, is_nothing, difference, sum_of, Spanned}
+use Rattle.surf_z2.specs.Space.{chains, chosen, numbers, is_nothing, difference, sum_of, Spanned}
 use Rattle.surf_z2.proofs.Below.{chosen-map}
 use Rattle.surf_z2.proofs.Kept.{kept_law}
 use Rattle.surf_z2.proofs.Numbers.{Decides-is_nothing}
@@ -19,6 +19,7 @@ use Rattle.surf_surfaces.specs.Cells.{cells_of}
 use Rattle.surf_surfaces.specs.Class.{class_of}
 use Rattle.surf_surfaces.specs.Choice.{Loop, walks, DependsOn, IsGreedyChoice}
 use Rattle.surf_surfaces.proofs.CellLaws.{surfaces_are_cells}
+use Rattle.surf_surfaces.proofs.SumLaws.{sum_from_total, total_from_sum}
 use Rattle.surf_surfaces.proofs.GraphWalkLaws.{closed_parity_even}
 use Rattle.surf_surfaces.proofs.LeastLaws.{all_each, all_mapped}
 
@@ -43,7 +44,7 @@ module _ (mesh : Mesh) (d : Split) (surface : IsSurface mesh) (split : IsSplit (
       (spanned_from_null (cells_of mesh) d (surfaces_are_cells mesh surface).complex split (map (parity mesh) before)
       (parity mesh walk) h.0
       (subst (λ xs. IsNullChain (cells_of mesh) (difference (parity mesh walk) (sum_of chains xs)))
-      (sym (chosen-map (parity mesh) h.0 before)) h.1))
+      (sym (chosen-map (parity mesh) h.0 before)) (sum_from_total mesh (walk ∷ chosen h.0 before) h.1)))
 
   pub depends_from_spanned : (before : List (List ℕ)) (walk : List ℕ) → AllByRecursion (IsClosed mesh) before →
       IsClosed mesh walk → Spanned numbers (map (class_of mesh d) before) (class_of mesh d walk) →
@@ -58,8 +59,9 @@ module _ (mesh : Mesh) (d : Split) (surface : IsSurface mesh) (split : IsSplit (
       (subst (λ vs. Spanned numbers vs (class_of mesh d walk))
       (sym (map-map (signature_of (cells_of mesh) d) (parity mesh) before)) h) in (
         r.0,
-        subst (λ xs. IsNullChain (cells_of mesh) (difference (parity mesh walk) (sum_of chains xs)))
-            (chosen-map (parity mesh) r.0 before) r.1,
+        total_from_sum mesh (walk ∷ chosen r.0 before)
+            (subst (λ xs. IsNullChain (cells_of mesh) (difference (parity mesh walk) (sum_of chains xs)))
+            (chosen-map (parity mesh) r.0 before) r.1),
       )
 
   -- what the walks at the first places span

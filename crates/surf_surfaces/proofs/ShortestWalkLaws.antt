@@ -3,7 +3,7 @@ use Rattle.std.proofs.Common.{◌≡◌, ℕ, zero, suc, ◌<◌, ◌≤◌, Boo
 use Rattle.std.specs.List.{AllByRecursion}
 use Rattle.std.proofs.lemmas.Simd.{map-map}
 use Rattle.std.proofs.lemmas.List.Elements.{recursion_from_All, All-from_recursion, All-contains}
-use Rattle.surf_z2.specs.Space.{chains, chosen, sum_of}
+use Rattle.surf_z2.specs.Space.{chosen}
 use Rattle.surf_z2.specs.Order.{sorted}
 use Rattle.surf_z2.proofs.Counts.{Up}
 use Rattle.surf_z2.proofs.Merge.{Sorted}
@@ -14,7 +14,7 @@ use Rattle.surf_graphs.proofs.Trees.{joined_below}
 use Rattle.surf_surfaces.specs.Mesh.{Mesh}
 use Rattle.surf_surfaces.specs.Surface.{IsSurface}
 use Rattle.surf_surfaces.specs.Walk.{IsClosed, IsClosedAt, edge_length, parity, walk_length, ArePositive}
-use Rattle.surf_surfaces.specs.Homology.{IsNull, IsIndependent, IsLeastLoopSystem}
+use Rattle.surf_surfaces.specs.Homology.{IsNull, IsIndependent, IsLeastLoopSystem, total_parity}
 use Rattle.surf_surfaces.specs.Cycle.{IsSimpleCycle, IsNonseparating, IsShortestNonseparating}
 use Rattle.surf_surfaces.specs.Cells.{cells_of}
 use Rattle.surf_surfaces.specs.Choice.{Loop, comes_before, walks as walks_of, loops_at, candidates}
@@ -52,7 +52,7 @@ pub independent_not_null : (mesh : Mesh) (ws : List (List ℕ)) → IsIndependen
 independent_not_null mesh ws free w at null =
     let one : chosen (choice_at at.0) ws ≡ w ∷ [] = chosen_at ws at.0 w at.1 ∙ ap (λ v. v ∷ []) at.2 in
     let none = free (choice_at at.0)
-    (null.0, λ e l. ap (λ vs. sum_of chains (map (parity mesh) vs) e) one ∙ xor-false (parity mesh w e) ∙ null.1 e l) in
+    (null.0, λ e l. ap (λ vs. total_parity mesh vs e) one ∙ xor-false (parity mesh w e) ∙ null.1 e l) in
     let bad = ap length (sym one ∙ none) in
     omega (arith, bad)
 

@@ -1,13 +1,14 @@
 -- Boundaries, and the parities of walks, add up.
-use Rattle.std.proofs.Common.{◌≡◌, ℕ, List, [], ◌∷◌, ◌++◌, refl, sym, ap, ◌∙◌}
+use Rattle.std.proofs.Common.{◌≡◌, ℕ, List, [], ◌∷◌, ◌++◌, map, refl, sym, ap, ◌∙◌}
 use Rattle.surf_z2.specs.Parity.{xor}
+use Rattle.surf_z2.specs.Space.{chains, sum_of}
 use Rattle.surf_z2.proofs.ParityLaws.{xor_assoc, xor_pairs}
 use Rattle.surf_surfaces.specs.Mesh.{Mesh, pair_of, pair_eq}
 use Rattle.surf_surfaces.specs.Surface.{ends, faces_of}
 use Rattle.surf_surfaces.specs.Walk.{last_from, parity}
-use Rattle.surf_surfaces.specs.Homology.{boundary}
+use Rattle.surf_surfaces.specs.Homology.{boundary, IsBoundary, total_parity}
 use Rattle.surf_surfaces.proofs.CellLaws.{surfaces_are_cells}
-use Rattle.surf_surfaces.specs.Laws.{OnlyAllOrNoneIsClosed, BoundariesAdd, ParitiesAdd}
+use Rattle.surf_surfaces.specs.Laws.{OnlyAllOrNoneIsClosed, BoundariesAdd, ParitiesAdd, TotalsAreSums}
 
 pub only_all_or_none_is_closed : OnlyAllOrNoneIsClosed
 only_all_or_none_is_closed mesh surface faces closed f g a b =
@@ -29,3 +30,15 @@ from_parity mesh u (w ∷ xs) ys e =
 
 pub parities_add : ParitiesAdd
 parities_add = from_parity
+
+pub totals_are_sums : TotalsAreSums
+totals_are_sums mesh [] e = refl
+totals_are_sums mesh (w ∷ ws) e = ap (xor (parity mesh w e)) (totals_are_sums mesh ws e)
+
+pub sum_from_total : (mesh : Mesh) (walks : List (List ℕ)) → IsBoundary mesh (total_parity mesh walks) →
+    IsBoundary mesh (sum_of chains (map (parity mesh) walks))
+sum_from_total mesh walks (faces, is) = (faces, λ e l. sym (totals_are_sums mesh walks e) ∙ is e l)
+
+pub total_from_sum : (mesh : Mesh) (walks : List (List ℕ)) →
+    IsBoundary mesh (sum_of chains (map (parity mesh) walks)) → IsBoundary mesh (total_parity mesh walks)
+total_from_sum mesh walks (faces, is) = (faces, λ e l. totals_are_sums mesh walks e ∙ is e l)

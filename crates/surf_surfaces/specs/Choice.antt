@@ -1,13 +1,12 @@
 -- The one choice among ties: the loops at each base, and the basis and the cycle that are chosen from them.
-use Rattle.std.specs.Prelude.{◌≡◌, ℕ, suc, ◌<◌, Bool, false, MatchBool, ◌&&◌, ◌||◌, ◌==◌, nat_lt, List, [], length}
+use Rattle.std.specs.Prelude.{◌≡◌, ℕ, suc, ◌<◌, Bool, false, MatchBool, ◌&&◌, ◌||◌, ◌==◌, nat_lt, List, [], ◌∷◌, length}
 use Rattle.std.specs.Prelude.{map, take, flat_map, slice_index_or}
 use Rattle.std.specs.List.{range_with_len}
 use Rattle.surf_z2.specs.Order.{merge, sorted}
-use Rattle.surf_z2.specs.Space.{chains, chosen, difference, sum_of}
+use Rattle.surf_z2.specs.Space.{chosen}
 use Rattle.surf_graphs.specs.Trees.{Tree}
 use Rattle.surf_surfaces.specs.Mesh.{Mesh}
-use Rattle.surf_surfaces.specs.Walk.{parity}
-use Rattle.surf_surfaces.specs.Homology.{IsBoundary}
+use Rattle.surf_surfaces.specs.Homology.{IsBoundary, total_parity}
 use Rattle.surf_surfaces.specs.Loop.{loop_walk, loop_length}
 use Rattle.surf_surfaces.specs.ShortestTree.{IsShortestTree}
 use Rattle.surf_surfaces.specs.Cotree.{IsHeaviestCotree, left_edges}
@@ -61,11 +60,10 @@ loops_below mesh lengths trees bases =
 abbrev pub candidates : Mesh → List ℕ → (ℕ → Trees) → List Loop
 candidates mesh lengths trees = loops_below mesh lengths trees mesh.vertices
 
--- the parity of the walk, with those of some of the walks before it or of none, sums to a boundary
+-- the edges that the walk and some of those before it, or none, together run an odd number of times are a boundary
 abbrev pub DependsOn : Mesh → List (List ℕ) → List ℕ → Type 0
 DependsOn mesh before walk =
-    (choice : List Bool)
-    × IsBoundary mesh (difference (parity mesh walk) (sum_of chains (map (parity mesh) (chosen choice before))))
+    (choice : List Bool) × IsBoundary mesh (total_parity mesh (walk ∷ chosen choice before))
 
 -- the loop at a place depends on those before it
 abbrev pub DependsAt : Mesh → List Loop → ℕ → Loop → Type 0

@@ -1,25 +1,24 @@
 -- The heaviest tree of faces over the edges outside a tree of vertices, and the edges that are left.
 use Rattle.std.specs.Prelude.{◌≡◌, ◌≢◌, ℕ, ◌+◌, ◌<◌, Bool, IsTrue, false, not, ◌&&◌, ◌||◌, ◌==◌, nat_lt, List, filter}
 use Rattle.std.specs.List.{range_with_len}
-use Rattle.surf_z2.specs.Space.{Chain}
 use Rattle.surf_graphs.specs.Cells.{primal, dual, Split}
 use Rattle.surf_graphs.specs.Growth.{between}
-use Rattle.surf_graphs.specs.Trees.{Tree, IsTree, in_tree}
+use Rattle.surf_graphs.specs.Trees.{Tree, IsTree, leads_up}
 use Rattle.surf_surfaces.specs.Mesh.{Mesh}
 use Rattle.surf_surfaces.specs.Surface.{face_count, edge_count, faces_of, IsSurface}
 use Rattle.surf_surfaces.specs.Cells.{cells_of}
 use Rattle.surf_surfaces.specs.Loop.{loop_length}
 
 -- the edges between a vertex and its parent
-abbrev pub tree_edges : Mesh → Tree → Chain
-tree_edges mesh tree = in_tree (primal (cells_of mesh)) tree
+abbrev pub tree_edges : Mesh → Tree → ℕ → Bool
+tree_edges mesh tree e = leads_up mesh.vertices tree e
 
 -- the edges between a face and its parent
-abbrev pub cotree_edges : Mesh → Tree → Chain
-cotree_edges mesh cotree = in_tree (dual (cells_of mesh)) cotree
+abbrev pub cotree_edges : Mesh → Tree → ℕ → Bool
+cotree_edges mesh cotree e = leads_up (face_count mesh) cotree e
 
 -- whether the edge is in neither tree
-abbrev pub is_left : Mesh → Tree → Tree → Chain
+abbrev pub is_left : Mesh → Tree → Tree → ℕ → Bool
 is_left mesh tree cotree e = not (tree_edges mesh tree e) && not (cotree_edges mesh cotree e)
 
 -- the edges in neither tree, increasing

@@ -3,25 +3,29 @@ use Rattle.std.specs.Prelude.{◌≡◌, ℕ, ◌+◌, ◌<◌, ◌≤◌, Bool,
 use Rattle.surf_surfaces.specs.Mesh.{Mesh}
 use Rattle.surf_surfaces.specs.Surface.{face_count, edge_count, faces_of}
 use Rattle.surf_surfaces.specs.Walk.{IsClosed, IsClosedAt, walk_length, parity}
-use Rattle.surf_z2.specs.Parity.{xor}
-use Rattle.surf_z2.specs.Space.{Chain, chains, chosen, sum_of}
+use Rattle.surf_z2.specs.Parity.{xor, odd}
+use Rattle.surf_z2.specs.Space.{chosen}
 
 -- whether exactly one of the two faces of the e-th edge is in the set
-abbrev pub boundary : Mesh → (ℕ → Bool) → Chain
+abbrev pub boundary : Mesh → (ℕ → Bool) → ℕ → Bool
 boundary mesh faces e = xor (faces (faces_of mesh e).0) (faces (faces_of mesh e).1)
 
 -- a set of edges that is the boundary of some set of faces
-abbrev pub IsBoundary : Mesh → Chain → Type 0
+abbrev pub IsBoundary : Mesh → (ℕ → Bool) → Type 0
 IsBoundary mesh chain = (faces : ℕ → Bool) × ((e : ℕ) → e < edge_count mesh → chain e ≡ boundary mesh faces e)
 
 -- a closed walk is null where the edges that it runs an odd number of times are a boundary
 abbrev pub IsNull : Mesh → List ℕ → Type 0
 IsNull mesh walk = IsBoundary mesh (parity mesh walk)
 
--- no sum of the parities of one or more of the walks is a boundary
+-- whether the walks together run the e-th edge an odd number of times
+abbrev pub total_parity : Mesh → List (List ℕ) → ℕ → Bool
+total_parity mesh walks e = odd (map (λ walk. parity mesh walk e) walks)
+
+-- the edges that one or more of the walks together run an odd number of times are never a boundary
 abbrev pub IsIndependent : Mesh → List (List ℕ) → Type 0
-IsIndependent mesh walks = (choice : List Bool) →
-    IsBoundary mesh (sum_of chains (map (parity mesh) (chosen choice walks))) → chosen choice walks ≡ []
+IsIndependent mesh walks =
+    (choice : List Bool) → IsBoundary mesh (total_parity mesh (chosen choice walks)) → chosen choice walks ≡ []
 
 -- as many as 2 − χ
 abbrev pub IsLoopCount : Mesh → ℕ → Type 0

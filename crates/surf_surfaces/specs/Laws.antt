@@ -1,13 +1,13 @@
 -- What holds of every mesh, face and surface.
-use Rattle.std.specs.Prelude.{◌≡◌, ◌≢◌, ℕ, ◌*◌, ◌<◌, ◌↔◌, ◌==◌, Bool, true, false, ◌&&◌, List, ◌∷◌, ◌++◌, length, All}
+use Rattle.std.specs.Prelude.{◌≡◌, ◌≢◌, ℕ, ◌*◌, ◌<◌, ◌↔◌, ◌==◌, Bool, true, false, ◌&&◌, List, ◌∷◌, ◌++◌, length, map, All}
 use Rattle.std.specs.Prelude.{AllPairs, Contains, ◌⊎◌, count_by, sum_by}
 use Rattle.surf_z2.specs.Parity.{xor, odd_below, count_below, sum_below}
-use Rattle.surf_z2.specs.Space.{Chain, difference}
+use Rattle.surf_z2.specs.Space.{Chain, chains, difference, sum_of}
 use Rattle.surf_surfaces.specs.Mesh.{Mesh, IsMesh, IsFace, sides, pair_of, pair_lt, edges}
 use Rattle.surf_surfaces.specs.Surface.{face_count, edge_count, face_at, ends, touches, borders, faces_with, faces_of}
 use Rattle.surf_surfaces.specs.Surface.{HasCorner, HasEdge, IsSurface}
 use Rattle.surf_surfaces.specs.Walk.{IsClosed, edge_number, last, parity}
-use Rattle.surf_surfaces.specs.Homology.{boundary, IsBoundary}
+use Rattle.surf_surfaces.specs.Homology.{boundary, IsBoundary, total_parity}
 use Rattle.surf_surfaces.specs.Distance.{LeadsFrom}
 
 -- Edges are strictly in order, by first end and then by second.
@@ -113,3 +113,8 @@ BoundariesAdd = (mesh : Mesh) (a b : Chain) → IsBoundary mesh a → IsBoundary
 abbrev pub ParitiesAdd : Type 0
 ParitiesAdd = (mesh : Mesh) (u : ℕ) (walk more : List ℕ) (e : ℕ) → parity mesh (u ∷ (walk ++ more)) e
     ≡ xor (parity mesh (u ∷ walk) e) (parity mesh (last (u ∷ walk) ∷ more) e)
+
+-- The edges that walks together run an odd number of times are the sum of their parities.
+abbrev pub TotalsAreSums : Type 0
+TotalsAreSums = (mesh : Mesh) (walks : List (List ℕ)) (e : ℕ) →
+    total_parity mesh walks e ≡ sum_of chains (map (parity mesh) walks) e

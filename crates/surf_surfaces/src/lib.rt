@@ -47,7 +47,7 @@ ghost use Rattle.surf_surfaces.specs.Laws.{EdgesHaveTwoFaces, SidesDiffer, Corne
 ghost use Rattle.surf_surfaces.specs.Laws.{FaceMeetsVertices, VerticesAreJoined, ClosedWalksAreEven};
 ghost use Rattle.surf_surfaces.specs.Laws.{BoundariesAreEven, SizesAreTwiceEdges};
 ghost use Rattle.surf_surfaces.specs.Laws.{EdgesAreAsManyAsCorners, OnlyAllOrNoneIsClosed};
-ghost use Rattle.surf_surfaces.specs.Laws.{BoundariesAdd, ParitiesAdd};
+ghost use Rattle.surf_surfaces.specs.Laws.{BoundariesAdd, ParitiesAdd, TotalsAreSums};
 ghost use Rattle.surf_surfaces.specs.Mesh.{Mesh, IsMesh, edges, characteristic, tetrahedron};
 ghost use Rattle.surf_surfaces.specs.SmallMeshes.{three_torus, three_torus_edges};
 ghost use Rattle.surf_surfaces.specs.SmallMeshes.{three_torus_lengths, six_plane, six_plane_edges};
@@ -127,6 +127,7 @@ pub fn law_of_sums()
     ensures closed { OnlyAllOrNoneIsClosed }
     ensures boundaries { BoundariesAdd }
     ensures walks { ParitiesAdd }
+    ensures totals { TotalsAreSums }
 {}
 
 /// A surface is a cell complex: two connected graphs over one list of edges, its vertices and its
