@@ -55,17 +55,17 @@ module _ (mesh : Mesh) (lengths : List ℕ) (base : ℕ) (a b : Trees) (surface 
   way_same zero n e l = refl
   way_same (suc steps) n e l = elim (cases_eq n 0) [
     | inl is ↦
-        let one : eqb n a.cotree.root ≡ true = eq-eqb n a.cotree.root (is ∙ sym x.heaviest.root) in
-        let two : eqb n b.cotree.root ≡ true = eq-eqb n b.cotree.root (is ∙ sym y.heaviest.root) in
+        let one : eqb n a.cotree.root ≡ true = eq-eqb n a.cotree.root (is ∙ sym x.heaviest.joins_faces.root) in
+        let two : eqb n b.cotree.root ≡ true = eq-eqb n b.cotree.root (is ∙ sym y.heaviest.joins_faces.root) in
         rw (one, two) refl
     | inr ne ↦
         let c = cotrees_same mesh lengths base a b surface positive x y in
-        let one : eqb n a.cotree.root ≡ false = ne_eqb n a.cotree.root (λ is. ne (is ∙ x.heaviest.root)) in
-        let two : eqb n b.cotree.root ≡ false = ne_eqb n b.cotree.root (λ is. ne (is ∙ y.heaviest.root)) in
+        let one : eqb n a.cotree.root ≡ false = ne_eqb n a.cotree.root (λ is. ne (is ∙ x.heaviest.joins_faces.root)) in
+        let two : eqb n b.cotree.root ≡ false = ne_eqb n b.cotree.root (λ is. ne (is ∙ y.heaviest.joins_faces.root)) in
         let parents : a.cotree.parent n ≡ b.cotree.parent n = c.parents n l ne in
         let ups : a.cotree.up n ≡ b.cotree.up n = c.ups n l ne in
         let rest = way_same steps (a.cotree.parent n) e
-        (x.heaviest.joins_faces.parent_in n l (λ is. ne (is ∙ x.heaviest.root))) in
+        (x.heaviest.joins_faces.spans.parent_in n l (λ is. ne (is ∙ x.heaviest.joins_faces.root))) in
         rw (one, two, ← parents, ← ups, rest) refl
   ]
 

@@ -1,7 +1,7 @@
 -- What the tables of a desk hold.
-use Rattle.std.proofs.Common.{ℕ, zero, suc, ◌<◌, ◌≤◌, ◌≡◌, ◌≢◌, ◌+◌, ◌⊎◌, refl, sym, ap, ◌∙◌, subst, arith, inl, inr, List, [], ◌∷◌, length, filter, get_or, Bool, true, false, cond, not, ◌&&◌, eqb, eq-eqb, ne_eqb, Some, None}
-use Rattle.std.specs.List.{range_with_len, AllByRecursion}
-use Rattle.std.proofs.lemmas.Bool.{cases_eq, cases_Bool, false≢true, not-true, and_parts}
+use Rattle.std.proofs.Common.{ℕ, ◌<◌, ◌≤◌, ◌≡◌, ◌≢◌, ◌+◌, ◌⊎◌, refl, sym, ap, ◌∙◌, subst, arith, inl, inr, List, length, filter, get_or, Bool, true, false, cond, not, ◌&&◌, eqb, eq-eqb, ne_eqb, Some, None}
+use Rattle.std.specs.List.{range_with_len}
+use Rattle.std.proofs.lemmas.Bool.{cases_eq, not-true, and_parts}
 use Rattle.std.proofs.lemmas.Bool.Decides.{nat_tests}
 use Rattle.surf_z2.specs.Parity.{any_below}
 use Rattle.surf_z2.proofs.ParityLaws.{any_below-same}
@@ -17,19 +17,12 @@ use Rattle.surf_surfaces.specs.Cells.{cells_of}
 use Rattle.surf_surfaces.specs.Loop.{loop_length}
 use Rattle.surf_surfaces.specs.Cotree.{tree_edges, cotree_edges, is_left, left_edges, split_of, precedes, IsHeaviestCotree}
 use Rattle.surf_surfaces.proofs.CellLaws.{surfaces_are_cells}
-use Rattle.surf_surfaces.proofs.CotreeLaws.{passing_climb, climbs_order, passing_each, passing_found, not-false_is, between_inside}
+use Rattle.surf_surfaces.proofs.CotreeLaws.{trees_split, not-false_is, between_inside}
 use Rattle.surf_base.specs.Tables.{nobody, at}
 use Rattle.surf_cotree.specs.Tables.{CotreeTables, cotree_of, AreCotreeTables, split_with, width_for}
 use Rattle.surf_cotree.specs.Searches.{outside, is_unmarked, IsHeaviestTree}
 use Rattle.surf_cotree.proofs.Growing.{Connects}
 use Rattle.surf_cotree.specs.Grown.{IsMarked, MarkTree, AreLoopLengths, IsGrown, IsGrownOn}
-
--- ---- numbers that pass a test
-
-all_at : (P : ℕ → Type 0) (xs : List ℕ) (k : ℕ) → AllByRecursion P xs → k < length xs → P (get_or xs k 0)
-all_at P [] k h l = absurd (omega arith)
-all_at P (x ∷ xs) zero h l = h.0
-all_at P (x ∷ xs) (suc k) h l = all_at P xs k h.1 (omega arith)
 
 -- ---- a grown desk
 
@@ -82,41 +75,17 @@ module _ (mesh : Mesh) (marks : List Bool) (weight : ℕ → ℕ) (t : CotreeTab
     left_is = w.listed ∙ passing_same (is_unmarked marks t.held) (is_left mesh tree (cotree_of t)) 0 (edge_count mesh)
         (λ e l. let le : e < edge_count mesh = omega arith in rw (m.marks_are e le, holds e le))
 
-    left_each : (k : ℕ) → k < length (left_edges mesh tree (cotree_of t)) →
-        (get_or (left_edges mesh tree (cotree_of t)) k 0 < edge_count mesh)
-        × (tree_edges mesh tree (get_or (left_edges mesh tree (cotree_of t)) k 0) ≡ false)
-        × (cotree_edges mesh (cotree_of t) (get_or (left_edges mesh tree (cotree_of t)) k 0) ≡ false)
-    left_each k l =
-        let e = get_or (left_edges mesh tree (cotree_of t)) k 0 in
-        let is = all_at (λ x. (x < 0 + edge_count mesh) × (is_left mesh tree (cotree_of t) x ≡ true))
-        (left_edges mesh tree (cotree_of t)) k (passing_each (is_left mesh tree (cotree_of t)) 0 (edge_count mesh)) l in
-        let both = and_parts (not (tree_edges mesh tree e)) (not (cotree_edges mesh (cotree_of t) e)) is.1 in (
-          omega (arith, is.0),
-          not-false_is (tree_edges mesh tree e) both.0,
-          not-false_is (cotree_edges mesh (cotree_of t) e) both.1,
-        )
-
     split_is : IsSplit (cells_of mesh) (split_of mesh tree (cotree_of t))
-    split_is = record {
-      tree_is = m.spans;
-      cotree_is = w.heavy.tree;
-      apart = λ e l on. elim (cases_Bool (cotree_edges mesh (cotree_of t) e)) [
-        | inl other ↦ absurd (false≢true (sym (apart e l other) ∙ on))
-        | inr none ↦ none
-      ];
-      left_rises = λ i j h l. climbs_order 0 (left_edges mesh tree (cotree_of t)) (passing_climb (is_left mesh tree (cotree_of t)) 0 (edge_count mesh)) i j h l;
-      left_in = λ k l. (left_each k l).0;
-      left_outside = λ k l. (left_each k l).1;
-      left_outside_dual = λ k l. (left_each k l).2;
-      left_whole = λ e l no_tree no_cotree. passing_found (is_left mesh tree (cotree_of t)) 0 (edge_count mesh) e (omega arith) (omega arith) (rw (no_tree, no_cotree) refl);
-    }
+    split_is = trees_split mesh tree (cotree_of t) m.spans w.heavy.tree apart
 
     heaviest_is : (lengths : List ℕ) → AreLoopLengths mesh lengths tree weight → IsHeaviestCotree mesh lengths tree (cotree_of t)
     heaviest_is lengths loops = record {
-      root = refl;
-      joins_faces = w.heavy.tree;
-      root_depth = w.heavy.root_rank;
-      depths = λ f l ne. let d = w.heavy.deep f l ne in omega (arith, d);
+      joins_faces = record {
+        root = refl;
+        spans = w.heavy.tree;
+        root_depth = w.heavy.root_rank;
+        depths = λ f l ne. let d = w.heavy.deep f l ne in omega (arith, d);
+      };
       outside = λ e l on. apart e l on;
       heaviest = λ l k l_in left on.
           let g = dual (cells_of mesh) in

@@ -1,6 +1,6 @@
 -- The premises of the laws are met: a one-sided surface, and a turning of a torus.
-use Rattle.std.specs.Prelude.{◌≡◌, ◌≢◌, ℕ, ◌<◌, false, List, [], ◌∷◌, pos}
-use Rattle.std.proofs.Common.{zero, suc, refl, arith, AllPairs, Contains, length}
+use Rattle.std.specs.Prelude.{◌≡◌, ℕ, ◌<◌, false, [], ◌∷◌, pos}
+use Rattle.std.proofs.Common.{zero, suc, refl, arith, Contains, length}
 use Rattle.std.proofs.lemmas.List.Elements.{All-from_recursion}
 use Rattle.surf_surfaces.specs.Joined.{Joined, here, over}
 use Rattle.surf_surfaces.specs.Mesh.{IsMesh, IsFace, pair, steps, characteristic}

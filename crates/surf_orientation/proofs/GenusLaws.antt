@@ -1,8 +1,8 @@
 -- Euler characteristics: at most 2, and even where there is a turning.
 use Rattle.std.proofs.Common.{◌≡◌, ℕ, zero, suc, subst, ◌+◌, ◌-◌, ◌*◌, ◌<◌, ◌≤◌, true, refl, sym, ◌∙◌, ap, arith, inl, length}
 use Rattle.std.proofs.lemmas.Bool.{lt-ltb}
-use Rattle.std.specs.Prelude.{pos, negsuc, ◌+ℤ◌, ◌-ℤ◌, ◌≤ℤ◌}
-use Rattle.std.proofs.Math.IntN.{neg_ℤ, +ℤ_assoc, +ℤ_comm, pos-+ℤ-pos, +ℤ-neg_ℤ_cancel}
+use Rattle.std.specs.Prelude.{pos, negsuc, ◌-ℤ◌, ◌≤ℤ◌}
+use Rattle.std.proofs.Math.IntN.{+ℤ_comm, +ℤ-neg_ℤ_cancel}
 use Rattle.surf_graphs.proofs.Counting.{left_edges}
 use Rattle.surf_graphs.proofs.HeaviestTrees.{heaviest_tree}
 use Rattle.surf_surfaces.specs.Mesh.{Mesh, characteristic}
@@ -10,7 +10,7 @@ use Rattle.surf_surfaces.specs.Surface.{face_count, edge_count, IsSurface}
 use Rattle.surf_surfaces.specs.Cells.{cells_of}
 use Rattle.surf_surfaces.proofs.ClassLaws.{some_split}
 use Rattle.surf_surfaces.proofs.EulerSums.{less_two}
-use Rattle.surf_orientation.specs.Statements.{CountsAreEven, SurfacesHaveSplits, CharacteristicsAreAtMostTwo, CountsAreAtMostTwoMore, genus_of, GenusIsHalf, GenusIsFullCount, LeftEdgesAreTwiceGenus, ConnectedGraphsHaveTrees}
+use Rattle.surf_orientation.specs.Statements.{CountsAreEven, SurfacesHaveSplits, CharacteristicsAreAtMostTwo, CountsAreAtMostTwoMore, genus_of, GenusIsHalf, GenusIsLoopCount, LeftEdgesAreTwiceGenus, ConnectedGraphsHaveTrees}
 use Rattle.surf_orientation.proofs.VertexLaws.{total_even}
 
 pub counts_are_even : CountsAreEven
@@ -58,15 +58,15 @@ characteristics_are_at_most_two mesh surface =
     subst (λ x. x ≤ℤ pos 2) (sym (characteristic_is mesh surface))
     (at_most_two ((edge_count mesh + 2) - (mesh.vertices + face_count mesh)))
 
-pub genus_is_full_count : GenusIsFullCount
-genus_is_full_count mesh turned surface turning =
+pub genus_is_loop_count : GenusIsLoopCount
+genus_is_loop_count mesh turned surface turning =
     let few = counts_are_at_most_two_more mesh surface in
     let (k, even) = total_even mesh surface turned turning in
     omega (arith, few, even)
 
 pub genus_is_half : GenusIsHalf
 genus_is_half mesh turned surface turning =
-    let count = genus_is_full_count mesh turned surface turning in
+    let count = genus_is_loop_count mesh turned surface turning in
     let g = 2 * genus_of mesh in
     let two = less_two mesh.vertices (edge_count mesh) (face_count mesh) g (omega (arith, count)) in
     sym (+ℤ-neg_ℤ_cancel (pos g) (characteristic mesh)) ∙ ap (λ x. x -ℤ characteristic mesh)
@@ -75,7 +75,7 @@ genus_is_half mesh turned surface turning =
 pub left_edges_are_twice_genus : LeftEdgesAreTwiceGenus
 left_edges_are_twice_genus mesh turned d surface turning split =
     let count : 2 * genus_of mesh + mesh.vertices + face_count mesh ≡ edge_count mesh + 2 =
-    genus_is_full_count mesh turned surface turning in
+    genus_is_loop_count mesh turned surface turning in
     let left : length d.left + (mesh.vertices + face_count mesh) ≡ edge_count mesh + 2 =
     left_edges (cells_of mesh) d split in
     omega (arith, count, left)

@@ -55,8 +55,8 @@ GenusIsHalf = (mesh : Mesh) (turned : ℕ → Bool) → IsSurface mesh → IsOri
     pos (2 * genus_of mesh) ≡ pos 2 -ℤ characteristic mesh
 
 -- With a turning, twice the genus is 2 − χ, in natural numbers.
-abbrev pub GenusIsFullCount : Type 0
-GenusIsFullCount = (mesh : Mesh) (turned : ℕ → Bool) → IsSurface mesh → IsOrientation mesh turned →
+abbrev pub GenusIsLoopCount : Type 0
+GenusIsLoopCount = (mesh : Mesh) (turned : ℕ → Bool) → IsSurface mesh → IsOrientation mesh turned →
     IsLoopCount mesh (2 * genus_of mesh)
 
 -- Each split of a surface with a turning leaves twice the genus of edges.

@@ -21,7 +21,7 @@
 ghost use Rattle.surf_orientation.specs.Statements.{NamedRoundsAreEven, CountsAreEven};
 ghost use Rattle.surf_orientation.specs.Statements.{ConnectedGraphsHaveTrees, SurfacesHaveSplits};
 ghost use Rattle.surf_orientation.specs.Statements.{CharacteristicsAreAtMostTwo, CountsAreAtMostTwoMore};
-ghost use Rattle.surf_orientation.specs.Statements.{GenusIsHalf, GenusIsFullCount};
+ghost use Rattle.surf_orientation.specs.Statements.{GenusIsHalf, GenusIsLoopCount};
 ghost use Rattle.surf_orientation.specs.Statements.{LeftEdgesAreTwiceGenus, OrientationsFit};
 ghost use Rattle.surf_orientation.specs.Statements.{MisfitsAreOneSided, SurfacesAreTwoSidedOrOneSided};
 ghost use Rattle.surf_orientation.specs.Statements.{MisfitsAreEven, TwoSidedWhereMisfitsAreBoundary};
@@ -52,7 +52,7 @@ pub fn law_of_splits()
 pub fn law_of_genus()
     ensures even { CountsAreEven }
     ensures half { GenusIsHalf }
-    ensures full { GenusIsFullCount }
+    ensures loops { GenusIsLoopCount }
     ensures left { LeftEdgesAreTwiceGenus }
 {}
 

@@ -108,25 +108,25 @@ module _ (mesh : Mesh) (lengths : List ℕ) (surface : IsSurface mesh) (positive
 
     depth_few : (f : ℕ) → f < face_count mesh → cotree.rank f < face_count mesh
     depth_few f l =
-        let none : cotree.rank cotree.root ≡ 0 = ap cotree.rank chosen.heaviest.root ∙ chosen.heaviest.root_depth in
-        let bound = ranks_fit (dual (cells_of mesh)) cotree 1 chosen.heaviest.joins_faces none
+        let none : cotree.rank cotree.root ≡ 0 = ap cotree.rank chosen.heaviest.joins_faces.root ∙ chosen.heaviest.joins_faces.root_depth in
+        let bound = ranks_fit (dual (cells_of mesh)) cotree 1 chosen.heaviest.joins_faces.spans none
         (λ n n_in ne.
-        let deeper = chosen.heaviest.depths n n_in (λ z. ne (z ∙ sym chosen.heaviest.root)) in
+        let deeper = chosen.heaviest.joins_faces.depths n n_in (λ z. ne (z ∙ sym chosen.heaviest.joins_faces.root)) in
         omega (arith, deeper)) f l in
         omega (arith, bound)
 
     row_fits : (f : ℕ) → f < face_count mesh → IsFaceRow (cotree.rank f, side_in mesh cotree f)
     row_fits f l = elim (cases_eq f cotree.root) [
       | inl same ↦ rw (eq-eqb f cotree.root same)
-          (ap cotree.rank (same ∙ chosen.heaviest.root) ∙ chosen.heaviest.root_depth)
+          (ap cotree.rank (same ∙ chosen.heaviest.joins_faces.root) ∙ chosen.heaviest.joins_faces.root_depth)
       | inr ne ↦
-          let deeper = chosen.heaviest.depths f l (λ z. ne (z ∙ sym chosen.heaviest.root)) in
+          let deeper = chosen.heaviest.joins_faces.depths f l (λ z. ne (z ∙ sym chosen.heaviest.joins_faces.root)) in
           let few = depth_few f l in
           let most = numbers.faces in
           rw (ne_eqb f cotree.root ne) (
             omega (arith, deeper),
             omega (arith, few, most),
-            ends_fit (cotree.up f) (chosen.heaviest.joins_faces.up_in f l ne),
+            ends_fit (cotree.up f) (chosen.heaviest.joins_faces.spans.up_in f l ne),
           )
     ]
 

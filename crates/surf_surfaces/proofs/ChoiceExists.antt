@@ -55,8 +55,8 @@ heaviest_exists mesh lengths tree surface is_tree =
     (λ e. not (tree_edges mesh tree e)) 0 surface.some_face cells.dual_ends
     (λ set stays. outside_joins s cells tree is_tree set (λ e l out. stays e l (ap not out))) in (
       found.tree,
-      heavy_cotrees_are_heaviest mesh lengths tree found.tree surface found.at_root found.is found.root_depth
-          found.depths
+      heavy_cotrees_are_heaviest mesh lengths tree found.tree surface
+          (record { root = found.at_root; spans = found.is; root_depth = found.root_depth; depths = found.depths })
           (λ f l ne. not-false_is (tree_edges mesh tree (found.tree.up f)) (found.over f l ne))
           (λ l c l_in out on. found.heavy l c l_in (ap not out) on),
     )

@@ -97,7 +97,8 @@ pub not-false_is : (b : Bool) → not b ≡ true → b ≡ false
 not-false_is true h = absurd (false≢true h)
 not-false_is false h = refl
 
-module _ (mesh : Mesh) (lengths : List ℕ) (tree cotree : Tree) (heavy : IsHeaviestCotree mesh lengths tree cotree) where
+module _ (mesh : Mesh) (tree cotree : Tree) where
+  -- a left edge is in neither tree
   pub left_each : (k : ℕ) → k < length (left_edges mesh tree cotree) →
       (get_or (left_edges mesh tree cotree) k 0 < edge_count mesh)
       × (tree_edges mesh tree (get_or (left_edges mesh tree cotree) k 0) ≡ false)
@@ -112,12 +113,15 @@ module _ (mesh : Mesh) (lengths : List ℕ) (tree cotree : Tree) (heavy : IsHeav
         not-false_is (cotree_edges mesh cotree e) both.1,
       )
 
-  pub is_split : IsTree (primal (cells_of mesh)) tree → IsSplit (cells_of mesh) (split_of mesh tree cotree)
-  is_split is_tree = record {
+  -- two trees that share no edge, and the edges in neither, are a split
+  pub trees_split : IsTree (primal (cells_of mesh)) tree → IsTree (dual (cells_of mesh)) cotree →
+      ((e : ℕ) → e < edge_count mesh → cotree_edges mesh cotree e ≡ true → tree_edges mesh tree e ≡ false) →
+      IsSplit (cells_of mesh) (split_of mesh tree cotree)
+  trees_split is_tree is_cotree outside = record {
     tree_is = is_tree;
-    cotree_is = heavy.joins_faces;
+    cotree_is = is_cotree;
     apart = λ e l on. false_from_ne_true (cotree_edges mesh cotree e)
-        (λ other. false≢true (sym (heavy.outside e l other) ∙ on));
+        (λ other. false≢true (sym (outside e l other) ∙ on));
     left_rises = λ i j h l. climbs_order 0 (left_edges mesh tree cotree)
         (passing_climb (is_left mesh tree cotree) 0 (edge_count mesh)) i j h l;
     left_in = λ k l. (left_each k l).0;
@@ -127,12 +131,16 @@ module _ (mesh : Mesh) (lengths : List ℕ) (tree cotree : Tree) (heavy : IsHeav
         (omega arith) (rw (no_tree, no_cotree) refl);
   }
 
+module _ (mesh : Mesh) (lengths : List ℕ) (tree cotree : Tree) (heavy : IsHeaviestCotree mesh lengths tree cotree) where
+  pub is_split : IsTree (primal (cells_of mesh)) tree → IsSplit (cells_of mesh) (split_of mesh tree cotree)
+  is_split is_tree = trees_split mesh tree cotree is_tree heavy.joins_faces.spans heavy.outside
+
   precedes_below : (weight : ℕ → ℕ) (a b : ℕ) → precedes weight a b ≡ true → weight a ≤ weight b
   precedes_below weight a b h = grind (arith, nat_tests)
 
   pub is_heaviest : IsHeaviest (cells_of mesh) (edge_length lengths) (split_of mesh tree cotree)
   is_heaviest k e lk le on parted =
-      let is = left_each k lk in
+      let is = left_each mesh tree cotree k lk in
       let l = get_or (left_edges mesh tree cotree) k 0 in
       precedes_below (loop_length mesh lengths tree) l e (heavy.heaviest l e is.0 (rw (is.1, is.2) refl) parted)
 
@@ -180,12 +188,12 @@ inside_other mesh surface lengths tree a b is_tree x y c c_in on = elim (cases_B
       let (n, n_in, ne, is) = tree_edge g a c on in
       let parted : leaves g set c ≡ true =
       subst (λ e. leaves g (λ f. on_path a f e) e ≡ true) is
-      (leaves_path g a x.joins_faces n (a.up n) n_in ne ∙ eqb_same (a.up n)) in
+      (leaves_path g a x.joins_faces.spans n (a.up n) n_in ne ∙ eqb_same (a.up n)) in
       let (e, e_in, leaves_e, on_way) =
-      crossing g b y.joins_faces set (faces_of mesh c).0 (faces_of mesh c).1 faces.0 faces.1 parted in
+      crossing g b y.joins_faces.spans set (faces_of mesh c).0 (faces_of mesh c).1 faces.0 faces.1 parted in
       let e_faces = cells.dual_ends e e_in in
       let in_b : cotree_edges mesh b e ≡ true =
-      between_inside g b y.joins_faces (faces_of mesh c).0 (faces_of mesh c).1 e faces.0 faces.1 on_way in
+      between_inside g b y.joins_faces.spans (faces_of mesh c).0 (faces_of mesh c).1 e faces.0 faces.1 on_way in
       let other : e ≢ c = λ same. false≢true (sym out ∙ ap (cotree_edges mesh b) (sym same) ∙ in_b) in
       let not_in_a : cotree_edges mesh a e ≡ false =
       false_from_ne_true (cotree_edges mesh a e)
@@ -212,18 +220,18 @@ pub cotrees_are_one : CotreesAreOne
 cotrees_are_one mesh lengths tree a b surface is_tree x y =
     let g = dual (cells_of mesh) in
     let graph = (surfaces_are_cells mesh surface).complex.dual_ends in
-    let root : a.root ≡ b.root = x.root ∙ sym y.root in
+    let root : a.root ≡ b.root = x.joins_faces.root ∙ sym y.joins_faces.root in
     let edges = same_edges mesh lengths tree a b surface is_tree x y in
     let parents : (f : ℕ) → f < face_count mesh → f ≢ 0 → a.parent f ≡ b.parent f =
-    λ f l ne. parents_same g a b graph x.joins_faces y.joins_faces root edges f l (λ is. ne (is ∙ x.root)) in
+    λ f l ne. parents_same g a b graph x.joins_faces.spans y.joins_faces.spans root edges f l (λ is. ne (is ∙ x.joins_faces.root)) in
     record {
       edges = edges;
       parents = parents;
-      ups = λ f l ne. ups_same g a b graph x.joins_faces y.joins_faces root edges f l (λ is. ne (is ∙ x.root));
-      depths = down_tree g a x.joins_faces (λ f. a.rank f ≡ b.rank f)
-          (ap a.rank x.root ∙ x.root_depth ∙ sym y.root_depth ∙ ap b.rank (sym x.root)) (λ f l ne above.
-          let apart : f ≢ 0 = λ is. ne (is ∙ sym x.root) in
-          x.depths f l apart ∙ ap (λ n. n + 1) (above ∙ ap b.rank (parents f l apart)) ∙ sym (y.depths f l apart));
+      ups = λ f l ne. ups_same g a b graph x.joins_faces.spans y.joins_faces.spans root edges f l (λ is. ne (is ∙ x.joins_faces.root));
+      depths = down_tree g a x.joins_faces.spans (λ f. a.rank f ≡ b.rank f)
+          (ap a.rank x.joins_faces.root ∙ x.joins_faces.root_depth ∙ sym y.joins_faces.root_depth ∙ ap b.rank (sym x.joins_faces.root)) (λ f l ne above.
+          let apart : f ≢ 0 = λ is. ne (is ∙ sym x.joins_faces.root) in
+          x.joins_faces.depths f l apart ∙ ap (λ n. n + 1) (above ∙ ap b.rank (parents f l apart)) ∙ sym (y.joins_faces.depths f l apart));
     }
 
 -- ---- what makes a tree heaviest
@@ -232,19 +240,16 @@ precedes_from : (weight : ℕ → ℕ) (a b : ℕ) → a ≢ b → is_no_later w
 precedes_from weight a b ne h = grind (arith, nat_tests)
 
 pub heavy_cotrees_are_heaviest : HeavyCotreesAreHeaviest
-heavy_cotrees_are_heaviest mesh lengths tree cotree surface root is_tree root_depth depths over heavy = record {
-  root = root;
-  joins_faces = is_tree;
-  root_depth = root_depth;
-  depths = depths;
+heavy_cotrees_are_heaviest mesh lengths tree cotree surface joins_faces over heavy = record {
+  joins_faces = joins_faces;
   outside = λ e l on.
       let (f, f_in, ne, is) = tree_edge (dual (cells_of mesh)) cotree e on in
-      ap (tree_edges mesh tree) (sym is) ∙ over f f_in (λ z. ne (z ∙ sym root));
+      ap (tree_edges mesh tree) (sym is) ∙ over f f_in (λ z. ne (z ∙ sym joins_faces.root));
   heaviest = λ l c l_in left on.
       let faces = (surfaces_are_cells mesh surface).complex.dual_ends l l_in in
       let both = and_parts (not (tree_edges mesh tree l)) (not (cotree_edges mesh cotree l)) left in
       let c_in : cotree_edges mesh cotree c ≡ true =
-      between_inside (dual (cells_of mesh)) cotree is_tree (faces_of mesh l).0 (faces_of mesh l).1 c faces.0 faces.1 on
+      between_inside (dual (cells_of mesh)) cotree joins_faces.spans (faces_of mesh l).0 (faces_of mesh l).1 c faces.0 faces.1 on
       in
       let apart : l ≢ c = λ same. false≢true
       (sym (not-false_is (cotree_edges mesh cotree l) both.1) ∙ ap (cotree_edges mesh cotree) same ∙ c_in) in

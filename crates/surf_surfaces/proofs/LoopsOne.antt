@@ -55,10 +55,7 @@ module _ (mesh : Mesh) (lengths : List ℕ) (base : ℕ) (a b : Trees) (surface 
   -- the second cotree over the first tree
   over_first : IsHeaviestCotree mesh lengths a.tree b.cotree
   over_first = record {
-    root = y.heaviest.root;
     joins_faces = y.heaviest.joins_faces;
-    root_depth = y.heaviest.root_depth;
-    depths = y.heaviest.depths;
     outside = λ e l on. edges_same e ∙ y.heaviest.outside e l on;
     heaviest = λ l c l_in left on_way. heavy l c l_in left on_way;
   }
@@ -67,9 +64,9 @@ module _ (mesh : Mesh) (lengths : List ℕ) (base : ℕ) (a b : Trees) (surface 
       faces_in l c l_in on_way =
           let g = dual (cells_of mesh) in
           let both = (surfaces_are_cells mesh surface).complex.dual_ends l l_in in
-          let inside = between_inside g b.cotree y.heaviest.joins_faces (faces_of mesh l).0 (faces_of mesh l).1 c both.0 both.1 on_way in
+          let inside = between_inside g b.cotree y.heaviest.joins_faces.spans (faces_of mesh l).0 (faces_of mesh l).1 c both.0 both.1 on_way in
           let (f, f_in, ne, is) = tree_edge g b.cotree c inside in
-          subst (λ n. n < edge_count mesh) is (y.heaviest.joins_faces.up_in f f_in ne)
+          subst (λ n. n < edge_count mesh) is (y.heaviest.joins_faces.spans.up_in f f_in ne)
 
       heavy : (l c : ℕ) → l < edge_count mesh → is_left mesh a.tree b.cotree l ≡ true →
           between b.cotree (faces_of mesh l).0 (faces_of mesh l).1 c ≡ true → precedes (loop_length mesh lengths a.tree) l c ≡ true

@@ -33,14 +33,18 @@ split_of mesh tree cotree = record { tree = tree; cotree = cotree; left = left_e
 abbrev pub precedes : (ℕ → ℕ) → ℕ → ℕ → Bool
 precedes weight a b = nat_lt (weight a) (weight b) || ((weight a == weight b) && nat_lt a b)
 
--- a tree of all faces, rooted at face 0, over edges outside the tree of vertices. Each left edge
--- precedes, by the length of its loop and then by number, all edges on the way through the tree of faces
--- between its two faces
-pub record IsHeaviestCotree (mesh : Mesh) (lengths : List ℕ) (tree cotree : Tree) : Type 0 where
+-- a tree of all faces, rooted at face 0, with the depths of the faces as ranks
+pub record IsDepthTree (mesh : Mesh) (cotree : Tree) : Type 0 where
   pub root : cotree.root ≡ 0
-  pub joins_faces : IsTree (dual (cells_of mesh)) cotree
+  pub spans : IsTree (dual (cells_of mesh)) cotree
   pub root_depth : cotree.rank 0 ≡ 0
   pub depths : (f : ℕ) → f < face_count mesh → f ≢ 0 → cotree.rank f ≡ cotree.rank (cotree.parent f) + 1
+
+-- a tree of all faces, rooted at face 0 and ranked by depth, over edges outside the tree of vertices. Each
+-- left edge precedes, by the length of its loop and then by number, all edges on the way through the tree of
+-- faces between its two faces
+pub record IsHeaviestCotree (mesh : Mesh) (lengths : List ℕ) (tree cotree : Tree) : Type 0 where
+  pub joins_faces : IsDepthTree mesh cotree
   pub outside : (e : ℕ) → e < edge_count mesh → IsTrue (cotree_edges mesh cotree e) →
       tree_edges mesh tree e ≡ false
   pub heaviest : (l c : ℕ) → l < edge_count mesh → IsTrue (is_left mesh tree cotree l) →
@@ -70,8 +74,7 @@ is_no_later weight a b = not (precedes weight b a)
 abbrev pub HeavyCotreesAreHeaviest : Type 0
 HeavyCotreesAreHeaviest =
     (mesh : Mesh) (lengths : List ℕ) (tree cotree : Tree) → IsSurface mesh →
-    cotree.root ≡ 0 → IsTree (dual (cells_of mesh)) cotree → cotree.rank 0 ≡ 0 →
-    ((f : ℕ) → f < face_count mesh → f ≢ 0 → cotree.rank f ≡ cotree.rank (cotree.parent f) + 1) →
+    IsDepthTree mesh cotree →
     ((f : ℕ) → f < face_count mesh → f ≢ 0 → tree_edges mesh tree (cotree.up f) ≡ false) →
     ((l c : ℕ) → l < edge_count mesh → tree_edges mesh tree l ≡ false →
     IsTrue (between cotree (faces_of mesh l).0 (faces_of mesh l).1 c) →

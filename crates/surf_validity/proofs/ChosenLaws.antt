@@ -141,19 +141,19 @@ module _ (mesh : Mesh) (lengths : List ℕ) (base : ℕ) (trees : Trees) (surfac
   dual_row : (f : ℕ) → f < face_count mesh → IsDualRow mesh cert.dual f (side_at cert.dual f)
   dual_row f l = subst (IsDualRow mesh cert.dual f) (sym (side_is f l)) (elim (cases_eq f cotree.root) [
     | inl same ↦ rw (eq-eqb f cotree.root same)
-        (same ∙ chosen.heaviest.root, depth_is f l ∙ ap cotree.rank (same ∙ chosen.heaviest.root) ∙ chosen.heaviest.root_depth)
+        (same ∙ chosen.heaviest.joins_faces.root, depth_is f l ∙ ap cotree.rank (same ∙ chosen.heaviest.joins_faces.root) ∙ chosen.heaviest.joins_faces.root_depth)
     | inr ne ↦
-        let joins = chosen.heaviest.joins_faces in
+        let joins = chosen.heaviest.joins_faces.spans in
         let e = cotree.up f in
         let e_in = joins.up_in f l ne in
         let g = cotree.parent f in
-        let not_zero : f ≢ 0 = λ z. ne (z ∙ sym chosen.heaviest.root) in
+        let not_zero : f ≢ 0 = λ z. ne (z ∙ sym chosen.heaviest.joins_faces.root) in
         let two = two_faces_of mesh surface e e_in in
         let apart = (surfaces_are_cells mesh surface).faces_differ e e_in in
         let it = other_face f g (faces_of mesh e).0 (faces_of mesh e).1 (joins.up_joins f l ne) apart in
         let here : across mesh f (ends mesh e) ≡ g =
         ap (λ h. cond (eqb f (faces_of mesh h).0) (faces_of mesh h).1 (faces_of mesh h).0) (number_is e e_in) ∙ it.0 in
-        let below = chosen.heaviest.depths f l not_zero in
+        let below = chosen.heaviest.joins_faces.depths f l not_zero in
         rw (ne_eqb f cotree.root ne) (
           not_zero,
           ap (λ p. has_side p (face_at mesh f)) (ordered e e_in) ∙ two.no_other f ∙ it.1,
@@ -188,8 +188,8 @@ module _ (mesh : Mesh) (lengths : List ℕ) (base : ℕ) (trees : Trees) (surfac
   dual_up : (f : ℕ) → f < face_count mesh → f ≢ 0 →
       ((dual_tree mesh cert.dual).parent f ≡ cotree.parent f) × ((dual_tree mesh cert.dual).up f ≡ cotree.up f)
   dual_up f l ne =
-      let root : f ≢ cotree.root = λ z. ne (z ∙ chosen.heaviest.root) in
-      let joins = chosen.heaviest.joins_faces in
+      let root : f ≢ cotree.root = λ z. ne (z ∙ chosen.heaviest.joins_faces.root) in
+      let joins = chosen.heaviest.joins_faces.spans in
       let e = cotree.up f in
       let e_in = joins.up_in f l root in
       let side : side_at cert.dual f ≡ Some (ends mesh e) = side_is f l ∙ rw (ne_eqb f cotree.root root) refl in
@@ -209,8 +209,8 @@ module _ (mesh : Mesh) (lengths : List ℕ) (base : ℕ) (trees : Trees) (surfac
       each : (f : ℕ) → f < face_count mesh → (not (eqb f 0) && eqb ((dual_tree mesh cert.dual).up f) e)
           ≡ (not (eqb f cotree.root) && eqb (cotree.up f) e)
       each f f_in = elim (cases_eq f 0) [
-        | inl same ↦ rw (eq-eqb f 0 same, eq-eqb f cotree.root (same ∙ sym chosen.heaviest.root)) refl
-        | inr ne ↦ rw (ne_eqb f 0 ne, ne_eqb f cotree.root (λ z. ne (z ∙ chosen.heaviest.root)), (dual_up f f_in ne).1) refl
+        | inl same ↦ rw (eq-eqb f 0 same, eq-eqb f cotree.root (same ∙ sym chosen.heaviest.joins_faces.root)) refl
+        | inr ne ↦ rw (ne_eqb f 0 ne, ne_eqb f cotree.root (λ z. ne (z ∙ chosen.heaviest.joins_faces.root)), (dual_up f f_in ne).1) refl
       ]
 
   left_each : AllByRecursion (λ x. (x < 0 + edge_count mesh) × (is_left mesh tree cotree x ≡ true))
@@ -281,11 +281,11 @@ module _ (mesh : Mesh) (lengths : List ℕ) (base : ℕ) (trees : Trees) (surfac
 
   path_is : (f e : ℕ) → f < face_count mesh → on_path (dual_tree mesh cert.dual) f e ≡ on_path cotree f e
   path_is f e l =
-      ways_same (face_count mesh) (dual_tree mesh cert.dual) cotree (sym chosen.heaviest.root)
+      ways_same (face_count mesh) (dual_tree mesh cert.dual) cotree (sym chosen.heaviest.joins_faces.root)
       (λ n n_in ne.
       let it = dual_up n n_in ne in
-      let root : n ≢ cotree.root = λ z. ne (z ∙ chosen.heaviest.root) in
-      (subst (λ p. p < face_count mesh) (sym it.0) (chosen.heaviest.joins_faces.parent_in n n_in root), it.0, it.1))
+      let root : n ≢ cotree.root = λ z. ne (z ∙ chosen.heaviest.joins_faces.root) in
+      (subst (λ p. p < face_count mesh) (sym it.0) (chosen.heaviest.joins_faces.spans.parent_in n n_in root), it.0, it.1))
       (depth_at cert.dual f) f e l
       ∙ ap (λ k. on_way cotree k f e) (depth_is f l)
 

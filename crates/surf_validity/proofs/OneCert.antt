@@ -42,12 +42,12 @@ module _ (mesh : Mesh) (lengths : List ℕ) (base : ℕ) (a b : Trees) (surface 
 
   sides : (f : ℕ) → f < face_count mesh → side_in mesh a.cotree f ≡ side_in mesh b.cotree f
   sides f l =
-      let same = x.heaviest.root ∙ sym y.heaviest.root in
+      let same = x.heaviest.joins_faces.root ∙ sym y.heaviest.joins_faces.root in
       elim (cases_eq f a.cotree.root) [
         | inl is ↦ rw (eq-eqb f a.cotree.root is, eq-eqb f b.cotree.root (is ∙ same)) refl
         | inr ne ↦ rw (ne_eqb f a.cotree.root ne, ne_eqb f b.cotree.root (λ z. ne (z ∙ sym same)))
             (ap (λ e. Some (ends mesh e))
-            ((cotrees_same mesh lengths base a b surface positive x y).ups f l (λ z. ne (z ∙ sym x.heaviest.root))))
+            ((cotrees_same mesh lengths base a b surface positive x y).ups f l (λ z. ne (z ∙ sym x.heaviest.joins_faces.root))))
       ]
 
   lefts : left_edges mesh a.tree a.cotree ≡ left_edges mesh b.tree b.cotree

@@ -1,7 +1,7 @@
 -- The trees of a valid certificate and the edges in neither are a split, and the listed pairs are those edges.
-use Rattle.std.proofs.Common.{◌≡◌, ℕ, zero, suc, ◌+◌, ◌<◌, Bool, true, false, not, eqb, List, [], ◌∷◌, length, get_or, map, IsPermutation, refl, sym, ap, ◌∙◌, arith, inl, inr}
+use Rattle.std.proofs.Common.{◌≡◌, ℕ, ◌+◌, ◌<◌, Bool, true, false, not, eqb, List, [], ◌∷◌, length, get_or, map, IsPermutation, refl, sym, ap, ◌∙◌, arith, inl, inr}
 use Rattle.std.specs.List.{AllByRecursion, list_any}
-use Rattle.std.proofs.lemmas.Bool.{cases_Bool, or_right, and_parts, eq-eqb, false≢true}
+use Rattle.std.proofs.lemmas.Bool.{cases_Bool, or_right, and_parts, eq-eqb, false≢true, false_from_ne_true}
 use Rattle.std.proofs.lemmas.List.{length-map}
 use Rattle.surf_graphs.specs.Cells.{primal, dual, IsSplit}
 use Rattle.surf_graphs.specs.Trees.{Tree, IsTree}
@@ -14,7 +14,7 @@ use Rattle.surf_surfaces.specs.Cells.{cells_of}
 use Rattle.surf_surfaces.specs.Cotree.{tree_edges, cotree_edges, is_left, left_edges, split_of}
 use Rattle.surf_surfaces.proofs.PairLaws.{pair_eq-true}
 use Rattle.surf_surfaces.proofs.EdgeLaws.{place_of-ends}
-use Rattle.surf_surfaces.proofs.CotreeLaws.{passing_climb, climbs_order, passing_each, passing_found, not-false_is}
+use Rattle.surf_surfaces.proofs.CotreeLaws.{left_each, trees_split, passing_climb, passing_each, not-false_is}
 use Rattle.surf_validity.specs.Valid.{is_listed, just_one}
 use Rattle.surf_validity.proofs.ListLaws.{permuted_where_found}
 
@@ -36,39 +36,12 @@ else_third : (a b c : Bool) → just_one a b c ≡ true → a ≡ false → b �
 else_third a b c h no_a no_b = rw (no_a, no_b) at h
 
 module _ (mesh : Mesh) (tree cotree : Tree) (left : List (ℕ × ℕ)) (apart : AreApart mesh tree cotree left) where
-  left_each : (k : ℕ) → k < length (left_edges mesh tree cotree) →
-      (get_or (left_edges mesh tree cotree) k 0 < edge_count mesh)
-      × (tree_edges mesh tree (get_or (left_edges mesh tree cotree) k 0) ≡ false)
-      × (cotree_edges mesh cotree (get_or (left_edges mesh tree cotree) k 0) ≡ false)
-  left_each k l = each (left_edges mesh tree cotree) (passing_each (is_left mesh tree cotree) 0 (edge_count mesh)) k l
-    where
-      each : (xs : List ℕ) → AllByRecursion (λ x. (x < 0 + edge_count mesh) × (is_left mesh tree cotree x ≡ true)) xs →
-          (k : ℕ) → k < length xs → (get_or xs k 0 < edge_count mesh) × (tree_edges mesh tree (get_or xs k 0) ≡ false)
-          × (cotree_edges mesh cotree (get_or xs k 0) ≡ false)
-      each [] h k l = absurd (omega arith)
-      each (x ∷ xs) h zero l =
-          let both = and_parts (not (tree_edges mesh tree x)) (not (cotree_edges mesh cotree x)) h.0.1 in (
-            omega (arith, h.0.0),
-            not-false_is (tree_edges mesh tree x) both.0,
-            not-false_is (cotree_edges mesh cotree x) both.1,
-          )
-      each (x ∷ xs) h (suc k) l = each xs h.1 k (omega arith)
-
   pub is_split : IsTree (primal (cells_of mesh)) tree → IsTree (dual (cells_of mesh)) cotree →
       IsSplit (cells_of mesh) (split_of mesh tree cotree)
-  is_split is_tree is_cotree = record {
-    tree_is = is_tree;
-    cotree_is = is_cotree;
-    apart = λ e l on.
-        (just_first (tree_edges mesh tree e) (cotree_edges mesh cotree e) (is_listed mesh left e) (apart.one_of e l) on).0;
-    left_rises = λ i j h l. climbs_order 0 (left_edges mesh tree cotree)
-        (passing_climb (is_left mesh tree cotree) 0 (edge_count mesh)) i j h l;
-    left_in = λ k l. (left_each k l).0;
-    left_outside = λ k l. (left_each k l).1;
-    left_outside_dual = λ k l. (left_each k l).2;
-    left_whole = λ e l no_tree no_cotree. passing_found (is_left mesh tree cotree) 0 (edge_count mesh) e (omega arith)
-        (omega arith) (rw (no_tree, no_cotree) refl);
-  }
+  is_split is_tree is_cotree = trees_split mesh tree cotree is_tree is_cotree
+      (λ e l on. false_from_ne_true (tree_edges mesh tree e) (λ first. false≢true
+      (sym (just_first (tree_edges mesh tree e) (cotree_edges mesh cotree e) (is_listed mesh left e) (apart.one_of e l)
+      first).0 ∙ on)))
 
   -- a listed edge is the number of a listed pair
   number_listed : (e : ℕ) → e < edge_count mesh → (ps : List (ℕ × ℕ)) →
@@ -114,7 +87,7 @@ module _ (mesh : Mesh) (tree cotree : Tree) (left : List (ℕ × ℕ)) (apart : 
       × (is_listed mesh left (get_or (left_edges mesh tree cotree) k 0) ≡ true)
   left_listed k l =
       let e = get_or (left_edges mesh tree cotree) k 0 in
-      let is = left_each k l in (
+      let is = left_each mesh tree cotree k l in (
         is.0,
         else_third (tree_edges mesh tree e) (cotree_edges mesh cotree e) (is_listed mesh left e) (apart.one_of e is.0) is.1
             is.2,

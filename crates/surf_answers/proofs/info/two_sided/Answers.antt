@@ -2,7 +2,7 @@ use Rattle.std.proofs.Common.{◌*◌, subst, sym, arith, ℕ}
 use Rattle.std.proofs.lemmas.Grind.{common_steps}
 use Rattle.surf_check.specs.Growth.{flag_of}
 use Rattle.surf_surfaces.specs.Homology.{IsLoopCount}
-use Rattle.surf_orientation.proofs.GenusLaws.{genus_is_full_count}
+use Rattle.surf_orientation.proofs.GenusLaws.{genus_is_loop_count}
 use Rattle.surf_answers.specs.Info.{HasGenus}
 use Rattle.surf_answers.proofs.Saying.{ends_as}
 use Rattle.surf_answers.proofs.info.two_sided.Goals as goal
@@ -14,6 +14,6 @@ returns c =
       two_sided = (flag_of c.args.turning.now, c.requires);
       genus = c.surface_genus.result;
       twice = subst (λ (n : ℕ). IsLoopCount c.args.mesh.now (2 * n)) (sym c.surface_genus.ensures.is)
-          (genus_is_full_count c.args.mesh.now (flag_of c.args.turning.now) c.law_of_surface.ensures.surface c.requires);
+          (genus_is_loop_count c.args.mesh.now (flag_of c.args.turning.now) c.law_of_surface.ensures.surface c.requires);
       text = grind (arith, common_steps);
     })

@@ -1,6 +1,6 @@
 use Rattle.std.proofs.Common.{◌/◌, arith}
 use Rattle.std.proofs.lemmas.Grind.{common_steps}
-use Rattle.surf_orientation.proofs.GenusLaws.{genus_is_full_count}
+use Rattle.surf_orientation.proofs.GenusLaws.{genus_is_loop_count}
 use Rattle.surf_answers.specs.Info.{HasGenus}
 use Rattle.surf_answers.proofs.Saying.{ends_as}
 use Rattle.surf_answers.proofs.info.two_sided_kind.Goals as goal
@@ -16,7 +16,7 @@ returns c =
       twice = omega (
         arith,
         c.kind_loop_count.ensures.loops,
-        genus_is_full_count mesh c.requires.0 c.law_of_kind.ensures.surface c.requires.1,
+        genus_is_loop_count mesh c.requires.0 c.law_of_kind.ensures.surface c.requires.1,
       );
       text = grind (arith, common_steps);
     })
