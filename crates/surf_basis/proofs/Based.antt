@@ -22,7 +22,7 @@ use Rattle.surf_surfaces.specs.Loop.{loop_walk, loop_length}
 use Rattle.surf_surfaces.specs.Cotree.{is_left}
 use Rattle.surf_surfaces.specs.Choice.{Trees, AreChosen, Loop, comes_before, loop_at, loops_at}
 use Rattle.surf_surfaces.specs.FewBases.{place_at, comes_sooner, least_base}
-use Rattle.surf_surfaces.proofs.BasisLaws.{contains-map}
+use Rattle.surf_surfaces.proofs.CoveredLaws.{contains-map}
 use Rattle.surf_surfaces.proofs.ChoiceExists.{choice_exists}
 use Rattle.surf_surfaces.proofs.FewBasesLaws.{least_base_on_way}
 use Rattle.surf_surfaces.proofs.FirstCycleLaws.{shortest_trees}

@@ -21,7 +21,7 @@ use Rattle.surf_surfaces.specs.Choice.{Trees, AreChosen, Loop, comes_before, loo
 use Rattle.surf_surfaces.specs.FewBases.{AreBases}
 use Rattle.surf_surfaces.proofs.LeastLaws.{all_each}
 use Rattle.surf_surfaces.proofs.GreedyChoiceLaws.{greedy_is_choice}
-use Rattle.surf_surfaces.proofs.BasisLaws.{below_closed}
+use Rattle.surf_surfaces.proofs.CoveredLaws.{below_closed}
 use Rattle.surf_surfaces.proofs.LoopsAtLaws.{IsLoopAt, comes_before-trans, loops_each}
 use Rattle.surf_choice.specs.declared.candidate.Signed.{Signed}
 use Rattle.surf_choice.specs.Candidates.{signed_earlier, independent_of}

@@ -27,7 +27,7 @@ use Rattle.surf_surfaces.specs.Class.{class_of, AreShortestTrees}
 use Rattle.surf_surfaces.specs.Loop.{loop_walk, loop_length}
 use Rattle.surf_surfaces.specs.Choice.{Trees, AreChosen, Loop, candidates, DependsOn}
 use Rattle.surf_surfaces.specs.FewBases.{least_base, Place, is_no_later, place_at, Found, place_of_found, place_of_loop, is_within, walks_within, DependsAtPlace}
-use Rattle.surf_surfaces.proofs.BasisLaws.{walk_covered}
+use Rattle.surf_surfaces.proofs.CoveredLaws.{walk_covered}
 use Rattle.surf_surfaces.proofs.CandidateLaws.{IsLoopBelow, below_each}
 use Rattle.surf_surfaces.proofs.CellLaws.{surfaces_are_cells}
 use Rattle.surf_surfaces.proofs.ChoiceExists.{choice_exists}

@@ -6,7 +6,7 @@ use Rattle.surf_surfaces.specs.Mesh.{Mesh}
 use Rattle.surf_surfaces.specs.SideNumber.{side_count}
 use Rattle.surf_soup.specs.Ring.{IsRing}
 use Rattle.surf_soup.specs.Vertices.{sides_at}
-use Rattle.surf_soup.proofs.RingLaws.{at_begins, begins_at, at_rises}
+use Rattle.surf_soup.proofs.CornerSides.{at_begins, begins_at, at_rises}
 use Rattle.surf_base.specs.Tables.{nobody}
 use Rattle.surf_cutter.specs.Copies.{label_at, HaveOneLabel, IsRowAt, AreNumberedTo}
 use Rattle.surf_cutter.proofs.Numbered.{AreNumberedIn, numbered_start, numbered_done, numbered_again, numbered_new, place_few}

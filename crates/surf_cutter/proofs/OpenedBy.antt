@@ -11,7 +11,7 @@ use Rattle.surf_opening.specs.Opening.{ShareUncutAt, IsOpenedBy}
 use Rattle.surf_surfaces.specs.SideNumber.{side_count, first_side, IsFaceOf}
 use Rattle.surf_soup.specs.Vertices.{all_corners}
 use Rattle.surf_soup.proofs.HalfLaws.{spans}
-use Rattle.surf_soup.proofs.RingLaws.{one_corner}
+use Rattle.surf_soup.proofs.CornerSides.{one_corner}
 use Rattle.surf_soup.proofs.SideNumbers.{first_mono}
 use Rattle.surf_soup.proofs.VertexLaws.{IsPlaced, placed, corner_at_place}
 use Rattle.surf_slit.specs.Labels.{corner_at, IsUncut, AreLabels}

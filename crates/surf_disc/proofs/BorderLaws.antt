@@ -26,7 +26,7 @@ use Rattle.surf_soup.proofs.HalfLaws.{spans}
 use Rattle.surf_soup.proofs.Mates.{with_pair, with_rising}
 use Rattle.surf_soup.proofs.Owners.{faces_with-sides}
 use Rattle.surf_soup.proofs.Paired.{side_below}
-use Rattle.surf_soup.proofs.RingLaws.{at_begins, begins_at}
+use Rattle.surf_soup.proofs.CornerSides.{at_begins, begins_at}
 use Rattle.surf_soup.proofs.VertexLaws.{corners_below, corners_len}
 use Rattle.surf_disc.specs.Border.{with_end, border_ends, AreNeighbours, IsBorderMarked}
 use Rattle.surf_disc.specs.Links.{AreCornerTables}

@@ -14,8 +14,8 @@ use Rattle.surf_soup.specs.Vertices.{all_corners}
 use Rattle.surf_soup.proofs.HalfLaws.{face_of_side}
 use Rattle.surf_soup.proofs.SideNumbers.{pair_at_place, side_of_face, face_has_side, one_face}
 use Rattle.surf_soup.proofs.VertexLaws.{IsPlaced, placed}
-use Rattle.surf_soup.proofs.RingLaws.{face_placed, placed_face, placed_side, tail_at, same_place, one_corner}
-use Rattle.surf_soup.proofs.RingLaws.{turned_size}
+use Rattle.surf_soup.proofs.CornerSides.{face_placed, placed_face, placed_side, tail_at, same_place, one_corner}
+use Rattle.surf_soup.proofs.TurnedSides.{turned_size}
 use Rattle.surf_disc.specs.Links.{AreCornerTables, over_corner}
 
 -- the vertex where a side begins

@@ -10,7 +10,7 @@ use Rattle.surf_surfaces.specs.SideNumber.{IsFaceOf, side_count}
 use Rattle.surf_soup.specs.Reach.{marked}
 use Rattle.surf_soup.specs.Ring.{IsPinch, IsLeastPinch}
 use Rattle.surf_soup.specs.Vertices.{sides_at, AllMet}
-use Rattle.surf_soup.proofs.RingLaws.{at_begins, begins_at, at_faces, corner_begins, begins_corner, row_some}
+use Rattle.surf_soup.proofs.CornerSides.{at_begins, begins_at, at_faces, corner_begins, begins_corner, row_some}
 use Rattle.surf_disc.specs.Links.{AreFansMarked}
 use Rattle.surf_disc.proofs.CornerLaws.{face_of, own_face}
 

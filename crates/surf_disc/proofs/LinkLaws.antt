@@ -18,7 +18,7 @@ use Rattle.surf_soup.specs.Reach.{Leads, marked, IsReach}
 use Rattle.surf_soup.specs.Ring.{BeginsAt}
 use Rattle.surf_soup.specs.Vertices.{all_corners, sides_at, AllMet}
 use Rattle.surf_soup.proofs.Order.{by_key-length}
-use Rattle.surf_soup.proofs.RingLaws.{at_begins, row_some}
+use Rattle.surf_soup.proofs.CornerSides.{at_begins, row_some}
 use Rattle.surf_soup.proofs.SideNumbers.{one_face}
 use Rattle.surf_soup.proofs.VertexLaws.{at_len, at_is}
 use Rattle.surf_disc.specs.Links.{AreCornerTables, AreLinked, AreFirsts, AreFansMarked, over_corner}

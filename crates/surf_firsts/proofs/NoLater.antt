@@ -25,7 +25,7 @@ use Rattle.surf_surfaces.specs.Class.{class_of}
 use Rattle.surf_surfaces.specs.Loop.{loop_walk, loop_length}
 use Rattle.surf_surfaces.specs.Cotree.{is_left, left_edges, split_of, precedes}
 use Rattle.surf_surfaces.specs.Choice.{Trees, AreChosenAt, Loop, comes_before, walks, loop_at, loops_at, DependsOn}
-use Rattle.surf_surfaces.proofs.BasisLaws.{contains-map}
+use Rattle.surf_surfaces.proofs.CoveredLaws.{contains-map}
 use Rattle.surf_surfaces.proofs.CellLaws.{surfaces_are_cells}
 use Rattle.surf_surfaces.proofs.ClassLaws.{RunsLoop, runs_loop}
 use Rattle.surf_surfaces.proofs.GreedyChoiceLaws.{AreClosed, spanned_from_depends, depends_from_spanned}

@@ -22,7 +22,7 @@ use Rattle.surf_surfaces.specs.Class.{class_of, AreShortestTrees}
 use Rattle.surf_surfaces.specs.Loop.{loop_walk, loop_length}
 use Rattle.surf_surfaces.specs.Choice.{DependsOn}
 use Rattle.surf_surfaces.specs.FewBases.{Place, is_no_later, comes_sooner, place_at, least_base, Found, walks_found, with_vertex}
-use Rattle.surf_surfaces.proofs.BasisLaws.{contains-map}
+use Rattle.surf_surfaces.proofs.CoveredLaws.{contains-map}
 use Rattle.surf_surfaces.proofs.ChoiceExists.{choice_exists}
 use Rattle.surf_surfaces.proofs.FirstCycleLaws.{shortest_trees}
 use Rattle.surf_surfaces.proofs.OnTheWayLaws.{zero_distance}

@@ -27,7 +27,7 @@ use Rattle.surf_surfaces.specs.Class.{class_of, AreShortestTrees}
 use Rattle.surf_surfaces.specs.Loop.{loop_walk}
 use Rattle.surf_surfaces.specs.Choice.{DependsOn}
 use Rattle.surf_surfaces.specs.FewBases.{Place, place_at, Found, walks_found, IsFoundAt, IsFoundLoop, AreEnoughOf, AreEnough, AreFoundAt, IsFoundChoice, comes_no_later, every_place, with_vertex, IsWithin}
-use Rattle.surf_surfaces.proofs.BasisLaws.{contains-map}
+use Rattle.surf_surfaces.proofs.CoveredLaws.{contains-map}
 use Rattle.surf_surfaces.proofs.ChoiceExists.{choice_exists}
 use Rattle.surf_surfaces.proofs.ClassLaws.{null_by_class, independent_by_classes}
 use Rattle.surf_surfaces.proofs.FewBasesLaws.{least_base_on_way}

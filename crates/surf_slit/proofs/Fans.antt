@@ -16,7 +16,7 @@ use Rattle.surf_opening.proofs.Polygons.{after_cases}
 use Rattle.surf_surfaces.specs.SideNumber.{owners, first_side, IsFaceOf}
 use Rattle.surf_soup.specs.Ring.{BeginsAt}
 use Rattle.surf_soup.proofs.HalfLaws.{face_of_side, spans}
-use Rattle.surf_soup.proofs.RingLaws.{one_corner}
+use Rattle.surf_soup.proofs.CornerSides.{one_corner}
 use Rattle.surf_soup.proofs.SideNumbers.{one_face}
 use Rattle.surf_soup.proofs.VertexLaws.{corner_at_place}
 use Rattle.surf_slit.proofs.Runs.{Linked}

@@ -14,7 +14,7 @@ use Rattle.surf_opening.proofs.Counting.{pigeons}
 use Rattle.surf_opening.proofs.Edges.{edge_of}
 use Rattle.surf_surfaces.specs.SideNumber.{side_count}
 use Rattle.surf_soup.specs.Ring.{BeginsAt, IsRing, IsEdgeAt, AreEdgesAt, GoBetween}
-use Rattle.surf_soup.proofs.RingLaws.{begins_corner, corner_begins}
+use Rattle.surf_soup.proofs.CornerSides.{begins_corner, corner_begins}
 use Rattle.surf_slit.specs.Labels.{corner_at, IsUncut, AgreeAt, AreNumbers, AreLabels, IsLabelledAt}
 use Rattle.surf_slit.specs.Link.{run_of}
 use Rattle.surf_slit.specs.Place.{place, cut_behind, NoneCut, IsNextCut}

@@ -10,7 +10,7 @@ use Rattle.surf_soup.specs.Vertices.{all_corners, sides_at}
 use Rattle.surf_soup.specs.Ring.{BeginsAt}
 use Rattle.surf_soup.specs.First.{AreFirstFrom, AreFirstSides}
 use Rattle.surf_soup.proofs.HalfLaws.{face_of_side}
-use Rattle.surf_soup.proofs.RingLaws.{at_begins, begins_at, at_rises, begins_corner, corner_begins}
+use Rattle.surf_soup.proofs.CornerSides.{at_begins, begins_at, at_rises, begins_corner, corner_begins}
 
 -- one side more, the one before
 pub first_more : (mesh : Mesh) (from s : ℕ) (first : List ℕ) → AreFirstFrom mesh from first → from ≡ s + 1 →

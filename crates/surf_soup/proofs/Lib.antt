@@ -16,9 +16,14 @@ pub mod VertexLaws
 pub mod ForestSteps
 pub mod ApartLaws
 pub mod RoundSteps
+pub mod CornerSides
+pub mod TurnedSides
+pub mod DartLaws
 pub mod RingLaws
 pub mod FirstLaws
+pub mod RoundMarks
 pub mod RingMarks
+pub mod LeftSides
 pub mod PairFaults
 pub mod ThirdLaws
 pub mod PairSteps

@@ -25,7 +25,8 @@ use Rattle.surf_surfaces.specs.Class.{class_of, weighed_walk, AreShortestTrees}
 use Rattle.surf_surfaces.specs.Loop.{loop_walk, loop_length}
 use Rattle.surf_surfaces.specs.Choice.{Trees, AreChosen, Loop, comes_before, walks, loops_at, candidates}
 use Rattle.surf_surfaces.specs.FewBases.{least_on_way, least_base, Place, is_no_later, place_at, Found, is_within, walks_within, MeetsAll, IsFoundLoop, AreEnough, HasFound, FewBasesSuffice}
-use Rattle.surf_surfaces.proofs.BasisLaws.{weighed_loops, loops_covered_at, basis_each}
+use Rattle.surf_surfaces.proofs.CoveredLaws.{weighed_loops, loops_covered_at}
+use Rattle.surf_surfaces.proofs.SimpleLaws.{basis_each}
 use Rattle.surf_surfaces.proofs.CandidateLaws.{IsLoopBelow, below-sorted, below_each, below_contains}
 use Rattle.surf_surfaces.proofs.CellLaws.{surfaces_are_cells}
 use Rattle.surf_surfaces.proofs.ClassLaws.{runs_loop, some_split, null_by_class}

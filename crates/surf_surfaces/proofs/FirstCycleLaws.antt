@@ -38,7 +38,7 @@ use Rattle.surf_surfaces.proofs.CotreeLaws.{passing_found}
 use Rattle.surf_surfaces.proofs.LoopsAtLaws.{edges_permute, tree_is, tree_short, split_is}
 use Rattle.surf_surfaces.proofs.CandidateLaws.{IsLoopBelow, below_each, below_contains}
 use Rattle.surf_surfaces.proofs.ChoiceExists.{choice_exists}
-use Rattle.surf_surfaces.proofs.BasisLaws.{runs, below_sized, weighed_loops, loops_covered, candidates_rise}
+use Rattle.surf_surfaces.proofs.CoveredLaws.{runs, below_sized, weighed_loops, loops_covered, candidates_rise}
 
 module _ (mesh : Mesh) (lengths : List ℕ) (surface : IsSurface mesh) (positive : ArePositive mesh lengths) where
   -- the place of a left edge among the left edges

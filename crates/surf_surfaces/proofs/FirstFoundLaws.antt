@@ -26,7 +26,8 @@ use Rattle.surf_surfaces.specs.Loop.{loop_walk}
 use Rattle.surf_surfaces.specs.Choice.{Trees, AreChosen, Loop, comes_before, walks, loop_at, loops_at, candidates, DependsOn}
 use Rattle.surf_surfaces.specs.Cotree.{is_left, left_edges}
 use Rattle.surf_surfaces.specs.FewBases.{is_no_later, place_at, Found, is_within, IsWithin, walks_found, MeetsAll, IsFoundLoop, IsFirstFound, FirstIsAtLeastBase, EndsAreNear, ShortSearchesSuffice}
-use Rattle.surf_surfaces.proofs.BasisLaws.{contains-map, walk_covered, basis_is, basis_of, basis_is_one}
+use Rattle.surf_surfaces.proofs.CoveredLaws.{contains-map, walk_covered}
+use Rattle.surf_surfaces.proofs.BasisLaws.{basis_is, basis_of, basis_is_one}
 use Rattle.surf_surfaces.proofs.CandidateLaws.{below-sorted, below_contains}
 use Rattle.surf_surfaces.proofs.ChoiceExists.{choice_exists}
 use Rattle.surf_surfaces.proofs.CotreeLaws.{passing_found}

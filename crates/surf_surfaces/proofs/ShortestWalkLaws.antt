@@ -27,7 +27,8 @@ use Rattle.surf_surfaces.proofs.LeastCycleLaws.{least_simple, simple_from_graph}
 use Rattle.surf_surfaces.proofs.LeastLaws.{map-same, all_each, all_mapped}
 use Rattle.surf_surfaces.proofs.LoopsAtLaws.{loops_are_least, comes_before-size, loops-sorted, loops_sized}
 use Rattle.surf_surfaces.proofs.CandidateLaws.{below-sorted}
-use Rattle.surf_surfaces.proofs.BasisLaws.{all_chosen, below_sized, basis_is_least, basis_is_one}
+use Rattle.surf_surfaces.proofs.CoveredLaws.{all_chosen, below_sized}
+use Rattle.surf_surfaces.proofs.BasisLaws.{basis_is_least, basis_is_one}
 use Rattle.surf_surfaces.proofs.ChoiceExists.{choice_exists}
 use Rattle.surf_surfaces.proofs.NoLongerLaws.{no_longer, shortest_is_first_in_order}
 use Rattle.surf_surfaces.proofs.OrderedNumbers.{sorted_is, placed_same, least_of}

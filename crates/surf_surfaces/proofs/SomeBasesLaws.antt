@@ -20,7 +20,8 @@ use Rattle.surf_surfaces.specs.Cells.{cells_of}
 use Rattle.surf_surfaces.specs.Class.{class_of}
 use Rattle.surf_surfaces.specs.Choice.{Trees, AreChosen, Loop, comes_before, loops_at, loops_below, candidates, IsGreedyChoice, IsChosenBasis}
 use Rattle.surf_surfaces.specs.FewBases.{IsKeptAmong, none_yet, passed_over, taken, HasBase, BasisIsKeptAmong, IsKeptOver, none_of_them, one_of_them, AreBases, BasisIsKeptOver, BasisIsKeptOverFew}
-use Rattle.surf_surfaces.proofs.BasisLaws.{below_closed, basis_is, greedy_closed, at_closed, basis_is_one}
+use Rattle.surf_surfaces.proofs.CoveredLaws.{below_closed}
+use Rattle.surf_surfaces.proofs.BasisLaws.{basis_is, greedy_closed, at_closed, basis_is_one}
 use Rattle.surf_surfaces.proofs.CandidateLaws.{below-sorted, below_more}
 use Rattle.surf_surfaces.proofs.ClassLaws.{some_split}
 use Rattle.surf_surfaces.proofs.FewBasesLaws.{few_bases_suffice}

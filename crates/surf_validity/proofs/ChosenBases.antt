@@ -21,7 +21,8 @@ use Rattle.surf_surfaces.specs.Loop.{loop_walk}
 use Rattle.surf_surfaces.specs.Signature.{walk_signature}
 use Rattle.surf_surfaces.specs.Choice.{Trees, Loop, AreChosen, walks, candidates, IsChosenBasis}
 use Rattle.surf_surfaces.specs.ChoiceLaws.{LeastSimpleBasis}
-use Rattle.surf_surfaces.proofs.BasisLaws.{below_closed, below_sized, weighed_loops, loops_covered, candidates_rise, basis_is_least}
+use Rattle.surf_surfaces.proofs.CoveredLaws.{below_closed, below_sized, weighed_loops, loops_covered, candidates_rise}
+use Rattle.surf_surfaces.proofs.BasisLaws.{basis_is_least}
 use Rattle.surf_surfaces.proofs.ClassLaws.{independent_by_classes, some_vertex}
 use Rattle.surf_surfaces.proofs.GreedyChoiceLaws.{choice_is_greedy}
 use Rattle.surf_surfaces.proofs.LeastLaws.{weighed_same}

@@ -5,7 +5,7 @@ use Rattle.std.proofs.lemmas.List.Sums.{sum_by_push}
 use Rattle.surf_surfaces.specs.Side.{after, before}
 use Rattle.surf_surfaces.specs.SideNumber.{side_count}
 use Rattle.surf_soup.specs.Vertices.{all_corners, sides_at}
-use Rattle.surf_soup.proofs.RingLaws.{turned_size}
+use Rattle.surf_soup.proofs.TurnedSides.{turned_size}
 use Rattle.surf_soup.proofs.VertexLaws.{at_len, at_is, corners_len}
 use Rattle.surf_disc.specs.Border.{border_ends, AreNeighbours}
 use Rattle.surf_disc.proofs.CornerLaws.{next_in, prev_in}

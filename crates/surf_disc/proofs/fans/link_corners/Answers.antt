@@ -3,7 +3,7 @@ use Rattle.std.proofs.lemmas.List.{get_or_read}
 use Rattle.surf_surfaces.specs.Side.{after, before}
 use Rattle.surf_surfaces.specs.SideNumber.{side_count}
 use Rattle.surf_soup.specs.Vertices.{all_corners}
-use Rattle.surf_soup.proofs.RingLaws.{turned_size}
+use Rattle.surf_soup.proofs.TurnedSides.{turned_size}
 use Rattle.surf_soup.proofs.VertexLaws.{corners_len}
 use Rattle.surf_disc.specs.Links.{AreLinked, over_corner}
 use Rattle.surf_disc.proofs.CornerLaws.{prev_in, across_inside}

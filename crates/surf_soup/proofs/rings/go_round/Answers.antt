@@ -2,7 +2,7 @@ use Rattle.std.proofs.Common.{◌≡◌, ◌∷◌, ◌++◌, [], true, arith, r
 use Rattle.std.proofs.lemmas.List.{get_or_read}
 use Rattle.surf_soup.specs.Reach.{marked, unmarked}
 use Rattle.surf_soup.proofs.RoundSteps.{marks_one}
-use Rattle.surf_soup.proofs.RingMarks.{listed_start, listed_side, listed_at, listed_more, listed_end}
+use Rattle.surf_soup.proofs.RoundMarks.{listed_start, listed_side, listed_at, listed_more, listed_end}
 use Rattle.surf_soup.proofs.rings.go_round.Goals as goal
 
 pub bounds-seen-index : goal.bounds-seen-index

@@ -1,4 +1,4 @@
-use Rattle.surf_soup.proofs.RingMarks.{IsLeftUpto}
+use Rattle.surf_soup.proofs.LeftSides.{IsLeftUpto}
 use Rattle.surf_soup.proofs.rings.least_left.Given as goal
 
 abbrev pub invariant-loop-s : goal.invariant-loop-s

@@ -1,7 +1,7 @@
 use Rattle.std.proofs.Common.{[], true, arith, set, ap, ◌∙◌, sym}
 use Rattle.surf_soup.specs.Reach.{marked, unmarked}
 use Rattle.surf_soup.proofs.RoundSteps.{marks_one}
-use Rattle.surf_soup.proofs.RingMarks.{marked_start, marked_side, marked_at, marked_next, marked_end}
+use Rattle.surf_soup.proofs.RoundMarks.{marked_start, marked_side, marked_at, marked_next, marked_end}
 use Rattle.surf_soup.proofs.rings.mark_round.Goals as goal
 
 pub bounds-seen-index : goal.bounds-seen-index

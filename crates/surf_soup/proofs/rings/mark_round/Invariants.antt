@@ -1,5 +1,5 @@
 use Rattle.surf_soup.specs.Reach.{unmarked}
-use Rattle.surf_soup.proofs.RingMarks.{IsMarkedUpto}
+use Rattle.surf_soup.proofs.RoundMarks.{IsMarkedUpto}
 use Rattle.surf_soup.proofs.rings.mark_round.Given as goal
 
 abbrev pub invariant-loop-seen : goal.invariant-loop-seen

@@ -1,6 +1,6 @@
 use Rattle.std.proofs.Common.{◌+◌, length, sym, ap, ◌∙◌, arith}
 use Rattle.surf_soup.proofs.Owners.{length-owners}
-use Rattle.surf_soup.proofs.RingMarks.{face_read, next_in, next_first}
+use Rattle.surf_soup.proofs.TurnedSides.{face_read, next_in, next_first}
 use Rattle.surf_soup.proofs.rings.next_side.Goals as goal
 
 pub at-requires : goal.at-requires

@@ -1,4 +1,4 @@
-use Rattle.surf_soup.proofs.RingMarks.{found_pinch}
+use Rattle.surf_soup.proofs.LeftSides.{found_pinch}
 use Rattle.surf_soup.proofs.rings.pinch_by.Goals as goal
 
 pub returns : goal.returns

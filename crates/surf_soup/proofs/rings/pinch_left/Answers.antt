@@ -2,7 +2,8 @@ use Rattle.std.proofs.Common.{[], ◌<◌, length, get_or, ap, refl, ◌∙◌, 
 use Rattle.std.proofs.lemmas.List.{get_or_read}
 use Rattle.surf_soup.proofs.Owners.{length-owners}
 use Rattle.surf_soup.proofs.VertexLaws.{corners_len}
-use Rattle.surf_soup.proofs.RingMarks.{left_pinch, first_side_at, read_pinch}
+use Rattle.surf_soup.proofs.LeftSides.{left_pinch, read_pinch}
+use Rattle.surf_soup.proofs.RingMarks.{first_side_at}
 use Rattle.surf_soup.proofs.rings.pinch_left.Goals as goal
 
 pub bounds-first-index : goal.bounds-first-index

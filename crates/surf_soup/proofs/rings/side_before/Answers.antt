@@ -1,7 +1,7 @@
 use Rattle.std.proofs.Common.{◌-◌, length, sym, ap, ◌∙◌, arith}
 use Rattle.surf_soup.proofs.Owners.{length-owners}
 use Rattle.surf_soup.proofs.HalfLaws.{spans}
-use Rattle.surf_soup.proofs.RingMarks.{face_read, before_in, before_last}
+use Rattle.surf_soup.proofs.TurnedSides.{face_read, before_in, before_last}
 use Rattle.surf_soup.proofs.rings.side_before.Goals as goal
 
 pub at-requires : goal.at-requires

@@ -2,7 +2,8 @@ use Rattle.std.proofs.Common.{[], length, get_or, ap, ◌∙◌, sym, arith}
 use Rattle.surf_soup.specs.Vertices.{all_corners}
 use Rattle.surf_soup.specs.Ring.{nexts, befores}
 use Rattle.surf_soup.proofs.VertexLaws.{corners_len, begins_read}
-use Rattle.surf_soup.proofs.RingMarks.{turn_same, turn_other, darts, inside, mate_read}
+use Rattle.surf_soup.proofs.TurnedSides.{turn_same, turn_other, mate_read}
+use Rattle.surf_soup.proofs.RoundMarks.{darts, inside}
 use Rattle.surf_soup.proofs.rings.turn_dart.Goals as goal
 
 pub bounds-tails-index : goal.bounds-tails-index

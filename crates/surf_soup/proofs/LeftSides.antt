@@ -1,0 +1,143 @@
+-- Sides that no round has marked, and the pinches that they show.
+use Rattle.std.proofs.Common.{◌≡◌, ◌≢◌, ℕ, ◌+◌, ◌<◌, ◌≤◌, ◌⊎◌, Bool, true, false, List, [], Option, None, Some}
+use Rattle.std.proofs.Common.{MatchOption, length, get_or, refl, sym, ap, subst, ◌∙◌, arith, inl, inr}
+use Rattle.std.proofs.lemmas.Bool.{true≢false, cases_eq, cases_Bool}
+use Rattle.std.proofs.lemmas.List.{get_or_default}
+use Rattle.surf_surfaces.specs.Mesh.{Mesh, IsMesh}
+use Rattle.surf_surfaces.specs.Surface.{HasOneFan}
+use Rattle.surf_surfaces.specs.SideNumber.{side_count, owners}
+use Rattle.surf_soup.specs.Vertices.{all_corners, sides_at, AllMet}
+use Rattle.surf_soup.specs.Reach.{marked}
+use Rattle.surf_soup.specs.Ring.{AreDartTables, BeginsAt, IsPinch, IsLeastPinch, AreMarkedFans}
+use Rattle.surf_soup.specs.First.{AreFirstSides, IsFirstLeft}
+use Rattle.surf_soup.specs.declared.rings.Pinch.{Pinch}
+use Rattle.surf_soup.proofs.Owners.{length-owners}
+use Rattle.surf_soup.proofs.VertexLaws.{corners_len, corners_below}
+use Rattle.surf_soup.proofs.CornerSides.{begins_at}
+use Rattle.surf_soup.proofs.FirstLaws.{first_at}
+use Rattle.surf_soup.proofs.RingMarks.{first_side_at, all_fans}
+
+-- the least vertex of the first sides that aren't marked, and the least such side there; none yet where it is the bound
+pub record IsLeftUpto (corners : List ℕ) (seen : List Bool) (upto none v s : ℕ) : Type 0 where
+  pub low : (t : ℕ) → t < upto → marked seen t ≡ false → v ≤ get_or corners t 0
+  pub is_side : v ≢ none → s < upto
+  pub at : v ≢ none → get_or corners s 0 ≡ v
+  pub left : v ≢ none → marked seen s ≡ false
+  pub first : v ≢ none → (t : ℕ) → t < s → get_or corners t 0 ≡ v → marked seen t ≡ true
+
+pub left_start : (corners : List ℕ) (seen : List Bool) (none : ℕ) → IsLeftUpto corners seen 0 none none 0
+left_start corners seen none = record {
+  low = λ t lt new. absurd (omega arith);
+  is_side = λ some. absurd (some refl);
+  at = λ some. absurd (some refl);
+  left = λ some. absurd (some refl);
+  first = λ some. absurd (some refl);
+}
+
+-- a side that is marked, or isn't lower
+pub left_same : (corners : List ℕ) (seen : List Bool) (s none v least : ℕ) → IsLeftUpto corners seen s none v least →
+    (marked seen s ≡ true) ⊎ (v ≤ get_or corners s 0) → IsLeftUpto corners seen (s + 1) none v least
+left_same corners seen s none v least are same = record {
+  low = λ t lt new. elim (cases_eq t s) [
+    | inl e ↦ elim same [
+      | inl old ↦ absurd (true≢false (sym old ∙ ap (marked seen) (sym e) ∙ new))
+      | inr high ↦ let is = ap (λ x. get_or corners x 0) e in omega arith
+    ]
+    | inr ne ↦ are.low t (omega arith) new
+  ];
+  is_side = λ some. let below = are.is_side some in omega arith;
+  at = are.at;
+  left = are.left;
+  first = are.first;
+}
+
+-- a side at a lower vertex
+pub left_lower : (corners : List ℕ) (seen : List Bool) (s none v least : ℕ) → IsLeftUpto corners seen s none v least →
+    marked seen s ≡ false → get_or corners s 0 < v → IsLeftUpto corners seen (s + 1) none (get_or corners s 0) s
+left_lower corners seen s none v least are new lt = record {
+  low = λ t below left. elim (cases_eq t s) [
+    | inl e ↦ let is = ap (λ x. get_or corners x 0) e in omega arith
+    | inr ne ↦ let high = are.low t (omega arith) left in omega arith
+  ];
+  is_side = λ some. omega arith;
+  at = λ some. refl;
+  left = λ some. new;
+  first = λ some t below at. elim (cases_Bool (marked seen t)) [
+    | inl is ↦ is
+    | inr un ↦ let high = are.low t below un in absurd (omega arith)
+  ];
+}
+
+-- none is left, or one is
+pub left_none : (corners : List ℕ) (seen : List Bool) (n none s : ℕ) → IsLeftUpto corners seen n none none s →
+    ((t : ℕ) → t < n → get_or corners t 0 < none) → (t : ℕ) → t < n → marked seen t ≡ true
+left_none corners seen n none s are below t lt = elim (cases_Bool (marked seen t)) [
+  | inl is ↦ is
+  | inr un ↦ let high = are.low t lt un in let low = below t lt in absurd (omega arith)
+]
+
+pub left_some : (corners : List ℕ) (seen : List Bool) (none v s : ℕ) →
+    IsLeftUpto corners seen (length corners) none v s → v ≢ none → IsFirstLeft corners seen v s
+left_some corners seen none v s are some = record {
+  is_side = are.is_side some;
+  at = are.at some;
+  left = are.left some;
+  none_lower = λ t lt below. elim (cases_Bool (marked seen t)) [
+    | inl is ↦ is
+    | inr un ↦ let high = are.low t lt un in absurd (omega arith)
+  ];
+  none_before = are.first some;
+}
+
+-- what is found by marks is what there is
+pub found_pinch : (mesh : Mesh) (seen : List Bool) (found : Option Pinch) → AreMarkedFans mesh seen mesh.vertices →
+    MatchOption found ((s : ℕ) → s < side_count mesh → marked seen s ≡ true)
+    (λ p. IsLeastPinch mesh p.v p.first p.second) →
+    MatchOption found ((v : ℕ) → v < mesh.vertices → HasOneFan mesh v) (λ p. IsLeastPinch mesh p.v p.first p.second)
+found_pinch mesh seen None are all = all_fans mesh seen mesh.vertices are all
+found_pinch mesh seen (Some p) are pinch = pinch
+
+-- a side is left
+pub left_pinch : (mesh : Mesh) (seen : List Bool) (first : List ℕ) (v s : ℕ) →
+    IsMesh mesh → AreMarkedFans mesh seen mesh.vertices → AreFirstSides mesh first →
+    IsFirstLeft (all_corners mesh) seen v s →
+    IsLeastPinch mesh v (get_or (owners 0 mesh.faces) (get_or first v 0) 0) (get_or (owners 0 mesh.faces) s 0)
+left_pinch mesh seen first v s is_mesh are firsts left =
+    let n = corners_len mesh in
+    let is_side = left.is_side in
+    let is_vertex : v < mesh.vertices = let b = corners_below mesh is_mesh s 0 is_side in let at = left.at in
+    omega arith in
+    let begin : BeginsAt mesh v s = (omega arith, left.at) in
+    let r = begins_at mesh v s begin in
+    let some : 0 < length (sides_at mesh v) = let lt = r.1 in omega arith in
+    let P : ℕ → Type 0 = λ x. IsPinch mesh v (get_or (owners 0 mesh.faces) x 0) (get_or (owners 0 mesh.faces) s 0) in
+    record {
+      is_vertex = is_vertex;
+      pinch = subst P (sym (first_at mesh first firsts v is_vertex some))
+          ((are v is_vertex).pinch s begin left.left (λ t lt b. left.none_before t lt b.1));
+      none_before = λ u below.
+          (are u (omega arith)).fan (λ t b. let at = b.1 in let lt = b.0 in
+          left.none_lower t (omega arith) (omega arith));
+    }
+
+-- a face as it is read from the table
+pub owner_read : (mesh : Mesh) (face_of : List ℕ) → face_of ≡ owners 0 mesh.faces → (s t d : ℕ) → s ≡ t →
+    t < side_count mesh → get_or face_of s d ≡ get_or (owners 0 mesh.faces) t 0
+owner_read mesh face_of are s t d is lt =
+    let n = length-owners 0 mesh.faces in
+    get_or_default face_of s d 0 (omega (arith, n, ap length are, is, lt)) ∙ ap (λ (xs : List ℕ). get_or xs s 0) are
+    ∙ ap (λ u. get_or (owners 0 mesh.faces) u 0) is
+
+pub read_pinch : (mesh : Mesh) (face_of mate : List ℕ) (tables : AreDartTables mesh face_of mate)
+    (seen : List Bool) (first : List ℕ) → AreMarkedFans mesh seen mesh.vertices → AreFirstSides mesh first →
+    AllMet mesh → (v s home last d e : ℕ) → IsFirstLeft (all_corners mesh) seen v s → home ≡ get_or first v 0 →
+    last ≡ s → IsLeastPinch mesh v (get_or face_of home d) (get_or face_of last e)
+read_pinch mesh face_of mate tables seen first are firsts met v s home last d e left home_is last_is =
+    let pinch = left_pinch mesh seen first v s tables.is_mesh are firsts left in
+    let begin = first_side_at mesh face_of mate [] tables first v firsts met pinch.is_vertex in
+    let n = corners_len mesh in
+    let lt : s < side_count mesh = let is = left.is_side in omega arith in
+    let F : ℕ → Type 0 = λ f. IsLeastPinch mesh v f (get_or (owners 0 mesh.faces) s 0) in
+    let G : ℕ → Type 0 = λ g. IsLeastPinch mesh v (get_or face_of home d) g in
+    subst G (sym (owner_read mesh face_of tables.faces last s e last_is lt))
+    (subst F (sym (owner_read mesh face_of tables.faces home (get_or first v 0) d home_is begin.0)) pinch)
