@@ -12,7 +12,7 @@ use Rattle.surf_z2.proofs.Greedy.{greedy_law, basis_law, all_kept}
 use Rattle.surf_z2.proofs.Least.{up_to_weighed}
 use Rattle.surf_z2.proofs.Merge.{Sorted, sorted_from_order}
 use Rattle.surf_z2.proofs.Numbers.{Decides-is_nothing}
-use Rattle.surf_z2.proofs.Passing.{some_or_none, filter_all, filter_none, ArePassingFirst, all_passing, all_greedy, sorted_greedy, filter_of_greedy, passing_before, sorted_filtered}
+use Rattle.surf_z2.proofs.Passing.{some_or_none, filter_all, ArePassingFirst, all_passing, all_greedy, sorted_greedy, filter_of_greedy, passing_before, sorted_filtered}
 use Rattle.surf_z2.proofs.Ranks.{in_wider, in_whole, free_filter}
 use Rattle.surf_z2.proofs.Span.{InSpan, AllInSpan, Free, count, trans_in, in_from_spanned, spanned_from_in, free_from_independent}
 use Rattle.surf_graphs.specs.Cells.{Split, IsSplit}
@@ -29,9 +29,9 @@ use Rattle.surf_surfaces.specs.FewBases.{Place, is_no_later, Found, place_of_fou
 use Rattle.surf_surfaces.proofs.BasisLaws.{runs, walk_covered, basis_is, basis_of, basis_is_one, basis_each}
 use Rattle.surf_surfaces.proofs.CandidateLaws.{IsLoopBelow, below-sorted, below_each}
 use Rattle.surf_surfaces.proofs.ClassLaws.{runs_loop, some_split, independent_by_classes}
-use Rattle.surf_surfaces.proofs.FewBasesLaws.{no_later-trans, no_later-same, earlier, is_loop_within}
+use Rattle.surf_surfaces.proofs.FewBasesLaws.{no_later-trans, earlier, is_loop_within}
+use Rattle.surf_surfaces.proofs.FoundPlaces.{up_to, same_places, sorted_places, by_place}
 use Rattle.surf_surfaces.proofs.FirstCycleLaws.{shortest_trees}
-use Rattle.surf_surfaces.proofs.FirstFoundLaws.{one_place}
 use Rattle.surf_surfaces.proofs.LeastLaws.{all_each, all_mapped}
 use Rattle.surf_surfaces.proofs.LoopsAtLaws.{comes_before-trans, comes_before-strict}
 use Rattle.surf_firsts.specs.Near.{IsSoughtFromStart}
@@ -40,66 +40,6 @@ use Rattle.surf_caps.specs.Caps.{place_of_walk, ChosenLoopsAreMet, Sought, AreSo
 use Rattle.surf_caps.specs.Stages.{StagesHavePlaces}
 use Rattle.surf_caps.proofs.Starts.{lengths_start, sooner_start}
 use Rattle.surf_caps.proofs.Covers.{all_closed_by, found_by_in_candidates, sum_of_shorter, candidate_covered}
-
--- ---- lists of places
-
--- those up to a place
-abbrev up_to : Place → List Place → List Place
-up_to limit ps = filter (λ p. is_no_later p limit) ps
-
-same_place : (p q : Place) → is_no_later p q ≡ true → is_no_later q p ≡ true → p ≡ q
-same_place p q h k =
-    let both = one_place p.0 p.1 q.0 q.1 h k in
-    ap (λ a. (a, p.1)) (sym both.0) ∙ ap (λ b. (q.0, b)) (sym both.1)
-
--- where none is up to a place that comes later, there is none
-none_up_to : (limit p : Place) (ps : List Place) → is_no_later p limit ≡ false →
-    AllByRecursion (λ q. is_no_later p q ≡ true) ps → up_to limit (p ∷ ps) ≡ []
-none_up_to limit p ps out after =
-    filter_none (λ q. is_no_later q limit) (p ∷ ps) (
-      out,
-      all_each (λ q. is_no_later p q ≡ true) (λ q. is_no_later q limit ≡ false) ps
-          (λ q h. elim (cases_Bool (is_no_later q limit)) [
-            | inl fits ↦ absurd (false≢true (sym out ∙ no_later-trans p q limit h fits))
-            | inr off ↦ off
-          ]) after,
-    )
-
--- the first place of a list is up to another's first where as many are
-first_up_to : (p q : Place) (ps qs : List Place) → AllByRecursion (λ r. is_no_later p r ≡ true) ps →
-    length (up_to q (p ∷ ps)) ≡ length (up_to q (q ∷ qs)) → is_no_later p q ≡ true
-first_up_to p q ps qs after same = elim (cases_Bool (is_no_later p q)) [
-  | inl h ↦ h
-  | inr out ↦
-      let none = ap length (none_up_to q p ps out after) in
-      let some : length (up_to q (q ∷ qs)) ≡ suc (length (up_to q qs)) = rw (no_later-same q) refl in
-      absurd (omega (arith, none, some, same))
-]
-
-same_rest : (b : Bool) (ps qs : List Place) (p : Place) → length (cond b (p ∷ ps) ps) ≡ length (cond b (p ∷ qs) qs) →
-    length ps ≡ length qs
-same_rest true ps qs p h = omega arith
-same_rest false ps qs p h = h
-
--- lists in order of which as many are up to each place are the same
-same_places : (ps qs : List Place) → Sorted is_no_later ps → Sorted is_no_later qs →
-    ((limit : Place) → length (up_to limit ps) ≡ length (up_to limit qs)) → ps ≡ qs
-same_places [] [] s t same = refl
-same_places [] (q ∷ qs) s t same =
-    let some : length (up_to q (q ∷ qs)) ≡ suc (length (up_to q qs)) = rw (no_later-same q) refl in
-    let at = same q in
-    absurd (omega (arith, some, at))
-same_places (p ∷ ps) [] s t same =
-    let some : length (up_to p (p ∷ ps)) ≡ suc (length (up_to p ps)) = rw (no_later-same p) refl in
-    let at = same p in
-    absurd (omega (arith, some, at))
-same_places (p ∷ ps) (q ∷ qs) s t same =
-    let one = first_up_to p q ps qs s.0 (same q) in
-    let other = first_up_to q p qs ps t.0 (sym (same p)) in
-    let first : p ≡ q = same_place p q one other in
-    let rest = same_places ps qs s.1 t.1 (λ limit. same_rest (is_no_later p limit) (up_to limit ps) (up_to limit qs) p
-    (same limit ∙ ap (λ r. length (up_to limit (r ∷ qs))) (sym first))) in
-    ap (λ r. r ∷ ps) first ∙ ap (λ rs. q ∷ rs) rest
 
 -- ---- places of loops
 
@@ -124,30 +64,12 @@ module _ {X : Type 0} (place : X → Place) where
       split false true is e = e
       split false false is e = e
 
-  sorted_places : (xs : List X) → Sorted (λ x y. is_no_later (place x) (place y)) xs →
-      Sorted is_no_later (map place xs)
-  sorted_places [] s = tt
-  sorted_places (x ∷ xs) s = (all_mapped (λ q. is_no_later (place x) q ≡ true) place xs s.0, sorted_places xs s.1)
-
   sorted_passing : (target : Place → Bool) (xs : List X) → Sorted (λ x y. is_no_later (place x) (place y)) xs →
       Sorted is_no_later (map place (filter (λ x. target (place x)) xs))
   sorted_passing target xs s =
-      sorted_places (filter (λ x. target (place x)) xs)
+      sorted_places place (filter (λ x. target (place x)) xs)
       (sorted_filtered (λ x y. is_no_later (place x) (place y))
       (λ a b c. no_later-trans (place a) (place b) (place c)) (λ x. target (place x)) xs s)
-
--- loops in order are in order of place
-loop_no_later : (c d : Loop) → comes_before c d ≡ true → is_no_later (place_of_loop c) (place_of_loop d) ≡ true
-loop_no_later c d h = grind (arith, nat_tests)
-
-by_place : (cs : List Loop) → Sorted comes_before cs →
-    Sorted (λ c d. is_no_later (place_of_loop c) (place_of_loop d)) cs
-by_place [] s = tt
-by_place (c ∷ cs) s = (
-  all_each (λ d. comes_before c d ≡ true) (λ d. is_no_later (place_of_loop c) (place_of_loop d) ≡ true) cs
-      (λ d h. loop_no_later c d h) s.0,
-  by_place cs s.1,
-)
 
 -- a test that holds of all places that come no later than one of which it holds
 first_passing : (p : Place → Bool) → IsSoughtFromStart p → (cs : List Loop) →
