@@ -7,10 +7,11 @@ use Rattle.std.proofs.lemmas.List.Sorted.{Contains-permutation, IsPermutation-sy
 use Rattle.surf_surfaces.specs.Mesh.{Mesh}
 use Rattle.surf_surfaces.specs.Surface.{edge_count, ends, IsSurface}
 use Rattle.surf_surfaces.specs.FewBases.{AreBases}
-use Rattle.surf_search.proofs.Turned.{ends_in}
+use Rattle.surf_surfaces.proofs.CellLaws.{ends_in}
 use Rattle.surf_cotree.specs.Tables.{CotreeTables}
 use Rattle.surf_choice.specs.declared.candidate.Signed.{Signed}
-use Rattle.surf_search.specs.Marks.{AreMarkedIn, AreDegreesTo, by_degree, signed_degree}
+use Rattle.surf_search.specs.Marks.{AreMarkedIn, by_degree, is_signed}
+use Rattle.surf_surfaces.specs.Degrees.{AreDegreesTo, degree_in}
 use Rattle.surf_basis.specs.Ends.{HasMarkedEnd, HasSignedEnds, IsBusierEnd}
 use Rattle.surf_basis.specs.Kept.{HasBases}
 use Rattle.surf_search.specs.Passing.{is_marked}
@@ -103,9 +104,9 @@ same_order f g p first second = rw (first, second) refl
 
 -- where a table has the degrees, the busier end by it is the one by the degrees
 pub busier_by_table : (mesh : Mesh) → IsSurface mesh → (s : CotreeTables) (degrees : List ℕ) →
-    AreDegreesTo mesh s (edge_count mesh) degrees → (v : ℕ) → IsBusierEnd mesh s (slice_index degrees) v →
-    IsBusierEnd mesh s (signed_degree mesh s) v
+    AreDegreesTo mesh (is_signed s) (edge_count mesh) degrees → (v : ℕ) → IsBusierEnd mesh s (slice_index degrees) v →
+    IsBusierEnd mesh s (degree_in mesh (is_signed s)) v
 busier_by_table mesh surface s degrees are v (e, e_in, some, at) =
     let (low_in, high_in) = ends_inside mesh surface e e_in (ends mesh e) refl in
-    let same = same_order (slice_index degrees) (signed_degree mesh s) (ends mesh e) (are (ends mesh e).0 low_in) (are (ends mesh e).1 high_in) in
+    let same = same_order (slice_index degrees) (degree_in mesh (is_signed s)) (ends mesh e) (are (ends mesh e).0 low_in) (are (ends mesh e).1 high_in) in
     (e, e_in, some, sym (ap (λ (q : ℕ × ℕ). q.1) same) ∙ at)

@@ -16,7 +16,7 @@ use Rattle.surf_surfaces.specs.Signature.{edge_signature}
 use Rattle.surf_surfaces.proofs.BasisLaws.{basis_is_least}
 use Rattle.surf_surfaces.proofs.ChoiceExists.{choice_exists}
 use Rattle.surf_surfaces.proofs.ShortestTreeLaws.{shortest_trees_are_one}
-use Rattle.surf_loops.proofs.Turned.{ends_in}
+use Rattle.surf_surfaces.proofs.CellLaws.{ends_in}
 use Rattle.surf_cotree.specs.Tables.{CotreeTables, split_with}
 use Rattle.surf_loops.specs.Loops.{LoopTables, IsGreedy}
 use Rattle.surf_choice.specs.declared.candidate.Signed.{Signed}

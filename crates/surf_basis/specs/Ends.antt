@@ -3,7 +3,8 @@ use Rattle.std.specs.Prelude.{ℕ, ◌≡◌, ◌≢◌, ◌<◌, ◌⊎◌, tru
 use Rattle.surf_surfaces.specs.Mesh.{Mesh}
 use Rattle.surf_surfaces.specs.Surface.{edge_count, ends}
 use Rattle.surf_cotree.specs.Tables.{CotreeTables}
-use Rattle.surf_search.specs.Marks.{signed_degree, by_degree}
+use Rattle.surf_surfaces.specs.Degrees.{degree_in}
+use Rattle.surf_search.specs.Marks.{by_degree, is_signed}
 
 -- an end of the edge is marked
 abbrev pub HasMarkedEnd : Mesh → List Bool → ℕ → Type 0
@@ -26,4 +27,4 @@ IsBusierEnd mesh s degree v = (e : ℕ) × (e < edge_count mesh) × (slice_index
 -- at which there are more of them (`IsBusierEnd`)
 pub record AreSignedEnds (mesh : Mesh) (s : CotreeTables) (list : List ℕ) : Type 0 where
   pub each : HasSignedEnds mesh s list
-  pub only : All (IsBusierEnd mesh s (signed_degree mesh s)) list
+  pub only : All (IsBusierEnd mesh s (degree_in mesh (is_signed s))) list

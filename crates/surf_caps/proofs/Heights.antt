@@ -1,8 +1,8 @@
 -- Edges whose signatures need more than some closed walks, and where they are.
-use Rattle.std.proofs.Common.{◌≡◌, ℕ, zero, suc, ◌<◌, ◌≤◌, Bool, true, false, ◌&&◌, eqb, List, [], ◌∷◌, length, map, take, get_or, All, Contains, Option, Some, None, refl, sym, ap, ◌∙◌, subst, arith, ne_eqb, inl, inr, ◌⊎◌}
+use Rattle.std.proofs.Common.{◌≡◌, ℕ, zero, suc, ◌<◌, ◌≤◌, Bool, true, false, ◌&&◌, eqb, List, [], ◌∷◌, length, map, take, get_or, All, Contains, Option, Some, None, refl, sym, ap, ◌∙◌, subst, arith, inl, inr, ◌⊎◌}
 use Rattle.std.specs.List.{AllByRecursion}
 use Rattle.std.specs.List.Sorted.{IsNonDecreasing}
-use Rattle.std.proofs.lemmas.Bool.{cases_eq, cases_Bool, cases_lt, and_parts, and_from, false≢true, ltb-true, ltb-false, le-leb}
+use Rattle.std.proofs.lemmas.Bool.{cases_Bool, cases_lt, and_parts, and_from, false≢true, ltb-true, ltb-false, le-leb}
 use Rattle.std.proofs.lemmas.List.Elements.{All-from_recursion}
 use Rattle.surf_z2.specs.Parity.{any_below}
 use Rattle.surf_z2.specs.Space.{numbers, chains}
@@ -11,11 +11,9 @@ use Rattle.surf_z2.proofs.Linear.{sum_over, over_in, linear-sum_over, sum_over-a
 use Rattle.surf_z2.proofs.ParityLaws.{and_comm, eqb_comm, odd_below-same, odd_below-one, any_below-found, any_below-none}
 use Rattle.surf_z2.proofs.Span.{InSpan, zero_in, in_from_spanned, spanned_from_in}
 use Rattle.surf_graphs.specs.Cells.{primal, Split, IsSplit, signature, chain_signature}
-use Rattle.surf_graphs.specs.Graphs.{Graph, joins, IsGraphWalk, edge_between, walk_chain}
 use Rattle.surf_graphs.specs.Independence.{signature_of}
-use Rattle.surf_graphs.proofs.Graphs.{edge_between_is}
 use Rattle.surf_graphs.proofs.Independence.{signature_of-same, signature_of-linear}
-use Rattle.surf_graphs.proofs.Trees.{one_of}
+use Rattle.surf_graphs.proofs.Walks.{walk_has_ends}
 use Rattle.surf_surfaces.specs.Mesh.{Mesh}
 use Rattle.surf_surfaces.specs.Surface.{edge_count, ends, IsSurface}
 use Rattle.surf_surfaces.specs.Walk.{IsClosed, walk_length, parity}
@@ -125,23 +123,6 @@ high_edges_exist mesh lengths d cycles height i walk surface split closed_each h
     high_edge mesh lengths d cycles height surface split closed_each heights i walk closed no_sum short
 
 -- ---- ends that are searched
-
-later : (a : ℕ) (xs : List ℕ) (x : ℕ) → Contains xs x → Contains (a ∷ xs) x
-later a xs x (k, l, e) = (suc k, omega arith, e)
-
--- a walk has both ends of each edge that it runs an odd number of times
-walk_has_ends : (g : Graph) (a : ℕ) (w : List ℕ) (b e : ℕ) → IsGraphWalk g a w b → walk_chain g a w e ≡ true →
-    Contains (a ∷ w) (g.from e) × Contains (a ∷ w) (g.to e)
-walk_has_ends g a [] b e walk on = absurd (false≢true on)
-walk_has_ends g a (c ∷ w) b e walk on = elim (cases_eq (edge_between g a c) e) [
-  | inl same ↦ elim (one_of g a c e (ap (joins g a c) (sym same) ∙ (edge_between_is g a c walk.0).1)) [
-    | inl is ↦ ((0, omega arith, sym is.0), (1, omega arith, sym is.1))
-    | inr is ↦ ((1, omega arith, sym is.0), (0, omega arith, sym is.1))
-  ]
-  | inr ne ↦
-      let rest = walk_has_ends g c w b e walk.1 (rw (ne_eqb (edge_between g a c) e ne) at on) in
-      (later a (c ∷ w) (g.from e) rest.0, later a (c ∷ w) (g.to e) rest.1)
-]
 
 pub has_ends : (mesh : Mesh) → IsSurface mesh → (walk : List ℕ) (e : ℕ) → IsClosed mesh walk → e < edge_count mesh →
     parity mesh walk e ≡ true → Contains walk (ends mesh e).0 × Contains walk (ends mesh e).1

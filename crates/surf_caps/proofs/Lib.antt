@@ -3,8 +3,6 @@ pub mod Heights
 pub mod Over
 pub mod Covers
 pub mod Starts
-pub mod PlaceLists
-pub mod SamePlaces
 pub mod Places
 pub mod Grow
 pub mod Images

@@ -1,20 +1,20 @@
 -- Loops that are enough have the places of the basis.
-use Rattle.std.proofs.Common.{◌≡◌, ℕ, true, not, leb, ltb, List, [], ◌∷◌, length, map, filter, take, get_or, All}
-use Rattle.std.proofs.Common.{Contains, refl, sym, ap, ◌∙◌, subst, arith, inl, inr}
+use Rattle.std.proofs.Common.{◌≡◌, ℕ, suc, ◌<◌, ◌≤◌, Bool, true, false, cond, ◌&&◌, not, eqb, leb, ltb, List, [], ◌∷◌, length, map, filter, take, get_or, All, Contains, refl, sym, ap, ◌∙◌, subst, arith, inl, inr, eqb-true}
 use Rattle.std.specs.List.{AllByRecursion}
-use Rattle.std.proofs.lemmas.Bool.{cases_Bool}
+use Rattle.std.proofs.lemmas.Bool.{cases_Bool, and_parts, and_from, false≢true}
 use Rattle.std.proofs.lemmas.Bool.Decides.{nat_tests}
 use Rattle.std.proofs.lemmas.Simd.{map-map}
 use Rattle.std.proofs.lemmas.List.{length-map}
 use Rattle.std.proofs.lemmas.List.Elements.{recursion_from_All, All-from_recursion}
+use Rattle.surf_z2.specs.Greedy.{greedy}
 use Rattle.surf_z2.specs.Space.{numbers, is_nothing, Independent, Spanned}
-use Rattle.surf_z2.proofs.Greedy.{greedy_law, basis_law}
+use Rattle.surf_z2.proofs.Greedy.{greedy_law, basis_law, all_kept}
 use Rattle.surf_z2.proofs.Least.{up_to_weighed}
-use Rattle.surf_z2.proofs.Merge.{sorted_from_order}
+use Rattle.surf_z2.proofs.Merge.{Sorted, sorted_from_order}
 use Rattle.surf_z2.proofs.Numbers.{Decides-is_nothing}
-use Rattle.surf_z2.proofs.Passing.{filter_all, passing_before}
-use Rattle.surf_z2.proofs.Ranks.{in_whole}
-use Rattle.surf_z2.proofs.Span.{InSpan, in_from_spanned, spanned_from_in}
+use Rattle.surf_z2.proofs.Passing.{some_or_none, filter_all, ArePassingFirst, all_passing, all_greedy, sorted_greedy, filter_of_greedy, passing_before, sorted_filtered}
+use Rattle.surf_z2.proofs.Ranks.{in_wider, in_whole, free_filter}
+use Rattle.surf_z2.proofs.Span.{InSpan, AllInSpan, Free, count, trans_in, in_from_spanned, spanned_from_in, free_from_independent}
 use Rattle.surf_graphs.specs.Cells.{Split, IsSplit}
 use Rattle.surf_graphs.specs.Trees.{Tree}
 use Rattle.surf_surfaces.specs.Mesh.{Mesh}
@@ -24,26 +24,252 @@ use Rattle.surf_surfaces.specs.Homology.{IsIndependent, IsLoopCount}
 use Rattle.surf_surfaces.specs.Cells.{cells_of}
 use Rattle.surf_surfaces.specs.Class.{class_of, AreShortestTrees}
 use Rattle.surf_surfaces.specs.Loop.{loop_walk}
-use Rattle.surf_surfaces.specs.Choice.{Trees, AreChosen, Loop, comes_before, walks, candidates}
-use Rattle.surf_surfaces.specs.FewBases.{Place, is_no_later, Found, place_of_found, place_of_loop, is_within, IsWithin}
-use Rattle.surf_surfaces.specs.FewBases.{walks_found, comes_no_later, comes_sooner, every_place}
+use Rattle.surf_surfaces.specs.Choice.{Trees, AreChosen, Loop, comes_before, walks, candidates, IsChosenBasis}
+use Rattle.surf_surfaces.specs.FewBases.{Place, is_no_later, Found, place_of_found, place_of_loop, is_within, IsWithin, walks_found, HasFound, comes_no_later, comes_sooner, every_place}
 use Rattle.surf_surfaces.proofs.CoveredLaws.{runs, walk_covered}
 use Rattle.surf_surfaces.proofs.BasisLaws.{basis_is, basis_of, basis_is_one}
 use Rattle.surf_surfaces.proofs.SimpleLaws.{basis_each}
 use Rattle.surf_surfaces.proofs.CandidateLaws.{IsLoopBelow, below-sorted, below_each}
 use Rattle.surf_surfaces.proofs.ClassLaws.{runs_loop, some_split, independent_by_classes}
-use Rattle.surf_surfaces.proofs.FewBasesLaws.{no_later-trans}
+use Rattle.surf_surfaces.proofs.FewBasesLaws.{no_later-trans, earlier, is_loop_within}
+use Rattle.surf_surfaces.proofs.FoundPlaces.{up_to, same_places, sorted_places, by_place}
 use Rattle.surf_surfaces.proofs.FirstCycleLaws.{shortest_trees}
 use Rattle.surf_surfaces.proofs.LeastLaws.{all_each, all_mapped}
 use Rattle.surf_surfaces.proofs.LoopsAtLaws.{comes_before-trans, comes_before-strict}
 use Rattle.surf_firsts.specs.Near.{IsSoughtFromStart}
 use Rattle.surf_caps.specs.Heights.{IsSumOfShorter}
-use Rattle.surf_caps.specs.Caps.{place_of_walk, ChosenLoopsAreMet, Sought, AreSoughtFromStart, MeetsUpTo, AreEnoughFor}
-use Rattle.surf_caps.specs.Caps.{EnoughHavePlaces, FullCountHasPlaces, up_to_length}
+use Rattle.surf_caps.specs.Caps.{place_of_walk, ChosenLoopsAreMet, Sought, AreSoughtFromStart, MeetsUpTo, IsFoundBy, AreEnoughFor, places_found, places_chosen, EnoughHavePlaces, FullCountHasPlaces, up_to_length}
 use Rattle.surf_caps.specs.Stages.{StagesHavePlaces}
 use Rattle.surf_caps.proofs.Starts.{lengths_start, sooner_start}
-use Rattle.surf_caps.proofs.Covers.{all_closed_by, sum_of_shorter, candidate_covered}
-use Rattle.surf_caps.proofs.SamePlaces.{basis_found, same_as_basis}
+use Rattle.surf_caps.proofs.Covers.{all_closed_by, found_by_in_candidates, sum_of_shorter, candidate_covered}
+
+-- ---- places of loops
+
+module _ {X : Type 0} (place : X → Place) where
+  -- those that pass a test, up to a place
+  count_up_to : (target : Place → Bool) (limit : Place) (xs : List X) →
+      length (up_to limit (map place (filter (λ x. target (place x)) xs)))
+      ≡ length (filter (λ x. is_no_later (place x) limit && target (place x)) xs)
+  count_up_to target limit [] = refl
+  count_up_to target limit (x ∷ xs) =
+      split (target (place x)) (is_no_later (place x) limit) refl (count_up_to target limit xs)
+    where
+      split : (a b : Bool) → is_no_later (place x) limit ≡ b →
+          length (up_to limit (map place (filter (λ x. target (place x)) xs)))
+          ≡ length (filter (λ x. is_no_later (place x) limit && target (place x)) xs) →
+          length (up_to limit (map place
+          (cond a (x ∷ filter (λ x. target (place x)) xs) (filter (λ x. target (place x)) xs))))
+          ≡ length (cond (b && a) (x ∷ filter (λ x. is_no_later (place x) limit && target (place x)) xs)
+          (filter (λ x. is_no_later (place x) limit && target (place x)) xs))
+      split true true is e = rw is (ap suc e)
+      split true false is e = rw is e
+      split false true is e = e
+      split false false is e = e
+
+  sorted_passing : (target : Place → Bool) (xs : List X) → Sorted (λ x y. is_no_later (place x) (place y)) xs →
+      Sorted is_no_later (map place (filter (λ x. target (place x)) xs))
+  sorted_passing target xs s =
+      sorted_places place (filter (λ x. target (place x)) xs)
+      (sorted_filtered (λ x y. is_no_later (place x) (place y))
+      (λ a b c. no_later-trans (place a) (place b) (place c)) (λ x. target (place x)) xs s)
+
+-- a test that holds of all places that come no later than one of which it holds
+first_passing : (p : Place → Bool) → IsSoughtFromStart p → (cs : List Loop) →
+    Sorted (λ c d. is_no_later (place_of_loop c) (place_of_loop d)) cs → ArePassingFirst (λ c. p (place_of_loop c)) cs
+first_passing p start [] s = tt
+first_passing p start (c ∷ cs) s = (
+  λ out. all_each (λ d. is_no_later (place_of_loop c) (place_of_loop d) ≡ true) (λ d. p (place_of_loop d) ≡ false) cs
+      (λ d after. elim (cases_Bool (p (place_of_loop d))) [
+        | inr off ↦ off
+        | inl fits ↦ absurd (false≢true (sym out ∙ start (place_of_loop c) (place_of_loop d) after fits))
+      ]) s.0,
+  first_passing p start cs s.1,
+)
+
+-- up to a place, and passing a test
+abbrev passes : (Place → Bool) → Place → Place → Bool
+passes target limit p = is_no_later p limit && target p
+
+passes-start : (target : Place → Bool) (limit : Place) → IsSoughtFromStart target → IsSoughtFromStart (passes target limit)
+passes-start target limit start p q h k =
+    let both = and_parts (is_no_later q limit) (target q) k in
+    and_from (is_no_later p limit) (target p) (no_later-trans p q limit h both.0) (start p q h both.1)
+
+same_count : (mesh : Mesh) (m n : ℕ) → IsLoopCount mesh m → IsLoopCount mesh n → m ≡ n
+same_count mesh m n a b = omega arith
+
+module _ (mesh : Mesh) (lengths : List ℕ) (searched : ℕ → Tree) (surface : IsSurface mesh)
+    (positive : ArePositive mesh lengths) (shortest : AreShortestTrees mesh lengths searched) (trees : ℕ → Trees)
+    (chosen : AreChosen mesh lengths trees) (d : Split) (split : IsSplit (cells_of mesh) d) (found : List Found)
+    (loops : All (IsFoundBy mesh lengths) found) where
+  -- the classes of those found that come no later than a place
+  abbrev near : Place → List ℕ
+  near limit = map (λ k. class_of mesh d k.walk) (filter (is_within limit) found)
+
+  -- each candidate that passes a test is a sum of those found that come no later
+  abbrev Covers : (Place → Bool) → Type 0
+  Covers target = (c : Loop) → IsLoopBelow mesh lengths trees mesh.vertices c → target (place_of_loop c) ≡ true →
+      InSpan numbers (near (place_of_loop c)) (class_of mesh d c.walk)
+
+  module _ (target : Place → Bool) (start : IsSoughtFromStart target) (covers : Covers target) where
+    -- a candidate that is no sum of those before it has the place of one that was found
+    fresh_found : (i : ℕ) (n : Loop) → i < length (candidates mesh lengths trees) →
+        (Spanned numbers (map (λ x. class_of mesh d x.walk) (take i (candidates mesh lengths trees)))
+        (class_of mesh d (get_or (candidates mesh lengths trees) i n).walk) → ⊥) →
+        target (place_of_loop (get_or (candidates mesh lengths trees) i n)) ≡ true →
+        HasFound found (get_or (candidates mesh lengths trees) i n)
+    fresh_found i n i_in fresh is_target =
+        let cs = candidates mesh lengths trees in
+        let c = get_or cs i n in
+        let before = map (λ x. class_of mesh d x.walk) (take i cs) in
+        let each : All (IsLoopBelow mesh lengths trees mesh.vertices) cs =
+        All-from_recursion (IsLoopBelow mesh lengths trees mesh.vertices) cs
+        (below_each mesh lengths trees mesh.vertices) in
+        elim (some_or_none (λ k. eqb k.size c.size && eqb k.through c.base) found) [
+          | inl r ↦
+              let both = and_parts (eqb r.0.size c.size) (eqb r.0.through c.base) r.2 in
+              (r.0, r.1, eqb-true r.0.size c.size both.0, eqb-true r.0.through c.base both.1)
+          | inr none ↦
+              let none_at : All (λ k. (eqb k.size c.size && eqb k.through c.base) ≡ false) found =
+              All-from_recursion (λ k. (eqb k.size c.size && eqb k.through c.base) ≡ false) found none in
+              let all : AllInSpan numbers before (near (c.size, c.base)) =
+              all_passing numbers (λ k. class_of mesh d k.walk) before (is_within (c.size, c.base)) found
+              (recursion_from_All (λ k. is_within (c.size, c.base) k ≡ true →
+              InSpan numbers before (class_of mesh d k.walk)) found (λ j m l fits.
+              let k = get_or found j m in
+              passing_before numbers (λ x. class_of mesh d x.walk) comes_before comes_before-trans comes_before-strict
+              (is_loop_within (k.size, k.through)) cs i n (below-sorted mesh lengths trees mesh.vertices) i_in
+              (λ e no_later. earlier k.size k.through c e no_later fits (none_at j m l))
+              (class_of mesh d k.walk)
+              (found_by_in_candidates mesh lengths searched surface positive shortest trees chosen d split k
+              (loops j m l)))) in
+              absurd (fresh (spanned_from_in numbers before (class_of mesh d c.walk)
+              (trans_in numbers before (near (c.size, c.base)) (class_of mesh d c.walk) all
+              (covers c (each i n i_in) is_target))))
+        ]
+
+    module _ (basis : List Loop) (is : IsChosenBasis mesh lengths trees basis) where
+      pub basis_found : All (λ c. target (place_of_loop c) ≡ true → HasFound found c) basis
+      basis_found = All-from_recursion (λ c. target (place_of_loop c) ≡ true → HasFound found c) basis
+          (basis_each mesh lengths trees surface positive chosen d split basis is
+          (λ c. target (place_of_loop c) ≡ true → HasFound found c) fresh_found)
+
+      module _ (independent : IsIndependent mesh (walks_found found)) where
+        same_basis : basis ≡ greedy numbers is_nothing (λ c. class_of mesh d c.walk) (candidates mesh lengths trees)
+        same_basis = basis_is mesh lengths trees surface positive chosen d split basis is
+
+        -- those that pass up to a place
+        abbrev some_found : Place → List Found
+        some_found limit = filter (λ k. passes target limit (place_of_found k)) found
+
+        abbrev some_of_basis : Place → List Loop
+        some_of_basis limit = filter (λ c. passes target limit (place_of_loop c)) basis
+
+        free_found : Free numbers (map (λ k. class_of mesh d k.walk) found)
+        free_found = free_from_independent numbers (map (λ k. class_of mesh d k.walk) found)
+            (subst (Independent numbers) (map-map (class_of mesh d) (λ k. k.walk) found)
+            ((independent_by_classes mesh d surface split (walks_found found)
+            (All-from_recursion (IsClosed mesh) (walks_found found)
+            (all_mapped (IsClosed mesh) (λ k. k.walk) found
+            (all_closed_by mesh lengths searched surface positive shortest found loops)))).0 independent))
+
+        free_basis : Free numbers (map (λ c. class_of mesh d c.walk) basis)
+        free_basis = free_from_independent numbers (map (λ c. class_of mesh d c.walk) basis)
+            (subst (λ cs. Independent numbers (map (λ c. class_of mesh d c.walk) cs)) (sym same_basis)
+            ((greedy_law numbers is_nothing Decides-is_nothing (λ c. class_of mesh d c.walk)).independent
+            (candidates mesh lengths trees)))
+
+        -- those of the basis span what the candidates do
+        basis_spans : (limit : Place) → AllInSpan numbers (map (λ c. class_of mesh d c.walk) (some_of_basis limit))
+            (map (λ c. class_of mesh d c.walk)
+            (filter (λ c. passes target limit (place_of_loop c)) (candidates mesh lengths trees)))
+        basis_spans limit =
+            let cs = candidates mesh lengths trees in
+            let p = λ (c : Loop). passes target limit (place_of_loop c) in
+            let up = filter p cs in
+            let same : greedy numbers is_nothing (λ c. class_of mesh d c.walk) up ≡ filter p basis =
+            sym (filter_of_greedy numbers (λ c. class_of mesh d c.walk) is_nothing Decides-is_nothing p []
+            cs (first_passing (passes target limit) (passes-start target limit start) cs
+            (by_place cs (below-sorted mesh lengths trees mesh.vertices))))
+            ∙ ap (filter p) (sym same_basis) in
+            subst (λ ds. AllInSpan numbers (map (λ c. class_of mesh d c.walk) ds) (map (λ c. class_of mesh d c.walk) up)) same
+            (all_kept numbers is_nothing Decides-is_nothing (λ c. class_of mesh d c.walk) [] up)
+
+        no_more_found : (limit : Place) → length (some_found limit) ≤ length (some_of_basis limit)
+        no_more_found limit =
+            let cs = candidates mesh lengths trees in
+            let p = passes target limit in
+            let xs = map (λ c. class_of mesh d c.walk) (some_of_basis limit) in
+            let ys = map (λ k. class_of mesh d k.walk) (some_found limit) in
+            let all : AllInSpan numbers xs ys =
+            all_passing numbers (λ k. class_of mesh d k.walk) xs (λ k. p (place_of_found k)) found
+            (all_each (IsFoundBy mesh lengths)
+            (λ k. p (place_of_found k) ≡ true → InSpan numbers xs (class_of mesh d k.walk)) found
+            (λ k loop fits.
+            let own = class_of mesh d k.walk in
+            trans_in numbers xs
+            (map (λ c. class_of mesh d c.walk) (filter (λ c. p (place_of_loop c)) cs)) own (basis_spans limit)
+            (in_wider numbers (λ c. class_of mesh d c.walk) (is_loop_within (place_of_found k)) (λ c. p (place_of_loop c))
+            (λ c h. passes-start target limit start (place_of_loop c) (place_of_found k) h fits) cs own
+            (found_by_in_candidates mesh lengths searched surface positive shortest trees chosen d split k loop)))
+            (recursion_from_All (IsFoundBy mesh lengths) found loops)) in
+            let bound = count numbers xs ys
+            (free_filter numbers (λ k. class_of mesh d k.walk) (λ k. p (place_of_found k)) found free_found) all in
+            omega (
+              arith,
+              bound,
+              length-map (some_found limit) (λ k. class_of mesh d k.walk),
+              length-map (some_of_basis limit) (λ c. class_of mesh d c.walk),
+            )
+
+        no_more_basis : (limit : Place) → length (some_of_basis limit) ≤ length (some_found limit)
+        no_more_basis limit =
+            let cs = candidates mesh lengths trees in
+            let p = passes target limit in
+            let xs = map (λ k. class_of mesh d k.walk) (some_found limit) in
+            let each : AllByRecursion (λ c. p (place_of_loop c) ≡ true → InSpan numbers xs (class_of mesh d c.walk)) cs =
+            all_each (IsLoopBelow mesh lengths trees mesh.vertices)
+            (λ c. p (place_of_loop c) ≡ true → InSpan numbers xs (class_of mesh d c.walk)) cs (λ c below fits.
+            let both = and_parts (is_no_later (place_of_loop c) limit) (target (place_of_loop c)) fits in
+            in_wider numbers (λ k. class_of mesh d k.walk) (is_within (place_of_loop c)) (λ k. p (place_of_found k))
+            (λ k h. passes-start target limit start (place_of_found k) (place_of_loop c) h fits) found
+            (class_of mesh d c.walk) (covers c below both.1)) (below_each mesh lengths trees mesh.vertices) in
+            let all : AllInSpan numbers xs (map (λ c. class_of mesh d c.walk) (some_of_basis limit)) =
+            all_passing numbers (λ c. class_of mesh d c.walk) xs (λ c. p (place_of_loop c)) basis
+            (subst (AllByRecursion (λ c. p (place_of_loop c) ≡ true → InSpan numbers xs (class_of mesh d c.walk)))
+            (sym same_basis)
+            (all_greedy numbers (λ c. class_of mesh d c.walk) is_nothing Decides-is_nothing
+            (λ c. p (place_of_loop c) ≡ true → InSpan numbers xs (class_of mesh d c.walk)) [] cs each)) in
+            let bound = count numbers xs (map (λ c. class_of mesh d c.walk) (some_of_basis limit))
+            (free_filter numbers (λ c. class_of mesh d c.walk) (λ c. p (place_of_loop c)) basis free_basis) all in
+            omega (
+              arith,
+              bound,
+              length-map (some_found limit) (λ k. class_of mesh d k.walk),
+              length-map (some_of_basis limit) (λ c. class_of mesh d c.walk),
+            )
+
+        basis_sorted : Sorted (λ c d. is_no_later (place_of_loop c) (place_of_loop d)) basis
+        basis_sorted = subst (Sorted (λ c d. is_no_later (place_of_loop c) (place_of_loop d))) (sym same_basis)
+            (sorted_greedy numbers (λ c. class_of mesh d c.walk) is_nothing Decides-is_nothing
+            (λ c d. is_no_later (place_of_loop c) (place_of_loop d)) [] (candidates mesh lengths trees)
+            (by_place (candidates mesh lengths trees) (below-sorted mesh lengths trees mesh.vertices)))
+
+        pub same_as_basis : Sorted comes_no_later found → places_found target found ≡ places_chosen target basis
+        same_as_basis ordered =
+            same_places (places_found target found) (places_chosen target basis)
+            (sorted_passing place_of_found target found ordered)
+            (sorted_passing place_of_loop target basis basis_sorted)
+            (λ limit.
+            let one = no_more_found limit in
+            let other = no_more_basis limit in
+            omega (
+              arith,
+              one,
+              other,
+              count_up_to place_of_found target limit found,
+              count_up_to place_of_loop target limit basis,
+            ))
 
 -- ---- loops of the basis go over vertices that are searched
 
@@ -102,9 +328,6 @@ enough_have_places mesh lengths trees searched target sought found basis surface
     }
 
 -- ---- as many as may be
-
-same_count : (mesh : Mesh) (m n : ℕ) → IsLoopCount mesh m → IsLoopCount mesh n → m ≡ n
-same_count mesh m n a b = omega arith
 
 module _ (mesh : Mesh) (lengths : List ℕ) (searched : ℕ → Tree) (surface : IsSurface mesh)
     (positive : ArePositive mesh lengths) (shortest : AreShortestTrees mesh lengths searched) (trees : ℕ → Trees)

@@ -1,73 +1,34 @@
 -- Counts of cut edges while a cut is trimmed.
-use Rattle.std.proofs.Common.{◌≡◌, ◌≢◌, ℕ, zero, suc, ◌+◌, ◌-◌, ◌<◌, ◌≤◌, ◌⊎◌, ◌&&◌, not, inl, inr, sym, refl, subst, ap, ◌∙◌, cond, eqb, List, ◌∷◌, length, get_or, Bool, true, false, IsTrue, arith, ne_eqb}
+use Rattle.std.proofs.Common.{◌≡◌, ◌≢◌, ℕ, suc, ◌+◌, ◌-◌, ◌<◌, ◌≤◌, ◌⊎◌, ◌&&◌, not, inl, inr, sym, refl, subst, ap, ◌∙◌, eqb, List, ◌∷◌, length, get_or, Bool, true, false, IsTrue, arith, ne_eqb}
 use Rattle.std.proofs.Math.ListN.{set}
-use Rattle.std.proofs.lemmas.Bool.{cases_eq, cases_lt, cases_Bool, cond-true, cond-false, and_from, and_parts, or_left, or_right, or_from, eq-eqb, and_left}
+use Rattle.std.proofs.lemmas.Bool.{cases_eq, cases_lt, and_from, and_parts, eq-eqb}
 use Rattle.std.proofs.lemmas.List.{get_or-set_same, get_or-set_other, length-set, get_or_default}
-use Rattle.surf_z2.specs.Parity.{count_below}
 use Rattle.surf_z2.specs.Space.{Chain}
 use Rattle.surf_z2.proofs.Sums.{count_below-same, count_below-without}
+use Rattle.surf_z2.proofs.ParityLaws.{eqb_comm}
+use Rattle.surf_z2.proofs.Counting.{count_found}
 use Rattle.surf_surfaces.specs.Mesh.{Mesh, pair}
 use Rattle.surf_surfaces.specs.Surface.{edge_count, ends, touches, IsSurface}
 use Rattle.surf_surfaces.proofs.CellLaws.{ends_below}
 use Rattle.surf_surfaces.proofs.FaceLaws.{pair_comm}
 use Rattle.surf_opening.specs.Laws.{TellsCut, cut_count, without}
-use Rattle.surf_opening.specs.ChosenCut.{cut_degree}
+use Rattle.surf_surfaces.specs.Degrees.{degree_in, is_in_at}
+use Rattle.surf_surfaces.proofs.DegreeLaws.{touches_end, touches_no}
 use Rattle.surf_opening.proofs.Cotrees.{ends_pair}
 use Rattle.surf_opening.proofs.CutCounts.{trimming_by_greatest_goes_on}
 use Rattle.surf_soup.specs.Ring.{AreEdgesAt}
 use Rattle.surf_slit.proofs.VertexLabels.{an_end}
-use Rattle.surf_cutter.specs.Trimming.{is_cut, is_cut_at, AreDegrees, AreDegreesTo, IsTakenBack, IsTrimmedFrom, HasNoLeafFrom, HasEndedBy}
+use Rattle.surf_cutter.specs.Trimming.{is_cut, AreDegrees, IsTakenBack, IsTrimmedFrom, HasNoLeafFrom, HasEndedBy}
 use Rattle.std.specs.Prelude.{slice_index}
 
 -- while more than two edges are cut, no vertex from low on but this one has exactly one (HasNoLeafFrom is of all)
 abbrev pub HasNoOtherLeaf : Mesh → ℕ → ℕ → List ℕ → ℕ → Type 0
 HasNoOtherLeaf mesh low leaf degree count = 2 < count → (v : ℕ) → low ≤ v → v < mesh.vertices → v ≢ leaf → slice_index degree v ≢ 1
 
-passes : (p : ℕ → Bool) (n : ℕ) → p n ≡ true → count_below (suc n) p ≡ suc (count_below n p)
-passes p n e = let h : cond {A = ℕ} (p n) 1 0 ≡ 1 = cond-true {A = ℕ} (p n) 1 0 e in omega arith
-
-fails : (p : ℕ → Bool) (n : ℕ) → p n ≡ false → count_below (suc n) p ≡ count_below n p
-fails p n e = let h : cond {A = ℕ} (p n) 1 0 ≡ 0 = cond-false {A = ℕ} (p n) 1 0 e in omega arith
-
-pub count_passes : (p : ℕ → Bool) (n : ℕ) → p n ≡ true → count_below (n + 1) p ≡ count_below n p + 1
-count_passes p n e = let z : n + 1 ≡ suc n = omega arith in rw z (omega (arith, passes p n e))
-
-pub count_fails : (p : ℕ → Bool) (n : ℕ) → p n ≡ false → count_below (n + 1) p ≡ count_below n p
-count_fails p n e = let z : n + 1 ≡ suc n = omega arith in rw z (fails p n e)
-
-pub count_few : (p : ℕ → Bool) (n : ℕ) → count_below n p ≤ n
-count_few p zero = omega arith
-count_few p (suc n) = elim (cases_Bool (p n)) [ inl e ↦ omega (arith, passes p n e, count_few p n) | inr e ↦ omega (arith, fails p n e, count_few p n) ]
-
--- what passes below n, where some does
-pub some_passes : (p : ℕ → Bool) (n : ℕ) → 0 < count_below n p → (k : ℕ) × (k < n) × (p k ≡ true)
-some_passes p zero h = absurd (omega arith)
-some_passes p (suc n) h = elim (cases_Bool (p n)) [
-  | inl e ↦ (n, omega arith, e)
-  | inr e ↦ let r = some_passes p n (let f = fails p n e in omega arith) in let lt = r.1 in (r.0, omega arith, r.2)
-]
-
-touches_end : (v a b : ℕ) → (a ≡ v) ⊎ (b ≡ v) → touches v (a, b) ≡ true
-touches_end v a b (inl e) = or_left (eqb a v) (eqb b v) (eq-eqb a v e)
-touches_end v a b (inr e) = or_right (eqb a v) (eqb b v) (eq-eqb b v e)
-
-touches_no : (v a b : ℕ) → a ≢ v → b ≢ v → touches v (a, b) ≡ false
-touches_no v a b x y = or_from (eqb a v) (eqb b v) (ne_eqb a v x) (ne_eqb b v y)
-
--- one more edge is gone through
-pub degree_uncut : (mesh : Mesh) (cut : List Bool) (v e : ℕ) → get_or cut e false ≡ false → count_below (e + 1) (is_cut_at mesh cut v) ≡ count_below e (is_cut_at mesh cut v)
-degree_uncut mesh cut v e free = count_fails (is_cut_at mesh cut v) e (and_left (get_or cut e false) (touches v (ends mesh e)) free)
-
-pub degree_at : (mesh : Mesh) (cut : List Bool) (v e : ℕ) → get_or cut e false ≡ true → ((ends mesh e).0 ≡ v) ⊎ ((ends mesh e).1 ≡ v) → count_below (e + 1) (is_cut_at mesh cut v) ≡ count_below e (is_cut_at mesh cut v) + 1
-degree_at mesh cut v e is at = count_passes (is_cut_at mesh cut v) e (and_from (get_or cut e false) (touches v (ends mesh e)) is (touches_end v (ends mesh e).0 (ends mesh e).1 at))
-
-pub degree_off : (mesh : Mesh) (cut : List Bool) (v e : ℕ) → (ends mesh e).0 ≢ v → (ends mesh e).1 ≢ v → count_below (e + 1) (is_cut_at mesh cut v) ≡ count_below e (is_cut_at mesh cut v)
-degree_off mesh cut v e a b = count_fails (is_cut_at mesh cut v) e (Rattle.std.proofs.lemmas.Bool.and_right (get_or cut e false) (touches v (ends mesh e)) (touches_no v (ends mesh e).0 (ends mesh e).1 a b))
-
 -- the edge of a leaf is in the list of the edges there
-pub leaf_edge : (mesh : Mesh) (cut : List Bool) (v : ℕ) (edges : List ℕ) → AreEdgesAt mesh v edges → cut_degree mesh (is_cut cut) v ≡ 1 → (k : ℕ) × (k < length edges) × (get_or cut (get_or edges k 0) false ≡ true)
+pub leaf_edge : (mesh : Mesh) (cut : List Bool) (v : ℕ) (edges : List ℕ) → AreEdgesAt mesh v edges → degree_in mesh (is_cut cut) v ≡ 1 → (k : ℕ) × (k < length edges) × (get_or cut (get_or edges k 0) false ≡ true)
 leaf_edge mesh cut v edges are one =
-    let e = some_passes (is_cut_at mesh cut v) (edge_count mesh) (omega arith) in
+    let e = count_found (edge_count mesh) (is_in_at mesh (is_cut cut) v) (omega arith) in
     let both = and_parts (get_or cut e.0 false) (touches v (ends mesh e.0)) e.2 in
     let k = are.all e.0 (e.1, both.1) in
     (k.0, k.1, ap (λ e. get_or cut e false) k.2 ∙ both.0)
@@ -83,25 +44,22 @@ flag_off cut e h lt = elim (cases_eq h e) [
     and_true true = refl
     and_true false = refl
 
-eqb_comm : (a b : ℕ) → eqb a b ≡ eqb b a
-eqb_comm a b = elim (cases_eq a b) [ inl e ↦ eq-eqb a b e ∙ sym (eq-eqb b a (sym e)) | inr ne ↦ ne_eqb a b ne ∙ sym (ne_eqb b a (λ e. ne (sym e))) ]
-
 pub count_without : (mesh : Mesh) (cut : List Bool) (e : ℕ) → e < edge_count mesh → e < length cut → get_or cut e false ≡ true → cut_count mesh (is_cut cut) ≡ suc (cut_count mesh (is_cut (set cut e false)))
 count_without mesh cut e h lt is =
     count_below-without (edge_count mesh) e (is_cut cut) h is
     ∙ ap suc (count_below-same (edge_count mesh) (λ k. is_cut cut k && not (eqb e k)) (is_cut (set cut e false)) (λ k l. ap (λ b. is_cut cut k && not b) (eqb_comm e k) ∙ sym (flag_off cut e k lt)))
 
-degree_same : (mesh : Mesh) (cut : List Bool) (e v : ℕ) → e < length cut → touches v (ends mesh e) ≡ false → cut_degree mesh (is_cut (set cut e false)) v ≡ cut_degree mesh (is_cut cut) v
-degree_same mesh cut e v lt off = count_below-same (edge_count mesh) (is_cut_at mesh (set cut e false) v) (is_cut_at mesh cut v) (λ k l. elim (cases_eq k e) [
+degree_same : (mesh : Mesh) (cut : List Bool) (e v : ℕ) → e < length cut → touches v (ends mesh e) ≡ false → degree_in mesh (is_cut (set cut e false)) v ≡ degree_in mesh (is_cut cut) v
+degree_same mesh cut e v lt off = count_below-same (edge_count mesh) (is_in_at mesh (is_cut (set cut e false)) v) (is_in_at mesh (is_cut cut) v) (λ k l. elim (cases_eq k e) [
   | inl i ↦ let z : touches v (ends mesh k) ≡ false = ap (λ k. touches v (ends mesh k)) i ∙ off in Rattle.std.proofs.lemmas.Bool.and_right (get_or (set cut e false) k false) (touches v (ends mesh k)) z ∙ sym (Rattle.std.proofs.lemmas.Bool.and_right (get_or cut k false) (touches v (ends mesh k)) z)
   | inr ne ↦ ap (λ b. b && touches v (ends mesh k)) (get_or-set_other cut e k false false ne)
 ])
 
-degree_less : (mesh : Mesh) (cut : List Bool) (e v : ℕ) → e < edge_count mesh → e < length cut → get_or cut e false ≡ true → touches v (ends mesh e) ≡ true → cut_degree mesh (is_cut cut) v ≡ suc (cut_degree mesh (is_cut (set cut e false)) v)
+degree_less : (mesh : Mesh) (cut : List Bool) (e v : ℕ) → e < edge_count mesh → e < length cut → get_or cut e false ≡ true → touches v (ends mesh e) ≡ true → degree_in mesh (is_cut cut) v ≡ suc (degree_in mesh (is_cut (set cut e false)) v)
 degree_less mesh cut e v h lt is on =
-    count_below-without (edge_count mesh) e (is_cut_at mesh cut v) h (and_from (get_or cut e false) (touches v (ends mesh e)) is on)
-    ∙ ap suc (count_below-same (edge_count mesh) (λ k. is_cut_at mesh cut v k && not (eqb e k)) (is_cut_at mesh (set cut e false) v) (λ k l.
-    ap (λ b. is_cut_at mesh cut v k && not b) (eqb_comm e k) ∙ swap (is_cut cut k) (touches v (ends mesh k)) (not (eqb k e)) ∙ ap (λ b. b && touches v (ends mesh k)) (sym (flag_off cut e k lt))))
+    count_below-without (edge_count mesh) e (is_in_at mesh (is_cut cut) v) h (and_from (get_or cut e false) (touches v (ends mesh e)) is on)
+    ∙ ap suc (count_below-same (edge_count mesh) (λ k. is_in_at mesh (is_cut cut) v k && not (eqb e k)) (is_in_at mesh (is_cut (set cut e false)) v) (λ k l.
+    ap (λ b. is_in_at mesh (is_cut cut) v k && not b) (eqb_comm e k) ∙ swap (is_cut cut k) (touches v (ends mesh k)) (not (eqb k e)) ∙ ap (λ b. b && touches v (ends mesh k)) (sym (flag_off cut e k lt))))
   where
     swap : (a b c : Bool) → (a && b && c) ≡ (a && c && b)
     swap true true true = refl
@@ -183,20 +141,6 @@ trimmed_more {mesh} surface first old new degree less p q before are flags p_in 
     (λ v v_in d. elim (cases_lt p v) [ inl gt ↦ absurd (above v gt v_in (are.counted v v_in ∙ d)) | inr le ↦ le ]) in
     ((p, q) ∷ b.0, goes.0, told_same mesh ((p, q) ∷ b.0) (without (is_cut old) e) (is_cut new) (λ h _. sym (ap (λ (cut : List Bool). get_or cut h false) taken.taken.2 ∙ flag_off old e h lt)) goes.1)
 
--- counting goes on by one edge
-pub degrees_more : (mesh : Mesh) (cut : List Bool) (e : ℕ) (old new : List ℕ) → AreDegreesTo mesh cut e old → get_or cut e false ≡ true → get_or new (ends mesh e).0 0 ≡ get_or old (ends mesh e).0 0 + 1 → get_or new (ends mesh e).1 0 ≡ get_or old (ends mesh e).1 0 + 1 →
-    ((v : ℕ) → v ≢ (ends mesh e).0 → v ≢ (ends mesh e).1 → get_or new v 0 ≡ get_or old v 0) → AreDegreesTo mesh cut (e + 1) new
-degrees_more mesh cut e old new so_far is first second rest v h = elim (cases_eq (ends mesh e).0 v) [
-  | inl i ↦ subst (λ u. get_or new u 0 ≡ get_or old u 0 + 1) i first ∙ ap (λ n. n + 1) (so_far v h) ∙ sym (degree_at mesh cut v e is (inl i))
-  | inr nu ↦ elim (cases_eq (ends mesh e).1 v) [
-    | inl i ↦ subst (λ u. get_or new u 0 ≡ get_or old u 0 + 1) i second ∙ ap (λ n. n + 1) (so_far v h) ∙ sym (degree_at mesh cut v e is (inr i))
-    | inr nw ↦ rest v (λ i. nu (sym i)) (λ i. nw (sym i)) ∙ so_far v h ∙ sym (degree_off mesh cut v e nu nw)
-  ]
-]
-
-pub degrees_none : (mesh : Mesh) (cut : List Bool) (e : ℕ) (old : List ℕ) → AreDegreesTo mesh cut e old → get_or cut e false ≡ false → AreDegreesTo mesh cut (e + 1) old
-degrees_none mesh cut e old so_far free v h = so_far v h ∙ sym (degree_uncut mesh cut v e free)
-
 -- a cut edge counts at its ends
 pub end_counts : (mesh : Mesh) (cut : List Bool) (degree : List ℕ) (e v : ℕ) → AreDegrees mesh cut degree → v < mesh.vertices → e < edge_count mesh → get_or cut e false ≡ true → ((ends mesh e).0 ≡ v) ⊎ ((ends mesh e).1 ≡ v) → length cut ≡ edge_count mesh → 0 < get_or degree v 0
 end_counts mesh cut degree e v are v_in h is at flags = let d = degree_less mesh cut e v h (omega arith) is (touches_end v (ends mesh e).0 (ends mesh e).1 at) in let c = are.counted v v_in in omega arith
@@ -211,9 +155,6 @@ count_taken {mesh} p q old new degree less flags t =
 
 pub size_taken : {mesh : Mesh} (p q : ℕ) (old new : List Bool) (degree less : List ℕ) → IsTakenBack mesh p q old new degree less → length new ≡ length old
 size_taken {mesh} p q old new degree less t = ap length t.taken.2 ∙ length-set old t.taken.0 false
-
-pub degree_few : (mesh : Mesh) (cut : List Bool) (e v : ℕ) (degree : List ℕ) → AreDegreesTo mesh cut e degree → v < mesh.vertices → get_or degree v 0 ≤ e
-degree_few mesh cut e v degree are h = let d = are v h in omega (arith, count_few (is_cut_at mesh cut v) e)
 
 -- trimming from a vertex on has come to its end
 pub no_other_left : {mesh : Mesh} (p q low : ℕ) (old new : List Bool) (degree less : List ℕ) (left : ℕ) → 2 < left → HasNoOtherLeaf mesh low p degree left → IsTakenBack mesh p q old new degree less → HasNoOtherLeaf mesh low q less (left - 1)

@@ -1,12 +1,11 @@
 -- Cuts by a flag for each edge, and how they are trimmed.
-use Rattle.std.specs.Prelude.{◌≡◌, ◌≢◌, ℕ, ◌<◌, ◌≤◌, ◌⊎◌, ◌&&◌, Bool, true, false, List, length, slice_index}
+use Rattle.std.specs.Prelude.{◌≡◌, ◌≢◌, ℕ, ◌<◌, ◌≤◌, ◌⊎◌, Bool, true, false, List, length, slice_index}
 use Rattle.std.specs.Prelude.{slice_index_or, slice_set}
-use Rattle.surf_z2.specs.Parity.{count_below}
 use Rattle.surf_z2.specs.Space.{Chain}
 use Rattle.surf_surfaces.specs.Mesh.{Mesh, pair}
-use Rattle.surf_surfaces.specs.Surface.{edge_count, ends, touches}
+use Rattle.surf_surfaces.specs.Surface.{edge_count, ends}
 use Rattle.surf_opening.specs.Laws.{TellsCut, cut_count}
-use Rattle.surf_opening.specs.ChosenCut.{cut_degree}
+use Rattle.surf_surfaces.specs.Degrees.{degree_in}
 use Rattle.surf_opening.specs.Named.{IsTrimmedByGreatest}
 use Rattle.surf_opening.specs.Side.{Side}
 use Rattle.surf_seams.specs.Through.{IsTakenBackTo}
@@ -16,19 +15,10 @@ use Rattle.surf_cutter.specs.Kinds.{is_point}
 abbrev pub is_cut : List Bool → Chain
 is_cut cut e = slice_index_or cut e false
 
--- whether an edge is cut and has the vertex
-abbrev pub is_cut_at : Mesh → List Bool → ℕ → ℕ → Bool
-is_cut_at mesh cut v e = slice_index_or cut e false && touches v (ends mesh e)
-
--- how many of the first n edges are cut at each vertex
-abbrev pub AreDegreesTo : Mesh → List Bool → ℕ → List ℕ → Type 0
-AreDegreesTo mesh cut n degree =
-    (v : ℕ) → v < mesh.vertices → slice_index degree v ≡ count_below n (is_cut_at mesh cut v)
-
 -- how many cut edges each vertex has
 pub record AreDegrees (mesh : Mesh) (cut : List Bool) (degree : List ℕ) : Type 0 where
   pub size : length degree ≡ mesh.vertices
-  pub counted : (v : ℕ) → v < mesh.vertices → slice_index degree v ≡ cut_degree mesh (is_cut cut) v
+  pub counted : (v : ℕ) → v < mesh.vertices → slice_index degree v ≡ degree_in mesh (is_cut cut) v
 
 -- a cut edge between p and q
 pub record IsCutBetween (mesh : Mesh) (cut : List Bool) (p q e : ℕ) : Type 0 where
@@ -58,7 +48,7 @@ HasNoLeafFrom mesh low degree count = 2 < count → (v : ℕ) → low ≤ v → 
 -- no more than two edges are cut, or no vertex has exactly one of them
 abbrev pub HasEndedBy : Mesh → List Bool → Type 0
 HasEndedBy mesh cut =
-    (cut_count mesh (is_cut cut) ≤ 2) ⊎ ((v : ℕ) → v < mesh.vertices → cut_degree mesh (is_cut cut) v ≢ 1)
+    (cut_count mesh (is_cut cut) ≤ 2) ⊎ ((v : ℕ) → v < mesh.vertices → degree_in mesh (is_cut cut) v ≢ 1)
 
 -- ---- cuts through vertices
 
@@ -80,7 +70,7 @@ HasNoLooseBelow mesh marks high degree =
 -- no vertex without a mark has exactly one cut edge
 abbrev pub HasMarkedEnds : Mesh → List Bool → List Bool → Type 0
 HasMarkedEnds mesh marks cut =
-    (v : ℕ) → v < mesh.vertices → is_marked marks v ≡ false → cut_degree mesh (is_cut cut) v ≢ 1
+    (v : ℕ) → v < mesh.vertices → is_marked marks v ≡ false → degree_in mesh (is_cut cut) v ≢ 1
 
 -- the marks are of the vertices in the list
 pub record AreMarked (vertices : ℕ) (points : List ℕ) (marks : List Bool) : Type 0 where

@@ -3,8 +3,8 @@ ghost use Rattle.std.specs.Prelude.{◌≡◌, ◌≢◌, ◌<◌, ◌≤◌, �
 ghost use Rattle.surf_z2.specs.Parity.{count_below};
 ghost use Rattle.surf_surfaces.specs.Surface.{edge_count};
 ghost use Rattle.surf_opening.specs.Laws.{cut_count};
-ghost use Rattle.surf_opening.specs.ChosenCut.{cut_degree};
-ghost use Rattle.surf_cutter.specs.Trimming.{is_cut, AreDegrees, AreDegreesTo, IsTakenBack, IsTrimmedFrom};
+ghost use Rattle.surf_surfaces.specs.Degrees.{AreDegreesTo, degree_in};
+ghost use Rattle.surf_cutter.specs.Trimming.{is_cut, AreDegrees, IsTakenBack, IsTrimmedFrom};
 ghost use Rattle.surf_cutter.specs.Trimming.{HasNoLeafFrom, HasEndedBy};
 
 use surf_base::{EdgeId, VertexId};
@@ -45,8 +45,8 @@ fn count_edge(mesh: &HalfMesh, cut: &[bool], degree: &mut [u32], e: u32)
     requires edge { e < edge_count mesh.now }
     requires flags { length cut.now ≡ edge_count mesh.now }
     requires size { length degree.old ≡ mesh.now.vertices }
-    requires so_far { AreDegreesTo mesh.now cut.now e degree.old }
-    ensures { AreDegreesTo mesh.now cut.now (e + 1) degree.new }
+    requires so_far { AreDegreesTo mesh.now (is_cut cut.now) e degree.old }
+    ensures { AreDegreesTo mesh.now (is_cut cut.now) (e + 1) degree.new }
 {
     mesh.law_of_surface();
     if cut[e as usize] {

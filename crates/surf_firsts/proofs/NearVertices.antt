@@ -1,6 +1,6 @@
 -- The loops at vertices near one whose loops are all long, next to those that are kept, where the ways through the
 -- vertices of a set are barred.
-use Rattle.std.proofs.Common.{◌≡◌, ℕ, suc, ◌+◌, ◌*◌, ◌<◌, ◌≤◌, Bool, true, false, leb, List, [], ◌∷◌, ◌++◌, map, filter, Contains, bit_xor, sym, ap, ◌∙◌, subst, arith, inl, inr, refl}
+use Rattle.std.proofs.Common.{◌≡◌, ℕ, suc, ◌+◌, ◌*◌, ◌<◌, ◌≤◌, Bool, true, false, leb, List, ◌∷◌, ◌++◌, map, filter, Contains, bit_xor, sym, ap, ◌∙◌, subst, arith, inl, inr}
 use Rattle.std.specs.List.{AllByRecursion}
 use Rattle.std.proofs.lemmas.Bool.{or_cases, leb-true}
 use Rattle.std.proofs.lemmas.Bool.Decides.{nat_tests}
@@ -13,14 +13,14 @@ use Rattle.surf_z2.proofs.Passing.{all_filtered, some_or_none}
 use Rattle.surf_z2.proofs.Ranks.{in_wider}
 use Rattle.surf_z2.proofs.Span.{InSpan, add_in, in_from_spanned, spanned_from_in}
 use Rattle.surf_graphs.specs.Cells.{primal, Split, IsSplit}
-use Rattle.surf_graphs.specs.Graphs.{Graph, IsGraph, IsGraphWalk, walk_chain, graph_walk_length, edge_between}
+use Rattle.surf_graphs.specs.Graphs.{IsGraphWalk, walk_chain, graph_walk_length}
 use Rattle.surf_graphs.specs.Independence.{signature_of}
 use Rattle.surf_graphs.specs.Trees.{Tree, loop}
-use Rattle.surf_graphs.proofs.Graphs.{edge_between_is, walk-append}
+use Rattle.surf_graphs.proofs.Graphs.{walk-append}
 use Rattle.surf_graphs.proofs.Independence.{signature_of-same, signature_of-linear, walk_sums}
 use Rattle.surf_graphs.proofs.Lengths.{loop_bound}
 use Rattle.surf_graphs.proofs.Through.{over_spanned, walk_parts}
-use Rattle.surf_graphs.proofs.Trees.{one_of, joined_in}
+use Rattle.surf_graphs.proofs.Walks.{walk_in, same_off}
 use Rattle.surf_surfaces.specs.Mesh.{Mesh}
 use Rattle.surf_surfaces.specs.Surface.{edge_count, ends, IsSurface}
 use Rattle.surf_surfaces.specs.Walk.{IsClosed, edge_length, ArePositive}
@@ -46,28 +46,6 @@ shorter_within k far size other base no_longer h =
     let n : k.size + suc (2 * far) ≤ size = leb-true (k.size + suc (2 * far)) size h in
     let less : k.size < other = omega arith in
     grind (arith, nat_tests)
-
--- the nodes of a walk are nodes
-walk_in : (g : Graph) → IsGraph g → (a : ℕ) (w : List ℕ) (b : ℕ) → a < g.nodes → IsGraphWalk g a w b →
-    AllByRecursion (λ n. n < g.nodes) (a ∷ w)
-walk_in g graph a [] b a_in h = (a_in, tt)
-walk_in g graph a (c ∷ w) b a_in h = (a_in, walk_in g graph c w b (joined_in g graph a c h.0) h.1)
-
--- a walk that keeps off a set is as long by lengths that agree there
-same_off : (g : Graph) (len other : ℕ → ℕ) (set : ℕ → Bool) →
-    ((e : ℕ) → e < g.edges → set (g.from e) ≡ false → set (g.to e) ≡ false → other e ≡ len e) → (a : ℕ) (w : List ℕ)
-    (b : ℕ) → IsGraphWalk g a w b → AllByRecursion (λ n. set n ≡ false) (a ∷ w) →
-    graph_walk_length g other a w ≡ graph_walk_length g len a w
-same_off g len other set agree a [] b h off = refl
-same_off g len other set agree a (c ∷ w) b h off =
-    let m = edge_between g a c in
-    let step = edge_between_is g a c h.0 in
-    let same : other m ≡ len m = elim (one_of g a c m step.1) [
-      | inl ends ↦ agree m step.0 (ap set ends.0 ∙ off.0) (ap set ends.1 ∙ off.1.0)
-      | inr ends ↦ agree m step.0 (ap set ends.0 ∙ off.1.0) (ap set ends.1 ∙ off.0)
-    ] in
-    let rest = same_off g len other set agree c w b h.1 off.1 in
-    omega (arith, same, rest)
 
 module _ (mesh : Mesh) (lengths other : List ℕ) (trees others : ℕ → Tree) (sought : Place → Bool) (set : ℕ → Bool)
     (surface : IsSurface mesh) (positive : ArePositive mesh lengths) (positive_too : ArePositive mesh other)

@@ -1,12 +1,11 @@
 -- What the code of chains needs of numbers and lists.
-use Rattle.std.proofs.Common.{◌≡◌, ℕ, zero, suc, ◌+◌, ◌-◌, ◌*◌, ◌<◌, ◌≤◌, Bool, not, List, [], ◌∷◌, ◌++◌, length, get_or, map, take, drop, slice_index, inl, inr, sym, ap, ◌∙◌, arith}
+use Rattle.std.proofs.Common.{◌≡◌, ℕ, ◌+◌, ◌-◌, ◌*◌, ◌<◌, ◌≤◌, not, List, [], ◌∷◌, ◌++◌, length, get_or, map, take, drop, slice_index, sym, ap, ◌∙◌, arith}
 use Rattle.std.specs.List.{list_any, sum_by}
 use Rattle.std.specs.Prelude.{◌==◌}
-use Rattle.std.proofs.lemmas.Bool.{cases_Bool}
 use Rattle.std.proofs.lemmas.List.{append_assoc, map-append, get_or_default}
 use Rattle.std.proofs.lemmas.List.Sums.{sum_by-cons, sum_by-append}
 use Rattle.std.proofs.lemmas.Nat.{mul-le}
-use Rattle.surf_z2.specs.Parity.{count_below}
+use Rattle.surf_z2.proofs.Counting.{count_few}
 use Rattle.surf_surfaces.specs.Mesh.{Mesh}
 use Rattle.surf_surfaces.specs.Surface.{face_count, face_at}
 use Rattle.surf_tori.specs.Torus.{torus}
@@ -18,14 +17,8 @@ use Rattle.surf_tori.proofs.ListLaws.{part_more}
 use Rattle.surf_tori.proofs.ChainLaws.{chains_have_counts}
 use Rattle.surf_tori.proofs.PartLaws.{sizes_grow}
 
-count_few : (n : ℕ) (test : ℕ → Bool) → count_below n test ≤ n
-count_few zero test = omega arith
-count_few (suc n) test =
-    let few = count_few n test in
-    elim (cases_Bool (test n)) [ inl e ↦ rw e (omega (arith, few)) | inr e ↦ rw e (omega (arith, few)) ]
-
 pub others_below : (face : List ℕ) (v : ℕ) → others_before face v ≤ v
-others_below face v = count_few v (λ w. not (list_any (λ c. c == w) face))
+others_below face v = count_few (λ w. not (list_any (λ c. c == w) face)) v
 
 pub torus_triangles : (a b f : ℕ) → 3 ≤ a → 3 ≤ b → f < 2 * (a * b) → length (face_at (torus a b) f) ≡ 3
 torus_triangles a b f x y in' =

@@ -21,6 +21,18 @@ pub par-zero : par 0 ≡ false
 unfolding par
 par-zero = refl
 
+-- an odd number of numbers pass where the count of them is odd
+pub odd_counted : (n : ℕ) (p : ℕ → Bool) → odd_below n p ≡ par (count_below n p)
+odd_counted zero p = sym par-zero
+odd_counted (suc n) p = elim (cases_Bool (p n)) [
+  | inl e ↦
+      let one : 1 + count_below n p ≡ suc (count_below n p) = omega arith in
+      rw e (ap not (odd_counted n p) ∙ sym (par-suc (count_below n p)) ∙ sym (ap par one))
+  | inr e ↦
+      let none : 0 + count_below n p ≡ count_below n p = omega arith in
+      rw e (odd_counted n p ∙ sym (ap par none))
+]
+
 not-xor : (a b : Bool) → not (xor a b) ≡ xor (not a) b
 not-xor true true = refl
 not-xor true false = refl

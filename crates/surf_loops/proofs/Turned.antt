@@ -1,11 +1,11 @@
--- Ways in a tree, the ends of edges, and marked trees.
-use Rattle.std.proofs.Common.{ℕ, zero, suc, ◌<◌, ◌≤◌, ◌≡◌, ◌≢◌, refl, sym, ap, ◌∙◌, subst, arith, inl, inr, List, [], ◌∷◌, ◌++◌, reverse, length, get_or, slice_index, Option, Some, None, Bool}
+-- Ways in a tree, and marked trees.
+use Rattle.std.proofs.Common.{ℕ, ◌<◌, ◌≡◌, ◌≢◌, sym, ap, ◌∙◌, subst, inl, inr, List, [], ◌∷◌, ◌++◌, reverse, length, get_or, slice_index, Option, Some, None, Bool}
 use Rattle.std.proofs.lemmas.Bool.{cases_eq}
-use Rattle.std.proofs.lemmas.List.{reverse-append, append_assoc, get_or_default}
-use Rattle.surf_graphs.specs.Graphs.{Graph}
-use Rattle.surf_graphs.specs.Trees.{Tree, IsTree}
+use Rattle.std.proofs.lemmas.List.{get_or_default}
+use Rattle.surf_graphs.specs.Trees.{Tree}
 use Rattle.surf_graphs.specs.Loops.{way_down, way_up}
 use Rattle.surf_graphs.proofs.Ways.{ways_go_by_parents}
+use Rattle.surf_graphs.proofs.Turned.{way_reversed}
 use Rattle.surf_graphs.specs.Cells.{primal}
 use Rattle.surf_surfaces.specs.Mesh.{Mesh}
 use Rattle.surf_surfaces.specs.Cells.{cells_of}
@@ -18,36 +18,6 @@ use Rattle.surf_cotree.specs.Tables.{CotreeTables}
 use Rattle.surf_cotree.specs.Grown.{IsGrown as IsCotreeGrown, IsMarked}
 use Rattle.surf_loops.specs.Loops.{IsRooted}
 use Rattle.surf_surfaces.specs.Surface.{edge_count, ends, IsSurface}
-use Rattle.surf_surfaces.proofs.CellLaws.{surfaces_are_cells}
-
-reversed_by : (k : ℕ) (g : Graph) (t : Tree) → IsTree g t → (n : ℕ) → n < g.nodes → t.rank n ≤ k →
-    reverse (n ∷ way_up t (t.rank n) n) ≡ t.root ∷ way_down t (t.rank n) n
-reversed_by zero g t tree n l le = elim (cases_eq n t.root) [
-  | inl same ↦
-      let by = ways_go_by_parents g t tree in
-      subst (λ m. reverse (m ∷ way_up t (t.rank m) m) ≡ t.root ∷ way_down t (t.rank m) m) (sym same) (rw (by.up_root, by.down_root) refl)
-  | inr ne ↦ let fall = tree.rank_falls n l ne in absurd (omega arith)
-]
-reversed_by (suc k) g t tree n l le = elim (cases_eq n t.root) [
-  | inl same ↦
-      let by = ways_go_by_parents g t tree in
-      subst (λ m. reverse (m ∷ way_up t (t.rank m) m) ≡ t.root ∷ way_down t (t.rank m) m) (sym same) (rw (by.up_root, by.down_root) refl)
-  | inr ne ↦
-      let by = ways_go_by_parents g t tree in
-      let p = t.parent n in
-      let fall : t.rank (t.parent n) < t.rank n = tree.rank_falls n l ne in
-      let ih = reversed_by k g t tree (t.parent n) (tree.parent_in n l ne) (omega arith) in
-      rw (by.up_step n l ne, by.down_step n l ne)
-      (reverse-append (n ∷ []) (t.parent n ∷ way_up t (t.rank (t.parent n)) (t.parent n)) ∙ ap (λ xs. xs ++ n ∷ []) ih)
-]
-
--- the way up from a node, turned
-pub way_reversed : (g : Graph) (t : Tree) → IsTree g t → (n : ℕ) → n < g.nodes → reverse (n ∷ way_up t (t.rank n) n) ≡ t.root ∷ way_down t (t.rank n) n
-way_reversed g t tree n l = reversed_by (t.rank n) g t tree n l (omega arith)
-
--- the ends of an edge are vertices
-pub ends_in : (mesh : Mesh) → IsSurface mesh → (e : ℕ) → e < edge_count mesh → ((ends mesh e).0 < mesh.vertices) × ((ends mesh e).1 < mesh.vertices)
-ends_in mesh surface e l = (surfaces_are_cells mesh surface).complex.primal_ends e l
 
 -- what comes after a vertex on the way up
 pub record IsBelow (t : TreeTables) (n at parent : ℕ) : Type 0 where
@@ -76,10 +46,6 @@ up_end mesh t at r l is = elim (cases_eq at t.base) [
       subst (λ m. way_up (tree_of t) (slice_index t.distances m) m ≡ []) (sym same) by.up_root
   | inr ne ↦ let some = sym is ∙ r.parents at l ne in cc
 ]
-
--- a list that grows by the way up, with what is still to come
-pub way_goes_on : (old new rest whole : List ℕ) (x : ℕ) → new ≡ old ++ x ∷ [] → old ++ x ∷ rest ≡ whole → new ++ rest ≡ whole
-way_goes_on old new rest whole x grew is = ap (λ xs. xs ++ rest) grew ∙ append_assoc old (x ∷ []) rest ∙ is
 
 -- the way up from one end turned, and then that from the other
 pub loop_listed : (mesh : Mesh) (t : TreeTables) (e u v : ℕ) (l0 l1 l2 l3 : List ℕ) → IsRooted mesh t → u < mesh.vertices → u ≡ (ends mesh e).0 → v ≡ (ends mesh e).1 →

@@ -12,7 +12,8 @@ use Rattle.surf_surfaces.specs.Mesh.{Mesh, pair, steps, steps_from}
 use Rattle.surf_surfaces.specs.Surface.{face_count, edge_count, ends, IsSurface}
 use Rattle.surf_surfaces.specs.Walk.{last_from}
 use Rattle.surf_opening.specs.Laws.{TellsCut, cut_count}
-use Rattle.surf_opening.specs.ChosenCut.{cut_degree, AreDivided, ListsCotree, full_cut, SameEdges, HasNoEnd, IsWithin, IsLargestEndless, IsTreeEdge, IsTreePath, IsNamedPath, AreTheTwo, IsTrimmedCut}
+use Rattle.surf_surfaces.specs.Degrees.{degree_in}
+use Rattle.surf_opening.specs.ChosenCut.{AreDivided, ListsCotree, full_cut, SameEdges, HasNoEnd, IsWithin, IsLargestEndless, IsTreeEdge, IsTreePath, IsNamedPath, AreTheTwo, IsTrimmedCut}
 use Rattle.surf_opening.specs.Named.{IsTrimmedByGreatest, IsCutPath, IsNamed}
 use Rattle.surf_opening.specs.Rim.{along, back}
 use Rattle.surf_opening.specs.Side.{Side}
@@ -91,7 +92,7 @@ module _ {mesh : Mesh} (surface : IsSurface mesh) {tree cotree : Tree} (split : 
 
   module _ (uncut : List (ℕ × ℕ)) (cut : Chain) (trimmed : IsTrimmedByGreatest (Side mesh) list uncut)
       (told : TellsCut mesh uncut cut)
-      (ended : (cut_count mesh cut ≤ 2) ⊎ ((v : ℕ) → v < mesh.vertices → cut_degree mesh cut v ≢ 1)) where
+      (ended : (cut_count mesh cut ≤ 2) ⊎ ((v : ℕ) → v < mesh.vertices → degree_in mesh cut v ≢ 1)) where
     within_full : IsWithin mesh cut full
     within_full e h held =
         (list_told e h).1 (λ u. (told e h).0 held (trimmed_keeps surface trimmed (ends mesh e).0 (ends mesh e).1 u))
@@ -218,7 +219,7 @@ module _ {mesh : Mesh} (surface : IsSurface mesh) {tree cotree : Tree} (split : 
     -- the first two edges of a cut path from 0 to 1, or of one through 0 1 to 2
     module _ (uncut : List (ℕ × ℕ)) (cut : Chain) (trimmed : IsTrimmedByGreatest (Side mesh) list uncut)
         (told : TellsCut mesh uncut cut)
-        (ended : (cut_count mesh cut ≤ 2) ⊎ ((v : ℕ) → v < mesh.vertices → cut_degree mesh cut v ≢ 1)) where
+        (ended : (cut_count mesh cut ≤ 2) ⊎ ((v : ℕ) → v < mesh.vertices → degree_in mesh cut v ≢ 1)) where
       two_of : (k : ℕ) (at : ℕ → ℕ) → 2 ≤ k → IsCutPath (Side mesh) list k at → IsNamed k at →
           ((IsTreeEdge mesh tree (0, 1) × (pair (at 0) (at 1) ≡ (0, 1)) × (at k ≡ 2))
           ⊎ ((IsTreeEdge mesh tree (0, 1) → ⊥) × (at 0 ≡ 0) × (at k ≡ 1))) → AreTheTwo mesh tree cut
@@ -273,7 +274,7 @@ module _ {mesh : Mesh} (surface : IsSurface mesh) {tree cotree : Tree} (split : 
   -- what trimming to the end leaves is the trimmed cut
   pub trimmed_is_chosen : (uncut : List (ℕ × ℕ)) (cut : Chain) → IsTrimmedByGreatest (Side mesh) list uncut →
       TellsCut mesh uncut cut →
-      (cut_count mesh cut ≤ 2) ⊎ ((v : ℕ) → v < mesh.vertices → cut_degree mesh cut v ≢ 1) →
+      (cut_count mesh cut ≤ 2) ⊎ ((v : ℕ) → v < mesh.vertices → degree_in mesh cut v ≢ 1) →
       IsTrimmedCut mesh tree cotree cut
   trimmed_is_chosen uncut cut trimmed told ended = record {
     below_two = largest_left uncut cut trimmed told ended;

@@ -1,7 +1,7 @@
 -- A closed walk that meets no vertex of the trimmed cut is null. Its parity and the boundary of some faces differ at most
 -- along the cut. From one cut side to the next round the border of the opening, the faces between are parted by no edge
 -- of the walk, so all faces along the border are in the set or none is, and nothing is left.
-use Rattle.std.proofs.Common.{◌≡◌, ◌≢◌, ℕ, zero, suc, ◌+◌, ◌<◌, ◌⊎◌, inl, inr, sym, refl, subst, ap, ◌∙◌, Bool, true, false, not, ◌&&◌, eqb, List, [], ◌∷◌, map, length, arith, eqb-true}
+use Rattle.std.proofs.Common.{◌≡◌, ◌≢◌, ℕ, ◌+◌, ◌<◌, ◌⊎◌, inl, inr, sym, refl, subst, ap, ◌∙◌, Bool, true, false, not, ◌&&◌, eqb, List, [], ◌∷◌, map, length, arith, eqb-true}
 use Rattle.std.specs.List.{AllByRecursion}
 use Rattle.std.proofs.lemmas.Bool.{cases_eq, cases_Bool, both_ways, or_cases, or_left, eq-eqb, false_from_ne_true}
 use Rattle.std.proofs.lemmas.List.Elements.{recursion_from_All}
@@ -14,7 +14,7 @@ use Rattle.surf_graphs.specs.Trees.{Tree}
 use Rattle.surf_graphs.proofs.CellLaws.{boundary_even as cells_boundary_even, signature_null}
 use Rattle.surf_graphs.proofs.Counting.{left_edges}
 use Rattle.surf_graphs.proofs.Graphs.{even-xor}
-use Rattle.surf_graphs.proofs.Rounds.{par, par-suc, par-zero}
+use Rattle.surf_graphs.proofs.Rounds.{par, par-suc, par-zero, odd_counted}
 use Rattle.surf_graphs.proofs.Trees.{along as along_tree, along_leaves, tree_edge}
 use Rattle.surf_surfaces.specs.Cells.{cells_of}
 use Rattle.surf_surfaces.specs.Cotree.{cotree_edges, split_of}
@@ -63,19 +63,7 @@ walk_misses : (v w : ℕ) (walk : List ℕ) → AllByRecursion (λ u. u ≢ v) w
 walk_misses v w [] offs = refl
 walk_misses v w (u ∷ rest) offs = steps_miss v w u rest offs.0 offs.1
 
--- an odd number of numbers pass where the count of them is odd
-odd_counted : (n : ℕ) (p : ℕ → Bool) → odd_below n p ≡ par (count_below n p)
-odd_counted zero p = sym par-zero
-odd_counted (suc n) p = elim (cases_Bool (p n)) [
-  | inl e ↦
-      let one : 1 + count_below n p ≡ suc (count_below n p) = omega arith in
-      rw e (ap not (odd_counted n p) ∙ sym (par-suc (count_below n p)) ∙ sym (ap par one))
-  | inr e ↦
-      let none : 0 + count_below n p ≡ count_below n p = omega arith in
-      rw e (odd_counted n p ∙ sym (ap par none))
-]
-
--- so an even number of them is not one
+-- an even number of numbers that pass is not one
 even_is_not_one : (n : ℕ) (p : ℕ → Bool) → odd_below n p ≡ false → count_below n p ≢ 1
 even_is_not_one n p even one =
     both_ways (par 1) (sym (odd_counted n p ∙ ap par one) ∙ even) (par-suc 0 ∙ ap not par-zero)

@@ -3,28 +3,19 @@ use Rattle.std.proofs.Common.{◌≡◌, ◌≢◌, ℕ, zero, suc, ◌<◌, ◌
 use Rattle.std.proofs.lemmas.Bool.{cases_eq, cases_Bool, both_ways}
 use Rattle.surf_z2.specs.Parity.{count_below, any_below, least_below}
 use Rattle.surf_z2.proofs.Sums.{count_below-all}
+use Rattle.surf_z2.proofs.Counting.{count_mono}
 use Rattle.surf_z2.proofs.ParityLaws.{any_below-found, any_below-from, least_below-found}
 use Rattle.surf_opening.proofs.Counting.{pigeons}
 use Rattle.surf_opening.proofs.NamedEdges.{search_below}
 use Rattle.surf_opening.proofs.Slits.{lower, lower_below, lower_tells}
 
--- what passes the one test passes the other
-count_le : (n : ℕ) (p q : ℕ → Bool) → ((k : ℕ) → k < n → p k ≡ true → q k ≡ true) → count_below n p ≤ count_below n q
-count_le zero p q h = omega arith
-count_le (suc n) p q h =
-    let rest : count_below n p ≤ count_below n q = count_le n p q (λ k l. h k (omega arith)) in
-    elim (cases_Bool (p n)) [
-      | inl e ↦ rw (e, h n (omega arith) e) (omega arith)
-      | inr e ↦ rw e (omega arith)
-    ]
-
--- and one more passes that
+-- what passes the one test passes the other, and one more passes that
 count_less : (n : ℕ) (p q : ℕ → Bool) (j : ℕ) → ((k : ℕ) → k < n → p k ≡ true → q k ≡ true) → j < n → p j ≡ false →
     q j ≡ true → count_below n p < count_below n q
 count_less zero p q j h l a b = absurd (omega arith)
 count_less (suc n) p q j h l a b = elim (cases_eq j n) [
   | inl same ↦
-      let rest : count_below n p ≤ count_below n q = count_le n p q (λ k l. h k (omega arith)) in
+      let rest : count_below n p ≤ count_below n q = count_mono n p q (λ k l. h k (omega arith)) in
       rw (ap p (sym same) ∙ a, ap q (sym same) ∙ b) (omega arith)
   | inr differ ↦
       let rest : count_below n p < count_below n q = count_less n p q j (λ k l. h k (omega arith)) (omega arith) a b in

@@ -7,7 +7,7 @@ use Rattle.surf_z2.proofs.Sums.{count_below-same, count_below-without}
 use Rattle.surf_surfaces.specs.Mesh.{Mesh}
 use Rattle.surf_surfaces.specs.Surface.{edge_count, IsSurface}
 use Rattle.surf_opening.specs.Laws.{TellsCut, cut_count, without}
-use Rattle.surf_opening.specs.ChosenCut.{cut_degree}
+use Rattle.surf_surfaces.specs.Degrees.{degree_in}
 use Rattle.surf_opening.specs.Named.{IsTrimmedByGreatest}
 use Rattle.surf_opening.specs.Side.{Side}
 use Rattle.surf_opening.proofs.CutCounts.{leaf_counted, trimming_by_greatest_goes_on}
@@ -58,7 +58,7 @@ pub record IsTrimmedOut (mesh : Mesh) (list : List (ℕ × ℕ)) : Type 0 where
   pub cut : Chain
   pub trimmed : IsTrimmedByGreatest (Side mesh) list uncut
   pub told : TellsCut mesh uncut cut
-  pub ended : (cut_count mesh cut ≤ 2) ⊎ ((v : ℕ) → v < mesh.vertices → cut_degree mesh cut v ≢ 1)
+  pub ended : (cut_count mesh cut ≤ 2) ⊎ ((v : ℕ) → v < mesh.vertices → degree_in mesh cut v ≢ 1)
 
 pub trim_on : {mesh : Mesh} (surface : IsSurface mesh) (list : List (ℕ × ℕ)) (steps : ℕ) (uncut : List (ℕ × ℕ))
     (cut : Chain) →
@@ -68,8 +68,8 @@ trim_on {mesh} surface list zero uncut cut trimmed told few =
     record { uncut = uncut; cut = cut; trimmed = trimmed; told = told; ended = inl (omega arith) }
 trim_on {mesh} surface list (suc steps) uncut cut trimmed told few = elim (cases_lt 2 (cut_count mesh cut)) [
   | inr small ↦ record { uncut = uncut; cut = cut; trimmed = trimmed; told = told; ended = inl small }
-  | inl many ↦ elim (greatest_below mesh.vertices (λ v. cut_degree mesh cut v ≡ 1)
-      (λ v. cases_eq (cut_degree mesh cut v) 1)) [
+  | inl many ↦ elim (greatest_below mesh.vertices (λ v. degree_in mesh cut v ≡ 1)
+      (λ v. cases_eq (degree_in mesh cut v) 1)) [
         | inr none ↦ record { uncut = uncut; cut = cut; trimmed = trimmed; told = told; ended = inr none }
         | inl found ↦
             let p = found.0 in

@@ -8,29 +8,25 @@
 -- With copies that are opened along the list (`LabelsAreCopies`) and in order (`AreInOrder`),
 -- `OpenedAreChosen` makes the whole an `IsChosenOpening`.
 use Rattle.std.specs.Prelude.{◌≡◌, ◌≢◌, ℕ, ◌+◌, ◌<◌, Bool, IsTrue, IsFalse, MatchBool, ◌||◌, ◌↔◌, ◌⊎◌, List, ◌∷◌, All}
-use Rattle.std.specs.Prelude.{AllPairs, ◌&&◌, [], length, Contains, slice_index, slice_index_or}
+use Rattle.std.specs.Prelude.{AllPairs, [], length, Contains, slice_index, slice_index_or}
 use Rattle.surf_z2.specs.Space.{Chain}
 use Rattle.surf_graphs.specs.Cells.{IsSplit}
 use Rattle.surf_graphs.specs.Trees.{Tree}
 use Rattle.surf_surfaces.specs.Cells.{cells_of}
 use Rattle.surf_surfaces.specs.Cotree.{tree_edges, is_left, split_of, cotree_edges}
 use Rattle.surf_surfaces.specs.Mesh.{Mesh, pair, pair_of, steps}
-use Rattle.surf_surfaces.specs.Surface.{face_count, edge_count, ends, touches}
+use Rattle.surf_surfaces.specs.Surface.{face_count, edge_count, ends}
+use Rattle.surf_surfaces.specs.Degrees.{degree_in}
 use Rattle.surf_surfaces.specs.Walk.{last}
 use Rattle.surf_opening.specs.Opening.{IsOpenedBy}
 use Rattle.surf_opening.specs.Side.{Side}
 use Rattle.surf_opening.specs.Uncut.{IsDualTree, Uncut}
-use Rattle.surf_z2.specs.Parity.{count_below}
 
 -- the pairs in the list are the edges of the tree of faces
 abbrev pub HasItsEdges : Mesh → Tree → List (ℕ × ℕ) → Type 0
 HasItsEdges mesh cotree tree =
     (v w : ℕ) → Uncut tree v w
     ↔ ((e : ℕ) × (e < edge_count mesh) × IsTrue (cotree_edges mesh cotree e) × (ends mesh e ≡ pair v w))
-
--- how many cut edges are at a vertex
-abbrev pub cut_degree : Mesh → Chain → ℕ → ℕ
-cut_degree mesh cut v = count_below (edge_count mesh) (λ e. cut e && touches v (ends mesh e))
 
 -- copies are in order of their vertices, and those of one vertex in order of the least faces that have
 -- them: the first of two is in a face before all that have the second
@@ -61,7 +57,7 @@ SameEdges mesh a b = (e : ℕ) → e < edge_count mesh → a e ≡ b e
 
 -- no vertex has exactly one edge of the set
 abbrev pub HasNoEnd : Mesh → Chain → Type 0
-HasNoEnd mesh cut = (v : ℕ) → v < mesh.vertices → cut_degree mesh cut v ≢ 1
+HasNoEnd mesh cut = (v : ℕ) → v < mesh.vertices → degree_in mesh cut v ≢ 1
 
 -- all edges of the one set are in the other
 abbrev pub IsWithin : Mesh → Chain → Chain → Type 0

@@ -8,7 +8,8 @@ use Rattle.surf_surfaces.specs.Mesh.{Mesh}
 use Rattle.surf_surfaces.specs.Surface.{face_count, edge_count, IsSurface}
 use Rattle.surf_surfaces.specs.Walk.{ArePositive}
 use Rattle.surf_opening.specs.Laws.{TellsCut, cut_count}
-use Rattle.surf_opening.specs.ChosenCut.{cut_degree, AreInOrder, AreDivided, ListsCotree, SameEdges, IsChosenCut}
+use Rattle.surf_surfaces.specs.Degrees.{degree_in}
+use Rattle.surf_opening.specs.ChosenCut.{AreInOrder, AreDivided, ListsCotree, SameEdges, IsChosenCut}
 use Rattle.surf_opening.specs.ChosenCut.{IsChosenOpening}
 use Rattle.surf_opening.specs.Named.{IsTrimmedByGreatest}
 use Rattle.surf_opening.specs.Opening.{IsOpenedBy}
@@ -34,7 +35,7 @@ TrimmedCutsAreChosen =
     (mesh : Mesh) (tree cotree : Tree) (list uncut : List (ℕ × ℕ)) (cut : Chain) → IsSurface mesh →
     AreDivided mesh tree cotree → ListsCotree mesh cotree list → IsTrimmedByGreatest (Side mesh) list uncut →
     TellsCut mesh uncut cut →
-    (cut_count mesh cut ≤ 2) ⊎ ((v : ℕ) → v < mesh.vertices → cut_degree mesh cut v ≢ 1) →
+    (cut_count mesh cut ≤ 2) ⊎ ((v : ℕ) → v < mesh.vertices → degree_in mesh cut v ≢ 1) →
     IsChosenCut mesh tree cotree true cut
 
 -- Faces over copies that are opened along it, in order, are the chosen opening.

@@ -1,13 +1,13 @@
 -- The edges that flags do not fit: even at each vertex, and a boundary exactly where there is a turning.
 use Rattle.std.proofs.Common.{◌≡◌, ◌≢◌, ℕ, zero, suc, ◌+◌, ◌-◌, ◌<◌, ◌≤◌, Bool, true, false, cond, not, ◌&&◌, eqb, [], length, refl, sym, ◌∙◌, ap, arith, inl, inr, subst}
 use Rattle.std.specs.Prelude.{pos, ◌≤ℤ◌}
-use Rattle.std.proofs.lemmas.Bool.{cases_lt, cases_Bool, lt-ltb, le-ltb, eq-eqb, ne_eqb, eqb-true}
+use Rattle.std.proofs.lemmas.Bool.{cases_lt, lt-ltb, le-ltb, eq-eqb, ne_eqb, eqb-true}
 use Rattle.surf_z2.specs.Parity.{xor, odd_below, count_below}
 use Rattle.surf_graphs.specs.Graphs.{IsEven}
 use Rattle.surf_graphs.specs.Cells.{primal, IsNullChain}
 use Rattle.surf_graphs.proofs.Counting.{left_edges}
 use Rattle.surf_z2.proofs.Sums.{count_below-same, count_below-paired}
-use Rattle.surf_graphs.proofs.Rounds.{par, par-suc, par-zero}
+use Rattle.surf_graphs.proofs.Rounds.{par, odd_counted}
 use Rattle.surf_graphs.proofs.CellLaws.{signature_null}
 use Rattle.surf_surfaces.specs.Mesh.{Mesh, pair, pair_eq}
 use Rattle.surf_surfaces.specs.Surface.{face_count, edge_count, face_at, ends, faces_of, touches, runs, runs_turned, IsSurface}
@@ -26,18 +26,6 @@ use Rattle.surf_orientation.proofs.Turned.{next, prev, start, finish, ends_are, 
 use Rattle.surf_orientation.proofs.VertexLaws.{runs_side}
 use Rattle.surf_orientation.proofs.OneSidedLaws.{has_first, has_second, orientations_fit}
 use Rattle.surf_orientation.proofs.GenusLaws.{surfaces_have_splits, counts_are_at_most_two_more, characteristic_is, at_most_one}
-
--- an odd number is one with an odd count
-odd_count : (n : ℕ) (p : ℕ → Bool) → odd_below n p ≡ par (count_below n p)
-odd_count zero p = sym par-zero
-odd_count (suc n) p = elim (cases_Bool (p n)) [
-  | inl e ↦
-      let one : 1 + count_below n p ≡ suc (count_below n p) = omega arith in
-      rw e (ap not (odd_count n p) ∙ sym (par-suc (count_below n p)) ∙ sym (ap par one))
-  | inr e ↦
-      let none : 0 + count_below n p ≡ count_below n p = omega arith in
-      rw e (odd_count n p ∙ sym (ap par none))
-]
 
 count_both : (n : ℕ) (p q r : ℕ → Bool) → ((k : ℕ) → k < n → cond (r k) 1 0 ≡ cond (p k) 1 0 + cond (q k) 1 0) →
     count_below n r ≡ count_below n p + count_below n q
@@ -226,7 +214,7 @@ module _ (mesh : Mesh) (surface : IsSurface mesh) (flags : ℕ → Bool) (v : �
       let E = edge_count mesh in
       let n = side_count mesh in
       let all : odd_below n starts ≡ odd_below E meets =
-      odd_count n starts ∙ ap par starts_count ∙ sym (odd_count E meets) in
+      odd_counted n starts ∙ ap par starts_count ∙ sym (odd_counted E meets) in
       let by_edge : odd_below n starts ≡ odd_below E (λ e. meets e && not (misfit mesh flags e)) =
       odd_parts E E starts ∙ sym (odd_below-xor E starts (λ e. starts (e + E))) ∙ odd_below-same E
       (λ e. xor (starts e) (starts (e + E))) (λ e. meets e && not (misfit mesh flags e)) fits_at in

@@ -12,7 +12,7 @@ use Rattle.surf_surfaces.specs.Mesh.{Mesh}
 use Rattle.surf_surfaces.specs.Surface.{face_count, edge_count, ends, touches}
 use Rattle.surf_opening.specs.Laws.{cut_count}
 use Rattle.surf_seams.specs.Laws.{TwoPointsAreCut, PointsApartAreLong, ThreePointsAreLong}
-use Rattle.surf_seams.proofs.Counts.{count_some, count_one}
+use Rattle.surf_z2.proofs.Counting.{count_some, count_one}
 use Rattle.surf_seams.proofs.Openings.{cuts_through_are_long}
 use Rattle.surf_seams.proofs.Pieces.{ends_at, points_are_on_cut}
 use Rattle.surf_seams.proofs.Ways.{lower, itself, passed_up, cuts_through_are_ways}

@@ -16,7 +16,7 @@ use Rattle.surf_opening.specs.Laws.{cut_count}
 use Rattle.surf_opening.proofs.CutCounts.{spheres_are_cut_along_trees}
 use Rattle.surf_opening.proofs.CutLists.{full_is}
 use Rattle.surf_seams.specs.Laws.{OnePointIsNotCut, JoinedPointsAreShort}
-use Rattle.surf_seams.proofs.Counts.{count_mono}
+use Rattle.surf_z2.proofs.Counting.{count_mono}
 use Rattle.surf_seams.proofs.Ways.{up_ends, cuts_through_are_ways}
 
 -- there is no way from a vertex to itself

@@ -1,4 +1,3 @@
-pub mod Counts
 pub mod Taking
 pub mod Pieces
 pub mod Openings

@@ -8,7 +8,8 @@ use Rattle.surf_surfaces.specs.Mesh.{Mesh, pair}
 use Rattle.surf_surfaces.specs.Side.{after, side_pair, corner}
 use Rattle.surf_surfaces.specs.Surface.{edge_count, face_at, faces_with, ends, touches, HasEdge, IsSurface}
 use Rattle.surf_surfaces.proofs.FaceLaws.{pair_comm}
-use Rattle.surf_opening.specs.ChosenCut.{cut_degree, AreDivided, ListsCotree, full_cut, SameEdges}
+use Rattle.surf_surfaces.specs.Degrees.{degree_in}
+use Rattle.surf_opening.specs.ChosenCut.{AreDivided, ListsCotree, full_cut, SameEdges}
 use Rattle.surf_opening.specs.Laws.{TellsCut, cut_count, without}
 use Rattle.surf_opening.specs.Opening.{corner_of}
 use Rattle.surf_opening.specs.Rim.{along}
@@ -109,9 +110,9 @@ cuts_through_are_long mesh tree cotree points cut surface split low through =
     let e = edge_told surface out.uncut out.cut out.told side.1 side.2 (side.0, side.3) in
     let v = (ends mesh e.0).0 in
     let v_in : v < mesh.vertices = first_below surface e.0 e.1 in
-    let some : 1 ≤ cut_degree mesh out.cut v = degree_some mesh out.cut v e.0 e.1 e.3 (at_first mesh v e.0 (refl {a = v})) in
-    let not_one : cut_degree mesh out.cut v ≢ 1 = endless.no_end v v_in in
-    let most : cut_degree mesh out.cut v ≤ cut_count mesh out.cut = degree_count mesh out.cut v in
+    let some : 1 ≤ degree_in mesh out.cut v = degree_some mesh out.cut v e.0 e.1 e.3 (at_first mesh v e.0 (refl {a = v})) in
+    let not_one : degree_in mesh out.cut v ≢ 1 = endless.no_end v v_in in
+    let most : degree_in mesh out.cut v ≤ cut_count mesh out.cut = degree_count mesh out.cut v in
     let wide : cut_count mesh out.cut ≤ cut_count mesh cut = within_count mesh out.cut cut
     (through.largest out.cut endless.within (λ v h out'. endless.no_end v h)) in
     omega arith

@@ -10,10 +10,11 @@ use Rattle.surf_surfaces.specs.Cotree.{tree_edges, is_left}
 use Rattle.surf_surfaces.specs.Mesh.{Mesh}
 use Rattle.surf_surfaces.specs.Surface.{edge_count, ends, touches, IsSurface}
 use Rattle.surf_surfaces.proofs.CellLaws.{ends_below}
-use Rattle.surf_opening.specs.ChosenCut.{cut_degree, AreDivided, full_cut, SameEdges}
+use Rattle.surf_surfaces.specs.Degrees.{degree_in}
+use Rattle.surf_opening.specs.ChosenCut.{AreDivided, full_cut, SameEdges}
 use Rattle.surf_seams.specs.Through.{IsTakenBackTo, whole, taken, IsInOnePiece, IsOnCut}
 use Rattle.surf_seams.specs.Laws.{CutsThroughAreConnected, PointsAreOnCut}
-use Rattle.surf_seams.proofs.Counts.{count_found}
+use Rattle.surf_z2.proofs.Counting.{count_found}
 use Rattle.surf_seams.proofs.Taking.{degree_some, degree_found, loose_only, left_with, left_from, take_all, through_is_taken}
 
 -- the ends of an edge that has a vertex
@@ -141,12 +142,12 @@ module _ {mesh : Mesh} (surface : IsSurface mesh) where
     -- the full cut is at each vertex, where it has an edge
     full_at : (cut : Chain) → SameEdges mesh cut full → (k : ℕ) → k < edge_count mesh → (v : ℕ) → v < mesh.vertices →
         IsOnCut mesh cut v
-    full_at cut same k k_in v h = elim (cases_lt 0 (cut_degree mesh cut v)) [
+    full_at cut same k k_in v h = elim (cases_lt 0 (degree_in mesh cut v)) [
       | inl some ↦ degree_found mesh cut v (omega arith)
       | inr none ↦
           let off : (e : ℕ) → e < edge_count mesh → cut e ≡ true → touches v (ends mesh e) ≡ true → ⊥ =
-          λ e e_in held end. let some : 1 ≤ cut_degree mesh cut v = degree_some mesh cut v e e_in held end in
-          (let none' : cut_degree mesh cut v ≤ 0 = none in omega arith) in
+          λ e e_in held end. let some : 1 ≤ degree_in mesh cut v = degree_some mesh cut v e e_in held end in
+          (let none' : degree_in mesh cut v ≤ 0 = none in omega arith) in
           let test = λ (x : ℕ). eqb x v in
           let alike = all_alike mesh tree split.tree_is test (λ e e_in in_tree'.
           let held = same e e_in ∙ tree_in_full e in_tree' in
@@ -169,7 +170,7 @@ module _ {mesh : Mesh} (surface : IsSurface mesh) where
         let on = taken_at before k k_in was.0 v h is in
         elim (cases_eq on.0 l) [
           | inr differ ↦ (on.0, on.1, left_with mesh cut next l on.0 same on.1 on.2 differ, on.3)
-          | inl first ↦ elim (cases_lt 0 (cut_degree mesh next v)) [
+          | inl first ↦ elim (cases_lt 0 (degree_in mesh next v)) [
             | inl some ↦ degree_found mesh next v (omega arith)
             | inr none ↦
                 let v_apart : v ≢ p = λ s. both_ways (points p) loose.no_point (ap points (sym s) ∙ is) in
@@ -180,10 +181,10 @@ module _ {mesh : Mesh} (surface : IsSurface mesh) where
                 off_both x p v
                 (λ s. differ (loose_only mesh points cut l p e loose e_in held
                 (ap (λ x. touches x (ends mesh e)) (sym s) ∙ end)))
-                (λ s. let some : 1 ≤ cut_degree mesh next v = degree_some mesh next v e e_in
+                (λ s. let some : 1 ≤ degree_in mesh next v = degree_some mesh next v e e_in
                 (left_with mesh cut next l e same e_in held differ)
                 (ap (λ x. touches x (ends mesh e)) (sym s) ∙ end) in
-                (let none' : cut_degree mesh next v ≤ 0 = none in omega arith)) in
+                (let none' : degree_in mesh next v ≤ 0 = none in omega arith)) in
                 let on_l : (test (ends mesh l).0 ≡ true) × (test (ends mesh l).1 ≡ true) =
                 both_on l p v loose.is_edge v_apart loose.its_end at_v in
                 absurd (not_both (taken_connected before) test

@@ -6,36 +6,37 @@ use Rattle.surf_z2.proofs.Sums.{count_below-same}
 use Rattle.surf_surfaces.specs.Mesh.{Mesh}
 use Rattle.surf_surfaces.specs.Surface.{edge_count, ends, touches}
 use Rattle.surf_surfaces.proofs.FaceLaws.{touches_first}
-use Rattle.surf_opening.specs.ChosenCut.{cut_degree, SameEdges, IsWithin}
+use Rattle.surf_surfaces.specs.Degrees.{degree_in}
+use Rattle.surf_opening.specs.ChosenCut.{SameEdges, IsWithin}
 use Rattle.surf_opening.specs.Laws.{cut_count, without}
 use Rattle.surf_opening.proofs.Chosen.{same_where}
 use Rattle.surf_seams.specs.Through.{HasEndsIn, IsCutThrough, IsLooseAt, IsTakenBackTo, whole, taken}
 use Rattle.surf_seams.specs.Laws.{CutsThroughExist, CutsThroughAreOne, TakenBackAreThrough, TakingBackKeeps, TakingBackEnds, TakingBackGoesOn, EndlessAreThroughNone, CutsThroughGrow}
-use Rattle.surf_seams.proofs.Counts.{count_mono, count_some, count_found, count_one, count_less}
+use Rattle.surf_z2.proofs.Counting.{count_mono, count_some, count_found, count_one, count_less}
 
 -- a wider set has no less edges, in all and at a vertex
 pub within_count : (mesh : Mesh) (cut other : Chain) → IsWithin mesh cut other → cut_count mesh cut ≤ cut_count mesh other
 within_count mesh cut other within = count_mono (edge_count mesh) cut other within
 
 pub within_degree : (mesh : Mesh) (cut other : Chain) (v : ℕ) → IsWithin mesh cut other →
-    cut_degree mesh cut v ≤ cut_degree mesh other v
+    degree_in mesh cut v ≤ degree_in mesh other v
 within_degree mesh cut other v within =
     count_mono (edge_count mesh) (λ e. cut e && touches v (ends mesh e)) (λ e. other e && touches v (ends mesh e))
     (λ e h held. let parts = and_parts (cut e) (touches v (ends mesh e)) held in
     and_from (other e) (touches v (ends mesh e)) (within e h parts.0) parts.1)
 
-pub degree_count : (mesh : Mesh) (cut : Chain) (v : ℕ) → cut_degree mesh cut v ≤ cut_count mesh cut
+pub degree_count : (mesh : Mesh) (cut : Chain) (v : ℕ) → degree_in mesh cut v ≤ cut_count mesh cut
 degree_count mesh cut v =
     count_mono (edge_count mesh) (λ e. cut e && touches v (ends mesh e)) cut
     (λ e h held. (and_parts (cut e) (touches v (ends mesh e)) held).0)
 
 pub degree_some : (mesh : Mesh) (cut : Chain) (v e : ℕ) → e < edge_count mesh → cut e ≡ true →
-    touches v (ends mesh e) ≡ true → 1 ≤ cut_degree mesh cut v
+    touches v (ends mesh e) ≡ true → 1 ≤ degree_in mesh cut v
 degree_some mesh cut v e h held end =
     count_some (edge_count mesh) e (λ e. cut e && touches v (ends mesh e)) h
     (and_from (cut e) (touches v (ends mesh e)) held end)
 
-pub degree_found : (mesh : Mesh) (cut : Chain) (v : ℕ) → 1 ≤ cut_degree mesh cut v →
+pub degree_found : (mesh : Mesh) (cut : Chain) (v : ℕ) → 1 ≤ degree_in mesh cut v →
     (e : ℕ) × (e < edge_count mesh) × (cut e ≡ true) × (touches v (ends mesh e) ≡ true)
 degree_found mesh cut v some =
     let e = count_found (edge_count mesh) (λ e. cut e && touches v (ends mesh e)) some in
@@ -79,10 +80,10 @@ taking_stays {mesh} {points} other within ends_in (taken {cut} next e p before l
     elim (cases_eq h e) [
       | inr differ ↦ left_with mesh cut next e h same h_in (so_far h h_in held) differ
       | inl is ↦
-          let some : 1 ≤ cut_degree mesh other p = degree_some mesh other p h h_in held
+          let some : 1 ≤ degree_in mesh other p = degree_some mesh other p h h_in held
           (ap (λ h. touches p (ends mesh h)) is ∙ loose.its_end) in
-          let few : cut_degree mesh other p ≤ cut_degree mesh cut p = within_degree mesh other cut p so_far in
-          let one : cut_degree mesh cut p ≡ 1 = loose.only in
+          let few : degree_in mesh other p ≤ degree_in mesh cut p = within_degree mesh other cut p so_far in
+          let one : degree_in mesh cut p ≡ 1 = loose.only in
           absurd (ends_in p loose.vertex loose.no_point (omega arith))
     ]
 
@@ -130,8 +131,8 @@ cuts_through_grow mesh full points more cut wider all a b = b.largest cut a.with
 
 -- a vertex below n that is no point and has one edge, or there is none
 loose_below : (mesh : Mesh) (points : ℕ → Bool) (cut : Chain) (n : ℕ) →
-    ((v : ℕ) × (v < n) × (points v ≡ false) × (cut_degree mesh cut v ≡ 1))
-    ⊎ ((v : ℕ) → v < n → points v ≡ false → cut_degree mesh cut v ≢ 1)
+    ((v : ℕ) × (v < n) × (points v ≡ false) × (degree_in mesh cut v ≡ 1))
+    ⊎ ((v : ℕ) → v < n → points v ≡ false → degree_in mesh cut v ≢ 1)
 loose_below mesh points cut zero = inr (λ v h out one. omega arith)
 loose_below mesh points cut (suc n) = elim (loose_below mesh points cut n) [
   | inl found ↦ let h : found.0 < n = found.1 in inl (found.0, omega arith, found.2, found.3)
@@ -140,10 +141,10 @@ loose_below mesh points cut (suc n) = elim (loose_below mesh points cut n) [
       | inl same ↦ both_ways (points n) (ap points (sym same) ∙ out) is
       | inr differ ↦ none v (omega arith) out one
     ])
-    | inr out ↦ elim (cases_eq (cut_degree mesh cut n) 1) [
+    | inr out ↦ elim (cases_eq (degree_in mesh cut n) 1) [
       | inl one ↦ inl (n, omega arith, out, one)
       | inr other ↦ inr (λ v h out one. elim (cases_eq v n) [
-        | inl same ↦ other (ap (λ v. cut_degree mesh cut v) (sym same) ∙ one)
+        | inl same ↦ other (ap (λ v. degree_in mesh cut v) (sym same) ∙ one)
         | inr differ ↦ none v (omega arith) out one
       ])
     ]
@@ -161,13 +162,13 @@ take_on : (mesh : Mesh) (points : ℕ → Bool) (full : Chain) (steps : ℕ) (cu
 take_on mesh points full zero cut before few = record {
   cut = cut;
   is_taken = before;
-  ends_in = λ v h out one. let less : cut_degree mesh cut v ≤ cut_count mesh cut = degree_count mesh cut v in
+  ends_in = λ v h out one. let less : degree_in mesh cut v ≤ cut_count mesh cut = degree_count mesh cut v in
       omega arith;
 }
 take_on mesh points full (suc steps) cut before few = elim (loose_below mesh points cut mesh.vertices) [
   | inr none ↦ record { cut = cut; is_taken = before; ends_in = none }
   | inl found ↦
-      let one : cut_degree mesh cut found.0 ≡ 1 = found.3 in
+      let one : degree_in mesh cut found.0 ≡ 1 = found.3 in
       let e = degree_found mesh cut found.0 (omega arith) in
       let loose : IsLooseAt mesh points cut e.0 found.0 = record {
         is_edge = e.1;

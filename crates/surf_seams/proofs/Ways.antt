@@ -14,12 +14,13 @@ use Rattle.surf_surfaces.specs.Cotree.{tree_edges, split_of}
 use Rattle.surf_surfaces.specs.Mesh.{Mesh}
 use Rattle.surf_surfaces.specs.Surface.{edge_count, ends, touches, IsSurface}
 use Rattle.surf_surfaces.proofs.EvenLaws.{touches-xor}
-use Rattle.surf_opening.specs.ChosenCut.{cut_degree, full_cut}
+use Rattle.surf_surfaces.specs.Degrees.{degree_in}
+use Rattle.surf_opening.specs.ChosenCut.{full_cut}
 use Rattle.surf_opening.proofs.CutCounts.{spheres_are_cut_along_trees}
 use Rattle.surf_opening.proofs.CutLists.{full_is}
 use Rattle.surf_seams.specs.Through.{HasEndsIn, IsOnWay}
 use Rattle.surf_seams.specs.Laws.{CutsThroughAreWays}
-use Rattle.surf_seams.proofs.Counts.{count_found, count_one, count_less}
+use Rattle.surf_z2.proofs.Counting.{count_found, count_one, count_less}
 use Rattle.surf_seams.proofs.Taking.{degree_found}
 use Rattle.surf_seams.proofs.Pieces.{at_first, at_second, ends_at, ends_differ}
 
@@ -137,11 +138,11 @@ most_rank rank (suc n) =
 
 -- at a vertex that has an edge, and not just one, there is another
 another_at : (mesh : Mesh) (cut : Chain) (v e : ℕ) → e < edge_count mesh → cut e ≡ true → touches v (ends mesh e) ≡ true →
-    cut_degree mesh cut v ≢ 1 →
+    degree_in mesh cut v ≢ 1 →
     (k : ℕ) × (k < edge_count mesh) × (cut k ≡ true) × (touches v (ends mesh k) ≡ true) × (k ≢ e)
 another_at mesh cut v e h held end many =
     let p = λ (k : ℕ). cut k && touches v (ends mesh k) in
-    let less : cut_degree mesh cut v ≡ suc (count_below (edge_count mesh) (λ k. p k && not (eqb k e))) =
+    let less : degree_in mesh cut v ≡ suc (count_below (edge_count mesh) (λ k. p k && not (eqb k e))) =
     count_less (edge_count mesh) e p h (and_from (cut e) (touches v (ends mesh e)) held end) in
     let k = count_found (edge_count mesh) (λ k. p k && not (eqb k e)) (omega arith) in
     let parts = and_parts (p k.0) (not (eqb k.0 e)) k.2 in

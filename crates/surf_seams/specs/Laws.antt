@@ -8,7 +8,8 @@ use Rattle.surf_surfaces.specs.Disc.{IsOpening}
 use Rattle.surf_surfaces.specs.Mesh.{Mesh, pair}
 use Rattle.surf_surfaces.specs.Surface.{face_count, edge_count, ends, touches, IsSurface}
 use Rattle.surf_surfaces.specs.Walk.{ArePositive}
-use Rattle.surf_opening.specs.ChosenCut.{cut_degree, AreInOrder, AreDivided, ListsCotree, full_cut, SameEdges, IsWithin}
+use Rattle.surf_surfaces.specs.Degrees.{degree_in}
+use Rattle.surf_opening.specs.ChosenCut.{AreInOrder, AreDivided, ListsCotree, full_cut, SameEdges, IsWithin}
 use Rattle.surf_opening.specs.ChosenCut.{IsLargestEndless, IsUncutEdge}
 use Rattle.surf_opening.specs.Laws.{TellsCut, cut_count, without}
 use Rattle.surf_opening.specs.Opening.{IsOpenedBy}
@@ -55,7 +56,7 @@ abbrev pub TakingBackGoesOn : Type 0
 TakingBackGoesOn =
     (mesh : Mesh) (full : Chain) (points : ℕ → Bool) (cut next : Chain) (e p q : ℕ) →
     IsTakenBackTo mesh points full cut → e < edge_count mesh → IsTrue (cut e) → ends mesh e ≡ pair p q →
-    p < mesh.vertices → IsFalse (points p) → cut_degree mesh cut p ≡ 1 → SameEdges mesh next (without cut e) →
+    p < mesh.vertices → IsFalse (points p) → degree_in mesh cut p ≡ 1 → SameEdges mesh next (without cut e) →
     IsTakenBackTo mesh points full next
 
 -- through no vertex it is the largest set without ends, so where χ is below 2 the trimmed cut

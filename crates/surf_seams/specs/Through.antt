@@ -6,13 +6,14 @@ use Rattle.surf_graphs.specs.Trees.{Tree}
 use Rattle.surf_surfaces.specs.Disc.{IsBorderEdge}
 use Rattle.surf_surfaces.specs.Mesh.{Mesh}
 use Rattle.surf_surfaces.specs.Surface.{edge_count, ends, touches}
-use Rattle.surf_opening.specs.ChosenCut.{cut_degree, AreInOrder, full_cut, SameEdges, IsWithin, IsUncutEdge}
+use Rattle.surf_surfaces.specs.Degrees.{degree_in}
+use Rattle.surf_opening.specs.ChosenCut.{AreInOrder, full_cut, SameEdges, IsWithin, IsUncutEdge}
 use Rattle.surf_opening.specs.Laws.{cut_count, without}
 use Rattle.surf_opening.specs.Opening.{IsOpenedBy}
 
 -- no vertex has exactly one edge of the set, but for points
 abbrev pub HasEndsIn : Mesh → (ℕ → Bool) → Chain → Type 0
-HasEndsIn mesh points cut = (v : ℕ) → v < mesh.vertices → IsFalse (points v) → cut_degree mesh cut v ≢ 1
+HasEndsIn mesh points cut = (v : ℕ) → v < mesh.vertices → IsFalse (points v) → degree_in mesh cut v ≢ 1
 
 -- the largest of the sets of edges of the full cut in which no vertex but a point has exactly one edge: it has
 -- all edges of each
@@ -28,7 +29,7 @@ pub record IsLooseAt (mesh : Mesh) (points : ℕ → Bool) (cut : Chain) (e p : 
   pub vertex : p < mesh.vertices
   pub no_point : IsFalse (points p)
   pub its_end : IsTrue (touches p (ends mesh e))
-  pub only : cut_degree mesh cut p ≡ 1
+  pub only : degree_in mesh cut p ≡ 1
 
 -- one set comes from the other by taking back, one by one, the only edge of a vertex that is no point
 pub data IsTakenBackTo (mesh : Mesh) (points : ℕ → Bool) (full : Chain) : Chain → Type 0 where

@@ -17,5 +17,4 @@ pub mod Searched
 pub mod Signed
 pub mod Sufficient
 pub mod Told
-pub mod Turned
 pub mod Walked

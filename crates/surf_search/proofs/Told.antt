@@ -25,7 +25,7 @@ use Rattle.surf_signatures.proofs.WayLaws.{loop_class}
 use Rattle.surf_lengths.specs.Lengths.{longest, AreLengths}
 use Rattle.surf_lengths.proofs.Positive.{lengths_positive}
 use Rattle.surf_tree.proofs.LengthLaws.{short_lengths}
-use Rattle.surf_search.proofs.Turned.{ends_in}
+use Rattle.surf_surfaces.proofs.CellLaws.{ends_in}
 use Rattle.surf_cotree.specs.Tables.{CotreeTables}
 use Rattle.surf_near.specs.declared.links.Link.{Link}
 use Rattle.surf_near.specs.Links.{AreLinks, AreLinksAt, link_in}

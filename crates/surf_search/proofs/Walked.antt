@@ -14,7 +14,8 @@ use Rattle.surf_surfaces.proofs.ChoiceExists.{choice_exists}
 use Rattle.surf_surfaces.proofs.FirstCycleLaws.{shortest_trees}
 use Rattle.surf_surfaces.proofs.FirstFoundLaws.{ends_are_near}
 use Rattle.surf_surfaces.proofs.ShortestTreeLaws.{shortest_is_tree}
-use Rattle.surf_search.proofs.Turned.{ends_in, way_reversed}
+use Rattle.surf_graphs.proofs.Turned.{way_reversed}
+use Rattle.surf_surfaces.proofs.CellLaws.{ends_in}
 use Rattle.surf_near.specs.Near.{NearTables, IsNear, is_near}
 use Rattle.surf_choice.specs.declared.candidate.Candidate.{Candidate}
 use Rattle.surf_search.specs.Walks.{AddsWay, IsLoopWalk, IsMeasured}

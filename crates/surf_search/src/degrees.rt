@@ -1,7 +1,8 @@
 //! How many edges with signatures there are at each vertex.
 ghost use Rattle.std.specs.Prelude.{◌≡◌, ◌<◌, ◌+◌, ◌^◌, ℕ, length, slice_index, slice_set};
 ghost use Rattle.surf_surfaces.specs.Surface.{edge_count};
-ghost use Rattle.surf_search.specs.Marks.{AreDegreesTo, by_degree, signed_degree};
+ghost use Rattle.surf_surfaces.specs.Degrees.{AreDegreesTo, degree_in};
+ghost use Rattle.surf_search.specs.Marks.{by_degree, is_signed};
 
 use surf_base::{EdgeId, VertexId};
 use surf_cotree::CotreeDesk;
@@ -21,8 +22,8 @@ fn count_edge(mesh: &HalfMesh, signatures: &CotreeDesk, degrees: &mut [u32], edg
     requires edge { edge < edge_count mesh.now }
     requires table { length signatures.now.signatures ≡ edge_count mesh.now }
     requires size { length degrees.old ≡ mesh.now.vertices }
-    requires so_far { AreDegreesTo mesh.now signatures.now edge degrees.old }
-    ensures { AreDegreesTo mesh.now signatures.now (edge + 1) degrees.new }
+    requires so_far { AreDegreesTo mesh.now (is_signed signatures.now) edge degrees.old }
+    ensures { AreDegreesTo mesh.now (is_signed signatures.now) (edge + 1) degrees.new }
 {
     mesh.law_of_surface();
     if !signatures.signature(edge).is_empty() {
@@ -38,7 +39,7 @@ pub fn count_signed(mesh: &HalfMesh, signatures: &CotreeDesk, degrees: &mut [u32
     requires size { length degrees.old ≡ mesh.now.vertices }
     requires none { (v : ℕ) → v < mesh.now.vertices → slice_index degrees.old v ≡ 0 }
     ensures { (v : ℕ) → v < mesh.now.vertices →
-        slice_index degrees.new v ≡ signed_degree mesh.now signatures.now v }
+        slice_index degrees.new v ≡ degree_in mesh.now (is_signed signatures.now) v }
 {
     for number in 0..mesh.edges() {
         count_edge(mesh, signatures, degrees, EdgeId::new(number));

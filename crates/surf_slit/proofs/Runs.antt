@@ -1,7 +1,8 @@
 -- Runs of places around a vertex between cuts.
 use Rattle.std.proofs.Common.{◌≡◌, ◌≢◌, ℕ, zero, suc, ◌+◌, ◌-◌, ◌<◌, ◌≤◌, ◌↔◌, max, inl, inr, sym, refl, subst, ap, ◌∙◌, cond, eqb, leb as nat_leb, Bool, true, false, arith, ne_eqb}
-use Rattle.std.proofs.lemmas.Bool.{cases_eq, cases_lt, cases_Bool, cond-true, cond-false, eq-eqb, both_ways, lt-ltb, le-ltb, le-leb, lt-leb, cases_order}
+use Rattle.std.proofs.lemmas.Bool.{cases_eq, cases_lt, cases_Bool, eq-eqb, both_ways, lt-ltb, le-ltb, le-leb, lt-leb, cases_order}
 use Rattle.surf_z2.specs.Parity.{count_below}
+use Rattle.surf_z2.proofs.Counting.{passes, fails, no_fall_to, passed_onto}
 use Rattle.surf_surfaces.specs.Joined.{Joined, here, over}
 use Rattle.surf_surfaces.specs.Side.{after}
 use Rattle.surf_surfaces.proofs.JoinedLaws.{joined_trans, joined_sym}
@@ -12,48 +13,11 @@ use Rattle.std.specs.Prelude.{◌⊎◌}
 abbrev pub Linked : ℕ → (ℕ → Bool) → ℕ → ℕ → Type 0
 Linked n cut i j = (k : ℕ) × (k < n) × (cut k ≡ false) × (((i ≡ k) × (j ≡ after n k)) ⊎ ((i ≡ after n k) × (j ≡ k)))
 
-passes : (p : ℕ → Bool) (n : ℕ) → p n ≡ true → count_below (suc n) p ≡ suc (count_below n p)
-passes p n e = let h : cond {A = ℕ} (p n) 1 0 ≡ 1 = cond-true {A = ℕ} (p n) 1 0 e in omega arith
-
-fails : (p : ℕ → Bool) (n : ℕ) → p n ≡ false → count_below (suc n) p ≡ count_below n p
-fails p n e = let h : cond {A = ℕ} (p n) 1 0 ≡ 0 = cond-false {A = ℕ} (p n) 1 0 e in omega arith
-
-pub grows : (p : ℕ → Bool) (n : ℕ) → count_below n p ≤ count_below (suc n) p
-grows p n = elim (cases_Bool (p n)) [
-  | inl e ↦ let d : count_below (suc n) p ≡ suc (count_below n p) = passes p n e in omega arith
-  | inr e ↦ let d : count_below (suc n) p ≡ count_below n p = fails p n e in omega arith
-]
-
-pub no_fall : (p : ℕ → Bool) (k d : ℕ) → count_below k p ≤ count_below (k + d) p
-no_fall p k zero = let z : k + 0 ≡ k = omega arith in rw z (omega arith)
-no_fall p k (suc d) = let z : k + suc d ≡ suc (k + d) = omega arith in rw z (omega (arith, no_fall p k d, grows p (k + d)))
-
-no_fall_to : (p : ℕ → Bool) (i j : ℕ) → i ≤ j → count_below i p ≤ count_below j p
-no_fall_to p i j le = let s : i + (j - i) ≡ j = omega arith in omega (arith, no_fall p i (j - i), ap (λ m. count_below m p) s)
-
 -- where the count stands still nothing passes
 still : (p : ℕ → Bool) (i j k : ℕ) → count_below i p ≡ count_below j p → i ≤ k → k < j → p k ≡ false
 still p i j k same a b = elim (cases_Bool (p k)) [
   | inr e ↦ e
   | inl e ↦ absurd (omega (arith, passes p k e, no_fall_to p i k a, no_fall_to p (suc k) j (omega arith)))
-]
-
--- each number below the count is that before some place that passes
-pub passed_onto : (p : ℕ → Bool) (n t : ℕ) → t < count_below n p → (k : ℕ) × (k < n) × (p k ≡ true) × (count_below k p ≡ t)
-passed_onto p zero t h = absurd (omega arith)
-passed_onto p (suc n) t h = elim (cases_lt t (count_below n p)) [
-  | inl a ↦ let i = passed_onto p n t a in let g : i.0 < n = i.1 in (i.0, omega arith, i.2, i.3)
-  | inr a ↦ elim (cases_Bool (p n)) [
-    | inl e ↦ let c : count_below (suc n) p ≡ suc (count_below n p) = passes p n e in (n, omega arith, e, omega arith)
-    | inr ne ↦ let c : count_below (suc n) p ≡ count_below n p = fails p n ne in absurd (omega arith)
-  ]
-]
-
-pub count_upto : (p : ℕ → Bool) (n : ℕ) → count_below n p ≤ n
-count_upto p zero = omega arith
-count_upto p (suc n) = elim (cases_Bool (p n)) [
-  | inl e ↦ omega (arith, passes p n e, count_upto p n)
-  | inr e ↦ omega (arith, fails p n e, count_upto p n)
 ]
 
 after_next : (n k : ℕ) → k + 1 < n → after n k ≡ k + 1

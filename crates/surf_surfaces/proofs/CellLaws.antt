@@ -144,3 +144,7 @@ surfaces_are_cells mesh surface = record {
         ap (λ t. t && xor (eqb (faces_of mesh e).0 f) (eqb (faces_of mesh e).1 f))
         (sym (touches-xor v (ends mesh e) moves))
         ∙ ap (λ t. touches v (ends mesh e) && t) (face_sides mesh surface f e in')
+
+-- the ends of an edge are vertices
+pub ends_in : (mesh : Mesh) → IsSurface mesh → (e : ℕ) → e < edge_count mesh → ((ends mesh e).0 < mesh.vertices) × ((ends mesh e).1 < mesh.vertices)
+ends_in mesh surface e l = (surfaces_are_cells mesh surface).complex.primal_ends e l

@@ -35,7 +35,7 @@ use Rattle.surf_surfaces.proofs.LeastLaws.{all_each, all_mapped}
 -- ---- lists of places
 
 -- those up to a place
-abbrev up_to : Place → List Place → List Place
+abbrev pub up_to : Place → List Place → List Place
 up_to limit ps = filter (λ p. is_no_later p limit) ps
 
 same_place : (p q : Place) → is_no_later p q ≡ true → is_no_later q p ≡ true → p ≡ q
@@ -73,7 +73,7 @@ same_rest true ps qs p h = omega arith
 same_rest false ps qs p h = h
 
 -- lists in order of which as many are up to each place are the same
-same_places : (ps qs : List Place) → Sorted is_no_later ps → Sorted is_no_later qs →
+pub same_places : (ps qs : List Place) → Sorted is_no_later ps → Sorted is_no_later qs →
     ((limit : Place) → length (up_to limit ps) ≡ length (up_to limit qs)) → ps ≡ qs
 same_places [] [] s t same = refl
 same_places [] (q ∷ qs) s t same =
@@ -108,7 +108,7 @@ module _ {X : Type 0} (place : X → Place) where
       split true e = ap suc e
       split false e = e
 
-  sorted_places : (xs : List X) → Sorted (λ x y. is_no_later (place x) (place y)) xs →
+  pub sorted_places : (xs : List X) → Sorted (λ x y. is_no_later (place x) (place y)) xs →
       Sorted is_no_later (map place xs)
   sorted_places [] s = tt
   sorted_places (x ∷ xs) s = (all_mapped (λ q. is_no_later (place x) q ≡ true) place xs s.0, sorted_places xs s.1)
@@ -117,7 +117,7 @@ module _ {X : Type 0} (place : X → Place) where
 loop_no_later : (c d : Loop) → comes_before c d ≡ true → is_no_later (place_of_loop c) (place_of_loop d) ≡ true
 loop_no_later c d h = grind (arith, nat_tests)
 
-by_place : (cs : List Loop) → Sorted comes_before cs →
+pub by_place : (cs : List Loop) → Sorted comes_before cs →
     Sorted (λ c d. is_no_later (place_of_loop c) (place_of_loop d)) cs
 by_place [] s = tt
 by_place (c ∷ cs) s = (

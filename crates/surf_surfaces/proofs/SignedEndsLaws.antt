@@ -1,15 +1,14 @@
 -- The ends of edges whose signatures aren't empty meet each closed walk that isn't null.
-use Rattle.std.proofs.Common.{◌≡◌, ℕ, suc, ◌<◌, Bool, true, false, ◌&&◌, not, eqb, List, [], ◌∷◌, length, Contains, refl, sym, ap, ◌∙◌, arith, ne_eqb, inl, inr}
+use Rattle.std.proofs.Common.{◌≡◌, ℕ, ◌<◌, Bool, true, false, ◌&&◌, not, eqb, [], ◌∷◌, length, refl, sym, ◌∙◌, arith, ne_eqb, inl, inr}
 use Rattle.std.proofs.lemmas.Bool.{cases_eq, cases_Bool, and_parts, and_from, false≢true, not-true, not_from_false, eqb-false}
 use Rattle.surf_z2.proofs.Below.{same_from, same_below, number_of-none}
 use Rattle.surf_z2.proofs.ParityLaws.{odd_below-none, any_below-found, any_below-none}
 use Rattle.surf_z2.specs.Parity.{any_below}
 use Rattle.surf_graphs.specs.Cells.{primal, Split, signature, chain_signature}
-use Rattle.surf_graphs.specs.Graphs.{Graph, joins, IsGraphWalk, edge_between, walk_chain}
+use Rattle.surf_graphs.specs.Graphs.{walk_chain}
 use Rattle.surf_graphs.specs.Independence.{signature_of}
-use Rattle.surf_graphs.proofs.Graphs.{edge_between_is}
 use Rattle.surf_graphs.proofs.Independence.{signature_of-same}
-use Rattle.surf_graphs.proofs.Trees.{one_of}
+use Rattle.surf_graphs.proofs.Walks.{walk_has_ends}
 use Rattle.surf_surfaces.specs.Mesh.{Mesh}
 use Rattle.surf_surfaces.specs.Surface.{edge_count, ends}
 use Rattle.surf_surfaces.specs.Walk.{parity}
@@ -18,23 +17,6 @@ use Rattle.surf_surfaces.specs.Signature.{edge_signature}
 use Rattle.surf_surfaces.specs.FewBases.{SignedEndsMeetAll}
 use Rattle.surf_surfaces.proofs.ClassLaws.{null_by_class}
 use Rattle.surf_surfaces.proofs.GraphWalkLaws.{graph_walk}
-
-later : (a : ℕ) (xs : List ℕ) (x : ℕ) → Contains xs x → Contains (a ∷ xs) x
-later a xs x (k, l, e) = (suc k, omega arith, e)
-
--- a walk has both ends of each edge that it runs an odd number of times
-walk_has_ends : (g : Graph) (a : ℕ) (w : List ℕ) (b e : ℕ) → IsGraphWalk g a w b → walk_chain g a w e ≡ true →
-    Contains (a ∷ w) (g.from e) × Contains (a ∷ w) (g.to e)
-walk_has_ends g a [] b e walk on = absurd (false≢true on)
-walk_has_ends g a (c ∷ w) b e walk on = elim (cases_eq (edge_between g a c) e) [
-  | inl same ↦ elim (one_of g a c e (ap (joins g a c) (sym same) ∙ (edge_between_is g a c walk.0).1)) [
-    | inl is ↦ ((0, omega arith, sym is.0), (1, omega arith, sym is.1))
-    | inr is ↦ ((1, omega arith, sym is.0), (0, omega arith, sym is.1))
-  ]
-  | inr ne ↦
-      let rest = walk_has_ends g c w b e walk.1 (rw (ne_eqb (edge_between g a c) e ne) at on) in
-      (later a (c ∷ w) (g.from e) rest.0, later a (c ∷ w) (g.to e) rest.1)
-]
 
 module _ (mesh : Mesh) (d : Split) where
   -- an edge whose signature is empty has no left edge in it

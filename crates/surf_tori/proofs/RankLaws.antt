@@ -1,43 +1,12 @@
 -- Numbers without three of them, counted in order.
-use Rattle.std.proofs.Common.{◌≡◌, ◌≢◌, ℕ, zero, suc, ◌+◌, ◌-◌, ◌<◌, ◌≤◌, Bool, true, false, not, ◌&&◌, ◌||◌, eqb, [], ◌∷◌, ◌⊎◌, refl, sym, ap, ◌∙◌, arith, inl, inr}
+use Rattle.std.proofs.Common.{◌≡◌, ◌≢◌, ℕ, ◌+◌, ◌-◌, ◌<◌, ◌≤◌, Bool, true, false, not, ◌&&◌, ◌||◌, eqb, [], ◌∷◌, ◌⊎◌, refl, sym, ap, ◌∙◌, arith, inl, inr}
 use Rattle.std.specs.List.{list_any}
-use Rattle.std.proofs.lemmas.Bool.{eq-eqb, ne_eqb, cases_eq, cases_lt, cases_order, cases_Bool, true≢false}
+use Rattle.std.proofs.lemmas.Bool.{eq-eqb, ne_eqb, cases_eq, cases_lt, cases_order, true≢false}
 use Rattle.surf_z2.specs.Parity.{count_below}
+use Rattle.surf_z2.proofs.Counting.{passed_up, passed_onto}
 use Rattle.surf_z2.proofs.Sums.{count_below-all, count_below-same, count_below-without}
 use Rattle.surf_tori.specs.ConnectedSum.{sum_name}
 use Rattle.surf_tori.proofs.TriangleLaws.{OneOf}
-
--- how many numbers below v pass a test
-rank_grows : (test : ℕ → Bool) (v d : ℕ) → count_below v test ≤ count_below (d + v) test
-rank_grows test v zero = let e : 0 + v ≡ v = omega arith in rw e (omega arith)
-rank_grows test v (suc d) =
-    let e : suc d + v ≡ suc (d + v) = omega arith in
-    let before = rank_grows test v d in
-    rw e (omega (arith, before))
-
-rank_less : (test : ℕ → Bool) (u v : ℕ) → u < v → test u ≡ true → count_below u test < count_below v test
-rank_less test u v lt h =
-    let e : (v - suc u) + suc u ≡ v = omega arith in
-    let grows : count_below (suc u) test ≤ count_below v test =
-    rw e at (rank_grows test (suc u) (v - suc u)) in
-    let one : count_below (suc u) test ≡ suc (count_below u test) = rw h (omega arith) in
-    omega (arith, grows, one)
-
-rank_reached : (test : ℕ → Bool) (n r : ℕ) → r < count_below n test →
-    (v : ℕ) × (v < n) × (test v ≡ true) × (count_below v test ≡ r)
-rank_reached test zero r h = absurd (omega arith)
-rank_reached test (suc n) r h = elim (cases_Bool (test n)) [
-  | inl is ↦
-      let more : count_below (suc n) test ≡ suc (count_below n test) = rw is (omega arith) in
-      elim (cases_lt r (count_below n test)) [
-        | inl lt ↦ let s = rank_reached test n r lt in (s.0, omega (arith, s.1), s.2, s.3)
-        | inr ge ↦ (n, omega arith, is, omega (arith, more, h, ge))
-      ]
-  | inr out ↦
-      let same : count_below (suc n) test ≡ count_below n test = rw out (omega arith) in
-      let s = rank_reached test n r (omega (arith, same, h)) in
-      (s.0, omega (arith, s.1), s.2, s.3)
-]
 
 not_three : (a b c : Bool) → ((not a && not b) && not c) ≡ not (a || (b || (c || false)))
 not_three true b c = refl
@@ -141,9 +110,9 @@ module _ {a0 a1 a2 : ℕ} (d01 : a0 ≢ a1) (d02 : a0 ≢ a2) (d12 : a1 ≢ a2) 
                   elim (cases_order u v) [
                     | inl is ↦ is
                     | inr o ↦ elim o [
-                      | inl lt ↦ let r = rank_less other u v lt (other_is u m.0 m.1 m.2) in
+                      | inl lt ↦ let r = passed_up other u v lt (other_is u m.0 m.1 m.2) in
                           absurd (omega (arith, r, same))
-                      | inr gt ↦ let r = rank_less other v u gt (other_is v n.0 n.1 n.2) in
+                      | inr gt ↦ let r = passed_up other v u gt (other_is v n.0 n.1 n.2) in
                           absurd (omega (arith, r, same))
                     ]
                   ]
@@ -186,7 +155,7 @@ module _ {a0 a1 a2 : ℕ} (d01 : a0 ≢ a1) (d02 : a0 ≢ a2) (d12 : a1 ≢ a2) 
           | inl o ↦ let low = corner_low v o in omega (arith, low)
           | inr m ↦
               let is = name_other v m.0 m.1 m.2 in
-              let less = rank_less other v n in' (other_is v m.0 m.1 m.2) in
+              let less = passed_up other v n in' (other_is v m.0 m.1 m.2) in
               let all = rank_total n first second third in
               omega (arith, is, less, all)
         ]
@@ -197,7 +166,7 @@ module _ {a0 a1 a2 : ℕ} (d01 : a0 ≢ a1) (d02 : a0 ≢ a2) (d12 : a1 ≢ a2) 
           | inl low ↦ inl low
           | inr high ↦
               let all = rank_total n first second third in
-              let r = rank_reached other n (v - start) (omega (arith, all, high, in')) in
+              let r = passed_onto other n (v - start) (omega (arith, all, high, in')) in
               let apart = apart_from r.0 r.2 in
               let is = name_other r.0 apart.0 apart.1 apart.2 in
               inr (r.0, r.1, omega (arith, is, r.3, high), high)

@@ -2,7 +2,8 @@ use Rattle.std.proofs.Common.{◌≡◌, ℕ, Bool, List, false, replicate, sym,
 use Rattle.std.specs.Prelude.{IsTrue, slice_index}
 use Rattle.std.proofs.lemmas.List.{get_or-replicate}
 use Rattle.surf_surfaces.specs.Surface.{edge_count}
-use Rattle.surf_search.specs.Marks.{AreDegreesTo, signed_degree}
+use Rattle.surf_surfaces.specs.Degrees.{AreDegreesTo, degree_in}
+use Rattle.surf_search.specs.Marks.{is_signed}
 use Rattle.surf_basis.specs.Ends.{IsBusierEnd}
 use Rattle.surf_search.specs.Passing.{is_marked}
 use Rattle.surf_search.proofs.Marked.{written_back}
@@ -20,7 +21,7 @@ count_signed-requires-clause-none c v v_in =
 
 -- what is marked is the busier end of an edge
 busier : (c : goal.After-drop-degrees-2) (v : ℕ) → IsTrue (is_marked c.mark_ends.new.marked v) →
-    IsBusierEnd c.args.mesh.now c.args.signatures.now (signed_degree c.args.mesh.now c.args.signatures.now) v
+    IsBusierEnd c.args.mesh.now c.args.signatures.now (degree_in c.args.mesh.now (is_signed c.args.signatures.now)) v
 busier c v on =
     let mesh = c.args.mesh.now in
     let s = c.args.signatures.now in
@@ -33,7 +34,7 @@ busier c v on =
     elim (c.mark_ends.ensures.only v on) [
       | inl was ↦ absurd (none_marked n v (subst (λ (ms : List Bool). IsTrue (is_marked ms v)) fresh was))
       | inr is ↦ busier_by_table mesh c.vertices-2.ensures.surface s c.deref.result.now
-          (subst (λ (xs : List ℕ). AreDegreesTo mesh s (edge_count mesh) xs) (sym read) c.count_signed.ensures) v is
+          (subst (λ (xs : List ℕ). AreDegreesTo mesh (is_signed s) (edge_count mesh) xs) (sym read) c.count_signed.ensures) v is
     ]
 
 pub returns-clause-ends : goal.returns-clause-ends
@@ -47,7 +48,7 @@ returns-clause-ends c =
       each = ends_listed mesh c.vertices-2.ensures.surface s marked c.deref-2.result.now c.in_ok-list.list.items
           c.deref_mut-3.result.now c.scatter.new.vertices _ table c.mark_ends.ensures.marks c.mark_ends.ensures.ends
           c.in_ok-list.ensures.marked c.deref_mut-3.ensures.value c.scatter.ensures.same last;
-      only = each_listed (IsBusierEnd mesh s (signed_degree mesh s)) marked c.deref-2.result.now c.in_ok-list.list.items
+      only = each_listed (IsBusierEnd mesh s (degree_in mesh (is_signed s))) marked c.deref-2.result.now c.in_ok-list.list.items
           c.deref_mut-3.result.now c.scatter.new.vertices _ table
           c.in_ok-list.ensures.marked c.deref_mut-3.ensures.value c.scatter.ensures.same last
           (busier c);

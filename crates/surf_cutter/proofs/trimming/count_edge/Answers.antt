@@ -2,7 +2,8 @@ use Rattle.std.proofs.Common.{◌≡◌, ◌+◌, ℕ, get_or, ap, ◌∙◌, su
 use Rattle.surf_surfaces.specs.Surface.{ends}
 use Rattle.surf_surfaces.proofs.CellLaws.{ends_below}
 use Rattle.surf_soup.proofs.HalfLaws.{edges_few}
-use Rattle.surf_cutter.proofs.Trims.{degrees_more, degrees_none, degree_few}
+use Rattle.surf_surfaces.proofs.DegreeLaws.{degrees_more, degrees_none, degree_few}
+use Rattle.surf_cutter.specs.Trimming.{is_cut}
 use Rattle.surf_cutter.proofs.trimming.count_edge.Goals as goal
 
 pub count_at-requires-clause-first : goal.count_at-requires-clause-first
@@ -35,7 +36,7 @@ count_at-requires-clause-few_first c =
     let s = c.law_of_surface.ensures in
     let b = ends_below mesh s.surface.is_mesh c.args.e c.requires.edge in
     let is : c.ends-u.result.0 ≡ (ends mesh c.args.e).0 = ap (λ (p : ℕ × ℕ). p.0) c.ends-u.ensures ∙ ap (λ e. (ends mesh e).0) c.new.ensures in
-    let few = degree_few mesh c.args.cut.now c.args.e c.ends-u.result.0 c.args.degree.now c.requires.so_far (omega (arith, is, b.0, b.1)) in
+    let few = degree_few mesh (is_cut c.args.cut.now) c.args.e c.ends-u.result.0 c.args.degree.now c.requires.so_far (omega (arith, is, b.0, b.1)) in
     omega (arith, few, edges_few mesh s.surface, s.few, c.requires.edge)
 
 pub count_at-requires-clause-few_second : goal.count_at-requires-clause-few_second
@@ -44,7 +45,7 @@ count_at-requires-clause-few_second c =
     let s = c.law_of_surface.ensures in
     let b = ends_below mesh s.surface.is_mesh c.args.e c.requires.edge in
     let is : c.ends-u.result.1 ≡ (ends mesh c.args.e).1 = ap (λ (p : ℕ × ℕ). p.1) c.ends-u.ensures ∙ ap (λ e. (ends mesh e).1) c.new.ensures in
-    let few = degree_few mesh c.args.cut.now c.args.e c.ends-u.result.1 c.args.degree.now c.requires.so_far (omega (arith, is, b.1)) in
+    let few = degree_few mesh (is_cut c.args.cut.now) c.args.e c.ends-u.result.1 c.args.degree.now c.requires.so_far (omega (arith, is, b.1)) in
     omega (arith, few, edges_few mesh s.surface, s.few, c.requires.edge)
 
 pub returns-then-cut-e : goal.returns-then-cut-e
@@ -57,8 +58,8 @@ returns-then-cut-e c =
     let P : ℕ → Type 0 = λ v. get_or new v 0 ≡ get_or old v 0 + 1 in
     let first = ap (λ (p : ℕ × ℕ). p.0) is in
     let second = ap (λ (p : ℕ × ℕ). p.1) is in
-    degrees_more mesh c.args.cut.now e old new c.requires.so_far c.if-cut-e.true (subst P first c.count_at.ensures.first) (subst P second c.count_at.ensures.second)
+    degrees_more mesh (is_cut c.args.cut.now) e old new c.requires.so_far c.if-cut-e.true (subst P first c.count_at.ensures.first) (subst P second c.count_at.ensures.second)
     (λ v nu nw. c.count_at.ensures.others v (λ i. nu (i ∙ first)) (λ i. nw (i ∙ second)))
 
 pub returns-else-cut-e : goal.returns-else-cut-e
-returns-else-cut-e c = degrees_none c.args.mesh.now c.args.cut.now c.args.e c.args.degree.now c.requires.so_far c.if-cut-e.false
+returns-else-cut-e c = degrees_none c.args.mesh.now (is_cut c.args.cut.now) c.args.e c.args.degree.now c.requires.so_far c.if-cut-e.false

@@ -1,7 +1,8 @@
 use Rattle.std.proofs.Common.{ℕ, ◌∙◌, ◌++◌, ◌∷◌, List, sym, ap, append-nil, slice_index}
 use Rattle.surf_graphs.specs.Loops.{way_up}
 use Rattle.surf_tree.specs.Tables.{tree_of}
-use Rattle.surf_loops.proofs.Turned.{up_one, up_end, way_goes_on}
+use Rattle.surf_graphs.proofs.Turned.{way_goes_on}
+use Rattle.surf_loops.proofs.Turned.{up_one, up_end}
 use Rattle.surf_loops.proofs.ways.push_way.Goals as goal
 
 pub loop-parent-preserved : goal.loop-parent-preserved

@@ -1,7 +1,7 @@
 use Rattle.std.proofs.Common.{◌≡◌, ◌≢◌, ◌∷◌, ◌++◌, List, ℕ, refl, sym, ap, ◌∙◌, arith, append-nil}
 use Rattle.std.proofs.lemmas.Bool.Decides.{nat_tests}
 use Rattle.surf_graphs.specs.Loops.{way_up}
-use Rattle.surf_search.proofs.Turned.{way_goes_on}
+use Rattle.surf_graphs.proofs.Turned.{way_goes_on}
 use Rattle.surf_search.proofs.Walked.{IsUp, up_near, up_done}
 use Rattle.surf_search.proofs.Told.{links_positive}
 use Rattle.surf_search.proofs.walks.push_way.Goals as goal

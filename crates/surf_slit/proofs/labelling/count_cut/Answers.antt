@@ -1,7 +1,7 @@
 use Rattle.std.proofs.Common.{arith}
 use Rattle.surf_slit.specs.Place.{cut_behind}
-use Rattle.surf_slit.proofs.Runs.{count_upto}
+use Rattle.surf_z2.proofs.Counting.{count_few}
 use Rattle.surf_slit.proofs.labelling.count_cut.Goals as goal
 
 pub overflow_add-count : goal.overflow_add-count
-overflow_add-count c = omega (arith, c.loop-k.invariant, count_upto (cut_behind c.args.edges.now c.args.cut.now) c.loop-k.k)
+overflow_add-count c = omega (arith, c.loop-k.invariant, count_few (cut_behind c.args.edges.now c.args.cut.now) c.loop-k.k)

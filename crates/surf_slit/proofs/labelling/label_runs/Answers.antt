@@ -1,13 +1,13 @@
 use Rattle.std.proofs.Common.{◌≡◌, ◌<◌, length, get_or, ◌∙◌, arith}
 use Rattle.std.proofs.lemmas.List.{get_or_default}
 use Rattle.surf_slit.specs.Place.{cut_behind}
-use Rattle.surf_slit.proofs.Runs.{count_upto}
+use Rattle.surf_z2.proofs.Counting.{count_few}
 use Rattle.surf_slit.proofs.labelling.label_runs.Goals as goal
 use Rattle.surf_slit.proofs.labelling.label_runs.Goals.{then-run-cuts, else-run-cuts}
 
 pub overflow_add-first : goal.overflow_add-first
 overflow_add-first c =
-    let few = count_upto (cut_behind c.args.edges.now c.args.cut.now) c.loop-k.k in
+    let few = count_few (cut_behind c.args.edges.now c.args.cut.now) c.loop-k.k in
     elim c.if-run-cuts.branch [
       | then-run-cuts w ↦ omega (arith, w.shown-is)
       | else-run-cuts w ↦ omega (arith, w.shown-is, few, c.loop-k.invariant.counted)
@@ -21,4 +21,4 @@ offset_bounds-labels-index c =
     omega (arith, c.requires.sides k lt, e, c.index.ensures)
 
 pub overflow_add-run : goal.overflow_add-run
-overflow_add-run c = omega (arith, c.loop-k.invariant.counted, count_upto (cut_behind c.args.edges.now c.args.cut.now) c.loop-k.k)
+overflow_add-run c = omega (arith, c.loop-k.invariant.counted, count_few (cut_behind c.args.edges.now c.args.cut.now) c.loop-k.k)

@@ -1,7 +1,7 @@
 use Rattle.std.proofs.Common.{◌≡◌, max, length, arith}
 use Rattle.surf_z2.specs.Parity.{count_below}
 use Rattle.surf_slit.specs.Place.{cut_behind}
-use Rattle.surf_slit.proofs.Runs.{count_upto}
+use Rattle.surf_z2.proofs.Counting.{count_few}
 use Rattle.surf_slit.proofs.VertexLabels.{ring_few, labelled}
 use Rattle.surf_slit.proofs.labelling.label_vertex.Goals as goal
 
@@ -22,7 +22,7 @@ returns-then-cuts-eq0-clause-labelled c =
 pub returns-else-cuts-eq0-clause-few : goal.returns-else-cuts-eq0-clause-few
 returns-else-cuts-eq0-clause-few c =
     let edges = c.round.result.1.now in
-    omega (arith, c.count_cut-cuts.ensures, count_upto (cut_behind edges c.args.cut.now) (length edges), ring_few c.round.ensures.ring, c.round.ensures.between.size, c.law_of_surface.ensures.few)
+    omega (arith, c.count_cut-cuts.ensures, count_few (cut_behind edges c.args.cut.now) (length edges), ring_few c.round.ensures.ring, c.round.ensures.between.size, c.law_of_surface.ensures.few)
 
 pub returns-else-cuts-eq0-clause-labelled : goal.returns-else-cuts-eq0-clause-labelled
 returns-else-cuts-eq0-clause-labelled c =

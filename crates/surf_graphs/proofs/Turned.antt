@@ -1,4 +1,4 @@
--- Ways in a tree, turned, and the ends of edges.
+-- The way up from a node of a tree, turned, and lists that grow by it.
 use Rattle.std.proofs.Common.{ℕ, zero, suc, ◌<◌, ◌≤◌, ◌≡◌, refl, sym, ap, ◌∙◌, subst, arith, inl, inr, List, [], ◌∷◌, ◌++◌, reverse}
 use Rattle.std.proofs.lemmas.Bool.{cases_eq}
 use Rattle.std.proofs.lemmas.List.{reverse-append, append_assoc}
@@ -6,9 +6,6 @@ use Rattle.surf_graphs.specs.Graphs.{Graph}
 use Rattle.surf_graphs.specs.Trees.{Tree, IsTree}
 use Rattle.surf_graphs.specs.Loops.{way_down, way_up}
 use Rattle.surf_graphs.proofs.Ways.{ways_go_by_parents}
-use Rattle.surf_surfaces.specs.Mesh.{Mesh}
-use Rattle.surf_surfaces.specs.Surface.{edge_count, ends, IsSurface}
-use Rattle.surf_surfaces.proofs.CellLaws.{surfaces_are_cells}
 
 reversed_by : (k : ℕ) (g : Graph) (t : Tree) → IsTree g t → (n : ℕ) → n < g.nodes → t.rank n ≤ k →
     reverse (n ∷ way_up t (t.rank n) n) ≡ t.root ∷ way_down t (t.rank n) n
@@ -34,10 +31,6 @@ reversed_by (suc k) g t tree n l le = elim (cases_eq n t.root) [
 -- the way up from a node, turned
 pub way_reversed : (g : Graph) (t : Tree) → IsTree g t → (n : ℕ) → n < g.nodes → reverse (n ∷ way_up t (t.rank n) n) ≡ t.root ∷ way_down t (t.rank n) n
 way_reversed g t tree n l = reversed_by (t.rank n) g t tree n l (omega arith)
-
--- the ends of an edge are vertices
-pub ends_in : (mesh : Mesh) → IsSurface mesh → (e : ℕ) → e < edge_count mesh → ((ends mesh e).0 < mesh.vertices) × ((ends mesh e).1 < mesh.vertices)
-ends_in mesh surface e l = (surfaces_are_cells mesh surface).complex.primal_ends e l
 
 -- a list that grows by the way up, with what is still to come
 pub way_goes_on : (old new rest whole : List ℕ) (x : ℕ) → new ≡ old ++ x ∷ [] → old ++ x ∷ rest ≡ whole → new ++ rest ≡ whole
