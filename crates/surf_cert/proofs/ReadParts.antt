@@ -11,12 +11,13 @@ use Rattle.surf_surfaces.proofs.PairLaws.{pair_lt-trans}
 use Rattle.surf_text.specs.Text.{TextLine, tokens_of, lines_of}
 use Rattle.surf_records.specs.declared.cert.Cert.{Cert}
 use Rattle.surf_cert.specs.declared.fault.CertText.{CertText}
+use Rattle.surf_cert.specs.declared.fault.CertText.TheVariants.{Memory}
 use Rattle.surf_cert.specs.declared.line.Counts.{Counts}
 use Rattle.surf_validity.specs.Rows.{TreeRows, DualRows, LoopCert, BasisCert}
 use Rattle.surf_cert.specs.Lines.{is_header, counts_of, base_of, base_at, tree_row, dual_row, is_next, pair_behind, cycle_of, the_word}
 use Rattle.surf_records.specs.Fits.{IsNumber, IsParent, IsPair, IsFaceRow, TreeFits, DualFits, LeftFits, CycleFits, LoopFits, BasisFits, CertFits}
-use Rattle.surf_cert.specs.Gives.{Gives}
-use Rattle.surf_cert.specs.Grammar.{◌>>=◌, formed, and_lines, next_of, onto_rows, rows_of, pairs_of, tree_of, based_tree, trees_of, dual_rows_of, dual_of, left_of, cycles_of, cert_ended, loops_in, basis_in, as_loops, as_basis, cert_in, parsed_cert}
+use Rattle.surf_base.specs.Gives.{Gives, ◌>>=◌}
+use Rattle.surf_cert.specs.Grammar.{formed, and_lines, next_of, onto_rows, rows_of, pairs_of, tree_of, based_tree, trees_of, dual_rows_of, dual_of, left_of, cycles_of, cert_ended, loops_in, basis_in, as_loops, as_basis, cert_in, parsed_cert}
 use Rattle.surf_cert.proofs.Reread.{Follow}
 use Rattle.surf_cert.proofs.ReadLines.{IsRow, row_fits, face_fits, behind_fits, cycle_fits, base_fits, base_at_fits, AreCounts, counts_fit}
 
@@ -274,7 +275,7 @@ cert_fits (line ∷ lines) = elim (cases_Bool (is_header (codes "loops") (tokens
     at_basis (Err e) fits = tt
 
 -- What a call gave that reads a text fits, if it is a certificate.
-pub given_fits : (result : Result Cert CertText) (text : List ℕ) → Gives (λ x. x) result (parsed_cert text)
+pub given_fits : (result : Result Cert CertText) (text : List ℕ) → Gives Memory (λ x. x) result (parsed_cert text)
     → IfOk result CertFits
 given_fits (Ok cert) text gives = subst (λ (read : Result Cert CertText). IfOk read CertFits) gives (cert_fits (lines_of text))
 given_fits (Err e) text gives = tt

@@ -2,6 +2,7 @@
 -- shows. The first line that doesn't fit decides.
 use Rattle.std.specs.Prelude.{◌+◌, ℕ, zero, suc, List, [], ◌∷◌, codes, map, Option, Some, None, Result, Ok, Err}
 use Rattle.std.specs.Prelude.{if◌then◌else◌}
+use Rattle.surf_base.specs.Gives.{◌>>=◌}
 use Rattle.surf_text.specs.Text.{TextLine, tokens_of, lines_of}
 use Rattle.surf_validity.specs.Rows.{TreeRows, DualRows, LoopCert, BasisCert}
 use Rattle.surf_cert.specs.Lines.{the_word, is_header, counts_of, base_of, base_at, tree_row, dual_row, pair_behind}
@@ -10,11 +11,6 @@ use Rattle.surf_records.specs.declared.cert.Cert.{Cert}
 use Rattle.surf_records.specs.declared.cert.Cert.TheVariants.{Loops, Basis}
 use Rattle.surf_cert.specs.declared.fault.CertText.{CertText}
 use Rattle.surf_cert.specs.declared.fault.CertText.TheVariants.{Header, Form, Early, Trailing}
-
-infixl 10 ◌>>=◌
-abbrev pub ◌>>=◌ : {A B : Type 0} → Result A CertText → (A → Result B CertText) → Result B CertText
-(Ok x) >>= f = f x
-(Err e) >>= f = Err e
 
 -- what the tokens of a line say, where it has a form
 abbrev pub LineForm : Type 0 → Type 0

@@ -1,4 +1,3 @@
 pub mod Lines
 pub mod Grammar
-pub mod Gives
 pub mod Written

@@ -4,7 +4,7 @@ ghost use Rattle.surf_text.specs.Walks.{text_line};
 ghost use Rattle.surf_cert.specs.Lines.{counts_of, base_of, base_at, tree_row, dual_row, pair_behind, the_word};
 ghost use Rattle.surf_cert.specs.Lines.{numbers_of, cycle_of};
 ghost use Rattle.surf_cert.specs.Grammar.{next_of, formed};
-ghost use Rattle.surf_cert.specs.Gives.{Gives};
+ghost use Rattle.surf_base.specs.Gives.{Gives};
 
 use crate::fault::CertText;
 use crate::line::{
@@ -19,7 +19,8 @@ use surf_text::{Line, Lines, Tokens};
 /// The next line, which is exactly a word.
 #[tactic(auto, unfolding(crate::specs::Grammar::next_of))]
 pub(crate) fn next_word(lines: &mut Lines<'_>, word: &[u8]) -> Result<(), CertText>
-    ensures word { Gives (λ x. (x, lines.new)) result (next_of (the_word word.now) lines.old) }
+    ensures word { Gives CertText.Memory (λ x. (x, lines.new)) result
+        (next_of (the_word word.now) lines.old) }
 {
     let line = lines.next_line().ok_or(CertText::Early)?;
     if is_word(line.bytes, word) {
@@ -32,7 +33,8 @@ pub(crate) fn next_word(lines: &mut Lines<'_>, word: &[u8]) -> Result<(), CertTe
 /// The next line, which gives the counts.
 #[tactic(auto, unfolding(crate::specs::Grammar::next_of))]
 pub(crate) fn next_counts(lines: &mut Lines<'_>) -> Result<Counts, CertText>
-    ensures counts { Gives (λ x. (x, lines.new)) result (next_of counts_of lines.old) }
+    ensures counts { Gives CertText.Memory (λ x. (x, lines.new)) result
+        (next_of counts_of lines.old) }
 {
     let line = lines.next_line().ok_or(CertText::Early)?;
     read_counts(line.bytes).ok_or(CertText::Form { line: line.number })
@@ -41,7 +43,7 @@ pub(crate) fn next_counts(lines: &mut Lines<'_>) -> Result<Counts, CertText>
 /// The next line, which gives the base of a tree.
 #[tactic(auto, unfolding(crate::specs::Grammar::next_of))]
 pub(crate) fn next_base(lines: &mut Lines<'_>) -> Result<VertexId, CertText>
-    ensures base { Gives (λ x. (x, lines.new)) result (next_of base_of lines.old) }
+    ensures base { Gives CertText.Memory (λ x. (x, lines.new)) result (next_of base_of lines.old) }
 {
     let line = lines.next_line().ok_or(CertText::Early)?;
     read_base(line.bytes).ok_or(CertText::Form { line: line.number })
@@ -50,7 +52,8 @@ pub(crate) fn next_base(lines: &mut Lines<'_>) -> Result<VertexId, CertText>
 /// The same for this base alone.
 #[tactic(auto, unfolding(crate::specs::Grammar::next_of))]
 pub(crate) fn next_base_at(lines: &mut Lines<'_>, base: u32) -> Result<VertexId, CertText>
-    ensures base { Gives (λ x. (x, lines.new)) result (next_of (base_at base) lines.old) }
+    ensures base { Gives CertText.Memory (λ x. (x, lines.new)) result
+        (next_of (base_at base) lines.old) }
 {
     let line = lines.next_line().ok_or(CertText::Early)?;
     read_base_at(base, line.bytes).ok_or(CertText::Form { line: line.number })
@@ -59,7 +62,7 @@ pub(crate) fn next_base_at(lines: &mut Lines<'_>, base: u32) -> Result<VertexId,
 /// The next line, which gives a distance and a parent.
 #[tactic(auto, unfolding(crate::specs::Grammar::next_of))]
 pub(crate) fn next_tree_row(lines: &mut Lines<'_>) -> Result<(u64, Option<VertexId>), CertText>
-    ensures row { Gives (λ x. (x, lines.new)) result (next_of tree_row lines.old) }
+    ensures row { Gives CertText.Memory (λ x. (x, lines.new)) result (next_of tree_row lines.old) }
 {
     let line = lines.next_line().ok_or(CertText::Early)?;
     read_tree_row(line.bytes).ok_or(CertText::Form { line: line.number })
@@ -70,7 +73,7 @@ pub(crate) fn next_tree_row(lines: &mut Lines<'_>) -> Result<(u64, Option<Vertex
 pub(crate) fn next_dual_row(
     lines: &mut Lines<'_>,
 ) -> Result<(u32, Option<(VertexId, VertexId)>), CertText>
-    ensures row { Gives (λ x. (x, lines.new)) result (next_of dual_row lines.old) }
+    ensures row { Gives CertText.Memory (λ x. (x, lines.new)) result (next_of dual_row lines.old) }
 {
     let line = lines.next_line().ok_or(CertText::Early)?;
     read_dual_row(line.bytes).ok_or(CertText::Form { line: line.number })
@@ -82,7 +85,8 @@ pub(crate) fn next_pair(
     lines: &mut Lines<'_>,
     before: Option<(u32, u32)>,
 ) -> Result<(u32, u32), CertText>
-    ensures pair { Gives (λ x. (x, lines.new)) result (next_of (pair_behind before) lines.old) }
+    ensures pair { Gives CertText.Memory (λ x. (x, lines.new)) result
+        (next_of (pair_behind before) lines.old) }
 {
     let line = lines.next_line().ok_or(CertText::Early)?;
     read_pair_behind(before, line.bytes).ok_or(CertText::Form { line: line.number })
@@ -90,8 +94,8 @@ pub(crate) fn next_pair(
 
 // The numbers of a line, as vertices.
 fn read_vertices(alloc: Global, line: &Line<'_>) -> Result<Vec<VertexId>, CertText>
-    ensures vertices { Gives (λ x. x.items) result (formed (text_line line.now).number
-        (numbers_of (tokens_of (text_line line.now).bytes))) }
+    ensures vertices { Gives CertText.Memory (λ x. x.items) result
+        (formed (text_line line.now).number (numbers_of (tokens_of (text_line line.now).bytes))) }
 {
     let mut vertices = Vec::new(alloc);
     let mut tokens = Tokens::over(line.bytes);
@@ -106,7 +110,7 @@ fn read_vertices(alloc: Global, line: &Line<'_>) -> Result<Vec<VertexId>, CertTe
 
 // The vertices of a line, which has at least one.
 fn read_cycle(alloc: Global, line: &Line<'_>) -> Result<Walk, CertText>
-    ensures cycle { Gives (λ x. x) result (formed (text_line line.now).number
+    ensures cycle { Gives CertText.Memory (λ x. x) result (formed (text_line line.now).number
         (cycle_of (tokens_of (text_line line.now).bytes))) }
 {
     let vertices = read_vertices(alloc, line)?;
@@ -119,7 +123,8 @@ fn read_cycle(alloc: Global, line: &Line<'_>) -> Result<Walk, CertText>
 /// The next line, which gives the vertices of a cycle.
 #[tactic(auto, unfolding(crate::specs::Grammar::next_of))]
 pub(crate) fn next_cycle(alloc: Global, lines: &mut Lines<'_>) -> Result<Walk, CertText>
-    ensures cycle { Gives (λ x. (x, lines.new)) result (next_of cycle_of lines.old) }
+    ensures cycle { Gives CertText.Memory (λ x. (x, lines.new)) result
+        (next_of cycle_of lines.old) }
 {
     let line = lines.next_line().ok_or(CertText::Early)?;
     read_cycle(alloc, &line)

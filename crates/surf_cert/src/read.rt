@@ -2,7 +2,7 @@
 ghost use Rattle.std.specs.Prelude.{◌<◌, length, IfOk};
 ghost use Rattle.surf_records.specs.Fits.{CertFits};
 ghost use Rattle.surf_cert.specs.Grammar.{loops_in, basis_in, cert_ended, parsed_cert};
-ghost use Rattle.surf_cert.specs.Gives.{Gives};
+ghost use Rattle.surf_base.specs.Gives.{Gives};
 
 use crate::fault::CertText;
 use crate::line::is_header;
@@ -14,7 +14,7 @@ use surf_text::Lines;
 
 // No line stands behind.
 fn read_end(lines: &mut Lines<'_>) -> Result<(), CertText>
-    ensures end { Gives (λ x. x) result (cert_ended tt lines.old) }
+    ensures end { Gives CertText.Memory (λ x. x) result (cert_ended tt lines.old) }
 {
     match lines.next_line() {
         Some(line) => Err(CertText::Trailing { line: line.number }),
@@ -24,7 +24,7 @@ fn read_end(lines: &mut Lines<'_>) -> Result<(), CertText>
 
 #[tactic(auto, unfolding(crate::specs::Grammar::loops_in))]
 fn read_loops(alloc: Global, lines: &mut Lines<'_>) -> Result<LoopCert, CertText>
-    ensures loops { Gives (λ x. x) result (loops_in lines.old) }
+    ensures loops { Gives CertText.Memory (λ x. x) result (loops_in lines.old) }
 {
     let counts = next_counts(lines)?;
     let tree = read_tree(alloc, lines, counts.vertices)?;
@@ -36,7 +36,7 @@ fn read_loops(alloc: Global, lines: &mut Lines<'_>) -> Result<LoopCert, CertText
 
 #[tactic(auto, unfolding(crate::specs::Grammar::basis_in))]
 fn read_basis(alloc: Global, lines: &mut Lines<'_>) -> Result<BasisCert, CertText>
-    ensures basis { Gives (λ x. x) result (basis_in lines.old) }
+    ensures basis { Gives CertText.Memory (λ x. x) result (basis_in lines.old) }
 {
     let counts = next_counts(lines)?;
     let trees = read_trees(alloc, lines, counts.vertices)?;
@@ -50,7 +50,7 @@ fn read_basis(alloc: Global, lines: &mut Lines<'_>) -> Result<BasisCert, CertTex
 #[tactic(auto, unfolding(crate::specs::Grammar::cert_in))]
 fn read_text(alloc: Global, text: &[u8]) -> Result<Cert, CertText>
     requires short { length text.now < 4294967295 }
-    ensures cert { Gives (λ x. x) result (parsed_cert text.now) }
+    ensures cert { Gives CertText.Memory (λ x. x) result (parsed_cert text.now) }
 {
     let mut lines = Lines::over(text);
     let Some(line) = lines.next_line() else {
@@ -76,7 +76,7 @@ fn read_text(alloc: Global, text: &[u8]) -> Result<Cert, CertText>
 /// the lines of a text, so it can be written.
 pub fn read_cert(alloc: Global, text: &[u8]) -> Result<Cert, CertText>
     requires short { length text.now < 4294967295 }
-    ensures cert { Gives (λ x. x) result (parsed_cert text.now) }
+    ensures cert { Gives CertText.Memory (λ x. x) result (parsed_cert text.now) }
     ensures fits { IfOk result CertFits }
 {
     read_text(alloc, text)

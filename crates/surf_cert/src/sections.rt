@@ -3,7 +3,7 @@ ghost use Rattle.std.specs.Prelude.{None};
 ghost use Rattle.surf_cert.specs.Lines.{base_of, base_at, cycle_of};
 ghost use Rattle.surf_cert.specs.Grammar.{tree_of, based_tree, trees_of, rows_of, dual_rows_of, dual_of, pairs_of};
 ghost use Rattle.surf_cert.specs.Grammar.{left_of, cycles_of};
-ghost use Rattle.surf_cert.specs.Gives.{Gives};
+ghost use Rattle.surf_base.specs.Gives.{Gives};
 
 use crate::fault::CertText;
 use crate::next::{
@@ -23,7 +23,8 @@ fn read_tree_rows(
     base: VertexId,
     vertices: u32,
 ) -> Result<TreeRows, CertText>
-    ensures tree { Gives (λ x. (x, lines.new)) result (tree_of base vertices lines.old) }
+    ensures tree { Gives CertText.Memory (λ x. (x, lines.new)) result
+        (tree_of base vertices lines.old) }
 {
     let room = vertices.min(MAX_VERTICES) as usize;
     let mut distance = Vec::with_capacity(alloc, room)?;
@@ -43,7 +44,8 @@ pub(crate) fn read_tree(
     lines: &mut Lines<'_>,
     vertices: u32,
 ) -> Result<TreeRows, CertText>
-    ensures tree { Gives (λ x. (x, lines.new)) result (based_tree base_of vertices lines.old) }
+    ensures tree { Gives CertText.Memory (λ x. (x, lines.new)) result
+        (based_tree base_of vertices lines.old) }
 {
     let base = next_base(lines)?;
     read_tree_rows(alloc, lines, base, vertices)
@@ -57,7 +59,7 @@ fn read_tree_at(
     base: u32,
     vertices: u32,
 ) -> Result<TreeRows, CertText>
-    ensures tree { Gives (λ x. (x, lines.new)) result (based_tree (base_at base)
+    ensures tree { Gives CertText.Memory (λ x. (x, lines.new)) result (based_tree (base_at base)
         vertices lines.old) }
 {
     let base = next_base_at(lines, base)?;
@@ -70,7 +72,7 @@ pub(crate) fn read_trees(
     lines: &mut Lines<'_>,
     vertices: u32,
 ) -> Result<Vec<TreeRows>, CertText>
-    ensures trees { Gives (λ x. (x.items, lines.new)) result
+    ensures trees { Gives CertText.Memory (λ x. (x.items, lines.new)) result
         (trees_of 0 vertices vertices lines.old) }
 {
     let mut trees = Vec::new(alloc);
@@ -83,7 +85,8 @@ pub(crate) fn read_trees(
 // The rows of so many faces. Their tables take their room at once, and no more than a surface's,
 // whatever a text claims.
 fn read_dual_rows(alloc: Global, lines: &mut Lines<'_>, faces: u32) -> Result<DualRows, CertText>
-    ensures dual { Gives (λ x. (x, lines.new)) result (dual_rows_of faces lines.old) }
+    ensures dual { Gives CertText.Memory (λ x. (x, lines.new)) result
+        (dual_rows_of faces lines.old) }
 {
     let room = faces.min(MAX_FACES) as usize;
     let mut depth = Vec::with_capacity(alloc, room)?;
@@ -103,7 +106,7 @@ pub(crate) fn read_dual(
     lines: &mut Lines<'_>,
     faces: u32,
 ) -> Result<DualRows, CertText>
-    ensures dual { Gives (λ x. (x, lines.new)) result (dual_of faces lines.old) }
+    ensures dual { Gives CertText.Memory (λ x. (x, lines.new)) result (dual_of faces lines.old) }
 {
     next_word(lines, b"dual")?;
     read_dual_rows(alloc, lines, faces)
@@ -115,7 +118,8 @@ fn read_pairs(
     lines: &mut Lines<'_>,
     count: u32,
 ) -> Result<Vec<(VertexId, VertexId)>, CertText>
-    ensures pairs { Gives (λ x. (x.items, lines.new)) result (pairs_of None count lines.old) }
+    ensures pairs { Gives CertText.Memory (λ x. (x.items, lines.new)) result
+        (pairs_of None count lines.old) }
 {
     let mut pairs = Vec::new(alloc);
     let mut before = None;
@@ -134,7 +138,8 @@ pub(crate) fn read_left(
     lines: &mut Lines<'_>,
     count: u32,
 ) -> Result<Vec<(VertexId, VertexId)>, CertText>
-    ensures left { Gives (λ x. (x.items, lines.new)) result (left_of count lines.old) }
+    ensures left { Gives CertText.Memory (λ x. (x.items, lines.new)) result
+        (left_of count lines.old) }
 {
     next_word(lines, b"left")?;
     read_pairs(alloc, lines, count)
@@ -142,7 +147,8 @@ pub(crate) fn read_left(
 
 // The lines of so many cycles.
 fn read_walks(alloc: Global, lines: &mut Lines<'_>, count: u32) -> Result<Vec<Walk>, CertText>
-    ensures walks { Gives (λ x. (x.items, lines.new)) result (rows_of cycle_of count lines.old) }
+    ensures walks { Gives CertText.Memory (λ x. (x.items, lines.new)) result
+        (rows_of cycle_of count lines.old) }
 {
     let mut walks = Vec::new(alloc);
     for _ in 0..count {
@@ -158,7 +164,8 @@ pub(crate) fn read_cycles(
     lines: &mut Lines<'_>,
     count: u32,
 ) -> Result<Vec<Walk>, CertText>
-    ensures cycles { Gives (λ x. (x.items, lines.new)) result (cycles_of count lines.old) }
+    ensures cycles { Gives CertText.Memory (λ x. (x.items, lines.new)) result
+        (cycles_of count lines.old) }
 {
     next_word(lines, b"cycles")?;
     read_walks(alloc, lines, count)

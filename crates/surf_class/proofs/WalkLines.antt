@@ -9,7 +9,8 @@ use Rattle.surf_surfaces.specs.Walk.{first, last, IsClosed}
 use Rattle.surf_surfaces.proofs.EdgeLaws.{contains_from_among}
 use Rattle.surf_cert.specs.Lines.{cert_number}
 use Rattle.surf_class.specs.Numbers.{onto_numbers, numbers_from}
-use Rattle.surf_class.specs.Walks.{walk_of, walk_in, if_joined, if_closed, if_alone, ◌>>=◌}
+use Rattle.surf_base.specs.Gives.{◌>>=◌}
+use Rattle.surf_class.specs.Walks.{walk_of, walk_in, if_joined, if_closed, if_alone}
 use Rattle.surf_class.specs.declared.numbers.NumberFault.{NumberFault}
 use Rattle.surf_class.specs.declared.fault.WalkFault.TheVariants.{NotEdge, Unclosed, Trailing}
 use Rattle.surf_class.proofs.Lists.{none_passes}

@@ -1,4 +1,3 @@
-pub mod Gives
 pub mod Numbers
 pub mod Points
 pub mod Walks

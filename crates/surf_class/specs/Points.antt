@@ -1,6 +1,7 @@
 -- What a file of vertices says. Of its faults the first kind decides, and of that kind the least place.
 use Rattle.std.specs.Prelude.{ℕ, nat_le, List, [], ◌∷◌, Option, Some, None, Result, Ok, Err}
 use Rattle.std.specs.List.{position}
+use Rattle.surf_base.specs.Gives.{◌>>=◌}
 use Rattle.surf_text.specs.Text.{TextLine, tokens_of, lines_of}
 use Rattle.surf_surfaces.specs.Mesh.{Mesh}
 use Rattle.surf_class.specs.Numbers.{numbers_from}
@@ -8,11 +9,6 @@ use Rattle.surf_class.specs.declared.numbers.NumberFault.{NumberFault}
 use Rattle.surf_class.specs.declared.numbers.NumberFault.TheVariants.{Bad, Memory as NoRoom}
 use Rattle.surf_class.specs.declared.points.PointFault.{PointFault}
 use Rattle.surf_class.specs.declared.points.PointFault.TheVariants.{Empty, Form, NotVertex, Trailing, Memory}
-
-infixl 10 ◌>>=◌
-abbrev pub ◌>>=◌ : {A B : Type 0} → Result A PointFault → (A → Result B PointFault) → Result B PointFault
-(Ok x) >>= f = f x
-(Err fault) >>= f = Err fault
 
 abbrev pub form_fault : NumberFault → PointFault
 form_fault (Bad place) = Form place

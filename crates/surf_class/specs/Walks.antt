@@ -1,6 +1,7 @@
 -- What a walk file says. Of its faults the first kind decides, and of that kind the least place.
 use Rattle.std.specs.Prelude.{ℕ, ◌==◌, nat_le, not, List, [], ◌∷◌, Option, Some, None, Result, Ok, Err, if◌then◌else◌}
 use Rattle.std.specs.List.{position}
+use Rattle.surf_base.specs.Gives.{◌>>=◌}
 use Rattle.surf_text.specs.Text.{TextLine, tokens_of, lines_of}
 use Rattle.surf_surfaces.specs.Mesh.{Mesh, pair_of, among, steps, edges}
 use Rattle.surf_surfaces.specs.Walk.{first, last}
@@ -10,11 +11,6 @@ use Rattle.surf_class.specs.declared.numbers.NumberFault.TheVariants.{Bad, Memor
 use Rattle.surf_class.specs.declared.fault.WalkFault.{WalkFault}
 use Rattle.surf_class.specs.declared.fault.WalkFault.TheVariants.{Empty, Form, NotVertex, NotEdge, Unclosed, Trailing}
 use Rattle.surf_class.specs.declared.fault.WalkFault.TheVariants.{Memory}
-
-infixl 10 ◌>>=◌
-abbrev pub ◌>>=◌ : {A B : Type 0} → Result A WalkFault → (A → Result B WalkFault) → Result B WalkFault
-(Ok x) >>= f = f x
-(Err fault) >>= f = Err fault
 
 abbrev pub form_fault : NumberFault → WalkFault
 form_fault (Bad place) = Form place

@@ -1,7 +1,7 @@
 //! The numbers of a line.
 ghost use Rattle.std.specs.Prelude.{◌≡◌, ◌<◌, ◌^◌, IfOk, length};
 ghost use Rattle.surf_cert.specs.Lines.{cert_number};
-ghost use Rattle.surf_class.specs.Gives.{Gives};
+ghost use Rattle.surf_base.specs.Gives.{Gives};
 ghost use Rattle.surf_class.specs.Numbers.{numbers_from};
 ghost use Rattle.surf_class.specs.declared.numbers.NumberFault.TheVariants.{Memory};
 

@@ -1,6 +1,6 @@
 //! Reads vertices.
 ghost use Rattle.std.specs.Prelude.{◌≡◌, ◌<◌, All, IfOk, length};
-ghost use Rattle.surf_class.specs.Gives.{Gives};
+ghost use Rattle.surf_base.specs.Gives.{Gives};
 ghost use Rattle.surf_class.specs.Points.{form_fault, points_in};
 ghost use Rattle.surf_class.specs.declared.points.PointFault.TheVariants.{Memory as NoPointRoom};
 

@@ -5,7 +5,7 @@ ghost use Rattle.surf_text.specs.Text.{tokens_of};
 ghost use Rattle.surf_surfaces.specs.Mesh.{pair_lt};
 ghost use Rattle.surf_class.specs.Evidences.{is_rising, is_ordered, two_by_two, face_numbers, pair_numbers, counted};
 ghost use Rattle.surf_class.specs.Evidences.{if_formed, evidence_of, evidence_in};
-ghost use Rattle.surf_class.specs.Gives.{Gives};
+ghost use Rattle.surf_base.specs.Gives.{Gives};
 ghost use Rattle.surf_class.specs.Numbers.{numbers_from};
 ghost use Rattle.surf_class.specs.Reading.{as_formed};
 ghost use Rattle.surf_class.specs.Seen.{seen};

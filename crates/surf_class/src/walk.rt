@@ -3,7 +3,7 @@ ghost use Rattle.std.specs.Prelude.{◌≡◌, ◌<◌, ◌==◌, ◌^◌, nat_l
 ghost use Rattle.std.specs.List.{position};
 ghost use Rattle.surf_surfaces.specs.Mesh.{pair_of, among, steps, edges};
 ghost use Rattle.surf_surfaces.specs.Walk.{first, last, IsClosed};
-ghost use Rattle.surf_class.specs.Gives.{Gives};
+ghost use Rattle.surf_base.specs.Gives.{Gives};
 ghost use Rattle.surf_class.specs.Walks.{walk_in};
 
 use crate::fault::WalkFault;

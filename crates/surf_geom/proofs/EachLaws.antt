@@ -4,7 +4,8 @@ use Rattle.std.specs.List.{All}
 use Rattle.std.proofs.lemmas.List.{take_more, drop_more, take_all, take-append-drop}
 use Rattle.std.proofs.lemmas.List.Elements.{All-nil, All-cons}
 use Rattle.surf_geom.specs.declared.fault.GeomFault.{GeomFault}
-use Rattle.surf_geom.specs.Gives.{◌>>=◌, each}
+use Rattle.surf_base.specs.Gives.{◌>>=◌}
+use Rattle.surf_geom.specs.Lists.{each}
 
 module _ {A B : Type 0} (f : A → Result B GeomFault) where
   ok_again : (r : Result (List B) GeomFault) → r ≡ (r >>= λ ys. Ok ys)

@@ -5,7 +5,7 @@ use Rattle.std.specs.List.{All}
 use Rattle.std.proofs.lemmas.Bool.{cases_Bool, eqb-false}
 use Rattle.surf_lengths.specs.Lengths.{longest}
 use Rattle.surf_geom.specs.declared.points.Point.{Point}
-use Rattle.surf_geom.specs.Gives.{each}
+use Rattle.surf_geom.specs.Lists.{each}
 use Rattle.surf_geom.specs.Measures.{measure_of, fitting, length_of}
 use Rattle.surf_geom.specs.Points.{point_at, square_distance}
 use Rattle.surf_geom.proofs.EachLaws.{each_all}

@@ -11,7 +11,7 @@ use Rattle.surf_geom.specs.declared.fault.GeomFault.{GeomFault}
 use Rattle.surf_geom.specs.declared.points.Point.{Point}
 use Rattle.surf_geom.specs.declared.fault.FixedFault.TheVariants.{Form, Range}
 use Rattle.surf_geom.specs.Fixed.{Decimal, is_great, fixed_amount, signed, fixed_if, fixed_of, decimal_in}
-use Rattle.surf_geom.specs.Gives.{◌>>=◌}
+use Rattle.surf_base.specs.Gives.{◌>>=◌}
 use Rattle.surf_geom.specs.Points.{placed, coordinate, point_of, point_in, points_in, square, IsNear}
 use Rattle.surf_geom.proofs.Quotients.{great_is}
 use Rattle.surf_geom.proofs.EachLaws.{each_all}

@@ -2,7 +2,7 @@ pub mod Fixed
 pub mod Seen
 pub mod Digits
 pub mod Root
-pub mod Gives
+pub mod Lists
 pub mod Points
 pub mod Measures
 pub mod Texts

@@ -6,7 +6,8 @@ use Rattle.surf_lengths.specs.Lengths.{longest}
 use Rattle.surf_geom.specs.declared.fault.GeomFault.{GeomFault}
 use Rattle.surf_geom.specs.declared.fault.GeomFault.TheVariants.{Zero, Great}
 use Rattle.surf_geom.specs.declared.points.Point.{Point}
-use Rattle.surf_geom.specs.Gives.{◌>>=◌, each}
+use Rattle.surf_base.specs.Gives.{◌>>=◌}
+use Rattle.surf_geom.specs.Lists.{each}
 use Rattle.surf_geom.specs.Points.{points_in, point_at, square_distance}
 
 -- the greatest number up to a bound that passes, or 0

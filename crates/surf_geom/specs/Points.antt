@@ -9,7 +9,8 @@ use Rattle.surf_geom.specs.declared.fault.GeomFault.{GeomFault}
 use Rattle.surf_geom.specs.declared.fault.GeomFault.TheVariants.{Form, Range}
 use Rattle.surf_geom.specs.declared.points.Point.{Point}
 use Rattle.surf_geom.specs.Fixed.{fixed_of}
-use Rattle.surf_geom.specs.Gives.{◌>>=◌, each}
+use Rattle.surf_base.specs.Gives.{◌>>=◌}
+use Rattle.surf_geom.specs.Lists.{each}
 
 -- a fault of a token, with its vertex and its place on the line
 abbrev pub placed : ℕ → ℕ → Result ℤ FixedFault → Result ℤ GeomFault

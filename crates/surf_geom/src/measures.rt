@@ -4,7 +4,8 @@ ghost use Rattle.surf_text.specs.Text.{tokens_of};
 ghost use Rattle.surf_surfaces.specs.Mesh.{edges};
 ghost use Rattle.surf_surfaces.specs.Surface.{edge_count};
 ghost use Rattle.surf_lengths.specs.Lengths.{AreLengths};
-ghost use Rattle.surf_geom.specs.Gives.{Gives, each};
+ghost use Rattle.surf_base.specs.Gives.{Gives};
+ghost use Rattle.surf_geom.specs.Lists.{each};
 ghost use Rattle.surf_geom.specs.Points.{coordinate, point_of, points_in, square, square_distance, IsNear};
 ghost use Rattle.surf_geom.specs.Measures.{fitting, length_of, measures_in};
 
@@ -48,7 +49,8 @@ fn read_point(vertex: VertexId, line: &[u8]) -> Result<Point, GeomFault>
 // The points of all vertices.
 fn read_points(alloc: Global, vertices: u32, text: &OffText<'_>) -> Result<Vec<Point>, GeomFault>
     requires lines { length text.now.vertex_lines ≡ vertices }
-    ensures points { Gives (λ points. points.items) result (points_in text.now.vertex_lines) }
+    ensures points { Gives GeomFault.Memory (λ points. points.items) result
+        (points_in text.now.vertex_lines) }
     ensures count { IfOk result (λ points. length points.items ≡ vertices) }
 {
     let mut points = Vec::with_capacity(alloc, vertices as usize)?;
@@ -114,8 +116,8 @@ fn edge_lengths(
     requires points { length points.now ≡ mesh.now.vertices }
     requires near { All IsNear points.now }
     requires some { 0 < unit }
-    ensures lengths { Gives (λ lengths. lengths.items) result (each (length_of points.now unit)
-        (edges mesh.now)) }
+    ensures lengths { Gives GeomFault.Memory (λ lengths. lengths.items) result
+        (each (length_of points.now unit) (edges mesh.now)) }
     ensures few { IfOk result (λ lengths. length lengths.items < 2 ^ 32) }
 {
     let edges = mesh.edges();
@@ -142,7 +144,7 @@ pub fn measure(
 ) -> Result<Lengths, GeomFault>
     requires lines { length text.now.vertex_lines ≡ mesh.now.vertices }
     requires unit { k ≤ 9 }
-    ensures gives { Gives (λ lengths. lengths) result
+    ensures gives { Gives GeomFault.Memory (λ lengths. lengths) result
         (measures_in mesh.now text.now.vertex_lines k) }
     ensures count { IfOk result (λ lengths. length lengths ≡ edge_count mesh.now) }
     ensures lengths { IfOk result AreLengths }

@@ -1,5 +1,5 @@
 -- What a length file says.
-use Rattle.std.specs.Prelude.{◌≡◌, ◌≢◌, ℕ, ◌==◌, List, [], ◌∷◌, codes, replicate, slice_index, slice_set, Option}
+use Rattle.std.specs.Prelude.{ℕ, ◌==◌, List, [], ◌∷◌, codes, replicate, slice_index, slice_set, Option}
 use Rattle.std.specs.Prelude.{Some, None, Result, Ok, Err, unwrap_or, if◌then◌else◌}
 use Rattle.std.specs.List.{fold, position}
 use Rattle.surf_text.specs.Text.{TextLine, tokens_of, lines_of}
@@ -7,7 +7,7 @@ use Rattle.surf_surfaces.specs.Mesh.{Mesh}
 use Rattle.surf_surfaces.specs.Surface.{edge_count, ends}
 use Rattle.surf_lengths.specs.Lines.{entry_of, begins_with, is_version, default_of}
 use Rattle.surf_lengths.specs.declared.fault.LengthFault.{LengthFault}
-use Rattle.surf_lengths.specs.declared.fault.LengthFault.TheVariants.{Form, Twice, Missing, Memory}
+use Rattle.surf_lengths.specs.declared.fault.LengthFault.TheVariants.{Form, Twice, Missing}
 
 -- the length of the edges without a line, where the file has one, and the lines that name edges
 pub record Head : Type 0 where
@@ -80,8 +80,3 @@ behind_head mesh (Ok head) =
 -- the lengths that a text gives to the edges of a mesh, or the first fault
 abbrev pub lengths_in : Mesh → List ℕ → Result (List ℕ) LengthFault
 lengths_in mesh text = behind_head mesh (length_head (lines_of text))
-
--- what a call answers, up to want of memory
-abbrev pub Gives : {X : Type 0} → Result X LengthFault → Result X LengthFault → Type 0
-Gives (Ok x) read = read ≡ Ok x
-Gives (Err fault) read = fault ≢ Memory → read ≡ Err fault

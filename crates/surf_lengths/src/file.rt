@@ -6,7 +6,8 @@ ghost use Rattle.surf_text.specs.Text.{lines_of};
 ghost use Rattle.surf_text.specs.Walks.{lines_ahead};
 ghost use Rattle.surf_surfaces.specs.Surface.{edge_count};
 ghost use Rattle.surf_lengths.specs.Files.{Head, Named, behind_version, length_head, name_line, none_named};
-ghost use Rattle.surf_lengths.specs.Files.{when_read, lengths_in, Gives};
+ghost use Rattle.surf_base.specs.Gives.{Gives};
+ghost use Rattle.surf_lengths.specs.Files.{when_read, lengths_in};
 ghost use Rattle.surf_lengths.specs.Naming.{IsFirstNaming, length_or, IsTableOf, AreNamed};
 ghost use Rattle.surf_lengths.specs.Walks.{GivesEntry};
 
@@ -238,7 +239,7 @@ fn read_table(mesh: &HalfMesh, text: &[u8], table: &mut [u32]) -> Result<(), Len
 /// a default is missing.
 pub fn read_lengths(alloc: Global, text: &[u8], mesh: &HalfMesh) -> Result<Lengths, LengthFault>
     requires short { length text.now < 4294967295 }
-    ensures gives { Gives result (lengths_in mesh.now text.now) }
+    ensures gives { Gives LengthFault.Memory (λ l. l) result (lengths_in mesh.now text.now) }
     ensures count { IfOk result (λ lengths. length lengths ≡ edge_count mesh.now) }
 {
     let mut table = vec![in alloc; 0u32; mesh.edges() as usize]?;

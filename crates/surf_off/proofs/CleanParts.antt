@@ -8,7 +8,8 @@ use Rattle.surf_text.specs.Text.{TextLine, rest_after, tokens_of, lines_of}
 use Rattle.surf_off.specs.declared.fault.OffFault.{OffFault}
 use Rattle.surf_off.specs.declared.header.Header.{Header as Keyword}
 use Rattle.surf_off.specs.Keywords.{header_of}
-use Rattle.surf_off.specs.Off.{◌>>=◌, Head, head_with, head_if, head_on, head_of, with_line, vertices_at, Face, FaceLines, size_of, few_sides, corners_at, distinct, first_repeat, face_of, with_face, faces_at}
+use Rattle.surf_base.specs.Gives.{◌>>=◌}
+use Rattle.surf_off.specs.Off.{Head, head_with, head_if, head_on, head_of, with_line, vertices_at, Face, FaceLines, size_of, few_sides, corners_at, distinct, first_repeat, face_of, with_face, faces_at}
 use Rattle.surf_off.specs.Clean.{IsClean, IsVertexLine, IsOffParts}
 use Rattle.surf_off.proofs.CleanLines.{AllClean, clean_lines, clean_rest}
 

@@ -3,7 +3,8 @@ use Rattle.std.proofs.Common.{◌≡◌, ◌<◌, ◌≤◌, ◌+◌, ◌-◌, �
 use Rattle.std.proofs.lemmas.List.{append-nil}
 use Rattle.surf_off.specs.declared.fault.OffFault.{OffFault}
 use Rattle.surf_text.specs.Text.{whole, behind_word, behind_words}
-use Rattle.surf_off.specs.Off.{◌>>=◌, corner_read, corners_at}
+use Rattle.surf_base.specs.Gives.{◌>>=◌}
+use Rattle.surf_off.specs.Off.{corner_read, corners_at}
 
 -- what was read before, and what is still read
 abbrev pub with_front : List ℕ → Result (List ℕ) OffFault → Result (List ℕ) OffFault

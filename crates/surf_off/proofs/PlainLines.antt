@@ -10,7 +10,8 @@ use Rattle.surf_text.specs.Text.{TextLine, is_blank, is_line_end, is_comment_sig
 use Rattle.surf_text.proofs.Words.{front_back, words_trimmed}
 use Rattle.surf_text.proofs.Plain.{whole_some, short_is_whole}
 use Rattle.surf_off.specs.Clean.{IsClean}
-use Rattle.surf_off.specs.Off.{◌>>=◌, size_of, corners_at, distinct, first_repeat, face_of}
+use Rattle.surf_base.specs.Gives.{◌>>=◌}
+use Rattle.surf_off.specs.Off.{size_of, corners_at, distinct, first_repeat, face_of}
 use Rattle.surf_off.specs.Plain.{spaced, is_end, closes, AreVertices, BeginsWith, IsPlain, IsBehind, line_before}
 use Rattle.surf_off.specs.declared.fault.OffFault.{OffFault}
 use Rattle.surf_off.proofs.CleanLines.{none_before, clean_trimmed}

@@ -5,6 +5,7 @@
 use Rattle.std.specs.Prelude.{◌+◌, ℕ, zero, suc, Bool, true, false, ◌==◌, ◌&&◌, nat_lt, nat_le, List, [], ◌∷◌, ◌++◌}
 use Rattle.std.specs.Prelude.{length, take, drop, Option, Some, None, Result, Ok, Err, if◌then◌else◌}
 use Rattle.std.specs.List.{list_any}
+use Rattle.surf_base.specs.Gives.{◌>>=◌}
 use Rattle.surf_base.specs.declared.limits.LimitKind.TheVariants.{Vertices, Faces, Sides}
 use Rattle.surf_surfaces.specs.Mesh.{Mesh}
 use Rattle.surf_text.specs.Text.{TextLine, tokens_of, lines_of, whole, rest_after}
@@ -13,11 +14,6 @@ use Rattle.surf_off.specs.declared.fault.OffFault.TheVariants.{Header, Counts, V
 use Rattle.surf_off.specs.declared.fault.OffFault.TheVariants.{FaceRepeat, Early, Trailing, Limit}
 use Rattle.surf_off.specs.declared.header.Header.{Header as Keyword}
 use Rattle.surf_off.specs.Keywords.{header_of}
-
-infixl 10 ◌>>=◌
-abbrev pub ◌>>=◌ : {A B : Type 0} → Result A OffFault → (A → Result B OffFault) → Result B OffFault
-(Ok x) >>= f = f x
-(Err e) >>= f = Err e
 
 -- the keyword, the number and the tokens of the counts, and the lines behind them
 pub record Head : Type 0 where

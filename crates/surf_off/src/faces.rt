@@ -8,7 +8,8 @@ ghost use Rattle.surf_text.specs.Text.{whole, behind_word, behind_words, is_line
 ghost use Rattle.surf_text.specs.Text.{uncommented, trimmed, onto_lines};
 ghost use Rattle.surf_text.specs.Walks.{placed_line, lines_ahead};
 ghost use Rattle.surf_off.specs.Off.{size_of, corner_read, corners_at, first_repeat, distinct, face_of, faces_at};
-ghost use Rattle.surf_off.specs.Gives.{Gives, GivesFace};
+ghost use Rattle.surf_base.specs.Gives.{Gives};
+ghost use Rattle.surf_off.specs.Gives.{GivesFace};
 ghost use Rattle.surf_off.specs.Plain.{IsBehind, line_before};
 ghost use Rattle.surf_off.specs.Seen.{part_of};
 ghost use Rattle.surf_base.specs.declared.limits.TheConstants.{MAX_FACES, MAX_SIDES};
@@ -27,7 +28,7 @@ const FEW_CORNERS: usize = 8;
 // How many corners a face has.
 #[tactic(auto, unfolding(crate::specs::Off::size_of))]
 fn read_size(line: u32, tokens: &mut Tokens) -> Result<u64, OffFault>
-    ensures size { Gives (λ k. k) result (size_of line tokens.old.tokens) }
+    ensures size { Gives OffFault.Memory (λ k. k) result (size_of line tokens.old.tokens) }
     ensures tokens { OnOk result (tokens.new.tokens ≡ drop 1 tokens.old.tokens) }
     ensures rest { tokens.new.rest ≡ behind_word tokens.old.rest }
     ensures bounds { IfOk result (λ k. (3 ≤ k) × (k ≤ length tokens.new.tokens)) }
@@ -42,7 +43,8 @@ fn read_size(line: u32, tokens: &mut Tokens) -> Result<u64, OffFault>
 }
 
 fn read_corner(line: u32, vertices: u32, place: u32, token: &[u8]) -> Result<VertexId, OffFault>
-    ensures corner { Gives (λ u. u) result (corner_read line vertices place (whole token.now)) }
+    ensures corner { Gives OffFault.Memory (λ u. u) result
+        (corner_read line vertices place (whole token.now)) }
     ensures within { IfOk result (λ u. u < vertices) }
 {
     match read_whole(token) {
@@ -60,8 +62,8 @@ fn read_corners(
     corners: &mut Vec<VertexId>,
 ) -> Result<(), OffFault>
     requires enough { size ≤ length tokens.old.tokens }
-    ensures corners { Gives (λ _. corners.new.items) result (corners_at line vertices 0
-        (take size tokens.old.tokens)) }
+    ensures corners { Gives OffFault.Memory (λ _. corners.new.items) result
+        (corners_at line vertices 0 (take size tokens.old.tokens)) }
     ensures rest { OnOk result (tokens.new.rest ≡ behind_words size tokens.old.rest) }
     ensures size { OnOk result (length corners.new.items ≡ size) }
     ensures within { OnOk result (All (λ u. u < vertices) corners.new.items) }
@@ -152,7 +154,7 @@ fn refuse_repeats(
 ) -> Result<(), OffFault>
     requires within { All (λ u. u < length marks.old) corners.now }
     requires earlier { (k : ℕ) → k < length marks.old → slice_index marks.old k < stamp }
-    ensures distinct { Gives (λ _. corners.now) result
+    ensures distinct { Gives OffFault.Memory (λ _. corners.now) result
         (distinct line corners.now (first_repeat [] corners.now)) }
     ensures differ { OnOk result (AllPairs (λ a b. a ≢ b) corners.now) }
     ensures marks { (k : ℕ) → k < length marks.new → slice_index marks.new k ≤ stamp }
@@ -180,7 +182,8 @@ fn read_by_tokens<'a>(
     requires few { sides ≤ MAX_SIDES }
     requires room { length marks.old ≡ vertices }
     requires earlier { (k : ℕ) → k < length marks.old → slice_index marks.old k < stamp }
-    ensures face { Gives (λ colour. record { corners = corners.new.items; colour = colour.now })
+    ensures face { Gives OffFault.Memory
+        (λ colour. record { corners = corners.new.items; colour = colour.now })
         result (face_of true vertices sides (placed_line line.now)) }
     ensures corners { OnOk result (IsFace vertices corners.new.items) }
     ensures few { OnOk result (sides + length corners.new.items ≤ MAX_SIDES) }
@@ -300,7 +303,7 @@ pub(crate) fn read_faces(
     requires few { faces ≤ MAX_FACES }
     requires text { colours.old.text ≡ lines.old.text }
     requires none { colours.old.parts ≡ [] }
-    ensures faces { Gives (λ soup. record {
+    ensures faces { Gives OffFault.Memory (λ soup. record {
       faces = soup.faces;
       colours = colours.new.parts;
       lines = lines_ahead lines.new;

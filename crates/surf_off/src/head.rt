@@ -2,7 +2,7 @@
 ghost use Rattle.std.specs.Prelude.{◌≡◌, ◌≤◌, true, IfOk};
 ghost use Rattle.surf_text.specs.Walks.{lines_ahead};
 ghost use Rattle.surf_off.specs.Off.{head_of, counts_of};
-ghost use Rattle.surf_off.specs.Gives.{Gives};
+ghost use Rattle.surf_base.specs.Gives.{Gives};
 ghost use Rattle.surf_off.specs.Seen.{head_seen};
 ghost use Rattle.surf_base.specs.declared.limits.TheConstants.{MAX_FACES, MAX_VERTICES};
 
@@ -21,7 +21,7 @@ pub(crate) struct Head<'a> {
 
 #[tactic(auto, unfolding(crate::specs::Off::head_of))]
 pub(crate) fn read_head<'a>(lines: &mut PlacedLines<'a>) -> Result<Head<'a>, OffFault>
-    ensures head { Gives (λ h. head_seen h (lines_ahead lines.new)) result
+    ensures head { Gives OffFault.Memory (λ h. head_seen h (lines_ahead lines.new)) result
         (head_of (lines_ahead lines.old)) }
     ensures text { lines.new.text ≡ lines.old.text }
 {
@@ -55,7 +55,7 @@ pub(crate) fn read_head<'a>(lines: &mut PlacedLines<'a>) -> Result<Head<'a>, Off
 /// The numbers of vertices and of faces.
 #[tactic(auto, unfolding(crate::specs::Off::counts_of))]
 pub(crate) fn read_counts(line: u32, tokens: &mut Tokens) -> Result<(u32, u32), OffFault>
-    ensures counts { Gives (λ x. x) result (counts_of true line tokens.old.tokens) }
+    ensures counts { Gives OffFault.Memory (λ x. x) result (counts_of true line tokens.old.tokens) }
     ensures limits { IfOk result (λ x. (x.0 ≤ MAX_VERTICES) × (x.1 ≤ MAX_FACES)) }
 {
     let (Some(v), Some(f)) = (tokens.next_token(), tokens.next_token()) else {

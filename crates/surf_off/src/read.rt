@@ -5,7 +5,8 @@ ghost use Rattle.surf_text.specs.Walks.{lines_ahead};
 ghost use Rattle.surf_surfaces.specs.Mesh.{Mesh};
 ghost use Rattle.surf_off.specs.Off.{OffParts, ended, off_of};
 ghost use Rattle.surf_off.specs.Clean.{IsOffParts};
-ghost use Rattle.surf_off.specs.Gives.{Gives, GivesSecond};
+ghost use Rattle.surf_base.specs.Gives.{Gives};
+ghost use Rattle.surf_off.specs.Gives.{GivesSecond};
 ghost use Rattle.surf_off.specs.Places.{AreWithin, parts_at};
 ghost use Rattle.surf_base.specs.declared.limits.TheConstants.{MAX_FACES, MAX_SIDES, MAX_VERTICES};
 
@@ -36,7 +37,7 @@ fn room_for(text: &[u8], count: u32) -> usize
 /// face a line; coordinates and colours aren't read as numbers.
 pub fn read_off<'a>(alloc: Global, text: &'a [u8]) -> Result<(OffText<'a>, Soup), OffFault>
     requires short { length text.now < 4294967295 }
-    ensures off { Gives (λ x. x) result (off_of text.now) }
+    ensures off { Gives OffFault.Memory (λ x. x) result (off_of text.now) }
     ensures lines { IfOk result (λ x. length x.0.vertex_lines ≡ x.1.vertices) }
     ensures colours { IfOk result (λ x. length x.0.colours ≡ length x.1.faces) }
     ensures vertices { IfOk result (λ x. x.1.vertices ≤ MAX_VERTICES) }
@@ -52,7 +53,8 @@ pub fn read_off<'a>(alloc: Global, text: &'a [u8]) -> Result<(OffText<'a>, Soup)
 #[tactic(auto, unfolding(crate::specs::Off::off_in))]
 pub fn read_places(alloc: Global, text: &[u8]) -> Result<(OffPlaces, Soup), OffFault>
     requires short { length text.now < 4294967295 }
-    ensures off { Gives (λ x. (parts_at text.now x.0, x.1)) result (off_of text.now) }
+    ensures off { Gives OffFault.Memory (λ x. (parts_at text.now x.0, x.1)) result
+        (off_of text.now) }
     ensures within { IfOk result (λ x. AreWithin (length text.now) x.0) }
     ensures clean { IfOk result (λ x. IsOffParts (parts_at text.now x.0)) }
     ensures lines { IfOk result (λ x.
@@ -97,7 +99,7 @@ pub fn read_soup(alloc: Global, text: &[u8]) -> Result<Soup, OffFault>
 
 // No line may stand behind the faces.
 fn test_end(lines: &mut PlacedLines<'_>) -> Result<(), OffFault>
-    ensures { (off : OffParts × Mesh) → Gives (λ _. off) result
+    ensures { (off : OffParts × Mesh) → Gives OffFault.Memory (λ _. off) result
         (ended off (lines_ahead lines.old)) }
 {
     match lines.next_line() {

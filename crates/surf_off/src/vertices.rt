@@ -2,7 +2,8 @@
 ghost use Rattle.std.specs.Prelude.{◌≡◌, ◌<◌, ◌+◌, ◌^◌, [], length, IfOk, OnOk};
 ghost use Rattle.surf_text.specs.Walks.{lines_ahead, StandsAt};
 ghost use Rattle.surf_off.specs.Off.{vertices_at};
-ghost use Rattle.surf_off.specs.Gives.{Gives, GivesSecond, GivesVertex};
+ghost use Rattle.surf_base.specs.Gives.{Gives};
+ghost use Rattle.surf_off.specs.Gives.{GivesSecond, GivesVertex};
 
 use crate::fault::OffFault;
 use crate::parts::{Parts, Span};
@@ -45,7 +46,7 @@ pub(crate) fn read_vertices(
     requires fits { vertices + faces < 2 ^ 32 }
     requires text { kept.old.text ≡ lines.old.text }
     requires none { kept.old.parts ≡ [] }
-    ensures lines { Gives (λ _. (kept.new.parts, lines_ahead lines.new)) result
+    ensures lines { Gives OffFault.Memory (λ _. (kept.new.parts, lines_ahead lines.new)) result
         (vertices_at vertices faces (lines_ahead lines.old)) }
     ensures count { OnOk result (length kept.new.parts ≡ vertices) }
     ensures text { OnOk result (lines.new.text ≡ lines.old.text) }

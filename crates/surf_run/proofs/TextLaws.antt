@@ -5,7 +5,8 @@ use Rattle.std.proofs.lemmas.Bool.{cases_lt, lt-ltb, le-ltb}
 use Rattle.surf_surfaces.specs.Mesh.{Mesh}
 use Rattle.surf_surfaces.specs.Surface.{face_count}
 use Rattle.surf_text.specs.Text.{TextLine, lines_of, whole}
-use Rattle.surf_off.specs.Off.{OffParts, FaceLines, Face, ◌>>=◌, head_of, within_limits, both, counts_of, vertices_at, face_of, with_face, faces_at, ended, off_in, off_of}
+use Rattle.surf_base.specs.Gives.{◌>>=◌}
+use Rattle.surf_off.specs.Off.{OffParts, FaceLines, Face, head_of, within_limits, both, counts_of, vertices_at, face_of, with_face, faces_at, ended, off_in, off_of}
 use Rattle.surf_off.specs.declared.fault.OffFault.{OffFault}
 
 -- what is read, if anything is, is so

@@ -8,7 +8,8 @@ use Rattle.std.proofs.lemmas.List.Sums.{sum_by-cons}
 use Rattle.surf_surfaces.specs.Mesh.{Mesh}
 use Rattle.surf_text.specs.Text.{TextLine, tokens_of, whole, lines_of, rest_after}
 use Rattle.surf_off.specs.declared.fault.OffFault.{OffFault}
-use Rattle.surf_off.specs.Off.{◌>>=◌, Head, head_of, both, counts_of, vertices_at, sized, size_of, few_sides, corner_read, corners_at, first_repeat, distinct, Face, face_of, FaceLines, with_face, faces_at, OffParts, ended, off_in}
+use Rattle.surf_base.specs.Gives.{◌>>=◌}
+use Rattle.surf_off.specs.Off.{Head, head_of, both, counts_of, vertices_at, sized, size_of, few_sides, corner_read, corners_at, first_repeat, distinct, Face, face_of, FaceLines, with_face, faces_at, OffParts, ended, off_in}
 use Rattle.surf_sew.specs.Laws.{LimitsAreKept}
 
 -- What was bound was read.

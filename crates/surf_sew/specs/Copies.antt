@@ -1,11 +1,11 @@
 -- Copy lines of a text: comments `# copy i from v`, which say of which vertex each copy is.
-use Rattle.std.specs.Prelude.{◌≡◌, ◌≢◌, ◌+◌, ◌^◌, ℕ, Bool, false, ◌==◌, ◌&&◌, nat_lt, List, [], ◌∷◌, length, codes}
+use Rattle.std.specs.Prelude.{◌+◌, ◌^◌, ℕ, Bool, false, ◌==◌, ◌&&◌, nat_lt, List, [], ◌∷◌, length, codes}
 use Rattle.std.specs.Prelude.{Option, Some, None, Result, Ok, Err, if◌then◌else◌}
 use Rattle.std.specs.List.{slice_split, filter}
 use Rattle.std.specs.Str.{bytes_eq}
 use Rattle.surf_text.specs.Text.{is_line_end, words_of, whole}
 use Rattle.surf_sew.specs.declared.copies.CopyFault.{CopyFault}
-use Rattle.surf_sew.specs.declared.copies.CopyFault.TheVariants.{CopyForm, CopyCount, Memory}
+use Rattle.surf_sew.specs.declared.copies.CopyFault.TheVariants.{CopyForm, CopyCount}
 
 -- a line: its number in the text, and its words, a comment sign being a byte as others are
 pub record WordLine : Type 0 where
@@ -64,12 +64,3 @@ counted count (Err fault) = Err fault
 -- the origins of so many copies that the copy lines of a text name, or the first fault
 abbrev pub copies_in : List ℕ → ℕ → Result (List ℕ) CopyFault
 copies_in text count = counted count (origins_from 0 (copy_lines text))
-
--- It is that fault, unless memory ran out.
-abbrev pub Fails : {Y : Type 0} → CopyFault → Result Y CopyFault → Type 0
-Fails e read = e ≢ Memory → read ≡ Err e
-
--- The answer, seen by view, is what is read, unless memory ran out.
-abbrev pub Gives : {X Y : Type 0} → (X → Y) → Result X CopyFault → Result Y CopyFault → Type 0
-Gives view (Ok x) read = read ≡ Ok (view x)
-Gives view (Err e) read = Fails e read

@@ -1,5 +1,5 @@
 -- Sewing: copies of one vertex become that vertex again.
-use Rattle.std.specs.Prelude.{◌≡◌, ◌≢◌, ◌<◌, ◌+◌, ℕ, suc, Bool, true, not, ◌==◌, List, [], ◌∷◌, length, map}
+use Rattle.std.specs.Prelude.{◌≡◌, ◌<◌, ◌+◌, ℕ, suc, Bool, true, not, ◌==◌, List, [], ◌∷◌, length, map}
 use Rattle.std.specs.Prelude.{slice_index, slice_index_or, Option, Some, None, Result, Ok, Err, if◌then◌else◌}
 use Rattle.std.specs.List.{find, list_any, position_or_len, range_with_len}
 use Rattle.std.specs.Option.{option_map}
@@ -7,7 +7,7 @@ use Rattle.std.specs.Str.{bytes_eq}
 use Rattle.surf_surfaces.specs.Mesh.{Mesh}
 use Rattle.surf_off.specs.Off.{first_repeat}
 use Rattle.surf_sew.specs.declared.fault.SewFault.{SewFault}
-use Rattle.surf_sew.specs.declared.fault.SewFault.TheVariants.{Gap, Line, FaceRepeat, Memory}
+use Rattle.surf_sew.specs.declared.fault.SewFault.TheVariants.{Gap, Line, FaceRepeat}
 
 -- whether a number is in a list
 abbrev pub is_among : ℕ → List ℕ → Bool
@@ -78,12 +78,3 @@ abbrev pub sewn_of : List (List ℕ) → Mesh → List ℕ → Result Mesh SewFa
 sewn_of lines copies origins =
     unless (gap_fault origins) (unless (line_fault lines origins)
     (unless (repeat_from 0 (sewn_faces origins copies.faces)) (Ok (sewn_mesh origins copies.faces))))
-
--- It is that fault, unless memory ran out.
-abbrev pub Fails : {Y : Type 0} → SewFault → Result Y SewFault → Type 0
-Fails e sewn = e ≢ Memory → sewn ≡ Err e
-
--- The answer, seen by view, is what is sewn, unless memory ran out.
-abbrev pub Gives : {X Y : Type 0} → (X → Y) → Result X SewFault → Result Y SewFault → Type 0
-Gives view (Ok x) sewn = sewn ≡ Ok (view x)
-Gives view (Err e) sewn = Fails e sewn

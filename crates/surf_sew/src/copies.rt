@@ -6,7 +6,8 @@ ghost use Rattle.std.specs.Option.{IfSome};
 ghost use Rattle.std.specs.Str.{bytes_eq};
 ghost use Rattle.surf_text.specs.Text.{is_comment_sign, is_line_end, words_of};
 ghost use Rattle.surf_text.specs.Walks.{parts_of};
-ghost use Rattle.surf_sew.specs.Copies.{word_lines_from, is_copy, copies_among, origin_at, origin_of, copies_in, Gives};
+ghost use Rattle.surf_base.specs.Gives.{Gives};
+ghost use Rattle.surf_sew.specs.Copies.{word_lines_from, is_copy, copies_among, origin_at, origin_of, copies_in};
 ghost use Rattle.surf_sew.specs.declared.copies.CopyFault.TheVariants.{Memory};
 ghost use Rattle.surf_base.specs.declared.limits.TheConstants.{MAX_TEXT};
 
@@ -211,7 +212,8 @@ fn read_origin(line: &[u8], place: u64) -> Option<VertexId>
 /// `Memory` where there is none. The text has at most 268,435,456 bytes.
 pub fn read_copies(alloc: Global, text: &[u8], count: u32) -> Result<Vec<VertexId>, CopyFault>
     requires short { length text.now ≤ MAX_TEXT }
-    ensures copies { Gives (λ origins. origins.items) result (copies_in text.now count) }
+    ensures copies { Gives CopyFault.Memory (λ origins. origins.items) result
+        (copies_in text.now count) }
     ensures count { IfOk result (λ origins. length origins.items ≡ count) }
 {
     let mut origins = Vec::new(alloc);

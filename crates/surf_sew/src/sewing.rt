@@ -4,7 +4,8 @@ ghost use Rattle.std.specs.Prelude.{slice_index, AllPairs, MatchResult, IfOk, If
 ghost use Rattle.std.specs.List.{All, list_all, position, position_or_len};
 ghost use Rattle.surf_off.specs.Off.{first_repeat};
 ghost use Rattle.surf_sew.specs.Sewing.{different, first_copies, gap_fault, HaveCopies, line_fault, sewn_face};
-ghost use Rattle.surf_sew.specs.Sewing.{sewn_faces, repeat_from, unless, sewn_of, Gives};
+ghost use Rattle.surf_base.specs.Gives.{Gives};
+ghost use Rattle.surf_sew.specs.Sewing.{sewn_faces, repeat_from, unless, sewn_of};
 
 use crate::fault::SewFault;
 use crate::first::list_first;
@@ -118,7 +119,7 @@ fn sew_faces(
 ) -> Result<Soup, SewFault>
     requires copies { length origins.now ≡ soup.now.vertices }
     requires within { All (λ v. v < vertices) origins.now }
-    ensures faces { Gives (λ s. s) result (unless
+    ensures faces { Gives SewFault.Memory (λ s. s) result (unless
         (repeat_from 0 (sewn_faces origins.now soup.now.faces)) (Ok (record {
           vertices = vertices;
           faces = sewn_faces origins.now soup.now.faces;
@@ -152,7 +153,8 @@ pub fn sew(
 ) -> Result<Soup, SewFault>
     requires lines { length text.now.vertex_lines ≡ soup.now.vertices }
     requires origins { length origins.now ≡ soup.now.vertices }
-    ensures sewn { Gives (λ s. s) result (sewn_of text.now.vertex_lines soup.now origins.now) }
+    ensures sewn { Gives SewFault.Memory (λ s. s) result
+        (sewn_of text.now.vertex_lines soup.now origins.now) }
     ensures copies { IfOk result (λ s. HaveCopies origins.now s.vertices) }
     ensures faces { IfOk result (λ s. length s.faces ≡ length soup.now.faces) }
 {
