@@ -1,13 +1,11 @@
 -- Certificates of the choice as answers.
-use Rattle.std.proofs.Common.{◌≡◌, ℕ, ◌≤◌, ◌++◌, List, length, Result, Ok, Err, ap, ◌∙◌, subst}
+use Rattle.surf_surfaces.proofs.Common.{◌≡◌, ℕ, ◌≤◌, ◌++◌, List, length, Result, Ok, Err, ap, ◌∙◌, subst, Mesh, IsSurface, edge_count}
 use Rattle.std.specs.Result.{IfOk}
 use Rattle.surf_base.specs.declared.limits.LimitKind.TheVariants.{Answer}
 use Rattle.surf_basis.specs.Certs.{IsTheCert}
 use Rattle.surf_cert.specs.Written.{loop_text, basis_text}
 use Rattle.surf_lengths.specs.Lengths.{AreLengths}
 use Rattle.surf_lengths.proofs.Positive.{lengths_positive}
-use Rattle.surf_surfaces.specs.Mesh.{Mesh}
-use Rattle.surf_surfaces.specs.Surface.{IsSurface, edge_count}
 use Rattle.surf_surfaces.proofs.BasisLaws.{basis_is_least}
 use Rattle.surf_loops.specs.Loops.{LoopTables, IsGreedy, trees_of}
 use Rattle.surf_text.specs.Pages.{PageState, grown, Stops}

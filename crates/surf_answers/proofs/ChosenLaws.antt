@@ -1,19 +1,10 @@
 -- What is known of a desk with the trees that are chosen at vertex 0.
-use Rattle.std.proofs.Common.{◌≡◌, ℕ, List, length, sym, ap, subst, arith}
-use Rattle.std.specs.Prelude.{replicate}
+use Rattle.surf_surfaces.proofs.Common.{◌≡◌, ℕ, List, length, sym, ap, subst, arith, replicate, cells_of, AreChosenAt, split_of, Mesh, edge_count, loop_count, IsSplit, Split, Tree, Chain}
 use Rattle.surf_classes.specs.Evidence.{Evidence, IsChosen, IsClassEvidence}
-use Rattle.surf_surfaces.specs.Cells.{cells_of}
-use Rattle.surf_surfaces.specs.Choice.{AreChosenAt}
-use Rattle.surf_surfaces.specs.Cotree.{split_of}
-use Rattle.surf_surfaces.specs.Mesh.{Mesh}
-use Rattle.surf_surfaces.specs.Surface.{edge_count, loop_count}
 use Rattle.surf_cotree.specs.Grown.{IsMarked}
 use Rattle.surf_cotree.specs.Tables.{CotreeTables, split_with, cotree_of}
-use Rattle.surf_graphs.specs.Cells.{IsSplit, Split}
-use Rattle.surf_graphs.specs.Trees.{Tree}
 use Rattle.surf_loops.specs.Loops.{LoopTables, IsGreedy, trees_of}
 use Rattle.surf_tree.specs.Tables.{tree_of}
-use Rattle.surf_z2.specs.Space.{Chain}
 use Rattle.surf_answers.specs.ChosenDesks.{IsChosenDesk}
 
 module _ (mesh : Mesh) (lengths : List ℕ) (t : LoopTables) (greedy : IsGreedy mesh lengths 0 t) where

@@ -1,10 +1,7 @@
 -- The copy lines of the text of an opened surface.
 use Rattle.std.proofs.Common.{◌≡◌, ◌<◌, ◌^◌, ℕ, Bool, List, length, get_or, Ok, Err, refl, sym, ◌∙◌, ap, subst, arith, inl, inr, cond, eq-eqb}
-use Rattle.std.specs.Prelude.{slice_index}
+use Rattle.surf_surfaces.proofs.Common.{slice_index, cases_lt, length-map, get_or_past, IsFace}
 use Rattle.std.specs.List.{All}
-use Rattle.std.proofs.lemmas.Bool.{cases_lt}
-use Rattle.std.proofs.lemmas.List.{length-map, get_or_past}
-use Rattle.surf_surfaces.specs.Mesh.{IsFace}
 use Rattle.surf_off.specs.Clean.{IsOffParts}
 use Rattle.surf_off.specs.Off.{OffParts}
 use Rattle.surf_off.specs.Written.{lines_at, opened_text}

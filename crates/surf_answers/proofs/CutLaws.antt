@@ -1,10 +1,6 @@
 -- The trees of a loop desk, and what is opened along the cut that they give.
-use Rattle.std.proofs.Common.{◌≡◌, ℕ, ◌<◌, List, [], length, get_or, refl, sym, ap, ◌∙◌, subst}
-use Rattle.std.specs.Prelude.{All}
-use Rattle.std.proofs.lemmas.List.{length-map, get_or-map, get_or_default}
+use Rattle.surf_surfaces.proofs.Common.{◌≡◌, ℕ, ◌<◌, List, [], length, get_or, refl, sym, ap, ◌∙◌, subst, All, length-map, get_or-map, get_or_default, Mesh, IsFace, face_at, IsSurface}
 use Rattle.std.proofs.lemmas.List.Elements.{All-get_or, All-from_get_or}
-use Rattle.surf_surfaces.specs.Mesh.{Mesh, IsFace}
-use Rattle.surf_surfaces.specs.Surface.{face_at, IsSurface}
 use Rattle.surf_opening.specs.Opening.{IsOpenedBy}
 use Rattle.surf_opening.specs.ChosenCut.{AreDivided}
 use Rattle.surf_tree.specs.Tables.{tree_of}

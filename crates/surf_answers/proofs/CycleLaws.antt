@@ -1,7 +1,5 @@
 -- The texts of cycles.
-use Rattle.std.proofs.Common.{◌≡◌, List, [], ◌∷◌, ◌++◌, length, map, refl, ap, ◌∙◌, arith}
-use Rattle.std.specs.Prelude.{sum}
-use Rattle.std.specs.List.{flat_map}
+use Rattle.surf_surfaces.proofs.Common.{◌≡◌, List, [], ◌∷◌, ◌++◌, length, map, refl, ap, ◌∙◌, arith, sum, flat_map}
 use Rattle.surf_basis.specs.Cycles.{as_loops}
 use Rattle.surf_basis.specs.declared.cycle.Cycle.{Cycle}
 use Rattle.surf_texts.specs.CycleTexts.{cycle_line, cycles_head, cycles_text}

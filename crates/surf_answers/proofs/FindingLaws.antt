@@ -1,10 +1,5 @@
 -- What is found of the cycles of a surface, as answers.
-use Rattle.std.proofs.Common.{◌≡◌, ℕ, List, length, Option, Some, None, inl, inr, refl, subst}
-use Rattle.std.specs.Prelude.{IfSome, ◌↔◌}
-use Rattle.surf_surfaces.specs.Mesh.{Mesh}
-use Rattle.surf_surfaces.specs.Surface.{IsSurface, edge_count}
-use Rattle.surf_surfaces.specs.Choice.{Trees, AreChosen, Loop, candidates, IsChosenBasis}
-use Rattle.surf_surfaces.specs.Walk.{ArePositive}
+use Rattle.surf_surfaces.proofs.Common.{◌≡◌, ℕ, List, length, Option, Some, None, inl, inr, refl, subst, IfSome, ◌↔◌, Mesh, IsSurface, edge_count, Trees, AreChosen, Loop, candidates, IsChosenBasis, ArePositive}
 use Rattle.surf_surfaces.specs.ChoiceLaws.{LeastSimpleBasis}
 use Rattle.surf_surfaces.proofs.ChoiceExists.{choice_exists}
 use Rattle.surf_surfaces.proofs.ShortestWalkLaws.{first_of_basis_is_shortest_not_null, shortest_not_null_is_nonseparating}

@@ -1,11 +1,5 @@
 -- The text of a desk's loops is that of the loops that are chosen.
-use Rattle.std.proofs.Common.{◌≡◌, ℕ, ◌<◌, List, [], ◌∷◌, ◌++◌, length, map, refl, sym, ap, ◌∙◌, subst, arith}
-use Rattle.std.specs.Prelude.{All, sum}
-use Rattle.std.specs.List.{AllByRecursion, flat_map}
-use Rattle.std.proofs.lemmas.List.Elements.{All-from_recursion}
-use Rattle.surf_surfaces.specs.Mesh.{Mesh}
-use Rattle.surf_surfaces.specs.Surface.{edge_count}
-use Rattle.surf_surfaces.specs.Choice.{Loop, loops_at}
+use Rattle.surf_surfaces.proofs.Common.{◌≡◌, ℕ, ◌<◌, List, [], ◌∷◌, ◌++◌, length, map, refl, sym, ap, ◌∙◌, subst, arith, All, sum, AllByRecursion, flat_map, All-from_recursion, Mesh, edge_count, Loop, loops_at}
 use Rattle.surf_surfaces.proofs.LoopsAtLaws.{IsLoopAt, loops_each}
 use Rattle.surf_loops.specs.Loops.{LoopTables, IsGreedy, loop_of, trees_of}
 use Rattle.surf_loops.specs.declared.head.LoopHead.{LoopHead}

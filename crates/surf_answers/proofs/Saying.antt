@@ -1,7 +1,5 @@
 -- Texts on a page as answers.
-use Rattle.std.proofs.Common.{◌≡◌, ℕ, ◌<◌, ◌≤◌, true, false, List, [], length, refl, sym, ap, subst, arith}
-use Rattle.std.specs.Prelude.{nat_lt}
-use Rattle.std.proofs.lemmas.Bool.{lt-ltb, le-ltb}
+use Rattle.surf_surfaces.proofs.Common.{◌≡◌, ℕ, ◌<◌, ◌≤◌, true, false, List, [], length, refl, sym, ap, subst, arith, nat_lt, lt-ltb, le-ltb}
 use Rattle.surf_base.specs.declared.limits.LimitKind.TheVariants.{Answer}
 use Rattle.surf_text.specs.Pages.{PageState, Stops}
 use Rattle.surf_text.specs.declared.page.PageFault.{PageFault}

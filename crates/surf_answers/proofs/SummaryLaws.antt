@@ -1,8 +1,5 @@
 -- What is found on a surface, as an answer.
-use Rattle.std.proofs.Common.{◌≡◌, ℕ, List, length, Some, inl, inr, sym, ap}
-use Rattle.surf_surfaces.specs.Mesh.{Mesh}
-use Rattle.surf_surfaces.specs.Surface.{IsSurface, edge_count}
-use Rattle.surf_surfaces.specs.Choice.{Trees, AreChosen, Loop, candidates}
+use Rattle.surf_surfaces.proofs.Common.{◌≡◌, ℕ, List, length, Some, inl, inr, sym, ap, Mesh, IsSurface, edge_count, Trees, AreChosen, Loop, candidates}
 use Rattle.surf_surfaces.specs.ChoiceLaws.{LeastSimpleBasis}
 use Rattle.surf_surfaces.proofs.ChoiceExists.{choice_exists}
 use Rattle.surf_lengths.specs.Lengths.{AreLengths}

@@ -1,9 +1,5 @@
 -- The parts of the certificate of the basis.
-use Rattle.std.proofs.Common.{◌≡◌, ℕ, ◌+◌, ◌<◌, ◌++◌, ◌∷◌, [], List, map, refl, sym, ap, ◌∙◌, subst}
-use Rattle.surf_surfaces.specs.Mesh.{Mesh}
-use Rattle.surf_surfaces.specs.Surface.{ends, IsSurface}
-use Rattle.surf_surfaces.specs.Walk.{ArePositive}
-use Rattle.surf_surfaces.specs.Choice.{Trees, AreChosenAt, Loop, walks}
+use Rattle.surf_surfaces.proofs.Common.{◌≡◌, ℕ, ◌+◌, ◌<◌, ◌++◌, ◌∷◌, [], List, map, refl, sym, ap, ◌∙◌, subst, Mesh, ends, IsSurface, ArePositive, Trees, AreChosenAt, Loop, walks}
 use Rattle.surf_surfaces.proofs.ChoiceExists.{choice_exists, heaviest_exists}
 use Rattle.surf_surfaces.proofs.ClassLaws.{some_vertex}
 use Rattle.surf_surfaces.proofs.ShortestTreeLaws.{shortest_is_tree}

@@ -1,11 +1,6 @@
 -- Vertices that are marked: the bases of candidates, and ends of edges with signatures.
-use Rattle.std.proofs.Common.{◌≡◌, ◌≢◌, ℕ, ◌<◌, Bool, true, false, List, length, get_or, slice_index, Contains, All, IsPermutation, sym, ap, ◌∙◌, subst, arith, inl, inr, ◌⊎◌, refl}
-use Rattle.std.specs.Prelude.{slice_index_or, IsTrue}
-use Rattle.std.proofs.lemmas.List.{get_or_default}
-use Rattle.std.proofs.lemmas.List.Elements.{Contains-get_or}
+use Rattle.surf_surfaces.proofs.Common.{◌≡◌, ◌≢◌, ℕ, ◌<◌, Bool, true, false, List, length, get_or, slice_index, Contains, All, IsPermutation, sym, ap, ◌∙◌, subst, arith, inl, inr, ◌⊎◌, refl, slice_index_or, IsTrue, get_or_default, Contains-get_or, Mesh, edge_count, ends, IsSurface}
 use Rattle.std.proofs.lemmas.List.Sorted.{Contains-permutation, IsPermutation-sym}
-use Rattle.surf_surfaces.specs.Mesh.{Mesh}
-use Rattle.surf_surfaces.specs.Surface.{edge_count, ends, IsSurface}
 use Rattle.surf_surfaces.specs.FewBases.{AreBases}
 use Rattle.surf_surfaces.proofs.CellLaws.{ends_in}
 use Rattle.surf_cotree.specs.Tables.{CotreeTables}

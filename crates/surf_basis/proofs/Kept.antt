@@ -1,23 +1,9 @@
 -- What is kept base by base is the basis that is chosen.
-use Rattle.std.proofs.Common.{◌≡◌, ℕ, suc, ◌<◌, ◌≤◌, ◌-◌, Bool, true, false, cond, List, [], ◌∷◌, ◌++◌, ◌+◌, length, filter, get_or, take, All, refl, sym, ap, ◌∙◌, subst, arith, inl, inr, slice_index}
-use Rattle.std.specs.List.{AllByRecursion}
-use Rattle.std.proofs.lemmas.Bool.{cases_lt}
-use Rattle.std.proofs.lemmas.List.{take_more, take_all}
-use Rattle.std.proofs.lemmas.List.Elements.{recursion_from_All}
+use Rattle.surf_surfaces.proofs.Common.{◌≡◌, ℕ, suc, ◌<◌, ◌≤◌, ◌-◌, Bool, true, false, cond, List, [], ◌∷◌, ◌++◌, ◌+◌, length, filter, get_or, take, All, refl, sym, ap, ◌∙◌, subst, arith, inl, inr, slice_index, AllByRecursion, cases_lt, take_more, take_all, recursion_from_All, numbers, is_nothing, order_from_sorted, Decides-is_nothing, Split, IsSplit, Mesh, IsSurface, ArePositive, cells_of, class_of, Trees, AreChosen, Loop, comes_before, loops_at, candidates, IsChosenBasis}
 use Rattle.surf_z2.specs.Greedy.{greedy, greedy_after, spans}
 use Rattle.surf_z2.specs.Order.{merge, merge_from}
-use Rattle.surf_z2.specs.Space.{numbers, is_nothing}
 use Rattle.surf_z2.proofs.Greedy.{two_step_law}
-use Rattle.surf_z2.proofs.Merge.{order_from_sorted}
-use Rattle.surf_z2.proofs.Numbers.{Decides-is_nothing}
 use Rattle.surf_z2.proofs.Passing.{greedy_filtered}
-use Rattle.surf_graphs.specs.Cells.{Split, IsSplit}
-use Rattle.surf_surfaces.specs.Mesh.{Mesh}
-use Rattle.surf_surfaces.specs.Surface.{IsSurface}
-use Rattle.surf_surfaces.specs.Walk.{ArePositive}
-use Rattle.surf_surfaces.specs.Cells.{cells_of}
-use Rattle.surf_surfaces.specs.Class.{class_of}
-use Rattle.surf_surfaces.specs.Choice.{Trees, AreChosen, Loop, comes_before, loops_at, candidates, IsChosenBasis}
 use Rattle.surf_surfaces.specs.FewBases.{AreBases}
 use Rattle.surf_surfaces.proofs.LeastLaws.{all_each}
 use Rattle.surf_surfaces.proofs.GreedyChoiceLaws.{greedy_is_choice}

@@ -1,12 +1,6 @@
 -- The first cycle of a basis that is chosen is the first candidate.
-use Rattle.std.proofs.Common.{◌≡◌, ℕ, Bool, true, false, List, [], ◌∷◌, Some, refl, sym, ap, ◌∙◌, subst, arith}
+use Rattle.surf_surfaces.proofs.Common.{◌≡◌, ℕ, Bool, true, false, List, [], ◌∷◌, Some, refl, sym, ap, ◌∙◌, subst, arith, option_map, chosen, xor-false, Mesh, IsSurface, parity, ArePositive}
 use Rattle.std.specs.Prelude.{MatchBool, slice_index_or}
-use Rattle.std.specs.Option.{option_map}
-use Rattle.surf_z2.specs.Space.{chosen}
-use Rattle.surf_z2.proofs.ParityLaws.{xor-false}
-use Rattle.surf_surfaces.specs.Mesh.{Mesh}
-use Rattle.surf_surfaces.specs.Surface.{IsSurface}
-use Rattle.surf_surfaces.specs.Walk.{parity, ArePositive}
 use Rattle.surf_surfaces.specs.Homology.{IsBoundary, IsNull, total_parity}
 use Rattle.surf_surfaces.specs.Choice.{Trees, AreChosen, Loop, candidates, DependsOn, DependsAt, IsGreedyChoice}
 use Rattle.surf_surfaces.proofs.CycleLaws.{null_cycles_separate}

@@ -1,17 +1,7 @@
 -- The loops of a desk at a base, as loops of the choice.
-use Rattle.std.proofs.Common.{◌≡◌, ℕ, ◌<◌, ◌+◌, true, List, [], ◌∷◌, length, map, Contains, refl, sym, ap, ◌∙◌, subst, arith}
-use Rattle.std.specs.List.{AllByRecursion}
-use Rattle.std.proofs.lemmas.List.{length-map, get_or-map}
-use Rattle.std.proofs.lemmas.List.Elements.{All-from_recursion, All-contains}
-use Rattle.std.proofs.lemmas.List.Sorted.{Contains-permutation}
+use Rattle.surf_surfaces.proofs.Common.{◌≡◌, ℕ, ◌<◌, ◌+◌, true, List, [], ◌∷◌, length, map, Contains, refl, sym, ap, ◌∙◌, subst, arith, AllByRecursion, length-map, get_or-map, All-from_recursion, All-contains, Contains-permutation, Mesh, edge_count, face_count, IsSurface, ArePositive, IsLoopCount, loop_walk, Trees, AreChosenAt, AreChosen, Loop, comes_before, loop_at, loops_at, candidates, IsGreedyChoice, IsChosenBasis}
 use Rattle.surf_z2.proofs.Merge.{sorted-permutes}
-use Rattle.surf_surfaces.specs.Mesh.{Mesh}
-use Rattle.surf_surfaces.specs.Surface.{edge_count, face_count, IsSurface}
-use Rattle.surf_surfaces.specs.Walk.{ArePositive}
-use Rattle.surf_surfaces.specs.Homology.{IsLoopCount}
-use Rattle.surf_surfaces.specs.Loop.{loop_walk}
 use Rattle.surf_surfaces.specs.Cotree.{is_left, left_edges}
-use Rattle.surf_surfaces.specs.Choice.{Trees, AreChosenAt, AreChosen, Loop, comes_before, loop_at, loops_at, candidates, IsGreedyChoice, IsChosenBasis}
 use Rattle.surf_surfaces.proofs.CotreeLaws.{passing_found}
 use Rattle.surf_surfaces.proofs.LoopsAtLaws.{IsLoopAt, loops_each}
 use Rattle.surf_surfaces.proofs.LoopsOne.{loops_are_one}

@@ -1,8 +1,5 @@
 -- Lists of vertices that every closed walk meets which isn't null.
-use Rattle.std.proofs.Common.{ℕ, List, sym, ◌∙◌, inl, inr}
-use Rattle.surf_surfaces.specs.Mesh.{Mesh}
-use Rattle.surf_surfaces.specs.Surface.{ends, IsSurface}
-use Rattle.surf_surfaces.specs.FewBases.{MeetsAll}
+use Rattle.surf_surfaces.proofs.Common.{ℕ, List, sym, ◌∙◌, inl, inr, Mesh, ends, IsSurface, MeetsAll}
 use Rattle.surf_surfaces.proofs.SignedEndsLaws.{signed_ends_meet_all}
 use Rattle.surf_opening.proofs.OffTheCutMarked.{walks_are_null_or_meet_marked}
 use Rattle.surf_tree.specs.Tables.{tree_of}

@@ -1,10 +1,7 @@
 -- Two lists in order, merged, and those of them that pass a test.
-use Rattle.std.proofs.Common.{◌≡◌, Bool, true, false, List, [], ◌∷◌, filter, refl, sym, ap, ◌∙◌, inl, inr}
-use Rattle.std.specs.List.{AllByRecursion}
-use Rattle.std.proofs.lemmas.Bool.{cases_Bool}
+use Rattle.surf_surfaces.proofs.Common.{◌≡◌, Bool, true, false, List, [], ◌∷◌, filter, refl, sym, ap, ◌∙◌, inl, inr, AllByRecursion, cases_Bool, all_filtered}
 use Rattle.surf_z2.specs.Order.{merge_from, merge}
 use Rattle.surf_z2.proofs.Merge.{Sorted, merge_head}
-use Rattle.surf_z2.proofs.Passing.{all_filtered}
 
 module _ {C : Type 0} (comes_before : C → C → Bool) (transitive : (a b c : C) → comes_before a b ≡ true →
     comes_before b c ≡ true → comes_before a c ≡ true) (p : C → Bool) where

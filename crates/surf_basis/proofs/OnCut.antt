@@ -1,13 +1,8 @@
 -- Vertices that are marked on the ways up a tree, and the list of them.
-use Rattle.std.proofs.Common.{◌≡◌, ◌≢◌, ℕ, ◌<◌, ◌≤◌, ◌+◌, ◌⊎◌, not, Bool, true, false, List, length, get_or, set, slice_index, Contains, refl, sym, ap, ◌∙◌, subst, arith, inl, inr}
-use Rattle.std.specs.Prelude.{Option, Some, None}
-use Rattle.std.specs.Prelude.{IsTrue}
+use Rattle.surf_surfaces.proofs.Common.{◌≡◌, ◌≢◌, ℕ, ◌<◌, ◌≤◌, ◌+◌, ◌⊎◌, not, Bool, true, false, List, length, get_or, set, slice_index, Contains, refl, sym, ap, ◌∙◌, subst, arith, inl, inr, Option, Some, None, IsTrue, Tree, Mesh, edge_count, ends}
 use Rattle.std.proofs.lemmas.Bool.{cases_lt, cases_eq, and_parts, and_from, not-true, not_from_false, false≢true}
 use Rattle.std.proofs.lemmas.List.{get_or_default, get_or_past, get_or-set_other}
-use Rattle.surf_graphs.specs.Trees.{Tree}
 use Rattle.surf_surfaces.specs.Cotree.{tree_edges, cotree_edges, is_left, left_edges}
-use Rattle.surf_surfaces.specs.Mesh.{Mesh}
-use Rattle.surf_surfaces.specs.Surface.{edge_count, ends}
 use Rattle.surf_opening.specs.OffTheCut.{HasMarkedEnds}
 use Rattle.surf_tree.specs.Tables.{TreeTables, tree_of, parent_of}
 use Rattle.surf_cotree.specs.Tables.{cotree_of}

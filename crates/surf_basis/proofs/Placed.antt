@@ -1,14 +1,5 @@
 -- The place of the first candidate.
-use Rattle.std.proofs.Common.{◌≡◌, ℕ, ◌<◌, ◌^◌, List, [], ◌∷◌, length, All, Option, Some, None, refl, sym, ap, ◌∙◌, subst, arith}
-use Rattle.surf_graphs.proofs.Counting.{left_edges}
-use Rattle.surf_surfaces.specs.Mesh.{Mesh}
-use Rattle.surf_surfaces.specs.Surface.{edge_count, IsSurface}
-use Rattle.surf_surfaces.specs.Walk.{ArePositive}
-use Rattle.surf_surfaces.specs.Homology.{IsNull}
-use Rattle.surf_surfaces.specs.Cells.{cells_of}
-use Rattle.surf_surfaces.specs.Class.{class_of}
-use Rattle.surf_surfaces.specs.Loop.{loop_walk}
-use Rattle.surf_surfaces.specs.Choice.{Trees, AreChosen, Loop, candidates, loops_at}
+use Rattle.surf_surfaces.proofs.Common.{◌≡◌, ℕ, ◌<◌, ◌^◌, List, [], ◌∷◌, length, All, Option, Some, None, refl, sym, ap, ◌∙◌, subst, arith, left_edges, Mesh, edge_count, IsSurface, ArePositive, IsNull, cells_of, class_of, loop_walk, Trees, AreChosen, Loop, candidates, loops_at}
 use Rattle.surf_surfaces.specs.FewBases.{Place, place_at, AreEnough, HasFound, IsFirstFound, MeetsAll}
 use Rattle.surf_surfaces.proofs.BasisLaws.{basis_is_one}
 use Rattle.surf_surfaces.proofs.ChoiceExists.{choice_exists}

@@ -1,18 +1,6 @@
 -- What is known when all bases were gone through.
-use Rattle.std.proofs.Common.{◌≡◌, ℕ, ◌<◌, List, [], length, get_or, map, All, refl, sym, ap, ◌∙◌, subst, arith}
-use Rattle.std.specs.List.{range_with_len}
-use Rattle.surf_graphs.specs.Cells.{IsSplit}
-use Rattle.surf_graphs.specs.Trees.{Tree}
-use Rattle.surf_surfaces.specs.Mesh.{Mesh}
-use Rattle.surf_surfaces.specs.Surface.{edge_count, ends, IsSurface}
-use Rattle.surf_surfaces.specs.Walk.{ArePositive}
-use Rattle.surf_surfaces.specs.Cells.{cells_of}
-use Rattle.surf_surfaces.specs.Homology.{IsLoopCount}
-use Rattle.surf_surfaces.specs.Loop.{loop_length}
-use Rattle.surf_surfaces.specs.ShortestTree.{IsShortestTree}
-use Rattle.surf_surfaces.specs.Choice.{Loop, IsChosenBasis}
+use Rattle.surf_surfaces.proofs.Common.{◌≡◌, ℕ, ◌<◌, List, [], length, get_or, map, All, refl, sym, ap, ◌∙◌, subst, arith, range_with_len, IsSplit, Tree, Mesh, edge_count, ends, IsSurface, ArePositive, cells_of, IsLoopCount, loop_length, IsShortestTree, Loop, IsChosenBasis, edge_signature}
 use Rattle.surf_surfaces.specs.ChoiceLaws.{LeastSimpleBasis}
-use Rattle.surf_surfaces.specs.Signature.{edge_signature}
 use Rattle.surf_surfaces.proofs.BasisLaws.{basis_is_least}
 use Rattle.surf_surfaces.proofs.ChoiceExists.{choice_exists}
 use Rattle.surf_surfaces.proofs.ShortestTreeLaws.{shortest_trees_are_one}

@@ -1,31 +1,13 @@
 -- Searches that bar vertices which were searched as far.
-use Rattle.std.proofs.Common.{◌≡◌, ℕ, suc, ◌+◌, ◌*◌, ◌<◌, ◌≤◌, Bool, true, false, ◌&&◌, ◌||◌, leb, List, ◌∷◌, ◌++◌, map, filter, All, Contains, bit_xor, sym, ap, ◌∙◌, subst, arith, inl, inr}
-use Rattle.std.specs.List.{AllByRecursion}
-use Rattle.std.proofs.lemmas.Bool.{or_cases, and_parts, leb-true}
-use Rattle.std.proofs.lemmas.Bool.Decides.{nat_tests}
-use Rattle.std.proofs.lemmas.Simd.{map-map}
-use Rattle.std.proofs.lemmas.List.Elements.{All-from_recursion, All-contains}
-use Rattle.surf_z2.specs.Space.{numbers, difference, Spanned}
+use Rattle.surf_surfaces.proofs.Common.{◌≡◌, ℕ, suc, ◌+◌, ◌*◌, ◌<◌, ◌≤◌, Bool, true, false, ◌&&◌, ◌||◌, leb, List, ◌∷◌, ◌++◌, map, filter, All, Contains, bit_xor, sym, ap, ◌∙◌, subst, arith, inl, inr, AllByRecursion, or_cases, and_parts, leb-true, nat_tests, map-map, All-from_recursion, All-contains, numbers, difference, Spanned, xor_comm, InSpan, add_in, in_from_spanned, primal, Split, IsSplit, IsGraphWalk, walk_chain, graph_walk_length, signature_of, Tree, loop, Mesh, edge_count, IsSurface, edge_length, ArePositive, cells_of, class_of, AreShortestTrees, loop_walk, loop_length}
 use Rattle.surf_z2.proofs.Linear.{over_in}
-use Rattle.surf_z2.proofs.ParityLaws.{xor_comm}
 use Rattle.surf_z2.proofs.Ranks.{in_wider}
 use Rattle.surf_z2.proofs.Passing.{some_or_none}
-use Rattle.surf_z2.proofs.Span.{InSpan, add_in, in_from_spanned}
-use Rattle.surf_graphs.specs.Cells.{primal, Split, IsSplit}
-use Rattle.surf_graphs.specs.Graphs.{IsGraphWalk, walk_chain, graph_walk_length}
-use Rattle.surf_graphs.specs.Independence.{signature_of}
-use Rattle.surf_graphs.specs.Trees.{Tree, loop}
 use Rattle.surf_graphs.proofs.Graphs.{walk-append}
 use Rattle.surf_graphs.proofs.Lengths.{loop_bound}
 use Rattle.surf_graphs.proofs.Through.{walk_parts}
 use Rattle.surf_graphs.proofs.Independence.{signature_of-same, signature_of-linear, walk_sums}
 use Rattle.surf_graphs.proofs.Walks.{walk_in, same_off}
-use Rattle.surf_surfaces.specs.Mesh.{Mesh}
-use Rattle.surf_surfaces.specs.Surface.{edge_count, IsSurface}
-use Rattle.surf_surfaces.specs.Walk.{edge_length, ArePositive}
-use Rattle.surf_surfaces.specs.Cells.{cells_of}
-use Rattle.surf_surfaces.specs.Class.{class_of, AreShortestTrees}
-use Rattle.surf_surfaces.specs.Loop.{loop_walk, loop_length}
 use Rattle.surf_surfaces.specs.FewBases.{Place, place_at, least_base, Found, is_within, walks_found, DependsAtPlace}
 use Rattle.surf_surfaces.proofs.CellLaws.{surfaces_are_cells}
 use Rattle.surf_surfaces.proofs.ClassLaws.{some_split}

@@ -1,31 +1,11 @@
 -- What the loops that were found span, where each vertex is searched up to places of its own.
-use Rattle.std.proofs.Common.{◌≡◌, ℕ, zero, suc, ◌<◌, ◌≤◌, Bool, true, leb, ltb, List, [], ◌∷◌, map, filter, All, Contains, bit_xor, sym, ap, ◌∙◌, subst, arith, inl, inr}
-use Rattle.std.specs.List.{AllByRecursion}
-use Rattle.std.proofs.lemmas.Bool.{cases_Bool, leb-true, lt-ltb, ltb-true}
-use Rattle.std.proofs.lemmas.List.Elements.{recursion_from_All, All-contains}
+use Rattle.surf_surfaces.proofs.Common.{◌≡◌, ℕ, zero, suc, ◌<◌, ◌≤◌, Bool, true, leb, ltb, List, [], ◌∷◌, map, filter, All, Contains, bit_xor, sym, ap, ◌∙◌, subst, arith, inl, inr, AllByRecursion, cases_Bool, leb-true, lt-ltb, ltb-true, recursion_from_All, All-contains, numbers, is_nothing, difference, Decides-is_nothing, InSpan, AllInSpan, add_in, trans_in, in_from_spanned, primal, Split, IsSplit, Graph, IsGraphWalk, walk_chain, graph_walk_length, edge_between, signature_of, Tree, loop, edge_between_is, signature_of-same, signature_of-linear, Mesh, edge_count, IsSurface, tail, first, IsClosed, edge_length, parity, walk_length, ArePositive, cells_of, class_of, AreShortestTrees, loop_walk, loop_length, Trees, AreChosen, Loop, candidates, DependsOn}
 use Rattle.surf_z2.specs.Greedy.{spans}
-use Rattle.surf_z2.specs.Space.{numbers, is_nothing, difference}
 use Rattle.surf_z2.proofs.Greedy.{in_from_spans, not_in_from_spans}
 use Rattle.surf_z2.proofs.Least.{up_to_weighed}
-use Rattle.surf_z2.proofs.Numbers.{Decides-is_nothing}
 use Rattle.surf_z2.proofs.Passing.{all_passing}
 use Rattle.surf_z2.proofs.Ranks.{in_wider}
-use Rattle.surf_z2.proofs.Span.{InSpan, AllInSpan, add_in, trans_in, in_from_spanned}
-use Rattle.surf_graphs.specs.Cells.{primal, Split, IsSplit}
-use Rattle.surf_graphs.specs.Graphs.{Graph, IsGraphWalk, walk_chain, graph_walk_length, edge_between}
-use Rattle.surf_graphs.specs.Independence.{signature_of}
-use Rattle.surf_graphs.specs.Trees.{Tree, loop}
-use Rattle.surf_graphs.proofs.Graphs.{edge_between_is}
-use Rattle.surf_graphs.proofs.Independence.{signature_of-same, signature_of-linear}
 use Rattle.surf_graphs.proofs.Through.{two_parts}
-use Rattle.surf_surfaces.specs.Mesh.{Mesh}
-use Rattle.surf_surfaces.specs.Surface.{edge_count, IsSurface}
-use Rattle.surf_surfaces.specs.Cycle.{tail}
-use Rattle.surf_surfaces.specs.Walk.{first, IsClosed, edge_length, parity, walk_length, ArePositive}
-use Rattle.surf_surfaces.specs.Cells.{cells_of}
-use Rattle.surf_surfaces.specs.Class.{class_of, AreShortestTrees}
-use Rattle.surf_surfaces.specs.Loop.{loop_walk, loop_length}
-use Rattle.surf_surfaces.specs.Choice.{Trees, AreChosen, Loop, candidates, DependsOn}
 use Rattle.surf_surfaces.specs.FewBases.{least_base, Place, is_no_later, place_at, Found, place_of_found, place_of_loop, is_within, walks_within, DependsAtPlace}
 use Rattle.surf_surfaces.proofs.CoveredLaws.{walk_covered}
 use Rattle.surf_surfaces.proofs.CandidateLaws.{IsLoopBelow, below_each}

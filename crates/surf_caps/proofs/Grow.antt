@@ -1,27 +1,9 @@
 -- How the loops that are enough are found.
 use Rattle.std.proofs.Common.{◌≡◌, ℕ, ◌<◌, Bool, true, false, ◌&&◌, eqb, List, [], ◌∷◌, ◌++◌, map, filter, get_or, All, Contains, sym, ap, ◌∙◌, subst, arith, inl, inr, eqb-true}
-use Rattle.std.specs.List.{AllByRecursion}
-use Rattle.std.proofs.lemmas.Bool.{cases_eq, cases_Bool, or_cases, and_parts, leb-true, false≢true}
-use Rattle.std.proofs.lemmas.Simd.{map-map}
+use Rattle.surf_surfaces.proofs.Common.{AllByRecursion, cases_eq, cases_Bool, or_cases, and_parts, leb-true, false≢true, map-map, Contains-permutation, All-permutation, greedy, numbers, is_nothing, Independent, Sorted, sorted_from_order, order_from_sorted, Decides-is_nothing, InSpan, zero_in, trans_in, Split, IsSplit, Tree, Mesh, edge_count, IsSurface, IsClosed, ArePositive, IsIndependent, cells_of, class_of, AreShortestTrees, loop_walk, loop_length, DependsOn}
 use Rattle.std.proofs.lemmas.List.Elements.{recursion_from_All, All-from_recursion, All-append, Contains-append_left, Contains-append_right, Contains-get_or}
-use Rattle.std.proofs.lemmas.List.Sorted.{Contains-permutation, All-permutation}
-use Rattle.surf_z2.specs.Greedy.{greedy}
-use Rattle.surf_z2.specs.Space.{numbers, is_nothing, Independent}
 use Rattle.surf_z2.proofs.Greedy.{greedy_law, all_kept}
-use Rattle.surf_z2.proofs.Merge.{Sorted, sorted_from_order, order_from_sorted}
-use Rattle.surf_z2.proofs.Numbers.{Decides-is_nothing}
 use Rattle.surf_z2.proofs.Passing.{member_in, all_passing, all_greedy, sorted_greedy, ArePassingFirst, filter_of_greedy}
-use Rattle.surf_z2.proofs.Span.{InSpan, zero_in, trans_in}
-use Rattle.surf_graphs.specs.Cells.{Split, IsSplit}
-use Rattle.surf_graphs.specs.Trees.{Tree}
-use Rattle.surf_surfaces.specs.Mesh.{Mesh}
-use Rattle.surf_surfaces.specs.Surface.{edge_count, IsSurface}
-use Rattle.surf_surfaces.specs.Walk.{IsClosed, ArePositive}
-use Rattle.surf_surfaces.specs.Homology.{IsIndependent}
-use Rattle.surf_surfaces.specs.Cells.{cells_of}
-use Rattle.surf_surfaces.specs.Class.{class_of, AreShortestTrees}
-use Rattle.surf_surfaces.specs.Loop.{loop_walk, loop_length}
-use Rattle.surf_surfaces.specs.Choice.{DependsOn}
 use Rattle.surf_surfaces.specs.FewBases.{Place, is_no_later, place_at, Found, place_of_found, is_within, walks_found, walks_within, IsFoundAt, IsFoundLoop, DependsAtPlace, comes_no_later, IsFoundChoice, AreFoundAt}
 use Rattle.surf_surfaces.proofs.ClassLaws.{some_split, null_by_class, independent_by_classes}
 use Rattle.surf_surfaces.proofs.FewBasesLaws.{no_later-trans, no_later-same}

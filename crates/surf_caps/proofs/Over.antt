@@ -1,23 +1,7 @@
 -- Closed walks over a vertex where their places are sought.
-use Rattle.std.proofs.Common.{◌≡◌, ℕ, ◌<◌, ◌≤◌, true, List, ◌∷◌, map, filter, Contains, sym, subst, arith}
-use Rattle.std.specs.List.{AllByRecursion}
-use Rattle.std.proofs.lemmas.Simd.{map-map}
-use Rattle.surf_z2.specs.Space.{numbers, Spanned}
-use Rattle.surf_z2.proofs.Passing.{all_filtered}
+use Rattle.surf_surfaces.proofs.Common.{◌≡◌, ℕ, ◌<◌, ◌≤◌, true, List, ◌∷◌, map, filter, Contains, sym, subst, arith, AllByRecursion, map-map, numbers, Spanned, all_filtered, InSpan, in_from_spanned, spanned_from_in, primal, Split, IsSplit, IsGraphWalk, walk_chain, graph_walk_length, signature_of, Tree, Mesh, edge_count, IsSurface, IsClosed, edge_length, ArePositive, cells_of, class_of, AreShortestTrees, loop_walk, loop_length, DependsOn}
 use Rattle.surf_z2.proofs.Ranks.{in_wider}
-use Rattle.surf_z2.proofs.Span.{InSpan, in_from_spanned, spanned_from_in}
-use Rattle.surf_graphs.specs.Cells.{primal, Split, IsSplit}
-use Rattle.surf_graphs.specs.Graphs.{IsGraphWalk, walk_chain, graph_walk_length}
-use Rattle.surf_graphs.specs.Independence.{signature_of}
-use Rattle.surf_graphs.specs.Trees.{Tree}
 use Rattle.surf_graphs.proofs.Through.{over_spanned}
-use Rattle.surf_surfaces.specs.Mesh.{Mesh}
-use Rattle.surf_surfaces.specs.Surface.{edge_count, IsSurface}
-use Rattle.surf_surfaces.specs.Walk.{IsClosed, edge_length, ArePositive}
-use Rattle.surf_surfaces.specs.Cells.{cells_of}
-use Rattle.surf_surfaces.specs.Class.{class_of, AreShortestTrees}
-use Rattle.surf_surfaces.specs.Loop.{loop_walk, loop_length}
-use Rattle.surf_surfaces.specs.Choice.{DependsOn}
 use Rattle.surf_surfaces.specs.FewBases.{least_base, Place, is_no_later, place_at, Found, is_within, walks_within}
 use Rattle.surf_surfaces.proofs.CellLaws.{surfaces_are_cells}
 use Rattle.surf_surfaces.proofs.FewBasesLaws.{no_later_from, no_later-trans, least_base_no_greater, loop_class}

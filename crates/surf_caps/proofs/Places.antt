@@ -1,30 +1,11 @@
 -- Loops that are enough have the places of the basis.
 use Rattle.std.proofs.Common.{◌≡◌, ℕ, suc, ◌<◌, ◌≤◌, Bool, true, false, cond, ◌&&◌, not, eqb, leb, ltb, List, [], ◌∷◌, length, map, filter, take, get_or, All, Contains, refl, sym, ap, ◌∙◌, subst, arith, inl, inr, eqb-true}
-use Rattle.std.specs.List.{AllByRecursion}
-use Rattle.std.proofs.lemmas.Bool.{cases_Bool, and_parts, and_from, false≢true}
-use Rattle.std.proofs.lemmas.Bool.Decides.{nat_tests}
-use Rattle.std.proofs.lemmas.Simd.{map-map}
-use Rattle.std.proofs.lemmas.List.{length-map}
-use Rattle.std.proofs.lemmas.List.Elements.{recursion_from_All, All-from_recursion}
-use Rattle.surf_z2.specs.Greedy.{greedy}
-use Rattle.surf_z2.specs.Space.{numbers, is_nothing, Independent, Spanned}
+use Rattle.surf_surfaces.proofs.Common.{AllByRecursion, cases_Bool, and_parts, and_from, false≢true, nat_tests, map-map, length-map, recursion_from_All, All-from_recursion, greedy, numbers, is_nothing, Independent, Spanned, Sorted, sorted_from_order, Decides-is_nothing, Split, IsSplit, Tree, Mesh, IsSurface, IsClosed, walk_length, ArePositive, IsIndependent, IsLoopCount, cells_of, class_of, AreShortestTrees, loop_walk, Trees, AreChosen, Loop, comes_before, walks, candidates, IsChosenBasis}
 use Rattle.surf_z2.proofs.Greedy.{greedy_law, basis_law, all_kept}
 use Rattle.surf_z2.proofs.Least.{up_to_weighed}
-use Rattle.surf_z2.proofs.Merge.{Sorted, sorted_from_order}
-use Rattle.surf_z2.proofs.Numbers.{Decides-is_nothing}
 use Rattle.surf_z2.proofs.Passing.{some_or_none, filter_all, ArePassingFirst, all_passing, all_greedy, sorted_greedy, filter_of_greedy, passing_before, sorted_filtered}
 use Rattle.surf_z2.proofs.Ranks.{in_wider, in_whole, free_filter}
 use Rattle.surf_z2.proofs.Span.{InSpan, AllInSpan, Free, count, trans_in, in_from_spanned, spanned_from_in, free_from_independent}
-use Rattle.surf_graphs.specs.Cells.{Split, IsSplit}
-use Rattle.surf_graphs.specs.Trees.{Tree}
-use Rattle.surf_surfaces.specs.Mesh.{Mesh}
-use Rattle.surf_surfaces.specs.Surface.{IsSurface}
-use Rattle.surf_surfaces.specs.Walk.{IsClosed, walk_length, ArePositive}
-use Rattle.surf_surfaces.specs.Homology.{IsIndependent, IsLoopCount}
-use Rattle.surf_surfaces.specs.Cells.{cells_of}
-use Rattle.surf_surfaces.specs.Class.{class_of, AreShortestTrees}
-use Rattle.surf_surfaces.specs.Loop.{loop_walk}
-use Rattle.surf_surfaces.specs.Choice.{Trees, AreChosen, Loop, comes_before, walks, candidates, IsChosenBasis}
 use Rattle.surf_surfaces.specs.FewBases.{Place, is_no_later, Found, place_of_found, place_of_loop, is_within, IsWithin, walks_found, HasFound, comes_no_later, comes_sooner, every_place}
 use Rattle.surf_surfaces.proofs.CoveredLaws.{runs, walk_covered}
 use Rattle.surf_surfaces.proofs.BasisLaws.{basis_is, basis_of, basis_is_one}

@@ -1,10 +1,8 @@
 -- Quotients of spaces of vectors, and the choice by images.
 use Rattle.std.proofs.Common.{◌≡◌, ℕ, Bool, true, false, cond, List, [], ◌∷◌, ◌++◌, map, Decides, ◌⊎◌, inl, inr, refl, sym, ap, ◌∙◌, subst}
-use Rattle.std.specs.List.{AllByRecursion}
-use Rattle.std.proofs.lemmas.Bool.{cases_Bool}
+use Rattle.surf_surfaces.proofs.Common.{AllByRecursion, cases_Bool, xor}
 use Rattle.std.proofs.lemmas.List.{append_assoc}
 use Rattle.surf_z2.specs.Greedy.{spans, greedy_after, greedy}
-use Rattle.surf_z2.specs.Parity.{xor}
 use Rattle.surf_z2.specs.Sieve.{reduce}
 use Rattle.surf_z2.specs.Space.{Space, IsLinear}
 use Rattle.surf_z2.proofs.Basics.{in_left, in_right, in_last_first, in_first_last}

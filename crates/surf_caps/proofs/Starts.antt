@@ -1,21 +1,8 @@
 -- Places that are sought from the start, and the sizes of loops that were found.
-use Rattle.std.proofs.Common.{◌≡◌, ℕ, zero, suc, ◌<◌, ◌≤◌, Bool, true, ◌&&◌, not, eqb, List, [], ◌∷◌, length, map, get_or, All, sym, ap, ◌∙◌, subst, arith, inl, inr}
+use Rattle.surf_surfaces.proofs.Common.{◌≡◌, ℕ, zero, suc, ◌<◌, ◌≤◌, Bool, true, ◌&&◌, not, eqb, List, [], ◌∷◌, length, map, get_or, All, sym, ap, ◌∙◌, subst, arith, inl, inr, cases_Bool, cases_lt, or_cases, or_left, or_right, and_parts, and_from, false≢true, nat_tests, length-map, get_or-map, recursion_from_All, All-from_recursion, IsInOrder, primal, Mesh, IsSurface, first, IsClosed, edge_length, walk_length, ArePositive, cells_of, loop_walk, Place, is_no_later, Found, walks_found, comes_no_later, comes_sooner, tail}
 use Rattle.std.specs.List.Sorted.{IsNonDecreasing}
-use Rattle.std.proofs.lemmas.Bool.{cases_Bool, cases_lt, or_cases, or_left, or_right, and_parts, and_from, false≢true}
-use Rattle.std.proofs.lemmas.Bool.Decides.{nat_tests}
-use Rattle.std.proofs.lemmas.List.{length-map, get_or-map}
-use Rattle.std.proofs.lemmas.List.Elements.{recursion_from_All, All-from_recursion}
-use Rattle.surf_z2.specs.Order.{IsInOrder}
-use Rattle.surf_graphs.specs.Cells.{primal}
-use Rattle.surf_surfaces.specs.Mesh.{Mesh}
-use Rattle.surf_surfaces.specs.Surface.{IsSurface}
-use Rattle.surf_surfaces.specs.Walk.{first, IsClosed, edge_length, walk_length, ArePositive}
-use Rattle.surf_surfaces.specs.Cells.{cells_of}
-use Rattle.surf_surfaces.specs.Loop.{loop_walk}
-use Rattle.surf_surfaces.specs.FewBases.{Place, is_no_later, Found, walks_found, comes_no_later, comes_sooner}
 use Rattle.surf_surfaces.proofs.ClassLaws.{runs_loop}
 use Rattle.surf_surfaces.proofs.FewBasesLaws.{no_later-trans}
-use Rattle.surf_surfaces.specs.Cycle.{tail}
 use Rattle.surf_surfaces.proofs.GraphWalkLaws.{graph_walk}
 use Rattle.surf_surfaces.proofs.LeastLaws.{all_mapped}
 use Rattle.surf_firsts.specs.Near.{IsSoughtFromStart}

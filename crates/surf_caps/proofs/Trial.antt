@@ -1,17 +1,5 @@
 -- How the laws meet: two stages, as a program would have them, and the law of few bases again.
-use Rattle.std.proofs.Common.{◌≡◌, ℕ, ◌≤◌, Bool, true, ◌&&◌, List, length, map, All, Option, refl, arith, inl, inr}
-use Rattle.std.proofs.lemmas.Bool.{or_cases, or_left, or_right, and_from}
-use Rattle.std.proofs.lemmas.Bool.Decides.{nat_tests}
-use Rattle.surf_z2.specs.Order.{IsInOrder}
-use Rattle.surf_graphs.specs.Cells.{Split, IsSplit}
-use Rattle.surf_graphs.specs.Trees.{Tree}
-use Rattle.surf_surfaces.specs.Mesh.{Mesh}
-use Rattle.surf_surfaces.specs.Surface.{IsSurface}
-use Rattle.surf_surfaces.specs.Walk.{ArePositive}
-use Rattle.surf_surfaces.specs.Homology.{IsIndependent, IsLoopCount}
-use Rattle.surf_surfaces.specs.Cells.{cells_of}
-use Rattle.surf_surfaces.specs.Class.{AreShortestTrees}
-use Rattle.surf_surfaces.specs.Choice.{Trees, AreChosen, Loop, IsChosenBasis}
+use Rattle.surf_surfaces.proofs.Common.{◌≡◌, ℕ, ◌≤◌, Bool, true, ◌&&◌, List, length, map, All, Option, refl, arith, inl, inr, or_cases, or_left, or_right, and_from, nat_tests, IsInOrder, Split, IsSplit, Tree, Mesh, IsSurface, ArePositive, IsIndependent, IsLoopCount, cells_of, AreShortestTrees, Trees, AreChosen, Loop, IsChosenBasis}
 use Rattle.surf_surfaces.specs.FewBases.{Place, Found, IsWithin, walks_found, comes_no_later, comes_sooner, every_place, MeetsAll, AreEnough, HasFound}
 use Rattle.surf_firsts.specs.Near.{IsSoughtFromStart}
 use Rattle.surf_caps.specs.Heights.{AreHeights}

@@ -1,7 +1,5 @@
 -- Rows that take part.
-use Rattle.std.proofs.Common.{◌≡◌, ◌≤◌, ℕ, zero, suc, Bool, true, false, cond, List, [], ◌∷◌, ◌++◌, length, take, refl, sym, ap, ◌∙◌, subst, arith, inl, inr}
-use Rattle.std.proofs.lemmas.Bool.{cases_lt, false≢true}
-use Rattle.std.proofs.lemmas.List.{length-append}
+use Rattle.surf_surfaces.proofs.Common.{◌≡◌, ◌≤◌, ℕ, zero, suc, Bool, true, false, cond, List, [], ◌∷◌, ◌++◌, length, take, refl, sym, ap, ◌∙◌, subst, arith, inl, inr, cases_lt, false≢true, length-append}
 use Rattle.surf_z2.specs.Parity.{xor, xor-same}
 use Rattle.surf_z2.specs.Sieve.{reduce, IsSieve}
 use Rattle.surf_z2.specs.Space.{Space}

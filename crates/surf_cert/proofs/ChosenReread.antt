@@ -1,9 +1,5 @@
 -- What is written of the certificates of the choice is read again as these, and they are valid.
-use Rattle.std.proofs.Common.{ℕ, List}
-use Rattle.surf_surfaces.specs.Mesh.{Mesh}
-use Rattle.surf_surfaces.specs.Surface.{IsSurface}
-use Rattle.surf_surfaces.specs.Walk.{ArePositive}
-use Rattle.surf_surfaces.specs.Choice.{Trees, Loop, AreChosenAt, AreChosen, IsChosenBasis}
+use Rattle.surf_surfaces.proofs.Common.{ℕ, List, Mesh, IsSurface, ArePositive, Trees, Loop, AreChosenAt, AreChosen, IsChosenBasis}
 use Rattle.surf_validity.specs.Valid.{IsValidLoops}
 use Rattle.surf_validity.specs.Bases.{IsValidBasis}
 use Rattle.surf_validity.specs.Chosen.{chosen_cert, basis_cert_of}

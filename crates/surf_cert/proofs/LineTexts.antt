@@ -1,9 +1,7 @@
 -- Each line that is written is read as what it was written of.
 use Rattle.std.proofs.Common.{◌≡◌, ◌<◌, ◌+◌, ◌^◌, ℕ, suc, true, false, List, [], ◌∷◌, ◌++◌, Option, Some, None, Ok, refl, sym, ◌∙◌, ap, append_assoc, append-nil, codes, inl, inr, arith}
-use Rattle.std.specs.Prelude.{decimal, map, nat_le, nat_lt, ◌==◌}
-use Rattle.std.specs.Str.{bytes_eq}
+use Rattle.surf_surfaces.proofs.Common.{decimal, map, nat_le, nat_lt, ◌==◌, bytes_eq, cases_Bool, le-leb, lt-ltb, eq-eqb}
 use Rattle.std.specs.List.{All}
-use Rattle.std.proofs.lemmas.Bool.{cases_Bool, le-leb, lt-ltb, eq-eqb}
 use Rattle.std.proofs.lemmas.Fmt.{decimal_digit}
 use Rattle.std.proofs.lemmas.Slice.Eq.{bytes_eq-Decides}
 use Rattle.surf_text.specs.Text.{whole}

@@ -1,6 +1,5 @@
 -- Lines of words with a space between any two, and their tokens.
-use Rattle.std.proofs.Common.{◌≡◌, ◌+◌, ℕ, true, false, List, [], ◌∷◌, ◌++◌, Option, Some, Ok, refl, ◌∙◌, ap, subst}
-use Rattle.std.specs.List.{list_any}
+use Rattle.surf_surfaces.proofs.Common.{◌≡◌, ◌+◌, ℕ, true, false, List, [], ◌∷◌, ◌++◌, Option, Some, Ok, refl, ◌∙◌, ap, subst, list_any}
 use Rattle.surf_text.specs.Text.{TextLine, is_line_end, is_comment_sign, uncommented, words_of, tokens_of, trimmed, onto_lines, lines_of}
 use Rattle.surf_text.proofs.Words.{words_trimmed}
 use Rattle.surf_off.proofs.CleanLines.{AllClean, clean_lines}

@@ -1,9 +1,6 @@
 -- Conditions that hold below a bound, and the first fault over all bases.
 use Rattle.std.proofs.Common.{◌≡◌, ℕ, ◌<◌, ◌+◌, List, Bool, true, false, eqb, eq-eqb, sym, ◌∙◌, subst, arith, inl, inr}
-use Rattle.std.specs.Bool.{MatchBool}
-use Rattle.std.proofs.lemmas.Bool.{cases_eq, eqb-true, false≢true}
-use Rattle.surf_surfaces.specs.Mesh.{Mesh}
-use Rattle.surf_surfaces.specs.Surface.{edge_count}
+use Rattle.surf_surfaces.proofs.Common.{MatchBool, cases_eq, eqb-true, false≢true, Mesh, edge_count}
 use Rattle.surf_validity.specs.Rows.{BasisCert}
 use Rattle.surf_validity.specs.Bases.{IsCovered}
 use Rattle.surf_treecheck.specs.First.{HoldsBelow, FailsFirst}

@@ -1,13 +1,8 @@
 -- A certificate of a basis with a fault isn't valid, and a valid one shows a least basis.
-use Rattle.std.proofs.Common.{◌≡◌, ◌≢◌, ℕ, List, [], length, get_or, refl, sym, ap, ◌∙◌, subst, inl, inr}
+use Rattle.surf_surfaces.proofs.Common.{◌≡◌, ◌≢◌, ℕ, List, [], length, get_or, refl, sym, ap, ◌∙◌, subst, inl, inr, true≢false, get_or_default, Mesh, pair_of, pair_eq, edges, among, IsSurface, ArePositive}
 use Rattle.std.specs.Result.{IfOk, IfErr}
 use Rattle.std.specs.declared.result.Result.{Result}
 use Rattle.std.specs.declared.result.Result.TheVariants.{Ok, Err}
-use Rattle.std.proofs.lemmas.Bool.{true≢false}
-use Rattle.std.proofs.lemmas.List.{get_or_default}
-use Rattle.surf_surfaces.specs.Mesh.{Mesh, pair_of, pair_eq, edges, among}
-use Rattle.surf_surfaces.specs.Surface.{IsSurface}
-use Rattle.surf_surfaces.specs.Walk.{ArePositive}
 use Rattle.surf_surfaces.specs.Homology.{total, IsLeastBasis}
 use Rattle.surf_surfaces.proofs.PairLaws.{pair_eq-true}
 use Rattle.surf_surfaces.proofs.EdgeLaws.{among-contains, list_any_at}

@@ -1,14 +1,6 @@
 -- The coordinates of ways up a tree, and of loops through it.
-use Rattle.std.proofs.Common.{◌≡◌, ◌≢◌, ℕ, ◌<◌, Some, None, List, length, get_or, IsPermutation, Contains, bit_xor, slice_index, sym, ap, ◌∙◌, subst, arith}
-use Rattle.std.specs.List.{range_with_len}
-use Rattle.std.proofs.lemmas.List.FromFn.{length-range_with_len, get_or-range_with_len}
-use Rattle.std.proofs.lemmas.List.Sorted.{All-permutation, Contains-permutation}
+use Rattle.surf_surfaces.proofs.Common.{◌≡◌, ◌≢◌, ℕ, ◌<◌, Some, None, List, length, get_or, IsPermutation, Contains, bit_xor, slice_index, sym, ap, ◌∙◌, subst, arith, range_with_len, length-range_with_len, get_or-range_with_len, All-permutation, Contains-permutation, Split, loop_walk, Mesh, edge_signature, walk_signature, edge_count, ends, IsSurface}
 use Rattle.std.specs.Int.Bits.{xor_assoc, xor_comm, xor_zero_l}
-use Rattle.surf_graphs.specs.Cells.{Split}
-use Rattle.surf_surfaces.specs.Loop.{loop_walk}
-use Rattle.surf_surfaces.specs.Mesh.{Mesh}
-use Rattle.surf_surfaces.specs.Signature.{edge_signature, walk_signature}
-use Rattle.surf_surfaces.specs.Surface.{edge_count, ends, IsSurface}
 use Rattle.surf_surfaces.proofs.ClassLaws.{runs_loop}
 use Rattle.surf_surfaces.proofs.SignatureLaws.{signatures_are_classes}
 use Rattle.surf_signatures.specs.Ways.{way_class}

@@ -1,11 +1,9 @@
 -- The greatest number of a set that is written in words.
-use Rattle.std.proofs.Common.{◌≡◌, ℕ, suc, ◌+◌, ◌*◌, ◌/◌, ◌%◌, ◌^◌, ◌<◌, ◌≤◌, List, get_or, eqb, ap, ◌∙◌, subst, arith, inl, inr}
+use Rattle.surf_surfaces.proofs.Common.{◌≡◌, ℕ, suc, ◌+◌, ◌*◌, ◌/◌, ◌%◌, ◌^◌, ◌<◌, ◌≤◌, List, get_or, eqb, ap, ◌∙◌, subst, arith, inl, inr, cases_eq, number}
 use Rattle.std.specs.Int.{bit_at}
-use Rattle.std.proofs.lemmas.Bool.{cases_eq}
 use Rattle.std.proofs.lemmas.Nat.{pow_pos, le-div, div_below}
 use Rattle.std.proofs.lemmas.Nat.Bits.{bit_at_above, bit_at-zero}
 use Rattle.std.proofs.Math.Pow.{pow-add}
-use Rattle.surf_z2.specs.Words.{number}
 use Rattle.surf_z2.proofs.Words.{bit_number}
 use Rattle.surf_certcheck.specs.Columns.{IsGreatestIn}
 

@@ -1,15 +1,7 @@
 -- The least short number of a set that grows, and that of the edges between two nodes of a tree.
-use Rattle.std.proofs.Common.{◌≡◌, ◌≢◌, ℕ, ◌<◌, ◌≤◌, Bool, true, false, not, ◌&&◌, List, eqb, ltb, refl, sym, ap, ◌∙◌, subst, arith, inl, inr, ◌⊎◌, Option, Some, None}
-use Rattle.std.proofs.lemmas.Bool.{cases_Bool, cases_eq, cases_lt, false≢true, ltb-true, ne_eqb, eq-eqb}
-use Rattle.std.proofs.lemmas.Bool.Decides.{nat_tests}
-use Rattle.surf_z2.specs.Parity.{xor}
-use Rattle.surf_graphs.specs.Graphs.{Graph}
-use Rattle.surf_graphs.specs.Growth.{between}
-use Rattle.surf_graphs.specs.Trees.{Tree, IsTree, on_path}
+use Rattle.surf_surfaces.proofs.Common.{◌≡◌, ◌≢◌, ℕ, ◌<◌, ◌≤◌, Bool, true, false, not, ◌&&◌, List, eqb, ltb, refl, sym, ap, ◌∙◌, subst, arith, inl, inr, ◌⊎◌, Option, Some, None, cases_Bool, cases_eq, cases_lt, false≢true, ltb-true, ne_eqb, eq-eqb, nat_tests, xor, Graph, between, Tree, IsTree, on_path, Mesh, edge_count, faces_of}
 use Rattle.surf_graphs.proofs.Trees.{path_root, path_step, up_once, down_tree}
 use Rattle.surf_signatures.proofs.Meeting.{climbed, either_first, none_between}
-use Rattle.surf_surfaces.specs.Mesh.{Mesh}
-use Rattle.surf_surfaces.specs.Surface.{edge_count, faces_of}
 use Rattle.surf_validity.specs.Rows.{LoopCert}
 use Rattle.surf_validity.specs.Valid.{dual_tree, loop_size, IsNotHeavier}
 use Rattle.surf_treecheck.specs.First.{FindsFirst}

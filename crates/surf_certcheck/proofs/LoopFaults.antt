@@ -1,8 +1,5 @@
 -- The fault of a certificate of loops is its first one, and one with a fault isn't valid.
-use Rattle.std.proofs.Common.{◌≢◌, ℕ, zero, suc, List, get_or, refl, sym, ap, inl, inr, ◌∙◌}
-use Rattle.std.proofs.lemmas.Bool.{true≢false}
-use Rattle.surf_surfaces.specs.Mesh.{Mesh, pair_of, pair_eq, edges, among}
-use Rattle.surf_surfaces.specs.Surface.{edge_count}
+use Rattle.surf_surfaces.proofs.Common.{◌≢◌, ℕ, zero, suc, List, get_or, refl, sym, ap, inl, inr, ◌∙◌, true≢false, Mesh, pair_of, pair_eq, edges, among, edge_count}
 use Rattle.surf_surfaces.proofs.PairLaws.{pair_eq-true}
 use Rattle.surf_surfaces.proofs.EdgeLaws.{among-contains, list_any_at}
 use Rattle.surf_validity.specs.Rows.{TreeRows, DualRows, LoopCert}

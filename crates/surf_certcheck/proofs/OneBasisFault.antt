@@ -1,7 +1,5 @@
 -- The fault of a certificate of a basis is its first one, so there is one, and a valid certificate has none.
-use Rattle.std.proofs.Common.{◌≡◌, ◌≢◌, ℕ, zero, suc, List, [], length, refl, sym, ap, subst, ◌∙◌}
-use Rattle.surf_surfaces.specs.Mesh.{Mesh}
-use Rattle.surf_surfaces.specs.Surface.{face_count, edge_count, ends}
+use Rattle.surf_surfaces.proofs.Common.{◌≡◌, ◌≢◌, ℕ, zero, suc, List, [], length, refl, sym, ap, subst, ◌∙◌, Mesh, face_count, edge_count, ends}
 use Rattle.surf_validity.specs.Rows.{BasisCert}
 use Rattle.surf_validity.specs.Valid.{IsDualValid, IsDivided}
 use Rattle.surf_validity.specs.Bases.{tree_at, HasBasisShape, IsCovered, IsValidBasis}

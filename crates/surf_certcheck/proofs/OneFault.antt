@@ -1,9 +1,5 @@
 -- A certificate has one fault.
-use Rattle.std.proofs.Common.{◌≡◌, ◌≢◌, ℕ, ◌<◌, List, length, sym, ap, subst, inl, inr, ◌∙◌}
-use Rattle.std.proofs.lemmas.Bool.{true≢false, cases_Bool}
-use Rattle.surf_surfaces.specs.Mesh.{Mesh, pair_eq}
-use Rattle.surf_surfaces.specs.Surface.{edge_count, ends}
-use Rattle.surf_surfaces.specs.Homology.{IsLoopCount}
+use Rattle.surf_surfaces.proofs.Common.{◌≡◌, ◌≢◌, ℕ, ◌<◌, List, length, sym, ap, subst, inl, inr, ◌∙◌, true≢false, cases_Bool, Mesh, pair_eq, edge_count, ends, IsLoopCount}
 use Rattle.surf_surfaces.proofs.PairLaws.{pair_eq-true, pair_lt-total}
 use Rattle.surf_validity.specs.Rows.{TreeRows, DualRows, LoopCert}
 use Rattle.surf_validity.specs.Valid.{IsNoShortCut, HasNoShorter, IsNotHeavier}

@@ -1,11 +1,8 @@
 -- A certificate that is found valid is least place by place.
-use Rattle.std.proofs.Common.{◌≡◌, ℕ, List}
+use Rattle.surf_surfaces.proofs.Common.{◌≡◌, ℕ, List, Mesh, IsSurface, ArePositive}
 use Rattle.std.specs.Result.{IfOk}
 use Rattle.std.specs.declared.result.Result.{Result}
 use Rattle.std.specs.declared.result.Result.TheVariants.{Ok, Err}
-use Rattle.surf_surfaces.specs.Mesh.{Mesh}
-use Rattle.surf_surfaces.specs.Surface.{IsSurface}
-use Rattle.surf_surfaces.specs.Walk.{ArePositive}
 use Rattle.surf_surfaces.specs.Places.{IsLeastLoopSystemInOrder, IsLeastBasisInOrder, MeasureShortest}
 use Rattle.surf_validity.specs.Rows.{LoopCert, BasisCert}
 use Rattle.surf_validity.specs.Valid.{IsValidLoops, certified_loops, loops_total}

@@ -1,11 +1,8 @@
 -- What a valid certificate of loops shows, and what a fault rules out, of an answer.
-use Rattle.std.proofs.Common.{◌≡◌, ◌≢◌, ℕ, List, sym, ◌∙◌}
+use Rattle.surf_surfaces.proofs.Common.{◌≡◌, ◌≢◌, ℕ, List, sym, ◌∙◌, Mesh, IsSurface, ArePositive}
 use Rattle.std.specs.Result.{IfOk, IfErr}
 use Rattle.std.specs.declared.result.Result.{Result}
 use Rattle.std.specs.declared.result.Result.TheVariants.{Ok, Err}
-use Rattle.surf_surfaces.specs.Mesh.{Mesh}
-use Rattle.surf_surfaces.specs.Surface.{IsSurface}
-use Rattle.surf_surfaces.specs.Walk.{ArePositive}
 use Rattle.surf_surfaces.specs.Homology.{total, IsLeastLoopSystem}
 use Rattle.surf_validity.specs.Rows.{LoopCert}
 use Rattle.surf_validity.specs.Valid.{IsValidLoops, certified_loops, loops_total}

@@ -1,16 +1,9 @@
 -- Coordinates after a set was added where the sets of edges have a place.
-use Rattle.std.proofs.Common.{◌≡◌, ◌≢◌, ℕ, ◌<◌, ◌^◌, Bool, true, false, List, length, map, slice_index, bit_xor, refl, sym, ap, ◌∙◌, arith, inl, inr}
+use Rattle.surf_surfaces.proofs.Common.{◌≡◌, ◌≢◌, ℕ, ◌<◌, ◌^◌, Bool, true, false, List, length, map, slice_index, bit_xor, refl, sym, ap, ◌∙◌, arith, inl, inr, cases_Bool, get_or-map, xor_lt, has, Split, Mesh, edge_count}
 use Rattle.std.specs.Int.Bits.{xor_zero_r, xor_self}
-use Rattle.std.proofs.lemmas.Bool.{cases_Bool}
-use Rattle.std.proofs.lemmas.List.{get_or-map}
-use Rattle.std.proofs.lemmas.Nat.{xor_lt}
-use Rattle.surf_z2.specs.Sieve.{has}
 use Rattle.surf_z2.specs.Space.{numbers, IsLinear}
 use Rattle.surf_z2.proofs.Numbers.{has-xor}
 use Rattle.surf_z2.proofs.Span.{four}
-use Rattle.surf_graphs.specs.Cells.{Split}
-use Rattle.surf_surfaces.specs.Mesh.{Mesh}
-use Rattle.surf_surfaces.specs.Surface.{edge_count}
 use Rattle.surf_signatures.specs.Tables.{added_where}
 use Rattle.surf_certcheck.specs.Frames.{AreTaken}
 use Rattle.surf_certcheck.proofs.Placing.{has_other, has_none}

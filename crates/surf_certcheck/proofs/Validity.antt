@@ -1,16 +1,5 @@
 -- What the conditions on the trees of a certificate show.
-use Rattle.std.proofs.Common.{◌≡◌, ℕ, ◌<◌, ◌+◌, Bool, true, false, not, ◌&&◌, List, length, get_or, slice_index, filter, map, refl, sym, ap, ◌∙◌, subst, arith}
-use Rattle.std.specs.List.{range_with_len}
-use Rattle.std.proofs.lemmas.List.FromFn.{get_or-map-range_with_len, length-map-range_with_len}
-use Rattle.surf_graphs.specs.Cells.{dual, Split}
-use Rattle.surf_graphs.specs.Trees.{IsTree}
-use Rattle.surf_graphs.proofs.Counting.{left_edges as left_count}
-use Rattle.surf_surfaces.specs.Cells.{cells_of}
-use Rattle.surf_surfaces.specs.Cotree.{is_left, tree_edges, cotree_edges}
-use Rattle.surf_surfaces.specs.Mesh.{Mesh}
-use Rattle.surf_surfaces.specs.Signature.{edge_signature}
-use Rattle.surf_surfaces.specs.Surface.{edge_count, face_count, IsSurface}
-use Rattle.surf_surfaces.specs.Walk.{ArePositive}
+use Rattle.surf_surfaces.proofs.Common.{◌≡◌, ℕ, ◌<◌, ◌+◌, Bool, true, false, not, ◌&&◌, List, length, get_or, slice_index, filter, map, refl, sym, ap, ◌∙◌, subst, arith, range_with_len, get_or-map-range_with_len, length-map-range_with_len, dual, Split, IsTree, left_edges as left_count, cells_of, is_left, tree_edges, cotree_edges, Mesh, edge_signature, edge_count, face_count, IsSurface, ArePositive}
 use Rattle.surf_surfaces.proofs.ClassLaws.{some_vertex}
 use Rattle.surf_signatures.proofs.Passing.{passing_same}
 use Rattle.surf_signatures.specs.Tables.{face_tree, HangsBy}

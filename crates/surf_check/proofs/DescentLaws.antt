@@ -1,10 +1,5 @@
 -- Where each vertex but vertex 0 has a lesser neighbour and one fan, all faces are joined.
-use Rattle.std.proofs.Common.{◌≡◌, ◌<◌, ◌≤◌, ◌==◌, ◌∙◌, ℕ, zero, suc, true, get_or, length, [], refl, sym, subst, arith}
-use Rattle.std.proofs.lemmas.Bool.{eqb-true}
-use Rattle.std.proofs.lemmas.List.{get_or_default}
-use Rattle.surf_surfaces.specs.Joined.{Joined, here, over}
-use Rattle.surf_surfaces.specs.Mesh.{Mesh, IsMesh, edges, pair, pair_eq, among}
-use Rattle.surf_surfaces.specs.Surface.{face_count, face_at, edge_count, ends, has_side, HasCorner, HasOneFan, Share, ShareAt, IsConnected}
+use Rattle.surf_surfaces.proofs.Common.{◌≡◌, ◌<◌, ◌≤◌, ◌==◌, ◌∙◌, ℕ, zero, suc, true, get_or, length, [], refl, sym, subst, arith, eqb-true, get_or_default, Joined, here, over, Mesh, IsMesh, edges, pair, pair_eq, among, face_count, face_at, edge_count, ends, has_side, HasCorner, HasOneFan, Share, ShareAt, IsConnected}
 use Rattle.surf_surfaces.proofs.PairLaws.{pair_eq-same}
 use Rattle.surf_surfaces.proofs.JoinedLaws.{joined_trans, joined_sym, joined_lift}
 use Rattle.surf_surfaces.proofs.EdgeLaws.{list_any_at, list_any_from, among-edges}

@@ -1,19 +1,8 @@
 -- A tree of the faces that grows.
-use Rattle.std.proofs.Common.{◌≡◌, ◌≢◌, ℕ, ◌<◌, Bool, true, false, List, [], ◌∷◌, ◌++◌, length, get_or, set}
-use Rattle.std.proofs.Common.{replicate, refl, sym, ap, subst, ◌∙◌, arith, inl, inr}
-use Rattle.std.proofs.lemmas.Bool.{true≢false, cases_eq}
+use Rattle.surf_surfaces.proofs.Common.{◌≡◌, ◌≢◌, ℕ, ◌<◌, Bool, true, false, List, [], ◌∷◌, ◌++◌, length, get_or, set, replicate, refl, sym, ap, subst, ◌∙◌, arith, inl, inr, true≢false, cases_eq, length_push, get_or_push, get_or_append_left, xor, joins, IsTree, dual, Mesh, face_count, edge_count, IsSurface, cells_of, IsFaceOf}
 use Rattle.std.proofs.lemmas.List.{length-replicate, get_or-replicate, length-set, get_or-set_same, get_or-set_other}
-use Rattle.std.proofs.lemmas.List.{length_push, get_or_push, get_or_append_left}
-use Rattle.surf_z2.specs.Parity.{xor}
-use Rattle.surf_graphs.specs.Graphs.{joins}
-use Rattle.surf_graphs.specs.Trees.{IsTree}
-use Rattle.surf_graphs.specs.Cells.{dual}
-use Rattle.surf_surfaces.specs.Mesh.{Mesh}
-use Rattle.surf_surfaces.specs.Surface.{face_count, edge_count, IsSurface}
-use Rattle.surf_surfaces.specs.Cells.{cells_of}
 use Rattle.surf_surfaces.proofs.JoinedLaws.{joined_closed}
 use Rattle.surf_orientation.specs.Chains.{same_way, FollowTree}
-use Rattle.surf_surfaces.specs.SideNumber.{IsFaceOf}
 use Rattle.surf_soup.specs.Reach.{marked}
 use Rattle.surf_soup.proofs.ReachSteps.{marked-inside, unmarked-fresh, none_marked}
 use Rattle.surf_soup.proofs.RoundSteps.{marks_one}

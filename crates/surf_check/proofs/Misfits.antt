@@ -1,13 +1,7 @@
 -- Flags that don't fit an edge, and the chain that the edge closes.
-use Rattle.std.proofs.Common.{◌≡◌, ℕ, zero, suc, ◌<◌, ◌==◌, ◌++◌, Bool, false, eqb, List, [], ◌∷◌, get_or, refl, sym}
-use Rattle.std.proofs.Common.{ap, ◌∙◌, inl, inr}
-use Rattle.std.proofs.lemmas.Bool.{cases_Bool}
+use Rattle.surf_surfaces.proofs.Common.{◌≡◌, ℕ, zero, suc, ◌<◌, ◌==◌, ◌++◌, Bool, false, eqb, List, [], ◌∷◌, get_or, refl, sym, ap, ◌∙◌, inl, inr, cases_Bool, xor_equal, Tree, Mesh, edge_count, ends, faces_of, IsSurface, IsOrientation}
 use Rattle.std.proofs.lemmas.List.{append_assoc}
 use Rattle.surf_z2.specs.Parity.{xor, xor_comm}
-use Rattle.surf_z2.proofs.ParityLaws.{xor_equal}
-use Rattle.surf_graphs.specs.Trees.{Tree}
-use Rattle.surf_surfaces.specs.Mesh.{Mesh}
-use Rattle.surf_surfaces.specs.Surface.{edge_count, ends, faces_of, IsSurface, IsOrientation}
 use Rattle.surf_surfaces.specs.Turning.{Link}
 use Rattle.surf_orientation.specs.Chains.{same_way, Fits, misfit, links_down}
 use Rattle.surf_orientation.proofs.OneSidedLaws.{orientations_fit}

@@ -1,11 +1,5 @@
 -- Where no side begins with its mate, all faces run the same way.
-use Rattle.std.proofs.Common.{◌≡◌, ◌∙◌, ◌<◌, ℕ, false, eqb, List, get_or, refl, sym, ap}
-use Rattle.std.proofs.lemmas.Bool.{eq-eqb, ne_eqb, true≢false}
-use Rattle.surf_z2.specs.Parity.{xor}
-use Rattle.surf_surfaces.specs.Mesh.{Mesh, edges}
-use Rattle.surf_surfaces.specs.Surface.{IsSurface}
-use Rattle.surf_surfaces.specs.SideNumber.{side_count, pair_at, owners, IsEdgeOf}
-use Rattle.surf_surfaces.specs.Walk.{place_of}
+use Rattle.surf_surfaces.proofs.Common.{◌≡◌, ◌∙◌, ◌<◌, ℕ, false, eqb, List, get_or, refl, sym, ap, eq-eqb, ne_eqb, true≢false, xor, Mesh, edges, IsSurface, side_count, pair_at, owners, IsEdgeOf, place_of}
 use Rattle.surf_surfaces.proofs.EdgeLaws.{place_of-among}
 use Rattle.surf_orientation.specs.Chains.{misfit}
 use Rattle.surf_orientation.proofs.OneSidedLaws.{orientations_fit}

@@ -1,16 +1,7 @@
 -- The two sides of an edge: their faces, and whether they run the same way.
-use Rattle.std.proofs.Common.{◌≡◌, ◌≢◌, ℕ, ◌+◌, ◌-◌, ◌<◌, ◌||◌, ◌⊎◌, Bool, true, false, not, eqb, List, [], length}
-use Rattle.std.proofs.Common.{get_or, refl, sym, ap, subst, ◌∙◌, arith, inl, inr}
-use Rattle.std.proofs.lemmas.Bool.{cases_eq, eq-eqb, ne_eqb, eqb-true, lt-ltb, or_cases, or_right}
+use Rattle.surf_surfaces.proofs.Common.{◌≡◌, ◌≢◌, ℕ, ◌+◌, ◌-◌, ◌<◌, ◌||◌, ◌⊎◌, Bool, true, false, not, eqb, List, [], length, get_or, refl, sym, ap, subst, ◌∙◌, arith, inl, inr, cases_eq, eq-eqb, ne_eqb, eqb-true, lt-ltb, or_cases, or_right, joins, dual, Mesh, IsFace, pair, pair_of, pair_eq, edges, face_count, edge_count, face_at, ends, has_side, runs, faces_of, Share, IsSurface, cells_of, place_of}
 use Rattle.surf_z2.specs.Parity.{xor, xor_comm}
-use Rattle.surf_graphs.specs.Graphs.{joins}
-use Rattle.surf_graphs.specs.Cells.{dual}
-use Rattle.surf_surfaces.specs.Mesh.{Mesh, IsFace, pair, pair_of, pair_eq, edges}
 use Rattle.surf_surfaces.specs.Side.{after, corner, side_pair}
-use Rattle.surf_surfaces.specs.Surface.{face_count, edge_count, face_at, ends, has_side, runs, faces_of, Share}
-use Rattle.surf_surfaces.specs.Surface.{IsSurface}
-use Rattle.surf_surfaces.specs.Cells.{cells_of}
-use Rattle.surf_surfaces.specs.Walk.{place_of}
 use Rattle.surf_surfaces.proofs.EdgeLaws.{place_of-among}
 use Rattle.surf_surfaces.proofs.PairLaws.{pair_eq-same, pair_eq-other}
 use Rattle.surf_surfaces.proofs.SideLaws.{pair_ends, side_place}

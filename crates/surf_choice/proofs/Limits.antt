@@ -1,15 +1,7 @@
 -- The place before which loops are still sought, when the choice is made again.
-use Rattle.std.proofs.Common.{◌≡◌, ℕ, suc, ◌<◌, ◌≤◌, ◌+◌, ◌*◌, ◌^◌, ◌-◌, ◌⊎◌, true, false, not, List, [], ◌∷◌, length, get_or, All, Contains, Option, Some, None, refl, sym, ap, ◌∙◌, subst, arith, inl, inr}
-use Rattle.std.specs.Prelude.{IsTrue, nat_le}
-use Rattle.std.specs.List.{AllByRecursion}
+use Rattle.surf_surfaces.proofs.Common.{◌≡◌, ℕ, suc, ◌<◌, ◌≤◌, ◌+◌, ◌*◌, ◌^◌, ◌-◌, ◌⊎◌, true, false, not, List, [], ◌∷◌, length, get_or, All, Contains, Option, Some, None, refl, sym, ap, ◌∙◌, subst, arith, inl, inr, IsTrue, nat_le, AllByRecursion, cases_Bool, false≢true, nat_tests, All-contains, All-from_recursion, merge, Sorted, sorted_from_order, Place, is_no_later, comes_sooner}
 use Rattle.std.specs.List.Sorted.{IsNonDecreasingBy}
-use Rattle.std.proofs.lemmas.Bool.{cases_Bool, false≢true}
-use Rattle.std.proofs.lemmas.Bool.Decides.{nat_tests}
-use Rattle.std.proofs.lemmas.List.Elements.{All-contains, All-from_recursion}
-use Rattle.surf_z2.specs.Order.{merge}
-use Rattle.surf_z2.proofs.Merge.{Sorted, sorted_from_order}
 use Rattle.surf_z2.proofs.Passing.{merged_by}
-use Rattle.surf_surfaces.specs.FewBases.{Place, is_no_later, comes_sooner}
 use Rattle.surf_surfaces.proofs.FewBasesLaws.{no_later_from, no_later-trans, no_later-same}
 use Rattle.surf_choice.specs.declared.candidate.Candidate.{Candidate}
 use Rattle.surf_choice.specs.declared.candidate.Signed.{Signed}

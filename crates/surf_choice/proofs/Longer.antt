@@ -1,11 +1,6 @@
 -- Loops that are longer than those kept of which they are sums.
-use Rattle.std.proofs.Common.{◌≡◌, ℕ, suc, ◌<◌, ◌≤◌, ◌+◌, ◌-◌, List, [], ◌∷◌, ◌++◌, true, length, get_or, take, All, sym, ap, ◌∙◌, subst, arith, inl, inr}
-use Rattle.std.proofs.lemmas.Bool.{cases_eq, cases_lt}
-use Rattle.std.proofs.lemmas.Bool.Decides.{nat_tests}
-use Rattle.std.proofs.lemmas.List.{get_or_default, take_more}
+use Rattle.surf_surfaces.proofs.Common.{◌≡◌, ℕ, suc, ◌<◌, ◌≤◌, ◌+◌, ◌-◌, List, [], ◌∷◌, ◌++◌, true, length, get_or, take, All, sym, ap, ◌∙◌, subst, arith, inl, inr, cases_eq, cases_lt, nat_tests, get_or_default, take_more, IsInOrder, numbers, Spanned}
 use Rattle.std.proofs.lemmas.List.Elements.{All-from_recursion, All-append}
-use Rattle.surf_z2.specs.Order.{IsInOrder}
-use Rattle.surf_z2.specs.Space.{numbers, Spanned}
 use Rattle.surf_choice.specs.declared.candidate.Signed.{Signed}
 use Rattle.surf_choice.specs.Candidates.{signatures, IsLonger, IsSumOfLength}
 use Rattle.surf_choice.specs.Places.{stands_before}

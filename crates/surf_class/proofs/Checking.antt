@@ -1,15 +1,8 @@
 -- Evidence as it is counted.
 use Rattle.std.proofs.Common.{◌≡◌, ◌≢◌, ℕ, ◌<◌, ◌≤◌, Bool, true, false, suc, List, [], ◌∷◌, get_or, AllPairs, All, Contains, Result, Ok, Err, Some, None, IfErr, refl, sym, ap, ◌∙◌, subst, arith}
-use Rattle.std.specs.List.{position}
+use Rattle.surf_surfaces.proofs.Common.{position, get_or_default, xor, Chain, Mesh, edges, pair_lt, face_count, edge_count, faces_of, ends, IsSurface, boundary, edge_number}
 use Rattle.std.proofs.lemmas.List.Quantifiers.{position-Some}
-use Rattle.std.proofs.lemmas.List.{get_or_default}
 use Rattle.surf_class.proofs.Lists.{none_passes}
-use Rattle.surf_z2.specs.Parity.{xor}
-use Rattle.surf_z2.specs.Space.{Chain}
-use Rattle.surf_surfaces.specs.Mesh.{Mesh, edges, pair_lt}
-use Rattle.surf_surfaces.specs.Surface.{face_count, edge_count, faces_of, ends, IsSurface}
-use Rattle.surf_surfaces.specs.Homology.{boundary}
-use Rattle.surf_surfaces.specs.Walk.{edge_number}
 use Rattle.surf_surfaces.proofs.CellLaws.{surfaces_are_cells}
 use Rattle.surf_surfaces.proofs.LawProofs.{edges_are_numbered}
 use Rattle.surf_treecheck.specs.First.{HoldsBelow, FailsFirst}

@@ -1,19 +1,10 @@
 -- The chosen evidence.
 use Rattle.std.proofs.Common.{◌≡◌, ℕ, ◌<◌, Bool, true, false, List, length, get_or, map, filter, Option, refl, sym, ap, ◌∙◌, subst, arith, unwrap_or}
-use Rattle.std.specs.List.{range_with_len}
+use Rattle.surf_surfaces.proofs.Common.{range_with_len, Chain, has, dual, chain_signature, signature, IsSplit, Tree, signature_of, Mesh, face_count, edge_count, ends, IsSurface, cells_of, edge_signature}
 use Rattle.surf_z2.specs.Parity.{xor, xor_comm}
-use Rattle.surf_z2.specs.Space.{Chain}
-use Rattle.surf_z2.specs.Sieve.{has}
-use Rattle.surf_graphs.specs.Cells.{dual, chain_signature, signature, IsSplit}
-use Rattle.surf_graphs.specs.Trees.{Tree}
-use Rattle.surf_graphs.specs.Independence.{signature_of}
 use Rattle.surf_graphs.proofs.Graphs.{leaves_joined}
 use Rattle.surf_graphs.proofs.Trees.{along, along_root, along_step}
-use Rattle.surf_surfaces.specs.Mesh.{Mesh}
-use Rattle.surf_surfaces.specs.Surface.{face_count, edge_count, ends, IsSurface}
 use Rattle.surf_surfaces.specs.Homology.{IsBoundary, boundary}
-use Rattle.surf_surfaces.specs.Cells.{cells_of}
-use Rattle.surf_surfaces.specs.Signature.{edge_signature}
 use Rattle.surf_surfaces.proofs.CellLaws.{surfaces_are_cells}
 use Rattle.surf_cotree.specs.Tables.{CotreeTables, split_with, cotree_of}
 use Rattle.surf_treecheck.specs.Split.{AreFlags}

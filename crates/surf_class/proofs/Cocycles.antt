@@ -1,9 +1,6 @@
 -- The edges of ways up a tree of faces, turned one after the other.
-use Rattle.std.proofs.Common.{◌≡◌, ◌≢◌, ℕ, ◌<◌, Bool, eqb, ap, sym, ◌∙◌}
+use Rattle.surf_surfaces.proofs.Common.{◌≡◌, ◌≢◌, ℕ, ◌<◌, Bool, eqb, ap, sym, ◌∙◌, eqb_comm, Graph, Tree, IsTree, on_path}
 use Rattle.surf_z2.specs.Parity.{xor, xor_assoc}
-use Rattle.surf_z2.proofs.ParityLaws.{eqb_comm}
-use Rattle.surf_graphs.specs.Graphs.{Graph}
-use Rattle.surf_graphs.specs.Trees.{Tree, IsTree, on_path}
 use Rattle.surf_graphs.proofs.Trees.{path_step}
 
 -- one step up: the edge of a face is turned

@@ -1,9 +1,5 @@
 -- The ends of chosen edges, in order.
-use Rattle.std.proofs.Common.{◌≡◌, ℕ, ◌<◌, ◌≤◌, true, Bool, List, [], ◌∷◌, map, filter, AllPairs, All, arith}
-use Rattle.std.specs.List.{range_with_len, AllByRecursion}
-use Rattle.std.proofs.lemmas.List.Elements.{All-from_recursion}
-use Rattle.surf_surfaces.specs.Mesh.{Mesh, pair_lt}
-use Rattle.surf_surfaces.specs.Surface.{edge_count, ends, IsSurface}
+use Rattle.surf_surfaces.proofs.Common.{◌≡◌, ℕ, ◌<◌, ◌≤◌, true, Bool, List, [], ◌∷◌, map, filter, AllPairs, All, arith, range_with_len, AllByRecursion, All-from_recursion, Mesh, pair_lt, edge_count, ends, IsSurface}
 use Rattle.surf_surfaces.proofs.EdgeLaws.{rising_at}
 use Rattle.surf_surfaces.proofs.LawProofs.{edges_are_ordered}
 use Rattle.surf_classes.proofs.Listed.{passing_climb, passing_below}

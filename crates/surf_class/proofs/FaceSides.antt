@@ -2,11 +2,8 @@
 use Rattle.std.proofs.Common.{◌≡◌, ◌≢◌, ℕ, ◌<◌, Bool, true, false, not, List, length, get_or, set, unwrap_or, Option, Some, None, IsSome, refl, sym, ap, ◌∙◌, subst, arith, rules, inl, inr, get_or-set_same, get_or-set_other, length-set}
 use mathlib.Core.Bool.{beq}
 use Rattle.std.specs.Option.{option_eq}
-use Rattle.std.proofs.lemmas.Bool.{cases_eq, true≢false}
-use Rattle.surf_z2.specs.Parity.{xor}
+use Rattle.surf_surfaces.proofs.Common.{cases_eq, true≢false, xor, Mesh, face_count}
 use Rattle.surf_z2.proofs.ParityLaws.{xors, xor_back}
-use Rattle.surf_surfaces.specs.Mesh.{Mesh}
-use Rattle.surf_surfaces.specs.Surface.{face_count}
 use Rattle.surf_cotree.specs.Tables.{CotreeTables}
 use Rattle.surf_class.specs.Sides.{IsParted, AreSidesOf, side_at}
 use Rattle.surf_class.proofs.StepEdges.{differ_is}

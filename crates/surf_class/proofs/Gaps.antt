@@ -1,10 +1,5 @@
 -- Neighbours of a list that no edge joins.
-use Rattle.std.proofs.Common.{◌≡◌, ℕ, ◌<◌, ◌≤◌, ◌+◌, ◌-◌, true, false, not, List, [], ◌∷◌, length, get_or, Some, None, sym, ap, ◌∙◌, arith, inl, inr}
-use Rattle.std.specs.List.{position}
-use Rattle.std.proofs.lemmas.Bool.{cases_lt}
-use Rattle.std.proofs.lemmas.List.{get_or_default}
-use Rattle.surf_surfaces.specs.Mesh.{Mesh, pair, pair_of, pair_eq, among, edges, steps}
-use Rattle.surf_surfaces.specs.Surface.{edge_count, ends}
+use Rattle.surf_surfaces.proofs.Common.{◌≡◌, ℕ, ◌<◌, ◌≤◌, ◌+◌, ◌-◌, true, false, not, List, [], ◌∷◌, length, get_or, Some, None, sym, ap, ◌∙◌, arith, inl, inr, position, cases_lt, get_or_default, Mesh, pair, pair_of, pair_eq, among, edges, steps, edge_count, ends}
 use Rattle.surf_surfaces.proofs.EdgeLaws.{list_any_from}
 use Rattle.surf_surfaces.proofs.PairLaws.{pair_eq-same}
 use Rattle.surf_treecheck.proofs.Steps.{steps_at, count_steps}

@@ -1,9 +1,5 @@
 -- Increasing lists of numbers and of pairs.
-use Rattle.std.proofs.Common.{◌≡◌, ℕ, ◌<◌, true, nat_lt, List, [], ◌∷◌, AllPairs, All, arith}
-use Rattle.std.specs.List.{AllByRecursion}
-use Rattle.std.proofs.lemmas.Bool.{ltb-true, lt-ltb}
-use Rattle.std.proofs.lemmas.List.Elements.{All-from_recursion}
-use Rattle.surf_surfaces.specs.Mesh.{pair_lt}
+use Rattle.surf_surfaces.proofs.Common.{◌≡◌, ℕ, ◌<◌, true, nat_lt, List, [], ◌∷◌, AllPairs, All, arith, AllByRecursion, ltb-true, lt-ltb, All-from_recursion, pair_lt}
 use Rattle.surf_surfaces.proofs.PairLaws.{pair_lt-trans}
 use Rattle.surf_class.specs.Evidences.{is_rising, is_ordered}
 use Rattle.surf_class.proofs.Lists.{pairs_of_rising, and_first, and_second}

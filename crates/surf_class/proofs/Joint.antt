@@ -1,7 +1,5 @@
 -- One walk or two.
-use Rattle.std.proofs.Common.{List, ℕ, Option, Some, None}
-use Rattle.surf_surfaces.specs.Mesh.{Mesh}
-use Rattle.surf_surfaces.specs.Walk.{IsClosed}
+use Rattle.surf_surfaces.proofs.Common.{List, ℕ, Option, Some, None, Mesh, IsClosed}
 use Rattle.surf_classes.specs.Evidence.{AreClosed}
 
 pub first_closed : (mesh : Mesh) (walk : List ℕ) (other : Option (List ℕ)) → AreClosed mesh walk other → IsClosed mesh walk

@@ -1,10 +1,5 @@
 -- The pairs that are sides of a face.
-use Rattle.std.proofs.Common.{◌≡◌, ℕ, ◌<◌, true, ◌&&◌, List, map, AllPairs, All, Contains, sym, ap, ◌∙◌}
-use Rattle.surf_z2.specs.Parity.{odd}
-use Rattle.surf_z2.proofs.ParityLaws.{odd_below-same, and_comm}
-use Rattle.surf_surfaces.specs.Mesh.{Mesh, edges, pair_lt, among, pair_eq}
-use Rattle.surf_surfaces.specs.Surface.{face_count, edge_count, borders, ends, IsSurface}
-use Rattle.surf_surfaces.specs.Walk.{edge_number}
+use Rattle.surf_surfaces.proofs.Common.{◌≡◌, ℕ, ◌<◌, true, ◌&&◌, List, map, AllPairs, All, Contains, sym, ap, ◌∙◌, odd, odd_below-same, and_comm, Mesh, edges, pair_lt, among, pair_eq, face_count, edge_count, borders, ends, IsSurface, edge_number}
 use Rattle.surf_surfaces.proofs.EdgeLaws.{list_any_at, among-contains}
 use Rattle.surf_surfaces.proofs.PairLaws.{pair_eq-true}
 use Rattle.surf_classes.specs.Evidence.{has_odd_sides}

@@ -1,9 +1,5 @@
 -- Pairs with the lesser number first.
-use Rattle.std.proofs.Common.{◌≡◌, ℕ, ◌<◌, ltb, true, refl}
-use Rattle.std.proofs.lemmas.Bool.{lt-ltb}
-use Rattle.surf_surfaces.specs.Mesh.{Mesh, pair}
-use Rattle.surf_surfaces.specs.Surface.{edge_count, ends}
-use Rattle.surf_surfaces.specs.Walk.{edge_number}
+use Rattle.surf_surfaces.proofs.Common.{◌≡◌, ℕ, ◌<◌, ltb, true, refl, lt-ltb, Mesh, pair, edge_count, ends, edge_number}
 use Rattle.surf_class.proofs.StepEdges.{numbered}
 
 -- such a pair is its own unordered pair

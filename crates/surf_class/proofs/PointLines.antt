@@ -1,11 +1,7 @@
 -- What a file of vertices says, stage by stage.
-use Rattle.std.proofs.Common.{◌≡◌, ℕ, ◌<◌, nat_le, List, [], ◌∷◌, get_or, None, Ok, Err, refl, ap, ◌∙◌}
-use Rattle.std.specs.Prelude.{All}
-use Rattle.std.specs.List.{position}
+use Rattle.surf_surfaces.proofs.Common.{◌≡◌, ℕ, ◌<◌, nat_le, List, [], ◌∷◌, get_or, None, Ok, Err, refl, ap, ◌∙◌, All, position, All-from_get_or, Mesh}
 use Rattle.std.proofs.lemmas.Bool.{leb-false}
-use Rattle.std.proofs.lemmas.List.Elements.{All-from_get_or}
 use Rattle.surf_text.specs.Text.{TextLine, tokens_of, lines_of}
-use Rattle.surf_surfaces.specs.Mesh.{Mesh}
 use Rattle.surf_class.specs.Numbers.{numbers_from}
 use Rattle.surf_class.specs.Points.{points_of, points_in, if_alone}
 use Rattle.surf_class.specs.declared.points.PointFault.TheVariants.{Trailing}

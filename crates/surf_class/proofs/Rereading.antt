@@ -1,7 +1,5 @@
 -- What is written of evidence is read as that evidence.
-use Rattle.std.proofs.Common.{◌≡◌, ℕ, zero, suc, ◌<◌, ◌+◌, ◌*◌, ◌^◌, true, nat_lt, ltb, eqb, List, [], ◌∷◌, ◌++◌, length, get_or, map, All, Ok, refl, sym, ap, ◌∙◌, arith, codes, decimal, append_assoc}
-use Rattle.std.proofs.lemmas.Bool.{lt-ltb, eq-eqb}
-use Rattle.surf_surfaces.specs.Mesh.{pair_lt}
+use Rattle.surf_surfaces.proofs.Common.{◌≡◌, ℕ, zero, suc, ◌<◌, ◌+◌, ◌*◌, ◌^◌, true, nat_lt, ltb, eqb, List, [], ◌∷◌, ◌++◌, length, get_or, map, All, Ok, refl, sym, ap, ◌∙◌, arith, codes, decimal, append_assoc, lt-ltb, eq-eqb, pair_lt}
 use Rattle.surf_off.proofs.Decimals.{IsWord, word_decimal}
 use Rattle.surf_records.specs.Fits.{IsNumber, IsPair}
 use Rattle.surf_text.specs.Numbers.{numbers_text}

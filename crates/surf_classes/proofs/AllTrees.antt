@@ -1,23 +1,9 @@
 -- The odd evidence is that of all trees that are chosen at a base.
-use Rattle.std.proofs.Common.{◌≡◌, ℕ, zero, suc, ◌<◌, Bool, true, false, not, ◌&&◌, cond, eqb, List, length, get_or, refl, sym, ap, ◌∙◌, arith, inl, inr}
-use Rattle.std.proofs.lemmas.Bool.{cases_eq, eq-eqb, ne_eqb}
-use Rattle.std.proofs.lemmas.List.Elements.{All-from_recursion}
-use Rattle.surf_z2.specs.Parity.{xor}
-use Rattle.surf_z2.specs.Space.{Chain}
+use Rattle.surf_surfaces.proofs.Common.{◌≡◌, ℕ, zero, suc, ◌<◌, Bool, true, false, not, ◌&&◌, cond, eqb, List, length, get_or, refl, sym, ap, ◌∙◌, arith, inl, inr, cases_eq, eq-eqb, ne_eqb, All-from_recursion, xor, Chain, same_from, any_below-same, odd_below-same, signature, chain_signature, signature_of, Mesh, face_count, edge_count, faces_of, IsSurface, ArePositive, cells_of, Trees, AreChosenAt, edge_signature}
 use Rattle.surf_z2.specs.Below.{number_of}
-use Rattle.surf_z2.proofs.Below.{same_from}
-use Rattle.surf_z2.proofs.ParityLaws.{any_below-same, odd_below-same}
 use Rattle.surf_z2.proofs.Passing.{filter_same}
-use Rattle.surf_graphs.specs.Cells.{signature, chain_signature}
-use Rattle.surf_graphs.specs.Independence.{signature_of}
 use Rattle.surf_graphs.specs.Trees.{on_way, on_path}
-use Rattle.surf_surfaces.specs.Mesh.{Mesh}
-use Rattle.surf_surfaces.specs.Surface.{face_count, edge_count, faces_of, IsSurface}
-use Rattle.surf_surfaces.specs.Walk.{ArePositive}
-use Rattle.surf_surfaces.specs.Cells.{cells_of}
 use Rattle.surf_surfaces.specs.Cotree.{tree_edges, cotree_edges, is_left, left_edges, split_of}
-use Rattle.surf_surfaces.specs.Choice.{Trees, AreChosenAt}
-use Rattle.surf_surfaces.specs.Signature.{edge_signature}
 use Rattle.surf_surfaces.proofs.CellLaws.{surfaces_are_cells}
 use Rattle.surf_surfaces.proofs.LoopsOne.{trees_same, cotrees_same}
 use Rattle.surf_classes.specs.EvidenceLaws.{OddChoiceIsThatOfAllTrees}

@@ -1,17 +1,6 @@
 -- Of the evidence of closed walks one is chosen, and it is right.
-use Rattle.std.proofs.Common.{◌≡◌, ℕ, List, sym, ap, ◌∙◌, arith, inl, inr}
-use Rattle.std.proofs.lemmas.Bool.{cases_eq}
-use Rattle.std.proofs.lemmas.List.{get_or-replicate}
-use Rattle.surf_z2.specs.Space.{Chain}
-use Rattle.surf_graphs.specs.Cells.{Split, IsSplit}
-use Rattle.surf_graphs.specs.Independence.{signature_of}
-use Rattle.surf_surfaces.specs.Mesh.{Mesh}
-use Rattle.surf_surfaces.specs.Surface.{edge_count, IsSurface}
-use Rattle.surf_surfaces.specs.Walk.{edge_length, ArePositive}
+use Rattle.surf_surfaces.proofs.Common.{◌≡◌, ℕ, List, sym, ap, ◌∙◌, arith, inl, inr, cases_eq, get_or-replicate, Chain, Split, IsSplit, signature_of, Mesh, edge_count, IsSurface, edge_length, ArePositive, cells_of, Trees, AreChosenAt, split_of}
 use Rattle.surf_surfaces.specs.Homology.{IsBoundary}
-use Rattle.surf_surfaces.specs.Cells.{cells_of}
-use Rattle.surf_surfaces.specs.Choice.{Trees, AreChosenAt}
-use Rattle.surf_surfaces.specs.Cotree.{split_of}
 use Rattle.surf_surfaces.proofs.ChoiceExists.{choice_exists}
 use Rattle.surf_surfaces.proofs.ClassLaws.{some_vertex}
 use Rattle.surf_surfaces.proofs.LoopsAtLaws.{split_is}

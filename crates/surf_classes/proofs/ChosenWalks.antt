@@ -1,17 +1,6 @@
 -- There is one chosen walk in each class.
-use Rattle.std.proofs.Common.{◌≡◌, ℕ, suc, ◌+◌, ◌<◌, ◌≤◌, ◌⊎◌, List, [], ◌∷◌, ◌++◌, length, reverse, refl, sym, ap, ◌∙◌, subst, arith, inl, inr, Contains}
-use Rattle.std.proofs.lemmas.Bool.{cases_lt}
-use Rattle.std.proofs.lemmas.List.Elements.{All-from_recursion}
-use Rattle.surf_z2.proofs.ParityLaws.{xor-false}
+use Rattle.surf_surfaces.proofs.Common.{◌≡◌, ℕ, suc, ◌+◌, ◌<◌, ◌≤◌, ◌⊎◌, List, [], ◌∷◌, ◌++◌, length, reverse, refl, sym, ap, ◌∙◌, subst, arith, inl, inr, Contains, cases_lt, All-from_recursion, xor-false, primal, Split, IsSplit, graph_walk_length, Mesh, pair_of, edges, IsSurface, IsClosed, ArePositive, edge_length, first, parity, walk_length, tail, cells_of, edge_signature, walk_signature}
 use Rattle.std.proofs.lemmas.List.{reverse-reverse, length-append}
-use Rattle.surf_graphs.specs.Cells.{primal, Split, IsSplit}
-use Rattle.surf_graphs.specs.Graphs.{graph_walk_length}
-use Rattle.surf_surfaces.specs.Mesh.{Mesh, pair_of, edges}
-use Rattle.surf_surfaces.specs.Surface.{IsSurface}
-use Rattle.surf_surfaces.specs.Walk.{IsClosed, ArePositive, edge_length, first, parity, walk_length}
-use Rattle.surf_surfaces.specs.Cycle.{tail}
-use Rattle.surf_surfaces.specs.Cells.{cells_of}
-use Rattle.surf_surfaces.specs.Signature.{edge_signature, walk_signature}
 use Rattle.surf_surfaces.proofs.CellLaws.{surfaces_are_cells}
 use Rattle.surf_surfaces.proofs.ClassLaws.{some_split, some_vertex}
 use Rattle.surf_classes.specs.Shortest.{IsInClass, IsShortestInClass, IsChosenWalk}

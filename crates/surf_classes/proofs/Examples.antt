@@ -1,14 +1,5 @@
 -- Evidence on small meshes.
-use Rattle.std.proofs.Common.{◌≡◌, ℕ, ◌<◌, Bool, true, false, ◌&&◌, List, [], ◌∷◌, refl, arith, Contains}
-use Rattle.std.specs.List.{AllByRecursion}
-use Rattle.std.proofs.lemmas.Bool.{and_parts}
-use Rattle.std.proofs.lemmas.List.Elements.{All-from_recursion}
-use Rattle.surf_z2.specs.Parity.{xor, any_below}
-use Rattle.surf_z2.proofs.ParityLaws.{any_below-none, xor_equal}
-use Rattle.surf_surfaces.specs.Mesh.{pair_lt, among, edges}
-use Rattle.surf_surfaces.specs.Surface.{face_count, edge_count}
-use Rattle.surf_surfaces.specs.Homology.{boundary}
-use Rattle.surf_surfaces.specs.Walk.{parity}
+use Rattle.surf_surfaces.proofs.Common.{◌≡◌, ℕ, ◌<◌, Bool, true, false, ◌&&◌, List, [], ◌∷◌, refl, arith, Contains, AllByRecursion, and_parts, All-from_recursion, xor, any_below, any_below-none, xor_equal, pair_lt, among, edges, face_count, edge_count, boundary, parity}
 use Rattle.surf_surfaces.specs.SmallMeshes.{three_torus}
 use Rattle.surf_surfaces.specs.Pillow.{pillow}
 use Rattle.surf_surfaces.proofs.PairLaws.{Rising}

@@ -1,18 +1,9 @@
 -- The null evidence of a boundary.
-use Rattle.std.proofs.Common.{◌≡◌, ℕ, ◌<◌, ◌≤◌, Bool, false, List, [], ◌∷◌, refl, sym, ap, ◌∙◌, arith, inl, inr}
+use Rattle.surf_surfaces.proofs.Common.{◌≡◌, ℕ, ◌<◌, ◌≤◌, Bool, false, List, [], ◌∷◌, refl, sym, ap, ◌∙◌, arith, inl, inr, cases_lt, eqb-true, or_cases, false_from_ne_true, false≢true, All-from_recursion, recursion_from_All, xor, Chain, dual, Mesh, face_count, edge_count, faces_of, IsSurface, boundary, cells_of}
 use Rattle.std.specs.List.{AllByRecursion, filter, range_with_len}
-use Rattle.std.proofs.lemmas.Bool.{cases_lt, eqb-true, or_cases, false_from_ne_true, false≢true}
-use Rattle.std.proofs.lemmas.List.Elements.{All-from_recursion, recursion_from_All}
-use Rattle.surf_z2.specs.Parity.{xor}
-use Rattle.surf_z2.specs.Space.{Chain}
 use Rattle.surf_z2.proofs.ParityLaws.{xors, xor-same, xor_ends, xor_pairs, xor_equal, equal_xor}
-use Rattle.surf_graphs.specs.Cells.{dual}
 use Rattle.surf_graphs.proofs.Graphs.{leaves_joined}
 use Rattle.surf_graphs.proofs.Trees.{down_tree}
-use Rattle.surf_surfaces.specs.Mesh.{Mesh}
-use Rattle.surf_surfaces.specs.Surface.{face_count, edge_count, faces_of, IsSurface}
-use Rattle.surf_surfaces.specs.Homology.{boundary}
-use Rattle.surf_surfaces.specs.Cells.{cells_of}
 use Rattle.surf_surfaces.proofs.CellLaws.{surfaces_are_cells}
 use Rattle.surf_classes.specs.Evidence.{is_listed, IsChosenNull}
 use Rattle.surf_classes.specs.EvidenceLaws.{BoundariesHaveEvidence, NullChoiceIsOne, NullChoiceIsFiltered, NullEvidenceGrows}

@@ -1,25 +1,12 @@
 -- The odd evidence of chains that are no boundaries.
-use Rattle.std.proofs.Common.{◌≡◌, ℕ, ◌<◌, Bool, true, false, ◌&&◌, ◌||◌, eqb, List, [], ◌∷◌, length, get_or, map, bit_xor, Option, Some, None, refl, sym, ap, ◌∙◌, subst, arith, inl, inr, Contains}
+use Rattle.surf_surfaces.proofs.Common.{◌≡◌, ℕ, ◌<◌, Bool, true, false, ◌&&◌, ◌||◌, eqb, List, [], ◌∷◌, length, get_or, map, bit_xor, Option, Some, None, refl, sym, ap, ◌∙◌, subst, arith, inl, inr, Contains, cases_lt, cases_order, cases_Bool, false≢true, false_from_ne_true, All-from_recursion, recursion_from_All, Contains-get_or, any_below, Chain, has, and_comm, odd_below-same, any_below-none, primal, dual, Split, signature, chain_signature, signature_of, Mesh, pair_eq, pair_lt, among, edges, edge_count, ends, borders, IsSurface, parity, place_of, cells_of, edge_signature, walk_signature}
 use Rattle.std.specs.List.{AllByRecursion, filter, range_with_len}
-use Rattle.std.proofs.lemmas.Bool.{cases_lt, cases_order, cases_Bool, false≢true, false_from_ne_true}
-use Rattle.std.proofs.lemmas.List.Elements.{All-from_recursion, recursion_from_All, Contains-get_or}
-use Rattle.surf_z2.specs.Parity.{any_below}
-use Rattle.surf_z2.specs.Space.{Chain}
-use Rattle.surf_z2.specs.Sieve.{has}
 use Rattle.surf_z2.proofs.Below.{below_law}
-use Rattle.surf_z2.proofs.ParityLaws.{and_comm, odd_below-same, any_below-none}
-use Rattle.surf_graphs.specs.Cells.{primal, dual, Split, signature, chain_signature}
 use Rattle.surf_graphs.specs.Graphs.{graph_touches, IsEven}
-use Rattle.surf_graphs.specs.Independence.{signature_of}
 use Rattle.surf_graphs.proofs.CellLaws.{face_zero, signature_null}
 use Rattle.surf_graphs.proofs.Graphs.{even-xor}
 use Rattle.surf_graphs.proofs.Independence.{signature_of-linear, null_zero, zero_null}
 use Rattle.surf_graphs.proofs.ShortestWalks.{first_passing}
-use Rattle.surf_surfaces.specs.Mesh.{Mesh, pair_eq, pair_lt, among, edges}
-use Rattle.surf_surfaces.specs.Surface.{edge_count, ends, borders, IsSurface}
-use Rattle.surf_surfaces.specs.Walk.{parity, place_of}
-use Rattle.surf_surfaces.specs.Cells.{cells_of}
-use Rattle.surf_surfaces.specs.Signature.{edge_signature, walk_signature}
 use Rattle.surf_surfaces.proofs.CellLaws.{surfaces_are_cells}
 use Rattle.surf_surfaces.proofs.PairLaws.{Rising, pair_eq-true}
 use Rattle.surf_surfaces.proofs.EdgeLaws.{rising_from_AllPairs, rising_at, rising_unique, edges-rise, ends-eq, place_of-ends, place_of-among, among-contains, list_any_at}

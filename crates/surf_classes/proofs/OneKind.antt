@@ -1,17 +1,8 @@
 -- No chain has evidence of both kinds.
-use Rattle.std.proofs.Common.{◌≡◌, ℕ, ◌<◌, Bool, true, false, ◌&&◌, List, [], ◌∷◌, sym, ap, ◌∙◌, Contains}
-use Rattle.std.specs.List.{AllByRecursion}
-use Rattle.std.proofs.lemmas.Bool.{false≢true}
-use Rattle.std.proofs.lemmas.List.Elements.{recursion_from_All}
-use Rattle.surf_z2.specs.Parity.{odd_below}
+use Rattle.surf_surfaces.proofs.Common.{◌≡◌, ℕ, ◌<◌, Bool, true, false, ◌&&◌, List, [], ◌∷◌, sym, ap, ◌∙◌, Contains, AllByRecursion, false≢true, recursion_from_All, odd_below, dual, Mesh, among, edges, face_count, edge_count, ends, borders, IsSurface, boundary, cells_of}
 use Rattle.surf_z2.proofs.ParityLaws.{and_comm, and-false, odd_below-same, odd_below-none}
-use Rattle.surf_graphs.specs.Cells.{dual}
 use Rattle.surf_graphs.specs.Graphs.{graph_touches}
 use Rattle.surf_graphs.proofs.Graphs.{by_nodes}
-use Rattle.surf_surfaces.specs.Mesh.{Mesh, among, edges}
-use Rattle.surf_surfaces.specs.Surface.{face_count, edge_count, ends, borders, IsSurface}
-use Rattle.surf_surfaces.specs.Homology.{boundary}
-use Rattle.surf_surfaces.specs.Cells.{cells_of}
 use Rattle.surf_surfaces.proofs.CellLaws.{surfaces_are_cells}
 use Rattle.surf_surfaces.proofs.EdgeLaws.{rising_from_AllPairs, among-contains}
 use Rattle.surf_classes.specs.Evidence.{has_odd_sides, is_listed}

@@ -1,17 +1,7 @@
 -- Sums over lists of pairs, as sums over all edges.
-use Rattle.std.proofs.Common.{◌≡◌, ℕ, ◌<◌, Bool, true, false, ◌&&◌, ◌||◌, eqb, List, [], ◌∷◌, map, refl, sym, ap, ◌∙◌, arith}
-use Rattle.std.specs.List.{AllByRecursion}
-use Rattle.std.proofs.lemmas.Bool.{or_left, or_right, false≢true}
-use Rattle.std.proofs.lemmas.Simd.{map-map}
-use Rattle.surf_z2.specs.Parity.{xor, odd, odd_below}
-use Rattle.surf_z2.specs.Space.{Chain}
+use Rattle.surf_surfaces.proofs.Common.{◌≡◌, ℕ, ◌<◌, Bool, true, false, ◌&&◌, ◌||◌, eqb, List, [], ◌∷◌, map, refl, sym, ap, ◌∙◌, arith, AllByRecursion, or_left, or_right, false≢true, map-map, xor, odd, odd_below, Chain, dual, Mesh, sides, pair_of, pair_eq, among, edges, face_count, edge_count, face_at, ends, has_side, borders, faces_of, IsSurface, edge_number, cells_of}
 use Rattle.surf_z2.proofs.ParityLaws.{xor-and, or-xor, eqb_comm, odd_below-same, odd_below-none, odd_below-xor}
-use Rattle.surf_graphs.specs.Cells.{dual}
 use Rattle.surf_graphs.specs.Graphs.{graph_touches}
-use Rattle.surf_surfaces.specs.Mesh.{Mesh, sides, pair_of, pair_eq, among, edges}
-use Rattle.surf_surfaces.specs.Surface.{face_count, edge_count, face_at, ends, has_side, borders, faces_of, IsSurface}
-use Rattle.surf_surfaces.specs.Walk.{edge_number}
-use Rattle.surf_surfaces.specs.Cells.{cells_of}
 use Rattle.surf_surfaces.proofs.PairLaws.{pair_eq-true, pair_eq-self}
 use Rattle.surf_surfaces.proofs.EdgeLaws.{odd_below-ends, rising_from_AllPairs}
 use Rattle.surf_surfaces.proofs.FaceLaws.{Once, face_once, among-map}

@@ -1,15 +1,7 @@
 -- What is read back off the distances is the chosen walk.
-use Rattle.std.proofs.Common.{◌≡◌, ℕ, zero, suc, ◌+◌, ◌-◌, ◌<◌, ◌≤◌, ◌⊎◌, List, [], ◌∷◌, ◌++◌, length, bit_xor, refl, sym, ap, ◌∙◌, subst, arith, inl, inr}
-use Rattle.std.proofs.lemmas.Bool.{cases_eq, cases_Bool, false≢true}
+use Rattle.surf_surfaces.proofs.Common.{◌≡◌, ℕ, zero, suc, ◌+◌, ◌-◌, ◌<◌, ◌≤◌, ◌⊎◌, List, [], ◌∷◌, ◌++◌, length, bit_xor, refl, sym, ap, ◌∙◌, subst, arith, inl, inr, cases_eq, cases_Bool, false≢true, primal, Split, chain_signature, edge_between, Mesh, pair, edges, among, IsSurface, IsClosed, ArePositive, edge_length, parity, cells_of, edge_signature, walk_signature}
 use Rattle.surf_z2.proofs.Below.{small}
-use Rattle.surf_graphs.specs.Cells.{primal, Split, chain_signature}
-use Rattle.surf_graphs.specs.Graphs.{edge_between}
 use Rattle.surf_graphs.proofs.Trees.{joined_in}
-use Rattle.surf_surfaces.specs.Mesh.{Mesh, pair, edges, among}
-use Rattle.surf_surfaces.specs.Surface.{IsSurface}
-use Rattle.surf_surfaces.specs.Walk.{IsClosed, ArePositive, edge_length, parity}
-use Rattle.surf_surfaces.specs.Cells.{cells_of}
-use Rattle.surf_surfaces.specs.Signature.{edge_signature, walk_signature}
 use Rattle.surf_surfaces.proofs.CellLaws.{surfaces_are_cells}
 use Rattle.surf_surfaces.proofs.EdgeLaws.{among-contains, contains_from_among}
 use Rattle.surf_surfaces.proofs.SignatureLaws.{signatures_are_classes}

@@ -1,20 +1,10 @@
 -- Closed walks of a mesh, as walks of its graph with lengths and signatures, run from their ends backwards.
-use Rattle.std.proofs.Common.{◌≡◌, ℕ, ◌<◌, List, [], ◌∷◌, ◌++◌, map, reverse, bit_xor, refl, sym, ap, ◌∙◌, subst, arith, Contains}
-use Rattle.std.specs.List.{AllByRecursion}
+use Rattle.surf_surfaces.proofs.Common.{◌≡◌, ℕ, ◌<◌, List, [], ◌∷◌, ◌++◌, map, reverse, bit_xor, refl, sym, ap, ◌∙◌, subst, arith, Contains, AllByRecursion, recursion_from_All, numbers, sum_of, difference, primal, Split, Graph, IsGraphWalk, edge_between, signature_of, Mesh, IsMesh, pair_of, steps_from, edges, IsSurface, cells_of, edge_signature, walk_signature}
 use Rattle.std.proofs.lemmas.List.{reverse-append, append_assoc}
-use Rattle.std.proofs.lemmas.List.Elements.{recursion_from_All}
-use Rattle.surf_z2.specs.Space.{numbers, sum_of, difference}
 use Rattle.surf_z2.proofs.Span.{same_from_sum}
-use Rattle.surf_graphs.specs.Cells.{primal, Split}
-use Rattle.surf_graphs.specs.Graphs.{Graph, IsGraphWalk, edge_between}
-use Rattle.surf_graphs.specs.Independence.{signature_of}
 use Rattle.surf_graphs.proofs.Graphs.{even-xor}
 use Rattle.surf_graphs.proofs.Independence.{signature_of-linear, null_zero, zero_null}
-use Rattle.surf_surfaces.specs.Mesh.{Mesh, IsMesh, pair_of, steps_from, edges}
-use Rattle.surf_surfaces.specs.Surface.{IsSurface}
 use Rattle.surf_surfaces.specs.Walk.{IsWalk, IsClosed, first, last_from, edge_length, edge_number, parity, walk_length}
-use Rattle.surf_surfaces.specs.Cells.{cells_of}
-use Rattle.surf_surfaces.specs.Signature.{edge_signature, walk_signature}
 use Rattle.surf_surfaces.proofs.CellLaws.{surfaces_are_cells}
 use Rattle.surf_surfaces.proofs.GraphWalkLaws.{between_is_number, walks_are_graph_walks, closed_parity_even}
 use Rattle.surf_surfaces.proofs.SignatureLaws.{signatures_are_classes}

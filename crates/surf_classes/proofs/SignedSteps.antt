@@ -1,15 +1,6 @@
 -- Steps of a mesh as steps of its graph with signatures, and least lengths of walks with a signature.
-use Rattle.std.proofs.Common.{◌≡◌, ℕ, suc, ◌+◌, ◌<◌, ◌≤◌, ◌^◌, ◌⊎◌, false, List, [], ◌∷◌, length, bit_xor, refl, sym, ap, ◌∙◌, subst, arith, inl, inr, Contains}
-use Rattle.std.proofs.lemmas.Bool.{cases_lt}
-use Rattle.std.proofs.lemmas.Nat.{xor_lt}
+use Rattle.surf_surfaces.proofs.Common.{◌≡◌, ℕ, suc, ◌+◌, ◌<◌, ◌≤◌, ◌^◌, ◌⊎◌, false, List, [], ◌∷◌, length, bit_xor, refl, sym, ap, ◌∙◌, subst, arith, inl, inr, Contains, cases_lt, xor_lt, primal, Split, signature, IsJoined, edge_between, Mesh, IsMesh, pair, edges, IsSurface, ArePositive, edge_length, edge_number, place_of, walk_length, cells_of, edge_signature}
 use Rattle.surf_z2.proofs.Below.{small, number_of-none}
-use Rattle.surf_graphs.specs.Cells.{primal, Split, signature}
-use Rattle.surf_graphs.specs.Graphs.{IsJoined, edge_between}
-use Rattle.surf_surfaces.specs.Mesh.{Mesh, IsMesh, pair, edges}
-use Rattle.surf_surfaces.specs.Surface.{IsSurface}
-use Rattle.surf_surfaces.specs.Walk.{ArePositive, edge_length, edge_number, place_of, walk_length}
-use Rattle.surf_surfaces.specs.Cells.{cells_of}
-use Rattle.surf_surfaces.specs.Signature.{edge_signature}
 use Rattle.surf_surfaces.proofs.CellLaws.{surfaces_are_cells}
 use Rattle.surf_surfaces.proofs.EdgeLaws.{contains_from_among}
 use Rattle.surf_surfaces.proofs.FaceLaws.{pair_comm}

@@ -1,16 +1,6 @@
 -- A certified table has the distances.
-use Rattle.std.proofs.Common.{◌≡◌, ℕ, zero, suc, ◌+◌, ◌-◌, ◌<◌, ◌≤◌, ◌⊎◌, List, [], ◌∷◌, bit_xor, sym, ap, ◌∙◌, subst, arith, inl, inr}
-use Rattle.std.proofs.lemmas.Bool.{cases_eq}
-use Rattle.surf_z2.specs.Space.{numbers}
-use Rattle.surf_graphs.specs.Cells.{primal, Split}
-use Rattle.surf_graphs.specs.Graphs.{IsJoined, edge_between}
-use Rattle.surf_graphs.proofs.Graphs.{edge_between_is}
+use Rattle.surf_surfaces.proofs.Common.{◌≡◌, ℕ, zero, suc, ◌+◌, ◌-◌, ◌<◌, ◌≤◌, ◌⊎◌, List, [], ◌∷◌, bit_xor, sym, ap, ◌∙◌, subst, arith, inl, inr, cases_eq, numbers, primal, Split, IsJoined, edge_between, edge_between_is, Mesh, ends, IsSurface, ArePositive, edge_length, cells_of, edge_signature, walk_signature}
 use Rattle.surf_graphs.proofs.Trees.{joined_in, one_of}
-use Rattle.surf_surfaces.specs.Mesh.{Mesh}
-use Rattle.surf_surfaces.specs.Surface.{ends, IsSurface}
-use Rattle.surf_surfaces.specs.Walk.{ArePositive, edge_length}
-use Rattle.surf_surfaces.specs.Cells.{cells_of}
-use Rattle.surf_surfaces.specs.Signature.{edge_signature, walk_signature}
 use Rattle.surf_surfaces.proofs.CellLaws.{surfaces_are_cells}
 use Rattle.surf_classes.specs.Cover.{IsSet, AreSignedDistances, IsCertified}
 use Rattle.surf_classes.specs.ShortestLaws.{CertifiedTablesAreDistances, CertifiedTablesChoose}

@@ -1,9 +1,5 @@
 -- The faces of a surface, joined by their edges, are a graph.
-use Rattle.surf_graphs.specs.Graphs.{IsGraph}
-use Rattle.surf_graphs.specs.Cells.{dual}
-use Rattle.surf_surfaces.specs.Mesh.{Mesh}
-use Rattle.surf_surfaces.specs.Surface.{IsSurface}
-use Rattle.surf_surfaces.specs.Cells.{cells_of}
+use Rattle.surf_surfaces.proofs.Common.{IsGraph, dual, Mesh, IsSurface, cells_of}
 use Rattle.surf_surfaces.proofs.CellLaws.{surfaces_are_cells}
 
 pub graph_is : (mesh : Mesh) → IsSurface mesh → IsGraph (dual (cells_of mesh))

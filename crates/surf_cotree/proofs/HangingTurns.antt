@@ -1,7 +1,5 @@
 -- One turn of the hanging, in which a leaf is told by its edge.
-use Rattle.std.proofs.Common.{ℕ, ◌<◌, ◌≤◌, ◌≡◌, ◌+◌, ◌-◌, ◌⊎◌, refl, sym, ap, ◌∙◌, subst, arith, inl, inr, List, length, set, Bool, true, false}
-use Rattle.std.proofs.lemmas.Bool.{false≢true}
-use Rattle.surf_graphs.specs.Graphs.{Graph, IsGraph, joins}
+use Rattle.surf_surfaces.proofs.Common.{ℕ, ◌<◌, ◌≤◌, ◌≡◌, ◌+◌, ◌-◌, ◌⊎◌, refl, sym, ap, ◌∙◌, subst, arith, inl, inr, List, length, set, Bool, true, false, false≢true, Graph, IsGraph, joins}
 use Rattle.surf_base.specs.Tables.{nobody, at}
 use Rattle.surf_cotree.specs.Searches.{reached}
 use Rattle.surf_cotree.specs.Peeling.{Leaf, leaf_at, IsLeaf, IsHungBy}

@@ -2,12 +2,7 @@
 use Rattle.std.proofs.Common.{ℕ, zero, suc, ◌<◌, ◌≤◌, ◌≡◌, ◌≢◌, ◌+◌, refl, sym, ap, ◌∙◌, subst, arith, inl, inr, List, [], ◌∷◌, ◌++◌, length, set, Option, Some, None, Bool, true, false, not, ◌&&◌, eqb, eq-eqb, ne_eqb, map, get_or-set_same, get_or-set_other}
 use Rattle.std.proofs.Math.ListN.{length-set}
 use Rattle.std.specs.Option.{IfSome, is_some}
-use Rattle.std.proofs.lemmas.Bool.{cases_eq, false≢true}
-use Rattle.std.proofs.lemmas.Bool.Decides.{nat_tests}
-use Rattle.std.proofs.lemmas.List.{length-map, length_push, get_or_push, get_or_append_left}
-use Rattle.surf_z2.specs.Parity.{count_below}
-use Rattle.surf_z2.proofs.Sums.{count_below-without, count_below-same}
-use Rattle.surf_graphs.specs.Graphs.{Graph, joins}
+use Rattle.surf_surfaces.proofs.Common.{cases_eq, false≢true, nat_tests, length-map, length_push, get_or_push, get_or_append_left, count_below, count_below-without, count_below-same, Graph, joins}
 use Rattle.surf_mesh.specs.Links.{link_at, IsRow}
 use Rattle.surf_cotree.specs.Searches.{outside}
 use Rattle.surf_cotree.specs.Peeling.{Leaf, leaf_at, left_after, IsOnlyEdge, IsLeaf, IsPeeled, IsPeeledBy, IsPeeledTo}

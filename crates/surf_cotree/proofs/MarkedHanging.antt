@@ -1,9 +1,7 @@
 -- For marked edges there are tables in which all leaves are hung.
 use Rattle.std.proofs.Common.{ℕ, zero, suc, ◌<◌, ◌≤◌, ◌≡◌, ◌≢◌, ◌+◌, refl, sym, ap, ◌∙◌, subst, arith, inl, inr, List, length, set, Bool, true, false, not, eqb, eq-eqb, ne_eqb, get_or-set_same, get_or-set_other}
 use Rattle.std.proofs.Math.ListN.{length-set}
-use Rattle.std.proofs.lemmas.Bool.{cases_eq, cases_Bool, and_parts, false≢true}
-use Rattle.surf_graphs.specs.Graphs.{Graph, IsGraph, joins}
-use Rattle.surf_graphs.proofs.Loops.{joins_turned}
+use Rattle.surf_surfaces.proofs.Common.{cases_eq, cases_Bool, and_parts, false≢true, Graph, IsGraph, joins, joins_turned}
 use Rattle.surf_base.specs.Tables.{nobody, at}
 use Rattle.surf_cotree.specs.Searches.{reached, spanned_tree}
 use Rattle.surf_cotree.specs.Peeling.{Leaf, leaf_at, left_after, IsLeaf, IsHung}

@@ -1,14 +1,7 @@
 -- The edges that are found without tables are those of tables.
-use Rattle.std.proofs.Common.{ℕ, ◌<◌, ◌≤◌, ◌≡◌, ◌≢◌, refl, sym, ap, ◌∙◌, subst, arith, List, length, filter, replicate, Bool, true, false, not, ◌&&◌, ◌||◌}
-use Rattle.std.specs.List.{range_with_len}
+use Rattle.surf_surfaces.proofs.Common.{ℕ, ◌<◌, ◌≤◌, ◌≡◌, ◌≢◌, refl, sym, ap, ◌∙◌, subst, arith, List, length, filter, replicate, Bool, true, false, not, ◌&&◌, ◌||◌, range_with_len, false≢true, Graph, dual, Mesh, edge_count, face_count, IsSurface, loop_count, cells_of}
 use Rattle.std.proofs.Math.ListN.{length-replicate}
-use Rattle.std.proofs.lemmas.Bool.{false≢true}
-use Rattle.surf_graphs.specs.Graphs.{Graph}
-use Rattle.surf_graphs.specs.Cells.{dual}
 use Rattle.surf_signatures.proofs.Passing.{passing_same}
-use Rattle.surf_surfaces.specs.Mesh.{Mesh}
-use Rattle.surf_surfaces.specs.Surface.{edge_count, face_count, IsSurface, loop_count}
-use Rattle.surf_surfaces.specs.Cells.{cells_of}
 use Rattle.surf_base.specs.Tables.{nobody, at}
 use Rattle.surf_cotree.specs.Tables.{CotreeTables, width_for}
 use Rattle.surf_cotree.specs.Searches.{heaviest, flag, outside, is_unmarked, spanned_tree, IsHeaviestTree}

@@ -1,11 +1,7 @@
 -- A search that marks edges has tables.
 use Rattle.std.proofs.Common.{ℕ, ◌<◌, ◌≤◌, ◌≡◌, ◌≢◌, ◌+◌, ◌-◌, refl, sym, ap, ◌∙◌, subst, arith, inl, inr, List, length, set, replicate, None, Bool, true, false, not, ◌&&◌, eqb, ne_eqb, get_or-set_same, get_or-set_other}
 use Rattle.std.proofs.Math.ListN.{length-set, length-replicate}
-use Rattle.std.proofs.lemmas.Bool.{cases_eq, cases_Bool, and_parts, false≢true}
-use Rattle.std.proofs.lemmas.List.{get_or-replicate}
-use Rattle.surf_z2.specs.Parity.{count_below}
-use Rattle.surf_graphs.specs.Graphs.{Graph, IsGraph, joins}
-use Rattle.surf_graphs.proofs.Trees.{one_of}
+use Rattle.surf_surfaces.proofs.Common.{cases_eq, cases_Bool, and_parts, false≢true, get_or-replicate, count_below, Graph, IsGraph, joins, one_of}
 use Rattle.surf_heap.specs.Entries.{Entries, IsLeastEntry, IsEmpty}
 use Rattle.surf_base.specs.Tables.{nobody, at}
 use Rattle.surf_cotree.specs.Searches.{heaviest, flag, outside, reached, spanned_tree, IsOffered, IsWaiting}

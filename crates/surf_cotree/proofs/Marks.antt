@@ -1,7 +1,6 @@
 -- Marks on the edges that lead up in a tree, while it grows.
 use Rattle.std.proofs.Common.{ℕ, suc, ◌<◌, ◌≡◌, ◌≢◌, refl, sym, ap, ◌∙◌, inl, inr, List, length, set, Bool, true, false, not, ◌&&◌, ◌||◌, eqb, eq-eqb, ne_eqb, eqb-true, get_or-set_same, get_or-set_other}
-use Rattle.std.proofs.lemmas.Bool.{cases_eq, cases_Bool, and_parts, false≢true}
-use Rattle.surf_z2.proofs.ParityLaws.{any_below-found, any_below-from, any_below-same}
+use Rattle.surf_surfaces.proofs.Common.{cases_eq, cases_Bool, and_parts, false≢true, any_below-found, any_below-from, any_below-same}
 use Rattle.surf_base.specs.Tables.{nobody, at}
 use Rattle.surf_cotree.specs.Searches.{flag, outside}
 use Rattle.surf_cotree.specs.Peeling.{Leaf, leaf_at, left_after}

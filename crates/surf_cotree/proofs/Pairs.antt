@@ -1,9 +1,6 @@
 use Rattle.std.proofs.Common.{ℕ, ◌<◌, ◌≤◌, ◌≡◌, ◌+◌, ◌-◌, ◌⊎◌, refl, sym, ap, ◌∙◌, subst, arith, inl, inr, List, length, set, Option, Some, None, replicate, Bool, true, false, cond, eq-eqb, ne_eqb, get_or-set_same, get_or-set_other}
 use Rattle.std.proofs.Math.ListN.{length-set, length-replicate}
-use Rattle.std.proofs.lemmas.Bool.{cases_eq, cases_lt, lt-ltb, le-ltb}
-use Rattle.std.proofs.lemmas.List.{get_or-replicate, get_or_past}
-use Rattle.surf_graphs.specs.Graphs.{Graph}
-use Rattle.surf_graphs.proofs.Loops.{joins_turned}
+use Rattle.surf_surfaces.proofs.Common.{cases_eq, cases_lt, lt-ltb, le-ltb, get_or-replicate, get_or_past, Graph, joins_turned}
 use Rattle.surf_heap.specs.Entries.{Entries, entry_of, lesser, precedes, IsUpTo}
 use Rattle.surf_mesh.specs.Links.{link_at, IsRow}
 use Rattle.surf_base.specs.Tables.{nobody}

@@ -1,12 +1,5 @@
 -- The links of the sides of a face, in the order of their numbers.
-use Rattle.std.proofs.Common.{ℕ, ◌<◌, ◌≤◌, ◌≡◌, ◌+◌, ◌-◌, List, length, arith, map}
-use Rattle.std.specs.List.{range_with_len}
-use Rattle.std.proofs.lemmas.List.FromFn.{get_or-map-range_with_len, length-map-range_with_len}
-use Rattle.surf_graphs.specs.Cells.{dual}
-use Rattle.surf_surfaces.specs.Mesh.{Mesh}
-use Rattle.surf_surfaces.specs.Surface.{IsSurface, face_count, face_at}
-use Rattle.surf_surfaces.specs.SideNumber.{first_side}
-use Rattle.surf_surfaces.specs.Cells.{cells_of}
+use Rattle.surf_surfaces.proofs.Common.{ℕ, ◌<◌, ◌≤◌, ◌≡◌, ◌+◌, ◌-◌, List, length, arith, map, range_with_len, get_or-map-range_with_len, length-map-range_with_len, dual, Mesh, IsSurface, face_count, face_at, first_side, cells_of}
 use Rattle.surf_mesh.specs.Links.{link_at, side_link, IsRow}
 use Rattle.surf_mesh.proofs.LinkLaws.{side_row}
 

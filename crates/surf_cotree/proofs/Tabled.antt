@@ -1,20 +1,8 @@
 -- What the tables of a desk hold.
 use Rattle.std.proofs.Common.{ℕ, ◌<◌, ◌≤◌, ◌≡◌, ◌≢◌, ◌+◌, ◌⊎◌, refl, sym, ap, ◌∙◌, subst, arith, inl, inr, List, length, filter, get_or, Bool, true, false, cond, not, ◌&&◌, eqb, eq-eqb, ne_eqb, Some, None}
-use Rattle.std.specs.List.{range_with_len}
-use Rattle.std.proofs.lemmas.Bool.{cases_eq, not-true, and_parts}
-use Rattle.std.proofs.lemmas.Bool.Decides.{nat_tests}
-use Rattle.surf_z2.specs.Parity.{any_below}
-use Rattle.surf_z2.proofs.ParityLaws.{any_below-same}
-use Rattle.surf_graphs.specs.Cells.{dual, IsSplit}
-use Rattle.surf_graphs.specs.Trees.{Tree, in_tree}
-use Rattle.surf_graphs.proofs.Trees.{tree_edge}
+use Rattle.surf_surfaces.proofs.Common.{range_with_len, cases_eq, not-true, and_parts, nat_tests, any_below, any_below-same, dual, IsSplit, Tree, in_tree, tree_edge, left_edges as left_count, Mesh, edge_count, face_count, faces_of, IsSurface, loop_count, cells_of, loop_length}
 use Rattle.surf_graphs.proofs.CellLaws.{outside_joins}
-use Rattle.surf_graphs.proofs.Counting.{left_edges as left_count}
 use Rattle.surf_signatures.proofs.Passing.{passing_same}
-use Rattle.surf_surfaces.specs.Mesh.{Mesh}
-use Rattle.surf_surfaces.specs.Surface.{edge_count, face_count, faces_of, IsSurface, loop_count}
-use Rattle.surf_surfaces.specs.Cells.{cells_of}
-use Rattle.surf_surfaces.specs.Loop.{loop_length}
 use Rattle.surf_surfaces.specs.Cotree.{tree_edges, cotree_edges, is_left, left_edges, split_of, precedes, IsHeaviestCotree}
 use Rattle.surf_surfaces.proofs.CellLaws.{surfaces_are_cells}
 use Rattle.surf_surfaces.proofs.CotreeLaws.{trees_split, not-false_is, between_inside}

@@ -1,20 +1,8 @@
 -- The least vertex at which a round is shortest, found by searches from the lesser ends of some edges.
-use Rattle.std.proofs.Common.{◌≡◌, ◌≢◌, ℕ, ◌+◌, ◌^◌, ◌<◌, ◌≤◌, ◌⊎◌, true, refl, List, Option, None, Some, length, map, get_or, slice_index, bit_xor, sym, ap, ◌∙◌, subst, arith, inl, inr}
-use Rattle.std.specs.Prelude.{MatchOption}
-use Rattle.std.proofs.lemmas.Bool.{cases_eq, cases_lt}
-use Rattle.std.proofs.lemmas.List.{length-map, get_or-map}
+use Rattle.surf_surfaces.proofs.Common.{◌≡◌, ◌≢◌, ℕ, ◌+◌, ◌^◌, ◌<◌, ◌≤◌, ◌⊎◌, true, refl, List, Option, None, Some, length, map, get_or, slice_index, bit_xor, sym, ap, ◌∙◌, subst, arith, inl, inr, MatchOption, cases_eq, cases_lt, length-map, get_or-map, has, Split, IsSplit, primal, joins, Tree, joins_ends, Mesh, IsSurface, ends, cells_of, ArePositive}
 use Rattle.std.proofs.lemmas.Option.{none-some, same_Some}
-use Rattle.surf_z2.specs.Sieve.{has}
-use Rattle.surf_graphs.specs.Cells.{Split, IsSplit, primal}
-use Rattle.surf_graphs.specs.Graphs.{joins}
-use Rattle.surf_graphs.specs.Trees.{Tree}
-use Rattle.surf_graphs.proofs.Loops.{joins_ends}
-use Rattle.surf_surfaces.specs.Mesh.{Mesh}
-use Rattle.surf_surfaces.specs.Surface.{IsSurface, ends}
-use Rattle.surf_surfaces.specs.Cells.{cells_of}
 use Rattle.surf_surfaces.proofs.CellLaws.{ends_below}
 use Rattle.surf_surfaces.proofs.ClassLaws.{some_vertex}
-use Rattle.surf_surfaces.specs.Walk.{ArePositive}
 use Rattle.surf_classes.specs.Cover.{IsSet, IsSignedDistance, AreSignedDistances}
 use Rattle.surf_classes.proofs.Reached.{way_to, signed_distances_exist}
 use Rattle.surf_classes.proofs.SignedSteps.{xor_set, nearest_from, nearest_to}

@@ -1,18 +1,8 @@
 -- The cover by a table of signatures is the cover.
-use Rattle.std.proofs.Common.{◌≡◌, ◌≢◌, ℕ, ◌*◌, ◌/◌, ◌<◌, ◌≤◌, Bool, true, false, not, ◌&&◌, cond, eqb, List, length, map, slice_index, bit_xor, sym, ap, ◌∙◌, subst, arith, inl, inr}
-use Rattle.std.proofs.lemmas.Bool.{cases_lt, cases_Bool, and_parts, eqb-true, eq-eqb, ne_eqb}
-use Rattle.std.proofs.lemmas.List.{length-map, get_or-map, get_or_past}
-use Rattle.std.proofs.lemmas.Simd.{map-map}
-use Rattle.std.proofs.lemmas.Nat.{div_below, div-mul-add}
-use Rattle.surf_z2.proofs.ParityLaws.{any_below-found}
+use Rattle.surf_surfaces.proofs.Common.{◌≡◌, ◌≢◌, ℕ, ◌*◌, ◌/◌, ◌<◌, ◌≤◌, Bool, true, false, not, ◌&&◌, cond, eqb, List, length, map, slice_index, bit_xor, sym, ap, ◌∙◌, subst, arith, inl, inr, cases_lt, cases_Bool, and_parts, eqb-true, eq-eqb, ne_eqb, length-map, get_or-map, get_or_past, map-map, div_below, div-mul-add, any_below-found, Tree, IsTree, in_tree, Mesh, edge_count, ends, IsSurface, cells_of, edge_signature}
 use Rattle.surf_z2.proofs.Below.{same_from, number_of-none}
 use Rattle.surf_graphs.specs.Cells.{Split, IsSplit, primal, dual, signature, parts}
 use Rattle.surf_graphs.specs.Graphs.{Graph, IsGraph, IsConnectedGraph, joins}
-use Rattle.surf_graphs.specs.Trees.{Tree, IsTree, in_tree}
-use Rattle.surf_surfaces.specs.Mesh.{Mesh}
-use Rattle.surf_surfaces.specs.Surface.{edge_count, ends, IsSurface}
-use Rattle.surf_surfaces.specs.Cells.{cells_of}
-use Rattle.surf_surfaces.specs.Signature.{edge_signature}
 use Rattle.surf_surfaces.proofs.CellLaws.{ends_below}
 use Rattle.surf_classes.specs.Cover.{IsSet, IsCertified}
 use Rattle.surf_classes.specs.CoverGraph.{set_count, cover, cover_node, cover_edge, cover_length}

@@ -1,18 +1,8 @@
 -- What a search over the cover has reached within a radius are the least lengths of walks by their signatures.
-use Rattle.std.proofs.Common.{◌≡◌, ◌≢◌, ℕ, zero, suc, ◌+◌, ◌-◌, ◌*◌, ◌/◌, ◌<◌, ◌≤◌, Bool, true, false, cond, eqb, List, [], ◌∷◌, slice_index, bit_xor, refl, sym, ap, ◌∙◌, subst, arith, inl, inr}
-use Rattle.std.proofs.lemmas.Bool.{cases_eq}
+use Rattle.surf_surfaces.proofs.Common.{◌≡◌, ◌≢◌, ℕ, zero, suc, ◌+◌, ◌-◌, ◌*◌, ◌/◌, ◌<◌, ◌≤◌, Bool, true, false, cond, eqb, List, [], ◌∷◌, slice_index, bit_xor, refl, sym, ap, ◌∙◌, subst, arith, inl, inr, cases_eq, Split, IsSplit, primal, IsJoined, edge_between, edge_between_is, joins_turned, Mesh, edge_count, ends, IsSurface, ArePositive, edge_length, cells_of, edge_signature}
 use Rattle.std.proofs.lemmas.Nat.{div_below, div-mul-add, same_from_place}
-use Rattle.surf_graphs.specs.Cells.{Split, IsSplit, primal}
-use Rattle.surf_graphs.specs.Graphs.{IsJoined, edge_between}
-use Rattle.surf_graphs.proofs.Graphs.{edge_between_is}
-use Rattle.surf_graphs.proofs.Loops.{joins_turned}
 use Rattle.surf_graphs.proofs.Trees.{joined_in}
 use Rattle.surf_lengths.specs.Lengths.{longest}
-use Rattle.surf_surfaces.specs.Mesh.{Mesh}
-use Rattle.surf_surfaces.specs.Surface.{edge_count, ends, IsSurface}
-use Rattle.surf_surfaces.specs.Walk.{ArePositive, edge_length}
-use Rattle.surf_surfaces.specs.Cells.{cells_of}
-use Rattle.surf_surfaces.specs.Signature.{edge_signature}
 use Rattle.surf_surfaces.proofs.CellLaws.{surfaces_are_cells}
 use Rattle.surf_classes.specs.Cover.{IsSet, IsSignedDistance}
 use Rattle.surf_classes.specs.CoverGraph.{set_count, cover, cover_node, cover_edge, cover_length}

@@ -1,12 +1,5 @@
 -- What is found over the cover by the signatures of a signed tree of faces.
-use Rattle.std.proofs.Common.{◌≡◌, ◌≢◌, ℕ, ◌+◌, ◌*◌, ◌<◌, ◌≤◌, List, length, slice_index, ◌∙◌, subst, arith}
-use Rattle.std.proofs.lemmas.Nat.{row_fits}
-use Rattle.surf_graphs.specs.Cells.{IsSplit}
-use Rattle.surf_graphs.specs.Trees.{Tree}
-use Rattle.surf_surfaces.specs.Mesh.{Mesh}
-use Rattle.surf_surfaces.specs.Surface.{edge_count, IsSurface}
-use Rattle.surf_surfaces.specs.Walk.{ArePositive}
-use Rattle.surf_surfaces.specs.Cells.{cells_of}
+use Rattle.surf_surfaces.proofs.Common.{◌≡◌, ◌≢◌, ℕ, ◌+◌, ◌*◌, ◌<◌, ◌≤◌, List, length, slice_index, ◌∙◌, subst, arith, row_fits, IsSplit, Tree, Mesh, edge_count, IsSurface, ArePositive, cells_of}
 use Rattle.surf_classes.proofs.SignedSteps.{edge_set}
 use Rattle.surf_classes.proofs.Tables.{certified_tables_are_distances}
 use Rattle.surf_cotree.specs.Tables.{CotreeTables, split_with}

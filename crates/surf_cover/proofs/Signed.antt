@@ -1,16 +1,6 @@
 -- What a signed tree of faces has, and the steps of a walk from a place on.
-use Rattle.std.proofs.Common.{◌≡◌, ℕ, suc, ◌+◌, ◌^◌, ◌<◌, ◌≤◌, List, ◌∷◌, length, get_or, slice_index, drop, map, All, sym, ap, ◌∙◌, subst, arith}
-use Rattle.std.specs.List.{range_with_len}
-use Rattle.std.proofs.Math.Nat.{pow-le-pow_right}
+use Rattle.surf_surfaces.proofs.Common.{◌≡◌, ℕ, suc, ◌+◌, ◌^◌, ◌<◌, ◌≤◌, List, ◌∷◌, length, get_or, slice_index, drop, map, All, sym, ap, ◌∙◌, subst, arith, range_with_len, pow-le-pow_right, get_or-map-range_with_len, length-map-range_with_len, IsSplit, Tree, left_edges, Mesh, steps, edge_count, face_count, loop_count, cells_of, edge_signature}
 use Rattle.std.proofs.Math.Seq.{drop-cons}
-use Rattle.std.proofs.lemmas.List.FromFn.{get_or-map-range_with_len, length-map-range_with_len}
-use Rattle.surf_graphs.specs.Cells.{IsSplit}
-use Rattle.surf_graphs.specs.Trees.{Tree}
-use Rattle.surf_graphs.proofs.Counting.{left_edges}
-use Rattle.surf_surfaces.specs.Mesh.{Mesh, steps}
-use Rattle.surf_surfaces.specs.Surface.{edge_count, face_count, loop_count}
-use Rattle.surf_surfaces.specs.Cells.{cells_of}
-use Rattle.surf_surfaces.specs.Signature.{edge_signature}
 use Rattle.surf_classes.specs.CoverGraph.{set_count}
 use Rattle.surf_classes.proofs.SignedSteps.{edge_set}
 use Rattle.surf_cotree.specs.Grown.{IsGrownOn}

@@ -1,12 +1,5 @@
 -- From the least vertex at which a round is shortest the chosen walk is read back.
-use Rattle.std.proofs.Common.{◌≡◌, ℕ, ◌<◌, ◌≤◌, List, ◌∷◌, reverse, sym, ◌∙◌, subst, arith, inl, inr}
-use Rattle.std.proofs.lemmas.Bool.{cases_lt}
-use Rattle.surf_graphs.specs.Cells.{Split, IsSplit}
-use Rattle.surf_surfaces.specs.Mesh.{Mesh}
-use Rattle.surf_surfaces.specs.Surface.{IsSurface}
-use Rattle.surf_surfaces.specs.Walk.{ArePositive, IsClosed, walk_length}
-use Rattle.surf_surfaces.specs.Cells.{cells_of}
-use Rattle.surf_surfaces.specs.Signature.{walk_signature}
+use Rattle.surf_surfaces.proofs.Common.{◌≡◌, ℕ, ◌<◌, ◌≤◌, List, ◌∷◌, reverse, sym, ◌∙◌, subst, arith, inl, inr, cases_lt, Split, IsSplit, Mesh, IsSurface, ArePositive, IsClosed, walk_length, cells_of, walk_signature}
 use Rattle.surf_classes.specs.Cover.{IsSet, IsSignedDistance, AreSignedDistances, IsLeastBase, IsReadBack}
 use Rattle.surf_classes.specs.Shortest.{IsChosenWalk}
 use Rattle.surf_classes.proofs.Reached.{signed_distances_exist}

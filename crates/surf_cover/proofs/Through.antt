@@ -1,12 +1,5 @@
 -- Rounds by way of a vertex, and their lengths by the distances from there.
-use Rattle.std.proofs.Common.{◌≡◌, ℕ, true, ◌+◌, ◌<◌, ◌≤◌, List, ◌++◌, bit_xor, subst, arith}
-use Rattle.surf_z2.specs.Sieve.{has}
-use Rattle.surf_graphs.specs.Cells.{Split, primal}
-use Rattle.surf_surfaces.specs.Mesh.{Mesh}
-use Rattle.surf_surfaces.specs.Surface.{IsSurface}
-use Rattle.surf_surfaces.specs.Walk.{edge_length}
-use Rattle.surf_surfaces.specs.Cells.{cells_of}
-use Rattle.surf_surfaces.specs.Signature.{edge_signature}
+use Rattle.surf_surfaces.proofs.Common.{◌≡◌, ℕ, true, ◌+◌, ◌<◌, ◌≤◌, List, ◌++◌, bit_xor, subst, arith, has, Split, primal, Mesh, IsSurface, edge_length, cells_of, edge_signature}
 use Rattle.surf_classes.specs.Cover.{IsSet, AreSignedDistances}
 use Rattle.surf_classes.proofs.Rounds.{Signed, turn}
 use Rattle.surf_classes.proofs.SignedWalks.{turned, goes-append, xor_on, xor_off}

@@ -1,10 +1,8 @@
 -- Searches that go no farther than a radius: what is listed, and what they have reached at the end.
-use Rattle.std.proofs.Common.{ℕ, ◌<◌, ◌≤◌, ◌≡◌, ◌≢◌, ◌+◌, ◌*◌, ◌++◌, refl, sym, ap, ◌∙◌, arith, inl, inr, List, [], ◌∷◌, length, set, get_or-set_same, get_or-set_other}
+use Rattle.surf_surfaces.proofs.Common.{ℕ, ◌<◌, ◌≤◌, ◌≡◌, ◌≢◌, ◌+◌, ◌*◌, ◌++◌, refl, sym, ap, ◌∙◌, arith, inl, inr, List, [], ◌∷◌, length, set, get_or-set_same, get_or-set_other, cases_eq, cases_lt, Graph}
 use Rattle.std.proofs.Math.ListN.{length-set}
-use Rattle.std.proofs.lemmas.Bool.{cases_eq, cases_lt}
 use Rattle.std.proofs.lemmas.List.{length-append, get_or_append_left, get_or_at}
 use Rattle.surf_base.specs.Tables.{at}
-use Rattle.surf_graphs.specs.Graphs.{Graph}
 use Rattle.surf_heap.specs.Entries.{Entries}
 use Rattle.surf_lengths.specs.Lengths.{longest}
 use Rattle.surf_tree.specs.Searches.{far, IsSearchable, IsSettled}

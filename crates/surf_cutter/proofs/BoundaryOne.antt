@@ -1,8 +1,5 @@
 -- A disc has one list of its border sides in one round.
-use Rattle.std.proofs.Common.{◌≡◌, ℕ, zero, suc, ◌+◌, ◌<◌, inl, inr, sym, subst, ◌∙◌, List, length, get_or, arith}
-use Rattle.std.proofs.lemmas.Bool.{cases_order}
-use Rattle.std.proofs.lemmas.List.{get_or_default, same_lists}
-use Rattle.surf_surfaces.specs.Mesh.{Mesh}
+use Rattle.surf_surfaces.proofs.Common.{◌≡◌, ℕ, zero, suc, ◌+◌, ◌<◌, inl, inr, sym, subst, ◌∙◌, List, length, get_or, arith, cases_order, get_or_default, same_lists, Mesh}
 use Rattle.surf_cutter.specs.Boundary.{corners_of, IsOtherAt, IsOnward, IsBoundary}
 
 other_one : (mesh : Mesh) (c s t u : ℕ) → IsOtherAt mesh c s t → IsOtherAt mesh c s u → t ≡ u

@@ -1,13 +1,6 @@
 -- What is opened along the full cut, or the trimmed one, is the chosen opening.
-use Rattle.std.proofs.Common.{◌≡◌, ℕ, ◌+◌, ◌<◌, not, sym, ap, ◌∙◌, List, length, Bool, true, false, Result, arith}
-use Rattle.std.specs.Prelude.{All, IfOk}
-use Rattle.std.proofs.lemmas.List.Elements.{All-contains}
-use Rattle.std.proofs.lemmas.Result.{IfOk-weaker}
-use Rattle.surf_graphs.specs.Trees.{Tree}
-use Rattle.surf_surfaces.specs.Cotree.{cotree_edges}
+use Rattle.surf_surfaces.proofs.Common.{◌≡◌, ℕ, ◌+◌, ◌<◌, not, sym, ap, ◌∙◌, List, length, Bool, true, false, Result, arith, All, IfOk, All-contains, IfOk-weaker, Tree, cotree_edges, Mesh, face_count, edge_count, IsSurface}
 use Rattle.surf_surfaces.specs.Disc.{IsOpening}
-use Rattle.surf_surfaces.specs.Mesh.{Mesh}
-use Rattle.surf_surfaces.specs.Surface.{face_count, edge_count, IsSurface}
 use Rattle.surf_opening.specs.ChosenCut.{AreDivided, AreInOrder}
 use Rattle.surf_opening.specs.Laws.{TellsCut}
 use Rattle.surf_opening.specs.Named.{whole}

@@ -1,9 +1,7 @@
 -- The sides that begin at a vertex have one label, which is numbered.
-use Rattle.std.proofs.Common.{◌≡◌, ◌≢◌, ℕ, zero, suc, ◌+◌, ◌-◌, ◌<◌, ◌^◌, sym, subst, ap, ◌∙◌, List, ◌∷◌, [], ◌++◌, length, get_or, arith}
+use Rattle.surf_surfaces.proofs.Common.{◌≡◌, ◌≢◌, ℕ, zero, suc, ◌+◌, ◌-◌, ◌<◌, ◌^◌, sym, subst, ap, ◌∙◌, List, ◌∷◌, [], ◌++◌, length, get_or, arith, Mesh, side_count}
 use Rattle.std.proofs.Math.ListN.{set}
 use Rattle.std.proofs.lemmas.List.{length-set, get_or-set_same}
-use Rattle.surf_surfaces.specs.Mesh.{Mesh}
-use Rattle.surf_surfaces.specs.SideNumber.{side_count}
 use Rattle.surf_soup.specs.Ring.{IsRing}
 use Rattle.surf_soup.specs.Vertices.{sides_at}
 use Rattle.surf_soup.proofs.CornerSides.{at_begins, begins_at, at_rises}

@@ -1,14 +1,7 @@
 -- Faces over numbered labels are opened along the uncut edges, with their copies in order.
-use Rattle.std.proofs.Common.{◌≡◌, ℕ, ◌+◌, ◌<◌, ◌≤◌, inl, inr, sym, subst, ap, ◌∙◌, List, [], length, get_or, map, Bool, All, Contains, arith}
-use Rattle.std.proofs.lemmas.Bool.{cases_eq, cases_lt, cases_order}
-use Rattle.std.proofs.lemmas.List.{get_or_default, same_lists, length-map, get_or-map}
-use Rattle.std.proofs.lemmas.List.Elements.{All-from_get_or}
-use Rattle.surf_surfaces.specs.Joined.{Joined}
-use Rattle.surf_surfaces.specs.Mesh.{Mesh}
-use Rattle.surf_surfaces.specs.Surface.{face_count, face_at, IsSurface}
+use Rattle.surf_surfaces.proofs.Common.{◌≡◌, ℕ, ◌+◌, ◌<◌, ◌≤◌, inl, inr, sym, subst, ap, ◌∙◌, List, [], length, get_or, map, Bool, All, Contains, arith, cases_eq, cases_lt, cases_order, get_or_default, same_lists, length-map, get_or-map, All-from_get_or, Joined, Mesh, face_count, face_at, IsSurface, side_count, first_side, IsFaceOf}
 use Rattle.surf_opening.specs.ChosenCut.{AreInOrder}
 use Rattle.surf_opening.specs.Opening.{ShareUncutAt, IsOpenedBy}
-use Rattle.surf_surfaces.specs.SideNumber.{side_count, first_side, IsFaceOf}
 use Rattle.surf_soup.specs.Vertices.{all_corners}
 use Rattle.surf_soup.proofs.HalfLaws.{spans}
 use Rattle.surf_soup.proofs.CornerSides.{one_corner}

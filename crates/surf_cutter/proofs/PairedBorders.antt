@@ -1,13 +1,7 @@
 -- The border sides of an opening are the cut sides of the surface, two at each of their copies.
-use Rattle.std.proofs.Common.{◌≡◌, ℕ, ◌+◌, ◌<◌, ◌↔◌, inl, inr, sym, refl, subst, ap, ◌∙◌, Bool, List, [], length, get_or, take, zero, suc, ◌≤◌, arith}
-use Rattle.std.specs.List.{sum_by}
+use Rattle.surf_surfaces.proofs.Common.{◌≡◌, ℕ, ◌+◌, ◌<◌, ◌↔◌, inl, inr, sym, refl, subst, ap, ◌∙◌, Bool, List, [], length, get_or, take, zero, suc, ◌≤◌, arith, sum_by, IsDisc, here, Mesh, pair, after, face_count, face_at, ends, faces_with, HasEdge, IsSurface, first_side, IsFaceOf, IsEdgeOf, side_count, pair_at}
 use Rattle.std.proofs.lemmas.List.Sums.{sum_by_more}
 use Rattle.std.proofs.Math.Seq.{take-length}
-use Rattle.surf_surfaces.specs.Disc.{IsDisc}
-use Rattle.surf_surfaces.specs.Joined.{here}
-use Rattle.surf_surfaces.specs.Mesh.{Mesh, pair}
-use Rattle.surf_surfaces.specs.Side.{after}
-use Rattle.surf_surfaces.specs.Surface.{face_count, face_at, ends, faces_with, HasEdge, IsSurface}
 use Rattle.surf_opening.specs.Opening.{corner_of, IsOpenedBy}
 use Rattle.surf_opening.proofs.SideWords.{IsOpenedAlong, IsSides}
 use Rattle.surf_opening.specs.Rim.{along, back}
@@ -25,7 +19,6 @@ use Rattle.surf_opening.proofs.OpeningLaw.{surface_sides, opened_along, is_disc}
 use Rattle.surf_opening.proofs.Polygons.{pair_is, pair_among, among_pair}
 use Rattle.surf_opening.proofs.Trim.{IsOpen, trimmed_is_open}
 use Rattle.surf_opening.proofs.TwoLeaves.{trimmed_are}
-use Rattle.surf_surfaces.specs.SideNumber.{first_side, IsFaceOf, IsEdgeOf, side_count, pair_at}
 use Rattle.surf_soup.proofs.SideNumbers.{pair_at_place, face_has_side, one_face}
 use Rattle.surf_soup.proofs.VertexLaws.{placed}
 use Rattle.surf_slit.specs.Labels.{IsUncut}

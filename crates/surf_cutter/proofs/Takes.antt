@@ -1,15 +1,9 @@
 -- Taking a cut back to given vertices.
 use Rattle.std.proofs.Common.{◌≡◌, ◌≢◌, ℕ, ◌+◌, ◌<◌, ◌≤◌, inl, inr, refl, sym, subst, ap, ◌∙◌, eqb, List, length, take, get_or, Bool, true, false, not, ◌||◌, arith, ne_eqb}
 use Rattle.std.proofs.Math.ListN.{set}
-use Rattle.std.proofs.lemmas.Bool.{cases_eq, eq-eqb, or_right}
+use Rattle.surf_surfaces.proofs.Common.{cases_eq, eq-eqb, or_right, Contains, count_below, Chain, Tree, Mesh, edge_count, IsSurface}
 use Rattle.std.proofs.lemmas.List.{get_or-set_same, get_or-set_other}
 use Rattle.std.proofs.lemmas.List.Folds.{list_any_more, list_any_at}
-use Rattle.std.specs.Prelude.{Contains}
-use Rattle.surf_z2.specs.Parity.{count_below}
-use Rattle.surf_z2.specs.Space.{Chain}
-use Rattle.surf_graphs.specs.Trees.{Tree}
-use Rattle.surf_surfaces.specs.Mesh.{Mesh}
-use Rattle.surf_surfaces.specs.Surface.{edge_count, IsSurface}
 use Rattle.surf_opening.specs.ChosenCut.{AreDivided, full_cut}
 use Rattle.surf_opening.specs.Laws.{cut_count, without}
 use Rattle.surf_opening.proofs.ChosenOpenings.{some_list}

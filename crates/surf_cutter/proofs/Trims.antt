@@ -1,14 +1,9 @@
 -- Counts of cut edges while a cut is trimmed.
 use Rattle.std.proofs.Common.{◌≡◌, ◌≢◌, ℕ, suc, ◌+◌, ◌-◌, ◌<◌, ◌≤◌, ◌⊎◌, ◌&&◌, not, inl, inr, sym, refl, subst, ap, ◌∙◌, eqb, List, ◌∷◌, length, get_or, Bool, true, false, IsTrue, arith, ne_eqb}
 use Rattle.std.proofs.Math.ListN.{set}
-use Rattle.std.proofs.lemmas.Bool.{cases_eq, cases_lt, and_from, and_parts, eq-eqb}
+use Rattle.surf_surfaces.proofs.Common.{cases_eq, cases_lt, and_from, and_parts, eq-eqb, Chain, count_below-same, count_below-without, eqb_comm, Mesh, pair, edge_count, ends, touches, IsSurface, slice_index}
 use Rattle.std.proofs.lemmas.List.{get_or-set_same, get_or-set_other, length-set, get_or_default}
-use Rattle.surf_z2.specs.Space.{Chain}
-use Rattle.surf_z2.proofs.Sums.{count_below-same, count_below-without}
-use Rattle.surf_z2.proofs.ParityLaws.{eqb_comm}
 use Rattle.surf_z2.proofs.Counting.{count_found}
-use Rattle.surf_surfaces.specs.Mesh.{Mesh, pair}
-use Rattle.surf_surfaces.specs.Surface.{edge_count, ends, touches, IsSurface}
 use Rattle.surf_surfaces.proofs.CellLaws.{ends_below}
 use Rattle.surf_surfaces.proofs.FaceLaws.{pair_comm}
 use Rattle.surf_opening.specs.Laws.{TellsCut, cut_count, without}
@@ -19,7 +14,6 @@ use Rattle.surf_opening.proofs.CutCounts.{trimming_by_greatest_goes_on}
 use Rattle.surf_soup.specs.Ring.{AreEdgesAt}
 use Rattle.surf_slit.proofs.VertexLabels.{an_end}
 use Rattle.surf_cutter.specs.Trimming.{is_cut, AreDegrees, IsTakenBack, IsTrimmedFrom, HasNoLeafFrom, HasEndedBy}
-use Rattle.std.specs.Prelude.{slice_index}
 
 -- while more than two edges are cut, no vertex from low on but this one has exactly one (HasNoLeafFrom is of all)
 abbrev pub HasNoOtherLeaf : Mesh → ℕ → ℕ → List ℕ → ℕ → Type 0

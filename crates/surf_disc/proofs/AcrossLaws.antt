@@ -1,15 +1,8 @@
 -- What lies across a side is read from the row of its edge.
-use Rattle.std.proofs.Common.{◌≡◌, ℕ, ◌+◌, ◌<◌, ◌≤◌, ◌⊎◌, true, eqb, List, [], ◌∷◌, ◌++◌, length, get_or, refl, sym, ap}
-use Rattle.std.proofs.Common.{subst, ◌∙◌, arith, inl, inr}
-use Rattle.std.specs.List.{range_with_len}
-use Rattle.std.proofs.lemmas.Bool.{cases_eq, cases_Bool, eq-eqb, eqb-true, ne_eqb}
-use Rattle.std.proofs.lemmas.List.{get_or_push, get_or_append_left, get_or_read, length_push}
-use Rattle.std.proofs.lemmas.List.FromFn.{length-range_with_len, get_or-range_with_len}
-use Rattle.surf_surfaces.specs.Mesh.{Mesh, IsMesh, pair_eq}
+use Rattle.surf_surfaces.proofs.Common.{◌≡◌, ℕ, ◌+◌, ◌<◌, ◌≤◌, ◌⊎◌, true, eqb, List, [], ◌∷◌, ◌++◌, length, get_or, refl, sym, ap, subst, ◌∙◌, arith, inl, inr, range_with_len, cases_eq, cases_Bool, eq-eqb, eqb-true, ne_eqb, get_or_push, get_or_append_left, get_or_read, length_push, length-range_with_len, get_or-range_with_len, Mesh, IsMesh, pair_eq, side_count, pair_at, sides_with}
 use Rattle.surf_surfaces.proofs.PairLaws.{pair_eq-self}
 use Rattle.surf_surfaces.proofs.EdgeLaws.{list_any_at}
 use Rattle.surf_soup.specs.EdgeTable.{IsEdgeTable}
-use Rattle.surf_surfaces.specs.SideNumber.{side_count, pair_at, sides_with}
 use Rattle.surf_soup.proofs.Mates.{member_filter, with_pair}
 use Rattle.surf_soup.proofs.Paired.{rows_len, row_is, row_degree, side_below}
 use Rattle.surf_disc.specs.Across.{NoneCrowded, other_of, IsAcross, AreAcrossUpTo}

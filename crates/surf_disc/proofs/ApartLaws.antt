@@ -1,15 +1,8 @@
 -- Rows of the faces across the sides of each face lead where shared edges do.
-use Rattle.std.proofs.Common.{◌≡◌, ◌≢◌, ℕ, ◌+◌, ◌-◌, ◌<◌, Bool, true, false, List, [], length, get_or, sym, ap, subst}
-use Rattle.std.proofs.Common.{◌∙◌, arith, inl, inr}
+use Rattle.surf_surfaces.proofs.Common.{◌≡◌, ◌≢◌, ℕ, ◌+◌, ◌-◌, ◌<◌, Bool, true, false, List, [], length, get_or, sym, ap, subst, ◌∙◌, arith, inl, inr, true≢false, cases_eq, cases_lt, get_or_default, get_or_past, Joined, here, over, Mesh, face_count, face_at, has_side, Share, IsConnected, first_side, IsFaceOf, side_count, pair_at}
 use Rattle.std.specs.List.{All}
-use Rattle.std.proofs.lemmas.Bool.{true≢false, cases_eq, cases_lt}
-use Rattle.std.proofs.lemmas.List.{get_or_default, get_or_past}
-use Rattle.surf_surfaces.specs.Joined.{Joined, here, over}
 use Rattle.surf_surfaces.proofs.JoinedLaws.{joined_lift}
-use Rattle.surf_surfaces.specs.Mesh.{Mesh}
-use Rattle.surf_surfaces.specs.Surface.{face_count, face_at, has_side, Share, IsConnected}
 use Rattle.surf_soup.specs.Apart.{AreAcross, IsLeastApart}
-use Rattle.surf_surfaces.specs.SideNumber.{first_side, IsFaceOf, side_count, pair_at}
 use Rattle.surf_soup.specs.Reach.{Leads, marked, IsReach}
 use Rattle.surf_soup.proofs.ApartLaws.{all_joined}
 use Rattle.surf_soup.proofs.HalfLaws.{spans}

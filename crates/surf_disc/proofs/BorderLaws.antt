@@ -1,25 +1,16 @@
 -- The border: rows of the vertices along border edges, and what a walk over them reaches.
-use Rattle.std.proofs.Common.{◌≡◌, ℕ, ◌+◌, ◌*◌, ◌<◌, ◌≤◌, ◌⊎◌, Bool, true, eqb, List, [], ◌∷◌, ◌++◌, length, get_or}
-use Rattle.std.proofs.Common.{take, refl, sym, ap, subst, ◌∙◌, arith, inl, inr}
+use Rattle.surf_surfaces.proofs.Common.{◌≡◌, ℕ, ◌+◌, ◌*◌, ◌<◌, ◌≤◌, ◌⊎◌, Bool, true, eqb, List, [], ◌∷◌, ◌++◌, length, get_or, take, refl, sym, ap, subst, ◌∙◌, arith, inl, inr, true≢false, cases_eq, cases_lt, eq-eqb, eqb-true, ne_eqb, or_cases, or_left, or_right, lt-ltb, le-ltb, get_or_past, length-map, length_push, take_more, Joined, here, over, Mesh, IsMesh, pair, edges, ends, faces_with, place_of, side_count, pair_at, sides_with, owners}
 use Rattle.std.specs.List.{All, flat_map, list_any, sum_by}
-use Rattle.std.proofs.lemmas.Bool.{true≢false, cases_eq, cases_lt, eq-eqb, eqb-true, ne_eqb, or_cases, or_left}
-use Rattle.std.proofs.lemmas.Bool.{or_right, lt-ltb, le-ltb}
 use Rattle.std.proofs.lemmas.Grind.{flat_map-append}
 use Rattle.std.proofs.lemmas.List.{append_assoc, append-nil, get_or_push, get_or_append_left, get_or_default}
-use Rattle.std.proofs.lemmas.List.{get_or_past, length-map, length_push, take_more}
 use Rattle.std.proofs.lemmas.List.Concat.{flat_map-cons}
 use Rattle.surf_surfaces.specs.Disc.{IsBorderEdge, ShareOnBorder}
-use Rattle.surf_surfaces.specs.Joined.{Joined, here, over}
-use Rattle.surf_surfaces.specs.Mesh.{Mesh, IsMesh, pair, edges}
-use Rattle.surf_surfaces.specs.Surface.{ends, faces_with}
-use Rattle.surf_surfaces.specs.Walk.{place_of}
 use Rattle.surf_surfaces.proofs.EdgeLaws.{list_any_at, list_any_from, list_any-append, list_any-flat_map}
 use Rattle.surf_surfaces.proofs.EdgeLaws.{place_of-among}
 use Rattle.surf_surfaces.proofs.FaceLaws.{pair_comm}
 use Rattle.surf_surfaces.proofs.JoinedLaws.{joined_trans, joined_closed}
 use Rattle.surf_soup.specs.Reach.{Leads, marked, IsReach}
 use Rattle.surf_soup.specs.Ring.{BeginsAt}
-use Rattle.surf_surfaces.specs.SideNumber.{side_count, pair_at, sides_with, owners}
 use Rattle.surf_soup.specs.Vertices.{all_corners, sides_at}
 use Rattle.surf_soup.proofs.EdgeTables.{pair_at-edge}
 use Rattle.surf_soup.proofs.HalfLaws.{spans}

@@ -1,12 +1,6 @@
 -- Where all corners of a vertex are marked it has one fan, and the first that isn't is a pinch.
-use Rattle.std.proofs.Common.{◌≡◌, ℕ, ◌+◌, ◌<◌, ◌≤◌, Bool, true, false, List, length, get_or, sym, ap, subst, ◌∙◌}
-use Rattle.std.proofs.Common.{arith, inl, inr}
-use Rattle.std.proofs.lemmas.Bool.{true≢false, cases_eq}
-use Rattle.surf_surfaces.specs.Joined.{Joined}
+use Rattle.surf_surfaces.proofs.Common.{◌≡◌, ℕ, ◌+◌, ◌<◌, ◌≤◌, Bool, true, false, List, length, get_or, sym, ap, subst, ◌∙◌, arith, inl, inr, true≢false, cases_eq, Joined, Mesh, HasCorner, ShareAt, HasOneFan, IsFaceOf, side_count}
 use Rattle.surf_surfaces.proofs.JoinedLaws.{joined_trans, joined_sym}
-use Rattle.surf_surfaces.specs.Mesh.{Mesh}
-use Rattle.surf_surfaces.specs.Surface.{HasCorner, ShareAt, HasOneFan}
-use Rattle.surf_surfaces.specs.SideNumber.{IsFaceOf, side_count}
 use Rattle.surf_soup.specs.Reach.{marked}
 use Rattle.surf_soup.specs.Ring.{IsPinch, IsLeastPinch}
 use Rattle.surf_soup.specs.Vertices.{sides_at, AllMet}

@@ -1,8 +1,5 @@
 -- A disc has no fault.
-use Rattle.std.proofs.Common.{◌≡◌, ◌+◌, refl, ap, sym, ◌∙◌, length, arith}
-use Rattle.surf_surfaces.specs.Disc.{IsDisc}
-use Rattle.surf_surfaces.specs.Mesh.{Mesh}
-use Rattle.surf_surfaces.specs.Surface.{faces_with}
+use Rattle.surf_surfaces.proofs.Common.{◌≡◌, ◌+◌, refl, ap, sym, ◌∙◌, length, arith, IsDisc, Mesh, faces_with}
 use Rattle.surf_disc.specs.Fault.{IsDiscFault}
 use Rattle.surf_disc.specs.declared.faults.BorderKind.TheVariants.{Nothing, Two}
 use Rattle.surf_disc.specs.declared.faults.DiscFault.{DiscFault}

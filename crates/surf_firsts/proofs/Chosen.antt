@@ -1,14 +1,11 @@
 -- A list that is the greedy choice from another.
 use Rattle.std.proofs.Common.{◌≡◌, zero, suc, Bool, true, false, not, List, [], ◌∷◌, ◌++◌, map, filter, Contains, Decides, refl, sym, ap, ◌∙◌, subst, arith, inl, inr}
-use Rattle.std.specs.List.{AllByRecursion}
-use Rattle.std.proofs.lemmas.Bool.{cases_Bool, false≢true}
+use Rattle.surf_surfaces.proofs.Common.{AllByRecursion, cases_Bool, false≢true, All-from_recursion, All-contains, Sorted}
 use Rattle.std.proofs.lemmas.List.{append_assoc, append-nil}
-use Rattle.std.proofs.lemmas.List.Elements.{All-from_recursion, All-contains}
 use Rattle.surf_z2.specs.Space.{Space}
 use Rattle.surf_z2.specs.Greedy.{spans, greedy_after}
 use Rattle.surf_z2.proofs.Basics.{in_left, in_right}
 use Rattle.surf_z2.proofs.Greedy.{spans_from_in, not_spans}
-use Rattle.surf_z2.proofs.Merge.{Sorted}
 use Rattle.surf_z2.proofs.Passing.{filter_none}
 use Rattle.surf_z2.proofs.Span.{InSpan, Free, zero_in, head_in, add_in, cancel}
 

@@ -1,25 +1,8 @@
 -- The greedy choice from the loops of edges that are at most so long.
-use Rattle.std.proofs.Common.{◌≡◌, ◌≢◌, ℕ, zero, suc, ◌≤◌, Bool, true, false, not, cond, List, [], ◌∷◌, map, filter, Contains, refl, sym, ap, ◌∙◌, subst, arith, inl, inr}
-use Rattle.std.specs.List.{AllByRecursion}
-use Rattle.std.proofs.lemmas.Bool.{cases_Bool, false≢true, leb-true, le-leb}
-use Rattle.std.proofs.lemmas.Bool.Decides.{nat_tests}
-use Rattle.std.proofs.lemmas.Simd.{map-map}
-use Rattle.std.proofs.lemmas.List.Elements.{recursion_from_All, All-from_recursion, All-contains}
-use Rattle.surf_z2.specs.Greedy.{greedy}
+use Rattle.surf_surfaces.proofs.Common.{◌≡◌, ◌≢◌, ℕ, zero, suc, ◌≤◌, Bool, true, false, not, cond, List, [], ◌∷◌, map, filter, Contains, refl, sym, ap, ◌∙◌, subst, arith, inl, inr, AllByRecursion, cases_Bool, false≢true, leb-true, le-leb, nat_tests, map-map, recursion_from_All, All-from_recursion, All-contains, greedy, Sorted, sorted_from_order, Decides-is_nothing, InSpan, Free, zero_in, free_from_independent, Split, IsSplit, Mesh, IsSurface, IsClosed, ArePositive, cells_of, class_of, loop_walk, loop_length, Trees, AreChosenAt, Loop, comes_before, walks, loop_at, loops_at, IsGreedyChoice}
 use Rattle.surf_z2.specs.Space.{Space, numbers, is_nothing, Independent}
-use Rattle.surf_z2.proofs.Merge.{Sorted, sorted_from_order}
-use Rattle.surf_z2.proofs.Numbers.{Decides-is_nothing}
 use Rattle.surf_z2.proofs.Passing.{all_filtered, sorted_filtered}
 use Rattle.surf_z2.proofs.Ranks.{free_filter}
-use Rattle.surf_z2.proofs.Span.{InSpan, Free, zero_in, free_from_independent}
-use Rattle.surf_graphs.specs.Cells.{Split, IsSplit}
-use Rattle.surf_surfaces.specs.Mesh.{Mesh}
-use Rattle.surf_surfaces.specs.Surface.{IsSurface}
-use Rattle.surf_surfaces.specs.Walk.{IsClosed, ArePositive}
-use Rattle.surf_surfaces.specs.Cells.{cells_of}
-use Rattle.surf_surfaces.specs.Class.{class_of}
-use Rattle.surf_surfaces.specs.Loop.{loop_walk, loop_length}
-use Rattle.surf_surfaces.specs.Choice.{Trees, AreChosenAt, Loop, comes_before, walks, loop_at, loops_at, IsGreedyChoice}
 use Rattle.surf_surfaces.proofs.ClassLaws.{some_split, independent_by_classes, null_by_class}
 use Rattle.surf_surfaces.proofs.GreedyChoiceLaws.{AreClosed, greedy_is_choice}
 use Rattle.surf_surfaces.proofs.LeastLaws.{all_each, all_mapped}

@@ -1,30 +1,13 @@
 -- The loop of each edge at a base is a sum of chosen loops there that come no later.
 use Rattle.std.proofs.Common.{◌≡◌, ℕ, ◌<◌, true, false, not, eqb-true, List, length, get_or, map, Contains, refl, sym, ap, ◌∙◌, subst, arith, inl, inr}
-use Rattle.std.specs.List.{AllByRecursion}
-use Rattle.std.proofs.lemmas.Bool.{cases_Bool, false≢true}
-use Rattle.std.proofs.lemmas.Bool.Decides.{nat_tests}
-use Rattle.std.proofs.lemmas.Simd.{map-map}
-use Rattle.std.proofs.lemmas.List.Elements.{Contains-get_or}
-use Rattle.std.proofs.lemmas.List.Sorted.{Contains-permutation}
+use Rattle.surf_surfaces.proofs.Common.{AllByRecursion, cases_Bool, false≢true, nat_tests, map-map, Contains-get_or, Contains-permutation, same_from, InSpan, in_from_spanned, spanned_from_in, primal, dual, Split, IsSplit, signature, chain_signature, signature_of, loop, in_tree, Mesh, edge_count, IsSurface, IsClosed, ArePositive, parity, cells_of, class_of, loop_walk, loop_length, Trees, AreChosenAt, Loop, comes_before, walks, loop_at, loops_at, DependsOn}
 use Rattle.surf_z2.specs.Space.{Chain, chains, numbers}
-use Rattle.surf_z2.proofs.Below.{same_from}
 use Rattle.surf_z2.proofs.Linear.{sum_over, over_in, linear-sum_over}
 use Rattle.surf_z2.proofs.Merge.{sorted-permutes}
 use Rattle.surf_z2.proofs.Passing.{all_filtered, member_in}
-use Rattle.surf_z2.proofs.Span.{InSpan, in_from_spanned, spanned_from_in}
-use Rattle.surf_graphs.specs.Cells.{primal, dual, Split, IsSplit, signature, chain_signature}
-use Rattle.surf_graphs.specs.Independence.{signature_of}
-use Rattle.surf_graphs.specs.Trees.{loop, in_tree}
 use Rattle.surf_graphs.proofs.Independence.{signature_of-same, signature_of-linear, over_signature}
 use Rattle.surf_graphs.proofs.Lengths.{loop_signature, sum_of_left}
-use Rattle.surf_surfaces.specs.Mesh.{Mesh}
-use Rattle.surf_surfaces.specs.Surface.{edge_count, IsSurface}
-use Rattle.surf_surfaces.specs.Walk.{IsClosed, ArePositive, parity}
-use Rattle.surf_surfaces.specs.Cells.{cells_of}
-use Rattle.surf_surfaces.specs.Class.{class_of}
-use Rattle.surf_surfaces.specs.Loop.{loop_walk, loop_length}
 use Rattle.surf_surfaces.specs.Cotree.{is_left, left_edges, split_of, precedes}
-use Rattle.surf_surfaces.specs.Choice.{Trees, AreChosenAt, Loop, comes_before, walks, loop_at, loops_at, DependsOn}
 use Rattle.surf_surfaces.proofs.CoveredLaws.{contains-map}
 use Rattle.surf_surfaces.proofs.CellLaws.{surfaces_are_cells}
 use Rattle.surf_surfaces.proofs.ClassLaws.{RunsLoop, runs_loop}

@@ -1,8 +1,6 @@
 -- The two closed walks of which a loop is the sum, each over the loop's root.
-use Rattle.std.proofs.Common.{◌≡◌, ℕ, zero, suc, ◌+◌, ◌<◌, ◌≤◌, Bool, true, eqb, sym, ap, ◌∙◌, subst, arith, inl, inr, ◌⊎◌, refl, List, [], ◌∷◌, ◌++◌, Contains}
-use Rattle.surf_z2.specs.Parity.{xor}
+use Rattle.surf_surfaces.proofs.Common.{◌≡◌, ℕ, zero, suc, ◌+◌, ◌<◌, ◌≤◌, Bool, true, eqb, sym, ap, ◌∙◌, subst, arith, inl, inr, ◌⊎◌, refl, List, [], ◌∷◌, ◌++◌, Contains, xor, Graph, IsGraph, joins, IsGraphWalk, walk_chain, graph_walk_length}
 use Rattle.surf_z2.proofs.ParityLaws.{xor_comm, xor_assoc, xor_meet}
-use Rattle.surf_graphs.specs.Graphs.{Graph, IsGraph, joins, IsGraphWalk, walk_chain, graph_walk_length}
 use Rattle.surf_graphs.specs.Trees.{Tree, IsTree, on_path, loop, IsShortest, graph_loop_length}
 use Rattle.surf_graphs.specs.Loops.{IsSimple, way_down, way_up}
 use Rattle.surf_graphs.proofs.Trees.{joined_below, joined_in}

@@ -1,13 +1,8 @@
 -- What the code of chains needs of numbers and lists.
-use Rattle.std.proofs.Common.{◌≡◌, ℕ, ◌+◌, ◌-◌, ◌*◌, ◌<◌, ◌≤◌, not, List, [], ◌∷◌, ◌++◌, length, get_or, map, take, drop, slice_index, sym, ap, ◌∙◌, arith}
-use Rattle.std.specs.List.{list_any, sum_by}
-use Rattle.std.specs.Prelude.{◌==◌}
+use Rattle.surf_surfaces.proofs.Common.{◌≡◌, ℕ, ◌+◌, ◌-◌, ◌*◌, ◌<◌, ◌≤◌, not, List, [], ◌∷◌, ◌++◌, length, get_or, map, take, drop, slice_index, sym, ap, ◌∙◌, arith, list_any, sum_by, ◌==◌, mul-le, Mesh, face_count, face_at}
 use Rattle.std.proofs.lemmas.List.{append_assoc, map-append, get_or_default}
 use Rattle.std.proofs.lemmas.List.Sums.{sum_by-cons, sum_by-append}
-use Rattle.std.proofs.lemmas.Nat.{mul-le}
 use Rattle.surf_z2.proofs.Counting.{count_few}
-use Rattle.surf_surfaces.specs.Mesh.{Mesh}
-use Rattle.surf_surfaces.specs.Surface.{face_count, face_at}
 use Rattle.surf_tori.specs.Torus.{torus}
 use Rattle.surf_tori.specs.ConnectedSum.{others_before}
 use Rattle.surf_tori.specs.Chain.{longer_chain}

@@ -1,8 +1,6 @@
 -- Lengths that are made from a number are positive, and the product behind each has 64 bits.
-use Rattle.std.proofs.Common.{◌≢◌, ℕ, ◌+◌, ◌*◌, ◌^◌, ◌<◌, List, [], ◌∷◌, map, All, arith}
-use Rattle.std.specs.List.{AllByRecursion, range_with_len}
+use Rattle.surf_surfaces.proofs.Common.{◌≢◌, ℕ, ◌+◌, ◌*◌, ◌^◌, ◌<◌, List, [], ◌∷◌, map, All, arith, AllByRecursion, range_with_len, All-from_recursion}
 use Rattle.std.proofs.lemmas.Nat.{mul-lt}
-use Rattle.std.proofs.lemmas.List.Elements.{All-from_recursion}
 use Rattle.surf_gen.specs.Made.{made_length}
 
 pub spread_fits : (scatter edge : ℕ) → scatter < 2 ^ 32 → edge < 2 ^ 29 → scatter * (7 * edge + 13) < 2 ^ 64

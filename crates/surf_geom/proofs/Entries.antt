@@ -1,12 +1,6 @@
 -- The lines of a written length file, and what each of them says.
-use Rattle.std.proofs.Common.{◌≡◌, ◌<◌, ◌+◌, ◌^◌, ℕ, false, List, [], ◌∷◌, ◌++◌, Some, None, Option, Ok, refl, sym, ◌∙◌, ap, append_assoc, arith, codes}
-use Rattle.std.specs.Prelude.{decimal}
-use Rattle.std.specs.Str.{bytes_eq}
-use Rattle.std.proofs.lemmas.Bool.{lt-ltb, le-leb, false_from_ne_true}
-use Rattle.std.proofs.lemmas.List.{append-nil}
+use Rattle.surf_surfaces.proofs.Common.{◌≡◌, ◌<◌, ◌+◌, ◌^◌, ℕ, false, List, [], ◌∷◌, ◌++◌, Some, None, Option, Ok, refl, sym, ◌∙◌, ap, append_assoc, arith, codes, decimal, bytes_eq, lt-ltb, le-leb, false_from_ne_true, append-nil, Mesh, edge_count, ends}
 use Rattle.std.proofs.lemmas.Slice.Eq.{bytes_eq-Decides}
-use Rattle.surf_surfaces.specs.Mesh.{Mesh}
-use Rattle.surf_surfaces.specs.Surface.{edge_count, ends}
 use Rattle.surf_text.specs.Text.{tokens_of, whole}
 use Rattle.surf_off.specs.Clean.{IsClean}
 use Rattle.surf_off.proofs.Decimals.{whole_decimal}

@@ -1,8 +1,6 @@
 -- Lengths that are measured are positive.
-use Rattle.std.proofs.Common.{◌≡◌, ◌≢◌, ℕ, List, Ok, eqb, ◌∙◌, inl, inr}
-use Rattle.std.specs.Prelude.{nat_lt}
+use Rattle.surf_surfaces.proofs.Common.{◌≡◌, ◌≢◌, ℕ, List, Ok, eqb, ◌∙◌, inl, inr, nat_lt, cases_Bool, eqb-false}
 use Rattle.std.specs.List.{All}
-use Rattle.std.proofs.lemmas.Bool.{cases_Bool, eqb-false}
 use Rattle.surf_lengths.specs.Lengths.{longest}
 use Rattle.surf_geom.specs.declared.points.Point.{Point}
 use Rattle.surf_geom.specs.Lists.{each}

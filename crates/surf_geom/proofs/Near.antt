@@ -1,10 +1,8 @@
 -- Coordinates that are read are in range, and so are the squares of distances.
-use Rattle.std.proofs.Common.{◌≡◌, ℕ, zero, suc, ◌*◌, ◌^◌, ◌<◌, ◌≤◌, Bool, true, false, List, length, Option, Some, None, Result, Ok, Err, refl, sym, ap, ◌∙◌, subst, arith, inl, inr}
+use Rattle.surf_surfaces.proofs.Common.{◌≡◌, ℕ, zero, suc, ◌*◌, ◌^◌, ◌<◌, ◌≤◌, Bool, true, false, List, length, Option, Some, None, Result, Ok, Err, refl, sym, ap, ◌∙◌, subst, arith, inl, inr, cases_Bool, cases_lt, le-ltb, mul-le}
 use Rattle.std.specs.Prelude.{ℤ, ◌-ℤ◌, unsigned_abs, not, slice_get, slice_index_or, []}
 use Rattle.std.specs.List.{All, range_with_len}
-use Rattle.std.proofs.lemmas.Bool.{cases_Bool, cases_lt, le-ltb}
 use Rattle.std.proofs.lemmas.Int.{ints}
-use Rattle.std.proofs.lemmas.Nat.{mul-le}
 use Rattle.surf_text.specs.Text.{tokens_of}
 use Rattle.surf_geom.specs.declared.fault.FixedFault.{FixedFault}
 use Rattle.surf_geom.specs.declared.fault.GeomFault.{GeomFault}

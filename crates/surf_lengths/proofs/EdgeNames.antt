@@ -1,13 +1,8 @@
 -- The edge between two vertices, by their numbers.
-use Rattle.std.proofs.Common.{◌≡◌, ℕ, ◌<◌, ◌≤◌, ◌⊎◌, true, false, Some, None, Option, MatchOption, IfSome, refl, sym, ap, ◌∙◌, arith, inl, inr}
-use Rattle.std.proofs.lemmas.Bool.{cases_lt, lt-ltb, le-ltb, false_from_ne_true}
-use Rattle.surf_surfaces.specs.Mesh.{Mesh, IsMesh, pair, among, edges}
-use Rattle.surf_surfaces.specs.Surface.{edge_count, ends}
-use Rattle.surf_surfaces.specs.Walk.{edge_number, place_of}
+use Rattle.surf_surfaces.proofs.Common.{◌≡◌, ℕ, ◌<◌, ◌≤◌, ◌⊎◌, true, false, Some, None, Option, MatchOption, IfSome, refl, sym, ap, ◌∙◌, arith, inl, inr, cases_lt, lt-ltb, le-ltb, false_from_ne_true, Mesh, IsMesh, pair, among, edges, edge_count, ends, edge_number, place_of, pair_eq}
 use Rattle.surf_surfaces.proofs.SurfaceLaws.{edge_below}
 use Rattle.surf_surfaces.proofs.EdgeLaws.{place_of-ends, list_any_from}
 use Rattle.surf_surfaces.proofs.PairLaws.{pair_eq-same}
-use Rattle.surf_surfaces.specs.Mesh.{pair_eq}
 use Rattle.surf_lengths.specs.Lines.{edge_named}
 
 -- a number that is no vertex is no end of an edge

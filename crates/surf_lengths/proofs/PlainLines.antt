@@ -1,10 +1,7 @@
 -- Plain lines `u v n`.
 use Rattle.std.proofs.Common.{◌≡◌, ◌<◌, ◌≤◌, ◌+◌, ◌-◌, ◌⊎◌, ◌||◌, ℕ, Bool, true, false, eqb, ne_eqb, eqb-true, List, [], ◌∷◌, ◌++◌, length, length-append, append_assoc, take, All, Some, refl, sym, ◌∙◌, ap, arith, inl, inr}
-use Rattle.std.specs.List.{AllByRecursion, list_all, position_or_len, slice_split}
+use Rattle.surf_surfaces.proofs.Common.{AllByRecursion, list_all, position_or_len, slice_split, and_parts, or_cases, or_right, append-nil, take_all, All-from_recursion}
 use Rattle.std.specs.Char.{is_ascii_digit}
-use Rattle.std.proofs.lemmas.Bool.{and_parts, or_cases, or_right}
-use Rattle.std.proofs.lemmas.List.{append-nil, take_all}
-use Rattle.std.proofs.lemmas.List.Elements.{All-from_recursion}
 use Rattle.std.proofs.lemmas.List.Folds.{list_all-append}
 use Rattle.std.proofs.lemmas.List.Splits.{slice_split_at, slice_split_none}
 use Rattle.std.proofs.Math.Seq.{take-append_seam}

@@ -1,8 +1,5 @@
 -- Lengths are positive.
-use Rattle.std.proofs.Common.{◌≡◌, ℕ, List, length, arith}
-use Rattle.surf_surfaces.specs.Mesh.{Mesh}
-use Rattle.surf_surfaces.specs.Surface.{edge_count}
-use Rattle.surf_surfaces.specs.Walk.{ArePositive}
+use Rattle.surf_surfaces.proofs.Common.{◌≡◌, ℕ, List, length, arith, Mesh, edge_count, ArePositive}
 use Rattle.surf_lengths.specs.Lengths.{AreLengths}
 
 pub lengths_positive : (mesh : Mesh) (lengths : List ℕ) → AreLengths lengths → length lengths ≡ edge_count mesh →

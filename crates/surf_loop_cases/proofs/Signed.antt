@@ -1,12 +1,5 @@
 -- A desk that found loops and then signed the edges, and a mesh with two loops.
-use Rattle.std.proofs.Common.{◌≡◌, ◌≤◌, ◌+◌, ◌*◌, ◌^◌, map, sym, ap, ◌∙◌, subst, arith}
-use Rattle.std.specs.List.{range_with_len}
-use Rattle.surf_graphs.specs.Cells.{IsSplit}
-use Rattle.surf_graphs.specs.Trees.{Tree}
-use Rattle.surf_surfaces.specs.Cells.{cells_of}
-use Rattle.surf_surfaces.specs.Mesh.{Mesh}
-use Rattle.surf_surfaces.specs.Signature.{edge_signature}
-use Rattle.surf_surfaces.specs.Surface.{edge_count, face_count, loop_count}
+use Rattle.surf_surfaces.proofs.Common.{◌≡◌, ◌≤◌, ◌+◌, ◌*◌, ◌^◌, map, sym, ap, ◌∙◌, subst, arith, range_with_len, IsSplit, Tree, cells_of, Mesh, edge_signature, edge_count, face_count, loop_count}
 use Rattle.surf_cotree.specs.Grown.{IsGrownOn}
 use Rattle.surf_cotree.specs.Tables.{AreCotreeTables, parent_edge_of, split_with}
 use Rattle.surf_loops.specs.Loops.{LoopTables}

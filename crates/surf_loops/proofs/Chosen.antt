@@ -1,25 +1,11 @@
 -- The loops that a desk holds are those that are chosen.
-use Rattle.std.proofs.Common.{ℕ, ◌<◌, ◌≤◌, ◌≡◌, ◌≢◌, ◌^◌, ◌||◌, ◌&&◌, refl, sym, ap, ◌∙◌, subst, arith, inl, inr, List, [], ◌∷◌, length, map, get_or, true, false, eqb, ltb, All, IsPermutation}
+use Rattle.surf_surfaces.proofs.Common.{ℕ, ◌<◌, ◌≤◌, ◌≡◌, ◌≢◌, ◌^◌, ◌||◌, ◌&&◌, refl, sym, ap, ◌∙◌, subst, arith, inl, inr, List, [], ◌∷◌, length, map, get_or, true, false, eqb, ltb, All, IsPermutation, cases_lt, eq-eqb, ne_eqb, false≢true, nat_tests, get_or-map, length-map, get_or_default, recursion_from_All, IsInOrder, primal, IsSplit, IsTree, Mesh, edge_count, IsSurface, cells_of, ArePositive, IsClosed, IsIndependent, loop_length, loop_walk, Trees, Loop, AreChosenAt, comes_before, loop_at, loops_at}
 use Rattle.std.specs.List.{AllByRecursion, IsDistinct}
 use Rattle.std.specs.List.Sorted.{IsNonDecreasingBy}
-use Rattle.std.proofs.lemmas.Bool.{cases_lt, eq-eqb, ne_eqb, false≢true}
-use Rattle.std.proofs.lemmas.Bool.Decides.{nat_tests}
-use Rattle.std.proofs.lemmas.List.{get_or-map, length-map, get_or_default}
-use Rattle.std.proofs.lemmas.List.Elements.{recursion_from_All}
 use Rattle.std.proofs.lemmas.List.Sorted.{IsPermutation-map, IsPermutation-sym, IsPermutation-trans, All-permutation, length_permutation}
 use Rattle.std.proofs.lemmas.Map.Keys.{apart_from_distinct, IsDistinct-from_apart, IsDistinct-IsPermutation}
-use Rattle.surf_z2.specs.Order.{IsInOrder}
 use Rattle.surf_z2.proofs.Merge.{merge_law, sorted-permutes, order_from_sorted}
-use Rattle.surf_graphs.specs.Cells.{primal, IsSplit}
-use Rattle.surf_graphs.specs.Trees.{IsTree}
-use Rattle.surf_surfaces.specs.Mesh.{Mesh}
-use Rattle.surf_surfaces.specs.Surface.{edge_count, IsSurface}
-use Rattle.surf_surfaces.specs.Cells.{cells_of}
-use Rattle.surf_surfaces.specs.Walk.{ArePositive, IsClosed}
-use Rattle.surf_surfaces.specs.Homology.{IsIndependent}
-use Rattle.surf_surfaces.specs.Loop.{loop_length, loop_walk}
 use Rattle.surf_surfaces.specs.Cotree.{left_edges}
-use Rattle.surf_surfaces.specs.Choice.{Trees, Loop, AreChosenAt, comes_before, loop_at, loops_at}
 use Rattle.surf_surfaces.proofs.ShortestTreeLaws.{shortest_is_tree}
 use Rattle.surf_surfaces.proofs.ClassLaws.{independent_walks_are_few}
 use Rattle.surf_surfaces.proofs.LoopsAtLaws.{comes_before-trans, comes_before-strict, loops-sorted, loops_are_least}

@@ -1,11 +1,6 @@
 -- The lengths of loops are numbers of 64 bits.
-use Rattle.std.proofs.Common.{ℕ, ◌≡◌, ◌<◌, ◌≤◌, ◌^◌, inl, inr, arith, List, length, slice_index}
-use Rattle.std.proofs.lemmas.Bool.{cases_lt}
-use Rattle.std.proofs.lemmas.List.{get_or_past}
+use Rattle.surf_surfaces.proofs.Common.{ℕ, ◌≡◌, ◌<◌, ◌≤◌, ◌^◌, inl, inr, arith, List, length, slice_index, cases_lt, get_or_past, Mesh, ends, loop_length}
 use Rattle.surf_lengths.specs.Lengths.{longest, AreLengths}
-use Rattle.surf_surfaces.specs.Mesh.{Mesh}
-use Rattle.surf_surfaces.specs.Surface.{ends}
-use Rattle.surf_surfaces.specs.Loop.{loop_length}
 use Rattle.surf_tree.specs.Tables.{TreeTables, AreTreeTables, tree_of}
 use Rattle.surf_cotree.specs.Searches.{heaviest}
 

@@ -1,11 +1,6 @@
 -- What the trees of a desk have for each vertex and each face, as rows of a certificate.
-use Rattle.std.proofs.Common.{◌≡◌, ℕ, ◌+◌, ◌<◌, ◌^◌, List, [], ◌∷◌, ◌++◌, length, map, None, refl, sym, ap, ◌∙◌, subst, arith, inl, inr}
-use Rattle.std.specs.List.{range_with_len}
-use Rattle.std.proofs.lemmas.Bool.{cases_eq, ne_eqb, eq-eqb}
+use Rattle.surf_surfaces.proofs.Common.{◌≡◌, ℕ, ◌+◌, ◌<◌, ◌^◌, List, [], ◌∷◌, ◌++◌, length, map, None, refl, sym, ap, ◌∙◌, subst, arith, inl, inr, range_with_len, cases_eq, ne_eqb, eq-eqb, Mesh, edge_count, face_count, ends, IsSurface, ArePositive}
 use Rattle.std.proofs.lemmas.List.FromFn.{map-range_with_len_more}
-use Rattle.surf_surfaces.specs.Mesh.{Mesh}
-use Rattle.surf_surfaces.specs.Surface.{edge_count, face_count, ends, IsSurface}
-use Rattle.surf_surfaces.specs.Walk.{ArePositive}
 use Rattle.surf_surfaces.specs.Cotree.{left_edges}
 use Rattle.surf_surfaces.proofs.ShortestTreeLaws.{shortest_is_tree}
 use Rattle.surf_validity.specs.Rows.{TreeRows, DualRows, LoopCert}

@@ -1,23 +1,14 @@
 -- Ways in a tree, and marked trees.
-use Rattle.std.proofs.Common.{ℕ, ◌<◌, ◌≡◌, ◌≢◌, sym, ap, ◌∙◌, subst, inl, inr, List, [], ◌∷◌, ◌++◌, reverse, length, get_or, slice_index, Option, Some, None, Bool}
-use Rattle.std.proofs.lemmas.Bool.{cases_eq}
-use Rattle.std.proofs.lemmas.List.{get_or_default}
-use Rattle.surf_graphs.specs.Trees.{Tree}
+use Rattle.surf_surfaces.proofs.Common.{ℕ, ◌<◌, ◌≡◌, ◌≢◌, sym, ap, ◌∙◌, subst, inl, inr, List, [], ◌∷◌, ◌++◌, reverse, length, get_or, slice_index, Option, Some, None, Bool, cases_eq, get_or_default, Tree, primal, Mesh, cells_of, ArePositive, loop_walk, edge_count, ends, IsSurface}
 use Rattle.surf_graphs.specs.Loops.{way_down, way_up}
 use Rattle.surf_graphs.proofs.Ways.{ways_go_by_parents}
 use Rattle.surf_graphs.proofs.Turned.{way_reversed}
-use Rattle.surf_graphs.specs.Cells.{primal}
-use Rattle.surf_surfaces.specs.Mesh.{Mesh}
-use Rattle.surf_surfaces.specs.Cells.{cells_of}
-use Rattle.surf_surfaces.specs.Walk.{ArePositive}
-use Rattle.surf_surfaces.specs.Loop.{loop_walk}
 use Rattle.surf_surfaces.proofs.ShortestTreeLaws.{shortest_is_tree}
 use Rattle.surf_tree.specs.Tables.{TreeTables, tree_of, parent_of}
 use Rattle.surf_tree.specs.Grown.{IsGrown as IsTreeGrown}
 use Rattle.surf_cotree.specs.Tables.{CotreeTables}
 use Rattle.surf_cotree.specs.Grown.{IsGrown as IsCotreeGrown, IsMarked}
 use Rattle.surf_loops.specs.Loops.{IsRooted}
-use Rattle.surf_surfaces.specs.Surface.{edge_count, ends, IsSurface}
 
 -- what comes after a vertex on the way up
 pub record IsBelow (t : TreeTables) (n at parent : ℕ) : Type 0 where

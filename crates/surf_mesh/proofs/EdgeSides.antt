@@ -1,9 +1,5 @@
 -- The faces of an edge by its least side and the mate of that.
-use Rattle.std.proofs.Common.{◌≡◌, ◌≢◌, ℕ, ◌<◌, List, length, get_or, map, refl, sym, ap, ◌∙◌, arith}
-use Rattle.std.proofs.lemmas.List.{get_or-map}
-use Rattle.surf_surfaces.specs.Mesh.{Mesh, IsMesh, edges}
-use Rattle.surf_surfaces.specs.Surface.{edge_count, ends, faces_with, faces_of}
-use Rattle.surf_surfaces.specs.SideNumber.{side_count, pair_at, owners, sides_with}
+use Rattle.surf_surfaces.proofs.Common.{◌≡◌, ◌≢◌, ℕ, ◌<◌, List, length, get_or, map, refl, sym, ap, ◌∙◌, arith, get_or-map, Mesh, IsMesh, edges, edge_count, ends, faces_with, faces_of, side_count, pair_at, owners, sides_with}
 use Rattle.surf_soup.specs.Half.{AreAllMates}
 use Rattle.surf_soup.specs.Pairing.{least_side}
 use Rattle.surf_soup.specs.Pairs.{HasTwoFaces}

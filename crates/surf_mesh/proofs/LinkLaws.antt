@@ -1,16 +1,5 @@
 -- Rows of links are rows of the graphs of a surface.
-use Rattle.std.proofs.Common.{◌≡◌, ◌≢◌, ℕ, ◌+◌, ◌-◌, ◌^◌, ◌<◌, ◌≤◌, true, ◌&&◌, ◌||◌, eqb, List, [], length, get_or}
-use Rattle.std.proofs.Common.{map, All, refl, sym, ap, ◌∙◌, subst, arith, inl, inr}
-use Rattle.std.specs.List.{range_with_len}
-use Rattle.std.proofs.lemmas.Bool.{cases_eq, eq-eqb, ne_eqb}
-use Rattle.std.proofs.lemmas.Bool.Decides.{nat_tests}
-use Rattle.std.proofs.lemmas.List.{get_or-map, length-map}
-use Rattle.std.proofs.lemmas.List.FromFn.{length-range_with_len, get_or-range_with_len}
-use Rattle.surf_graphs.specs.Cells.{primal, dual}
-use Rattle.surf_surfaces.specs.Cells.{cells_of}
-use Rattle.surf_surfaces.specs.Mesh.{Mesh, IsMesh, edges}
-use Rattle.surf_surfaces.specs.Surface.{face_count, face_at, edge_count, ends, faces_of, has_side, touches, IsSurface}
-use Rattle.surf_surfaces.specs.Walk.{place_of}
+use Rattle.surf_surfaces.proofs.Common.{◌≡◌, ◌≢◌, ℕ, ◌+◌, ◌-◌, ◌^◌, ◌<◌, ◌≤◌, true, ◌&&◌, ◌||◌, eqb, List, [], length, get_or, map, All, refl, sym, ap, ◌∙◌, subst, arith, inl, inr, range_with_len, cases_eq, eq-eqb, ne_eqb, nat_tests, get_or-map, length-map, length-range_with_len, get_or-range_with_len, primal, dual, cells_of, Mesh, IsMesh, edges, face_count, face_at, edge_count, ends, faces_of, has_side, touches, IsSurface, place_of}
 use Rattle.surf_surfaces.proofs.CellLaws.{ends_below}
 use Rattle.surf_surfaces.proofs.SurfaceLaws.{two_faces_of}
 use Rattle.surf_surfaces.proofs.EdgeLaws.{place_of-among, place_of-ends}

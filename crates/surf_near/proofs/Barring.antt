@@ -2,12 +2,8 @@
 use Rattle.std.proofs.Common.{◌≡◌, ℕ, ◌<◌, [], Bool, true, false, ◌||◌, if◌then◌else◌, eqb, eq-eqb, List, length, set, replicate, refl, sym, ap, ◌∙◌, subst, arith, inl, inr, get_or-set_same, get_or-set_other}
 use Rattle.std.proofs.lemmas.Bool.{cases_Bool, cases_lt, eqb-true, or_cases, or_left, or_right, or_from, or_parts}
 use Rattle.std.proofs.lemmas.List.{ext_get_or, get_or-replicate, get_or_past, length-replicate}
-use Rattle.std.proofs.lemmas.List.Elements.{All-from_get_or}
-use Rattle.std.proofs.lemmas.List.FromFn.{get_or-map-range_with_len, length-map-range_with_len}
+use Rattle.surf_surfaces.proofs.Common.{All-from_get_or, get_or-map-range_with_len, length-map-range_with_len, Mesh, edge_count, ends, edge_length}
 use Rattle.std.specs.Prelude.{slice_index_or, Contains, Option, Some, None, MatchOption, ⊤}
-use Rattle.surf_surfaces.specs.Mesh.{Mesh}
-use Rattle.surf_surfaces.specs.Surface.{edge_count, ends}
-use Rattle.surf_surfaces.specs.Walk.{edge_length}
 use Rattle.surf_lengths.specs.Lengths.{longest, IsLength, AreLengths}
 use Rattle.surf_tree.specs.Queues.{AreEven, AreUpTo, IsEvenness}
 use Rattle.surf_tree.proofs.LengthLaws.{short_lengths}

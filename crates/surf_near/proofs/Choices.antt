@@ -1,7 +1,5 @@
 -- The choice among the links of a vertex, link by link.
-use Rattle.std.proofs.Common.{ℕ, ◌<◌, ◌≤◌, ◌≡◌, ◌≢◌, ◌+◌, ◌⊎◌, min, refl, sym, ap, ◌∙◌, subst, arith, inl, inr, List, length, set, get_or-set_same, get_or-set_other}
-use Rattle.std.proofs.lemmas.Bool.{cases_eq, cases_lt}
-use Rattle.surf_graphs.specs.Graphs.{Graph}
+use Rattle.surf_surfaces.proofs.Common.{ℕ, ◌<◌, ◌≤◌, ◌≡◌, ◌≢◌, ◌+◌, ◌⊎◌, min, refl, sym, ap, ◌∙◌, subst, arith, inl, inr, List, length, set, get_or-set_same, get_or-set_other, cases_eq, cases_lt, Graph}
 use Rattle.surf_mesh.specs.Links.{link_at, IsRow}
 use Rattle.surf_base.specs.Tables.{nobody, at}
 use Rattle.surf_tree.specs.Searches.{IsTight}

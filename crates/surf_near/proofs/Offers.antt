@@ -1,6 +1,5 @@
 -- Offering the neighbours of a node as far as a radius, link by link.
-use Rattle.std.proofs.Common.{ℕ, ◌<◌, ◌≤◌, ◌≡◌, ◌≢◌, ◌+◌, arith, List, length, set, Some, refl}
-use Rattle.surf_graphs.specs.Graphs.{Graph}
+use Rattle.surf_surfaces.proofs.Common.{ℕ, ◌<◌, ◌≤◌, ◌≡◌, ◌≢◌, ◌+◌, arith, List, length, set, Some, refl, Graph}
 use Rattle.surf_heap.specs.Entries.{Entries, entry_of, lesser}
 use Rattle.surf_mesh.specs.Links.{link_at, IsRow}
 use Rattle.surf_tree.proofs.SearchWords.{IsOfferedSome}

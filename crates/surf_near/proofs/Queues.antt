@@ -1,10 +1,6 @@
 -- The list of settled nodes as a queue, where all edges have one length.
-use Rattle.std.proofs.Common.{ℕ, suc, ◌<◌, ◌≤◌, ◌≡◌, ◌≢◌, ◌+◌, ◌*◌, true, sym, ap, ◌∙◌, subst, arith, inl, inr, List, length, set, eqb, get_or-set_same, get_or-set_other}
+use Rattle.surf_surfaces.proofs.Common.{ℕ, suc, ◌<◌, ◌≤◌, ◌≡◌, ◌≢◌, ◌+◌, ◌*◌, true, sym, ap, ◌∙◌, subst, arith, inl, inr, List, length, set, eqb, get_or-set_same, get_or-set_other, cases_eq, count_below, Graph, joins, joins_turned}
 use Rattle.std.proofs.Math.ListN.{length-set}
-use Rattle.std.proofs.lemmas.Bool.{cases_eq}
-use Rattle.surf_z2.specs.Parity.{count_below}
-use Rattle.surf_graphs.specs.Graphs.{Graph, joins}
-use Rattle.surf_graphs.proofs.Loops.{joins_turned}
 use Rattle.surf_lengths.specs.Lengths.{longest}
 use Rattle.surf_mesh.specs.Links.{link_at, IsRow}
 use Rattle.surf_base.specs.Tables.{at}

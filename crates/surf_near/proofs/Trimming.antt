@@ -1,8 +1,7 @@
 -- A fringe that has what a wider one has, as far as a radius.
 use Rattle.std.proofs.Common.{ℕ, ◌<◌, ◌≤◌, ◌≡◌, refl, sym, ap, ◌∙◌, arith, inl, inr, length, set, Option, Some, None, ◌&&◌, eqb, ltb, get_or-set_same, get_or-set_other, ne_eqb}
 use Rattle.std.proofs.Math.ListN.{length-set}
-use Rattle.std.proofs.lemmas.Bool.{cases_eq, cases_lt, cases_Bool, lt-ltb, le-ltb}
-use Rattle.std.proofs.lemmas.List.{get_or_past}
+use Rattle.surf_surfaces.proofs.Common.{cases_eq, cases_lt, cases_Bool, lt-ltb, le-ltb, get_or_past}
 use Rattle.surf_heap.specs.Entries.{Entries, entry_of, lesser}
 use Rattle.surf_buckets.specs.Buckets.{IsNearestEntry}
 use Rattle.surf_tree.proofs.Settling.{no_entry}

@@ -1,9 +1,6 @@
 -- One turn of a search as far as a radius, its beginning and its end.
-use Rattle.std.proofs.Common.{ℕ, ◌<◌, ◌≤◌, ◌≡◌, ◌≢◌, ◌+◌, ◌*◌, refl, sym, ap, ◌∙◌, subst, arith, inl, inr, List, length, set, Some, None, eqb, get_or-set_same, get_or-set_other}
+use Rattle.surf_surfaces.proofs.Common.{ℕ, ◌<◌, ◌≤◌, ◌≡◌, ◌≢◌, ◌+◌, ◌*◌, refl, sym, ap, ◌∙◌, subst, arith, inl, inr, List, length, set, Some, None, eqb, get_or-set_same, get_or-set_other, cases_eq, count_below, Graph}
 use Rattle.std.proofs.Math.ListN.{length-set}
-use Rattle.std.proofs.lemmas.Bool.{cases_eq}
-use Rattle.surf_z2.specs.Parity.{count_below}
-use Rattle.surf_graphs.specs.Graphs.{Graph}
 use Rattle.surf_heap.specs.Entries.{Entries, entry_of, IsLeastEntry, IsEmpty}
 use Rattle.surf_buckets.specs.Buckets.{IsNearestEntry}
 use Rattle.surf_lengths.specs.Lengths.{longest}

@@ -1,10 +1,8 @@
 -- Marks of the vertices that were seen on a face.
 use Rattle.std.proofs.Common.{◌≡◌, ◌<◌, ◌≤◌, ◌+◌, ℕ, Bool, true, false, List, [], ◌++◌, length, length-set, get_or, set, take, drop, refl, sym, ◌∙◌, ap, arith, inl, inr}
-use Rattle.std.specs.Prelude.{◌==◌, ◌||◌}
-use Rattle.std.specs.List.{list_any}
+use Rattle.surf_surfaces.proofs.Common.{◌==◌, ◌||◌, list_any, cases_Bool, cases_eq, eqb-false, ne_eqb}
 use Rattle.std.proofs.lemmas.List.{get_or-set_same, get_or-set_other, drop_all, append-nil, take_all}
 use Rattle.std.proofs.lemmas.List.Folds.{list_any_more, list_any_at}
-use Rattle.std.proofs.lemmas.Bool.{cases_Bool, cases_eq, eqb-false, ne_eqb}
 
 -- Marks are at most the stamp, and those of the vertices in a list are the stamp.
 pub record Marked (marks : List ℕ) (stamp : ℕ) (seen : List ℕ) : Type 0 where

@@ -1,18 +1,6 @@
 -- The chosen cut is what trimming by the greatest leaves.
-use Rattle.std.specs.Prelude.{◌↔◌, IsTrue}
-use Rattle.std.proofs.Common.{◌≡◌, ◌≢◌, ℕ, zero, suc, ◌+◌, ◌<◌, ◌≤◌, ◌⊎◌, inl, inr, sym, refl, subst, ◌∙◌, Bool, true, false, List, ◌∷◌, length, arith}
-use Rattle.std.proofs.lemmas.Bool.{cases_eq, cases_order, both_ways}
-use Rattle.std.proofs.lemmas.List.Elements.{All-from_recursion, recursion_from_All}
-use Rattle.surf_z2.specs.Space.{Chain}
-use Rattle.surf_graphs.specs.Trees.{Tree}
-use Rattle.surf_graphs.proofs.Counting.{left_edges}
-use Rattle.surf_surfaces.specs.Cells.{cells_of}
-use Rattle.surf_surfaces.specs.Cotree.{tree_edges, split_of}
-use Rattle.surf_surfaces.specs.Mesh.{Mesh, pair, steps, steps_from}
-use Rattle.surf_surfaces.specs.Surface.{face_count, edge_count, ends, IsSurface}
-use Rattle.surf_surfaces.specs.Walk.{last_from}
+use Rattle.surf_surfaces.proofs.Common.{◌↔◌, IsTrue, ◌≡◌, ◌≢◌, ℕ, zero, suc, ◌+◌, ◌<◌, ◌≤◌, ◌⊎◌, inl, inr, sym, refl, subst, ◌∙◌, Bool, true, false, List, ◌∷◌, length, arith, cases_eq, cases_order, both_ways, All-from_recursion, recursion_from_All, Chain, Tree, left_edges, cells_of, tree_edges, split_of, Mesh, pair, steps, steps_from, face_count, edge_count, ends, IsSurface, last_from, degree_in}
 use Rattle.surf_opening.specs.Laws.{TellsCut, cut_count}
-use Rattle.surf_surfaces.specs.Degrees.{degree_in}
 use Rattle.surf_opening.specs.ChosenCut.{AreDivided, ListsCotree, full_cut, SameEdges, HasNoEnd, IsWithin, IsLargestEndless, IsTreeEdge, IsTreePath, IsNamedPath, AreTheTwo, IsTrimmedCut}
 use Rattle.surf_opening.specs.Named.{IsTrimmedByGreatest, IsCutPath, IsNamed}
 use Rattle.surf_opening.specs.Rim.{along, back}

@@ -1,11 +1,5 @@
 -- The opening along the chosen cut.
-use Rattle.std.specs.Prelude.{◌↔◌}
-use Rattle.std.proofs.Common.{◌≡◌, ℕ, ◌<◌, ◌∙◌, Bool, true, false, List}
-use Rattle.surf_z2.specs.Space.{Chain}
-use Rattle.surf_graphs.specs.Trees.{Tree}
-use Rattle.surf_surfaces.specs.Joined.{Joined, here, over}
-use Rattle.surf_surfaces.specs.Mesh.{Mesh}
-use Rattle.surf_surfaces.specs.Surface.{IsSurface}
+use Rattle.surf_surfaces.proofs.Common.{◌↔◌, ◌≡◌, ℕ, ◌<◌, ◌∙◌, Bool, true, false, List, Chain, Tree, Joined, here, over, Mesh, IsSurface}
 use Rattle.surf_opening.specs.Laws.{TellsCut, OpeningsInOrderExist}
 use Rattle.surf_opening.specs.Named.{IsTrimmedByGreatest, whole}
 use Rattle.surf_opening.specs.Opening.{corner_of, ShareUncutAt, IsOpenedBy}

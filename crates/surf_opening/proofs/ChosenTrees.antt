@@ -1,10 +1,5 @@
 -- The chosen opening at a base is one, whichever trees show it.
-use Rattle.std.proofs.Common.{◌≡◌, ℕ, ◌<◌, inl, inr, sym, ◌∙◌, Bool, true, false, ◌||◌, List, ◌∷◌, get_or}
-use Rattle.surf_z2.specs.Space.{Chain}
-use Rattle.surf_surfaces.specs.Choice.{Trees, AreChosenAt}
-use Rattle.surf_surfaces.specs.Mesh.{Mesh, steps}
-use Rattle.surf_surfaces.specs.Surface.{edge_count, IsSurface}
-use Rattle.surf_surfaces.specs.Walk.{ArePositive}
+use Rattle.surf_surfaces.proofs.Common.{◌≡◌, ℕ, ◌<◌, inl, inr, sym, ◌∙◌, Bool, true, false, ◌||◌, List, ◌∷◌, get_or, Chain, Trees, AreChosenAt, Mesh, steps, edge_count, IsSurface, ArePositive}
 use Rattle.surf_surfaces.proofs.CotreeLaws.{is_split}
 use Rattle.surf_surfaces.proofs.LoopsOne.{edges_same, cotrees_same, tree_is}
 use Rattle.surf_opening.specs.ChosenCut.{full_cut, IsWithin, IsTreeEdge, IsChosenCut}

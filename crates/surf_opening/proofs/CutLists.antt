@@ -1,12 +1,5 @@
 -- Sets of edges by their numbers, and lists of the edges outside them.
-use Rattle.std.proofs.Common.{◌≡◌, ℕ, zero, suc, ◌<◌, inl, inr, sym, refl, subst, ap, ◌∙◌, cond, true, false, not, List, [], ◌∷◌, arith}
-use Rattle.std.specs.Prelude.{◌↔◌}
-use Rattle.std.proofs.lemmas.Bool.{cases_eq, cases_Bool, both_ways}
-use Rattle.surf_z2.specs.Space.{Chain}
-use Rattle.surf_graphs.specs.Trees.{Tree}
-use Rattle.surf_surfaces.specs.Cotree.{tree_edges, cotree_edges}
-use Rattle.surf_surfaces.specs.Mesh.{Mesh, pair}
-use Rattle.surf_surfaces.specs.Surface.{edge_count, ends, IsSurface, HasEdge}
+use Rattle.surf_surfaces.proofs.Common.{◌≡◌, ℕ, zero, suc, ◌<◌, inl, inr, sym, refl, subst, ap, ◌∙◌, cond, true, false, not, List, [], ◌∷◌, arith, ◌↔◌, cases_eq, cases_Bool, both_ways, Chain, Tree, tree_edges, cotree_edges, Mesh, pair, edge_count, ends, IsSurface, HasEdge}
 use Rattle.surf_opening.specs.Laws.{TellsCut}
 use Rattle.surf_opening.specs.Rim.{Among, along}
 use Rattle.surf_opening.specs.Side.{Side}

@@ -1,9 +1,5 @@
 -- Paths as lists of vertices and as tables of them.
-use Rattle.std.specs.Prelude.{AllPairs, ◌≢◌}
-use Rattle.std.specs.List.{AllByRecursion}
-use Rattle.std.proofs.Common.{◌≡◌, ℕ, zero, suc, ◌<◌, ◌≤◌, refl, sym, ◌∙◌, List, [], ◌∷◌, length, get_or, arith}
-use Rattle.surf_surfaces.specs.Mesh.{steps_from}
-use Rattle.surf_surfaces.specs.Walk.{last_from}
+use Rattle.surf_surfaces.proofs.Common.{AllPairs, ◌≢◌, AllByRecursion, ◌≡◌, ℕ, zero, suc, ◌<◌, ◌≤◌, refl, sym, ◌∙◌, List, [], ◌∷◌, length, get_or, arith, steps_from, last_from}
 
 -- the n vertices of a table after the first
 abbrev pub later : (ℕ → ℕ) → ℕ → List ℕ

@@ -1,8 +1,6 @@
 -- Numbers below a bound in a strict order of their own: the rank of each is how many come before it.
-use Rattle.std.proofs.Common.{◌≡◌, ◌≢◌, ℕ, zero, suc, ◌<◌, ◌≤◌, ◌⊎◌, inl, inr, sym, refl, ap, ◌∙◌, Bool, true, false, arith}
-use Rattle.std.proofs.lemmas.Bool.{cases_eq, cases_Bool, both_ways}
+use Rattle.surf_surfaces.proofs.Common.{◌≡◌, ◌≢◌, ℕ, zero, suc, ◌<◌, ◌≤◌, ◌⊎◌, inl, inr, sym, refl, ap, ◌∙◌, Bool, true, false, arith, cases_eq, cases_Bool, both_ways, count_below-all}
 use Rattle.surf_z2.specs.Parity.{count_below, any_below, least_below}
-use Rattle.surf_z2.proofs.Sums.{count_below-all}
 use Rattle.surf_z2.proofs.Counting.{count_mono}
 use Rattle.surf_z2.proofs.ParityLaws.{any_below-found, any_below-from, least_below-found}
 use Rattle.surf_opening.proofs.Counting.{pigeons}

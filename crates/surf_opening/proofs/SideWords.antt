@@ -1,11 +1,8 @@
 -- Words on the sides of polygons, and on corners and sides that uncut edges make one.
-use Rattle.std.specs.Prelude.{◌≡◌, ◌≢◌, ℕ, ◌<◌, ◌⊎◌, List, ◌↔◌, [], length, map, All, Contains, slice_index, slice_index_or}
-use Rattle.surf_surfaces.specs.Joined.{Joined}
+use Rattle.surf_surfaces.proofs.Common.{◌≡◌, ◌≢◌, ℕ, ◌<◌, ◌⊎◌, List, ◌↔◌, [], length, map, All, Contains, slice_index, slice_index_or, Joined, Mesh, face_count, face_at}
 use Rattle.surf_opening.specs.Rim.{Among}
 use Rattle.surf_opening.proofs.RimWords.{Reaches}
 use Rattle.surf_opening.specs.Uncut.{Uncut, ShareUncut, Copy, CutSide, In}
-use Rattle.surf_surfaces.specs.Mesh.{Mesh}
-use Rattle.surf_surfaces.specs.Surface.{face_count, face_at}
 use Rattle.surf_opening.specs.Side.{Side, IsPlace}
 use Rattle.surf_opening.specs.Opening.{corner_of}
 

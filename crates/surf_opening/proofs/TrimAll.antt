@@ -1,13 +1,7 @@
 -- Trimming by the greatest goes on to its end.
 use Rattle.std.proofs.Common.{◌≡◌, ℕ, zero, suc, ◌<◌, ◌≤◌, ◌⊎◌, inl, inr, sym, subst, ap, ◌∙◌, true, not, ◌&&◌, eqb, List, ◌∷◌, arith, ne_eqb}
-use Rattle.std.proofs.lemmas.Bool.{cases_eq, cases_lt}
-use Rattle.std.specs.Prelude.{◌≢◌}
-use Rattle.surf_z2.specs.Space.{Chain}
-use Rattle.surf_z2.proofs.Sums.{count_below-same, count_below-without}
-use Rattle.surf_surfaces.specs.Mesh.{Mesh}
-use Rattle.surf_surfaces.specs.Surface.{edge_count, IsSurface}
+use Rattle.surf_surfaces.proofs.Common.{cases_eq, cases_lt, ◌≢◌, Chain, count_below-same, count_below-without, Mesh, edge_count, IsSurface, degree_in}
 use Rattle.surf_opening.specs.Laws.{TellsCut, cut_count, without}
-use Rattle.surf_surfaces.specs.Degrees.{degree_in}
 use Rattle.surf_opening.specs.Named.{IsTrimmedByGreatest}
 use Rattle.surf_opening.specs.Side.{Side}
 use Rattle.surf_opening.proofs.CutCounts.{leaf_counted, trimming_by_greatest_goes_on}

@@ -1,10 +1,7 @@
 -- The premises of the laws are met: a one-sided surface, and a turning of a torus.
 use Rattle.std.specs.Prelude.{◌≡◌, ℕ, ◌<◌, false, [], ◌∷◌, pos}
-use Rattle.std.proofs.Common.{zero, suc, refl, arith, Contains, length}
-use Rattle.std.proofs.lemmas.List.Elements.{All-from_recursion}
-use Rattle.surf_surfaces.specs.Joined.{Joined, here, over}
+use Rattle.surf_surfaces.proofs.Common.{zero, suc, refl, arith, Contains, length, All-from_recursion, Joined, here, over, ends, faces_with, HasCorner, HasEdge, ShareAt, Share, HasOneFan, IsSurface, IsOrientation}
 use Rattle.surf_surfaces.specs.Mesh.{IsMesh, IsFace, pair, steps, characteristic}
-use Rattle.surf_surfaces.specs.Surface.{ends, faces_with, HasCorner, HasEdge, ShareAt, Share, HasOneFan, IsSurface, IsOrientation}
 use Rattle.surf_surfaces.specs.Turning.{IsOneSided}
 use Rattle.surf_surfaces.proofs.SmallFaces.{square}
 use Rattle.surf_surfaces.proofs.FanLaws.{listed_faces_are_fan}

@@ -1,13 +1,9 @@
 -- Euler characteristics: at most 2, and even where there is a turning.
-use Rattle.std.proofs.Common.{◌≡◌, ℕ, zero, suc, subst, ◌+◌, ◌-◌, ◌*◌, ◌<◌, ◌≤◌, true, refl, sym, ◌∙◌, ap, arith, inl, length}
-use Rattle.std.proofs.lemmas.Bool.{lt-ltb}
+use Rattle.surf_surfaces.proofs.Common.{◌≡◌, ℕ, zero, suc, subst, ◌+◌, ◌-◌, ◌*◌, ◌<◌, ◌≤◌, true, refl, sym, ◌∙◌, ap, arith, inl, length, lt-ltb, left_edges, face_count, edge_count, IsSurface, cells_of}
 use Rattle.std.specs.Prelude.{pos, negsuc, ◌-ℤ◌, ◌≤ℤ◌}
 use Rattle.std.proofs.Math.IntN.{+ℤ_comm, +ℤ-neg_ℤ_cancel}
-use Rattle.surf_graphs.proofs.Counting.{left_edges}
 use Rattle.surf_graphs.proofs.HeaviestTrees.{heaviest_tree}
 use Rattle.surf_surfaces.specs.Mesh.{Mesh, characteristic}
-use Rattle.surf_surfaces.specs.Surface.{face_count, edge_count, IsSurface}
-use Rattle.surf_surfaces.specs.Cells.{cells_of}
 use Rattle.surf_surfaces.proofs.ClassLaws.{some_split}
 use Rattle.surf_surfaces.proofs.EulerSums.{less_two}
 use Rattle.surf_orientation.specs.Statements.{CountsAreEven, SurfacesHaveSplits, CharacteristicsAreAtMostTwo, CountsAreAtMostTwoMore, genus_of, GenusIsHalf, GenusIsLoopCount, LeftEdgesAreTwiceGenus, ConnectedGraphsHaveTrees}

@@ -1,22 +1,16 @@
 -- The edges that flags do not fit: even at each vertex, and a boundary exactly where there is a turning.
-use Rattle.std.proofs.Common.{◌≡◌, ◌≢◌, ℕ, zero, suc, ◌+◌, ◌-◌, ◌<◌, ◌≤◌, Bool, true, false, cond, not, ◌&&◌, eqb, [], length, refl, sym, ◌∙◌, ap, arith, inl, inr, subst}
+use Rattle.surf_surfaces.proofs.Common.{◌≡◌, ◌≢◌, ℕ, zero, suc, ◌+◌, ◌-◌, ◌<◌, ◌≤◌, Bool, true, false, cond, not, ◌&&◌, eqb, [], length, refl, sym, ◌∙◌, ap, arith, inl, inr, subst, cases_lt, lt-ltb, le-ltb, eq-eqb, ne_eqb, eqb-true, xor, odd_below, count_below, IsEven, left_edges, Mesh, pair, pair_eq, cells_of}
 use Rattle.std.specs.Prelude.{pos, ◌≤ℤ◌}
-use Rattle.std.proofs.lemmas.Bool.{cases_lt, lt-ltb, le-ltb, eq-eqb, ne_eqb, eqb-true}
-use Rattle.surf_z2.specs.Parity.{xor, odd_below, count_below}
-use Rattle.surf_graphs.specs.Graphs.{IsEven}
 use Rattle.surf_graphs.specs.Cells.{primal, IsNullChain}
-use Rattle.surf_graphs.proofs.Counting.{left_edges}
 use Rattle.surf_z2.proofs.Sums.{count_below-same, count_below-paired}
 use Rattle.surf_graphs.proofs.Rounds.{par, odd_counted}
 use Rattle.surf_graphs.proofs.CellLaws.{signature_null}
-use Rattle.surf_surfaces.specs.Mesh.{Mesh, pair, pair_eq}
 use Rattle.surf_surfaces.specs.Surface.{face_count, edge_count, face_at, ends, faces_of, touches, runs, runs_turned, IsSurface}
 use Rattle.surf_surfaces.proofs.EvenLaws.{touches-xor, side_moves}
 use Rattle.surf_surfaces.proofs.FaceLaws.{touches-pair_of}
 use Rattle.surf_z2.proofs.ParityLaws.{and-false, and-true, xor_equal, xor_left_comm, xor-same, xor-same_left, xor-false, xor_pairs, odd_below-same, odd_below-xor}
 use Rattle.surf_surfaces.proofs.SideLaws.{pair_ends}
 use Rattle.surf_surfaces.proofs.OrientationLaws.{turned_is, one_sided_chains_exclude_orientations}
-use Rattle.surf_surfaces.specs.Cells.{cells_of}
 use Rattle.surf_surfaces.proofs.CellLaws.{surfaces_are_cells}
 use Rattle.surf_surfaces.proofs.GraphWalkLaws.{boundaries_are_null}
 use Rattle.surf_orientation.specs.Chains.{same_way, misfit}

@@ -1,7 +1,5 @@
 -- A turn's sign, by its number of rounds.
-use Rattle.std.proofs.Common.{◌≡◌, ◌≢◌, ℕ, zero, suc, ◌+◌, ◌<◌, Bool, true, false, cond, not, ◌&&◌, eqb, refl, sym, ◌∙◌, ap, arith, inl, inr}
-use Rattle.std.proofs.lemmas.Bool.{cases_eq, eq-eqb, ne_eqb, eqb-true, false≢true, false_from_ne_true}
-use Rattle.surf_z2.specs.Parity.{xor, any_below, count_below}
+use Rattle.surf_surfaces.proofs.Common.{◌≡◌, ◌≢◌, ℕ, zero, suc, ◌+◌, ◌<◌, Bool, true, false, cond, not, ◌&&◌, eqb, refl, sym, ◌∙◌, ap, arith, inl, inr, cases_eq, eq-eqb, ne_eqb, eqb-true, false≢true, false_from_ne_true, xor, any_below, count_below}
 use Rattle.surf_graphs.specs.Rounds.{IsTurn}
 use Rattle.surf_z2.proofs.ParityLaws.{xors, xor-same, and-true, any_below-found, any_below-from}
 use Rattle.surf_z2.proofs.Sums.{count_below-same, count_below-none, count_below-all, count_below-without}

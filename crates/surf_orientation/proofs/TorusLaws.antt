@@ -1,11 +1,5 @@
 -- Five squares around five vertices are a surface, a torus.
-use Rattle.std.specs.Prelude.{◌≡◌, ◌≢◌, ℕ, ◌<◌, List, [], ◌∷◌}
-use Rattle.std.proofs.Common.{zero, suc, refl, arith, Contains, length}
-use Rattle.std.proofs.lemmas.List.Elements.{All-from_recursion, All-contains}
-use Rattle.std.specs.List.{AllByRecursion}
-use Rattle.surf_surfaces.specs.Joined.{here, over}
-use Rattle.surf_surfaces.specs.Mesh.{IsMesh, IsFace, steps}
-use Rattle.surf_surfaces.specs.Surface.{ends, face_at, faces_with, HasCorner, ShareAt, HasOneFan, IsConnected, IsSurface}
+use Rattle.surf_surfaces.proofs.Common.{◌≡◌, ◌≢◌, ℕ, ◌<◌, List, [], ◌∷◌, zero, suc, refl, arith, Contains, length, All-from_recursion, All-contains, AllByRecursion, here, over, IsMesh, IsFace, steps, ends, face_at, faces_with, HasCorner, ShareAt, HasOneFan, IsConnected, IsSurface}
 use Rattle.surf_surfaces.proofs.FanLaws.{listed_faces_are_fan}
 use Rattle.surf_surfaces.proofs.SmallFaces.{square}
 use Rattle.surf_orientation.specs.Examples.{five_torus}

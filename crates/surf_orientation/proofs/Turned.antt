@@ -1,9 +1,6 @@
 -- In a turned surface the sides of a face follow one another, and so do those that leave a vertex.
-use Rattle.std.proofs.Common.{◌≡◌, ℕ, zero, suc, ◌+◌, ◌<◌, Bool, true, false, cond, not, List, [], length, refl, sym, ◌∙◌, ap, arith, inl, inr}
-use Rattle.std.proofs.lemmas.Bool.{cases_Bool, lt-ltb, true≢false}
+use Rattle.surf_surfaces.proofs.Common.{◌≡◌, ℕ, zero, suc, ◌+◌, ◌<◌, Bool, true, false, cond, not, List, [], length, refl, sym, ◌∙◌, ap, arith, inl, inr, cases_Bool, lt-ltb, true≢false, Mesh, pair, pair_of, pair_eq, sides, IsFace, face_count, face_at, ends, runs, IsSurface}
 use Rattle.surf_graphs.specs.Rounds.{IsTurn}
-use Rattle.surf_surfaces.specs.Mesh.{Mesh, pair, pair_of, pair_eq, sides, IsFace}
-use Rattle.surf_surfaces.specs.Surface.{face_count, face_at, ends, runs, IsSurface}
 use Rattle.surf_surfaces.specs.Side.{after, before, corner, side_pair}
 use Rattle.surf_surfaces.proofs.PairLaws.{pair_eq-true, pair_eq-same}
 use Rattle.surf_surfaces.proofs.EdgeLaws.{list_any_at, list_any_from}

@@ -1,19 +1,7 @@
 -- The certificates of the choice fit the lines of a text.
-use Rattle.std.proofs.Common.{◌≡◌, ℕ, ◌<◌, ◌^◌, List, [], ◌∷◌, length, get_or, map, refl, sym, ap, ◌∙◌, subst, arith, inl, inr}
+use Rattle.surf_surfaces.proofs.Common.{◌≡◌, ℕ, ◌<◌, ◌^◌, List, [], ◌∷◌, length, get_or, map, refl, sym, ap, ◌∙◌, subst, arith, inl, inr, cases_eq, ne_eqb, eq-eqb, length-map, get_or-map, length-range_with_len, get_or-map-range_with_len, primal, dual, IsSplit, Tree, IsTree, IsShortest, left_edges as left_count, Mesh, face_count, edge_count, ends, IsSurface, IsClosed, edge_length, ArePositive, IsLoopCount, cells_of, Trees, Loop, AreChosenAt, AreChosen, IsChosenBasis, walks}
 use Rattle.std.specs.List.{All, zip, range_with_len}
-use Rattle.std.proofs.lemmas.Bool.{cases_eq, ne_eqb, eq-eqb}
-use Rattle.std.proofs.lemmas.List.{length-map, get_or-map}
-use Rattle.std.proofs.lemmas.List.FromFn.{length-range_with_len, get_or-map-range_with_len}
-use Rattle.surf_graphs.specs.Cells.{primal, dual, IsSplit}
-use Rattle.surf_graphs.specs.Trees.{Tree, IsTree, IsShortest}
-use Rattle.surf_graphs.proofs.Counting.{left_edges as left_count}
-use Rattle.surf_surfaces.specs.Mesh.{Mesh}
-use Rattle.surf_surfaces.specs.Surface.{face_count, edge_count, ends, IsSurface}
-use Rattle.surf_surfaces.specs.Walk.{IsClosed, edge_length, ArePositive}
-use Rattle.surf_surfaces.specs.Homology.{IsLoopCount}
-use Rattle.surf_surfaces.specs.Cells.{cells_of}
 use Rattle.surf_surfaces.specs.Cotree.{left_edges, split_of}
-use Rattle.surf_surfaces.specs.Choice.{Trees, Loop, AreChosenAt, AreChosen, IsChosenBasis, walks}
 use Rattle.surf_surfaces.proofs.BasisLaws.{basis_is_least}
 use Rattle.surf_surfaces.proofs.CellLaws.{ends_below}
 use Rattle.surf_surfaces.proofs.ClassLaws.{some_vertex}

@@ -1,14 +1,11 @@
 -- What `class` writes is confirmed.
-use Rattle.std.proofs.Common.{◌≡◌, ◌≤◌, ℕ, List, [], ◌∷◌, length, Some, None, Ok, refl, sym, ap, ◌∙◌, subst, arith, inl}
-use Rattle.std.specs.Prelude.{codes}
+use Rattle.surf_surfaces.proofs.Common.{◌≡◌, ◌≤◌, ℕ, List, [], ◌∷◌, length, Some, None, Ok, refl, sym, ap, ◌∙◌, subst, arith, inl, codes, Mesh, face_count, edge_count, loop_count}
 use Rattle.surf_base.specs.Outside.{Files, bytes_of}
 use Rattle.surf_base.specs.declared.limits.LimitKind.TheVariants.{Loops}
 use Rattle.surf_class.proofs.Rereading.{evidence_again}
 use Rattle.surf_class.specs.Evidences.{evidence_in}
 use Rattle.surf_class.specs.Texts.{evidence_text}
 use Rattle.surf_classes.specs.Evidence.{Evidence}
-use Rattle.surf_surfaces.specs.Mesh.{Mesh}
-use Rattle.surf_surfaces.specs.Surface.{face_count, edge_count, loop_count}
 use Rattle.surf_off.specs.Off.{OffParts, off_of}
 use Rattle.surf_answers.specs.Classes.{GivesClass}
 use Rattle.surf_texts.specs.EvidenceLines.{evidence_cause, right_line}

@@ -1,10 +1,6 @@
 -- Right evidence fits the line of a text, and how long that is.
-use Rattle.std.proofs.Common.{◌≡◌, ◌<◌, ◌≤◌, ◌+◌, ◌*◌, ◌++◌, ℕ, zero, suc, true, List, [], ◌∷◌, length, get_or, map, refl, sym, ap, ◌∙◌, subst, arith, inl, inr}
-use Rattle.std.specs.Prelude.{codes, decimal}
+use Rattle.surf_surfaces.proofs.Common.{◌≡◌, ◌<◌, ◌≤◌, ◌+◌, ◌*◌, ◌++◌, ℕ, zero, suc, true, List, [], ◌∷◌, length, get_or, map, refl, sym, ap, ◌∙◌, subst, arith, inl, inr, codes, decimal, cases_order, get_or_default, get_or-map, length-map, recursion_from_All, Mesh, IsMesh, pair_lt, edges, face_count, edge_count, ends, edge_number, Chain}
 use Rattle.std.specs.List.{All, AllPairs, Contains, AllByRecursion}
-use Rattle.std.proofs.lemmas.Bool.{cases_order}
-use Rattle.std.proofs.lemmas.List.{get_or_default, get_or-map, length-map}
-use Rattle.std.proofs.lemmas.List.Elements.{recursion_from_All}
 use Rattle.surf_records.specs.Fits.{IsNumber, IsPair}
 use Rattle.surf_text.specs.Numbers.{numbers_text}
 use Rattle.surf_class.specs.Texts.{evidence_head_text, both_ends, evidence_text, EvidenceFits}
@@ -13,10 +9,6 @@ use Rattle.surf_surfaces.proofs.EdgeLaws.{edges-rise, rising_at, among-contains}
 use Rattle.surf_surfaces.proofs.LawProofs.{edges_are_numbered}
 use Rattle.surf_surfaces.proofs.PairLaws.{pair_lt-trans, pair_lt-irreflexive}
 use Rattle.surf_surfaces.proofs.SurfaceLaws.{edge_below}
-use Rattle.surf_surfaces.specs.Mesh.{Mesh, IsMesh, pair_lt, edges}
-use Rattle.surf_surfaces.specs.Surface.{face_count, edge_count, ends}
-use Rattle.surf_surfaces.specs.Walk.{edge_number}
-use Rattle.surf_z2.specs.Space.{Chain}
 use Rattle.surf_run.proofs.CertSizes.{length_of_three, number_short, numbers_short}
 
 -- ---- how much right evidence lists

@@ -1,10 +1,8 @@
 -- The steps of a request to cut a surface open, up to the text that is written.
-use Rattle.std.proofs.Common.{◌≡◌, ◌≤◌, ℕ, List, Option, Some, None, Result, Ok, Err, refl, subst}
+use Rattle.surf_surfaces.proofs.Common.{◌≡◌, ◌≤◌, ℕ, List, Option, Some, None, Result, Ok, Err, refl, subst, Mesh, loop_count}
 use Rattle.std.specs.Prelude.{IfSome, IsErrAnd}
 use Rattle.surf_base.specs.Outside.{Files}
 use Rattle.surf_base.specs.declared.limits.LimitKind.TheVariants.{Loops}
-use Rattle.surf_surfaces.specs.Mesh.{Mesh}
-use Rattle.surf_surfaces.specs.Surface.{loop_count}
 use Rattle.surf_off.specs.Off.{OffParts}
 use Rattle.surf_cutter.specs.Kinds.{Kind}
 use Rattle.surf_cutter.specs.Opened.{OpenMesh}

@@ -1,9 +1,5 @@
 -- Whichever trees show them, the candidates for a basis have one first loop; and few loops.
-use Rattle.std.proofs.Common.{◌≡◌, ℕ, ◌+◌, ◌≤◌, List, [], ◌∷◌, sym, ap, ◌∙◌, arith}
-use Rattle.surf_surfaces.specs.Mesh.{Mesh}
-use Rattle.surf_surfaces.specs.Surface.{IsSurface, face_count, edge_count, loop_count}
-use Rattle.surf_surfaces.specs.Walk.{ArePositive}
-use Rattle.surf_surfaces.specs.Choice.{Trees, AreChosen, Loop, candidates}
+use Rattle.surf_surfaces.proofs.Common.{◌≡◌, ℕ, ◌+◌, ◌≤◌, List, [], ◌∷◌, sym, ap, ◌∙◌, arith, Mesh, IsSurface, face_count, edge_count, loop_count, ArePositive, Trees, AreChosen, Loop, candidates}
 use Rattle.surf_validity.proofs.OneBasis.{candidates_are_one}
 
 module _ (mesh : Mesh) (lengths : List ℕ) (a b : ℕ → Trees) (surface : IsSurface mesh) (positive : ArePositive mesh lengths)

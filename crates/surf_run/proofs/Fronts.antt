@@ -1,11 +1,9 @@
 -- Fronts that rows share, as one step.
-use Rattle.std.proofs.Common.{◌≡◌, ◌≤◌, ℕ, List, Option, Some, None, Result, Ok, Err, refl, subst}
+use Rattle.surf_surfaces.proofs.Common.{◌≡◌, ◌≤◌, ℕ, List, Option, Some, None, Result, Ok, Err, refl, subst, Mesh, loop_count}
 use Rattle.std.specs.Prelude.{IfSome, IsErrAnd}
 use Rattle.surf_base.specs.Outside.{Files}
 use Rattle.surf_base.specs.declared.limits.LimitKind.{LimitKind}
 use Rattle.surf_base.specs.declared.limits.LimitKind.TheVariants.{Loops}
-use Rattle.surf_surfaces.specs.Mesh.{Mesh}
-use Rattle.surf_surfaces.specs.Surface.{loop_count}
 use Rattle.surf_off.specs.Off.{OffParts}
 use Rattle.surf_texts.specs.Outcome.{Outcome}
 use Rattle.surf_texts.specs.Refusals.{cause_of}

@@ -1,7 +1,5 @@
 -- The first fault of a mesh that is no surface, or no disc, and that of evidence is one.
-use Rattle.std.proofs.Common.{◌≡◌, ◌≢◌, ℕ, zero, suc, ◌+◌, ◌<◌, ◌≤◌, true, false, List, [], ◌∷◌, length, get_or, take, refl, sym, ap, ◌∙◌, subst, arith, inl, inr}
-use Rattle.std.specs.Prelude.{◌==◌}
-use Rattle.std.proofs.lemmas.Bool.{cases_Bool, cases_eq, true≢false, eqb-true}
+use Rattle.surf_surfaces.proofs.Common.{◌≡◌, ◌≢◌, ℕ, zero, suc, ◌+◌, ◌<◌, ◌≤◌, true, false, List, [], ◌∷◌, length, get_or, take, refl, sym, ap, ◌∙◌, subst, arith, inl, inr, ◌==◌, cases_Bool, cases_eq, true≢false, eqb-true, boundary, Joined, Mesh, pair_lt, pair_eq, among, edges, face_count, edge_count, ends, faces_with, HasCorner, Share, ShareAt, HasOneFan, IsConnected, Chain}
 use Rattle.surf_treecheck.specs.First.{HoldsBelow, FailsFirst}
 use Rattle.surf_treecheck.proofs.FirstFault.{first_same}
 use Rattle.surf_check.specs.Fault.{IsSurfaceFault}
@@ -24,13 +22,8 @@ use Rattle.surf_soup.specs.Pairs.{degree, HasTwoFaces, IsLeastBorder, IsLeastCro
 use Rattle.surf_soup.specs.Ring.{IsPinch, IsLeastPinch}
 use Rattle.surf_soup.specs.Vertices.{AllMet, IsLeastIsolated}
 use Rattle.surf_surfaces.specs.Disc.{IsBorderEdge, ShareOnBorder}
-use Rattle.surf_surfaces.specs.Homology.{boundary}
-use Rattle.surf_surfaces.specs.Joined.{Joined}
-use Rattle.surf_surfaces.specs.Mesh.{Mesh, pair_lt, pair_eq, among, edges}
-use Rattle.surf_surfaces.specs.Surface.{face_count, edge_count, ends, faces_with, HasCorner, Share, ShareAt, HasOneFan, IsConnected}
 use Rattle.surf_surfaces.proofs.EdgeLaws.{among-contains, list_any_at}
 use Rattle.surf_surfaces.proofs.PairLaws.{pair_eq-true, pair_lt-total}
-use Rattle.surf_z2.specs.Space.{Chain}
 
 -- ---- the first condition that fails
 

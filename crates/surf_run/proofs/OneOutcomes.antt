@@ -1,10 +1,8 @@
 -- What is answered of a surface, a mesh or a certificate is one outcome.
-use Rattle.std.proofs.Common.{◌≡◌, inl, inr, ℕ, ◌++◌, List, [], Option, refl, sym, ◌∙◌, ap, arith, length}
-use Rattle.std.specs.Prelude.{nat_lt, if◌then◌else◌, codes}
+use Rattle.surf_surfaces.proofs.Common.{◌≡◌, inl, inr, ℕ, ◌++◌, List, [], Option, refl, sym, ◌∙◌, ap, arith, length, nat_lt, if◌then◌else◌, codes, IsSurface, ArePositive, IsClosed, parity, walk_length, Loop, loops_at}
 use Rattle.surf_texts.specs.Outcome.{Outcome, answers, refuses, misses}
 use Rattle.surf_run.specs.Reading.{IsEvidenceText}
 use Rattle.surf_surfaces.specs.Mesh.{Mesh, characteristic}
-use Rattle.surf_surfaces.specs.Surface.{IsSurface}
 use Rattle.surf_answers.specs.Summaries.{total_size, LoopsTotal, BasisTotals, CycleMeasures, GivesSummary}
 use Rattle.surf_texts.specs.SummaryTexts.{measures_text, mesh_counts, genus_text, crosscaps_text}
 use Rattle.surf_disc.proofs.FaultLaws.{fault_only as disc_fault_only}
@@ -30,8 +28,6 @@ use Rattle.surf_cert.specs.Written.{loop_text, basis_text}
 use Rattle.surf_validity.specs.Chosen.{chosen_cert, basis_cert_of}
 use Rattle.surf_validity.proofs.OneCert.{chosen_certs_are_one}
 use Rattle.surf_validity.proofs.OneBasis.{bases_are_one, chosen_basis_certs_are_one}
-use Rattle.surf_surfaces.specs.Walk.{ArePositive, IsClosed, parity, walk_length}
-use Rattle.surf_surfaces.specs.Choice.{Loop, loops_at}
 use Rattle.surf_surfaces.proofs.ShortestTreeLaws.{shortest_trees_are_one}
 use Rattle.surf_surfaces.proofs.LoopsOne.{loops_are_one}
 use Rattle.surf_texts.specs.CycleTexts.{cycle_line, cycles_text}

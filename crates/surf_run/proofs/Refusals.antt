@@ -1,7 +1,5 @@
 -- Each refusal: its status is from 2 to 8 or from 12 on, and it has one line.
-use Rattle.std.proofs.Common.{◌≡◌, ℕ, true, false, List, [], ◌∷◌, refl, arith}
-use Rattle.std.specs.Prelude.{nat_lt, ◌&&◌, ◌||◌, codes, slice_index}
-use Rattle.std.specs.List.{list_any}
+use Rattle.surf_surfaces.proofs.Common.{◌≡◌, ℕ, true, false, List, [], ◌∷◌, refl, arith, nat_lt, ◌&&◌, ◌||◌, codes, slice_index, list_any}
 use Prim.Native.String.{String as Literal}
 use Rattle.surf_cert.specs.declared.fault.CertText.{CertText}
 use Rattle.surf_cert.specs.declared.fault.CertText.TheVariants as certs

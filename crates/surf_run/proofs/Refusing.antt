@@ -1,12 +1,8 @@
 -- No test of words and files answers: where one ends, it refuses.
-use Rattle.std.proofs.Common.{◌≡◌, ◌<◌, ◌≤◌, inl, inr, ℕ, Bool, true, false, List, [], length, Option, Some, None, Result, Ok, Err, sym, ap, subst, arith}
-use Rattle.std.specs.Prelude.{nat_lt, if◌then◌else◌, codes, replicate}
-use Rattle.std.specs.Str.{bytes_eq}
+use Rattle.surf_surfaces.proofs.Common.{◌≡◌, ◌<◌, ◌≤◌, inl, inr, ℕ, Bool, true, false, List, [], length, Option, Some, None, Result, Ok, Err, sym, ap, subst, arith, nat_lt, if◌then◌else◌, codes, replicate, bytes_eq, Mesh, edge_count}
 use Rattle.surf_base.specs.Outside.{Files, bytes_of}
 use Rattle.surf_base.specs.declared.limits.LimitKind.{LimitKind}
 use Rattle.surf_base.specs.declared.limits.LimitKind.TheVariants as limits
-use Rattle.surf_surfaces.specs.Mesh.{Mesh}
-use Rattle.surf_surfaces.specs.Surface.{edge_count}
 use Rattle.surf_lengths.specs.Files.{lengths_in}
 use Rattle.surf_off.specs.Off.{off_of}
 use Rattle.surf_texts.specs.Cause.{Cause, due, unread, starved, outcome_of, refused_by}

@@ -1,13 +1,7 @@
 -- The shapes that words name have surfaces as meshes, and the lengths that a scatter makes are positive.
-use Rattle.std.proofs.Common.{rules, ℕ, Bool, true, false, List, [], ◌∷◌, Option, Some, None, refl, sym, subst, arith, inl, inr}
+use Rattle.surf_surfaces.proofs.Common.{rules, ℕ, Bool, true, false, List, [], ◌∷◌, Option, Some, None, refl, sym, subst, arith, inl, inr, AllByRecursion, cases_Bool, and_parts, leb-true, get_or-map-range_with_len, Mesh, edge_count, IsSurface, ArePositive}
 use Rattle.std.specs.Prelude.{nat_le, ◌&&◌, if◌then◌else◌, IfSome, codes, option_map}
-use Rattle.std.specs.List.{AllByRecursion}
-use Rattle.std.proofs.lemmas.Bool.{cases_Bool, and_parts, leb-true}
-use Rattle.std.proofs.lemmas.List.FromFn.{get_or-map-range_with_len}
 use Rattle.surf_gen.specs.Made.{made_length, made_values}
-use Rattle.surf_surfaces.specs.Mesh.{Mesh}
-use Rattle.surf_surfaces.specs.Surface.{edge_count, IsSurface}
-use Rattle.surf_surfaces.specs.Walk.{ArePositive}
 use Rattle.surf_tori.specs.Chain.{chain}
 use Rattle.surf_tori.proofs.ChainLaws.{chains_are_surfaces}
 use Rattle.surf_tori.proofs.TorusLaws.{tori_are_surfaces}

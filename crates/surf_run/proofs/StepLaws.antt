@@ -1,13 +1,10 @@
 -- Steps, here and there: what one gives here it gives there, and there it gives one thing.
-use Rattle.std.proofs.Common.{◌≡◌, inl, inr, ℕ, Bool, true, false, List, [], Result, Ok, Err, refl, sym, ◌∙◌, ap, subst, arith, ◌∷◌}
-use Rattle.std.specs.Prelude.{if◌then◌else◌, codes, replicate}
+use Rattle.surf_surfaces.proofs.Common.{◌≡◌, inl, inr, ℕ, Bool, true, false, List, [], Result, Ok, Err, refl, sym, ◌∙◌, ap, subst, arith, ◌∷◌, if◌then◌else◌, codes, replicate, Mesh, edge_count, IsSurface, AllByRecursion, bytes_eq}
 use Rattle.surf_base.specs.Outside.{Files, bytes_of}
 use Rattle.surf_texts.specs.LengthLines.{length_cause}
 use Rattle.surf_texts.specs.Outcome.{Outcome}
 use Rattle.surf_run.specs.Steps.{Ends, stops, goes, AtMost, and_then}
 use Rattle.surf_run.specs.Reading.{Reads, within_text, IsMeshText, EndsInFault, IsSurfaceOf, IsSurfaceText, lengths_for, HasLengths, HasBase, walk_named, HasWalk, HasKind, kind_named}
-use Rattle.surf_surfaces.specs.Mesh.{Mesh}
-use Rattle.surf_surfaces.specs.Surface.{edge_count, IsSurface}
 use Rattle.surf_check.proofs.FaultLaws.{fault_only}
 use Rattle.surf_off.specs.Off.{OffParts, off_of}
 use Rattle.surf_texts.specs.Cause.{outcome_of, refused_by}
@@ -22,8 +19,6 @@ use Rattle.surf_texts.specs.PointLines.{point_cause}
 use Rattle.surf_words.specs.Words.{Extent, fully}
 use Rattle.surf_words.specs.Words.{trimmed as trimmed_words, through as through_words}
 use Rattle.surf_run.specs.Commands.{length_file, point_file}
-use Rattle.std.specs.List.{AllByRecursion}
-use Rattle.std.specs.Str.{bytes_eq}
 use Rattle.surf_lengths.specs.Files.{lengths_in}
 use Rattle.surf_class.specs.Walks.{walk_in}
 use Rattle.surf_texts.specs.WalkLines.{walk_cause}

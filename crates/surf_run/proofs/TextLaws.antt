@@ -1,9 +1,5 @@
 -- The mesh of a text has at most a million vertices and two million faces.
-use Rattle.std.proofs.Common.{◌≡◌, ◌≤◌, ℕ, zero, suc, ◌+◌, Bool, true, false, List, [], ◌∷◌, length, Option, Some, None, Result, Ok, Err, refl, sym, ap, subst, inl, inr}
-use Rattle.std.specs.Prelude.{nat_lt}
-use Rattle.std.proofs.lemmas.Bool.{cases_lt, lt-ltb, le-ltb}
-use Rattle.surf_surfaces.specs.Mesh.{Mesh}
-use Rattle.surf_surfaces.specs.Surface.{face_count}
+use Rattle.surf_surfaces.proofs.Common.{◌≡◌, ◌≤◌, ℕ, zero, suc, ◌+◌, Bool, true, false, List, [], ◌∷◌, length, Option, Some, None, Result, Ok, Err, refl, sym, ap, subst, inl, inr, nat_lt, cases_lt, lt-ltb, le-ltb, Mesh, face_count}
 use Rattle.surf_text.specs.Text.{TextLine, lines_of, whole}
 use Rattle.surf_base.specs.Gives.{◌>>=◌}
 use Rattle.surf_off.specs.Off.{OffParts, FaceLines, Face, head_of, within_limits, both, counts_of, vertices_at, face_of, with_face, faces_at, ended, off_in, off_of}

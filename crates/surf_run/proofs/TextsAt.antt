@@ -1,10 +1,8 @@
 -- The text of a file, of which the mesh alone goes on.
-use Rattle.std.proofs.Common.{◌≡◌, ℕ, List, Option, Result, Ok, Err, inl, inr, sym, subst}
+use Rattle.surf_surfaces.proofs.Common.{◌≡◌, ℕ, List, Option, Result, Ok, Err, inl, inr, sym, subst, Mesh, IsSurface}
 use Rattle.std.specs.Prelude.{IfOk, IfSome, IsErrAnd}
 use Rattle.surf_base.specs.Outside.{Files}
 use Rattle.surf_off.specs.Off.{OffParts}
-use Rattle.surf_surfaces.specs.Mesh.{Mesh}
-use Rattle.surf_surfaces.specs.Surface.{IsSurface}
 use Rattle.surf_texts.specs.Outcome.{Outcome}
 use Rattle.surf_texts.specs.Cause.{Cause, due, unread, starved}
 use Rattle.surf_texts.specs.Refusals.{cause_of}

@@ -1,7 +1,6 @@
 -- What `certify` writes passes `check`.
-use Rattle.std.proofs.Common.{◌≡◌, ◌<◌, ◌≤◌, ℕ, false, List, [], ◌∷◌, length, Option, Some, None, Result, Ok, Err, refl, sym, ap, ◌∙◌, subst, arith, inl}
+use Rattle.surf_surfaces.proofs.Common.{◌≡◌, ◌<◌, ◌≤◌, ℕ, false, List, [], ◌∷◌, length, Option, Some, None, Result, Ok, Err, refl, sym, ap, ◌∙◌, subst, arith, inl, le-ltb, Mesh, IsSurface, face_count, edge_count, loop_count, ArePositive, Loop, loops_at, IsChosenBasis, IsLoopCount}
 use Rattle.std.specs.Prelude.{nat_lt, option_map, codes}
-use Rattle.std.proofs.lemmas.Bool.{le-ltb}
 use Rattle.std.proofs.lemmas.List.Elements.{All-get_or, All-nil}
 use Rattle.surf_base.specs.Outside.{Files, bytes_of}
 use Rattle.surf_base.specs.declared.limits.LimitKind.TheVariants.{CertificateVertices}
@@ -11,16 +10,11 @@ use Rattle.surf_cert.specs.Written.{loop_text, basis_text}
 use Rattle.surf_records.specs.declared.cert.Cert.TheVariants.{Loops, Basis}
 use Rattle.surf_records.proofs.ChosenFits.{AreNumbers, chosen_loops_fit, chosen_basis_fits}
 use Rattle.surf_cert.proofs.ChosenReread.{chosen_loops_again, chosen_basis_again}
-use Rattle.surf_surfaces.specs.Mesh.{Mesh}
-use Rattle.surf_surfaces.specs.Surface.{IsSurface, face_count, edge_count, loop_count}
-use Rattle.surf_surfaces.specs.Walk.{ArePositive}
 use Rattle.surf_texts.specs.Cause.{Cause, refused_by}
 use Rattle.surf_texts.specs.CertLines.{cert_cause}
 use Rattle.surf_texts.specs.CycleTexts.{cycles_text}
 use Rattle.surf_texts.specs.LoopTexts.{loops_text}
 use Rattle.surf_texts.specs.MeshLines.{off_cause}
-use Rattle.surf_surfaces.specs.Choice.{Loop, loops_at, IsChosenBasis}
-use Rattle.surf_surfaces.specs.Homology.{IsLoopCount}
 use Rattle.surf_surfaces.proofs.ShortestWalkLaws.{first_of_basis_is_shortest_not_null}
 use Rattle.surf_lengths.specs.Lengths.{IsLength, AreLengths}
 use Rattle.surf_lengths.proofs.Positive.{lengths_positive}

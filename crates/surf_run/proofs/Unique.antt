@@ -1,6 +1,5 @@
 -- Words and files have one outcome, and where nothing failed it is the answer.
-use Rattle.std.proofs.Common.{◌≡◌, ◌⊎◌, ◌≤◌, inl, inr, ℕ, List, [], refl, sym, ◌∙◌, ap, subst, arith, ◌∷◌}
-use Rattle.std.proofs.lemmas.Bool.{cases_eq, cases_lt}
+use Rattle.surf_surfaces.proofs.Common.{◌≡◌, ◌⊎◌, ◌≤◌, inl, inr, ℕ, List, [], refl, sym, ◌∙◌, ap, subst, arith, ◌∷◌, cases_eq, cases_lt, AllByRecursion}
 use Rattle.surf_base.specs.Outside.{Files}
 use Rattle.surf_texts.specs.Outcome.{Outcome, answers, refuses, misses, Shows, status_of}
 use Rattle.surf_run.specs.OneAnswer.{OutcomesAreOne, AnswersAreOne}
@@ -9,7 +8,6 @@ use Rattle.surf_run.specs.Run.{IsDecided}
 use Rattle.surf_run.specs.Commands.{named}
 use Rattle.surf_run.specs.Leads.{Leads, Answer}
 use Rattle.surf_words.specs.Words.{request_of}
-use Rattle.std.specs.List.{AllByRecursion}
 use Rattle.surf_run.proofs.StepLaws.{HasOneOutcome, Same}
 use Rattle.surf_run.proofs.Rows.{rows_are_settled}
 

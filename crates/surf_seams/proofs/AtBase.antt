@@ -1,10 +1,5 @@
 -- Where the full cut starts, and the opening through given vertices at a base.
-use Rattle.std.proofs.Common.{ℕ, sym, refl, ◌∙◌, Bool, List}
-use Rattle.surf_z2.specs.Space.{Chain}
-use Rattle.surf_surfaces.specs.Choice.{Trees, AreChosenAt}
-use Rattle.surf_surfaces.specs.Mesh.{Mesh}
-use Rattle.surf_surfaces.specs.Surface.{IsSurface}
-use Rattle.surf_surfaces.specs.Walk.{ArePositive}
+use Rattle.surf_surfaces.proofs.Common.{ℕ, sym, refl, ◌∙◌, Bool, List, Chain, Trees, AreChosenAt, Mesh, IsSurface, ArePositive}
 use Rattle.surf_surfaces.proofs.LoopsOne.{edges_same, cotrees_same}
 use Rattle.surf_opening.specs.ChosenCut.{full_cut, SameEdges}
 use Rattle.surf_opening.proofs.ChosenTrees.{chosen_trees_divide}

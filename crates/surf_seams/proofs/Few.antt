@@ -1,17 +1,9 @@
 -- Where χ is 2, one point alone has no cut, and two that an edge of the full cut joins have that edge.
 use Rattle.std.proofs.Common.{◌≡◌, ◌≢◌, ℕ, ◌<◌, ◌≤◌, ◌⊎◌, inl, inr, sym, ap, ◌∙◌, Bool, true, false, ◌&&◌, eqb, arith, eqb-true, eq-eqb}
-use Rattle.std.proofs.lemmas.Bool.{cases_Bool, and_from, both_ways}
-use Rattle.surf_z2.specs.Parity.{xor, count_below}
+use Rattle.surf_surfaces.proofs.Common.{cases_Bool, and_from, both_ways, xor, count_below, primal, between, Tree, IsTree, on_path, cells_of, tree_edges, split_of, Mesh, edge_count, ends, touches, IsSurface}
 use Rattle.surf_z2.proofs.ParityLaws.{xor_comm, xor-same, xor_back}
 use Rattle.surf_z2.proofs.Sums.{count_below-none, count_below-one}
-use Rattle.surf_graphs.specs.Cells.{primal}
-use Rattle.surf_graphs.specs.Growth.{between}
-use Rattle.surf_graphs.specs.Trees.{Tree, IsTree, on_path}
 use Rattle.surf_graphs.proofs.Trees.{tree_edge, path_step}
-use Rattle.surf_surfaces.specs.Cells.{cells_of}
-use Rattle.surf_surfaces.specs.Cotree.{tree_edges, split_of}
-use Rattle.surf_surfaces.specs.Mesh.{Mesh}
-use Rattle.surf_surfaces.specs.Surface.{edge_count, ends, touches, IsSurface}
 use Rattle.surf_opening.specs.Laws.{cut_count}
 use Rattle.surf_opening.proofs.CutCounts.{spheres_are_cut_along_trees}
 use Rattle.surf_opening.proofs.CutLists.{full_is}

@@ -1,14 +1,8 @@
 -- The opening along the cut through given vertices.
-use Rattle.std.proofs.Common.{◌≡◌, ◌≢◌, ℕ, ◌+◌, ◌<◌, ◌≤◌, ◌⊎◌, inl, inr, sym, refl, subst, ap, ◌∙◌, Bool, true, List, [], ◌∷◌, length, get_or, arith}
-use Rattle.surf_z2.specs.Space.{Chain}
-use Rattle.surf_z2.proofs.Sums.{count_below-same}
-use Rattle.surf_graphs.specs.Trees.{Tree}
+use Rattle.surf_surfaces.proofs.Common.{◌≡◌, ◌≢◌, ℕ, ◌+◌, ◌<◌, ◌≤◌, ◌⊎◌, inl, inr, sym, refl, subst, ap, ◌∙◌, Bool, true, List, [], ◌∷◌, length, get_or, arith, Chain, count_below-same, Tree, Mesh, pair, edge_count, face_at, faces_with, ends, touches, HasEdge, IsSurface, degree_in}
 use Rattle.surf_surfaces.specs.Disc.{IsBorderEdge}
-use Rattle.surf_surfaces.specs.Mesh.{Mesh, pair}
 use Rattle.surf_surfaces.specs.Side.{after, side_pair, corner}
-use Rattle.surf_surfaces.specs.Surface.{edge_count, face_at, faces_with, ends, touches, HasEdge, IsSurface}
 use Rattle.surf_surfaces.proofs.FaceLaws.{pair_comm}
-use Rattle.surf_surfaces.specs.Degrees.{degree_in}
 use Rattle.surf_opening.specs.ChosenCut.{AreDivided, ListsCotree, full_cut, SameEdges}
 use Rattle.surf_opening.specs.Laws.{TellsCut, cut_count, without}
 use Rattle.surf_opening.specs.Opening.{corner_of}

@@ -1,16 +1,9 @@
 -- The cut through given vertices is in one piece, and each of these is on it where it has an edge.
 use Rattle.std.proofs.Common.{◌≡◌, ◌≢◌, ℕ, zero, suc, ◌<◌, ◌≤◌, ◌⊎◌, inl, inr, sym, refl, subst, ap, ◌∙◌, cond, Bool, true, false, ◌||◌, eqb, arith, eqb-true, eq-eqb, ne_eqb}
 use Rattle.std.proofs.lemmas.Bool.{cases_eq, cases_lt, cond-true, cond-false, or_cases, or_left, or_right, both_ways}
-use Rattle.surf_z2.specs.Space.{Chain}
-use Rattle.surf_graphs.specs.Cells.{primal}
-use Rattle.surf_graphs.specs.Trees.{Tree, IsTree}
+use Rattle.surf_surfaces.proofs.Common.{Chain, primal, Tree, IsTree, cells_of, tree_edges, is_left, Mesh, edge_count, ends, touches, IsSurface, degree_in}
 use Rattle.surf_graphs.proofs.Trees.{one_of, up_in_tree}
-use Rattle.surf_surfaces.specs.Cells.{cells_of}
-use Rattle.surf_surfaces.specs.Cotree.{tree_edges, is_left}
-use Rattle.surf_surfaces.specs.Mesh.{Mesh}
-use Rattle.surf_surfaces.specs.Surface.{edge_count, ends, touches, IsSurface}
 use Rattle.surf_surfaces.proofs.CellLaws.{ends_below}
-use Rattle.surf_surfaces.specs.Degrees.{degree_in}
 use Rattle.surf_opening.specs.ChosenCut.{AreDivided, full_cut, SameEdges}
 use Rattle.surf_seams.specs.Through.{IsTakenBackTo, whole, taken, IsInOnePiece, IsOnCut}
 use Rattle.surf_seams.specs.Laws.{CutsThroughAreConnected, PointsAreOnCut}

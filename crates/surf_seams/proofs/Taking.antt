@@ -1,12 +1,7 @@
 -- The cut through given vertices is what is left when edges are taken back to the end.
 use Rattle.std.proofs.Common.{◌≡◌, ◌≢◌, ℕ, zero, suc, ◌+◌, ◌<◌, ◌≤◌, ◌⊎◌, inl, inr, sym, refl, ap, ◌∙◌, Bool, true, false, not, ◌&&◌, eqb, arith, ne_eqb}
-use Rattle.std.proofs.lemmas.Bool.{cases_eq, cases_Bool, and_parts, and_from, not-true, eqb-false, both_ways}
-use Rattle.surf_z2.specs.Space.{Chain}
-use Rattle.surf_z2.proofs.Sums.{count_below-same}
-use Rattle.surf_surfaces.specs.Mesh.{Mesh}
-use Rattle.surf_surfaces.specs.Surface.{edge_count, ends, touches}
+use Rattle.surf_surfaces.proofs.Common.{cases_eq, cases_Bool, and_parts, and_from, not-true, eqb-false, both_ways, Chain, count_below-same, Mesh, edge_count, ends, touches, degree_in}
 use Rattle.surf_surfaces.proofs.FaceLaws.{touches_first}
-use Rattle.surf_surfaces.specs.Degrees.{degree_in}
 use Rattle.surf_opening.specs.ChosenCut.{SameEdges, IsWithin}
 use Rattle.surf_opening.specs.Laws.{cut_count, without}
 use Rattle.surf_opening.proofs.Chosen.{same_where}

@@ -1,20 +1,10 @@
 -- Where χ is 2, the cut through given vertices is the union of the ways in the tree between them.
 use Rattle.std.proofs.Common.{◌≡◌, ◌≢◌, ℕ, zero, suc, ◌+◌, ◌<◌, ◌≤◌, ◌⊎◌, inl, inr, sym, refl, subst, ap, ◌∙◌, Bool, true, false, not, ◌&&◌, eqb, arith, eq-eqb, ne_eqb}
-use Rattle.std.proofs.lemmas.Bool.{cases_eq, cases_Bool, and_parts, and_from, not-true, eqb-false, both_ways}
-use Rattle.surf_z2.specs.Parity.{xor, odd_below, any_below, count_below}
-use Rattle.surf_z2.specs.Space.{Chain}
+use Rattle.surf_surfaces.proofs.Common.{cases_eq, cases_Bool, and_parts, and_from, not-true, eqb-false, both_ways, xor, odd_below, any_below, count_below, Chain, primal, between, Tree, IsTree, in_tree, on_path, cells_of, tree_edges, split_of, Mesh, edge_count, ends, touches, IsSurface, degree_in}
 use Rattle.surf_z2.proofs.ParityLaws.{xor-same, and_comm, any_below-found, any_below-from, odd_below-same, odd_below-only, odd_below-and-xor}
-use Rattle.surf_graphs.specs.Cells.{primal}
 use Rattle.surf_graphs.specs.Graphs.{Graph, leaves}
-use Rattle.surf_graphs.specs.Growth.{between}
-use Rattle.surf_graphs.specs.Trees.{Tree, IsTree, in_tree, on_path}
 use Rattle.surf_graphs.proofs.Trees.{tree_edge, path_root, path_step, one_of, up_once, path_inside, along_is, path_leaves}
-use Rattle.surf_surfaces.specs.Cells.{cells_of}
-use Rattle.surf_surfaces.specs.Cotree.{tree_edges, split_of}
-use Rattle.surf_surfaces.specs.Mesh.{Mesh}
-use Rattle.surf_surfaces.specs.Surface.{edge_count, ends, touches, IsSurface}
 use Rattle.surf_surfaces.proofs.EvenLaws.{touches-xor}
-use Rattle.surf_surfaces.specs.Degrees.{degree_in}
 use Rattle.surf_opening.specs.ChosenCut.{full_cut}
 use Rattle.surf_opening.proofs.CutCounts.{spheres_are_cut_along_trees}
 use Rattle.surf_opening.proofs.CutLists.{full_is}

@@ -1,24 +1,8 @@
 -- Caps as great as edges ask for meet all closed walks, so what is kept has the places of the basis.
-use Rattle.std.proofs.Common.{◌≡◌, ℕ, zero, suc, ◌<◌, ◌≤◌, ◌^◌, true, List, [], ◌∷◌, length, get_or, map, take, All, Option, Some, None, refl, sym, ap, ◌∙◌, subst, arith, inl, inr}
-use Rattle.std.specs.Prelude.{IsTrue, nat_le, slice_index, min}
-use Rattle.std.proofs.lemmas.Bool.{cases_Bool, cases_lt, leb-true, le-leb, or_left, or_right, and_from, false≢true}
-use Rattle.std.proofs.lemmas.Bool.Decides.{nat_tests}
+use Rattle.surf_surfaces.proofs.Common.{◌≡◌, ℕ, zero, suc, ◌<◌, ◌≤◌, ◌^◌, true, List, [], ◌∷◌, length, get_or, map, take, All, Option, Some, None, refl, sym, ap, ◌∙◌, subst, arith, inl, inr, IsTrue, nat_le, slice_index, min, cases_Bool, cases_lt, leb-true, le-leb, or_left, or_right, and_from, false≢true, nat_tests, IsInOrder, numbers, Spanned, sorted_from_order, order_from_sorted, Split, IsSplit, signature, Tree, Mesh, edge_count, ends, IsSurface, ArePositive, IsLoopCount, cells_of, class_of, AreShortestTrees, edge_signature, Trees, AreChosen, Loop, IsChosenBasis}
 use Rattle.std.proofs.lemmas.List.{length-map, take-map, get_or-map}
 use Rattle.std.proofs.lemmas.List.Elements.{recursion_from_All, All-from_recursion, All-take}
-use Rattle.surf_z2.specs.Order.{IsInOrder}
-use Rattle.surf_z2.specs.Space.{numbers, Spanned}
 use Rattle.surf_z2.proofs.Below.{small}
-use Rattle.surf_z2.proofs.Merge.{sorted_from_order, order_from_sorted}
-use Rattle.surf_graphs.specs.Cells.{Split, IsSplit, signature}
-use Rattle.surf_graphs.specs.Trees.{Tree}
-use Rattle.surf_surfaces.specs.Mesh.{Mesh}
-use Rattle.surf_surfaces.specs.Surface.{edge_count, ends, IsSurface}
-use Rattle.surf_surfaces.specs.Walk.{ArePositive}
-use Rattle.surf_surfaces.specs.Homology.{IsLoopCount}
-use Rattle.surf_surfaces.specs.Cells.{cells_of}
-use Rattle.surf_surfaces.specs.Class.{class_of, AreShortestTrees}
-use Rattle.surf_surfaces.specs.Signature.{edge_signature}
-use Rattle.surf_surfaces.specs.Choice.{Trees, AreChosen, Loop, IsChosenBasis}
 use Rattle.surf_surfaces.specs.FewBases.{Place, is_no_later, Found, HasFound, IsWithin, walks_found, comes_no_later, place_of_loop}
 use Rattle.surf_surfaces.proofs.LeastLaws.{all_mapped}
 use Rattle.surf_firsts.specs.Near.{IsSoughtFromStart}

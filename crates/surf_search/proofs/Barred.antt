@@ -1,11 +1,6 @@
 -- Lengths that differ from others at edges with a marked end alone, while more vertices are marked.
-use Rattle.std.proofs.Common.{◌≡◌, ℕ, Bool, false, List, refl, sym, ◌∙◌, subst, inl, inr}
-use Rattle.std.specs.Prelude.{IsTrue}
-use Rattle.std.proofs.lemmas.Bool.{cases_Bool, false≢true}
-use Rattle.surf_surfaces.specs.Mesh.{Mesh}
-use Rattle.surf_surfaces.specs.Surface.{ends}
+use Rattle.surf_surfaces.proofs.Common.{◌≡◌, ℕ, Bool, false, List, refl, sym, ◌∙◌, subst, inl, inr, IsTrue, cases_Bool, false≢true, Mesh, ends, ArePositive}
 use Rattle.surf_firsts.specs.Near.{AgreeOff}
-use Rattle.surf_surfaces.specs.Walk.{ArePositive}
 use Rattle.surf_cotree.specs.Tables.{CotreeTables}
 use Rattle.surf_choice.specs.Candidates.{Chosen}
 use Rattle.surf_search.specs.Found.{SurfaceTables}

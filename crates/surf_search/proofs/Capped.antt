@@ -1,24 +1,10 @@
 -- What is kept of the loops at vertices that are searched as far as their caps, search by search.
-use Rattle.std.proofs.Common.{◌≡◌, ℕ, ◌<◌, ◌≤◌, ◌^◌, Bool, true, eqb, List, [], ◌∷◌, ◌++◌, length, get_or, set, map, All, IsPermutation, Option, refl, sym, ap, ◌∙◌, subst, arith, inl, inr}
-use Rattle.std.specs.Prelude.{IsTrue, ◌&&◌}
-use Rattle.std.proofs.lemmas.Bool.{cases_eq, or_left, or_right, and_parts, and_from, false≢true}
-use Rattle.std.proofs.lemmas.Bool.Decides.{nat_tests}
+use Rattle.surf_surfaces.proofs.Common.{◌≡◌, ℕ, ◌<◌, ◌≤◌, ◌^◌, Bool, true, eqb, List, [], ◌∷◌, ◌++◌, length, get_or, set, map, All, IsPermutation, Option, refl, sym, ap, ◌∙◌, subst, arith, inl, inr, IsTrue, ◌&&◌, cases_eq, or_left, or_right, and_parts, and_from, false≢true, nat_tests, merge, Split, IsSplit, Tree, Mesh, edge_count, IsSurface, ArePositive, IsNull, cells_of, class_of, AreShortestTrees, loop_walk, Place, place_at, comes_no_later}
 use Rattle.std.proofs.lemmas.List.{map-append, get_or-set_same, get_or-set_other}
 use Rattle.std.proofs.lemmas.List.Elements.{Contains-append_left, Contains-append_cases}
 use Rattle.std.proofs.lemmas.List.Sorted.{Contains-permutation, IsPermutation-map, IsPermutation-sym}
-use Rattle.surf_z2.specs.Order.{merge}
 use Rattle.surf_z2.specs.Space.{no_member, chosen}
 use Rattle.surf_z2.proofs.Merge.{Sorted, sorted_from_order, order_from_sorted, same_members}
-use Rattle.surf_graphs.specs.Cells.{Split, IsSplit}
-use Rattle.surf_graphs.specs.Trees.{Tree}
-use Rattle.surf_surfaces.specs.Mesh.{Mesh}
-use Rattle.surf_surfaces.specs.Surface.{edge_count, IsSurface}
-use Rattle.surf_surfaces.specs.Walk.{ArePositive}
-use Rattle.surf_surfaces.specs.Homology.{IsNull}
-use Rattle.surf_surfaces.specs.Cells.{cells_of}
-use Rattle.surf_surfaces.specs.Class.{class_of, AreShortestTrees}
-use Rattle.surf_surfaces.specs.Loop.{loop_walk}
-use Rattle.surf_surfaces.specs.FewBases.{Place, place_at, comes_no_later}
 use Rattle.surf_surfaces.proofs.FirstFoundLaws.{loop_closed}
 use Rattle.surf_caps.specs.Caps.{with_places, everywhere, up_to_length, ChoiceKeeps}
 use Rattle.surf_caps.proofs.Grow.{caps_grow_enough}

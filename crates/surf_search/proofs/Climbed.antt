@@ -1,10 +1,5 @@
 -- What a table of signatures has for an edge.
-use Rattle.std.proofs.Common.{◌≡◌, ℕ, ◌<◌, List, slice_index, ap, ◌∙◌, arith}
-use Rattle.std.proofs.lemmas.List.FromFn.{get_or-map-range_with_len}
-use Rattle.surf_graphs.specs.Cells.{Split}
-use Rattle.surf_surfaces.specs.Mesh.{Mesh}
-use Rattle.surf_surfaces.specs.Surface.{edge_count}
-use Rattle.surf_surfaces.specs.Signature.{edge_signature}
+use Rattle.surf_surfaces.proofs.Common.{◌≡◌, ℕ, ◌<◌, List, slice_index, ap, ◌∙◌, arith, get_or-map-range_with_len, Split, Mesh, edge_count, edge_signature}
 use Rattle.surf_cotree.specs.Tables.{CotreeTables}
 use Rattle.surf_search.specs.Signing.{AreSignatures}
 

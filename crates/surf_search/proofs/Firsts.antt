@@ -1,9 +1,6 @@
 -- The first of the loops that a search tells, without a list of them.
-use Rattle.std.proofs.Common.{◌≡◌, ℕ, ◌<◌, ◌≤◌, ◌+◌, true, false, List, [], ◌∷◌, ◌++◌, length, All, Option, Some, None, refl, sym, ◌∙◌, ap, inl, inr}
-use Rattle.std.specs.Prelude.{slice_index}
-use Rattle.std.proofs.lemmas.Bool.{cases_Bool, both_ways}
+use Rattle.surf_surfaces.proofs.Common.{◌≡◌, ℕ, ◌<◌, ◌≤◌, ◌+◌, true, false, List, [], ◌∷◌, ◌++◌, length, All, Option, Some, None, refl, sym, ◌∙◌, ap, inl, inr, slice_index, cases_Bool, both_ways, edge_count, ends}
 use Rattle.std.proofs.lemmas.List.Sums.{fold-append}
-use Rattle.surf_surfaces.specs.Surface.{edge_count, ends}
 use Rattle.surf_near.specs.declared.links.Link.{Link}
 use Rattle.surf_near.specs.Links.{AreLinksAt, link_in}
 use Rattle.surf_choice.specs.declared.candidate.Candidate.{Candidate}

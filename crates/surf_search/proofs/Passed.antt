@@ -1,12 +1,6 @@
 -- Links that the listing of loops passes over.
-use Rattle.std.proofs.Common.{◌≡◌, ◌≢◌, ◌⊎◌, ℕ, ◌<◌, ◌≤◌, true, false, not, List, length, get_or, slice_index, bit_xor, inl, inr, sym, ap, ◌∙◌, subst, arith}
-use Rattle.std.specs.Prelude.{◌==◌}
+use Rattle.surf_surfaces.proofs.Common.{◌≡◌, ◌≢◌, ◌⊎◌, ℕ, ◌<◌, ◌≤◌, true, false, not, List, length, get_or, slice_index, bit_xor, inl, inr, sym, ap, ◌∙◌, subst, arith, ◌==◌, and_parts, false≢true, nat_tests, get_or_default, Mesh, IsMesh, edge_count, ends}
 use Rattle.std.specs.Int.Bits.{xor_self, xor_zero_r}
-use Rattle.std.proofs.lemmas.Bool.{and_parts, false≢true}
-use Rattle.std.proofs.lemmas.Bool.Decides.{nat_tests}
-use Rattle.std.proofs.lemmas.List.{get_or_default}
-use Rattle.surf_surfaces.specs.Mesh.{Mesh, IsMesh}
-use Rattle.surf_surfaces.specs.Surface.{edge_count, ends}
 use Rattle.surf_surfaces.proofs.CellLaws.{ends_below}
 use Rattle.surf_near.specs.declared.links.Link.{Link}
 use Rattle.surf_near.specs.Links.{AreLinksAt, link_in}

@@ -1,26 +1,8 @@
 -- Vertices near one that was searched, which are passed over where the loops found there are all longer than those kept,
 -- though the search went by lengths that bar the ways through vertices for which what is kept is enough.
 use Rattle.std.proofs.Common.{◌≡◌, ℕ, suc, ◌<◌, ◌≤◌, ◌+◌, ◌*◌, ◌⊎◌, Bool, true, false, eqb, leb, le-leb, List, [], ◌∷◌, length, get_or, map, filter, take, All, Contains, Option, Some, None, sym, ap, ◌∙◌, subst, arith, inl, inr, set, get_or-set_other}
-use Rattle.std.specs.Prelude.{IsTrue, ◌||◌, ◌==◌, replicate, slice_index}
-use Rattle.std.specs.List.{AllByRecursion}
-use Rattle.std.proofs.lemmas.Bool.{cases_eq, cases_lt, false≢true, or_cases, or_left, or_right, eq-eqb, eqb-true}
-use Rattle.std.proofs.lemmas.Bool.Decides.{nat_tests}
-use Rattle.std.proofs.lemmas.List.{get_or-take, get_or_default, get_or_past, get_or-replicate, length-replicate, length-take-le}
-use Rattle.std.proofs.lemmas.List.Elements.{recursion_from_All, All-contains, Contains-get_or}
-use Rattle.std.proofs.lemmas.Simd.{map-map}
-use Rattle.surf_z2.specs.Order.{IsInOrder}
-use Rattle.surf_z2.specs.Space.{numbers, Spanned}
+use Rattle.surf_surfaces.proofs.Common.{IsTrue, ◌||◌, ◌==◌, replicate, slice_index, AllByRecursion, cases_eq, cases_lt, false≢true, or_cases, or_left, or_right, eq-eqb, eqb-true, nat_tests, get_or-take, get_or_default, get_or_past, get_or-replicate, length-replicate, length-take-le, recursion_from_All, All-contains, Contains-get_or, map-map, IsInOrder, numbers, Spanned, InSpan, AllInSpan, trans_in, in_from_spanned, spanned_from_in, Split, IsSplit, Tree, Mesh, edge_count, IsSurface, IsClosed, ArePositive, cells_of, class_of, AreShortestTrees, loop_walk, loop_length, DependsOn}
 use Rattle.surf_z2.proofs.Passing.{member_in, all_filtered}
-use Rattle.surf_z2.proofs.Span.{InSpan, AllInSpan, trans_in, in_from_spanned, spanned_from_in}
-use Rattle.surf_graphs.specs.Cells.{Split, IsSplit}
-use Rattle.surf_graphs.specs.Trees.{Tree}
-use Rattle.surf_surfaces.specs.Mesh.{Mesh}
-use Rattle.surf_surfaces.specs.Surface.{edge_count, IsSurface}
-use Rattle.surf_surfaces.specs.Walk.{IsClosed, ArePositive}
-use Rattle.surf_surfaces.specs.Cells.{cells_of}
-use Rattle.surf_surfaces.specs.Class.{class_of, AreShortestTrees}
-use Rattle.surf_surfaces.specs.Loop.{loop_walk, loop_length}
-use Rattle.surf_surfaces.specs.Choice.{DependsOn}
 use Rattle.surf_surfaces.specs.FewBases.{Place, is_no_later, comes_sooner, place_at, least_base, Found, walks_found, with_vertex}
 use Rattle.surf_surfaces.proofs.CoveredLaws.{contains-map}
 use Rattle.surf_surfaces.proofs.ChoiceExists.{choice_exists}

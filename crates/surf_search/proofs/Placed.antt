@@ -1,8 +1,6 @@
 -- A loop that was found has its own place.
 use Rattle.std.proofs.Common.{◌≡◌, ℕ, zero, suc, Bool, true, false, eqb, eq-eqb, cond, List, [], ◌∷◌, length, map, filter, Contains, refl, subst, arith}
-use Rattle.std.proofs.lemmas.Bool.{or_right}
-use Rattle.surf_graphs.specs.Trees.{Tree}
-use Rattle.surf_surfaces.specs.Mesh.{Mesh}
+use Rattle.surf_surfaces.proofs.Common.{or_right, Tree, Mesh}
 use Rattle.surf_surfaces.specs.FewBases.{Found, place_of_found}
 use Rattle.surf_choice.specs.declared.candidate.Signed.{Signed}
 use Rattle.surf_search.specs.Found.{found_of}

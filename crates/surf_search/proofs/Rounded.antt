@@ -1,8 +1,5 @@
 -- What the last round keeps has the places of the basis.
-use Rattle.std.proofs.Common.{ℕ, ◌<◌, ◌≤◌, List, length, get_or, All, sym, ap, ◌∙◌, subst}
-use Rattle.surf_surfaces.specs.Surface.{IsSurface}
-use Rattle.surf_surfaces.specs.Walk.{ArePositive}
-use Rattle.surf_surfaces.specs.Homology.{IsLoopCount}
+use Rattle.surf_surfaces.proofs.Common.{ℕ, ◌<◌, ◌≤◌, List, length, get_or, All, sym, ap, ◌∙◌, subst, IsSurface, ArePositive, IsLoopCount}
 use Rattle.surf_surfaces.proofs.ChoiceExists.{choice_exists}
 use Rattle.surf_surfaces.proofs.FewBasesLaws.{least_base_on_way}
 use Rattle.surf_surfaces.proofs.FirstCycleLaws.{shortest_trees}

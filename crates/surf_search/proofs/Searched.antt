@@ -1,31 +1,12 @@
 -- What is kept of the loops at the vertices of a list, vertex by vertex.
 use Rattle.std.proofs.Common.{◌≡◌, ◌≢◌, ℕ, zero, suc, ◌<◌, ◌≤◌, ◌+◌, ◌^◌, ◌⊎◌, Bool, true, false, eqb, List, [], ◌∷◌, ◌++◌, length, get_or, map, take, All, Contains, IsPermutation, Option, Some, None, refl, sym, ap, ◌∙◌, subst, arith, inl, inr, eqb-true}
-use Rattle.std.specs.Prelude.{IsTrue, nat_le, ◌==◌}
-use Rattle.std.specs.List.{AllByRecursion}
-use Rattle.std.proofs.lemmas.Bool.{cases_Bool, cases_eq, leb-true, or_cases, or_left, or_right}
-use Rattle.std.proofs.lemmas.Bool.Decides.{nat_tests}
-use Rattle.std.proofs.lemmas.List.{take_more, length-map, map-append}
+use Rattle.surf_surfaces.proofs.Common.{IsTrue, nat_le, ◌==◌, AllByRecursion, cases_Bool, cases_eq, leb-true, or_cases, or_left, or_right, nat_tests, take_more, length-map, map-append, greedy, merge, numbers, is_nothing, chosen, Independent, Decides-is_nothing, xor-false, Split, IsSplit, Tree, Mesh, edge_count, IsSurface, IsClosed, ArePositive, parity, IsNull, IsIndependent, IsLoopCount, cells_of, class_of, AreShortestTrees, loop_walk, DependsOn}
 use Rattle.std.proofs.lemmas.List.Elements.{recursion_from_All, All-from_recursion, All-contains, Contains-append_left, Contains-append_cases, Contains-get_or}
 use Rattle.std.proofs.lemmas.List.Sorted.{Contains-permutation, All-permutation, IsPermutation-map, IsPermutation-sym}
-use Rattle.surf_z2.specs.Greedy.{greedy}
-use Rattle.surf_z2.specs.Order.{merge}
-use Rattle.surf_z2.specs.Space.{numbers, is_nothing, chosen, Independent}
 use Rattle.surf_z2.proofs.Greedy.{greedy_law, all_kept as greedy_spans}
 use Rattle.surf_z2.proofs.Merge.{Sorted, sorted_from_order, order_from_sorted, same_members}
-use Rattle.surf_z2.proofs.Numbers.{Decides-is_nothing}
-use Rattle.surf_z2.proofs.ParityLaws.{xor-false}
 use Rattle.surf_z2.proofs.Passing.{sorted_greedy}
 use Rattle.surf_z2.proofs.Span.{AllInSpan, InSpan, count, free_from_independent}
-use Rattle.surf_graphs.specs.Cells.{Split, IsSplit}
-use Rattle.surf_graphs.specs.Trees.{Tree}
-use Rattle.surf_surfaces.specs.Mesh.{Mesh}
-use Rattle.surf_surfaces.specs.Surface.{edge_count, IsSurface}
-use Rattle.surf_surfaces.specs.Walk.{IsClosed, ArePositive, parity}
-use Rattle.surf_surfaces.specs.Homology.{IsNull, IsIndependent, IsLoopCount}
-use Rattle.surf_surfaces.specs.Cells.{cells_of}
-use Rattle.surf_surfaces.specs.Class.{class_of, AreShortestTrees}
-use Rattle.surf_surfaces.specs.Loop.{loop_walk}
-use Rattle.surf_surfaces.specs.Choice.{DependsOn}
 use Rattle.surf_surfaces.specs.FewBases.{Place, place_at, Found, walks_found, IsFoundAt, IsFoundLoop, AreEnoughOf, AreEnough, AreFoundAt, IsFoundChoice, comes_no_later, every_place, with_vertex, IsWithin}
 use Rattle.surf_surfaces.proofs.CoveredLaws.{contains-map}
 use Rattle.surf_surfaces.proofs.ChoiceExists.{choice_exists}

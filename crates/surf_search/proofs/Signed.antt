@@ -1,14 +1,6 @@
 -- How many signatures there are, and how great they are.
-use Rattle.std.proofs.Common.{◌≡◌, ℕ, ◌<◌, ◌^◌, List, length, ap, ◌∙◌, subst}
-use Rattle.std.proofs.lemmas.List.FromFn.{length-map-range_with_len}
+use Rattle.surf_surfaces.proofs.Common.{◌≡◌, ℕ, ◌<◌, ◌^◌, List, length, ap, ◌∙◌, subst, length-map-range_with_len, Split, chain_signature, Mesh, edge_count, parity, cells_of, class_of, edge_signature}
 use Rattle.surf_z2.proofs.Below.{small}
-use Rattle.surf_graphs.specs.Cells.{Split, chain_signature}
-use Rattle.surf_surfaces.specs.Mesh.{Mesh}
-use Rattle.surf_surfaces.specs.Surface.{edge_count}
-use Rattle.surf_surfaces.specs.Walk.{parity}
-use Rattle.surf_surfaces.specs.Cells.{cells_of}
-use Rattle.surf_surfaces.specs.Class.{class_of}
-use Rattle.surf_surfaces.specs.Signature.{edge_signature}
 use Rattle.surf_cotree.specs.Tables.{CotreeTables}
 use Rattle.surf_search.specs.Signing.{AreSigned}
 

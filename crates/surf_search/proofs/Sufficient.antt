@@ -1,10 +1,5 @@
 -- The places of the loops that are kept are enough for the basis that is chosen.
-use Rattle.std.proofs.Common.{ℕ, ◌<◌, ◌≤◌, List, length, get_or, map, All, sym, ap, ◌∙◌, subst}
-use Rattle.surf_surfaces.specs.Mesh.{Mesh}
-use Rattle.surf_surfaces.specs.Surface.{IsSurface}
-use Rattle.surf_surfaces.specs.Walk.{ArePositive}
-use Rattle.surf_surfaces.specs.FewBases.{MeetsAll}
-use Rattle.surf_surfaces.specs.Homology.{IsLoopCount}
+use Rattle.surf_surfaces.proofs.Common.{ℕ, ◌<◌, ◌≤◌, List, length, get_or, map, All, sym, ap, ◌∙◌, subst, Mesh, IsSurface, ArePositive, MeetsAll, IsLoopCount}
 use Rattle.surf_surfaces.proofs.ChoiceExists.{choice_exists}
 use Rattle.surf_surfaces.proofs.FewBasesLaws.{few_bases_suffice, least_base_on_way}
 use Rattle.surf_surfaces.proofs.FirstCycleLaws.{shortest_trees}

@@ -1,20 +1,8 @@
 -- What the tables of a search tell of the loops at its base.
 use Rattle.std.proofs.Common.{◌≡◌, ◌≢◌, ℕ, zero, suc, ◌<◌, ◌≤◌, ◌+◌, ◌*◌, ◌/◌, ◌^◌, ◌++◌, ◌∷◌, [], true, false, not, ltb, eqb, eqb-true, cond, ◌-◌, List, length, get_or, map, slice_index, bit_xor, min, All, Contains, Option, Some, None, refl, sym, ap, ◌∙◌, subst, arith, inl, inr}
-use Rattle.std.specs.Prelude.{IsTrue, ◌==◌}
+use Rattle.surf_surfaces.proofs.Common.{IsTrue, ◌==◌, cases_Bool, cases_eq, cases_lt, and_parts, and_from, leb-true, le-leb, ltb-true, nat_tests, get_or_default, get_or_read, length-map, get_or-map, Split, Tree, Mesh, edge_count, ends, IsSurface, ArePositive, edge_length, edge_number, AreShortestTrees, loop_length, Trees, AreChosen, edge_signature}
 use Rattle.std.specs.Int.Bits.{xor_assoc, xor_comm}
-use Rattle.std.proofs.lemmas.Bool.{cases_Bool, cases_eq, cases_lt, and_parts, and_from, leb-true, le-leb, ltb-true}
-use Rattle.std.proofs.lemmas.Bool.Decides.{nat_tests}
-use Rattle.std.proofs.lemmas.List.{get_or_default, get_or_read, length-map, get_or-map}
 use Rattle.std.proofs.lemmas.List.Elements.{All-push, Contains-append_left, Contains-append_right}
-use Rattle.surf_graphs.specs.Cells.{Split}
-use Rattle.surf_graphs.specs.Trees.{Tree}
-use Rattle.surf_surfaces.specs.Mesh.{Mesh}
-use Rattle.surf_surfaces.specs.Surface.{edge_count, ends, IsSurface}
-use Rattle.surf_surfaces.specs.Walk.{ArePositive, edge_length, edge_number}
-use Rattle.surf_surfaces.specs.Class.{AreShortestTrees}
-use Rattle.surf_surfaces.specs.Loop.{loop_length}
-use Rattle.surf_surfaces.specs.Choice.{Trees, AreChosen}
-use Rattle.surf_surfaces.specs.Signature.{edge_signature}
 use Rattle.surf_surfaces.specs.FewBases.{place_at, comes_sooner, least_base, least_on_way}
 use Rattle.surf_surfaces.proofs.FirstCycleLaws.{shortest_trees}
 use Rattle.surf_surfaces.proofs.FirstFoundLaws.{ends_are_near}

@@ -1,15 +1,7 @@
 -- Ways up to the base of a search, and the loops of edges by them.
-use Rattle.std.proofs.Common.{◌≡◌, ◌≢◌, ℕ, ◌<◌, ◌≤◌, ◌/◌, ◌∷◌, ◌++◌, [], true, List, reverse, slice_index, sym, ap, ◌∙◌, subst, arith}
-use Rattle.std.proofs.lemmas.Bool.{leb-true, le-leb}
-use Rattle.surf_graphs.specs.Cells.{primal}
+use Rattle.surf_surfaces.proofs.Common.{◌≡◌, ◌≢◌, ℕ, ◌<◌, ◌≤◌, ◌/◌, ◌∷◌, ◌++◌, [], true, List, reverse, slice_index, sym, ap, ◌∙◌, subst, arith, leb-true, le-leb, primal, Tree, IsTree, Mesh, ends, IsSurface, ArePositive, cells_of, IsShortestTree}
 use Rattle.surf_graphs.specs.Loops.{way_up, way_down}
-use Rattle.surf_graphs.specs.Trees.{Tree, IsTree}
 use Rattle.surf_graphs.proofs.Ways.{ways_go_by_parents}
-use Rattle.surf_surfaces.specs.Mesh.{Mesh}
-use Rattle.surf_surfaces.specs.Surface.{ends, IsSurface}
-use Rattle.surf_surfaces.specs.Walk.{ArePositive}
-use Rattle.surf_surfaces.specs.Cells.{cells_of}
-use Rattle.surf_surfaces.specs.ShortestTree.{IsShortestTree}
 use Rattle.surf_surfaces.proofs.ChoiceExists.{choice_exists}
 use Rattle.surf_surfaces.proofs.FirstCycleLaws.{shortest_trees}
 use Rattle.surf_surfaces.proofs.FirstFoundLaws.{ends_are_near}

@@ -1,7 +1,5 @@
 -- Copy lines that are read one after the other.
-use Rattle.std.proofs.Common.{◌≡◌, ◌+◌, ℕ, true, false, List, [], ◌∷◌, ◌++◌, length, Some, None, Result, Ok, Err, refl, sym, ap, append_assoc, not, codes}
-use Rattle.std.proofs.lemmas.List.{append-nil}
-use Rattle.std.specs.Str.{bytes_eq}
+use Rattle.surf_surfaces.proofs.Common.{◌≡◌, ◌+◌, ℕ, true, false, List, [], ◌∷◌, ◌++◌, length, Some, None, Result, Ok, Err, refl, sym, ap, append_assoc, not, codes, append-nil, bytes_eq}
 use Rattle.surf_text.specs.Text.{words_of, whole}
 use Rattle.surf_text.specs.Walks.{has_some}
 use Rattle.surf_sew.specs.declared.copies.CopyFault.{CopyFault}

@@ -1,8 +1,6 @@
 -- The copy lines of a text, line by line: which lines are none, and what one says.
 use Rattle.std.proofs.Common.{◌≡◌, ◌<◌, ◌+◌, ◌^◌, ℕ, false, List, [], ◌∷◌, ◌++◌, Some, refl, ◌∙◌, ap, append_assoc, arith, codes, eq-eqb}
-use Rattle.std.specs.Prelude.{decimal}
-use Rattle.std.specs.List.{list_any, slice_split}
-use Rattle.std.proofs.lemmas.Bool.{lt-ltb}
+use Rattle.surf_surfaces.proofs.Common.{decimal, list_any, slice_split, lt-ltb}
 use Rattle.surf_text.specs.Text.{is_line_end, is_comment_sign}
 use Rattle.surf_off.specs.Written.{copy_text}
 use Rattle.surf_off.proofs.CleanLines.{none_head, none_tail}

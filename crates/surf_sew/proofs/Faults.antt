@@ -1,12 +1,8 @@
 -- The first fault of copies and their origins.
-use Rattle.std.proofs.Common.{◌≡◌, ◌≢◌, ◌<◌, ◌≤◌, ◌+◌, ℕ, Bool, true, false, not, List, [], ◌∷◌, length, get_or, drop, Option, Some, None, refl, sym, ◌∙◌, ap, arith}
-use Rattle.std.specs.Prelude.{slice_index, AllPairs}
+use Rattle.surf_surfaces.proofs.Common.{◌≡◌, ◌≢◌, ◌<◌, ◌≤◌, ◌+◌, ℕ, Bool, true, false, not, List, [], ◌∷◌, length, get_or, drop, Option, Some, None, refl, sym, ◌∙◌, ap, arith, slice_index, AllPairs, option_map, sum_by-cons, Mesh, IsFace}
 use Rattle.std.specs.List.{All, sum_by}
-use Rattle.std.specs.Option.{option_map}
 use Rattle.std.proofs.lemmas.List.{length-map, get_or-map, at_drop_more, at_drop_all}
 use Rattle.std.proofs.lemmas.List.Elements.{All-map}
-use Rattle.std.proofs.lemmas.List.Sums.{sum_by-cons}
-use Rattle.surf_surfaces.specs.Mesh.{Mesh, IsFace}
 use Rattle.surf_off.specs.Off.{first_repeat}
 use Rattle.surf_off.proofs.FaceRows.{other_default}
 use Rattle.surf_sew.specs.declared.fault.SewFault.TheVariants.{Line, FaceRepeat}

@@ -1,11 +1,7 @@
 -- The text of a sewn mesh, and what it is read as.
-use Rattle.std.proofs.Common.{◌≡◌, ◌<◌, ◌^◌, ℕ, List, [], ◌∷◌, ◌++◌, length, Ok, refl, sym, ◌∙◌, ap, subst, arith}
+use Rattle.surf_surfaces.proofs.Common.{◌≡◌, ◌<◌, ◌^◌, ℕ, List, [], ◌∷◌, ◌++◌, length, Ok, refl, sym, ◌∙◌, ap, subst, arith, length-map, append-nil, length-range_with_len, Mesh, IsMesh, edge_count}
 use Rattle.std.specs.List.{All, zip, range_with_len}
-use Rattle.std.proofs.lemmas.List.{length-map, append-nil}
 use Rattle.std.proofs.lemmas.List.Elements.{All-head, All-tail}
-use Rattle.std.proofs.lemmas.List.FromFn.{length-range_with_len}
-use Rattle.surf_surfaces.specs.Mesh.{Mesh, IsMesh}
-use Rattle.surf_surfaces.specs.Surface.{edge_count}
 use Rattle.surf_off.specs.Clean.{IsVertexLine, IsOffParts}
 use Rattle.surf_off.specs.Off.{OffParts}
 use Rattle.surf_off.specs.Written.{head_text, lines_text, faces_text, lines_at}

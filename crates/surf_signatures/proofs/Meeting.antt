@@ -1,9 +1,6 @@
 -- Ways through a tree, climbed from both ends.
-use Rattle.std.proofs.Common.{ℕ, ◌<◌, ◌≡◌, ◌≢◌, ◌⊎◌, inl, inr, false, eqb, ap, sym, ◌∙◌}
+use Rattle.surf_surfaces.proofs.Common.{ℕ, ◌<◌, ◌≡◌, ◌≢◌, ◌⊎◌, inl, inr, false, eqb, ap, sym, ◌∙◌, Graph, between, Tree, IsTree, on_path}
 use Rattle.surf_z2.specs.Parity.{xor, xor_assoc, xor_comm, xor-same}
-use Rattle.surf_graphs.specs.Graphs.{Graph}
-use Rattle.surf_graphs.specs.Growth.{between}
-use Rattle.surf_graphs.specs.Trees.{Tree, IsTree, on_path}
 use Rattle.surf_graphs.proofs.Trees.{path_step}
 
 -- one step up from one of two nodes

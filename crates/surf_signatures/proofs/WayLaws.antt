@@ -1,20 +1,7 @@
 -- Signatures of ways up a tree, and of loops.
-use Rattle.std.proofs.Common.{◌≡◌, ◌≢◌, ℕ, ◌<◌, ◌&&◌, List, false, eqb, length, bit_xor, ap, ◌∙◌}
-use Rattle.surf_z2.specs.Parity.{xor}
-use Rattle.surf_z2.proofs.Below.{same_from}
+use Rattle.surf_surfaces.proofs.Common.{◌≡◌, ◌≢◌, ℕ, ◌<◌, ◌&&◌, List, false, eqb, length, bit_xor, ap, ◌∙◌, xor, same_from, primal, Split, signature, chain_signature, signature_of, Tree, IsTree, IsShortest, on_path, loop, signature_of-same, signature_of-linear, Mesh, edge_count, ends, IsSurface, edge_length, parity, cells_of, class_of, loop_walk, edge_signature}
 use Rattle.surf_z2.proofs.ParityLaws.{eqb_comm, odd_below-same, odd_below-one}
-use Rattle.surf_graphs.specs.Cells.{primal, Split, signature, chain_signature}
-use Rattle.surf_graphs.specs.Independence.{signature_of}
-use Rattle.surf_graphs.specs.Trees.{Tree, IsTree, IsShortest, on_path, loop}
-use Rattle.surf_graphs.proofs.Independence.{signature_of-same, signature_of-linear}
 use Rattle.surf_graphs.proofs.Trees.{path_root, path_step}
-use Rattle.surf_surfaces.specs.Mesh.{Mesh}
-use Rattle.surf_surfaces.specs.Surface.{edge_count, ends, IsSurface}
-use Rattle.surf_surfaces.specs.Walk.{edge_length, parity}
-use Rattle.surf_surfaces.specs.Cells.{cells_of}
-use Rattle.surf_surfaces.specs.Class.{class_of}
-use Rattle.surf_surfaces.specs.Loop.{loop_walk}
-use Rattle.surf_surfaces.specs.Signature.{edge_signature}
 use Rattle.surf_surfaces.proofs.ClassLaws.{runs_loop}
 use Rattle.surf_signatures.specs.Ways.{way_class}
 

@@ -1,9 +1,5 @@
 -- Places counted from behind one of them, so that it comes last.
-use Rattle.std.proofs.Common.{◌≡◌, ℕ, ◌+◌, ◌-◌, ◌<◌, ◌≤◌, ◌⊎◌, inl, inr, refl, subst, ap, ◌∙◌, arith}
-use Rattle.std.proofs.lemmas.Bool.{cases_lt, lt-ltb, le-ltb}
-use Rattle.surf_surfaces.specs.Mesh.{Mesh}
-use Rattle.surf_surfaces.specs.Side.{after}
-use Rattle.surf_surfaces.specs.SideNumber.{IsFaceOf}
+use Rattle.surf_surfaces.proofs.Common.{◌≡◌, ℕ, ◌+◌, ◌-◌, ◌<◌, ◌≤◌, ◌⊎◌, inl, inr, refl, subst, ap, ◌∙◌, arith, cases_lt, lt-ltb, le-ltb, Mesh, after, IsFaceOf}
 use Rattle.surf_opening.proofs.Polygons.{after_cases}
 use Rattle.surf_slit.specs.Place.{place}
 use Rattle.surf_slit.proofs.Fans.{IsFan}

@@ -1,18 +1,12 @@
 -- Labels at one vertex after another.
-use Rattle.std.proofs.Common.{◌≡◌, ◌≢◌, ℕ, ◌+◌, ◌-◌, ◌<◌, ◌≤◌, ◌⊎◌, zero, suc, max, inl, inr, sym, refl, subst, ap, ◌∙◌, List, length, get_or, replicate, eqb, Bool, true, false, arith}
+use Rattle.surf_surfaces.proofs.Common.{◌≡◌, ◌≢◌, ℕ, ◌+◌, ◌-◌, ◌<◌, ◌≤◌, ◌⊎◌, zero, suc, max, inl, inr, sym, refl, subst, ap, ◌∙◌, List, length, get_or, replicate, eqb, Bool, true, false, arith, cases_eq, cases_lt, cases_order, or_left, or_right, eq-eqb, or_cases, eqb-true, count_below, Joined, here, over, Mesh, pair, edge_count, ends, touches, ShareAt, IsSurface, side_count, slice_index}
 use Rattle.std.proofs.Math.ListN.{set}
-use Rattle.std.proofs.lemmas.Bool.{cases_eq, cases_lt, cases_order, or_left, or_right, eq-eqb, or_cases, eqb-true}
 use Rattle.std.proofs.lemmas.List.{get_or-set_same, get_or-set_other, get_or-replicate}
-use Rattle.surf_z2.specs.Parity.{count_below}
-use Rattle.surf_surfaces.specs.Joined.{Joined, here, over}
-use Rattle.surf_surfaces.specs.Mesh.{Mesh, pair}
-use Rattle.surf_surfaces.specs.Surface.{edge_count, ends, touches, ShareAt, IsSurface}
 use Rattle.surf_surfaces.proofs.CellLaws.{ends_below}
 use Rattle.surf_surfaces.proofs.JoinedLaws.{joined_lift}
 use Rattle.surf_opening.specs.Opening.{ShareUncutAt}
 use Rattle.surf_opening.proofs.Counting.{pigeons}
 use Rattle.surf_opening.proofs.Edges.{edge_of}
-use Rattle.surf_surfaces.specs.SideNumber.{side_count}
 use Rattle.surf_soup.specs.Ring.{BeginsAt, IsRing, IsEdgeAt, AreEdgesAt, GoBetween}
 use Rattle.surf_soup.proofs.CornerSides.{begins_corner, corner_begins}
 use Rattle.surf_slit.specs.Labels.{corner_at, IsUncut, AgreeAt, AreNumbers, AreLabels, IsLabelledAt}
@@ -21,7 +15,6 @@ use Rattle.surf_slit.specs.Place.{place, cut_behind, NoneCut, IsNextCut}
 use Rattle.surf_slit.proofs.Fans.{IsFan}
 use Rattle.surf_slit.proofs.Steps.{labels_few, corner_below, all_labels, each_vertex, agree_kept, agree_elsewhere, runs_agree, runs_between, runs_used, agree_closed, agree_split, old_same}
 use Rattle.surf_slit.proofs.Turned.{turned, place_last}
-use Rattle.std.specs.Prelude.{slice_index}
 
 -- the corners at the first n vertices have so many labels, and these agree (IsLabelledAt is of one vertex)
 pub record AreLabelledBelow (mesh : Mesh) (cut : List Bool) (labels : List ℕ) (n count : ℕ) : Type 0 where

@@ -1,23 +1,13 @@
 -- The roots of faces tell which are joined by shared edges.
-use Rattle.std.proofs.Common.{◌≡◌, ◌≢◌, ℕ, zero, suc, ◌+◌, ◌<◌, ◌≤◌, cond, eqb, min, max, List, [], ◌∷◌, ◌++◌, length}
-use Rattle.std.proofs.Common.{get_or, refl, sym, ap, subst, ◌∙◌, arith, inl, inr}
-use Rattle.std.specs.List.{range_with_len}
-use Rattle.std.proofs.lemmas.Bool.{cases_eq, cases_lt, eq-eqb, ne_eqb}
-use Rattle.std.proofs.lemmas.List.{length-map, get_or_push, get_or_append_left, length_push}
+use Rattle.surf_surfaces.proofs.Common.{◌≡◌, ◌≢◌, ℕ, zero, suc, ◌+◌, ◌<◌, ◌≤◌, cond, eqb, min, max, List, [], ◌∷◌, ◌++◌, length, get_or, refl, sym, ap, subst, ◌∙◌, arith, inl, inr, range_with_len, cases_eq, cases_lt, eq-eqb, ne_eqb, length-map, get_or_push, get_or_append_left, length_push, length-range_with_len, get_or-range_with_len, Joined, here, over, Mesh, IsMesh, edges, face_count, face_at, faces_with, Share, IsConnected, side_count, pair_at, owners, sides_with, first_side, place_of}
 use Rattle.std.proofs.lemmas.List.Sums.{sum_by_push}
-use Rattle.std.proofs.lemmas.List.FromFn.{length-range_with_len, get_or-range_with_len}
 use Rattle.surf_soup.specs.Forest.{HasRoots, merged}
 use Rattle.surf_soup.specs.Apart.{AreAcross, AreFaceRoots, IsLeastApart}
-use Rattle.surf_surfaces.specs.Joined.{Joined, here, over}
 use Rattle.surf_surfaces.proofs.JoinedLaws.{joined_trans, joined_sym, joined_closed}
-use Rattle.surf_surfaces.specs.Mesh.{Mesh, IsMesh, edges}
-use Rattle.surf_surfaces.specs.Surface.{face_count, face_at, faces_with, Share, IsConnected}
-use Rattle.surf_surfaces.specs.SideNumber.{side_count, pair_at, owners, sides_with, first_side}
 use Rattle.surf_soup.specs.Half.{AreAllMates}
 use Rattle.surf_soup.specs.Pairs.{HasTwoFaces}
 use Rattle.surf_soup.proofs.Owners.{faces_with-sides}
 use Rattle.surf_soup.proofs.EdgeTables.{pair_at-edge}
-use Rattle.surf_surfaces.specs.Walk.{place_of}
 use Rattle.surf_surfaces.proofs.EdgeLaws.{place_of-among}
 use Rattle.surf_soup.proofs.HalfLaws.{face_of_side, spans}
 use Rattle.surf_soup.proofs.SideNumbers.{across_shares, shares_across, one_face, mate_back}

@@ -1,18 +1,8 @@
 -- Sides that begin at a vertex, with their faces and places.
-use Rattle.std.proofs.Common.{◌≡◌, ℕ, zero, suc, ◌+◌, ◌-◌, ◌<◌, true, eqb, List, [], ◌∷◌, length, get_or, refl, sym, ap}
-use Rattle.std.proofs.Common.{◌∙◌, arith, inl, inr}
-use Rattle.std.specs.List.{range_with_len}
-use Rattle.std.proofs.lemmas.Bool.{cases_eq, cases_lt, eq-eqb, eqb-true}
-use Rattle.std.proofs.lemmas.List.{get_or_default}
-use Rattle.std.proofs.lemmas.List.Elements.{All-from_recursion}
-use Rattle.std.proofs.lemmas.List.FromFn.{length-range_with_len, get_or-range_with_len}
-use Rattle.surf_surfaces.specs.Mesh.{Mesh, IsMesh}
-use Rattle.surf_surfaces.specs.Side.{corner}
-use Rattle.surf_surfaces.specs.Surface.{face_at, HasCorner}
+use Rattle.surf_surfaces.proofs.Common.{◌≡◌, ℕ, zero, suc, ◌+◌, ◌-◌, ◌<◌, true, eqb, List, [], ◌∷◌, length, get_or, refl, sym, ap, ◌∙◌, arith, inl, inr, range_with_len, cases_eq, cases_lt, eq-eqb, eqb-true, get_or_default, All-from_recursion, length-range_with_len, get_or-range_with_len, Mesh, IsMesh, corner, face_at, HasCorner, side_count, first_side, IsFaceOf}
 use Rattle.surf_surfaces.proofs.EdgeLaws.{list_any_at}
 use Rattle.surf_surfaces.proofs.SideLaws.{corner_place}
 use Rattle.surf_rows.specs.Groups.{has_key}
-use Rattle.surf_surfaces.specs.SideNumber.{side_count, first_side, IsFaceOf}
 use Rattle.surf_soup.specs.Vertices.{all_corners, sides_at}
 use Rattle.surf_soup.specs.Ring.{BeginsAt}
 use Rattle.surf_soup.proofs.Order.{Ordered, all_filter, passing, range_below}

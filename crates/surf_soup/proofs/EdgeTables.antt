@@ -1,14 +1,7 @@
 -- The listed pairs are the edges, and the groups by edge are the sides of the edges.
-use Rattle.std.proofs.Common.{◌≡◌, ℕ, zero, suc, ◌+◌, ◌<◌, ◌≤◌, Bool, true, false, eqb, List, [], ◌∷◌, length, get_or}
-use Rattle.std.proofs.Common.{map, take, refl, sym, ap, ◌∙◌, arith}
+use Rattle.surf_surfaces.proofs.Common.{◌≡◌, ℕ, zero, suc, ◌+◌, ◌<◌, ◌≤◌, Bool, true, false, eqb, List, [], ◌∷◌, length, get_or, map, take, refl, sym, ap, ◌∙◌, arith, true≢false, eqb-true, length-map, get_or-map, same_lists, take_all, All-from_recursion, sum_by-cons, Mesh, IsMesh, sides, pair_of, pair_eq, among, edges, edge_count, ends}
 use Rattle.std.specs.List.{AllByRecursion, filter, flat_map, range_with_len, sum_by}
-use Rattle.std.proofs.lemmas.Bool.{true≢false, eqb-true}
-use Rattle.std.proofs.lemmas.List.{length-map, get_or-map, same_lists, take_all}
 use Rattle.std.proofs.lemmas.List.Concat.{length-flat_map}
-use Rattle.std.proofs.lemmas.List.Elements.{All-from_recursion}
-use Rattle.std.proofs.lemmas.List.Sums.{sum_by-cons}
-use Rattle.surf_surfaces.specs.Mesh.{Mesh, IsMesh, sides, pair_of, pair_eq, among, edges}
-use Rattle.surf_surfaces.specs.Surface.{edge_count, ends}
 use Rattle.surf_surfaces.proofs.PairLaws.{pair_eq-true, pair_eq-self, pair_eq-same, pair_same}
 use Rattle.surf_surfaces.proofs.EdgeLaws.{among-sorted, list_any_at, list_any_from, rising_unique, rising_from_AllPairs}
 use Rattle.surf_surfaces.proofs.EdgeLaws.{edges-rise}

@@ -1,7 +1,5 @@
 -- Parents that are halved, and sets that become one.
-use Rattle.std.proofs.Common.{◌≡◌, ℕ, zero, suc, ◌<◌, ◌≤◌, cond, eqb, min, max, List, length, get_or, set, subst, refl}
-use Rattle.std.proofs.Common.{sym, ap, ◌∙◌, arith, inl, inr}
-use Rattle.std.proofs.lemmas.Bool.{cases_eq, eq-eqb, ne_eqb}
+use Rattle.surf_surfaces.proofs.Common.{◌≡◌, ℕ, zero, suc, ◌<◌, ◌≤◌, cond, eqb, min, max, List, length, get_or, set, subst, refl, sym, ap, ◌∙◌, arith, inl, inr, cases_eq, eq-eqb, ne_eqb}
 use Rattle.std.proofs.lemmas.List.{length-set, get_or-set_same, get_or-set_other}
 use Rattle.surf_soup.specs.Forest.{Falls, HasRoots, merged}
 

@@ -1,11 +1,5 @@
 -- Sides that no round has marked, and the pinches that they show.
-use Rattle.std.proofs.Common.{◌≡◌, ◌≢◌, ℕ, ◌+◌, ◌<◌, ◌≤◌, ◌⊎◌, Bool, true, false, List, [], Option, None, Some}
-use Rattle.std.proofs.Common.{MatchOption, length, get_or, refl, sym, ap, subst, ◌∙◌, arith, inl, inr}
-use Rattle.std.proofs.lemmas.Bool.{true≢false, cases_eq, cases_Bool}
-use Rattle.std.proofs.lemmas.List.{get_or_default}
-use Rattle.surf_surfaces.specs.Mesh.{Mesh, IsMesh}
-use Rattle.surf_surfaces.specs.Surface.{HasOneFan}
-use Rattle.surf_surfaces.specs.SideNumber.{side_count, owners}
+use Rattle.surf_surfaces.proofs.Common.{◌≡◌, ◌≢◌, ℕ, ◌+◌, ◌<◌, ◌≤◌, ◌⊎◌, Bool, true, false, List, [], Option, None, Some, MatchOption, length, get_or, refl, sym, ap, subst, ◌∙◌, arith, inl, inr, true≢false, cases_eq, cases_Bool, get_or_default, Mesh, IsMesh, HasOneFan, side_count, owners}
 use Rattle.surf_soup.specs.Vertices.{all_corners, sides_at, AllMet}
 use Rattle.surf_soup.specs.Reach.{marked}
 use Rattle.surf_soup.specs.Ring.{AreDartTables, BeginsAt, IsPinch, IsLeastPinch, AreMarkedFans}

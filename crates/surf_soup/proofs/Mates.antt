@@ -1,12 +1,6 @@
 -- The two sides of an edge.
-use Rattle.std.proofs.Common.{◌≡◌, ◌≢◌, ℕ, zero, suc, ◌+◌, ◌<◌, ◌≤◌, ◌⊎◌, Bool, true, eqb, List, [], ◌∷◌, length}
-use Rattle.std.proofs.Common.{get_or, map, refl, sym, ap, ◌∙◌, arith, inl, inr}
+use Rattle.surf_surfaces.proofs.Common.{◌≡◌, ◌≢◌, ℕ, zero, suc, ◌+◌, ◌<◌, ◌≤◌, ◌⊎◌, Bool, true, eqb, List, [], ◌∷◌, length, get_or, map, refl, sym, ap, ◌∙◌, arith, inl, inr, eq-eqb, eqb-true, cases_eq, cases_Bool, or_left, or_right, All-from_recursion, length-range_with_len, get_or-range_with_len, Mesh, IsMesh, pair_eq, edges, edge_count, ends, place_of}
 use Rattle.std.specs.List.{AllByRecursion, filter, list_any, range_with_len}
-use Rattle.std.proofs.lemmas.Bool.{eq-eqb, eqb-true, cases_eq, cases_Bool, or_left, or_right}
-use Rattle.std.proofs.lemmas.List.Elements.{All-from_recursion}
-use Rattle.std.proofs.lemmas.List.FromFn.{length-range_with_len, get_or-range_with_len}
-use Rattle.surf_surfaces.specs.Mesh.{Mesh, IsMesh, pair_eq, edges}
-use Rattle.surf_surfaces.specs.Surface.{edge_count, ends}
 use Rattle.surf_surfaces.proofs.PairLaws.{pair_eq-true, pair_eq-self}
 use Rattle.surf_surfaces.proofs.EdgeLaws.{list_any_at}
 use Rattle.surf_surfaces.specs.SideNumber.{side_count, pair_at, owners, sides_with, IsMate}
@@ -14,7 +8,6 @@ use Rattle.surf_soup.specs.EdgeTable.{AreEdgeNumbers}
 use Rattle.surf_soup.specs.Half.{AreAllMates}
 use Rattle.surf_soup.specs.Pairs.{HasTwoFaces}
 use Rattle.surf_soup.proofs.Paired.{rows_len, row_is, row_degree, row_side}
-use Rattle.surf_surfaces.specs.Walk.{place_of}
 use Rattle.surf_surfaces.proofs.EdgeLaws.{place_of-ends}
 use Rattle.surf_soup.proofs.Order.{Ordered, all_filter, passing}
 

@@ -1,12 +1,8 @@
 -- The faces of a pair are those of its sides.
-use Rattle.std.proofs.Common.{◌≡◌, ℕ, suc, ◌+◌, ◌<◌, ◌≤◌, false, cond, List, [], ◌∷◌, ◌++◌, length, get_or, map}
-use Rattle.std.proofs.Common.{replicate, refl, sym, ap, ◌∙◌, arith, inl, inr, All}
+use Rattle.surf_surfaces.proofs.Common.{◌≡◌, ℕ, suc, ◌+◌, ◌<◌, ◌≤◌, false, cond, List, [], ◌∷◌, ◌++◌, length, get_or, map, replicate, refl, sym, ap, ◌∙◌, arith, inl, inr, All, map-append, length-map, length-append, length-replicate, sum_by-cons, Mesh, IsMesh, IsFace, sides, pair_of, pair_eq, among}
 use Rattle.std.specs.List.{filter, flat_map, range_with_len, sum_by}
 use Rattle.std.proofs.lemmas.Bool.{cases_Bool, or_parts}
-use Rattle.std.proofs.lemmas.List.{map-append, length-map, length-append, length-replicate}
-use Rattle.std.proofs.lemmas.List.Sums.{sum_by-cons}
 use Rattle.std.proofs.lemmas.List.Elements.{All-head, All-tail}
-use Rattle.surf_surfaces.specs.Mesh.{Mesh, IsMesh, IsFace, sides, pair_of, pair_eq, among}
 use Rattle.surf_surfaces.specs.Surface.{has_side, places_from, faces_with}
 use Rattle.surf_surfaces.proofs.PairLaws.{pair_eq-true}
 use Rattle.surf_surfaces.proofs.FaceLaws.{Once, face_once, has_side-among}

@@ -1,7 +1,5 @@
 -- Paired edges have no fault.
-use Rattle.std.proofs.Common.{◌≡◌, ◌<◌, refl, ap, ◌∙◌, length, arith}
-use Rattle.surf_surfaces.specs.Mesh.{Mesh}
-use Rattle.surf_surfaces.specs.Surface.{face_count, faces_with}
+use Rattle.surf_surfaces.proofs.Common.{◌≡◌, ◌<◌, refl, ap, ◌∙◌, length, arith, Mesh, face_count, faces_with}
 use Rattle.surf_soup.specs.Pairs.{HasTwoFaces, IsPairFault}
 use Rattle.surf_soup.specs.declared.pairs.PairFault.{PairFault}
 use Rattle.surf_soup.specs.declared.pairs.PairFault.TheVariants.{Empty, Border, Crowded, Memory}

@@ -1,16 +1,7 @@
 -- Two sides more are paired.
-use Rattle.std.proofs.Common.{◌≡◌, ◌≢◌, ℕ, ◌+◌, ◌-◌, ◌<◌, true, List, [], ◌∷◌, ◌++◌, length, get_or, map, set, take}
-use Rattle.std.proofs.Common.{refl, sym, ap, ◌∙◌, subst, arith, inl, inr}
-use Rattle.std.specs.List.{sum_by}
-use Rattle.std.proofs.lemmas.Bool.{cases_eq}
+use Rattle.surf_surfaces.proofs.Common.{◌≡◌, ◌≢◌, ℕ, ◌+◌, ◌-◌, ◌<◌, true, List, [], ◌∷◌, ◌++◌, length, get_or, map, set, take, refl, sym, ap, ◌∙◌, subst, arith, inl, inr, sum_by, cases_eq, length_push, get_or_push, get_or_append_left, get_or_default, same_lists, All-from_recursion, Mesh, IsMesh, pair_eq, edges, edge_count, side_count, owners}
 use Rattle.std.proofs.lemmas.List.{length-map, get_or-map, length-set, get_or-set_same, get_or-set_other}
-use Rattle.std.proofs.lemmas.List.{length_push, get_or_push, get_or_append_left, get_or_default}
-use Rattle.std.proofs.lemmas.List.{same_lists}
-use Rattle.std.proofs.lemmas.List.Elements.{All-from_recursion}
-use Rattle.surf_surfaces.specs.Mesh.{Mesh, IsMesh, pair_eq, edges}
-use Rattle.surf_surfaces.specs.Surface.{edge_count}
 use Rattle.surf_surfaces.proofs.PairLaws.{pair_eq-true, pair_lt-irreflexive}
-use Rattle.surf_surfaces.specs.SideNumber.{side_count, owners}
 use Rattle.surf_rows.specs.Rows.{with_last_longer}
 use Rattle.surf_soup.specs.Order.{lesser_ends, greater_ends, pair_in, running, IsLast, AreListedUpto, AreSideEntries}
 use Rattle.surf_soup.specs.Pairs.{HasTwoFaces}

@@ -1,14 +1,7 @@
 -- Rows of sides, read as the faces of edges.
-use Rattle.std.proofs.Common.{◌≡◌, ◌≢◌, ℕ, ◌+◌, ◌<◌, ◌≤◌, true, List, [], ◌∷◌, length, get_or, take, map, refl, sym, ap}
-use Rattle.std.proofs.Common.{◌∙◌, arith, inl, inr}
-use Rattle.std.specs.List.{list_any, range_with_len}
-use Rattle.std.proofs.lemmas.Bool.{true≢false, cases_eq, cases_lt}
+use Rattle.surf_surfaces.proofs.Common.{◌≡◌, ◌≢◌, ℕ, ◌+◌, ◌<◌, ◌≤◌, true, List, [], ◌∷◌, length, get_or, take, map, refl, sym, ap, ◌∙◌, arith, inl, inr, list_any, range_with_len, true≢false, cases_eq, cases_lt, All-from_recursion, length-range_with_len, get_or-range_with_len, Mesh, IsMesh, pair_eq, edges, edge_count, ends, faces_with}
 use Rattle.std.proofs.lemmas.List.{length-map, get_or-map, nil_from_length}
-use Rattle.std.proofs.lemmas.List.Elements.{All-from_recursion}
 use Rattle.std.proofs.lemmas.List.Sums.{length-filter, count_by-le-length}
-use Rattle.std.proofs.lemmas.List.FromFn.{length-range_with_len, get_or-range_with_len}
-use Rattle.surf_surfaces.specs.Mesh.{Mesh, IsMesh, pair_eq, edges}
-use Rattle.surf_surfaces.specs.Surface.{edge_count, ends, faces_with}
 use Rattle.surf_surfaces.proofs.PairLaws.{pair_eq-self}
 use Rattle.surf_surfaces.proofs.EdgeLaws.{among-sorted, list_any_at, list_any_from}
 use Rattle.surf_surfaces.specs.SideNumber.{side_count, side_pairs, pair_at, owners, sides_with}

@@ -1,14 +1,7 @@
 -- The round of a vertex is its ring.
-use Rattle.std.proofs.Common.{◌≡◌, ◌≢◌, ℕ, zero, suc, ◌+◌, ◌-◌, ◌<◌, ◌⊎◌, Bool, true, false, List, length, get_or, refl}
-use Rattle.std.proofs.Common.{sym, ap, subst, ◌∙◌, arith, inl, inr}
-use Rattle.std.proofs.lemmas.Bool.{true≢false, cases_eq, cases_lt}
-use Rattle.surf_surfaces.specs.Joined.{Joined, here, over}
-use Rattle.surf_surfaces.specs.Mesh.{Mesh, IsMesh}
-use Rattle.surf_surfaces.specs.Side.{after, before}
-use Rattle.surf_surfaces.specs.Surface.{face_count, edge_count, ends, touches, HasCorner, HasEdge, ShareAt, HasOneFan}
+use Rattle.surf_surfaces.proofs.Common.{◌≡◌, ◌≢◌, ℕ, zero, suc, ◌+◌, ◌-◌, ◌<◌, ◌⊎◌, Bool, true, false, List, length, get_or, refl, sym, ap, subst, ◌∙◌, arith, inl, inr, true≢false, cases_eq, cases_lt, Joined, here, over, Mesh, IsMesh, after, before, face_count, edge_count, ends, touches, HasCorner, HasEdge, ShareAt, HasOneFan, side_count, pair_at, owners, sides_with, first_side, IsFaceOf}
 use Rattle.surf_surfaces.proofs.JoinedLaws.{joined_trans, joined_sym, joined_closed}
 use Rattle.surf_surfaces.proofs.FaceLaws.{touches_first}
-use Rattle.surf_surfaces.specs.SideNumber.{side_count, pair_at, owners, sides_with, first_side, IsFaceOf}
 use Rattle.surf_soup.specs.Half.{AreAllMates}
 use Rattle.surf_soup.specs.EdgeTable.{AreEdgeNumbers}
 use Rattle.surf_soup.specs.Pairs.{HasTwoFaces}

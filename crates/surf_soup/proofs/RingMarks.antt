@@ -1,14 +1,7 @@
 -- Rings of the first vertices by marks of sides.
-use Rattle.std.proofs.Common.{◌≡◌, ◌≢◌, ℕ, ◌+◌, ◌<◌, ◌≤◌, Bool, true, false, List, [], ◌∷◌, ◌++◌, length, get_or}
-use Rattle.std.proofs.Common.{refl, sym, ap, subst, ◌∙◌, arith, inl, inr}
-use Rattle.std.proofs.lemmas.Bool.{true≢false, cases_eq, cases_Bool}
-use Rattle.std.proofs.lemmas.List.{get_or_push, get_or_append_left, length_push, length-append}
+use Rattle.surf_surfaces.proofs.Common.{◌≡◌, ◌≢◌, ℕ, ◌+◌, ◌<◌, ◌≤◌, Bool, true, false, List, [], ◌∷◌, ◌++◌, length, get_or, refl, sym, ap, subst, ◌∙◌, arith, inl, inr, true≢false, cases_eq, cases_Bool, get_or_push, get_or_append_left, length_push, length-append, Mesh, after, before, HasOneFan, side_count, owners}
 use Rattle.surf_rows.specs.Rows.{cut, AreEnds}
 use Rattle.surf_rows.proofs.Cuts.{ends_push, cut_push}
-use Rattle.surf_surfaces.specs.Mesh.{Mesh}
-use Rattle.surf_surfaces.specs.Side.{after, before}
-use Rattle.surf_surfaces.specs.Surface.{HasOneFan}
-use Rattle.surf_surfaces.specs.SideNumber.{side_count, owners}
 use Rattle.surf_soup.specs.Vertices.{all_corners, sides_at, AllMet}
 use Rattle.surf_soup.specs.Reach.{marked, unmarked}
 use Rattle.surf_soup.specs.EdgeTable.{AreEdgeNumbers}

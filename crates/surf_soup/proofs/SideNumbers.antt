@@ -1,13 +1,8 @@
 -- Sides by their numbers, and by their faces and places.
-use Rattle.std.proofs.Common.{◌≡◌, ◌≢◌, ℕ, ◌+◌, ◌-◌, ◌<◌, ◌≤◌, ◌⊎◌, true, List, [], length, get_or, take, refl, sym, ap}
-use Rattle.std.proofs.Common.{◌∙◌, arith, inl, inr}
-use Rattle.std.specs.List.{flat_map, sum_by}
-use Rattle.std.proofs.lemmas.Bool.{cases_order}
+use Rattle.surf_surfaces.proofs.Common.{◌≡◌, ◌≢◌, ℕ, ◌+◌, ◌-◌, ◌<◌, ◌≤◌, ◌⊎◌, true, List, [], length, get_or, take, refl, sym, ap, ◌∙◌, arith, inl, inr, flat_map, sum_by, cases_order, Mesh, pair_of, sides, face_count, face_at, has_side, Share}
 use Rattle.std.proofs.lemmas.List.{get_or-map, take-take, length-map}
 use Rattle.std.proofs.lemmas.List.Concat.{length-flat_map, get_or-flat_map}
 use Rattle.std.proofs.lemmas.List.Sums.{sum_by-take-le}
-use Rattle.surf_surfaces.specs.Mesh.{Mesh, pair_of, sides}
-use Rattle.surf_surfaces.specs.Surface.{face_count, face_at, has_side, Share}
 use Rattle.surf_surfaces.specs.Side.{side_pair}
 use Rattle.surf_surfaces.proofs.CountLaws.{length-sides}
 use Rattle.surf_surfaces.proofs.SideLaws.{sides_are_by_place, sides_are_placed}

@@ -1,17 +1,8 @@
 -- A vertex has a side exactly where it is in a face.
-use Rattle.std.proofs.Common.{◌≡◌, ℕ, ◌+◌, ◌-◌, ◌<◌, ◌≤◌, true, eqb, List, [], length, get_or, take, map, refl, sym, ap}
-use Rattle.std.proofs.Common.{◌∙◌, arith, inl, inr, All}
-use Rattle.std.specs.List.{list_any, range_with_len}
-use Rattle.std.proofs.lemmas.Bool.{true≢false, eq-eqb, eqb-true, cases_eq}
+use Rattle.surf_surfaces.proofs.Common.{◌≡◌, ℕ, ◌+◌, ◌-◌, ◌<◌, ◌≤◌, true, eqb, List, [], length, get_or, take, map, refl, sym, ap, ◌∙◌, arith, inl, inr, All, list_any, range_with_len, true≢false, eq-eqb, eqb-true, cases_eq, All-from_recursion, length-range_with_len, get_or-range_with_len, length-map-range_with_len, get_or-map-range_with_len, Mesh, IsMesh, face_at, face_count, HasCorner, side_count, owners, first_side}
 use Rattle.std.proofs.lemmas.List.{get_or_default, get_or_read, nil_from_length}
 use Rattle.std.proofs.lemmas.List.Concat.{length-flat_map, get_or-flat_map}
-use Rattle.std.proofs.lemmas.List.Elements.{All-from_recursion}
-use Rattle.std.proofs.lemmas.List.FromFn.{length-range_with_len, get_or-range_with_len, length-map-range_with_len}
-use Rattle.std.proofs.lemmas.List.FromFn.{get_or-map-range_with_len}
-use Rattle.surf_surfaces.specs.Mesh.{Mesh, IsMesh}
-use Rattle.surf_surfaces.specs.Surface.{face_at, face_count, HasCorner}
 use Rattle.surf_rows.specs.Groups.{has_key}
-use Rattle.surf_surfaces.specs.SideNumber.{side_count, owners, first_side}
 use Rattle.surf_soup.specs.Pairs.{NoneWithin, IsFirstWithin}
 use Rattle.surf_soup.specs.Vertices.{all_corners, sides_at, AllMet, IsLeastIsolated}
 use Rattle.surf_soup.proofs.Order.{all_filter, passing, range_below}

@@ -1,27 +1,12 @@
 -- The basis that is chosen from the loops at all bases.
-use Rattle.std.proofs.Common.{◌≡◌, ℕ, suc, ◌<◌, ◌≤◌, List, [], ◌∷◌, length, map, sum, All, refl, sym, ap, ◌∙◌, subst}
-use Rattle.std.proofs.Common.{arith}
-use Rattle.std.specs.List.{AllByRecursion}
-use Rattle.std.proofs.lemmas.Simd.{map-map}
-use Rattle.std.proofs.lemmas.List.{length-map}
-use Rattle.std.proofs.lemmas.List.Elements.{recursion_from_All, All-from_recursion, All-contains}
-use Rattle.surf_z2.specs.Greedy.{greedy}
+use Rattle.surf_surfaces.proofs.Common.{◌≡◌, ℕ, suc, ◌<◌, ◌≤◌, List, [], ◌∷◌, length, map, sum, All, refl, sym, ap, ◌∙◌, subst, arith, AllByRecursion, map-map, length-map, recursion_from_All, All-from_recursion, All-contains, greedy, merge, Decides-is_nothing, Split, IsSplit, signature_of, signed, Mesh, IsSurface, IsClosed, walk_length, ArePositive, cells_of, class_of, weighed_walk}
 use Rattle.surf_z2.specs.Least.{weighed}
-use Rattle.surf_z2.specs.Order.{merge}
 use Rattle.surf_z2.specs.Space.{numbers, is_nothing, Independent, weights, vectors, SpannedUpToWeight}
 use Rattle.surf_z2.proofs.Greedy.{greedy_law, two_step_law}
 use Rattle.surf_z2.proofs.Least.{least_law}
 use Rattle.surf_z2.proofs.Merge.{order_from_sorted, all_merged}
-use Rattle.surf_z2.proofs.Numbers.{Decides-is_nothing}
-use Rattle.surf_graphs.specs.Cells.{Split, IsSplit}
-use Rattle.surf_graphs.specs.Independence.{signature_of, signed}
-use Rattle.surf_surfaces.specs.Mesh.{Mesh}
-use Rattle.surf_surfaces.specs.Surface.{IsSurface}
-use Rattle.surf_surfaces.specs.Walk.{IsClosed, walk_length, ArePositive}
 use Rattle.surf_surfaces.specs.Homology.{IsIndependent, IsBasis, total}
 use Rattle.surf_surfaces.specs.Cycle.{IsSimpleCycle}
-use Rattle.surf_surfaces.specs.Cells.{cells_of}
-use Rattle.surf_surfaces.specs.Class.{class_of, weighed_walk}
 use Rattle.surf_surfaces.specs.Choice.{Trees, AreChosen, Loop, comes_before, walks, loops_at, loops_below, candidates}
 use Rattle.surf_surfaces.specs.Choice.{IsGreedyChoice, IsChosenBasis, IsKeptFrom, nothing, one_more}
 use Rattle.surf_surfaces.specs.Places.{AreNoLonger}

@@ -1,14 +1,9 @@
 -- The loops at all bases, in order.
-use Rattle.std.proofs.Common.{◌≡◌, ℕ, zero, suc, ◌+◌, ◌<◌, ◌≤◌, true, List, [], ◌∷◌, ◌++◌, length, get_or, map, sym, ap, ◌∙◌, subst, arith, inl, inr, ◌⊎◌, IsPermutation, Contains}
-use Rattle.std.specs.List.{AllByRecursion, flat_map, range_with_len}
+use Rattle.surf_surfaces.proofs.Common.{◌≡◌, ℕ, zero, suc, ◌+◌, ◌<◌, ◌≤◌, true, List, [], ◌∷◌, ◌++◌, length, get_or, map, sym, ap, ◌∙◌, subst, arith, inl, inr, ◌⊎◌, IsPermutation, Contains, AllByRecursion, flat_map, range_with_len, cases_eq, append-nil, length-map, merge, Mesh}
 use Rattle.std.specs.List.Sorted.{IsNonDecreasing}
-use Rattle.std.proofs.lemmas.Bool.{cases_eq}
-use Rattle.std.proofs.lemmas.List.{append-nil, length-map}
 use Rattle.std.proofs.lemmas.List.Concat.{flat_map-append, flat_map-cons}
 use Rattle.std.proofs.lemmas.List.Sorted.{IsPermutation-sym, IsPermutation-trans, IsPermutation-append_left, Contains-permutation}
-use Rattle.surf_z2.specs.Order.{merge}
 use Rattle.surf_z2.proofs.Merge.{Sorted, Comparable, Apart, sorted-permutes, sorted-in_order, sorted_merge, order_from_sorted, comparable_from_sorted, comparable-append, all_sorted, all_joined, same_members, merge_law}
-use Rattle.surf_surfaces.specs.Mesh.{Mesh}
 use Rattle.surf_surfaces.specs.Choice.{Trees, Loop, comes_before, loops_at, loops_below}
 use Rattle.surf_surfaces.proofs.LeastLaws.{all_each}
 use Rattle.surf_surfaces.proofs.LoopsAtLaws.{IsLoopAt, comes_before-trans, comes_before-strict, comes_before-size, bases_apart, loops-sorted, loops_each}

@@ -1,18 +1,11 @@
 -- A surface is a cell complex.
-use Rattle.std.proofs.Common.{◌≡◌, ◌≢◌, ℕ, ◌<◌, ◌≤◌, Bool, true, false, ◌&&◌, ◌||◌, eqb, List, [], ◌∷◌, map, refl, sym, ap, ◌∙◌, arith, inl, inr, Contains}
-use Rattle.std.specs.List.{AllByRecursion}
-use Rattle.std.proofs.lemmas.Bool.{eqb-true, eq-eqb, cases_lt, lt-ltb, le-ltb, or_cases, or_left, or_right, and_parts, and_from}
+use Rattle.surf_surfaces.proofs.Common.{◌≡◌, ◌≢◌, ℕ, ◌<◌, ◌≤◌, Bool, true, false, ◌&&◌, ◌||◌, eqb, List, [], ◌∷◌, map, refl, sym, ap, ◌∙◌, arith, inl, inr, Contains, AllByRecursion, eqb-true, eq-eqb, cases_lt, lt-ltb, le-ltb, or_cases, or_left, or_right, and_parts, and_from, xor, odd, eqb_comm, xor_equal, odd_below-same, Mesh, IsMesh, pair, pair_of, pair_eq, edges, among, edge_count, face_at, ends, has_side, touches, faces_of, Share, IsSurface, place_of, edge_number}
 use Rattle.surf_surfaces.proofs.JoinedLaws.{joined_closed}
-use Rattle.surf_z2.specs.Parity.{xor, odd}
-use Rattle.surf_z2.proofs.ParityLaws.{eqb_comm, xor_equal, odd_below-same}
-use Rattle.surf_surfaces.specs.Mesh.{Mesh, IsMesh, pair, pair_of, pair_eq, edges, among}
 use Rattle.surf_surfaces.proofs.PairLaws.{pair_eq-same, pair_same}
 use Rattle.surf_surfaces.proofs.EdgeLaws.{place_of-among, place_of-ends, ends-eq, among-edges, among-contains, list_any_from}
 use Rattle.surf_surfaces.proofs.SurfaceLaws.{two_faces_of, one_of_two, edge_below}
 use Rattle.surf_surfaces.proofs.EvenLaws.{touches-xor, face_edges_even}
 use Rattle.surf_surfaces.proofs.WalkLaws.{IsStep, vertices_linked}
-use Rattle.surf_surfaces.specs.Surface.{edge_count, face_at, ends, has_side, touches, faces_of, Share, IsSurface}
-use Rattle.surf_surfaces.specs.Walk.{place_of, edge_number}
 use Rattle.surf_surfaces.specs.Cells.{SurfacesAreCells}
 
 -- whether exactly one of the two numbers is in the set

@@ -1,26 +1,13 @@
 -- The trees that are chosen exist.
-use Rattle.std.proofs.Common.{◌≡◌, ◌≢◌, ℕ, ◌+◌, ◌<◌, ◌≤◌, Bool, true, not, ◌&&◌, eqb, List, [], ◌∷◌, ◌++◌, refl, sym, ap, ◌∙◌, subst, arith, inl, inr, ◌⊎◌}
-use Rattle.std.proofs.lemmas.Bool.{cases_Bool, cases_lt, cases_eq, and_parts, and_from, eqb-true, eq-eqb, false≢true}
-use Rattle.std.proofs.lemmas.Bool.Decides.{nat_tests}
-use Rattle.surf_z2.proofs.ParityLaws.{any_below-from}
-use Rattle.surf_graphs.specs.Cells.{primal, dual}
-use Rattle.surf_graphs.specs.Graphs.{IsJoined, edge_between, IsGraphWalk, graph_walk_length}
-use Rattle.surf_graphs.specs.Trees.{Tree, IsTree}
+use Rattle.surf_surfaces.proofs.Common.{◌≡◌, ◌≢◌, ℕ, ◌+◌, ◌<◌, ◌≤◌, Bool, true, not, ◌&&◌, eqb, List, [], ◌∷◌, ◌++◌, refl, sym, ap, ◌∙◌, subst, arith, inl, inr, ◌⊎◌, cases_Bool, cases_lt, cases_eq, and_parts, and_from, eqb-true, eq-eqb, false≢true, nat_tests, any_below-from, primal, dual, IsJoined, edge_between, IsGraphWalk, graph_walk_length, Tree, IsTree, joined_below, Mesh, pair, edges, among, IsSurface, edge_length, edge_number, walk_length, ArePositive, cells_of, loop_length, Trees, AreChosenAt}
 use Rattle.surf_graphs.proofs.Graphs.{walk-append, edge_between_is}
 use Rattle.surf_graphs.proofs.HeaviestTrees.{HeaviestTree, heaviest_tree}
 use Rattle.surf_graphs.proofs.CellLaws.{outside_joins}
 use Rattle.surf_graphs.proofs.ShortestWalks.{ShortestWalk, shortest_walk, first_passing}
 use Rattle.surf_graphs.proofs.Splitting.{walk_parts}
-use Rattle.surf_graphs.proofs.Trees.{joined_below}
-use Rattle.surf_surfaces.specs.Mesh.{Mesh, pair, edges, among}
-use Rattle.surf_surfaces.specs.Surface.{IsSurface}
-use Rattle.surf_surfaces.specs.Walk.{edge_length, edge_number, walk_length, ArePositive}
 use Rattle.surf_surfaces.specs.Distance.{LeadsFrom, IsDistance}
-use Rattle.surf_surfaces.specs.Cells.{cells_of}
-use Rattle.surf_surfaces.specs.Loop.{loop_length}
 use Rattle.surf_surfaces.specs.ShortestTree.{IsTight, IsShortestTree}
 use Rattle.surf_surfaces.specs.Cotree.{tree_edges, precedes, is_no_later, IsHeaviestCotree}
-use Rattle.surf_surfaces.specs.Choice.{Trees, AreChosenAt}
 use Rattle.surf_surfaces.specs.ChoiceLaws.{ChoiceExists}
 use Rattle.surf_surfaces.proofs.EdgeLaws.{among-contains, contains_from_among}
 use Rattle.surf_surfaces.proofs.WalkLaws.{vertices_joined}

@@ -1,22 +1,12 @@
 -- Laws of the heaviest tree of faces.
-use Rattle.std.proofs.Common.{◌≡◌, ◌≢◌, ℕ, zero, suc, ◌+◌, ◌<◌, ◌≤◌, Bool, true, false, not, ◌&&◌, cond, eqb, List, [], ◌∷◌, length, get_or, refl, sym, ap, ◌∙◌, subst, arith, inl, inr}
+use Rattle.surf_surfaces.proofs.Common.{◌≡◌, ◌≢◌, ℕ, zero, suc, ◌+◌, ◌<◌, ◌≤◌, Bool, true, false, not, ◌&&◌, cond, eqb, List, [], ◌∷◌, length, get_or, refl, sym, ap, ◌∙◌, subst, arith, inl, inr, cases_Bool, cases_eq, and_parts, false≢true, false_from_ne_true, nat_tests, xor, odd_below, between, Tree, IsTree, in_tree, on_path, Mesh, face_count, edge_count, faces_of, IsSurface, edge_length, cells_of, loop_length}
 use Rattle.std.specs.List.{AllByRecursion, filter, range_with_len}
-use Rattle.std.proofs.lemmas.Bool.{cases_Bool, cases_eq, and_parts, false≢true, false_from_ne_true}
-use Rattle.std.proofs.lemmas.Bool.Decides.{nat_tests}
-use Rattle.surf_z2.specs.Parity.{xor, odd_below}
 use Rattle.surf_z2.proofs.ParityLaws.{same_tests, odd_below-found, odd_below-and-xor, xor_ends}
 use Rattle.surf_graphs.specs.Cells.{primal, dual, IsSplit, IsHeaviest}
 use Rattle.surf_graphs.specs.Graphs.{Graph, leaves}
-use Rattle.surf_graphs.specs.Growth.{between}
-use Rattle.surf_graphs.specs.Trees.{Tree, IsTree, in_tree, on_path}
 use Rattle.surf_graphs.proofs.CellLaws.{beyond}
 use Rattle.surf_graphs.proofs.SameTrees.{parents_same, ups_same}
 use Rattle.surf_graphs.proofs.Trees.{down_tree, path_leaves, path_inside, leaves_path, tree_edge, along_is}
-use Rattle.surf_surfaces.specs.Mesh.{Mesh}
-use Rattle.surf_surfaces.specs.Surface.{face_count, edge_count, faces_of, IsSurface}
-use Rattle.surf_surfaces.specs.Walk.{edge_length}
-use Rattle.surf_surfaces.specs.Cells.{cells_of}
-use Rattle.surf_surfaces.specs.Loop.{loop_length}
 use Rattle.surf_surfaces.specs.Cotree.{tree_edges, cotree_edges, is_left, left_edges, split_of, precedes, is_no_later, IsHeaviestCotree, CotreesAreOne, HeavyCotreesAreHeaviest}
 use Rattle.surf_surfaces.proofs.CellLaws.{surfaces_are_cells}
 

@@ -1,20 +1,9 @@
 -- Simple cycles, and which of them separate.
-use Rattle.std.proofs.Common.{◌≡◌, ◌≢◌, ℕ, suc, ◌+◌, ◌<◌, ◌≤◌, true, false, List, [], ◌∷◌, ◌++◌, length, get_or, map, refl, sym, ap, ◌∙◌, arith, AllPairs, subst}
-use Rattle.std.specs.List.{AllByRecursion, list_any}
-use Rattle.std.proofs.lemmas.Bool.{true≢false, false_from_ne_true}
-use Rattle.std.proofs.lemmas.List.{length-append, get_or_default}
-use Rattle.surf_z2.specs.Parity.{xor, odd}
-use Rattle.surf_z2.proofs.ParityLaws.{xor-same, xor_equal}
-use Rattle.surf_graphs.specs.Graphs.{IsGraphWalk, walk_chain}
+use Rattle.surf_surfaces.proofs.Common.{◌≡◌, ◌≢◌, ℕ, suc, ◌+◌, ◌<◌, ◌≤◌, true, false, List, [], ◌∷◌, ◌++◌, length, get_or, map, refl, sym, ap, ◌∙◌, arith, AllPairs, subst, AllByRecursion, list_any, true≢false, false_from_ne_true, length-append, get_or_default, xor, odd, xor-same, xor_equal, IsGraphWalk, walk_chain, Mesh, pair_of, pair_eq, steps, steps_from, edge_count, ends, faces_of, IsSurface, IsClosed, last_from, parity, IsNull, cells_of}
 use Rattle.surf_graphs.specs.Cycles.{IsOff, IsDistinct, IsSimpleGraphCycle}
 use Rattle.surf_graphs.specs.Cells.{Cells, primal, IsNullChain}
 use Rattle.surf_graphs.proofs.Cycles.{null_separates, separates_null}
-use Rattle.surf_surfaces.specs.Mesh.{Mesh, pair_of, pair_eq, steps, steps_from}
-use Rattle.surf_surfaces.specs.Surface.{edge_count, ends, faces_of, IsSurface}
-use Rattle.surf_surfaces.specs.Walk.{IsClosed, last_from, parity}
-use Rattle.surf_surfaces.specs.Homology.{IsNull}
 use Rattle.surf_surfaces.specs.Cycle.{RunsAlong, Separation}
-use Rattle.surf_surfaces.specs.Cells.{cells_of}
 use Rattle.surf_surfaces.specs.CycleLaws.{NullCyclesSeparate}
 use Rattle.surf_surfaces.proofs.PairLaws.{pair_eq-true, pair_eq-same}
 use Rattle.surf_surfaces.proofs.EdgeLaws.{list_any_at, list_any_from}

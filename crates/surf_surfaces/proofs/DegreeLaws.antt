@@ -1,12 +1,8 @@
 -- Tables of how many edges of a set there are at each vertex, as they are counted edge by edge.
 use Rattle.std.proofs.Common.{◌≡◌, ◌≢◌, ℕ, ◌+◌, ◌<◌, ◌≤◌, ◌⊎◌, inl, inr, sym, subst, ap, ◌∙◌, eqb, List, true, false, arith, ne_eqb}
-use Rattle.std.specs.Prelude.{slice_index}
+use Rattle.surf_surfaces.proofs.Common.{slice_index, count_below, Chain, Mesh, ends, touches}
 use Rattle.std.proofs.lemmas.Bool.{cases_eq, and_from, and_left, and_right, or_left, or_right, or_from, eq-eqb}
-use Rattle.surf_z2.specs.Parity.{count_below}
-use Rattle.surf_z2.specs.Space.{Chain}
 use Rattle.surf_z2.proofs.Counting.{count_passes, count_fails, count_few}
-use Rattle.surf_surfaces.specs.Mesh.{Mesh}
-use Rattle.surf_surfaces.specs.Surface.{ends, touches}
 use Rattle.surf_surfaces.specs.Degrees.{is_in_at, AreDegreesTo}
 
 -- a pair touches its ends, and nothing else

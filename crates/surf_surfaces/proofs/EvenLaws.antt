@@ -1,17 +1,9 @@
 -- What closes up is even at each vertex: the sides of a face, a closed walk, the boundary of a set of faces.
-use Rattle.std.proofs.Common.{◌≡◌, ◌≢◌, ℕ, ◌<◌, Bool, true, false, ◌&&◌, eqb, List, [], ◌∷◌, ◌++◌, map, refl, sym, ap, ◌∙◌, arith, Contains, inl, inr}
-use Rattle.std.specs.List.{AllByRecursion}
-use Rattle.std.proofs.lemmas.Bool.{eqb-true, cases_lt, le-ltb}
-use Rattle.std.proofs.lemmas.List.Elements.{recursion_from_All}
-use Rattle.surf_surfaces.specs.Mesh.{Mesh, IsMesh, IsFace, steps_from, sides, pair, pair_of, pair_eq, among, edges}
-use Rattle.surf_z2.specs.Parity.{xor, odd, odd_below}
+use Rattle.surf_surfaces.proofs.Common.{◌≡◌, ◌≢◌, ℕ, ◌<◌, Bool, true, false, ◌&&◌, eqb, List, [], ◌∷◌, ◌++◌, map, refl, sym, ap, ◌∙◌, arith, Contains, inl, inr, AllByRecursion, eqb-true, cases_lt, le-ltb, recursion_from_All, Mesh, IsMesh, IsFace, steps_from, sides, pair, pair_of, pair_eq, among, edges, xor, odd, odd_below, face_count, edge_count, face_at, ends, has_side, touches, IsSurface, IsClosed, last_from, parity, boundary}
 use Rattle.surf_z2.proofs.ParityLaws.{xor_meet, or-xor, xor-same, xor-and, and-false, and_comm, odd_below-none, odd_below-same, odd_below-xor, odd_below-swap, odd_below-and}
 use Rattle.surf_surfaces.proofs.EdgeLaws.{among-contains, odd_below-ends}
 use Rattle.surf_surfaces.proofs.FaceLaws.{IsStepBelow, face_steps, touches-pair_of, has_side-odd}
 use Rattle.surf_surfaces.proofs.SurfaceLaws.{odd_below-faces, edge_below, sides_are_edges}
-use Rattle.surf_surfaces.specs.Surface.{face_count, edge_count, face_at, ends, has_side, touches, IsSurface}
-use Rattle.surf_surfaces.specs.Walk.{IsClosed, last_from, parity}
-use Rattle.surf_surfaces.specs.Homology.{boundary}
 
 -- steps along edges that move
 abbrev pub AreSteps : Mesh → List (ℕ × ℕ) → Type 0

@@ -1,12 +1,6 @@
 -- Laws of a face's sides: none stands twice, and two of them have each corner.
-use Rattle.std.proofs.Common.{◌≡◌, ◌≢◌, ℕ, zero, suc, ◌<◌, ◌≤◌, Bool, true, false, ◌||◌, eqb, List, [], ◌∷◌, ◌++◌, length, map, refl, sym, ap, ◌∙◌, arith, inl, inr, AllPairs}
-use Rattle.std.specs.List.{AllByRecursion, list_any}
-use Rattle.std.proofs.lemmas.Bool.{eq-eqb, ne_eqb, cases_eq, cases_Bool, or_right, or_left, true≢false, lt-ltb, le-ltb, cases_lt}
-use Rattle.std.proofs.lemmas.List.Elements.{recursion_from_All}
-use Rattle.surf_surfaces.specs.Mesh.{IsFace, steps_from, sides, pair, pair_of, pair_eq, among}
-use Rattle.surf_z2.specs.Parity.{odd}
+use Rattle.surf_surfaces.proofs.Common.{◌≡◌, ◌≢◌, ℕ, zero, suc, ◌<◌, ◌≤◌, Bool, true, false, ◌||◌, eqb, List, [], ◌∷◌, ◌++◌, length, map, refl, sym, ap, ◌∙◌, arith, inl, inr, AllPairs, AllByRecursion, list_any, eq-eqb, ne_eqb, cases_eq, cases_Bool, or_right, or_left, true≢false, lt-ltb, le-ltb, cases_lt, recursion_from_All, IsFace, steps_from, sides, pair, pair_of, pair_eq, among, odd, touches, has_side}
 use Rattle.surf_surfaces.proofs.PairLaws.{pair_eq-true, pair_eq-other}
-use Rattle.surf_surfaces.specs.Surface.{touches, has_side}
 
 -- by recursion: no number twice
 abbrev pub Distinct : List ℕ → Type 0

@@ -1,12 +1,5 @@
 -- The signatures of a face's sides sum to nothing, since the walk round the face is the face's boundary.
-use Rattle.std.proofs.Common.{◌≡◌, ℕ, ◌<◌, true, eqb, List, [], ◌∷◌, ◌++◌, map, refl, sym, ap, ◌∙◌, arith, subst, Contains}
-use Rattle.std.specs.List.{AllByRecursion}
-use Rattle.std.proofs.lemmas.List.Elements.{recursion_from_All, All-from_recursion}
-use Rattle.surf_z2.specs.Space.{numbers, sum_of}
-use Rattle.surf_surfaces.specs.Mesh.{Mesh, IsFace, pair_of, sides, edges, among}
-use Rattle.surf_surfaces.specs.Surface.{face_count, face_at, ends, has_side, IsSurface}
-use Rattle.surf_surfaces.specs.Walk.{IsClosed, edge_number}
-use Rattle.surf_surfaces.specs.Homology.{IsNull}
+use Rattle.surf_surfaces.proofs.Common.{◌≡◌, ℕ, ◌<◌, true, eqb, List, [], ◌∷◌, ◌++◌, map, refl, sym, ap, ◌∙◌, arith, subst, Contains, AllByRecursion, recursion_from_All, All-from_recursion, numbers, sum_of, Mesh, IsFace, pair_of, sides, edges, among, face_count, face_at, ends, has_side, IsSurface, IsClosed, edge_number, IsNull}
 use Rattle.surf_surfaces.specs.Signature.{edge_signature, FacesSumToZero}
 use Rattle.surf_surfaces.proofs.CellLaws.{face_sides}
 use Rattle.surf_surfaces.proofs.EdgeLaws.{contains_from_among}

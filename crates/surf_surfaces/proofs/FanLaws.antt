@@ -1,13 +1,6 @@
 -- Laws of the faces at a vertex.
-use Rattle.std.proofs.Common.{◌≡◌, ℕ, ◌<◌, Bool, true, eqb, List, [], ◌∷◌, refl, sym, ap, ◌∙◌, arith, inl, inr, All}
-use Rattle.std.specs.List.{AllByRecursion}
-use Rattle.std.proofs.lemmas.Bool.{eqb-true, or_cases}
-use Rattle.std.proofs.lemmas.List.Elements.{All-from_recursion, recursion_from_All, All-contains}
-use Rattle.surf_surfaces.specs.Joined.{Joined, here, over}
+use Rattle.surf_surfaces.proofs.Common.{◌≡◌, ℕ, ◌<◌, Bool, true, eqb, List, [], ◌∷◌, refl, sym, ap, ◌∙◌, arith, inl, inr, All, AllByRecursion, eqb-true, or_cases, All-from_recursion, recursion_from_All, All-contains, Joined, here, over, Mesh, steps_from, pair, edges, edge_count, ends, face_at, has_side, faces_of, touches, ShareAt, IsSurface, place_of}
 use Rattle.surf_surfaces.specs.Fan.{FansAreWhole, ListedFacesAreFan}
-use Rattle.surf_surfaces.specs.Mesh.{Mesh, steps_from, pair, edges}
-use Rattle.surf_surfaces.specs.Surface.{edge_count, ends, face_at, has_side, faces_of, touches, ShareAt, IsSurface}
-use Rattle.surf_surfaces.specs.Walk.{place_of}
 use Rattle.surf_surfaces.proofs.JoinedLaws.{joined_trans, joined_sym, joined_closed}
 use Rattle.surf_surfaces.proofs.EdgeLaws.{among-edges, list_any_from, place_of-among}
 use Rattle.surf_surfaces.proofs.FaceLaws.{touches_first}

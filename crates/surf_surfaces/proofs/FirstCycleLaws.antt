@@ -1,34 +1,16 @@
 -- The first candidate, and whether there is one.
-use Rattle.std.proofs.Common.{◌≡◌, ℕ, ◌+◌, ◌<◌, ◌≤◌, Bool, true, List, [], ◌∷◌, length, map, replicate, get_or, refl, sym, ap, ◌∙◌, subst, arith, inl, inr, Contains}
-use Rattle.std.specs.List.{AllByRecursion}
-use Rattle.std.proofs.lemmas.Bool.{cases_lt, eq-eqb, false≢true}
-use Rattle.std.proofs.lemmas.List.{length-map, get_or-replicate}
+use Rattle.surf_surfaces.proofs.Common.{◌≡◌, ℕ, ◌+◌, ◌<◌, ◌≤◌, Bool, true, List, [], ◌∷◌, length, map, replicate, get_or, refl, sym, ap, ◌∙◌, subst, arith, inl, inr, Contains, AllByRecursion, cases_lt, eq-eqb, false≢true, length-map, get_or-replicate, numbers, is_nothing, SpannedUpToWeight, Decides-is_nothing, in_from_spanned, primal, signature, Split, IsSplit, IsEven, loop, left_edges as left_edges_count, Mesh, face_count, edge_count, IsSurface, edge_length, parity, ArePositive, IsLoopCount, cells_of, class_of, AreShortestTrees, loop_walk, loop_length, Trees, AreChosenAt, AreChosen, Loop, loops_at, candidates}
 use Rattle.std.proofs.lemmas.List.Sorted.{length_permutation}
 use Rattle.surf_z2.specs.Least.{weighed}
-use Rattle.surf_z2.specs.Space.{numbers, is_nothing, SpannedUpToWeight}
 use Rattle.surf_z2.proofs.Least.{lighter_before}
-use Rattle.surf_z2.proofs.Numbers.{Decides-is_nothing}
-use Rattle.surf_z2.proofs.Span.{in_from_spanned}
-use Rattle.surf_graphs.specs.Cells.{primal, signature, Split, IsSplit}
-use Rattle.surf_graphs.specs.Graphs.{IsEven}
 use Rattle.surf_graphs.specs.Independence.{signature_of, signed, loop_chain}
-use Rattle.surf_graphs.specs.Trees.{loop}
 use Rattle.surf_graphs.proofs.CellLaws.{null_signature}
-use Rattle.surf_graphs.proofs.Counting.{left_edges as left_edges_count}
 use Rattle.surf_graphs.proofs.Graphs.{even_same}
 use Rattle.surf_graphs.proofs.Independence.{signature_of-same, zero_null}
 use Rattle.surf_graphs.proofs.Lengths.{loop_signature, left_signature}
-use Rattle.surf_surfaces.specs.Mesh.{Mesh}
-use Rattle.surf_surfaces.specs.Surface.{face_count, edge_count, IsSurface}
-use Rattle.surf_surfaces.specs.Walk.{edge_length, parity, ArePositive}
-use Rattle.surf_surfaces.specs.Homology.{IsLoopCount}
 use Rattle.surf_surfaces.specs.Cycle.{IsSimpleCycle, Separation, IsShortestNonseparating}
-use Rattle.surf_surfaces.specs.Cells.{cells_of}
-use Rattle.surf_surfaces.specs.Class.{class_of, AreShortestTrees}
 use Rattle.surf_surfaces.specs.CycleLaws.{IsEssential}
-use Rattle.surf_surfaces.specs.Loop.{loop_walk, loop_length}
 use Rattle.surf_surfaces.specs.Cotree.{is_left, left_edges, split_of}
-use Rattle.surf_surfaces.specs.Choice.{Trees, AreChosenAt, AreChosen, Loop, loops_at, candidates}
 use Rattle.surf_surfaces.specs.ChoiceLaws.{FirstIsShortest, CandidatesBelowTwo, SimpleCyclesSeparate}
 use Rattle.surf_surfaces.proofs.CellLaws.{surfaces_are_cells}
 use Rattle.surf_surfaces.proofs.GraphWalkLaws.{closed_parity_even}

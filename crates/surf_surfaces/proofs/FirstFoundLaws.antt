@@ -1,29 +1,10 @@
 -- The first candidate, from few bases, and short searches.
-use Rattle.std.proofs.Common.{◌≡◌, ℕ, zero, suc, ◌+◌, ◌<◌, ◌≤◌, Bool, leb, not, true, false, List, [], ◌∷◌, length, map, filter, get_or, All, Contains, refl, sym, ap, ◌∙◌, subst, arith, inl, inr, ◌⊎◌}
-use Rattle.std.specs.List.{AllByRecursion}
-use Rattle.std.proofs.lemmas.Bool.{cases_eq, cases_Bool, false≢true}
-use Rattle.std.proofs.lemmas.Bool.Decides.{nat_tests}
-use Rattle.std.proofs.lemmas.List.{length-map}
-use Rattle.std.proofs.lemmas.List.Elements.{recursion_from_All, All-from_recursion, All-contains}
-use Rattle.std.proofs.lemmas.List.Sorted.{Contains-permutation}
-use Rattle.surf_z2.specs.Space.{numbers, is_nothing, Spanned, Independent}
+use Rattle.surf_surfaces.proofs.Common.{◌≡◌, ℕ, zero, suc, ◌+◌, ◌<◌, ◌≤◌, Bool, leb, not, true, false, List, [], ◌∷◌, length, map, filter, get_or, All, Contains, refl, sym, ap, ◌∙◌, subst, arith, inl, inr, ◌⊎◌, AllByRecursion, cases_eq, cases_Bool, false≢true, nat_tests, length-map, recursion_from_All, All-from_recursion, All-contains, Contains-permutation, numbers, is_nothing, Spanned, Independent, Decides-is_nothing, InSpan, in_from_spanned, spanned_from_in, Split, IsSplit, Tree, Mesh, edge_count, ends, IsSurface, IsClosed, edge_length, walk_length, ArePositive, IsIndependent, IsLoopCount, cells_of, class_of, AreShortestTrees, loop_walk, Trees, AreChosen, Loop, comes_before, walks, loop_at, loops_at, candidates, DependsOn}
 use Rattle.surf_z2.proofs.Greedy.{greedy_law, basis_law}
 use Rattle.surf_z2.proofs.Least.{up_to_weighed}
 use Rattle.surf_z2.proofs.Merge.{Sorted, sorted-permutes}
-use Rattle.surf_z2.proofs.Numbers.{Decides-is_nothing}
 use Rattle.surf_z2.proofs.Passing.{passing_before, filter_all}
 use Rattle.surf_z2.proofs.Ranks.{in_whole}
-use Rattle.surf_z2.proofs.Span.{InSpan, in_from_spanned, spanned_from_in}
-use Rattle.surf_graphs.specs.Cells.{Split, IsSplit}
-use Rattle.surf_graphs.specs.Trees.{Tree}
-use Rattle.surf_surfaces.specs.Mesh.{Mesh}
-use Rattle.surf_surfaces.specs.Surface.{edge_count, ends, IsSurface}
-use Rattle.surf_surfaces.specs.Walk.{IsClosed, edge_length, walk_length, ArePositive}
-use Rattle.surf_surfaces.specs.Homology.{IsIndependent, IsLoopCount}
-use Rattle.surf_surfaces.specs.Cells.{cells_of}
-use Rattle.surf_surfaces.specs.Class.{class_of, AreShortestTrees}
-use Rattle.surf_surfaces.specs.Loop.{loop_walk}
-use Rattle.surf_surfaces.specs.Choice.{Trees, AreChosen, Loop, comes_before, walks, loop_at, loops_at, candidates, DependsOn}
 use Rattle.surf_surfaces.specs.Cotree.{is_left, left_edges}
 use Rattle.surf_surfaces.specs.FewBases.{is_no_later, place_at, Found, is_within, IsWithin, walks_found, MeetsAll, IsFoundLoop, IsFirstFound, FirstIsAtLeastBase, EndsAreNear, ShortSearchesSuffice}
 use Rattle.surf_surfaces.proofs.CoveredLaws.{contains-map, walk_covered}

@@ -1,28 +1,9 @@
 -- The places of loops that are enough are those of the basis.
-use Rattle.std.proofs.Common.{◌≡◌, ℕ, suc, ◌≤◌, Bool, true, false, cond, List, [], ◌∷◌, length, map, filter, refl, sym, ap, ◌∙◌, subst, arith, inl, inr}
-use Rattle.std.specs.List.{AllByRecursion}
-use Rattle.std.proofs.lemmas.Bool.{cases_Bool, false≢true}
-use Rattle.std.proofs.lemmas.Bool.Decides.{nat_tests}
-use Rattle.std.proofs.lemmas.Simd.{map-map}
-use Rattle.std.proofs.lemmas.List.{length-map}
-use Rattle.std.proofs.lemmas.List.Elements.{recursion_from_All, All-from_recursion}
-use Rattle.surf_z2.specs.Greedy.{greedy}
-use Rattle.surf_z2.specs.Space.{numbers, is_nothing, Independent}
+use Rattle.surf_surfaces.proofs.Common.{◌≡◌, ℕ, suc, ◌≤◌, Bool, true, false, cond, List, [], ◌∷◌, length, map, filter, refl, sym, ap, ◌∙◌, subst, arith, inl, inr, AllByRecursion, cases_Bool, false≢true, nat_tests, map-map, length-map, recursion_from_All, All-from_recursion, greedy, numbers, is_nothing, Independent, Sorted, sorted_from_order, Decides-is_nothing, Split, IsSplit, Tree, Mesh, IsSurface, IsClosed, ArePositive, IsIndependent, cells_of, class_of, AreShortestTrees, Trees, AreChosen, Loop, comes_before, candidates, IsChosenBasis}
 use Rattle.surf_z2.proofs.Greedy.{greedy_law, all_kept}
-use Rattle.surf_z2.proofs.Merge.{Sorted, sorted_from_order}
-use Rattle.surf_z2.proofs.Numbers.{Decides-is_nothing}
 use Rattle.surf_z2.proofs.Passing.{filter_none, ArePassingFirst, all_passing, all_greedy, sorted_greedy, filter_of_greedy}
 use Rattle.surf_z2.proofs.Ranks.{in_wider, free_filter}
 use Rattle.surf_z2.proofs.Span.{InSpan, AllInSpan, Free, count, trans_in, free_from_independent}
-use Rattle.surf_graphs.specs.Cells.{Split, IsSplit}
-use Rattle.surf_graphs.specs.Trees.{Tree}
-use Rattle.surf_surfaces.specs.Mesh.{Mesh}
-use Rattle.surf_surfaces.specs.Surface.{IsSurface}
-use Rattle.surf_surfaces.specs.Walk.{IsClosed, ArePositive}
-use Rattle.surf_surfaces.specs.Homology.{IsIndependent}
-use Rattle.surf_surfaces.specs.Cells.{cells_of}
-use Rattle.surf_surfaces.specs.Class.{class_of, AreShortestTrees}
-use Rattle.surf_surfaces.specs.Choice.{Trees, AreChosen, Loop, comes_before, candidates, IsChosenBasis}
 use Rattle.surf_surfaces.specs.FewBases.{Place, is_no_later, Found, place_of_found, place_of_loop, is_within, walks_found, MeetsAll, IsFoundLoop, AreEnough, comes_no_later, PlacesAreThoseOfBasis}
 use Rattle.surf_surfaces.proofs.BasisLaws.{basis_is}
 use Rattle.surf_surfaces.proofs.CandidateLaws.{IsLoopBelow, below-sorted, below_each}

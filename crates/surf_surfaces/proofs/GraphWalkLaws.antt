@@ -1,17 +1,7 @@
 -- Walks of a mesh are walks of its graph of vertices.
-use Rattle.std.proofs.Common.{◌≡◌, ℕ, ◌+◌, ◌<◌, true, eqb, List, [], ◌∷◌, get_or, map, sum, refl, sym, ap, ◌∙◌, arith, inl, inr, Contains, subst}
-use Rattle.std.specs.List.{AllByRecursion}
-use Rattle.std.proofs.lemmas.Bool.{cases_lt, lt-ltb, le-ltb}
-use Rattle.std.proofs.lemmas.List.Elements.{recursion_from_All, All-from_recursion}
-use Rattle.std.proofs.lemmas.List.Sums.{sum_by-cons}
-use Rattle.surf_z2.specs.Parity.{xor, odd}
-use Rattle.surf_graphs.specs.Graphs.{IsEven, IsJoined, edge_between, IsGraphWalk, walk_chain, graph_walk_length}
-use Rattle.surf_graphs.specs.Cells.{primal}
+use Rattle.surf_surfaces.proofs.Common.{◌≡◌, ℕ, ◌+◌, ◌<◌, true, eqb, List, [], ◌∷◌, get_or, map, sum, refl, sym, ap, ◌∙◌, arith, inl, inr, Contains, subst, AllByRecursion, cases_lt, lt-ltb, le-ltb, recursion_from_All, All-from_recursion, sum_by-cons, xor, odd, IsEven, IsJoined, edge_between, IsGraphWalk, walk_chain, graph_walk_length, primal, Mesh, IsMesh, pair, pair_of, pair_eq, steps_from, edges, among, edge_count, ends, IsSurface, tail}
 use Rattle.surf_graphs.proofs.Graphs.{edge_between_is, even_same, walk_even}
-use Rattle.surf_surfaces.specs.Mesh.{Mesh, IsMesh, pair, pair_of, pair_eq, steps_from, edges, among}
-use Rattle.surf_surfaces.specs.Surface.{edge_count, ends, IsSurface}
 use Rattle.surf_surfaces.specs.Walk.{place_of, edge_number, edge_length, IsWalk, IsClosed, first, last_from, parity, walk_length}
-use Rattle.surf_surfaces.specs.Cycle.{tail}
 use Rattle.surf_surfaces.specs.Cells.{cells_of, BoundariesAreNull, WalksAreGraphWalks}
 use Rattle.surf_surfaces.proofs.PairLaws.{pair_eq-same}
 use Rattle.surf_surfaces.proofs.EdgeLaws.{place_of-among, place_of-ends, among-contains, contains_from_among, list_any_from}

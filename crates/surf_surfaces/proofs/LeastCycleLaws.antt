@@ -1,23 +1,13 @@
 -- The least loop that is no boundary is a shortest nonseparating cycle.
-use Rattle.std.proofs.Common.{◌≡◌, ◌≢◌, ℕ, zero, suc, ◌<◌, ◌≤◌, Bool, false, List, [], ◌∷◌, length, get_or, refl, sym, ap, ◌∙◌, arith, inl, inr, AllPairs}
-use Rattle.std.proofs.lemmas.Bool.{cases_Bool}
+use Rattle.surf_surfaces.proofs.Common.{◌≡◌, ◌≢◌, ℕ, zero, suc, ◌<◌, ◌≤◌, Bool, false, List, [], ◌∷◌, length, get_or, refl, sym, ap, ◌∙◌, arith, inl, inr, AllPairs, cases_Bool, xor, any_below, Graph, IsGraphWalk, edge_between, walk_chain, graph_walk_length, edge_between_is, left_edges, joined_below, Mesh, IsClosed, parity, edge_length, first, walk_length, cells_of, loop_walk, loop_length}
 use Rattle.surf_z2.specs.Below.{number_of}
-use Rattle.surf_z2.specs.Parity.{xor, any_below}
 use Rattle.surf_z2.proofs.ParityLaws.{xor_pairs, any_below-found, any_below-none}
-use Rattle.surf_graphs.specs.Graphs.{Graph, IsGraphWalk, edge_between, walk_chain, graph_walk_length}
 use Rattle.surf_graphs.specs.Cycles.{IsOff, IsDistinct, IsSimpleGraphCycle}
 use Rattle.surf_graphs.specs.Loops.{IsSimple}
 use Rattle.surf_graphs.specs.Cells.{Cells, primal, chain_signature, IsNullChain}
-use Rattle.surf_graphs.proofs.Graphs.{edge_between_is}
-use Rattle.surf_graphs.proofs.Counting.{left_edges}
-use Rattle.surf_graphs.proofs.Trees.{joined_below}
 use Rattle.surf_graphs.proofs.Splitting.{nonnull_loop, simple_or_two}
-use Rattle.surf_surfaces.specs.Mesh.{Mesh}
-use Rattle.surf_surfaces.specs.Walk.{IsClosed, parity, edge_length, first, walk_length}
 use Rattle.surf_surfaces.specs.Cycle.{IsSimpleCycle, IsNonseparating, tail}
-use Rattle.surf_surfaces.specs.Cells.{cells_of}
 use Rattle.surf_surfaces.specs.CycleLaws.{CyclesBelowLoopsAreShortest, LeastLoopsAreShortestCycles, CyclesSeparateOnSphere}
-use Rattle.surf_surfaces.specs.Loop.{loop_walk, loop_length}
 use Rattle.surf_surfaces.proofs.CellLaws.{surfaces_are_cells}
 use Rattle.surf_surfaces.proofs.GraphWalkLaws.{graph_walk}
 use Rattle.surf_surfaces.proofs.ClassLaws.{runs_loop, some_split, null_by_class}

@@ -1,27 +1,15 @@
 -- Least loop systems and least bases.
-use Rattle.std.proofs.Common.{◌≡◌, ℕ, suc, ◌<◌, List, [], ◌∷◌, length, get_or, map, All, IsPermutation, refl, sym, ap, ◌∙◌, subst, arith}
-use Rattle.std.specs.List.{AllByRecursion}
-use Rattle.std.proofs.lemmas.Simd.{map-map}
-use Rattle.std.proofs.lemmas.List.{length-map}
-use Rattle.std.proofs.lemmas.List.Elements.{recursion_from_All, All-from_recursion, Contains-get_or}
+use Rattle.surf_surfaces.proofs.Common.{◌≡◌, ℕ, suc, ◌<◌, List, [], ◌∷◌, length, get_or, map, All, IsPermutation, refl, sym, ap, ◌∙◌, subst, arith, AllByRecursion, map-map, length-map, recursion_from_All, All-from_recursion, Contains-get_or, numbers, Independent, Weighed, SpannedUpToWeight, IsEven, IsShortest, loop, left_edges, Mesh, edge_count, IsSurface, cells_of, loop_walk}
 use Rattle.std.proofs.lemmas.List.Sorted.{IsPermutation-map, IsPermutation-sym, Contains-permutation, length_permutation}
-use Rattle.surf_z2.specs.Space.{numbers, Independent, Weighed, SpannedUpToWeight}
 use Rattle.surf_z2.proofs.Basics.{independence_law}
 use Rattle.surf_z2.proofs.Ranks.{spanned_among}
-use Rattle.surf_graphs.specs.Graphs.{IsEven}
 use Rattle.surf_graphs.specs.Independence.{signature_of, signed, loop_chain}
-use Rattle.surf_graphs.specs.Trees.{IsShortest, loop}
 use Rattle.surf_graphs.specs.Cells.{primal, Split, IsSplit, IsHeaviest}
-use Rattle.surf_graphs.proofs.Counting.{left_edges}
 use Rattle.surf_graphs.proofs.Graphs.{even_same}
 use Rattle.surf_graphs.proofs.Independence.{signature_of-same, signatures_from_independent, left_independent, loop_spanned}
-use Rattle.surf_surfaces.specs.Mesh.{Mesh}
-use Rattle.surf_surfaces.specs.Surface.{edge_count, IsSurface}
 use Rattle.surf_surfaces.specs.Walk.{IsClosedAt, edge_length, first, parity}
 use Rattle.surf_surfaces.specs.Homology.{IsIndependent, IsLoopSystem, IsLoopCount}
-use Rattle.surf_surfaces.specs.Cells.{cells_of}
 use Rattle.surf_surfaces.specs.Class.{class_of, weighed_walk, LeftLoopsAreLeast, CoveringBasesAreLeast}
-use Rattle.surf_surfaces.specs.Loop.{loop_walk}
 use Rattle.surf_surfaces.proofs.CellLaws.{surfaces_are_cells}
 use Rattle.surf_surfaces.proofs.GraphWalkLaws.{graph_walk, closed_parity_even}
 use Rattle.surf_surfaces.proofs.ClassLaws.{RunsLoop, runs_loop, independent_by_classes, spanned_walks_least, closed_walk_spanned}

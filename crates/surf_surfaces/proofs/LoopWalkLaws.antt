@@ -1,10 +1,6 @@
 -- The loop of an edge through any tree of the vertices is a closed walk.
-use Rattle.std.proofs.Common.{refl, sym}
-use Rattle.surf_graphs.specs.Cells.{primal}
+use Rattle.surf_surfaces.proofs.Common.{refl, sym, primal, cells_of, tail, loop_walk}
 use Rattle.surf_graphs.proofs.Loops.{loop_closed}
-use Rattle.surf_surfaces.specs.Cells.{cells_of}
-use Rattle.surf_surfaces.specs.Cycle.{tail}
-use Rattle.surf_surfaces.specs.Loop.{loop_walk}
 use Rattle.surf_surfaces.specs.ChoiceLaws.{LoopsAreClosed}
 use Rattle.surf_surfaces.proofs.CellLaws.{surfaces_are_cells}
 use Rattle.surf_surfaces.proofs.GraphWalkLaws.{walks_are_graph_walks}

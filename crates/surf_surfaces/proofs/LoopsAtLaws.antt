@@ -1,23 +1,11 @@
 -- The loops at one base, in order.
-use Rattle.std.proofs.Common.{◌≡◌, ℕ, suc, ◌+◌, ◌<◌, ◌≤◌, true, false, List, [], ◌∷◌, map, All, IsPermutation, refl, sym, ap, ◌∙◌, subst, arith, inl, inr, ◌⊎◌}
-use Rattle.std.specs.List.{AllByRecursion}
-use Rattle.std.proofs.lemmas.Bool.{cases_Bool}
-use Rattle.std.proofs.lemmas.Bool.Decides.{nat_tests}
-use Rattle.std.proofs.lemmas.Simd.{map-map}
-use Rattle.std.proofs.lemmas.List.Elements.{All-from_recursion, All-contains}
+use Rattle.surf_surfaces.proofs.Common.{◌≡◌, ℕ, suc, ◌+◌, ◌<◌, ◌≤◌, true, false, List, [], ◌∷◌, map, All, IsPermutation, refl, sym, ap, ◌∙◌, subst, arith, inl, inr, ◌⊎◌, AllByRecursion, cases_Bool, nat_tests, map-map, All-from_recursion, All-contains, Tree, IsTree, IsShortest, Mesh, edge_count, IsSurface, cells_of, weighed_walk, loop_walk, Trees, AreChosenAt, Loop, comes_before, walks, loop_at, loops_at}
 use Rattle.std.proofs.lemmas.List.Sorted.{IsPermutation-map}
 use Rattle.surf_z2.proofs.Merge.{Sorted, Comparable, sorted-permutes, sorted-in_order, order_from_sorted, all_sorted}
 use Rattle.surf_graphs.specs.Cells.{primal, IsSplit, IsHeaviest}
-use Rattle.surf_graphs.specs.Trees.{Tree, IsTree, IsShortest}
-use Rattle.surf_surfaces.specs.Mesh.{Mesh}
-use Rattle.surf_surfaces.specs.Surface.{edge_count, IsSurface}
 use Rattle.surf_surfaces.specs.Walk.{IsClosedAt, edge_length, walk_length, ArePositive}
 use Rattle.surf_surfaces.specs.Homology.{IsIndependent, IsLeastLoopSystem}
-use Rattle.surf_surfaces.specs.Cells.{cells_of}
-use Rattle.surf_surfaces.specs.Class.{weighed_walk}
-use Rattle.surf_surfaces.specs.Loop.{loop_walk}
 use Rattle.surf_surfaces.specs.Cotree.{is_left, left_edges, split_of}
-use Rattle.surf_surfaces.specs.Choice.{Trees, AreChosenAt, Loop, comes_before, walks, loop_at, loops_at}
 use Rattle.surf_surfaces.specs.ChoiceLaws.{LoopsAreLeast}
 use Rattle.surf_surfaces.specs.Places.{AreNoLonger}
 use Rattle.surf_surfaces.proofs.ClassLaws.{runs_loop, closed_walk_spanned}

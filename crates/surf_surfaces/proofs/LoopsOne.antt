@@ -1,22 +1,10 @@
 -- The loops that are chosen at a base are one list.
 use Rattle.std.proofs.Common.{◌≡◌, ◌≢◌, ℕ, zero, suc, ◌<◌, true, false, not, ◌&&◌, eqb, List, ◌∷◌, ◌++◌, refl, sym, ap, ◌∙◌, arith, inl, inr, subst, eq-eqb}
-use Rattle.std.proofs.lemmas.Bool.{cases_eq, ne_eqb}
-use Rattle.surf_z2.specs.Order.{sorted}
-use Rattle.surf_z2.proofs.ParityLaws.{any_below-same}
+use Rattle.surf_surfaces.proofs.Common.{cases_eq, ne_eqb, sorted, any_below-same, primal, dual, between, IsTree, tree_edge, Mesh, edge_count, ends, faces_of, IsSurface, ArePositive, cells_of, loop_walk, loop_length, Trees, AreChosenAt, comes_before, loop_at, loops_at}
 use Rattle.surf_z2.proofs.Passing.{mapped_same}
-use Rattle.surf_graphs.specs.Cells.{primal, dual}
-use Rattle.surf_graphs.specs.Growth.{between}
 use Rattle.surf_graphs.specs.Loops.{way_down, way_up}
-use Rattle.surf_graphs.specs.Trees.{IsTree}
-use Rattle.surf_graphs.proofs.Trees.{tree_edge}
-use Rattle.surf_surfaces.specs.Mesh.{Mesh}
-use Rattle.surf_surfaces.specs.Surface.{edge_count, ends, faces_of, IsSurface}
-use Rattle.surf_surfaces.specs.Walk.{ArePositive}
-use Rattle.surf_surfaces.specs.Cells.{cells_of}
-use Rattle.surf_surfaces.specs.Loop.{loop_walk, loop_length}
 use Rattle.surf_surfaces.specs.ShortestTree.{SameTree}
 use Rattle.surf_surfaces.specs.Cotree.{tree_edges, is_left, precedes, IsHeaviestCotree, SameCotree}
-use Rattle.surf_surfaces.specs.Choice.{Trees, AreChosenAt, comes_before, loop_at, loops_at}
 use Rattle.surf_surfaces.specs.ChoiceLaws.{LoopsAreOne}
 use Rattle.surf_surfaces.proofs.CellLaws.{surfaces_are_cells}
 use Rattle.surf_surfaces.proofs.ShortestTreeLaws.{shortest_is_tree, shortest_trees_are_one}

@@ -1,13 +1,8 @@
 -- Trees that are those of shortest walks as far as a distance.
 use Rattle.std.proofs.Common.{◌≡◌, ◌≢◌, ℕ, zero, suc, ◌+◌, ◌<◌, ◌≤◌, List, [], ◌∷◌, ◌++◌, ◌⊎◌, refl, sym, ap, ◌∙◌, arith, inl, inr, eqb, eq-eqb, ne_eqb}
-use Rattle.std.proofs.lemmas.Bool.{cases_eq}
-use Rattle.surf_z2.specs.Parity.{xor}
+use Rattle.surf_surfaces.proofs.Common.{cases_eq, xor, Mesh, ends, IsSurface, edge_length, edge_number, ArePositive, IsShortestTree}
 use Rattle.surf_graphs.specs.Loops.{way_down, way_up}
 use Rattle.surf_graphs.specs.Trees.{Tree, on_way}
-use Rattle.surf_surfaces.specs.Mesh.{Mesh}
-use Rattle.surf_surfaces.specs.Surface.{ends, IsSurface}
-use Rattle.surf_surfaces.specs.Walk.{edge_length, edge_number, ArePositive}
-use Rattle.surf_surfaces.specs.ShortestTree.{IsShortestTree}
 use Rattle.surf_surfaces.specs.FewBases.{IsNearTree, HasNearLoops, NearTreesHaveLoops}
 use Rattle.surf_surfaces.proofs.CellLaws.{surfaces_are_cells}
 use Rattle.surf_surfaces.proofs.ShortestTreeLaws.{shortest_is_tree}

@@ -1,12 +1,6 @@
 -- Lists of walks that are compared place by place.
-use Rattle.std.proofs.Common.{◌≡◌, ℕ, ◌≤◌, cond, leb, List, [], ◌∷◌, length, map, get_or, sum, take, All, Contains, refl, sym, ap, ◌∙◌, subst, arith, inl, inr}
-use Rattle.std.proofs.lemmas.Bool.{leb-true, cases_Bool}
-use Rattle.std.proofs.lemmas.List.{length-map}
-use Rattle.std.proofs.lemmas.List.Elements.{recursion_from_All, All-from_recursion, All-contains}
+use Rattle.surf_surfaces.proofs.Common.{◌≡◌, ℕ, ◌≤◌, cond, leb, List, [], ◌∷◌, length, map, get_or, sum, take, All, Contains, refl, sym, ap, ◌∙◌, subst, arith, inl, inr, leb-true, cases_Bool, length-map, recursion_from_All, All-from_recursion, All-contains, Mesh, walk_length, total}
 use Rattle.surf_z2.proofs.Counts.{add_up, sum_is, below, sorted as placed, Under, under_from_counts, length_under, get_under, sum_sorted, length_sorted, up_sorted, sum_from_counts}
-use Rattle.surf_surfaces.specs.Mesh.{Mesh}
-use Rattle.surf_surfaces.specs.Walk.{walk_length}
-use Rattle.surf_surfaces.specs.Homology.{total}
 use Rattle.surf_surfaces.specs.Places.{count_up_to, AreNoLonger, lengths_in_order, AreNoLongerInOrder}
 use Rattle.surf_surfaces.specs.PlaceLaws.{NoLongerLaw, ShortestIsFirstInOrder}
 use Rattle.surf_surfaces.proofs.OrderedNumbers.{sorted_is, counts_from_under, under_from_places, sum_take, same_from_under, counted, all_counted, all_from_count, one_counted, found_counted}

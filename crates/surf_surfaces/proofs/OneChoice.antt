@@ -1,9 +1,6 @@
 -- The candidates and the basis are one, whichever trees show them.
-use Rattle.std.proofs.Common.{◌≡◌, ℕ, zero, suc, ◌+◌, ◌<◌, List, ◌++◌, refl, sym, ap, ◌∙◌, arith, subst}
-use Rattle.std.specs.List.{flat_map, range_with_len}
+use Rattle.surf_surfaces.proofs.Common.{◌≡◌, ℕ, zero, suc, ◌+◌, ◌<◌, List, ◌++◌, refl, sym, ap, ◌∙◌, arith, subst, flat_map, range_with_len, sorted, comes_before, loops_at, IsGreedyChoice}
 use Rattle.std.proofs.lemmas.List.Concat.{flat_map-cons}
-use Rattle.surf_z2.specs.Order.{sorted}
-use Rattle.surf_surfaces.specs.Choice.{comes_before, loops_at, IsGreedyChoice}
 use Rattle.surf_surfaces.specs.ChoiceLaws.{CandidatesAreOne, BasesAreOne}
 use Rattle.surf_surfaces.proofs.LoopsOne.{loops_are_one}
 use Rattle.surf_surfaces.proofs.BasisLaws.{basis_is_one}

@@ -1,12 +1,7 @@
 -- The smallest surface is one.
-use Rattle.std.specs.Prelude.{◌≡◌, ℕ, ◌<◌, false}
-use Rattle.std.proofs.Common.{zero, suc, refl, arith, length}
-use Rattle.std.proofs.lemmas.List.Elements.{All-from_recursion}
-use Rattle.surf_surfaces.specs.Joined.{Joined, here, over}
-use Rattle.surf_surfaces.specs.Mesh.{IsMesh, IsFace, pair}
+use Rattle.surf_surfaces.proofs.Common.{◌≡◌, ℕ, ◌<◌, false, zero, suc, refl, arith, length, All-from_recursion, Joined, here, over, IsMesh, IsFace, pair, IsLoopCount}
 use Rattle.surf_surfaces.specs.Pillow.{pillow}
 use Rattle.surf_surfaces.specs.Surface.{ends, faces_with, HasCorner, HasEdge, ShareAt, HasOneFan, IsConnected, IsSurface, IsOrientation, IsOrientable}
-use Rattle.surf_surfaces.specs.Homology.{IsLoopCount}
 use Rattle.surf_surfaces.proofs.SmallFaces.{triangle}
 
 pillow_is_mesh : IsMesh pillow

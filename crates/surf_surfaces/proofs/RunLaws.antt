@@ -1,8 +1,5 @@
 -- Which way a face runs its sides.
-use Rattle.std.proofs.Common.{◌≡◌, ◌≢◌, ℕ, true, List, ◌⊎◌, get_or, sym, ap, ◌∙◌, inl, inr}
-use Rattle.std.proofs.lemmas.Bool.{cases_order}
-use Rattle.surf_surfaces.specs.Mesh.{IsFace, sides, pair, pair_of, pair_eq}
-use Rattle.surf_surfaces.specs.Surface.{has_side, runs}
+use Rattle.surf_surfaces.proofs.Common.{◌≡◌, ◌≢◌, ℕ, true, List, ◌⊎◌, get_or, sym, ap, ◌∙◌, inl, inr, cases_order, IsFace, sides, pair, pair_of, pair_eq, has_side, runs}
 use Rattle.surf_surfaces.proofs.PairLaws.{pair_eq-true, pair_eq-same, pair_same}
 use Rattle.surf_surfaces.proofs.EdgeLaws.{list_any_at, list_any_from}
 use Rattle.surf_surfaces.proofs.FaceLaws.{pair_comm}

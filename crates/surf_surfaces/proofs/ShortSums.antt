@@ -1,18 +1,8 @@
 -- Independent closed walks, each a sum of walks that are no longer.
-use Rattle.std.proofs.Common.{◌≡◌, ℕ, List, length, map, get_or, All, Contains, sym, ap, ◌∙◌, subst, arith}
-use Rattle.std.proofs.lemmas.Simd.{map-map}
-use Rattle.std.proofs.lemmas.List.Elements.{recursion_from_All, All-from_recursion, Contains-get_or}
+use Rattle.surf_surfaces.proofs.Common.{◌≡◌, ℕ, List, length, map, get_or, All, Contains, sym, ap, ◌∙◌, subst, arith, map-map, recursion_from_All, All-from_recursion, Contains-get_or, Split, IsSplit, signature_of, signed, Mesh, IsSurface, IsClosed, walk_length, IsIndependent, cells_of, class_of, weighed_walk}
 use Rattle.surf_z2.specs.Space.{numbers, Independent, Weighed, weights, vectors, up_to, SpannedUpToWeight}
 use Rattle.surf_z2.proofs.Counts.{below}
 use Rattle.surf_z2.proofs.Ranks.{rank_law}
-use Rattle.surf_graphs.specs.Cells.{Split, IsSplit}
-use Rattle.surf_graphs.specs.Independence.{signature_of, signed}
-use Rattle.surf_surfaces.specs.Mesh.{Mesh}
-use Rattle.surf_surfaces.specs.Surface.{IsSurface}
-use Rattle.surf_surfaces.specs.Walk.{IsClosed, walk_length}
-use Rattle.surf_surfaces.specs.Homology.{IsIndependent}
-use Rattle.surf_surfaces.specs.Cells.{cells_of}
-use Rattle.surf_surfaces.specs.Class.{class_of, weighed_walk}
 use Rattle.surf_surfaces.specs.Places.{count_up_to, AreNoLonger}
 use Rattle.surf_surfaces.proofs.ClassLaws.{independent_by_classes}
 use Rattle.surf_surfaces.proofs.LeastLaws.{all_mapped}

@@ -1,17 +1,8 @@
 -- Laws of the tree of shortest walks.
-use Rattle.std.proofs.Common.{◌≡◌, ◌≢◌, ℕ, ◌+◌, ◌<◌, ◌≤◌, true, List, [], ◌∷◌, ◌++◌, refl, sym, ap, ◌∙◌, subst, arith, Contains}
-use Rattle.surf_graphs.specs.Graphs.{Graph, joins, IsJoined, edge_between, IsGraphWalk, graph_walk_length}
+use Rattle.surf_surfaces.proofs.Common.{◌≡◌, ◌≢◌, ℕ, ◌+◌, ◌<◌, ◌≤◌, true, List, [], ◌∷◌, ◌++◌, refl, sym, ap, ◌∙◌, subst, arith, Contains, Graph, joins, IsJoined, edge_between, IsGraphWalk, graph_walk_length, primal, Tree, IsTree, IsShortest, joins_turned, joins_ends, joined_below, Mesh, pair, edges, edge_count, ends, IsSurface, edge_length, edge_number, place_of, walk_length, ArePositive, cells_of}
 use Rattle.surf_graphs.specs.Loops.{IsSimple}
-use Rattle.surf_graphs.specs.Cells.{primal}
-use Rattle.surf_graphs.specs.Trees.{Tree, IsTree, IsShortest}
 use Rattle.surf_graphs.proofs.Graphs.{edge_between_is, walk-append}
-use Rattle.surf_graphs.proofs.Loops.{joins_turned, joins_ends}
-use Rattle.surf_graphs.proofs.Trees.{joined_below}
-use Rattle.surf_surfaces.specs.Mesh.{Mesh, pair, edges}
-use Rattle.surf_surfaces.specs.Surface.{edge_count, ends, IsSurface}
-use Rattle.surf_surfaces.specs.Walk.{edge_length, edge_number, place_of, walk_length, ArePositive}
 use Rattle.surf_surfaces.specs.Distance.{LeadsFrom, IsDistance}
-use Rattle.surf_surfaces.specs.Cells.{cells_of}
 use Rattle.surf_surfaces.specs.ShortestTree.{IsTight, IsShortestTree, ShortestTreesAreOne}
 use Rattle.surf_surfaces.proofs.EdgeLaws.{place_of-among, among-contains}
 use Rattle.surf_surfaces.proofs.CellLaws.{surfaces_are_cells, joins_from}

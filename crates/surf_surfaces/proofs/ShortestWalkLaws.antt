@@ -1,23 +1,10 @@
 -- The shortest of what is least is a shortest closed walk that is not null.
-use Rattle.std.proofs.Common.{◌≡◌, ℕ, zero, suc, ◌<◌, ◌≤◌, Bool, true, false, leb, List, [], ◌∷◌, length, map, get_or, Contains, refl, sym, ap, ◌∙◌, subst, arith}
-use Rattle.std.specs.List.{AllByRecursion}
-use Rattle.std.proofs.lemmas.Simd.{map-map}
-use Rattle.std.proofs.lemmas.List.Elements.{recursion_from_All, All-from_recursion, All-contains}
-use Rattle.surf_z2.specs.Space.{chosen}
-use Rattle.surf_z2.specs.Order.{sorted}
+use Rattle.surf_surfaces.proofs.Common.{◌≡◌, ℕ, zero, suc, ◌<◌, ◌≤◌, Bool, true, false, leb, List, [], ◌∷◌, length, map, get_or, Contains, refl, sym, ap, ◌∙◌, subst, arith, AllByRecursion, map-map, recursion_from_All, All-from_recursion, All-contains, chosen, sorted, Sorted, xor-false, IsGraphWalk, walk_chain, graph_walk_length, joined_below, Mesh, IsSurface, cells_of, Loop, comes_before, walks as walks_of, loops_at, candidates}
 use Rattle.surf_z2.proofs.Counts.{Up}
-use Rattle.surf_z2.proofs.Merge.{Sorted}
-use Rattle.surf_z2.proofs.ParityLaws.{xor-false}
 use Rattle.surf_graphs.specs.Cells.{primal, IsNullChain}
-use Rattle.surf_graphs.specs.Graphs.{IsGraphWalk, walk_chain, graph_walk_length}
-use Rattle.surf_graphs.proofs.Trees.{joined_below}
-use Rattle.surf_surfaces.specs.Mesh.{Mesh}
-use Rattle.surf_surfaces.specs.Surface.{IsSurface}
 use Rattle.surf_surfaces.specs.Walk.{IsClosed, IsClosedAt, edge_length, parity, walk_length, ArePositive}
 use Rattle.surf_surfaces.specs.Homology.{IsNull, IsIndependent, IsLeastLoopSystem, total_parity}
 use Rattle.surf_surfaces.specs.Cycle.{IsSimpleCycle, IsNonseparating, IsShortestNonseparating}
-use Rattle.surf_surfaces.specs.Cells.{cells_of}
-use Rattle.surf_surfaces.specs.Choice.{Loop, comes_before, walks as walks_of, loops_at, candidates}
 use Rattle.surf_surfaces.specs.Places.{lengths_in_order, IsShortestOf, IsShortestNotNull}
 use Rattle.surf_surfaces.specs.PlaceLaws.{ChosenLoopsAreInOrder, ChosenLoopsAreLeastInOrder, ChosenBasisIsInOrder, ChosenBasisIsLeastInOrder, ShortestLoopsAreShortestNotNull, ShortestOfBasesAreShortestNotNull, ShortestNotNullIsNonseparating, LeastBasesMeasureShortest, BasesHaveShortest, FirstLoopIsShortestNotNull, FirstOfBasisIsShortestNotNull}
 use Rattle.surf_surfaces.proofs.CellLaws.{surfaces_are_cells}

@@ -1,11 +1,6 @@
 -- Laws of sides by their places, and of mates.
-use Rattle.std.proofs.Common.{◌≡◌, ◌≢◌, ℕ, zero, suc, ◌+◌, ◌-◌, ◌<◌, ◌≤◌, true, false, ◌||◌, eqb, List, [], ◌∷◌, ◌++◌, ◌⊎◌, length, get_or, refl, sym, ap, ◌∙◌, arith, inl, inr, subst}
-use Rattle.std.proofs.lemmas.Bool.{eq-eqb, ne_eqb, eqb-true, cases_eq, cases_lt, cases_order, lt-ltb, le-ltb, or_cases, or_left, or_right}
-use Rattle.std.proofs.lemmas.List.{length-append, get_or_append_left, get_or_push}
-use Rattle.surf_surfaces.specs.Mesh.{Mesh, IsFace, steps_from, sides, pair, pair_of, pair_eq, edges}
-use Rattle.surf_surfaces.specs.Surface.{face_count, face_at, has_side, faces_of, IsSurface}
+use Rattle.surf_surfaces.proofs.Common.{◌≡◌, ◌≢◌, ℕ, zero, suc, ◌+◌, ◌-◌, ◌<◌, ◌≤◌, true, false, ◌||◌, eqb, List, [], ◌∷◌, ◌++◌, ◌⊎◌, length, get_or, refl, sym, ap, ◌∙◌, arith, inl, inr, subst, eq-eqb, ne_eqb, eqb-true, cases_eq, cases_lt, cases_order, lt-ltb, le-ltb, or_cases, or_left, or_right, length-append, get_or_append_left, get_or_push, Mesh, IsFace, steps_from, sides, pair, pair_of, pair_eq, edges, face_count, face_at, has_side, faces_of, IsSurface, place_of}
 use Rattle.surf_surfaces.specs.Side.{after, before, corner, side_pair, SidesAreByPlace, SidesArePlaced, CornersHaveNeighbours, AreMates, SidesHaveMates}
-use Rattle.surf_surfaces.specs.Walk.{place_of}
 use Rattle.surf_surfaces.proofs.PairLaws.{pair_eq-true, pair_eq-same, pair_same}
 use Rattle.surf_surfaces.proofs.EdgeLaws.{list_any_at, list_any_from, among-edges, place_of-among}
 use Rattle.surf_surfaces.proofs.FaceLaws.{pair_comm}

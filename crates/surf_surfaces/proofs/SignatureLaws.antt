@@ -1,18 +1,6 @@
 -- The signature of a walk is its class.
-use Rattle.std.proofs.Common.{◌≡◌, ℕ, ◌&&◌, eqb, List, [], ◌∷◌, length, map, bit_xor, sym, ap, ◌∙◌, Contains}
-use Rattle.std.specs.List.{AllByRecursion}
-use Rattle.std.proofs.lemmas.List.Elements.{recursion_from_All}
-use Rattle.surf_z2.specs.Parity.{odd}
-use Rattle.surf_z2.specs.Space.{numbers, sum_of}
-use Rattle.surf_z2.proofs.Below.{same_from}
+use Rattle.surf_surfaces.proofs.Common.{◌≡◌, ℕ, ◌&&◌, eqb, List, [], ◌∷◌, length, map, bit_xor, sym, ap, ◌∙◌, Contains, AllByRecursion, recursion_from_All, odd, numbers, sum_of, same_from, Split, signature, chain_signature, signature_of, signature_of-linear, Mesh, pair_of, pair_eq, steps, edges, edge_count, ends, edge_number, cells_of}
 use Rattle.surf_z2.proofs.ParityLaws.{odd_below-same, odd_below-one}
-use Rattle.surf_graphs.specs.Cells.{Split, signature, chain_signature}
-use Rattle.surf_graphs.specs.Independence.{signature_of}
-use Rattle.surf_graphs.proofs.Independence.{signature_of-linear}
-use Rattle.surf_surfaces.specs.Mesh.{Mesh, pair_of, pair_eq, steps, edges}
-use Rattle.surf_surfaces.specs.Surface.{edge_count, ends}
-use Rattle.surf_surfaces.specs.Walk.{edge_number}
-use Rattle.surf_surfaces.specs.Cells.{cells_of}
 use Rattle.surf_surfaces.specs.Signature.{edge_signature, SignaturesAreClasses, NullBySignature}
 use Rattle.surf_surfaces.proofs.EdgeLaws.{ends-eq, place_of-among, among-contains}
 use Rattle.surf_surfaces.proofs.ClassLaws.{null_by_class}

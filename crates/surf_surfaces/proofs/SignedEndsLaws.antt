@@ -3,17 +3,8 @@ use Rattle.std.proofs.Common.{◌≡◌, ℕ, ◌<◌, Bool, true, false, ◌&&�
 use Rattle.std.proofs.lemmas.Bool.{cases_eq, cases_Bool, and_parts, and_from, false≢true, not-true, not_from_false, eqb-false}
 use Rattle.surf_z2.proofs.Below.{same_from, same_below, number_of-none}
 use Rattle.surf_z2.proofs.ParityLaws.{odd_below-none, any_below-found, any_below-none}
-use Rattle.surf_z2.specs.Parity.{any_below}
-use Rattle.surf_graphs.specs.Cells.{primal, Split, signature, chain_signature}
-use Rattle.surf_graphs.specs.Graphs.{walk_chain}
-use Rattle.surf_graphs.specs.Independence.{signature_of}
-use Rattle.surf_graphs.proofs.Independence.{signature_of-same}
+use Rattle.surf_surfaces.proofs.Common.{any_below, primal, Split, signature, chain_signature, walk_chain, signature_of, signature_of-same, Mesh, edge_count, ends, parity, cells_of, edge_signature}
 use Rattle.surf_graphs.proofs.Walks.{walk_has_ends}
-use Rattle.surf_surfaces.specs.Mesh.{Mesh}
-use Rattle.surf_surfaces.specs.Surface.{edge_count, ends}
-use Rattle.surf_surfaces.specs.Walk.{parity}
-use Rattle.surf_surfaces.specs.Cells.{cells_of}
-use Rattle.surf_surfaces.specs.Signature.{edge_signature}
 use Rattle.surf_surfaces.specs.FewBases.{SignedEndsMeetAll}
 use Rattle.surf_surfaces.proofs.ClassLaws.{null_by_class}
 use Rattle.surf_surfaces.proofs.GraphWalkLaws.{graph_walk}

@@ -1,28 +1,9 @@
 -- The loops of the chosen basis are simple cycles.
-use Rattle.std.proofs.Common.{◌≡◌, ℕ, zero, suc, ◌<◌, ◌≤◌, Bool, true, false, List, [], ◌∷◌, length, map, take, get_or}
+use Rattle.surf_surfaces.proofs.Common.{◌≡◌, ℕ, zero, suc, ◌<◌, ◌≤◌, Bool, true, false, List, [], ◌∷◌, length, map, take, get_or, AllByRecursion, cases_Bool, All-from_recursion, any_below, numbers, is_nothing, chosen, difference, Spanned, Decides-is_nothing, any_below-found, any_below-none, InSpan, add_in, in_from_spanned, spanned_from_in, primal, Split, IsSplit, IsGraphWalk, walk_chain, graph_walk_length, signature_of, signature_of-same, signature_of-linear, joined_below, Mesh, edge_count, IsSurface, IsClosed, edge_length, first, parity, walk_length, ArePositive, cells_of, class_of, Trees, AreChosen, Loop, walks, candidates, DependsOn, IsChosenBasis}
 use Rattle.std.proofs.Common.{bit_xor, All, refl, sym, ◌∙◌, subst, arith, inl, inr, MatchBool}
-use Rattle.std.specs.List.{AllByRecursion}
-use Rattle.std.proofs.lemmas.Bool.{cases_Bool}
-use Rattle.std.proofs.lemmas.List.Elements.{All-from_recursion}
-use Rattle.surf_z2.specs.Parity.{any_below}
-use Rattle.surf_z2.specs.Space.{numbers, is_nothing, chosen, difference, Spanned}
 use Rattle.surf_z2.proofs.Least.{lighter_before}
-use Rattle.surf_z2.proofs.Numbers.{Decides-is_nothing}
-use Rattle.surf_z2.proofs.ParityLaws.{any_below-found, any_below-none}
-use Rattle.surf_z2.proofs.Span.{InSpan, add_in, in_from_spanned, spanned_from_in}
-use Rattle.surf_graphs.specs.Cells.{primal, Split, IsSplit}
-use Rattle.surf_graphs.specs.Graphs.{IsGraphWalk, walk_chain, graph_walk_length}
-use Rattle.surf_graphs.specs.Independence.{signature_of}
-use Rattle.surf_graphs.proofs.Independence.{signature_of-same, signature_of-linear}
 use Rattle.surf_graphs.proofs.Splitting.{simple_or_two}
-use Rattle.surf_graphs.proofs.Trees.{joined_below}
-use Rattle.surf_surfaces.specs.Mesh.{Mesh}
-use Rattle.surf_surfaces.specs.Surface.{edge_count, IsSurface}
-use Rattle.surf_surfaces.specs.Walk.{IsClosed, edge_length, first, parity, walk_length, ArePositive}
 use Rattle.surf_surfaces.specs.Cycle.{IsSimpleCycle, tail}
-use Rattle.surf_surfaces.specs.Cells.{cells_of}
-use Rattle.surf_surfaces.specs.Class.{class_of}
-use Rattle.surf_surfaces.specs.Choice.{Trees, AreChosen, Loop, walks, candidates, DependsOn, IsChosenBasis}
 use Rattle.surf_surfaces.proofs.CellLaws.{surfaces_are_cells}
 use Rattle.surf_surfaces.proofs.GraphWalkLaws.{graph_walk}
 use Rattle.surf_surfaces.proofs.LeastLaws.{all_mapped}

@@ -1,7 +1,5 @@
 -- Triangles and squares are faces.
-use Rattle.std.proofs.Common.{◌≢◌, ℕ, zero, suc, ◌<◌, List, [], ◌∷◌, arith, AllPairs}
-use Rattle.std.proofs.lemmas.List.Elements.{All-from_recursion}
-use Rattle.surf_surfaces.specs.Mesh.{IsFace}
+use Rattle.surf_surfaces.proofs.Common.{◌≢◌, ℕ, zero, suc, ◌<◌, List, [], ◌∷◌, arith, AllPairs, All-from_recursion, IsFace}
 use Rattle.surf_surfaces.proofs.FaceLaws.{Distinct}
 
 pairs_differ : (xs : List ℕ) → Distinct xs → AllPairs (λ u v. u ≢ v) xs

@@ -1,11 +1,7 @@
 -- Boundaries, and the parities of walks, add up.
-use Rattle.std.proofs.Common.{◌≡◌, ℕ, List, [], ◌∷◌, ◌++◌, map, refl, sym, ap, ◌∙◌}
-use Rattle.surf_z2.specs.Parity.{xor}
+use Rattle.surf_surfaces.proofs.Common.{◌≡◌, ℕ, List, [], ◌∷◌, ◌++◌, map, refl, sym, ap, ◌∙◌, xor, Mesh, pair_of, pair_eq, ends, faces_of, last_from, parity}
 use Rattle.surf_z2.specs.Space.{chains, sum_of}
 use Rattle.surf_z2.proofs.ParityLaws.{xor_assoc, xor_pairs}
-use Rattle.surf_surfaces.specs.Mesh.{Mesh, pair_of, pair_eq}
-use Rattle.surf_surfaces.specs.Surface.{ends, faces_of}
-use Rattle.surf_surfaces.specs.Walk.{last_from, parity}
 use Rattle.surf_surfaces.specs.Homology.{boundary, IsBoundary, total_parity}
 use Rattle.surf_surfaces.proofs.CellLaws.{surfaces_are_cells}
 use Rattle.surf_surfaces.specs.Laws.{OnlyAllOrNoneIsClosed, BoundariesAdd, ParitiesAdd, TotalsAreSums}

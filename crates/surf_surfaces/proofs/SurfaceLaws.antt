@@ -1,11 +1,5 @@
 -- Laws of the faces of an edge, and of the edges of a mesh.
-use Rattle.std.proofs.Common.{◌≡◌, ◌≢◌, ℕ, zero, suc, ◌+◌, ◌<◌, Bool, true, false, ◌&&◌, ◌||◌, eqb, List, [], ◌∷◌, length, get_or, refl, sym, ap, ◌∙◌, arith, inl, inr, AllPairs, Contains, ◌↔◌}
-use Rattle.std.specs.List.{AllByRecursion, list_any}
-use Rattle.std.proofs.lemmas.Bool.{eq-eqb, ne_eqb, eqb-true, cases_eq, cases_Bool, or_right, or_left, true≢false, lt-ltb, le-ltb, cases_lt}
-use Rattle.std.proofs.lemmas.List.Elements.{All-from_recursion, recursion_from_All}
-use Rattle.std.proofs.lemmas.List.{get_or_past}
-use Rattle.surf_surfaces.specs.Mesh.{Mesh, IsMesh, IsFace, sides, pair_of, pair_eq, among, edges}
-use Rattle.surf_z2.specs.Parity.{xor, odd_below}
+use Rattle.surf_surfaces.proofs.Common.{◌≡◌, ◌≢◌, ℕ, zero, suc, ◌+◌, ◌<◌, Bool, true, false, ◌&&◌, ◌||◌, eqb, List, [], ◌∷◌, length, get_or, refl, sym, ap, ◌∙◌, arith, inl, inr, AllPairs, Contains, ◌↔◌, AllByRecursion, list_any, eq-eqb, ne_eqb, eqb-true, cases_eq, cases_Bool, or_right, or_left, true≢false, lt-ltb, le-ltb, cases_lt, All-from_recursion, recursion_from_All, get_or_past, Mesh, IsMesh, IsFace, sides, pair_of, pair_eq, among, edges, xor, odd_below}
 use Rattle.surf_z2.proofs.ParityLaws.{or-xor, xor-and, odd_below-same, odd_below-xor, odd_below-one}
 use Rattle.surf_surfaces.proofs.PairLaws.{pair_eq-true, pair_eq-self}
 use Rattle.surf_surfaces.proofs.EdgeLaws.{among-edges, list_any_at, list_any_from}

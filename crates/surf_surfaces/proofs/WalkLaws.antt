@@ -1,16 +1,11 @@
 -- Laws of walks: any two vertices of a surface are joined by one.
-use Rattle.std.proofs.Common.{◌≡◌, ℕ, ◌<◌, true, List, [], ◌∷◌, ◌++◌, get_or, refl, ap, ◌∙◌, arith, Contains, All}
-use Rattle.std.specs.List.{AllByRecursion}
+use Rattle.surf_surfaces.proofs.Common.{◌≡◌, ℕ, ◌<◌, true, List, [], ◌∷◌, ◌++◌, get_or, refl, ap, ◌∙◌, arith, Contains, All, AllByRecursion, Joined, here, over, Mesh, IsMesh, IsFace, steps_from, sides, pair, pair_of, pair_eq, among, edges, face_at, has_side, HasCorner, Share, IsSurface, last_from}
 use Rattle.std.proofs.lemmas.List.Elements.{All-from_recursion, recursion_from_All, All-contains, All-contains_itself}
-use Rattle.surf_surfaces.specs.Joined.{Joined, here, over}
 use Rattle.surf_surfaces.proofs.JoinedLaws.{joined_trans, joined_sym}
-use Rattle.surf_surfaces.specs.Mesh.{Mesh, IsMesh, IsFace, steps_from, sides, pair, pair_of, pair_eq, among, edges}
 use Rattle.surf_surfaces.proofs.PairLaws.{pair_eq-true, pair_of_both}
 use Rattle.surf_surfaces.proofs.EdgeLaws.{contains_from_among, list_any_at}
 use Rattle.surf_surfaces.proofs.FaceLaws.{all_push, IsStepBelow, face_steps, pair_comm}
 use Rattle.surf_surfaces.proofs.SurfaceLaws.{sides_are_edges}
-use Rattle.surf_surfaces.specs.Surface.{face_at, has_side, HasCorner, Share, IsSurface}
-use Rattle.surf_surfaces.specs.Walk.{last_from}
 use Rattle.surf_surfaces.specs.Distance.{LeadsFrom}
 
 -- two vertices joined by an edge

@@ -1,9 +1,6 @@
 -- A grown tree's tables have the text of its tree.
 use Rattle.std.proofs.Common.{◌≡◌, ℕ, zero, suc, ◌+◌, ◌<◌, List, ◌++◌, eqb, get_or, refl, sym, ap, ◌∙◌, arith, inl, inr, eq-eqb, true, false}
-use Rattle.std.specs.List.{flat_map, range_with_len}
-use Rattle.std.proofs.lemmas.Bool.{cases_eq, ne_eqb}
-use Rattle.surf_graphs.specs.Trees.{Tree}
-use Rattle.surf_surfaces.specs.Mesh.{Mesh}
+use Rattle.surf_surfaces.proofs.Common.{flat_map, range_with_len, cases_eq, ne_eqb, Tree, Mesh}
 use Rattle.surf_surfaces.specs.ShortestTree.{SameTree}
 use Rattle.surf_tree.specs.Tables.{TreeTables, parent_of, tree_of}
 use Rattle.surf_tree.specs.Grown.{IsGrown}

@@ -1,12 +1,8 @@
 -- Chains of tori are surfaces.
-use Rattle.std.proofs.Common.{◌≡◌, ◌≢◌, ℕ, zero, suc, ◌+◌, ◌-◌, ◌*◌, ◌<◌, ◌≤◌, ◌⊎◌, length, refl, sym, ap, ◌∙◌, arith, inl, inr, subst, Contains}
+use Rattle.surf_surfaces.proofs.Common.{◌≡◌, ◌≢◌, ℕ, zero, suc, ◌+◌, ◌-◌, ◌*◌, ◌<◌, ◌≤◌, ◌⊎◌, length, refl, sym, ap, ◌∙◌, arith, inl, inr, subst, Contains, le-ltb, length-map, after, before, face_count, face_at, HasCorner, IsSurface}
 use Rattle.std.specs.Prelude.{pos, ◌-ℤ◌}
-use Rattle.std.proofs.lemmas.Bool.{le-ltb}
-use Rattle.std.proofs.lemmas.List.{length-map}
 use Rattle.std.proofs.lemmas.Nat.{same_from_place, mul-le}
 use Rattle.surf_surfaces.specs.Mesh.{Mesh, characteristic}
-use Rattle.surf_surfaces.specs.Side.{after, before}
-use Rattle.surf_surfaces.specs.Surface.{face_count, face_at, HasCorner, IsSurface}
 use Rattle.surf_tori.specs.Torus.{torus}
 use Rattle.surf_tori.specs.ConnectedSum.{connected_sum, CanLose}
 use Rattle.surf_tori.specs.Chain.{joint, last_joint, longer_chain, chain, ChainsAreSurfaces, ChainsHaveCharacteristic, ChainCounts}

@@ -1,9 +1,5 @@
 -- Each edge of a coherently oriented mesh has two faces.
-use Rattle.std.proofs.Common.{◌≡◌, ◌≢◌, ℕ, ◌<◌, true, false, eqb, List, [], ◌∷◌, ◌⊎◌, length, get_or, refl, sym, ap, ◌∙◌, arith, inl, inr, subst, AllPairs}
-use Rattle.std.specs.List.{list_any}
-use Rattle.std.proofs.lemmas.Bool.{eqb-true, eq-eqb, cases_order, lt-ltb, or_cases, true≢false}
-use Rattle.surf_surfaces.specs.Mesh.{IsFace, sides, pair, pair_of, pair_eq, edges, among}
-use Rattle.surf_surfaces.specs.Surface.{face_at, ends, has_side, runs, faces_with}
+use Rattle.surf_surfaces.proofs.Common.{◌≡◌, ◌≢◌, ℕ, ◌<◌, true, false, eqb, List, [], ◌∷◌, ◌⊎◌, length, get_or, refl, sym, ap, ◌∙◌, arith, inl, inr, subst, AllPairs, list_any, eqb-true, eq-eqb, cases_order, lt-ltb, or_cases, true≢false, IsFace, sides, pair, pair_of, pair_eq, edges, among, face_at, ends, has_side, runs, faces_with}
 use Rattle.surf_surfaces.proofs.PairLaws.{pair_eq-true, pair_eq-same, pair_eq-self, pair_same}
 use Rattle.surf_surfaces.proofs.EdgeLaws.{list_any_at, list_any_from, among-edges}
 use Rattle.surf_surfaces.proofs.FaceLaws.{pair_comm}

@@ -1,12 +1,8 @@
 -- The characteristic of a surface of triangles, by its vertices and faces alone.
-use Rattle.std.proofs.Common.{◌≡◌, ℕ, ◌+◌, ◌*◌, ◌<◌, List, [], ◌∷◌, length, refl, sym, ap, ◌∙◌, arith}
-use Rattle.std.specs.List.{sum_by, AllByRecursion}
+use Rattle.surf_surfaces.proofs.Common.{◌≡◌, ℕ, ◌+◌, ◌*◌, ◌<◌, List, [], ◌∷◌, length, refl, sym, ap, ◌∙◌, arith, sum_by, AllByRecursion, All-from_get_or, recursion_from_All, sum_by-cons, face_count, edge_count, face_at, IsSurface}
 use Rattle.std.specs.Prelude.{ℤ, pos, ◌+ℤ◌, ◌-ℤ◌}
 use Rattle.std.proofs.Math.IntN.{neg_ℤ, +ℤ_assoc, +ℤ_comm, pos-+ℤ-pos, +ℤ-neg_ℤ_cancel, -ℤ-+ℤ_cancel}
-use Rattle.std.proofs.lemmas.List.Elements.{All-from_get_or, recursion_from_All}
-use Rattle.std.proofs.lemmas.List.Sums.{sum_by-cons}
 use Rattle.surf_surfaces.specs.Mesh.{Mesh, characteristic}
-use Rattle.surf_surfaces.specs.Surface.{face_count, edge_count, face_at, IsSurface}
 use Rattle.surf_surfaces.proofs.CountLaws.{sizes_twice}
 use Rattle.surf_surfaces.proofs.EulerSums.{less_two}
 

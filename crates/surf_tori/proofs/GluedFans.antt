@@ -1,10 +1,5 @@
 -- Two surfaces joined along a triangle: the faces at each vertex, and all faces, stay joined.
-use Rattle.std.proofs.Common.{◌≡◌, ◌≢◌, ℕ, ◌<◌, ◌≤◌, true, [], ◌⊎◌, refl, sym, ap, ◌∙◌, arith, inl, inr, subst, Contains}
-use Rattle.std.proofs.lemmas.Bool.{cases_eq}
-use Rattle.std.proofs.lemmas.List.Elements.{All-contains}
-use Rattle.surf_surfaces.specs.Joined.{Joined, here, over}
-use Rattle.surf_surfaces.specs.Mesh.{Mesh, pair}
-use Rattle.surf_surfaces.specs.Surface.{face_count, face_at, has_side, HasCorner, HasEdge, Share, ShareAt, IsConnected, IsSurface}
+use Rattle.surf_surfaces.proofs.Common.{◌≡◌, ◌≢◌, ℕ, ◌<◌, ◌≤◌, true, [], ◌⊎◌, refl, sym, ap, ◌∙◌, arith, inl, inr, subst, Contains, cases_eq, All-contains, Joined, here, over, Mesh, pair, face_count, face_at, has_side, HasCorner, HasEdge, Share, ShareAt, IsConnected, IsSurface}
 use Rattle.surf_surfaces.proofs.JoinedLaws.{joined_trans, joined_sym, joined_lift}
 use Rattle.surf_tori.specs.Coherent.{Runs, IsCoherent}
 use Rattle.surf_surfaces.proofs.RunLaws.{some_way}

@@ -1,9 +1,5 @@
 -- Two coherently oriented surfaces, joined along a triangle that is left out of both.
-use Rattle.std.proofs.Common.{◌≡◌, ◌≢◌, ℕ, ◌<◌, ◌≤◌, [], ◌∷◌, ◌⊎◌, map, sym, ap, ◌∙◌, arith, inl, inr, subst}
-use Rattle.std.proofs.lemmas.Bool.{cases_eq}
-use Rattle.std.proofs.lemmas.List.Elements.{All-from_get_or}
-use Rattle.surf_surfaces.specs.Mesh.{Mesh, IsFace}
-use Rattle.surf_surfaces.specs.Surface.{face_count, face_at}
+use Rattle.surf_surfaces.proofs.Common.{◌≡◌, ◌≢◌, ℕ, ◌<◌, ◌≤◌, [], ◌∷◌, ◌⊎◌, map, sym, ap, ◌∙◌, arith, inl, inr, subst, cases_eq, All-from_get_or, Mesh, IsFace, face_count, face_at}
 use Rattle.surf_tori.specs.Coherent.{Runs, IsCoherent}
 use Rattle.surf_tori.proofs.RenamedLaws.{both, runs_renamed, run_of_renamed, face_renamed, run_below, run_face, across}
 use Rattle.surf_tori.proofs.TriangleLaws.{OneOf, run_of, runs_first, runs_second, runs_third}

@@ -1,11 +1,7 @@
 -- A grid of cells that closes in both directions, two triangles a cell, is a surface.
-use Rattle.std.proofs.Common.{◌≡◌, ◌≢◌, ℕ, ◌+◌, ◌*◌, ◌<◌, cond, eqb, [], ◌∷◌, ◌⊎◌, refl, sym, ap, ◌∙◌, inl, inr, subst}
+use Rattle.surf_surfaces.proofs.Common.{◌≡◌, ◌≢◌, ℕ, ◌+◌, ◌*◌, ◌<◌, cond, eqb, [], ◌∷◌, ◌⊎◌, refl, sym, ap, ◌∙◌, inl, inr, subst, eq-eqb, ne_eqb, All-from_get_or, Mesh, IsFace, pair_of, face_count, face_at}
 use Rattle.std.proofs.Math.Nat.{mul_comm}
-use Rattle.std.proofs.lemmas.Bool.{eq-eqb, ne_eqb}
 use Rattle.std.proofs.lemmas.Nat.{same_from_place, mul-add-lt}
-use Rattle.std.proofs.lemmas.List.Elements.{All-from_get_or}
-use Rattle.surf_surfaces.specs.Mesh.{Mesh, IsFace, pair_of}
-use Rattle.surf_surfaces.specs.Surface.{face_count, face_at}
 use Rattle.surf_surfaces.proofs.SurfaceLaws.{has_side-face}
 use Rattle.surf_tori.specs.Coherent.{Runs, IsCoherent}
 use Rattle.surf_surfaces.proofs.RunLaws.{runs_side}

@@ -1,9 +1,7 @@
 -- Lists without an item, parts of lists, and faces whose vertices are renamed alike.
-use Rattle.std.proofs.Common.{◌≡◌, ◌≢◌, ℕ, suc, ◌+◌, ◌-◌, ◌<◌, ◌≤◌, List, [], ◌∷◌, ◌++◌, length, get_or, map, take, drop, refl, sym, ap, ◌∙◌, arith, All, AllPairs}
-use Rattle.std.specs.List.{AllByRecursion, range_with_len}
+use Rattle.surf_surfaces.proofs.Common.{◌≡◌, ◌≢◌, ℕ, suc, ◌+◌, ◌-◌, ◌<◌, ◌≤◌, List, [], ◌∷◌, ◌++◌, length, get_or, map, take, drop, refl, sym, ap, ◌∙◌, arith, All, AllPairs, AllByRecursion, range_with_len, length-range_with_len, get_or-range_with_len}
 use Rattle.std.proofs.Math.Seq.{take-append-add, drop-append-add, take-suc}
 use Rattle.std.proofs.lemmas.List.{append_assoc, map-append, take-map, drop-map, take_all, length-drop, get_or-drop}
-use Rattle.std.proofs.lemmas.List.FromFn.{length-range_with_len, get_or-range_with_len}
 use Rattle.surf_tori.specs.ConnectedSum.{without}
 
 pub without-behind : {X : Type 0} (xs ys : List X) (n : ℕ) → without (length xs + n) (xs ++ ys) ≡ xs ++ without n ys

@@ -1,10 +1,5 @@
 -- Surfaces of which one triangle can be left out.
-use Rattle.std.proofs.Common.{◌≡◌, ◌≢◌, ℕ, ◌<◌, true, List, [], ◌∷◌, ◌⊎◌, get_or, sym, ap, inl, inr, subst}
-use Rattle.std.specs.List.{list_any}
-use Rattle.std.proofs.lemmas.Bool.{cases_eq}
-use Rattle.surf_surfaces.specs.Joined.{Joined, here, over}
-use Rattle.surf_surfaces.specs.Mesh.{Mesh, sides, pair, pair_of, pair_eq}
-use Rattle.surf_surfaces.specs.Surface.{face_count, face_at, has_side, runs, HasCorner, Share, IsConnected}
+use Rattle.surf_surfaces.proofs.Common.{◌≡◌, ◌≢◌, ℕ, ◌<◌, true, List, [], ◌∷◌, ◌⊎◌, get_or, sym, ap, inl, inr, subst, list_any, cases_eq, Joined, here, over, Mesh, sides, pair, pair_of, pair_eq, face_count, face_at, has_side, runs, HasCorner, Share, IsConnected}
 use Rattle.surf_surfaces.proofs.EdgeLaws.{list_any_at, list_any_from}
 use Rattle.surf_surfaces.proofs.JoinedLaws.{joined_trans, joined_sym, joined_lift, joined_closed}
 use Rattle.surf_surfaces.proofs.PairLaws.{pair_eq-true, pair_eq-self}

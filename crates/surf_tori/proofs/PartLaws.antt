@@ -1,14 +1,6 @@
 -- Chains, torus by torus: the faces so far, and the numbers of the last torus's vertices.
-use Rattle.std.proofs.Common.{◌≡◌, ◌≢◌, ℕ, suc, ◌+◌, ◌-◌, ◌*◌, ◌<◌, ◌≤◌, List, [], ◌∷◌, ◌++◌, length, get_or, map, take, drop, refl, sym, ap, ◌∙◌, arith, subst, All, AllPairs}
-use Rattle.std.specs.List.{AllByRecursion, range_with_len, sum_by}
-use Rattle.std.specs.Prelude.{slice_index}
+use Rattle.surf_surfaces.proofs.Common.{◌≡◌, ◌≢◌, ℕ, suc, ◌+◌, ◌-◌, ◌*◌, ◌<◌, ◌≤◌, List, [], ◌∷◌, ◌++◌, length, get_or, map, take, drop, refl, sym, ap, ◌∙◌, arith, subst, All, AllPairs, AllByRecursion, range_with_len, sum_by, slice_index, recursion_from_All, All-from_get_or, length-range_with_len, get_or-range_with_len, length-map-range_with_len, get_or-map-range_with_len, mul-le, IsFace, after, face_count, face_at}
 use Rattle.std.proofs.lemmas.List.{append_assoc, map-append, length-append, length-map, length-drop, get_or-drop, get_or-map, get_or-append-add, get_or_append_left, drop-drop}
-use Rattle.std.proofs.lemmas.List.Elements.{recursion_from_All, All-from_get_or}
-use Rattle.std.proofs.lemmas.List.FromFn.{length-range_with_len, get_or-range_with_len, length-map-range_with_len, get_or-map-range_with_len}
-use Rattle.std.proofs.lemmas.Nat.{mul-le}
-use Rattle.surf_surfaces.specs.Mesh.{IsFace}
-use Rattle.surf_surfaces.specs.Side.{after}
-use Rattle.surf_surfaces.specs.Surface.{face_count, face_at}
 use Rattle.surf_tori.specs.Torus.{torus, torus_faces}
 use Rattle.surf_tori.specs.ConnectedSum.{without, sum_name}
 use Rattle.surf_tori.specs.Chain.{joint, last_joint, longer_chain, chain}

@@ -1,10 +1,6 @@
 -- Numbers without three of them, counted in order.
-use Rattle.std.proofs.Common.{◌≡◌, ◌≢◌, ℕ, ◌+◌, ◌-◌, ◌<◌, ◌≤◌, Bool, true, false, not, ◌&&◌, ◌||◌, eqb, [], ◌∷◌, ◌⊎◌, refl, sym, ap, ◌∙◌, arith, inl, inr}
-use Rattle.std.specs.List.{list_any}
-use Rattle.std.proofs.lemmas.Bool.{eq-eqb, ne_eqb, cases_eq, cases_lt, cases_order, true≢false}
-use Rattle.surf_z2.specs.Parity.{count_below}
+use Rattle.surf_surfaces.proofs.Common.{◌≡◌, ◌≢◌, ℕ, ◌+◌, ◌-◌, ◌<◌, ◌≤◌, Bool, true, false, not, ◌&&◌, ◌||◌, eqb, [], ◌∷◌, ◌⊎◌, refl, sym, ap, ◌∙◌, arith, inl, inr, list_any, eq-eqb, ne_eqb, cases_eq, cases_lt, cases_order, true≢false, count_below, count_below-all, count_below-same, count_below-without}
 use Rattle.surf_z2.proofs.Counting.{passed_up, passed_onto}
-use Rattle.surf_z2.proofs.Sums.{count_below-all, count_below-same, count_below-without}
 use Rattle.surf_tori.specs.ConnectedSum.{sum_name}
 use Rattle.surf_tori.proofs.TriangleLaws.{OneOf}
 

@@ -1,12 +1,5 @@
 -- Faces whose vertices are renamed, and what is across a run of a face.
-use Rattle.std.proofs.Common.{◌≡◌, ◌≢◌, ℕ, ◌<◌, true, List, [], ◌∷◌, ◌++◌, length, get_or, map, refl, sym, ap, ◌∙◌, arith, inl, inr, subst, Contains}
-use Rattle.std.specs.List.{list_any}
-use Rattle.std.proofs.lemmas.List.{map-append, get_or-map, length-map, get_or_default}
-use Rattle.std.proofs.lemmas.List.Elements.{All-from_recursion}
-use Rattle.surf_surfaces.specs.Joined.{Joined, here, over}
-use Rattle.surf_surfaces.specs.Mesh.{Mesh, IsFace, steps_from, sides, pair, pair_eq}
-use Rattle.surf_surfaces.specs.Side.{after, corner}
-use Rattle.surf_surfaces.specs.Surface.{face_count, face_at, has_side, runs}
+use Rattle.surf_surfaces.proofs.Common.{◌≡◌, ◌≢◌, ℕ, ◌<◌, true, List, [], ◌∷◌, ◌++◌, length, get_or, map, refl, sym, ap, ◌∙◌, arith, inl, inr, subst, Contains, list_any, map-append, get_or-map, length-map, get_or_default, All-from_recursion, Joined, here, over, Mesh, IsFace, steps_from, sides, pair, pair_eq, after, corner, face_count, face_at, has_side, runs}
 use Rattle.surf_surfaces.proofs.PairLaws.{pair_eq-true, pair_eq-same, pair_eq-self}
 use Rattle.surf_surfaces.proofs.EdgeLaws.{list_any_at, list_any_from, list_any-map}
 use Rattle.surf_surfaces.proofs.CountLaws.{length-sides}

@@ -1,16 +1,10 @@
 -- Connected sums are surfaces.
-use Rattle.std.proofs.Common.{◌≡◌, ◌≢◌, ℕ, suc, ◌+◌, ◌-◌, ◌<◌, ◌≤◌, cond, ltb, List, [], ◌∷◌, ◌⊎◌, length, get_or, map, take, drop, refl, sym, ap, ◌∙◌, arith, inl, inr, subst, Contains}
-use Rattle.std.proofs.lemmas.Bool.{cases_eq, cases_lt, lt-ltb, le-ltb}
+use Rattle.surf_surfaces.proofs.Common.{◌≡◌, ◌≢◌, ℕ, suc, ◌+◌, ◌-◌, ◌<◌, ◌≤◌, cond, ltb, List, [], ◌∷◌, ◌⊎◌, length, get_or, map, take, drop, refl, sym, ap, ◌∙◌, arith, inl, inr, subst, Contains, cases_eq, cases_lt, lt-ltb, le-ltb, sum_by, take-append-drop, here, over, Mesh, IsFace, pair, face_count, face_at, HasCorner, HasEdge}
 use Rattle.std.proofs.lemmas.List.{length-append, length-map, length-take-le, length-drop, get_or_append_left, get_or-append_right, get_or-take, get_or-drop, get_or-map}
-use Rattle.std.specs.List.{sum_by}
 use Rattle.std.proofs.Math.Seq.{drop-cons}
-use Rattle.std.proofs.lemmas.List.{take-append-drop}
 use Rattle.std.proofs.lemmas.List.Sums.{sum_by-cons, sum_by-append}
 use Rattle.surf_surfaces.proofs.CountLaws.{sizes_twice}
 use Rattle.surf_tori.proofs.EulerLaws.{characteristic_of_sum}
-use Rattle.surf_surfaces.specs.Joined.{here, over}
-use Rattle.surf_surfaces.specs.Mesh.{Mesh, IsFace, pair}
-use Rattle.surf_surfaces.specs.Surface.{face_count, face_at, HasCorner, HasEdge}
 use Rattle.surf_surfaces.proofs.JoinedLaws.{joined_lift}
 use Rattle.surf_tori.specs.Coherent.{Runs, IsCoherent}
 use Rattle.surf_tori.specs.ConnectedSum.{without, sum_name, connected_sum, CanLose, ConnectedSumsAreSurfaces, ConnectedSumsLoseTwo}

@@ -1,14 +1,7 @@
 -- The torus of a by b squares is a surface of characteristic 0.
-use Rattle.std.proofs.Common.{◌≡◌, ◌≢◌, ℕ, zero, suc, ◌+◌, ◌*◌, ◌/◌, ◌%◌, ◌<◌, ◌≤◌, List, [], ◌∷◌, ◌++◌, ◌⊎◌, length, get_or, refl, sym, ap, ◌∙◌, arith, inl, inr, subst}
-use Rattle.std.specs.List.{flat_map, range_with_len, sum_by}
+use Rattle.surf_surfaces.proofs.Common.{◌≡◌, ◌≢◌, ℕ, zero, suc, ◌+◌, ◌*◌, ◌/◌, ◌%◌, ◌<◌, ◌≤◌, List, [], ◌∷◌, ◌++◌, ◌⊎◌, length, get_or, refl, sym, ap, ◌∙◌, arith, inl, inr, subst, flat_map, range_with_len, sum_by, cases_lt, cases_eq, lt-ltb, le-ltb, length-range_with_len, get_or-range_with_len, sum_by-cons, IsFace, after, before, face_count, face_at}
 use Rattle.std.proofs.Math.Nat.{mod-eq_of_lt, mod_self}
-use Rattle.std.proofs.lemmas.Bool.{cases_lt, cases_eq, lt-ltb, le-ltb}
 use Rattle.std.proofs.lemmas.Nat.{div-mul-add, mod-mul-add, div-add-mod', div_below, mod_below}
-use Rattle.std.proofs.lemmas.List.FromFn.{length-range_with_len, get_or-range_with_len}
-use Rattle.std.proofs.lemmas.List.Sums.{sum_by-cons}
-use Rattle.surf_surfaces.specs.Mesh.{IsFace}
-use Rattle.surf_surfaces.specs.Side.{after, before}
-use Rattle.surf_surfaces.specs.Surface.{face_count, face_at}
 use Rattle.surf_surfaces.proofs.SideLaws.{after-below, before-below, after-before, before-after}
 use Rattle.surf_tori.specs.Torus.{grid_vertex, first_face, second_face, cell_faces, torus, TorusCounts, CellsAreFaces, ToriAreSurfaces, ToriHaveCharacteristicZero}
 use Rattle.surf_tori.proofs.GridLaws.{IsRound, place, low, high, place_in, IsGrid, faces_are_triangles}

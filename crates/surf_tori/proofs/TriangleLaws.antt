@@ -1,9 +1,5 @@
 -- Triangles by their corners.
-use Rattle.std.proofs.Common.{◌≡◌, ◌≢◌, ℕ, zero, suc, ◌<◌, true, false, ◌||◌, [], ◌∷◌, ◌⊎◌, get_or, sym, arith, inl, inr, AllPairs, Contains}
-use Rattle.std.proofs.lemmas.Bool.{or_cases, or_left, or_right, true≢false}
-use Rattle.std.proofs.lemmas.List.Elements.{All-from_recursion}
-use Rattle.surf_surfaces.specs.Mesh.{IsFace, pair_eq}
-use Rattle.surf_surfaces.specs.Surface.{runs}
+use Rattle.surf_surfaces.proofs.Common.{◌≡◌, ◌≢◌, ℕ, zero, suc, ◌<◌, true, false, ◌||◌, [], ◌∷◌, ◌⊎◌, get_or, sym, arith, inl, inr, AllPairs, Contains, or_cases, or_left, or_right, true≢false, All-from_recursion, IsFace, pair_eq, runs}
 use Rattle.surf_surfaces.proofs.PairLaws.{pair_eq-true, pair_eq-self}
 
 -- one of three

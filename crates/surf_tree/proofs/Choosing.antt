@@ -1,7 +1,5 @@
 -- The least tight neighbour, link by link.
-use Rattle.std.proofs.Common.{ℕ, ◌<◌, ◌≤◌, ◌≡◌, ◌+◌, ap, ◌∙◌, subst, sym, arith, inl, inr, List, length, true}
-use Rattle.std.proofs.lemmas.Bool.{cases_eq}
-use Rattle.surf_graphs.specs.Graphs.{Graph, joins}
+use Rattle.surf_surfaces.proofs.Common.{ℕ, ◌<◌, ◌≤◌, ◌≡◌, ◌+◌, ap, ◌∙◌, subst, sym, arith, inl, inr, List, length, true, cases_eq, Graph, joins}
 use Rattle.surf_mesh.specs.Links.{link_at, IsRow}
 use Rattle.surf_tree.specs.Searches.{IsTight}
 

@@ -1,11 +1,6 @@
 -- The tables of a search that has settled all nodes are of the tree of shortest walks.
 use Rattle.std.proofs.Common.{ℕ, ◌<◌, ◌≤◌, ◌≡◌, ◌≢◌, ◌+◌, refl, sym, ◌∙◌, arith, inl, inr, List, get_or, Bool, false, not, ◌&&◌, eqb, eq-eqb, ne_eqb}
-use Rattle.std.proofs.lemmas.Bool.{cases_eq}
-use Rattle.surf_z2.specs.Parity.{any_below}
-use Rattle.surf_z2.proofs.ParityLaws.{any_below-same}
-use Rattle.surf_graphs.specs.Graphs.{Graph, IsGraph}
-use Rattle.surf_graphs.specs.Trees.{IsTree, IsShortest}
-use Rattle.surf_graphs.proofs.Loops.{joins_turned, joins_ends}
+use Rattle.surf_surfaces.proofs.Common.{cases_eq, any_below, any_below-same, Graph, IsGraph, IsTree, IsShortest, joins_turned, joins_ends}
 use Rattle.surf_graphs.proofs.Distances.{ranks_least}
 use Rattle.surf_lengths.specs.Lengths.{longest}
 use Rattle.surf_base.specs.Tables.{nobody, at}

@@ -1,8 +1,5 @@
 -- Lengths are no greater than the longest.
-use Rattle.std.proofs.Common.{ℕ, ◌≤◌, List, length, arith, inl, inr}
-use Rattle.std.proofs.lemmas.Bool.{cases_lt}
-use Rattle.std.proofs.lemmas.List.{get_or_past}
-use Rattle.surf_surfaces.specs.Walk.{edge_length}
+use Rattle.surf_surfaces.proofs.Common.{ℕ, ◌≤◌, List, length, arith, inl, inr, cases_lt, get_or_past, edge_length}
 use Rattle.surf_lengths.specs.Lengths.{longest, AreLengths}
 
 pub short_lengths : (lengths : List ℕ) → AreLengths lengths → (e : ℕ) → edge_length lengths e ≤ longest

@@ -1,12 +1,6 @@
 use Rattle.std.proofs.Common.{ℕ, suc, ◌<◌, ◌≤◌, ◌≡◌, ◌≢◌, ◌+◌, ◌⊎◌, refl, sym, ap, ◌∙◌, subst, replicate, ◌*◌, arith, inl, inr, List, length, set, Option, Some, None, Bool, true, false, cond, not, ◌&&◌, eqb, ltb, eq-eqb, ne_eqb, get_or-set_same, get_or-set_other, get_or, map}
 use Rattle.std.proofs.Math.ListN.{length-set, length-replicate}
-use Rattle.std.proofs.lemmas.Bool.{cases_eq, cases_lt, cases_Bool, lt-ltb, le-ltb}
-use Rattle.std.proofs.lemmas.Bool.Decides.{nat_tests}
-use Rattle.surf_graphs.specs.Graphs.{Graph, joins}
-use Rattle.std.proofs.lemmas.List.{get_or-map, length-map, get_or-replicate, get_or_past}
-use Rattle.surf_z2.specs.Parity.{count_below}
-use Rattle.surf_z2.proofs.Sums.{count_below-without, count_below-same, count_below-all}
-use Rattle.surf_graphs.proofs.Loops.{joins_turned}
+use Rattle.surf_surfaces.proofs.Common.{cases_eq, cases_lt, cases_Bool, lt-ltb, le-ltb, nat_tests, Graph, joins, get_or-map, length-map, get_or-replicate, get_or_past, count_below, count_below-without, count_below-same, count_below-all, joins_turned}
 use Rattle.surf_heap.specs.Entries.{Entries, entry_of, lesser, precedes, IsLeastEntry}
 use Rattle.surf_buckets.specs.Buckets.{IsNearestEntry}
 use Rattle.surf_mesh.specs.Links.{link_at, IsRow}

@@ -1,13 +1,6 @@
 -- The edge between two vertices by its number.
-use Rattle.std.proofs.Common.{◌≡◌, ℕ, ◌<◌, true, false, sym, ap, ◌∙◌, Contains, Option, Some, None}
+use Rattle.surf_surfaces.proofs.Common.{◌≡◌, ℕ, ◌<◌, true, false, sym, ap, ◌∙◌, Contains, Option, Some, None, true≢false, primal, joined_below, Mesh, pair, pair_eq, edges, among, edge_count, ends, IsSurface, edge_number, place_of, cells_of}
 use Rattle.std.specs.Option.{MatchOption}
-use Rattle.std.proofs.lemmas.Bool.{true≢false}
-use Rattle.surf_graphs.specs.Cells.{primal}
-use Rattle.surf_graphs.proofs.Trees.{joined_below}
-use Rattle.surf_surfaces.specs.Mesh.{Mesh, pair, pair_eq, edges, among}
-use Rattle.surf_surfaces.specs.Surface.{edge_count, ends, IsSurface}
-use Rattle.surf_surfaces.specs.Walk.{edge_number, place_of}
-use Rattle.surf_surfaces.specs.Cells.{cells_of}
 use Rattle.surf_surfaces.proofs.EdgeLaws.{place_of-ends, among-contains, contains_from_among, list_any_from}
 use Rattle.surf_surfaces.proofs.PairLaws.{pair_eq-same}
 use Rattle.surf_surfaces.proofs.CellLaws.{surfaces_are_cells}

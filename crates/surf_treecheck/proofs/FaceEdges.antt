@@ -1,8 +1,5 @@
 -- The edge of a face between two vertices.
-use Rattle.std.proofs.Common.{◌≡◌, ℕ, ◌<◌, true, false, ◌||◌, eqb, [], sym, ap, ◌∙◌}
-use Rattle.std.proofs.lemmas.Bool.{true≢false}
-use Rattle.surf_surfaces.specs.Mesh.{Mesh, pair, edges, among}
-use Rattle.surf_surfaces.specs.Surface.{face_count, edge_count, face_at, ends, has_side, faces_of, IsSurface}
+use Rattle.surf_surfaces.proofs.Common.{◌≡◌, ℕ, ◌<◌, true, false, ◌||◌, eqb, [], sym, ap, ◌∙◌, true≢false, Mesh, pair, edges, among, face_count, edge_count, face_at, ends, has_side, faces_of, IsSurface}
 use Rattle.surf_surfaces.proofs.EdgeLaws.{among-edges, list_any_from}
 use Rattle.surf_surfaces.proofs.SurfaceLaws.{two_faces_of}
 

@@ -1,11 +1,6 @@
 -- The links of faces, and the ways by them.
-use Rattle.std.proofs.Common.{◌≡◌, ◌≢◌, ℕ, ◌<◌, ◌+◌, [], ◌∷◌, ◌++◌, length, subst, arith, Option, Some, None, cond, eqb, List, get_or, sym, ap, ◌∙◌, inl, inr}
+use Rattle.surf_surfaces.proofs.Common.{◌≡◌, ◌≢◌, ℕ, ◌<◌, ◌+◌, [], ◌∷◌, ◌++◌, length, subst, arith, Option, Some, None, cond, eqb, List, get_or, sym, ap, ◌∙◌, inl, inr, length-append, get_or_append_left, cases_eq, Mesh, face_count, edge_count, faces_of, IsSurface, edge_number}
 use Rattle.std.proofs.Math.Seq.{get_or-append_seam}
-use Rattle.std.proofs.lemmas.List.{length-append, get_or_append_left}
-use Rattle.std.proofs.lemmas.Bool.{cases_eq}
-use Rattle.surf_surfaces.specs.Mesh.{Mesh}
-use Rattle.surf_surfaces.specs.Surface.{face_count, edge_count, faces_of, IsSurface}
-use Rattle.surf_surfaces.specs.Walk.{edge_number}
 use Rattle.surf_validity.specs.Rows.{DualRows}
 use Rattle.surf_validity.specs.Valid.{depth_at, side_at, or_zeros, IsDualRow}
 use Rattle.surf_validity.proofs.DualLaws.{row_falls}

@@ -1,6 +1,5 @@
 -- Faults that name the first condition that fails, each with its least witness, are one.
-use Rattle.std.proofs.Common.{◌≡◌, ◌≢◌, ℕ, zero, suc, ◌<◌, inl, inr, refl, sym, subst, arith}
-use Rattle.std.proofs.lemmas.Bool.{cases_lt, cases_eq}
+use Rattle.surf_surfaces.proofs.Common.{◌≡◌, ◌≢◌, ℕ, zero, suc, ◌<◌, inl, inr, refl, sym, subst, arith, cases_lt, cases_eq}
 use Rattle.surf_treecheck.specs.First.{FailsFirst}
 use Rattle.surf_treecheck.specs.declared.fault.CertPart.{CertPart}
 use Rattle.surf_treecheck.specs.declared.fault.CertPart.TheVariants.{Vertices, Faces, Loops, Base}

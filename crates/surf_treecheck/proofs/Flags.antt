@@ -1,10 +1,5 @@
 -- Flags by edge number.
-use Rattle.std.proofs.Common.{◌≡◌, ℕ, suc, ◌+◌, ◌<◌, Bool, true, false, ◌||◌, eqb, List, length, get_or, set, sym, ap, ◌∙◌, arith, inl, inr, get_or-set_same, get_or-set_other}
-use Rattle.std.proofs.lemmas.Bool.{cases_eq, eq-eqb, ne_eqb}
-use Rattle.surf_z2.specs.Parity.{any_below}
-use Rattle.surf_surfaces.specs.Mesh.{Mesh, pair, pair_eq, edges, among}
-use Rattle.surf_surfaces.specs.Surface.{edge_count, ends}
-use Rattle.surf_surfaces.specs.Walk.{place_of}
+use Rattle.surf_surfaces.proofs.Common.{◌≡◌, ℕ, suc, ◌+◌, ◌<◌, Bool, true, false, ◌||◌, eqb, List, length, get_or, set, sym, ap, ◌∙◌, arith, inl, inr, get_or-set_same, get_or-set_other, cases_eq, eq-eqb, ne_eqb, any_below, Mesh, pair, pair_eq, edges, among, edge_count, ends, place_of}
 use Rattle.surf_surfaces.proofs.PairLaws.{pair_eq-same}
 use Rattle.surf_surfaces.proofs.EdgeLaws.{place_of-ends, ends-eq, list_any_from}
 use Rattle.surf_treecheck.specs.Split.{AreFlags}

@@ -1,7 +1,5 @@
 -- Trees of all bases without short cuts.
-use Rattle.std.proofs.Common.{ℕ, List}
-use Rattle.surf_surfaces.specs.Mesh.{Mesh}
-use Rattle.surf_surfaces.specs.Surface.{edge_count}
+use Rattle.surf_surfaces.proofs.Common.{ℕ, List, Mesh, edge_count}
 use Rattle.surf_validity.specs.Rows.{BasisCert}
 use Rattle.surf_treecheck.specs.First.{HoldsBelow}
 use Rattle.surf_treecheck.specs.TreeFaults.{IsNoShortCutAt}

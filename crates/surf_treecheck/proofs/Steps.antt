@@ -1,12 +1,9 @@
 -- The steps of a list by their places, and a list one longer.
-use Rattle.std.proofs.Common.{◌≡◌, ℕ, zero, suc, ◌<◌, ◌+◌, List, [], ◌∷◌, length, get_or, map, sum, take, All, Contains, bit_xor, refl, sym, ap, ◌∙◌, subst, arith}
+use Rattle.surf_surfaces.proofs.Common.{◌≡◌, ℕ, zero, suc, ◌<◌, ◌+◌, List, [], ◌∷◌, length, get_or, map, sum, take, All, Contains, bit_xor, refl, sym, ap, ◌∙◌, subst, arith, map-append, take_all, numbers, sum_of, Mesh, pair, pair_of, edges, steps, steps_from}
 use Rattle.std.proofs.Math.Seq.{take-suc}
-use Rattle.std.proofs.lemmas.List.{map-append, take_all}
 use Rattle.std.proofs.lemmas.List.Sums.{sum-map, sum_by_more}
 use Rattle.std.specs.Int.Bits.{xor_zero_r}
-use Rattle.surf_z2.specs.Space.{numbers, sum_of}
 use Rattle.surf_z2.proofs.Basics.{span_law}
-use Rattle.surf_surfaces.specs.Mesh.{Mesh, pair, pair_of, edges, steps, steps_from}
 use Rattle.surf_surfaces.specs.Walk.{first, last, last_from}
 use Rattle.surf_surfaces.proofs.CycleLaws.{length-steps}
 use Rattle.surf_treecheck.specs.First.{HoldsBelow}

@@ -1,31 +1,14 @@
 -- The cycles of a valid certificate are a least basis.
-use Rattle.std.proofs.Common.{◌≡◌, ℕ, zero, suc, ◌<◌, ◌≤◌, true, List, [], ◌∷◌, length, get_or, map, take, replicate, All, Contains, refl, sym, ap, ◌∙◌, subst, arith}
-use Rattle.std.specs.List.{AllByRecursion}
+use Rattle.surf_surfaces.proofs.Common.{◌≡◌, ℕ, zero, suc, ◌<◌, ◌≤◌, true, List, [], ◌∷◌, length, get_or, map, take, replicate, All, Contains, refl, sym, ap, ◌∙◌, subst, arith, AllByRecursion, map-map, length-map, get_or_default, get_or-map, recursion_from_All, All-from_recursion, numbers, chosen, Independent, Spanned, SpannedUpToWeight, primal, Split, IsSplit, Tree, IsTree, IsShortest, loop, signature_of-same, Mesh, pair, pair_of, edges, steps, steps_from, edge_count, IsSurface, IsClosed, edge_length, parity, ArePositive, cells_of, class_of, weighed_walk, AreShortestTrees, loop_walk, walk_signature, joins_turned, joined_below}
 use Rattle.std.proofs.Math.Seq.{take-suc, take-length}
-use Rattle.std.proofs.lemmas.Simd.{map-map}
-use Rattle.std.proofs.lemmas.List.{length-map, get_or_default, get_or-map}
-use Rattle.std.proofs.lemmas.List.Elements.{recursion_from_All, All-from_recursion}
-use Rattle.surf_z2.specs.Space.{numbers, chosen, Independent, Spanned, SpannedUpToWeight}
 use Rattle.surf_z2.proofs.Basics.{independence_law, span_law}
-use Rattle.surf_graphs.specs.Cells.{primal, Split, IsSplit}
-use Rattle.surf_graphs.specs.Trees.{Tree, IsTree, IsShortest, loop}
 use Rattle.surf_graphs.specs.Independence.{signature_of, signed, loop_chain, IsCovering}
-use Rattle.surf_graphs.proofs.Independence.{signature_of-same}
-use Rattle.surf_surfaces.specs.Mesh.{Mesh, pair, pair_of, edges, steps, steps_from}
-use Rattle.surf_surfaces.specs.Surface.{edge_count, IsSurface}
-use Rattle.surf_surfaces.specs.Walk.{IsClosed, edge_length, parity, ArePositive}
 use Rattle.surf_surfaces.specs.Homology.{IsBasis}
-use Rattle.surf_surfaces.specs.Cells.{cells_of}
-use Rattle.surf_surfaces.specs.Class.{class_of, weighed_walk, AreShortestTrees}
-use Rattle.surf_surfaces.specs.Loop.{loop_walk}
-use Rattle.surf_surfaces.specs.Signature.{walk_signature}
 use Rattle.surf_surfaces.proofs.CellLaws.{surfaces_are_cells}
 use Rattle.surf_surfaces.proofs.GraphWalkLaws.{joined}
 use Rattle.surf_surfaces.proofs.ClassLaws.{runs_loop, independent_by_classes, some_vertex}
 use Rattle.surf_surfaces.proofs.LeastLaws.{map-same, all_each, weighed_same, covering_bases_are_least}
 use Rattle.surf_surfaces.proofs.SignatureLaws.{signatures_are_classes}
-use Rattle.surf_graphs.proofs.Loops.{joins_turned}
-use Rattle.surf_graphs.proofs.Trees.{joined_below}
 use Rattle.surf_validity.specs.Rows.{BasisCert}
 use Rattle.surf_validity.specs.Valid.{certified_tree, dual_tree, IsTreeValid, IsDualValid, IsDivided}
 use Rattle.surf_validity.specs.Bases.{tree_at, split_in, signatures, IsClosedList, weighed_cycle, weighed_loop, IsValidBasis}

@@ -1,25 +1,8 @@
 -- The certificate of the chosen basis is valid.
-use Rattle.std.proofs.Common.{◌≡◌, ℕ, ◌<◌, List, [], ◌∷◌, length, map, get_or, All, sym, ap, ◌∙◌, subst, arith}
-use Rattle.std.specs.List.{AllByRecursion}
-use Rattle.std.proofs.lemmas.List.{length-map}
-use Rattle.std.proofs.lemmas.List.Elements.{recursion_from_All, All-from_recursion}
-use Rattle.surf_z2.specs.Greedy.{greedy}
+use Rattle.surf_surfaces.proofs.Common.{◌≡◌, ℕ, ◌<◌, List, [], ◌∷◌, length, map, get_or, All, sym, ap, ◌∙◌, subst, arith, AllByRecursion, length-map, recursion_from_All, All-from_recursion, greedy, numbers, is_nothing, Independent, SpannedUpToWeight, Decides-is_nothing, primal, Split, IsSplit, loop, signature_of-same, Mesh, edge_count, IsSurface, IsClosed, edge_length, walk_length, ArePositive, cells_of, class_of, loop_walk, walk_signature, Trees, Loop, AreChosen, walks, candidates, IsChosenBasis}
 use Rattle.surf_z2.specs.Least.{weighed}
-use Rattle.surf_z2.specs.Space.{numbers, is_nothing, Independent, SpannedUpToWeight}
 use Rattle.surf_z2.proofs.Least.{least_law}
-use Rattle.surf_z2.proofs.Numbers.{Decides-is_nothing}
-use Rattle.surf_graphs.specs.Cells.{primal, Split, IsSplit}
-use Rattle.surf_graphs.specs.Trees.{loop}
 use Rattle.surf_graphs.specs.Independence.{signed, loop_chain}
-use Rattle.surf_graphs.proofs.Independence.{signature_of-same}
-use Rattle.surf_surfaces.specs.Mesh.{Mesh}
-use Rattle.surf_surfaces.specs.Surface.{edge_count, IsSurface}
-use Rattle.surf_surfaces.specs.Walk.{IsClosed, edge_length, walk_length, ArePositive}
-use Rattle.surf_surfaces.specs.Cells.{cells_of}
-use Rattle.surf_surfaces.specs.Class.{class_of}
-use Rattle.surf_surfaces.specs.Loop.{loop_walk}
-use Rattle.surf_surfaces.specs.Signature.{walk_signature}
-use Rattle.surf_surfaces.specs.Choice.{Trees, Loop, AreChosen, walks, candidates, IsChosenBasis}
 use Rattle.surf_surfaces.specs.ChoiceLaws.{LeastSimpleBasis}
 use Rattle.surf_surfaces.proofs.CoveredLaws.{below_closed, below_sized, weighed_loops, loops_covered, candidates_rise}
 use Rattle.surf_surfaces.proofs.BasisLaws.{basis_is_least}

@@ -1,23 +1,7 @@
 -- The certificate of the choice is valid.
-use Rattle.std.proofs.Common.{◌≡◌, ◌≢◌, ℕ, zero, suc, ◌+◌, ◌<◌, ◌≤◌, Bool, true, false, not, ◌&&◌, ◌||◌, cond, eqb, List, [], ◌∷◌, length, get_or, map, Contains, refl, sym, ap, ◌∙◌, subst, arith, inl, inr, Some, None}
-use Rattle.std.specs.List.{AllByRecursion, list_any, range_with_len}
-use Rattle.std.proofs.lemmas.Bool.{cases_Bool, cases_eq, or_cases, and_parts, ne_eqb, eq-eqb, eqb-true, false≢true, true≢false, false_from_ne_true, lt-ltb}
-use Rattle.std.proofs.lemmas.Bool.Decides.{nat_tests}
-use Rattle.std.proofs.lemmas.List.{length-map, get_or-map}
-use Rattle.std.proofs.lemmas.List.Elements.{Contains-get_or}
-use Rattle.std.proofs.lemmas.List.FromFn.{length-range_with_len, get_or-map-range_with_len}
-use Rattle.surf_z2.specs.Parity.{xor}
-use Rattle.surf_z2.proofs.ParityLaws.{any_below-same}
-use Rattle.surf_graphs.specs.Cells.{primal}
-use Rattle.surf_graphs.specs.Growth.{between}
+use Rattle.surf_surfaces.proofs.Common.{◌≡◌, ◌≢◌, ℕ, zero, suc, ◌+◌, ◌<◌, ◌≤◌, Bool, true, false, not, ◌&&◌, ◌||◌, cond, eqb, List, [], ◌∷◌, length, get_or, map, Contains, refl, sym, ap, ◌∙◌, subst, arith, inl, inr, Some, None, AllByRecursion, list_any, range_with_len, cases_Bool, cases_eq, or_cases, and_parts, ne_eqb, eq-eqb, eqb-true, false≢true, true≢false, false_from_ne_true, lt-ltb, nat_tests, length-map, get_or-map, Contains-get_or, length-range_with_len, get_or-map-range_with_len, xor, any_below-same, primal, between, left_edges as left_count, Mesh, pair, pair_of, pair_eq, edges, face_count, edge_count, face_at, ends, faces_of, has_side, IsSurface, edge_length, edge_number, place_of, ArePositive, cells_of, Trees, AreChosenAt}
 use Rattle.surf_graphs.specs.Trees.{Tree, IsTree, IsShortest, on_way, on_path, loop, graph_loop_length}
-use Rattle.surf_graphs.proofs.Counting.{left_edges as left_count}
-use Rattle.surf_surfaces.specs.Mesh.{Mesh, pair, pair_of, pair_eq, edges}
-use Rattle.surf_surfaces.specs.Surface.{face_count, edge_count, face_at, ends, faces_of, has_side, IsSurface}
-use Rattle.surf_surfaces.specs.Walk.{edge_length, edge_number, place_of, ArePositive}
-use Rattle.surf_surfaces.specs.Cells.{cells_of}
 use Rattle.surf_surfaces.specs.Cotree.{tree_edges, cotree_edges, is_left, left_edges, split_of, precedes}
-use Rattle.surf_surfaces.specs.Choice.{Trees, AreChosenAt}
 use Rattle.surf_surfaces.proofs.PairLaws.{pair_eq-true, pair_eq-same}
 use Rattle.surf_surfaces.proofs.EdgeLaws.{place_of-ends, list_any_from}
 use Rattle.surf_surfaces.proofs.SurfaceLaws.{two_faces_of}

@@ -1,12 +1,7 @@
 -- The totals of the certificates of the choice are those of the loops and of the basis that are chosen.
-use Rattle.std.proofs.Common.{◌≡◌, ℕ, List, map, sum, ap, ◌∙◌, subst, arith}
+use Rattle.surf_surfaces.proofs.Common.{◌≡◌, ℕ, List, map, sum, ap, ◌∙◌, subst, arith, map-map, recursion_from_All, Mesh, walk_length, Loop, walks, loops_at}
 use Rattle.std.specs.List.{All}
-use Rattle.std.proofs.lemmas.Simd.{map-map}
-use Rattle.std.proofs.lemmas.List.Elements.{recursion_from_All}
-use Rattle.surf_surfaces.specs.Mesh.{Mesh}
-use Rattle.surf_surfaces.specs.Walk.{walk_length}
 use Rattle.surf_surfaces.specs.Homology.{total, IsLeastLoopSystem}
-use Rattle.surf_surfaces.specs.Choice.{Loop, walks, loops_at}
 use Rattle.surf_surfaces.proofs.BasisLaws.{basis_is_least}
 use Rattle.surf_surfaces.proofs.LeastLaws.{map-same}
 use Rattle.surf_surfaces.proofs.LoopsAtLaws.{loops_are_least}

@@ -1,14 +1,5 @@
 -- Valid rows of faces are a tree of the faces.
-use Rattle.std.proofs.Common.{◌≡◌, ◌≢◌, ℕ, ◌+◌, ◌<◌, true, not, ◌&&◌, ◌||◌, eqb, [], refl, sym, ap, ◌∙◌, arith, Option, Some, None, inl, inr}
-use Rattle.std.proofs.lemmas.Bool.{cases_eq, ne_eqb, eq-eqb, or_left, or_right, and_from}
-use Rattle.surf_z2.proofs.ParityLaws.{eqb_comm, any_below-same}
-use Rattle.surf_graphs.specs.Cells.{dual}
-use Rattle.surf_graphs.specs.Graphs.{joins}
-use Rattle.surf_graphs.specs.Trees.{IsTree, in_tree}
-use Rattle.surf_surfaces.specs.Mesh.{Mesh, pair_of, edges, among}
-use Rattle.surf_surfaces.specs.Surface.{face_count, edge_count, face_at, has_side, faces_of, IsSurface}
-use Rattle.surf_surfaces.specs.Walk.{edge_number, place_of}
-use Rattle.surf_surfaces.specs.Cells.{cells_of}
+use Rattle.surf_surfaces.proofs.Common.{◌≡◌, ◌≢◌, ℕ, ◌+◌, ◌<◌, true, not, ◌&&◌, ◌||◌, eqb, [], refl, sym, ap, ◌∙◌, arith, Option, Some, None, inl, inr, cases_eq, ne_eqb, eq-eqb, or_left, or_right, and_from, eqb_comm, any_below-same, dual, joins, IsTree, in_tree, Mesh, pair_of, edges, among, face_count, edge_count, face_at, has_side, faces_of, IsSurface, edge_number, place_of, cells_of}
 use Rattle.surf_surfaces.proofs.EdgeLaws.{place_of-among, among-edges, list_any_from, ends-eq}
 use Rattle.surf_surfaces.proofs.SurfaceLaws.{two_faces_of}
 use Rattle.surf_validity.specs.Rows.{DualRows}

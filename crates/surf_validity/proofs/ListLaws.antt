@@ -1,7 +1,5 @@
 -- Lists of increasing numbers, and lists that have all their members.
-use Rattle.std.proofs.Common.{◌≡◌, ◌≢◌, ℕ, suc, ◌<◌, true, ◌||◌, eqb, List, [], ◌∷◌, length, IsPermutation, refl, sym, ◌∙◌, subst, arith, inl, inr}
-use Rattle.std.specs.List.{AllByRecursion, list_any}
-use Rattle.std.proofs.lemmas.Bool.{cases_Bool, cases_eq, ne_eqb, false≢true}
+use Rattle.surf_surfaces.proofs.Common.{◌≡◌, ◌≢◌, ℕ, suc, ◌<◌, true, ◌||◌, eqb, List, [], ◌∷◌, length, IsPermutation, refl, sym, ◌∙◌, subst, arith, inl, inr, AllByRecursion, list_any, cases_Bool, cases_eq, ne_eqb, false≢true}
 use Rattle.std.proofs.lemmas.List.Sorted.{IsPermutation-refl, IsPermutation-cons, IsPermutation-trans, IsPermutation-sym, IsPermutation-middle, length_permutation}
 use Rattle.surf_surfaces.proofs.CotreeLaws.{Climbs}
 

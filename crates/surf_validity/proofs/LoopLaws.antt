@@ -1,17 +1,7 @@
 -- The loops of a valid certificate are a least loop system.
-use Rattle.std.proofs.Common.{◌≡◌, ℕ, ◌+◌, List, [], ◌∷◌, map, sum, Contains, refl, sym, ap, ◌∙◌, subst, get_or}
-use Rattle.std.specs.List.{AllByRecursion}
-use Rattle.std.proofs.lemmas.Simd.{map-map}
-use Rattle.std.proofs.lemmas.List.Elements.{recursion_from_All}
-use Rattle.std.proofs.lemmas.List.Sums.{sum_by-cons}
+use Rattle.surf_surfaces.proofs.Common.{◌≡◌, ℕ, ◌+◌, List, [], ◌∷◌, map, sum, Contains, refl, sym, ap, ◌∙◌, subst, get_or, AllByRecursion, map-map, recursion_from_All, sum_by-cons, Tree, IsTree, IsShortest, Mesh, pair_of, edges, IsSurface, edge_length, edge_number, walk_length, ArePositive, cells_of, loop_walk}
 use Rattle.surf_graphs.specs.Cells.{primal, dual, IsHeaviest}
-use Rattle.surf_graphs.specs.Trees.{Tree, IsTree, IsShortest}
-use Rattle.surf_surfaces.specs.Mesh.{Mesh, pair_of, edges}
-use Rattle.surf_surfaces.specs.Surface.{IsSurface}
-use Rattle.surf_surfaces.specs.Walk.{edge_length, edge_number, walk_length, ArePositive}
 use Rattle.surf_surfaces.specs.Homology.{total, IsLeastLoopSystem}
-use Rattle.surf_surfaces.specs.Cells.{cells_of}
-use Rattle.surf_surfaces.specs.Loop.{loop_walk}
 use Rattle.surf_surfaces.specs.Cotree.{left_edges, split_of}
 use Rattle.surf_surfaces.proofs.EdgeLaws.{place_of-among, among-contains}
 use Rattle.surf_surfaces.proofs.ClassLaws.{runs_loop}

@@ -1,11 +1,5 @@
 -- Whichever trees show them, the candidates for a basis are one list, and so are the basis and its certificate.
-use Rattle.std.proofs.Common.{◌≡◌, ℕ, zero, suc, ◌+◌, ◌<◌, ◌≤◌, List, ◌++◌, refl, sym, ap, ◌∙◌, subst, arith}
-use Rattle.std.specs.List.{flat_map, range_with_len}
-use Rattle.surf_z2.specs.Order.{sorted}
-use Rattle.surf_surfaces.specs.Mesh.{Mesh}
-use Rattle.surf_surfaces.specs.Surface.{IsSurface}
-use Rattle.surf_surfaces.specs.Walk.{ArePositive}
-use Rattle.surf_surfaces.specs.Choice.{Trees, AreChosen, Loop, comes_before, walks, loops_at, candidates, IsGreedyChoice, IsChosenBasis}
+use Rattle.surf_surfaces.proofs.Common.{◌≡◌, ℕ, zero, suc, ◌+◌, ◌<◌, ◌≤◌, List, ◌++◌, refl, sym, ap, ◌∙◌, subst, arith, flat_map, range_with_len, sorted, Mesh, IsSurface, ArePositive, Trees, AreChosen, Loop, comes_before, walks, loops_at, candidates, IsGreedyChoice, IsChosenBasis}
 use Rattle.surf_surfaces.proofs.BasisLaws.{basis_is_one}
 use Rattle.surf_surfaces.proofs.ClassLaws.{some_vertex}
 use Rattle.surf_surfaces.proofs.LoopsOne.{loops_are_one}

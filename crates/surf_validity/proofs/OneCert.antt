@@ -1,12 +1,7 @@
 -- The certificate of the choice is one.
-use Rattle.std.proofs.Common.{◌≡◌, ℕ, zero, suc, ◌+◌, ◌<◌, Bool, List, map, refl, ap, sym, ◌∙◌, arith, inl, inr, Option, Some}
+use Rattle.surf_surfaces.proofs.Common.{◌≡◌, ℕ, zero, suc, ◌+◌, ◌<◌, Bool, List, map, refl, ap, sym, ◌∙◌, arith, inl, inr, Option, Some, cases_eq, ne_eqb, eq-eqb, Mesh, face_count, edge_count, ends, IsSurface, ArePositive, Trees, AreChosenAt}
 use Rattle.std.specs.List.{filter, range_with_len}
-use Rattle.std.proofs.lemmas.Bool.{cases_eq, ne_eqb, eq-eqb}
-use Rattle.surf_surfaces.specs.Mesh.{Mesh}
-use Rattle.surf_surfaces.specs.Surface.{face_count, edge_count, ends, IsSurface}
-use Rattle.surf_surfaces.specs.Walk.{ArePositive}
 use Rattle.surf_surfaces.specs.Cotree.{is_left, left_edges}
-use Rattle.surf_surfaces.specs.Choice.{Trees, AreChosenAt}
 use Rattle.surf_surfaces.proofs.LoopsOne.{trees_same, edges_same, cotrees_same}
 use Rattle.surf_validity.specs.Rows.{TreeRows, DualRows, LoopCert}
 use Rattle.surf_validity.specs.Chosen.{parent_in, side_in, rows_for, dual_rows_of, chosen_cert}

@@ -1,10 +1,5 @@
 -- The ranks of a tree are no more than its nodes allow.
-use Rattle.std.proofs.Common.{◌≡◌, ◌≢◌, ℕ, zero, suc, ◌+◌, ◌*◌, ◌<◌, ◌≤◌, Bool, true, not, ◌&&◌, eqb, refl, ap, ◌∙◌, arith, inl, inr}
-use Rattle.std.proofs.lemmas.Bool.{cases_eq, ne_eqb}
-use Rattle.surf_z2.specs.Parity.{count_below}
-use Rattle.surf_z2.proofs.Sums.{count_below-all, count_below-without}
-use Rattle.surf_graphs.specs.Graphs.{Graph}
-use Rattle.surf_graphs.specs.Trees.{Tree, IsTree}
+use Rattle.surf_surfaces.proofs.Common.{◌≡◌, ◌≢◌, ℕ, zero, suc, ◌+◌, ◌*◌, ◌<◌, ◌≤◌, Bool, true, not, ◌&&◌, eqb, refl, ap, ◌∙◌, arith, inl, inr, cases_eq, ne_eqb, count_below, count_below-all, count_below-without, Graph, Tree, IsTree}
 
 module _ (g : Graph) (t : Tree) (most : ℕ) (tree : IsTree g t) (none_at_root : t.rank t.root ≡ 0)
     (short : (n : ℕ) → n < g.nodes → n ≢ t.root → t.rank n ≤ t.rank (t.parent n) + most) where

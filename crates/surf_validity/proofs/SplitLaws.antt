@@ -1,16 +1,5 @@
 -- The trees of a valid certificate and the edges in neither are a split, and the listed pairs are those edges.
-use Rattle.std.proofs.Common.{◌≡◌, ℕ, ◌+◌, ◌<◌, Bool, true, false, not, eqb, List, [], ◌∷◌, length, get_or, map, IsPermutation, refl, sym, ap, ◌∙◌, arith, inl, inr}
-use Rattle.std.specs.List.{AllByRecursion, list_any}
-use Rattle.std.proofs.lemmas.Bool.{cases_Bool, or_right, and_parts, eq-eqb, false≢true, false_from_ne_true}
-use Rattle.std.proofs.lemmas.List.{length-map}
-use Rattle.surf_graphs.specs.Cells.{primal, dual, IsSplit}
-use Rattle.surf_graphs.specs.Trees.{Tree, IsTree}
-use Rattle.surf_graphs.proofs.Counting.{left_edges as left_count}
-use Rattle.surf_surfaces.specs.Mesh.{Mesh, pair_of, pair_eq, edges}
-use Rattle.surf_surfaces.specs.Surface.{edge_count, ends}
-use Rattle.surf_surfaces.specs.Walk.{edge_number, place_of}
-use Rattle.surf_surfaces.specs.Homology.{IsLoopCount}
-use Rattle.surf_surfaces.specs.Cells.{cells_of}
+use Rattle.surf_surfaces.proofs.Common.{◌≡◌, ℕ, ◌+◌, ◌<◌, Bool, true, false, not, eqb, List, [], ◌∷◌, length, get_or, map, IsPermutation, refl, sym, ap, ◌∙◌, arith, inl, inr, AllByRecursion, list_any, cases_Bool, or_right, and_parts, eq-eqb, false≢true, false_from_ne_true, length-map, primal, dual, IsSplit, Tree, IsTree, left_edges as left_count, Mesh, pair_of, pair_eq, edges, edge_count, ends, edge_number, place_of, IsLoopCount, cells_of}
 use Rattle.surf_surfaces.specs.Cotree.{tree_edges, cotree_edges, is_left, left_edges, split_of}
 use Rattle.surf_surfaces.proofs.PairLaws.{pair_eq-true}
 use Rattle.surf_surfaces.proofs.EdgeLaws.{place_of-ends}

@@ -1,16 +1,5 @@
 -- Valid rows are a tree of shortest walks.
-use Rattle.std.proofs.Common.{◌≡◌, ◌≢◌, ℕ, ◌+◌, ◌<◌, true, not, ◌&&◌, eqb, List, refl, sym, ◌∙◌, arith, Option, Some, None}
-use Rattle.std.proofs.lemmas.Bool.{ne_eqb, eq-eqb}
-use Rattle.surf_z2.proofs.ParityLaws.{eqb_comm, any_below-same}
-use Rattle.surf_graphs.specs.Cells.{primal}
-use Rattle.surf_graphs.specs.Graphs.{joins}
-use Rattle.surf_graphs.specs.Trees.{IsTree, IsShortest, in_tree}
-use Rattle.surf_graphs.proofs.Loops.{joins_turned}
-use Rattle.surf_graphs.proofs.Trees.{joined_below}
-use Rattle.surf_surfaces.specs.Mesh.{Mesh, pair, edges}
-use Rattle.surf_surfaces.specs.Surface.{edge_count, ends, IsSurface}
-use Rattle.surf_surfaces.specs.Walk.{edge_length, edge_number, place_of, ArePositive}
-use Rattle.surf_surfaces.specs.Cells.{cells_of}
+use Rattle.surf_surfaces.proofs.Common.{◌≡◌, ◌≢◌, ℕ, ◌+◌, ◌<◌, true, not, ◌&&◌, eqb, List, refl, sym, ◌∙◌, arith, Option, Some, None, ne_eqb, eq-eqb, eqb_comm, any_below-same, primal, joins, IsTree, IsShortest, in_tree, joins_turned, joined_below, Mesh, pair, edges, edge_count, ends, IsSurface, edge_length, edge_number, place_of, ArePositive, cells_of}
 use Rattle.surf_surfaces.proofs.EdgeLaws.{place_of-among, among-contains, ends-eq}
 use Rattle.surf_surfaces.proofs.CellLaws.{surfaces_are_cells, joins_from}
 use Rattle.surf_surfaces.proofs.GraphWalkLaws.{joined}

@@ -1,7 +1,5 @@
 -- How many vertices, faces and loops the mesh of a shape has.
-use Rattle.std.proofs.Common.{◌≡◌, ℕ, ◌-◌, ◌*◌, ◌≤◌, sym, subst, arith, inl, inr}
-use Rattle.std.proofs.lemmas.Nat.{mul-le}
-use Rattle.surf_surfaces.specs.Surface.{face_count, edge_count, loop_count}
+use Rattle.surf_surfaces.proofs.Common.{◌≡◌, ℕ, ◌-◌, ◌*◌, ◌≤◌, sym, subst, arith, inl, inr, mul-le, face_count, edge_count, loop_count}
 use Rattle.surf_tori.specs.Chain.{chain}
 use Rattle.surf_tori.proofs.TorusLaws.{tori_have_counts}
 use Rattle.surf_tori.proofs.ChainLaws.{chains_have_counts}

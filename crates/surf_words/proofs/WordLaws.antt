@@ -1,8 +1,7 @@
 -- The texts of words by their number; no row of the command table has no word, or seven words or more.
 use Rattle.std.proofs.Common.{◌≡◌, ◌<◌, ◌≤◌, ℕ, false, List, [], ◌∷◌, length, get_or, None, String, refl, arith}
 use Rattle.std.specs.Prelude.{◌==◌, string_bytes}
-use Rattle.std.proofs.lemmas.Bool.{ne_eqb}
-use Rattle.std.proofs.lemmas.List.{length-map}
+use Rattle.surf_surfaces.proofs.Common.{ne_eqb, length-map}
 use Rattle.std.specs.declared.alloc.Global.{Global}
 use Rattle.surf_words.specs.Words.{texts, request_of}
 

@@ -1,7 +1,4 @@
-use Rattle.std.proofs.Common.{◌≡◌, ℕ, List, length, map, sym, subst, Err}
-use Rattle.std.specs.Prelude.{sum}
-use Rattle.std.specs.List.{flat_map}
-use Rattle.std.proofs.lemmas.Result.{err_from_is_err_and}
+use Rattle.surf_surfaces.proofs.Common.{◌≡◌, ℕ, List, length, map, sym, subst, Err, sum, flat_map, err_from_is_err_and}
 use Rattle.surf_text.specs.Pages.{grown}
 use Rattle.surf_texts.specs.CycleTexts.{cycles_head}
 use Rattle.surf_texts.specs.Fills.{Fills}

@@ -1,5 +1,4 @@
-use Rattle.std.proofs.Common.{◌≡◌, ◌≤◌, ◌*◌, map, take}
-use Rattle.std.specs.Prelude.{sum}
+use Rattle.surf_surfaces.proofs.Common.{◌≡◌, ◌≤◌, ◌*◌, map, take, sum}
 use Rattle.surf_answers.proofs.basis.total_of.Given as goal
 
 abbrev pub invariant-loop-cycle : goal.invariant-loop-cycle

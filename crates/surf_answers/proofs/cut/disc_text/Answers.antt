@@ -1,5 +1,4 @@
-use Rattle.std.proofs.Common.{subst}
-use Rattle.std.proofs.lemmas.Result.{err_from_is_err_and}
+use Rattle.surf_surfaces.proofs.Common.{subst, err_from_is_err_and}
 use Rattle.surf_text.specs.Pages.{PageState, Stops}
 use Rattle.surf_answers.specs.Cuts.{GivesOpened, cut_text}
 use Rattle.surf_answers.proofs.Saying.{says_beyond, why_overfilled}

@@ -1,6 +1,4 @@
-use Rattle.std.proofs.Common.{◌≡◌, ◌<◌, ◌^◌, ℕ, get_or, ◌∙◌, ap, inl, inr, arith}
-use Rattle.std.proofs.lemmas.Bool.{cases_lt}
-use Rattle.std.proofs.lemmas.List.Elements.{All-from_get_or}
+use Rattle.surf_surfaces.proofs.Common.{◌≡◌, ◌<◌, ◌^◌, ℕ, get_or, ◌∙◌, ap, inl, inr, arith, cases_lt, All-from_get_or}
 use Rattle.surf_off.proofs.FaceRows.{other_default}
 use Rattle.surf_answers.proofs.cut.lines_room.Goals as goal
 

@@ -1,5 +1,4 @@
-use Rattle.std.proofs.Common.{◌<◌, ◌^◌, ℕ}
-use Rattle.std.specs.Prelude.{slice_index}
+use Rattle.surf_surfaces.proofs.Common.{◌<◌, ◌^◌, ℕ, slice_index}
 use Rattle.surf_answers.proofs.cut.lines_room.Given as goal
 
 -- the vertices that were read have 32 bits

@@ -1,7 +1,4 @@
-use Rattle.std.proofs.Common.{◌≡◌, ◌<◌, ◌^◌, ℕ, List, length, sym, ap, ◌∙◌, subst, arith}
-use Rattle.std.specs.Prelude.{All}
-use Rattle.surf_surfaces.specs.Mesh.{IsFace}
-use Rattle.surf_surfaces.specs.Surface.{edge_count}
+use Rattle.surf_surfaces.proofs.Common.{◌≡◌, ◌<◌, ◌^◌, ℕ, List, length, sym, ap, ◌∙◌, subst, arith, All, IsFace, edge_count}
 use Rattle.surf_text.specs.Pages.{PageState, Puts}
 use Rattle.surf_off.specs.Written.{AreStarts, opened_text, rows_at, RereadsOpened}
 use Rattle.surf_off.proofs.FaceRows.{short_rows}

@@ -1,5 +1,4 @@
-use Rattle.std.proofs.Common.{◌≡◌, ◌≤◌, ◌∙◌, ◌++◌, ℕ, List, length, ap, subst}
-use Rattle.std.proofs.lemmas.Result.{err_from_is_err_and}
+use Rattle.surf_surfaces.proofs.Common.{◌≡◌, ◌≤◌, ◌∙◌, ◌++◌, ℕ, List, length, ap, subst, err_from_is_err_and}
 use Rattle.surf_text.specs.Pages.{PageState, Stops}
 use Rattle.surf_tree.specs.Tables.{tree_of}
 use Rattle.surf_texts.specs.DistanceTexts.{distances_text}

@@ -1,7 +1,6 @@
-use Rattle.std.proofs.Common.{◌*◌, subst, sym, arith, ℕ}
+use Rattle.surf_surfaces.proofs.Common.{◌*◌, subst, sym, arith, ℕ, IsLoopCount}
 use Rattle.std.proofs.lemmas.Grind.{common_steps}
 use Rattle.surf_check.specs.Growth.{flag_of}
-use Rattle.surf_surfaces.specs.Homology.{IsLoopCount}
 use Rattle.surf_orientation.proofs.GenusLaws.{genus_is_loop_count}
 use Rattle.surf_answers.specs.Info.{HasGenus}
 use Rattle.surf_answers.proofs.Saying.{ends_as}

@@ -1,6 +1,4 @@
-use Rattle.std.proofs.Common.{◌≡◌, ◌≤◌, ◌∙◌, ◌++◌, ℕ, List, length, ap, subst}
-use Rattle.std.proofs.lemmas.Result.{err_from_is_err_and}
-use Rattle.surf_surfaces.specs.Choice.{loops_at}
+use Rattle.surf_surfaces.proofs.Common.{◌≡◌, ◌≤◌, ◌∙◌, ◌++◌, ℕ, List, length, ap, subst, err_from_is_err_and, loops_at}
 use Rattle.surf_loops.specs.Loops.{with_cotree, trees_of}
 use Rattle.surf_text.specs.Pages.{PageState, Stops}
 use Rattle.surf_texts.specs.LoopTexts.{loops_text}

@@ -1,5 +1,4 @@
-use Rattle.std.proofs.Common.{◌≡◌, ◌<◌, ◌∙◌, ℕ, List, length, get_or, ap, subst, Err}
-use Rattle.std.proofs.lemmas.Result.{err_from_is_err_and}
+use Rattle.surf_surfaces.proofs.Common.{◌≡◌, ◌<◌, ◌∙◌, ℕ, List, length, get_or, ap, subst, Err, err_from_is_err_and}
 use Rattle.surf_loops.specs.declared.head.LoopHead.{LoopHead}
 use Rattle.surf_text.specs.declared.page.PageFault.TheVariants.{Memory}
 use Rattle.surf_texts.specs.Fills.{Fills}

@@ -1,5 +1,4 @@
-use Rattle.std.proofs.Common.{◌≡◌, take}
-use Rattle.std.specs.List.{flat_map}
+use Rattle.surf_surfaces.proofs.Common.{◌≡◌, take, flat_map}
 use Rattle.surf_text.specs.Pages.{grown}
 use Rattle.surf_answers.specs.HeadTexts.{head_line}
 use Rattle.surf_answers.proofs.loops.put_loops.Given as goal

@@ -1,6 +1,4 @@
-use Rattle.std.proofs.Common.{subst}
-use Rattle.std.proofs.lemmas.Result.{err_from_is_err_and}
-use Rattle.surf_surfaces.specs.Surface.{edge_count}
+use Rattle.surf_surfaces.proofs.Common.{subst, err_from_is_err_and, edge_count}
 use Rattle.surf_text.specs.Pages.{PageState, Stops}
 use Rattle.surf_off.specs.Written.{soup_text, RereadsSoup}
 use Rattle.surf_answers.specs.Making.{GivesMesh}

@@ -1,5 +1,4 @@
-use Rattle.std.proofs.Common.{◌≤◌, subst, arith}
-use Rattle.std.proofs.lemmas.List.{get_or_default}
+use Rattle.surf_surfaces.proofs.Common.{◌≤◌, subst, arith, get_or_default}
 use Rattle.surf_basis.proofs.base_loops.greatest_of.Goals as goal
 
 pub returns : goal.returns

@@ -1,5 +1,4 @@
-use Rattle.std.proofs.Common.{ℕ, ◌<◌, ◌≤◌}
-use Rattle.std.specs.Prelude.{slice_index}
+use Rattle.surf_surfaces.proofs.Common.{ℕ, ◌<◌, ◌≤◌, slice_index}
 use Rattle.surf_basis.proofs.base_loops.greatest_of.Given as goal
 
 abbrev pub invariant-loop-length : goal.invariant-loop-length

@@ -1,5 +1,4 @@
-use Rattle.std.proofs.Common.{[], ◌∷◌, ◌++◌, cond, sym, ap, ◌∙◌}
-use Rattle.std.proofs.lemmas.List.{append-nil}
+use Rattle.surf_surfaces.proofs.Common.{[], ◌∷◌, ◌++◌, cond, sym, ap, ◌∙◌, append-nil}
 use Rattle.surf_choice.specs.declared.candidate.Signed.{Signed}
 use Rattle.surf_basis.proofs.Based.{with_more}
 use Rattle.surf_basis.proofs.base_loops.list_with.Goals as goal

@@ -1,5 +1,4 @@
-use Rattle.std.proofs.Common.{◌≡◌, ◌<◌, ℕ, true, false, length}
-use Rattle.std.specs.Prelude.{slice_index_or}
+use Rattle.surf_surfaces.proofs.Common.{◌≡◌, ◌<◌, ℕ, true, false, length, slice_index_or}
 use Rattle.surf_choice.specs.declared.candidate.Signed.{Signed}
 use Rattle.surf_basis.proofs.bases.mark_bases.Given as goal
 

@@ -1,8 +1,5 @@
-use Rattle.std.proofs.Common.{◌≡◌, ◌<◌, ◌≤◌, ◌^◌, ℕ, List, length, All, sym, ap, ◌∙◌, subst, arith}
-use Rattle.std.proofs.lemmas.Result.{IfOk-weaker}
+use Rattle.surf_surfaces.proofs.Common.{◌≡◌, ◌<◌, ◌≤◌, ◌^◌, ℕ, List, length, All, sym, ap, ◌∙◌, subst, arith, IfOk-weaker, edge_count, IsSurface, ArePositive}
 use Rattle.surf_lengths.proofs.Positive.{lengths_positive}
-use Rattle.surf_surfaces.specs.Surface.{edge_count, IsSurface}
-use Rattle.surf_surfaces.specs.Walk.{ArePositive}
 use Rattle.surf_surfaces.specs.FewBases.{AreBases}
 use Rattle.surf_choice.specs.Candidates.{Chosen}
 use Rattle.surf_search.specs.Walks.{IsMeasured}

@@ -1,8 +1,4 @@
-use Rattle.std.proofs.Common.{◌≡◌, ◌<◌, ◌≤◌, ◌^◌, ℕ, List, All, length, slice_index, refl, sym, ap, ◌∙◌, subst, arith}
-use Rattle.std.proofs.lemmas.List.{get_or_read}
-use Rattle.surf_z2.specs.Order.{merge}
-use Rattle.surf_surfaces.specs.Surface.{edge_count, IsSurface}
-use Rattle.surf_surfaces.specs.Walk.{ArePositive}
+use Rattle.surf_surfaces.proofs.Common.{◌≡◌, ◌<◌, ◌≤◌, ◌^◌, ℕ, List, All, length, slice_index, refl, sym, ap, ◌∙◌, subst, arith, get_or_read, merge, edge_count, IsSurface, ArePositive}
 use Rattle.surf_choice.specs.declared.candidate.Signed.{Signed}
 use Rattle.surf_choice.specs.Candidates.{Chosen, signed_earlier, independent_of}
 use Rattle.surf_basis.specs.Based.{AreOffered}

@@ -1,7 +1,4 @@
-use Rattle.std.proofs.Common.{◌∙◌, ap, subst}
-use Rattle.std.specs.Prelude.{IfSome}
-use Rattle.std.proofs.lemmas.Result.{IfOk-weaker}
-use Rattle.surf_surfaces.specs.Homology.{IsLoopCount}
+use Rattle.surf_surfaces.proofs.Common.{◌∙◌, ap, subst, IfSome, IfOk-weaker, IsLoopCount}
 use Rattle.surf_surfaces.specs.ChoiceLaws.{LeastSimpleBasis}
 use Rattle.surf_lengths.proofs.Positive.{lengths_positive}
 use Rattle.surf_cotree.specs.Tables.{CotreeTables}

@@ -1,8 +1,6 @@
-use Rattle.std.proofs.Common.{◌∙◌, sym, rules}
+use Rattle.surf_surfaces.proofs.Common.{◌∙◌, sym, rules, map-map, Loop}
 use Rattle.std.proofs.lemmas.Iterator.{items_from_collect, YieldsList-from_map}
 use Rattle.std.proofs.lemmas.Iterator.Adapters.{YieldsList-from_vec}
-use Rattle.std.proofs.lemmas.Simd.{map-map}
-use Rattle.surf_surfaces.specs.Choice.{Loop}
 use Rattle.surf_basis.specs.Cycles.{as_loop}
 use Rattle.surf_basis.specs.declared.cycle.Cycle.{Cycle}
 use Rattle.surf_basis.proofs.cert.walks_of.Goals as goal

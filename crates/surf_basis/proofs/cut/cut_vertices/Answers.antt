@@ -1,5 +1,4 @@
-use Rattle.std.proofs.Common.{◌≡◌, ℕ, Bool, List, false, replicate, ◌∙◌, ap, subst, arith}
-use Rattle.std.specs.Prelude.{IsTrue}
+use Rattle.surf_surfaces.proofs.Common.{◌≡◌, ℕ, Bool, List, false, replicate, ◌∙◌, ap, subst, arith, IsTrue}
 use Rattle.surf_tree.specs.Tables.{TreeTables, tree_of}
 use Rattle.surf_basis.specs.Cut.{HasEnds, IsLeastSet}
 use Rattle.surf_search.specs.Passing.{is_marked}

@@ -1,6 +1,4 @@
-use Rattle.std.proofs.Common.{◌≡◌, ◌<◌, ◌≤◌, ℕ, length, sym, ap, ◌∙◌, subst, arith, slice_index}
-use Rattle.std.proofs.lemmas.List.{get_or_default}
-use Rattle.surf_surfaces.specs.Surface.{edge_count, ends}
+use Rattle.surf_surfaces.proofs.Common.{◌≡◌, ◌<◌, ◌≤◌, ℕ, length, sym, ap, ◌∙◌, subst, arith, slice_index, get_or_default, edge_count, ends}
 use Rattle.surf_tree.specs.Tables.{tree_of}
 use Rattle.surf_basis.specs.Cut.{HasVertex, IsClosedUpward, IsLeastSet}
 use Rattle.surf_search.specs.Passing.{is_marked}

@@ -1,8 +1,5 @@
-use Rattle.std.proofs.Common.{◌≡◌, ℕ, List, Option, Some, None, length, true, inl, sym, ap, ◌∙◌, subst}
+use Rattle.surf_surfaces.proofs.Common.{◌≡◌, ℕ, List, Option, Some, None, length, true, inl, sym, ap, ◌∙◌, subst, false≢true, IfOk-weaker, MeetsAll}
 use Rattle.std.specs.Option.{is_some}
-use Rattle.std.proofs.lemmas.Bool.{false≢true}
-use Rattle.std.proofs.lemmas.Result.{IfOk-weaker}
-use Rattle.surf_surfaces.specs.FewBases.{MeetsAll}
 use Rattle.surf_tree.specs.Queues.{AreEven, IsEvenness}
 use Rattle.surf_cotree.specs.Tables.{CotreeTables}
 use Rattle.surf_basis.specs.Cut.{AreCutVertices, AreToSearch}

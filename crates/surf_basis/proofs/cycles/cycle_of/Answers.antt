@@ -1,5 +1,4 @@
-use Rattle.std.proofs.Common.{refl, sym, ◌∙◌}
-use Rattle.surf_surfaces.specs.Choice.{Trees, AreChosenAt}
+use Rattle.surf_surfaces.proofs.Common.{refl, sym, ◌∙◌, Trees, AreChosenAt}
 use Rattle.surf_surfaces.proofs.ChoiceExists.{heaviest_exists}
 use Rattle.surf_surfaces.proofs.ShortestTreeLaws.{shortest_is_tree}
 use Rattle.surf_lengths.proofs.Positive.{lengths_positive}

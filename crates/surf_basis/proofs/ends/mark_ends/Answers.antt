@@ -1,8 +1,4 @@
-use Rattle.std.proofs.Common.{ℕ, ◌≡◌, ◌≢◌, ◌<◌, true, false, slice_index, sym, ap, ◌∙◌, subst, arith, inl, inr}
-use Rattle.std.specs.Prelude.{◌⊎◌, slice_index_or}
-use Rattle.std.proofs.lemmas.Bool.{cases_lt}
-use Rattle.std.proofs.lemmas.Bool.Decides.{nat_tests}
-use Rattle.surf_surfaces.specs.Surface.{ends, edge_count}
+use Rattle.surf_surfaces.proofs.Common.{ℕ, ◌≡◌, ◌≢◌, ◌<◌, true, false, slice_index, sym, ap, ◌∙◌, subst, arith, inl, inr, ◌⊎◌, slice_index_or, cases_lt, nat_tests, ends, edge_count}
 use Rattle.surf_search.specs.Marks.{by_degree}
 use Rattle.surf_basis.proofs.Ended.{end_stays, either_marked}
 use Rattle.surf_search.proofs.Marked.{ends_inside, either_below}

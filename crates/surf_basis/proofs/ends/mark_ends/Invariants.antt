@@ -1,5 +1,4 @@
-use Rattle.std.proofs.Common.{◌≡◌, ◌≢◌, ◌<◌, ℕ, true, false, length, slice_index}
-use Rattle.std.specs.Prelude.{◌⊎◌, slice_index_or}
+use Rattle.surf_surfaces.proofs.Common.{◌≡◌, ◌≢◌, ◌<◌, ℕ, true, false, length, slice_index, ◌⊎◌, slice_index_or}
 use Rattle.surf_basis.specs.Ends.{HasMarkedEnd, IsBusierEnd}
 use Rattle.surf_basis.proofs.ends.mark_ends.Given as goal
 

@@ -1,5 +1,4 @@
-use Rattle.std.proofs.Common.{ap, ◌∙◌}
-use Rattle.std.specs.Option.{option_map}
+use Rattle.surf_surfaces.proofs.Common.{ap, ◌∙◌, option_map}
 use Rattle.surf_lengths.proofs.Positive.{lengths_positive}
 use Rattle.surf_basis.specs.Candidates.{loop_in}
 use Rattle.surf_basis.proofs.First.{first_heads}

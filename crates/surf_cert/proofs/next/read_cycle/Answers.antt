@@ -1,6 +1,5 @@
-use Rattle.std.proofs.Common.{arith, ◌∙◌, sym, ap, ℕ, List, Option, Ok}
+use Rattle.surf_surfaces.proofs.Common.{arith, ◌∙◌, sym, ap, ℕ, List, Option, Ok, nat_tests}
 use Rattle.std.proofs.lemmas.Grind.{common_steps}
-use Rattle.std.proofs.lemmas.Bool.Decides.{nat_tests}
 use Rattle.surf_text.specs.Text.{tokens_of}
 use Rattle.surf_cert.specs.Lines.{numbers_of}
 use Rattle.surf_cert.specs.Grammar.{formed}

@@ -1,5 +1,4 @@
-use Rattle.std.proofs.Common.{arith, ◌≡◌, ◌-◌}
-use Rattle.std.proofs.lemmas.Result.{err_from_is_err_and}
+use Rattle.surf_surfaces.proofs.Common.{arith, ◌≡◌, ◌-◌, err_from_is_err_and}
 use Rattle.surf_validity.specs.Rows.{DualRows}
 use Rattle.surf_cert.specs.Lines.{dual_row}
 use Rattle.surf_cert.proofs.RowLines.{push_face, dual_start, row_more, row_bad, rows_done}

@@ -1,5 +1,4 @@
-use Rattle.std.proofs.Common.{arith, ◌-◌, ◌≡◌}
-use Rattle.std.proofs.lemmas.Result.{err_from_is_err_and}
+use Rattle.surf_surfaces.proofs.Common.{arith, ◌-◌, ◌≡◌, err_from_is_err_and}
 use Rattle.surf_cert.specs.Lines.{cycle_of}
 use Rattle.surf_cert.specs.Grammar.{rows_of}
 use Rattle.surf_cert.proofs.RowLines.{push_one, list_start, row_more, row_bad, rows_done}

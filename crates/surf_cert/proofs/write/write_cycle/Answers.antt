@@ -1,5 +1,4 @@
-use Rattle.std.proofs.Common.{◌≡◌, ℕ, List, ◌++◌, refl, ◌∙◌, subst, codes, decimal, get_or, drop}
-use Rattle.std.proofs.lemmas.Result.{err_from_is_err_and}
+use Rattle.surf_surfaces.proofs.Common.{◌≡◌, ℕ, List, ◌++◌, refl, ◌∙◌, subst, codes, decimal, get_or, drop, err_from_is_err_and}
 use Rattle.surf_text.specs.Pages.{Puts}
 use Rattle.std.proofs.lemmas.List.{take_rest}
 use Rattle.surf_cert.proofs.WrittenRows.{cycle_first}

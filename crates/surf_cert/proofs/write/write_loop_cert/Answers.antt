@@ -1,5 +1,4 @@
-use Rattle.std.proofs.Common.{ℕ, List, ◌++◌, length, refl, ap, ◌∙◌, codes}
-use Rattle.std.proofs.lemmas.Result.{err_from_is_err_and}
+use Rattle.surf_surfaces.proofs.Common.{ℕ, List, ◌++◌, length, refl, ap, ◌∙◌, codes, err_from_is_err_and}
 use Rattle.surf_text.specs.Pages.{Puts}
 use Rattle.surf_cert.proofs.Reread.{loops_again}
 use Rattle.surf_text.proofs.Writing.{puts_more, puts_stop}

@@ -1,6 +1,5 @@
 use Rattle.std.proofs.Common.{ℕ, refl, ◌∙◌, subst, flat_map}
-use Rattle.std.specs.List.{zip}
-use Rattle.std.proofs.lemmas.Result.{err_from_is_err_and}
+use Rattle.surf_surfaces.proofs.Common.{zip, err_from_is_err_and}
 use Rattle.surf_text.specs.Pages.{Puts}
 use Rattle.surf_text.proofs.Writing.{puts_more, puts_stop}
 use Rattle.surf_cert.specs.Written.{base_line, vertex_line}

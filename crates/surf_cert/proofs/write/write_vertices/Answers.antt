@@ -1,7 +1,6 @@
 use Rattle.std.proofs.Common.{◌<◌, ℕ, List, length, get_or, Option, refl, ◌∙◌, ap, subst, flat_map, arith}
-use Rattle.std.specs.List.{zip}
+use Rattle.surf_surfaces.proofs.Common.{zip, err_from_is_err_and}
 use Rattle.surf_cert.proofs.WrittenRows.{row_below, rows_end, row_at}
-use Rattle.std.proofs.lemmas.Result.{err_from_is_err_and}
 use Rattle.surf_text.specs.Pages.{Puts}
 use Rattle.surf_text.proofs.Writing.{loop_more, loop_stop, loop_done}
 use Rattle.surf_cert.specs.Written.{vertex_line}

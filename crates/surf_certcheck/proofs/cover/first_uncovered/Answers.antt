@@ -1,5 +1,4 @@
-use Rattle.std.proofs.Common.{rules, ◌≡◌, ◌<◌, ◌∙◌, map, sym, ap, subst, arith}
-use Rattle.surf_surfaces.specs.Surface.{edge_count}
+use Rattle.surf_surfaces.proofs.Common.{rules, ◌≡◌, ◌<◌, ◌∙◌, map, sym, ap, subst, arith, edge_count}
 use Rattle.surf_validity.specs.Bases.{tree_at, split_in, weighed_cycle, IsCovered}
 use Rattle.surf_treecheck.specs.TreeFaults.{IsFirstAt}
 use Rattle.surf_certcheck.specs.Climbs.{IsClimbed}

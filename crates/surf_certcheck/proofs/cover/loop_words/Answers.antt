@@ -1,7 +1,5 @@
-use Rattle.std.proofs.Common.{ℕ, ◌≡◌, ◌*◌, ◌<◌, ◌≤◌, ◌^◌, ◌∙◌, ap, bit_xor, arith}
-use Rattle.std.proofs.Math.Nat.{pow-le-pow_right}
+use Rattle.surf_surfaces.proofs.Common.{ℕ, ◌≡◌, ◌*◌, ◌<◌, ◌≤◌, ◌^◌, ◌∙◌, ap, bit_xor, arith, pow-le-pow_right, number}
 use Rattle.surf_signatures.specs.Tables.{words_for}
-use Rattle.surf_z2.specs.Words.{number}
 use Rattle.surf_certcheck.proofs.Climbing.{loop_summed}
 use Rattle.surf_certcheck.proofs.cover.loop_words.Goals as goal
 

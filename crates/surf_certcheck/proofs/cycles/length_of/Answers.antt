@@ -1,6 +1,4 @@
-use Rattle.std.proofs.Common.{rules, ◌≡◌, ◌≤◌, ◌+◌, ◌^◌, ◌<◌, length, get_or, map, sum, take, ap, sym, ◌∙◌, arith}
-use Rattle.surf_surfaces.specs.Mesh.{steps}
-use Rattle.surf_surfaces.specs.Walk.{edge_length, edge_number}
+use Rattle.surf_surfaces.proofs.Common.{rules, ◌≡◌, ◌≤◌, ◌+◌, ◌^◌, ◌<◌, length, get_or, map, sum, take, ap, sym, ◌∙◌, arith, steps, edge_length, edge_number}
 use Rattle.surf_treecheck.proofs.Steps.{sum_more, count_steps, take_whole}
 use Rattle.surf_certcheck.proofs.cycles.length_of.Goals as goal
 

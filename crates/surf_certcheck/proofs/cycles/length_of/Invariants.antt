@@ -1,6 +1,4 @@
-use Rattle.std.proofs.Common.{◌≡◌, ◌≤◌, ◌*◌, ◌^◌, map, sum, take}
-use Rattle.surf_surfaces.specs.Mesh.{steps}
-use Rattle.surf_surfaces.specs.Walk.{edge_length, edge_number}
+use Rattle.surf_surfaces.proofs.Common.{◌≡◌, ◌≤◌, ◌*◌, ◌^◌, map, sum, take, steps, edge_length, edge_number}
 use Rattle.surf_certcheck.proofs.cycles.length_of.Given as goal
 
 -- the steps before

@@ -1,6 +1,4 @@
-use Rattle.std.proofs.Common.{◌≡◌, ◌+◌, ℕ, get_or, ap, sym, ◌∙◌, arith}
-use Rattle.std.proofs.lemmas.List.{get_or_default}
-use Rattle.surf_surfaces.specs.Walk.{edge_number}
+use Rattle.surf_surfaces.proofs.Common.{◌≡◌, ◌+◌, ℕ, get_or, ap, sym, ◌∙◌, arith, get_or_default, edge_number}
 use Rattle.surf_treecheck.proofs.Steps.{one_along, steps_at}
 use Rattle.surf_certcheck.proofs.cycles.step_edge.Goals as goal
 

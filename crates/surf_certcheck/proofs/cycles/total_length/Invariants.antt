@@ -1,5 +1,4 @@
-use Rattle.std.proofs.Common.{◌≡◌, ◌≤◌, ◌*◌, ◌^◌, map, sum, take}
-use Rattle.surf_surfaces.specs.Walk.{walk_length}
+use Rattle.surf_surfaces.proofs.Common.{◌≡◌, ◌≤◌, ◌*◌, ◌^◌, map, sum, take, walk_length}
 use Rattle.surf_certcheck.proofs.cycles.total_length.Given as goal
 
 -- the cycles before

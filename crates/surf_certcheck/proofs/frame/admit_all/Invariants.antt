@@ -1,5 +1,4 @@
-use Rattle.std.proofs.Common.{◌≡◌, length}
-use Rattle.surf_surfaces.specs.Surface.{edge_count}
+use Rattle.surf_surfaces.proofs.Common.{◌≡◌, length, edge_count}
 use Rattle.surf_treecheck.specs.First.{HoldsBelow}
 use Rattle.surf_certcheck.specs.BasisFaults.{IsIndependentAt}
 use Rattle.surf_certcheck.specs.Frames.{IsFrameOf}

@@ -1,8 +1,4 @@
-use Rattle.std.proofs.Common.{rules, ◌≡◌, ◌+◌, ◌<◌, ℕ, length, get_or, map, take, bit_xor, ap, sym, ◌∙◌, arith}
-use Rattle.surf_z2.specs.Space.{numbers, sum_of}
-use Rattle.surf_surfaces.specs.Mesh.{steps}
-use Rattle.surf_surfaces.specs.Signature.{edge_signature}
-use Rattle.surf_surfaces.specs.Walk.{edge_number}
+use Rattle.surf_surfaces.proofs.Common.{rules, ◌≡◌, ◌+◌, ◌<◌, ℕ, length, get_or, map, take, bit_xor, ap, sym, ◌∙◌, arith, numbers, sum_of, steps, edge_signature, edge_number}
 use Rattle.surf_treecheck.proofs.Steps.{sets_more, count_steps, take_whole}
 use Rattle.surf_certcheck.proofs.frame.cycle_set.Goals as goal
 

@@ -1,9 +1,4 @@
-use Rattle.std.proofs.Common.{◌≡◌, ℕ, map, take}
-use Rattle.surf_z2.specs.Space.{numbers, sum_of}
-use Rattle.surf_graphs.specs.Cells.{Split}
-use Rattle.surf_surfaces.specs.Mesh.{steps}
-use Rattle.surf_surfaces.specs.Signature.{edge_signature}
-use Rattle.surf_surfaces.specs.Walk.{edge_number}
+use Rattle.surf_surfaces.proofs.Common.{◌≡◌, ℕ, map, take, numbers, sum_of, Split, steps, edge_signature, edge_number}
 use Rattle.surf_certcheck.specs.Frames.{AreTaken}
 use Rattle.surf_certcheck.proofs.frame.cycle_set.Given as goal
 

@@ -1,5 +1,4 @@
-use Rattle.std.proofs.Common.{◌≡◌, ◌≢◌, ◌<◌, ℕ, true, None}
-use Rattle.surf_z2.specs.Sieve.{has}
+use Rattle.surf_surfaces.proofs.Common.{◌≡◌, ◌≢◌, ◌<◌, ℕ, true, None, has}
 use Rattle.surf_certcheck.specs.Frames.{weight_at}
 use Rattle.surf_certcheck.proofs.frame.free_place.Given as goal
 

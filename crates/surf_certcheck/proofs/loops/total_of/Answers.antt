@@ -1,6 +1,4 @@
-use Rattle.std.proofs.Common.{ℕ, Contains, get_or, subst}
-use Rattle.std.proofs.lemmas.List.{get_or_default}
-use Rattle.surf_surfaces.specs.Mesh.{pair, edges}
+use Rattle.surf_surfaces.proofs.Common.{ℕ, Contains, get_or, subst, get_or_default, pair, edges}
 use Rattle.surf_certcheck.proofs.loops.total_of.Goals as goal
 
 pub edge_between-requires : goal.edge_between-requires

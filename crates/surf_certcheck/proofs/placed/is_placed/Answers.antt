@@ -1,5 +1,4 @@
-use Rattle.std.proofs.Common.{nat_lt, length, arith}
-use Rattle.surf_z2.specs.Words.{number}
+use Rattle.surf_surfaces.proofs.Common.{nat_lt, length, arith, number}
 use Rattle.surf_certcheck.proofs.Sorting.{greatest_tells, none_tells}
 use Rattle.surf_certcheck.proofs.placed.is_placed.Goals as goal
 

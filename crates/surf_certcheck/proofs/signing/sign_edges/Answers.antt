@@ -1,5 +1,4 @@
-use Rattle.std.proofs.Common.{◌≡◌, ◌≤◌, ◌∙◌, length, sym, ap, subst, arith}
-use Rattle.surf_surfaces.specs.Surface.{face_count}
+use Rattle.surf_surfaces.proofs.Common.{◌≡◌, ◌≤◌, ◌∙◌, length, sym, ap, subst, arith, face_count}
 use Rattle.surf_validity.specs.Bases.{split_in}
 use Rattle.surf_validity.specs.Valid.{IsDualValid}
 use Rattle.surf_treecheck.specs.Paths.{AreLinks}

@@ -1,5 +1,4 @@
-use Rattle.std.proofs.Common.{◌≡◌, ◌<◌, ℕ, length, slice_index}
-use Rattle.surf_graphs.specs.Cells.{Split}
+use Rattle.surf_surfaces.proofs.Common.{◌≡◌, ◌<◌, ℕ, length, slice_index, Split}
 use Rattle.surf_signatures.specs.Ways.{way_class}
 use Rattle.surf_validity.specs.Valid.{certified_tree}
 use Rattle.surf_certcheck.specs.Frames.{AreTaken}

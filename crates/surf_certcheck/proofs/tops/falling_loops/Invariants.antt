@@ -1,5 +1,4 @@
-use Rattle.std.proofs.Common.{◌<◌, All}
-use Rattle.surf_surfaces.specs.Surface.{edge_count}
+use Rattle.surf_surfaces.proofs.Common.{◌<◌, All, edge_count}
 use Rattle.surf_certcheck.proofs.tops.falling_loops.Given as goal
 
 abbrev pub invariant-loop-e : goal.invariant-loop-e

@@ -1,5 +1,4 @@
-use Rattle.std.proofs.Common.{◌<◌}
-use Rattle.surf_surfaces.specs.Surface.{face_count}
+use Rattle.surf_surfaces.proofs.Common.{◌<◌, face_count}
 use Rattle.surf_validity.specs.Valid.{depth_at}
 use Rattle.surf_certcheck.specs.Tops.{AreTops, IsClear}
 use Rattle.surf_certcheck.proofs.tops.top_of.Given as goal

@@ -1,5 +1,4 @@
-use Rattle.std.proofs.Common.{subst}
-use Rattle.std.specs.Bool.{MatchBool}
+use Rattle.surf_surfaces.proofs.Common.{subst, MatchBool}
 use Rattle.surf_check.specs.Descent.{HaveLesserNeighbours}
 use Rattle.surf_check.proofs.DescentLaws.{lesser_neighbours_join}
 use Rattle.surf_check.proofs.checking.apart_face.Goals as goal

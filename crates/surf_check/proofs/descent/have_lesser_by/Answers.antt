@@ -1,9 +1,4 @@
-use Rattle.std.proofs.Common.{◌≡◌, ◌<◌, ◌==◌, ◌∙◌, ℕ, List, Bool, true, false, length, get_or, sym, ap, arith}
-use Rattle.std.specs.List.{list_any}
-use Rattle.std.specs.Bool.{MatchBool}
-use Rattle.std.proofs.lemmas.Bool.{true≢false}
-use Rattle.std.proofs.lemmas.List.{length-replicate, get_or_default}
-use Rattle.surf_surfaces.specs.Surface.{ends}
+use Rattle.surf_surfaces.proofs.Common.{◌≡◌, ◌<◌, ◌==◌, ◌∙◌, ℕ, List, Bool, true, false, length, get_or, sym, ap, arith, list_any, MatchBool, true≢false, length-replicate, get_or_default, ends}
 use Rattle.surf_surfaces.proofs.CellLaws.{ends_below}
 use Rattle.surf_check.specs.Descent.{HaveLesserNeighbours, is_greater_end}
 use Rattle.surf_check.proofs.descent.have_lesser_by.Goals as goal

@@ -1,5 +1,4 @@
-use Rattle.std.proofs.Common.{◌≡◌, ◌<◌, ◌==◌, ℕ, false, length, take, slice_index_or}
-use Rattle.std.specs.List.{list_any}
+use Rattle.surf_surfaces.proofs.Common.{◌≡◌, ◌<◌, ◌==◌, ℕ, false, length, take, slice_index_or, list_any}
 use Rattle.surf_check.proofs.descent.mark_greater_ends.Given as goal
 
 abbrev pub invariant-loop-edge : goal.invariant-loop-edge

@@ -1,6 +1,5 @@
-use Rattle.std.proofs.Common.{◌≡◌, ◌<◌, List, Bool, set, subst, true, false, length, get_or, sym, ap, ◌∙◌, arith}
+use Rattle.surf_surfaces.proofs.Common.{◌≡◌, ◌<◌, List, Bool, set, subst, true, false, length, get_or, sym, ap, ◌∙◌, arith, xor}
 use Rattle.std.proofs.lemmas.List.{get_or_read, get_or-set_same}
-use Rattle.surf_z2.specs.Parity.{xor}
 use Rattle.surf_orientation.specs.Chains.{same_way}
 use Rattle.surf_check.specs.Growth.{flag_of, IsCrossed}
 use Rattle.surf_check.proofs.SideWays.{mates_join, mates_ways, is_crossed}

@@ -1,7 +1,4 @@
-use Rattle.std.proofs.Common.{◌<◌, ℕ, sym, ap, subst, ◌∙◌, arith, inl, inr}
-use Rattle.std.proofs.lemmas.Bool.{cases_eq}
-use Rattle.surf_surfaces.specs.Surface.{face_count}
-use Rattle.surf_surfaces.specs.SideNumber.{IsFaceOf}
+use Rattle.surf_surfaces.proofs.Common.{◌<◌, ℕ, sym, ap, subst, ◌∙◌, arith, inl, inr, cases_eq, face_count, IsFaceOf}
 use Rattle.surf_soup.specs.Reach.{marked}
 use Rattle.surf_soup.proofs.ReachSteps.{marked-inside}
 use Rattle.surf_soup.proofs.SideNumbers.{one_face}

@@ -1,5 +1,4 @@
-use Rattle.std.proofs.Common.{ℕ, ◌<◌, ◌≤◌}
-use Rattle.surf_surfaces.specs.SideNumber.{first_side}
+use Rattle.surf_surfaces.proofs.Common.{ℕ, ◌<◌, ◌≤◌, first_side}
 use Rattle.surf_check.specs.Growth.{TreeGrows, TreeGrowsOn, IsCrossed}
 use Rattle.surf_check.proofs.growth.go_over.Given as goal
 

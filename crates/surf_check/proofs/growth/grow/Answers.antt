@@ -1,7 +1,4 @@
-use Rattle.std.proofs.Common.{◌<◌, ℕ, length, get_or, sym, ap, subst, ◌∙◌, arith, inl, inr}
-use Rattle.std.proofs.lemmas.Bool.{cases_eq}
-use Rattle.std.proofs.lemmas.List.{get_or_read}
-use Rattle.surf_surfaces.specs.SideNumber.{IsFaceOf}
+use Rattle.surf_surfaces.proofs.Common.{◌<◌, ℕ, length, get_or, sym, ap, subst, ◌∙◌, arith, inl, inr, cases_eq, get_or_read, IsFaceOf}
 use Rattle.surf_check.proofs.GrowthLaws.{crossed_still, whole_tree, flags_follow}
 use Rattle.surf_check.proofs.growth.grow.Goals as goal
 

@@ -1,6 +1,4 @@
-use Rattle.std.proofs.Common.{ℕ, ◌<◌, ◌-◌, get_or}
-use Rattle.surf_surfaces.specs.Surface.{face_count}
-use Rattle.surf_surfaces.specs.SideNumber.{IsFaceOf}
+use Rattle.surf_surfaces.proofs.Common.{ℕ, ◌<◌, ◌-◌, get_or, face_count, IsFaceOf}
 use Rattle.surf_check.specs.Growth.{TreeGrows, IsCrossed}
 use Rattle.surf_check.proofs.growth.grow.Given as goal
 

@@ -1,5 +1,4 @@
-use Rattle.std.proofs.Common.{◌≡◌, ◌∷◌, [], replicate, length, false, ap, ◌∙◌, rules}
-use Rattle.surf_surfaces.specs.Surface.{face_count}
+use Rattle.surf_surfaces.proofs.Common.{◌≡◌, ◌∷◌, [], replicate, length, false, ap, ◌∙◌, rules, face_count}
 use Rattle.surf_check.proofs.GrowthLaws.{grows_start}
 use Rattle.surf_check.proofs.growth.start.Goals as goal
 

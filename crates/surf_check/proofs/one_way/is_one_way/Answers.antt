@@ -1,5 +1,4 @@
-use Rattle.std.proofs.Common.{List, ℕ, sym, subst}
-use Rattle.surf_surfaces.specs.Surface.{IsSurface}
+use Rattle.surf_surfaces.proofs.Common.{List, ℕ, sym, subst, IsSurface}
 use Rattle.surf_soup.specs.Half.{AreAllMates}
 use Rattle.surf_check.proofs.OneWayLaws.{one_way, not_one_way}
 use Rattle.surf_check.proofs.one_way.is_one_way.Goals as goal

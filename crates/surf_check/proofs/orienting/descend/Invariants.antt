@@ -1,5 +1,4 @@
-use Rattle.std.proofs.Common.{◌≡◌, ◌<◌, [], map, get_or, reverse}
-use Rattle.surf_surfaces.specs.Surface.{face_count}
+use Rattle.surf_surfaces.proofs.Common.{◌≡◌, ◌<◌, [], map, get_or, reverse, face_count}
 use Rattle.surf_orientation.specs.Chains.{links_down}
 use Rattle.surf_check.specs.Links.{link_of}
 use Rattle.surf_check.specs.Oriented.{tree_in}

@@ -1,5 +1,4 @@
-use Rattle.std.proofs.Common.{ℕ, ◌≡◌, ◌<◌, false}
-use Rattle.surf_surfaces.specs.SideNumber.{IsEdgeOf}
+use Rattle.surf_surfaces.proofs.Common.{ℕ, ◌≡◌, ◌<◌, false, IsEdgeOf}
 use Rattle.surf_orientation.specs.Chains.{misfit}
 use Rattle.surf_check.specs.Growth.{flag_of}
 use Rattle.surf_check.proofs.orienting.first_misfit.Given as goal

@@ -1,7 +1,5 @@
-use Rattle.std.proofs.Common.{◌≡◌, List, Bool, false, length, sym, subst}
+use Rattle.surf_surfaces.proofs.Common.{◌≡◌, List, Bool, false, length, sym, subst, replicate, face_count, IsOrientation}
 use Rattle.std.proofs.Math.ListN.{length-replicate}
-use Rattle.std.specs.Prelude.{replicate}
-use Rattle.surf_surfaces.specs.Surface.{face_count, IsOrientation}
 use Rattle.surf_check.specs.Growth.{flag_of}
 use Rattle.surf_check.proofs.orienting.orient_surface.Goals as goal
 

@@ -1,6 +1,4 @@
-use Rattle.std.proofs.Common.{◌≡◌, List, Bool, false, sym, subst, ◌∙◌}
-use Rattle.std.specs.Prelude.{replicate}
-use Rattle.surf_surfaces.specs.Surface.{face_count, IsOrientation}
+use Rattle.surf_surfaces.proofs.Common.{◌≡◌, List, Bool, false, sym, subst, ◌∙◌, replicate, face_count, IsOrientation}
 use Rattle.surf_orientation.proofs.OneSidedLaws.{orientations_fit}
 use Rattle.surf_check.specs.Growth.{flag_of}
 use Rattle.surf_check.proofs.orienting.plain_orientation.Goals as goal

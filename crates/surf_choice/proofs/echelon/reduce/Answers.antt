@@ -1,7 +1,4 @@
-use Rattle.std.proofs.Common.{◌≡◌, ◌<◌, ◌≤◌, ◌*◌, ◌^◌, length, bit_xor, sym, ◌∙◌, subst, arith}
-use Rattle.std.proofs.lemmas.Nat.{xor_lt}
-use Rattle.surf_z2.specs.Space.{numbers, Spanned}
-use Rattle.surf_z2.specs.Words.{number}
+use Rattle.surf_surfaces.proofs.Common.{◌≡◌, ◌<◌, ◌≤◌, ◌*◌, ◌^◌, length, bit_xor, sym, ◌∙◌, subst, arith, xor_lt, numbers, Spanned, number}
 use Rattle.surf_choice.proofs.Admitted.{row_step, differ_more, words_enough}
 use Rattle.surf_choice.proofs.Greatest.{exponent_below, led_count}
 use Rattle.surf_choice.proofs.echelon.reduce.Goals as goal

@@ -1,6 +1,4 @@
-use Rattle.std.proofs.Common.{◌≡◌, ◌<◌, ◌^◌, length, bit_xor}
-use Rattle.surf_z2.specs.Space.{numbers, Spanned}
-use Rattle.surf_z2.specs.Words.{number}
+use Rattle.surf_surfaces.proofs.Common.{◌≡◌, ◌<◌, ◌^◌, length, bit_xor, numbers, Spanned, number}
 use Rattle.surf_choice.proofs.echelon.reduce.Given as goal
 
 -- what is left differs from the set by a sum of rows

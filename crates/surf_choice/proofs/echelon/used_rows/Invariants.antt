@@ -1,5 +1,4 @@
-use Rattle.std.proofs.Common.{◌≡◌, ◌<◌, ◌^◌, length}
-use Rattle.surf_z2.specs.Words.{number}
+use Rattle.surf_surfaces.proofs.Common.{◌≡◌, ◌<◌, ◌^◌, length, number}
 use Rattle.surf_choice.proofs.Used.{IsUsed}
 use Rattle.surf_choice.proofs.echelon.used_rows.Given as goal
 

@@ -1,5 +1,4 @@
-use Rattle.std.proofs.Common.{take, sym, ◌∙◌, subst, arith}
-use Rattle.surf_z2.specs.Space.{numbers, Spanned}
+use Rattle.surf_surfaces.proofs.Common.{take, sym, ◌∙◌, subst, arith, numbers, Spanned}
 use Rattle.surf_choice.proofs.Changed.{pass_kept, pass_offered, pass_ended, pass_changes, rows_span_front, parts_next}
 use Rattle.surf_choice.proofs.Fronts.{rows_fresh}
 use Rattle.surf_choice.proofs.Sifted.{as_many}

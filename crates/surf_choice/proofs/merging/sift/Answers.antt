@@ -1,6 +1,4 @@
-use Rattle.std.proofs.Common.{ℕ, List, length, ◌+◌, ◌≡◌, ◌++◌, ◌∷◌, [], refl, ap, ◌∙◌, subst, arith}
-use Rattle.std.proofs.lemmas.List.{length-append}
-use Rattle.surf_z2.specs.Space.{numbers, Spanned}
+use Rattle.surf_surfaces.proofs.Common.{ℕ, List, length, ◌+◌, ◌≡◌, ◌++◌, ◌∷◌, [], refl, ap, ◌∙◌, subst, arith, length-append, numbers, Spanned}
 use Rattle.surf_choice.specs.Candidates.{kept_after}
 use Rattle.surf_choice.specs.Echelons.{IsAdmitted}
 use Rattle.surf_choice.proofs.Sifted.{sifted_kept, sifted_out, sifted, as_many}

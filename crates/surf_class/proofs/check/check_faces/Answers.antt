@@ -1,5 +1,4 @@
-use Rattle.std.proofs.Common.{subst, List, Bool}
-use Rattle.surf_surfaces.specs.Surface.{edge_count}
+use Rattle.surf_surfaces.proofs.Common.{subst, List, Bool, edge_count}
 use Rattle.surf_treecheck.specs.First.{HoldsBelow, FailsFirst}
 use Rattle.surf_class.specs.Agreement.{AgreesAt}
 use Rattle.surf_class.proofs.Checking.{null_right, null_wrong}

@@ -1,5 +1,4 @@
-use Rattle.std.proofs.Common.{ℕ, sym, ap, ◌∙◌, subst, arith, false}
-use Rattle.std.specs.List.{position}
+use Rattle.surf_surfaces.proofs.Common.{ℕ, sym, ap, ◌∙◌, subst, arith, false, position}
 use Rattle.std.proofs.lemmas.List.Quantifiers.{position-Some}
 use Rattle.surf_classes.specs.Faults.{IsOddFace}
 use Rattle.surf_class.proofs.Checking.{odd_face_at, odd_right, odd_wrong}

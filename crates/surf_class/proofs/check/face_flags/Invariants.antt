@@ -1,5 +1,4 @@
-use Rattle.std.proofs.Common.{take}
-use Rattle.surf_surfaces.specs.Surface.{face_count}
+use Rattle.surf_surfaces.proofs.Common.{take, face_count}
 use Rattle.surf_treecheck.specs.Split.{AreFlags}
 use Rattle.surf_classes.specs.Evidence.{is_listed}
 use Rattle.surf_class.proofs.check.face_flags.Given as goal

@@ -1,6 +1,4 @@
-use Rattle.std.proofs.Common.{◌<◌, ◌≤◌, ℕ, subst, sym, arith}
-use Rattle.std.proofs.lemmas.List.{get_or_default}
-use Rattle.surf_surfaces.specs.Surface.{face_count}
+use Rattle.surf_surfaces.proofs.Common.{◌<◌, ◌≤◌, ℕ, subst, sym, arith, get_or_default, face_count}
 use Rattle.surf_class.proofs.LeastFaults.{no_face_at}
 use Rattle.surf_class.proofs.check.first_outside.Goals as goal
 

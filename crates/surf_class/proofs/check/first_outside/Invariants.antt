@@ -1,5 +1,4 @@
-use Rattle.std.proofs.Common.{◌<◌, ℕ, get_or}
-use Rattle.surf_surfaces.specs.Surface.{face_count}
+use Rattle.surf_surfaces.proofs.Common.{◌<◌, ℕ, get_or, face_count}
 use Rattle.surf_class.proofs.check.first_outside.Given as goal
 
 -- the faces before are ones of the mesh

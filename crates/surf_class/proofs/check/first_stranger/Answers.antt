@@ -1,7 +1,4 @@
-use Rattle.std.proofs.Common.{◌≡◌, ◌<◌, ℕ, false, get_or, subst, sym, ap, ◌∙◌, arith}
-use Rattle.std.proofs.lemmas.List.{get_or_default}
-use Rattle.surf_surfaces.specs.Mesh.{pair, among, edges}
-use Rattle.surf_surfaces.specs.Surface.{edge_count, ends}
+use Rattle.surf_surfaces.proofs.Common.{◌≡◌, ◌<◌, ℕ, false, get_or, subst, sym, ap, ◌∙◌, arith, get_or_default, pair, among, edges, edge_count, ends}
 use Rattle.surf_surfaces.proofs.EdgeLaws.{contains_from_among}
 use Rattle.surf_class.proofs.LeastFaults.{no_pair_at, none_found}
 use Rattle.surf_class.proofs.Pairs.{pair_ordered}

@@ -1,5 +1,4 @@
-use Rattle.std.proofs.Common.{◌≡◌, ◌<◌, ℕ, true, get_or}
-use Rattle.surf_surfaces.specs.Mesh.{among, edges}
+use Rattle.surf_surfaces.proofs.Common.{◌≡◌, ◌<◌, ℕ, true, get_or, among, edges}
 use Rattle.surf_class.proofs.check.first_stranger.Given as goal
 
 -- the pairs before are edges

@@ -1,8 +1,4 @@
-use Rattle.std.proofs.Common.{◌≡◌, ℕ, get_or, false, subst, sym, ap, ◌∙◌, Contains, take}
-use Rattle.std.proofs.lemmas.List.{get_or_default}
-use Rattle.surf_z2.specs.Parity.{xor}
-use Rattle.surf_surfaces.specs.Mesh.{edges}
-use Rattle.surf_surfaces.specs.Walk.{edge_number}
+use Rattle.surf_surfaces.proofs.Common.{◌≡◌, ℕ, get_or, false, subst, sym, ap, ◌∙◌, Contains, take, get_or_default, xor, edges, edge_number}
 use Rattle.surf_treecheck.specs.Split.{is_flagged}
 use Rattle.surf_classes.specs.Evidence.{is_odd_in}
 use Rattle.surf_class.proofs.StepEdges.{odd_next, differ_is}

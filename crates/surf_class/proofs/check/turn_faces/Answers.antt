@@ -1,7 +1,4 @@
-use Rattle.std.proofs.Common.{◌≡◌, eqb, get_or, false, ap, ◌∙◌}
-use Rattle.surf_z2.specs.Parity.{xor}
-use Rattle.surf_z2.proofs.ParityLaws.{xor_assoc}
-use Rattle.surf_surfaces.specs.Surface.{faces_of}
+use Rattle.surf_surfaces.proofs.Common.{◌≡◌, eqb, get_or, false, ap, ◌∙◌, xor, xor_assoc, faces_of}
 use Rattle.surf_class.proofs.StepEdges.{both_faces}
 use Rattle.surf_class.proofs.check.turn_faces.Goals as goal
 

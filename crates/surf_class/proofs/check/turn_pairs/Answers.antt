@@ -1,9 +1,4 @@
-use Rattle.std.proofs.Common.{◌≡◌, ℕ, length, get_or, false, map, ap, sym, ◌∙◌, arith, subst, Contains}
-use Rattle.std.proofs.lemmas.List.{get_or_default}
-use Rattle.surf_z2.specs.Parity.{xor, odd}
-use Rattle.surf_surfaces.specs.Mesh.{edges}
-use Rattle.surf_surfaces.specs.Surface.{borders}
-use Rattle.surf_surfaces.specs.Walk.{edge_number}
+use Rattle.surf_surfaces.proofs.Common.{◌≡◌, ℕ, length, get_or, false, map, ap, sym, ◌∙◌, arith, subst, Contains, get_or_default, xor, odd, edges, borders, edge_number}
 use Rattle.surf_treecheck.proofs.Steps.{take_whole}
 use Rattle.surf_class.proofs.StepEdges.{odd_next, xor_chain}
 use Rattle.surf_class.proofs.check.turn_pairs.Goals as goal

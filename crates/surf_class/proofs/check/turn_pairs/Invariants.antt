@@ -1,7 +1,4 @@
-use Rattle.std.proofs.Common.{◌≡◌, ◌<◌, ℕ, false, map, take, length, get_or}
-use Rattle.surf_z2.specs.Parity.{xor, odd}
-use Rattle.surf_surfaces.specs.Walk.{edge_number}
-use Rattle.surf_surfaces.specs.Surface.{face_count, borders}
+use Rattle.surf_surfaces.proofs.Common.{◌≡◌, ◌<◌, ℕ, false, map, take, length, get_or, xor, odd, edge_number, face_count, borders}
 use Rattle.surf_class.proofs.check.turn_pairs.Given as goal
 
 -- the pairs before

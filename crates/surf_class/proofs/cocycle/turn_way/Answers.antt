@@ -1,10 +1,5 @@
-use Rattle.std.proofs.Common.{◌≡◌, false, get_or, ap, sym, ◌∙◌, arith}
-use Rattle.surf_z2.specs.Parity.{xor}
-use Rattle.surf_z2.proofs.ParityLaws.{xor-false}
-use Rattle.surf_graphs.specs.Cells.{dual}
-use Rattle.surf_graphs.specs.Trees.{on_path}
+use Rattle.surf_surfaces.proofs.Common.{◌≡◌, false, get_or, ap, sym, ◌∙◌, arith, xor, xor-false, dual, on_path, cells_of}
 use Rattle.surf_graphs.proofs.Trees.{path_root}
-use Rattle.surf_surfaces.specs.Cells.{cells_of}
 use Rattle.surf_cotree.specs.Tables.{cotree_of}
 use Rattle.surf_class.proofs.Cocycles.{turned_up}
 use Rattle.surf_class.proofs.cocycle.turn_way.Goals as goal

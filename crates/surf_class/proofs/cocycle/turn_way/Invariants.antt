@@ -1,7 +1,4 @@
-use Rattle.std.proofs.Common.{◌≡◌, ◌<◌, ℕ, false, length, get_or}
-use Rattle.surf_z2.specs.Parity.{xor}
-use Rattle.surf_graphs.specs.Trees.{on_path}
-use Rattle.surf_surfaces.specs.Surface.{edge_count, face_count}
+use Rattle.surf_surfaces.proofs.Common.{◌≡◌, ◌<◌, ℕ, false, length, get_or, xor, on_path, edge_count, face_count}
 use Rattle.surf_cotree.specs.Tables.{cotree_of}
 use Rattle.surf_class.proofs.cocycle.turn_way.Given as goal
 

@@ -1,5 +1,4 @@
-use Rattle.std.proofs.Common.{get_or}
-use Rattle.surf_surfaces.specs.Mesh.{steps}
+use Rattle.surf_surfaces.proofs.Common.{get_or, steps}
 use Rattle.surf_class.proofs.StepEdges.{step_there, step_ends, numbered}
 use Rattle.surf_class.proofs.edges.step_edge.Goals as goal
 

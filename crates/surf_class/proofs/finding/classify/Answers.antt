@@ -1,15 +1,7 @@
-use Rattle.std.proofs.Common.{◌≡◌, ◌<◌, ◌∙◌, ℕ, List, Bool, Option, true, false, map, filter, length, get_or, sym, subst, ap, arith}
-use Rattle.std.specs.List.{range_with_len}
+use Rattle.surf_surfaces.proofs.Common.{◌≡◌, ◌<◌, ◌∙◌, ℕ, List, Bool, Option, true, false, map, filter, length, get_or, sym, subst, ap, arith, range_with_len, get_or_default, Chain, dual, IsSplit, Tree, cells_of, Mesh, edge_count, ends}
 use Rattle.std.specs.Option.{option_copied}
-use Rattle.std.proofs.lemmas.List.{get_or_default}
-use Rattle.surf_z2.specs.Space.{Chain}
-use Rattle.surf_graphs.specs.Cells.{dual, IsSplit}
-use Rattle.surf_graphs.specs.Trees.{Tree}
 use Rattle.surf_signatures.specs.Signs.{has_left}
-use Rattle.surf_surfaces.specs.Cells.{cells_of}
 use Rattle.surf_surfaces.specs.Homology.{IsBoundary}
-use Rattle.surf_surfaces.specs.Mesh.{Mesh}
-use Rattle.surf_surfaces.specs.Surface.{edge_count, ends}
 use Rattle.surf_cotree.specs.Tables.{CotreeTables, cotree_of, split_with}
 use Rattle.surf_treecheck.specs.Split.{AreFlags}
 use Rattle.surf_classes.specs.Evidence.{joint_parity, IsChosenOdd, IsChosenNull}

@@ -1,8 +1,4 @@
-use Rattle.std.proofs.Common.{◌≡◌, ◌∙◌, ◌++◌, ◌∷◌, [], true, false, ap, sym, subst, List, ℕ, Bool, AllPairs, All, ◌<◌, map, filter, arith}
-use Rattle.std.specs.List.{range_with_len}
-use Rattle.std.proofs.lemmas.List.{map-append}
-use Rattle.surf_surfaces.specs.Mesh.{pair_lt}
-use Rattle.surf_surfaces.specs.Surface.{ends}
+use Rattle.surf_surfaces.proofs.Common.{◌≡◌, ◌∙◌, ◌++◌, ◌∷◌, [], true, false, ap, sym, subst, List, ℕ, Bool, AllPairs, All, ◌<◌, map, filter, arith, range_with_len, map-append, pair_lt, ends}
 use Rattle.surf_treecheck.specs.Split.{is_flagged}
 use Rattle.surf_signatures.proofs.Passing.{passing_taken, passing_left}
 use Rattle.surf_class.proofs.EdgeLists.{edges_rise, edges_ordered}

@@ -1,6 +1,4 @@
-use Rattle.std.proofs.Common.{◌≡◌, filter, map}
-use Rattle.std.specs.List.{range_with_len}
-use Rattle.surf_surfaces.specs.Surface.{ends}
+use Rattle.surf_surfaces.proofs.Common.{◌≡◌, filter, map, range_with_len, ends}
 use Rattle.surf_treecheck.specs.Split.{is_flagged}
 use Rattle.surf_class.proofs.finding.list_flagged.Given as goal
 

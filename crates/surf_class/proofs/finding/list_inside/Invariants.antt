@@ -1,5 +1,4 @@
-use Rattle.std.proofs.Common.{◌≡◌, filter}
-use Rattle.std.specs.List.{range_with_len}
+use Rattle.surf_surfaces.proofs.Common.{◌≡◌, filter, range_with_len}
 use Rattle.surf_class.specs.Sides.{is_inside}
 use Rattle.surf_class.proofs.finding.list_inside.Given as goal
 

@@ -1,10 +1,6 @@
-use Rattle.std.proofs.Common.{◌≡◌, ◌∙◌, List, ℕ, Bool, map, filter, get_or, false, ap, subst, arith, IfOk}
-use Rattle.std.specs.List.{range_with_len}
-use Rattle.surf_graphs.specs.Cells.{dual}
+use Rattle.surf_surfaces.proofs.Common.{◌≡◌, ◌∙◌, List, ℕ, Bool, map, filter, get_or, false, ap, subst, arith, IfOk, range_with_len, dual, cells_of, edge_count, ends}
 use Rattle.surf_signatures.specs.Signs.{has_left}
 use Rattle.surf_signatures.proofs.Passing.{passing_same}
-use Rattle.surf_surfaces.specs.Cells.{cells_of}
-use Rattle.surf_surfaces.specs.Surface.{edge_count, ends}
 use Rattle.surf_cotree.specs.Tables.{cotree_of}
 use Rattle.surf_treecheck.specs.Split.{is_flagged}
 use Rattle.surf_class.proofs.finding.list_signed.Goals as goal

@@ -1,6 +1,5 @@
-use Rattle.std.proofs.Common.{sym, subst, List, ℕ}
+use Rattle.surf_surfaces.proofs.Common.{sym, subst, List, ℕ, IsClosed}
 use Rattle.std.specs.Option.{option_copied}
-use Rattle.surf_surfaces.specs.Walk.{IsClosed}
 use Rattle.surf_class.proofs.Joint.{first_closed}
 use Rattle.surf_class.proofs.parity.joint_flags.Goals as goal
 

@@ -1,7 +1,4 @@
-use Rattle.std.proofs.Common.{◌≡◌, ◌<◌, length, get_or, false, map, ap, sym, ◌∙◌, arith, eqb}
-use Rattle.surf_z2.specs.Parity.{xor, odd}
-use Rattle.surf_surfaces.specs.Mesh.{steps, pair_of, pair_eq}
-use Rattle.surf_surfaces.specs.Surface.{ends}
+use Rattle.surf_surfaces.proofs.Common.{◌≡◌, ◌<◌, length, get_or, false, map, ap, sym, ◌∙◌, arith, eqb, xor, odd, steps, pair_of, pair_eq, ends}
 use Rattle.surf_treecheck.proofs.Steps.{count_steps, take_whole}
 use Rattle.surf_class.proofs.StepEdges.{test_edge, odd_next, xor_chain}
 use Rattle.surf_class.proofs.parity.turn_steps.Goals as goal

@@ -1,7 +1,4 @@
-use Rattle.std.proofs.Common.{◌≡◌, ◌<◌, ℕ, false, map, take, length, get_or}
-use Rattle.surf_z2.specs.Parity.{xor, odd}
-use Rattle.surf_surfaces.specs.Mesh.{steps, pair_eq, pair_of}
-use Rattle.surf_surfaces.specs.Surface.{edge_count, ends}
+use Rattle.surf_surfaces.proofs.Common.{◌≡◌, ◌<◌, ℕ, false, map, take, length, get_or, xor, odd, steps, pair_eq, pair_of, edge_count, ends}
 use Rattle.surf_class.proofs.parity.turn_steps.Given as goal
 
 -- the steps before

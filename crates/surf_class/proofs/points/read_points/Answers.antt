@@ -1,6 +1,4 @@
-use Rattle.std.proofs.Common.{◌≡◌, ◌<◌, ◌∷◌, length, List, ℕ, sym, ap, ◌∙◌, subst, arith, Ok, None, nat_le}
-use Rattle.std.specs.Prelude.{All}
-use Rattle.std.specs.List.{position}
+use Rattle.surf_surfaces.proofs.Common.{◌≡◌, ◌<◌, ◌∷◌, length, List, ℕ, sym, ap, ◌∙◌, subst, arith, Ok, None, nat_le, All, position}
 use Rattle.surf_text.specs.Text.{lines_of, tokens_of}
 use Rattle.surf_text.specs.Walks.{TokenWalk, text_line}
 use Rattle.surf_class.specs.Numbers.{numbers_from}

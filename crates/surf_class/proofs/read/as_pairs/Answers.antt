@@ -1,5 +1,4 @@
-use Rattle.std.proofs.Common.{◌<◌, ◌*◌, ◌/◌, ◌++◌, ◌∷◌, [], length, get_or, ap, sym, ◌∙◌, arith}
-use Rattle.std.proofs.lemmas.List.{take_all}
+use Rattle.surf_surfaces.proofs.Common.{◌<◌, ◌*◌, ◌/◌, ◌++◌, ◌∷◌, [], length, get_or, ap, sym, ◌∙◌, arith, take_all}
 use Rattle.surf_class.specs.Evidences.{two_by_two}
 use Rattle.surf_class.proofs.Lists.{take_next}
 use Rattle.surf_class.proofs.Pairing.{two_at, two_length}

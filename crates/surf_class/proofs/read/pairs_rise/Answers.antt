@@ -1,6 +1,4 @@
-use Rattle.std.proofs.Common.{◌≡◌, ◌+◌, ◌-◌, get_or, false, sym, ap, ◌∙◌, subst, ℕ, arith}
-use Rattle.std.proofs.lemmas.List.{get_or_default}
-use Rattle.surf_surfaces.specs.Mesh.{pair_lt}
+use Rattle.surf_surfaces.proofs.Common.{◌≡◌, ◌+◌, ◌-◌, get_or, false, sym, ap, ◌∙◌, subst, ℕ, arith, get_or_default, pair_lt}
 use Rattle.surf_class.proofs.Lists.{rising_all, rising_not}
 use Rattle.surf_class.proofs.read.pairs_rise.Goals as goal
 

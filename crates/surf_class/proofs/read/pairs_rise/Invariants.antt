@@ -1,5 +1,4 @@
-use Rattle.std.proofs.Common.{◌≡◌, ◌<◌, ◌+◌, ℕ, true, get_or}
-use Rattle.surf_surfaces.specs.Mesh.{pair_lt}
+use Rattle.surf_surfaces.proofs.Common.{◌≡◌, ◌<◌, ◌+◌, ℕ, true, get_or, pair_lt}
 use Rattle.surf_class.proofs.read.pairs_rise.Given as goal
 
 -- the pairs before rise

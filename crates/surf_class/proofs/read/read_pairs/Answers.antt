@@ -1,5 +1,4 @@
-use Rattle.std.proofs.Common.{sym, ap, ◌∙◌}
-use Rattle.surf_surfaces.specs.Mesh.{pair_lt}
+use Rattle.surf_surfaces.proofs.Common.{sym, ap, ◌∙◌, pair_lt}
 use Rattle.surf_class.specs.Evidences.{is_rising, is_ordered}
 use Rattle.surf_class.proofs.Increasing.{pairs_increase, pairs_ordered}
 use Rattle.surf_class.proofs.read.read_pairs.Goals as goal

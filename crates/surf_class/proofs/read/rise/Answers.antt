@@ -1,5 +1,4 @@
-use Rattle.std.proofs.Common.{◌≡◌, ◌+◌, ◌-◌, nat_lt, get_or, false, sym, subst, ℕ, arith}
-use Rattle.std.proofs.lemmas.Bool.{le-ltb}
+use Rattle.surf_surfaces.proofs.Common.{◌≡◌, ◌+◌, ◌-◌, nat_lt, get_or, false, sym, subst, ℕ, arith, le-ltb}
 use Rattle.surf_class.proofs.Lists.{rising_all, rising_not}
 use Rattle.surf_class.proofs.read.rise.Goals as goal
 

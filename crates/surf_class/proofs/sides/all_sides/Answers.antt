@@ -1,5 +1,4 @@
-use Rattle.std.proofs.Common.{◌≡◌, Bool, List, length, get_or, sym, ap, ◌∙◌, subst, arith, Option, Some, None}
-use Rattle.surf_surfaces.specs.Surface.{face_count}
+use Rattle.surf_surfaces.proofs.Common.{◌≡◌, Bool, List, length, get_or, sym, ap, ◌∙◌, subst, arith, Option, Some, None, face_count}
 use Rattle.surf_class.specs.Sides.{AreAllSidesOf, AreSidesOf}
 use Rattle.surf_class.proofs.Lists.{restored}
 use Rattle.surf_class.proofs.FaceSides.{all_known}

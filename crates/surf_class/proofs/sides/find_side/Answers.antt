@@ -1,6 +1,4 @@
-use Rattle.std.proofs.Common.{sym, ap, ◌∙◌, length, arith, ◌<◌}
-use Rattle.surf_z2.specs.Parity.{xor}
-use Rattle.surf_z2.proofs.ParityLaws.{xor-false}
+use Rattle.surf_surfaces.proofs.Common.{sym, ap, ◌∙◌, length, arith, ◌<◌, xor, xor-false}
 use Rattle.surf_class.proofs.StepEdges.{differ_is}
 use Rattle.surf_class.proofs.FaceSides.{climbed}
 use Rattle.surf_class.proofs.sides.find_side.Goals as goal

@@ -1,6 +1,4 @@
-use Rattle.std.proofs.Common.{◌≡◌, ◌<◌, ℕ, Bool, get_or}
-use Rattle.surf_z2.specs.Parity.{xor}
-use Rattle.surf_surfaces.specs.Surface.{face_count}
+use Rattle.surf_surfaces.proofs.Common.{◌≡◌, ◌<◌, ℕ, Bool, get_or, xor, face_count}
 use Rattle.surf_class.specs.Sides.{IsParted}
 use Rattle.surf_class.proofs.sides.find_side.Given as goal
 

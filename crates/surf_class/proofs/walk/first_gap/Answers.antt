@@ -1,7 +1,4 @@
-use Rattle.std.proofs.Common.{◌≡◌, ◌<◌, ◌+◌, false, sym, arith, inl, inr}
-use Rattle.std.proofs.lemmas.Bool.{cases_lt}
-use Rattle.surf_surfaces.specs.Mesh.{pair, among, edges}
-use Rattle.surf_surfaces.specs.Surface.{edge_count, ends}
+use Rattle.surf_surfaces.proofs.Common.{◌≡◌, ◌<◌, ◌+◌, false, sym, arith, inl, inr, cases_lt, pair, among, edges, edge_count, ends}
 use Rattle.surf_class.proofs.LeastFaults.{none_found, some_found}
 use Rattle.surf_class.proofs.Gaps.{gap_at, gap_none, there_is}
 use Rattle.surf_class.proofs.walk.first_gap.Goals as goal

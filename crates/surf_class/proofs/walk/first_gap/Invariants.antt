@@ -1,5 +1,4 @@
-use Rattle.std.proofs.Common.{◌≡◌, ◌<◌, ◌+◌, ℕ, true, get_or}
-use Rattle.surf_surfaces.specs.Mesh.{among, pair, edges}
+use Rattle.surf_surfaces.proofs.Common.{◌≡◌, ◌<◌, ◌+◌, ℕ, true, get_or, among, pair, edges}
 use Rattle.surf_class.proofs.walk.first_gap.Given as goal
 
 -- the steps before are along edges

@@ -1,5 +1,4 @@
-use Rattle.std.proofs.Common.{◌≡◌, nat_le, true, get_or, sym, arith}
-use Rattle.std.proofs.lemmas.Bool.{le-leb}
+use Rattle.surf_surfaces.proofs.Common.{◌≡◌, nat_le, true, get_or, sym, arith, le-leb}
 use Rattle.surf_class.proofs.Lists.{position_at, position_none}
 use Rattle.surf_class.proofs.walk.first_stranger.Goals as goal
 

@@ -1,5 +1,4 @@
-use Rattle.std.proofs.Common.{◌++◌, refl, codes, length}
-use Rattle.std.proofs.lemmas.Result.{err_from_is_err_and}
+use Rattle.surf_surfaces.proofs.Common.{◌++◌, refl, codes, length, err_from_is_err_and}
 use Rattle.surf_text.proofs.Writing.{puts_more, puts_stop}
 use Rattle.surf_text.specs.Numbers.{numbers_text}
 use Rattle.surf_class.specs.Texts.{evidence_head_text}

@@ -1,5 +1,4 @@
-use Rattle.std.proofs.Common.{◌≡◌, filter}
-use Rattle.std.specs.List.{range_with_len}
+use Rattle.surf_surfaces.proofs.Common.{◌≡◌, filter, range_with_len}
 use Rattle.surf_cotree.specs.Searches.{outside}
 use Rattle.surf_cotree.proofs.edges.list_unmarked.Given as goal
 

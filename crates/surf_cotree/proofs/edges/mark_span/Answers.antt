@@ -1,8 +1,5 @@
-use Rattle.std.proofs.Common.{◌≡◌, ◌<◌, ◌≤◌, ◌-◌, true, arith}
+use Rattle.surf_surfaces.proofs.Common.{◌≡◌, ◌<◌, ◌≤◌, ◌-◌, true, arith, dual, face_count, edge_count, cells_of}
 use Rattle.std.proofs.Math.ListN.{length-set}
-use Rattle.surf_graphs.specs.Cells.{dual}
-use Rattle.surf_surfaces.specs.Surface.{face_count, edge_count}
-use Rattle.surf_surfaces.specs.Cells.{cells_of}
 use Rattle.surf_base.specs.Tables.{nobody}
 use Rattle.surf_cotree.specs.Searches.{outside}
 use Rattle.surf_cotree.proofs.Faces.{graph_is}

@@ -1,5 +1,4 @@
-use Rattle.std.proofs.Common.{◌≡◌, ◌≤◌, ◌+◌, ◌∙◌, ◌++◌, ◌∷◌, [], List, ℕ, true, false, ap, length, arith, sym, subst, filter}
-use Rattle.std.specs.List.{range_with_len}
+use Rattle.surf_surfaces.proofs.Common.{◌≡◌, ◌≤◌, ◌+◌, ◌∙◌, ◌++◌, ◌∷◌, [], List, ℕ, true, false, ap, length, arith, sym, subst, filter, range_with_len}
 use Rattle.surf_cotree.specs.Searches.{is_unmarked}
 use Rattle.surf_signatures.proofs.Passing.{passing_few, passing_taken, passing_left}
 use Rattle.surf_cotree.proofs.listing.list_left.Goals as goal

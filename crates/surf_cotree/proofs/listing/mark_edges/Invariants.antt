@@ -1,5 +1,4 @@
-use Rattle.std.proofs.Common.{◌≡◌, ℕ, ◌<◌, ◌&&◌, false, not, eqb, slice_index_or, length}
-use Rattle.surf_z2.specs.Parity.{any_below}
+use Rattle.surf_surfaces.proofs.Common.{◌≡◌, ℕ, ◌<◌, ◌&&◌, false, not, eqb, slice_index_or, length, any_below}
 use Rattle.surf_base.specs.Tables.{nobody, at}
 use Rattle.surf_cotree.proofs.listing.mark_edges.Given as goal
 

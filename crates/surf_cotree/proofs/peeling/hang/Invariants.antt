@@ -1,6 +1,4 @@
-use Rattle.std.proofs.Common.{ℕ, Bool}
-use Rattle.surf_graphs.specs.Cells.{dual}
-use Rattle.surf_surfaces.specs.Cells.{cells_of}
+use Rattle.surf_surfaces.proofs.Common.{ℕ, Bool, dual, cells_of}
 use Rattle.surf_cotree.specs.Peeling.{IsHungBy}
 use Rattle.surf_cotree.proofs.peeling.hang.Given as goal
 

@@ -1,5 +1,4 @@
-use Rattle.std.proofs.Common.{◌≡◌, ◌<◌, ◌∙◌, ap, arith}
-use Rattle.surf_surfaces.specs.Surface.{edge_count}
+use Rattle.surf_surfaces.proofs.Common.{◌≡◌, ◌<◌, ◌∙◌, ap, arith, edge_count}
 use Rattle.surf_mesh.specs.Links.{side_link}
 use Rattle.surf_mesh.proofs.LinkLaws.{side_edge_is}
 use Rattle.surf_cotree.specs.Searches.{outside}

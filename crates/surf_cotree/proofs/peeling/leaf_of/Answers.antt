@@ -1,5 +1,4 @@
-use Rattle.std.proofs.Common.{◌≡◌, ◌<◌, ◌∙◌, ℕ, ap, arith}
-use Rattle.surf_surfaces.specs.Surface.{face_count, faces_of}
+use Rattle.surf_surfaces.proofs.Common.{◌≡◌, ◌<◌, ◌∙◌, ℕ, ap, arith, face_count, faces_of}
 use Rattle.surf_cotree.proofs.Faces.{graph_is}
 use Rattle.surf_cotree.proofs.peeling.leaf_of.Goals as goal
 

@@ -1,7 +1,4 @@
-use Rattle.std.proofs.Common.{ℕ, ◌<◌, ◌-◌, Bool, length}
-use Rattle.surf_graphs.specs.Cells.{dual}
-use Rattle.surf_surfaces.specs.Cells.{cells_of}
-use Rattle.surf_surfaces.specs.Surface.{face_count}
+use Rattle.surf_surfaces.proofs.Common.{ℕ, ◌<◌, ◌-◌, Bool, length, dual, cells_of, face_count}
 use Rattle.surf_cotree.specs.Searches.{outside}
 use Rattle.surf_cotree.specs.Peeling.{IsPeeledBy}
 use Rattle.surf_cotree.proofs.peeling.list_chain.Given as goal

@@ -1,7 +1,4 @@
-use Rattle.std.proofs.Common.{◌≡◌, ◌<◌, ◌∙◌, ◌+◌, ◌-◌, ℕ, true, false, length, arith, sym, ap}
-use Rattle.surf_graphs.specs.Cells.{dual}
-use Rattle.surf_surfaces.specs.Cells.{cells_of}
-use Rattle.surf_surfaces.specs.SideNumber.{side_count}
+use Rattle.surf_surfaces.proofs.Common.{◌≡◌, ◌<◌, ◌∙◌, ◌+◌, ◌-◌, ℕ, true, false, length, arith, sym, ap, dual, cells_of, side_count}
 use Rattle.surf_mesh.specs.Links.{link_at, side_link}
 use Rattle.surf_cotree.specs.Searches.{outside}
 use Rattle.surf_cotree.proofs.Passing.{links, links_many, links_row, link_is}

@@ -1,7 +1,5 @@
 use Rattle.std.specs.Option.{IfSome}
-use Rattle.std.specs.List.{range_with_len}
-use Rattle.surf_surfaces.specs.SideNumber.{side_count}
-use Rattle.std.proofs.Common.{◌<◌, ◌≤◌, ◌-◌, map}
+use Rattle.surf_surfaces.proofs.Common.{range_with_len, side_count, ◌<◌, ◌≤◌, ◌-◌, map}
 use Rattle.surf_mesh.specs.Links.{link_at, side_link}
 use Rattle.surf_cotree.specs.Searches.{outside}
 use Rattle.surf_cotree.proofs.Leaves.{IsOnlySoFar}

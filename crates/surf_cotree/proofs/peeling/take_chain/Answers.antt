@@ -1,7 +1,4 @@
-use Rattle.surf_graphs.specs.Cells.{dual}
-use Rattle.surf_surfaces.specs.Cells.{cells_of}
-use Rattle.std.proofs.Common.{◌≡◌, length, arith}
-use Rattle.surf_surfaces.specs.Surface.{edge_count}
+use Rattle.surf_surfaces.proofs.Common.{dual, cells_of, ◌≡◌, length, arith, edge_count}
 use Rattle.surf_cotree.proofs.Leaves.{taken_peeled, taken_smaller}
 use Rattle.surf_cotree.proofs.peeling.take_chain.Goals as goal
 

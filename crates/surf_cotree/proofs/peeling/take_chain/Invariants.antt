@@ -1,8 +1,4 @@
-use Rattle.std.proofs.Common.{ℕ, ◌<◌, Bool}
-use Rattle.surf_z2.specs.Parity.{count_below}
-use Rattle.surf_graphs.specs.Cells.{dual}
-use Rattle.surf_surfaces.specs.Cells.{cells_of}
-use Rattle.surf_surfaces.specs.Surface.{face_count, edge_count}
+use Rattle.surf_surfaces.proofs.Common.{ℕ, ◌<◌, Bool, count_below, dual, cells_of, face_count, edge_count}
 use Rattle.surf_cotree.specs.Searches.{outside}
 use Rattle.surf_cotree.specs.Peeling.{IsPeeledTo}
 use Rattle.surf_cotree.proofs.peeling.take_chain.Given as goal

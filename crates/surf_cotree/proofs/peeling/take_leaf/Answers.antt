@@ -1,7 +1,5 @@
-use Rattle.std.proofs.Common.{◌≢◌, ℕ, refl, subst, sym, arith}
+use Rattle.surf_surfaces.proofs.Common.{◌≢◌, ℕ, refl, subst, sym, arith, dual, cells_of}
 use Rattle.surf_mesh.specs.Links.{side_link}
-use Rattle.surf_graphs.specs.Cells.{dual}
-use Rattle.surf_surfaces.specs.Cells.{cells_of}
 use Rattle.surf_cotree.specs.Searches.{outside}
 use Rattle.surf_cotree.specs.Peeling.{IsOnlyEdge}
 use Rattle.surf_cotree.proofs.peeling.take_leaf.Goals as goal

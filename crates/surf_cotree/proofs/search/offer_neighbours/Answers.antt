@@ -1,8 +1,4 @@
-use Rattle.std.proofs.Common.{◌≡◌, ◌<◌, ◌≤◌, ◌+◌, ◌-◌, ◌∙◌, ◌&&◌, not, true, false, length, arith, sym, subst}
-use Rattle.std.proofs.lemmas.Bool.{and_parts, false≢true, not-true}
-use Rattle.surf_graphs.specs.Cells.{dual}
-use Rattle.surf_surfaces.specs.Cells.{cells_of}
-use Rattle.surf_surfaces.specs.Surface.{face_count, edge_count}
+use Rattle.surf_surfaces.proofs.Common.{◌≡◌, ◌<◌, ◌≤◌, ◌+◌, ◌-◌, ◌∙◌, ◌&&◌, not, true, false, length, arith, sym, subst, and_parts, false≢true, not-true, dual, cells_of, face_count, edge_count}
 use Rattle.surf_mesh.specs.Links.{link_at, IsRow}
 use Rattle.surf_base.specs.Tables.{nobody}
 use Rattle.surf_cotree.specs.Searches.{outside}

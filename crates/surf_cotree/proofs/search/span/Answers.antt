@@ -1,11 +1,5 @@
-use Rattle.std.proofs.Common.{◌≡◌, ◌≢◌, ◌<◌, ◌≤◌, ◌+◌, ◌-◌, ◌∙◌, ℕ, true, eqb, length, arith, ap, sym, subst, set, refl, suc, Option, None, get_or-set_same, get_or-set_other}
+use Rattle.surf_surfaces.proofs.Common.{◌≡◌, ◌≢◌, ◌<◌, ◌≤◌, ◌+◌, ◌-◌, ◌∙◌, ℕ, true, eqb, length, arith, ap, sym, subst, set, refl, suc, Option, None, get_or-set_same, get_or-set_other, false≢true, joins, dual, count_below, face_count, cells_of}
 use Rattle.std.proofs.Math.ListN.{length-set, length-replicate}
-use Rattle.std.proofs.lemmas.Bool.{false≢true}
-use Rattle.surf_graphs.specs.Graphs.{joins}
-use Rattle.surf_graphs.specs.Cells.{dual}
-use Rattle.surf_z2.specs.Parity.{count_below}
-use Rattle.surf_surfaces.specs.Surface.{face_count}
-use Rattle.surf_surfaces.specs.Cells.{cells_of}
 use Rattle.surf_base.specs.Tables.{nobody, at}
 use Rattle.surf_cotree.specs.Searches.{reached, outside, spanned_tree, IsWaiting}
 use Rattle.surf_cotree.proofs.Pairs.{none_there}

@@ -1,8 +1,4 @@
-use Rattle.std.proofs.Common.{◌≡◌, length, eqb}
-use Rattle.surf_z2.specs.Parity.{count_below}
-use Rattle.surf_graphs.specs.Cells.{dual}
-use Rattle.surf_surfaces.specs.Surface.{face_count}
-use Rattle.surf_surfaces.specs.Cells.{cells_of}
+use Rattle.surf_surfaces.proofs.Common.{◌≡◌, length, eqb, count_below, dual, face_count, cells_of}
 use Rattle.surf_base.specs.Tables.{nobody, at}
 use Rattle.surf_cotree.specs.Searches.{reached, outside, spanned_tree, IsPrim}
 use Rattle.surf_cotree.proofs.search.span.Given as goal

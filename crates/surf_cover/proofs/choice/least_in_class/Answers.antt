@@ -1,5 +1,4 @@
-use Rattle.std.proofs.Common.{◌≡◌, ◌<◌, ◌∷◌, ℕ, List, reverse, sym, ap, ◌∙◌, subst, refl, arith}
-use Rattle.surf_surfaces.specs.Signature.{walk_signature}
+use Rattle.surf_surfaces.proofs.Common.{◌≡◌, ◌<◌, ◌∷◌, ℕ, List, reverse, sym, ap, ◌∙◌, subst, refl, arith, walk_signature}
 use Rattle.surf_classes.specs.CoverGraph.{set_count}
 use Rattle.surf_classes.proofs.ReadBack.{walk_set}
 use Rattle.surf_classes.proofs.ChosenWalks.{null_choice_is_vertex}

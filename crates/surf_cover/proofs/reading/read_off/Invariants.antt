@@ -1,5 +1,4 @@
-use Rattle.std.proofs.Common.{◌≡◌, ℕ, ◌<◌, ◌*◌, ◌/◌, ◌%◌, List, ◌∷◌, slice_index}
-use Rattle.surf_graphs.specs.Cells.{Split}
+use Rattle.surf_surfaces.proofs.Common.{◌≡◌, ℕ, ◌<◌, ◌*◌, ◌/◌, ◌%◌, List, ◌∷◌, slice_index, Split}
 use Rattle.surf_classes.specs.Cover.{IsReadTo}
 use Rattle.surf_cover.specs.Networks.{IsCertifiedBy, table_of}
 use Rattle.surf_cover.proofs.reading.read_off.Given as goal

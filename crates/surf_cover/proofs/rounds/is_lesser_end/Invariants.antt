@@ -1,6 +1,4 @@
-use Rattle.std.proofs.Common.{◌≡◌, ◌<◌, ℕ, true, get_or, slice_index}
-use Rattle.surf_z2.specs.Sieve.{has}
-use Rattle.surf_surfaces.specs.Surface.{ends}
+use Rattle.surf_surfaces.proofs.Common.{◌≡◌, ◌<◌, ℕ, true, get_or, slice_index, has, ends}
 use Rattle.surf_cover.proofs.rounds.is_lesser_end.Given as goal
 
 -- the edges before are none

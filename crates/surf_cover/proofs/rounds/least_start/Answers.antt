@@ -1,7 +1,5 @@
-use Rattle.std.proofs.Common.{◌≡◌, ◌≢◌, ◌<◌, ◌≤◌, ◌+◌, ◌*◌, ℕ, List, length, slice_index, subst, sym, ap, ◌∙◌, arith}
-use Rattle.std.proofs.lemmas.Nat.{row_fits}
+use Rattle.surf_surfaces.proofs.Common.{◌≡◌, ◌≢◌, ◌<◌, ◌≤◌, ◌+◌, ◌*◌, ℕ, List, length, slice_index, subst, sym, ap, ◌∙◌, arith, row_fits, edge_count}
 use Rattle.std.proofs.lemmas.Option.{none-some}
-use Rattle.surf_surfaces.specs.Surface.{edge_count}
 use Rattle.surf_cotree.specs.Tables.{split_with}
 use Rattle.surf_tree.specs.Searches.{far}
 use Rattle.surf_cover.specs.Networks.{node_of}

@@ -1,8 +1,4 @@
-use Rattle.std.proofs.Common.{◌≡◌, ◌<◌, ◌≤◌, ◌*◌, ℕ, slice_index}
-use Rattle.surf_graphs.specs.Cells.{IsSplit}
-use Rattle.surf_graphs.specs.Trees.{Tree}
-use Rattle.surf_surfaces.specs.Cells.{cells_of}
-use Rattle.surf_surfaces.specs.Surface.{edge_count}
+use Rattle.surf_surfaces.proofs.Common.{◌≡◌, ◌<◌, ◌≤◌, ◌*◌, ℕ, slice_index, IsSplit, Tree, cells_of, edge_count}
 use Rattle.surf_cotree.specs.Tables.{split_with}
 use Rattle.surf_cover.specs.Tables.{AreCoverTables}
 use Rattle.surf_cover.proofs.Best.{IsBestBelow}

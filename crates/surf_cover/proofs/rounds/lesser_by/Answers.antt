@@ -1,5 +1,4 @@
-use Rattle.std.proofs.Common.{arith}
-use Rattle.std.proofs.lemmas.Nat.{div_below, mod_below}
+use Rattle.surf_surfaces.proofs.Common.{arith, div_below, mod_below}
 use Rattle.surf_cover.proofs.rounds.lesser_by.Goals as goal
 
 pub is_on_round-requires-clause-vertex : goal.is_on_round-requires-clause-vertex

@@ -1,5 +1,4 @@
-use Rattle.std.proofs.Common.{◌≡◌, ◌≢◌, ◌<◌, ◌+◌, length, arith, set, Some, map}
-use Rattle.std.proofs.lemmas.List.{length-map}
+use Rattle.surf_surfaces.proofs.Common.{◌≡◌, ◌≢◌, ◌<◌, ◌+◌, length, arith, set, Some, map, length-map}
 use Rattle.surf_heap.specs.Entries.{entry_of, lesser}
 use Rattle.surf_base.specs.Tables.{at}
 use Rattle.surf_tree.specs.Searches.{far}

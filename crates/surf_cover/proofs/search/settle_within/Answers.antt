@@ -1,7 +1,5 @@
-use Rattle.std.proofs.Common.{◌≡◌, ◌<◌, ◌∙◌, ℕ, List, [], ◌∷◌, length, set, arith, sym, subst, eqb}
+use Rattle.surf_surfaces.proofs.Common.{◌≡◌, ◌<◌, ◌∙◌, ℕ, List, [], ◌∷◌, length, set, arith, sym, subst, eqb, length-append, count_below}
 use Rattle.std.proofs.Math.ListN.{length-set}
-use Rattle.std.proofs.lemmas.List.{length-append}
-use Rattle.surf_z2.specs.Parity.{count_below}
 use Rattle.surf_base.specs.Tables.{at}
 use Rattle.surf_tree.specs.Searches.{far, IsOffered}
 use Rattle.surf_tree.proofs.Settling.{search_begins}

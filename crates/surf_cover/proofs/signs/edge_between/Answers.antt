@@ -1,6 +1,4 @@
-use Rattle.std.proofs.Common.{sym, ap, ◌∙◌}
-use Rattle.surf_surfaces.specs.Mesh.{edges}
-use Rattle.surf_surfaces.specs.Walk.{place_of}
+use Rattle.surf_surfaces.proofs.Common.{sym, ap, ◌∙◌, edges, place_of}
 use Rattle.surf_surfaces.proofs.EdgeLaws.{place_of-ends}
 use Rattle.surf_cover.proofs.signs.edge_between.Goals as goal
 

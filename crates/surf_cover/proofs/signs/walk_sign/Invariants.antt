@@ -1,9 +1,4 @@
-use Rattle.std.proofs.Common.{◌≡◌, drop, bit_xor, All, Contains}
-use Rattle.surf_graphs.specs.Cells.{IsSplit}
-use Rattle.surf_graphs.specs.Trees.{Tree}
-use Rattle.surf_surfaces.specs.Cells.{cells_of}
-use Rattle.surf_surfaces.specs.Mesh.{edges, pair_of, steps}
-use Rattle.surf_surfaces.specs.Signature.{walk_signature}
+use Rattle.surf_surfaces.proofs.Common.{◌≡◌, drop, bit_xor, All, Contains, IsSplit, Tree, cells_of, edges, pair_of, steps, walk_signature}
 use Rattle.surf_cotree.specs.Tables.{split_with}
 use Rattle.surf_cover.proofs.signs.walk_sign.Given as goal
 

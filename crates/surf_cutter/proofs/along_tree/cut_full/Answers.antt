@@ -1,6 +1,4 @@
-use Rattle.std.proofs.Common.{◌≡◌, ◌+◌, length, rules}
-use Rattle.std.proofs.lemmas.Result.{IfOk-weaker}
-use Rattle.surf_surfaces.specs.Surface.{face_count, edge_count}
+use Rattle.surf_surfaces.proofs.Common.{◌≡◌, ◌+◌, length, rules, IfOk-weaker, face_count, edge_count}
 use Rattle.surf_cutter.specs.Kinds.{full}
 use Rattle.surf_cutter.specs.Opened.{OpenMesh, IsHeld, IsChosenFor}
 use Rattle.surf_cutter.proofs.Chosen.{full_counted}

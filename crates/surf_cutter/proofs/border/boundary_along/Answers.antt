@@ -1,7 +1,5 @@
-use Rattle.std.proofs.Common.{length, refl, sym, subst}
-use Rattle.surf_surfaces.specs.Disc.{IsDisc}
+use Rattle.surf_surfaces.proofs.Common.{length, refl, sym, subst, IsDisc, side_count}
 use Rattle.surf_cutter.specs.Boundary.{over, HasPairedBorder, AreBorderSides}
-use Rattle.surf_surfaces.specs.SideNumber.{side_count}
 use Rattle.surf_cutter.proofs.BorderTables.{border_some}
 use Rattle.surf_cutter.proofs.PairedBorders.{opens_to_disc, has_paired, are_border_sides}
 use Rattle.surf_cutter.proofs.Rims.{same_sizes}

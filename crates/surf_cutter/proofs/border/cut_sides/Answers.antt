@@ -1,5 +1,4 @@
-use Rattle.std.proofs.Common.{◌≡◌, ◌+◌, ◌∷◌, ◌++◌, [], true, false, get_or, ap, sym, ◌∙◌, subst, rules}
-use Rattle.surf_surfaces.specs.SideNumber.{IsEdgeOf}
+use Rattle.surf_surfaces.proofs.Common.{◌≡◌, ◌+◌, ◌∷◌, ◌++◌, [], true, false, get_or, ap, sym, ◌∙◌, subst, rules, IsEdgeOf}
 use Rattle.surf_cutter.specs.Boundary.{AreCutSides}
 use Rattle.surf_cutter.proofs.BorderTables.{cut_more, cut_none}
 use Rattle.surf_cutter.proofs.border.cut_sides.Goals as goal

@@ -1,8 +1,6 @@
-use Rattle.std.proofs.Common.{◌≡◌, ◌<◌, ℕ, length, get_or, inl, inr, ap, sym, ◌∙◌, subst, arith}
+use Rattle.surf_surfaces.proofs.Common.{◌≡◌, ◌<◌, ℕ, length, get_or, inl, inr, ap, sym, ◌∙◌, subst, arith, get_or_default, length-set, side_count}
 use Rattle.std.proofs.Math.ListN.{set}
-use Rattle.std.proofs.lemmas.List.{get_or_default, length-set}
 use Rattle.surf_base.specs.Tables.{nobody}
-use Rattle.surf_surfaces.specs.SideNumber.{side_count}
 use Rattle.surf_cutter.specs.Boundary.{over, corners_of}
 use Rattle.surf_cutter.specs.Rims.{AreReaches, sides_of, with_reach}
 use Rattle.surf_cutter.proofs.BorderTables.{corners_in}

@@ -1,8 +1,6 @@
-use Rattle.std.proofs.Common.{◌≡◌, ◌≢◌, ◌<◌, inr, ◌∷◌, ◌++◌, [], ℕ, length, sym, ap, ◌∙◌, subst, arith, rules}
-use Rattle.std.proofs.lemmas.List.{length_push}
+use Rattle.surf_surfaces.proofs.Common.{◌≡◌, ◌≢◌, ◌<◌, inr, ◌∷◌, ◌++◌, [], ℕ, length, sym, ap, ◌∙◌, subst, arith, rules, length_push, side_count}
 use Rattle.surf_cutter.specs.Boundary.{over, corners_of, HasCopy, IsBorderSide}
 use Rattle.surf_base.specs.Tables.{nobody}
-use Rattle.surf_surfaces.specs.SideNumber.{side_count}
 use Rattle.surf_cutter.proofs.BorderTables.{copy_in}
 use Rattle.surf_cutter.proofs.BorderRounds.{IsGone, gone_first, gone_border, gone_leaves, gone_few, gone_on, gone_round}
 use Rattle.surf_cutter.proofs.Rims.{same_total, other_reaches}

@@ -1,5 +1,4 @@
-use Rattle.std.proofs.Common.{◌-◌, ◌<◌, length}
-use Rattle.std.specs.List.{sum_by}
+use Rattle.surf_surfaces.proofs.Common.{◌-◌, ◌<◌, length, sum_by}
 use Rattle.surf_cutter.specs.Boundary.{over}
 use Rattle.surf_cutter.proofs.BorderRounds.{IsGone}
 use Rattle.surf_cutter.proofs.border.go_round.Given as goal

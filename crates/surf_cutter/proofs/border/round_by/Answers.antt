@@ -1,5 +1,4 @@
-use Rattle.std.proofs.Common.{get_or, length, sym, subst, IfOk}
-use Rattle.surf_surfaces.specs.Disc.{IsDisc}
+use Rattle.surf_surfaces.proofs.Common.{get_or, length, sym, subst, IfOk, IsDisc}
 use Rattle.surf_cutter.specs.Boundary.{over, HasPairedBorder, IsLeastBorderSide, IsBoundary}
 use Rattle.surf_cutter.specs.Rims.{AreRims, AreReaches, sides_of}
 use Rattle.surf_cutter.proofs.BorderTables.{border_first}

@@ -1,5 +1,4 @@
-use Rattle.std.proofs.Common.{◌≡◌, ℕ, length, replicate, refl, sym, ap, ◌∙◌, subst, rules}
-use Rattle.std.proofs.lemmas.List.{length-replicate}
+use Rattle.surf_surfaces.proofs.Common.{◌≡◌, ℕ, length, replicate, refl, sym, ap, ◌∙◌, subst, rules, length-replicate}
 use Rattle.surf_base.specs.Tables.{nobody}
 use Rattle.surf_cutter.specs.Boundary.{over}
 use Rattle.surf_cutter.specs.Rims.{AreRimsTo, AreReaches, sides_of}

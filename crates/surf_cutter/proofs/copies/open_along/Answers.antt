@@ -1,5 +1,4 @@
-use Rattle.std.proofs.Common.{ℕ, List, Bool}
-use Rattle.std.proofs.lemmas.Result.{IfOk-weaker}
+use Rattle.surf_surfaces.proofs.Common.{ℕ, List, Bool, IfOk-weaker}
 use Rattle.surf_opening.specs.ChosenCut.{AreInOrder}
 use Rattle.surf_opening.specs.Opening.{IsOpenedBy}
 use Rattle.surf_slit.specs.Labels.{IsUncut, AreLabels}

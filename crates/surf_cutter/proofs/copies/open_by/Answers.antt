@@ -1,8 +1,5 @@
-use Rattle.std.proofs.Common.{◌≡◌, ◌≤◌, ◌++◌, [], ℕ, List, length, take, drop, ap, sym, ◌∙◌, subst, arith}
+use Rattle.surf_surfaces.proofs.Common.{◌≡◌, ◌≤◌, ◌++◌, [], ℕ, List, length, take, drop, ap, sym, ◌∙◌, subst, arith, Mesh, face_count, side_count}
 use Rattle.std.proofs.lemmas.List.{append-nil, drop_all, take_all}
-use Rattle.surf_surfaces.specs.Mesh.{Mesh}
-use Rattle.surf_surfaces.specs.Surface.{face_count}
-use Rattle.surf_surfaces.specs.SideNumber.{side_count}
 use Rattle.surf_soup.specs.Vertices.{all_corners}
 use Rattle.surf_cutter.specs.Copies.{AreCounted}
 use Rattle.surf_cutter.specs.Faces.{AreRowsOf, AreRenumberedTo}

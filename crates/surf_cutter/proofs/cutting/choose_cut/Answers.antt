@@ -1,5 +1,4 @@
-use Rattle.std.proofs.Common.{ℕ, List, sym, subst}
-use Rattle.std.proofs.lemmas.Result.{err_from_is_err_and}
+use Rattle.surf_surfaces.proofs.Common.{ℕ, List, sym, subst, err_from_is_err_and}
 use Rattle.surf_cutter.specs.declared.kind.CutKind.{CutKind}
 use Rattle.surf_cutter.specs.Kinds.{through, kind_of}
 use Rattle.surf_cutter.specs.Opened.{IsNearFor}

@@ -1,6 +1,4 @@
-use Rattle.std.proofs.Common.{◌≡◌, ◌+◌, ◌<◌, ◌∷◌, ◌++◌, [], ℕ, length, ap, sym, subst, ◌∙◌, arith, rules}
-use Rattle.surf_surfaces.specs.Surface.{face_count, face_at}
-use Rattle.surf_surfaces.specs.SideNumber.{first_side}
+use Rattle.surf_surfaces.proofs.Common.{◌≡◌, ◌+◌, ◌<◌, ◌∷◌, ◌++◌, [], ℕ, length, ap, sym, subst, ◌∙◌, arith, rules, face_count, face_at, first_side}
 use Rattle.surf_soup.proofs.HalfLaws.{spans}
 use Rattle.surf_cutter.specs.Faces.{AreStartsTo}
 use Rattle.surf_cutter.proofs.FaceTables.{starts_more}

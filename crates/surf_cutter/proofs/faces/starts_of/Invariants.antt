@@ -1,5 +1,4 @@
-use Rattle.std.proofs.Common.{◌≡◌}
-use Rattle.surf_surfaces.specs.SideNumber.{first_side}
+use Rattle.surf_surfaces.proofs.Common.{◌≡◌, first_side}
 use Rattle.surf_cutter.specs.Faces.{AreStartsTo}
 use Rattle.surf_cutter.proofs.faces.starts_of.Given as goal
 

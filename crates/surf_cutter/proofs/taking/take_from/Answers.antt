@@ -1,5 +1,4 @@
-use Rattle.std.proofs.Common.{◌≡◌, ◌+◌, ◌∙◌, suc, false, true, get_or, ap, sym, arith}
-use Rattle.std.proofs.lemmas.Bool.{false≢true}
+use Rattle.surf_surfaces.proofs.Common.{◌≡◌, ◌+◌, ◌∙◌, suc, false, true, get_or, ap, sym, arith, false≢true}
 use Rattle.surf_opening.specs.Laws.{cut_count}
 use Rattle.surf_cutter.specs.Trimming.{is_cut, is_marked}
 use Rattle.surf_cutter.proofs.Trims.{count_taken, size_taken}

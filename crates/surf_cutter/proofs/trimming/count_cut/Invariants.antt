@@ -1,5 +1,4 @@
-use Rattle.std.proofs.Common.{◌≡◌}
-use Rattle.surf_z2.specs.Parity.{count_below}
+use Rattle.surf_surfaces.proofs.Common.{◌≡◌, count_below}
 use Rattle.surf_cutter.specs.Trimming.{is_cut}
 use Rattle.surf_cutter.proofs.trimming.count_cut.Given as goal
 

@@ -1,5 +1,4 @@
-use Rattle.std.proofs.Common.{◌≡◌, ◌+◌, ℕ, get_or, ap, ◌∙◌, subst, arith}
-use Rattle.surf_surfaces.specs.Surface.{ends}
+use Rattle.surf_surfaces.proofs.Common.{◌≡◌, ◌+◌, ℕ, get_or, ap, ◌∙◌, subst, arith, ends}
 use Rattle.surf_surfaces.proofs.CellLaws.{ends_below}
 use Rattle.surf_soup.proofs.HalfLaws.{edges_few}
 use Rattle.surf_surfaces.proofs.DegreeLaws.{degrees_more, degrees_none, degree_few}

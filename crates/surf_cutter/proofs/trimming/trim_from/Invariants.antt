@@ -1,6 +1,5 @@
-use Rattle.std.proofs.Common.{◌≡◌, ◌≤◌, ◌<◌, length}
+use Rattle.surf_surfaces.proofs.Common.{◌≡◌, ◌≤◌, ◌<◌, length, edge_count}
 use Rattle.surf_opening.specs.Laws.{cut_count}
-use Rattle.surf_surfaces.specs.Surface.{edge_count}
 use Rattle.surf_cutter.specs.Trimming.{is_cut, AreDegrees, IsTrimmedFrom}
 use Rattle.surf_cutter.proofs.Trims.{HasNoOtherLeaf}
 use Rattle.surf_cutter.proofs.trimming.trim_from.Given as goal

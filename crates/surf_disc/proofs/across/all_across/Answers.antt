@@ -1,6 +1,5 @@
-use Rattle.std.proofs.Common.{rules, ◌≡◌, ◌<◌, ◌+◌, ℕ, List, [], ◌∷◌, ◌++◌, get_or, sym, subst, ap, ◌∙◌, arith}
+use Rattle.surf_surfaces.proofs.Common.{rules, ◌≡◌, ◌<◌, ◌+◌, ℕ, List, [], ◌∷◌, ◌++◌, get_or, sym, subst, ap, ◌∙◌, arith, side_count}
 use Rattle.surf_disc.specs.Across.{AreAcrossUpTo, IsAcross, other_of}
-use Rattle.surf_surfaces.specs.SideNumber.{side_count}
 use Rattle.surf_disc.proofs.AcrossLaws.{row_read, row_has, row_across, across_more}
 use Rattle.surf_disc.proofs.across.all_across.Goals as goal
 

@@ -1,5 +1,4 @@
-use Rattle.std.proofs.Common.{◌≡◌}
-use Rattle.surf_surfaces.specs.SideNumber.{first_side}
+use Rattle.surf_surfaces.proofs.Common.{◌≡◌, first_side}
 use Rattle.surf_soup.specs.Apart.{AreAcross}
 use Rattle.surf_disc.proofs.apart.faces_over.Given as goal
 

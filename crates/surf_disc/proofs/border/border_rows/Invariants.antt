@@ -1,5 +1,4 @@
-use Rattle.std.proofs.Common.{◌≤◌, ◌*◌, take, length}
-use Rattle.std.specs.List.{sum_by}
+use Rattle.surf_surfaces.proofs.Common.{◌≤◌, ◌*◌, take, length, sum_by}
 use Rattle.surf_soup.specs.Vertices.{all_corners}
 use Rattle.surf_disc.specs.Border.{AreNeighbours}
 use Rattle.surf_disc.proofs.border.border_rows.Given as goal

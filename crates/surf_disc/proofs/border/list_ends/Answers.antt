@@ -1,5 +1,4 @@
-use Rattle.std.proofs.Common.{◌≡◌, ◌<◌, ℕ, length, get_or, ap, subst, ◌∙◌, arith}
-use Rattle.std.proofs.lemmas.List.{get_or_read}
+use Rattle.surf_surfaces.proofs.Common.{◌≡◌, ◌<◌, ℕ, length, get_or, ap, subst, ◌∙◌, arith, get_or_read}
 use Rattle.surf_disc.specs.Border.{with_end}
 use Rattle.surf_disc.proofs.BorderLaws.{ends_more}
 use Rattle.surf_disc.proofs.border.list_ends.Goals as goal

@@ -1,5 +1,4 @@
-use Rattle.std.proofs.Common.{◌≡◌, take}
-use Rattle.std.specs.List.{flat_map}
+use Rattle.surf_surfaces.proofs.Common.{◌≡◌, take, flat_map}
 use Rattle.surf_disc.specs.Border.{border_ends}
 use Rattle.surf_disc.proofs.border.list_ends.Given as goal
 

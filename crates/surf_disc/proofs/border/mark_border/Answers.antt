@@ -1,6 +1,4 @@
-use Rattle.std.proofs.Common.{◌≡◌, ℕ, List, get_or, length, ap, ◌∙◌, arith}
-use Rattle.std.proofs.lemmas.List.{get_or_read}
-use Rattle.surf_surfaces.specs.Surface.{ends}
+use Rattle.surf_surfaces.proofs.Common.{◌≡◌, ℕ, List, get_or, length, ap, ◌∙◌, arith, get_or_read, ends}
 use Rattle.surf_disc.proofs.BorderLaws.{near_inside, border_start, border_marked}
 use Rattle.surf_disc.proofs.border.mark_border.Goals as goal
 

@@ -1,6 +1,4 @@
-use Rattle.std.proofs.Common.{◌≡◌, ◌<◌, ℕ, List, get_or, length, sym, ap, subst, ◌∙◌, arith}
-use Rattle.std.proofs.lemmas.List.{get_or_read}
-use Rattle.surf_surfaces.specs.Surface.{edge_count, ends}
+use Rattle.surf_surfaces.proofs.Common.{◌≡◌, ◌<◌, ℕ, List, get_or, length, sym, ap, subst, ◌∙◌, arith, get_or_read, edge_count, ends}
 use Rattle.surf_surfaces.proofs.CellLaws.{ends_below}
 use Rattle.surf_disc.specs.Border.{AllInside, IsFirstOutside}
 use Rattle.surf_disc.proofs.TableLaws.{least_outside, one_border}

@@ -1,6 +1,5 @@
-use Rattle.std.proofs.Common.{◌≡◌}
+use Rattle.surf_surfaces.proofs.Common.{◌≡◌, IsDisc}
 use Rattle.std.proofs.lemmas.Result.{IfErr-weaker}
-use Rattle.surf_surfaces.specs.Disc.{IsDisc}
 use Rattle.surf_disc.specs.Fault.{IsDiscFault}
 use Rattle.surf_disc.specs.declared.faults.DiscFault.TheVariants.{Memory}
 use Rattle.surf_disc.proofs.FaultLaws.{fault_only}

@@ -1,7 +1,4 @@
-use Rattle.std.proofs.Common.{◌≡◌, ◌<◌, ℕ, List, [], ◌∷◌, get_or, length, refl, sym, ap, subst, ◌∙◌, arith}
-use Rattle.std.proofs.lemmas.List.{get_or_read}
-use Rattle.surf_surfaces.specs.Mesh.{Mesh, IsMesh}
-use Rattle.surf_surfaces.specs.Surface.{ends}
+use Rattle.surf_surfaces.proofs.Common.{◌≡◌, ◌<◌, ℕ, List, [], ◌∷◌, get_or, length, refl, sym, ap, subst, ◌∙◌, arith, get_or_read, Mesh, IsMesh, ends}
 use Rattle.surf_soup.specs.EdgeTable.{IsEdgeTable}
 use Rattle.surf_soup.specs.Pairs.{IsFirstWithin}
 use Rattle.surf_soup.proofs.Owners.{length-owners}

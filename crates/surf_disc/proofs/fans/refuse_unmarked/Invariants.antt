@@ -1,5 +1,4 @@
-use Rattle.std.proofs.Common.{◌<◌, ℕ}
-use Rattle.surf_surfaces.specs.Surface.{HasOneFan}
+use Rattle.surf_surfaces.proofs.Common.{◌<◌, ℕ, HasOneFan}
 use Rattle.surf_disc.proofs.fans.refuse_unmarked.Given as goal
 
 abbrev pub invariant-loop-v : goal.invariant-loop-v

@@ -1,5 +1,4 @@
-use Rattle.std.proofs.Common.{◌≡◌}
-use Rattle.std.specs.List.{range_with_len}
+use Rattle.surf_surfaces.proofs.Common.{◌≡◌, range_with_len}
 use Rattle.surf_gen.proofs.chains.own_numbers.Given as goal
 
 abbrev pub invariant-loop-v : goal.invariant-loop-v

@@ -1,7 +1,4 @@
-use Rattle.std.proofs.Common.{◌≡◌, ℕ, ◌*◌, ◌<◌, List, [], ◌∷◌, ◌++◌, length, get_or, map, slice_index, ap, sym, subst, ◌≤◌, ◌∙◌, arith}
-use Rattle.surf_surfaces.specs.Mesh.{Mesh}
-use Rattle.surf_surfaces.specs.Surface.{face_at}
-use Rattle.surf_surfaces.specs.SideNumber.{side_count}
+use Rattle.surf_surfaces.proofs.Common.{◌≡◌, ℕ, ◌*◌, ◌<◌, List, [], ◌∷◌, ◌++◌, length, get_or, map, slice_index, ap, sym, subst, ◌≤◌, ◌∙◌, arith, Mesh, face_at, side_count}
 use Rattle.surf_tori.specs.Torus.{torus, torus_faces}
 use Rattle.surf_tori.proofs.TorusLaws.{count}
 use Rattle.surf_gen.proofs.ChainLaws.{torus_triangles, looked_up, faces_more, sides_more}

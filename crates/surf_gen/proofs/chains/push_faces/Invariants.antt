@@ -1,5 +1,4 @@
-use Rattle.std.proofs.Common.{◌≡◌, ◌+◌, ◌-◌, ◌*◌, ◌++◌, map, take, drop, slice_index}
-use Rattle.surf_surfaces.specs.SideNumber.{side_count}
+use Rattle.surf_surfaces.proofs.Common.{◌≡◌, ◌+◌, ◌-◌, ◌*◌, ◌++◌, map, take, drop, slice_index, side_count}
 use Rattle.surf_tori.specs.Torus.{torus_faces}
 use Rattle.surf_gen.proofs.chains.push_faces.Given as goal
 

@@ -1,5 +1,4 @@
-use Rattle.std.proofs.Common.{◌≡◌, map}
-use Rattle.std.specs.List.{range_with_len}
+use Rattle.surf_surfaces.proofs.Common.{◌≡◌, map, range_with_len}
 use Rattle.surf_gen.specs.Made.{made_length}
 use Rattle.surf_gen.proofs.made.made_lengths.Given as goal
 

@@ -1,8 +1,4 @@
-use Rattle.std.proofs.Common.{◌≡◌, ℕ, ◌*◌, List, ◌++◌, length, ap, sym, ◌∙◌, arith}
-use Rattle.std.specs.List.{range_with_len, sum_by}
-use Rattle.std.proofs.lemmas.List.FromFn.{length-range_with_len}
-use Rattle.surf_surfaces.specs.Mesh.{Mesh}
-use Rattle.surf_surfaces.specs.SideNumber.{side_count}
+use Rattle.surf_surfaces.proofs.Common.{◌≡◌, ℕ, ◌*◌, List, ◌++◌, length, ap, sym, ◌∙◌, arith, range_with_len, sum_by, length-range_with_len, Mesh, side_count}
 use Rattle.surf_tori.specs.Torus.{cell_faces}
 use Rattle.surf_tori.proofs.TorusLaws.{cells_more, cells_sides}
 use Rattle.surf_gen.proofs.tori.torus.Goals as goal

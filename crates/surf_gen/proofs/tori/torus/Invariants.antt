@@ -1,5 +1,4 @@
-use Rattle.std.proofs.Common.{◌≡◌, ◌*◌}
-use Rattle.std.specs.List.{flat_map, range_with_len}
+use Rattle.surf_surfaces.proofs.Common.{◌≡◌, ◌*◌, flat_map, range_with_len}
 use Rattle.surf_tori.specs.Torus.{cell_faces}
 use Rattle.surf_gen.proofs.tori.torus.Given as goal
 

@@ -1,7 +1,4 @@
-use Rattle.std.proofs.Common.{◌≡◌, ℕ, List, Ok, Err, ap, sym, ◌∙◌, arith}
-use Rattle.std.proofs.lemmas.Result.{err_from_is_err_and}
-use Rattle.surf_surfaces.specs.Mesh.{edges}
-use Rattle.surf_surfaces.specs.Surface.{ends}
+use Rattle.surf_surfaces.proofs.Common.{◌≡◌, ℕ, List, Ok, Err, ap, sym, ◌∙◌, arith, err_from_is_err_and, edges, ends}
 use Rattle.surf_surfaces.proofs.CellLaws.{surfaces_are_cells}
 use Rattle.surf_geom.specs.Measures.{length_of}
 use Rattle.surf_geom.proofs.EachLaws.{each_none, each_more, each_stop, each_done, each_length}

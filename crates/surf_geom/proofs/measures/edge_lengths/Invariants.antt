@@ -1,5 +1,4 @@
-use Rattle.std.proofs.Common.{◌≡◌, take, Ok}
-use Rattle.surf_surfaces.specs.Mesh.{edges}
+use Rattle.surf_surfaces.proofs.Common.{◌≡◌, take, Ok, edges}
 use Rattle.surf_geom.specs.Lists.{each}
 use Rattle.surf_geom.specs.Measures.{length_of}
 use Rattle.surf_geom.proofs.measures.edge_lengths.Given as goal

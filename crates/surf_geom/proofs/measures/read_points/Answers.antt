@@ -1,7 +1,5 @@
 use Rattle.std.proofs.Common.{◌≡◌, ℕ, ◌<◌, List, [], length, get_or, Ok, ap, sym, ◌∙◌, zero-add, arith}
-use Rattle.std.specs.List.{range_with_len}
-use Rattle.std.proofs.lemmas.Result.{err_from_is_err_and}
-use Rattle.std.proofs.lemmas.List.FromFn.{get_or-range_with_len, length-range_with_len}
+use Rattle.surf_surfaces.proofs.Common.{range_with_len, err_from_is_err_and, get_or-range_with_len, length-range_with_len}
 use Rattle.surf_text.specs.Text.{tokens_of}
 use Rattle.surf_geom.specs.declared.points.Point.{Point}
 use Rattle.surf_geom.specs.Points.{point_of, point_in}

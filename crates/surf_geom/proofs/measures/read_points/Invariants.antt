@@ -1,5 +1,4 @@
-use Rattle.std.proofs.Common.{◌≡◌, take, length, Ok}
-use Rattle.std.specs.List.{range_with_len}
+use Rattle.surf_surfaces.proofs.Common.{◌≡◌, take, length, Ok, range_with_len}
 use Rattle.surf_geom.specs.Lists.{each}
 use Rattle.surf_geom.specs.Points.{point_in}
 use Rattle.surf_geom.proofs.measures.read_points.Given as goal

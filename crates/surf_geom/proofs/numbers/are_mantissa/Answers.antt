@@ -1,7 +1,5 @@
-use Rattle.std.proofs.Common.{sym, ap, ◌∙◌}
-use Rattle.std.specs.Prelude.{◌&&◌}
+use Rattle.surf_surfaces.proofs.Common.{sym, ap, ◌∙◌, ◌&&◌, list_all}
 use Rattle.std.specs.Char.{is_ascii_digit}
-use Rattle.std.specs.List.{list_all}
 use Rattle.surf_geom.proofs.DigitLaws.{some_front}
 use Rattle.surf_geom.proofs.numbers.are_mantissa.Goals as goal
 

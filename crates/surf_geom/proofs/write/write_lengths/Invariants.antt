@@ -1,6 +1,4 @@
-use Rattle.std.proofs.Common.{take, Ok}
-use Rattle.std.specs.List.{zip}
-use Rattle.surf_surfaces.specs.Mesh.{edges}
+use Rattle.surf_surfaces.proofs.Common.{take, Ok, zip, edges}
 use Rattle.surf_text.specs.Pages.{Puts}
 use Rattle.surf_geom.specs.Texts.{entries_text}
 use Rattle.surf_geom.proofs.write.write_lengths.Given as goal

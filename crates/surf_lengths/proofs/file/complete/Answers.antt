@@ -1,8 +1,7 @@
-use Rattle.std.proofs.Common.{◌≡◌, ◌≢◌, ◌≤◌, eqb, ℕ, List, Option, Ok, Err, Result, All, sym, ap, subst, ◌∙◌, arith}
+use Rattle.surf_surfaces.proofs.Common.{◌≡◌, ◌≢◌, ◌≤◌, eqb, ℕ, List, Option, Ok, Err, Result, All, sym, ap, subst, ◌∙◌, arith, ends}
 use Rattle.surf_text.proofs.Cuts.{found_is}
 use Rattle.surf_lengths.specs.Files.{all_named, missing_edge, when_read}
 use Rattle.surf_lengths.specs.Naming.{IsTableOf}
-use Rattle.surf_surfaces.specs.Surface.{ends}
 use Rattle.surf_lengths.specs.declared.fault.LengthFault.{LengthFault}
 use Rattle.surf_lengths.specs.declared.fault.LengthFault.TheVariants.{Missing}
 use Rattle.surf_lengths.proofs.Naming.{complete_some, filled_some, missing_none, complete_none, some_none}

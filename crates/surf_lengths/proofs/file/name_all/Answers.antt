@@ -1,11 +1,8 @@
-use Rattle.std.proofs.Common.{◌≡◌, ◌≢◌, ◌<◌, ◌≤◌, ℕ, List, [], Option, Result, Ok, Err, get_or, length, sym, ap, ◌∙◌}
+use Rattle.surf_surfaces.proofs.Common.{◌≡◌, ◌≢◌, ◌<◌, ◌≤◌, ℕ, List, [], Option, Result, Ok, Err, get_or, length, sym, ap, ◌∙◌, err_from_is_err_and, Mesh, edge_count}
 use Rattle.std.specs.List.{fold}
-use Rattle.std.proofs.lemmas.Result.{err_from_is_err_and}
 use Rattle.std.proofs.Math.ListN.{length-set, length-replicate}
 use Rattle.surf_text.specs.Text.{TextLine, lines_of}
 use Rattle.surf_text.specs.Walks.{lines_ahead}
-use Rattle.surf_surfaces.specs.Mesh.{Mesh}
-use Rattle.surf_surfaces.specs.Surface.{edge_count}
 use Rattle.surf_lengths.specs.Files.{Head, length_head, name_line, none_named}
 use Rattle.surf_lengths.specs.Naming.{IsFirstNaming}
 use Rattle.surf_lengths.specs.declared.fault.LengthFault.{LengthFault}

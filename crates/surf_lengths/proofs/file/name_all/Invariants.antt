@@ -1,6 +1,5 @@
-use Rattle.std.proofs.Common.{◌≡◌, ℕ, Option, length}
+use Rattle.surf_surfaces.proofs.Common.{◌≡◌, ℕ, Option, length, edge_count}
 use Rattle.surf_text.specs.Walks.{lines_ahead}
-use Rattle.surf_surfaces.specs.Surface.{edge_count}
 use Rattle.surf_lengths.proofs.Naming.{IsSoFar}
 use Rattle.surf_lengths.proofs.file.name_all.Given as goal
 

@@ -1,5 +1,4 @@
-use Rattle.std.proofs.Common.{arith, ◌+◌, drop}
-use Rattle.std.specs.List.{slice_split}
+use Rattle.surf_surfaces.proofs.Common.{arith, ◌+◌, drop, slice_split}
 use Rattle.surf_text.specs.Text.{is_line_end}
 use Rattle.surf_text.specs.Walks.{lines_ahead, placed_line}
 use Rattle.surf_lengths.proofs.Naming.{numbered_more}

@@ -1,5 +1,4 @@
-use Rattle.std.proofs.Common.{◌≡◌, map}
-use Rattle.std.specs.List.{range_with_len}
+use Rattle.surf_surfaces.proofs.Common.{◌≡◌, map, range_with_len}
 use Rattle.surf_cotree.specs.Tables.{cotree_of}
 use Rattle.surf_validity.specs.Chosen.{side_in}
 use Rattle.surf_loops.proofs.cert.dual_rows.Given as goal

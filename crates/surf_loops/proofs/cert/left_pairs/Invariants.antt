@@ -1,5 +1,4 @@
-use Rattle.std.proofs.Common.{◌≡◌, map, take}
-use Rattle.surf_surfaces.specs.Surface.{ends}
+use Rattle.surf_surfaces.proofs.Common.{◌≡◌, map, take, ends}
 use Rattle.surf_loops.proofs.cert.left_pairs.Given as goal
 
 -- the pairs of the edges so far

@@ -1,5 +1,4 @@
-use Rattle.std.proofs.Common.{◌≡◌, ◌<◌, ◌++◌, ◌∷◌, slice_index}
-use Rattle.surf_graphs.specs.Loops.{way_up}
+use Rattle.surf_surfaces.proofs.Common.{◌≡◌, ◌<◌, ◌++◌, ◌∷◌, slice_index, way_up}
 use Rattle.surf_tree.specs.Tables.{tree_of}
 use Rattle.surf_loops.proofs.ways.push_way.Given as goal
 

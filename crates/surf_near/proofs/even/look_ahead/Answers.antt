@@ -1,5 +1,4 @@
-use Rattle.std.proofs.Common.{◌≡◌, ◌≢◌, ◌<◌, ◌+◌, ◌∙◌, ℕ, length, min, get_or, set, get_or-set_other, arith, map, ap, sym, subst, inl, inr, refl}
-use Rattle.std.proofs.lemmas.List.{length-map}
+use Rattle.surf_surfaces.proofs.Common.{◌≡◌, ◌≢◌, ◌<◌, ◌+◌, ◌∙◌, ℕ, length, min, get_or, set, get_or-set_other, arith, map, ap, sym, subst, inl, inr, refl, length-map}
 use Rattle.surf_base.specs.Tables.{at}
 use Rattle.surf_near.specs.declared.tables.Tables.{Tables}
 use Rattle.surf_near.specs.Near.{never}

@@ -1,5 +1,4 @@
-use Rattle.std.proofs.Common.{◌≡◌, ◌∙◌, take, arith}
-use Rattle.std.proofs.lemmas.List.{take_all, length-map}
+use Rattle.surf_surfaces.proofs.Common.{◌≡◌, ◌∙◌, take, arith, take_all, length-map}
 use Rattle.surf_near.proofs.Linking.{link_over, links_over}
 use Rattle.surf_near.proofs.RowCounts.{row_length}
 use Rattle.surf_near.proofs.links.list_links.Goals as goal

@@ -1,6 +1,5 @@
-use Rattle.std.proofs.Common.{◌≡◌, ◌<◌, ◌∙◌, ℕ, List, length, arith, set, ap, sym, subst, None, get_or-set_same, eqb}
+use Rattle.surf_surfaces.proofs.Common.{◌≡◌, ◌<◌, ◌∙◌, ℕ, List, length, arith, set, ap, sym, subst, None, get_or-set_same, eqb, count_below}
 use Rattle.std.proofs.Math.ListN.{length-set}
-use Rattle.surf_z2.specs.Parity.{count_below}
 use Rattle.surf_base.specs.Tables.{at}
 use Rattle.surf_tree.proofs.Offering.{first_offer}
 use Rattle.surf_near.specs.Near.{never}

@@ -1,5 +1,4 @@
-use Rattle.std.proofs.Common.{◌≡◌, length, eqb}
-use Rattle.surf_z2.specs.Parity.{count_below}
+use Rattle.surf_surfaces.proofs.Common.{◌≡◌, length, eqb, count_below}
 use Rattle.surf_base.specs.Tables.{at}
 use Rattle.surf_near.specs.Links.{AreUpToOrPast, graph_of, weight_of}
 use Rattle.surf_near.specs.Near.{never}

@@ -1,6 +1,5 @@
 use Rattle.std.proofs.Common.{◌≡◌, ◌<◌, ◌+◌, ◌-◌, ℕ, List, ◌∷◌, ◌++◌, length, map, get_or, drop, sym, ◌∙◌, ap, length-append, codes, arith}
-use Rattle.std.specs.Prelude.{decimal}
-use Rattle.std.proofs.lemmas.List.{length-map, get_or-map}
+use Rattle.surf_surfaces.proofs.Common.{decimal, length-map, get_or-map}
 use Rattle.surf_off.specs.Written.{spaced_text}
 use Rattle.surf_off.proofs.ShortFaces.{number_short, number_before, size_short, spaced_before}
 use Rattle.surf_off.proofs.face.make_line.Goals as goal

@@ -1,7 +1,5 @@
-use Rattle.std.proofs.Common.{◌≤◌, ◌-◌, ℕ, List, length, drop, Ok, sym, ◌∙◌, ap, subst}
+use Rattle.surf_surfaces.proofs.Common.{◌≤◌, ◌-◌, ℕ, List, length, drop, Ok, sym, ◌∙◌, ap, subst, Option, IfSome, err_from_is_err_and}
 use Rattle.std.specs.Borrow.{Bor}
-use Rattle.std.specs.Prelude.{Option, IfSome}
-use Rattle.std.proofs.lemmas.Result.{err_from_is_err_and}
 use Rattle.surf_text.specs.Text.{trimmed, uncommented}
 use Rattle.surf_text.specs.Walks.{lines_ahead}
 use Rattle.surf_off.specs.Plain.{IsPlain, line_before}

@@ -1,5 +1,4 @@
-use Rattle.std.proofs.Common.{◌≡◌, ◌+◌, ◌-◌, ℕ, length, take, drop, ◌∙◌, ap, subst, arith}
-use Rattle.std.specs.List.{position_or_len}
+use Rattle.surf_surfaces.proofs.Common.{◌≡◌, ◌+◌, ◌-◌, ℕ, length, take, drop, ◌∙◌, ap, subst, arith, position_or_len}
 use Rattle.surf_text.specs.Text.{is_line_end, tokens_of, trimmed, uncommented, onto_lines}
 use Rattle.surf_text.specs.Walks.{lines_ahead, StandsAt}
 use Rattle.surf_off.proofs.Places.{behind_line, behind_place}

@@ -1,5 +1,4 @@
-use Rattle.std.proofs.Common.{◌≡◌, ◌≤◌, ◌<◌, ◌-◌, ℕ, true, length, get_or}
-use Rattle.std.specs.List.{sum_by}
+use Rattle.surf_surfaces.proofs.Common.{◌≡◌, ◌≤◌, ◌<◌, ◌-◌, ℕ, true, length, get_or, sum_by}
 use Rattle.surf_text.specs.Walks.{lines_ahead}
 use Rattle.surf_off.specs.Off.{faces_at}
 use Rattle.surf_off.proofs.FaceLines.{with_faces}

@@ -1,5 +1,4 @@
-use Rattle.std.proofs.Common.{take, Ok}
-use Rattle.std.specs.List.{range_with_len}
+use Rattle.surf_surfaces.proofs.Common.{take, Ok, range_with_len}
 use Rattle.surf_text.specs.Pages.{Puts}
 use Rattle.surf_off.specs.Written.{lines_text, points}
 use Rattle.surf_off.proofs.made.write_points.Given as goal

@@ -1,8 +1,4 @@
-use Rattle.std.proofs.Common.{◌≡◌, ◌^◌, arith, ℕ, List, ◌++◌, length, refl, sym, ◌∙◌}
-use Rattle.std.specs.List.{zip, range_with_len}
-use Rattle.std.proofs.lemmas.List.{length-map}
-use Rattle.std.proofs.lemmas.List.FromFn.{length-range_with_len}
-use Rattle.std.proofs.lemmas.Result.{err_from_is_err_and}
+use Rattle.surf_surfaces.proofs.Common.{◌≡◌, ◌^◌, arith, ℕ, List, ◌++◌, length, refl, sym, ◌∙◌, zip, range_with_len, length-map, length-range_with_len, err_from_is_err_and}
 use Rattle.surf_text.specs.Pages.{Puts}
 use Rattle.surf_text.proofs.Writing.{puts_more, puts_stop}
 use Rattle.surf_off.specs.declared.header.Header.TheVariants.{Off}

@@ -1,5 +1,4 @@
-use Rattle.std.proofs.Common.{◌≡◌, ℕ, true, List, Ok, ◌∙◌, ap, sym}
-use Rattle.surf_surfaces.specs.Mesh.{Mesh}
+use Rattle.surf_surfaces.proofs.Common.{◌≡◌, ℕ, true, List, Ok, ◌∙◌, ap, sym, Mesh}
 use Rattle.surf_text.specs.Text.{TextLine, lines_of}
 use Rattle.surf_text.specs.Walks.{PlacedWalk, lines_ahead}
 use Rattle.surf_off.specs.Off.{Head, head_of, counts_of, vertices_at, FaceLines, faces_at, OffParts, ended, off_in}

@@ -1,8 +1,4 @@
-use Rattle.std.proofs.Common.{◌≡◌, ◌<◌, ℕ, List, length, get_or, refl, sym, ◌∙◌, ap, subst, arith}
-use Rattle.std.specs.Prelude.{slice_index}
-use Rattle.std.specs.List.{range_with_len}
-use Rattle.std.proofs.lemmas.List.FromFn.{length-range_with_len, get_or-range_with_len}
-use Rattle.std.proofs.lemmas.Result.{err_from_is_err_and}
+use Rattle.surf_surfaces.proofs.Common.{◌≡◌, ◌<◌, ℕ, List, length, get_or, refl, sym, ◌∙◌, ap, subst, arith, slice_index, range_with_len, length-range_with_len, get_or-range_with_len, err_from_is_err_and}
 use Rattle.surf_text.specs.Pages.{Puts}
 use Rattle.surf_text.proofs.Writing.{loop_more, loop_stop, loop_done}
 use Rattle.surf_off.proofs.FaceRows.{other_default}

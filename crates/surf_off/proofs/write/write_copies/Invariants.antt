@@ -1,5 +1,4 @@
-use Rattle.std.proofs.Common.{length, take, Ok}
-use Rattle.std.specs.List.{range_with_len}
+use Rattle.surf_surfaces.proofs.Common.{length, take, Ok, range_with_len}
 use Rattle.surf_text.specs.Pages.{Puts}
 use Rattle.surf_off.specs.Written.{copies_text}
 use Rattle.surf_off.proofs.write.write_copies.Given as goal

@@ -1,5 +1,4 @@
-use Rattle.std.proofs.Common.{take, Ok}
-use Rattle.std.specs.List.{zip}
+use Rattle.surf_surfaces.proofs.Common.{take, Ok, zip}
 use Rattle.surf_text.specs.Pages.{Puts}
 use Rattle.surf_off.specs.Written.{faces_text, rows_at}
 use Rattle.surf_off.proofs.write.write_faces.Given as goal

@@ -1,5 +1,4 @@
-use Rattle.std.proofs.Common.{refl, codes}
-use Rattle.std.proofs.lemmas.Result.{err_from_is_err_and}
+use Rattle.surf_surfaces.proofs.Common.{refl, codes, err_from_is_err_and}
 use Rattle.surf_text.proofs.Writing.{puts_more, puts_stop}
 use Rattle.surf_off.proofs.write.write_line.Goals as goal
 

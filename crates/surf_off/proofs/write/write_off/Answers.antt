@@ -1,7 +1,4 @@
-use Rattle.std.proofs.Common.{◌^◌, ◌≡◌, ◌-◌, ℕ, List, Result, Ok, ◌++◌, length, refl, sym, ◌∙◌, ap, append_assoc, arith}
-use Rattle.std.proofs.lemmas.List.{length-map}
-use Rattle.std.specs.List.{zip, range_with_len}
-use Rattle.std.proofs.lemmas.Result.{err_from_is_err_and}
+use Rattle.surf_surfaces.proofs.Common.{◌^◌, ◌≡◌, ◌-◌, ℕ, List, Result, Ok, ◌++◌, length, refl, sym, ◌∙◌, ap, append_assoc, arith, length-map, zip, range_with_len, err_from_is_err_and}
 use Rattle.surf_text.specs.Pages.{PageState, Puts}
 use Rattle.surf_text.specs.declared.page.PageFault.{PageFault}
 use Rattle.surf_text.proofs.Writing.{puts_more, puts_stop}

@@ -1,5 +1,4 @@
-use Rattle.std.proofs.Common.{◌≡◌, ◌≤◌, ℕ, List, length, take, sym, ◌∙◌, subst}
-use Rattle.std.proofs.lemmas.List.{length-take-le}
+use Rattle.surf_surfaces.proofs.Common.{◌≡◌, ◌≤◌, ℕ, List, length, take, sym, ◌∙◌, subst, length-take-le}
 use Rattle.surf_off.specs.Places.{AreWithin}
 use Rattle.surf_run.proofs.reading.keep_front.Goals as goal
 

@@ -1,5 +1,4 @@
-use Rattle.std.proofs.Common.{Ok, sym, subst}
-use Rattle.std.specs.Prelude.{Option, IfSome}
+use Rattle.surf_surfaces.proofs.Common.{Ok, sym, subst, Option, IfSome}
 use Rattle.surf_base.specs.Outside.{Files}
 use Rattle.surf_run.specs.Reading.{Reads}
 use Rattle.surf_run.proofs.TextsAt.{mesh_taken, mesh_held}

@@ -1,8 +1,5 @@
-use Rattle.std.proofs.Common.{◌≡◌, ◌<◌, ◌^◌, All, List, min, slice_index, inl, inr, sym, ap, ◌∙◌, subst, arith}
-use Rattle.std.proofs.lemmas.Bool.{cases_eq}
-use Rattle.std.proofs.lemmas.Bool.Decides.{nat_tests}
+use Rattle.surf_surfaces.proofs.Common.{◌≡◌, ◌<◌, ◌^◌, All, List, min, slice_index, inl, inr, sym, ap, ◌∙◌, subst, arith, cases_eq, nat_tests, edge_count}
 use Rattle.std.proofs.lemmas.List.Elements.{All-push}
-use Rattle.surf_surfaces.specs.Surface.{edge_count}
 use Rattle.surf_choice.specs.Candidates.{IsSumOfLength}
 use Rattle.surf_search.specs.declared.caps.Ask.{Ask}
 use Rattle.surf_search.specs.Rounds.{IsAsked}

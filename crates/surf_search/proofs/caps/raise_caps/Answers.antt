@@ -1,6 +1,4 @@
-use Rattle.std.proofs.Common.{◌≡◌, ◌<◌, List, All, sym, ◌∙◌, subst, arith}
-use Rattle.std.proofs.lemmas.List.Sorted.{All-permutation}
-use Rattle.surf_surfaces.specs.Surface.{edge_count}
+use Rattle.surf_surfaces.proofs.Common.{◌≡◌, ◌<◌, List, All, sym, ◌∙◌, subst, arith, All-permutation, edge_count}
 use Rattle.surf_search.specs.declared.caps.Ask.{Ask}
 use Rattle.surf_search.specs.Rounds.{AreAsks, HasCappedEnd}
 use Rattle.surf_search.proofs.Capping.{asks_capped}

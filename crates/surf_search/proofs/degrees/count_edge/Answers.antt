@@ -1,5 +1,4 @@
-use Rattle.std.proofs.Common.{◌≡◌, ◌≢◌, slice_index, refl, sym, ◌∙◌, arith}
-use Rattle.std.proofs.lemmas.Bool.Decides.{nat_tests}
+use Rattle.surf_surfaces.proofs.Common.{◌≡◌, ◌≢◌, slice_index, refl, sym, ◌∙◌, arith, nat_tests}
 use Rattle.surf_search.proofs.Marked.{ends_inside}
 use Rattle.surf_surfaces.proofs.DegreeLaws.{degree_few, degrees_none}
 use Rattle.surf_search.specs.Marks.{is_signed}

@@ -1,7 +1,4 @@
-use Rattle.std.proofs.Common.{◌<◌, All, sym, subst}
-use Rattle.std.specs.Prelude.{IfOk}
-use Rattle.surf_surfaces.specs.Surface.{IsSurface}
-use Rattle.surf_surfaces.specs.Walk.{ArePositive}
+use Rattle.surf_surfaces.proofs.Common.{◌<◌, All, sym, subst, IfOk, IsSurface, ArePositive}
 use Rattle.surf_lengths.proofs.Positive.{lengths_positive}
 use Rattle.surf_search.specs.Found.{SurfaceTables, IsFirstAmong}
 use Rattle.surf_search.proofs.Signed.{signs_long}

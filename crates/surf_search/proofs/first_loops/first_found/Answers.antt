@@ -1,5 +1,4 @@
-use Rattle.std.proofs.Common.{◌<◌, List, ℕ, refl, sym, ◌∙◌, subst}
-use Rattle.std.proofs.lemmas.List.{take_all}
+use Rattle.surf_surfaces.proofs.Common.{◌<◌, List, ℕ, refl, sym, ◌∙◌, subst, take_all}
 use Rattle.surf_surfaces.proofs.FirstCycleLaws.{shortest_trees}
 use Rattle.surf_search.specs.Found.{SurfaceTables, IsFirstAmong, IsFirstAt}
 use Rattle.surf_search.proofs.FirstFound.{first_begun, first_next}

@@ -1,6 +1,4 @@
-use Rattle.std.proofs.Common.{ℕ, Bool, List, refl, sym, subst}
-use Rattle.std.specs.Prelude.{IsTrue}
-use Rattle.surf_graphs.specs.Trees.{Tree}
+use Rattle.surf_surfaces.proofs.Common.{ℕ, Bool, List, refl, sym, subst, IsTrue, Tree}
 use Rattle.surf_surfaces.proofs.FirstCycleLaws.{shortest_trees}
 use Rattle.surf_surfaces.specs.FewBases.{with_vertex}
 use Rattle.surf_search.specs.Found.{IsFirstAt, IsFirstOf}

@@ -1,5 +1,4 @@
-use Rattle.std.proofs.Common.{◌<◌, ◌^◌}
-use Rattle.std.proofs.lemmas.List.Sorted.{All-permutation}
+use Rattle.surf_surfaces.proofs.Common.{◌<◌, ◌^◌, All-permutation}
 use Rattle.surf_search.proofs.kept_loops.keep_loops.Goals as goal
 
 pub keep-requires : goal.keep-requires

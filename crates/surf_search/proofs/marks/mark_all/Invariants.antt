@@ -1,5 +1,4 @@
-use Rattle.std.proofs.Common.{◌≡◌, ◌⊎◌, ℕ, ◌<◌, Contains, length}
-use Rattle.std.specs.Prelude.{IsTrue, slice_index}
+use Rattle.surf_surfaces.proofs.Common.{◌≡◌, ◌⊎◌, ℕ, ◌<◌, Contains, length, IsTrue, slice_index}
 use Rattle.surf_firsts.specs.Near.{AgreeOff}
 use Rattle.surf_search.specs.Passing.{is_marked, AreShut}
 use Rattle.surf_search.proofs.marks.mark_all.Given as goal

@@ -1,5 +1,4 @@
-use Rattle.std.proofs.Common.{◌<◌, All, sym, subst, arith}
-use Rattle.surf_surfaces.specs.Homology.{IsLoopCount}
+use Rattle.surf_surfaces.proofs.Common.{◌<◌, All, sym, subst, arith, IsLoopCount}
 use Rattle.surf_search.specs.Found.{SurfaceTables}
 use Rattle.surf_search.specs.Places.{HavePlacesOfBasis}
 use Rattle.surf_search.specs.Rounds.{AreCapped}

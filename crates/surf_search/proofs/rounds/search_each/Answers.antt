@@ -1,6 +1,4 @@
-use Rattle.std.proofs.Common.{◌≡◌, get_or, refl, sym, ap, ◌∙◌, subst, arith, inl, inr}
-use Rattle.std.proofs.lemmas.Bool.{cases_lt}
-use Rattle.std.proofs.lemmas.List.{get_or_default}
+use Rattle.surf_surfaces.proofs.Common.{◌≡◌, get_or, refl, sym, ap, ◌∙◌, subst, arith, inl, inr, cases_lt, get_or_default}
 use Rattle.surf_search.specs.Found.{SurfaceTables}
 use Rattle.surf_search.specs.Rounds.{AreKeptUpTo, cap_at}
 use Rattle.surf_search.proofs.Capping.{no_less_on, same_no_less}

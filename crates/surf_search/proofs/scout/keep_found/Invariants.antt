@@ -1,5 +1,4 @@
-use Rattle.std.proofs.Common.{◌≡◌, ◌<◌, ℕ, length}
-use Rattle.std.specs.Prelude.{IsTrue, slice_index}
+use Rattle.surf_surfaces.proofs.Common.{◌≡◌, ◌<◌, ℕ, length, IsTrue, slice_index}
 use Rattle.surf_search.specs.Passing.{is_marked, AreKeptIn, IsAhead}
 use Rattle.surf_search.proofs.scout.keep_found.Given as goal
 

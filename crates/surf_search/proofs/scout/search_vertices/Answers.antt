@@ -1,5 +1,4 @@
-use Rattle.std.proofs.Common.{sym, subst}
-use Rattle.surf_surfaces.specs.Homology.{IsLoopCount}
+use Rattle.surf_surfaces.proofs.Common.{sym, subst, IsLoopCount}
 use Rattle.surf_lengths.proofs.Positive.{lengths_positive}
 use Rattle.surf_search.specs.Found.{SurfaceTables, AreKeptFrom}
 use Rattle.surf_search.proofs.Signed.{signs_long}

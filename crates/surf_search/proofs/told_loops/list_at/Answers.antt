@@ -1,7 +1,4 @@
-use Rattle.std.proofs.Common.{◌≡◌, ◌∙◌, true, ap, sym, refl, subst, arith}
-use Rattle.std.proofs.lemmas.List.{get_or_default}
-use Rattle.surf_surfaces.specs.Mesh.{Mesh}
-use Rattle.surf_surfaces.specs.Surface.{ends}
+use Rattle.surf_surfaces.proofs.Common.{◌≡◌, ◌∙◌, true, ap, sym, refl, subst, arith, get_or_default, Mesh, ends}
 use Rattle.surf_near.specs.declared.links.Link.{Link}
 use Rattle.surf_near.specs.Links.{AreLinksAt, link_in}
 use Rattle.surf_near.proofs.Linking.{item_there}

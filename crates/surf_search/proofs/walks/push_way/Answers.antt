@@ -1,6 +1,5 @@
 use Rattle.std.proofs.Common.{◌≡◌, ◌≢◌, ◌∷◌, ◌++◌, List, ℕ, refl, sym, ap, ◌∙◌, arith, append-nil}
-use Rattle.std.proofs.lemmas.Bool.Decides.{nat_tests}
-use Rattle.surf_graphs.specs.Loops.{way_up}
+use Rattle.surf_surfaces.proofs.Common.{nat_tests, way_up}
 use Rattle.surf_graphs.proofs.Turned.{way_goes_on}
 use Rattle.surf_search.proofs.Walked.{IsUp, up_near, up_done}
 use Rattle.surf_search.proofs.Told.{links_positive}

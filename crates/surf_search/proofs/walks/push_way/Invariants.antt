@@ -1,7 +1,4 @@
-use Rattle.std.proofs.Common.{◌≡◌, ◌<◌, true, ◌∷◌, ◌++◌, slice_index}
-use Rattle.surf_graphs.specs.Loops.{way_up}
-use Rattle.surf_graphs.specs.Trees.{Tree}
-use Rattle.surf_surfaces.specs.ShortestTree.{IsShortestTree}
+use Rattle.surf_surfaces.proofs.Common.{◌≡◌, ◌<◌, true, ◌∷◌, ◌++◌, slice_index, way_up, Tree, IsShortestTree}
 use Rattle.surf_near.specs.Near.{is_near}
 use Rattle.surf_search.proofs.walks.push_way.Given as goal
 

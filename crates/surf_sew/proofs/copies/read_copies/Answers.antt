@@ -1,7 +1,4 @@
-use Rattle.std.proofs.Common.{◌≡◌, ◌+◌, ℕ, List, [], ◌∷◌, ◌++◌, length, Some, None, Ok, Err, sym, ◌∙◌, ap, arith, cond}
-use Rattle.std.specs.Prelude.{◌==◌, true, false, Bool}
-use Rattle.std.proofs.lemmas.Bool.{eq-eqb, ne_eqb}
-use Rattle.std.proofs.lemmas.List.{length_push}
+use Rattle.surf_surfaces.proofs.Common.{◌≡◌, ◌+◌, ℕ, List, [], ◌∷◌, ◌++◌, length, Some, None, Ok, Err, sym, ◌∙◌, ap, arith, cond, ◌==◌, true, false, Bool, eq-eqb, ne_eqb, length_push}
 use Rattle.std.proofs.lemmas.List.Splits.{length-slice_split}
 use Rattle.std.proofs.lemmas.List.Sums.{count_by-le-length}
 use Rattle.surf_text.specs.Text.{is_line_end, words_of}

@@ -1,8 +1,4 @@
-use Rattle.std.proofs.Common.{◌≡◌, ℕ, List, [], length, get_or, not, sym, ◌∙◌, ap, arith, inl, inr}
-use Rattle.std.specs.Prelude.{slice_index_or}
-use Rattle.std.specs.Str.{bytes_eq}
-use Rattle.std.proofs.lemmas.Bool.{cases_lt}
-use Rattle.std.proofs.lemmas.List.FromFn.{length-map-range_with_len}
+use Rattle.surf_surfaces.proofs.Common.{◌≡◌, ℕ, List, [], length, get_or, not, sym, ◌∙◌, ap, arith, inl, inr, slice_index_or, bytes_eq, cases_lt, length-map-range_with_len}
 use Rattle.surf_off.proofs.FaceRows.{other_default}
 use Rattle.surf_sew.specs.Sewing.{first_copy, first_like}
 use Rattle.surf_sew.proofs.Gaps.{entry}

@@ -1,6 +1,4 @@
-use Rattle.std.proofs.Common.{ℕ, sym, ◌∙◌, ap, subst, arith}
-use Rattle.std.specs.Prelude.{nat_lt}
-use Rattle.std.specs.List.{list_all}
+use Rattle.surf_surfaces.proofs.Common.{ℕ, sym, ◌∙◌, ap, subst, arith, nat_lt, list_all}
 use Rattle.surf_sew.specs.Sewing.{HaveCopies}
 use Rattle.surf_sew.proofs.Gaps.{gap_few, gap_have, all_sewn, not_sewn, no_gap}
 use Rattle.surf_sew.proofs.sewing.count_origins.Goals as goal

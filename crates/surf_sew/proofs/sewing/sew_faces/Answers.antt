@@ -1,8 +1,6 @@
-use Rattle.std.proofs.Common.{◌≡◌, ◌<◌, ◌≤◌, ◌+◌, ℕ, List, [], ◌∷◌, ◌++◌, Option, Some, None, Ok, Err, length, get_or, take, drop, sym, ◌∙◌, ap, subst, arith}
+use Rattle.surf_surfaces.proofs.Common.{◌≡◌, ◌<◌, ◌≤◌, ◌+◌, ℕ, List, [], ◌∷◌, ◌++◌, Option, Some, None, Ok, Err, length, get_or, take, drop, sym, ◌∙◌, ap, subst, arith, length-map, get_or-map, take_more, take_all, Mesh, IsFace}
 use Rattle.std.specs.Prelude.{◌≢◌, AllPairs, IfNone}
-use Rattle.std.proofs.lemmas.List.{length-map, get_or-map, take_more, take_all}
 use Rattle.std.proofs.lemmas.List.Sums.{sum_by_more_le}
-use Rattle.surf_surfaces.specs.Mesh.{Mesh, IsFace}
 use Rattle.surf_off.specs.Off.{first_repeat}
 use Rattle.surf_off.proofs.Marks.{written_back}
 use Rattle.surf_sew.specs.declared.fault.SewFault.{SewFault}

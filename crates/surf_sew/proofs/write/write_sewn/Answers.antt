@@ -1,8 +1,4 @@
-use Rattle.std.proofs.Common.{◌^◌, ℕ, List, ◌++◌, length, refl, subst, arith}
-use Rattle.std.specs.List.{zip}
-use Rattle.std.proofs.lemmas.Result.{err_from_is_err_and}
-use Rattle.surf_surfaces.specs.Mesh.{Mesh}
-use Rattle.surf_surfaces.specs.Surface.{edge_count}
+use Rattle.surf_surfaces.proofs.Common.{◌^◌, ℕ, List, ◌++◌, length, refl, subst, arith, zip, err_from_is_err_and, Mesh, edge_count}
 use Rattle.surf_text.specs.Pages.{Puts}
 use Rattle.surf_text.proofs.Writing.{puts_more, puts_stop}
 use Rattle.surf_off.specs.Off.{OffParts}

@@ -1,6 +1,4 @@
-use Rattle.std.proofs.Common.{◌<◌, ◌≡◌, ◌∙◌, ℕ, ap, subst, sym}
-use Rattle.surf_graphs.specs.Cells.{dual}
-use Rattle.surf_surfaces.specs.Cells.{cells_of}
+use Rattle.surf_surfaces.proofs.Common.{◌<◌, ◌≡◌, ◌∙◌, ℕ, ap, subst, sym, dual, cells_of}
 use Rattle.surf_surfaces.proofs.CellLaws.{surfaces_are_cells}
 use Rattle.surf_signatures.proofs.signing.faces_beside.Goals as goal
 

@@ -1,6 +1,5 @@
-use Rattle.std.proofs.Common.{◌≡◌, ◌<◌, ◌^◌, ◌%◌, ◌*◌, ◌&&◌, eqb, set, bit_xor, subst, arith}
+use Rattle.surf_surfaces.proofs.Common.{◌≡◌, ◌<◌, ◌^◌, ◌%◌, ◌*◌, ◌&&◌, eqb, set, bit_xor, subst, arith, xor}
 use Rattle.std.proofs.lemmas.Nat.{pow_below}
-use Rattle.surf_z2.specs.Parity.{xor}
 use Rattle.surf_base.specs.Tables.{at}
 use Rattle.surf_signatures.specs.Signs.{cell, sign_bit}
 use Rattle.surf_signatures.proofs.Toggling.{toggled}

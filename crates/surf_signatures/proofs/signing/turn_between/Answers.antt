@@ -1,9 +1,4 @@
-use Rattle.std.proofs.Common.{◌≡◌, ◌≢◌, ◌<◌, ◌∙◌, ◌&&◌, eqb, ap, sym, inl, inr}
-use Rattle.surf_z2.specs.Parity.{xor}
-use Rattle.surf_graphs.specs.Cells.{dual}
-use Rattle.surf_graphs.specs.Growth.{between}
-use Rattle.surf_graphs.specs.Trees.{IsTree}
-use Rattle.surf_surfaces.specs.Cells.{cells_of}
+use Rattle.surf_surfaces.proofs.Common.{◌≡◌, ◌≢◌, ◌<◌, ◌∙◌, ◌&&◌, eqb, ap, sym, inl, inr, xor, dual, between, IsTree, cells_of}
 use Rattle.surf_signatures.specs.Signs.{sign_bit}
 use Rattle.surf_signatures.specs.Tables.{face_tree}
 use Rattle.surf_signatures.proofs.Meeting.{climbed, either_first, none_between}

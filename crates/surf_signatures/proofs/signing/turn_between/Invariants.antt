@@ -1,7 +1,4 @@
-use Rattle.std.proofs.Common.{◌≡◌, ◌<◌, ◌+◌, ◌*◌, ◌&&◌, ℕ, eqb}
-use Rattle.surf_z2.specs.Parity.{xor}
-use Rattle.surf_graphs.specs.Growth.{between}
-use Rattle.surf_surfaces.specs.Surface.{face_count}
+use Rattle.surf_surfaces.proofs.Common.{◌≡◌, ◌<◌, ◌+◌, ◌*◌, ◌&&◌, ℕ, eqb, xor, between, face_count}
 use Rattle.surf_base.specs.Tables.{at}
 use Rattle.surf_signatures.specs.Signs.{sign_bit}
 use Rattle.surf_signatures.specs.Tables.{face_tree}

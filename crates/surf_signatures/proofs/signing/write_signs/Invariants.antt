@@ -1,6 +1,4 @@
-use Rattle.std.proofs.Common.{◌≡◌, ◌<◌, ◌*◌, ◌&&◌, ℕ, ltb}
-use Rattle.surf_graphs.specs.Cells.{dual}
-use Rattle.surf_surfaces.specs.Cells.{cells_of}
+use Rattle.surf_surfaces.proofs.Common.{◌≡◌, ◌<◌, ◌*◌, ◌&&◌, ℕ, ltb, dual, cells_of}
 use Rattle.surf_base.specs.Tables.{at}
 use Rattle.surf_signatures.specs.Signs.{sign_bit, has_left}
 use Rattle.surf_signatures.specs.Tables.{face_tree}

@@ -1,6 +1,4 @@
-use Rattle.std.proofs.Common.{◌≡◌, ◌+◌, ◌*◌, ◌-◌, bit_xor, ap, sym, ◌∙◌, length, drop, take, true, arith}
-use Rattle.surf_z2.specs.Sieve.{has}
-use Rattle.surf_z2.specs.Words.{number}
+use Rattle.surf_surfaces.proofs.Common.{◌≡◌, ◌+◌, ◌*◌, ◌-◌, bit_xor, ap, sym, ◌∙◌, length, drop, take, true, arith, has, number}
 use Rattle.surf_signatures.specs.Tables.{row_of}
 use Rattle.surf_signatures.proofs.Rewritten.{put_added}
 use Rattle.surf_signatures.proofs.signs.add_at.Goals as goal

@@ -1,10 +1,8 @@
-use Rattle.std.proofs.Common.{◌≡◌, ◌+◌, ◌*◌, ◌-◌, ◌∙◌, bit_xor, refl, ap, length, arith}
+use Rattle.surf_surfaces.proofs.Common.{◌≡◌, ◌+◌, ◌*◌, ◌-◌, ◌∙◌, bit_xor, refl, ap, length, arith, number, ℕ}
 use Rattle.std.specs.Int.Bits.{xor_zero_l}
-use Rattle.surf_z2.specs.Words.{number}
 use Rattle.surf_z2.proofs.Words.{number_zero}
 use Rattle.surf_signatures.proofs.Rewritten.{row_put}
 use Rattle.surf_signatures.proofs.vertex_sets.put_at.Goals as goal
-use Rattle.std.proofs.Common.{ℕ}
 
 pub returns-clause-put : goal.returns-clause-put
 returns-clause-put c v =

@@ -1,5 +1,4 @@
-use Rattle.std.proofs.Common.{◌≡◌}
-use Rattle.surf_z2.specs.Parity.{count_below}
+use Rattle.surf_surfaces.proofs.Common.{◌≡◌, count_below}
 use Rattle.surf_slit.specs.Place.{cut_behind}
 use Rattle.surf_slit.proofs.labelling.count_cut.Given as goal
 

@@ -1,5 +1,4 @@
-use Rattle.std.proofs.Common.{◌≡◌, ◌<◌, length, get_or, ◌∙◌, arith}
-use Rattle.std.proofs.lemmas.List.{get_or_default}
+use Rattle.surf_surfaces.proofs.Common.{◌≡◌, ◌<◌, length, get_or, ◌∙◌, arith, get_or_default}
 use Rattle.surf_slit.specs.Place.{cut_behind}
 use Rattle.surf_z2.proofs.Counting.{count_few}
 use Rattle.surf_slit.proofs.labelling.label_runs.Goals as goal

@@ -1,5 +1,4 @@
-use Rattle.std.proofs.Common.{◌≡◌, ◌≢◌, ℕ, ◌+◌, ◌<◌, length, get_or}
-use Rattle.surf_z2.specs.Parity.{count_below}
+use Rattle.surf_surfaces.proofs.Common.{◌≡◌, ◌≢◌, ℕ, ◌+◌, ◌<◌, length, get_or, count_below}
 use Rattle.surf_slit.specs.Link.{run_of}
 use Rattle.surf_slit.specs.Place.{cut_behind}
 use Rattle.surf_slit.proofs.labelling.label_runs.Given as goal

@@ -1,5 +1,4 @@
-use Rattle.std.proofs.Common.{◌≡◌, max, length, arith}
-use Rattle.surf_z2.specs.Parity.{count_below}
+use Rattle.surf_surfaces.proofs.Common.{◌≡◌, max, length, arith, count_below}
 use Rattle.surf_slit.specs.Place.{cut_behind}
 use Rattle.surf_z2.proofs.Counting.{count_few}
 use Rattle.surf_slit.proofs.VertexLabels.{ring_few, labelled}

@@ -1,8 +1,4 @@
-use Rattle.std.proofs.Common.{◌≡◌, ◌<◌, ℕ, List, get_or, length, subst, ap, ◌∙◌, arith}
-use Rattle.std.proofs.lemmas.List.{get_or_read}
-use Rattle.surf_surfaces.specs.Mesh.{Mesh}
-use Rattle.surf_surfaces.specs.Surface.{face_count}
-use Rattle.surf_surfaces.specs.SideNumber.{side_count, owners}
+use Rattle.surf_surfaces.proofs.Common.{◌≡◌, ◌<◌, ℕ, List, get_or, length, subst, ap, ◌∙◌, arith, get_or_read, Mesh, face_count, side_count, owners}
 use Rattle.surf_soup.specs.Forest.{HasRoots, merged}
 use Rattle.surf_soup.specs.Half.{AreAllMates}
 use Rattle.surf_soup.proofs.Owners.{length-owners}

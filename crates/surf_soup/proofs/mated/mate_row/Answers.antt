@@ -1,7 +1,4 @@
-use Rattle.std.proofs.Common.{◌≡◌, ◌+◌, ◌*◌, ◌/◌, ◌%◌, ◌∷◌, ◌++◌, [], ℕ, Some, true, get_or, length, set, take}
-use Rattle.std.proofs.Common.{sym, refl, arith, inl, inr}
-use Rattle.std.specs.List.{sum_by}
-use Rattle.std.proofs.lemmas.Bool.{cases_eq, eq-eqb, ne_eqb, true≢false}
+use Rattle.surf_surfaces.proofs.Common.{◌≡◌, ◌+◌, ◌*◌, ◌/◌, ◌%◌, ◌∷◌, ◌++◌, [], ℕ, Some, true, get_or, length, set, take, sym, refl, arith, inl, inr, sum_by, cases_eq, eq-eqb, ne_eqb, true≢false}
 use Rattle.surf_soup.specs.Pairing.{AreMatedUpto}
 use Rattle.surf_soup.proofs.MatedSteps.{ends_with_push, greater_push}
 use Rattle.surf_soup.proofs.PairFails.{first_inside, high_inside, second_inside, pairs_next, pair_differs, pair_crowded, row_paired, row_odd, differ_told, same_told}

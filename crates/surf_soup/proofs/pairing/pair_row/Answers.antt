@@ -1,5 +1,4 @@
-use Rattle.std.proofs.Common.{◌≡◌, ◌*◌, ◌/◌, ◌%◌, ℕ, List, get_or, length, subst, sym, refl, arith, inl, inr}
-use Rattle.std.proofs.lemmas.Bool.{cases_eq, eq-eqb, ne_eqb, true≢false}
+use Rattle.surf_surfaces.proofs.Common.{◌≡◌, ◌*◌, ◌/◌, ◌%◌, ℕ, List, get_or, length, subst, sym, refl, arith, inl, inr, cases_eq, eq-eqb, ne_eqb, true≢false}
 use Rattle.surf_soup.specs.Order.{IsLast}
 use Rattle.surf_soup.proofs.PairFails.{first_inside, second_inside, edges_below, pairs_next, pair_differs, pair_crowded, row_paired, row_odd, differ_told, same_told}
 use Rattle.surf_soup.proofs.pairing.pair_row.Goals as goal

@@ -1,5 +1,4 @@
-use Rattle.std.proofs.Common.{length, take}
-use Rattle.std.specs.List.{sum_by}
+use Rattle.surf_surfaces.proofs.Common.{length, take, sum_by}
 use Rattle.surf_soup.specs.Pairing.{ArePairedUpto}
 use Rattle.surf_soup.proofs.pairing.pair_rows.Given as goal
 

@@ -1,6 +1,4 @@
-use Rattle.std.proofs.Common.{◌≡◌, ℕ, List, [], get_or, length, sym, ap, subst, ◌∙◌, arith}
-use Rattle.std.proofs.lemmas.List.{get_or_read}
-use Rattle.surf_surfaces.specs.Surface.{ends}
+use Rattle.surf_surfaces.proofs.Common.{◌≡◌, ℕ, List, [], get_or, length, sym, ap, subst, ◌∙◌, arith, get_or_read, ends}
 use Rattle.surf_soup.specs.Pairs.{IsLeastBorder}
 use Rattle.surf_soup.proofs.Owners.{length-owners}
 use Rattle.surf_soup.proofs.Paired.{rows_len, row_side, least_border}

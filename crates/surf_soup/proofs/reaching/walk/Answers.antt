@@ -1,5 +1,4 @@
-use Rattle.std.proofs.Common.{◌≡◌, ◌<◌, ◌++◌, ◌∷◌, [], List, ℕ, get_or, length, ap, ◌∙◌, arith}
-use Rattle.std.proofs.lemmas.List.{get_or_read}
+use Rattle.surf_surfaces.proofs.Common.{◌≡◌, ◌<◌, ◌++◌, ◌∷◌, [], List, ℕ, get_or, length, ap, ◌∙◌, arith, get_or_read}
 use Rattle.surf_soup.proofs.ReachSteps.{marked-inside, reach_first, reach_next, reach_end}
 use Rattle.surf_soup.proofs.reaching.walk.Goals as goal
 

@@ -1,5 +1,4 @@
-use Rattle.std.proofs.Common.{◌≡◌, ◌∷◌, ◌++◌, [], true, arith, rules, set, get_or, ap, ◌∙◌, sym}
-use Rattle.std.proofs.lemmas.List.{get_or_read}
+use Rattle.surf_surfaces.proofs.Common.{◌≡◌, ◌∷◌, ◌++◌, [], true, arith, rules, set, get_or, ap, ◌∙◌, sym, get_or_read}
 use Rattle.surf_soup.specs.Reach.{marked, unmarked}
 use Rattle.surf_soup.proofs.RoundSteps.{marks_one}
 use Rattle.surf_soup.proofs.RoundMarks.{listed_start, listed_side, listed_at, listed_more, listed_end}

@@ -1,6 +1,4 @@
-use Rattle.std.proofs.Common.{◌≡◌, ◌<◌, ℕ, List, length, get_or, sym, ap, subst, ◌∙◌, arith}
-use Rattle.std.proofs.lemmas.Bool.{eqb-true}
-use Rattle.surf_surfaces.specs.SideNumber.{side_count}
+use Rattle.surf_surfaces.proofs.Common.{◌≡◌, ◌<◌, ℕ, List, length, get_or, sym, ap, subst, ◌∙◌, arith, eqb-true, side_count}
 use Rattle.surf_soup.proofs.VertexLaws.{corners_len, corners_below}
 use Rattle.surf_soup.proofs.LeftSides.{IsLeftUpto, left_none}
 use Rattle.surf_soup.proofs.rings.least_left.Goals as goal

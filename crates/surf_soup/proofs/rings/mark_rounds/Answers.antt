@@ -1,5 +1,4 @@
-use Rattle.std.proofs.Common.{[], ◌≡◌, ◌<◌, ℕ, get_or, ap, subst, ◌∙◌, arith}
-use Rattle.std.proofs.lemmas.List.{get_or_read}
+use Rattle.surf_surfaces.proofs.Common.{[], ◌≡◌, ◌<◌, ℕ, get_or, ap, subst, ◌∙◌, arith, get_or_read}
 use Rattle.surf_soup.specs.Vertices.{all_corners}
 use Rattle.surf_soup.specs.Ring.{AreMarkedFans, IsRoundMarked}
 use Rattle.surf_soup.proofs.RingMarks.{first_side_at, fans_next}

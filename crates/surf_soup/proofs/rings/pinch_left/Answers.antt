@@ -1,5 +1,4 @@
-use Rattle.std.proofs.Common.{[], ◌<◌, length, get_or, ap, refl, ◌∙◌, arith}
-use Rattle.std.proofs.lemmas.List.{get_or_read}
+use Rattle.surf_surfaces.proofs.Common.{[], ◌<◌, length, get_or, ap, refl, ◌∙◌, arith, get_or_read}
 use Rattle.surf_soup.proofs.Owners.{length-owners}
 use Rattle.surf_soup.proofs.VertexLaws.{corners_len}
 use Rattle.surf_soup.proofs.LeftSides.{left_pinch, read_pinch}

@@ -1,5 +1,4 @@
-use Rattle.std.proofs.Common.{◌≡◌, ◌+◌, ◌*◌, ◌∙◌, length, sym, arith}
-use Rattle.std.specs.List.{sum_by}
+use Rattle.surf_surfaces.proofs.Common.{◌≡◌, ◌+◌, ◌*◌, ◌∙◌, length, sym, arith, sum_by}
 use Rattle.surf_soup.proofs.SideTables.{three_each}
 use Rattle.surf_soup.proofs.ThirdLaws.{three_first}
 use Rattle.surf_soup.proofs.soup.face_span.Goals as goal

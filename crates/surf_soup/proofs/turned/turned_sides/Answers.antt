@@ -1,5 +1,4 @@
-use Rattle.std.proofs.Common.{◌≡◌, ◌<◌, ◌+◌, length, ap, ◌∙◌, arith}
-use Rattle.surf_surfaces.specs.Surface.{face_at, face_count}
+use Rattle.surf_surfaces.proofs.Common.{◌≡◌, ◌<◌, ◌+◌, length, ap, ◌∙◌, arith, face_at, face_count}
 use Rattle.surf_soup.proofs.HalfLaws.{spans}
 use Rattle.surf_soup.proofs.TurnedSides.{turned_more}
 use Rattle.surf_soup.specs.Ring.{place_by}

@@ -1,5 +1,4 @@
-use Rattle.std.proofs.Common.{◌≡◌}
-use Rattle.surf_surfaces.specs.SideNumber.{first_side}
+use Rattle.surf_surfaces.proofs.Common.{◌≡◌, first_side}
 use Rattle.surf_soup.specs.Ring.{AreTurned, place_by}
 use Rattle.surf_soup.proofs.turned.turned_sides.Given as goal
 

@@ -1,7 +1,4 @@
-use Rattle.std.proofs.Common.{◌≡◌, ◌<◌, ◌∙◌, get_or, ap, sym, arith, inl, inr}
-use Rattle.std.proofs.lemmas.List.{get_or_read}
-use Rattle.std.proofs.lemmas.Bool.{cases_eq, eq-eqb, eqb-true, true≢false}
-use Rattle.surf_surfaces.specs.SideNumber.{side_count}
+use Rattle.surf_surfaces.proofs.Common.{◌≡◌, ◌<◌, ◌∙◌, get_or, ap, sym, arith, inl, inr, get_or_read, cases_eq, eq-eqb, eqb-true, true≢false, side_count}
 use Rattle.surf_soup.proofs.FirstLaws.{first_met, first_unmet}
 use Rattle.surf_soup.proofs.vertices.find_isolated.Goals as goal
 

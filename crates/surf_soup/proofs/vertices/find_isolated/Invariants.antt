@@ -1,5 +1,4 @@
-use Rattle.std.proofs.Common.{◌<◌, ℕ}
-use Rattle.surf_surfaces.specs.Surface.{HasCorner}
+use Rattle.surf_surfaces.proofs.Common.{◌<◌, ℕ, HasCorner}
 use Rattle.surf_soup.proofs.vertices.find_isolated.Given as goal
 
 abbrev pub invariant-loop-v : goal.invariant-loop-v

@@ -1,6 +1,4 @@
-use Rattle.std.proofs.Common.{◌≡◌, ◌<◌, ◌-◌, ℕ, List, length, get_or, replicate, set, sym, ap, subst, ◌∙◌, arith, rules}
-use Rattle.std.proofs.lemmas.List.{length-replicate, get_or-replicate}
-use Rattle.surf_surfaces.specs.SideNumber.{side_count}
+use Rattle.surf_surfaces.proofs.Common.{◌≡◌, ◌<◌, ◌-◌, ℕ, List, length, get_or, replicate, set, sym, ap, subst, ◌∙◌, arith, rules, length-replicate, get_or-replicate, side_count}
 use Rattle.surf_soup.specs.Vertices.{all_corners}
 use Rattle.surf_soup.specs.First.{AreFirstFrom}
 use Rattle.surf_soup.proofs.VertexLaws.{corner_read, corners_len, corners_below}

@@ -1,8 +1,4 @@
-use Rattle.std.proofs.Common.{◌<◌, ℕ, List, length, sym, ap, subst, ◌∙◌, arith, All}
-use Rattle.std.specs.List.{range_with_len}
-use Rattle.std.proofs.lemmas.List.Elements.{All-from_recursion}
-use Rattle.std.proofs.lemmas.List.FromFn.{length-range_with_len}
-use Rattle.surf_surfaces.specs.SideNumber.{side_count}
+use Rattle.surf_surfaces.proofs.Common.{◌<◌, ℕ, List, length, sym, ap, subst, ◌∙◌, arith, All, range_with_len, All-from_recursion, length-range_with_len, side_count}
 use Rattle.surf_soup.specs.Vertices.{all_corners}
 use Rattle.surf_soup.proofs.Order.{range_below}
 use Rattle.surf_soup.proofs.VertexLaws.{corners_len, corners_below}

@@ -1,5 +1,4 @@
-use Rattle.std.proofs.Common.{◌≡◌, ℕ, get_or, subst, Err}
-use Rattle.std.proofs.lemmas.Result.{err_from_is_err_and}
+use Rattle.surf_surfaces.proofs.Common.{◌≡◌, ℕ, get_or, subst, Err, err_from_is_err_and}
 use Rattle.surf_text.specs.Pages.{grown}
 use Rattle.surf_tree.specs.Tables.{parent_of}
 use Rattle.surf_texts.specs.DistanceTexts.{vertex_line}

@@ -1,5 +1,4 @@
-use Rattle.std.proofs.Common.{ℕ, ◌<◌, ◌≤◌}
-use Rattle.std.specs.Prelude.{slice_index}
+use Rattle.surf_surfaces.proofs.Common.{ℕ, ◌<◌, ◌≤◌, slice_index}
 use Rattle.surf_tree.specs.Queues.{AreUpTo}
 use Rattle.surf_tree.proofs.even.greatest_length.Given as goal
 

@@ -1,5 +1,4 @@
-use Rattle.std.proofs.Common.{◌≡◌, ◌≢◌, ◌<◌, ◌∙◌, length, arith, map}
-use Rattle.std.proofs.lemmas.List.{length-map}
+use Rattle.surf_surfaces.proofs.Common.{◌≡◌, ◌≢◌, ◌<◌, ◌∙◌, length, arith, map, length-map}
 use Rattle.surf_base.specs.Tables.{at}
 use Rattle.surf_tree.specs.Searches.{far}
 use Rattle.surf_tree.proofs.Offering.{link_of, item_in}

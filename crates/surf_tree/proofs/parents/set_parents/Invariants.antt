@@ -1,7 +1,4 @@
-use Rattle.std.proofs.Common.{ℕ, ◌<◌}
-use Rattle.surf_graphs.specs.Cells.{primal}
-use Rattle.surf_surfaces.specs.Cells.{cells_of}
-use Rattle.surf_surfaces.specs.Walk.{edge_length}
+use Rattle.surf_surfaces.proofs.Common.{ℕ, ◌<◌, primal, cells_of, edge_length}
 use Rattle.surf_base.specs.Tables.{at}
 use Rattle.surf_tree.specs.Searches.{IsLeastTight}
 use Rattle.surf_tree.proofs.parents.set_parents.Given as goal

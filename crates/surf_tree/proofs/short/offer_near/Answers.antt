@@ -1,6 +1,4 @@
-use Rattle.std.proofs.Common.{◌≡◌, ◌<◌, ◌+◌, ◌∙◌, length, arith, inl, inr, set, Some, map}
-use Rattle.std.proofs.lemmas.Bool.{cases_eq}
-use Rattle.std.proofs.lemmas.List.{length-map}
+use Rattle.surf_surfaces.proofs.Common.{◌≡◌, ◌<◌, ◌+◌, ◌∙◌, length, arith, inl, inr, set, Some, map, cases_eq, length-map}
 use Rattle.surf_heap.specs.Entries.{entry_of, lesser}
 use Rattle.surf_buckets.specs.Lent.{waiting_key, waiting, settled}
 use Rattle.surf_buckets.proofs.Views.{entries_length}

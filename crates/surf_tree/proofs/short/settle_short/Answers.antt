@@ -1,5 +1,4 @@
-use Rattle.std.proofs.Common.{ℕ, ◌≡◌, ◌<◌, ◌∙◌, length, arith, ap, subst}
-use Rattle.std.proofs.lemmas.List.{get_or-replicate}
+use Rattle.surf_surfaces.proofs.Common.{ℕ, ◌≡◌, ◌<◌, ◌∙◌, length, arith, ap, subst, get_or-replicate}
 use Rattle.surf_buckets.specs.Lent.{waiting, settled}
 use Rattle.surf_buckets.proofs.LentViews.{settled_length}
 use Rattle.surf_base.specs.Tables.{at}

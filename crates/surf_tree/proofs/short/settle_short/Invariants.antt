@@ -1,5 +1,4 @@
-use Rattle.std.proofs.Common.{◌≡◌, ℕ, length, eqb}
-use Rattle.surf_z2.specs.Parity.{count_below}
+use Rattle.surf_surfaces.proofs.Common.{◌≡◌, ℕ, length, eqb, count_below}
 use Rattle.surf_buckets.specs.Lent.{waiting, settled, IsFiling}
 use Rattle.surf_base.specs.Tables.{at}
 use Rattle.surf_tree.specs.Searches.{far}

@@ -1,5 +1,4 @@
-use Rattle.std.proofs.Common.{sym, ◌∙◌}
-use Rattle.std.proofs.lemmas.Bool.{true≢false}
+use Rattle.surf_surfaces.proofs.Common.{sym, ◌∙◌, true≢false}
 use Rattle.surf_treecheck.proofs.EdgeUp.{number_is}
 use Rattle.surf_treecheck.proofs.FaceEdges.{no_side, side_of}
 use Rattle.surf_treecheck.proofs.dual.edge_of_face.Goals as goal

@@ -1,5 +1,4 @@
-use Rattle.std.proofs.Common.{◌<◌, ℕ, sym, subst}
-use Rattle.surf_surfaces.specs.Surface.{face_count}
+use Rattle.surf_surfaces.proofs.Common.{◌<◌, ℕ, sym, subst, face_count}
 use Rattle.surf_surfaces.proofs.CellLaws.{surfaces_are_cells}
 use Rattle.surf_treecheck.proofs.edges.faces_inside.Goals as goal
 

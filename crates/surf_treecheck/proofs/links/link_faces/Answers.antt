@@ -1,5 +1,4 @@
-use Rattle.std.proofs.Common.{◌≡◌, None, get_or, ap, sym, subst, ◌∙◌, arith}
-use Rattle.std.proofs.lemmas.List.{get_or_default}
+use Rattle.surf_surfaces.proofs.Common.{◌≡◌, None, get_or, ap, sym, subst, ◌∙◌, arith, get_or_default}
 use Rattle.surf_validity.specs.Valid.{side_at}
 use Rattle.surf_treecheck.specs.Paths.{HasLink}
 use Rattle.surf_treecheck.proofs.FaceLinks.{links_more}

@@ -1,5 +1,4 @@
-use Rattle.std.proofs.Common.{take}
-use Rattle.surf_surfaces.specs.Surface.{edge_count}
+use Rattle.surf_surfaces.proofs.Common.{take, edge_count}
 use Rattle.surf_validity.specs.Valid.{is_listed}
 use Rattle.surf_treecheck.specs.Split.{AreFlags}
 use Rattle.surf_treecheck.proofs.marks.flag_listed.Given as goal

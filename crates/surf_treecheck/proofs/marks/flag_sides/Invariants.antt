@@ -1,5 +1,4 @@
-use Rattle.surf_z2.specs.Parity.{any_below}
-use Rattle.surf_surfaces.specs.Surface.{edge_count}
+use Rattle.surf_surfaces.proofs.Common.{any_below, edge_count}
 use Rattle.surf_validity.specs.Valid.{side_at, is_side}
 use Rattle.surf_treecheck.specs.Split.{AreFlags}
 use Rattle.surf_treecheck.proofs.marks.flag_sides.Given as goal

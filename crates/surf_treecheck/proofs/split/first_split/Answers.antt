@@ -1,6 +1,4 @@
-use Rattle.std.proofs.Common.{◌≡◌, ℕ, sym, ap, ◌∙◌, subst}
-use Rattle.surf_surfaces.specs.Mesh.{pair}
-use Rattle.surf_surfaces.specs.Surface.{ends}
+use Rattle.surf_surfaces.proofs.Common.{◌≡◌, ℕ, sym, ap, ◌∙◌, subst, pair, ends}
 use Rattle.surf_treecheck.specs.Split.{IsLeastBadPair, lesser_of}
 use Rattle.surf_treecheck.proofs.BadPairs.{stray_or_none, edge_or_stray, ends_ordered}
 use Rattle.surf_treecheck.proofs.split.first_split.Goals as goal

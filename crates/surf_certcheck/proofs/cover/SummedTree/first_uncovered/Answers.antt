@@ -1,5 +1,4 @@
-use Rattle.std.proofs.Common.{subst, arith}
-use Rattle.surf_surfaces.specs.Surface.{edge_count}
+use Rattle.surf_surfaces.proofs.Common.{subst, arith, edge_count}
 use Rattle.surf_certcheck.specs.Covering.{IsCoveredIn}
 use Rattle.surf_certcheck.proofs.Bases.{holds_more, failed_at}
 use Rattle.surf_certcheck.proofs.cover.SummedTree.first_uncovered.Goals as goal

@@ -1,6 +1,4 @@
-use Rattle.std.proofs.Common.{ℕ, List}
-use Rattle.surf_z2.specs.Space.{Weighed}
-use Rattle.surf_graphs.specs.Cells.{Split}
+use Rattle.surf_surfaces.proofs.Common.{ℕ, List, Weighed, Split}
 use Rattle.surf_certcheck.specs.Covering.{HasFrame, IsCoveredIn}
 use Rattle.surf_treecheck.specs.First.{HoldsBelow}
 use Rattle.surf_certcheck.proofs.cover.SummedTree.first_uncovered.Given as goal

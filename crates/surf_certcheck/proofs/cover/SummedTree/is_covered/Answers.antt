@@ -1,7 +1,4 @@
-use Rattle.std.proofs.Common.{◌≡◌, ◌<◌, ◌^◌, length, sym, subst}
-use Rattle.surf_surfaces.specs.Loop.{loop_walk}
-use Rattle.surf_surfaces.specs.Signature.{walk_signature}
-use Rattle.surf_z2.specs.Words.{number}
+use Rattle.surf_surfaces.proofs.Common.{◌≡◌, ◌<◌, ◌^◌, length, sym, subst, loop_walk, walk_signature, number}
 use Rattle.surf_validity.specs.Valid.{certified_tree}
 use Rattle.surf_certcheck.specs.Frames.{weighed_through}
 use Rattle.surf_certcheck.proofs.Framing.{cover_tells, signature_small}

@@ -1,6 +1,4 @@
-use Rattle.std.proofs.Common.{◌≡◌, ◌∙◌, ℕ, ap, subst}
-use Rattle.surf_graphs.specs.Growth.{between}
-use Rattle.surf_surfaces.specs.Surface.{faces_of}
+use Rattle.surf_surfaces.proofs.Common.{◌≡◌, ◌∙◌, ℕ, ap, subst, between, faces_of}
 use Rattle.surf_validity.specs.Valid.{dual_tree, loop_size}
 use Rattle.surf_certcheck.specs.Least.{IsShort, IsLeastIn}
 use Rattle.surf_certcheck.proofs.LeastIn.{least_is_first}

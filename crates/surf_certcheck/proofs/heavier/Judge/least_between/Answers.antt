@@ -1,8 +1,4 @@
-use Rattle.std.proofs.Common.{◌≡◌, ◌≢◌, ◌<◌, ◌∙◌, sym, subst, inl, inr}
-use Rattle.surf_graphs.specs.Cells.{dual as faces}
-use Rattle.surf_graphs.specs.Trees.{Tree, IsTree}
-use Rattle.surf_surfaces.specs.Cells.{cells_of}
-use Rattle.surf_surfaces.specs.Surface.{face_count}
+use Rattle.surf_surfaces.proofs.Common.{◌≡◌, ◌≢◌, ◌<◌, ◌∙◌, sym, subst, inl, inr, dual as faces, Tree, IsTree, cells_of, face_count}
 use Rattle.surf_validity.specs.Valid.{dual_tree}
 use Rattle.surf_validity.proofs.DualLaws.{dual_rows_are_tree}
 use Rattle.surf_certcheck.specs.Judging.{IsShortFor}

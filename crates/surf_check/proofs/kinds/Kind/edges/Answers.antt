@@ -1,6 +1,4 @@
-use Rattle.std.proofs.Common.{◌≡◌, ◌∙◌, ◌/◌, sym, ap, subst, arith}
-use Rattle.surf_surfaces.specs.Mesh.{Mesh}
-use Rattle.surf_surfaces.specs.Surface.{edge_count}
+use Rattle.surf_surfaces.proofs.Common.{◌≡◌, ◌∙◌, ◌/◌, sym, ap, subst, arith, Mesh, edge_count}
 use Rattle.surf_surfaces.proofs.CountLaws.{sizes_twice}
 use Rattle.surf_check.specs.Kinds.{kept_mesh, IsKeptKind}
 use Rattle.surf_check.specs.declared.kinds.Kept.{Kept}

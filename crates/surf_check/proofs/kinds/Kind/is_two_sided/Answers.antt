@@ -1,6 +1,4 @@
-use Rattle.std.proofs.Common.{◌∙◌, IfOk, Bool, false, sym, ap, subst}
-use Rattle.std.specs.Bool.{MatchBool}
-use Rattle.surf_surfaces.specs.Mesh.{Mesh}
+use Rattle.surf_surfaces.proofs.Common.{◌∙◌, IfOk, Bool, false, sym, ap, subst, MatchBool, Mesh}
 use Rattle.surf_surfaces.specs.Surface.{IsOrientable}
 use Rattle.surf_check.specs.Kinds.{kept_mesh, IsKeptKind}
 use Rattle.surf_check.specs.declared.kinds.Kept.{Kept}

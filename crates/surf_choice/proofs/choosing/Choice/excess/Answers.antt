@@ -1,7 +1,4 @@
-use Rattle.std.proofs.Common.{◌≡◌, ℕ, ◌<◌, ◌≤◌, ◌+◌, ◌-◌, ◌^◌, take, length, get_or, sym, subst, ◌∙◌, arith}
-use Rattle.std.proofs.lemmas.List.{get_or_default, take_all}
-use Rattle.surf_z2.specs.Order.{IsInOrder}
-use Rattle.surf_z2.specs.Space.{numbers, Spanned}
+use Rattle.surf_surfaces.proofs.Common.{◌≡◌, ℕ, ◌<◌, ◌≤◌, ◌+◌, ◌-◌, ◌^◌, take, length, get_or, sym, subst, ◌∙◌, arith, get_or_default, take_all, IsInOrder, numbers, Spanned}
 use Rattle.surf_choice.specs.declared.candidate.Signed.{Signed}
 use Rattle.surf_choice.specs.Candidates.{Chosen, signatures}
 use Rattle.surf_choice.specs.Places.{stands_before}

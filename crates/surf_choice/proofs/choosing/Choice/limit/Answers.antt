@@ -1,6 +1,4 @@
-use Rattle.std.proofs.Common.{◌≡◌, ◌<◌, ◌-◌, true, List, length, get_or, Some, sym, ap, ◌∙◌, subst, arith}
-use Rattle.std.specs.Prelude.{nat_le}
-use Rattle.std.proofs.lemmas.Bool.{le-leb}
+use Rattle.surf_surfaces.proofs.Common.{◌≡◌, ◌<◌, ◌-◌, true, List, length, get_or, Some, sym, ap, ◌∙◌, subst, arith, nat_le, le-leb}
 use Rattle.surf_choice.specs.declared.candidate.Signed.{Signed}
 use Rattle.surf_choice.specs.Candidates.{Chosen}
 use Rattle.surf_choice.specs.Places.{limit_of}

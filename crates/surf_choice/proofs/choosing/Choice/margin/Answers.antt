@@ -1,5 +1,4 @@
-use Rattle.std.proofs.Common.{List, All, ◌≤◌, sym, subst, arith}
-use Rattle.std.proofs.lemmas.List.{take_all}
+use Rattle.surf_surfaces.proofs.Common.{List, All, ◌≤◌, sym, subst, arith, take_all}
 use Rattle.surf_choice.specs.declared.candidate.Signed.{Signed}
 use Rattle.surf_choice.specs.Candidates.{IsLonger}
 use Rattle.surf_choice.proofs.Longer.{longer_less, longer_more}

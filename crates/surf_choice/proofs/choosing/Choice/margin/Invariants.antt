@@ -1,5 +1,4 @@
-use Rattle.std.proofs.Common.{ℕ, ◌≢◌, ◌≤◌, All, take}
-use Rattle.surf_z2.specs.Order.{IsInOrder}
+use Rattle.surf_surfaces.proofs.Common.{ℕ, ◌≢◌, ◌≤◌, All, take, IsInOrder}
 use Rattle.surf_choice.specs.Places.{stands_before}
 use Rattle.surf_choice.specs.Candidates.{IsLonger}
 use Rattle.surf_choice.proofs.choosing.Choice.margin.Given as goal

@@ -1,9 +1,5 @@
-use Rattle.std.proofs.Common.{ℕ, List, ◌≡◌, ◌≢◌, length, set, bit_xor, ap, ◌∙◌, subst, arith}
+use Rattle.surf_surfaces.proofs.Common.{ℕ, List, ◌≡◌, ◌≢◌, length, set, bit_xor, ap, ◌∙◌, subst, arith, AllByRecursion, length-set, numbers, Spanned, number}
 use Rattle.std.specs.Int.Bits.{xor_zero_l}
-use Rattle.std.specs.List.{AllByRecursion}
-use Rattle.std.proofs.lemmas.List.{length-set}
-use Rattle.surf_z2.specs.Space.{numbers, Spanned}
-use Rattle.surf_z2.specs.Words.{number}
 use Rattle.surf_choice.specs.Echelons.{Rows}
 use Rattle.surf_choice.proofs.Admitted.{rows_few, row_room, echelon_more, words_enough, left_some, left_at}
 use Rattle.surf_choice.proofs.Greatest.{led_count, exponent_below}

@@ -1,5 +1,4 @@
-use Rattle.std.proofs.Common.{◌≤◌, length, subst}
-use Rattle.surf_z2.specs.Space.{Independent, numbers}
+use Rattle.surf_surfaces.proofs.Common.{◌≤◌, length, subst, Independent, numbers}
 use Rattle.surf_choice.specs.Echelons.{Rows}
 use Rattle.surf_choice.proofs.Admitted.{rows_few}
 use Rattle.surf_choice.proofs.Greatest.{independent_led}

@@ -1,8 +1,5 @@
-use Rattle.std.proofs.Common.{ℕ, List, ◌≡◌, ◌<◌, take, ◌∙◌, sym, subst}
-use Rattle.std.specs.Prelude.{IfSome}
+use Rattle.surf_surfaces.proofs.Common.{ℕ, List, ◌≡◌, ◌<◌, take, ◌∙◌, sym, subst, IfSome, numbers, Spanned, number}
 use Rattle.std.specs.Int.Bits.{xor_zero_l}
-use Rattle.surf_z2.specs.Space.{numbers, Spanned}
-use Rattle.surf_z2.specs.Words.{number}
 use Rattle.surf_choice.specs.Echelons.{Rows}
 use Rattle.surf_choice.proofs.Admitted.{words_enough}
 use Rattle.surf_choice.proofs.echelon.Echelon.reach.Goals as goal

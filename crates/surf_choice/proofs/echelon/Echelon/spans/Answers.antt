@@ -1,8 +1,6 @@
 use Rattle.std.proofs.Common.{ℕ, List, ◌≡◌, ◌≤◌, length, take, bit_xor, MatchBool, sym, ap, ◌∙◌, subst, arith}
 use Rattle.std.specs.Int.Bits.{xor_zero_l}
-use Rattle.std.proofs.lemmas.List.{length-take-le}
-use Rattle.surf_z2.specs.Space.{numbers, Spanned}
-use Rattle.surf_z2.specs.Words.{number}
+use Rattle.surf_surfaces.proofs.Common.{length-take-le, numbers, Spanned, number}
 use Rattle.surf_choice.specs.Echelons.{Rows, IsEchelon}
 use Rattle.surf_choice.proofs.Admitted.{echelon_front, words_enough, left_tells}
 use Rattle.surf_choice.proofs.Greatest.{led_count}

@@ -1,6 +1,4 @@
-use Rattle.std.proofs.Common.{◌≡◌, ◌<◌, ◌≤◌, ◌+◌, ◌*◌, ℕ, List, sym, ap, ◌∙◌, subst, arith}
-use Rattle.std.proofs.lemmas.Nat.{row_fits}
-use Rattle.surf_surfaces.specs.Mesh.{Mesh}
+use Rattle.surf_surfaces.proofs.Common.{◌≡◌, ◌<◌, ◌≤◌, ◌+◌, ◌*◌, ℕ, List, sym, ap, ◌∙◌, subst, arith, row_fits, Mesh}
 use Rattle.surf_cover.specs.Tables.{CoverTables}
 use Rattle.surf_cover.specs.Networks.{IsCoverable}
 use Rattle.surf_cover.proofs.Covering.{searchable, some_set}

@@ -1,5 +1,4 @@
-use Rattle.std.proofs.Common.{◌≡◌, ◌≤◌, ◌*◌, length, ap, ◌∙◌, subst, arith}
-use Rattle.surf_surfaces.specs.Surface.{edge_count}
+use Rattle.surf_surfaces.proofs.Common.{◌≡◌, ◌≤◌, ◌*◌, length, ap, ◌∙◌, subst, arith, edge_count}
 use Rattle.surf_surfaces.proofs.ClassLaws.{some_vertex}
 use Rattle.surf_cover.specs.Tables.{CoverTables, AreCoverTables, sets_of}
 use Rattle.surf_cover.proofs.Grown.{sign_below}

@@ -1,6 +1,4 @@
-use Rattle.std.proofs.Common.{◌<◌, ◌≤◌, ◌+◌, ◌*◌, ◌/◌, ◌%◌, bit_xor, sym, ap, ◌∙◌, arith, slice_index}
-use Rattle.std.proofs.lemmas.Nat.{mod_below, row_fits}
-use Rattle.surf_surfaces.specs.Walk.{edge_length}
+use Rattle.surf_surfaces.proofs.Common.{◌<◌, ◌≤◌, ◌+◌, ◌*◌, ◌/◌, ◌%◌, bit_xor, sym, ap, ◌∙◌, arith, slice_index, mod_below, row_fits, edge_length}
 use Rattle.surf_cover.proofs.Covering.{other_in, some_set, sum_below, link_below}
 use Rattle.surf_cover.proofs.network.CoverNetworkNetwork.across.Goals as goal
 

@@ -1,7 +1,4 @@
-use Rattle.std.proofs.Common.{◌/◌, ◌%◌, map, subst, slice_index}
-use Rattle.std.proofs.lemmas.Nat.{div_below, div-add-mod', mod_below}
-use Rattle.surf_graphs.specs.Cells.{primal}
-use Rattle.surf_surfaces.specs.Cells.{cells_of}
+use Rattle.surf_surfaces.proofs.Common.{◌/◌, ◌%◌, map, subst, slice_index, div_below, div-add-mod', mod_below, primal, cells_of}
 use Rattle.surf_mesh.specs.Links.{IsRow, edge_link}
 use Rattle.surf_cover.specs.Networks.{cover_by, link_by}
 use Rattle.surf_cover.proofs.Covering.{row_up, some_set}

@@ -1,5 +1,4 @@
-use Rattle.std.proofs.Common.{sym, ap, ◌∙◌}
-use Rattle.std.specs.List.{flat_map}
+use Rattle.surf_surfaces.proofs.Common.{sym, ap, ◌∙◌, flat_map}
 use Rattle.surf_cutter.proofs.FaceTables.{all_rows}
 use Rattle.surf_cutter.proofs.faces.OpenFaces.corners.Goals as goal
 

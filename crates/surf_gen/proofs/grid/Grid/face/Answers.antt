@@ -1,6 +1,4 @@
-use Rattle.std.proofs.Common.{◌≡◌, ◌+◌, ◌*◌, ◌/◌, ◌%◌, ap, sym, ◌∙◌, arith}
-use Rattle.std.proofs.lemmas.Nat.{div-add-mod', mod_below}
-use Rattle.surf_surfaces.specs.Surface.{face_at}
+use Rattle.surf_surfaces.proofs.Common.{◌≡◌, ◌+◌, ◌*◌, ◌/◌, ◌%◌, ap, sym, ◌∙◌, arith, div-add-mod', mod_below, face_at}
 use Rattle.surf_tori.specs.Torus.{torus}
 use Rattle.surf_tori.proofs.TorusLaws.{cell_faces_at}
 use Rattle.surf_gen.proofs.grid.Grid.face.Goals as goal

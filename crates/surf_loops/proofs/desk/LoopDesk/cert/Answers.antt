@@ -1,5 +1,4 @@
-use Rattle.std.proofs.Common.{◌≡◌, ◌∙◌, map, sym, ap, subst, arith}
-use Rattle.surf_surfaces.specs.Surface.{ends}
+use Rattle.surf_surfaces.proofs.Common.{◌≡◌, ◌∙◌, map, sym, ap, subst, arith, ends}
 use Rattle.surf_validity.specs.Valid.{IsValidLoops}
 use Rattle.surf_validity.specs.Chosen.{chosen_cert, rows_for, dual_rows_of}
 use Rattle.surf_validity.proofs.ChosenLaws.{chosen_loops_are_valid}

@@ -1,6 +1,4 @@
-use Rattle.std.proofs.Common.{ℕ, ◌<◌, ◌∙◌, List, Bool, refl, sym, subst, arith, length, map, slice_index_or, IsPermutation}
-use Rattle.surf_surfaces.specs.Surface.{edge_count}
-use Rattle.surf_surfaces.specs.Loop.{loop_length}
+use Rattle.surf_surfaces.proofs.Common.{ℕ, ◌<◌, ◌∙◌, List, Bool, refl, sym, subst, arith, length, map, slice_index_or, IsPermutation, edge_count, loop_length}
 use Rattle.surf_tree.specs.Tables.{tree_of}
 use Rattle.surf_cotree.specs.Grown.{IsMarked, IsGrown as IsCotreeGrown}
 use Rattle.surf_loops.specs.Heads.{head_of}

@@ -1,5 +1,4 @@
-use Rattle.std.proofs.Common.{ap, arith}
-use Rattle.surf_surfaces.specs.Surface.{face_count, edge_count}
+use Rattle.surf_surfaces.proofs.Common.{ap, arith, face_count, edge_count}
 use Rattle.surf_soup.proofs.SideTables.{three_each}
 use Rattle.surf_soup.proofs.HalfLaws.{edges_few}
 use Rattle.surf_mesh.proofs.surface.Surface.law_of_surface.Goals as goal

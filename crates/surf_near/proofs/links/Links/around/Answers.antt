@@ -1,6 +1,4 @@
-use Rattle.std.proofs.Common.{◌≡◌, ◌<◌, ap, ◌∙◌, subst, arith, false, []}
-use Rattle.std.specs.Prelude.{slice_index_or}
-use Rattle.std.proofs.lemmas.List.{get_or_default}
+use Rattle.surf_surfaces.proofs.Common.{◌≡◌, ◌<◌, ap, ◌∙◌, subst, arith, false, [], slice_index_or, get_or_default}
 use Rattle.surf_near.specs.Links.{LinkTables, AreLinksAt}
 use Rattle.surf_near.proofs.Barring.{barred_row, row_lengths}
 use Rattle.surf_near.proofs.links.Links.around.Goals as goal

@@ -1,5 +1,4 @@
-use Rattle.std.proofs.Common.{ap, subst, arith, []}
-use Rattle.std.specs.Prelude.{slice_index_or}
+use Rattle.surf_surfaces.proofs.Common.{ap, subst, arith, [], slice_index_or}
 use Rattle.surf_near.specs.Links.{LinkTables, AreLinksAt}
 use Rattle.surf_near.proofs.Barring.{barred_row}
 use Rattle.surf_near.proofs.links.Links.at.Goals as goal

@@ -1,7 +1,6 @@
-use Rattle.std.proofs.Common.{ℕ, List, refl}
+use Rattle.surf_surfaces.proofs.Common.{ℕ, List, refl, Mesh}
 use Rattle.surf_base.specs.Outside.{Files}
 use Rattle.surf_base.specs.declared.limits.LimitKind.TheVariants.{CertificateVertices}
-use Rattle.surf_surfaces.specs.Mesh.{Mesh}
 use Rattle.surf_texts.specs.Outcome.{Outcome}
 use Rattle.surf_answers.specs.Verdicts.{JudgesCert}
 use Rattle.surf_run.specs.Reading.{Reads, IsCertText, tree_count}

@@ -1,5 +1,4 @@
-use Rattle.std.proofs.Common.{subst}
-use Rattle.surf_surfaces.specs.Mesh.{Mesh}
+use Rattle.surf_surfaces.proofs.Common.{subst, Mesh}
 use Rattle.surf_answers.specs.Making.{GivesMesh}
 use Rattle.surf_answers.specs.Tells.{Concludes}
 use Rattle.surf_run.proofs.Composing.{alone, past_alone, stopped_alone}

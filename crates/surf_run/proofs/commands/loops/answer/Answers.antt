@@ -1,6 +1,5 @@
-use Rattle.std.proofs.Common.{ℕ, List, refl}
+use Rattle.surf_surfaces.proofs.Common.{ℕ, List, refl, Mesh}
 use Rattle.surf_base.specs.Outside.{Files}
-use Rattle.surf_surfaces.specs.Mesh.{Mesh}
 use Rattle.surf_texts.specs.Outcome.{Outcome}
 use Rattle.surf_answers.specs.LeastLoops.{GivesLoops}
 use Rattle.surf_run.specs.Reading.{HasBase}

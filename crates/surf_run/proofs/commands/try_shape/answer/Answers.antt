@@ -1,7 +1,5 @@
-use Rattle.std.proofs.Common.{◌<◌, ℕ, List, sym, subst}
+use Rattle.surf_surfaces.proofs.Common.{◌<◌, ℕ, List, sym, subst, Mesh, loop_count}
 use Rattle.surf_gen.specs.Made.{made_values}
-use Rattle.surf_surfaces.specs.Mesh.{Mesh}
-use Rattle.surf_surfaces.specs.Surface.{loop_count}
 use Rattle.surf_answers.specs.Summaries.{GivesSummary}
 use Rattle.surf_answers.specs.Tells.{Concludes}
 use Rattle.surf_run.proofs.Composing.{alone, past_alone, stopped_alone}

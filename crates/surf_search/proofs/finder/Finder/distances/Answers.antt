@@ -1,7 +1,4 @@
-use Rattle.std.proofs.Common.{◌≡◌, ℕ, ◌<◌, map, slice_index, refl, sym, subst, arith}
-use Rattle.std.specs.Prelude.{IfOk}
-use Rattle.std.proofs.lemmas.List.{get_or_default}
-use Rattle.std.proofs.lemmas.Result.{IfOk-weaker}
+use Rattle.surf_surfaces.proofs.Common.{◌≡◌, ℕ, ◌<◌, map, slice_index, refl, sym, subst, arith, IfOk, get_or_default, IfOk-weaker}
 use Rattle.surf_search.specs.Found.{SurfaceTables}
 use Rattle.surf_search.specs.Places.{AreDistances}
 use Rattle.surf_search.proofs.Numbered.{settled_in}

@@ -1,7 +1,4 @@
-use Rattle.std.proofs.Common.{ℕ, ◌<◌, ◌⊎◌, Contains, All, List, refl, sym, ap, ◌∙◌, subst}
-use Rattle.std.specs.Prelude.{IsTrue}
-use Rattle.std.proofs.lemmas.List.{get_or_default}
-use Rattle.surf_surfaces.specs.Mesh.{Mesh}
+use Rattle.surf_surfaces.proofs.Common.{ℕ, ◌<◌, ◌⊎◌, Contains, All, List, refl, sym, ap, ◌∙◌, subst, IsTrue, get_or_default, Mesh}
 use Rattle.surf_search.specs.Found.{SurfaceTables}
 use Rattle.surf_search.specs.Passing.{is_marked, AreMarkedNear}
 use Rattle.surf_search.proofs.Numbered.{settled_in}

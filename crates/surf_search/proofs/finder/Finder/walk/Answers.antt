@@ -1,5 +1,4 @@
-use Rattle.std.proofs.Common.{◌/◌, refl, sym, subst}
-use Rattle.std.specs.Prelude.{IfOk}
+use Rattle.surf_surfaces.proofs.Common.{◌/◌, refl, sym, subst, IfOk}
 use Rattle.surf_near.specs.Near.{IsNear}
 use Rattle.surf_search.specs.Walks.{IsLoopWalk, IsMeasured}
 use Rattle.surf_search.specs.Found.{SurfaceTables}

@@ -1,5 +1,4 @@
-use Rattle.std.proofs.Common.{◌<◌, refl, subst}
-use Rattle.std.proofs.lemmas.List.{get_or_default}
+use Rattle.surf_surfaces.proofs.Common.{◌<◌, refl, subst, get_or_default}
 use Rattle.surf_search.specs.Places.{radius_of}
 use Rattle.surf_search.proofs.Numbered.{settled_in}
 use Rattle.surf_search.proofs.Told.{links_positive, near_there}

@@ -1,7 +1,5 @@
-use Rattle.std.proofs.Common.{◌≡◌, ◌<◌, length, List, Bool, get_or, false, true, ℕ, ap, ◌∙◌, subst, sym, arith}
+use Rattle.surf_surfaces.proofs.Common.{◌≡◌, ◌<◌, length, List, Bool, get_or, false, true, ℕ, ap, ◌∙◌, subst, sym, arith, get_or_default, length-set, same_lists, edge_count}
 use Rattle.std.proofs.Math.ListN.{set}
-use Rattle.std.proofs.lemmas.List.{get_or_default, length-set, same_lists}
-use Rattle.surf_surfaces.specs.Surface.{edge_count}
 use Rattle.surf_slit.specs.Labels.{AreLabels}
 use Rattle.surf_slit.specs.Slit.{CutMesh}
 use Rattle.surf_slit.proofs.VertexLabels.{set_back}

@@ -1,7 +1,4 @@
-use Rattle.std.proofs.Common.{◌≡◌, ◌<◌, length, replicate, false, ℕ, ap, ◌∙◌, refl, arith, rules}
-use Rattle.std.proofs.lemmas.List.{length-replicate}
-use Rattle.surf_surfaces.specs.Surface.{edge_count}
-use Rattle.surf_surfaces.specs.SideNumber.{side_count}
+use Rattle.surf_surfaces.proofs.Common.{◌≡◌, ◌<◌, length, replicate, false, ℕ, ap, ◌∙◌, refl, arith, rules, length-replicate, edge_count, side_count}
 use Rattle.surf_slit.specs.Labels.{corner_at}
 use Rattle.surf_slit.proofs.Steps.{corner_below}
 use Rattle.surf_slit.proofs.VertexLabels.{vertices_are_labels}

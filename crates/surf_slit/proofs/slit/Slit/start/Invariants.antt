@@ -1,5 +1,4 @@
-use Rattle.std.proofs.Common.{◌≡◌, ℕ, ◌<◌, length, get_or}
-use Rattle.surf_surfaces.specs.SideNumber.{side_count}
+use Rattle.surf_surfaces.proofs.Common.{◌≡◌, ℕ, ◌<◌, length, get_or, side_count}
 use Rattle.surf_slit.specs.Labels.{corner_at}
 use Rattle.surf_slit.proofs.slit.Slit.start.Given as goal
 

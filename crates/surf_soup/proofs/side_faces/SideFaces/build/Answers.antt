@@ -1,6 +1,4 @@
-use Rattle.std.proofs.Common.{◌≡◌, ◌*◌, ap, ◌∙◌, arith}
-use Rattle.surf_surfaces.specs.Surface.{face_count}
-use Rattle.surf_surfaces.specs.SideNumber.{side_count}
+use Rattle.surf_surfaces.proofs.Common.{◌≡◌, ◌*◌, ap, ◌∙◌, arith, face_count, side_count}
 use Rattle.surf_soup.specs.FaceTables.{thirds, kept_faces}
 use Rattle.surf_soup.proofs.ThirdLaws.{thirds_are}
 use Rattle.surf_soup.proofs.side_faces.SideFaces.build.Goals as goal

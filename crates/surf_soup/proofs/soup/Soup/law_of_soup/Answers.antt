@@ -1,5 +1,4 @@
-use Rattle.std.proofs.Common.{length, ap, arith}
-use Rattle.surf_surfaces.specs.Mesh.{Mesh}
+use Rattle.surf_surfaces.proofs.Common.{length, ap, arith, Mesh}
 use Rattle.surf_soup.proofs.SideTables.{three_each}
 use Rattle.surf_soup.proofs.soup.Soup.law_of_soup.Goals as goal
 

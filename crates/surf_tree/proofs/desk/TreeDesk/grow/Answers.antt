@@ -1,11 +1,6 @@
-use Rattle.std.proofs.Common.{◌≡◌, ◌<◌, ◌≤◌, ◌+◌, ◌*◌, ◌&&◌, ℕ, not, eqb, false, get_or, length, arith, subst, ap}
+use Rattle.surf_surfaces.proofs.Common.{◌≡◌, ◌<◌, ◌≤◌, ◌+◌, ◌*◌, ◌&&◌, ℕ, not, eqb, false, get_or, length, arith, subst, ap, any_below, primal, cells_of, edge_count, edge_length}
 use Rattle.std.proofs.lemmas.List.{with_items_is}
 use Rattle.std.specs.Vec.{with_items}
-use Rattle.surf_z2.specs.Parity.{any_below}
-use Rattle.surf_graphs.specs.Cells.{primal}
-use Rattle.surf_surfaces.specs.Cells.{cells_of}
-use Rattle.surf_surfaces.specs.Surface.{edge_count}
-use Rattle.surf_surfaces.specs.Walk.{edge_length}
 use Rattle.surf_surfaces.proofs.CellLaws.{surfaces_are_cells}
 use Rattle.surf_mesh.proofs.LinkLaws.{cells_few}
 use Rattle.surf_lengths.specs.Lengths.{longest}

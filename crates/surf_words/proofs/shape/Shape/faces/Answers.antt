@@ -1,5 +1,4 @@
-use Rattle.std.proofs.Common.{◌≡◌, ◌*◌, ◌-◌, sym, subst}
-use Rattle.surf_surfaces.specs.Surface.{face_count}
+use Rattle.surf_surfaces.proofs.Common.{◌≡◌, ◌*◌, ◌-◌, sym, subst, face_count}
 use Rattle.surf_words.specs.Shapes.{Shape, mesh_of}
 use Rattle.surf_words.proofs.ShapeLaws.{shape_faces}
 use Rattle.surf_words.proofs.shape.Shape.faces.Goals as goal
