@@ -6,7 +6,7 @@ use Rattle.surf_basis.specs.Certs.{IsTheCert}
 use Rattle.surf_cert.specs.Written.{loop_text, basis_text}
 use Rattle.surf_lengths.specs.Lengths.{AreLengths}
 use Rattle.surf_lengths.proofs.Positive.{lengths_positive}
-use Rattle.surf_surfaces.proofs.BasisLaws.{basis_is_least}
+use Rattle.surf_surfaces.proofs.bases.BasisLaws.{basis_is_least}
 use Rattle.surf_loops.specs.Loops.{LoopTables, IsGreedy, trees_of}
 use Rattle.surf_text.specs.Pages.{PageState, grown, Stops}
 use Rattle.surf_text.specs.declared.page.PageFault.{PageFault}

@@ -1,6 +1,6 @@
 -- The text of a desk's loops is that of the loops that are chosen.
 use Rattle.surf_surfaces.proofs.Common.{◌≡◌, ℕ, ◌<◌, List, [], ◌∷◌, ◌++◌, length, map, refl, sym, ap, ◌∙◌, subst, arith, All, sum, AllByRecursion, flat_map, All-from_recursion, Mesh, edge_count, Loop, loops_at}
-use Rattle.surf_surfaces.proofs.LoopsAtLaws.{IsLoopAt, loops_each}
+use Rattle.surf_surfaces.proofs.bases.LoopsAtLaws.{IsLoopAt, loops_each}
 use Rattle.surf_loops.specs.Loops.{LoopTables, IsGreedy, loop_of, trees_of}
 use Rattle.surf_loops.specs.declared.head.LoopHead.{LoopHead}
 use Rattle.surf_texts.specs.LoopTexts.{walk_line, loops_head, loops_text}

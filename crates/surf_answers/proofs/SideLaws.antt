@@ -1,6 +1,6 @@
 -- How many edges a surface has.
 use Rattle.surf_surfaces.proofs.Common.{◌≡◌, ◌/◌, arith, Mesh, edge_count, IsSurface, side_count}
-use Rattle.surf_surfaces.proofs.CountLaws.{sizes_twice}
+use Rattle.surf_surfaces.proofs.meshes.CountLaws.{sizes_twice}
 
 -- each edge is two sides
 pub half_the_sides : (mesh : Mesh) → IsSurface mesh → side_count mesh / 2 ≡ edge_count mesh

@@ -3,12 +3,12 @@ use Rattle.surf_surfaces.proofs.Common.{◌≡◌, ℕ, ◌+◌, ◌^◌, ◌<�
 use Rattle.std.specs.List.Sorted.{IsNonDecreasingBy}
 use Rattle.std.proofs.lemmas.List.Elements.{recursion_from_All, All-from_recursion, All-contains, Contains-get_or, filter_more}
 use Rattle.std.proofs.lemmas.List.Sorted.{Contains-permutation, All-permutation, IsPermutation-refl}
-use Rattle.surf_surfaces.proofs.CoveredLaws.{contains-map}
-use Rattle.surf_surfaces.proofs.ChoiceExists.{choice_exists}
-use Rattle.surf_surfaces.proofs.FewBasesLaws.{least_base_on_way}
-use Rattle.surf_surfaces.proofs.FirstCycleLaws.{shortest_trees}
-use Rattle.surf_surfaces.proofs.LeastLaws.{all_each, all_mapped}
-use Rattle.surf_surfaces.proofs.LoopsAtLaws.{IsLoopAt, loops_each}
+use Rattle.surf_surfaces.proofs.bases.CoveredLaws.{contains-map}
+use Rattle.surf_surfaces.proofs.bases.ChoiceExists.{choice_exists}
+use Rattle.surf_surfaces.proofs.bases.FewBasesLaws.{least_base_on_way}
+use Rattle.surf_surfaces.proofs.bases.FirstCycleLaws.{shortest_trees}
+use Rattle.surf_surfaces.proofs.classes.LeastLaws.{all_each, all_mapped}
+use Rattle.surf_surfaces.proofs.bases.LoopsAtLaws.{IsLoopAt, loops_each}
 use Rattle.surf_firsts.specs.Firsts.{is_no_later, is_up_to, loops_up_to, IsLoopUpTo, AreLoopsUpTo}
 use Rattle.surf_firsts.proofs.FirstLoops.{each_in, filter_twice, first_loops}
 use Rattle.surf_cotree.specs.Tables.{CotreeTables}

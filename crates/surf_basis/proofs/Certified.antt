@@ -1,8 +1,8 @@
 -- The parts of the certificate of the basis.
 use Rattle.surf_surfaces.proofs.Common.{◌≡◌, ℕ, ◌+◌, ◌<◌, ◌++◌, ◌∷◌, [], List, map, refl, sym, ap, ◌∙◌, subst, Mesh, ends, IsSurface, ArePositive, Trees, AreChosenAt, Loop, walks}
-use Rattle.surf_surfaces.proofs.ChoiceExists.{choice_exists, heaviest_exists}
-use Rattle.surf_surfaces.proofs.ClassLaws.{some_vertex}
-use Rattle.surf_surfaces.proofs.ShortestTreeLaws.{shortest_is_tree}
+use Rattle.surf_surfaces.proofs.bases.ChoiceExists.{choice_exists, heaviest_exists}
+use Rattle.surf_surfaces.proofs.classes.ClassLaws.{some_vertex}
+use Rattle.surf_surfaces.proofs.walks.ShortestTreeLaws.{shortest_is_tree}
 use Rattle.surf_validity.specs.Rows.{TreeRows, DualRows, LoopCert, BasisCert}
 use Rattle.surf_validity.specs.Chosen.{rows_for, dual_rows_of, chosen_cert, basis_cert_of}
 use Rattle.surf_validity.specs.Bases.{IsValidBasis}

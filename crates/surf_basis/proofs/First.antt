@@ -1,10 +1,10 @@
 -- The first candidate, base by base.
 use Rattle.surf_surfaces.proofs.Common.{◌≡◌, ℕ, ◌<◌, ◌+◌, ◌↔◌, List, [], ◌∷◌, length, map, Option, Some, None, refl, sym, ap, ◌∙◌, subst, arith, inl, inr, AllByRecursion, option_map, IfSome, cases_lt, Mesh, face_count, edge_count, IsSurface, ArePositive, IsLoopCount, Trees, AreChosen, Loop, loops_at, candidates}
-use Rattle.surf_surfaces.proofs.ClassLaws.{some_vertex}
-use Rattle.surf_surfaces.proofs.ChoiceExists.{choice_exists}
-use Rattle.surf_surfaces.proofs.FirstCycleLaws.{first_is_shortest, candidates_below_two, simple_cycles_separate}
-use Rattle.surf_surfaces.proofs.LoopsAtLaws.{IsLoopAt, loops_are_least}
-use Rattle.surf_surfaces.proofs.CandidateLaws.{IsLoopBelow, below_each}
+use Rattle.surf_surfaces.proofs.classes.ClassLaws.{some_vertex}
+use Rattle.surf_surfaces.proofs.bases.ChoiceExists.{choice_exists}
+use Rattle.surf_surfaces.proofs.bases.FirstCycleLaws.{first_is_shortest, candidates_below_two, simple_cycles_separate}
+use Rattle.surf_surfaces.proofs.bases.LoopsAtLaws.{IsLoopAt, loops_are_least}
+use Rattle.surf_surfaces.proofs.bases.CandidateLaws.{IsLoopBelow, below_each}
 use Rattle.surf_loops.specs.Loops.{LoopTables, loop_of as head_loop, IsGreedy}
 use Rattle.surf_loops.specs.declared.head.LoopHead.{LoopHead}
 use Rattle.surf_choice.specs.declared.candidate.Candidate.{Candidate}

@@ -5,10 +5,10 @@ use Rattle.surf_z2.specs.Order.{merge, merge_from}
 use Rattle.surf_z2.proofs.Greedy.{two_step_law}
 use Rattle.surf_z2.proofs.Passing.{greedy_filtered}
 use Rattle.surf_surfaces.specs.FewBases.{AreBases}
-use Rattle.surf_surfaces.proofs.LeastLaws.{all_each}
-use Rattle.surf_surfaces.proofs.GreedyChoiceLaws.{greedy_is_choice}
-use Rattle.surf_surfaces.proofs.CoveredLaws.{below_closed}
-use Rattle.surf_surfaces.proofs.LoopsAtLaws.{IsLoopAt, comes_before-trans, loops_each}
+use Rattle.surf_surfaces.proofs.classes.LeastLaws.{all_each}
+use Rattle.surf_surfaces.proofs.bases.GreedyChoiceLaws.{greedy_is_choice}
+use Rattle.surf_surfaces.proofs.bases.CoveredLaws.{below_closed}
+use Rattle.surf_surfaces.proofs.bases.LoopsAtLaws.{IsLoopAt, comes_before-trans, loops_each}
 use Rattle.surf_choice.specs.declared.candidate.Signed.{Signed}
 use Rattle.surf_choice.specs.Candidates.{signed_earlier, independent_of}
 use Rattle.surf_choice.proofs.Sifted.{all_merged, all_kept}

@@ -3,8 +3,8 @@ use Rattle.surf_surfaces.proofs.Common.{◌≡◌, ℕ, Bool, true, false, List,
 use Rattle.std.specs.Prelude.{MatchBool, slice_index_or}
 use Rattle.surf_surfaces.specs.Homology.{IsBoundary, IsNull, total_parity}
 use Rattle.surf_surfaces.specs.Choice.{Trees, AreChosen, Loop, candidates, DependsOn, DependsAt, IsGreedyChoice}
-use Rattle.surf_surfaces.proofs.CycleLaws.{null_cycles_separate}
-use Rattle.surf_surfaces.proofs.FirstCycleLaws.{first_is_shortest}
+use Rattle.surf_surfaces.proofs.walks.CycleLaws.{null_cycles_separate}
+use Rattle.surf_surfaces.proofs.bases.FirstCycleLaws.{first_is_shortest}
 use Rattle.surf_basis.specs.declared.cycle.Cycle.{Cycle}
 use Rattle.surf_basis.specs.Cycles.{first_of, as_loop, as_loops, IsTheBasis, IsFirstCandidate}
 

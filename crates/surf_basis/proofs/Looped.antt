@@ -2,10 +2,10 @@
 use Rattle.surf_surfaces.proofs.Common.{◌≡◌, ℕ, ◌<◌, ◌+◌, true, List, [], ◌∷◌, length, map, Contains, refl, sym, ap, ◌∙◌, subst, arith, AllByRecursion, length-map, get_or-map, All-from_recursion, All-contains, Contains-permutation, Mesh, edge_count, face_count, IsSurface, ArePositive, IsLoopCount, loop_walk, Trees, AreChosenAt, AreChosen, Loop, comes_before, loop_at, loops_at, candidates, IsGreedyChoice, IsChosenBasis}
 use Rattle.surf_z2.proofs.Merge.{sorted-permutes}
 use Rattle.surf_surfaces.specs.Cotree.{is_left, left_edges}
-use Rattle.surf_surfaces.proofs.CotreeLaws.{passing_found}
-use Rattle.surf_surfaces.proofs.LoopsAtLaws.{IsLoopAt, loops_each}
-use Rattle.surf_surfaces.proofs.LoopsOne.{loops_are_one}
-use Rattle.surf_surfaces.proofs.FirstCycleLaws.{candidates_below_two}
+use Rattle.surf_surfaces.proofs.classes.CotreeLaws.{passing_found}
+use Rattle.surf_surfaces.proofs.bases.LoopsAtLaws.{IsLoopAt, loops_each}
+use Rattle.surf_surfaces.proofs.bases.LoopsOne.{loops_are_one}
+use Rattle.surf_surfaces.proofs.bases.FirstCycleLaws.{candidates_below_two}
 use Rattle.surf_loops.specs.Loops.{LoopTables, trees_of, loop_of, IsGreedy}
 use Rattle.surf_loops.specs.declared.head.LoopHead.{LoopHead}
 use Rattle.surf_basis.specs.Candidates.{candidate_of, loop_in}

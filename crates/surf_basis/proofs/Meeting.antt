@@ -1,7 +1,7 @@
 -- Lists of vertices that every closed walk meets which isn't null.
 use Rattle.surf_surfaces.proofs.Common.{ℕ, List, sym, ◌∙◌, inl, inr, Mesh, ends, IsSurface, MeetsAll}
-use Rattle.surf_surfaces.proofs.SignedEndsLaws.{signed_ends_meet_all}
-use Rattle.surf_opening.proofs.OffTheCutMarked.{walks_are_null_or_meet_marked}
+use Rattle.surf_surfaces.proofs.walks.SignedEndsLaws.{signed_ends_meet_all}
+use Rattle.surf_opening.proofs.cuts.OffTheCutMarked.{walks_are_null_or_meet_marked}
 use Rattle.surf_tree.specs.Tables.{tree_of}
 use Rattle.surf_cotree.specs.Tables.{CotreeTables, cotree_of}
 use Rattle.surf_loops.specs.Loops.{LoopTables}

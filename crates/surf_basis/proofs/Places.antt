@@ -5,9 +5,9 @@ use Rattle.std.proofs.lemmas.List.Elements.{filter_more, recursion_from_All}
 use Rattle.surf_z2.proofs.Passing.{filter_none, filter_merge_out, sorted_filtered}
 use Rattle.surf_surfaces.specs.Choice.{Trees, Loop, comes_before, loops_at, loops_below}
 use Rattle.surf_surfaces.specs.FewBases.{place_of_loop}
-use Rattle.surf_surfaces.proofs.CandidateLaws.{below-sorted, below_more}
-use Rattle.surf_surfaces.proofs.LeastLaws.{all_each}
-use Rattle.surf_surfaces.proofs.LoopsAtLaws.{IsLoopAt, comes_before-trans, loops-sorted, loops_each}
+use Rattle.surf_surfaces.proofs.bases.CandidateLaws.{below-sorted, below_more}
+use Rattle.surf_surfaces.proofs.classes.LeastLaws.{all_each}
+use Rattle.surf_surfaces.proofs.bases.LoopsAtLaws.{IsLoopAt, comes_before-trans, loops-sorted, loops_each}
 use Rattle.surf_choice.specs.declared.candidate.Signed.{Signed}
 use Rattle.surf_basis.specs.Kept.{placed_below, HasBases}
 use Rattle.surf_search.specs.Places.{lengths_at, has_length, is_placed}

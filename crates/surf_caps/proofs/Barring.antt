@@ -9,11 +9,11 @@ use Rattle.surf_graphs.proofs.Through.{walk_parts}
 use Rattle.surf_graphs.proofs.Independence.{signature_of-same, signature_of-linear, walk_sums}
 use Rattle.surf_graphs.proofs.Walks.{walk_in, same_off}
 use Rattle.surf_surfaces.specs.FewBases.{Place, place_at, least_base, Found, is_within, walks_found, DependsAtPlace}
-use Rattle.surf_surfaces.proofs.CellLaws.{surfaces_are_cells}
-use Rattle.surf_surfaces.proofs.ClassLaws.{some_split}
-use Rattle.surf_surfaces.proofs.FewBasesLaws.{no_later_from, least_base_on_way, loop_class}
-use Rattle.surf_surfaces.proofs.FirstFoundLaws.{loop_closed}
-use Rattle.surf_surfaces.proofs.GreedyChoiceLaws.{spanned_from_depends}
+use Rattle.surf_surfaces.proofs.meshes.CellLaws.{surfaces_are_cells}
+use Rattle.surf_surfaces.proofs.classes.ClassLaws.{some_split}
+use Rattle.surf_surfaces.proofs.bases.FewBasesLaws.{no_later_from, least_base_on_way, loop_class}
+use Rattle.surf_surfaces.proofs.bases.FirstFoundLaws.{loop_closed}
+use Rattle.surf_surfaces.proofs.bases.GreedyChoiceLaws.{spanned_from_depends}
 use Rattle.surf_firsts.specs.Near.{is_shorter_by, AgreeOff, IsSoughtFromStart}
 use Rattle.surf_firsts.proofs.Parts.{IsOver, two_parts_over}
 use Rattle.surf_caps.specs.Barred.{DependOnShorterOr, BarredSearchesSuffice, NearPlacesNeedNoMore}

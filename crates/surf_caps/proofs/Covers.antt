@@ -7,17 +7,17 @@ use Rattle.surf_z2.proofs.Passing.{all_passing}
 use Rattle.surf_z2.proofs.Ranks.{in_wider}
 use Rattle.surf_graphs.proofs.Through.{two_parts}
 use Rattle.surf_surfaces.specs.FewBases.{least_base, Place, is_no_later, place_at, Found, place_of_found, place_of_loop, is_within, walks_within, DependsAtPlace}
-use Rattle.surf_surfaces.proofs.CoveredLaws.{walk_covered}
-use Rattle.surf_surfaces.proofs.CandidateLaws.{IsLoopBelow, below_each}
-use Rattle.surf_surfaces.proofs.CellLaws.{surfaces_are_cells}
-use Rattle.surf_surfaces.proofs.ChoiceExists.{choice_exists}
-use Rattle.surf_surfaces.proofs.ClassLaws.{some_split, runs_loop}
-use Rattle.surf_surfaces.proofs.FewBasesLaws.{no_later_from, no_later-trans, is_loop_within, least_base_on_way, loop_class, walk_at_spanned, found_within, candidates_within}
-use Rattle.surf_surfaces.proofs.FirstCycleLaws.{shortest_trees}
-use Rattle.surf_surfaces.proofs.FirstFoundLaws.{loop_closed}
-use Rattle.surf_surfaces.proofs.GraphWalkLaws.{graph_walk}
-use Rattle.surf_surfaces.proofs.GreedyChoiceLaws.{spanned_from_depends}
-use Rattle.surf_surfaces.proofs.LeastLaws.{all_each}
+use Rattle.surf_surfaces.proofs.bases.CoveredLaws.{walk_covered}
+use Rattle.surf_surfaces.proofs.bases.CandidateLaws.{IsLoopBelow, below_each}
+use Rattle.surf_surfaces.proofs.meshes.CellLaws.{surfaces_are_cells}
+use Rattle.surf_surfaces.proofs.bases.ChoiceExists.{choice_exists}
+use Rattle.surf_surfaces.proofs.classes.ClassLaws.{some_split, runs_loop}
+use Rattle.surf_surfaces.proofs.bases.FewBasesLaws.{no_later_from, no_later-trans, is_loop_within, least_base_on_way, loop_class, walk_at_spanned, found_within, candidates_within}
+use Rattle.surf_surfaces.proofs.bases.FirstCycleLaws.{shortest_trees}
+use Rattle.surf_surfaces.proofs.bases.FirstFoundLaws.{loop_closed}
+use Rattle.surf_surfaces.proofs.walks.GraphWalkLaws.{graph_walk}
+use Rattle.surf_surfaces.proofs.bases.GreedyChoiceLaws.{spanned_from_depends}
+use Rattle.surf_surfaces.proofs.classes.LeastLaws.{all_each}
 use Rattle.surf_firsts.specs.Near.{IsSoughtFromStart}
 use Rattle.surf_caps.specs.Heights.{IsSumOfShorter}
 use Rattle.surf_caps.proofs.Over.{depends_within, over_vertex}

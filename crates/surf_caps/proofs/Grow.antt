@@ -5,11 +5,11 @@ use Rattle.std.proofs.lemmas.List.Elements.{recursion_from_All, All-from_recursi
 use Rattle.surf_z2.proofs.Greedy.{greedy_law, all_kept}
 use Rattle.surf_z2.proofs.Passing.{member_in, all_passing, all_greedy, sorted_greedy, ArePassingFirst, filter_of_greedy}
 use Rattle.surf_surfaces.specs.FewBases.{Place, is_no_later, place_at, Found, place_of_found, is_within, walks_found, walks_within, IsFoundAt, IsFoundLoop, DependsAtPlace, comes_no_later, IsFoundChoice, AreFoundAt}
-use Rattle.surf_surfaces.proofs.ClassLaws.{some_split, null_by_class, independent_by_classes}
-use Rattle.surf_surfaces.proofs.FewBasesLaws.{no_later-trans, no_later-same}
-use Rattle.surf_surfaces.proofs.FirstFoundLaws.{loop_closed}
-use Rattle.surf_surfaces.proofs.FoundLaws.{found_choice_is_greedy}
-use Rattle.surf_surfaces.proofs.LeastLaws.{all_each, all_mapped}
+use Rattle.surf_surfaces.proofs.classes.ClassLaws.{some_split, null_by_class, independent_by_classes}
+use Rattle.surf_surfaces.proofs.bases.FewBasesLaws.{no_later-trans, no_later-same}
+use Rattle.surf_surfaces.proofs.bases.FirstFoundLaws.{loop_closed}
+use Rattle.surf_surfaces.proofs.bases.FoundLaws.{found_choice_is_greedy}
+use Rattle.surf_surfaces.proofs.classes.LeastLaws.{all_each, all_mapped}
 use Rattle.surf_caps.specs.Caps.{Sought, with_places, IsFoundBy, AreEnoughFor, IsNextChoice, ChoiceKeeps, CapsGrowEnough}
 use Rattle.surf_caps.proofs.Covers.{all_closed_by}
 use Rattle.surf_caps.proofs.Over.{within, depends_within, within_depends}

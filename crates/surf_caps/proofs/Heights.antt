@@ -6,8 +6,8 @@ use Rattle.surf_z2.specs.Space.{numbers, chains}
 use Rattle.surf_z2.proofs.Linear.{sum_over, over_in, linear-sum_over, sum_over-at}
 use Rattle.surf_z2.proofs.ParityLaws.{and_comm, eqb_comm, odd_below-same, odd_below-one, any_below-found, any_below-none}
 use Rattle.surf_graphs.proofs.Walks.{walk_has_ends}
-use Rattle.surf_surfaces.proofs.GraphWalkLaws.{graph_walk}
-use Rattle.surf_surfaces.proofs.GreedyChoiceLaws.{depends_from_spanned}
+use Rattle.surf_surfaces.proofs.walks.GraphWalkLaws.{graph_walk}
+use Rattle.surf_surfaces.proofs.bases.GreedyChoiceLaws.{depends_from_spanned}
 use Rattle.surf_caps.specs.Heights.{IsSumOfShorter, AreHeights, is_above, cycle_at, HighEdgesExist}
 use Rattle.surf_caps.specs.Caps.{place_of_walk, AreSized, asks, AskedEndsMeet}
 

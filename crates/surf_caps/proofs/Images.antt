@@ -11,13 +11,13 @@ use Rattle.surf_z2.specs.Space.{Space, numbers, is_nothing, Independent, Spanned
 use Rattle.surf_z2.proofs.Greedy.{not_spans}
 use Rattle.surf_z2.proofs.Passing.{member_in}
 use Rattle.surf_z2.proofs.Span.{InSpan, AllInSpan, trans_in, rest_in, Free, in_from_spanned, spanned_from_in, free_from_independent}
-use Rattle.surf_surfaces.proofs.FirstFoundLaws.{loop_closed}
+use Rattle.surf_surfaces.proofs.bases.FirstFoundLaws.{loop_closed}
 use Rattle.surf_surfaces.specs.FewBases.{place_at, Found, is_within, walks_found, comes_no_later, IsFoundChoice}
-use Rattle.surf_surfaces.proofs.ClassLaws.{independent_by_classes}
-use Rattle.surf_surfaces.proofs.FoundLaws.{greedy_is_found_choice}
-use Rattle.surf_surfaces.proofs.GreedyChoiceLaws.{depends_from_spanned}
-use Rattle.surf_surfaces.proofs.LeastLaws.{all_each, all_mapped}
-use Rattle.surf_surfaces.proofs.FewBasesLaws.{no_later_from}
+use Rattle.surf_surfaces.proofs.classes.ClassLaws.{independent_by_classes}
+use Rattle.surf_surfaces.proofs.bases.FoundLaws.{greedy_is_found_choice}
+use Rattle.surf_surfaces.proofs.bases.GreedyChoiceLaws.{depends_from_spanned}
+use Rattle.surf_surfaces.proofs.classes.LeastLaws.{all_each, all_mapped}
+use Rattle.surf_surfaces.proofs.bases.FewBasesLaws.{no_later_from}
 use Rattle.surf_firsts.proofs.Chosen.{free_before}
 use Rattle.surf_caps.specs.Caps.{place_of_walk, up_to_length, SetsMeet, EverywhereMeets, MeetsFewer}
 use Rattle.surf_caps.specs.Heights.{is_above, cycle_at}

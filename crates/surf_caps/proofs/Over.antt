@@ -3,10 +3,10 @@ use Rattle.surf_surfaces.proofs.Common.{◌≡◌, ℕ, ◌<◌, ◌≤◌, true
 use Rattle.surf_z2.proofs.Ranks.{in_wider}
 use Rattle.surf_graphs.proofs.Through.{over_spanned}
 use Rattle.surf_surfaces.specs.FewBases.{least_base, Place, is_no_later, place_at, Found, is_within, walks_within}
-use Rattle.surf_surfaces.proofs.CellLaws.{surfaces_are_cells}
-use Rattle.surf_surfaces.proofs.FewBasesLaws.{no_later_from, no_later-trans, least_base_no_greater, loop_class}
-use Rattle.surf_surfaces.proofs.GreedyChoiceLaws.{spanned_from_depends, depends_from_spanned}
-use Rattle.surf_surfaces.proofs.LeastLaws.{all_mapped}
+use Rattle.surf_surfaces.proofs.meshes.CellLaws.{surfaces_are_cells}
+use Rattle.surf_surfaces.proofs.bases.FewBasesLaws.{no_later_from, no_later-trans, least_base_no_greater, loop_class}
+use Rattle.surf_surfaces.proofs.bases.GreedyChoiceLaws.{spanned_from_depends, depends_from_spanned}
+use Rattle.surf_surfaces.proofs.classes.LeastLaws.{all_mapped}
 use Rattle.surf_caps.specs.Caps.{Sought, AreSoughtFromStart, AreEnoughFor}
 
 module _ (mesh : Mesh) (d : Split) (surface : IsSurface mesh) (split : IsSplit (cells_of mesh) d) where

@@ -7,16 +7,16 @@ use Rattle.surf_z2.proofs.Passing.{some_or_none, filter_all, ArePassingFirst, al
 use Rattle.surf_z2.proofs.Ranks.{in_wider, in_whole, free_filter}
 use Rattle.surf_z2.proofs.Span.{InSpan, AllInSpan, Free, count, trans_in, in_from_spanned, spanned_from_in, free_from_independent}
 use Rattle.surf_surfaces.specs.FewBases.{Place, is_no_later, Found, place_of_found, place_of_loop, is_within, IsWithin, walks_found, HasFound, comes_no_later, comes_sooner, every_place}
-use Rattle.surf_surfaces.proofs.CoveredLaws.{runs, walk_covered}
-use Rattle.surf_surfaces.proofs.BasisLaws.{basis_is, basis_of, basis_is_one}
-use Rattle.surf_surfaces.proofs.SimpleLaws.{basis_each}
-use Rattle.surf_surfaces.proofs.CandidateLaws.{IsLoopBelow, below-sorted, below_each}
-use Rattle.surf_surfaces.proofs.ClassLaws.{runs_loop, some_split, independent_by_classes}
-use Rattle.surf_surfaces.proofs.FewBasesLaws.{no_later-trans, earlier, is_loop_within}
-use Rattle.surf_surfaces.proofs.FoundPlaces.{up_to, same_places, sorted_places, by_place}
-use Rattle.surf_surfaces.proofs.FirstCycleLaws.{shortest_trees}
-use Rattle.surf_surfaces.proofs.LeastLaws.{all_each, all_mapped}
-use Rattle.surf_surfaces.proofs.LoopsAtLaws.{comes_before-trans, comes_before-strict}
+use Rattle.surf_surfaces.proofs.bases.CoveredLaws.{runs, walk_covered}
+use Rattle.surf_surfaces.proofs.bases.BasisLaws.{basis_is, basis_of, basis_is_one}
+use Rattle.surf_surfaces.proofs.bases.SimpleLaws.{basis_each}
+use Rattle.surf_surfaces.proofs.bases.CandidateLaws.{IsLoopBelow, below-sorted, below_each}
+use Rattle.surf_surfaces.proofs.classes.ClassLaws.{runs_loop, some_split, independent_by_classes}
+use Rattle.surf_surfaces.proofs.bases.FewBasesLaws.{no_later-trans, earlier, is_loop_within}
+use Rattle.surf_surfaces.proofs.bases.FoundPlaces.{up_to, same_places, sorted_places, by_place}
+use Rattle.surf_surfaces.proofs.bases.FirstCycleLaws.{shortest_trees}
+use Rattle.surf_surfaces.proofs.classes.LeastLaws.{all_each, all_mapped}
+use Rattle.surf_surfaces.proofs.bases.LoopsAtLaws.{comes_before-trans, comes_before-strict}
 use Rattle.surf_firsts.specs.Near.{IsSoughtFromStart}
 use Rattle.surf_caps.specs.Heights.{IsSumOfShorter}
 use Rattle.surf_caps.specs.Caps.{place_of_walk, ChosenLoopsAreMet, Sought, AreSoughtFromStart, MeetsUpTo, IsFoundBy, AreEnoughFor, places_found, places_chosen, EnoughHavePlaces, FullCountHasPlaces, up_to_length}

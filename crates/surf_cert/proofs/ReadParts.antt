@@ -3,7 +3,7 @@ use Rattle.surf_surfaces.proofs.Common.{◌≡◌, ◌<◌, ◌+◌, ◌^◌, �
 use Rattle.std.specs.List.{All, AllPairs, zip}
 use Rattle.std.proofs.lemmas.List.Elements.{All-nil, All-cons}
 use Rattle.std.proofs.lemmas.List.Kept.{AllPairs-cons}
-use Rattle.surf_surfaces.proofs.PairLaws.{pair_lt-trans}
+use Rattle.surf_surfaces.proofs.meshes.PairLaws.{pair_lt-trans}
 use Rattle.surf_text.specs.Text.{TextLine, tokens_of, lines_of}
 use Rattle.surf_records.specs.declared.cert.Cert.{Cert}
 use Rattle.surf_cert.specs.declared.fault.CertText.{CertText}

@@ -4,8 +4,8 @@ use Rattle.std.specs.Result.{IfOk, IfErr}
 use Rattle.std.specs.declared.result.Result.{Result}
 use Rattle.std.specs.declared.result.Result.TheVariants.{Ok, Err}
 use Rattle.surf_surfaces.specs.Homology.{total, IsLeastBasis}
-use Rattle.surf_surfaces.proofs.PairLaws.{pair_eq-true}
-use Rattle.surf_surfaces.proofs.EdgeLaws.{among-contains, list_any_at}
+use Rattle.surf_surfaces.proofs.meshes.PairLaws.{pair_eq-true}
+use Rattle.surf_surfaces.proofs.meshes.EdgeLaws.{among-contains, list_any_at}
 use Rattle.surf_validity.specs.Rows.{BasisCert}
 use Rattle.surf_validity.specs.Bases.{tree_at, IsClosedList, IsValidBasis, basis_total}
 use Rattle.surf_validity.proofs.BasisLaws.{valid_bases_are_least}

@@ -1,7 +1,7 @@
 -- The fault of a certificate of loops is its first one, and one with a fault isn't valid.
 use Rattle.surf_surfaces.proofs.Common.{◌≢◌, ℕ, zero, suc, List, get_or, refl, sym, ap, inl, inr, ◌∙◌, true≢false, Mesh, pair_of, pair_eq, edges, among, edge_count}
-use Rattle.surf_surfaces.proofs.PairLaws.{pair_eq-true}
-use Rattle.surf_surfaces.proofs.EdgeLaws.{among-contains, list_any_at}
+use Rattle.surf_surfaces.proofs.meshes.PairLaws.{pair_eq-true}
+use Rattle.surf_surfaces.proofs.meshes.EdgeLaws.{among-contains, list_any_at}
 use Rattle.surf_validity.specs.Rows.{TreeRows, DualRows, LoopCert}
 use Rattle.surf_validity.specs.Valid.{HasShape, IsNoShortCut, IsDualValid, IsDivided, HasNoShorter, IsValidLoops}
 use Rattle.surf_treecheck.specs.First.{HoldsBelow}

@@ -1,6 +1,6 @@
 -- A certificate has one fault.
 use Rattle.surf_surfaces.proofs.Common.{◌≡◌, ◌≢◌, ℕ, ◌<◌, List, length, sym, ap, subst, inl, inr, ◌∙◌, true≢false, cases_Bool, Mesh, pair_eq, edge_count, ends, IsLoopCount}
-use Rattle.surf_surfaces.proofs.PairLaws.{pair_eq-true, pair_lt-total}
+use Rattle.surf_surfaces.proofs.meshes.PairLaws.{pair_eq-true, pair_lt-total}
 use Rattle.surf_validity.specs.Rows.{TreeRows, DualRows, LoopCert}
 use Rattle.surf_validity.specs.Valid.{IsNoShortCut, HasNoShorter, IsNotHeavier}
 use Rattle.surf_treecheck.specs.First.{FailsFirst}

@@ -1,6 +1,6 @@
 -- What the conditions on the trees of a certificate show.
 use Rattle.surf_surfaces.proofs.Common.{◌≡◌, ℕ, ◌<◌, ◌+◌, Bool, true, false, not, ◌&&◌, List, length, get_or, slice_index, filter, map, refl, sym, ap, ◌∙◌, subst, arith, range_with_len, get_or-map-range_with_len, length-map-range_with_len, dual, Split, IsTree, left_edges as left_count, cells_of, is_left, tree_edges, cotree_edges, Mesh, edge_signature, edge_count, face_count, IsSurface, ArePositive}
-use Rattle.surf_surfaces.proofs.ClassLaws.{some_vertex}
+use Rattle.surf_surfaces.proofs.classes.ClassLaws.{some_vertex}
 use Rattle.surf_signatures.proofs.Passing.{passing_same}
 use Rattle.surf_signatures.specs.Tables.{face_tree, HangsBy}
 use Rattle.surf_validity.specs.Bases.{tree_at, split_in, HasBasisShape}

@@ -1,10 +1,10 @@
 -- Where each vertex but vertex 0 has a lesser neighbour and one fan, all faces are joined.
 use Rattle.surf_surfaces.proofs.Common.{◌≡◌, ◌<◌, ◌≤◌, ◌==◌, ◌∙◌, ℕ, zero, suc, true, get_or, length, [], refl, sym, subst, arith, eqb-true, get_or_default, Joined, here, over, Mesh, IsMesh, edges, pair, pair_eq, among, face_count, face_at, edge_count, ends, has_side, HasCorner, HasOneFan, Share, ShareAt, IsConnected}
-use Rattle.surf_surfaces.proofs.PairLaws.{pair_eq-same}
-use Rattle.surf_surfaces.proofs.JoinedLaws.{joined_trans, joined_sym, joined_lift}
-use Rattle.surf_surfaces.proofs.EdgeLaws.{list_any_at, list_any_from, among-edges}
-use Rattle.surf_surfaces.proofs.CellLaws.{ends_below}
-use Rattle.surf_surfaces.proofs.WalkLaws.{side_corners}
+use Rattle.surf_surfaces.proofs.meshes.PairLaws.{pair_eq-same}
+use Rattle.surf_surfaces.proofs.meshes.JoinedLaws.{joined_trans, joined_sym, joined_lift}
+use Rattle.surf_surfaces.proofs.meshes.EdgeLaws.{list_any_at, list_any_from, among-edges}
+use Rattle.surf_surfaces.proofs.meshes.CellLaws.{ends_below}
+use Rattle.surf_surfaces.proofs.walks.WalkLaws.{side_corners}
 use Rattle.surf_check.specs.Descent.{HaveLesserNeighbours}
 
 -- a face with both ends of an edge as corners

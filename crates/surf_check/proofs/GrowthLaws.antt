@@ -1,7 +1,7 @@
 -- A tree of the faces that grows.
 use Rattle.surf_surfaces.proofs.Common.{◌≡◌, ◌≢◌, ℕ, ◌<◌, Bool, true, false, List, [], ◌∷◌, ◌++◌, length, get_or, set, replicate, refl, sym, ap, subst, ◌∙◌, arith, inl, inr, true≢false, cases_eq, length_push, get_or_push, get_or_append_left, xor, joins, IsTree, dual, Mesh, face_count, edge_count, IsSurface, cells_of, IsFaceOf}
 use Rattle.std.proofs.lemmas.List.{length-replicate, get_or-replicate, length-set, get_or-set_same, get_or-set_other}
-use Rattle.surf_surfaces.proofs.JoinedLaws.{joined_closed}
+use Rattle.surf_surfaces.proofs.meshes.JoinedLaws.{joined_closed}
 use Rattle.surf_orientation.specs.Chains.{same_way, FollowTree}
 use Rattle.surf_soup.specs.Reach.{marked}
 use Rattle.surf_soup.proofs.ReachSteps.{marked-inside, unmarked-fresh, none_marked}

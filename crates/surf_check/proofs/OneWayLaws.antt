@@ -1,6 +1,6 @@
 -- Where no side begins with its mate, all faces run the same way.
 use Rattle.surf_surfaces.proofs.Common.{◌≡◌, ◌∙◌, ◌<◌, ℕ, false, eqb, List, get_or, refl, sym, ap, eq-eqb, ne_eqb, true≢false, xor, Mesh, edges, IsSurface, side_count, pair_at, owners, IsEdgeOf, place_of}
-use Rattle.surf_surfaces.proofs.EdgeLaws.{place_of-among}
+use Rattle.surf_surfaces.proofs.meshes.EdgeLaws.{place_of-among}
 use Rattle.surf_orientation.specs.Chains.{misfit}
 use Rattle.surf_orientation.proofs.OneSidedLaws.{orientations_fit}
 use Rattle.surf_soup.specs.Half.{AreAllMates}

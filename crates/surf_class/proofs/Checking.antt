@@ -3,7 +3,7 @@ use Rattle.std.proofs.Common.{◌≡◌, ◌≢◌, ℕ, ◌<◌, ◌≤◌, Boo
 use Rattle.surf_surfaces.proofs.Common.{position, get_or_default, xor, Chain, Mesh, edges, pair_lt, face_count, edge_count, faces_of, ends, IsSurface, boundary, edge_number}
 use Rattle.std.proofs.lemmas.List.Quantifiers.{position-Some}
 use Rattle.surf_class.proofs.Lists.{none_passes}
-use Rattle.surf_surfaces.proofs.CellLaws.{surfaces_are_cells}
+use Rattle.surf_surfaces.proofs.meshes.CellLaws.{surfaces_are_cells}
 use Rattle.surf_surfaces.proofs.LawProofs.{edges_are_numbered}
 use Rattle.surf_treecheck.specs.First.{HoldsBelow, FailsFirst}
 use Rattle.surf_treecheck.specs.Split.{AreFlags, is_flagged}

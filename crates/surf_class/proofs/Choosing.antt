@@ -5,7 +5,7 @@ use Rattle.surf_z2.specs.Parity.{xor, xor_comm}
 use Rattle.surf_graphs.proofs.Graphs.{leaves_joined}
 use Rattle.surf_graphs.proofs.Trees.{along, along_root, along_step}
 use Rattle.surf_surfaces.specs.Homology.{IsBoundary, boundary}
-use Rattle.surf_surfaces.proofs.CellLaws.{surfaces_are_cells}
+use Rattle.surf_surfaces.proofs.meshes.CellLaws.{surfaces_are_cells}
 use Rattle.surf_cotree.specs.Tables.{CotreeTables, split_with, cotree_of}
 use Rattle.surf_treecheck.specs.Split.{AreFlags}
 use Rattle.surf_signatures.specs.Signs.{has_left}

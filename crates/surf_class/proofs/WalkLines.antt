@@ -3,7 +3,7 @@ use Rattle.surf_surfaces.proofs.Common.{◌≡◌, ℕ, suc, ◌<◌, ◌+◌, B
 use Rattle.std.proofs.lemmas.Bool.{leb-false, eqb-true}
 use Rattle.surf_text.specs.Text.{TextLine, tokens_of, lines_of}
 use Rattle.surf_surfaces.specs.Walk.{first, last, IsClosed}
-use Rattle.surf_surfaces.proofs.EdgeLaws.{contains_from_among}
+use Rattle.surf_surfaces.proofs.meshes.EdgeLaws.{contains_from_among}
 use Rattle.surf_cert.specs.Lines.{cert_number}
 use Rattle.surf_class.specs.Numbers.{onto_numbers, numbers_from}
 use Rattle.surf_base.specs.Gives.{◌>>=◌}

@@ -4,8 +4,8 @@ use Rattle.surf_z2.specs.Below.{number_of}
 use Rattle.surf_z2.proofs.Passing.{filter_same}
 use Rattle.surf_graphs.specs.Trees.{on_way, on_path}
 use Rattle.surf_surfaces.specs.Cotree.{tree_edges, cotree_edges, is_left, left_edges, split_of}
-use Rattle.surf_surfaces.proofs.CellLaws.{surfaces_are_cells}
-use Rattle.surf_surfaces.proofs.LoopsOne.{trees_same, cotrees_same}
+use Rattle.surf_surfaces.proofs.meshes.CellLaws.{surfaces_are_cells}
+use Rattle.surf_surfaces.proofs.bases.LoopsOne.{trees_same, cotrees_same}
 use Rattle.surf_classes.specs.EvidenceLaws.{OddChoiceIsThatOfAllTrees}
 use Rattle.surf_classes.proofs.Listed.{passing_below}
 use Rattle.surf_classes.proofs.OddChoice.{choice_same}

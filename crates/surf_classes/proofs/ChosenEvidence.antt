@@ -1,9 +1,9 @@
 -- Of the evidence of closed walks one is chosen, and it is right.
 use Rattle.surf_surfaces.proofs.Common.{◌≡◌, ℕ, List, sym, ap, ◌∙◌, arith, inl, inr, cases_eq, get_or-replicate, Chain, Split, IsSplit, signature_of, Mesh, edge_count, IsSurface, edge_length, ArePositive, cells_of, Trees, AreChosenAt, split_of}
 use Rattle.surf_surfaces.specs.Homology.{IsBoundary}
-use Rattle.surf_surfaces.proofs.ChoiceExists.{choice_exists}
-use Rattle.surf_surfaces.proofs.ClassLaws.{some_vertex}
-use Rattle.surf_surfaces.proofs.LoopsAtLaws.{split_is}
+use Rattle.surf_surfaces.proofs.bases.ChoiceExists.{choice_exists}
+use Rattle.surf_surfaces.proofs.classes.ClassLaws.{some_vertex}
+use Rattle.surf_surfaces.proofs.bases.LoopsAtLaws.{split_is}
 use Rattle.surf_classes.specs.Evidence.{joint_parity, is_listed, Evidence, null_faces, odd_pairs, IsChosenNull, IsChosenOdd, IsChosen, unit_lengths}
 use Rattle.surf_classes.specs.EvidenceLaws.{ChosenEvidenceIsRight, ChosenEvidenceIsOne, ClassEvidenceIsRight, ClassEvidenceIsOne}
 use Rattle.surf_classes.proofs.OneKind.{evidence_is_of_one_kind}

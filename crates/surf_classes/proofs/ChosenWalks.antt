@@ -1,8 +1,8 @@
 -- There is one chosen walk in each class.
 use Rattle.surf_surfaces.proofs.Common.{◌≡◌, ℕ, suc, ◌+◌, ◌<◌, ◌≤◌, ◌⊎◌, List, [], ◌∷◌, ◌++◌, length, reverse, refl, sym, ap, ◌∙◌, subst, arith, inl, inr, Contains, cases_lt, All-from_recursion, xor-false, primal, Split, IsSplit, graph_walk_length, Mesh, pair_of, edges, IsSurface, IsClosed, ArePositive, edge_length, first, parity, walk_length, tail, cells_of, edge_signature, walk_signature}
 use Rattle.std.proofs.lemmas.List.{reverse-reverse, length-append}
-use Rattle.surf_surfaces.proofs.CellLaws.{surfaces_are_cells}
-use Rattle.surf_surfaces.proofs.ClassLaws.{some_split, some_vertex}
+use Rattle.surf_surfaces.proofs.meshes.CellLaws.{surfaces_are_cells}
+use Rattle.surf_surfaces.proofs.classes.ClassLaws.{some_split, some_vertex}
 use Rattle.surf_classes.specs.Shortest.{IsInClass, IsShortestInClass, IsChosenWalk}
 use Rattle.surf_classes.specs.ShortestLaws.{ChosenWalkIsOne, NullChoiceIsVertex}
 use Rattle.surf_z2.proofs.Sought.{least_such}

@@ -4,7 +4,7 @@ use Rattle.std.proofs.lemmas.Nat.{div-mul-add, mod-mul-add, same_from_place, div
 use Rattle.surf_z2.proofs.Span.{add_zero}
 use Rattle.surf_graphs.specs.Graphs.{Graph, IsGraph, IsGraphWalk, IsJoined, joins, leaves, edge_between}
 use Rattle.surf_graphs.proofs.Graphs.{edge_between_is, leaves_joined}
-use Rattle.surf_surfaces.proofs.CellLaws.{surfaces_are_cells}
+use Rattle.surf_surfaces.proofs.meshes.CellLaws.{surfaces_are_cells}
 use Rattle.surf_classes.specs.Cover.{IsSet}
 use Rattle.surf_classes.specs.CoverGraph.{set_count, cover_node, cover, cover_edge, IsCover, CoversAreGraphs, SearchesCertify}
 use Rattle.surf_classes.proofs.SignedWalks.{walk_sum, xor_twice}

@@ -2,8 +2,8 @@
 use Rattle.surf_surfaces.proofs.Common.{◌≡◌, ℕ, ◌<◌, Bool, true, false, ◌&&◌, List, [], ◌∷◌, refl, arith, Contains, AllByRecursion, and_parts, All-from_recursion, xor, any_below, any_below-none, xor_equal, pair_lt, among, edges, face_count, edge_count, boundary, parity}
 use Rattle.surf_surfaces.specs.SmallMeshes.{three_torus}
 use Rattle.surf_surfaces.specs.Pillow.{pillow}
-use Rattle.surf_surfaces.proofs.PairLaws.{Rising}
-use Rattle.surf_surfaces.proofs.EdgeLaws.{rising_at, contains_from_among}
+use Rattle.surf_surfaces.proofs.meshes.PairLaws.{Rising}
+use Rattle.surf_surfaces.proofs.meshes.EdgeLaws.{rising_at, contains_from_among}
 use Rattle.surf_classes.specs.Evidence.{is_listed, has_odd_sides, is_odd_in, IsOddEvidence, IsChosenNull}
 use Rattle.surf_classes.specs.SmallCases.{torus_pairs}
 use Rattle.surf_classes.proofs.Listed.{climbing_at}

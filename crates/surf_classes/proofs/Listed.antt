@@ -2,8 +2,8 @@
 use Rattle.surf_surfaces.proofs.Common.{◌≡◌, ℕ, zero, suc, ◌+◌, ◌<◌, ◌≤◌, ◌⊎◌, Bool, true, false, ◌||◌, eqb, List, [], ◌∷◌, refl, sym, ◌∙◌, arith, inl, inr, AllPairs, All-from_recursion, recursion_from_All, pair_lt, pair_eq, among}
 use Rattle.std.specs.List.{AllByRecursion, filter, range_with_len}
 use Rattle.std.proofs.lemmas.Bool.{eqb-true, eq-eqb, ne_eqb, cases_eq, cases_Bool, false_from_ne_true, or_cases, or_left, or_from, false≢true}
-use Rattle.surf_surfaces.proofs.PairLaws.{Rising, pair_eq-true, pair_lt-irreflexive}
-use Rattle.surf_surfaces.proofs.FaceLaws.{Once}
+use Rattle.surf_surfaces.proofs.meshes.PairLaws.{Rising, pair_eq-true, pair_lt-irreflexive}
+use Rattle.surf_surfaces.proofs.meshes.FaceLaws.{Once}
 use Rattle.surf_classes.specs.Evidence.{is_listed}
 
 -- by recursion: each number is below all later ones

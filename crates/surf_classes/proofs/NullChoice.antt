@@ -4,7 +4,7 @@ use Rattle.std.specs.List.{AllByRecursion, filter, range_with_len}
 use Rattle.surf_z2.proofs.ParityLaws.{xors, xor-same, xor_ends, xor_pairs, xor_equal, equal_xor}
 use Rattle.surf_graphs.proofs.Graphs.{leaves_joined}
 use Rattle.surf_graphs.proofs.Trees.{down_tree}
-use Rattle.surf_surfaces.proofs.CellLaws.{surfaces_are_cells}
+use Rattle.surf_surfaces.proofs.meshes.CellLaws.{surfaces_are_cells}
 use Rattle.surf_classes.specs.Evidence.{is_listed, IsChosenNull}
 use Rattle.surf_classes.specs.EvidenceLaws.{BoundariesHaveEvidence, NullChoiceIsOne, NullChoiceIsFiltered, NullEvidenceGrows}
 use Rattle.surf_classes.proofs.Listed.{climbing_from, climbing_at, climbing_one, passing_climb, passing_below, passing_listed}

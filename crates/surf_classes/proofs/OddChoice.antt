@@ -7,11 +7,11 @@ use Rattle.surf_graphs.proofs.CellLaws.{face_zero, signature_null}
 use Rattle.surf_graphs.proofs.Graphs.{even-xor}
 use Rattle.surf_graphs.proofs.Independence.{signature_of-linear, null_zero, zero_null}
 use Rattle.surf_graphs.proofs.ShortestWalks.{first_passing}
-use Rattle.surf_surfaces.proofs.CellLaws.{surfaces_are_cells}
-use Rattle.surf_surfaces.proofs.PairLaws.{Rising, pair_eq-true}
-use Rattle.surf_surfaces.proofs.EdgeLaws.{rising_from_AllPairs, rising_at, rising_unique, edges-rise, ends-eq, place_of-ends, place_of-among, among-contains, list_any_at}
-use Rattle.surf_surfaces.proofs.GraphWalkLaws.{closed_parity_even}
-use Rattle.surf_surfaces.proofs.SignatureLaws.{signatures_are_classes}
+use Rattle.surf_surfaces.proofs.meshes.CellLaws.{surfaces_are_cells}
+use Rattle.surf_surfaces.proofs.meshes.PairLaws.{Rising, pair_eq-true}
+use Rattle.surf_surfaces.proofs.meshes.EdgeLaws.{rising_from_AllPairs, rising_at, rising_unique, edges-rise, ends-eq, place_of-ends, place_of-among, among-contains, list_any_at}
+use Rattle.surf_surfaces.proofs.walks.GraphWalkLaws.{closed_parity_even}
+use Rattle.surf_surfaces.proofs.classes.SignatureLaws.{signatures_are_classes}
 use Rattle.surf_classes.specs.Evidence.{joint_parity, AreClosed, is_listed, IsChosenOdd}
 use Rattle.surf_classes.specs.EvidenceLaws.{OddChoiceIsRight, OddChoiceIsOne, OddChoiceIsFiltered, ClassesAreDecided, JointSignaturesAdd}
 use Rattle.surf_classes.proofs.Listed.{Climbing, passing_climb, passing_below, passing_listed, rising_once}

@@ -3,8 +3,8 @@ use Rattle.surf_surfaces.proofs.Common.{◌≡◌, ℕ, ◌<◌, Bool, true, fal
 use Rattle.surf_z2.proofs.ParityLaws.{and_comm, and-false, odd_below-same, odd_below-none}
 use Rattle.surf_graphs.specs.Graphs.{graph_touches}
 use Rattle.surf_graphs.proofs.Graphs.{by_nodes}
-use Rattle.surf_surfaces.proofs.CellLaws.{surfaces_are_cells}
-use Rattle.surf_surfaces.proofs.EdgeLaws.{rising_from_AllPairs, among-contains}
+use Rattle.surf_surfaces.proofs.meshes.CellLaws.{surfaces_are_cells}
+use Rattle.surf_surfaces.proofs.meshes.EdgeLaws.{rising_from_AllPairs, among-contains}
 use Rattle.surf_classes.specs.Evidence.{has_odd_sides, is_listed}
 use Rattle.surf_classes.specs.EvidenceLaws.{EvidenceIsOfOneKind}
 use Rattle.surf_classes.proofs.Listed.{rising_once}

@@ -2,10 +2,10 @@
 use Rattle.surf_surfaces.proofs.Common.{◌≡◌, ℕ, ◌<◌, Bool, true, false, ◌&&◌, ◌||◌, eqb, List, [], ◌∷◌, map, refl, sym, ap, ◌∙◌, arith, AllByRecursion, or_left, or_right, false≢true, map-map, xor, odd, odd_below, Chain, dual, Mesh, sides, pair_of, pair_eq, among, edges, face_count, edge_count, face_at, ends, has_side, borders, faces_of, IsSurface, edge_number, cells_of}
 use Rattle.surf_z2.proofs.ParityLaws.{xor-and, or-xor, eqb_comm, odd_below-same, odd_below-none, odd_below-xor}
 use Rattle.surf_graphs.specs.Graphs.{graph_touches}
-use Rattle.surf_surfaces.proofs.PairLaws.{pair_eq-true, pair_eq-self}
-use Rattle.surf_surfaces.proofs.EdgeLaws.{odd_below-ends, rising_from_AllPairs}
-use Rattle.surf_surfaces.proofs.FaceLaws.{Once, face_once, among-map}
-use Rattle.surf_surfaces.proofs.SurfaceLaws.{two_faces_of, one_of_two, sides_are_edges}
+use Rattle.surf_surfaces.proofs.meshes.PairLaws.{pair_eq-true, pair_eq-self}
+use Rattle.surf_surfaces.proofs.meshes.EdgeLaws.{odd_below-ends, rising_from_AllPairs}
+use Rattle.surf_surfaces.proofs.meshes.FaceLaws.{Once, face_once, among-map}
+use Rattle.surf_surfaces.proofs.meshes.SurfaceLaws.{two_faces_of, one_of_two, sides_are_edges}
 use Rattle.surf_surfaces.proofs.LawProofs.{edges_are_numbered}
 use Rattle.surf_classes.specs.Evidence.{has_odd_sides, is_odd_in}
 use Rattle.surf_classes.specs.EvidenceLaws.{OddSumsAreSumsOverEdges}

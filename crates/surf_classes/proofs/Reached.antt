@@ -6,7 +6,7 @@ use Rattle.surf_z2.proofs.Below.{below_law, same_from, same_from_has, number_of-
 use Rattle.surf_z2.proofs.Span.{add_zero}
 use Rattle.surf_graphs.proofs.CellLaws.{left_once}
 use Rattle.surf_graphs.proofs.Trees.{up_in_tree, down_tree}
-use Rattle.surf_surfaces.proofs.CellLaws.{surfaces_are_cells}
+use Rattle.surf_surfaces.proofs.meshes.CellLaws.{surfaces_are_cells}
 use Rattle.surf_classes.specs.Cover.{IsSet}
 use Rattle.surf_classes.specs.ShortestLaws.{SignedDistancesExist}
 use Rattle.surf_classes.proofs.SignedWalks.{turned, goes_over, goes-append}

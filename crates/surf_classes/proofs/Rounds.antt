@@ -5,9 +5,9 @@ use Rattle.surf_z2.proofs.Span.{same_from_sum}
 use Rattle.surf_graphs.proofs.Graphs.{even-xor}
 use Rattle.surf_graphs.proofs.Independence.{signature_of-linear, null_zero, zero_null}
 use Rattle.surf_surfaces.specs.Walk.{IsWalk, IsClosed, first, last_from, edge_length, edge_number, parity, walk_length}
-use Rattle.surf_surfaces.proofs.CellLaws.{surfaces_are_cells}
-use Rattle.surf_surfaces.proofs.GraphWalkLaws.{between_is_number, walks_are_graph_walks, closed_parity_even}
-use Rattle.surf_surfaces.proofs.SignatureLaws.{signatures_are_classes}
+use Rattle.surf_surfaces.proofs.meshes.CellLaws.{surfaces_are_cells}
+use Rattle.surf_surfaces.proofs.walks.GraphWalkLaws.{between_is_number, walks_are_graph_walks, closed_parity_even}
+use Rattle.surf_surfaces.proofs.classes.SignatureLaws.{signatures_are_classes}
 use Rattle.surf_classes.specs.ShortestLaws.{HomologousBySignature}
 use Rattle.surf_classes.proofs.SignedWalks.{walk_sum, turned, Goes, goes_turned}
 

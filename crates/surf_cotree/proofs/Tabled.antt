@@ -4,8 +4,8 @@ use Rattle.surf_surfaces.proofs.Common.{range_with_len, cases_eq, not-true, and_
 use Rattle.surf_graphs.proofs.CellLaws.{outside_joins}
 use Rattle.surf_signatures.proofs.Passing.{passing_same}
 use Rattle.surf_surfaces.specs.Cotree.{tree_edges, cotree_edges, is_left, left_edges, split_of, precedes, IsHeaviestCotree}
-use Rattle.surf_surfaces.proofs.CellLaws.{surfaces_are_cells}
-use Rattle.surf_surfaces.proofs.CotreeLaws.{trees_split, not-false_is, between_inside}
+use Rattle.surf_surfaces.proofs.meshes.CellLaws.{surfaces_are_cells}
+use Rattle.surf_surfaces.proofs.classes.CotreeLaws.{trees_split, not-false_is, between_inside}
 use Rattle.surf_base.specs.Tables.{nobody, at}
 use Rattle.surf_cotree.specs.Tables.{CotreeTables, cotree_of, AreCotreeTables, split_with, width_for}
 use Rattle.surf_cotree.specs.Searches.{outside, is_unmarked, IsHeaviestTree}

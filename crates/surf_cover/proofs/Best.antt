@@ -1,8 +1,8 @@
 -- The least vertex at which a round is shortest, found by searches from the lesser ends of some edges.
 use Rattle.surf_surfaces.proofs.Common.{◌≡◌, ◌≢◌, ℕ, ◌+◌, ◌^◌, ◌<◌, ◌≤◌, ◌⊎◌, true, refl, List, Option, None, Some, length, map, get_or, slice_index, bit_xor, sym, ap, ◌∙◌, subst, arith, inl, inr, MatchOption, cases_eq, cases_lt, length-map, get_or-map, has, Split, IsSplit, primal, joins, Tree, joins_ends, Mesh, IsSurface, ends, cells_of, ArePositive}
 use Rattle.std.proofs.lemmas.Option.{none-some, same_Some}
-use Rattle.surf_surfaces.proofs.CellLaws.{ends_below}
-use Rattle.surf_surfaces.proofs.ClassLaws.{some_vertex}
+use Rattle.surf_surfaces.proofs.meshes.CellLaws.{ends_below}
+use Rattle.surf_surfaces.proofs.classes.ClassLaws.{some_vertex}
 use Rattle.surf_classes.specs.Cover.{IsSet, IsSignedDistance, AreSignedDistances}
 use Rattle.surf_classes.proofs.Reached.{way_to, signed_distances_exist}
 use Rattle.surf_classes.proofs.SignedSteps.{xor_set, nearest_from, nearest_to}

@@ -3,7 +3,7 @@ use Rattle.surf_surfaces.proofs.Common.{◌≡◌, ◌≢◌, ℕ, ◌*◌, ◌/
 use Rattle.surf_z2.proofs.Below.{same_from, number_of-none}
 use Rattle.surf_graphs.specs.Cells.{Split, IsSplit, primal, dual, signature, parts}
 use Rattle.surf_graphs.specs.Graphs.{Graph, IsGraph, IsConnectedGraph, joins}
-use Rattle.surf_surfaces.proofs.CellLaws.{ends_below}
+use Rattle.surf_surfaces.proofs.meshes.CellLaws.{ends_below}
 use Rattle.surf_classes.specs.Cover.{IsSet, IsCertified}
 use Rattle.surf_classes.specs.CoverGraph.{set_count, cover, cover_node, cover_edge, cover_length}
 use Rattle.surf_classes.proofs.Covers.{is_cover, searches_certify}

@@ -3,7 +3,7 @@ use Rattle.surf_surfaces.proofs.Common.{◌≡◌, ◌≢◌, ℕ, zero, suc, �
 use Rattle.std.proofs.lemmas.Nat.{div_below, div-mul-add, same_from_place}
 use Rattle.surf_graphs.proofs.Trees.{joined_in}
 use Rattle.surf_lengths.specs.Lengths.{longest}
-use Rattle.surf_surfaces.proofs.CellLaws.{surfaces_are_cells}
+use Rattle.surf_surfaces.proofs.meshes.CellLaws.{surfaces_are_cells}
 use Rattle.surf_classes.specs.Cover.{IsSet, IsSignedDistance}
 use Rattle.surf_classes.specs.CoverGraph.{set_count, cover, cover_node, cover_edge, cover_length}
 use Rattle.surf_classes.proofs.Covers.{is_cover}

@@ -2,11 +2,11 @@
 use Rattle.surf_surfaces.proofs.Common.{◌≡◌, ℕ, ◌+◌, ◌-◌, ◌<◌, ◌⊎◌, inl, inr, sym, refl, subst, ap, ◌∙◌, [], length, get_or, take, arith, flat_map, get_or-map, length-map, Joined, here, over, Mesh, IsMesh, pair, pair_of, sides, after, face_count, face_at, ends, faces_with, HasEdge, first_side, IsFaceOf, side_count, pair_at, owners}
 use Rattle.std.proofs.lemmas.List.Concat.{length-flat_map, get_or-flat_map}
 use Rattle.surf_surfaces.specs.Disc.{IsDisc, IsBorderEdge, ShareOnBorder}
-use Rattle.surf_surfaces.proofs.CountLaws.{length-sides}
-use Rattle.surf_surfaces.proofs.SideLaws.{sides_are_by_place, side_place}
-use Rattle.surf_opening.proofs.Edges.{edge_of, face_of}
-use Rattle.surf_opening.proofs.MeshSides.{same_face}
-use Rattle.surf_opening.proofs.Polygons.{pair_is}
+use Rattle.surf_surfaces.proofs.meshes.CountLaws.{length-sides}
+use Rattle.surf_surfaces.proofs.meshes.SideLaws.{sides_are_by_place, side_place}
+use Rattle.surf_opening.proofs.sides.Edges.{edge_of, face_of}
+use Rattle.surf_opening.proofs.sides.MeshSides.{same_face}
+use Rattle.surf_opening.proofs.sides.Polygons.{pair_is}
 use Rattle.surf_soup.proofs.EdgeTables.{sizes, length-side_pairs}
 use Rattle.surf_soup.proofs.HalfLaws.{face_of_side}
 use Rattle.surf_soup.proofs.SideNumbers.{pair_at_place, side_of_face, face_has_side}

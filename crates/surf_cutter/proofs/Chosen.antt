@@ -7,9 +7,9 @@ use Rattle.surf_opening.specs.Named.{whole}
 use Rattle.surf_opening.specs.Opening.{IsOpenedBy}
 use Rattle.surf_opening.specs.Side.{Side}
 use Rattle.surf_opening.specs.Uncut.{IsDualTree}
-use Rattle.surf_opening.proofs.ChosenOpenings.{some_list, full_cuts_are_chosen, trimmed_cuts_are_chosen, chosen_are_openings, full_openings_are_counted}
-use Rattle.surf_opening.proofs.CutCounts.{full_told}
-use Rattle.surf_opening.proofs.NamedEdges.{forget}
+use Rattle.surf_opening.proofs.openings.ChosenOpenings.{some_list, full_cuts_are_chosen, trimmed_cuts_are_chosen, chosen_are_openings, full_openings_are_counted}
+use Rattle.surf_opening.proofs.counts.CutCounts.{full_told}
+use Rattle.surf_opening.proofs.cuts.NamedEdges.{forget}
 use Rattle.surf_seams.proofs.Openings.{openings_through_are_openings, points_are_on_border}
 use Rattle.surf_slit.specs.Labels.{IsUncut}
 use Rattle.surf_cotree.specs.Grown.{IsMarked, IsGrown}

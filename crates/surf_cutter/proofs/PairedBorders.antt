@@ -3,22 +3,22 @@ use Rattle.surf_surfaces.proofs.Common.{◌≡◌, ℕ, ◌+◌, ◌<◌, ◌↔
 use Rattle.std.proofs.lemmas.List.Sums.{sum_by_more}
 use Rattle.std.proofs.Math.Seq.{take-length}
 use Rattle.surf_opening.specs.Opening.{corner_of, IsOpenedBy}
-use Rattle.surf_opening.proofs.SideWords.{IsOpenedAlong, IsSides}
+use Rattle.surf_opening.proofs.sides.SideWords.{IsOpenedAlong, IsSides}
 use Rattle.surf_opening.specs.Rim.{along, back}
-use Rattle.surf_opening.proofs.RimWords.{IsPaired}
+use Rattle.surf_opening.proofs.gluing.RimWords.{IsPaired}
 use Rattle.surf_opening.specs.Side.{Side, IsPlace}
 use Rattle.surf_opening.specs.Uncut.{Uncut, Copy, CutSide, IsDualTree, IsTrimmed}
 use Rattle.surf_opening.specs.Laws.{TellsCut}
-use Rattle.surf_opening.proofs.CutLists.{uncut_told}
-use Rattle.surf_opening.proofs.DiscLaw.{border_at}
-use Rattle.surf_opening.proofs.Edges.{edge_of}
-use Rattle.surf_opening.proofs.Gluing.{uncut_turned}
-use Rattle.surf_opening.proofs.MeshSides.{from_face}
-use Rattle.surf_opening.proofs.Opened.{opened_mesh, opened_is_mesh, CopyOf, same_length, copies_same, same_copies, next_place, lift}
-use Rattle.surf_opening.proofs.OpeningLaw.{surface_sides, opened_along, is_disc}
-use Rattle.surf_opening.proofs.Polygons.{pair_is, pair_among, among_pair}
-use Rattle.surf_opening.proofs.Trim.{IsOpen, trimmed_is_open}
-use Rattle.surf_opening.proofs.TwoLeaves.{trimmed_are}
+use Rattle.surf_opening.proofs.cuts.CutLists.{uncut_told}
+use Rattle.surf_opening.proofs.openings.DiscLaw.{border_at}
+use Rattle.surf_opening.proofs.sides.Edges.{edge_of}
+use Rattle.surf_opening.proofs.gluing.Gluing.{uncut_turned}
+use Rattle.surf_opening.proofs.sides.MeshSides.{from_face}
+use Rattle.surf_opening.proofs.openings.Opened.{opened_mesh, opened_is_mesh, CopyOf, same_length, copies_same, same_copies, next_place, lift}
+use Rattle.surf_opening.proofs.openings.OpeningLaw.{surface_sides, opened_along, is_disc}
+use Rattle.surf_opening.proofs.sides.Polygons.{pair_is, pair_among, among_pair}
+use Rattle.surf_opening.proofs.gluing.Trim.{IsOpen, trimmed_is_open}
+use Rattle.surf_opening.proofs.cuts.TwoLeaves.{trimmed_are}
 use Rattle.surf_soup.proofs.SideNumbers.{pair_at_place, face_has_side, one_face}
 use Rattle.surf_soup.proofs.VertexLaws.{placed}
 use Rattle.surf_slit.specs.Labels.{IsUncut}

@@ -4,9 +4,9 @@ use Rattle.surf_surfaces.proofs.Common.{flat_map, sum_by, cases_Bool, cases_eq, 
 use Rattle.std.proofs.Math.ListN.{set}
 use Rattle.std.proofs.Math.Seq.{take-length}
 use Rattle.std.proofs.lemmas.List.{map-set, get_or-map, length-set, length-map, length-replicate, get_or-replicate, get_or-set_same, get_or-set_other}
-use Rattle.surf_surfaces.proofs.SideLaws.{after-below}
+use Rattle.surf_surfaces.proofs.meshes.SideLaws.{after-below}
 use Rattle.surf_opening.specs.Opening.{IsOpenedBy}
-use Rattle.surf_opening.proofs.Polygons.{same_pair}
+use Rattle.surf_opening.proofs.sides.Polygons.{same_pair}
 use Rattle.surf_soup.proofs.HalfLaws.{spans}
 use Rattle.surf_soup.proofs.VertexLaws.{corner_at_place, corners_len}
 use Rattle.surf_base.specs.Tables.{nobody}

@@ -7,7 +7,7 @@ use Rattle.std.proofs.lemmas.List.{get_or_default, get_or_append_left, get_or-ap
 use Rattle.std.proofs.lemmas.List.Sorted.{All-permutation, Contains-permutation, IsNonDecreasingBy-from_sort}
 use Rattle.std.proofs.lemmas.Map.Keys.{IsDistinct-IsPermutation, IsStrictlyIncreasing-from_distinct, below_from_sorted, sorted_from_strictly_increasing}
 use Rattle.std.proofs.lemmas.Map.Steps.{length-le_from_distinct_below}
-use Rattle.surf_surfaces.proofs.EdgeLaws.{list_any_at}
+use Rattle.surf_surfaces.proofs.meshes.EdgeLaws.{list_any_at}
 use Rattle.surf_soup.specs.Ring.{BeginsAt, IsRing}
 use Rattle.surf_soup.proofs.VertexLaws.{corners_len, corners_below}
 use Rattle.surf_slit.specs.Labels.{corner_at}

@@ -6,7 +6,7 @@ use Rattle.std.proofs.lemmas.List.{get_or-set_same, get_or-set_other}
 use Rattle.std.proofs.lemmas.List.Folds.{list_any_more, list_any_at}
 use Rattle.surf_opening.specs.ChosenCut.{AreDivided, full_cut}
 use Rattle.surf_opening.specs.Laws.{cut_count, without}
-use Rattle.surf_opening.proofs.ChosenOpenings.{some_list}
+use Rattle.surf_opening.proofs.openings.ChosenOpenings.{some_list}
 use Rattle.surf_seams.specs.Through.{IsCutThrough, IsTakenBackTo}
 use Rattle.surf_seams.proofs.AtBase.{full_cuts_start}
 use Rattle.surf_seams.proofs.Openings.{taken_back_are_trimmed}

@@ -4,13 +4,13 @@ use Rattle.std.proofs.Math.ListN.{set}
 use Rattle.surf_surfaces.proofs.Common.{cases_eq, cases_lt, and_from, and_parts, eq-eqb, Chain, count_below-same, count_below-without, eqb_comm, Mesh, pair, edge_count, ends, touches, IsSurface, slice_index}
 use Rattle.std.proofs.lemmas.List.{get_or-set_same, get_or-set_other, length-set, get_or_default}
 use Rattle.surf_z2.proofs.Counting.{count_found}
-use Rattle.surf_surfaces.proofs.CellLaws.{ends_below}
-use Rattle.surf_surfaces.proofs.FaceLaws.{pair_comm}
+use Rattle.surf_surfaces.proofs.meshes.CellLaws.{ends_below}
+use Rattle.surf_surfaces.proofs.meshes.FaceLaws.{pair_comm}
 use Rattle.surf_opening.specs.Laws.{TellsCut, cut_count, without}
 use Rattle.surf_surfaces.specs.Degrees.{degree_in, is_in_at}
-use Rattle.surf_surfaces.proofs.DegreeLaws.{touches_end, touches_no}
-use Rattle.surf_opening.proofs.Cotrees.{ends_pair}
-use Rattle.surf_opening.proofs.CutCounts.{trimming_by_greatest_goes_on}
+use Rattle.surf_surfaces.proofs.meshes.DegreeLaws.{touches_end, touches_no}
+use Rattle.surf_opening.proofs.gluing.Cotrees.{ends_pair}
+use Rattle.surf_opening.proofs.counts.CutCounts.{trimming_by_greatest_goes_on}
 use Rattle.surf_soup.specs.Ring.{AreEdgesAt}
 use Rattle.surf_slit.proofs.VertexLabels.{an_end}
 use Rattle.surf_cutter.specs.Trimming.{is_cut, AreDegrees, IsTakenBack, IsTrimmedFrom, HasNoLeafFrom, HasEndedBy}

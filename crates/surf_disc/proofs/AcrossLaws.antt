@@ -1,7 +1,7 @@
 -- What lies across a side is read from the row of its edge.
 use Rattle.surf_surfaces.proofs.Common.{◌≡◌, ℕ, ◌+◌, ◌<◌, ◌≤◌, ◌⊎◌, true, eqb, List, [], ◌∷◌, ◌++◌, length, get_or, refl, sym, ap, subst, ◌∙◌, arith, inl, inr, range_with_len, cases_eq, cases_Bool, eq-eqb, eqb-true, ne_eqb, get_or_push, get_or_append_left, get_or_read, length_push, length-range_with_len, get_or-range_with_len, Mesh, IsMesh, pair_eq, side_count, pair_at, sides_with}
-use Rattle.surf_surfaces.proofs.PairLaws.{pair_eq-self}
-use Rattle.surf_surfaces.proofs.EdgeLaws.{list_any_at}
+use Rattle.surf_surfaces.proofs.meshes.PairLaws.{pair_eq-self}
+use Rattle.surf_surfaces.proofs.meshes.EdgeLaws.{list_any_at}
 use Rattle.surf_soup.specs.EdgeTable.{IsEdgeTable}
 use Rattle.surf_soup.proofs.Mates.{member_filter, with_pair}
 use Rattle.surf_soup.proofs.Paired.{rows_len, row_is, row_degree, side_below}

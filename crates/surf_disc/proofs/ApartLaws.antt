@@ -1,7 +1,7 @@
 -- Rows of the faces across the sides of each face lead where shared edges do.
 use Rattle.surf_surfaces.proofs.Common.{◌≡◌, ◌≢◌, ℕ, ◌+◌, ◌-◌, ◌<◌, Bool, true, false, List, [], length, get_or, sym, ap, subst, ◌∙◌, arith, inl, inr, true≢false, cases_eq, cases_lt, get_or_default, get_or_past, Joined, here, over, Mesh, face_count, face_at, has_side, Share, IsConnected, first_side, IsFaceOf, side_count, pair_at}
 use Rattle.std.specs.List.{All}
-use Rattle.surf_surfaces.proofs.JoinedLaws.{joined_lift}
+use Rattle.surf_surfaces.proofs.meshes.JoinedLaws.{joined_lift}
 use Rattle.surf_soup.specs.Apart.{AreAcross, IsLeastApart}
 use Rattle.surf_soup.specs.Reach.{Leads, marked, IsReach}
 use Rattle.surf_soup.proofs.ApartLaws.{all_joined}

@@ -5,10 +5,10 @@ use Rattle.std.proofs.lemmas.Grind.{flat_map-append}
 use Rattle.std.proofs.lemmas.List.{append_assoc, append-nil, get_or_push, get_or_append_left, get_or_default}
 use Rattle.std.proofs.lemmas.List.Concat.{flat_map-cons}
 use Rattle.surf_surfaces.specs.Disc.{IsBorderEdge, ShareOnBorder}
-use Rattle.surf_surfaces.proofs.EdgeLaws.{list_any_at, list_any_from, list_any-append, list_any-flat_map}
-use Rattle.surf_surfaces.proofs.EdgeLaws.{place_of-among}
-use Rattle.surf_surfaces.proofs.FaceLaws.{pair_comm}
-use Rattle.surf_surfaces.proofs.JoinedLaws.{joined_trans, joined_closed}
+use Rattle.surf_surfaces.proofs.meshes.EdgeLaws.{list_any_at, list_any_from, list_any-append, list_any-flat_map}
+use Rattle.surf_surfaces.proofs.meshes.EdgeLaws.{place_of-among}
+use Rattle.surf_surfaces.proofs.meshes.FaceLaws.{pair_comm}
+use Rattle.surf_surfaces.proofs.meshes.JoinedLaws.{joined_trans, joined_closed}
 use Rattle.surf_soup.specs.Reach.{Leads, marked, IsReach}
 use Rattle.surf_soup.specs.Ring.{BeginsAt}
 use Rattle.surf_soup.specs.Vertices.{all_corners, sides_at}

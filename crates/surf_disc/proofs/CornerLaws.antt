@@ -1,8 +1,8 @@
 -- Corners: the sides of a face in order, and the corners of an edge at one of its ends.
 use Rattle.surf_surfaces.proofs.Common.{◌≡◌, ℕ, ◌-◌, ◌<◌, ◌⊎◌, List, length, get_or, refl, sym, ap, subst, ◌∙◌, arith, inl, inr, cases_eq, eq-eqb, ne_eqb, get_or_default, Mesh, IsMesh, pair, after, before, corner, face_at, HasEdge, ShareAt, side_count, pair_at, owners, first_side, IsFaceOf}
 use Rattle.std.specs.List.{All}
-use Rattle.surf_surfaces.proofs.SideLaws.{pair_ends, after-below, before-below, after-before, before-after}
-use Rattle.surf_surfaces.proofs.FaceLaws.{pair_comm}
+use Rattle.surf_surfaces.proofs.meshes.SideLaws.{pair_ends, after-below, before-below, after-before, before-after}
+use Rattle.surf_surfaces.proofs.meshes.FaceLaws.{pair_comm}
 use Rattle.surf_soup.specs.Ring.{BeginsAt}
 use Rattle.surf_soup.specs.Vertices.{all_corners}
 use Rattle.surf_soup.proofs.HalfLaws.{face_of_side}

@@ -1,6 +1,6 @@
 -- Where all corners of a vertex are marked it has one fan, and the first that isn't is a pinch.
 use Rattle.surf_surfaces.proofs.Common.{◌≡◌, ℕ, ◌+◌, ◌<◌, ◌≤◌, Bool, true, false, List, length, get_or, sym, ap, subst, ◌∙◌, arith, inl, inr, true≢false, cases_eq, Joined, Mesh, HasCorner, ShareAt, HasOneFan, IsFaceOf, side_count}
-use Rattle.surf_surfaces.proofs.JoinedLaws.{joined_trans, joined_sym}
+use Rattle.surf_surfaces.proofs.meshes.JoinedLaws.{joined_trans, joined_sym}
 use Rattle.surf_soup.specs.Reach.{marked}
 use Rattle.surf_soup.specs.Ring.{IsPinch, IsLeastPinch}
 use Rattle.surf_soup.specs.Vertices.{sides_at, AllMet}

@@ -4,7 +4,7 @@ use Rattle.std.specs.List.{All, sum_by, flat_map, range_with_len}
 use Rattle.std.proofs.lemmas.List.Sums.{sum_by_push, sum_by-cons}
 use Rattle.std.proofs.lemmas.List.Concat.{length-flat_map}
 use Rattle.std.proofs.lemmas.List.Folds.{flat_map-map}
-use Rattle.surf_surfaces.proofs.JoinedLaws.{joined_trans, joined_closed}
+use Rattle.surf_surfaces.proofs.meshes.JoinedLaws.{joined_trans, joined_closed}
 use Rattle.surf_rows.specs.Groups.{group_of}
 use Rattle.surf_soup.specs.Reach.{Leads, marked, IsReach}
 use Rattle.surf_soup.specs.Ring.{BeginsAt}

@@ -3,7 +3,7 @@ use Rattle.surf_surfaces.proofs.Common.{◌≡◌, ℕ, ◌+◌, ◌<◌, ◌≤
 use Rattle.std.specs.List.{count_by}
 use Rattle.surf_surfaces.specs.Disc.{IsBorderEdge, ShareOnBorder}
 use Rattle.surf_surfaces.specs.Mesh.{Mesh, IsMesh, pair_lt, pair_eq, insert_pair, sorted_pairs, edges}
-use Rattle.surf_surfaces.proofs.JoinedLaws.{joined_trans, joined_sym}
+use Rattle.surf_surfaces.proofs.meshes.JoinedLaws.{joined_trans, joined_sym}
 use Rattle.surf_soup.specs.EdgeTable.{IsEdgeTable}
 use Rattle.surf_soup.specs.Pairs.{NoneWithin, IsFirstWithin, degree}
 use Rattle.surf_soup.specs.Reach.{marked}

@@ -3,10 +3,10 @@ use Rattle.surf_surfaces.proofs.Common.{◌≡◌, ◌≢◌, ℕ, zero, suc, �
 use Rattle.surf_z2.specs.Space.{Space, numbers, is_nothing, Independent}
 use Rattle.surf_z2.proofs.Passing.{all_filtered, sorted_filtered}
 use Rattle.surf_z2.proofs.Ranks.{free_filter}
-use Rattle.surf_surfaces.proofs.ClassLaws.{some_split, independent_by_classes, null_by_class}
-use Rattle.surf_surfaces.proofs.GreedyChoiceLaws.{AreClosed, greedy_is_choice}
-use Rattle.surf_surfaces.proofs.LeastLaws.{all_each, all_mapped}
-use Rattle.surf_surfaces.proofs.LoopsAtLaws.{IsLoopAt, comes_before-trans, comes_before-strict, loops-sorted, loops_each, loops_are_least}
+use Rattle.surf_surfaces.proofs.classes.ClassLaws.{some_split, independent_by_classes, null_by_class}
+use Rattle.surf_surfaces.proofs.bases.GreedyChoiceLaws.{AreClosed, greedy_is_choice}
+use Rattle.surf_surfaces.proofs.classes.LeastLaws.{all_each, all_mapped}
+use Rattle.surf_surfaces.proofs.bases.LoopsAtLaws.{IsLoopAt, comes_before-trans, comes_before-strict, loops-sorted, loops_each, loops_are_least}
 use Rattle.surf_firsts.specs.Firsts.{is_no_later, is_up_to, loops_up_to, IsLoopUpTo, AreLoopsUpTo, FirstLoopsAreGreedy}
 use Rattle.surf_firsts.proofs.Chosen.{Rises, chosen_from}
 use Rattle.surf_firsts.proofs.NoLater.{loop_runs_at, at_closed, spanned_no_later}

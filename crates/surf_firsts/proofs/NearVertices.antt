@@ -10,13 +10,13 @@ use Rattle.surf_graphs.proofs.Lengths.{loop_bound}
 use Rattle.surf_graphs.proofs.Through.{over_spanned, walk_parts}
 use Rattle.surf_graphs.proofs.Walks.{walk_in, same_off}
 use Rattle.surf_surfaces.specs.FewBases.{Place, is_no_later, place_at, least_base, Found, is_within, walks_found, walks_within, AreEnoughOf}
-use Rattle.surf_surfaces.proofs.CellLaws.{surfaces_are_cells}
-use Rattle.surf_surfaces.proofs.ClassLaws.{some_split}
-use Rattle.surf_surfaces.proofs.FewBasesLaws.{no_later_from, no_later-trans, least_base_on_way, least_base_no_greater, loop_class}
-use Rattle.surf_surfaces.proofs.FirstFoundLaws.{loop_closed}
-use Rattle.surf_surfaces.proofs.FoundLaws.{found_closed}
-use Rattle.surf_surfaces.proofs.GreedyChoiceLaws.{spanned_from_depends, depends_from_spanned}
-use Rattle.surf_surfaces.proofs.LeastLaws.{all_mapped}
+use Rattle.surf_surfaces.proofs.meshes.CellLaws.{surfaces_are_cells}
+use Rattle.surf_surfaces.proofs.classes.ClassLaws.{some_split}
+use Rattle.surf_surfaces.proofs.bases.FewBasesLaws.{no_later_from, no_later-trans, least_base_on_way, least_base_no_greater, loop_class}
+use Rattle.surf_surfaces.proofs.bases.FirstFoundLaws.{loop_closed}
+use Rattle.surf_surfaces.proofs.bases.FoundLaws.{found_closed}
+use Rattle.surf_surfaces.proofs.bases.GreedyChoiceLaws.{spanned_from_depends, depends_from_spanned}
+use Rattle.surf_surfaces.proofs.classes.LeastLaws.{all_mapped}
 use Rattle.surf_firsts.specs.Near.{is_shorter_by, DependOnShorter, AgreeOff, IsSoughtFromStart, NearVerticesNeedNoMore}
 use Rattle.surf_firsts.proofs.Parts.{IsOver, two_parts_over}
 

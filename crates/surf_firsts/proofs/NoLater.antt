@@ -8,12 +8,12 @@ use Rattle.surf_z2.proofs.Passing.{all_filtered, member_in}
 use Rattle.surf_graphs.proofs.Independence.{signature_of-same, signature_of-linear, over_signature}
 use Rattle.surf_graphs.proofs.Lengths.{loop_signature, sum_of_left}
 use Rattle.surf_surfaces.specs.Cotree.{is_left, left_edges, split_of, precedes}
-use Rattle.surf_surfaces.proofs.CoveredLaws.{contains-map}
-use Rattle.surf_surfaces.proofs.CellLaws.{surfaces_are_cells}
-use Rattle.surf_surfaces.proofs.ClassLaws.{RunsLoop, runs_loop}
-use Rattle.surf_surfaces.proofs.GreedyChoiceLaws.{AreClosed, spanned_from_depends, depends_from_spanned}
-use Rattle.surf_surfaces.proofs.LeastLaws.{all_each, all_mapped}
-use Rattle.surf_surfaces.proofs.LoopsAtLaws.{IsLoopAt, comes_before-strict, loops_each, tree_is, tree_short, split_is}
+use Rattle.surf_surfaces.proofs.bases.CoveredLaws.{contains-map}
+use Rattle.surf_surfaces.proofs.meshes.CellLaws.{surfaces_are_cells}
+use Rattle.surf_surfaces.proofs.classes.ClassLaws.{RunsLoop, runs_loop}
+use Rattle.surf_surfaces.proofs.bases.GreedyChoiceLaws.{AreClosed, spanned_from_depends, depends_from_spanned}
+use Rattle.surf_surfaces.proofs.classes.LeastLaws.{all_each, all_mapped}
+use Rattle.surf_surfaces.proofs.bases.LoopsAtLaws.{IsLoopAt, comes_before-strict, loops_each, tree_is, tree_short, split_is}
 use Rattle.surf_firsts.specs.Firsts.{is_no_later, loops_no_later, LoopsDependOnNoLater}
 
 -- what precedes by weight and number doesn't come later as a loop

@@ -4,7 +4,7 @@ use Rattle.std.specs.List.{zip, fold, position, position_or_len, range_with_len}
 use Rattle.std.proofs.Math.Seq.{set-append_seam}
 use Rattle.surf_surfaces.proofs.Common.{le-ltb, ne_eqb, length-range_with_len, Mesh, IsMesh, edges, edge_count, ends}
 use Rattle.std.proofs.lemmas.Slice.Zip.{length-zip, seconds-zip}
-use Rattle.surf_surfaces.proofs.CellLaws.{ends_below}
+use Rattle.surf_surfaces.proofs.meshes.CellLaws.{ends_below}
 use Rattle.surf_text.specs.Text.{TextLine, lines_of}
 use Rattle.surf_off.proofs.Reread.{lines_from}
 use Rattle.surf_lengths.specs.Lengths.{AreLengths}

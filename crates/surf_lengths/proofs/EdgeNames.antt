@@ -1,8 +1,8 @@
 -- The edge between two vertices, by their numbers.
 use Rattle.surf_surfaces.proofs.Common.{◌≡◌, ℕ, ◌<◌, ◌≤◌, ◌⊎◌, true, false, Some, None, Option, MatchOption, IfSome, refl, sym, ap, ◌∙◌, arith, inl, inr, cases_lt, lt-ltb, le-ltb, false_from_ne_true, Mesh, IsMesh, pair, among, edges, edge_count, ends, edge_number, place_of, pair_eq}
-use Rattle.surf_surfaces.proofs.SurfaceLaws.{edge_below}
-use Rattle.surf_surfaces.proofs.EdgeLaws.{place_of-ends, list_any_from}
-use Rattle.surf_surfaces.proofs.PairLaws.{pair_eq-same}
+use Rattle.surf_surfaces.proofs.meshes.SurfaceLaws.{edge_below}
+use Rattle.surf_surfaces.proofs.meshes.EdgeLaws.{place_of-ends, list_any_from}
+use Rattle.surf_surfaces.proofs.meshes.PairLaws.{pair_eq-same}
 use Rattle.surf_lengths.specs.Lines.{edge_named}
 
 -- a number that is no vertex is no end of an edge

@@ -6,9 +6,9 @@ use Rattle.std.proofs.lemmas.List.Sorted.{IsPermutation-map, IsPermutation-sym, 
 use Rattle.std.proofs.lemmas.Map.Keys.{apart_from_distinct, IsDistinct-from_apart, IsDistinct-IsPermutation}
 use Rattle.surf_z2.proofs.Merge.{merge_law, sorted-permutes, order_from_sorted}
 use Rattle.surf_surfaces.specs.Cotree.{left_edges}
-use Rattle.surf_surfaces.proofs.ShortestTreeLaws.{shortest_is_tree}
-use Rattle.surf_surfaces.proofs.ClassLaws.{independent_walks_are_few}
-use Rattle.surf_surfaces.proofs.LoopsAtLaws.{comes_before-trans, comes_before-strict, loops-sorted, loops_are_least}
+use Rattle.surf_surfaces.proofs.walks.ShortestTreeLaws.{shortest_is_tree}
+use Rattle.surf_surfaces.proofs.classes.ClassLaws.{independent_walks_are_few}
+use Rattle.surf_surfaces.proofs.bases.LoopsAtLaws.{comes_before-trans, comes_before-strict, loops-sorted, loops_are_least}
 use Rattle.surf_lengths.specs.Lengths.{AreLengths}
 use Rattle.surf_tree.specs.Tables.{tree_of}
 use Rattle.surf_tree.specs.Grown.{IsGrown as IsTreeGrown}

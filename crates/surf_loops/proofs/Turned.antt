@@ -3,7 +3,7 @@ use Rattle.surf_surfaces.proofs.Common.{ℕ, ◌<◌, ◌≡◌, ◌≢◌, sym,
 use Rattle.surf_graphs.specs.Loops.{way_down, way_up}
 use Rattle.surf_graphs.proofs.Ways.{ways_go_by_parents}
 use Rattle.surf_graphs.proofs.Turned.{way_reversed}
-use Rattle.surf_surfaces.proofs.ShortestTreeLaws.{shortest_is_tree}
+use Rattle.surf_surfaces.proofs.walks.ShortestTreeLaws.{shortest_is_tree}
 use Rattle.surf_tree.specs.Tables.{TreeTables, tree_of, parent_of}
 use Rattle.surf_tree.specs.Grown.{IsGrown as IsTreeGrown}
 use Rattle.surf_cotree.specs.Tables.{CotreeTables}

@@ -1,7 +1,7 @@
 -- The links of a vertex are the edges there.
 use Rattle.std.proofs.Common.{◌≡◌, ℕ, ◌<◌, ◌≤◌, ◌^◌, ◌⊎◌, true, ◌&&◌, ◌||◌, eqb, eq-eqb, List, length, map, get_or, refl, sym, ap, ◌∙◌, subst, arith, inl, inr}
 use Rattle.surf_surfaces.proofs.Common.{cases_lt, eqb-true, or_cases, or_left, or_right, and_parts, and_from, get_or-map, get_or_default, get_or_past, length-map, map-map, Contains, joins, primal, Mesh, IsMesh, edge_count, ends, edge_length, cells_of}
-use Rattle.surf_surfaces.proofs.PairLaws.{pair_same}
+use Rattle.surf_surfaces.proofs.meshes.PairLaws.{pair_same}
 use Rattle.surf_soup.specs.Ring.{AreEdgesAt}
 use Rattle.surf_mesh.specs.Links.{link_at, IsRow, other_of, edge_link}
 use Rattle.surf_mesh.proofs.LinkLaws.{edge_row, cells_few}

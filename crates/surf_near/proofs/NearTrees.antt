@@ -3,10 +3,10 @@ use Rattle.std.proofs.Common.{◌≡◌, ◌≢◌, ℕ, ◌+◌, ◌*◌, ◌^�
 use Rattle.std.proofs.lemmas.Bool.{cases_eq, cases_lt, le-leb, lt-leb, false≢true}
 use Rattle.surf_surfaces.proofs.Common.{get_or-take, length-take-le, Contains-get_or, primal, Tree, joins_turned, joined_below, Mesh, pair, edges, ends, IsSurface, edge_length, edge_number, place_of, ArePositive, cells_of}
 use Rattle.surf_surfaces.specs.ShortestTree.{IsShortestTree, IsTight as IsTightIn}
-use Rattle.surf_surfaces.proofs.EdgeLaws.{place_of-among, place_of-ends, among-contains, contains_from_among}
-use Rattle.surf_surfaces.proofs.CellLaws.{surfaces_are_cells, ends_below, joins_from, joins_is}
-use Rattle.surf_surfaces.proofs.GraphWalkLaws.{joined, from_joined}
-use Rattle.surf_surfaces.proofs.ShortestTreeLaws.{shortest_is_tree, shortest_is_shortest}
+use Rattle.surf_surfaces.proofs.meshes.EdgeLaws.{place_of-among, place_of-ends, among-contains, contains_from_among}
+use Rattle.surf_surfaces.proofs.meshes.CellLaws.{surfaces_are_cells, ends_below, joins_from, joins_is}
+use Rattle.surf_surfaces.proofs.walks.GraphWalkLaws.{joined, from_joined}
+use Rattle.surf_surfaces.proofs.walks.ShortestTreeLaws.{shortest_is_tree, shortest_is_shortest}
 use Rattle.surf_lengths.specs.Lengths.{longest}
 use Rattle.surf_base.specs.Tables.{at}
 use Rattle.surf_tree.specs.Searches.{IsTight}

@@ -3,8 +3,8 @@ use Rattle.std.specs.Prelude.{◌≡◌, ℕ, ◌<◌, false, [], ◌∷◌, pos
 use Rattle.surf_surfaces.proofs.Common.{zero, suc, refl, arith, Contains, length, All-from_recursion, Joined, here, over, ends, faces_with, HasCorner, HasEdge, ShareAt, Share, HasOneFan, IsSurface, IsOrientation}
 use Rattle.surf_surfaces.specs.Mesh.{IsMesh, IsFace, pair, steps, characteristic}
 use Rattle.surf_surfaces.specs.Turning.{IsOneSided}
-use Rattle.surf_surfaces.proofs.SmallFaces.{square}
-use Rattle.surf_surfaces.proofs.FanLaws.{listed_faces_are_fan}
+use Rattle.surf_surfaces.proofs.meshes.SmallFaces.{square}
+use Rattle.surf_surfaces.proofs.meshes.FanLaws.{listed_faces_are_fan}
 use Rattle.surf_orientation.specs.Examples.{half_cube, half_cube_chain, five_torus}
 use Rattle.surf_orientation.specs.Statements.{genus_of}
 

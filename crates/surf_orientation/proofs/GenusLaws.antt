@@ -4,8 +4,8 @@ use Rattle.std.specs.Prelude.{pos, negsuc, ◌-ℤ◌, ◌≤ℤ◌}
 use Rattle.std.proofs.Math.IntN.{+ℤ_comm, +ℤ-neg_ℤ_cancel}
 use Rattle.surf_graphs.proofs.HeaviestTrees.{heaviest_tree}
 use Rattle.surf_surfaces.specs.Mesh.{Mesh, characteristic}
-use Rattle.surf_surfaces.proofs.ClassLaws.{some_split}
-use Rattle.surf_surfaces.proofs.EulerSums.{less_two}
+use Rattle.surf_surfaces.proofs.classes.ClassLaws.{some_split}
+use Rattle.surf_surfaces.proofs.meshes.EulerSums.{less_two}
 use Rattle.surf_orientation.specs.Statements.{CountsAreEven, SurfacesHaveSplits, CharacteristicsAreAtMostTwo, CountsAreAtMostTwoMore, genus_of, GenusIsHalf, GenusIsLoopCount, LeftEdgesAreTwiceGenus, ConnectedGraphsHaveTrees}
 use Rattle.surf_orientation.proofs.VertexLaws.{total_even}
 

@@ -6,13 +6,13 @@ use Rattle.surf_z2.proofs.Sums.{count_below-same, count_below-paired}
 use Rattle.surf_graphs.proofs.Rounds.{par, odd_counted}
 use Rattle.surf_graphs.proofs.CellLaws.{signature_null}
 use Rattle.surf_surfaces.specs.Surface.{face_count, edge_count, face_at, ends, faces_of, touches, runs, runs_turned, IsSurface}
-use Rattle.surf_surfaces.proofs.EvenLaws.{touches-xor, side_moves}
-use Rattle.surf_surfaces.proofs.FaceLaws.{touches-pair_of}
+use Rattle.surf_surfaces.proofs.walks.EvenLaws.{touches-xor, side_moves}
+use Rattle.surf_surfaces.proofs.meshes.FaceLaws.{touches-pair_of}
 use Rattle.surf_z2.proofs.ParityLaws.{and-false, and-true, xor_equal, xor_left_comm, xor-same, xor-same_left, xor-false, xor_pairs, odd_below-same, odd_below-xor}
-use Rattle.surf_surfaces.proofs.SideLaws.{pair_ends}
-use Rattle.surf_surfaces.proofs.OrientationLaws.{turned_is, one_sided_chains_exclude_orientations}
-use Rattle.surf_surfaces.proofs.CellLaws.{surfaces_are_cells}
-use Rattle.surf_surfaces.proofs.GraphWalkLaws.{boundaries_are_null}
+use Rattle.surf_surfaces.proofs.meshes.SideLaws.{pair_ends}
+use Rattle.surf_surfaces.proofs.meshes.OrientationLaws.{turned_is, one_sided_chains_exclude_orientations}
+use Rattle.surf_surfaces.proofs.meshes.CellLaws.{surfaces_are_cells}
+use Rattle.surf_surfaces.proofs.walks.GraphWalkLaws.{boundaries_are_null}
 use Rattle.surf_orientation.specs.Chains.{same_way, misfit}
 use Rattle.surf_orientation.specs.Statements.{MisfitsAreEven, TwoSidedWhereMisfitsAreBoundary, SpheresAreTwoSided, OneSidedCharacteristicsAreAtMostOne, OrientationsAreDetermined}
 use Rattle.surf_orientation.proofs.SideNumbers.{ends_rise, side_count, edge_of, edge_in, face_of}

@@ -4,9 +4,9 @@ use Rattle.surf_graphs.proofs.Trees.{one_of, along, along_step}
 use Rattle.surf_graphs.proofs.HeaviestTrees.{heaviest_tree}
 use Rattle.surf_surfaces.specs.Surface.{face_count, edge_count, face_at, ends, faces_of, has_side, runs, runs_turned, HasEdge, IsSurface}
 use Rattle.surf_surfaces.specs.Turning.{Link, next_face, AreLinked, same_ways, IsOneSided}
-use Rattle.surf_surfaces.proofs.SurfaceLaws.{two_faces_of, has_side-face}
-use Rattle.surf_surfaces.proofs.OrientationLaws.{turned_is}
-use Rattle.surf_surfaces.proofs.CellLaws.{surfaces_are_cells}
+use Rattle.surf_surfaces.proofs.meshes.SurfaceLaws.{two_faces_of, has_side-face}
+use Rattle.surf_surfaces.proofs.meshes.OrientationLaws.{turned_is}
+use Rattle.surf_surfaces.proofs.meshes.CellLaws.{surfaces_are_cells}
 use Rattle.surf_orientation.proofs.SideNumbers.{ends_rise}
 use Rattle.surf_orientation.specs.Chains.{same_way, Fits, FollowTree, links_down, links_up, tree_chain}
 use Rattle.surf_orientation.specs.Statements.{OrientationsFit, MisfitsAreOneSided, SurfacesAreTwoSidedOrOneSided, TreeChainsGoByStep}

@@ -4,11 +4,11 @@ use Rattle.surf_z2.specs.Parity.{least_below}
 use Rattle.surf_graphs.specs.Rounds.{IsTurn}
 use Rattle.surf_z2.proofs.ParityLaws.{least_below-found}
 use Rattle.surf_surfaces.specs.Side.{after, before, side_pair}
-use Rattle.surf_surfaces.proofs.CellLaws.{ends_below}
-use Rattle.surf_surfaces.proofs.PairLaws.{pair_eq-true, pair_eq-same}
-use Rattle.surf_surfaces.proofs.EdgeLaws.{place_of-among, place_of-ends, among-edges, list_any_from}
-use Rattle.surf_surfaces.proofs.SurfaceLaws.{two_faces_of, has_side-face}
-use Rattle.surf_surfaces.proofs.SideLaws.{sides_are_placed, side_place, after-below, before-below, after-before, before-after}
+use Rattle.surf_surfaces.proofs.meshes.CellLaws.{ends_below}
+use Rattle.surf_surfaces.proofs.meshes.PairLaws.{pair_eq-true, pair_eq-same}
+use Rattle.surf_surfaces.proofs.meshes.EdgeLaws.{place_of-among, place_of-ends, among-edges, list_any_from}
+use Rattle.surf_surfaces.proofs.meshes.SurfaceLaws.{two_faces_of, has_side-face}
+use Rattle.surf_surfaces.proofs.meshes.SideLaws.{sides_are_placed, side_place, after-below, before-below, after-before, before-after}
 use Rattle.surf_orientation.specs.Names.{NamesRounds}
 
 pub ends_rise : (mesh : Mesh) → IsMesh mesh → (e : ℕ) → e < edge_count mesh → (ends mesh e).0 < (ends mesh e).1

@@ -1,7 +1,7 @@
 -- Five squares around five vertices are a surface, a torus.
 use Rattle.surf_surfaces.proofs.Common.{◌≡◌, ◌≢◌, ℕ, ◌<◌, List, [], ◌∷◌, zero, suc, refl, arith, Contains, length, All-from_recursion, All-contains, AllByRecursion, here, over, IsMesh, IsFace, steps, ends, face_at, faces_with, HasCorner, ShareAt, HasOneFan, IsConnected, IsSurface}
-use Rattle.surf_surfaces.proofs.FanLaws.{listed_faces_are_fan}
-use Rattle.surf_surfaces.proofs.SmallFaces.{square}
+use Rattle.surf_surfaces.proofs.meshes.FanLaws.{listed_faces_are_fan}
+use Rattle.surf_surfaces.proofs.meshes.SmallFaces.{square}
 use Rattle.surf_orientation.specs.Examples.{five_torus}
 
 is_mesh : IsMesh five_torus

@@ -2,11 +2,11 @@
 use Rattle.surf_surfaces.proofs.Common.{◌≡◌, ℕ, zero, suc, ◌+◌, ◌<◌, Bool, true, false, cond, not, List, [], length, refl, sym, ◌∙◌, ap, arith, inl, inr, cases_Bool, lt-ltb, true≢false, Mesh, pair, pair_of, pair_eq, sides, IsFace, face_count, face_at, ends, runs, IsSurface}
 use Rattle.surf_graphs.specs.Rounds.{IsTurn}
 use Rattle.surf_surfaces.specs.Side.{after, before, corner, side_pair}
-use Rattle.surf_surfaces.proofs.PairLaws.{pair_eq-true, pair_eq-same}
-use Rattle.surf_surfaces.proofs.EdgeLaws.{list_any_at, list_any_from}
-use Rattle.surf_surfaces.proofs.FaceLaws.{pair_comm}
-use Rattle.surf_surfaces.proofs.SideLaws.{sides_are_by_place, side_place, after-below, after-before, before-after}
-use Rattle.surf_surfaces.proofs.CountLaws.{length-sides}
+use Rattle.surf_surfaces.proofs.meshes.PairLaws.{pair_eq-true, pair_eq-same}
+use Rattle.surf_surfaces.proofs.meshes.EdgeLaws.{list_any_at, list_any_from}
+use Rattle.surf_surfaces.proofs.meshes.FaceLaws.{pair_comm}
+use Rattle.surf_surfaces.proofs.meshes.SideLaws.{sides_are_by_place, side_place, after-below, after-before, before-after}
+use Rattle.surf_surfaces.proofs.meshes.CountLaws.{length-sides}
 use Rattle.surf_orientation.specs.Names.{NamesRounds}
 use Rattle.surf_orientation.proofs.SideNumbers.{side_count, edge_of, face_of, place, side_at, onward, onward_in, onward_back, back_onward, face_in, place_is, side_at_is, side_is_at}
 

@@ -5,10 +5,10 @@ use Rattle.surf_graphs.specs.Rounds.{IsTurn}
 use Rattle.surf_z2.proofs.ParityLaws.{and_comm, least_below-found}
 use Rattle.surf_graphs.proofs.Signs.{turn_after}
 use Rattle.surf_surfaces.specs.Surface.{face_count, edge_count, face_at, ends, faces_of, touches, runs_turned, HasCorner, IsSurface, IsOrientation}
-use Rattle.surf_surfaces.proofs.FaceLaws.{pair_comm, touches-pair_of}
-use Rattle.surf_surfaces.proofs.SideLaws.{corner_place, pair_ends, after-below, before-below, after-before, before-after}
-use Rattle.surf_surfaces.proofs.FanLaws.{fans_are_whole}
-use Rattle.surf_surfaces.proofs.OrientationLaws.{not_turn}
+use Rattle.surf_surfaces.proofs.meshes.FaceLaws.{pair_comm, touches-pair_of}
+use Rattle.surf_surfaces.proofs.meshes.SideLaws.{corner_place, pair_ends, after-below, before-below, after-before, before-after}
+use Rattle.surf_surfaces.proofs.meshes.FanLaws.{fans_are_whole}
+use Rattle.surf_surfaces.proofs.meshes.OrientationLaws.{not_turn}
 use Rattle.surf_orientation.specs.Names.{NamesRounds}
 use Rattle.surf_orientation.proofs.NameLaws.{named_rounds_are_even}
 use Rattle.surf_orientation.proofs.SideNumbers.{ends_rise, side_count, edge_of, mate, face_of, place, side_at, edge_in, face_in, is_face, place_is, side_at_is, side_is_at, mate_turn, mate_edge, mates_named}

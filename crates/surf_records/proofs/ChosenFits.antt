@@ -2,12 +2,12 @@
 use Rattle.surf_surfaces.proofs.Common.{◌≡◌, ℕ, ◌<◌, ◌^◌, List, [], ◌∷◌, length, get_or, map, refl, sym, ap, ◌∙◌, subst, arith, inl, inr, cases_eq, ne_eqb, eq-eqb, length-map, get_or-map, length-range_with_len, get_or-map-range_with_len, primal, dual, IsSplit, Tree, IsTree, IsShortest, left_edges as left_count, Mesh, face_count, edge_count, ends, IsSurface, IsClosed, edge_length, ArePositive, IsLoopCount, cells_of, Trees, Loop, AreChosenAt, AreChosen, IsChosenBasis, walks}
 use Rattle.std.specs.List.{All, zip, range_with_len}
 use Rattle.surf_surfaces.specs.Cotree.{left_edges, split_of}
-use Rattle.surf_surfaces.proofs.BasisLaws.{basis_is_least}
-use Rattle.surf_surfaces.proofs.CellLaws.{ends_below}
-use Rattle.surf_surfaces.proofs.ClassLaws.{some_vertex}
-use Rattle.surf_surfaces.proofs.CotreeLaws.{is_split}
+use Rattle.surf_surfaces.proofs.bases.BasisLaws.{basis_is_least}
+use Rattle.surf_surfaces.proofs.meshes.CellLaws.{ends_below}
+use Rattle.surf_surfaces.proofs.classes.ClassLaws.{some_vertex}
+use Rattle.surf_surfaces.proofs.classes.CotreeLaws.{is_split}
 use Rattle.surf_surfaces.proofs.LawProofs.{edges_are_in_order}
-use Rattle.surf_surfaces.proofs.ShortestTreeLaws.{shortest_is_tree, shortest_is_shortest}
+use Rattle.surf_surfaces.proofs.walks.ShortestTreeLaws.{shortest_is_tree, shortest_is_shortest}
 use Rattle.surf_validity.specs.Rows.{TreeRows}
 use Rattle.surf_validity.specs.Chosen.{parent_in, side_in, rows_for, dual_rows_of, chosen_cert, basis_cert_of}
 use Rattle.surf_validity.proofs.RankLaws.{ranks_fit}

@@ -11,7 +11,7 @@ use Rattle.surf_records.specs.Fits.{IsNumber, IsParent, TreeFits, IsPair, IsFace
 use Rattle.surf_text.specs.Numbers.{numbers_text}
 use Rattle.surf_cert.specs.Written.{cert_head_text, base_line, parent_text, vertex_line, pair_text, face_line, pair_line, cycle_line, tree_text, dual_text, left_text, cycles_text, loop_text, basis_text}
 use Rattle.surf_surfaces.specs.Cycle.{IsSimpleCycle}
-use Rattle.surf_surfaces.proofs.EdgeLaws.{list_any_at}
+use Rattle.surf_surfaces.proofs.meshes.EdgeLaws.{list_any_at}
 use Rattle.surf_validity.specs.Rows.{TreeRows, DualRows, LoopCert, BasisCert}
 
 -- ---- pieces

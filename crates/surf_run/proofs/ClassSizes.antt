@@ -5,10 +5,10 @@ use Rattle.surf_records.specs.Fits.{IsNumber, IsPair}
 use Rattle.surf_text.specs.Numbers.{numbers_text}
 use Rattle.surf_class.specs.Texts.{evidence_head_text, both_ends, evidence_text, EvidenceFits}
 use Rattle.surf_classes.specs.Evidence.{Evidence, null_faces, odd_pairs, IsEvidence}
-use Rattle.surf_surfaces.proofs.EdgeLaws.{edges-rise, rising_at, among-contains}
+use Rattle.surf_surfaces.proofs.meshes.EdgeLaws.{edges-rise, rising_at, among-contains}
 use Rattle.surf_surfaces.proofs.LawProofs.{edges_are_numbered}
-use Rattle.surf_surfaces.proofs.PairLaws.{pair_lt-trans, pair_lt-irreflexive}
-use Rattle.surf_surfaces.proofs.SurfaceLaws.{edge_below}
+use Rattle.surf_surfaces.proofs.meshes.PairLaws.{pair_lt-trans, pair_lt-irreflexive}
+use Rattle.surf_surfaces.proofs.meshes.SurfaceLaws.{edge_below}
 use Rattle.surf_run.proofs.CertSizes.{length_of_three, number_short, numbers_short}
 
 -- ---- how much right evidence lists

@@ -1,6 +1,6 @@
 -- A surface is cut open at a base in one way.
 use Rattle.surf_surfaces.proofs.Common.{◌≡◌, ℕ, true, false, List, Ok, Err, sym, ◌∙◌, ap, arith, Mesh, IsSurface, ArePositive, count_below-same, edge_count}
-use Rattle.surf_opening.proofs.ChosenTrees.{openings_at_are_one}
+use Rattle.surf_opening.proofs.cuts.ChosenTrees.{openings_at_are_one}
 use Rattle.surf_opening.specs.ChosenCut.{full_cut}
 use Rattle.surf_seams.specs.Through.{IsCutThrough}
 use Rattle.surf_seams.proofs.AtBase.{openings_through_at_are_one, same_full, through_same}

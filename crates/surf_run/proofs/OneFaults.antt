@@ -22,8 +22,8 @@ use Rattle.surf_soup.specs.Pairs.{degree, HasTwoFaces, IsLeastBorder, IsLeastCro
 use Rattle.surf_soup.specs.Ring.{IsPinch, IsLeastPinch}
 use Rattle.surf_soup.specs.Vertices.{AllMet, IsLeastIsolated}
 use Rattle.surf_surfaces.specs.Disc.{IsBorderEdge, ShareOnBorder}
-use Rattle.surf_surfaces.proofs.EdgeLaws.{among-contains, list_any_at}
-use Rattle.surf_surfaces.proofs.PairLaws.{pair_eq-true, pair_lt-total}
+use Rattle.surf_surfaces.proofs.meshes.EdgeLaws.{among-contains, list_any_at}
+use Rattle.surf_surfaces.proofs.meshes.PairLaws.{pair_eq-true, pair_lt-total}
 
 -- ---- the first condition that fails
 

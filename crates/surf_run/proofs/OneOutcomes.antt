@@ -28,8 +28,8 @@ use Rattle.surf_cert.specs.Written.{loop_text, basis_text}
 use Rattle.surf_validity.specs.Chosen.{chosen_cert, basis_cert_of}
 use Rattle.surf_validity.proofs.OneCert.{chosen_certs_are_one}
 use Rattle.surf_validity.proofs.OneBasis.{bases_are_one, chosen_basis_certs_are_one}
-use Rattle.surf_surfaces.proofs.ShortestTreeLaws.{shortest_trees_are_one}
-use Rattle.surf_surfaces.proofs.LoopsOne.{loops_are_one}
+use Rattle.surf_surfaces.proofs.walks.ShortestTreeLaws.{shortest_trees_are_one}
+use Rattle.surf_surfaces.proofs.bases.LoopsOne.{loops_are_one}
 use Rattle.surf_texts.specs.CycleTexts.{cycle_line, cycles_text}
 use Rattle.surf_texts.specs.DistanceTexts.{distances_text}
 use Rattle.surf_texts.specs.LoopTexts.{loops_text}

@@ -15,7 +15,7 @@ use Rattle.surf_texts.specs.CertLines.{cert_cause}
 use Rattle.surf_texts.specs.CycleTexts.{cycles_text}
 use Rattle.surf_texts.specs.LoopTexts.{loops_text}
 use Rattle.surf_texts.specs.MeshLines.{off_cause}
-use Rattle.surf_surfaces.proofs.ShortestWalkLaws.{first_of_basis_is_shortest_not_null}
+use Rattle.surf_surfaces.proofs.walks.ShortestWalkLaws.{first_of_basis_is_shortest_not_null}
 use Rattle.surf_lengths.specs.Lengths.{IsLength, AreLengths}
 use Rattle.surf_lengths.proofs.Positive.{lengths_positive}
 use Rattle.surf_off.specs.Off.{OffParts, off_of}

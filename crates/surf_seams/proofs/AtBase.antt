@@ -1,9 +1,9 @@
 -- Where the full cut starts, and the opening through given vertices at a base.
 use Rattle.surf_surfaces.proofs.Common.{ℕ, sym, refl, ◌∙◌, Bool, List, Chain, Trees, AreChosenAt, Mesh, IsSurface, ArePositive}
-use Rattle.surf_surfaces.proofs.LoopsOne.{edges_same, cotrees_same}
+use Rattle.surf_surfaces.proofs.bases.LoopsOne.{edges_same, cotrees_same}
 use Rattle.surf_opening.specs.ChosenCut.{full_cut, SameEdges}
-use Rattle.surf_opening.proofs.ChosenTrees.{chosen_trees_divide}
-use Rattle.surf_opening.proofs.CutLists.{full_is}
+use Rattle.surf_opening.proofs.cuts.ChosenTrees.{chosen_trees_divide}
+use Rattle.surf_opening.proofs.cuts.CutLists.{full_is}
 use Rattle.surf_seams.specs.Through.{IsCutThrough, whole}
 use Rattle.surf_seams.specs.Laws.{FullCutsStart, OpeningsThroughAtAreOne}
 use Rattle.surf_seams.proofs.Openings.{openings_through_are_one}

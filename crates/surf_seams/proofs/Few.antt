@@ -5,8 +5,8 @@ use Rattle.surf_z2.proofs.ParityLaws.{xor_comm, xor-same, xor_back}
 use Rattle.surf_z2.proofs.Sums.{count_below-none, count_below-one}
 use Rattle.surf_graphs.proofs.Trees.{tree_edge, path_step}
 use Rattle.surf_opening.specs.Laws.{cut_count}
-use Rattle.surf_opening.proofs.CutCounts.{spheres_are_cut_along_trees}
-use Rattle.surf_opening.proofs.CutLists.{full_is}
+use Rattle.surf_opening.proofs.counts.CutCounts.{spheres_are_cut_along_trees}
+use Rattle.surf_opening.proofs.cuts.CutLists.{full_is}
 use Rattle.surf_seams.specs.Laws.{OnePointIsNotCut, JoinedPointsAreShort}
 use Rattle.surf_z2.proofs.Counting.{count_mono}
 use Rattle.surf_seams.proofs.Ways.{up_ends, cuts_through_are_ways}

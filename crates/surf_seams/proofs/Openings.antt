@@ -2,7 +2,7 @@
 use Rattle.surf_surfaces.proofs.Common.{◌≡◌, ◌≢◌, ℕ, ◌+◌, ◌<◌, ◌≤◌, ◌⊎◌, inl, inr, sym, refl, subst, ap, ◌∙◌, Bool, true, List, [], ◌∷◌, length, get_or, arith, Chain, count_below-same, Tree, Mesh, pair, edge_count, face_at, faces_with, ends, touches, HasEdge, IsSurface, degree_in}
 use Rattle.surf_surfaces.specs.Disc.{IsBorderEdge}
 use Rattle.surf_surfaces.specs.Side.{after, side_pair, corner}
-use Rattle.surf_surfaces.proofs.FaceLaws.{pair_comm}
+use Rattle.surf_surfaces.proofs.meshes.FaceLaws.{pair_comm}
 use Rattle.surf_opening.specs.ChosenCut.{AreDivided, ListsCotree, full_cut, SameEdges}
 use Rattle.surf_opening.specs.Laws.{TellsCut, cut_count, without}
 use Rattle.surf_opening.specs.Opening.{corner_of}
@@ -10,25 +10,25 @@ use Rattle.surf_opening.specs.Rim.{along}
 use Rattle.surf_opening.specs.Side.{Side, IsPlace}
 use Rattle.surf_opening.specs.Uncut as uncut_spec
 use Rattle.surf_opening.specs.Uncut.{Uncut, IsDualTree, IsTrimmed}
-use Rattle.surf_opening.proofs.SideWords.{IsOpenedAlong}
-use Rattle.surf_opening.proofs.BorderLaws.{borders_are_cut}
-use Rattle.surf_opening.proofs.Chosen.{list_told, trimmed_is_chosen}
-use Rattle.surf_opening.proofs.ChosenOpenings.{some_list, opened_as}
-use Rattle.surf_opening.proofs.Cotrees.{ends_pair, uncut_among}
-use Rattle.surf_opening.proofs.CutCounts.{trimming_goes_on}
-use Rattle.surf_opening.proofs.CutLists.{uncut_told, same_told, edge_told}
-use Rattle.surf_opening.proofs.Edges.{edge_of, face_of}
-use Rattle.surf_opening.proofs.InOrder.{opening_in_order}
+use Rattle.surf_opening.proofs.sides.SideWords.{IsOpenedAlong}
+use Rattle.surf_opening.proofs.openings.BorderLaws.{borders_are_cut}
+use Rattle.surf_opening.proofs.cuts.Chosen.{list_told, trimmed_is_chosen}
+use Rattle.surf_opening.proofs.openings.ChosenOpenings.{some_list, opened_as}
+use Rattle.surf_opening.proofs.gluing.Cotrees.{ends_pair, uncut_among}
+use Rattle.surf_opening.proofs.counts.CutCounts.{trimming_goes_on}
+use Rattle.surf_opening.proofs.cuts.CutLists.{uncut_told, same_told, edge_told}
+use Rattle.surf_opening.proofs.sides.Edges.{edge_of, face_of}
+use Rattle.surf_opening.proofs.openings.InOrder.{opening_in_order}
 use Rattle.surf_opening.proofs.LawProofs.{by_list}
-use Rattle.surf_opening.proofs.NamedEdges.{forget}
-use Rattle.surf_opening.proofs.NamedLaw.{end_below}
-use Rattle.surf_opening.proofs.Opened.{opened_mesh, same_length, origin_at, copy_below, next_place}
-use Rattle.surf_opening.proofs.OpeningLaw.{surface_sides, opened_along, opening_law_by}
-use Rattle.surf_opening.proofs.Order.{openings_in_order_are_one}
-use Rattle.surf_opening.proofs.Polygons.{pair_is, has_side_from, has_side_to, among_pair}
-use Rattle.surf_opening.proofs.Trim.{trimmed_has_cut}
-use Rattle.surf_opening.proofs.TrimAll.{trim_all}
-use Rattle.surf_opening.proofs.TwoLeaves.{trimmed_are}
+use Rattle.surf_opening.proofs.cuts.NamedEdges.{forget}
+use Rattle.surf_opening.proofs.cuts.NamedLaw.{end_below}
+use Rattle.surf_opening.proofs.openings.Opened.{opened_mesh, same_length, origin_at, copy_below, next_place}
+use Rattle.surf_opening.proofs.openings.OpeningLaw.{surface_sides, opened_along, opening_law_by}
+use Rattle.surf_opening.proofs.openings.Order.{openings_in_order_are_one}
+use Rattle.surf_opening.proofs.sides.Polygons.{pair_is, has_side_from, has_side_to, among_pair}
+use Rattle.surf_opening.proofs.gluing.Trim.{trimmed_has_cut}
+use Rattle.surf_opening.proofs.gluing.TrimAll.{trim_all}
+use Rattle.surf_opening.proofs.cuts.TwoLeaves.{trimmed_are}
 use Rattle.surf_seams.specs.Through.{IsCutThrough, IsTakenBackTo, whole, taken, HasCopyOnBorder}
 use Rattle.surf_seams.specs.Laws.{TakenBackAreTrimmed, OpenedThroughAreOpenings, CutsThroughAreLong, PointsAreOnBorder, OpeningsThroughAreOpenings, OpeningsThroughExist, OpeningsThroughAreOne, OpenedAreThrough}
 use Rattle.surf_seams.proofs.Taking.{within_count, degree_count, degree_some, taking_back_ends, taken_back_are_through, take_all, through_is_taken}

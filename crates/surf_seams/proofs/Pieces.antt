@@ -3,7 +3,7 @@ use Rattle.std.proofs.Common.{◌≡◌, ◌≢◌, ℕ, zero, suc, ◌<◌, ◌
 use Rattle.std.proofs.lemmas.Bool.{cases_eq, cases_lt, cond-true, cond-false, or_cases, or_left, or_right, both_ways}
 use Rattle.surf_surfaces.proofs.Common.{Chain, primal, Tree, IsTree, cells_of, tree_edges, is_left, Mesh, edge_count, ends, touches, IsSurface, degree_in}
 use Rattle.surf_graphs.proofs.Trees.{one_of, up_in_tree}
-use Rattle.surf_surfaces.proofs.CellLaws.{ends_below}
+use Rattle.surf_surfaces.proofs.meshes.CellLaws.{ends_below}
 use Rattle.surf_opening.specs.ChosenCut.{AreDivided, full_cut, SameEdges}
 use Rattle.surf_seams.specs.Through.{IsTakenBackTo, whole, taken, IsInOnePiece, IsOnCut}
 use Rattle.surf_seams.specs.Laws.{CutsThroughAreConnected, PointsAreOnCut}

@@ -1,10 +1,10 @@
 -- The cut through given vertices is what is left when edges are taken back to the end.
 use Rattle.std.proofs.Common.{◌≡◌, ◌≢◌, ℕ, zero, suc, ◌+◌, ◌<◌, ◌≤◌, ◌⊎◌, inl, inr, sym, refl, ap, ◌∙◌, Bool, true, false, not, ◌&&◌, eqb, arith, ne_eqb}
 use Rattle.surf_surfaces.proofs.Common.{cases_eq, cases_Bool, and_parts, and_from, not-true, eqb-false, both_ways, Chain, count_below-same, Mesh, edge_count, ends, touches, degree_in}
-use Rattle.surf_surfaces.proofs.FaceLaws.{touches_first}
+use Rattle.surf_surfaces.proofs.meshes.FaceLaws.{touches_first}
 use Rattle.surf_opening.specs.ChosenCut.{SameEdges, IsWithin}
 use Rattle.surf_opening.specs.Laws.{cut_count, without}
-use Rattle.surf_opening.proofs.Chosen.{same_where}
+use Rattle.surf_opening.proofs.cuts.Chosen.{same_where}
 use Rattle.surf_seams.specs.Through.{HasEndsIn, IsCutThrough, IsLooseAt, IsTakenBackTo, whole, taken}
 use Rattle.surf_seams.specs.Laws.{CutsThroughExist, CutsThroughAreOne, TakenBackAreThrough, TakingBackKeeps, TakingBackEnds, TakingBackGoesOn, EndlessAreThroughNone, CutsThroughGrow}
 use Rattle.surf_z2.proofs.Counting.{count_mono, count_some, count_found, count_one, count_less}

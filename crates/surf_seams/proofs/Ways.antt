@@ -4,10 +4,10 @@ use Rattle.surf_surfaces.proofs.Common.{cases_eq, cases_Bool, and_parts, and_fro
 use Rattle.surf_z2.proofs.ParityLaws.{xor-same, and_comm, any_below-found, any_below-from, odd_below-same, odd_below-only, odd_below-and-xor}
 use Rattle.surf_graphs.specs.Graphs.{Graph, leaves}
 use Rattle.surf_graphs.proofs.Trees.{tree_edge, path_root, path_step, one_of, up_once, path_inside, along_is, path_leaves}
-use Rattle.surf_surfaces.proofs.EvenLaws.{touches-xor}
+use Rattle.surf_surfaces.proofs.walks.EvenLaws.{touches-xor}
 use Rattle.surf_opening.specs.ChosenCut.{full_cut}
-use Rattle.surf_opening.proofs.CutCounts.{spheres_are_cut_along_trees}
-use Rattle.surf_opening.proofs.CutLists.{full_is}
+use Rattle.surf_opening.proofs.counts.CutCounts.{spheres_are_cut_along_trees}
+use Rattle.surf_opening.proofs.cuts.CutLists.{full_is}
 use Rattle.surf_seams.specs.Through.{HasEndsIn, IsOnWay}
 use Rattle.surf_seams.specs.Laws.{CutsThroughAreWays}
 use Rattle.surf_z2.proofs.Counting.{count_found, count_one, count_less}

@@ -4,7 +4,7 @@ use Rattle.std.proofs.lemmas.List.{length-map, take-map, get_or-map}
 use Rattle.std.proofs.lemmas.List.Elements.{recursion_from_All, All-from_recursion, All-take}
 use Rattle.surf_z2.proofs.Below.{small}
 use Rattle.surf_surfaces.specs.FewBases.{Place, is_no_later, Found, HasFound, IsWithin, walks_found, comes_no_later, place_of_loop}
-use Rattle.surf_surfaces.proofs.LeastLaws.{all_mapped}
+use Rattle.surf_surfaces.proofs.classes.LeastLaws.{all_mapped}
 use Rattle.surf_firsts.specs.Near.{IsSoughtFromStart}
 use Rattle.surf_caps.specs.Heights.{AreHeights}
 use Rattle.surf_caps.specs.Caps.{AreSized, HaveAskedEnds, MeetsUpTo, IsFoundBy, AreSoughtFromStart, asks}

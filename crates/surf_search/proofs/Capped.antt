@@ -5,7 +5,7 @@ use Rattle.std.proofs.lemmas.List.Elements.{Contains-append_left, Contains-appen
 use Rattle.std.proofs.lemmas.List.Sorted.{Contains-permutation, IsPermutation-map, IsPermutation-sym}
 use Rattle.surf_z2.specs.Space.{no_member, chosen}
 use Rattle.surf_z2.proofs.Merge.{Sorted, sorted_from_order, order_from_sorted, same_members}
-use Rattle.surf_surfaces.proofs.FirstFoundLaws.{loop_closed}
+use Rattle.surf_surfaces.proofs.bases.FirstFoundLaws.{loop_closed}
 use Rattle.surf_caps.specs.Caps.{with_places, everywhere, up_to_length, ChoiceKeeps}
 use Rattle.surf_caps.proofs.Grow.{caps_grow_enough}
 use Rattle.surf_choice.specs.declared.candidate.Candidate.{Candidate}

@@ -3,10 +3,10 @@ use Rattle.std.proofs.Common.{not, ◌≡◌, ◌≢◌, ℕ, ◌+◌, ◌<◌, 
 use Rattle.std.specs.Prelude.{nat_lt, slice_index, slice_set}
 use Rattle.surf_surfaces.proofs.Common.{cases_Bool, Mesh, edge_count, ends, IsSurface}
 use Rattle.std.proofs.lemmas.List.{get_or-set_same, get_or-set_other, length-set}
-use Rattle.surf_surfaces.proofs.CellLaws.{ends_below}
+use Rattle.surf_surfaces.proofs.meshes.CellLaws.{ends_below}
 use Rattle.surf_cotree.specs.Tables.{CotreeTables}
 use Rattle.surf_surfaces.specs.Degrees.{AreDegreesTo}
-use Rattle.surf_surfaces.proofs.DegreeLaws.{degrees_more}
+use Rattle.surf_surfaces.proofs.meshes.DegreeLaws.{degrees_more}
 use Rattle.surf_search.specs.Marks.{by_degree, is_signed}
 
 -- one entry of a table is made one more

@@ -3,9 +3,9 @@ use Rattle.std.proofs.Common.{◌≡◌, ◌≢◌, ℕ, suc, ◌<◌, ◌+◌, 
 use Rattle.surf_surfaces.proofs.Common.{IsTrue, AllByRecursion, cases_Bool, cases_eq, or_cases, false≢true, eq-eqb, nat_tests, All-from_recursion, All-contains, Split, IsSplit, Tree, Mesh, edge_count, IsSurface, ArePositive, IsNull, cells_of, class_of, AreShortestTrees, loop_walk, loop_length}
 use Rattle.surf_z2.specs.Space.{no_member}
 use Rattle.surf_surfaces.specs.FewBases.{Place, is_no_later, comes_sooner, place_at, with_vertex}
-use Rattle.surf_surfaces.proofs.ClassLaws.{null_by_class}
-use Rattle.surf_surfaces.proofs.FewBasesLaws.{no_later-trans, no_later-same}
-use Rattle.surf_surfaces.proofs.FirstFoundLaws.{loop_closed}
+use Rattle.surf_surfaces.proofs.classes.ClassLaws.{null_by_class}
+use Rattle.surf_surfaces.proofs.bases.FewBasesLaws.{no_later-trans, no_later-same}
+use Rattle.surf_surfaces.proofs.bases.FirstFoundLaws.{loop_closed}
 use Rattle.surf_cotree.specs.Tables.{CotreeTables}
 use Rattle.surf_choice.specs.declared.candidate.Candidate.{Candidate}
 use Rattle.surf_choice.specs.declared.candidate.Signed.{Signed}

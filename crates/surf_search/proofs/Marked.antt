@@ -5,7 +5,7 @@ use Rattle.std.proofs.Math.ListN.{get_or-append}
 use Rattle.std.proofs.Math.Seq.{get_or-append_seam, take-append_seam}
 use Rattle.std.proofs.lemmas.List.{get_or-set_same, get_or-set_other}
 use Rattle.std.proofs.lemmas.List.Elements.{Contains-append_left, Contains-append_right}
-use Rattle.surf_surfaces.proofs.CellLaws.{ends_in}
+use Rattle.surf_surfaces.proofs.meshes.CellLaws.{ends_in}
 use Rattle.surf_search.specs.Marks.{AreMarkedIn}
 
 pub marked_none : (marked : List Bool) (list : List ℕ) → list ≡ [] → AreMarkedIn marked 0 list

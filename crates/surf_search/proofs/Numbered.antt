@@ -2,8 +2,8 @@
 use Rattle.std.proofs.Common.{◌≡◌, ◌≢◌, ℕ, ◌<◌, ◌≤◌, ◌+◌, true, false, List, length, slice_index, bit_xor, get_or, sym, ap, ◌∙◌, subst, arith, inl, inr, eq-eqb}
 use Rattle.surf_surfaces.proofs.Common.{◌==◌, cases_eq, cases_lt, leb-true, nat_tests, get_or_read, Tree, Mesh, edge_count, IsSurface, ArePositive, edge_number, IsShortestTree, edge_signature}
 use Rattle.std.specs.Int.Bits.{xor_comm}
-use Rattle.surf_surfaces.proofs.ChoiceExists.{choice_exists}
-use Rattle.surf_surfaces.proofs.ShortestTreeLaws.{shortest_is_tree}
+use Rattle.surf_surfaces.proofs.bases.ChoiceExists.{choice_exists}
+use Rattle.surf_surfaces.proofs.walks.ShortestTreeLaws.{shortest_is_tree}
 use Rattle.surf_signatures.specs.Ways.{way_class}
 use Rattle.surf_signatures.proofs.WayLaws.{way_none, way_more}
 use Rattle.surf_cotree.specs.Tables.{CotreeTables}

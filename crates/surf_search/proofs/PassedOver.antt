@@ -4,14 +4,14 @@ use Rattle.std.proofs.Common.{◌≡◌, ℕ, suc, ◌<◌, ◌≤◌, ◌+◌, 
 use Rattle.surf_surfaces.proofs.Common.{IsTrue, ◌||◌, ◌==◌, replicate, slice_index, AllByRecursion, cases_eq, cases_lt, false≢true, or_cases, or_left, or_right, eq-eqb, eqb-true, nat_tests, get_or-take, get_or_default, get_or_past, get_or-replicate, length-replicate, length-take-le, recursion_from_All, All-contains, Contains-get_or, map-map, IsInOrder, numbers, Spanned, InSpan, AllInSpan, trans_in, in_from_spanned, spanned_from_in, Split, IsSplit, Tree, Mesh, edge_count, IsSurface, IsClosed, ArePositive, cells_of, class_of, AreShortestTrees, loop_walk, loop_length, DependsOn}
 use Rattle.surf_z2.proofs.Passing.{member_in, all_filtered}
 use Rattle.surf_surfaces.specs.FewBases.{Place, is_no_later, comes_sooner, place_at, least_base, Found, walks_found, with_vertex}
-use Rattle.surf_surfaces.proofs.CoveredLaws.{contains-map}
-use Rattle.surf_surfaces.proofs.ChoiceExists.{choice_exists}
-use Rattle.surf_surfaces.proofs.FirstCycleLaws.{shortest_trees}
-use Rattle.surf_surfaces.proofs.OnTheWayLaws.{zero_distance}
-use Rattle.surf_surfaces.proofs.FirstFoundLaws.{loop_closed}
-use Rattle.surf_surfaces.proofs.FoundLaws.{found_closed}
-use Rattle.surf_surfaces.proofs.GreedyChoiceLaws.{depends_from_spanned}
-use Rattle.surf_surfaces.proofs.LeastLaws.{all_mapped}
+use Rattle.surf_surfaces.proofs.bases.CoveredLaws.{contains-map}
+use Rattle.surf_surfaces.proofs.bases.ChoiceExists.{choice_exists}
+use Rattle.surf_surfaces.proofs.bases.FirstCycleLaws.{shortest_trees}
+use Rattle.surf_surfaces.proofs.walks.OnTheWayLaws.{zero_distance}
+use Rattle.surf_surfaces.proofs.bases.FirstFoundLaws.{loop_closed}
+use Rattle.surf_surfaces.proofs.bases.FoundLaws.{found_closed}
+use Rattle.surf_surfaces.proofs.bases.GreedyChoiceLaws.{depends_from_spanned}
+use Rattle.surf_surfaces.proofs.classes.LeastLaws.{all_mapped}
 use Rattle.surf_near.specs.Near.{NearTables, IsNear}
 use Rattle.surf_firsts.specs.Near.{is_shorter_by, DependOnShorter, with_near, AgreeOff}
 use Rattle.surf_firsts.proofs.NearVertices.{near_vertices_need_no_more}

@@ -1,8 +1,8 @@
 -- What the last round keeps has the places of the basis.
 use Rattle.surf_surfaces.proofs.Common.{ℕ, ◌<◌, ◌≤◌, List, length, get_or, All, sym, ap, ◌∙◌, subst, IsSurface, ArePositive, IsLoopCount}
-use Rattle.surf_surfaces.proofs.ChoiceExists.{choice_exists}
-use Rattle.surf_surfaces.proofs.FewBasesLaws.{least_base_on_way}
-use Rattle.surf_surfaces.proofs.FirstCycleLaws.{shortest_trees}
+use Rattle.surf_surfaces.proofs.bases.ChoiceExists.{choice_exists}
+use Rattle.surf_surfaces.proofs.bases.FewBasesLaws.{least_base_on_way}
+use Rattle.surf_surfaces.proofs.bases.FirstCycleLaws.{shortest_trees}
 use Rattle.surf_choice.specs.Candidates.{Chosen}
 use Rattle.surf_choice.specs.Places.{limit_of}
 use Rattle.surf_search.specs.Places.{HavePlacesOfBasis}

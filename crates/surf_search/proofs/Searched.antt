@@ -8,13 +8,13 @@ use Rattle.surf_z2.proofs.Merge.{Sorted, sorted_from_order, order_from_sorted, s
 use Rattle.surf_z2.proofs.Passing.{sorted_greedy}
 use Rattle.surf_z2.proofs.Span.{AllInSpan, InSpan, count, free_from_independent}
 use Rattle.surf_surfaces.specs.FewBases.{Place, place_at, Found, walks_found, IsFoundAt, IsFoundLoop, AreEnoughOf, AreEnough, AreFoundAt, IsFoundChoice, comes_no_later, every_place, with_vertex, IsWithin}
-use Rattle.surf_surfaces.proofs.CoveredLaws.{contains-map}
-use Rattle.surf_surfaces.proofs.ChoiceExists.{choice_exists}
-use Rattle.surf_surfaces.proofs.ClassLaws.{null_by_class, independent_by_classes}
-use Rattle.surf_surfaces.proofs.FewBasesLaws.{least_base_on_way}
-use Rattle.surf_surfaces.proofs.FirstFoundLaws.{loop_closed, short_searches_suffice}
-use Rattle.surf_surfaces.proofs.FoundLaws.{greedy_is_found_choice, found_closed, loops_grow_enough}
-use Rattle.surf_surfaces.proofs.LeastLaws.{all_each, all_mapped}
+use Rattle.surf_surfaces.proofs.bases.CoveredLaws.{contains-map}
+use Rattle.surf_surfaces.proofs.bases.ChoiceExists.{choice_exists}
+use Rattle.surf_surfaces.proofs.classes.ClassLaws.{null_by_class, independent_by_classes}
+use Rattle.surf_surfaces.proofs.bases.FewBasesLaws.{least_base_on_way}
+use Rattle.surf_surfaces.proofs.bases.FirstFoundLaws.{loop_closed, short_searches_suffice}
+use Rattle.surf_surfaces.proofs.bases.FoundLaws.{greedy_is_found_choice, found_closed, loops_grow_enough}
+use Rattle.surf_surfaces.proofs.classes.LeastLaws.{all_each, all_mapped}
 use Rattle.surf_cotree.specs.Tables.{CotreeTables}
 use Rattle.surf_choice.specs.declared.candidate.Candidate.{Candidate}
 use Rattle.surf_choice.specs.declared.candidate.Signed.{Signed}

@@ -1,8 +1,8 @@
 -- The places of the loops that are kept are enough for the basis that is chosen.
 use Rattle.surf_surfaces.proofs.Common.{ℕ, ◌<◌, ◌≤◌, List, length, get_or, map, All, sym, ap, ◌∙◌, subst, Mesh, IsSurface, ArePositive, MeetsAll, IsLoopCount}
-use Rattle.surf_surfaces.proofs.ChoiceExists.{choice_exists}
-use Rattle.surf_surfaces.proofs.FewBasesLaws.{few_bases_suffice, least_base_on_way}
-use Rattle.surf_surfaces.proofs.FirstCycleLaws.{shortest_trees}
+use Rattle.surf_surfaces.proofs.bases.ChoiceExists.{choice_exists}
+use Rattle.surf_surfaces.proofs.bases.FewBasesLaws.{few_bases_suffice, least_base_on_way}
+use Rattle.surf_surfaces.proofs.bases.FirstCycleLaws.{shortest_trees}
 use Rattle.surf_cotree.specs.Tables.{CotreeTables}
 use Rattle.surf_choice.specs.Candidates.{Chosen}
 use Rattle.surf_search.specs.Places.{HavePlacesOfBasis}

@@ -4,16 +4,16 @@ use Rattle.surf_surfaces.proofs.Common.{IsTrue, ◌==◌, cases_Bool, cases_eq, 
 use Rattle.std.specs.Int.Bits.{xor_assoc, xor_comm}
 use Rattle.std.proofs.lemmas.List.Elements.{All-push, Contains-append_left, Contains-append_right}
 use Rattle.surf_surfaces.specs.FewBases.{place_at, comes_sooner, least_base, least_on_way}
-use Rattle.surf_surfaces.proofs.FirstCycleLaws.{shortest_trees}
-use Rattle.surf_surfaces.proofs.FirstFoundLaws.{ends_are_near}
-use Rattle.surf_surfaces.proofs.OnTheWayLaws.{zero_distance, least_tables_are_least}
-use Rattle.surf_surfaces.proofs.ShortestTreeLaws.{shortest_is_tree, shortest_is_shortest}
+use Rattle.surf_surfaces.proofs.bases.FirstCycleLaws.{shortest_trees}
+use Rattle.surf_surfaces.proofs.bases.FirstFoundLaws.{ends_are_near}
+use Rattle.surf_surfaces.proofs.walks.OnTheWayLaws.{zero_distance, least_tables_are_least}
+use Rattle.surf_surfaces.proofs.walks.ShortestTreeLaws.{shortest_is_tree, shortest_is_shortest}
 use Rattle.surf_signatures.specs.Ways.{way_class}
 use Rattle.surf_signatures.proofs.WayLaws.{loop_class}
 use Rattle.surf_lengths.specs.Lengths.{longest, AreLengths}
 use Rattle.surf_lengths.proofs.Positive.{lengths_positive}
 use Rattle.surf_tree.proofs.LengthLaws.{short_lengths}
-use Rattle.surf_surfaces.proofs.CellLaws.{ends_in}
+use Rattle.surf_surfaces.proofs.meshes.CellLaws.{ends_in}
 use Rattle.surf_cotree.specs.Tables.{CotreeTables}
 use Rattle.surf_near.specs.declared.links.Link.{Link}
 use Rattle.surf_near.specs.Links.{AreLinks, AreLinksAt, link_in}

@@ -2,12 +2,12 @@
 use Rattle.surf_surfaces.proofs.Common.{◌≡◌, ◌≢◌, ℕ, ◌<◌, ◌≤◌, ◌/◌, ◌∷◌, ◌++◌, [], true, List, reverse, slice_index, sym, ap, ◌∙◌, subst, arith, leb-true, le-leb, primal, Tree, IsTree, Mesh, ends, IsSurface, ArePositive, cells_of, IsShortestTree}
 use Rattle.surf_graphs.specs.Loops.{way_up, way_down}
 use Rattle.surf_graphs.proofs.Ways.{ways_go_by_parents}
-use Rattle.surf_surfaces.proofs.ChoiceExists.{choice_exists}
-use Rattle.surf_surfaces.proofs.FirstCycleLaws.{shortest_trees}
-use Rattle.surf_surfaces.proofs.FirstFoundLaws.{ends_are_near}
-use Rattle.surf_surfaces.proofs.ShortestTreeLaws.{shortest_is_tree}
+use Rattle.surf_surfaces.proofs.bases.ChoiceExists.{choice_exists}
+use Rattle.surf_surfaces.proofs.bases.FirstCycleLaws.{shortest_trees}
+use Rattle.surf_surfaces.proofs.bases.FirstFoundLaws.{ends_are_near}
+use Rattle.surf_surfaces.proofs.walks.ShortestTreeLaws.{shortest_is_tree}
 use Rattle.surf_graphs.proofs.Turned.{way_reversed}
-use Rattle.surf_surfaces.proofs.CellLaws.{ends_in}
+use Rattle.surf_surfaces.proofs.meshes.CellLaws.{ends_in}
 use Rattle.surf_near.specs.Near.{NearTables, IsNear, is_near}
 use Rattle.surf_choice.specs.declared.candidate.Candidate.{Candidate}
 use Rattle.surf_search.specs.Walks.{AddsWay, IsLoopWalk, IsMeasured}

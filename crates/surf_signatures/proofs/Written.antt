@@ -11,7 +11,7 @@ use Rattle.surf_z2.proofs.Words.{bit_number, number_zero}
 use Rattle.surf_bits.proofs.Rows.{front_small, take_most}
 use Rattle.surf_graphs.proofs.CellLaws.{signature_is}
 use Rattle.surf_graphs.proofs.Trees.{path_root, path_step, down_tree}
-use Rattle.surf_surfaces.proofs.CellLaws.{surfaces_are_cells}
+use Rattle.surf_surfaces.proofs.meshes.CellLaws.{surfaces_are_cells}
 use Rattle.surf_signatures.specs.Tables.{Signed, words_for, row_of, sets_in, face_tree, HangsBy}
 use Rattle.surf_signatures.specs.Signs.{sign_bit, has_left}
 

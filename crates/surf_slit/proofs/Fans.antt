@@ -1,14 +1,14 @@
 -- The faces around a vertex by their places, and the chains of faces there.
 use Rattle.std.proofs.Common.{◌≡◌, ℕ, ◌+◌, ◌<◌, ◌⊎◌, ◌↔◌, inl, inr, sym, refl, subst, ap, ◌∙◌, eqb, List, length, get_or, Bool, true, false, arith, eqb-true}
 use Rattle.surf_surfaces.proofs.Common.{cases_eq, or_cases, Joined, here, over, Mesh, pair, after, face_at, edge_count, ends, touches, HasEdge, IsSurface, owners, first_side, IsFaceOf}
-use Rattle.surf_surfaces.proofs.FaceLaws.{pair_comm, touches_first}
-use Rattle.surf_surfaces.proofs.JoinedLaws.{joined_trans}
-use Rattle.surf_surfaces.proofs.SideLaws.{after-below}
+use Rattle.surf_surfaces.proofs.meshes.FaceLaws.{pair_comm, touches_first}
+use Rattle.surf_surfaces.proofs.meshes.JoinedLaws.{joined_trans}
+use Rattle.surf_surfaces.proofs.meshes.SideLaws.{after-below}
 use Rattle.surf_opening.specs.Opening.{ShareUncutAt}
 use Rattle.surf_opening.specs.Side.{Side}
-use Rattle.surf_opening.proofs.Cotrees.{ends_pair}
-use Rattle.surf_opening.proofs.MeshSides.{is_darts, no_third_face}
-use Rattle.surf_opening.proofs.Polygons.{after_cases}
+use Rattle.surf_opening.proofs.gluing.Cotrees.{ends_pair}
+use Rattle.surf_opening.proofs.sides.MeshSides.{is_darts, no_third_face}
+use Rattle.surf_opening.proofs.sides.Polygons.{after_cases}
 use Rattle.surf_soup.specs.Ring.{BeginsAt}
 use Rattle.surf_soup.proofs.HalfLaws.{face_of_side, spans}
 use Rattle.surf_soup.proofs.CornerSides.{one_corner}

@@ -3,7 +3,7 @@ use Rattle.std.proofs.Common.{◌≡◌, ◌≢◌, ℕ, zero, suc, ◌+◌, ◌
 use Rattle.std.proofs.lemmas.Bool.{cases_eq, cases_lt, cases_Bool, eq-eqb, both_ways, lt-ltb, le-ltb, le-leb, lt-leb, cases_order}
 use Rattle.surf_surfaces.proofs.Common.{count_below, Joined, here, over, after, ◌⊎◌}
 use Rattle.surf_z2.proofs.Counting.{passes, fails, no_fall_to, passed_onto}
-use Rattle.surf_surfaces.proofs.JoinedLaws.{joined_trans, joined_sym}
+use Rattle.surf_surfaces.proofs.meshes.JoinedLaws.{joined_trans, joined_sym}
 use Rattle.surf_slit.specs.Link.{run_of}
 
 -- Around n places: one is next to the other, and no cut is between them. The test says whether a cut is behind a place.

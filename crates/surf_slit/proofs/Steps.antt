@@ -2,10 +2,10 @@
 use Rattle.surf_surfaces.proofs.Common.{◌≡◌, ◌≢◌, ℕ, ◌+◌, ◌-◌, ◌<◌, ◌≤◌, ◌↔◌, max, sym, refl, subst, ap, ◌∙◌, List, length, get_or, Bool, true, false, arith, count_below, Joined, here, over, Mesh, pair, edge_count, ends, touches, IsSurface, side_count, owners, IsFaceOf}
 use Rattle.std.proofs.Math.ListN.{set}
 use Rattle.std.proofs.lemmas.List.{get_or-set_same, get_or-set_other}
-use Rattle.surf_surfaces.proofs.FaceLaws.{touches_first}
-use Rattle.surf_surfaces.proofs.JoinedLaws.{joined_lift, joined_trans}
+use Rattle.surf_surfaces.proofs.meshes.FaceLaws.{touches_first}
+use Rattle.surf_surfaces.proofs.meshes.JoinedLaws.{joined_lift, joined_trans}
 use Rattle.surf_opening.specs.Opening.{ShareUncutAt}
-use Rattle.surf_opening.proofs.Counting.{pigeons}
+use Rattle.surf_opening.proofs.counts.Counting.{pigeons}
 use Rattle.surf_soup.specs.Ring.{BeginsAt}
 use Rattle.surf_soup.proofs.HalfLaws.{face_of_side}
 use Rattle.surf_soup.proofs.VertexLaws.{corners_below, corners_len}

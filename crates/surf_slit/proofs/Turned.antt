@@ -1,6 +1,6 @@
 -- Places counted from behind one of them, so that it comes last.
 use Rattle.surf_surfaces.proofs.Common.{◌≡◌, ℕ, ◌+◌, ◌-◌, ◌<◌, ◌≤◌, ◌⊎◌, inl, inr, refl, subst, ap, ◌∙◌, arith, cases_lt, lt-ltb, le-ltb, Mesh, after, IsFaceOf}
-use Rattle.surf_opening.proofs.Polygons.{after_cases}
+use Rattle.surf_opening.proofs.sides.Polygons.{after_cases}
 use Rattle.surf_slit.specs.Place.{place}
 use Rattle.surf_slit.proofs.Fans.{IsFan}
 

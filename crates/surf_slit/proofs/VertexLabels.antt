@@ -2,11 +2,11 @@
 use Rattle.surf_surfaces.proofs.Common.{◌≡◌, ◌≢◌, ℕ, ◌+◌, ◌-◌, ◌<◌, ◌≤◌, ◌⊎◌, zero, suc, max, inl, inr, sym, refl, subst, ap, ◌∙◌, List, length, get_or, replicate, eqb, Bool, true, false, arith, cases_eq, cases_lt, cases_order, or_left, or_right, eq-eqb, or_cases, eqb-true, count_below, Joined, here, over, Mesh, pair, edge_count, ends, touches, ShareAt, IsSurface, side_count, slice_index}
 use Rattle.std.proofs.Math.ListN.{set}
 use Rattle.std.proofs.lemmas.List.{get_or-set_same, get_or-set_other, get_or-replicate}
-use Rattle.surf_surfaces.proofs.CellLaws.{ends_below}
-use Rattle.surf_surfaces.proofs.JoinedLaws.{joined_lift}
+use Rattle.surf_surfaces.proofs.meshes.CellLaws.{ends_below}
+use Rattle.surf_surfaces.proofs.meshes.JoinedLaws.{joined_lift}
 use Rattle.surf_opening.specs.Opening.{ShareUncutAt}
-use Rattle.surf_opening.proofs.Counting.{pigeons}
-use Rattle.surf_opening.proofs.Edges.{edge_of}
+use Rattle.surf_opening.proofs.counts.Counting.{pigeons}
+use Rattle.surf_opening.proofs.sides.Edges.{edge_of}
 use Rattle.surf_soup.specs.Ring.{BeginsAt, IsRing, IsEdgeAt, AreEdgesAt, GoBetween}
 use Rattle.surf_soup.proofs.CornerSides.{begins_corner, corner_begins}
 use Rattle.surf_slit.specs.Labels.{corner_at, IsUncut, AgreeAt, AreNumbers, AreLabels, IsLabelledAt}

@@ -3,12 +3,12 @@ use Rattle.surf_surfaces.proofs.Common.{◌≡◌, ◌≢◌, ℕ, zero, suc, �
 use Rattle.std.proofs.lemmas.List.Sums.{sum_by_push}
 use Rattle.surf_soup.specs.Forest.{HasRoots, merged}
 use Rattle.surf_soup.specs.Apart.{AreAcross, AreFaceRoots, IsLeastApart}
-use Rattle.surf_surfaces.proofs.JoinedLaws.{joined_trans, joined_sym, joined_closed}
+use Rattle.surf_surfaces.proofs.meshes.JoinedLaws.{joined_trans, joined_sym, joined_closed}
 use Rattle.surf_soup.specs.Half.{AreAllMates}
 use Rattle.surf_soup.specs.Pairs.{HasTwoFaces}
 use Rattle.surf_soup.proofs.Owners.{faces_with-sides}
 use Rattle.surf_soup.proofs.EdgeTables.{pair_at-edge}
-use Rattle.surf_surfaces.proofs.EdgeLaws.{place_of-among}
+use Rattle.surf_surfaces.proofs.meshes.EdgeLaws.{place_of-among}
 use Rattle.surf_soup.proofs.HalfLaws.{face_of_side, spans}
 use Rattle.surf_soup.proofs.SideNumbers.{across_shares, shares_across, one_face, mate_back}
 

@@ -1,7 +1,7 @@
 -- Sides that begin at a vertex, with their faces and places.
 use Rattle.surf_surfaces.proofs.Common.{◌≡◌, ℕ, zero, suc, ◌+◌, ◌-◌, ◌<◌, true, eqb, List, [], ◌∷◌, length, get_or, refl, sym, ap, ◌∙◌, arith, inl, inr, range_with_len, cases_eq, cases_lt, eq-eqb, eqb-true, get_or_default, All-from_recursion, length-range_with_len, get_or-range_with_len, Mesh, IsMesh, corner, face_at, HasCorner, side_count, first_side, IsFaceOf}
-use Rattle.surf_surfaces.proofs.EdgeLaws.{list_any_at}
-use Rattle.surf_surfaces.proofs.SideLaws.{corner_place}
+use Rattle.surf_surfaces.proofs.meshes.EdgeLaws.{list_any_at}
+use Rattle.surf_surfaces.proofs.meshes.SideLaws.{corner_place}
 use Rattle.surf_rows.specs.Groups.{has_key}
 use Rattle.surf_soup.specs.Vertices.{all_corners, sides_at}
 use Rattle.surf_soup.specs.Ring.{BeginsAt}

@@ -1,9 +1,9 @@
 -- Darts of a mesh: their faces, edges and vertices.
 use Rattle.surf_surfaces.proofs.Common.{◌≡◌, ◌≢◌, ℕ, ◌+◌, ◌-◌, ◌<◌, ◌≤◌, ◌⊎◌, Bool, true, false, List, [], length, get_or, refl, sym, ap, subst, ◌∙◌, arith, inl, inr, true≢false, cases_eq, cases_lt, ne_eqb, Mesh, IsMesh, pair, edges, after, before, corner, face_count, face_at, edge_count, ends, touches, has_side, HasEdge, ShareAt, place_of, side_count, pair_at, owners, first_side, IsFaceOf}
-use Rattle.surf_surfaces.proofs.EdgeLaws.{place_of-ends}
-use Rattle.surf_surfaces.proofs.FaceLaws.{pair_comm, touches-pair_of}
-use Rattle.surf_surfaces.proofs.SideLaws.{pair_ends, after-below, before-below, after-before, before-after}
-use Rattle.surf_surfaces.proofs.SideLaws.{corner_place}
+use Rattle.surf_surfaces.proofs.meshes.EdgeLaws.{place_of-ends}
+use Rattle.surf_surfaces.proofs.meshes.FaceLaws.{pair_comm, touches-pair_of}
+use Rattle.surf_surfaces.proofs.meshes.SideLaws.{pair_ends, after-below, before-below, after-before, before-after}
+use Rattle.surf_surfaces.proofs.meshes.SideLaws.{corner_place}
 use Rattle.surf_soup.specs.Half.{AreAllMates}
 use Rattle.surf_soup.specs.Pairs.{HasTwoFaces}
 use Rattle.surf_soup.specs.Vertices.{all_corners, sides_at}

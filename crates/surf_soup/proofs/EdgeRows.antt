@@ -4,7 +4,7 @@ use Rattle.std.specs.List.{filter, sum_by}
 use Rattle.std.proofs.lemmas.List.{length-set, get_or-set_same, get_or-set_other, length_push, get_or_push}
 use Rattle.std.proofs.lemmas.List.Elements.{filter-append}
 use Rattle.std.proofs.lemmas.List.Sums.{sum_by-set, sum_by_push}
-use Rattle.surf_surfaces.proofs.PairLaws.{pair_eq-same, pair_eq-other, pair_lt-irreflexive}
+use Rattle.surf_surfaces.proofs.meshes.PairLaws.{pair_eq-same, pair_eq-other, pair_lt-irreflexive}
 use Rattle.surf_rows.specs.Rows.{with_last_longer}
 use Rattle.surf_soup.specs.Order.{running, AreRowsOf}
 

@@ -1,7 +1,7 @@
 -- Two sides more are mates.
 use Rattle.surf_surfaces.proofs.Common.{◌≡◌, ℕ, ◌-◌, ◌<◌, ◌==◌, ◌||◌, true, false, Bool, List, [], ◌∷◌, ◌++◌, length, get_or, set, replicate, inl, inr, Option, Some, None, refl, sym, ap, ◌∙◌, arith, true≢false, cases_eq, eq-eqb, ne_eqb, or_left, or_right, list_any, Mesh, side_count}
 use Rattle.std.proofs.lemmas.List.{length_push, get_or_push, length-set, get_or-set_same, get_or-set_other, length-replicate, get_or-replicate}
-use Rattle.surf_surfaces.proofs.EdgeLaws.{list_any-append}
+use Rattle.surf_surfaces.proofs.meshes.EdgeLaws.{list_any-append}
 use Rattle.surf_soup.specs.Pairing.{EndsWith, AreMatedUpto, AreGreaterEnds}
 use Rattle.surf_soup.proofs.PairSteps.{paired_none}
 

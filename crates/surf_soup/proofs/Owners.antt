@@ -4,9 +4,9 @@ use Rattle.std.specs.List.{filter, flat_map, range_with_len, sum_by}
 use Rattle.std.proofs.lemmas.Bool.{cases_Bool, or_parts}
 use Rattle.std.proofs.lemmas.List.Elements.{All-head, All-tail}
 use Rattle.surf_surfaces.specs.Surface.{has_side, places_from, faces_with}
-use Rattle.surf_surfaces.proofs.PairLaws.{pair_eq-true}
-use Rattle.surf_surfaces.proofs.FaceLaws.{Once, face_once, has_side-among}
-use Rattle.surf_surfaces.proofs.CountLaws.{length-sides}
+use Rattle.surf_surfaces.proofs.meshes.PairLaws.{pair_eq-true}
+use Rattle.surf_surfaces.proofs.meshes.FaceLaws.{Once, face_once, has_side-among}
+use Rattle.surf_surfaces.proofs.meshes.CountLaws.{length-sides}
 use Rattle.surf_surfaces.specs.SideNumber.{side_pairs, pair_at, owners, sides_with}
 use Rattle.surf_soup.proofs.EdgeTables.{length-side_pairs}
 

@@ -1,7 +1,7 @@
 -- Where sides don't come in pairs, some edge hasn't two faces.
 use Rattle.surf_surfaces.proofs.Common.{◌≡◌, ◌≢◌, ℕ, zero, suc, ◌+◌, ◌-◌, ◌*◌, ◌/◌, ◌%◌, ◌<◌, ◌≤◌, ◌⊎◌, Bool, true, false, not, eqb, List, [], ◌∷◌, ◌++◌, length, get_or, set, take, refl, sym, ap, ◌∙◌, subst, arith, inl, inr, cases_eq, cases_lt, cases_Bool, eq-eqb, eqb-true, true≢false, length_push, get_or_push, get_or-map, get_or_default, take_all, length-map, All-from_recursion, sum_by-cons, div-add-mod', mod_below, Mesh, IsMesh, pair_eq, pair_lt, side_count, sides_with, pair_at}
 use Rattle.std.specs.List.{filter, sum_by}
-use Rattle.surf_surfaces.proofs.PairLaws.{pair_eq-true, pair_eq-same, pair_lt-irreflexive, pair_lt-trans}
+use Rattle.surf_surfaces.proofs.meshes.PairLaws.{pair_eq-true, pair_eq-same, pair_lt-irreflexive, pair_lt-trans}
 use Rattle.surf_soup.specs.Order.{lesser_ends, greater_ends, pair_in, running, IsLast, AreSideEntries}
 use Rattle.surf_soup.specs.Pairs.{HasTwoFaces}
 use Rattle.surf_soup.specs.Pairing.{pair_rows, ArePairedUpto}

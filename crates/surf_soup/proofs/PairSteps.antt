@@ -1,7 +1,7 @@
 -- Two sides more are paired.
 use Rattle.surf_surfaces.proofs.Common.{◌≡◌, ◌≢◌, ℕ, ◌+◌, ◌-◌, ◌<◌, true, List, [], ◌∷◌, ◌++◌, length, get_or, map, set, take, refl, sym, ap, ◌∙◌, subst, arith, inl, inr, sum_by, cases_eq, length_push, get_or_push, get_or_append_left, get_or_default, same_lists, All-from_recursion, Mesh, IsMesh, pair_eq, edges, edge_count, side_count, owners}
 use Rattle.std.proofs.lemmas.List.{length-map, get_or-map, length-set, get_or-set_same, get_or-set_other}
-use Rattle.surf_surfaces.proofs.PairLaws.{pair_eq-true, pair_lt-irreflexive}
+use Rattle.surf_surfaces.proofs.meshes.PairLaws.{pair_eq-true, pair_lt-irreflexive}
 use Rattle.surf_rows.specs.Rows.{with_last_longer}
 use Rattle.surf_soup.specs.Order.{lesser_ends, greater_ends, pair_in, running, IsLast, AreListedUpto, AreSideEntries}
 use Rattle.surf_soup.specs.Pairs.{HasTwoFaces}

@@ -1,7 +1,7 @@
 -- The round of a vertex is its ring.
 use Rattle.surf_surfaces.proofs.Common.{◌≡◌, ◌≢◌, ℕ, zero, suc, ◌+◌, ◌-◌, ◌<◌, ◌⊎◌, Bool, true, false, List, length, get_or, refl, sym, ap, subst, ◌∙◌, arith, inl, inr, true≢false, cases_eq, cases_lt, Joined, here, over, Mesh, IsMesh, after, before, face_count, edge_count, ends, touches, HasCorner, HasEdge, ShareAt, HasOneFan, side_count, pair_at, owners, sides_with, first_side, IsFaceOf}
-use Rattle.surf_surfaces.proofs.JoinedLaws.{joined_trans, joined_sym, joined_closed}
-use Rattle.surf_surfaces.proofs.FaceLaws.{touches_first}
+use Rattle.surf_surfaces.proofs.meshes.JoinedLaws.{joined_trans, joined_sym, joined_closed}
+use Rattle.surf_surfaces.proofs.meshes.FaceLaws.{touches_first}
 use Rattle.surf_soup.specs.Half.{AreAllMates}
 use Rattle.surf_soup.specs.EdgeTable.{AreEdgeNumbers}
 use Rattle.surf_soup.specs.Pairs.{HasTwoFaces}

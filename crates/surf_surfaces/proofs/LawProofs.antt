@@ -1,14 +1,14 @@
 -- The laws, as they are stated.
 use Rattle.surf_surfaces.proofs.Common.{◌≡◌, ◌≢◌, ℕ, zero, suc, ◌<◌, true, ◌&&◌, cond, eqb, List, [], ◌∷◌, length, get_or, map, refl, sym, ap, ◌∙◌, arith, inl, inr, AllPairs, list_any, eq-eqb, eqb-true, lt-ltb, or_left, or_right, or_cases, true≢false, count_below, Mesh, IsMesh, sides, pair_of, pair_eq, edges, among, edge_count, face_at, ends, has_side, touches, borders, faces_of, HasEdge, IsSurface, place_of}
 use Rattle.surf_z2.proofs.ParityLaws.{same_tests, odd_below-same}
-use Rattle.surf_surfaces.proofs.PairLaws.{pair_eq-same}
-use Rattle.surf_surfaces.proofs.EdgeLaws.{edges-rise, rising_at, edges_unique, among-edges, among-contains, contains_from_among, list_any_at, list_any_from, place_of-ends, place_of-among}
-use Rattle.surf_surfaces.proofs.FaceLaws.{Once, face_once}
-use Rattle.surf_surfaces.proofs.SurfaceLaws.{two_faces_of, has_side-face, faces_with-rise, faces_with-contains, edge_below}
-use Rattle.surf_surfaces.proofs.EvenLaws.{face_edges_even, closed_walk_even, boundary_even}
+use Rattle.surf_surfaces.proofs.meshes.PairLaws.{pair_eq-same}
+use Rattle.surf_surfaces.proofs.meshes.EdgeLaws.{edges-rise, rising_at, edges_unique, among-edges, among-contains, contains_from_among, list_any_at, list_any_from, place_of-ends, place_of-among}
+use Rattle.surf_surfaces.proofs.meshes.FaceLaws.{Once, face_once}
+use Rattle.surf_surfaces.proofs.meshes.SurfaceLaws.{two_faces_of, has_side-face, faces_with-rise, faces_with-contains, edge_below}
+use Rattle.surf_surfaces.proofs.walks.EvenLaws.{face_edges_even, closed_walk_even, boundary_even}
 use Rattle.surf_z2.proofs.Sums.{sum_below-same}
-use Rattle.surf_surfaces.proofs.CountLaws.{degree, two_sides_at, two_edges_at, no_edge_at, sizes_twice}
-use Rattle.surf_surfaces.proofs.WalkLaws.{vertices_joined}
+use Rattle.surf_surfaces.proofs.meshes.CountLaws.{degree, two_sides_at, two_edges_at, no_edge_at, sizes_twice}
+use Rattle.surf_surfaces.proofs.walks.WalkLaws.{vertices_joined}
 use Rattle.surf_surfaces.specs.Laws.{EdgesAreInOrder, EdgesAreSides, EdgesAreOrdered, EdgesAreDetermined, EdgesAreNumbered, FacesAreListed, EdgesHaveTwoFaces, SidesDiffer, CornersHaveTwoSides, FaceMeetsVertices, VerticesAreJoined, ClosedWalksAreEven, BoundariesAreEven, SizesAreTwiceEdges, EdgesAreAsManyAsCorners}
 
 pub edges_are_in_order : EdgesAreInOrder

@@ -1,11 +1,11 @@
 -- Each edge of a coherently oriented mesh has two faces.
 use Rattle.surf_surfaces.proofs.Common.{◌≡◌, ◌≢◌, ℕ, ◌<◌, true, false, eqb, List, [], ◌∷◌, ◌⊎◌, length, get_or, refl, sym, ap, ◌∙◌, arith, inl, inr, subst, AllPairs, list_any, eqb-true, eq-eqb, cases_order, lt-ltb, or_cases, true≢false, IsFace, sides, pair, pair_of, pair_eq, edges, among, face_at, ends, has_side, runs, faces_with}
-use Rattle.surf_surfaces.proofs.PairLaws.{pair_eq-true, pair_eq-same, pair_eq-self, pair_same}
-use Rattle.surf_surfaces.proofs.EdgeLaws.{list_any_at, list_any_from, among-edges}
-use Rattle.surf_surfaces.proofs.FaceLaws.{pair_comm}
-use Rattle.surf_surfaces.proofs.SurfaceLaws.{edge_below, faces_with-has, faces_with-rise, has_side-face}
+use Rattle.surf_surfaces.proofs.meshes.PairLaws.{pair_eq-true, pair_eq-same, pair_eq-self, pair_same}
+use Rattle.surf_surfaces.proofs.meshes.EdgeLaws.{list_any_at, list_any_from, among-edges}
+use Rattle.surf_surfaces.proofs.meshes.FaceLaws.{pair_comm}
+use Rattle.surf_surfaces.proofs.meshes.SurfaceLaws.{edge_below, faces_with-has, faces_with-rise, has_side-face}
 use Rattle.surf_surfaces.proofs.LawProofs.{sides_differ}
-use Rattle.surf_surfaces.proofs.RunLaws.{runs_side, one_way, some_way}
+use Rattle.surf_surfaces.proofs.meshes.RunLaws.{runs_side, one_way, some_way}
 use Rattle.surf_tori.specs.Coherent.{Runs, CoherentEdgesHaveTwoFaces}
 
 -- a list of rising numbers that are two different ones

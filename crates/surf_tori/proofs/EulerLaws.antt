@@ -3,8 +3,8 @@ use Rattle.surf_surfaces.proofs.Common.{◌≡◌, ℕ, ◌+◌, ◌*◌, ◌<�
 use Rattle.std.specs.Prelude.{ℤ, pos, ◌+ℤ◌, ◌-ℤ◌}
 use Rattle.std.proofs.Math.IntN.{neg_ℤ, +ℤ_assoc, +ℤ_comm, pos-+ℤ-pos, +ℤ-neg_ℤ_cancel, -ℤ-+ℤ_cancel}
 use Rattle.surf_surfaces.specs.Mesh.{Mesh, characteristic}
-use Rattle.surf_surfaces.proofs.CountLaws.{sizes_twice}
-use Rattle.surf_surfaces.proofs.EulerSums.{less_two}
+use Rattle.surf_surfaces.proofs.meshes.CountLaws.{sizes_twice}
+use Rattle.surf_surfaces.proofs.meshes.EulerSums.{less_two}
 
 pub three_each : (xs : List (List ℕ)) → AllByRecursion (λ x. length x ≡ 3) xs → sum_by length xs ≡ 3 * length xs
 three_each [] h = refl

@@ -1,8 +1,8 @@
 -- Two surfaces joined along a triangle: the faces at each vertex, and all faces, stay joined.
 use Rattle.surf_surfaces.proofs.Common.{◌≡◌, ◌≢◌, ℕ, ◌<◌, ◌≤◌, true, [], ◌⊎◌, refl, sym, ap, ◌∙◌, arith, inl, inr, subst, Contains, cases_eq, All-contains, Joined, here, over, Mesh, pair, face_count, face_at, has_side, HasCorner, HasEdge, Share, ShareAt, IsConnected, IsSurface}
-use Rattle.surf_surfaces.proofs.JoinedLaws.{joined_trans, joined_sym, joined_lift}
+use Rattle.surf_surfaces.proofs.meshes.JoinedLaws.{joined_trans, joined_sym, joined_lift}
 use Rattle.surf_tori.specs.Coherent.{Runs, IsCoherent}
-use Rattle.surf_surfaces.proofs.RunLaws.{some_way}
+use Rattle.surf_surfaces.proofs.meshes.RunLaws.{some_way}
 use Rattle.surf_tori.proofs.CoherentLaws.{coherent_edges_have_two_faces}
 use Rattle.surf_tori.proofs.LinkLaws.{KeptShareAt, KeptShare, HasKeptFans, kept_share_at_turned, edge_out, edge_back, share_in_out}
 use Rattle.surf_tori.proofs.RenamedLaws.{joined_map, corner_of_renamed, corner_renamed, run_corners, run_face, across}

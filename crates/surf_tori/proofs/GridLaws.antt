@@ -2,10 +2,10 @@
 use Rattle.surf_surfaces.proofs.Common.{◌≡◌, ◌≢◌, ℕ, ◌+◌, ◌*◌, ◌<◌, cond, eqb, [], ◌∷◌, ◌⊎◌, refl, sym, ap, ◌∙◌, inl, inr, subst, eq-eqb, ne_eqb, All-from_get_or, Mesh, IsFace, pair_of, face_count, face_at}
 use Rattle.std.proofs.Math.Nat.{mul_comm}
 use Rattle.std.proofs.lemmas.Nat.{same_from_place, mul-add-lt}
-use Rattle.surf_surfaces.proofs.SurfaceLaws.{has_side-face}
+use Rattle.surf_surfaces.proofs.meshes.SurfaceLaws.{has_side-face}
 use Rattle.surf_tori.specs.Coherent.{Runs, IsCoherent}
-use Rattle.surf_surfaces.proofs.RunLaws.{runs_side}
-use Rattle.surf_surfaces.proofs.SmallFaces.{triangle}
+use Rattle.surf_surfaces.proofs.meshes.RunLaws.{runs_side}
+use Rattle.surf_surfaces.proofs.meshes.SmallFaces.{triangle}
 use Rattle.surf_tori.proofs.TriangleLaws.{run_of, runs_first, runs_second, runs_third}
 
 -- going round n places, at least three, forwards and backwards

@@ -1,10 +1,10 @@
 -- Lists of faces whose neighbours are related, and chains among faces with a property.
 use Rattle.surf_surfaces.proofs.Common.{◌≡◌, ◌≢◌, ℕ, ◌<◌, List, [], ◌∷◌, ◌++◌, ◌⊎◌, sym, inl, inr, subst, Joined, here, over, Mesh, pair, face_at, HasCorner, HasEdge, Share, ShareAt}
-use Rattle.surf_surfaces.proofs.FaceLaws.{pair_comm}
-use Rattle.surf_surfaces.proofs.JoinedLaws.{joined_trans, joined_sym}
-use Rattle.surf_surfaces.proofs.SurfaceLaws.{has_side-face}
+use Rattle.surf_surfaces.proofs.meshes.FaceLaws.{pair_comm}
+use Rattle.surf_surfaces.proofs.meshes.JoinedLaws.{joined_trans, joined_sym}
+use Rattle.surf_surfaces.proofs.meshes.SurfaceLaws.{has_side-face}
 use Rattle.surf_tori.specs.Coherent.{Runs}
-use Rattle.surf_surfaces.proofs.RunLaws.{runs_side}
+use Rattle.surf_surfaces.proofs.meshes.RunLaws.{runs_side}
 
 abbrev pub Linked : (ℕ → ℕ → Type 0) → List ℕ → Type 0
 Linked R [] = Unit {0}

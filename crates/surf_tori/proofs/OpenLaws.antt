@@ -1,13 +1,13 @@
 -- Surfaces of which one triangle can be left out.
 use Rattle.surf_surfaces.proofs.Common.{◌≡◌, ◌≢◌, ℕ, ◌<◌, true, List, [], ◌∷◌, ◌⊎◌, get_or, sym, ap, inl, inr, subst, list_any, cases_eq, Joined, here, over, Mesh, sides, pair, pair_of, pair_eq, face_count, face_at, has_side, runs, HasCorner, Share, IsConnected}
-use Rattle.surf_surfaces.proofs.EdgeLaws.{list_any_at, list_any_from}
-use Rattle.surf_surfaces.proofs.JoinedLaws.{joined_trans, joined_sym, joined_lift, joined_closed}
-use Rattle.surf_surfaces.proofs.PairLaws.{pair_eq-true, pair_eq-self}
+use Rattle.surf_surfaces.proofs.meshes.EdgeLaws.{list_any_at, list_any_from}
+use Rattle.surf_surfaces.proofs.meshes.JoinedLaws.{joined_trans, joined_sym, joined_lift, joined_closed}
+use Rattle.surf_surfaces.proofs.meshes.PairLaws.{pair_eq-true, pair_eq-self}
 use Rattle.surf_tori.specs.Coherent.{Runs, IsCoherent}
 use Rattle.surf_tori.proofs.LinkLaws.{KeptShareAt, KeptShare, HasKeptFans, kept_share_turned}
 use Rattle.surf_tori.proofs.RenamedLaws.{run_corners, run_below, edge_corner, run_face, across}
 use Rattle.surf_tori.proofs.TriangleLaws.{run_of, runs_first}
-use Rattle.surf_surfaces.proofs.FaceLaws.{pair_comm}
+use Rattle.surf_surfaces.proofs.meshes.FaceLaws.{pair_comm}
 
 -- what stays joined where the triangle f is left out
 pub record Losing (mesh : Mesh) (f b0 b1 b2 : ℕ) : Type 0 where

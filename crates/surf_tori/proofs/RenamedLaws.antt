@@ -1,13 +1,13 @@
 -- Faces whose vertices are renamed, and what is across a run of a face.
 use Rattle.surf_surfaces.proofs.Common.{◌≡◌, ◌≢◌, ℕ, ◌<◌, true, List, [], ◌∷◌, ◌++◌, length, get_or, map, refl, sym, ap, ◌∙◌, arith, inl, inr, subst, Contains, list_any, map-append, get_or-map, length-map, get_or_default, All-from_recursion, Joined, here, over, Mesh, IsFace, steps_from, sides, pair, pair_eq, after, corner, face_count, face_at, has_side, runs}
-use Rattle.surf_surfaces.proofs.PairLaws.{pair_eq-true, pair_eq-same, pair_eq-self}
-use Rattle.surf_surfaces.proofs.EdgeLaws.{list_any_at, list_any_from, list_any-map}
-use Rattle.surf_surfaces.proofs.CountLaws.{length-sides}
-use Rattle.surf_surfaces.proofs.FaceLaws.{IsStepBelow, face_steps}
-use Rattle.surf_surfaces.proofs.SideLaws.{sides_are_by_place, after-below}
-use Rattle.surf_surfaces.proofs.SurfaceLaws.{has_side-face}
+use Rattle.surf_surfaces.proofs.meshes.PairLaws.{pair_eq-true, pair_eq-same, pair_eq-self}
+use Rattle.surf_surfaces.proofs.meshes.EdgeLaws.{list_any_at, list_any_from, list_any-map}
+use Rattle.surf_surfaces.proofs.meshes.CountLaws.{length-sides}
+use Rattle.surf_surfaces.proofs.meshes.FaceLaws.{IsStepBelow, face_steps}
+use Rattle.surf_surfaces.proofs.meshes.SideLaws.{sides_are_by_place, after-below}
+use Rattle.surf_surfaces.proofs.meshes.SurfaceLaws.{has_side-face}
 use Rattle.surf_tori.specs.Coherent.{Runs, IsCoherent}
-use Rattle.surf_surfaces.proofs.RunLaws.{runs_side, one_way, some_way}
+use Rattle.surf_surfaces.proofs.meshes.RunLaws.{runs_side, one_way, some_way}
 
 pub joined_map : {R S : ℕ → ℕ → Type 0} (f : ℕ → ℕ) {a b : ℕ} → ((x y : ℕ) → R x y → S (f x) (f y)) → Joined R a b →
     Joined S (f a) (f b)

@@ -3,9 +3,9 @@ use Rattle.surf_surfaces.proofs.Common.{◌≡◌, ◌≢◌, ℕ, suc, ◌+◌,
 use Rattle.std.proofs.lemmas.List.{length-append, length-map, length-take-le, length-drop, get_or_append_left, get_or-append_right, get_or-take, get_or-drop, get_or-map}
 use Rattle.std.proofs.Math.Seq.{drop-cons}
 use Rattle.std.proofs.lemmas.List.Sums.{sum_by-cons, sum_by-append}
-use Rattle.surf_surfaces.proofs.CountLaws.{sizes_twice}
+use Rattle.surf_surfaces.proofs.meshes.CountLaws.{sizes_twice}
 use Rattle.surf_tori.proofs.EulerLaws.{characteristic_of_sum}
-use Rattle.surf_surfaces.proofs.JoinedLaws.{joined_lift}
+use Rattle.surf_surfaces.proofs.meshes.JoinedLaws.{joined_lift}
 use Rattle.surf_tori.specs.Coherent.{Runs, IsCoherent}
 use Rattle.surf_tori.specs.ConnectedSum.{without, sum_name, connected_sum, CanLose, ConnectedSumsAreSurfaces, ConnectedSumsLoseTwo}
 use Rattle.surf_tori.proofs.RankLaws.{name, name_0, name_1, name_2, name_fresh, name_injective, name_in, named}

@@ -1,6 +1,6 @@
 -- Triangles by their corners.
 use Rattle.surf_surfaces.proofs.Common.{◌≡◌, ◌≢◌, ℕ, zero, suc, ◌<◌, true, false, ◌||◌, [], ◌∷◌, ◌⊎◌, get_or, sym, arith, inl, inr, AllPairs, Contains, or_cases, or_left, or_right, true≢false, All-from_recursion, IsFace, pair_eq, runs}
-use Rattle.surf_surfaces.proofs.PairLaws.{pair_eq-true, pair_eq-self}
+use Rattle.surf_surfaces.proofs.meshes.PairLaws.{pair_eq-true, pair_eq-self}
 
 -- one of three
 abbrev pub OneOf : ℕ → ℕ → ℕ → ℕ → Type 0

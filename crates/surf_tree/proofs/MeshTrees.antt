@@ -2,9 +2,9 @@
 use Rattle.std.proofs.Common.{◌≡◌, ◌≢◌, ℕ, ◌+◌, ◌*◌, ◌^◌, ◌<◌, ◌≤◌, true, List, [], ◌∷◌, refl, sym, ap, ◌∙◌, subst, arith, get_or, Contains, ne_eqb, eq-eqb}
 use Rattle.surf_surfaces.proofs.Common.{joins, IsGraphWalk, graph_walk_length, primal, joins_turned, Mesh, pair, edges, edge_count, ends, IsSurface, edge_length, edge_number, place_of, walk_length, cells_of, IsShortestTree}
 use Rattle.surf_surfaces.specs.Distance.{LeadsFrom, IsDistance}
-use Rattle.surf_surfaces.proofs.EdgeLaws.{place_of-among, place_of-ends, among-contains, contains_from_among}
-use Rattle.surf_surfaces.proofs.CellLaws.{surfaces_are_cells, ends_below, joins_from, joins_is}
-use Rattle.surf_surfaces.proofs.GraphWalkLaws.{walks_are_graph_walks, from_joined}
+use Rattle.surf_surfaces.proofs.meshes.EdgeLaws.{place_of-among, place_of-ends, among-contains, contains_from_among}
+use Rattle.surf_surfaces.proofs.meshes.CellLaws.{surfaces_are_cells, ends_below, joins_from, joins_is}
+use Rattle.surf_surfaces.proofs.walks.GraphWalkLaws.{walks_are_graph_walks, from_joined}
 use Rattle.surf_lengths.specs.Lengths.{longest}
 use Rattle.surf_base.specs.Tables.{nobody}
 use Rattle.surf_tree.specs.Tables.{TreeTables, AreTreeTables, tree_of}

@@ -1,7 +1,7 @@
 -- Flags by edge number.
 use Rattle.surf_surfaces.proofs.Common.{◌≡◌, ℕ, suc, ◌+◌, ◌<◌, Bool, true, false, ◌||◌, eqb, List, length, get_or, set, sym, ap, ◌∙◌, arith, inl, inr, get_or-set_same, get_or-set_other, cases_eq, eq-eqb, ne_eqb, any_below, Mesh, pair, pair_eq, edges, among, edge_count, ends, place_of}
-use Rattle.surf_surfaces.proofs.PairLaws.{pair_eq-same}
-use Rattle.surf_surfaces.proofs.EdgeLaws.{place_of-ends, ends-eq, list_any_from}
+use Rattle.surf_surfaces.proofs.meshes.PairLaws.{pair_eq-same}
+use Rattle.surf_surfaces.proofs.meshes.EdgeLaws.{place_of-ends, ends-eq, list_any_from}
 use Rattle.surf_treecheck.specs.Split.{AreFlags}
 
 -- the flag of the edge between two vertices is on

@@ -5,7 +5,7 @@ use Rattle.std.proofs.lemmas.List.Sums.{sum-map, sum_by_more}
 use Rattle.std.specs.Int.Bits.{xor_zero_r}
 use Rattle.surf_z2.proofs.Basics.{span_law}
 use Rattle.surf_surfaces.specs.Walk.{first, last, last_from}
-use Rattle.surf_surfaces.proofs.CycleLaws.{length-steps}
+use Rattle.surf_surfaces.proofs.walks.CycleLaws.{length-steps}
 use Rattle.surf_treecheck.specs.First.{HoldsBelow}
 
 from_at : (u : ℕ) (rest : List ℕ) (k : ℕ) (d : ℕ × ℕ) → k < length rest →

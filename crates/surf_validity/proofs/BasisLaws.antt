@@ -4,11 +4,11 @@ use Rattle.std.proofs.Math.Seq.{take-suc, take-length}
 use Rattle.surf_z2.proofs.Basics.{independence_law, span_law}
 use Rattle.surf_graphs.specs.Independence.{signature_of, signed, loop_chain, IsCovering}
 use Rattle.surf_surfaces.specs.Homology.{IsBasis}
-use Rattle.surf_surfaces.proofs.CellLaws.{surfaces_are_cells}
-use Rattle.surf_surfaces.proofs.GraphWalkLaws.{joined}
-use Rattle.surf_surfaces.proofs.ClassLaws.{runs_loop, independent_by_classes, some_vertex}
-use Rattle.surf_surfaces.proofs.LeastLaws.{map-same, all_each, weighed_same, covering_bases_are_least}
-use Rattle.surf_surfaces.proofs.SignatureLaws.{signatures_are_classes}
+use Rattle.surf_surfaces.proofs.meshes.CellLaws.{surfaces_are_cells}
+use Rattle.surf_surfaces.proofs.walks.GraphWalkLaws.{joined}
+use Rattle.surf_surfaces.proofs.classes.ClassLaws.{runs_loop, independent_by_classes, some_vertex}
+use Rattle.surf_surfaces.proofs.classes.LeastLaws.{map-same, all_each, weighed_same, covering_bases_are_least}
+use Rattle.surf_surfaces.proofs.classes.SignatureLaws.{signatures_are_classes}
 use Rattle.surf_validity.specs.Rows.{BasisCert}
 use Rattle.surf_validity.specs.Valid.{certified_tree, dual_tree, IsTreeValid, IsDualValid, IsDivided}
 use Rattle.surf_validity.specs.Bases.{tree_at, split_in, signatures, IsClosedList, weighed_cycle, weighed_loop, IsValidBasis}

@@ -4,11 +4,11 @@ use Rattle.surf_z2.specs.Least.{weighed}
 use Rattle.surf_z2.proofs.Least.{least_law}
 use Rattle.surf_graphs.specs.Independence.{signed, loop_chain}
 use Rattle.surf_surfaces.specs.ChoiceLaws.{LeastSimpleBasis}
-use Rattle.surf_surfaces.proofs.CoveredLaws.{below_closed, below_sized, weighed_loops, loops_covered, candidates_rise}
-use Rattle.surf_surfaces.proofs.BasisLaws.{basis_is_least}
-use Rattle.surf_surfaces.proofs.ClassLaws.{independent_by_classes, some_vertex}
-use Rattle.surf_surfaces.proofs.GreedyChoiceLaws.{choice_is_greedy}
-use Rattle.surf_surfaces.proofs.LeastLaws.{weighed_same}
+use Rattle.surf_surfaces.proofs.bases.CoveredLaws.{below_closed, below_sized, weighed_loops, loops_covered, candidates_rise}
+use Rattle.surf_surfaces.proofs.bases.BasisLaws.{basis_is_least}
+use Rattle.surf_surfaces.proofs.classes.ClassLaws.{independent_by_classes, some_vertex}
+use Rattle.surf_surfaces.proofs.bases.GreedyChoiceLaws.{choice_is_greedy}
+use Rattle.surf_surfaces.proofs.classes.LeastLaws.{weighed_same}
 use Rattle.surf_validity.specs.Rows.{TreeRows, BasisCert}
 use Rattle.surf_validity.specs.Valid.{certified_tree, loop_size, IsTreeValid, IsDivided, IsValidLoops}
 use Rattle.surf_validity.specs.Bases.{no_rows, tree_at, split_in, signatures, weighed_cycle, weighed_loop, IsClosedList, IsCovered, HasBasisShape, IsValidBasis}

@@ -2,12 +2,12 @@
 use Rattle.surf_surfaces.proofs.Common.{◌≡◌, ◌≢◌, ℕ, zero, suc, ◌+◌, ◌<◌, ◌≤◌, Bool, true, false, not, ◌&&◌, ◌||◌, cond, eqb, List, [], ◌∷◌, length, get_or, map, Contains, refl, sym, ap, ◌∙◌, subst, arith, inl, inr, Some, None, AllByRecursion, list_any, range_with_len, cases_Bool, cases_eq, or_cases, and_parts, ne_eqb, eq-eqb, eqb-true, false≢true, true≢false, false_from_ne_true, lt-ltb, nat_tests, length-map, get_or-map, Contains-get_or, length-range_with_len, get_or-map-range_with_len, xor, any_below-same, primal, between, left_edges as left_count, Mesh, pair, pair_of, pair_eq, edges, face_count, edge_count, face_at, ends, faces_of, has_side, IsSurface, edge_length, edge_number, place_of, ArePositive, cells_of, Trees, AreChosenAt}
 use Rattle.surf_graphs.specs.Trees.{Tree, IsTree, IsShortest, on_way, on_path, loop, graph_loop_length}
 use Rattle.surf_surfaces.specs.Cotree.{tree_edges, cotree_edges, is_left, left_edges, split_of, precedes}
-use Rattle.surf_surfaces.proofs.PairLaws.{pair_eq-true, pair_eq-same}
-use Rattle.surf_surfaces.proofs.EdgeLaws.{place_of-ends, list_any_from}
-use Rattle.surf_surfaces.proofs.SurfaceLaws.{two_faces_of}
-use Rattle.surf_surfaces.proofs.CellLaws.{surfaces_are_cells, ends_below}
-use Rattle.surf_surfaces.proofs.ShortestTreeLaws.{shortest_is_tree, shortest_is_shortest}
-use Rattle.surf_surfaces.proofs.CotreeLaws.{passing_each, passing_found, is_split}
+use Rattle.surf_surfaces.proofs.meshes.PairLaws.{pair_eq-true, pair_eq-same}
+use Rattle.surf_surfaces.proofs.meshes.EdgeLaws.{place_of-ends, list_any_from}
+use Rattle.surf_surfaces.proofs.meshes.SurfaceLaws.{two_faces_of}
+use Rattle.surf_surfaces.proofs.meshes.CellLaws.{surfaces_are_cells, ends_below}
+use Rattle.surf_surfaces.proofs.walks.ShortestTreeLaws.{shortest_is_tree, shortest_is_shortest}
+use Rattle.surf_surfaces.proofs.classes.CotreeLaws.{passing_each, passing_found, is_split}
 use Rattle.surf_validity.specs.Rows.{LoopCert}
 use Rattle.surf_validity.specs.Valid.{distance_at, parent_at, depth_at, side_at, or_zero, certified_tree, dual_tree, across, IsParent, AddsUp, IsNoShortCut, IsTreeValid, IsDualRow, is_parent_edge, is_dual_edge, is_listed, just_one, IsDivided, loop_size, HasNoShorter, HasShape, IsValidLoops}
 use Rattle.surf_validity.specs.Chosen.{parent_in, side_in, chosen_cert}

@@ -2,9 +2,9 @@
 use Rattle.surf_surfaces.proofs.Common.{◌≡◌, ℕ, List, map, sum, ap, ◌∙◌, subst, arith, map-map, recursion_from_All, Mesh, walk_length, Loop, walks, loops_at}
 use Rattle.std.specs.List.{All}
 use Rattle.surf_surfaces.specs.Homology.{total, IsLeastLoopSystem}
-use Rattle.surf_surfaces.proofs.BasisLaws.{basis_is_least}
-use Rattle.surf_surfaces.proofs.LeastLaws.{map-same}
-use Rattle.surf_surfaces.proofs.LoopsAtLaws.{loops_are_least}
+use Rattle.surf_surfaces.proofs.bases.BasisLaws.{basis_is_least}
+use Rattle.surf_surfaces.proofs.classes.LeastLaws.{map-same}
+use Rattle.surf_surfaces.proofs.bases.LoopsAtLaws.{loops_are_least}
 use Rattle.surf_validity.specs.Valid.{certified_loops}
 use Rattle.surf_validity.specs.Chosen.{chosen_cert}
 use Rattle.surf_validity.specs.Laws.{ChosenLoopsTotal, ChosenBasisTotal}

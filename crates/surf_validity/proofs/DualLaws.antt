@@ -1,7 +1,7 @@
 -- Valid rows of faces are a tree of the faces.
 use Rattle.surf_surfaces.proofs.Common.{◌≡◌, ◌≢◌, ℕ, ◌+◌, ◌<◌, true, not, ◌&&◌, ◌||◌, eqb, [], refl, sym, ap, ◌∙◌, arith, Option, Some, None, inl, inr, cases_eq, ne_eqb, eq-eqb, or_left, or_right, and_from, eqb_comm, any_below-same, dual, joins, IsTree, in_tree, Mesh, pair_of, edges, among, face_count, edge_count, face_at, has_side, faces_of, IsSurface, edge_number, place_of, cells_of}
-use Rattle.surf_surfaces.proofs.EdgeLaws.{place_of-among, among-edges, list_any_from, ends-eq}
-use Rattle.surf_surfaces.proofs.SurfaceLaws.{two_faces_of}
+use Rattle.surf_surfaces.proofs.meshes.EdgeLaws.{place_of-among, among-edges, list_any_from, ends-eq}
+use Rattle.surf_surfaces.proofs.meshes.SurfaceLaws.{two_faces_of}
 use Rattle.surf_validity.specs.Rows.{DualRows}
 use Rattle.surf_validity.specs.Valid.{depth_at, side_at, or_zeros, across, dual_tree, IsDualRow, IsDualValid, is_side, is_dual_edge}
 

@@ -1,7 +1,7 @@
 -- Lists of increasing numbers, and lists that have all their members.
 use Rattle.surf_surfaces.proofs.Common.{◌≡◌, ◌≢◌, ℕ, suc, ◌<◌, true, ◌||◌, eqb, List, [], ◌∷◌, length, IsPermutation, refl, sym, ◌∙◌, subst, arith, inl, inr, AllByRecursion, list_any, cases_Bool, cases_eq, ne_eqb, false≢true}
 use Rattle.std.proofs.lemmas.List.Sorted.{IsPermutation-refl, IsPermutation-cons, IsPermutation-trans, IsPermutation-sym, IsPermutation-middle, length_permutation}
-use Rattle.surf_surfaces.proofs.CotreeLaws.{Climbs}
+use Rattle.surf_surfaces.proofs.classes.CotreeLaws.{Climbs}
 
 -- a list without one place of a number
 record TakesOut (x : ℕ) (ys rest : List ℕ) : Type 0 where

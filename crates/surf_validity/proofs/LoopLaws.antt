@@ -3,9 +3,9 @@ use Rattle.surf_surfaces.proofs.Common.{◌≡◌, ℕ, ◌+◌, List, [], ◌�
 use Rattle.surf_graphs.specs.Cells.{primal, dual, IsHeaviest}
 use Rattle.surf_surfaces.specs.Homology.{total, IsLeastLoopSystem}
 use Rattle.surf_surfaces.specs.Cotree.{left_edges, split_of}
-use Rattle.surf_surfaces.proofs.EdgeLaws.{place_of-among, among-contains}
-use Rattle.surf_surfaces.proofs.ClassLaws.{runs_loop}
-use Rattle.surf_surfaces.proofs.LeastLaws.{left_loops_are_least}
+use Rattle.surf_surfaces.proofs.meshes.EdgeLaws.{place_of-among, among-contains}
+use Rattle.surf_surfaces.proofs.classes.ClassLaws.{runs_loop}
+use Rattle.surf_surfaces.proofs.classes.LeastLaws.{left_loops_are_least}
 use Rattle.surf_validity.specs.Rows.{LoopCert}
 use Rattle.surf_validity.specs.Valid.{certified_tree, dual_tree, loop_size, certified_loops, loops_total, IsValidLoops}
 use Rattle.surf_validity.specs.Laws.{ValidLoopsAreLeast}

@@ -1,8 +1,8 @@
 -- Whichever trees show them, the candidates for a basis are one list, and so are the basis and its certificate.
 use Rattle.surf_surfaces.proofs.Common.{◌≡◌, ℕ, zero, suc, ◌+◌, ◌<◌, ◌≤◌, List, ◌++◌, refl, sym, ap, ◌∙◌, subst, arith, flat_map, range_with_len, sorted, Mesh, IsSurface, ArePositive, Trees, AreChosen, Loop, comes_before, walks, loops_at, candidates, IsGreedyChoice, IsChosenBasis}
-use Rattle.surf_surfaces.proofs.BasisLaws.{basis_is_one}
-use Rattle.surf_surfaces.proofs.ClassLaws.{some_vertex}
-use Rattle.surf_surfaces.proofs.LoopsOne.{loops_are_one}
+use Rattle.surf_surfaces.proofs.bases.BasisLaws.{basis_is_one}
+use Rattle.surf_surfaces.proofs.classes.ClassLaws.{some_vertex}
+use Rattle.surf_surfaces.proofs.bases.LoopsOne.{loops_are_one}
 use Rattle.surf_validity.specs.Rows.{TreeRows, DualRows, LoopCert, BasisCert}
 use Rattle.surf_validity.specs.Chosen.{rows_for, chosen_cert, basis_cert_of}
 use Rattle.surf_validity.specs.Laws.{ChosenBasisCertsAreOne}

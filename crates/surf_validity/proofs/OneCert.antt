@@ -2,7 +2,7 @@
 use Rattle.surf_surfaces.proofs.Common.{◌≡◌, ℕ, zero, suc, ◌+◌, ◌<◌, Bool, List, map, refl, ap, sym, ◌∙◌, arith, inl, inr, Option, Some, cases_eq, ne_eqb, eq-eqb, Mesh, face_count, edge_count, ends, IsSurface, ArePositive, Trees, AreChosenAt}
 use Rattle.std.specs.List.{filter, range_with_len}
 use Rattle.surf_surfaces.specs.Cotree.{is_left, left_edges}
-use Rattle.surf_surfaces.proofs.LoopsOne.{trees_same, edges_same, cotrees_same}
+use Rattle.surf_surfaces.proofs.bases.LoopsOne.{trees_same, edges_same, cotrees_same}
 use Rattle.surf_validity.specs.Rows.{TreeRows, DualRows, LoopCert}
 use Rattle.surf_validity.specs.Chosen.{parent_in, side_in, rows_for, dual_rows_of, chosen_cert}
 use Rattle.surf_validity.specs.Laws.{ChosenCertsAreOne}

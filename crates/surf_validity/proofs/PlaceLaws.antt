@@ -1,6 +1,6 @@
 -- A valid certificate is least place by place, and its shortest is a shortest nonseparating cycle.
-use Rattle.surf_surfaces.proofs.PlaceLaws.{loop_systems_are_least_in_order, bases_are_least_in_order}
-use Rattle.surf_surfaces.proofs.ShortestWalkLaws.{shortest_loops_are_shortest_not_null, shortest_of_bases_are_shortest_not_null, shortest_not_null_is_nonseparating, least_bases_measure_shortest, bases_have_shortest}
+use Rattle.surf_surfaces.proofs.classes.PlaceLaws.{loop_systems_are_least_in_order, bases_are_least_in_order}
+use Rattle.surf_surfaces.proofs.walks.ShortestWalkLaws.{shortest_loops_are_shortest_not_null, shortest_of_bases_are_shortest_not_null, shortest_not_null_is_nonseparating, least_bases_measure_shortest, bases_have_shortest}
 use Rattle.surf_validity.specs.PlaceLaws.{ValidLoopsAreLeastInOrder, ShortestOfValidLoops, ValidBasesAreLeastInOrder, ShortestOfValidBases, ValidBasesHaveShortest, ValidBasesMeasureShortest}
 use Rattle.surf_validity.specs.Valid.{certified_loops}
 use Rattle.surf_validity.proofs.LoopLaws.{valid_loops_are_least}

@@ -1,9 +1,9 @@
 -- The trees of a valid certificate and the edges in neither are a split, and the listed pairs are those edges.
 use Rattle.surf_surfaces.proofs.Common.{◌≡◌, ℕ, ◌+◌, ◌<◌, Bool, true, false, not, eqb, List, [], ◌∷◌, length, get_or, map, IsPermutation, refl, sym, ap, ◌∙◌, arith, inl, inr, AllByRecursion, list_any, cases_Bool, or_right, and_parts, eq-eqb, false≢true, false_from_ne_true, length-map, primal, dual, IsSplit, Tree, IsTree, left_edges as left_count, Mesh, pair_of, pair_eq, edges, edge_count, ends, edge_number, place_of, IsLoopCount, cells_of}
 use Rattle.surf_surfaces.specs.Cotree.{tree_edges, cotree_edges, is_left, left_edges, split_of}
-use Rattle.surf_surfaces.proofs.PairLaws.{pair_eq-true}
-use Rattle.surf_surfaces.proofs.EdgeLaws.{place_of-ends}
-use Rattle.surf_surfaces.proofs.CotreeLaws.{left_each, trees_split, passing_climb, passing_each, not-false_is}
+use Rattle.surf_surfaces.proofs.meshes.PairLaws.{pair_eq-true}
+use Rattle.surf_surfaces.proofs.meshes.EdgeLaws.{place_of-ends}
+use Rattle.surf_surfaces.proofs.classes.CotreeLaws.{left_each, trees_split, passing_climb, passing_each, not-false_is}
 use Rattle.surf_validity.specs.Valid.{is_listed, just_one}
 use Rattle.surf_validity.proofs.ListLaws.{permuted_where_found}
 

@@ -1,8 +1,8 @@
 -- Valid rows are a tree of shortest walks.
 use Rattle.surf_surfaces.proofs.Common.{◌≡◌, ◌≢◌, ℕ, ◌+◌, ◌<◌, true, not, ◌&&◌, eqb, List, refl, sym, ◌∙◌, arith, Option, Some, None, ne_eqb, eq-eqb, eqb_comm, any_below-same, primal, joins, IsTree, IsShortest, in_tree, joins_turned, joined_below, Mesh, pair, edges, edge_count, ends, IsSurface, edge_length, edge_number, place_of, ArePositive, cells_of}
-use Rattle.surf_surfaces.proofs.EdgeLaws.{place_of-among, among-contains, ends-eq}
-use Rattle.surf_surfaces.proofs.CellLaws.{surfaces_are_cells, joins_from}
-use Rattle.surf_surfaces.proofs.GraphWalkLaws.{joined}
+use Rattle.surf_surfaces.proofs.meshes.EdgeLaws.{place_of-among, among-contains, ends-eq}
+use Rattle.surf_surfaces.proofs.meshes.CellLaws.{surfaces_are_cells, joins_from}
+use Rattle.surf_surfaces.proofs.walks.GraphWalkLaws.{joined}
 use Rattle.surf_validity.specs.Rows.{TreeRows}
 use Rattle.surf_validity.specs.Valid.{distance_at, parent_at, or_zero, certified_tree, IsParent, AddsUp, IsTreeValid, leads_up, is_parent_edge}
 

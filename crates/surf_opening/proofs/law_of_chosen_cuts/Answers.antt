@@ -1,5 +1,5 @@
-use Rattle.surf_opening.proofs.ChosenOpenings.{full_cuts_are_chosen, trimmed_cuts_are_chosen, opened_are_chosen, chosen_cuts_are_one, chosen_are_openings, chosen_are_one, full_openings_are_counted, chosen_exist}
-use Rattle.surf_opening.proofs.ChosenTrees.{chosen_trees_divide, openings_at_are_one}
+use Rattle.surf_opening.proofs.openings.ChosenOpenings.{full_cuts_are_chosen, trimmed_cuts_are_chosen, opened_are_chosen, chosen_cuts_are_one, chosen_are_openings, chosen_are_one, full_openings_are_counted, chosen_exist}
+use Rattle.surf_opening.proofs.cuts.ChosenTrees.{chosen_trees_divide, openings_at_are_one}
 use Rattle.surf_opening.proofs.law_of_chosen_cuts.Goals as goal
 
 pub returns : goal.returns

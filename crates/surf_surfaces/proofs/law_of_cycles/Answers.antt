@@ -1,5 +1,5 @@
-use Rattle.surf_surfaces.proofs.CycleLaws.{null_cycles_separate}
-use Rattle.surf_surfaces.proofs.LeastCycleLaws.{cycles_below_loops_are_shortest, least_loops_are_shortest_cycles, cycles_separate_on_sphere}
+use Rattle.surf_surfaces.proofs.walks.CycleLaws.{null_cycles_separate}
+use Rattle.surf_surfaces.proofs.classes.LeastCycleLaws.{cycles_below_loops_are_shortest, least_loops_are_shortest_cycles, cycles_separate_on_sphere}
 use Rattle.surf_surfaces.proofs.law_of_cycles.Goals as goal
 
 pub returns : goal.returns

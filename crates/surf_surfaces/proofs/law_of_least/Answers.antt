@@ -1,4 +1,4 @@
-use Rattle.surf_surfaces.proofs.LeastLaws.{left_loops_are_least, covering_bases_are_least}
+use Rattle.surf_surfaces.proofs.classes.LeastLaws.{left_loops_are_least, covering_bases_are_least}
 use Rattle.surf_surfaces.proofs.law_of_least.Goals as goal
 
 pub returns : goal.returns

@@ -1,4 +1,4 @@
-use Rattle.surf_surfaces.proofs.OnTheWayLaws.{least_tables_are_least}
+use Rattle.surf_surfaces.proofs.walks.OnTheWayLaws.{least_tables_are_least}
 use Rattle.surf_surfaces.proofs.law_of_least_bases.Goals as goal
 
 pub returns : goal.returns

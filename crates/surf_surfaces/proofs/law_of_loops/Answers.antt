@@ -1,4 +1,4 @@
-use Rattle.surf_surfaces.proofs.LoopsAtLaws.{loops_are_least}
+use Rattle.surf_surfaces.proofs.bases.LoopsAtLaws.{loops_are_least}
 use Rattle.surf_surfaces.proofs.law_of_loops.Goals as goal
 
 pub returns : goal.returns

@@ -1,5 +1,5 @@
-use Rattle.surf_surfaces.proofs.LoopsOne.{loops_are_one}
-use Rattle.surf_surfaces.proofs.OneChoice.{candidates_are_one, bases_are_one}
+use Rattle.surf_surfaces.proofs.bases.LoopsOne.{loops_are_one}
+use Rattle.surf_surfaces.proofs.bases.OneChoice.{candidates_are_one, bases_are_one}
 use Rattle.surf_surfaces.proofs.law_of_one_choice.Goals as goal
 
 pub returns : goal.returns

@@ -1,5 +1,5 @@
-use Rattle.surf_surfaces.proofs.FirstFoundLaws.{ends_are_near, short_searches_suffice}
-use Rattle.surf_surfaces.proofs.NearTreeLaws.{near_trees_have_loops}
+use Rattle.surf_surfaces.proofs.bases.FirstFoundLaws.{ends_are_near, short_searches_suffice}
+use Rattle.surf_surfaces.proofs.walks.NearTreeLaws.{near_trees_have_loops}
 use Rattle.surf_surfaces.proofs.law_of_short_searches.Goals as goal
 
 pub returns : goal.returns

@@ -1,4 +1,4 @@
-use Rattle.surf_surfaces.proofs.SideLaws.{sides_are_by_place, sides_are_placed, corners_have_neighbours, sides_have_mates}
+use Rattle.surf_surfaces.proofs.meshes.SideLaws.{sides_are_by_place, sides_are_placed, corners_have_neighbours, sides_have_mates}
 use Rattle.surf_surfaces.proofs.law_of_sides.Goals as goal
 
 pub returns : goal.returns

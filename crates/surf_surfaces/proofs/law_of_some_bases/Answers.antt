@@ -1,4 +1,4 @@
-use Rattle.surf_surfaces.proofs.SomeBasesLaws.{basis_is_kept_among, basis_is_kept_over, basis_is_kept_over_few}
+use Rattle.surf_surfaces.proofs.bases.SomeBasesLaws.{basis_is_kept_among, basis_is_kept_over, basis_is_kept_over_few}
 use Rattle.surf_surfaces.proofs.law_of_some_bases.Goals as goal
 
 pub returns : goal.returns

@@ -1,4 +1,4 @@
-use Rattle.surf_surfaces.proofs.SumLaws.{only_all_or_none_is_closed, boundaries_add, parities_add, totals_are_sums}
+use Rattle.surf_surfaces.proofs.classes.SumLaws.{only_all_or_none_is_closed, boundaries_add, parities_add, totals_are_sums}
 use Rattle.surf_surfaces.proofs.law_of_sums.Goals as goal
 
 pub returns : goal.returns

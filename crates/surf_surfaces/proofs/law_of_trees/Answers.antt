@@ -1,6 +1,6 @@
-use Rattle.surf_surfaces.proofs.ChoiceExists.{choice_exists}
-use Rattle.surf_surfaces.proofs.ShortestTreeLaws.{shortest_trees_are_one}
-use Rattle.surf_surfaces.proofs.CotreeLaws.{cotrees_are_one, heavy_cotrees_are_heaviest}
+use Rattle.surf_surfaces.proofs.bases.ChoiceExists.{choice_exists}
+use Rattle.surf_surfaces.proofs.walks.ShortestTreeLaws.{shortest_trees_are_one}
+use Rattle.surf_surfaces.proofs.classes.CotreeLaws.{cotrees_are_one, heavy_cotrees_are_heaviest}
 use Rattle.surf_surfaces.proofs.law_of_trees.Goals as goal
 
 pub returns : goal.returns

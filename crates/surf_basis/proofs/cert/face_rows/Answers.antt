@@ -1,5 +1,5 @@
 use Rattle.surf_surfaces.proofs.Common.{◌<◌, ◌∙◌, map, sym, ap, subst, ends}
-use Rattle.surf_surfaces.proofs.ClassLaws.{some_vertex}
+use Rattle.surf_surfaces.proofs.classes.ClassLaws.{some_vertex}
 use Rattle.surf_validity.specs.Chosen.{dual_rows_of}
 use Rattle.surf_cotree.specs.Tables.{CotreeTables, cotree_of}
 use Rattle.surf_loops.specs.Loops.{IsGreedy}

@@ -1,6 +1,6 @@
 use Rattle.surf_surfaces.proofs.Common.{refl, sym, ◌∙◌, Trees, AreChosenAt}
-use Rattle.surf_surfaces.proofs.ChoiceExists.{heaviest_exists}
-use Rattle.surf_surfaces.proofs.ShortestTreeLaws.{shortest_is_tree}
+use Rattle.surf_surfaces.proofs.bases.ChoiceExists.{heaviest_exists}
+use Rattle.surf_surfaces.proofs.walks.ShortestTreeLaws.{shortest_is_tree}
 use Rattle.surf_lengths.proofs.Positive.{lengths_positive}
 use Rattle.surf_tree.specs.Tables.{tree_of}
 use Rattle.surf_loops.proofs.Rows.{grown_rooted}

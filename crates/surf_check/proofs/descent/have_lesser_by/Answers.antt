@@ -1,5 +1,5 @@
 use Rattle.surf_surfaces.proofs.Common.{◌≡◌, ◌<◌, ◌==◌, ◌∙◌, ℕ, List, Bool, true, false, length, get_or, sym, ap, arith, list_any, MatchBool, true≢false, length-replicate, get_or_default, ends}
-use Rattle.surf_surfaces.proofs.CellLaws.{ends_below}
+use Rattle.surf_surfaces.proofs.meshes.CellLaws.{ends_below}
 use Rattle.surf_check.specs.Descent.{HaveLesserNeighbours, is_greater_end}
 use Rattle.surf_check.proofs.descent.have_lesser_by.Goals as goal
 

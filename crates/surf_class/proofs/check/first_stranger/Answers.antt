@@ -1,5 +1,5 @@
 use Rattle.surf_surfaces.proofs.Common.{◌≡◌, ◌<◌, ℕ, false, get_or, subst, sym, ap, ◌∙◌, arith, get_or_default, pair, among, edges, edge_count, ends}
-use Rattle.surf_surfaces.proofs.EdgeLaws.{contains_from_among}
+use Rattle.surf_surfaces.proofs.meshes.EdgeLaws.{contains_from_among}
 use Rattle.surf_class.proofs.LeastFaults.{no_pair_at, none_found}
 use Rattle.surf_class.proofs.Pairs.{pair_ordered}
 use Rattle.surf_class.proofs.check.first_stranger.Goals as goal

@@ -2,7 +2,7 @@ use Rattle.surf_surfaces.proofs.Common.{◌≡◌, ◌<◌, ◌∷◌, ℕ, List
 use Rattle.surf_classes.specs.CoverGraph.{set_count}
 use Rattle.surf_classes.proofs.ReadBack.{walk_set}
 use Rattle.surf_classes.proofs.ChosenWalks.{null_choice_is_vertex}
-use Rattle.surf_surfaces.proofs.SignatureLaws.{null_by_signature}
+use Rattle.surf_surfaces.proofs.classes.SignatureLaws.{null_by_signature}
 use Rattle.surf_cotree.specs.Tables.{split_with}
 use Rattle.surf_cover.specs.Tables.{distance_at}
 use Rattle.surf_cover.proofs.Grown.{positive}

@@ -1,5 +1,5 @@
 use Rattle.surf_surfaces.proofs.Common.{sym, ap, ◌∙◌, edges, place_of}
-use Rattle.surf_surfaces.proofs.EdgeLaws.{place_of-ends}
+use Rattle.surf_surfaces.proofs.meshes.EdgeLaws.{place_of-ends}
 use Rattle.surf_cover.proofs.signs.edge_between.Goals as goal
 
 pub returns-clause-edge : goal.returns-clause-edge

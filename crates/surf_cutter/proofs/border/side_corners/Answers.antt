@@ -1,5 +1,5 @@
 use Rattle.surf_surfaces.proofs.Common.{◌≡◌, ◌<◌, ◌+◌, ◌-◌, ℕ, length, get_or, ap, sym, ◌∙◌, subst, get_or_read, after}
-use Rattle.surf_opening.proofs.Polygons.{same_pair}
+use Rattle.surf_opening.proofs.sides.Polygons.{same_pair}
 use Rattle.surf_cutter.proofs.Rims.{in_table, after_in, corners_in_table}
 use Rattle.surf_cutter.proofs.border.side_corners.Goals as goal
 

@@ -1,7 +1,7 @@
 use Rattle.surf_surfaces.proofs.Common.{◌≡◌, ◌+◌, ℕ, get_or, ap, ◌∙◌, subst, arith, ends}
-use Rattle.surf_surfaces.proofs.CellLaws.{ends_below}
+use Rattle.surf_surfaces.proofs.meshes.CellLaws.{ends_below}
 use Rattle.surf_soup.proofs.HalfLaws.{edges_few}
-use Rattle.surf_surfaces.proofs.DegreeLaws.{degrees_more, degrees_none, degree_few}
+use Rattle.surf_surfaces.proofs.meshes.DegreeLaws.{degrees_more, degrees_none, degree_few}
 use Rattle.surf_cutter.specs.Trimming.{is_cut}
 use Rattle.surf_cutter.proofs.trimming.count_edge.Goals as goal
 

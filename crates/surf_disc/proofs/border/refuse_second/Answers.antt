@@ -1,5 +1,5 @@
 use Rattle.surf_surfaces.proofs.Common.{◌≡◌, ◌<◌, ℕ, List, get_or, length, sym, ap, subst, ◌∙◌, arith, get_or_read, edge_count, ends}
-use Rattle.surf_surfaces.proofs.CellLaws.{ends_below}
+use Rattle.surf_surfaces.proofs.meshes.CellLaws.{ends_below}
 use Rattle.surf_disc.specs.Border.{AllInside, IsFirstOutside}
 use Rattle.surf_disc.proofs.TableLaws.{least_outside, one_border}
 use Rattle.surf_disc.proofs.border.refuse_second.Goals as goal

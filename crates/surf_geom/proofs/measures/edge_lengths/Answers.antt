@@ -1,5 +1,5 @@
 use Rattle.surf_surfaces.proofs.Common.{◌≡◌, ℕ, List, Ok, Err, ap, sym, ◌∙◌, arith, err_from_is_err_and, edges, ends}
-use Rattle.surf_surfaces.proofs.CellLaws.{surfaces_are_cells}
+use Rattle.surf_surfaces.proofs.meshes.CellLaws.{surfaces_are_cells}
 use Rattle.surf_geom.specs.Measures.{length_of}
 use Rattle.surf_geom.proofs.EachLaws.{each_none, each_more, each_stop, each_done, each_length}
 use Rattle.surf_geom.proofs.measures.edge_lengths.Goals as goal

@@ -1,5 +1,5 @@
 use Rattle.std.proofs.Common.{ℕ, ◌<◌, sym, subst, arith}
-use Rattle.surf_surfaces.proofs.CellLaws.{ends_in}
+use Rattle.surf_surfaces.proofs.meshes.CellLaws.{ends_in}
 use Rattle.surf_loops.proofs.heads.loop_length.Goals as goal
 
 pub distance-requires : goal.distance-requires

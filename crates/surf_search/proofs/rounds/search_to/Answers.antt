@@ -1,6 +1,6 @@
 use Rattle.std.proofs.Common.{◌<◌, ◌^◌, All, List, Option, sym, subst}
 use Rattle.std.proofs.lemmas.Result.{on_ok_weaker}
-use Rattle.surf_surfaces.proofs.FirstCycleLaws.{shortest_trees}
+use Rattle.surf_surfaces.proofs.bases.FirstCycleLaws.{shortest_trees}
 use Rattle.surf_choice.specs.declared.candidate.Candidate.{Candidate}
 use Rattle.surf_choice.specs.declared.candidate.Signed.{Signed}
 use Rattle.surf_choice.specs.Places.{limit_of}

@@ -1,5 +1,5 @@
 use Rattle.std.proofs.Common.{◌≡◌, ℕ, List, replicate, ap, ◌∙◌}
-use Rattle.surf_surfaces.proofs.FirstCycleLaws.{shortest_trees}
+use Rattle.surf_surfaces.proofs.bases.FirstCycleLaws.{shortest_trees}
 use Rattle.surf_choice.specs.Candidates.{Chosen}
 use Rattle.surf_search.specs.Rounds.{cap_at}
 use Rattle.surf_search.proofs.Capped.{capped_begun}

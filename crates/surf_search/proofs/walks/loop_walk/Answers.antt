@@ -1,5 +1,5 @@
 use Rattle.std.proofs.Common.{ℕ, ◌≡◌, ◌<◌, true, sym, ap, subst}
-use Rattle.surf_surfaces.proofs.CellLaws.{ends_in}
+use Rattle.surf_surfaces.proofs.meshes.CellLaws.{ends_in}
 use Rattle.surf_near.specs.Near.{is_near}
 use Rattle.surf_search.specs.Walks.{IsLoopWalk}
 use Rattle.surf_search.proofs.Walked.{near_listed}

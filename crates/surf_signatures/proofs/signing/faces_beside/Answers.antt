@@ -1,5 +1,5 @@
 use Rattle.surf_surfaces.proofs.Common.{◌<◌, ◌≡◌, ◌∙◌, ℕ, ap, subst, sym, dual, cells_of}
-use Rattle.surf_surfaces.proofs.CellLaws.{surfaces_are_cells}
+use Rattle.surf_surfaces.proofs.meshes.CellLaws.{surfaces_are_cells}
 use Rattle.surf_signatures.proofs.signing.faces_beside.Goals as goal
 
 pub returns-clause-inside : goal.returns-clause-inside

@@ -1,5 +1,5 @@
 use Rattle.surf_surfaces.proofs.Common.{◌≡◌, ◌∙◌, ◌/◌, sym, ap, subst, arith, Mesh, edge_count}
-use Rattle.surf_surfaces.proofs.CountLaws.{sizes_twice}
+use Rattle.surf_surfaces.proofs.meshes.CountLaws.{sizes_twice}
 use Rattle.surf_check.specs.Kinds.{kept_mesh, IsKeptKind}
 use Rattle.surf_check.specs.declared.kinds.Kept.{Kept}
 use Rattle.surf_check.proofs.kinds.Kind.edges.Goals as goal
