@@ -8,7 +8,6 @@ use Rattle.surf_validity.proofs.DualLaws.{dual_rows_are_tree}
 use Rattle.surf_treecheck.specs.Split.{AreFlags}
 use Rattle.surf_treecheck.proofs.FaceLinks.{step_is}
 use Rattle.surf_certcheck.specs.declared.heavier.Judge.{Judge}
-use Rattle.surf_certcheck.specs.Judging.{IsReady}
 use Rattle.surf_certcheck.specs.Tops.{size_at, IsClear, IsHeld, IsTop, AreTops, IsDoubt, AreDoubts}
 
 -- ---- edges between nodes of a tree
@@ -97,18 +96,17 @@ module _ (judge : Judge) (limit : ℕ) where
   }
 
   -- the faces that faces hang on are their first tops
-  pub first_tops : IsSurface judge.mesh.now → IsReady judge → (tops : List ℕ) → tops ≡ judge.links.now.parent.items →
-      AreTops judge limit tops
-  first_tops surface ready tops same = record {
-    count = ap length same ∙ ready.links.parents;
+  pub first_tops : IsSurface judge.mesh.now → (tops : List ℕ) → tops ≡ judge.links.now.parent.items → AreTops judge limit tops
+  first_tops surface tops same = record {
+    count = ap length same ∙ judge.linked.parents;
     each = λ f l ne.
         let mesh = judge.mesh.now in
         let dual = judge.cert.now.dual in
         let t = dual_tree mesh dual in
         let links = judge.links.now in
-        let step = step_is mesh dual f (get_or links.parent.items f 0) (get_or links.up.items f 0) surface ready.tree l ne
-        (ready.links.each f l) in
-        let tree : IsTree (faces (cells_of mesh)) t = dual_rows_are_tree mesh dual surface ready.tree in
+        let step = step_is mesh dual f (get_or links.parent.items f 0) (get_or links.up.items f 0) surface judge.tree l ne
+        (judge.linked.each f l) in
+        let tree : IsTree (faces (cells_of mesh)) t = dual_rows_are_tree mesh dual surface judge.tree in
         let at : slice_index tops f ≡ t.parent f = ap (λ xs. slice_index xs f) same ∙ step.parent in
         subst (λ x. IsTop judge limit f x) (sym at) (record {
           inside = subst (λ x. x < face_count mesh) step.parent step.face_in;

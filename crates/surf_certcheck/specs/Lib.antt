@@ -1,9 +1,11 @@
 pub mod LoopFaults
 pub mod Least
+pub mod Facts
 pub mod Judging
 pub mod BasisFaults
 pub mod Frames
 pub mod Climbs
 pub mod Covering
 pub mod Columns
+pub mod Keeping
 pub mod Tops

@@ -4,7 +4,7 @@ ghost use Rattle.std.specs.Prelude.{length};
 ghost use Rattle.surf_surfaces.specs.Homology.{total, IsLeastBasis};
 ghost use Rattle.surf_surfaces.specs.Places.{IsLeastBasisInOrder, MeasureShortest};
 ghost use Rattle.surf_surfaces.specs.Surface.{edge_count, loop_count};
-ghost use Rattle.surf_validity.specs.Bases.{IsValidBasis, HasBasisShape, basis_total};
+ghost use Rattle.surf_validity.specs.Bases.{IsValidBasis, basis_total};
 ghost use Rattle.surf_validity.specs.Valid.{is_listed, IsDualValid};
 ghost use Rattle.surf_treecheck.specs.First.{HoldsBelow};
 ghost use Rattle.surf_treecheck.specs.Split.{AreFlags};
@@ -13,6 +13,7 @@ ghost use Rattle.surf_treecheck.specs.TreeFaults.{AreTreesValid};
 ghost use Rattle.surf_treecheck.specs.declared.fault.CertFault.TheVariants.{Memory};
 ghost use Rattle.surf_base.specs.declared.limits.TheConstants.{MAX_LOOPS};
 
+use crate::cases::BasisCase;
 use crate::cover::first_uncovered;
 use crate::cycles::{first_open, total_length};
 use crate::frame::frame_cycles;
@@ -31,53 +32,44 @@ use surf_treecheck::{
 
 // The total of a certificate whose trees divide the edges and whose cycles are closed, or its first
 // fault.
-fn check_cycles(
-    alloc: Global,
-    mesh: &HalfMesh,
-    lengths: &Lengths,
-    cert: &BasisCert,
-    left: &[bool],
-) -> Result<u128, CertFault>
-    requires divided { AreTreesDivided mesh.now lengths.now cert.now }
-    requires closed { HoldsBelow (length cert.now.cycles) (IsCycleClosed mesh.now cert.now) }
-    requires lengths { length lengths.now ≡ edge_count mesh.now }
-    requires few { loop_count mesh.now ≤ MAX_LOOPS }
-    requires left { AreFlags (edge_count mesh.now) (is_listed mesh.now cert.now.left) left.now }
-    ensures valid { IfOk result (λ t. IsValidBasis mesh.now lengths.now cert.now
-        × (t ≡ basis_total mesh.now lengths.now cert.now)) }
-    ensures fault { IfErr result (IsBasisFault mesh.now lengths.now cert.now) }
+fn check_cycles(alloc: Global, case: &BasisCase<'_>, left: &[bool]) -> Result<u128, CertFault>
+    requires divided { AreTreesDivided case.now.mesh.now case.now.lengths.now case.now.cert.now }
+    requires closed { HoldsBelow (length case.now.cert.now.cycles)
+        (IsCycleClosed case.now.mesh.now case.now.cert.now) }
+    requires left { AreFlags (edge_count case.now.mesh.now)
+        (is_listed case.now.mesh.now case.now.cert.now.left) left.now }
+    ensures valid { IfOk result (λ t.
+        IsValidBasis case.now.mesh.now case.now.lengths.now case.now.cert.now
+        × (t ≡ basis_total case.now.mesh.now case.now.lengths.now case.now.cert.now)) }
+    ensures fault { IfErr result
+        (IsBasisFault case.now.mesh.now case.now.lengths.now case.now.cert.now) }
 {
-    mesh.law_of_surface();
-    lengths.law_of_lengths();
-    let signs = sign_edges(alloc, mesh, cert, left)?;
-    let frame = frame_cycles(alloc, mesh, lengths, cert, signs)?;
-    let mut order = all_vertices(alloc, mesh)?;
-    let mut sums = VertexSets::make(alloc, mesh.vertices(), frame.weights.len() as u32)?;
-    match first_uncovered(mesh, lengths, cert, &frame, &mut order, &mut sums) {
-        None => Ok(total_length(mesh, lengths, cert)),
+    case.mesh.law_of_surface();
+    case.lengths.law_of_lengths();
+    let signs = sign_edges(alloc, case.mesh, case.cert, left)?;
+    let frame = frame_cycles(alloc, case, signs)?;
+    let mut order = all_vertices(alloc, case.mesh)?;
+    let mut sums = VertexSets::make(alloc, case.mesh.vertices(), frame.weights.len() as u32)?;
+    match first_uncovered(case, &frame, &mut order, &mut sums) {
+        None => Ok(total_length(case)),
         Some((base, edge)) => {
-            let (u, v) = ends_inside(mesh, edge);
+            let (u, v) = ends_inside(case.mesh, edge);
             Err(CertFault::Uncovered { base, u, v })
         }
     }
 }
 
 // The total of a certificate whose trees are valid, or its first fault.
-fn check_edges(
-    alloc: Global,
-    mesh: &HalfMesh,
-    lengths: &Lengths,
-    cert: &BasisCert,
-) -> Result<u128, CertFault>
-    requires shape { HasBasisShape mesh.now cert.now }
-    requires trees { AreTreesValid mesh.now lengths.now cert.now }
-    requires dual { IsDualValid mesh.now cert.now.dual }
-    requires lengths { length lengths.now ≡ edge_count mesh.now }
-    requires few { loop_count mesh.now ≤ MAX_LOOPS }
-    ensures valid { IfOk result (λ t. IsValidBasis mesh.now lengths.now cert.now
-        × (t ≡ basis_total mesh.now lengths.now cert.now)) }
-    ensures fault { IfErr result (IsBasisFault mesh.now lengths.now cert.now) }
+fn check_edges(alloc: Global, case: &BasisCase<'_>) -> Result<u128, CertFault>
+    requires trees { AreTreesValid case.now.mesh.now case.now.lengths.now case.now.cert.now }
+    requires dual { IsDualValid case.now.mesh.now case.now.cert.now.dual }
+    ensures valid { IfOk result (λ t.
+        IsValidBasis case.now.mesh.now case.now.lengths.now case.now.cert.now
+        × (t ≡ basis_total case.now.mesh.now case.now.lengths.now case.now.cert.now)) }
+    ensures fault { IfErr result
+        (IsBasisFault case.now.mesh.now case.now.lengths.now case.now.cert.now) }
 {
+    let (mesh, cert) = (case.mesh, case.cert);
     mesh.law_of_surface();
     let rows = tree_from(cert, VertexId::new(0));
     let marks = mark_edges(alloc, mesh, rows, cert.dual(), cert.left())?;
@@ -89,7 +81,7 @@ fn check_edges(
             place: place as u32,
         });
     }
-    check_cycles(alloc, mesh, lengths, cert, &marks.left)
+    check_cycles(alloc, case, &marks.left)
 }
 
 /// The total of the cycles of a valid certificate, which are then a least basis, place by place
@@ -125,5 +117,10 @@ pub fn check_basis(
     if let Some(face) = first_dual(mesh, cert.dual()) {
         return Err(CertFault::Dual { face });
     }
-    check_edges(alloc, mesh, lengths, cert)
+    let case = BasisCase {
+        mesh,
+        lengths,
+        cert,
+    };
+    check_edges(alloc, &case)
 }

@@ -11,8 +11,7 @@ ghost use Rattle.surf_surfaces.specs.Loop.{loop_walk};
 ghost use Rattle.surf_validity.specs.Rows.{TreeRows};
 ghost use Rattle.surf_validity.specs.Bases.{IsCovered};
 ghost use Rattle.surf_validity.specs.Valid.{certified_tree};
-ghost use Rattle.surf_treecheck.specs.First.{HoldsBelow, FindsFirst, Tells};
-ghost use Rattle.surf_treecheck.specs.Shapes.{HasTrees, HasBase};
+ghost use Rattle.surf_treecheck.specs.First.{FindsFirst, Tells};
 ghost use Rattle.surf_treecheck.specs.TreeFaults.{AreTreesValid, FindsFirstAt};
 ghost use Rattle.surf_certcheck.specs.Frames.{IsFrameOf, AreTaken};
 ghost use Rattle.surf_certcheck.specs.Climbs.{IsClimbed, AreSummed};
@@ -20,6 +19,7 @@ ghost use Rattle.surf_certcheck.specs.Columns.{IsSorted};
 ghost use Rattle.surf_certcheck.specs.Covering.{IsSummedUp, HasFrame, IsCoveredIn};
 ghost use Rattle.surf_base.specs.declared.limits.TheConstants.{MAX_LOOPS};
 
+use crate::cases::BasisCase;
 use crate::frame::Frame;
 use crate::heavier::size_of;
 use crate::placed::is_placed;
@@ -27,7 +27,7 @@ use crate::sums::sum_ways;
 use surf_base::{EdgeId, VertexId};
 use surf_lengths::Lengths;
 use surf_mesh::HalfMesh;
-use surf_records::{BasisCert, TreeRows};
+use surf_records::TreeRows;
 use surf_signatures::{Signs, VertexSets};
 use surf_treecheck::{ends_inside, tree_from};
 
@@ -96,37 +96,30 @@ impl SummedTree<'_> {
 /// The least base with an edge whose loop isn't a sum of cycles that are no longer, and the least
 /// such edge.
 pub(crate) fn first_uncovered(
-    mesh: &HalfMesh,
-    lengths: &Lengths,
-    cert: &BasisCert,
+    case: &BasisCase<'_>,
     frame: &Frame,
     order: &mut [VertexId],
     sums: &mut VertexSets,
 ) -> Option<(VertexId, EdgeId)>
-    requires trees { HasTrees mesh.now cert.now }
-    requires bases { HoldsBelow mesh.now.vertices (HasBase cert.now) }
-    requires valid { AreTreesValid mesh.now lengths.now cert.now }
-    requires lengths { length lengths.now ≡ edge_count mesh.now }
-    requires frame { IsFrameOf mesh.now lengths.now cert.now (length cert.now.cycles)
-        frame.now.signs frame.now.weights.items }
-    requires count { length frame.now.signs.sets ≡ edge_count mesh.now }
-    requires places { length frame.now.weights.items ≡ frame.now.signs.width }
-    requires few { frame.now.signs.width ≤ MAX_LOOPS }
+    requires valid { AreTreesValid case.now.mesh.now case.now.lengths.now case.now.cert.now }
+    requires frame { IsFrameOf case.now.mesh.now case.now.lengths.now case.now.cert.now
+        (length case.now.cert.now.cycles) frame.now.signs frame.now.weights.items }
+    requires count { length frame.now.signs.sets ≡ edge_count case.now.mesh.now }
     requires sorted { IsSorted frame.now.weights.items }
-    requires all { IsPermutation (range_with_len 0 mesh.now.vertices) order.old }
-    requires room { length sums.old.sets ≡ mesh.now.vertices }
+    requires all { IsPermutation (range_with_len 0 case.now.mesh.now.vertices) order.old }
+    requires room { length sums.old.sets ≡ case.now.mesh.now.vertices }
     requires width { sums.old.width ≡ frame.now.signs.width }
-    ensures first { FindsFirstAt mesh.now.vertices (edge_count mesh.now)
-        (IsCovered mesh.now lengths.now cert.now) result }
+    ensures first { FindsFirstAt case.now.mesh.now.vertices (edge_count case.now.mesh.now)
+        (IsCovered case.now.mesh.now case.now.lengths.now case.now.cert.now) result }
 {
-    lengths.law_of_lengths();
-    for x in 0..mesh.vertices() {
+    case.lengths.law_of_lengths();
+    for x in 0..case.mesh.vertices() {
         let base = VertexId::new(x);
-        let rows = tree_from(cert, base);
-        sum_ways(mesh, rows, &frame.signs, order, sums);
+        let rows = tree_from(case.cert, base);
+        sum_ways(case.mesh, rows, &frame.signs, order, sums);
         let tree = SummedTree {
-            mesh,
-            lengths,
+            mesh: case.mesh,
+            lengths: case.lengths,
             rows,
             frame,
             sums,

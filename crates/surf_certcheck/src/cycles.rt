@@ -1,5 +1,5 @@
 //! The cycles of a certificate: whether they are closed, and their lengths.
-ghost use Rattle.std.specs.Prelude.{◌≡◌, ◌<◌, ◌≤◌, ◌+◌, ◌^◌};
+ghost use Rattle.std.specs.Prelude.{◌≡◌, ◌<◌, ◌+◌, ◌^◌};
 ghost use Rattle.std.specs.Prelude.{All, Contains, length, map, sum, slice_index_or};
 ghost use Rattle.surf_surfaces.specs.Mesh.{edges, pair_of, steps};
 ghost use Rattle.surf_surfaces.specs.Surface.{edge_count};
@@ -7,8 +7,8 @@ ghost use Rattle.surf_surfaces.specs.Walk.{edge_number, first, last, walk_length
 ghost use Rattle.surf_validity.specs.Bases.{IsClosedList, basis_total};
 ghost use Rattle.surf_treecheck.specs.First.{HoldsBelow, FindsFirst, Tells};
 ghost use Rattle.surf_certcheck.specs.BasisFaults.{cycle_at, IsCycleClosed, IsAlong};
-ghost use Rattle.surf_base.specs.declared.limits.TheConstants.{MAX_LOOPS};
 
+use crate::cases::BasisCase;
 use surf_base::{EdgeId, VertexId};
 use surf_lengths::Lengths;
 use surf_mesh::HalfMesh;
@@ -100,15 +100,16 @@ pub(crate) fn length_of(mesh: &HalfMesh, lengths: &Lengths, list: &[VertexId]) -
 }
 
 /// The sum of the lengths of the cycles.
-pub(crate) fn total_length(mesh: &HalfMesh, lengths: &Lengths, cert: &BasisCert) -> u128
-    requires closed { HoldsBelow (length cert.now.cycles) (IsCycleClosed mesh.now cert.now) }
-    requires lengths { length lengths.now ≡ edge_count mesh.now }
-    requires few { length cert.now.cycles ≤ MAX_LOOPS }
-    ensures total { result ≡ basis_total mesh.now lengths.now cert.now }
+pub(crate) fn total_length(case: &BasisCase<'_>) -> u128
+    requires closed { HoldsBelow (length case.now.cert.now.cycles)
+        (IsCycleClosed case.now.mesh.now case.now.cert.now) }
+    ensures total { result
+        ≡ basis_total case.now.mesh.now case.now.lengths.now case.now.cert.now }
 {
+    case.law_of_cycles();
     let mut total = 0u128;
-    for place in 0..cert.cycles().len() {
-        total += length_of(mesh, lengths, cycle_from(cert, place));
+    for place in 0..case.cert.cycles().len() {
+        total += length_of(case.mesh, case.lengths, cycle_from(case.cert, place));
     }
     total
 }

@@ -13,14 +13,13 @@ ghost use Rattle.surf_certcheck.specs.Frames.{edge_signatures};
 ghost use Rattle.surf_certcheck.specs.Columns.{IsSorted};
 ghost use Rattle.surf_base.specs.declared.limits.TheConstants.{MAX_LOOPS};
 
+use crate::cases::BasisCase;
 use crate::columns::sort_places;
 use crate::cycles::{cycle_from, length_of, step_edge};
 use std::alloc::Global;
 use surf_base::{NoMemory, VertexId};
 use surf_bits::Signature;
-use surf_lengths::Lengths;
 use surf_mesh::HalfMesh;
-use surf_records::BasisCert;
 use surf_signatures::Signs;
 use surf_treecheck::CertFault;
 
@@ -36,6 +35,8 @@ use surf_treecheck::CertFault;
 pub(crate) struct Frame {
     pub(crate) signs: Signs,
     pub(crate) weights: Vec<Option<u128>>,
+    ghost places: { length weights.items ≡ signs.width },
+    ghost few: { signs.width ≤ MAX_LOOPS },
 }
 
 // The sum of the coordinates of a cycle's steps.
@@ -71,38 +72,28 @@ fn free_place(set: &Signature, weights: &[Option<u128>]) -> Option<usize>
 
 // Gives the cycle at a place of the list a coordinate of its own, or none where its signature is a
 // sum of those before it.
-fn admit(
-    mesh: &HalfMesh,
-    lengths: &Lengths,
-    cert: &BasisCert,
-    place: usize,
-    frame: &mut Frame,
-) -> bool
-    requires place { place < length cert.now.cycles }
-    requires closed { IsCycleClosed mesh.now cert.now place }
-    requires lengths { length lengths.now ≡ edge_count mesh.now }
-    requires count { length frame.old.signs.sets ≡ edge_count mesh.now }
-    requires places { length frame.old.weights.items ≡ frame.old.signs.width }
-    requires few { frame.old.signs.width ≤ MAX_LOOPS }
-    requires frame { IsFrameOf mesh.now lengths.now cert.now place
+fn admit(case: &BasisCase<'_>, place: usize, frame: &mut Frame) -> bool
+    requires place { place < length case.now.cert.now.cycles }
+    requires closed { IsCycleClosed case.now.mesh.now case.now.cert.now place }
+    requires count { length frame.old.signs.sets ≡ edge_count case.now.mesh.now }
+    requires frame { IsFrameOf case.now.mesh.now case.now.lengths.now case.now.cert.now place
         frame.old.signs frame.old.weights.items }
     ensures width { frame.new.signs.width ≡ frame.old.signs.width }
-    ensures count { length frame.new.signs.sets ≡ edge_count mesh.now }
-    ensures places { length frame.new.weights.items ≡ frame.new.signs.width }
+    ensures count { length frame.new.signs.sets ≡ edge_count case.now.mesh.now }
     ensures admitted { MatchBool result
-        (IsIndependentAt mesh.now cert.now place
-        × IsFrameOf mesh.now lengths.now cert.now (place + 1)
+        (IsIndependentAt case.now.mesh.now case.now.cert.now place
+        × IsFrameOf case.now.mesh.now case.now.lengths.now case.now.cert.now (place + 1)
         frame.new.signs frame.new.weights.items)
-        (IsDependent mesh.now cert.now place) }
+        (IsDependent case.now.mesh.now case.now.cert.now place) }
 {
-    let list = cycle_from(cert, place);
-    let mut rest = cycle_set(mesh, &frame.signs, list);
+    let list = cycle_from(case.cert, place);
+    let mut rest = cycle_set(case.mesh, &frame.signs, list);
     match free_place(&rest, &frame.weights) {
         None => false,
         Some(free) => {
             rest.add(Signature::unit(free as u32).bits());
             frame.signs.add_where(free as u32, &rest.bits());
-            frame.weights[free] = Some(length_of(mesh, lengths, list));
+            frame.weights[free] = Some(length_of(case.mesh, case.lengths, list));
             true
         }
     }
@@ -110,30 +101,23 @@ fn admit(
 
 // Gives one cycle after the other a place of its own, up to the first whose signature is a sum of
 // those before it.
-fn admit_all(
-    mesh: &HalfMesh,
-    lengths: &Lengths,
-    cert: &BasisCert,
-    frame: &mut Frame,
-) -> Option<usize>
-    requires closed { HoldsBelow (length cert.now.cycles) (IsCycleClosed mesh.now cert.now) }
-    requires lengths { length lengths.now ≡ edge_count mesh.now }
-    requires count { length frame.old.signs.sets ≡ edge_count mesh.now }
-    requires places { length frame.old.weights.items ≡ frame.old.signs.width }
-    requires few { frame.old.signs.width ≤ MAX_LOOPS }
-    requires frame { IsFrameOf mesh.now lengths.now cert.now 0
+fn admit_all(case: &BasisCase<'_>, frame: &mut Frame) -> Option<usize>
+    requires closed { HoldsBelow (length case.now.cert.now.cycles)
+        (IsCycleClosed case.now.mesh.now case.now.cert.now) }
+    requires count { length frame.old.signs.sets ≡ edge_count case.now.mesh.now }
+    requires frame { IsFrameOf case.now.mesh.now case.now.lengths.now case.now.cert.now 0
         frame.old.signs frame.old.weights.items }
-    ensures count { length frame.new.signs.sets ≡ edge_count mesh.now }
+    ensures count { length frame.new.signs.sets ≡ edge_count case.now.mesh.now }
     ensures width { frame.new.signs.width ≡ frame.old.signs.width }
-    ensures places { length frame.new.weights.items ≡ frame.old.signs.width }
     ensures frame { MatchOption result
-        (HoldsBelow (length cert.now.cycles) (IsIndependentAt mesh.now cert.now)
-        × IsFrameOf mesh.now lengths.now cert.now (length cert.now.cycles)
-        frame.new.signs frame.new.weights.items)
-        (DependsFirst mesh.now cert.now) }
+        (HoldsBelow (length case.now.cert.now.cycles)
+        (IsIndependentAt case.now.mesh.now case.now.cert.now)
+        × IsFrameOf case.now.mesh.now case.now.lengths.now case.now.cert.now
+        (length case.now.cert.now.cycles) frame.new.signs frame.new.weights.items)
+        (DependsFirst case.now.mesh.now case.now.cert.now) }
 {
-    for place in 0..cert.cycles().len() {
-        if !admit(mesh, lengths, cert, place, frame) {
+    for place in 0..case.cert.cycles().len() {
+        if !admit(case, place, frame) {
             return Some(place);
         }
     }
@@ -152,30 +136,28 @@ fn no_weights(alloc: Global, count: usize) -> Result<Vec<Option<u128>>, NoMemory
 /// signature is a sum of those before it.
 pub(crate) fn frame_cycles(
     alloc: Global,
-    mesh: &HalfMesh,
-    lengths: &Lengths,
-    cert: &BasisCert,
+    case: &BasisCase<'_>,
     signs: Signs,
 ) -> Result<Frame, CertFault>
-    requires closed { HoldsBelow (length cert.now.cycles) (IsCycleClosed mesh.now cert.now) }
-    requires lengths { length lengths.now ≡ edge_count mesh.now }
-    requires places { length cert.now.cycles ≡ length (split_in mesh.now cert.now).left }
-    requires width { signs.width ≡ length cert.now.cycles }
-    requires few { signs.width ≤ MAX_LOOPS }
-    requires signed { signs.sets ≡ edge_signatures mesh.now (split_in mesh.now cert.now) }
-    ensures independent { IfOk result (λ f.
-        HoldsBelow (length cert.now.cycles) (IsIndependentAt mesh.now cert.now)) }
-    ensures frame { IfOk result (λ f. IsFrameOf mesh.now lengths.now cert.now
-        (length cert.now.cycles) f.signs f.weights.items) }
-    ensures count { IfOk result (λ f. length f.signs.sets ≡ edge_count mesh.now) }
-    ensures width { IfOk result (λ f. f.signs.width ≡ length cert.now.cycles) }
-    ensures places { IfOk result (λ f. length f.weights.items ≡ length cert.now.cycles) }
+    requires closed { HoldsBelow (length case.now.cert.now.cycles)
+        (IsCycleClosed case.now.mesh.now case.now.cert.now) }
+    requires places { length case.now.cert.now.cycles
+        ≡ length (split_in case.now.mesh.now case.now.cert.now).left }
+    requires width { signs.width ≡ length case.now.cert.now.cycles }
+    requires signed { signs.sets ≡ edge_signatures case.now.mesh.now
+        (split_in case.now.mesh.now case.now.cert.now) }
+    ensures independent { IfOk result (λ f. HoldsBelow (length case.now.cert.now.cycles)
+        (IsIndependentAt case.now.mesh.now case.now.cert.now)) }
+    ensures frame { IfOk result (λ f. IsFrameOf case.now.mesh.now case.now.lengths.now
+        case.now.cert.now (length case.now.cert.now.cycles) f.signs f.weights.items) }
+    ensures count { IfOk result (λ f. length f.signs.sets ≡ edge_count case.now.mesh.now) }
     ensures sorted { IfOk result (λ f. IsSorted f.weights.items) }
-    ensures fault { IfErr result (IsDependentFault mesh.now cert.now) }
+    ensures fault { IfErr result (IsDependentFault case.now.mesh.now case.now.cert.now) }
 {
-    let weights = no_weights(alloc, cert.cycles().len())?;
+    case.law_of_cycles();
+    let weights = no_weights(alloc, case.cert.cycles().len())?;
     let mut frame = Frame { signs, weights };
-    match admit_all(mesh, lengths, cert, &mut frame) {
+    match admit_all(case, &mut frame) {
         None => {
             sort_places(&mut frame);
             Ok(frame)

@@ -5,11 +5,11 @@ ghost use Rattle.surf_surfaces.specs.Surface.{edge_count, face_count};
 ghost use Rattle.surf_validity.specs.Valid.{depth_at, dual_tree, loop_size};
 ghost use Rattle.surf_validity.specs.Valid.{IsNotHeavier, HasNoShorter};
 ghost use Rattle.surf_treecheck.specs.First.{HoldsBelow, FailsFirst, FindsFirst, Tells};
-ghost use Rattle.surf_treecheck.specs.Rows.{HasTreeRows};
+ghost use Rattle.surf_treecheck.specs.Rows.{HasTreeRows, HasDualRows, HasDual};
+ghost use Rattle.surf_treecheck.specs.Paths.{AreAllLinks};
 ghost use Rattle.surf_certcheck.specs.LoopFaults.{AreHeavier};
 ghost use Rattle.surf_certcheck.specs.Least.{IsLeastIn, IsLeastWith, least_with};
-ghost use Rattle.surf_certcheck.specs.Judging.{IsReady, IsShortFor};
-ghost use Rattle.surf_certcheck.specs.Tops.{AreDoubts};
+ghost use Rattle.surf_certcheck.specs.Facts.{tree_prop, links_prop};
 
 use surf_base::{EdgeId, FaceId};
 use surf_lengths::Lengths;
@@ -43,19 +43,26 @@ fn least_edge(e: EdgeId, other: Option<EdgeId>) -> EdgeId
 }
 
 /// What left edges are judged by: a certificate of loops of a surface, and the links of its tree of
-/// faces.
+/// faces. Its rows and the lengths fit the surface.
 #[derive(Drop)]
 pub(crate) struct Judge<'c> {
     pub(crate) mesh: &'c HalfMesh,
     pub(crate) lengths: &'c Lengths,
     pub(crate) cert: &'c LoopCert,
     pub(crate) links: &'c Links,
+    ghost rows: { HasTreeRows mesh.now cert.now.tree },
+    ghost measured: { length lengths.now ≡ edge_count mesh.now },
+    ghost faces: { HasDualRows mesh.now cert.now.dual },
+    ghost tree: { HoldsBelow (face_count mesh.now) (HasDual mesh.now cert.now.dual) } by { tree_prop mesh.now cert.now.dual },
+    ghost linked: { AreAllLinks mesh.now cert.now.dual links.now } by { links_prop mesh.now cert.now.dual links.now },
 }
 
 impl Judge<'_> {
+    ghost use Rattle.surf_certcheck.specs.Judging.{IsShortFor};
+    ghost use Rattle.surf_certcheck.specs.Tops.{AreDoubts};
+
     // Whether the loop of an edge is shorter than the limit.
     fn is_short(&self, limit: u128, e: EdgeId) -> bool
-        requires ready { IsReady self.now }
         requires edge { e < edge_count self.now.mesh.now }
         ensures short { Tells result (IsShortFor self.now limit e) }
     {
@@ -64,7 +71,6 @@ impl Judge<'_> {
 
     // The least short edge so far, with one more edge.
     fn with_edge(&self, limit: u128, e: EdgeId, least: Option<EdgeId>) -> Option<EdgeId>
-        requires ready { IsReady self.now }
         requires edge { e < edge_count self.now.mesh.now }
         ensures least { IsLeastWith (IsShortFor self.now limit) e least result }
     {
@@ -77,7 +83,6 @@ impl Judge<'_> {
 
     // Two faces, the deeper one first.
     fn deeper_first(&self, near: FaceId, far: FaceId) -> (FaceId, FaceId)
-        requires ready { IsReady self.now }
         requires near { near < face_count self.now.mesh.now }
         requires far { far < face_count self.now.mesh.now }
         ensures both { ((result.0 ≡ near) × (result.1 ≡ far))
@@ -96,7 +101,6 @@ impl Judge<'_> {
     // The least short edge between two faces in the tree of faces, from both up to where their ways
     // to face 0 meet.
     fn least_between(&self, limit: u128, ends: (FaceId, FaceId)) -> Option<EdgeId>
-        requires ready { IsReady self.now }
         requires faces { (ends.0 < face_count self.now.mesh.now)
             × (ends.1 < face_count self.now.mesh.now) }
         ensures least { IsLeastIn (IsShortFor self.now limit)
@@ -119,7 +123,6 @@ impl Judge<'_> {
     // The least edge on the way through the tree of faces between the two faces of an edge whose
     // loop is shorter.
     fn first_shorter(&self, l: EdgeId) -> Option<EdgeId>
-        requires ready { IsReady self.now }
         requires edge { l < edge_count self.now.mesh.now }
         ensures first { FindsFirst (edge_count self.now.mesh.now)
             (IsNotHeavier self.now.mesh.now self.now.lengths.now self.now.cert.now l) result }
@@ -130,7 +133,6 @@ impl Judge<'_> {
 
     // The same for a left edge that is still doubtful.
     fn shorter_if_doubtful(&self, doubts: &[bool], l: EdgeId) -> Option<EdgeId>
-        requires ready { IsReady self.now }
         requires doubts { AreDoubts self.now doubts.now }
         requires edge { l < edge_count self.now.mesh.now }
         ensures first { MatchOption result
@@ -148,7 +150,6 @@ impl Judge<'_> {
 
     /// The least left edge that has such an edge with a shorter loop, and the least of these.
     pub(crate) fn first_heavier(&self, doubts: &[bool]) -> Option<(EdgeId, EdgeId)>
-        requires ready { IsReady self.now }
         requires doubts { AreDoubts self.now doubts.now }
         ensures first { MatchOption result
             (HoldsBelow (edge_count self.now.mesh.now)

@@ -17,6 +17,7 @@
 #![tactic(auto)]
 
 mod basis;
+mod cases;
 mod columns;
 mod cover;
 mod cycles;

@@ -6,66 +6,61 @@ ghost use Rattle.surf_surfaces.specs.Surface.{edge_count, face_count};
 ghost use Rattle.surf_surfaces.specs.Walk.{edge_number};
 ghost use Rattle.surf_surfaces.specs.Homology.{total, IsLeastLoopSystem};
 ghost use Rattle.surf_surfaces.specs.Places.{IsLeastLoopSystemInOrder};
-ghost use Rattle.surf_validity.specs.Valid.{HasShape, IsTreeValid, IsDualValid, IsValidLoops};
+ghost use Rattle.surf_validity.specs.Valid.{IsTreeValid, IsDualValid, IsValidLoops};
 ghost use Rattle.surf_validity.specs.Valid.{HasNoShorter};
 ghost use Rattle.surf_validity.specs.Valid.{is_listed, loop_size, certified_loops, loops_total};
 ghost use Rattle.surf_treecheck.specs.First.{HoldsBelow};
 ghost use Rattle.surf_treecheck.specs.Split.{AreFlags};
-ghost use Rattle.surf_treecheck.specs.Rows.{HasTreeRows, HasDualRows, HasDual};
+ghost use Rattle.surf_treecheck.specs.Rows.{HasDual};
 ghost use Rattle.surf_certcheck.specs.LoopFaults.{IsTreeFault, IsHeavierFault, IsLoopFault};
 ghost use Rattle.surf_treecheck.specs.declared.fault.CertFault.TheVariants.{Memory};
 
+use crate::cases::LoopCase;
 use crate::heavier::{Judge, size_of};
 use crate::tops::clear_flags;
 use std::alloc::Global;
 use surf_base::{NoMemory, VertexId};
 use surf_lengths::Lengths;
 use surf_mesh::HalfMesh;
-use surf_records::{LoopCert, TreeRows};
+use surf_records::LoopCert;
 use surf_treecheck::{
     CertFault, edge_between, ends_inside, first_distance, first_dual, first_parent,
     first_short_cut, first_split, link_faces, loop_shape, mark_edges,
 };
 
 // The first fault of the rows of vertices.
-fn tree_fault(mesh: &HalfMesh, lengths: &Lengths, rows: &TreeRows) -> Option<CertFault>
-    requires rows { HasTreeRows mesh.now rows.now }
-    requires lengths { length lengths.now ≡ edge_count mesh.now }
-    ensures fault { MatchOption result (IsTreeValid mesh.now lengths.now rows.now)
-        (IsTreeFault mesh.now lengths.now rows.now) }
+fn tree_fault(case: &LoopCase<'_>) -> Option<CertFault>
+    ensures fault { MatchOption result
+        (IsTreeValid case.now.mesh.now case.now.lengths.now case.now.cert.now.tree)
+        (IsTreeFault case.now.mesh.now case.now.lengths.now case.now.cert.now.tree) }
 {
+    let rows = case.cert.tree();
     let base = rows.base();
-    if let Some(vertex) = first_parent(mesh, rows) {
+    if let Some(vertex) = first_parent(case.mesh, rows) {
         return Some(CertFault::Parent { base, vertex });
     }
-    if let Some(vertex) = first_distance(mesh, lengths, rows) {
+    if let Some(vertex) = first_distance(case.mesh, case.lengths, rows) {
         return Some(CertFault::Distance { base, vertex });
     }
-    if let Some(edge) = first_short_cut(mesh, lengths, rows) {
-        let (u, v) = ends_inside(mesh, edge);
+    if let Some(edge) = first_short_cut(case.mesh, case.lengths, rows) {
+        let (u, v) = ends_inside(case.mesh, edge);
         return Some(CertFault::Slack { base, u, v });
     }
     None
 }
 
 // The sum of the lengths of the loops of the left edges.
-fn total_of(
-    mesh: &HalfMesh,
-    lengths: &Lengths,
-    rows: &TreeRows,
-    left: &[(VertexId, VertexId)],
-) -> u128
-    requires rows { HasTreeRows mesh.now rows.now }
-    requires lengths { length lengths.now ≡ edge_count mesh.now }
-    requires edges { All (λ p. Contains (edges mesh.now) (pair_of p)) left.now }
+fn total_of(case: &LoopCase<'_>, left: &[(VertexId, VertexId)]) -> u128
+    requires edges { All (λ p. Contains (edges case.now.mesh.now) (pair_of p)) left.now }
     ensures total { result
-        ≡ sum (map (λ p. loop_size mesh.now lengths.now rows.now (edge_number mesh.now p))
-        left.now) }
+        ≡ sum (map (λ p. loop_size case.now.mesh.now case.now.lengths.now case.now.cert.now.tree
+        (edge_number case.now.mesh.now p)) left.now) }
 {
     let mut total = 0u128;
     for i in 0..left.len() {
         let (u, v) = left[i];
-        total += size_of(mesh, lengths, rows, edge_between(mesh, u, v));
+        let edge = edge_between(case.mesh, u, v);
+        total += size_of(case.mesh, case.lengths, case.cert.tree(), edge);
     }
     total
 }
@@ -74,59 +69,52 @@ fn total_of(
 #[tactic(auto, using(crate::proofs::Cleared::first_doubts))]
 fn heavier_fault(
     alloc: Global,
-    mesh: &HalfMesh,
-    lengths: &Lengths,
-    cert: &LoopCert,
+    case: &LoopCase<'_>,
     mut flags: Vec<bool>,
 ) -> Result<Option<CertFault>, NoMemory>
-    requires rows { HasTreeRows mesh.now cert.now.tree }
-    requires faces { HasDualRows mesh.now cert.now.dual }
-    requires lengths { length lengths.now ≡ edge_count mesh.now }
-    requires tree { HoldsBelow (face_count mesh.now) (HasDual mesh.now cert.now.dual) }
-    requires flags { AreFlags (edge_count mesh.now) (is_listed mesh.now cert.now.left) flags.items }
+    requires tree { HoldsBelow (face_count case.now.mesh.now)
+        (HasDual case.now.mesh.now case.now.cert.now.dual) }
+    requires flags { AreFlags (edge_count case.now.mesh.now)
+        (is_listed case.now.mesh.now case.now.cert.now.left) flags.items }
     ensures fault { IfOk result (λ o. MatchOption o
-        (HoldsBelow (edge_count mesh.now) (HasNoShorter mesh.now lengths.now cert.now))
-        (IsHeavierFault mesh.now lengths.now cert.now)) }
+        (HoldsBelow (edge_count case.now.mesh.now)
+        (HasNoShorter case.now.mesh.now case.now.lengths.now case.now.cert.now))
+        (IsHeavierFault case.now.mesh.now case.now.lengths.now case.now.cert.now)) }
 {
-    let links = link_faces(alloc, mesh, cert.dual())?;
+    let links = link_faces(alloc, case.mesh, case.cert.dual())?;
     let judge = Judge {
-        mesh,
-        lengths,
-        cert,
+        mesh: case.mesh,
+        lengths: case.lengths,
+        cert: case.cert,
         links: &links,
     };
     clear_flags(alloc, &judge, &mut flags)?;
     match judge.first_heavier(&flags) {
         None => Ok(None),
         Some((l, c)) => Ok(Some(CertFault::Heavier {
-            left: ends_inside(mesh, l),
-            cotree: ends_inside(mesh, c),
+            left: ends_inside(case.mesh, l),
+            cotree: ends_inside(case.mesh, c),
         })),
     }
 }
 
 // The total of a certificate whose trees are valid, or its first fault among those of edges.
-fn check_edges(
-    alloc: Global,
-    mesh: &HalfMesh,
-    lengths: &Lengths,
-    cert: &LoopCert,
-) -> Result<u128, CertFault>
-    requires shape { HasShape mesh.now cert.now }
-    requires lengths { length lengths.now ≡ edge_count mesh.now }
-    requires tree { IsTreeValid mesh.now lengths.now cert.now.tree }
-    requires dual { IsDualValid mesh.now cert.now.dual }
-    ensures valid { IfOk result (λ t. IsValidLoops mesh.now lengths.now cert.now
-        × (t ≡ loops_total mesh.now lengths.now cert.now)) }
-    ensures fault { IfErr result (IsLoopFault mesh.now lengths.now cert.now) }
+fn check_edges(alloc: Global, case: &LoopCase<'_>) -> Result<u128, CertFault>
+    requires tree { IsTreeValid case.now.mesh.now case.now.lengths.now case.now.cert.now.tree }
+    requires dual { IsDualValid case.now.mesh.now case.now.cert.now.dual }
+    ensures valid { IfOk result (λ t.
+        IsValidLoops case.now.mesh.now case.now.lengths.now case.now.cert.now
+        × (t ≡ loops_total case.now.mesh.now case.now.lengths.now case.now.cert.now)) }
+    ensures fault { IfErr result
+        (IsLoopFault case.now.mesh.now case.now.lengths.now case.now.cert.now) }
 {
-    let (rows, dual, left) = (cert.tree(), cert.dual(), cert.left());
-    let marks = mark_edges(alloc, mesh, rows, dual, left)?;
-    if let Some((u, v)) = first_split(mesh, rows, dual, left, &marks) {
+    let (rows, dual, left) = (case.cert.tree(), case.cert.dual(), case.cert.left());
+    let marks = mark_edges(alloc, case.mesh, rows, dual, left)?;
+    if let Some((u, v)) = first_split(case.mesh, rows, dual, left, &marks) {
         return Err(CertFault::Split { u, v });
     }
-    match heavier_fault(alloc, mesh, lengths, cert, marks.left)? {
-        None => Ok(total_of(mesh, lengths, rows, left)),
+    match heavier_fault(alloc, case, marks.left)? {
+        None => Ok(total_of(case, left)),
         Some(fault) => Err(fault),
     }
 }
@@ -159,11 +147,16 @@ pub fn check_loops(
     if let Some(part) = loop_shape(mesh, cert) {
         return Err(CertFault::Shape { part });
     }
-    if let Some(fault) = tree_fault(mesh, lengths, cert.tree()) {
+    let case = LoopCase {
+        mesh,
+        lengths,
+        cert,
+    };
+    if let Some(fault) = tree_fault(&case) {
         return Err(fault);
     }
     if let Some(face) = first_dual(mesh, cert.dual()) {
         return Err(CertFault::Dual { face });
     }
-    check_edges(alloc, mesh, lengths, cert)
+    check_edges(alloc, &case)
 }

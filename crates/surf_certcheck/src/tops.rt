@@ -9,7 +9,6 @@ ghost use Rattle.std.specs.Prelude.{true};
 ghost use Rattle.surf_surfaces.specs.Surface.{edge_count, face_count};
 ghost use Rattle.surf_validity.specs.Valid.{depth_at};
 ghost use Rattle.surf_treecheck.specs.First.{Tells};
-ghost use Rattle.surf_certcheck.specs.Judging.{IsReady};
 ghost use Rattle.surf_certcheck.specs.Tops.{IsClear, IsHeld, AreTops, AreDoubts};
 
 use crate::heavier::{Judge, size_of};
@@ -26,7 +25,6 @@ struct LeftLoop {
 
 // Whether a face hangs by an edge whose loop is no shorter than the limit.
 fn is_held(judge: &Judge<'_>, limit: u128, face: FaceId) -> bool
-    requires ready { IsReady judge.now }
     requires face { face < face_count judge.now.mesh.now }
     ensures held { Tells result (IsHeld judge.now limit face) }
 {
@@ -39,7 +37,6 @@ fn is_held(judge: &Judge<'_>, limit: u128, face: FaceId) -> bool
 
 // The top of a held face, which is taken on to the top of that one where this is held too.
 fn raise_top(judge: &Judge<'_>, tops: &mut [u32], limit: u128, face: FaceId) -> FaceId
-    requires ready { IsReady judge.now }
     requires tops { AreTops judge.now limit tops.old }
     requires face { face < face_count judge.now.mesh.now }
     requires held { IsHeld judge.now limit face }
@@ -60,7 +57,6 @@ fn raise_top(judge: &Judge<'_>, tops: &mut [u32], limit: u128, face: FaceId) -> 
 
 // The last face on the way up from a face by edges whose loops are no shorter than the limit.
 fn top_of(judge: &Judge<'_>, tops: &mut [u32], limit: u128, face: FaceId) -> FaceId
-    requires ready { IsReady judge.now }
     requires tops { AreTops judge.now limit tops.old }
     requires face { face < face_count judge.now.mesh.now }
     ensures tops { AreTops judge.now limit tops.new }
@@ -75,7 +71,6 @@ fn top_of(judge: &Judge<'_>, tops: &mut [u32], limit: u128, face: FaceId) -> Fac
 
 // Whether the two faces of an edge have one top.
 fn have_one_top(judge: &Judge<'_>, tops: &mut [u32], limit: u128, faces: (FaceId, FaceId)) -> bool
-    requires ready { IsReady judge.now }
     requires tops { AreTops judge.now limit tops.old }
     requires faces { (faces.0 < face_count judge.now.mesh.now)
         × (faces.1 < face_count judge.now.mesh.now) }
@@ -96,7 +91,6 @@ fn clear_flag(
     flags: &mut [bool],
     l: EdgeId,
 ) -> u128
-    requires ready { IsReady judge.now }
     requires tops { AreTops judge.now level tops.old }
     requires flags { AreDoubts judge.now flags.old }
     requires edge { l < edge_count judge.now.mesh.now }
@@ -119,7 +113,6 @@ fn falling_loops(
     judge: &Judge<'_>,
     flags: &[bool],
 ) -> Result<Vec<LeftLoop>, NoMemory>
-    requires ready { IsReady judge.now }
     requires count { length flags.now ≡ edge_count judge.now.mesh.now }
     ensures inside { IfOk result (λ loops. All (λ l. l.edge < edge_count judge.now.mesh.now)
         loops.items) }
@@ -150,7 +143,6 @@ pub(crate) fn clear_flags(
     judge: &Judge<'_>,
     flags: &mut [bool],
 ) -> Result<(), NoMemory>
-    requires ready { IsReady judge.now }
     requires flags { AreDoubts judge.now flags.old }
     ensures flags { AreDoubts judge.now flags.new }
 {

@@ -1,6 +1,6 @@
 -- The edge between two vertices by its number.
-use Rattle.surf_surfaces.proofs.Common.{◌≡◌, ℕ, ◌<◌, true, false, sym, ap, ◌∙◌, Contains, Option, Some, None, true≢false, primal, joined_below, Mesh, pair, pair_eq, edges, among, edge_count, ends, IsSurface, edge_number, place_of, cells_of}
-use Rattle.std.specs.Option.{MatchOption}
+use Rattle.surf_surfaces.proofs.Common.{◌≡◌, ℕ, ◌<◌, true, sym, ap, ◌∙◌, Contains, Option, Some, None, true≢false, primal, joined_below, Mesh, pair, pair_eq, edges, among, edge_count, ends, IsSurface, edge_number, place_of, cells_of}
+use Rattle.surf_treecheck.specs.Between.{IsEdgeBetween, IsEdgeUp}
 use Rattle.surf_surfaces.proofs.meshes.EdgeLaws.{place_of-ends, among-contains, contains_from_among, list_any_from}
 use Rattle.surf_surfaces.proofs.meshes.PairLaws.{pair_eq-same}
 use Rattle.surf_surfaces.proofs.meshes.CellLaws.{surfaces_are_cells}
@@ -13,15 +13,8 @@ pub neighbour_in : (mesh : Mesh) (p v : ℕ) → IsSurface mesh → Contains (ed
 neighbour_in mesh p v surface has =
     joined_below (primal (cells_of mesh)) (surfaces_are_cells mesh surface).complex.primal_ends p v (joined mesh p v has)
 
--- what is found between two vertices
-abbrev pub IsEdgeUp : Mesh → ℕ → ℕ → Option ℕ → Type 0
-IsEdgeUp mesh p v o = MatchOption o (Contains (edges mesh) (pair p v) → ⊥)
-    (λ e. Contains (edges mesh) (pair p v) × (e < edge_count mesh) × (edge_number mesh (p, v) ≡ e)
-    × (p < mesh.vertices))
-
-pub edge_up_is : (mesh : Mesh) (p v : ℕ) → IsSurface mesh → (o : Option ℕ) →
-    MatchOption o (among (pair p v) (edges mesh) ≡ false) (λ e. (e < edge_count mesh) × (ends mesh e ≡ pair p v)) →
-    IsEdgeUp mesh p v o
+-- an edge that is found between two vertices has its number
+pub edge_up_is : (mesh : Mesh) (p v : ℕ) → IsSurface mesh → (o : Option ℕ) → IsEdgeBetween mesh p v o → IsEdgeUp mesh p v o
 edge_up_is mesh p v surface None none = λ has. true≢false (sym (among-contains (pair p v) (edges mesh) has) ∙ none)
 edge_up_is mesh p v surface (Some e) is =
     let there : among (pair p v) (edges mesh) ≡ true =

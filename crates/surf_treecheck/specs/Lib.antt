@@ -1,4 +1,5 @@
 pub mod First
+pub mod Between
 pub mod Rows
 pub mod Shapes
 pub mod TreeFaults

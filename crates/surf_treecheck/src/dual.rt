@@ -9,7 +9,7 @@ ghost use Rattle.surf_validity.specs.Valid.{IsDualRow};
 ghost use Rattle.surf_treecheck.specs.First.{FindsFirst, Tells};
 ghost use Rattle.surf_treecheck.specs.Rows.{HasDualRows, HasDual};
 
-use crate::edges::faces_inside;
+use crate::edges::{edge_near, faces_inside};
 use surf_base::{EdgeId, FaceId, VertexId};
 use surf_mesh::HalfMesh;
 use surf_records::DualRows;
@@ -31,7 +31,7 @@ pub(crate) fn edge_of_face(mesh: &HalfMesh, f: FaceId, u: VertexId, v: VertexId)
         × (edge_number mesh.now (u, v) ≡ e)) }
 {
     mesh.law_of_surface();
-    match mesh.find_edge(u, v) {
+    match edge_near(mesh, f, u, v) {
         None => None,
         Some(e) => { if is_beside(mesh, f, e) { Some(e) } else { None } }
     }

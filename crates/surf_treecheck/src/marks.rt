@@ -6,22 +6,25 @@ ghost use Rattle.surf_surfaces.specs.Surface.{edge_count, face_count, ends};
 ghost use Rattle.surf_validity.specs.Valid.{parent_at, side_at, leads_up, is_side, is_parent_edge};
 ghost use Rattle.surf_validity.specs.Valid.{is_dual_edge, is_listed};
 ghost use Rattle.surf_treecheck.specs.Rows.{HasTreeRows, HasDualRows};
+ghost use Rattle.surf_treecheck.specs.Between.{IsEdgeBetween};
 ghost use Rattle.surf_treecheck.specs.Split.{AreFlags, none};
 
+use crate::edges::{edge_at, edge_near};
 use std::alloc::Global;
-use surf_base::{FaceId, NoMemory, VertexId};
+use surf_base::{EdgeId, FaceId, NoMemory, VertexId};
 use surf_mesh::HalfMesh;
 use surf_records::{DualRows, TreeRows};
 
-// Flags the edge between two vertices, if there is one.
-fn flag_edge(mesh: &HalfMesh, flags: &mut [bool], u: VertexId, v: VertexId)
+// Flags the edge that was found between two vertices, if there is one.
+fn flag_edge(mesh: &HalfMesh, flags: &mut [bool], u: VertexId, v: VertexId, found: Option<EdgeId>)
     requires count { length flags.old ≡ edge_count mesh.now }
+    requires found { IsEdgeBetween mesh.now u v found }
     ensures count { length flags.new ≡ edge_count mesh.now }
     ensures flagged { (e : ℕ) → e < edge_count mesh.now → get_or flags.new e false
         ≡ (pair_eq (ends mesh.now e) (pair u v) || get_or flags.old e false) }
 {
     mesh.law_of_surface();
-    if let Some(edge) = mesh.find_edge(u, v) {
+    if let Some(edge) = found {
         flags[edge.index()] = true;
     }
 }
@@ -38,7 +41,7 @@ fn flag_parent(mesh: &HalfMesh, flags: &mut [bool], rows: &TreeRows, v: u32)
     let vertex = VertexId::new(v);
     match rows.parent()[vertex.index()] {
         None => {}
-        Some(p) => flag_edge(mesh, flags, p, vertex),
+        Some(p) => flag_edge(mesh, flags, p, vertex, edge_at(mesh, p, vertex)),
     }
 }
 
@@ -51,9 +54,10 @@ fn flag_side(mesh: &HalfMesh, flags: &mut [bool], dual: &DualRows, f: u32)
     ensures flagged { (e : ℕ) → e < edge_count mesh.now → get_or flags.new e false
         ≡ (is_side mesh.now e (side_at dual.now f) || get_or flags.old e false) }
 {
-    match dual.side()[FaceId::new(f).index()] {
+    let face = FaceId::new(f);
+    match dual.side()[face.index()] {
         None => {}
-        Some((u, v)) => flag_edge(mesh, flags, u, v),
+        Some((u, v)) => flag_edge(mesh, flags, u, v, edge_near(mesh, face, u, v)),
     }
 }
 
@@ -89,7 +93,7 @@ pub(crate) fn flag_listed(mesh: &HalfMesh, flags: &mut [bool], left: &[(VertexId
     mesh.law_of_surface();
     for i in 0..left.len() {
         let (u, v) = left[i];
-        flag_edge(mesh, flags, u, v);
+        flag_edge(mesh, flags, u, v, mesh.find_edge(u, v));
     }
 }
 

@@ -8,19 +8,12 @@ ghost use Rattle.surf_treecheck.specs.First.{FindsFirst};
 ghost use Rattle.surf_treecheck.specs.Rows.{HasTreeRows, HasDualRows};
 ghost use Rattle.surf_treecheck.specs.Split.{AreOne, AreMarks, IsLeastStray, lesser_of, least_with, IsLeastBadPair};
 
-use crate::edges::ends_inside;
+use crate::edges::{ends_inside, in_order};
 use crate::marks::{flag_listed, flag_parents, flag_sides, no_flags};
 use std::alloc::Global;
 use surf_base::{EdgeId, NoMemory, VertexId};
 use surf_mesh::HalfMesh;
 use surf_records::{DualRows, TreeRows};
-
-// The pair, lesser vertex first.
-fn in_order(u: VertexId, v: VertexId) -> (VertexId, VertexId)
-    ensures pair { result ≡ pair u v }
-{
-    if u < v { (u, v) } else { (v, u) }
-}
 
 // The lesser of two pairs.
 fn lesser(u: VertexId, v: VertexId, s: VertexId, t: VertexId) -> (VertexId, VertexId)

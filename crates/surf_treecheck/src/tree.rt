@@ -7,7 +7,7 @@ ghost use Rattle.surf_validity.specs.Valid.{IsParent, AddsUp, IsNoShortCut};
 ghost use Rattle.surf_treecheck.specs.First.{HoldsBelow, FindsFirst, Tells};
 ghost use Rattle.surf_treecheck.specs.Rows.{HasTreeRows, HasParent, HasDistance};
 
-use crate::edges::{edge_up, ends_inside};
+use crate::edges::{edge_up_at, ends_inside};
 use surf_base::{EdgeId, VertexId};
 use surf_lengths::Lengths;
 use surf_mesh::HalfMesh;
@@ -15,11 +15,12 @@ use surf_records::TreeRows;
 
 // Whether a vertex has a parent that is its neighbour, or is the base and has none.
 fn has_parent(mesh: &HalfMesh, base: VertexId, v: VertexId, parent: Option<VertexId>) -> bool
+    requires vertex { v < mesh.now.vertices }
     ensures parent { Tells result (IsParent mesh.now base v parent) }
 {
     match parent {
         None => v == base,
-        Some(p) => v != base && edge_up(mesh, p, v).is_some(),
+        Some(p) => v != base && edge_up_at(mesh, p, v).is_some(),
     }
 }
 
@@ -55,7 +56,7 @@ fn adds_up(
     let distance = rows.distance();
     match parent {
         None => distance[v.index()] == 0,
-        Some(p) => match edge_up(mesh, p, v) {
+        Some(p) => match edge_up_at(mesh, p, v) {
             None => false,
             Some(e) => {
                 let sum = u128::from(distance[p.index()]) + u128::from(lengths.of(e));

@@ -7,48 +7,48 @@ use Rattle.surf_certcheck.specs.Frames.{IsCoveredBy}
 use Rattle.surf_certcheck.proofs.Bases.{AreCovered, first_at, holds_more}
 use Rattle.surf_lengths.proofs.Positive.{lengths_positive}
 use Rattle.surf_certcheck.proofs.Independence.{frame_whole}
-use Rattle.surf_certcheck.proofs.Validity.{climbed_at}
+use Rattle.surf_certcheck.proofs.Validity.{climbed_at, has_trees}
 use Rattle.surf_certcheck.proofs.cover.first_uncovered.Goals as goal
 
 pub sum_ways-requires-clause-climbed : goal.sum_ways-requires-clause-climbed
 sum_ways-requires-clause-climbed c =
-    let mesh = c.args.mesh.now in
-    let cert = c.args.cert.now in
+    let mesh = c.args.case.now.mesh.now in
+    let cert = c.args.case.now.cert.now in
     let is : c.tree_from-rows.result.now ≡ tree_at cert c.loop-x.x =
     c.tree_from-rows.ensures.tree ∙ ap (tree_at cert) c.new-base.ensures in
     subst (IsClimbed mesh) (sym is)
-    (climbed_at mesh c.args.lengths.now cert c.vertices-x-end.ensures.surface
-    (lengths_positive mesh c.args.lengths.now c.law_of_lengths.ensures.lengths c.requires.lengths) c.requires.trees
-    c.requires.bases c.requires.valid c.loop-x.x (omega (arith, c.loop-x-test.true, c.vertices-x-end.ensures.count)))
+    (climbed_at mesh c.args.case.now.lengths.now cert c.vertices-x-end.ensures.surface
+    (lengths_positive mesh c.args.case.now.lengths.now c.law_of_lengths.ensures.lengths c.args.case.now.measured) (has_trees mesh cert c.args.case.now.shape)
+    c.args.case.now.shape.bases c.requires.valid c.loop-x.x (omega (arith, c.loop-x-test.true, c.vertices-x-end.ensures.count)))
 
 pub first_uncovered-requires : goal.first_uncovered-requires
 first_uncovered-requires c =
-    let mesh = c.args.mesh.now in
-    let cert = c.args.cert.now in
+    let mesh = c.args.case.now.mesh.now in
+    let cert = c.args.case.now.cert.now in
     let is : c.tree_from-rows.result.now ≡ tree_at cert c.loop-x.x =
     c.tree_from-rows.ensures.tree ∙ ap (tree_at cert) c.new-base.ensures in
     record {
       ready = record {
         climbed = subst (IsClimbed mesh) (sym is)
-            (climbed_at mesh c.args.lengths.now cert c.vertices-x-end.ensures.surface
-            (lengths_positive mesh c.args.lengths.now c.law_of_lengths.ensures.lengths c.requires.lengths)
-            c.requires.trees c.requires.bases c.requires.valid c.loop-x.x
+            (climbed_at mesh c.args.case.now.lengths.now cert c.vertices-x-end.ensures.surface
+            (lengths_positive mesh c.args.case.now.lengths.now c.law_of_lengths.ensures.lengths c.args.case.now.measured)
+            (has_trees mesh cert c.args.case.now.shape) c.args.case.now.shape.bases c.requires.valid c.loop-x.x
             (omega (arith, c.loop-x-test.true, c.vertices-x-end.ensures.count)));
         room = c.sum_ways.ensures.room;
         summed = c.sum_ways.ensures.summed;
-        lengths = c.requires.lengths;
+        lengths = c.args.case.now.measured;
         count = c.requires.count;
-        width = c.requires.few;
-        widths = omega (arith, c.sum_ways.ensures.width, c.requires.few);
+        width = c.args.frame.now.few;
+        widths = omega (arith, c.sum_ways.ensures.width, c.args.frame.now.few);
         sorted = c.requires.sorted;
       };
     }
 
 pub returns-in-Some : goal.returns-in-Some
 returns-in-Some c =
-    let mesh = c.args.mesh.now in
-    let lengths = c.args.lengths.now in
-    let cert = c.args.cert.now in
+    let mesh = c.args.case.now.mesh.now in
+    let lengths = c.args.case.now.lengths.now in
+    let cert = c.args.case.now.cert.now in
     let d = split_in mesh cert in
     let cycles = map (weighed_cycle mesh lengths cert) cert.cycles in
     let frame = frame_whole mesh lengths cert c.args.frame.now.signs c.args.frame.now.weights.items c.requires.frame in
@@ -69,9 +69,9 @@ returns-in-Some c =
 
 pub loop-x-preserved : goal.loop-x-preserved
 loop-x-preserved c =
-    let mesh = c.args.mesh.now in
-    let lengths = c.args.lengths.now in
-    let cert = c.args.cert.now in
+    let mesh = c.args.case.now.mesh.now in
+    let lengths = c.args.case.now.lengths.now in
+    let cert = c.args.case.now.cert.now in
     let d = split_in mesh cert in
     let cycles = map (weighed_cycle mesh lengths cert) cert.cycles in
     let frame = frame_whole mesh lengths cert c.args.frame.now.signs c.args.frame.now.weights.items c.requires.frame in
@@ -89,8 +89,8 @@ loop-x-preserved c =
 
 pub returns : goal.returns
 returns c =
-    let end : c.loop-x.x ≡ c.args.mesh.now.vertices = search rules in
+    let end : c.loop-x.x ≡ c.args.case.now.mesh.now.vertices = search rules in
     record {
-      first = subst (λ n. HoldsBelow n (AreCovered c.args.mesh.now c.args.lengths.now c.args.cert.now)) end
+      first = subst (λ n. HoldsBelow n (AreCovered c.args.case.now.mesh.now c.args.case.now.lengths.now c.args.case.now.cert.now)) end
           c.loop-x.invariant.covered;
     }

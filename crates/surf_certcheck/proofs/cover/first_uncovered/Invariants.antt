@@ -6,8 +6,8 @@ use Rattle.surf_certcheck.proofs.cover.first_uncovered.Given as goal
 -- the loops at the bases before are covered
 abbrev pub invariant-loop-x : goal.invariant-loop-x
 invariant-loop-x l = record {
-  all : IsPermutation (range_with_len 0 l.mesh.vertices) l.order;
-  room : length l.sums.sets ≡ l.mesh.vertices;
+  all : IsPermutation (range_with_len 0 l.case.mesh.now.vertices) l.order;
+  room : length l.sums.sets ≡ l.case.mesh.now.vertices;
   width : l.sums.width ≡ l.frame.signs.width;
-  covered : HoldsBelow l.x (AreCovered l.mesh l.lengths l.cert);
+  covered : HoldsBelow l.x (AreCovered l.case.mesh.now l.case.lengths.now l.case.cert.now);
 }

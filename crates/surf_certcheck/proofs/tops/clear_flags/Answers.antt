@@ -8,6 +8,6 @@ loop-k-init c =
     let tops = c.in_ok-tops.tops.items in
     let same : tops ≡ judge.links.now.parent.items = search rules in
     record {
-      tops = first_tops judge 340282366920938463463374607431768211455 c.law_of_surface.ensures.surface c.requires.ready tops same;
+      tops = first_tops judge 340282366920938463463374607431768211455 c.law_of_surface.ensures.surface tops same;
       doubts = c.requires.flags;
     }

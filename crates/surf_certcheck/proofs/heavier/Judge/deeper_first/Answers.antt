@@ -7,7 +7,7 @@ use Rattle.surf_certcheck.proofs.heavier.Judge.deeper_first.Goals.{After-depth-d
 long : (c : After-depth-depth) → length c.depth-depth.result.now ≡ face_count c.args.self.now.mesh.now
 long c =
     ap length c.depth-depth.ensures.depth ∙ ap (λ (d : DualRows). length d.depth) c.dual.ensures.dual
-    ∙ c.requires.ready.faces.depths
+    ∙ c.args.self.now.faces.depths
 
 pub bounds-depth-index : goal.bounds-depth-index
 bounds-depth-index c =

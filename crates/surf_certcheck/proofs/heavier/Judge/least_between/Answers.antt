@@ -14,7 +14,7 @@ tree_of c = dual_tree c.args.self.now.mesh.now c.args.self.now.cert.now.dual
 tree_is : (c : After-deeper_first-face) → IsTree (faces (cells_of c.args.self.now.mesh.now)) (tree_of c)
 tree_is c =
     dual_rows_are_tree c.args.self.now.mesh.now c.args.self.now.cert.now.dual c.law_of_surface.ensures.surface
-    c.requires.ready.tree
+    c.args.self.now.tree
 
 -- the two faces are two
 apart : (c : After-deeper_first-face) → c.loop-near.near ≢ c.loop-near.far
